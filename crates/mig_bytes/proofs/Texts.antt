@@ -1,0 +1,25 @@
+-- How what writers append joins.
+use Rattle.std.proofs.Common.{◌≡◌, ℕ, ◌+◌, ◌<◌, List, ◌++◌, length, take, Option, Some, None, Result, Ok, Err, refl, sym, ap, subst, ◌∙◌, arith, length-append}
+use Rattle.std.specs.Result.{IsErrAnd}
+use Rattle.std.proofs.Math.Seq.{take-append-add}
+use lib.Seq.{take-append-le}
+use Rattle.std.proofs.KnownBytes.{Appends-trans}
+use Rattle.std.specs.Io.KnownBytes.{Appends}
+use Rattle.mig_bytes.specs.declared.failure.WriteFailed.{WriteFailed}
+use Rattle.mig_bytes.specs.Bytes.{AppendsPart, Puts}
+
+module _ {X : Type 0} where
+  -- a text, and then another
+  pub puts_then : (first second : List ℕ) (a b c : Option (List ℕ)) (r : Result X WriteFailed) → Appends a b first → Puts second b c r → Puts (first ++ second) a c r
+  puts_then first second a b c (Ok x) p q = Appends-trans a b c first second p q
+  puts_then first second a b c (Err e) p (n, less, q) =
+      (length first + n, omega (arith, length-append first second), subst (Appends a c) (sym (take-append-add first second n)) (Appends-trans a b c first (take n second) p q))
+
+  pub puts_same : (text other : List ℕ) (a b : Option (List ℕ)) (r : Result X WriteFailed) → text ≡ other → Puts other a b r → Puts text a b r
+  puts_same text other a b r is p = subst (λ t. Puts t a b r) (sym is) p
+
+-- a text whose writing failed, and nothing after it
+pub puts_stop : {X : Type 0} (first second : List ℕ) (a b : Option (List ℕ)) (e d : WriteFailed) (r : Result X WriteFailed) → IsErrAnd r (λ x. x ≡ d) → AppendsPart a b first → Puts (first ++ second) a b r
+puts_stop first second a b e d (Ok x) is p = absurd is
+puts_stop first second a b e d (Err x) is (n, less, p) =
+    (n, omega (arith, length-append first second), subst (Appends a b) (sym (take-append-le n first second (omega arith))) p)

@@ -1,0 +1,43 @@
+-- What the calls over a source and a sink do to the bytes that are left, or written, where these are told.
+use Rattle.std.specs.Prelude.{◌≡◌, ◌≤◌, ◌<◌, ℕ, ◌-◌, ◌%◌, List, ◌++◌, length, take, Bool, true, false, Result, Ok, Err}
+use Rattle.std.specs.declared.option.Option.{Option}
+use Rattle.std.specs.Io.KnownBytes.{Consumes, Appends, IsAtEnd}
+use Rattle.mig_bytes.specs.declared.take.Got.{Got}
+use Rattle.mig_bytes.specs.declared.take.Got.TheVariants.{Whole, Short}
+use Rattle.mig_bytes.specs.declared.failure.WriteFailed.{WriteFailed}
+
+-- the least number that makes a length a multiple of 8
+abbrev pub padding_len : ℕ → ℕ
+padding_len len = (8 - len % 8) % 8
+
+-- the buffer holds the next bytes; or the source ended after n of them, fewer than there is room for
+abbrev pub Taken : Option (List ℕ) → Option (List ℕ) → List ℕ → Got → Type 0
+Taken old new buf Whole = Consumes old new buf
+Taken old new buf (Short n) = (n < length buf) × Consumes old new (take n buf) × IsAtEnd new
+
+-- n bytes are gone; or all that was left, fewer than n
+abbrev pub Skipped : Option (List ℕ) → Option (List ℕ) → ℕ → Bool → Type 0
+Skipped old new n true = (bytes : List ℕ) × (length bytes ≡ n) × Consumes old new bytes
+Skipped old new n false = (bytes : List ℕ) × (length bytes < n) × Consumes old new bytes × IsAtEnd new
+
+-- some first bytes of what was left are gone
+abbrev pub ConsumesSome : Option (List ℕ) → Option (List ℕ) → Type 0
+ConsumesSome old new = (bytes : List ℕ) × Consumes old new bytes
+
+-- the vector grew by the next n bytes; or by all that was left, fewer than n
+abbrev pub Grown : Option (List ℕ) → Option (List ℕ) → List ℕ → List ℕ → ℕ → Got → Type 0
+Grown old new before after n Whole = (bytes : List ℕ) × (length bytes ≡ n) × (after ≡ before ++ bytes) × Consumes old new bytes
+Grown old new before after n (Short m) = (bytes : List ℕ) × (length bytes ≡ m) × (m < n) × (after ≡ before ++ bytes) × Consumes old new bytes × IsAtEnd new
+
+-- the vector grew by some first bytes of what was taken, which are some first bytes of what was left
+abbrev pub GrownSome : Option (List ℕ) → Option (List ℕ) → List ℕ → List ℕ → Type 0
+GrownSome old new before after = (bytes : List ℕ) × (kept : ℕ) × (after ≡ before ++ take kept bytes) × Consumes old new bytes
+
+-- some first bytes of the text were appended, but not all
+abbrev pub AppendsPart : Option (List ℕ) → Option (List ℕ) → List ℕ → Type 0
+AppendsPart old new text = (n : ℕ) × (n < length text) × Appends old new (take n text)
+
+-- all of the text was appended; after an error a part of it that isn't all
+abbrev pub Puts : {X : Type 0} → List ℕ → Option (List ℕ) → Option (List ℕ) → Result X WriteFailed → Type 0
+Puts text old new (Ok x) = Appends old new text
+Puts text old new (Err e) = AppendsPart old new text

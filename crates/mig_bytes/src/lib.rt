@@ -1,0 +1,30 @@
+//! Bytes that come from a source and go to a sink.
+//!
+//! Responsible for: the traits of the outside (`Source`, `Sink`), the calls that take all bytes of a part or put all
+//! of a text, fields of fixed width in either byte order, and sources and sinks over memory and over std's readers
+//! and writers. It knows nothing of streams, records or guests.
+//!
+//! What the layers above rely on: which bytes were taken or appended, also after a failure; and that a failure is
+//! answered only where the count of that source or sink rose.
+#![tactic(auto)]
+
+mod failure;
+mod fields;
+mod memory;
+mod outside;
+mod put;
+mod sink;
+mod source;
+mod take;
+
+pub use failure::{Failed, Memory, ReadFailed, WriteFailed};
+pub use fields::{
+    pad_len, put_u16_le, put_u32_be, put_u32_le, put_u64_be, put_u64_le, u16_be, u16_le, u32_be,
+    u32_le, u64_be, u64_le,
+};
+pub use memory::{MemSink, MemSource};
+pub use outside::{InSource, OutSink};
+pub use put::put_all;
+pub use sink::Sink;
+pub use source::Source;
+pub use take::{Got, TakeFault, skip, take_exact, take_vec};

@@ -1,0 +1,8 @@
+//! The headers of a stream; every place and cause of a refusal, with its printed text.
+#![tactic(auto)]
+
+mod fault;
+mod kind;
+
+pub use fault::{Cause, ContextFault, Place};
+pub use kind::Kind;
