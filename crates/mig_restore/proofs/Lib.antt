@@ -1,0 +1,12 @@
+pub mod Arrivals
+pub mod Boxed
+pub mod Joins
+pub mod Maps
+pub mod Meaning
+pub mod Parts
+pub mod Laws
+pub mod Converse
+pub mod Canons
+pub mod Sizes
+pub mod Fitting
+pub mod Cursor

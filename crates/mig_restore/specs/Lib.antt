@@ -1,0 +1,13 @@
+pub mod Answer
+pub mod Boxes
+pub mod Canon
+pub mod Guest
+pub mod Headers
+pub mod Judged
+pub mod Judging
+pub mod Mean
+pub mod Record
+pub mod Seen
+pub mod Spelled
+pub mod Stream
+pub mod Words

@@ -1,0 +1,91 @@
+-- An image: two headers, and records up to the one that ends it.
+use Rattle.std.specs.Prelude.{◌≡◌, ℕ, Bool, List, [], ◌∷◌, ◌++◌, length, Option, Some, None, Result, Ok, Err, ⊤, if◌then◌else◌}
+use Rattle.mig_bytes.specs.Walk.{walk_end}
+use Rattle.mig_restore.specs.Headers.{fault_of_marker, fault_of_rest, fault_of_domain}
+use Rattle.mig_headers.specs.declared.fault.Cause.{Cause}
+use Rattle.mig_headers.specs.declared.fault.Place.{Place}
+use Rattle.mig_headers.specs.declared.fault.Place.TheVariants.{ImageHeader, DomainHeader, Record}
+use Rattle.mig_restore.specs.Judged.{Judged, ◌>>=◌, part, tried}
+use Rattle.mig_restore.specs.Judged.Judged.{Passes, Faulty}
+use Rattle.mig_restore.specs.Record.{StreamRecord, types_of, has}
+use Rattle.mig_restore.specs.Judging.{record_at}
+use Rattle.mig_restore.specs.Mean.{mean}
+use Rattle.mig_restore.specs.declared.part.StreamAnswer.{StreamAnswer}
+use Rattle.mig_restore.specs.declared.part.StreamAnswer.TheVariants.{Refused, ReadFault, Memory}
+use Rattle.mig_restore.specs.declared.read.Reading.{Reading}
+
+-- records that stand whole and without fault, and the bytes behind them
+pub record Front : Type 0 where
+  pub records : List StreamRecord
+  pub rest : List ℕ
+
+abbrev pub is_ended : List StreamRecord → Bool
+is_ended records = has 0 (types_of records)
+
+abbrev pub front_with : List StreamRecord → Judged StreamRecord → Option Front
+front_with records (Passes r rest) = Some (record { records = records ++ r ∷ []; rest = rest })
+front_with records (Faulty c rest) = None
+
+-- one record more, up to the one that ends the image
+unfoldable pub one_more : Front → Option Front
+one_more f = if is_ended f.records then None else front_with f.records (record_at f.records f.rest)
+
+abbrev pub at_start : List ℕ → Front
+at_start rest = record { records = []; rest = rest }
+
+-- as many records as stand whole and without fault
+unfoldable pub front_of : List ℕ → Front
+front_of rest = walk_end one_more (length rest) (at_start rest)
+
+-- An image is accepted: its records, and what follows it. Or it is refused: the first fault, and what follows the
+-- faulty part.
+pub data Verdict : Type 0 where
+  Accepts : List StreamRecord → List ℕ → Verdict
+  Refuses : Place → Cause → List ℕ → Verdict
+
+abbrev pub verdict_with : List StreamRecord → List ℕ → Judged StreamRecord → Verdict
+verdict_with records rest (Passes r after) = Accepts records rest
+verdict_with records rest (Faulty c after) = Refuses (Record (length records)) c after
+
+unfoldable pub verdict_of_front : Front → Verdict
+verdict_of_front f = if is_ended f.records then Accepts f.records f.rest else verdict_with f.records f.rest (record_at f.records f.rest)
+
+abbrev pub marker_at : List ℕ → Judged (List ℕ)
+marker_at input = do
+  marker ← part 8 input
+  _ ← tried (fault_of_marker marker.0) marker.1
+  Passes marker.0 marker.1
+
+-- the image header behind its marker
+abbrev pub rest_at : List ℕ → Judged (List ℕ)
+rest_at input = do
+  header ← part 16 input
+  _ ← tried (fault_of_rest header.0) header.1
+  Passes header.0 header.1
+
+abbrev pub domain_at : List ℕ → Judged (List ℕ)
+domain_at input = do
+  header ← part 16 input
+  _ ← tried (fault_of_domain header.0) header.1
+  Passes header.0 header.1
+
+abbrev pub at_place : {X : Type 0} → Place → Judged X → (List ℕ → Verdict) → Verdict
+at_place place (Passes x rest) next = next rest
+at_place place (Faulty c rest) next = Refuses place c rest
+
+unfoldable pub verdict : List ℕ → Verdict
+verdict input =
+    at_place ImageHeader (marker_at input) (λ i. at_place ImageHeader (rest_at i) (λ j. at_place DomainHeader (domain_at j) (λ k. verdict_of_front (front_of k))))
+
+-- what a reader of images answered is the verdict, and what it left in the source is what the verdict leaves
+abbrev pub ReadsVerdict : Verdict → Option (List ℕ) → Result Reading StreamAnswer → Type 0
+ReadsVerdict v left (Ok reading) = (records : List StreamRecord) × (rest : List ℕ) × (v ≡ Accepts records rest) × (left ≡ Some rest)
+    × (reading.guest ≡ mean records) × (reading.records ≡ length records)
+ReadsVerdict v left (Err (Refused place c)) = (rest : List ℕ) × (v ≡ Refuses place c rest) × (left ≡ Some rest)
+ReadsVerdict v left (Err ReadFault) = ⊤
+ReadsVerdict v left (Err Memory) = ⊤
+
+-- where the source tells its bytes
+abbrev pub ReadsAs : (List ℕ → Verdict) → Option (List ℕ) → Option (List ℕ) → Result Reading StreamAnswer → Type 0
+ReadsAs v None new result = ⊤
+ReadsAs v (Some input) new result = ReadsVerdict (v input) new result
