@@ -2,7 +2,9 @@
 #![tactic(auto)]
 
 mod fault;
+mod header;
 mod kind;
 
 pub use fault::{Cause, ContextFault, Place};
+pub use header::{DomainHeader, ImageHeader};
 pub use kind::Kind;
