@@ -71,6 +71,10 @@ pub record IsImageHeader (bytes : List ℕ) (version : ℕ) : Type 0 where
   pub known_version : (version ≡ 2) ⊎ (version ≡ 3)
   pub little_endian : be16 bytes 16 % 2 ≡ 0
 
+-- the marker, and what stands behind it
+unfoldable pub behind_marker : List ℕ → List ℕ
+behind_marker rest = big_bytes 8 marker ++ rest
+
 -- 16 bytes that spell a domain header; what isn't named has any value
 pub record IsDomainHeader (bytes : List ℕ) (kind : Kind) (major minor : ℕ) : Type 0 where
   pub size : length bytes ≡ 16

@@ -1,5 +1,6 @@
-ghost use Rattle.std.specs.Prelude.{◌≡◌};
-ghost use Rattle.mig_headers.specs.Headers.{fault_of_marker, image_header_of, domain_header_of};
+ghost use Rattle.std.specs.Prelude.{◌≡◌, ◌↔◌, None, Ok};
+ghost use Rattle.mig_bytes.specs.Fields.{be64};
+ghost use Rattle.mig_headers.specs.Headers.{fault_of_marker, marker, behind_marker, image_header_of, domain_header_of, IsImageHeader, IsDomainHeader};
 
 use crate::{Cause, Kind};
 use mig_bytes::{put_u16_le, put_u32_be, put_u32_le, put_u64_be, u16_be, u16_le, u32_be, u32_le, u64_be};
@@ -34,6 +35,7 @@ impl ImageHeader {
     /// What is wrong with the first 8 bytes of an image.
     pub fn marker_fault(bytes: &[u8; 8]) -> Option<Cause>
         ensures fault { result ≡ fault_of_marker bytes.now }
+        ensures none { (result ≡ None) ↔ (be64 bytes.now 0 ≡ marker) }
     {
         if u64_be(bytes, 0) != MARKER {
             return Some(Cause::NotStream);
@@ -44,6 +46,13 @@ impl ImageHeader {
     /// Reads the 16 bytes behind the marker.
     pub fn decode(rest: &[u8; 16]) -> Result<ImageHeader, Cause>
         ensures value { result ≡ image_header_in rest.now }
+        ensures spelled { (header : ImageHeader) → (result ≡ Ok header) ↔ IsImageHeader (behind_marker rest.now) header.version }
+    {
+        ImageHeader::read_fields(rest)
+    }
+
+    fn read_fields(rest: &[u8; 16]) -> Result<ImageHeader, Cause>
+        ensures { result ≡ image_header_in rest.now }
     {
         if u32_be(rest, 0) != IMAGE_ID {
             return Err(Cause::BadId);
@@ -75,8 +84,10 @@ impl DomainHeader {
     ghost use Rattle.mig_headers.specs.HeaderValues.{domain_header_in};
 
     /// Reads the 16 bytes behind the image header.
+    #[tactic(auto, using(crate::proofs::HeaderLaws::domain_decoded))]
     pub fn decode(bytes: &[u8; 16]) -> Result<DomainHeader, Cause>
         ensures value { result ≡ domain_header_in bytes.now }
+        ensures spelled { (header : DomainHeader) → (result ≡ Ok header) ↔ IsDomainHeader bytes.now header.kind header.major header.minor }
     {
         let kind = match u32_le(bytes, 0) {
             1 => Kind::Pv,
