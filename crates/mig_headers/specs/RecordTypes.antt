@@ -1,5 +1,5 @@
 -- The record types of a libxc stream (libxc migration stream, "Records"), a row each.
-use Rattle.std.specs.Prelude.{ℕ, ◌+◌, ◌-◌, ◌*◌, ◌^◌, ◌%◌, Bool, true, false, List, [], ◌∷◌, Option, ◌==◌, ◌&&◌, ◌||◌, nat_le, slice_get}
+use Rattle.std.specs.Prelude.{◌≡◌, ℕ, ◌+◌, ◌-◌, ◌*◌, ◌^◌, ◌%◌, Bool, true, false, List, [], ◌∷◌, Option, Some, ◌==◌, ◌&&◌, ◌||◌, nat_le, slice_get}
 use Rattle.mig_headers.specs.declared.kind.Kind.{Kind}
 use Rattle.mig_headers.specs.declared.kind.Kind.TheVariants.{Pv, Hvm}
 use Rattle.mig_headers.specs.declared.record_type.RecordType.{RecordType}
@@ -87,3 +87,8 @@ type_of_number number = slice_get record_types number
 -- bit 31 of a type's 32 bits: a reader may ignore the record
 abbrev pub is_optional : ℕ → Bool
 is_optional number = nat_le (2 ^ 31) number
+
+-- a type's number has that type, and is the only one that has it
+pub record NumbersAreInverse : Type 0 where
+  pub type_of : (kind : RecordType) → type_of_number (type_number kind) ≡ Some kind
+  pub number_of : (number : ℕ) (kind : RecordType) → type_of_number number ≡ Some kind → type_number kind ≡ number

@@ -10,5 +10,5 @@ mod record_type;
 pub use fault::{Cause, ContextFault, Place};
 pub use header::{DomainHeader, ImageHeader};
 pub use kind::Kind;
-pub use laws::{domain_header_laws, image_header_laws};
+pub use laws::{domain_header_laws, image_header_laws, record_number_law};
 pub use record_type::{RecordType, is_optional};

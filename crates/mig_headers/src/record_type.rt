@@ -1,6 +1,15 @@
 ghost use Rattle.std.specs.Prelude.{◌≡◌, ◌<◌, ◌↔◌, IsTrue, IsNone, IsBitSet};
+ghost use Rattle.mig_headers.specs.RecordTypes.{is_optional};
 
 use crate::Kind;
+
+/// The bytes of a vCPU's basic context, of an MSR and of a CPUID leaf.
+const VCPU_CONTEXT: u32 = 5168;
+const MSR_ENTRY: u32 = 16;
+const CPUID_LEAF: u32 = 24;
+
+/// The most entries of a policy.
+const MOST_ENTRIES: u32 = 65536;
 
 /// The record types of a libxc stream (libxc migration stream, "Records"), in the order of their numbers, from 0.
 #[derive(Clone, Copy, Debug, PartialEq, Eq)]
@@ -121,16 +130,6 @@ impl RecordType {
         }
     }
 }
-
-/// The bytes of a vCPU's basic context, of an MSR and of a CPUID leaf.
-const VCPU_CONTEXT: u32 = 5168;
-const MSR_ENTRY: u32 = 16;
-const CPUID_LEAF: u32 = 24;
-
-/// The most entries of a policy.
-const MOST_ENTRIES: u32 = 65536;
-
-ghost use Rattle.mig_headers.specs.RecordTypes.{is_optional};
 
 /// Whether a record of this type may be ignored: bit 31 is set.
 pub fn is_optional(number: u32) -> bool
