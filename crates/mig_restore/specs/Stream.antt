@@ -89,3 +89,7 @@ ReadsVerdict v left (Err Memory) = ⊤
 abbrev pub ReadsAs : (List ℕ → Verdict) → Option (List ℕ) → Option (List ℕ) → Result Reading StreamAnswer → Type 0
 ReadsAs v None new result = ⊤
 ReadsAs v (Some input) new result = ReadsVerdict (v input) new result
+
+-- the input is refused at this place, for this cause, and rest follows the faulty part
+abbrev pub IsRefused : List ℕ → Place → Cause → List ℕ → Type 0
+IsRefused input place cause rest = verdict input ≡ Refuses place cause rest

@@ -1,0 +1,33 @@
+-- What a command came to.
+use Rattle.std.specs.Prelude.{ℕ, List, []}
+use Rattle.mig_tool.specs.declared.outcome.Outcome.{Outcome}
+use Rattle.mig_tool.specs.declared.outcome.Outcome.TheVariants as outcomes
+use Rattle.mig_tool.specs.declared.status.Status.{Status}
+use Rattle.mig_tool.specs.declared.status.Status.TheVariants as statuses
+use Rattle.mig_tool.specs.Report.{refusal_line, usage_line, read_fault_line, write_fault_line, memory_line}
+
+abbrev pub status_of : Outcome → Status
+status_of outcomes.Done = statuses.Done
+status_of (outcomes.Refused place cause) = statuses.Refused
+status_of outcomes.Usage = statuses.Usage
+status_of outcomes.ReadFault = statuses.ReadFault
+status_of outcomes.WriteFault = statuses.WriteFault
+status_of outcomes.Memory = statuses.Memory
+
+-- the line that goes with it
+abbrev pub line_of : Outcome → List ℕ
+line_of outcomes.Done = []
+line_of (outcomes.Refused place cause) = refusal_line place cause
+line_of outcomes.Usage = usage_line
+line_of outcomes.ReadFault = read_fault_line
+line_of outcomes.WriteFault = write_fault_line
+line_of outcomes.Memory = memory_line
+
+-- the exit code of the program
+abbrev pub code_of : Status → ℕ
+code_of statuses.Done = 0
+code_of statuses.Refused = 1
+code_of statuses.Usage = 2
+code_of statuses.ReadFault = 3
+code_of statuses.WriteFault = 4
+code_of statuses.Memory = 5

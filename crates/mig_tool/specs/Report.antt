@@ -1,0 +1,29 @@
+-- The lines that the program puts on its report.
+use Rattle.std.specs.Prelude.{◌≤◌, ℕ, List, ◌++◌, take, codes, Option}
+use Rattle.std.specs.Io.KnownBytes.{Appends}
+use Rattle.mig_bytes.specs.Faults.{Rose}
+use Rattle.mig_headers.specs.declared.fault.Cause.{Cause}
+use Rattle.mig_headers.specs.declared.fault.Place.{Place}
+use Rattle.mig_headers.specs.Texts.{text_of_place, text_of_cause}
+
+-- `refused: PLACE: NUMBER NAME`, and the cause's arguments
+abbrev pub refusal_line : Place → Cause → List ℕ
+refusal_line place cause = codes "refused: " ++ (text_of_place place ++ (codes ": " ++ (text_of_cause cause ++ codes "\n")))
+
+abbrev pub usage_line : List ℕ
+usage_line = codes "usage: restore [BASE] | verify | normalise | convert | save | exercise SEED FRAMES\n"
+
+abbrev pub read_fault_line : List ℕ
+read_fault_line = codes "fault: read\n"
+
+abbrev pub write_fault_line : List ℕ
+write_fault_line = codes "fault: write\n"
+
+abbrev pub memory_line : List ℕ
+memory_line = codes "fault: memory\n"
+
+-- the report got the line; where its count rose, maybe only some first bytes of it
+pub record Reports (line : List ℕ) (old new : Option (List ℕ)) (before now : ℕ) : Type 0 where
+  pub later : before ≤ now
+  pub first : (n : ℕ) × Appends old new (take n line)
+  pub whole : (Rose before now → ⊥) → Appends old new line
