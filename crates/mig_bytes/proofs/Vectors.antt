@@ -2,7 +2,7 @@
 use Rattle.std.proofs.Common.{◌≡◌, ℕ, ◌+◌, ◌-◌, List, [], ◌++◌, length, take, drop, replicate, sym, ap, ◌∙◌, arith, append-nil, length-append, length-drop}
 use Rattle.std.proofs.lemmas.List.{take_all, drop_all}
 use Rattle.std.proofs.Math.Seq.{take-append-add}
-use lib.Seq.{take-append-le}
+use lib.Seq.{take-append-le, take-append_seam}
 use borrow.Rule.Slice.PartMut.{post_of}
 
 front_kept : (items grown : List ℕ) (before n m : ℕ) → length items ≡ before → grown ≡ take (before + n) items ++ replicate m 0 → take before grown ≡ items
@@ -30,3 +30,7 @@ tail_written items grown seen part before n m len k size is same all fits whole 
 -- cut behind some of the written part
 pub first_items : (items part : List ℕ) (before n : ℕ) → length items ≡ before → take (before + n) (items ++ part) ≡ items ++ take n part
 first_items items part before n size = ap (λ m. take (m + n) (items ++ part)) (sym size) ∙ take-append-add items part n
+
+-- the vector stayed as it was, and more was taken
+pub kept_first : (old grown new gone more : List ℕ) → new ≡ grown → grown ≡ old ++ gone → new ≡ old ++ take (length gone) (gone ++ more)
+kept_first old grown new gone more same is = same ∙ is ∙ ap (λ l. old ++ l) (sym (take-append_seam gone more))

@@ -9,7 +9,7 @@ reader_of s = s.inner
 
 -- how many of its reads failed
 abbrev pub failed_reads : {R : Type 0} → InSource R → ℕ
-failed_reads s = s.faults
+failed_reads s = s.reads_failed
 
 -- the writer under a sink
 abbrev pub writer_of : {W : Type 0} → OutSink W → W
@@ -17,4 +17,4 @@ writer_of s = s.inner
 
 -- how many of its writes failed
 abbrev pub failed_writes : {W : Type 0} → OutSink W → ℕ
-failed_writes s = s.faults
+failed_writes s = s.writes_failed

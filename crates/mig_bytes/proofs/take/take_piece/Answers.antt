@@ -1,4 +1,4 @@
-use Rattle.std.proofs.Common.{◌≡◌, ◌<◌, ◌+◌, ◌-◌, ◌++◌, length, take, vec_len, rules, arith, sym, ap, ◌∙◌, subst, length-take-le}
+use Rattle.std.proofs.Common.{◌≡◌, ◌<◌, ◌+◌, ◌-◌, length, take, vec_len, rules, arith, ap, ◌∙◌, subst, length-take-le}
 use Rattle.mig_bytes.specs.Bytes.{Taken}
 use Rattle.mig_bytes.proofs.Vectors.{tail_written, first_items}
 use Rattle.mig_bytes.proofs.take.take_piece.Goals as goal
@@ -7,8 +7,7 @@ pub returns-in-Ok-Whole-clause-bytes : goal.returns-in-Ok-Whole-clause-bytes
 returns-in-Ok-Whole-clause-bytes g c =
     let taken = subst (Taken _ _ _) c.in-Ok-Whole.field-0-is c.in-Ok-Whole.ensures.bytes in
     let fits : length c.take_exact.new.buf ≡ length c.deref_mut.result.now - c.len-before.result = search rules in
-    let all : length c.resize.new.self.items ≡ c.len-before.result + c.args.n = search rules in
-    (
+    let all : length c.resize.new.self.items ≡ c.len-before.result + c.args.n = search rules in (
       c.take_exact.new.buf,
       search rules,
       tail_written c.args.to.now.items c.resize.new.self.items c.deref_mut.result.now c.take_exact.new.buf c.len-before.result c.args.n ((c.len-before.result + c.args.n) - vec_len c.args.to.now) c.resize.new.self.len (length c.deref_mut.result.now - c.len-before.result) (search rules) (search rules) (search rules) all fits (search rules) (search rules),
@@ -22,8 +21,7 @@ returns-in-Ok-Short-clause-bytes g c =
     let all : length c.resize.new.self.items ≡ c.len-before.result + c.args.n = search rules in
     let whole = tail_written c.args.to.now.items c.resize.new.self.items c.deref_mut.result.now c.take_exact.new.buf c.len-before.result c.args.n ((c.len-before.result + c.args.n) - vec_len c.args.to.now) c.resize.new.self.len (length c.deref_mut.result.now - c.len-before.result) (search rules) (search rules) (search rules) all fits (search rules) (search rules) in
     let less : c.in-Ok-Short.count < length c.take_exact.new.buf = taken.0 in
-    let size : length c.take_exact.new.buf ≡ c.args.n = search rules in
-    (
+    let size : length c.take_exact.new.buf ≡ c.args.n = search rules in (
       take c.in-Ok-Short.count c.take_exact.new.buf,
       length-take-le c.in-Ok-Short.count c.take_exact.new.buf (omega arith),
       omega arith,
