@@ -123,6 +123,8 @@ fn each_read_fails_in_turn(rt: HostRuntime) -> Result<(), Fail> {
         assert!(rt; [5, 10, 11, 12, 13].starts_with(&to), "read {k}");
         assert_left(&rt, Vec::new(rt.alloc()), &mut src, k)?;
     }
+    let told = format!(in rt.alloc(); "{}, {}", TakeFault::Read, TakeFault::Memory)?;
+    assert_eq!(rt; told.as_str(), "a read failed, no memory was found");
     let mut src = failing_at(rt.alloc(), 4)?;
     assert_eq!(rt; take_exact(&mut src, &mut [0; 4]), Ok(Got::Whole));
     Ok(())
