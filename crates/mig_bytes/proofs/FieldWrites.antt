@@ -1,5 +1,5 @@
 -- A field written in place.
-use Rattle.std.proofs.Common.{◌≡◌, ℕ, ◌+◌, ◌-◌, ◌≤◌, List, [], ◌++◌, length, take, drop, sym, ap, ◌∙◌, arith, append-nil, length-drop, drop-drop}
+use Rattle.std.proofs.Common.{◌≡◌, ℕ, ◌+◌, ◌-◌, List, [], ◌++◌, length, take, drop, ap, ◌∙◌, arith, append-nil, length-drop, drop-drop}
 use Rattle.std.proofs.lemmas.List.{take_all, drop_all}
 use borrow.Rule.Slice.PartMut.{put_mid, mid_of}
 use Rattle.mig_bytes.specs.Fields.{with_field}

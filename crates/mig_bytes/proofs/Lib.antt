@@ -1,4 +1,5 @@
 pub mod Streams
 pub mod Texts
+pub mod Vectors
 pub mod Walks
 pub mod FieldWrites

@@ -5,7 +5,9 @@
 //! and writers. It knows nothing of streams, records or guests.
 //!
 //! What the layers above rely on: which bytes were taken or appended, also after a failure; and that a failure is
-//! answered only where the count of that source or sink rose.
+//! answered only where the count of that source or sink rose. The source and the sink in memory say exactly which
+//! call fails, and the sink for how many bytes it has room. The adapters over std are the trusted edge: no contract
+//! says what a file or a socket gives or takes.
 #![tactic(auto)]
 
 mod failure;
@@ -28,3 +30,6 @@ pub use put::put_all;
 pub use sink::Sink;
 pub use source::Source;
 pub use take::{Got, TakeFault, skip, take_exact, take_vec};
+
+#[cfg(test)]
+mod tests;
