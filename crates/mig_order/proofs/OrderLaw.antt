@@ -1,17 +1,15 @@
 -- A type has no fault exactly where it is in order.
-use Rattle.std.proofs.Common.{◌≡◌, ◌↔◌, ◌⊎◌, ℕ, ◌^◌, ◌≤◌, Bool, true, false, not, ◌&&◌, ◌||◌, ◌==◌, if◌then◌else◌, List, [], ◌∷◌, Option, Some, None, refl, sym, ap, ◌∙◌, inl, inr, arith}
-use Rattle.std.specs.Prelude.{nat_le}
+use Rattle.std.proofs.Common.{◌≡◌, ◌⊎◌, ℕ, ◌^◌, ◌≤◌, Bool, true, false, not, ◌&&◌, ◌||◌, ◌==◌, if◌then◌else◌, List, [], ◌∷◌, Option, Some, None, refl, sym, ap, ◌∙◌, inl, inr, arith}
 use Rattle.std.proofs.lemmas.Bool.{eqb-true, leb-true}
 use Rattle.mig_headers.specs.declared.kind.Kind.{Kind}
 use Rattle.mig_headers.specs.declared.kind.Kind.TheVariants.{Pv, Hvm}
 use Rattle.mig_headers.specs.declared.fault.Cause.{Cause}
-use Rattle.mig_headers.specs.declared.fault.Cause.TheVariants.{Unsupported, UnknownMandatory, WrongKind, OutOfOrder}
 use Rattle.mig_headers.specs.declared.record_type.RecordType.{RecordType}
 use Rattle.mig_headers.specs.declared.record_type.RecordType.TheVariants.{PageData, X86PvInfo, X86PvP2mFrames, StaticDataEnd}
 use Rattle.mig_headers.specs.Rows.{first_fault}
 use Rattle.mig_headers.specs.RecordTypes.{row_of, pv, type_number, type_of_number, is_optional}
 use Rattle.mig_headers.proofs.RecordNumbers.{numbers_are_inverse}
-use Rattle.mig_order.specs.Order.{Earlier, earlier_in, among, is_of, some_earlier, static_records, content_records, vcpu_records, causes, fault_of_mandatory, fault_of_type, KeepsOrder, IsInOrder, optional, ordered}
+use Rattle.mig_order.specs.Order.{earlier_in, is_of, some_earlier, static_records, content_records, vcpu_records, causes, fault_of_mandatory, fault_of_type, KeepsOrder, IsInOrder, optional, ordered}
 use Rattle.mig_order.specs.Gate.{FaultlessIsInOrder}
 
 -- no row's test holds

@@ -1,5 +1,5 @@
 -- What a gate is seen as, and which lists of types it stands for.
-use Rattle.std.specs.Prelude.{◌≡◌, ◌↔◌, ◌^◌, ◌<◌, ℕ, List, [], ◌∷◌, None, Option, ◌||◌, Bool}
+use Rattle.std.specs.Prelude.{◌≡◌, ◌↔◌, ℕ, List, [], ◌∷◌, None, ◌||◌}
 use Rattle.mig_headers.specs.declared.kind.Kind.{Kind}
 use Rattle.mig_headers.specs.declared.record_type.RecordType.TheVariants.{X86PvInfo, X86PvP2mFrames, StaticDataEnd}
 use Rattle.mig_order.specs.Order.{Earlier, earlier_in, among, content_records, vcpu_records, fault_of_type, IsInOrder}

@@ -166,10 +166,10 @@ impl Gate {
     fn pass_known(&mut self, this: RecordType)
         ensures { self.new ≡ record self.old { earlier = then_type self.old.earlier (type_number this) } }
     {
-        self.static_data_end |= is_same(this, RecordType::StaticDataEnd);
-        self.content |= is_content(this);
-        self.pv_info |= is_same(this, RecordType::X86PvInfo);
-        self.p2m_frames |= is_same(this, RecordType::X86PvP2mFrames);
-        self.vcpu |= is_vcpu(this);
+        self.static_data_end = self.static_data_end || is_same(this, RecordType::StaticDataEnd);
+        self.content = self.content || is_content(this);
+        self.pv_info = self.pv_info || is_same(this, RecordType::X86PvInfo);
+        self.p2m_frames = self.p2m_frames || is_same(this, RecordType::X86PvP2mFrames);
+        self.vcpu = self.vcpu || is_vcpu(this);
     }
 }
