@@ -1,5 +1,5 @@
 -- The printed texts of places and causes: number, name and arguments, parted by one space.
-use Rattle.std.specs.Prelude.{ℕ, List, [], ◌∷◌, ◌++◌, codes, decimal, map}
+use Rattle.std.specs.Prelude.{ℕ, List, [], ◌∷◌, ◌++◌, codes, decimal}
 use Rattle.mig_headers.specs.declared.fault.Place.{Place}
 use Rattle.mig_headers.specs.declared.fault.Place.TheVariants.{ImageHeader, DomainHeader, Record}
 use Rattle.mig_headers.specs.declared.fault.ContextFault.{ContextFault}

@@ -1,4 +1,4 @@
-use Rattle.std.proofs.Common.{ℕ, ◌≤◌, decimal, map, take}
+use Rattle.std.proofs.Common.{◌≤◌, decimal, map, take}
 use Rattle.std.specs.Io.KnownBytes.{Appends}
 use Rattle.mig_headers.specs.Texts.{spaced}
 use Rattle.mig_headers.proofs.text.put_numbers.Given as goal
