@@ -1,9 +1,9 @@
 ghost use Rattle.std.specs.Prelude.{◌≡◌};
-ghost use Rattle.mig_records.specs.Faults.{fault_of_long};
+ghost use Rattle.mig_records.specs.Faults.{fault_of_long, fault_of_length};
 ghost use Rattle.mig_records.specs.Records.{head_of};
 
 use mig_bytes::{put_u32_le, u32_le};
-use mig_headers::Cause;
+use mig_headers::{Cause, RecordType};
 
 /// The greatest length of a body.
 const MOST_BODY: u32 = 1 << 27;
@@ -48,6 +48,19 @@ pub fn long_fault(head: RecordHead) -> Option<Cause>
 {
     if head.len > MOST_BODY {
         return Some(Cause::BodyTooLong(u64::from(head.len)));
+    }
+    None
+}
+
+/// BadLength where the type is known and its row doesn't allow a body of this length.
+pub fn length_fault(head: RecordHead) -> Option<Cause>
+    ensures fault { result ≡ fault_of_length head.kind head.len }
+{
+    let Some(kind) = RecordType::from_number(head.kind) else {
+        return None;
+    };
+    if !kind.allows_length(head.len) {
+        return Some(Cause::BadLength(u64::from(head.len)));
     }
     None
 }

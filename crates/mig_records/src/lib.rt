@@ -16,7 +16,7 @@ mod words;
 mod write;
 
 pub use count::count_fault;
-pub use head::{RecordHead, long_fault};
+pub use head::{RecordHead, length_fault, long_fault};
 pub use laws::{
     faultless_words, heads_are_read_back, outside_place_is_first, pieces_spell_a_record,
     reserved_place_is_first, reserved_types_are_unknown, spelled_is_record,
