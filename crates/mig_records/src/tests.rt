@@ -150,25 +150,34 @@ fn lengths_of_pages(rt: HostRuntime) {
 }
 
 #[test]
-fn records_are_written(rt: HostRuntime) -> Result<(), Fail> {
-    let want = [7, 0, 0, 0, 5, 0, 0, 0, 1, 2, 3, 4, 5, 0, 0, 0];
-    let mut whole = MemSink::new(rt.alloc(), Vec::new(rt.alloc()));
-    assert_eq!(rt; write_record(&mut whole, 7, &[1, 2, 3, 4, 5]), Ok(()));
-    assert_eq!(rt; whole.bytes(), want.as_slice());
-    let mut pieces = MemSink::new(rt.alloc(), Vec::new(rt.alloc()));
-    assert_eq!(rt; write_head(&mut pieces, 7, 5), Ok(()));
-    assert_eq!(rt; put_all(&mut pieces, &[1, 2, 3, 4, 5]), Ok(()));
-    assert_eq!(rt; write_padding(&mut pieces, 5), Ok(()));
-    assert_eq!(rt; pieces.bytes(), want.as_slice());
-    let mut ended = MemSink::new(rt.alloc(), Vec::new(rt.alloc()));
-    assert_eq!(rt; write_record(&mut ended, 0, &[]), Ok(()));
-    assert_eq!(rt; ended.bytes(), [0; 8].as_slice());
-    // the body's write fails
-    let mut failing = MemSink::new(rt.alloc(), vec![in rt.alloc(); 1; 1]?);
+fn records_are_written(rt: HostRuntime) {
+    let mut sink = MemSink::new(rt.alloc(), Vec::new(rt.alloc()));
+    assert_eq!(rt; write_record(&mut sink, 7, &[1, 2, 3, 4, 5]), Ok(()));
+    assert_eq!(rt; write_record(&mut sink, 0, &[]), Ok(()));
+    let want = [
+        7, 0, 0, 0, 5, 0, 0, 0, 1, 2, 3, 4, 5, 0, 0, 0, 0, 0, 0, 0, 0, 0, 0, 0,
+    ];
+    assert_eq!(rt; sink.bytes(), want.as_slice());
+}
+
+#[test]
+fn records_are_written_in_pieces(rt: HostRuntime) {
+    let mut sink = MemSink::new(rt.alloc(), Vec::new(rt.alloc()));
+    assert_eq!(rt; write_head(&mut sink, 9, 6), Ok(()));
+    assert_eq!(rt; put_all(&mut sink, &[1, 2, 3, 4, 5, 6]), Ok(()));
+    assert_eq!(rt; write_padding(&mut sink, 6), Ok(()));
+    let want = [9, 0, 0, 0, 6, 0, 0, 0, 1, 2, 3, 4, 5, 6, 0, 0];
+    assert_eq!(rt; sink.bytes(), want.as_slice());
+}
+
+#[test]
+fn writing_stops_at_a_failure(rt: HostRuntime) -> Result<(), Fail> {
+    // the second write, that of the body, fails
+    let mut sink = MemSink::new(rt.alloc(), vec![in rt.alloc(); 1; 1]?);
     assert_eq!(rt;
-        write_record(&mut failing, 7, &[1, 2, 3, 4, 5]),
+        write_record(&mut sink, 7, &[1, 2, 3, 4, 5]),
         Err(WriteFailed)
     );
-    assert_eq!(rt; failing.bytes(), [7, 0, 0, 0, 5, 0, 0, 0].as_slice());
+    assert_eq!(rt; sink.bytes(), [7, 0, 0, 0, 5, 0, 0, 0].as_slice());
     Ok(())
 }
