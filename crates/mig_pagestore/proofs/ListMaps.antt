@@ -1,6 +1,6 @@
 -- A map made of two lists of one length, with rising keys: what it finds, and what edits at one place do to it.
 use Rattle.std.proofs.Common.{◌≡◌, ℕ, zero, suc, ◌+◌, ◌-◌, ◌<◌, ◌≤◌, ◌≢◌, Bool, true, false, cond, List, [], ◌∷◌, length, get_or, set, Some, None, Option, Result, Ok, Err, IfOk, IfErr, refl, sym, ap, ◌∙◌, subst, inl, inr, IsSome, is_some, arith}
-use Rattle.std.specs.List.{All, insert, remove, zip}
+use Rattle.std.specs.List.{insert, remove, zip}
 use Rattle.std.specs.List.Sorted.{IsSearchInRange, IsBinarySearchResult, IsNonDecreasingBy}
 use Rattle.std.specs.Ordering.{nat_cmp, eq_by_cmp, ordering_index}
 use Rattle.std.specs.Cmp.{unsigned_tied, nat_cmp_total}
@@ -202,15 +202,12 @@ small_remove ks k at limit small is i in_range =
     let above : (i : ℕ) → at ≤ i → get_or new i 0 ≡ get_or ks (i + 1) 0 = λ i le. get_or-remove_above ks at 0 i le is.in_range in
     grind (arith, below i, above i, small i, small (i + 1))
 
--- what is found has a number below the limit, and has what all values have
-pub found_fits : {X : Type 0} (ks : List ℕ) (vs : List X) (limit : ℕ) (P : X → Type 0) → IsBelow limit ks → All P vs → (q : ℕ) (x : X) → find nat_cmp q (zip ks vs) ≡ Some x → (q < limit) × P x
-found_fits [] vs limit P small fine q x e = cc
-found_fits (k ∷ ks) [] limit P small fine q x e = cc
-found_fits (k ∷ ks) (v ∷ vs) limit P small fine q x e =
+-- what is found has a number below the limit
+pub small_found : {X : Type 0} (ks : List ℕ) (vs : List X) (limit : ℕ) → IsBelow limit ks → (q : ℕ) → IsSome (find nat_cmp q (zip ks vs)) → q < limit
+small_found [] vs limit small q there = cc
+small_found (k ∷ ks) [] limit small q there = cc
+small_found (k ∷ ks) (v ∷ vs) limit small q there =
     elim (cases_eq q k) [
-      | inl same ↦ (subst (λ n. n < limit) (sym same) (small 0 (omega arith)), subst P (some_same v x (rw (ties q k (sym same)) at e)) (fine 0 v (omega arith)))
-      | inr ne ↦ found_fits ks vs limit P (λ i lt. small (suc i) (omega arith)) (λ i d lt. fine (suc i) d (omega arith)) q x (rw (differs q k (λ h. ne (sym h))) at e)
+      | inl same ↦ subst (λ n. n < limit) (sym same) (small 0 (omega arith))
+      | inr ne ↦ small_found ks vs limit (λ i lt. small (suc i) (omega arith)) q (rw (differs q k (λ h. ne (sym h))) at there)
     ]
-  where
-    some_same : {X : Type 0} (a b : X) → Some a ≡ Some b → a ≡ b
-    some_same a b e = cc

@@ -1,5 +1,5 @@
--- Ascending numbers: where a number stands in them or would go; and what is true of the fields of a store.
-use Rattle.std.specs.Prelude.{◌≡◌, ℕ, ◌+◌, ◌<◌, ◌≤◌, ◌^◌, List, length, slice_index}
+-- Ascending numbers: where a number stands in them or would go.
+use Rattle.std.specs.Prelude.{◌≡◌, ℕ, ◌<◌, ◌≤◌, List, length, slice_index}
 
 -- each number is greater than those before it
 abbrev pub IsRising : List ℕ → Type 0
@@ -8,14 +8,6 @@ IsRising ks = (i j : ℕ) → i < j → j < length ks → slice_index ks i < sli
 -- each number is below the limit
 abbrev pub IsBelow : ℕ → List ℕ → Type 0
 IsBelow limit ks = (i : ℕ) → i < length ks → slice_index ks i < limit
-
--- a page for each PFN, and room in both lists for the spare pages
-pub record IsSound (pfns : List ℕ) (pages pool room page_room : ℕ) : Type 0 where
-  pub rising : IsRising pfns
-  pub small : IsBelow (2 ^ 28) pfns
-  pub as_many : length pfns ≡ pages
-  pub pfn_room : length pfns + pool ≤ room
-  pub room_for_pages : pages + pool ≤ page_room
 
 -- k stands at place i
 pub record IsAt (ks : List ℕ) (k i : ℕ) : Type 0 where

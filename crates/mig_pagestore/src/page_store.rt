@@ -3,7 +3,7 @@ ghost use Rattle.std.specs.Option.{option_copied, option_copied_mut};
 ghost use Rattle.std.specs.Ordering.{nat_cmp};
 ghost use Rattle.std.specs.FinMap as map;
 ghost use Rattle.std.specs.Borrow.{sem};
-ghost use Rattle.mig_pagestore.specs.Pages.{spliced, IsSized};
+ghost use Rattle.mig_pagestore.specs.Pages.{spliced, IsSmall};
 
 use crate::ascending::{position, start_from};
 use crate::pool::fill;
@@ -27,7 +27,7 @@ impl Model for PageStore {
     ghost use Rattle.std.specs.List.{zip};
     ghost use Rattle.std.specs.FinMap.{from_entries};
     ghost use Rattle.mig_pagestore.specs.Pages.{Store, store_code};
-    ghost use Rattle.mig_pagestore.specs.Ascending.{IsSound};
+    ghost use Rattle.mig_pagestore.specs.Sound.{IsSound};
 
     ghost Value = { Store };
 
@@ -60,7 +60,7 @@ impl PageStore {
     /// The number of pages.
     pub fn len(&self) -> u64
         ensures count { result ≡ map.len self.now.pages }
-        ensures sized { IsSized self.now.pages }
+        ensures small { IsSmall self.now.pages }
     {
         self.pfns.len() as u64
     }
@@ -178,5 +178,79 @@ impl PageStore {
     {
         let page = self.lend(pfn).unwrap();
         page[at..at + bytes.len()].copy_from_slice(bytes);
+    }
+}
+
+#[cfg(test)]
+mod tests {
+    use super::*;
+    use std::test::Fail;
+
+    fn three(rt: &HostRuntime) -> Result<PageStore, Fail> {
+        let mut store = PageStore::new(rt.alloc());
+        store.put(7, &[7; 4096])?;
+        store.put(3, &[3; 4096])?;
+        store.put(0xfff_ffff, &[9; 4096])?;
+        Ok(store)
+    }
+
+    #[test]
+    fn puts_and_gets(rt: HostRuntime) -> Result<(), Fail> {
+        let mut store = three(&rt)?;
+        store.put(3, &[4; 4096])?;
+        assert_eq!(rt; store.len(), 3);
+        assert_eq!(rt; store.get(3).ok_or("no page")?[4095], 4);
+        assert_eq!(rt; store.get(7).ok_or("no page")?[0], 7);
+        assert!(rt; store.get(4).is_none());
+        assert!(rt; store.get(1 << 60).is_none());
+        Ok(())
+    }
+
+    #[test]
+    fn finds_the_next(rt: HostRuntime) -> Result<(), Fail> {
+        let store = three(&rt)?;
+        let rows = [
+            (0, Some(3)),
+            (3, Some(3)),
+            (4, Some(7)),
+            (8, Some(0xfff_ffff)),
+            (0x1000_0000, None),
+            (u64::MAX, None),
+        ];
+        for (from, next) in rows {
+            assert_eq!(rt; store.next_from(from), next, "from {from}");
+        }
+        assert_eq!(rt; PageStore::new(rt.alloc()).next_from(0), None);
+        Ok(())
+    }
+
+    #[test]
+    fn puts_in_a_spare_page(rt: HostRuntime) -> Result<(), Fail> {
+        let mut store = PageStore::new(rt.alloc());
+        store.reserve(2)?;
+        store.put_spare(5, &[5; 4096]);
+        store.put_spare(1, &[1; 4096]);
+        store.put_spare(5, &[6; 4096]);
+        assert_eq!(rt; store.len(), 2);
+        assert_eq!(rt; store.get(5).ok_or("no page")?[17], 6);
+        Ok(())
+    }
+
+    #[test]
+    fn writes_and_removes(rt: HostRuntime) -> Result<(), Fail> {
+        let mut store = PageStore::new(rt.alloc());
+        store.put(7, &[7; 4096])?;
+        store.overwrite(7, 4094, &[1, 2]);
+        if let Some(page) = store.lend(7) {
+            page[0] = 3;
+        }
+        assert!(rt; store.lend(8).is_none());
+        let page = store.get(7).ok_or("no page")?;
+        assert_eq!(rt; (page[0], page[1], page[4093]), (3, 7, 7));
+        assert_eq!(rt; (page[4094], page[4095]), (1, 2));
+        assert!(rt; store.remove(7));
+        assert!(rt; !store.remove(7));
+        assert_eq!(rt; store.len(), 0);
+        Ok(())
     }
 }
