@@ -1,5 +1,5 @@
 -- The same, where the values are seen by f.
-use Rattle.std.proofs.Common.{◌≡◌, ℕ, ◌<◌, ◌≤◌, List, ◌∷◌, suc, take, drop, length, get_or, set, map, Some, None, IsSome, refl, sym, ap, ◌∙◌, subst, arith}
+use Rattle.std.proofs.Common.{◌≡◌, ℕ, List, ◌∷◌, suc, take, drop, length, get_or, set, map, Some, None, refl, sym, ap, ◌∙◌, arith}
 use Rattle.std.specs.List.{insert, remove, zip}
 use Rattle.std.specs.FinMap as maps
 use Rattle.std.proofs.lemmas.List.{length-map, map-set, map-append, take-map, drop-map}

@@ -227,7 +227,7 @@ mod tests {
     #[test]
     fn puts_in_a_spare_page(rt: HostRuntime) -> Result<(), Fail> {
         let mut store = PageStore::new(rt.alloc());
-        store.reserve(2)?;
+        store.reserve(3)?;
         store.put_spare(5, &[5; 4096]);
         store.put_spare(1, &[1; 4096]);
         store.put_spare(5, &[6; 4096]);
@@ -240,6 +240,7 @@ mod tests {
     fn writes_and_removes(rt: HostRuntime) -> Result<(), Fail> {
         let mut store = PageStore::new(rt.alloc());
         store.put(7, &[7; 4096])?;
+        assert!(rt; store.get(7).is_some());
         store.overwrite(7, 4094, &[1, 2]);
         if let Some(page) = store.lend(7) {
             page[0] = 3;

@@ -1,4 +1,4 @@
-use Rattle.std.proofs.Common.{◌≡◌, sym, ap, ◌∙◌, refl, List, ℕ, length, inl, inr}
+use Rattle.std.proofs.Common.{sym, ap, ◌∙◌, length, inl, inr}
 use Rattle.std.specs.FinMap as maps
 use Rattle.mig_pagestore.specs.Pages.{Store}
 use Rattle.mig_pagestore.specs.Lending.{with_page}

@@ -1,10 +1,10 @@
-use Rattle.std.proofs.Common.{◌≡◌, ◌≤◌, ◌+◌, sym, ap, ◌∙◌, refl, subst, ℕ, length, arith, None, is_some, true, false}
+use Rattle.std.proofs.Common.{◌≡◌, ◌≤◌, ◌+◌, sym, ap, ◌∙◌, subst, length, arith, is_some, true, false}
 use Rattle.std.specs.FinMap as maps
 use Rattle.std.specs.Box.{with_value}
 use Rattle.std.proofs.lemmas.List.Edits.{length-insert}
 use Rattle.mig_pagestore.specs.Pages.{Store}
 use Rattle.mig_pagestore.proofs.ListMaps.{rising_insert, small_insert}
-use Rattle.mig_pagestore.proofs.Boxes.{box_at, box_gap, box_set, box_insert}
+use Rattle.mig_pagestore.proofs.Boxes.{box_gap, box_set, box_insert}
 use Rattle.mig_pagestore.proofs.page_store.PageStore.put_spare.Goals as goal
 
 nothing_there : false ≡ true → ⊥
