@@ -1,0 +1,2 @@
+pub mod PageTypes
+pub mod FrameWords

@@ -1,0 +1,34 @@
+-- Laws of the two headers.
+use Rattle.std.specs.Prelude.{◌≡◌, ◌⊎◌, ◌↔◌, ◌^◌, ◌<◌, ℕ, List, ◌++◌, length, take, drop, None, Ok}
+use Rattle.mig_headers.specs.declared.kind.Kind.{Kind}
+use Rattle.mig_headers.specs.Headers.{fault_of_marker, image_header_of, domain_header_of, IsImageHeader, IsDomainHeader}
+use Rattle.mig_headers.specs.HeaderValues.{image_header_in, domain_header_in}
+
+-- both parts of an image header are without a fault exactly where its 24 bytes spell it
+abbrev pub ImageHeaderIsSpelled : Type 0
+ImageHeaderIsSpelled =
+    (first rest : List ℕ) (version : ℕ) → length first ≡ 8 → length rest ≡ 16
+    → ((fault_of_marker first ≡ None) × (image_header_in rest ≡ Ok (record { version = version }))) ↔ IsImageHeader (first ++ rest) version
+
+-- 16 bytes read as a domain header exactly where they spell it
+abbrev pub DomainHeaderIsSpelled : Type 0
+DomainHeaderIsSpelled =
+    (bytes : List ℕ) (kind : Kind) (major minor : ℕ) → length bytes ≡ 16
+    → (domain_header_in bytes ≡ Ok (record { kind = kind; major = major; minor = minor })) ↔ IsDomainHeader bytes kind major minor
+
+-- what is written of an image header spells it, and both parts are read again
+pub record ImageHeaderIsReadBack (version : ℕ) : Type 0 where
+  pub spelled : IsImageHeader (image_header_of version) version
+  pub marker : fault_of_marker (take 8 (image_header_of version)) ≡ None
+  pub rest : image_header_in (drop 8 (image_header_of version)) ≡ Ok (record { version = version })
+
+abbrev pub ImageHeadersAreReadBack : Type 0
+ImageHeadersAreReadBack = (version : ℕ) → (version ≡ 2) ⊎ (version ≡ 3) → ImageHeaderIsReadBack version
+
+-- what is written of a domain header spells it, and is read again
+pub record DomainHeaderIsReadBack (kind : Kind) (major minor : ℕ) : Type 0 where
+  pub spelled : IsDomainHeader (domain_header_of kind major minor) kind major minor
+  pub value : domain_header_in (domain_header_of kind major minor) ≡ Ok (record { kind = kind; major = major; minor = minor })
+
+abbrev pub DomainHeadersAreReadBack : Type 0
+DomainHeadersAreReadBack = (kind : Kind) (major minor : ℕ) → major < 2 ^ 32 → minor < 2 ^ 32 → DomainHeaderIsReadBack kind major minor

@@ -1,0 +1,94 @@
+-- The record types of a libxc stream (libxc migration stream, "Records"), a row each.
+use Rattle.std.specs.Prelude.{◌≡◌, ℕ, ◌+◌, ◌-◌, ◌*◌, ◌^◌, ◌%◌, Bool, true, false, List, [], ◌∷◌, Option, Some, ◌==◌, ◌&&◌, ◌||◌, nat_le, slice_get}
+use Rattle.mig_headers.specs.declared.kind.Kind.{Kind}
+use Rattle.mig_headers.specs.declared.kind.Kind.TheVariants.{Pv, Hvm}
+use Rattle.mig_headers.specs.declared.record_type.RecordType.{RecordType}
+use Rattle.mig_headers.specs.declared.record_type.RecordType.TheVariants.{End, PageData, X86PvInfo, X86PvP2mFrames, X86PvVcpuBasic, X86PvVcpuExtended, X86PvVcpuXsave, SharedInfo, X86TscInfo, HvmContext, HvmParams, Toolstack, X86PvVcpuMsrs, Verify, Checkpoint, CheckpointDirtyPfnList, StaticDataEnd, X86CpuidPolicy, X86MsrPolicy}
+
+-- a row of the table: the type's number, whether it is supported, the kinds of guest that have it, and the body lengths that it may have
+pub record Row : Type 0 where
+  pub number : ℕ
+  pub supported : Bool
+  pub of_kind : Kind → Bool
+  pub allows : ℕ → Bool
+
+-- the column of kinds
+abbrev pub both : Kind → Bool
+both kind = true
+
+abbrev pub pv : Kind → Bool
+pv Pv = true
+pv Hvm = false
+
+abbrev pub hvm : Kind → Bool
+hvm Pv = false
+hvm Hvm = true
+
+-- the column of lengths
+abbrev pub any_length : ℕ → Bool
+any_length len = true
+
+abbrev pub exactly : ℕ → ℕ → Bool
+exactly n len = len == n
+
+abbrev pub at_least : ℕ → ℕ → Bool
+at_least n len = nat_le n len
+
+-- entries of n bytes, of at most so many bytes in all
+abbrev pub entries : ℕ → ℕ → ℕ → Bool
+entries n most len = (len % n == 0) && nat_le len most
+
+-- a vCPU's id, and a context that is empty or has n bytes
+abbrev pub vcpu_context : ℕ → ℕ → Bool
+vcpu_context n len = (len == 8) || (len == 8 + n)
+
+-- a vCPU's id, and entries of n bytes
+abbrev pub vcpu_entries : ℕ → ℕ → Bool
+vcpu_entries n len = nat_le 8 len && ((len - 8) % n == 0)
+
+abbrev pub supported : ℕ → (Kind → Bool) → (ℕ → Bool) → Row
+supported number of_kind allows = record { number = number; supported = true; of_kind = of_kind; allows = allows }
+
+abbrev pub unsupported : ℕ → Row
+unsupported number = record { number = number; supported = false; of_kind = both; allows = any_length }
+
+abbrev pub row_of : RecordType → Row
+row_of End = supported 0x0 both (exactly 0)
+row_of PageData = supported 0x1 both (at_least 8)
+row_of X86PvInfo = supported 0x2 pv (exactly 8)
+row_of X86PvP2mFrames = supported 0x3 pv (at_least 8)
+row_of X86PvVcpuBasic = supported 0x4 pv (vcpu_context 5168)
+row_of X86PvVcpuExtended = supported 0x5 pv (at_least 8)
+row_of X86PvVcpuXsave = supported 0x6 pv (at_least 8)
+row_of SharedInfo = supported 0x7 pv (exactly 4096)
+row_of X86TscInfo = supported 0x8 both (exactly 24)
+row_of HvmContext = supported 0x9 hvm any_length
+row_of HvmParams = supported 0xA hvm (at_least 8)
+row_of Toolstack = unsupported 0xB
+row_of X86PvVcpuMsrs = supported 0xC pv (vcpu_entries 16)
+row_of Verify = unsupported 0xD
+row_of Checkpoint = unsupported 0xE
+row_of CheckpointDirtyPfnList = unsupported 0xF
+row_of StaticDataEnd = supported 0x10 both (exactly 0)
+row_of X86CpuidPolicy = supported 0x11 both (entries 24 (2 ^ 16 * 24))
+row_of X86MsrPolicy = supported 0x12 both (entries 16 (2 ^ 16 * 16))
+
+abbrev pub type_number : RecordType → ℕ
+type_number kind = (row_of kind).number
+
+-- the types in the order of their numbers
+abbrev pub record_types : List RecordType
+record_types = End ∷ PageData ∷ X86PvInfo ∷ X86PvP2mFrames ∷ X86PvVcpuBasic ∷ X86PvVcpuExtended ∷ X86PvVcpuXsave ∷ SharedInfo ∷ X86TscInfo ∷ HvmContext ∷ HvmParams ∷ Toolstack ∷ X86PvVcpuMsrs ∷ Verify ∷ Checkpoint ∷ CheckpointDirtyPfnList ∷ StaticDataEnd ∷ X86CpuidPolicy ∷ X86MsrPolicy ∷ []
+
+-- the type of a number, if there is one
+abbrev pub type_of_number : ℕ → Option RecordType
+type_of_number number = slice_get record_types number
+
+-- bit 31 of a type's 32 bits: a reader may ignore the record
+abbrev pub is_optional : ℕ → Bool
+is_optional number = nat_le (2 ^ 31) number
+
+-- a type's number has that type, and is the only one that has it
+pub record NumbersAreInverse : Type 0 where
+  pub type_of : (kind : RecordType) → type_of_number (type_number kind) ≡ Some kind
+  pub number_of : (number : ℕ) (kind : RecordType) → type_of_number number ≡ Some kind → type_number kind ≡ number

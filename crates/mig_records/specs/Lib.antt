@@ -1,0 +1,4 @@
+pub mod Heads
+pub mod Records
+pub mod Words
+pub mod Faults

@@ -1,0 +1,23 @@
+-- A record as bytes (libxc migration stream, "Records").
+use Rattle.std.specs.Prelude.{◌≡◌, ℕ, List, ◌++◌, length, replicate}
+use Rattle.byteorder.specs.Endian.{little_bytes}
+use Rattle.mig_bytes.specs.Bytes.{padding_len}
+use Rattle.mig_bytes.specs.Fields.{le32}
+
+-- a record: 8 bytes with its type and the length of its body, the body, and padding of any value
+pub record IsRecord (type : ℕ) (body bytes : List ℕ) : Type 0 where
+  pub head : List ℕ
+  pub padding : List ℕ
+  pub whole : bytes ≡ head ++ (body ++ padding)
+  pub head_len : length head ≡ 8
+  pub type_is : le32 head 0 ≡ type
+  pub len_is : le32 head 4 ≡ length body
+  pub padded : length padding ≡ padding_len (length body)
+
+-- the head of a record of this type, whose body has this length
+unfoldable pub head_of : ℕ → ℕ → List ℕ
+head_of type len = little_bytes 4 type ++ little_bytes 4 len
+
+-- the canonical record: head, body, and zero bytes up to a multiple of 8
+unfoldable pub spelled : ℕ → List ℕ → List ℕ
+spelled type body = head_of type (length body) ++ (body ++ replicate (padding_len (length body)) 0)

@@ -1,0 +1,36 @@
+ghost use Rattle.std.specs.Prelude.{◌≡◌, ◌≤◌, ◌^◌, length, replicate};
+ghost use Rattle.mig_bytes.specs.Bytes.{Puts, padding_len};
+ghost use Rattle.mig_bytes.specs.Faults.{HasCause};
+ghost use Rattle.mig_records.specs.Records.{head_of, spelled};
+
+use crate::RecordHead;
+use mig_bytes::{Sink, WriteFailed, pad_len, put_all};
+
+/// Appends the head of a record.
+pub fn write_head<K: Sink>(sink: &mut K, kind: u32, len: u32) -> Result<(), WriteFailed>
+    ensures bytes { Puts (head_of kind len) (K.written sink.old) (K.written sink.new) result }
+    ensures cause { HasCause (K.faults sink.old) (K.faults sink.new) result }
+{
+    put_all(sink, &RecordHead { kind, len }.encode())
+}
+
+/// Appends the padding behind a body of this length, in zeros.
+pub fn write_padding<K: Sink>(sink: &mut K, len: u32) -> Result<(), WriteFailed>
+    ensures bytes { Puts (replicate (padding_len len) 0) (K.written sink.old) (K.written sink.new) result }
+    ensures cause { HasCause (K.faults sink.old) (K.faults sink.new) result }
+{
+    let zeros = [0; 8];
+    put_all(sink, &zeros[..pad_len(len)])
+}
+
+/// Appends a record: head, body and padding in zeros.
+pub fn write_record<K: Sink>(sink: &mut K, kind: u32, body: &[u8]) -> Result<(), WriteFailed>
+    requires { length body.now ≤ 2 ^ 27 }
+    ensures bytes { Puts (spelled kind body.now) (K.written sink.old) (K.written sink.new) result }
+    ensures cause { HasCause (K.faults sink.old) (K.faults sink.new) result }
+{
+    let len = body.len() as u32;
+    write_head(sink, kind, len)?;
+    put_all(sink, body)?;
+    write_padding(sink, len)
+}
