@@ -1,0 +1,4 @@
+pub mod PartOrder
+pub mod KeyedMaps
+pub mod FrameMaps
+pub mod Cursor
