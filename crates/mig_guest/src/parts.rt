@@ -46,7 +46,7 @@ fn least_key(parts: &BTreeMap<PartKey, Vec<u8>>) -> Option<PartKey>
     ensures none { IfNone result ((k : PartKey) → tree.get part_cmp parts.now k ≡ None) }
     ensures least { IfSome result (λ q. IsSome (tree.get part_cmp parts.now q) × ((k : PartKey) → part_cmp k q ≡ Less → tree.get part_cmp parts.now k ≡ None)) }
 {
-    match parts.range(..).next() {
+    match parts.first_key_value() {
         Some((key, _)) => Some(*key),
         None => None,
     }
@@ -93,16 +93,6 @@ impl Parts {
             Ok(_) => Ok(()),
             Err(_) => Err(Memory),
         }
-    }
-
-    // Writes `bytes` over those of one part from its byte `at` on.
-    pub(crate) fn write(&mut self, key: PartKey, at: usize, bytes: &[u8])
-        requires range { IfSome (maps.get self.old key) (λ part. at + length bytes.now ≤ length part) }
-        requires there { IsSome (maps.get self.old key) }
-        ensures { IfSome (maps.get self.old key) (λ part. self.new ≡ maps.insert self.old key (spliced part at bytes.now)) }
-    {
-        let part = self.parts.get_mut(&key).unwrap();
-        write_over(part, at, bytes);
     }
 
     pub(crate) fn next(&self, after: Option<PartKey>) -> Option<PartKey>
