@@ -235,3 +235,21 @@ module _ (pages : PageMap) (kinds : Kinds) (from : ℕ) where
       × IfSome r (λ q. (from ≤ q) × IsSome (maps.get (frames_seen pages kinds) q) × ((k : ℕ) → from ≤ k → k < q → maps.get (frames_seen pages kinds) k ≡ None))
   next_seen None n s = (λ k le. none_seen k (n k le), tt)
   next_seen (Some q) n s = (tt, (s.0, ap is_some (get_frame pages kinds q) ∙ is_some-mapped (frame_at pages q) (kind_at kinds q) ∙ s.1, λ k le lt. none_seen k (s.2 k le lt)))
+
+-- a number that has a frame is below 2^28
+pub small_of : (m : FrameMap) (q : ℕ) (r : Option FrameOf) → maps.get m q ≡ r → IsSome r → IsSized m → q < 2 ^ 28
+small_of m q None e there sized = absurd (apart there)
+  where
+    apart : false ≡ true → ⊥
+    apart e = cc
+small_of m q (Some f) e there sized = (sized q f e).0
+
+pub small_next : (pages : PageMap) (kinds : Kinds) (from : ℕ) (r : Option ℕ)
+    → IfSome r (λ q. (from ≤ q) × IsSome (maps.get (frames_seen pages kinds) q) × ((k : ℕ) → from ≤ k → k < q → maps.get (frames_seen pages kinds) k ≡ None))
+    → IsSized (frames_seen pages kinds) → IfSome r (λ q. q < 2 ^ 28)
+small_next pages kinds from None s sized = tt
+small_next pages kinds from (Some q) s sized = small_of (frames_seen pages kinds) q _ refl s.1 sized
+
+-- a number with a type has a frame of it
+pub sized_at : (pages : PageMap) (kinds : Kinds) (q : ℕ) (kind : PageType) → kind_at kinds q ≡ Some kind → IsSized (frames_seen pages kinds) → (q < 2 ^ 28) × IsFrame (frame_at pages q kind)
+sized_at pages kinds q kind e sized = sized q (frame_at pages q kind) (get_frame pages kinds q ∙ ap (option_map (frame_at pages q)) e)

@@ -82,12 +82,15 @@ impl Frames {
     pub(crate) fn next(&self, from: u64) -> Option<u64>
         ensures none { IfNone result ((k : ℕ) → from ≤ k → maps.get self.now k ≡ None) }
         ensures least { IfSome result (λ q. (from ≤ q) × IsSome (maps.get self.now q) × ((k : ℕ) → from ≤ k → k < q → maps.get self.now k ≡ None)) }
+        ensures small { IfSome result (λ q. q < 2 ^ 28) }
     {
         least_from(&self.kinds, from)
     }
 
     pub(crate) fn next_entry(&self, from: u64) -> Option<(u64, PageType, Option<&[u8; 4096]>)>
-        ensures { NextEntry from (maps.entries self.now) (option_map (λ e. (e.0, record { kind = e.1; page = option_copied e.2 })) result) }
+        ensures next { NextEntry from (maps.entries self.now) (option_map (λ e. (e.0, record { kind = e.1; page = option_copied e.2 })) result) }
+        ensures small { IfSome result (λ e. e.0 < 2 ^ 28) }
+        ensures paged { IfSome result (λ e. is_some e.2 ≡ type_has_data e.1) }
     {
         match self.kinds.range(from..).next() {
             Some((pfn, kind)) => Some((*pfn, *kind, self.pages.get(*pfn))),

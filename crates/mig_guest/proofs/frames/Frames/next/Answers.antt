@@ -3,7 +3,7 @@ use Rattle.std.specs.FinMap as maps
 use Rattle.mig_pagestore.specs.Pages.{PageMap}
 use Rattle.mig_guest.specs.Frames.{FrameOf, FrameMap, IsFrame, IsSized}
 use Rattle.mig_guest.specs.FrameView.{frame_at, frames_seen, IsInStep}
-use Rattle.mig_guest.proofs.FrameMaps.{next_seen}
+use Rattle.mig_guest.proofs.FrameMaps.{next_seen, small_next}
 use Rattle.mig_guest.proofs.frames.Frames.next.Goals as goal
 
 pub returns : goal.returns
@@ -12,4 +12,5 @@ returns c =
     record {
       none = subst (λ (m : FrameMap). IfNone c.least_from.result ((k : ℕ) → c.args.from ≤ k → maps.get m k ≡ None)) c.self.view_is both.0;
       least = subst (λ (m : FrameMap). IfSome c.least_from.result (λ q. (c.args.from ≤ q) × IsSome (maps.get m q) × ((k : ℕ) → c.args.from ≤ k → k < q → maps.get m k ≡ None))) c.self.view_is both.1;
+      small = small_next c.self.inside.pages.pages c.self.inside.kinds.entries c.args.from c.least_from.result both.1 c.self.invariant.sized;
     }
