@@ -16,7 +16,7 @@ use Rattle.std.specs.FinMap.{is_sorted, nat_cmp-IsAntisymmetric, same_map, get-f
 use Rattle.std.specs.FinMap.Entries.{below_all}
 use Rattle.mig_pagetypes.specs.declared.page_type.PageType.{PageType}
 use Rattle.mig_pagestore.specs.Pages.{PageMap}
-use Rattle.mig_guest.specs.Frames.{FrameOf, FrameMap, entries_from}
+use Rattle.mig_guest.specs.Frames.{FrameOf, entries_from}
 use Rattle.mig_guest.specs.FrameView.{frame_at, frames_seen}
 
 abbrev pub Entry : Type 0

@@ -1,9 +1,6 @@
 -- What the frames that are seen have at each number, and what a change of one number does to them.
-use Rattle.std.proofs.Common.{◌≡◌, ◌≢◌, ℕ, ◌+◌, ◌<◌, ◌≤◌, ◌^◌, length, arith, Bool, true, false, cond, not, List, [], ◌∷◌, map, nat_le, Option, Some, None, is_some, IsSome, IfNone, IfSome, option_and_then, refl, sym, ap, subst, ◌∙◌, inl, inr}
-use Rattle.std.specs.Prelude.{T, ◌&&◌}
-use Rattle.std.specs.declared.cmp.Ordering.{Ordering}
-use Rattle.std.specs.declared.cmp.Ordering.TheVariants.{Less, Equal, Greater}
-use Rattle.std.specs.Ordering.{nat_cmp, is_lt, is_eq, eq_by_cmp}
+use Rattle.std.proofs.Common.{◌≡◌, ◌≢◌, ℕ, ◌+◌, ◌<◌, ◌≤◌, ◌^◌, length, arith, Bool, true, false, cond, List, [], ◌∷◌, map, Option, Some, None, is_some, IsSome, IfNone, IfSome, option_and_then, refl, sym, ap, subst, ◌∙◌, inl, inr}
+use Rattle.std.specs.Ordering.{nat_cmp, is_eq, eq_by_cmp}
 use Rattle.std.specs.Option.{option_map}
 use Rattle.std.specs.Cmp.{nat_cmp_total, unsigned_tied}
 use Rattle.std.specs.BTreeMap.{is_at}
@@ -115,9 +112,9 @@ same_frame f g e = cc
 sized_insert : (m : FrameMap) (k : ℕ) (f : FrameOf) → IsSized m → k < 2 ^ 28 → IsFrame f → IsSized (maps.insert m k f)
 sized_insert m k f sized small fine q g is = elim (cases_eq q k) [
   | inl same ↦ (
-        subst (λ n. n < 2 ^ 28) (sym same) small,
-        subst IsFrame (same_frame f g (sym (ap (λ b. cond b (Some f) (maps.get m q)) (ties q k (sym same))) ∙ sym (get-insert nat_cmp_total m k f q) ∙ is)) fine,
-    )
+    subst (λ n. n < 2 ^ 28) (sym same) small,
+    subst IsFrame (same_frame f g (sym (ap (λ b. cond b (Some f) (maps.get m q)) (ties q k (sym same))) ∙ sym (get-insert nat_cmp_total m k f q) ∙ is)) fine,
+  )
   | inr ne ↦ sized q g (sym (ap (λ b. cond b (Some f) (maps.get m q)) (differs q k (λ e. ne (sym e)))) ∙ sym (get-insert nat_cmp_total m k f q) ∙ is)
 ]
 
@@ -204,6 +201,7 @@ whole_frame kind page has size = record {
   where
     apart : true ≡ false → ⊥
     apart e = cc
+
     same_page : (a b : List ℕ) → Some a ≡ Some b → a ≡ b
     same_page a b e = cc
 

@@ -1,5 +1,5 @@
 -- The entries of an ordered map seen as a finite map, each value through f.
-use Rattle.std.proofs.Common.{◌≡◌, ℕ, ◌+◌, length, arith, Bool, true, false, cond, List, [], ◌∷◌, map, Option, Some, None, is_some, IsSome, IfNone, IfSome, ◌<◌, ◌≤◌, refl, sym, ap, ◌∙◌}
+use Rattle.std.proofs.Common.{◌≡◌, Bool, true, false, cond, List, [], ◌∷◌, map, Option, Some, None, refl, sym, ap, ◌∙◌}
 use Rattle.std.specs.declared.cmp.Ordering.{Ordering}
 use Rattle.std.specs.Ordering.{eq_by_cmp}
 use Rattle.std.specs.Option.{option_map}
@@ -8,18 +8,12 @@ use Rattle.std.proofs.lemmas.Cmp.{eq_by_cmp_equiv}
 use Rattle.std.specs.BTreeMap.{is_at}
 use Rattle.std.specs.Map.{lookup}
 use Rattle.std.specs.FinMap as maps
-use Rattle.std.specs.List.Sorted.{IsStrictlySortedBy}
-use Rattle.std.specs.Map.{keys_of}
-use Rattle.std.proofs.lemmas.Map.Keys.{sorted_tail, IsDistinct-from_sorted}
-use Rattle.std.proofs.lemmas.Map.Entries.{none_past_head, lookup-filter-keys}
+use Rattle.std.proofs.lemmas.Map.Entries.{lookup-filter-keys}
 use Rattle.std.specs.List.{filter}
 use Rattle.std.specs.declared.cmp.Ordering.TheVariants.{Less, Equal, Greater}
 use Rattle.std.specs.Ordering.{is_eq}
-use Rattle.std.specs.Cmp.{nat_cmp_total}
-use Rattle.std.specs.FinMap.{nat_cmp-IsAntisymmetric, get-retain_keys}
-use Rattle.std.proofs.lemmas.Map.{lookup-none}
-use Rattle.std.specs.Ordering.{nat_cmp}
-use Rattle.std.specs.FinMap.{FinMap, find, IsAntisymmetric, same_map, get-from_entries, get-insert, get-remove, len-insert}
+use Rattle.std.specs.FinMap.{get-retain_keys}
+use Rattle.std.specs.FinMap.{FinMap, find, IsAntisymmetric, same_map, get-from_entries, get-insert, get-remove}
 
 abbrev pub seen : {K X Y : Type 0} (R : K → K → Ordering) (f : X → Y) → List (K × X) → FinMap R Y
 seen R f es = maps.from_entries (map (λ e. (e.0, f e.1)) es)

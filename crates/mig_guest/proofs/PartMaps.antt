@@ -1,5 +1,5 @@
 -- What a search among the keys of the parts finds holds of the parts as they are seen.
-use Rattle.std.proofs.Common.{◌≡◌, ℕ, List, Bool, true, false, Option, Some, None, is_some, IsSome, IfNone, IfSome, refl, sym, ap, ◌∙◌}
+use Rattle.std.proofs.Common.{cond, ◌≡◌, ℕ, List, Option, Some, None, is_some, IsSome, IfNone, IfSome, refl, sym, ap, ◌∙◌}
 use Rattle.std.specs.declared.cmp.Ordering.TheVariants.{Less}
 use Rattle.std.specs.declared.vec.Vec.{Vec}
 use Rattle.std.specs.Option.{option_map}
@@ -10,7 +10,7 @@ use Rattle.mig_guest.specs.declared.part_key.PartKey.{PartKey}
 use Rattle.mig_guest.specs.Parts.{PartMap, parts_seen}
 use Rattle.mig_guest.specs.Order.{part_cmp, IsAbove}
 use Rattle.mig_guest.proofs.PartOrder.{part_total, part_exact}
-use Rattle.mig_guest.proofs.KeyedMaps.{get_seen}
+use Rattle.mig_guest.proofs.KeyedMaps.{get_seen, seen_insert}
 
 is_some-mapped : {X Y : Type 0} (f : X → Y) (r : Option X) → is_some (option_map f r) ≡ is_some r
 is_some-mapped f None = refl
@@ -45,3 +45,9 @@ module _ {Z : Type 0} (es : List (PartKey × Vec ℕ Z)) (m : PartMap) (view : p
       × IfSome r (λ q. IsAbove None q × IsSome (maps.get m q) × ((k : PartKey) → IsAbove None k → part_cmp k q ≡ Less → maps.get m k ≡ None))
   first_seen None n s = (λ k above. none_seen k (n k), tt)
   first_seen (Some q) n s = (tt, (tt, there_seen q ∙ s.0, λ k above less. none_seen k (s.1 k less)))
+
+-- the parts, where one key has new bytes
+pub put_seen : {Z : Type 0} (es fs : List (PartKey × Vec ℕ Z)) (k : PartKey) (v : Vec ℕ Z) (bytes : List ℕ) → v.items ≡ bytes
+    → ((q : PartKey) → lookup (is_at (part_cmp q)) fs ≡ cond (is_at (part_cmp k) q) (Some v) (lookup (is_at (part_cmp q)) es))
+    → parts_seen fs ≡ maps.insert (parts_seen es) k bytes
+put_seen {Z} es fs k v bytes is updates = seen_insert part_total part_exact (λ (x : Vec ℕ Z). x.items) es fs k v updates ∙ ap (maps.insert (parts_seen es) k) is

@@ -1,6 +1,5 @@
 -- What a guest is: a kind, a number, a finite map of frames and a finite map of parts.
 use Rattle.std.specs.Prelude.{ℕ, refl}
-use Rattle.std.specs.FinMap as maps
 use Rattle.std.specs.Coded.{Coded, code_by, coded×, coded_ℕ}
 use Rattle.mig_headers.specs.declared.kind.Kind.{Kind}
 use Rattle.mig_headers.specs.contracts.kind.Kind as kind

@@ -3,6 +3,7 @@ ghost use Rattle.std.specs.declared.cmp.Ordering.TheVariants.{Less};
 ghost use Rattle.std.specs.Option.{option_copied, option_map};
 ghost use Rattle.std.specs.FinMap as maps;
 ghost use Rattle.mig_pagetypes.specs.PageTypes.{type_has_data};
+ghost use Rattle.mig_pagestore.specs.Pages.{spliced};
 ghost use Rattle.mig_guest.specs.declared.part_key.PartKey.{PartKey};
 ghost use Rattle.mig_guest.specs.Order.{part_cmp, IsAbove};
 ghost use Rattle.mig_guest.specs.Frames.{framed, IsSized, NextEntry};
@@ -130,6 +131,15 @@ impl Guest {
         ensures err { OnErr result (self.new ≡ self.old) }
     {
         self.parts.set(key, bytes)
+    }
+
+    /// Writes `bytes` over those of a part from its byte `at` on.
+    pub fn write_part(&mut self, key: PartKey, at: usize, bytes: &[u8])
+        requires there { IsSome (maps.get self.old.parts key) }
+        requires range { IfSome (maps.get self.old.parts key) (λ part. at + length bytes.now ≤ length part) }
+        ensures { IfSome (maps.get self.old.parts key) (λ part. self.new ≡ record self.old { parts = maps.insert self.old.parts key (spliced part at bytes.now) }) }
+    {
+        self.parts.write(key, at, bytes);
     }
 
     /// The bytes of a part; none where the guest doesn't have it.

@@ -57,7 +57,10 @@ fn least_above(parts: &BTreeMap<PartKey, Vec<u8>>, after: PartKey) -> Option<Par
     ensures none { IfNone result ((k : PartKey) → part_cmp after k ≡ Less → tree.get part_cmp parts.now k ≡ None) }
     ensures least { IfSome result (λ q. (part_cmp after q ≡ Less) × IsSome (tree.get part_cmp parts.now q) × ((k : PartKey) → part_cmp after k ≡ Less → part_cmp k q ≡ Less → tree.get part_cmp parts.now k ≡ None)) }
 {
-    match parts.range((Bound::Excluded(after), Bound::Unbounded)).next() {
+    match parts
+        .range((Bound::Excluded(after), Bound::Unbounded))
+        .next()
+    {
         Some((key, _)) => Some(*key),
         None => None,
     }
@@ -93,6 +96,16 @@ impl Parts {
             Ok(_) => Ok(()),
             Err(_) => Err(Memory),
         }
+    }
+
+    // Writes `bytes` over those of one part from its byte `at` on.
+    pub(crate) fn write(&mut self, key: PartKey, at: usize, bytes: &[u8])
+        requires range { IfSome (maps.get self.old key) (λ part. at + length bytes.now ≤ length part) }
+        requires there { IsSome (maps.get self.old key) }
+        ensures { IfSome (maps.get self.old key) (λ part. self.new ≡ maps.insert self.old key (spliced part at bytes.now)) }
+    {
+        let part = self.parts.get_mut(&key).unwrap();
+        write_over(part, at, bytes);
     }
 
     pub(crate) fn next(&self, after: Option<PartKey>) -> Option<PartKey>

@@ -1,8 +1,5 @@
-use Rattle.std.proofs.Common.{◌≡◌, Bool, true, false, Option, Some, None, is_some, IsSome, refl, sym, ap, ◌∙◌}
-use Rattle.std.specs.declared.cmp.Ordering.{Ordering}
-use Rattle.std.specs.declared.cmp.Ordering.TheVariants.{Less, Equal, Greater}
+use Rattle.std.proofs.Common.{◌≡◌, true, false, Option, Some, None, is_some, IsSome, refl, sym, ap, ◌∙◌}
 use Rattle.std.specs.Ordering.{is_gt, ordering_reverse}
-use Rattle.mig_guest.specs.Order.{part_cmp}
 use Rattle.mig_guest.proofs.PartOrder.{part_total}
 use Rattle.mig_guest.proofs.parts.least_key.Goals as goal
 

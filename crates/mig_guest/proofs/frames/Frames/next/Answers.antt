@@ -1,8 +1,6 @@
-use Rattle.std.proofs.Common.{◌≡◌, ℕ, ◌<◌, ◌≤◌, Some, None, IsSome, IfSome, IfNone, subst}
+use Rattle.std.proofs.Common.{◌≡◌, ℕ, ◌<◌, ◌≤◌, None, IsSome, IfSome, IfNone, subst}
 use Rattle.std.specs.FinMap as maps
-use Rattle.mig_pagestore.specs.Pages.{PageMap}
-use Rattle.mig_guest.specs.Frames.{FrameOf, FrameMap, IsFrame, IsSized}
-use Rattle.mig_guest.specs.FrameView.{frame_at, frames_seen, IsInStep}
+use Rattle.mig_guest.specs.Frames.{FrameMap}
 use Rattle.mig_guest.proofs.FrameMaps.{next_seen, small_next}
 use Rattle.mig_guest.proofs.frames.Frames.next.Goals as goal
 

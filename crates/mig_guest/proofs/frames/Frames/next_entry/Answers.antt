@@ -5,9 +5,7 @@ use Rattle.std.proofs.lemmas.List.Elements.{All-head}
 use Rattle.mig_pagetypes.specs.declared.page_type.PageType.{PageType}
 use Rattle.mig_guest.proofs.FrameMaps.{Kinds, kind_at, sized_at}
 use Rattle.std.specs.FinMap as maps
-use Rattle.mig_pagestore.specs.Pages.{PageMap}
-use Rattle.mig_guest.specs.Frames.{FrameOf, FrameMap, IsFrame, IsSized}
-use Rattle.mig_guest.specs.FrameView.{frame_at, frames_seen, IsInStep}
+use Rattle.mig_guest.specs.Frames.{FrameMap}
 use Rattle.mig_guest.specs.Frames.{entries_from}
 use Rattle.mig_guest.proofs.Cursor.{Entry, shown, entries_seen, from_shown, from_range, next_from}
 use Rattle.mig_guest.proofs.frames.Frames.next_entry.Goals as goal
@@ -20,8 +18,8 @@ returns-in-Some-clause-next c =
     let rest = map (shown pages) c.next.new.self in
     let whole : entries_from from es ≡ map (shown pages) (entries_from from kinds) = ap (λ (m : FrameMap). entries_from from (maps.entries m)) (sym c.self.view_is) ∙ ap (entries_from from) (entries_seen pages kinds c.range.ensures.ordered) ∙ from_shown pages from kinds in
     let first : entries_from from es ≡ e ∷ rest =
-        whole ∙ ap (map (shown pages)) (from_range from kinds ∙ sym (c.range.ensures.between tt) ∙ c.in-Some.ensures.steps)
-        ∙ ap (λ (page : Option (List ℕ)). (c.in-Some.pfn.now, record { kind = c.in-Some.kind.now; page = page }) ∷ rest) (sym c.get.ensures.value) in
+    whole ∙ ap (map (shown pages)) (from_range from kinds ∙ sym (c.range.ensures.between tt) ∙ c.in-Some.ensures.steps)
+    ∙ ap (λ (page : Option (List ℕ)). (c.in-Some.pfn.now, record { kind = c.in-Some.kind.now; page = page }) ∷ rest) (sym c.get.ensures.value) in
     first ∙ ap (λ l. e ∷ l) (sym (next_from from es rest e (maps.entries_sorted c.args.self.now) first))
 
 pub returns-in-None-clause-next : goal.returns-in-None-clause-next

@@ -1,8 +1,6 @@
-use Rattle.std.proofs.Common.{◌≡◌, ap, ◌∙◌, option_and_then}
+use Rattle.std.proofs.Common.{ap, ◌∙◌, option_and_then}
 use Rattle.std.specs.FinMap as maps
-use Rattle.mig_pagestore.specs.Pages.{PageMap}
-use Rattle.mig_guest.specs.Frames.{FrameOf, FrameMap, IsFrame, IsSized}
-use Rattle.mig_guest.specs.FrameView.{frame_at, frames_seen, IsInStep}
+use Rattle.mig_guest.specs.Frames.{FrameOf, FrameMap}
 use Rattle.mig_guest.proofs.FrameMaps.{page_seen}
 use Rattle.mig_guest.proofs.frames.Frames.page.Goals as goal
 

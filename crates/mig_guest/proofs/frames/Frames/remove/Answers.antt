@@ -1,8 +1,7 @@
-use Rattle.std.proofs.Common.{◌≡◌, ◌≢◌, ℕ, List, Option, Some, None, refl, sym, ap, subst, ◌∙◌}
+use Rattle.std.proofs.Common.{ap, ◌∙◌}
 use Rattle.std.specs.FinMap as maps
 use Rattle.mig_pagestore.specs.Pages.{PageMap}
-use Rattle.mig_guest.specs.Frames.{FrameOf, FrameMap, IsFrame, IsSized}
-use Rattle.mig_guest.specs.FrameView.{frame_at, frames_seen, IsInStep}
+use Rattle.mig_guest.specs.Frames.{FrameMap}
 use Rattle.mig_guest.proofs.FrameMaps.{frames_removed, in_step_removed, removal_leaves, removal_gives}
 use Rattle.mig_guest.proofs.frames.Frames.remove.Goals as goal
 

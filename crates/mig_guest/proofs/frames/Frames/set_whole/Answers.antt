@@ -1,8 +1,8 @@
-use Rattle.std.proofs.Common.{◌≡◌, ◌≢◌, ℕ, List, length, Option, Some, None, is_some, true, false, refl, sym, ap, subst, ◌∙◌}
+use Rattle.std.proofs.Common.{◌≡◌, ℕ, List, Option, Some, sym, ap, subst, ◌∙◌}
 use Rattle.std.specs.FinMap as maps
 use Rattle.mig_pagestore.specs.Pages.{PageMap}
-use Rattle.mig_guest.specs.Frames.{FrameOf, FrameMap, IsFrame, IsSized}
-use Rattle.mig_guest.specs.FrameView.{frame_at, frames_seen, IsInStep}
+use Rattle.mig_guest.specs.Frames.{FrameMap, IsFrame}
+use Rattle.mig_guest.specs.FrameView.{frames_seen}
 use Rattle.mig_guest.proofs.FrameMaps.{frames_set, in_step_set, put_leaves, put_gives, whole_frame}
 use Rattle.mig_guest.proofs.frames.Frames.set_whole.Goals as goal
 

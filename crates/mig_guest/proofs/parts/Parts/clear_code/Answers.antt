@@ -1,9 +1,8 @@
-use Rattle.std.proofs.Common.{◌≡◌, List, ℕ, ◌==◌, not, refl, sym, ap, ◌∙◌, rules}
+use Rattle.std.proofs.Common.{◌≡◌, ℕ, ◌==◌, not, refl, sym, ap, ◌∙◌}
 use Rattle.std.proofs.lemmas.Map.Entries.{filter_from_retain_pairs}
 use Rattle.mig_guest.specs.declared.part_key.PartKey.{PartKey}
 use Rattle.std.specs.FinMap as maps
 use Rattle.mig_guest.specs.Parts.{PartMap, parts_seen}
-use Rattle.mig_guest.specs.Order.{part_cmp}
 use Rattle.mig_guest.proofs.PartOrder.{part_total, part_exact}
 use Rattle.mig_guest.proofs.KeyedMaps.{seen_filter}
 use Rattle.mig_guest.proofs.parts.Parts.clear_code.Goals as goal

@@ -1,9 +1,8 @@
-use Rattle.std.proofs.Common.{◌≡◌, List, ℕ, Global, Some, None, sym, ap, ◌∙◌}
+use Rattle.std.proofs.Common.{ℕ, Global, Some, sym, ap, ◌∙◌}
 use Rattle.std.specs.Option.{option_map}
 use Rattle.std.specs.declared.vec.Vec.{Vec}
 use Rattle.std.specs.FinMap as maps
-use Rattle.mig_guest.specs.Parts.{PartMap, parts_seen}
-use Rattle.mig_guest.specs.Order.{part_cmp}
+use Rattle.mig_guest.specs.Parts.{PartMap}
 use Rattle.mig_guest.proofs.PartOrder.{part_total, part_exact}
 use Rattle.mig_guest.proofs.KeyedMaps.{get_seen}
 use Rattle.mig_guest.proofs.parts.Parts.get.Goals as goal

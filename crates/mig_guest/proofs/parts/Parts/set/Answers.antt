@@ -1,7 +1,6 @@
-use Rattle.std.proofs.Common.{◌≡◌, List, ℕ, Global, sym, ap, ◌∙◌}
+use Rattle.std.proofs.Common.{ap, ◌∙◌}
 use Rattle.std.specs.FinMap as maps
-use Rattle.mig_guest.specs.Parts.{PartMap, parts_seen}
-use Rattle.mig_guest.specs.Order.{part_cmp}
+use Rattle.mig_guest.specs.Parts.{PartMap}
 use Rattle.mig_guest.proofs.PartOrder.{part_total, part_exact}
 use Rattle.mig_guest.proofs.KeyedMaps.{seen_insert}
 use Rattle.mig_guest.proofs.parts.Parts.set.Goals as goal
