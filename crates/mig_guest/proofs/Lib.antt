@@ -1,0 +1,5 @@
+pub mod PartOrder
+pub mod KeyedMaps
+pub mod PartMaps
+pub mod FrameMaps
+pub mod Cursor

@@ -1,0 +1,18 @@
+-- How a list of types by number and a map of pages are seen as frames.
+use Rattle.std.specs.Prelude.{ℕ, List, map, IsSome}
+use Rattle.std.specs.FinMap as maps
+use Rattle.mig_pagetypes.specs.declared.page_type.PageType.{PageType}
+use Rattle.mig_pagestore.specs.Pages.{PageMap}
+use Rattle.mig_guest.specs.Frames.{FrameOf, FrameMap, IsSized}
+
+-- the frame of this type, with the page that is there
+abbrev pub frame_at : PageMap → ℕ → PageType → FrameOf
+frame_at pages pfn kind = record { kind = kind; page = maps.get pages pfn }
+
+abbrev pub frames_seen : PageMap → List (ℕ × PageType) → FrameMap
+frames_seen pages kinds = maps.from_entries (map (λ e. (e.0, frame_at pages e.0 e.1)) kinds)
+
+-- the frames are sized, and no page is there without a frame
+pub record IsInStep (pages : PageMap) (kinds : List (ℕ × PageType)) : Type 0 where
+  pub sized : IsSized (frames_seen pages kinds)
+  pub no_stray : (pfn : ℕ) → IsSome (maps.get pages pfn) → IsSome (maps.get (frames_seen pages kinds) pfn)

@@ -1,0 +1,49 @@
+-- The frames of a guest: a finite map from PFN to a type, and a page or none.
+use Rattle.std.specs.Prelude.{◌≡◌, ◌≢◌, ℕ, ◌+◌, ◌<◌, ◌^◌, List, [], ◌∷◌, length, filter, nat_le, Option, Some, None, is_some, refl}
+use Rattle.std.specs.Ordering.{nat_cmp}
+use Rattle.std.specs.FinMap as maps
+use Rattle.std.specs.Coded.{Coded, code_by, coded×, coded_ℕ, coded_list, coded_option}
+use Rattle.mig_pagetypes.specs.declared.page_type.PageType.{PageType}
+use Rattle.mig_pagetypes.specs.declared.page_type.PageType.TheVariants.{Xtab}
+use Rattle.mig_pagetypes.specs.contracts.page_type.PageType as page_type
+use Rattle.mig_pagetypes.specs.PageTypes.{type_has_data}
+
+-- a frame's type, and its page or none
+pub record FrameOf : Type 0 where
+  pub kind : PageType
+  pub page : Option (List ℕ)
+
+-- frames by PFN
+abbrev pub FrameMap : Type 0
+FrameMap = maps.FinMap nat_cmp FrameOf
+
+-- the frame isn't absent, and has a page of 4096 bytes exactly where its type has data
+pub record IsFrame (frame : FrameOf) : Type 0 where
+  pub there : frame.kind ≢ Xtab
+  pub in_step : is_some frame.page ≡ type_has_data frame.kind
+  pub whole : (page : List ℕ) → frame.page ≡ Some page → length page ≡ 4096
+
+-- every PFN is below 2^28, and every frame is one that a guest can have
+abbrev pub IsSized : FrameMap → Type 0
+IsSized m = (pfn : ℕ) (frame : FrameOf) → maps.get m pfn ≡ Some frame → (pfn < 2 ^ 28) × IsFrame frame
+
+-- the frames, where the frame of pfn is set: XTAB takes it away
+abbrev pub framed : FrameMap → ℕ → PageType → Option (List ℕ) → FrameMap
+framed m pfn Xtab page = maps.remove m pfn
+framed m pfn kind page = maps.insert m pfn (record { kind = kind; page = page })
+
+-- the entries whose numbers are p or more
+abbrev pub entries_from : {X : Type 0} → ℕ → List (ℕ × X) → List (ℕ × X)
+entries_from p es = filter (λ e. nat_le p e.0) es
+
+-- the first of the entries from p on, where there is one, and then those behind it
+abbrev pub NextEntry : {X : Type 0} → ℕ → List (ℕ × X) → Option (ℕ × X) → Type 0
+NextEntry p es None = entries_from p es ≡ []
+NextEntry p es (Some e) = entries_from p es ≡ e ∷ entries_from (e.0 + 1) es
+
+-- a frame is stored as the pair of its fields
+abbrev pub frame_code : Coded FrameOf
+frame_code = code_by (PageType × Option (List ℕ)) (coded× page_type.the_row.coded (coded_option (coded_list coded_ℕ))) (λ f. (f.kind, f.page)) (λ p. record { kind = p.0; page = p.1 }) (λ _. refl)
+
+abbrev pub frames_code : Coded FrameMap
+frames_code = maps.code coded_ℕ frame_code

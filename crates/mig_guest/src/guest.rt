@@ -1,0 +1,167 @@
+ghost use Rattle.std.specs.Prelude.{◌≡◌, ◌==◌, ℕ, ◌+◌, ◌<◌, ◌≤◌, ◌^◌, length, not, OnOk, OnErr, IfSome, IfNone, IsSome, None, is_some, option_and_then};
+ghost use Rattle.std.specs.declared.cmp.Ordering.TheVariants.{Less};
+ghost use Rattle.std.specs.Option.{option_copied, option_map};
+ghost use Rattle.std.specs.FinMap as maps;
+ghost use Rattle.mig_pagetypes.specs.PageTypes.{type_has_data};
+ghost use Rattle.mig_pagestore.specs.Pages.{spliced};
+ghost use Rattle.mig_guest.specs.declared.part_key.PartKey.{PartKey};
+ghost use Rattle.mig_guest.specs.Order.{part_cmp, IsAbove};
+ghost use Rattle.mig_guest.specs.Frames.{framed, IsSized, NextEntry};
+
+use crate::frames::Frames;
+use crate::part_key::PartKey;
+use crate::parts::Parts;
+use mig_bytes::Memory;
+use mig_headers::Kind;
+use mig_pagetypes::PageType;
+use std::alloc::Global;
+use std::marker::Model;
+
+/// A guest: its kind, its top, its frames by number (PFN) and its parts by key.
+#[derive(Drop)]
+pub struct Guest {
+    kind: Kind,
+    top: u64,
+    frames: Frames,
+    parts: Parts,
+}
+
+impl Model for Guest {
+    ghost use Rattle.mig_guest.specs.Guests.{GuestOf, guest_code};
+
+    ghost Value = { GuestOf };
+
+    ghost coded = { guest_code };
+
+    ghost view = { λ g. record { kind = g.kind; top = g.top; frames = g.frames; parts = g.parts } };
+}
+
+impl Guest {
+    /// A guest with no frames, no parts and top 0.
+    pub fn new(alloc: Global, kind: Kind) -> Guest
+        ensures { result ≡ record { kind = kind; top = 0; frames = maps.empty; parts = maps.empty } }
+    {
+        Guest {
+            kind,
+            top: 0,
+            frames: Frames::new(alloc),
+            parts: Parts::new(alloc),
+        }
+    }
+
+    pub fn kind(&self) -> Kind
+        ensures { result ≡ self.now.kind }
+    {
+        self.kind
+    }
+
+    /// The greatest frame number that a PV guest may use; 0 for HVM.
+    pub fn top(&self) -> u64
+        ensures { result ≡ self.now.top }
+    {
+        self.top
+    }
+
+    pub fn set_top(&mut self, top: u64)
+        ensures { self.new ≡ record self.old { top = top } }
+    {
+        self.top = top;
+    }
+
+    /// Sets the type of a frame, and its page where the type has data; XTAB takes the frame away. Where no memory is
+    /// found, the guest stays.
+    pub fn set_frame(
+        &mut self,
+        pfn: u64,
+        kind: PageType,
+        page: Option<&[u8; 4096]>,
+    ) -> Result<(), Memory>
+        requires small { pfn < 2 ^ 28 }
+        requires paged { is_some page ≡ type_has_data kind }
+        ensures ok { OnOk result (self.new ≡ record self.old { frames = framed self.old.frames pfn kind (option_copied page.entry) }) }
+        ensures err { OnErr result (self.new ≡ self.old) }
+    {
+        self.frames.set(pfn, kind, page)
+    }
+
+    /// The type of this frame; none where the guest doesn't have it.
+    pub fn frame(&self, pfn: u64) -> Option<PageType>
+        ensures { result ≡ option_map (λ f. f.kind) (maps.get self.now.frames pfn) }
+    {
+        self.frames.kind(pfn)
+    }
+
+    /// The page of this frame; none where there is no frame, or its type has no data.
+    pub fn page(&self, pfn: u64) -> Option<&[u8; 4096]>
+        ensures { option_copied result ≡ option_and_then (λ f. f.page) (maps.get self.now.frames pfn) }
+    {
+        self.frames.page(pfn)
+    }
+
+    /// The least PFN that has a frame and is at least `from`, which may be any number.
+    pub fn next_frame(&self, from: u64) -> Option<u64>
+        ensures none { IfNone result ((k : ℕ) → from ≤ k → maps.get self.now.frames k ≡ None) }
+        ensures there { IfSome result (λ q. IsSome (maps.get self.now.frames q)) }
+        ensures least { IfSome result (λ q. (from ≤ q) × ((k : ℕ) → from ≤ k → k < q → maps.get self.now.frames k ≡ None)) }
+        ensures small { IfSome result (λ q. q < 2 ^ 28) }
+    {
+        self.frames.next(from)
+    }
+
+    /// The first frame from this number on, with its type and its page.
+    pub fn next_entry(&self, from: u64) -> Option<(u64, PageType, Option<&[u8; 4096]>)>
+        ensures next { NextEntry from (maps.entries self.now.frames) (option_map (λ e. (e.0, record { kind = e.1; page = option_copied e.2 })) result) }
+        ensures small { IfSome result (λ e. e.0 < 2 ^ 28) }
+        ensures paged { IfSome result (λ e. is_some e.2 ≡ type_has_data e.1) }
+    {
+        self.frames.next_entry(from)
+    }
+
+    /// The number of frames.
+    pub fn frames(&self) -> u64
+        ensures count { result ≡ maps.len self.now.frames }
+        ensures sized { IsSized self.now.frames }
+    {
+        self.frames.len()
+    }
+
+    /// Sets the bytes of a part; where no memory is found, the guest stays.
+    pub fn set_part(&mut self, key: PartKey, bytes: &[u8]) -> Result<(), Memory>
+        ensures ok { OnOk result (self.new ≡ record self.old { parts = maps.insert self.old.parts key bytes.now }) }
+        ensures err { OnErr result (self.new ≡ self.old) }
+    {
+        self.parts.set(key, bytes)
+    }
+
+    /// Writes `bytes` over those of a part from its byte `at` on.
+    pub fn write_part(&mut self, key: PartKey, at: usize, bytes: &[u8])
+        requires there { IsSome (maps.get self.old.parts key) }
+        requires range { IfSome (maps.get self.old.parts key) (λ part. at + length bytes.now ≤ length part) }
+        ensures { IfSome (maps.get self.old.parts key) (λ part. self.new ≡ record self.old { parts = maps.insert self.old.parts key (spliced part at bytes.now) }) }
+    {
+        self.parts.write(key, at, bytes);
+    }
+
+    /// The bytes of a part; none where the guest doesn't have it.
+    pub fn part(&self, key: PartKey) -> Option<&[u8]>
+        ensures { option_copied result ≡ maps.get self.now.parts key }
+    {
+        self.parts.get(key)
+    }
+
+    /// The least key of a part that is above `after`, or of all parts.
+    pub fn next_part(&self, after: Option<PartKey>) -> Option<PartKey>
+        ensures none { IfNone result ((k : PartKey) → IsAbove after k → maps.get self.now.parts k ≡ None) }
+        ensures there { IfSome result (λ q. IsSome (maps.get self.now.parts q)) }
+        ensures least { IfSome result (λ q. IsAbove after q × ((k : PartKey) → IsAbove after k → part_cmp k q ≡ Less → maps.get self.now.parts k ≡ None)) }
+    {
+        self.parts.next(after)
+    }
+
+    /// Takes all parts of one code away.
+    pub fn clear_code(&mut self, code: u32)
+        ensures { self.new ≡ record self.old { parts = maps.retain_keys self.old.parts (λ k. not (k.code == code)) } }
+    {
+        self.parts.clear_code(code);
+    }
+}

@@ -1,0 +1,131 @@
+ghost use Rattle.std.specs.Prelude.{◌≡◌, ◌==◌, ℕ, ◌+◌, ◌≤◌, length, not, OnOk, OnErr, IfSome, IfNone, IsSome, None, option_and_then};
+ghost use Rattle.std.specs.declared.cmp.Ordering.TheVariants.{Less};
+ghost use Rattle.std.specs.Option.{option_copied};
+ghost use Rattle.std.specs.BTreeMap as tree;
+ghost use Rattle.std.specs.FinMap as maps;
+ghost use Rattle.mig_pagestore.specs.Pages.{spliced};
+ghost use Rattle.mig_guest.specs.declared.part_key.PartKey.{PartKey};
+ghost use Rattle.mig_guest.specs.Order.{part_cmp, IsAbove};
+
+use crate::part_key::PartKey;
+use mig_bytes::Memory;
+use std::alloc::Global;
+use std::collections::BTreeMap;
+use std::marker::Model;
+use std::ops::Bound;
+
+/// Parts by key: the bytes of each.
+#[derive(Drop)]
+pub(crate) struct Parts {
+    alloc: Global,
+    parts: BTreeMap<PartKey, Vec<u8>>,
+}
+
+impl Model for Parts {
+    ghost use Rattle.mig_guest.specs.Parts.{PartMap, parts_code};
+
+    ghost Value = { PartMap };
+
+    ghost coded = { parts_code };
+
+    ghost use Rattle.mig_guest.specs.Parts.{parts_seen};
+
+    ghost view = { λ p. parts_seen p.parts.entries };
+}
+
+// Writes `bytes` over those from `at` on.
+fn write_over(part: &mut [u8], at: usize, bytes: &[u8])
+    requires { at + length bytes.now ≤ length part.old }
+    ensures { part.new ≡ spliced part.old at bytes.now }
+{
+    part[at..at + bytes.len()].copy_from_slice(bytes);
+}
+
+// The least key.
+fn least_key(parts: &BTreeMap<PartKey, Vec<u8>>) -> Option<PartKey>
+    ensures none { IfNone result ((k : PartKey) → tree.get part_cmp parts.now k ≡ None) }
+    ensures least { IfSome result (λ q. IsSome (tree.get part_cmp parts.now q) × ((k : PartKey) → part_cmp k q ≡ Less → tree.get part_cmp parts.now k ≡ None)) }
+{
+    match parts.first_key_value() {
+        Some((key, _)) => Some(*key),
+        None => None,
+    }
+}
+
+// The least key above `after`.
+fn least_above(parts: &BTreeMap<PartKey, Vec<u8>>, after: PartKey) -> Option<PartKey>
+    ensures none { IfNone result ((k : PartKey) → part_cmp after k ≡ Less → tree.get part_cmp parts.now k ≡ None) }
+    ensures least { IfSome result (λ q. (part_cmp after q ≡ Less) × IsSome (tree.get part_cmp parts.now q) × ((k : PartKey) → part_cmp after k ≡ Less → part_cmp k q ≡ Less → tree.get part_cmp parts.now k ≡ None)) }
+{
+    match parts
+        .range((Bound::Excluded(after), Bound::Unbounded))
+        .next()
+    {
+        Some((key, _)) => Some(*key),
+        None => None,
+    }
+}
+
+impl Parts {
+    pub(crate) fn new(alloc: Global) -> Parts
+        ensures { result ≡ maps.empty }
+    {
+        Parts {
+            alloc,
+            parts: BTreeMap::new(alloc),
+        }
+    }
+
+    pub(crate) fn get(&self, key: PartKey) -> Option<&[u8]>
+        ensures { option_copied result ≡ maps.get self.now key }
+    {
+        match self.parts.get(&key) {
+            Some(bytes) => Some(bytes.as_slice()),
+            None => None,
+        }
+    }
+
+    pub(crate) fn set(&mut self, key: PartKey, bytes: &[u8]) -> Result<(), Memory>
+        ensures ok { OnOk result (self.new ≡ maps.insert self.old key bytes.now) }
+        ensures err { OnErr result (self.new ≡ self.old) }
+    {
+        let Ok(copy) = bytes.to_vec(self.alloc) else {
+            return Err(Memory);
+        };
+        match self.parts.insert(key, copy) {
+            Ok(_) => Ok(()),
+            Err(_) => Err(Memory),
+        }
+    }
+
+    // Writes `bytes` over those of one part from its byte `at` on.
+    pub(crate) fn write(&mut self, key: PartKey, at: usize, bytes: &[u8])
+        requires range { IfSome (maps.get self.old key) (λ part. at + length bytes.now ≤ length part) }
+        requires there { IsSome (maps.get self.old key) }
+        ensures { IfSome (maps.get self.old key) (λ part. self.new ≡ maps.insert self.old key (spliced part at bytes.now)) }
+    {
+        let part = self.parts.get_mut(&key).unwrap();
+        write_over(part, at, bytes);
+    }
+
+    pub(crate) fn next(&self, after: Option<PartKey>) -> Option<PartKey>
+        ensures none { IfNone result ((k : PartKey) → IsAbove after k → maps.get self.now k ≡ None) }
+        ensures least { IfSome result (λ q. IsAbove after q × IsSome (maps.get self.now q) × ((k : PartKey) → IsAbove after k → part_cmp k q ≡ Less → maps.get self.now k ≡ None)) }
+    {
+        match after {
+            Some(key) => least_above(&self.parts, key),
+            None => least_key(&self.parts),
+        }
+    }
+
+    pub(crate) fn clear_code(&mut self, code: u32)
+        ensures { self.new ≡ maps.retain_keys self.old (λ k. not (k.code == code)) }
+    {
+        self.parts.retain(
+            |key: &PartKey, value: &mut Vec<u8>| -> bool
+                ensures answer { result ≡ not (key.now.code == code) }
+                ensures kept { value.new ≡ value.old }
+            { key.code != code },
+        );
+    }
+}

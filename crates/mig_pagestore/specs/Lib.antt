@@ -1,0 +1,4 @@
+pub mod Ascending
+pub mod Sound
+pub mod Pages
+pub mod Lending
