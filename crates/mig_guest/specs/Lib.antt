@@ -3,3 +3,4 @@ pub mod Frames
 pub mod FrameView
 pub mod Guests
 pub mod Parts
+pub mod PartKeys

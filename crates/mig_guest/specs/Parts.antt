@@ -1,5 +1,6 @@
 -- The parts of a guest: a finite map from keys to bytes.
-use Rattle.std.specs.Prelude.{ℕ, List, map}
+use Rattle.std.specs.Prelude.{◌≡◌, ℕ, List, [], ◌∷◌, map, filter, fold, not, ◌==◌, Option, Some, None}
+use Rattle.std.specs.Ordering.{is_lt}
 use Rattle.std.specs.FinMap as maps
 use Rattle.std.specs.Coded.{Coded, coded_ℕ, coded_list}
 use Rattle.std.specs.declared.vec.Vec.{Vec}
@@ -17,3 +18,33 @@ parts_code = maps.code part_key.the_row.coded (coded_list coded_ℕ)
 -- the parts that a list of keys and byte vectors shows
 abbrev pub parts_seen : {Z : Type 0} → List (PartKey × Vec ℕ Z) → PartMap
 parts_seen es = maps.from_entries (map (λ e. (e.0, e.1.items)) es)
+
+-- ---- what sets parts
+
+-- a part set, in place of the one of its key
+abbrev pub put_part : PartMap → PartKey × List ℕ → PartMap
+put_part m p = maps.insert m p.0 p.1
+
+-- parts set one after another: of each key the last decides
+abbrev pub put_parts : PartMap → List (PartKey × List ℕ) → PartMap
+put_parts m ps = fold put_part m ps
+
+-- all parts of a code replaced by these; where there are none of these, nothing changes
+abbrev pub replace_code : ℕ → PartMap → List (PartKey × List ℕ) → PartMap
+replace_code code m [] = m
+replace_code code m (p ∷ ps) = put_parts (maps.retain_keys m (λ k. not (k.code == code))) (p ∷ ps)
+
+-- ---- the parts of one code
+
+abbrev pub parts_of : {X : Type 0} → ℕ → List (PartKey × X) → List (PartKey × X)
+parts_of code es = filter (λ e. e.0.code == code) es
+
+-- those behind a key of this code, or all
+abbrev pub parts_after : {X : Type 0} → ℕ → Option PartKey → List (PartKey × X) → List (PartKey × X)
+parts_after code None es = parts_of code es
+parts_after code (Some k) es = filter (λ e. is_lt (part_cmp k e.0)) (parts_of code es)
+
+-- the first of them, where there is one, and then those behind it
+abbrev pub NextPart : {X : Type 0} → ℕ → Option PartKey → List (PartKey × X) → Option (PartKey × X) → Type 0
+NextPart code after es None = parts_after code after es ≡ []
+NextPart code after es (Some e) = parts_after code after es ≡ e ∷ parts_after code (Some e.0) es

@@ -1,3 +1,4 @@
 pub mod HeaderLaws
 pub mod RecordNumbers
 pub mod Writing
+pub mod Chains

@@ -16,7 +16,7 @@ use Rattle.mig_bytes.specs.Walk.{Reaches, walk_end}
 use Rattle.mig_bytes.specs.Walk.Reaches.{here, next}
 use Rattle.mig_bytes.proofs.Walks.{walk_end_is}
 use Rattle.mig_headers.specs.declared.fault.ContextFault.{ContextFault}
-use Rattle.mig_hvm.specs.Context.{ChainTo, Scanned, scan, scan_at, fault_at, is_last, entry_end, after_entry}
+use Rattle.mig_headers.specs.Contexts.{ChainTo, Scanned, scan, scan_at, fault_at, is_last, entry_end, after_entry}
 
 stepped : (bytes : List ℕ) (o : ℕ) → fault_at bytes o ≡ None → is_last bytes o ≡ false → after_entry bytes o ≡ Some (entry_end bytes o)
 unfolding after_entry

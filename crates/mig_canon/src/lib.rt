@@ -1,0 +1,2 @@
+//! Writes a guest as its canonical stream.
+#![tactic(auto)]

@@ -1,0 +1,14 @@
+//! What the bodies of policy and TSC records say.
+//!
+//! Responsible for: X86_CPUID_POLICY, X86_MSR_POLICY and X86_TSC_INFO (libxc migration stream, the sections of these
+//! names). The meaning of a leaf or an MSR is nobody's here.
+//!
+//! What the layers above rely on: which parts of a guest a body sets, all else staying; a policy body that isn't empty
+//! replaces all entries of its policy.
+#![tactic(auto)]
+
+mod policy;
+mod tsc;
+
+pub use policy::{read_cpuid, read_msr};
+pub use tsc::read_tsc;
