@@ -1,4 +1,4 @@
-ghost use Rattle.std.specs.Prelude.{◌≡◌, ◌==◌, ◌∷◌, []};
+ghost use Rattle.std.specs.Prelude.{◌≡◌, ◌∷◌, []};
 ghost use Rattle.mig_headers.specs.declared.record_type.RecordType.TheVariants.{StaticDataEnd};
 ghost use Rattle.mig_headers.specs.RecordTypes.{type_number};
 ghost use Rattle.mig_order.specs.Order.{among, static_records, content_records, vcpu_records};
