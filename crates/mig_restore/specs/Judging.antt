@@ -1,59 +1,124 @@
--- Judging a record: its parts in their order, and the causes that are tried in each.
-use Rattle.std.specs.Prelude.{ℕ, ◌*◌, ◌^◌, List, [], ◌∷◌, ◌++◌, length, take, replicate, Bool, Option, Some, None, Result, Ok, Err, ◌==◌, ◌&&◌, not, nat_lt, nat_le, if◌then◌else◌}
-use Rattle.std.specs.FinMap as map
+-- Judging a record: its parts in their order, and the causes that are tried in each, in the order of their numbers.
+use Rattle.std.specs.Prelude.{ℕ, ◌*◌, ◌^◌, List, [], ◌∷◌, ◌++◌, length, take, replicate, Bool, Option, Some, None, Result, Ok, Err, ◌==◌, ◌&&◌, not, nat_le, false, if◌then◌else◌}
+use Rattle.std.specs.Option.{option_or}
 use Rattle.mig_bytes.specs.Bytes.{padding_len}
 use Rattle.mig_bytes.specs.Fields.{le32}
+use Rattle.mig_headers.specs.Contexts.{scan}
+use Rattle.mig_headers.specs.RecordTypes.{row_of, pv, type_of_number, is_optional}
 use Rattle.mig_headers.specs.Rows.{first_fault}
+use Rattle.mig_headers.specs.declared.kind.Kind.{Kind}
+use Rattle.mig_headers.specs.declared.kind.Kind.TheVariants.{Hvm}
+use Rattle.mig_headers.specs.declared.record_type.RecordType.{RecordType}
+use Rattle.mig_headers.specs.declared.record_type.RecordType.TheVariants.{PageData, X86TscInfo, HvmContext, HvmParams, X86CpuidPolicy, X86MsrPolicy}
 use Rattle.mig_headers.specs.declared.fault.ContextFault.{ContextFault}
 use Rattle.mig_headers.specs.declared.fault.Cause.{Cause}
-use Rattle.mig_headers.specs.declared.fault.Cause.TheVariants.{NotBuilt}
-use Rattle.mig_hvm.specs.Context.{scan}
-use Rattle.mig_restore.specs.Guest.{GuestOf}
+use Rattle.mig_headers.specs.declared.fault.Cause.TheVariants.{NotBuilt, BadContext, BadLength, TooManyRecords}
+use Rattle.mig_pagetypes.specs.declared.page_type.PageType.{PageType}
+use Rattle.mig_pagetypes.specs.declared.page_type.PageType.TheVariants.{Xtab}
+use Rattle.mig_pagetypes.specs.PageTypes.{type_of}
+use Rattle.mig_pagetypes.specs.FrameWords.{word_type, word_pfn, word_has_data}
+use Rattle.mig_guest.specs.Guests.{GuestOf}
+use Rattle.mig_guest.specs.PartKeys.{context_key}
+use Rattle.mig_records.specs.Faults.{fault_of_long, fault_of_length, fault_of_count, fault_of_words}
+use Rattle.mig_records.specs.Words.{words, data_len_of}
+use Rattle.mig_order.specs.Order.{fault_of_type}
+use Rattle.mig_hvm.specs.Params.{fault_of_params, params_in}
+use Rattle.mig_policy.specs.Policies.{leaves_in, msrs_in, tsc_in}
+use Rattle.mig_pvtables.specs.Whole.{fault_of_guest}
 use Rattle.mig_restore.specs.Mean.{mean}
 use Rattle.mig_restore.specs.Judged.{Judged, ◌>>=◌, part, tried, each}
 use Rattle.mig_restore.specs.Judged.Judged.{Passes, Faulty}
-use Rattle.mig_restore.specs.Record.{Entry, StreamRecord, Content, types_of, in_order, allows_length}
-use Rattle.mig_restore.specs.Record.Content.{Nothing, Frames, Context}
-use Rattle.mig_restore.specs.Words.{word_pfn, has_data, words, fault_of_count, fault_of_words, fault_of_data}
+use Rattle.mig_restore.specs.Record.{Entry, StreamRecord, Content, types_of}
+use Rattle.mig_restore.specs.Record.Content.{Nothing, Frames, Parts, Policy}
 
--- what may be wrong with a record's head, behind records of these types
-abbrev pub rows_of_head : List ℕ → List ℕ → List (Bool × Cause)
-rows_of_head types head =
-    (nat_lt (2 ^ 27) (le32 head 4), NotBuilt (le32 head 0))
-    ∷ (not (in_order types (le32 head 0)), NotBuilt (le32 head 0))
-    ∷ (not (allows_length (le32 head 0) (le32 head 4)), NotBuilt (le32 head 0))
-    ∷ (nat_le (2 ^ 28) (length types), NotBuilt (le32 head 0))
-    ∷ []
+-- what the headers say
+pub record Opening : Type 0 where
+  pub version : ℕ
+  pub kind : Kind
 
-unfoldable pub fault_of_head : List ℕ → List ℕ → Option Cause
-fault_of_head types head = first_fault (rows_of_head types head)
+-- ---- the head
+
+-- whether records of this type are read at all in a stream of this kind: so far none of the types of a PV stream is
+abbrev pub is_supported_type : Option RecordType → Bool
+is_supported_type None = false
+is_supported_type (Some t) = (row_of t).supported
+
+abbrev pub is_built : Kind → ℕ → Bool
+is_built kind type = not (pv kind && is_supported_type (type_of_number type))
+
+abbrev pub fault_of_built : Kind → ℕ → Option Cause
+fault_of_built kind type = first_fault ((not (is_built kind type), NotBuilt type) ∷ [])
+
+abbrev pub fault_of_number : List ℕ → Option Cause
+fault_of_number types = first_fault ((nat_le (2 ^ 28) (length types), TooManyRecords) ∷ [])
+
+-- what is wrong with a head of this type and length, behind records of these types
+unfoldable pub fault_of_fields : Opening → List ℕ → ℕ → ℕ → Option Cause
+fault_of_fields o types type len =
+    option_or (fault_of_built o.kind type)
+    (option_or (fault_of_long len)
+    (option_or (fault_of_type o.version o.kind types type)
+    (option_or (fault_of_length type len) (fault_of_number types))))
+
+abbrev pub fault_of_head : Opening → List ℕ → List ℕ → Option Cause
+fault_of_head o types head = fault_of_fields o types (le32 head 0) (le32 head 4)
+
+abbrev pub head_at : Opening → List ℕ → List ℕ → Judged (List ℕ)
+head_at o types input = do
+  head ← part 8 input
+  _ ← tried (fault_of_head o types head.0) head.1
+  Passes head.0 head.1
+
+-- ---- bodies
 
 abbrev pub fault_of_scan : Result ℕ ContextFault → Option Cause
 fault_of_scan (Ok o) = None
-fault_of_scan (Err f) = Some (NotBuilt 9)
-
--- at END, the whole guest: more than 2 ^ 24 frames
-abbrev pub fault_of_guest : ℕ → GuestOf → Option Cause
-fault_of_guest type g = first_fault ((type == 0 && nat_lt (2 ^ 24) (length (map.entries g.frames)), NotBuilt 0) ∷ [])
+fault_of_scan (Err f) = Some (BadContext f)
 
 -- the chain up to its end, and 8 zero bytes
 abbrev pub cut : Result ℕ ContextFault → List ℕ → List ℕ
 cut (Ok o) body = take o body ++ replicate 8 0
 cut (Err f) body = []
 
--- ---- the parts of a record, in their order
-
-abbrev pub head_at : List ℕ → List ℕ → Judged (List ℕ)
-head_at types input = do
-  head ← part 8 input
-  _ ← tried (fault_of_head types head.0) head.1
-  Passes head.0 head.1
-
-abbrev pub context_at : ℕ → List ℕ → Judged (List ℕ)
+abbrev pub context_at : ℕ → List ℕ → Judged Content
 context_at len input = do
   body ← part len input
   _ ← tried (fault_of_scan (scan body.0)) body.1
-  Passes (cut (scan body.0) body.0) body.1
+  Passes (Parts ((context_key, cut (scan body.0) body.0) ∷ [])) body.1
+
+abbrev pub params_at : ℕ → List ℕ → Judged Content
+params_at len input = do
+  body ← part len input
+  _ ← tried (fault_of_params body.0) body.1
+  Passes (Parts (params_in body.0)) body.1
+
+-- a body without a cause, of which this is said
+abbrev pub plain_at : (List ℕ → Content) → ℕ → List ℕ → Judged Content
+plain_at says len input = do
+  body ← part len input
+  Passes (says body.0) body.1
+
+abbrev pub tsc_says : List ℕ → Content
+tsc_says body = Parts (tsc_in body ∷ [])
+
+abbrev pub leaves_say : List ℕ → Content
+leaves_say body = Policy 17 (leaves_in body)
+
+abbrev pub msrs_say : List ℕ → Content
+msrs_say body = Policy 18 (msrs_in body)
+
+-- ---- the body of a PAGE_DATA record
+
+-- the type in a word without fault
+abbrev pub kind_in : ℕ → PageType
+kind_in w = type_or (type_of (word_type w))
+  where
+    type_or : Option PageType → PageType
+    type_or None = Xtab
+    type_or (Some t) = t
+
+abbrev pub fault_of_data : ℕ → List ℕ → Option Cause
+fault_of_data len ws = first_fault ((not (len == data_len_of ws), BadLength len) ∷ [])
 
 abbrev pub words_at : ℕ → List ℕ → Judged (List ℕ)
 words_at n input = do
@@ -61,39 +126,54 @@ words_at n input = do
   Passes (words n bytes.0) bytes.1
 
 abbrev pub page_at : ℕ → List ℕ → Judged (Option (List ℕ))
-page_at w input = if has_data w then (do
+page_at w input = if word_has_data w then (do
   page ← part 4096 input
   Passes (Some page.0) page.1) else Passes None input
 
 abbrev pub entry_at : ℕ → List ℕ → Judged Entry
 entry_at w input = do
   page ← page_at w input
-  Passes (record { pfn = word_pfn w; page = page.0 }) page.1
+  Passes (record { pfn = word_pfn w; kind = kind_in w; page = page.0 }) page.1
 
-abbrev pub pages_at : ℕ → List ℕ → Judged (List Entry)
-pages_at len input = do
+abbrev pub entries_at : Kind → ℕ → List ℕ → Judged (List Entry)
+entries_at kind len input = do
   front ← part 8 input
-  _ ← tried (fault_of_count len front.0) front.1
+  _ ← tried (fault_of_count len (le32 front.0 0)) front.1
   ws ← words_at (le32 front.0 0) front.1
-  _ ← tried (fault_of_words ws.0) ws.1
-  _ ← tried (fault_of_data len (le32 front.0 0) ws.0) ws.1
+  _ ← tried (fault_of_words kind 0 ws.0) ws.1
+  _ ← tried (fault_of_data len ws.0) ws.1
   each entry_at ws.0 ws.1
 
-abbrev pub body_at : ℕ → ℕ → List ℕ → Judged StreamRecord
-body_at type len input =
-    if type == 1 then (do
-      entries ← pages_at len input
-      Passes (record { type = type; content = Frames entries.0 }) entries.1)
-    else if type == 9 then (do
-      context ← context_at len input
-      Passes (record { type = type; content = Context context.0 }) context.1)
-    else Passes (record { type = type; content = Nothing }) input
+abbrev pub pages_at : Kind → ℕ → List ℕ → Judged Content
+pages_at kind len input = do
+  entries ← entries_at kind len input
+  Passes (Frames entries.0) entries.1
+
+-- ---- a record
+
+-- a body of this type; the records that only mark a place have none
+abbrev pub typed_at : Kind → Option RecordType → ℕ → List ℕ → Judged Content
+typed_at kind (Some PageData) len input = pages_at kind len input
+typed_at kind (Some X86TscInfo) len input = plain_at tsc_says len input
+typed_at kind (Some HvmContext) len input = context_at len input
+typed_at kind (Some HvmParams) len input = params_at len input
+typed_at kind (Some X86CpuidPolicy) len input = plain_at leaves_say len input
+typed_at kind (Some X86MsrPolicy) len input = plain_at msrs_say len input
+typed_at kind _ len input = Passes Nothing input
+
+-- an optional record says nothing, whatever its body
+abbrev pub body_at : Kind → ℕ → ℕ → List ℕ → Judged Content
+body_at kind type len input = if is_optional type then plain_at (λ _. Nothing) len input else typed_at kind (type_of_number type) len input
+
+-- at END, the whole guest
+abbrev pub fault_at_end : ℕ → GuestOf → Option Cause
+fault_at_end type g = if type == 0 then fault_of_guest g else None
 
 -- a record behind these records
-unfoldable pub record_at : List StreamRecord → List ℕ → Judged StreamRecord
-record_at records input = do
-  head ← head_at (types_of records) input
-  _ ← tried (fault_of_guest (le32 head.0 0) (mean records)) head.1
-  body ← body_at (le32 head.0 0) (le32 head.0 4) head.1
+unfoldable pub record_at : Opening → List StreamRecord → List ℕ → Judged StreamRecord
+record_at o records input = do
+  head ← head_at o (types_of records) input
+  _ ← tried (fault_at_end (le32 head.0 0) (mean o.kind records)) head.1
+  body ← body_at o.kind (le32 head.0 0) (le32 head.0 4) head.1
   padding ← part (padding_len (le32 head.0 4)) body.1
-  Passes body.0 padding.1
+  Passes (record { type = le32 head.0 0; content = body.0 }) padding.1

@@ -1,8 +1,4 @@
 pub mod Answer
-pub mod Boxes
-pub mod Canon
-pub mod Guest
-pub mod Headers
 pub mod Judged
 pub mod Judging
 pub mod Mean
@@ -10,4 +6,3 @@ pub mod Record
 pub mod Seen
 pub mod Spelled
 pub mod Stream
-pub mod Words

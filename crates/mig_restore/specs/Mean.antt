@@ -1,36 +1,55 @@
--- What records mean: of each frame number its last entry, and the last context.
-use Rattle.std.specs.Prelude.{ℕ, List, [], ◌∷◌, ◌++◌, Option, Some, None, fold, option_and_then, ◌==◌, if◌then◌else◌}
+-- What records mean: of each frame number its last entry; of each part its last content; of a policy its last body that
+-- isn't empty.
+use Rattle.std.specs.Prelude.{ℕ, List, [], ◌∷◌, ◌++◌, Bool, Option, Some, None, fold, option_and_then, unwrap_or, not, ◌==◌, ◌&&◌, if◌then◌else◌}
 use Rattle.std.specs.Option.{option_or}
-use Rattle.std.specs.FinMap as map
-use Rattle.mig_restore.specs.Guest.{PageMap, GuestOf, empty_guest}
+use Rattle.std.specs.FinMap as maps
+use Rattle.mig_headers.specs.declared.kind.Kind.{Kind}
+use Rattle.mig_headers.specs.declared.kind.Kind.TheVariants.{Pv, Hvm}
+use Rattle.mig_pagetypes.specs.declared.page_type.PageType.{PageType}
+use Rattle.mig_pagetypes.specs.declared.page_type.PageType.TheVariants.{Notab, Xtab}
+use Rattle.mig_pagetypes.specs.PageTypes.{type_has_data}
+use Rattle.mig_guest.specs.declared.part_key.PartKey.{PartKey}
+use Rattle.mig_guest.specs.Frames.{FrameMap, FrameOf, framed}
+use Rattle.mig_guest.specs.Guests.{GuestOf}
+use Rattle.mig_guest.specs.Parts.{put_parts, replace_code}
 use Rattle.mig_restore.specs.Record.{Entry, StreamRecord, Content}
-use Rattle.mig_restore.specs.Record.Content.{Nothing, Frames, Context}
+use Rattle.mig_restore.specs.Record.Content.{Nothing, Frames, Parts, Policy}
 
--- an entry with a page sets it, and one without takes the frame away
-abbrev pub put_at : PageMap → ℕ → Option (List ℕ) → PageMap
-put_at frames pfn None = map.remove frames pfn
-put_at frames pfn (Some page) = map.insert frames pfn page
+-- the type that a frame has in a guest of this kind: in an HVM guest every type with data is NOTAB
+abbrev pub meant_type : Kind → PageType → PageType
+meant_type Pv t = t
+meant_type Hvm t = if type_has_data t then Notab else t
 
-abbrev pub put_entry : PageMap → Entry → PageMap
-put_entry frames e = put_at frames e.pfn e.page
+-- an entry sets its frame, or takes it away where its type is XTAB
+abbrev pub put_entry : Kind → FrameMap → Entry → FrameMap
+put_entry kind frames e = framed frames e.pfn (meant_type kind e.kind) e.page
+
+abbrev pub put_entries : Kind → FrameMap → List Entry → FrameMap
+put_entries kind frames es = fold (put_entry kind) frames es
 
 abbrev pub put_content : GuestOf → Content → GuestOf
 put_content g Nothing = g
-put_content g (Frames es) = record { frames = fold put_entry g.frames es; context = g.context }
-put_content g (Context bytes) = record { frames = g.frames; context = bytes }
+put_content g (Frames es) = record { kind = g.kind; top = g.top; frames = put_entries g.kind g.frames es; parts = g.parts }
+put_content g (Parts ps) = record { kind = g.kind; top = g.top; frames = g.frames; parts = put_parts g.parts ps }
+put_content g (Policy code ps) = record { kind = g.kind; top = g.top; frames = g.frames; parts = replace_code code g.parts ps }
 
 abbrev pub put_record : GuestOf → StreamRecord → GuestOf
 put_record g r = put_content g r.content
 
-unfoldable pub mean : List StreamRecord → GuestOf
-mean records = fold put_record empty_guest records
+-- a guest of this kind without frames and parts
+abbrev pub empty_guest : Kind → GuestOf
+empty_guest kind = record { kind = kind; top = 0; frames = maps.empty; parts = maps.empty }
 
--- ---- the same in the words of the format
+unfoldable pub mean : Kind → List StreamRecord → GuestOf
+mean kind records = fold put_record (empty_guest kind) records
+
+-- ---- frames in the words of the format
 
 abbrev pub entries_in : Content → List Entry
 entries_in Nothing = []
 entries_in (Frames es) = es
-entries_in (Context bytes) = []
+entries_in (Parts ps) = []
+entries_in (Policy code ps) = []
 
 -- all entries, in stream order
 abbrev pub entries_of : List StreamRecord → List Entry
@@ -38,23 +57,46 @@ entries_of [] = []
 entries_of (r ∷ rs) = entries_in r.content ++ entries_of rs
 
 -- the last entry of a frame number
-abbrev pub last_of : ℕ → List Entry → Option Entry
-last_of p [] = None
-last_of p (e ∷ es) = option_or (last_of p es) (if e.pfn == p then Some e else None)
+abbrev pub last_entry : ℕ → List Entry → Option Entry
+last_entry p [] = None
+last_entry p (e ∷ es) = option_or (last_entry p es) (if e.pfn == p then Some e else None)
 
--- the page of a frame number: that of its last entry, where it has one
-abbrev pub page_of : ℕ → List Entry → Option (List ℕ)
-page_of p es = option_and_then (λ e. e.page) (last_of p es)
+-- the frame that an entry says, and none where its type is XTAB
+abbrev pub some_frame : PageType → Option (List ℕ) → Option FrameOf
+some_frame Xtab page = None
+some_frame t page = Some (record { kind = t; page = page })
 
-abbrev pub frames_of : List Entry → PageMap
-frames_of es = fold put_entry map.empty es
+abbrev pub frame_in : Kind → Entry → Option FrameOf
+frame_in kind e = some_frame (meant_type kind e.kind) e.page
 
--- the last context
-abbrev pub context_in : Content → Option (List ℕ)
-context_in Nothing = None
-context_in (Frames es) = None
-context_in (Context bytes) = Some bytes
+-- ---- parts in the words of the format
 
-abbrev pub last_context : List StreamRecord → Option (List ℕ)
-last_context [] = None
-last_context (r ∷ rs) = option_or (last_context rs) (context_in r.content)
+abbrev pub same_key : PartKey → PartKey → Bool
+same_key k q = (k.code == q.code) && ((k.key1 == q.key1) && (k.key2 == q.key2))
+
+-- the last bytes for a key
+abbrev pub last_bytes : PartKey → List (PartKey × List ℕ) → Option (List ℕ)
+last_bytes q [] = None
+last_bytes q (p ∷ ps) = option_or (last_bytes q ps) (if same_key p.0 q then Some p.1 else None)
+
+-- a content that says something of a part: bytes for it, or, for a policy that isn't empty and has no entry of the key,
+-- that there are none
+abbrev pub says_of_part : PartKey → Content → Option (Option (List ℕ))
+says_of_part q Nothing = None
+says_of_part q (Frames es) = None
+says_of_part q (Parts ps) = said (last_bytes q ps)
+  where
+    said : Option (List ℕ) → Option (Option (List ℕ))
+    said None = None
+    said (Some bytes) = Some (Some bytes)
+says_of_part q (Policy code []) = None
+says_of_part q (Policy code (p ∷ ps)) = said_all (last_bytes q (p ∷ ps))
+  where
+    said_all : Option (List ℕ) → Option (Option (List ℕ))
+    said_all None = if q.code == code then Some None else None
+    said_all (Some bytes) = Some (Some bytes)
+
+-- the last content that says something of a part
+abbrev pub last_said : PartKey → List StreamRecord → Option (Option (List ℕ))
+last_said q [] = None
+last_said q (r ∷ rs) = option_or (last_said q rs) (says_of_part q r.content)

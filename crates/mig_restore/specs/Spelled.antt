@@ -1,39 +1,51 @@
 -- The spelling of an image, in the words of the format: headers, then records one after the other.
-use Rattle.std.specs.Prelude.{◌≡◌, ℕ, ◌*◌, ◌≤◌, ◌<◌, ◌^◌, true, false, Bool, List, [], ◌∷◌, ◌++◌, length, take, Option, Some, None, Ok, replicate, map}
-use Rattle.std.specs.List.{list_any}
-use Rattle.mig_bytes.specs.Bytes.{padding_len}
+use Rattle.std.specs.Prelude.{◌≡◌, ℕ, ◌*◌, ◌≤◌, ◌<◌, ◌^◌, true, false, Bool, List, [], ◌∷◌, ◌++◌, length, take, Option, Some, None, Ok, replicate, IsSome}
+use Rattle.std.specs.List.{All}
+use Rattle.std.specs.FinMap as maps
 use Rattle.mig_bytes.specs.Fields.{le32}
-use Rattle.mig_hvm.specs.Context.{scan}
-use Rattle.mig_restore.specs.Guest.{GuestOf, IsFew}
-use Rattle.mig_restore.specs.Headers.{IsMarker, IsRestOfHeader, IsDomainHeader}
+use Rattle.mig_headers.specs.Contexts.{scan}
+use Rattle.mig_headers.specs.Headers.{IsImageHeader, IsDomainHeader}
+use Rattle.mig_headers.specs.declared.kind.Kind.{Kind}
+use Rattle.mig_pagetypes.specs.PageTypes.{type_of}
+use Rattle.mig_pagetypes.specs.FrameWords.{word_type, word_pfn, word_has_data}
+use Rattle.mig_guest.specs.declared.part_key.PartKey.{PartKey}
+use Rattle.mig_guest.specs.Guests.{GuestOf}
+use Rattle.mig_guest.specs.PartKeys.{tsc_key, context_key}
+use Rattle.mig_records.specs.Records.{IsRecord}
+use Rattle.mig_records.specs.Words.{words, has_reserved_type, names_outside}
+use Rattle.mig_order.specs.Order.{IsInOrder}
+use Rattle.mig_hvm.specs.Params.{IsParams}
+use Rattle.mig_policy.specs.Policies.{AreLeaves, AreMsrs}
+use Rattle.mig_pvtables.specs.Whole.{IsFew}
+use Rattle.mig_restore.specs.Judging.{Opening, is_built}
 use Rattle.mig_restore.specs.Mean.{mean}
-use Rattle.mig_restore.specs.Record.{StreamRecord, Entry, Content, types_of, in_order, has}
-use Rattle.mig_restore.specs.Record.Content.{Nothing, Frames, Context}
-use Rattle.mig_restore.specs.Words.{word_pfn, has_data, is_bad, words}
+use Rattle.mig_restore.specs.Record.{StreamRecord, Entry, Content, types_of, is_ended}
+use Rattle.mig_restore.specs.Record.Content.{Nothing, Frames, Parts, Policy}
 
--- a record: 8 bytes with its type and the length of its body, the body, and padding of any value
-pub record IsRecord (type : ℕ) (body bytes : List ℕ) : Type 0 where
-  pub head : List ℕ
-  pub padding : List ℕ
-  pub whole : bytes ≡ head ++ (body ++ padding)
-  pub head_len : length head ≡ 8
-  pub type_is : le32 head 0 ≡ type
-  pub len_is : le32 head 4 ≡ length body
-  pub padded : length padding ≡ padding_len (length body)
+-- ---- PAGE_DATA
 
--- a page where the word has one
+-- a page where the word's type has data
 abbrev pub IsPage : Bool → List ℕ → Option (List ℕ) → Type 0
 IsPage true bytes page = (length bytes ≡ 4096) × (page ≡ Some bytes)
 IsPage false bytes page = (bytes ≡ []) × (page ≡ None)
 
--- the pages of these words, in order
-abbrev pub ArePages : List ℕ → List ℕ → List Entry → Type 0
-ArePages [] bytes es = (bytes ≡ []) × (es ≡ [])
-ArePages (w ∷ ws) bytes es = (page : List ℕ) × (rest : List ℕ) × (e : Entry) × (others : List Entry)
-    × (bytes ≡ page ++ rest) × (es ≡ e ∷ others) × (e.pfn ≡ word_pfn w) × IsPage (has_data w) page e.page × ArePages ws rest others
+-- the entry of a word, with these bytes
+pub record IsEntry (word : ℕ) (bytes : List ℕ) (e : Entry) : Type 0 where
+  pub pfn : e.pfn ≡ word_pfn word
+  pub kind : type_of (word_type word) ≡ Some e.kind
+  pub page : IsPage (word_has_data word) bytes e.page
 
--- the body of a PAGE_DATA record: a count, as many words, and the pages
-pub record IsBatch (body : List ℕ) (es : List Entry) : Type 0 where
+-- the entries of these words, in order
+abbrev pub AreEntries : List ℕ → List ℕ → List Entry → Type 0
+AreEntries [] bytes es = (bytes ≡ []) × (es ≡ [])
+AreEntries (w ∷ ws) bytes es = (page : List ℕ) × (rest : List ℕ) × (e : Entry) × (others : List Entry) × (bytes ≡ page ++ rest) × (es ≡ e ∷ others) × IsEntry w page e × AreEntries ws rest others
+
+-- a word of a type that isn't reserved, whose frame lies inside
+abbrev pub IsGoodWord : Kind → ℕ → Type 0
+IsGoodWord kind word = (has_reserved_type word ≡ false) × (names_outside kind 0 word ≡ false)
+
+-- a count, as many words, and the pages
+pub record IsBatch (kind : Kind) (body : List ℕ) (es : List Entry) : Type 0 where
   pub front : List ℕ
   pub words_bytes : List ℕ
   pub pages_bytes : List ℕ
@@ -41,45 +53,61 @@ pub record IsBatch (body : List ℕ) (es : List Entry) : Type 0 where
   pub front_len : length front ≡ 8
   pub some : 0 < le32 front 0
   pub words_len : length words_bytes ≡ 8 * le32 front 0
-  pub good : list_any is_bad (words (le32 front 0) words_bytes) ≡ false
-  pub pages : ArePages (words (le32 front 0) words_bytes) pages_bytes es
+  pub good : All (IsGoodWord kind) (words (le32 front 0) words_bytes)
+  pub entries : AreEntries (words (le32 front 0) words_bytes) pages_bytes es
+
+-- ---- records
 
 -- a body of this type, and what it says
-pub data HasContent : ℕ → List ℕ → Content → Type 0 where
-  static_end : HasContent 16 [] Nothing
-  pages_are : (body : List ℕ) (es : List Entry) → IsBatch body es → HasContent 1 body (Frames es)
-  context_is : (body : List ℕ) (o : ℕ) → scan body ≡ Ok o → HasContent 9 body (Context (take o body ++ replicate 8 0))
-  ends : HasContent 0 [] Nothing
+pub data HasContent (kind : Kind) : ℕ → List ℕ → Content → Type 0 where
+  optional : (type : ℕ) (body : List ℕ) → 2 ^ 31 ≤ type → HasContent kind type body Nothing
+  ends : HasContent kind 0 [] Nothing
+  pages : (body : List ℕ) (es : List Entry) → IsBatch kind body es → HasContent kind 1 body (Frames es)
+  tsc : (body : List ℕ) → length body ≡ 24 → HasContent kind 8 body (Parts ((tsc_key, take 20 body) ∷ []))
+  context : (body : List ℕ) (o : ℕ) → scan body ≡ Ok o → HasContent kind 9 body (Parts ((context_key, take o body ++ replicate 8 0) ∷ []))
+  params : (body : List ℕ) (ps : List (PartKey × List ℕ)) → IsParams body ps → HasContent kind 0xA body (Parts ps)
+  static_end : HasContent kind 0x10 [] Nothing
+  leaves : (body : List ℕ) (ps : List (PartKey × List ℕ)) → AreLeaves body ps → length ps ≤ 65536 → HasContent kind 0x11 body (Policy 17 ps)
+  msrs : (body : List ℕ) (ps : List (PartKey × List ℕ)) → AreMsrs body ps → length ps ≤ 65536 → HasContent kind 0x12 body (Policy 18 ps)
+
+-- what END asks of the guest: its context, and not too many frames
+pub record IsComplete (g : GuestOf) : Type 0 where
+  pub context : IsSome (maps.get g.parts context_key)
+  pub few : IsFew g.frames
 
 -- a record that may stand behind these records
-pub record Follows (records : List StreamRecord) (r : StreamRecord) (bytes : List ℕ) : Type 0 where
+pub record Follows (o : Opening) (records : List StreamRecord) (r : StreamRecord) (bytes : List ℕ) : Type 0 where
   pub body : List ℕ
   pub is : IsRecord r.type body bytes
-  pub says : HasContent r.type body r.content
+  pub says : HasContent o.kind r.type body r.content
   pub small : length body ≤ 2 ^ 27
-  pub ordered : in_order (types_of records) r.type ≡ true
+  pub built : is_built o.kind r.type ≡ true
+  pub ordered : IsInOrder o.version o.kind (types_of records) r.type
   pub few : length records < 2 ^ 28
-  pub not_ended : has 0 (types_of records) ≡ false
-  pub few_frames : r.type ≡ 0 → IsFew (mean records).frames
+  pub not_ended : is_ended records ≡ false
+  pub complete : r.type ≡ 0 → IsComplete (mean o.kind records)
 
 -- these records, one after another, each in its place
-pub data Spells : List ℕ → List StreamRecord → Type 0 where
-  none : Spells [] []
-  one_more : (bytes : List ℕ) (records : List StreamRecord) (r : StreamRecord) (text : List ℕ) → Spells bytes records → Follows records r text → Spells (bytes ++ text) (records ++ r ∷ [])
+pub data Spells (o : Opening) : List ℕ → List StreamRecord → Type 0 where
+  none : Spells o [] []
+  one_more : (bytes : List ℕ) (records : List StreamRecord) (r : StreamRecord) (text : List ℕ) → Spells o bytes records → Follows o records r text → Spells o (bytes ++ text) (records ++ r ∷ [])
 
--- an image without a fault: three parts of header, records of which the last is END, and then what follows
-pub record IsImage (input : List ℕ) (records : List StreamRecord) (rest : List ℕ) : Type 0 where
-  pub marker : List ℕ
-  pub header : List ℕ
-  pub domain : List ℕ
+-- an image without a fault: its headers, records of which the last is END, and then what follows
+pub record IsImage (input : List ℕ) (o : Opening) (records : List StreamRecord) (rest : List ℕ) : Type 0 where
+  pub image_header : List ℕ
+  pub domain_header : List ℕ
+  pub major : ℕ
+  pub minor : ℕ
   pub bytes : List ℕ
-  pub whole : input ≡ marker ++ (header ++ (domain ++ (bytes ++ rest)))
-  pub is_marker : IsMarker marker
-  pub is_header : IsRestOfHeader header
-  pub is_domain : IsDomainHeader domain
-  pub spelled : Spells bytes records
-  pub ended : has 0 (types_of records) ≡ true
+  pub whole : input ≡ image_header ++ (domain_header ++ (bytes ++ rest))
+  pub is_image_header : IsImageHeader image_header o.version
+  pub is_domain_header : IsDomainHeader domain_header o.kind major minor
+  pub spelled : Spells o bytes records
+  pub ended : is_ended records ≡ true
 
 -- a front of the input is an accepted stream with this guest, and rest follows it
-abbrev pub Accepted : List ℕ → GuestOf → List ℕ → Type 0
-Accepted input guest rest = (records : List StreamRecord) × IsImage input records rest × (guest ≡ mean records)
+pub record Accepted (input : List ℕ) (guest : GuestOf) (rest : List ℕ) : Type 0 where
+  pub opening : Opening
+  pub records : List StreamRecord
+  pub image : IsImage input opening records rest
+  pub means : guest ≡ mean opening.kind records
