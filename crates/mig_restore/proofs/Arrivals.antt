@@ -6,15 +6,22 @@ use Rattle.std.proofs.lemmas.List.{map-append, length-map}
 use Rattle.std.proofs.lemmas.List.Folds.{list_any-append}
 use Rattle.std.proofs.lemmas.Grind.{common_steps}
 use Rattle.mig_bytes.specs.Fields.{le32}
-use Rattle.mig_hvm.specs.Context.{scan}
-use Rattle.mig_restore.specs.Words.{has_data, fault_of_count, fault_of_words, fault_of_data}
 use Rattle.mig_bytes.specs.Walk.{Reaches, walk_end}
 use Rattle.mig_bytes.specs.Walk.Reaches.{here, next}
 use Rattle.mig_bytes.proofs.Walks.{walk_end_is, walk_end_ends}
+use Rattle.mig_headers.specs.Contexts.{scan}
+use Rattle.mig_headers.specs.RecordTypes.{is_optional, type_of_number}
 use Rattle.mig_headers.specs.declared.fault.Cause.{Cause}
 use Rattle.mig_headers.specs.declared.fault.Cause.TheVariants.{Truncated}
 use Rattle.mig_headers.specs.declared.fault.Place.{Place}
 use Rattle.mig_headers.specs.declared.fault.Place.TheVariants.{Record}
+use Rattle.mig_headers.specs.declared.kind.Kind.{Kind}
+use Rattle.mig_headers.specs.declared.record_type.RecordType.{RecordType}
+use Rattle.mig_headers.specs.declared.record_type.RecordType.TheVariants.{PageData, X86TscInfo, HvmContext, HvmParams, X86CpuidPolicy, X86MsrPolicy}
+use Rattle.mig_guest.specs.Guests.{GuestOf}
+use Rattle.mig_pagetypes.specs.FrameWords.{word_has_data}
+use Rattle.mig_records.specs.Faults.{fault_of_count, fault_of_words}
+use Rattle.mig_hvm.specs.Params.{fault_of_params}
 use Rattle.mig_restore.specs.declared.head.Seen.{Seen}
 use Rattle.mig_restore.specs.declared.part.Stop.{Stop}
 use Rattle.mig_restore.specs.declared.part.Stop.TheVariants as stops
@@ -23,13 +30,12 @@ use Rattle.mig_restore.specs.declared.part.StreamAnswer.TheVariants as answers
 use Rattle.mig_restore.specs.declared.read.Reading.{Reading}
 use Rattle.mig_restore.specs.Judged.{Judged, ◌>>=◌, part, tried, each, Gives, Matches}
 use Rattle.mig_restore.specs.Judged.Judged.{Passes, Faulty}
-use Rattle.mig_restore.specs.Guest.{GuestOf, empty_guest}
-use Rattle.mig_restore.specs.Mean.{mean, put_record}
-use Rattle.mig_restore.specs.Record.{StreamRecord, Entry, types_of, has}
-use Rattle.mig_restore.specs.Judging.{record_at, head_at, body_at, page_at, entry_at, pages_at, context_at, words_at, fault_of_head, fault_of_scan, fault_of_guest}
+use Rattle.mig_restore.specs.Mean.{mean, put_record, empty_guest}
+use Rattle.mig_restore.specs.Record.{StreamRecord, Entry, Content, types_of, is_ended}
+use Rattle.mig_restore.specs.Judging.{Opening, record_at, head_at, body_at, typed_at, pages_at, entries_at, page_at, entry_at, context_at, params_at, plain_at, words_at, fault_of_head, fault_of_scan, fault_of_data, fault_at_end}
 use Rattle.mig_restore.specs.Answer.{answer_of}
 use Rattle.mig_restore.specs.Seen.{IsSeen}
-use Rattle.mig_restore.specs.Stream.{Front, Verdict, one_more, at_start, front_of, front_with, is_ended, verdict_of_front, verdict_with, at_place, ReadsAs, ReadsVerdict}
+use Rattle.mig_restore.specs.Stream.{Front, Verdict, one_more, at_start, front_of, front_with, verdict_of_front, verdict_with, at_place, of_records, ReadsAs, ReadsVerdict}
 use Rattle.mig_restore.specs.Stream.Verdict.{Accepts, Refuses}
 use Rattle.mig_restore.proofs.Parts.{begins, behind_head}
 use Rattle.mig_restore.proofs.Meaning.{one_more_record}
@@ -70,8 +76,14 @@ no_more m n i k h go = leaves_then (m - n) m (part n i) k (leaves_part m n i h) 
 checked : {X : Type 0} (m : ℕ) (f : Option Cause) (i : List ℕ) (j : Judged X) → length i ≤ m → Leaves m j → Leaves m (tried f i >>= λ _. j)
 checked m f i j h go = leaves_then m m (tried f i) (λ _. j) (leaves_tried m f i h) (λ _ _ _. go)
 
+leaves_plain : (says : List ℕ → Content) (m len : ℕ) (i : List ℕ) → length i ≤ m → Leaves m (plain_at says len i)
+leaves_plain says m len i h = no_more m len i _ h (λ x rest le. leaves_all m _ rest le)
+
 leaves_context : (m len : ℕ) (i : List ℕ) → length i ≤ m → Leaves m (context_at len i)
 leaves_context m len i h = no_more m len i _ h (λ x rest le. checked m (fault_of_scan (scan x)) rest _ le (leaves_all m _ rest le))
+
+leaves_params : (m len : ℕ) (i : List ℕ) → length i ≤ m → Leaves m (params_at len i)
+leaves_params m len i h = no_more m len i _ h (λ x rest le. checked m (fault_of_params x) rest _ le (leaves_all m _ rest le))
 
 chosen : {X : Type 0} (m : ℕ) (b : Bool) (j k : Judged X) → Leaves m j → Leaves m k → Leaves m (cond b j k)
 chosen m true j k p q = p
@@ -79,158 +91,168 @@ chosen m false j k p q = q
 
 leaves_entry : (m w : ℕ) (i : List ℕ) → length i ≤ m → Leaves m (entry_at w i)
 leaves_entry m w i h = leaves_then m m (page_at w i) _
-    (chosen m (has_data w) _ _ (no_more m 4096 i _ h (λ x rest le. leaves_all m _ rest le)) (leaves_all m _ i h)) (λ x rest le. leaves_all m _ rest le)
+    (chosen m (word_has_data w) _ _ (no_more m 4096 i _ h (λ x rest le. leaves_all m _ rest le)) (leaves_all m _ i h)) (λ x rest le. leaves_all m _ rest le)
 
-leaves_pages : (m len : ℕ) (i : List ℕ) → length i ≤ m → Leaves m (pages_at len i)
-leaves_pages m len i h = no_more m 8 i _ h (λ front r1 l1. checked m (fault_of_count len front) r1 _ l1
+leaves_entries : (kind : Kind) (m len : ℕ) (i : List ℕ) → length i ≤ m → Leaves m (entries_at kind len i)
+leaves_entries kind m len i h = no_more m 8 i _ h (λ front r1 l1. checked m (fault_of_count len (le32 front 0)) r1 _ l1
     (leaves_then m m (words_at (le32 front 0) r1) _ (no_more m _ r1 _ l1 (λ bytes r le. leaves_all m _ r le)) (λ ws r2 l2.
-    checked m (fault_of_words ws) r2 _ l2 (checked m (fault_of_data len (le32 front 0) ws) r2 _ l2 (leaves_each entry_at m (leaves_entry m) ws r2 l2)))))
+    checked m (fault_of_words kind 0 ws) r2 _ l2 (checked m (fault_of_data len ws) r2 _ l2 (leaves_each entry_at m (leaves_entry m) ws r2 l2)))))
 
-leaves_body : (m type len : ℕ) (i : List ℕ) → length i ≤ m → Leaves m (body_at type len i)
-leaves_body m type len i h =
-    chosen m (nat_eq type 1) _ _ (leaves_then m m (pages_at len i) _ (leaves_pages m len i h) (λ es rest le. leaves_all m _ rest le))
-    (chosen m (nat_eq type 9) _ _ (leaves_then m m (context_at len i) _ (leaves_context m len i h) (λ v rest le. leaves_all m _ rest le)) (leaves_all m _ i h))
+leaves_pages : (kind : Kind) (m len : ℕ) (i : List ℕ) → length i ≤ m → Leaves m (pages_at kind len i)
+leaves_pages kind m len i h = leaves_then m m (entries_at kind len i) _ (leaves_entries kind m len i h) (λ es rest le. leaves_all m _ rest le)
 
-leaves_record : (records : List StreamRecord) (i : List ℕ) → Leaves (length i - 8) (record_at records i)
+leaves_typed : (kind : Kind) (t : Option RecordType) (m len : ℕ) (i : List ℕ) → length i ≤ m → Leaves m (typed_at kind t len i)
+leaves_typed kind (Some PageData) m len i h = leaves_pages kind m len i h
+leaves_typed kind (Some X86TscInfo) m len i h = leaves_plain _ m len i h
+leaves_typed kind (Some HvmContext) m len i h = leaves_context m len i h
+leaves_typed kind (Some HvmParams) m len i h = leaves_params m len i h
+leaves_typed kind (Some X86CpuidPolicy) m len i h = leaves_plain _ m len i h
+leaves_typed kind (Some X86MsrPolicy) m len i h = leaves_plain _ m len i h
+leaves_typed kind _ m len i h = leaves_all m _ i h
+
+leaves_body : (kind : Kind) (m type len : ℕ) (i : List ℕ) → length i ≤ m → Leaves m (body_at kind type len i)
+leaves_body kind m type len i h = chosen m (is_optional type) _ _ (leaves_plain _ m len i h) (leaves_typed kind (type_of_number type) m len i h)
+
+leaves_record : (o : Opening) (records : List StreamRecord) (i : List ℕ) → Leaves (length i - 8) (record_at o records i)
 unfolding record_at
-leaves_record records i =
+leaves_record o records i =
     let m = length i - 8 in
-    leaves_then m m (head_at (types_of records) i) _
-    (leaves_then m m (part 8 i) _ (leaves_part (length i) 8 i (omega arith)) (λ x rest le. checked m (fault_of_head (types_of records) x) rest _ le (leaves_all m _ rest le)))
-    (λ head rest le. checked m (fault_of_guest (le32 head 0) (mean records)) rest _ le
-    (leaves_then m m (body_at (le32 head 0) (le32 head 4) rest) _ (leaves_body m (le32 head 0) (le32 head 4) rest le) (λ r after le'. no_more m _ after _ le' (λ x last le''. leaves_all m _ last le''))))
+    leaves_then m m (head_at o (types_of records) i) _
+    (leaves_then m m (part 8 i) _ (leaves_part (length i) 8 i (omega arith)) (λ x rest le. checked m (fault_of_head o (types_of records) x) rest _ le (leaves_all m _ rest le)))
+    (λ head rest le. checked m (fault_at_end (le32 head 0) (mean o.kind records)) rest _ le
+    (leaves_then m m (body_at o.kind (le32 head 0) (le32 head 4) rest) _ (leaves_body o.kind m (le32 head 0) (le32 head 4) rest le) (λ r after le'. no_more m _ after _ le' (λ x last le''. leaves_all m _ last le''))))
 
 -- ---- the front
-
-record_leaves : (records : List StreamRecord) (i : List ℕ) (r : StreamRecord) (rest : List ℕ) → record_at records i ≡ Passes r rest → length rest ≤ length i - 8
-record_leaves records i r rest is = (subst (Leaves (length i - 8)) is (leaves_record records i)).holds
 
 elim_none : {X : Type 0} {x : X} → None ≡ Some x → ⊥
 elim_none e = cc
 
-head_short : (types i : List ℕ) → nat_lt (length i) 8 ≡ true → head_at types i ≡ Faulty Truncated []
-head_short types i short = rw short refl
+module _ (o : Opening) where
+  record_leaves : (records : List StreamRecord) (i : List ℕ) (r : StreamRecord) (rest : List ℕ) → record_at o records i ≡ Passes r rest → length rest ≤ length i - 8
+  record_leaves records i r rest is = (subst (Leaves (length i - 8)) is (leaves_record o records i)).holds
 
-record_short : (records : List StreamRecord) (i : List ℕ) → nat_lt (length i) 8 ≡ true → record_at records i ≡ Faulty Truncated []
-record_short records i short = begins records i ∙ ap (λ j. j >>= behind_head (mean records)) (head_short (types_of records) i short)
+  head_short : (types i : List ℕ) → nat_lt (length i) 8 ≡ true → head_at o types i ≡ Faulty Truncated []
+  head_short types i short = rw short refl
 
-shorter : (records : List StreamRecord) (i : List ℕ) (r : StreamRecord) (rest : List ℕ) → record_at records i ≡ Passes r rest → length rest < length i
-shorter records i r rest is =
-    elim (nat_lt (length i) 8) as (λ b. nat_lt (length i) 8 ≡ b → length rest < length i) [
-      | true ↦ λ short. let no = sym (record_short records i short) ∙ is in cc
-      | false ↦ λ long. omega (arith, record_leaves records i r rest is, ltb-false (length i) 8 long)
-    ] refl
+  record_short : (records : List StreamRecord) (i : List ℕ) → nat_lt (length i) 8 ≡ true → record_at o records i ≡ Faulty Truncated []
+  record_short records i short = begins o records i ∙ ap (λ j. j >>= behind_head o.kind (mean o.kind records)) (head_short (types_of records) i short)
 
-went : (records : List StreamRecord) (rest : List ℕ) (t : Front) (b : Bool) (j : Judged StreamRecord) → record_at records rest ≡ j → cond b None (front_with records j) ≡ Some t → length t.rest < length rest
-went records rest t true j is h = let no : ◌≡◌ {A = Option Front} None (Some t) = h in absurd (elim_none no)
-went records rest t false (Faulty c after) is h = absurd (elim_none h)
-went records rest t false (Passes r after) is h = let e : record { records = records ++ r ∷ []; rest = after } ≡ t = cc in subst (λ (f : Front). length f.rest < length rest) e (shorter records rest r after is)
+  shorter : (records : List StreamRecord) (i : List ℕ) (r : StreamRecord) (rest : List ℕ) → record_at o records i ≡ Passes r rest → length rest < length i
+  shorter records i r rest is =
+      elim (nat_lt (length i) 8) as (λ b. nat_lt (length i) 8 ≡ b → length rest < length i) [
+        | true ↦ λ short. let no = sym (record_short records i short) ∙ is in cc
+        | false ↦ λ long. omega (arith, record_leaves records i r rest is, ltb-false (length i) 8 long)
+      ] refl
 
-falls : (s t : Front) → one_more s ≡ Some t → length t.rest < length s.rest
-unfolding one_more
-falls s t h = went s.records s.rest t (is_ended s.records) (record_at s.records s.rest) refl h
+  went : (records : List StreamRecord) (rest : List ℕ) (t : Front) (b : Bool) (j : Judged StreamRecord) → record_at o records rest ≡ j → cond b None (front_with records j) ≡ Some t → length t.rest < length rest
+  went records rest t true j is h = let no : ◌≡◌ {A = Option Front} None (Some t) = h in absurd (elim_none no)
+  went records rest t false (Faulty c after) is h = absurd (elim_none h)
+  went records rest t false (Passes r after) is h = let e : record { records = records ++ r ∷ []; rest = after } ≡ t = cc in subst (λ (f : Front). length f.rest < length rest) e (shorter records rest r after is)
 
-pub ends_at : (rest : List ℕ) (f : Front) → Reaches one_more (at_start rest) f → one_more f ≡ None → front_of rest ≡ f
-unfolding front_of
-ends_at rest f reached stops = walk_end_is one_more (λ (g : Front). length g.rest) falls (length rest) (at_start rest) f (le_refl _) reached stops
+  falls : (s t : Front) → one_more o s ≡ Some t → length t.rest < length s.rest
+  unfolding one_more
+  falls s t h = went s.records s.rest t (is_ended s.records) (record_at o s.records s.rest) refl h
 
-pub front_stops : (rest : List ℕ) → one_more (front_of rest) ≡ None
-unfolding front_of
-front_stops rest = walk_end_ends one_more (λ (g : Front). length g.rest) falls (length rest) (at_start rest) (le_refl _)
+  pub ends_at : (rest : List ℕ) (f : Front) → Reaches (one_more o) (at_start rest) f → one_more o f ≡ None → front_of o rest ≡ f
+  unfolding front_of
+  ends_at rest f reached stops = walk_end_is (one_more o) (λ (g : Front). length g.rest) falls (length rest) (at_start rest) f (le_refl _) reached stops
 
--- ---- what the reader knows between two records
+  pub front_stops : (rest : List ℕ) → one_more o (front_of o rest) ≡ None
+  unfolding front_of
+  front_stops rest = walk_end_ends (one_more o) (λ (g : Front). length g.rest) falls (length rest) (at_start rest) (le_refl _)
 
-abbrev pub Arrived : Option (List ℕ) → Option (List ℕ) → Seen → GuestOf → Type 0
-Arrived None now seen guest = ⊤
-Arrived (Some rest) now seen guest = (f : Front) × Reaches one_more (at_start rest) f × (now ≡ Some f.rest) × IsSeen seen (types_of f.records) × (guest ≡ mean f.records) × (is_ended f.records ≡ false)
+  pub goes_on : (f : Front) (r : StreamRecord) (rest : List ℕ) → is_ended f.records ≡ false → record_at o f.records f.rest ≡ Passes r rest → one_more o f ≡ Some (record { records = f.records ++ r ∷ []; rest = rest })
+  unfolding one_more
+  goes_on f r rest going is = rw (going, is) refl
 
--- what a record that was read says of the guest, and whether it ends the image
-abbrev pub Told : GuestOf → GuestOf → Seen → List StreamRecord → Bool → StreamRecord → Type 0
-Told old new seen records over r = (new ≡ put_record old r) × IsSeen seen (types_of (records ++ r ∷ [])) × (over ≡ nat_eq r.type 0)
+  pub stops_ended : (f : Front) → is_ended f.records ≡ true → one_more o f ≡ None
+  unfolding one_more
+  stops_ended f over1 = rw over1 refl
 
-pub arrived_first : (a : Option (List ℕ)) (seen : Seen) (guest : GuestOf) → IsSeen seen [] → guest ≡ empty_guest → Arrived a a seen guest
-unfolding mean
-arrived_first None seen guest s g = tt
-arrived_first (Some i) seen guest s g = (at_start i, here, refl, s, g, refl)
+  stops_refused : (f : Front) (c : Cause) (rest : List ℕ) → is_ended f.records ≡ false → record_at o f.records f.rest ≡ Faulty c rest → one_more o f ≡ None
+  unfolding one_more
+  stops_refused f c rest going is = rw (going, is) refl
+
+  pub accepted : (f : Front) → is_ended f.records ≡ true → verdict_of_front o f ≡ Accepts o f.records f.rest
+  unfolding verdict_of_front
+  accepted f over1 = rw over1 refl
+
+  rejected : (f : Front) (c : Cause) (rest : List ℕ) → is_ended f.records ≡ false → record_at o f.records f.rest ≡ Faulty c rest → verdict_of_front o f ≡ Refuses (Record (length f.records)) c rest
+  unfolding verdict_of_front
+  rejected f c rest going is = rw (going, is) refl
 
 or_false : (b : Bool) → (false || (b || false)) ≡ b
 or_false true = refl
 or_false false = refl
 
-ended_more : (records : List StreamRecord) (r : StreamRecord) → is_ended records ≡ false → is_ended (records ++ r ∷ []) ≡ nat_eq r.type 0
+pub ended_more : (records : List StreamRecord) (r : StreamRecord) → is_ended records ≡ false → is_ended (records ++ r ∷ []) ≡ nat_eq r.type 0
 ended_more records r going =
-    ap (has 0) (map-append (λ (x : StreamRecord). x.type) records (r ∷ [])) ∙ list_any-append (λ t. nat_eq t 0) (types_of records) (r.type ∷ [])
+    ap (list_any (λ t. nat_eq t 0)) (map-append (λ (x : StreamRecord). x.type) records (r ∷ [])) ∙ list_any-append (λ t. nat_eq t 0) (types_of records) (r.type ∷ [])
     ∙ ap (λ b. b || (nat_eq r.type 0 || false)) going ∙ or_false (nat_eq r.type 0)
 
-pub goes_on : (f : Front) (r : StreamRecord) (rest : List ℕ) → is_ended f.records ≡ false → record_at f.records f.rest ≡ Passes r rest → one_more f ≡ Some (record { records = f.records ++ r ∷ []; rest = rest })
-unfolding one_more
-goes_on f r rest going is = rw (going, is) refl
+-- ---- what the reader knows between two records
 
--- one record more
-arrived_after : (rest : List ℕ) (f : Front) (r : StreamRecord) (after : List ℕ) (guest guest' : GuestOf) → Reaches one_more (at_start rest) f → is_ended f.records ≡ false → record_at f.records f.rest ≡ Passes r after
-    → guest ≡ mean f.records → guest' ≡ put_record guest r
-    → Reaches one_more (at_start rest) (record { records = f.records ++ r ∷ []; rest = after }) × (guest' ≡ mean (f.records ++ r ∷ []))
-arrived_after rest f r after guest guest' reached going is g g' =
-    (next f (record { records = f.records ++ r ∷ []; rest = after }) reached (goes_on f r after going is), g' ∙ ap (λ w. put_record w r) g ∙ sym (one_more_record f.records r))
+module _ (o : Opening) where
+  abbrev pub Arrived : Option (List ℕ) → Option (List ℕ) → Seen → GuestOf → Type 0
+  Arrived None now seen guest = ⊤
+  Arrived (Some rest) now seen guest = (f : Front) × Reaches (one_more o) (at_start rest) f × (now ≡ Some f.rest) × IsSeen seen o (types_of f.records) × (guest ≡ mean o.kind f.records) × (is_ended f.records ≡ false)
 
-pub arrived_next : (a b c : Option (List ℕ)) (seen seen' : Seen) (guest guest' : GuestOf) (over : Bool) → over ≡ false → Arrived a b seen guest
-    → ((records : List StreamRecord) → IsSeen seen (types_of records) → guest ≡ mean records → Gives (Told guest guest' seen' records) b c (record_at records) (Ok over)) → Arrived a c seen' guest'
-arrived_next None b c seen seen' guest guest' over is_open h told = tt
-arrived_next (Some i) b c seen seen' guest guest' over is_open (f, reached, now, s, g, going) told =
-    let (r, after, is, left, told') = subst (λ o. Gives (Told guest guest' seen' f.records) o c (record_at f.records) (Ok over)) now (told f.records s g) in
-    let (reached', g'') = arrived_after i f r after guest guest' reached going is g told'.0 in
-    (record { records = f.records ++ r ∷ []; rest = after }, reached', left, told'.1, g'', ended_more f.records r going ∙ sym told'.2 ∙ is_open)
+  -- what a record that was read says of the guest, and whether it ends the image
+  abbrev pub Told : GuestOf → GuestOf → Seen → List StreamRecord → Bool → StreamRecord → Type 0
+  Told old new seen records over r = (new ≡ put_record old r) × IsSeen seen o (types_of (records ++ r ∷ [])) × (over ≡ nat_eq r.type 0)
 
-pub stops_ended : (f : Front) → is_ended f.records ≡ true → one_more f ≡ None
-unfolding one_more
-stops_ended f over1 = rw over1 refl
+  -- the clause of the reader of a record
+  abbrev pub Tells : GuestOf → GuestOf → Seen → Seen → Option (List ℕ) → Option (List ℕ) → Result Bool Stop → Type 0
+  Tells guest guest' seen seen' b c r = (records : List StreamRecord) → IsSeen seen o (types_of records) → guest ≡ mean o.kind records → Gives (Told guest guest' seen' records) b c (record_at o records) r
 
-stops_refused : (f : Front) (c : Cause) (rest : List ℕ) → is_ended f.records ≡ false → record_at f.records f.rest ≡ Faulty c rest → one_more f ≡ None
-unfolding one_more
-stops_refused f c rest going is = rw (going, is) refl
+  pub arrived_first : (a : Option (List ℕ)) (seen : Seen) (guest : GuestOf) → IsSeen seen o [] → guest ≡ empty_guest o.kind → Arrived a a seen guest
+  unfolding mean
+  arrived_first None seen guest s g = tt
+  arrived_first (Some i) seen guest s g = (at_start i, here, refl, s, g, refl)
 
-pub accepted : (f : Front) → is_ended f.records ≡ true → verdict_of_front f ≡ Accepts f.records f.rest
-unfolding verdict_of_front
-accepted f over1 = rw over1 refl
+  -- one record more
+  arrived_after : (rest : List ℕ) (f : Front) (r : StreamRecord) (after : List ℕ) (guest guest' : GuestOf) → Reaches (one_more o) (at_start rest) f → is_ended f.records ≡ false → record_at o f.records f.rest ≡ Passes r after
+      → guest ≡ mean o.kind f.records → guest' ≡ put_record guest r
+      → Reaches (one_more o) (at_start rest) (record { records = f.records ++ r ∷ []; rest = after }) × (guest' ≡ mean o.kind (f.records ++ r ∷ []))
+  arrived_after rest f r after guest guest' reached going is g g' =
+      (next f (record { records = f.records ++ r ∷ []; rest = after }) reached (goes_on o f r after going is), g' ∙ ap (λ w. put_record w r) g ∙ sym (one_more_record o.kind f.records r))
 
-rejected : (f : Front) (c : Cause) (rest : List ℕ) → is_ended f.records ≡ false → record_at f.records f.rest ≡ Faulty c rest → verdict_of_front f ≡ Refuses (Record (length f.records)) c rest
-unfolding verdict_of_front
-rejected f c rest going is = rw (going, is) refl
+  pub arrived_next : (a b c : Option (List ℕ)) (seen seen' : Seen) (guest guest' : GuestOf) (over : Bool) → over ≡ false → Arrived a b seen guest → Tells guest guest' seen seen' b c (Ok over) → Arrived a c seen' guest'
+  arrived_next None b c seen seen' guest guest' over is_open h told = tt
+  arrived_next (Some i) b c seen seen' guest guest' over is_open (f, reached, now, s, g, going) told =
+      let (r, after, is, left, told') = subst (λ b. Gives (Told guest guest' seen' f.records) b c (record_at o f.records) (Ok over)) now (told f.records s g) in
+      let (reached', g'') = arrived_after i f r after guest guest' reached going is g told'.0 in
+      (record { records = f.records ++ r ∷ []; rest = after }, reached', left, told'.1, g'', ended_more f.records r going ∙ sym told'.2 ∙ is_open)
 
--- the verdict on the records
-abbrev pub of_records : List ℕ → Verdict
-of_records rest = verdict_of_front (front_of rest)
+  pub arrived_end : (a b c : Option (List ℕ)) (seen seen' : Seen) (guest guest' : GuestOf) (reading : Reading) (over : Bool) → over ≡ true → reading.guest ≡ guest' → reading.version ≡ o.version → reading.records ≡ seen'.records → Arrived a b seen guest
+      → Tells guest guest' seen seen' b c (Ok over) → ReadsAs (of_records o) a c (Ok reading)
+  arrived_end None b c seen seen' guest guest' reading over is_over rg rv rs h told = tt
+  arrived_end (Some i) b c seen seen' guest guest' reading over is_over rg rv rs (f, reached, now, s, g, going) told =
+      let (r, after, is, left, told') = subst (λ b. Gives (Told guest guest' seen' f.records) b c (record_at o f.records) (Ok over)) now (told f.records s g) in
+      let (reached', g'') = arrived_after i f r after guest guest' reached going is g told'.0 in
+      let f' : Front = record { records = f.records ++ r ∷ []; rest = after } in
+      let over1 : is_ended f'.records ≡ true = ended_more f.records r going ∙ sym told'.2 ∙ is_over in
+      (o, f'.records, after, ap (verdict_of_front o) (ends_at o i f' reached' (stops_ended o f' over1)) ∙ accepted o f' over1, left, rg ∙ g'', rv, rs ∙ told'.1.count ∙ length-map f'.records (λ (x : StreamRecord). x.type))
 
-pub arrived_end : (a b c : Option (List ℕ)) (seen seen' : Seen) (guest guest' : GuestOf) (reading : Reading) (over : Bool) → over ≡ true → reading.guest ≡ guest' → reading.records ≡ seen'.records → Arrived a b seen guest
-    → ((records : List StreamRecord) → IsSeen seen (types_of records) → guest ≡ mean records → Gives (Told guest guest' seen' records) b c (record_at records) (Ok over)) → ReadsAs of_records a c (Ok reading)
-arrived_end None b c seen seen' guest guest' reading over is_over rg rs h told = tt
-arrived_end (Some i) b c seen seen' guest guest' reading over is_over rg rs (f, reached, now, s, g, going) told =
-    let (r, after, is, left, told') = subst (λ o. Gives (Told guest guest' seen' f.records) o c (record_at f.records) (Ok over)) now (told f.records s g) in
-    let (reached', g'') = arrived_after i f r after guest guest' reached going is g told'.0 in
-    let f' : Front = record { records = f.records ++ r ∷ []; rest = after } in
-    let over1 : is_ended f'.records ≡ true = ended_more f.records r going ∙ sym told'.2 ∙ is_over in
-    (f'.records, after, ap verdict_of_front (ends_at i f' reached' (stops_ended f' over1)) ∙ accepted f' over1, left, rg ∙ g'', rs ∙ told'.1.count ∙ length-map f'.records (λ (x : StreamRecord). x.type))
-
-pub arrived_stopped : (a b c : Option (List ℕ)) (seen seen' : Seen) (guest guest' : GuestOf) (stop : Stop) (n : ℕ) → n ≡ seen.records → Arrived a b seen guest
-    → ((records : List StreamRecord) → IsSeen seen (types_of records) → guest ≡ mean records → Gives (Told guest guest' seen' records) b c (record_at records) (Err stop)) → ReadsAs of_records a c (Err (answer_of (Record n) stop))
-arrived_stopped None b c seen seen' guest guest' stop n count h told = tt
-arrived_stopped (Some i) b c seen seen' guest guest' (stops.Refused cause) n count (f, reached, now, s, g, going) told =
-    let (rest, is, left) = subst (λ o. Gives (Told guest guest' seen' f.records) o c (record_at f.records) (Err (stops.Refused cause))) now (told f.records s g) in
-    let at : n ≡ length f.records = count ∙ s.count ∙ length-map f.records (λ (x : StreamRecord). x.type) in
-    (rest, ap verdict_of_front (ends_at i f reached (stops_refused f cause rest going is)) ∙ rejected f cause rest going is ∙ ap (λ m. Refuses (Record m) cause rest) (sym at), left)
-arrived_stopped (Some i) b c seen seen' guest guest' stops.ReadFault n count h told = tt
-arrived_stopped (Some i) b c seen seen' guest guest' stops.Memory n count h told = tt
+  pub arrived_stopped : (a b c : Option (List ℕ)) (seen seen' : Seen) (guest guest' : GuestOf) (stop : Stop) (n : ℕ) → n ≡ seen.records → Arrived a b seen guest → Tells guest guest' seen seen' b c (Err stop) → ReadsAs (of_records o) a c (Err (answer_of (Record n) stop))
+  arrived_stopped None b c seen seen' guest guest' stop n count h told = tt
+  arrived_stopped (Some i) b c seen seen' guest guest' (stops.Refused cause) n count (f, reached, now, s, g, going) told =
+      let (rest, is, left) = subst (λ b. Gives (Told guest guest' seen' f.records) b c (record_at o f.records) (Err (stops.Refused cause))) now (told f.records s g) in
+      let at : n ≡ length f.records = count ∙ s.count ∙ length-map f.records (λ (x : StreamRecord). x.type) in
+      (rest, ap (verdict_of_front o) (ends_at o i f reached (stops_refused o f cause rest going is)) ∙ rejected o f cause rest going is ∙ ap (λ m. Refuses (Record m) cause rest) (sym at), left)
+  arrived_stopped (Some i) b c seen seen' guest guest' stops.ReadFault n count h told = tt
+  arrived_stopped (Some i) b c seen seen' guest guest' stops.Memory n count h told = tt
 
 -- ---- the headers
 
 module _ {X Y : Type 0} (R : X → Y → Type 0) where
-  pub placed_ok : (a b c : Option (List ℕ)) (place : Place) (f : List ℕ → Judged Y) (v : List ℕ → Verdict) (x : X) (r : Result Reading StreamAnswer)
-      → Gives R a b f (Ok x) → ReadsAs v b c r → ReadsAs (λ i. at_place place (f i) v) a c r
+  pub placed_ok : (a b c : Option (List ℕ)) (place : Place) (f : List ℕ → Judged Y) (v : Y → List ℕ → Verdict) (x : X) (r : Result Reading StreamAnswer)
+      → Gives R a b f (Ok x) → ((y : Y) → R x y → ReadsAs (v y) b c r) → ReadsAs (λ i. at_place place (f i) v) a c r
   placed_ok None b c place f v x r h told = tt
-  placed_ok (Some i) b c place f v x r (y, rest, is, left, _) told =
-      subst (λ j. ReadsVerdict (at_place place j v) c r) (sym is) (subst (λ o. ReadsAs v o c r) left told)
+  placed_ok (Some i) b c place f v x r (y, rest, is, left, means) told =
+      subst (λ j. ReadsVerdict (at_place place j v) c r) (sym is) (subst (λ b. ReadsAs (v y) b c r) left (told y means))
 
-  pub placed_err : (a b : Option (List ℕ)) (place : Place) (f : List ℕ → Judged Y) (v : List ℕ → Verdict) (stop : Stop)
+  pub placed_err : (a b : Option (List ℕ)) (place : Place) (f : List ℕ → Judged Y) (v : Y → List ℕ → Verdict) (stop : Stop)
       → Gives R a b f (Err stop) → ReadsAs (λ i. at_place place (f i) v) a b (Err (answer_of place stop))
   placed_err None b place f v stop h = tt
   placed_err (Some i) b place f v (stops.Refused c) (rest, is, left) = (rest, ap (λ j. at_place place j v) is, left)

@@ -1,20 +1,26 @@
 -- How what readers give joins.
 use Rattle.std.specs.Prelude.{⊤}
 use Rattle.std.specs.Result.{IsErrAnd}
-use Rattle.std.proofs.lemmas.List.{take_more}
+use Rattle.std.proofs.lemmas.List.{take_more, take_at, drop_at}
+use Rattle.std.proofs.lemmas.Bool.{le-ltb}
+use Rattle.std.proofs.lemmas.Grind.{common_steps}
+use Rattle.mig_headers.specs.declared.fault.Cause.TheVariants.{Truncated}
 use Rattle.std.proofs.Math.Seq.{drop-cons}
-use Rattle.std.proofs.Common.{◌≡◌, ℕ, suc, ◌+◌, ◌<◌, length, take, drop, get_or, take-append-drop, List, [], ◌∷◌, ◌++◌, Bool, true, false, Option, Some, None, Result, Ok, Err, refl, sym, ap, subst, ◌∙◌, cond, append_assoc}
+use Rattle.std.proofs.Common.{◌≡◌, ℕ, suc, ◌+◌, ◌<◌, length, take, drop, get_or, take-append-drop, List, [], ◌∷◌, ◌++◌, Bool, true, false, Option, Some, None, Result, Ok, Err, refl, sym, ap, subst, ◌∙◌, cond, append_assoc, nat_lt, length-append, arith}
 use Rattle.mig_headers.specs.declared.fault.Cause.{Cause}
 use Rattle.mig_restore.specs.declared.part.Stop.{Stop}
 use Rattle.mig_restore.specs.declared.part.Stop.TheVariants.{Refused, ReadFault, Memory}
 use Rattle.mig_restore.specs.Judged.{Judged, ◌>>=◌, part, tried, each, Matches, Gives}
 use Rattle.mig_restore.specs.Judged.Judged.{Passes, Faulty}
-use Rattle.mig_restore.specs.Words.{has_data, word_pfn}
-use Rattle.mig_restore.specs.Record.{Entry}
-use Rattle.mig_restore.specs.Judging.{entry_at}
+use Rattle.mig_headers.specs.Headers.{unless_faulty}
+use Rattle.mig_pagetypes.specs.FrameWords.{word_pfn, word_has_data}
+use Rattle.mig_bytes.specs.Bytes.{Skipped}
+use Rattle.mig_restore.specs.Record.{Entry, Content}
+use Rattle.mig_restore.specs.Judging.{kind_in, entry_at, plain_at}
+use Rattle.std.specs.Io.KnownBytes.{Consumes, IsAtEnd}
 
 module _ {X Y : Type 0} (R : X → Y → Type 0) where
-  -- empty_guest is read
+  -- nothing is read
   pub done : (a : Option (List ℕ)) (f : List ℕ → Judged Y) (x : X) (y : Y) → ((i : List ℕ) → f i ≡ Passes y i) → R x y → Gives R a a f (Ok x)
   done None f x y is r = tt
   done (Some i) f x y is r = (y, i, is i, refl, r)
@@ -48,20 +54,15 @@ module _ {W X Y Z : Type 0} (R : W → X → Type 0) (Q : Y → Z → Type 0) wh
   stop (Some i) b f k Memory h = tt
 
 module _ {X : Type 0} (R : X → Entry → Type 0) where
-  pub no_page : (a : Option (List ℕ)) (w : ℕ) (x : X) → has_data w ≡ false → R x (record { pfn = word_pfn w; page = None }) → Gives R a a (entry_at w) (Ok x)
+  pub no_page : (a : Option (List ℕ)) (w : ℕ) (x : X) → word_has_data w ≡ false → R x (record { pfn = word_pfn w; kind = kind_in w; page = None }) → Gives R a a (entry_at w) (Ok x)
   no_page a w x none r = done R a (entry_at w) x _ (λ i. rw none refl) r
 
-  pub with_page : {B : Type 0} (f : B → List ℕ) (a b : Option (List ℕ)) (w : ℕ) (page : B) (x : X) → Gives {X = B} (λ p bytes. bytes ≡ f p) a b (part 4096) (Ok page) → has_data w ≡ true
-      → R x (record { pfn = word_pfn w; page = Some (f page) }) → Gives R a b (entry_at w) (Ok x)
-  with_page f None b w page x h some r = tt
-  with_page f (Some i) b w page x (bytes, rest, is, left, same) some r =
-      (record { pfn = word_pfn w; page = Some bytes }, rest, rw (some, is) refl, left, subst (λ p. R x (record { pfn = word_pfn w; page = Some p })) (sym same) r)
-
--- a buffer that was filled holds a part of its length
-pub filled : {B : Type 0} (f : B → List ℕ) (a b : Option (List ℕ)) (n m : ℕ) (buf : List ℕ) (u : Unit {0}) (page : B) → n ≡ m → f page ≡ buf → Gives {X = Unit {0}} (λ _ bytes. bytes ≡ buf) a b (part n) (Ok u)
-    → Gives {X = B} (λ p bytes. bytes ≡ f p) a b (part m) (Ok page)
-filled f None b n m buf u page size is h = tt
-filled f (Some i) b n m buf u page size is (bytes, rest, passed, left, same) = (bytes, rest, subst (λ k. part k i ≡ Passes bytes rest) size passed, left, same ∙ sym is)
+  pub with_page : (a b : Option (List ℕ)) (w n : ℕ) (page : List ℕ) (u : Unit {0}) (x : X) → n ≡ 4096 → Gives {X = Unit {0}} (λ _ bytes. bytes ≡ page) a b (part n) (Ok u) → word_has_data w ≡ true
+      → R x (record { pfn = word_pfn w; kind = kind_in w; page = Some page }) → Gives R a b (entry_at w) (Ok x)
+  with_page None b w n page u x size h some r = tt
+  with_page (Some i) b w n page u x size (bytes, rest, is, left, same) some r =
+      let is' = subst (λ m. part m i ≡ Passes bytes rest) size is in
+      (record { pfn = word_pfn w; kind = kind_in w; page = Some bytes }, rest, rw (some, is') refl, left, subst (λ p. R x (record { pfn = word_pfn w; kind = kind_in w; page = Some p })) (sym same) r)
 
 -- ---- one part after another
 
@@ -158,11 +159,73 @@ module _ {X Y Z V : Type 0} (R : X → Y → Type 0) (Q : V → Z → Type 0) wh
       → Gives R a b f (Ok x) → ((y : Y) → R x y → Gives Q b c (λ i. k (y, i)) r) → Gives Q a c g r
   then_reads a b c f g k x r same n next = judged_so Q a c (λ i. f i >>= k) g r same (seq R Q a b c f k x r n next)
 
--- a header of n bytes in which no cause stands
-pub header_fine : (f : List ℕ → Option Cause) (a b : Option (List ℕ)) (n m : ℕ) (buf : List ℕ) (u v : Unit {0}) → n ≡ m → Gives {X = Unit {0}} (λ _ bytes. bytes ≡ buf) a b (part n) (Ok u) → f buf ≡ None
-    → Gives {X = Unit {0}} {Y = List ℕ} (λ _ _. ⊤) a b (λ i. part m i >>= λ p. tried (f p.0) p.1 >>= λ _. Passes p.0 p.1) (Ok v)
-header_fine f None b n m buf u v size h fine = tt
-header_fine f (Some i) b n m buf u v size (bytes, rest, is, left, same) fine =
-    let is' = subst (λ k. part k i ≡ Passes bytes rest) size is in
-    let none : f bytes ≡ None = ap f same ∙ fine in
-    (bytes, rest, rw (is', none) refl, left, tt)
+-- a part that is there
+pub part_whole : (n : ℕ) (x rest : List ℕ) → length x ≡ n → part n (x ++ rest) ≡ Passes x rest
+part_whole n x rest size = rw (le-ltb (length (x ++ rest)) n (omega (arith, length-append x rest)), take_at x rest n size, drop_at x rest n size) refl
+
+-- ---- headers
+
+unless_ok : {H : Type 0} (f : Option Cause) (h x : H) → unless_faulty f h ≡ Ok x → (f ≡ None) × (h ≡ x)
+unless_ok None h x e = (refl, cc)
+unless_ok {H} (Some c) h x e = let no : ◌≡◌ {A = Result H Cause} (Err c) (Ok x) = e in absurd (apart no)
+  where
+    apart : {c : Cause} {x : H} → Err c ≡ Ok x → ⊥
+    apart q = cc
+
+unless_err : {H : Type 0} (f : Option Cause) (h : H) (c : Cause) → unless_faulty f h ≡ Err c → f ≡ Some c
+unless_err {H} None h c e = let no : ◌≡◌ {A = Result H Cause} (Ok h) (Err c) = e in absurd (apart no)
+  where
+    apart : {h : H} {c : Cause} → Ok h ≡ Err c → ⊥
+    apart q = cc
+unless_err (Some d) h c e = cc
+
+module _ {V Y : Type 0} (R : V → Y → Type 0) (f : List ℕ → Option Cause) (y : List ℕ → Y) where
+  abbrev pub header_at : ℕ → List ℕ → Judged Y
+  header_at m i = part m i >>= λ p. tried (f p.0) p.1 >>= λ _. Passes (y p.0) p.1
+
+  -- a header of n bytes in which no cause stands
+  pub header_fine : (a b : Option (List ℕ)) (n m : ℕ) (buf : List ℕ) (u : Unit {0}) (v : V) → n ≡ m → Gives {X = Unit {0}} (λ _ bytes. bytes ≡ buf) a b (part n) (Ok u) → f buf ≡ None → R v (y buf)
+      → Gives R a b (header_at m) (Ok v)
+  header_fine None b n m buf u v size h fine r = tt
+  header_fine (Some i) b n m buf u v size (bytes, rest, is, left, same) fine r =
+      let is' = subst (λ k. part k i ≡ Passes bytes rest) size is in
+      let none : f bytes ≡ None = ap f same ∙ fine in
+      (y bytes, rest, rw (is', none) refl, left, subst (λ x. R v (y x)) (sym same) r)
+
+  -- a header in which a cause stands
+  pub header_faulty : (a b : Option (List ℕ)) (n m : ℕ) (buf : List ℕ) (u : Unit {0}) (c : Cause) → n ≡ m → Gives {X = Unit {0}} (λ _ bytes. bytes ≡ buf) a b (part n) (Ok u) → f buf ≡ Some c
+      → Gives R a b (header_at m) (Err (Refused c))
+  header_faulty None b n m buf u c size h fault = tt
+  header_faulty (Some i) b n m buf u c size (bytes, rest, is, left, same) fault =
+      let is' = subst (λ k. part k i ≡ Passes bytes rest) size is in
+      let some : f bytes ≡ Some c = ap f same ∙ fault in
+      (rest, rw (is', some) refl, left)
+
+pub decoded_fine : {H V Y : Type 0} (R : V → Y → Type 0) (f : List ℕ → Option Cause) (y : List ℕ → Y) (a b : Option (List ℕ)) (n m : ℕ) (buf : List ℕ) (u : Unit {0}) (h x : H) (v : V) → n ≡ m → Gives {X = Unit {0}} (λ _ bytes. bytes ≡ buf) a b (part n) (Ok u)
+    → Ok x ≡ unless_faulty (f buf) h → (h ≡ x → R v (y buf)) → Gives R a b (header_at R f y m) (Ok v)
+decoded_fine R f y a b n m buf u h x v size g is r = let o = unless_ok (f buf) h x (sym is) in header_fine R f y a b n m buf u v size g o.0 (r o.1)
+
+pub decoded_faulty : {H V Y : Type 0} (R : V → Y → Type 0) (f : List ℕ → Option Cause) (y : List ℕ → Y) (a b : Option (List ℕ)) (n m : ℕ) (buf : List ℕ) (u : Unit {0}) (h : H) (c : Cause) → n ≡ m → Gives {X = Unit {0}} (λ _ bytes. bytes ≡ buf) a b (part n) (Ok u)
+    → Err c ≡ unless_faulty (f buf) h → Gives R a b (header_at R f y m) (Err (Refused c))
+decoded_faulty R f y a b n m buf u h c size g is = header_faulty R f y a b n m buf u c size g (unless_err (f buf) h c (sym is))
+
+-- ---- a body that isn't kept
+
+-- so many bytes are gone
+pub part_gone : (a b : Option (List ℕ)) (n : ℕ) (says : List ℕ → Content) (R : Unit {0} → Content → Type 0) → Skipped a b n true → ((bytes : List ℕ) → R tt (says bytes)) → Gives R a b (plain_at says n) (Ok tt)
+part_gone None b n says R h r = tt
+part_gone (Some i) None n says R (bytes, size, gone) r = absurd gone
+part_gone (Some i) (Some j) n says R (bytes, size, gone) r =
+    let is : part n i ≡ Passes bytes j = ap (part n) gone ∙ part_whole n bytes j size in
+    (says bytes, j, rw is refl, refl, r bytes)
+
+-- the source ended before
+pub part_short : (a b : Option (List ℕ)) (n : ℕ) (says : List ℕ → Content) (R : Unit {0} → Content → Type 0) → Skipped a b n false → Gives R a b (plain_at says n) (Err (Refused Truncated))
+part_short None b n says R h = tt
+part_short (Some i) None n says R (bytes, size, gone, end) = absurd gone
+part_short (Some i) (Some j) n says R (bytes, size, gone, end) =
+    let short : nat_lt (length i) n ≡ true = lt_true (length i) n (omega (arith, ap length gone, length-append bytes j, ap length end, size)) in
+    ([], rw short refl, ap Some end)
+  where
+    lt_true : (a b : ℕ) → a < b → nat_lt a b ≡ true
+    lt_true a b h = grind (arith, common_steps)

@@ -1,12 +1,7 @@
 pub mod Arrivals
-pub mod Boxed
+pub mod Converse
 pub mod Joins
-pub mod Maps
+pub mod Laws
 pub mod Meaning
 pub mod Parts
-pub mod Laws
-pub mod Converse
-pub mod Canons
-pub mod Sizes
 pub mod Fitting
-pub mod Cursor

@@ -1,92 +1,190 @@
--- What one more entry, or one more record, means.
-use Rattle.std.proofs.Common.{arith, ◌≡◌, ℕ, List, [], ◌∷◌, ◌++◌, Option, Some, None, refl, sym, ap, subst, ◌∙◌}
+-- What one more entry, or one more record, means; and that of each frame number and of each part the last decides.
+use Rattle.std.proofs.Common.{◌≡◌, ℕ, List, [], ◌∷◌, ◌++◌, Bool, true, false, cond, not, nat_eq, Option, Some, None, refl, sym, ap, subst, ◌∙◌, arith}
+use Rattle.std.specs.Prelude.{option_and_then, unwrap_or, ◌&&◌}
 use Rattle.std.specs.List.{fold}
-use Rattle.std.proofs.lemmas.List.Sums.{fold-append}
-use Rattle.std.proofs.Common.{Bool, true, false, cond, nat_eq}
-use Rattle.std.proofs.lemmas.Grind.{common_steps}
-use Rattle.std.specs.Prelude.{option_and_then, unwrap_or}
 use Rattle.std.specs.Option.{option_or}
-use Rattle.std.specs.Ordering.{nat_cmp, eq_by_cmp}
+use Rattle.std.specs.Ordering.{nat_cmp, eq_by_cmp, is_eq}
+use Rattle.std.specs.declared.cmp.Ordering.{Ordering}
+use Rattle.std.specs.declared.cmp.Ordering.TheVariants.{Less, Equal, Greater}
 use Rattle.std.specs.Cmp.{nat_cmp_total}
 use Rattle.std.specs.FinMap as fin
-use Rattle.mig_restore.specs.Guest.{PageMap, GuestOf, empty_guest}
+use Rattle.std.proofs.lemmas.Grind.{common_steps}
+use Rattle.std.proofs.lemmas.List.Sums.{fold-append}
+use Rattle.mig_headers.specs.declared.kind.Kind.{Kind}
+use Rattle.mig_pagetypes.specs.declared.page_type.PageType.{PageType}
+use Rattle.mig_pagetypes.specs.declared.page_type.PageType.TheVariants.{Xtab}
+use Rattle.mig_guest.specs.declared.part_key.PartKey.{PartKey}
+use Rattle.mig_guest.specs.Frames.{FrameMap, FrameOf, framed}
+use Rattle.mig_guest.specs.Guests.{GuestOf}
+use Rattle.mig_guest.specs.Order.{part_cmp}
+use Rattle.mig_guest.specs.Parts.{PartMap, put_part, put_parts, replace_code}
+use Rattle.mig_guest.proofs.PartOrder.{part_total, part_exact}
 use Rattle.mig_restore.specs.Record.{Entry, StreamRecord, Content}
-use Rattle.mig_restore.specs.Record.Content.{Nothing, Frames, Context}
-use Rattle.mig_restore.specs.Mean.{put_at, put_entry, put_content, put_record, mean, entries_in, entries_of, last_of, page_of, frames_of, context_in, last_context}
+use Rattle.mig_restore.specs.Record.Content.{Nothing, Frames, Parts, Policy}
+use Rattle.mig_restore.specs.Mean.{meant_type, put_entry, put_entries, put_content, put_record, empty_guest, mean, entries_in, entries_of, last_entry, some_frame, frame_in, same_key, last_bytes, says_of_part, last_said}
 
-pub one_more_entry : (g h k : GuestOf) (es : List Entry) (e : Entry) → h ≡ record g { frames = fold put_entry g.frames es } → k ≡ record h { frames = put_entry h.frames e }
-    → k ≡ record g { frames = fold put_entry g.frames (es ++ e ∷ []) }
+pub one_more_entry : (g h k : GuestOf) (es : List Entry) (e : Entry) → h ≡ record g { frames = put_entries g.kind g.frames es } → k ≡ record h { frames = put_entry h.kind h.frames e }
+    → k ≡ record g { frames = put_entries g.kind g.frames (es ++ e ∷ []) }
 one_more_entry g h k es e before now =
-    now ∙ ap (λ (w : GuestOf). record { frames = put_entry w.frames e; context = w.context }) before
-    ∙ ap (λ f. record { frames = f; context = g.context }) (sym (fold-append put_entry g.frames es (e ∷ [])))
+    now ∙ ap (λ (w : GuestOf). record w { frames = put_entry w.kind w.frames e }) before
+    ∙ ap (λ (f : FrameMap). record g { frames = f }) (sym (fold-append (put_entry g.kind) g.frames es (e ∷ [])))
 
-pub one_more_record : (rs : List StreamRecord) (r : StreamRecord) → mean (rs ++ r ∷ []) ≡ put_record (mean rs) r
+pub one_more_record : (kind : Kind) (rs : List StreamRecord) (r : StreamRecord) → mean kind (rs ++ r ∷ []) ≡ put_record (mean kind rs) r
 unfolding mean
-one_more_record rs r = fold-append put_record empty_guest rs (r ∷ [])
+one_more_record kind rs r = fold-append put_record (empty_guest kind) rs (r ∷ [])
+
+-- ---- a record keeps the kind and the top
+
+pub put_kind : (g : GuestOf) (c : Content) → (put_content g c).kind ≡ g.kind
+put_kind g Nothing = refl
+put_kind g (Frames es) = refl
+put_kind g (Parts ps) = refl
+put_kind g (Policy code ps) = refl
+
+put_top : (g : GuestOf) (c : Content) → (put_content g c).top ≡ g.top
+put_top g Nothing = refl
+put_top g (Frames es) = refl
+put_top g (Parts ps) = refl
+put_top g (Policy code ps) = refl
+
+folded_kind : (g : GuestOf) (rs : List StreamRecord) → (fold put_record g rs).kind ≡ g.kind
+folded_kind g [] = refl
+folded_kind g (r ∷ rs) = folded_kind (put_record g r) rs ∙ put_kind g r.content
+
+folded_top : (g : GuestOf) (rs : List StreamRecord) → (fold put_record g rs).top ≡ g.top
+folded_top g [] = refl
+folded_top g (r ∷ rs) = folded_top (put_record g r) rs ∙ put_top g r.content
+
+pub mean_kind : (kind : Kind) (rs : List StreamRecord) → (mean kind rs).kind ≡ kind
+unfolding mean
+mean_kind kind rs = folded_kind (empty_guest kind) rs
+
+pub mean_top : (kind : Kind) (rs : List StreamRecord) → (mean kind rs).top ≡ 0
+unfolding mean
+mean_top kind rs = folded_top (empty_guest kind) rs
 
 -- ---- of each frame number the last entry decides
 
 pub ties : (p q : ℕ) → eq_by_cmp nat_cmp p q ≡ nat_eq q p
 ties p q = grind (arith, common_steps)
 
-pub got : (m : PageMap) (p pfn : ℕ) (page : Option (List ℕ)) → fin.get (put_at m pfn page) p ≡ cond (nat_eq pfn p) page (fin.get m p)
-got m p pfn None = fin.get-remove nat_cmp_total m pfn p ∙ ap (λ b. cond b None (fin.get m p)) (ties p pfn)
-got m p pfn (Some page) = fin.get-insert nat_cmp_total m pfn page p ∙ ap (λ b. cond b (Some page) (fin.get m p)) (ties p pfn)
+framed_get : (m : FrameMap) (p pfn : ℕ) (t : PageType) (page : Option (List ℕ)) → fin.get (framed m pfn t page) p ≡ cond (nat_eq pfn p) (some_frame t page) (fin.get m p)
+framed_get m p pfn Xtab page = fin.get-remove nat_cmp_total m pfn p ∙ ap (λ b. cond b None (fin.get m p)) (ties p pfn)
+framed_get m p pfn t page = fin.get-insert nat_cmp_total m pfn (record { kind = t; page = page }) p ∙ ap (λ b. cond b (Some (record { kind = t; page = page })) (fin.get m p)) (ties p pfn)
 
-abbrev otherwise : Option Entry → Option (List ℕ) → Option (List ℕ)
-otherwise None before = before
-otherwise (Some e) before = e.page
+pub got : (kind : Kind) (m : FrameMap) (p : ℕ) (e : Entry) → fin.get (put_entry kind m e) p ≡ cond (nat_eq e.pfn p) (frame_in kind e) (fin.get m p)
+got kind m p e = framed_get m p e.pfn (meant_type kind e.kind) e.page
 
-chosen : (b : Bool) (e : Entry) (later : Option Entry) (before : Option (List ℕ)) → otherwise later (cond b e.page before) ≡ otherwise (option_or later (cond b (Some e) None)) before
-chosen b e (Some f) before = refl
-chosen true e None before = refl
-chosen false e None before = refl
+abbrev otherwise : Kind → Option Entry → Option FrameOf → Option FrameOf
+otherwise kind None before = before
+otherwise kind (Some e) before = frame_in kind e
 
-folded : (m : PageMap) (p : ℕ) (es : List Entry) → fin.get (fold put_entry m es) p ≡ otherwise (last_of p es) (fin.get m p)
-folded m p [] = refl
-folded m p (e ∷ es) = folded (put_entry m e) p es ∙ ap (otherwise (last_of p es)) (got m p e.pfn e.page) ∙ chosen (nat_eq e.pfn p) e (last_of p es) (fin.get m p)
+chosen : (kind : Kind) (b : Bool) (e : Entry) (later : Option Entry) (before : Option FrameOf) → otherwise kind later (cond b (frame_in kind e) before) ≡ otherwise kind (option_or later (cond b (Some e) None)) before
+chosen kind b e (Some f) before = refl
+chosen kind true e None before = refl
+chosen kind false e None before = refl
 
-at_last : (o : Option Entry) → otherwise o None ≡ option_and_then (λ (e : Entry). e.page) o
-at_last None = refl
-at_last (Some e) = refl
+folded : (kind : Kind) (m : FrameMap) (p : ℕ) (es : List Entry) → fin.get (put_entries kind m es) p ≡ otherwise kind (last_entry p es) (fin.get m p)
+folded kind m p [] = refl
+folded kind m p (e ∷ es) = folded kind (put_entry kind m e) p es ∙ ap (otherwise kind (last_entry p es)) (got kind m p e) ∙ chosen kind (nat_eq e.pfn p) e (last_entry p es) (fin.get m p)
 
-pub last_decides : (es : List Entry) (p : ℕ) → fin.get (frames_of es) p ≡ page_of p es
-last_decides es p = folded fin.empty p es ∙ ap (otherwise (last_of p es)) (fin.get-empty nat_cmp p) ∙ at_last (last_of p es)
+at_last : (kind : Kind) (o : Option Entry) → otherwise kind o None ≡ option_and_then (frame_in kind) o
+at_last kind None = refl
+at_last kind (Some e) = refl
 
-put_frames : (g : GuestOf) (c : Content) → (put_content g c).frames ≡ fold put_entry g.frames (entries_in c)
+put_frames : (g : GuestOf) (c : Content) → (put_content g c).frames ≡ put_entries g.kind g.frames (entries_in c)
 put_frames g Nothing = refl
 put_frames g (Frames es) = refl
-put_frames g (Context bytes) = refl
+put_frames g (Parts ps) = refl
+put_frames g (Policy code ps) = refl
 
-folded_frames : (g : GuestOf) (rs : List StreamRecord) → (fold put_record g rs).frames ≡ fold put_entry g.frames (entries_of rs)
+folded_frames : (g : GuestOf) (rs : List StreamRecord) → (fold put_record g rs).frames ≡ put_entries g.kind g.frames (entries_of rs)
 folded_frames g [] = refl
 folded_frames g (r ∷ rs) =
-    folded_frames (put_record g r) rs ∙ ap (λ m. fold put_entry m (entries_of rs)) (put_frames g r.content) ∙ sym (fold-append put_entry g.frames (entries_in r.content) (entries_of rs))
+    folded_frames (put_record g r) rs ∙ ap (λ k. put_entries k (put_record g r).frames (entries_of rs)) (put_kind g r.content)
+    ∙ ap (λ m. put_entries g.kind m (entries_of rs)) (put_frames g r.content) ∙ sym (fold-append (put_entry g.kind) g.frames (entries_in r.content) (entries_of rs))
 
 -- the frames are those of all entries
-pub mean_frames : (records : List StreamRecord) → (mean records).frames ≡ frames_of (entries_of records)
+pub mean_frames : (kind : Kind) (records : List StreamRecord) → (mean kind records).frames ≡ put_entries kind fin.empty (entries_of records)
 unfolding mean
-mean_frames records = folded_frames empty_guest records
+mean_frames kind records = folded_frames (empty_guest kind) records
 
-pub last_entry : (records : List StreamRecord) (pfn : ℕ) → fin.get (mean records).frames pfn ≡ page_of pfn (entries_of records)
-last_entry records pfn = ap (λ m. fin.get m pfn) (mean_frames records) ∙ last_decides (entries_of records) pfn
+pub last_entry_is : (kind : Kind) (records : List StreamRecord) (pfn : ℕ) → fin.get (mean kind records).frames pfn ≡ option_and_then (frame_in kind) (last_entry pfn (entries_of records))
+last_entry_is kind records pfn =
+    ap (λ m. fin.get m pfn) (mean_frames kind records) ∙ folded kind fin.empty pfn (entries_of records)
+    ∙ ap (otherwise kind (last_entry pfn (entries_of records))) (fin.get-empty nat_cmp pfn) ∙ at_last kind (last_entry pfn (entries_of records))
 
--- ---- the last context decides
+-- ---- of each part the last content decides
 
-set_context : (g : GuestOf) (c : Content) → (put_content g c).context ≡ unwrap_or (context_in c) g.context
-set_context g Nothing = refl
-set_context g (Frames es) = refl
-set_context g (Context bytes) = refl
+nat_ties : (p q : ℕ) → is_eq (nat_cmp p q) ≡ nat_eq q p
+nat_ties p q = ties p q
 
-later : (o p : Option (List ℕ)) (d : List ℕ) → unwrap_or o (unwrap_or p d) ≡ unwrap_or (option_or o p) d
-later None p d = refl
-later (Some x) p d = refl
+thens : (r s : Ordering) → is_eq (elim r [ Less ↦ Less | Equal ↦ s | Greater ↦ Greater ]) ≡ (is_eq r && is_eq s)
+thens Less s = refl
+thens Equal s = refl
+thens Greater s = refl
 
-folded_context : (g : GuestOf) (rs : List StreamRecord) → (fold put_record g rs).context ≡ unwrap_or (last_context rs) g.context
-folded_context g [] = refl
-folded_context g (r ∷ rs) =
-    folded_context (put_record g r) rs ∙ ap (unwrap_or (last_context rs)) (set_context g r.content) ∙ later (last_context rs) (context_in r.content) g.context
+pub part_ties : (q k : PartKey) → eq_by_cmp part_cmp q k ≡ same_key k q
+part_ties q k = ?
 
-pub last_context_is : (records : List StreamRecord) → (mean records).context ≡ unwrap_or (last_context records) []
+abbrev over : Option (List ℕ) → Option (List ℕ) → Option (List ℕ)
+over None before = before
+over (Some bytes) before = Some bytes
+
+put_over : (b : Bool) (bytes : List ℕ) (later before : Option (List ℕ)) → over later (cond b (Some bytes) before) ≡ over (option_or later (cond b (Some bytes) None)) before
+put_over b bytes (Some later) before = refl
+put_over true bytes None before = refl
+put_over false bytes None before = refl
+
+pub parts_got : (m : PartMap) (ps : List (PartKey × List ℕ)) (q : PartKey) → fin.get (put_parts m ps) q ≡ over (last_bytes q ps) (fin.get m q)
+parts_got m [] q = refl
+parts_got m (p ∷ ps) q =
+    parts_got (put_part m p) ps q
+    ∙ ap (over (last_bytes q ps)) (fin.get-insert part_total m p.0 p.1 q ∙ ap (λ b. cond b (Some p.1) (fin.get m q)) (part_ties q p.0))
+    ∙ put_over (same_key p.0 q) p.1 (last_bytes q ps) (fin.get m q)
+
+abbrev unless_said : Option (Option (List ℕ)) → Option (List ℕ) → Option (List ℕ)
+unless_said None before = before
+unless_said (Some now) before = now
+
+said_parts : (o before : Option (List ℕ)) (ps : List (PartKey × List ℕ)) (q : PartKey) → last_bytes q ps ≡ o → over o before ≡ unless_said (says_of_part q (Parts ps)) before
+said_parts None before ps q is = rw is refl
+said_parts (Some bytes) before ps q is = rw is refl
+
+cleared : (m : PartMap) (code : ℕ) (q : PartKey) → fin.get (fin.retain_keys m (λ k. not (nat_eq k.code code))) q ≡ cond (not (nat_eq q.code code)) (fin.get m q) None
+cleared m code q = fin.get-retain_keys m (λ k. not (nat_eq k.code code)) q (λ k e. ap (λ (x : PartKey). not (nat_eq x.code code)) (sym (part_exact q k e)))
+
+kept_or : (b : Bool) (before : Option (List ℕ)) → cond (not b) before None ≡ unless_said (cond b (Some None) None) before
+kept_or true before = refl
+kept_or false before = refl
+
+said_policy : (o before : Option (List ℕ)) (code : ℕ) (p : PartKey × List ℕ) (ps : List (PartKey × List ℕ)) (q : PartKey) → last_bytes q (p ∷ ps) ≡ o
+    → over o (cond (not (nat_eq q.code code)) before None) ≡ unless_said (says_of_part q (Policy code (p ∷ ps))) before
+said_policy None before code p ps q is = rw is (kept_or (nat_eq q.code code) before)
+said_policy (Some bytes) before code p ps q is = rw is refl
+
+pub said : (g : GuestOf) (c : Content) (q : PartKey) → fin.get (put_content g c).parts q ≡ unless_said (says_of_part q c) (fin.get g.parts q)
+said g Nothing q = refl
+said g (Frames es) q = refl
+said g (Parts ps) q = parts_got g.parts ps q ∙ said_parts (last_bytes q ps) (fin.get g.parts q) ps q refl
+said g (Policy code []) q = refl
+said g (Policy code (p ∷ ps)) q =
+    parts_got (fin.retain_keys g.parts (λ k. not (nat_eq k.code code))) (p ∷ ps) q ∙ ap (over (last_bytes q (p ∷ ps))) (cleared g.parts code q)
+    ∙ said_policy (last_bytes q (p ∷ ps)) (fin.get g.parts q) code p ps q refl
+
+later_said : (o p : Option (Option (List ℕ))) (before : Option (List ℕ)) → unless_said o (unless_said p before) ≡ unless_said (option_or o p) before
+later_said None p before = refl
+later_said (Some now) p before = refl
+
+folded_parts : (g : GuestOf) (rs : List StreamRecord) (q : PartKey) → fin.get (fold put_record g rs).parts q ≡ unless_said (last_said q rs) (fin.get g.parts q)
+folded_parts g [] q = refl
+folded_parts g (r ∷ rs) q = folded_parts (put_record g r) rs q ∙ ap (unless_said (last_said q rs)) (said g r.content q) ∙ later_said (last_said q rs) (says_of_part q r.content) (fin.get g.parts q)
+
+said_none : (o : Option (Option (List ℕ))) → unless_said o None ≡ unwrap_or o None
+said_none None = refl
+said_none (Some now) = refl
+
+pub last_content_is : (kind : Kind) (records : List StreamRecord) (q : PartKey) → fin.get (mean kind records).parts q ≡ unwrap_or (last_said q records) None
 unfolding mean
-last_context_is records = folded_context empty_guest records
+last_content_is kind records q =
+    folded_parts (empty_guest kind) records q ∙ ap (unless_said (last_said q records)) (fin.get-empty part_cmp q) ∙ said_none (last_said q records)

@@ -36,6 +36,9 @@ pub record Opening : Type 0 where
   pub version : ℕ
   pub kind : Kind
 
+abbrev pub opening_of : ℕ → Kind → Opening
+opening_of version kind = record { version = version; kind = kind }
+
 -- ---- the head
 
 -- whether records of this type are read at all in a stream of this kind: so far none of the types of a PV stream is

@@ -10,7 +10,7 @@ use Rattle.mig_headers.specs.declared.fault.Place.TheVariants.{ImageHeader, Doma
 use Rattle.mig_restore.specs.Judged.{Judged, ◌>>=◌, part, tried}
 use Rattle.mig_restore.specs.Judged.Judged.{Passes, Faulty}
 use Rattle.mig_restore.specs.Record.{StreamRecord, is_ended}
-use Rattle.mig_restore.specs.Judging.{Opening, record_at}
+use Rattle.mig_restore.specs.Judging.{Opening, opening_of, record_at}
 use Rattle.mig_restore.specs.Mean.{mean}
 use Rattle.mig_restore.specs.declared.part.StreamAnswer.{StreamAnswer}
 use Rattle.mig_restore.specs.declared.part.StreamAnswer.TheVariants.{Refused, ReadFault, Memory}
@@ -73,16 +73,13 @@ abbrev pub at_place : {X : Type 0} → Place → Judged X → (X → List ℕ �
 at_place place (Passes x rest) next = next x rest
 at_place place (Faulty c rest) next = Refuses place c rest
 
-abbrev pub opened : ℕ → Kind → Opening
-opened version kind = record { version = version; kind = kind }
-
 -- the verdict on the records
 abbrev pub of_records : Opening → List ℕ → Verdict
 of_records o rest = verdict_of_front o (front_of o rest)
 
 unfoldable pub verdict : List ℕ → Verdict
 verdict input =
-    at_place ImageHeader (marker_at input) (λ _ i. at_place ImageHeader (version_at i) (λ version j. at_place DomainHeader (kind_at j) (λ kind k. of_records (opened version kind) k)))
+    at_place ImageHeader (marker_at input) (λ _ i. at_place ImageHeader (version_at i) (λ version j. at_place DomainHeader (kind_at j) (λ kind k. of_records (opening_of version kind) k)))
 
 -- what a reader of images answered is the verdict, and what it left in the source is what the verdict leaves
 abbrev pub ReadsVerdict : Verdict → Option (List ℕ) → Result Reading StreamAnswer → Type 0

@@ -1,42 +1,154 @@
-ghost use Rattle.std.specs.Prelude.{◌≡◌, ◌≤◌, ◌^◌, ◌*◌, IfOk, IsErrOf, fold, length, vec_len};
-ghost use Rattle.std.specs.Prelude.{false};
+ghost use Rattle.std.specs.Prelude.{◌≡◌, ◌≤◌, ◌^◌, ◌*◌, IfOk, IsErrOf, length, vec_len, true, None, Some, ◌%◌};
 ghost use Rattle.std.specs.List.{All};
 ghost use Rattle.mig_bytes.specs.Faults.{Rose};
-ghost use Rattle.mig_restore.specs.Words.{is_bad};
+ghost use Rattle.mig_headers.specs.RecordTypes.{row_of};
+ghost use Rattle.mig_records.specs.Faults.{fault_of_length};
+ghost use Rattle.mig_records.specs.Words.{words as words_in};
+ghost use Rattle.mig_pagetypes.specs.FrameWords.{word_pfn};
 ghost use Rattle.mig_restore.specs.Judged.{Gives, part, each};
-ghost use Rattle.mig_restore.specs.Mean.{put_entry};
-ghost use Rattle.mig_restore.specs.Judging.{context_at, words_at, entry_at, pages_at};
+ghost use Rattle.mig_restore.specs.Mean.{meant_type, put_entry, put_entries, put_content};
+ghost use Rattle.mig_restore.specs.Judging.{context_at, params_at, plain_at, tsc_says, leaves_say, msrs_say, words_at, kind_in, entry_at, pages_at, typed_at, body_at};
+ghost use Rattle.mig_restore.specs.Record.Content.{Nothing};
+ghost use Rattle.mig_restore.specs.Spelled.{IsGoodWord};
 ghost use Rattle.mig_restore.specs.declared.part.Stop.TheVariants.{ReadFault};
 
-use crate::guest::Guest;
 use crate::part::{Stop, take_long, take_part};
-use crate::words::{any_refused, carries_page, pages_needed, pfn_of_word, words_of};
-use mig_bytes::{Source, u32_le};
-use mig_headers::Cause;
-use mig_hvm::scan_context;
-use std::alloc::Global;
+use mig_bytes::{ReadFailed, Source, skip, u32_le, u64_le};
+use mig_guest::Guest;
+use mig_headers::{Cause, Kind, RecordType, is_optional};
+use mig_hvm::{params_fault, read_context, read_params, scan_context};
+use mig_pagetypes::{PageType, decode_word};
+use mig_policy::{read_cpuid, read_msr, read_tsc};
+use mig_records::{RecordHead, count_fault, data_len, words_fault};
+use std::alloc::{AllocError, Global};
 
-/// Takes a context, and keeps it up to the entry that ends it.
-pub(crate) fn read_context<S: Source>(alloc: Global, src: &mut S, len: u32) -> Result<Vec<u8>, Stop>
-    ensures read { Gives (λ v context. context ≡ v.items) (S.left src.old) (S.left src.new) (context_at len) result }
-    ensures len { IfOk result (λ v. vec_len v ≤ len) }
+// ---- parts
+
+/// Takes an HVM context, and keeps it up to the entry that ends it.
+fn take_context<S: Source>(
+    alloc: Global,
+    src: &mut S,
+    len: u32,
+    guest: &mut Guest,
+) -> Result<(), Stop>
+    ensures read { Gives (λ _ c. guest.new ≡ put_content guest.old c) (S.left src.old) (S.left src.new) (context_at len) result }
     ensures later { S.faults src.old ≤ S.faults src.new }
     ensures cause { IsErrOf result ReadFault → Rose (S.faults src.old) (S.faults src.new) }
 {
-    let mut body = take_long(alloc, src, len)?;
-    match scan_context(&body) {
-        Ok(end) => {
-            body.truncate(end);
-            match body.extend_from_slice(&[0; 8]) {
-                Ok(()) => Ok(body),
-                Err(_) => Err(Stop::Memory),
-            }
-        }
-        Err(_) => Err(Stop::Refused(Cause::NotBuilt(9))),
+    let body = take_long(alloc, src, len)?;
+    if let Err(fault) = scan_context(&body) {
+        return Err(Stop::Refused(Cause::BadContext(fault)));
+    }
+    match read_context(guest, &body) {
+        Ok(()) => Ok(()),
+        Err(_) => Err(Stop::Memory),
     }
 }
 
-fn read_words<S: Source>(alloc: Global, src: &mut S, count: u32) -> Result<Vec<u64>, Stop>
+/// Takes HVM parameters.
+fn take_params<S: Source>(
+    alloc: Global,
+    src: &mut S,
+    len: u32,
+    guest: &mut Guest,
+) -> Result<(), Stop>
+    requires { 8 ≤ len }
+    ensures read { Gives (λ _ c. guest.new ≡ put_content guest.old c) (S.left src.old) (S.left src.new) (params_at len) result }
+    ensures later { S.faults src.old ≤ S.faults src.new }
+    ensures cause { IsErrOf result ReadFault → Rose (S.faults src.old) (S.faults src.new) }
+{
+    let body = take_long(alloc, src, len)?;
+    if let Some(cause) = params_fault(&body) {
+        return Err(Stop::Refused(cause));
+    }
+    match read_params(guest, &body) {
+        Ok(()) => Ok(()),
+        Err(_) => Err(Stop::Memory),
+    }
+}
+
+/// Takes the TSC.
+fn take_tsc<S: Source>(src: &mut S, guest: &mut Guest) -> Result<(), Stop>
+    ensures read { Gives (λ _ c. guest.new ≡ put_content guest.old c) (S.left src.old) (S.left src.new) (plain_at tsc_says 24) result }
+    ensures later { S.faults src.old ≤ S.faults src.new }
+    ensures cause { IsErrOf result ReadFault → Rose (S.faults src.old) (S.faults src.new) }
+{
+    let mut body = [0; 24];
+    take_part(src, &mut body)?;
+    match read_tsc(guest, &body) {
+        Ok(()) => Ok(()),
+        Err(_) => Err(Stop::Memory),
+    }
+}
+
+/// Takes a CPUID policy.
+fn take_cpuid<S: Source>(
+    alloc: Global,
+    src: &mut S,
+    len: u32,
+    guest: &mut Guest,
+) -> Result<(), Stop>
+    requires { len % 24 ≡ 0 }
+    ensures read { Gives (λ _ c. guest.new ≡ put_content guest.old c) (S.left src.old) (S.left src.new) (plain_at leaves_say len) result }
+    ensures later { S.faults src.old ≤ S.faults src.new }
+    ensures cause { IsErrOf result ReadFault → Rose (S.faults src.old) (S.faults src.new) }
+{
+    let body = take_long(alloc, src, len)?;
+    match read_cpuid(guest, &body) {
+        Ok(()) => Ok(()),
+        Err(_) => Err(Stop::Memory),
+    }
+}
+
+/// Takes an MSR policy.
+fn take_msr<S: Source>(
+    alloc: Global,
+    src: &mut S,
+    len: u32,
+    guest: &mut Guest,
+) -> Result<(), Stop>
+    requires { len % 16 ≡ 0 }
+    ensures read { Gives (λ _ c. guest.new ≡ put_content guest.old c) (S.left src.old) (S.left src.new) (plain_at msrs_say len) result }
+    ensures later { S.faults src.old ≤ S.faults src.new }
+    ensures cause { IsErrOf result ReadFault → Rose (S.faults src.old) (S.faults src.new) }
+{
+    let body = take_long(alloc, src, len)?;
+    match read_msr(guest, &body) {
+        Ok(()) => Ok(()),
+        Err(_) => Err(Stop::Memory),
+    }
+}
+
+/// Takes the body of an optional record, and keeps nothing of it.
+fn skip_body<S: Source>(src: &mut S, len: u32) -> Result<(), Stop>
+    ensures read { Gives (λ _ c. c ≡ Nothing) (S.left src.old) (S.left src.new) (plain_at (λ _. Nothing) len) result }
+    ensures later { S.faults src.old ≤ S.faults src.new }
+    ensures cause { IsErrOf result ReadFault → Rose (S.faults src.old) (S.faults src.new) }
+{
+    match skip(src, u64::from(len)) {
+        Ok(true) => Ok(()),
+        Ok(false) => Err(Stop::Refused(Cause::Truncated)),
+        Err(ReadFailed) => Err(Stop::ReadFault),
+    }
+}
+
+// ---- frames
+
+/// The words that these bytes spell.
+fn words_of(alloc: Global, bytes: &[u8], count: usize) -> Result<Vec<u64>, AllocError>
+    requires { 8 * count ≤ length bytes.now }
+    ensures words { IfOk result (λ v. v.items ≡ words_in count bytes.now) }
+    ensures len { IfOk result (λ v. vec_len v ≡ count) }
+{
+    let mut list = Vec::with_capacity(alloc, count)?;
+    for k in 0..count {
+        list.push(u64_le(bytes, 8 * k))?;
+    }
+    Ok(list)
+}
+
+/// Takes so many words.
+fn take_words<S: Source>(alloc: Global, src: &mut S, count: u32) -> Result<Vec<u64>, Stop>
     requires { 8 * count ≤ 2 ^ 27 }
     ensures read { Gives (λ v list. list ≡ v.items) (S.left src.old) (S.left src.new) (words_at count) result }
     ensures len { IfOk result (λ v. vec_len v ≡ count) }
@@ -50,90 +162,150 @@ fn read_words<S: Source>(alloc: Global, src: &mut S, count: u32) -> Result<Vec<u
     }
 }
 
-/// Takes a page.
-fn read_page<S: Source>(alloc: Global, src: &mut S) -> Result<Box<[u8; 4096]>, Stop>
-    ensures read { Gives (λ b page. page ≡ b.value) (S.left src.old) (S.left src.new) (part 4096) result }
-    ensures len { IfOk result (λ b. length b.value ≡ 4096) }
-    ensures later { S.faults src.old ≤ S.faults src.new }
-    ensures cause { IsErrOf result ReadFault → Rose (S.faults src.old) (S.faults src.new) }
+/// The type in a word; one whose type is reserved has no page.
+fn type_in(word: u64) -> PageType
+    ensures { result ≡ kind_in word }
 {
-    let Ok(mut page) = Box::new(alloc, [0; 4096]) else {
-        return Err(Stop::Memory);
-    };
-    take_part(src, page.as_mut())?;
-    Ok(page)
+    match decode_word(word) {
+        Ok(frame) => frame.kind,
+        Err(_) => PageType::Xtab,
+    }
 }
 
-/// Takes the page that goes with a word, where one does, and keeps what the entry says.
-fn read_entry<S: Source>(
-    alloc: Global,
-    src: &mut S,
-    word: u64,
-    guest: &mut Guest,
-) -> Result<(), Stop>
-    requires { is_bad word ≡ false }
-    ensures read { Gives (λ _ e. guest.new ≡ record guest.old { frames = put_entry guest.old.frames e })
+/// The frame number in a word.
+fn pfn_in(word: u64) -> u64
+    ensures { result ≡ word_pfn word }
+{
+    word % (1 << 52)
+}
+
+/// The type that a frame has in a guest of this kind.
+fn meant(kind: Kind, in_stream: PageType) -> PageType
+    ensures { result ≡ meant_type kind in_stream }
+{
+    match kind {
+        Kind::Pv => in_stream,
+        Kind::Hvm => {
+            if in_stream.has_data() {
+                PageType::Notab
+            } else {
+                in_stream
+            }
+        }
+    }
+}
+
+/// Takes the page that goes with a word, where its type has data, and sets the frame.
+fn take_entry<S: Source>(src: &mut S, word: u64, guest: &mut Guest) -> Result<(), Stop>
+    requires { IsGoodWord guest.old.kind word }
+    ensures read { Gives (λ _ e. guest.new ≡ record guest.old { frames = put_entry guest.old.kind guest.old.frames e })
         (S.left src.old) (S.left src.new) (entry_at word) result }
     ensures later { S.faults src.old ≤ S.faults src.new }
     ensures cause { IsErrOf result ReadFault → Rose (S.faults src.old) (S.faults src.new) }
 {
-    let pfn = pfn_of_word(word);
-    if !carries_page(word) {
-        guest.remove(pfn);
-        return Ok(());
+    let in_stream = type_in(word);
+    let kind = meant(guest.kind(), in_stream);
+    if !in_stream.has_data() {
+        return match guest.set_frame(pfn_in(word), kind, None) {
+            Ok(()) => Ok(()),
+            Err(_) => Err(Stop::Memory),
+        };
     }
-    let page = read_page(alloc, src)?;
-    match guest.set_page(pfn, page) {
+    let mut page = [0; 4096];
+    take_part(src, &mut page)?;
+    match guest.set_frame(pfn_in(word), kind, Some(&page)) {
         Ok(()) => Ok(()),
         Err(_) => Err(Stop::Memory),
     }
 }
 
 /// Takes a page for each word that has one.
-fn read_entries<S: Source>(
-    alloc: Global,
-    src: &mut S,
-    list: &[u64],
-    guest: &mut Guest,
-) -> Result<(), Stop>
-    requires { All (λ w. is_bad w ≡ false) list.now }
-    ensures read { Gives (λ _ es. guest.new ≡ record guest.old { frames = fold put_entry guest.old.frames es })
+fn take_entries<S: Source>(src: &mut S, list: &[u64], guest: &mut Guest) -> Result<(), Stop>
+    requires { All (IsGoodWord guest.old.kind) list.now }
+    ensures read { Gives (λ _ es. guest.new ≡ record guest.old { frames = put_entries guest.old.kind guest.old.frames es })
         (S.left src.old) (S.left src.new) (each entry_at list.now) result }
     ensures later { S.faults src.old ≤ S.faults src.new }
     ensures cause { IsErrOf result ReadFault → Rose (S.faults src.old) (S.faults src.new) }
 {
     for word in list {
-        read_entry(alloc, src, *word, guest)?;
+        take_entry(src, *word, guest)?;
     }
     Ok(())
 }
 
-/// Takes a batch of pages.
-pub(crate) fn read_pages<S: Source>(
+/// Takes the body of a PAGE_DATA record.
+fn take_pages<S: Source>(
     alloc: Global,
     src: &mut S,
     len: u32,
     guest: &mut Guest,
 ) -> Result<(), Stop>
     requires { len ≤ 2 ^ 27 }
-    ensures read { Gives (λ _ es. guest.new ≡ record guest.old { frames = fold put_entry guest.old.frames es })
-        (S.left src.old) (S.left src.new) (pages_at len) result }
+    ensures read { Gives (λ _ c. guest.new ≡ put_content guest.old c) (S.left src.old) (S.left src.new) (pages_at guest.old.kind len) result }
     ensures later { S.faults src.old ≤ S.faults src.new }
     ensures cause { IsErrOf result ReadFault → Rose (S.faults src.old) (S.faults src.new) }
 {
-    let refused = Stop::Refused(Cause::NotBuilt(1));
     let mut front = [0; 8];
     take_part(src, &mut front)?;
     let count = u32_le(&front, 0);
-    if (len as u64) < 8 + 8 * (count as u64) || count == 0 {
-        return Err(refused);
+    if let Some(cause) = count_fault(len, count) {
+        return Err(Stop::Refused(cause));
     }
-    let list = read_words(alloc, src, count)?;
-    if any_refused(&list) {
-        return Err(refused);
+    let list = take_words(alloc, src, count)?;
+    if let Some(cause) = words_fault(guest.kind(), 0, &list) {
+        return Err(Stop::Refused(cause));
     }
-    if len as u64 != 8 + 8 * (count as u64) + 4096 * (pages_needed(&list) as u64) {
-        return Err(refused);
+    if u64::from(len) != data_len(&list) {
+        return Err(Stop::Refused(Cause::BadLength(u64::from(len))));
     }
-    read_entries(alloc, src, &list, guest)
+    take_entries(src, &list, guest)
+}
+
+// ---- records
+
+/// Takes the body of a record of a known type.
+fn take_typed<S: Source>(
+    alloc: Global,
+    src: &mut S,
+    this: RecordType,
+    len: u32,
+    guest: &mut Guest,
+) -> Result<(), Stop>
+    requires small { len ≤ 2 ^ 27 }
+    requires allowed { (row_of this).allows len ≡ true }
+    ensures read { Gives (λ _ c. guest.new ≡ put_content guest.old c) (S.left src.old) (S.left src.new) (typed_at guest.old.kind (Some this) len) result }
+    ensures later { S.faults src.old ≤ S.faults src.new }
+    ensures cause { IsErrOf result ReadFault → Rose (S.faults src.old) (S.faults src.new) }
+{
+    match this {
+        RecordType::PageData => take_pages(alloc, src, len, guest),
+        RecordType::X86TscInfo => take_tsc(src, guest),
+        RecordType::HvmContext => take_context(alloc, src, len, guest),
+        RecordType::HvmParams => take_params(alloc, src, len, guest),
+        RecordType::X86CpuidPolicy => take_cpuid(alloc, src, len, guest),
+        RecordType::X86MsrPolicy => take_msr(alloc, src, len, guest),
+        _ => Ok(()),
+    }
+}
+
+/// Takes a record's body, and keeps what it says.
+pub(crate) fn take_body<S: Source>(
+    alloc: Global,
+    src: &mut S,
+    head: RecordHead,
+    guest: &mut Guest,
+) -> Result<(), Stop>
+    requires small { head.len ≤ 2 ^ 27 }
+    requires allowed { fault_of_length head.kind head.len ≡ None }
+    ensures read { Gives (λ _ c. guest.new ≡ put_content guest.old c) (S.left src.old) (S.left src.new) (body_at guest.old.kind head.kind head.len) result }
+    ensures later { S.faults src.old ≤ S.faults src.new }
+    ensures cause { IsErrOf result ReadFault → Rose (S.faults src.old) (S.faults src.new) }
+{
+    if is_optional(head.kind) {
+        return skip_body(src, head.len);
+    }
+    match RecordType::from_number(head.kind) {
+        Some(this) => take_typed(alloc, src, this, head.len, guest),
+        None => Ok(()),
+    }
 }

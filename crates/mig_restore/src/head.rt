@@ -1,123 +1,125 @@
-ghost use Rattle.std.specs.Prelude.{◌≡◌, ◌≤◌, ◌<◌, ◌^◌, ◌∷◌, [], ◌++◌, List, ℕ, length, ◌+◌, IfNone, OnOk, IsErrOf};
+ghost use Rattle.std.specs.Prelude.{◌≡◌, ◌≤◌, ◌<◌, ◌^◌, ◌∷◌, [], ◌++◌, List, ℕ, ◌+◌, IfOk, OnOk, IfNone as OnNone, None, IsErrOf};
 ghost use Rattle.mig_bytes.specs.Faults.{Rose};
-ghost use Rattle.mig_bytes.specs.Fields.{le32};
+ghost use Rattle.mig_headers.specs.Headers.{unless_faulty};
+ghost use Rattle.mig_headers.specs.RecordTypes.{type_of_number};
+ghost use Rattle.mig_records.specs.Faults.{fault_of_length};
+ghost use Rattle.mig_records.specs.Heads.{head_in};
 ghost use Rattle.mig_restore.specs.Judged.{Gives};
-ghost use Rattle.mig_restore.specs.Record.{in_order, allows_length as allows};
-ghost use Rattle.mig_restore.specs.Judging.{fault_of_head, head_at};
-ghost use Rattle.mig_restore.specs.Seen.{IsSeen};
+ghost use Rattle.mig_restore.specs.Judging.{Opening, opening_of, is_supported_type, fault_of_built, fault_of_number, fault_of_fields, head_at};
 ghost use Rattle.mig_restore.specs.declared.part.Stop.TheVariants.{ReadFault};
 
 use crate::part::{Stop, take_part};
-use mig_bytes::{Source, u32_le};
-use mig_headers::Cause;
-
-pub(crate) const END: u32 = 0;
-
-pub(crate) const PAGE_DATA: u32 = 1;
-
-pub(crate) const HVM_CONTEXT: u32 = 9;
-
-pub(crate) const STATIC_DATA_END: u32 = 16;
-
-const MAX_BODY: u32 = 134217728;
+use mig_bytes::Source;
+use mig_headers::{Cause, Kind, RecordType};
+use mig_order::Gate;
+use mig_records::{RecordHead, length_fault, long_fault};
 
 const MAX_RECORDS: u32 = 268435456;
 
-/// What matters of the records before.
-#[derive(Clone, Copy, Drop)]
+/// What the reader keeps of the records before: how many they are, and their order.
+#[derive(Drop)]
 pub(crate) struct Seen {
     pub(crate) records: u32,
-    pub(crate) has_static: bool,
-    pub(crate) has_context: bool,
+    pub(crate) kind: Kind,
+    pub(crate) gate: Gate,
+}
+
+/// Whether a type has a row in the table of record types, and is read in some stream.
+fn is_supported(number: u32) -> bool
+    ensures { result ≡ is_supported_type (type_of_number number) }
+{
+    match RecordType::from_number(number) {
+        Some(this) => this.is_supported(),
+        None => false,
+    }
+}
+
+/// Whether the type isn't built so far.
+fn built_fault(kind: Kind, number: u32) -> Option<Cause>
+    ensures { result ≡ fault_of_built kind number }
+{
+    match kind {
+        Kind::Pv => {
+            if is_supported(number) {
+                return Some(Cause::NotBuilt(u64::from(number)));
+            }
+            None
+        }
+        Kind::Hvm => None,
+    }
 }
 
 impl Seen {
+    ghost use Rattle.mig_restore.specs.Seen.{IsSeen};
+
     /// Before the first record.
-    pub(crate) fn new() -> Seen
-        ensures seen { IsSeen result [] }
+    pub(crate) fn new(version: u32, kind: Kind) -> Seen
+        ensures seen { IsSeen result (opening_of version kind) [] }
         ensures count { result.records ≡ 0 }
     {
         Seen {
             records: 0,
-            has_static: false,
-            has_context: false,
+            kind,
+            gate: Gate::new(version, kind),
         }
     }
 
-    /// One record more.
-    pub(crate) fn add(&mut self, kind: u32)
-        requires { self.old.records < 2 ^ 28 }
-        ensures seen { (types : List ℕ) → IsSeen self.old types → IsSeen self.new (types ++ kind ∷ []) }
-        ensures count { self.new.records ≡ self.old.records + 1 }
+    /// Whether there is no room for one record more.
+    fn number_fault(&self) -> Option<Cause>
+        ensures fault { (o : Opening) (types : List ℕ) → IsSeen self.now o types → result ≡ fault_of_number types }
+        ensures room { OnNone result (self.now.records < 2 ^ 28) }
     {
+        if self.records >= MAX_RECORDS {
+            return Some(Cause::TooManyRecords);
+        }
+        None
+    }
+
+    /// Judges the next record's head, and counts the record where nothing is wrong with it.
+    #[tactic(auto, unfolding(crate::specs::Judging::fault_of_fields))]
+    fn judge(&mut self, head: RecordHead) -> Result<(), Cause>
+        ensures judged { (o : Opening) (types : List ℕ) → IsSeen self.old o types → result ≡ unless_faulty (fault_of_fields o types head.kind head.len) tt }
+        ensures seen { OnOk result ((o : Opening) (types : List ℕ) → IsSeen self.old o types → IsSeen self.new o (types ++ head.kind ∷ [])) }
+        ensures len { OnOk result (head.len ≤ 2 ^ 27) }
+        ensures allowed { OnOk result (fault_of_length head.kind head.len ≡ None) }
+        ensures count { OnOk result ((self.new.records ≡ self.old.records + 1) × (self.old.records < 2 ^ 28)) }
+    {
+        if let Some(cause) = built_fault(self.kind, head.kind) {
+            return Err(cause);
+        }
+        if let Some(cause) = long_fault(head) {
+            return Err(cause);
+        }
+        if let Err(cause) = self.gate.step(head.kind) {
+            return Err(cause);
+        }
+        if let Some(cause) = length_fault(head) {
+            return Err(cause);
+        }
+        if let Some(cause) = self.number_fault() {
+            return Err(cause);
+        }
         self.records += 1;
-        if kind == STATIC_DATA_END {
-            self.has_static = true;
-        }
-        if kind == HVM_CONTEXT {
-            self.has_context = true;
-        }
+        Ok(())
     }
 
-    /// Whether a record of this type may come next.
-    fn allows(&self, kind: u32) -> bool
-        ensures { (types : List ℕ) → IsSeen self.now types → result ≡ in_order types kind }
+    /// Takes the next record's head.
+    pub(crate) fn read_head<S: Source>(&mut self, src: &mut S) -> Result<RecordHead, Stop>
+        ensures read { (o : Opening) (types : List ℕ) → IsSeen self.old o types →
+            Gives (λ h head. h ≡ head_in head) (S.left src.old) (S.left src.new) (head_at o types) result }
+        ensures seen { IfOk result (λ h. (o : Opening) (types : List ℕ) → IsSeen self.old o types → IsSeen self.new o (types ++ h.kind ∷ [])) }
+        ensures len { IfOk result (λ h. h.len ≤ 2 ^ 27) }
+        ensures allowed { IfOk result (λ h. fault_of_length h.kind h.len ≡ None) }
+        ensures count { OnOk result ((self.new.records ≡ self.old.records + 1) × (self.old.records < 2 ^ 28)) }
+        ensures later { S.faults src.old ≤ S.faults src.new }
+        ensures cause { IsErrOf result ReadFault → Rose (S.faults src.old) (S.faults src.new) }
     {
-        match kind {
-            STATIC_DATA_END => !self.has_static,
-            PAGE_DATA | HVM_CONTEXT => self.has_static && !self.has_context,
-            END => self.has_context,
-            _ => false,
+        let mut bytes = [0; 8];
+        take_part(src, &mut bytes)?;
+        let head = RecordHead::decode(&bytes);
+        match self.judge(head) {
+            Ok(()) => Ok(head),
+            Err(cause) => Err(Stop::Refused(cause)),
         }
-    }
-}
-
-/// Whether a body of this type may have this length.
-fn allows_length(kind: u32, len: u32) -> bool
-    ensures { result ≡ allows kind len }
-{
-    match kind {
-        HVM_CONTEXT => true,
-        PAGE_DATA => len >= 8,
-        _ => len == 0,
-    }
-}
-
-/// What is wrong with a record's head.
-#[tactic(auto, unfolding(crate::specs::Judging::fault_of_head))]
-fn head_fault(seen: &Seen, head: &[u8; 8]) -> Option<Cause>
-    ensures fault { (types : List ℕ) → IsSeen seen.now types → result ≡ fault_of_head types head.now }
-    ensures limits { IfNone result ((le32 head.now 4 ≤ 2 ^ 27) × (seen.now.records < 2 ^ 28)) }
-{
-    let kind = u32_le(head, 0);
-    let len = u32_le(head, 4);
-    let cause = Some(Cause::NotBuilt(kind as u64));
-    if len > MAX_BODY {
-        return cause;
-    }
-    if !seen.allows(kind) {
-        return cause;
-    }
-    if !allows_length(kind, len) {
-        return cause;
-    }
-    if seen.records >= MAX_RECORDS {
-        return cause;
-    }
-    None
-}
-
-/// Takes a record's head.
-pub(crate) fn read_head<S: Source>(src: &mut S, seen: &Seen, head: &mut [u8; 8]) -> Result<(), Stop>
-    ensures read { (types : List ℕ) → IsSeen seen.now types →
-        Gives (λ _ part. part ≡ head.new) (S.left src.old) (S.left src.new) (head_at types) result }
-    ensures limits { OnOk result ((le32 head.new 4 ≤ 2 ^ 27) × (seen.now.records < 2 ^ 28)) }
-    ensures later { S.faults src.old ≤ S.faults src.new }
-    ensures cause { IsErrOf result ReadFault → Rose (S.faults src.old) (S.faults src.new) }
-{
-    take_part(src, head)?;
-    match head_fault(seen, head) {
-        None => Ok(()),
-        Some(cause) => Err(Stop::Refused(cause)),
     }
 }
