@@ -3,3 +3,4 @@ pub mod KeyedMaps
 pub mod PartMaps
 pub mod FrameMaps
 pub mod Cursor
+pub mod PartCursor

@@ -1,11 +1,13 @@
+ghost use Rattle.std.specs.declared.ops.Bound.TheVariants.{Included, Excluded};
 ghost use Rattle.std.specs.Prelude.{◌≡◌, ◌==◌, ℕ, ◌+◌, ◌≤◌, length, not, OnOk, OnErr, IfSome, IfNone, IsSome, None, option_and_then};
 ghost use Rattle.std.specs.declared.cmp.Ordering.TheVariants.{Less};
-ghost use Rattle.std.specs.Option.{option_copied};
+ghost use Rattle.std.specs.Option.{option_copied, option_map};
 ghost use Rattle.std.specs.BTreeMap as tree;
 ghost use Rattle.std.specs.FinMap as maps;
 ghost use Rattle.mig_pagestore.specs.Pages.{spliced};
 ghost use Rattle.mig_guest.specs.declared.part_key.PartKey.{PartKey};
 ghost use Rattle.mig_guest.specs.Order.{part_cmp, IsAbove};
+ghost use Rattle.mig_guest.specs.Parts.{NextPart};
 
 use crate::part_key::PartKey;
 use mig_bytes::Memory;
@@ -66,6 +68,21 @@ fn least_above(parts: &BTreeMap<PartKey, Vec<u8>>, after: PartKey) -> Option<Par
     }
 }
 
+// Where the parts of a code begin: behind this key, or at the least key of the code.
+fn start_of(code: u32, after: Option<PartKey>) -> Bound<PartKey>
+    ensures behind { IfSome after (λ k. result ≡ Excluded k) }
+    ensures least { IfNone after (result ≡ Included (record { code = code; key1 = 0; key2 = 0 })) }
+{
+    match after {
+        Some(key) => Bound::Excluded(key),
+        None => Bound::Included(PartKey {
+            code,
+            key1: 0,
+            key2: 0,
+        }),
+    }
+}
+
 impl Parts {
     pub(crate) fn new(alloc: Global) -> Parts
         ensures { result ≡ maps.empty }
@@ -118,6 +135,22 @@ impl Parts {
         }
     }
 
+    pub(crate) fn next_of_code(&self, code: u32, after: Option<PartKey>) -> Option<(PartKey, &[u8])>
+        requires { IfSome after (λ k. k.code ≡ code) }
+        ensures { NextPart code after (maps.entries self.now) (option_map (λ e. (e.0, e.1.now)) result) }
+    {
+        let start = start_of(code, after);
+        match self.parts.range((start, Bound::Unbounded)).next() {
+            Some((key, bytes)) => {
+                if key.code != code {
+                    return None;
+                }
+                Some((*key, bytes.as_slice()))
+            }
+            None => None,
+        }
+    }
+
     pub(crate) fn clear_code(&mut self, code: u32)
         ensures { self.new ≡ maps.retain_keys self.old (λ k. not (k.code == code)) }
     {
@@ -127,5 +160,37 @@ impl Parts {
                 ensures kept { value.new ≡ value.old }
             { key.code != code },
         );
+    }
+}
+
+#[cfg(test)]
+mod tests {
+    use crate::{Guest, PartKey};
+    use mig_headers::Kind;
+
+    fn key(code: u32, key1: u32) -> PartKey
+        ensures { result.code ≡ code }
+    {
+        PartKey {
+            code,
+            key1,
+            key2: 0,
+        }
+    }
+
+    #[test]
+    fn parts_of_a_code(rt: HostRuntime) {
+        let mut guest = Guest::new(rt.alloc(), Kind::Hvm);
+        for (code, index) in [(10, 7), (9, 0), (10, 3), (17, 0)] {
+            assert!(rt;
+                guest
+                    .set_part(key(code, index), &index.to_le_bytes())
+                    .is_ok()
+            );
+        }
+        assert!(rt; guest.next_of_code(10, None) == Some((key(10, 3), &[3, 0, 0, 0])));
+        assert!(rt; guest.next_of_code(10, Some(key(10, 3))) == Some((key(10, 7), &[7, 0, 0, 0])));
+        assert!(rt; guest.next_of_code(10, Some(key(10, 7))) == None);
+        assert!(rt; guest.next_of_code(8, None) == None);
     }
 }
