@@ -1,8 +1,9 @@
-ghost use Rattle.std.specs.Prelude.{◌≡◌, ◌==◌, ℕ, ◌+◌, ◌<◌, ◌≤◌, ◌^◌, length, not, OnOk, OnErr, IfSome, IfNone, IsSome, None, is_some, option_and_then};
+ghost use Rattle.std.specs.Prelude.{◌≡◌, ◌==◌, ℕ, ◌+◌, ◌<◌, ◌≤◌, ◌^◌, length, not, IsOk, OnOk, OnErr, IfSome, IfNone, IsSome, None, is_some, option_and_then};
 ghost use Rattle.std.specs.declared.cmp.Ordering.TheVariants.{Less};
 ghost use Rattle.std.specs.Option.{option_copied, option_map};
 ghost use Rattle.std.specs.FinMap as maps;
 ghost use Rattle.mig_pagetypes.specs.PageTypes.{type_has_data};
+ghost use Rattle.mig_pagetypes.specs.declared.page_type.PageType.TheVariants.{Xtab};
 ghost use Rattle.mig_pagestore.specs.Pages.{spliced};
 ghost use Rattle.mig_guest.specs.declared.part_key.PartKey.{PartKey};
 ghost use Rattle.mig_guest.specs.Order.{part_cmp, IsAbove};
@@ -80,6 +81,7 @@ impl Guest {
         requires paged { is_some page ≡ type_has_data kind }
         ensures ok { OnOk result (self.new ≡ record self.old { frames = framed self.old.frames pfn kind (option_copied page.entry) }) }
         ensures err { OnErr result (self.new ≡ self.old) }
+        ensures taken { kind ≡ Xtab → IsOk result }
     {
         self.frames.set(pfn, kind, page)
     }
