@@ -1,9 +1,9 @@
 -- The headers without a fault are those that are spelled, and what is written of a header is spelled so.
-use Rattle.std.proofs.Common.{◌≡◌, ◌↔◌, ◌⊎◌, ℕ, ◌+◌, ◌-◌, ◌%◌, ◌^◌, ◌<◌, ◌≤◌, List, [], ◌∷◌, ◌++◌, length, drop, take, replicate, Option, Some, None, Result, Ok, Err, Bool, true, false, not, ◌&&◌, ◌==◌, if◌then◌else◌, refl, sym, ap, ◌∙◌, inl, inr, arith, length-append, subst}
+use Rattle.std.proofs.Common.{◌≡◌, ◌↔◌, ◌⊎◌, ℕ, ◌+◌, ◌%◌, ◌^◌, ◌<◌, List, [], ◌∷◌, ◌++◌, length, drop, take, None, Result, Ok, not, ◌&&◌, ◌==◌, refl, sym, ap, ◌∙◌, inl, inr, arith, length-append, subst}
 use Rattle.std.proofs.lemmas.Bool.{eqb-true}
 use Rattle.std.proofs.Math.Seq.{drop-append-add}
 use Rattle.byteorder.specs.Endian.{little_bytes, big_bytes}
-use Rattle.byteorder.specs.Numbers.{big_from-append, big_number-reads_back, little_number-reads_back}
+use Rattle.byteorder.specs.Numbers.{big_from-append, little_number-reads_back}
 use Rattle.mig_bytes.specs.Fields.{le16, le32, be16, be32, be64}
 use Rattle.mig_headers.specs.declared.kind.Kind.{Kind}
 use Rattle.mig_headers.specs.declared.kind.Kind.TheVariants.{Pv, Hvm}
@@ -12,9 +12,9 @@ use Rattle.mig_headers.specs.declared.fault.Cause.TheVariants.{NotStream, BadId,
 use Rattle.mig_headers.specs.declared.header.ImageHeader.{ImageHeader}
 use Rattle.mig_headers.specs.declared.header.DomainHeader.{DomainHeader}
 use Rattle.mig_headers.specs.Rows.{first_fault}
-use Rattle.mig_headers.specs.Headers.{marker, image_id, page_shift, kind_number, kind_of_number, fault_of_marker, fault_of_image, fault_of_domain, unless_faulty, behind_marker, image_header_of, domain_header_of, IsImageHeader, IsDomainHeader}
+use Rattle.mig_headers.specs.Headers.{marker, image_id, page_shift, kind_number, kind_of_number, unless_faulty, behind_marker, image_header_of, domain_header_of, IsImageHeader, IsDomainHeader}
 use Rattle.mig_headers.specs.HeaderValues.{image_header_in, domain_header_in}
-use Rattle.mig_headers.specs.HeaderLaws.{ImageHeaderIsSpelled, DomainHeaderIsSpelled, ImageHeaderIsReadBack, DomainHeaderIsReadBack, ImageHeadersAreReadBack, DomainHeadersAreReadBack}
+use Rattle.mig_headers.specs.HeaderLaws.{ImageHeaderIsSpelled, DomainHeaderIsSpelled, ImageHeadersAreReadBack, DomainHeadersAreReadBack}
 
 marker_stands : (n : ℕ) → first_fault ((not (n == marker), NotStream) ∷ []) ≡ None → n ≡ marker
 marker_stands n h = grind (arith, eqb-true)
@@ -73,31 +73,34 @@ half_of first rest n k size is = rw (behind first rest n k size is) refl
 pub image_is_spelled : ImageHeaderIsSpelled
 unfolding image_of
 image_is_spelled first rest version size more = (
-    (λ (m, r).
-        let s = image_stands (be32 rest 0) (be32 rest 4) (be16 rest 8) version r in
-        record {
-          size = omega (arith, length-append first rest);
-          all_ones = marker_of first rest size ∙ marker_stands (be64 first 0) m;
-          id = word_of first rest 0 8 size refl ∙ s.0;
-          names_version = word_of first rest 4 12 size refl ∙ s.1;
-          known_version = s.2;
-          little_endian = ap (λ n. n % 2) (half_of first rest 8 16 size refl) ∙ s.3;
-        }),
-    (λ s. (
-        marker_passes (be64 first 0) (sym (marker_of first rest size) ∙ s.all_ones),
-        image_passes (be32 rest 0) (be32 rest 4) (be16 rest 8) version
+  (λ (m, r).
+      let s = image_stands (be32 rest 0) (be32 rest 4) (be16 rest 8) version r in
+      record {
+        size = omega (arith, length-append first rest);
+        all_ones = marker_of first rest size ∙ marker_stands (be64 first 0) m;
+        id = word_of first rest 0 8 size refl ∙ s.0;
+        names_version = word_of first rest 4 12 size refl ∙ s.1;
+        known_version = s.2;
+        little_endian = ap (λ n. n % 2) (half_of first rest 8 16 size refl) ∙ s.3;
+      }),
+  (λ s. (
+    marker_passes (be64 first 0) (sym (marker_of first rest size) ∙ s.all_ones),
+    image_passes (be32 rest 0) (be32 rest 4) (be16 rest 8) version
         (sym (word_of first rest 0 8 size refl) ∙ s.id)
         (sym (word_of first rest 4 12 size refl) ∙ s.names_version)
         s.known_version
-        (ap (λ n. n % 2) (sym (half_of first rest 8 16 size refl)) ∙ s.little_endian))))
+        (ap (λ n. n % 2) (sym (half_of first rest 8 16 size refl)) ∙ s.little_endian),
+  )),
+)
 
 pub domain_is_spelled : DomainHeaderIsSpelled
 unfolding domain_of
 domain_is_spelled bytes kind major minor size = (
-    (λ r.
-        let s = domain_stands (le32 bytes 0) (le16 bytes 4) (le32 bytes 8) (le32 bytes 12) kind major minor r in
-        record { size = size; names_kind = s.0; shift = s.1; names_major = s.2; names_minor = s.3 }),
-    (λ s. domain_passes (le32 bytes 0) (le16 bytes 4) (le32 bytes 8) (le32 bytes 12) kind major minor s.names_kind s.shift s.names_major s.names_minor))
+  (λ r.
+      let s = domain_stands (le32 bytes 0) (le16 bytes 4) (le32 bytes 8) (le32 bytes 12) kind major minor r in
+      record { size = size; names_kind = s.0; shift = s.1; names_major = s.2; names_minor = s.3 }),
+  (λ s. domain_passes (le32 bytes 0) (le16 bytes 4) (le32 bytes 8) (le32 bytes 12) kind major minor s.names_kind s.shift s.names_major s.names_minor),
+)
 
 -- the bytes that are written of an image header
 written_image : (version : ℕ) → (version ≡ 2) ⊎ (version ≡ 3) → IsImageHeader (image_header_of version) version
@@ -114,7 +117,7 @@ image_is_read_back version known =
     let spelled = written_image version known in
     let parts = image_parts version in
     let read = (image_is_spelled (take 8 (image_header_of version)) (drop 8 (image_header_of version)) version parts.0 parts.1).1
-      (subst (λ bytes. IsImageHeader bytes version) (sym parts.2) spelled) in
+    (subst (λ bytes. IsImageHeader bytes version) (sym parts.2) spelled) in
     record { spelled = spelled; marker = read.0; rest = read.1 }
 
 written_domain : (kind : Kind) (major minor : ℕ) → major < 2 ^ 32 → minor < 2 ^ 32 → IsDomainHeader (domain_header_of kind major minor) kind major minor

@@ -1,2 +1,3 @@
 pub mod HeaderLaws
 pub mod RecordNumbers
+pub mod Writing

@@ -5,18 +5,15 @@ ghost use Rattle.mig_headers.specs.RecordTypes.{NumbersAreInverse};
 pub fn image_header_laws()
     ensures spelled { ImageHeaderIsSpelled }
     ensures read_back { ImageHeadersAreReadBack }
-{
-}
+{}
 
 /// Where a domain header has no fault, and what of a header is written is read again.
 pub fn domain_header_laws()
     ensures spelled { DomainHeaderIsSpelled }
     ensures read_back { DomainHeadersAreReadBack }
-{
-}
+{}
 
 /// A record type's number is that of no other type, and leads back to it.
 pub fn record_number_law()
     ensures { NumbersAreInverse }
-{
-}
+{}

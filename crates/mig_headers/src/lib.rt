@@ -1,4 +1,12 @@
-//! The headers of a stream; every place and cause of a refusal, with its printed text.
+//! The headers of a stream, its table of record types, and every place and cause of a refusal with its printed text.
+//!
+//! Responsible for: which bytes are the image header and the domain header of a libxc migration stream, which header
+//! a writer makes, which record types there are with the kinds of guest and the body lengths that they may have, and
+//! how a refusal is printed. It takes no memory, reads from no source, and knows no record's body.
+//!
+//! What the layers above rely on: each part of a header is answered by its first fault in the order of the causes, and
+//! by none exactly where its bytes spell such a header; what a header is written as is read again; a record type's
+//! row decides every question about it; a text that is printed is exactly that of its place or cause.
 #![tactic(auto)]
 
 mod fault;
@@ -6,9 +14,13 @@ mod header;
 mod kind;
 mod laws;
 mod record_type;
+#[cfg(test)]
+mod tests;
+mod text;
 
 pub use fault::{Cause, ContextFault, Place};
 pub use header::{DomainHeader, ImageHeader};
 pub use kind::Kind;
 pub use laws::{domain_header_laws, image_header_laws, record_number_law};
 pub use record_type::{RecordType, is_optional};
+pub use text::{put_cause, put_place};

@@ -5,7 +5,9 @@ use crate::Kind;
 
 /// The bytes of a vCPU's basic context, of an MSR and of a CPUID leaf.
 const VCPU_CONTEXT: u32 = 5168;
+
 const MSR_ENTRY: u32 = 16;
+
 const CPUID_LEAF: u32 = 24;
 
 /// The most entries of a policy.

@@ -1,0 +1,7 @@
+use Rattle.mig_headers.proofs.text.put_place.Goals as goal
+
+pub returns-in-ImageHeader-clause-bytes : goal.returns-in-ImageHeader-clause-bytes
+returns-in-ImageHeader-clause-bytes g c = rw c.in-ImageHeader.is c.put_all.ensures.bytes
+
+pub returns-in-DomainHeader-clause-bytes : goal.returns-in-DomainHeader-clause-bytes
+returns-in-DomainHeader-clause-bytes g c = rw c.in-DomainHeader.is c.put_all-in-DomainHeader.ensures.bytes

@@ -1,0 +1,128 @@
+-- The printed texts of places and causes: number, name and arguments, parted by one space.
+use Rattle.std.specs.Prelude.{ℕ, List, [], ◌∷◌, ◌++◌, codes, decimal}
+use Rattle.mig_headers.specs.declared.fault.Place.{Place}
+use Rattle.mig_headers.specs.declared.fault.Place.TheVariants.{ImageHeader, DomainHeader, Record}
+use Rattle.mig_headers.specs.declared.fault.ContextFault.{ContextFault}
+use Rattle.mig_headers.specs.declared.fault.ContextFault.TheVariants.{NoHeader, HeaderSize, ShortEntry, NoEnd}
+use Rattle.mig_headers.specs.declared.fault.Cause.{Cause}
+use Rattle.mig_headers.specs.declared.fault.Cause.TheVariants.{NotBuilt, Truncated, NotStream, BadId, BadVersion, BigEndian, BadKind, BadPageShift, BodyTooLong, Unsupported, UnknownMandatory, WrongKind, OutOfOrder, BadLength, NoPages, BadPageType, PfnOutside, Superpage, EntryOutside, Pv32, BadPvInfo, P2mStart, P2mRange, VcpuId, GdtEnts, BadContext, ParamIndex, Missing, P2mFrame, TargetAbsent, VcpuFrame, TooManyRecords, TooManyFrames}
+
+-- the number of a cause
+abbrev pub number_of : Cause → ℕ
+number_of (NotBuilt _) = 0
+number_of Truncated = 1
+number_of NotStream = 2
+number_of BadId = 3
+number_of (BadVersion _) = 4
+number_of BigEndian = 5
+number_of (BadKind _) = 6
+number_of (BadPageShift _) = 7
+number_of (BodyTooLong _) = 8
+number_of (Unsupported _) = 9
+number_of (UnknownMandatory _) = 10
+number_of (WrongKind _) = 11
+number_of (OutOfOrder _) = 12
+number_of (BadLength _) = 13
+number_of NoPages = 14
+number_of (BadPageType _ _) = 15
+number_of (PfnOutside _ _) = 16
+number_of (Superpage _ _) = 17
+number_of (EntryOutside _ _ _) = 18
+number_of Pv32 = 19
+number_of BadPvInfo = 20
+number_of (P2mStart _) = 21
+number_of (P2mRange _) = 22
+number_of (VcpuId _) = 23
+number_of (GdtEnts _) = 24
+number_of (BadContext _) = 25
+number_of (ParamIndex _) = 26
+number_of (Missing _) = 27
+number_of (P2mFrame _) = 28
+number_of (TargetAbsent _ _) = 29
+number_of (VcpuFrame _ _) = 30
+number_of TooManyRecords = 31
+number_of TooManyFrames = 32
+
+-- the name of a cause
+abbrev pub name_of : Cause → List ℕ
+name_of (NotBuilt _) = codes "NotBuilt"
+name_of Truncated = codes "Truncated"
+name_of NotStream = codes "NotStream"
+name_of BadId = codes "BadId"
+name_of (BadVersion _) = codes "BadVersion"
+name_of BigEndian = codes "BigEndian"
+name_of (BadKind _) = codes "BadKind"
+name_of (BadPageShift _) = codes "BadPageShift"
+name_of (BodyTooLong _) = codes "BodyTooLong"
+name_of (Unsupported _) = codes "Unsupported"
+name_of (UnknownMandatory _) = codes "UnknownMandatory"
+name_of (WrongKind _) = codes "WrongKind"
+name_of (OutOfOrder _) = codes "OutOfOrder"
+name_of (BadLength _) = codes "BadLength"
+name_of NoPages = codes "NoPages"
+name_of (BadPageType _ _) = codes "BadPageType"
+name_of (PfnOutside _ _) = codes "PfnOutside"
+name_of (Superpage _ _) = codes "Superpage"
+name_of (EntryOutside _ _ _) = codes "EntryOutside"
+name_of Pv32 = codes "Pv32"
+name_of BadPvInfo = codes "BadPvInfo"
+name_of (P2mStart _) = codes "P2mStart"
+name_of (P2mRange _) = codes "P2mRange"
+name_of (VcpuId _) = codes "VcpuId"
+name_of (GdtEnts _) = codes "GdtEnts"
+name_of (BadContext _) = codes "BadContext"
+name_of (ParamIndex _) = codes "ParamIndex"
+name_of (Missing _) = codes "Missing"
+name_of (P2mFrame _) = codes "P2mFrame"
+name_of (TargetAbsent _ _) = codes "TargetAbsent"
+name_of (VcpuFrame _ _) = codes "VcpuFrame"
+name_of TooManyRecords = codes "TooManyRecords"
+name_of TooManyFrames = codes "TooManyFrames"
+
+-- the name and the number of what is wrong with a chain of HVM context entries
+abbrev pub words_of_context : ContextFault → List (List ℕ)
+words_of_context NoHeader = codes "NoHeader" ∷ []
+words_of_context (HeaderSize len) = codes "HeaderSize" ∷ decimal len ∷ []
+words_of_context (ShortEntry offset) = codes "ShortEntry" ∷ decimal offset ∷ []
+words_of_context NoEnd = codes "NoEnd" ∷ []
+
+-- the arguments of a cause
+abbrev pub arguments_of : Cause → List (List ℕ)
+arguments_of (NotBuilt kind) = decimal kind ∷ []
+arguments_of (BadVersion version) = decimal version ∷ []
+arguments_of (BadKind kind) = decimal kind ∷ []
+arguments_of (BadPageShift shift) = decimal shift ∷ []
+arguments_of (BodyTooLong len) = decimal len ∷ []
+arguments_of (Unsupported kind) = decimal kind ∷ []
+arguments_of (UnknownMandatory kind) = decimal kind ∷ []
+arguments_of (WrongKind kind) = decimal kind ∷ []
+arguments_of (OutOfOrder rule) = decimal rule ∷ []
+arguments_of (BadLength len) = decimal len ∷ []
+arguments_of (BadPageType entry nibble) = decimal entry ∷ decimal nibble ∷ []
+arguments_of (PfnOutside entry pfn) = decimal entry ∷ decimal pfn ∷ []
+arguments_of (Superpage entry slot) = decimal entry ∷ decimal slot ∷ []
+arguments_of (EntryOutside entry slot pfn) = decimal entry ∷ decimal slot ∷ decimal pfn ∷ []
+arguments_of (P2mStart first) = decimal first ∷ []
+arguments_of (P2mRange last) = decimal last ∷ []
+arguments_of (VcpuId id) = decimal id ∷ []
+arguments_of (GdtEnts count) = decimal count ∷ []
+arguments_of (BadContext fault) = words_of_context fault
+arguments_of (ParamIndex index) = decimal index ∷ []
+arguments_of (Missing kind) = decimal kind ∷ []
+arguments_of (P2mFrame index) = decimal index ∷ []
+arguments_of (TargetAbsent pfn slot) = decimal pfn ∷ decimal slot ∷ []
+arguments_of (VcpuFrame id field) = decimal id ∷ decimal field ∷ []
+arguments_of _ = []
+
+-- each word after a space
+abbrev pub spaced : List (List ℕ) → List ℕ
+spaced [] = []
+spaced (word ∷ words) = (codes " " ++ word) ++ spaced words
+
+abbrev pub text_of_cause : Cause → List ℕ
+text_of_cause cause = decimal (number_of cause) ++ spaced (name_of cause ∷ arguments_of cause)
+
+abbrev pub text_of_place : Place → List ℕ
+text_of_place ImageHeader = codes "ImageHeader"
+text_of_place DomainHeader = codes "DomainHeader"
+text_of_place (Record number) = codes "Record " ++ decimal number

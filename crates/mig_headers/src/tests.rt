@@ -1,0 +1,299 @@
+use super::*;
+use mig_bytes::MemSink;
+use std::alloc::Global;
+use std::process::Abort;
+use std::test::Fail;
+
+const HVM_HEADER: [u8; 16] = [2, 0, 0, 0, 12, 0, 0, 0, 0, 0, 0, 0, 1, 0, 0, 0];
+
+#[test]
+fn finds_the_marker(rt: HostRuntime) {
+    let ones = [0xff; 8];
+    assert_eq!(rt; ImageHeader::marker_fault(&ones), None);
+    let mut other = ones;
+    other[7] = 0xfe;
+    assert_eq!(rt; ImageHeader::marker_fault(&other), Some(Cause::NotStream));
+    other = ones;
+    other[0] = 0x7f;
+    assert_eq!(rt; ImageHeader::marker_fault(&other), Some(Cause::NotStream));
+}
+
+fn image(rt: &impl Abort, rest: [u8; 16], want: Result<ImageHeader, Cause>) {
+    assert_eq!(rt; ImageHeader::decode(&rest), want);
+}
+
+#[test]
+fn reads_image_headers(rt: HostRuntime) {
+    let three = ImageHeader { version: 3 };
+    let two = ImageHeader { version: 2 };
+    image(
+        &rt,
+        [0x58, 0x45, 0x4e, 0x46, 0, 0, 0, 3, 0, 0, 0, 0, 0, 0, 0, 0],
+        Ok(three),
+    );
+    image(
+        &rt,
+        [
+            0x58, 0x45, 0x4e, 0x46, 0, 0, 0, 2, 0xff, 0xfe, 1, 2, 3, 4, 5, 6,
+        ],
+        Ok(two),
+    );
+    image(
+        &rt,
+        [0x58, 0x45, 0x4e, 0x47, 0, 0, 0, 9, 0, 1, 0, 0, 0, 0, 0, 0],
+        Err(Cause::BadId),
+    );
+    image(
+        &rt,
+        [0x58, 0x45, 0x4e, 0x46, 0, 0, 0, 4, 0, 1, 0, 0, 0, 0, 0, 0],
+        Err(Cause::BadVersion(4)),
+    );
+    image(
+        &rt,
+        [0x58, 0x45, 0x4e, 0x46, 3, 0, 0, 0, 0, 0, 0, 0, 0, 0, 0, 0],
+        Err(Cause::BadVersion(0x300_0000)),
+    );
+    image(
+        &rt,
+        [0x58, 0x45, 0x4e, 0x46, 0, 0, 0, 3, 0, 1, 0, 0, 0, 0, 0, 0],
+        Err(Cause::BigEndian),
+    );
+}
+
+fn domain(rt: &impl Abort, bytes: [u8; 16], want: Result<DomainHeader, Cause>) {
+    assert_eq!(rt; DomainHeader::decode(&bytes), want);
+}
+
+#[test]
+fn reads_domain_headers(rt: HostRuntime) {
+    let hvm = DomainHeader {
+        kind: Kind::Hvm,
+        major: 0,
+        minor: 1,
+    };
+    let pv = DomainHeader {
+        kind: Kind::Pv,
+        major: 4,
+        minor: 0x1100,
+    };
+    domain(&rt, HVM_HEADER, Ok(hvm));
+    domain(
+        &rt,
+        [1, 0, 0, 0, 12, 0, 7, 7, 4, 0, 0, 0, 0, 0x11, 0, 0],
+        Ok(pv),
+    );
+    domain(
+        &rt,
+        [3, 0, 0, 0, 13, 0, 0, 0, 0, 0, 0, 0, 1, 0, 0, 0],
+        Err(Cause::BadKind(3)),
+    );
+    domain(
+        &rt,
+        [0, 0, 0, 0, 12, 0, 0, 0, 0, 0, 0, 0, 1, 0, 0, 0],
+        Err(Cause::BadKind(0)),
+    );
+    domain(
+        &rt,
+        [1, 0, 0, 0, 12, 1, 0, 0, 0, 0, 0, 0, 1, 0, 0, 0],
+        Err(Cause::BadPageShift(268)),
+    );
+}
+
+#[test]
+fn writes_headers(rt: HostRuntime) {
+    let image = ImageHeader { version: 3 }.encode();
+    assert_eq!(rt;
+        image.as_slice(),
+        b"\xff\xff\xff\xff\xff\xff\xff\xffXENF\0\0\0\x03\0\0\0\0\0\0\0\0".as_slice()
+    );
+    let domain = DomainHeader {
+        kind: Kind::Hvm,
+        major: 0,
+        minor: 1,
+    };
+    assert_eq!(rt; domain.encode().as_slice(), HVM_HEADER.as_slice());
+    image_header_laws();
+    domain_header_laws();
+    record_number_law();
+}
+
+// Whether the type of this number is supported, in which kinds of guest it stands, a length that it may have, and one
+// that it may not have, if there is one.
+fn record(rt: &impl Abort, number: u32, supported: bool, pv: bool, hvm: bool, good: u32, bad: u32) {
+    let Some(kind) = RecordType::from_number(number) else {
+        assert!(rt; false, "no record type");
+        return;
+    };
+    assert_eq!(rt; kind.number(), number);
+    assert_eq!(rt; kind.is_supported(), supported, "{number}");
+    assert_eq!(rt; kind.is_of(Kind::Pv), pv, "{number}");
+    assert_eq!(rt; kind.is_of(Kind::Hvm), hvm, "{number}");
+    assert!(rt; kind.allows_length(good), "{number}");
+    if bad != u32::MAX {
+        assert!(rt; !kind.allows_length(bad), "{number}");
+    }
+}
+
+#[test]
+fn knows_record_types(rt: HostRuntime) {
+    record(&rt, 0x0, true, true, true, 0, 8);
+    record(&rt, 0x1, true, true, true, 8, 7);
+    record(&rt, 0x2, true, true, false, 8, 9);
+    record(&rt, 0x3, true, true, false, 16, 0);
+    record(&rt, 0x4, true, true, false, 5176, 5168);
+    record(&rt, 0x4, true, true, false, 8, 0);
+    record(&rt, 0x5, true, true, false, 8, 7);
+    record(&rt, 0x6, true, true, false, 9, 7);
+    record(&rt, 0x7, true, true, false, 4096, 4095);
+    record(&rt, 0x8, true, true, true, 24, 20);
+    record(&rt, 0x9, true, false, true, 0, u32::MAX);
+    record(&rt, 0xA, true, false, true, 8, 4);
+    record(&rt, 0xB, false, true, true, 0, u32::MAX);
+    record(&rt, 0xC, true, true, false, 8, 16);
+    record(&rt, 0xC, true, true, false, 24, 0);
+    record(&rt, 0xD, false, true, true, 0, u32::MAX);
+    record(&rt, 0xE, false, true, true, 0, u32::MAX);
+    record(&rt, 0xF, false, true, true, 0, u32::MAX);
+    record(&rt, 0x10, true, true, true, 0, 1);
+    record(&rt, 0x11, true, true, true, 1_572_864, 1_572_888);
+    record(&rt, 0x11, true, true, true, 0, 16);
+    record(&rt, 0x12, true, true, true, 1_048_576, 1_048_592);
+    record(&rt, 0x12, true, true, true, 16, 24);
+    assert_eq!(rt; RecordType::from_number(0x13), None);
+    assert_eq!(rt; RecordType::from_number(0x8000_0001), None);
+    assert!(rt; is_optional(0x8000_0000));
+    assert!(rt; is_optional(u32::MAX));
+    assert!(rt; !is_optional(0x7fff_ffff));
+}
+
+fn place(rt: &impl Abort, alloc: Global, place: Place, want: &str) {
+    let mut sink = MemSink::new(alloc, Vec::new(alloc));
+    assert!(rt; put_place(&mut sink, place).is_ok());
+    assert_eq!(rt; sink.bytes(), want.as_bytes());
+}
+
+fn cause(rt: &impl Abort, alloc: Global, cause: Cause, want: &str) {
+    let mut sink = MemSink::new(alloc, Vec::new(alloc));
+    assert!(rt; put_cause(&mut sink, cause).is_ok());
+    assert_eq!(rt; sink.bytes(), want.as_bytes());
+}
+
+#[test]
+fn prints_places(rt: HostRuntime) {
+    place(&rt, rt.alloc(), Place::ImageHeader, "ImageHeader");
+    place(&rt, rt.alloc(), Place::DomainHeader, "DomainHeader");
+    place(&rt, rt.alloc(), Place::Record(3), "Record 3");
+}
+
+#[test]
+fn prints_causes(rt: HostRuntime) {
+    assert_eq!(rt; Cause::EntryOutside(1, 2, 99).number(), 18);
+    assert_eq!(rt; Cause::EntryOutside(1, 2, 99).name(), "EntryOutside");
+    let alloc = rt.alloc();
+    cause(
+        &rt,
+        alloc,
+        Cause::NotBuilt(2_147_483_649),
+        "0 NotBuilt 2147483649",
+    );
+    cause(&rt, alloc, Cause::Truncated, "1 Truncated");
+    cause(&rt, alloc, Cause::NotStream, "2 NotStream");
+    cause(&rt, alloc, Cause::BadId, "3 BadId");
+    cause(&rt, alloc, Cause::BadVersion(4), "4 BadVersion 4");
+    cause(&rt, alloc, Cause::BigEndian, "5 BigEndian");
+    cause(&rt, alloc, Cause::BadKind(3), "6 BadKind 3");
+    cause(&rt, alloc, Cause::BadPageShift(13), "7 BadPageShift 13");
+    cause(
+        &rt,
+        alloc,
+        Cause::BodyTooLong(134_217_729),
+        "8 BodyTooLong 134217729",
+    );
+    cause(&rt, alloc, Cause::Unsupported(11), "9 Unsupported 11");
+    cause(
+        &rt,
+        alloc,
+        Cause::UnknownMandatory(19),
+        "10 UnknownMandatory 19",
+    );
+    cause(&rt, alloc, Cause::WrongKind(2), "11 WrongKind 2");
+    cause(&rt, alloc, Cause::OutOfOrder(7), "12 OutOfOrder 7");
+    cause(&rt, alloc, Cause::BadLength(9), "13 BadLength 9");
+    cause(&rt, alloc, Cause::NoPages, "14 NoPages");
+    cause(&rt, alloc, Cause::BadPageType(1, 5), "15 BadPageType 1 5");
+    cause(
+        &rt,
+        alloc,
+        Cause::PfnOutside(0, 268_435_456),
+        "16 PfnOutside 0 268435456",
+    );
+}
+
+#[test]
+fn prints_more_causes(rt: HostRuntime) {
+    let alloc = rt.alloc();
+    cause(&rt, alloc, Cause::Superpage(2, 511), "17 Superpage 2 511");
+    cause(
+        &rt,
+        alloc,
+        Cause::EntryOutside(1, 2, 99),
+        "18 EntryOutside 1 2 99",
+    );
+    cause(&rt, alloc, Cause::Pv32, "19 Pv32");
+    cause(&rt, alloc, Cause::BadPvInfo, "20 BadPvInfo");
+    cause(&rt, alloc, Cause::P2mStart(1), "21 P2mStart 1");
+    cause(
+        &rt,
+        alloc,
+        Cause::P2mRange(268_435_456),
+        "22 P2mRange 268435456",
+    );
+    cause(&rt, alloc, Cause::VcpuId(4096), "23 VcpuId 4096");
+    cause(
+        &rt,
+        alloc,
+        Cause::GdtEnts(u64::MAX),
+        "24 GdtEnts 18446744073709551615",
+    );
+    cause(
+        &rt,
+        alloc,
+        Cause::BadContext(ContextFault::NoHeader),
+        "25 BadContext NoHeader",
+    );
+    cause(
+        &rt,
+        alloc,
+        Cause::BadContext(ContextFault::HeaderSize(20)),
+        "25 BadContext HeaderSize 20",
+    );
+    cause(
+        &rt,
+        alloc,
+        Cause::BadContext(ContextFault::ShortEntry(32)),
+        "25 BadContext ShortEntry 32",
+    );
+    cause(
+        &rt,
+        alloc,
+        Cause::BadContext(ContextFault::NoEnd),
+        "25 BadContext NoEnd",
+    );
+    cause(&rt, alloc, Cause::ParamIndex(4096), "26 ParamIndex 4096");
+    cause(&rt, alloc, Cause::Missing(9), "27 Missing 9");
+    cause(&rt, alloc, Cause::P2mFrame(0), "28 P2mFrame 0");
+    cause(&rt, alloc, Cause::TargetAbsent(4, 1), "29 TargetAbsent 4 1");
+    cause(&rt, alloc, Cause::VcpuFrame(0, 17), "30 VcpuFrame 0 17");
+    cause(&rt, alloc, Cause::TooManyRecords, "31 TooManyRecords");
+    cause(&rt, alloc, Cause::TooManyFrames, "32 TooManyFrames");
+}
+
+#[test]
+fn a_failed_sink_has_a_part_of_the_text(rt: HostRuntime) -> Result<(), Fail> {
+    let mut failing = Vec::new(rt.alloc());
+    failing.push(3)?;
+    let mut sink = MemSink::new(rt.alloc(), failing);
+    assert!(rt; put_cause(&mut sink, Cause::BadKind(3)).is_err());
+    assert_eq!(rt; sink.bytes(), b"6 BadKind".as_slice());
+    Ok(())
+}

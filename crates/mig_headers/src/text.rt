@@ -1,0 +1,253 @@
+ghost use Rattle.std.specs.Prelude.{◌≡◌, ◌∷◌, ◌++◌, codes, decimal, map};
+ghost use Rattle.mig_bytes.specs.Bytes.{Puts};
+ghost use Rattle.mig_bytes.specs.Faults.{HasCause};
+ghost use Rattle.mig_headers.specs.Texts.{number_of, name_of, arguments_of, words_of_context, spaced, text_of_cause, text_of_place};
+
+use crate::{Cause, ContextFault, Place};
+use itoa::Buffer;
+use mig_bytes::{Sink, WriteFailed, put_all};
+
+/// What stands behind a cause's name.
+#[derive(Clone, Copy)]
+enum Arguments {
+    Nothing,
+    One(u64),
+    Two(u64, u64),
+    Three(u64, u64, u64),
+    Context(ContextFault),
+}
+
+impl Arguments {
+    ghost use Rattle.mig_headers.specs.Arguments.{words_of};
+
+    fn put<K: Sink>(self, sink: &mut K) -> Result<(), WriteFailed>
+        ensures bytes { Puts (spaced (words_of self)) (K.written sink.old) (K.written sink.new) result }
+        ensures cause { HasCause (K.faults sink.old) (K.faults sink.new) result }
+    {
+        match self {
+            Arguments::Nothing => Ok(()),
+            Arguments::One(a) => put_numbers(sink, &[a]),
+            Arguments::Two(a, b) => put_numbers(sink, &[a, b]),
+            Arguments::Three(a, b, c) => put_numbers(sink, &[a, b, c]),
+            Arguments::Context(fault) => put_context_fault(sink, fault),
+        }
+    }
+}
+
+impl Cause {
+    ghost use Rattle.mig_headers.specs.Arguments.{words_of};
+
+    /// The number of this cause, which is part of its printed text.
+    pub fn number(self) -> u64
+        ensures { result ≡ number_of self }
+    {
+        match self {
+            Cause::NotBuilt(_) => 0,
+            Cause::Truncated => 1,
+            Cause::NotStream => 2,
+            Cause::BadId => 3,
+            Cause::BadVersion(_) => 4,
+            Cause::BigEndian => 5,
+            Cause::BadKind(_) => 6,
+            Cause::BadPageShift(_) => 7,
+            Cause::BodyTooLong(_) => 8,
+            Cause::Unsupported(_) => 9,
+            Cause::UnknownMandatory(_) => 10,
+            Cause::WrongKind(_) => 11,
+            Cause::OutOfOrder(_) => 12,
+            Cause::BadLength(_) => 13,
+            Cause::NoPages => 14,
+            Cause::BadPageType(_, _) => 15,
+            Cause::PfnOutside(_, _) => 16,
+            Cause::Superpage(_, _) => 17,
+            Cause::EntryOutside(_, _, _) => 18,
+            Cause::Pv32 => 19,
+            Cause::BadPvInfo => 20,
+            Cause::P2mStart(_) => 21,
+            Cause::P2mRange(_) => 22,
+            Cause::VcpuId(_) => 23,
+            Cause::GdtEnts(_) => 24,
+            Cause::BadContext(_) => 25,
+            Cause::ParamIndex(_) => 26,
+            Cause::Missing(_) => 27,
+            Cause::P2mFrame(_) => 28,
+            Cause::TargetAbsent(_, _) => 29,
+            Cause::VcpuFrame(_, _) => 30,
+            Cause::TooManyRecords => 31,
+            Cause::TooManyFrames => 32,
+        }
+    }
+
+    /// The name of this cause, which is part of its printed text.
+    pub fn name(self) -> &'static str
+        ensures { result.now ≡ name_of self }
+    {
+        match self {
+            Cause::NotBuilt(_) => "NotBuilt",
+            Cause::Truncated => "Truncated",
+            Cause::NotStream => "NotStream",
+            Cause::BadId => "BadId",
+            Cause::BadVersion(_) => "BadVersion",
+            Cause::BigEndian => "BigEndian",
+            Cause::BadKind(_) => "BadKind",
+            Cause::BadPageShift(_) => "BadPageShift",
+            Cause::BodyTooLong(_) => "BodyTooLong",
+            Cause::Unsupported(_) => "Unsupported",
+            Cause::UnknownMandatory(_) => "UnknownMandatory",
+            Cause::WrongKind(_) => "WrongKind",
+            Cause::OutOfOrder(_) => "OutOfOrder",
+            Cause::BadLength(_) => "BadLength",
+            Cause::NoPages => "NoPages",
+            Cause::BadPageType(_, _) => "BadPageType",
+            Cause::PfnOutside(_, _) => "PfnOutside",
+            Cause::Superpage(_, _) => "Superpage",
+            Cause::EntryOutside(_, _, _) => "EntryOutside",
+            Cause::Pv32 => "Pv32",
+            Cause::BadPvInfo => "BadPvInfo",
+            Cause::P2mStart(_) => "P2mStart",
+            Cause::P2mRange(_) => "P2mRange",
+            Cause::VcpuId(_) => "VcpuId",
+            Cause::GdtEnts(_) => "GdtEnts",
+            Cause::BadContext(_) => "BadContext",
+            Cause::ParamIndex(_) => "ParamIndex",
+            Cause::Missing(_) => "Missing",
+            Cause::P2mFrame(_) => "P2mFrame",
+            Cause::TargetAbsent(_, _) => "TargetAbsent",
+            Cause::VcpuFrame(_, _) => "VcpuFrame",
+            Cause::TooManyRecords => "TooManyRecords",
+            Cause::TooManyFrames => "TooManyFrames",
+        }
+    }
+
+    fn arguments(self) -> Arguments
+        ensures { words_of result ≡ arguments_of self }
+    {
+        match self {
+            Cause::NotBuilt(kind) => Arguments::One(kind),
+            Cause::BadVersion(version) => Arguments::One(version),
+            Cause::BadKind(kind) => Arguments::One(kind),
+            Cause::BadPageShift(shift) => Arguments::One(shift),
+            Cause::BodyTooLong(len) => Arguments::One(len),
+            Cause::Unsupported(kind) => Arguments::One(kind),
+            Cause::UnknownMandatory(kind) => Arguments::One(kind),
+            Cause::WrongKind(kind) => Arguments::One(kind),
+            Cause::OutOfOrder(rule) => Arguments::One(rule),
+            Cause::BadLength(len) => Arguments::One(len),
+            Cause::BadPageType(entry, nibble) => Arguments::Two(entry, nibble),
+            Cause::PfnOutside(entry, pfn) => Arguments::Two(entry, pfn),
+            Cause::Superpage(entry, slot) => Arguments::Two(entry, slot),
+            Cause::EntryOutside(entry, slot, pfn) => Arguments::Three(entry, slot, pfn),
+            Cause::P2mStart(first) => Arguments::One(first),
+            Cause::P2mRange(last) => Arguments::One(last),
+            Cause::VcpuId(id) => Arguments::One(id),
+            Cause::GdtEnts(count) => Arguments::One(count),
+            Cause::BadContext(fault) => Arguments::Context(fault),
+            Cause::ParamIndex(index) => Arguments::One(index),
+            Cause::Missing(kind) => Arguments::One(kind),
+            Cause::P2mFrame(index) => Arguments::One(index),
+            Cause::TargetAbsent(pfn, slot) => Arguments::Two(pfn, slot),
+            Cause::VcpuFrame(id, field) => Arguments::Two(id, field),
+            Cause::Truncated => Arguments::Nothing,
+            Cause::NotStream => Arguments::Nothing,
+            Cause::BadId => Arguments::Nothing,
+            Cause::BigEndian => Arguments::Nothing,
+            Cause::NoPages => Arguments::Nothing,
+            Cause::Pv32 => Arguments::Nothing,
+            Cause::BadPvInfo => Arguments::Nothing,
+            Cause::TooManyRecords => Arguments::Nothing,
+            Cause::TooManyFrames => Arguments::Nothing,
+        }
+    }
+}
+
+/// Writes a place of a refusal as it is printed.
+pub fn put_place<K: Sink>(sink: &mut K, place: Place) -> Result<(), WriteFailed>
+    ensures bytes { Puts (text_of_place place) (K.written sink.old) (K.written sink.new) result }
+    ensures cause { HasCause (K.faults sink.old) (K.faults sink.new) result }
+{
+    match place {
+        Place::ImageHeader => put_all(sink, b"ImageHeader"),
+        Place::DomainHeader => put_all(sink, b"DomainHeader"),
+        Place::Record(number) => put_record(sink, number),
+    }
+}
+
+fn put_record<K: Sink>(sink: &mut K, number: u64) -> Result<(), WriteFailed>
+    ensures bytes { Puts (codes "Record " ++ decimal number) (K.written sink.old) (K.written sink.new) result }
+    ensures cause { HasCause (K.faults sink.old) (K.faults sink.new) result }
+{
+    put_all(sink, b"Record ")?;
+    put_number(sink, number)
+}
+
+/// Writes a cause as it is printed: its number, its name and its arguments, parted by one space.
+pub fn put_cause<K: Sink>(sink: &mut K, cause: Cause) -> Result<(), WriteFailed>
+    ensures bytes { Puts (text_of_cause cause) (K.written sink.old) (K.written sink.new) result }
+    ensures cause { HasCause (K.faults sink.old) (K.faults sink.new) result }
+{
+    put_number(sink, cause.number())?;
+    put_name_and_arguments(sink, cause)
+}
+
+fn put_name_and_arguments<K: Sink>(sink: &mut K, cause: Cause) -> Result<(), WriteFailed>
+    ensures bytes { Puts (spaced (name_of cause ∷ arguments_of cause)) (K.written sink.old) (K.written sink.new) result }
+    ensures cause { HasCause (K.faults sink.old) (K.faults sink.new) result }
+{
+    put_word(sink, cause.name())?;
+    cause.arguments().put(sink)
+}
+
+fn put_context_fault<K: Sink>(sink: &mut K, fault: ContextFault) -> Result<(), WriteFailed>
+    ensures bytes { Puts (spaced (words_of_context fault)) (K.written sink.old) (K.written sink.new) result }
+    ensures cause { HasCause (K.faults sink.old) (K.faults sink.new) result }
+{
+    match fault {
+        ContextFault::NoHeader => put_fault(sink, "NoHeader", &[]),
+        ContextFault::HeaderSize(len) => put_fault(sink, "HeaderSize", &[len]),
+        ContextFault::ShortEntry(offset) => put_fault(sink, "ShortEntry", &[offset]),
+        ContextFault::NoEnd => put_fault(sink, "NoEnd", &[]),
+    }
+}
+
+fn put_fault<K: Sink>(sink: &mut K, name: &str, numbers: &[u64]) -> Result<(), WriteFailed>
+    ensures bytes { Puts (spaced (name.now ∷ map decimal numbers.now)) (K.written sink.old) (K.written sink.new) result }
+    ensures cause { HasCause (K.faults sink.old) (K.faults sink.new) result }
+{
+    put_word(sink, name)?;
+    put_numbers(sink, numbers)
+}
+
+// Each number after a space.
+fn put_numbers<K: Sink>(sink: &mut K, numbers: &[u64]) -> Result<(), WriteFailed>
+    ensures bytes { Puts (spaced (map decimal numbers.now)) (K.written sink.old) (K.written sink.new) result }
+    ensures cause { HasCause (K.faults sink.old) (K.faults sink.new) result }
+{
+    for number in numbers {
+        put_spaced_number(sink, *number)?;
+    }
+    Ok(())
+}
+
+fn put_spaced_number<K: Sink>(sink: &mut K, number: u64) -> Result<(), WriteFailed>
+    ensures bytes { Puts (codes " " ++ decimal number) (K.written sink.old) (K.written sink.new) result }
+    ensures cause { HasCause (K.faults sink.old) (K.faults sink.new) result }
+{
+    put_all(sink, b" ")?;
+    put_number(sink, number)
+}
+
+fn put_word<K: Sink>(sink: &mut K, word: &str) -> Result<(), WriteFailed>
+    ensures bytes { Puts (codes " " ++ word.now) (K.written sink.old) (K.written sink.new) result }
+    ensures cause { HasCause (K.faults sink.old) (K.faults sink.new) result }
+{
+    put_all(sink, b" ")?;
+    put_all(sink, word.as_bytes())
+}
+
+fn put_number<K: Sink>(sink: &mut K, number: u64) -> Result<(), WriteFailed>
+    ensures bytes { Puts (decimal number) (K.written sink.old) (K.written sink.new) result }
+    ensures cause { HasCause (K.faults sink.old) (K.faults sink.new) result }
+{
+    let mut digits = Buffer::new();
+    put_all(sink, digits.format(number).as_bytes())
+}

@@ -1,0 +1,175 @@
+-- A type has no fault exactly where it is in order.
+use Rattle.std.proofs.Common.{◌≡◌, ◌↔◌, ◌⊎◌, ℕ, ◌^◌, ◌≤◌, Bool, true, false, not, ◌&&◌, ◌||◌, ◌==◌, if◌then◌else◌, List, [], ◌∷◌, Option, Some, None, refl, sym, ap, ◌∙◌, inl, inr, arith}
+use Rattle.std.specs.Prelude.{nat_le}
+use Rattle.std.proofs.lemmas.Bool.{eqb-true, leb-true}
+use Rattle.mig_headers.specs.declared.kind.Kind.{Kind}
+use Rattle.mig_headers.specs.declared.kind.Kind.TheVariants.{Pv, Hvm}
+use Rattle.mig_headers.specs.declared.fault.Cause.{Cause}
+use Rattle.mig_headers.specs.declared.fault.Cause.TheVariants.{Unsupported, UnknownMandatory, WrongKind, OutOfOrder}
+use Rattle.mig_headers.specs.declared.record_type.RecordType.{RecordType}
+use Rattle.mig_headers.specs.declared.record_type.RecordType.TheVariants.{PageData, X86PvInfo, X86PvP2mFrames, StaticDataEnd}
+use Rattle.mig_headers.specs.Rows.{first_fault}
+use Rattle.mig_headers.specs.RecordTypes.{row_of, pv, type_number, type_of_number, is_optional}
+use Rattle.mig_headers.proofs.RecordNumbers.{numbers_are_inverse}
+use Rattle.mig_order.specs.Order.{Earlier, earlier_in, among, is_of, some_earlier, static_records, content_records, vcpu_records, causes, fault_of_mandatory, fault_of_type, KeepsOrder, IsInOrder, optional, ordered}
+use Rattle.mig_order.specs.Gate.{FaultlessIsInOrder}
+
+-- no row's test holds
+abbrev AllClear : List (Bool × Cause) → Type 0
+AllClear [] = Unit {0}
+AllClear (row ∷ rows) = (row.0 ≡ false) × AllClear rows
+
+none_first : (b : Bool) (cause : Cause) (o : Option Cause) → (if b then Some cause else o) ≡ None → (b ≡ false) × (o ≡ None)
+none_first true cause o is = absurd (cc)
+none_first false cause o is = (refl, is)
+
+clear_rows : (rows : List (Bool × Cause)) → first_fault rows ≡ None → AllClear rows
+clear_rows [] is = tt
+clear_rows (row ∷ rows) is = let parts = none_first row.0 row.1 (first_fault rows) is in (parts.0, clear_rows rows parts.1)
+
+rows_clear : (rows : List (Bool × Cause)) → AllClear rows → first_fault rows ≡ None
+rows_clear [] all = refl
+rows_clear (row ∷ rows) all = rw all.0 (rows_clear rows all.1)
+
+then_false : (a b : Bool) → (a && b) ≡ false → a ≡ true → b ≡ false
+then_false true b is holds = is
+then_false false b is holds = absurd (cc)
+
+and_false : (a b : Bool) → (a ≡ true → b ≡ false) → (a && b) ≡ false
+and_false true b all = all refl
+and_false false b all = refl
+
+both_false : (a b : Bool) → (a || b) ≡ false → (a ≡ false) × (b ≡ false)
+both_false true b is = absurd (cc)
+both_false false b is = (refl, is)
+
+either_true : (a b : Bool) → (a || b) ≡ true → (a ≡ true) ⊎ (b ≡ true)
+either_true true b is = inl refl
+either_true false b is = inr is
+
+or_right : (a b : Bool) → b ≡ true → (a || b) ≡ true
+or_right true b is = refl
+or_right false b is = is
+
+not_false : (a : Bool) → not a ≡ false → a ≡ true
+not_false true is = refl
+not_false false is = absurd (cc)
+
+false_not : (a : Bool) → a ≡ true → not a ≡ false
+false_not a is = rw is refl
+
+-- a type with another's number is the other
+same_number : (this other : RecordType) → type_number this ≡ type_number other → this ≡ other
+same_number this other is =
+    let e : Some this ≡ Some other = sym (numbers_are_inverse.type_of this) ∙ ap type_of_number is ∙ numbers_are_inverse.type_of other in
+    grind arith
+
+same_type : (this other : RecordType) → is_of (other ∷ []) this ≡ true → this ≡ other
+same_type this other is = elim (either_true (type_number this == type_number other) false is) [
+  | inl e ↦ same_number this other (eqb-true (type_number this) (type_number other) e)
+  | inr e ↦ absurd (cc)
+]
+
+of_pv : (kind : Kind) → pv kind ≡ true → kind ≡ Pv
+of_pv Pv is = refl
+of_pv Hvm is = absurd (cc)
+
+-- what the rows say, in words
+keeps : (version : ℕ) (kind : Kind) (types : List ℕ) (this : RecordType) → AllClear (causes version kind (earlier_in types) this) → KeepsOrder version kind types this
+keeps version kind types this (_, (_, (end, (static, (content, (info, (p2m, (pages, (vcpus, _))))))))) =
+    let late = both_false (is_of static_records this && some_earlier types (StaticDataEnd ∷ [])) (is_of (StaticDataEnd ∷ static_records) this && some_earlier types content_records) static in
+    record {
+      one_static_data_end = λ is. then_false (is_of (StaticDataEnd ∷ []) this) (some_earlier types (StaticDataEnd ∷ [])) end (rw is refl);
+      static_before_its_end = then_false (is_of static_records this) (some_earlier types (StaticDataEnd ∷ [])) late.0;
+      static_before_content = λ is. then_false (is_of (StaticDataEnd ∷ static_records) this) (some_earlier types content_records) late.1 (or_right (type_number this == type_number StaticDataEnd) (is_of static_records this) is);
+      static_end_before_content = λ is. then_false (is_of (StaticDataEnd ∷ static_records) this) (some_earlier types content_records) late.1 (rw is refl);
+      content_after_static_end = λ is of. not_false (some_earlier types (StaticDataEnd ∷ [])) (then_false (is_of content_records this) (not (some_earlier types (StaticDataEnd ∷ []))) (then_false (version == 3) (is_of content_records this && not (some_earlier types (StaticDataEnd ∷ []))) content (rw is refl)) of);
+      one_pv_info = λ is. then_false (is_of (X86PvInfo ∷ []) this) (some_earlier types (X86PvInfo ∷ [])) info (rw is refl);
+      p2m_after_pv_info = λ is. not_false (some_earlier types (X86PvInfo ∷ [])) (then_false (is_of (X86PvP2mFrames ∷ []) this) (not (some_earlier types (X86PvInfo ∷ []))) p2m (rw is refl));
+      pv_pages_after_p2m = λ is of. not_false (some_earlier types (X86PvP2mFrames ∷ [])) (then_false (is_of (PageData ∷ []) this) (not (some_earlier types (X86PvP2mFrames ∷ []))) (then_false (pv kind) (is_of (PageData ∷ []) this && not (some_earlier types (X86PvP2mFrames ∷ []))) pages (rw is refl)) (rw of refl));
+      pages_before_vcpus = λ is. then_false (is_of (PageData ∷ []) this) (some_earlier types vcpu_records) vcpus (rw is refl);
+    }
+
+-- what the words say, in rows
+clear : (version : ℕ) (kind : Kind) (types : List ℕ) (this : RecordType) → (row_of this).supported ≡ true → (row_of this).of_kind kind ≡ true → KeepsOrder version kind types this → AllClear (causes version kind (earlier_in types) this)
+clear version kind types this supported of_kind order = (
+  false_not (row_of this).supported supported,
+  (
+    false_not ((row_of this).of_kind kind) of_kind,
+    (
+      and_false (is_of (StaticDataEnd ∷ []) this) (some_earlier types (StaticDataEnd ∷ [])) (λ is. order.one_static_data_end (same_type this StaticDataEnd is)),
+      (
+        late,
+        (
+          and_false (version == 3) (is_of content_records this && not (some_earlier types (StaticDataEnd ∷ []))) (λ is. and_false (is_of content_records this) (not (some_earlier types (StaticDataEnd ∷ []))) (λ of. false_not (some_earlier types (StaticDataEnd ∷ [])) (order.content_after_static_end (eqb-true version 3 is) of))),
+          (
+            and_false (is_of (X86PvInfo ∷ []) this) (some_earlier types (X86PvInfo ∷ [])) (λ is. order.one_pv_info (same_type this X86PvInfo is)),
+            (
+              and_false (is_of (X86PvP2mFrames ∷ []) this) (not (some_earlier types (X86PvInfo ∷ []))) (λ is. false_not (some_earlier types (X86PvInfo ∷ [])) (order.p2m_after_pv_info (same_type this X86PvP2mFrames is))),
+              (
+                and_false (pv kind) (is_of (PageData ∷ []) this && not (some_earlier types (X86PvP2mFrames ∷ []))) (λ is. and_false (is_of (PageData ∷ []) this) (not (some_earlier types (X86PvP2mFrames ∷ []))) (λ of. false_not (some_earlier types (X86PvP2mFrames ∷ [])) (order.pv_pages_after_p2m (of_pv kind is) (same_type this PageData of)))),
+                (
+                  and_false (is_of (PageData ∷ []) this) (some_earlier types vcpu_records) (λ is. order.pages_before_vcpus (same_type this PageData is)),
+                  tt,
+                ),
+              ),
+            ),
+          ),
+        ),
+      ),
+    ),
+  ),
+)
+  where
+    neither : (a b : Bool) → a ≡ false → b ≡ false → (a || b) ≡ false
+    neither a b p q = rw (p, q) refl
+
+    behind_content : is_of (StaticDataEnd ∷ static_records) this ≡ true → some_earlier types content_records ≡ false
+    behind_content is = elim (either_true (type_number this == type_number StaticDataEnd) (is_of static_records this) is) [
+      | inl e ↦ order.static_end_before_content (same_number this StaticDataEnd (eqb-true (type_number this) (type_number StaticDataEnd) e))
+      | inr e ↦ order.static_before_content e
+    ]
+
+    late : ((is_of static_records this && some_earlier types (StaticDataEnd ∷ [])) || (is_of (StaticDataEnd ∷ static_records) this && some_earlier types content_records)) ≡ false
+    late = neither (is_of static_records this && some_earlier types (StaticDataEnd ∷ [])) (is_of (StaticDataEnd ∷ static_records) this && some_earlier types content_records)
+        (and_false (is_of static_records this) (some_earlier types (StaticDataEnd ∷ [])) order.static_before_its_end)
+        (and_false (is_of (StaticDataEnd ∷ static_records) this) (some_earlier types content_records) behind_content)
+
+none_optional : (number : ℕ) (o : Option Cause) → (if is_optional number then None else o) ≡ None → (2 ^ 31 ≤ number) ⊎ (o ≡ None)
+none_optional number o is = elim (tells (is_optional number)) [
+  | inl e ↦ inl (leb-true (2 ^ 31) number e)
+  | inr e ↦ inr (rw e at is)
+]
+  where
+    tells : (b : Bool) → (b ≡ true) ⊎ (b ≡ false)
+    tells true = inl refl
+    tells false = inr refl
+
+in_order : (version : ℕ) (kind : Kind) (types : List ℕ) (number : ℕ) (found : Option RecordType) → type_of_number number ≡ found
+    → fault_of_mandatory version kind (earlier_in types) number found ≡ None → IsInOrder version kind types number
+in_order version kind types number None found is = absurd (cc)
+in_order version kind types number (Some this) found is =
+    let all = clear_rows (causes version kind (earlier_in types) this) is in
+    ordered this (sym (numbers_are_inverse.number_of number this found))
+    (not_false (row_of this).supported all.0)
+    (not_false ((row_of this).of_kind kind) all.1.0)
+    (keeps version kind types this all)
+
+faultless : (version : ℕ) (kind : Kind) (types : List ℕ) (number : ℕ) → IsInOrder version kind types number → fault_of_type version kind types number ≡ None
+faultless version kind types number (optional above) = let e : is_optional number ≡ true = grind arith in rw e refl
+faultless version kind types number (ordered this is supported of_kind order) =
+    rw is (skipped (is_optional (type_number this)) (fault_of_mandatory version kind (earlier_in types) (type_number this) (type_of_number (type_number this)))
+    (rw (numbers_are_inverse.type_of this) (rows_clear (causes version kind (earlier_in types) this) (clear version kind types this supported of_kind order))))
+  where
+    skipped : (b : Bool) (o : Option Cause) → o ≡ None → (if b then None else o) ≡ None
+    skipped true o h = refl
+    skipped false o h = h
+
+pub faultless_is_in_order : FaultlessIsInOrder
+faultless_is_in_order version kind types number = (
+  (λ is. elim (none_optional number (fault_of_mandatory version kind (earlier_in types) number (type_of_number number)) is) [
+    | inl above ↦ optional above
+    | inr mandatory ↦ in_order version kind types number (type_of_number number) refl mandatory
+  ]),
+  faultless version kind types number,
+)

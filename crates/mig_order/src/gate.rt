@@ -1,0 +1,175 @@
+ghost use Rattle.std.specs.Prelude.{◌≡◌, ◌++◌, ◌∷◌, [], ℕ, List, OnOk, OnErr};
+ghost use Rattle.mig_headers.specs.Rows.{first_fault};
+ghost use Rattle.mig_headers.specs.Headers.{unless_faulty};
+ghost use Rattle.mig_headers.specs.RecordTypes.{type_number};
+ghost use Rattle.mig_order.specs.Order.{broken_rules, causes, fault_after, fault_of_type, second_end, late_static, early_content, second_pv_info, early_p2m_frames, early_pages, late_pages};
+ghost use Rattle.mig_order.specs.Gate.{GateOf, StandsFor, then_type};
+
+use crate::sort::{is_content, is_same, is_static, is_static_or_end, is_vcpu};
+use mig_headers::{Cause, Kind, RecordType, is_optional};
+use std::marker::Model;
+
+/// Judges the types of a stream's records, one after the other.
+#[derive(Drop)]
+pub struct Gate {
+    version: u32,
+    kind: Kind,
+    static_data_end: bool,
+    content: bool,
+    pv_info: bool,
+    p2m_frames: bool,
+    vcpu: bool,
+}
+
+impl Model for Gate {
+    ghost Value = { GateOf };
+
+    ghost view = { λ g. record { version = g.version; kind = g.kind; earlier = record { static_data_end = g.static_data_end; content = g.content; pv_info = g.pv_info; p2m_frames = g.p2m_frames; vcpu = g.vcpu } } };
+}
+
+impl Gate {
+    /// A gate before the first record of a stream of this version and kind.
+    pub fn new(version: u32, kind: Kind) -> Gate
+        ensures version { result.version ≡ version }
+        ensures kind { result.kind ≡ kind }
+        ensures empty { StandsFor result [] }
+    {
+        Gate {
+            version,
+            kind,
+            static_data_end: false,
+            content: false,
+            pv_info: false,
+            p2m_frames: false,
+            vcpu: false,
+        }
+    }
+
+    /// Lets the next record's type pass, or answers what is wrong with it. A refused step changes nothing.
+    pub fn step(&mut self, kind: u32) -> Result<(), Cause>
+        ensures judged { (types : List ℕ) → StandsFor self.old types → result ≡ unless_faulty (fault_of_type self.old.version self.old.kind types kind) tt }
+        ensures passed { OnOk result ((types : List ℕ) → StandsFor self.old types → StandsFor self.new (types ++ kind ∷ [])) }
+        ensures refused { OnErr result (self.new ≡ self.old) }
+        ensures version { self.new.version ≡ self.old.version }
+        ensures kind { self.new.kind ≡ self.old.kind }
+    {
+        match self.fault(kind) {
+            None => {
+                self.pass(kind);
+                Ok(())
+            }
+            Some(cause) => Err(cause),
+        }
+    }
+
+    fn fault(&self, number: u32) -> Option<Cause>
+        ensures { result ≡ fault_after self.now.version self.now.kind self.now.earlier number }
+    {
+        if is_optional(number) {
+            return None;
+        }
+        match RecordType::from_number(number) {
+            None => Some(Cause::UnknownMandatory(u64::from(number))),
+            Some(this) => self.fault_of_known(this),
+        }
+    }
+
+    fn fault_of_known(&self, this: RecordType) -> Option<Cause>
+        ensures { result ≡ first_fault (causes self.now.version self.now.kind self.now.earlier this) }
+    {
+        if !this.is_supported() {
+            return Some(Cause::Unsupported(u64::from(this.number())));
+        }
+        if !this.is_of(self.kind) {
+            return Some(Cause::WrongKind(u64::from(this.number())));
+        }
+        self.broken_rule(this)
+    }
+
+    fn broken_rule(&self, this: RecordType) -> Option<Cause>
+        ensures { result ≡ first_fault (broken_rules self.now.version self.now.kind self.now.earlier this) }
+    {
+        if self.is_second_end(this) {
+            return Some(Cause::OutOfOrder(1));
+        }
+        if self.is_late_static(this) {
+            return Some(Cause::OutOfOrder(2));
+        }
+        if self.is_early_content(this) {
+            return Some(Cause::OutOfOrder(3));
+        }
+        if self.is_second_pv_info(this) {
+            return Some(Cause::OutOfOrder(4));
+        }
+        if self.is_early_p2m_frames(this) {
+            return Some(Cause::OutOfOrder(5));
+        }
+        if self.is_early_pages(this) {
+            return Some(Cause::OutOfOrder(6));
+        }
+        if self.is_late_pages(this) {
+            return Some(Cause::OutOfOrder(7));
+        }
+        None
+    }
+
+    fn is_second_end(&self, this: RecordType) -> bool
+        ensures { result ≡ second_end self.now.earlier this }
+    {
+        is_same(this, RecordType::StaticDataEnd) && self.static_data_end
+    }
+
+    fn is_late_static(&self, this: RecordType) -> bool
+        ensures { result ≡ late_static self.now.earlier this }
+    {
+        is_static(this) && self.static_data_end || is_static_or_end(this) && self.content
+    }
+
+    fn is_early_content(&self, this: RecordType) -> bool
+        ensures { result ≡ early_content self.now.version self.now.earlier this }
+    {
+        self.version == 3 && is_content(this) && !self.static_data_end
+    }
+
+    fn is_second_pv_info(&self, this: RecordType) -> bool
+        ensures { result ≡ second_pv_info self.now.earlier this }
+    {
+        is_same(this, RecordType::X86PvInfo) && self.pv_info
+    }
+
+    fn is_early_p2m_frames(&self, this: RecordType) -> bool
+        ensures { result ≡ early_p2m_frames self.now.earlier this }
+    {
+        is_same(this, RecordType::X86PvP2mFrames) && !self.pv_info
+    }
+
+    fn is_early_pages(&self, this: RecordType) -> bool
+        ensures { result ≡ early_pages self.now.kind self.now.earlier this }
+    {
+        self.kind == Kind::Pv && is_same(this, RecordType::PageData) && !self.p2m_frames
+    }
+
+    fn is_late_pages(&self, this: RecordType) -> bool
+        ensures { result ≡ late_pages self.now.earlier this }
+    {
+        is_same(this, RecordType::PageData) && self.vcpu
+    }
+
+    fn pass(&mut self, number: u32)
+        ensures { self.new ≡ record self.old { earlier = then_type self.old.earlier number } }
+    {
+        if let Some(this) = RecordType::from_number(number) {
+            self.pass_known(this);
+        }
+    }
+
+    fn pass_known(&mut self, this: RecordType)
+        ensures { self.new ≡ record self.old { earlier = then_type self.old.earlier (type_number this) } }
+    {
+        self.static_data_end |= is_same(this, RecordType::StaticDataEnd);
+        self.content |= is_content(this);
+        self.pv_info |= is_same(this, RecordType::X86PvInfo);
+        self.p2m_frames |= is_same(this, RecordType::X86PvP2mFrames);
+        self.vcpu |= is_vcpu(this);
+    }
+}
