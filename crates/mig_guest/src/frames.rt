@@ -1,4 +1,4 @@
-ghost use Rattle.std.specs.Prelude.{◌≡◌, ◌≢◌, false, ℕ, ◌+◌, ◌<◌, ◌≤◌, ◌^◌, OnOk, OnErr, IfSome, IfNone, IsSome, IsTrue, Some, None, is_some, option_and_then};
+ghost use Rattle.std.specs.Prelude.{◌≡◌, ◌≢◌, false, ℕ, ◌+◌, ◌<◌, ◌≤◌, ◌^◌, OnOk, OnErr, IfSome, IfNone, IsSome, IsOk, IsTrue, Some, None, is_some, option_and_then};
 ghost use Rattle.std.specs.Option.{option_copied, option_map};
 ghost use Rattle.std.specs.Ordering.{nat_cmp};
 ghost use Rattle.std.specs.BTreeMap as tree;
@@ -149,6 +149,7 @@ impl Frames {
         requires data { is_some page ≡ type_has_data kind }
         ensures ok { OnOk result (self.new ≡ framed self.old pfn kind (option_copied page.entry)) }
         ensures err { OnErr result (self.new ≡ self.old) }
+        ensures taken { kind ≡ Xtab → IsOk result }
     {
         if let PageType::Xtab = kind {
             self.remove(pfn);

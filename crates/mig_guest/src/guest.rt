@@ -1,8 +1,9 @@
-ghost use Rattle.std.specs.Prelude.{◌≡◌, ◌==◌, ℕ, ◌+◌, ◌<◌, ◌≤◌, ◌^◌, length, not, OnOk, OnErr, IfSome, IfNone, IsSome, None, is_some, option_and_then};
+ghost use Rattle.std.specs.Prelude.{◌≡◌, ◌==◌, ℕ, ◌+◌, ◌<◌, ◌≤◌, ◌^◌, length, not, IsOk, OnOk, OnErr, IfSome, IfNone, IsSome, None, is_some, option_and_then};
 ghost use Rattle.std.specs.declared.cmp.Ordering.TheVariants.{Less};
 ghost use Rattle.std.specs.Option.{option_copied, option_map};
 ghost use Rattle.std.specs.FinMap as maps;
 ghost use Rattle.mig_pagetypes.specs.PageTypes.{type_has_data};
+ghost use Rattle.mig_pagetypes.specs.declared.page_type.PageType.TheVariants.{Xtab};
 ghost use Rattle.mig_pagestore.specs.Pages.{spliced};
 ghost use Rattle.mig_guest.specs.declared.part_key.PartKey.{PartKey};
 ghost use Rattle.mig_guest.specs.Order.{part_cmp, IsAbove};
@@ -81,6 +82,7 @@ impl Guest {
         requires paged { is_some page ≡ type_has_data kind }
         ensures ok { OnOk result (self.new ≡ record self.old { frames = framed self.old.frames pfn kind (option_copied page.entry) }) }
         ensures err { OnErr result (self.new ≡ self.old) }
+        ensures taken { kind ≡ Xtab → IsOk result }
     {
         self.frames.set(pfn, kind, page)
     }
@@ -172,5 +174,107 @@ impl Guest {
         ensures { self.new ≡ record self.old { parts = maps.retain_keys self.old.parts (λ k. not (k.code == code)) } }
     {
         self.parts.clear_code(code);
+    }
+}
+
+#[cfg(test)]
+mod tests {
+    use super::*;
+    use std::test::Fail;
+
+    fn key(code: u32, key1: u32, key2: u32) -> PartKey {
+        PartKey { code, key1, key2 }
+    }
+
+    fn small_guest(rt: &HostRuntime) -> Result<Guest, Fail> {
+        let mut guest = Guest::new(rt.alloc(), Kind::Pv);
+        guest.set_frame(5, PageType::L1Tab, Some(&[1; 4096]))?;
+        guest.set_frame(2, PageType::Broken, None)?;
+        guest.set_frame(0xfff_ffff, PageType::Notab, Some(&[2; 4096]))?;
+        guest.set_part(key(4, 1, 0), &[1, 2, 3, 4])?;
+        guest.set_part(key(4, 0, 9), &[5])?;
+        guest.set_part(key(3, 7, 7), &[])?;
+        guest.set_part(key(17, 0, 0), &[6])?;
+        Ok(guest)
+    }
+
+    #[test]
+    fn kind_and_top(rt: HostRuntime) -> Result<(), Fail> {
+        let mut guest = Guest::new(rt.alloc(), Kind::Hvm);
+        assert_eq!(rt; guest.kind(), Kind::Hvm);
+        assert_eq!(rt; guest.top(), 0);
+        guest.set_top(0xffff);
+        assert_eq!(rt; guest.top(), 0xffff);
+        Ok(())
+    }
+
+    #[test]
+    fn sets_frames(rt: HostRuntime) -> Result<(), Fail> {
+        let mut guest = small_guest(&rt)?;
+        assert_eq!(rt; guest.frames(), 3);
+        assert_eq!(rt; guest.frame(2), Some(PageType::Broken));
+        assert_eq!(rt; guest.frame(5), Some(PageType::L1Tab));
+        assert_eq!(rt; guest.frame(6), None);
+        assert_eq!(rt; guest.page(5).ok_or("no page")?[9], 1);
+        assert!(rt; guest.page(2).is_none());
+        guest.set_frame(5, PageType::Xalloc, None)?;
+        assert!(rt; guest.page(5).is_none());
+        guest.set_frame(5, PageType::Xtab, None)?;
+        assert_eq!(rt; guest.frame(5), None);
+        assert_eq!(rt; guest.frames(), 2);
+        Ok(())
+    }
+
+    #[test]
+    fn walks_frames(rt: HostRuntime) -> Result<(), Fail> {
+        let guest = small_guest(&rt)?;
+        let rows = [
+            (0, Some(2)),
+            (2, Some(2)),
+            (3, Some(5)),
+            (6, Some(0xfff_ffff)),
+            (0x1000_0000, None),
+        ];
+        for (from, next) in rows {
+            assert_eq!(rt; guest.next_frame(from), next, "from {from}");
+        }
+        let (pfn, kind, page) = guest.next_entry(3).ok_or("no entry")?;
+        assert_eq!(rt; (pfn, kind), (5, PageType::L1Tab));
+        assert_eq!(rt; page.ok_or("no page")?[0], 1);
+        assert!(rt; guest.next_entry(0x1000_0000).is_none());
+        Ok(())
+    }
+
+    #[test]
+    fn walks_parts(rt: HostRuntime) -> Result<(), Fail> {
+        let mut guest = small_guest(&rt)?;
+        let rows = [
+            (None, Some(key(3, 7, 7))),
+            (Some(key(3, 7, 7)), Some(key(4, 0, 9))),
+            (Some(key(4, 0, 9)), Some(key(4, 1, 0))),
+            (Some(key(4, 1, 1)), Some(key(17, 0, 0))),
+            (Some(key(17, 0, 0)), None),
+        ];
+        for (after, next) in rows {
+            assert_eq!(rt; guest.next_part(after), next);
+        }
+        guest.clear_code(4);
+        assert_eq!(rt; guest.next_part(Some(key(3, 7, 7))), Some(key(17, 0, 0)));
+        Ok(())
+    }
+
+    #[test]
+    fn writes_parts(rt: HostRuntime) -> Result<(), Fail> {
+        let mut guest = small_guest(&rt)?;
+        let key = key(4, 1, 0);
+        let Some(part) = guest.part(key) else {
+            return Err("no part".into());
+        };
+        assert_eq!(rt; part.len(), 4);
+        guest.write_part(key, 1, &[8, 9]);
+        let part = guest.part(key).ok_or("no part")?;
+        assert_eq!(rt; part, [1, 8, 9, 4].as_slice());
+        assert!(rt; guest.part(PartKey { code: 5, ..key }).is_none());
+        Ok(())
     }
 }

@@ -1,4 +1,4 @@
-ghost use Rattle.std.specs.Prelude.{◌≡◌, ℕ, ◌+◌, ◌<◌, ◌≤◌, ◌^◌, length, IsSome, IsNone, OnOk, OnErr, IfSome, IfNone};
+ghost use Rattle.std.specs.Prelude.{◌≡◌, ℕ, ◌+◌, ◌<◌, ◌≤◌, ◌^◌, length, IsSome, IsNone, IsOk, OnOk, OnErr, IfSome, IfNone};
 ghost use Rattle.std.specs.Option.{option_copied, option_copied_mut};
 ghost use Rattle.std.specs.Ordering.{nat_cmp};
 ghost use Rattle.std.specs.FinMap as map;
@@ -108,6 +108,7 @@ impl PageStore {
         ensures pages { self.new.pages ≡ self.old.pages }
         ensures ready { OnOk result (more ≤ self.new.spare) }
         ensures kept { self.old.spare ≤ self.new.spare }
+        ensures enough { more ≤ self.old.spare → IsOk result }
     {
         if more <= self.pool.len() {
             return Ok(());
@@ -143,6 +144,8 @@ impl PageStore {
         ensures ok { OnOk result (self.new.pages ≡ map.insert self.old.pages pfn page.now) }
         ensures err { OnErr result (self.new.pages ≡ self.old.pages) }
         ensures taken { self.old.spare ≤ self.new.spare + 1 }
+        ensures in_place { IsSome (map.get self.old.pages pfn) → IsOk result }
+        ensures ready { 1 ≤ self.old.spare → IsOk result }
     {
         if self.get(pfn).is_none() {
             self.reserve(1)?;

@@ -1,12 +1,10 @@
-use Rattle.std.proofs.Common.{◌≡◌, ◌+◌, ◌≤◌, List, ℕ, length, Option, Some, None, is_some, IsSome, MutBor, refl, sym, ap, ◌∙◌, arith}
+use Rattle.std.proofs.Common.{◌≡◌, ◌+◌, ◌≤◌, length, Option, Some, None, is_some, MutBor, refl, sym, ap, ◌∙◌, arith}
 use Rattle.std.specs.Option.{option_map, option_copied_mut}
 use Rattle.std.specs.Vec.{with_items}
 use Rattle.std.proofs.lemmas.List.{with_items_is}
 use Rattle.std.specs.FinMap as maps
 use Rattle.mig_pagestore.specs.Pages.{spliced}
-use Rattle.mig_guest.specs.Parts.{PartMap, parts_seen}
-use Rattle.mig_guest.proofs.PartOrder.{part_total, part_exact}
-use Rattle.mig_guest.proofs.KeyedMaps.{seen_insert}
+use Rattle.mig_guest.specs.Parts.{PartMap}
 use Rattle.mig_guest.proofs.PartMaps.{got, there_seen, part_at, put_seen}
 use Rattle.mig_guest.proofs.parts.Parts.write.Goals as goal
 
