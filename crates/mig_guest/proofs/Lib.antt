@@ -3,3 +3,5 @@ pub mod KeyedMaps
 pub mod PartMaps
 pub mod FrameMaps
 pub mod Cursor
+pub mod PartSets
+pub mod Entries
