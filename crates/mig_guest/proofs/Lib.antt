@@ -4,3 +4,5 @@ pub mod PartMaps
 pub mod FrameMaps
 pub mod Cursor
 pub mod PartCursor
+pub mod PartSets
+pub mod Entries

@@ -7,8 +7,10 @@
 //! replaces all entries of its policy.
 #![tactic(auto)]
 
+mod laws;
 mod policy;
 mod tsc;
 
+pub use laws::policy_laws;
 pub use policy::{read_cpuid, read_msr};
 pub use tsc::read_tsc;
