@@ -1,10 +1,14 @@
 -- The bodies of X86_CPUID_POLICY, X86_MSR_POLICY and X86_TSC_INFO records (libxc migration stream, the sections of
 -- these names).
-use Rattle.std.specs.Prelude.{◌≡◌, ℕ, ◌+◌, ◌*◌, ◌/◌, ◌%◌, List, [], ◌∷◌, ◌++◌, length, take, drop, map, ◌↔◌}
+use Rattle.std.specs.Prelude.{◌<◌, ◌^◌, ◌≡◌, ℕ, ◌+◌, ◌*◌, ◌/◌, ◌%◌, List, [], ◌∷◌, ◌++◌, length, take, drop, map, ◌↔◌}
 use Rattle.std.specs.List.{range_with_len}
 use Rattle.mig_bytes.specs.Fields.{le32}
 use Rattle.mig_guest.specs.declared.part_key.PartKey.{PartKey}
 use Rattle.mig_guest.specs.PartKeys.{tsc_key, leaf_key, msr_key}
+
+-- a key whose numbers have 32 bits
+abbrev pub IsSmallKey : PartKey → Type 0
+IsSmallKey k = (k.key1 < 2 ^ 32) × (k.key2 < 2 ^ 32)
 
 -- ---- CPUID: entries of leaf, subleaf, and four registers of 4 bytes
 

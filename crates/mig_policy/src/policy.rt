@@ -1,8 +1,8 @@
-ghost use Rattle.std.specs.Prelude.{◌≡◌, ◌≢◌, ◌≤◌, ◌+◌, ◌*◌, ◌%◌, length, OnOk, OnErr};
+ghost use Rattle.std.specs.Prelude.{◌≡◌, ◌≢◌, ◌≤◌, ◌<◌, ◌+◌, ◌*◌, ◌%◌, ◌/◌, ℕ, length, OnOk, OnErr};
 ghost use Rattle.std.specs.FinMap as maps;
 ghost use Rattle.mig_guest.specs.Parts.{put_part, replace_code};
 ghost use Rattle.mig_guest.specs.declared.part_key.PartKey.{PartKey};
-ghost use Rattle.mig_policy.specs.Policies.{leaf_at, leaves_in, msr_at, msrs_in};
+ghost use Rattle.mig_policy.specs.Policies.{IsSmallKey, leaf_at, leaves_in, msr_at, msrs_in};
 
 use mig_bytes::{Memory, u32_le};
 use mig_guest::{Guest, PartKey};
@@ -11,6 +11,7 @@ use mig_guest::{Guest, PartKey};
 fn set_leaf(guest: &mut Guest, body: &[u8], k: usize) -> Result<(), Memory>
     requires whole { 24 * k + 24 ≤ length body.now }
     ensures ok { OnOk result (guest.new ≡ record guest.old { parts = put_part guest.old.parts (leaf_at body.now k) }) }
+    ensures small { OnOk result (IsSmallKey (leaf_at body.now k).0) }
     ensures err { OnErr result (guest.new ≡ guest.old) }
 {
     let key = PartKey {
@@ -25,6 +26,7 @@ fn set_leaf(guest: &mut Guest, body: &[u8], k: usize) -> Result<(), Memory>
 fn set_msr(guest: &mut Guest, body: &[u8], k: usize) -> Result<(), Memory>
     requires whole { 16 * k + 16 ≤ length body.now }
     ensures ok { OnOk result (guest.new ≡ record guest.old { parts = put_part guest.old.parts (msr_at body.now k) }) }
+    ensures small { OnOk result (IsSmallKey (msr_at body.now k).0) }
     ensures err { OnErr result (guest.new ≡ guest.old) }
 {
     let key = PartKey {
@@ -40,6 +42,7 @@ fn set_msr(guest: &mut Guest, body: &[u8], k: usize) -> Result<(), Memory>
 pub fn read_cpuid(guest: &mut Guest, body: &[u8]) -> Result<(), Memory>
     requires { length body.now % 24 ≡ 0 }
     ensures ok { OnOk result (guest.new ≡ record guest.old { parts = replace_code 17 guest.old.parts (leaves_in body.now) }) }
+    ensures small { OnOk result ((k : ℕ) → k < length body.now / 24 → IsSmallKey (leaf_at body.now k).0) }
     ensures others { (key : PartKey) → key.code ≢ 17 → maps.get guest.new.parts key ≡ maps.get guest.old.parts key }
     ensures frames { guest.new ≡ record guest.old { parts = guest.new.parts } }
 {
@@ -58,6 +61,7 @@ pub fn read_cpuid(guest: &mut Guest, body: &[u8]) -> Result<(), Memory>
 pub fn read_msr(guest: &mut Guest, body: &[u8]) -> Result<(), Memory>
     requires { length body.now % 16 ≡ 0 }
     ensures ok { OnOk result (guest.new ≡ record guest.old { parts = replace_code 18 guest.old.parts (msrs_in body.now) }) }
+    ensures small { OnOk result ((k : ℕ) → k < length body.now / 16 → IsSmallKey (msr_at body.now k).0) }
     ensures others { (key : PartKey) → key.code ≢ 18 → maps.get guest.new.parts key ≡ maps.get guest.old.parts key }
     ensures frames { guest.new ≡ record guest.old { parts = guest.new.parts } }
 {

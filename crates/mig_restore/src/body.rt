@@ -1,4 +1,4 @@
-ghost use Rattle.std.specs.Prelude.{◌≡◌, ◌≤◌, ◌^◌, ◌*◌, IfOk, IsErrOf, length, vec_len, true, None, Some, ◌%◌};
+ghost use Rattle.std.specs.Prelude.{◌≡◌, ◌≤◌, ◌^◌, ◌*◌, IfOk, OnOk, IsErrOf, length, vec_len, true, None, Some, ◌%◌};
 ghost use Rattle.std.specs.List.{All};
 ghost use Rattle.mig_bytes.specs.Faults.{Rose};
 ghost use Rattle.mig_headers.specs.RecordTypes.{row_of};
@@ -9,6 +9,7 @@ ghost use Rattle.mig_restore.specs.Judged.{Gives, part, each};
 ghost use Rattle.mig_restore.specs.Mean.{meant_type, put_entry, put_entries, put_content};
 ghost use Rattle.mig_restore.specs.Judging.{context_at, params_at, plain_at, tsc_says, leaves_say, msrs_say, words_at, kind_in, entry_at, pages_at, typed_at, body_at};
 ghost use Rattle.mig_restore.specs.Record.Content.{Nothing};
+ghost use Rattle.mig_restore.specs.SoFar.{Grows};
 ghost use Rattle.mig_restore.specs.Spelled.{IsGoodWord};
 ghost use Rattle.mig_restore.specs.declared.part.Stop.TheVariants.{ReadFault};
 
@@ -32,6 +33,7 @@ fn take_context<S: Source>(
     guest: &mut Guest,
 ) -> Result<(), Stop>
     ensures read { Gives (λ _ c. guest.new ≡ put_content guest.old c) (S.left src.old) (S.left src.new) (context_at len) result }
+    ensures grown { OnOk result (Grows guest.old guest.new) }
     ensures later { S.faults src.old ≤ S.faults src.new }
     ensures cause { IsErrOf result ReadFault → Rose (S.faults src.old) (S.faults src.new) }
 {
@@ -54,6 +56,7 @@ fn take_params<S: Source>(
 ) -> Result<(), Stop>
     requires { 8 ≤ len }
     ensures read { Gives (λ _ c. guest.new ≡ put_content guest.old c) (S.left src.old) (S.left src.new) (params_at len) result }
+    ensures grown { OnOk result (Grows guest.old guest.new) }
     ensures later { S.faults src.old ≤ S.faults src.new }
     ensures cause { IsErrOf result ReadFault → Rose (S.faults src.old) (S.faults src.new) }
 {
@@ -70,6 +73,7 @@ fn take_params<S: Source>(
 /// Takes the TSC.
 fn take_tsc<S: Source>(src: &mut S, guest: &mut Guest) -> Result<(), Stop>
     ensures read { Gives (λ _ c. guest.new ≡ put_content guest.old c) (S.left src.old) (S.left src.new) (plain_at tsc_says 24) result }
+    ensures grown { OnOk result (Grows guest.old guest.new) }
     ensures later { S.faults src.old ≤ S.faults src.new }
     ensures cause { IsErrOf result ReadFault → Rose (S.faults src.old) (S.faults src.new) }
 {
@@ -90,6 +94,7 @@ fn take_cpuid<S: Source>(
 ) -> Result<(), Stop>
     requires { len % 24 ≡ 0 }
     ensures read { Gives (λ _ c. guest.new ≡ put_content guest.old c) (S.left src.old) (S.left src.new) (plain_at leaves_say len) result }
+    ensures grown { OnOk result (Grows guest.old guest.new) }
     ensures later { S.faults src.old ≤ S.faults src.new }
     ensures cause { IsErrOf result ReadFault → Rose (S.faults src.old) (S.faults src.new) }
 {
@@ -109,6 +114,7 @@ fn take_msr<S: Source>(
 ) -> Result<(), Stop>
     requires { len % 16 ≡ 0 }
     ensures read { Gives (λ _ c. guest.new ≡ put_content guest.old c) (S.left src.old) (S.left src.new) (plain_at msrs_say len) result }
+    ensures grown { OnOk result (Grows guest.old guest.new) }
     ensures later { S.faults src.old ≤ S.faults src.new }
     ensures cause { IsErrOf result ReadFault → Rose (S.faults src.old) (S.faults src.new) }
 {
@@ -200,6 +206,7 @@ fn take_entry<S: Source>(src: &mut S, word: u64, guest: &mut Guest) -> Result<()
     requires { IsGoodWord guest.old.kind word }
     ensures read { Gives (λ _ e. guest.new ≡ record guest.old { frames = put_entry guest.old.kind guest.old.frames e })
         (S.left src.old) (S.left src.new) (entry_at word) result }
+    ensures grown { OnOk result (Grows guest.old guest.new) }
     ensures later { S.faults src.old ≤ S.faults src.new }
     ensures cause { IsErrOf result ReadFault → Rose (S.faults src.old) (S.faults src.new) }
 {
@@ -224,6 +231,7 @@ fn take_entries<S: Source>(src: &mut S, list: &[u64], guest: &mut Guest) -> Resu
     requires { All (IsGoodWord guest.old.kind) list.now }
     ensures read { Gives (λ _ es. guest.new ≡ record guest.old { frames = put_entries guest.old.kind guest.old.frames es })
         (S.left src.old) (S.left src.new) (each entry_at list.now) result }
+    ensures grown { OnOk result (Grows guest.old guest.new) }
     ensures later { S.faults src.old ≤ S.faults src.new }
     ensures cause { IsErrOf result ReadFault → Rose (S.faults src.old) (S.faults src.new) }
 {
@@ -242,6 +250,7 @@ fn take_pages<S: Source>(
 ) -> Result<(), Stop>
     requires { len ≤ 2 ^ 27 }
     ensures read { Gives (λ _ c. guest.new ≡ put_content guest.old c) (S.left src.old) (S.left src.new) (pages_at guest.old.kind len) result }
+    ensures grown { OnOk result (Grows guest.old guest.new) }
     ensures later { S.faults src.old ≤ S.faults src.new }
     ensures cause { IsErrOf result ReadFault → Rose (S.faults src.old) (S.faults src.new) }
 {
@@ -274,6 +283,7 @@ fn take_typed<S: Source>(
     requires small { len ≤ 2 ^ 27 }
     requires allowed { (row_of this).allows len ≡ true }
     ensures read { Gives (λ _ c. guest.new ≡ put_content guest.old c) (S.left src.old) (S.left src.new) (typed_at guest.old.kind (Some this) len) result }
+    ensures grown { OnOk result (Grows guest.old guest.new) }
     ensures later { S.faults src.old ≤ S.faults src.new }
     ensures cause { IsErrOf result ReadFault → Rose (S.faults src.old) (S.faults src.new) }
 {
@@ -298,6 +308,7 @@ pub(crate) fn take_body<S: Source>(
     requires small { head.len ≤ 2 ^ 27 }
     requires allowed { fault_of_length head.kind head.len ≡ None }
     ensures read { Gives (λ _ c. guest.new ≡ put_content guest.old c) (S.left src.old) (S.left src.new) (body_at guest.old.kind head.kind head.len) result }
+    ensures grown { OnOk result (Grows guest.old guest.new) }
     ensures later { S.faults src.old ≤ S.faults src.new }
     ensures cause { IsErrOf result ReadFault → Rose (S.faults src.old) (S.faults src.new) }
 {

@@ -1,11 +1,11 @@
-ghost use Rattle.std.specs.Prelude.{◌≡◌, ◌≤◌, ◌<◌, ◌^◌, ◌∷◌, [], ◌++◌, List, ℕ, ◌+◌, IfOk, OnOk, IfNone as OnNone, None, IsErrOf};
+ghost use Rattle.std.specs.Prelude.{◌≡◌, ◌≤◌, ◌<◌, ◌^◌, ◌∷◌, [], ◌++◌, List, ℕ, ◌+◌, length, true, IfNone, IfOk, OnOk, IfNone as OnNone, None, IsErrOf};
 ghost use Rattle.mig_bytes.specs.Faults.{Rose};
 ghost use Rattle.mig_headers.specs.Headers.{unless_faulty};
 ghost use Rattle.mig_headers.specs.RecordTypes.{type_of_number};
 ghost use Rattle.mig_records.specs.Faults.{fault_of_length};
 ghost use Rattle.mig_records.specs.Heads.{head_in};
 ghost use Rattle.mig_restore.specs.Judged.{Gives};
-ghost use Rattle.mig_restore.specs.Judging.{Opening, opening_of, is_supported_type, fault_of_built, fault_of_number, fault_of_fields, head_at};
+ghost use Rattle.mig_restore.specs.Judging.{Opening, opening_of, is_supported_type, is_built, fault_of_built, fault_of_number, fault_of_fields, head_at};
 ghost use Rattle.mig_restore.specs.declared.part.Stop.TheVariants.{ReadFault};
 
 use crate::part::{Stop, take_part};
@@ -36,7 +36,8 @@ fn is_supported(number: u32) -> bool
 
 /// Whether the type isn't built so far.
 fn built_fault(kind: Kind, number: u32) -> Option<Cause>
-    ensures { result ≡ fault_of_built kind number }
+    ensures fault { result ≡ fault_of_built kind number }
+    ensures built { IfNone result (is_built kind number ≡ true) }
 {
     match kind {
         Kind::Pv => {
@@ -66,7 +67,7 @@ impl Seen {
 
     /// Whether there is no room for one record more.
     fn number_fault(&self) -> Option<Cause>
-        ensures fault { (o : Opening) (types : List ℕ) → IsSeen self.now o types → result ≡ fault_of_number types }
+        ensures fault { (types : List ℕ) → self.now.records ≡ length types → result ≡ fault_of_number types }
         ensures room { OnNone result (self.now.records < 2 ^ 28) }
     {
         if self.records >= MAX_RECORDS {
@@ -83,6 +84,8 @@ impl Seen {
         ensures len { OnOk result (head.len ≤ 2 ^ 27) }
         ensures allowed { OnOk result (fault_of_length head.kind head.len ≡ None) }
         ensures count { OnOk result ((self.new.records ≡ self.old.records + 1) × (self.old.records < 2 ^ 28)) }
+        ensures built { OnOk result (is_built self.old.kind head.kind ≡ true) }
+        ensures kind { self.new.kind ≡ self.old.kind }
     {
         if let Some(cause) = built_fault(self.kind, head.kind) {
             return Err(cause);
@@ -111,6 +114,8 @@ impl Seen {
         ensures len { IfOk result (λ h. h.len ≤ 2 ^ 27) }
         ensures allowed { IfOk result (λ h. fault_of_length h.kind h.len ≡ None) }
         ensures count { OnOk result ((self.new.records ≡ self.old.records + 1) × (self.old.records < 2 ^ 28)) }
+        ensures built { IfOk result (λ h. is_built self.old.kind h.kind ≡ true) }
+        ensures kind { self.new.kind ≡ self.old.kind }
         ensures later { S.faults src.old ≤ S.faults src.new }
         ensures cause { IsErrOf result ReadFault → Rose (S.faults src.old) (S.faults src.new) }
     {

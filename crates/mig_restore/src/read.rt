@@ -1,11 +1,14 @@
-ghost use Rattle.std.specs.Prelude.{◌≡◌, ◌≤◌, ◌<◌, ◌+◌, ◌^◌, ◌==◌, ◌∷◌, [], ◌++◌, List, ⊤, OnOk, IsErrOf};
+ghost use Rattle.std.specs.Prelude.{◌≡◌, ◌≤◌, ◌<◌, ◌+◌, ◌^◌, ◌==◌, ◌∷◌, [], ◌++◌, List, ⊤, true, None, IfOk, OnOk, IsErrOf};
 ghost use Rattle.mig_bytes.specs.Bytes.{padding_len};
 ghost use Rattle.mig_bytes.specs.Faults.{Rose};
+ghost use Rattle.mig_headers.specs.declared.kind.Kind.TheVariants.{Hvm};
+ghost use Rattle.mig_pvtables.specs.Whole.{IsWhole, fault_of_guest};
 ghost use Rattle.mig_restore.specs.Judged.{Gives, part};
 ghost use Rattle.mig_restore.specs.Mean.{mean, put_record};
 ghost use Rattle.mig_restore.specs.Record.{StreamRecord, types_of};
-ghost use Rattle.mig_restore.specs.Judging.{Opening, opening_of, record_at, fault_at_end};
+ghost use Rattle.mig_restore.specs.Judging.{Opening, opening_of, record_at};
 ghost use Rattle.mig_restore.specs.Seen.{IsSeen};
+ghost use Rattle.mig_restore.specs.SoFar.{Grows};
 ghost use Rattle.mig_restore.specs.Stream.{ReadsAs, of_records, verdict, marker_at, version_at, kind_at};
 ghost use Rattle.mig_restore.specs.declared.part.Stop.TheVariants.{ReadFault};
 
@@ -44,12 +47,9 @@ fn read_padding<S: Source>(src: &mut S, len: u32) -> Result<(), Stop>
 }
 
 /// What is wrong with the whole guest, at the record that ends the image.
-fn guest_fault(kind: u32, guest: &Guest) -> Option<Cause>
-    ensures { result ≡ fault_at_end kind guest.now }
+fn guest_fault(guest: &Guest) -> Option<Cause>
+    ensures { result ≡ fault_of_guest guest.now }
 {
-    if kind != END {
-        return None;
-    }
     let context = PartKey {
         code: 9,
         key1: 0,
@@ -74,17 +74,23 @@ pub(crate) fn read_record<S: Source>(
     ensures read { (o : Opening) (records : List StreamRecord) → IsSeen seen.old o (types_of records) → guest.old ≡ mean o.kind records →
         Gives (λ over r. (guest.new ≡ put_record guest.old r) × IsSeen seen.new o (types_of (records ++ r ∷ [])) × (over ≡ (r.type == 0)))
         (S.left src.old) (S.left src.new) (record_at o records) result }
+    ensures grown { OnOk result (Grows guest.old guest.new) }
+    ensures whole { IfOk result (λ over. over ≡ true → (guest.new ≡ guest.old) × (fault_of_guest guest.old ≡ None) × (seen.old.kind ≡ Hvm)) }
     ensures counted { OnOk result ((seen.new.records ≡ seen.old.records + 1) × (seen.old.records < 2 ^ 28)) }
+    ensures kind { seen.new.kind ≡ seen.old.kind }
     ensures later { S.faults src.old ≤ S.faults src.new }
     ensures cause { IsErrOf result ReadFault → Rose (S.faults src.old) (S.faults src.new) }
 {
     let head = seen.read_head(src)?;
-    if let Some(cause) = guest_fault(head.kind, guest) {
-        return Err(Stop::Refused(cause));
+    if head.kind == END {
+        return match guest_fault(guest) {
+            Some(cause) => Err(Stop::Refused(cause)),
+            None => Ok(true),
+        };
     }
     take_body(alloc, src, head, guest)?;
     read_padding(src, head.len)?;
-    Ok(head.kind == END)
+    Ok(false)
 }
 
 /// Reads records up to the one that ends the image.
@@ -95,6 +101,7 @@ fn read_records<S: Source>(
     kind: Kind,
 ) -> Result<Reading, StreamAnswer>
     ensures read { ReadsAs (of_records (opening_of version kind)) (S.left src.old) (S.left src.new) result }
+    ensures whole { IfOk result (λ reading. IsWhole reading.guest) }
     ensures later { S.faults src.old ≤ S.faults src.new }
     ensures cause { IsErrOf result StreamAnswer.ReadFault → Rose (S.faults src.old) (S.faults src.new) }
 {
@@ -165,6 +172,7 @@ fn read_kind<S: Source>(src: &mut S) -> Result<Kind, Stop>
 /// a read failed.
 pub fn read_image<S: Source>(alloc: Global, src: &mut S) -> Result<Reading, StreamAnswer>
     ensures read { ReadsAs verdict (S.left src.old) (S.left src.new) result }
+    ensures whole { IfOk result (λ reading. IsWhole reading.guest) }
     ensures later { S.faults src.old ≤ S.faults src.new }
     ensures cause { IsErrOf result StreamAnswer.ReadFault → Rose (S.faults src.old) (S.faults src.new) }
 {
