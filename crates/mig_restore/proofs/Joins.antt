@@ -13,10 +13,11 @@ use Rattle.mig_restore.specs.declared.part.Stop.TheVariants.{Refused, ReadFault,
 use Rattle.mig_restore.specs.Judged.{Judged, ◌>>=◌, part, tried, each, Matches, Gives}
 use Rattle.mig_restore.specs.Judged.Judged.{Passes, Faulty}
 use Rattle.mig_headers.specs.Headers.{unless_faulty}
-use Rattle.mig_pagetypes.specs.FrameWords.{word_pfn, word_has_data}
+use Rattle.mig_pagetypes.specs.FrameWords.{word_pfn, word_type, word_has_data, some_has_data}
+use Rattle.mig_pagetypes.specs.PageTypes.{type_of, type_has_data}
 use Rattle.mig_bytes.specs.Bytes.{Skipped}
 use Rattle.mig_restore.specs.Record.{Entry, Content}
-use Rattle.mig_restore.specs.Judging.{kind_in, entry_at, plain_at}
+use Rattle.mig_restore.specs.Judging.{kind_in, type_or_none, entry_at, plain_at}
 use Rattle.std.specs.Io.KnownBytes.{Consumes, IsAtEnd}
 
 module _ {X Y : Type 0} (R : X → Y → Type 0) where
@@ -229,3 +230,27 @@ part_short (Some i) (Some j) n says R (bytes, size, gone, end) =
   where
     lt_true : (a b : ℕ) → a < b → nat_lt a b ≡ true
     lt_true a b h = grind (arith, common_steps)
+
+-- ---- bodies that are kept
+
+module _ {X V : Type 0} (R : X → List ℕ → Type 0) (Q : V → Content → Type 0) where
+  -- what a body says, where no cause is tried
+  pub plain_said : (a b : Option (List ℕ)) (n m : ℕ) (says : List ℕ → Content) (x : X) (v : V) → n ≡ m → Gives R a b (part n) (Ok x)
+      → ((bytes : List ℕ) → R x bytes → Q v (says bytes)) → Gives Q a b (plain_at says m) (Ok v)
+  plain_said None b n m says x v size h turn = tt
+  plain_said (Some i) b n m says x v size (bytes, rest, is, left, r) turn =
+      let is' = subst (λ k. part k i ≡ Passes bytes rest) size is in
+      (says bytes, rest, rw is' refl, left, turn bytes r)
+
+  -- what a body says in which no cause stands
+  pub tried_said : (a b : Option (List ℕ)) (n : ℕ) (fault : List ℕ → Option Cause) (says : List ℕ → Content) (x : X) (v : V) → Gives R a b (part n) (Ok x)
+      → ((bytes : List ℕ) → R x bytes → (fault bytes ≡ None) × Q v (says bytes))
+      → Gives Q a b (λ i. part n i >>= λ body. tried (fault body.0) body.1 >>= λ _. Passes (says body.0) body.1) (Ok v)
+  tried_said None b n fault says x v h turn = tt
+  tried_said (Some i) b n fault says x v (bytes, rest, is, left, r) turn =
+      let (none, q) = turn bytes r in
+      (says bytes, rest, rw (is, none) refl, left, q)
+
+-- the tests of a word and of its type agree
+pub carries : (w : ℕ) → word_has_data w ≡ type_has_data (kind_in w)
+carries w = elim (type_of (word_type w)) as (λ o. some_has_data o ≡ type_has_data (type_or_none o)) [ None ↦ refl | Some t ↦ refl ]

@@ -3,7 +3,7 @@ use Rattle.std.proofs.Common.{◌≡◌, ℕ, List, [], ◌∷◌, ◌++◌, Boo
 use Rattle.std.specs.Prelude.{option_and_then, unwrap_or, ◌&&◌}
 use Rattle.std.specs.List.{fold}
 use Rattle.std.specs.Option.{option_or}
-use Rattle.std.specs.Ordering.{nat_cmp, eq_by_cmp, is_eq}
+use Rattle.std.specs.Ordering.{nat_cmp, eq_by_cmp, is_eq, ordering_then}
 use Rattle.std.specs.declared.cmp.Ordering.{Ordering}
 use Rattle.std.specs.declared.cmp.Ordering.TheVariants.{Less, Equal, Greater}
 use Rattle.std.specs.Cmp.{nat_cmp_total}
@@ -19,6 +19,8 @@ use Rattle.mig_guest.specs.Guests.{GuestOf}
 use Rattle.mig_guest.specs.Order.{part_cmp}
 use Rattle.mig_guest.specs.Parts.{PartMap, put_part, put_parts, replace_code}
 use Rattle.mig_guest.proofs.PartOrder.{part_total, part_exact}
+use Rattle.mig_pagetypes.specs.FrameWords.{word_pfn}
+use Rattle.mig_restore.specs.Judging.{kind_in}
 use Rattle.mig_restore.specs.Record.{Entry, StreamRecord, Content}
 use Rattle.mig_restore.specs.Record.Content.{Nothing, Frames, Parts, Policy}
 use Rattle.mig_restore.specs.Mean.{meant_type, put_entry, put_entries, put_content, put_record, empty_guest, mean, entries_in, entries_of, last_entry, some_frame, frame_in, same_key, last_bytes, says_of_part, last_said}
@@ -28,6 +30,12 @@ pub one_more_entry : (g h k : GuestOf) (es : List Entry) (e : Entry) → h ≡ r
 one_more_entry g h k es e before now =
     now ∙ ap (λ (w : GuestOf). record w { frames = put_entry w.kind w.frames e }) before
     ∙ ap (λ (f : FrameMap). record g { frames = f }) (sym (fold-append (put_entry g.kind) g.frames es (e ∷ [])))
+
+-- a frame that is set as a word says
+pub entry_set : (g n : GuestOf) (w pfn : ℕ) (meant : PageType) (page : Option (List ℕ)) → pfn ≡ word_pfn w → meant ≡ meant_type g.kind (kind_in w) → n ≡ record g { frames = framed g.frames pfn meant page }
+    → n ≡ record g { frames = put_entry g.kind g.frames (record { pfn = word_pfn w; kind = kind_in w; page = page }) }
+entry_set g n w pfn meant page at is now =
+    now ∙ ap (λ p. record g { frames = framed g.frames p meant page }) at ∙ ap (λ (t : PageType). record g { frames = framed g.frames (word_pfn w) t page }) is
 
 pub one_more_record : (kind : Kind) (rs : List StreamRecord) (r : StreamRecord) → mean kind (rs ++ r ∷ []) ≡ put_record (mean kind rs) r
 unfolding mean
@@ -68,7 +76,7 @@ mean_top kind rs = folded_top (empty_guest kind) rs
 pub ties : (p q : ℕ) → eq_by_cmp nat_cmp p q ≡ nat_eq q p
 ties p q = grind (arith, common_steps)
 
-framed_get : (m : FrameMap) (p pfn : ℕ) (t : PageType) (page : Option (List ℕ)) → fin.get (framed m pfn t page) p ≡ cond (nat_eq pfn p) (some_frame t page) (fin.get m p)
+pub framed_get : (m : FrameMap) (p pfn : ℕ) (t : PageType) (page : Option (List ℕ)) → fin.get (framed m pfn t page) p ≡ cond (nat_eq pfn p) (some_frame t page) (fin.get m p)
 framed_get m p pfn Xtab page = fin.get-remove nat_cmp_total m pfn p ∙ ap (λ b. cond b None (fin.get m p)) (ties p pfn)
 framed_get m p pfn t page = fin.get-insert nat_cmp_total m pfn (record { kind = t; page = page }) p ∙ ap (λ b. cond b (Some (record { kind = t; page = page })) (fin.get m p)) (ties p pfn)
 
@@ -119,13 +127,18 @@ last_entry_is kind records pfn =
 nat_ties : (p q : ℕ) → is_eq (nat_cmp p q) ≡ nat_eq q p
 nat_ties p q = ties p q
 
-thens : (r s : Ordering) → is_eq (elim r [ Less ↦ Less | Equal ↦ s | Greater ↦ Greater ]) ≡ (is_eq r && is_eq s)
+thens : (r s : Ordering) → is_eq (ordering_then r s) ≡ (is_eq r && is_eq s)
 thens Less s = refl
 thens Equal s = refl
 thens Greater s = refl
 
+both_and : (a b c d : Bool) → a ≡ b → c ≡ d → (a && c) ≡ (b && d)
+both_and a b c d p q = rw (p, q) refl
+
 pub part_ties : (q k : PartKey) → eq_by_cmp part_cmp q k ≡ same_key k q
-part_ties q k = ?
+part_ties q k =
+    thens (nat_cmp q.code k.code) (ordering_then (nat_cmp q.key1 k.key1) (nat_cmp q.key2 k.key2))
+    ∙ both_and _ _ _ _ (nat_ties q.code k.code) (thens (nat_cmp q.key1 k.key1) (nat_cmp q.key2 k.key2) ∙ both_and _ _ _ _ (nat_ties q.key1 k.key1) (nat_ties q.key2 k.key2))
 
 abbrev over : Option (List ℕ) → Option (List ℕ) → Option (List ℕ)
 over None before = before

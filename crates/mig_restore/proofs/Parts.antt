@@ -1,9 +1,14 @@
 -- A record behind its head, and behind its body.
-use Rattle.std.proofs.Common.{◌≡◌, ℕ, List, Some, None, refl, ap, sym, ◌∙◌}
+use Rattle.std.proofs.Common.{◌≡◌, ℕ, List, Bool, true, false, nat_eq, Option, Some, None, refl, ap, sym, ◌∙◌}
 use Rattle.mig_bytes.specs.Bytes.{padding_len}
 use Rattle.mig_bytes.specs.Fields.{le32}
 use Rattle.mig_headers.specs.declared.fault.Cause.{Cause}
+use Rattle.mig_headers.specs.declared.fault.Cause.TheVariants.{BadLength}
 use Rattle.mig_headers.specs.declared.kind.Kind.{Kind}
+use Rattle.std.proofs.lemmas.Bool.{eqb-true}
+use Rattle.mig_records.specs.Faults.{fault_of_length}
+use Rattle.mig_pvtables.specs.Whole.{fault_of_guest}
+use Rattle.mig_restore.specs.Record.Content.{Nothing}
 use Rattle.mig_guest.specs.Guests.{GuestOf}
 use Rattle.mig_records.specs.declared.head.RecordHead.{RecordHead}
 use Rattle.mig_records.specs.Heads.{head_in}
@@ -47,3 +52,37 @@ stops_behind head h k g g' c is same fault i =
 pub padded : (head : List ℕ) (h : RecordHead) (c : Content) → h ≡ head_in head → (i : List ℕ) → behind_body head (c, i) ≡ (part (padding_len h.len) i >>= λ padding. Passes (record { type = h.kind; content = c }) padding.1)
 unfolding behind_body
 padded head h c is i = rw (ap (λ (x : RecordHead). x.kind) is, ap (λ (x : RecordHead). x.len) is) refl
+
+not_end : (type : ℕ) (g : GuestOf) → nat_eq type 0 ≡ false → fault_at_end type g ≡ None
+not_end type g goes = rw goes refl
+
+-- a record that isn't the last
+pub goes_on : (head : List ℕ) (h : RecordHead) (k : Kind) (g g' : GuestOf) → h ≡ head_in head → g' ≡ g → g'.kind ≡ k → nat_eq h.kind 0 ≡ false → (i : List ℕ)
+    → behind_head k g (head, i) ≡ (body_at g'.kind h.kind h.len i >>= behind_body head)
+goes_on head h k g g' is same kind goes i = goes_on_behind head h k g'.kind g g' is kind same (not_end h.kind g' goes) i
+
+no_body : (type len : ℕ) → type ≡ 0 → fault_of_length type len ≡ None → len ≡ 0
+no_body type len zero allowed = zero_len (nat_eq len 0) refl (ap (λ t. fault_of_length t len) (sym zero) ∙ allowed)
+  where
+    zero_len : (b : Bool) → nat_eq len 0 ≡ b → fault_of_length 0 len ≡ None → len ≡ 0
+    zero_len true is fine = eqb-true len 0 is
+    zero_len false is fine = let no : ◌≡◌ {A = Option Cause} (Some (BadLength len)) None = sym (rw is refl) ∙ fine in absurd (apart no)
+      where
+        apart : Some (BadLength len) ≡ None → ⊥
+        apart e = cc
+
+-- a fault stands in the whole guest
+pub whole_faulty : (head : List ℕ) (h : RecordHead) (k : Kind) (g g' : GuestOf) (c : Cause) → h ≡ head_in head → g' ≡ g → h.kind ≡ 0 → Some c ≡ fault_of_guest g' → (i : List ℕ) → behind_head k g (head, i) ≡ Faulty c i
+whole_faulty head h k g g' c is same zero fault i = stops_behind head h k g g' c is same (rw zero (sym fault)) i
+
+-- the record that ends the image: it has no body
+pub ends_behind : (head : List ℕ) (h : RecordHead) (k : Kind) (g g' : GuestOf) → h ≡ head_in head → g' ≡ g → h.kind ≡ 0 → fault_of_length h.kind h.len ≡ None → None ≡ fault_of_guest g' → (i : List ℕ)
+    → behind_head k g (head, i) ≡ Passes (record { type = 0; content = Nothing }) i
+ends_behind head h k g g' is same zero allowed fine i =
+    let none : fault_at_end h.kind g' ≡ None = rw zero (sym fine) in
+    let empty : h.len ≡ 0 = no_body h.kind h.len zero allowed in
+    goes_on_behind head h k k g g' is refl same none i
+    ∙ ap (λ t. body_at k t h.len i >>= behind_body head) zero
+    ∙ padded head h Nothing is i
+    ∙ ap (λ n. part (padding_len n) i >>= λ padding. Passes (record { type = h.kind; content = Nothing }) padding.1) empty
+    ∙ ap (λ t. Passes (record { type = t; content = Nothing }) i) zero

@@ -112,13 +112,13 @@ msrs_say body = Policy 18 (msrs_in body)
 
 -- ---- the body of a PAGE_DATA record
 
+abbrev pub type_or_none : Option PageType → PageType
+type_or_none None = Xtab
+type_or_none (Some t) = t
+
 -- the type in a word without fault
 abbrev pub kind_in : ℕ → PageType
-kind_in w = type_or (type_of (word_type w))
-  where
-    type_or : Option PageType → PageType
-    type_or None = Xtab
-    type_or (Some t) = t
+kind_in w = type_or_none (type_of (word_type w))
 
 abbrev pub fault_of_data : ℕ → List ℕ → Option Cause
 fault_of_data len ws = first_fault ((not (len == data_len_of ws), BadLength len) ∷ [])

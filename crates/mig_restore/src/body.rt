@@ -32,6 +32,7 @@ fn take_context<S: Source>(
     len: u32,
     guest: &mut Guest,
 ) -> Result<(), Stop>
+    requires { len ≤ 2 ^ 27 }
     ensures read { Gives (λ _ c. guest.new ≡ put_content guest.old c) (S.left src.old) (S.left src.new) (context_at len) result }
     ensures grown { OnOk result (Grows guest.old guest.new) }
     ensures later { S.faults src.old ≤ S.faults src.new }
@@ -92,7 +93,8 @@ fn take_cpuid<S: Source>(
     len: u32,
     guest: &mut Guest,
 ) -> Result<(), Stop>
-    requires { len % 24 ≡ 0 }
+    requires whole { len % 24 ≡ 0 }
+    requires few { len ≤ 24 * 65536 }
     ensures read { Gives (λ _ c. guest.new ≡ put_content guest.old c) (S.left src.old) (S.left src.new) (plain_at leaves_say len) result }
     ensures grown { OnOk result (Grows guest.old guest.new) }
     ensures later { S.faults src.old ≤ S.faults src.new }
@@ -112,7 +114,8 @@ fn take_msr<S: Source>(
     len: u32,
     guest: &mut Guest,
 ) -> Result<(), Stop>
-    requires { len % 16 ≡ 0 }
+    requires whole { len % 16 ≡ 0 }
+    requires few { len ≤ 16 * 65536 }
     ensures read { Gives (λ _ c. guest.new ≡ put_content guest.old c) (S.left src.old) (S.left src.new) (plain_at msrs_say len) result }
     ensures grown { OnOk result (Grows guest.old guest.new) }
     ensures later { S.faults src.old ≤ S.faults src.new }

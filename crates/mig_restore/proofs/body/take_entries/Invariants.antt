@@ -1,0 +1,14 @@
+use Rattle.std.proofs.Common.{◌≡◌, ◌≤◌, ℕ, List, take, Ok}
+use Rattle.mig_restore.specs.Judged.{Gives, each}
+use Rattle.mig_restore.specs.Mean.{put_entries}
+use Rattle.mig_restore.specs.Judging.{entry_at}
+use Rattle.mig_restore.specs.SoFar.{Grows}
+use Rattle.mig_restore.proofs.body.take_entries.Given as goal
+
+abbrev pub invariant-loop-word : goal.invariant-loop-word
+invariant-loop-word g l = record {
+  read : Gives {X = Unit {0}} (λ _ es. l.guest ≡ record l.fn.guest { frames = put_entries l.fn.guest.kind l.fn.guest.frames es })
+      (g.S.Source.left l.fn.src) (g.S.Source.left l.src) (each entry_at (take l.word-index l.list)) (Ok tt);
+  grown : Grows l.fn.guest l.guest;
+  later : g.S.Source.faults l.fn.src ≤ g.S.Source.faults l.src;
+}

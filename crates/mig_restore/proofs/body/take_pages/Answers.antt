@@ -1,0 +1,13 @@
+use Rattle.std.proofs.Common.{◌≡◌, rules, refl, sym, ap, None}
+use Rattle.mig_records.specs.Faults.{fault_of_count, fault_of_words}
+use Rattle.mig_restore.specs.Judging.{fault_of_data}
+use Rattle.mig_restore.proofs.Entries.{pages_read}
+use Rattle.mig_restore.proofs.body.take_pages.Goals as goal
+
+pub returns-clause-read : goal.returns-clause-read
+returns-clause-read g c =
+    let counted : fault_of_count c.args.len c.u32_le-count.result ≡ None = search rules in
+    let good : fault_of_words c.args.guest.now.kind 0 c.in_ok-list.list.items ≡ None = search rules in
+    let whole : fault_of_data c.args.len c.in_ok-list.list.items ≡ None = search rules in
+    pages_read c.args.guest.now c.take_entries.new.guest _ (λ v. v.items) _ _ _ c.args.guest.now.kind c.args.len c.u32_le-count.result _ c.take_part.new.buf c.in_ok-list.list c.take_entries.result refl (search rules)
+    c.in_ok-take_part.ensures.read c.u32_le-count.ensures counted c.in_ok-list.ensures.read good whole c.take_entries.ensures.read

@@ -1,0 +1,6 @@
+use Rattle.std.proofs.Common.{◌≡◌, vec_len}
+use Rattle.mig_records.specs.Words.{words}
+use Rattle.mig_restore.proofs.body.words_of.Given as goal
+
+abbrev pub invariant-loop-k : goal.invariant-loop-k
+invariant-loop-k l = (l.list.items ≡ words l.k l.bytes) × (vec_len l.list ≡ l.k)
