@@ -1,5 +1,5 @@
 -- The body of a PAGE_DATA record: what judging lets pass is spelled as the format says, and what is spelled so passes.
-use Rattle.std.proofs.Common.{◌≡◌, ℕ, ◌+◌, ◌*◌, ◌≤◌, ◌<◌, List, [], ◌∷◌, ◌++◌, length, take, drop, Bool, true, false, cond, nat_eq, nat_lt, not, Option, Some, None, refl, sym, ap, subst, ◌∙◌, arith, append_assoc, length-append, All}
+use Rattle.std.proofs.Common.{◌≡◌, ℕ, ◌+◌, ◌*◌, List, [], ◌∷◌, ◌++◌, length, Bool, true, false, cond, nat_eq, not, Option, Some, None, refl, sym, ap, subst, ◌∙◌, arith, append_assoc, length-append, All}
 use Rattle.std.specs.List.{count_by, filter}
 use Rattle.std.proofs.lemmas.Bool.{eqb-true}
 use Rattle.std.proofs.lemmas.List.Sums.{length-filter}
@@ -11,15 +11,15 @@ use Rattle.mig_headers.specs.declared.kind.Kind.{Kind}
 use Rattle.mig_pagetypes.specs.PageTypes.{type_of}
 use Rattle.mig_pagetypes.specs.FrameWords.{word_type, word_pfn, word_has_data}
 use Rattle.mig_records.specs.Faults.{fault_of_count, fault_of_words, count_rows}
-use Rattle.mig_records.specs.Words.{words, data_len_of, has_reserved_type}
+use Rattle.mig_records.specs.Words.{words, data_len_of}
 use Rattle.mig_records.proofs.WordFaults.{none_is_wrong, nothing_found}
 use Rattle.mig_restore.specs.Judged.{Judged, ◌>>=◌, part, tried, each}
-use Rattle.mig_restore.specs.Judged.Judged.{Passes, Faulty}
+use Rattle.mig_restore.specs.Judged.Judged.{Passes}
 use Rattle.mig_restore.specs.Record.{Entry}
 use Rattle.mig_restore.specs.Judging.{kind_in, fault_of_data, words_at, page_at, entry_at, entries_at}
 use Rattle.mig_restore.specs.Spelled.{IsPage, IsEntry, AreEntries, IsBatch}
 use Rattle.mig_restore.proofs.Joins.{part_whole}
-use Rattle.mig_restore.proofs.Passing.{Both, both_pass, part_passes, tried_passes, same_passes, then_passes, tried_none, rows_fine, no_fault, not_false, ge_ltb, same_is, not_zero, positive}
+use Rattle.mig_restore.proofs.Passing.{both_pass, part_passes, tried_passes, same_passes, then_passes, tried_none, rows_fine, no_fault, not_false, ge_ltb, same_is, not_zero, positive}
 use Rattle.mig_restore.proofs.WordTypes.{IsByte, IsNamed, are_named, bytes_front, bytes_behind}
 
 counted : (w : ℕ) (ws : List ℕ) → count_by word_has_data (w ∷ ws) ≡ cond (word_has_data w) 1 0 + count_by word_has_data ws
@@ -73,9 +73,9 @@ each_entries (w ∷ ws) i es rest names h =
       entries = (p.bytes, q.bytes, a.x, c.x, refl, sym f.0, entry_is w p.bytes b.x a.x (All-head IsNamed w ws names) p.page_is e.0, q.entries);
     }
 
-regroup_pages : (i f m w m2 d t a rest : List ℕ) → i ≡ f ++ m → m ≡ w ++ m2 → m2 ≡ d → d ≡ t ++ a → a ≡ rest → i ≡ (f ++ (w ++ t)) ++ rest
-regroup_pages i f m w m2 d t a rest e1 e2 e3 e4 e5 =
-    e1 ∙ ap (λ l. f ++ l) (e2 ∙ ap (λ l. w ++ l) (e3 ∙ e4 ∙ ap (λ l. t ++ l) e5) ∙ sym (append_assoc w t rest)) ∙ sym (append_assoc f (w ++ t) rest)
+regroup_pages : (i f m w m2 d t rest : List ℕ) → i ≡ f ++ m → m ≡ w ++ m2 → m2 ≡ d → d ≡ t ++ rest → i ≡ (f ++ (w ++ t)) ++ rest
+regroup_pages i f m w m2 d t rest e1 e2 e3 e4 =
+    e1 ∙ ap (λ l. f ++ l) (e2 ∙ ap (λ l. w ++ l) (e3 ∙ e4) ∙ sym (append_assoc w t rest)) ∙ sym (append_assoc f (w ++ t) rest)
 
 body_size : (len n k : ℕ) (f w t : List ℕ) → length f ≡ 8 → length w ≡ 8 * n → length t ≡ 4096 * k → len ≡ 8 + 8 * n + 4096 * k → length (f ++ (w ++ t)) ≡ len
 body_size len n k f w t e1 e2 e3 e4 = omega (arith, length-append f (w ++ t), length-append w t)
@@ -115,13 +115,13 @@ batch_passes kind len i es rest all_bytes h =
     let full : len ≡ 8 + 8 * n + 4096 * count_by word_has_data d.x = eqb-true len _ (not_false _ fd.0) ∙ ap (λ m. 8 + 8 * m + 4096 * count_by word_has_data d.x) count in
     record {
       body = front ++ (w.x ++ t.bytes);
-      whole = regroup_pages i front b.mid w.x w.mid d.mid t.bytes rest rest p.0 q.0 e.1 t.whole refl;
+      whole = regroup_pages i front b.mid w.x w.mid d.mid t.bytes rest p.0 q.0 e.1 t.whole;
       size = body_size len n (count_by word_has_data d.x) front w.x t.bytes p.1 q.1 t.size full;
       batch = record {
         front = front;
         words_bytes = w.x;
         pages_bytes = t.bytes;
-        whole = refl;
+        whole = refl {a = front ++ (w.x ++ t.bytes)};
         front_len = p.1;
         some = positive n fc.1.0;
         words_len = q.1;

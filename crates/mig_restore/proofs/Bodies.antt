@@ -1,13 +1,11 @@
 -- The body of a record, type by type: what judging lets pass is spelled as the format says, and what is spelled so
 -- passes.
-use Rattle.std.proofs.Common.{◌≡◌, ℕ, ◌+◌, ◌*◌, ◌/◌, ◌%◌, ◌≤◌, ◌<◌, ◌^◌, List, [], ◌∷◌, ◌++◌, length, take, Bool, true, false, cond, nat_eq, nat_le, not, Option, Some, None, Result, Ok, Err, refl, sym, ap, subst, ◌∙◌, arith, length-append, All}
+use Rattle.std.proofs.Common.{◌≡◌, ℕ, ◌+◌, ◌*◌, ◌/◌, ◌%◌, ◌≤◌, ◌^◌, List, [], ◌∷◌, ◌++◌, length, Bool, true, false, nat_eq, nat_le, Option, Some, None, Result, Ok, Err, refl, sym, ap, subst, ◌∙◌, arith, All}
 use Rattle.std.specs.Prelude.{◌&&◌}
 use Rattle.std.proofs.lemmas.Bool.{eqb-true, leb-true}
-use Rattle.std.proofs.lemmas.Grind.{common_steps}
-use Rattle.std.proofs.lemmas.Option.{slice_get_past}
 use Rattle.std.proofs.lemmas.List.FromFn.{length-map-range_with_len}
 use Rattle.mig_headers.specs.Contexts.{scan}
-use Rattle.mig_headers.specs.RecordTypes.{row_of, pv, type_number, type_of_number, record_types, is_optional}
+use Rattle.mig_headers.specs.RecordTypes.{row_of, type_number, type_of_number, is_optional}
 use Rattle.mig_headers.specs.declared.fault.Cause.{Cause}
 use Rattle.mig_headers.specs.declared.fault.Cause.TheVariants.{BadContext}
 use Rattle.mig_headers.specs.declared.fault.ContextFault.{ContextFault}
@@ -16,24 +14,22 @@ use Rattle.mig_headers.specs.declared.kind.Kind.TheVariants.{Pv, Hvm}
 use Rattle.mig_headers.specs.declared.record_type.RecordType.{RecordType}
 use Rattle.mig_headers.specs.declared.record_type.RecordType.TheVariants.{End, PageData, X86PvInfo, X86PvP2mFrames, X86PvVcpuBasic, X86PvVcpuExtended, X86PvVcpuXsave, SharedInfo, X86TscInfo, HvmContext, HvmParams, Toolstack, X86PvVcpuMsrs, Verify, Checkpoint, CheckpointDirtyPfnList, StaticDataEnd, X86CpuidPolicy, X86MsrPolicy}
 use Rattle.mig_headers.proofs.RecordNumbers.{numbers_are_inverse}
-use Rattle.mig_guest.specs.declared.part_key.PartKey.{PartKey}
 use Rattle.mig_records.specs.Faults.{type_allows}
 use Rattle.mig_order.specs.Order.{IsInOrder, optional, ordered}
-use Rattle.mig_hvm.specs.Params.{fault_of_params, params_in, IsParams}
+use Rattle.mig_hvm.specs.Params.{fault_of_params, params_in}
 use Rattle.mig_hvm.proofs.Pairs.{params_are_spelled}
-use Rattle.mig_policy.specs.Policies.{leaf_at, leaves_in, msr_at, msrs_in, AreLeaves, AreMsrs}
+use Rattle.mig_policy.specs.Policies.{leaf_at, leaves_in, msr_at, msrs_in}
 use Rattle.mig_policy.proofs.EntriesRead.{leaves_are_spelled, msrs_are_spelled}
-use Rattle.mig_restore.specs.Judged.{Judged, ◌>>=◌, part, tried}
-use Rattle.mig_restore.specs.Judged.Judged.{Passes, Faulty}
-use Rattle.mig_restore.specs.Record.{Content, Entry}
-use Rattle.mig_restore.specs.Record.Content.{Nothing, Frames, Parts, Policy}
+use Rattle.mig_restore.specs.Judged.{part, tried}
+use Rattle.mig_restore.specs.Judged.Judged.{Passes}
+use Rattle.mig_restore.specs.Record.{Content}
+use Rattle.mig_restore.specs.Record.Content.{Nothing, Parts}
 use Rattle.mig_restore.specs.Judging.{is_built, fault_of_scan, cut, context_at, params_at, plain_at, tsc_says, leaves_say, msrs_say, entries_at, pages_at, typed_at, body_at}
-use Rattle.mig_restore.specs.Spelled.{HasContent, IsBatch}
+use Rattle.mig_restore.specs.Spelled.{HasContent}
 use Rattle.mig_restore.specs.Spelled.HasContent.{optional as has_optional, ends as has_ends, pages as has_pages, tsc as has_tsc, context as has_context, params as has_params, static_end as has_static_end, leaves as has_leaves, msrs as has_msrs}
-use Rattle.mig_restore.proofs.Joins.{part_whole}
-use Rattle.mig_restore.proofs.Passing.{Both, both_pass, part_passes, tried_passes, same_passes, then_passes, tried_none, not_false, same_is}
+use Rattle.mig_restore.proofs.Passing.{both_pass, part_passes, tried_passes, same_passes}
 use Rattle.mig_restore.proofs.WordTypes.{IsByte}
-use Rattle.mig_restore.proofs.Batches.{Batch, batch_passes, batch_goes}
+use Rattle.mig_restore.proofs.Batches.{batch_passes}
 
 -- ---- judging passes
 
@@ -93,7 +89,6 @@ pages_say kind len i c rest all_bytes h =
 both_true : (a b : Bool) → (a && b) ≡ true → (a ≡ true) × (b ≡ true)
 both_true true b e = (refl, e)
 both_true false b e = absurd (cc)
-
 
 leaves_have : (kind : Kind) (len : ℕ) → (nat_eq (len % 24) 0 && nat_le len (2 ^ 16 * 24)) ≡ true → (body : List ℕ) → length body ≡ len → HasContent kind 0x11 body (leaves_say body)
 leaves_have kind len allowed body size =

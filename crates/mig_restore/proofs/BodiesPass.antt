@@ -1,5 +1,5 @@
 -- A body that is spelled as the format says passes, and its length is one that its type allows.
-use Rattle.std.proofs.Common.{◌≡◌, ℕ, ◌+◌, ◌*◌, ◌/◌, ◌%◌, ◌≤◌, ◌<◌, ◌^◌, List, [], ◌∷◌, ◌++◌, length, take, Bool, true, false, cond, nat_eq, nat_le, not, Option, Some, None, Result, Ok, Err, refl, sym, ap, subst, ◌∙◌, arith, length-append}
+use Rattle.std.proofs.Common.{◌≡◌, ℕ, ◌+◌, ◌*◌, ◌/◌, ◌%◌, ◌≤◌, ◌^◌, List, [], ◌∷◌, ◌++◌, length, Bool, true, nat_eq, nat_le, None, Ok, refl, sym, ap, subst, ◌∙◌, arith, length-append}
 use Rattle.std.specs.Prelude.{◌&&◌}
 use Rattle.std.proofs.lemmas.Grind.{common_steps}
 use Rattle.std.proofs.lemmas.Option.{slice_get_past}
@@ -10,12 +10,12 @@ use Rattle.mig_headers.specs.declared.kind.Kind.{Kind}
 use Rattle.mig_guest.specs.declared.part_key.PartKey.{PartKey}
 use Rattle.mig_guest.specs.PartKeys.{context_key}
 use Rattle.mig_records.specs.Faults.{type_allows}
-use Rattle.mig_hvm.specs.Params.{fault_of_params, params_in, IsParams}
+use Rattle.mig_hvm.specs.Params.{fault_of_params, IsParams}
 use Rattle.mig_hvm.proofs.Pairs.{params_are_spelled}
-use Rattle.mig_policy.specs.Policies.{leaf_at, leaves_in, msr_at, msrs_in, AreLeaves, AreMsrs}
+use Rattle.mig_policy.specs.Policies.{leaf_at, msr_at, AreLeaves, AreMsrs}
 use Rattle.mig_policy.proofs.EntriesRead.{leaves_are_spelled, msrs_are_spelled}
-use Rattle.mig_restore.specs.Judged.{Judged, ◌>>=◌, part, tried}
-use Rattle.mig_restore.specs.Judged.Judged.{Passes, Faulty}
+use Rattle.mig_restore.specs.Judged.{part}
+use Rattle.mig_restore.specs.Judged.Judged.{Passes}
 use Rattle.mig_restore.specs.Record.{Content, Entry}
 use Rattle.mig_restore.specs.Record.Content.{Nothing, Frames, Parts, Policy}
 use Rattle.mig_restore.specs.Judging.{fault_of_scan, cut, context_at, params_at, plain_at, tsc_says, leaves_say, msrs_say, entries_at, pages_at, body_at}

@@ -1,5 +1,5 @@
 -- What is spelled as the format says is accepted.
-use Rattle.std.proofs.Common.{◌≡◌, ℕ, ◌+◌, ◌≤◌, ◌<◌, ◌^◌, List, [], ◌∷◌, ◌++◌, length, Bool, true, false, cond, nat_eq, nat_lt, nat_le, not, is_none, IsSome, Option, Some, None, refl, sym, ap, subst, ◌∙◌, arith, append_assoc, length-append, take, drop, take-append-drop, length-take-le, length-drop, All, Result, Ok, Err, ◌⊎◌, inl, inr}
+use Rattle.std.proofs.Common.{◌≡◌, ℕ, ◌+◌, ◌≤◌, ◌<◌, ◌^◌, List, [], ◌∷◌, ◌++◌, length, Bool, true, false, nat_eq, nat_le, not, is_none, IsSome, Option, Some, None, refl, sym, ap, subst, ◌∙◌, arith, append_assoc, take, drop, take-append-drop, length-take-le, length-drop, All, ◌⊎◌, inl, inr}
 use Rattle.std.proofs.lemmas.Bool.{eqb-true}
 use Rattle.std.proofs.lemmas.Grind.{common_steps}
 use Rattle.std.proofs.lemmas.List.{length-map}
@@ -8,7 +8,7 @@ use Rattle.mig_bytes.specs.Bytes.{padding_len}
 use Rattle.mig_bytes.specs.Fields.{le32, be32}
 use Rattle.mig_bytes.specs.Walk.{Reaches}
 use Rattle.mig_bytes.specs.Walk.Reaches.{here, next}
-use Rattle.mig_headers.specs.Headers.{fault_of_marker, fault_of_image, fault_of_domain, kind_of_number, unless_faulty, IsImageHeader, IsDomainHeader}
+use Rattle.mig_headers.specs.Headers.{fault_of_marker, fault_of_image, fault_of_domain, kind_of_number, IsImageHeader, IsDomainHeader}
 use Rattle.mig_headers.proofs.HeaderLaws.{image_is_spelled, domain_is_spelled}
 use Rattle.mig_headers.specs.RecordTypes.{type_of_number}
 use Rattle.mig_headers.specs.declared.fault.Cause.{Cause}
@@ -24,15 +24,15 @@ use Rattle.mig_records.specs.Faults.{long_rows, length_rows, type_allows, fault_
 use Rattle.mig_order.specs.Order.{IsInOrder, fault_of_type}
 use Rattle.mig_order.proofs.OrderLaw.{faultless_is_in_order}
 use Rattle.mig_pvtables.specs.Whole.{guest_rows, fault_of_guest}
-use Rattle.mig_restore.specs.Judged.{Judged, ◌>>=◌, part, tried}
-use Rattle.mig_restore.specs.Judged.Judged.{Passes, Faulty}
+use Rattle.mig_restore.specs.Judged.{◌>>=◌, part, tried}
+use Rattle.mig_restore.specs.Judged.Judged.{Passes}
 use Rattle.mig_restore.specs.Record.{StreamRecord, types_of, is_ended}
-use Rattle.mig_restore.specs.Judging.{Opening, opening_of, is_built, fault_of_built, fault_of_number, fault_of_fields, fault_of_head, head_at, fault_at_end, body_at, record_at}
+use Rattle.mig_restore.specs.Judging.{Opening, opening_of, is_built, fault_of_built, fault_of_fields, fault_of_head, head_at, fault_at_end, body_at, record_at}
 use Rattle.mig_restore.specs.Mean.{mean}
-use Rattle.mig_restore.specs.Spelled.{HasContent, IsComplete, Follows, Spells, IsImage, Accepted}
+use Rattle.mig_restore.specs.Spelled.{IsComplete, Follows, Spells, IsImage, Accepted}
 use Rattle.mig_restore.specs.Spelled.Spells.{none, one_more}
 use Rattle.mig_restore.specs.Stream as stream
-use Rattle.mig_restore.specs.Stream.{Front, Verdict, at_start, front_of, verdict_of_front, of_records, verdict, at_place, IsRefused}
+use Rattle.mig_restore.specs.Stream.{Front, Verdict, at_start, verdict_of_front, of_records, verdict, at_place, IsRefused}
 use Rattle.mig_restore.specs.Stream.Verdict.{Accepts, Refuses}
 use Rattle.mig_restore.proofs.Joins.{part_whole, unless_ok}
 use Rattle.mig_restore.proofs.Parts.{begins, behind_head, behind_guest, behind_body}

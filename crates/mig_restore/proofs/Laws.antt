@@ -1,6 +1,5 @@
 -- What judging accepts is spelled as the format says.
-use Rattle.std.proofs.Common.{◌≡◌, ℕ, ◌+◌, ◌≤◌, ◌<◌, ◌^◌, List, [], ◌∷◌, ◌++◌, length, Bool, true, false, cond, nat_eq, nat_lt, nat_le, not, Option, Some, None, is_none, IsSome, refl, sym, ap, subst, ◌∙◌, arith, append_assoc, length-append, ltb-false, leb-false, All, Result, Ok, Err}
-use Rattle.std.proofs.lemmas.Grind.{common_steps}
+use Rattle.std.proofs.Common.{◌≡◌, ℕ, ◌+◌, ◌≤◌, ◌<◌, ◌^◌, List, [], ◌∷◌, ◌++◌, length, Bool, true, false, cond, nat_le, not, Option, Some, None, is_none, IsSome, refl, sym, ap, subst, ◌∙◌, append_assoc, ltb-false, leb-false, All, Ok}
 use Rattle.std.proofs.lemmas.List.{length-map}
 use Rattle.std.specs.FinMap as maps
 use Rattle.mig_bytes.specs.Bytes.{padding_len}
@@ -27,15 +26,15 @@ use Rattle.mig_restore.specs.Judged.Judged.{Passes, Faulty}
 use Rattle.mig_restore.specs.Record.{StreamRecord, types_of, is_ended}
 use Rattle.mig_restore.specs.Judging.{Opening, opening_of, is_built, fault_of_built, fault_of_number, fault_of_fields, fault_of_head, head_at, fault_at_end, body_at, record_at}
 use Rattle.mig_restore.specs.Mean.{mean}
-use Rattle.mig_restore.specs.Spelled.{HasContent, IsComplete, Follows, Spells, IsImage}
+use Rattle.mig_restore.specs.Spelled.{IsComplete, Follows, Spells, IsImage}
 use Rattle.mig_restore.specs.Spelled.{Spells as spells}
 use Rattle.mig_restore.specs.Stream.{Front, Verdict, one_more, at_start, front_of, front_with, verdict_of_front, verdict_with, of_records, verdict, at_place, marker_at, version_at, kind_at}
 use Rattle.mig_restore.specs.Stream.Verdict.{Accepts, Refuses}
 use Rattle.mig_restore.proofs.Parts.{begins, behind_head, behind_guest, behind_body}
 use Rattle.mig_restore.proofs.Arrivals.{goes_on, front_stops}
-use Rattle.mig_restore.proofs.Passing.{Both, both_pass, part_passes, tried_passes, same_passes, rows_fine, both_none, not_false}
-use Rattle.mig_restore.proofs.WordTypes.{IsByte, bytes_front, bytes_behind}
-use Rattle.mig_restore.proofs.Bodies.{Says, body_says}
+use Rattle.mig_restore.proofs.Passing.{both_pass, part_passes, tried_passes, same_passes, rows_fine, both_none, not_false}
+use Rattle.mig_restore.proofs.WordTypes.{IsByte, bytes_behind}
+use Rattle.mig_restore.proofs.Bodies.{body_says}
 
 -- ---- a head
 
@@ -116,7 +115,7 @@ found o records i r rest all_bytes going h =
       whole = regroup i b.x b.mid head a.mid s.body c.mid d.x d.mid rest p.0 e.0 e.1 s.whole q.0 f.1;
       follows = record {
         body = s.body;
-        is = record { head = head; padding = d.x; whole = refl; head_len = ap length (sym e.0) ∙ p.1; type_is = refl; len_is = sym s.body_len; padded = q.1 ∙ ap padding_len (sym s.body_len) };
+        is = record { head = head; padding = d.x; whole = refl {a = head ++ (s.body ++ d.x)}; head_len = ap length (sym e.0) ∙ p.1; type_is = refl {a = type}; len_is = sym s.body_len; padded = q.1 ∙ ap padding_len (sym s.body_len) };
         says = s.says;
         small = subst (λ n. n ≤ 2 ^ 27) (sym s.body_len) fine.small;
         built = fine.built;

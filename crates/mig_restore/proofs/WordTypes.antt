@@ -1,5 +1,5 @@
 -- A word of 8 bytes whose type isn't reserved names a type.
-use Rattle.std.proofs.Common.{◌≡◌, ℕ, zero, suc, ◌+◌, ◌*◌, ◌/◌, ◌≤◌, ◌<◌, ◌^◌, List, [], ◌∷◌, ◌++◌, length, drop, get_or, Bool, true, false, cond, nat_eq, nat_le, Option, Some, None, refl, sym, ap, subst, ◌∙◌, arith, All, length-append, leb-false}
+use Rattle.std.proofs.Common.{◌≡◌, ℕ, zero, suc, ◌+◌, ◌*◌, ◌<◌, ◌^◌, List, [], ◌∷◌, ◌++◌, length, drop, get_or, Bool, true, false, cond, nat_eq, nat_le, Option, Some, None, refl, subst, arith, All, length-append, leb-false}
 use Rattle.std.proofs.lemmas.Bool.{leb-true}
 use Rattle.std.specs.Prelude.{find, ◌&&◌}
 use Rattle.std.specs.List.{AllByRecursion, range_with_len}
@@ -30,7 +30,8 @@ byte_at xs h i = elim (nat_le (length xs) i) as (λ b. nat_le (length xs) i ≡ 
   | false ↦ λ within. h i 0 (leb-false (length xs) i within)
 ] refl
 
-little_less : (xs : List ℕ) → All IsByte xs → (i n : ℕ) → little_from i n xs < 256 ^ n
+-- n bytes spell a number below 256 ^ n
+pub little_less : (xs : List ℕ) → All IsByte xs → (i n : ℕ) → little_from i n xs < 256 ^ n
 little_less xs h i zero = omega arith
 little_less xs h i (suc n) =
     let rest = little_less xs h (suc i) n in
@@ -38,7 +39,7 @@ little_less xs h i (suc n) =
     let p : 256 ^ suc n ≡ 256 * 256 ^ n = pow-succ' 256 n in
     omega (arith, rest, byte, p)
 
-bytes_drop : (n : ℕ) (xs : List ℕ) → All IsByte xs → All IsByte (drop n xs)
+pub bytes_drop : (n : ℕ) (xs : List ℕ) → All IsByte xs → All IsByte (drop n xs)
 bytes_drop zero xs h = h
 bytes_drop (suc n) [] h = h
 bytes_drop (suc n) (x ∷ xs) h = bytes_drop n xs (bytes_behind (x ∷ []) xs h)
