@@ -166,7 +166,7 @@ part_whole n x rest size = rw (le-ltb (length (x ++ rest)) n (omega (arith, leng
 
 -- ---- headers
 
-unless_ok : {H : Type 0} (f : Option Cause) (h x : H) → unless_faulty f h ≡ Ok x → (f ≡ None) × (h ≡ x)
+pub unless_ok : {H : Type 0} (f : Option Cause) (h x : H) → unless_faulty f h ≡ Ok x → (f ≡ None) × (h ≡ x)
 unless_ok None h x e = (refl, cc)
 unless_ok {H} (Some c) h x e = let no : ◌≡◌ {A = Result H Cause} (Err c) (Ok x) = e in absurd (apart no)
   where

@@ -1,7 +1,13 @@
 pub mod Arrivals
-pub mod Joins
-pub mod Meaning
-pub mod Parts
+pub mod Batches
+pub mod Bodies
+pub mod BodiesPass
+pub mod Converse
+pub mod Entries
 pub mod Growth
 pub mod Heads
-pub mod Entries
+pub mod Joins
+pub mod Laws
+pub mod Meaning
+pub mod Parts
+pub mod Passing

@@ -6,8 +6,7 @@ use Rattle.mig_bytes.specs.Fields.{le32}
 use Rattle.mig_headers.specs.Contexts.{scan}
 use Rattle.mig_headers.specs.Headers.{IsImageHeader, IsDomainHeader}
 use Rattle.mig_headers.specs.declared.kind.Kind.{Kind}
-use Rattle.mig_pagetypes.specs.PageTypes.{type_of}
-use Rattle.mig_pagetypes.specs.FrameWords.{word_type, word_pfn, word_has_data}
+use Rattle.mig_pagetypes.specs.FrameWords.{word_pfn, word_has_data}
 use Rattle.mig_guest.specs.declared.part_key.PartKey.{PartKey}
 use Rattle.mig_guest.specs.Guests.{GuestOf}
 use Rattle.mig_guest.specs.PartKeys.{tsc_key, context_key}
@@ -17,7 +16,7 @@ use Rattle.mig_order.specs.Order.{IsInOrder}
 use Rattle.mig_hvm.specs.Params.{IsParams}
 use Rattle.mig_policy.specs.Policies.{AreLeaves, AreMsrs}
 use Rattle.mig_pvtables.specs.Whole.{IsFew}
-use Rattle.mig_restore.specs.Judging.{Opening, is_built}
+use Rattle.mig_restore.specs.Judging.{Opening, is_built, kind_in}
 use Rattle.mig_restore.specs.Mean.{mean}
 use Rattle.mig_restore.specs.Record.{StreamRecord, Entry, Content, types_of, is_ended}
 use Rattle.mig_restore.specs.Record.Content.{Nothing, Frames, Parts, Policy}
@@ -32,7 +31,7 @@ IsPage false bytes page = (bytes ≡ []) × (page ≡ None)
 -- the entry of a word, with these bytes
 pub record IsEntry (word : ℕ) (bytes : List ℕ) (e : Entry) : Type 0 where
   pub pfn : e.pfn ≡ word_pfn word
-  pub kind : type_of (word_type word) ≡ Some e.kind
+  pub kind : e.kind ≡ kind_in word
   pub page : IsPage (word_has_data word) bytes e.page
 
 -- the entries of these words, in order

@@ -1,0 +1,179 @@
+-- The body of a PAGE_DATA record: what judging lets pass is spelled as the format says, and what is spelled so passes.
+use Rattle.std.proofs.Common.{◌≡◌, ℕ, ◌+◌, ◌*◌, List, [], ◌∷◌, ◌++◌, length, Bool, true, false, cond, nat_eq, not, Option, Some, None, refl, sym, ap, subst, ◌∙◌, arith, append_assoc, length-append, All}
+use Rattle.std.specs.List.{count_by, filter}
+use Rattle.std.proofs.lemmas.Bool.{eqb-true}
+use Rattle.std.proofs.lemmas.List.Sums.{length-filter}
+use Rattle.std.proofs.lemmas.List.Elements.{All-head, All-tail}
+use Rattle.std.proofs.lemmas.List.FromFn.{length-map-range_with_len}
+use Rattle.mig_bytes.specs.Fields.{le32, le64}
+use Rattle.mig_headers.specs.declared.fault.Cause.TheVariants.{BadLength}
+use Rattle.mig_headers.specs.declared.kind.Kind.{Kind}
+use Rattle.mig_pagetypes.specs.PageTypes.{type_of}
+use Rattle.mig_pagetypes.specs.FrameWords.{word_type, word_pfn, word_has_data}
+use Rattle.mig_records.specs.Faults.{fault_of_count, fault_of_words, count_rows}
+use Rattle.mig_records.specs.Words.{words, data_len_of}
+use Rattle.mig_records.proofs.WordFaults.{none_is_wrong, nothing_found}
+use Rattle.mig_restore.specs.Judged.{Judged, ◌>>=◌, part, tried, each}
+use Rattle.mig_restore.specs.Judged.Judged.{Passes}
+use Rattle.mig_restore.specs.Record.{Entry}
+use Rattle.mig_restore.specs.Judging.{kind_in, fault_of_data, words_at, page_at, entry_at, entries_at}
+use Rattle.mig_restore.specs.Spelled.{IsPage, IsEntry, AreEntries, IsBatch}
+use Rattle.mig_restore.proofs.Joins.{part_whole}
+use Rattle.mig_restore.proofs.Passing.{both_pass, part_passes, tried_passes, same_passes, then_passes, tried_none, rows_fine, no_fault, not_false, ge_ltb, same_is, not_zero, positive}
+
+counted : (w : ℕ) (ws : List ℕ) → count_by word_has_data (w ∷ ws) ≡ cond (word_has_data w) 1 0 + count_by word_has_data ws
+counted w ws = sym (length-filter word_has_data (w ∷ ws)) ∙ split (word_has_data w) (filter word_has_data ws) ∙ ap (λ n. cond (word_has_data w) 1 0 + n) (length-filter word_has_data ws)
+  where
+    split : (b : Bool) (f : List ℕ) → length (cond b (w ∷ f) f) ≡ cond b 1 0 + length f
+    split true f = omega arith
+    split false f = omega arith
+
+-- ---- judging passes
+
+-- the pages of these words
+record Pages (ws i : List ℕ) (es : List Entry) (rest : List ℕ) : Type 0 where
+  bytes : List ℕ
+  whole : i ≡ bytes ++ rest
+  size : length bytes ≡ 4096 * count_by word_has_data ws
+  entries : AreEntries ws bytes es
+
+record OnePage (b : Bool) (i : List ℕ) (page : Option (List ℕ)) (rest : List ℕ) : Type 0 where
+  bytes : List ℕ
+  whole : i ≡ bytes ++ rest
+  size : length bytes ≡ 4096 * cond b 1 0
+  page_is : IsPage b bytes page
+
+one_page : (b : Bool) (i : List ℕ) (page : Option (List ℕ)) (rest : List ℕ) → cond b (part 4096 i >>= λ p. Passes (Some p.0) p.1) (Passes None i) ≡ Passes page rest → OnePage b i page rest
+one_page true i page rest h =
+    let a = both_pass (part 4096 i) _ page rest h in
+    let p = part_passes 4096 i a.x a.mid a.first in
+    let e = same_passes _ _ _ _ a.second in
+    record { bytes = a.x; whole = p.0 ∙ ap (λ l. a.x ++ l) e.1; size = p.1; page_is = (p.1, sym e.0) }
+one_page false i page rest h = let e = same_passes _ _ _ _ h in record { bytes = []; whole = e.1; size = refl; page_is = (refl, sym e.0) }
+
+entry_is : (w : ℕ) (bytes : List ℕ) (page : Option (List ℕ)) (e : Entry) → IsPage (word_has_data w) bytes page → record { pfn = word_pfn w; kind = kind_in w; page = page } ≡ e → IsEntry w bytes e
+entry_is w bytes page e page_is is = subst (IsEntry w bytes) is (record { pfn = refl; kind = refl; page = page_is })
+
+each_entries : (ws i : List ℕ) (es : List Entry) (rest : List ℕ) → each entry_at ws i ≡ Passes es rest → Pages ws i es rest
+unfolding each
+each_entries [] i es rest h = let e = same_passes _ _ _ _ h in record { bytes = []; whole = e.1; size = refl; entries = (refl, sym e.0) }
+each_entries (w ∷ ws) i es rest h =
+    let a = both_pass (entry_at w i) _ es rest h in
+    let b = both_pass (page_at w i) _ a.x a.mid a.first in
+    let e = same_passes _ _ _ _ b.second in
+    let p = one_page (word_has_data w) i b.x b.mid b.first in
+    let c = both_pass (each entry_at ws a.mid) _ es rest a.second in
+    let q = each_entries ws a.mid c.x c.mid c.first in
+    let f = same_passes _ _ _ _ c.second in
+    record {
+      bytes = p.bytes ++ q.bytes;
+      whole = p.whole ∙ ap (λ l. p.bytes ++ l) (e.1 ∙ q.whole ∙ ap (λ l. q.bytes ++ l) f.1) ∙ sym (append_assoc p.bytes q.bytes rest);
+      size = omega (arith, length-append p.bytes q.bytes, p.size, q.size, counted w ws);
+      entries = (p.bytes, q.bytes, a.x, c.x, refl, sym f.0, entry_is w p.bytes b.x a.x p.page_is e.0, q.entries);
+    }
+
+regroup_pages : (i f m w m2 d t rest : List ℕ) → i ≡ f ++ m → m ≡ w ++ m2 → m2 ≡ d → d ≡ t ++ rest → i ≡ (f ++ (w ++ t)) ++ rest
+regroup_pages i f m w m2 d t rest e1 e2 e3 e4 =
+    e1 ∙ ap (λ l. f ++ l) (e2 ∙ ap (λ l. w ++ l) (e3 ∙ e4) ∙ sym (append_assoc w t rest)) ∙ sym (append_assoc f (w ++ t) rest)
+
+body_size : (len n k : ℕ) (f w t : List ℕ) → length f ≡ 8 → length w ≡ 8 * n → length t ≡ 4096 * k → len ≡ 8 + 8 * n + 4096 * k → length (f ++ (w ++ t)) ≡ len
+body_size len n k f w t e1 e2 e3 e4 = omega (arith, length-append f (w ++ t), length-append w t)
+
+-- a batch, and what follows it
+pub record Batch (kind : Kind) (len : ℕ) (i : List ℕ) (es : List Entry) (rest : List ℕ) : Type 0 where
+  pub body : List ℕ
+  pub whole : i ≡ body ++ rest
+  pub size : length body ≡ len
+  pub batch : IsBatch kind body es
+
+behind_words : Kind → ℕ → List ℕ × List ℕ → Judged (List Entry)
+behind_words kind len ws = tried (fault_of_words kind 0 ws.0) ws.1 >>= λ _. tried (fault_of_data len ws.0) ws.1 >>= λ _. each entry_at ws.0 ws.1
+
+pub batch_passes : (kind : Kind) (len : ℕ) (i : List ℕ) (es : List Entry) (rest : List ℕ) → entries_at kind len i ≡ Passes es rest → Batch kind len i es rest
+unfolding behind_words
+batch_passes kind len i es rest h =
+    let b = both_pass (part 8 i) _ es rest h in
+    let front = b.x in
+    let n = le32 front 0 in
+    let p = part_passes 8 i front b.mid b.first in
+    let c = both_pass (tried (fault_of_count len n) b.mid) (λ _. words_at n b.mid >>= behind_words kind len) es rest b.second in
+    let fc = rows_fine (count_rows len n) (tried_passes _ b.mid c.mid c.x c.first).0 in
+    let d = both_pass (words_at n b.mid) (behind_words kind len) es rest c.second in
+    let w = both_pass (part (8 * n) b.mid) _ d.x d.mid d.first in
+    let q = part_passes (8 * n) b.mid w.x w.mid w.first in
+    let e = same_passes _ _ _ _ w.second in
+    let ws_is : words n w.x ≡ d.x = e.0 in
+    let f = both_pass (tried (fault_of_words kind 0 d.x) d.mid) (λ _. tried (fault_of_data len d.x) d.mid >>= λ _. each entry_at d.x d.mid) es rest d.second in
+    let good = none_is_wrong kind 0 (words n w.x) (ap (fault_of_words kind 0) ws_is ∙ (tried_passes _ d.mid f.mid f.x f.first).0) in
+    let g = both_pass (tried (fault_of_data len d.x) d.mid) (λ _. each entry_at d.x d.mid) es rest f.second in
+    let fd = rows_fine ((not (nat_eq len (data_len_of d.x)), BadLength len) ∷ []) (tried_passes _ d.mid g.mid g.x g.first).0 in
+    let t = each_entries d.x d.mid es rest g.second in
+    let count : length d.x ≡ n = ap length (sym ws_is) ∙ length-map-range_with_len (λ k. le64 w.x (8 * k)) 0 n in
+    let full : len ≡ 8 + 8 * n + 4096 * count_by word_has_data d.x = eqb-true len _ (not_false _ fd.0) ∙ ap (λ m. 8 + 8 * m + 4096 * count_by word_has_data d.x) count in
+    record {
+      body = front ++ (w.x ++ t.bytes);
+      whole = regroup_pages i front b.mid w.x w.mid d.mid t.bytes rest p.0 q.0 e.1 t.whole;
+      size = body_size len n (count_by word_has_data d.x) front w.x t.bytes p.1 q.1 t.size full;
+      batch = record {
+        front = front;
+        words_bytes = w.x;
+        pages_bytes = t.bytes;
+        whole = refl {a = front ++ (w.x ++ t.bytes)};
+        front_len = p.1;
+        some = positive n fc.1.0;
+        words_len = q.1;
+        good = good;
+        entries = subst (λ l. AreEntries l t.bytes es) (sym ws_is) t.entries;
+      };
+    }
+
+-- ---- what is spelled passes
+
+page_goes : (b : Bool) (bytes rest : List ℕ) (page : Option (List ℕ)) → IsPage b bytes page → cond b (part 4096 (bytes ++ rest) >>= λ p. Passes (Some p.0) p.1) (Passes None (bytes ++ rest)) ≡ Passes page rest
+page_goes true bytes rest page (size, is) = then_passes _ _ bytes rest _ (part_whole 4096 bytes rest size) (ap (λ p. Passes p rest) (sym is))
+page_goes false bytes rest page (size, is) = rw (size, is) refl
+
+page_len : (b : Bool) (bytes : List ℕ) (page : Option (List ℕ)) → IsPage b bytes page → length bytes ≡ 4096 * cond b 1 0
+page_len true bytes page (size, is) = size
+page_len false bytes page (size, is) = ap length size
+
+same_entry : (w : ℕ) (bytes : List ℕ) (e : Entry) → IsEntry w bytes e → record { pfn = word_pfn w; kind = kind_in w; page = e.page } ≡ e
+same_entry w bytes e is = ap (λ n. record { pfn = n; kind = kind_in w; page = e.page }) (sym is.pfn) ∙ ap (λ k. record { pfn = e.pfn; kind = k; page = e.page }) (sym is.kind)
+
+entries_go : (ws bytes rest : List ℕ) (es : List Entry) → AreEntries ws bytes es → each entry_at ws (bytes ++ rest) ≡ Passes es rest
+unfolding each
+entries_go [] bytes rest es (a, b) = rw (a, b) refl
+entries_go (w ∷ ws) bytes rest es (page, more, e, others, whole, is, one, entries) =
+    ap (each entry_at (w ∷ ws)) (ap (λ l. l ++ rest) whole ∙ append_assoc page more rest)
+    ∙ then_passes (entry_at w (page ++ (more ++ rest))) _ e (more ++ rest) _
+    (then_passes (page_at w (page ++ (more ++ rest))) _ e.page (more ++ rest) _ (page_goes (word_has_data w) page (more ++ rest) e.page one.page) (ap (λ x. Passes x (more ++ rest)) (same_entry w page e one)))
+    (then_passes (each entry_at ws (more ++ rest)) _ others rest _ (entries_go ws more rest others entries) (ap (λ l. Passes l rest) (sym is)))
+
+entries_len : (ws bytes : List ℕ) (es : List Entry) → AreEntries ws bytes es → length bytes ≡ 4096 * count_by word_has_data ws
+entries_len [] bytes es (a, b) = ap length a
+entries_len (w ∷ ws) bytes es (page, more, e, others, whole, is, one, entries) =
+    let p = page_len (word_has_data w) page e.page one.page in
+    let q = entries_len ws more others entries in
+    omega (arith, ap length whole, length-append page more, p, q, counted w ws)
+
+size_is : (len n k : ℕ) (body f w t : List ℕ) → body ≡ f ++ (w ++ t) → length f ≡ 8 → length w ≡ 8 * n → length t ≡ 4096 * k → length body ≡ len → len ≡ 8 + 8 * n + 4096 * k
+size_is len n k body f w t e1 e2 e3 e4 e5 = omega (arith, ap length e1, length-append f (w ++ t), length-append w t)
+
+pub batch_goes : (kind : Kind) (len : ℕ) (body rest : List ℕ) (es : List Entry) → IsBatch kind body es → length body ≡ len → entries_at kind len (body ++ rest) ≡ Passes es rest
+batch_goes kind len body rest es b size =
+    let n = le32 b.front 0 in
+    let ws = words n b.words_bytes in
+    let tail = b.pages_bytes ++ rest in
+    let mid = b.words_bytes ++ tail in
+    let input : body ++ rest ≡ b.front ++ mid = ap (λ l. l ++ rest) b.whole ∙ append_assoc b.front _ rest ∙ ap (λ l. b.front ++ l) (append_assoc b.words_bytes b.pages_bytes rest) in
+    let full : len ≡ 8 + 8 * n + 4096 * count_by word_has_data ws = size_is len n (count_by word_has_data ws) body b.front b.words_bytes b.pages_bytes b.whole b.front_len b.words_len (entries_len ws b.pages_bytes es b.entries) size in
+    let count : length ws ≡ n = length-map-range_with_len (λ k. le64 b.words_bytes (8 * k)) 0 n in
+    let counts : fault_of_count len n ≡ None = no_fault (count_rows len n) (ge_ltb (8 + 8 * n) len (omega (arith, full)), (not_zero n b.some, tt)) in
+    let goods : fault_of_words kind 0 ws ≡ None = nothing_found kind 0 ws b.good in
+    let sizes : fault_of_data len ws ≡ None = no_fault ((not (nat_eq len (data_len_of ws)), BadLength len) ∷ [])
+    (ap not (same_is len _ (full ∙ ap (λ m. 8 + 8 * m + 4096 * count_by word_has_data ws) (sym count))), tt) in
+    ap (entries_at kind len) input
+    ∙ then_passes (part 8 (b.front ++ mid)) _ b.front mid _ (part_whole 8 b.front mid b.front_len)
+    (tried_none (fault_of_count len n) mid _ counts
+    ∙ then_passes (words_at n mid) _ ws tail _ (then_passes (part (8 * n) mid) _ b.words_bytes tail _ (part_whole (8 * n) b.words_bytes tail b.words_len) refl)
+    (tried_none (fault_of_words kind 0 ws) tail _ goods ∙ tried_none (fault_of_data len ws) tail _ sizes ∙ entries_go ws b.pages_bytes rest es b.entries))

@@ -1,0 +1,253 @@
+-- What judging accepts is spelled as the format says.
+use Rattle.std.proofs.Common.{◌≡◌, ℕ, ◌+◌, ◌≤◌, ◌<◌, ◌^◌, List, [], ◌∷◌, ◌++◌, length, Bool, true, false, cond, nat_le, not, Option, Some, None, is_none, IsSome, refl, sym, ap, subst, ◌∙◌, append_assoc, ltb-false, leb-false, All, Ok}
+use Rattle.std.proofs.lemmas.List.{length-map}
+use Rattle.std.specs.FinMap as maps
+use Rattle.mig_bytes.specs.Bytes.{padding_len}
+use Rattle.mig_bytes.specs.Fields.{le32, be32}
+use Rattle.mig_bytes.specs.Walk.{Reaches}
+use Rattle.mig_bytes.specs.Walk.Reaches.{here, next}
+use Rattle.mig_bytes.proofs.Walks.{walk_end_reached}
+use Rattle.mig_headers.specs.Headers.{fault_of_marker, fault_of_image, fault_of_domain, kind_of_number, unless_faulty, IsImageHeader, IsDomainHeader}
+use Rattle.mig_headers.proofs.HeaderLaws.{image_is_spelled, domain_is_spelled}
+use Rattle.mig_headers.specs.RecordTypes.{type_of_number}
+use Rattle.mig_headers.specs.declared.fault.Cause.{Cause}
+use Rattle.mig_headers.specs.declared.fault.Cause.TheVariants.{NotBuilt, TooManyRecords}
+use Rattle.mig_headers.specs.declared.fault.Place.{Place}
+use Rattle.mig_headers.specs.declared.fault.Place.TheVariants.{Record, ImageHeader, DomainHeader}
+use Rattle.mig_headers.specs.declared.kind.Kind.{Kind}
+use Rattle.mig_guest.specs.Guests.{GuestOf}
+use Rattle.mig_guest.specs.PartKeys.{context_key}
+use Rattle.mig_records.specs.Faults.{long_rows, length_rows, type_allows, fault_of_long, fault_of_length}
+use Rattle.mig_order.specs.Order.{IsInOrder, fault_of_type}
+use Rattle.mig_order.proofs.OrderLaw.{faultless_is_in_order}
+use Rattle.mig_pvtables.specs.Whole.{guest_rows, fault_of_guest}
+use Rattle.mig_restore.specs.Judged.{Judged, ◌>>=◌, part, tried}
+use Rattle.mig_restore.specs.Judged.Judged.{Passes, Faulty}
+use Rattle.mig_restore.specs.Record.{StreamRecord, types_of, is_ended}
+use Rattle.mig_restore.specs.Judging.{Opening, opening_of, is_built, fault_of_built, fault_of_number, fault_of_fields, fault_of_head, head_at, fault_at_end, body_at, record_at}
+use Rattle.mig_restore.specs.Mean.{mean}
+use Rattle.mig_restore.specs.Spelled.{IsComplete, Follows, Spells, IsImage}
+use Rattle.mig_restore.specs.Spelled.{Spells as spells}
+use Rattle.mig_restore.specs.Stream.{Front, Verdict, one_more, at_start, front_of, front_with, verdict_of_front, verdict_with, of_records, verdict, at_place, marker_at, version_at, kind_at}
+use Rattle.mig_restore.specs.Stream.Verdict.{Accepts, Refuses}
+use Rattle.mig_restore.proofs.Parts.{begins, behind_head, behind_guest, behind_body}
+use Rattle.mig_restore.proofs.Arrivals.{goes_on, front_stops}
+use Rattle.mig_restore.proofs.Passing.{both_pass, part_passes, tried_passes, same_passes, rows_fine, both_none, not_false}
+use Rattle.mig_restore.proofs.Bodies.{body_says}
+
+-- ---- a head
+
+-- what fields without fault say
+record FineFields (o : Opening) (types : List ℕ) (type len : ℕ) : Type 0 where
+  built : is_built o.kind type ≡ true
+  small : len ≤ 2 ^ 27
+  ordered : IsInOrder o.version o.kind types type
+  allowed : type_allows (type_of_number type) len ≡ true
+  few : length types < 2 ^ 28
+
+fields_fine : (o : Opening) (types : List ℕ) (type len : ℕ) → fault_of_fields o types type len ≡ None → FineFields o types type len
+unfolding fault_of_fields
+fields_fine o types type len fine =
+    let a = both_none (fault_of_built o.kind type) _ fine in
+    let b = both_none (fault_of_long len) _ a.1 in
+    let c = both_none (fault_of_type o.version o.kind types type) _ b.1 in
+    let d = both_none (fault_of_length type len) (fault_of_number types) c.1 in
+    record {
+      built = not_false _ (rows_fine ((not (is_built o.kind type), NotBuilt type) ∷ []) a.0).0;
+      small = ltb-false (2 ^ 27) len (rows_fine (long_rows len) b.0).0;
+      ordered = (faultless_is_in_order o.version o.kind types type).0 c.0;
+      allowed = not_false _ (rows_fine (length_rows type len) d.0).0;
+      few = leb-false (2 ^ 28) (length types) (rows_fine ((nat_le (2 ^ 28) (length types), TooManyRecords) ∷ []) d.1).0;
+    }
+
+-- ---- the guest at END
+
+some_is : {X : Type 0} (x : Option X) → is_none x ≡ false → IsSome x
+some_is None e = absurd (cc)
+some_is (Some x) e = refl
+
+complete_at_end : (type : ℕ) (g : GuestOf) → fault_at_end type g ≡ None → type ≡ 0 → IsComplete g
+complete_at_end type g fine is =
+    let at_end : fault_of_guest g ≡ None = subst (λ t. fault_at_end t g ≡ None) is fine in
+    let a = rows_fine (guest_rows g) at_end in
+    record { context = some_is (maps.get g.parts context_key) a.0; few = ltb-false (2 ^ 24) (length (maps.entries g.frames)) a.1.0 }
+
+-- ---- a whole record
+
+-- a record that stands whole and without fault
+record Found (o : Opening) (records : List StreamRecord) (i : List ℕ) (r : StreamRecord) (rest : List ℕ) : Type 0 where
+  text : List ℕ
+  whole : i ≡ text ++ rest
+  follows : Follows o records r text
+
+regroup : (i h' m' h m b c p d rest : List ℕ) → i ≡ h' ++ m' → h' ≡ h → m' ≡ m → m ≡ b ++ c → c ≡ p ++ d → d ≡ rest → i ≡ (h ++ (b ++ p)) ++ rest
+regroup i h' m' h m b c p d rest e1 e2 e3 e4 e5 e6 =
+    e1 ∙ ap (λ l. l ++ m') e2 ∙ ap (λ l. h ++ l) (e3 ∙ e4 ∙ ap (λ l. b ++ l) (e5 ∙ ap (λ l. p ++ l) e6) ∙ sym (append_assoc b p rest)) ∙ sym (append_assoc h (b ++ p) rest)
+
+found_same : (o : Opening) (records : List StreamRecord) (i rest : List ℕ) (r q : StreamRecord) → r ≡ q → Found o records i r rest → Found o records i q rest
+found_same o records i rest r q is f = subst (λ (x : StreamRecord). Found o records i x rest) is f
+
+found : (o : Opening) (records : List StreamRecord) (i : List ℕ) (r : StreamRecord) (rest : List ℕ) → is_ended records ≡ false → record_at o records i ≡ Passes r rest → Found o records i r rest
+unfolding behind_head behind_guest behind_body
+found o records i r rest going h =
+    let types = types_of records in
+    let g = mean o.kind records in
+    let a = both_pass (head_at o types i) (behind_head o.kind g) r rest (sym (begins o records i) ∙ h) in
+    let b = both_pass (part 8 i) _ a.x a.mid a.first in
+    let p = part_passes 8 i b.x b.mid b.first in
+    let t = both_pass (tried (fault_of_head o types b.x) b.mid) (λ _. Passes b.x b.mid) a.x a.mid b.second in
+    let e = same_passes _ _ _ _ t.second in
+    let head = a.x in
+    let type = le32 head 0 in
+    let len = le32 head 4 in
+    let fine = fields_fine o types type len (subst (λ l. fault_of_head o types l ≡ None) e.0 (tried_passes _ b.mid t.mid t.x t.first).0) in
+    let w = both_pass (tried (fault_at_end type g) a.mid) (λ _. behind_guest o.kind head a.mid) r rest a.second in
+    let whole = tried_passes _ a.mid w.mid w.x w.first in
+    let c = both_pass (body_at o.kind type len a.mid) (behind_body head) r rest w.second in
+    let d = both_pass (part (padding_len len) c.mid) (λ padding. Passes (record { type = type; content = c.x }) padding.1) r rest c.second in
+    let q = part_passes _ c.mid d.x d.mid d.first in
+    let f = same_passes _ _ _ _ d.second in
+    let s = body_says o.version o.kind types type len a.mid c.x c.mid fine.built fine.ordered fine.allowed c.first in
+    found_same o records i rest (record { type = type; content = c.x }) r f.0 (record {
+      text = head ++ (s.body ++ d.x);
+      whole = regroup i b.x b.mid head a.mid s.body c.mid d.x d.mid rest p.0 e.0 e.1 s.whole q.0 f.1;
+      follows = record {
+        body = s.body;
+        is = record { head = head; padding = d.x; whole = refl {a = head ++ (s.body ++ d.x)}; head_len = ap length (sym e.0) ∙ p.1; type_is = refl {a = type}; len_is = sym s.body_len; padded = q.1 ∙ ap padding_len (sym s.body_len) };
+        says = s.says;
+        small = subst (λ n. n ≤ 2 ^ 27) (sym s.body_len) fine.small;
+        built = fine.built;
+        ordered = fine.ordered;
+        few = subst (λ n. n < 2 ^ 28) (length-map records (λ (x : StreamRecord). x.type)) fine.few;
+        not_ended = going;
+        complete = complete_at_end type g whole.0;
+      };
+    })
+
+-- ---- a whole front
+
+module _ (o : Opening) where
+  record Step (f t : Front) : Type 0 where
+    r : StreamRecord
+    rest : List ℕ
+    going : is_ended f.records ≡ false
+    judged : record_at o f.records f.rest ≡ Passes r rest
+    is : t ≡ record { records = f.records ++ r ∷ []; rest = rest }
+
+  none_some : {x : Front} → None ≡ Some x → ⊥
+  none_some q = cc
+
+  step_at : (f t : Front) (b : Bool) (j : Judged StreamRecord) → is_ended f.records ≡ b → record_at o f.records f.rest ≡ j → cond b None (front_with f.records j) ≡ Some t → Step f t
+  step_at f t true j g e h = let no : ◌≡◌ {A = Option Front} None (Some t) = h in absurd (none_some no)
+  step_at f t false (Faulty c after) g e h = let no : ◌≡◌ {A = Option Front} None (Some t) = h in absurd (none_some no)
+  step_at f t false (Passes r after) g e h = record { r = r; rest = after; going = g; judged = e; is = cc }
+
+  step_of : (f t : Front) → one_more o f ≡ Some t → Step f t
+  unfolding one_more
+  step_of f t h = step_at f t (is_ended f.records) (record_at o f.records f.rest) refl refl h
+
+  record Split (rest : List ℕ) (f : Front) : Type 0 where
+    bytes : List ℕ
+    whole : rest ≡ bytes ++ f.rest
+    spelled : Spells o bytes f.records
+
+  split_more : (rest : List ℕ) (u t : Front) → Split rest u → Step u t → Split rest t
+  split_more rest u t s step =
+      let g = found o u.records u.rest step.r step.rest step.going step.judged in
+      let more : Split rest (record { records = u.records ++ step.r ∷ []; rest = step.rest }) = record {
+        bytes = s.bytes ++ g.text;
+        whole = s.whole ∙ ap (λ l. s.bytes ++ l) g.whole ∙ sym (append_assoc s.bytes g.text step.rest);
+        spelled = spells.one_more s.bytes u.records step.r g.text s.spelled g.follows;
+      } in subst (Split rest) (sym step.is) more
+
+  front_spelled : (rest : List ℕ) (f : Front) → Reaches (one_more o) (at_start rest) f → Split rest f
+  front_spelled rest _ here = record { bytes = []; whole = refl; spelled = spells.none }
+  front_spelled rest _ (next u t reached goes) = split_more rest u t (front_spelled rest u reached) (step_of u t goes)
+
+  accepts_at : (f : Front) (b : Bool) (j : Judged StreamRecord) (p : Opening) (records : List StreamRecord) (rest : List ℕ) → is_ended f.records ≡ b → one_more o f ≡ None → record_at o f.records f.rest ≡ j
+      → cond b (Accepts o f.records f.rest) (verdict_with o f.records f.rest j) ≡ Accepts p records rest → (o ≡ p) × (f.records ≡ records) × (f.rest ≡ rest) × (b ≡ true)
+  accepts_at f true j p records rest g stops is h = (cc, cc, cc, refl)
+  accepts_at f false (Passes r after) p records rest g stops is h = let no : ◌≡◌ {A = Option Front} (Some (record { records = f.records ++ r ∷ []; rest = after })) None = sym (goes_on o f r after g is) ∙ stops in cc
+  accepts_at f false (Faulty c after) p records rest g stops is h = let no : ◌≡◌ {A = Verdict} (Refuses (Record (length f.records)) c after) (Accepts p records rest) = h in (cc, cc, cc, cc)
+
+  -- what stands behind the headers of an accepted image is spelled as the format says
+  accepted_spelled : (i : List ℕ) (p : Opening) (records : List StreamRecord) (rest : List ℕ) → of_records o i ≡ Accepts p records rest
+      → (o ≡ p) × (bytes : List ℕ) × (i ≡ bytes ++ rest) × Spells o bytes records × (is_ended records ≡ true)
+  unfolding verdict_of_front front_of
+  accepted_spelled i p records rest h =
+      let f = front_of o i in
+      let s = front_spelled i f (walk_end_reached (one_more o) (length i) (at_start i) (at_start i) here) in
+      let e = accepts_at f (is_ended f.records) (record_at o f.records f.rest) p records rest refl (front_stops o i) refl h in
+      (e.0, s.bytes, s.whole ∙ ap (λ l. s.bytes ++ l) e.2, subst (Spells o s.bytes) e.1 s.spelled, ap is_ended (sym e.1) ∙ e.3)
+
+-- ---- the headers
+
+record HeaderPart {Y : Type 0} (n : ℕ) (f : List ℕ → Option Cause) (y : List ℕ → Y) (i : List ℕ) (x : Y) (rest : List ℕ) : Type 0 where
+  bytes : List ℕ
+  whole : i ≡ bytes ++ rest
+  size : length bytes ≡ n
+  fine : f bytes ≡ None
+  value : y bytes ≡ x
+
+header_passes : {Y : Type 0} (n : ℕ) (f : List ℕ → Option Cause) (y : List ℕ → Y) (i : List ℕ) (x : Y) (rest : List ℕ) → (part n i >>= λ p. tried (f p.0) p.1 >>= λ _. Passes (y p.0) p.1) ≡ Passes x rest → HeaderPart n f y i x rest
+header_passes n f y i x rest h =
+    let b = both_pass (part n i) (λ p. tried (f p.0) p.1 >>= λ _. Passes (y p.0) p.1) x rest h in
+    let p = part_passes n i b.x b.mid b.first in
+    let t = both_pass (tried (f b.x) b.mid) (λ _. Passes (y b.x) b.mid) x rest b.second in
+    let e = same_passes _ _ _ _ t.second in
+    record { bytes = b.x; whole = p.0 ∙ ap (λ l. b.x ++ l) e.1; size = p.1; fine = (tried_passes (f b.x) b.mid t.mid t.x t.first).0; value = e.0 }
+
+record AtPlace {X : Type 0} (j : Judged X) (v : X → List ℕ → Verdict) (o : Opening) (records : List StreamRecord) (rest : List ℕ) : Type 0 where
+  x : X
+  mid : List ℕ
+  first : j ≡ Passes x mid
+  second : v x mid ≡ Accepts o records rest
+
+at_place_accepts : {X : Type 0} (place : Place) (j : Judged X) (v : X → List ℕ → Verdict) (o : Opening) (records : List StreamRecord) (rest : List ℕ) → at_place place j v ≡ Accepts o records rest → AtPlace j v o records rest
+at_place_accepts place (Passes x mid) v o records rest h = record { x = x; mid = mid; first = refl; second = h }
+at_place_accepts place (Faulty c mid) v o records rest h = let no : ◌≡◌ {A = Verdict} (Refuses place c mid) (Accepts o records rest) = h in absurd (wrong no)
+  where
+    wrong : Refuses place c mid ≡ Accepts o records rest → ⊥
+    wrong q = cc
+
+reads_as : {H : Type 0} (f : Option Cause) (h x : H) → f ≡ None → h ≡ x → unless_faulty f h ≡ Ok x
+reads_as f h x fine is = rw (fine, is) refl
+
+image_header : (first rest : List ℕ) (version : ℕ) → length first ≡ 8 → length rest ≡ 16 → fault_of_marker first ≡ None → fault_of_image rest ≡ None → be32 rest 4 ≡ version → IsImageHeader (first ++ rest) version
+image_header first rest version size more marker fine is =
+    (image_is_spelled first rest version size more).0 (marker, reads_as (fault_of_image rest) (record { version = be32 rest 4 }) (record { version = version }) fine (ap (λ v. record { version = v }) is))
+
+domain_header : (bytes : List ℕ) (kind : Kind) → length bytes ≡ 16 → fault_of_domain bytes ≡ None → kind_of_number (le32 bytes 0) ≡ kind → IsDomainHeader bytes kind (le32 bytes 8) (le32 bytes 12)
+domain_header bytes kind size fine is =
+    (domain_is_spelled bytes kind (le32 bytes 8) (le32 bytes 12) size).0
+    (reads_as (fault_of_domain bytes) (record { kind = kind_of_number (le32 bytes 0); major = le32 bytes 8; minor = le32 bytes 12 }) (record { kind = kind; major = le32 bytes 8; minor = le32 bytes 12 }) fine
+    (ap (λ k. record { kind = k; major = le32 bytes 8; minor = le32 bytes 12 }) is))
+
+regroup_headers : (input m i g j d k bytes rest : List ℕ) → input ≡ m ++ i → i ≡ g ++ j → j ≡ d ++ k → k ≡ bytes ++ rest → input ≡ (m ++ g) ++ (d ++ (bytes ++ rest))
+regroup_headers input m i g j d k bytes rest e1 e2 e3 e4 =
+    e1 ∙ ap (λ l. m ++ l) (e2 ∙ ap (λ l. g ++ l) (e3 ∙ ap (λ l. d ++ l) e4)) ∙ sym (append_assoc m g (d ++ (bytes ++ rest)))
+
+pub accepted_is_image : (input : List ℕ) (o : Opening) (records : List StreamRecord) (rest : List ℕ) → verdict input ≡ Accepts o records rest → IsImage input o records rest
+unfolding verdict
+accepted_is_image input o records rest h =
+    let a = at_place_accepts ImageHeader (marker_at input) (λ _ i. at_place ImageHeader (version_at i) (λ version j. at_place DomainHeader (kind_at j) (λ kind k. of_records (opening_of version kind) k))) o records rest h in
+    let b = at_place_accepts ImageHeader (version_at a.mid) (λ version j. at_place DomainHeader (kind_at j) (λ kind k. of_records (opening_of version kind) k)) o records rest a.second in
+    let c = at_place_accepts DomainHeader (kind_at b.mid) (λ kind k. of_records (opening_of b.x kind) k) o records rest b.second in
+    let m = header_passes 8 fault_of_marker (λ l. l) input a.x a.mid a.first in
+    let g = header_passes 16 fault_of_image (λ l. be32 l 4) a.mid b.x b.mid b.first in
+    let d = header_passes 16 fault_of_domain (λ l. kind_of_number (le32 l 0)) b.mid c.x c.mid c.first in
+    let opened = opening_of b.x c.x in
+    let (same, bytes, whole, spelled, ended) = accepted_spelled opened c.mid o records rest c.second in
+    let image : IsImage input opened records rest = record {
+      image_header = m.bytes ++ g.bytes;
+      domain_header = d.bytes;
+      major = le32 d.bytes 8;
+      minor = le32 d.bytes 12;
+      bytes = bytes;
+      whole = regroup_headers input m.bytes a.mid g.bytes b.mid d.bytes c.mid bytes rest m.whole g.whole d.whole whole;
+      is_image_header = image_header m.bytes g.bytes b.x m.size g.size m.fine g.fine g.value;
+      is_domain_header = domain_header d.bytes c.x d.size d.fine d.value;
+      spelled = spelled;
+      ended = ended;
+    } in
+    subst (λ (p : Opening). IsImage input p records rest) same image
