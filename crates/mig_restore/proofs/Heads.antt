@@ -23,7 +23,7 @@ pub order_broken : (seen : Seen) (o : Opening) (types : List ℕ) (type len : �
     → ◌≡◌ {A = Verdict} (Err cause) (unless_faulty (fault_of_type seen.gate.version seen.gate.kind types type) tt) → ◌≡◌ {A = Verdict} (Err cause) (unless_faulty (fault_of_fields o types type len) tt)
 unfolding fault_of_fields
 order_broken seen o types type len cause s built short is =
-    third _ _ _ _ _ cause (ap (λ k. fault_of_built k type) (sym s.kind) ∙ built) short
+    third _ _ _ (fault_of_length type len) (fault_of_number types) cause (ap (λ k. fault_of_built k type) (sym s.kind) ∙ built) short
     (is ∙ ap (λ v. unless_faulty (fault_of_type v seen.gate.kind types type) tt) s.gate_version ∙ ap (λ k. unless_faulty (fault_of_type o.version k types type) tt) s.gate_kind)
 
 -- an END that is read stands in an HVM stream

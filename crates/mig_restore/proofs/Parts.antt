@@ -1,5 +1,5 @@
 -- A record behind its head, and behind its body.
-use Rattle.std.proofs.Common.{◌≡◌, ℕ, List, Bool, true, false, nat_eq, Option, Some, None, refl, ap, sym, ◌∙◌}
+use Rattle.std.proofs.Common.{◌≡◌, ℕ, List, [], Bool, true, false, nat_eq, Option, Some, None, refl, ap, sym, ◌∙◌}
 use Rattle.mig_bytes.specs.Bytes.{padding_len}
 use Rattle.mig_bytes.specs.Fields.{le32}
 use Rattle.mig_headers.specs.declared.fault.Cause.{Cause}
@@ -16,6 +16,7 @@ use Rattle.mig_restore.specs.Mean.{mean}
 use Rattle.mig_restore.specs.Judged.{Judged, ◌>>=◌, part, tried}
 use Rattle.mig_restore.specs.Judged.Judged.{Passes, Faulty}
 use Rattle.mig_restore.specs.Record.{StreamRecord, Content, types_of}
+use Rattle.mig_restore.proofs.Joins.{part_whole}
 use Rattle.mig_restore.specs.Judging.{Opening, record_at, head_at, body_at, fault_at_end}
 
 unfoldable pub behind_body : List ℕ → Content × List ℕ → Judged StreamRecord
@@ -75,6 +76,9 @@ no_body type len zero allowed = zero_len (nat_eq len 0) refl (ap (λ t. fault_of
 pub whole_faulty : (head : List ℕ) (h : RecordHead) (k : Kind) (g g' : GuestOf) (c : Cause) → h ≡ head_in head → g' ≡ g → h.kind ≡ 0 → Some c ≡ fault_of_guest g' → (i : List ℕ) → behind_head k g (head, i) ≡ Faulty c i
 whole_faulty head h k g g' c is same zero fault i = stops_behind head h k g g' c is same (rw zero (sym fault)) i
 
+abbrev made : ℕ → List ℕ × List ℕ → Judged StreamRecord
+made type padding = Passes (record { type = type; content = Nothing }) padding.1
+
 -- the record that ends the image: it has no body
 pub ends_behind : (head : List ℕ) (h : RecordHead) (k : Kind) (g g' : GuestOf) → h ≡ head_in head → g' ≡ g → h.kind ≡ 0 → fault_of_length h.kind h.len ≡ None → None ≡ fault_of_guest g' → (i : List ℕ)
     → behind_head k g (head, i) ≡ Passes (record { type = 0; content = Nothing }) i
@@ -84,5 +88,6 @@ ends_behind head h k g g' is same zero allowed fine i =
     goes_on_behind head h k k g g' is refl same none i
     ∙ ap (λ t. body_at k t h.len i >>= behind_body head) zero
     ∙ padded head h Nothing is i
-    ∙ ap (λ n. part (padding_len n) i >>= λ padding. Passes (record { type = h.kind; content = Nothing }) padding.1) empty
-    ∙ ap (λ t. Passes (record { type = t; content = Nothing }) i) zero
+    ∙ ap (λ n. part (padding_len n) i >>= made h.kind) empty
+    ∙ ap (λ j. j >>= made h.kind) (part_whole 0 [] i refl)
+    ∙ ap (λ t. made t ([], i)) zero

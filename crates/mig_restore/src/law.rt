@@ -1,9 +1,46 @@
-ghost use Rattle.std.specs.Prelude.{◌≡◌, List, ℕ, option_and_then, unwrap_or, None};
+ghost use Rattle.std.specs.Prelude.{◌≡◌, ℕ, List, ◌⊎◌, option_and_then, unwrap_or, None};
 ghost use Rattle.std.specs.FinMap as maps;
+ghost use Rattle.mig_headers.specs.declared.fault.Cause.{Cause};
+ghost use Rattle.mig_headers.specs.declared.fault.Place.{Place};
 ghost use Rattle.mig_headers.specs.declared.kind.Kind.{Kind};
+ghost use Rattle.mig_guest.specs.Guests.{GuestOf};
 ghost use Rattle.mig_guest.specs.declared.part_key.PartKey.{PartKey};
+ghost use Rattle.mig_restore.specs.Judging.{Opening};
 ghost use Rattle.mig_restore.specs.Record.{StreamRecord};
 ghost use Rattle.mig_restore.specs.Mean.{mean, last_entry, frame_in, entries_of, last_said};
+ghost use Rattle.mig_restore.specs.Spelled.{IsImage, Accepted};
+ghost use Rattle.mig_restore.specs.Stream.{verdict, IsRefused};
+ghost use Rattle.mig_restore.specs.Stream.Verdict.{Accepts};
+
+/// What judging accepts is spelled as the format says.
+pub fn accepted_is_image()
+    ensures { (input : List ℕ) (o : Opening) (records : List StreamRecord) (rest : List ℕ) →
+        verdict input ≡ Accepts o records rest → IsImage input o records rest }
+{}
+
+/// What is spelled as the format says is accepted.
+pub fn image_is_accepted()
+    ensures { (input : List ℕ) (o : Opening) (records : List StreamRecord) (rest : List ℕ) →
+        IsImage input o records rest → verdict input ≡ Accepts o records rest }
+{}
+
+/// For every input either a front is an accepted stream, or there is a refusal.
+pub fn accepted_or_refused()
+    ensures { (input : List ℕ) → ((guest : GuestOf) × (rest : List ℕ) × Accepted input guest rest)
+        ⊎ ((place : Place) × (cause : Cause) × (rest : List ℕ) × IsRefused input place cause rest) }
+{}
+
+/// An input with an accepted front has no refusal.
+pub fn never_both()
+    ensures { (input : List ℕ) (guest : GuestOf) (rest : List ℕ) (place : Place) (cause : Cause) (more : List ℕ) →
+        Accepted input guest rest → IsRefused input place cause more → ⊥ }
+{}
+
+/// At most one front of an input is an accepted stream, with one guest.
+pub fn one_front()
+    ensures { (input : List ℕ) (g h : GuestOf) (rest more : List ℕ) → Accepted input g rest → Accepted input h more
+        → (g ≡ h) × (rest ≡ more) }
+{}
 
 /// Of each frame number the last entry in stream order decides: it says the frame's type and page, or that there is no
 /// frame.

@@ -16,6 +16,9 @@ mod law;
 mod part;
 mod read;
 
-pub use law::{last_content_decides, last_entry_decides};
+pub use law::{
+    accepted_is_image, accepted_or_refused, image_is_accepted,
+    last_content_decides, last_entry_decides, never_both, one_front,
+};
 pub use part::StreamAnswer;
 pub use read::{Reading, read_image};

@@ -1,7 +1,8 @@
-ghost use Rattle.std.specs.Prelude.{◌≡◌, ◌≤◌, ◌<◌, ◌+◌, ◌^◌, ◌==◌, ◌∷◌, [], ◌++◌, List, ⊤, true, None, IfOk, OnOk, IsErrOf};
+ghost use Rattle.std.specs.Prelude.{◌≡◌, ◌≤◌, ◌<◌, ◌+◌, ◌^◌, ◌==◌, ◌∷◌, [], ◌++◌, List, ⊤, true, None, IfOk, IfNone, OnOk, IsErrOf};
 ghost use Rattle.mig_bytes.specs.Bytes.{padding_len};
 ghost use Rattle.mig_bytes.specs.Faults.{Rose};
 ghost use Rattle.mig_headers.specs.declared.kind.Kind.TheVariants.{Hvm};
+ghost use Rattle.mig_guest.specs.Frames.{IsSized};
 ghost use Rattle.mig_pvtables.specs.Whole.{IsWhole, fault_of_guest};
 ghost use Rattle.mig_restore.specs.Judged.{Gives, part};
 ghost use Rattle.mig_restore.specs.Mean.{mean, put_record};
@@ -48,7 +49,8 @@ fn read_padding<S: Source>(src: &mut S, len: u32) -> Result<(), Stop>
 
 /// What is wrong with the whole guest, at the record that ends the image.
 fn guest_fault(guest: &Guest) -> Option<Cause>
-    ensures { result ≡ fault_of_guest guest.now }
+    ensures fault { result ≡ fault_of_guest guest.now }
+    ensures sized { IfNone result (IsSized guest.now.frames) }
 {
     let context = PartKey {
         code: 9,
@@ -75,7 +77,7 @@ pub(crate) fn read_record<S: Source>(
         Gives (λ over r. (guest.new ≡ put_record guest.old r) × IsSeen seen.new o (types_of (records ++ r ∷ [])) × (over ≡ (r.type == 0)))
         (S.left src.old) (S.left src.new) (record_at o records) result }
     ensures grown { OnOk result (Grows guest.old guest.new) }
-    ensures whole { IfOk result (λ over. over ≡ true → (guest.new ≡ guest.old) × (fault_of_guest guest.old ≡ None) × (seen.old.kind ≡ Hvm)) }
+    ensures whole { IfOk result (λ over. over ≡ true → (guest.new ≡ guest.old) × (fault_of_guest guest.old ≡ None) × IsSized guest.old.frames × (seen.old.kind ≡ Hvm)) }
     ensures counted { OnOk result ((seen.new.records ≡ seen.old.records + 1) × (seen.old.records < 2 ^ 28)) }
     ensures kind { seen.new.kind ≡ seen.old.kind }
     ensures later { S.faults src.old ≤ S.faults src.new }

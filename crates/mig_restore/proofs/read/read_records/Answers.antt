@@ -1,0 +1,46 @@
+use Rattle.std.proofs.Common.{◌≡◌, ℕ, List, refl, rules, arith, subst, sym, ap, Err, ◌∙◌}
+use Rattle.mig_headers.specs.declared.kind.Kind.TheVariants.{Hvm}
+use Rattle.mig_guest.specs.Frames.{IsSized}
+use Rattle.mig_guest.specs.Guests.{GuestOf}
+use Rattle.mig_pvtables.specs.Whole.{IsWhole}
+use Rattle.mig_restore.specs.Judging.{opening_of}
+use Rattle.mig_restore.specs.SoFar.{IsSoFar}
+use Rattle.mig_restore.specs.Stream.{ReadsAs, of_records}
+use Rattle.mig_restore.proofs.Growth.{empty_so_far, whole_at_end}
+use Rattle.mig_restore.proofs.Arrivals.{arrived_first, arrived_next, arrived_end, arrived_stopped, answered}
+use Rattle.mig_restore.proofs.read.read_records.Goals as goal
+
+started : (g : GuestOf) (e : GuestOf) → g ≡ e → IsSoFar e → IsSoFar g
+started g e is h = subst IsSoFar (sym is) h
+
+pub records-init : goal.records-init
+records-init g c = record {
+  arrived = arrived_first (opening_of c.args.version c.args.kind) _ c.new-seen.result c.new-guest.result c.new-seen.ensures.seen c.new-guest.ensures;
+  kind = search rules;
+  so_far = empty_so_far c.new-guest.result (search rules) (search rules) (search rules);
+  few = search rules;
+  later = search rules;
+}
+
+pub records-preserved : goal.records-preserved
+records-preserved g c = record {
+  arrived = arrived_next (opening_of c.args.version c.args.kind) _ _ _ c.records.seen c.read_record.new.seen c.records.guest c.read_record.new.guest c.in-Ok.over c.if-over.false c.records.invariant.arrived (c.in-Ok.ensures.read (opening_of c.args.version c.args.kind));
+  kind = c.read_record.ensures.kind ∙ c.records.invariant.kind ∙ sym c.in-Ok.ensures.grown.kind;
+  so_far = c.in-Ok.ensures.grown.kept c.records.invariant.so_far;
+  few = search rules;
+  later = search rules;
+}
+
+pub returns-then-over-clause-read : goal.returns-then-over-clause-read
+returns-then-over-clause-read g c =
+    arrived_end (opening_of c.args.version c.args.kind) _ _ _ c.records.seen c.read_record.new.seen c.records.guest c.read_record.new.guest _ c.in-Ok.over c.if-over.true refl refl refl c.records.invariant.arrived (c.in-Ok.ensures.read (opening_of c.args.version c.args.kind))
+
+pub returns-then-over-clause-whole : goal.returns-then-over-clause-whole
+returns-then-over-clause-whole g c =
+    let (same, fine, sized, hvm) = c.in-Ok.ensures.whole c.if-over.true in
+    subst IsWhole (sym same) (whole_at_end c.records.guest c.records.invariant.so_far (sym c.records.invariant.kind ∙ hvm) sized fine)
+
+pub returns-in-Err-clause-read : goal.returns-in-Err-clause-read
+returns-in-Err-clause-read g c =
+    answered (of_records (opening_of c.args.version c.args.kind)) _ _ _ _ c.placed.ensures
+    (arrived_stopped (opening_of c.args.version c.args.kind) _ _ _ c.records.seen c.read_record.new.seen c.records.guest c.read_record.new.guest c.in-Err.stop _ (search rules) c.records.invariant.arrived (c.in-Err.ensures.read (opening_of c.args.version c.args.kind)))
