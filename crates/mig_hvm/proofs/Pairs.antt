@@ -2,7 +2,7 @@
 use Rattle.std.proofs.Common.{◌≡◌, ◌↔◌, ◌<◌, ◌≤◌, ℕ, zero, suc, ◌+◌, ◌*◌, ◌-◌, List, [], ◌∷◌, ◌++◌, length, take, drop, map, None, refl, sym, ap, subst, ◌∙◌, arith, drop-drop, drop_at, take-append-drop, length-append, length-take-le, length-drop}
 use Rattle.std.proofs.lemmas.List.{get_or-take, take_at}
 use Rattle.std.proofs.lemmas.List.FromFn.{length-map-range_with_len}
-use Rattle.std.specs.List.{range_with_len}
+use Rattle.std.specs.List.{range_with_len, AllByRecursion}
 use Rattle.mig_bytes.specs.Fields.{le32, le64}
 use Rattle.mig_guest.specs.declared.part_key.PartKey.{PartKey}
 use Rattle.mig_guest.specs.PartKeys.{param_key}
@@ -31,8 +31,16 @@ entries_of (p ∷ ps) bytes (index, rest, whole, index_size, value_size, small, 
 first_eight : (bytes : List ℕ) → le64 (take 8 bytes) 0 ≡ le64 bytes 0
 unfolding le64
 first_eight bytes =
-    rw (get_or-take 8 bytes 0 0 (omega arith), get_or-take 8 bytes 1 0 (omega arith), get_or-take 8 bytes 2 0 (omega arith), get_or-take 8 bytes 3 0 (omega arith), get_or-take 8 bytes 4 0 (omega arith),
-      get_or-take 8 bytes 5 0 (omega arith), get_or-take 8 bytes 6 0 (omega arith), get_or-take 8 bytes 7 0 (omega arith)) refl
+    rw (
+      get_or-take 8 bytes 0 0 (omega arith),
+      get_or-take 8 bytes 1 0 (omega arith),
+      get_or-take 8 bytes 2 0 (omega arith),
+      get_or-take 8 bytes 3 0 (omega arith),
+      get_or-take 8 bytes 4 0 (omega arith),
+      get_or-take 8 bytes 5 0 (omega arith),
+      get_or-take 8 bytes 6 0 (omega arith),
+      get_or-take 8 bytes 7 0 (omega arith),
+    ) refl
 
 le64_at : (body : List ℕ) (at : ℕ) → le64 body at ≡ le64 (drop at body) 0
 unfolding le64
@@ -84,3 +92,18 @@ back body ps h =
 
 pub params_are_spelled : ParamsAreSpelled
 params_are_spelled body ps = ((λ h. forth body ps h.0 h.1 h.2), back body ps)
+
+-- a part that a pair sets
+pub record IsParam (p : PartKey × List ℕ) : Type 0 where
+  pub index : ℕ
+  pub small : index < 4096
+  pub named : p.0 ≡ param_key index
+  pub size : length p.1 ≡ 8
+
+pairs_are_sized : (bytes : List ℕ) (ps : List (PartKey × List ℕ)) → ArePairs bytes ps → AllByRecursion IsParam ps
+pairs_are_sized bytes [] h = tt
+pairs_are_sized bytes (p ∷ ps) (index, rest, whole, index_size, value_size, small, names, more) =
+    (record { index = le64 index 0; small = small; named = names; size = value_size }, pairs_are_sized rest ps more)
+
+pub params_are_sized : (body : List ℕ) (ps : List (PartKey × List ℕ)) → IsParams body ps → AllByRecursion IsParam ps
+params_are_sized body ps h = pairs_are_sized h.pairs ps h.each

@@ -14,3 +14,6 @@ mod tsc;
 pub use laws::policy_laws;
 pub use policy::{read_cpuid, read_msr};
 pub use tsc::read_tsc;
+
+#[cfg(test)]
+mod tests;
