@@ -1,5 +1,5 @@
 -- A body of parameters without fault is one that is spelled as pairs.
-use Rattle.std.proofs.Common.{◌≡◌, ◌↔◌, ◌<◌, ◌≤◌, ℕ, zero, suc, ◌+◌, ◌*◌, ◌-◌, List, [], ◌∷◌, ◌++◌, length, take, drop, map, None, refl, sym, ap, subst, ◌∙◌, arith, drop-drop, drop_at, take-append-drop, length-append, length-take-le, length-drop}
+use Rattle.std.proofs.Common.{◌≡◌, ◌<◌, ◌≤◌, ℕ, ◌+◌, ◌*◌, List, [], ◌∷◌, ◌++◌, length, take, drop, map, None, refl, sym, ap, subst, ◌∙◌, arith, drop-drop, drop_at, take-append-drop, length-append, length-take-le, length-drop}
 use Rattle.std.proofs.lemmas.List.{get_or-take, take_at}
 use Rattle.std.proofs.lemmas.List.FromFn.{length-map-range_with_len}
 use Rattle.std.specs.List.{range_with_len, AllByRecursion}
@@ -81,14 +81,20 @@ forth body ps long fine is =
       each = pairs_of ps (drop 8 body) (subst (Entries (drop 8 body)) (sym (params_are body n) ∙ is) spelled);
     }
 
+same_count : (body : List ℕ) (ps : List (PartKey × List ℕ)) → IsParams body ps → length ps ≡ count_of body
+same_count body ps h = sym h.count_is ∙ sym (front_is h.front h.pairs h.front_len) ∙ ap (λ l. le32 l 0) (sym h.whole)
+
+same_params : (body : List ℕ) (ps : List (PartKey × List ℕ)) (n : ℕ) → n ≡ count_of body → entries.entries 8 8 index_of IsSmall (drop 8 body) n ≡ ps → params_in body ≡ ps
+same_params body ps n count is = ap (λ m. map (λ k. (param_key (index_at body k), value_at body k)) (range_with_len 0 m)) (sym count) ∙ params_are body n ∙ is
+
 back : (body : List ℕ) (ps : List (PartKey × List ℕ)) → IsParams body ps → (8 ≤ length body) × (fault_of_params body ≡ None) × (params_in body ≡ ps)
 back body ps h =
     let rest : drop 8 body ≡ h.pairs = ap (drop 8) h.whole ∙ drop_at h.front h.pairs 8 h.front_len in
     let read = entries.reads 8 8 index_of IsSmall (drop 8 body) ps (subst (λ l. Entries l ps) (sym rest) (entries_of ps h.pairs h.each)) in
-    let count : length ps ≡ count_of body = sym h.count_is ∙ sym (front_is h.front h.pairs h.front_len) ∙ ap (λ l. le32 l 0) (sym h.whole) in
+    let count = same_count body ps h in
     let size : length body ≡ 8 + 16 * length ps = omega (arith, read.size, length-drop 8 body, ap length h.whole, length-append h.front h.pairs, h.front_len) in
     let fine = faultless body (length ps) count size (λ k less. subst (λ i. i < 4096) (sym (index_is body k)) (read.fine k less)) in
-    (omega (arith, size), fine, ap (λ n. map (λ k. (param_key (index_at body k), value_at body k)) (range_with_len 0 n)) (sym count) ∙ params_are body (length ps) ∙ read.same)
+    (omega (arith, size), fine, same_params body ps (length ps) count read.same)
 
 pub params_are_spelled : ParamsAreSpelled
 params_are_spelled body ps = ((λ h. forth body ps h.0 h.1 h.2), back body ps)

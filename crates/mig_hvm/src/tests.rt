@@ -33,6 +33,7 @@ fn chains_that_stop_early(rt: HostRuntime) {
         (54, Ok(44)),
     ];
     for (len, want) in rows {
+        assert!(rt; len <= CHAIN.len());
         assert_eq!(rt; scan_context(&CHAIN[..len]), want, "at {len}");
     }
 }
@@ -53,6 +54,7 @@ fn chains_with_another_byte(rt: HostRuntime) {
     ];
     for (at, byte, want) in rows {
         let mut chain = CHAIN;
+        assert!(rt; at < chain.len());
         chain[at] = byte;
         assert_eq!(rt; scan_context(&chain), want, "at {at}");
     }

@@ -1,12 +1,12 @@
 -- The keys and the sizes of the parts of a policy.
-use Rattle.std.proofs.Common.{◌≡◌, ◌<◌, ◌^◌, ℕ, zero, suc, ◌+◌, ◌*◌, ◌/◌, List, [], ◌∷◌, ◌++◌, length, drop, get_or, refl, sym, ap, subst, ◌∙◌, arith}
+use Rattle.std.proofs.Common.{◌≡◌, ◌<◌, ◌^◌, ℕ, zero, suc, ◌+◌, List, [], ◌∷◌, ◌++◌, length, drop, get_or, sym, subst, arith}
 use Rattle.std.proofs.lemmas.List.{get_or-drop}
-use Rattle.std.specs.List.{AllByRecursion, slice_index}
+use Rattle.std.specs.List.{AllByRecursion}
 use Rattle.byteorder.specs.Endian.{little_number}
 use Rattle.mig_bytes.specs.Fields.{le32}
 use Rattle.mig_guest.specs.declared.part_key.PartKey.{PartKey}
 use Rattle.mig_guest.specs.PartKeys.{leaf_key, msr_key}
-use Rattle.mig_policy.specs.Policies.{AreLeaves, leaves_in, AreMsrs, msrs_in}
+use Rattle.mig_policy.specs.Policies.{AreLeaves, AreMsrs}
 
 -- each number of the list is a byte
 abbrev pub AreBytes : List ℕ → Type 0

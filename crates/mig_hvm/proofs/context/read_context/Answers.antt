@@ -1,5 +1,4 @@
-use Rattle.std.proofs.Common.{◌≡◌, ◌+◌, List, ℕ, ◌++◌, take, drop, length, replicate, Ok, IfOk, sym, arith, length-take-le}
-use Rattle.mig_headers.specs.Contexts.{scan}
+use Rattle.std.proofs.Common.{◌+◌, ◌++◌, take, drop, replicate, arith, length-take-le}
 use Rattle.mig_guest.specs.PartKeys.{context_key}
 use Rattle.mig_hvm.proofs.ContextParts.{there, within, written, ended}
 use Rattle.mig_hvm.proofs.context.read_context.Goals as goal
