@@ -1,4 +1,4 @@
-ghost use Rattle.std.specs.Prelude.{◌≡◌, ◌≢◌, ◌≤◌, ◌+◌, ◌*◌, ◌%◌, length, OnOk, OnErr};
+ghost use Rattle.std.specs.Prelude.{◌≡◌, ◌≢◌, ◌≤◌, ◌+◌, ◌*◌, ◌%◌, length, IsOk, OnOk, OnErr};
 ghost use Rattle.std.specs.FinMap as maps;
 ghost use Rattle.mig_guest.specs.Parts.{put_part, replace_code};
 ghost use Rattle.mig_guest.specs.declared.part_key.PartKey.{PartKey};
@@ -28,6 +28,9 @@ pub fn read_msr(guest: &mut Guest, body: &[u8]) -> Result<(), Memory>
     ensures ok { OnOk result (guest.new ≡ record guest.old { parts = replace_code 18 guest.old.parts (msrs_in body.now) }) }
     ensures others { (key : PartKey) → key.code ≢ 18 → maps.get guest.new.parts key ≡ maps.get guest.old.parts key }
     ensures frames { guest.new ≡ record guest.old { parts = guest.new.parts } }
+
+    // An empty body asks for no memory.
+    ensures empty { length body.now ≡ 0 → IsOk result }
 {
     if body.is_empty() {
         return Ok(());
