@@ -1,5 +1,5 @@
 -- Bodies of entries one after another: what is read at each place is what the body spells.
-use Rattle.std.proofs.Common.{◌≡◌, ◌<◌, ◌≤◌, ℕ, zero, suc, ◌+◌, ◌-◌, ◌*◌, List, [], ◌∷◌, ◌++◌, length, take, drop, map, refl, sym, ap, subst, ◌∙◌, arith, append_assoc, length-append, length-drop, length-take-le, take-append-drop, drop-drop, drop_at}
+use Rattle.std.proofs.Common.{◌≡◌, ◌<◌, ℕ, zero, suc, ◌+◌, ◌*◌, List, [], ◌∷◌, ◌++◌, length, take, drop, map, refl, sym, ap, subst, ◌∙◌, arith, length-append, length-drop, length-take-le, take-append-drop, drop-drop, drop_at}
 use Rattle.std.proofs.lemmas.List.{take_at}
 use Rattle.std.specs.List.{range_with_len}
 use Rattle.mig_guest.specs.declared.part_key.PartKey.{PartKey}

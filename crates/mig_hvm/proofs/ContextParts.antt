@@ -1,8 +1,7 @@
 -- A context cut behind its end, and zeros written over the end.
-use Rattle.std.proofs.Common.{◌≡◌, ◌+◌, ◌≤◌, List, ℕ, [], ◌++◌, take, drop, length, Some, None, IfSome, is_some, IsSome, refl, sym, ap, ◌∙◌, arith, append-nil, length-take-le}
+use Rattle.std.proofs.Common.{◌≡◌, ◌+◌, ◌≤◌, List, ℕ, [], ◌++◌, take, drop, length, Some, IfSome, is_some, IsSome, ap, ◌∙◌, arith, append-nil, length-take-le}
 use Rattle.std.specs.FinMap as maps
 use Rattle.std.proofs.lemmas.List.{drop_all}
-use lib.Seq.{take-append-le}
 use Rattle.mig_guest.specs.declared.part_key.PartKey.{PartKey}
 use Rattle.mig_guest.specs.Guests.{GuestOf}
 use Rattle.mig_guest.specs.Parts.{PartMap}

@@ -1,8 +1,8 @@
 -- A body of parameters without fault is one that is spelled as pairs.
-use Rattle.std.proofs.Common.{◌≡◌, ◌↔◌, ◌<◌, ◌≤◌, ℕ, zero, suc, ◌+◌, ◌*◌, ◌-◌, List, [], ◌∷◌, ◌++◌, length, take, drop, map, None, refl, sym, ap, subst, ◌∙◌, arith, drop-drop, drop_at, take-append-drop, length-append, length-take-le, length-drop}
+use Rattle.std.proofs.Common.{◌≡◌, ◌<◌, ◌≤◌, ℕ, ◌+◌, ◌*◌, List, [], ◌∷◌, ◌++◌, length, take, drop, map, None, refl, sym, ap, subst, ◌∙◌, arith, drop-drop, drop_at, take-append-drop, length-append, length-take-le, length-drop}
 use Rattle.std.proofs.lemmas.List.{get_or-take, take_at}
 use Rattle.std.proofs.lemmas.List.FromFn.{length-map-range_with_len}
-use Rattle.std.specs.List.{range_with_len}
+use Rattle.std.specs.List.{range_with_len, AllByRecursion}
 use Rattle.mig_bytes.specs.Fields.{le32, le64}
 use Rattle.mig_guest.specs.declared.part_key.PartKey.{PartKey}
 use Rattle.mig_guest.specs.PartKeys.{param_key}
@@ -31,8 +31,16 @@ entries_of (p ∷ ps) bytes (index, rest, whole, index_size, value_size, small, 
 first_eight : (bytes : List ℕ) → le64 (take 8 bytes) 0 ≡ le64 bytes 0
 unfolding le64
 first_eight bytes =
-    rw (get_or-take 8 bytes 0 0 (omega arith), get_or-take 8 bytes 1 0 (omega arith), get_or-take 8 bytes 2 0 (omega arith), get_or-take 8 bytes 3 0 (omega arith), get_or-take 8 bytes 4 0 (omega arith),
-      get_or-take 8 bytes 5 0 (omega arith), get_or-take 8 bytes 6 0 (omega arith), get_or-take 8 bytes 7 0 (omega arith)) refl
+    rw (
+      get_or-take 8 bytes 0 0 (omega arith),
+      get_or-take 8 bytes 1 0 (omega arith),
+      get_or-take 8 bytes 2 0 (omega arith),
+      get_or-take 8 bytes 3 0 (omega arith),
+      get_or-take 8 bytes 4 0 (omega arith),
+      get_or-take 8 bytes 5 0 (omega arith),
+      get_or-take 8 bytes 6 0 (omega arith),
+      get_or-take 8 bytes 7 0 (omega arith),
+    ) refl
 
 le64_at : (body : List ℕ) (at : ℕ) → le64 body at ≡ le64 (drop at body) 0
 unfolding le64
@@ -73,14 +81,35 @@ forth body ps long fine is =
       each = pairs_of ps (drop 8 body) (subst (Entries (drop 8 body)) (sym (params_are body n) ∙ is) spelled);
     }
 
+same_count : (body : List ℕ) (ps : List (PartKey × List ℕ)) → IsParams body ps → length ps ≡ count_of body
+same_count body ps h = sym h.count_is ∙ sym (front_is h.front h.pairs h.front_len) ∙ ap (λ l. le32 l 0) (sym h.whole)
+
+same_params : (body : List ℕ) (ps : List (PartKey × List ℕ)) (n : ℕ) → n ≡ count_of body → entries.entries 8 8 index_of IsSmall (drop 8 body) n ≡ ps → params_in body ≡ ps
+same_params body ps n count is = ap (λ m. map (λ k. (param_key (index_at body k), value_at body k)) (range_with_len 0 m)) (sym count) ∙ params_are body n ∙ is
+
 back : (body : List ℕ) (ps : List (PartKey × List ℕ)) → IsParams body ps → (8 ≤ length body) × (fault_of_params body ≡ None) × (params_in body ≡ ps)
 back body ps h =
     let rest : drop 8 body ≡ h.pairs = ap (drop 8) h.whole ∙ drop_at h.front h.pairs 8 h.front_len in
     let read = entries.reads 8 8 index_of IsSmall (drop 8 body) ps (subst (λ l. Entries l ps) (sym rest) (entries_of ps h.pairs h.each)) in
-    let count : length ps ≡ count_of body = sym h.count_is ∙ sym (front_is h.front h.pairs h.front_len) ∙ ap (λ l. le32 l 0) (sym h.whole) in
+    let count = same_count body ps h in
     let size : length body ≡ 8 + 16 * length ps = omega (arith, read.size, length-drop 8 body, ap length h.whole, length-append h.front h.pairs, h.front_len) in
     let fine = faultless body (length ps) count size (λ k less. subst (λ i. i < 4096) (sym (index_is body k)) (read.fine k less)) in
-    (omega (arith, size), fine, ap (λ n. map (λ k. (param_key (index_at body k), value_at body k)) (range_with_len 0 n)) (sym count) ∙ params_are body (length ps) ∙ read.same)
+    (omega (arith, size), fine, same_params body ps (length ps) count read.same)
 
 pub params_are_spelled : ParamsAreSpelled
 params_are_spelled body ps = ((λ h. forth body ps h.0 h.1 h.2), back body ps)
+
+-- a part that a pair sets
+pub record IsParam (p : PartKey × List ℕ) : Type 0 where
+  pub index : ℕ
+  pub small : index < 4096
+  pub named : p.0 ≡ param_key index
+  pub size : length p.1 ≡ 8
+
+pairs_are_sized : (bytes : List ℕ) (ps : List (PartKey × List ℕ)) → ArePairs bytes ps → AllByRecursion IsParam ps
+pairs_are_sized bytes [] h = tt
+pairs_are_sized bytes (p ∷ ps) (index, rest, whole, index_size, value_size, small, names, more) =
+    (record { index = le64 index 0; small = small; named = names; size = value_size }, pairs_are_sized rest ps more)
+
+pub params_are_sized : (body : List ℕ) (ps : List (PartKey × List ℕ)) → IsParams body ps → AllByRecursion IsParam ps
+params_are_sized body ps h = pairs_are_sized h.pairs ps h.each

@@ -15,3 +15,6 @@ mod params;
 pub use context::{read_context, scan_context};
 pub use laws::params_law;
 pub use params::{params_fault, read_params};
+
+#[cfg(test)]
+mod tests;

@@ -1,10 +1,10 @@
-ghost use Rattle.std.specs.Prelude.{◌≡◌, ◌≢◌, ◌<◌, ◌≤◌, ◌+◌, ◌*◌, true, false, map, length, None, IfNone, IfSome, OnOk, OnErr};
+ghost use Rattle.std.specs.Prelude.{◌≡◌, ◌≢◌, ◌<◌, ◌≤◌, ◌+◌, ◌*◌, true, false, map, length, None, IfNone, IfSome, IsOk, OnOk, OnErr};
 ghost use Rattle.std.specs.List.{list_any, range_with_len};
 ghost use Rattle.std.specs.FinMap as maps;
 ghost use Rattle.mig_guest.specs.Parts.{put_part, put_parts};
 ghost use Rattle.mig_guest.specs.PartKeys.{param_key};
 ghost use Rattle.mig_guest.specs.declared.part_key.PartKey.{PartKey};
-ghost use Rattle.mig_hvm.specs.Params.{index_at, value_at, is_outside, first_outside, fault_of_params, params_in};
+ghost use Rattle.mig_hvm.specs.Params.{count_of, index_at, value_at, is_outside, first_outside, fault_of_params, params_in};
 
 use mig_bytes::{Memory, u32_le, u64_le};
 use mig_guest::{Guest, PartKey};
@@ -68,6 +68,9 @@ pub fn read_params(guest: &mut Guest, body: &[u8]) -> Result<(), Memory>
     ensures ok { OnOk result (guest.new ≡ record guest.old { parts = put_parts guest.old.parts (params_in body.now) }) }
     ensures others { (key : PartKey) → key.code ≢ 10 → maps.get guest.new.parts key ≡ maps.get guest.old.parts key }
     ensures frames { guest.new ≡ record guest.old { parts = guest.new.parts } }
+
+    // A body of no pairs asks for no memory.
+    ensures empty { count_of body.now ≡ 0 → IsOk result }
 {
     let count = u32_le(body, 0) as usize;
     for k in 0..count {

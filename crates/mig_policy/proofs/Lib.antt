@@ -1,2 +1,3 @@
 pub mod EntriesRead
 pub mod Below
+pub mod Sizes

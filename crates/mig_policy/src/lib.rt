@@ -7,10 +7,15 @@
 //! replaces all entries of its policy.
 #![tactic(auto)]
 
+mod cpuid;
 mod laws;
-mod policy;
+mod msr;
 mod tsc;
 
+pub use cpuid::read_cpuid;
 pub use laws::policy_laws;
-pub use policy::{read_cpuid, read_msr};
+pub use msr::read_msr;
 pub use tsc::read_tsc;
+
+#[cfg(test)]
+mod tests;

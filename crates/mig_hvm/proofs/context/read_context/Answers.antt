@@ -1,5 +1,4 @@
-use Rattle.std.proofs.Common.{◌≡◌, ◌+◌, List, ℕ, ◌++◌, take, drop, length, replicate, Ok, IfOk, sym, arith, length-take-le}
-use Rattle.mig_headers.specs.Contexts.{scan}
+use Rattle.std.proofs.Common.{◌+◌, ◌++◌, take, drop, replicate, arith, length-take-le}
 use Rattle.mig_guest.specs.PartKeys.{context_key}
 use Rattle.mig_hvm.proofs.ContextParts.{there, within, written, ended}
 use Rattle.mig_hvm.proofs.context.read_context.Goals as goal
@@ -15,7 +14,7 @@ write_part-requires-clause-range c =
 pub returns-clause-ok : goal.returns-clause-ok
 returns-clause-ok c =
     rw (← c.in-Ok.ensures.value) (
-      written c.args.guest.now c.set_part.new.self context_key _ c.in_ok-set_part.ensures.ok c.write_part.new.self
-      (λ p. take c.in-Ok.end p ++ replicate 8 0 ++ drop (c.in-Ok.end + 8) p) (take c.in-Ok.end c.args.body.now ++ replicate 8 0) c.write_part.ensures
-      (ended c.args.body.now (replicate 8 0) c.in-Ok.end (c.in-Ok.end + 8) (omega arith) c.in-Ok.ensures.bound)
+    written c.args.guest.now c.set_part.new.self context_key _ c.in_ok-set_part.ensures.ok c.write_part.new.self
+    (λ p. take c.in-Ok.end p ++ replicate 8 0 ++ drop (c.in-Ok.end + 8) p) (take c.in-Ok.end c.args.body.now ++ replicate 8 0) c.write_part.ensures
+    (ended c.args.body.now (replicate 8 0) c.in-Ok.end (c.in-Ok.end + 8) (omega arith) c.in-Ok.ensures.bound)
     )

@@ -1,7 +1,6 @@
-use Rattle.std.proofs.Common.{◌≡◌, ◌+◌, ◌*◌, ◌<◌, ℕ, true, false, map, nat_le, ap, sym, ◌∙◌, arith}
+use Rattle.std.proofs.Common.{◌≡◌, ◌+◌, ◌<◌, ℕ, true, false, nat_le, sym, ◌∙◌, arith}
 use Rattle.std.proofs.lemmas.Grind.{common_steps}
-use Rattle.std.specs.List.{list_any, range_with_len}
-use Rattle.mig_hvm.specs.Params.{index_at, is_outside, first_outside}
+use Rattle.mig_hvm.specs.Params.{index_at, is_outside}
 use Rattle.mig_hvm.proofs.Outside.{found, none_more}
 use Rattle.mig_hvm.proofs.params.outside_index.Goals as goal
 

@@ -1,4 +1,4 @@
-use Rattle.std.proofs.Common.{◌≡◌, ◌+◌, ◌*◌, ◌<◌, ℕ, List, refl, ap, sym, ◌∙◌, arith}
+use Rattle.std.proofs.Common.{ℕ, List, refl, ◌∙◌, arith}
 use Rattle.mig_guest.specs.declared.part_key.PartKey.{PartKey}
 use Rattle.mig_guest.specs.PartKeys.{param_key}
 use Rattle.mig_guest.proofs.PartSets.{guest_more, guest_others}

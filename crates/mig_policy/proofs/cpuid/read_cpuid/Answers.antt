@@ -4,7 +4,7 @@ use Rattle.mig_guest.specs.declared.part_key.PartKey.{PartKey}
 use Rattle.mig_guest.proofs.PartSets.{guest_more, guest_others, cleared_other}
 use Rattle.mig_policy.specs.Policies.{IsSmallKey, leaf_at}
 use Rattle.mig_policy.proofs.Below.{one_more}
-use Rattle.mig_policy.proofs.policy.read_cpuid.Goals as goal
+use Rattle.mig_policy.proofs.cpuid.read_cpuid.Goals as goal
 
 pub returns-in_err-set_leaf-clause-others : goal.returns-in_err-set_leaf-clause-others
 returns-in_err-set_leaf-clause-others c =

@@ -4,7 +4,7 @@ use Rattle.mig_guest.specs.declared.part_key.PartKey.{PartKey}
 use Rattle.mig_guest.proofs.PartSets.{guest_more, guest_others, cleared_other}
 use Rattle.mig_policy.specs.Policies.{IsSmallKey, msr_at}
 use Rattle.mig_policy.proofs.Below.{one_more}
-use Rattle.mig_policy.proofs.policy.read_msr.Goals as goal
+use Rattle.mig_policy.proofs.msr.read_msr.Goals as goal
 
 pub returns-in_err-set_msr-clause-others : goal.returns-in_err-set_msr-clause-others
 returns-in_err-set_msr-clause-others c =

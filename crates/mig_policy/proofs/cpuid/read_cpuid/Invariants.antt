@@ -3,7 +3,7 @@ use Rattle.std.specs.List.{range_with_len}
 use Rattle.std.specs.FinMap as maps
 use Rattle.mig_guest.specs.Parts.{put_parts}
 use Rattle.mig_policy.specs.Policies.{IsSmallKey, leaf_at}
-use Rattle.mig_policy.proofs.policy.read_cpuid.Given as goal
+use Rattle.mig_policy.proofs.cpuid.read_cpuid.Given as goal
 
 abbrev pub invariant-loop-k : goal.invariant-loop-k
 invariant-loop-k l = record {
