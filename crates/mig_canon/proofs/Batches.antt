@@ -7,6 +7,8 @@ use Rattle.std.proofs.lemmas.List.{length-drop, length-take, take_all, drop_all}
 use Rattle.std.proofs.lemmas.List.FromFn.{map-range_with_len_more}
 use Rattle.byteorder.specs.Endian.{little_bytes}
 use Rattle.mig_bytes.specs.Bytes.{padding_len}
+use Rattle.mig_bytes.specs.Fields.{with_field}
+use Rattle.std.proofs.Math.Seq.{take-append-add}
 use Rattle.mig_guest.specs.Frames.{entries_from}
 use Rattle.mig_records.specs.Records.{head_of, spelled}
 use Rattle.mig_canon.specs.Canon.{Frame, batch, frame_word_in, page_in, words_of, pages_of, body_of, frame_bodies, text_of}
@@ -109,3 +111,15 @@ pub frames_split : (fs : List Frame) (k n : ℕ) → k < n → (more : List ℕ)
 frames_split fs k n less =
     let m = more_of fs (k + 1) (n - (k + 1)) in
     (m.more, ap (λ i. text_of (frame_bodies fs i)) (let e : n ≡ (k + 1) + (n - (k + 1)) = omega arith in e) ∙ m.is ∙ ap (λ l. l ++ m.more) (frames_more fs k) ∙ append_assoc (text_of (frame_bodies fs k)) (spelled 1 (body_of (batch fs k))) m.more)
+
+-- ---- the words in a buffer
+
+-- one word more
+pub words_put : (i : ℕ) (fs rest : List Frame) (e : Frame) (buf new : List ℕ) → drop i fs ≡ e ∷ rest → 8 * i ≤ length buf → take (8 * i) buf ≡ words_of (take i fs)
+    → new ≡ with_field buf (8 * i) (little_bytes 8 (frame_word_in e)) → take (8 * (i + 1)) new ≡ words_of (take (i + 1) fs)
+words_put i fs rest e buf new is room before put =
+    let front = take (8 * i) buf in let field = little_bytes 8 (frame_word_in e) in let behind = drop (8 * i + length field) buf in
+    let size : length front ≡ 8 * i = omega (arith, length-take (8 * i) buf) in
+    ap (take (8 * (i + 1))) put ∙ ap (λ n. take n (front ++ (field ++ behind))) (let e : 8 * (i + 1) ≡ length front + 8 = omega (arith, size) in e)
+    ∙ take-append-add front (field ++ behind) 8 ∙ ap (λ l. l ++ field) before
+    ∙ sym (flat_next (λ f. little_bytes 8 (frame_word_in f)) i fs rest e is)

@@ -171,11 +171,11 @@ pub(crate) fn write_params<K: Sink>(sink: &mut K, guest: &Guest) -> Result<(), W
     ensures cause { HasCause (K.faults sink.old) (K.faults sink.new) result }
 {
     let table = Table::Params;
-    let count = count_entries(guest, table);
-    if count == 0 {
+    let pairs = count_entries(guest, table);
+    if pairs == 0 {
         return Ok(());
     }
-    write_head(sink, table.code(), 8 + table.entry_len() * count)?;
-    write_count(sink, count)?;
-    write_entries(sink, guest, table, count)
+    write_head(sink, table.code(), 8 + table.entry_len() * pairs)?;
+    write_count(sink, pairs)?;
+    write_entries(sink, guest, table, pairs)
 }

@@ -9,7 +9,7 @@ ghost use Rattle.mig_records.specs.Records.{spelled};
 ghost use Rattle.mig_canon.specs.Canon.{words_of, pages_of, body_of, text_of, frame_bodies, batches, frames_in};
 
 use crate::entries::write_count;
-use mig_bytes::{Sink, WriteFailed, put_all};
+use mig_bytes::{Sink, WriteFailed, put_all, put_u64_le};
 use mig_guest::Guest;
 use mig_pagetypes::{FrameWord, encode_word};
 use mig_records::write_head;
@@ -47,18 +47,26 @@ fn write_page<K: Sink>(sink: &mut K, page: Option<&[u8; 4096]>) -> Result<(), Wr
     }
 }
 
-/// How many pages come with so many frames, from this number on.
-fn count_pages(guest: &Guest, start: u64, count: u32) -> u32
+/// Room for the words of a batch.
+fn no_words() -> [u8; 8192] {
+    [0; 8192]
+}
+
+/// Writes the words of so many frames, from this number on; answers how many pages come with them.
+fn fill_words(words: &mut [u8], guest: &Guest, start: u64, count: u32) -> u32
+    requires room { 8 * count ≤ length words.old }
     requires most { count ≤ 1024 }
     requires has { count ≤ length (entries_from start (frames_in guest.now)) }
-    ensures len { length (pages_of (take count (entries_from start (frames_in guest.now)))) ≡ 4096 * result }
+    ensures words { take (8 * count) words.new ≡ words_of (take count (entries_from start (frames_in guest.now))) }
+    ensures pages { length (pages_of (take count (entries_from start (frames_in guest.now)))) ≡ 4096 * result }
     ensures few { result ≤ count }
 {
     let mut pages = 0;
     let mut from = start;
     for i in 0..count {
         match guest.next_entry(from) {
-            Some((pfn, _, page)) => {
+            Some((pfn, kind, page)) => {
+                put_u64_le(words, 8 * i as usize, encode_word(FrameWord { pfn, kind }));
                 pages += pages_with(page);
                 from = pfn + 1;
             }
@@ -66,30 +74,6 @@ fn count_pages(guest: &Guest, start: u64, count: u32) -> u32
         }
     }
     pages
-}
-
-/// Appends the words of so many frames, from this number on.
-fn write_words<K: Sink>(
-    sink: &mut K,
-    guest: &Guest,
-    start: u64,
-    count: u32,
-) -> Result<(), WriteFailed>
-    requires { count ≤ length (entries_from start (frames_in guest.now)) }
-    ensures bytes { Puts (words_of (take count (entries_from start (frames_in guest.now)))) (K.written sink.old) (K.written sink.new) result }
-    ensures cause { HasCause (K.faults sink.old) (K.faults sink.new) result }
-{
-    let mut from = start;
-    for i in 0..count {
-        match guest.next_entry(from) {
-            Some((pfn, kind, _)) => {
-                put_all(sink, &encode_word(FrameWord { pfn, kind }).to_le_bytes())?;
-                from = pfn + 1;
-            }
-            None => return Ok(()),
-        }
-    }
-    Ok(())
 }
 
 /// Appends the pages of so many frames, from this number on; answers the number behind them.
@@ -130,10 +114,11 @@ fn write_batch<K: Sink>(
     ensures next { IfOk result (λ next. entries_from next (frames_in guest.now) ≡ drop count (entries_from start (frames_in guest.now))) }
     ensures cause { HasCause (K.faults sink.old) (K.faults sink.new) result }
 {
-    let pages = count_pages(guest, start, count);
+    let mut words = no_words();
+    let pages = fill_words(&mut words, guest, start, count);
     write_head(sink, 1, 8 + 8 * count + 4096 * pages)?;
     write_count(sink, count)?;
-    write_words(sink, guest, start, count)?;
+    put_all(sink, &words[..8 * count as usize])?;
     write_pages(sink, guest, start, count)
 }
 
