@@ -2,3 +2,4 @@ pub mod Steps
 pub mod Wholes
 pub mod Spelling
 pub mod Batches
+pub mod Samples

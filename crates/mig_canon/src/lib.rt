@@ -11,6 +11,8 @@
 
 mod entries;
 mod frames;
+#[cfg(test)]
+mod tests;
 mod writer;
 
 pub use writer::write_canon;
