@@ -17,7 +17,7 @@ use mig_records::write_head;
 /// The number of frames of a whole batch.
 const BATCH: u64 = 1024;
 
-/// A page is one page.
+/// How many pages a page is.
 fn one_page(page: &[u8; 4096]) -> u32
     ensures len { length page.now ≡ 4096 * result }
     ensures one { result ≡ 1 }

@@ -39,6 +39,11 @@ const PARTS: [u8; 264] = [
     17, 17, 0, 0, 0, 0, 0, 0, 0, 0, 0, 0, 0, 0, 0, 0, 0, 0,
 ];
 
+// The head, the count and the first word of a record of 1024 frames with pages, from PFN 3 on.
+const FIRST_BATCH: [u8; 24] = [
+    1, 0, 0, 0, 8, 0x20, 0x40, 0, 0, 4, 0, 0, 0, 0, 0, 0, 3, 0, 0, 0, 0, 0, 0, 0,
+];
+
 // Adds a part that is no context.
 fn add_part(guest: &mut Guest, key: PartKey, bytes: &[u8]) -> Result<(), Memory>
     requires whole { IsWhole guest.old }
@@ -140,6 +145,7 @@ fn batches(rt: HostRuntime) -> Result<(), Fail> {
         let mut sink = MemSink::new(rt.alloc(), Vec::new(rt.alloc()));
         assert_eq!(rt; write_canon(&mut sink, &guest), Ok(()));
         assert_eq!(rt; sink.bytes().len(), len);
+        assert_eq!(rt; sink.bytes().get(48..72), Some(FIRST_BATCH.as_slice()));
     }
     Ok(())
 }

@@ -11,13 +11,16 @@ use mig_guest::Guest;
 use mig_headers::{DomainHeader, ImageHeader, Kind};
 use mig_records::write_record;
 
-/// The types of the records that are written whole.
+/// The type of END.
 const END: u32 = 0;
 
+/// The type of X86_TSC_INFO, and the code of its part.
 const TSC_INFO: u32 = 8;
 
+/// The type of HVM_CONTEXT, and the code of its part.
 const HVM_CONTEXT: u32 = 9;
 
+/// The type of STATIC_DATA_END.
 const STATIC_DATA_END: u32 = 0x10;
 
 /// Appends the headers.
