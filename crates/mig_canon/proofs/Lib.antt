@@ -1,0 +1,5 @@
+pub mod Steps
+pub mod Wholes
+pub mod Spelling
+pub mod Batches
+pub mod Samples

@@ -1,6 +1,6 @@
 -- The canonical stream of a guest: stated records in a stated order, keys ascending, all that a reader ignores zero.
 -- So far for HVM guests.
-use Rattle.std.specs.Prelude.{◌≡◌, ℕ, ◌+◌, ◌*◌, List, [], ◌∷◌, ◌++◌, length, take, drop, map, replicate, unwrap_or, Option}
+use Rattle.std.specs.Prelude.{ℕ, ◌*◌, List, [], ◌∷◌, ◌++◌, length, take, drop, map, replicate, unwrap_or}
 use Rattle.byteorder.specs.Endian.{little_bytes}
 use Rattle.std.specs.Int.{div_ceil}
 use Rattle.std.specs.List.{flat_map, range_with_len}

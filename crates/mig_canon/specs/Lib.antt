@@ -1,1 +1,2 @@
 pub mod Canon
+pub mod Tables

@@ -21,7 +21,7 @@ use Rattle.mig_guest.specs.Order.{part_cmp}
 use Rattle.mig_guest.specs.Parts.{parts_seen, parts_of, parts_after}
 use Rattle.mig_guest.proofs.PartOrder.{part_total, part_exact}
 
-both_of : (a b : Bool) → T (a && b) → T a × T b
+pub both_of : (a b : Bool) → T (a && b) → T a × T b
 both_of true b h = (tt, h)
 both_of false b h = absurd h
 
@@ -102,7 +102,7 @@ module _ {A : Type 0} where
   kept_same a b [] same = refl
   kept_same a b (e ∷ es) same = ap (λ t. cond t (e ∷ filter a es) (filter a es)) (same e) ∙ ap (λ l. cond (b e) (e ∷ l) l) (kept_same a b es same)
 
-  all_imply : (P Q : A → Type 0) → ((e : A) → P e → Q e) → (es : List A) → All P es → All Q es
+  pub all_imply : (P Q : A → Type 0) → ((e : A) → P e → Q e) → (es : List A) → All P es → All Q es
   all_imply P Q go [] h = All-nil Q
   all_imply P Q go (e ∷ es) h = All-cons Q e es (go e (All-head P e es h)) (all_imply P Q go es (All-tail P e es h))
 
@@ -121,7 +121,7 @@ not_back x y h = backwards (part_cmp x y) (part_cmp y x) (part_total.antisymm y 
     backwards Equal s e t = absurd t
     backwards Greater s e t = absurd t
 
-not_itself : (x : PartKey) → is_lt (part_cmp x x) ≡ false
+pub not_itself : (x : PartKey) → is_lt (part_cmp x x) ≡ false
 not_itself x = itself (part_cmp x x) (part_total.antisymm x x)
   where
     itself : (r : Ordering) → r ≡ ordering_reverse r → is_lt r ≡ false

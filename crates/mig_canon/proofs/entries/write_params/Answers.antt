@@ -1,0 +1,26 @@
+use Rattle.mig_bytes.proofs.Texts.{puts_then, puts_stop, puts_same}
+use Rattle.mig_canon.specs.declared.entries.Table.TheVariants.{Params}
+use Rattle.mig_canon.specs.Tables.{rows_of}
+use Rattle.mig_canon.proofs.Wholes.{rows_are}
+use Rattle.mig_canon.proofs.Spelling.{params_text}
+use Rattle.mig_canon.proofs.entries.write_params.Goals as goal
+
+pub returns-in_err-write_head-clause-bytes : goal.returns-in_err-write_head-clause-bytes
+returns-in_err-write_head-clause-bytes g c =
+    let r = c.from_residual.result in let m = c.args.guest.now in
+    puts_same _ _ _ _ r (params_text (rows_of Params m) c.count_entries-pairs.result (rows_are m Params c.requires.whole) c.count_entries-pairs.ensures.count (λ e. c.if-pairs-eq0.false e))
+    (puts_stop _ _ _ _ _ _ r c.from_residual.ensures.1 (rw (c.code.ensures, c.entry_len.ensures.value) at c.in_err-write_head.ensures.bytes))
+
+pub returns-in_err-write_count-clause-bytes : goal.returns-in_err-write_count-clause-bytes
+returns-in_err-write_count-clause-bytes g c =
+    let r = c.from_residual-in_err-write_count.result in let m = c.args.guest.now in
+    puts_same _ _ _ _ r (params_text (rows_of Params m) c.count_entries-pairs.result (rows_are m Params c.requires.whole) c.count_entries-pairs.ensures.count (λ e. c.if-pairs-eq0.false e))
+    (puts_then _ _ _ _ _ r (rw (c.code.ensures, c.entry_len.ensures.value) at c.in_ok-write_head.ensures.bytes)
+    (puts_stop _ _ _ _ _ _ r c.from_residual-in_err-write_count.ensures.1 c.in_err-write_count.ensures.bytes))
+
+pub returns-clause-bytes : goal.returns-clause-bytes
+returns-clause-bytes g c =
+    let r = c.write_entries.result in let m = c.args.guest.now in
+    puts_same _ _ _ _ r (params_text (rows_of Params m) c.count_entries-pairs.result (rows_are m Params c.requires.whole) c.count_entries-pairs.ensures.count (λ e. c.if-pairs-eq0.false e))
+    (puts_then _ _ _ _ _ r (rw (c.code.ensures, c.entry_len.ensures.value) at c.in_ok-write_head.ensures.bytes)
+    (puts_then _ _ _ _ _ r c.in_ok-write_count.ensures.bytes c.write_entries.ensures.bytes))

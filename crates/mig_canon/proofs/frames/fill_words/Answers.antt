@@ -1,0 +1,27 @@
+use Rattle.std.proofs.Common.{sym, ◌∙◌, arith}
+use Rattle.std.specs.Option.{option_copied}
+use Rattle.mig_guest.specs.Frames.{entries_from}
+use Rattle.mig_canon.specs.Canon.{Frame, frames_in}
+use Rattle.mig_canon.proofs.Steps.{drop_next, not_ended}
+use Rattle.mig_canon.proofs.Batches.{pages_next, words_put}
+use Rattle.mig_canon.proofs.frames.fill_words.Goals as goal
+
+pub returns-in-None-clause-pages : goal.returns-in-None-clause-pages
+returns-in-None-clause-pages c =
+    absurd (not_ended c.loop-i.i c.args.count (entries_from c.args.start (frames_in c.args.guest.now)) (sym c.loop-i.invariant.at ∙ c.in-None.ensures.next) c.loop-i-test.true c.requires.has)
+
+pub returns-in-None-clause-words : goal.returns-in-None-clause-words
+returns-in-None-clause-words c =
+    absurd (not_ended c.loop-i.i c.args.count (entries_from c.args.start (frames_in c.args.guest.now)) (sym c.loop-i.invariant.at ∙ c.in-None.ensures.next) c.loop-i-test.true c.requires.has)
+
+pub loop-i-preserved : goal.loop-i-preserved
+loop-i-preserved c =
+    let all = entries_from c.args.start (frames_in c.args.guest.now) in
+    let e : Frame = (c.in-Some.pfn, record { kind = c.in-Some.kind; page = option_copied c.in-Some.page }) in
+    let here = sym c.loop-i.invariant.at ∙ c.in-Some.ensures.next in
+    record {
+      at = sym (drop_next c.loop-i.i all _ e here);
+      words = words_put c.loop-i.i all _ e c.loop-i.words c.put_u64_le.new.bytes here (omega arith) c.loop-i.invariant.words (rw c.encode_word.ensures at c.put_u64_le.ensures);
+      pages = pages_next c.loop-i.i all _ e c.loop-i.pages c.pages_with-pages.result here c.loop-i.invariant.pages c.pages_with-pages.ensures.len;
+      few = omega arith;
+    }

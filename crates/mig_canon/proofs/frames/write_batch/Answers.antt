@@ -1,0 +1,31 @@
+use Rattle.mig_guest.specs.Frames.{entries_from}
+use Rattle.mig_bytes.proofs.Texts.{puts_then, puts_stop, puts_same}
+use Rattle.mig_canon.specs.Canon.{frames_in}
+use Rattle.mig_canon.proofs.Batches.{some_text}
+use Rattle.mig_canon.proofs.frames.write_batch.Goals as goal
+
+pub returns-in_err-write_head-clause-bytes : goal.returns-in_err-write_head-clause-bytes
+returns-in_err-write_head-clause-bytes g c =
+    let r = c.from_residual.result in
+    puts_same _ _ _ _ r (some_text (entries_from c.args.start (frames_in c.args.guest.now)) c.args.count c.fill_words-pages.result c.requires.has c.fill_words-pages.ensures.pages)
+    (puts_stop _ _ _ _ _ _ r c.from_residual.ensures.1 c.in_err-write_head.ensures.bytes)
+
+pub returns-in_err-write_count-clause-bytes : goal.returns-in_err-write_count-clause-bytes
+returns-in_err-write_count-clause-bytes g c =
+    let r = c.from_residual-in_err-write_count.result in
+    puts_same _ _ _ _ r (some_text (entries_from c.args.start (frames_in c.args.guest.now)) c.args.count c.fill_words-pages.result c.requires.has c.fill_words-pages.ensures.pages)
+    (puts_then _ _ _ _ _ r c.in_ok-write_head.ensures.bytes (puts_stop _ _ _ _ _ _ r c.from_residual-in_err-write_count.ensures.1 c.in_err-write_count.ensures.bytes))
+
+pub returns-in_err-put_all-clause-bytes : goal.returns-in_err-put_all-clause-bytes
+returns-in_err-put_all-clause-bytes g c =
+    let r = c.from_residual-in_err-put_all.result in
+    puts_same _ _ _ _ r (some_text (entries_from c.args.start (frames_in c.args.guest.now)) c.args.count c.fill_words-pages.result c.requires.has c.fill_words-pages.ensures.pages)
+    (puts_then _ _ _ _ _ r c.in_ok-write_head.ensures.bytes (puts_then _ _ _ _ _ r c.in_ok-write_count.ensures.bytes
+    (puts_stop _ _ _ _ _ _ r c.from_residual-in_err-put_all.ensures.1 (rw c.fill_words-pages.ensures.words at c.in_err-put_all.ensures.bytes))))
+
+pub returns-clause-bytes : goal.returns-clause-bytes
+returns-clause-bytes g c =
+    let r = c.write_pages.result in
+    puts_same _ _ _ _ r (some_text (entries_from c.args.start (frames_in c.args.guest.now)) c.args.count c.fill_words-pages.result c.requires.has c.fill_words-pages.ensures.pages)
+    (puts_then _ _ _ _ _ r c.in_ok-write_head.ensures.bytes (puts_then _ _ _ _ _ r c.in_ok-write_count.ensures.bytes
+    (puts_then _ _ _ _ _ r (rw c.fill_words-pages.ensures.words at c.in_ok-put_all.ensures.bytes) c.write_pages.ensures.bytes)))

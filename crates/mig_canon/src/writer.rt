@@ -1,0 +1,101 @@
+ghost use Rattle.std.specs.Prelude.{◌≡◌, ◌++◌, map};
+ghost use Rattle.mig_bytes.specs.Bytes.{Puts};
+ghost use Rattle.mig_bytes.specs.Faults.{HasCause};
+ghost use Rattle.mig_pvtables.specs.Whole.{IsWhole};
+ghost use Rattle.mig_canon.specs.Canon.{headers, static_bodies, last_bodies, tsc_body, of_code, text_of, canon};
+
+use crate::entries::{write_leaves, write_msrs, write_params};
+use crate::frames::write_frames;
+use mig_bytes::{Sink, WriteFailed, put_all};
+use mig_guest::Guest;
+use mig_headers::{DomainHeader, ImageHeader, Kind};
+use mig_records::write_record;
+
+/// The type of END.
+const END: u32 = 0;
+
+/// The type of X86_TSC_INFO, and the code of its part.
+const TSC_INFO: u32 = 8;
+
+/// The type of HVM_CONTEXT, and the code of its part.
+const HVM_CONTEXT: u32 = 9;
+
+/// The type of STATIC_DATA_END.
+const STATIC_DATA_END: u32 = 0x10;
+
+/// Appends the headers.
+fn write_headers<K: Sink>(sink: &mut K) -> Result<(), WriteFailed>
+    ensures bytes { Puts headers (K.written sink.old) (K.written sink.new) result }
+    ensures cause { HasCause (K.faults sink.old) (K.faults sink.new) result }
+{
+    let domain = DomainHeader {
+        kind: Kind::Hvm,
+        major: 0,
+        minor: 1,
+    };
+    put_all(sink, &ImageHeader { version: 3 }.encode())?;
+    put_all(sink, &domain.encode())
+}
+
+/// Appends the policies, where they have entries, and STATIC_DATA_END.
+fn write_static<K: Sink>(sink: &mut K, guest: &Guest) -> Result<(), WriteFailed>
+    requires { IsWhole guest.now }
+    ensures bytes { Puts (text_of (static_bodies guest.now)) (K.written sink.old) (K.written sink.new) result }
+    ensures cause { HasCause (K.faults sink.old) (K.faults sink.new) result }
+{
+    write_leaves(sink, guest)?;
+    write_msrs(sink, guest)?;
+    write_record(sink, STATIC_DATA_END, &[])
+}
+
+/// Appends the TSC, where there is one.
+fn write_tsc<K: Sink>(sink: &mut K, guest: &Guest) -> Result<(), WriteFailed>
+    requires { IsWhole guest.now }
+    ensures bytes { Puts (text_of (map (λ p. (8, tsc_body p)) (of_code 8 guest.now))) (K.written sink.old) (K.written sink.new) result }
+    ensures cause { HasCause (K.faults sink.old) (K.faults sink.new) result }
+{
+    match guest.next_of_code(TSC_INFO, None) {
+        Some((_, bytes)) => {
+            let mut body = [0; 24];
+            body[..20].copy_from_slice(bytes);
+            write_record(sink, TSC_INFO, &body)
+        }
+        None => Ok(()),
+    }
+}
+
+/// Appends the context.
+fn write_context<K: Sink>(sink: &mut K, guest: &Guest) -> Result<(), WriteFailed>
+    requires { IsWhole guest.now }
+    ensures bytes { Puts (text_of (map (λ p. (9, p.1)) (of_code 9 guest.now))) (K.written sink.old) (K.written sink.new) result }
+    ensures cause { HasCause (K.faults sink.old) (K.faults sink.new) result }
+{
+    match guest.next_of_code(HVM_CONTEXT, None) {
+        Some((_, bytes)) => write_record(sink, HVM_CONTEXT, bytes),
+        None => Ok(()),
+    }
+}
+
+/// Appends the records behind the frames.
+fn write_last<K: Sink>(sink: &mut K, guest: &Guest) -> Result<(), WriteFailed>
+    requires { IsWhole guest.now }
+    ensures bytes { Puts (text_of (last_bodies guest.now)) (K.written sink.old) (K.written sink.new) result }
+    ensures cause { HasCause (K.faults sink.old) (K.faults sink.new) result }
+{
+    write_tsc(sink, guest)?;
+    write_params(sink, guest)?;
+    write_context(sink, guest)?;
+    write_record(sink, END, &[])
+}
+
+/// Appends the canonical stream of the guest. After `WriteFailed` some first bytes of it are appended, but not all.
+pub fn write_canon<K: Sink>(sink: &mut K, guest: &Guest) -> Result<(), WriteFailed>
+    requires { IsWhole guest.now }
+    ensures bytes { Puts (canon guest.now) (K.written sink.old) (K.written sink.new) result }
+    ensures cause { HasCause (K.faults sink.old) (K.faults sink.new) result }
+{
+    write_headers(sink)?;
+    write_static(sink, guest)?;
+    write_frames(sink, guest)?;
+    write_last(sink, guest)
+}
