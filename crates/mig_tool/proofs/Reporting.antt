@@ -9,10 +9,10 @@ use Rattle.mig_bytes.specs.Faults.{HasCause, Rose}
 use Rattle.mig_bytes.specs.declared.failure.WriteFailed.{WriteFailed}
 use Rattle.mig_headers.specs.declared.fault.Cause.{Cause}
 use Rattle.mig_headers.specs.declared.fault.Place.{Place}
-use Rattle.mig_restore.specs.Guest.{GuestOf}
+use Rattle.mig_guest.specs.Guests.{GuestOf}
 use Rattle.mig_restore.specs.Spelled.{Accepted}
 use Rattle.mig_restore.specs.Stream.{IsRefused}
-use Rattle.mig_restore.specs.Canon.{canon}
+use Rattle.mig_canon.specs.Canon.{canon}
 use Rattle.mig_restore.specs.Stream.{ReadsAs, verdict}
 use Rattle.mig_restore.specs.declared.read.Reading.{Reading}
 use Rattle.mig_restore.proofs.Converse.{never_both}

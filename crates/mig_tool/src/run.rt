@@ -3,7 +3,7 @@ ghost use Rattle.std.specs.Io.KnownBytes.{Keeps};
 ghost use Rattle.mig_bytes.specs.Faults.{Rose};
 ghost use Rattle.mig_headers.specs.declared.fault.Cause.{Cause};
 ghost use Rattle.mig_headers.specs.declared.fault.Place.{Place};
-ghost use Rattle.mig_restore.specs.Guest.{GuestOf};
+ghost use Rattle.mig_guest.specs.Guests.{GuestOf};
 ghost use Rattle.mig_restore.specs.Spelled.{Accepted};
 ghost use Rattle.mig_restore.specs.Stream.{IsRefused};
 ghost use Rattle.mig_tool.specs.Answers.{SaysOf, ComesOf, IsLine, NamesRefusal};
@@ -12,10 +12,10 @@ ghost use Rattle.mig_tool.specs.Words.{texts_of, IsNormalise};
 ghost use Rattle.mig_tool.specs.declared.outcome.Outcome.TheVariants as outcomes;
 ghost use Rattle.mig_tool.specs.declared.status.Status.TheVariants as statuses;
 
-use crate::canon::write_canon;
 use crate::outcome::{Outcome, put_line, status};
 use crate::status::Status;
 use mig_bytes::{Sink, Source};
+use mig_canon::write_canon;
 use mig_restore::{StreamAnswer, read_image};
 use std::alloc::Global;
 
