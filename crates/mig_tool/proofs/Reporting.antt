@@ -13,7 +13,12 @@ use Rattle.mig_guest.specs.Guests.{GuestOf}
 use Rattle.mig_restore.specs.Spelled.{Accepted}
 use Rattle.mig_restore.specs.Stream.{IsRefused}
 use Rattle.mig_canon.specs.Canon.{canon}
+use Rattle.mig_pvtables.specs.Whole.{IsWhole}
+use Rattle.mig_restore.specs.Judging.{Opening}
+use Rattle.mig_restore.specs.Mean.{mean}
+use Rattle.mig_restore.specs.Record.{StreamRecord}
 use Rattle.mig_restore.specs.Stream.{ReadsAs, verdict}
+use Rattle.mig_restore.specs.Stream.Verdict.{Accepts}
 use Rattle.mig_restore.specs.declared.read.Reading.{Reading}
 use Rattle.mig_restore.proofs.Converse.{never_both}
 use Rattle.mig_restore.proofs.Laws.{accepted_is_image}
@@ -99,13 +104,17 @@ refused_refused told left old new status input place cause rest h is refused rea
 
 -- ---- what a reading and a writing come to
 
-pub came : (told left old new : Option (List ℕ)) (reading : Reading) (r : Result (Unit {0}) WriteFailed) (outcome : Outcome) → ReadsAs verdict told left (Ok reading) → Puts (canon reading.guest) old new r → outcome ≡ wrote r
-    → ComesOf told left old new outcome
-came None left old new reading r outcome h put is = tt
-came (Some input) left old new reading (Ok u) outcome (records, rest, accepts, left_is, guest, count) put is =
-    subst (Comes input left old new) (sym is) (record { guest = reading.guest; rest = rest; accepted = (records, accepted_is_image input records rest accepts, guest); left_is = left_is; wrote = put })
-came (Some input) left old new reading (Err e) outcome (records, rest, accepts, left_is, guest, count) put is =
-    subst (Comes input left old new) (sym is) (record { guest = reading.guest; rest = rest; accepted = (records, accepted_is_image input records rest accepts, guest); left_is = left_is; wrote = put })
+accepted_front : (input rest : List ℕ) (o : Opening) (records : List StreamRecord) (guest : GuestOf) → verdict input ≡ Accepts o records rest → guest ≡ mean o.kind records → Accepted input guest rest
+accepted_front input rest o records guest accepts is = record { opening = o; records = records; image = accepted_is_image input o records rest accepts; means = is }
+
+pub came : (told left old new : Option (List ℕ)) (reading : Reading) (r : Result (Unit {0}) WriteFailed) (outcome : Outcome) → ReadsAs verdict told left (Ok reading) → IsWhole reading.guest → Puts (canon reading.guest) old new r
+    → outcome ≡ wrote r → ComesOf told left old new outcome
+came None left old new reading r outcome h whole put is = tt
+came (Some input) left old new reading (Ok u) outcome (o, records, rest, accepts, left_is, guest, version, count) whole put is =
+    subst (Comes input left old new) (sym is)
+    (record { guest = reading.guest; rest = rest; accepted = accepted_front input rest o records reading.guest accepts guest; left_is = left_is; wrote = put; whole = whole })
+came (Some input) left old new reading (Err e) outcome (o, records, rest, accepts, left_is, guest, version, count) whole put is =
+    subst (Comes input left old new) (sym is) (record { guest = reading.guest; rest = rest; accepted = accepted_front input rest o records reading.guest accepts guest; left_is = left_is; wrote = put })
 
 -- ---- which outcome has a status
 
