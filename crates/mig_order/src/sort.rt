@@ -1,10 +1,12 @@
-ghost use Rattle.std.specs.Prelude.{◌≡◌, ◌==◌, ◌∷◌, []};
+ghost use Rattle.std.specs.Prelude.{◌≡◌, ◌∷◌, []};
 ghost use Rattle.mig_headers.specs.declared.record_type.RecordType.TheVariants.{StaticDataEnd};
 ghost use Rattle.mig_headers.specs.RecordTypes.{type_number};
 ghost use Rattle.mig_order.specs.Order.{among, static_records, content_records, vcpu_records};
 
 use mig_headers::RecordType;
 
+// Not inlined: clang's vectorizer compiles two such comparisons, joined into flags that lie side by side, wrongly.
+#[inline(never)]
 pub fn is_same(this: RecordType, other: RecordType) -> bool
     ensures { result ≡ among (other ∷ []) (type_number this) }
 {
