@@ -7,6 +7,8 @@ mod canon;
 mod outcome;
 mod run;
 mod status;
+#[cfg(test)]
+mod tests;
 
 use crate::run::run;
 use crate::status::Status;
