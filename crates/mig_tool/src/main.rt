@@ -6,32 +6,47 @@
 mod outcome;
 mod run;
 mod status;
+#[cfg(test)]
+mod tests;
 
+use crate::outcome::{Outcome, put_line};
 use crate::run::run;
 use crate::status::Status;
 use mig_bytes::{InSource, OutSink};
-use std::env;
-use std::io::BufReader;
+use std::alloc::Global;
+use std::io::{BufReader, ErrorKind};
 use std::process::ExitCode;
+use std::{env, io};
 
 /// How much of standard input is read at once.
 const INPUT_BUFFER: usize = 131072;
 
+/// The words behind the program's name; None where there is no memory. Words that aren't UTF-8 name no command, as no
+/// words do.
+fn words_of(alloc: Global, args: io::Result<env::Args>) -> Option<Vec<String>> {
+    let mut words = Vec::new(alloc);
+    match args {
+        Ok(args) => {
+            for word in args.skip(1) {
+                words.push(word).ok()?;
+            }
+            Some(words)
+        }
+        Err(error) if error.kind() == ErrorKind::OutOfMemory => None,
+        Err(_) => Some(words),
+    }
+}
+
 fn main(rt: HostRuntime) -> ExitCode {
     let alloc = rt.alloc();
-    let mut words = Vec::new(alloc);
-    if let Ok(args) = env::args(&rt) {
-        for word in args.skip(1) {
-            if words.push(word).is_err() {
-                return ExitCode::from(Status::Memory.code());
-            }
-        }
-    }
-    let Ok(reader) = BufReader::with_capacity(alloc, INPUT_BUFFER, rt.stdin()) else {
+    let mut report = OutSink::new(rt.stderr());
+    let words = words_of(alloc, env::args(&rt));
+    let reader = BufReader::with_capacity(alloc, INPUT_BUFFER, rt.stdin());
+    let (Some(words), Ok(reader)) = (words, reader) else {
+        let _ = put_line(&mut report, Outcome::Memory);
         return ExitCode::from(Status::Memory.code());
     };
     let mut input = InSource::new(reader);
     let mut out = OutSink::new(rt.stdout());
-    let mut report = OutSink::new(rt.stderr());
     ExitCode::from(run(alloc, &words, &mut input, &mut out, &mut report).code())
 }

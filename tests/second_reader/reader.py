@@ -1,0 +1,202 @@
+"""A second reader of HVM streams, written from the format's documents and from docs/, and not from the program.
+
+`normalise(bytes)` answers the report line (without the end of the line; empty where the stream is accepted) and what
+the program has to write. It is short and slow, and holds everything in memory.
+"""
+import struct
+
+MOST_BODY, MOST_RECORDS, MOST_FRAMES, FRAME_LIMIT = 1 << 27, 1 << 28, 1 << 24, 1 << 28
+PV, HVM = 1, 2
+END, PAGE_DATA, TSC_INFO, CONTEXT, PARAMS, STATIC_DATA_END, CPUID_POLICY, MSR_POLICY = 0, 1, 8, 9, 10, 16, 17, 18
+
+# type: the kinds of guest that have it, and the body lengths that it may have
+TABLE = {
+    END: ((PV, HVM), lambda n: n == 0),
+    PAGE_DATA: ((PV, HVM), lambda n: n >= 8),
+    2: ((PV,), lambda n: n == 8),
+    3: ((PV,), lambda n: n >= 8),
+    4: ((PV,), lambda n: n in (8, 5176)),
+    5: ((PV,), lambda n: n >= 8),
+    6: ((PV,), lambda n: n >= 8),
+    7: ((PV,), lambda n: n == 4096),
+    TSC_INFO: ((PV, HVM), lambda n: n == 24),
+    CONTEXT: ((HVM,), lambda n: True),
+    PARAMS: ((HVM,), lambda n: n >= 8),
+    12: ((PV,), lambda n: n >= 8 and (n - 8) % 16 == 0),
+    STATIC_DATA_END: ((PV, HVM), lambda n: n == 0),
+    CPUID_POLICY: ((PV, HVM), lambda n: n % 24 == 0 and n <= 65536 * 24),
+    MSR_POLICY: ((PV, HVM), lambda n: n % 16 == 0 and n <= 65536 * 16),
+}
+UNSUPPORTED = (11, 13, 14, 15)
+STATIC = (2, CPUID_POLICY, MSR_POLICY)
+CONTENT = (END, PAGE_DATA, 3, 4, 5, 6, 7, CONTEXT, PARAMS, 12)
+
+
+class Refused(Exception):
+    pass
+
+
+class Input:
+    def __init__(self, data):
+        self.data, self.at = data, 0
+
+    def take(self, length):
+        if len(self.data) - self.at < length:
+            raise Refused('1 Truncated')
+        self.at += length
+        return self.data[self.at - length:self.at]
+
+
+def refuse_if(test, cause):
+    if test:
+        raise Refused(cause)
+
+
+def is_optional(kind):
+    return kind >= 1 << 31
+
+
+def has_page(kind):
+    return kind < 13
+
+
+def broken_rule(version, before, kind):
+    """The least rule of order that a record of this type breaks behind records of these types, or 0."""
+    ended = STATIC_DATA_END in before
+    content = any(other in CONTENT for other in before)
+    if kind == STATIC_DATA_END and ended:
+        return 1
+    if (kind in STATIC and ended) or (kind in STATIC + (STATIC_DATA_END,) and content):
+        return 2
+    if version == 3 and kind in CONTENT and not ended:
+        return 3
+    return 0
+
+
+def judge_head(version, guest_kind, before, kind, length):
+    refuse_if(guest_kind == PV and kind in TABLE, '0 NotBuilt %d' % kind)
+    refuse_if(length > MOST_BODY, '8 BodyTooLong %d' % length)
+    if not is_optional(kind):
+        refuse_if(kind in UNSUPPORTED, '9 Unsupported %d' % kind)
+        refuse_if(kind not in TABLE, '10 UnknownMandatory %d' % kind)
+        kinds, allows = TABLE[kind]
+        refuse_if(guest_kind not in kinds, '11 WrongKind %d' % kind)
+        rule = broken_rule(version, before, kind)
+        refuse_if(rule, '12 OutOfOrder %d' % rule)
+        refuse_if(not allows(length), '13 BadLength %d' % length)
+    refuse_if(len(before) >= MOST_RECORDS, '31 TooManyRecords')
+
+
+def end_of_chain(body):
+    """The offset of the entry that ends an HVM context."""
+    offset = 0
+    while True:
+        refuse_if(offset >= len(body), '25 BadContext ' + ('NoEnd' if offset else 'NoHeader'))
+        refuse_if(len(body) - offset < 8, '25 BadContext ShortEntry %d' % offset)
+        typecode, _, length = struct.unpack_from('<HHI', body, offset)
+        if offset == 0:
+            refuse_if(typecode != 1, '25 BadContext NoHeader')
+            refuse_if(length != 24, '25 BadContext HeaderSize %d' % length)
+        if typecode == 0:
+            return offset
+        refuse_if(offset + 8 + length > len(body), '25 BadContext ShortEntry %d' % offset)
+        offset += 8 + length
+
+
+def read_pages(source, length, frames):
+    count, _ = struct.unpack('<II', source.take(8))
+    refuse_if(length < 8 + 8 * count, '13 BadLength %d' % length)
+    refuse_if(count == 0, '14 NoPages')
+    words = [(word >> 60, word % (1 << 52)) for word in struct.unpack('<%dQ' % count, source.take(8 * count))]
+    for entry, (kind, _) in enumerate(words):
+        refuse_if(5 <= kind <= 8, '15 BadPageType %d %d' % (entry, kind))
+    for entry, (_, pfn) in enumerate(words):
+        refuse_if(pfn >= FRAME_LIMIT, '16 PfnOutside %d %d' % (entry, pfn))
+    refuse_if(length != 8 + 8 * count + 4096 * sum(has_page(kind) for kind, _ in words), '13 BadLength %d' % length)
+    for kind, pfn in words:
+        page = source.take(4096) if has_page(kind) else b''
+        if kind == 15:
+            frames.pop(pfn, None)
+        else:
+            frames[pfn] = (0 if has_page(kind) else kind, page)
+
+
+def read_params(body, params):
+    count, = struct.unpack_from('<I', body)
+    refuse_if(len(body) != 8 + 16 * count, '13 BadLength %d' % len(body))
+    pairs = list(struct.iter_unpack('<QQ', body[8:]))
+    for index, _ in pairs:
+        refuse_if(index >= 4096, '26 ParamIndex %d' % index)
+    params.update(pairs)
+
+
+def read_body(source, kind, length, guest):
+    if is_optional(kind):
+        source.take(length)
+    elif kind == END:
+        refuse_if('context' not in guest, '27 Missing 9')
+        refuse_if(len(guest['frames']) > MOST_FRAMES, '32 TooManyFrames')
+    elif kind == PAGE_DATA:
+        read_pages(source, length, guest['frames'])
+    else:
+        body = source.take(length)
+        if kind == TSC_INFO:
+            guest['tsc'] = body[:20]
+        elif kind == CONTEXT:
+            guest['context'] = body[:end_of_chain(body)] + bytes(8)
+        elif kind == PARAMS:
+            read_params(body, guest['params'])
+        elif kind == CPUID_POLICY and body:
+            guest['cpuid'] = {(leaf, subleaf): rest for leaf, subleaf, rest in struct.iter_unpack('<II16s', body)}
+        elif kind == MSR_POLICY and body:
+            guest['msrs'] = {index: rest for index, rest in struct.iter_unpack('<I12s', body)}
+    source.take(-length % 8)
+
+
+def record(kind, *pieces):
+    body = b''.join(pieces)
+    return struct.pack('<II', kind, len(body)) + body + bytes(-len(body) % 8)
+
+
+def canonical(guest):
+    out = [b'\xff' * 8, b'XENF', struct.pack('>IHHI', 3, 0, 0, 0), struct.pack('<IHHII', HVM, 12, 0, 0, 1)]
+    if guest['cpuid']:
+        out.append(record(CPUID_POLICY, *(struct.pack('<II', *key) + rest for key, rest in sorted(guest['cpuid'].items()))))
+    if guest['msrs']:
+        out.append(record(MSR_POLICY, *(struct.pack('<I', key) + rest for key, rest in sorted(guest['msrs'].items()))))
+    out.append(record(STATIC_DATA_END))
+    frames = sorted(guest['frames'].items())
+    for at in range(0, len(frames), 1024):
+        batch = frames[at:at + 1024]
+        words = [struct.pack('<Q', kind << 60 | pfn) for pfn, (kind, _) in batch]
+        out.append(record(PAGE_DATA, struct.pack('<II', len(batch), 0), *words, *(page for _, (_, page) in batch)))
+    if 'tsc' in guest:
+        out.append(record(TSC_INFO, guest['tsc'], bytes(4)))
+    if guest['params']:
+        pairs = sorted(guest['params'].items())
+        out.append(record(PARAMS, struct.pack('<II', len(pairs), 0), *(struct.pack('<QQ', *pair) for pair in pairs)))
+    return b''.join(out + [record(CONTEXT, guest['context']), record(END)])
+
+
+def normalise(data):
+    source, place = Input(data), 'ImageHeader'
+    try:
+        refuse_if(source.take(8) != b'\xff' * 8, '2 NotStream')
+        name, version, options = struct.unpack_from('>4sIH', source.take(16))
+        refuse_if(name != b'XENF', '3 BadId')
+        refuse_if(version not in (2, 3), '4 BadVersion %d' % version)
+        refuse_if(options & 1, '5 BigEndian')
+        place = 'DomainHeader'
+        guest_kind, shift = struct.unpack_from('<IH', source.take(16))
+        refuse_if(guest_kind not in (PV, HVM), '6 BadKind %d' % guest_kind)
+        refuse_if(shift != 12, '7 BadPageShift %d' % shift)
+        guest, before = {'frames': {}, 'params': {}, 'cpuid': {}, 'msrs': {}}, []
+        while END not in before:
+            place = 'Record %d' % len(before)
+            kind, length = struct.unpack('<II', source.take(8))
+            judge_head(version, guest_kind, before, kind, length)
+            read_body(source, kind, length, guest)
+            before.append(kind)
+        return '', canonical(guest)
+    except Refused as cause:
+        return 'refused: %s: %s' % (place, cause), b''
