@@ -15,6 +15,8 @@ mod head;
 mod law;
 mod part;
 mod read;
+#[cfg(test)]
+mod tests;
 
 pub use law::{
     accepted_is_image, accepted_or_refused, image_is_accepted,
