@@ -9,6 +9,7 @@ one_more P n below at k less = which (nat_eq k n) refl
   where
     differ : (a b : ℕ) → nat_eq a b ≡ false → a < b + 1 → a < b
     differ a b e h = grind (arith, common_steps)
+
     which : (b : Bool) → nat_eq k n ≡ b → P k
     which true is = subst P (sym (eqb-true k n is)) at
     which false is = below k (differ k n is less)

@@ -1,12 +1,11 @@
 -- The front of a stream that the reader has behind it, and what the verdict on it is.
-use Rattle.std.proofs.Common.{◌≡◌, ℕ, ◌+◌, ◌-◌, ◌<◌, ◌≤◌, List, [], ◌∷◌, ◌++◌, length, take, drop, Bool, true, false, cond, nat_eq, nat_lt, Option, Some, None, Result, Ok, Err, refl, sym, ap, subst, ◌∙◌, arith, length-append, length-drop, le_refl, ltb-false}
+use Rattle.std.proofs.Common.{◌≡◌, ℕ, ◌-◌, ◌<◌, ◌≤◌, List, [], ◌∷◌, ◌++◌, length, take, drop, Bool, true, false, cond, nat_eq, nat_lt, Option, Some, None, Result, Ok, Err, refl, sym, ap, subst, ◌∙◌, arith, length-drop, le_refl, ltb-false}
 use Rattle.std.specs.Prelude.{⊤, ◌||◌}
 use Rattle.std.specs.List.{list_any}
 use Rattle.std.proofs.lemmas.List.{map-append, length-map}
 use Rattle.std.proofs.lemmas.List.Folds.{list_any-append}
-use Rattle.std.proofs.lemmas.Grind.{common_steps}
 use Rattle.mig_bytes.specs.Fields.{le32}
-use Rattle.mig_bytes.specs.Walk.{Reaches, walk_end}
+use Rattle.mig_bytes.specs.Walk.{Reaches}
 use Rattle.mig_bytes.specs.Walk.Reaches.{here, next}
 use Rattle.mig_bytes.proofs.Walks.{walk_end_is, walk_end_ends}
 use Rattle.mig_headers.specs.Contexts.{scan}
@@ -26,16 +25,15 @@ use Rattle.mig_restore.specs.declared.head.Seen.{Seen}
 use Rattle.mig_restore.specs.declared.part.Stop.{Stop}
 use Rattle.mig_restore.specs.declared.part.Stop.TheVariants as stops
 use Rattle.mig_restore.specs.declared.part.StreamAnswer.{StreamAnswer}
-use Rattle.mig_restore.specs.declared.part.StreamAnswer.TheVariants as answers
 use Rattle.mig_restore.specs.declared.read.Reading.{Reading}
-use Rattle.mig_restore.specs.Judged.{Judged, ◌>>=◌, part, tried, each, Gives, Matches}
+use Rattle.mig_restore.specs.Judged.{Judged, ◌>>=◌, part, tried, each, Gives}
 use Rattle.mig_restore.specs.Judged.Judged.{Passes, Faulty}
 use Rattle.mig_restore.specs.Mean.{mean, put_record, empty_guest}
-use Rattle.mig_restore.specs.Record.{StreamRecord, Entry, Content, types_of, is_ended}
+use Rattle.mig_restore.specs.Record.{StreamRecord, Content, types_of, is_ended}
 use Rattle.mig_restore.specs.Judging.{Opening, record_at, head_at, body_at, typed_at, pages_at, entries_at, page_at, entry_at, context_at, params_at, plain_at, words_at, fault_of_head, fault_of_scan, fault_of_data, fault_at_end}
 use Rattle.mig_restore.specs.Answer.{answer_of}
 use Rattle.mig_restore.specs.Seen.{IsSeen}
-use Rattle.mig_restore.specs.Stream.{Front, Verdict, one_more, at_start, front_of, front_with, verdict_of_front, verdict_with, at_place, of_records, ReadsAs, ReadsVerdict}
+use Rattle.mig_restore.specs.Stream.{Front, Verdict, one_more, at_start, front_of, front_with, verdict_of_front, at_place, of_records, ReadsAs, ReadsVerdict}
 use Rattle.mig_restore.specs.Stream.Verdict.{Accepts, Refuses}
 use Rattle.mig_restore.proofs.Parts.{begins, behind_head}
 use Rattle.mig_restore.proofs.Meaning.{one_more_record}

@@ -1,5 +1,5 @@
 -- The body of a PAGE_DATA record, part by part.
-use Rattle.std.proofs.Common.{◌≡◌, ℕ, List, Option, Some, None, Result, Ok, Err, refl, sym, ap, subst, ◌∙◌}
+use Rattle.std.proofs.Common.{◌≡◌, ℕ, List, Option, Some, None, Result, Ok, Err, sym, ap, subst, ◌∙◌}
 use Rattle.mig_bytes.specs.Fields.{le32}
 use Rattle.mig_headers.specs.declared.kind.Kind.{Kind}
 use Rattle.mig_guest.specs.Guests.{GuestOf}
@@ -7,7 +7,7 @@ use Rattle.mig_records.specs.Faults.{fault_of_count, fault_of_words}
 use Rattle.mig_restore.specs.declared.part.Stop.{Stop}
 use Rattle.mig_restore.specs.declared.part.Stop.TheVariants.{Refused, ReadFault, Memory}
 use Rattle.mig_restore.specs.Judged.{Judged, ◌>>=◌, part, tried, each, Matches, Gives}
-use Rattle.mig_restore.specs.Judged.Judged.{Passes, Faulty}
+use Rattle.mig_restore.specs.Judged.Judged.{Passes}
 use Rattle.mig_restore.specs.Record.{Entry, Content}
 use Rattle.mig_restore.specs.Record.Content.{Frames}
 use Rattle.mig_restore.specs.Mean.{put_entries, put_content}
@@ -46,11 +46,11 @@ module _ (g new : GuestOf) (e : Option (List ℕ)) where
         let (ws, after, is_words, left_words, words_same) = subst (λ o. Gives (λ v l. l ≡ items v) o d (words_at n) (Ok list)) left read in
         let told' = subst (λ o. Gives Set o e (each entry_at (items list)) r) left_words told in
         let judged : pages_at kind len i ≡ (each entry_at (items list) after >>= as_content) =
-            ap (λ j. (j >>= behind_front len kind) >>= as_content) (ap (λ q. part q i) (sym size) ∙ is)
-            ∙ ap (λ q. (tried (fault_of_count len q) rest >>= λ _. words_at q rest >>= behind_words len kind) >>= as_content) number
-            ∙ ap (λ f. (tried f rest >>= λ _. words_at n rest >>= behind_words len kind) >>= as_content) counted
-            ∙ ap (λ j. (j >>= behind_words len kind) >>= as_content) is_words
-            ∙ ap (λ l. behind_words len kind (l, after) >>= as_content) words_same
-            ∙ ap (λ f. (tried f after >>= λ _. tried (fault_of_data len (items list)) after >>= λ _. each entry_at (items list) after) >>= as_content) good
-            ∙ ap (λ f. (tried f after >>= λ _. each entry_at (items list) after) >>= as_content) whole in
+        ap (λ j. (j >>= behind_front len kind) >>= as_content) (ap (λ q. part q i) (sym size) ∙ is)
+        ∙ ap (λ q. (tried (fault_of_count len q) rest >>= λ _. words_at q rest >>= behind_words len kind) >>= as_content) number
+        ∙ ap (λ f. (tried f rest >>= λ _. words_at n rest >>= behind_words len kind) >>= as_content) counted
+        ∙ ap (λ j. (j >>= behind_words len kind) >>= as_content) is_words
+        ∙ ap (λ l. behind_words len kind (l, after) >>= as_content) words_same
+        ∙ ap (λ f. (tried f after >>= λ _. tried (fault_of_data len (items list)) after >>= λ _. each entry_at (items list) after) >>= as_content) good
+        ∙ ap (λ f. (tried f after >>= λ _. each entry_at (items list) after) >>= as_content) whole in
         subst (λ j. Matches Put e j r) (sym judged) (as_frames (each entry_at (items list) after) r told')

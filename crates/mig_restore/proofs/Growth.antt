@@ -1,12 +1,11 @@
 -- What reading keeps of a guest: each part or frame that is set leaves it on the way to a whole one.
-use Rattle.std.proofs.Common.{◌≡◌, ◌≢◌, ℕ, zero, suc, ◌+◌, ◌*◌, ◌/◌, ◌%◌, ◌^◌, ◌≤◌, ◌<◌, List, [], ◌∷◌, ◌++◌, length, take, drop, map, replicate, Bool, true, false, cond, not, nat_eq, nat_lt, Option, Some, None, Ok, refl, sym, ap, subst, ◌∙◌, arith, length-append, length-drop, length-take-le, le_refl, ltb-false}
+use Rattle.std.proofs.Common.{◌≡◌, ◌≢◌, ℕ, zero, suc, ◌+◌, ◌*◌, ◌/◌, ◌^◌, ◌≤◌, ◌<◌, List, [], ◌∷◌, ◌++◌, length, take, drop, map, replicate, Bool, true, false, cond, not, nat_eq, nat_lt, Option, Some, None, Ok, refl, sym, ap, subst, ◌∙◌, arith, length-append, length-drop, length-take-le, ltb-false}
 use Rattle.std.specs.Prelude.{⊤, T, is_none, IfOk}
-use Rattle.std.specs.List.{range_with_len, filter}
-use Rattle.std.specs.Ordering.{nat_cmp, eq_by_cmp, is_eq}
-use Rattle.std.specs.declared.cmp.Ordering.{Ordering}
+use Rattle.std.specs.List.{range_with_len}
+use Rattle.std.specs.Ordering.{nat_cmp, eq_by_cmp}
 use Rattle.std.specs.declared.cmp.Ordering.TheVariants.{Less, Equal, Greater}
 use Rattle.std.specs.FinMap as fin
-use Rattle.std.specs.FinMap.{find, put, is_sorted}
+use Rattle.std.specs.FinMap.{put, is_sorted}
 use Rattle.std.specs.FinMap.Entries.{where_key, find-where_key, is_sorted-where_key, by_order}
 use Rattle.std.proofs.lemmas.List.{take_at, length-map}
 use Rattle.std.proofs.lemmas.List.FromFn.{length-range_with_len}
@@ -19,15 +18,15 @@ use Rattle.mig_headers.specs.Rows.{first_fault}
 use Rattle.mig_headers.specs.declared.fault.Cause.{Cause}
 use Rattle.mig_headers.specs.declared.fault.Cause.TheVariants.{TooManyFrames}
 use Rattle.mig_headers.specs.declared.kind.Kind.{Kind}
-use Rattle.mig_headers.specs.declared.kind.Kind.TheVariants.{Pv, Hvm}
+use Rattle.mig_headers.specs.declared.kind.Kind.TheVariants.{Hvm}
 use Rattle.mig_pagetypes.specs.declared.page_type.PageType.{PageType}
 use Rattle.mig_pagetypes.specs.declared.page_type.PageType.TheVariants.{Notab, L1Tab, L2Tab, L3Tab, L4Tab, L1Pinned, L2Pinned, L3Pinned, L4Pinned, Broken, Xalloc, Xtab}
 use Rattle.mig_guest.specs.declared.part_key.PartKey.{PartKey}
-use Rattle.mig_guest.specs.Frames.{FrameMap, FrameOf, framed, IsSized}
+use Rattle.mig_guest.specs.Frames.{FrameOf, framed, IsSized}
 use Rattle.mig_guest.specs.Guests.{GuestOf}
 use Rattle.mig_guest.specs.Order.{part_cmp}
 use Rattle.mig_guest.specs.Parts.{PartMap, put_part, put_parts, replace_code, parts_of}
-use Rattle.mig_guest.specs.PartKeys.{tsc_key, context_key, param_key, leaf_key, msr_key}
+use Rattle.mig_guest.specs.PartKeys.{context_key}
 use Rattle.mig_guest.proofs.PartOrder.{part_total, part_exact}
 use Rattle.mig_guest.proofs.KeyedMaps.{tied}
 use Rattle.mig_guest.proofs.PartSets.{put_there, put_other, cleared_other}
@@ -143,7 +142,7 @@ module _ (c : ℕ) where
   put_all_len m [] = omega arith
   put_all_len m (p ∷ ps) =
       let first : length (parts_of c (fin.entries (put_part m p))) ≤ length (parts_of c (fin.entries m)) + 1 =
-          subst (λ es. length (parts_of c es) ≤ length (parts_of c (fin.entries m)) + 1) (sym (fin.entries-insert part_total m p.0 p.1)) (put_len p.0 p.1 (fin.entries m)) in
+      subst (λ es. length (parts_of c es) ≤ length (parts_of c (fin.entries m)) + 1) (sym (fin.entries-insert part_total m p.0 p.1)) (put_len p.0 p.1 (fin.entries m)) in
       omega (arith, put_all_len (put_part m p) ps, first)
 
   insert_kept : (m : PartMap) (k : PartKey) (v : List ℕ) → nat_eq k.code c ≡ false → parts_of c (fin.entries (fin.insert m k v)) ≡ parts_of c (fin.entries m)
@@ -260,8 +259,8 @@ entries_cleared m c =
     let left : List Part = where_key part_cmp test (fin.entries m) in
     let rises : T (is_sorted part_cmp left) = is_sorted-where_key part_cmp test (fin.entries m) (fin.entries_sorted m) in
     ap fin.entries (fin.same_map part_total part_exact (fin.retain_keys m test) (fin.from_sorted left) (λ q.
-        fin.get-retain_keys m test q (alike q) ∙ ap (λ o. cond (test q) o None) (fin.get-entries m q)
-        ∙ sym (find-where_key part_cmp test q (alike q) (fin.entries m)) ∙ sym (fin.get-from_sorted part_cmp left q rises)))
+    fin.get-retain_keys m test q (alike q) ∙ ap (λ o. cond (test q) o None) (fin.get-entries m q)
+    ∙ sym (find-where_key part_cmp test q (alike q) (fin.entries m)) ∙ sym (fin.get-from_sorted part_cmp left q rises)))
     ∙ fin.entries-from_sorted part_cmp left rises
 
 none_left : (c : ℕ) (es : List Part) → parts_of c (where_key part_cmp (λ k. not (nat_eq k.code c)) es) ≡ []
@@ -296,6 +295,7 @@ policy_fits c d m (p ∷ ps) fit few fits = which (nat_eq d c) refl
   where
     less : PartMap
     less = fin.retain_keys m (λ k. not (nat_eq k.code c))
+
     which : (b : Bool) → nat_eq d c ≡ b → FitsPolicy d (put_parts less (p ∷ ps))
     which true is =
         let none : parts_of c (fin.entries less) ≡ [] = ap (parts_of c) (entries_cleared m c) ∙ none_left c (fin.entries m) in
@@ -410,5 +410,6 @@ empty_so_far g top frames parts = record {
         empty_list : (l : List Part) → length l ≡ 0 → l ≡ []
         empty_list [] e = refl
         empty_list (x ∷ l) e = let no : suc (length l) ≡ 0 = e in absurd (omega (arith, no))
+
     none : (code : ℕ) → FitsPolicy code g.parts
     none code = subst (λ es. length (parts_of code es) ≤ 65536) (sym no_entries) (omega arith)

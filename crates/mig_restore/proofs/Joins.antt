@@ -1,12 +1,11 @@
 -- How what readers give joins.
-use Rattle.std.specs.Prelude.{⊤}
 use Rattle.std.specs.Result.{IsErrAnd}
 use Rattle.std.proofs.lemmas.List.{take_more, take_at, drop_at}
 use Rattle.std.proofs.lemmas.Bool.{le-ltb}
 use Rattle.std.proofs.lemmas.Grind.{common_steps}
 use Rattle.mig_headers.specs.declared.fault.Cause.TheVariants.{Truncated}
 use Rattle.std.proofs.Math.Seq.{drop-cons}
-use Rattle.std.proofs.Common.{◌≡◌, ℕ, suc, ◌+◌, ◌<◌, length, take, drop, get_or, take-append-drop, List, [], ◌∷◌, ◌++◌, Bool, true, false, Option, Some, None, Result, Ok, Err, refl, sym, ap, subst, ◌∙◌, cond, append_assoc, nat_lt, length-append, arith}
+use Rattle.std.proofs.Common.{◌≡◌, ℕ, suc, ◌+◌, ◌<◌, length, take, drop, get_or, take-append-drop, List, [], ◌∷◌, ◌++◌, true, false, Option, Some, None, Result, Ok, Err, refl, sym, ap, subst, ◌∙◌, nat_lt, length-append, arith}
 use Rattle.mig_headers.specs.declared.fault.Cause.{Cause}
 use Rattle.mig_restore.specs.declared.part.Stop.{Stop}
 use Rattle.mig_restore.specs.declared.part.Stop.TheVariants.{Refused, ReadFault, Memory}
@@ -18,7 +17,6 @@ use Rattle.mig_pagetypes.specs.PageTypes.{type_of, type_has_data}
 use Rattle.mig_bytes.specs.Bytes.{Skipped}
 use Rattle.mig_restore.specs.Record.{Entry, Content}
 use Rattle.mig_restore.specs.Judging.{kind_in, type_or_none, entry_at, plain_at}
-use Rattle.std.specs.Io.KnownBytes.{Consumes, IsAtEnd}
 
 module _ {X Y : Type 0} (R : X → Y → Type 0) where
   -- nothing is read

@@ -1,5 +1,5 @@
 -- What judging accepts is spelled as the format says.
-use Rattle.std.proofs.Common.{◌≡◌, ℕ, ◌+◌, ◌≤◌, ◌<◌, ◌^◌, List, [], ◌∷◌, ◌++◌, length, Bool, true, false, cond, nat_le, not, Option, Some, None, is_none, IsSome, refl, sym, ap, subst, ◌∙◌, append_assoc, ltb-false, leb-false, All, Ok}
+use Rattle.std.proofs.Common.{◌≡◌, ℕ, ◌≤◌, ◌<◌, ◌^◌, List, [], ◌∷◌, ◌++◌, length, Bool, true, false, cond, nat_le, not, Option, Some, None, is_none, IsSome, refl, sym, ap, subst, ◌∙◌, append_assoc, ltb-false, leb-false, Ok}
 use Rattle.std.proofs.lemmas.List.{length-map}
 use Rattle.std.specs.FinMap as maps
 use Rattle.mig_bytes.specs.Bytes.{padding_len}

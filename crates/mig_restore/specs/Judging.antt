@@ -7,7 +7,6 @@ use Rattle.mig_headers.specs.Contexts.{scan}
 use Rattle.mig_headers.specs.RecordTypes.{row_of, pv, type_of_number, is_optional}
 use Rattle.mig_headers.specs.Rows.{first_fault}
 use Rattle.mig_headers.specs.declared.kind.Kind.{Kind}
-use Rattle.mig_headers.specs.declared.kind.Kind.TheVariants.{Hvm}
 use Rattle.mig_headers.specs.declared.record_type.RecordType.{RecordType}
 use Rattle.mig_headers.specs.declared.record_type.RecordType.TheVariants.{PageData, X86TscInfo, HvmContext, HvmParams, X86CpuidPolicy, X86MsrPolicy}
 use Rattle.mig_headers.specs.declared.fault.ContextFault.{ContextFault}
@@ -27,7 +26,7 @@ use Rattle.mig_policy.specs.Policies.{leaves_in, msrs_in, tsc_in}
 use Rattle.mig_pvtables.specs.Whole.{fault_of_guest}
 use Rattle.mig_restore.specs.Mean.{mean}
 use Rattle.mig_restore.specs.Judged.{Judged, ◌>>=◌, part, tried, each}
-use Rattle.mig_restore.specs.Judged.Judged.{Passes, Faulty}
+use Rattle.mig_restore.specs.Judged.Judged.{Passes}
 use Rattle.mig_restore.specs.Record.{Entry, StreamRecord, Content, types_of}
 use Rattle.mig_restore.specs.Record.Content.{Nothing, Frames, Parts, Policy}
 

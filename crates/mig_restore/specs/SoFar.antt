@@ -1,7 +1,6 @@
 -- A guest on the way to a whole one: what reading keeps, whatever records come.
-use Rattle.std.specs.Prelude.{◌≡◌, ℕ, true, List, Some, IsSome}
+use Rattle.std.specs.Prelude.{◌≡◌, ℕ, true, List, Some}
 use Rattle.std.specs.FinMap as maps
-use Rattle.mig_headers.specs.declared.kind.Kind.{Kind}
 use Rattle.mig_headers.specs.declared.kind.Kind.TheVariants.{Hvm}
 use Rattle.mig_guest.specs.declared.part_key.PartKey.{PartKey}
 use Rattle.mig_guest.specs.Frames.{FrameOf}

@@ -108,12 +108,7 @@ fn take_cpuid<S: Source>(
 }
 
 /// Takes an MSR policy.
-fn take_msr<S: Source>(
-    alloc: Global,
-    src: &mut S,
-    len: u32,
-    guest: &mut Guest,
-) -> Result<(), Stop>
+fn take_msr<S: Source>(alloc: Global, src: &mut S, len: u32, guest: &mut Guest) -> Result<(), Stop>
     requires whole { len % 16 ≡ 0 }
     requires few { len ≤ 16 * 65536 }
     ensures read { Gives (λ _ c. guest.new ≡ put_content guest.old c) (S.left src.old) (S.left src.new) (plain_at msrs_say len) result }

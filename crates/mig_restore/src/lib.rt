@@ -19,8 +19,8 @@ mod read;
 mod tests;
 
 pub use law::{
-    accepted_is_image, accepted_or_refused, image_is_accepted,
-    last_content_decides, last_entry_decides, never_both, one_front,
+    accepted_is_image, accepted_or_refused, image_is_accepted, last_content_decides,
+    last_entry_decides, never_both, one_front,
 };
 pub use part::StreamAnswer;
 pub use read::{Reading, read_image};

@@ -59,7 +59,11 @@ fn cut_images(rt: HostRuntime) -> Result<(), Fail> {
         match read_image(rt.alloc(), &mut src) {
             Ok(_) => assert!(rt; false, "{len} bytes"),
             Err(answer) => {
-                assert_eq!(rt; answer, StreamAnswer::Refused(place, Cause::Truncated), "{len} bytes")
+                assert_eq!(rt;
+                    answer,
+                    StreamAnswer::Refused(place, Cause::Truncated),
+                    "{len} bytes"
+                )
             }
         }
     }

@@ -1,4 +1,4 @@
-use Rattle.std.proofs.Common.{◌≡◌, ◌<◌, ◌+◌, ◌*◌, ◌^◌, subst, sym, rules, arith}
+use Rattle.std.proofs.Common.{◌<◌, ◌^◌, subst, rules}
 use Rattle.mig_policy.specs.Policies.{IsSmallKey, leaf_at}
 use Rattle.mig_policy.proofs.Below.{whenever}
 use Rattle.mig_policy.proofs.cpuid.set_leaf.Goals as goal

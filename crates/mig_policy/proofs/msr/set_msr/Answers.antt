@@ -1,4 +1,4 @@
-use Rattle.std.proofs.Common.{◌≡◌, ◌<◌, ◌+◌, ◌*◌, ◌^◌, subst, sym, rules, arith}
+use Rattle.std.proofs.Common.{◌<◌, ◌^◌, subst, rules, arith}
 use Rattle.mig_policy.specs.Policies.{IsSmallKey, msr_at}
 use Rattle.mig_policy.proofs.Below.{whenever}
 use Rattle.mig_policy.proofs.msr.set_msr.Goals as goal

@@ -1,4 +1,4 @@
-use Rattle.std.proofs.Common.{get_or, [], refl, rules, subst, sym, ap}
+use Rattle.std.proofs.Common.{get_or, [], refl, rules, subst, sym}
 use Rattle.std.proofs.lemmas.List.Elements.{All-get_or}
 use Rattle.mig_restore.specs.Judged.{each}
 use Rattle.mig_restore.specs.Judging.{entry_at}

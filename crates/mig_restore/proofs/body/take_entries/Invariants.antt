@@ -1,4 +1,4 @@
-use Rattle.std.proofs.Common.{◌≡◌, ◌≤◌, ℕ, List, take, Ok}
+use Rattle.std.proofs.Common.{◌≡◌, ◌≤◌, take, Ok}
 use Rattle.mig_restore.specs.Judged.{Gives, each}
 use Rattle.mig_restore.specs.Mean.{put_entries}
 use Rattle.mig_restore.specs.Judging.{entry_at}

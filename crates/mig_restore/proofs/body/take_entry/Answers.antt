@@ -1,5 +1,4 @@
-use Rattle.std.proofs.Common.{◌∙◌, ap, sym, rules, refl}
-use Rattle.mig_pagetypes.specs.PageTypes.{type_has_data}
+use Rattle.std.proofs.Common.{◌∙◌, rules}
 use Rattle.mig_restore.proofs.Growth.{grows_frame}
 use Rattle.mig_restore.proofs.Meaning.{entry_set}
 use Rattle.mig_restore.proofs.Joins.{no_page, with_page, carries}

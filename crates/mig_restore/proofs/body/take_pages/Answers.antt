@@ -1,4 +1,4 @@
-use Rattle.std.proofs.Common.{◌≡◌, rules, refl, sym, ap, None}
+use Rattle.std.proofs.Common.{◌≡◌, rules, refl, None}
 use Rattle.mig_records.specs.Faults.{fault_of_count, fault_of_words}
 use Rattle.mig_restore.specs.Judged.{Gives, each}
 use Rattle.mig_restore.specs.Mean.{put_entries}

@@ -1,4 +1,4 @@
-use Rattle.std.proofs.Common.{◌≡◌, ◌∙◌, ap, sym, rules, refl, None}
+use Rattle.std.proofs.Common.{◌≡◌, ◌∙◌, ap, sym, rules, None}
 use Rattle.mig_hvm.specs.Params.{fault_of_params, params_in}
 use Rattle.mig_restore.specs.Mean.{put_content}
 use Rattle.mig_restore.specs.Record.Content.{Parts}

@@ -1,4 +1,4 @@
-use Rattle.std.proofs.Common.{◌≡◌, ℕ, List, Option, Result, subst, sym, Err}
+use Rattle.std.proofs.Common.{◌≡◌, ℕ, List, Option, Result, subst, sym}
 use Rattle.mig_headers.specs.declared.kind.Kind.{Kind}
 use Rattle.mig_restore.specs.declared.part.StreamAnswer.{StreamAnswer}
 use Rattle.mig_restore.specs.declared.read.Reading.{Reading}

@@ -1,4 +1,4 @@
-use Rattle.std.proofs.Common.{◌≡◌, ℕ, List, [], ◌∷◌, ◌++◌, Bool, true, false, nat_eq, None, Some, Ok, Err, refl, rules, map, ap, sym, subst, ◌∙◌}
+use Rattle.std.proofs.Common.{◌≡◌, ℕ, List, [], ◌∷◌, ◌++◌, true, refl, rules, ap, sym, subst, ◌∙◌}
 use Rattle.std.proofs.lemmas.List.{map-append}
 use Rattle.mig_bytes.specs.Bytes.{padding_len}
 use Rattle.mig_restore.specs.Judged.{part}
@@ -7,11 +7,10 @@ use Rattle.mig_restore.specs.Mean.{mean}
 use Rattle.mig_guest.specs.Guests.{GuestOf}
 use Rattle.mig_restore.specs.Record.{StreamRecord, types_of}
 use Rattle.mig_restore.specs.Record.Content.{Nothing}
-use Rattle.mig_restore.specs.Judging.{Opening, record_at, head_at, body_at, fault_at_end}
+use Rattle.mig_restore.specs.Judging.{Opening, record_at, head_at, body_at}
 use Rattle.mig_restore.specs.Seen.{IsSeen}
 use Rattle.mig_restore.specs.declared.head.Seen.{Seen}
-use Rattle.mig_restore.specs.declared.part.Stop.TheVariants.{Refused}
-use Rattle.mig_restore.proofs.Parts.{behind_body, behind_head, begins, goes_on_behind, stops_behind, ends_behind, goes_on, whole_faulty, padded}
+use Rattle.mig_restore.proofs.Parts.{behind_body, behind_head, begins, ends_behind, goes_on, whole_faulty, padded}
 use Rattle.mig_restore.proofs.Joins.{done, mapped, then_reads, stopped, refused}
 use Rattle.mig_restore.proofs.Meaning.{mean_kind}
 use Rattle.mig_restore.proofs.read.read_record.Goals as goal

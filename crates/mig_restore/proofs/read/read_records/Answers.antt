@@ -1,11 +1,9 @@
-use Rattle.std.proofs.Common.{◌≡◌, ℕ, List, refl, rules, arith, subst, sym, ap, Err, ◌∙◌}
-use Rattle.mig_headers.specs.declared.kind.Kind.TheVariants.{Hvm}
-use Rattle.mig_guest.specs.Frames.{IsSized}
+use Rattle.std.proofs.Common.{◌≡◌, refl, rules, subst, sym, ◌∙◌}
 use Rattle.mig_guest.specs.Guests.{GuestOf}
 use Rattle.mig_pvtables.specs.Whole.{IsWhole}
 use Rattle.mig_restore.specs.Judging.{opening_of}
 use Rattle.mig_restore.specs.SoFar.{IsSoFar}
-use Rattle.mig_restore.specs.Stream.{ReadsAs, of_records}
+use Rattle.mig_restore.specs.Stream.{of_records}
 use Rattle.mig_restore.proofs.Growth.{empty_so_far, whole_at_end}
 use Rattle.mig_restore.proofs.Arrivals.{arrived_first, arrived_next, arrived_end, arrived_stopped, answered}
 use Rattle.mig_restore.proofs.read.read_records.Goals as goal

@@ -1,4 +1,4 @@
-use Rattle.std.proofs.Common.{rules, sym}
+use Rattle.std.proofs.Common.{rules}
 use Rattle.mig_restore.proofs.Heads.{order_broken}
 use Rattle.mig_restore.proofs.head.Seen.judge.Goals as goal
 
