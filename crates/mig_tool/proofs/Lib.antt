@@ -1,3 +1,4 @@
 pub mod Reporting
 pub mod CanonMaps
 pub mod CanonParts
+pub mod CanonFrames
