@@ -2,3 +2,4 @@ pub mod Reporting
 pub mod CanonMaps
 pub mod CanonParts
 pub mod CanonFrames
+pub mod CanonSteps
