@@ -3,3 +3,4 @@ pub mod CanonMaps
 pub mod CanonParts
 pub mod CanonFrames
 pub mod CanonSteps
+pub mod Canons
