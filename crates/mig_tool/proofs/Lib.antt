@@ -1,1 +1,6 @@
 pub mod Reporting
+pub mod CanonMaps
+pub mod CanonParts
+pub mod CanonFrames
+pub mod CanonSteps
+pub mod Canons

@@ -1,0 +1,190 @@
+-- Finite maps and their entries: what every entry meets, and what entries that are set again give.
+use Rattle.std.proofs.Common.{◌≡◌, ℕ, Bool, true, false, cond, not, nat_eq, List, [], ◌∷◌, map, Option, Some, None, refl, sym, ap, subst, ◌∙◌}
+use Rattle.std.specs.Prelude.{T, ◌||◌, ◌&&◌}
+use Rattle.std.specs.List.{All, filter}
+use Rattle.std.specs.Option.{option_or}
+use Rattle.std.proofs.lemmas.Cmp.{eq_by_cmp_equiv}
+use Rattle.std.proofs.lemmas.List.Elements.{All-nil, All-cons, All-head, All-tail}
+use Rattle.std.specs.Cmp.{IsTotalOrder, nat_cmp_total}
+use Rattle.std.specs.Ordering.{nat_cmp, is_lt, is_eq, eq_by_cmp}
+use Rattle.std.specs.declared.cmp.Ordering.{Ordering}
+use Rattle.std.specs.declared.cmp.Ordering.TheVariants.{Less, Equal, Greater}
+use Rattle.std.specs.FinMap as maps
+use Rattle.std.specs.FinMap.{find, is_sorted, IsAntisymmetric, nat_cmp-IsAntisymmetric}
+use Rattle.std.specs.FinMap.Entries.{below_all, find-where_key, is_sorted-where_key}
+use Rattle.mig_headers.specs.declared.kind.Kind.TheVariants.{Hvm}
+use Rattle.mig_pagetypes.specs.declared.page_type.PageType.{PageType}
+use Rattle.mig_pagetypes.specs.declared.page_type.PageType.TheVariants.{Notab, L1Tab, L2Tab, L3Tab, L4Tab, L1Pinned, L2Pinned, L3Pinned, L4Pinned, Broken, Xalloc, Xtab}
+use Rattle.mig_guest.specs.declared.part_key.PartKey.{PartKey}
+use Rattle.mig_guest.specs.Frames.{FrameMap, FrameOf}
+use Rattle.mig_guest.specs.Order.{part_cmp}
+use Rattle.mig_guest.specs.Parts.{PartMap, put_part, put_parts, replace_code, parts_of}
+use Rattle.mig_guest.proofs.PartOrder.{part_total, part_exact}
+use Rattle.mig_guest.proofs.PartCursor.{both_of}
+use Rattle.mig_pvtables.specs.Whole.{IsHvmPart, is_hvm_type}
+use Rattle.mig_pvtables.specs.Whole.IsHvmPart.{tsc, context, param, leaf, msr}
+use Rattle.mig_canon.specs.Canon.{Frame, Part}
+use Rattle.mig_restore.specs.Record.{Entry}
+use Rattle.mig_restore.specs.Mean.{put_entry, put_entries}
+
+-- ---- entries in order
+
+not_tied : (r : Ordering) → T (is_lt r) → is_eq r ≡ false
+not_tied Less t = refl
+not_tied Equal t = absurd t
+not_tied Greater t = absurd t
+
+is_tied : (r : Ordering) → is_eq r ≡ true → r ≡ Equal
+is_tied Less e = cc
+is_tied Equal e = refl
+is_tied Greater e = cc
+
+module _ {K X : Type 0} {R : K → K → Ordering} (total : IsTotalOrder R) (exact : IsAntisymmetric R) where
+  found_none : (q : K) (fs : List (K × X)) → T (below_all R q fs) → find R q fs ≡ None
+  found_none q [] h = refl
+  found_none q (f ∷ fs) h =
+      let (first, others) = both_of (is_lt (R q f.0)) (below_all R q fs) h in
+      ap (λ b. cond b (Some f.1) (find R q fs)) (not_tied (R q f.0) first) ∙ found_none q fs others
+
+  -- behind an entry there is none of its key
+  none_behind : (q : K) (f : K × X) (fs : List (K × X)) → eq_by_cmp R q f.0 ≡ true → T (below_all R f.0 fs) → find R q fs ≡ None
+  none_behind q f fs is below = found_none q fs (subst (λ k. T (below_all R k fs)) (sym (exact q f.0 (is_tied (R q f.0) is))) below)
+
+  later_found : (q : K) (f : K × X) (fs : List (K × X)) (v : X) (b : Bool) → eq_by_cmp R q f.0 ≡ b → T (below_all R f.0 fs) → find R q fs ≡ Some v → cond b (Some f.1) (find R q fs) ≡ Some v
+  later_found q f fs v true is below h = let no = sym (none_behind q f fs is below) ∙ h in cc
+  later_found q f fs v false is below h = h
+
+  module _ (P : K × X → Type 0) where
+    -- what holds of all that is found holds of all entries
+    pub all_found : (fs : List (K × X)) → T (is_sorted R fs) → ((q : K) (v : X) → find R q fs ≡ Some v → P (q, v)) → All P fs
+    all_found [] h go = All-nil P
+    all_found (f ∷ fs) h go =
+        let (first, others) = both_of (below_all R f.0 fs) (is_sorted R fs) h in
+        All-cons P f fs (go f.0 f.1 (ap (λ b. cond b (Some f.1) (find R f.0 fs)) ((eq_by_cmp_equiv total).refl f.0)))
+        (all_found fs others (λ q v is. go q v (ap (λ b. cond b (Some f.1) (find R q fs)) refl ∙ later_found q f fs v (eq_by_cmp R q f.0) refl first is)))
+
+  pub found_first : (q : K) (f : K × X) (fs : List (K × X)) (o : Option X) (b : Bool) → eq_by_cmp R q f.0 ≡ b → T (below_all R f.0 fs) → option_or (find R q fs) (cond b (Some f.1) o) ≡ option_or (cond b (Some f.1) (find R q fs)) o
+  found_first q f fs o true is below = ap (λ r. option_or r (Some f.1)) (none_behind q f fs is below)
+  found_first q f fs o false is below = refl
+
+-- ---- frames set again
+
+abbrev pub entry_of : Frame → Entry
+entry_of f = record { pfn = f.0; kind = f.1.kind; page = f.1.page }
+
+abbrev pub HasHvmType : Frame → Type 0
+HasHvmType f = is_hvm_type f.1.kind ≡ true
+
+put_hvm : (m : FrameMap) (pfn : ℕ) (t : PageType) (page : Option (List ℕ)) → is_hvm_type t ≡ true → put_entry Hvm m (record { pfn = pfn; kind = t; page = page }) ≡ maps.insert m pfn (record { kind = t; page = page })
+put_hvm m pfn Notab page is = refl
+put_hvm m pfn L1Tab page is = absurd (cc)
+put_hvm m pfn L2Tab page is = absurd (cc)
+put_hvm m pfn L3Tab page is = absurd (cc)
+put_hvm m pfn L4Tab page is = absurd (cc)
+put_hvm m pfn L1Pinned page is = absurd (cc)
+put_hvm m pfn L2Pinned page is = absurd (cc)
+put_hvm m pfn L3Pinned page is = absurd (cc)
+put_hvm m pfn L4Pinned page is = absurd (cc)
+put_hvm m pfn Broken page is = refl
+put_hvm m pfn Xalloc page is = refl
+put_hvm m pfn Xtab page is = absurd (cc)
+
+frames_set : (m : FrameMap) (fs : List Frame) (q : ℕ) → T (is_sorted nat_cmp fs) → All HasHvmType fs → maps.get (put_entries Hvm m (map entry_of fs)) q ≡ option_or (find nat_cmp q fs) (maps.get m q)
+frames_set m [] q h hvm = refl
+frames_set m (f ∷ fs) q h hvm =
+    let (first, others) = both_of (below_all nat_cmp f.0 fs) (is_sorted nat_cmp fs) h in
+    let n = put_entry Hvm m (entry_of f) in
+    frames_set n fs q others (All-tail HasHvmType f fs hvm)
+    ∙ ap (option_or (find nat_cmp q fs)) (ap (λ k. maps.get k q) (put_hvm m f.0 f.1.kind f.1.page (All-head HasHvmType f fs hvm)) ∙ maps.get-insert nat_cmp_total m f.0 f.1 q)
+    ∙ found_first nat_cmp_total nat_cmp-IsAntisymmetric q f fs (maps.get m q) (eq_by_cmp nat_cmp q f.0) refl first
+
+or_none : {X : Type 0} (o : Option X) → option_or o None ≡ o
+or_none None = refl
+or_none (Some x) = refl
+
+-- the frames of a map, set one after another, give the map
+pub frames_again : (m : FrameMap) → All HasHvmType (maps.entries m) → put_entries Hvm maps.empty (map entry_of (maps.entries m)) ≡ m
+frames_again m hvm = maps.same_map nat_cmp_total nat_cmp-IsAntisymmetric _ _ (λ q.
+    frames_set maps.empty (maps.entries m) q (maps.entries_sorted m) hvm ∙ ap (option_or (find nat_cmp q (maps.entries m))) (maps.get-empty nat_cmp q)
+    ∙ or_none (find nat_cmp q (maps.entries m)) ∙ sym (maps.get-entries m q))
+
+-- ---- parts set again
+
+parts_set : (m : PartMap) (ps : List Part) (q : PartKey) → T (is_sorted part_cmp ps) → maps.get (put_parts m ps) q ≡ option_or (find part_cmp q ps) (maps.get m q)
+parts_set m [] q h = refl
+parts_set m (p ∷ ps) q h =
+    let (first, others) = both_of (below_all part_cmp p.0 ps) (is_sorted part_cmp ps) h in
+    parts_set (put_part m p) ps q others ∙ ap (option_or (find part_cmp q ps)) (maps.get-insert part_total m p.0 p.1 q)
+    ∙ found_first part_total part_exact q p ps (maps.get m q) (eq_by_cmp part_cmp q p.0) refl first
+
+-- a map has the parts of another whose codes are among these
+abbrev pub Holds : PartMap → (ℕ → Bool) → PartMap → Type 0
+Holds of codes m = (q : PartKey) → maps.get m q ≡ cond (codes q.code) (maps.get of q) None
+
+mixed : (b s : Bool) (o : Option (List ℕ)) → option_or (cond b o None) (cond s o None) ≡ cond (b || s) o None
+mixed true s (Some x) = refl
+mixed true true None = refl
+mixed true false None = refl
+mixed false s o = refl
+
+anew : (b s : Bool) (o : Option (List ℕ)) → option_or (cond b o None) (cond (not b) (cond s o None) None) ≡ cond (b || s) o None
+anew true s (Some x) = refl
+anew true s None = refl
+anew false s o = refl
+
+module _ (of : PartMap) (codes : ℕ → Bool) (m : PartMap) (c : ℕ) (holds : Holds of codes m) where
+  alike : (q x : PartKey) → part_cmp q x ≡ Equal → nat_eq x.code c ≡ nat_eq q.code c
+  alike q x e = ap (λ (k : PartKey). nat_eq k.code c) (sym (part_exact q x e))
+
+  found_of : (q : PartKey) → find part_cmp q (parts_of c (maps.entries of)) ≡ cond (nat_eq q.code c) (maps.get of q) None
+  found_of q = find-where_key part_cmp (λ (k : PartKey). nat_eq k.code c) q (alike q) (maps.entries of) ∙ ap (λ o. cond (nat_eq q.code c) o None) (sym (maps.get-entries of q))
+
+  in_order : T (is_sorted part_cmp (parts_of c (maps.entries of)))
+  in_order = is_sorted-where_key part_cmp (λ (k : PartKey). nat_eq k.code c) (maps.entries of) (maps.entries_sorted of)
+
+  -- the parts of a code set
+  pub holds_more : Holds of (λ x. nat_eq x c || codes x) (put_parts m (parts_of c (maps.entries of)))
+  holds_more q =
+      parts_set m (parts_of c (maps.entries of)) q in_order ∙ ap (option_or (find part_cmp q (parts_of c (maps.entries of)))) (holds q)
+      ∙ ap (λ o. option_or o (cond (codes q.code) (maps.get of q) None)) (found_of q) ∙ mixed (nat_eq q.code c) (codes q.code) (maps.get of q)
+
+  cleared : (q : PartKey) → maps.get (maps.retain_keys m (λ k. not (nat_eq k.code c))) q ≡ cond (not (nat_eq q.code c)) (cond (codes q.code) (maps.get of q) None) None
+  cleared q = maps.get-retain_keys m (λ k. not (nat_eq k.code c)) q (λ x e. ap not (alike q x e)) ∙ ap (λ o. cond (not (nat_eq q.code c)) o None) (holds q)
+
+  replaced : (ps : List Part) → parts_of c (maps.entries of) ≡ ps → Holds of (λ x. nat_eq x c || codes x) (replace_code c m ps)
+  replaced [] is q =
+      holds q ∙ ap (λ o. option_or o (cond (codes q.code) (maps.get of q) None)) (sym (ap (find part_cmp q) is) ∙ found_of q) ∙ mixed (nat_eq q.code c) (codes q.code) (maps.get of q)
+  replaced (p ∷ ps) is q =
+      parts_set (maps.retain_keys m (λ k. not (nat_eq k.code c))) (p ∷ ps) q (subst (λ l. T (is_sorted part_cmp l)) is in_order)
+      ∙ ap (option_or (find part_cmp q (p ∷ ps))) (cleared q)
+      ∙ ap (λ o. option_or o (cond (not (nat_eq q.code c)) (cond (codes q.code) (maps.get of q) None) None)) (sym (ap (find part_cmp q) is) ∙ found_of q)
+      ∙ anew (nat_eq q.code c) (codes q.code) (maps.get of q)
+
+  -- the parts of a code replaced
+  pub holds_replaced : Holds of (λ x. nat_eq x c || codes x) (replace_code c m (parts_of c (maps.entries of)))
+  holds_replaced = replaced (parts_of c (maps.entries of)) refl
+
+-- the codes of the parts of an HVM guest
+abbrev pub hvm_codes : ℕ → Bool
+hvm_codes x = nat_eq x 9 || (nat_eq x 10 || (nat_eq x 8 || (nat_eq x 18 || (nat_eq x 17 || false))))
+
+has_hvm_code : (q : PartKey) (bytes : List ℕ) → IsHvmPart q bytes → hvm_codes q.code ≡ true
+has_hvm_code _ _ (tsc bytes h) = refl
+has_hvm_code _ _ (context bytes h) = refl
+has_hvm_code _ _ (param i bytes small h) = refl
+has_hvm_code _ _ (leaf i j bytes s t h) = refl
+has_hvm_code _ _ (msr i bytes s h) = refl
+
+pub holds_none : (of : PartMap) → Holds of (λ x. false) maps.empty
+holds_none of q = maps.get-empty part_cmp q
+
+pub holds_all : (of m : PartMap) → ((q : PartKey) (bytes : List ℕ) → maps.get of q ≡ Some bytes → IsHvmPart q bytes) → Holds of hvm_codes m → m ≡ of
+holds_all of m hvm holds = maps.same_map part_total part_exact m of (λ q. holds q ∙ there q (maps.get of q) refl)
+  where
+    there : (q : PartKey) (o : Option (List ℕ)) → maps.get of q ≡ o → cond (hvm_codes q.code) (maps.get of q) None ≡ maps.get of q
+    there q None is = same (hvm_codes q.code) (maps.get of q) is
+      where
+        same : (b : Bool) (o : Option (List ℕ)) → o ≡ None → cond b o None ≡ o
+        same true o e = refl
+        same false o e = sym e
+    there q (Some bytes) is = ap (λ b. cond b (maps.get of q) None) (has_hvm_code q bytes (hvm q bytes is))
