@@ -114,10 +114,15 @@ module _ (g : GuestOf) where
   are_leaves [] h = refl
   are_leaves (p ∷ ps) h =
       let one = All-head (IsOf g 17) p ps h in let l = is_leaf p.0 p.1 one.part one.code_is in
-      let key : List ℕ = little_bytes 4 p.0.key1 ++ little_bytes 4 p.0.key2 in
-      (key, leaves_body ps, refl, refl, l.3,
-      l.2 ∙ ap (λ n. leaf_key n p.0.key2) (sym (le32_first p.0.key1 (little_bytes 4 p.0.key2) l.0)) ∙ ap (leaf_key (le32 key 0)) (sym (le32_second p.0.key1 p.0.key2 l.1)),
-      are_leaves ps (All-tail (IsOf g 17) p ps h))
+      let key : List ℕ = little_bytes 4 p.0.key1 ++ little_bytes 4 p.0.key2 in (
+        key,
+        leaves_body ps,
+        refl,
+        refl,
+        l.3,
+        l.2 ∙ ap (λ n. leaf_key n p.0.key2) (sym (le32_first p.0.key1 (little_bytes 4 p.0.key2) l.0)) ∙ ap (leaf_key (le32 key 0)) (sym (le32_second p.0.key1 p.0.key2 l.1)),
+        are_leaves ps (All-tail (IsOf g 17) p ps h),
+      )
 
   are_msrs : (ps : List Part) → All (IsOf g 18) ps → AreMsrs (msrs_body ps) ps
   are_msrs [] h = refl

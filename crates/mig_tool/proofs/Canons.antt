@@ -118,10 +118,10 @@ module _ (g : GuestOf) (whole : IsWhole g) where
       let g3 = guest_with F (put_parts (put_parts (static_parts g) l) m) in
       let framed = frames_more (frames_in g) (all_fine g whole) whole.few (static_bodies g) (static_parts g) 3 (omega arith) static_state n (le_refl n) in
       let timed = each_more 8 tsc_body tsc_step refl l (all_of P P (λ p. Fits 8 (tsc_body p) (Parts (p ∷ []))) (λ p one same. tsc_fits g whole p one) l (parts_are g 8 whole) (parts_are g 8 whole))
-          (static_bodies g ++ frames) g1 (3 + n) (omega (arith, few, one_tsc g whole)) framed in
+      (static_bodies g ++ frames) g1 (3 + n) (omega (arith, few, one_tsc g whole)) framed in
       let ruled = maybe m ((static_bodies g ++ frames) ++ tscs) g2 true (3 + n + length l) 0xA (params_body m) (Parts m) timed params_step (params_fit g whole) (omega (arith, few, one_tsc g whole)) refl (λ e. ap (λ ps. put_content g2 (Parts ps)) e) in
       each_more 9 (λ p. p.1) context_step refl c (all_of Q Q (λ p. Fits 9 p.1 (Parts (p ∷ []))) (λ p one same. context_fits g whole p one) c (parts_are g 9 whole) (parts_are g 9 whole))
-          (((static_bodies g ++ frames) ++ tscs) ++ params) g3 (3 + n + length l + 1) few_records ruled
+      (((static_bodies g ++ frames) ++ tscs) ++ params) g3 (3 + n + length l + 1) few_records ruled
 
   abbrev records : List StreamRecord
   records = before_end.records ++ record { type = 0; content = Nothing } ∷ []
@@ -167,3 +167,9 @@ canon_is_one_to_one g h whole other = (
   (λ e. (one_front (canon g ++ []) g h [] [] (canon_is_accepted g [] whole) (subst (λ l. Accepted (l ++ []) h []) (sym e) (canon_is_accepted h [] other))).0),
   (λ e. ap canon e),
 )
+
+pub twice_is_once : (guest other : GuestOf) (rest : List ℕ) → IsWhole guest → Accepted (canon guest) other rest → (canon other ≡ canon guest) × (rest ≡ [])
+twice_is_once guest other rest whole again =
+    let once : Accepted (canon guest) guest [] = subst (λ l. Accepted l guest []) (append-nil (canon guest)) (canon_is_accepted guest [] whole) in
+    let same = one_front (canon guest) other guest rest [] again once in
+    (ap canon same.0, same.1)

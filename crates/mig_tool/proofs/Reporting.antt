@@ -22,6 +22,7 @@ use Rattle.mig_restore.specs.Stream.Verdict.{Accepts}
 use Rattle.mig_restore.specs.declared.read.Reading.{Reading}
 use Rattle.mig_restore.proofs.Converse.{never_both}
 use Rattle.mig_restore.proofs.Laws.{accepted_is_image}
+use Rattle.mig_tool.proofs.Canons.{canon_is_accepted, canon_is_one_to_one}
 use Rattle.mig_tool.specs.declared.outcome.Outcome.{Outcome}
 use Rattle.mig_tool.specs.declared.outcome.Outcome.TheVariants as outcomes
 use Rattle.mig_tool.specs.declared.status.Status.{Status}
@@ -112,7 +113,7 @@ pub came : (told left old new : Option (List ℕ)) (reading : Reading) (r : Resu
 came None left old new reading r outcome h whole put is = tt
 came (Some input) left old new reading (Ok u) outcome (o, records, rest, accepts, left_is, guest, version, count) whole put is =
     subst (Comes input left old new) (sym is)
-    (record { guest = reading.guest; rest = rest; accepted = accepted_front input rest o records reading.guest accepts guest; left_is = left_is; wrote = put; whole = whole })
+    (record { guest = reading.guest; rest = rest; accepted = accepted_front input rest o records reading.guest accepts guest; left_is = left_is; wrote = put; whole = whole; kept = λ more. canon_is_accepted reading.guest more whole; alone = λ other is_whole. canon_is_one_to_one other reading.guest is_whole whole })
 came (Some input) left old new reading (Err e) outcome (o, records, rest, accepts, left_is, guest, version, count) whole put is =
     subst (Comes input left old new) (sym is) (record { guest = reading.guest; rest = rest; accepted = accepted_front input rest o records reading.guest accepts guest; left_is = left_is; wrote = put })
 

@@ -1,5 +1,5 @@
 -- What the program answers, takes and writes.
-use Rattle.std.specs.Prelude.{◌≡◌, ℕ, List, [], ⊤, Some, None, Option}
+use Rattle.std.specs.Prelude.{◌≡◌, ◌↔◌, ℕ, List, [], ◌++◌, ⊤, Some, None, Option}
 use Rattle.std.specs.Io.KnownBytes.{Appends, Keeps}
 use Rattle.mig_bytes.specs.Bytes.{AppendsPart}
 use Rattle.mig_headers.specs.declared.fault.Cause.{Cause}
@@ -16,7 +16,7 @@ use Rattle.mig_tool.specs.declared.status.Status.TheVariants as statuses
 use Rattle.mig_tool.specs.Report.{refusal_line, usage_line, read_fault_line, write_fault_line, memory_line}
 
 -- a front of the input is an accepted stream, the rest is left, and of its guest, a whole one, the canonical stream was
--- written
+-- written: it is accepted with this guest, and no other guest has it
 pub record Normalised (input : List ℕ) (left old new : Option (List ℕ)) : Type 0 where
   pub guest : GuestOf
   pub rest : List ℕ
@@ -24,6 +24,8 @@ pub record Normalised (input : List ℕ) (left old new : Option (List ℕ)) : Ty
   pub left_is : left ≡ Some rest
   pub wrote : Appends old new (canon guest)
   pub whole : IsWhole guest
+  pub kept : (more : List ℕ) → Accepted (canon guest ++ more) guest more
+  pub alone : (other : GuestOf) → IsWhole other → (canon other ≡ canon guest) ↔ (other ≡ guest)
 
 -- the same, but a write failed, and of the canonical stream only a part was written
 pub record PartWritten (input : List ℕ) (left old new : Option (List ℕ)) : Type 0 where

@@ -3,6 +3,7 @@
 //! `run` is the program but for its standard streams; its clauses say what is answered, taken, written and reported.
 #![tactic(auto)]
 
+mod law;
 mod outcome;
 mod run;
 mod status;
