@@ -1,12 +1,11 @@
 -- The body of each batch of frames says these frames.
-use Rattle.std.proofs.Common.{◌≡◌, ℕ, zero, suc, ◌+◌, ◌-◌, ◌*◌, ◌/◌, ◌%◌, ◌≤◌, ◌<◌, ◌^◌, min, List, [], ◌∷◌, ◌++◌, length, take, drop, map, replicate, Bool, true, false, nat_le, Option, Some, None, refl, sym, ap, subst, ◌∙◌, arith, append-nil, length-append, drop-drop}
+use Rattle.std.proofs.Common.{◌≡◌, ℕ, zero, suc, ◌+◌, ◌-◌, ◌*◌, ◌/◌, ◌%◌, ◌≤◌, ◌<◌, ◌^◌, min, List, [], ◌∷◌, ◌++◌, length, take, drop, map, replicate, Bool, true, false, nat_le, Option, Some, None, refl, sym, ap, subst, ◌∙◌, arith, length-append, drop-drop}
 use Rattle.std.specs.Prelude.{unwrap_or, is_some}
-use Rattle.std.specs.Int.{div_ceil}
 use Rattle.std.proofs.lemmas.Grind.{common_steps}
-use Rattle.std.proofs.lemmas.List.{length-take, length-drop, take_all, map-append}
+use Rattle.std.proofs.lemmas.List.{length-take, length-drop, take_all}
 use Rattle.std.proofs.lemmas.List.Elements.{All-nil, All-cons, All-head, All-tail, All-take, All-drop}
 use Rattle.std.proofs.Math.Seq.{take-add}
-use Rattle.std.specs.List.{All, flat_map, range_with_len}
+use Rattle.std.specs.List.{All, range_with_len}
 use Rattle.std.specs.Cmp.{nat_cmp_total}
 use Rattle.std.specs.FinMap as maps
 use Rattle.std.specs.FinMap.{nat_cmp-IsAntisymmetric}
@@ -18,14 +17,14 @@ use Rattle.mig_pagetypes.specs.declared.page_type.PageType.{PageType}
 use Rattle.mig_pagetypes.specs.declared.page_type.PageType.TheVariants.{Notab, L1Tab, L2Tab, L3Tab, L4Tab, L1Pinned, L2Pinned, L3Pinned, L4Pinned, Broken, Xalloc, Xtab}
 use Rattle.mig_pagetypes.specs.PageTypes.{number_of, type_of, type_has_data}
 use Rattle.mig_pagetypes.specs.FrameWords.{word_type, word_pfn, word_has_data, some_has_data}
-use Rattle.mig_guest.specs.Frames.{FrameOf, IsFrame}
+use Rattle.mig_guest.specs.Frames.{IsFrame}
 use Rattle.mig_guest.specs.Guests.{GuestOf}
-use Rattle.mig_records.specs.Words.{words, has_reserved_type, names_outside}
-use Rattle.mig_pvtables.specs.Whole.{IsWhole, is_hvm_type}
+use Rattle.mig_records.specs.Words.{words, has_reserved_type}
+use Rattle.mig_pvtables.specs.Whole.{IsWhole}
 use Rattle.mig_canon.specs.Canon.{Frame, batch, batches, frame_word_in, page_in, words_of, pages_of, body_of, frames_in}
-use Rattle.mig_restore.specs.Judging.{kind_in, type_or_none}
+use Rattle.mig_restore.specs.Judging.{type_or_none}
 use Rattle.mig_restore.specs.Record.Content.{Frames}
-use Rattle.mig_restore.specs.Spelled.{IsPage, IsEntry, AreEntries, IsGoodWord, IsBatch, HasContent}
+use Rattle.mig_restore.specs.Spelled.{IsPage, IsEntry, AreEntries, IsGoodWord, IsBatch}
 use Rattle.mig_restore.specs.Spelled.HasContent.{pages as pages_say}
 use Rattle.mig_tool.proofs.CanonMaps.{all_found, entry_of, HasHvmType}
 use Rattle.mig_tool.proofs.CanonParts.{le32_first, all_of, Fits}

@@ -1,7 +1,7 @@
 -- Finite maps and their entries: what every entry meets, and what entries that are set again give.
 use Rattle.std.proofs.Common.{◌≡◌, ℕ, Bool, true, false, cond, not, nat_eq, List, [], ◌∷◌, map, Option, Some, None, refl, sym, ap, subst, ◌∙◌}
-use Rattle.std.specs.Prelude.{T, ◌||◌, ◌&&◌}
-use Rattle.std.specs.List.{All, filter}
+use Rattle.std.specs.Prelude.{T, ◌||◌}
+use Rattle.std.specs.List.{All}
 use Rattle.std.specs.Option.{option_or}
 use Rattle.std.proofs.lemmas.Cmp.{eq_by_cmp_equiv}
 use Rattle.std.proofs.lemmas.List.Elements.{All-nil, All-cons, All-head, All-tail}
@@ -16,7 +16,7 @@ use Rattle.mig_headers.specs.declared.kind.Kind.TheVariants.{Hvm}
 use Rattle.mig_pagetypes.specs.declared.page_type.PageType.{PageType}
 use Rattle.mig_pagetypes.specs.declared.page_type.PageType.TheVariants.{Notab, L1Tab, L2Tab, L3Tab, L4Tab, L1Pinned, L2Pinned, L3Pinned, L4Pinned, Broken, Xalloc, Xtab}
 use Rattle.mig_guest.specs.declared.part_key.PartKey.{PartKey}
-use Rattle.mig_guest.specs.Frames.{FrameMap, FrameOf}
+use Rattle.mig_guest.specs.Frames.{FrameMap}
 use Rattle.mig_guest.specs.Order.{part_cmp}
 use Rattle.mig_guest.specs.Parts.{PartMap, put_part, put_parts, replace_code, parts_of}
 use Rattle.mig_guest.proofs.PartOrder.{part_total, part_exact}

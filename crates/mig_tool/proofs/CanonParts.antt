@@ -1,5 +1,5 @@
 -- The bodies of a whole guest's parts say these parts.
-use Rattle.std.proofs.Common.{◌≡◌, ℕ, ◌+◌, ◌*◌, ◌≤◌, ◌<◌, ◌^◌, List, [], ◌∷◌, ◌++◌, length, take, replicate, true, false, Option, Some, None, Ok, refl, sym, ap, subst, ◌∙◌, arith, length-append}
+use Rattle.std.proofs.Common.{◌≡◌, ℕ, ◌+◌, ◌*◌, ◌≤◌, ◌<◌, ◌^◌, List, [], ◌∷◌, ◌++◌, length, take, replicate, true, Some, refl, sym, ap, subst, ◌∙◌, arith, length-append}
 use Rattle.std.specs.Prelude.{T, ◌==◌}
 use Rattle.std.proofs.lemmas.Bool.{eqb-true}
 use Rattle.std.proofs.lemmas.List.{take_at}
@@ -22,7 +22,7 @@ use Rattle.mig_guest.specs.Order.{part_cmp}
 use Rattle.mig_guest.specs.PartKeys.{tsc_key, context_key, param_key, leaf_key, msr_key}
 use Rattle.mig_guest.proofs.PartOrder.{part_total, part_exact}
 use Rattle.mig_guest.proofs.PartCursor.{both_of, not_itself}
-use Rattle.mig_hvm.specs.Params.{ArePairs, IsParams}
+use Rattle.mig_hvm.specs.Params.{ArePairs}
 use Rattle.mig_policy.specs.Policies.{AreLeaves, AreMsrs}
 use Rattle.mig_pvtables.specs.Whole.{IsWhole, IsHvmPart, IsCut}
 use Rattle.mig_pvtables.specs.Whole.IsHvmPart.{tsc, context, param, leaf, msr}

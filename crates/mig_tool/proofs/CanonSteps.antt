@@ -22,7 +22,7 @@ use Rattle.mig_order.specs.Order.{Earlier, some_earlier, among, content_records,
 use Rattle.mig_order.proofs.OrderLaw.{faultless_is_in_order}
 use Rattle.mig_canon.specs.Canon.{Frame, Part, Record, batch, batches, body_of, frame_bodies, where_some, text_of}
 use Rattle.mig_restore.specs.Record.{StreamRecord, Content, types_of, is_ended}
-use Rattle.mig_restore.specs.Record.Content.{Nothing, Frames, Parts}
+use Rattle.mig_restore.specs.Record.Content.{Parts}
 use Rattle.mig_restore.specs.Judging.{Opening, is_built}
 use Rattle.mig_restore.specs.Mean.{mean, put_content, put_entry, put_entries}
 use Rattle.mig_restore.specs.Spelled.{IsComplete, Follows, Spells}

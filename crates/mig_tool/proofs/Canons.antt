@@ -1,5 +1,5 @@
 -- The canonical stream of a whole guest is accepted, and means the guest.
-use Rattle.std.proofs.Common.{◌≡◌, ℕ, ◌+◌, ◌≤◌, ◌<◌, ◌^◌, List, [], ◌∷◌, ◌++◌, length, map, Bool, true, false, nat_eq, Option, Some, None, IsSome, refl, sym, ap, subst, ◌∙◌, arith, append_assoc, append-nil, le_refl, ◌↔◌, inr}
+use Rattle.std.proofs.Common.{◌≡◌, ℕ, ◌+◌, ◌≤◌, ◌<◌, ◌^◌, List, [], ◌∷◌, ◌++◌, length, map, Bool, true, false, Option, Some, None, IsSome, refl, sym, ap, subst, ◌∙◌, arith, append_assoc, append-nil, le_refl, ◌↔◌, inr}
 use Rattle.std.specs.Prelude.{◌||◌}
 use Rattle.std.specs.FinMap as maps
 use Rattle.mig_headers.specs.declared.kind.Kind.{Kind}
@@ -10,16 +10,15 @@ use Rattle.mig_guest.specs.Guests.{GuestOf}
 use Rattle.mig_guest.specs.PartKeys.{context_key}
 use Rattle.mig_guest.specs.Parts.{PartMap, put_parts, replace_code}
 use Rattle.mig_pvtables.specs.Whole.{IsWhole}
-use Rattle.mig_canon.specs.Canon.{Part, Record, batches, frame_bodies, where_some, of_code, frames_in, leaves_body, msrs_body, params_body, tsc_body, static_bodies, last_bodies, bodies_of, text_of, headers, canon}
+use Rattle.mig_canon.specs.Canon.{Part, Record, batches, frame_bodies, where_some, of_code, frames_in, leaves_body, msrs_body, params_body, tsc_body, static_bodies, bodies_of, text_of, headers, canon}
 use Rattle.mig_restore.specs.Record.{StreamRecord, is_ended}
 use Rattle.mig_restore.specs.Record.Content.{Nothing, Parts, Policy}
-use Rattle.mig_restore.specs.Judging.{Opening}
 use Rattle.mig_restore.specs.Mean.{mean, empty_guest, put_content, put_entries}
 use Rattle.mig_restore.specs.Spelled.{IsComplete, Spells, IsImage, Accepted}
 use Rattle.mig_restore.specs.Spelled.HasContent.{ends, static_end}
 use Rattle.mig_restore.specs.Spelled.Spells.{none}
 use Rattle.mig_restore.proofs.Converse.{one_front}
-use Rattle.mig_tool.proofs.CanonMaps.{entry_of, frames_again, Holds, holds_none, holds_more, holds_replaced, holds_all}
+use Rattle.mig_tool.proofs.CanonMaps.{entry_of, frames_again, holds_none, holds_more, holds_replaced, holds_all}
 use Rattle.mig_tool.proofs.CanonParts.{IsOf, parts_are, all_of, Fits, leaves_fit, msrs_fit, params_fit, tsc_fits, context_fits, one_tsc, one_context}
 use Rattle.mig_tool.proofs.CanonFrames.{all_fine, all_hvm, all_taken, few_batches}
 use Rattle.mig_tool.proofs.CanonSteps.{opening, guest_with, State, leaves_step, msrs_step, static_end_step, tsc_step, params_step, context_step, end_step, ended_more, spells_more, means_more, more, maybe, each_more, frames_put, frames_more}

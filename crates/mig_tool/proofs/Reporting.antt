@@ -1,11 +1,11 @@
 -- What the program answers, and what the line on the report comes to.
 use Rattle.std.specs.Prelude.{◌⊎◌}
 use mathlib.Core.Logic.{inl, inr}
-use Rattle.std.proofs.Common.{◌≡◌, ℕ, ◌≤◌, List, [], length, take, Option, Some, None, Result, Ok, Err, refl, sym, subst, le_refl}
+use Rattle.std.proofs.Common.{◌≡◌, ℕ, List, length, take, Option, Some, None, Result, Ok, Err, refl, sym, subst, le_refl}
 use Rattle.std.proofs.lemmas.List.{take_all}
 use Rattle.std.specs.Io.KnownBytes.{Appends}
-use Rattle.mig_bytes.specs.Bytes.{AppendsPart, Puts}
-use Rattle.mig_bytes.specs.Faults.{HasCause, Rose}
+use Rattle.mig_bytes.specs.Bytes.{Puts}
+use Rattle.mig_bytes.specs.Faults.{HasCause}
 use Rattle.mig_bytes.specs.declared.failure.WriteFailed.{WriteFailed}
 use Rattle.mig_headers.specs.declared.fault.Cause.{Cause}
 use Rattle.mig_headers.specs.declared.fault.Place.{Place}
@@ -27,7 +27,7 @@ use Rattle.mig_tool.specs.declared.outcome.Outcome.{Outcome}
 use Rattle.mig_tool.specs.declared.outcome.Outcome.TheVariants as outcomes
 use Rattle.mig_tool.specs.declared.status.Status.{Status}
 use Rattle.mig_tool.specs.declared.status.Status.TheVariants as statuses
-use Rattle.mig_tool.specs.Answers.{Comes, ComesOf, Says, SaysOf, IsLine, NamesRefusal, Normalised, PartWritten, Rejected}
+use Rattle.mig_tool.specs.Answers.{Comes, ComesOf, Says, SaysOf, IsLine, NamesRefusal}
 use Rattle.mig_tool.specs.Outcome.{status_of, line_of}
 use Rattle.mig_tool.specs.Report.{Reports}
 

@@ -1,4 +1,4 @@
-use Rattle.std.proofs.Common.{◌≡◌, ℕ, ◌≤◌, ◌<◌, length, get_or, List, [], ◌∷◌, suc, map, string_bytes, refl, sym, ap, ◌∙◌, arith}
+use Rattle.std.proofs.Common.{◌≡◌, ℕ, ◌≤◌, ◌<◌, length, get_or, List, [], ◌∷◌, string_bytes, sym, ap, ◌∙◌, arith}
 use Rattle.std.specs.declared.string.String.{String}
 use Rattle.mig_tool.specs.Words.{texts_of}
 use Rattle.mig_tool.proofs.run.is_normalise.Goals as goal

@@ -1,4 +1,4 @@
-use Rattle.std.proofs.Common.{refl, rules, Ok, Err}
+use Rattle.std.proofs.Common.{refl, Ok, Err}
 use Rattle.mig_tool.proofs.Reporting.{came}
 use Rattle.mig_tool.proofs.run.normalise.Goals as goal
 

@@ -1,4 +1,4 @@
-use Rattle.std.proofs.Common.{sym, subst, ◌∙◌, ◌≡◌}
+use Rattle.std.proofs.Common.{sym, subst, ◌∙◌}
 use Rattle.mig_tool.specs.Answers.{IsLine, SaysOf}
 use Rattle.mig_tool.specs.Outcome.{line_of}
 use Rattle.mig_tool.proofs.Reporting.{reports, line_is, says_of, accepted_done, refused_refused, reads_are, writes_are}
