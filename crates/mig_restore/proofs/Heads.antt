@@ -1,14 +1,12 @@
 -- What judging a head answers, cause by cause.
-use Rattle.std.proofs.Common.{◌≡◌, ℕ, List, true, Option, Some, None, Result, Ok, Err, refl, sym, ap, ◌∙◌}
+use Rattle.std.proofs.Common.{◌≡◌, ℕ, List, Option, Some, None, Result, Ok, Err, sym, ap, ◌∙◌}
 use Rattle.std.specs.Option.{option_or}
 use Rattle.mig_headers.specs.Headers.{unless_faulty}
 use Rattle.mig_headers.specs.declared.fault.Cause.{Cause}
-use Rattle.mig_headers.specs.declared.kind.Kind.{Kind}
-use Rattle.mig_headers.specs.declared.kind.Kind.TheVariants.{Pv, Hvm}
 use Rattle.mig_order.specs.Order.{fault_of_type}
 use Rattle.mig_records.specs.Faults.{fault_of_long, fault_of_length}
 use Rattle.mig_restore.specs.declared.head.Seen.{Seen}
-use Rattle.mig_restore.specs.Judging.{Opening, fault_of_built, fault_of_number, fault_of_fields, is_built}
+use Rattle.mig_restore.specs.Judging.{Opening, fault_of_built, fault_of_number, fault_of_fields}
 use Rattle.mig_restore.specs.Seen.{IsSeen}
 
 abbrev pub Verdict : Type 0
@@ -25,8 +23,3 @@ unfolding fault_of_fields
 order_broken seen o types type len cause s built short is =
     third _ _ _ (fault_of_length type len) (fault_of_number types) cause (ap (λ k. fault_of_built k type) (sym s.kind) ∙ built) short
     (is ∙ ap (λ v. unless_faulty (fault_of_type v seen.gate.kind types type) tt) s.gate_version ∙ ap (λ k. unless_faulty (fault_of_type o.version k types type) tt) s.gate_kind)
-
--- an END that is read stands in an HVM stream
-pub hvm_at_end : (k : Kind) (type : ℕ) → type ≡ 0 → is_built k type ≡ true → k ≡ Hvm
-hvm_at_end Hvm type zero built = refl
-hvm_at_end Pv type zero built = let no : is_built Pv 0 ≡ true = ap (is_built Pv) (sym zero) ∙ built in cc

@@ -2,10 +2,8 @@
 use Rattle.std.specs.Result.{IsErrAnd}
 use Rattle.std.proofs.lemmas.List.{take_more, take_at, drop_at}
 use Rattle.std.proofs.lemmas.Bool.{le-ltb}
-use Rattle.std.proofs.lemmas.Grind.{common_steps}
-use Rattle.mig_headers.specs.declared.fault.Cause.TheVariants.{Truncated}
 use Rattle.std.proofs.Math.Seq.{drop-cons}
-use Rattle.std.proofs.Common.{◌≡◌, ℕ, suc, ◌+◌, ◌<◌, length, take, drop, get_or, take-append-drop, List, [], ◌∷◌, ◌++◌, true, false, Option, Some, None, Result, Ok, Err, refl, sym, ap, subst, ◌∙◌, nat_lt, length-append, arith}
+use Rattle.std.proofs.Common.{◌≡◌, ℕ, suc, ◌+◌, ◌<◌, length, take, drop, get_or, take-append-drop, List, [], ◌∷◌, ◌++◌, true, false, Option, Some, None, Result, Ok, Err, refl, sym, ap, subst, ◌∙◌, length-append, arith}
 use Rattle.mig_headers.specs.declared.fault.Cause.{Cause}
 use Rattle.mig_restore.specs.declared.part.Stop.{Stop}
 use Rattle.mig_restore.specs.declared.part.Stop.TheVariants.{Refused, ReadFault, Memory}
@@ -14,7 +12,6 @@ use Rattle.mig_restore.specs.Judged.Judged.{Passes, Faulty}
 use Rattle.mig_headers.specs.Headers.{unless_faulty}
 use Rattle.mig_pagetypes.specs.FrameWords.{word_pfn, word_type, word_has_data, some_has_data}
 use Rattle.mig_pagetypes.specs.PageTypes.{type_of, type_has_data}
-use Rattle.mig_bytes.specs.Bytes.{Skipped}
 use Rattle.mig_restore.specs.Record.{Entry, Content}
 use Rattle.mig_restore.specs.Judging.{kind_in, type_or_none, entry_at, plain_at}
 
@@ -170,64 +167,6 @@ unless_ok {H} (Some c) h x e = let no : ◌≡◌ {A = Result H Cause} (Err c) (
   where
     apart : {c : Cause} {x : H} → Err c ≡ Ok x → ⊥
     apart q = cc
-
-unless_err : {H : Type 0} (f : Option Cause) (h : H) (c : Cause) → unless_faulty f h ≡ Err c → f ≡ Some c
-unless_err {H} None h c e = let no : ◌≡◌ {A = Result H Cause} (Ok h) (Err c) = e in absurd (apart no)
-  where
-    apart : {h : H} {c : Cause} → Ok h ≡ Err c → ⊥
-    apart q = cc
-unless_err (Some d) h c e = cc
-
-module _ {V Y : Type 0} (R : V → Y → Type 0) (f : List ℕ → Option Cause) (y : List ℕ → Y) where
-  abbrev pub header_at : ℕ → List ℕ → Judged Y
-  header_at m i = part m i >>= λ p. tried (f p.0) p.1 >>= λ _. Passes (y p.0) p.1
-
-  -- a header of n bytes in which no cause stands
-  pub header_fine : (a b : Option (List ℕ)) (n m : ℕ) (buf : List ℕ) (u : Unit {0}) (v : V) → n ≡ m → Gives {X = Unit {0}} (λ _ bytes. bytes ≡ buf) a b (part n) (Ok u) → f buf ≡ None → R v (y buf)
-      → Gives R a b (header_at m) (Ok v)
-  header_fine None b n m buf u v size h fine r = tt
-  header_fine (Some i) b n m buf u v size (bytes, rest, is, left, same) fine r =
-      let is' = subst (λ k. part k i ≡ Passes bytes rest) size is in
-      let none : f bytes ≡ None = ap f same ∙ fine in
-      (y bytes, rest, rw (is', none) refl, left, subst (λ x. R v (y x)) (sym same) r)
-
-  -- a header in which a cause stands
-  pub header_faulty : (a b : Option (List ℕ)) (n m : ℕ) (buf : List ℕ) (u : Unit {0}) (c : Cause) → n ≡ m → Gives {X = Unit {0}} (λ _ bytes. bytes ≡ buf) a b (part n) (Ok u) → f buf ≡ Some c
-      → Gives R a b (header_at m) (Err (Refused c))
-  header_faulty None b n m buf u c size h fault = tt
-  header_faulty (Some i) b n m buf u c size (bytes, rest, is, left, same) fault =
-      let is' = subst (λ k. part k i ≡ Passes bytes rest) size is in
-      let some : f bytes ≡ Some c = ap f same ∙ fault in
-      (rest, rw (is', some) refl, left)
-
-pub decoded_fine : {H V Y : Type 0} (R : V → Y → Type 0) (f : List ℕ → Option Cause) (y : List ℕ → Y) (a b : Option (List ℕ)) (n m : ℕ) (buf : List ℕ) (u : Unit {0}) (h x : H) (v : V) → n ≡ m → Gives {X = Unit {0}} (λ _ bytes. bytes ≡ buf) a b (part n) (Ok u)
-    → Ok x ≡ unless_faulty (f buf) h → (h ≡ x → R v (y buf)) → Gives R a b (header_at R f y m) (Ok v)
-decoded_fine R f y a b n m buf u h x v size g is r = let o = unless_ok (f buf) h x (sym is) in header_fine R f y a b n m buf u v size g o.0 (r o.1)
-
-pub decoded_faulty : {H V Y : Type 0} (R : V → Y → Type 0) (f : List ℕ → Option Cause) (y : List ℕ → Y) (a b : Option (List ℕ)) (n m : ℕ) (buf : List ℕ) (u : Unit {0}) (h : H) (c : Cause) → n ≡ m → Gives {X = Unit {0}} (λ _ bytes. bytes ≡ buf) a b (part n) (Ok u)
-    → Err c ≡ unless_faulty (f buf) h → Gives R a b (header_at R f y m) (Err (Refused c))
-decoded_faulty R f y a b n m buf u h c size g is = header_faulty R f y a b n m buf u c size g (unless_err (f buf) h c (sym is))
-
--- ---- a body that isn't kept
-
--- so many bytes are gone
-pub part_gone : (a b : Option (List ℕ)) (n : ℕ) (says : List ℕ → Content) (R : Unit {0} → Content → Type 0) → Skipped a b n true → ((bytes : List ℕ) → R tt (says bytes)) → Gives R a b (plain_at says n) (Ok tt)
-part_gone None b n says R h r = tt
-part_gone (Some i) None n says R (bytes, size, gone) r = absurd gone
-part_gone (Some i) (Some j) n says R (bytes, size, gone) r =
-    let is : part n i ≡ Passes bytes j = ap (part n) gone ∙ part_whole n bytes j size in
-    (says bytes, j, rw is refl, refl, r bytes)
-
--- the source ended before
-pub part_short : (a b : Option (List ℕ)) (n : ℕ) (says : List ℕ → Content) (R : Unit {0} → Content → Type 0) → Skipped a b n false → Gives R a b (plain_at says n) (Err (Refused Truncated))
-part_short None b n says R h = tt
-part_short (Some i) None n says R (bytes, size, gone, end) = absurd gone
-part_short (Some i) (Some j) n says R (bytes, size, gone, end) =
-    let short : nat_lt (length i) n ≡ true = lt_true (length i) n (omega (arith, ap length gone, length-append bytes j, ap length end, size)) in
-    ([], rw short refl, ap Some end)
-  where
-    lt_true : (a b : ℕ) → a < b → nat_lt a b ≡ true
-    lt_true a b h = grind (arith, common_steps)
 
 -- ---- bodies that are kept
 

@@ -41,7 +41,7 @@ pub one_more_record : (kind : Kind) (rs : List StreamRecord) (r : StreamRecord) 
 unfolding mean
 one_more_record kind rs r = fold-append put_record (empty_guest kind) rs (r ∷ [])
 
--- ---- a record keeps the kind and the top
+-- ---- a record keeps the kind
 
 pub put_kind : (g : GuestOf) (c : Content) → (put_content g c).kind ≡ g.kind
 put_kind g Nothing = refl
@@ -49,27 +49,13 @@ put_kind g (Frames es) = refl
 put_kind g (Parts ps) = refl
 put_kind g (Policy code ps) = refl
 
-put_top : (g : GuestOf) (c : Content) → (put_content g c).top ≡ g.top
-put_top g Nothing = refl
-put_top g (Frames es) = refl
-put_top g (Parts ps) = refl
-put_top g (Policy code ps) = refl
-
 folded_kind : (g : GuestOf) (rs : List StreamRecord) → (fold put_record g rs).kind ≡ g.kind
 folded_kind g [] = refl
 folded_kind g (r ∷ rs) = folded_kind (put_record g r) rs ∙ put_kind g r.content
 
-folded_top : (g : GuestOf) (rs : List StreamRecord) → (fold put_record g rs).top ≡ g.top
-folded_top g [] = refl
-folded_top g (r ∷ rs) = folded_top (put_record g r) rs ∙ put_top g r.content
-
 pub mean_kind : (kind : Kind) (rs : List StreamRecord) → (mean kind rs).kind ≡ kind
 unfolding mean
 mean_kind kind rs = folded_kind (empty_guest kind) rs
-
-pub mean_top : (kind : Kind) (rs : List StreamRecord) → (mean kind rs).top ≡ 0
-unfolding mean
-mean_top kind rs = folded_top (empty_guest kind) rs
 
 -- ---- of each frame number the last entry decides
 
