@@ -3,3 +3,4 @@ pub mod Texts
 pub mod Vectors
 pub mod Walks
 pub mod FieldWrites
+pub mod Joins

@@ -4,3 +4,4 @@ pub mod Fields
 pub mod Memory
 pub mod Outside
 pub mod Walk
+pub mod Judged

@@ -14,6 +14,7 @@ mod failure;
 mod fields;
 mod memory;
 mod outside;
+mod part;
 mod put;
 mod sink;
 mod source;
@@ -26,6 +27,7 @@ pub use fields::{
 };
 pub use memory::{MemSink, MemSource};
 pub use outside::{InSource, OutSink};
+pub use part::{Stop, take_long, take_part};
 pub use put::put_all;
 pub use sink::Sink;
 pub use source::Source;

@@ -1,0 +1,45 @@
+-- Judging an input part by part, in byte order.
+use Rattle.std.specs.Prelude.{◌≡◌, ℕ, List, [], ◌∷◌, length, take, drop, Option, Some, None, Result, Ok, Err, ⊤, nat_lt, if◌then◌else◌}
+use Rattle.mig_bytes.specs.declared.part.Stop.{Stop}
+use Rattle.mig_bytes.specs.declared.part.Stop.TheVariants.{Refused, ReadFault, Memory}
+
+-- The parts stand whole and no cause stands in them: what they say, and the bytes behind them. Or the first cause that
+-- stands, and the bytes behind the faulty part.
+pub data Judged (C X : Type 0) : Type 0 where
+  Passes : X → List ℕ → Judged C X
+  Faulty : C → List ℕ → Judged C X
+
+infixl 10 ◌>>=◌
+abbrev pub ◌>>=◌ : {C X Y : Type 0} → Judged C X → (X × List ℕ → Judged C Y) → Judged C Y
+(Passes x rest) >>= f = f (x, rest)
+(Faulty c rest) >>= f = Faulty c rest
+
+-- a part of n bytes: without them all it is truncated, and nothing is left
+abbrev pub part : {C : Type 0} → C → ℕ → List ℕ → Judged C (List ℕ)
+part truncated n input = if nat_lt (length input) n then Faulty truncated [] else Passes (take n input) (drop n input)
+
+-- no bytes: the cause that stands, if one does
+abbrev pub tried : {C : Type 0} → Option C → List ℕ → Judged C (Unit {0})
+tried None input = Passes tt input
+tried (Some c) input = Faulty c input
+
+-- one part after another, for each of a list
+unfoldable pub each : {C W X : Type 0} → (W → List ℕ → Judged C X) → List W → List ℕ → Judged C (List X)
+each part [] input = Passes [] input
+each part (w ∷ ws) input = do
+  first ← part w input
+  others ← each part ws first.1
+  Passes (first.0 ∷ others.0) others.1
+
+-- What a reader answered stands for what judging gives, and what it left in the source is what judging leaves. A fault
+-- of the source and want of memory say nothing of the bytes.
+abbrev pub Matches : {C X Y : Type 0} → (X → Y → Type 0) → Option (List ℕ) → Judged C Y → Result X (Stop C) → Type 0
+Matches {C} {X} {Y} Stands left judged (Ok x) = (y : Y) × (rest : List ℕ) × (judged ≡ Passes y rest) × (left ≡ Some rest) × Stands x y
+Matches Stands left judged (Err (Refused c)) = (rest : List ℕ) × (judged ≡ Faulty c rest) × (left ≡ Some rest)
+Matches Stands left judged (Err ReadFault) = ⊤
+Matches Stands left judged (Err Memory) = ⊤
+
+-- where the source tells its bytes
+abbrev pub Gives : {C X Y : Type 0} → (X → Y → Type 0) → Option (List ℕ) → Option (List ℕ) → (List ℕ → Judged C Y) → Result X (Stop C) → Type 0
+Gives Stands None new judge result = ⊤
+Gives Stands (Some input) new judge result = Matches Stands new (judge input) result

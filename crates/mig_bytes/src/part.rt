@@ -1,0 +1,53 @@
+ghost use Rattle.std.specs.Prelude.{◌≡◌, ◌≤◌, length, IfOk, IsErrOf, vec_len};
+ghost use Rattle.mig_bytes.specs.Faults.{Rose};
+ghost use Rattle.mig_bytes.specs.Judged.{Gives, part};
+ghost use Rattle.mig_bytes.specs.declared.part.Stop.TheVariants.{ReadFault};
+
+use crate::{Got, ReadFailed, Source, TakeFault, take_exact, take_vec};
+use std::alloc::Global;
+
+/// Why a part of an input isn't read: it is refused for a cause, a read failed, or there is no memory.
+#[derive(Clone, Copy, Debug, PartialEq, Eq)]
+pub enum Stop<C> {
+    Refused(C),
+    ReadFault,
+    Memory,
+}
+
+/// Takes a part that fills the buffer; `truncated` is the cause where the source ends before.
+pub fn take_part<S: Source, C: Copy>(
+    src: &mut S,
+    buf: &mut [u8],
+    truncated: C,
+) -> Result<(), Stop<C>>
+    ensures read { Gives (λ _ part. part ≡ buf.new) (S.left src.old) (S.left src.new) (part truncated (length buf.new)) result }
+    ensures later { S.faults src.old ≤ S.faults src.new }
+    ensures cause { IsErrOf result ReadFault → Rose (S.faults src.old) (S.faults src.new) }
+{
+    match take_exact(src, buf) {
+        Ok(Got::Whole) => Ok(()),
+        Ok(Got::Short(_)) => Err(Stop::Refused(truncated)),
+        Err(ReadFailed) => Err(Stop::ReadFault),
+    }
+}
+
+/// Takes a part of any length; `truncated` is the cause where the source ends before.
+pub fn take_long<S: Source, C: Copy>(
+    alloc: Global,
+    src: &mut S,
+    len: u32,
+    truncated: C,
+) -> Result<Vec<u8>, Stop<C>>
+    ensures read { Gives (λ v part. part ≡ v.items) (S.left src.old) (S.left src.new) (part truncated len) result }
+    ensures len { IfOk result (λ v. vec_len v ≡ len) }
+    ensures later { S.faults src.old ≤ S.faults src.new }
+    ensures cause { IsErrOf result ReadFault → Rose (S.faults src.old) (S.faults src.new) }
+{
+    let mut part = Vec::new(alloc);
+    match take_vec(src, len as usize, &mut part) {
+        Ok(Got::Whole) => Ok(part),
+        Ok(Got::Short(_)) => Err(Stop::Refused(truncated)),
+        Err(TakeFault::Read) => Err(Stop::ReadFault),
+        Err(TakeFault::Memory) => Err(Stop::Memory),
+    }
+}
