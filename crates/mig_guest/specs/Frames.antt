@@ -1,10 +1,12 @@
 -- The frames of a guest: a finite map from PFN to a type, and a page or none.
-use Rattle.std.specs.Prelude.{◌≡◌, ◌≢◌, ℕ, ◌+◌, ◌<◌, ◌^◌, List, [], ◌∷◌, length, filter, nat_le, Option, Some, None, is_some, refl}
+use Rattle.std.specs.Prelude.{◌≡◌, ◌≢◌, ℕ, ◌+◌, ◌≤◌, ◌<◌, ◌^◌, Bool, true, false, List, [], ◌∷◌, length, filter, nat_le, Option, Some, None, is_some, refl}
 use Rattle.std.specs.Ordering.{nat_cmp}
 use Rattle.std.specs.FinMap as maps
 use Rattle.std.specs.Coded.{Coded, code_by, coded×, coded_ℕ, coded_list, coded_option}
+use Rattle.mig_headers.specs.declared.kind.Kind.{Kind}
+use Rattle.mig_headers.specs.declared.kind.Kind.TheVariants.{Pv, Hvm}
 use Rattle.mig_pagetypes.specs.declared.page_type.PageType.{PageType}
-use Rattle.mig_pagetypes.specs.declared.page_type.PageType.TheVariants.{Xtab}
+use Rattle.mig_pagetypes.specs.declared.page_type.PageType.TheVariants.{Notab, Broken, Xalloc, Xtab}
 use Rattle.mig_pagetypes.specs.contracts.page_type.PageType as page_type
 use Rattle.mig_pagetypes.specs.PageTypes.{type_has_data}
 
@@ -26,6 +28,23 @@ pub record IsFrame (frame : FrameOf) : Type 0 where
 -- every PFN is below 2^28, and every frame is one that a guest can have
 abbrev pub IsSized : FrameMap → Type 0
 IsSized m = (pfn : ℕ) (frame : FrameOf) → maps.get m pfn ≡ Some frame → (pfn < 2 ^ 28) × IsFrame frame
+
+-- no more frames than a guest may have
+abbrev pub IsFew : {X : Type 0} → maps.FinMap nat_cmp X → Type 0
+IsFew frames = length (maps.entries frames) ≤ 2 ^ 24
+
+-- the types that a frame of an HVM guest has
+abbrev pub is_hvm_type : PageType → Bool
+is_hvm_type Notab = true
+is_hvm_type Broken = true
+is_hvm_type Xalloc = true
+is_hvm_type _ = false
+
+-- the types that a frame of a guest of this kind has
+abbrev pub is_type_of : Kind → PageType → Bool
+is_type_of Pv Xtab = false
+is_type_of Pv kind = true
+is_type_of Hvm kind = is_hvm_type kind
 
 -- the frames, where the frame of pfn is set: XTAB takes it away
 abbrev pub framed : FrameMap → ℕ → PageType → Option (List ℕ) → FrameMap

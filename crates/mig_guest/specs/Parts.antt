@@ -1,5 +1,5 @@
 -- The parts of a guest: a finite map from keys to bytes.
-use Rattle.std.specs.Prelude.{◌≡◌, ℕ, List, [], ◌∷◌, map, filter, fold, not, ◌==◌, Option, Some, None}
+use Rattle.std.specs.Prelude.{◌≡◌, ◌≤◌, ℕ, length, List, [], ◌∷◌, map, filter, fold, not, ◌==◌, Option, Some, None}
 use Rattle.std.specs.Ordering.{is_lt}
 use Rattle.std.specs.FinMap as maps
 use Rattle.std.specs.Coded.{Coded, coded_ℕ, coded_list}
@@ -48,3 +48,19 @@ parts_after code (Some k) es = filter (λ e. is_lt (part_cmp k e.0)) (parts_of c
 abbrev pub NextPart : {X : Type 0} → ℕ → Option PartKey → List (PartKey × X) → Option (PartKey × X) → Type 0
 NextPart code after es None = parts_after code after es ≡ []
 NextPart code after es (Some e) = parts_after code after es ≡ e ∷ parts_after code (Some e.0) es
+
+-- no more entries of a policy than its record can have
+abbrev pub FitsPolicy : ℕ → PartMap → Type 0
+FitsPolicy code parts = length (parts_of code (maps.entries parts)) ≤ 65536
+
+-- ---- all parts, one after another
+
+-- the parts behind a key, or all
+abbrev pub parts_behind : {X : Type 0} → Option PartKey → List (PartKey × X) → List (PartKey × X)
+parts_behind None es = es
+parts_behind (Some k) es = filter (λ e. is_lt (part_cmp k e.0)) es
+
+-- the first of them, where there is one, and then those behind it
+abbrev pub NextBehind : {X : Type 0} → Option PartKey → List (PartKey × X) → Option (PartKey × X) → Type 0
+NextBehind after es None = parts_behind after es ≡ []
+NextBehind after es (Some e) = parts_behind after es ≡ e ∷ parts_behind (Some e.0) es

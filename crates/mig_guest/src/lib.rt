@@ -11,8 +11,10 @@
 
 mod frames;
 mod guest;
+mod part_code;
 mod part_key;
 mod parts;
 
 pub use guest::Guest;
+pub use part_code::PartCode;
 pub use part_key::PartKey;

@@ -10,21 +10,15 @@ use Rattle.mig_headers.specs.Rows.{first_fault}
 use Rattle.mig_pagetypes.specs.declared.page_type.PageType.{PageType}
 use Rattle.mig_pagetypes.specs.declared.page_type.PageType.TheVariants.{Notab, Broken, Xalloc}
 use Rattle.mig_guest.specs.declared.part_key.PartKey.{PartKey}
-use Rattle.mig_guest.specs.Frames.{FrameMap, FrameOf, IsSized}
+use Rattle.mig_guest.specs.Frames.{FrameOf, IsSized}
+pub use Rattle.mig_guest.specs.Frames.{IsFew, is_hvm_type}
 use Rattle.mig_guest.specs.Guests.{GuestOf}
-use Rattle.mig_guest.specs.Parts.{PartMap, parts_of}
+pub use Rattle.mig_guest.specs.Parts.{FitsPolicy}
 use Rattle.mig_guest.specs.PartKeys.{tsc_key, context_key, param_key, leaf_key, msr_key}
 
 -- the blank form: an HVM guest is its own
 abbrev pub blank : GuestOf → GuestOf
 blank g = g
-
--- the types that a frame of an HVM guest has
-abbrev pub is_hvm_type : PageType → Bool
-is_hvm_type Notab = true
-is_hvm_type Broken = true
-is_hvm_type Xalloc = true
-is_hvm_type _ = false
 
 -- a part of an HVM guest: its keys, and the length of its bytes
 pub data IsHvmPart : PartKey → List ℕ → Type 0 where
@@ -37,14 +31,6 @@ pub data IsHvmPart : PartKey → List ℕ → Type 0 where
 -- a chain that ends with 8 zero bytes as its only END entry
 abbrev pub IsCut : List ℕ → Type 0
 IsCut bytes = (o : ℕ) × (scan bytes ≡ Ok o) × (take o bytes ++ replicate 8 0 ≡ bytes)
-
--- no more frames than a guest may have
-abbrev pub IsFew : FrameMap → Type 0
-IsFew frames = length (maps.entries frames) ≤ 2 ^ 24
-
--- no more entries of a policy than its record can have
-abbrev pub FitsPolicy : ℕ → PartMap → Type 0
-FitsPolicy code parts = length (parts_of code (maps.entries parts)) ≤ 65536
 
 pub record IsWhole (g : GuestOf) : Type 0 where
   pub hvm : g.kind ≡ Hvm

@@ -1,0 +1,83 @@
+-- What a host is: a guest as it stands in a machine, where each frame number has a machine frame.
+use Rattle.std.specs.Prelude.{◌≡◌, ℕ, ◌≤◌, ◌<◌, ◌^◌, true, List, length, Option, Some, is_some, refl}
+use Rattle.std.specs.Ordering.{nat_cmp}
+use Rattle.std.specs.FinMap as maps
+use Rattle.std.specs.Coded.{Coded, code_by, coded×, coded_ℕ, coded_list, coded_option}
+use Rattle.mig_headers.specs.declared.kind.Kind.{Kind}
+use Rattle.mig_headers.specs.declared.kind.Kind.TheVariants.{Pv}
+use Rattle.mig_headers.specs.contracts.kind.Kind as kind
+use Rattle.mig_headers.specs.Pairs.{AreCanonicalPairs}
+use Rattle.mig_pagetypes.specs.declared.page_type.PageType.{PageType}
+use Rattle.mig_pagetypes.specs.contracts.page_type.PageType as page_type
+use Rattle.mig_pagetypes.specs.PageTypes.{type_has_data}
+use Rattle.mig_guest.specs.declared.part_code.PartCode.{PartCode}
+use Rattle.mig_guest.specs.declared.part_code.PartCode.TheVariants.{EmulatorPairs}
+use Rattle.mig_guest.specs.declared.part_key.PartKey.{PartKey}
+use Rattle.mig_guest.specs.Frames.{IsFew, is_type_of}
+use Rattle.mig_guest.specs.PartCodes.{code_of_number, row_of}
+use Rattle.mig_guest.specs.Parts.{PartMap, FitsPolicy, parts_code}
+
+-- a frame: its type, its machine frame (MFN), and the raw page where the type has data
+pub record HostFrame : Type 0 where
+  pub kind : PageType
+  pub machine : ℕ
+  pub page : Option (List ℕ)
+
+-- frames by PFN
+abbrev pub HostFrames : Type 0
+HostFrames = maps.FinMap nat_cmp HostFrame
+
+-- every PFN is below the width; the parts are raw, as they stand in the machine
+pub record HostOf : Type 0 where
+  pub kind : Kind
+  pub width : ℕ
+  pub frames : HostFrames
+  pub parts : PartMap
+
+-- ---- a valid host
+
+-- a frame of a host of this kind and width
+pub record IsHostFrame (kind : Kind) (width pfn : ℕ) (frame : HostFrame) : Type 0 where
+  pub inside : pfn < width
+  pub type : is_type_of kind frame.kind ≡ true
+  pub some_machine : 0 < frame.machine
+  pub machine : frame.machine < 2 ^ 40
+  pub in_step : is_some frame.page ≡ type_has_data frame.kind
+  pub whole : (page : List ℕ) → frame.page ≡ Some page → length page ≡ 4096
+
+-- a part that its code's row has
+pub record IsHostPart (kind : Kind) (width : ℕ) (key : PartKey) (bytes : List ℕ) : Type 0 where
+  pub code : PartCode
+  pub numbered : code_of_number key.code ≡ Some code
+  pub of_kind : (row_of code).of_kind kind ≡ true
+  pub keys : (row_of code).keys key.key1 key.key2 ≡ true
+  pub small1 : key.key1 < 2 ^ 32
+  pub small2 : key.key2 < 2 ^ 32
+  pub allowed : (row_of code).allows width (length bytes) ≡ true
+  pub pairs : code ≡ EmulatorPairs → AreCanonicalPairs bytes
+
+-- no machine frame belongs to two frames
+abbrev pub IsOneToOne : HostFrames → Type 0
+IsOneToOne frames = (p q : ℕ) (f g : HostFrame) → maps.get frames p ≡ Some f → maps.get frames q ≡ Some g → f.machine ≡ g.machine → p ≡ q
+
+pub record IsValid (h : HostOf) : Type 0 where
+  pub width : h.width ≤ 2 ^ 28
+  pub some_width : h.kind ≡ Pv → 0 < h.width
+  pub frames : (pfn : ℕ) (frame : HostFrame) → maps.get h.frames pfn ≡ Some frame → IsHostFrame h.kind h.width pfn frame
+  pub one_to_one : IsOneToOne h.frames
+  pub few : IsFew h.frames
+  pub parts : (key : PartKey) (bytes : List ℕ) → maps.get h.parts key ≡ Some bytes → IsHostPart h.kind h.width key bytes
+  pub leaves : FitsPolicy 17 h.parts
+  pub msrs : FitsPolicy 18 h.parts
+
+-- ---- how a host is stored
+
+abbrev pub host_frame_code : Coded HostFrame
+host_frame_code =
+    code_by (PageType × (ℕ × Option (List ℕ))) (coded× page_type.the_row.coded (coded× coded_ℕ (coded_option (coded_list coded_ℕ))))
+    (λ f. (f.kind, (f.machine, f.page))) (λ p. record { kind = p.0; machine = p.1.0; page = p.1.1 }) (λ _. refl)
+
+abbrev pub host_code : Coded HostOf
+host_code =
+    code_by (Kind × (ℕ × (HostFrames × PartMap))) (coded× kind.the_row.coded (coded× coded_ℕ (coded× (maps.code coded_ℕ host_frame_code) parts_code)))
+    (λ h. (h.kind, (h.width, (h.frames, h.parts)))) (λ p. record { kind = p.0; width = p.1.0; frames = p.1.1.0; parts = p.1.1.1 }) (λ _. refl)
