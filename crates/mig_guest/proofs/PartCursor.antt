@@ -18,7 +18,7 @@ use Rattle.std.specs.FinMap.{is_sorted, same_map, get-from_entries, get-from_sor
 use Rattle.std.specs.FinMap.Entries.{below_all}
 use Rattle.mig_guest.specs.declared.part_key.PartKey.{PartKey}
 use Rattle.mig_guest.specs.Order.{part_cmp}
-use Rattle.mig_guest.specs.Parts.{parts_seen, parts_of, parts_after}
+use Rattle.mig_guest.specs.Parts.{parts_seen, parts_of, parts_after, parts_behind}
 use Rattle.mig_guest.proofs.PartOrder.{part_total, part_exact}
 
 pub both_of : (a b : Bool) → T (a && b) → T a × T b
@@ -277,3 +277,24 @@ module _ (code : ℕ) (after : Option PartKey) (lo : Bound PartKey) (start : IsS
         let all : All P rest = subst (All P) behind (filter_passes (λ f. is_lt (part_cmp e.0 f.0)) es) in
         start.same es ∙ ap (parts_of code) h ∙ ap (λ b. cond b (e ∷ parts_of code rest) (parts_of code rest)) is
         ∙ kept_none (λ f. f.0.code == code) rest (all_imply P Q (λ f t. differ e.0.code code (start.greater e.0 first_passes) is f.0.code (codes_rise e.0 f.0 (le_of_lt _ (subst T (sym t) tt)))) rest all)
+
+-- ---- what is found among all parts
+
+unbounded : (lo : Bound PartKey) → lo ≡ Unbounded → (x : PartKey) → from_start lo x ≡ true
+unbounded lo is x = rw is refl
+
+kept_all : {A : Type 0} (es : List A) → filter (λ _. true) es ≡ es
+kept_all [] = refl
+kept_all (e ∷ es) = ap (λ l. e ∷ l) (kept_all es)
+
+pub all_behind : (after : Option PartKey) (lo : Bound PartKey) → IfSome after (λ k. lo ≡ Excluded k) → IfNone after (lo ≡ Unbounded) → (es : List (PartKey × List ℕ)) → parts_behind after es ≡ filter (λ e. from_start lo e.0) es
+all_behind (Some k) lo some none es = subst (λ l. parts_behind (Some k) es ≡ filter (λ e. from_start l e.0) es) (sym some) (kept_same _ _ es (λ e. and_true (is_lt (part_cmp k e.0))))
+all_behind None lo some none es = sym (kept_all es) ∙ kept_same (λ _. true) (λ e. from_start lo e.0) es (λ e. sym (unbounded lo none e.0))
+
+up_from : (after : Option PartKey) (lo : Bound PartKey) → IfSome after (λ k. lo ≡ Excluded k) → IfNone after (lo ≡ Unbounded) → (x y : PartKey) → T (from_start lo x) → T (is_lt (part_cmp x y)) → T (from_start lo y)
+up_from (Some k) lo some none x y a b = subst (λ l. T (from_start l y)) (sym some) (subst T (and_true _) (lt_trans k x y (subst T (sym (and_true _)) (subst (λ l. T (from_start l x)) some a)) b))
+up_from None lo some none x y a b = subst T (sym (unbounded lo none y)) tt
+
+pub behind_one : (after : Option PartKey) (lo : Bound PartKey) → IfSome after (λ k. lo ≡ Excluded k) → IfNone after (lo ≡ Unbounded) → (es : List (PartKey × List ℕ)) → T (is_sorted part_cmp es)
+    → (e : PartKey × List ℕ) (rest : List (PartKey × List ℕ)) → filter (λ f. from_start lo f.0) es ≡ e ∷ rest → parts_behind after es ≡ e ∷ parts_behind (Some e.0) es
+behind_one after lo some none es sorted e rest h = all_behind after lo some none es ∙ h ∙ ap (λ l. e ∷ l) (sym (next_kept (from_start lo) (up_from after lo some none) es rest e sorted h))

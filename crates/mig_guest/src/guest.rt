@@ -8,7 +8,7 @@ ghost use Rattle.mig_pagestore.specs.Pages.{spliced};
 ghost use Rattle.mig_guest.specs.declared.part_key.PartKey.{PartKey};
 ghost use Rattle.mig_guest.specs.Order.{part_cmp, IsAbove};
 ghost use Rattle.mig_guest.specs.Frames.{framed, IsSized, NextEntry};
-ghost use Rattle.mig_guest.specs.Parts.{NextPart};
+ghost use Rattle.mig_guest.specs.Parts.{NextPart, NextBehind};
 
 use crate::frames::Frames;
 use crate::part_key::PartKey;
@@ -159,6 +159,13 @@ impl Guest {
         ensures least { IfSome result (λ q. IsAbove after q × ((k : PartKey) → IsAbove after k → part_cmp k q ≡ Less → maps.get self.now.parts k ≡ None)) }
     {
         self.parts.next(after)
+    }
+
+    /// The part with the least key above `after`, or of all parts, with its bytes.
+    pub fn next_behind(&self, after: Option<PartKey>) -> Option<(PartKey, &[u8])>
+        ensures next { NextBehind after (maps.entries self.now.parts) (option_map (λ e. (e.0, e.1.now)) result) }
+    {
+        self.parts.next_behind(after)
     }
 
     /// The part with the least key among those of this code that are above `after`, or among all of them.

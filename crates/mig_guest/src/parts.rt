@@ -1,4 +1,4 @@
-ghost use Rattle.std.specs.declared.ops.Bound.TheVariants.{Included, Excluded};
+ghost use Rattle.std.specs.declared.ops.Bound.TheVariants.{Included, Excluded, Unbounded};
 ghost use Rattle.std.specs.Prelude.{◌≡◌, ◌==◌, ℕ, ◌+◌, ◌≤◌, length, not, OnOk, OnErr, IfSome, IfNone, IsSome, None, option_and_then};
 ghost use Rattle.std.specs.declared.cmp.Ordering.TheVariants.{Less};
 ghost use Rattle.std.specs.Option.{option_copied, option_map};
@@ -7,7 +7,7 @@ ghost use Rattle.std.specs.FinMap as maps;
 ghost use Rattle.mig_pagestore.specs.Pages.{spliced};
 ghost use Rattle.mig_guest.specs.declared.part_key.PartKey.{PartKey};
 ghost use Rattle.mig_guest.specs.Order.{part_cmp, IsAbove};
-ghost use Rattle.mig_guest.specs.Parts.{NextPart};
+ghost use Rattle.mig_guest.specs.Parts.{NextPart, NextBehind};
 
 use crate::part_key::PartKey;
 use mig_bytes::Memory;
@@ -83,6 +83,17 @@ fn start_of(code: u32, after: Option<PartKey>) -> Bound<PartKey>
     }
 }
 
+// Behind this key, or everywhere.
+fn behind(after: Option<PartKey>) -> Bound<PartKey>
+    ensures some { IfSome after (λ k. result ≡ Excluded k) }
+    ensures none { IfNone after (result ≡ Unbounded) }
+{
+    let Some(key) = after else {
+        return Bound::Unbounded;
+    };
+    Bound::Excluded(key)
+}
+
 impl Parts {
     pub(crate) fn new(alloc: Global) -> Parts
         ensures { result ≡ maps.empty }
@@ -147,6 +158,17 @@ impl Parts {
                 }
                 Some((*key, bytes.as_slice()))
             }
+            None => None,
+        }
+    }
+
+    pub(crate) fn next_behind(&self, after: Option<PartKey>) -> Option<(PartKey, &[u8])>
+        ensures { NextBehind after (maps.entries self.now) (option_map (λ e. (e.0, e.1.now)) result) }
+    {
+        let start = behind(after);
+        let mut others = self.parts.range((start, Bound::Unbounded));
+        match others.next() {
+            Some((part, bytes)) => Some((*part, bytes.as_slice())),
             None => None,
         }
     }
