@@ -1,5 +1,5 @@
 -- One more entry of a chain, and where the chain ends.
-use Rattle.std.proofs.Common.{◌≡◌, ◌≢◌, ℕ, ◌+◌, ◌-◌, ◌<◌, ◌≤◌, List, length, Option, Some, None, Result, Ok, Err, Bool, true, false, is_some, refl, ap, sym, subst, ◌∙◌, cond, arith}
+use Rattle.std.proofs.Common.{◌≡◌, ℕ, ◌+◌, ◌-◌, ◌<◌, ◌≤◌, List, length, Option, Some, None, Result, Ok, Err, Bool, true, false, is_some, refl, ap, sym, subst, ◌∙◌, cond, arith}
 use Rattle.std.proofs.Common.{[], ◌∷◌, ◌++◌, take, drop, replicate, not, nat_eq, nat_lt, nat_le, get_or, length-append, length-take-le, drop_at, ltb-false}
 use Rattle.std.specs.Prelude.{◌&&◌}
 use Rattle.std.proofs.lemmas.Bool.{eqb-true}
@@ -12,7 +12,7 @@ use Rattle.mig_bytes.proofs.Walks.{walk_end_ends, walk_end_reached}
 use Rattle.mig_headers.specs.Rows.{first_fault}
 use Rattle.mig_headers.specs.declared.fault.ContextFault.TheVariants.{NoHeader, HeaderSize, ShortEntry, NoEnd}
 use Rattle.std.proofs.lemmas.Grind.{common_steps}
-use Rattle.mig_bytes.specs.Walk.{Reaches, walk_end}
+use Rattle.mig_bytes.specs.Walk.{walk_end}
 use Rattle.mig_bytes.specs.Walk.Reaches.{here, next}
 use Rattle.mig_bytes.proofs.Walks.{walk_end_is}
 use Rattle.mig_headers.specs.declared.fault.ContextFault.{ContextFault}

@@ -1,4 +1,5 @@
-//! The headers of a stream, its table of record types, and every place and cause of a refusal with its printed text.
+//! The headers of a stream, its table of record types, and every place and cause of a refusal, of a stream or of a
+//! guest image, with its printed text.
 //!
 //! Responsible for: which bytes are the image header and the domain header of a libxc migration stream, which header
 //! a writer makes, which record types there are with the kinds of guest and the body lengths that they may have, and
@@ -11,6 +12,10 @@
 
 mod fault;
 mod header;
+mod image_fault;
+#[cfg(test)]
+mod image_tests;
+mod image_text;
 mod kind;
 mod laws;
 mod record_type;
@@ -20,6 +25,8 @@ mod text;
 
 pub use fault::{Cause, ContextFault, Place};
 pub use header::{DomainHeader, ImageHeader};
+pub use image_fault::{ImageCause, ImagePlace};
+pub use image_text::{put_image_cause, put_image_place};
 pub use kind::Kind;
 pub use laws::{domain_header_laws, image_header_laws, record_number_law};
 pub use record_type::{RecordType, is_optional};

@@ -1,6 +1,7 @@
 ghost use Rattle.std.specs.Prelude.{◌≡◌, ◌∷◌, ◌++◌, codes, decimal, map};
 ghost use Rattle.mig_bytes.specs.Bytes.{Puts};
 ghost use Rattle.mig_bytes.specs.Faults.{HasCause};
+ghost use Rattle.mig_headers.specs.Arguments.{words_of};
 ghost use Rattle.mig_headers.specs.Texts.{number_of, name_of, arguments_of, words_of_context, spaced, text_of_cause, text_of_place};
 
 use crate::{Cause, ContextFault, Place};
@@ -9,7 +10,7 @@ use mig_bytes::{Sink, WriteFailed, put_all};
 
 /// What stands behind a cause's name.
 #[derive(Clone, Copy)]
-enum Arguments {
+pub(crate) enum Arguments {
     Nothing,
     One(u64),
     Two(u64, u64),
@@ -18,8 +19,6 @@ enum Arguments {
 }
 
 impl Arguments {
-    ghost use Rattle.mig_headers.specs.Arguments.{words_of};
-
     fn put<K: Sink>(self, sink: &mut K) -> Result<(), WriteFailed>
         ensures bytes { Puts (spaced (words_of self)) (K.written sink.old) (K.written sink.new) result }
         ensures cause { HasCause (K.faults sink.old) (K.faults sink.new) result }
@@ -35,8 +34,6 @@ impl Arguments {
 }
 
 impl Cause {
-    ghost use Rattle.mig_headers.specs.Arguments.{words_of};
-
     /// The number of this cause, which is part of its printed text.
     pub fn number(self) -> u64
         ensures { result ≡ number_of self }
@@ -168,15 +165,19 @@ pub fn put_place<K: Sink>(sink: &mut K, place: Place) -> Result<(), WriteFailed>
     match place {
         Place::ImageHeader => put_all(sink, b"ImageHeader"),
         Place::DomainHeader => put_all(sink, b"DomainHeader"),
-        Place::Record(number) => put_record(sink, number),
+        Place::Record(number) => put_numbered(sink, b"Record ", number),
     }
 }
 
-fn put_record<K: Sink>(sink: &mut K, number: u64) -> Result<(), WriteFailed>
-    ensures bytes { Puts (codes "Record " ++ decimal number) (K.written sink.old) (K.written sink.new) result }
+pub(crate) fn put_numbered<K: Sink>(
+    sink: &mut K,
+    name: &[u8],
+    number: u64,
+) -> Result<(), WriteFailed>
+    ensures bytes { Puts (name.now ++ decimal number) (K.written sink.old) (K.written sink.new) result }
     ensures cause { HasCause (K.faults sink.old) (K.faults sink.new) result }
 {
-    put_all(sink, b"Record ")?;
+    put_all(sink, name)?;
     put_number(sink, number)
 }
 
@@ -185,16 +186,32 @@ pub fn put_cause<K: Sink>(sink: &mut K, cause: Cause) -> Result<(), WriteFailed>
     ensures bytes { Puts (text_of_cause cause) (K.written sink.old) (K.written sink.new) result }
     ensures cause { HasCause (K.faults sink.old) (K.faults sink.new) result }
 {
-    put_number(sink, cause.number())?;
-    put_name_and_arguments(sink, cause)
+    put_words(sink, cause.number(), cause.name(), cause.arguments())
 }
 
-fn put_name_and_arguments<K: Sink>(sink: &mut K, cause: Cause) -> Result<(), WriteFailed>
-    ensures bytes { Puts (spaced (name_of cause ∷ arguments_of cause)) (K.written sink.old) (K.written sink.new) result }
+pub(crate) fn put_words<K: Sink>(
+    sink: &mut K,
+    number: u64,
+    name: &str,
+    arguments: Arguments,
+) -> Result<(), WriteFailed>
+    ensures bytes { Puts (decimal number ++ spaced (name.now ∷ words_of arguments)) (K.written sink.old) (K.written sink.new) result }
     ensures cause { HasCause (K.faults sink.old) (K.faults sink.new) result }
 {
-    put_word(sink, cause.name())?;
-    cause.arguments().put(sink)
+    put_number(sink, number)?;
+    put_name_and_arguments(sink, name, arguments)
+}
+
+fn put_name_and_arguments<K: Sink>(
+    sink: &mut K,
+    name: &str,
+    arguments: Arguments,
+) -> Result<(), WriteFailed>
+    ensures bytes { Puts (spaced (name.now ∷ words_of arguments)) (K.written sink.old) (K.written sink.new) result }
+    ensures cause { HasCause (K.faults sink.old) (K.faults sink.new) result }
+{
+    put_word(sink, name)?;
+    arguments.put(sink)
 }
 
 fn put_context_fault<K: Sink>(sink: &mut K, fault: ContextFault) -> Result<(), WriteFailed>
