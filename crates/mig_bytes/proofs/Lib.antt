@@ -4,3 +4,4 @@ pub mod Vectors
 pub mod Walks
 pub mod FieldWrites
 pub mod Joins
+pub mod Steps

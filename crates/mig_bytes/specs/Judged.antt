@@ -1,5 +1,5 @@
 -- Judging an input part by part, in byte order.
-use Rattle.std.specs.Prelude.{◌≡◌, ℕ, List, [], ◌∷◌, length, take, drop, Option, Some, None, Result, Ok, Err, ⊤, nat_lt, if◌then◌else◌}
+use Rattle.std.specs.Prelude.{◌≡◌, ℕ, zero, suc, ◌+◌, List, [], ◌∷◌, length, take, drop, Option, Some, None, Result, Ok, Err, ⊤, nat_lt, if◌then◌else◌}
 use Rattle.mig_bytes.specs.declared.part.Stop.{Stop}
 use Rattle.mig_bytes.specs.declared.part.Stop.TheVariants.{Refused, ReadFault, Memory}
 
@@ -30,6 +30,18 @@ each part (w ∷ ws) input = do
   first ← part w input
   others ← each part ws first.1
   Passes (first.0 ∷ others.0) others.1
+
+-- n steps one after another, each behind what the one before left; they are numbered from k on
+unfoldable pub steps : {C X : Type 0} → (ℕ → X → List ℕ → Judged C X) → ℕ → ℕ → X → List ℕ → Judged C X
+steps step zero k x input = Passes x input
+steps step (suc n) k x input = do
+  y ← step k x input
+  steps step n (k + 1) y.0 y.1
+
+-- a cause, with the place where it stands
+abbrev pub placed : {P C X : Type 0} → P → Judged C X → Judged (P × C) X
+placed place (Passes x rest) = Passes x rest
+placed place (Faulty c rest) = Faulty (place, c) rest
 
 -- What a reader answered stands for what judging gives, and what it left in the source is what judging leaves. A fault
 -- of the source and want of memory say nothing of the bytes.
