@@ -10,11 +10,13 @@
 mod cpuid;
 mod laws;
 mod msr;
+mod pairs;
 mod tsc;
 
 pub use cpuid::read_cpuid;
 pub use laws::policy_laws;
 pub use msr::read_msr;
+pub use pairs::canonical_pairs;
 pub use tsc::read_tsc;
 
 #[cfg(test)]

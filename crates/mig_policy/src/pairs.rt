@@ -1,0 +1,6 @@
+
+/// placeholder
+pub fn canonical_pairs(bytes: &[u8]) -> bool
+{
+    true
+}
