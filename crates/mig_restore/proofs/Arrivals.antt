@@ -7,6 +7,10 @@ use Rattle.std.proofs.lemmas.List.Folds.{list_any-append}
 use Rattle.mig_bytes.specs.Fields.{le32}
 use Rattle.mig_bytes.specs.Walk.{Reaches}
 use Rattle.mig_bytes.specs.Walk.Reaches.{here, next}
+use Rattle.mig_bytes.specs.declared.part.Stop.{Stop}
+use Rattle.mig_bytes.specs.declared.part.Stop.TheVariants as stops
+use Rattle.mig_bytes.specs.Judged.{Judged, ◌>>=◌, part, tried, each, Gives}
+use Rattle.mig_bytes.specs.Judged.Judged.{Passes, Faulty}
 use Rattle.mig_bytes.proofs.Walks.{walk_end_is, walk_end_ends}
 use Rattle.mig_headers.specs.Contexts.{scan}
 use Rattle.mig_headers.specs.RecordTypes.{is_optional, type_of_number}
@@ -22,12 +26,8 @@ use Rattle.mig_pagetypes.specs.FrameWords.{word_has_data}
 use Rattle.mig_records.specs.Faults.{fault_of_count, fault_of_words}
 use Rattle.mig_hvm.specs.Params.{fault_of_params}
 use Rattle.mig_restore.specs.declared.head.Seen.{Seen}
-use Rattle.mig_restore.specs.declared.part.Stop.{Stop}
-use Rattle.mig_restore.specs.declared.part.Stop.TheVariants as stops
 use Rattle.mig_restore.specs.declared.part.StreamAnswer.{StreamAnswer}
 use Rattle.mig_restore.specs.declared.read.Reading.{Reading}
-use Rattle.mig_restore.specs.Judged.{Judged, ◌>>=◌, part, tried, each, Gives}
-use Rattle.mig_restore.specs.Judged.Judged.{Passes, Faulty}
 use Rattle.mig_restore.specs.Mean.{mean, put_record, empty_guest}
 use Rattle.mig_restore.specs.Record.{StreamRecord, Content, types_of, is_ended}
 use Rattle.mig_restore.specs.Judging.{Opening, record_at, head_at, body_at, typed_at, pages_at, entries_at, page_at, entry_at, context_at, params_at, plain_at, words_at, fault_of_head, fault_of_scan, fault_of_data, fault_at_end}
@@ -40,19 +40,19 @@ use Rattle.mig_restore.proofs.Meaning.{one_more_record}
 
 -- ---- judging takes bytes away
 
-abbrev LeavesAt : {X : Type 0} → ℕ → Judged X → Type 0
+abbrev LeavesAt : {X : Type 0} → ℕ → Judged Cause X → Type 0
 LeavesAt n (Passes x rest) = length rest ≤ n
 LeavesAt n (Faulty c rest) = ⊤
 
 -- at most so many are left
-record Leaves {X : Type 0} (n : ℕ) (j : Judged X) : Type 0 where
+record Leaves {X : Type 0} (n : ℕ) (j : Judged Cause X) : Type 0 where
   holds : LeavesAt n j
 
-leaves_then : {X Y : Type 0} (n m : ℕ) (j : Judged X) (k : X × List ℕ → Judged Y) → Leaves n j → ((x : X) (rest : List ℕ) → length rest ≤ n → Leaves m (k (x, rest))) → Leaves m (j >>= k)
+leaves_then : {X Y : Type 0} (n m : ℕ) (j : Judged Cause X) (k : X × List ℕ → Judged Cause Y) → Leaves n j → ((x : X) (rest : List ℕ) → length rest ≤ n → Leaves m (k (x, rest))) → Leaves m (j >>= k)
 leaves_then n m (Passes x rest) k h go = go x rest h.holds
 leaves_then n m (Faulty c rest) k h go = record { holds = tt }
 
-leaves_part : (m n : ℕ) (i : List ℕ) → length i ≤ m → Leaves (m - n) (part n i)
+leaves_part : (m n : ℕ) (i : List ℕ) → length i ≤ m → Leaves (m - n) (part Truncated n i)
 leaves_part m n i h = record { holds = elim (nat_lt (length i) n) as (λ b. LeavesAt (m - n) (cond b (Faulty Truncated []) (Passes (take n i) (drop n i)))) [ true ↦ tt | false ↦ omega (arith, length-drop n i) ] }
 
 leaves_tried : (m : ℕ) (f : Option Cause) (i : List ℕ) → length i ≤ m → Leaves m (tried f i)
@@ -62,16 +62,16 @@ leaves_tried m (Some c) i h = record { holds = tt }
 leaves_all : {X : Type 0} (m : ℕ) (x : X) (i : List ℕ) → length i ≤ m → Leaves m (Passes x i)
 leaves_all m x i h = record { holds = h }
 
-leaves_each : {W X : Type 0} (f : W → List ℕ → Judged X) (m : ℕ) → ((w : W) (i : List ℕ) → length i ≤ m → Leaves m (f w i)) → (ws : List W) (i : List ℕ) → length i ≤ m → Leaves m (each f ws i)
+leaves_each : {W X : Type 0} (f : W → List ℕ → Judged Cause X) (m : ℕ) → ((w : W) (i : List ℕ) → length i ≤ m → Leaves m (f w i)) → (ws : List W) (i : List ℕ) → length i ≤ m → Leaves m (each f ws i)
 unfolding each
 leaves_each f m less [] i h = leaves_all m _ i h
 leaves_each f m less (w ∷ ws) i h = leaves_then m m (f w i) _ (less w i h) (λ x rest le. leaves_then m m (each f ws rest) _ (leaves_each f m less ws rest le) (λ xs after le'. leaves_all m _ after le'))
 
 -- a part of n bytes leaves no more than there was
-no_more : {X : Type 0} (m n : ℕ) (i : List ℕ) (k : List ℕ × List ℕ → Judged X) → length i ≤ m → ((x : List ℕ) (rest : List ℕ) → length rest ≤ m → Leaves m (k (x, rest))) → Leaves m (part n i >>= k)
-no_more m n i k h go = leaves_then (m - n) m (part n i) k (leaves_part m n i h) (λ x rest le. go x rest (omega arith))
+no_more : {X : Type 0} (m n : ℕ) (i : List ℕ) (k : List ℕ × List ℕ → Judged Cause X) → length i ≤ m → ((x : List ℕ) (rest : List ℕ) → length rest ≤ m → Leaves m (k (x, rest))) → Leaves m (part Truncated n i >>= k)
+no_more m n i k h go = leaves_then (m - n) m (part Truncated n i) k (leaves_part m n i h) (λ x rest le. go x rest (omega arith))
 
-checked : {X : Type 0} (m : ℕ) (f : Option Cause) (i : List ℕ) (j : Judged X) → length i ≤ m → Leaves m j → Leaves m (tried f i >>= λ _. j)
+checked : {X : Type 0} (m : ℕ) (f : Option Cause) (i : List ℕ) (j : Judged Cause X) → length i ≤ m → Leaves m j → Leaves m (tried f i >>= λ _. j)
 checked m f i j h go = leaves_then m m (tried f i) (λ _. j) (leaves_tried m f i h) (λ _ _ _. go)
 
 leaves_plain : (says : List ℕ → Content) (m len : ℕ) (i : List ℕ) → length i ≤ m → Leaves m (plain_at says len i)
@@ -83,7 +83,7 @@ leaves_context m len i h = no_more m len i _ h (λ x rest le. checked m (fault_o
 leaves_params : (m len : ℕ) (i : List ℕ) → length i ≤ m → Leaves m (params_at len i)
 leaves_params m len i h = no_more m len i _ h (λ x rest le. checked m (fault_of_params x) rest _ le (leaves_all m _ rest le))
 
-chosen : {X : Type 0} (m : ℕ) (b : Bool) (j k : Judged X) → Leaves m j → Leaves m k → Leaves m (cond b j k)
+chosen : {X : Type 0} (m : ℕ) (b : Bool) (j k : Judged Cause X) → Leaves m j → Leaves m k → Leaves m (cond b j k)
 chosen m true j k p q = p
 chosen m false j k p q = q
 
@@ -116,7 +116,7 @@ unfolding record_at
 leaves_record o records i =
     let m = length i - 8 in
     leaves_then m m (head_at o (types_of records) i) _
-    (leaves_then m m (part 8 i) _ (leaves_part (length i) 8 i (omega arith)) (λ x rest le. checked m (fault_of_head o (types_of records) x) rest _ le (leaves_all m _ rest le)))
+    (leaves_then m m (part Truncated 8 i) _ (leaves_part (length i) 8 i (omega arith)) (λ x rest le. checked m (fault_of_head o (types_of records) x) rest _ le (leaves_all m _ rest le)))
     (λ head rest le. checked m (fault_at_end (le32 head 0) (mean o.kind records)) rest _ le
     (leaves_then m m (body_at o.kind (le32 head 0) (le32 head 4) rest) _ (leaves_body o.kind m (le32 head 0) (le32 head 4) rest le) (λ r after le'. no_more m _ after _ le' (λ x last le''. leaves_all m _ last le''))))
 
@@ -142,7 +142,7 @@ module _ (o : Opening) where
         | false ↦ λ long. omega (arith, record_leaves records i r rest is, ltb-false (length i) 8 long)
       ] refl
 
-  went : (records : List StreamRecord) (rest : List ℕ) (t : Front) (b : Bool) (j : Judged StreamRecord) → record_at o records rest ≡ j → cond b None (front_with records j) ≡ Some t → length t.rest < length rest
+  went : (records : List StreamRecord) (rest : List ℕ) (t : Front) (b : Bool) (j : Judged Cause StreamRecord) → record_at o records rest ≡ j → cond b None (front_with records j) ≡ Some t → length t.rest < length rest
   went records rest t true j is h = let no : ◌≡◌ {A = Option Front} None (Some t) = h in absurd (elim_none no)
   went records rest t false (Faulty c after) is h = absurd (elim_none h)
   went records rest t false (Passes r after) is h = let e : record { records = records ++ r ∷ []; rest = after } ≡ t = cc in subst (λ (f : Front). length f.rest < length rest) e (shorter records rest r after is)
@@ -200,7 +200,7 @@ module _ (o : Opening) where
   Told old new seen records over r = (new ≡ put_record old r) × IsSeen seen o (types_of (records ++ r ∷ [])) × (over ≡ nat_eq r.type 0)
 
   -- the clause of the reader of a record
-  abbrev pub Tells : GuestOf → GuestOf → Seen → Seen → Option (List ℕ) → Option (List ℕ) → Result Bool Stop → Type 0
+  abbrev pub Tells : GuestOf → GuestOf → Seen → Seen → Option (List ℕ) → Option (List ℕ) → Result Bool (Stop Cause) → Type 0
   Tells guest guest' seen seen' b c r = (records : List StreamRecord) → IsSeen seen o (types_of records) → guest ≡ mean o.kind records → Gives (Told guest guest' seen' records) b c (record_at o records) r
 
   pub arrived_first : (a : Option (List ℕ)) (seen : Seen) (guest : GuestOf) → IsSeen seen o [] → guest ≡ empty_guest o.kind → Arrived a a seen guest
@@ -232,7 +232,7 @@ module _ (o : Opening) where
       let over1 : is_ended f'.records ≡ true = ended_more f.records r going ∙ sym told'.2 ∙ is_over in
       (o, f'.records, after, ap (verdict_of_front o) (ends_at o i f' reached' (stops_ended o f' over1)) ∙ accepted o f' over1, left, rg ∙ g'', rv, rs ∙ told'.1.count ∙ length-map f'.records (λ (x : StreamRecord). x.type))
 
-  pub arrived_stopped : (a b c : Option (List ℕ)) (seen seen' : Seen) (guest guest' : GuestOf) (stop : Stop) (n : ℕ) → n ≡ seen.records → Arrived a b seen guest → Tells guest guest' seen seen' b c (Err stop) → ReadsAs (of_records o) a c (Err (answer_of (Record n) stop))
+  pub arrived_stopped : (a b c : Option (List ℕ)) (seen seen' : Seen) (guest guest' : GuestOf) (stop : Stop Cause) (n : ℕ) → n ≡ seen.records → Arrived a b seen guest → Tells guest guest' seen seen' b c (Err stop) → ReadsAs (of_records o) a c (Err (answer_of (Record n) stop))
   arrived_stopped None b c seen seen' guest guest' stop n count h told = tt
   arrived_stopped (Some i) b c seen seen' guest guest' (stops.Refused cause) n count (f, reached, now, s, g, going) told =
       let (rest, is, left) = subst (λ b. Gives (Told guest guest' seen' f.records) b c (record_at o f.records) (Err (stops.Refused cause))) now (told f.records s g) in
@@ -244,13 +244,13 @@ module _ (o : Opening) where
 -- ---- the headers
 
 module _ {X Y : Type 0} (R : X → Y → Type 0) where
-  pub placed_ok : (a b c : Option (List ℕ)) (place : Place) (f : List ℕ → Judged Y) (v : Y → List ℕ → Verdict) (x : X) (r : Result Reading StreamAnswer)
+  pub placed_ok : (a b c : Option (List ℕ)) (place : Place) (f : List ℕ → Judged Cause Y) (v : Y → List ℕ → Verdict) (x : X) (r : Result Reading StreamAnswer)
       → Gives R a b f (Ok x) → ((y : Y) → R x y → ReadsAs (v y) b c r) → ReadsAs (λ i. at_place place (f i) v) a c r
   placed_ok None b c place f v x r h told = tt
   placed_ok (Some i) b c place f v x r (y, rest, is, left, means) told =
       subst (λ j. ReadsVerdict (at_place place j v) c r) (sym is) (subst (λ b. ReadsAs (v y) b c r) left (told y means))
 
-  pub placed_err : (a b : Option (List ℕ)) (place : Place) (f : List ℕ → Judged Y) (v : Y → List ℕ → Verdict) (stop : Stop)
+  pub placed_err : (a b : Option (List ℕ)) (place : Place) (f : List ℕ → Judged Cause Y) (v : Y → List ℕ → Verdict) (stop : Stop Cause)
       → Gives R a b f (Err stop) → ReadsAs (λ i. at_place place (f i) v) a b (Err (answer_of place stop))
   placed_err None b place f v stop h = tt
   placed_err (Some i) b place f v (stops.Refused c) (rest, is, left) = (rest, ap (λ j. at_place place j v) is, left)

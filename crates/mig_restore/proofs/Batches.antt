@@ -5,19 +5,20 @@ use Rattle.std.proofs.lemmas.Bool.{eqb-true}
 use Rattle.std.proofs.lemmas.List.Sums.{length-filter}
 use Rattle.std.proofs.lemmas.List.FromFn.{length-map-range_with_len}
 use Rattle.mig_bytes.specs.Fields.{le32, le64}
-use Rattle.mig_headers.specs.declared.fault.Cause.TheVariants.{BadLength}
+use Rattle.mig_bytes.specs.Judged.{◌>>=◌, part, tried, each}
+use Rattle.mig_bytes.specs.Judged.Judged.{Passes}
+use Rattle.mig_bytes.proofs.Joins.{part_whole, both_pass, part_passes, tried_passes, same_passes}
+use Rattle.mig_headers.specs.declared.fault.Cause.TheVariants.{BadLength, Truncated}
 use Rattle.mig_headers.specs.declared.kind.Kind.{Kind}
 use Rattle.mig_pagetypes.specs.FrameWords.{word_pfn, word_has_data}
 use Rattle.mig_records.specs.Faults.{fault_of_count, fault_of_words, count_rows}
 use Rattle.mig_records.specs.Words.{words, data_len_of}
 use Rattle.mig_records.proofs.WordFaults.{none_is_wrong, nothing_found}
-use Rattle.mig_restore.specs.Judged.{Judged, ◌>>=◌, part, tried, each}
-use Rattle.mig_restore.specs.Judged.Judged.{Passes}
 use Rattle.mig_restore.specs.Record.{Entry}
 use Rattle.mig_restore.specs.Judging.{kind_in, fault_of_data, words_at, page_at, entry_at, entries_at}
 use Rattle.mig_restore.specs.Spelled.{IsPage, IsEntry, AreEntries, IsBatch}
-use Rattle.mig_restore.proofs.Joins.{part_whole}
-use Rattle.mig_restore.proofs.Passing.{both_pass, part_passes, tried_passes, same_passes, then_passes, tried_none, rows_fine, no_fault, not_false, ge_ltb, same_is, not_zero, positive}
+use Rattle.mig_restore.proofs.Entries.{behind_words}
+use Rattle.mig_restore.proofs.Passing.{then_passes, tried_none, rows_fine, no_fault, not_false, ge_ltb, same_is, not_zero, positive}
 
 counted : (w : ℕ) (ws : List ℕ) → count_by word_has_data (w ∷ ws) ≡ cond (word_has_data w) 1 0 + count_by word_has_data ws
 counted w ws = sym (length-filter word_has_data (w ∷ ws)) ∙ split (word_has_data w) (filter word_has_data ws) ∙ ap (λ n. cond (word_has_data w) 1 0 + n) (length-filter word_has_data ws)
@@ -41,10 +42,10 @@ record OnePage (b : Bool) (i : List ℕ) (page : Option (List ℕ)) (rest : List
   size : length bytes ≡ 4096 * cond b 1 0
   page_is : IsPage b bytes page
 
-one_page : (b : Bool) (i : List ℕ) (page : Option (List ℕ)) (rest : List ℕ) → cond b (part 4096 i >>= λ p. Passes (Some p.0) p.1) (Passes None i) ≡ Passes page rest → OnePage b i page rest
+one_page : (b : Bool) (i : List ℕ) (page : Option (List ℕ)) (rest : List ℕ) → cond b (part Truncated 4096 i >>= λ p. Passes (Some p.0) p.1) (Passes None i) ≡ Passes page rest → OnePage b i page rest
 one_page true i page rest h =
-    let a = both_pass (part 4096 i) _ page rest h in
-    let p = part_passes 4096 i a.x a.mid a.first in
+    let a = both_pass (part Truncated 4096 i) _ page rest h in
+    let p = part_passes Truncated 4096 i a.x a.mid a.first in
     let e = same_passes _ _ _ _ a.second in
     record { bytes = a.x; whole = p.0 ∙ ap (λ l. a.x ++ l) e.1; size = p.1; page_is = (p.1, sym e.0) }
 one_page false i page rest h = let e = same_passes _ _ _ _ h in record { bytes = []; whole = e.1; size = refl; page_is = (refl, sym e.0) }
@@ -84,21 +85,17 @@ pub record Batch (kind : Kind) (len : ℕ) (i : List ℕ) (es : List Entry) (res
   pub size : length body ≡ len
   pub batch : IsBatch kind body es
 
-behind_words : Kind → ℕ → List ℕ × List ℕ → Judged (List Entry)
-behind_words kind len ws = tried (fault_of_words kind 0 ws.0) ws.1 >>= λ _. tried (fault_of_data len ws.0) ws.1 >>= λ _. each entry_at ws.0 ws.1
-
 pub batch_passes : (kind : Kind) (len : ℕ) (i : List ℕ) (es : List Entry) (rest : List ℕ) → entries_at kind len i ≡ Passes es rest → Batch kind len i es rest
-unfolding behind_words
 batch_passes kind len i es rest h =
-    let b = both_pass (part 8 i) _ es rest h in
+    let b = both_pass (part Truncated 8 i) _ es rest h in
     let front = b.x in
     let n = le32 front 0 in
-    let p = part_passes 8 i front b.mid b.first in
+    let p = part_passes Truncated 8 i front b.mid b.first in
     let c = both_pass (tried (fault_of_count len n) b.mid) (λ _. words_at n b.mid >>= behind_words kind len) es rest b.second in
     let fc = rows_fine (count_rows len n) (tried_passes _ b.mid c.mid c.x c.first).0 in
     let d = both_pass (words_at n b.mid) (behind_words kind len) es rest c.second in
-    let w = both_pass (part (8 * n) b.mid) _ d.x d.mid d.first in
-    let q = part_passes (8 * n) b.mid w.x w.mid w.first in
+    let w = both_pass (part Truncated (8 * n) b.mid) _ d.x d.mid d.first in
+    let q = part_passes Truncated (8 * n) b.mid w.x w.mid w.first in
     let e = same_passes _ _ _ _ w.second in
     let ws_is : words n w.x ≡ d.x = e.0 in
     let f = both_pass (tried (fault_of_words kind 0 d.x) d.mid) (λ _. tried (fault_of_data len d.x) d.mid >>= λ _. each entry_at d.x d.mid) es rest d.second in
@@ -127,8 +124,8 @@ batch_passes kind len i es rest h =
 
 -- ---- what is spelled passes
 
-page_goes : (b : Bool) (bytes rest : List ℕ) (page : Option (List ℕ)) → IsPage b bytes page → cond b (part 4096 (bytes ++ rest) >>= λ p. Passes (Some p.0) p.1) (Passes None (bytes ++ rest)) ≡ Passes page rest
-page_goes true bytes rest page (size, is) = then_passes _ _ bytes rest _ (part_whole 4096 bytes rest size) (ap (λ p. Passes p rest) (sym is))
+page_goes : (b : Bool) (bytes rest : List ℕ) (page : Option (List ℕ)) → IsPage b bytes page → cond b (part Truncated 4096 (bytes ++ rest) >>= λ p. Passes (Some p.0) p.1) (Passes None (bytes ++ rest)) ≡ Passes page rest
+page_goes true bytes rest page (size, is) = then_passes _ _ bytes rest _ (part_whole Truncated 4096 bytes rest size) (ap (λ p. Passes p rest) (sym is))
 page_goes false bytes rest page (size, is) = rw (size, is) refl
 
 page_len : (b : Bool) (bytes : List ℕ) (page : Option (List ℕ)) → IsPage b bytes page → length bytes ≡ 4096 * cond b 1 0
@@ -171,7 +168,7 @@ batch_goes kind len body rest es b size =
     let sizes : fault_of_data len ws ≡ None = no_fault ((not (nat_eq len (data_len_of ws)), BadLength len) ∷ [])
     (ap not (same_is len _ (full ∙ ap (λ m. 8 + 8 * m + 4096 * count_by word_has_data ws) (sym count))), tt) in
     ap (entries_at kind len) input
-    ∙ then_passes (part 8 (b.front ++ mid)) _ b.front mid _ (part_whole 8 b.front mid b.front_len)
+    ∙ then_passes (part Truncated 8 (b.front ++ mid)) _ b.front mid _ (part_whole Truncated 8 b.front mid b.front_len)
     (tried_none (fault_of_count len n) mid _ counts
-    ∙ then_passes (words_at n mid) _ ws tail _ (then_passes (part (8 * n) mid) _ b.words_bytes tail _ (part_whole (8 * n) b.words_bytes tail b.words_len) refl)
+    ∙ then_passes (words_at n mid) _ ws tail _ (then_passes (part Truncated (8 * n) mid) _ b.words_bytes tail _ (part_whole Truncated (8 * n) b.words_bytes tail b.words_len) refl)
     (tried_none (fault_of_words kind 0 ws) tail _ goods ∙ tried_none (fault_of_data len ws) tail _ sizes ∙ entries_go ws b.pages_bytes rest es b.entries))

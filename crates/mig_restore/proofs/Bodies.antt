@@ -4,10 +4,13 @@ use Rattle.std.proofs.Common.{◌≡◌, ℕ, ◌*◌, ◌/◌, ◌%◌, ◌≤�
 use Rattle.std.specs.Prelude.{◌&&◌}
 use Rattle.std.proofs.lemmas.Bool.{eqb-true, leb-true}
 use Rattle.std.proofs.lemmas.List.FromFn.{length-map-range_with_len}
+use Rattle.mig_bytes.specs.Judged.{Judged, part, tried}
+use Rattle.mig_bytes.specs.Judged.Judged.{Passes}
+use Rattle.mig_bytes.proofs.Joins.{both_pass, part_passes, tried_passes, same_passes}
 use Rattle.mig_headers.specs.Contexts.{scan}
 use Rattle.mig_headers.specs.RecordTypes.{row_of, type_number, type_of_number, is_optional}
 use Rattle.mig_headers.specs.declared.fault.Cause.{Cause}
-use Rattle.mig_headers.specs.declared.fault.Cause.TheVariants.{BadContext}
+use Rattle.mig_headers.specs.declared.fault.Cause.TheVariants.{BadContext, Truncated}
 use Rattle.mig_headers.specs.declared.fault.ContextFault.{ContextFault}
 use Rattle.mig_headers.specs.declared.kind.Kind.{Kind}
 use Rattle.mig_headers.specs.declared.kind.Kind.TheVariants.{Pv, Hvm}
@@ -20,14 +23,11 @@ use Rattle.mig_hvm.specs.Params.{fault_of_params, params_in}
 use Rattle.mig_hvm.proofs.Pairs.{params_are_spelled}
 use Rattle.mig_policy.specs.Policies.{leaf_at, leaves_in, msr_at, msrs_in}
 use Rattle.mig_policy.proofs.EntriesRead.{leaves_are_spelled, msrs_are_spelled}
-use Rattle.mig_restore.specs.Judged.{part, tried}
-use Rattle.mig_restore.specs.Judged.Judged.{Passes}
 use Rattle.mig_restore.specs.Record.{Content}
 use Rattle.mig_restore.specs.Record.Content.{Nothing, Parts}
 use Rattle.mig_restore.specs.Judging.{is_built, fault_of_scan, cut, context_at, params_at, plain_at, tsc_says, leaves_say, msrs_say, entries_at, pages_at, typed_at, body_at}
 use Rattle.mig_restore.specs.Spelled.{HasContent}
 use Rattle.mig_restore.specs.Spelled.HasContent.{optional as has_optional, ends as has_ends, pages as has_pages, tsc as has_tsc, context as has_context, params as has_params, static_end as has_static_end, leaves as has_leaves, msrs as has_msrs}
-use Rattle.mig_restore.proofs.Passing.{both_pass, part_passes, tried_passes, same_passes}
 use Rattle.mig_restore.proofs.Batches.{batch_passes}
 
 -- ---- judging passes
@@ -42,12 +42,12 @@ pub record Says (kind : Kind) (type len : ℕ) (i : List ℕ) (c : Content) (res
 plain_says : (kind : Kind) (type len : ℕ) (i : List ℕ) (c : Content) (rest : List ℕ) (f : List ℕ → Content) → ((body : List ℕ) → length body ≡ len → HasContent kind type body (f body))
     → plain_at f len i ≡ Passes c rest → Says kind type len i c rest
 plain_says kind type len i c rest f has_it h =
-    let a = both_pass (part len i) _ c rest h in
-    let p = part_passes len i a.x a.mid a.first in
+    let a = both_pass (part Truncated len i) _ c rest h in
+    let p = part_passes Truncated len i a.x a.mid a.first in
     let e = same_passes _ _ _ _ a.second in
     record { body = a.x; whole = p.0 ∙ ap (λ l. a.x ++ l) e.1; body_len = p.1; says = subst (HasContent kind type a.x) e.0 (has_it a.x p.1) }
 
-nothing_says : (kind : Kind) (type len : ℕ) (i : List ℕ) (c : Content) (rest : List ℕ) → HasContent kind type [] Nothing → len ≡ 0 → Passes Nothing i ≡ Passes c rest → Says kind type len i c rest
+nothing_says : (kind : Kind) (type len : ℕ) (i : List ℕ) (c : Content) (rest : List ℕ) → HasContent kind type [] Nothing → len ≡ 0 → ◌≡◌ {A = Judged Cause Content} (Passes Nothing i) (Passes c rest) → Says kind type len i c rest
 nothing_says kind type len i c rest has_it none h =
     let e = same_passes _ _ _ _ h in
     record { body = []; whole = e.1; body_len = sym none; says = subst (HasContent kind type []) e.0 has_it }
@@ -61,8 +61,8 @@ context_has kind body (Err f) is fine = let no : ◌≡◌ {A = Option Cause} (S
 
 context_says : (kind : Kind) (len : ℕ) (i : List ℕ) (c : Content) (rest : List ℕ) → context_at len i ≡ Passes c rest → Says kind 9 len i c rest
 context_says kind len i c rest h =
-    let b = both_pass (part len i) _ c rest h in
-    let p = part_passes len i b.x b.mid b.first in
+    let b = both_pass (part Truncated len i) _ c rest h in
+    let p = part_passes Truncated len i b.x b.mid b.first in
     let t = both_pass (tried (fault_of_scan (scan b.x)) b.mid) (λ _. Passes (Parts ((record { code = 9; key1 = 0; key2 = 0 }, cut (scan b.x) b.x) ∷ [])) b.mid) c rest b.second in
     let fine = tried_passes _ b.mid t.mid t.x t.first in
     let e = same_passes _ _ _ _ t.second in
@@ -70,8 +70,8 @@ context_says kind len i c rest h =
 
 params_say : (kind : Kind) (len : ℕ) (i : List ℕ) (c : Content) (rest : List ℕ) → 8 ≤ len → params_at len i ≡ Passes c rest → Says kind 0xA len i c rest
 params_say kind len i c rest least h =
-    let b = both_pass (part len i) _ c rest h in
-    let p = part_passes len i b.x b.mid b.first in
+    let b = both_pass (part Truncated len i) _ c rest h in
+    let p = part_passes Truncated len i b.x b.mid b.first in
     let t = both_pass (tried (fault_of_params b.x) b.mid) (λ _. Passes (Parts (params_in b.x)) b.mid) c rest b.second in
     let fine = tried_passes _ b.mid t.mid t.x t.first in
     let e = same_passes _ _ _ _ t.second in

@@ -4,8 +4,12 @@ use Rattle.std.specs.Prelude.{◌&&◌}
 use Rattle.std.proofs.lemmas.Grind.{common_steps}
 use Rattle.std.proofs.lemmas.Option.{slice_get_past}
 use Rattle.std.proofs.lemmas.List.FromFn.{length-map-range_with_len}
+use Rattle.mig_bytes.specs.Judged.{part}
+use Rattle.mig_bytes.specs.Judged.Judged.{Passes}
+use Rattle.mig_bytes.proofs.Joins.{part_whole}
 use Rattle.mig_headers.specs.Contexts.{scan}
 use Rattle.mig_headers.specs.RecordTypes.{type_of_number, record_types}
+use Rattle.mig_headers.specs.declared.fault.Cause.TheVariants.{Truncated}
 use Rattle.mig_headers.specs.declared.kind.Kind.{Kind}
 use Rattle.mig_guest.specs.declared.part_key.PartKey.{PartKey}
 use Rattle.mig_guest.specs.PartKeys.{context_key}
@@ -14,33 +18,30 @@ use Rattle.mig_hvm.specs.Params.{fault_of_params, IsParams}
 use Rattle.mig_hvm.proofs.Pairs.{params_are_spelled}
 use Rattle.mig_policy.specs.Policies.{leaf_at, msr_at, AreLeaves, AreMsrs}
 use Rattle.mig_policy.proofs.EntriesRead.{leaves_are_spelled, msrs_are_spelled}
-use Rattle.mig_restore.specs.Judged.{part}
-use Rattle.mig_restore.specs.Judged.Judged.{Passes}
 use Rattle.mig_restore.specs.Record.{Content, Entry}
 use Rattle.mig_restore.specs.Record.Content.{Nothing, Frames, Parts, Policy}
 use Rattle.mig_restore.specs.Judging.{fault_of_scan, cut, context_at, params_at, plain_at, tsc_says, leaves_say, msrs_say, entries_at, pages_at, body_at}
 use Rattle.mig_restore.specs.Spelled.{HasContent, IsBatch}
 use Rattle.mig_restore.specs.Spelled.HasContent.{optional, ends, pages, tsc, context, params, static_end, leaves, msrs}
-use Rattle.mig_restore.proofs.Joins.{part_whole}
 use Rattle.mig_restore.proofs.Passing.{then_passes, tried_none, same_is}
 use Rattle.mig_restore.proofs.Batches.{batch_goes}
 use Rattle.mig_restore.proofs.Bodies.{optional_at}
 
 plain_goes : (f : List ℕ → Content) (c : Content) (len : ℕ) (body rest : List ℕ) → length body ≡ len → f body ≡ c → plain_at f len (body ++ rest) ≡ Passes c rest
-plain_goes f c len body rest size is = then_passes (part len (body ++ rest)) _ body rest _ (part_whole len body rest size) (ap (λ d. Passes d rest) is)
+plain_goes f c len body rest size is = then_passes (part Truncated len (body ++ rest)) _ body rest _ (part_whole Truncated len body rest size) (ap (λ d. Passes d rest) is)
 
 pages_go : (kind : Kind) (len : ℕ) (body rest : List ℕ) (es : List Entry) → IsBatch kind body es → length body ≡ len → pages_at kind len (body ++ rest) ≡ Passes (Frames es) rest
 pages_go kind len body rest es b size = then_passes (entries_at kind len (body ++ rest)) _ es rest _ (batch_goes kind len body rest es b size) refl
 
 context_goes : (len : ℕ) (body rest : List ℕ) (o : ℕ) → scan body ≡ Ok o → length body ≡ len → context_at len (body ++ rest) ≡ Passes (Parts ((context_key, cut (Ok o) body) ∷ [])) rest
 context_goes len body rest o is size =
-    then_passes (part len (body ++ rest)) _ body rest _ (part_whole len body rest size)
+    then_passes (part Truncated len (body ++ rest)) _ body rest _ (part_whole Truncated len body rest size)
     (tried_none (fault_of_scan (scan body)) rest _ (ap fault_of_scan is) ∙ ap (λ r. Passes (Parts ((context_key, cut r body) ∷ [])) rest) is)
 
 params_go : (len : ℕ) (body rest : List ℕ) (ps : List (PartKey × List ℕ)) → IsParams body ps → length body ≡ len → params_at len (body ++ rest) ≡ Passes (Parts ps) rest
 params_go len body rest ps is size =
     let s = (params_are_spelled body ps).1 is in
-    then_passes (part len (body ++ rest)) _ body rest _ (part_whole len body rest size) (tried_none (fault_of_params body) rest _ s.1 ∙ ap (λ l. Passes (Parts l) rest) s.2)
+    then_passes (part Truncated len (body ++ rest)) _ body rest _ (part_whole Truncated len body rest size) (tried_none (fault_of_params body) rest _ s.1 ∙ ap (λ l. Passes (Parts l) rest) s.2)
 
 pub body_goes : (kind : Kind) (type len : ℕ) (body rest : List ℕ) (c : Content) → HasContent kind type body c → length body ≡ len → body_at kind type len (body ++ rest) ≡ Passes c rest
 body_goes kind _ len body rest _ (optional type _ above) size = optional_at kind type len (body ++ rest) above ∙ plain_goes (λ _. Nothing) Nothing len body rest size refl

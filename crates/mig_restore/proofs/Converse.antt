@@ -8,11 +8,14 @@ use Rattle.mig_bytes.specs.Bytes.{padding_len}
 use Rattle.mig_bytes.specs.Fields.{le32, be32}
 use Rattle.mig_bytes.specs.Walk.{Reaches}
 use Rattle.mig_bytes.specs.Walk.Reaches.{here, next}
+use Rattle.mig_bytes.specs.Judged.{◌>>=◌, part, tried}
+use Rattle.mig_bytes.specs.Judged.Judged.{Passes}
+use Rattle.mig_bytes.proofs.Joins.{part_whole}
 use Rattle.mig_headers.specs.Headers.{fault_of_marker, fault_of_image, fault_of_domain, kind_of_number, IsImageHeader, IsDomainHeader}
 use Rattle.mig_headers.proofs.HeaderLaws.{image_is_spelled, domain_is_spelled}
 use Rattle.mig_headers.specs.RecordTypes.{type_of_number}
 use Rattle.mig_headers.specs.declared.fault.Cause.{Cause}
-use Rattle.mig_headers.specs.declared.fault.Cause.TheVariants.{NotBuilt, TooManyRecords}
+use Rattle.mig_headers.specs.declared.fault.Cause.TheVariants.{NotBuilt, TooManyRecords, Truncated}
 use Rattle.mig_headers.specs.declared.fault.Place.{Place}
 use Rattle.mig_headers.specs.declared.fault.Place.TheVariants as places
 use Rattle.mig_headers.specs.declared.header.ImageHeader.{ImageHeader}
@@ -24,8 +27,6 @@ use Rattle.mig_records.specs.Faults.{long_rows, length_rows, type_allows, fault_
 use Rattle.mig_order.specs.Order.{IsInOrder, fault_of_type}
 use Rattle.mig_order.proofs.OrderLaw.{faultless_is_in_order}
 use Rattle.mig_pvtables.specs.Whole.{guest_rows, fault_of_guest}
-use Rattle.mig_restore.specs.Judged.{◌>>=◌, part, tried}
-use Rattle.mig_restore.specs.Judged.Judged.{Passes}
 use Rattle.mig_restore.specs.Record.{StreamRecord, types_of, is_ended}
 use Rattle.mig_restore.specs.Judging.{Opening, opening_of, is_built, fault_of_built, fault_of_fields, fault_of_head, head_at, fault_at_end, body_at, record_at}
 use Rattle.mig_restore.specs.Mean.{mean}
@@ -34,7 +35,7 @@ use Rattle.mig_restore.specs.Spelled.Spells.{none, one_more}
 use Rattle.mig_restore.specs.Stream as stream
 use Rattle.mig_restore.specs.Stream.{Front, Verdict, at_start, verdict_of_front, of_records, verdict, at_place, IsRefused}
 use Rattle.mig_restore.specs.Stream.Verdict.{Accepts, Refuses}
-use Rattle.mig_restore.proofs.Joins.{part_whole, unless_ok}
+use Rattle.mig_restore.proofs.Joins.{unless_ok}
 use Rattle.mig_restore.proofs.Parts.{begins, behind_head, behind_guest, behind_body}
 use Rattle.mig_restore.proofs.Arrivals.{goes_on, ends_at, accepted, stops_ended}
 use Rattle.mig_restore.proofs.Passing.{then_passes, tried_none, no_fault, neither_some, ge_ltb}
@@ -83,11 +84,11 @@ record_goes o records r text rest f =
     let fine : fault_of_head o types is.head ≡ None = ap (λ t. fault_of_fields o types t len) is.type_is ∙ fields in
     let whole : fault_at_end (le32 is.head 0) g ≡ None = ap (λ t. fault_at_end t g) is.type_is ∙ fine_at_end r.type g f.complete in
     ap (record_at o records) input ∙ begins o records (is.head ++ mid)
-    ∙ then_passes (head_at o types (is.head ++ mid)) (behind_head o.kind g) is.head mid _ (then_passes (part 8 (is.head ++ mid)) _ is.head mid _ (part_whole 8 is.head mid is.head_len) (tried_none (fault_of_head o types is.head) mid _ fine))
+    ∙ then_passes (head_at o types (is.head ++ mid)) (behind_head o.kind g) is.head mid _ (then_passes (part Truncated 8 (is.head ++ mid)) _ is.head mid _ (part_whole Truncated 8 is.head mid is.head_len) (tried_none (fault_of_head o types is.head) mid _ fine))
     (tried_none (fault_at_end (le32 is.head 0) g) mid _ whole
     ∙ then_passes (body_at o.kind (le32 is.head 0) len mid) (behind_body is.head) r.content (is.padding ++ rest) _
     (ap (λ t. body_at o.kind t len mid) is.type_is ∙ body_goes o.kind r.type len f.body (is.padding ++ rest) r.content f.says (sym is.len_is))
-    (then_passes (part (padding_len len) (is.padding ++ rest)) _ is.padding rest _ (part_whole _ is.padding rest (is.padded ∙ ap padding_len (sym is.len_is)))
+    (then_passes (part Truncated (padding_len len) (is.padding ++ rest)) _ is.padding rest _ (part_whole Truncated _ is.padding rest (is.padded ∙ ap padding_len (sym is.len_is)))
     (ap (λ t. Passes (record { type = t; content = r.content }) rest) is.type_is)))
 
 -- ---- a front, and the whole image
@@ -107,8 +108,8 @@ spelled_accepted o bytes records rest spelled ended =
 -- ---- the headers
 
 part_is : {Y : Type 0} (place : Place) (n : ℕ) (f : List ℕ → Option Cause) (y : List ℕ → Y) (x rest : List ℕ) (v : Y → List ℕ → Verdict) → length x ≡ n → f x ≡ None
-    → at_place place (part n (x ++ rest) >>= λ p. tried (f p.0) p.1 >>= λ _. Passes (y p.0) p.1) v ≡ v (y x) rest
-part_is place n f y x rest v size fine = ap (λ j. at_place place j v) (then_passes (part n (x ++ rest)) _ x rest _ (part_whole n x rest size) (tried_none (f x) rest _ fine))
+    → at_place place (part Truncated n (x ++ rest) >>= λ p. tried (f p.0) p.1 >>= λ _. Passes (y p.0) p.1) v ≡ v (y x) rest
+part_is place n f y x rest v size fine = ap (λ j. at_place place j v) (then_passes (part Truncated n (x ++ rest)) _ x rest _ (part_whole Truncated n x rest size) (tried_none (f x) rest _ fine))
 
 -- the two parts of an image header
 record ImageParts (header : List ℕ) (version : ℕ) : Type 0 where

@@ -1,163 +1,32 @@
--- How what readers give joins.
-use Rattle.std.specs.Result.{IsErrAnd}
-use Rattle.std.proofs.lemmas.List.{take_more, take_at, drop_at}
-use Rattle.std.proofs.lemmas.Bool.{le-ltb}
-use Rattle.std.proofs.Math.Seq.{drop-cons}
-use Rattle.std.proofs.Common.{◌≡◌, ℕ, suc, ◌+◌, ◌<◌, length, take, drop, get_or, take-append-drop, List, [], ◌∷◌, ◌++◌, true, false, Option, Some, None, Result, Ok, Err, refl, sym, ap, subst, ◌∙◌, length-append, arith}
+-- How what the readers of bodies give joins.
+use Rattle.std.proofs.Common.{◌≡◌, ℕ, List, true, false, Option, Some, None, Result, Ok, Err, refl, sym, subst}
+use Rattle.mig_bytes.specs.Judged.{◌>>=◌, part, tried, Gives}
+use Rattle.mig_bytes.specs.Judged.Judged.{Passes}
+use Rattle.mig_bytes.proofs.Joins.{done}
 use Rattle.mig_headers.specs.declared.fault.Cause.{Cause}
-use Rattle.mig_restore.specs.declared.part.Stop.{Stop}
-use Rattle.mig_restore.specs.declared.part.Stop.TheVariants.{Refused, ReadFault, Memory}
-use Rattle.mig_restore.specs.Judged.{Judged, ◌>>=◌, part, tried, each, Matches, Gives}
-use Rattle.mig_restore.specs.Judged.Judged.{Passes, Faulty}
+use Rattle.mig_headers.specs.declared.fault.Cause.TheVariants.{Truncated}
 use Rattle.mig_headers.specs.Headers.{unless_faulty}
 use Rattle.mig_pagetypes.specs.FrameWords.{word_pfn, word_type, word_has_data, some_has_data}
 use Rattle.mig_pagetypes.specs.PageTypes.{type_of, type_has_data}
 use Rattle.mig_restore.specs.Record.{Entry, Content}
 use Rattle.mig_restore.specs.Judging.{kind_in, type_or_none, entry_at, plain_at}
 
-module _ {X Y : Type 0} (R : X → Y → Type 0) where
-  -- nothing is read
-  pub done : (a : Option (List ℕ)) (f : List ℕ → Judged Y) (x : X) (y : Y) → ((i : List ℕ) → f i ≡ Passes y i) → R x y → Gives R a a f (Ok x)
-  done None f x y is r = tt
-  done (Some i) f x y is r = (y, i, is i, refl, r)
-
-  -- the same, judged another way
-  pub judged_so : (a b : Option (List ℕ)) (f g : List ℕ → Judged Y) (r : Result X Stop) → ((i : List ℕ) → g i ≡ f i) → Gives R a b f r → Gives R a b g r
-  judged_so None b f g r same h = tt
-  judged_so (Some i) b f g r same h = subst (λ j. Matches R b j r) (sym (same i)) h
-
--- a cause stands, and no bytes are taken
-pub refused : {X Y : Type 0} (R : X → Y → Type 0) (a : Option (List ℕ)) (f : List ℕ → Judged Y) (c : Cause) → ((i : List ℕ) → f i ≡ Faulty c i) → Gives R a a f (Err (Refused c))
-refused R None f c is = tt
-refused R (Some i) f c is = (i, is i, refl)
-
-module _ {W X Y Z : Type 0} (R : W → X → Type 0) (Q : Y → Z → Type 0) where
-  at_some : (b c : Option (List ℕ)) (rest : List ℕ) (f : List ℕ → Judged Z) (r : Result Y Stop) → b ≡ Some rest → Gives Q b c f r → Matches Q c (f rest) r
-  at_some b c rest f r e h = subst (λ o. Gives Q o c f r) e h
-
-  -- one reader after another
-  pub seq : (a b c : Option (List ℕ)) (f : List ℕ → Judged X) (k : X × List ℕ → Judged Z) (w : W) (r : Result Y Stop)
-      → Gives R a b f (Ok w) → ((x : X) → R w x → Gives Q b c (λ i. k (x, i)) r) → Gives Q a c (λ i. f i >>= k) r
-  seq None b c f k w r h next = tt
-  seq (Some i) b c f k w r (x, rest, is, left, rx) next =
-      subst (λ j. Matches Q c (j >>= k) r) (sym is) (at_some b c rest (λ j. k (x, j)) r left (next x rx))
-
-  -- a reader that stops
-  pub stop : (a b : Option (List ℕ)) (f : List ℕ → Judged X) (k : X × List ℕ → Judged Z) (e : Stop) → Gives R a b f (Err e) → Gives Q a b (λ i. f i >>= k) (Err e)
-  stop None b f k e h = tt
-  stop (Some i) b f k (Refused cause) (rest, is, left) = (rest, ap (λ j. j >>= k) is, left)
-  stop (Some i) b f k ReadFault h = tt
-  stop (Some i) b f k Memory h = tt
+-- ---- the entries of a batch
 
 module _ {X : Type 0} (R : X → Entry → Type 0) where
   pub no_page : (a : Option (List ℕ)) (w : ℕ) (x : X) → word_has_data w ≡ false → R x (record { pfn = word_pfn w; kind = kind_in w; page = None }) → Gives R a a (entry_at w) (Ok x)
   no_page a w x none r = done R a (entry_at w) x _ (λ i. rw none refl) r
 
-  pub with_page : (a b : Option (List ℕ)) (w n : ℕ) (page : List ℕ) (u : Unit {0}) (x : X) → n ≡ 4096 → Gives {X = Unit {0}} (λ _ bytes. bytes ≡ page) a b (part n) (Ok u) → word_has_data w ≡ true
+  pub with_page : (a b : Option (List ℕ)) (w n : ℕ) (page : List ℕ) (u : Unit {0}) (x : X) → n ≡ 4096 → Gives {X = Unit {0}} (λ _ bytes. bytes ≡ page) a b (part Truncated n) (Ok u) → word_has_data w ≡ true
       → R x (record { pfn = word_pfn w; kind = kind_in w; page = Some page }) → Gives R a b (entry_at w) (Ok x)
   with_page None b w n page u x size h some r = tt
   with_page (Some i) b w n page u x size (bytes, rest, is, left, same) some r =
-      let is' = subst (λ m. part m i ≡ Passes bytes rest) size is in
+      let is' = subst (λ m. part Truncated m i ≡ Passes bytes rest) size is in
       (record { pfn = word_pfn w; kind = kind_in w; page = Some bytes }, rest, rw (some, is') refl, left, subst (λ p. R x (record { pfn = word_pfn w; kind = kind_in w; page = Some p })) (sym same) r)
 
--- ---- one part after another
-
-module _ {W X : Type 0} (f : W → List ℕ → Judged X) where
-  abbrev joined : List X → Judged (List X) → Judged (List X)
-  joined first others = others >>= λ o. Passes (first ++ o.0) o.1
-
-  joined-nil : (j : Judged (List X)) → joined [] j ≡ j
-  joined-nil (Passes es rest) = refl
-  joined-nil (Faulty c rest) = refl
-
-  joined-cons : (x : X) (xs : List X) (j : Judged (List X)) → joined (x ∷ xs) j ≡ (joined xs j >>= λ o. Passes (x ∷ o.0) o.1)
-  joined-cons x xs (Passes es rest) = refl
-  joined-cons x xs (Faulty c rest) = refl
-
-  onto : X → List W → List X × List ℕ → Judged (List X)
-  onto x vs a = joined (x ∷ a.0) (each f vs a.1)
-
-  -- at the front, then at the others
-  at_front : (x : X) (vs : List W) (j : Judged (List X)) → ((j >>= λ a. joined a.0 (each f vs a.1)) >>= λ o. Passes (x ∷ o.0) o.1) ≡ ((j >>= λ o. Passes (x ∷ o.0) o.1) >>= λ a. joined a.0 (each f vs a.1))
-  at_front x vs (Passes es rest) = sym (joined-cons x es (each f vs rest))
-  at_front x vs (Faulty c rest) = refl
-
-  abbrev step : List W → Judged X → Judged (List X)
-  step ws j = j >>= λ first. each f ws first.1 >>= λ others. Passes (first.0 ∷ others.0) others.1
-
-  stepped : (ws vs : List W) (j : Judged X) → ((i : List ℕ) → each f (ws ++ vs) i ≡ (each f ws i >>= λ a. joined a.0 (each f vs a.1)))
-      → step (ws ++ vs) j ≡ (step ws j >>= λ a. joined a.0 (each f vs a.1))
-  stepped ws vs (Passes x rest) same = ap (λ k. k >>= λ others. Passes (x ∷ others.0) others.1) (same rest) ∙ at_front x vs (each f ws rest)
-  stepped ws vs (Faulty c rest) same = refl
-
-  pub each-append : (ws vs : List W) (i : List ℕ) → each f (ws ++ vs) i ≡ (each f ws i >>= λ a. joined a.0 (each f vs a.1))
-  unfolding each
-  each-append [] vs i = sym (joined-nil (each f vs i))
-  each-append (w ∷ ws) vs i = stepped ws vs (f w i) (each-append ws vs)
-
-  one : (w : W) (i : List ℕ) → each f (w ∷ []) i ≡ (f w i >>= λ x. Passes (x.0 ∷ []) x.1)
-  unfolding each
-  one w i = refl
-
-  cons_is : (w : W) (vs : List W) (i : List ℕ) → each f (w ∷ vs) i ≡ step vs (f w i)
-  unfolding each
-  cons_is w vs i = refl
-
-module _ {W X V U Y : Type 0} (f : W → List ℕ → Judged X) (R : V → List X → Type 0) (Q : U → X → Type 0) (P : Y → List X → Type 0) where
-  -- the parts of ws, and then that of w
-  pub each_more : (a b c : Option (List ℕ)) (ws : List W) (w : W) (v : V) (u : U) (y : Y) → Gives R a b (each f ws) (Ok v) → Gives Q b c (f w) (Ok u)
-      → ((xs : List X) (x : X) → R v xs → Q u x → P y (xs ++ x ∷ [])) → Gives P a c (each f (ws ++ w ∷ [])) (Ok y)
-  each_more None b c ws w v u y h n join = tt
-  each_more (Some i) b c ws w v u y (xs, rest, is, left, rx) n join =
-      let (x, rest', is', left', qx) = subst (λ o. Gives Q o c (f w) (Ok u)) left n in
-      (xs ++ x ∷ [], rest', each-append f ws (w ∷ []) i ∙ ap (λ j. j >>= λ a. joined f a.0 (each f (w ∷ []) a.1)) is ∙ ap (joined f xs) (one f w rest ∙ ap (λ j. j >>= λ o. Passes (o.0 ∷ []) o.1) is'), left', join xs x rx qx)
-
-  -- the parts of ws, and then that of w, where the reader stops
-  pub each_stops : (a b c : Option (List ℕ)) (ws vs : List W) (w : W) (v : V) (e : Stop) → Gives R a b (each f ws) (Ok v) → Gives Q b c (f w) (Err e)
-      → Gives P a c (each f (ws ++ w ∷ vs)) (Err e)
-  each_stops None b c ws vs w v e h n = tt
-  each_stops (Some i) b c ws vs w v (Refused cause) (xs, rest, is, left, rx) n =
-      let (rest', is', left') = subst (λ o. Gives Q o c (f w) (Err (Refused cause))) left n in
-      (rest', each-append f ws (w ∷ vs) i ∙ ap (λ j. j >>= λ a. joined f a.0 (each f (w ∷ vs) a.1)) is ∙ ap (joined f xs) (cons_is f w vs rest ∙ ap (step f vs) is'), left')
-  each_stops (Some i) b c ws vs w v ReadFault h n = tt
-  each_stops (Some i) b c ws vs w v Memory h n = tt
-
-  -- at the index k of a loop
-  pub each_step : (a b c : Option (List ℕ)) (all : List W) (k : ℕ) (d : W) (v : V) (u : U) (y : Y) → k < length all → Gives R a b (each f (take k all)) (Ok v) → Gives Q b c (f (get_or all k d)) (Ok u)
-      → ((xs : List X) (x : X) → R v xs → Q u x → P y (xs ++ x ∷ [])) → Gives P a c (each f (take (k + 1) all)) (Ok y)
-  each_step a b c all k d v u y lt h n join =
-      subst (λ ws. Gives P a c (each f ws) (Ok y)) (sym (take_more all k d lt)) (each_more a b c (take k all) (get_or all k d) v u y h n join)
-
-  pub each_ends : (a b c : Option (List ℕ)) (all : List W) (k : ℕ) (d : W) (v : V) (e : Stop) (r : Result Y Stop) → k < length all → Gives R a b (each f (take k all)) (Ok v)
-      → Gives Q b c (f (get_or all k d)) (Err e) → IsErrAnd r (λ s. s ≡ e) → Gives P a c (each f all) r
-  each_ends a b c all k d v e (Ok y) lt h n is = absurd is
-  each_ends a b c all k d v e (Err s) lt h n is =
-      let whole : take k all ++ get_or all k d ∷ drop (suc k) all ≡ all = ap (λ l. take k all ++ l) (sym (drop-cons all k d lt)) ∙ take-append-drop k all in
-      subst (λ t. Gives P a c (each f all) (Err t)) (sym is) (subst (λ ws. Gives P a c (each f ws) (Err e)) whole (each_stops a b c (take k all) (drop (suc k) all) (get_or all k d) v e h n))
-
--- ---- readers of one record
-
-module _ {X Y Z V : Type 0} (R : X → Y → Type 0) (Q : V → Z → Type 0) where
-  -- what a reader gives is put into another form
-  pub mapped : (a b : Option (List ℕ)) (f : List ℕ → Judged Y) (g : List ℕ → Judged Z) (h : Y → Z) (x : X) (v : V) → ((i : List ℕ) → g i ≡ (f i >>= λ y. Passes (h y.0) y.1))
-      → Gives R a b f (Ok x) → ((y : Y) → R x y → Q v (h y)) → Gives Q a b g (Ok v)
-  mapped None b f g h x v same n turn = tt
-  mapped (Some i) b f g h x v same (y, rest, is, left, r) turn = (h y, rest, same i ∙ ap (λ j. j >>= λ y. Passes (h y.0) y.1) is, left, turn y r)
-
-  -- a reader stopped, and its error is handed on
-  pub stopped : (a b : Option (List ℕ)) (f : List ℕ → Judged Y) (g : List ℕ → Judged Z) (k : Y × List ℕ → Judged Z) (e : Stop) (r : Result V Stop) → ((i : List ℕ) → g i ≡ (f i >>= k))
-      → IsErrAnd r (λ d. d ≡ e) → Gives R a b f (Err e) → Gives Q a b g r
-  stopped a b f g k e (Ok v) same is n = absurd is
-  stopped a b f g k e (Err d) same is n = subst (λ s. Gives Q a b g (Err s)) (sym is) (judged_so Q a b (λ i. f i >>= k) g (Err e) same (stop R Q a b f k e n))
-
-  -- a reader, and then another
-  pub then_reads : (a b c : Option (List ℕ)) (f : List ℕ → Judged Y) (g : List ℕ → Judged Z) (k : Y × List ℕ → Judged Z) (x : X) (r : Result V Stop) → ((i : List ℕ) → g i ≡ (f i >>= k))
-      → Gives R a b f (Ok x) → ((y : Y) → R x y → Gives Q b c (λ i. k (y, i)) r) → Gives Q a c g r
-  then_reads a b c f g k x r same n next = judged_so Q a c (λ i. f i >>= k) g r same (seq R Q a b c f k x r n next)
-
--- a part that is there
-pub part_whole : (n : ℕ) (x rest : List ℕ) → length x ≡ n → part n (x ++ rest) ≡ Passes x rest
-part_whole n x rest size = rw (le-ltb (length (x ++ rest)) n (omega (arith, length-append x rest)), take_at x rest n size, drop_at x rest n size) refl
+-- the tests of a word and of its type agree
+pub carries : (w : ℕ) → word_has_data w ≡ type_has_data (kind_in w)
+carries w = elim (type_of (word_type w)) as (λ o. some_has_data o ≡ type_has_data (type_or_none o)) [ None ↦ refl | Some t ↦ refl ]
 
 -- ---- headers
 
@@ -172,22 +41,18 @@ unless_ok {H} (Some c) h x e = let no : ◌≡◌ {A = Result H Cause} (Err c) (
 
 module _ {X V : Type 0} (R : X → List ℕ → Type 0) (Q : V → Content → Type 0) where
   -- what a body says, where no cause is tried
-  pub plain_said : (a b : Option (List ℕ)) (n m : ℕ) (says : List ℕ → Content) (x : X) (v : V) → n ≡ m → Gives R a b (part n) (Ok x)
+  pub plain_said : (a b : Option (List ℕ)) (n m : ℕ) (says : List ℕ → Content) (x : X) (v : V) → n ≡ m → Gives R a b (part Truncated n) (Ok x)
       → ((bytes : List ℕ) → R x bytes → Q v (says bytes)) → Gives Q a b (plain_at says m) (Ok v)
   plain_said None b n m says x v size h turn = tt
   plain_said (Some i) b n m says x v size (bytes, rest, is, left, r) turn =
-      let is' = subst (λ k. part k i ≡ Passes bytes rest) size is in
+      let is' = subst (λ k. part Truncated k i ≡ Passes bytes rest) size is in
       (says bytes, rest, rw is' refl, left, turn bytes r)
 
   -- what a body says in which no cause stands
-  pub tried_said : (a b : Option (List ℕ)) (n : ℕ) (fault : List ℕ → Option Cause) (says : List ℕ → Content) (x : X) (v : V) → Gives R a b (part n) (Ok x)
+  pub tried_said : (a b : Option (List ℕ)) (n : ℕ) (fault : List ℕ → Option Cause) (says : List ℕ → Content) (x : X) (v : V) → Gives R a b (part Truncated n) (Ok x)
       → ((bytes : List ℕ) → R x bytes → (fault bytes ≡ None) × Q v (says bytes))
-      → Gives Q a b (λ i. part n i >>= λ body. tried (fault body.0) body.1 >>= λ _. Passes (says body.0) body.1) (Ok v)
+      → Gives Q a b (λ i. part Truncated n i >>= λ body. tried (fault body.0) body.1 >>= λ _. Passes (says body.0) body.1) (Ok v)
   tried_said None b n fault says x v h turn = tt
   tried_said (Some i) b n fault says x v (bytes, rest, is, left, r) turn =
       let (none, q) = turn bytes r in
       (says bytes, rest, rw (is, none) refl, left, q)
-
--- the tests of a word and of its type agree
-pub carries : (w : ℕ) → word_has_data w ≡ type_has_data (kind_in w)
-carries w = elim (type_of (word_type w)) as (λ o. some_has_data o ≡ type_has_data (type_or_none o)) [ None ↦ refl | Some t ↦ refl ]

@@ -6,12 +6,15 @@ use Rattle.mig_bytes.specs.Bytes.{padding_len}
 use Rattle.mig_bytes.specs.Fields.{le32, be32}
 use Rattle.mig_bytes.specs.Walk.{Reaches}
 use Rattle.mig_bytes.specs.Walk.Reaches.{here, next}
+use Rattle.mig_bytes.specs.Judged.{Judged, ◌>>=◌, part, tried}
+use Rattle.mig_bytes.specs.Judged.Judged.{Passes, Faulty}
 use Rattle.mig_bytes.proofs.Walks.{walk_end_reached}
+use Rattle.mig_bytes.proofs.Joins.{both_pass, part_passes, tried_passes, same_passes}
 use Rattle.mig_headers.specs.Headers.{fault_of_marker, fault_of_image, fault_of_domain, kind_of_number, unless_faulty, IsImageHeader, IsDomainHeader}
 use Rattle.mig_headers.proofs.HeaderLaws.{image_is_spelled, domain_is_spelled}
 use Rattle.mig_headers.specs.RecordTypes.{type_of_number}
 use Rattle.mig_headers.specs.declared.fault.Cause.{Cause}
-use Rattle.mig_headers.specs.declared.fault.Cause.TheVariants.{NotBuilt, TooManyRecords}
+use Rattle.mig_headers.specs.declared.fault.Cause.TheVariants.{NotBuilt, TooManyRecords, Truncated}
 use Rattle.mig_headers.specs.declared.fault.Place.{Place}
 use Rattle.mig_headers.specs.declared.fault.Place.TheVariants.{Record, ImageHeader, DomainHeader}
 use Rattle.mig_headers.specs.declared.kind.Kind.{Kind}
@@ -21,8 +24,6 @@ use Rattle.mig_records.specs.Faults.{long_rows, length_rows, type_allows, fault_
 use Rattle.mig_order.specs.Order.{IsInOrder, fault_of_type}
 use Rattle.mig_order.proofs.OrderLaw.{faultless_is_in_order}
 use Rattle.mig_pvtables.specs.Whole.{guest_rows, fault_of_guest}
-use Rattle.mig_restore.specs.Judged.{Judged, ◌>>=◌, part, tried}
-use Rattle.mig_restore.specs.Judged.Judged.{Passes, Faulty}
 use Rattle.mig_restore.specs.Record.{StreamRecord, types_of, is_ended}
 use Rattle.mig_restore.specs.Judging.{Opening, opening_of, is_built, fault_of_built, fault_of_number, fault_of_fields, fault_of_head, head_at, fault_at_end, body_at, record_at}
 use Rattle.mig_restore.specs.Mean.{mean}
@@ -32,7 +33,7 @@ use Rattle.mig_restore.specs.Stream.{Front, Verdict, one_more, at_start, front_o
 use Rattle.mig_restore.specs.Stream.Verdict.{Accepts, Refuses}
 use Rattle.mig_restore.proofs.Parts.{begins, behind_head, behind_guest, behind_body}
 use Rattle.mig_restore.proofs.Arrivals.{goes_on, front_stops}
-use Rattle.mig_restore.proofs.Passing.{both_pass, part_passes, tried_passes, same_passes, rows_fine, both_none, not_false}
+use Rattle.mig_restore.proofs.Passing.{rows_fine, both_none, not_false}
 use Rattle.mig_restore.proofs.Bodies.{body_says}
 
 -- ---- a head
@@ -93,8 +94,8 @@ found o records i r rest going h =
     let types = types_of records in
     let g = mean o.kind records in
     let a = both_pass (head_at o types i) (behind_head o.kind g) r rest (sym (begins o records i) ∙ h) in
-    let b = both_pass (part 8 i) _ a.x a.mid a.first in
-    let p = part_passes 8 i b.x b.mid b.first in
+    let b = both_pass (part Truncated 8 i) _ a.x a.mid a.first in
+    let p = part_passes Truncated 8 i b.x b.mid b.first in
     let t = both_pass (tried (fault_of_head o types b.x) b.mid) (λ _. Passes b.x b.mid) a.x a.mid b.second in
     let e = same_passes _ _ _ _ t.second in
     let head = a.x in
@@ -104,8 +105,8 @@ found o records i r rest going h =
     let w = both_pass (tried (fault_at_end type g) a.mid) (λ _. behind_guest o.kind head a.mid) r rest a.second in
     let whole = tried_passes _ a.mid w.mid w.x w.first in
     let c = both_pass (body_at o.kind type len a.mid) (behind_body head) r rest w.second in
-    let d = both_pass (part (padding_len len) c.mid) (λ padding. Passes (record { type = type; content = c.x }) padding.1) r rest c.second in
-    let q = part_passes _ c.mid d.x d.mid d.first in
+    let d = both_pass (part Truncated (padding_len len) c.mid) (λ padding. Passes (record { type = type; content = c.x }) padding.1) r rest c.second in
+    let q = part_passes Truncated _ c.mid d.x d.mid d.first in
     let f = same_passes _ _ _ _ d.second in
     let s = body_says o.version o.kind types type len a.mid c.x c.mid fine.built fine.ordered fine.allowed c.first in
     found_same o records i rest (record { type = type; content = c.x }) r f.0 (record {
@@ -137,7 +138,7 @@ module _ (o : Opening) where
   none_some : {x : Front} → None ≡ Some x → ⊥
   none_some q = cc
 
-  step_at : (f t : Front) (b : Bool) (j : Judged StreamRecord) → is_ended f.records ≡ b → record_at o f.records f.rest ≡ j → cond b None (front_with f.records j) ≡ Some t → Step f t
+  step_at : (f t : Front) (b : Bool) (j : Judged Cause StreamRecord) → is_ended f.records ≡ b → record_at o f.records f.rest ≡ j → cond b None (front_with f.records j) ≡ Some t → Step f t
   step_at f t true j g e h = let no : ◌≡◌ {A = Option Front} None (Some t) = h in absurd (none_some no)
   step_at f t false (Faulty c after) g e h = let no : ◌≡◌ {A = Option Front} None (Some t) = h in absurd (none_some no)
   step_at f t false (Passes r after) g e h = record { r = r; rest = after; going = g; judged = e; is = cc }
@@ -164,7 +165,7 @@ module _ (o : Opening) where
   front_spelled rest _ here = record { bytes = []; whole = refl; spelled = spells.none }
   front_spelled rest _ (next u t reached goes) = split_more rest u t (front_spelled rest u reached) (step_of u t goes)
 
-  accepts_at : (f : Front) (b : Bool) (j : Judged StreamRecord) (p : Opening) (records : List StreamRecord) (rest : List ℕ) → is_ended f.records ≡ b → one_more o f ≡ None → record_at o f.records f.rest ≡ j
+  accepts_at : (f : Front) (b : Bool) (j : Judged Cause StreamRecord) (p : Opening) (records : List StreamRecord) (rest : List ℕ) → is_ended f.records ≡ b → one_more o f ≡ None → record_at o f.records f.rest ≡ j
       → cond b (Accepts o f.records f.rest) (verdict_with o f.records f.rest j) ≡ Accepts p records rest → (o ≡ p) × (f.records ≡ records) × (f.rest ≡ rest) × (b ≡ true)
   accepts_at f true j p records rest g stops is h = (cc, cc, cc, refl)
   accepts_at f false (Passes r after) p records rest g stops is h = let no : ◌≡◌ {A = Option Front} (Some (record { records = f.records ++ r ∷ []; rest = after })) None = sym (goes_on o f r after g is) ∙ stops in cc
@@ -189,21 +190,21 @@ record HeaderPart {Y : Type 0} (n : ℕ) (f : List ℕ → Option Cause) (y : Li
   fine : f bytes ≡ None
   value : y bytes ≡ x
 
-header_passes : {Y : Type 0} (n : ℕ) (f : List ℕ → Option Cause) (y : List ℕ → Y) (i : List ℕ) (x : Y) (rest : List ℕ) → (part n i >>= λ p. tried (f p.0) p.1 >>= λ _. Passes (y p.0) p.1) ≡ Passes x rest → HeaderPart n f y i x rest
+header_passes : {Y : Type 0} (n : ℕ) (f : List ℕ → Option Cause) (y : List ℕ → Y) (i : List ℕ) (x : Y) (rest : List ℕ) → (part Truncated n i >>= λ p. tried (f p.0) p.1 >>= λ _. Passes (y p.0) p.1) ≡ Passes x rest → HeaderPart n f y i x rest
 header_passes n f y i x rest h =
-    let b = both_pass (part n i) (λ p. tried (f p.0) p.1 >>= λ _. Passes (y p.0) p.1) x rest h in
-    let p = part_passes n i b.x b.mid b.first in
+    let b = both_pass (part Truncated n i) (λ p. tried (f p.0) p.1 >>= λ _. Passes (y p.0) p.1) x rest h in
+    let p = part_passes Truncated n i b.x b.mid b.first in
     let t = both_pass (tried (f b.x) b.mid) (λ _. Passes (y b.x) b.mid) x rest b.second in
     let e = same_passes _ _ _ _ t.second in
     record { bytes = b.x; whole = p.0 ∙ ap (λ l. b.x ++ l) e.1; size = p.1; fine = (tried_passes (f b.x) b.mid t.mid t.x t.first).0; value = e.0 }
 
-record AtPlace {X : Type 0} (j : Judged X) (v : X → List ℕ → Verdict) (o : Opening) (records : List StreamRecord) (rest : List ℕ) : Type 0 where
+record AtPlace {X : Type 0} (j : Judged Cause X) (v : X → List ℕ → Verdict) (o : Opening) (records : List StreamRecord) (rest : List ℕ) : Type 0 where
   x : X
   mid : List ℕ
   first : j ≡ Passes x mid
   second : v x mid ≡ Accepts o records rest
 
-at_place_accepts : {X : Type 0} (place : Place) (j : Judged X) (v : X → List ℕ → Verdict) (o : Opening) (records : List StreamRecord) (rest : List ℕ) → at_place place j v ≡ Accepts o records rest → AtPlace j v o records rest
+at_place_accepts : {X : Type 0} (place : Place) (j : Judged Cause X) (v : X → List ℕ → Verdict) (o : Opening) (records : List StreamRecord) (rest : List ℕ) → at_place place j v ≡ Accepts o records rest → AtPlace j v o records rest
 at_place_accepts place (Passes x mid) v o records rest h = record { x = x; mid = mid; first = refl; second = h }
 at_place_accepts place (Faulty c mid) v o records rest h = let no : ◌≡◌ {A = Verdict} (Refuses place c mid) (Accepts o records rest) = h in absurd (wrong no)
   where

@@ -2,8 +2,11 @@
 use Rattle.std.proofs.Common.{◌≡◌, ℕ, List, [], Bool, true, false, nat_eq, Option, Some, None, refl, ap, sym, ◌∙◌}
 use Rattle.mig_bytes.specs.Bytes.{padding_len}
 use Rattle.mig_bytes.specs.Fields.{le32}
+use Rattle.mig_bytes.specs.Judged.{Judged, ◌>>=◌, part, tried}
+use Rattle.mig_bytes.specs.Judged.Judged.{Passes, Faulty}
+use Rattle.mig_bytes.proofs.Joins.{part_whole}
 use Rattle.mig_headers.specs.declared.fault.Cause.{Cause}
-use Rattle.mig_headers.specs.declared.fault.Cause.TheVariants.{BadLength}
+use Rattle.mig_headers.specs.declared.fault.Cause.TheVariants.{BadLength, Truncated}
 use Rattle.mig_headers.specs.declared.kind.Kind.{Kind}
 use Rattle.std.proofs.lemmas.Bool.{eqb-true}
 use Rattle.mig_records.specs.Faults.{fault_of_length}
@@ -13,19 +16,16 @@ use Rattle.mig_guest.specs.Guests.{GuestOf}
 use Rattle.mig_records.specs.declared.head.RecordHead.{RecordHead}
 use Rattle.mig_records.specs.Heads.{head_in}
 use Rattle.mig_restore.specs.Mean.{mean}
-use Rattle.mig_restore.specs.Judged.{Judged, ◌>>=◌, part, tried}
-use Rattle.mig_restore.specs.Judged.Judged.{Passes, Faulty}
 use Rattle.mig_restore.specs.Record.{StreamRecord, Content, types_of}
-use Rattle.mig_restore.proofs.Joins.{part_whole}
 use Rattle.mig_restore.specs.Judging.{Opening, record_at, head_at, body_at, fault_at_end}
 
-unfoldable pub behind_body : List ℕ → Content × List ℕ → Judged StreamRecord
-behind_body head body = part (padding_len (le32 head 4)) body.1 >>= λ padding. Passes (record { type = le32 head 0; content = body.0 }) padding.1
+unfoldable pub behind_body : List ℕ → Content × List ℕ → Judged Cause StreamRecord
+behind_body head body = part Truncated (padding_len (le32 head 4)) body.1 >>= λ padding. Passes (record { type = le32 head 0; content = body.0 }) padding.1
 
-unfoldable pub behind_guest : Kind → List ℕ → List ℕ → Judged StreamRecord
+unfoldable pub behind_guest : Kind → List ℕ → List ℕ → Judged Cause StreamRecord
 behind_guest kind head rest = body_at kind (le32 head 0) (le32 head 4) rest >>= behind_body head
 
-unfoldable pub behind_head : Kind → GuestOf → List ℕ × List ℕ → Judged StreamRecord
+unfoldable pub behind_head : Kind → GuestOf → List ℕ × List ℕ → Judged Cause StreamRecord
 behind_head kind g head = tried (fault_at_end (le32 head.0 0) g) head.1 >>= λ _. behind_guest kind head.0 head.1
 
 pub begins : (o : Opening) (records : List StreamRecord) (i : List ℕ) → record_at o records i ≡ (head_at o (types_of records) i >>= behind_head o.kind (mean o.kind records))
@@ -50,7 +50,7 @@ stops_behind head h k g g' c is same fault i =
     let some : fault_at_end (le32 head 0) g ≡ Some c = ap (λ n. fault_at_end n g) (sym kind_is) ∙ ap (fault_at_end h.kind) (sym same) ∙ fault in
     rw some refl
 
-pub padded : (head : List ℕ) (h : RecordHead) (c : Content) → h ≡ head_in head → (i : List ℕ) → behind_body head (c, i) ≡ (part (padding_len h.len) i >>= λ padding. Passes (record { type = h.kind; content = c }) padding.1)
+pub padded : (head : List ℕ) (h : RecordHead) (c : Content) → h ≡ head_in head → (i : List ℕ) → behind_body head (c, i) ≡ (part Truncated (padding_len h.len) i >>= λ padding. Passes (record { type = h.kind; content = c }) padding.1)
 unfolding behind_body
 padded head h c is i = rw (ap (λ (x : RecordHead). x.kind) is, ap (λ (x : RecordHead). x.len) is) refl
 
@@ -76,7 +76,7 @@ no_body type len zero allowed = zero_len (nat_eq len 0) refl (ap (λ t. fault_of
 pub whole_faulty : (head : List ℕ) (h : RecordHead) (k : Kind) (g g' : GuestOf) (c : Cause) → h ≡ head_in head → g' ≡ g → h.kind ≡ 0 → Some c ≡ fault_of_guest g' → (i : List ℕ) → behind_head k g (head, i) ≡ Faulty c i
 whole_faulty head h k g g' c is same zero fault i = stops_behind head h k g g' c is same (rw zero (sym fault)) i
 
-abbrev made : ℕ → List ℕ × List ℕ → Judged StreamRecord
+abbrev made : ℕ → List ℕ × List ℕ → Judged Cause StreamRecord
 made type padding = Passes (record { type = type; content = Nothing }) padding.1
 
 -- the record that ends the image: it has no body
@@ -88,6 +88,6 @@ ends_behind head h k g g' is same zero allowed fine i =
     goes_on_behind head h k k g g' is refl same none i
     ∙ ap (λ t. body_at k t h.len i >>= behind_body head) zero
     ∙ padded head h Nothing is i
-    ∙ ap (λ n. part (padding_len n) i >>= made h.kind) empty
-    ∙ ap (λ j. j >>= made h.kind) (part_whole 0 [] i refl)
+    ∙ ap (λ n. part Truncated (padding_len n) i >>= made h.kind) empty
+    ∙ ap (λ j. j >>= made h.kind) (part_whole Truncated 0 [] i refl)
     ∙ ap (λ t. made t ([], i)) zero

@@ -3,6 +3,8 @@ use Rattle.std.specs.Prelude.{ℕ, ◌*◌, ◌^◌, List, [], ◌∷◌, ◌++�
 use Rattle.std.specs.Option.{option_or}
 use Rattle.mig_bytes.specs.Bytes.{padding_len}
 use Rattle.mig_bytes.specs.Fields.{le32}
+use Rattle.mig_bytes.specs.Judged.{Judged, ◌>>=◌, part, tried, each}
+use Rattle.mig_bytes.specs.Judged.Judged.{Passes}
 use Rattle.mig_headers.specs.Contexts.{scan}
 use Rattle.mig_headers.specs.RecordTypes.{row_of, pv, type_of_number, is_optional}
 use Rattle.mig_headers.specs.Rows.{first_fault}
@@ -11,7 +13,7 @@ use Rattle.mig_headers.specs.declared.record_type.RecordType.{RecordType}
 use Rattle.mig_headers.specs.declared.record_type.RecordType.TheVariants.{PageData, X86TscInfo, HvmContext, HvmParams, X86CpuidPolicy, X86MsrPolicy}
 use Rattle.mig_headers.specs.declared.fault.ContextFault.{ContextFault}
 use Rattle.mig_headers.specs.declared.fault.Cause.{Cause}
-use Rattle.mig_headers.specs.declared.fault.Cause.TheVariants.{NotBuilt, BadContext, BadLength, TooManyRecords}
+use Rattle.mig_headers.specs.declared.fault.Cause.TheVariants.{NotBuilt, BadContext, BadLength, TooManyRecords, Truncated}
 use Rattle.mig_pagetypes.specs.declared.page_type.PageType.{PageType}
 use Rattle.mig_pagetypes.specs.declared.page_type.PageType.TheVariants.{Xtab}
 use Rattle.mig_pagetypes.specs.PageTypes.{type_of}
@@ -25,8 +27,6 @@ use Rattle.mig_hvm.specs.Params.{fault_of_params, params_in}
 use Rattle.mig_policy.specs.Policies.{leaves_in, msrs_in, tsc_in}
 use Rattle.mig_pvtables.specs.Whole.{fault_of_guest}
 use Rattle.mig_restore.specs.Mean.{mean}
-use Rattle.mig_restore.specs.Judged.{Judged, ◌>>=◌, part, tried, each}
-use Rattle.mig_restore.specs.Judged.Judged.{Passes}
 use Rattle.mig_restore.specs.Record.{Entry, StreamRecord, Content, types_of}
 use Rattle.mig_restore.specs.Record.Content.{Nothing, Frames, Parts, Policy}
 
@@ -65,9 +65,9 @@ fault_of_fields o types type len =
 abbrev pub fault_of_head : Opening → List ℕ → List ℕ → Option Cause
 fault_of_head o types head = fault_of_fields o types (le32 head 0) (le32 head 4)
 
-abbrev pub head_at : Opening → List ℕ → List ℕ → Judged (List ℕ)
+abbrev pub head_at : Opening → List ℕ → List ℕ → Judged Cause (List ℕ)
 head_at o types input = do
-  head ← part 8 input
+  head ← part Truncated 8 input
   _ ← tried (fault_of_head o types head.0) head.1
   Passes head.0 head.1
 
@@ -82,22 +82,22 @@ abbrev pub cut : Result ℕ ContextFault → List ℕ → List ℕ
 cut (Ok o) body = take o body ++ replicate 8 0
 cut (Err f) body = []
 
-abbrev pub context_at : ℕ → List ℕ → Judged Content
+abbrev pub context_at : ℕ → List ℕ → Judged Cause Content
 context_at len input = do
-  body ← part len input
+  body ← part Truncated len input
   _ ← tried (fault_of_scan (scan body.0)) body.1
   Passes (Parts ((context_key, cut (scan body.0) body.0) ∷ [])) body.1
 
-abbrev pub params_at : ℕ → List ℕ → Judged Content
+abbrev pub params_at : ℕ → List ℕ → Judged Cause Content
 params_at len input = do
-  body ← part len input
+  body ← part Truncated len input
   _ ← tried (fault_of_params body.0) body.1
   Passes (Parts (params_in body.0)) body.1
 
 -- a body without a cause, of which this is said
-abbrev pub plain_at : (List ℕ → Content) → ℕ → List ℕ → Judged Content
+abbrev pub plain_at : (List ℕ → Content) → ℕ → List ℕ → Judged Cause Content
 plain_at says len input = do
-  body ← part len input
+  body ← part Truncated len input
   Passes (says body.0) body.1
 
 abbrev pub tsc_says : List ℕ → Content
@@ -122,31 +122,31 @@ kind_in w = type_or_none (type_of (word_type w))
 abbrev pub fault_of_data : ℕ → List ℕ → Option Cause
 fault_of_data len ws = first_fault ((not (len == data_len_of ws), BadLength len) ∷ [])
 
-abbrev pub words_at : ℕ → List ℕ → Judged (List ℕ)
+abbrev pub words_at : ℕ → List ℕ → Judged Cause (List ℕ)
 words_at n input = do
-  bytes ← part (8 * n) input
+  bytes ← part Truncated (8 * n) input
   Passes (words n bytes.0) bytes.1
 
-abbrev pub page_at : ℕ → List ℕ → Judged (Option (List ℕ))
+abbrev pub page_at : ℕ → List ℕ → Judged Cause (Option (List ℕ))
 page_at w input = if word_has_data w then (do
-  page ← part 4096 input
+  page ← part Truncated 4096 input
   Passes (Some page.0) page.1) else Passes None input
 
-abbrev pub entry_at : ℕ → List ℕ → Judged Entry
+abbrev pub entry_at : ℕ → List ℕ → Judged Cause Entry
 entry_at w input = do
   page ← page_at w input
   Passes (record { pfn = word_pfn w; kind = kind_in w; page = page.0 }) page.1
 
-abbrev pub entries_at : Kind → ℕ → List ℕ → Judged (List Entry)
+abbrev pub entries_at : Kind → ℕ → List ℕ → Judged Cause (List Entry)
 entries_at kind len input = do
-  front ← part 8 input
+  front ← part Truncated 8 input
   _ ← tried (fault_of_count len (le32 front.0 0)) front.1
   ws ← words_at (le32 front.0 0) front.1
   _ ← tried (fault_of_words kind 0 ws.0) ws.1
   _ ← tried (fault_of_data len ws.0) ws.1
   each entry_at ws.0 ws.1
 
-abbrev pub pages_at : Kind → ℕ → List ℕ → Judged Content
+abbrev pub pages_at : Kind → ℕ → List ℕ → Judged Cause Content
 pages_at kind len input = do
   entries ← entries_at kind len input
   Passes (Frames entries.0) entries.1
@@ -154,7 +154,7 @@ pages_at kind len input = do
 -- ---- a record
 
 -- a body of this type; the records that only mark a place have none
-abbrev pub typed_at : Kind → Option RecordType → ℕ → List ℕ → Judged Content
+abbrev pub typed_at : Kind → Option RecordType → ℕ → List ℕ → Judged Cause Content
 typed_at kind (Some PageData) len input = pages_at kind len input
 typed_at kind (Some X86TscInfo) len input = plain_at tsc_says len input
 typed_at kind (Some HvmContext) len input = context_at len input
@@ -164,7 +164,7 @@ typed_at kind (Some X86MsrPolicy) len input = plain_at msrs_say len input
 typed_at kind _ len input = Passes Nothing input
 
 -- an optional record says nothing, whatever its body
-abbrev pub body_at : Kind → ℕ → ℕ → List ℕ → Judged Content
+abbrev pub body_at : Kind → ℕ → ℕ → List ℕ → Judged Cause Content
 body_at kind type len input = if is_optional type then plain_at (λ _. Nothing) len input else typed_at kind (type_of_number type) len input
 
 -- at END, the whole guest
@@ -172,10 +172,10 @@ abbrev pub fault_at_end : ℕ → GuestOf → Option Cause
 fault_at_end type g = if type == 0 then fault_of_guest g else None
 
 -- a record behind these records
-unfoldable pub record_at : Opening → List StreamRecord → List ℕ → Judged StreamRecord
+unfoldable pub record_at : Opening → List StreamRecord → List ℕ → Judged Cause StreamRecord
 record_at o records input = do
   head ← head_at o (types_of records) input
   _ ← tried (fault_at_end (le32 head.0 0) (mean o.kind records)) head.1
   body ← body_at o.kind (le32 head.0 0) (le32 head.0 4) head.1
-  padding ← part (padding_len (le32 head.0 4)) body.1
+  padding ← part Truncated (padding_len (le32 head.0 4)) body.1
   Passes (record { type = le32 head.0 0; content = body.0 }) padding.1

@@ -1,5 +1,4 @@
 pub mod Answer
-pub mod Judged
 pub mod Judging
 pub mod Mean
 pub mod Record

@@ -2,13 +2,14 @@
 use Rattle.std.specs.Prelude.{◌≡◌, ℕ, List, [], ◌∷◌, ◌++◌, length, Option, Some, None, Result, Ok, Err, ⊤, if◌then◌else◌}
 use Rattle.mig_bytes.specs.Fields.{le32, be32}
 use Rattle.mig_bytes.specs.Walk.{walk_end}
+use Rattle.mig_bytes.specs.Judged.{Judged, ◌>>=◌, part, tried}
+use Rattle.mig_bytes.specs.Judged.Judged.{Passes, Faulty}
 use Rattle.mig_headers.specs.Headers.{fault_of_marker, fault_of_image, fault_of_domain, kind_of_number}
 use Rattle.mig_headers.specs.declared.kind.Kind.{Kind}
 use Rattle.mig_headers.specs.declared.fault.Cause.{Cause}
+use Rattle.mig_headers.specs.declared.fault.Cause.TheVariants.{Truncated}
 use Rattle.mig_headers.specs.declared.fault.Place.{Place}
 use Rattle.mig_headers.specs.declared.fault.Place.TheVariants.{ImageHeader, DomainHeader, Record}
-use Rattle.mig_restore.specs.Judged.{Judged, ◌>>=◌, part, tried}
-use Rattle.mig_restore.specs.Judged.Judged.{Passes, Faulty}
 use Rattle.mig_restore.specs.Record.{StreamRecord, is_ended}
 use Rattle.mig_restore.specs.Judging.{Opening, opening_of, record_at}
 use Rattle.mig_restore.specs.Mean.{mean}
@@ -21,7 +22,7 @@ pub record Front : Type 0 where
   pub records : List StreamRecord
   pub rest : List ℕ
 
-abbrev pub front_with : List StreamRecord → Judged StreamRecord → Option Front
+abbrev pub front_with : List StreamRecord → Judged Cause StreamRecord → Option Front
 front_with records (Passes r rest) = Some (record { records = records ++ r ∷ []; rest = rest })
 front_with records (Faulty c rest) = None
 
@@ -42,34 +43,34 @@ pub data Verdict : Type 0 where
   Accepts : Opening → List StreamRecord → List ℕ → Verdict
   Refuses : Place → Cause → List ℕ → Verdict
 
-abbrev pub verdict_with : Opening → List StreamRecord → List ℕ → Judged StreamRecord → Verdict
+abbrev pub verdict_with : Opening → List StreamRecord → List ℕ → Judged Cause StreamRecord → Verdict
 verdict_with o records rest (Passes r after) = Accepts o records rest
 verdict_with o records rest (Faulty c after) = Refuses (Record (length records)) c after
 
 unfoldable pub verdict_of_front : Opening → Front → Verdict
 verdict_of_front o f = if is_ended f.records then Accepts o f.records f.rest else verdict_with o f.records f.rest (record_at o f.records f.rest)
 
-abbrev pub marker_at : List ℕ → Judged (List ℕ)
+abbrev pub marker_at : List ℕ → Judged Cause (List ℕ)
 marker_at input = do
-  marker ← part 8 input
+  marker ← part Truncated 8 input
   _ ← tried (fault_of_marker marker.0) marker.1
   Passes marker.0 marker.1
 
 -- the image header behind its marker: the version
-abbrev pub version_at : List ℕ → Judged ℕ
+abbrev pub version_at : List ℕ → Judged Cause ℕ
 version_at input = do
-  header ← part 16 input
+  header ← part Truncated 16 input
   _ ← tried (fault_of_image header.0) header.1
   Passes (be32 header.0 4) header.1
 
 -- the domain header: the kind of guest
-abbrev pub kind_at : List ℕ → Judged Kind
+abbrev pub kind_at : List ℕ → Judged Cause Kind
 kind_at input = do
-  header ← part 16 input
+  header ← part Truncated 16 input
   _ ← tried (fault_of_domain header.0) header.1
   Passes (kind_of_number (le32 header.0 0)) header.1
 
-abbrev pub at_place : {X : Type 0} → Place → Judged X → (X → List ℕ → Verdict) → Verdict
+abbrev pub at_place : {X : Type 0} → Place → Judged Cause X → (X → List ℕ → Verdict) → Verdict
 at_place place (Passes x rest) next = next x rest
 at_place place (Faulty c rest) next = Refuses place c rest
 

@@ -1,20 +1,19 @@
 ghost use Rattle.std.specs.Prelude.{◌≡◌, ◌≤◌, ◌^◌, ◌*◌, IfOk, OnOk, IsErrOf, length, vec_len, true, None, Some, ◌%◌};
 ghost use Rattle.std.specs.List.{All};
 ghost use Rattle.mig_bytes.specs.Faults.{Rose};
+ghost use Rattle.mig_bytes.specs.Judged.{Gives, each};
+ghost use Rattle.mig_bytes.specs.declared.part.Stop.TheVariants.{ReadFault};
 ghost use Rattle.mig_headers.specs.RecordTypes.{row_of};
 ghost use Rattle.mig_records.specs.Faults.{fault_of_length};
 ghost use Rattle.mig_records.specs.Words.{words as words_in};
 ghost use Rattle.mig_pagetypes.specs.FrameWords.{word_pfn};
-ghost use Rattle.mig_restore.specs.Judged.{Gives, part, each};
 ghost use Rattle.mig_restore.specs.Mean.{meant_type, put_entry, put_entries, put_content};
 ghost use Rattle.mig_restore.specs.Judging.{context_at, params_at, plain_at, tsc_says, leaves_say, msrs_say, words_at, kind_in, entry_at, pages_at, typed_at, body_at};
 ghost use Rattle.mig_restore.specs.Record.Content.{Nothing};
 ghost use Rattle.mig_restore.specs.SoFar.{Grows};
 ghost use Rattle.mig_restore.specs.Spelled.{IsGoodWord};
-ghost use Rattle.mig_restore.specs.declared.part.Stop.TheVariants.{ReadFault};
 
-use crate::part::{Stop, take_long, take_part};
-use mig_bytes::{ReadFailed, Source, skip, u32_le, u64_le};
+use mig_bytes::{ReadFailed, Source, Stop, skip, take_long, take_part, u32_le, u64_le};
 use mig_guest::Guest;
 use mig_headers::{Cause, Kind, RecordType, is_optional};
 use mig_hvm::{params_fault, read_context, read_params, scan_context};
@@ -31,14 +30,14 @@ fn take_context<S: Source>(
     src: &mut S,
     len: u32,
     guest: &mut Guest,
-) -> Result<(), Stop>
+) -> Result<(), Stop<Cause>>
     requires { len ≤ 2 ^ 27 }
     ensures read { Gives (λ _ c. guest.new ≡ put_content guest.old c) (S.left src.old) (S.left src.new) (context_at len) result }
     ensures grown { OnOk result (Grows guest.old guest.new) }
     ensures later { S.faults src.old ≤ S.faults src.new }
     ensures cause { IsErrOf result ReadFault → Rose (S.faults src.old) (S.faults src.new) }
 {
-    let body = take_long(alloc, src, len)?;
+    let body = take_long(alloc, src, len, Cause::Truncated)?;
     if let Err(fault) = scan_context(&body) {
         return Err(Stop::Refused(Cause::BadContext(fault)));
     }
@@ -54,14 +53,14 @@ fn take_params<S: Source>(
     src: &mut S,
     len: u32,
     guest: &mut Guest,
-) -> Result<(), Stop>
+) -> Result<(), Stop<Cause>>
     requires { 8 ≤ len }
     ensures read { Gives (λ _ c. guest.new ≡ put_content guest.old c) (S.left src.old) (S.left src.new) (params_at len) result }
     ensures grown { OnOk result (Grows guest.old guest.new) }
     ensures later { S.faults src.old ≤ S.faults src.new }
     ensures cause { IsErrOf result ReadFault → Rose (S.faults src.old) (S.faults src.new) }
 {
-    let body = take_long(alloc, src, len)?;
+    let body = take_long(alloc, src, len, Cause::Truncated)?;
     if let Some(cause) = params_fault(&body) {
         return Err(Stop::Refused(cause));
     }
@@ -72,14 +71,14 @@ fn take_params<S: Source>(
 }
 
 /// Takes the TSC.
-fn take_tsc<S: Source>(src: &mut S, guest: &mut Guest) -> Result<(), Stop>
+fn take_tsc<S: Source>(src: &mut S, guest: &mut Guest) -> Result<(), Stop<Cause>>
     ensures read { Gives (λ _ c. guest.new ≡ put_content guest.old c) (S.left src.old) (S.left src.new) (plain_at tsc_says 24) result }
     ensures grown { OnOk result (Grows guest.old guest.new) }
     ensures later { S.faults src.old ≤ S.faults src.new }
     ensures cause { IsErrOf result ReadFault → Rose (S.faults src.old) (S.faults src.new) }
 {
     let mut body = [0; 24];
-    take_part(src, &mut body)?;
+    take_part(src, &mut body, Cause::Truncated)?;
     match read_tsc(guest, &body) {
         Ok(()) => Ok(()),
         Err(_) => Err(Stop::Memory),
@@ -92,7 +91,7 @@ fn take_cpuid<S: Source>(
     src: &mut S,
     len: u32,
     guest: &mut Guest,
-) -> Result<(), Stop>
+) -> Result<(), Stop<Cause>>
     requires whole { len % 24 ≡ 0 }
     requires few { len ≤ 24 * 65536 }
     ensures read { Gives (λ _ c. guest.new ≡ put_content guest.old c) (S.left src.old) (S.left src.new) (plain_at leaves_say len) result }
@@ -100,7 +99,7 @@ fn take_cpuid<S: Source>(
     ensures later { S.faults src.old ≤ S.faults src.new }
     ensures cause { IsErrOf result ReadFault → Rose (S.faults src.old) (S.faults src.new) }
 {
-    let body = take_long(alloc, src, len)?;
+    let body = take_long(alloc, src, len, Cause::Truncated)?;
     match read_cpuid(guest, &body) {
         Ok(()) => Ok(()),
         Err(_) => Err(Stop::Memory),
@@ -108,7 +107,12 @@ fn take_cpuid<S: Source>(
 }
 
 /// Takes an MSR policy.
-fn take_msr<S: Source>(alloc: Global, src: &mut S, len: u32, guest: &mut Guest) -> Result<(), Stop>
+fn take_msr<S: Source>(
+    alloc: Global,
+    src: &mut S,
+    len: u32,
+    guest: &mut Guest,
+) -> Result<(), Stop<Cause>>
     requires whole { len % 16 ≡ 0 }
     requires few { len ≤ 16 * 65536 }
     ensures read { Gives (λ _ c. guest.new ≡ put_content guest.old c) (S.left src.old) (S.left src.new) (plain_at msrs_say len) result }
@@ -116,7 +120,7 @@ fn take_msr<S: Source>(alloc: Global, src: &mut S, len: u32, guest: &mut Guest) 
     ensures later { S.faults src.old ≤ S.faults src.new }
     ensures cause { IsErrOf result ReadFault → Rose (S.faults src.old) (S.faults src.new) }
 {
-    let body = take_long(alloc, src, len)?;
+    let body = take_long(alloc, src, len, Cause::Truncated)?;
     match read_msr(guest, &body) {
         Ok(()) => Ok(()),
         Err(_) => Err(Stop::Memory),
@@ -124,7 +128,7 @@ fn take_msr<S: Source>(alloc: Global, src: &mut S, len: u32, guest: &mut Guest) 
 }
 
 /// Takes the body of an optional record, and keeps nothing of it.
-fn skip_body<S: Source>(src: &mut S, len: u32) -> Result<(), Stop>
+fn skip_body<S: Source>(src: &mut S, len: u32) -> Result<(), Stop<Cause>>
     ensures read { Gives (λ _ c. c ≡ Nothing) (S.left src.old) (S.left src.new) (plain_at (λ _. Nothing) len) result }
     ensures later { S.faults src.old ≤ S.faults src.new }
     ensures cause { IsErrOf result ReadFault → Rose (S.faults src.old) (S.faults src.new) }
@@ -152,14 +156,14 @@ fn words_of(alloc: Global, bytes: &[u8], count: usize) -> Result<Vec<u64>, Alloc
 }
 
 /// Takes so many words.
-fn take_words<S: Source>(alloc: Global, src: &mut S, count: u32) -> Result<Vec<u64>, Stop>
+fn take_words<S: Source>(alloc: Global, src: &mut S, count: u32) -> Result<Vec<u64>, Stop<Cause>>
     requires { 8 * count ≤ 2 ^ 27 }
     ensures read { Gives (λ v list. list ≡ v.items) (S.left src.old) (S.left src.new) (words_at count) result }
     ensures len { IfOk result (λ v. vec_len v ≡ count) }
     ensures later { S.faults src.old ≤ S.faults src.new }
     ensures cause { IsErrOf result ReadFault → Rose (S.faults src.old) (S.faults src.new) }
 {
-    let bytes = take_long(alloc, src, 8 * count)?;
+    let bytes = take_long(alloc, src, 8 * count, Cause::Truncated)?;
     match words_of(alloc, &bytes, count as usize) {
         Ok(list) => Ok(list),
         Err(_) => Err(Stop::Memory),
@@ -200,7 +204,7 @@ fn meant(kind: Kind, in_stream: PageType) -> PageType
 }
 
 /// Takes the page that goes with a word, where its type has data, and sets the frame.
-fn take_entry<S: Source>(src: &mut S, word: u64, guest: &mut Guest) -> Result<(), Stop>
+fn take_entry<S: Source>(src: &mut S, word: u64, guest: &mut Guest) -> Result<(), Stop<Cause>>
     requires { IsGoodWord guest.old.kind word }
     ensures read { Gives (λ _ e. guest.new ≡ record guest.old { frames = put_entry guest.old.kind guest.old.frames e })
         (S.left src.old) (S.left src.new) (entry_at word) result }
@@ -217,7 +221,7 @@ fn take_entry<S: Source>(src: &mut S, word: u64, guest: &mut Guest) -> Result<()
         };
     }
     let mut page = [0; 4096];
-    take_part(src, &mut page)?;
+    take_part(src, &mut page, Cause::Truncated)?;
     match guest.set_frame(pfn_in(word), kind, Some(&page)) {
         Ok(()) => Ok(()),
         Err(_) => Err(Stop::Memory),
@@ -225,7 +229,7 @@ fn take_entry<S: Source>(src: &mut S, word: u64, guest: &mut Guest) -> Result<()
 }
 
 /// Takes a page for each word that has one.
-fn take_entries<S: Source>(src: &mut S, list: &[u64], guest: &mut Guest) -> Result<(), Stop>
+fn take_entries<S: Source>(src: &mut S, list: &[u64], guest: &mut Guest) -> Result<(), Stop<Cause>>
     requires { All (IsGoodWord guest.old.kind) list.now }
     ensures read { Gives (λ _ es. guest.new ≡ record guest.old { frames = put_entries guest.old.kind guest.old.frames es })
         (S.left src.old) (S.left src.new) (each entry_at list.now) result }
@@ -245,7 +249,7 @@ fn take_pages<S: Source>(
     src: &mut S,
     len: u32,
     guest: &mut Guest,
-) -> Result<(), Stop>
+) -> Result<(), Stop<Cause>>
     requires { len ≤ 2 ^ 27 }
     ensures read { Gives (λ _ c. guest.new ≡ put_content guest.old c) (S.left src.old) (S.left src.new) (pages_at guest.old.kind len) result }
     ensures grown { OnOk result (Grows guest.old guest.new) }
@@ -253,7 +257,7 @@ fn take_pages<S: Source>(
     ensures cause { IsErrOf result ReadFault → Rose (S.faults src.old) (S.faults src.new) }
 {
     let mut front = [0; 8];
-    take_part(src, &mut front)?;
+    take_part(src, &mut front, Cause::Truncated)?;
     let count = u32_le(&front, 0);
     if let Some(cause) = count_fault(len, count) {
         return Err(Stop::Refused(cause));
@@ -277,7 +281,7 @@ fn take_typed<S: Source>(
     this: RecordType,
     len: u32,
     guest: &mut Guest,
-) -> Result<(), Stop>
+) -> Result<(), Stop<Cause>>
     requires small { len ≤ 2 ^ 27 }
     requires allowed { (row_of this).allows len ≡ true }
     ensures read { Gives (λ _ c. guest.new ≡ put_content guest.old c) (S.left src.old) (S.left src.new) (typed_at guest.old.kind (Some this) len) result }
@@ -302,7 +306,7 @@ pub(crate) fn take_body<S: Source>(
     src: &mut S,
     head: RecordHead,
     guest: &mut Guest,
-) -> Result<(), Stop>
+) -> Result<(), Stop<Cause>>
     requires small { head.len ≤ 2 ^ 27 }
     requires allowed { fault_of_length head.kind head.len ≡ None }
     ensures read { Gives (λ _ c. guest.new ≡ put_content guest.old c) (S.left src.old) (S.left src.new) (body_at guest.old.kind head.kind head.len) result }

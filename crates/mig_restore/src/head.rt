@@ -1,15 +1,14 @@
 ghost use Rattle.std.specs.Prelude.{◌≡◌, ◌≤◌, ◌<◌, ◌^◌, ◌∷◌, [], ◌++◌, List, ℕ, ◌+◌, length, true, IfNone, IfOk, OnOk, IfNone as OnNone, None, IsErrOf};
 ghost use Rattle.mig_bytes.specs.Faults.{Rose};
+ghost use Rattle.mig_bytes.specs.Judged.{Gives};
+ghost use Rattle.mig_bytes.specs.declared.part.Stop.TheVariants.{ReadFault};
 ghost use Rattle.mig_headers.specs.Headers.{unless_faulty};
 ghost use Rattle.mig_headers.specs.RecordTypes.{type_of_number};
 ghost use Rattle.mig_records.specs.Faults.{fault_of_length};
 ghost use Rattle.mig_records.specs.Heads.{head_in};
-ghost use Rattle.mig_restore.specs.Judged.{Gives};
 ghost use Rattle.mig_restore.specs.Judging.{Opening, opening_of, is_supported_type, is_built, fault_of_built, fault_of_number, fault_of_fields, head_at};
-ghost use Rattle.mig_restore.specs.declared.part.Stop.TheVariants.{ReadFault};
 
-use crate::part::{Stop, take_part};
-use mig_bytes::Source;
+use mig_bytes::{Source, Stop, take_part};
 use mig_headers::{Cause, Kind, RecordType};
 use mig_order::Gate;
 use mig_records::{RecordHead, length_fault, long_fault};
@@ -107,7 +106,7 @@ impl Seen {
     }
 
     /// Takes the next record's head.
-    pub(crate) fn read_head<S: Source>(&mut self, src: &mut S) -> Result<RecordHead, Stop>
+    pub(crate) fn read_head<S: Source>(&mut self, src: &mut S) -> Result<RecordHead, Stop<Cause>>
         ensures read { (o : Opening) (types : List ℕ) → IsSeen self.old o types →
             Gives (λ h head. h ≡ head_in head) (S.left src.old) (S.left src.new) (head_at o types) result }
         ensures seen { IfOk result (λ h. (o : Opening) (types : List ℕ) → IsSeen self.old o types → IsSeen self.new o (types ++ h.kind ∷ [])) }
@@ -120,7 +119,7 @@ impl Seen {
         ensures cause { IsErrOf result ReadFault → Rose (S.faults src.old) (S.faults src.new) }
     {
         let mut bytes = [0; 8];
-        take_part(src, &mut bytes)?;
+        take_part(src, &mut bytes, Cause::Truncated)?;
         let head = RecordHead::decode(&bytes);
         match self.judge(head) {
             Ok(()) => Ok(head),

@@ -1,22 +1,23 @@
 ghost use Rattle.std.specs.Prelude.{◌≡◌, ◌≤◌, ◌<◌, ◌+◌, ◌^◌, ◌==◌, ◌∷◌, [], ◌++◌, List, ⊤, true, None, IfOk, IfNone, OnOk, IsErrOf};
 ghost use Rattle.mig_bytes.specs.Bytes.{padding_len};
 ghost use Rattle.mig_bytes.specs.Faults.{Rose};
+ghost use Rattle.mig_bytes.specs.Judged.{Gives, part};
+ghost use Rattle.mig_bytes.specs.declared.part.Stop.TheVariants.{ReadFault};
+ghost use Rattle.mig_headers.specs.declared.fault.Cause.TheVariants.{Truncated};
 ghost use Rattle.mig_headers.specs.declared.kind.Kind.TheVariants.{Hvm};
 ghost use Rattle.mig_guest.specs.Frames.{IsSized};
 ghost use Rattle.mig_pvtables.specs.Whole.{IsWhole, fault_of_guest};
-ghost use Rattle.mig_restore.specs.Judged.{Gives, part};
 ghost use Rattle.mig_restore.specs.Mean.{mean, put_record};
 ghost use Rattle.mig_restore.specs.Record.{StreamRecord, types_of};
 ghost use Rattle.mig_restore.specs.Judging.{Opening, opening_of, record_at};
 ghost use Rattle.mig_restore.specs.Seen.{IsSeen};
 ghost use Rattle.mig_restore.specs.SoFar.{Grows};
 ghost use Rattle.mig_restore.specs.Stream.{ReadsAs, of_records, verdict, marker_at, version_at, kind_at};
-ghost use Rattle.mig_restore.specs.declared.part.Stop.TheVariants.{ReadFault};
 
 use crate::body::take_body;
 use crate::head::Seen;
-use crate::part::{Stop, StreamAnswer, placed, take_part};
-use mig_bytes::{Source, pad_len};
+use crate::part::{StreamAnswer, placed};
+use mig_bytes::{Source, Stop, pad_len, take_part};
 use mig_guest::{Guest, PartKey};
 use mig_headers::{Cause, DomainHeader, ImageHeader, Kind, Place};
 use std::alloc::Global;
@@ -38,13 +39,13 @@ pub struct Reading {
 }
 
 /// Takes the bytes behind a body that make its length a multiple of 8.
-fn read_padding<S: Source>(src: &mut S, len: u32) -> Result<(), Stop>
-    ensures read { Gives (λ _ _. ⊤) (S.left src.old) (S.left src.new) (part (padding_len len)) result }
+fn read_padding<S: Source>(src: &mut S, len: u32) -> Result<(), Stop<Cause>>
+    ensures read { Gives (λ _ _. ⊤) (S.left src.old) (S.left src.new) (part Truncated (padding_len len)) result }
     ensures later { S.faults src.old ≤ S.faults src.new }
     ensures cause { IsErrOf result ReadFault → Rose (S.faults src.old) (S.faults src.new) }
 {
     let mut padding = [0; 8];
-    take_part(src, &mut padding[..pad_len(len)])
+    take_part(src, &mut padding[..pad_len(len)], Cause::Truncated)
 }
 
 /// What is wrong with the whole guest, at the record that ends the image.
@@ -72,7 +73,7 @@ pub(crate) fn read_record<S: Source>(
     src: &mut S,
     seen: &mut Seen,
     guest: &mut Guest,
-) -> Result<bool, Stop>
+) -> Result<bool, Stop<Cause>>
     ensures read { (o : Opening) (records : List StreamRecord) → IsSeen seen.old o (types_of records) → guest.old ≡ mean o.kind records →
         Gives (λ over r. (guest.new ≡ put_record guest.old r) × IsSeen seen.new o (types_of (records ++ r ∷ [])) × (over ≡ (r.type == 0)))
         (S.left src.old) (S.left src.new) (record_at o records) result }
@@ -128,13 +129,13 @@ fn read_records<S: Source>(
 }
 
 /// Takes the marker.
-fn read_marker<S: Source>(src: &mut S) -> Result<(), Stop>
+fn read_marker<S: Source>(src: &mut S) -> Result<(), Stop<Cause>>
     ensures read { Gives (λ _ _. ⊤) (S.left src.old) (S.left src.new) marker_at result }
     ensures later { S.faults src.old ≤ S.faults src.new }
     ensures cause { IsErrOf result ReadFault → Rose (S.faults src.old) (S.faults src.new) }
 {
     let mut marker = [0; 8];
-    take_part(src, &mut marker)?;
+    take_part(src, &mut marker, Cause::Truncated)?;
     match ImageHeader::marker_fault(&marker) {
         None => Ok(()),
         Some(cause) => Err(Stop::Refused(cause)),
@@ -142,13 +143,13 @@ fn read_marker<S: Source>(src: &mut S) -> Result<(), Stop>
 }
 
 /// Takes the image header behind its marker: the version.
-fn read_version<S: Source>(src: &mut S) -> Result<u32, Stop>
+fn read_version<S: Source>(src: &mut S) -> Result<u32, Stop<Cause>>
     ensures read { Gives (λ v version. version ≡ v) (S.left src.old) (S.left src.new) version_at result }
     ensures later { S.faults src.old ≤ S.faults src.new }
     ensures cause { IsErrOf result ReadFault → Rose (S.faults src.old) (S.faults src.new) }
 {
     let mut header = [0; 16];
-    take_part(src, &mut header)?;
+    take_part(src, &mut header, Cause::Truncated)?;
     match ImageHeader::decode(&header) {
         Ok(image) => Ok(image.version),
         Err(cause) => Err(Stop::Refused(cause)),
@@ -156,13 +157,13 @@ fn read_version<S: Source>(src: &mut S) -> Result<u32, Stop>
 }
 
 /// Takes the domain header: the kind of guest.
-fn read_kind<S: Source>(src: &mut S) -> Result<Kind, Stop>
+fn read_kind<S: Source>(src: &mut S) -> Result<Kind, Stop<Cause>>
     ensures read { Gives (λ k kind. kind ≡ k) (S.left src.old) (S.left src.new) kind_at result }
     ensures later { S.faults src.old ≤ S.faults src.new }
     ensures cause { IsErrOf result ReadFault → Rose (S.faults src.old) (S.faults src.new) }
 {
     let mut header = [0; 16];
-    take_part(src, &mut header)?;
+    take_part(src, &mut header, Cause::Truncated)?;
     match DomainHeader::decode(&header) {
         Ok(domain) => Ok(domain.kind),
         Err(cause) => Err(Stop::Refused(cause)),

@@ -1,5 +1,5 @@
 use Rattle.std.proofs.Common.{◌≡◌, ◌≤◌, take, Ok}
-use Rattle.mig_restore.specs.Judged.{Gives, each}
+use Rattle.mig_bytes.specs.Judged.{Gives, each}
 use Rattle.mig_restore.specs.Mean.{put_entries}
 use Rattle.mig_restore.specs.Judging.{entry_at}
 use Rattle.mig_restore.specs.SoFar.{Grows}

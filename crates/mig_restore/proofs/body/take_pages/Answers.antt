@@ -1,6 +1,6 @@
 use Rattle.std.proofs.Common.{◌≡◌, rules, refl, None}
+use Rattle.mig_bytes.specs.Judged.{Gives, each}
 use Rattle.mig_records.specs.Faults.{fault_of_count, fault_of_words}
-use Rattle.mig_restore.specs.Judged.{Gives, each}
 use Rattle.mig_restore.specs.Mean.{put_entries}
 use Rattle.mig_restore.specs.Judging.{fault_of_data, entry_at}
 use Rattle.mig_restore.proofs.Entries.{pages_read}

@@ -1,8 +1,10 @@
 use Rattle.std.proofs.Common.{◌≡◌, ℕ, List, [], ◌∷◌, ◌++◌, true, refl, rules, ap, sym, subst, ◌∙◌}
 use Rattle.std.proofs.lemmas.List.{map-append}
 use Rattle.mig_bytes.specs.Bytes.{padding_len}
-use Rattle.mig_restore.specs.Judged.{part}
-use Rattle.mig_restore.specs.Judged.Judged.{Passes}
+use Rattle.mig_bytes.specs.Judged.{part}
+use Rattle.mig_bytes.specs.Judged.Judged.{Passes}
+use Rattle.mig_bytes.proofs.Joins.{done, mapped, then_reads, stopped, refused}
+use Rattle.mig_headers.specs.declared.fault.Cause.TheVariants.{Truncated}
 use Rattle.mig_restore.specs.Mean.{mean}
 use Rattle.mig_guest.specs.Guests.{GuestOf}
 use Rattle.mig_restore.specs.Record.{StreamRecord, types_of}
@@ -11,7 +13,6 @@ use Rattle.mig_restore.specs.Judging.{Opening, record_at, head_at, body_at}
 use Rattle.mig_restore.specs.Seen.{IsSeen}
 use Rattle.mig_restore.specs.declared.head.Seen.{Seen}
 use Rattle.mig_restore.proofs.Parts.{behind_body, behind_head, begins, ends_behind, goes_on, whole_faulty, padded}
-use Rattle.mig_restore.proofs.Joins.{done, mapped, then_reads, stopped, refused}
 use Rattle.mig_restore.proofs.Meaning.{mean_kind}
 use Rattle.mig_restore.proofs.read.read_record.Goals as goal
 
@@ -48,7 +49,7 @@ returns-in_err-read_padding-clause-read g c = λ o records seen guest.
     then_reads _ _ _ _ _ (head_at o (types_of records)) (record_at o records) (behind_head o.kind (mean o.kind records)) c.in_ok-head.head c.from_residual-in_err-read_padding.result (begins o records) (c.in_ok-head.ensures.read o (types_of records) seen)
     (λ head is. then_reads _ _ _ _ _ (body_at c.args.guest.now.kind c.in_ok-head.head.kind c.in_ok-head.head.len) (λ i. behind_head o.kind (mean o.kind records) (head, i)) (behind_body head) _ c.from_residual-in_err-read_padding.result
     (goes_on head c.in_ok-head.head o.kind (mean o.kind records) c.args.guest.now is guest (guest_kind c.args.guest.now o records guest) (search rules)) c.in_ok-take_body.ensures.read
-    (λ r _. stopped _ _ _ _ (part (padding_len c.in_ok-head.head.len)) (λ i. behind_body head (r, i)) (λ padding. Passes (record { type = c.in_ok-head.head.kind; content = r }) padding.1) c.in_err-read_padding.field-0.0 c.from_residual-in_err-read_padding.result
+    (λ r _. stopped _ _ _ _ (part Truncated (padding_len c.in_ok-head.head.len)) (λ i. behind_body head (r, i)) (λ padding. Passes (record { type = c.in_ok-head.head.kind; content = r }) padding.1) c.in_err-read_padding.field-0.0 c.from_residual-in_err-read_padding.result
     (padded head c.in_ok-head.head r is) (search rules) c.in_err-read_padding.ensures.read))
 
 pub returns-clause-read : goal.returns-clause-read
@@ -56,6 +57,6 @@ returns-clause-read g c = λ o records seen guest.
     then_reads _ _ _ _ _ (head_at o (types_of records)) (record_at o records) (behind_head o.kind (mean o.kind records)) c.in_ok-head.head _ (begins o records) (c.in_ok-head.ensures.read o (types_of records) seen)
     (λ head is. then_reads _ _ _ _ _ (body_at c.args.guest.now.kind c.in_ok-head.head.kind c.in_ok-head.head.len) (λ i. behind_head o.kind (mean o.kind records) (head, i)) (behind_body head) _ _
     (goes_on head c.in_ok-head.head o.kind (mean o.kind records) c.args.guest.now is guest (guest_kind c.args.guest.now o records guest) (search rules)) c.in_ok-take_body.ensures.read
-    (λ r told. mapped _ _ _ _ (part (padding_len c.in_ok-head.head.len)) (λ i. behind_body head (r, i)) (λ _. record { type = c.in_ok-head.head.kind; content = r }) _ _
+    (λ r told. mapped _ _ _ _ (part Truncated (padding_len c.in_ok-head.head.len)) (λ i. behind_body head (r, i)) (λ _. record { type = c.in_ok-head.head.kind; content = r }) _ _
     (padded head c.in_ok-head.head r is) c.in_ok-read_padding.ensures.read
     (λ _ _. (told, seen_more _ o records (record { type = c.in_ok-head.head.kind; content = r }) c.in_ok-head.head.kind refl (c.in_ok-head.ensures.seen o (types_of records) seen), search rules))))
