@@ -13,8 +13,6 @@
 mod fault;
 mod header;
 mod image_fault;
-#[cfg(test)]
-mod image_tests;
 mod image_text;
 mod kind;
 mod laws;
@@ -22,12 +20,14 @@ mod record_type;
 #[cfg(test)]
 mod tests;
 mod text;
+#[cfg(test)]
+mod text_tests;
 
 pub use fault::{Cause, ContextFault, Place};
 pub use header::{DomainHeader, ImageHeader};
 pub use image_fault::{ImageCause, ImagePlace};
 pub use image_text::{put_image_cause, put_image_place};
 pub use kind::Kind;
-pub use laws::{domain_header_laws, image_header_laws, record_number_law};
+pub use laws::{canonical_pairs_law, domain_header_laws, image_header_laws, record_number_law};
 pub use record_type::{RecordType, is_optional};
 pub use text::{put_cause, put_place};
