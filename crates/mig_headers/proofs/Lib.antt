@@ -2,3 +2,4 @@ pub mod HeaderLaws
 pub mod RecordNumbers
 pub mod Writing
 pub mod Chains
+pub mod PairTexts

@@ -35,13 +35,17 @@ pub record AreCanonicalPairs (bytes : List ℕ) : Type 0 where
   pub rising : AreRising pairs
   pub spelled : flat_map text_of_pair pairs ≡ bytes
 
--- ---- the same, computed: the bytes are cut at their zeros
+-- ---- the same, computed
+
+-- what stands between zeros; the last text is what stands behind the last zero
+abbrev pub texts_in : List ℕ → List (List ℕ)
+texts_in bytes = slice_split (λ b. b == 0) bytes
 
 -- a key that may stand behind this one
 abbrev pub is_next_key : List ℕ → List ℕ → Bool
 is_next_key last key = list_all is_key_byte key && is_lt (slice_cmp nat_cmp last key)
 
--- texts are keys and values in turn, with keys that rise from the last one on; behind the last zero nothing stands
+-- texts are keys and values in turn, with keys that rise from the last one on, and then nothing
 abbrev pub are_rising_texts : List ℕ → List (List ℕ) → Bool
 are_rising_texts last [] = false
 are_rising_texts last (rest ∷ []) = length rest == 0
@@ -49,7 +53,7 @@ are_rising_texts last (key ∷ value ∷ texts) = is_next_key last key && are_ri
 
 -- the empty text is below every key
 unfoldable pub are_canonical_pairs : List ℕ → Bool
-are_canonical_pairs bytes = are_rising_texts [] (slice_split (λ b. b == 0) bytes)
+are_canonical_pairs bytes = are_rising_texts [] (texts_in bytes)
 
 abbrev pub CanonicalPairsAreComputed : Type 0
 CanonicalPairsAreComputed = (bytes : List ℕ) → IsTrue (are_canonical_pairs bytes) ↔ AreCanonicalPairs bytes

@@ -1,4 +1,5 @@
 ghost use Rattle.mig_headers.specs.HeaderLaws.{ImageHeaderIsSpelled, DomainHeaderIsSpelled, ImageHeadersAreReadBack, DomainHeadersAreReadBack};
+ghost use Rattle.mig_headers.specs.Pairs.{CanonicalPairsAreComputed};
 ghost use Rattle.mig_headers.specs.RecordTypes.{NumbersAreInverse};
 
 /// Where the two parts of an image header have no fault, and what of a header is written is read again.
@@ -16,4 +17,9 @@ pub fn domain_header_laws()
 /// A record type's number is that of no other type, and leads back to it.
 pub fn record_number_law()
     ensures { NumbersAreInverse }
+{}
+
+/// The test of bytes for pairs in canonical form holds exactly where they spell such pairs.
+pub fn canonical_pairs_law()
+    ensures { CanonicalPairsAreComputed }
 {}

@@ -1,9 +1,10 @@
-//! The headers of a stream, its table of record types, and every place and cause of a refusal, of a stream or of a
-//! guest image, with its printed text.
+//! The headers of a stream, its table of record types, every place and cause of a refusal, of a stream or of a guest
+//! image, with its printed text, and the form of pairs of texts.
 //!
 //! Responsible for: which bytes are the image header and the domain header of a libxc migration stream, which header
-//! a writer makes, which record types there are with the kinds of guest and the body lengths that they may have, and
-//! how a refusal is printed. It takes no memory, reads from no source, and knows no record's body.
+//! a writer makes, which record types there are with the kinds of guest and the body lengths that they may have, how a
+//! refusal is printed, and which bytes are pairs of texts in canonical form (a definition alone: mig_policy has the
+//! test). It takes no memory, reads from no source, and knows no record's body.
 //!
 //! What the layers above rely on: each part of a header is answered by its first fault in the order of the causes, and
 //! by none exactly where its bytes spell such a header; what a header is written as is read again; a record type's
@@ -13,8 +14,6 @@
 mod fault;
 mod header;
 mod image_fault;
-#[cfg(test)]
-mod image_tests;
 mod image_text;
 mod kind;
 mod laws;
@@ -22,12 +21,14 @@ mod record_type;
 #[cfg(test)]
 mod tests;
 mod text;
+#[cfg(test)]
+mod text_tests;
 
 pub use fault::{Cause, ContextFault, Place};
 pub use header::{DomainHeader, ImageHeader};
 pub use image_fault::{ImageCause, ImagePlace};
 pub use image_text::{put_image_cause, put_image_place};
 pub use kind::Kind;
-pub use laws::{domain_header_laws, image_header_laws, record_number_law};
+pub use laws::{canonical_pairs_law, domain_header_laws, image_header_laws, record_number_law};
 pub use record_type::{RecordType, is_optional};
 pub use text::{put_cause, put_place};

@@ -1,8 +1,5 @@
 use super::*;
-use mig_bytes::MemSink;
-use std::alloc::Global;
 use std::process::Abort;
-use std::test::Fail;
 
 const HVM_HEADER: [u8; 16] = [2, 0, 0, 0, 12, 0, 0, 0, 0, 0, 0, 0, 1, 0, 0, 0];
 
@@ -115,6 +112,7 @@ fn writes_headers(rt: HostRuntime) {
     image_header_laws();
     domain_header_laws();
     record_number_law();
+    canonical_pairs_law();
 }
 
 // Whether the type of this number is supported, in which kinds of guest it stands, a length that it may have, and one
@@ -164,136 +162,4 @@ fn knows_record_types(rt: HostRuntime) {
     assert!(rt; is_optional(0x8000_0000));
     assert!(rt; is_optional(u32::MAX));
     assert!(rt; !is_optional(0x7fff_ffff));
-}
-
-fn place(rt: &impl Abort, alloc: Global, place: Place, want: &str) {
-    let mut sink = MemSink::new(alloc, Vec::new(alloc));
-    assert!(rt; put_place(&mut sink, place).is_ok());
-    assert_eq!(rt; sink.bytes(), want.as_bytes());
-}
-
-fn cause(rt: &impl Abort, alloc: Global, cause: Cause, want: &str) {
-    let mut sink = MemSink::new(alloc, Vec::new(alloc));
-    assert!(rt; put_cause(&mut sink, cause).is_ok());
-    assert_eq!(rt; sink.bytes(), want.as_bytes());
-}
-
-#[test]
-fn prints_places(rt: HostRuntime) {
-    place(&rt, rt.alloc(), Place::ImageHeader, "ImageHeader");
-    place(&rt, rt.alloc(), Place::DomainHeader, "DomainHeader");
-    place(&rt, rt.alloc(), Place::Record(3), "Record 3");
-}
-
-#[test]
-fn prints_causes(rt: HostRuntime) {
-    assert_eq!(rt; Cause::EntryOutside(1, 2, 99).number(), 18);
-    assert_eq!(rt; Cause::EntryOutside(1, 2, 99).name(), "EntryOutside");
-    let alloc = rt.alloc();
-    cause(
-        &rt,
-        alloc,
-        Cause::NotBuilt(2_147_483_649),
-        "0 NotBuilt 2147483649",
-    );
-    cause(&rt, alloc, Cause::Truncated, "1 Truncated");
-    cause(&rt, alloc, Cause::NotStream, "2 NotStream");
-    cause(&rt, alloc, Cause::BadId, "3 BadId");
-    cause(&rt, alloc, Cause::BadVersion(4), "4 BadVersion 4");
-    cause(&rt, alloc, Cause::BigEndian, "5 BigEndian");
-    cause(&rt, alloc, Cause::BadKind(3), "6 BadKind 3");
-    cause(&rt, alloc, Cause::BadPageShift(13), "7 BadPageShift 13");
-    cause(
-        &rt,
-        alloc,
-        Cause::BodyTooLong(134_217_729),
-        "8 BodyTooLong 134217729",
-    );
-    cause(&rt, alloc, Cause::Unsupported(11), "9 Unsupported 11");
-    cause(
-        &rt,
-        alloc,
-        Cause::UnknownMandatory(19),
-        "10 UnknownMandatory 19",
-    );
-    cause(&rt, alloc, Cause::WrongKind(2), "11 WrongKind 2");
-    cause(&rt, alloc, Cause::OutOfOrder(7), "12 OutOfOrder 7");
-    cause(&rt, alloc, Cause::BadLength(9), "13 BadLength 9");
-    cause(&rt, alloc, Cause::NoPages, "14 NoPages");
-    cause(&rt, alloc, Cause::BadPageType(1, 5), "15 BadPageType 1 5");
-    cause(
-        &rt,
-        alloc,
-        Cause::PfnOutside(0, 268_435_456),
-        "16 PfnOutside 0 268435456",
-    );
-}
-
-#[test]
-fn prints_more_causes(rt: HostRuntime) {
-    let alloc = rt.alloc();
-    cause(&rt, alloc, Cause::Superpage(2, 511), "17 Superpage 2 511");
-    cause(
-        &rt,
-        alloc,
-        Cause::EntryOutside(1, 2, 99),
-        "18 EntryOutside 1 2 99",
-    );
-    cause(&rt, alloc, Cause::Pv32, "19 Pv32");
-    cause(&rt, alloc, Cause::BadPvInfo, "20 BadPvInfo");
-    cause(&rt, alloc, Cause::P2mStart(1), "21 P2mStart 1");
-    cause(
-        &rt,
-        alloc,
-        Cause::P2mRange(268_435_456),
-        "22 P2mRange 268435456",
-    );
-    cause(&rt, alloc, Cause::VcpuId(4096), "23 VcpuId 4096");
-    cause(
-        &rt,
-        alloc,
-        Cause::GdtEnts(u64::MAX),
-        "24 GdtEnts 18446744073709551615",
-    );
-    cause(
-        &rt,
-        alloc,
-        Cause::BadContext(ContextFault::NoHeader),
-        "25 BadContext NoHeader",
-    );
-    cause(
-        &rt,
-        alloc,
-        Cause::BadContext(ContextFault::HeaderSize(20)),
-        "25 BadContext HeaderSize 20",
-    );
-    cause(
-        &rt,
-        alloc,
-        Cause::BadContext(ContextFault::ShortEntry(32)),
-        "25 BadContext ShortEntry 32",
-    );
-    cause(
-        &rt,
-        alloc,
-        Cause::BadContext(ContextFault::NoEnd),
-        "25 BadContext NoEnd",
-    );
-    cause(&rt, alloc, Cause::ParamIndex(4096), "26 ParamIndex 4096");
-    cause(&rt, alloc, Cause::Missing(9), "27 Missing 9");
-    cause(&rt, alloc, Cause::P2mFrame(0), "28 P2mFrame 0");
-    cause(&rt, alloc, Cause::TargetAbsent(4, 1), "29 TargetAbsent 4 1");
-    cause(&rt, alloc, Cause::VcpuFrame(0, 17), "30 VcpuFrame 0 17");
-    cause(&rt, alloc, Cause::TooManyRecords, "31 TooManyRecords");
-    cause(&rt, alloc, Cause::TooManyFrames, "32 TooManyFrames");
-}
-
-#[test]
-fn a_failed_sink_has_a_part_of_the_text(rt: HostRuntime) -> Result<(), Fail> {
-    let mut failing = Vec::new(rt.alloc());
-    failing.push(3)?;
-    let mut sink = MemSink::new(rt.alloc(), failing);
-    assert!(rt; put_cause(&mut sink, Cause::BadKind(3)).is_err());
-    assert_eq!(rt; sink.bytes(), b"6 BadKind".as_slice());
-    Ok(())
 }

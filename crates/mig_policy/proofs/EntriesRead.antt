@@ -1,7 +1,6 @@
 -- A body of whole entries is one that is spelled as entries.
 use Rattle.std.proofs.Common.{◌≡◌, ◌<◌, ◌≤◌, ℕ, ◌+◌, ◌*◌, ◌/◌, ◌%◌, List, [], ◌∷◌, length, take, drop, map, get_or, refl, sym, ap, subst, ◌∙◌, arith, drop-drop}
 use Rattle.std.proofs.lemmas.List.{get_or-take, get_or-drop}
-use Rattle.std.proofs.lemmas.List.FromFn.{length-map-range_with_len}
 use Rattle.std.specs.List.{range_with_len}
 use Rattle.mig_bytes.specs.Fields.{le32}
 use Rattle.mig_guest.specs.declared.part_key.PartKey.{PartKey}
@@ -115,17 +114,3 @@ msrs_back body ps h =
 
 pub msrs_are_spelled : MsrsAreSpelled
 msrs_are_spelled body ps = ((λ h. msrs_forth body ps h.0 h.1), msrs_back body ps)
-
--- ---- how many parts a body sets
-
-pub leaves_count : (body : List ℕ) → length (leaves_in body) ≡ length body / 24
-leaves_count body = length-map-range_with_len (leaf_at body) 0 (length body / 24)
-
-pub msrs_count : (body : List ℕ) → length (msrs_in body) ≡ length body / 16
-msrs_count body = length-map-range_with_len (msr_at body) 0 (length body / 16)
-
-pub leaves_size : (body : List ℕ) (ps : List (PartKey × List ℕ)) → AreLeaves body ps → length body ≡ 24 * length ps
-leaves_size body ps h = (entries.reads 8 16 leaf_of any_key body ps (of_leaves ps body h)).size
-
-pub msrs_size : (body : List ℕ) (ps : List (PartKey × List ℕ)) → AreMsrs body ps → length body ≡ 16 * length ps
-msrs_size body ps h = (entries.reads 4 12 msr_of any_key body ps (of_msrs ps body h)).size

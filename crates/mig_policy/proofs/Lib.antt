@@ -1,3 +1,3 @@
 pub mod EntriesRead
 pub mod Below
-pub mod Sizes
+pub mod PairSteps

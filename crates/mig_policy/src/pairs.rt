@@ -1,6 +1,72 @@
+ghost use Rattle.std.specs.Prelude.{◌≡◌, ◌<◌, ◌↔◌, ◌==◌, [], ◌∷◌, length, false, IsTrue, IfNone, IfSome};
+ghost use Rattle.std.specs.List.{list_all, position};
+ghost use Rattle.mig_headers.specs.Pairs.{AreCanonicalPairs, is_key_byte, is_next_key, texts_in, are_rising_texts, are_canonical_pairs};
 
-/// placeholder
-pub fn canonical_pairs(bytes: &[u8]) -> bool
+fn may_be_in_key(byte: u8) -> bool
+    ensures { result ≡ is_key_byte byte }
 {
+    matches!(byte, b'0'..=b'9' | b'A'..=b'Z' | b'a'..=b'z' | b'-' | b'/' | b'_' | b'@')
+}
+
+fn is_key(bytes: &[u8]) -> bool
+    ensures { result ≡ list_all is_key_byte bytes.now }
+{
+    bytes.iter().all(|byte| may_be_in_key(*byte))
+}
+
+// A key that may stand behind this last one.
+fn may_follow(last: &[u8], key: &[u8]) -> bool
+    ensures { result ≡ is_next_key last.now key.now }
+{
+    is_key(key) && last < key
+}
+
+fn first_zero(bytes: &[u8]) -> Option<usize>
+    ensures { result ≡ position (λ b. b == 0) bytes.now }
+{
+    bytes.iter().position(|byte| *byte == 0)
+}
+
+// What stands before the first zero, and what stands behind it.
+fn split_text(bytes: &[u8]) -> Option<(&[u8], &[u8])>
+    ensures none { IfNone result (texts_in bytes.now ≡ bytes.now ∷ []) }
+    ensures some { IfSome result (λ r. texts_in bytes.now ≡ r.0.now ∷ texts_in r.1.now) }
+    ensures shorter { IfSome result (λ r. length r.1.now < length bytes.now) }
+{
+    let end = first_zero(bytes)?;
+    Some((&bytes[..end], &bytes[end + 1..]))
+}
+
+// The key of the first pair, where it may stand behind this last key, and what stands behind the pair.
+fn split_pair<'a>(last: &[u8], bytes: &'a [u8]) -> Option<(&'a [u8], &'a [u8])>
+    requires { 0 < length bytes.now }
+    ensures none { IfNone result (are_rising_texts last.now (texts_in bytes.now) ≡ false) }
+    ensures some { IfSome result (λ r. are_rising_texts last.now (texts_in bytes.now) ≡ are_rising_texts r.0.now (texts_in r.1.now)) }
+    ensures shorter { IfSome result (λ r. length r.1.now < length bytes.now) }
+{
+    let (key, behind) = split_text(bytes)?;
+    let (_, rest) = split_text(behind)?;
+    if may_follow(last, key) {
+        Some((key, rest))
+    } else {
+        None
+    }
+}
+
+/// Whether these bytes are pairs of texts in canonical form: key NUL value NUL, with ascending distinct keys (libxl
+/// migration stream, "EMULATOR_XENSTORE_DATA").
+pub fn canonical_pairs(bytes: &[u8]) -> bool
+    ensures value { result ≡ are_canonical_pairs bytes.now }
+    ensures spelled { IsTrue result ↔ AreCanonicalPairs bytes.now }
+{
+    let mut last: &[u8] = &[];
+    let mut rest = bytes;
+    while !rest.is_empty() {
+        let Some((key, behind)) = split_pair(last, rest) else {
+            return false;
+        };
+        last = key;
+        rest = behind;
+    }
     true
 }

@@ -105,6 +105,35 @@ fn the_last_four_bytes_of_a_tsc_are_ignored(rt: HostRuntime) -> Result<(), Fail>
 }
 
 #[test]
+fn knows_canonical_pairs(rt: HostRuntime) {
+    let cases: [(&[u8], bool); 20] = [
+        (b"", true),
+        (b"a\0b\0", true),
+        (b"a\0\0", true),
+        (b"a\0b\0aa\0c\0b\0d\0", true),
+        (b"-/09@AZ_az\0.\0", true),
+        (b"a\0\x01 =.\x7f\xff\0", true),
+        (b"\0", false),
+        (b"\0b\0", false),
+        (b"a.b\0c\0", false),
+        (b"a b\0c\0", false),
+        (b"a\x80\0c\0", false),
+        (b"a\0b\0a\0b\0", false),
+        (b"b\0c\0a\0d\0", false),
+        (b"a\0c\0B\0d\0", false),
+        (b"aa\0c\0a\0d\0", false),
+        (b"a\0b\0\0c\0", false),
+        (b"a", false),
+        (b"a\0", false),
+        (b"a\0b", false),
+        (b"a\0b\0c\0", false),
+    ];
+    for (bytes, want) in cases {
+        assert_eq!(rt; canonical_pairs(bytes), want, "{bytes:?}");
+    }
+}
+
+#[test]
 fn laws(_rt: HostRuntime) {
     policy_laws();
 }

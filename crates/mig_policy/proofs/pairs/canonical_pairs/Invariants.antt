@@ -1,0 +1,11 @@
+use Rattle.std.proofs.Common.{◌≡◌, length}
+use Rattle.mig_headers.specs.Pairs.{texts_in, are_rising_texts, are_canonical_pairs}
+use Rattle.mig_policy.proofs.pairs.canonical_pairs.Given as goal
+
+abbrev pub invariant-loop-last : goal.invariant-loop-last
+invariant-loop-last l = record {
+  same : are_canonical_pairs l.bytes ≡ are_rising_texts l.last (texts_in l.rest);
+}
+
+abbrev pub decreases-loop-last : goal.decreases-loop-last
+decreases-loop-last l = length l.rest
