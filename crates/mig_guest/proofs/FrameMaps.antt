@@ -1,13 +1,15 @@
 -- What the frames that are seen have at each number, and what a change of one number does to them.
-use Rattle.std.proofs.Common.{◌≡◌, ◌≢◌, ℕ, ◌+◌, ◌<◌, ◌≤◌, ◌^◌, length, arith, Bool, true, false, cond, List, [], ◌∷◌, map, Option, Some, None, is_some, IsSome, IfNone, IfSome, option_and_then, refl, sym, ap, subst, ◌∙◌, inl, inr}
+use Rattle.std.proofs.Common.{◌≡◌, ◌≢◌, ℕ, ◌+◌, ◌<◌, ◌≤◌, ◌^◌, length, replicate, nat_eq, arith, Bool, true, false, cond, List, [], ◌∷◌, map, Option, Some, None, is_some, IsSome, IfNone, IfSome, Bor, option_and_then, refl, sym, ap, subst, ◌∙◌, inl, inr}
 use Rattle.std.specs.Ordering.{nat_cmp, is_eq, eq_by_cmp}
-use Rattle.std.specs.Option.{option_map}
+use Rattle.std.specs.Option.{option_copied, option_map}
 use Rattle.std.specs.Cmp.{nat_cmp_total, unsigned_tied}
 use Rattle.std.specs.BTreeMap.{is_at}
 use Rattle.std.specs.Map.{lookup, keys_of}
 use Rattle.std.specs.List.Sorted.{IsStrictlySortedBy}
 use Rattle.std.specs.FinMap as maps
 use Rattle.std.specs.FinMap.{find, nat_cmp-IsAntisymmetric, same_map, get-from_entries, get-insert, get-remove, get-empty, len-empty, len-insert}
+use Rattle.std.proofs.lemmas.Grind.{common_steps}
+use Rattle.std.proofs.lemmas.List.{length-replicate}
 use Rattle.std.proofs.lemmas.Bool.{eq-eqb, ne_eqb, cases_eq}
 use Rattle.std.proofs.lemmas.Map.{lookup-none}
 use Rattle.std.proofs.lemmas.Map.Keys.{sorted_tail, IsDistinct-from_sorted}
@@ -18,7 +20,8 @@ use Rattle.mig_pagetypes.specs.declared.page_type.PageType.TheVariants.{Xtab}
 use Rattle.mig_pagetypes.specs.PageTypes.{type_has_data}
 use Rattle.mig_pagestore.specs.Pages.{PageMap}
 use Rattle.mig_guest.specs.Frames.{FrameOf, FrameMap, IsFrame, IsSized}
-use Rattle.mig_guest.specs.FrameView.{frame_at, frames_seen, IsInStep}
+use Rattle.mig_guest.specs.FrameView.{whole_page, frame_at, frames_seen, IsInStep}
+use Rattle.mig_guest.specs.Lending.{repaged, with_page}
 use Rattle.mig_guest.proofs.KeyedMaps.{tied}
 
 abbrev pub Kinds : Type 0
@@ -55,8 +58,8 @@ kind_of pages q (Some k) = refl
 pub kind_seen : (pages : PageMap) (kinds : Kinds) (q : ℕ) → kind_at kinds q ≡ option_map (λ (f : FrameOf). f.kind) (maps.get (frames_seen pages kinds) q)
 kind_seen pages kinds q = sym (ap (option_map (λ (f : FrameOf). f.kind)) (get_frame pages kinds q) ∙ kind_of pages q (kind_at kinds q))
 
-page_of : (pages : PageMap) (q : ℕ) (r : Option FrameOf) (s : Option PageType) → r ≡ option_map (frame_at pages q) s → (IsSome (maps.get pages q) → IsSome r) → maps.get pages q ≡ option_and_then (λ (f : FrameOf). f.page) r
-page_of pages q r None e step = let gone = ap is_some e in no_page (maps.get pages q) (λ there. sym gone ∙ step there) ∙ sym (ap (option_and_then (λ (f : FrameOf). f.page)) e)
+page_of : (pages : PageMap) (q : ℕ) (r : Option FrameOf) (s : Option PageType) → r ≡ option_map (frame_at pages q) s → (IsSome (maps.get pages q) → IsSome r) → option_map whole_page (maps.get pages q) ≡ option_and_then (λ (f : FrameOf). f.page) r
+page_of pages q r None e step = let gone = ap is_some e in ap (option_map whole_page) (no_page (maps.get pages q) (λ there. sym gone ∙ step there)) ∙ sym (ap (option_and_then (λ (f : FrameOf). f.page)) e)
   where
     no_page : (o : Option (List ℕ)) → (IsSome o → false ≡ true) → o ≡ None
     no_page None h = refl
@@ -64,7 +67,7 @@ page_of pages q r None e step = let gone = ap is_some e in no_page (maps.get pag
 page_of pages q r (Some k) e step = sym (ap (option_and_then (λ (f : FrameOf). f.page)) e)
 
 -- the page of a frame
-pub page_seen : (pages : PageMap) (kinds : Kinds) (q : ℕ) → IsInStep pages kinds → maps.get pages q ≡ option_and_then (λ (f : FrameOf). f.page) (maps.get (frames_seen pages kinds) q)
+pub page_seen : (pages : PageMap) (kinds : Kinds) (q : ℕ) → IsInStep pages kinds → option_map whole_page (maps.get pages q) ≡ option_and_then (λ (f : FrameOf). f.page) (maps.get (frames_seen pages kinds) q)
 page_seen pages kinds q step = page_of pages q _ (kind_at kinds q) (get_frame pages kinds q) (step.no_stray q)
 
 -- ---- a change of one number
@@ -81,7 +84,7 @@ module _ (old new : PageMap) (kinds changed : Kinds) (pfn : ℕ) (kind : Option 
   at_other : (q : ℕ) → q ≢ pfn → maps.get (frames_seen new changed) q ≡ cond (eq_by_cmp nat_cmp q pfn) (option_map (frame_at new pfn) kind) (maps.get (frames_seen old kinds) q)
   at_other q ne =
       get_frame new changed q ∙ ap (option_map (frame_at new q)) (types q ∙ ap (λ b. cond b kind (kind_at kinds q)) (differs pfn q ne))
-      ∙ ap (λ (page : Option (List ℕ)). option_map (λ (k : PageType). record { kind = k; page = page }) (kind_at kinds q)) (others q ne)
+      ∙ ap (λ (page : Option (List ℕ)). option_map (λ (k : PageType). record { kind = k; page = option_map whole_page page }) (kind_at kinds q)) (others q ne)
       ∙ sym (get_frame old kinds q)
       ∙ sym (ap (λ b. cond b (option_map (frame_at new pfn) kind) (maps.get (frames_seen old kinds) q)) (differs q pfn (λ e. ne (sym e))))
 
@@ -251,3 +254,82 @@ small_next pages kinds from (Some q) s sized = small_of (frames_seen pages kinds
 -- a number with a type has a frame of it
 pub sized_at : (pages : PageMap) (kinds : Kinds) (q : ℕ) (kind : PageType) → kind_at kinds q ≡ Some kind → IsSized (frames_seen pages kinds) → (q < 2 ^ 28) × IsFrame (frame_at pages q kind)
 sized_at pages kinds q kind e sized = sized q (frame_at pages q kind) (get_frame pages kinds q ∙ ap (option_map (frame_at pages q)) e)
+
+-- ---- a page that is lent
+
+-- an array is the page that it is seen as
+pub whole_is : (w : List ℕ) → length w ≡ 4096 → whole_page w ≡ w
+whole_is w size = ap (λ b. cond b w (replicate 4096 0)) (test (length w) size)
+  where
+    test : (n : ℕ) → n ≡ 4096 → nat_eq n 4096 ≡ true
+    test n e = grind (arith, common_steps)
+
+-- so is one that is found
+pub whole_found : (r : Option (Bor (List ℕ))) → IfSome r (λ page. length page.now ≡ 4096) → option_map whole_page (option_copied r) ≡ option_copied r
+whole_found None size = refl
+whole_found (Some page) size = ap Some (whole_is page.now size)
+
+-- what is found is the page of the frame
+pub found_page : (pages : PageMap) (kinds : Kinds) (m : FrameMap) (q : ℕ) (r : Option (Bor (List ℕ))) → IsInStep pages kinds → frames_seen pages kinds ≡ m
+    → option_copied r ≡ maps.get pages q → IfSome r (λ page. length page.now ≡ 4096) → option_copied r ≡ option_and_then (λ (f : FrameOf). f.page) (maps.get m q)
+found_page pages kinds m q r step seen is size =
+    sym (whole_found r size) ∙ ap (option_map whole_page) is ∙ page_seen pages kinds q step ∙ ap (λ (n : FrameMap). option_and_then (λ (f : FrameOf). f.page) (maps.get n q)) seen
+
+pub none_found : {X : Type 0} (r : Option (Bor X)) → is_some r ≡ false → None ≡ option_copied r
+none_found None none = refl
+none_found (Some x) none = let no : true ≡ false = none in cc
+
+pub is_some_found : {X : Type 0} (r : Option (Bor X)) → is_some (option_copied r) ≡ is_some r
+is_some_found None = refl
+is_some_found (Some x) = refl
+
+length_whole : (w : List ℕ) → length (whole_page w) ≡ 4096
+length_whole w = sized (nat_eq (length w) 4096) refl
+  where
+    equal : (n : ℕ) → nat_eq n 4096 ≡ true → n ≡ 4096
+    equal n e = grind (arith, common_steps)
+
+    sized : (b : Bool) → nat_eq (length w) 4096 ≡ b → length (cond b w (replicate 4096 0)) ≡ 4096
+    sized true e = equal (length w) e
+    sized false e = length-replicate {A = ℕ} 4096 0
+
+-- whatever is left as a page that was there, all stays in step, and the frames have that page
+module _ (pages : PageMap) (kinds : Kinds) (pfn : ℕ) (w : List ℕ) (step : IsInStep pages kinds) (there : IsSome (maps.get pages pfn)) where
+  abbrev lent : PageMap
+  lent = maps.insert pages pfn w
+
+  module _ (kind : PageType) (typed : kind_at kinds pfn ≡ Some kind) where
+    same_types : (q : ℕ) → kind_at kinds q ≡ cond (is_at (nat_cmp pfn) q) (Some kind) (kind_at kinds q)
+    same_types q = elim (cases_eq q pfn) [
+      | inl same ↦ ap (kind_at kinds) same ∙ typed ∙ sym (ap (λ b. cond b (Some kind) (kind_at kinds q)) (ties pfn q same))
+      | inr ne ↦ sym (ap (λ b. cond b (Some kind) (kind_at kinds q)) (differs pfn q ne))
+    ]
+
+    gives : option_map whole_page (maps.get lent pfn) ≡ Some (whole_page w)
+    gives = ap (option_map whole_page) (put_gives pages pfn w)
+
+    fine : IsFrame (frame_at lent pfn kind)
+    fine =
+        let was = sized_at pages kinds pfn kind typed step.sized in
+        let has : type_has_data kind ≡ true = sym was.1.in_step ∙ is_some-mapped whole_page (maps.get pages pfn) ∙ there in
+        subst (λ (page : Option (List ℕ)). IsFrame (record { kind = kind; page = page })) (sym gives) (whole_frame kind (whole_page w) has (length_whole w))
+
+    both : IsInStep lent kinds × (frames_seen lent kinds ≡ with_page (frames_seen pages kinds) pfn w)
+    both =
+        let others = put_leaves pages pfn w in
+        let frame = get_frame pages kinds pfn ∙ ap (option_map (frame_at pages pfn)) typed in (
+          in_step_set pages lent kinds kinds pfn kind step same_types others (sized_at pages kinds pfn kind typed step.sized).0 fine,
+          frames_set pages lent kinds kinds pfn kind same_types others
+              ∙ ap (λ (page : Option (List ℕ)). maps.insert (frames_seen pages kinds) pfn (record { kind = kind; page = page })) gives
+              ∙ sym (ap (λ (f : Option FrameOf). repaged f (frames_seen pages kinds) pfn w) frame),
+        )
+
+  by_kind : (k : Option PageType) → kind_at kinds pfn ≡ k → IsInStep lent kinds × (frames_seen lent kinds ≡ with_page (frames_seen pages kinds) pfn w)
+  by_kind None none = absurd (apart (sym (ap is_some (get_frame pages kinds pfn ∙ ap (option_map (frame_at pages pfn)) none)) ∙ step.no_stray pfn there))
+    where
+      apart : false ≡ true → ⊥
+      apart e = cc
+  by_kind (Some kind) typed = both kind typed
+
+  pub lent_page : IsInStep lent kinds × (frames_seen lent kinds ≡ with_page (frames_seen pages kinds) pfn w)
+  lent_page = by_kind (kind_at kinds pfn) refl

@@ -13,7 +13,7 @@ use Rattle.std.specs.List.{filter}
 use Rattle.std.specs.declared.cmp.Ordering.TheVariants.{Less, Equal, Greater}
 use Rattle.std.specs.Ordering.{is_eq}
 use Rattle.std.specs.FinMap.{get-retain_keys}
-use Rattle.std.specs.FinMap.{FinMap, find, IsAntisymmetric, same_map, get-from_entries, get-insert, get-remove}
+use Rattle.std.specs.FinMap.{FinMap, find, IsAntisymmetric, same_map, get-from_entries, get-insert}
 
 abbrev pub seen : {K X Y : Type 0} (R : K → K → Ordering) (f : X → Y) → List (K × X) → FinMap R Y
 seen R f es = maps.from_entries (map (λ e. (e.0, f e.1)) es)
@@ -21,10 +21,6 @@ seen R f es = maps.from_entries (map (λ e. (e.0, f e.1)) es)
 mapped : {X Y : Type 0} (f : X → Y) (b : Bool) (v : X) (r : Option X) → option_map f (cond b (Some v) r) ≡ cond b (Some (f v)) (option_map f r)
 mapped f true v r = refl
 mapped f false v r = refl
-
-unmapped : {X Y : Type 0} (f : X → Y) (b : Bool) (r : Option X) → option_map f (cond b None r) ≡ cond b None (option_map f r)
-unmapped f true r = refl
-unmapped f false r = refl
 
 module _ {K X Y : Type 0} {R : K → K → Ordering} (o : IsTotalOrder R) (exact : IsAntisymmetric R) (f : X → Y) where
   find_lookup : (es : List (K × X)) (q : K) → find R q (map (λ e. (e.0, f e.1)) es) ≡ option_map f (lookup (is_at (R q)) es)
@@ -39,12 +35,6 @@ module _ {K X Y : Type 0} {R : K → K → Ordering} (o : IsTotalOrder R) (exact
       get_seen fs q ∙ ap (option_map f) (is q) ∙ mapped f (is_at (R k) q) v (lookup (is_at (R q)) es)
       ∙ ap (λ b. cond b (Some (f v)) (option_map f (lookup (is_at (R q)) es))) ((eq_by_cmp_equiv o).symm k q)
       ∙ ap (cond (eq_by_cmp R q k) (Some (f v))) (sym (get_seen es q)) ∙ sym (get-insert o (seen R f es) k (f v) q))
-
-  pub seen_remove : (es fs : List (K × X)) (k : K) → ((q : K) → lookup (is_at (R q)) fs ≡ cond (is_at (R k) q) None (lookup (is_at (R q)) es)) → seen R f fs ≡ maps.remove (seen R f es) k
-  seen_remove es fs k is = same_map o exact _ _ (λ q.
-      get_seen fs q ∙ ap (option_map f) (is q) ∙ unmapped f (is_at (R k) q) (lookup (is_at (R q)) es)
-      ∙ ap (λ b. cond b None (option_map f (lookup (is_at (R q)) es))) ((eq_by_cmp_equiv o).symm k q)
-      ∙ ap (cond (eq_by_cmp R q k) None) (sym (get_seen es q)) ∙ sym (get-remove o (seen R f es) k q))
 
 cut : {X Y : Type 0} (f : X → Y) (b : Bool) (r : Option X) → option_map f (cond b r None) ≡ cond b (option_map f r) None
 cut f true r = refl

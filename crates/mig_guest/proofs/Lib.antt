@@ -2,6 +2,7 @@ pub mod PartOrder
 pub mod KeyedMaps
 pub mod PartMaps
 pub mod FrameMaps
+pub mod Loans
 pub mod Cursor
 pub mod PartCursor
 pub mod PartSets

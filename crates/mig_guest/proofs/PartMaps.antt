@@ -1,8 +1,8 @@
 -- What a search among the keys of the parts finds holds of the parts as they are seen.
-use Rattle.std.proofs.Common.{cond, ◌≡◌, ℕ, List, Option, Some, None, is_some, IsSome, IfNone, IfSome, refl, sym, ap, ◌∙◌}
+use Rattle.std.proofs.Common.{cond, ◌≡◌, ℕ, List, Option, Some, None, is_some, IsSome, IfNone, IfSome, MutBor, refl, sym, ap, ◌∙◌}
 use Rattle.std.specs.declared.cmp.Ordering.TheVariants.{Less}
 use Rattle.std.specs.declared.vec.Vec.{Vec}
-use Rattle.std.specs.Option.{option_map}
+use Rattle.std.specs.Option.{option_map, option_copied_mut}
 use Rattle.std.specs.BTreeMap.{is_at}
 use Rattle.std.specs.Map.{lookup}
 use Rattle.std.specs.FinMap as maps
@@ -15,6 +15,10 @@ use Rattle.mig_guest.proofs.KeyedMaps.{get_seen, seen_insert}
 is_some-mapped : {X Y : Type 0} (f : X → Y) (r : Option X) → is_some (option_map f r) ≡ is_some r
 is_some-mapped f None = refl
 is_some-mapped f (Some x) = refl
+
+pub is_some_lent : {X : Type 0} (r : Option (MutBor X)) → is_some (option_copied_mut r) ≡ is_some r
+is_some_lent None = refl
+is_some_lent (Some b) = refl
 
 module _ {Z : Type 0} (es : List (PartKey × Vec ℕ Z)) (m : PartMap) (view : parts_seen es ≡ m) where
   -- what the list of parts has at a key

@@ -1,10 +1,10 @@
 -- What setting parts one after another does to the others, and to a guest.
-use Rattle.std.proofs.Common.{◌≡◌, ◌≢◌, ℕ, zero, suc, ◌+◌, ◌<◌, Bool, true, false, cond, not, nat_eq, List, [], ◌∷◌, map, Option, Some, None, refl, sym, ap, subst, ◌∙◌, arith}
+use Rattle.std.proofs.Common.{◌≡◌, ◌≢◌, ℕ, zero, suc, ◌+◌, ◌<◌, Bool, true, false, cond, not, nat_eq, List, [], ◌∷◌, map, Some, None, refl, sym, ap, ◌∙◌, arith}
 use Rattle.std.proofs.lemmas.Grind.{common_steps}
 use Rattle.std.proofs.lemmas.List.FromFn.{map-range_with_len_more}
 use Rattle.std.proofs.lemmas.List.Sums.{fold-append}
 use Rattle.std.proofs.lemmas.Cmp.{eq_by_cmp_equiv}
-use Rattle.std.specs.List.{range_with_len, AllByRecursion}
+use Rattle.std.specs.List.{range_with_len}
 use Rattle.std.specs.Ordering.{eq_by_cmp}
 use Rattle.std.specs.FinMap as maps
 use Rattle.mig_guest.specs.declared.part_key.PartKey.{PartKey}
@@ -64,10 +64,6 @@ guest_more g h n m f k before set =
     set ∙ ap (λ (x : GuestOf). record x { parts = put_part x.parts (f k) }) before
     ∙ ap (λ (p : PartMap). record g { parts = p }) (sym (puts_more f m k))
 
--- of a guest whose parts alone were set, all else stays
-pub guest_stays : (g n : GuestOf) (p : PartMap) → n ≡ record g { parts = p } → n ≡ record g { parts = n.parts }
-guest_stays g n p is = is ∙ ap (λ (m : PartMap). record g { parts = m }) (sym (ap (λ (x : GuestOf). x.parts) is))
-
 -- of a guest whose parts of one code alone were set, the parts of other codes stay
 pub guest_others : (g n : GuestOf) (m : PartMap) (f : ℕ → PartKey × List ℕ) (code k : ℕ) → ((i : ℕ) → (f i).0.code ≡ code)
     → ((q : PartKey) → q.code ≢ code → maps.get m q ≡ maps.get g.parts q) → n ≡ record g { parts = put_parts m (map f (range_with_len 0 k)) }
@@ -80,27 +76,3 @@ pub replaced : (code : ℕ) (m : PartMap) (f : ℕ → PartKey × List ℕ) (n :
     → replace_code code m (map f (range_with_len 0 n)) ≡ put_parts (maps.retain_keys m (λ k. not (nat_eq k.code code))) (map f (range_with_len 0 n))
 replaced code m f zero some = absurd (omega arith)
 replaced code m f (suc n) some = refl
-
-kept_at : (P : PartKey → List ℕ → Type 0) (m : PartMap) (p : PartKey × List ℕ) → P p.0 p.1 → ((k : PartKey) (v : List ℕ) → maps.get m k ≡ Some v → P k v)
-    → (k : PartKey) (v : List ℕ) (b : Bool) → eq_by_cmp part_cmp k p.0 ≡ b → cond b (Some p.1) (maps.get m k) ≡ Some v → P k v
-kept_at P m p new old k v true same is =
-    let value : p.1 ≡ v = cc in
-    subst (λ (q : PartKey). P q v) (sym (part_exact k p.0 (tied (part_cmp k p.0) same))) (subst (P p.0) value new)
-kept_at P m p new old k v false same is = old k v is
-
--- what holds of all parts, and of those that are set, holds of all parts then
-pub puts_keep : (P : PartKey → List ℕ → Type 0) (ps : List (PartKey × List ℕ)) (m : PartMap) → AllByRecursion (λ p. P p.0 p.1) ps → ((k : PartKey) (v : List ℕ) → maps.get m k ≡ Some v → P k v)
-    → (k : PartKey) (v : List ℕ) → maps.get (put_parts m ps) k ≡ Some v → P k v
-puts_keep P [] m each old k v is = old k v is
-puts_keep P (p ∷ ps) m each old k v is =
-    puts_keep P ps (put_part m p) each.1 (λ q w has. kept_at P m p each.0 old q w (eq_by_cmp part_cmp q p.0) refl (sym (maps.get-insert part_total m p.0 p.1 q) ∙ has)) k v is
-
--- what is left where all parts of a code are taken away was there
-pub cleared_was : (code : ℕ) (m : PartMap) (k : PartKey) (v : List ℕ) → maps.get (maps.retain_keys m (λ q. not (nat_eq q.code code))) k ≡ Some v → maps.get m k ≡ Some v
-cleared_was code m k v is =
-    was (not (nat_eq k.code code)) (maps.get m k)
-    (sym (maps.get-retain_keys m (λ (q : PartKey). not (nat_eq q.code code)) k (λ x tie. ap (λ (q : PartKey). not (nat_eq q.code code)) (sym (part_exact k x tie)))) ∙ is)
-  where
-    was : (b : Bool) (r : Option (List ℕ)) → cond b r None ≡ Some v → r ≡ Some v
-    was true r e = e
-    was false r e = cc

@@ -1,6 +1,7 @@
 pub mod Order
 pub mod Frames
 pub mod FrameView
+pub mod Lending
 pub mod Guests
 pub mod Parts
 pub mod Hosts

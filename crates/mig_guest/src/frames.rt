@@ -1,8 +1,9 @@
 ghost use Rattle.std.specs.Prelude.{◌≡◌, ◌≢◌, false, ℕ, ◌+◌, ◌<◌, ◌≤◌, ◌^◌, OnOk, OnErr, IfSome, IfNone, IsSome, IsOk, IsTrue, Some, None, is_some, option_and_then};
-ghost use Rattle.std.specs.Option.{option_copied, option_map};
+ghost use Rattle.std.specs.Option.{option_copied, option_copied_mut, option_map};
 ghost use Rattle.std.specs.Ordering.{nat_cmp};
 ghost use Rattle.std.specs.BTreeMap as tree;
 ghost use Rattle.std.specs.FinMap as maps;
+ghost use Rattle.std.specs.Borrow.{sem};
 
 use mig_bytes::Memory;
 use mig_pagestore::PageStore;
@@ -47,6 +48,7 @@ impl Frames {
     ghost use Rattle.mig_pagetypes.specs.PageTypes.{type_has_data};
     ghost use Rattle.mig_pagetypes.specs.declared.page_type.PageType.TheVariants.{Xtab};
     ghost use Rattle.mig_guest.specs.Frames.{framed, IsSized, NextEntry};
+    ghost use Rattle.mig_guest.specs.Lending.{LendsPage};
 
     pub(crate) fn new(alloc: Global) -> Frames
         ensures { result ≡ maps.empty }
@@ -77,6 +79,16 @@ impl Frames {
         ensures { option_copied result ≡ option_and_then (λ f. f.page) (maps.get self.now pfn) }
     {
         self.pages.get(pfn)
+    }
+
+    pub(crate) fn page_mut(&mut self, pfn: u64) -> Option<&mut [u8; 4096]>
+        ensures* writes_back { sem 𝓛 (LendsPage self.entry pfn result) }
+        ensures value { option_copied_mut result ≡ option_and_then (λ f. f.page) (maps.get self.old pfn) }
+    {
+        if self.pages.get(pfn).is_none() {
+            return None;
+        }
+        self.pages.lend(pfn)
     }
 
     pub(crate) fn next(&self, from: u64) -> Option<u64>

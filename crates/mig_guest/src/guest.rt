@@ -1,7 +1,8 @@
 ghost use Rattle.std.specs.Prelude.{◌≡◌, ◌==◌, ℕ, ◌+◌, ◌<◌, ◌≤◌, ◌^◌, length, not, IsOk, OnOk, OnErr, IfSome, IfNone, IsSome, None, is_some, option_and_then};
 ghost use Rattle.std.specs.declared.cmp.Ordering.TheVariants.{Less};
-ghost use Rattle.std.specs.Option.{option_copied, option_map};
+ghost use Rattle.std.specs.Option.{option_copied, option_copied_mut, option_map};
 ghost use Rattle.std.specs.FinMap as maps;
+ghost use Rattle.std.specs.Borrow.{sem};
 ghost use Rattle.mig_pagetypes.specs.PageTypes.{type_has_data};
 ghost use Rattle.mig_pagetypes.specs.declared.page_type.PageType.TheVariants.{Xtab};
 ghost use Rattle.mig_pagestore.specs.Pages.{spliced};
@@ -12,7 +13,7 @@ ghost use Rattle.mig_guest.specs.Parts.{NextPart, NextBehind};
 
 use crate::frames::Frames;
 use crate::part_key::PartKey;
-use crate::parts::Parts;
+use crate::parts::{Parts, bytes_mut};
 use mig_bytes::Memory;
 use mig_headers::Kind;
 use mig_pagetypes::PageType;
@@ -39,6 +40,8 @@ impl Model for Guest {
 }
 
 impl Guest {
+    ghost use Rattle.mig_guest.specs.Lending.{LendsGuestPage, LendsGuestPart, LendsGuestBytes};
+
     /// A guest with no frames, no parts and top 0.
     pub fn new(alloc: Global, kind: Kind) -> Guest
         ensures { result ≡ record { kind = kind; top = 0; frames = maps.empty; parts = maps.empty } }
@@ -101,6 +104,14 @@ impl Guest {
         self.frames.page(pfn)
     }
 
+    /// Lends the page of this frame for writing; none where there is no frame, or its type has no data.
+    pub fn page_mut(&mut self, pfn: u64) -> Option<&mut [u8; 4096]>
+        ensures* writes_back { sem 𝓛 (LendsGuestPage self.entry pfn result) }
+        ensures value { option_copied_mut result ≡ option_and_then (λ f. f.page) (maps.get self.old.frames pfn) }
+    {
+        self.frames.page_mut(pfn)
+    }
+
     /// The least PFN that has a frame and is at least `from`, which may be any number.
     pub fn next_frame(&self, from: u64) -> Option<u64>
         ensures none { IfNone result ((k : ℕ) → from ≤ k → maps.get self.now.frames k ≡ None) }
@@ -150,6 +161,25 @@ impl Guest {
         ensures { option_copied result ≡ maps.get self.now.parts key }
     {
         self.parts.get(key)
+    }
+
+    // Lends a part as it is kept.
+    fn lend_part(&mut self, key: PartKey) -> Option<&mut Vec<u8>>
+        ensures* writes_back { sem 𝓛 (LendsGuestPart self.entry key result) }
+        ensures value { option_map (λ v. v.items) (option_copied_mut result) ≡ maps.get self.old.parts key }
+    {
+        self.parts.lend(key)
+    }
+
+    /// Lends the bytes of a part for writing, which keep their number; none where the guest doesn't have it.
+    pub fn part_mut(&mut self, key: PartKey) -> Option<&mut [u8]>
+        ensures* writes_back { sem 𝓛 (LendsGuestBytes self.entry key result) }
+        ensures value { option_copied_mut result ≡ maps.get self.old.parts key }
+    {
+        match self.lend_part(key) {
+            Some(part) => Some(bytes_mut(part)),
+            None => None,
+        }
     }
 
     /// The least key of a part that is above `after`, or of all parts.
@@ -267,6 +297,44 @@ mod tests {
         }
         guest.clear_code(4);
         assert_eq!(rt; guest.next_part(Some(key(3, 7, 7))), Some(key(17, 0, 0)));
+        Ok(())
+    }
+
+    #[test]
+    fn lends_pages(rt: HostRuntime) -> Result<(), Fail> {
+        let mut guest = small_guest(&rt)?;
+        let Some(page) = guest.page_mut(5) else {
+            return Err("no page".into());
+        };
+        page[0] = 7;
+        page[4095] = 9;
+        let page = guest.page(5).ok_or("no page")?;
+        assert_eq!(rt; (page[0], page[1], page[4095]), (7, 1, 9));
+        assert_eq!(rt; guest.frame(5), Some(PageType::L1Tab));
+        assert!(rt; guest.page(0xfff_ffff) == Some(&[2; 4096]));
+        assert!(rt; guest.page_mut(2).is_none());
+        assert!(rt; guest.page_mut(6).is_none());
+        assert!(rt; guest.page_mut(u64::MAX).is_none());
+        assert_eq!(rt; guest.frames(), 3);
+        Ok(())
+    }
+
+    #[test]
+    fn lends_parts(rt: HostRuntime) -> Result<(), Fail> {
+        let mut guest = small_guest(&rt)?;
+        let Some(part) = guest.part_mut(key(4, 1, 0)) else {
+            return Err("no part".into());
+        };
+        assert!(rt; part.len() == 4 && part[0] == 1);
+        part.fill(7);
+        if let Some(last) = part.last_mut() {
+            *last = 9;
+        }
+        assert_eq!(rt; guest.part(key(4, 1, 0)), Some([7, 7, 7, 9].as_slice()));
+        assert_eq!(rt; guest.part(key(4, 0, 9)), Some([5].as_slice()));
+        assert!(rt; guest.part_mut(key(3, 7, 7)).is_some());
+        assert!(rt; guest.part_mut(key(4, 1, 1)).is_none());
+        assert_eq!(rt; guest.part(key(17, 0, 0)), Some([6].as_slice()));
         Ok(())
     }
 

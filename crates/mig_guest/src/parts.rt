@@ -1,13 +1,15 @@
 ghost use Rattle.std.specs.declared.ops.Bound.TheVariants.{Included, Excluded, Unbounded};
 ghost use Rattle.std.specs.Prelude.{◌≡◌, ◌==◌, ℕ, ◌+◌, ◌≤◌, length, not, OnOk, OnErr, IfSome, IfNone, IsSome, None, option_and_then};
 ghost use Rattle.std.specs.declared.cmp.Ordering.TheVariants.{Less};
-ghost use Rattle.std.specs.Option.{option_copied, option_map};
+ghost use Rattle.std.specs.Option.{option_copied, option_copied_mut, option_map};
 ghost use Rattle.std.specs.BTreeMap as tree;
 ghost use Rattle.std.specs.FinMap as maps;
+ghost use Rattle.std.specs.Borrow.{sem};
 ghost use Rattle.mig_pagestore.specs.Pages.{spliced};
 ghost use Rattle.mig_guest.specs.declared.part_key.PartKey.{PartKey};
 ghost use Rattle.mig_guest.specs.Order.{part_cmp, IsAbove};
 ghost use Rattle.mig_guest.specs.Parts.{NextPart, NextBehind};
+ghost use Rattle.mig_guest.specs.Lending.{LendsBytes};
 
 use crate::part_key::PartKey;
 use mig_bytes::Memory;
@@ -41,6 +43,14 @@ fn write_over(part: &mut [u8], at: usize, bytes: &[u8])
     ensures { part.new ≡ spliced part.old at bytes.now }
 {
     part[at..at + bytes.len()].copy_from_slice(bytes);
+}
+
+// Lends the bytes, which keep their number.
+pub(crate) fn bytes_mut(part: &mut Vec<u8>) -> &mut [u8]
+    ensures* writes_back { sem 𝓛 (LendsBytes part.entry result) }
+    ensures value { result.now ≡ part.old.items }
+{
+    part.as_mut_slice()
 }
 
 // The least key.
@@ -95,6 +105,8 @@ fn behind(after: Option<PartKey>) -> Bound<PartKey>
 }
 
 impl Parts {
+    ghost use Rattle.mig_guest.specs.Lending.{LendsPart};
+
     pub(crate) fn new(alloc: Global) -> Parts
         ensures { result ≡ maps.empty }
     {
@@ -124,6 +136,13 @@ impl Parts {
             Ok(_) => Ok(()),
             Err(_) => Err(Memory),
         }
+    }
+
+    pub(crate) fn lend(&mut self, key: PartKey) -> Option<&mut Vec<u8>>
+        ensures* writes_back { sem 𝓛 (LendsPart self.entry key result) }
+        ensures value { option_map (λ v. v.items) (option_copied_mut result) ≡ maps.get self.old key }
+    {
+        self.parts.get_mut(&key)
     }
 
     // Writes `bytes` over those of one part from its byte `at` on.

@@ -41,6 +41,14 @@ impl Model for PageStore {
     ghost invariant = { λ a. IsSound a.pfns.items (length a.pages.items) (length a.pool.items) (vec_capacity a.pfns) (vec_capacity a.pages) };
 }
 
+// A page, which has as many bytes as its type says.
+fn whole(page: &[u8; 4096]) -> &[u8; 4096]
+    ensures same { result.now ≡ page.now }
+    ensures size { length result.now ≡ 4096 }
+{
+    page
+}
+
 impl PageStore {
     ghost use Rattle.mig_pagestore.specs.Lending.{LendsPage};
 
@@ -68,10 +76,11 @@ impl PageStore {
     /// The page of this PFN; none where it isn't there.
     pub fn get(&self, pfn: u64) -> Option<&[u8; 4096]>
         ensures value { option_copied result ≡ map.get self.now.pages pfn }
+        ensures whole { IfSome result (λ page. length page.now ≡ 4096) }
         ensures small { IsSome result → pfn < 2 ^ 28 }
     {
         match position(&self.pfns, pfn) {
-            Ok(at) => Some(self.pages[at].as_ref()),
+            Ok(at) => Some(whole(self.pages[at].as_ref())),
             Err(_) => None,
         }
     }

@@ -1,9 +1,10 @@
-use Rattle.std.proofs.Common.{◌≡◌, ℕ, List, ◌∷◌, map, Option, Some, None, is_some, Bor, refl, sym, ap, subst, ◌∙◌}
-use Rattle.std.specs.Option.{option_copied}
+use Rattle.std.proofs.Common.{◌≡◌, ℕ, List, ◌∷◌, map, Option, Some, is_some, sym, ap, subst, ◌∙◌}
+use Rattle.std.specs.Option.{option_copied, option_map}
 use Rattle.std.specs.List.{All}
 use Rattle.std.proofs.lemmas.List.Elements.{All-head}
 use Rattle.mig_pagetypes.specs.declared.page_type.PageType.{PageType}
-use Rattle.mig_guest.proofs.FrameMaps.{Kinds, kind_at, sized_at}
+use Rattle.mig_guest.specs.FrameView.{whole_page}
+use Rattle.mig_guest.proofs.FrameMaps.{Kinds, kind_at, sized_at, whole_found, is_some_found}
 use Rattle.std.specs.FinMap as maps
 use Rattle.mig_guest.specs.Frames.{FrameMap}
 use Rattle.mig_guest.specs.Frames.{entries_from}
@@ -19,7 +20,7 @@ returns-in-Some-clause-next c =
     let whole : entries_from from es ≡ map (shown pages) (entries_from from kinds) = ap (λ (m : FrameMap). entries_from from (maps.entries m)) (sym c.self.view_is) ∙ ap (entries_from from) (entries_seen pages kinds c.range.ensures.ordered) ∙ from_shown pages from kinds in
     let first : entries_from from es ≡ e ∷ rest =
     whole ∙ ap (map (shown pages)) (from_range from kinds ∙ sym (c.range.ensures.between tt) ∙ c.in-Some.ensures.steps)
-    ∙ ap (λ (page : Option (List ℕ)). (c.in-Some.pfn.now, record { kind = c.in-Some.kind.now; page = page }) ∷ rest) (sym c.get.ensures.value) in
+    ∙ ap (λ (page : Option (List ℕ)). (c.in-Some.pfn.now, record { kind = c.in-Some.kind.now; page = page }) ∷ rest) (ap (option_map whole_page) (sym c.get.ensures.value) ∙ whole_found c.get.result c.get.ensures.whole) in
     first ∙ ap (λ l. e ∷ l) (sym (next_from from es rest e (maps.entries_sorted c.args.self.now) first))
 
 pub returns-in-None-clause-next : goal.returns-in-None-clause-next
@@ -32,10 +33,6 @@ returns-in-None-clause-next c =
 found : (kinds : Kinds) (r rest : Kinds) (e : ℕ × PageType) → r ≡ e ∷ rest → All (λ (f : ℕ × PageType). kind_at kinds f.0 ≡ Some f.1) r → kind_at kinds e.0 ≡ Some e.1
 found kinds r rest e is all = All-head (λ (f : ℕ × PageType). kind_at kinds f.0 ≡ Some f.1) e rest (subst (All (λ (f : ℕ × PageType). kind_at kinds f.0 ≡ Some f.1)) is all)
 
-is_some_copied : (r : Option (Bor (List ℕ))) → is_some (option_copied r) ≡ is_some r
-is_some_copied None = refl
-is_some_copied (Some b) = refl
-
 pub returns-in-Some-clause-small : goal.returns-in-Some-clause-small
 returns-in-Some-clause-small c =
     let kinds = c.self.inside.kinds.entries in
@@ -45,4 +42,4 @@ pub returns-in-Some-clause-paged : goal.returns-in-Some-clause-paged
 returns-in-Some-clause-paged c =
     let kinds = c.self.inside.kinds.entries in
     let sized = sized_at c.self.inside.pages.pages kinds c.in-Some.pfn.now c.in-Some.kind.now (found kinds c.range.result c.next.new.self (c.in-Some.pfn.now, c.in-Some.kind.now) c.in-Some.ensures.steps (λ k d lt. ((c.range.ensures.in_range tt).0 k d lt).1)) c.self.invariant.sized in
-    sym (is_some_copied c.get.result) ∙ ap is_some c.get.ensures.value ∙ sized.1.in_step
+    sym (is_some_found c.get.result) ∙ ap is_some (sym (whole_found c.get.result c.get.ensures.whole) ∙ ap (option_map whole_page) c.get.ensures.value) ∙ sized.1.in_step

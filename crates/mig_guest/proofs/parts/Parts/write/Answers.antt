@@ -1,19 +1,15 @@
-use Rattle.std.proofs.Common.{◌≡◌, ◌+◌, ◌≤◌, length, Option, Some, None, is_some, MutBor, refl, sym, ap, ◌∙◌, arith}
+use Rattle.std.proofs.Common.{◌≡◌, ◌+◌, ◌≤◌, length, Some, is_some, sym, ap, ◌∙◌, arith}
 use Rattle.std.specs.Option.{option_map, option_copied_mut}
 use Rattle.std.specs.Vec.{with_items}
 use Rattle.std.proofs.lemmas.List.{with_items_is}
 use Rattle.std.specs.FinMap as maps
 use Rattle.mig_pagestore.specs.Pages.{spliced}
 use Rattle.mig_guest.specs.Parts.{PartMap}
-use Rattle.mig_guest.proofs.PartMaps.{got, there_seen, part_at, put_seen}
+use Rattle.mig_guest.proofs.PartMaps.{got, is_some_lent, there_seen, part_at, put_seen}
 use Rattle.mig_guest.proofs.parts.Parts.write.Goals as goal
 
-is_some_copied : {X : Type 0} (r : Option (MutBor X)) → is_some (option_copied_mut r) ≡ is_some r
-is_some_copied None = refl
-is_some_copied (Some b) = refl
-
 pub unwrap-part-requires : goal.unwrap-part-requires
-unwrap-part-requires c = sym (is_some_copied c.get_mut.result) ∙ ap is_some c.get_mut.ensures.value ∙ sym (there_seen c.self.inside.parts.entries c.args.self.now c.self.view_is c.args.key) ∙ c.requires.there
+unwrap-part-requires c = sym (is_some_lent c.get_mut.result) ∙ ap is_some c.get_mut.ensures.value ∙ sym (there_seen c.self.inside.parts.entries c.args.self.now c.self.view_is c.args.key) ∙ c.requires.there
 
 pub write_over-requires : goal.write_over-requires
 write_over-requires c =

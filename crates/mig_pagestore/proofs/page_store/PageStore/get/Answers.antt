@@ -7,7 +7,7 @@ use Rattle.mig_pagestore.proofs.page_store.PageStore.get.Goals as goal
 pub returns-in-Ok-clause-value : goal.returns-in-Ok-clause-value
 returns-in-Ok-clause-value c =
     let is = c.self.invariant in let pfn = c.args.pfn in
-    rw c.as_ref.ensures (sym (box_at (λ b. b.value) _ _ is.rising is.as_many pfn _ c.index.result.now (rw c.deref.ensures.value at c.in-Ok.ensures.found) c.index.ensures)
+    rw (c.whole.ensures.same, c.as_ref.ensures) (sym (box_at (λ b. b.value) _ _ is.rising is.as_many pfn _ c.index.result.now (rw c.deref.ensures.value at c.in-Ok.ensures.found) c.index.ensures)
     ∙ ap (λ (s : Store). maps.get s.pages pfn) c.self.view_is)
 
 pub returns-in-Err-clause-value : goal.returns-in-Err-clause-value
