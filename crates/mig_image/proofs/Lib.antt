@@ -1,1 +1,2 @@
 pub mod HostMaps
+pub mod MachineMaps
