@@ -1,7 +1,7 @@
 -- A finite map whose values are shown through f, each with its number; and the frames of a host, which are those of a guest
 -- with their machine frames.
-use Rattle.std.proofs.Common.{◌≡◌, ℕ, length, Bool, true, false, cond, List, [], ◌∷◌, map, Option, Some, None, refl, sym, ap, subst, ◌∙◌}
-use Rattle.std.specs.Prelude.{T, ◌&&◌}
+use Rattle.std.proofs.Common.{◌≡◌, ℕ, length, Bool, true, false, cond, List, [], ◌∷◌, map, Option, Some, None, is_some, IsSome, IfSome, IfNone, option_and_then, ◌≤◌, ◌<◌, refl, sym, ap, subst, ◌∙◌}
+use Rattle.std.specs.Prelude.{T, ◌&&◌, unwrap_or}
 use Rattle.std.proofs.lemmas.List.{length-map}
 use Rattle.std.specs.Ordering.{nat_cmp, is_lt, eq_by_cmp}
 use Rattle.std.specs.Option.{option_map}
@@ -11,7 +11,8 @@ use Rattle.std.specs.FinMap.{FinMap, find, is_sorted, nat_cmp-IsAntisymmetric, s
 use Rattle.std.specs.FinMap.Entries.{below_all}
 use Rattle.mig_guest.specs.Frames.{FrameOf, FrameMap}
 use Rattle.mig_guest.proofs.KeyedMaps.{tied}
-use Rattle.mig_image.specs.HostView.{with_machine, with_machines}
+use Rattle.mig_guest.specs.Hosts.{HostFrame, HostFrames}
+use Rattle.mig_image.specs.HostView.{MachineMap, with_machine, with_machines, machine_in, AreMatched}
 
 module _ {X Y : Type 0} (f : ℕ → X → Y) where
   -- an entry, its value through f
@@ -60,3 +61,52 @@ module _ (frames : FrameMap) (machine_of : ℕ → ℕ) where
 
   pub count_with_machines : length (maps.entries (with_machines frames machine_of)) ≡ length (maps.entries frames)
   count_with_machines = ap length entries_with_machines ∙ length-map (maps.entries frames) (λ (e : ℕ × FrameOf). (e.0, with_machine e.1 (machine_of e.0)))
+
+-- ---- what a host is seen to have
+
+module _ (frames : FrameMap) (machines : MachineMap) where
+  abbrev pub joined : HostFrames
+  joined = with_machines frames (machine_in machines)
+
+  seen : (pfn : ℕ) → maps.get joined pfn ≡ option_map (λ (f : FrameOf). with_machine f (machine_in machines pfn)) (maps.get frames pfn)
+  seen = get_with_machines frames (machine_in machines)
+
+  kind_of : (m : ℕ) (r : Option FrameOf) → option_map (λ (f : FrameOf). f.kind) r ≡ option_map (λ (f : HostFrame). f.kind) (option_map (λ (f : FrameOf). with_machine f m) r)
+  kind_of m None = refl
+  kind_of m (Some f) = refl
+
+  pub kind_joined : (pfn : ℕ) → option_map (λ (f : FrameOf). f.kind) (maps.get frames pfn) ≡ option_map (λ (f : HostFrame). f.kind) (maps.get joined pfn)
+  kind_joined pfn = kind_of (machine_in machines pfn) (maps.get frames pfn) ∙ ap (option_map (λ (f : HostFrame). f.kind)) (sym (seen pfn))
+
+  page_of : (m : ℕ) (r : Option FrameOf) → option_and_then (λ (f : FrameOf). f.page) r ≡ option_and_then (λ (f : HostFrame). f.page) (option_map (λ (f : FrameOf). with_machine f m) r)
+  page_of m None = refl
+  page_of m (Some f) = refl
+
+  pub page_joined : (pfn : ℕ) → option_and_then (λ (f : FrameOf). f.page) (maps.get frames pfn) ≡ option_and_then (λ (f : HostFrame). f.page) (maps.get joined pfn)
+  page_joined pfn = page_of (machine_in machines pfn) (maps.get frames pfn) ∙ ap (option_and_then (λ (f : HostFrame). f.page)) (sym (seen pfn))
+
+  machine_of : (s : Option ℕ) (r : Option FrameOf) → is_some s ≡ is_some r → s ≡ option_map (λ (f : HostFrame). f.machine) (option_map (λ (f : FrameOf). with_machine f (unwrap_or s 0)) r)
+  machine_of None None e = refl
+  machine_of None (Some f) e = let no : false ≡ true = e in cc
+  machine_of (Some m) None e = let no : true ≡ false = e in cc
+  machine_of (Some m) (Some f) e = refl
+
+  pub machine_joined : AreMatched frames machines → (pfn : ℕ) → maps.get machines pfn ≡ option_map (λ (f : HostFrame). f.machine) (maps.get joined pfn)
+  machine_joined matched pfn = machine_of (maps.get machines pfn) (maps.get frames pfn) (matched pfn) ∙ ap (option_map (λ (f : HostFrame). f.machine)) (sym (seen pfn))
+
+  none_joined : (pfn : ℕ) → maps.get frames pfn ≡ None → maps.get joined pfn ≡ None
+  none_joined pfn e = seen pfn ∙ ap (option_map (λ (f : FrameOf). with_machine f (machine_in machines pfn))) e
+
+  there : (m : ℕ) (r : Option FrameOf) → is_some (option_map (λ (f : FrameOf). with_machine f m) r) ≡ is_some r
+  there m None = refl
+  there m (Some f) = refl
+
+  pub there_joined : (pfn : ℕ) → is_some (maps.get joined pfn) ≡ is_some (maps.get frames pfn)
+  there_joined pfn = ap is_some (seen pfn) ∙ there (machine_in machines pfn) (maps.get frames pfn)
+
+  -- the first frame from a number on
+  pub first_joined : (from : ℕ) (r : Option ℕ)
+      → IfNone r ((k : ℕ) → from ≤ k → maps.get frames k ≡ None) → IfSome r (λ q. IsSome (maps.get frames q)) → IfSome r (λ q. (from ≤ q) × ((k : ℕ) → from ≤ k → k < q → maps.get frames k ≡ None))
+      → IfNone r ((k : ℕ) → from ≤ k → maps.get joined k ≡ None) × IfSome r (λ q. IsSome (maps.get joined q)) × IfSome r (λ q. (from ≤ q) × ((k : ℕ) → from ≤ k → k < q → maps.get joined k ≡ None))
+  first_joined from None n t l = (λ k le. none_joined k (n k le), tt, tt)
+  first_joined from (Some q) n t l = (tt, there_joined q ∙ t, (l.0, λ k le lt. none_joined k (l.1 k le lt)))
