@@ -1,3 +1,4 @@
 pub mod HostEntries
 pub mod HostMaps
+pub mod HostsMade
 pub mod MachineMaps
