@@ -4,9 +4,9 @@ use Rattle.std.specs.Prelude.{unwrap_or}
 use Rattle.std.specs.declared.cmp.Ordering.{Ordering}
 use Rattle.std.specs.Option.{option_map}
 use Rattle.std.specs.Ordering.{nat_cmp, eq_by_cmp}
-use Rattle.std.specs.Cmp.{nat_cmp_total}
+use Rattle.std.specs.Cmp.{IsTotalOrder, nat_cmp_total}
 use Rattle.std.specs.FinMap as maps
-use Rattle.std.specs.FinMap.{nat_cmp-IsAntisymmetric, same_map, get-insert, get-empty, len-insert, len-empty, len-entries, empty_of_len}
+use Rattle.std.specs.FinMap.{FinMap, nat_cmp-IsAntisymmetric, same_map, get-insert, get-empty, len-insert, len-empty, len-entries, empty_of_len}
 use Rattle.std.proofs.lemmas.Bool.{cases_eq}
 use Rattle.mig_headers.specs.declared.kind.Kind.{Kind}
 use Rattle.mig_headers.specs.declared.kind.Kind.TheVariants.{Pv, Hvm}
@@ -44,6 +44,17 @@ framed_typed k Xalloc is m pfn page = refl
 framed_typed Pv Xtab is m pfn page = absurd (let no : false ≡ true = is in cc)
 framed_typed Hvm Xtab is m pfn page = absurd (let no : false ≡ true = is in cc)
 
+at_most : (b : Bool) (n : ℕ) → cond b n (n + 1) ≤ n + 1
+at_most true n = omega arith
+at_most false n = omega arith
+
+-- at most one entry more
+pub count_put : {K X : Type 0} {R : K → K → Ordering} (o : IsTotalOrder R) (m : FinMap R X) (k : K) (v : X) → length (maps.entries (maps.insert m k v)) ≤ length (maps.entries m) + 1
+count_put o m k v =
+    let there = is_some (maps.get m k) in let count = length (maps.entries m) in
+    let is = sym (len-entries (maps.insert m k v)) ∙ len-insert o m k v ∙ ap (λ n. cond there n (n + 1)) (len-entries m) in
+    subst (λ n. n ≤ count + 1) (sym is) (at_most there count)
+
 -- ---- a frame more
 
 module _ (h : HostOf) (pfn : ℕ) (frame : HostFrame) (valid : IsValid h) (fine : IsHostFrame h.kind h.width pfn frame)
@@ -76,13 +87,8 @@ module _ (h : HostOf) (pfn : ℕ) (frame : HostFrame) (valid : IsValid h) (fine 
     ]
   ]
 
-  at_most_one : (b : Bool) (n : ℕ) → n < 2 ^ 24 → cond b n (n + 1) ≤ 2 ^ 24
-  at_most_one true n less = omega (arith, less)
-  at_most_one false n less = omega (arith, less)
-
   few_more : length (maps.entries h.frames) < 2 ^ 24 → length (maps.entries more) ≤ 2 ^ 24
-  few_more few = subst (λ n. n ≤ 2 ^ 24) (sym (sym (len-entries more) ∙ len-insert nat_cmp_total h.frames pfn frame))
-      (at_most_one (is_some (maps.get h.frames pfn)) (maps.len h.frames) (subst (λ n. n < 2 ^ 24) (sym (len-entries h.frames)) few))
+  few_more few = omega (arith, few, count_put nat_cmp_total h.frames pfn frame)
 
   pub valid_frame : length (maps.entries h.frames) < 2 ^ 24 → IsValid (put_frame h pfn frame)
   valid_frame few = record {
@@ -122,6 +128,9 @@ no_entries : {A : Type 0} (es : List A) → length es ≡ 0 → es ≡ []
 no_entries [] e = refl
 no_entries (x ∷ es) e = absurd (omega (arith, e))
 
+pub entries_empty : {K : Type 0} (R : K → K → Ordering) (X : Type 0) → maps.entries (maps.empty {X = X} {R = R}) ≡ []
+entries_empty R X = no_entries (maps.entries (maps.empty {X = X} {R = R})) (sym (len-entries (maps.empty {X = X} {R = R})) ∙ len-empty R X)
+
 pub joined_empty : joined maps.empty maps.empty ≡ maps.empty
 joined_empty =
     empty_of_len (joined maps.empty maps.empty)
@@ -137,18 +146,15 @@ made_empty g width kind is small some =
         some_width = some;
         frames = λ pfn f has. absurd (nothing f (sym (get-empty nat_cmp pfn) ∙ has));
         one_to_one = λ p q f g has gets alike. absurd (nothing f (sym (get-empty nat_cmp p) ∙ has));
-        few = subst (λ n. n ≤ 2 ^ 24) (sym (no_length nat_cmp HostFrame)) (omega arith);
+        few = subst (λ (es : List (ℕ × HostFrame)). length es ≤ 2 ^ 24) (sym (entries_empty nat_cmp HostFrame)) (omega arith);
         parts = λ k b has. absurd (nothing b (sym (get-empty part_cmp k) ∙ has));
         leaves = none_of 17;
         msrs = none_of 18;
       });
     })
   where
-    no_length : {K : Type 0} (R : K → K → Ordering) (X : Type 0) → length (maps.entries (maps.empty {X = X} {R = R})) ≡ 0
-    no_length R X = sym (len-entries (maps.empty {X = X} {R = R})) ∙ len-empty R X
-
     none_of : (code : ℕ) → FitsPolicy code maps.empty
-    none_of code = subst (λ (es : List (PartKey × List ℕ)). length (parts_of code es) ≤ 65536) (sym (no_entries _ (no_length part_cmp (List ℕ)))) (omega arith)
+    none_of code = subst (λ (es : List (PartKey × List ℕ)). length (parts_of code es) ≤ 65536) (sym (entries_empty part_cmp (List ℕ))) (omega arith)
 
 module _ (frames : FrameMap) (machines : MachineMap) (pfn : ℕ) (f : FrameOf) (machine : ℕ) where
   abbrev frames_more : FrameMap

@@ -2,3 +2,4 @@ pub mod HostEntries
 pub mod HostMaps
 pub mod HostsMade
 pub mod MachineMaps
+pub mod Samples
