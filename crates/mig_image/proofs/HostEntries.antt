@@ -17,6 +17,7 @@ use Rattle.mig_guest.specs.Hosts.{HostFrame}
 use Rattle.mig_guest.proofs.KeyedMaps.{tied}
 use Rattle.mig_guest.proofs.PartCursor.{both_of}
 use Rattle.mig_image.specs.HostView.{MachineMap, with_machine, machine_in, AreMatched}
+use Rattle.mig_image.proofs.MachineMaps.{same_value}
 use Rattle.mig_image.proofs.HostMaps.{shown, joined, entries_with_machines, machine_joined}
 
 -- ---- entries in order
@@ -50,10 +51,7 @@ module _ {X : Type 0} where
 
   module _ (p : X → Bool) where
     any_case : (e : ℕ × X) (v : X) (b rest : Bool) (r : Option X) → cond b (Some e.1) r ≡ Some v → p v ≡ true → (r ≡ Some v → rest ≡ true) → (p e.1 || rest) ≡ true
-    any_case e v true rest r is passes go = ap (λ t. t || rest) (ap p (same is) ∙ passes)
-      where
-        same : {A : Type 0} {x y : A} → Some x ≡ Some y → x ≡ y
-        same h = cc
+    any_case e v true rest r is passes go = ap (λ t. t || rest) (ap p (same_value e.1 v is) ∙ passes)
     any_case e v false rest r is passes go = ap (λ t. p e.1 || t) (go is) ∙ always (p e.1)
       where
         always : (b : Bool) → (b || true) ≡ true

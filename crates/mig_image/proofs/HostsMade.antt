@@ -23,10 +23,7 @@ use Rattle.mig_guest.proofs.PartOrder.{part_total, part_exact}
 use Rattle.mig_image.specs.HostView.{MachineMap, with_machine, machine_in, host_seen, AreMatched, IsMade}
 use Rattle.mig_image.specs.ImageParts.{put_frame, put_part_in}
 use Rattle.mig_image.proofs.HostMaps.{joined, get_with_machines, count_with_machines, machine_joined, there_joined}
-use Rattle.mig_image.proofs.MachineMaps.{got_put, got_other, nothing}
-
-same_value : {X : Type 0} (x y : X) → Some x ≡ Some y → x ≡ y
-same_value x y e = cc
+use Rattle.mig_image.proofs.MachineMaps.{got_put, got_other, same_value, nothing}
 
 -- a frame of a type that a host's frame has
 pub framed_typed : (k : Kind) (kind : PageType) → is_type_of k kind ≡ true → (m : FrameMap) (pfn : ℕ) (page : Option (List ℕ)) → framed m pfn kind page ≡ maps.insert m pfn (record { kind = kind; page = page })

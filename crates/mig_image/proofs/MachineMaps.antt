@@ -77,7 +77,7 @@ module _ (es fs : List (ℕ × ℕ)) (k : ℕ) where
 
 -- ---- inverse maps
 
-same_value : {X : Type 0} (x y : X) → Some x ≡ Some y → x ≡ y
+pub same_value : {X : Type 0} (x y : X) → Some x ≡ Some y → x ≡ y
 same_value x y e = cc
 
 pub nothing : {X : Type 0} (x : X) → None ≡ Some x → ⊥

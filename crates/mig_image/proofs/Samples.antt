@@ -1,18 +1,17 @@
 -- Small hosts, as tests make them: what is put into a host without frames, or without parts.
-use Rattle.std.proofs.Common.{◌≡◌, ◌≢◌, ℕ, ◌+◌, ◌<◌, ◌≤◌, ◌^◌, Bool, true, false, cond, length, filter, List, [], ◌∷◌, Some, None, sym, ap, subst, ◌∙◌, inl, inr, arith}
+use Rattle.std.proofs.Common.{◌≡◌, ◌≢◌, ℕ, ◌<◌, ◌≤◌, ◌^◌, Bool, true, false, cond, length, filter, List, [], ◌∷◌, Some, None, sym, ap, ◌∙◌, inl, inr, arith}
 use Rattle.std.specs.Prelude.{◌==◌}
 use Rattle.std.specs.Ordering.{nat_cmp}
 use Rattle.std.specs.Cmp.{nat_cmp_total}
 use Rattle.std.specs.FinMap as maps
 use Rattle.std.specs.FinMap.{get-empty}
 use Rattle.mig_guest.specs.declared.part_key.PartKey.{PartKey}
-use Rattle.mig_guest.specs.Hosts.{HostOf, HostFrame, HostFrames}
+use Rattle.mig_guest.specs.Hosts.{HostFrame, HostFrames}
 use Rattle.mig_guest.specs.Order.{part_cmp}
 use Rattle.mig_guest.specs.Parts.{PartMap, FitsPolicy}
 use Rattle.mig_guest.proofs.PartOrder.{part_total}
-use Rattle.mig_image.specs.ImageParts.{put_frame, put_part_in}
 use Rattle.mig_image.proofs.HostsMade.{entries_empty, count_put}
-use Rattle.mig_image.proofs.MachineMaps.{got_put, got_other, nothing}
+use Rattle.mig_image.proofs.MachineMaps.{got_put, got_other, same_value, nothing}
 use Rattle.std.proofs.lemmas.Bool.{cases_eq}
 
 -- ---- frames
@@ -33,12 +32,9 @@ module _ (m n : HostFrames) (none : m ≡ maps.empty) (k : ℕ) (frame : HostFra
   pub one_absent : (q : ℕ) → q ≢ k → maps.get n q ≡ None
   one_absent q ne = ap (λ (x : HostFrames). maps.get x q) put ∙ got_other m k frame q ne ∙ none_absent m none q
 
-  same_value : {X : Type 0} {x y : X} → Some x ≡ Some y → x ≡ y
-  same_value e = cc
-
   pub one_unused : (machine : ℕ) → frame.machine ≢ machine → (other : ℕ) (f : HostFrame) → maps.get n other ≡ Some f → f.machine ≡ machine → ⊥
   one_unused machine ne other f has is = elim (cases_eq other k) [
-    | inl same ↦ ne (ap (λ (x : HostFrame). x.machine) (same_value (sym (got_put m k frame) ∙ ap (λ (x : HostFrames). maps.get x k) (sym put) ∙ ap (maps.get n) (sym same) ∙ has)) ∙ is)
+    | inl same ↦ ne (ap (λ (x : HostFrame). x.machine) (same_value frame f (sym (got_put m k frame) ∙ ap (λ (x : HostFrames). maps.get x k) (sym put) ∙ ap (maps.get n) (sym same) ∙ has)) ∙ is)
     | inr differ ↦ nothing f (sym (one_absent other differ) ∙ has)
   ]
 

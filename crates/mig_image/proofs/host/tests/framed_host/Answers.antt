@@ -1,6 +1,5 @@
-use Rattle.std.proofs.Common.{◌≡◌, ap, arith}
-use Rattle.std.specs.FinMap as maps
-use Rattle.mig_guest.specs.Hosts.{HostOf, HostFrames}
+use Rattle.std.proofs.Common.{ap, arith}
+use Rattle.mig_guest.specs.Hosts.{HostOf}
 use Rattle.mig_image.proofs.Samples.{none_absent, none_unused, none_few, one_absent, one_unused, one_few}
 use Rattle.mig_image.proofs.host.tests.framed_host.Goals as goal
 
