@@ -196,3 +196,95 @@ impl Host {
         self.guest.set_part(key, bytes)
     }
 }
+
+#[cfg(test)]
+mod tests {
+    use super::*;
+    use std::test::Fail;
+
+    const TSC: PartKey = PartKey {
+        code: 8,
+        key1: 0,
+        key2: 0,
+    };
+
+    const PARAM: PartKey = PartKey {
+        code: 10,
+        key1: 3,
+        key2: 0,
+    };
+
+    fn framed_host(rt: &HostRuntime) -> Result<Host, Fail> {
+        let mut host = Host::new(rt.alloc(), Kind::Hvm, 9);
+        host.add_frame(2, PageType::Notab, 0x51, Some(&[7; 4096]))?;
+        host.add_frame(8, PageType::Broken, 0x50, None)?;
+        Ok(host)
+    }
+
+    fn parted_host(rt: &HostRuntime) -> Result<Host, Fail> {
+        let mut host = Host::new(rt.alloc(), Kind::Hvm, 9);
+        host.set_part(PARAM, &[1; 8])?;
+        host.set_part(TSC, &[2; 20])?;
+        Ok(host)
+    }
+
+    #[test]
+    fn looks_up_frames(rt: HostRuntime) -> Result<(), Fail> {
+        let host = framed_host(&rt)?;
+        assert_eq!(rt;
+            (host.kind(), host.width(), host.frames()),
+            (Kind::Hvm, 9, 2)
+        );
+        // the number, its type, its machine frame, the first byte of its page, and the next number with a frame
+        let rows = [
+            (0, None, None, None, Some(2)),
+            (2, Some(PageType::Notab), Some(0x51), Some(7), Some(2)),
+            (3, None, None, None, Some(8)),
+            (8, Some(PageType::Broken), Some(0x50), None, Some(8)),
+            (9, None, None, None, None),
+        ];
+        for (pfn, kind, machine, first, next) in rows {
+            assert_eq!(rt; host.frame(pfn), kind, "type of {pfn}");
+            assert_eq!(rt; host.machine(pfn), machine, "machine frame of {pfn}");
+            assert_eq!(rt; host.page(pfn).map(|page| page[0]), first, "page of {pfn}");
+            assert_eq!(rt; host.next_frame(pfn), next, "next of {pfn}");
+        }
+        for (machine, used) in [(0x50, true), (0x51, true), (0x52, false), (2, false)] {
+            assert_eq!(rt; host.uses_machine(machine), used, "machine frame {machine}");
+        }
+        Ok(())
+    }
+
+    #[test]
+    fn walks_entries(rt: HostRuntime) -> Result<(), Fail> {
+        let host = framed_host(&rt)?;
+        let (pfn, kind, machine, page) = host.next_entry(0).ok_or("no entry")?;
+        assert_eq!(rt; (pfn, kind, machine), (2, PageType::Notab, 0x51));
+        assert!(rt; page == Some(&[7; 4096]));
+        let (pfn, kind, machine, page) = host.next_entry(3).ok_or("no entry")?;
+        assert_eq!(rt; (pfn, kind, machine), (8, PageType::Broken, 0x50));
+        assert!(rt; page.is_none());
+        assert!(rt; host.next_entry(9).is_none());
+        Ok(())
+    }
+
+    #[test]
+    fn looks_up_parts(rt: HostRuntime) -> Result<(), Fail> {
+        let host = parted_host(&rt)?;
+        let tsc = host.part(TSC).ok_or("no part")?;
+        assert_eq!(rt; (tsc.len(), tsc.first().copied()), (20, Some(2)));
+        let param = host.part(PARAM).ok_or("no part")?;
+        assert_eq!(rt; (param.len(), param.first().copied()), (8, Some(1)));
+        assert!(rt; host.part(PartKey { key1: 4, ..PARAM }).is_none());
+        for (after, next) in [
+            (None, Some(TSC)),
+            (Some(TSC), Some(PARAM)),
+            (Some(PARAM), None),
+        ] {
+            assert_eq!(rt; host.next_part(after), next);
+        }
+        let (key, bytes) = host.next_behind(Some(TSC)).ok_or("no part")?;
+        assert_eq!(rt; (key, bytes.len()), (PARAM, 8));
+        Ok(())
+    }
+}

@@ -1,0 +1,5 @@
+pub mod HostEntries
+pub mod HostMaps
+pub mod HostsMade
+pub mod MachineMaps
+pub mod Samples
