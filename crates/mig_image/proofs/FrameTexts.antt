@@ -132,7 +132,7 @@ fine h e head s f = no_fault (frame_rows h head) (
 
 -- ---- the page
 
-abbrev page_if : Bool → List ℕ → Judged ImageCause (Option (List ℕ))
+abbrev pub page_if : Bool → List ℕ → Judged ImageCause (Option (List ℕ))
 page_if b input = cond b (part Truncated 4096 input >>= λ page. Passes (Some page.0) page.1) (Passes None input)
 
 page_goes : (kind : PageType) (page : Option (List ℕ)) (rest : List ℕ) → is_some page ≡ type_has_data kind → ((p : List ℕ) → page ≡ Some p → length p ≡ 4096)

@@ -1,6 +1,7 @@
 -- Entries in the order of their keys, and maps that grow behind all entries.
-use Rattle.std.proofs.Common.{◌≡◌, Bool, true, false, cond, not, List, [], ◌∷◌, ◌++◌, Option, Some, None, refl, sym, ap, subst, ◌∙◌, append_assoc, length, arith}
+use Rattle.std.proofs.Common.{◌≡◌, Bool, true, false, cond, not, List, [], ◌∷◌, ◌++◌, Option, Some, None, refl, sym, ap, subst, ◌∙◌, append_assoc, length, arith, ◌⊎◌, inl, inr}
 use Rattle.std.specs.Prelude.{T}
+use Rattle.std.specs.List as list
 use Rattle.std.specs.List.{AllByRecursion, list_any}
 use Rattle.std.proofs.lemmas.Bool.{or_parts, or_from}
 use Rattle.std.proofs.lemmas.Cmp.{eq_by_cmp_equiv}
@@ -9,7 +10,7 @@ use Rattle.std.specs.Ordering.{is_lt, is_eq, eq_by_cmp, ordering_reverse}
 use Rattle.std.specs.declared.cmp.Ordering.{Ordering}
 use Rattle.std.specs.declared.cmp.Ordering.TheVariants.{Less, Equal, Greater}
 use Rattle.std.specs.FinMap as maps
-use Rattle.std.specs.FinMap.{FinMap, find, put, is_sorted}
+use Rattle.std.specs.FinMap.{FinMap, IsAntisymmetric, find, put, is_sorted}
 use Rattle.std.specs.FinMap.Entries.{below_all, by_order}
 use Rattle.mig_guest.proofs.PartCursor.{both_of}
 
@@ -26,6 +27,18 @@ not_from : (r : Ordering) → not (is_lt r) ≡ false → r ≡ Less
 not_from Less h = refl
 not_from Equal h = cc
 not_from Greater h = cc
+
+-- what is found passes the test
+pub found_passes : {A : Type 0} (p : A → Bool) (xs : List A) (x : A) → list.find p xs ≡ Some x → p x ≡ true
+found_passes {A} p [] x is = let no : ◌≡◌ {A = Option A} None (Some x) = is in absurd (none_some no)
+  where
+    none_some : None ≡ Some x → ⊥
+    none_some e = cc
+found_passes p (y ∷ ys) x is = by (p y) refl is (found_passes p ys x)
+  where
+    by : (b : Bool) → p y ≡ b → cond b (Some y) (list.find p ys) ≡ Some x → (list.find p ys ≡ Some x → p x ≡ true) → p x ≡ true
+    by true passes same later = let e : y ≡ x = cc in subst (λ z. p z ≡ true) e passes
+    by false passes same later = later same
 
 module _ {X : Type 0} where
   passed : (t : X → Bool) (v x : X) (b : Bool) (o : Option X) → t x ≡ false → (o ≡ Some v → t v ≡ false) → cond b (Some x) o ≡ Some v → t v ≡ false
@@ -105,3 +118,19 @@ empty_of (e ∷ es) h = absurd (omega arith)
 -- the entries of a map without any
 pub no_entries : {K : Type 0} (R : K → K → Ordering) (X : Type 0) → maps.entries (maps.empty {X = X} {R = R}) ≡ []
 no_entries R X = empty_of (maps.entries (maps.empty {X = X} {R = R})) (sym (maps.len-entries (maps.empty {X = X} {R = R})) ∙ maps.len-empty R X)
+
+is_tied : (r : Ordering) → is_eq r ≡ true → r ≡ Equal
+is_tied Less e = cc
+is_tied Equal e = refl
+is_tied Greater e = cc
+
+-- what is found in a map with one value more: this value, or what was found before
+pub found_more : {K X : Type 0} {R : K → K → Ordering} → IsTotalOrder R → IsAntisymmetric R → (m : FinMap R X) (k : K) (x : X) (q : K) (v : X) → maps.get (maps.insert m k x) q ≡ Some v → ((q ≡ k) × (x ≡ v)) ⊎ (maps.get m q ≡ Some v)
+found_more {X = X} {R = R} total exact m k x q v is = by (eq_by_cmp R q k) refl (sym (maps.get-insert total m k x q) ∙ is)
+  where
+    same_value : (a b : X) → Some a ≡ Some b → a ≡ b
+    same_value a b e = cc
+
+    by : (b : Bool) → eq_by_cmp R q k ≡ b → cond b (Some x) (maps.get m q) ≡ Some v → ((q ≡ k) × (x ≡ v)) ⊎ (maps.get m q ≡ Some v)
+    by true tied found = inl (exact q k (is_tied (R q k) tied), same_value x v found)
+    by false tied found = inr found

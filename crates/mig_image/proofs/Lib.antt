@@ -1,7 +1,11 @@
+pub mod FieldBytes
 pub mod FrameChains
 pub mod FrameTexts
+pub mod FramesBack
+pub mod ImageBack
 pub mod ImageReads
 pub mod InOrder
 pub mod PartChains
 pub mod PartTexts
+pub mod PartsBack
 pub mod Rows

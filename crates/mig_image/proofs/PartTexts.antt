@@ -1,6 +1,6 @@
 -- A part that fits behind others is read as it is spelled.
-use Rattle.std.proofs.Common.{◌≡◌, ℕ, zero, suc, ◌+◌, ◌-◌, ◌*◌, ◌/◌, ◌%◌, ◌^◌, ◌<◌, ◌≤◌, Bool, true, false, cond, not, nat_eq, nat_le, List, [], ◌∷◌, ◌++◌, length, replicate, Option, Some, None, refl, sym, ap, subst, ◌∙◌, arith, append_assoc}
-use Rattle.std.specs.Prelude.{◌&&◌, find}
+use Rattle.std.proofs.Common.{◌≡◌, ℕ, zero, suc, ◌+◌, ◌-◌, ◌*◌, ◌/◌, ◌%◌, ◌^◌, ◌<◌, ◌≤◌, Bool, true, false, not, nat_eq, nat_le, List, [], ◌∷◌, ◌++◌, length, replicate, Some, None, refl, sym, ap, ◌∙◌, arith, append_assoc}
+use Rattle.std.specs.Prelude.{◌&&◌}
 use Rattle.std.specs.List.{list_all}
 use Rattle.std.proofs.lemmas.Bool.{and_from, and_parts, eqb-true, leb-true}
 use Rattle.std.proofs.lemmas.List.{length-replicate}
@@ -24,6 +24,7 @@ use Rattle.mig_guest.specs.PartCodes.{code_number, code_of_number, part_codes, r
 use Rattle.mig_guest.specs.Parts.{PartMap}
 use Rattle.mig_image.specs.Image.{part_head_of, part_text}
 use Rattle.mig_image.specs.ImageParts.{head_key, code_fits, code_allows, has_part_from, is_full, part_rows, fault_of_part, fault_of_bytes, fault_of_padding, put_part_in, part_head_at, bytes_at, padding_at, part_at}
+use Rattle.mig_image.proofs.InOrder.{found_passes}
 use Rattle.mig_image.proofs.Rows.{then_passes, tried_none, no_fault}
 
 -- a part that may stand behind these
@@ -33,17 +34,6 @@ pub record PartFits (kind : Kind) (width : ℕ) (m : PartMap) (e : PartKey × Li
   pub room : is_full m e.0.code ≡ false
 
 -- ---- codes
-
-found_passes : {A : Type 0} (p : A → Bool) (xs : List A) (x : A) → find p xs ≡ Some x → p x ≡ true
-found_passes {A} p [] x is = let no : ◌≡◌ {A = Option A} None (Some x) = is in absurd (none_some no)
-  where
-    none_some : None ≡ Some x → ⊥
-    none_some e = cc
-found_passes p (y ∷ ys) x is = by (p y) refl is (found_passes p ys x)
-  where
-    by : (b : Bool) → p y ≡ b → cond b (Some y) (find p ys) ≡ Some x → (find p ys ≡ Some x → p x ≡ true) → p x ≡ true
-    by true passes same later = let e : y ≡ x = cc in subst (λ z. p z ≡ true) e passes
-    by false passes same later = later same
 
 pub number_is : (number : ℕ) (code : PartCode) → code_of_number number ≡ Some code → code_number code ≡ number
 number_is number code is = eqb-true (code_number code) number (found_passes (λ c. nat_eq (code_number c) number) part_codes code is)

@@ -1,6 +1,7 @@
 -- Judgements that pass, put together; and rows without a fault.
 use Rattle.std.proofs.Common.{◌≡◌, ℕ, List, [], ◌∷◌, Bool, true, false, Option, Some, None, refl, ap, ◌∙◌}
 use Rattle.std.specs.List.{AllByRecursion}
+use Rattle.std.specs.Option.{option_or}
 use Rattle.mig_bytes.specs.Judged.{Judged, ◌>>=◌, tried}
 use Rattle.mig_bytes.specs.Judged.Judged.{Passes}
 use Rattle.mig_headers.specs.Rows.{first_fault}
@@ -24,3 +25,7 @@ rows_fine ((false, c) ∷ rows) h = (refl, rows_fine rows h)
 pub no_fault : {C : Type 0} (rows : List (Bool × C)) → AllByRecursion (λ row. row.0 ≡ false) rows → first_fault rows ≡ None
 no_fault [] h = refl
 no_fault (row ∷ rows) h = rw h.0 (no_fault rows h.1)
+
+pub both_none : {C : Type 0} (o p : Option C) → option_or o p ≡ None → (o ≡ None) × (p ≡ None)
+both_none None p h = (refl, h)
+both_none {C} (Some c) p h = let no : ◌≡◌ {A = Option C} (Some c) None = h in absurd (some_none no)
