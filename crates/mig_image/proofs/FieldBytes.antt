@@ -1,5 +1,5 @@
 -- The bytes of a field are those of its number, and what judging a part tells.
-use Rattle.std.proofs.Common.{◌≡◌, ℕ, zero, suc, ◌+◌, ◌^◌, ◌<◌, ◌≤◌, List, [], ◌∷◌, ◌++◌, length, take, drop, get_or, Option, None, refl, sym, ap, ◌∙◌, arith, take-append-drop, drop-drop, length-drop, append_assoc, codes}
+use Rattle.std.proofs.Common.{◌≡◌, ℕ, zero, suc, ◌+◌, ◌^◌, ◌<◌, ◌≤◌, List, [], ◌∷◌, ◌++◌, length, take, drop, get_or, Option, None, refl, sym, ap, subst, ◌∙◌, arith, take-append-drop, drop-drop, length-drop, append_assoc, codes}
 use Rattle.std.specs.List.{AllByRecursion}
 use Rattle.std.specs.Int.{w32, w64, from_le_bytes, from_be_bytes}
 use Rattle.std.proofs.lemmas.List.{take_all}
@@ -14,13 +14,16 @@ use Rattle.mig_bytes.proofs.Joins.{both_pass, part_passes, tried_passes, same_pa
 abbrev pub Bytes : List ℕ → Type 0
 Bytes xs = AllByRecursion (λ b. b < 256) xs
 
-pub bytes_front : (xs ys : List ℕ) → Bytes (xs ++ ys) → Bytes xs
-bytes_front [] ys h = tt
-bytes_front (x ∷ xs) ys h = (h.0, bytes_front xs ys h.1)
+both_bytes : (xs ys : List ℕ) → Bytes (xs ++ ys) → Bytes xs × Bytes ys
+both_bytes [] ys h = (tt, h)
+both_bytes (x ∷ xs) ys h = let more = both_bytes xs ys h.1 in ((h.0, more.0), more.1)
 
-pub bytes_back : (xs ys : List ℕ) → Bytes (xs ++ ys) → Bytes ys
-bytes_back [] ys h = h
-bytes_back (x ∷ xs) ys h = bytes_back xs ys h.1
+-- a front of bytes, and what follows it
+pub bytes_front : (input front rest : List ℕ) → input ≡ front ++ rest → Bytes input → Bytes front
+bytes_front input front rest whole all = (both_bytes front rest (subst Bytes whole all)).0
+
+pub bytes_back : (input front rest : List ℕ) → input ≡ front ++ rest → Bytes input → Bytes rest
+bytes_back input front rest whole all = (both_bytes front rest (subst Bytes whole all)).1
 
 bytes_drop : (n : ℕ) (xs : List ℕ) → Bytes xs → Bytes (drop n xs)
 bytes_drop zero xs h = h

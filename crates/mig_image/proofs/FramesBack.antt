@@ -134,7 +134,7 @@ frame_back h i g rest all is =
     let c = both_pass (page_at (head_kind head) a.mid) (λ page. Passes (put_frame h (head_pfn head) (frame_said head page.0)) page.1) g rest a.second in
     let q = page_back (head_kind head) a.mid c.x c.mid c.first in
     let e = same_passes (put_frame h (head_pfn head) (frame_said head c.x)) g c.mid rest c.second in
-    let bytes : Bytes head = bytes_front head a.mid (subst Bytes p.0 all) in
+    let bytes : Bytes head = bytes_front i head a.mid p.0 all in
     let text = unwrap_or c.x [] in
     record {
       e = (head_pfn head, frame_said head c.x);
@@ -175,7 +175,7 @@ frames_back h m zero k i g rest all is =
 frames_back h m (suc n) k i g rest all is =
     let a = both_pass (step k (with_frames h m) i) (λ y. steps step n (k + 1) y.0 y.1) g rest is in
     let f = frame_back (with_frames h m) i a.x a.mid all (placed_passes (Frame k) (frame_at (with_frames h m) i) a.x a.mid a.first) in
-    frame_then h m n (k + 1) i a.mid a.x g rest f a.second (frames_back h (maps.insert m f.e.0 f.e.1) n (k + 1) a.mid g rest (bytes_back (frame_text f.e) a.mid (subst Bytes f.whole all)))
+    frame_then h m n (k + 1) i a.mid a.x g rest f a.second (frames_back h (maps.insert m f.e.0 f.e.1) n (k + 1) a.mid g rest (bytes_back i (frame_text f.e) a.mid f.whole all))
 
 -- ---- they are those of a valid host
 

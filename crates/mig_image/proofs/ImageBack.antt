@@ -105,7 +105,7 @@ count_back i n rest all is =
     let a = both_pass (part Truncated 8 i) (λ count. Passes (le64 count.0 0) count.1) n rest is in
     let p = part_passes Truncated 8 i a.x a.mid a.first in
     let e = same_passes (le64 a.x 0) n a.mid rest a.second in
-    let bytes : Bytes a.x = bytes_front a.x a.mid (subst Bytes p.0 all) in
+    let bytes : Bytes a.x = bytes_front i a.x a.mid p.0 all in
     let text : a.x ≡ little_bytes 8 (le64 a.x 0) = last 0 8 a.x p.1 ∙ sym (long_back 0 a.x bytes (omega (arith, p.1))) in
     p.0 ∙ ap (λ l. l ++ a.mid) (text ∙ ap (little_bytes 8) e.0) ∙ ap (λ l. little_bytes 8 n ++ l) e.1
 
@@ -131,18 +131,23 @@ record Found (input : List ℕ) (h : HostOf) (rest : List ℕ) : Type 0 where
   counted : at_count ≡ little_bytes 8 count ++ at_parts
   parts : PartsFound (framed head frames.es) maps.empty count at_parts h rest
 
+parts_found : (head at_frames at_count at_parts : List ℕ) (passed h : HostOf) (count : ℕ) (rest : List ℕ) (f : FramesFound (opened head) maps.empty (le64 head 24) at_frames passed at_count) → Bytes at_parts → parts_at count passed at_parts ≡ Passes h rest
+    → PartsFound (framed head f.es) maps.empty count at_parts h rest
+parts_found head at_frames at_count at_parts passed h count rest f all is =
+    parts_back (framed head f.es) maps.empty count 0 at_parts h rest all (subst (λ x. parts_at count x at_parts ≡ Passes h rest) f.is is)
+
 found : (input : List ℕ) (h : HostOf) (rest : List ℕ) → Bytes input → image_at input ≡ Passes h rest → Found input h rest
 unfolding image_at
 found input h rest all is =
     let a = both_pass (placed Head (head_at input)) (λ head. behind_head head.0 head.1) h rest is in
     let p = judged_part Truncated 32 fault_of_head input a.x a.mid (placed_passes Head (head_at input) a.x a.mid a.first) in
-    let in_input : Bytes (a.x ++ a.mid) = subst Bytes p.0 all in
+    let in_frames : Bytes a.mid = bytes_back input a.x a.mid p.0 all in
     let b = both_pass (frames_at (le64 a.x 24) (opened a.x) a.mid) (λ f. placed Parts (count_at f.1) >>= λ count. parts_at count.0 f.0 count.1) h rest a.second in
-    let f = frames_back (opened a.x) maps.empty (le64 a.x 24) 0 a.mid b.x b.mid (bytes_back a.x a.mid in_input) b.first in
-    let in_count : Bytes b.mid = bytes_back (flat_map frame_text f.es) b.mid (subst Bytes f.whole (bytes_back a.x a.mid in_input)) in
+    let f = frames_back (opened a.x) maps.empty (le64 a.x 24) 0 a.mid b.x b.mid in_frames b.first in
+    let in_count : Bytes b.mid = bytes_back a.mid (flat_map frame_text f.es) b.mid f.whole in_frames in
     let c = both_pass (placed Parts (count_at b.mid)) (λ count. parts_at count.0 b.x count.1) h rest b.second in
     let n = count_back b.mid c.x c.mid in_count (placed_passes Parts (count_at b.mid) c.x c.mid c.first) in
-    let in_parts : Bytes c.mid = bytes_back (little_bytes 8 c.x) c.mid (subst Bytes n in_count) in
+    let in_parts : Bytes c.mid = bytes_back b.mid (little_bytes 8 c.x) c.mid n in_count in
     record {
       head = a.x;
       at_frames = a.mid;
@@ -152,11 +157,11 @@ found input h rest all is =
       count = c.x;
       whole = p.0;
       size = p.1;
-      bytes = bytes_front a.x a.mid in_input;
+      bytes = bytes_front input a.x a.mid p.0 all;
       said = head_fine a.x p.2;
       frames = f;
       counted = n;
-      parts = parts_back (framed a.x f.es) maps.empty c.x 0 c.mid h rest in_parts (subst (λ x. parts_at c.x x c.mid ≡ Passes h rest) f.is c.second);
+      parts = parts_found a.x a.mid b.mid c.mid b.x h c.x rest f in_parts c.second;
     }
 
 joined : (input head at_frames frames at_count count at_parts parts rest : List ℕ) → input ≡ head ++ at_frames → at_frames ≡ frames ++ at_count → at_count ≡ count ++ at_parts → at_parts ≡ parts ++ rest

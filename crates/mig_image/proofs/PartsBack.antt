@@ -111,12 +111,12 @@ fits_from h head bytes all size fine fine_bytes =
       room = many;
     }
 
-spelled : (i mid last rest head bytes padding : List ℕ) → Bytes head → length head ≡ 16 → length bytes ≡ le32 head 12 → padding ≡ replicate (padding_len (le32 head 12)) 0 → i ≡ head ++ mid → mid ≡ bytes ++ last → last ≡ padding ++ rest
+spelled : (i mid last end rest head bytes padding : List ℕ) → Bytes head → length head ≡ 16 → length bytes ≡ le32 head 12 → padding ≡ replicate (padding_len (le32 head 12)) 0 → i ≡ head ++ mid → mid ≡ bytes ++ last → last ≡ padding ++ end → end ≡ rest
     → i ≡ part_text (head_key head, bytes) ++ rest
-spelled i mid last rest head bytes padding all size len zeros first second third =
+spelled i mid last end rest head bytes padding all size len zeros first second third ended =
     let text : head ≡ part_head_of (head_key head) (length bytes) = sym (head_back head all size) ∙ ap (part_head_of (head_key head)) (sym len) in
     let filled : padding ≡ replicate (padding_len (length bytes)) 0 = zeros ∙ ap (λ n. replicate (padding_len n) 0) (sym len) in
-    regroup i mid rest head (bytes ++ padding) first (regroup mid last rest bytes padding second third)
+    regroup i mid rest head (bytes ++ padding) first (regroup mid last rest bytes padding second (third ∙ ap (λ l. padding ++ l) ended))
     ∙ ap (λ l. (l ++ (bytes ++ padding)) ++ rest) text ∙ ap (λ l. (part_head_of (head_key head) (length bytes) ++ (bytes ++ l)) ++ rest) filled
 
 part_back : (h : HostOf) (i : List ℕ) (g : HostOf) (rest : List ℕ) → Bytes i → part_at h i ≡ Passes g rest → PartFound h i g rest
@@ -129,10 +129,10 @@ part_back h i g rest all is =
     let c = both_pass (padding_at (le32 head 12) b.mid) (λ padding. Passes (put_part_in h (head_key head) b.x) padding.1) g rest b.second in
     let r = judged_part Truncated (padding_len (le32 head 12)) fault_of_padding b.mid c.x c.mid c.first in
     let e = same_passes (put_part_in h (head_key head) b.x) g c.mid rest c.second in
-    let bytes : Bytes head = bytes_front head a.mid (subst Bytes p.0 all) in
+    let bytes : Bytes head = bytes_front i head a.mid p.0 all in
     record {
       e = (head_key head, b.x);
-      whole = spelled i a.mid b.mid rest head b.x c.x bytes p.1 q.1 (zeros (padding_len (le32 head 12)) c.x r.1 r.2) p.0 q.0 (r.0 ∙ ap (λ l. c.x ++ l) e.1);
+      whole = spelled i a.mid b.mid c.mid rest head b.x c.x bytes p.1 q.1 (zeros (padding_len (le32 head 12)) c.x r.1 r.2) p.0 q.0 r.0 e.1;
       fits = fits_from h head b.x bytes q.1 p.2 q.2;
       is = sym e.0;
     }
@@ -169,7 +169,7 @@ parts_back h m zero k i g rest all is =
 parts_back h m (suc n) k i g rest all is =
     let a = both_pass (step k (with_parts h m) i) (λ y. steps step n (k + 1) y.0 y.1) g rest is in
     let f = part_back (with_parts h m) i a.x a.mid all (placed_passes (Part k) (part_at (with_parts h m) i) a.x a.mid a.first) in
-    part_then h m n (k + 1) i a.mid a.x g rest f a.second (parts_back h (maps.insert m f.e.0 f.e.1) n (k + 1) a.mid g rest (bytes_back (part_text f.e) a.mid (subst Bytes f.whole all)))
+    part_then h m n (k + 1) i a.mid a.x g rest f a.second (parts_back h (maps.insert m f.e.0 f.e.1) n (k + 1) a.mid g rest (bytes_back i (part_text f.e) a.mid f.whole all))
 
 -- ---- they are those of a valid host
 
