@@ -174,3 +174,11 @@ tried_passes {C} (Some c) i rest u h = let no : ◌≡◌ {A = Judged C (Unit {0
 
 pub same_passes : {C X : Type 0} (x y : X) (i j : List ℕ) → ◌≡◌ {A = Judged C X} (Passes x i) (Passes y j) → (x ≡ y) × (i ≡ j)
 same_passes x y i j h = (cc, cc)
+
+-- ---- and put together
+
+pub then_passes : {C X Y : Type 0} (j : Judged C X) (k : X × List ℕ → Judged C Y) (x : X) (mid : List ℕ) (z : Judged C Y) → j ≡ Passes x mid → k (x, mid) ≡ z → (j >>= k) ≡ z
+then_passes j k x mid z p q = ap (λ i. i >>= k) p ∙ q
+
+pub tried_none : {C Y : Type 0} (f : Option C) (i : List ℕ) (j : Judged C Y) → f ≡ None → (tried f i >>= λ _. j) ≡ j
+tried_none f i j p = ap (λ o. tried o i >>= λ _. j) p

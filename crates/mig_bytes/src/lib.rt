@@ -1,8 +1,8 @@
 //! Bytes that come from a source and go to a sink.
 //!
 //! Responsible for: the traits of the outside (`Source`, `Sink`), the calls that take all bytes of a part or put all
-//! of a text, fields of fixed width in either byte order, and sources and sinks over memory and over std's readers
-//! and writers. It knows nothing of streams, records or guests.
+//! of a text, fields of fixed width in either byte order, judging an input part by part, and sources and sinks over
+//! memory and over std's readers and writers. It knows nothing of streams, records or guests.
 //!
 //! What the layers above rely on: which bytes were taken or appended, also after a failure; and that a failure is
 //! answered only where the count of that source or sink rose. The source and the sink in memory say exactly which

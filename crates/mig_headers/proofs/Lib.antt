@@ -3,3 +3,4 @@ pub mod RecordNumbers
 pub mod Writing
 pub mod Chains
 pub mod PairTexts
+pub mod FirstFaults

@@ -19,7 +19,7 @@ use Rattle.mig_image.specs.Image.{frame_text}
 use Rattle.mig_image.specs.ImageParts.{frame_at}
 use Rattle.mig_image.proofs.FrameTexts.{FrameFits, frame_goes}
 use Rattle.mig_image.proofs.InOrder.{has_from, entries_behind, below_at, sorted_back, front_below, get_at, each_entry, no_entries}
-use Rattle.mig_image.proofs.Rows.{then_passes}
+use Rattle.mig_bytes.proofs.Joins.{then_passes}
 
 abbrev pub Entry : Type 0
 Entry = ℕ × HostFrame

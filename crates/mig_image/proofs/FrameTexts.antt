@@ -20,7 +20,8 @@ use Rattle.mig_guest.specs.Frames.{is_type_of}
 use Rattle.mig_guest.specs.Hosts.{HostOf, HostFrame, HostFrames, IsHostFrame}
 use Rattle.mig_image.specs.Image.{host_word, frame_head_of, frame_text}
 use Rattle.mig_image.specs.ImageParts.{head_pfn, head_kind, type_or_none, has_machine, has_frame_from, frame_rows, fault_of_frame, frame_head_at, page_at, frame_said, put_frame, frame_at}
-use Rattle.mig_image.proofs.Rows.{then_passes, tried_none, no_fault}
+use Rattle.mig_bytes.proofs.Joins.{then_passes, tried_none}
+use Rattle.mig_headers.proofs.FirstFaults.{no_fault}
 
 -- a frame that may stand behind these
 pub record FrameFits (kind : Kind) (width : ℕ) (m : HostFrames) (e : ℕ × HostFrame) : Type 0 where

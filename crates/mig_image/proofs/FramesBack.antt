@@ -28,7 +28,7 @@ use Rattle.mig_image.proofs.FieldBytes.{Bytes, bytes_front, bytes_back, word_bac
 use Rattle.mig_image.proofs.FrameTexts.{FrameFits, page_if}
 use Rattle.mig_image.proofs.FrameChains.{Entry, FrameChain, put_frames, with_frames, from_is}
 use Rattle.mig_image.proofs.InOrder.{entries_behind, none_passes, found_more, found_passes}
-use Rattle.mig_image.proofs.Rows.{rows_fine}
+use Rattle.mig_headers.proofs.FirstFaults.{rows_fine}
 
 -- ---- a head
 

@@ -29,7 +29,7 @@ use Rattle.mig_image.proofs.PartChains.{put_all, with_parts}
 use Rattle.mig_image.proofs.PartChains.{Entry as Part}
 use Rattle.mig_image.proofs.PartsBack.{PartsFound, parts_back, parts_fine, no_parts}
 use Rattle.mig_image.proofs.InOrder.{no_entries}
-use Rattle.mig_image.proofs.Rows.{rows_fine, both_none}
+use Rattle.mig_headers.proofs.FirstFaults.{rows_fine, both_none}
 
 -- ---- the head
 

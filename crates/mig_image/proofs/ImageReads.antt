@@ -23,7 +23,8 @@ use Rattle.mig_image.specs.Image.{head_of, frame_text, part_text, image, IsImage
 use Rattle.mig_image.specs.ImageParts.{is_wide, name_rows, size_rows, fault_of_name, fault_of_sizes, fault_of_head, head_at, opened, frames_at, parts_at, count_at, behind_head, image_at}
 use Rattle.mig_image.proofs.FrameChains.{frames_go, frames_chain, frames_same, frames_within, with_frames}
 use Rattle.mig_image.proofs.PartChains.{parts_go, parts_chain, parts_same, parts_few}
-use Rattle.mig_image.proofs.Rows.{then_passes, tried_none, no_fault}
+use Rattle.mig_bytes.proofs.Joins.{then_passes, tried_none}
+use Rattle.mig_headers.proofs.FirstFaults.{no_fault}
 
 -- ---- the head
 

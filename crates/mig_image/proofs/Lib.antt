@@ -13,4 +13,3 @@ pub mod InOrder
 pub mod PartChains
 pub mod PartTexts
 pub mod PartsBack
-pub mod Rows

@@ -28,7 +28,7 @@ use Rattle.mig_image.specs.Image.{part_text}
 use Rattle.mig_image.specs.ImageParts.{part_at, is_full}
 use Rattle.mig_image.proofs.InOrder.{has_from, entries_behind, front_below, get_at, each_entry, no_entries}
 use Rattle.mig_image.proofs.PartTexts.{PartFits, number_is, part_goes}
-use Rattle.mig_image.proofs.Rows.{then_passes}
+use Rattle.mig_bytes.proofs.Joins.{then_passes}
 
 abbrev pub Entry : Type 0
 Entry = PartKey × List ℕ

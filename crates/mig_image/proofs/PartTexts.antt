@@ -25,7 +25,8 @@ use Rattle.mig_guest.specs.Parts.{PartMap}
 use Rattle.mig_image.specs.Image.{part_head_of, part_text}
 use Rattle.mig_image.specs.ImageParts.{head_key, code_fits, code_allows, has_part_from, is_full, part_rows, fault_of_part, fault_of_bytes, fault_of_padding, put_part_in, part_head_at, bytes_at, padding_at, part_at}
 use Rattle.mig_image.proofs.InOrder.{found_passes}
-use Rattle.mig_image.proofs.Rows.{then_passes, tried_none, no_fault}
+use Rattle.mig_bytes.proofs.Joins.{then_passes, tried_none}
+use Rattle.mig_headers.proofs.FirstFaults.{no_fault}
 
 -- a part that may stand behind these
 pub record PartFits (kind : Kind) (width : ℕ) (m : PartMap) (e : PartKey × List ℕ) : Type 0 where

@@ -31,7 +31,7 @@ use Rattle.mig_image.proofs.FieldBytes.{Bytes, bytes_front, bytes_back, word_bac
 use Rattle.mig_image.proofs.InOrder.{entries_behind, found_more}
 use Rattle.mig_image.proofs.PartChains.{Entry, PartChain, put_all, with_parts}
 use Rattle.mig_image.proofs.PartTexts.{PartFits, number_is, behind_bytes, behind_part_head}
-use Rattle.mig_image.proofs.Rows.{rows_fine}
+use Rattle.mig_headers.proofs.FirstFaults.{rows_fine}
 
 -- ---- a head
 

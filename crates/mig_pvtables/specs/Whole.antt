@@ -1,14 +1,11 @@
 -- Whole guests: those that a stream can carry. So far for HVM guests.
-use Rattle.std.specs.Prelude.{◌≡◌, ◌≤◌, ◌<◌, ℕ, ◌^◌, Bool, true, false, List, [], ◌∷◌, ◌++◌, length, take, replicate, Option, Some, None, Ok, is_none, nat_lt}
+use Rattle.std.specs.Prelude.{◌≡◌, ◌≤◌, ◌<◌, ℕ, ◌^◌, Bool, true, List, [], ◌∷◌, ◌++◌, length, take, replicate, Option, Some, Ok, is_none, nat_lt}
 use Rattle.std.specs.FinMap as maps
-use Rattle.mig_headers.specs.declared.kind.Kind.{Kind}
 use Rattle.mig_headers.specs.declared.kind.Kind.TheVariants.{Hvm}
 use Rattle.mig_headers.specs.declared.fault.Cause.{Cause}
 use Rattle.mig_headers.specs.declared.fault.Cause.TheVariants.{Missing, TooManyFrames}
 use Rattle.mig_headers.specs.Contexts.{scan}
 use Rattle.mig_headers.specs.Rows.{first_fault}
-use Rattle.mig_pagetypes.specs.declared.page_type.PageType.{PageType}
-use Rattle.mig_pagetypes.specs.declared.page_type.PageType.TheVariants.{Notab, Broken, Xalloc}
 use Rattle.mig_guest.specs.declared.part_key.PartKey.{PartKey}
 use Rattle.mig_guest.specs.Frames.{FrameOf, IsSized}
 pub use Rattle.mig_guest.specs.Frames.{IsFew, is_hvm_type}

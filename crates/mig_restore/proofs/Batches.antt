@@ -18,7 +18,9 @@ use Rattle.mig_restore.specs.Record.{Entry}
 use Rattle.mig_restore.specs.Judging.{kind_in, fault_of_data, words_at, page_at, entry_at, entries_at}
 use Rattle.mig_restore.specs.Spelled.{IsPage, IsEntry, AreEntries, IsBatch}
 use Rattle.mig_restore.proofs.Entries.{behind_words}
-use Rattle.mig_restore.proofs.Passing.{then_passes, tried_none, rows_fine, no_fault, not_false, ge_ltb, same_is, not_zero, positive}
+use Rattle.mig_bytes.proofs.Joins.{then_passes, tried_none}
+use Rattle.mig_headers.proofs.FirstFaults.{rows_fine, no_fault}
+use Rattle.mig_restore.proofs.Passing.{not_false, ge_ltb, same_is, not_zero, positive}
 
 counted : (w : ℕ) (ws : List ℕ) → count_by word_has_data (w ∷ ws) ≡ cond (word_has_data w) 1 0 + count_by word_has_data ws
 counted w ws = sym (length-filter word_has_data (w ∷ ws)) ∙ split (word_has_data w) (filter word_has_data ws) ∙ ap (λ n. cond (word_has_data w) 1 0 + n) (length-filter word_has_data ws)

@@ -23,7 +23,8 @@ use Rattle.mig_restore.specs.Record.Content.{Nothing, Frames, Parts, Policy}
 use Rattle.mig_restore.specs.Judging.{fault_of_scan, cut, context_at, params_at, plain_at, tsc_says, leaves_say, msrs_say, entries_at, pages_at, body_at}
 use Rattle.mig_restore.specs.Spelled.{HasContent, IsBatch}
 use Rattle.mig_restore.specs.Spelled.HasContent.{optional, ends, pages, tsc, context, params, static_end, leaves, msrs}
-use Rattle.mig_restore.proofs.Passing.{then_passes, tried_none, same_is}
+use Rattle.mig_bytes.proofs.Joins.{then_passes, tried_none}
+use Rattle.mig_restore.proofs.Passing.{same_is}
 use Rattle.mig_restore.proofs.Batches.{batch_goes}
 use Rattle.mig_restore.proofs.Bodies.{optional_at}
 

@@ -38,7 +38,9 @@ use Rattle.mig_restore.specs.Stream.Verdict.{Accepts, Refuses}
 use Rattle.mig_restore.proofs.Joins.{unless_ok}
 use Rattle.mig_restore.proofs.Parts.{begins, behind_head, behind_guest, behind_body}
 use Rattle.mig_restore.proofs.Arrivals.{goes_on, ends_at, accepted, stops_ended}
-use Rattle.mig_restore.proofs.Passing.{then_passes, tried_none, no_fault, neither_some, ge_ltb}
+use Rattle.mig_bytes.proofs.Joins.{then_passes, tried_none}
+use Rattle.mig_headers.proofs.FirstFaults.{no_fault, neither_some}
+use Rattle.mig_restore.proofs.Passing.{ge_ltb}
 use Rattle.mig_restore.proofs.BodiesPass.{body_goes, length_fits}
 use Rattle.mig_restore.proofs.Laws.{accepted_is_image}
 

@@ -33,7 +33,8 @@ use Rattle.mig_restore.specs.Stream.{Front, Verdict, one_more, at_start, front_o
 use Rattle.mig_restore.specs.Stream.Verdict.{Accepts, Refuses}
 use Rattle.mig_restore.proofs.Parts.{begins, behind_head, behind_guest, behind_body}
 use Rattle.mig_restore.proofs.Arrivals.{goes_on, front_stops}
-use Rattle.mig_restore.proofs.Passing.{rows_fine, both_none, not_false}
+use Rattle.mig_headers.proofs.FirstFaults.{rows_fine, both_none}
+use Rattle.mig_restore.proofs.Passing.{not_false}
 use Rattle.mig_restore.proofs.Bodies.{body_says}
 
 -- ---- a head
