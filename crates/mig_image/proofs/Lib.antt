@@ -14,3 +14,5 @@ pub mod PartChains
 pub mod PartTexts
 pub mod PartsBack
 pub mod Rows
+pub mod Pieces
+pub mod Walked
