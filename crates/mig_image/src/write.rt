@@ -140,6 +140,14 @@ fn count_parts(host: &Host) -> u64
     count
 }
 
+/// Appends the number of parts.
+fn write_count<K: Sink>(sink: &mut K, count: u64) -> Result<(), WriteFailed>
+    ensures bytes { Puts (little_bytes 8 count) (K.written sink.old) (K.written sink.new) result }
+    ensures cause { HasCause (K.faults sink.old) (K.faults sink.new) result }
+{
+    put_all(sink, &count.to_le_bytes())
+}
+
 /// Appends a part: its key and length, its bytes, and zeros.
 fn write_part<K: Sink>(sink: &mut K, key: PartKey, bytes: &[u8]) -> Result<(), WriteFailed>
     requires { length bytes.now < 2 ^ 32 }
@@ -180,6 +188,6 @@ pub fn write_host<K: Sink>(sink: &mut K, host: &Host) -> Result<(), WriteFailed>
     put_all(sink, &head_bytes(host.kind(), host.width(), host.frames()))?;
     write_frames(sink, host)?;
     let count = count_parts(host);
-    put_all(sink, &count.to_le_bytes())?;
+    write_count(sink, count)?;
     write_parts(sink, host, count)
 }
