@@ -47,8 +47,9 @@ fn frame_head(pfn: u64, kind: PageType, machine: u64) -> [u8; 16]
     requires { pfn < 2 ^ 28 }
     ensures { (page : Option (List ℕ)) → result ≡ frame_head_of pfn (record { kind = kind; machine = machine; page = page }) }
 {
+    let word = u32::from(kind.nibble()) * (1 << 28) + pfn as u32;
     let mut head = [0; 16];
-    put_u32_le(&mut head, 0, u32::from(kind.nibble()) * (1 << 28) + pfn as u32);
+    put_u32_le(&mut head, 0, word);
     put_u64_le(&mut head, 8, machine);
     head
 }

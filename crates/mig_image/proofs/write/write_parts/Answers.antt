@@ -1,4 +1,4 @@
-use Rattle.std.proofs.Common.{sym, ◌∙◌, ℕ, List, rules, arith}
+use Rattle.std.proofs.Common.{sym, ◌∙◌, ℕ, List, rules}
 use Rattle.std.specs.FinMap as maps
 use Rattle.mig_guest.specs.declared.part_key.PartKey.{PartKey}
 use Rattle.mig_image.specs.Image.{part_text}
