@@ -13,3 +13,5 @@ pub mod InOrder
 pub mod PartChains
 pub mod PartTexts
 pub mod PartsBack
+pub mod Pieces
+pub mod Walked

@@ -66,7 +66,7 @@ small_from least most len h is = small_most most len h (and_parts (nat_le least 
 p2m_small : (width : ℕ) → width ≤ 2 ^ 28 → 8 * ((width - 1) / 512 + 1) < 2 ^ 32
 p2m_small width h = omega arith
 
-len_small : (code : PartCode) (width len : ℕ) → width ≤ 2 ^ 28 → (row_of code).allows width len ≡ true → len < 2 ^ 32
+pub len_small : (code : PartCode) (width len : ℕ) → width ≤ 2 ^ 28 → (row_of code).allows width len ≡ true → len < 2 ^ 32
 len_small P2mFrames width len wide is = small_exactly (8 * ((width - 1) / 512 + 1)) len (p2m_small width wide) is
 len_small VcpuBasic width len wide is = small_exactly 5168 len (omega arith) is
 len_small VcpuExtended width len wide is = small_from 1 (2 ^ 27 - 8) len (omega arith) is

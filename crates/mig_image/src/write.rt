@@ -1,11 +1,14 @@
-ghost use Rattle.std.specs.Prelude.{◌≡◌, ◌≤◌, ◌<◌, ◌^◌, ℕ, List, Option, length};
+ghost use Rattle.std.specs.Prelude.{◌≡◌, ◌+◌, ◌≤◌, ◌<◌, ◌^◌, ℕ, List, Option, ◌++◌, length, codes};
 ghost use Rattle.std.specs.List.{flat_map};
 ghost use Rattle.std.specs.FinMap as maps;
 ghost use Rattle.std.specs.Option.{option_copied};
+ghost use Rattle.byteorder.specs.Endian.{little_bytes};
 ghost use Rattle.mig_bytes.specs.Bytes.{Puts};
+ghost use Rattle.mig_bytes.specs.Fields.{with_field};
 ghost use Rattle.mig_bytes.specs.Faults.{HasCause};
 ghost use Rattle.mig_headers.specs.Headers.{kind_number};
-ghost use Rattle.mig_image.specs.Image.{head_of, frame_head_of, frame_text, part_head_of, part_text, image};
+ghost use Rattle.mig_guest.specs.Hosts.{IsValid};
+ghost use Rattle.mig_image.specs.Image.{frame_head_of, frame_text, part_head_of, part_text, image};
 
 use crate::host::Host;
 use mig_bytes::{Sink, WriteFailed, pad_len, put_all, put_u32_le, put_u64_be, put_u64_le};
@@ -26,16 +29,15 @@ fn number_of(kind: Kind) -> u32
     }
 }
 
-/// The head of an image.
-#[tactic(auto, unfolding(crate::specs::Image::head_of))]
-fn head_bytes(host: &Host) -> [u8; 32]
-    ensures { result ≡ head_of host.now }
+/// The head of an image with these numbers.
+fn head_bytes(kind: Kind, width: u64, frames: u64) -> [u8; 32]
+    ensures { result ≡ codes "XGIMAGE1" ++ (little_bytes 4 (kind_number kind) ++ (little_bytes 4 0 ++ (little_bytes 8 width ++ little_bytes 8 frames))) }
 {
     let mut head = [0; 32];
     put_u64_be(&mut head, 0, IMAGE_NAME);
-    put_u32_le(&mut head, 8, number_of(host.kind()));
-    put_u64_le(&mut head, 16, host.width());
-    put_u64_le(&mut head, 24, host.frames());
+    put_u32_le(&mut head, 8, number_of(kind));
+    put_u64_le(&mut head, 16, width);
+    put_u64_le(&mut head, 24, frames);
     head
 }
 
@@ -45,8 +47,9 @@ fn frame_head(pfn: u64, kind: PageType, machine: u64) -> [u8; 16]
     requires { pfn < 2 ^ 28 }
     ensures { (page : Option (List ℕ)) → result ≡ frame_head_of pfn (record { kind = kind; machine = machine; page = page }) }
 {
+    let word = u32::from(kind.nibble()) * (1 << 28) + pfn as u32;
     let mut head = [0; 16];
-    put_u32_le(&mut head, 0, u32::from(kind.nibble()) * (1 << 28) + pfn as u32);
+    put_u32_le(&mut head, 0, word);
     put_u64_le(&mut head, 8, machine);
     head
 }
@@ -64,6 +67,29 @@ fn part_head(key: PartKey, len: u32) -> [u8; 16]
     head
 }
 
+/// Room for a frame with its page.
+fn no_bytes() -> [u8; 4112] {
+    [0; 4112]
+}
+
+/// Puts these bytes at a place of the buffer. All others stay.
+fn put_bytes(buffer: &mut [u8], at: usize, bytes: &[u8])
+    requires { at + length bytes.now ≤ length buffer.old }
+    ensures { buffer.new ≡ with_field buffer.old at bytes.now }
+{
+    buffer[at..at + bytes.len()].copy_from_slice(bytes);
+}
+
+/// The head of a frame and its page.
+fn frame_bytes(head: &[u8; 16], page: &[u8; 4096]) -> [u8; 4112]
+    ensures { result ≡ head.now ++ page.now }
+{
+    let mut frame = no_bytes();
+    put_bytes(&mut frame, 0, head);
+    put_bytes(&mut frame, 16, page);
+    frame
+}
+
 /// Appends a frame, in one piece.
 fn write_frame<K: Sink>(
     sink: &mut K,
@@ -77,13 +103,10 @@ fn write_frame<K: Sink>(
     ensures cause { HasCause (K.faults sink.old) (K.faults sink.new) result }
 {
     let head = frame_head(pfn, kind, machine);
-    let Some(bytes) = page else {
-        return put_all(sink, &head);
-    };
-    let mut frame = [0; 4112];
-    frame[..16].copy_from_slice(&head);
-    frame[16..].copy_from_slice(bytes);
-    put_all(sink, &frame)
+    match page {
+        Some(bytes) => put_all(sink, &frame_bytes(&head, bytes)),
+        None => put_all(sink, &head),
+    }
 }
 
 /// Appends all frames.
@@ -106,6 +129,7 @@ fn write_frames<K: Sink>(sink: &mut K, host: &Host) -> Result<(), WriteFailed>
 
 /// The number of parts.
 fn count_parts(host: &Host) -> u64
+    requires { IsValid host.now }
     ensures { result ≡ length (maps.entries host.now.parts) }
 {
     let mut count = 0;
@@ -117,9 +141,17 @@ fn count_parts(host: &Host) -> u64
     count
 }
 
+/// Appends the number of parts.
+fn write_count<K: Sink>(sink: &mut K, count: u64) -> Result<(), WriteFailed>
+    ensures bytes { Puts (little_bytes 8 count) (K.written sink.old) (K.written sink.new) result }
+    ensures cause { HasCause (K.faults sink.old) (K.faults sink.new) result }
+{
+    put_all(sink, &count.to_le_bytes())
+}
+
 /// Appends a part: its key and length, its bytes, and zeros.
 fn write_part<K: Sink>(sink: &mut K, key: PartKey, bytes: &[u8]) -> Result<(), WriteFailed>
-    requires { length bytes.now ≤ 2 ^ 27 }
+    requires { length bytes.now < 2 ^ 32 }
     ensures bytes { Puts (part_text (key, bytes.now)) (K.written sink.old) (K.written sink.new) result }
     ensures cause { HasCause (K.faults sink.old) (K.faults sink.new) result }
 {
@@ -131,7 +163,8 @@ fn write_part<K: Sink>(sink: &mut K, key: PartKey, bytes: &[u8]) -> Result<(), W
 
 /// Appends so many parts, which are all.
 fn write_parts<K: Sink>(sink: &mut K, host: &Host, count: u64) -> Result<(), WriteFailed>
-    requires { count ≡ length (maps.entries host.now.parts) }
+    requires valid { IsValid host.now }
+    requires count { count ≡ length (maps.entries host.now.parts) }
     ensures bytes { Puts (flat_map part_text (maps.entries host.now.parts)) (K.written sink.old) (K.written sink.new) result }
     ensures cause { HasCause (K.faults sink.old) (K.faults sink.new) result }
 {
@@ -153,9 +186,9 @@ pub fn write_host<K: Sink>(sink: &mut K, host: &Host) -> Result<(), WriteFailed>
     ensures bytes { Puts (image host.now) (K.written sink.old) (K.written sink.new) result }
     ensures cause { HasCause (K.faults sink.old) (K.faults sink.new) result }
 {
-    put_all(sink, &head_bytes(host))?;
+    put_all(sink, &head_bytes(host.kind(), host.width(), host.frames()))?;
     write_frames(sink, host)?;
     let count = count_parts(host);
-    put_all(sink, &count.to_le_bytes())?;
+    write_count(sink, count)?;
     write_parts(sink, host, count)
 }

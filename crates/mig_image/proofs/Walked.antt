@@ -1,0 +1,54 @@
+-- A walk over a list by a cursor: what was written so far.
+use Rattle.std.proofs.Common.{◌≡◌, ℕ, ◌+◌, ◌<◌, ◌≤◌, cond, true, nat_le, List, [], ◌∷◌, ◌++◌, length, take, drop, Option, Result, refl, sym, ap, subst, ◌∙◌, arith, take-append-drop, drop-drop, append-nil}
+use Rattle.std.proofs.lemmas.Grind.{flat_map-append, common_steps}
+use Rattle.std.proofs.lemmas.List.{length-drop, take_all}
+use Rattle.std.proofs.lemmas.List.Elements.{All-head, All-drop, All-from_recursion}
+use Rattle.std.proofs.Math.Seq.{take-add}
+use Rattle.std.specs.List.{All, AllByRecursion, flat_map}
+use Rattle.std.specs.Result.{IsErrAnd}
+use Rattle.std.specs.Io.KnownBytes.{Appends}
+use Rattle.std.proofs.KnownBytes.{Appends-trans}
+use Rattle.mig_bytes.specs.declared.failure.WriteFailed.{WriteFailed}
+use Rattle.mig_bytes.specs.Bytes.{AppendsPart, Puts}
+use Rattle.mig_bytes.proofs.Texts.{puts_then, puts_stop, puts_same}
+use Rattle.mig_guest.specs.Frames.{entries_from}
+
+-- all numbers are 0 or more
+pub from_zero : {X : Type 0} (es : List (ℕ × X)) → entries_from 0 es ≡ es
+from_zero [] = refl
+from_zero (e ∷ es) = ap (λ b. cond b (e ∷ entries_from 0 es) (entries_from 0 es)) (zero_le e.0) ∙ ap (λ l. e ∷ l) (from_zero es)
+  where
+    zero_le : (n : ℕ) → nat_le 0 n ≡ true
+    zero_le n = grind (arith, common_steps)
+
+module _ {X : Type 0} where
+  pub drop_next : (i : ℕ) (xs rest : List X) (x : X) → drop i xs ≡ x ∷ rest → drop (i + 1) xs ≡ rest
+  drop_next i xs rest x h = sym (drop-drop 1 i xs) ∙ ap (drop 1) h
+
+  -- a place within the list isn't its end
+  pub not_ended : (i n : ℕ) (xs : List X) → drop i xs ≡ [] → i < n → n ≡ length xs → ⊥
+  not_ended i n xs h less is = omega (arith, sym (length-drop i xs) ∙ ap length h, is)
+
+  -- what holds of all holds at a place
+  pub holds_at : (P : X → Type 0) (i : ℕ) (xs rest : List X) (x : X) → drop i xs ≡ x ∷ rest → AllByRecursion P xs → P x
+  holds_at P i xs rest x h all = All-head P x rest (subst (All P) h (All-drop P i xs (All-from_recursion P xs all)))
+
+module _ {Y : Type 0} (F : Y → List ℕ) (all : List Y) (i : ℕ) (e : Y) (rest : List Y) where
+  flat_next : drop i all ≡ e ∷ rest → flat_map F (take (i + 1) all) ≡ flat_map F (take i all) ++ F e
+  flat_next h = ap (flat_map F) (take-add i 1 all ∙ ap (λ l. take i all ++ take 1 l) h) ∙ flat_map-append F (take i all) (e ∷ []) ∙ ap (λ l. flat_map F (take i all) ++ l) (append-nil (F e))
+
+  flat_split : drop i all ≡ e ∷ rest → flat_map F all ≡ flat_map F (take i all) ++ (F e ++ flat_map F rest)
+  flat_split h = ap (flat_map F) (sym (take-append-drop i all) ∙ ap (λ l. take i all ++ l) h) ∙ flat_map-append F (take i all) (e ∷ rest)
+
+  -- one more was written
+  pub walk_on : (a b c : Option (List ℕ)) → drop i all ≡ e ∷ rest → Appends a b (flat_map F (take i all)) → Appends b c (F e) → Appends a c (flat_map F (take (i + 1) all))
+  walk_on a b c is before more = subst (Appends a c) (sym (flat_next is)) (Appends-trans a b c (flat_map F (take i all)) (F e) before more)
+
+  -- its writing failed
+  pub walk_stop : {X : Type 0} (a b c : Option (List ℕ)) (d x : WriteFailed) (r : Result X WriteFailed) → drop i all ≡ e ∷ rest
+      → Appends a b (flat_map F (take i all)) → IsErrAnd r (λ y. y ≡ d) → AppendsPart b c (F e) → Puts (flat_map F all) a c r
+  walk_stop a b c d x r is before failed part = puts_same _ _ a c r (flat_split is) (puts_then _ _ a b c r before (puts_stop _ _ b c x d r failed part))
+
+-- all were written
+pub walked : {Y : Type 0} (F : Y → List ℕ) (all : List Y) (i n : ℕ) (a b : Option (List ℕ)) → n ≤ i → n ≡ length all → Appends a b (flat_map F (take i all)) → Appends a b (flat_map F all)
+walked F all i n a b done is before = subst (λ l. Appends a b (flat_map F l)) (take_all i all (omega (arith, is))) before

@@ -1,0 +1,37 @@
+use Rattle.std.proofs.Common.{sym, ◌∙◌, ℕ, rules, arith}
+use Rattle.std.specs.FinMap as maps
+use Rattle.std.specs.Option.{option_copied}
+use Rattle.mig_guest.specs.Hosts.{HostFrame}
+use Rattle.mig_image.specs.Image.{frame_text}
+use Rattle.mig_image.proofs.Walked.{from_zero, drop_next, not_ended, walk_on, walk_stop, walked}
+use Rattle.mig_image.proofs.write.write_frames.Goals as goal
+
+pub loop-init : goal.loop-init
+loop-init g c = record { at = from_zero (maps.entries c.args.host.now.frames); bytes = search rules; later = search rules }
+
+pub returns-in_err-write_frame-in-Some-clause-bytes : goal.returns-in_err-write_frame-in-Some-clause-bytes
+returns-in_err-write_frame-in-Some-clause-bytes g c =
+    let all = maps.entries c.args.host.now.frames in
+    let e : ℕ × HostFrame = (c.in-Some.pfn, record { kind = c.in-Some.kind; machine = c.in-Some.machine; page = option_copied c.in-Some.page }) in
+    walk_stop frame_text all c.loop.counter e _ _ _ _ _ _ c.from_residual.result
+    (sym c.loop.invariant.at ∙ c.in-Some.ensures.next) c.loop.invariant.bytes c.from_residual.ensures.1 c.in_err-write_frame-in-Some.ensures.bytes
+
+pub returns-in-None-clause-bytes : goal.returns-in-None-clause-bytes
+returns-in-None-clause-bytes g c =
+    let all = maps.entries c.args.host.now.frames in
+    absurd (not_ended c.loop.counter c.frames-end.result all (sym c.loop.invariant.at ∙ c.in-None.ensures.next) c.loop-test.true (c.frames-end.ensures ∙ maps.len-entries c.args.host.now.frames))
+
+pub loop-preserved : goal.loop-preserved
+loop-preserved g c =
+    let all = maps.entries c.args.host.now.frames in
+    let e : ℕ × HostFrame = (c.in-Some.pfn, record { kind = c.in-Some.kind; machine = c.in-Some.machine; page = option_copied c.in-Some.page }) in
+    let here = sym c.loop.invariant.at ∙ c.in-Some.ensures.next in
+    record {
+      at = sym (drop_next c.loop.counter all _ e here);
+      bytes = walk_on frame_text all c.loop.counter e _ _ _ _ here c.loop.invariant.bytes c.in_ok-write_frame-in-Some.ensures.bytes;
+      later = search rules;
+    }
+
+pub returns-clause-bytes : goal.returns-clause-bytes
+returns-clause-bytes g c =
+    walked frame_text (maps.entries c.args.host.now.frames) c.loop.counter c.frames-end.result _ _ (omega (arith, c.loop-test.false)) (c.frames-end.ensures ∙ maps.len-entries c.args.host.now.frames) c.loop.invariant.bytes
