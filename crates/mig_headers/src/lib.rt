@@ -31,4 +31,4 @@ pub use image_text::{put_image_cause, put_image_place};
 pub use kind::Kind;
 pub use laws::{canonical_pairs_law, domain_header_laws, image_header_laws, record_number_law};
 pub use record_type::{RecordType, is_optional};
-pub use text::{put_cause, put_place};
+pub use text::{put_cause, put_number, put_place};

@@ -261,7 +261,8 @@ fn put_word<K: Sink>(sink: &mut K, word: &str) -> Result<(), WriteFailed>
     put_all(sink, word.as_bytes())
 }
 
-fn put_number<K: Sink>(sink: &mut K, number: u64) -> Result<(), WriteFailed>
+/// Writes a number in decimal digits.
+pub fn put_number<K: Sink>(sink: &mut K, number: u64) -> Result<(), WriteFailed>
     ensures bytes { Puts (decimal number) (K.written sink.old) (K.written sink.new) result }
     ensures cause { HasCause (K.faults sink.old) (K.faults sink.new) result }
 {
