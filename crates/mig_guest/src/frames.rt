@@ -85,6 +85,7 @@ impl Frames {
         ensures* writes_back { sem 𝓛 (LendsPage self.entry pfn result) }
         ensures value { option_copied_mut result ≡ option_and_then (λ f. f.page) (maps.get self.old pfn) }
     {
+        // Asked first, since the store lends under a number below 2^28 alone.
         if self.pages.get(pfn).is_none() {
             return None;
         }

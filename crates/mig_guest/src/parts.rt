@@ -138,6 +138,7 @@ impl Parts {
         }
     }
 
+    // Lends the bytes of a part as they are kept.
     pub(crate) fn lend(&mut self, key: PartKey) -> Option<&mut Vec<u8>>
         ensures* writes_back { sem 𝓛 (LendsPart self.entry key result) }
         ensures value { option_map (λ v. v.items) (option_copied_mut result) ≡ maps.get self.old key }

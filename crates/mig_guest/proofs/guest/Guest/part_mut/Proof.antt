@@ -95,7 +95,7 @@ part_mut_spec 𝓤 𝓛 𝓜 𝓡 wired =
                   exec ! 𝓣.C 𝓣.Λ (env code.Mir.locals l) code.Mir.t-4 (at_ret _ (W.post y)) $
                   sets ! (of_opd ! (get ! refl)) refl (tt, (record { fits = lit< tt }, tt)) $
                   returns ! (look_at ! 0 refl) $ free_all ! refl $
-                  use0 𝓛 (‵ ((option.the_row Slice).own_val None (live 0 (of_list []) ∷ []))) (none_of 𝓛 Slice) $ move ! (0 ∷ 1 ∷ 0 ∷ []) $
+                  use0 𝓛 (‵ ((option.the_row Slice).own_val None (live 0 (of_list []) ∷ []))) (none_of 𝓛 Slice) $
                   suffices ! _ (ends_at 𝓛 f.ended stayed c y (live 0 (of_list [])) None (tt, (tt, tt)) (tt, (tt, tt))) $
                   nothing ! $ nothing ! $ fjoin ! $ nothing ! $ fjoin ! $ join ! $ nothing ! $ move ! (3 ∷ 0 ∷ []) $ join ! $ join ! $ frame ! $
                   says ! (sym (ap (λ (s : Option (MutBor Bytes)). option_map (λ (b : Bytes). b.items) (option_copied_mut s)) none) ∙ value) $ done !),

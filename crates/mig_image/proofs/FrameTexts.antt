@@ -1,0 +1,162 @@
+-- A frame that fits behind others is read as it is spelled.
+use Rattle.std.proofs.Common.{◌≡◌, ℕ, ◌+◌, ◌*◌, ◌/◌, ◌%◌, ◌^◌, ◌<◌, ◌≤◌, Bool, false, cond, not, nat_eq, nat_le, List, [], ◌++◌, length, Option, Some, None, is_some, unwrap_or, refl, sym, ap, ◌∙◌, arith, append_assoc}
+use Rattle.std.specs.Prelude.{◌||◌, ◌==◌}
+use Rattle.std.specs.List.{list_any}
+use Rattle.std.proofs.lemmas.Bool.{or_from, lt-leb, ne_eqb}
+use Rattle.std.specs.FinMap as maps
+use Rattle.byteorder.specs.Endian.{little_bytes}
+use Rattle.byteorder.specs.Numbers.{little_number-reads_back}
+use Rattle.mig_bytes.specs.Fields.{le32, le64}
+use Rattle.mig_bytes.specs.Judged.{Judged, ◌>>=◌, part, tried}
+use Rattle.mig_bytes.specs.Judged.Judged.{Passes}
+use Rattle.mig_bytes.proofs.Joins.{part_whole}
+use Rattle.mig_headers.specs.declared.image_fault.ImageCause.{ImageCause}
+use Rattle.mig_headers.specs.declared.image_fault.ImageCause.TheVariants.{Truncated}
+use Rattle.mig_headers.specs.declared.kind.Kind.{Kind}
+use Rattle.mig_pagetypes.specs.declared.page_type.PageType.{PageType}
+use Rattle.mig_pagetypes.specs.declared.page_type.PageType.TheVariants.{Notab, L1Tab, L2Tab, L3Tab, L4Tab, L1Pinned, L2Pinned, L3Pinned, L4Pinned, Broken, Xalloc, Xtab}
+use Rattle.mig_pagetypes.specs.PageTypes.{number_of, type_of, type_has_data}
+use Rattle.mig_guest.specs.Frames.{is_type_of}
+use Rattle.mig_guest.specs.Hosts.{HostOf, HostFrame, HostFrames, IsHostFrame}
+use Rattle.mig_image.specs.Image.{host_word, frame_head_of, frame_text}
+use Rattle.mig_image.specs.ImageParts.{head_pfn, head_kind, type_or_none, has_machine, has_frame_from, frame_rows, fault_of_frame, frame_head_at, page_at, frame_said, put_frame, frame_at}
+use Rattle.mig_image.proofs.Rows.{then_passes, tried_none, no_fault}
+
+-- a frame that may stand behind these
+pub record FrameFits (kind : Kind) (width : ℕ) (m : HostFrames) (e : ℕ × HostFrame) : Type 0 where
+  pub is : IsHostFrame kind width e.0 e.1
+  pub behind : list_any (λ x. nat_le e.0 x.0) (maps.entries m) ≡ false
+  pub alone : list_any (λ x. x.1.machine == e.1.machine) (maps.entries m) ≡ false
+
+-- ---- the fields of a head
+
+number_small : (kind : PageType) → number_of kind < 16
+number_small Notab = omega arith
+number_small L1Tab = omega arith
+number_small L2Tab = omega arith
+number_small L3Tab = omega arith
+number_small L4Tab = omega arith
+number_small L1Pinned = omega arith
+number_small L2Pinned = omega arith
+number_small L3Pinned = omega arith
+number_small L4Pinned = omega arith
+number_small Broken = omega arith
+number_small Xalloc = omega arith
+number_small Xtab = omega arith
+
+typed : (kind : PageType) → type_of (number_of kind) ≡ Some kind
+typed Notab = refl
+typed L1Tab = refl
+typed L2Tab = refl
+typed L3Tab = refl
+typed L4Tab = refl
+typed L1Pinned = refl
+typed L2Pinned = refl
+typed L3Pinned = refl
+typed L4Pinned = refl
+typed Broken = refl
+typed Xalloc = refl
+typed Xtab = refl
+
+word_small : (n pfn : ℕ) → n < 16 → pfn < 2 ^ 28 → n * 2 ^ 28 + pfn < 2 ^ 32
+word_small n pfn a b = omega arith
+
+low_part : (n pfn : ℕ) → pfn < 2 ^ 28 → (n * 2 ^ 28 + pfn) % 2 ^ 28 ≡ pfn
+low_part n pfn h = omega arith
+
+high_part : (n pfn : ℕ) → pfn < 2 ^ 28 → (n * 2 ^ 28 + pfn) / 2 ^ 28 ≡ n
+high_part n pfn h = omega arith
+
+word_read : (pfn : ℕ) (f : HostFrame) → host_word pfn f.kind < 2 ^ 32 → le32 (frame_head_of pfn f) 0 ≡ host_word pfn f.kind
+unfolding le32 frame_head_of
+word_read pfn f small = little_number-reads_back 4 (host_word pfn f.kind) (little_bytes 4 0 ++ little_bytes 8 f.machine) small
+
+zero_read : (pfn : ℕ) (f : HostFrame) → le32 (frame_head_of pfn f) 4 ≡ 0
+unfolding le32 frame_head_of
+zero_read pfn f = refl
+
+machine_read : (pfn : ℕ) (f : HostFrame) → f.machine < 2 ^ 64 → le64 (frame_head_of pfn f) 8 ≡ f.machine
+unfolding le64 frame_head_of
+machine_read pfn f small = little_number-reads_back 8 f.machine [] small
+
+head_len : (pfn : ℕ) (f : HostFrame) → length (frame_head_of pfn f) ≡ 16
+unfolding frame_head_of
+head_len pfn f = refl
+
+-- what a head says
+record Says (head : List ℕ) (e : ℕ × HostFrame) : Type 0 where
+  zero : le32 head 4 ≡ 0
+  pfn : head_pfn head ≡ e.0
+  kind : head_kind head ≡ e.1.kind
+  machine : le64 head 8 ≡ e.1.machine
+
+says : (e : ℕ × HostFrame) → e.0 < 2 ^ 28 → e.1.machine < 2 ^ 40 → Says (frame_head_of e.0 e.1) e
+says e below small =
+    let n = number_of e.1.kind in
+    let word = word_read e.0 e.1 (word_small n e.0 (number_small e.1.kind) below) in
+    record {
+      zero = zero_read e.0 e.1;
+      pfn = ap (λ w. w % 2 ^ 28) word ∙ low_part n e.0 below;
+      kind = ap (λ w. type_or_none (type_of (w / 2 ^ 28))) word ∙ ap (λ t. type_or_none (type_of t)) (high_part n e.0 below) ∙ ap type_or_none (typed e.1.kind);
+      machine = machine_read e.0 e.1 (omega arith);
+    }
+
+-- ---- no fault
+
+inside : (pfn width : ℕ) → pfn < width → nat_le width pfn ≡ false
+inside pfn width h = lt-leb width pfn h
+
+some_machine : (m : ℕ) → 0 < m → m < 2 ^ 40 → (nat_eq m 0 || nat_le (2 ^ 40) m) ≡ false
+some_machine m a b = or_from (nat_eq m 0) (nat_le (2 ^ 40) m) (ne_eqb m 0 (λ e. absurd (omega arith))) (lt-leb (2 ^ 40) m b)
+
+fine : (h : HostOf) (e : ℕ × HostFrame) (head : List ℕ) → Says head e → FrameFits h.kind h.width h.frames e → fault_of_frame h head ≡ None
+fine h e head s f = no_fault (frame_rows h head) (
+  ap (λ n. not (nat_eq n 0)) s.zero,
+  (
+    ap (λ k. not (is_type_of h.kind k)) s.kind ∙ ap not f.is.type,
+    (
+      ap (has_frame_from h) s.pfn ∙ f.behind,
+      (
+        ap (nat_le h.width) s.pfn ∙ inside e.0 h.width f.is.inside,
+        (
+          ap (λ m. nat_eq m 0 || nat_le (2 ^ 40) m) s.machine ∙ some_machine e.1.machine f.is.some_machine f.is.machine,
+          (
+            ap (has_machine h) s.machine ∙ f.alone,
+            tt,
+          ),
+        ),
+      ),
+    ),
+  ),
+)
+
+-- ---- the page
+
+abbrev pub page_if : Bool → List ℕ → Judged ImageCause (Option (List ℕ))
+page_if b input = cond b (part Truncated 4096 input >>= λ page. Passes (Some page.0) page.1) (Passes None input)
+
+page_goes : (kind : PageType) (page : Option (List ℕ)) (rest : List ℕ) → is_some page ≡ type_has_data kind → ((p : List ℕ) → page ≡ Some p → length p ≡ 4096)
+    → page_at kind (unwrap_or page [] ++ rest) ≡ Passes page rest
+page_goes kind None rest step whole = ap (λ b. page_if b rest) (sym step)
+page_goes kind (Some p) rest step whole =
+    ap (λ b. page_if b (p ++ rest)) (sym step) ∙ then_passes (part Truncated 4096 (p ++ rest)) (λ page. Passes (Some page.0) page.1) p rest _ (part_whole Truncated 4096 p rest (whole p refl)) refl
+
+-- ---- the frame
+
+frame_is : (h : HostOf) (e : ℕ × HostFrame) (head : List ℕ) (rest : List ℕ) → Says head e
+    → ◌≡◌ {A = Judged ImageCause HostOf} (Passes (put_frame h (head_pfn head) (frame_said head e.1.page)) rest) (Passes (put_frame h e.0 e.1) rest)
+frame_is h e head rest s =
+    ap (λ p. Passes (put_frame h p (frame_said head e.1.page)) rest) s.pfn
+    ∙ ap (λ k. Passes (put_frame h e.0 (record { kind = k; machine = le64 head 8; page = e.1.page })) rest) s.kind
+    ∙ ap (λ m. Passes (put_frame h e.0 (record { kind = e.1.kind; machine = m; page = e.1.page })) rest) s.machine
+
+pub frame_goes : (h : HostOf) (e : ℕ × HostFrame) (rest : List ℕ) → h.width ≤ 2 ^ 28 → FrameFits h.kind h.width h.frames e → frame_at h (frame_text e ++ rest) ≡ Passes (put_frame h e.0 e.1) rest
+frame_goes h e rest wide f =
+    let head = frame_head_of e.0 e.1 in
+    let mid = unwrap_or e.1.page [] ++ rest in
+    let s = says e (let below : e.0 < 2 ^ 28 = omega (arith, f.is.inside, wide) in below) f.is.machine in
+    ap (frame_at h) (append_assoc head (unwrap_or e.1.page []) rest)
+    ∙ then_passes (frame_head_at h (head ++ mid)) (λ a. page_at (head_kind a.0) a.1 >>= λ page. Passes (put_frame h (head_pfn a.0) (frame_said a.0 page.0)) page.1) head mid _
+    (then_passes (part Truncated 16 (head ++ mid)) (λ a. tried (fault_of_frame h a.0) a.1 >>= λ _. Passes a.0 a.1) head mid _ (part_whole Truncated 16 head mid (head_len e.0 e.1)) (tried_none (fault_of_frame h head) mid (Passes head mid) (fine h e head s f)))
+    (then_passes (page_at (head_kind head) mid) (λ page. Passes (put_frame h (head_pfn head) (frame_said head page.0)) page.1) e.1.page rest _
+    (ap (λ k. page_at k mid) s.kind ∙ page_goes e.1.kind e.1.page rest f.is.in_step f.is.whole) (frame_is h e head rest s))

@@ -1,0 +1,112 @@
+-- A finite map whose values are shown through f, each with its number; and the frames of a host, which are those of a guest
+-- with their machine frames.
+use Rattle.std.proofs.Common.{◌≡◌, ℕ, length, Bool, true, false, cond, List, [], ◌∷◌, map, Option, Some, None, is_some, IsSome, IfSome, IfNone, option_and_then, ◌≤◌, ◌<◌, refl, sym, ap, subst, ◌∙◌}
+use Rattle.std.specs.Prelude.{T, ◌&&◌, unwrap_or}
+use Rattle.std.proofs.lemmas.List.{length-map}
+use Rattle.std.specs.Ordering.{nat_cmp, is_lt, eq_by_cmp}
+use Rattle.std.specs.Option.{option_map}
+use Rattle.std.specs.Cmp.{nat_cmp_total}
+use Rattle.std.specs.FinMap as maps
+use Rattle.std.specs.FinMap.{FinMap, find, is_sorted, nat_cmp-IsAntisymmetric, same_map, get-from_entries, get-from_sorted, get-entries, entries-from_sorted, entries_sorted}
+use Rattle.std.specs.FinMap.Entries.{below_all}
+use Rattle.mig_guest.specs.Frames.{FrameOf, FrameMap}
+use Rattle.mig_guest.proofs.KeyedMaps.{tied}
+use Rattle.mig_guest.specs.Hosts.{HostFrame, HostFrames}
+use Rattle.mig_image.specs.HostView.{MachineMap, with_machine, with_machines, machine_in, AreMatched}
+
+module _ {X Y : Type 0} (f : ℕ → X → Y) where
+  -- an entry, its value through f
+  abbrev pub shown : ℕ × X → ℕ × Y
+  shown e = (e.0, f e.0 e.1)
+
+  -- the map with each value through f
+  abbrev pub mapped : FinMap nat_cmp X → FinMap nat_cmp Y
+  mapped m = maps.from_entries (map shown (maps.entries m))
+
+  chosen : (q k : ℕ) (x : X) (b : Bool) (r : Option Y) (s : Option X) → eq_by_cmp nat_cmp q k ≡ b → r ≡ option_map (f q) s → cond b (Some (f k x)) r ≡ option_map (f q) (cond b (Some x) s)
+  chosen q k x true r s tie e = ap (λ n. Some (f n x)) (sym (nat_cmp-IsAntisymmetric q k (tied (nat_cmp q k) tie)))
+  chosen q k x false r s tie e = e
+
+  find_shown : (q : ℕ) (es : List (ℕ × X)) → find nat_cmp q (map shown es) ≡ option_map (f q) (find nat_cmp q es)
+  find_shown q [] = refl
+  find_shown q (e ∷ es) = chosen q e.0 e.1 (eq_by_cmp nat_cmp q e.0) _ _ refl (find_shown q es)
+
+  same_below : (k : ℕ) (es : List (ℕ × X)) → below_all nat_cmp k (map shown es) ≡ below_all nat_cmp k es
+  same_below k [] = refl
+  same_below k (e ∷ es) = ap (λ b. is_lt (nat_cmp k e.0) && b) (same_below k es)
+
+  same_sorted : (es : List (ℕ × X)) → is_sorted nat_cmp (map shown es) ≡ is_sorted nat_cmp es
+  same_sorted [] = refl
+  same_sorted (e ∷ es) = ap (λ b. b && is_sorted nat_cmp (map shown es)) (same_below e.0 es) ∙ ap (λ b. below_all nat_cmp e.0 es && b) (same_sorted es)
+
+  -- what it has at a number
+  pub get_mapped : (m : FinMap nat_cmp X) (q : ℕ) → maps.get (mapped m) q ≡ option_map (f q) (maps.get m q)
+  get_mapped m q = get-from_entries nat_cmp_total (map shown (maps.entries m)) q ∙ find_shown q (maps.entries m) ∙ ap (option_map (f q)) (sym (get-entries m q))
+
+  -- its entries, in the same order
+  pub entries_mapped : (m : FinMap nat_cmp X) → maps.entries (mapped m) ≡ map shown (maps.entries m)
+  entries_mapped m =
+      let es = map shown (maps.entries m) in let s = subst T (sym (same_sorted (maps.entries m))) (entries_sorted m) in
+      ap maps.entries (same_map nat_cmp_total nat_cmp-IsAntisymmetric (maps.from_entries es) (maps.from_sorted es) (λ q. get-from_entries nat_cmp_total es q ∙ sym (get-from_sorted nat_cmp es q s)))
+      ∙ entries-from_sorted nat_cmp es s
+
+-- ---- the frames of a host
+
+module _ (frames : FrameMap) (machine_of : ℕ → ℕ) where
+  pub get_with_machines : (pfn : ℕ) → maps.get (with_machines frames machine_of) pfn ≡ option_map (λ (f : FrameOf). with_machine f (machine_of pfn)) (maps.get frames pfn)
+  get_with_machines pfn = get_mapped (λ pfn f. with_machine f (machine_of pfn)) frames pfn
+
+  pub entries_with_machines : maps.entries (with_machines frames machine_of) ≡ map (λ (e : ℕ × FrameOf). (e.0, with_machine e.1 (machine_of e.0))) (maps.entries frames)
+  entries_with_machines = entries_mapped (λ pfn f. with_machine f (machine_of pfn)) frames
+
+  pub count_with_machines : length (maps.entries (with_machines frames machine_of)) ≡ length (maps.entries frames)
+  count_with_machines = ap length entries_with_machines ∙ length-map (maps.entries frames) (λ (e : ℕ × FrameOf). (e.0, with_machine e.1 (machine_of e.0)))
+
+-- ---- what a host is seen to have
+
+module _ (frames : FrameMap) (machines : MachineMap) where
+  abbrev pub joined : HostFrames
+  joined = with_machines frames (machine_in machines)
+
+  seen : (pfn : ℕ) → maps.get joined pfn ≡ option_map (λ (f : FrameOf). with_machine f (machine_in machines pfn)) (maps.get frames pfn)
+  seen = get_with_machines frames (machine_in machines)
+
+  kind_of : (m : ℕ) (r : Option FrameOf) → option_map (λ (f : FrameOf). f.kind) r ≡ option_map (λ (f : HostFrame). f.kind) (option_map (λ (f : FrameOf). with_machine f m) r)
+  kind_of m None = refl
+  kind_of m (Some f) = refl
+
+  pub kind_joined : (pfn : ℕ) → option_map (λ (f : FrameOf). f.kind) (maps.get frames pfn) ≡ option_map (λ (f : HostFrame). f.kind) (maps.get joined pfn)
+  kind_joined pfn = kind_of (machine_in machines pfn) (maps.get frames pfn) ∙ ap (option_map (λ (f : HostFrame). f.kind)) (sym (seen pfn))
+
+  page_of : (m : ℕ) (r : Option FrameOf) → option_and_then (λ (f : FrameOf). f.page) r ≡ option_and_then (λ (f : HostFrame). f.page) (option_map (λ (f : FrameOf). with_machine f m) r)
+  page_of m None = refl
+  page_of m (Some f) = refl
+
+  pub page_joined : (pfn : ℕ) → option_and_then (λ (f : FrameOf). f.page) (maps.get frames pfn) ≡ option_and_then (λ (f : HostFrame). f.page) (maps.get joined pfn)
+  page_joined pfn = page_of (machine_in machines pfn) (maps.get frames pfn) ∙ ap (option_and_then (λ (f : HostFrame). f.page)) (sym (seen pfn))
+
+  machine_of : (s : Option ℕ) (r : Option FrameOf) → is_some s ≡ is_some r → s ≡ option_map (λ (f : HostFrame). f.machine) (option_map (λ (f : FrameOf). with_machine f (unwrap_or s 0)) r)
+  machine_of None None e = refl
+  machine_of None (Some f) e = let no : false ≡ true = e in cc
+  machine_of (Some m) None e = let no : true ≡ false = e in cc
+  machine_of (Some m) (Some f) e = refl
+
+  pub machine_joined : AreMatched frames machines → (pfn : ℕ) → maps.get machines pfn ≡ option_map (λ (f : HostFrame). f.machine) (maps.get joined pfn)
+  machine_joined matched pfn = machine_of (maps.get machines pfn) (maps.get frames pfn) (matched pfn) ∙ ap (option_map (λ (f : HostFrame). f.machine)) (sym (seen pfn))
+
+  none_joined : (pfn : ℕ) → maps.get frames pfn ≡ None → maps.get joined pfn ≡ None
+  none_joined pfn e = seen pfn ∙ ap (option_map (λ (f : FrameOf). with_machine f (machine_in machines pfn))) e
+
+  there : (m : ℕ) (r : Option FrameOf) → is_some (option_map (λ (f : FrameOf). with_machine f m) r) ≡ is_some r
+  there m None = refl
+  there m (Some f) = refl
+
+  pub there_joined : (pfn : ℕ) → is_some (maps.get joined pfn) ≡ is_some (maps.get frames pfn)
+  there_joined pfn = ap is_some (seen pfn) ∙ there (machine_in machines pfn) (maps.get frames pfn)
+
+  -- the first frame from a number on
+  pub first_joined : (from : ℕ) (r : Option ℕ)
+      → IfNone r ((k : ℕ) → from ≤ k → maps.get frames k ≡ None) → IfSome r (λ q. IsSome (maps.get frames q)) → IfSome r (λ q. (from ≤ q) × ((k : ℕ) → from ≤ k → k < q → maps.get frames k ≡ None))
+      → IfNone r ((k : ℕ) → from ≤ k → maps.get joined k ≡ None) × IfSome r (λ q. IsSome (maps.get joined q)) × IfSome r (λ q. (from ≤ q) × ((k : ℕ) → from ≤ k → k < q → maps.get joined k ≡ None))
+  first_joined from None n t l = (λ k le. none_joined k (n k le), tt, tt)
+  first_joined from (Some q) n t l = (tt, there_joined q ∙ t, (l.0, λ k le lt. none_joined k (l.1 k le lt)))

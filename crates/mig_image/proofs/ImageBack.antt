@@ -1,0 +1,228 @@
+-- Bytes that are read as a host begin with its image, and the host is valid.
+use Rattle.std.proofs.Common.{◌≡◌, ℕ, ◌^◌, ◌<◌, ◌≤◌, Bool, true, false, not, nat_eq, nat_lt, List, ◌++◌, length, take, drop, codes, None, refl, sym, ap, subst, ◌∙◌, arith}
+use Rattle.std.specs.Prelude.{◌&&◌}
+use Rattle.std.specs.List.{flat_map}
+use Rattle.std.proofs.lemmas.Bool.{not-false, or_parts, ltb-false, eqb-true, eqb-false}
+use Rattle.std.proofs.lemmas.List.Elements.{recursion_from_All}
+use Rattle.std.specs.Ordering.{nat_cmp}
+use Rattle.std.specs.FinMap as maps
+use Rattle.byteorder.specs.Endian.{little_bytes}
+use Rattle.mig_bytes.specs.Fields.{le32, le64, be64}
+use Rattle.mig_bytes.specs.Judged.{◌>>=◌, part, placed}
+use Rattle.mig_bytes.specs.Judged.Judged.{Passes}
+use Rattle.mig_bytes.proofs.Joins.{both_pass, part_passes, same_passes}
+use Rattle.mig_headers.specs.Headers.{kind_number, kind_of_number}
+use Rattle.mig_headers.specs.RecordTypes.{pv}
+use Rattle.mig_headers.specs.declared.image_fault.ImageCause.TheVariants.{Truncated}
+use Rattle.mig_headers.specs.declared.image_fault.ImagePlace.TheVariants.{Head, Parts}
+use Rattle.mig_headers.specs.declared.kind.Kind.{Kind}
+use Rattle.mig_headers.specs.declared.kind.Kind.TheVariants.{Pv, Hvm}
+use Rattle.mig_guest.specs.Hosts.{HostOf, HostFrame, IsValid}
+use Rattle.mig_guest.specs.Order.{part_cmp}
+use Rattle.mig_image.specs.Image.{head_of, frame_text, part_text, image, IsImage, AreBytes}
+use Rattle.mig_image.specs.ImageParts.{name_rows, size_rows, fault_of_name, fault_of_sizes, fault_of_head, head_at, opened, frames_at, parts_at, count_at, behind_head, image_at}
+use Rattle.mig_image.proofs.FieldBytes.{Bytes, bytes_front, bytes_back, name_back, word_back, long_back, cut, last, judged_part, placed_passes, regroup}
+use Rattle.mig_image.proofs.FrameChains.{put_frames, with_frames}
+use Rattle.mig_image.proofs.FrameChains.{Entry as Frame}
+use Rattle.mig_image.proofs.FramesBack.{FramesFound, frames_back, frames_fine, no_frames}
+use Rattle.mig_image.proofs.PartChains.{put_all, with_parts}
+use Rattle.mig_image.proofs.PartChains.{Entry as Part}
+use Rattle.mig_image.proofs.PartsBack.{PartsFound, parts_back, parts_fine, no_parts}
+use Rattle.mig_image.proofs.InOrder.{no_entries}
+use Rattle.mig_image.proofs.Rows.{rows_fine, both_none}
+
+-- ---- the head
+
+kind_known : (n : ℕ) → (not (nat_eq n 1) && not (nat_eq n 2)) ≡ false → kind_number (kind_of_number n) ≡ n
+kind_known n h = by (nat_eq n 1) (nat_eq n 2) refl refl h
+  where
+    by : (a b : Bool) → nat_eq n 1 ≡ a → nat_eq n 2 ≡ b → (not a && not b) ≡ false → kind_number (kind_of_number n) ≡ n
+    by true b p q h = let e : n ≡ 1 = eqb-true n 1 p in ap (λ m. kind_number (kind_of_number m)) e ∙ sym e
+    by false true p q h = let e : n ≡ 2 = eqb-true n 2 q in ap (λ m. kind_number (kind_of_number m)) e ∙ sym e
+    by false false p q h = cc
+
+head_back : (h : HostOf) (head : List ℕ) → Bytes head → length head ≡ 32 → be64 head 0 ≡ 0x5847494D41474531 → kind_number h.kind ≡ le32 head 8 → 0 ≡ le32 head 12 → h.width ≡ le64 head 16 → length (maps.entries h.frames) ≡ le64 head 24
+    → head_of h ≡ head
+unfolding head_of
+head_back h head all size name kind none width count =
+    let n : List ℕ = codes "XGIMAGE1" in
+    let a : n ≡ take 8 head = name_back head all (omega (arith, size)) name in
+    let b : little_bytes 4 (kind_number h.kind) ≡ take 4 (drop 8 head) = ap (little_bytes 4) kind ∙ word_back 8 head all (omega (arith, size)) in
+    let c : little_bytes 4 0 ≡ take 4 (drop 12 head) = ap (little_bytes 4) none ∙ word_back 12 head all (omega (arith, size)) in
+    let d : little_bytes 8 h.width ≡ take 8 (drop 16 head) = ap (little_bytes 8) width ∙ long_back 16 head all (omega (arith, size)) in
+    let e : little_bytes 8 (length (maps.entries h.frames)) ≡ drop 24 head = ap (little_bytes 8) count ∙ long_back 24 head all (omega (arith, size)) ∙ sym (last 24 8 head size) in
+    five n (little_bytes 4 (kind_number h.kind)) (little_bytes 4 0) (little_bytes 8 h.width) (little_bytes 8 (length (maps.entries h.frames))) (take 8 head) (take 4 (drop 8 head)) (take 4 (drop 12 head)) (take 8 (drop 16 head)) (drop 24 head) a b c d e
+    ∙ sym (apart head)
+  where
+    five : (a b c d e a' b' c' d' e' : List ℕ) → a ≡ a' → b ≡ b' → c ≡ c' → d ≡ d' → e ≡ e' → a ++ (b ++ (c ++ (d ++ e))) ≡ a' ++ (b' ++ (c' ++ (d' ++ e')))
+    five a b c d e a' b' c' d' e' p q r s t = cc
+
+    apart : (head : List ℕ) → head ≡ take 8 head ++ (take 4 (drop 8 head) ++ (take 4 (drop 12 head) ++ (take 8 (drop 16 head) ++ drop 24 head)))
+    apart head = cut 0 8 head ∙ ap (λ l. take 8 head ++ l) (cut 8 4 head ∙ ap (λ l. take 4 (drop 8 head) ++ l) (cut 12 4 head ∙ ap (λ l. take 4 (drop 12 head) ++ l) (cut 16 8 head)))
+
+-- what a head without a fault says
+record HeadFine (head : List ℕ) : Type 0 where
+  name : be64 head 0 ≡ 0x5847494D41474531
+  kind : kind_number (kind_of_number (le32 head 8)) ≡ le32 head 8
+  none : 0 ≡ le32 head 12
+  width : le64 head 16 ≤ 2 ^ 28
+  some_width : kind_of_number (le32 head 8) ≡ Pv → 0 < le64 head 16
+  few : le64 head 24 ≤ 2 ^ 24
+
+not_both : (kind : Kind) (width : ℕ) → (pv kind && nat_eq width 0) ≡ false → kind ≡ Pv → 0 < width
+not_both Pv width h is = positive width h
+  where
+    positive : (n : ℕ) → nat_eq n 0 ≡ false → 0 < n
+    positive n h = let differs = eqb-false n 0 h in omega arith
+not_both Hvm width h is = absurd (apart is)
+  where
+    apart : Hvm ≡ Pv → ⊥
+    apart e = cc
+
+head_fine : (head : List ℕ) → fault_of_head head ≡ None → HeadFine head
+head_fine head fine =
+    let kind = kind_of_number (le32 head 8) in
+    let width = le64 head 16 in
+    let count = le64 head 24 in
+    let both = both_none (fault_of_name head) (fault_of_sizes kind width count) fine in
+    let (name, (known, (reserved, done))) = rows_fine (name_rows head) both.0 in
+    let (wide, (many, end)) = rows_fine (size_rows kind width count) both.1 in
+    let w = or_parts (nat_lt (2 ^ 28) width) (pv kind && nat_eq width 0) wide in
+    let m = or_parts (nat_lt (2 ^ 24) count) (nat_lt width count) many in
+    record {
+      name = eqb-true (be64 head 0) 0x5847494D41474531 (not-false (nat_eq (be64 head 0) 0x5847494D41474531) name);
+      kind = kind_known (le32 head 8) known;
+      none = sym (eqb-true (le32 head 12) 0 (not-false (nat_eq (le32 head 12) 0) reserved));
+      width = ltb-false (2 ^ 28) width w.0;
+      some_width = not_both kind width w.1;
+      few = ltb-false (2 ^ 24) count m.0;
+    }
+
+-- ---- the number of parts
+
+count_back : (i : List ℕ) (n : ℕ) (rest : List ℕ) → Bytes i → count_at i ≡ Passes n rest → i ≡ little_bytes 8 n ++ rest
+count_back i n rest all is =
+    let a = both_pass (part Truncated 8 i) (λ count. Passes (le64 count.0 0) count.1) n rest is in
+    let p = part_passes Truncated 8 i a.x a.mid a.first in
+    let e = same_passes (le64 a.x 0) n a.mid rest a.second in
+    let bytes : Bytes a.x = bytes_front i a.x a.mid p.0 all in
+    let text : a.x ≡ little_bytes 8 (le64 a.x 0) = last 0 8 a.x p.1 ∙ sym (long_back 0 a.x bytes (omega (arith, p.1))) in
+    p.0 ∙ ap (λ l. l ++ a.mid) (text ∙ ap (little_bytes 8) e.0) ∙ ap (λ l. little_bytes 8 n ++ l) e.1
+
+-- ---- the whole
+
+-- the host that frames give, so far without parts
+abbrev framed : List ℕ → List Frame → HostOf
+framed head es = with_frames (opened head) (put_frames maps.empty es)
+
+-- a front of the input, as it was judged
+record Found (input : List ℕ) (h : HostOf) (rest : List ℕ) : Type 0 where
+  head : List ℕ
+  at_frames : List ℕ
+  passed : HostOf
+  at_count : List ℕ
+  at_parts : List ℕ
+  count : ℕ
+  whole : input ≡ head ++ at_frames
+  size : length head ≡ 32
+  bytes : Bytes head
+  said : HeadFine head
+  frames : FramesFound (opened head) maps.empty (le64 head 24) at_frames passed at_count
+  counted : at_count ≡ little_bytes 8 count ++ at_parts
+  parts : PartsFound (framed head frames.es) maps.empty count at_parts h rest
+
+parts_found : (head at_frames at_count at_parts : List ℕ) (passed h : HostOf) (count : ℕ) (rest : List ℕ) (f : FramesFound (opened head) maps.empty (le64 head 24) at_frames passed at_count) → Bytes at_parts → parts_at count passed at_parts ≡ Passes h rest
+    → PartsFound (framed head f.es) maps.empty count at_parts h rest
+parts_found head at_frames at_count at_parts passed h count rest f all is =
+    parts_back (framed head f.es) maps.empty count 0 at_parts h rest all (subst (λ x. parts_at count x at_parts ≡ Passes h rest) f.is is)
+
+found : (input : List ℕ) (h : HostOf) (rest : List ℕ) → Bytes input → image_at input ≡ Passes h rest → Found input h rest
+unfolding image_at
+found input h rest all is =
+    let a = both_pass (placed Head (head_at input)) (λ head. behind_head head.0 head.1) h rest is in
+    let p = judged_part Truncated 32 fault_of_head input a.x a.mid (placed_passes Head (head_at input) a.x a.mid a.first) in
+    let in_frames : Bytes a.mid = bytes_back input a.x a.mid p.0 all in
+    let b = both_pass (frames_at (le64 a.x 24) (opened a.x) a.mid) (λ f. placed Parts (count_at f.1) >>= λ count. parts_at count.0 f.0 count.1) h rest a.second in
+    let f = frames_back (opened a.x) maps.empty (le64 a.x 24) 0 a.mid b.x b.mid in_frames b.first in
+    let in_count : Bytes b.mid = bytes_back a.mid (flat_map frame_text f.es) b.mid f.whole in_frames in
+    let c = both_pass (placed Parts (count_at b.mid)) (λ count. parts_at count.0 b.x count.1) h rest b.second in
+    let n = count_back b.mid c.x c.mid in_count (placed_passes Parts (count_at b.mid) c.x c.mid c.first) in
+    let in_parts : Bytes c.mid = bytes_back b.mid (little_bytes 8 c.x) c.mid n in_count in
+    record {
+      head = a.x;
+      at_frames = a.mid;
+      passed = b.x;
+      at_count = b.mid;
+      at_parts = c.mid;
+      count = c.x;
+      whole = p.0;
+      size = p.1;
+      bytes = bytes_front input a.x a.mid p.0 all;
+      said = head_fine a.x p.2;
+      frames = f;
+      counted = n;
+      parts = parts_found a.x a.mid b.mid c.mid b.x h c.x rest f in_parts c.second;
+    }
+
+joined : (input head at_frames frames at_count count at_parts parts rest : List ℕ) → input ≡ head ++ at_frames → at_frames ≡ frames ++ at_count → at_count ≡ count ++ at_parts → at_parts ≡ parts ++ rest
+    → input ≡ (head ++ (frames ++ (count ++ parts))) ++ rest
+joined input head at_frames frames at_count count at_parts parts rest a b c d =
+    regroup input at_frames rest head (frames ++ (count ++ parts)) a (regroup at_frames at_count rest frames (count ++ parts) b (regroup at_count at_parts rest count parts c d))
+
+-- an image of these pieces
+image_of : (g : HostOf) (head : List ℕ) (fs : List Frame) (n : ℕ) (ps : List Part) → head_of g ≡ head → maps.entries g.frames ≡ fs → length (maps.entries g.parts) ≡ n → maps.entries g.parts ≡ ps
+    → image g ≡ head ++ (flat_map frame_text fs ++ (little_bytes 8 n ++ flat_map part_text ps))
+unfolding image
+image_of g head fs n ps a b c d =
+    ap (λ l. l ++ (flat_map frame_text (maps.entries g.frames) ++ (little_bytes 8 (length (maps.entries g.parts)) ++ flat_map part_text (maps.entries g.parts)))) a
+    ∙ ap (λ l. head ++ (flat_map frame_text l ++ (little_bytes 8 (length (maps.entries g.parts)) ++ flat_map part_text (maps.entries g.parts)))) b
+    ∙ ap (λ m. head ++ (flat_map frame_text fs ++ (little_bytes 8 m ++ flat_map part_text (maps.entries g.parts)))) c
+    ∙ ap (λ l. head ++ (flat_map frame_text fs ++ (little_bytes 8 n ++ flat_map part_text l))) d
+
+module _ (input : List ℕ) (h : HostOf) (rest : List ℕ) (f : Found input h rest) where
+  abbrev kind : Kind
+  kind = kind_of_number (le32 f.head 8)
+
+  abbrev width : ℕ
+  width = le64 f.head 16
+
+  abbrev given : HostOf
+  given = with_parts (framed f.head f.frames.es) (put_all maps.empty f.parts.es)
+
+  frame_entries : maps.entries given.frames ≡ f.frames.es
+  frame_entries = (frames_fine kind width maps.empty f.frames.es (no_frames kind width) f.frames.chain).1 ∙ ap (λ l. l ++ f.frames.es) (no_entries nat_cmp HostFrame)
+
+  part_entries : maps.entries given.parts ≡ f.parts.es
+  part_entries = (parts_fine kind width maps.empty f.parts.es (no_parts kind width (no_entries part_cmp (List ℕ))) f.parts.chain).1 ∙ ap (λ l. l ++ f.parts.es) (no_entries part_cmp (List ℕ))
+
+  frame_count : length (maps.entries given.frames) ≡ le64 f.head 24
+  frame_count = ap length frame_entries ∙ f.frames.size
+
+  valid : IsValid given
+  valid =
+      let frames = (frames_fine kind width maps.empty f.frames.es (no_frames kind width) f.frames.chain).0 in
+      let parts = (parts_fine kind width maps.empty f.parts.es (no_parts kind width (no_entries part_cmp (List ℕ))) f.parts.chain).0 in
+      record {
+        width = f.said.width;
+        some_width = f.said.some_width;
+        frames = frames.each;
+        one_to_one = frames.one;
+        few = subst (λ n. n ≤ 2 ^ 24) (sym frame_count) f.said.few;
+        parts = parts.each;
+        leaves = parts.leaves;
+        msrs = parts.msrs;
+      }
+
+  head_is : head_of given ≡ f.head
+  head_is = head_back given f.head f.bytes f.size f.said.name f.said.kind f.said.none refl frame_count
+
+  spelled : input ≡ image given ++ rest
+  spelled =
+      joined input f.head f.at_frames (flat_map frame_text f.frames.es) f.at_count (little_bytes 8 f.count) f.at_parts (flat_map part_text f.parts.es) rest f.whole f.frames.whole f.counted f.parts.whole
+      ∙ ap (λ l. l ++ rest) (sym (image_of given f.head f.frames.es f.count f.parts.es head_is frame_entries (ap length part_entries ∙ f.parts.size) part_entries))
+
+  is_image : IsImage input h rest
+  is_image = subst (λ (g : HostOf). IsImage input g rest) (sym f.parts.is) (record { valid = valid; spelled = spelled })
+
+pub image_back : (input : List ℕ) (h : HostOf) (rest : List ℕ) → AreBytes input → image_at input ≡ Passes h rest → IsImage input h rest
+image_back input h rest all is = is_image input h rest (found input h rest (recursion_from_All (λ b. b < 256) input all) is)

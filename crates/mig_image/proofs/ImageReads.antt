@@ -1,0 +1,193 @@
+-- The image of a valid host is read as this host.
+use Rattle.std.proofs.Common.{◌≡◌, ℕ, ◌^◌, ◌<◌, ◌≤◌, false, not, nat_eq, nat_lt, List, [], ◌++◌, length, None, refl, sym, ap, ◌∙◌, arith, append_assoc}
+use Rattle.std.specs.Prelude.{◌&&◌}
+use Rattle.std.specs.List.{flat_map}
+use Rattle.std.proofs.lemmas.Bool.{or_from, le-ltb, ne_eqb}
+use Rattle.std.specs.FinMap as maps
+use Rattle.byteorder.specs.Endian.{little_bytes}
+use Rattle.byteorder.specs.Numbers.{little_number-reads_back}
+use Rattle.mig_bytes.specs.Fields.{le32, le64, be64}
+use Rattle.mig_bytes.specs.Judged.{Judged, ◌>>=◌, part, tried, placed}
+use Rattle.mig_bytes.specs.Judged.Judged.{Passes}
+use Rattle.mig_bytes.proofs.Joins.{part_whole, same_passes}
+use Rattle.mig_headers.specs.Headers.{kind_number, kind_of_number}
+use Rattle.mig_headers.specs.RecordTypes.{pv}
+use Rattle.mig_headers.specs.declared.image_fault.ImageCause.{ImageCause}
+use Rattle.mig_headers.specs.declared.image_fault.ImageCause.TheVariants.{Truncated}
+use Rattle.mig_headers.specs.declared.image_fault.ImagePlace.{ImagePlace}
+use Rattle.mig_headers.specs.declared.image_fault.ImagePlace.TheVariants.{Head, Parts}
+use Rattle.mig_headers.specs.declared.kind.Kind.{Kind}
+use Rattle.mig_headers.specs.declared.kind.Kind.TheVariants.{Pv, Hvm}
+use Rattle.mig_guest.specs.Hosts.{HostOf, IsValid}
+use Rattle.mig_image.specs.Image.{head_of, frame_text, part_text, image, IsImage}
+use Rattle.mig_image.specs.ImageParts.{is_wide, name_rows, size_rows, fault_of_name, fault_of_sizes, fault_of_head, head_at, opened, frames_at, parts_at, count_at, behind_head, image_at}
+use Rattle.mig_image.proofs.FrameChains.{frames_go, frames_chain, frames_same, frames_within, with_frames}
+use Rattle.mig_image.proofs.PartChains.{parts_go, parts_chain, parts_same, parts_few}
+use Rattle.mig_image.proofs.Rows.{then_passes, tried_none, no_fault}
+
+-- ---- the head
+
+name_read : (h : HostOf) → be64 (head_of h) 0 ≡ 0x5847494D41474531
+unfolding be64 head_of
+name_read h = refl
+
+kind_small : (kind : Kind) → kind_number kind < 2 ^ 32
+kind_small Pv = omega arith
+kind_small Hvm = omega arith
+
+kind_read : (h : HostOf) → le32 (head_of h) 8 ≡ kind_number h.kind
+unfolding le32 head_of
+kind_read h = little_number-reads_back 4 (kind_number h.kind) (little_bytes 4 0 ++ (little_bytes 8 h.width ++ little_bytes 8 (length (maps.entries h.frames)))) (kind_small h.kind)
+
+zero_read : (h : HostOf) → le32 (head_of h) 12 ≡ 0
+unfolding le32 head_of
+zero_read h = refl
+
+width_read : (h : HostOf) → h.width < 2 ^ 64 → le64 (head_of h) 16 ≡ h.width
+unfolding le64 head_of
+width_read h small = little_number-reads_back 8 h.width (little_bytes 8 (length (maps.entries h.frames))) small
+
+count_read : (h : HostOf) → length (maps.entries h.frames) < 2 ^ 64 → le64 (head_of h) 24 ≡ length (maps.entries h.frames)
+unfolding le64 head_of
+count_read h small = little_number-reads_back 8 (length (maps.entries h.frames)) [] small
+
+head_len : (h : HostOf) → length (head_of h) ≡ 32
+unfolding head_of
+head_len h = refl
+
+kind_back : (kind : Kind) → kind_of_number (kind_number kind) ≡ kind
+kind_back Pv = refl
+kind_back Hvm = refl
+
+kind_known : (kind : Kind) → (not (nat_eq (kind_number kind) 1) && not (nat_eq (kind_number kind) 2)) ≡ false
+kind_known Pv = refl
+kind_known Hvm = refl
+
+not_wide : (kind : Kind) (width : ℕ) → width ≤ 2 ^ 28 → (kind ≡ Pv → 0 < width) → is_wide kind width ≡ false
+not_wide kind width le some = or_from (nat_lt (2 ^ 28) width) (pv kind && nat_eq width 0) (le-ltb (2 ^ 28) width le) (by kind some)
+  where
+    by : (k : Kind) → (k ≡ Pv → 0 < width) → (pv k && nat_eq width 0) ≡ false
+    by Pv some = let pos = some refl in ne_eqb width 0 (λ e. absurd (omega arith))
+    by Hvm some = refl
+
+-- what the head of a host says
+record Says (head : List ℕ) (h : HostOf) : Type 0 where
+  name : be64 head 0 ≡ 0x5847494D41474531
+  kind : le32 head 8 ≡ kind_number h.kind
+  zero : le32 head 12 ≡ 0
+  width : le64 head 16 ≡ h.width
+  count : le64 head 24 ≡ length (maps.entries h.frames)
+
+says : (h : HostOf) → IsValid h → Says (head_of h) h
+says h valid = record {
+  name = name_read h;
+  kind = kind_read h;
+  zero = zero_read h;
+  width = width_read h (let small : h.width < 2 ^ 64 = omega (arith, valid.width) in small);
+  count = count_read h (let small : length (maps.entries h.frames) < 2 ^ 64 = let few = valid.few in omega (arith, few) in small);
+}
+
+fine : (h : HostOf) (head : List ℕ) → IsValid h → Says head h → fault_of_head head ≡ None
+fine h head valid s =
+    let n = length (maps.entries h.frames) in
+    let first : fault_of_name head ≡ None = no_fault (name_rows head) (
+      ap (λ n. not (nat_eq n 0x5847494D41474531)) s.name,
+      (
+        ap (λ n. not (nat_eq n 1) && not (nat_eq n 2)) s.kind ∙ kind_known h.kind,
+        (ap (λ n. not (nat_eq n 0)) s.zero, tt),
+      ),
+    ) in
+    let few = valid.few in
+    let sizes : fault_of_sizes h.kind h.width n ≡ None = no_fault (size_rows h.kind h.width n) (
+      not_wide h.kind h.width valid.width valid.some_width,
+      (or_from (nat_lt (2 ^ 24) n) (nat_lt h.width n) (le-ltb (2 ^ 24) n few) (le-ltb h.width n (frames_within h valid)), tt),
+    ) in
+    let second : fault_of_sizes (kind_of_number (le32 head 8)) (le64 head 16) (le64 head 24) ≡ None =
+    ap (λ k. fault_of_sizes (kind_of_number k) (le64 head 16) (le64 head 24)) s.kind ∙ ap (λ k. fault_of_sizes k (le64 head 16) (le64 head 24)) (kind_back h.kind)
+    ∙ ap (λ w. fault_of_sizes h.kind w (le64 head 24)) s.width ∙ ap (fault_of_sizes h.kind h.width) s.count ∙ sizes in
+    rw (first, second) refl
+
+abbrev without : HostOf → HostOf
+without h = record { kind = h.kind; width = h.width; frames = maps.empty; parts = maps.empty }
+
+opened_is : (h : HostOf) (head : List ℕ) → Says head h → opened head ≡ without h
+opened_is h head s =
+    ap (λ k. record { kind = kind_of_number k; width = le64 head 16; frames = maps.empty; parts = maps.empty }) s.kind
+    ∙ ap (λ k. record { kind = k; width = le64 head 16; frames = maps.empty; parts = maps.empty }) (kind_back h.kind)
+    ∙ ap (λ w. record { kind = h.kind; width = w; frames = maps.empty; parts = maps.empty }) s.width
+
+-- ---- the number of parts
+
+number_read : (n : ℕ) → n < 2 ^ 64 → le64 (little_bytes 8 n) 0 ≡ n
+unfolding le64
+number_read n small = little_number-reads_back 8 n [] small
+
+count_text : (n : ℕ) (rest : List ℕ) → n < 2 ^ 64 → count_at (little_bytes 8 n ++ rest) ≡ Passes n rest
+count_text n rest small =
+    then_passes (part Truncated 8 (little_bytes 8 n ++ rest)) (λ count. Passes (le64 count.0 0) count.1) (little_bytes 8 n) rest _ (part_whole Truncated 8 (little_bytes 8 n) rest refl)
+    (ap (λ m. Passes m rest) (number_read n small))
+
+-- ---- the whole
+
+module _ (h : HostOf) (valid : IsValid h) (rest : List ℕ) where
+  abbrev frames_text : List ℕ
+  frames_text = flat_map frame_text (maps.entries h.frames)
+
+  abbrev parts_text : List ℕ
+  parts_text = flat_map part_text (maps.entries h.parts)
+
+  abbrev count : ℕ
+  count = length (maps.entries h.parts)
+
+  abbrev at_parts : List ℕ
+  at_parts = parts_text ++ rest
+
+  abbrev at_count : List ℕ
+  at_count = little_bytes 8 count ++ at_parts
+
+  abbrev at_frames : List ℕ
+  at_frames = frames_text ++ at_count
+
+  abbrev framed : HostOf
+  framed = with_frames (without h) h.frames
+
+  spelled : image h ++ rest ≡ head_of h ++ at_frames
+  unfolding image
+  spelled =
+      append_assoc (head_of h) (frames_text ++ (little_bytes 8 count ++ parts_text)) rest
+      ∙ ap (λ l. head_of h ++ l) (append_assoc frames_text (little_bytes 8 count ++ parts_text) rest ∙ ap (λ l. frames_text ++ l) (append_assoc (little_bytes 8 count) parts_text rest))
+
+  wide : h.width ≤ 2 ^ 28
+  wide = valid.width
+
+  frames_read : frames_at (length (maps.entries h.frames)) (without h) at_frames ≡ Passes framed at_count
+  frames_read = frames_go (without h) maps.empty (maps.entries h.frames) 0 at_count wide (frames_chain h valid) ∙ ap (λ m. Passes (with_frames (without h) m) at_count) (frames_same h valid)
+
+  parts_read : parts_at count framed at_parts ≡ Passes h rest
+  parts_read = parts_go framed maps.empty (maps.entries h.parts) 0 rest wide (parts_chain h valid) ∙ ap (λ m. Passes (record { kind = h.kind; width = h.width; frames = h.frames; parts = m }) rest) (parts_same h valid)
+
+  abbrev behind_frames : HostOf × List ℕ → Judged (ImagePlace × ImageCause) HostOf
+  behind_frames f = placed Parts (count_at f.1) >>= λ count. parts_at count.0 f.0 count.1
+
+  behind : behind_head (head_of h) at_frames ≡ Passes h rest
+  behind =
+      let s = says h valid in
+      then_passes (frames_at (le64 (head_of h) 24) (opened (head_of h)) at_frames) behind_frames framed at_count _
+      (ap (λ n. frames_at n (opened (head_of h)) at_frames) s.count ∙ ap (λ o. frames_at (length (maps.entries h.frames)) o at_frames) (opened_is h (head_of h) s) ∙ frames_read)
+      (then_passes (placed Parts (count_at at_count)) (λ count. parts_at count.0 framed count.1) count at_parts _ (ap (placed Parts) (count_text count at_parts (parts_few h valid))) parts_read)
+
+  head_reads : head_at (head_of h ++ at_frames) ≡ Passes (head_of h) at_frames
+  head_reads =
+      then_passes (part Truncated 32 (head_of h ++ at_frames)) (λ head. tried (fault_of_head head.0) head.1 >>= λ _. Passes head.0 head.1) (head_of h) at_frames _ (part_whole Truncated 32 (head_of h) at_frames (head_len h))
+      (tried_none (fault_of_head (head_of h)) at_frames (Passes (head_of h) at_frames) (fine h (head_of h) valid (says h valid)))
+
+  reads : image_at (head_of h ++ at_frames) ≡ Passes h rest
+  unfolding image_at
+  reads = then_passes (placed Head (head_at (head_of h ++ at_frames))) (λ head. behind_head head.0 head.1) (head_of h) at_frames _ (ap (placed Head) head_reads) behind
+
+pub image_reads : (input : List ℕ) (h : HostOf) (rest : List ℕ) → IsImage input h rest → image_at input ≡ Passes h rest
+image_reads input h rest im = ap image_at (im.spelled ∙ spelled h im.valid rest) ∙ reads h im.valid rest
+
+-- an input begins with the image of at most one host
+pub one_host : (input : List ℕ) (g h : HostOf) (rest more : List ℕ) → IsImage input g rest → IsImage input h more → (g ≡ h) × (rest ≡ more)
+one_host input g h rest more a b = same_passes g h rest more (sym (image_reads input g rest a) ∙ image_reads input h more b)

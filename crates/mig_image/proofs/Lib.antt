@@ -1,0 +1,16 @@
+pub mod HostEntries
+pub mod HostMaps
+pub mod HostsMade
+pub mod MachineMaps
+pub mod Samples
+pub mod FieldBytes
+pub mod FrameChains
+pub mod FrameTexts
+pub mod FramesBack
+pub mod ImageBack
+pub mod ImageReads
+pub mod InOrder
+pub mod PartChains
+pub mod PartTexts
+pub mod PartsBack
+pub mod Rows

@@ -1,0 +1,201 @@
+-- A part that fits behind others is read as it is spelled.
+use Rattle.std.proofs.Common.{◌≡◌, ℕ, zero, suc, ◌+◌, ◌-◌, ◌*◌, ◌/◌, ◌%◌, ◌^◌, ◌<◌, ◌≤◌, Bool, true, false, not, nat_eq, nat_le, List, [], ◌∷◌, ◌++◌, length, replicate, Some, None, refl, sym, ap, ◌∙◌, arith, append_assoc}
+use Rattle.std.specs.Prelude.{◌&&◌}
+use Rattle.std.specs.List.{list_all}
+use Rattle.std.proofs.lemmas.Bool.{and_from, and_parts, eqb-true, leb-true}
+use Rattle.std.proofs.lemmas.List.{length-replicate}
+use Rattle.byteorder.specs.Endian.{little_bytes}
+use Rattle.byteorder.specs.Numbers.{little_number-reads_back}
+use Rattle.mig_bytes.specs.Bytes.{padding_len}
+use Rattle.mig_bytes.specs.Fields.{le32}
+use Rattle.mig_bytes.specs.Judged.{Judged, ◌>>=◌, part, tried}
+use Rattle.mig_bytes.specs.Judged.Judged.{Passes}
+use Rattle.mig_bytes.proofs.Joins.{part_whole}
+use Rattle.mig_headers.specs.Pairs.{AreCanonicalPairs, are_canonical_pairs}
+use Rattle.mig_headers.proofs.PairTexts.{canonical_pairs_are_computed}
+use Rattle.mig_headers.specs.declared.image_fault.ImageCause.{ImageCause}
+use Rattle.mig_headers.specs.declared.image_fault.ImageCause.TheVariants.{Truncated, PartBytes, PartPadding}
+use Rattle.mig_headers.specs.declared.kind.Kind.{Kind}
+use Rattle.mig_guest.specs.declared.part_code.PartCode.{PartCode}
+use Rattle.mig_guest.specs.declared.part_code.PartCode.TheVariants.{P2mFrames, VcpuBasic, VcpuExtended, VcpuXsave, SharedInfo, Tsc, HvmContext, HvmParam, VcpuMsrs, CpuidLeaf, Msr, EmulatorPairs, EmulatorContext}
+use Rattle.mig_guest.specs.declared.part_key.PartKey.{PartKey}
+use Rattle.mig_guest.specs.Hosts.{HostOf, IsHostPart}
+use Rattle.mig_guest.specs.PartCodes.{code_number, code_of_number, part_codes, row_of}
+use Rattle.mig_guest.specs.Parts.{PartMap}
+use Rattle.mig_image.specs.Image.{part_head_of, part_text}
+use Rattle.mig_image.specs.ImageParts.{head_key, code_fits, code_allows, has_part_from, is_full, part_rows, fault_of_part, fault_of_bytes, fault_of_padding, put_part_in, part_head_at, bytes_at, padding_at, part_at}
+use Rattle.mig_image.proofs.InOrder.{found_passes}
+use Rattle.mig_image.proofs.Rows.{then_passes, tried_none, no_fault}
+
+-- a part that may stand behind these
+pub record PartFits (kind : Kind) (width : ℕ) (m : PartMap) (e : PartKey × List ℕ) : Type 0 where
+  pub is : IsHostPart kind width e.0 e.1
+  pub behind : has_part_from m e.0 ≡ false
+  pub room : is_full m e.0.code ≡ false
+
+-- ---- codes
+
+pub number_is : (number : ℕ) (code : PartCode) → code_of_number number ≡ Some code → code_number code ≡ number
+number_is number code is = eqb-true (code_number code) number (found_passes (λ c. nat_eq (code_number c) number) part_codes code is)
+
+code_small : (code : PartCode) → code_number code < 260
+code_small P2mFrames = omega arith
+code_small VcpuBasic = omega arith
+code_small VcpuExtended = omega arith
+code_small VcpuXsave = omega arith
+code_small SharedInfo = omega arith
+code_small Tsc = omega arith
+code_small HvmContext = omega arith
+code_small HvmParam = omega arith
+code_small VcpuMsrs = omega arith
+code_small CpuidLeaf = omega arith
+code_small Msr = omega arith
+code_small EmulatorPairs = omega arith
+code_small EmulatorContext = omega arith
+
+small_exactly : (n len : ℕ) → n < 2 ^ 32 → nat_eq len n ≡ true → len < 2 ^ 32
+small_exactly n len h is = omega (arith, eqb-true len n is)
+
+small_most : (n len : ℕ) → n < 2 ^ 32 → nat_le len n ≡ true → len < 2 ^ 32
+small_most n len h is = omega (arith, leb-true len n is)
+
+small_from : (least most len : ℕ) → most < 2 ^ 32 → (nat_le least len && nat_le len most) ≡ true → len < 2 ^ 32
+small_from least most len h is = small_most most len h (and_parts (nat_le least len) (nat_le len most) is).1
+
+p2m_small : (width : ℕ) → width ≤ 2 ^ 28 → 8 * ((width - 1) / 512 + 1) < 2 ^ 32
+p2m_small width h = omega arith
+
+len_small : (code : PartCode) (width len : ℕ) → width ≤ 2 ^ 28 → (row_of code).allows width len ≡ true → len < 2 ^ 32
+len_small P2mFrames width len wide is = small_exactly (8 * ((width - 1) / 512 + 1)) len (p2m_small width wide) is
+len_small VcpuBasic width len wide is = small_exactly 5168 len (omega arith) is
+len_small VcpuExtended width len wide is = small_from 1 (2 ^ 27 - 8) len (omega arith) is
+len_small VcpuXsave width len wide is = small_from 1 (2 ^ 27 - 8) len (omega arith) is
+len_small SharedInfo width len wide is = small_exactly 4096 len (omega arith) is
+len_small Tsc width len wide is = small_exactly 20 len (omega arith) is
+len_small HvmContext width len wide is = small_most (2 ^ 27) len (omega arith) is
+len_small HvmParam width len wide is = small_exactly 8 len (omega arith) is
+len_small VcpuMsrs width len wide is = small_from 16 (2 ^ 27 - 16) len (omega arith) (and_parts (nat_eq (len % 16) 0) (nat_le 16 len && nat_le len (2 ^ 27 - 16)) is).1
+len_small CpuidLeaf width len wide is = small_exactly 16 len (omega arith) is
+len_small Msr width len wide is = small_exactly 12 len (omega arith) is
+len_small EmulatorPairs width len wide is = small_from 1 (2 ^ 24) len (omega arith) is
+len_small EmulatorContext width len wide is = small_most (2 ^ 27 - 8) len (omega arith) is
+
+-- ---- the fields of a head
+
+code_read : (key : PartKey) (len : ℕ) → key.code < 2 ^ 32 → le32 (part_head_of key len) 0 ≡ key.code
+unfolding le32 part_head_of
+code_read key len small = little_number-reads_back 4 key.code (little_bytes 4 key.key1 ++ (little_bytes 4 key.key2 ++ little_bytes 4 len)) small
+
+key1_read : (key : PartKey) (len : ℕ) → key.key1 < 2 ^ 32 → le32 (part_head_of key len) 4 ≡ key.key1
+unfolding le32 part_head_of
+key1_read key len small = little_number-reads_back 4 key.key1 (little_bytes 4 key.key2 ++ little_bytes 4 len) small
+
+key2_read : (key : PartKey) (len : ℕ) → key.key2 < 2 ^ 32 → le32 (part_head_of key len) 8 ≡ key.key2
+unfolding le32 part_head_of
+key2_read key len small = little_number-reads_back 4 key.key2 (little_bytes 4 len) small
+
+len_read : (key : PartKey) (len : ℕ) → len < 2 ^ 32 → le32 (part_head_of key len) 12 ≡ len
+unfolding le32 part_head_of
+len_read key len small = little_number-reads_back 4 len [] small
+
+head_len : (key : PartKey) (len : ℕ) → length (part_head_of key len) ≡ 16
+unfolding part_head_of
+head_len key len = refl
+
+-- what a head says
+record Says (head : List ℕ) (k : PartKey) (n : ℕ) : Type 0 where
+  code : le32 head 0 ≡ k.code
+  key : head_key head ≡ k
+  len : le32 head 12 ≡ n
+
+says : (kind : Kind) (width : ℕ) (e : PartKey × List ℕ) → width ≤ 2 ^ 28 → IsHostPart kind width e.0 e.1 → Says (part_head_of e.0 (length e.1)) e.0 (length e.1)
+says kind width e wide is =
+    let small : e.0.code < 2 ^ 32 = omega (arith, number_is e.0.code is.code is.numbered, code_small is.code) in
+    let c = code_read e.0 (length e.1) small in
+    let k1 = key1_read e.0 (length e.1) is.small1 in
+    let k2 = key2_read e.0 (length e.1) is.small2 in
+    record {
+      code = c;
+      key = λ i. record { code = c i; key1 = k1 i; key2 = k2 i };
+      len = len_read e.0 (length e.1) (len_small is.code width (length e.1) wide is.allowed);
+    }
+
+-- ---- no fault
+
+fits_is : (kind : Kind) (key : PartKey) (code : PartCode) → (row_of code).of_kind kind ≡ true → (row_of code).keys key.key1 key.key2 ≡ true → code_of_number key.code ≡ Some code
+    → code_fits (code_of_number key.code) kind key ≡ true
+fits_is kind key code a b is = ap (λ c. code_fits c kind key) is ∙ and_from ((row_of code).of_kind kind) ((row_of code).keys key.key1 key.key2) a b
+
+fine : (h : HostOf) (e : PartKey × List ℕ) (head : List ℕ) → Says head e.0 (length e.1) → PartFits h.kind h.width h.parts e → fault_of_part h head ≡ None
+fine h e head s f = no_fault (part_rows h head) (
+  ap (λ c. not (code_fits (code_of_number c) h.kind (head_key head))) s.code ∙ ap (λ k. not (code_fits (code_of_number e.0.code) h.kind k)) s.key
+      ∙ ap not (fits_is h.kind e.0 f.is.code f.is.of_kind f.is.keys f.is.numbered),
+  (
+    ap (has_part_from h.parts) s.key ∙ f.behind,
+    (
+      ap (is_full h.parts) s.code ∙ f.room,
+      (
+        ap (λ c. not (code_allows (code_of_number c) h.width (le32 head 12))) s.code ∙ ap (λ n. not (code_allows (code_of_number e.0.code) h.width n)) s.len
+            ∙ ap (λ c. not (code_allows c h.width (length e.1))) f.is.numbered ∙ ap not f.is.allowed,
+        tt,
+      ),
+    ),
+  ),
+)
+
+same_code : (c d : PartCode) → Some c ≡ Some d → c ≡ d
+same_code c d e = cc
+
+fine_bytes : (code : PartCode) (number : ℕ) (bytes : List ℕ) → code_of_number number ≡ Some code → (code ≡ EmulatorPairs → AreCanonicalPairs bytes) → fault_of_bytes number bytes ≡ None
+fine_bytes code number bytes is pairs = no_fault ((nat_eq number 258 && not (are_canonical_pairs bytes), PartBytes) ∷ []) (by (nat_eq number 258) refl, tt)
+  where
+    by : (b : Bool) → nat_eq number 258 ≡ b → (b && not (are_canonical_pairs bytes)) ≡ false
+    by true same =
+        let number_same : number ≡ 258 = eqb-true number 258 same in
+        let code_same : Some code ≡ Some EmulatorPairs = sym is ∙ ap code_of_number number_same in
+        ap not ((canonical_pairs_are_computed bytes).1 (pairs (same_code code EmulatorPairs code_same)))
+    by false same = refl
+
+all_zero : (n : ℕ) → list_all (λ b. nat_eq b 0) (replicate n 0) ≡ true
+all_zero zero = refl
+all_zero (suc n) = all_zero n
+
+fine_padding : (n : ℕ) → fault_of_padding (replicate n 0) ≡ None
+fine_padding n = no_fault ((not (list_all (λ b. nat_eq b 0) (replicate n 0)), PartPadding) ∷ []) (ap not (all_zero n), tt)
+
+-- ---- the part
+
+part_is : (h : HostOf) (e : PartKey × List ℕ) (head rest : List ℕ) → Says head e.0 (length e.1) → ◌≡◌ {A = Judged ImageCause HostOf} (Passes (put_part_in h (head_key head) e.1) rest) (Passes (put_part_in h e.0 e.1) rest)
+part_is h e head rest s = ap (λ k. Passes (put_part_in h k e.1) rest) s.key
+
+bytes_go : (number : ℕ) (bytes rest : List ℕ) → fault_of_bytes number bytes ≡ None → bytes_at number (length bytes) (bytes ++ rest) ≡ Passes bytes rest
+bytes_go number bytes rest none =
+    then_passes (part Truncated (length bytes) (bytes ++ rest)) (λ a. tried (fault_of_bytes number a.0) a.1 >>= λ _. Passes a.0 a.1) bytes rest _ (part_whole Truncated (length bytes) bytes rest refl)
+    (tried_none (fault_of_bytes number bytes) rest (Passes bytes rest) none)
+
+padding_goes : (len : ℕ) (rest : List ℕ) → padding_at len (replicate (padding_len len) 0 ++ rest) ≡ Passes (replicate (padding_len len) 0) rest
+padding_goes len rest =
+    let zeros = replicate (padding_len len) 0 in
+    then_passes (part Truncated (padding_len len) (zeros ++ rest)) (λ a. tried (fault_of_padding a.0) a.1 >>= λ _. Passes a.0 a.1) zeros rest _
+    (part_whole Truncated (padding_len len) zeros rest (length-replicate {A = ℕ} (padding_len len) 0))
+    (tried_none (fault_of_padding zeros) rest (Passes zeros rest) (fine_padding (padding_len len)))
+
+abbrev pub behind_bytes : HostOf → List ℕ → List ℕ × List ℕ → Judged ImageCause HostOf
+behind_bytes h head bytes = padding_at (le32 head 12) bytes.1 >>= λ padding. Passes (put_part_in h (head_key head) bytes.0) padding.1
+
+abbrev pub behind_part_head : HostOf → List ℕ × List ℕ → Judged ImageCause HostOf
+behind_part_head h head = bytes_at (le32 head.0 0) (le32 head.0 12) head.1 >>= behind_bytes h head.0
+
+pub part_goes : (h : HostOf) (e : PartKey × List ℕ) (rest : List ℕ) → h.width ≤ 2 ^ 28 → PartFits h.kind h.width h.parts e → part_at h (part_text e ++ rest) ≡ Passes (put_part_in h e.0 e.1) rest
+part_goes h e rest wide f =
+    let head = part_head_of e.0 (length e.1) in
+    let zeros = replicate (padding_len (length e.1)) 0 in
+    let mid = e.1 ++ (zeros ++ rest) in
+    let s = says h.kind h.width e wide f.is in
+    ap (part_at h) (append_assoc head (e.1 ++ zeros) rest ∙ ap (λ l. head ++ l) (append_assoc e.1 zeros rest))
+    ∙ then_passes (part_head_at h (head ++ mid)) (behind_part_head h) head mid _
+    (then_passes (part Truncated 16 (head ++ mid)) (λ a. tried (fault_of_part h a.0) a.1 >>= λ _. Passes a.0 a.1) head mid _ (part_whole Truncated 16 head mid (head_len e.0 (length e.1))) (tried_none (fault_of_part h head) mid (Passes head mid) (fine h e head s f)))
+    (then_passes (bytes_at (le32 head 0) (le32 head 12) mid) (behind_bytes h head) e.1 (zeros ++ rest) _
+    (ap (λ c. bytes_at c (le32 head 12) mid) s.code ∙ ap (λ n. bytes_at e.0.code n mid) s.len ∙ bytes_go e.0.code e.1 (zeros ++ rest) (fine_bytes f.is.code e.0.code e.1 f.is.numbered f.is.pairs))
+    (then_passes (padding_at (le32 head 12) (zeros ++ rest)) (λ padding. Passes (put_part_in h (head_key head) e.1) padding.1) zeros rest _
+    (ap (λ n. padding_at n (zeros ++ rest)) s.len ∙ padding_goes (length e.1) rest) (part_is h e head rest s)))

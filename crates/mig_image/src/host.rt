@@ -1,0 +1,290 @@
+ghost use Rattle.std.specs.Prelude.{◌≡◌, ℕ, ◌≤◌, ◌<◌, ◌^◌, OnOk, OnErr, IfSome, IfNone, IsSome, Some, None, option_and_then, length};
+ghost use Rattle.std.specs.declared.cmp.Ordering.TheVariants.{Less};
+ghost use Rattle.std.specs.Option.{option_copied, option_map};
+ghost use Rattle.std.specs.FinMap as maps;
+ghost use Rattle.mig_headers.specs.declared.kind.Kind.TheVariants.{Pv};
+ghost use Rattle.mig_guest.specs.declared.part_key.PartKey.{PartKey};
+ghost use Rattle.mig_guest.specs.Frames.{NextEntry};
+ghost use Rattle.mig_guest.specs.Hosts.{IsHostFrame, IsHostPart, IsValid};
+ghost use Rattle.mig_guest.specs.Order.{part_cmp, IsAbove};
+ghost use Rattle.mig_guest.specs.Parts.{FitsPolicy, NextBehind};
+ghost use Rattle.mig_image.specs.ImageParts.{put_frame, put_part_in, has_machine};
+
+use crate::machine_frames::MachineFrames;
+use mig_bytes::Memory;
+use mig_guest::{Guest, PartKey};
+use mig_headers::Kind;
+use mig_pagetypes::PageType;
+use std::alloc::Global;
+use std::marker::Model;
+
+/// A guest as it stands in a machine: each frame number below the width that has a frame has a machine frame too, and
+/// no machine frame belongs to two. Its pages and parts are raw, as they stand in the machine.
+#[derive(Drop)]
+pub struct Host {
+    width: u64,
+    guest: Guest,
+    machines: MachineFrames,
+}
+
+impl Model for Host {
+    ghost use Rattle.mig_guest.specs.Hosts.{HostOf, host_code};
+    ghost use Rattle.mig_image.specs.HostView.{host_seen, IsMade};
+
+    ghost Value = { HostOf };
+
+    ghost coded = { host_code };
+
+    ghost view = { λ h. host_seen h.guest h.width h.machines };
+
+    ghost invariant = { λ h. IsMade h.guest h.width h.machines };
+}
+
+impl Host {
+    ghost use Rattle.mig_guest.specs.Hosts.{HostOf, HostFrame};
+    ghost use Rattle.mig_guest.specs.Guests.{GuestOf};
+    ghost use Rattle.mig_image.specs.HostView.{host_seen, IsMade};
+
+    /// A host without frames and parts.
+    pub(crate) fn new(alloc: Global, kind: Kind, width: u64) -> Host
+        requires width { width ≤ 2 ^ 28 }
+        requires some_width { kind ≡ Pv → 0 < width }
+        ensures { result ≡ record { kind = kind; width = width; frames = maps.empty; parts = maps.empty } }
+    {
+        Host {
+            width,
+            guest: Guest::new(alloc, kind),
+            machines: MachineFrames::new(alloc),
+        }
+    }
+
+    /// The host of a guest's frames and parts, with these machine frames.
+    pub(crate) fn of(guest: Guest, width: u64, machines: MachineFrames) -> Host
+        requires { IsMade guest width machines }
+        ensures { result ≡ host_seen guest width machines }
+    {
+        Host {
+            width,
+            guest,
+            machines,
+        }
+    }
+
+    pub fn kind(&self) -> Kind
+        ensures { result ≡ self.now.kind }
+    {
+        self.guest.kind()
+    }
+
+    /// One more than the greatest PFN that the host may have.
+    pub fn width(&self) -> u64
+        ensures value { result ≡ self.now.width }
+        ensures valid { IsValid self.now }
+    {
+        self.width
+    }
+
+    /// The number of frames.
+    pub fn frames(&self) -> u64
+        ensures { result ≡ maps.len self.now.frames }
+    {
+        self.guest.frames()
+    }
+
+    /// The type of this frame; none where the host doesn't have it.
+    pub fn frame(&self, pfn: u64) -> Option<PageType>
+        ensures { result ≡ option_map (λ f. f.kind) (maps.get self.now.frames pfn) }
+    {
+        self.guest.frame(pfn)
+    }
+
+    /// The raw page of this frame; none where there is no frame, or its type has no data.
+    pub fn page(&self, pfn: u64) -> Option<&[u8; 4096]>
+        ensures { option_copied result ≡ option_and_then (λ f. f.page) (maps.get self.now.frames pfn) }
+    {
+        self.guest.page(pfn)
+    }
+
+    /// The machine frame of this frame.
+    pub(crate) fn machine(&self, pfn: u64) -> Option<u64>
+        ensures { result ≡ option_map (λ f. f.machine) (maps.get self.now.frames pfn) }
+    {
+        self.machines.machine(pfn)
+    }
+
+    /// Whether some frame has this machine frame.
+    pub(crate) fn uses_machine(&self, machine: u64) -> bool
+        ensures { result ≡ has_machine self.now machine }
+    {
+        self.machines.pfn(machine).is_some()
+    }
+
+    /// The least PFN that has a frame and is at least `from`, which may be any number.
+    pub fn next_frame(&self, from: u64) -> Option<u64>
+        ensures none { IfNone result ((k : ℕ) → from ≤ k → maps.get self.now.frames k ≡ None) }
+        ensures there { IfSome result (λ q. IsSome (maps.get self.now.frames q)) }
+        ensures least { IfSome result (λ q. (from ≤ q) × ((k : ℕ) → from ≤ k → k < q → maps.get self.now.frames k ≡ None)) }
+        ensures small { IfSome result (λ q. q < 2 ^ 28) }
+    {
+        self.guest.next_frame(from)
+    }
+
+    /// The first frame from this number on, with its type, its machine frame and its page.
+    pub(crate) fn next_entry(&self, from: u64) -> Option<(u64, PageType, u64, Option<&[u8; 4096]>)>
+        ensures next { NextEntry from (maps.entries self.now.frames) (option_map (λ e. (e.0, record { kind = e.1; machine = e.2; page = option_copied e.3 })) result) }
+        ensures small { IfSome result (λ e. e.0 < 2 ^ 28) }
+    {
+        let (pfn, kind, page) = self.guest.next_entry(from)?;
+        let machine = self.machines.machine(pfn)?;
+        Some((pfn, kind, machine, page))
+    }
+
+    /// The raw bytes of a part; none where the host doesn't have it.
+    pub fn part(&self, key: PartKey) -> Option<&[u8]>
+        ensures { option_copied result ≡ maps.get self.now.parts key }
+    {
+        self.guest.part(key)
+    }
+
+    /// The least key of a part that is above `after`, or of all parts.
+    pub fn next_part(&self, after: Option<PartKey>) -> Option<PartKey>
+        ensures none { IfNone result ((k : PartKey) → IsAbove after k → maps.get self.now.parts k ≡ None) }
+        ensures there { IfSome result (λ q. IsSome (maps.get self.now.parts q)) }
+        ensures least { IfSome result (λ q. IsAbove after q × ((k : PartKey) → IsAbove after k → part_cmp k q ≡ Less → maps.get self.now.parts k ≡ None)) }
+    {
+        self.guest.next_part(after)
+    }
+
+    /// The part with the least key above `after`, or of all parts, with its bytes.
+    pub(crate) fn next_behind(&self, after: Option<PartKey>) -> Option<(PartKey, &[u8])>
+        ensures next { NextBehind after (maps.entries self.now.parts) (option_map (λ e. (e.0, e.1.now)) result) }
+    {
+        self.guest.next_behind(after)
+    }
+
+    /// Adds a frame; where no memory is found, the host stays.
+    pub(crate) fn add_frame(
+        &mut self,
+        pfn: u64,
+        kind: PageType,
+        machine: u64,
+        page: Option<&[u8; 4096]>,
+    ) -> Result<(), Memory>
+        requires is { IsHostFrame self.old.kind self.old.width pfn (record { kind = kind; machine = machine; page = option_copied page }) }
+        requires absent { maps.get self.old.frames pfn ≡ None }
+        requires unused { (other : ℕ) (frame : HostFrame) → maps.get self.old.frames other ≡ Some frame → frame.machine ≡ machine → ⊥ }
+        requires few { length (maps.entries self.old.frames) < 2 ^ 24 }
+        ensures ok { OnOk result (self.new ≡ put_frame self.old pfn (record { kind = kind; machine = machine; page = option_copied page.entry })) }
+        ensures err { OnErr result (self.new ≡ self.old) }
+    {
+        self.guest.set_frame(pfn, kind, page)?;
+        if self.machines.insert(pfn, machine).is_err() {
+            let _ = self.guest.set_frame(pfn, PageType::Xtab, None);
+            return Err(Memory);
+        }
+        Ok(())
+    }
+
+    /// Sets the bytes of a part; where no memory is found, the host stays.
+    pub(crate) fn set_part(&mut self, key: PartKey, bytes: &[u8]) -> Result<(), Memory>
+        requires is { IsHostPart self.old.kind self.old.width key bytes.now }
+        requires leaves { FitsPolicy 17 (maps.insert self.old.parts key bytes.now) }
+        requires msrs { FitsPolicy 18 (maps.insert self.old.parts key bytes.now) }
+        ensures ok { OnOk result (self.new ≡ put_part_in self.old key bytes.now) }
+        ensures err { OnErr result (self.new ≡ self.old) }
+    {
+        self.guest.set_part(key, bytes)
+    }
+}
+
+#[cfg(test)]
+mod tests {
+    use super::*;
+    use std::test::Fail;
+
+    const TSC: PartKey = PartKey {
+        code: 8,
+        key1: 0,
+        key2: 0,
+    };
+
+    const PARAM: PartKey = PartKey {
+        code: 10,
+        key1: 3,
+        key2: 0,
+    };
+
+    fn framed_host(rt: &HostRuntime) -> Result<Host, Fail> {
+        let mut host = Host::new(rt.alloc(), Kind::Hvm, 9);
+        host.add_frame(2, PageType::Notab, 0x51, Some(&[7; 4096]))?;
+        host.add_frame(8, PageType::Broken, 0x50, None)?;
+        Ok(host)
+    }
+
+    fn parted_host(rt: &HostRuntime) -> Result<Host, Fail> {
+        let mut host = Host::new(rt.alloc(), Kind::Hvm, 9);
+        host.set_part(PARAM, &[1; 8])?;
+        host.set_part(TSC, &[2; 20])?;
+        Ok(host)
+    }
+
+    #[test]
+    fn looks_up_frames(rt: HostRuntime) -> Result<(), Fail> {
+        let host = framed_host(&rt)?;
+        assert_eq!(rt;
+            (host.kind(), host.width(), host.frames()),
+            (Kind::Hvm, 9, 2)
+        );
+        // the number, its type, its machine frame, the first byte of its page, and the next number with a frame
+        let rows = [
+            (0, None, None, None, Some(2)),
+            (2, Some(PageType::Notab), Some(0x51), Some(7), Some(2)),
+            (3, None, None, None, Some(8)),
+            (8, Some(PageType::Broken), Some(0x50), None, Some(8)),
+            (9, None, None, None, None),
+        ];
+        for (pfn, kind, machine, first, next) in rows {
+            assert_eq!(rt; host.frame(pfn), kind, "type of {pfn}");
+            assert_eq!(rt; host.machine(pfn), machine, "machine frame of {pfn}");
+            assert_eq!(rt; host.page(pfn).map(|page| page[0]), first, "page of {pfn}");
+            assert_eq!(rt; host.next_frame(pfn), next, "next of {pfn}");
+        }
+        for (machine, used) in [(0x50, true), (0x51, true), (0x52, false), (2, false)] {
+            assert_eq!(rt; host.uses_machine(machine), used, "machine frame {machine}");
+        }
+        Ok(())
+    }
+
+    #[test]
+    fn walks_entries(rt: HostRuntime) -> Result<(), Fail> {
+        let host = framed_host(&rt)?;
+        let (pfn, kind, machine, page) = host.next_entry(0).ok_or("no entry")?;
+        assert_eq!(rt; (pfn, kind, machine), (2, PageType::Notab, 0x51));
+        assert!(rt; page == Some(&[7; 4096]));
+        let (pfn, kind, machine, page) = host.next_entry(3).ok_or("no entry")?;
+        assert_eq!(rt; (pfn, kind, machine), (8, PageType::Broken, 0x50));
+        assert!(rt; page.is_none());
+        assert!(rt; host.next_entry(9).is_none());
+        Ok(())
+    }
+
+    #[test]
+    fn looks_up_parts(rt: HostRuntime) -> Result<(), Fail> {
+        let host = parted_host(&rt)?;
+        let tsc = host.part(TSC).ok_or("no part")?;
+        assert_eq!(rt; (tsc.len(), tsc.first().copied()), (20, Some(2)));
+        let param = host.part(PARAM).ok_or("no part")?;
+        assert_eq!(rt; (param.len(), param.first().copied()), (8, Some(1)));
+        assert!(rt; host.part(PartKey { key1: 4, ..PARAM }).is_none());
+        for (after, next) in [
+            (None, Some(TSC)),
+            (Some(TSC), Some(PARAM)),
+            (Some(PARAM), None),
+        ] {
+            assert_eq!(rt; host.next_part(after), next);
+        }
+        let (key, bytes) = host.next_behind(Some(TSC)).ok_or("no part")?;
+        assert_eq!(rt; (key, bytes.len()), (PARAM, 8));
+        Ok(())
+    }
+}

@@ -1,0 +1,28 @@
+ghost use Rattle.std.specs.Prelude.{◌≡◌, ℕ, List};
+ghost use Rattle.mig_bytes.specs.Judged.Judged.{Passes};
+ghost use Rattle.mig_guest.specs.Guests.{GuestOf};
+ghost use Rattle.mig_guest.specs.Hosts.{HostOf, IsValid};
+ghost use Rattle.mig_pvtables.specs.Whole.{IsWhole};
+ghost use Rattle.mig_image.specs.Hosted.{hosted, IsBaseOutside};
+ghost use Rattle.mig_image.specs.Image.{IsImage, AreBytes};
+ghost use Rattle.mig_image.specs.ImageParts.{image_at};
+
+/// The image of a valid host is read as this host, whatever follows it.
+pub fn image_is_judged()
+    ensures { (input : List ℕ) (host : HostOf) (rest : List ℕ) → IsImage input host rest → image_at input ≡ Passes host rest }
+{}
+
+/// Bytes that are read as a host begin with its image, and the host is valid.
+pub fn judged_is_image()
+    ensures { (input : List ℕ) (host : HostOf) (rest : List ℕ) → AreBytes input → image_at input ≡ Passes host rest → IsImage input host rest }
+{}
+
+/// An input begins with the image of at most one host.
+pub fn one_image()
+    ensures { (input : List ℕ) (g h : HostOf) (rest more : List ℕ) → IsImage input g rest → IsImage input h more → (g ≡ h) × (rest ≡ more) }
+{}
+
+/// What a whole guest becomes is a valid host, where the base isn't out of range.
+pub fn hosted_is_valid()
+    ensures { (guest : GuestOf) (base : ℕ) → IsWhole guest → (IsBaseOutside guest base → ⊥) → IsValid (hosted guest base) }
+{}

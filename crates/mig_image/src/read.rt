@@ -1,0 +1,212 @@
+ghost use Rattle.std.specs.Prelude.{◌≡◌, ◌≤◌, ◌<◌, ◌+◌, ◌^◌, OnOk, IfOk, IsErrOf, length, None};
+ghost use Rattle.std.specs.FinMap as maps;
+ghost use Rattle.mig_bytes.specs.Faults.{Rose};
+ghost use Rattle.mig_bytes.specs.Judged.{Gives};
+ghost use Rattle.mig_bytes.specs.declared.part.Stop.TheVariants.{ReadFault};
+ghost use Rattle.mig_guest.specs.Frames.{is_type_of};
+ghost use Rattle.mig_image.specs.Answer.{ReadsAs, answer_of, placed_stop};
+ghost use Rattle.mig_image.specs.ImageParts.{fault_of_head, fault_of_frame, frame_head_at, frame_at, frames_at, count_at, head_kind, head_pfn, behind_head, image_at};
+ghost use Rattle.mig_image.specs.declared.read.ImageAnswer.TheVariants as answers;
+
+use crate::head::{kind_in, read_head};
+use crate::host::Host;
+use crate::read_part::read_parts;
+use mig_bytes::{Source, Stop, take_part, u32_le, u64_le};
+use mig_headers::{ImageCause, ImagePlace, Kind};
+use mig_pagetypes::PageType;
+use std::alloc::Global;
+
+/// Machine frames are below 2^40.
+const MACHINE_LIMIT: u64 = 1 << 40;
+
+/// Why an image isn't read.
+#[derive(Clone, Copy, Debug, PartialEq, Eq)]
+pub enum ImageAnswer {
+    Refused(ImagePlace, ImageCause),
+    ReadFault,
+    Memory,
+}
+
+/// A stop at this place.
+pub(crate) fn placed(place: ImagePlace, stop: Stop<ImageCause>) -> Stop<(ImagePlace, ImageCause)>
+    ensures { result ≡ placed_stop place stop }
+{
+    match stop {
+        Stop::Refused(cause) => Stop::Refused((place, cause)),
+        Stop::ReadFault => Stop::ReadFault,
+        Stop::Memory => Stop::Memory,
+    }
+}
+
+fn answer(stop: Stop<(ImagePlace, ImageCause)>) -> ImageAnswer
+    ensures { result ≡ answer_of stop }
+{
+    match stop {
+        Stop::Refused((place, cause)) => ImageAnswer::Refused(place, cause),
+        Stop::ReadFault => ImageAnswer::ReadFault,
+        Stop::Memory => ImageAnswer::Memory,
+    }
+}
+
+/// The type in a frame's head; a reserved one is as if it were no frame's.
+fn kind_of(head: &[u8; 16]) -> PageType
+    ensures { result ≡ head_kind head.now }
+{
+    PageType::from_nibble((u32_le(head, 0) >> 28) as u8).unwrap_or(PageType::Xtab)
+}
+
+/// The frame number in a frame's head.
+fn pfn_of(head: &[u8; 16]) -> u64
+    ensures value { result ≡ head_pfn head.now }
+    ensures small { result < 2 ^ 28 }
+{
+    u64::from(u32_le(head, 0) % (1 << 28))
+}
+
+/// Whether guests of this kind have frames of this type.
+fn is_type_of(kind: Kind, this: PageType) -> bool
+    ensures { result ≡ is_type_of kind this }
+{
+    match kind {
+        Kind::Pv => this != PageType::Xtab,
+        Kind::Hvm => matches!(this, PageType::Notab | PageType::Broken | PageType::Xalloc),
+    }
+}
+
+/// What is wrong with the head of a frame behind those of the host.
+fn frame_fault(host: &Host, head: &[u8; 16]) -> Option<ImageCause>
+    ensures { result ≡ fault_of_frame host.now head.now }
+{
+    let pfn = pfn_of(head);
+    let machine = u64_le(head, 8);
+    if u32_le(head, 4) != 0 {
+        return Some(ImageCause::Reserved);
+    }
+    if !is_type_of(host.kind(), kind_of(head)) {
+        return Some(ImageCause::BadPageType(u64::from(u32_le(head, 0) >> 28)));
+    }
+    if host.next_frame(pfn).is_some() {
+        return Some(ImageCause::FrameOrder(pfn));
+    }
+    if pfn >= host.width() {
+        return Some(ImageCause::FrameOutside(pfn));
+    }
+    if machine == 0 || machine >= MACHINE_LIMIT {
+        return Some(ImageCause::MachineFrame(machine));
+    }
+    if host.uses_machine(machine) {
+        return Some(ImageCause::MachineTwice(machine));
+    }
+    None
+}
+
+/// Takes the head of a frame that stands behind those of the host.
+fn read_frame_head<S: Source>(src: &mut S, host: &Host) -> Result<[u8; 16], Stop<ImageCause>>
+    ensures read { Gives (λ v head. head ≡ v) (S.left src.old) (S.left src.new) (frame_head_at host.now) result }
+    ensures fine { IfOk result (λ head. fault_of_frame host.now head ≡ None) }
+    ensures later { S.faults src.old ≤ S.faults src.new }
+    ensures cause { IsErrOf result ReadFault → Rose (S.faults src.old) (S.faults src.new) }
+{
+    let mut head = [0; 16];
+    take_part(src, &mut head, ImageCause::Truncated)?;
+    match frame_fault(host, &head) {
+        Some(cause) => Err(Stop::Refused(cause)),
+        None => Ok(head),
+    }
+}
+
+/// Takes a frame that stands behind those of the host, and keeps it.
+fn read_frame<S: Source>(src: &mut S, host: &mut Host) -> Result<(), Stop<ImageCause>>
+    requires { length (maps.entries host.old.frames) < 2 ^ 24 }
+    ensures read { Gives (λ _ h. host.new ≡ h) (S.left src.old) (S.left src.new) (frame_at host.old) result }
+    ensures counted { OnOk result (length (maps.entries host.new.frames) ≡ length (maps.entries host.old.frames) + 1) }
+    ensures parts { OnOk result (host.new.parts ≡ host.old.parts) }
+    ensures later { S.faults src.old ≤ S.faults src.new }
+    ensures cause { IsErrOf result ReadFault → Rose (S.faults src.old) (S.faults src.new) }
+{
+    let head = read_frame_head(src, host)?;
+    let kind = kind_of(&head);
+    let (pfn, machine) = (pfn_of(&head), u64_le(&head, 8));
+    if !kind.has_data() {
+        return match host.add_frame(pfn, kind, machine, None) {
+            Ok(()) => Ok(()),
+            Err(_) => Err(Stop::Memory),
+        };
+    }
+    let mut page = [0; 4096];
+    take_part(src, &mut page, ImageCause::Truncated)?;
+    match host.add_frame(pfn, kind, machine, Some(&page)) {
+        Ok(()) => Ok(()),
+        Err(_) => Err(Stop::Memory),
+    }
+}
+
+/// Takes so many frames.
+fn read_frames<S: Source>(
+    src: &mut S,
+    host: &mut Host,
+    count: u64,
+) -> Result<(), Stop<(ImagePlace, ImageCause)>>
+    requires few { count ≤ 2 ^ 24 }
+    requires none { length (maps.entries host.old.frames) ≡ 0 }
+    ensures read { Gives (λ _ h. host.new ≡ h) (S.left src.old) (S.left src.new) (frames_at count host.old) result }
+    ensures parts { OnOk result (host.new.parts ≡ host.old.parts) }
+    ensures later { S.faults src.old ≤ S.faults src.new }
+    ensures cause { IsErrOf result ReadFault → Rose (S.faults src.old) (S.faults src.new) }
+{
+    for i in 0..count {
+        if let Err(stop) = read_frame(src, host) {
+            return Err(placed(ImagePlace::Frame(i), stop));
+        }
+    }
+    Ok(())
+}
+
+/// Takes the number of parts.
+fn read_count<S: Source>(src: &mut S) -> Result<u64, Stop<ImageCause>>
+    ensures read { Gives (λ v count. count ≡ v) (S.left src.old) (S.left src.new) count_at result }
+    ensures later { S.faults src.old ≤ S.faults src.new }
+    ensures cause { IsErrOf result ReadFault → Rose (S.faults src.old) (S.faults src.new) }
+{
+    let mut count = [0; 8];
+    take_part(src, &mut count, ImageCause::Truncated)?;
+    Ok(u64_le(&count, 0))
+}
+
+/// Takes the frames and parts behind a head.
+fn read_behind<S: Source>(
+    alloc: Global,
+    src: &mut S,
+    head: &[u8; 32],
+) -> Result<Host, Stop<(ImagePlace, ImageCause)>>
+    requires { fault_of_head head.now ≡ None }
+    ensures read { Gives (λ host h. host ≡ h) (S.left src.old) (S.left src.new) (behind_head head.now) result }
+    ensures later { S.faults src.old ≤ S.faults src.new }
+    ensures cause { IsErrOf result ReadFault → Rose (S.faults src.old) (S.faults src.new) }
+{
+    let mut host = Host::new(alloc, kind_in(head), u64_le(head, 16));
+    read_frames(src, &mut host, u64_le(head, 24))?;
+    let count = match read_count(src) {
+        Ok(count) => count,
+        Err(stop) => return Err(placed(ImagePlace::Parts, stop)),
+    };
+    read_parts(alloc, src, &mut host, count)?;
+    Ok(host)
+}
+
+/// Reads the image of a host, and leaves unread what follows it. `Refused` has the place and the cause of the first
+/// fault, and then the source was read up to the end of the faulty part; `ReadFault` comes only where a read failed.
+pub fn read_host<S: Source>(alloc: Global, src: &mut S) -> Result<Host, ImageAnswer>
+    ensures read { ReadsAs image_at (S.left src.old) (S.left src.new) result }
+    ensures later { S.faults src.old ≤ S.faults src.new }
+    ensures cause { IsErrOf result answers.ReadFault → Rose (S.faults src.old) (S.faults src.new) }
+{
+    let head = match read_head(src) {
+        Ok(head) => head,
+        Err(stop) => return Err(answer(placed(ImagePlace::Head, stop))),
+    };
+    match read_behind(alloc, src, &head) {
+        Ok(host) => Ok(host),
+        Err(stop) => Err(answer(stop)),
+    }
+}

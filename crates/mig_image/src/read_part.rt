@@ -1,0 +1,221 @@
+ghost use Rattle.std.specs.Prelude.{◌≡◌, ◌==◌, ◌+◌, ◌≤◌, ◌<◌, ⊤, OnOk, IfOk, IsErrOf, length, None, if◌then◌else◌};
+ghost use Rattle.std.specs.FinMap as maps;
+ghost use Rattle.mig_bytes.specs.Faults.{Rose};
+ghost use Rattle.mig_bytes.specs.Judged.{Gives};
+ghost use Rattle.mig_bytes.specs.declared.part.Stop.TheVariants.{ReadFault};
+ghost use Rattle.mig_headers.specs.declared.kind.Kind.TheVariants.{Pv};
+ghost use Rattle.mig_guest.specs.PartCodes.{code_of_number};
+ghost use Rattle.mig_guest.specs.Parts.{PartMap};
+ghost use Rattle.mig_image.specs.ImageParts.{fault_of_part, head_key, code_fits, code_allows, has_part_from, is_full, part_head_at, bytes_at, padding_at, part_at, parts_at};
+ghost use Rattle.mig_image.specs.PartCounts.{Counts};
+
+use crate::host::Host;
+use crate::read::placed;
+use mig_bytes::{Source, Stop, pad_len, take_long, take_part, u32_le};
+use mig_guest::{PartCode, PartKey};
+use mig_headers::{ImageCause, ImagePlace, Kind};
+use mig_policy::canonical_pairs;
+use std::alloc::Global;
+
+/// The most entries of a policy.
+const MAX_ENTRIES: u64 = 65536;
+
+/// The codes of the policies' entries.
+const CPUID_LEAF: u32 = 17;
+
+const MSR: u32 = 18;
+
+/// The code of an emulator's pairs.
+const EMULATOR_PAIRS: u32 = 258;
+
+/// How many entries of each policy were read.
+#[derive(Clone, Copy)]
+pub(crate) struct Entries {
+    leaves: u64,
+    msrs: u64,
+}
+
+impl Entries {
+    /// Whether the code is that of a policy's entries, of which there are as many as there may be.
+    fn is_full(self, code: u32) -> bool
+        ensures { (parts : PartMap) → Counts self parts → result ≡ is_full parts code }
+    {
+        (code == CPUID_LEAF && self.leaves >= MAX_ENTRIES)
+            || (code == MSR && self.msrs >= MAX_ENTRIES)
+    }
+
+    /// Counts a part of this code.
+    fn count(&mut self, code: u32)
+        requires leaves { code ≡ 17 → self.old.leaves < 65536 }
+        requires msrs { code ≡ 18 → self.old.msrs < 65536 }
+        ensures leaves { self.new.leaves ≡ (if code == 17 then self.old.leaves + 1 else self.old.leaves) }
+        ensures msrs { self.new.msrs ≡ (if code == 18 then self.old.msrs + 1 else self.old.msrs) }
+    {
+        match code {
+            CPUID_LEAF => self.leaves += 1,
+            MSR => self.msrs += 1,
+            _ => {}
+        }
+    }
+}
+
+/// The key in a part's head.
+fn key_of(head: &[u8; 16]) -> PartKey
+    ensures { result ≡ head_key head.now }
+{
+    PartKey {
+        code: u32_le(head, 0),
+        key1: u32_le(head, 4),
+        key2: u32_le(head, 8),
+    }
+}
+
+/// Whether guests of this kind have a part of this key.
+fn has_row(kind: Kind, key: PartKey) -> bool
+    ensures { result ≡ code_fits (code_of_number key.code) kind key }
+{
+    match PartCode::from_number(key.code) {
+        Some(code) => code.is_of(kind) && code.has_keys(key.key1, key.key2),
+        None => false,
+    }
+}
+
+/// Whether a part of this code may have so many bytes.
+fn allows(code: u32, width: u64, len: u32) -> bool
+    requires { code ≡ 3 → 1 ≤ width }
+    ensures { result ≡ code_allows (code_of_number code) width len }
+{
+    match PartCode::from_number(code) {
+        Some(code) => code.allows(width, len),
+        None => false,
+    }
+}
+
+/// Whether the host has a part of this key or of a greater one.
+fn has_from(host: &Host, key: PartKey) -> bool
+    ensures { result ≡ has_part_from host.now.parts key }
+{
+    host.part(key).is_some() || host.next_part(Some(key)).is_some()
+}
+
+/// What is wrong with the head of a part behind those of the host.
+fn part_fault(host: &Host, entries: Entries, head: &[u8; 16]) -> Option<ImageCause>
+    requires { Counts entries host.now.parts }
+    ensures { result ≡ fault_of_part host.now head.now }
+{
+    let key = key_of(head);
+    let len = u32_le(head, 12);
+    if !has_row(host.kind(), key) {
+        return Some(ImageCause::PartKey(u64::from(key.code)));
+    }
+    if has_from(host, key) {
+        return Some(ImageCause::PartOrder(u64::from(key.code)));
+    }
+    if entries.is_full(key.code) {
+        return Some(ImageCause::PartMany(u64::from(key.code)));
+    }
+    if !allows(key.code, host.width(), len) {
+        return Some(ImageCause::PartLength(u64::from(len)));
+    }
+    None
+}
+
+/// Takes the head of a part that stands behind those of the host.
+fn read_part_head<S: Source>(
+    src: &mut S,
+    host: &Host,
+    entries: Entries,
+) -> Result<[u8; 16], Stop<ImageCause>>
+    requires { Counts entries host.now.parts }
+    ensures read { Gives (λ v head. head ≡ v) (S.left src.old) (S.left src.new) (part_head_at host.now) result }
+    ensures fine { IfOk result (λ head. fault_of_part host.now head ≡ None) }
+    ensures later { S.faults src.old ≤ S.faults src.new }
+    ensures cause { IsErrOf result ReadFault → Rose (S.faults src.old) (S.faults src.new) }
+{
+    let mut head = [0; 16];
+    take_part(src, &mut head, ImageCause::Truncated)?;
+    match part_fault(host, entries, &head) {
+        Some(cause) => Err(Stop::Refused(cause)),
+        None => Ok(head),
+    }
+}
+
+/// Takes the bytes of a part.
+fn read_bytes<S: Source>(
+    alloc: Global,
+    src: &mut S,
+    code: u32,
+    len: u32,
+) -> Result<Vec<u8>, Stop<ImageCause>>
+    ensures read { Gives (λ v bytes. bytes ≡ v.items) (S.left src.old) (S.left src.new) (bytes_at code len) result }
+    ensures len { IfOk result (λ v. length v.items ≡ len) }
+    ensures later { S.faults src.old ≤ S.faults src.new }
+    ensures cause { IsErrOf result ReadFault → Rose (S.faults src.old) (S.faults src.new) }
+{
+    let bytes = take_long(alloc, src, len, ImageCause::Truncated)?;
+    if code == EMULATOR_PAIRS && !canonical_pairs(&bytes) {
+        return Err(Stop::Refused(ImageCause::PartBytes));
+    }
+    Ok(bytes)
+}
+
+/// Takes the zeros behind so many bytes.
+fn read_padding<S: Source>(src: &mut S, len: u32) -> Result<(), Stop<ImageCause>>
+    ensures read { Gives (λ _ _. ⊤) (S.left src.old) (S.left src.new) (padding_at len) result }
+    ensures later { S.faults src.old ≤ S.faults src.new }
+    ensures cause { IsErrOf result ReadFault → Rose (S.faults src.old) (S.faults src.new) }
+{
+    let mut zeros = [0; 8];
+    let padding = &mut zeros[..pad_len(len)];
+    take_part(src, padding, ImageCause::Truncated)?;
+    if padding.iter().any(|byte| *byte != 0) {
+        return Err(Stop::Refused(ImageCause::PartPadding));
+    }
+    Ok(())
+}
+
+/// Takes a part that stands behind those of the host, and keeps it.
+fn read_part<S: Source>(
+    alloc: Global,
+    src: &mut S,
+    host: &mut Host,
+    entries: &mut Entries,
+) -> Result<(), Stop<ImageCause>>
+    requires { Counts entries.old host.old.parts }
+    ensures read { Gives (λ _ h. host.new ≡ h) (S.left src.old) (S.left src.new) (part_at host.old) result }
+    ensures counted { OnOk result (Counts entries.new host.new.parts) }
+    ensures later { S.faults src.old ≤ S.faults src.new }
+    ensures cause { IsErrOf result ReadFault → Rose (S.faults src.old) (S.faults src.new) }
+{
+    let head = read_part_head(src, host, *entries)?;
+    let key = key_of(&head);
+    let len = u32_le(&head, 12);
+    let bytes = read_bytes(alloc, src, key.code, len)?;
+    read_padding(src, len)?;
+    entries.count(key.code);
+    match host.set_part(key, &bytes) {
+        Ok(()) => Ok(()),
+        Err(_) => Err(Stop::Memory),
+    }
+}
+
+/// Takes so many parts.
+pub(crate) fn read_parts<S: Source>(
+    alloc: Global,
+    src: &mut S,
+    host: &mut Host,
+    count: u64,
+) -> Result<(), Stop<(ImagePlace, ImageCause)>>
+    requires { host.old.parts ≡ maps.empty }
+    ensures read { Gives (λ _ h. host.new ≡ h) (S.left src.old) (S.left src.new) (parts_at count host.old) result }
+    ensures later { S.faults src.old ≤ S.faults src.new }
+    ensures cause { IsErrOf result ReadFault → Rose (S.faults src.old) (S.faults src.new) }
+{
+    let mut entries = Entries { leaves: 0, msrs: 0 };
+    for i in 0..count {
+        if let Err(stop) = read_part(alloc, src, host, &mut entries) {
+            return Err(placed(ImagePlace::Part(i), stop));
+        }
+    }
+    Ok(())
+}

@@ -1,0 +1,68 @@
+ghost use Rattle.std.specs.Prelude.{◌≡◌, ℕ, ◌+◌, ◌≤◌, ◌^◌, ◌↔◌, IfOk, Err, IsSome, length};
+ghost use Rattle.std.specs.FinMap as maps;
+ghost use Rattle.std.specs.Option.{option_map};
+ghost use Rattle.mig_pvtables.specs.Whole.{IsWhole};
+ghost use Rattle.mig_image.specs.Hosted.{hosted, rank_in, width_of, IsBaseOutside};
+ghost use Rattle.mig_image.specs.declared.restore.HostAnswer.TheVariants.{BaseRange};
+
+use crate::host::Host;
+use crate::machine_frames::MachineFrames;
+use mig_bytes::Memory;
+use mig_guest::Guest;
+use std::alloc::Global;
+use thiserror::Error;
+
+/// Machine frames are below 2^40.
+const MACHINE_LIMIT: u64 = 1 << 40;
+
+/// Why a guest doesn't become a host.
+#[derive(Clone, Copy, Debug, PartialEq, Eq, Error)]
+pub enum HostAnswer {
+    /// The machine frames counted up from the base don't lie from 1 to 2^40 - 1.
+    #[error("the base is out of range")]
+    BaseRange,
+    /// There was no memory.
+    #[error("no memory was found")]
+    Memory,
+}
+
+/// Whether the machine frames of so many frames, counted up from the base, don't lie from 1 to 2^40 - 1.
+fn is_outside(base: u64, frames: u64) -> bool {
+    base == 0 || base > MACHINE_LIMIT || frames > MACHINE_LIMIT - base
+}
+
+/// The frame of rank i gets machine frame base + i. Answers them, and one more than the greatest PFN.
+fn count_up(alloc: Global, guest: &Guest, base: u64) -> Result<(MachineFrames, u64), Memory>
+    requires { base + length (maps.entries guest.now.frames) ≤ 2 ^ 40 }
+    ensures machines { IfOk result (λ r. (pfn : ℕ) → maps.get r.0 pfn ≡ option_map (λ _. base + rank_in guest.now.frames pfn) (maps.get guest.now.frames pfn)) }
+    ensures width { IfOk result (λ r. r.1 ≡ width_of (maps.entries guest.now.frames)) }
+{
+    let mut machines = MachineFrames::new(alloc);
+    let mut from = 0;
+    for i in 0..guest.frames() {
+        let Some(pfn) = guest.next_frame(from) else {
+            return Ok((machines, from));
+        };
+        machines.insert(pfn, base + i)?;
+        from = pfn + 1;
+    }
+    Ok((machines, from))
+}
+
+/// The host that a restored guest becomes: the frame of rank i, in the order of the frame numbers, gets machine frame
+/// base + i. The pages and parts of the guest are moved, not copied. A refusal drops the guest.
+///
+/// So far for HVM guests, whose pages and parts hold no machine frames.
+pub fn host_of(alloc: Global, guest: Guest, base: u64) -> Result<Host, HostAnswer>
+    requires { IsWhole guest }
+    ensures hosted { IfOk result (λ host. host ≡ hosted guest base) }
+    ensures outside { (result ≡ Err BaseRange) ↔ IsBaseOutside guest base }
+{
+    if is_outside(base, guest.frames()) {
+        return Err(HostAnswer::BaseRange);
+    }
+    match count_up(alloc, &guest, base) {
+        Ok((machines, width)) => Ok(Host::of(guest, width, machines)),
+        Err(Memory) => Err(HostAnswer::Memory),
+    }
+}

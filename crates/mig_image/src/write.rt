@@ -1,0 +1,161 @@
+ghost use Rattle.std.specs.Prelude.{◌≡◌, ◌≤◌, ◌<◌, ◌^◌, ℕ, List, Option, length};
+ghost use Rattle.std.specs.List.{flat_map};
+ghost use Rattle.std.specs.FinMap as maps;
+ghost use Rattle.std.specs.Option.{option_copied};
+ghost use Rattle.mig_bytes.specs.Bytes.{Puts};
+ghost use Rattle.mig_bytes.specs.Faults.{HasCause};
+ghost use Rattle.mig_headers.specs.Headers.{kind_number};
+ghost use Rattle.mig_image.specs.Image.{head_of, frame_head_of, frame_text, part_head_of, part_text, image};
+
+use crate::host::Host;
+use mig_bytes::{Sink, WriteFailed, pad_len, put_all, put_u32_le, put_u64_be, put_u64_le};
+use mig_guest::PartKey;
+use mig_headers::Kind;
+use mig_pagetypes::PageType;
+
+/// "XGIMAGE1".
+const IMAGE_NAME: u64 = 0x5847_494D_4147_4531;
+
+/// The number of a kind of guest.
+fn number_of(kind: Kind) -> u32
+    ensures { result ≡ kind_number kind }
+{
+    match kind {
+        Kind::Pv => 1,
+        Kind::Hvm => 2,
+    }
+}
+
+/// The head of an image.
+#[tactic(auto, unfolding(crate::specs::Image::head_of))]
+fn head_bytes(host: &Host) -> [u8; 32]
+    ensures { result ≡ head_of host.now }
+{
+    let mut head = [0; 32];
+    put_u64_be(&mut head, 0, IMAGE_NAME);
+    put_u32_le(&mut head, 8, number_of(host.kind()));
+    put_u64_le(&mut head, 16, host.width());
+    put_u64_le(&mut head, 24, host.frames());
+    head
+}
+
+/// The head of a frame.
+#[tactic(auto, unfolding(crate::specs::Image::frame_head_of))]
+fn frame_head(pfn: u64, kind: PageType, machine: u64) -> [u8; 16]
+    requires { pfn < 2 ^ 28 }
+    ensures { (page : Option (List ℕ)) → result ≡ frame_head_of pfn (record { kind = kind; machine = machine; page = page }) }
+{
+    let mut head = [0; 16];
+    put_u32_le(&mut head, 0, u32::from(kind.nibble()) * (1 << 28) + pfn as u32);
+    put_u64_le(&mut head, 8, machine);
+    head
+}
+
+/// The head of a part with so many bytes.
+#[tactic(auto, unfolding(crate::specs::Image::part_head_of))]
+fn part_head(key: PartKey, len: u32) -> [u8; 16]
+    ensures { result ≡ part_head_of key len }
+{
+    let mut head = [0; 16];
+    put_u32_le(&mut head, 0, key.code);
+    put_u32_le(&mut head, 4, key.key1);
+    put_u32_le(&mut head, 8, key.key2);
+    put_u32_le(&mut head, 12, len);
+    head
+}
+
+/// Appends a frame, in one piece.
+fn write_frame<K: Sink>(
+    sink: &mut K,
+    pfn: u64,
+    kind: PageType,
+    machine: u64,
+    page: Option<&[u8; 4096]>,
+) -> Result<(), WriteFailed>
+    requires { pfn < 2 ^ 28 }
+    ensures bytes { Puts (frame_text (pfn, record { kind = kind; machine = machine; page = option_copied page.entry })) (K.written sink.old) (K.written sink.new) result }
+    ensures cause { HasCause (K.faults sink.old) (K.faults sink.new) result }
+{
+    let head = frame_head(pfn, kind, machine);
+    let Some(bytes) = page else {
+        return put_all(sink, &head);
+    };
+    let mut frame = [0; 4112];
+    frame[..16].copy_from_slice(&head);
+    frame[16..].copy_from_slice(bytes);
+    put_all(sink, &frame)
+}
+
+/// Appends all frames.
+fn write_frames<K: Sink>(sink: &mut K, host: &Host) -> Result<(), WriteFailed>
+    ensures bytes { Puts (flat_map frame_text (maps.entries host.now.frames)) (K.written sink.old) (K.written sink.new) result }
+    ensures cause { HasCause (K.faults sink.old) (K.faults sink.new) result }
+{
+    let mut from = 0;
+    for _ in 0..host.frames() {
+        match host.next_entry(from) {
+            Some((pfn, kind, machine, page)) => {
+                write_frame(sink, pfn, kind, machine, page)?;
+                from = pfn + 1;
+            }
+            None => return Ok(()),
+        }
+    }
+    Ok(())
+}
+
+/// The number of parts.
+fn count_parts(host: &Host) -> u64
+    ensures { result ≡ length (maps.entries host.now.parts) }
+{
+    let mut count = 0;
+    let mut after = None;
+    while let Some((key, _)) = host.next_behind(after) {
+        count += 1;
+        after = Some(key);
+    }
+    count
+}
+
+/// Appends a part: its key and length, its bytes, and zeros.
+fn write_part<K: Sink>(sink: &mut K, key: PartKey, bytes: &[u8]) -> Result<(), WriteFailed>
+    requires { length bytes.now ≤ 2 ^ 27 }
+    ensures bytes { Puts (part_text (key, bytes.now)) (K.written sink.old) (K.written sink.new) result }
+    ensures cause { HasCause (K.faults sink.old) (K.faults sink.new) result }
+{
+    let len = bytes.len() as u32;
+    put_all(sink, &part_head(key, len))?;
+    put_all(sink, bytes)?;
+    put_all(sink, &[0; 8][..pad_len(len)])
+}
+
+/// Appends so many parts, which are all.
+fn write_parts<K: Sink>(sink: &mut K, host: &Host, count: u64) -> Result<(), WriteFailed>
+    requires { count ≡ length (maps.entries host.now.parts) }
+    ensures bytes { Puts (flat_map part_text (maps.entries host.now.parts)) (K.written sink.old) (K.written sink.new) result }
+    ensures cause { HasCause (K.faults sink.old) (K.faults sink.new) result }
+{
+    let mut after = None;
+    for _ in 0..count {
+        match host.next_behind(after) {
+            Some((key, bytes)) => {
+                write_part(sink, key, bytes)?;
+                after = Some(key);
+            }
+            None => return Ok(()),
+        }
+    }
+    Ok(())
+}
+
+/// Appends the image of the host. It takes no memory. After a failed write a part of the image is appended.
+pub fn write_host<K: Sink>(sink: &mut K, host: &Host) -> Result<(), WriteFailed>
+    ensures bytes { Puts (image host.now) (K.written sink.old) (K.written sink.new) result }
+    ensures cause { HasCause (K.faults sink.old) (K.faults sink.new) result }
+{
+    put_all(sink, &head_bytes(host))?;
+    write_frames(sink, host)?;
+    let count = count_parts(host);
+    put_all(sink, &count.to_le_bytes())?;
+    write_parts(sink, host, count)
+}
