@@ -1,8 +1,10 @@
 """A second reader of HVM streams, written from the format's documents and from docs/, and not from the program.
 
-`normalise(bytes)` answers the report line (without the end of the line; empty where the stream is accepted) and what
-the program has to write. It is short and slow, and holds everything in memory.
+`read(bytes)` answers the stream and no line, or none and the line of its refusal (without the end of the line). Of a
+stream that was read, `canonical(guest)` and `image(guest, base)` are what `normalise` and `restore BASE` have to
+write, and `summary(stream)` is the line of `verify`. It is short and slow, and holds everything in memory.
 """
+import collections
 import struct
 
 MOST_BODY, MOST_RECORDS, MOST_FRAMES, FRAME_LIMIT = 1 << 27, 1 << 28, 1 << 24, 1 << 28
@@ -30,6 +32,10 @@ TABLE = {
 UNSUPPORTED = (11, 13, 14, 15)
 STATIC = (2, CPUID_POLICY, MSR_POLICY)
 CONTENT = (END, PAGE_DATA, 3, 4, 5, 6, 7, CONTEXT, PARAMS, 12)
+
+
+# the version, the kind of guest, the guest, and the number of records with END
+Stream = collections.namedtuple('Stream', 'version kind guest records')
 
 
 class Refused(Exception):
@@ -178,7 +184,38 @@ def canonical(guest):
     return b''.join(out + [record(CONTEXT, guest['context']), record(END)])
 
 
-def normalise(data):
+def part(key, data):
+    return struct.pack('<IIII', *key, len(data)) + data + bytes(-len(data) % 8)
+
+
+def parts_of(guest):
+    """The parts by their keys: code and two numbers."""
+    parts = {(CONTEXT, 0, 0): guest['context']}
+    if 'tsc' in guest:
+        parts[TSC_INFO, 0, 0] = guest['tsc']
+    parts.update(((PARAMS, index, 0), struct.pack('<Q', value)) for index, value in guest['params'].items())
+    parts.update(((CPUID_POLICY, *key), rest) for key, rest in guest['cpuid'].items())
+    parts.update(((MSR_POLICY, index, 0), rest) for index, rest in guest['msrs'].items())
+    return parts
+
+
+def image(guest, base):
+    """The image of the guest, with machine frames counted up from the base."""
+    frames, parts = sorted(guest['frames'].items()), sorted(parts_of(guest).items())
+    width = max(guest['frames'], default=-1) + 1
+    out = [b'XGIMAGE1', struct.pack('<IIQQ', HVM, 0, width, len(frames))]
+    for rank, (pfn, (kind, page)) in enumerate(frames):
+        out.append(struct.pack('<IIQ', kind << 28 | pfn, 0, base + rank) + page)
+    return b''.join(out + [struct.pack('<Q', len(parts))] + [part(*it) for it in parts])
+
+
+def summary(stream):
+    """The line of `verify`."""
+    kind = {PV: 'pv', HVM: 'hvm'}[stream.kind]
+    return 'ok version %d kind %s frames %d records %d' % (stream.version, kind, len(stream.guest['frames']), stream.records)
+
+
+def read(data):
     source, place = Input(data), 'ImageHeader'
     try:
         refuse_if(source.take(8) != b'\xff' * 8, '2 NotStream')
@@ -197,6 +234,6 @@ def normalise(data):
             judge_head(version, guest_kind, before, kind, length)
             read_body(source, kind, length, guest)
             before.append(kind)
-        return '', canonical(guest)
+        return Stream(version, guest_kind, guest, len(before)), ''
     except Refused as cause:
-        return 'refused: %s: %s' % (place, cause), b''
+        return None, 'refused: %s: %s' % (place, cause)

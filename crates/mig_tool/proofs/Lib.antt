@@ -4,3 +4,4 @@ pub mod CanonParts
 pub mod CanonFrames
 pub mod CanonSteps
 pub mod Canons
+pub mod Naming

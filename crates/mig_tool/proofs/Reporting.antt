@@ -1,7 +1,7 @@
 -- What the program answers, and what the line on the report comes to.
 use Rattle.std.specs.Prelude.{◌⊎◌}
 use mathlib.Core.Logic.{inl, inr}
-use Rattle.std.proofs.Common.{◌≡◌, ℕ, List, length, take, Option, Some, None, Result, Ok, Err, refl, sym, subst, le_refl}
+use Rattle.std.proofs.Common.{◌≡◌, ℕ, List, length, take, Option, Some, None, Result, Ok, Err, refl, sym, ap, subst, ◌∙◌, le_refl}
 use Rattle.std.proofs.lemmas.List.{take_all}
 use Rattle.std.specs.Io.KnownBytes.{Appends}
 use Rattle.mig_bytes.specs.Bytes.{Puts}
@@ -27,8 +27,16 @@ use Rattle.mig_tool.specs.declared.outcome.Outcome.{Outcome}
 use Rattle.mig_tool.specs.declared.outcome.Outcome.TheVariants as outcomes
 use Rattle.mig_tool.specs.declared.status.Status.{Status}
 use Rattle.mig_tool.specs.declared.status.Status.TheVariants as statuses
-use Rattle.mig_tool.specs.Answers.{Comes, ComesOf, Says, SaysOf, IsLine, NamesRefusal}
-use Rattle.mig_tool.specs.Outcome.{status_of, line_of}
+use Rattle.mig_tool.specs.Answers.{Written, Done, DonePart, Comes, ComesOf, Says, SaysOf, IsLine, NamesRefusal, summary_of}
+use Rattle.mig_tool.specs.declared.command.Command.{Command}
+use Rattle.mig_tool.specs.declared.command.Command.TheVariants.{Normalise, Restore, Verify}
+use Rattle.mig_tool.specs.declared.outcome.Summary.{Summary}
+use Rattle.mig_restore.specs.declared.part.StreamAnswer.{StreamAnswer}
+use Rattle.mig_restore.specs.declared.part.StreamAnswer.TheVariants as answers
+use Rattle.mig_restore.proofs.Meaning.{mean_kind}
+use Rattle.std.specs.FinMap as maps
+use Rattle.mig_tool.specs.Report.{ok_line}
+use Rattle.mig_tool.specs.Outcome.{status_of, line_of, outcome_of}
 use Rattle.mig_tool.specs.Report.{Reports}
 
 abbrev pub wrote : Result (Unit {0}) WriteFailed → Outcome
@@ -44,12 +52,12 @@ pub reports : (line : List ℕ) (old new : Option (List ℕ)) (before now : ℕ)
 reports line old new before now (Ok u) put cause = record { later = cause.later; first = (length line, appended line old new put); whole = λ _. put }
 reports line old new before now (Err e) (n, less, put) cause = record { later = cause.later; first = (n, put); whole = λ not_risen. absurd (not_risen cause.failed) }
 
-names : (told left old new : Option (List ℕ)) (place : Place) (cause : Cause) → ComesOf told left old new (outcomes.Refused place cause) → NamesRefusal told place cause
-names None left old new place cause h = tt
-names (Some input) left old new place cause (rest, refused, is) = (rest, refused)
+names : (command : Command) (told left : Option (List ℕ)) (w : Written) (place : Place) (cause : Cause) → ComesOf command told left w (outcomes.Refused place cause) → NamesRefusal told place cause
+names command None left w place cause h = tt
+names command (Some input) left w place cause (rest, refused, is) = (rest, refused)
 
-pub names_of : (told left old new : Option (List ℕ)) (outcome : Outcome) (place : Place) (cause : Cause) → ComesOf told left old new outcome → outcome ≡ outcomes.Refused place cause → NamesRefusal told place cause
-names_of told left old new outcome place cause h is = names told left old new place cause (subst (ComesOf told left old new) is h)
+pub names_of : (command : Command) (told left : Option (List ℕ)) (w : Written) (outcome : Outcome) (place : Place) (cause : Cause) → ComesOf command told left w outcome → outcome ≡ outcomes.Refused place cause → NamesRefusal told place cause
+names_of command told left w outcome place cause h is = names command told left w place cause (subst (ComesOf command told left w) is h)
 
 -- the line of an outcome is that of its status
 pub line_is : (told : Option (List ℕ)) (outcome : Outcome) → ((place : Place) (cause : Cause) → outcome ≡ outcomes.Refused place cause → NamesRefusal told place cause) → IsLine told (status_of outcome) (line_of outcome)
@@ -62,60 +70,113 @@ line_is told outcomes.Memory h = refl
 
 -- ---- the status
 
-says : (input : List ℕ) (left old new : Option (List ℕ)) (outcome : Outcome) → Comes input left old new outcome → Says input left old new (status_of outcome)
-says input left old new outcomes.Done h = h
-says input left old new (outcomes.Refused place cause) (rest, refused, is) = record { place = place; cause = cause; rest = rest; refused = refused; left_is = is }
-says input left old new outcomes.Usage h = h
-says input left old new outcomes.ReadFault h = tt
-says input left old new outcomes.WriteFault h = h
-says input left old new outcomes.Memory h = tt
+says : (command : Command) (input : List ℕ) (left : Option (List ℕ)) (w : Written) (outcome : Outcome) → Comes command input left w outcome → Says command input left w (status_of outcome)
+says command input left w outcomes.Done h = h
+says command input left w (outcomes.Refused place cause) (rest, refused, is) = record { place = place; cause = cause; rest = rest; refused = refused; left_is = is }
+says command input left w outcomes.Usage h = h
+says command input left w outcomes.ReadFault h = tt
+says command input left w outcomes.WriteFault h = h
+says command input left w outcomes.Memory h = tt
 
-pub says_of : (told left old new : Option (List ℕ)) (outcome : Outcome) → ComesOf told left old new outcome → SaysOf told left old new (status_of outcome)
-says_of None left old new outcome h = tt
-says_of (Some input) left old new outcome h = says input left old new outcome h
+pub says_of : (command : Command) (told left : Option (List ℕ)) (w : Written) (outcome : Outcome) → ComesOf command told left w outcome → SaysOf command told left w (status_of outcome)
+says_of command None left w outcome h = tt
+says_of command (Some input) left w outcome h = says command input left w outcome h
 
--- an accepted stream is normalised, but for memory, where nothing failed
-done_or : (input : List ℕ) (left old new : Option (List ℕ)) (status : Status) (guest : GuestOf) (rest : List ℕ) → Says input left old new status → Accepted input guest rest
+-- of the command that it is
+pub said_of : (command this : Command) (told left : Option (List ℕ)) (w : Written) (outcome : Outcome) (status : Status) → command ≡ this → status ≡ status_of outcome → ComesOf this told left w outcome → SaysOf command told left w status
+said_of command this told left w outcome status same is h =
+    subst (λ (c : Command). SaysOf c told left w status) (sym same) (subst (SaysOf this told left w) (sym is) (says_of this told left w outcome h))
+
+-- a refused input isn't done
+done_refused : (command : Command) (input : List ℕ) (left : Option (List ℕ)) (w : Written) (place : Place) (cause : Cause) (rest : List ℕ) → Done command input left w → IsRefused input place cause rest → ⊥
+done_refused Normalise input left w place cause rest h refused = never_both input h.guest h.rest place cause rest h.accepted refused
+done_refused (Restore base) input left w place cause rest h refused = never_both input h.guest h.rest place cause rest h.accepted refused
+done_refused Verify input left w place cause rest h refused = never_both input h.guest h.rest place cause rest h.accepted refused
+
+part_refused : (command : Command) (input : List ℕ) (left : Option (List ℕ)) (w : Written) (place : Place) (cause : Cause) (rest : List ℕ) → DonePart command input left w → IsRefused input place cause rest → ⊥
+part_refused Normalise input left w place cause rest h refused = never_both input h.guest h.rest place cause rest h.accepted refused
+part_refused (Restore base) input left w place cause rest h refused = never_both input h.guest h.rest place cause rest h.accepted refused
+part_refused Verify input left w place cause rest h refused = never_both input h.guest h.rest place cause rest h.accepted refused
+
+-- an accepted stream is done, but for memory, where nothing failed
+done_or : (command : Command) (input : List ℕ) (left : Option (List ℕ)) (w : Written) (status : Status) (guest : GuestOf) (rest : List ℕ) → Says command input left w status → Accepted input guest rest
     → (status ≡ statuses.ReadFault → ⊥) → (status ≡ statuses.WriteFault → ⊥) → (status ≡ statuses.Done) ⊎ (status ≡ statuses.Memory)
-done_or input left old new statuses.Done guest rest h accepted reads writes = inl refl
-done_or input left old new statuses.Refused guest rest h accepted reads writes = absurd (never_both input guest rest h.place h.cause h.rest accepted h.refused)
-done_or input left old new statuses.Usage guest rest h accepted reads writes = absurd h
-done_or input left old new statuses.ReadFault guest rest h accepted reads writes = absurd (reads refl)
-done_or input left old new statuses.WriteFault guest rest h accepted reads writes = absurd (writes refl)
-done_or input left old new statuses.Memory guest rest h accepted reads writes = inr refl
+done_or command input left w statuses.Done guest rest h accepted reads writes = inl refl
+done_or command input left w statuses.Refused guest rest h accepted reads writes = absurd (never_both input guest rest h.place h.cause h.rest accepted h.refused)
+done_or command input left w statuses.Usage guest rest h accepted reads writes = absurd h
+done_or command input left w statuses.ReadFault guest rest h accepted reads writes = absurd (reads refl)
+done_or command input left w statuses.WriteFault guest rest h accepted reads writes = absurd (writes refl)
+done_or command input left w statuses.Memory guest rest h accepted reads writes = inr refl
 
-pub accepted_done : (told left old new : Option (List ℕ)) (status : Status) (input : List ℕ) (guest : GuestOf) (rest : List ℕ) → SaysOf told left old new status → told ≡ Some input → Accepted input guest rest
+pub accepted_done : (command : Command) (told left : Option (List ℕ)) (w : Written) (status : Status) (input : List ℕ) (guest : GuestOf) (rest : List ℕ) → SaysOf command told left w status → told ≡ Some input → Accepted input guest rest
     → (status ≡ statuses.ReadFault → ⊥) → (status ≡ statuses.WriteFault → ⊥) → (status ≡ statuses.Done) ⊎ (status ≡ statuses.Memory)
-accepted_done told left old new status input guest rest h is accepted reads writes =
-    done_or input left old new status guest rest (subst (λ t. SaysOf t left old new status) is h) accepted reads writes
+accepted_done command told left w status input guest rest h is accepted reads writes =
+    done_or command input left w status guest rest (subst (λ t. SaysOf command t left w status) is h) accepted reads writes
 
-refused_or : (input : List ℕ) (left old new : Option (List ℕ)) (status : Status) (place : Place) (cause : Cause) (rest : List ℕ) → Says input left old new status → IsRefused input place cause rest
+refused_or : (command : Command) (input : List ℕ) (left : Option (List ℕ)) (w : Written) (status : Status) (place : Place) (cause : Cause) (rest : List ℕ) → Says command input left w status → IsRefused input place cause rest
     → (status ≡ statuses.ReadFault → ⊥) → (status ≡ statuses.Refused) ⊎ (status ≡ statuses.Memory)
-refused_or input left old new statuses.Done place cause rest h refused reads = absurd (never_both input h.guest h.rest place cause rest h.accepted refused)
-refused_or input left old new statuses.Refused place cause rest h refused reads = inl refl
-refused_or input left old new statuses.Usage place cause rest h refused reads = absurd h
-refused_or input left old new statuses.ReadFault place cause rest h refused reads = absurd (reads refl)
-refused_or input left old new statuses.WriteFault place cause rest h refused reads = absurd (never_both input h.guest h.rest place cause rest h.accepted refused)
-refused_or input left old new statuses.Memory place cause rest h refused reads = inr refl
+refused_or command input left w statuses.Done place cause rest h refused reads = absurd (done_refused command input left w place cause rest h refused)
+refused_or command input left w statuses.Refused place cause rest h refused reads = inl refl
+refused_or command input left w statuses.Usage place cause rest h refused reads = absurd h
+refused_or command input left w statuses.ReadFault place cause rest h refused reads = absurd (reads refl)
+refused_or command input left w statuses.WriteFault place cause rest h refused reads = absurd (part_refused command input left w place cause rest h refused)
+refused_or command input left w statuses.Memory place cause rest h refused reads = inr refl
 
-pub refused_refused : (told left old new : Option (List ℕ)) (status : Status) (input : List ℕ) (place : Place) (cause : Cause) (rest : List ℕ) → SaysOf told left old new status → told ≡ Some input → IsRefused input place cause rest
+pub refused_refused : (command : Command) (told left : Option (List ℕ)) (w : Written) (status : Status) (input : List ℕ) (place : Place) (cause : Cause) (rest : List ℕ) → SaysOf command told left w status → told ≡ Some input → IsRefused input place cause rest
     → (status ≡ statuses.ReadFault → ⊥) → (status ≡ statuses.Refused) ⊎ (status ≡ statuses.Memory)
-refused_refused told left old new status input place cause rest h is refused reads =
-    refused_or input left old new status place cause rest (subst (λ t. SaysOf t left old new status) is h) refused reads
+refused_refused command told left w status input place cause rest h is refused reads =
+    refused_or command input left w status place cause rest (subst (λ t. SaysOf command t left w status) is h) refused reads
 
 -- ---- what a reading and a writing come to
 
 accepted_front : (input rest : List ℕ) (o : Opening) (records : List StreamRecord) (guest : GuestOf) → verdict input ≡ Accepts o records rest → guest ≡ mean o.kind records → Accepted input guest rest
 accepted_front input rest o records guest accepts is = record { opening = o; records = records; image = accepted_is_image input o records rest accepts; means = is }
 
-pub came : (told left old new : Option (List ℕ)) (reading : Reading) (r : Result (Unit {0}) WriteFailed) (outcome : Outcome) → ReadsAs verdict told left (Ok reading) → IsWhole reading.guest → Puts (canon reading.guest) old new r
-    → outcome ≡ wrote r → ComesOf told left old new outcome
-came None left old new reading r outcome h whole put is = tt
-came (Some input) left old new reading (Ok u) outcome (o, records, rest, accepts, left_is, guest, version, count) whole put is =
-    subst (Comes input left old new) (sym is)
+pub came : (told left : Option (List ℕ)) (w : Written) (reading : Reading) (r : Result (Unit {0}) WriteFailed) (outcome : Outcome) → ReadsAs verdict told left (Ok reading) → IsWhole reading.guest → Puts (canon reading.guest) w.old w.new r
+    → outcome ≡ wrote r → ComesOf Normalise told left w outcome
+came None left w reading r outcome h whole put is = tt
+came (Some input) left w reading (Ok u) outcome (o, records, rest, accepts, left_is, guest, version, count) whole put is =
+    subst (Comes Normalise input left w) (sym is)
     (record { guest = reading.guest; rest = rest; accepted = accepted_front input rest o records reading.guest accepts guest; left_is = left_is; wrote = put; whole = whole; kept = λ more. canon_is_accepted reading.guest more whole; alone = λ other is_whole. canon_is_one_to_one other reading.guest is_whole whole })
-came (Some input) left old new reading (Err e) outcome (o, records, rest, accepts, left_is, guest, version, count) whole put is =
-    subst (Comes input left old new) (sym is) (record { guest = reading.guest; rest = rest; accepted = accepted_front input rest o records reading.guest accepts guest; left_is = left_is; wrote = put })
+came (Some input) left w reading (Err e) outcome (o, records, rest, accepts, left_is, guest, version, count) whole put is =
+    subst (Comes Normalise input left w) (sym is) (record { guest = reading.guest; rest = rest; accepted = accepted_front input rest o records reading.guest accepts guest; left_is = left_is; wrote = put })
+
+-- no stream was read
+pub not_read : (command : Command) (told left : Option (List ℕ)) (w : Written) (answer : StreamAnswer) (outcome : Outcome) → ReadsAs verdict told left (Err answer) → outcome ≡ outcome_of answer → ComesOf command told left w outcome
+not_read command told left w answer outcome h is = subst (ComesOf command told left w) (sym is) (by told answer h)
+  where
+    by : (told : Option (List ℕ)) (answer : StreamAnswer) → ReadsAs verdict told left (Err answer) → ComesOf command told left w (outcome_of answer)
+    by None answer h = tt
+    by (Some input) (answers.Refused place cause) (rest, refused, is) = (rest, refused, is)
+    by (Some input) answers.ReadFault h = tt
+    by (Some input) answers.Memory h = tt
+
+abbrev pub reported : Result (Unit {0}) WriteFailed → Status
+reported (Ok u) = statuses.Done
+reported (Err e) = statuses.WriteFault
+
+-- the summary is that of the stream
+summed : (input rest : List ℕ) (o : Opening) (records : List StreamRecord) (reading : Reading) (a : Accepted input reading.guest rest) (s : Summary) → a.opening ≡ o → a.records ≡ records → reading.guest ≡ mean o.kind records → reading.version ≡ o.version → reading.records ≡ length records
+    → s.version ≡ reading.version → s.kind ≡ reading.guest.kind → s.frames ≡ length (maps.entries reading.guest.frames) → s.records ≡ reading.records → s ≡ summary_of a
+summed input rest o records reading a s oo rr means version count v k f n =
+    let kind : reading.guest.kind ≡ o.kind = ap (λ (x : GuestOf). x.kind) means ∙ mean_kind o.kind records in
+    let v' : s.version ≡ a.opening.version = v ∙ version ∙ ap (λ (x : Opening). x.version) (sym oo) in
+    let k' : s.kind ≡ a.opening.kind = k ∙ kind ∙ ap (λ (x : Opening). x.kind) (sym oo) in
+    let n' : s.records ≡ length a.records = n ∙ count ∙ ap length (sym rr) in
+    λ i. record { version = v' i; kind = k' i; frames = f i; records = n' i }
+
+pub verified : (told left : Option (List ℕ)) (w : Written) (reading : Reading) (s : Summary) (r : Result (Unit {0}) WriteFailed) (status : Status) → ReadsAs verdict told left (Ok reading)
+    → s.version ≡ reading.version → s.kind ≡ reading.guest.kind → s.frames ≡ length (maps.entries reading.guest.frames) → s.records ≡ reading.records
+    → Puts (ok_line s) w.before w.now r → status ≡ reported r → SaysOf Verify told left w status
+unfolding accepted_front
+verified None left w reading s r status h v k f n put is = tt
+verified (Some input) left w reading s r status (o, records, rest, accepts, left_is, guest, version, count) v k f n put is =
+    let a = accepted_front input rest o records reading.guest accepts guest in
+    subst (Says Verify input left w) (sym is) (by r (subst (λ t. Puts (ok_line t) w.before w.now r) (summed input rest o records reading a s refl refl guest version count v k f n) put))
+  where
+    by : (r : Result (Unit {0}) WriteFailed) → Puts (ok_line (summary_of (accepted_front input rest o records reading.guest accepts guest))) w.before w.now r → Says Verify input left w (reported r)
+    by (Ok u) put = record { guest = reading.guest; rest = rest; accepted = accepted_front input rest o records reading.guest accepts guest; left_is = left_is; reported = put }
+    by (Err e) put = record { guest = reading.guest; rest = rest; accepted = accepted_front input rest o records reading.guest accepts guest; left_is = left_is; reported = put }
 
 -- ---- which outcome has a status
 

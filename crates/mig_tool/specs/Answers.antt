@@ -1,19 +1,31 @@
 -- What the program answers, takes and writes.
-use Rattle.std.specs.Prelude.{◌≡◌, ◌↔◌, ℕ, List, [], ◌++◌, ⊤, Some, None, Option}
-use Rattle.std.specs.Io.KnownBytes.{Appends}
+use Rattle.std.specs.Prelude.{◌≡◌, ◌≢◌, ◌↔◌, ℕ, List, [], ◌++◌, length, ⊤, Some, None, Option}
+use Rattle.std.specs.FinMap as maps
+use Rattle.std.specs.Io.KnownBytes.{Appends, Keeps}
 use Rattle.mig_bytes.specs.Bytes.{AppendsPart}
+use Rattle.mig_bytes.specs.Faults.{Rose}
+use Rattle.mig_bytes.specs.Judged.Judged.{Passes}
 use Rattle.mig_headers.specs.declared.fault.Cause.{Cause}
 use Rattle.mig_headers.specs.declared.fault.Place.{Place}
 use Rattle.mig_canon.specs.Canon.{canon}
 use Rattle.mig_guest.specs.Guests.{GuestOf}
+use Rattle.mig_guest.specs.Hosts.{IsValid}
+use Rattle.mig_image.specs.Hosted.{hosted}
+use Rattle.mig_image.specs.Image.{image}
+use Rattle.mig_image.specs.ImageParts.{image_at}
 use Rattle.mig_pvtables.specs.Whole.{IsWhole}
 use Rattle.mig_restore.specs.Spelled.{Accepted}
 use Rattle.mig_restore.specs.Stream.{IsRefused}
+use Rattle.mig_tool.specs.declared.command.Command.{Command}
+use Rattle.mig_tool.specs.declared.command.Command.TheVariants.{Normalise, Restore, Verify}
 use Rattle.mig_tool.specs.declared.outcome.Outcome.{Outcome}
 use Rattle.mig_tool.specs.declared.outcome.Outcome.TheVariants as outcomes
+use Rattle.mig_tool.specs.declared.outcome.Summary.{Summary}
 use Rattle.mig_tool.specs.declared.status.Status.{Status}
 use Rattle.mig_tool.specs.declared.status.Status.TheVariants as statuses
-use Rattle.mig_tool.specs.Report.{refusal_line, usage_line, read_fault_line, write_fault_line, memory_line}
+use Rattle.mig_tool.specs.Report.{refusal_line, usage_line, read_fault_line, write_fault_line, memory_line, ok_line}
+
+-- ---- an accepted front of the input, and what was written of its guest
 
 -- a front of the input is an accepted stream, the rest is left, and of its guest, a whole one, the canonical stream was
 -- written: it is accepted with this guest, and no other guest has it
@@ -27,13 +39,42 @@ pub record Normalised (input : List ℕ) (left old new : Option (List ℕ)) : Ty
   pub kept : (more : List ℕ) → Accepted (canon guest ++ more) guest more
   pub alone : (other : GuestOf) → IsWhole other → (canon other ≡ canon guest) ↔ (other ≡ guest)
 
--- the same, but a write failed, and of the canonical stream only a part was written
-pub record PartWritten (input : List ℕ) (left old new : Option (List ℕ)) : Type 0 where
+-- the image of the guest, restored with machine frames from the base on
+abbrev pub restored_text : ℕ → GuestOf → List ℕ
+restored_text base guest = image (hosted guest base)
+
+-- a front of the input is an accepted stream, the rest is left, and the image of its guest was written: that of a valid
+-- host, as which it is read again
+pub record Restored (base : ℕ) (input : List ℕ) (left old new : Option (List ℕ)) : Type 0 where
   pub guest : GuestOf
   pub rest : List ℕ
   pub accepted : Accepted input guest rest
   pub left_is : left ≡ Some rest
-  pub wrote : AppendsPart old new (canon guest)
+  pub wrote : Appends old new (restored_text base guest)
+  pub whole : IsWhole guest
+  pub valid : IsValid (hosted guest base)
+  pub kept : (more : List ℕ) → image_at (restored_text base guest ++ more) ≡ Passes (hosted guest base) more
+
+-- the same, but a write failed, and of the guest's text only a part was written
+pub record PartWritten (text : GuestOf → List ℕ) (input : List ℕ) (left old new : Option (List ℕ)) : Type 0 where
+  pub guest : GuestOf
+  pub rest : List ℕ
+  pub accepted : Accepted input guest rest
+  pub left_is : left ≡ Some rest
+  pub wrote : AppendsPart old new (text guest)
+
+-- what is said of an accepted stream: its version and kind, its guest's number of frames, and its number of records
+abbrev pub summary_of : {input : List ℕ} {guest : GuestOf} {rest : List ℕ} → Accepted input guest rest → Summary
+summary_of {input} {guest} {rest} a =
+    record { version = a.opening.version; kind = a.opening.kind; frames = length (maps.entries guest.frames); records = length a.records }
+
+-- a front of the input is an accepted stream, the rest is left, and the line of it was reported
+pub record Verified (Reported : List ℕ → Type 0) (input : List ℕ) (left : Option (List ℕ)) : Type 0 where
+  pub guest : GuestOf
+  pub rest : List ℕ
+  pub accepted : Accepted input guest rest
+  pub left_is : left ≡ Some rest
+  pub reported : Reported (ok_line (summary_of accepted))
 
 -- the input is refused, and what follows the faulty part is left
 pub record Rejected (input : List ℕ) (left : Option (List ℕ)) : Type 0 where
@@ -43,26 +84,51 @@ pub record Rejected (input : List ℕ) (left : Option (List ℕ)) : Type 0 where
   pub refused : IsRefused input place cause rest
   pub left_is : left ≡ Some rest
 
--- what a status of `normalise` says of an input, of what is left of it, and of what was written
-abbrev pub Says : List ℕ → Option (List ℕ) → Option (List ℕ) → Option (List ℕ) → Status → Type 0
-Says input left old new statuses.Done = Normalised input left old new
-Says input left old new statuses.Refused = Rejected input left
-Says input left old new statuses.Usage = ⊥
-Says input left old new statuses.ReadFault = ⊤
-Says input left old new statuses.WriteFault = PartWritten input left old new
-Says input left old new statuses.Memory = ⊤
+-- ---- what a status of a command says: of the input, of what is left of it, of what was written, and of the report
+
+-- what was written, and what was reported, before and now
+pub record Written : Type 0 where
+  pub old : Option (List ℕ)
+  pub new : Option (List ℕ)
+  pub before : Option (List ℕ)
+  pub now : Option (List ℕ)
+
+abbrev pub Done : Command → List ℕ → Option (List ℕ) → Written → Type 0
+Done Normalise input left w = Normalised input left w.old w.new
+Done (Restore base) input left w = Restored base input left w.old w.new
+Done Verify input left w = Verified (Appends w.before w.now) input left
+
+abbrev pub DonePart : Command → List ℕ → Option (List ℕ) → Written → Type 0
+DonePart Normalise input left w = PartWritten canon input left w.old w.new
+DonePart (Restore base) input left w = PartWritten (restored_text base) input left w.old w.new
+DonePart Verify input left w = Verified (AppendsPart w.before w.now) input left
+
+abbrev pub Says : Command → List ℕ → Option (List ℕ) → Written → Status → Type 0
+Says command input left w statuses.Done = Done command input left w
+Says command input left w statuses.Refused = Rejected input left
+Says command input left w statuses.Usage = ⊥
+Says command input left w statuses.ReadFault = ⊤
+Says command input left w statuses.WriteFault = DonePart command input left w
+Says command input left w statuses.Memory = ⊤
 
 -- where the input tells its bytes
-abbrev pub SaysOf : Option (List ℕ) → Option (List ℕ) → Option (List ℕ) → Option (List ℕ) → Status → Type 0
-SaysOf None left old new status = ⊤
-SaysOf (Some input) left old new status = Says input left old new status
+abbrev pub SaysOf : Command → Option (List ℕ) → Option (List ℕ) → Written → Status → Type 0
+SaysOf command None left w status = ⊤
+SaysOf command (Some input) left w status = Says command input left w status
+
+-- a write fault is one of the sink that the command writes on: `verify` writes its line on the report
+abbrev pub WriteRose : Command → ℕ → ℕ → ℕ → ℕ → Type 0
+WriteRose Verify out out_now report report_now = Rose report report_now
+WriteRose _ out out_now report report_now = Rose out out_now
+
+-- ---- the line of a status
 
 -- the refusal that is named is that of the input, where it tells its bytes
 abbrev pub NamesRefusal : Option (List ℕ) → Place → Cause → Type 0
 NamesRefusal None place cause = ⊤
 NamesRefusal (Some input) place cause = (rest : List ℕ) × IsRefused input place cause rest
 
--- the line of a status; status 0 of `normalise` has none
+-- status 0 of `normalise` and `restore` has none
 abbrev pub IsLine : Option (List ℕ) → Status → List ℕ → Type 0
 IsLine told statuses.Done line = line ≡ []
 IsLine told statuses.Refused line = (place : Place) × (cause : Cause) × (line ≡ refusal_line place cause) × NamesRefusal told place cause
@@ -71,16 +137,22 @@ IsLine told statuses.ReadFault line = line ≡ read_fault_line
 IsLine told statuses.WriteFault line = line ≡ write_fault_line
 IsLine told statuses.Memory line = line ≡ memory_line
 
+-- `verify` has put its own line, or a part of it
+abbrev pub HasOwnLine : Command → Status → Type 0
+HasOwnLine Verify statuses.Done = ⊤
+HasOwnLine Verify statuses.WriteFault = ⊤
+HasOwnLine _ _ = ⊥
+
 -- ---- the same of an outcome, which has the refusal
 
-abbrev pub Comes : List ℕ → Option (List ℕ) → Option (List ℕ) → Option (List ℕ) → Outcome → Type 0
-Comes input left old new outcomes.Done = Normalised input left old new
-Comes input left old new (outcomes.Refused place cause) = (rest : List ℕ) × IsRefused input place cause rest × (left ≡ Some rest)
-Comes input left old new outcomes.Usage = ⊥
-Comes input left old new outcomes.ReadFault = ⊤
-Comes input left old new outcomes.WriteFault = PartWritten input left old new
-Comes input left old new outcomes.Memory = ⊤
+abbrev pub Comes : Command → List ℕ → Option (List ℕ) → Written → Outcome → Type 0
+Comes command input left w outcomes.Done = Done command input left w
+Comes command input left w (outcomes.Refused place cause) = (rest : List ℕ) × IsRefused input place cause rest × (left ≡ Some rest)
+Comes command input left w outcomes.Usage = ⊥
+Comes command input left w outcomes.ReadFault = ⊤
+Comes command input left w outcomes.WriteFault = DonePart command input left w
+Comes command input left w outcomes.Memory = ⊤
 
-abbrev pub ComesOf : Option (List ℕ) → Option (List ℕ) → Option (List ℕ) → Option (List ℕ) → Outcome → Type 0
-ComesOf None left old new outcome = ⊤
-ComesOf (Some input) left old new outcome = Comes input left old new outcome
+abbrev pub ComesOf : Command → Option (List ℕ) → Option (List ℕ) → Written → Outcome → Type 0
+ComesOf command None left w outcome = ⊤
+ComesOf command (Some input) left w outcome = Comes command input left w outcome

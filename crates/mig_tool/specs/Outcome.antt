@@ -1,5 +1,7 @@
 -- What a command came to.
 use Rattle.std.specs.Prelude.{ℕ, List, []}
+use Rattle.mig_restore.specs.declared.part.StreamAnswer.{StreamAnswer}
+use Rattle.mig_restore.specs.declared.part.StreamAnswer.TheVariants as answers
 use Rattle.mig_tool.specs.declared.outcome.Outcome.{Outcome}
 use Rattle.mig_tool.specs.declared.outcome.Outcome.TheVariants as outcomes
 use Rattle.mig_tool.specs.declared.status.Status.{Status}
@@ -31,3 +33,9 @@ code_of statuses.Usage = 2
 code_of statuses.ReadFault = 3
 code_of statuses.WriteFault = 4
 code_of statuses.Memory = 5
+
+-- the outcome where no stream is read
+abbrev pub outcome_of : StreamAnswer → Outcome
+outcome_of (answers.Refused place cause) = outcomes.Refused place cause
+outcome_of answers.ReadFault = outcomes.ReadFault
+outcome_of answers.Memory = outcomes.Memory

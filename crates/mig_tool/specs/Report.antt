@@ -1,10 +1,13 @@
 -- The lines that the program puts on its report.
-use Rattle.std.specs.Prelude.{◌≤◌, ℕ, List, ◌++◌, take, codes, Option}
+use Rattle.std.specs.Prelude.{◌≤◌, ℕ, List, ◌++◌, take, codes, decimal, Option}
 use Rattle.std.specs.Io.KnownBytes.{Appends}
 use Rattle.mig_bytes.specs.Faults.{Rose}
 use Rattle.mig_headers.specs.declared.fault.Cause.{Cause}
 use Rattle.mig_headers.specs.declared.fault.Place.{Place}
+use Rattle.mig_headers.specs.declared.kind.Kind.{Kind}
+use Rattle.mig_headers.specs.declared.kind.Kind.TheVariants.{Pv, Hvm}
 use Rattle.mig_headers.specs.Texts.{text_of_place, text_of_cause}
+use Rattle.mig_tool.specs.declared.outcome.Summary.{Summary}
 
 -- `refused: PLACE: NUMBER NAME`, and the cause's arguments
 abbrev pub refusal_line : Place → Cause → List ℕ
@@ -21,6 +24,16 @@ write_fault_line = codes "fault: write\n"
 
 abbrev pub memory_line : List ℕ
 memory_line = codes "fault: memory\n"
+
+abbrev pub kind_name : Kind → List ℕ
+kind_name Pv = codes "pv"
+kind_name Hvm = codes "hvm"
+
+-- `ok version V kind K frames N records R`
+abbrev pub ok_line : Summary → List ℕ
+ok_line s =
+    (codes "ok version " ++ decimal s.version) ++ (codes " kind " ++ (kind_name s.kind
+    ++ ((codes " frames " ++ decimal s.frames) ++ ((codes " records " ++ decimal s.records) ++ codes "\n"))))
 
 -- the report got the line; where its count rose, maybe only some first bytes of it
 pub record Reports (line : List ℕ) (old new : Option (List ℕ)) (before now : ℕ) : Type 0 where

@@ -1,10 +1,22 @@
--- The words of a command line.
-use Rattle.std.specs.Prelude.{◌≡◌, ℕ, List, [], ◌∷◌, map, codes, string_bytes}
+-- The words of a command line, and the commands that they name.
+use Rattle.std.specs.Prelude.{◌≡◌, ◌⊎◌, ◌<◌, ◌≤◌, ℕ, List, [], ◌∷◌, map, codes, decimal, string_bytes}
 use Rattle.std.specs.declared.string.String.{String}
+use Rattle.mig_tool.specs.declared.command.Command.{Command}
+use Rattle.mig_tool.specs.declared.command.Command.TheVariants.{Normalise, Restore, Verify}
 
 abbrev pub texts_of : {Z : Type 0} → List (String Z) → List (List ℕ)
 texts_of words = map string_bytes words
 
--- the words of the command that normalises
-abbrev pub IsNormalise : List (List ℕ) → Type 0
-IsNormalise words = words ≡ codes "normalise" ∷ []
+-- the base of `restore` where none is given
+abbrev pub usual_base : ℕ
+usual_base = 1048576
+
+-- a base from 1 to 2 ^ 40 - 2 ^ 24
+abbrev pub IsBase : ℕ → Type 0
+IsBase base = (0 < base) × (base ≤ 1099494850560)
+
+-- the words name this command; a base is written in decimal digits, without a sign and without leading zeros
+abbrev pub Names : List (List ℕ) → Command → Type 0
+Names words Normalise = words ≡ codes "normalise" ∷ []
+Names words Verify = words ≡ codes "verify" ∷ []
+Names words (Restore base) = ((words ≡ codes "restore" ∷ []) × (base ≡ usual_base)) ⊎ ((words ≡ codes "restore" ∷ decimal base ∷ []) × IsBase base)

@@ -1,8 +1,11 @@
-//! Reads a stream of a Xen guest, and writes it in its one canonical form.
+//! Reads a stream of a Xen guest, and writes it in its one canonical form, writes the image of the restored guest, or says
+//! what it is.
 //!
 //! `run` is the program but for its standard streams; its clauses say what is answered, taken, written and reported.
 #![tactic(auto)]
 
+mod command;
+mod commands;
 mod law;
 mod outcome;
 mod run;

@@ -1,12 +1,12 @@
-ghost use Rattle.std.specs.Prelude.{◌≡◌};
+ghost use Rattle.std.specs.Prelude.{◌≡◌, ◌++◌, decimal};
 ghost use Rattle.mig_bytes.specs.Bytes.{Puts};
 ghost use Rattle.mig_bytes.specs.Faults.{HasCause};
 ghost use Rattle.mig_tool.specs.Outcome.{status_of, line_of};
-ghost use Rattle.mig_tool.specs.Report.{refusal_line};
+ghost use Rattle.mig_tool.specs.Report.{Reports, refusal_line, kind_name, ok_line};
 
 use crate::status::Status;
 use mig_bytes::{Sink, WriteFailed, put_all};
-use mig_headers::{Cause, Place, put_cause, put_place};
+use mig_headers::{Cause, Kind, Place, put_cause, put_number, put_place};
 
 /// What a command came to: its status, and what its line says.
 #[derive(Clone, Copy, Debug, PartialEq, Eq)]
@@ -19,8 +19,19 @@ pub(crate) enum Outcome {
     Memory,
 }
 
+/// What is said of an accepted stream.
+#[derive(Clone, Copy, Debug, PartialEq, Eq)]
+pub(crate) struct Summary {
+    pub(crate) version: u64,
+    pub(crate) kind: Kind,
+    /// The frames of its guest.
+    pub(crate) frames: u64,
+    /// Its records, with END and the optional ones.
+    pub(crate) records: u64,
+}
+
 /// The status of an outcome.
-pub(crate) fn status(outcome: Outcome) -> Status
+fn status(outcome: Outcome) -> Status
     ensures { result ≡ status_of outcome }
 {
     match outcome {
@@ -61,4 +72,46 @@ pub(crate) fn put_line<R: Sink>(report: &mut R, outcome: Outcome) -> Result<(), 
         Outcome::WriteFault => put_all(report, b"fault: write\n"),
         Outcome::Memory => put_all(report, b"fault: memory\n"),
     }
+}
+
+/// Puts the line of an outcome on the report, and answers its status: a report that fails changes none.
+pub(crate) fn finish<R: Sink>(report: &mut R, outcome: Outcome) -> Status
+    ensures status { result ≡ status_of outcome }
+    ensures line { Reports (line_of outcome) (R.written report.old) (R.written report.new) (R.faults report.old) (R.faults report.new) }
+{
+    let _ = put_line(report, outcome);
+    status(outcome)
+}
+
+/// Puts the name of a kind of guest.
+fn put_kind<R: Sink>(report: &mut R, kind: Kind) -> Result<(), WriteFailed>
+    ensures bytes { Puts (kind_name kind) (R.written report.old) (R.written report.new) result }
+    ensures cause { HasCause (R.faults report.old) (R.faults report.new) result }
+{
+    match kind {
+        Kind::Pv => put_all(report, b"pv"),
+        Kind::Hvm => put_all(report, b"hvm"),
+    }
+}
+
+/// Puts a text and a number behind it.
+fn put_field<R: Sink>(report: &mut R, text: &[u8], number: u64) -> Result<(), WriteFailed>
+    ensures bytes { Puts (text.now ++ decimal number) (R.written report.old) (R.written report.new) result }
+    ensures cause { HasCause (R.faults report.old) (R.faults report.new) result }
+{
+    put_all(report, text)?;
+    put_number(report, number)
+}
+
+/// Puts what an accepted stream is on the report.
+pub(crate) fn put_ok<R: Sink>(report: &mut R, summary: Summary) -> Result<(), WriteFailed>
+    ensures bytes { Puts (ok_line summary) (R.written report.old) (R.written report.new) result }
+    ensures cause { HasCause (R.faults report.old) (R.faults report.new) result }
+{
+    put_field(report, b"ok version ", summary.version)?;
+    put_all(report, b" kind ")?;
+    put_kind(report, summary.kind)?;
+    put_field(report, b" frames ", summary.frames)?;
+    put_field(report, b" records ", summary.records)?;
+    put_all(report, b"\n")
 }

@@ -1,28 +1,35 @@
-use Rattle.std.proofs.Common.{sym, subst, ◌∙◌}
-use Rattle.mig_tool.specs.Answers.{IsLine, SaysOf}
-use Rattle.mig_tool.specs.Outcome.{line_of}
-use Rattle.mig_tool.proofs.Reporting.{reports, line_is, says_of, accepted_done, refused_refused, reads_are, writes_are}
+use Rattle.std.proofs.Common.{ℕ, sym, subst}
+use Rattle.mig_tool.specs.Answers.{Written, SaysOf, WriteRose}
+use Rattle.mig_tool.specs.declared.command.Command.{Command}
+use Rattle.mig_tool.specs.declared.command.Command.TheVariants as commands
+use Rattle.mig_tool.proofs.Naming.{same_command}
+use Rattle.mig_tool.proofs.Reporting.{accepted_done, refused_refused}
 use Rattle.mig_tool.proofs.run.run.Goals as goal
 
-pub returns-clause-normalised : goal.returns-clause-normalised
-returns-clause-normalised g c = λ is. subst (SaysOf _ _ _ _) (sym c.status.ensures) (says_of _ _ _ _ c.carry_out-outcome.result (c.carry_out-outcome.ensures.normalised is))
+pub returns-in-Some-clause-restored : goal.returns-in-Some-clause-restored
+returns-in-Some-clause-restored g c = λ base is.
+    let w : Written = record { old = g.K.Sink.written c.args.out.now; new = g.K.Sink.written c.carry_out.new.out; before = g.R.Sink.written c.args.report.now; now = g.R.Sink.written c.carry_out.new.report } in
+    subst (λ (d : Command). SaysOf d (g.S.Source.left c.args.input.now) (g.S.Source.left c.carry_out.new.input) w c.carry_out.result)
+    (same_command _ c.in-Some.command (commands.Restore base) c.in-Some.ensures.some is) c.carry_out.ensures.said
 
-pub returns-clause-line : goal.returns-clause-line
-returns-clause-line g c =
-    let told = g.S.Source.left c.args.input.now in
-    let line = line_of c.carry_out-outcome.result in (
-      line,
-      subst (λ s. IsLine told s line) (sym c.status.ensures) (line_is told c.carry_out-outcome.result c.carry_out-outcome.ensures.refusal),
-      reports line _ _ _ _ c.put_line.result c.put_line.ensures.bytes c.put_line.ensures.cause,
-    )
+pub returns-in-Some-clause-accepted : goal.returns-in-Some-clause-accepted
+returns-in-Some-clause-accepted g c = λ command bytes guest rest is told accepted reads writes.
+    let w : Written = record { old = g.K.Sink.written c.args.out.now; new = g.K.Sink.written c.carry_out.new.out; before = g.R.Sink.written c.args.report.now; now = g.R.Sink.written c.carry_out.new.report } in
+    let same = same_command _ c.in-Some.command command c.in-Some.ensures.some is in
+    accepted_done c.in-Some.command (g.S.Source.left c.args.input.now) (g.S.Source.left c.carry_out.new.input) w c.carry_out.result bytes guest rest c.carry_out.ensures.said told accepted
+    (λ e. reads (c.carry_out.ensures.read e)) (λ e. writes (subst (λ (d : Command). WriteRose d (g.K.Sink.faults c.args.out.now) (g.K.Sink.faults c.carry_out.new.out) (g.R.Sink.faults c.args.report.now) (g.R.Sink.faults c.carry_out.new.report)) same (c.carry_out.ensures.write e)))
 
-pub returns-clause-accepted : goal.returns-clause-accepted
-returns-clause-accepted g c = λ bytes guest rest is told accepted reads writes.
-    accepted_done _ _ _ _ c.status.result bytes guest rest (returns-clause-normalised g c is) told accepted
-    (λ e. reads (c.carry_out-outcome.ensures.read (reads_are c.carry_out-outcome.result (sym c.status.ensures ∙ e))))
-    (λ e. writes (c.carry_out-outcome.ensures.write (writes_are c.carry_out-outcome.result (sym c.status.ensures ∙ e))))
+pub returns-in-Some-clause-refused : goal.returns-in-Some-clause-refused
+returns-in-Some-clause-refused g c = λ command bytes place cause rest is told refused reads.
+    let w : Written = record { old = g.K.Sink.written c.args.out.now; new = g.K.Sink.written c.carry_out.new.out; before = g.R.Sink.written c.args.report.now; now = g.R.Sink.written c.carry_out.new.report } in
+    refused_refused c.in-Some.command (g.S.Source.left c.args.input.now) (g.S.Source.left c.carry_out.new.input) w c.carry_out.result bytes place cause rest c.carry_out.ensures.said told refused
+    (λ e. reads (c.carry_out.ensures.read e))
 
-pub returns-clause-refused : goal.returns-clause-refused
-returns-clause-refused g c = λ bytes place cause rest is told refused reads.
-    refused_refused _ _ _ _ c.status.result bytes place cause rest (returns-clause-normalised g c is) told refused
-    (λ e. reads (c.carry_out-outcome.ensures.read (reads_are c.carry_out-outcome.result (sym c.status.ensures ∙ e))))
+pub returns-in-None-clause-normalised : goal.returns-in-None-clause-normalised
+returns-in-None-clause-normalised g c = λ is. absurd (c.in-None.ensures.none commands.Normalise is)
+
+pub returns-in-None-clause-restored : goal.returns-in-None-clause-restored
+returns-in-None-clause-restored g c = λ base is. absurd (c.in-None.ensures.none (commands.Restore base) is)
+
+pub returns-in-None-clause-verified : goal.returns-in-None-clause-verified
+returns-in-None-clause-verified g c = λ is. absurd (c.in-None.ensures.none commands.Verify is)

@@ -1,0 +1,52 @@
+-- Words name one command at most.
+use Rattle.std.specs.Prelude.{◌⊎◌, decimal}
+use mathlib.Core.Logic.{inl, inr}
+use Rattle.std.proofs.Common.{◌≡◌, ℕ, ◌<◌, ◌^◌, List, [], ◌∷◌, length, get_or, sym, ap, ◌∙◌, refl, arith}
+use Rattle.std.proofs.lemmas.Fmt.{decimal_injective}
+use Rattle.mig_tool.specs.Words.{IsBase, Names}
+use Rattle.mig_tool.specs.declared.command.Command.{Command}
+use Rattle.mig_tool.specs.declared.command.Command.TheVariants.{Normalise, Restore, Verify}
+
+-- the first letter of the first word
+abbrev initial : List (List ℕ) → ℕ
+initial words = get_or (get_or words 0 []) 0 0
+
+abbrev named : Command → ℕ
+named Normalise = 110
+named Verify = 118
+named (Restore base) = 114
+
+begins : (words : List (List ℕ)) (command : Command) → Names words command → initial words ≡ named command
+begins words Normalise h = ap initial h
+begins words Verify h = ap initial h
+begins words (Restore base) (inl (h, e)) = ap initial h
+begins words (Restore base) (inr (h, e)) = ap initial h
+
+small : (base : ℕ) → IsBase base → base < 2 ^ 64
+small base h = omega (arith, h.1)
+
+second : List (List ℕ) → List ℕ
+second words = get_or words 1 []
+
+same_base : (words : List (List ℕ)) (a b : ℕ) → Names words (Restore a) → Names words (Restore b) → a ≡ b
+unfolding second
+same_base words a b (inl (h, e)) (inl (k, f)) = e ∙ sym f
+same_base words a b (inl (h, e)) (inr (k, f)) = let lengths : 1 ≡ 2 = ap length (sym h ∙ k) in absurd (omega (arith, lengths))
+same_base words a b (inr (h, e)) (inl (k, f)) = let lengths : 2 ≡ 1 = ap length (sym h ∙ k) in absurd (omega (arith, lengths))
+same_base words a b (inr (h, e)) (inr (k, f)) = decimal_injective a b (small a e) (small b f) (ap second (sym h ∙ k))
+
+pub same_command : (words : List (List ℕ)) (c d : Command) → Names words c → Names words d → c ≡ d
+same_command words Normalise Normalise h k = refl
+same_command words Verify Verify h k = refl
+same_command words (Restore a) (Restore b) h k = ap (λ (n : ℕ). Restore n) (same_base words a b h k)
+same_command words Normalise Verify h k = let e : 110 ≡ 118 = sym (begins words Normalise h) ∙ begins words Verify k in absurd (omega (arith, e))
+same_command words Normalise (Restore b) h k = let e : 110 ≡ 114 = sym (begins words Normalise h) ∙ begins words (Restore b) k in absurd (omega (arith, e))
+same_command words Verify Normalise h k = let e : 118 ≡ 110 = sym (begins words Verify h) ∙ begins words Normalise k in absurd (omega (arith, e))
+same_command words Verify (Restore b) h k = let e : 118 ≡ 114 = sym (begins words Verify h) ∙ begins words (Restore b) k in absurd (omega (arith, e))
+same_command words (Restore a) Normalise h k = let e : 114 ≡ 110 = sym (begins words (Restore a) h) ∙ begins words Normalise k in absurd (omega (arith, e))
+same_command words (Restore a) Verify h k = let e : 114 ≡ 118 = sym (begins words (Restore a) h) ∙ begins words Verify k in absurd (omega (arith, e))
+
+-- a base that is named lies in the range
+pub named_base : (words : List (List ℕ)) (base : ℕ) → Names words (Restore base) → IsBase base
+named_base words base (inl (h, e)) = (omega (arith, e), omega (arith, e))
+named_base words base (inr (h, range)) = range

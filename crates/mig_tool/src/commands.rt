@@ -1,0 +1,130 @@
+ghost use Rattle.std.specs.Prelude.{◌≡◌, ◌≢◌, ◌≤◌, ℕ, List, Option, IsErrOf};
+ghost use Rattle.std.specs.Io.KnownBytes.{Appends, Keeps};
+ghost use Rattle.mig_bytes.specs.Bytes.{AppendsPart};
+ghost use Rattle.mig_bytes.specs.Faults.{Rose};
+ghost use Rattle.mig_guest.specs.Guests.{GuestOf};
+ghost use Rattle.mig_tool.specs.Answers.{Written, SaysOf, ComesOf, WriteRose, IsLine, HasOwnLine};
+ghost use Rattle.mig_tool.specs.Outcome.{outcome_of};
+ghost use Rattle.mig_tool.specs.Report.{Reports, ok_line};
+ghost use Rattle.mig_tool.specs.Words.{IsBase};
+ghost use Rattle.mig_tool.specs.declared.command.Command.TheVariants as commands;
+ghost use Rattle.mig_tool.specs.declared.outcome.Outcome.TheVariants as outcomes;
+ghost use Rattle.mig_tool.specs.declared.outcome.Summary.{Summary};
+ghost use Rattle.mig_tool.specs.declared.status.Status.TheVariants as statuses;
+
+use crate::command::Command;
+use crate::outcome::{Outcome, Summary, finish, put_ok};
+use crate::status::Status;
+use mig_bytes::{Sink, Source};
+use mig_canon::write_canon;
+use mig_restore::{StreamAnswer, read_image};
+use std::alloc::Global;
+
+/// The outcome where no stream is read.
+fn unread(answer: StreamAnswer) -> Outcome
+    ensures { result ≡ outcome_of answer }
+{
+    match answer {
+        StreamAnswer::Refused(place, cause) => Outcome::Refused(place, cause),
+        StreamAnswer::ReadFault => Outcome::ReadFault,
+        StreamAnswer::Memory => Outcome::Memory,
+    }
+}
+
+/// Reads a stream, and writes it in its canonical form.
+fn normalise<S: Source, K: Sink>(alloc: Global, input: &mut S, out: &mut K) -> Outcome
+    ensures answer { (before now : Option (List ℕ)) → ComesOf commands.Normalise (S.left input.old) (S.left input.new) (record { old = K.written out.old; new = K.written out.new; before = before; now = now }) result }
+    ensures known { result ≢ outcomes.Usage }
+    ensures kept { result ≢ outcomes.Done → result ≢ outcomes.WriteFault → Keeps (K.written out.old) (K.written out.new) }
+    ensures read { result ≡ outcomes.ReadFault → Rose (S.faults input.old) (S.faults input.new) }
+    ensures write { result ≡ outcomes.WriteFault → Rose (K.faults out.old) (K.faults out.new) }
+    ensures in_later { S.faults input.old ≤ S.faults input.new }
+    ensures out_later { K.faults out.old ≤ K.faults out.new }
+{
+    match read_image(alloc, input) {
+        Ok(reading) => match write_canon(out, &reading.guest) {
+            Ok(()) => Outcome::Done,
+            Err(_) => Outcome::WriteFault,
+        },
+        Err(answer) => unread(answer),
+    }
+}
+
+/// Reads a stream, and writes the image of its guest, with machine frames counted up from the base.
+fn restore<S: Source, K: Sink>(alloc: Global, base: u64, input: &mut S, out: &mut K) -> Outcome
+    requires { IsBase base }
+    ensures answer { (before now : Option (List ℕ)) → ComesOf (commands.Restore base) (S.left input.old) (S.left input.new) (record { old = K.written out.old; new = K.written out.new; before = before; now = now }) result }
+    ensures known { result ≢ outcomes.Usage }
+    ensures kept { result ≢ outcomes.Done → result ≢ outcomes.WriteFault → Keeps (K.written out.old) (K.written out.new) }
+    ensures read { result ≡ outcomes.ReadFault → Rose (S.faults input.old) (S.faults input.new) }
+    ensures write { result ≡ outcomes.WriteFault → Rose (K.faults out.old) (K.faults out.new) }
+    ensures in_later { S.faults input.old ≤ S.faults input.new }
+    ensures out_later { K.faults out.old ≤ K.faults out.new }
+{
+    Outcome::Memory
+}
+
+/// Reads a stream, and says on the report what it is.
+fn verify<S: Source, R: Sink>(alloc: Global, input: &mut S, report: &mut R) -> Status
+    ensures said { (old new : Option (List ℕ)) → SaysOf commands.Verify (S.left input.old) (S.left input.new) (record { old = old; new = new; before = R.written report.old; now = R.written report.new }) result }
+    ensures known { result ≢ statuses.Usage }
+    ensures read { result ≡ statuses.ReadFault → Rose (S.faults input.old) (S.faults input.new) }
+    ensures write { result ≡ statuses.WriteFault → Rose (R.faults report.old) (R.faults report.new) }
+    ensures line { (HasOwnLine commands.Verify result → ⊥)
+        → (line : List ℕ) × IsLine (S.left input.old) result line × Reports line (R.written report.old) (R.written report.new) (R.faults report.old) (R.faults report.new) }
+    ensures ok_line { result ≡ statuses.Done → (s : Summary) × Appends (R.written report.old) (R.written report.new) (ok_line s) }
+    ensures part_line { result ≡ statuses.WriteFault → (s : Summary) × AppendsPart (R.written report.old) (R.written report.new) (ok_line s) }
+    ensures in_later { S.faults input.old ≤ S.faults input.new }
+    ensures report_later { R.faults report.old ≤ R.faults report.new }
+{
+    let reading = match read_image(alloc, input) {
+        Ok(reading) => reading,
+        Err(answer) => return finish(report, unread(answer)),
+    };
+    let summary = Summary {
+        version: u64::from(reading.version),
+        kind: reading.guest.kind(),
+        frames: reading.guest.frames(),
+        records: u64::from(reading.records),
+    };
+    match put_ok(report, summary) {
+        Ok(()) => Status::Done,
+        Err(_) => Status::WriteFault,
+    }
+}
+
+/// Carries out a command.
+pub(crate) fn carry_out<S: Source, K: Sink, R: Sink>(
+    alloc: Global,
+    command: Command,
+    input: &mut S,
+    out: &mut K,
+    report: &mut R,
+) -> Status
+    requires { (base : ℕ) → command ≡ commands.Restore base → IsBase base }
+    ensures said { SaysOf command (S.left input.old) (S.left input.new) (record { old = K.written out.old; new = K.written out.new; before = R.written report.old; now = R.written report.new }) result }
+    ensures known { result ≢ statuses.Usage }
+    ensures kept { result ≢ statuses.Done → result ≢ statuses.WriteFault → Keeps (K.written out.old) (K.written out.new) }
+    ensures untouched { command ≡ commands.Verify → Keeps (K.written out.old) (K.written out.new) }
+    ensures read { result ≡ statuses.ReadFault → Rose (S.faults input.old) (S.faults input.new) }
+    ensures write { result ≡ statuses.WriteFault → WriteRose command (K.faults out.old) (K.faults out.new) (R.faults report.old) (R.faults report.new) }
+    ensures line { (HasOwnLine command result → ⊥)
+        → (line : List ℕ) × IsLine (S.left input.old) result line × Reports line (R.written report.old) (R.written report.new) (R.faults report.old) (R.faults report.new) }
+    ensures ok_line { command ≡ commands.Verify → result ≡ statuses.Done → (s : Summary) × Appends (R.written report.old) (R.written report.new) (ok_line s) }
+    ensures part_line { command ≡ commands.Verify → result ≡ statuses.WriteFault → (s : Summary) × AppendsPart (R.written report.old) (R.written report.new) (ok_line s) }
+    ensures in_later { S.faults input.old ≤ S.faults input.new }
+    ensures out_later { K.faults out.old ≤ K.faults out.new }
+    ensures report_later { R.faults report.old ≤ R.faults report.new }
+{
+    match command {
+        Command::Normalise => {
+            let outcome = normalise(alloc, input, out);
+            finish(report, outcome)
+        }
+        Command::Restore(base) => {
+            let outcome = restore(alloc, base, input, out);
+            finish(report, outcome)
+        }
+        Command::Verify => verify(alloc, input, report),
+    }
+}
