@@ -1,9 +1,9 @@
-ghost use Rattle.std.specs.Prelude.{◌≡◌, ◌≢◌, ◌≤◌, ℕ, List, Option, IsErrOf};
+ghost use Rattle.std.specs.Prelude.{◌≡◌, ◌≢◌, ◌≤◌, ◌⊎◌, ℕ, List, Option};
 ghost use Rattle.std.specs.Io.KnownBytes.{Appends, Keeps};
 ghost use Rattle.mig_bytes.specs.Bytes.{AppendsPart};
 ghost use Rattle.mig_bytes.specs.Faults.{Rose};
-ghost use Rattle.mig_guest.specs.Guests.{GuestOf};
-ghost use Rattle.mig_tool.specs.Answers.{Written, SaysOf, ComesOf, WriteRose, IsLine, HasOwnLine};
+ghost use Rattle.mig_pvtables.specs.Whole.{IsWhole};
+ghost use Rattle.mig_tool.specs.Answers.{SaysOf, ComesOf, WriteRose, IsLine, HasOwnLine, restored_text};
 ghost use Rattle.mig_tool.specs.Outcome.{outcome_of};
 ghost use Rattle.mig_tool.specs.Report.{Reports, ok_line};
 ghost use Rattle.mig_tool.specs.Words.{IsBase};
@@ -17,6 +17,8 @@ use crate::outcome::{Outcome, Summary, finish, put_ok};
 use crate::status::Status;
 use mig_bytes::{Sink, Source};
 use mig_canon::write_canon;
+use mig_guest::Guest;
+use mig_image::{HostAnswer, host_of, write_host};
 use mig_restore::{StreamAnswer, read_image};
 use std::alloc::Global;
 
@@ -50,6 +52,27 @@ fn normalise<S: Source, K: Sink>(alloc: Global, input: &mut S, out: &mut K) -> O
     }
 }
 
+/// Writes the image of a guest, with machine frames counted up from the base.
+fn write_restored<K: Sink>(alloc: Global, guest: Guest, base: u64, out: &mut K) -> Outcome
+    requires whole { IsWhole guest }
+    requires base { IsBase base }
+    ensures done { result ≡ outcomes.Done → Appends (K.written out.old) (K.written out.new) (restored_text base guest) }
+    ensures part { result ≡ outcomes.WriteFault → AppendsPart (K.written out.old) (K.written out.new) (restored_text base guest) }
+    ensures answers { (result ≡ outcomes.Done) ⊎ ((result ≡ outcomes.WriteFault) ⊎ (result ≡ outcomes.Memory)) }
+    ensures kept { result ≡ outcomes.Memory → Keeps (K.written out.old) (K.written out.new) }
+    ensures write { result ≡ outcomes.WriteFault → Rose (K.faults out.old) (K.faults out.new) }
+    ensures out_later { K.faults out.old ≤ K.faults out.new }
+{
+    match host_of(alloc, guest, base) {
+        Ok(host) => match write_host(out, &host) {
+            Ok(()) => Outcome::Done,
+            Err(_) => Outcome::WriteFault,
+        },
+        Err(HostAnswer::Memory) => Outcome::Memory,
+        Err(HostAnswer::BaseRange) => unreachable!(),
+    }
+}
+
 /// Reads a stream, and writes the image of its guest, with machine frames counted up from the base.
 fn restore<S: Source, K: Sink>(alloc: Global, base: u64, input: &mut S, out: &mut K) -> Outcome
     requires { IsBase base }
@@ -61,7 +84,11 @@ fn restore<S: Source, K: Sink>(alloc: Global, base: u64, input: &mut S, out: &mu
     ensures in_later { S.faults input.old ≤ S.faults input.new }
     ensures out_later { K.faults out.old ≤ K.faults out.new }
 {
-    Outcome::Memory
+    let guest = match read_image(alloc, input) {
+        Ok(reading) => reading.guest,
+        Err(answer) => return unread(answer),
+    };
+    write_restored(alloc, guest, base, out)
 }
 
 /// Reads a stream, and says on the report what it is.
