@@ -5,4 +5,6 @@ pub mod InOrder
 pub mod KeyTests
 pub mod MachineMaps
 pub mod PartRead
+pub mod PartsMore
+pub mod Placed
 pub mod Rows

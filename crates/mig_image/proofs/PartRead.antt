@@ -1,6 +1,6 @@
 -- How what the readers of a part give joins.
 use Rattle.std.specs.Result.{IsErrAnd}
-use Rattle.std.proofs.Common.{◌≡◌, ℕ, List, Option, Some, None, Result, Ok, Err, refl, sym, ap, subst, ⊤}
+use Rattle.std.proofs.Common.{◌≡◌, ℕ, List, Option, Some, None, Result, Ok, Err, refl, sym, ap, subst}
 use Rattle.mig_bytes.specs.declared.part.Stop.{Stop}
 use Rattle.mig_bytes.specs.Fields.{le32}
 use Rattle.mig_bytes.specs.Judged.{Judged, ◌>>=◌, Gives}
@@ -28,7 +28,7 @@ module _ (h : HostOf) where
   abbrev behind_head : List ℕ × List ℕ → Judged ImageCause HostOf
   behind_head head = bytes_at (le32 head.0 0) (le32 head.0 12) head.1 >>= behind_bytes head.0
 
-  module _ {V W Z : Type 0} (items : V → List ℕ) (P : W → List ℕ → Type 0) (Q : Z → HostOf → Type 0) (a b : Option (List ℕ)) (head : List ℕ) (opens : Gives {X = List ℕ} (λ v head. head ≡ v) a b (part_head_at h) (Ok head))
+  module _ {V Z : Type 0} (items : V → List ℕ) (Q : Z → HostOf → Type 0) (a b : Option (List ℕ)) (head : List ℕ) (opens : Gives {X = List ℕ} (λ v head. head ≡ v) a b (part_head_at h) (Ok head))
       (code len : ℕ) (same_code : code ≡ le32 head 0) (same_len : len ≡ le32 head 12) where
     as_said : (c : Option (List ℕ)) (r : Result V (Stop ImageCause)) → Gives (λ v bytes. bytes ≡ items v) b c (bytes_at code len) r → Gives (λ v bytes. bytes ≡ items v) b c (bytes_at (le32 head 0) (le32 head 12)) r
     as_said c r n = subst (λ m. Gives (λ v bytes. bytes ≡ items v) b c (bytes_at (le32 head 0) m) r) same_len (subst (λ m. Gives (λ v bytes. bytes ≡ items v) b c (bytes_at m len) r) same_code n)
@@ -41,7 +41,7 @@ module _ (h : HostOf) where
     bytes_stop c e r is n =
         handed_on Q a c (part_at h) e r is (behind c (Err e) (stop (λ v bytes. bytes ≡ items v) Q b c (bytes_at (le32 head 0) (le32 head 12)) (behind_bytes head) e (as_said c (Err e) n)))
 
-    module _ (c d : Option (List ℕ)) (bytes : V) (read : Gives (λ v bytes. bytes ≡ items v) b c (bytes_at code len) (Ok bytes)) where
+    module _ {W : Type 0} (P : W → List ℕ → Type 0) (c d : Option (List ℕ)) (bytes : V) (read : Gives (λ v bytes. bytes ≡ items v) b c (bytes_at code len) (Ok bytes)) where
       behind_both : (r : Result Z (Stop ImageCause)) → Gives Q c d (λ i. behind_bytes head (items bytes, i)) r → Gives Q a d (part_at h) r
       behind_both r n = behind d r (after items Q b c d (bytes_at (le32 head 0) (le32 head 12)) (behind_bytes head) bytes r (as_said c (Ok bytes) read) n)
 
