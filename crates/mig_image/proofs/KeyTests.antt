@@ -1,5 +1,5 @@
 -- Whether a key among those of a map passes a test: whether a host has a frame or a part from a key on.
-use Rattle.std.proofs.Common.{◌≡◌, ℕ, ◌≤◌, ◌<◌, Bool, true, false, cond, not, nat_le, List, [], ◌∷◌, Option, Some, None, is_some, IsSome, IfSome, IfNone, refl, sym, ap, subst, ◌∙◌}
+use Rattle.std.proofs.Common.{◌≡◌, ℕ, ◌≤◌, ◌<◌, Bool, true, false, cond, not, nat_le, List, [], ◌∷◌, Option, Some, None, is_some, IsSome, IfSome, IfNone, refl, sym, ap, subst, ◌∙◌, arith}
 use Rattle.std.specs.Prelude.{◌||◌}
 use Rattle.std.specs.List.{AllByRecursion, list_any}
 use Rattle.std.specs.Option.{option_copied}
@@ -46,6 +46,18 @@ module _ {K X : Type 0} {R : K → K → Ordering} (total : IsTotalOrder R) (exa
   -- no key that passes is one of the map's
   no_key : (m : FinMap R X) → ((q : K) → p q ≡ true → maps.get m q ≡ None) → list_any (λ e. p e.0) (maps.entries m) ≡ false
   no_key m none = all_fail (maps.entries m) (each_entry total (λ k _. p k ≡ false) m (λ k v is. false_from_ne_true (p k) (λ passes. none_some (sym (none k passes) ∙ is))))
+
+  -- where none passes
+  not_there : (m : FinMap R X) (q : K) → p q ≡ true → list_any (λ e. p e.0) (maps.entries m) ≡ false → maps.get m q ≡ None
+  not_there m q passes none = by (maps.get m q) refl
+    where
+      by : (o : Option X) → maps.get m q ≡ o → maps.get m q ≡ None
+      by None is = is
+      by (Some v) is = let wrong : false ≡ true = sym none ∙ found_passes (maps.entries m) q v passes (sym (get-entries m q) ∙ is) in cc
+
+-- without a frame from this number on there is none of this number
+pub frame_absent : (frames : HostFrames) (pfn : ℕ) → list_any (λ e. nat_le pfn e.0) (maps.entries frames) ≡ false → maps.get frames pfn ≡ None
+frame_absent frames pfn none = not_there nat_cmp_total nat_cmp-IsAntisymmetric (nat_le pfn) frames pfn (le-leb pfn pfn (omega arith)) none
 
 -- a frame from this number on
 pub frames_from : (frames : HostFrames) (from : ℕ) (r : Option ℕ)

@@ -1,3 +1,4 @@
+pub mod FrameRead
 pub mod HostEntries
 pub mod HostMaps
 pub mod HostsMade
