@@ -2,6 +2,7 @@ pub mod FrameRead
 pub mod HostEntries
 pub mod HostMaps
 pub mod HostsMade
+pub mod ImageRead
 pub mod InOrder
 pub mod KeyTests
 pub mod MachineMaps
