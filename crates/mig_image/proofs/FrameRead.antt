@@ -1,18 +1,17 @@
 -- How what the readers of a frame give joins, and what a head without a fault says.
 use Rattle.std.specs.Result.{IsErrAnd}
-use Rattle.std.proofs.Common.{◌≡◌, ℕ, ◌+◌, ◌^◌, ◌<◌, ◌≤◌, Bool, true, false, cond, not, nat_le, List, length, Option, Some, None, is_some, Result, Ok, Err, refl, sym, ap, subst, ◌∙◌, arith}
+use Rattle.std.proofs.Common.{◌≡◌, ℕ, ◌+◌, ◌^◌, ◌<◌, true, false, cond, nat_le, List, length, Option, Some, None, is_some, Result, Ok, Err, refl, sym, ap, subst, ◌∙◌, arith}
 use Rattle.std.specs.Prelude.{◌==◌}
-use Rattle.std.proofs.lemmas.Bool.{not-false, or_parts, leb-false, eq-eqb, eqb-true}
+use Rattle.std.proofs.lemmas.Bool.{not-false, or_parts, leb-false, eq-eqb}
 use Rattle.std.proofs.lemmas.Grind.{common_steps}
 use Rattle.std.specs.Cmp.{nat_cmp_total}
-use Rattle.std.specs.Ordering.{nat_cmp}
 use Rattle.std.specs.FinMap as maps
 use Rattle.std.specs.FinMap.{len-insert, len-entries, get-entries}
 use Rattle.mig_bytes.specs.declared.part.Stop.{Stop}
-use Rattle.mig_bytes.specs.Fields.{le32, le64}
+use Rattle.mig_bytes.specs.Fields.{le64}
 use Rattle.mig_bytes.specs.Judged.{Judged, ◌>>=◌, part, Gives}
 use Rattle.mig_bytes.specs.Judged.Judged.{Passes, Faulty}
-use Rattle.mig_bytes.proofs.Joins.{seq, stop, done, judged_so}
+use Rattle.mig_bytes.proofs.Joins.{stop, done, judged_so}
 use Rattle.mig_headers.specs.declared.image_fault.ImageCause.{ImageCause}
 use Rattle.mig_headers.specs.declared.image_fault.ImageCause.TheVariants.{Truncated}
 use Rattle.mig_pagetypes.specs.declared.page_type.PageType.{PageType}
