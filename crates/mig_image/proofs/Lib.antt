@@ -1,6 +1,10 @@
+pub mod FrameRead
 pub mod HostEntries
 pub mod HostMaps
 pub mod HostsMade
+pub mod ImageRead
+pub mod InOrder
+pub mod KeyTests
 pub mod MachineMaps
 pub mod Samples
 pub mod FieldBytes
@@ -9,9 +13,11 @@ pub mod FrameTexts
 pub mod FramesBack
 pub mod ImageBack
 pub mod ImageReads
-pub mod InOrder
 pub mod PartChains
 pub mod PartTexts
 pub mod PartsBack
 pub mod Pieces
 pub mod Walked
+pub mod PartRead
+pub mod PartsMore
+pub mod Placed

@@ -5,7 +5,7 @@ ghost use Rattle.mig_bytes.specs.Judged.{Gives};
 ghost use Rattle.mig_bytes.specs.declared.part.Stop.TheVariants.{ReadFault};
 ghost use Rattle.mig_guest.specs.Frames.{is_type_of};
 ghost use Rattle.mig_image.specs.Answer.{ReadsAs, answer_of, placed_stop};
-ghost use Rattle.mig_image.specs.ImageParts.{fault_of_head, fault_of_frame, frame_head_at, frame_at, frames_at, count_at, head_kind, head_pfn, behind_head, image_at};
+ghost use Rattle.mig_image.specs.ImageParts.{fault_of_head, fault_of_frame, has_frame_from, frame_head_at, frame_at, frames_at, count_at, head_kind, head_pfn, behind_head, image_at};
 ghost use Rattle.mig_image.specs.declared.read.ImageAnswer.TheVariants as answers;
 
 use crate::head::{kind_in, read_head};
@@ -73,6 +73,13 @@ fn is_type_of(kind: Kind, this: PageType) -> bool
     }
 }
 
+/// Whether the host has a frame of this number or of a greater one.
+fn has_from(host: &Host, pfn: u64) -> bool
+    ensures { result ≡ has_frame_from host.now pfn }
+{
+    host.next_frame(pfn).is_some()
+}
+
 /// What is wrong with the head of a frame behind those of the host.
 fn frame_fault(host: &Host, head: &[u8; 16]) -> Option<ImageCause>
     ensures { result ≡ fault_of_frame host.now head.now }
@@ -85,7 +92,7 @@ fn frame_fault(host: &Host, head: &[u8; 16]) -> Option<ImageCause>
     if !is_type_of(host.kind(), kind_of(head)) {
         return Some(ImageCause::BadPageType(u64::from(u32_le(head, 0) >> 28)));
     }
-    if host.next_frame(pfn).is_some() {
+    if has_from(host, pfn) {
         return Some(ImageCause::FrameOrder(pfn));
     }
     if pfn >= host.width() {

@@ -1,12 +1,14 @@
-ghost use Rattle.std.specs.Prelude.{◌≡◌, ◌==◌, ◌+◌, ◌≤◌, ◌<◌, ⊤, OnOk, IfOk, IsErrOf, length, None, if◌then◌else◌};
+ghost use Rattle.std.specs.Prelude.{◌≡◌, ◌==◌, ◌+◌, ◌≤◌, ◌<◌, ⊤, OnOk, IfOk, IfNone, IsErrOf, length, None, if◌then◌else◌};
+ghost use Rattle.std.specs.List.{list_all};
 ghost use Rattle.std.specs.FinMap as maps;
 ghost use Rattle.mig_bytes.specs.Faults.{Rose};
 ghost use Rattle.mig_bytes.specs.Judged.{Gives};
 ghost use Rattle.mig_bytes.specs.declared.part.Stop.TheVariants.{ReadFault};
 ghost use Rattle.mig_headers.specs.declared.kind.Kind.TheVariants.{Pv};
+ghost use Rattle.mig_guest.specs.Hosts.{IsValid};
 ghost use Rattle.mig_guest.specs.PartCodes.{code_of_number};
 ghost use Rattle.mig_guest.specs.Parts.{PartMap};
-ghost use Rattle.mig_image.specs.ImageParts.{fault_of_part, head_key, code_fits, code_allows, has_part_from, is_full, part_head_at, bytes_at, padding_at, part_at, parts_at};
+ghost use Rattle.mig_image.specs.ImageParts.{fault_of_part, fault_of_bytes, head_key, code_fits, code_allows, has_part_from, is_full, part_head_at, bytes_at, padding_at, part_at, parts_at};
 ghost use Rattle.mig_image.specs.PartCounts.{Counts};
 
 use crate::host::Host;
@@ -101,7 +103,8 @@ fn has_from(host: &Host, key: PartKey) -> bool
 /// What is wrong with the head of a part behind those of the host.
 fn part_fault(host: &Host, entries: Entries, head: &[u8; 16]) -> Option<ImageCause>
     requires { Counts entries host.now.parts }
-    ensures { result ≡ fault_of_part host.now head.now }
+    ensures value { result ≡ fault_of_part host.now head.now }
+    ensures valid { IfNone result (IsValid host.now) }
 {
     let key = key_of(head);
     let len = u32_le(head, 12);
@@ -129,6 +132,7 @@ fn read_part_head<S: Source>(
     requires { Counts entries host.now.parts }
     ensures read { Gives (λ v head. head ≡ v) (S.left src.old) (S.left src.new) (part_head_at host.now) result }
     ensures fine { IfOk result (λ head. fault_of_part host.now head ≡ None) }
+    ensures valid { IfOk result (λ _. IsValid host.now) }
     ensures later { S.faults src.old ≤ S.faults src.new }
     ensures cause { IsErrOf result ReadFault → Rose (S.faults src.old) (S.faults src.new) }
 {
@@ -149,6 +153,7 @@ fn read_bytes<S: Source>(
 ) -> Result<Vec<u8>, Stop<ImageCause>>
     ensures read { Gives (λ v bytes. bytes ≡ v.items) (S.left src.old) (S.left src.new) (bytes_at code len) result }
     ensures len { IfOk result (λ v. length v.items ≡ len) }
+    ensures fine { IfOk result (λ v. fault_of_bytes code v.items ≡ None) }
     ensures later { S.faults src.old ≤ S.faults src.new }
     ensures cause { IsErrOf result ReadFault → Rose (S.faults src.old) (S.faults src.new) }
 {
@@ -157,6 +162,13 @@ fn read_bytes<S: Source>(
         return Err(Stop::Refused(ImageCause::PartBytes));
     }
     Ok(bytes)
+}
+
+/// Whether all these bytes are 0.
+fn are_zeros(bytes: &[u8]) -> bool
+    ensures { result ≡ list_all (λ b. b == 0) bytes.now }
+{
+    bytes.iter().all(|byte| *byte == 0)
 }
 
 /// Takes the zeros behind so many bytes.
@@ -168,7 +180,7 @@ fn read_padding<S: Source>(src: &mut S, len: u32) -> Result<(), Stop<ImageCause>
     let mut zeros = [0; 8];
     let padding = &mut zeros[..pad_len(len)];
     take_part(src, padding, ImageCause::Truncated)?;
-    if padding.iter().any(|byte| *byte != 0) {
+    if !are_zeros(padding) {
         return Err(Stop::Refused(ImageCause::PartPadding));
     }
     Ok(())

@@ -1,0 +1,117 @@
+-- How what the readers of a frame give joins, and what a head without a fault says.
+use Rattle.std.specs.Result.{IsErrAnd}
+use Rattle.std.proofs.Common.{◌≡◌, ℕ, ◌+◌, ◌^◌, ◌<◌, true, false, cond, nat_le, List, length, Option, Some, None, is_some, Result, Ok, Err, refl, sym, ap, subst, ◌∙◌, arith}
+use Rattle.std.specs.Prelude.{◌==◌}
+use Rattle.std.proofs.lemmas.Bool.{not-false, or_parts, leb-false, eq-eqb}
+use Rattle.std.proofs.lemmas.Grind.{common_steps}
+use Rattle.std.specs.Cmp.{nat_cmp_total}
+use Rattle.std.specs.FinMap as maps
+use Rattle.std.specs.FinMap.{len-insert, len-entries, get-entries}
+use Rattle.mig_bytes.specs.declared.part.Stop.{Stop}
+use Rattle.mig_bytes.specs.Fields.{le64}
+use Rattle.mig_bytes.specs.Judged.{Judged, ◌>>=◌, part, Gives}
+use Rattle.mig_bytes.specs.Judged.Judged.{Passes, Faulty}
+use Rattle.mig_bytes.proofs.Joins.{stop, done, judged_so}
+use Rattle.mig_headers.specs.declared.image_fault.ImageCause.{ImageCause}
+use Rattle.mig_headers.specs.declared.image_fault.ImageCause.TheVariants.{Truncated}
+use Rattle.mig_pagetypes.specs.declared.page_type.PageType.{PageType}
+use Rattle.mig_pagetypes.specs.PageTypes.{type_has_data}
+use Rattle.mig_guest.specs.Frames.{is_type_of}
+use Rattle.mig_guest.specs.Hosts.{HostOf, HostFrame, HostFrames, IsHostFrame}
+use Rattle.mig_image.specs.ImageParts.{head_pfn, head_kind, frame_rows, fault_of_frame, frame_head_at, page_at, frame_said, put_frame, frame_at}
+use Rattle.mig_image.proofs.InOrder.{none_passes}
+use Rattle.mig_image.proofs.KeyTests.{frame_absent}
+use Rattle.mig_image.proofs.PartRead.{after, handed_on}
+use Rattle.mig_image.proofs.Rows.{rows_fine}
+
+-- ---- a frame is read
+
+module _ (h : HostOf) where
+  abbrev put_said : List ℕ → Option (List ℕ) × List ℕ → Judged ImageCause HostOf
+  put_said head page = Passes (put_frame h (head_pfn head) (frame_said head page.0)) page.1
+
+  abbrev behind_head : List ℕ × List ℕ → Judged ImageCause HostOf
+  behind_head head = page_at (head_kind head.0) head.1 >>= put_said head.0
+
+  said_after : (head : List ℕ) (j : Judged ImageCause (List ℕ)) → ((j >>= λ page. Passes (Some page.0) page.1) >>= put_said head) ≡ (j >>= λ page. put_said head (Some page.0, page.1))
+  said_after head (Passes page rest) = refl
+  said_after head (Faulty c rest) = refl
+
+  with_page : (head i : List ℕ) → type_has_data (head_kind head) ≡ true → behind_head (head, i) ≡ (part Truncated 4096 i >>= λ page. put_said head (Some page.0, page.1))
+  with_page head i some = ap (λ b. cond b (part Truncated 4096 i >>= λ page. Passes (Some page.0) page.1) (Passes None i) >>= put_said head) some ∙ said_after head (part Truncated 4096 i)
+
+  module _ {Z : Type 0} (Q : Z → HostOf → Type 0) (a b : Option (List ℕ)) (head : List ℕ) (opens : Gives {X = List ℕ} (λ v head. head ≡ v) a b (frame_head_at h) (Ok head)) (kind : PageType) (same : kind ≡ head_kind head) where
+    -- of a type without data
+    pub frame_reads : (z : Z) → type_has_data kind ≡ false → Q z (put_frame h (head_pfn head) (frame_said head None)) → Gives Q a b (frame_at h) (Ok z)
+    frame_reads z none q =
+        let bare : type_has_data (head_kind head) ≡ false = ap type_has_data (sym same) ∙ none in
+        after (λ v. v) Q a b b (frame_head_at h) behind_head head (Ok z) opens
+        (done Q b (λ i. behind_head (head, i)) z _ (λ i. ap (λ t. cond t (part Truncated 4096 i >>= λ page. Passes (Some page.0) page.1) (Passes None i) >>= put_said head) bare) q)
+
+    module _ (some : type_has_data kind ≡ true) (c : Option (List ℕ)) (n : ℕ) (size : n ≡ 4096) (page : List ℕ) where
+      abbrev Reads : Result (Unit {0}) (Stop ImageCause) → Type 0
+      Reads r = Gives {X = Unit {0}} (λ _ bytes. bytes ≡ page) b c (part Truncated n) r
+
+      whole : (r : Result (Unit {0}) (Stop ImageCause)) → Reads r → Gives {X = Unit {0}} (λ _ bytes. bytes ≡ page) b c (part Truncated 4096) r
+      whole r n = subst (λ m. Gives {X = Unit {0}} (λ _ bytes. bytes ≡ page) b c (part Truncated m) r) size n
+
+      behind : (r : Result Z (Stop ImageCause)) → Gives Q b c (λ i. part Truncated 4096 i >>= λ page. put_said head (Some page.0, page.1)) r → Gives Q a c (frame_at h) r
+      behind r n = after (λ v. v) Q a b c (frame_head_at h) behind_head head r opens
+          (judged_so Q b c (λ i. part Truncated 4096 i >>= λ page. put_said head (Some page.0, page.1)) (λ i. behind_head (head, i)) r (λ i. with_page head i (ap type_has_data (sym same) ∙ some)) n)
+
+      -- with its page
+      pub page_reads : (z : Z) → Reads (Ok tt) → Q z (put_frame h (head_pfn head) (frame_said head (Some page))) → Gives Q a c (frame_at h) (Ok z)
+      page_reads z n q =
+          behind (Ok z) (after {V = Unit {0}} (λ _. page) Q b c c (part Truncated 4096) (λ page. put_said head (Some page.0, page.1)) tt (Ok z) (whole (Ok tt) n)
+          (done Q c (λ i. put_said head (Some page, i)) z (put_frame h (head_pfn head) (frame_said head (Some page))) (λ i. refl) q))
+
+      -- the page isn't read
+      pub page_stops : (e : Stop ImageCause) (r : Result Z (Stop ImageCause)) → IsErrAnd r (λ d. d ≡ e) → Reads (Err e) → Gives Q a c (frame_at h) r
+      page_stops e r is n =
+          handed_on Q a c (frame_at h) e r is (behind (Err e) (stop {W = Unit {0}} (λ _ bytes. bytes ≡ page) Q b c (part Truncated 4096) (λ page. put_said head (Some page.0, page.1)) e (whole (Err e) n)))
+
+-- ---- a frame whose head has no fault
+
+-- one more
+pub frames_more : (frames : HostFrames) (pfn : ℕ) (frame : HostFrame) → maps.get frames pfn ≡ None → length (maps.entries (maps.insert frames pfn frame)) ≡ length (maps.entries frames) + 1
+frames_more frames pfn frame absent =
+    sym (len-entries (maps.insert frames pfn frame)) ∙ len-insert nat_cmp_total frames pfn frame ∙ ap (λ o. cond (is_some o) (maps.len frames) (maps.len frames + 1)) absent ∙ ap (λ n. n + 1) (len-entries frames)
+
+module _ (h : HostOf) (head : List ℕ) (fine : fault_of_frame h head ≡ None) where
+  -- no frame has its number
+  pub is_absent : (pfn : ℕ) → pfn ≡ head_pfn head → maps.get h.frames pfn ≡ None
+  is_absent pfn is =
+      let (zero, (type, (order, others))) = rows_fine (frame_rows h head) fine in
+      ap (maps.get h.frames) is ∙ frame_absent h.frames (head_pfn head) order
+
+  -- no frame has its machine frame
+  pub is_unused : (machine : ℕ) → machine ≡ le64 head 8 → (other : ℕ) (frame : HostFrame) → maps.get h.frames other ≡ Some frame → frame.machine ≡ machine → ⊥
+  is_unused machine is other frame found same =
+      let (zero, (type, (order, (outside, (range, (twice, done)))))) = rows_fine (frame_rows h head) fine in
+      let wrong : true ≡ false = sym (eq-eqb frame.machine (le64 head 8) (same ∙ is)) ∙ none_passes nat_cmp_total (λ (f : HostFrame). f.machine == le64 head 8) other frame (maps.entries h.frames) twice (sym (get-entries h.frames other) ∙ found) in cc
+
+  -- it is one that a host has
+  pub is_frame : (pfn machine : ℕ) (kind : PageType) (page : List ℕ) → pfn ≡ head_pfn head → machine ≡ le64 head 8 → kind ≡ head_kind head → type_has_data kind ≡ true → length page ≡ 4096
+      → IsHostFrame h.kind h.width pfn (record { kind = kind; machine = machine; page = Some page })
+  is_frame pfn machine kind page pfn_is machine_is kind_is some size =
+      let (zero, (type, (order, (outside, (range, others))))) = rows_fine (frame_rows h head) fine in
+      let (none, wide) = or_parts (le64 head 8 == 0) (nat_le (2 ^ 40) (le64 head 8)) range in
+      record {
+        inside = subst (λ n. n < h.width) (sym pfn_is) (leb-false h.width (head_pfn head) outside);
+        type = ap (is_type_of h.kind) kind_is ∙ not-false (is_type_of h.kind (head_kind head)) type;
+        some_machine = subst (λ n. 0 < n) (sym machine_is) (some_number (le64 head 8) none);
+        machine = subst (λ n. n < 2 ^ 40) (sym machine_is) (leb-false (2 ^ 40) (le64 head 8) wide);
+        in_step = sym some;
+        whole = λ other e. ap length (same_page other e) ∙ size;
+      }
+    where
+      some_number : (n : ℕ) → (n == 0) ≡ false → 0 < n
+      some_number n ne = grind (arith, common_steps)
+
+      same_page : (other : List ℕ) → Some page ≡ Some other → other ≡ page
+      same_page other e = cc
+
+-- the frame that is set is the one that the head and the page say
+pub said_is : (h : HostOf) (head : List ℕ) (pfn machine : ℕ) (kind : PageType) (page : Option (List ℕ)) → pfn ≡ head_pfn head → machine ≡ le64 head 8 → kind ≡ head_kind head
+    → put_frame h pfn (record { kind = kind; machine = machine; page = page }) ≡ put_frame h (head_pfn head) (frame_said head page)
+said_is h head pfn machine kind page p m k i = put_frame h (p i) (record { kind = k i; machine = m i; page = page })

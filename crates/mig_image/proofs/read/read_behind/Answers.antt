@@ -1,0 +1,16 @@
+use Rattle.std.proofs.Common.{◌≡◌, ◌∙◌, ap, length, rules}
+use Rattle.std.specs.Ordering.{nat_cmp}
+use Rattle.std.specs.FinMap as maps
+use Rattle.mig_guest.specs.Hosts.{HostOf, HostFrame}
+use Rattle.mig_image.specs.ImageParts.{opened}
+use Rattle.mig_image.proofs.ImageRead.{behind_reads}
+use Rattle.mig_image.proofs.InOrder.{no_entries}
+use Rattle.mig_image.proofs.read.read_behind.Goals as goal
+
+pub read_frames-requires-clause-none : goal.read_frames-requires-clause-none
+read_frames-requires-clause-none g c = ap (λ (h : HostOf). length (maps.entries h.frames)) c.new-host.ensures ∙ ap length (no_entries nat_cmp HostFrame)
+
+pub returns-clause-read : goal.returns-clause-read
+returns-clause-read g c =
+    let is : c.new-host.result ≡ opened c.args.head.now = search rules in
+    behind_reads c.args.head.now c.new-host.result is c.u64_le-2.result c.u64_le-2.ensures _ _ _ _ c.read_frames.new.host c.read_parts.new.host c.in-Ok.count c.in_ok-read_frames.ensures.read c.in-Ok.ensures.read c.in_ok-read_parts.ensures.read
