@@ -2,4 +2,6 @@ pub mod HostEntries
 pub mod HostMaps
 pub mod HostsMade
 pub mod MachineMaps
+pub mod Ranks
+pub mod RestoredHosts
 pub mod Samples
