@@ -214,26 +214,26 @@ module _ (g : GuestOf) (base : ℕ) where
     small_width : width_of (maps.entries g.frames) ≤ 2 ^ 28
     small_width = frames_inside g.frames (2 ^ 28) (λ k ge. outside_none k (maps.get g.frames k) ge refl)
 
-    host_frame : 0 < base → base + length (maps.entries g.frames) ≤ 2 ^ 40 → (pfn : ℕ) (f : FrameOf) → maps.get g.frames pfn ≡ Some f → IsHostFrame g.kind (width_of (maps.entries g.frames)) pfn (with_machine f (machine_of pfn))
-    host_frame some room pfn f is = record {
+    host_frame : (0 < base) × (base + length (maps.entries g.frames) ≤ 2 ^ 40) → (pfn : ℕ) (f : FrameOf) → maps.get g.frames pfn ≡ Some f → IsHostFrame g.kind (width_of (maps.entries g.frames)) pfn (with_machine f (machine_of pfn))
+    host_frame range pfn f is = record {
       inside = frame_inside g.frames pfn f is;
       type = host_type g.kind f.kind whole.hvm (whole.types pfn f is);
-      some_machine = omega (arith, some);
-      machine = omega (arith, room, rank_small g.frames pfn f is);
+      some_machine = omega (arith, range.0);
+      machine = omega (arith, range.1, rank_small g.frames pfn f is);
       in_step = (whole.frames pfn f is).1.in_step;
       whole = (whole.frames pfn f is).1.whole;
     }
 
-    host_frames : 0 < base → base + length (maps.entries g.frames) ≤ 2 ^ 40 → (pfn : ℕ) (frame : HostFrame) → maps.get (with_machines g.frames machine_of) pfn ≡ Some frame → IsHostFrame g.kind (width_of (maps.entries g.frames)) pfn frame
-    host_frames some room pfn frame is =
+    host_frames : (0 < base) × (base + length (maps.entries g.frames) ≤ 2 ^ 40) → (pfn : ℕ) (frame : HostFrame) → maps.get (with_machines g.frames machine_of) pfn ≡ Some frame → IsHostFrame g.kind (width_of (maps.entries g.frames)) pfn frame
+    host_frames range pfn frame is =
         let (f, f_is, same) = from_guest pfn frame is in
-        subst (IsHostFrame g.kind (width_of (maps.entries g.frames)) pfn) same (host_frame some room pfn f f_is)
+        subst (IsHostFrame g.kind (width_of (maps.entries g.frames)) pfn) same (host_frame range pfn f f_is)
 
-    pub whole_is_valid : 0 < base → base + length (maps.entries g.frames) ≤ 2 ^ 40 → IsValid (hosted g base)
-    whole_is_valid some room = record {
+    pub whole_is_valid : (0 < base) × (base + length (maps.entries g.frames) ≤ 2 ^ 40) → IsValid (hosted g base)
+    whole_is_valid range = record {
       width = small_width;
       some_width = λ pv. absurd (let no : Pv ≡ Hvm = sym pv ∙ whole.hvm in cc);
-      frames = host_frames some room;
+      frames = host_frames range;
       one_to_one = one_to_one;
       few = omega (arith, whole.few, count_with_machines g.frames machine_of);
       parts = λ key bytes is. subst (λ (k : Kind). IsHostPart k (width_of (maps.entries g.frames)) key bytes) (sym whole.hvm) (host_part (width_of (maps.entries g.frames)) key bytes (whole.parts key bytes is));
@@ -242,7 +242,7 @@ module _ (g : GuestOf) (base : ℕ) where
     }
 
 pub hosted_valid : (guest : GuestOf) (base : ℕ) → IsWhole guest → (IsBaseOutside guest base → ⊥) → IsValid (hosted guest base)
-hosted_valid g base whole inside = whole_is_valid g base whole (positive base (λ e. inside (inl e))) (elim (cases_lt (2 ^ 40) (base + length (maps.entries g.frames))) [ inl lt ↦ absurd (inside (inr lt)) | inr ge ↦ ge ])
+hosted_valid g base whole inside = whole_is_valid g base whole (positive base (λ e. inside (inl e)), elim (cases_lt (2 ^ 40) (base + length (maps.entries g.frames))) [ inl lt ↦ absurd (inside (inr lt)) | inr ge ↦ ge ])
   where
     positive : (n : ℕ) → n ≢ 0 → 0 < n
     positive n ne = elim (cases_lt 0 n) [ inl lt ↦ lt | inr ge ↦ absurd (ne (omega (arith, ge))) ]
