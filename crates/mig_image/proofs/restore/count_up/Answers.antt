@@ -1,7 +1,6 @@
-use Rattle.std.proofs.Common.{◌≡◌, ◌+◌, ◌<◌, ◌≤◌, ℕ, length, None, rules, sym, ap, subst, ◌∙◌, arith}
+use Rattle.std.proofs.Common.{◌≡◌, ◌+◌, ◌≤◌, ℕ, None, rules, sym, subst, arith}
 use Rattle.std.specs.FinMap as maps
 use Rattle.mig_image.specs.HostView.{MachineMap}
-use Rattle.mig_image.specs.Hosted.{rank_in, width_of}
 use Rattle.mig_image.proofs.Ranks.{rank_small, rank_full, frames_inside}
 use Rattle.mig_image.proofs.RestoredHosts.{AreCounted, some_value, counted_none, counted_all, counted_unused, next_rank, counted_more}
 use Rattle.mig_image.proofs.restore.count_up.Goals as goal

@@ -1,7 +1,7 @@
 use Rattle.std.proofs.Common.{◌≡◌, ℕ, ◌+◌, ◌<◌, ◌≤◌, ◌⊎◌, ◌^◌, Result, Ok, Err, length, sym, subst, ◌∙◌, refl, inl, inr, arith}
 use Rattle.std.specs.FinMap as maps
 use Rattle.mig_guest.specs.Guests.{GuestOf}
-use Rattle.mig_guest.specs.Hosts.{HostOf, IsValid}
+use Rattle.mig_guest.specs.Hosts.{IsValid}
 use Rattle.mig_image.specs.Hosted.{IsBaseOutside}
 use Rattle.mig_image.specs.declared.restore.HostAnswer.{HostAnswer}
 use Rattle.mig_image.specs.declared.restore.HostAnswer.TheVariants.{BaseRange, Memory}
