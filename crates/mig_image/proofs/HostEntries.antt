@@ -28,13 +28,13 @@ not_tied Equal t = absurd t
 not_tied Greater t = absurd t
 
 module _ {X : Type 0} where
-  none_below : (q : ℕ) (es : List (ℕ × X)) → T (below_all nat_cmp q es) → find nat_cmp q es ≡ None
+  pub none_below : (q : ℕ) (es : List (ℕ × X)) → T (below_all nat_cmp q es) → find nat_cmp q es ≡ None
   none_below q [] h = refl
   none_below q (e ∷ es) h =
       let (first, others) = both_of (is_lt (nat_cmp q e.0)) (below_all nat_cmp q es) h in
       ap (λ b. cond b (Some e.1) (find nat_cmp q es)) (not_tied (nat_cmp q e.0) first) ∙ none_below q es others
 
-  found_at : (e : ℕ × X) (es : List (ℕ × X)) → find nat_cmp e.0 (e ∷ es) ≡ Some e.1
+  pub found_at : (e : ℕ × X) (es : List (ℕ × X)) → find nat_cmp e.0 (e ∷ es) ≡ Some e.1
   found_at e es = ap (λ b. cond b (Some e.1) (find nat_cmp e.0 es)) ((eq_by_cmp_equiv nat_cmp_total).refl e.0)
 
   later_case : (q : ℕ) (e : ℕ × X) (es : List (ℕ × X)) (v : X) (b : Bool) → eq_by_cmp nat_cmp q e.0 ≡ b → T (below_all nat_cmp e.0 es) → find nat_cmp q es ≡ Some v → cond b (Some e.1) (find nat_cmp q es) ≡ Some v

@@ -6,6 +6,8 @@ pub mod ImageRead
 pub mod InOrder
 pub mod KeyTests
 pub mod MachineMaps
+pub mod Ranks
+pub mod RestoredHosts
 pub mod Samples
 pub mod FieldBytes
 pub mod FrameChains

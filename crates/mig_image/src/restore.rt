@@ -1,4 +1,4 @@
-ghost use Rattle.std.specs.Prelude.{◌≡◌, ℕ, ◌+◌, ◌≤◌, ◌^◌, ◌↔◌, IfOk, Err, IsSome, length};
+ghost use Rattle.std.specs.Prelude.{◌≡◌, ◌⊎◌, ℕ, ◌+◌, ◌<◌, ◌≤◌, ◌^◌, ◌↔◌, true, false, IfOk, Err, IsSome, length};
 ghost use Rattle.std.specs.FinMap as maps;
 ghost use Rattle.std.specs.Option.{option_map};
 ghost use Rattle.mig_pvtables.specs.Whole.{IsWhole};
@@ -27,7 +27,10 @@ pub enum HostAnswer {
 }
 
 /// Whether the machine frames of so many frames, counted up from the base, don't lie from 1 to 2^40 - 1.
-fn is_outside(base: u64, frames: u64) -> bool {
+fn is_outside(base: u64, frames: u64) -> bool
+    ensures yes { result ≡ true → (base ≡ 0) ⊎ (2 ^ 40 < base + frames) }
+    ensures no { result ≡ false → (0 < base) × (base + frames ≤ 2 ^ 40) }
+{
     base == 0 || base > MACHINE_LIMIT || frames > MACHINE_LIMIT - base
 }
 

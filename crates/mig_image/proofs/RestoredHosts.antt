@@ -1,0 +1,248 @@
+-- Machine frames that are counted up from a base, and the host that a whole guest becomes with them.
+use Rattle.std.proofs.Common.{◌≡◌, ◌≢◌, ℕ, ◌+◌, ◌<◌, ◌≤◌, ◌^◌, true, false, length, List, Option, Some, None, is_some, IsSome, refl, sym, ap, subst, ◌∙◌, inl, inr, arith}
+use Rattle.std.specs.Prelude.{◌&&◌, unwrap_or}
+use Rattle.std.specs.Option.{option_map}
+use Rattle.std.specs.Ordering.{nat_cmp}
+use Rattle.std.specs.Cmp.{nat_cmp_total}
+use Rattle.std.specs.FinMap as maps
+use Rattle.std.specs.FinMap.{nat_cmp-IsAntisymmetric, same_map, get-empty}
+use Rattle.std.proofs.lemmas.Bool.{cases_lt, cases_order, lt-ltb, le-leb, eq-eqb}
+use Rattle.mig_headers.specs.declared.kind.Kind.{Kind}
+use Rattle.mig_headers.specs.declared.kind.Kind.TheVariants.{Pv, Hvm}
+use Rattle.mig_pagetypes.specs.declared.page_type.PageType.{PageType}
+use Rattle.mig_guest.specs.declared.part_code.PartCode.TheVariants.{Tsc, HvmContext, HvmParam, CpuidLeaf, Msr, EmulatorPairs}
+use Rattle.mig_guest.specs.declared.part_key.PartKey.{PartKey}
+use Rattle.mig_guest.specs.Frames.{FrameOf, FrameMap, is_type_of}
+use Rattle.mig_guest.specs.Guests.{GuestOf}
+use Rattle.mig_guest.specs.Hosts.{HostFrame, HostFrames, IsHostFrame, IsHostPart, IsOneToOne, IsValid}
+use Rattle.mig_pvtables.specs.Whole.{IsWhole, IsHvmPart, is_hvm_type, tsc, context, param, leaf, msr}
+use Rattle.mig_image.specs.HostView.{MachineMap, with_machine, with_machines, machine_in, host_seen, AreMatched}
+use Rattle.mig_image.specs.Hosted.{rank_in, width_of, hosted, IsBaseOutside}
+use Rattle.mig_image.proofs.HostMaps.{joined, get_with_machines, count_with_machines}
+use Rattle.mig_image.proofs.MachineMaps.{got_put, got_other, same_value, nothing}
+use Rattle.mig_image.proofs.Ranks.{rank_small, frames_inside, rank_strict, rank_step, rank_gap, rank_zero, frame_inside}
+
+pub some_value : {X : Type 0} (o : Option X) → IsSome o → (x : X) × (o ≡ Some x)
+some_value None is = let no : false ≡ true = is in cc
+some_value (Some x) is = (x, refl)
+
+module _ (frames : FrameMap) (base : ℕ) where
+  -- the machine frame of a number that has a frame
+  abbrev pub counted_at : ℕ → Option ℕ
+  counted_at pfn = option_map (λ _. base + rank_in frames pfn) (maps.get frames pfn)
+
+  -- the frames below a number have their machine frames
+  pub record AreCounted (from i : ℕ) (machines : MachineMap) : Type 0 where
+    pub below : (pfn : ℕ) → pfn < from → maps.get machines pfn ≡ counted_at pfn
+    pub above : (pfn : ℕ) → from ≤ pfn → maps.get machines pfn ≡ None
+    pub rank : rank_in frames from ≡ i
+    pub width : from ≤ width_of (maps.entries frames)
+
+  none_at : (pfn : ℕ) → maps.get frames pfn ≡ None → counted_at pfn ≡ None
+  none_at pfn is = ap (option_map (λ _. base + rank_in frames pfn)) is
+
+  -- nothing lies below 0
+  pub counted_none : AreCounted 0 0 maps.empty
+  counted_none = record {
+    below = λ pfn lt. absurd (omega (arith, lt));
+    above = λ pfn ge. get-empty nat_cmp pfn;
+    rank = rank_zero frames;
+    width = omega arith;
+  }
+
+  module _ (from i : ℕ) (machines : MachineMap) (counted : AreCounted from i machines) where
+    pub counted_all : ((k : ℕ) → from ≤ k → maps.get frames k ≡ None) → (pfn : ℕ) → maps.get machines pfn ≡ counted_at pfn
+    counted_all none pfn = elim (cases_lt pfn from) [
+      | inl lt ↦ counted.below pfn lt
+      | inr ge ↦ counted.above pfn ge ∙ sym (none_at pfn (none pfn ge))
+    ]
+
+    unused_case : (other : ℕ) → other < from → maps.get machines other ≡ Some (base + i) → (o : Option FrameOf) → maps.get frames other ≡ o → ⊥
+    unused_case other lt has None is = nothing (base + i) (sym (none_at other is) ∙ sym (counted.below other lt) ∙ has)
+    unused_case other lt has (Some f) is =
+        let same = same_value (base + rank_in frames other) (base + i) (sym (ap (option_map (λ _. base + rank_in frames other)) is) ∙ sym (counted.below other lt) ∙ has) in
+        omega (arith, same, counted.rank, rank_strict frames other from f lt is)
+
+    -- no number has the next machine frame
+    pub counted_unused : (other : ℕ) → maps.get machines other ≡ Some (base + i) → ⊥
+    counted_unused other has = elim (cases_lt other from) [
+      | inl lt ↦ unused_case other lt has (maps.get frames other) refl
+      | inr ge ↦ nothing (base + i) (sym (counted.above other ge) ∙ has)
+    ]
+
+    module _ (pfn : ℕ) (f : FrameOf) (is : maps.get frames pfn ≡ Some f) (le : from ≤ pfn) (none : (k : ℕ) → from ≤ k → k < pfn → maps.get frames k ≡ None) where
+      pub next_rank : rank_in frames pfn ≡ i
+      next_rank = rank_gap frames from pfn le none ∙ counted.rank
+
+      abbrev more : MachineMap
+      more = maps.insert machines pfn (base + i)
+
+      below_other : (q : ℕ) → q < pfn → maps.get machines q ≡ counted_at q
+      below_other q small = elim (cases_lt q from) [
+        | inl lt ↦ counted.below q lt
+        | inr ge ↦ counted.above q ge ∙ sym (none_at q (none q ge small))
+      ]
+
+      below_more : (q : ℕ) → q < pfn + 1 → maps.get more q ≡ counted_at q
+      below_more q small = elim (cases_lt q pfn) [
+        | inl lt ↦ got_other machines pfn (base + i) q (λ e. omega (arith, e, lt)) ∙ below_other q lt
+        | inr ge ↦
+            subst (λ n. maps.get more n ≡ counted_at n) (let e : pfn ≡ q = omega (arith, ge, small) in e)
+            (got_put machines pfn (base + i) ∙ ap (λ n. Some (base + n)) (sym next_rank) ∙ sym (ap (option_map (λ _. base + rank_in frames pfn)) is))
+      ]
+
+      -- the next frame gets the next machine frame
+      pub counted_more : AreCounted (pfn + 1) (i + 1) more
+      counted_more = record {
+        below = below_more;
+        above = λ q ge. got_other machines pfn (base + i) q (λ e. omega (arith, e, ge)) ∙ counted.above q (omega (arith, le, ge));
+        rank = rank_step frames pfn f is ∙ ap (λ n. n + 1) next_rank;
+        width = omega (arith, frame_inside frames pfn f is);
+      }
+
+-- ---- the host that a whole guest becomes
+
+-- a part of an HVM guest is one of an HVM host
+host_part : (width : ℕ) (key : PartKey) (bytes : List ℕ) → IsHvmPart key bytes → IsHostPart Hvm width key bytes
+host_part width key bytes (tsc bytes' size) = record {
+  code = Tsc;
+  numbered = refl;
+  of_kind = refl;
+  keys = refl;
+  small1 = omega arith;
+  small2 = omega arith;
+  allowed = eq-eqb (length bytes) 20 size;
+  pairs = λ e. let no : Tsc ≡ EmulatorPairs = e in cc;
+}
+host_part width key bytes (context bytes' size) = record {
+  code = HvmContext;
+  numbered = refl;
+  of_kind = refl;
+  keys = refl;
+  small1 = omega arith;
+  small2 = omega arith;
+  allowed = le-leb (length bytes) (2 ^ 27) size;
+  pairs = λ e. let no : HvmContext ≡ EmulatorPairs = e in cc;
+}
+host_part width key bytes (param index bytes' small size) = record {
+  code = HvmParam;
+  numbered = refl;
+  of_kind = refl;
+  keys = ap (λ b. b && true) (lt-ltb index 4096 small);
+  small1 = omega (arith, small);
+  small2 = omega arith;
+  allowed = eq-eqb (length bytes) 8 size;
+  pairs = λ e. let no : HvmParam ≡ EmulatorPairs = e in cc;
+}
+host_part width key bytes (leaf l s bytes' small1 small2 size) = record {
+  code = CpuidLeaf;
+  numbered = refl;
+  of_kind = refl;
+  keys = refl;
+  small1 = small1;
+  small2 = small2;
+  allowed = eq-eqb (length bytes) 16 size;
+  pairs = λ e. let no : CpuidLeaf ≡ EmulatorPairs = e in cc;
+}
+host_part width key bytes (msr index bytes' small size) = record {
+  code = Msr;
+  numbered = refl;
+  of_kind = refl;
+  keys = refl;
+  small1 = small;
+  small2 = omega arith;
+  allowed = eq-eqb (length bytes) 12 size;
+  pairs = λ e. let no : Msr ≡ EmulatorPairs = e in cc;
+}
+
+module _ (g : GuestOf) (base : ℕ) where
+  abbrev machine_of : ℕ → ℕ
+  machine_of pfn = base + rank_in g.frames pfn
+
+  module _ (width : ℕ) (machines : MachineMap) (counted : (pfn : ℕ) → maps.get machines pfn ≡ counted_at g.frames base pfn) where
+    is_there : (m : ℕ) (o : Option FrameOf) → is_some (option_map (λ (_ : FrameOf). m) o) ≡ is_some o
+    is_there m None = refl
+    is_there m (Some f) = refl
+
+    pub counted_matched : AreMatched g.frames machines
+    counted_matched pfn = ap is_some (counted pfn) ∙ is_there (machine_of pfn) (maps.get g.frames pfn)
+
+    same_frame : (pfn : ℕ) (s : Option ℕ) (o : Option FrameOf) → s ≡ option_map (λ _. machine_of pfn) o
+        → option_map (λ (f : FrameOf). with_machine f (unwrap_or s 0)) o ≡ option_map (λ (f : FrameOf). with_machine f (machine_of pfn)) o
+    same_frame pfn s None e = refl
+    same_frame pfn s (Some f) e = ap (λ (o : Option ℕ). Some (with_machine f (unwrap_or o 0))) e
+
+    same_frames : joined g.frames machines ≡ with_machines g.frames machine_of
+    same_frames = same_map nat_cmp_total nat_cmp-IsAntisymmetric _ _ (λ pfn.
+        get_with_machines g.frames (machine_in machines) pfn ∙ same_frame pfn (maps.get machines pfn) (maps.get g.frames pfn) (counted pfn)
+        ∙ sym (get_with_machines g.frames machine_of pfn))
+
+    pub seen_hosted : width ≡ width_of (maps.entries g.frames) → host_seen g width machines ≡ hosted g base
+    seen_hosted is =
+        ap (λ (w : ℕ). host_seen g w machines) is
+        ∙ ap (λ (m : HostFrames). record { kind = g.kind; width = width_of (maps.entries g.frames); frames = m; parts = g.parts }) same_frames
+
+  restored : (pfn : ℕ) (frame : HostFrame) (o : Option FrameOf) → option_map (λ (f : FrameOf). with_machine f (machine_of pfn)) o ≡ Some frame → (f : FrameOf) × (o ≡ Some f) × (with_machine f (machine_of pfn) ≡ frame)
+  restored pfn frame None is = let no : None ≡ Some frame = is in cc
+  restored pfn frame (Some f) is = (f, refl, same_value (with_machine f (machine_of pfn)) frame is)
+
+  -- a frame of the host is one of the guest with its machine frame
+  from_guest : (pfn : ℕ) (frame : HostFrame) → maps.get (with_machines g.frames machine_of) pfn ≡ Some frame → (f : FrameOf) × (maps.get g.frames pfn ≡ Some f) × (with_machine f (machine_of pfn) ≡ frame)
+  from_guest pfn frame is = restored pfn frame (maps.get g.frames pfn) (sym (get_with_machines g.frames machine_of pfn) ∙ is)
+
+  one_to_one : IsOneToOne (with_machines g.frames machine_of)
+  one_to_one p q f h has gets alike =
+      let (a, a_is, a_same) = from_guest p f has in
+      let (b, b_is, b_same) = from_guest q h gets in
+      let same : machine_of p ≡ machine_of q = ap (λ (x : HostFrame). x.machine) a_same ∙ alike ∙ sym (ap (λ (x : HostFrame). x.machine) b_same) in
+      elim (cases_order p q) [
+        | inl e ↦ e
+        | inr apart ↦ elim apart [
+          | inl lt ↦ absurd (omega (arith, same, rank_strict g.frames p q a lt a_is))
+          | inr gt ↦ absurd (omega (arith, same, rank_strict g.frames q p b gt b_is))
+        ]
+      ]
+
+  module _ (whole : IsWhole g) where
+    host_type : (kind : Kind) (type : PageType) → kind ≡ Hvm → is_hvm_type type ≡ true → is_type_of kind type ≡ true
+    host_type kind type is fine = ap (λ (k : Kind). is_type_of k type) is ∙ fine
+
+    outside_none : (k : ℕ) (o : Option FrameOf) → 2 ^ 28 ≤ k → maps.get g.frames k ≡ o → o ≡ None
+    outside_none k None ge is = refl
+    outside_none k (Some f) ge is = absurd (omega (arith, ge, (whole.frames k f is).0))
+
+    small_width : width_of (maps.entries g.frames) ≤ 2 ^ 28
+    small_width = frames_inside g.frames (2 ^ 28) (λ k ge. outside_none k (maps.get g.frames k) ge refl)
+
+    host_frame : (0 < base) × (base + length (maps.entries g.frames) ≤ 2 ^ 40) → (pfn : ℕ) (f : FrameOf) → maps.get g.frames pfn ≡ Some f → IsHostFrame g.kind (width_of (maps.entries g.frames)) pfn (with_machine f (machine_of pfn))
+    host_frame range pfn f is = record {
+      inside = frame_inside g.frames pfn f is;
+      type = host_type g.kind f.kind whole.hvm (whole.types pfn f is);
+      some_machine = omega (arith, range.0);
+      machine = omega (arith, range.1, rank_small g.frames pfn f is);
+      in_step = (whole.frames pfn f is).1.in_step;
+      whole = (whole.frames pfn f is).1.whole;
+    }
+
+    host_frames : (0 < base) × (base + length (maps.entries g.frames) ≤ 2 ^ 40) → (pfn : ℕ) (frame : HostFrame) → maps.get (with_machines g.frames machine_of) pfn ≡ Some frame → IsHostFrame g.kind (width_of (maps.entries g.frames)) pfn frame
+    host_frames range pfn frame is =
+        let (f, f_is, same) = from_guest pfn frame is in
+        subst (IsHostFrame g.kind (width_of (maps.entries g.frames)) pfn) same (host_frame range pfn f f_is)
+
+    pub whole_is_valid : (0 < base) × (base + length (maps.entries g.frames) ≤ 2 ^ 40) → IsValid (hosted g base)
+    whole_is_valid range = record {
+      width = small_width;
+      some_width = λ pv. absurd (let no : Pv ≡ Hvm = sym pv ∙ whole.hvm in cc);
+      frames = host_frames range;
+      one_to_one = one_to_one;
+      few = omega (arith, whole.few, count_with_machines g.frames machine_of);
+      parts = λ key bytes is. subst (λ (k : Kind). IsHostPart k (width_of (maps.entries g.frames)) key bytes) (sym whole.hvm) (host_part (width_of (maps.entries g.frames)) key bytes (whole.parts key bytes is));
+      leaves = whole.leaves;
+      msrs = whole.msrs;
+    }
+
+pub hosted_valid : (guest : GuestOf) (base : ℕ) → IsWhole guest → (IsBaseOutside guest base → ⊥) → IsValid (hosted guest base)
+hosted_valid g base whole inside = whole_is_valid g base whole (positive base (λ e. inside (inl e)), elim (cases_lt (2 ^ 40) (base + length (maps.entries g.frames))) [ inl lt ↦ absurd (inside (inr lt)) | inr ge ↦ ge ])
+  where
+    positive : (n : ℕ) → n ≢ 0 → 0 < n
+    positive n ne = elim (cases_lt 0 n) [ inl lt ↦ lt | inr ge ↦ absurd (ne (omega (arith, ge))) ]
