@@ -22,7 +22,7 @@ use Rattle.mig_image.specs.ImageParts.{head_pfn, head_kind, frame_rows, fault_of
 use Rattle.mig_image.proofs.InOrder.{none_passes}
 use Rattle.mig_image.proofs.KeyTests.{frame_absent}
 use Rattle.mig_image.proofs.PartRead.{after, handed_on}
-use Rattle.mig_image.proofs.Rows.{rows_fine}
+use Rattle.mig_headers.proofs.FirstFaults.{rows_fine}
 
 -- ---- a frame is read
 

@@ -20,7 +20,7 @@ use Rattle.mig_image.specs.declared.read_part.Entries.{Entries}
 use Rattle.mig_image.specs.ImageParts.{head_key, code_fits, code_allows, has_part_from, is_full, part_rows, fault_of_part, fault_of_bytes}
 use Rattle.mig_image.specs.PartCounts.{Counts}
 use Rattle.mig_image.proofs.InOrder.{entries_behind, found_passes, no_entries}
-use Rattle.mig_image.proofs.Rows.{rows_fine}
+use Rattle.mig_headers.proofs.FirstFaults.{rows_fine}
 
 -- ---- a part that a host has
 
