@@ -4,4 +4,5 @@ pub mod HostsMade
 pub mod MachineMaps
 pub mod Ranks
 pub mod RestoredHosts
+pub mod RestoredSamples
 pub mod Samples
