@@ -1,10 +1,10 @@
-use Rattle.std.proofs.Common.{◌≡◌, ℕ, ◌≤◌, ◌^◌, replicate, Some, sym, ap, subst, ◌∙◌, arith, refl}
+use Rattle.std.proofs.Common.{ℕ, sym, ap, subst, ◌∙◌, arith}
 use Rattle.std.specs.FinMap as maps
 use Rattle.mig_guest.specs.Guests.{GuestOf}
 use Rattle.mig_guest.specs.Parts.{PartMap, FitsPolicy}
 use Rattle.mig_guest.specs.PartKeys.{context_key}
 use Rattle.mig_guest.proofs.PartOrder.{part_total}
-use Rattle.mig_pvtables.specs.Whole.{IsHvmPart, context}
+use Rattle.mig_pvtables.specs.Whole.{context}
 use Rattle.mig_image.proofs.Samples.{first_fits}
 use Rattle.mig_image.proofs.RestoredSamples.{chain, sample_new, sample_part, sample_whole}
 use Rattle.mig_image.proofs.restore.tests.bare_guest.Goals as goal

@@ -1,10 +1,10 @@
-use Rattle.std.proofs.Common.{◌≡◌, ℕ, ◌≤◌, ◌^◌, List, length, replicate, Some, sym, ap, subst, ◌∙◌, arith, refl}
+use Rattle.std.proofs.Common.{◌≡◌, ℕ, List, replicate, sym, ap, subst, ◌∙◌, arith, refl}
 use Rattle.std.specs.FinMap as maps
 use Rattle.mig_guest.specs.Guests.{GuestOf}
 use Rattle.mig_guest.specs.Parts.{PartMap, FitsPolicy}
 use Rattle.mig_guest.specs.PartKeys.{context_key, param_key}
 use Rattle.mig_guest.proofs.PartOrder.{part_total}
-use Rattle.mig_pvtables.specs.Whole.{IsHvmPart, context, param}
+use Rattle.mig_pvtables.specs.Whole.{context, param}
 use Rattle.mig_image.proofs.Samples.{second_fits}
 use Rattle.mig_image.proofs.RestoredSamples.{chain, IsSample, sample_new, sample_frame, sample_part, sample_whole}
 use Rattle.mig_image.proofs.restore.tests.small_guest.Goals as goal
