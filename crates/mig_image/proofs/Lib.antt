@@ -8,6 +8,7 @@ pub mod KeyTests
 pub mod MachineMaps
 pub mod Ranks
 pub mod RestoredHosts
+pub mod RestoredSamples
 pub mod Samples
 pub mod FieldBytes
 pub mod FrameChains

@@ -37,6 +37,7 @@ module _ (frames : FrameMap) (base : ℕ) where
     pub above : (pfn : ℕ) → from ≤ pfn → maps.get machines pfn ≡ None
     pub rank : rank_in frames from ≡ i
     pub width : from ≤ width_of (maps.entries frames)
+    pub few : i ≤ length (maps.entries frames)
 
   none_at : (pfn : ℕ) → maps.get frames pfn ≡ None → counted_at pfn ≡ None
   none_at pfn is = ap (option_map (λ _. base + rank_in frames pfn)) is
@@ -48,6 +49,7 @@ module _ (frames : FrameMap) (base : ℕ) where
     above = λ pfn ge. get-empty nat_cmp pfn;
     rank = rank_zero frames;
     width = omega arith;
+    few = omega arith;
   }
 
   module _ (from i : ℕ) (machines : MachineMap) (counted : AreCounted from i machines) where
@@ -71,7 +73,7 @@ module _ (frames : FrameMap) (base : ℕ) where
     ]
 
     module _ (pfn : ℕ) (f : FrameOf) (is : maps.get frames pfn ≡ Some f) (le : from ≤ pfn) (none : (k : ℕ) → from ≤ k → k < pfn → maps.get frames k ≡ None) where
-      pub next_rank : rank_in frames pfn ≡ i
+      next_rank : rank_in frames pfn ≡ i
       next_rank = rank_gap frames from pfn le none ∙ counted.rank
 
       abbrev more : MachineMap
@@ -98,6 +100,7 @@ module _ (frames : FrameMap) (base : ℕ) where
         above = λ q ge. got_other machines pfn (base + i) q (λ e. omega (arith, e, ge)) ∙ counted.above q (omega (arith, le, ge));
         rank = rank_step frames pfn f is ∙ ap (λ n. n + 1) next_rank;
         width = omega (arith, frame_inside frames pfn f is);
+        few = omega (arith, next_rank, rank_small frames pfn f is);
       }
 
 -- ---- the host that a whole guest becomes

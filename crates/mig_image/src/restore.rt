@@ -69,3 +69,113 @@ pub fn host_of(alloc: Global, guest: Guest, base: u64) -> Result<Host, HostAnswe
         Err(Memory) => Err(HostAnswer::Memory),
     }
 }
+
+#[cfg(test)]
+mod tests {
+    use super::*;
+    use mig_guest::PartKey;
+    use mig_headers::Kind;
+    use mig_pagetypes::PageType;
+    use std::test::Fail;
+
+    const CONTEXT: PartKey = PartKey {
+        code: 9,
+        key1: 0,
+        key2: 0,
+    };
+
+    const PARAM: PartKey = PartKey {
+        code: 10,
+        key1: 3,
+        key2: 0,
+    };
+
+    // A header entry, whose bytes aren't read, and the END entry.
+    const CHAIN: [u8; 40] = [
+        1, 0, 0, 0, 24, 0, 0, 0, 5, 5, 5, 5, 5, 5, 5, 5, 5, 5, 5, 5, 5, 5, 5, 5, 5, 5, 5, 5, 5, 5,
+        5, 5, 0, 0, 0, 0, 0, 0, 0, 0,
+    ];
+
+    // A guest without frames.
+    fn bare_guest(rt: &HostRuntime) -> Result<Guest, Fail>
+        ensures whole { IfOk result (λ guest. IsWhole guest) }
+    {
+        let mut guest = Guest::new(rt.alloc(), Kind::Hvm);
+        guest.set_part(CONTEXT, &CHAIN)?;
+        if guest.frames() != 0 {
+            return Err("another number of frames".into());
+        }
+        Ok(guest)
+    }
+
+    // A guest of three frames, with a parameter.
+    fn small_guest(rt: &HostRuntime) -> Result<Guest, Fail>
+        ensures whole { IfOk result (λ guest. IsWhole guest) }
+    {
+        let mut guest = Guest::new(rt.alloc(), Kind::Hvm);
+        guest.set_frame(9, PageType::Notab, Some(&[7; 4096]))?;
+        guest.set_frame(2, PageType::Broken, None)?;
+        guest.set_frame(4, PageType::Xalloc, None)?;
+        guest.set_part(CONTEXT, &CHAIN)?;
+        guest.set_part(PARAM, &[1; 8])?;
+        if guest.frames() != 3 {
+            return Err("another number of frames".into());
+        }
+        Ok(guest)
+    }
+
+    #[test]
+    fn counts_machine_frames_up(rt: HostRuntime) -> Result<(), Fail> {
+        let host = host_of(rt.alloc(), small_guest(&rt)?, 0x100)?;
+        assert_eq!(rt;
+            (host.kind(), host.width(), host.frames()),
+            (Kind::Hvm, 10, 3)
+        );
+        for (pfn, kind, machine) in [
+            (2, PageType::Broken, 0x100),
+            (4, PageType::Xalloc, 0x101),
+            (9, PageType::Notab, 0x102),
+        ] {
+            assert_eq!(rt; host.frame(pfn), Some(kind), "type of {pfn}");
+            assert_eq!(rt; host.machine(pfn), Some(machine), "machine frame of {pfn}");
+        }
+        assert_eq!(rt; host.page(9).map(|page| page[0]), Some(7));
+        assert_eq!(rt; host.part(CONTEXT).map(|part| part.len()), Some(40));
+        assert_eq!(rt;
+            host.part(PARAM).and_then(|part| part.first().copied()),
+            Some(1)
+        );
+        Ok(())
+    }
+
+    #[test]
+    fn takes_a_guest_without_frames(rt: HostRuntime) -> Result<(), Fail> {
+        let host = host_of(rt.alloc(), bare_guest(&rt)?, 1 << 40)?;
+        assert_eq!(rt; (host.width(), host.frames()), (0, 0));
+        Ok(())
+    }
+
+    #[test]
+    fn refuses_a_base_out_of_range(rt: HostRuntime) -> Result<(), Fail> {
+        for (base, refused) in [
+            (0, true),
+            (1, false),
+            ((1 << 40) - 3, false),
+            ((1 << 40) - 2, true),
+            (1 << 40, true),
+            (u64::MAX, true),
+        ] {
+            let answer = host_of(rt.alloc(), small_guest(&rt)?, base);
+            assert_eq!(rt;
+                answer.err(),
+                if refused {
+                    Some(HostAnswer::BaseRange)
+                } else {
+                    None
+                },
+                "base {base}"
+            );
+        }
+        Ok(())
+    }
+}

@@ -1,8 +1,8 @@
-use Rattle.std.proofs.Common.{◌≡◌, ◌+◌, ◌≤◌, ℕ, None, rules, sym, subst, arith}
+use Rattle.std.proofs.Common.{◌≡◌, ◌+◌, ◌≤◌, ℕ, None, sym, subst, arith}
 use Rattle.std.specs.FinMap as maps
 use Rattle.mig_image.specs.HostView.{MachineMap}
-use Rattle.mig_image.proofs.Ranks.{rank_small, rank_full, frames_inside}
-use Rattle.mig_image.proofs.RestoredHosts.{AreCounted, some_value, counted_none, counted_all, counted_unused, next_rank, counted_more}
+use Rattle.mig_image.proofs.Ranks.{rank_full, frames_inside}
+use Rattle.mig_image.proofs.RestoredHosts.{AreCounted, some_value, counted_none, counted_all, counted_unused, counted_more}
 use Rattle.mig_image.proofs.restore.count_up.Goals as goal
 
 pub loop-i-init : goal.loop-i-init
@@ -13,14 +13,6 @@ returns-in_default-clause-machines c = counted_all c.args.guest.now.frames c.arg
 
 pub returns-in_default-clause-width : goal.returns-in_default-clause-width
 returns-in_default-clause-width c = omega (arith, c.loop-i.invariant.width, frames_inside c.args.guest.now.frames c.loop-i.from c.in_default.ensures.none)
-
-pub overflow_add-base : goal.overflow_add-base
-overflow_add-base c =
-    let frames = c.args.guest.now.frames in
-    let (f, is) = some_value (maps.get frames c.in-Some.pfn) c.in-Some.ensures.there in
-    let rank = next_rank frames c.args.base c.loop-i.from c.loop-i.i c.loop-i.machines c.loop-i.invariant c.in-Some.pfn f is c.in-Some.ensures.least.0 c.in-Some.ensures.least.1 in
-    let small : c.args.base + c.loop-i.i ≤ 1099511627776 = omega (arith, c.requires, rank, rank_small frames c.in-Some.pfn f is) in
-    search rules
 
 pub insert-requires-clause-absent : goal.insert-requires-clause-absent
 insert-requires-clause-absent c = c.loop-i.invariant.above c.in-Some.pfn c.in-Some.ensures.least.0
