@@ -1,7 +1,6 @@
 -- Words name one command at most.
-use Rattle.std.specs.Prelude.{◌⊎◌, decimal}
 use mathlib.Core.Logic.{inl, inr}
-use Rattle.std.proofs.Common.{◌≡◌, ℕ, ◌<◌, ◌^◌, List, [], ◌∷◌, length, get_or, sym, ap, ◌∙◌, refl, arith}
+use Rattle.std.proofs.Common.{◌≡◌, ℕ, ◌<◌, ◌^◌, List, [], length, get_or, sym, ap, ◌∙◌, refl, arith}
 use Rattle.std.proofs.lemmas.Fmt.{decimal_injective}
 use Rattle.mig_tool.specs.Words.{IsBase, Names}
 use Rattle.mig_tool.specs.declared.command.Command.{Command}

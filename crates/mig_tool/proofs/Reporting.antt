@@ -1,7 +1,7 @@
 -- What the program answers, and what the line on the report comes to.
 use Rattle.std.specs.Prelude.{◌⊎◌}
 use mathlib.Core.Logic.{inl, inr}
-use Rattle.std.proofs.Common.{◌≡◌, ℕ, List, length, take, Option, Some, None, Result, Ok, Err, refl, sym, ap, subst, ◌∙◌, le_refl}
+use Rattle.std.proofs.Common.{◌≡◌, ℕ, ◌++◌, List, length, take, arith, Option, Some, None, Result, Ok, Err, refl, sym, ap, subst, ◌∙◌, le_refl}
 use Rattle.std.proofs.lemmas.List.{take_all}
 use Rattle.std.specs.Io.KnownBytes.{Appends}
 use Rattle.mig_bytes.specs.Bytes.{Puts}
@@ -27,7 +27,12 @@ use Rattle.mig_tool.specs.declared.outcome.Outcome.{Outcome}
 use Rattle.mig_tool.specs.declared.outcome.Outcome.TheVariants as outcomes
 use Rattle.mig_tool.specs.declared.status.Status.{Status}
 use Rattle.mig_tool.specs.declared.status.Status.TheVariants as statuses
-use Rattle.mig_tool.specs.Answers.{Written, Done, DonePart, Comes, ComesOf, Says, SaysOf, IsLine, NamesRefusal, summary_of}
+use Rattle.mig_image.specs.Hosted.{hosted, IsBaseOutside}
+use Rattle.mig_image.proofs.ImageReads.{image_reads}
+use Rattle.mig_image.proofs.RestoredHosts.{hosted_valid}
+use Rattle.mig_tool.specs.Words.{IsBase}
+use Rattle.mig_bytes.specs.Bytes.{AppendsPart}
+use Rattle.mig_tool.specs.Answers.{restored_text, Written, Done, DonePart, Comes, ComesOf, Says, SaysOf, IsLine, NamesRefusal, summary_of}
 use Rattle.mig_tool.specs.declared.command.Command.{Command}
 use Rattle.mig_tool.specs.declared.command.Command.TheVariants.{Normalise, Restore, Verify}
 use Rattle.mig_tool.specs.declared.outcome.Summary.{Summary}
@@ -140,6 +145,26 @@ came (Some input) left w reading (Ok u) outcome (o, records, rest, accepts, left
     (record { guest = reading.guest; rest = rest; accepted = accepted_front input rest o records reading.guest accepts guest; left_is = left_is; wrote = put; whole = whole; kept = λ more. canon_is_accepted reading.guest more whole; alone = λ other is_whole. canon_is_one_to_one other reading.guest is_whole whole })
 came (Some input) left w reading (Err e) outcome (o, records, rest, accepts, left_is, guest, version, count) whole put is =
     subst (Comes Normalise input left w) (sym is) (record { guest = reading.guest; rest = rest; accepted = accepted_front input rest o records reading.guest accepts guest; left_is = left_is; wrote = put })
+
+-- a base that may be given fits every whole guest
+pub base_fits : (guest : GuestOf) (base : ℕ) → IsWhole guest → IsBase base → IsBaseOutside guest base → ⊥
+base_fits guest base whole range (inl zero) = omega (arith, zero, range.0)
+base_fits guest base whole range (inr above) = omega (arith, above, range.1, whole.few)
+
+pub restored : (told left : Option (List ℕ)) (w : Written) (reading : Reading) (base : ℕ) (outcome : Outcome) → ReadsAs verdict told left (Ok reading) → IsWhole reading.guest → IsBase base
+    → (outcome ≡ outcomes.Done → Appends w.old w.new (restored_text base reading.guest)) → (outcome ≡ outcomes.WriteFault → AppendsPart w.old w.new (restored_text base reading.guest))
+    → (outcome ≡ outcomes.Done) ⊎ ((outcome ≡ outcomes.WriteFault) ⊎ (outcome ≡ outcomes.Memory)) → ComesOf (Restore base) told left w outcome
+restored None left w reading base outcome h whole range done part answers = tt
+restored (Some input) left w reading base outcome (o, records, rest, accepts, left_is, guest, version, count) whole range done part (inl is) =
+    let valid = hosted_valid reading.guest base whole (base_fits reading.guest base whole range) in
+    subst (Comes (Restore base) input left w) (sym is)
+    (record {
+      guest = reading.guest; rest = rest; accepted = accepted_front input rest o records reading.guest accepts guest; left_is = left_is; wrote = done is; whole = whole; valid = valid;
+      kept = λ more. image_reads (restored_text base reading.guest ++ more) (hosted reading.guest base) more (record { valid = valid; spelled = refl });
+    })
+restored (Some input) left w reading base outcome (o, records, rest, accepts, left_is, guest, version, count) whole range done part (inr (inl is)) =
+    subst (Comes (Restore base) input left w) (sym is) (record { guest = reading.guest; rest = rest; accepted = accepted_front input rest o records reading.guest accepts guest; left_is = left_is; wrote = part is })
+restored (Some input) left w reading base outcome h whole range done part (inr (inr is)) = subst (Comes (Restore base) input left w) (sym is) tt
 
 -- no stream was read
 pub not_read : (command : Command) (told left : Option (List ℕ)) (w : Written) (answer : StreamAnswer) (outcome : Outcome) → ReadsAs verdict told left (Err answer) → outcome ≡ outcome_of answer → ComesOf command told left w outcome

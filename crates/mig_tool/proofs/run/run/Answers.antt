@@ -1,4 +1,4 @@
-use Rattle.std.proofs.Common.{ℕ, sym, subst}
+use Rattle.std.proofs.Common.{subst}
 use Rattle.mig_tool.specs.Answers.{Written, SaysOf, WriteRose}
 use Rattle.mig_tool.specs.declared.command.Command.{Command}
 use Rattle.mig_tool.specs.declared.command.Command.TheVariants as commands
