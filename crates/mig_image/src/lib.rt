@@ -22,3 +22,6 @@ pub use law::{hosted_is_valid, image_is_judged, judged_is_image, one_image};
 pub use read::{ImageAnswer, read_host};
 pub use restore::{HostAnswer, host_of};
 pub use write::write_host;
+
+#[cfg(test)]
+mod read_tests;
