@@ -66,7 +66,7 @@ coded kind width k len (Some c) is fits allows =
 
 -- ---- bytes and zeros
 
-canonical : (number : ℕ) (bytes : List ℕ) → fault_of_bytes number bytes ≡ None → number ≡ 258 → AreCanonicalPairs bytes
+pub canonical : (number : ℕ) (bytes : List ℕ) → fault_of_bytes number bytes ≡ None → number ≡ 258 → AreCanonicalPairs bytes
 canonical number bytes fine is =
     let (test, done) = rows_fine ((nat_eq number 258 && not (are_canonical_pairs bytes), PartBytes) ∷ []) fine in
     (canonical_pairs_are_computed bytes).0 (not-false (are_canonical_pairs bytes) (sym (ap (λ b. b && not (are_canonical_pairs bytes)) (eq-eqb number 258 is)) ∙ test))

@@ -1,37 +1,27 @@
 -- What a part that stands behind all others adds: it is one that a host has, and one more of its code.
-use Rattle.std.proofs.Common.{◌≡◌, ℕ, ◌+◌, ◌^◌, ◌<◌, Bool, true, false, cond, not, nat_eq, nat_le, List, [], ◌∷◌, length, Option, Some, None, refl, sym, ap, ◌∙◌, arith, length-append}
+use Rattle.std.proofs.Common.{◌≡◌, ℕ, ◌+◌, ◌^◌, ◌<◌, Bool, true, false, cond, nat_eq, nat_le, List, [], ◌∷◌, length, Option, Some, None, refl, sym, ap, ◌∙◌, arith, length-append}
 use Rattle.std.specs.Prelude.{◌&&◌, ◌||◌, ◌==◌, if◌then◌else◌}
-use Rattle.std.proofs.lemmas.Bool.{not-false, and_parts, leb-false, eqb-true, eq-eqb}
+use Rattle.std.proofs.lemmas.Bool.{not-false, and_parts, leb-false, eqb-true}
 use Rattle.std.proofs.lemmas.List.Elements.{filter-append}
 use Rattle.std.specs.FinMap as maps
 use Rattle.mig_bytes.specs.Fields.{le32}
-use Rattle.mig_headers.specs.Pairs.{AreCanonicalPairs, are_canonical_pairs}
-use Rattle.mig_headers.proofs.PairTexts.{canonical_pairs_are_computed}
-use Rattle.mig_headers.specs.declared.image_fault.ImageCause.TheVariants.{PartBytes}
 use Rattle.mig_headers.specs.declared.kind.Kind.{Kind}
 use Rattle.mig_guest.specs.declared.part_code.PartCode.{PartCode}
 use Rattle.mig_guest.specs.declared.part_key.PartKey.{PartKey}
 use Rattle.mig_guest.specs.Hosts.{HostOf, IsHostPart, IsValid}
 use Rattle.mig_guest.specs.Order.{part_cmp}
-use Rattle.mig_guest.specs.PartCodes.{code_of_number, row_of, code_number, part_codes}
+use Rattle.mig_guest.specs.PartCodes.{code_of_number, row_of, code_number}
 use Rattle.mig_guest.specs.Parts.{PartMap, parts_of, FitsPolicy}
 use Rattle.mig_guest.proofs.PartOrder.{part_total}
 use Rattle.mig_image.specs.declared.read_part.Entries.{Entries}
 use Rattle.mig_image.specs.ImageParts.{head_key, code_fits, code_allows, has_part_from, is_full, part_rows, fault_of_part, fault_of_bytes}
 use Rattle.mig_image.specs.PartCounts.{Counts}
-use Rattle.mig_image.proofs.InOrder.{entries_behind, found_passes, no_entries}
+use Rattle.mig_image.proofs.InOrder.{entries_behind, no_entries}
 use Rattle.mig_headers.proofs.FirstFaults.{rows_fine}
+use Rattle.mig_image.proofs.PartTexts.{number_is}
+use Rattle.mig_image.proofs.PartsBack.{canonical}
 
 -- ---- a part that a host has
-
--- the number of the code that was found
-number_is : (number : ℕ) (code : PartCode) → code_of_number number ≡ Some code → code_number code ≡ number
-number_is number code is = eqb-true (code_number code) number (found_passes (λ c. nat_eq (code_number c) number) part_codes code is)
-
-canonical : (number : ℕ) (bytes : List ℕ) → fault_of_bytes number bytes ≡ None → number ≡ 258 → AreCanonicalPairs bytes
-canonical number bytes fine is =
-    let (test, done) = rows_fine ((nat_eq number 258 && not (are_canonical_pairs bytes), PartBytes) ∷ []) fine in
-    (canonical_pairs_are_computed bytes).0 (not-false (are_canonical_pairs bytes) (sym (ap (λ b. b && not (are_canonical_pairs bytes)) (eq-eqb number 258 is)) ∙ test))
 
 coded : (kind : Kind) (width : ℕ) (key : PartKey) (bytes : List ℕ) (o : Option PartCode) → code_of_number key.code ≡ o → code_fits o kind key ≡ true → code_allows o width (length bytes) ≡ true
     → key.key1 < 2 ^ 32 → key.key2 < 2 ^ 32 → fault_of_bytes key.code bytes ≡ None → IsHostPart kind width key bytes

@@ -159,7 +159,13 @@ restored (Some input) left w reading base outcome (o, records, rest, accepts, le
     let valid = hosted_valid reading.guest base whole (base_fits reading.guest base whole range) in
     subst (Comes (Restore base) input left w) (sym is)
     (record {
-      guest = reading.guest; rest = rest; accepted = accepted_front input rest o records reading.guest accepts guest; left_is = left_is; wrote = done is; whole = whole; valid = valid;
+      guest = reading.guest;
+      rest = rest;
+      accepted = accepted_front input rest o records reading.guest accepts guest;
+      left_is = left_is;
+      wrote = done is;
+      whole = whole;
+      valid = valid;
       kept = λ more. image_reads (restored_text base reading.guest ++ more) (hosted reading.guest base) more (record { valid = valid; spelled = refl });
     })
 restored (Some input) left w reading base outcome (o, records, rest, accepts, left_is, guest, version, count) whole range done part (inr (inl is)) =

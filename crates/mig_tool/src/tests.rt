@@ -66,7 +66,11 @@ fn smallest_stream_in_pieces(rt: HostRuntime) -> Result<(), Fail> {
 
 #[test]
 fn smallest_guest_is_restored(rt: HostRuntime) -> Result<(), Fail> {
-    let lists: [&[&str]; 3] = [&["restore"], &["restore", "1"], &["restore", "1099494850560"]];
+    let lists: [&[&str]; 3] = [
+        &["restore"],
+        &["restore", "1"],
+        &["restore", "1099494850560"],
+    ];
     for list in lists {
         let mut input = smallest(rt.alloc(), 7, NEVER)?;
         let mut out = sink(rt.alloc(), NEVER)?;

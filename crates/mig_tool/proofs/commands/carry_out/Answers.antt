@@ -16,9 +16,12 @@ returns-in-Normalise-clause-said g c =
 pub returns-in-Normalise-clause-line : goal.returns-in-Normalise-clause-line
 returns-in-Normalise-clause-line g c = λ _.
     let told = g.S.Source.left c.args.input.now in
-    let outcome = c.normalise-outcome.result in
-    (line_of outcome, subst (λ s. IsLine told s (line_of outcome)) (sym c.finish.ensures.status)
-    (line_is told outcome (λ place cause is. names_of commands.Normalise told _ _ outcome place cause (c.normalise-outcome.ensures.answer told told) is)), c.finish.ensures.line)
+    let outcome = c.normalise-outcome.result in (
+      line_of outcome,
+      subst (λ s. IsLine told s (line_of outcome)) (sym c.finish.ensures.status)
+          (line_is told outcome (λ place cause is. names_of commands.Normalise told _ _ outcome place cause (c.normalise-outcome.ensures.answer told told) is)),
+      c.finish.ensures.line,
+    )
 
 pub returns-in-Restore-clause-said : goal.returns-in-Restore-clause-said
 returns-in-Restore-clause-said g c =
@@ -32,6 +35,9 @@ pub returns-in-Restore-clause-line : goal.returns-in-Restore-clause-line
 returns-in-Restore-clause-line g c = λ _.
     let told = g.S.Source.left c.args.input.now in
     let outcome = c.restore-outcome.result in
-    let this = commands.Restore c.in-Restore.base in
-    (line_of outcome, subst (λ s. IsLine told s (line_of outcome)) (sym c.finish-in-Restore.ensures.status)
-    (line_is told outcome (λ place cause is. names_of this told _ _ outcome place cause (c.restore-outcome.ensures.answer told told) is)), c.finish-in-Restore.ensures.line)
+    let this = commands.Restore c.in-Restore.base in (
+      line_of outcome,
+      subst (λ s. IsLine told s (line_of outcome)) (sym c.finish-in-Restore.ensures.status)
+          (line_is told outcome (λ place cause is. names_of this told _ _ outcome place cause (c.restore-outcome.ensures.answer told told) is)),
+      c.finish-in-Restore.ensures.line,
+    )
