@@ -44,8 +44,3 @@ same_command words Verify Normalise h k = let e : 118 ≡ 110 = sym (begins word
 same_command words Verify (Restore b) h k = let e : 118 ≡ 114 = sym (begins words Verify h) ∙ begins words (Restore b) k in absurd (omega (arith, e))
 same_command words (Restore a) Normalise h k = let e : 114 ≡ 110 = sym (begins words (Restore a) h) ∙ begins words Normalise k in absurd (omega (arith, e))
 same_command words (Restore a) Verify h k = let e : 114 ≡ 118 = sym (begins words (Restore a) h) ∙ begins words Verify k in absurd (omega (arith, e))
-
--- a base that is named lies in the range
-pub named_base : (words : List (List ℕ)) (base : ℕ) → Names words (Restore base) → IsBase base
-named_base words base (inl (h, e)) = (omega (arith, e), omega (arith, e))
-named_base words base (inr (h, range)) = range

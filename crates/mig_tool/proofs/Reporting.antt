@@ -208,21 +208,3 @@ verified (Some input) left w reading s r status (o, records, rest, accepts, left
     by : (r : Result (Unit {0}) WriteFailed) → Puts (ok_line (summary_of (accepted_front input rest o records reading.guest accepts guest))) w.before w.now r → Says Verify input left w (reported r)
     by (Ok u) put = record { guest = reading.guest; rest = rest; accepted = accepted_front input rest o records reading.guest accepts guest; left_is = left_is; reported = put }
     by (Err e) put = record { guest = reading.guest; rest = rest; accepted = accepted_front input rest o records reading.guest accepts guest; left_is = left_is; reported = put }
-
--- ---- which outcome has a status
-
-pub reads_are : (o : Outcome) → status_of o ≡ statuses.ReadFault → o ≡ outcomes.ReadFault
-reads_are outcomes.Done h = cc
-reads_are (outcomes.Refused place cause) h = cc
-reads_are outcomes.Usage h = cc
-reads_are outcomes.ReadFault h = refl
-reads_are outcomes.WriteFault h = cc
-reads_are outcomes.Memory h = cc
-
-pub writes_are : (o : Outcome) → status_of o ≡ statuses.WriteFault → o ≡ outcomes.WriteFault
-writes_are outcomes.Done h = cc
-writes_are (outcomes.Refused place cause) h = cc
-writes_are outcomes.Usage h = cc
-writes_are outcomes.ReadFault h = cc
-writes_are outcomes.WriteFault h = refl
-writes_are outcomes.Memory h = cc
