@@ -137,7 +137,7 @@ refused_refused command told left w status input place cause rest h is refused r
 accepted_front : (input rest : List ℕ) (o : Opening) (records : List StreamRecord) (guest : GuestOf) → verdict input ≡ Accepts o records rest → guest ≡ mean o.kind records → Accepted input guest rest
 accepted_front input rest o records guest accepts is = record { opening = o; records = records; image = accepted_is_image input o records rest accepts; means = is }
 
-pub came : (told left : Option (List ℕ)) (w : Written) (reading : Reading) (r : Result (Unit {0}) WriteFailed) (outcome : Outcome) → ReadsAs verdict told left (Ok reading) → IsWhole reading.guest → Puts (canon reading.guest) w.old w.new r
+pub came : (told left : Option (List ℕ)) (w : Written) (reading : Reading) (r : Result (Unit {0}) WriteFailed) (outcome : Outcome) → ReadsAs verdict told left (Ok reading) → IsWhole reading.guest → Puts (canon reading.guest) w.out_old w.out_new r
     → outcome ≡ wrote r → ComesOf Normalise told left w outcome
 came None left w reading r outcome h whole put is = tt
 came (Some input) left w reading (Ok u) outcome (o, records, rest, accepts, left_is, guest, version, count) whole put is =
@@ -152,7 +152,7 @@ base_fits guest base whole range (inl zero) = omega (arith, zero, range.0)
 base_fits guest base whole range (inr above) = omega (arith, above, range.1, whole.few)
 
 pub restored : (told left : Option (List ℕ)) (w : Written) (reading : Reading) (base : ℕ) (outcome : Outcome) → ReadsAs verdict told left (Ok reading) → IsWhole reading.guest → IsBase base
-    → (outcome ≡ outcomes.Done → Appends w.old w.new (restored_text base reading.guest)) → (outcome ≡ outcomes.WriteFault → AppendsPart w.old w.new (restored_text base reading.guest))
+    → (outcome ≡ outcomes.Done → Appends w.out_old w.out_new (restored_text base reading.guest)) → (outcome ≡ outcomes.WriteFault → AppendsPart w.out_old w.out_new (restored_text base reading.guest))
     → (outcome ≡ outcomes.Done) ⊎ ((outcome ≡ outcomes.WriteFault) ⊎ (outcome ≡ outcomes.Memory)) → ComesOf (Restore base) told left w outcome
 restored None left w reading base outcome h whole range done part answers = tt
 restored (Some input) left w reading base outcome (o, records, rest, accepts, left_is, guest, version, count) whole range done part (inl is) =
@@ -198,13 +198,13 @@ summed input rest o records reading a s oo rr means version count v k f n =
 
 pub verified : (told left : Option (List ℕ)) (w : Written) (reading : Reading) (s : Summary) (r : Result (Unit {0}) WriteFailed) (status : Status) → ReadsAs verdict told left (Ok reading)
     → s.version ≡ reading.version → s.kind ≡ reading.guest.kind → s.frames ≡ length (maps.entries reading.guest.frames) → s.records ≡ reading.records
-    → Puts (ok_line s) w.before w.now r → status ≡ reported r → SaysOf Verify told left w status
+    → Puts (ok_line s) w.report_old w.report_new r → status ≡ reported r → SaysOf Verify told left w status
 unfolding accepted_front
 verified None left w reading s r status h v k f n put is = tt
 verified (Some input) left w reading s r status (o, records, rest, accepts, left_is, guest, version, count) v k f n put is =
     let a = accepted_front input rest o records reading.guest accepts guest in
-    subst (Says Verify input left w) (sym is) (by r (subst (λ t. Puts (ok_line t) w.before w.now r) (summed input rest o records reading a s refl refl guest version count v k f n) put))
+    subst (Says Verify input left w) (sym is) (by r (subst (λ t. Puts (ok_line t) w.report_old w.report_new r) (summed input rest o records reading a s refl refl guest version count v k f n) put))
   where
-    by : (r : Result (Unit {0}) WriteFailed) → Puts (ok_line (summary_of (accepted_front input rest o records reading.guest accepts guest))) w.before w.now r → Says Verify input left w (reported r)
+    by : (r : Result (Unit {0}) WriteFailed) → Puts (ok_line (summary_of (accepted_front input rest o records reading.guest accepts guest))) w.report_old w.report_new r → Says Verify input left w (reported r)
     by (Ok u) put = record { guest = reading.guest; rest = rest; accepted = accepted_front input rest o records reading.guest accepts guest; left_is = left_is; reported = put }
     by (Err e) put = record { guest = reading.guest; rest = rest; accepted = accepted_front input rest o records reading.guest accepts guest; left_is = left_is; reported = put }

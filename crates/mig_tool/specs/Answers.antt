@@ -86,22 +86,22 @@ pub record Rejected (input : List ℕ) (left : Option (List ℕ)) : Type 0 where
 
 -- ---- what a status of a command says: of the input, of what is left of it, of what was written, and of the report
 
--- what was written, and what was reported, before and now
+-- what stands on the output and on the report, before the call and after it
 pub record Written : Type 0 where
-  pub old : Option (List ℕ)
-  pub new : Option (List ℕ)
-  pub before : Option (List ℕ)
-  pub now : Option (List ℕ)
+  pub out_old : Option (List ℕ)
+  pub out_new : Option (List ℕ)
+  pub report_old : Option (List ℕ)
+  pub report_new : Option (List ℕ)
 
 abbrev pub Done : Command → List ℕ → Option (List ℕ) → Written → Type 0
-Done Normalise input left w = Normalised input left w.old w.new
-Done (Restore base) input left w = Restored base input left w.old w.new
-Done Verify input left w = Verified (Appends w.before w.now) input left
+Done Normalise input left w = Normalised input left w.out_old w.out_new
+Done (Restore base) input left w = Restored base input left w.out_old w.out_new
+Done Verify input left w = Verified (Appends w.report_old w.report_new) input left
 
 abbrev pub DonePart : Command → List ℕ → Option (List ℕ) → Written → Type 0
-DonePart Normalise input left w = PartWritten canon input left w.old w.new
-DonePart (Restore base) input left w = PartWritten (restored_text base) input left w.old w.new
-DonePart Verify input left w = Verified (AppendsPart w.before w.now) input left
+DonePart Normalise input left w = PartWritten canon input left w.out_old w.out_new
+DonePart (Restore base) input left w = PartWritten (restored_text base) input left w.out_old w.out_new
+DonePart Verify input left w = Verified (AppendsPart w.report_old w.report_new) input left
 
 abbrev pub Says : Command → List ℕ → Option (List ℕ) → Written → Status → Type 0
 Says command input left w statuses.Done = Done command input left w

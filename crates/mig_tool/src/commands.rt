@@ -35,7 +35,7 @@ fn unread(answer: StreamAnswer) -> Outcome
 
 /// Reads a stream, and writes it in its canonical form.
 fn normalise<S: Source, K: Sink>(alloc: Global, input: &mut S, out: &mut K) -> Outcome
-    ensures answer { (before now : Option (List ℕ)) → ComesOf commands.Normalise (S.left input.old) (S.left input.new) (record { old = K.written out.old; new = K.written out.new; before = before; now = now }) result }
+    ensures answer { (before now : Option (List ℕ)) → ComesOf commands.Normalise (S.left input.old) (S.left input.new) (record { out_old = K.written out.old; out_new = K.written out.new; report_old = before; report_new = now }) result }
     ensures known { result ≢ outcomes.Usage }
     ensures kept { result ≢ outcomes.Done → result ≢ outcomes.WriteFault → Keeps (K.written out.old) (K.written out.new) }
     ensures read { result ≡ outcomes.ReadFault → Rose (S.faults input.old) (S.faults input.new) }
@@ -76,7 +76,7 @@ fn write_restored<K: Sink>(alloc: Global, guest: Guest, base: u64, out: &mut K) 
 /// Reads a stream, and writes the image of its guest, with machine frames counted up from the base.
 fn restore<S: Source, K: Sink>(alloc: Global, base: u64, input: &mut S, out: &mut K) -> Outcome
     requires { IsBase base }
-    ensures answer { (before now : Option (List ℕ)) → ComesOf (commands.Restore base) (S.left input.old) (S.left input.new) (record { old = K.written out.old; new = K.written out.new; before = before; now = now }) result }
+    ensures answer { (before now : Option (List ℕ)) → ComesOf (commands.Restore base) (S.left input.old) (S.left input.new) (record { out_old = K.written out.old; out_new = K.written out.new; report_old = before; report_new = now }) result }
     ensures known { result ≢ outcomes.Usage }
     ensures kept { result ≢ outcomes.Done → result ≢ outcomes.WriteFault → Keeps (K.written out.old) (K.written out.new) }
     ensures read { result ≡ outcomes.ReadFault → Rose (S.faults input.old) (S.faults input.new) }
@@ -93,7 +93,7 @@ fn restore<S: Source, K: Sink>(alloc: Global, base: u64, input: &mut S, out: &mu
 
 /// Reads a stream, and says on the report what it is.
 fn verify<S: Source, R: Sink>(alloc: Global, input: &mut S, report: &mut R) -> Status
-    ensures said { (old new : Option (List ℕ)) → SaysOf commands.Verify (S.left input.old) (S.left input.new) (record { old = old; new = new; before = R.written report.old; now = R.written report.new }) result }
+    ensures said { (old new : Option (List ℕ)) → SaysOf commands.Verify (S.left input.old) (S.left input.new) (record { out_old = old; out_new = new; report_old = R.written report.old; report_new = R.written report.new }) result }
     ensures known { result ≢ statuses.Usage }
     ensures read { result ≡ statuses.ReadFault → Rose (S.faults input.old) (S.faults input.new) }
     ensures write { result ≡ statuses.WriteFault → Rose (R.faults report.old) (R.faults report.new) }
@@ -129,7 +129,7 @@ pub(crate) fn carry_out<S: Source, K: Sink, R: Sink>(
     report: &mut R,
 ) -> Status
     requires { (base : ℕ) → command ≡ commands.Restore base → IsBase base }
-    ensures said { SaysOf command (S.left input.old) (S.left input.new) (record { old = K.written out.old; new = K.written out.new; before = R.written report.old; now = R.written report.new }) result }
+    ensures said { SaysOf command (S.left input.old) (S.left input.new) (record { out_old = K.written out.old; out_new = K.written out.new; report_old = R.written report.old; report_new = R.written report.new }) result }
     ensures known { result ≢ statuses.Usage }
     ensures kept { result ≢ statuses.Done → result ≢ statuses.WriteFault → Keeps (K.written out.old) (K.written out.new) }
     ensures untouched { command ≡ commands.Verify → Keeps (K.written out.old) (K.written out.new) }

@@ -42,11 +42,11 @@ pub fn run<S: Source, K: Sink, R: Sink>(
     // Status 0: an accepted front was taken, and the text of its guest was written, or its line reported. Status 1: the
     // input was taken up to the end of the refused part. Status 4: as 0, but a part of the text or line was written.
     ensures normalised { Names (texts_of words.now) commands.Normalise
-        → SaysOf commands.Normalise (S.left input.old) (S.left input.new) (record { old = K.written out.old; new = K.written out.new; before = R.written report.old; now = R.written report.new }) result }
+        → SaysOf commands.Normalise (S.left input.old) (S.left input.new) (record { out_old = K.written out.old; out_new = K.written out.new; report_old = R.written report.old; report_new = R.written report.new }) result }
     ensures restored { (base : ℕ) → Names (texts_of words.now) (commands.Restore base)
-        → SaysOf (commands.Restore base) (S.left input.old) (S.left input.new) (record { old = K.written out.old; new = K.written out.new; before = R.written report.old; now = R.written report.new }) result }
+        → SaysOf (commands.Restore base) (S.left input.old) (S.left input.new) (record { out_old = K.written out.old; out_new = K.written out.new; report_old = R.written report.old; report_new = R.written report.new }) result }
     ensures verified { Names (texts_of words.now) commands.Verify
-        → SaysOf commands.Verify (S.left input.old) (S.left input.new) (record { old = K.written out.old; new = K.written out.new; before = R.written report.old; now = R.written report.new }) result }
+        → SaysOf commands.Verify (S.left input.old) (S.left input.new) (record { out_old = K.written out.old; out_new = K.written out.new; report_old = R.written report.old; report_new = R.written report.new }) result }
 
     // An accepted stream is done and a refused one refused, but for memory, where nothing failed.
     ensures accepted { (command : Command) (bytes : List ℕ) (guest : GuestOf) (rest : List ℕ) → Names (texts_of words.now) command → S.left input.old ≡ Some bytes → Accepted bytes guest rest

@@ -9,7 +9,7 @@ pub returns-in-Normalise-clause-said : goal.returns-in-Normalise-clause-said
 returns-in-Normalise-clause-said g c =
     let before = g.R.Sink.written c.args.report.now in
     let now = g.R.Sink.written c.finish.new.report in
-    let w : Written = record { old = g.K.Sink.written c.args.out.now; new = g.K.Sink.written c.normalise-outcome.new.out; before = before; now = now } in
+    let w : Written = record { out_old = g.K.Sink.written c.args.out.now; out_new = g.K.Sink.written c.normalise-outcome.new.out; report_old = before; report_new = now } in
     said_of c.args.command commands.Normalise (g.S.Source.left c.args.input.now) (g.S.Source.left c.normalise-outcome.new.input) w c.normalise-outcome.result c.finish.result
     c.in-Normalise.is c.finish.ensures.status (c.normalise-outcome.ensures.answer before now)
 
@@ -27,7 +27,7 @@ pub returns-in-Restore-clause-said : goal.returns-in-Restore-clause-said
 returns-in-Restore-clause-said g c =
     let before = g.R.Sink.written c.args.report.now in
     let now = g.R.Sink.written c.finish-in-Restore.new.report in
-    let w : Written = record { old = g.K.Sink.written c.args.out.now; new = g.K.Sink.written c.restore-outcome.new.out; before = before; now = now } in
+    let w : Written = record { out_old = g.K.Sink.written c.args.out.now; out_new = g.K.Sink.written c.restore-outcome.new.out; report_old = before; report_new = now } in
     said_of c.args.command (commands.Restore c.in-Restore.base) (g.S.Source.left c.args.input.now) (g.S.Source.left c.restore-outcome.new.input) w c.restore-outcome.result c.finish-in-Restore.result
     c.in-Restore.is c.finish-in-Restore.ensures.status (c.restore-outcome.ensures.answer before now)
 
