@@ -123,14 +123,14 @@ alone_made g h v one two small cut =
 
 -- ---- a frame more
 
-type_case : (m : FrameMap) (f : FrameOf) (q : ℕ) (g : FrameOf) (b : Bool) → is_hvm_type f.kind ≡ true → ((k : ℕ) (old : FrameOf) → maps.get m k ≡ Some old → is_hvm_type old.kind ≡ true) → cond b (Some f) (maps.get m q) ≡ Some g → is_hvm_type g.kind ≡ true
-type_case m f q g true kind old h = let same : f ≡ g = cc in ap (λ (x : FrameOf). is_hvm_type x.kind) (sym same) ∙ kind
+type_case : (m : FrameMap) (f : FrameOf) (q : ℕ) (g : FrameOf) (b : Bool) → is_hvm_type f.type ≡ true → ((k : ℕ) (old : FrameOf) → maps.get m k ≡ Some old → is_hvm_type old.type ≡ true) → cond b (Some f) (maps.get m q) ≡ Some g → is_hvm_type g.type ≡ true
+type_case m f q g true kind old h = let same : f ≡ g = cc in ap (λ (x : FrameOf). is_hvm_type x.type) (sym same) ∙ kind
 type_case m f q g false kind old h = old q g h
 
-pub whole_frame : (g : GuestOf) (k : ℕ) (page : List ℕ) → IsWhole g → IsSized (maps.insert g.frames k (record { kind = Notab; page = Some page })) → maps.len (maps.insert g.frames k (record { kind = Notab; page = Some page })) ≤ 2 ^ 24
-    → IsWhole (record g { frames = maps.insert g.frames k (record { kind = Notab; page = Some page }) })
+pub whole_frame : (g : GuestOf) (k : ℕ) (page : List ℕ) → IsWhole g → IsSized (maps.insert g.frames k (record { type = Notab; page = Some page })) → maps.len (maps.insert g.frames k (record { type = Notab; page = Some page })) ≤ 2 ^ 24
+    → IsWhole (record g { frames = maps.insert g.frames k (record { type = Notab; page = Some page }) })
 whole_frame g k page whole sized few =
-    let f : FrameOf = record { kind = Notab; page = Some page } in
+    let f : FrameOf = record { type = Notab; page = Some page } in
     record {
       hvm = whole.hvm;
       top = whole.top;
@@ -143,7 +143,7 @@ whole_frame g k page whole sized few =
       context = whole.context;
     }
 
-pub frame_added : (g h : GuestOf) (k : ℕ) (page : List ℕ) → IsWhole g → h ≡ record g { frames = maps.insert g.frames k (record { kind = Notab; page = Some page }) } → IsSized h.frames → maps.len h.frames ≤ 2 ^ 24 → IsWhole h
+pub frame_added : (g h : GuestOf) (k : ℕ) (page : List ℕ) → IsWhole g → h ≡ record g { frames = maps.insert g.frames k (record { type = Notab; page = Some page }) } → IsSized h.frames → maps.len h.frames ≤ 2 ^ 24 → IsWhole h
 frame_added g h k page whole is sized few =
     subst IsWhole (sym is) (whole_frame g k page whole (subst (λ (x : GuestOf). IsSized x.frames) is sized) (subst (λ (x : GuestOf). maps.len x.frames ≤ 2 ^ 24) is few))
 

@@ -26,7 +26,7 @@ abbrev pub batches : List Frame → ℕ
 batches fs = div_ceil (length fs) 1024
 
 abbrev pub frame_word_in : Frame → ℕ
-frame_word_in f = word_of (record { pfn = f.0; kind = f.1.kind })
+frame_word_in f = word_of (record { pfn = f.0; kind = f.1.type })
 
 abbrev pub words_of : List Frame → List ℕ
 words_of fs = flat_map (λ f. little_bytes 8 (frame_word_in f)) fs

@@ -50,13 +50,13 @@ find_frame pages (e ∷ es) q = at_key pages q e.0 e.1 (is_eq (nat_cmp q e.0)) _
 pub get_frame : (pages : PageMap) (kinds : Kinds) (q : ℕ) → maps.get (frames_seen pages kinds) q ≡ option_map (frame_at pages q) (kind_at kinds q)
 get_frame pages kinds q = get-from_entries nat_cmp_total (map (λ e. (e.0, frame_at pages e.0 e.1)) kinds) q ∙ find_frame pages kinds q
 
-kind_of : (pages : PageMap) (q : ℕ) (r : Option PageType) → option_map (λ (f : FrameOf). f.kind) (option_map (frame_at pages q) r) ≡ r
+kind_of : (pages : PageMap) (q : ℕ) (r : Option PageType) → option_map (λ (f : FrameOf). f.type) (option_map (frame_at pages q) r) ≡ r
 kind_of pages q None = refl
 kind_of pages q (Some k) = refl
 
 -- the type of a frame
-pub kind_seen : (pages : PageMap) (kinds : Kinds) (q : ℕ) → kind_at kinds q ≡ option_map (λ (f : FrameOf). f.kind) (maps.get (frames_seen pages kinds) q)
-kind_seen pages kinds q = sym (ap (option_map (λ (f : FrameOf). f.kind)) (get_frame pages kinds q) ∙ kind_of pages q (kind_at kinds q))
+pub kind_seen : (pages : PageMap) (kinds : Kinds) (q : ℕ) → kind_at kinds q ≡ option_map (λ (f : FrameOf). f.type) (maps.get (frames_seen pages kinds) q)
+kind_seen pages kinds q = sym (ap (option_map (λ (f : FrameOf). f.type)) (get_frame pages kinds q) ∙ kind_of pages q (kind_at kinds q))
 
 page_of : (pages : PageMap) (q : ℕ) (r : Option FrameOf) (s : Option PageType) → r ≡ option_map (frame_at pages q) s → (IsSome (maps.get pages q) → IsSome r) → option_map whole_page (maps.get pages q) ≡ option_and_then (λ (f : FrameOf). f.page) r
 page_of pages q r None e step = let gone = ap is_some e in ap (option_map whole_page) (no_page (maps.get pages q) (λ there. sym gone ∙ step there)) ∙ sym (ap (option_and_then (λ (f : FrameOf). f.page)) e)
@@ -84,7 +84,7 @@ module _ (old new : PageMap) (kinds changed : Kinds) (pfn : ℕ) (kind : Option 
   at_other : (q : ℕ) → q ≢ pfn → maps.get (frames_seen new changed) q ≡ cond (eq_by_cmp nat_cmp q pfn) (option_map (frame_at new pfn) kind) (maps.get (frames_seen old kinds) q)
   at_other q ne =
       get_frame new changed q ∙ ap (option_map (frame_at new q)) (types q ∙ ap (λ b. cond b kind (kind_at kinds q)) (differs pfn q ne))
-      ∙ ap (λ (page : Option (List ℕ)). option_map (λ (k : PageType). record { kind = k; page = option_map whole_page page }) (kind_at kinds q)) (others q ne)
+      ∙ ap (λ (page : Option (List ℕ)). option_map (λ (k : PageType). record { type = k; page = option_map whole_page page }) (kind_at kinds q)) (others q ne)
       ∙ sym (get_frame old kinds q)
       ∙ sym (ap (λ b. cond b (option_map (frame_at new pfn) kind) (maps.get (frames_seen old kinds) q)) (differs q pfn (λ e. ne (sym e))))
 
@@ -195,7 +195,7 @@ removal_gives pages k = get-remove nat_cmp_total pages k k ∙ ap (λ b. cond b 
 
 -- ---- frames that a guest can have
 
-pub whole_frame : (kind : PageType) (page : List ℕ) → type_has_data kind ≡ true → length page ≡ 4096 → IsFrame (record { kind = kind; page = Some page })
+pub whole_frame : (kind : PageType) (page : List ℕ) → type_has_data kind ≡ true → length page ≡ 4096 → IsFrame (record { type = kind; page = Some page })
 whole_frame kind page has size = record {
   there = λ e. absurd (apart (sym has ∙ ap type_has_data e));
   in_step = sym has;
@@ -208,7 +208,7 @@ whole_frame kind page has size = record {
     same_page : (a b : List ℕ) → Some a ≡ Some b → a ≡ b
     same_page a b e = cc
 
-pub bare_frame : (kind : PageType) → type_has_data kind ≡ false → kind ≢ Xtab → IsFrame (record { kind = kind; page = None })
+pub bare_frame : (kind : PageType) → type_has_data kind ≡ false → kind ≢ Xtab → IsFrame (record { type = kind; page = None })
 bare_frame kind has there = record { there = there; in_step = sym has; whole = λ p e. absurd (nothing p e) }
 
 -- ---- how many, and the first from a number on
@@ -312,7 +312,7 @@ module _ (pages : PageMap) (kinds : Kinds) (pfn : ℕ) (w : List ℕ) (step : Is
     fine =
         let was = sized_at pages kinds pfn kind typed step.sized in
         let has : type_has_data kind ≡ true = sym was.1.in_step ∙ is_some-mapped whole_page (maps.get pages pfn) ∙ there in
-        subst (λ (page : Option (List ℕ)). IsFrame (record { kind = kind; page = page })) (sym gives) (whole_frame kind (whole_page w) has (length_whole w))
+        subst (λ (page : Option (List ℕ)). IsFrame (record { type = kind; page = page })) (sym gives) (whole_frame kind (whole_page w) has (length_whole w))
 
     both : IsInStep lent kinds × (frames_seen lent kinds ≡ with_page (frames_seen pages kinds) pfn w)
     both =
@@ -320,7 +320,7 @@ module _ (pages : PageMap) (kinds : Kinds) (pfn : ℕ) (w : List ℕ) (step : Is
         let frame = get_frame pages kinds pfn ∙ ap (option_map (frame_at pages pfn)) typed in (
           in_step_set pages lent kinds kinds pfn kind step same_types others (sized_at pages kinds pfn kind typed step.sized).0 fine,
           frames_set pages lent kinds kinds pfn kind same_types others
-              ∙ ap (λ (page : Option (List ℕ)). maps.insert (frames_seen pages kinds) pfn (record { kind = kind; page = page })) gives
+              ∙ ap (λ (page : Option (List ℕ)). maps.insert (frames_seen pages kinds) pfn (record { type = kind; page = page })) gives
               ∙ sym (ap (λ (f : Option FrameOf). repaged f (frames_seen pages kinds) pfn w) frame),
         )
 

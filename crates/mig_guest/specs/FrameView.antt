@@ -12,7 +12,7 @@ whole_page w = cond (length w == 4096) w (replicate 4096 0)
 
 -- the frame of this type, with the page that is there
 abbrev pub frame_at : PageMap → ℕ → PageType → FrameOf
-frame_at pages pfn kind = record { kind = kind; page = option_map whole_page (maps.get pages pfn) }
+frame_at pages pfn type = record { type = type; page = option_map whole_page (maps.get pages pfn) }
 
 abbrev pub frames_seen : PageMap → List (ℕ × PageType) → FrameMap
 frames_seen pages kinds = maps.from_entries (map (λ e. (e.0, frame_at pages e.0 e.1)) kinds)

@@ -19,7 +19,7 @@ use Rattle.mig_guest.specs.Parts.{PartMap, FitsPolicy, parts_code}
 
 -- a frame: its type, its machine frame (MFN), and the raw page where the type has data
 pub record HostFrame : Type 0 where
-  pub kind : PageType
+  pub type : PageType
   pub machine : ℕ
   pub page : Option (List ℕ)
 
@@ -36,13 +36,20 @@ pub record HostOf : Type 0 where
 
 -- ---- a valid host
 
+-- the greatest width, and the limit that machine frames are below
+abbrev pub most_width : ℕ
+most_width = 2 ^ 28
+
+abbrev pub machine_limit : ℕ
+machine_limit = 2 ^ 40
+
 -- a frame of a host of this kind and width
 pub record IsHostFrame (kind : Kind) (width pfn : ℕ) (frame : HostFrame) : Type 0 where
   pub inside : pfn < width
-  pub type : is_type_of kind frame.kind ≡ true
+  pub type : is_type_of kind frame.type ≡ true
   pub some_machine : 0 < frame.machine
-  pub machine : frame.machine < 2 ^ 40
-  pub in_step : is_some frame.page ≡ type_has_data frame.kind
+  pub machine : frame.machine < machine_limit
+  pub in_step : is_some frame.page ≡ type_has_data frame.type
   pub whole : (page : List ℕ) → frame.page ≡ Some page → length page ≡ 4096
 
 -- a part that its code's row has
@@ -61,7 +68,7 @@ abbrev pub IsOneToOne : HostFrames → Type 0
 IsOneToOne frames = (p q : ℕ) (f g : HostFrame) → maps.get frames p ≡ Some f → maps.get frames q ≡ Some g → f.machine ≡ g.machine → p ≡ q
 
 pub record IsValid (h : HostOf) : Type 0 where
-  pub width : h.width ≤ 2 ^ 28
+  pub width : h.width ≤ most_width
   pub some_width : h.kind ≡ Pv → 0 < h.width
   pub frames : (pfn : ℕ) (frame : HostFrame) → maps.get h.frames pfn ≡ Some frame → IsHostFrame h.kind h.width pfn frame
   pub one_to_one : IsOneToOne h.frames
@@ -75,7 +82,7 @@ pub record IsValid (h : HostOf) : Type 0 where
 abbrev pub host_frame_code : Coded HostFrame
 host_frame_code =
     code_by (PageType × (ℕ × Option (List ℕ))) (coded× page_type.the_row.coded (coded× coded_ℕ (coded_option (coded_list coded_ℕ))))
-    (λ f. (f.kind, (f.machine, f.page))) (λ p. record { kind = p.0; machine = p.1.0; page = p.1.1 }) (λ _. refl)
+    (λ f. (f.type, (f.machine, f.page))) (λ p. record { type = p.0; machine = p.1.0; page = p.1.1 }) (λ _. refl)
 
 abbrev pub host_code : Coded HostOf
 host_code =

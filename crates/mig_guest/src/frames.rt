@@ -1,9 +1,10 @@
-ghost use Rattle.std.specs.Prelude.{◌≡◌, ◌≢◌, false, ℕ, ◌+◌, ◌<◌, ◌≤◌, ◌^◌, OnOk, OnErr, IfSome, IfNone, IsSome, IsOk, IsTrue, Some, None, is_some, option_and_then};
+ghost use Rattle.std.specs.Prelude.{◌≡◌, ◌≢◌, false, ℕ, ◌+◌, ◌<◌, ◌≤◌, OnOk, OnErr, IfSome, IfNone, IsSome, IsOk, IsTrue, Some, None, is_some, option_and_then};
 ghost use Rattle.std.specs.Option.{option_copied, option_copied_mut, option_map};
 ghost use Rattle.std.specs.Ordering.{nat_cmp};
 ghost use Rattle.std.specs.BTreeMap as tree;
 ghost use Rattle.std.specs.FinMap as maps;
 ghost use Rattle.std.specs.Borrow.{sem};
+ghost use Rattle.mig_pagetypes.specs.Limits.{pfn_limit};
 
 use mig_bytes::Memory;
 use mig_pagestore::PageStore;
@@ -67,7 +68,7 @@ impl Frames {
     }
 
     pub(crate) fn kind(&self, pfn: u64) -> Option<PageType>
-        ensures { result ≡ option_map (λ f. f.kind) (maps.get self.now pfn) }
+        ensures { result ≡ option_map (λ f. f.type) (maps.get self.now pfn) }
     {
         match self.kinds.get(&pfn) {
             Some(kind) => Some(*kind),
@@ -95,14 +96,14 @@ impl Frames {
     pub(crate) fn next(&self, from: u64) -> Option<u64>
         ensures none { IfNone result ((k : ℕ) → from ≤ k → maps.get self.now k ≡ None) }
         ensures least { IfSome result (λ q. (from ≤ q) × IsSome (maps.get self.now q) × ((k : ℕ) → from ≤ k → k < q → maps.get self.now k ≡ None)) }
-        ensures small { IfSome result (λ q. q < 2 ^ 28) }
+        ensures small { IfSome result (λ q. q < pfn_limit) }
     {
         least_from(&self.kinds, from)
     }
 
     pub(crate) fn next_entry(&self, from: u64) -> Option<(u64, PageType, Option<&[u8; 4096]>)>
-        ensures next { NextEntry from (maps.entries self.now) (option_map (λ e. (e.0, record { kind = e.1; page = option_copied e.2 })) result) }
-        ensures small { IfSome result (λ e. e.0 < 2 ^ 28) }
+        ensures next { NextEntry from (maps.entries self.now) (option_map (λ e. (e.0, record { type = e.1; page = option_copied e.2 })) result) }
+        ensures small { IfSome result (λ e. e.0 < pfn_limit) }
         ensures paged { IfSome result (λ e. is_some e.2 ≡ type_has_data e.1) }
     {
         match self.kinds.range(from..).next() {
@@ -113,9 +114,9 @@ impl Frames {
 
     // Sets a frame that has a page.
     fn set_whole(&mut self, pfn: u64, kind: PageType, page: &[u8; 4096]) -> Result<(), Memory>
-        requires small { pfn < 2 ^ 28 }
+        requires small { pfn < pfn_limit }
         requires data { IsTrue (type_has_data kind) }
-        ensures ok { OnOk result (self.new ≡ maps.insert self.old pfn (record { kind = kind; page = Some page.now })) }
+        ensures ok { OnOk result (self.new ≡ maps.insert self.old pfn (record { type = kind; page = Some page.now })) }
         ensures err { OnErr result (self.new ≡ self.old) }
     {
         if self.pages.reserve(1).is_err() {
@@ -130,10 +131,10 @@ impl Frames {
 
     // Sets a frame whose type has no data.
     fn set_bare(&mut self, pfn: u64, kind: PageType) -> Result<(), Memory>
-        requires small { pfn < 2 ^ 28 }
+        requires small { pfn < pfn_limit }
         requires data { type_has_data kind ≡ false }
         requires there { kind ≢ Xtab }
-        ensures ok { OnOk result (self.new ≡ maps.insert self.old pfn (record { kind = kind; page = None })) }
+        ensures ok { OnOk result (self.new ≡ maps.insert self.old pfn (record { type = kind; page = None })) }
         ensures err { OnErr result (self.new ≡ self.old) }
     {
         let Ok(_) = self.kinds.insert(pfn, kind) else {
@@ -145,7 +146,7 @@ impl Frames {
 
     // Takes a frame away.
     fn remove(&mut self, pfn: u64)
-        requires { pfn < 2 ^ 28 }
+        requires { pfn < pfn_limit }
         ensures { self.new ≡ maps.remove self.old pfn }
     {
         self.kinds.remove(&pfn);
@@ -158,7 +159,7 @@ impl Frames {
         kind: PageType,
         page: Option<&[u8; 4096]>,
     ) -> Result<(), Memory>
-        requires small { pfn < 2 ^ 28 }
+        requires small { pfn < pfn_limit }
         requires data { is_some page ≡ type_has_data kind }
         ensures ok { OnOk result (self.new ≡ framed self.old pfn kind (option_copied page.entry)) }
         ensures err { OnErr result (self.new ≡ self.old) }

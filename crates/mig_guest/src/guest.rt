@@ -1,9 +1,10 @@
-ghost use Rattle.std.specs.Prelude.{◌≡◌, ◌==◌, ℕ, ◌+◌, ◌<◌, ◌≤◌, ◌^◌, length, not, IsOk, OnOk, OnErr, IfSome, IfNone, IsSome, None, is_some, option_and_then};
+ghost use Rattle.std.specs.Prelude.{◌≡◌, ◌==◌, ℕ, ◌+◌, ◌<◌, ◌≤◌, length, not, IsOk, OnOk, OnErr, IfSome, IfNone, IsSome, None, is_some, option_and_then};
 ghost use Rattle.std.specs.declared.cmp.Ordering.TheVariants.{Less};
 ghost use Rattle.std.specs.Option.{option_copied, option_copied_mut, option_map};
 ghost use Rattle.std.specs.FinMap as maps;
 ghost use Rattle.std.specs.Borrow.{sem};
 ghost use Rattle.mig_pagetypes.specs.PageTypes.{type_has_data};
+ghost use Rattle.mig_pagetypes.specs.Limits.{pfn_limit};
 ghost use Rattle.mig_pagetypes.specs.declared.page_type.PageType.TheVariants.{Xtab};
 ghost use Rattle.mig_pagestore.specs.Pages.{spliced};
 ghost use Rattle.mig_guest.specs.declared.part_key.PartKey.{PartKey};
@@ -81,7 +82,7 @@ impl Guest {
         kind: PageType,
         page: Option<&[u8; 4096]>,
     ) -> Result<(), Memory>
-        requires small { pfn < 2 ^ 28 }
+        requires small { pfn < pfn_limit }
         requires paged { is_some page ≡ type_has_data kind }
         ensures ok { OnOk result (self.new ≡ record self.old { frames = framed self.old.frames pfn kind (option_copied page.entry) }) }
         ensures err { OnErr result (self.new ≡ self.old) }
@@ -92,7 +93,7 @@ impl Guest {
 
     /// The type of this frame; none where the guest doesn't have it.
     pub fn frame(&self, pfn: u64) -> Option<PageType>
-        ensures { result ≡ option_map (λ f. f.kind) (maps.get self.now.frames pfn) }
+        ensures { result ≡ option_map (λ f. f.type) (maps.get self.now.frames pfn) }
     {
         self.frames.kind(pfn)
     }
@@ -117,15 +118,15 @@ impl Guest {
         ensures none { IfNone result ((k : ℕ) → from ≤ k → maps.get self.now.frames k ≡ None) }
         ensures there { IfSome result (λ q. IsSome (maps.get self.now.frames q)) }
         ensures least { IfSome result (λ q. (from ≤ q) × ((k : ℕ) → from ≤ k → k < q → maps.get self.now.frames k ≡ None)) }
-        ensures small { IfSome result (λ q. q < 2 ^ 28) }
+        ensures small { IfSome result (λ q. q < pfn_limit) }
     {
         self.frames.next(from)
     }
 
     /// The first frame from this number on, with its type and its page.
     pub fn next_entry(&self, from: u64) -> Option<(u64, PageType, Option<&[u8; 4096]>)>
-        ensures next { NextEntry from (maps.entries self.now.frames) (option_map (λ e. (e.0, record { kind = e.1; page = option_copied e.2 })) result) }
-        ensures small { IfSome result (λ e. e.0 < 2 ^ 28) }
+        ensures next { NextEntry from (maps.entries self.now.frames) (option_map (λ e. (e.0, record { type = e.1; page = option_copied e.2 })) result) }
+        ensures small { IfSome result (λ e. e.0 < pfn_limit) }
         ensures paged { IfSome result (λ e. is_some e.2 ≡ type_has_data e.1) }
     {
         self.frames.next_entry(from)

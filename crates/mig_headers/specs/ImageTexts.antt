@@ -51,7 +51,7 @@ abbrev pub arguments_of_image_cause : ImageCause → List (List ℕ)
 arguments_of_image_cause (BadKind kind) = decimal kind ∷ []
 arguments_of_image_cause (Width width) = decimal width ∷ []
 arguments_of_image_cause (FrameCount count) = decimal count ∷ []
-arguments_of_image_cause (BadPageType kind) = decimal kind ∷ []
+arguments_of_image_cause (BadPageType type) = decimal type ∷ []
 arguments_of_image_cause (FrameOrder pfn) = decimal pfn ∷ []
 arguments_of_image_cause (FrameOutside pfn) = decimal pfn ∷ []
 arguments_of_image_cause (MachineFrame mfn) = decimal mfn ∷ []

@@ -49,32 +49,32 @@ vcpu_entries n len = nat_le 8 len && ((len - 8) % n == 0)
 abbrev pub supported : ℕ → (Kind → Bool) → (ℕ → Bool) → Row
 supported number of_kind allows = record { number = number; supported = true; of_kind = of_kind; allows = allows }
 
-abbrev pub unsupported : ℕ → Row
-unsupported number = record { number = number; supported = false; of_kind = both; allows = any_length }
+abbrev pub unsupported : ℕ → (ℕ → Bool) → Row
+unsupported number allows = record { number = number; supported = false; of_kind = both; allows = allows }
 
-abbrev pub row_of : RecordType → Row
-row_of End = supported 0x0 both (exactly 0)
-row_of PageData = supported 0x1 both (at_least 8)
-row_of X86PvInfo = supported 0x2 pv (exactly 8)
-row_of X86PvP2mFrames = supported 0x3 pv (at_least 8)
-row_of X86PvVcpuBasic = supported 0x4 pv (vcpu_context 5168)
-row_of X86PvVcpuExtended = supported 0x5 pv (at_least 8)
-row_of X86PvVcpuXsave = supported 0x6 pv (at_least 8)
-row_of SharedInfo = supported 0x7 pv (exactly 4096)
-row_of X86TscInfo = supported 0x8 both (exactly 24)
-row_of HvmContext = supported 0x9 hvm any_length
-row_of HvmParams = supported 0xA hvm (at_least 8)
-row_of Toolstack = unsupported 0xB
-row_of X86PvVcpuMsrs = supported 0xC pv (vcpu_entries 16)
-row_of Verify = unsupported 0xD
-row_of Checkpoint = unsupported 0xE
-row_of CheckpointDirtyPfnList = unsupported 0xF
-row_of StaticDataEnd = supported 0x10 both (exactly 0)
-row_of X86CpuidPolicy = supported 0x11 both (entries 24 (2 ^ 16 * 24))
-row_of X86MsrPolicy = supported 0x12 both (entries 16 (2 ^ 16 * 16))
+abbrev pub record_row_of : RecordType → Row
+record_row_of End = supported 0x0 both (exactly 0)
+record_row_of PageData = supported 0x1 both (at_least 8)
+record_row_of X86PvInfo = supported 0x2 pv (exactly 8)
+record_row_of X86PvP2mFrames = supported 0x3 pv (at_least 8)
+record_row_of X86PvVcpuBasic = supported 0x4 pv (vcpu_context 5168)
+record_row_of X86PvVcpuExtended = supported 0x5 pv (at_least 8)
+record_row_of X86PvVcpuXsave = supported 0x6 pv (at_least 8)
+record_row_of SharedInfo = supported 0x7 pv (exactly 4096)
+record_row_of X86TscInfo = supported 0x8 both (exactly 24)
+record_row_of HvmContext = supported 0x9 hvm any_length
+record_row_of HvmParams = supported 0xA hvm (at_least 8)
+record_row_of Toolstack = unsupported 0xB any_length
+record_row_of X86PvVcpuMsrs = supported 0xC pv (vcpu_entries 16)
+record_row_of Verify = unsupported 0xD (exactly 0)
+record_row_of Checkpoint = unsupported 0xE any_length
+record_row_of CheckpointDirtyPfnList = unsupported 0xF any_length
+record_row_of StaticDataEnd = supported 0x10 both (exactly 0)
+record_row_of X86CpuidPolicy = supported 0x11 both (entries 24 (2 ^ 16 * 24))
+record_row_of X86MsrPolicy = supported 0x12 both (entries 16 (2 ^ 16 * 16))
 
 abbrev pub type_number : RecordType → ℕ
-type_number kind = (row_of kind).number
+type_number type = (record_row_of type).number
 
 -- the types in the order of their numbers
 abbrev pub record_types : List RecordType
@@ -90,5 +90,5 @@ is_optional number = nat_le (2 ^ 31) number
 
 -- a type's number has that type, and is the only one that has it
 pub record NumbersAreInverse : Type 0 where
-  pub type_of : (kind : RecordType) → type_of_number (type_number kind) ≡ Some kind
-  pub number_of : (number : ℕ) (kind : RecordType) → type_of_number number ≡ Some kind → type_number kind ≡ number
+  pub type_of : (type : RecordType) → type_of_number (type_number type) ≡ Some type
+  pub number_of : (number : ℕ) (type : RecordType) → type_of_number number ≡ Some type → type_number type ≡ number

@@ -38,7 +38,7 @@ pub enum RecordType {
 }
 
 impl RecordType {
-    ghost use Rattle.mig_headers.specs.RecordTypes.{type_number, type_of_number, row_of};
+    ghost use Rattle.mig_headers.specs.RecordTypes.{type_number, type_of_number, record_row_of};
 
     /// The type of this number.
     pub fn from_number(number: u32) -> Option<RecordType>
@@ -78,7 +78,7 @@ impl RecordType {
 
     /// Whether records of this type are read at all.
     pub fn is_supported(self) -> bool
-        ensures { result ≡ (row_of self).supported }
+        ensures { result ≡ (record_row_of self).supported }
     {
         !matches!(
             self,
@@ -91,7 +91,7 @@ impl RecordType {
 
     /// Whether a stream of this kind of guest may have such a record.
     pub fn is_of(self, kind: Kind) -> bool
-        ensures { result ≡ (row_of self).of_kind kind }
+        ensures { result ≡ (record_row_of self).of_kind kind }
     {
         match self {
             RecordType::X86PvInfo
@@ -108,10 +108,10 @@ impl RecordType {
 
     /// Whether the body of such a record may have this length.
     pub fn allows_length(self, len: u32) -> bool
-        ensures { result ≡ (row_of self).allows len }
+        ensures { result ≡ (record_row_of self).allows len }
     {
         match self {
-            RecordType::End | RecordType::StaticDataEnd => len == 0,
+            RecordType::End | RecordType::Verify | RecordType::StaticDataEnd => len == 0,
             RecordType::X86PvInfo => len == 8,
             RecordType::PageData
             | RecordType::X86PvP2mFrames
@@ -126,7 +126,6 @@ impl RecordType {
             RecordType::X86MsrPolicy => len % MSR_ENTRY == 0 && len <= MOST_ENTRIES * MSR_ENTRY,
             RecordType::HvmContext
             | RecordType::Toolstack
-            | RecordType::Verify
             | RecordType::Checkpoint
             | RecordType::CheckpointDirtyPfnList => true,
         }

@@ -18,7 +18,7 @@ use Rattle.mig_pagetypes.specs.declared.page_type.PageType.{PageType}
 use Rattle.mig_pagetypes.specs.PageTypes.{type_has_data}
 use Rattle.mig_guest.specs.Frames.{is_type_of}
 use Rattle.mig_guest.specs.Hosts.{HostOf, HostFrame, HostFrames, IsHostFrame}
-use Rattle.mig_image.specs.ImageParts.{head_pfn, head_kind, frame_rows, fault_of_frame, frame_head_at, page_at, frame_said, put_frame, frame_at}
+use Rattle.mig_image.specs.ImageParts.{head_pfn, head_type, frame_rows, fault_of_frame, frame_head_at, page_at, frame_said, put_frame, frame_at}
 use Rattle.mig_image.proofs.InOrder.{none_passes}
 use Rattle.mig_image.proofs.KeyTests.{frame_absent}
 use Rattle.mig_image.proofs.PartRead.{after, handed_on}
@@ -31,20 +31,20 @@ module _ (h : HostOf) where
   put_said head page = Passes (put_frame h (head_pfn head) (frame_said head page.0)) page.1
 
   abbrev behind_head : List ℕ × List ℕ → Judged ImageCause HostOf
-  behind_head head = page_at (head_kind head.0) head.1 >>= put_said head.0
+  behind_head head = page_at (head_type head.0) head.1 >>= put_said head.0
 
   said_after : (head : List ℕ) (j : Judged ImageCause (List ℕ)) → ((j >>= λ page. Passes (Some page.0) page.1) >>= put_said head) ≡ (j >>= λ page. put_said head (Some page.0, page.1))
   said_after head (Passes page rest) = refl
   said_after head (Faulty c rest) = refl
 
-  with_page : (head i : List ℕ) → type_has_data (head_kind head) ≡ true → behind_head (head, i) ≡ (part Truncated 4096 i >>= λ page. put_said head (Some page.0, page.1))
+  with_page : (head i : List ℕ) → type_has_data (head_type head) ≡ true → behind_head (head, i) ≡ (part Truncated 4096 i >>= λ page. put_said head (Some page.0, page.1))
   with_page head i some = ap (λ b. cond b (part Truncated 4096 i >>= λ page. Passes (Some page.0) page.1) (Passes None i) >>= put_said head) some ∙ said_after head (part Truncated 4096 i)
 
-  module _ {Z : Type 0} (Q : Z → HostOf → Type 0) (a b : Option (List ℕ)) (head : List ℕ) (opens : Gives {X = List ℕ} (λ v head. head ≡ v) a b (frame_head_at h) (Ok head)) (kind : PageType) (same : kind ≡ head_kind head) where
+  module _ {Z : Type 0} (Q : Z → HostOf → Type 0) (a b : Option (List ℕ)) (head : List ℕ) (opens : Gives {X = List ℕ} (λ v head. head ≡ v) a b (frame_head_at h) (Ok head)) (kind : PageType) (same : kind ≡ head_type head) where
     -- of a type without data
     pub frame_reads : (z : Z) → type_has_data kind ≡ false → Q z (put_frame h (head_pfn head) (frame_said head None)) → Gives Q a b (frame_at h) (Ok z)
     frame_reads z none q =
-        let bare : type_has_data (head_kind head) ≡ false = ap type_has_data (sym same) ∙ none in
+        let bare : type_has_data (head_type head) ≡ false = ap type_has_data (sym same) ∙ none in
         after (λ v. v) Q a b b (frame_head_at h) behind_head head (Ok z) opens
         (done Q b (λ i. behind_head (head, i)) z _ (λ i. ap (λ t. cond t (part Truncated 4096 i >>= λ page. Passes (Some page.0) page.1) (Passes None i) >>= put_said head) bare) q)
 
@@ -91,14 +91,14 @@ module _ (h : HostOf) (head : List ℕ) (fine : fault_of_frame h head ≡ None) 
       let wrong : true ≡ false = sym (eq-eqb frame.machine (le64 head 8) (same ∙ is)) ∙ none_passes nat_cmp_total (λ (f : HostFrame). f.machine == le64 head 8) other frame (maps.entries h.frames) twice (sym (get-entries h.frames other) ∙ found) in cc
 
   -- it is one that a host has
-  pub is_frame : (pfn machine : ℕ) (kind : PageType) (page : List ℕ) → pfn ≡ head_pfn head → machine ≡ le64 head 8 → kind ≡ head_kind head → type_has_data kind ≡ true → length page ≡ 4096
-      → IsHostFrame h.kind h.width pfn (record { kind = kind; machine = machine; page = Some page })
+  pub is_frame : (pfn machine : ℕ) (kind : PageType) (page : List ℕ) → pfn ≡ head_pfn head → machine ≡ le64 head 8 → kind ≡ head_type head → type_has_data kind ≡ true → length page ≡ 4096
+      → IsHostFrame h.kind h.width pfn (record { type = kind; machine = machine; page = Some page })
   is_frame pfn machine kind page pfn_is machine_is kind_is some size =
       let (zero, (type, (order, (outside, (range, others))))) = rows_fine (frame_rows h head) fine in
       let (none, wide) = or_parts (le64 head 8 == 0) (nat_le (2 ^ 40) (le64 head 8)) range in
       record {
         inside = subst (λ n. n < h.width) (sym pfn_is) (leb-false h.width (head_pfn head) outside);
-        type = ap (is_type_of h.kind) kind_is ∙ not-false (is_type_of h.kind (head_kind head)) type;
+        type = ap (is_type_of h.kind) kind_is ∙ not-false (is_type_of h.kind (head_type head)) type;
         some_machine = subst (λ n. 0 < n) (sym machine_is) (some_number (le64 head 8) none);
         machine = subst (λ n. n < 2 ^ 40) (sym machine_is) (leb-false (2 ^ 40) (le64 head 8) wide);
         in_step = sym some;
@@ -112,6 +112,6 @@ module _ (h : HostOf) (head : List ℕ) (fine : fault_of_frame h head ≡ None) 
       same_page other e = cc
 
 -- the frame that is set is the one that the head and the page say
-pub said_is : (h : HostOf) (head : List ℕ) (pfn machine : ℕ) (kind : PageType) (page : Option (List ℕ)) → pfn ≡ head_pfn head → machine ≡ le64 head 8 → kind ≡ head_kind head
-    → put_frame h pfn (record { kind = kind; machine = machine; page = page }) ≡ put_frame h (head_pfn head) (frame_said head page)
-said_is h head pfn machine kind page p m k i = put_frame h (p i) (record { kind = k i; machine = m i; page = page })
+pub said_is : (h : HostOf) (head : List ℕ) (pfn machine : ℕ) (kind : PageType) (page : Option (List ℕ)) → pfn ≡ head_pfn head → machine ≡ le64 head 8 → kind ≡ head_type head
+    → put_frame h pfn (record { type = kind; machine = machine; page = page }) ≡ put_frame h (head_pfn head) (frame_said head page)
+said_is h head pfn machine kind page p m k i = put_frame h (p i) (record { type = k i; machine = m i; page = page })

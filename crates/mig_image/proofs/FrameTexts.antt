@@ -15,11 +15,11 @@ use Rattle.mig_headers.specs.declared.image_fault.ImageCause.TheVariants.{Trunca
 use Rattle.mig_headers.specs.declared.kind.Kind.{Kind}
 use Rattle.mig_pagetypes.specs.declared.page_type.PageType.{PageType}
 use Rattle.mig_pagetypes.specs.declared.page_type.PageType.TheVariants.{Notab, L1Tab, L2Tab, L3Tab, L4Tab, L1Pinned, L2Pinned, L3Pinned, L4Pinned, Broken, Xalloc, Xtab}
-use Rattle.mig_pagetypes.specs.PageTypes.{number_of, type_of, type_has_data}
+use Rattle.mig_pagetypes.specs.PageTypes.{number_of, type_of, type_or_none, type_has_data}
 use Rattle.mig_guest.specs.Frames.{is_type_of}
 use Rattle.mig_guest.specs.Hosts.{HostOf, HostFrame, HostFrames, IsHostFrame}
 use Rattle.mig_image.specs.Image.{host_word, frame_head_of, frame_text}
-use Rattle.mig_image.specs.ImageParts.{head_pfn, head_kind, type_or_none, has_machine, has_frame_from, frame_rows, fault_of_frame, frame_head_at, page_at, frame_said, put_frame, frame_at}
+use Rattle.mig_image.specs.ImageParts.{head_pfn, head_type, has_machine, has_frame_from, frame_rows, fault_of_frame, frame_head_at, page_at, frame_said, put_frame, frame_at}
 use Rattle.mig_bytes.proofs.Joins.{then_passes, tried_none}
 use Rattle.mig_headers.proofs.FirstFaults.{no_fault}
 
@@ -68,9 +68,9 @@ low_part n pfn h = omega arith
 high_part : (n pfn : ℕ) → pfn < 2 ^ 28 → (n * 2 ^ 28 + pfn) / 2 ^ 28 ≡ n
 high_part n pfn h = omega arith
 
-word_read : (pfn : ℕ) (f : HostFrame) → host_word pfn f.kind < 2 ^ 32 → le32 (frame_head_of pfn f) 0 ≡ host_word pfn f.kind
+word_read : (pfn : ℕ) (f : HostFrame) → host_word pfn f.type < 2 ^ 32 → le32 (frame_head_of pfn f) 0 ≡ host_word pfn f.type
 unfolding le32 frame_head_of
-word_read pfn f small = little_number-reads_back 4 (host_word pfn f.kind) (little_bytes 4 0 ++ little_bytes 8 f.machine) small
+word_read pfn f small = little_number-reads_back 4 (host_word pfn f.type) (little_bytes 4 0 ++ little_bytes 8 f.machine) small
 
 zero_read : (pfn : ℕ) (f : HostFrame) → le32 (frame_head_of pfn f) 4 ≡ 0
 unfolding le32 frame_head_of
@@ -88,17 +88,17 @@ head_len pfn f = refl
 record Says (head : List ℕ) (e : ℕ × HostFrame) : Type 0 where
   zero : le32 head 4 ≡ 0
   pfn : head_pfn head ≡ e.0
-  kind : head_kind head ≡ e.1.kind
+  kind : head_type head ≡ e.1.type
   machine : le64 head 8 ≡ e.1.machine
 
 says : (e : ℕ × HostFrame) → e.0 < 2 ^ 28 → e.1.machine < 2 ^ 40 → Says (frame_head_of e.0 e.1) e
 says e below small =
-    let n = number_of e.1.kind in
-    let word = word_read e.0 e.1 (word_small n e.0 (number_small e.1.kind) below) in
+    let n = number_of e.1.type in
+    let word = word_read e.0 e.1 (word_small n e.0 (number_small e.1.type) below) in
     record {
       zero = zero_read e.0 e.1;
       pfn = ap (λ w. w % 2 ^ 28) word ∙ low_part n e.0 below;
-      kind = ap (λ w. type_or_none (type_of (w / 2 ^ 28))) word ∙ ap (λ t. type_or_none (type_of t)) (high_part n e.0 below) ∙ ap type_or_none (typed e.1.kind);
+      kind = ap (λ w. type_or_none (type_of (w / 2 ^ 28))) word ∙ ap (λ t. type_or_none (type_of t)) (high_part n e.0 below) ∙ ap type_or_none (typed e.1.type);
       machine = machine_read e.0 e.1 (omega arith);
     }
 
@@ -148,8 +148,8 @@ frame_is : (h : HostOf) (e : ℕ × HostFrame) (head : List ℕ) (rest : List �
     → ◌≡◌ {A = Judged ImageCause HostOf} (Passes (put_frame h (head_pfn head) (frame_said head e.1.page)) rest) (Passes (put_frame h e.0 e.1) rest)
 frame_is h e head rest s =
     ap (λ p. Passes (put_frame h p (frame_said head e.1.page)) rest) s.pfn
-    ∙ ap (λ k. Passes (put_frame h e.0 (record { kind = k; machine = le64 head 8; page = e.1.page })) rest) s.kind
-    ∙ ap (λ m. Passes (put_frame h e.0 (record { kind = e.1.kind; machine = m; page = e.1.page })) rest) s.machine
+    ∙ ap (λ k. Passes (put_frame h e.0 (record { type = k; machine = le64 head 8; page = e.1.page })) rest) s.kind
+    ∙ ap (λ m. Passes (put_frame h e.0 (record { type = e.1.type; machine = m; page = e.1.page })) rest) s.machine
 
 pub frame_goes : (h : HostOf) (e : ℕ × HostFrame) (rest : List ℕ) → h.width ≤ 2 ^ 28 → FrameFits h.kind h.width h.frames e → frame_at h (frame_text e ++ rest) ≡ Passes (put_frame h e.0 e.1) rest
 frame_goes h e rest wide f =
@@ -157,7 +157,7 @@ frame_goes h e rest wide f =
     let mid = unwrap_or e.1.page [] ++ rest in
     let s = says e (let below : e.0 < 2 ^ 28 = omega (arith, f.is.inside, wide) in below) f.is.machine in
     ap (frame_at h) (append_assoc head (unwrap_or e.1.page []) rest)
-    ∙ then_passes (frame_head_at h (head ++ mid)) (λ a. page_at (head_kind a.0) a.1 >>= λ page. Passes (put_frame h (head_pfn a.0) (frame_said a.0 page.0)) page.1) head mid _
+    ∙ then_passes (frame_head_at h (head ++ mid)) (λ a. page_at (head_type a.0) a.1 >>= λ page. Passes (put_frame h (head_pfn a.0) (frame_said a.0 page.0)) page.1) head mid _
     (then_passes (part Truncated 16 (head ++ mid)) (λ a. tried (fault_of_frame h a.0) a.1 >>= λ _. Passes a.0 a.1) head mid _ (part_whole Truncated 16 head mid (head_len e.0 e.1)) (tried_none (fault_of_frame h head) mid (Passes head mid) (fine h e head s f)))
-    (then_passes (page_at (head_kind head) mid) (λ page. Passes (put_frame h (head_pfn head) (frame_said head page.0)) page.1) e.1.page rest _
-    (ap (λ k. page_at k mid) s.kind ∙ page_goes e.1.kind e.1.page rest f.is.in_step f.is.whole) (frame_is h e head rest s))
+    (then_passes (page_at (head_type head) mid) (λ page. Passes (put_frame h (head_pfn head) (frame_said head page.0)) page.1) e.1.page rest _
+    (ap (λ k. page_at k mid) s.kind ∙ page_goes e.1.type e.1.page rest f.is.in_step f.is.whole) (frame_is h e head rest s))

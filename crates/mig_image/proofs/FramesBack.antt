@@ -19,11 +19,11 @@ use Rattle.mig_headers.specs.declared.kind.Kind.{Kind}
 use Rattle.mig_headers.specs.declared.kind.Kind.TheVariants.{Pv, Hvm}
 use Rattle.mig_pagetypes.specs.declared.page_type.PageType.{PageType}
 use Rattle.mig_pagetypes.specs.declared.page_type.PageType.TheVariants.{Xtab}
-use Rattle.mig_pagetypes.specs.PageTypes.{number_of, type_of, type_has_data, all_types}
+use Rattle.mig_pagetypes.specs.PageTypes.{number_of, type_of, type_or_none, type_has_data, all_types}
 use Rattle.mig_guest.specs.Frames.{is_type_of}
 use Rattle.mig_guest.specs.Hosts.{HostOf, HostFrame, HostFrames, IsHostFrame, IsOneToOne}
 use Rattle.mig_image.specs.Image.{host_word, frame_head_of, frame_text}
-use Rattle.mig_image.specs.ImageParts.{head_pfn, head_type, head_kind, type_or_none, frame_rows, fault_of_frame, frame_head_at, page_at, frame_said, put_frame, frame_at}
+use Rattle.mig_image.specs.ImageParts.{head_pfn, head_type_number, head_type, frame_rows, fault_of_frame, frame_head_at, page_at, frame_said, put_frame, frame_at}
 use Rattle.mig_image.proofs.FieldBytes.{Bytes, bytes_front, bytes_back, word_back, long_back, cut, last, judged_part, placed_passes, regroup}
 use Rattle.mig_image.proofs.FrameTexts.{FrameFits, page_if}
 use Rattle.mig_image.proofs.FrameChains.{Entry, FrameChain, put_frames, with_frames, from_is}
@@ -43,10 +43,10 @@ type_number kind type (Some t) is has = eqb-true (number_of t) type (found_passe
 whole_word : (w : ℕ) → (w / 2 ^ 28) * 2 ^ 28 + w % 2 ^ 28 ≡ w
 whole_word w = omega arith
 
-head_back : (head : List ℕ) (pfn : ℕ) (f : HostFrame) → Bytes head → length head ≡ 16 → host_word pfn f.kind ≡ le32 head 0 → 0 ≡ le32 head 4 → f.machine ≡ le64 head 8 → frame_head_of pfn f ≡ head
+head_back : (head : List ℕ) (pfn : ℕ) (f : HostFrame) → Bytes head → length head ≡ 16 → host_word pfn f.type ≡ le32 head 0 → 0 ≡ le32 head 4 → f.machine ≡ le64 head 8 → frame_head_of pfn f ≡ head
 unfolding frame_head_of
 head_back head pfn f all size word none machine =
-    let first : little_bytes 4 (host_word pfn f.kind) ≡ take 4 head = ap (little_bytes 4) word ∙ word_back 0 head all (omega (arith, size)) in
+    let first : little_bytes 4 (host_word pfn f.type) ≡ take 4 head = ap (little_bytes 4) word ∙ word_back 0 head all (omega (arith, size)) in
     let second : little_bytes 4 0 ≡ take 4 (drop 4 head) = ap (little_bytes 4) none ∙ word_back 4 head all (omega (arith, size)) in
     let third : little_bytes 8 f.machine ≡ drop 8 head = ap (little_bytes 8) machine ∙ long_back 8 head all (omega (arith, size)) ∙ sym (last 8 8 head size) in
     let apart : head ≡ take 4 head ++ (take 4 (drop 4 head) ++ drop 8 head) = cut 0 4 head ∙ ap (λ l. take 4 head ++ l) (cut 4 4 head) in
@@ -99,14 +99,14 @@ positive : (n : ℕ) → nat_eq n 0 ≡ false → 0 < n
 positive zero h = cc
 positive (suc n) h = omega arith
 
-fits_from : (h : HostOf) (head : List ℕ) (page : Option (List ℕ)) (i rest : List ℕ) → fault_of_frame h head ≡ None → PageFound (head_kind head) i page rest → FrameFits h.kind h.width h.frames (head_pfn head, frame_said head page)
+fits_from : (h : HostOf) (head : List ℕ) (page : Option (List ℕ)) (i rest : List ℕ) → fault_of_frame h head ≡ None → PageFound (head_type head) i page rest → FrameFits h.kind h.width h.frames (head_pfn head, frame_said head page)
 fits_from h head page i rest fine p =
     let (reserved, (type, (order, (outside, (machine, (twice, done)))))) = rows_fine (frame_rows h head) fine in
     let m = or_parts (nat_eq (le64 head 8) 0) (nat_le (2 ^ 40) (le64 head 8)) machine in
     record {
       is = record {
         inside = leb-false h.width (head_pfn head) outside;
-        type = not-false (is_type_of h.kind (head_kind head)) type;
+        type = not-false (is_type_of h.kind (head_type head)) type;
         some_machine = positive (le64 head 8) m.0;
         machine = leb-false (2 ^ 40) (le64 head 8) m.1;
         in_step = p.in_step;
@@ -119,20 +119,20 @@ fits_from h head page i rest fine p =
 said_head : (h : HostOf) (head : List ℕ) (page : Option (List ℕ)) → Bytes head → length head ≡ 16 → fault_of_frame h head ≡ None → frame_head_of (head_pfn head) (frame_said head page) ≡ head
 said_head h head page all size fine =
     let (reserved, (type, others)) = rows_fine (frame_rows h head) fine in
-    let number : number_of (head_kind head) ≡ head_type head = type_number h.kind (head_type head) (type_of (head_type head)) refl (not-false (is_type_of h.kind (head_kind head)) type) in
+    let number : number_of (head_type head) ≡ head_type_number head = type_number h.kind (head_type_number head) (type_of (head_type_number head)) refl (not-false (is_type_of h.kind (head_type head)) type) in
     head_back head (head_pfn head) (frame_said head page) all size (ap (λ n. n * 2 ^ 28 + head_pfn head) number ∙ whole_word (le32 head 0))
     (sym (eqb-true (le32 head 4) 0 (not-false (nat_eq (le32 head 4) 0) reserved))) refl
 
 abbrev behind_frame_head : HostOf → List ℕ × List ℕ → Judged ImageCause HostOf
-behind_frame_head h a = page_at (head_kind a.0) a.1 >>= λ page. Passes (put_frame h (head_pfn a.0) (frame_said a.0 page.0)) page.1
+behind_frame_head h a = page_at (head_type a.0) a.1 >>= λ page. Passes (put_frame h (head_pfn a.0) (frame_said a.0 page.0)) page.1
 
 frame_back : (h : HostOf) (i : List ℕ) (g : HostOf) (rest : List ℕ) → Bytes i → frame_at h i ≡ Passes g rest → FrameFound h i g rest
 frame_back h i g rest all is =
     let a = both_pass (frame_head_at h i) (behind_frame_head h) g rest is in
     let head = a.x in
     let p = judged_part Truncated 16 (fault_of_frame h) i head a.mid a.first in
-    let c = both_pass (page_at (head_kind head) a.mid) (λ page. Passes (put_frame h (head_pfn head) (frame_said head page.0)) page.1) g rest a.second in
-    let q = page_back (head_kind head) a.mid c.x c.mid c.first in
+    let c = both_pass (page_at (head_type head) a.mid) (λ page. Passes (put_frame h (head_pfn head) (frame_said head page.0)) page.1) g rest a.second in
+    let q = page_back (head_type head) a.mid c.x c.mid c.first in
     let e = same_passes (put_frame h (head_pfn head) (frame_said head c.x)) g c.mid rest c.second in
     let bytes : Bytes head = bytes_front i head a.mid p.0 all in
     let text = unwrap_or c.x [] in

@@ -71,12 +71,12 @@ module _ (frames : FrameMap) (machines : MachineMap) where
   seen : (pfn : ℕ) → maps.get joined pfn ≡ option_map (λ (f : FrameOf). with_machine f (machine_in machines pfn)) (maps.get frames pfn)
   seen = get_with_machines frames (machine_in machines)
 
-  kind_of : (m : ℕ) (r : Option FrameOf) → option_map (λ (f : FrameOf). f.kind) r ≡ option_map (λ (f : HostFrame). f.kind) (option_map (λ (f : FrameOf). with_machine f m) r)
+  kind_of : (m : ℕ) (r : Option FrameOf) → option_map (λ (f : FrameOf). f.type) r ≡ option_map (λ (f : HostFrame). f.type) (option_map (λ (f : FrameOf). with_machine f m) r)
   kind_of m None = refl
   kind_of m (Some f) = refl
 
-  pub kind_joined : (pfn : ℕ) → option_map (λ (f : FrameOf). f.kind) (maps.get frames pfn) ≡ option_map (λ (f : HostFrame). f.kind) (maps.get joined pfn)
-  kind_joined pfn = kind_of (machine_in machines pfn) (maps.get frames pfn) ∙ ap (option_map (λ (f : HostFrame). f.kind)) (sym (seen pfn))
+  pub kind_joined : (pfn : ℕ) → option_map (λ (f : FrameOf). f.type) (maps.get frames pfn) ≡ option_map (λ (f : HostFrame). f.type) (maps.get joined pfn)
+  kind_joined pfn = kind_of (machine_in machines pfn) (maps.get frames pfn) ∙ ap (option_map (λ (f : HostFrame). f.type)) (sym (seen pfn))
 
   page_of : (m : ℕ) (r : Option FrameOf) → option_and_then (λ (f : FrameOf). f.page) r ≡ option_and_then (λ (f : HostFrame). f.page) (option_map (λ (f : FrameOf). with_machine f m) r)
   page_of m None = refl

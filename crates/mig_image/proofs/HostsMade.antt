@@ -26,7 +26,7 @@ use Rattle.mig_image.proofs.HostMaps.{joined, get_with_machines, count_with_mach
 use Rattle.mig_image.proofs.MachineMaps.{got_put, got_other, same_value, nothing}
 
 -- a frame of a type that a host's frame has
-pub framed_typed : (k : Kind) (kind : PageType) → is_type_of k kind ≡ true → (m : FrameMap) (pfn : ℕ) (page : Option (List ℕ)) → framed m pfn kind page ≡ maps.insert m pfn (record { kind = kind; page = page })
+pub framed_typed : (k : Kind) (kind : PageType) → is_type_of k kind ≡ true → (m : FrameMap) (pfn : ℕ) (page : Option (List ℕ)) → framed m pfn kind page ≡ maps.insert m pfn (record { type = kind; page = page })
 framed_typed k Notab is m pfn page = refl
 framed_typed k L1Tab is m pfn page = refl
 framed_typed k L2Tab is m pfn page = refl

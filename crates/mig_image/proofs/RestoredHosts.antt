@@ -220,7 +220,7 @@ module _ (g : GuestOf) (base : ℕ) where
     host_frame : (0 < base) × (base + length (maps.entries g.frames) ≤ 2 ^ 40) → (pfn : ℕ) (f : FrameOf) → maps.get g.frames pfn ≡ Some f → IsHostFrame g.kind (width_of (maps.entries g.frames)) pfn (with_machine f (machine_of pfn))
     host_frame range pfn f is = record {
       inside = frame_inside g.frames pfn f is;
-      type = host_type g.kind f.kind whole.hvm (whole.types pfn f is);
+      type = host_type g.kind f.type whole.hvm (whole.types pfn f is);
       some_machine = omega (arith, range.0);
       machine = omega (arith, range.1, rank_small g.frames pfn f is);
       in_step = (whole.frames pfn f is).1.in_step;

@@ -23,7 +23,7 @@ use Rattle.mig_image.proofs.MachineMaps.{got_put, got_other, same_value, nothing
 pub record IsSample (g : GuestOf) : Type 0 where
   pub hvm : g.kind ≡ Hvm
   pub top : g.top ≡ 0
-  pub types : (pfn : ℕ) (frame : FrameOf) → maps.get g.frames pfn ≡ Some frame → is_hvm_type frame.kind ≡ true
+  pub types : (pfn : ℕ) (frame : FrameOf) → maps.get g.frames pfn ≡ Some frame → is_hvm_type frame.type ≡ true
   pub parts : (key : PartKey) (bytes : List ℕ) → maps.get g.parts key ≡ Some bytes → IsHvmPart key bytes
 
 pub sample_new : (g : GuestOf) → g ≡ record { kind = Hvm; top = 0; frames = maps.empty; parts = maps.empty } → IsSample g
@@ -35,12 +35,12 @@ sample_new g is = subst IsSample (sym is) (record {
 })
 
 module _ (g h : GuestOf) (sample : IsSample g) where
-  pub sample_frame : (pfn : ℕ) (f : FrameOf) → is_hvm_type f.kind ≡ true → h ≡ record g { frames = maps.insert g.frames pfn f } → IsSample h
+  pub sample_frame : (pfn : ℕ) (f : FrameOf) → is_hvm_type f.type ≡ true → h ≡ record g { frames = maps.insert g.frames pfn f } → IsSample h
   sample_frame pfn f fine is = subst IsSample (sym is) (record {
     hvm = sample.hvm;
     top = sample.top;
     types = λ q frame has. elim (cases_eq q pfn) [
-      | inl same ↦ subst (λ (x : FrameOf). is_hvm_type x.kind ≡ true) (same_value f frame (sym (got_put g.frames pfn f) ∙ ap (maps.get (maps.insert g.frames pfn f)) (sym same) ∙ has)) fine
+      | inl same ↦ subst (λ (x : FrameOf). is_hvm_type x.type ≡ true) (same_value f frame (sym (got_put g.frames pfn f) ∙ ap (maps.get (maps.insert g.frames pfn f)) (sym same) ∙ has)) fine
       | inr ne ↦ sample.types q frame (sym (got_other g.frames pfn f q ne) ∙ has)
     ];
     parts = sample.parts;

@@ -12,7 +12,7 @@ MachineMap = maps.FinMap nat_cmp ℕ
 
 -- a frame with its machine frame
 abbrev pub with_machine : FrameOf → ℕ → HostFrame
-with_machine frame machine = record { kind = frame.kind; machine = machine; page = frame.page }
+with_machine frame machine = record { type = frame.type; machine = machine; page = frame.page }
 
 -- each frame with the machine frame of its PFN
 abbrev pub with_machines : FrameMap → (ℕ → ℕ) → HostFrames

@@ -4,7 +4,7 @@ use Rattle.std.specs.Prelude.{ℕ, ◌+◌, ◌<◌, ◌^◌, ◌⊎◌, ◌≡�
 use Rattle.std.specs.FinMap as maps
 use Rattle.mig_guest.specs.Frames.{FrameMap}
 use Rattle.mig_guest.specs.Guests.{GuestOf}
-use Rattle.mig_guest.specs.Hosts.{HostOf}
+use Rattle.mig_guest.specs.Hosts.{HostOf, machine_limit}
 use Rattle.mig_image.specs.HostView.{with_machines}
 
 -- how many of the frames have a smaller PFN
@@ -27,4 +27,4 @@ hosted g base = record {
 
 -- machine frames from the base on don't lie from 1 to 2 ^ 40 - 1
 abbrev pub IsBaseOutside : GuestOf → ℕ → Type 0
-IsBaseOutside g base = (base ≡ 0) ⊎ (2 ^ 40 < base + length (maps.entries g.frames))
+IsBaseOutside g base = (base ≡ 0) ⊎ (machine_limit < base + length (maps.entries g.frames))

@@ -17,13 +17,17 @@ head_of h =
     codes "XGIMAGE1" ++ (little_bytes 4 (kind_number h.kind) ++ (little_bytes 4 0
     ++ (little_bytes 8 h.width ++ little_bytes 8 (length (maps.entries h.frames)))))
 
+-- the bits of a word that hold the PFN
+abbrev pub pfn_bits : ℕ
+pfn_bits = 28
+
 -- the type in bits 31 to 28, the PFN in the others
 abbrev pub host_word : ℕ → PageType → ℕ
-host_word pfn kind = number_of kind * 2 ^ 28 + pfn
+host_word pfn type = number_of type * 2 ^ pfn_bits + pfn
 
 -- the word, 0, and the machine frame
 unfoldable pub frame_head_of : ℕ → HostFrame → List ℕ
-frame_head_of pfn f = little_bytes 4 (host_word pfn f.kind) ++ (little_bytes 4 0 ++ little_bytes 8 f.machine)
+frame_head_of pfn f = little_bytes 4 (host_word pfn f.type) ++ (little_bytes 4 0 ++ little_bytes 8 f.machine)
 
 -- and then the raw page, where the type has data
 abbrev pub frame_text : ℕ × HostFrame → List ℕ

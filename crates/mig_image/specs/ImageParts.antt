@@ -19,15 +19,16 @@ use Rattle.mig_headers.specs.declared.image_fault.ImagePlace.{ImagePlace}
 use Rattle.mig_headers.specs.declared.image_fault.ImagePlace.TheVariants.{Head, Frame, Parts, Part}
 use Rattle.mig_headers.specs.declared.kind.Kind.{Kind}
 use Rattle.mig_pagetypes.specs.declared.page_type.PageType.{PageType}
-use Rattle.mig_pagetypes.specs.declared.page_type.PageType.TheVariants.{Xtab}
-use Rattle.mig_pagetypes.specs.PageTypes.{type_of, type_has_data}
+use Rattle.mig_pagetypes.specs.Limits.{most_frames}
+use Rattle.mig_pagetypes.specs.PageTypes.{type_of, type_or_none, type_has_data}
 use Rattle.mig_guest.specs.declared.part_code.PartCode.{PartCode}
 use Rattle.mig_guest.specs.declared.part_key.PartKey.{PartKey}
 use Rattle.mig_guest.specs.Frames.{is_type_of}
-use Rattle.mig_guest.specs.Hosts.{HostOf, HostFrame}
+use Rattle.mig_guest.specs.Hosts.{HostOf, HostFrame, most_width, machine_limit}
 use Rattle.mig_guest.specs.Order.{part_cmp}
 use Rattle.mig_guest.specs.PartCodes.{code_of_number, row_of}
 use Rattle.mig_guest.specs.Parts.{PartMap, parts_of}
+use Rattle.mig_image.specs.Image.{pfn_bits}
 
 -- ---- the head, 32 bytes
 
@@ -36,7 +37,7 @@ abbrev pub image_name : ℕ
 image_name = 0x5847494D41474531
 
 abbrev pub is_wide : Kind → ℕ → Bool
-is_wide kind width = nat_lt (2 ^ 28) width || (pv kind && (width == 0))
+is_wide kind width = nat_lt most_width width || (pv kind && (width == 0))
 
 abbrev pub name_rows : List ℕ → List (Bool × ImageCause)
 name_rows head =
@@ -48,7 +49,7 @@ name_rows head =
 abbrev pub size_rows : Kind → ℕ → ℕ → List (Bool × ImageCause)
 size_rows kind width count =
     (is_wide kind width, Width width)
-    ∷ (nat_lt (2 ^ 24) count || nat_lt width count, FrameCount count)
+    ∷ (nat_lt most_frames count || nat_lt width count, FrameCount count)
     ∷ []
 
 abbrev pub fault_of_name : List ℕ → Option ImageCause
@@ -73,18 +74,14 @@ opened head = record { kind = kind_of_number (le32 head 8); width = le64 head 16
 -- ---- a frame behind the frames of a host: 16 bytes, and a page where the type has data
 
 abbrev pub head_pfn : List ℕ → ℕ
-head_pfn head = le32 head 0 % 2 ^ 28
+head_pfn head = le32 head 0 % 2 ^ pfn_bits
 
-abbrev pub head_type : List ℕ → ℕ
-head_type head = le32 head 0 / 2 ^ 28
-
-abbrev pub type_or_none : Option PageType → PageType
-type_or_none None = Xtab
-type_or_none (Some kind) = kind
+abbrev pub head_type_number : List ℕ → ℕ
+head_type_number head = le32 head 0 / 2 ^ pfn_bits
 
 -- the type in a head; a reserved one is as if it were no frame's
-abbrev pub head_kind : List ℕ → PageType
-head_kind head = type_or_none (type_of (head_type head))
+abbrev pub head_type : List ℕ → PageType
+head_type head = type_or_none (type_of (head_type_number head))
 
 -- some frame of the host has this machine frame
 abbrev pub has_machine : HostOf → ℕ → Bool
@@ -97,10 +94,10 @@ has_frame_from h pfn = list_any (λ e. nat_le pfn e.0) (maps.entries h.frames)
 abbrev pub frame_rows : HostOf → List ℕ → List (Bool × ImageCause)
 frame_rows h head =
     (not (le32 head 4 == 0), Reserved)
-    ∷ (not (is_type_of h.kind (head_kind head)), BadPageType (head_type head))
+    ∷ (not (is_type_of h.kind (head_type head)), BadPageType (head_type_number head))
     ∷ (has_frame_from h (head_pfn head), FrameOrder (head_pfn head))
     ∷ (nat_le h.width (head_pfn head), FrameOutside (head_pfn head))
-    ∷ ((le64 head 8 == 0) || nat_le (2 ^ 40) (le64 head 8), MachineFrame (le64 head 8))
+    ∷ ((le64 head 8 == 0) || nat_le machine_limit (le64 head 8), MachineFrame (le64 head 8))
     ∷ (has_machine h (le64 head 8), MachineTwice (le64 head 8))
     ∷ []
 
@@ -115,13 +112,13 @@ frame_head_at h input = do
   Passes head.0 head.1
 
 abbrev pub page_at : PageType → List ℕ → Judged ImageCause (Option (List ℕ))
-page_at kind input = if type_has_data kind then (do
+page_at type input = if type_has_data type then (do
   page ← part Truncated 4096 input
   Passes (Some page.0) page.1) else Passes None input
 
 -- the frame that a head and a page say
 abbrev pub frame_said : List ℕ → Option (List ℕ) → HostFrame
-frame_said head page = record { kind = head_kind head; machine = le64 head 8; page = page }
+frame_said head page = record { type = head_type head; machine = le64 head 8; page = page }
 
 abbrev pub put_frame : HostOf → ℕ → HostFrame → HostOf
 put_frame h pfn frame = record h { frames = maps.insert h.frames pfn frame }
@@ -129,7 +126,7 @@ put_frame h pfn frame = record h { frames = maps.insert h.frames pfn frame }
 abbrev pub frame_at : HostOf → List ℕ → Judged ImageCause HostOf
 frame_at h input = do
   head ← frame_head_at h input
-  page ← page_at (head_kind head.0) head.1
+  page ← page_at (head_type head.0) head.1
   Passes (put_frame h (head_pfn head.0) (frame_said head.0 page.0)) page.1
 
 -- ---- a part behind the parts of a host: 16 bytes, so many bytes, and zeros

@@ -8,15 +8,13 @@ ghost use Rattle.mig_image.specs.ImageParts.{fault_of_name, fault_of_sizes, faul
 
 use mig_bytes::{Source, Stop, take_part, u32_le, u64_be, u64_le};
 use mig_headers::{ImageCause, Kind};
+use mig_pagetypes::MAX_FRAMES;
 
-/// "XGIMAGE1".
-const IMAGE_NAME: u64 = 0x5847_494D_4147_4531;
+/// "XGIMAGE1", the lowest byte last.
+pub(crate) const IMAGE_NAME: u64 = 0x5847_494D_4147_4531;
 
 /// The greatest width of a host.
 const MAX_WIDTH: u64 = 1 << 28;
-
-/// The most frames of a guest.
-const MAX_FRAMES: u64 = 1 << 24;
 
 /// The kind of guest that a head names.
 pub(crate) fn kind_in(head: &[u8; 32]) -> Kind

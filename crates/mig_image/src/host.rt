@@ -1,11 +1,12 @@
-ghost use Rattle.std.specs.Prelude.{◌≡◌, ℕ, ◌≤◌, ◌<◌, ◌^◌, OnOk, OnErr, IfSome, IfNone, IsSome, Some, None, option_and_then, length};
+ghost use Rattle.std.specs.Prelude.{◌≡◌, ℕ, ◌≤◌, ◌<◌, OnOk, OnErr, IfSome, IfNone, IsSome, Some, None, option_and_then, length};
 ghost use Rattle.std.specs.declared.cmp.Ordering.TheVariants.{Less};
 ghost use Rattle.std.specs.Option.{option_copied, option_map};
 ghost use Rattle.std.specs.FinMap as maps;
 ghost use Rattle.mig_headers.specs.declared.kind.Kind.TheVariants.{Pv};
+ghost use Rattle.mig_pagetypes.specs.Limits.{pfn_limit, most_frames};
 ghost use Rattle.mig_guest.specs.declared.part_key.PartKey.{PartKey};
 ghost use Rattle.mig_guest.specs.Frames.{NextEntry};
-ghost use Rattle.mig_guest.specs.Hosts.{IsHostFrame, IsHostPart, IsValid};
+ghost use Rattle.mig_guest.specs.Hosts.{IsHostFrame, IsHostPart, IsValid, most_width};
 ghost use Rattle.mig_guest.specs.Order.{part_cmp, IsAbove};
 ghost use Rattle.mig_guest.specs.Parts.{FitsPolicy, NextBehind};
 ghost use Rattle.mig_image.specs.ImageParts.{put_frame, put_part_in, has_machine};
@@ -47,7 +48,7 @@ impl Host {
 
     /// A host without frames and parts.
     pub(crate) fn new(alloc: Global, kind: Kind, width: u64) -> Host
-        requires width { width ≤ 2 ^ 28 }
+        requires width { width ≤ most_width }
         requires some_width { kind ≡ Pv → 0 < width }
         ensures { result ≡ record { kind = kind; width = width; frames = maps.empty; parts = maps.empty } }
     {
@@ -93,7 +94,7 @@ impl Host {
 
     /// The type of this frame; none where the host doesn't have it.
     pub fn frame(&self, pfn: u64) -> Option<PageType>
-        ensures { result ≡ option_map (λ f. f.kind) (maps.get self.now.frames pfn) }
+        ensures { result ≡ option_map (λ f. f.type) (maps.get self.now.frames pfn) }
     {
         self.guest.frame(pfn)
     }
@@ -124,15 +125,15 @@ impl Host {
         ensures none { IfNone result ((k : ℕ) → from ≤ k → maps.get self.now.frames k ≡ None) }
         ensures there { IfSome result (λ q. IsSome (maps.get self.now.frames q)) }
         ensures least { IfSome result (λ q. (from ≤ q) × ((k : ℕ) → from ≤ k → k < q → maps.get self.now.frames k ≡ None)) }
-        ensures small { IfSome result (λ q. q < 2 ^ 28) }
+        ensures small { IfSome result (λ q. q < pfn_limit) }
     {
         self.guest.next_frame(from)
     }
 
     /// The first frame from this number on, with its type, its machine frame and its page.
     pub(crate) fn next_entry(&self, from: u64) -> Option<(u64, PageType, u64, Option<&[u8; 4096]>)>
-        ensures next { NextEntry from (maps.entries self.now.frames) (option_map (λ e. (e.0, record { kind = e.1; machine = e.2; page = option_copied e.3 })) result) }
-        ensures small { IfSome result (λ e. e.0 < 2 ^ 28) }
+        ensures next { NextEntry from (maps.entries self.now.frames) (option_map (λ e. (e.0, record { type = e.1; machine = e.2; page = option_copied e.3 })) result) }
+        ensures small { IfSome result (λ e. e.0 < pfn_limit) }
     {
         let (pfn, kind, page) = self.guest.next_entry(from)?;
         let machine = self.machines.machine(pfn)?;
@@ -170,11 +171,11 @@ impl Host {
         machine: u64,
         page: Option<&[u8; 4096]>,
     ) -> Result<(), Memory>
-        requires is { IsHostFrame self.old.kind self.old.width pfn (record { kind = kind; machine = machine; page = option_copied page }) }
+        requires is { IsHostFrame self.old.kind self.old.width pfn (record { type = kind; machine = machine; page = option_copied page }) }
         requires absent { maps.get self.old.frames pfn ≡ None }
         requires unused { (other : ℕ) (frame : HostFrame) → maps.get self.old.frames other ≡ Some frame → frame.machine ≡ machine → ⊥ }
-        requires few { length (maps.entries self.old.frames) < 2 ^ 24 }
-        ensures ok { OnOk result (self.new ≡ put_frame self.old pfn (record { kind = kind; machine = machine; page = option_copied page.entry })) }
+        requires few { length (maps.entries self.old.frames) < most_frames }
+        ensures ok { OnOk result (self.new ≡ put_frame self.old pfn (record { type = kind; machine = machine; page = option_copied page.entry })) }
         ensures err { OnErr result (self.new ≡ self.old) }
     {
         self.guest.set_frame(pfn, kind, page)?;

@@ -6,6 +6,9 @@ use std::alloc::Global;
 use std::collections::BTreeMap;
 use std::marker::Model;
 
+/// Machine frames are below this.
+pub(crate) const MACHINE_LIMIT: u64 = 1 << 40;
+
 /// The machine frame of each PFN, one to one.
 #[derive(Drop)]
 pub(crate) struct MachineFrames {

@@ -1,23 +1,22 @@
-ghost use Rattle.std.specs.Prelude.{◌≡◌, ◌≤◌, ◌<◌, ◌+◌, ◌^◌, OnOk, IfOk, IsErrOf, length, None};
+ghost use Rattle.std.specs.Prelude.{◌≡◌, ◌≤◌, ◌<◌, ◌+◌, OnOk, IfOk, IsErrOf, length, None};
 ghost use Rattle.std.specs.FinMap as maps;
 ghost use Rattle.mig_bytes.specs.Faults.{Rose};
 ghost use Rattle.mig_bytes.specs.Judged.{Gives};
 ghost use Rattle.mig_bytes.specs.declared.part.Stop.TheVariants.{ReadFault};
+ghost use Rattle.mig_pagetypes.specs.Limits.{pfn_limit, most_frames};
 ghost use Rattle.mig_guest.specs.Frames.{is_type_of};
 ghost use Rattle.mig_image.specs.Answer.{ReadsAs, answer_of, placed_stop};
-ghost use Rattle.mig_image.specs.ImageParts.{fault_of_head, fault_of_frame, has_frame_from, frame_head_at, frame_at, frames_at, count_at, head_kind, head_pfn, behind_head, image_at};
+ghost use Rattle.mig_image.specs.ImageParts.{fault_of_head, fault_of_frame, has_frame_from, frame_head_at, frame_at, frames_at, count_at, head_type, head_pfn, behind_head, image_at};
 ghost use Rattle.mig_image.specs.declared.read.ImageAnswer.TheVariants as answers;
 
 use crate::head::{kind_in, read_head};
 use crate::host::Host;
+use crate::machine_frames::MACHINE_LIMIT;
 use crate::read_part::read_parts;
 use mig_bytes::{Source, Stop, take_part, u32_le, u64_le};
 use mig_headers::{ImageCause, ImagePlace, Kind};
 use mig_pagetypes::PageType;
 use std::alloc::Global;
-
-/// Machine frames are below 2^40.
-const MACHINE_LIMIT: u64 = 1 << 40;
 
 /// Why an image isn't read.
 #[derive(Clone, Copy, Debug, PartialEq, Eq)]
@@ -50,7 +49,7 @@ fn answer(stop: Stop<(ImagePlace, ImageCause)>) -> ImageAnswer
 
 /// The type in a frame's head; a reserved one is as if it were no frame's.
 fn kind_of(head: &[u8; 16]) -> PageType
-    ensures { result ≡ head_kind head.now }
+    ensures { result ≡ head_type head.now }
 {
     PageType::from_nibble((u32_le(head, 0) >> 28) as u8).unwrap_or(PageType::Xtab)
 }
@@ -58,7 +57,7 @@ fn kind_of(head: &[u8; 16]) -> PageType
 /// The frame number in a frame's head.
 fn pfn_of(head: &[u8; 16]) -> u64
     ensures value { result ≡ head_pfn head.now }
-    ensures small { result < 2 ^ 28 }
+    ensures small { result < pfn_limit }
 {
     u64::from(u32_le(head, 0) % (1 << 28))
 }
@@ -124,7 +123,7 @@ fn read_frame_head<S: Source>(src: &mut S, host: &Host) -> Result<[u8; 16], Stop
 
 /// Takes a frame that stands behind those of the host, and keeps it.
 fn read_frame<S: Source>(src: &mut S, host: &mut Host) -> Result<(), Stop<ImageCause>>
-    requires { length (maps.entries host.old.frames) < 2 ^ 24 }
+    requires { length (maps.entries host.old.frames) < most_frames }
     ensures read { Gives (λ _ h. host.new ≡ h) (S.left src.old) (S.left src.new) (frame_at host.old) result }
     ensures counted { OnOk result (length (maps.entries host.new.frames) ≡ length (maps.entries host.old.frames) + 1) }
     ensures parts { OnOk result (host.new.parts ≡ host.old.parts) }
@@ -154,7 +153,7 @@ fn read_frames<S: Source>(
     host: &mut Host,
     count: u64,
 ) -> Result<(), Stop<(ImagePlace, ImageCause)>>
-    requires few { count ≤ 2 ^ 24 }
+    requires few { count ≤ most_frames }
     requires none { length (maps.entries host.old.frames) ≡ 0 }
     ensures read { Gives (λ _ h. host.new ≡ h) (S.left src.old) (S.left src.new) (frames_at count host.old) result }
     ensures parts { OnOk result (host.new.parts ≡ host.old.parts) }

@@ -6,14 +6,11 @@ ghost use Rattle.mig_image.specs.Hosted.{hosted, rank_in, width_of, IsBaseOutsid
 ghost use Rattle.mig_image.specs.declared.restore.HostAnswer.TheVariants.{BaseRange};
 
 use crate::host::Host;
-use crate::machine_frames::MachineFrames;
+use crate::machine_frames::{MACHINE_LIMIT, MachineFrames};
 use mig_bytes::Memory;
 use mig_guest::Guest;
 use std::alloc::Global;
 use thiserror::Error;
-
-/// Machine frames are below 2^40.
-const MACHINE_LIMIT: u64 = 1 << 40;
 
 /// Why a guest doesn't become a host.
 #[derive(Clone, Copy, Debug, PartialEq, Eq, Error)]

@@ -7,17 +7,16 @@ ghost use Rattle.mig_bytes.specs.Bytes.{Puts};
 ghost use Rattle.mig_bytes.specs.Fields.{with_field};
 ghost use Rattle.mig_bytes.specs.Faults.{HasCause};
 ghost use Rattle.mig_headers.specs.Headers.{kind_number};
+ghost use Rattle.mig_pagetypes.specs.Limits.{pfn_limit};
 ghost use Rattle.mig_guest.specs.Hosts.{IsValid};
 ghost use Rattle.mig_image.specs.Image.{frame_head_of, frame_text, part_head_of, part_text, image};
 
+use crate::head::IMAGE_NAME;
 use crate::host::Host;
 use mig_bytes::{Sink, WriteFailed, pad_len, put_all, put_u32_le, put_u64_be, put_u64_le};
 use mig_guest::PartKey;
 use mig_headers::Kind;
 use mig_pagetypes::PageType;
-
-/// "XGIMAGE1".
-const IMAGE_NAME: u64 = 0x5847_494D_4147_4531;
 
 /// The number of a kind of guest.
 fn number_of(kind: Kind) -> u32
@@ -44,8 +43,8 @@ fn head_bytes(kind: Kind, width: u64, frames: u64) -> [u8; 32]
 /// The head of a frame.
 #[tactic(auto, unfolding(crate::specs::Image::frame_head_of))]
 fn frame_head(pfn: u64, kind: PageType, machine: u64) -> [u8; 16]
-    requires { pfn < 2 ^ 28 }
-    ensures { (page : Option (List ℕ)) → result ≡ frame_head_of pfn (record { kind = kind; machine = machine; page = page }) }
+    requires { pfn < pfn_limit }
+    ensures { (page : Option (List ℕ)) → result ≡ frame_head_of pfn (record { type = kind; machine = machine; page = page }) }
 {
     let word = u32::from(kind.nibble()) * (1 << 28) + pfn as u32;
     let mut head = [0; 16];
@@ -98,8 +97,8 @@ fn write_frame<K: Sink>(
     machine: u64,
     page: Option<&[u8; 4096]>,
 ) -> Result<(), WriteFailed>
-    requires { pfn < 2 ^ 28 }
-    ensures bytes { Puts (frame_text (pfn, record { kind = kind; machine = machine; page = option_copied page.entry })) (K.written sink.old) (K.written sink.new) result }
+    requires { pfn < pfn_limit }
+    ensures bytes { Puts (frame_text (pfn, record { type = kind; machine = machine; page = option_copied page.entry })) (K.written sink.old) (K.written sink.new) result }
     ensures cause { HasCause (K.faults sink.old) (K.faults sink.new) result }
 {
     let head = frame_head(pfn, kind, machine);

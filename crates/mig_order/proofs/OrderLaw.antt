@@ -7,7 +7,7 @@ use Rattle.mig_headers.specs.declared.fault.Cause.{Cause}
 use Rattle.mig_headers.specs.declared.record_type.RecordType.{RecordType}
 use Rattle.mig_headers.specs.declared.record_type.RecordType.TheVariants.{PageData, X86PvInfo, X86PvP2mFrames, StaticDataEnd}
 use Rattle.mig_headers.specs.Rows.{first_fault}
-use Rattle.mig_headers.specs.RecordTypes.{row_of, pv, type_number, type_of_number, is_optional}
+use Rattle.mig_headers.specs.RecordTypes.{record_row_of, pv, type_number, type_of_number, is_optional}
 use Rattle.mig_headers.proofs.RecordNumbers.{numbers_are_inverse}
 use Rattle.mig_order.specs.Order.{earlier_in, is_of, some_earlier, static_records, content_records, vcpu_records, causes, fault_of_mandatory, fault_of_type, KeepsOrder, IsInOrder, optional, ordered}
 use Rattle.mig_order.specs.Gate.{FaultlessIsInOrder}
@@ -89,11 +89,11 @@ keeps version kind types this (_, (_, (end, (static, (content, (info, (p2m, (pag
     }
 
 -- what the words say, in rows
-clear : (version : ℕ) (kind : Kind) (types : List ℕ) (this : RecordType) → (row_of this).supported ≡ true → (row_of this).of_kind kind ≡ true → KeepsOrder version kind types this → AllClear (causes version kind (earlier_in types) this)
+clear : (version : ℕ) (kind : Kind) (types : List ℕ) (this : RecordType) → (record_row_of this).supported ≡ true → (record_row_of this).of_kind kind ≡ true → KeepsOrder version kind types this → AllClear (causes version kind (earlier_in types) this)
 clear version kind types this supported of_kind order = (
-  false_not (row_of this).supported supported,
+  false_not (record_row_of this).supported supported,
   (
-    false_not ((row_of this).of_kind kind) of_kind,
+    false_not ((record_row_of this).of_kind kind) of_kind,
     (
       and_false (is_of (StaticDataEnd ∷ []) this) (some_earlier types (StaticDataEnd ∷ [])) (λ is. order.one_static_data_end (same_type this StaticDataEnd is)),
       (
@@ -149,8 +149,8 @@ in_order version kind types number None found is = absurd (cc)
 in_order version kind types number (Some this) found is =
     let all = clear_rows (causes version kind (earlier_in types) this) is in
     ordered this (sym (numbers_are_inverse.number_of number this found))
-    (not_false (row_of this).supported all.0)
-    (not_false ((row_of this).of_kind kind) all.1.0)
+    (not_false (record_row_of this).supported all.0)
+    (not_false ((record_row_of this).of_kind kind) all.1.0)
     (keeps version kind types this all)
 
 faultless : (version : ℕ) (kind : Kind) (types : List ℕ) (number : ℕ) → IsInOrder version kind types number → fault_of_type version kind types number ≡ None

@@ -8,7 +8,7 @@ use Rattle.mig_headers.specs.declared.fault.Cause.TheVariants.{Unsupported, Unkn
 use Rattle.mig_headers.specs.declared.record_type.RecordType.{RecordType}
 use Rattle.mig_headers.specs.declared.record_type.RecordType.TheVariants.{End, PageData, X86PvInfo, X86PvP2mFrames, X86PvVcpuBasic, X86PvVcpuExtended, X86PvVcpuXsave, SharedInfo, HvmContext, HvmParams, X86PvVcpuMsrs, StaticDataEnd, X86CpuidPolicy, X86MsrPolicy}
 use Rattle.mig_headers.specs.Rows.{first_fault}
-use Rattle.mig_headers.specs.RecordTypes.{row_of, pv, type_number, type_of_number, is_optional}
+use Rattle.mig_headers.specs.RecordTypes.{record_row_of, pv, type_number, type_of_number, is_optional}
 
 -- records of static data, records of a guest's content, and among these the records of a vCPU
 abbrev pub static_records : List RecordType
@@ -22,11 +22,11 @@ vcpu_records = X86PvVcpuBasic ∷ X86PvVcpuExtended ∷ X86PvVcpuXsave ∷ X86Pv
 
 -- whether a number is that of one of these types
 abbrev pub among : List RecordType → ℕ → Bool
-among kinds number = list_any (λ kind. number == type_number kind) kinds
+among these number = list_any (λ type. number == type_number type) these
 
 -- whether some record before is of one of these types
 abbrev pub some_earlier : List ℕ → List RecordType → Bool
-some_earlier types kinds = list_any (among kinds) types
+some_earlier types these = list_any (among these) types
 
 -- what the rules ask of the records before: whether some earlier record is of such a type
 pub record Earlier : Type 0 where
@@ -47,7 +47,7 @@ earlier_in types = record {
 
 -- whether a type is one of these
 abbrev pub is_of : List RecordType → RecordType → Bool
-is_of kinds this = among kinds (type_number this)
+is_of these this = among these (type_number this)
 
 -- rule 1: one STATIC_DATA_END
 abbrev pub second_end : Earlier → RecordType → Bool
@@ -93,8 +93,8 @@ broken_rules version kind earlier this =
 -- all causes of a record of a type that the table of record types has
 abbrev pub causes : ℕ → Kind → Earlier → RecordType → List (Bool × Cause)
 causes version kind earlier this =
-    (not (row_of this).supported, Unsupported (type_number this))
-    ∷ (not ((row_of this).of_kind kind), WrongKind (type_number this))
+    (not (record_row_of this).supported, Unsupported (type_number this))
+    ∷ (not ((record_row_of this).of_kind kind), WrongKind (type_number this))
     ∷ broken_rules version kind earlier this
 
 -- the fault of a mandatory type's number, which the table has or hasn't
@@ -126,4 +126,4 @@ pub record KeepsOrder (version : ℕ) (kind : Kind) (types : List ℕ) (this : R
 -- a type's number may stand behind records of these types: it is optional, or a supported type of this kind that keeps the order
 pub data IsInOrder (version : ℕ) (kind : Kind) (types : List ℕ) (number : ℕ) : Type 0 where
   optional : 2 ^ 31 ≤ number → IsInOrder version kind types number
-  ordered : (this : RecordType) → number ≡ type_number this → IsTrue (row_of this).supported → IsTrue ((row_of this).of_kind kind) → KeepsOrder version kind types this → IsInOrder version kind types number
+  ordered : (this : RecordType) → number ≡ type_number this → IsTrue (record_row_of this).supported → IsTrue ((record_row_of this).of_kind kind) → KeepsOrder version kind types this → IsInOrder version kind types number

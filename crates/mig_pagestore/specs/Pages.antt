@@ -1,8 +1,9 @@
 -- What a page store is: a finite map from PFN to the bytes of a page, and a number of spare pages.
-use Rattle.std.specs.Prelude.{ℕ, ◌+◌, ◌<◌, ◌^◌, List, ◌++◌, take, drop, length, IsSome, refl}
+use Rattle.std.specs.Prelude.{ℕ, ◌+◌, ◌<◌, List, ◌++◌, take, drop, length, IsSome, refl}
 use Rattle.std.specs.Ordering.{nat_cmp}
 use Rattle.std.specs.FinMap as map
 use Rattle.std.specs.Coded.{Coded, code_by, coded×, coded_ℕ, coded_list}
+use Rattle.mig_pagetypes.specs.Limits.{pfn_limit}
 
 -- a finite map from PFN to bytes
 abbrev pub PageMap : Type 0
@@ -18,9 +19,9 @@ abbrev pub store_code : Coded Store
 store_code =
     code_by (PageMap × ℕ) (coded× (map.code coded_ℕ (coded_list coded_ℕ)) coded_ℕ) (λ s. (s.pages, s.spare)) (λ p. record { pages = p.0; spare = p.1 }) (λ _. refl)
 
--- every PFN that is there is below 2^28
+-- every PFN that is there is below the limit
 abbrev pub IsSmall : PageMap → Type 0
-IsSmall m = (pfn : ℕ) → IsSome (map.get m pfn) → pfn < 2 ^ 28
+IsSmall m = (pfn : ℕ) → IsSome (map.get m pfn) → pfn < pfn_limit
 
 -- xs with the bytes from `at` on replaced by ys
 abbrev pub spliced : List ℕ → ℕ → List ℕ → List ℕ

@@ -1,8 +1,9 @@
-ghost use Rattle.std.specs.Prelude.{◌≡◌, ℕ, ◌+◌, ◌<◌, ◌≤◌, ◌^◌, length, IsSome, IsNone, IsOk, OnOk, OnErr, IfSome, IfNone};
+ghost use Rattle.std.specs.Prelude.{◌≡◌, ℕ, ◌+◌, ◌<◌, ◌≤◌, length, IsSome, IsNone, IsOk, OnOk, OnErr, IfSome, IfNone};
 ghost use Rattle.std.specs.Option.{option_copied, option_copied_mut};
 ghost use Rattle.std.specs.Ordering.{nat_cmp};
 ghost use Rattle.std.specs.FinMap as map;
 ghost use Rattle.std.specs.Borrow.{sem};
+ghost use Rattle.mig_pagetypes.specs.Limits.{pfn_limit};
 ghost use Rattle.mig_pagestore.specs.Pages.{spliced, IsSmall};
 
 use crate::ascending::{position, start_from};
@@ -77,7 +78,7 @@ impl PageStore {
     pub fn get(&self, pfn: u64) -> Option<&[u8; 4096]>
         ensures value { option_copied result ≡ map.get self.now.pages pfn }
         ensures whole { IfSome result (λ page. length page.now ≡ 4096) }
-        ensures small { IsSome result → pfn < 2 ^ 28 }
+        ensures small { IsSome result → pfn < pfn_limit }
     {
         match position(&self.pfns, pfn) {
             Ok(at) => Some(whole(self.pages[at].as_ref())),
@@ -87,7 +88,7 @@ impl PageStore {
 
     /// Lends the page of this PFN for writing; none where it isn't there.
     pub fn lend(&mut self, pfn: u64) -> Option<&mut [u8; 4096]>
-        requires { pfn < 2 ^ 28 }
+        requires { pfn < pfn_limit }
         ensures* writes_back { sem 𝓛 (LendsPage self.entry pfn result) }
         ensures value { option_copied_mut result ≡ map.get self.old.pages pfn }
     {
@@ -102,7 +103,7 @@ impl PageStore {
         ensures none { IfNone result ((k : ℕ) → pfn ≤ k → map.get self.now.pages k ≡ None) }
         ensures there { IfSome result (λ q. IsSome (map.get self.now.pages q)) }
         ensures least { IfSome result (λ q. (pfn ≤ q) × ((k : ℕ) → pfn ≤ k → k < q → map.get self.now.pages k ≡ None)) }
-        ensures small { IfSome result (λ q. q < 2 ^ 28) }
+        ensures small { IfSome result (λ q. q < pfn_limit) }
     {
         let at = start_from(&self.pfns, pfn);
         if at < self.pfns.len() {
@@ -130,7 +131,7 @@ impl PageStore {
 
     /// Sets the page of this PFN, and takes no memory: a PFN that wasn't there takes a spare page.
     pub fn put_spare(&mut self, pfn: u64, page: &[u8; 4096])
-        requires small { pfn < 2 ^ 28 }
+        requires small { pfn < pfn_limit }
         requires room { map.get self.old.pages pfn ≡ None → 1 ≤ self.old.spare }
         ensures pages { self.new.pages ≡ map.insert self.old.pages pfn page.now }
         ensures taken { self.old.spare ≤ self.new.spare + 1 }
@@ -149,7 +150,7 @@ impl PageStore {
 
     /// Sets the page of this PFN; where no memory is found, the pages stay.
     pub fn put(&mut self, pfn: u64, page: &[u8; 4096]) -> Result<(), Memory>
-        requires { pfn < 2 ^ 28 }
+        requires { pfn < pfn_limit }
         ensures ok { OnOk result (self.new.pages ≡ map.insert self.old.pages pfn page.now) }
         ensures err { OnErr result (self.new.pages ≡ self.old.pages) }
         ensures taken { self.old.spare ≤ self.new.spare + 1 }
@@ -165,7 +166,7 @@ impl PageStore {
 
     /// Takes the page of this PFN away, and tells whether it was there.
     pub fn remove(&mut self, pfn: u64) -> bool
-        requires { pfn < 2 ^ 28 }
+        requires { pfn < pfn_limit }
         ensures was { result ≡ map.contains_key self.old.pages pfn }
         ensures pages { self.new.pages ≡ map.remove self.old.pages pfn }
         ensures spare { self.old.spare ≤ self.new.spare }
@@ -182,7 +183,7 @@ impl PageStore {
 
     /// Writes `bytes` over those of one page from its byte `at` on.
     pub fn overwrite(&mut self, pfn: u64, at: usize, bytes: &[u8])
-        requires small { pfn < 2 ^ 28 }
+        requires small { pfn < pfn_limit }
         requires there { IsSome (map.get self.old.pages pfn) }
         requires range { at + length bytes.now ≤ 4096 }
         ensures pages { IfSome (map.get self.old.pages pfn) (λ page. self.new.pages ≡ map.insert self.old.pages pfn (spliced page at bytes.now)) }

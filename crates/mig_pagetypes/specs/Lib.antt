@@ -1,2 +1,3 @@
 pub mod PageTypes
 pub mod FrameWords
+pub mod Limits

@@ -55,3 +55,8 @@ all_types = Notab ∷ L1Tab ∷ L2Tab ∷ L3Tab ∷ L4Tab ∷ L1Pinned ∷ L2Pin
 -- the type that has this number
 abbrev pub type_of : ℕ → Option PageType
 type_of n = find (λ t. number_of t == n) all_types
+
+-- the type that was found, and XTAB, which stands for no frame, where there is none
+abbrev pub type_or_none : Option PageType → PageType
+type_or_none None = Xtab
+type_or_none (Some type) = type

@@ -18,6 +18,12 @@ pub use laws::{
 };
 pub use page_type::PageType;
 
+/// Frame numbers (PFN) are below this.
+pub const PFN_LIMIT: u64 = 1 << 28;
+
+/// The most frames that a guest or a host may have.
+pub const MAX_FRAMES: u64 = 1 << 24;
+
 #[cfg(test)]
 mod tests {
     use super::*;

@@ -6,6 +6,7 @@ use Rattle.mig_headers.specs.declared.fault.Cause.{Cause}
 use Rattle.mig_headers.specs.declared.fault.Cause.TheVariants.{Missing, TooManyFrames}
 use Rattle.mig_headers.specs.Contexts.{scan}
 use Rattle.mig_headers.specs.Rows.{first_fault}
+use Rattle.mig_pagetypes.specs.Limits.{most_frames}
 use Rattle.mig_guest.specs.declared.part_key.PartKey.{PartKey}
 use Rattle.mig_guest.specs.Frames.{FrameOf, IsSized}
 pub use Rattle.mig_guest.specs.Frames.{IsFew, is_hvm_type}
@@ -33,7 +34,7 @@ pub record IsWhole (g : GuestOf) : Type 0 where
   pub hvm : g.kind ≡ Hvm
   pub top : g.top ≡ 0
   pub frames : IsSized g.frames
-  pub types : (pfn : ℕ) (frame : FrameOf) → maps.get g.frames pfn ≡ Some frame → is_hvm_type frame.kind ≡ true
+  pub types : (pfn : ℕ) (frame : FrameOf) → maps.get g.frames pfn ≡ Some frame → is_hvm_type frame.type ≡ true
   pub few : IsFew g.frames
   pub parts : (key : PartKey) (bytes : List ℕ) → maps.get g.parts key ≡ Some bytes → IsHvmPart key bytes
   pub leaves : FitsPolicy 17 g.parts
@@ -45,7 +46,7 @@ pub record IsWhole (g : GuestOf) : Type 0 where
 abbrev pub guest_rows : GuestOf → List (Bool × Cause)
 guest_rows g =
     (is_none (maps.get g.parts context_key), Missing 9)
-    ∷ (nat_lt (2 ^ 24) (length (maps.entries g.frames)), TooManyFrames)
+    ∷ (nat_lt most_frames (length (maps.entries g.frames)), TooManyFrames)
     ∷ []
 
 abbrev pub fault_of_guest : GuestOf → Option Cause

@@ -5,7 +5,7 @@ use Rattle.mig_headers.specs.declared.fault.Cause.{Cause}
 use Rattle.mig_headers.specs.declared.fault.Cause.TheVariants.{BodyTooLong, BadLength, NoPages, BadPageType, PfnOutside}
 use Rattle.mig_headers.specs.declared.kind.Kind.{Kind}
 use Rattle.mig_headers.specs.declared.record_type.RecordType.{RecordType}
-use Rattle.mig_headers.specs.RecordTypes.{row_of, type_of_number}
+use Rattle.mig_headers.specs.RecordTypes.{record_row_of, type_of_number}
 use Rattle.mig_headers.specs.Rows.{first_fault}
 use Rattle.mig_pagetypes.specs.FrameWords.{word_type, word_pfn}
 use Rattle.mig_records.specs.Words.{has_reserved_type, names_outside, first_place, first_word}
@@ -17,11 +17,11 @@ long_rows len = (nat_lt (2 ^ 27) len, BodyTooLong len) ∷ []
 -- the row of a known type allows this length; nothing is asked of optional and unknown types
 abbrev pub type_allows : Option RecordType → ℕ → Bool
 type_allows None len = true
-type_allows (Some type) len = (row_of type).allows len
+type_allows (Some type) len = (record_row_of type).allows len
 
 -- a length that the type's row doesn't allow
 abbrev pub length_rows : ℕ → ℕ → List (Bool × Cause)
-length_rows kind len = (not (type_allows (type_of_number kind) len), BadLength len) ∷ []
+length_rows type len = (not (type_allows (type_of_number type) len), BadLength len) ∷ []
 
 -- the count of words in a PAGE_DATA's front: they don't fit in a body of this length, or there are none
 abbrev pub count_rows : ℕ → ℕ → List (Bool × Cause)
@@ -46,7 +46,7 @@ abbrev pub fault_of_long : ℕ → Option Cause
 fault_of_long len = first_fault (long_rows len)
 
 abbrev pub fault_of_length : ℕ → ℕ → Option Cause
-fault_of_length kind len = first_fault (length_rows kind len)
+fault_of_length type len = first_fault (length_rows type len)
 
 abbrev pub fault_of_count : ℕ → ℕ → Option Cause
 fault_of_count len count = first_fault (count_rows len count)

@@ -4,10 +4,7 @@ ghost use Rattle.mig_records.specs.Words.{has_reserved_type, names_outside, data
 ghost use Rattle.mig_records.specs.Faults.{fault_of_words};
 
 use mig_headers::{Cause, Kind};
-use mig_pagetypes::decode_word;
-
-/// The least frame number that no guest has.
-const FRAMES: u64 = 1 << 28;
+use mig_pagetypes::{PFN_LIMIT, decode_word};
 
 fn type_number(word: u64) -> u64
     ensures { result ≡ word_type word }
@@ -33,8 +30,8 @@ fn is_outside(kind: Kind, top: u64, word: u64) -> bool
 {
     let named = pfn(word);
     match kind {
-        Kind::Pv => named >= FRAMES || named > top,
-        Kind::Hvm => named >= FRAMES,
+        Kind::Pv => named >= PFN_LIMIT || named > top,
+        Kind::Hvm => named >= PFN_LIMIT,
     }
 }
 

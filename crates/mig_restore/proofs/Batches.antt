@@ -15,7 +15,7 @@ use Rattle.mig_records.specs.Faults.{fault_of_count, fault_of_words, count_rows}
 use Rattle.mig_records.specs.Words.{words, data_len_of}
 use Rattle.mig_records.proofs.WordFaults.{none_is_wrong, nothing_found}
 use Rattle.mig_restore.specs.Record.{Entry}
-use Rattle.mig_restore.specs.Judging.{kind_in, fault_of_data, words_at, page_at, entry_at, entries_at}
+use Rattle.mig_restore.specs.Judging.{type_in_word, fault_of_data, words_at, page_at, entry_at, entries_at}
 use Rattle.mig_restore.specs.Spelled.{IsPage, IsEntry, AreEntries, IsBatch}
 use Rattle.mig_restore.proofs.Entries.{behind_words}
 use Rattle.mig_bytes.proofs.Joins.{then_passes, tried_none}
@@ -52,8 +52,8 @@ one_page true i page rest h =
     record { bytes = a.x; whole = p.0 ∙ ap (λ l. a.x ++ l) e.1; size = p.1; page_is = (p.1, sym e.0) }
 one_page false i page rest h = let e = same_passes _ _ _ _ h in record { bytes = []; whole = e.1; size = refl; page_is = (refl, sym e.0) }
 
-entry_is : (w : ℕ) (bytes : List ℕ) (page : Option (List ℕ)) (e : Entry) → IsPage (word_has_data w) bytes page → record { pfn = word_pfn w; kind = kind_in w; page = page } ≡ e → IsEntry w bytes e
-entry_is w bytes page e page_is is = subst (IsEntry w bytes) is (record { pfn = refl; kind = refl; page = page_is })
+entry_is : (w : ℕ) (bytes : List ℕ) (page : Option (List ℕ)) (e : Entry) → IsPage (word_has_data w) bytes page → record { pfn = word_pfn w; type = type_in_word w; page = page } ≡ e → IsEntry w bytes e
+entry_is w bytes page e page_is is = subst (IsEntry w bytes) is (record { pfn = refl; type = refl; page = page_is })
 
 each_entries : (ws i : List ℕ) (es : List Entry) (rest : List ℕ) → each entry_at ws i ≡ Passes es rest → Pages ws i es rest
 unfolding each
@@ -134,8 +134,8 @@ page_len : (b : Bool) (bytes : List ℕ) (page : Option (List ℕ)) → IsPage b
 page_len true bytes page (size, is) = size
 page_len false bytes page (size, is) = ap length size
 
-same_entry : (w : ℕ) (bytes : List ℕ) (e : Entry) → IsEntry w bytes e → record { pfn = word_pfn w; kind = kind_in w; page = e.page } ≡ e
-same_entry w bytes e is = ap (λ n. record { pfn = n; kind = kind_in w; page = e.page }) (sym is.pfn) ∙ ap (λ k. record { pfn = e.pfn; kind = k; page = e.page }) (sym is.kind)
+same_entry : (w : ℕ) (bytes : List ℕ) (e : Entry) → IsEntry w bytes e → record { pfn = word_pfn w; type = type_in_word w; page = e.page } ≡ e
+same_entry w bytes e is = ap (λ n. record { pfn = n; type = type_in_word w; page = e.page }) (sym is.pfn) ∙ ap (λ k. record { pfn = e.pfn; type = k; page = e.page }) (sym is.type)
 
 entries_go : (ws bytes rest : List ℕ) (es : List Entry) → AreEntries ws bytes es → each entry_at ws (bytes ++ rest) ≡ Passes es rest
 unfolding each

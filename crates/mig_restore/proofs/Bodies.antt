@@ -8,7 +8,7 @@ use Rattle.mig_bytes.specs.Judged.{Judged, part, tried}
 use Rattle.mig_bytes.specs.Judged.Judged.{Passes}
 use Rattle.mig_bytes.proofs.Joins.{both_pass, part_passes, tried_passes, same_passes}
 use Rattle.mig_headers.specs.Contexts.{scan}
-use Rattle.mig_headers.specs.RecordTypes.{row_of, type_number, type_of_number, is_optional}
+use Rattle.mig_headers.specs.RecordTypes.{record_row_of, type_number, type_of_number, is_optional}
 use Rattle.mig_headers.specs.declared.fault.Cause.{Cause}
 use Rattle.mig_headers.specs.declared.fault.Cause.TheVariants.{BadContext, Truncated}
 use Rattle.mig_headers.specs.declared.fault.ContextFault.{ContextFault}
@@ -106,7 +106,7 @@ msrs_have kind len allowed body size =
     has_msrs body (msrs_in body) ((msrs_are_spelled body (msrs_in body)).0 (ap (λ n. n % 16) size ∙ rest, refl)) (omega (arith, count, bound, size))
 
 -- a type of an HVM stream
-hvm_says : (this : RecordType) (len : ℕ) (i : List ℕ) (c : Content) (rest : List ℕ) → (row_of this).supported ≡ true → (row_of this).of_kind Hvm ≡ true → (row_of this).allows len ≡ true
+hvm_says : (this : RecordType) (len : ℕ) (i : List ℕ) (c : Content) (rest : List ℕ) → (record_row_of this).supported ≡ true → (record_row_of this).of_kind Hvm ≡ true → (record_row_of this).allows len ≡ true
     → typed_at Hvm (Some this) len i ≡ Passes c rest → Says Hvm (type_number this) len i c rest
 hvm_says End len i c rest s k allowed h = nothing_says Hvm 0 len i c rest has_ends (eqb-true len 0 allowed) h
 hvm_says PageData len i c rest s k allowed h = pages_say Hvm len i c rest h
@@ -129,7 +129,7 @@ hvm_says X86CpuidPolicy len i c rest s k allowed h = plain_says Hvm 0x11 len i c
 hvm_says X86MsrPolicy len i c rest s k allowed h = plain_says Hvm 0x12 len i c rest msrs_say (msrs_have Hvm len allowed) h
 
 -- no type of a PV stream is read so far
-no_pv : (this : RecordType) → is_built Pv (type_number this) ≡ true → (row_of this).supported ≡ true → ⊥
+no_pv : (this : RecordType) → is_built Pv (type_number this) ≡ true → (record_row_of this).supported ≡ true → ⊥
 no_pv this built s = let is : type_of_number (type_number this) ≡ Some this = numbers_are_inverse.type_of this in apart (rw (is, s) at built)
   where
     apart : false ≡ true → ⊥
@@ -163,8 +163,8 @@ optional_at kind type len i above = let e : is_optional type ≡ true = grind ar
 pub type_at : (kind : Kind) (this : RecordType) (len : ℕ) (i : List ℕ) → body_at kind (type_number this) len i ≡ typed_at kind (Some this) len i
 type_at kind this len i = rw (mandatory this, numbers_are_inverse.type_of this) refl
 
-typed_says : (kind : Kind) (this : RecordType) (len : ℕ) (i : List ℕ) (c : Content) (rest : List ℕ) → is_built kind (type_number this) ≡ true → (row_of this).supported ≡ true → (row_of this).of_kind kind ≡ true
-    → (row_of this).allows len ≡ true → typed_at kind (Some this) len i ≡ Passes c rest → Says kind (type_number this) len i c rest
+typed_says : (kind : Kind) (this : RecordType) (len : ℕ) (i : List ℕ) (c : Content) (rest : List ℕ) → is_built kind (type_number this) ≡ true → (record_row_of this).supported ≡ true → (record_row_of this).of_kind kind ≡ true
+    → (record_row_of this).allows len ≡ true → typed_at kind (Some this) len i ≡ Passes c rest → Says kind (type_number this) len i c rest
 typed_says Pv this len i c rest built s k allowed h = absurd (no_pv this built s)
 typed_says Hvm this len i c rest built s k allowed h = hvm_says this len i c rest s k allowed h
 

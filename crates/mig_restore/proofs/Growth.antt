@@ -68,7 +68,7 @@ apart n m differ e = clash (sym (subst (λ k. nat_eq n k ≡ true) e (eq_itself 
 
 abbrev has_hvm_type : Option FrameOf → Bool
 has_hvm_type None = true
-has_hvm_type (Some f) = is_hvm_type f.kind
+has_hvm_type (Some f) = is_hvm_type f.type
 
 meant_is_hvm : (t : PageType) (page : Option (List ℕ)) → has_hvm_type (some_frame (meant_type Hvm t) page) ≡ true
 meant_is_hvm Notab page = refl
@@ -84,11 +84,11 @@ meant_is_hvm Broken page = refl
 meant_is_hvm Xalloc page = refl
 meant_is_hvm Xtab page = refl
 
-one_or_other : (b : Bool) (x y : Option FrameOf) (frame : FrameOf) → has_hvm_type x ≡ true → ((f : FrameOf) → y ≡ Some f → is_hvm_type f.kind ≡ true) → cond b x y ≡ Some frame → is_hvm_type frame.kind ≡ true
+one_or_other : (b : Bool) (x y : Option FrameOf) (frame : FrameOf) → has_hvm_type x ≡ true → ((f : FrameOf) → y ≡ Some f → is_hvm_type f.type ≡ true) → cond b x y ≡ Some frame → is_hvm_type frame.type ≡ true
 one_or_other true x y frame hx hy is = ap has_hvm_type (sym is) ∙ hx
 one_or_other false x y frame hx hy is = hy frame is
 
-frame_set : (g : GuestOf) (kind : Kind) (t : PageType) (pfn : ℕ) (page : Option (List ℕ)) → kind ≡ Hvm → IsSoFar g → g.kind ≡ Hvm → (q : ℕ) (frame : FrameOf) → fin.get (framed g.frames pfn (meant_type kind t) page) q ≡ Some frame → is_hvm_type frame.kind ≡ true
+frame_set : (g : GuestOf) (kind : Kind) (t : PageType) (pfn : ℕ) (page : Option (List ℕ)) → kind ≡ Hvm → IsSoFar g → g.kind ≡ Hvm → (q : ℕ) (frame : FrameOf) → fin.get (framed g.frames pfn (meant_type kind t) page) q ≡ Some frame → is_hvm_type frame.type ≡ true
 frame_set g kind t pfn page is s hvm q frame got =
     one_or_other (nat_eq pfn q) (some_frame (meant_type kind t) page) (fin.get g.frames q) frame
     (ap (λ k. has_hvm_type (some_frame (meant_type k t) page)) is ∙ meant_is_hvm t page) (s.types hvm q) (sym (framed_get g.frames q pfn (meant_type kind t) page) ∙ got)

@@ -7,25 +7,25 @@ use Rattle.mig_headers.specs.declared.fault.Cause.{Cause}
 use Rattle.mig_headers.specs.declared.fault.Cause.TheVariants.{Truncated}
 use Rattle.mig_headers.specs.Headers.{unless_faulty}
 use Rattle.mig_pagetypes.specs.FrameWords.{word_pfn, word_type, word_has_data, some_has_data}
-use Rattle.mig_pagetypes.specs.PageTypes.{type_of, type_has_data}
+use Rattle.mig_pagetypes.specs.PageTypes.{type_of, type_or_none, type_has_data}
 use Rattle.mig_restore.specs.Record.{Entry, Content}
-use Rattle.mig_restore.specs.Judging.{kind_in, type_or_none, entry_at, plain_at}
+use Rattle.mig_restore.specs.Judging.{type_in_word, entry_at, plain_at}
 
 -- ---- the entries of a batch
 
 module _ {X : Type 0} (R : X → Entry → Type 0) where
-  pub no_page : (a : Option (List ℕ)) (w : ℕ) (x : X) → word_has_data w ≡ false → R x (record { pfn = word_pfn w; kind = kind_in w; page = None }) → Gives R a a (entry_at w) (Ok x)
+  pub no_page : (a : Option (List ℕ)) (w : ℕ) (x : X) → word_has_data w ≡ false → R x (record { pfn = word_pfn w; type = type_in_word w; page = None }) → Gives R a a (entry_at w) (Ok x)
   no_page a w x none r = done R a (entry_at w) x _ (λ i. rw none refl) r
 
   pub with_page : (a b : Option (List ℕ)) (w n : ℕ) (page : List ℕ) (u : Unit {0}) (x : X) → n ≡ 4096 → Gives {X = Unit {0}} (λ _ bytes. bytes ≡ page) a b (part Truncated n) (Ok u) → word_has_data w ≡ true
-      → R x (record { pfn = word_pfn w; kind = kind_in w; page = Some page }) → Gives R a b (entry_at w) (Ok x)
+      → R x (record { pfn = word_pfn w; type = type_in_word w; page = Some page }) → Gives R a b (entry_at w) (Ok x)
   with_page None b w n page u x size h some r = tt
   with_page (Some i) b w n page u x size (bytes, rest, is, left, same) some r =
       let is' = subst (λ m. part Truncated m i ≡ Passes bytes rest) size is in
-      (record { pfn = word_pfn w; kind = kind_in w; page = Some bytes }, rest, rw (some, is') refl, left, subst (λ p. R x (record { pfn = word_pfn w; kind = kind_in w; page = Some p })) (sym same) r)
+      (record { pfn = word_pfn w; type = type_in_word w; page = Some bytes }, rest, rw (some, is') refl, left, subst (λ p. R x (record { pfn = word_pfn w; type = type_in_word w; page = Some p })) (sym same) r)
 
 -- the tests of a word and of its type agree
-pub carries : (w : ℕ) → word_has_data w ≡ type_has_data (kind_in w)
+pub carries : (w : ℕ) → word_has_data w ≡ type_has_data (type_in_word w)
 carries w = elim (type_of (word_type w)) as (λ o. some_has_data o ≡ type_has_data (type_or_none o)) [ None ↦ refl | Some t ↦ refl ]
 
 -- ---- headers

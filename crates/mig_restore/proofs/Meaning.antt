@@ -20,7 +20,7 @@ use Rattle.mig_guest.specs.Order.{part_cmp}
 use Rattle.mig_guest.specs.Parts.{PartMap, put_part, put_parts}
 use Rattle.mig_guest.proofs.PartOrder.{part_total, part_exact}
 use Rattle.mig_pagetypes.specs.FrameWords.{word_pfn}
-use Rattle.mig_restore.specs.Judging.{kind_in}
+use Rattle.mig_restore.specs.Judging.{type_in_word}
 use Rattle.mig_restore.specs.Record.{Entry, StreamRecord, Content}
 use Rattle.mig_restore.specs.Record.Content.{Nothing, Frames, Parts, Policy}
 use Rattle.mig_restore.specs.Mean.{meant_type, put_entry, put_entries, put_content, put_record, empty_guest, mean, entries_in, entries_of, last_entry, some_frame, frame_in, same_key, last_bytes, says_of_part, last_said}
@@ -32,8 +32,8 @@ one_more_entry g h k es e before now =
     ∙ ap (λ (f : FrameMap). record g { frames = f }) (sym (fold-append (put_entry g.kind) g.frames es (e ∷ [])))
 
 -- a frame that is set as a word says
-pub entry_set : (g n : GuestOf) (w pfn : ℕ) (meant : PageType) (page : Option (List ℕ)) → pfn ≡ word_pfn w → meant ≡ meant_type g.kind (kind_in w) → n ≡ record g { frames = framed g.frames pfn meant page }
-    → n ≡ record g { frames = put_entry g.kind g.frames (record { pfn = word_pfn w; kind = kind_in w; page = page }) }
+pub entry_set : (g n : GuestOf) (w pfn : ℕ) (meant : PageType) (page : Option (List ℕ)) → pfn ≡ word_pfn w → meant ≡ meant_type g.kind (type_in_word w) → n ≡ record g { frames = framed g.frames pfn meant page }
+    → n ≡ record g { frames = put_entry g.kind g.frames (record { pfn = word_pfn w; type = type_in_word w; page = page }) }
 entry_set g n w pfn meant page at is now =
     now ∙ ap (λ p. record g { frames = framed g.frames p meant page }) at ∙ ap (λ (t : PageType). record g { frames = framed g.frames (word_pfn w) t page }) is
 
@@ -64,10 +64,10 @@ ties p q = grind (arith, common_steps)
 
 pub framed_get : (m : FrameMap) (p pfn : ℕ) (t : PageType) (page : Option (List ℕ)) → fin.get (framed m pfn t page) p ≡ cond (nat_eq pfn p) (some_frame t page) (fin.get m p)
 framed_get m p pfn Xtab page = fin.get-remove nat_cmp_total m pfn p ∙ ap (λ b. cond b None (fin.get m p)) (ties p pfn)
-framed_get m p pfn t page = fin.get-insert nat_cmp_total m pfn (record { kind = t; page = page }) p ∙ ap (λ b. cond b (Some (record { kind = t; page = page })) (fin.get m p)) (ties p pfn)
+framed_get m p pfn t page = fin.get-insert nat_cmp_total m pfn (record { type = t; page = page }) p ∙ ap (λ b. cond b (Some (record { type = t; page = page })) (fin.get m p)) (ties p pfn)
 
 pub got : (kind : Kind) (m : FrameMap) (p : ℕ) (e : Entry) → fin.get (put_entry kind m e) p ≡ cond (nat_eq e.pfn p) (frame_in kind e) (fin.get m p)
-got kind m p e = framed_get m p e.pfn (meant_type kind e.kind) e.page
+got kind m p e = framed_get m p e.pfn (meant_type kind e.type) e.page
 
 abbrev otherwise : Kind → Option Entry → Option FrameOf → Option FrameOf
 otherwise kind None before = before

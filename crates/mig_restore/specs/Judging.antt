@@ -6,7 +6,7 @@ use Rattle.mig_bytes.specs.Fields.{le32}
 use Rattle.mig_bytes.specs.Judged.{Judged, ◌>>=◌, part, tried, each}
 use Rattle.mig_bytes.specs.Judged.Judged.{Passes}
 use Rattle.mig_headers.specs.Contexts.{scan}
-use Rattle.mig_headers.specs.RecordTypes.{row_of, pv, type_of_number, is_optional}
+use Rattle.mig_headers.specs.RecordTypes.{record_row_of, pv, type_of_number, is_optional}
 use Rattle.mig_headers.specs.Rows.{first_fault}
 use Rattle.mig_headers.specs.declared.kind.Kind.{Kind}
 use Rattle.mig_headers.specs.declared.record_type.RecordType.{RecordType}
@@ -15,8 +15,7 @@ use Rattle.mig_headers.specs.declared.fault.ContextFault.{ContextFault}
 use Rattle.mig_headers.specs.declared.fault.Cause.{Cause}
 use Rattle.mig_headers.specs.declared.fault.Cause.TheVariants.{NotBuilt, BadContext, BadLength, TooManyRecords, Truncated}
 use Rattle.mig_pagetypes.specs.declared.page_type.PageType.{PageType}
-use Rattle.mig_pagetypes.specs.declared.page_type.PageType.TheVariants.{Xtab}
-use Rattle.mig_pagetypes.specs.PageTypes.{type_of}
+use Rattle.mig_pagetypes.specs.PageTypes.{type_of, type_or_none}
 use Rattle.mig_pagetypes.specs.FrameWords.{word_type, word_pfn, word_has_data}
 use Rattle.mig_guest.specs.Guests.{GuestOf}
 use Rattle.mig_guest.specs.PartKeys.{context_key}
@@ -43,7 +42,7 @@ opening_of version kind = record { version = version; kind = kind }
 -- whether records of this type are read at all in a stream of this kind: so far none of the types of a PV stream is
 abbrev pub is_supported_type : Option RecordType → Bool
 is_supported_type None = false
-is_supported_type (Some t) = (row_of t).supported
+is_supported_type (Some t) = (record_row_of t).supported
 
 abbrev pub is_built : Kind → ℕ → Bool
 is_built kind type = not (pv kind && is_supported_type (type_of_number type))
@@ -51,8 +50,12 @@ is_built kind type = not (pv kind && is_supported_type (type_of_number type))
 abbrev pub fault_of_built : Kind → ℕ → Option Cause
 fault_of_built kind type = first_fault ((not (is_built kind type), NotBuilt type) ∷ [])
 
+-- the most records of an image
+abbrev pub most_records : ℕ
+most_records = 2 ^ 28
+
 abbrev pub fault_of_number : List ℕ → Option Cause
-fault_of_number types = first_fault ((nat_le (2 ^ 28) (length types), TooManyRecords) ∷ [])
+fault_of_number types = first_fault ((nat_le most_records (length types), TooManyRecords) ∷ [])
 
 -- what is wrong with a head of this type and length, behind records of these types
 unfoldable pub fault_of_fields : Opening → List ℕ → ℕ → ℕ → Option Cause
@@ -111,13 +114,9 @@ msrs_say body = Policy 18 (msrs_in body)
 
 -- ---- the body of a PAGE_DATA record
 
-abbrev pub type_or_none : Option PageType → PageType
-type_or_none None = Xtab
-type_or_none (Some t) = t
-
 -- the type in a word without fault
-abbrev pub kind_in : ℕ → PageType
-kind_in w = type_or_none (type_of (word_type w))
+abbrev pub type_in_word : ℕ → PageType
+type_in_word w = type_or_none (type_of (word_type w))
 
 abbrev pub fault_of_data : ℕ → List ℕ → Option Cause
 fault_of_data len ws = first_fault ((not (len == data_len_of ws), BadLength len) ∷ [])
@@ -135,7 +134,7 @@ page_at w input = if word_has_data w then (do
 abbrev pub entry_at : ℕ → List ℕ → Judged Cause Entry
 entry_at w input = do
   page ← page_at w input
-  Passes (record { pfn = word_pfn w; kind = kind_in w; page = page.0 }) page.1
+  Passes (record { pfn = word_pfn w; type = type_in_word w; page = page.0 }) page.1
 
 abbrev pub entries_at : Kind → ℕ → List ℕ → Judged Cause (List Entry)
 entries_at kind len input = do

@@ -22,7 +22,7 @@ meant_type Hvm t = if type_has_data t then Notab else t
 
 -- an entry sets its frame, or takes it away where its type is XTAB
 abbrev pub put_entry : Kind → FrameMap → Entry → FrameMap
-put_entry kind frames e = framed frames e.pfn (meant_type kind e.kind) e.page
+put_entry kind frames e = framed frames e.pfn (meant_type kind e.type) e.page
 
 abbrev pub put_entries : Kind → FrameMap → List Entry → FrameMap
 put_entries kind frames es = fold (put_entry kind) frames es
@@ -64,10 +64,10 @@ last_entry p (e ∷ es) = option_or (last_entry p es) (if e.pfn == p then Some e
 -- the frame that an entry says, and none where its type is XTAB
 abbrev pub some_frame : PageType → Option (List ℕ) → Option FrameOf
 some_frame Xtab page = None
-some_frame t page = Some (record { kind = t; page = page })
+some_frame t page = Some (record { type = t; page = page })
 
 abbrev pub frame_in : Kind → Entry → Option FrameOf
-frame_in kind e = some_frame (meant_type kind e.kind) e.page
+frame_in kind e = some_frame (meant_type kind e.type) e.page
 
 -- ---- parts in the words of the format
 

@@ -8,7 +8,7 @@ use Rattle.mig_guest.specs.declared.part_key.PartKey.{PartKey}
 -- an entry of a PAGE_DATA record: a frame number and a type, and the page where the type has data
 pub record Entry : Type 0 where
   pub pfn : ℕ
-  pub kind : PageType
+  pub type : PageType
   pub page : Option (List ℕ)
 
 -- what a record says: nothing; frames; parts, of each key the last; or all entries of a policy, which is a part's code

@@ -11,7 +11,7 @@ use Rattle.mig_pvtables.specs.Whole.{IsHvmPart, IsCut, FitsPolicy, is_hvm_type}
 -- all that a whole guest has, but that it is an HVM guest with a context and not too many frames
 pub record IsSoFar (g : GuestOf) : Type 0 where
   pub top : g.top ≡ 0
-  pub types : g.kind ≡ Hvm → (pfn : ℕ) (frame : FrameOf) → maps.get g.frames pfn ≡ Some frame → is_hvm_type frame.kind ≡ true
+  pub types : g.kind ≡ Hvm → (pfn : ℕ) (frame : FrameOf) → maps.get g.frames pfn ≡ Some frame → is_hvm_type frame.type ≡ true
   pub parts : (key : PartKey) (bytes : List ℕ) → maps.get g.parts key ≡ Some bytes → IsHvmPart key bytes
   pub leaves : FitsPolicy 17 g.parts
   pub msrs : FitsPolicy 18 g.parts

@@ -16,7 +16,7 @@ use Rattle.mig_order.specs.Order.{IsInOrder}
 use Rattle.mig_hvm.specs.Params.{IsParams}
 use Rattle.mig_policy.specs.Policies.{AreLeaves, AreMsrs}
 use Rattle.mig_pvtables.specs.Whole.{IsFew}
-use Rattle.mig_restore.specs.Judging.{Opening, is_built, kind_in}
+use Rattle.mig_restore.specs.Judging.{Opening, most_records, is_built, type_in_word}
 use Rattle.mig_restore.specs.Mean.{mean}
 use Rattle.mig_restore.specs.Record.{StreamRecord, Entry, Content, types_of, is_ended}
 use Rattle.mig_restore.specs.Record.Content.{Nothing, Frames, Parts, Policy}
@@ -31,7 +31,7 @@ IsPage false bytes page = (bytes ≡ []) × (page ≡ None)
 -- the entry of a word, with these bytes
 pub record IsEntry (word : ℕ) (bytes : List ℕ) (e : Entry) : Type 0 where
   pub pfn : e.pfn ≡ word_pfn word
-  pub kind : e.kind ≡ kind_in word
+  pub type : e.type ≡ type_in_word word
   pub page : IsPage (word_has_data word) bytes e.page
 
 -- the entries of these words, in order
@@ -82,7 +82,7 @@ pub record Follows (o : Opening) (records : List StreamRecord) (r : StreamRecord
   pub small : length body ≤ 2 ^ 27
   pub built : is_built o.kind r.type ≡ true
   pub ordered : IsInOrder o.version o.kind (types_of records) r.type
-  pub few : length records < 2 ^ 28
+  pub few : length records < most_records
   pub not_ended : is_ended records ≡ false
   pub complete : r.type ≡ 0 → IsComplete (mean o.kind records)
 

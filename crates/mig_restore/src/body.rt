@@ -3,12 +3,12 @@ ghost use Rattle.std.specs.List.{All};
 ghost use Rattle.mig_bytes.specs.Faults.{Rose};
 ghost use Rattle.mig_bytes.specs.Judged.{Gives, each};
 ghost use Rattle.mig_bytes.specs.declared.part.Stop.TheVariants.{ReadFault};
-ghost use Rattle.mig_headers.specs.RecordTypes.{row_of};
+ghost use Rattle.mig_headers.specs.RecordTypes.{record_row_of};
 ghost use Rattle.mig_records.specs.Faults.{fault_of_length};
 ghost use Rattle.mig_records.specs.Words.{words as words_in};
 ghost use Rattle.mig_pagetypes.specs.FrameWords.{word_pfn};
 ghost use Rattle.mig_restore.specs.Mean.{meant_type, put_entry, put_entries, put_content};
-ghost use Rattle.mig_restore.specs.Judging.{context_at, params_at, plain_at, tsc_says, leaves_say, msrs_say, words_at, kind_in, entry_at, pages_at, typed_at, body_at};
+ghost use Rattle.mig_restore.specs.Judging.{context_at, params_at, plain_at, tsc_says, leaves_say, msrs_say, words_at, type_in_word, entry_at, pages_at, typed_at, body_at};
 ghost use Rattle.mig_restore.specs.Record.Content.{Nothing};
 ghost use Rattle.mig_restore.specs.SoFar.{Grows};
 ghost use Rattle.mig_restore.specs.Spelled.{IsGoodWord};
@@ -172,7 +172,7 @@ fn take_words<S: Source>(alloc: Global, src: &mut S, count: u32) -> Result<Vec<u
 
 /// The type in a word; one whose type is reserved has no page.
 fn type_in(word: u64) -> PageType
-    ensures { result ≡ kind_in word }
+    ensures { result ≡ type_in_word word }
 {
     match decode_word(word) {
         Ok(frame) => frame.kind,
@@ -283,7 +283,7 @@ fn take_typed<S: Source>(
     guest: &mut Guest,
 ) -> Result<(), Stop<Cause>>
     requires small { len ≤ 2 ^ 27 }
-    requires allowed { (row_of this).allows len ≡ true }
+    requires allowed { (record_row_of this).allows len ≡ true }
     ensures read { Gives (λ _ c. guest.new ≡ put_content guest.old c) (S.left src.old) (S.left src.new) (typed_at guest.old.kind (Some this) len) result }
     ensures grown { OnOk result (Grows guest.old guest.new) }
     ensures later { S.faults src.old ≤ S.faults src.new }

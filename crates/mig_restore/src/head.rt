@@ -6,14 +6,15 @@ ghost use Rattle.mig_headers.specs.Headers.{unless_faulty};
 ghost use Rattle.mig_headers.specs.RecordTypes.{type_of_number};
 ghost use Rattle.mig_records.specs.Faults.{fault_of_length};
 ghost use Rattle.mig_records.specs.Heads.{head_in};
-ghost use Rattle.mig_restore.specs.Judging.{Opening, opening_of, is_supported_type, is_built, fault_of_built, fault_of_number, fault_of_fields, head_at};
+ghost use Rattle.mig_restore.specs.Judging.{Opening, most_records, opening_of, is_supported_type, is_built, fault_of_built, fault_of_number, fault_of_fields, head_at};
 
 use mig_bytes::{Source, Stop, take_part};
 use mig_headers::{Cause, Kind, RecordType};
 use mig_order::Gate;
 use mig_records::{RecordHead, length_fault, long_fault};
 
-const MAX_RECORDS: u32 = 268435456;
+/// The most records of an image.
+const MAX_RECORDS: u32 = 1 << 28;
 
 /// What the reader keeps of the records before: how many they are, and their order.
 #[derive(Drop)]
@@ -67,7 +68,7 @@ impl Seen {
     /// Whether there is no room for one record more.
     fn number_fault(&self) -> Option<Cause>
         ensures fault { (types : List ℕ) → self.now.records ≡ length types → result ≡ fault_of_number types }
-        ensures room { OnNone result (self.now.records < 2 ^ 28) }
+        ensures room { OnNone result (self.now.records < most_records) }
     {
         if self.records >= MAX_RECORDS {
             return Some(Cause::TooManyRecords);
@@ -82,7 +83,7 @@ impl Seen {
         ensures seen { OnOk result ((o : Opening) (types : List ℕ) → IsSeen self.old o types → IsSeen self.new o (types ++ head.kind ∷ [])) }
         ensures len { OnOk result (head.len ≤ 2 ^ 27) }
         ensures allowed { OnOk result (fault_of_length head.kind head.len ≡ None) }
-        ensures count { OnOk result ((self.new.records ≡ self.old.records + 1) × (self.old.records < 2 ^ 28)) }
+        ensures count { OnOk result ((self.new.records ≡ self.old.records + 1) × (self.old.records < most_records)) }
         ensures built { OnOk result (is_built self.old.kind head.kind ≡ true) }
         ensures kind { self.new.kind ≡ self.old.kind }
     {
@@ -112,7 +113,7 @@ impl Seen {
         ensures seen { IfOk result (λ h. (o : Opening) (types : List ℕ) → IsSeen self.old o types → IsSeen self.new o (types ++ h.kind ∷ [])) }
         ensures len { IfOk result (λ h. h.len ≤ 2 ^ 27) }
         ensures allowed { IfOk result (λ h. fault_of_length h.kind h.len ≡ None) }
-        ensures count { OnOk result ((self.new.records ≡ self.old.records + 1) × (self.old.records < 2 ^ 28)) }
+        ensures count { OnOk result ((self.new.records ≡ self.old.records + 1) × (self.old.records < most_records)) }
         ensures built { IfOk result (λ h. is_built self.old.kind h.kind ≡ true) }
         ensures kind { self.new.kind ≡ self.old.kind }
         ensures later { S.faults src.old ≤ S.faults src.new }

@@ -9,7 +9,7 @@ ghost use Rattle.mig_guest.specs.Frames.{IsSized};
 ghost use Rattle.mig_pvtables.specs.Whole.{IsWhole, fault_of_guest};
 ghost use Rattle.mig_restore.specs.Mean.{mean, put_record};
 ghost use Rattle.mig_restore.specs.Record.{StreamRecord, types_of};
-ghost use Rattle.mig_restore.specs.Judging.{Opening, opening_of, record_at};
+ghost use Rattle.mig_restore.specs.Judging.{Opening, most_records, opening_of, record_at};
 ghost use Rattle.mig_restore.specs.Seen.{IsSeen};
 ghost use Rattle.mig_restore.specs.SoFar.{Grows};
 ghost use Rattle.mig_restore.specs.Stream.{ReadsAs, of_records, verdict, marker_at, version_at, kind_at};
@@ -20,12 +20,11 @@ use crate::part::{StreamAnswer, placed};
 use mig_bytes::{Source, Stop, pad_len, take_part};
 use mig_guest::{Guest, PartKey};
 use mig_headers::{Cause, DomainHeader, ImageHeader, Kind, Place};
+use mig_pagetypes::MAX_FRAMES;
 use std::alloc::Global;
 
 /// The type of the record that ends an image.
 const END: u32 = 0;
-
-const MAX_FRAMES: u64 = 16777216;
 
 /// What was read of an image.
 #[derive(Drop)]
@@ -79,7 +78,7 @@ pub(crate) fn read_record<S: Source>(
         (S.left src.old) (S.left src.new) (record_at o records) result }
     ensures grown { OnOk result (Grows guest.old guest.new) }
     ensures whole { IfOk result (λ over. over ≡ true → (guest.new ≡ guest.old) × (fault_of_guest guest.old ≡ None) × IsSized guest.old.frames × (seen.old.kind ≡ Hvm)) }
-    ensures counted { OnOk result ((seen.new.records ≡ seen.old.records + 1) × (seen.old.records < 2 ^ 28)) }
+    ensures counted { OnOk result ((seen.new.records ≡ seen.old.records + 1) × (seen.old.records < most_records)) }
     ensures kind { seen.new.kind ≡ seen.old.kind }
     ensures later { S.faults src.old ≤ S.faults src.new }
     ensures cause { IsErrOf result ReadFault → Rose (S.faults src.old) (S.faults src.new) }

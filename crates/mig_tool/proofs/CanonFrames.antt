@@ -15,14 +15,13 @@ use Rattle.mig_bytes.specs.Fields.{le32, le64}
 use Rattle.mig_headers.specs.declared.kind.Kind.TheVariants.{Hvm}
 use Rattle.mig_pagetypes.specs.declared.page_type.PageType.{PageType}
 use Rattle.mig_pagetypes.specs.declared.page_type.PageType.TheVariants.{Notab, L1Tab, L2Tab, L3Tab, L4Tab, L1Pinned, L2Pinned, L3Pinned, L4Pinned, Broken, Xalloc, Xtab}
-use Rattle.mig_pagetypes.specs.PageTypes.{number_of, type_of, type_has_data}
+use Rattle.mig_pagetypes.specs.PageTypes.{number_of, type_of, type_or_none, type_has_data}
 use Rattle.mig_pagetypes.specs.FrameWords.{word_type, word_pfn, word_has_data, some_has_data}
 use Rattle.mig_guest.specs.Frames.{IsFrame}
 use Rattle.mig_guest.specs.Guests.{GuestOf}
 use Rattle.mig_records.specs.Words.{words, has_reserved_type}
 use Rattle.mig_pvtables.specs.Whole.{IsWhole}
 use Rattle.mig_canon.specs.Canon.{Frame, batch, batches, frame_word_in, page_in, words_of, pages_of, body_of, frames_in}
-use Rattle.mig_restore.specs.Judging.{type_or_none}
 use Rattle.mig_restore.specs.Record.Content.{Frames}
 use Rattle.mig_restore.specs.Spelled.{IsPage, IsEntry, AreEntries, IsGoodWord, IsBatch}
 use Rattle.mig_restore.specs.Spelled.HasContent.{pages as pages_say}
@@ -107,26 +106,26 @@ page_is (Some p) true e size = (size p refl, refl)
 page_is (Some p) false e size = absurd (cc)
 
 module _ (f : Frame) (fine : Fine f) where
-  typed : word_type (frame_word_in f) ≡ number_of f.1.kind
-  typed = type_is (number_of f.1.kind) f.0 fine.low
+  typed : word_type (frame_word_in f) ≡ number_of f.1.type
+  typed = type_is (number_of f.1.type) f.0 fine.low
 
   numbered : word_pfn (frame_word_in f) ≡ f.0
-  numbered = pfn_is (number_of f.1.kind) f.0 fine.low
+  numbered = pfn_is (number_of f.1.type) f.0 fine.low
 
   small : frame_word_in f < 2 ^ 64
-  small = omega (arith, least f.1.kind, fine.low)
+  small = omega (arith, least f.1.type, fine.low)
 
   good_word : IsGoodWord Hvm (frame_word_in f)
-  good_word = (not_reserved f.1.kind (frame_word_in f) typed, not_high (word_pfn (frame_word_in f)) f.0 numbered fine.low)
+  good_word = (not_reserved f.1.type (frame_word_in f) typed, not_high (word_pfn (frame_word_in f)) f.0 numbered fine.low)
 
-  has_data : word_has_data (frame_word_in f) ≡ type_has_data f.1.kind
-  has_data = ap (λ n. some_has_data (type_of n)) typed ∙ ap some_has_data (known f.1.kind)
+  has_data : word_has_data (frame_word_in f) ≡ type_has_data f.1.type
+  has_data = ap (λ n. some_has_data (type_of n)) typed ∙ ap some_has_data (known f.1.type)
 
   is_entry : IsEntry (frame_word_in f) (page_in f) (entry_of f)
   is_entry = record {
     pfn = sym numbered;
-    kind = sym (ap (λ n. type_or_none (type_of n)) typed ∙ ap type_or_none (known f.1.kind));
-    page = subst (λ b. IsPage b (page_in f) f.1.page) (sym has_data) (page_is f.1.page (type_has_data f.1.kind) fine.frame.in_step fine.frame.whole);
+    type = sym (ap (λ n. type_or_none (type_of n)) typed ∙ ap type_or_none (known f.1.type));
+    page = subst (λ b. IsPage b (page_in f) f.1.page) (sym has_data) (page_is f.1.page (type_has_data f.1.type) fine.frame.in_step fine.frame.whole);
   }
 
 -- ---- a batch

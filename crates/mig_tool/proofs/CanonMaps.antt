@@ -70,12 +70,12 @@ module _ {K X : Type 0} {R : K → K → Ordering} (total : IsTotalOrder R) (exa
 -- ---- frames set again
 
 abbrev pub entry_of : Frame → Entry
-entry_of f = record { pfn = f.0; kind = f.1.kind; page = f.1.page }
+entry_of f = record { pfn = f.0; type = f.1.type; page = f.1.page }
 
 abbrev pub HasHvmType : Frame → Type 0
-HasHvmType f = is_hvm_type f.1.kind ≡ true
+HasHvmType f = is_hvm_type f.1.type ≡ true
 
-put_hvm : (m : FrameMap) (pfn : ℕ) (t : PageType) (page : Option (List ℕ)) → is_hvm_type t ≡ true → put_entry Hvm m (record { pfn = pfn; kind = t; page = page }) ≡ maps.insert m pfn (record { kind = t; page = page })
+put_hvm : (m : FrameMap) (pfn : ℕ) (t : PageType) (page : Option (List ℕ)) → is_hvm_type t ≡ true → put_entry Hvm m (record { pfn = pfn; type = t; page = page }) ≡ maps.insert m pfn (record { type = t; page = page })
 put_hvm m pfn Notab page is = refl
 put_hvm m pfn L1Tab page is = absurd (cc)
 put_hvm m pfn L2Tab page is = absurd (cc)
@@ -95,7 +95,7 @@ frames_set m (f ∷ fs) q h hvm =
     let (first, others) = both_of (below_all nat_cmp f.0 fs) (is_sorted nat_cmp fs) h in
     let n = put_entry Hvm m (entry_of f) in
     frames_set n fs q others (All-tail HasHvmType f fs hvm)
-    ∙ ap (option_or (find nat_cmp q fs)) (ap (λ k. maps.get k q) (put_hvm m f.0 f.1.kind f.1.page (All-head HasHvmType f fs hvm)) ∙ maps.get-insert nat_cmp_total m f.0 f.1 q)
+    ∙ ap (option_or (find nat_cmp q fs)) (ap (λ k. maps.get k q) (put_hvm m f.0 f.1.type f.1.page (All-head HasHvmType f fs hvm)) ∙ maps.get-insert nat_cmp_total m f.0 f.1 q)
     ∙ found_first nat_cmp_total nat_cmp-IsAntisymmetric q f fs (maps.get m q) (eq_by_cmp nat_cmp q f.0) refl first
 
 or_none : {X : Type 0} (o : Option X) → option_or o None ≡ o

@@ -17,7 +17,7 @@ returns-in-None-clause-words c =
 pub loop-i-preserved : goal.loop-i-preserved
 loop-i-preserved c =
     let all = entries_from c.args.start (frames_in c.args.guest.now) in
-    let e : Frame = (c.in-Some.pfn, record { kind = c.in-Some.kind; page = option_copied c.in-Some.page }) in
+    let e : Frame = (c.in-Some.pfn, record { type = c.in-Some.kind; page = option_copied c.in-Some.page }) in
     let here = sym c.loop-i.invariant.at ∙ c.in-Some.ensures.next in
     record {
       at = sym (drop_next c.loop-i.i all _ e here);

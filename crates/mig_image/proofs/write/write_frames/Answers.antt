@@ -12,7 +12,7 @@ loop-init g c = record { at = from_zero (maps.entries c.args.host.now.frames); b
 pub returns-in_err-write_frame-in-Some-clause-bytes : goal.returns-in_err-write_frame-in-Some-clause-bytes
 returns-in_err-write_frame-in-Some-clause-bytes g c =
     let all = maps.entries c.args.host.now.frames in
-    let e : ℕ × HostFrame = (c.in-Some.pfn, record { kind = c.in-Some.kind; machine = c.in-Some.machine; page = option_copied c.in-Some.page }) in
+    let e : ℕ × HostFrame = (c.in-Some.pfn, record { type = c.in-Some.kind; machine = c.in-Some.machine; page = option_copied c.in-Some.page }) in
     walk_stop frame_text all c.loop.counter e _ _ _ _ _ _ c.from_residual.result
     (sym c.loop.invariant.at ∙ c.in-Some.ensures.next) c.loop.invariant.bytes c.from_residual.ensures.1 c.in_err-write_frame-in-Some.ensures.bytes
 
@@ -24,7 +24,7 @@ returns-in-None-clause-bytes g c =
 pub loop-preserved : goal.loop-preserved
 loop-preserved g c =
     let all = maps.entries c.args.host.now.frames in
-    let e : ℕ × HostFrame = (c.in-Some.pfn, record { kind = c.in-Some.kind; machine = c.in-Some.machine; page = option_copied c.in-Some.page }) in
+    let e : ℕ × HostFrame = (c.in-Some.pfn, record { type = c.in-Some.kind; machine = c.in-Some.machine; page = option_copied c.in-Some.page }) in
     let here = sym c.loop.invariant.at ∙ c.in-Some.ensures.next in
     record {
       at = sym (drop_next c.loop.counter all _ e here);

@@ -15,12 +15,12 @@ pub returns-in-Some-clause-next : goal.returns-in-Some-clause-next
 returns-in-Some-clause-next c =
     let pages = c.self.inside.pages.pages in let kinds = c.self.inside.kinds.entries in let from = c.args.from in
     let es = maps.entries c.args.self.now in
-    let e : Entry = (c.in-Some.pfn.now, record { kind = c.in-Some.kind.now; page = option_copied c.get.result }) in
+    let e : Entry = (c.in-Some.pfn.now, record { type = c.in-Some.kind.now; page = option_copied c.get.result }) in
     let rest = map (shown pages) c.next.new.self in
     let whole : entries_from from es ≡ map (shown pages) (entries_from from kinds) = ap (λ (m : FrameMap). entries_from from (maps.entries m)) (sym c.self.view_is) ∙ ap (entries_from from) (entries_seen pages kinds c.range.ensures.ordered) ∙ from_shown pages from kinds in
     let first : entries_from from es ≡ e ∷ rest =
     whole ∙ ap (map (shown pages)) (from_range from kinds ∙ sym (c.range.ensures.between tt) ∙ c.in-Some.ensures.steps)
-    ∙ ap (λ (page : Option (List ℕ)). (c.in-Some.pfn.now, record { kind = c.in-Some.kind.now; page = page }) ∷ rest) (ap (option_map whole_page) (sym c.get.ensures.value) ∙ whole_found c.get.result c.get.ensures.whole) in
+    ∙ ap (λ (page : Option (List ℕ)). (c.in-Some.pfn.now, record { type = c.in-Some.kind.now; page = page }) ∷ rest) (ap (option_map whole_page) (sym c.get.ensures.value) ∙ whole_found c.get.result c.get.ensures.whole) in
     first ∙ ap (λ l. e ∷ l) (sym (next_from from es rest e (maps.entries_sorted c.args.self.now) first))
 
 pub returns-in-None-clause-next : goal.returns-in-None-clause-next

@@ -14,7 +14,7 @@ invariant_of-self-2 c =
     let gives : option_map whole_page (maps.get after pfn) ≡ Some c.args.page.now = ap (λ (m : PageMap). option_map whole_page (maps.get m pfn)) put ∙ ap (option_map whole_page) (put_gives before pfn c.args.page.now) ∙ ap Some (whole_is c.args.page.now c.told-page) in
     in_step_set before after c.self.inside.kinds.entries c.insert.new.self.entries pfn c.args.kind c.self.invariant c.in-Ok.ensures.updates.0
     (λ q ne. ap (λ (m : PageMap). maps.get m q) put ∙ put_leaves before pfn c.args.page.now q ne) c.requires.small
-    (subst (λ (page : Option (List ℕ)). IsFrame (record { kind = c.args.kind; page = page })) (sym gives) (whole_frame c.args.kind c.args.page.now c.requires.data c.told-page))
+    (subst (λ (page : Option (List ℕ)). IsFrame (record { type = c.args.kind; page = page })) (sym gives) (whole_frame c.args.kind c.args.page.now c.requires.data c.told-page))
 
 pub returns-clause-ok : goal.returns-clause-ok
 returns-clause-ok c =
@@ -23,5 +23,5 @@ returns-clause-ok c =
     let gives : option_map whole_page (maps.get after pfn) ≡ Some c.args.page.now = ap (λ (m : PageMap). option_map whole_page (maps.get m pfn)) put ∙ ap (option_map whole_page) (put_gives before pfn c.args.page.now) ∙ ap Some (whole_is c.args.page.now c.told-page) in
     frames_set before after c.self.inside.kinds.entries c.insert.new.self.entries pfn c.args.kind c.in-Ok.ensures.updates.0
     (λ q ne. ap (λ (m : PageMap). maps.get m q) put ∙ put_leaves before pfn c.args.page.now q ne)
-    ∙ ap (λ (page : Option (List ℕ)). maps.insert (frames_seen before c.self.inside.kinds.entries) pfn (record { kind = c.args.kind; page = page })) gives
-    ∙ ap (λ (m : FrameMap). maps.insert m pfn (record { kind = c.args.kind; page = Some c.args.page.now })) c.self.view_is
+    ∙ ap (λ (page : Option (List ℕ)). maps.insert (frames_seen before c.self.inside.kinds.entries) pfn (record { type = c.args.kind; page = page })) gives
+    ∙ ap (λ (m : FrameMap). maps.insert m pfn (record { type = c.args.kind; page = Some c.args.page.now })) c.self.view_is

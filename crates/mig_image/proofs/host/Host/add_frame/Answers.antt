@@ -30,7 +30,7 @@ undone c =
     on_taken c.set_frame-then-is_err.result (c.set_frame-then-is_err.ensures.taken refl) c.set_frame-then-is_err.ensures.ok
     ∙ ap (λ (x : GuestOf). record x { frames = maps.remove x.frames pfn }) c.in_ok-set_frame.ensures.ok
     ∙ ap (λ (m : FrameMap). record g { frames = m }) (ap (λ (m : FrameMap). maps.remove m pfn) (framed_typed c.args.self.now.kind c.args.kind c.requires.is.type g.frames pfn page)
-    ∙ put_undone g.frames pfn (record { kind = c.args.kind; page = page }) (no_frame g.frames c.self.inside.machines pfn (ap (λ (h : HostOf). maps.get h.frames pfn) c.self.view_is ∙ c.requires.absent)))
+    ∙ put_undone g.frames pfn (record { type = c.args.kind; page = page }) (no_frame g.frames c.self.inside.machines pfn (ap (λ (h : HostOf). maps.get h.frames pfn) c.self.view_is ∙ c.requires.absent)))
 
 kept : (c : goal.After-set_frame-then-is_err) → c.insert.new.self ≡ c.self.inside.machines
 kept c = on_failure c.insert.result (sym c.is_err.ensures.value ∙ c.if-is_err.true) c.insert.ensures.err
@@ -45,7 +45,7 @@ returns-then-is_err-clause-err c =
 
 -- the frame that is set
 abbrev frame : goal.Else-is_err → FrameOf
-frame c = record { kind = c.args.kind; page = option_copied c.args.page }
+frame c = record { type = c.args.kind; page = option_copied c.args.page }
 
 framed_guest : (c : goal.Else-is_err) → c.set_frame.new.self ≡ record c.self.inside.guest { frames = maps.insert c.self.inside.guest.frames c.args.pfn (frame c) }
 framed_guest c =
@@ -60,7 +60,7 @@ invariant_of-self-else-is_err c =
     let g = c.self.inside.guest in let width = c.self.inside.width in let machines = c.self.inside.machines in let pfn = c.args.pfn in
     subst (λ (g : GuestOf). IsMade g width c.insert.new.self) (sym (framed_guest c)) (subst (IsMade (record g { frames = maps.insert g.frames pfn (frame c) }) width) (sym (put_machine c))
     (made_frame g width machines pfn (frame c) c.args.machine c.self.invariant
-    (subst (λ (h : HostOf). IsHostFrame h.kind h.width pfn (record { kind = c.args.kind; machine = c.args.machine; page = option_copied c.args.page })) (sym c.self.view_is) c.requires.is)
+    (subst (λ (h : HostOf). IsHostFrame h.kind h.width pfn (record { type = c.args.kind; machine = c.args.machine; page = option_copied c.args.page })) (sym c.self.view_is) c.requires.is)
     (λ other x has. c.requires.unused other x (sym (ap (λ (h : HostOf). maps.get h.frames other) c.self.view_is) ∙ has))
     (subst (λ (h : HostOf). length (maps.entries h.frames) < 2 ^ 24) (sym c.self.view_is) c.requires.few)))
 
@@ -69,4 +69,4 @@ returns-clause-ok c =
     let g = c.self.inside.guest in let width = c.self.inside.width in let machines = c.self.inside.machines in let pfn = c.args.pfn in
     ap (λ (g : GuestOf). host_seen g width c.insert.new.self) (framed_guest c) ∙ ap (host_seen (record g { frames = maps.insert g.frames pfn (frame c) }) width) (put_machine c)
     ∙ seen_frame g width machines pfn (frame c) c.args.machine
-    ∙ ap (λ (h : HostOf). put_frame h pfn (record { kind = c.args.kind; machine = c.args.machine; page = option_copied c.args.page })) c.self.view_is
+    ∙ ap (λ (h : HostOf). put_frame h pfn (record { type = c.args.kind; machine = c.args.machine; page = option_copied c.args.page })) c.self.view_is

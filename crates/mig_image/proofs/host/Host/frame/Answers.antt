@@ -8,4 +8,4 @@ use Rattle.mig_image.proofs.host.Host.frame.Goals as goal
 pub returns : goal.returns
 returns c =
     c.frame.ensures ∙ kind_joined c.self.inside.guest.frames c.self.inside.machines c.args.pfn
-    ∙ ap (λ (h : HostOf). option_map (λ (f : HostFrame). f.kind) (maps.get h.frames c.args.pfn)) c.self.view_is
+    ∙ ap (λ (h : HostOf). option_map (λ (f : HostFrame). f.type) (maps.get h.frames c.args.pfn)) c.self.view_is

@@ -19,6 +19,6 @@ returns-in_err-machine-clause-next c =
 pub returns-clause-next : goal.returns-clause-next
 returns-clause-next c =
     subst (λ (h : HostOf). entries_from c.args.from (maps.entries h.frames)
-    ≡ (c.in_ok-pfn.pfn, record { kind = c.in_ok-pfn.kind; machine = c.in_ok-machine.machine; page = option_copied c.in_ok-pfn.page }) ∷ entries_from (c.in_ok-pfn.pfn + 1) (maps.entries h.frames)) c.self.view_is
-    (next_joined c.self.inside.guest.frames c.self.inside.machines c.args.from c.in_ok-pfn.pfn (record { kind = c.in_ok-pfn.kind; page = option_copied c.in_ok-pfn.page }) c.in_ok-machine.machine
+    ≡ (c.in_ok-pfn.pfn, record { type = c.in_ok-pfn.kind; machine = c.in_ok-machine.machine; page = option_copied c.in_ok-pfn.page }) ∷ entries_from (c.in_ok-pfn.pfn + 1) (maps.entries h.frames)) c.self.view_is
+    (next_joined c.self.inside.guest.frames c.self.inside.machines c.args.from c.in_ok-pfn.pfn (record { type = c.in_ok-pfn.kind; page = option_copied c.in_ok-pfn.page }) c.in_ok-machine.machine
     c.in_ok-machine.ensures c.in_ok-pfn.ensures.next)
