@@ -1,7 +1,7 @@
-ghost use Rattle.std.specs.Prelude.{◌≡◌, ◌≤◌, length, IfOk, IsErrOf, vec_len};
-ghost use Rattle.mig_bytes.specs.Faults.{Rose};
+ghost use Rattle.std.specs.Prelude.{◌≡◌, length, IfOk, IsErrOf, vec_len};
+ghost use Rattle.mig_bytes.specs.Faults.{RisesOnReadFault};
 ghost use Rattle.mig_bytes.specs.Judged.{Gives, part};
-ghost use Rattle.mig_bytes.specs.declared.part.Stop.TheVariants.{ReadFault};
+ghost use Rattle.mig_bytes.specs.declared.part.Stop.TheVariants.{Memory};
 
 use crate::{Got, ReadFailed, Source, TakeFault, take_exact, take_vec};
 use std::alloc::Global;
@@ -21,8 +21,8 @@ pub fn take_part<S: Source, C: Copy>(
     truncated: C,
 ) -> Result<(), Stop<C>>
     ensures read { Gives (λ _ part. part ≡ buf.new) (S.left src.old) (S.left src.new) (part truncated (length buf.new)) result }
-    ensures later { S.faults src.old ≤ S.faults src.new }
-    ensures cause { IsErrOf result ReadFault → Rose (S.faults src.old) (S.faults src.new) }
+    ensures faults { RisesOnReadFault (S.faults src.old) (S.faults src.new) result }
+    ensures takes_no_memory { ¬ IsErrOf result Memory }
 {
     match take_exact(src, buf) {
         Ok(Got::Whole) => Ok(()),
@@ -40,8 +40,7 @@ pub fn take_long<S: Source, C: Copy>(
 ) -> Result<Vec<u8>, Stop<C>>
     ensures read { Gives (λ v part. part ≡ v.items) (S.left src.old) (S.left src.new) (part truncated len) result }
     ensures len { IfOk result (λ v. vec_len v ≡ len) }
-    ensures later { S.faults src.old ≤ S.faults src.new }
-    ensures cause { IsErrOf result ReadFault → Rose (S.faults src.old) (S.faults src.new) }
+    ensures faults { RisesOnReadFault (S.faults src.old) (S.faults src.new) result }
 {
     let mut part = Vec::new(alloc);
     match take_vec(src, len as usize, &mut part) {

@@ -38,5 +38,5 @@ loop-i-preserved g c =
       code = code_next _ c.loop-i.after es e _ is;
       at = sym (drop_next c.loop-i.i rows _ e here);
       bytes = walk_on (entry_bytes t) rows c.loop-i.i c.args.count e _ _ _ _ here c.loop-i.invariant.bytes c.in_ok-write_entry-in-Some.ensures.bytes;
-      later = search rules;
+      quiet = search rules;
     }

@@ -1,4 +1,4 @@
-use Rattle.std.proofs.Common.{◌≡◌, ◌≤◌, take, drop, IfSome}
+use Rattle.std.proofs.Common.{◌≡◌, take, drop, IfSome}
 use Rattle.std.specs.FinMap as maps
 use Rattle.std.specs.List.{flat_map}
 use Rattle.std.specs.Io.KnownBytes.{Appends}
@@ -11,5 +11,5 @@ invariant-loop-i g l = record {
   code : IfSome l.after (λ k. k.code ≡ code_of l.table);
   at : parts_after (code_of l.table) l.after (maps.entries l.guest.parts) ≡ drop l.i (rows_of l.table l.guest);
   bytes : Appends (g.K.Sink.written l.fn.sink) (g.K.Sink.written l.sink) (flat_map (entry_bytes l.table) (take l.i (rows_of l.table l.guest)));
-  later : g.K.Sink.faults l.fn.sink ≤ g.K.Sink.faults l.sink;
+  quiet : g.K.Sink.faults l.sink ≡ g.K.Sink.faults l.fn.sink;
 }

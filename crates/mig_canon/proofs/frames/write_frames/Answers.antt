@@ -15,7 +15,7 @@ counts : (m : FrameMap) (n : ℕ) → n ≡ maps.len m → n ≡ length (maps.en
 counts m n is = is ∙ maps.len-entries m
 
 pub loop-k-init : goal.loop-k-init
-loop-k-init g c = record { at = from_zero (frames_in c.args.guest.now); bytes = search rules; later = search rules }
+loop-k-init g c = record { at = from_zero (frames_in c.args.guest.now); bytes = search rules; quiet = search rules }
 
 pub write_batch-requires-clause-has : goal.write_batch-requires-clause-has
 write_batch-requires-clause-has g c =
@@ -41,7 +41,7 @@ loop-k-preserved g c =
       at = c.in_ok-from.ensures.next ∙ this.next_is;
       bytes = subst (Appends (g.K.Sink.written c.args.sink.now) (g.K.Sink.written c.write_batch.new.sink)) (sym (frames_more fs c.loop-k.k))
           (Appends-trans _ _ _ _ _ c.loop-k.invariant.bytes (subst (λ l. Appends (g.K.Sink.written c.loop-k.sink) (g.K.Sink.written c.write_batch.new.sink) (spelled 1 (body_of l))) this.batch_is c.in_ok-from.ensures.bytes));
-      later = search rules;
+      quiet = search rules;
     }
 
 pub returns-clause-bytes : goal.returns-clause-bytes

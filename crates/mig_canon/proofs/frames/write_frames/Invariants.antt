@@ -1,4 +1,4 @@
-use Rattle.std.proofs.Common.{◌≡◌, ◌≤◌, ◌*◌, drop}
+use Rattle.std.proofs.Common.{◌≡◌, ◌*◌, drop}
 use Rattle.std.specs.Io.KnownBytes.{Appends}
 use Rattle.mig_guest.specs.Frames.{entries_from}
 use Rattle.mig_canon.specs.Canon.{text_of, frame_bodies, frames_in}
@@ -8,5 +8,5 @@ abbrev pub invariant-loop-k : goal.invariant-loop-k
 invariant-loop-k g l = record {
   at : entries_from l.from (frames_in l.guest) ≡ drop (1024 * l.k) (frames_in l.guest);
   bytes : Appends (g.K.Sink.written l.fn.sink) (g.K.Sink.written l.sink) (text_of (frame_bodies (frames_in l.guest) l.k));
-  later : g.K.Sink.faults l.fn.sink ≤ g.K.Sink.faults l.sink;
+  quiet : g.K.Sink.faults l.sink ≡ g.K.Sink.faults l.fn.sink;
 }

@@ -28,5 +28,5 @@ loop-i-preserved g c =
     record {
       at = sym (drop_next c.loop-i.i all _ e here);
       bytes = walk_on page_in all c.loop-i.i c.args.count e _ _ _ _ here c.loop-i.invariant.bytes c.in_ok-write_page-in-Some.ensures.bytes;
-      later = search rules;
+      quiet = search rules;
     }

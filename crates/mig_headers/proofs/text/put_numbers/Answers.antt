@@ -9,5 +9,5 @@ returns-in_err-put_spaced_number-clause-bytes g c =
 pub loop-number-preserved : goal.loop-number-preserved
 loop-number-preserved g c = record {
   bytes = number_more c.args.numbers.now c.loop-number.number-index _ _ _ (omega arith) c.loop-number.invariant.bytes c.in_ok-put_spaced_number.ensures.bytes;
-  later = search rules;
+  quiet = search rules;
 }
