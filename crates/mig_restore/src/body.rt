@@ -1,8 +1,8 @@
 ghost use Rattle.std.specs.Prelude.{◌≡◌, ◌≤◌, ◌^◌, ◌*◌, IfOk, OnOk, IsErrOf, length, vec_len, true, None, Some, ◌%◌};
 ghost use Rattle.std.specs.List.{All};
-ghost use Rattle.mig_bytes.specs.Faults.{Rose};
+ghost use Rattle.mig_bytes.specs.Faults.{RisesOnReadFault};
 ghost use Rattle.mig_bytes.specs.Judged.{Gives, each};
-ghost use Rattle.mig_bytes.specs.declared.part.Stop.TheVariants.{ReadFault};
+ghost use Rattle.mig_bytes.specs.declared.part.Stop.TheVariants.{Memory};
 ghost use Rattle.mig_headers.specs.RecordTypes.{record_row_of};
 ghost use Rattle.mig_records.specs.Faults.{fault_of_length};
 ghost use Rattle.mig_records.specs.Words.{words as words_in};
@@ -34,8 +34,7 @@ fn take_context<S: Source>(
     requires { len ≤ 2 ^ 27 }
     ensures read { Gives (λ _ c. guest.new ≡ put_content guest.old c) (S.left src.old) (S.left src.new) (context_at len) result }
     ensures grown { OnOk result (Grows guest.old guest.new) }
-    ensures later { S.faults src.old ≤ S.faults src.new }
-    ensures cause { IsErrOf result ReadFault → Rose (S.faults src.old) (S.faults src.new) }
+    ensures faults { RisesOnReadFault (S.faults src.old) (S.faults src.new) result }
 {
     let body = take_long(alloc, src, len, Cause::Truncated)?;
     if let Err(fault) = scan_context(&body) {
@@ -57,8 +56,7 @@ fn take_params<S: Source>(
     requires { 8 ≤ len }
     ensures read { Gives (λ _ c. guest.new ≡ put_content guest.old c) (S.left src.old) (S.left src.new) (params_at len) result }
     ensures grown { OnOk result (Grows guest.old guest.new) }
-    ensures later { S.faults src.old ≤ S.faults src.new }
-    ensures cause { IsErrOf result ReadFault → Rose (S.faults src.old) (S.faults src.new) }
+    ensures faults { RisesOnReadFault (S.faults src.old) (S.faults src.new) result }
 {
     let body = take_long(alloc, src, len, Cause::Truncated)?;
     if let Some(cause) = params_fault(&body) {
@@ -74,8 +72,7 @@ fn take_params<S: Source>(
 fn take_tsc<S: Source>(src: &mut S, guest: &mut Guest) -> Result<(), Stop<Cause>>
     ensures read { Gives (λ _ c. guest.new ≡ put_content guest.old c) (S.left src.old) (S.left src.new) (plain_at tsc_says 24) result }
     ensures grown { OnOk result (Grows guest.old guest.new) }
-    ensures later { S.faults src.old ≤ S.faults src.new }
-    ensures cause { IsErrOf result ReadFault → Rose (S.faults src.old) (S.faults src.new) }
+    ensures faults { RisesOnReadFault (S.faults src.old) (S.faults src.new) result }
 {
     let mut body = [0; 24];
     take_part(src, &mut body, Cause::Truncated)?;
@@ -96,8 +93,7 @@ fn take_cpuid<S: Source>(
     requires few { len ≤ 24 * 65536 }
     ensures read { Gives (λ _ c. guest.new ≡ put_content guest.old c) (S.left src.old) (S.left src.new) (plain_at leaves_say len) result }
     ensures grown { OnOk result (Grows guest.old guest.new) }
-    ensures later { S.faults src.old ≤ S.faults src.new }
-    ensures cause { IsErrOf result ReadFault → Rose (S.faults src.old) (S.faults src.new) }
+    ensures faults { RisesOnReadFault (S.faults src.old) (S.faults src.new) result }
 {
     let body = take_long(alloc, src, len, Cause::Truncated)?;
     match read_cpuid(guest, &body) {
@@ -117,8 +113,7 @@ fn take_msr<S: Source>(
     requires few { len ≤ 16 * 65536 }
     ensures read { Gives (λ _ c. guest.new ≡ put_content guest.old c) (S.left src.old) (S.left src.new) (plain_at msrs_say len) result }
     ensures grown { OnOk result (Grows guest.old guest.new) }
-    ensures later { S.faults src.old ≤ S.faults src.new }
-    ensures cause { IsErrOf result ReadFault → Rose (S.faults src.old) (S.faults src.new) }
+    ensures faults { RisesOnReadFault (S.faults src.old) (S.faults src.new) result }
 {
     let body = take_long(alloc, src, len, Cause::Truncated)?;
     match read_msr(guest, &body) {
@@ -130,8 +125,8 @@ fn take_msr<S: Source>(
 /// Takes the body of an optional record, and keeps nothing of it.
 fn skip_body<S: Source>(src: &mut S, len: u32) -> Result<(), Stop<Cause>>
     ensures read { Gives (λ _ c. c ≡ Nothing) (S.left src.old) (S.left src.new) (plain_at (λ _. Nothing) len) result }
-    ensures later { S.faults src.old ≤ S.faults src.new }
-    ensures cause { IsErrOf result ReadFault → Rose (S.faults src.old) (S.faults src.new) }
+    ensures faults { RisesOnReadFault (S.faults src.old) (S.faults src.new) result }
+    ensures takes_no_memory { ¬ IsErrOf result Memory }
 {
     match skip(src, u64::from(len)) {
         Ok(true) => Ok(()),
@@ -160,8 +155,7 @@ fn take_words<S: Source>(alloc: Global, src: &mut S, count: u32) -> Result<Vec<u
     requires { 8 * count ≤ 2 ^ 27 }
     ensures read { Gives (λ v list. list ≡ v.items) (S.left src.old) (S.left src.new) (words_at count) result }
     ensures len { IfOk result (λ v. vec_len v ≡ count) }
-    ensures later { S.faults src.old ≤ S.faults src.new }
-    ensures cause { IsErrOf result ReadFault → Rose (S.faults src.old) (S.faults src.new) }
+    ensures faults { RisesOnReadFault (S.faults src.old) (S.faults src.new) result }
 {
     let bytes = take_long(alloc, src, 8 * count, Cause::Truncated)?;
     match words_of(alloc, &bytes, count as usize) {
@@ -209,8 +203,7 @@ fn take_entry<S: Source>(src: &mut S, word: u64, guest: &mut Guest) -> Result<()
     ensures read { Gives (λ _ e. guest.new ≡ record guest.old { frames = put_entry guest.old.kind guest.old.frames e })
         (S.left src.old) (S.left src.new) (entry_at word) result }
     ensures grown { OnOk result (Grows guest.old guest.new) }
-    ensures later { S.faults src.old ≤ S.faults src.new }
-    ensures cause { IsErrOf result ReadFault → Rose (S.faults src.old) (S.faults src.new) }
+    ensures faults { RisesOnReadFault (S.faults src.old) (S.faults src.new) result }
 {
     let in_stream = type_in(word);
     let kind = meant(guest.kind(), in_stream);
@@ -234,8 +227,7 @@ fn take_entries<S: Source>(src: &mut S, list: &[u64], guest: &mut Guest) -> Resu
     ensures read { Gives (λ _ es. guest.new ≡ record guest.old { frames = put_entries guest.old.kind guest.old.frames es })
         (S.left src.old) (S.left src.new) (each entry_at list.now) result }
     ensures grown { OnOk result (Grows guest.old guest.new) }
-    ensures later { S.faults src.old ≤ S.faults src.new }
-    ensures cause { IsErrOf result ReadFault → Rose (S.faults src.old) (S.faults src.new) }
+    ensures faults { RisesOnReadFault (S.faults src.old) (S.faults src.new) result }
 {
     for word in list {
         take_entry(src, *word, guest)?;
@@ -253,8 +245,7 @@ fn take_pages<S: Source>(
     requires { len ≤ 2 ^ 27 }
     ensures read { Gives (λ _ c. guest.new ≡ put_content guest.old c) (S.left src.old) (S.left src.new) (pages_at guest.old.kind len) result }
     ensures grown { OnOk result (Grows guest.old guest.new) }
-    ensures later { S.faults src.old ≤ S.faults src.new }
-    ensures cause { IsErrOf result ReadFault → Rose (S.faults src.old) (S.faults src.new) }
+    ensures faults { RisesOnReadFault (S.faults src.old) (S.faults src.new) result }
 {
     let mut front = [0; 8];
     take_part(src, &mut front, Cause::Truncated)?;
@@ -286,8 +277,7 @@ fn take_typed<S: Source>(
     requires allowed { (record_row_of this).allows len ≡ true }
     ensures read { Gives (λ _ c. guest.new ≡ put_content guest.old c) (S.left src.old) (S.left src.new) (typed_at guest.old.kind (Some this) len) result }
     ensures grown { OnOk result (Grows guest.old guest.new) }
-    ensures later { S.faults src.old ≤ S.faults src.new }
-    ensures cause { IsErrOf result ReadFault → Rose (S.faults src.old) (S.faults src.new) }
+    ensures faults { RisesOnReadFault (S.faults src.old) (S.faults src.new) result }
 {
     match this {
         RecordType::PageData => take_pages(alloc, src, len, guest),
@@ -311,8 +301,7 @@ pub(crate) fn take_body<S: Source>(
     requires allowed { fault_of_length head.kind head.len ≡ None }
     ensures read { Gives (λ _ c. guest.new ≡ put_content guest.old c) (S.left src.old) (S.left src.new) (body_at guest.old.kind head.kind head.len) result }
     ensures grown { OnOk result (Grows guest.old guest.new) }
-    ensures later { S.faults src.old ≤ S.faults src.new }
-    ensures cause { IsErrOf result ReadFault → Rose (S.faults src.old) (S.faults src.new) }
+    ensures faults { RisesOnReadFault (S.faults src.old) (S.faults src.new) result }
 {
     if is_optional(head.kind) {
         return skip_body(src, head.len);

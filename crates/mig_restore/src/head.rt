@@ -1,7 +1,7 @@
 ghost use Rattle.std.specs.Prelude.{◌≡◌, ◌≤◌, ◌<◌, ◌^◌, ◌∷◌, [], ◌++◌, List, ℕ, ◌+◌, length, true, IfNone, IfOk, OnOk, IfNone as OnNone, None, IsErrOf};
-ghost use Rattle.mig_bytes.specs.Faults.{Rose};
+ghost use Rattle.mig_bytes.specs.Faults.{RisesOnReadFault};
 ghost use Rattle.mig_bytes.specs.Judged.{Gives};
-ghost use Rattle.mig_bytes.specs.declared.part.Stop.TheVariants.{ReadFault};
+ghost use Rattle.mig_bytes.specs.declared.part.Stop.TheVariants.{Memory};
 ghost use Rattle.mig_headers.specs.Headers.{unless_faulty};
 ghost use Rattle.mig_headers.specs.RecordTypes.{type_of_number};
 ghost use Rattle.mig_records.specs.Faults.{fault_of_length};
@@ -116,8 +116,8 @@ impl Seen {
         ensures count { OnOk result ((self.new.records ≡ self.old.records + 1) × (self.old.records < most_records)) }
         ensures built { IfOk result (λ h. is_built self.old.kind h.kind ≡ true) }
         ensures kind { self.new.kind ≡ self.old.kind }
-        ensures later { S.faults src.old ≤ S.faults src.new }
-        ensures cause { IsErrOf result ReadFault → Rose (S.faults src.old) (S.faults src.new) }
+        ensures faults { RisesOnReadFault (S.faults src.old) (S.faults src.new) result }
+        ensures takes_no_memory { ¬ IsErrOf result Memory }
     {
         let mut bytes = [0; 8];
         take_part(src, &mut bytes, Cause::Truncated)?;

@@ -1,12 +1,13 @@
-ghost use Rattle.std.specs.Prelude.{◌≡◌, ◌≤◌, ◌<◌, ◌+◌, ◌^◌, ◌==◌, ◌∷◌, [], ◌++◌, List, ⊤, true, None, IfOk, IfNone, OnOk, IsErrOf};
+ghost use Rattle.std.specs.Prelude.{◌≡◌, ◌<◌, ◌+◌, ◌^◌, ◌==◌, ◌∷◌, [], ◌++◌, List, ⊤, true, None, IfOk, IfNone, OnOk, IsErrOf};
 ghost use Rattle.mig_bytes.specs.Bytes.{padding_len};
-ghost use Rattle.mig_bytes.specs.Faults.{Rose};
+ghost use Rattle.mig_bytes.specs.Faults.{RisesOnReadFault};
 ghost use Rattle.mig_bytes.specs.Judged.{Gives, part};
-ghost use Rattle.mig_bytes.specs.declared.part.Stop.TheVariants.{ReadFault};
+ghost use Rattle.mig_bytes.specs.declared.part.Stop.TheVariants.{Memory};
 ghost use Rattle.mig_headers.specs.declared.fault.Cause.TheVariants.{Truncated};
 ghost use Rattle.mig_headers.specs.declared.kind.Kind.TheVariants.{Hvm};
 ghost use Rattle.mig_guest.specs.Frames.{IsSized};
 ghost use Rattle.mig_pvtables.specs.Whole.{IsWhole, fault_of_guest};
+ghost use Rattle.mig_restore.specs.Answer.{RisesOnStreamFault};
 ghost use Rattle.mig_restore.specs.Mean.{mean, put_record};
 ghost use Rattle.mig_restore.specs.Record.{StreamRecord, types_of};
 ghost use Rattle.mig_restore.specs.Judging.{Opening, most_records, opening_of, record_at};
@@ -40,8 +41,8 @@ pub struct Reading {
 /// Takes the bytes behind a body that make its length a multiple of 8.
 fn read_padding<S: Source>(src: &mut S, len: u32) -> Result<(), Stop<Cause>>
     ensures read { Gives (λ _ _. ⊤) (S.left src.old) (S.left src.new) (part Truncated (padding_len len)) result }
-    ensures later { S.faults src.old ≤ S.faults src.new }
-    ensures cause { IsErrOf result ReadFault → Rose (S.faults src.old) (S.faults src.new) }
+    ensures faults { RisesOnReadFault (S.faults src.old) (S.faults src.new) result }
+    ensures takes_no_memory { ¬ IsErrOf result Memory }
 {
     let mut padding = [0; 8];
     take_part(src, &mut padding[..pad_len(len)], Cause::Truncated)
@@ -80,8 +81,7 @@ pub(crate) fn read_record<S: Source>(
     ensures whole { IfOk result (λ over. over ≡ true → (guest.new ≡ guest.old) × (fault_of_guest guest.old ≡ None) × IsSized guest.old.frames × (seen.old.kind ≡ Hvm)) }
     ensures counted { OnOk result ((seen.new.records ≡ seen.old.records + 1) × (seen.old.records < most_records)) }
     ensures kind { seen.new.kind ≡ seen.old.kind }
-    ensures later { S.faults src.old ≤ S.faults src.new }
-    ensures cause { IsErrOf result ReadFault → Rose (S.faults src.old) (S.faults src.new) }
+    ensures faults { RisesOnReadFault (S.faults src.old) (S.faults src.new) result }
 {
     let head = seen.read_head(src)?;
     if head.kind == END {
@@ -104,8 +104,7 @@ fn read_records<S: Source>(
 ) -> Result<Reading, StreamAnswer>
     ensures read { ReadsAs (of_records (opening_of version kind)) (S.left src.old) (S.left src.new) result }
     ensures whole { IfOk result (λ reading. IsWhole reading.guest) }
-    ensures later { S.faults src.old ≤ S.faults src.new }
-    ensures cause { IsErrOf result StreamAnswer.ReadFault → Rose (S.faults src.old) (S.faults src.new) }
+    ensures faults { RisesOnStreamFault (S.faults src.old) (S.faults src.new) result }
 {
     let mut seen = Seen::new(version, kind);
     let mut guest = Guest::new(alloc, kind);
@@ -130,8 +129,8 @@ fn read_records<S: Source>(
 /// Takes the marker.
 fn read_marker<S: Source>(src: &mut S) -> Result<(), Stop<Cause>>
     ensures read { Gives (λ _ _. ⊤) (S.left src.old) (S.left src.new) marker_at result }
-    ensures later { S.faults src.old ≤ S.faults src.new }
-    ensures cause { IsErrOf result ReadFault → Rose (S.faults src.old) (S.faults src.new) }
+    ensures faults { RisesOnReadFault (S.faults src.old) (S.faults src.new) result }
+    ensures takes_no_memory { ¬ IsErrOf result Memory }
 {
     let mut marker = [0; 8];
     take_part(src, &mut marker, Cause::Truncated)?;
@@ -144,8 +143,8 @@ fn read_marker<S: Source>(src: &mut S) -> Result<(), Stop<Cause>>
 /// Takes the image header behind its marker: the version.
 fn read_version<S: Source>(src: &mut S) -> Result<u32, Stop<Cause>>
     ensures read { Gives (λ v version. version ≡ v) (S.left src.old) (S.left src.new) version_at result }
-    ensures later { S.faults src.old ≤ S.faults src.new }
-    ensures cause { IsErrOf result ReadFault → Rose (S.faults src.old) (S.faults src.new) }
+    ensures faults { RisesOnReadFault (S.faults src.old) (S.faults src.new) result }
+    ensures takes_no_memory { ¬ IsErrOf result Memory }
 {
     let mut header = [0; 16];
     take_part(src, &mut header, Cause::Truncated)?;
@@ -158,8 +157,8 @@ fn read_version<S: Source>(src: &mut S) -> Result<u32, Stop<Cause>>
 /// Takes the domain header: the kind of guest.
 fn read_kind<S: Source>(src: &mut S) -> Result<Kind, Stop<Cause>>
     ensures read { Gives (λ k kind. kind ≡ k) (S.left src.old) (S.left src.new) kind_at result }
-    ensures later { S.faults src.old ≤ S.faults src.new }
-    ensures cause { IsErrOf result ReadFault → Rose (S.faults src.old) (S.faults src.new) }
+    ensures faults { RisesOnReadFault (S.faults src.old) (S.faults src.new) result }
+    ensures takes_no_memory { ¬ IsErrOf result Memory }
 {
     let mut header = [0; 16];
     take_part(src, &mut header, Cause::Truncated)?;
@@ -175,8 +174,7 @@ fn read_kind<S: Source>(src: &mut S) -> Result<Kind, Stop<Cause>>
 pub fn read_image<S: Source>(alloc: Global, src: &mut S) -> Result<Reading, StreamAnswer>
     ensures read { ReadsAs verdict (S.left src.old) (S.left src.new) result }
     ensures whole { IfOk result (λ reading. IsWhole reading.guest) }
-    ensures later { S.faults src.old ≤ S.faults src.new }
-    ensures cause { IsErrOf result StreamAnswer.ReadFault → Rose (S.faults src.old) (S.faults src.new) }
+    ensures faults { RisesOnStreamFault (S.faults src.old) (S.faults src.new) result }
 {
     if let Err(stop) = read_marker(src) {
         return Err(placed(Place::ImageHeader, stop));

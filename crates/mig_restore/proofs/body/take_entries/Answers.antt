@@ -10,7 +10,7 @@ use Rattle.mig_restore.proofs.body.take_entries.Goals as goal
 
 pub loop-word-init : goal.loop-word-init
 unfolding each
-loop-word-init g c = record { read = done _ _ _ tt [] (λ i. refl) refl; grown = grows_not c.args.guest.now; later = search rules }
+loop-word-init g c = record { read = done _ _ _ tt [] (λ i. refl) refl; grown = grows_not c.args.guest.now; quiet = search rules }
 
 pub take_entry-requires : goal.take_entry-requires
 take_entry-requires g c =
@@ -24,5 +24,5 @@ pub loop-word-preserved : goal.loop-word-preserved
 loop-word-preserved g c = record {
   read = each_step entry_at _ _ _ _ _ _ c.args.list.now c.loop-word.word-index 0 tt _ tt (search rules) c.loop-word.invariant.read c.in_ok-take_entry.ensures.read (λ es e r q. one_more_entry _ _ _ es e r q);
   grown = grows_on c.args.guest.now _ _ c.loop-word.invariant.grown c.in_ok-take_entry.ensures.grown;
-  later = search rules;
+  quiet = search rules;
 }

@@ -1,4 +1,4 @@
-use Rattle.std.proofs.Common.{◌≡◌, ◌≤◌, take, Ok}
+use Rattle.std.proofs.Common.{◌≡◌, take, Ok}
 use Rattle.mig_bytes.specs.Judged.{Gives, each}
 use Rattle.mig_restore.specs.Mean.{put_entries}
 use Rattle.mig_restore.specs.Judging.{entry_at}
@@ -10,5 +10,5 @@ invariant-loop-word g l = record {
   read : Gives {X = Unit {0}} (λ _ es. l.guest ≡ record l.fn.guest { frames = put_entries l.fn.guest.kind l.fn.guest.frames es })
       (g.S.Source.left l.fn.src) (g.S.Source.left l.src) (each entry_at (take l.word-index l.list)) (Ok tt);
   grown : Grows l.fn.guest l.guest;
-  later : g.S.Source.faults l.fn.src ≤ g.S.Source.faults l.src;
+  quiet : g.S.Source.faults l.src ≡ g.S.Source.faults l.fn.src;
 }

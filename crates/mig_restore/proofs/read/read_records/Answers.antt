@@ -17,7 +17,7 @@ records-init g c = record {
   kind = search rules;
   so_far = empty_so_far c.new-guest.result (search rules) (search rules) (search rules);
   few = search rules;
-  later = search rules;
+  quiet = search rules;
 }
 
 pub records-preserved : goal.records-preserved
@@ -26,7 +26,7 @@ records-preserved g c = record {
   kind = c.read_record.ensures.kind ∙ c.records.invariant.kind ∙ sym c.in-Ok.ensures.grown.kind;
   so_far = c.in-Ok.ensures.grown.kept c.records.invariant.so_far;
   few = search rules;
-  later = search rules;
+  quiet = search rules;
 }
 
 pub returns-then-over-clause-read : goal.returns-then-over-clause-read
