@@ -1,5 +1,6 @@
 -- What a reader of images answers.
-use Rattle.std.specs.Prelude.{◌≡◌, ℕ, List, Option, Some, None, Result, Ok, Err, ⊤}
+use Rattle.std.specs.Prelude.{◌≡◌, ℕ, ◌≤◌, List, Option, Some, None, Result, Ok, Err, ⊤}
+use Rattle.mig_bytes.specs.Faults.{Rose}
 use Rattle.mig_bytes.specs.Judged.{Judged}
 use Rattle.mig_bytes.specs.declared.part.Stop.{Stop}
 use Rattle.mig_bytes.specs.declared.part.Stop.TheVariants as stops
@@ -34,3 +35,10 @@ IsJudged judged left (Err Memory) = ⊤
 abbrev pub ReadsAs : (List ℕ → Judged (ImagePlace × ImageCause) HostOf) → Option (List ℕ) → Option (List ℕ) → Result HostOf ImageAnswer → Type 0
 ReadsAs judge None new result = ⊤
 ReadsAs judge (Some input) new result = IsJudged (judge input) new result
+
+-- a read fault is answered only where the count of the source rose, and every other answer only where it stands as it was
+abbrev pub RisesOnImageFault : {X : Type 0} → ℕ → ℕ → Result X ImageAnswer → Type 0
+RisesOnImageFault before now (Ok host) = now ≡ before
+RisesOnImageFault before now (Err (Refused place cause)) = now ≡ before
+RisesOnImageFault before now (Err ReadFault) = (before ≤ now) × Rose before now
+RisesOnImageFault before now (Err Memory) = now ≡ before

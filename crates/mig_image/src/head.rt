@@ -1,8 +1,8 @@
-ghost use Rattle.std.specs.Prelude.{◌≡◌, ◌≤◌, IfOk, IsErrOf, None};
-ghost use Rattle.mig_bytes.specs.Faults.{Rose};
+ghost use Rattle.std.specs.Prelude.{◌≡◌, IfOk, IsErrOf, None};
+ghost use Rattle.mig_bytes.specs.Faults.{RisesOnReadFault};
 ghost use Rattle.mig_bytes.specs.Fields.{le32};
 ghost use Rattle.mig_bytes.specs.Judged.{Gives};
-ghost use Rattle.mig_bytes.specs.declared.part.Stop.TheVariants.{ReadFault};
+ghost use Rattle.mig_bytes.specs.declared.part.Stop.TheVariants.{Memory};
 ghost use Rattle.mig_headers.specs.Headers.{kind_of_number};
 ghost use Rattle.mig_image.specs.ImageParts.{fault_of_name, fault_of_sizes, fault_of_head, head_at};
 
@@ -60,8 +60,8 @@ fn size_fault(kind: Kind, width: u64, frames: u64) -> Option<ImageCause>
 pub(crate) fn read_head<S: Source>(src: &mut S) -> Result<[u8; 32], Stop<ImageCause>>
     ensures read { Gives (λ v head. head ≡ v) (S.left src.old) (S.left src.new) head_at result }
     ensures fine { IfOk result (λ head. fault_of_head head ≡ None) }
-    ensures later { S.faults src.old ≤ S.faults src.new }
-    ensures cause { IsErrOf result ReadFault → Rose (S.faults src.old) (S.faults src.new) }
+    ensures faults { RisesOnReadFault (S.faults src.old) (S.faults src.new) result }
+    ensures takes_no_memory { ¬ IsErrOf result Memory }
 {
     let mut head = [0; 32];
     take_part(src, &mut head, ImageCause::Truncated)?;

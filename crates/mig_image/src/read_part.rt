@@ -1,9 +1,9 @@
 ghost use Rattle.std.specs.Prelude.{◌≡◌, ◌==◌, ◌+◌, ◌≤◌, ◌<◌, ⊤, OnOk, IfOk, IfNone, IsErrOf, length, None, if◌then◌else◌};
 ghost use Rattle.std.specs.List.{list_all};
 ghost use Rattle.std.specs.FinMap as maps;
-ghost use Rattle.mig_bytes.specs.Faults.{Rose};
+ghost use Rattle.mig_bytes.specs.Faults.{RisesOnReadFault};
 ghost use Rattle.mig_bytes.specs.Judged.{Gives};
-ghost use Rattle.mig_bytes.specs.declared.part.Stop.TheVariants.{ReadFault};
+ghost use Rattle.mig_bytes.specs.declared.part.Stop.TheVariants.{Memory};
 ghost use Rattle.mig_headers.specs.declared.kind.Kind.TheVariants.{Pv};
 ghost use Rattle.mig_guest.specs.Hosts.{IsValid};
 ghost use Rattle.mig_guest.specs.PartCodes.{code_of_number};
@@ -133,8 +133,8 @@ fn read_part_head<S: Source>(
     ensures read { Gives (λ v head. head ≡ v) (S.left src.old) (S.left src.new) (part_head_at host.now) result }
     ensures fine { IfOk result (λ head. fault_of_part host.now head ≡ None) }
     ensures valid { IfOk result (λ _. IsValid host.now) }
-    ensures later { S.faults src.old ≤ S.faults src.new }
-    ensures cause { IsErrOf result ReadFault → Rose (S.faults src.old) (S.faults src.new) }
+    ensures faults { RisesOnReadFault (S.faults src.old) (S.faults src.new) result }
+    ensures takes_no_memory { ¬ IsErrOf result Memory }
 {
     let mut head = [0; 16];
     take_part(src, &mut head, ImageCause::Truncated)?;
@@ -154,8 +154,7 @@ fn read_bytes<S: Source>(
     ensures read { Gives (λ v bytes. bytes ≡ v.items) (S.left src.old) (S.left src.new) (bytes_at code len) result }
     ensures len { IfOk result (λ v. length v.items ≡ len) }
     ensures fine { IfOk result (λ v. fault_of_bytes code v.items ≡ None) }
-    ensures later { S.faults src.old ≤ S.faults src.new }
-    ensures cause { IsErrOf result ReadFault → Rose (S.faults src.old) (S.faults src.new) }
+    ensures faults { RisesOnReadFault (S.faults src.old) (S.faults src.new) result }
 {
     let bytes = take_long(alloc, src, len, ImageCause::Truncated)?;
     if code == EMULATOR_PAIRS && !canonical_pairs(&bytes) {
@@ -174,8 +173,8 @@ fn are_zeros(bytes: &[u8]) -> bool
 /// Takes the zeros behind so many bytes.
 fn read_padding<S: Source>(src: &mut S, len: u32) -> Result<(), Stop<ImageCause>>
     ensures read { Gives (λ _ _. ⊤) (S.left src.old) (S.left src.new) (padding_at len) result }
-    ensures later { S.faults src.old ≤ S.faults src.new }
-    ensures cause { IsErrOf result ReadFault → Rose (S.faults src.old) (S.faults src.new) }
+    ensures faults { RisesOnReadFault (S.faults src.old) (S.faults src.new) result }
+    ensures takes_no_memory { ¬ IsErrOf result Memory }
 {
     let mut zeros = [0; 8];
     let padding = &mut zeros[..pad_len(len)];
@@ -196,8 +195,7 @@ fn read_part<S: Source>(
     requires { Counts entries.old host.old.parts }
     ensures read { Gives (λ _ h. host.new ≡ h) (S.left src.old) (S.left src.new) (part_at host.old) result }
     ensures counted { OnOk result (Counts entries.new host.new.parts) }
-    ensures later { S.faults src.old ≤ S.faults src.new }
-    ensures cause { IsErrOf result ReadFault → Rose (S.faults src.old) (S.faults src.new) }
+    ensures faults { RisesOnReadFault (S.faults src.old) (S.faults src.new) result }
 {
     let head = read_part_head(src, host, *entries)?;
     let key = key_of(&head);
@@ -220,8 +218,7 @@ pub(crate) fn read_parts<S: Source>(
 ) -> Result<(), Stop<(ImagePlace, ImageCause)>>
     requires { host.old.parts ≡ maps.empty }
     ensures read { Gives (λ _ h. host.new ≡ h) (S.left src.old) (S.left src.new) (parts_at count host.old) result }
-    ensures later { S.faults src.old ≤ S.faults src.new }
-    ensures cause { IsErrOf result ReadFault → Rose (S.faults src.old) (S.faults src.new) }
+    ensures faults { RisesOnReadFault (S.faults src.old) (S.faults src.new) result }
 {
     let mut entries = Entries { leaves: 0, msrs: 0 };
     for i in 0..count {

@@ -12,7 +12,7 @@ loop-i-init g c = record {
   read = begins (λ (v h : HostOf). v ≡ h) _ c.args.host.now c.args.host.now _ refl;
   counted = c.requires.none;
   parts = refl;
-  later = search rules;
+  quiet = search rules;
 }
 
 pub returns-in-Err-clause-read : goal.returns-in-Err-clause-read
@@ -24,7 +24,7 @@ loop-i-preserved g c = record {
   read = one_more Frame frame_at _ _ _ c.loop-i.i c.args.host.now c.loop-i.host c.read_frame.new.host _ c.loop-i.invariant.read c.in_default.ensures.read;
   counted = c.in_default.ensures.counted ∙ ap (λ n. n + 1) c.loop-i.invariant.counted;
   parts = c.in_default.ensures.parts ∙ c.loop-i.invariant.parts;
-  later = search rules;
+  quiet = search rules;
 }
 
 pub returns-clause-read : goal.returns-clause-read

@@ -1,4 +1,4 @@
-use Rattle.std.proofs.Common.{◌≡◌, ◌≤◌, length, Ok}
+use Rattle.std.proofs.Common.{◌≡◌, length, Ok}
 use Rattle.std.specs.FinMap as maps
 use Rattle.mig_bytes.specs.Judged.{Gives}
 use Rattle.mig_guest.specs.Hosts.{HostOf}
@@ -10,5 +10,5 @@ invariant-loop-i g l = record {
   read : Gives {X = HostOf} (λ v h. v ≡ h) (g.S.Source.left l.fn.src) (g.S.Source.left l.src) (frames_at l.i l.fn.host) (Ok l.host);
   counted : length (maps.entries l.host.frames) ≡ l.i;
   parts : l.host.parts ≡ l.fn.host.parts;
-  later : g.S.Source.faults l.fn.src ≤ g.S.Source.faults l.src;
+  quiet : g.S.Source.faults l.src ≡ g.S.Source.faults l.fn.src;
 }

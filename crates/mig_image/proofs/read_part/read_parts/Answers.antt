@@ -12,7 +12,7 @@ pub loop-i-init : goal.loop-i-init
 loop-i-init g c = record {
   read = begins (λ (v h : HostOf). v ≡ h) _ c.args.host.now c.args.host.now _ refl;
   counted = counts_none _ _ c.requires refl refl;
-  later = search rules;
+  quiet = search rules;
 }
 
 pub returns-in-Err-clause-read : goal.returns-in-Err-clause-read
@@ -23,7 +23,7 @@ pub loop-i-preserved : goal.loop-i-preserved
 loop-i-preserved g c = record {
   read = one_more Part part_at _ _ _ c.loop-i.i c.args.host.now c.loop-i.host c.read_part.new.host _ c.loop-i.invariant.read c.in_default.ensures.read;
   counted = c.in_default.ensures.counted;
-  later = search rules;
+  quiet = search rules;
 }
 
 pub returns-clause-read : goal.returns-clause-read

@@ -7,7 +7,7 @@ use Rattle.mig_image.proofs.Walked.{from_zero, drop_next, not_ended, walk_on, wa
 use Rattle.mig_image.proofs.write.write_frames.Goals as goal
 
 pub loop-init : goal.loop-init
-loop-init g c = record { at = from_zero (maps.entries c.args.host.now.frames); bytes = search rules; later = search rules }
+loop-init g c = record { at = from_zero (maps.entries c.args.host.now.frames); bytes = search rules; quiet = search rules }
 
 pub returns-in_err-write_frame-in-Some-clause-bytes : goal.returns-in_err-write_frame-in-Some-clause-bytes
 returns-in_err-write_frame-in-Some-clause-bytes g c =
@@ -29,7 +29,7 @@ loop-preserved g c =
     record {
       at = sym (drop_next c.loop.counter all _ e here);
       bytes = walk_on frame_text all c.loop.counter e _ _ _ _ here c.loop.invariant.bytes c.in_ok-write_frame-in-Some.ensures.bytes;
-      later = search rules;
+      quiet = search rules;
     }
 
 pub returns-clause-bytes : goal.returns-clause-bytes

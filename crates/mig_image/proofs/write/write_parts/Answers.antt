@@ -30,5 +30,5 @@ loop-preserved g c =
     record {
       at = sym (drop_next c.loop.counter all _ e here);
       bytes = walk_on part_text all c.loop.counter e _ _ _ _ here c.loop.invariant.bytes c.in_ok-write_part-in-Some.ensures.bytes;
-      later = search rules;
+      quiet = search rules;
     }
