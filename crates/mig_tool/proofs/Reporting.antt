@@ -1,11 +1,10 @@
 -- What the program answers, and what the line on the report comes to.
 use Rattle.std.specs.Prelude.{◌⊎◌}
 use mathlib.Core.Logic.{inl, inr}
-use Rattle.std.proofs.Common.{◌≡◌, ℕ, ◌++◌, List, length, take, arith, Option, Some, None, Result, Ok, Err, refl, sym, ap, subst, ◌∙◌, le_refl}
-use Rattle.std.proofs.lemmas.List.{take_all}
+use Rattle.std.proofs.Common.{◌≡◌, ℕ, ◌++◌, List, [], length, arith, Option, Some, None, Result, Ok, Err, refl, sym, ap, subst, ◌∙◌}
 use Rattle.std.specs.Io.KnownBytes.{Appends}
 use Rattle.mig_bytes.specs.Bytes.{Puts}
-use Rattle.mig_bytes.specs.Faults.{HasCause}
+use Rattle.mig_bytes.specs.Faults.{Rose, HasCause}
 use Rattle.mig_bytes.specs.declared.failure.WriteFailed.{WriteFailed}
 use Rattle.mig_headers.specs.declared.fault.Cause.{Cause}
 use Rattle.mig_headers.specs.declared.fault.Place.{Place}
@@ -32,7 +31,7 @@ use Rattle.mig_image.proofs.ImageReads.{image_reads}
 use Rattle.mig_image.proofs.RestoredHosts.{hosted_valid}
 use Rattle.mig_tool.specs.Words.{IsBase}
 use Rattle.mig_bytes.specs.Bytes.{AppendsPart}
-use Rattle.mig_tool.specs.Answers.{restored_text, Written, Done, DonePart, Comes, ComesOf, Says, SaysOf, IsLine, NamesRefusal, summary_of}
+use Rattle.mig_tool.specs.Answers.{restored_text, Written, Done, DonePart, Comes, ComesOf, Says, SaysOf, InputRises, IsLine, NamesRefusal, summary_of}
 use Rattle.mig_tool.specs.declared.command.Command.{Command}
 use Rattle.mig_tool.specs.declared.command.Command.TheVariants.{Normalise, Restore, Verify}
 use Rattle.mig_tool.specs.declared.outcome.Summary.{Summary}
@@ -50,12 +49,14 @@ wrote (Err e) = outcomes.WriteFault
 
 -- ---- the line
 
-appended : (line : List ℕ) (old new : Option (List ℕ)) → Appends old new line → Appends old new (take (length line) line)
-appended line old new h = subst (Appends old new) (sym (take_all (length line) line (le_refl (length line)))) h
-
 pub reports : (line : List ℕ) (old new : Option (List ℕ)) (before now : ℕ) (r : Result (Unit {0}) WriteFailed) → Puts line old new r → HasCause before now r → Reports line old new before now
-reports line old new before now (Ok u) put cause = record { later = cause.later; first = (length line, appended line old new put); whole = λ _. put }
-reports line old new before now (Err e) (n, less, put) cause = record { later = cause.later; first = (n, put); whole = λ not_risen. absurd (not_risen cause.failed) }
+reports line old new before now (Ok u) put cause = inl (cause.quiet, put)
+reports line old new before now (Err e) put cause = inr (cause.later, cause.failed, put)
+
+-- a write of nothing doesn't fail
+pub nothing_fails : (line : List ℕ) (old new : Option (List ℕ)) (before now : ℕ) → Reports line old new before now → line ≡ [] → now ≡ before
+nothing_fails line old new before now (inl whole) none = whole.0
+nothing_fails line old new before now (inr (later, rose, part)) none = absurd (omega (arith, part.1, ap length none))
 
 names : (command : Command) (told left : Option (List ℕ)) (w : Written) (place : Place) (cause : Cause) → ComesOf command told left w (outcomes.Refused place cause) → NamesRefusal told place cause
 names command None left w place cause h = tt
@@ -131,6 +132,10 @@ pub refused_refused : (command : Command) (told left : Option (List ℕ)) (w : W
     → (status ≡ statuses.ReadFault → ⊥) → (status ≡ statuses.Refused) ⊎ (status ≡ statuses.Memory)
 refused_refused command told left w status input place cause rest h is refused reads =
     refused_or command input left w status place cause rest (subst (λ t. SaysOf command t left w status) is h) refused reads
+
+-- a read fault comes with a risen count
+pub input_rose : (status : Status) (before now : ℕ) → InputRises status before now → status ≡ statuses.ReadFault → Rose before now
+input_rose status before now h is = let r = subst (λ s. InputRises s before now) is h in r.1
 
 -- ---- what a reading and a writing come to
 

@@ -1,5 +1,5 @@
 -- What the program answers, takes and writes.
-use Rattle.std.specs.Prelude.{◌≡◌, ◌↔◌, ℕ, List, [], ◌++◌, length, ⊤, Some, None, Option}
+use Rattle.std.specs.Prelude.{◌≡◌, ◌↔◌, ◌≤◌, ℕ, List, [], ◌++◌, length, ⊤, Some, None, Option}
 use Rattle.std.specs.FinMap as maps
 use Rattle.std.specs.Io.KnownBytes.{Appends}
 use Rattle.mig_bytes.specs.Bytes.{AppendsPart}
@@ -120,6 +120,16 @@ SaysOf command (Some input) left w status = Says command input left w status
 abbrev pub WriteRose : Command → ℕ → ℕ → ℕ → ℕ → Type 0
 WriteRose Verify out out_now report report_now = Rose report report_now
 WriteRose _ out out_now report report_now = Rose out out_now
+
+-- the count of the input rises with a read fault, and with every other status it stands as it was
+abbrev pub InputRises : Status → ℕ → ℕ → Type 0
+InputRises statuses.ReadFault before now = (before ≤ now) × Rose before now
+InputRises _ before now = now ≡ before
+
+-- the count of the sink that the command writes on rises with a write fault, and with every other status it stands as it was
+abbrev pub OutputRises : Status → ℕ → ℕ → Type 0
+OutputRises statuses.WriteFault before now = (before ≤ now) × Rose before now
+OutputRises _ before now = now ≡ before
 
 -- ---- the line of a status
 

@@ -1,6 +1,7 @@
 -- The lines that the program puts on its report.
-use Rattle.std.specs.Prelude.{◌≤◌, ℕ, List, ◌++◌, take, codes, decimal, Option}
+use Rattle.std.specs.Prelude.{◌≡◌, ◌≤◌, ◌⊎◌, ℕ, List, ◌++◌, codes, decimal, Option}
 use Rattle.std.specs.Io.KnownBytes.{Appends}
+use Rattle.mig_bytes.specs.Bytes.{AppendsPart}
 use Rattle.mig_bytes.specs.Faults.{Rose}
 use Rattle.mig_headers.specs.declared.fault.Cause.{Cause}
 use Rattle.mig_headers.specs.declared.fault.Place.{Place}
@@ -35,8 +36,6 @@ ok_line s =
     (codes "ok version " ++ decimal s.version) ++ (codes " kind " ++ (kind_name s.kind
     ++ ((codes " frames " ++ decimal s.frames) ++ ((codes " records " ++ decimal s.records) ++ codes "\n"))))
 
--- the report got the line; where its count rose, maybe only some first bytes of it
-pub record Reports (line : List ℕ) (old new : Option (List ℕ)) (before now : ℕ) : Type 0 where
-  pub later : before ≤ now
-  pub first : (n : ℕ) × Appends old new (take n line)
-  pub whole : (Rose before now → ⊥) → Appends old new line
+-- the report got the line, and its count stands as it was; or a write failed, and it got some first bytes, but not all
+abbrev pub Reports : List ℕ → Option (List ℕ) → Option (List ℕ) → ℕ → ℕ → Type 0
+Reports line old new before now = ((now ≡ before) × Appends old new line) ⊎ ((before ≤ now) × Rose before now × AppendsPart old new line)

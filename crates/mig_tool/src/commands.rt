@@ -1,10 +1,10 @@
 ghost use Rattle.std.specs.Prelude.{◌≡◌, ◌≢◌, ◌≤◌, ◌⊎◌, ℕ, List, Option};
-ghost use Rattle.std.specs.Io.KnownBytes.{Appends, Keeps};
+ghost use Rattle.std.specs.Io.KnownBytes.{Appends};
 ghost use Rattle.mig_bytes.specs.Bytes.{AppendsPart};
 ghost use Rattle.mig_bytes.specs.Faults.{Rose};
 ghost use Rattle.mig_pvtables.specs.Whole.{IsWhole};
-ghost use Rattle.mig_tool.specs.Answers.{SaysOf, ComesOf, WriteRose, IsLine, HasOwnLine, restored_text};
-ghost use Rattle.mig_tool.specs.Outcome.{outcome_of};
+ghost use Rattle.mig_tool.specs.Answers.{SaysOf, ComesOf, WriteRose, InputRises, OutputRises, IsLine, HasOwnLine, restored_text};
+ghost use Rattle.mig_tool.specs.Outcome.{outcome_of, status_of};
 ghost use Rattle.mig_tool.specs.Report.{Reports, ok_line};
 ghost use Rattle.mig_tool.specs.Words.{IsBase};
 ghost use Rattle.mig_tool.specs.declared.command.Command.TheVariants as commands;
@@ -37,11 +37,9 @@ fn unread(answer: StreamAnswer) -> Outcome
 fn normalise<S: Source, K: Sink>(alloc: Global, input: &mut S, out: &mut K) -> Outcome
     ensures answer { (before now : Option (List ℕ)) → ComesOf commands.Normalise (S.left input.old) (S.left input.new) (record { out_old = K.written out.old; out_new = K.written out.new; report_old = before; report_new = now }) result }
     ensures known { result ≢ outcomes.Usage }
-    ensures kept { result ≢ outcomes.Done → result ≢ outcomes.WriteFault → Keeps (K.written out.old) (K.written out.new) }
-    ensures read { result ≡ outcomes.ReadFault → Rose (S.faults input.old) (S.faults input.new) }
-    ensures write { result ≡ outcomes.WriteFault → Rose (K.faults out.old) (K.faults out.new) }
-    ensures in_later { S.faults input.old ≤ S.faults input.new }
-    ensures out_later { K.faults out.old ≤ K.faults out.new }
+    ensures kept { result ≢ outcomes.Done → result ≢ outcomes.WriteFault → out.new ≡ out.old }
+    ensures read { InputRises (status_of result) (S.faults input.old) (S.faults input.new) }
+    ensures write { OutputRises (status_of result) (K.faults out.old) (K.faults out.new) }
 {
     match read_image(alloc, input) {
         Ok(reading) => match write_canon(out, &reading.guest) {
@@ -59,9 +57,8 @@ fn write_restored<K: Sink>(alloc: Global, guest: Guest, base: u64, out: &mut K) 
     ensures done { result ≡ outcomes.Done → Appends (K.written out.old) (K.written out.new) (restored_text base guest) }
     ensures part { result ≡ outcomes.WriteFault → AppendsPart (K.written out.old) (K.written out.new) (restored_text base guest) }
     ensures answers { (result ≡ outcomes.Done) ⊎ ((result ≡ outcomes.WriteFault) ⊎ (result ≡ outcomes.Memory)) }
-    ensures kept { result ≡ outcomes.Memory → Keeps (K.written out.old) (K.written out.new) }
-    ensures write { result ≡ outcomes.WriteFault → Rose (K.faults out.old) (K.faults out.new) }
-    ensures out_later { K.faults out.old ≤ K.faults out.new }
+    ensures kept { result ≡ outcomes.Memory → out.new ≡ out.old }
+    ensures write { OutputRises (status_of result) (K.faults out.old) (K.faults out.new) }
 {
     match host_of(alloc, guest, base) {
         Ok(host) => match write_host(out, &host) {
@@ -78,11 +75,9 @@ fn restore<S: Source, K: Sink>(alloc: Global, base: u64, input: &mut S, out: &mu
     requires { IsBase base }
     ensures answer { (before now : Option (List ℕ)) → ComesOf (commands.Restore base) (S.left input.old) (S.left input.new) (record { out_old = K.written out.old; out_new = K.written out.new; report_old = before; report_new = now }) result }
     ensures known { result ≢ outcomes.Usage }
-    ensures kept { result ≢ outcomes.Done → result ≢ outcomes.WriteFault → Keeps (K.written out.old) (K.written out.new) }
-    ensures read { result ≡ outcomes.ReadFault → Rose (S.faults input.old) (S.faults input.new) }
-    ensures write { result ≡ outcomes.WriteFault → Rose (K.faults out.old) (K.faults out.new) }
-    ensures in_later { S.faults input.old ≤ S.faults input.new }
-    ensures out_later { K.faults out.old ≤ K.faults out.new }
+    ensures kept { result ≢ outcomes.Done → result ≢ outcomes.WriteFault → out.new ≡ out.old }
+    ensures read { InputRises (status_of result) (S.faults input.old) (S.faults input.new) }
+    ensures write { OutputRises (status_of result) (K.faults out.old) (K.faults out.new) }
 {
     let guest = match read_image(alloc, input) {
         Ok(reading) => reading.guest,
@@ -95,13 +90,13 @@ fn restore<S: Source, K: Sink>(alloc: Global, base: u64, input: &mut S, out: &mu
 fn verify<S: Source, R: Sink>(alloc: Global, input: &mut S, report: &mut R) -> Status
     ensures said { (old new : Option (List ℕ)) → SaysOf commands.Verify (S.left input.old) (S.left input.new) (record { out_old = old; out_new = new; report_old = R.written report.old; report_new = R.written report.new }) result }
     ensures known { result ≢ statuses.Usage }
-    ensures read { result ≡ statuses.ReadFault → Rose (S.faults input.old) (S.faults input.new) }
+    ensures read { InputRises result (S.faults input.old) (S.faults input.new) }
     ensures write { result ≡ statuses.WriteFault → Rose (R.faults report.old) (R.faults report.new) }
+    ensures quiet { result ≡ statuses.Done → R.faults report.new ≡ R.faults report.old }
     ensures line { (HasOwnLine commands.Verify result → ⊥)
         → (line : List ℕ) × IsLine (S.left input.old) result line × Reports line (R.written report.old) (R.written report.new) (R.faults report.old) (R.faults report.new) }
     ensures ok_line { result ≡ statuses.Done → (s : Summary) × Appends (R.written report.old) (R.written report.new) (ok_line s) }
     ensures part_line { result ≡ statuses.WriteFault → (s : Summary) × AppendsPart (R.written report.old) (R.written report.new) (ok_line s) }
-    ensures in_later { S.faults input.old ≤ S.faults input.new }
     ensures report_later { R.faults report.old ≤ R.faults report.new }
 {
     let reading = match read_image(alloc, input) {
@@ -131,15 +126,16 @@ pub(crate) fn carry_out<S: Source, K: Sink, R: Sink>(
     requires { (base : ℕ) → command ≡ commands.Restore base → IsBase base }
     ensures said { SaysOf command (S.left input.old) (S.left input.new) (record { out_old = K.written out.old; out_new = K.written out.new; report_old = R.written report.old; report_new = R.written report.new }) result }
     ensures known { result ≢ statuses.Usage }
-    ensures kept { result ≢ statuses.Done → result ≢ statuses.WriteFault → Keeps (K.written out.old) (K.written out.new) }
-    ensures untouched { command ≡ commands.Verify → Keeps (K.written out.old) (K.written out.new) }
-    ensures read { result ≡ statuses.ReadFault → Rose (S.faults input.old) (S.faults input.new) }
+    ensures kept { result ≢ statuses.Done → result ≢ statuses.WriteFault → out.new ≡ out.old }
+    ensures untouched { command ≡ commands.Verify → out.new ≡ out.old }
+    ensures read { InputRises result (S.faults input.old) (S.faults input.new) }
     ensures write { result ≡ statuses.WriteFault → WriteRose command (K.faults out.old) (K.faults out.new) (R.faults report.old) (R.faults report.new) }
     ensures line { (HasOwnLine command result → ⊥)
         → (line : List ℕ) × IsLine (S.left input.old) result line × Reports line (R.written report.old) (R.written report.new) (R.faults report.old) (R.faults report.new) }
     ensures ok_line { command ≡ commands.Verify → result ≡ statuses.Done → (s : Summary) × Appends (R.written report.old) (R.written report.new) (ok_line s) }
     ensures part_line { command ≡ commands.Verify → result ≡ statuses.WriteFault → (s : Summary) × AppendsPart (R.written report.old) (R.written report.new) (ok_line s) }
-    ensures in_later { S.faults input.old ≤ S.faults input.new }
+    ensures out_quiet { result ≡ statuses.Done → K.faults out.new ≡ K.faults out.old }
+    ensures report_quiet { result ≡ statuses.Done → R.faults report.new ≡ R.faults report.old }
     ensures out_later { K.faults out.old ≤ K.faults out.new }
     ensures report_later { R.faults report.old ≤ R.faults report.new }
 {

@@ -1,8 +1,9 @@
-ghost use Rattle.std.specs.Prelude.{◌≡◌, ◌++◌, decimal};
+ghost use Rattle.std.specs.Prelude.{◌≡◌, ◌≤◌, ◌++◌, decimal};
 ghost use Rattle.mig_bytes.specs.Bytes.{Puts};
 ghost use Rattle.mig_bytes.specs.Faults.{HasCause};
 ghost use Rattle.mig_tool.specs.Outcome.{status_of, line_of};
 ghost use Rattle.mig_tool.specs.Report.{Reports, refusal_line, kind_name, ok_line};
+ghost use Rattle.mig_tool.specs.declared.outcome.Outcome.TheVariants as outcomes;
 
 use crate::status::Status;
 use mig_bytes::{Sink, WriteFailed, put_all};
@@ -78,6 +79,8 @@ pub(crate) fn put_line<R: Sink>(report: &mut R, outcome: Outcome) -> Result<(), 
 pub(crate) fn finish<R: Sink>(report: &mut R, outcome: Outcome) -> Status
     ensures status { result ≡ status_of outcome }
     ensures line { Reports (line_of outcome) (R.written report.old) (R.written report.new) (R.faults report.old) (R.faults report.new) }
+    ensures quiet { outcome ≡ outcomes.Done → R.faults report.new ≡ R.faults report.old }
+    ensures later { R.faults report.old ≤ R.faults report.new }
 {
     let _ = put_line(report, outcome);
     status(outcome)

@@ -1,5 +1,5 @@
 ghost use Rattle.std.specs.Prelude.{◌≡◌, ◌≢◌, ◌≤◌, ◌<◌, ◌⊎◌, ℕ, List, Option, Some};
-ghost use Rattle.std.specs.Io.KnownBytes.{Appends, Keeps};
+ghost use Rattle.std.specs.Io.KnownBytes.{Appends};
 ghost use Rattle.mig_bytes.specs.Bytes.{AppendsPart};
 ghost use Rattle.mig_bytes.specs.Faults.{Rose};
 ghost use Rattle.mig_headers.specs.declared.fault.Cause.{Cause};
@@ -7,7 +7,7 @@ ghost use Rattle.mig_headers.specs.declared.fault.Place.{Place};
 ghost use Rattle.mig_guest.specs.Guests.{GuestOf};
 ghost use Rattle.mig_restore.specs.Spelled.{Accepted};
 ghost use Rattle.mig_restore.specs.Stream.{IsRefused};
-ghost use Rattle.mig_tool.specs.Answers.{Written, SaysOf, WriteRose, IsLine, HasOwnLine};
+ghost use Rattle.mig_tool.specs.Answers.{Written, SaysOf, WriteRose, InputRises, IsLine, HasOwnLine};
 ghost use Rattle.mig_tool.specs.Report.{Reports, ok_line};
 ghost use Rattle.mig_tool.specs.Words.{texts_of, Names};
 ghost use Rattle.mig_tool.specs.declared.command.Command.{Command};
@@ -37,7 +37,7 @@ pub fn run<S: Source, K: Sink, R: Sink>(
     // The words decide about status 2, and then nothing is read.
     ensures usage { ((command : Command) → Names (texts_of words.now) command → ⊥) → result ≡ statuses.Usage }
     ensures known { (command : Command) → Names (texts_of words.now) command → result ≢ statuses.Usage }
-    ensures unread { result ≡ statuses.Usage → Keeps (S.left input.old) (S.left input.new) × (S.faults input.new ≡ S.faults input.old) }
+    ensures unread { result ≡ statuses.Usage → input.new ≡ input.old }
 
     // Status 0: an accepted front was taken, and the text of its guest was written, or its line reported. Status 1: the
     // input was taken up to the end of the refused part. Status 4: as 0, but a part of the text or line was written.
@@ -55,10 +55,11 @@ pub fn run<S: Source, K: Sink, R: Sink>(
     ensures refused { (command : Command) (bytes : List ℕ) (place : Place) (cause : Cause) (rest : List ℕ) → Names (texts_of words.now) command → S.left input.old ≡ Some bytes → IsRefused bytes place cause rest
         → (Rose (S.faults input.old) (S.faults input.new) → ⊥) → (result ≡ statuses.Refused) ⊎ (result ≡ statuses.Memory) }
 
-    // Nothing is written but of an accepted stream, and a fault is answered only where a count rose.
-    ensures kept { result ≢ statuses.Done → result ≢ statuses.WriteFault → Keeps (K.written out.old) (K.written out.new) }
-    ensures untouched { Names (texts_of words.now) commands.Verify → Keeps (K.written out.old) (K.written out.new) }
-    ensures read { result ≡ statuses.ReadFault → Rose (S.faults input.old) (S.faults input.new) }
+    // `out` is touched for an accepted stream alone, and never by `verify`. A fault is answered only where a count rose,
+    // and that of the input rises with no other status. With status 0 no count rose.
+    ensures kept { result ≢ statuses.Done → result ≢ statuses.WriteFault → out.new ≡ out.old }
+    ensures untouched { Names (texts_of words.now) commands.Verify → out.new ≡ out.old }
+    ensures read { InputRises result (S.faults input.old) (S.faults input.new) }
     ensures write { (command : Command) → Names (texts_of words.now) command → result ≡ statuses.WriteFault
         → WriteRose command (K.faults out.old) (K.faults out.new) (R.faults report.old) (R.faults report.new) }
 
@@ -69,7 +70,8 @@ pub fn run<S: Source, K: Sink, R: Sink>(
     ensures ok_line { Names (texts_of words.now) commands.Verify → result ≡ statuses.Done → (s : Summary) × Appends (R.written report.old) (R.written report.new) (ok_line s) }
     ensures part_line { Names (texts_of words.now) commands.Verify → result ≡ statuses.WriteFault → (s : Summary) × AppendsPart (R.written report.old) (R.written report.new) (ok_line s) }
 
-    ensures input_later { S.faults input.old ≤ S.faults input.new }
+    ensures out_quiet { result ≡ statuses.Done → K.faults out.new ≡ K.faults out.old }
+    ensures report_quiet { result ≡ statuses.Done → R.faults report.new ≡ R.faults report.old }
     ensures out_later { K.faults out.old ≤ K.faults out.new }
     ensures report_later { R.faults report.old ≤ R.faults report.new }
 {
