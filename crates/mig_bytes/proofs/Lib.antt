@@ -5,3 +5,4 @@ pub mod Walks
 pub mod FieldWrites
 pub mod Joins
 pub mod Steps
+pub mod Placed

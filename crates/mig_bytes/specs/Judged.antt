@@ -43,6 +43,12 @@ abbrev pub placed : {P C X : Type 0} → P → Judged C X → Judged (P × C) X
 placed place (Passes x rest) = Passes x rest
 placed place (Faulty c rest) = Faulty (place, c) rest
 
+-- a stop at this place
+abbrev pub stop_at : {P C : Type 0} → P → Stop C → Stop (P × C)
+stop_at place (Refused c) = Refused (place, c)
+stop_at place ReadFault = ReadFault
+stop_at place Memory = Memory
+
 -- What a reader answered stands for what judging gives, and what it left in the source is what judging leaves. A fault
 -- of the source and want of memory say nothing of the bytes.
 abbrev pub Matches : {C X Y : Type 0} → (X → Y → Type 0) → Option (List ℕ) → Judged C Y → Result X (Stop C) → Type 0

@@ -1,6 +1,6 @@
 ghost use Rattle.std.specs.Prelude.{◌≡◌, length, IfOk, IsErrOf, vec_len};
 ghost use Rattle.mig_bytes.specs.Faults.{RisesOnReadFault};
-ghost use Rattle.mig_bytes.specs.Judged.{Gives, part};
+ghost use Rattle.mig_bytes.specs.Judged.{Gives, part, stop_at};
 ghost use Rattle.mig_bytes.specs.declared.part.Stop.TheVariants.{Memory};
 
 use crate::{Got, ReadFailed, Source, TakeFault, take_exact, take_vec};
@@ -12,6 +12,19 @@ pub enum Stop<C> {
     Refused(C),
     ReadFault,
     Memory,
+}
+
+impl<C: Copy> Stop<C> {
+    /// The same, with the place of the part.
+    pub fn at<P: Copy>(self, place: P) -> Stop<(P, C)>
+        ensures { result ≡ stop_at place self }
+    {
+        match self {
+            Stop::Refused(cause) => Stop::Refused((place, cause)),
+            Stop::ReadFault => Stop::ReadFault,
+            Stop::Memory => Stop::Memory,
+        }
+    }
 }
 
 /// Takes a part that fills the buffer; `truncated` is the cause where the source ends before.

@@ -9,7 +9,7 @@ use Rattle.mig_bytes.specs.Walk.{Reaches}
 use Rattle.mig_bytes.specs.Walk.Reaches.{here, next}
 use Rattle.mig_bytes.specs.declared.part.Stop.{Stop}
 use Rattle.mig_bytes.specs.declared.part.Stop.TheVariants as stops
-use Rattle.mig_bytes.specs.Judged.{Judged, ◌>>=◌, part, tried, each, Gives}
+use Rattle.mig_bytes.specs.Judged.{Judged, ◌>>=◌, part, tried, each, stop_at, Gives}
 use Rattle.mig_bytes.specs.Judged.Judged.{Passes, Faulty}
 use Rattle.mig_bytes.proofs.Walks.{walk_end_is, walk_end_ends}
 use Rattle.mig_headers.specs.Contexts.{scan}
@@ -26,16 +26,13 @@ use Rattle.mig_pagetypes.specs.FrameWords.{word_has_data}
 use Rattle.mig_records.specs.Faults.{fault_of_count, fault_of_words}
 use Rattle.mig_hvm.specs.Params.{fault_of_params}
 use Rattle.mig_restore.specs.declared.head.Seen.{Seen}
-use Rattle.mig_restore.specs.declared.part.StreamAnswer.{StreamAnswer}
 use Rattle.mig_restore.specs.declared.read.Reading.{Reading}
 use Rattle.mig_restore.specs.Mean.{mean, put_record, empty_guest}
 use Rattle.mig_restore.specs.Record.{StreamRecord, Content, types_of, is_ended}
-use Rattle.mig_restore.specs.Judging.{Opening, record_at, head_at, body_at, typed_at, pages_at, entries_at, page_at, entry_at, context_at, params_at, plain_at, words_at, fault_of_head, fault_of_scan, fault_of_data, fault_at_end}
-use Rattle.mig_restore.specs.Answer.{answer_of}
+use Rattle.mig_restore.specs.Judging.{Opening, Before, before, record_at, next_at, head_at, body_at, typed_at, pages_at, entries_at, page_at, entry_at, context_at, params_at, plain_at, words_at, fault_of_head, fault_of_scan, fault_of_data, fault_at_end}
 use Rattle.mig_restore.specs.Seen.{IsSeen}
-use Rattle.mig_restore.specs.Stream.{Front, Verdict, one_more, at_start, front_of, front_with, verdict_of_front, at_place, of_records, ReadsAs, ReadsVerdict}
-use Rattle.mig_restore.specs.Stream.Verdict.{Accepts, Refuses}
-use Rattle.mig_restore.proofs.Parts.{begins, behind_head}
+use Rattle.mig_restore.specs.Stream.{Front, one_more, at_start, front_of, front_with, image_of, ended_at, records_at, IsReading}
+use Rattle.mig_restore.proofs.Parts.{begins, behind_head, asks, behind_record}
 use Rattle.mig_restore.proofs.Meaning.{one_more_record}
 
 -- ---- judging takes bytes away
@@ -91,34 +88,41 @@ leaves_entry : (m w : ℕ) (i : List ℕ) → length i ≤ m → Leaves m (entry
 leaves_entry m w i h = leaves_then m m (page_at w i) _
     (chosen m (word_has_data w) _ _ (no_more m 4096 i _ h (λ x rest le. leaves_all m _ rest le)) (leaves_all m _ i h)) (λ x rest le. leaves_all m _ rest le)
 
-leaves_entries : (kind : Kind) (m len : ℕ) (i : List ℕ) → length i ≤ m → Leaves m (entries_at kind len i)
-leaves_entries kind m len i h = no_more m 8 i _ h (λ front r1 l1. checked m (fault_of_count len (le32 front 0)) r1 _ l1
+leaves_entries : (kind : Kind) (top m len : ℕ) (i : List ℕ) → length i ≤ m → Leaves m (entries_at kind top len i)
+leaves_entries kind top m len i h = no_more m 8 i _ h (λ front r1 l1. checked m (fault_of_count len (le32 front 0)) r1 _ l1
     (leaves_then m m (words_at (le32 front 0) r1) _ (no_more m _ r1 _ l1 (λ bytes r le. leaves_all m _ r le)) (λ ws r2 l2.
-    checked m (fault_of_words kind 0 ws) r2 _ l2 (checked m (fault_of_data len ws) r2 _ l2 (leaves_each entry_at m (leaves_entry m) ws r2 l2)))))
+    checked m (fault_of_words kind top ws) r2 _ l2 (checked m (fault_of_data len ws) r2 _ l2 (leaves_each entry_at m (leaves_entry m) ws r2 l2)))))
 
-leaves_pages : (kind : Kind) (m len : ℕ) (i : List ℕ) → length i ≤ m → Leaves m (pages_at kind len i)
-leaves_pages kind m len i h = leaves_then m m (entries_at kind len i) _ (leaves_entries kind m len i h) (λ es rest le. leaves_all m _ rest le)
+leaves_pages : (kind : Kind) (top m len : ℕ) (i : List ℕ) → length i ≤ m → Leaves m (pages_at kind top len i)
+leaves_pages kind top m len i h = leaves_then m m (entries_at kind top len i) _ (leaves_entries kind top m len i h) (λ es rest le. leaves_all m _ rest le)
 
-leaves_typed : (kind : Kind) (t : Option RecordType) (m len : ℕ) (i : List ℕ) → length i ≤ m → Leaves m (typed_at kind t len i)
-leaves_typed kind (Some PageData) m len i h = leaves_pages kind m len i h
-leaves_typed kind (Some X86TscInfo) m len i h = leaves_plain _ m len i h
-leaves_typed kind (Some HvmContext) m len i h = leaves_context m len i h
-leaves_typed kind (Some HvmParams) m len i h = leaves_params m len i h
-leaves_typed kind (Some X86CpuidPolicy) m len i h = leaves_plain _ m len i h
-leaves_typed kind (Some X86MsrPolicy) m len i h = leaves_plain _ m len i h
-leaves_typed kind _ m len i h = leaves_all m _ i h
+leaves_typed : (kind : Kind) (top : ℕ) (t : Option RecordType) (m len : ℕ) (i : List ℕ) → length i ≤ m → Leaves m (typed_at kind top t len i)
+leaves_typed kind top (Some PageData) m len i h = leaves_pages kind top m len i h
+leaves_typed kind top (Some X86TscInfo) m len i h = leaves_plain _ m len i h
+leaves_typed kind top (Some HvmContext) m len i h = leaves_context m len i h
+leaves_typed kind top (Some HvmParams) m len i h = leaves_params m len i h
+leaves_typed kind top (Some X86CpuidPolicy) m len i h = leaves_plain _ m len i h
+leaves_typed kind top (Some X86MsrPolicy) m len i h = leaves_plain _ m len i h
+leaves_typed kind top _ m len i h = leaves_all m _ i h
 
-leaves_body : (kind : Kind) (m type len : ℕ) (i : List ℕ) → length i ≤ m → Leaves m (body_at kind type len i)
-leaves_body kind m type len i h = chosen m (is_optional type) _ _ (leaves_plain _ m len i h) (leaves_typed kind (type_of_number type) m len i h)
+leaves_body : (kind : Kind) (top m type len : ℕ) (i : List ℕ) → length i ≤ m → Leaves m (body_at kind top type len i)
+leaves_body kind top m type len i h = chosen m (is_optional type) _ _ (leaves_plain _ m len i h) (leaves_typed kind top (type_of_number type) m len i h)
 
-leaves_record : (o : Opening) (records : List StreamRecord) (i : List ℕ) → Leaves (length i - 8) (record_at o records i)
+leaves_record : (b : Before) (i : List ℕ) → Leaves (length i - 8) (record_at b i)
 unfolding record_at
-leaves_record o records i =
+leaves_record b i =
     let m = length i - 8 in
-    leaves_then m m (head_at o (types_of records) i) _
-    (leaves_then m m (part Truncated 8 i) _ (leaves_part (length i) 8 i (omega arith)) (λ x rest le. checked m (fault_of_head o (types_of records) x) rest _ le (leaves_all m _ rest le)))
-    (λ head rest le. checked m (fault_at_end (le32 head 0) (mean o.kind records)) rest _ le
-    (leaves_then m m (body_at o.kind (le32 head 0) (le32 head 4) rest) _ (leaves_body o.kind m (le32 head 0) (le32 head 4) rest le) (λ r after le'. no_more m _ after _ le' (λ x last le''. leaves_all m _ last le''))))
+    leaves_then m m (head_at b i) _
+    (leaves_then m m (part Truncated 8 i) _ (leaves_part (length i) 8 i (omega arith)) (λ x rest le. checked m (fault_of_head b x) rest _ le (leaves_all m _ rest le)))
+    (λ head rest le. leaves_then m m (body_at b.opening.kind b.top (le32 head 0) (le32 head 4) rest) _ (leaves_body b.opening.kind b.top m (le32 head 0) (le32 head 4) rest le)
+    (λ r after le'. no_more m _ after _ le' (λ x last le''. leaves_all m _ last le'')))
+
+leaves_next : (o : Opening) (records : List StreamRecord) (i : List ℕ) → Leaves (length i - 8) (next_at o records i)
+unfolding next_at
+leaves_next o records i =
+    let m = length i - 8 in
+    leaves_then m m (record_at (before o records) i) _ (leaves_record (before o records) i)
+    (λ r rest le. checked m (fault_at_end r.type (mean o.kind (records ++ r ∷ []))) rest _ le (leaves_all m _ rest le))
 
 -- ---- the front
 
@@ -126,30 +130,31 @@ elim_none : {X : Type 0} {x : X} → None ≡ Some x → ⊥
 elim_none e = cc
 
 module _ (o : Opening) where
-  record_leaves : (records : List StreamRecord) (i : List ℕ) (r : StreamRecord) (rest : List ℕ) → record_at o records i ≡ Passes r rest → length rest ≤ length i - 8
-  record_leaves records i r rest is = (subst (Leaves (length i - 8)) is (leaves_record o records i)).holds
+  next_leaves : (records : List StreamRecord) (i : List ℕ) (r : StreamRecord) (rest : List ℕ) → next_at o records i ≡ Passes r rest → length rest ≤ length i - 8
+  next_leaves records i r rest is = (subst (Leaves (length i - 8)) is (leaves_next o records i)).holds
 
-  head_short : (types i : List ℕ) → nat_lt (length i) 8 ≡ true → head_at o types i ≡ Faulty Truncated []
-  head_short types i short = rw short refl
+  head_short : (b : Before) (i : List ℕ) → nat_lt (length i) 8 ≡ true → head_at b i ≡ Faulty Truncated []
+  head_short b i short = rw short refl
 
-  record_short : (records : List StreamRecord) (i : List ℕ) → nat_lt (length i) 8 ≡ true → record_at o records i ≡ Faulty Truncated []
-  record_short records i short = begins o records i ∙ ap (λ j. j >>= behind_head o.kind (mean o.kind records)) (head_short (types_of records) i short)
+  next_short : (records : List StreamRecord) (i : List ℕ) → nat_lt (length i) 8 ≡ true → next_at o records i ≡ Faulty Truncated []
+  next_short records i short =
+      asks o records i ∙ ap (λ j. j >>= behind_record o records) (begins (before o records) i ∙ ap (λ j. j >>= behind_head o.kind (before o records).top) (head_short (before o records) i short))
 
-  shorter : (records : List StreamRecord) (i : List ℕ) (r : StreamRecord) (rest : List ℕ) → record_at o records i ≡ Passes r rest → length rest < length i
+  shorter : (records : List StreamRecord) (i : List ℕ) (r : StreamRecord) (rest : List ℕ) → next_at o records i ≡ Passes r rest → length rest < length i
   shorter records i r rest is =
       elim (nat_lt (length i) 8) as (λ b. nat_lt (length i) 8 ≡ b → length rest < length i) [
-        | true ↦ λ short. let no = sym (record_short records i short) ∙ is in cc
-        | false ↦ λ long. omega (arith, record_leaves records i r rest is, ltb-false (length i) 8 long)
+        | true ↦ λ short. let no = sym (next_short records i short) ∙ is in cc
+        | false ↦ λ long. omega (arith, next_leaves records i r rest is, ltb-false (length i) 8 long)
       ] refl
 
-  went : (records : List StreamRecord) (rest : List ℕ) (t : Front) (b : Bool) (j : Judged Cause StreamRecord) → record_at o records rest ≡ j → cond b None (front_with records j) ≡ Some t → length t.rest < length rest
+  went : (records : List StreamRecord) (rest : List ℕ) (t : Front) (b : Bool) (j : Judged Cause StreamRecord) → next_at o records rest ≡ j → cond b None (front_with records j) ≡ Some t → length t.rest < length rest
   went records rest t true j is h = let no : ◌≡◌ {A = Option Front} None (Some t) = h in absurd (elim_none no)
   went records rest t false (Faulty c after) is h = absurd (elim_none h)
   went records rest t false (Passes r after) is h = let e : record { records = records ++ r ∷ []; rest = after } ≡ t = cc in subst (λ (f : Front). length f.rest < length rest) e (shorter records rest r after is)
 
   falls : (s t : Front) → one_more o s ≡ Some t → length t.rest < length s.rest
   unfolding one_more
-  falls s t h = went s.records s.rest t (is_ended s.records) (record_at o s.records s.rest) refl h
+  falls s t h = went s.records s.rest t (is_ended s.records) (next_at o s.records s.rest) refl h
 
   pub ends_at : (rest : List ℕ) (f : Front) → Reaches (one_more o) (at_start rest) f → one_more o f ≡ None → front_of o rest ≡ f
   unfolding front_of
@@ -159,7 +164,7 @@ module _ (o : Opening) where
   unfolding front_of
   front_stops rest = walk_end_ends (one_more o) (λ (g : Front). length g.rest) falls (length rest) (at_start rest) (le_refl _)
 
-  pub goes_on : (f : Front) (r : StreamRecord) (rest : List ℕ) → is_ended f.records ≡ false → record_at o f.records f.rest ≡ Passes r rest → one_more o f ≡ Some (record { records = f.records ++ r ∷ []; rest = rest })
+  pub goes_on : (f : Front) (r : StreamRecord) (rest : List ℕ) → is_ended f.records ≡ false → next_at o f.records f.rest ≡ Passes r rest → one_more o f ≡ Some (record { records = f.records ++ r ∷ []; rest = rest })
   unfolding one_more
   goes_on f r rest going is = rw (going, is) refl
 
@@ -167,16 +172,16 @@ module _ (o : Opening) where
   unfolding one_more
   stops_ended f over1 = rw over1 refl
 
-  stops_refused : (f : Front) (c : Cause) (rest : List ℕ) → is_ended f.records ≡ false → record_at o f.records f.rest ≡ Faulty c rest → one_more o f ≡ None
+  stops_refused : (f : Front) (c : Cause) (rest : List ℕ) → is_ended f.records ≡ false → next_at o f.records f.rest ≡ Faulty c rest → one_more o f ≡ None
   unfolding one_more
   stops_refused f c rest going is = rw (going, is) refl
 
-  pub accepted : (f : Front) → is_ended f.records ≡ true → verdict_of_front o f ≡ Accepts o f.records f.rest
-  unfolding verdict_of_front
+  pub accepted : (f : Front) → is_ended f.records ≡ true → ended_at o f ≡ Passes (image_of o f.records) f.rest
+  unfolding ended_at
   accepted f over1 = rw over1 refl
 
-  rejected : (f : Front) (c : Cause) (rest : List ℕ) → is_ended f.records ≡ false → record_at o f.records f.rest ≡ Faulty c rest → verdict_of_front o f ≡ Refuses (Record (length f.records)) c rest
-  unfolding verdict_of_front
+  rejected : (f : Front) (c : Cause) (rest : List ℕ) → is_ended f.records ≡ false → next_at o f.records f.rest ≡ Faulty c rest → ended_at o f ≡ Faulty (Record (length f.records), c) rest
+  unfolding ended_at
   rejected f c rest going is = rw (going, is) refl
 
 or_false : (b : Bool) → (false || (b || false)) ≡ b
@@ -201,7 +206,7 @@ module _ (o : Opening) where
 
   -- the clause of the reader of a record
   abbrev pub Tells : GuestOf → GuestOf → Seen → Seen → Option (List ℕ) → Option (List ℕ) → Result Bool (Stop Cause) → Type 0
-  Tells guest guest' seen seen' b c r = (records : List StreamRecord) → IsSeen seen o (types_of records) → guest ≡ mean o.kind records → Gives (Told guest guest' seen' records) b c (record_at o records) r
+  Tells guest guest' seen seen' b c r = (records : List StreamRecord) → IsSeen seen o (types_of records) → guest ≡ mean o.kind records → Gives (Told guest guest' seen' records) b c (next_at o records) r
 
   pub arrived_first : (a : Option (List ℕ)) (seen : Seen) (guest : GuestOf) → IsSeen seen o [] → guest ≡ empty_guest o.kind → Arrived a a seen guest
   unfolding mean
@@ -209,7 +214,7 @@ module _ (o : Opening) where
   arrived_first (Some i) seen guest s g = (at_start i, here, refl, s, g, refl)
 
   -- one record more
-  arrived_after : (rest : List ℕ) (f : Front) (r : StreamRecord) (after : List ℕ) (guest guest' : GuestOf) → Reaches (one_more o) (at_start rest) f → is_ended f.records ≡ false → record_at o f.records f.rest ≡ Passes r after
+  arrived_after : (rest : List ℕ) (f : Front) (r : StreamRecord) (after : List ℕ) (guest guest' : GuestOf) → Reaches (one_more o) (at_start rest) f → is_ended f.records ≡ false → next_at o f.records f.rest ≡ Passes r after
       → guest ≡ mean o.kind f.records → guest' ≡ put_record guest r
       → Reaches (one_more o) (at_start rest) (record { records = f.records ++ r ∷ []; rest = after }) × (guest' ≡ mean o.kind (f.records ++ r ∷ []))
   arrived_after rest f r after guest guest' reached going is g g' =
@@ -218,44 +223,25 @@ module _ (o : Opening) where
   pub arrived_next : (a b c : Option (List ℕ)) (seen seen' : Seen) (guest guest' : GuestOf) (over : Bool) → over ≡ false → Arrived a b seen guest → Tells guest guest' seen seen' b c (Ok over) → Arrived a c seen' guest'
   arrived_next None b c seen seen' guest guest' over is_open h told = tt
   arrived_next (Some i) b c seen seen' guest guest' over is_open (f, reached, now, s, g, going) told =
-      let (r, after, is, left, told') = subst (λ b. Gives (Told guest guest' seen' f.records) b c (record_at o f.records) (Ok over)) now (told f.records s g) in
+      let (r, after, is, left, told') = subst (λ b. Gives (Told guest guest' seen' f.records) b c (next_at o f.records) (Ok over)) now (told f.records s g) in
       let (reached', g'') = arrived_after i f r after guest guest' reached going is g told'.0 in
       (record { records = f.records ++ r ∷ []; rest = after }, reached', left, told'.1, g'', ended_more f.records r going ∙ sym told'.2 ∙ is_open)
 
   pub arrived_end : (a b c : Option (List ℕ)) (seen seen' : Seen) (guest guest' : GuestOf) (reading : Reading) (over : Bool) → over ≡ true → reading.guest ≡ guest' → reading.version ≡ o.version → reading.records ≡ seen'.records → Arrived a b seen guest
-      → Tells guest guest' seen seen' b c (Ok over) → ReadsAs (of_records o) a c (Ok reading)
+      → Tells guest guest' seen seen' b c (Ok over) → Gives IsReading a c (records_at o) (Ok reading)
   arrived_end None b c seen seen' guest guest' reading over is_over rg rv rs h told = tt
   arrived_end (Some i) b c seen seen' guest guest' reading over is_over rg rv rs (f, reached, now, s, g, going) told =
-      let (r, after, is, left, told') = subst (λ b. Gives (Told guest guest' seen' f.records) b c (record_at o f.records) (Ok over)) now (told f.records s g) in
+      let (r, after, is, left, told') = subst (λ b. Gives (Told guest guest' seen' f.records) b c (next_at o f.records) (Ok over)) now (told f.records s g) in
       let (reached', g'') = arrived_after i f r after guest guest' reached going is g told'.0 in
       let f' : Front = record { records = f.records ++ r ∷ []; rest = after } in
       let over1 : is_ended f'.records ≡ true = ended_more f.records r going ∙ sym told'.2 ∙ is_over in
-      (o, f'.records, after, ap (verdict_of_front o) (ends_at o i f' reached' (stops_ended o f' over1)) ∙ accepted o f' over1, left, rg ∙ g'', rv, rs ∙ told'.1.count ∙ length-map f'.records (λ (x : StreamRecord). x.type))
+      (image_of o f'.records, after, ap (ended_at o) (ends_at o i f' reached' (stops_ended o f' over1)) ∙ accepted o f' over1, left, record { guest = rg ∙ g''; version = rv; records = rs ∙ told'.1.count ∙ length-map f'.records (λ (x : StreamRecord). x.type) })
 
-  pub arrived_stopped : (a b c : Option (List ℕ)) (seen seen' : Seen) (guest guest' : GuestOf) (stop : Stop Cause) (n : ℕ) → n ≡ seen.records → Arrived a b seen guest → Tells guest guest' seen seen' b c (Err stop) → ReadsAs (of_records o) a c (Err (answer_of (Record n) stop))
+  pub arrived_stopped : (a b c : Option (List ℕ)) (seen seen' : Seen) (guest guest' : GuestOf) (stop : Stop Cause) (n : ℕ) → n ≡ seen.records → Arrived a b seen guest → Tells guest guest' seen seen' b c (Err stop) → Gives {X = Reading} IsReading a c (records_at o) (Err (stop_at (Record n) stop))
   arrived_stopped None b c seen seen' guest guest' stop n count h told = tt
   arrived_stopped (Some i) b c seen seen' guest guest' (stops.Refused cause) n count (f, reached, now, s, g, going) told =
-      let (rest, is, left) = subst (λ b. Gives (Told guest guest' seen' f.records) b c (record_at o f.records) (Err (stops.Refused cause))) now (told f.records s g) in
+      let (rest, is, left) = subst (λ b. Gives (Told guest guest' seen' f.records) b c (next_at o f.records) (Err (stops.Refused cause))) now (told f.records s g) in
       let at : n ≡ length f.records = count ∙ s.count ∙ length-map f.records (λ (x : StreamRecord). x.type) in
-      (rest, ap (verdict_of_front o) (ends_at o i f reached (stops_refused o f cause rest going is)) ∙ rejected o f cause rest going is ∙ ap (λ m. Refuses (Record m) cause rest) (sym at), left)
+      (rest, ap (ended_at o) (ends_at o i f reached (stops_refused o f cause rest going is)) ∙ rejected o f cause rest going is ∙ ap (λ m. Faulty (Record m, cause) rest) (sym at), left)
   arrived_stopped (Some i) b c seen seen' guest guest' stops.ReadFault n count h told = tt
   arrived_stopped (Some i) b c seen seen' guest guest' stops.Memory n count h told = tt
-
--- ---- the headers
-
-module _ {X Y : Type 0} (R : X → Y → Type 0) where
-  pub placed_ok : (a b c : Option (List ℕ)) (place : Place) (f : List ℕ → Judged Cause Y) (v : Y → List ℕ → Verdict) (x : X) (r : Result Reading StreamAnswer)
-      → Gives R a b f (Ok x) → ((y : Y) → R x y → ReadsAs (v y) b c r) → ReadsAs (λ i. at_place place (f i) v) a c r
-  placed_ok None b c place f v x r h told = tt
-  placed_ok (Some i) b c place f v x r (y, rest, is, left, means) told =
-      subst (λ j. ReadsVerdict (at_place place j v) c r) (sym is) (subst (λ b. ReadsAs (v y) b c r) left (told y means))
-
-  pub placed_err : (a b : Option (List ℕ)) (place : Place) (f : List ℕ → Judged Cause Y) (v : Y → List ℕ → Verdict) (stop : Stop Cause)
-      → Gives R a b f (Err stop) → ReadsAs (λ i. at_place place (f i) v) a b (Err (answer_of place stop))
-  placed_err None b place f v stop h = tt
-  placed_err (Some i) b place f v (stops.Refused c) (rest, is, left) = (rest, ap (λ j. at_place place j v) is, left)
-  placed_err (Some i) b place f v stops.ReadFault h = tt
-  placed_err (Some i) b place f v stops.Memory h = tt
-
-pub answered : (v : List ℕ → Verdict) (a c : Option (List ℕ)) (r s : StreamAnswer) → r ≡ s → ReadsAs v a c (Err s) → ReadsAs v a c (Err r)
-answered v a c r s is h = subst (λ t. ReadsAs v a c (Err t)) (sym is) h

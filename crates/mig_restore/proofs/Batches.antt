@@ -81,27 +81,27 @@ body_size : (len n k : ℕ) (f w t : List ℕ) → length f ≡ 8 → length w �
 body_size len n k f w t e1 e2 e3 e4 = omega (arith, length-append f (w ++ t), length-append w t)
 
 -- a batch, and what follows it
-pub record Batch (kind : Kind) (len : ℕ) (i : List ℕ) (es : List Entry) (rest : List ℕ) : Type 0 where
+pub record Batch (kind : Kind) (top len : ℕ) (i : List ℕ) (es : List Entry) (rest : List ℕ) : Type 0 where
   pub body : List ℕ
   pub whole : i ≡ body ++ rest
   pub size : length body ≡ len
-  pub batch : IsBatch kind body es
+  pub batch : IsBatch kind top body es
 
-pub batch_passes : (kind : Kind) (len : ℕ) (i : List ℕ) (es : List Entry) (rest : List ℕ) → entries_at kind len i ≡ Passes es rest → Batch kind len i es rest
-batch_passes kind len i es rest h =
+pub batch_passes : (kind : Kind) (top len : ℕ) (i : List ℕ) (es : List Entry) (rest : List ℕ) → entries_at kind top len i ≡ Passes es rest → Batch kind top len i es rest
+batch_passes kind top len i es rest h =
     let b = both_pass (part Truncated 8 i) _ es rest h in
     let front = b.x in
     let n = le32 front 0 in
     let p = part_passes Truncated 8 i front b.mid b.first in
-    let c = both_pass (tried (fault_of_count len n) b.mid) (λ _. words_at n b.mid >>= behind_words kind len) es rest b.second in
+    let c = both_pass (tried (fault_of_count len n) b.mid) (λ _. words_at n b.mid >>= behind_words kind top len) es rest b.second in
     let fc = rows_fine (count_rows len n) (tried_passes _ b.mid c.mid c.x c.first).0 in
-    let d = both_pass (words_at n b.mid) (behind_words kind len) es rest c.second in
+    let d = both_pass (words_at n b.mid) (behind_words kind top len) es rest c.second in
     let w = both_pass (part Truncated (8 * n) b.mid) _ d.x d.mid d.first in
     let q = part_passes Truncated (8 * n) b.mid w.x w.mid w.first in
     let e = same_passes _ _ _ _ w.second in
     let ws_is : words n w.x ≡ d.x = e.0 in
-    let f = both_pass (tried (fault_of_words kind 0 d.x) d.mid) (λ _. tried (fault_of_data len d.x) d.mid >>= λ _. each entry_at d.x d.mid) es rest d.second in
-    let good = none_is_wrong kind 0 (words n w.x) (ap (fault_of_words kind 0) ws_is ∙ (tried_passes _ d.mid f.mid f.x f.first).0) in
+    let f = both_pass (tried (fault_of_words kind top d.x) d.mid) (λ _. tried (fault_of_data len d.x) d.mid >>= λ _. each entry_at d.x d.mid) es rest d.second in
+    let good = none_is_wrong kind top (words n w.x) (ap (fault_of_words kind top) ws_is ∙ (tried_passes _ d.mid f.mid f.x f.first).0) in
     let g = both_pass (tried (fault_of_data len d.x) d.mid) (λ _. each entry_at d.x d.mid) es rest f.second in
     let fd = rows_fine ((not (nat_eq len (data_len_of d.x)), BadLength len) ∷ []) (tried_passes _ d.mid g.mid g.x g.first).0 in
     let t = each_entries d.x d.mid es rest g.second in
@@ -156,8 +156,8 @@ entries_len (w ∷ ws) bytes es (page, more, e, others, whole, is, one, entries)
 size_is : (len n k : ℕ) (body f w t : List ℕ) → body ≡ f ++ (w ++ t) → length f ≡ 8 → length w ≡ 8 * n → length t ≡ 4096 * k → length body ≡ len → len ≡ 8 + 8 * n + 4096 * k
 size_is len n k body f w t e1 e2 e3 e4 e5 = omega (arith, ap length e1, length-append f (w ++ t), length-append w t)
 
-pub batch_goes : (kind : Kind) (len : ℕ) (body rest : List ℕ) (es : List Entry) → IsBatch kind body es → length body ≡ len → entries_at kind len (body ++ rest) ≡ Passes es rest
-batch_goes kind len body rest es b size =
+pub batch_goes : (kind : Kind) (top len : ℕ) (body rest : List ℕ) (es : List Entry) → IsBatch kind top body es → length body ≡ len → entries_at kind top len (body ++ rest) ≡ Passes es rest
+batch_goes kind top len body rest es b size =
     let n = le32 b.front 0 in
     let ws = words n b.words_bytes in
     let tail = b.pages_bytes ++ rest in
@@ -166,11 +166,11 @@ batch_goes kind len body rest es b size =
     let full : len ≡ 8 + 8 * n + 4096 * count_by word_has_data ws = size_is len n (count_by word_has_data ws) body b.front b.words_bytes b.pages_bytes b.whole b.front_len b.words_len (entries_len ws b.pages_bytes es b.entries) size in
     let count : length ws ≡ n = length-map-range_with_len (λ k. le64 b.words_bytes (8 * k)) 0 n in
     let counts : fault_of_count len n ≡ None = no_fault (count_rows len n) (ge_ltb (8 + 8 * n) len (omega (arith, full)), (not_zero n b.some, tt)) in
-    let goods : fault_of_words kind 0 ws ≡ None = nothing_found kind 0 ws b.good in
+    let goods : fault_of_words kind top ws ≡ None = nothing_found kind top ws b.good in
     let sizes : fault_of_data len ws ≡ None = no_fault ((not (nat_eq len (data_len_of ws)), BadLength len) ∷ [])
     (ap not (same_is len _ (full ∙ ap (λ m. 8 + 8 * m + 4096 * count_by word_has_data ws) (sym count))), tt) in
-    ap (entries_at kind len) input
+    ap (entries_at kind top len) input
     ∙ then_passes (part Truncated 8 (b.front ++ mid)) _ b.front mid _ (part_whole Truncated 8 b.front mid b.front_len)
     (tried_none (fault_of_count len n) mid _ counts
     ∙ then_passes (words_at n mid) _ ws tail _ (then_passes (part Truncated (8 * n) mid) _ b.words_bytes tail _ (part_whole Truncated (8 * n) b.words_bytes tail b.words_len) refl)
-    (tried_none (fault_of_words kind 0 ws) tail _ goods ∙ tried_none (fault_of_data len ws) tail _ sizes ∙ entries_go ws b.pages_bytes rest es b.entries))
+    (tried_none (fault_of_words kind top ws) tail _ goods ∙ tried_none (fault_of_data len ws) tail _ sizes ∙ entries_go ws b.pages_bytes rest es b.entries))

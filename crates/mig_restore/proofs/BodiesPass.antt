@@ -31,8 +31,8 @@ use Rattle.mig_restore.proofs.Bodies.{optional_at}
 plain_goes : (f : List ℕ → Content) (c : Content) (len : ℕ) (body rest : List ℕ) → length body ≡ len → f body ≡ c → plain_at f len (body ++ rest) ≡ Passes c rest
 plain_goes f c len body rest size is = then_passes (part Truncated len (body ++ rest)) _ body rest _ (part_whole Truncated len body rest size) (ap (λ d. Passes d rest) is)
 
-pages_go : (kind : Kind) (len : ℕ) (body rest : List ℕ) (es : List Entry) → IsBatch kind body es → length body ≡ len → pages_at kind len (body ++ rest) ≡ Passes (Frames es) rest
-pages_go kind len body rest es b size = then_passes (entries_at kind len (body ++ rest)) _ es rest _ (batch_goes kind len body rest es b size) refl
+pages_go : (kind : Kind) (top : ℕ) (len : ℕ) (body rest : List ℕ) (es : List Entry) → IsBatch kind top body es → length body ≡ len → pages_at kind top len (body ++ rest) ≡ Passes (Frames es) rest
+pages_go kind top len body rest es b size = then_passes (entries_at kind top len (body ++ rest)) _ es rest _ (batch_goes kind top len body rest es b size) refl
 
 context_goes : (len : ℕ) (body rest : List ℕ) (o : ℕ) → scan body ≡ Ok o → length body ≡ len → context_at len (body ++ rest) ≡ Passes (Parts ((context_key, cut (Ok o) body) ∷ [])) rest
 context_goes len body rest o is size =
@@ -44,16 +44,16 @@ params_go len body rest ps is size =
     let s = (params_are_spelled body ps).1 is in
     then_passes (part Truncated len (body ++ rest)) _ body rest _ (part_whole Truncated len body rest size) (tried_none (fault_of_params body) rest _ s.1 ∙ ap (λ l. Passes (Parts l) rest) s.2)
 
-pub body_goes : (kind : Kind) (type len : ℕ) (body rest : List ℕ) (c : Content) → HasContent kind type body c → length body ≡ len → body_at kind type len (body ++ rest) ≡ Passes c rest
-body_goes kind _ len body rest _ (optional type _ above) size = optional_at kind type len (body ++ rest) above ∙ plain_goes (λ _. Nothing) Nothing len body rest size refl
-body_goes kind _ len _ rest _ ends size = refl
-body_goes kind _ len body rest _ (pages _ es b) size = pages_go kind len body rest es b size
-body_goes kind _ len body rest _ (tsc _ whole) size = plain_goes tsc_says _ len body rest size refl
-body_goes kind _ len body rest _ (context _ o is) size = context_goes len body rest o is size
-body_goes kind _ len body rest _ (params _ ps is) size = params_go len body rest ps is size
-body_goes kind _ len _ rest _ static_end size = refl
-body_goes kind _ len body rest _ (leaves _ ps is few) size = plain_goes leaves_say (Policy 17 ps) len body rest size (ap (Policy 17) ((leaves_are_spelled body ps).1 is).1)
-body_goes kind _ len body rest _ (msrs _ ps is few) size = plain_goes msrs_say (Policy 18 ps) len body rest size (ap (Policy 18) ((msrs_are_spelled body ps).1 is).1)
+pub body_goes : (kind : Kind) (top : ℕ) (type len : ℕ) (body rest : List ℕ) (c : Content) → HasContent kind top type body c → length body ≡ len → body_at kind top type len (body ++ rest) ≡ Passes c rest
+body_goes kind top _ len body rest _ (optional type _ above) size = optional_at kind top type len (body ++ rest) above ∙ plain_goes (λ _. Nothing) Nothing len body rest size refl
+body_goes kind top _ len _ rest _ ends size = refl
+body_goes kind top _ len body rest _ (pages _ es b) size = pages_go kind top len body rest es b size
+body_goes kind top _ len body rest _ (tsc _ whole) size = plain_goes tsc_says _ len body rest size refl
+body_goes kind top _ len body rest _ (context _ o is) size = context_goes len body rest o is size
+body_goes kind top _ len body rest _ (params _ ps is) size = params_go len body rest ps is size
+body_goes kind top _ len _ rest _ static_end size = refl
+body_goes kind top _ len body rest _ (leaves _ ps is few) size = plain_goes leaves_say (Policy 17 ps) len body rest size (ap (Policy 17) ((leaves_are_spelled body ps).1 is).1)
+body_goes kind top _ len body rest _ (msrs _ ps is few) size = plain_goes msrs_say (Policy 18 ps) len body rest size (ap (Policy 18) ((msrs_are_spelled body ps).1 is).1)
 
 -- ---- lengths
 
@@ -80,13 +80,13 @@ msrs_fit len body ps is few size =
     let rest : len % 16 ≡ 0 = ap (λ n. n % 16) (sym size) ∙ s.0 in
     both (nat_eq (len % 16) 0) (nat_le len (2 ^ 16 * 16)) (same_is (len % 16) 0 rest) (least len (2 ^ 16 * 16) (omega (arith, few, count, rest, size)))
 
-pub length_fits : (kind : Kind) (type len : ℕ) (body : List ℕ) (c : Content) → HasContent kind type body c → length body ≡ len → type_allows (type_of_number type) len ≡ true
-length_fits kind _ len body _ (optional type _ above) size = ap (λ o. type_allows o len) (no_type type above)
-length_fits kind _ len _ _ ends size = same_is len 0 (sym size)
-length_fits kind _ len body _ (pages _ es b) size = least 8 len (omega (arith, ap length b.whole, length-append b.front (b.words_bytes ++ b.pages_bytes), b.front_len, size))
-length_fits kind _ len body _ (tsc _ whole) size = same_is len 24 (sym size ∙ whole)
-length_fits kind _ len body _ (context _ o is) size = refl
-length_fits kind _ len body _ (params _ ps is) size = least 8 len (subst (λ n. 8 ≤ n) size ((params_are_spelled body ps).1 is).0)
-length_fits kind _ len _ _ static_end size = same_is len 0 (sym size)
-length_fits kind _ len body _ (leaves _ ps is few) size = leaves_fit len body ps is few size
-length_fits kind _ len body _ (msrs _ ps is few) size = msrs_fit len body ps is few size
+pub length_fits : (kind : Kind) (top : ℕ) (type len : ℕ) (body : List ℕ) (c : Content) → HasContent kind top type body c → length body ≡ len → type_allows (type_of_number type) len ≡ true
+length_fits kind top _ len body _ (optional type _ above) size = ap (λ o. type_allows o len) (no_type type above)
+length_fits kind top _ len _ _ ends size = same_is len 0 (sym size)
+length_fits kind top _ len body _ (pages _ es b) size = least 8 len (omega (arith, ap length b.whole, length-append b.front (b.words_bytes ++ b.pages_bytes), b.front_len, size))
+length_fits kind top _ len body _ (tsc _ whole) size = same_is len 24 (sym size ∙ whole)
+length_fits kind top _ len body _ (context _ o is) size = refl
+length_fits kind top _ len body _ (params _ ps is) size = least 8 len (subst (λ n. 8 ≤ n) size ((params_are_spelled body ps).1 is).0)
+length_fits kind top _ len _ _ static_end size = same_is len 0 (sym size)
+length_fits kind top _ len body _ (leaves _ ps is few) size = leaves_fit len body ps is few size
+length_fits kind top _ len body _ (msrs _ ps is few) size = msrs_fit len body ps is few size

@@ -8,9 +8,9 @@ use Rattle.mig_bytes.specs.Bytes.{padding_len}
 use Rattle.mig_bytes.specs.Fields.{le32, be32}
 use Rattle.mig_bytes.specs.Walk.{Reaches}
 use Rattle.mig_bytes.specs.Walk.Reaches.{here, next}
-use Rattle.mig_bytes.specs.Judged.{◌>>=◌, part, tried}
-use Rattle.mig_bytes.specs.Judged.Judged.{Passes}
-use Rattle.mig_bytes.proofs.Joins.{part_whole}
+use Rattle.mig_bytes.specs.Judged.{Judged, ◌>>=◌, part, tried, placed}
+use Rattle.mig_bytes.specs.Judged.Judged.{Passes, Faulty}
+use Rattle.mig_bytes.proofs.Joins.{part_whole, same_passes}
 use Rattle.mig_headers.specs.Headers.{fault_of_marker, fault_of_image, fault_of_domain, kind_of_number, IsImageHeader, IsDomainHeader}
 use Rattle.mig_headers.proofs.HeaderLaws.{image_is_spelled, domain_is_spelled}
 use Rattle.mig_headers.specs.RecordTypes.{type_of_number}
@@ -28,15 +28,14 @@ use Rattle.mig_order.specs.Order.{IsInOrder, fault_of_type}
 use Rattle.mig_order.proofs.OrderLaw.{faultless_is_in_order}
 use Rattle.mig_pvtables.specs.Whole.{guest_rows, fault_of_guest}
 use Rattle.mig_restore.specs.Record.{StreamRecord, types_of, is_ended}
-use Rattle.mig_restore.specs.Judging.{Opening, opening_of, is_built, fault_of_built, fault_of_fields, fault_of_head, head_at, fault_at_end, body_at, record_at}
+use Rattle.mig_restore.specs.Judging.{Opening, Before, opening_of, before, is_built, fault_of_built, fault_of_fields, fault_of_head, head_at, fault_at_end, body_at, record_at, next_at}
 use Rattle.mig_restore.specs.Mean.{mean}
 use Rattle.mig_restore.specs.Spelled.{IsComplete, Follows, Spells, IsImage, Accepted}
 use Rattle.mig_restore.specs.Spelled.Spells.{none, one_more}
 use Rattle.mig_restore.specs.Stream as stream
-use Rattle.mig_restore.specs.Stream.{Front, Verdict, at_start, verdict_of_front, of_records, verdict, at_place, IsRefused}
-use Rattle.mig_restore.specs.Stream.Verdict.{Accepts, Refuses}
+use Rattle.mig_restore.specs.Stream.{Front, at_start, ImageOf, image_of, ended_at, records_at, opening_at, image_at, IsRefused}
 use Rattle.mig_restore.proofs.Joins.{unless_ok}
-use Rattle.mig_restore.proofs.Parts.{begins, behind_head, behind_guest, behind_body}
+use Rattle.mig_restore.proofs.Parts.{begins, behind_head, behind_body, asks, behind_record}
 use Rattle.mig_restore.proofs.Arrivals.{goes_on, ends_at, accepted, stops_ended}
 use Rattle.mig_bytes.proofs.Joins.{then_passes, tried_none}
 use Rattle.mig_headers.proofs.FirstFaults.{no_fault, neither_some}
@@ -46,15 +45,16 @@ use Rattle.mig_restore.proofs.Laws.{accepted_is_image}
 
 -- ---- a record
 
-fine_fields : (o : Opening) (types : List ℕ) (type len : ℕ) → is_built o.kind type ≡ true → len ≤ 2 ^ 27 → IsInOrder o.version o.kind types type → type_allows (type_of_number type) len ≡ true → length types < 2 ^ 28
-    → fault_of_fields o types type len ≡ None
+fine_fields : (b : Before) (type len : ℕ) → is_built b.opening.kind type ≡ true → len ≤ 2 ^ 27 → IsInOrder b.opening.version b.opening.kind b.types type → type_allows (type_of_number type) len ≡ true → length b.types < 2 ^ 28
+    → fault_of_fields b type len ≡ None
 unfolding fault_of_fields
-fine_fields o types type len built small in_order allowed few =
+fine_fields b type len built small in_order allowed few =
+    let o = b.opening in
     neither_some (fault_of_built o.kind type) _ (no_fault ((not (is_built o.kind type), NotBuilt type) ∷ []) (ap not built, tt))
     (neither_some (fault_of_long len) _ (no_fault (long_rows len) (ge_ltb _ _ small, tt))
-    (neither_some (fault_of_type o.version o.kind types type) _ ((faultless_is_in_order o.version o.kind types type).1 in_order)
+    (neither_some (fault_of_type o.version o.kind b.types type) _ ((faultless_is_in_order o.version o.kind b.types type).1 in_order)
     (neither_some (fault_of_length type len) _ (no_fault (length_rows type len) (ap not allowed, tt))
-    (no_fault ((nat_le (2 ^ 28) (length types), TooManyRecords) ∷ []) (few_is (length types) few, tt)))))
+    (no_fault ((nat_le (2 ^ 28) (length b.types), TooManyRecords) ∷ []) (few_is (length b.types) few, tt)))))
   where
     few_is : (n : ℕ) → n < 2 ^ 28 → nat_le (2 ^ 28) n ≡ false
     few_is n h = grind (arith, common_steps)
@@ -73,25 +73,29 @@ fine_at_end type g complete = by (nat_eq type 0) refl
     by true is = rw is (whole (complete (eqb-true type 0 is)))
     by false is = rw is refl
 
-record_goes : (o : Opening) (records : List StreamRecord) (r : StreamRecord) (text rest : List ℕ) → Follows o records r text → record_at o records (text ++ rest) ≡ Passes r rest
-unfolding behind_head behind_guest behind_body
+record_goes : (o : Opening) (records : List StreamRecord) (r : StreamRecord) (text rest : List ℕ) → Follows o records r text → record_at (before o records) (text ++ rest) ≡ Passes r rest
+unfolding behind_head behind_body
 record_goes o records r text rest f =
-    let types = types_of records in
-    let g = mean o.kind records in
+    let b = before o records in
     let is = f.is in
     let len = le32 is.head 4 in
     let mid = f.body ++ (is.padding ++ rest) in
     let input : text ++ rest ≡ is.head ++ mid = ap (λ l. l ++ rest) is.whole ∙ append_assoc is.head _ rest ∙ ap (λ l. is.head ++ l) (append_assoc f.body is.padding rest) in
-    let fields = fine_fields o types r.type len f.built (omega (arith, is.len_is, f.small)) f.ordered (length_fits o.kind r.type len f.body r.content f.says (sym is.len_is)) (omega (arith, f.few, length-map records (λ (x : StreamRecord). x.type))) in
-    let fine : fault_of_head o types is.head ≡ None = ap (λ t. fault_of_fields o types t len) is.type_is ∙ fields in
-    let whole : fault_at_end (le32 is.head 0) g ≡ None = ap (λ t. fault_at_end t g) is.type_is ∙ fine_at_end r.type g f.complete in
-    ap (record_at o records) input ∙ begins o records (is.head ++ mid)
-    ∙ then_passes (head_at o types (is.head ++ mid)) (behind_head o.kind g) is.head mid _ (then_passes (part Truncated 8 (is.head ++ mid)) _ is.head mid _ (part_whole Truncated 8 is.head mid is.head_len) (tried_none (fault_of_head o types is.head) mid _ fine))
-    (tried_none (fault_at_end (le32 is.head 0) g) mid _ whole
-    ∙ then_passes (body_at o.kind (le32 is.head 0) len mid) (behind_body is.head) r.content (is.padding ++ rest) _
-    (ap (λ t. body_at o.kind t len mid) is.type_is ∙ body_goes o.kind r.type len f.body (is.padding ++ rest) r.content f.says (sym is.len_is))
+    let fields = fine_fields b r.type len f.built (omega (arith, is.len_is, f.small)) f.ordered (length_fits o.kind b.top r.type len f.body r.content f.says (sym is.len_is)) (omega (arith, f.few, length-map records (λ (x : StreamRecord). x.type))) in
+    let fine : fault_of_head b is.head ≡ None = ap (λ t. fault_of_fields b t len) is.type_is ∙ fields in
+    ap (record_at b) input ∙ begins b (is.head ++ mid)
+    ∙ then_passes (head_at b (is.head ++ mid)) (behind_head o.kind b.top) is.head mid _ (then_passes (part Truncated 8 (is.head ++ mid)) _ is.head mid _ (part_whole Truncated 8 is.head mid is.head_len) (tried_none (fault_of_head b is.head) mid _ fine))
+    (then_passes (body_at o.kind b.top (le32 is.head 0) len mid) (behind_body is.head) r.content (is.padding ++ rest) _
+    (ap (λ t. body_at o.kind b.top t len mid) is.type_is ∙ body_goes o.kind b.top r.type len f.body (is.padding ++ rest) r.content f.says (sym is.len_is))
     (then_passes (part Truncated (padding_len len) (is.padding ++ rest)) _ is.padding rest _ (part_whole Truncated _ is.padding rest (is.padded ∙ ap padding_len (sym is.len_is)))
     (ap (λ t. Passes (record { type = t; content = r.content }) rest) is.type_is)))
+
+next_goes : (o : Opening) (records : List StreamRecord) (r : StreamRecord) (text rest : List ℕ) → Follows o records r text → next_at o records (text ++ rest) ≡ Passes r rest
+unfolding behind_record
+next_goes o records r text rest f =
+    asks o records (text ++ rest)
+    ∙ then_passes (record_at (before o records) (text ++ rest)) (behind_record o records) r rest _ (record_goes o records r text rest f)
+    (tried_none (fault_at_end r.type (mean o.kind (records ++ r ∷ []))) rest _ (fine_at_end r.type (mean o.kind (records ++ r ∷ [])) f.complete))
 
 -- ---- a front, and the whole image
 
@@ -100,18 +104,18 @@ spelled_reached o _ _ rest none = here
 spelled_reached o _ _ rest (one_more bytes records r text before f) =
     next (record { records = records; rest = text ++ rest }) _
     (subst (λ l. Reaches (stream.one_more o) (at_start l) (record { records = records; rest = text ++ rest })) (sym (append_assoc bytes text rest)) (spelled_reached o bytes records (text ++ rest) before))
-    (goes_on o (record { records = records; rest = text ++ rest }) r rest f.not_ended (record_goes o records r text rest f))
+    (goes_on o (record { records = records; rest = text ++ rest }) r rest f.not_ended (next_goes o records r text rest f))
 
-spelled_accepted : (o : Opening) (bytes : List ℕ) (records : List StreamRecord) (rest : List ℕ) → Spells o bytes records → is_ended records ≡ true → of_records o (bytes ++ rest) ≡ Accepts o records rest
+spelled_accepted : (o : Opening) (bytes : List ℕ) (records : List StreamRecord) (rest : List ℕ) → Spells o bytes records → is_ended records ≡ true → records_at o (bytes ++ rest) ≡ Passes (image_of o records) rest
 spelled_accepted o bytes records rest spelled ended =
     let f : Front = record { records = records; rest = rest } in
-    ap (verdict_of_front o) (ends_at o (bytes ++ rest) f (spelled_reached o bytes records rest spelled) (stops_ended o f ended)) ∙ accepted o f ended
+    ap (ended_at o) (ends_at o (bytes ++ rest) f (spelled_reached o bytes records rest spelled) (stops_ended o f ended)) ∙ accepted o f ended
 
 -- ---- the headers
 
-part_is : {Y : Type 0} (place : Place) (n : ℕ) (f : List ℕ → Option Cause) (y : List ℕ → Y) (x rest : List ℕ) (v : Y → List ℕ → Verdict) → length x ≡ n → f x ≡ None
-    → at_place place (part Truncated n (x ++ rest) >>= λ p. tried (f p.0) p.1 >>= λ _. Passes (y p.0) p.1) v ≡ v (y x) rest
-part_is place n f y x rest v size fine = ap (λ j. at_place place j v) (then_passes (part Truncated n (x ++ rest)) _ x rest _ (part_whole Truncated n x rest size) (tried_none (f x) rest _ fine))
+part_is : {Y Z : Type 0} (place : Place) (n : ℕ) (f : List ℕ → Option Cause) (y : List ℕ → Y) (x rest : List ℕ) (k : Y × List ℕ → Judged (Place × Cause) Z) → length x ≡ n → f x ≡ None
+    → (placed place (part Truncated n (x ++ rest) >>= λ p. tried (f p.0) p.1 >>= λ _. Passes (y p.0) p.1) >>= k) ≡ k (y x, rest)
+part_is place n f y x rest k size fine = ap (λ j. placed place j >>= k) (then_passes (part Truncated n (x ++ rest)) _ x rest _ (part_whole Truncated n x rest size) (tried_none (f x) rest _ fine))
 
 -- the two parts of an image header
 record ImageParts (header : List ℕ) (version : ℕ) : Type 0 where
@@ -141,26 +145,33 @@ domain_fine header kind major minor is =
     let o = unless_ok (fault_of_domain header) (record { kind = kind_of_number (le32 header 0); major = le32 header 8; minor = le32 header 12 }) (record { kind = kind; major = major; minor = minor }) read in
     (o.0, ap (λ (h : DomainHeader). h.kind) o.1)
 
-pub image_is_accepted : (input : List ℕ) (o : Opening) (records : List StreamRecord) (rest : List ℕ) → IsImage input o records rest → verdict input ≡ Accepts o records rest
-unfolding verdict
+opening_is : (o : Opening) (first more header rest : List ℕ) → length first ≡ 8 → length more ≡ 16 → length header ≡ 16 → fault_of_marker first ≡ None → fault_of_image more ≡ None → fault_of_domain header ≡ None
+    → be32 more 4 ≡ o.version → kind_of_number (le32 header 0) ≡ o.kind → opening_at (first ++ (more ++ (header ++ rest))) ≡ Passes o rest
+unfolding opening_at
+opening_is o first more header rest size1 size2 size3 marker image domain version kind =
+    part_is places.ImageHeader 8 fault_of_marker (λ l. l) first _ _ size1 marker
+    ∙ part_is places.ImageHeader 16 fault_of_image (λ l. be32 l 4) more _ _ size2 image
+    ∙ part_is places.DomainHeader 16 fault_of_domain (λ l. kind_of_number (le32 l 0)) header _ _ size3 domain
+    ∙ ap (λ v. Passes (opening_of v (kind_of_number (le32 header 0))) rest) version ∙ ap (λ k. Passes (opening_of o.version k) rest) kind
+
+pub image_is_accepted : (input : List ℕ) (o : Opening) (records : List StreamRecord) (rest : List ℕ) → IsImage input o records rest → image_at input ≡ Passes (image_of o records) rest
+unfolding image_at
 image_is_accepted input o records rest im =
     let p = image_parts im.image_header o.version im.is_image_header in
     let d = domain_fine im.domain_header o.kind im.major im.minor im.is_domain_header in
     let input_is : input ≡ p.first ++ (p.more ++ (im.domain_header ++ (im.bytes ++ rest))) = im.whole ∙ ap (λ l. l ++ (im.domain_header ++ (im.bytes ++ rest))) p.whole ∙ append_assoc p.first p.more _ in
-    ap verdict input_is
-    ∙ part_is places.ImageHeader 8 fault_of_marker (λ l. l) p.first _ _ p.first_len p.marker
-    ∙ part_is places.ImageHeader 16 fault_of_image (λ l. be32 l 4) p.more _ _ p.more_len p.fine
-    ∙ part_is places.DomainHeader 16 fault_of_domain (λ l. kind_of_number (le32 l 0)) im.domain_header _ _ im.is_domain_header.size d.0
-    ∙ ap (λ v. of_records (opening_of v (kind_of_number (le32 im.domain_header 0))) (im.bytes ++ rest)) p.version_is
-    ∙ ap (λ k. of_records (opening_of o.version k) (im.bytes ++ rest)) d.1
-    ∙ spelled_accepted o im.bytes records rest im.spelled im.ended
+    ap image_at input_is
+    ∙ then_passes (opening_at (p.first ++ (p.more ++ (im.domain_header ++ (im.bytes ++ rest))))) (λ opening. records_at opening.0 opening.1) o (im.bytes ++ rest) _
+    (opening_is o p.first p.more im.domain_header (im.bytes ++ rest) p.first_len p.more_len im.is_domain_header.size p.marker p.fine d.0 p.version_is d.1)
+    (spelled_accepted o im.bytes records rest im.spelled im.ended)
 
-same_verdicts : (o p : Opening) (rs ss : List StreamRecord) (i j : List ℕ) → Accepts o rs i ≡ Accepts p ss j → (o ≡ p) × (rs ≡ ss) × (i ≡ j)
-same_verdicts o p rs ss i j e = (cc, cc, cc)
+same_images : (o p : Opening) (rs ss : List StreamRecord) (i j : List ℕ) → ◌≡◌ {A = Judged (Place × Cause) ImageOf} (Passes (image_of o rs) i) (Passes (image_of p ss) j) → (o ≡ p) × (rs ≡ ss) × (i ≡ j)
+same_images o p rs ss i j e =
+    let same = same_passes (image_of o rs) (image_of p ss) i j e in (ap (λ (im : ImageOf). im.opening) same.0, ap (λ (im : ImageOf). im.records) same.0, same.1)
 
 -- an input has one front that is an image
 pub one_image : (input : List ℕ) (o p : Opening) (rs ss : List StreamRecord) (rest more : List ℕ) → IsImage input o rs rest → IsImage input p ss more → (o ≡ p) × (rs ≡ ss) × (rest ≡ more)
-one_image input o p rs ss rest more a b = same_verdicts o p rs ss rest more (sym (image_is_accepted input o rs rest a) ∙ image_is_accepted input p ss more b)
+one_image input o p rs ss rest more a b = same_images o p rs ss rest more (sym (image_is_accepted input o rs rest a) ∙ image_is_accepted input p ss more b)
 
 pub one_front : (input : List ℕ) (g h : GuestOf) (rest more : List ℕ) → Accepted input g rest → Accepted input h more → (g ≡ h) × (rest ≡ more)
 one_front input g h rest more a b =
@@ -170,12 +181,12 @@ one_front input g h rest more a b =
 pub never_both : (input : List ℕ) (guest : GuestOf) (rest : List ℕ) (place : Place) (cause : Cause) (more : List ℕ) → Accepted input guest rest → IsRefused input place cause more → ⊥
 never_both input guest rest place cause more a refused = apart (sym (image_is_accepted input a.opening a.records rest a.image) ∙ refused)
   where
-    apart : Accepts a.opening a.records rest ≡ Refuses place cause more → ⊥
+    apart : ◌≡◌ {A = Judged (Place × Cause) ImageOf} (Passes (image_of a.opening a.records) rest) (Faulty (place, cause) more) → ⊥
     apart e = cc
 
 pub accepted_or_refused : (input : List ℕ) → ((guest : GuestOf) × (rest : List ℕ) × Accepted input guest rest) ⊎ ((place : Place) × (cause : Cause) × (rest : List ℕ) × IsRefused input place cause rest)
-accepted_or_refused input = either (verdict input) refl
+accepted_or_refused input = either (image_at input) refl
   where
-    either : (v : Verdict) → verdict input ≡ v → ((guest : GuestOf) × (rest : List ℕ) × Accepted input guest rest) ⊎ ((place : Place) × (cause : Cause) × (rest : List ℕ) × IsRefused input place cause rest)
-    either (Accepts o records rest) is = inl (mean o.kind records, rest, record { opening = o; records = records; image = accepted_is_image input o records rest is; means = refl })
-    either (Refuses place cause rest) is = inr (place, cause, rest, is)
+    either : (j : Judged (Place × Cause) ImageOf) → image_at input ≡ j → ((guest : GuestOf) × (rest : List ℕ) × Accepted input guest rest) ⊎ ((place : Place) × (cause : Cause) × (rest : List ℕ) × IsRefused input place cause rest)
+    either (Passes im rest) is = inl (mean im.opening.kind im.records, rest, record { opening = im.opening; records = im.records; image = accepted_is_image input im.opening im.records rest is; means = refl })
+    either (Faulty at rest) is = inr (at.0, at.1, rest, is)

@@ -45,10 +45,10 @@ Part = PartKey × List ℕ
 -- ---- steps
 
 pub grows_not : (g : GuestOf) → Grows g g
-grows_not g = record { kind = refl; kept = λ h. h }
+grows_not g = record { kind = refl; top = refl; kept = λ h. h }
 
 pub grows_on : (g h k : GuestOf) → Grows g h → Grows h k → Grows g k
-grows_on g h k a b = record { kind = b.kind ∙ a.kind; kept = λ s. b.kept (a.kept s) }
+grows_on g h k a b = record { kind = b.kind ∙ a.kind; top = b.top ∙ a.top; kept = λ s. b.kept (a.kept s) }
 
 moved : (g h k : GuestOf) → k ≡ h → Grows g h → Grows g k
 moved g h k is grows = subst (Grows g) (sym is) grows
@@ -97,6 +97,7 @@ pub grows_frame : (g h : GuestOf) (t meant : PageType) (pfn : ℕ) (page : Optio
 grows_frame g h t meant pfn page is now =
     moved g (record g { frames = framed g.frames pfn (meant_type g.kind t) page }) h (now ∙ ap (λ (m : PageType). record g { frames = framed g.frames pfn m page }) is) (record {
       kind = refl;
+      top = refl;
       kept = λ s. record { top = s.top; types = λ hvm. frame_set g g.kind t pfn page hvm s hvm; parts = s.parts; leaves = s.leaves; msrs = s.msrs; cut = s.cut };
     })
 
@@ -191,6 +192,7 @@ fewer a b n e h = subst (λ x. x ≤ n) (sym e) h
 pub grows_puts : (c : ℕ) → c ≢ 9 → c ≢ 17 → c ≢ 18 → (g h : GuestOf) (ps : List Part) → Fit c ps → h ≡ record g { parts = put_parts g.parts ps } → Grows g h
 grows_puts c not_context not_leaves not_msrs g h ps fit now = moved g (record g { parts = put_parts g.parts ps }) h now (record {
   kind = refl;
+  top = refl;
   kept = λ s. record {
     top = s.top;
     types = s.types;
@@ -234,6 +236,7 @@ grows_context g h body o is short now =
     let same : take o bytes ++ replicate 8 0 ≡ bytes = ap (λ l. l ++ replicate 8 0) (front o body (omega (arith, fits))) in
     moved g (record g { parts = fin.insert g.parts context_key bytes }) h now (record {
       kind = refl;
+      top = refl;
       kept = λ s. record {
         top = s.top;
         types = s.types;
@@ -315,6 +318,7 @@ replace_stays c q differ m (p ∷ ps) fit = puts_stay c q differ (fin.retain_key
 grows_policy : (c : ℕ) → 9 ≢ c → (g h : GuestOf) (ps : List Part) → Fit c ps → length ps ≤ 65536 → h ≡ record g { parts = replace_code c g.parts ps } → Grows g h
 grows_policy c not_context g h ps fit few now = moved g (record g { parts = replace_code c g.parts ps }) h now (record {
   kind = refl;
+  top = refl;
   kept = λ s. record {
     top = s.top;
     types = s.types;

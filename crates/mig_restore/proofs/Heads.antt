@@ -6,7 +6,7 @@ use Rattle.mig_headers.specs.declared.fault.Cause.{Cause}
 use Rattle.mig_order.specs.Order.{fault_of_type}
 use Rattle.mig_records.specs.Faults.{fault_of_long, fault_of_length}
 use Rattle.mig_restore.specs.declared.head.Seen.{Seen}
-use Rattle.mig_restore.specs.Judging.{Opening, fault_of_built, fault_of_number, fault_of_fields}
+use Rattle.mig_restore.specs.Judging.{Before, fault_of_built, fault_of_number, fault_of_fields}
 use Rattle.mig_restore.specs.Seen.{IsSeen}
 
 abbrev pub Verdict : Type 0
@@ -17,9 +17,9 @@ third a b None d e cause p q is = let no : ◌≡◌ {A = Verdict} (Err cause) (
 third a b (Some x) d e cause p q is = rw (p, q) is
 
 -- the order is broken
-pub order_broken : (seen : Seen) (o : Opening) (types : List ℕ) (type len : ℕ) (cause : Cause) → IsSeen seen o types → fault_of_built seen.kind type ≡ None → fault_of_long len ≡ None
-    → ◌≡◌ {A = Verdict} (Err cause) (unless_faulty (fault_of_type seen.gate.version seen.gate.kind types type) tt) → ◌≡◌ {A = Verdict} (Err cause) (unless_faulty (fault_of_fields o types type len) tt)
+pub order_broken : (seen : Seen) (b : Before) (type len : ℕ) (cause : Cause) → IsSeen seen b.opening b.types → fault_of_built seen.kind type ≡ None → fault_of_long len ≡ None
+    → ◌≡◌ {A = Verdict} (Err cause) (unless_faulty (fault_of_type seen.gate.version seen.gate.kind b.types type) tt) → ◌≡◌ {A = Verdict} (Err cause) (unless_faulty (fault_of_fields b type len) tt)
 unfolding fault_of_fields
-order_broken seen o types type len cause s built short is =
-    third _ _ _ (fault_of_length type len) (fault_of_number types) cause (ap (λ k. fault_of_built k type) (sym s.kind) ∙ built) short
-    (is ∙ ap (λ v. unless_faulty (fault_of_type v seen.gate.kind types type) tt) s.gate_version ∙ ap (λ k. unless_faulty (fault_of_type o.version k types type) tt) s.gate_kind)
+order_broken seen b type len cause s built short is =
+    third _ _ _ (fault_of_length type len) (fault_of_number b.types) cause (ap (λ k. fault_of_built k type) (sym s.kind) ∙ built) short
+    (is ∙ ap (λ v. unless_faulty (fault_of_type v seen.gate.kind b.types type) tt) s.gate_version ∙ ap (λ k. unless_faulty (fault_of_type b.opening.version k b.types type) tt) s.gate_kind)

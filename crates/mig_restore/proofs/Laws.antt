@@ -6,7 +6,7 @@ use Rattle.mig_bytes.specs.Bytes.{padding_len}
 use Rattle.mig_bytes.specs.Fields.{le32, be32}
 use Rattle.mig_bytes.specs.Walk.{Reaches}
 use Rattle.mig_bytes.specs.Walk.Reaches.{here, next}
-use Rattle.mig_bytes.specs.Judged.{Judged, ◌>>=◌, part, tried}
+use Rattle.mig_bytes.specs.Judged.{Judged, ◌>>=◌, part, tried, placed}
 use Rattle.mig_bytes.specs.Judged.Judged.{Passes, Faulty}
 use Rattle.mig_bytes.proofs.Walks.{walk_end_reached}
 use Rattle.mig_bytes.proofs.Joins.{both_pass, part_passes, tried_passes, same_passes}
@@ -25,13 +25,12 @@ use Rattle.mig_order.specs.Order.{IsInOrder, fault_of_type}
 use Rattle.mig_order.proofs.OrderLaw.{faultless_is_in_order}
 use Rattle.mig_pvtables.specs.Whole.{guest_rows, fault_of_guest}
 use Rattle.mig_restore.specs.Record.{StreamRecord, types_of, is_ended}
-use Rattle.mig_restore.specs.Judging.{Opening, opening_of, is_built, fault_of_built, fault_of_number, fault_of_fields, fault_of_head, head_at, fault_at_end, body_at, record_at}
+use Rattle.mig_restore.specs.Judging.{Opening, Before, opening_of, before, is_built, fault_of_built, fault_of_number, fault_of_fields, fault_of_head, head_at, fault_at_end, body_at, record_at, next_at}
 use Rattle.mig_restore.specs.Mean.{mean}
 use Rattle.mig_restore.specs.Spelled.{IsComplete, Follows, Spells, IsImage}
 use Rattle.mig_restore.specs.Spelled.{Spells as spells}
-use Rattle.mig_restore.specs.Stream.{Front, Verdict, one_more, at_start, front_of, front_with, verdict_of_front, verdict_with, of_records, verdict, at_place, marker_at, version_at, kind_at}
-use Rattle.mig_restore.specs.Stream.Verdict.{Accepts, Refuses}
-use Rattle.mig_restore.proofs.Parts.{begins, behind_head, behind_guest, behind_body}
+use Rattle.mig_restore.specs.Stream.{Front, one_more, at_start, front_of, front_with, ImageOf, image_of, ended_at, records_at, image_at, opening_at, marker_at, version_at, kind_at}
+use Rattle.mig_restore.proofs.Parts.{begins, behind_head, behind_body, asks, behind_record}
 use Rattle.mig_restore.proofs.Arrivals.{goes_on, front_stops}
 use Rattle.mig_headers.proofs.FirstFaults.{rows_fine, both_none}
 use Rattle.mig_restore.proofs.Passing.{not_false}
@@ -40,26 +39,27 @@ use Rattle.mig_restore.proofs.Bodies.{body_says}
 -- ---- a head
 
 -- what fields without fault say
-record FineFields (o : Opening) (types : List ℕ) (type len : ℕ) : Type 0 where
-  built : is_built o.kind type ≡ true
+record FineFields (b : Before) (type len : ℕ) : Type 0 where
+  built : is_built b.opening.kind type ≡ true
   small : len ≤ 2 ^ 27
-  ordered : IsInOrder o.version o.kind types type
+  ordered : IsInOrder b.opening.version b.opening.kind b.types type
   allowed : type_allows (type_of_number type) len ≡ true
-  few : length types < 2 ^ 28
+  few : length b.types < 2 ^ 28
 
-fields_fine : (o : Opening) (types : List ℕ) (type len : ℕ) → fault_of_fields o types type len ≡ None → FineFields o types type len
+fields_fine : (b : Before) (type len : ℕ) → fault_of_fields b type len ≡ None → FineFields b type len
 unfolding fault_of_fields
-fields_fine o types type len fine =
+fields_fine b type len fine =
+    let o = b.opening in
     let a = both_none (fault_of_built o.kind type) _ fine in
-    let b = both_none (fault_of_long len) _ a.1 in
-    let c = both_none (fault_of_type o.version o.kind types type) _ b.1 in
-    let d = both_none (fault_of_length type len) (fault_of_number types) c.1 in
+    let l = both_none (fault_of_long len) _ a.1 in
+    let c = both_none (fault_of_type o.version o.kind b.types type) _ l.1 in
+    let d = both_none (fault_of_length type len) (fault_of_number b.types) c.1 in
     record {
       built = not_false _ (rows_fine ((not (is_built o.kind type), NotBuilt type) ∷ []) a.0).0;
-      small = ltb-false (2 ^ 27) len (rows_fine (long_rows len) b.0).0;
-      ordered = (faultless_is_in_order o.version o.kind types type).0 c.0;
+      small = ltb-false (2 ^ 27) len (rows_fine (long_rows len) l.0).0;
+      ordered = (faultless_is_in_order o.version o.kind b.types type).0 c.0;
       allowed = not_false _ (rows_fine (length_rows type len) d.0).0;
-      few = leb-false (2 ^ 28) (length types) (rows_fine ((nat_le (2 ^ 28) (length types), TooManyRecords) ∷ []) d.1).0;
+      few = leb-false (2 ^ 28) (length b.types) (rows_fine ((nat_le (2 ^ 28) (length b.types), TooManyRecords) ∷ []) d.1).0;
     }
 
 -- ---- the guest at END
@@ -89,30 +89,32 @@ regroup i h' m' h m b c p d rest e1 e2 e3 e4 e5 e6 =
 found_same : (o : Opening) (records : List StreamRecord) (i rest : List ℕ) (r q : StreamRecord) → r ≡ q → Found o records i r rest → Found o records i q rest
 found_same o records i rest r q is f = subst (λ (x : StreamRecord). Found o records i x rest) is f
 
-found : (o : Opening) (records : List StreamRecord) (i : List ℕ) (r : StreamRecord) (rest : List ℕ) → is_ended records ≡ false → record_at o records i ≡ Passes r rest → Found o records i r rest
-unfolding behind_head behind_guest behind_body
+found : (o : Opening) (records : List StreamRecord) (i : List ℕ) (r : StreamRecord) (rest : List ℕ) → is_ended records ≡ false → next_at o records i ≡ Passes r rest → Found o records i r rest
+unfolding behind_record behind_head behind_body
 found o records i r rest going h =
-    let types = types_of records in
-    let g = mean o.kind records in
-    let a = both_pass (head_at o types i) (behind_head o.kind g) r rest (sym (begins o records i) ∙ h) in
-    let b = both_pass (part Truncated 8 i) _ a.x a.mid a.first in
-    let p = part_passes Truncated 8 i b.x b.mid b.first in
-    let t = both_pass (tried (fault_of_head o types b.x) b.mid) (λ _. Passes b.x b.mid) a.x a.mid b.second in
+    let b = before o records in
+    let n = both_pass (record_at b i) (behind_record o records) r rest (sym (asks o records i) ∙ h) in
+    let w = both_pass (tried (fault_at_end n.x.type (mean o.kind (records ++ n.x ∷ []))) n.mid) (λ _. Passes n.x n.mid) r rest n.second in
+    let whole = tried_passes _ n.mid w.mid w.x w.first in
+    let same = same_passes _ _ _ _ w.second in
+    let a = both_pass (head_at b i) (behind_head o.kind b.top) n.x n.mid (sym (begins b i) ∙ n.first) in
+    let m = both_pass (part Truncated 8 i) _ a.x a.mid a.first in
+    let p = part_passes Truncated 8 i m.x m.mid m.first in
+    let t = both_pass (tried (fault_of_head b m.x) m.mid) (λ _. Passes m.x m.mid) a.x a.mid m.second in
     let e = same_passes _ _ _ _ t.second in
     let head = a.x in
     let type = le32 head 0 in
     let len = le32 head 4 in
-    let fine = fields_fine o types type len (subst (λ l. fault_of_head o types l ≡ None) e.0 (tried_passes _ b.mid t.mid t.x t.first).0) in
-    let w = both_pass (tried (fault_at_end type g) a.mid) (λ _. behind_guest o.kind head a.mid) r rest a.second in
-    let whole = tried_passes _ a.mid w.mid w.x w.first in
-    let c = both_pass (body_at o.kind type len a.mid) (behind_body head) r rest w.second in
-    let d = both_pass (part Truncated (padding_len len) c.mid) (λ padding. Passes (record { type = type; content = c.x }) padding.1) r rest c.second in
+    let fine = fields_fine b type len (subst (λ l. fault_of_head b l ≡ None) e.0 (tried_passes _ m.mid t.mid t.x t.first).0) in
+    let c = both_pass (body_at o.kind b.top type len a.mid) (behind_body head) n.x n.mid a.second in
+    let d = both_pass (part Truncated (padding_len len) c.mid) (λ padding. Passes (record { type = type; content = c.x }) padding.1) n.x n.mid c.second in
     let q = part_passes Truncated _ c.mid d.x d.mid d.first in
     let f = same_passes _ _ _ _ d.second in
-    let s = body_says o.version o.kind types type len a.mid c.x c.mid fine.built fine.ordered fine.allowed c.first in
-    found_same o records i rest (record { type = type; content = c.x }) r f.0 (record {
+    let s = body_says o.version o.kind b.top b.types type len a.mid c.x c.mid fine.built fine.ordered fine.allowed c.first in
+    let is_record : record { type = type; content = c.x } ≡ n.x = f.0 in
+    found_same o records i rest (record { type = type; content = c.x }) r (is_record ∙ same.0) (record {
       text = head ++ (s.body ++ d.x);
-      whole = regroup i b.x b.mid head a.mid s.body c.mid d.x d.mid rest p.0 e.0 e.1 s.whole q.0 f.1;
+      whole = regroup i m.x m.mid head a.mid s.body c.mid d.x d.mid rest p.0 e.0 e.1 s.whole q.0 (f.1 ∙ same.1);
       follows = record {
         body = s.body;
         is = record { head = head; padding = d.x; whole = refl {a = head ++ (s.body ++ d.x)}; head_len = ap length (sym e.0) ∙ p.1; type_is = refl {a = type}; len_is = sym s.body_len; padded = q.1 ∙ ap padding_len (sym s.body_len) };
@@ -122,7 +124,8 @@ found o records i r rest going h =
         ordered = fine.ordered;
         few = subst (λ n. n < 2 ^ 28) (length-map records (λ (x : StreamRecord). x.type)) fine.few;
         not_ended = going;
-        complete = complete_at_end type g whole.0;
+        complete = complete_at_end type (mean o.kind (records ++ record { type = type; content = c.x } ∷ []))
+            (subst (λ (x : StreamRecord). fault_at_end x.type (mean o.kind (records ++ x ∷ [])) ≡ None) (sym is_record) whole.0);
       };
     })
 
@@ -133,20 +136,20 @@ module _ (o : Opening) where
     r : StreamRecord
     rest : List ℕ
     going : is_ended f.records ≡ false
-    judged : record_at o f.records f.rest ≡ Passes r rest
+    judged : next_at o f.records f.rest ≡ Passes r rest
     is : t ≡ record { records = f.records ++ r ∷ []; rest = rest }
 
   none_some : {x : Front} → None ≡ Some x → ⊥
   none_some q = cc
 
-  step_at : (f t : Front) (b : Bool) (j : Judged Cause StreamRecord) → is_ended f.records ≡ b → record_at o f.records f.rest ≡ j → cond b None (front_with f.records j) ≡ Some t → Step f t
+  step_at : (f t : Front) (b : Bool) (j : Judged Cause StreamRecord) → is_ended f.records ≡ b → next_at o f.records f.rest ≡ j → cond b None (front_with f.records j) ≡ Some t → Step f t
   step_at f t true j g e h = let no : ◌≡◌ {A = Option Front} None (Some t) = h in absurd (none_some no)
   step_at f t false (Faulty c after) g e h = let no : ◌≡◌ {A = Option Front} None (Some t) = h in absurd (none_some no)
   step_at f t false (Passes r after) g e h = record { r = r; rest = after; going = g; judged = e; is = cc }
 
   step_of : (f t : Front) → one_more o f ≡ Some t → Step f t
   unfolding one_more
-  step_of f t h = step_at f t (is_ended f.records) (record_at o f.records f.rest) refl refl h
+  step_of f t h = step_at f t (is_ended f.records) (next_at o f.records f.rest) refl refl h
 
   record Split (rest : List ℕ) (f : Front) : Type 0 where
     bytes : List ℕ
@@ -166,20 +169,20 @@ module _ (o : Opening) where
   front_spelled rest _ here = record { bytes = []; whole = refl; spelled = spells.none }
   front_spelled rest _ (next u t reached goes) = split_more rest u t (front_spelled rest u reached) (step_of u t goes)
 
-  accepts_at : (f : Front) (b : Bool) (j : Judged Cause StreamRecord) (p : Opening) (records : List StreamRecord) (rest : List ℕ) → is_ended f.records ≡ b → one_more o f ≡ None → record_at o f.records f.rest ≡ j
-      → cond b (Accepts o f.records f.rest) (verdict_with o f.records f.rest j) ≡ Accepts p records rest → (o ≡ p) × (f.records ≡ records) × (f.rest ≡ rest) × (b ≡ true)
-  accepts_at f true j p records rest g stops is h = (cc, cc, cc, refl)
+  accepts_at : (f : Front) (b : Bool) (j : Judged Cause StreamRecord) (p : Opening) (records : List StreamRecord) (rest : List ℕ) → is_ended f.records ≡ b → one_more o f ≡ None → next_at o f.records f.rest ≡ j
+      → cond b (Passes (image_of o f.records) f.rest) (placed (Record (length f.records)) j >>= λ next. Passes (image_of o f.records) next.1) ≡ Passes (image_of p records) rest → (o ≡ p) × (f.records ≡ records) × (f.rest ≡ rest) × (b ≡ true)
+  accepts_at f true j p records rest g stops is h = let e = same_passes {C = Place × Cause} (image_of o f.records) (image_of p records) f.rest rest h in (ap (λ (im : ImageOf). im.opening) e.0, ap (λ (im : ImageOf). im.records) e.0, e.1, refl)
   accepts_at f false (Passes r after) p records rest g stops is h = let no : ◌≡◌ {A = Option Front} (Some (record { records = f.records ++ r ∷ []; rest = after })) None = sym (goes_on o f r after g is) ∙ stops in cc
-  accepts_at f false (Faulty c after) p records rest g stops is h = let no : ◌≡◌ {A = Verdict} (Refuses (Record (length f.records)) c after) (Accepts p records rest) = h in (cc, cc, cc, cc)
+  accepts_at f false (Faulty c after) p records rest g stops is h = let no : ◌≡◌ {A = Judged (Place × Cause) ImageOf} (Faulty (Record (length f.records), c) after) (Passes (image_of p records) rest) = h in (cc, cc, cc, cc)
 
   -- what stands behind the headers of an accepted image is spelled as the format says
-  accepted_spelled : (i : List ℕ) (p : Opening) (records : List StreamRecord) (rest : List ℕ) → of_records o i ≡ Accepts p records rest
+  accepted_spelled : (i : List ℕ) (p : Opening) (records : List StreamRecord) (rest : List ℕ) → records_at o i ≡ Passes (image_of p records) rest
       → (o ≡ p) × (bytes : List ℕ) × (i ≡ bytes ++ rest) × Spells o bytes records × (is_ended records ≡ true)
-  unfolding verdict_of_front front_of
+  unfolding ended_at front_of
   accepted_spelled i p records rest h =
       let f = front_of o i in
       let s = front_spelled i f (walk_end_reached (one_more o) (length i) (at_start i) (at_start i) here) in
-      let e = accepts_at f (is_ended f.records) (record_at o f.records f.rest) p records rest refl (front_stops o i) refl h in
+      let e = accepts_at f (is_ended f.records) (next_at o f.records f.rest) p records rest refl (front_stops o i) refl h in
       (e.0, s.bytes, s.whole ∙ ap (λ l. s.bytes ++ l) e.2, subst (Spells o s.bytes) e.1 s.spelled, ap is_ended (sym e.1) ∙ e.3)
 
 -- ---- the headers
@@ -199,17 +202,12 @@ header_passes n f y i x rest h =
     let e = same_passes _ _ _ _ t.second in
     record { bytes = b.x; whole = p.0 ∙ ap (λ l. b.x ++ l) e.1; size = p.1; fine = (tried_passes (f b.x) b.mid t.mid t.x t.first).0; value = e.0 }
 
-record AtPlace {X : Type 0} (j : Judged Cause X) (v : X → List ℕ → Verdict) (o : Opening) (records : List StreamRecord) (rest : List ℕ) : Type 0 where
-  x : X
-  mid : List ℕ
-  first : j ≡ Passes x mid
-  second : v x mid ≡ Accepts o records rest
-
-at_place_accepts : {X : Type 0} (place : Place) (j : Judged Cause X) (v : X → List ℕ → Verdict) (o : Opening) (records : List StreamRecord) (rest : List ℕ) → at_place place j v ≡ Accepts o records rest → AtPlace j v o records rest
-at_place_accepts place (Passes x mid) v o records rest h = record { x = x; mid = mid; first = refl; second = h }
-at_place_accepts place (Faulty c mid) v o records rest h = let no : ◌≡◌ {A = Verdict} (Refuses place c mid) (Accepts o records rest) = h in absurd (wrong no)
+-- a placed judgement passes where it passes
+placed_passes : {X : Type 0} (place : Place) (j : Judged Cause X) (x : X) (rest : List ℕ) → placed place j ≡ Passes x rest → j ≡ Passes x rest
+placed_passes place (Passes y mid) x rest h = let e = same_passes _ _ _ _ h in rw (e.0, e.1) refl
+placed_passes {X} place (Faulty c mid) x rest h = let no : ◌≡◌ {A = Judged (Place × Cause) X} (Faulty (place, c) mid) (Passes x rest) = h in absurd (wrong no)
   where
-    wrong : Refuses place c mid ≡ Accepts o records rest → ⊥
+    wrong : ◌≡◌ {A = Judged (Place × Cause) X} (Faulty (place, c) mid) (Passes x rest) → ⊥
     wrong q = cc
 
 reads_as : {H : Type 0} (f : Option Cause) (h x : H) → f ≡ None → h ≡ x → unless_faulty f h ≡ Ok x
@@ -229,17 +227,26 @@ regroup_headers : (input m i g j d k bytes rest : List ℕ) → input ≡ m ++ i
 regroup_headers input m i g j d k bytes rest e1 e2 e3 e4 =
     e1 ∙ ap (λ l. m ++ l) (e2 ∙ ap (λ l. g ++ l) (e3 ∙ ap (λ l. d ++ l) e4)) ∙ sym (append_assoc m g (d ++ (bytes ++ rest)))
 
-pub accepted_is_image : (input : List ℕ) (o : Opening) (records : List StreamRecord) (rest : List ℕ) → verdict input ≡ Accepts o records rest → IsImage input o records rest
-unfolding verdict
+abbrev behind_kind : ℕ → Kind × List ℕ → Judged (Place × Cause) Opening
+behind_kind version kind = Passes (opening_of version kind.0) kind.1
+
+abbrev behind_version : ℕ × List ℕ → Judged (Place × Cause) Opening
+behind_version version = placed DomainHeader (kind_at version.1) >>= behind_kind version.0
+
+pub accepted_is_image : (input : List ℕ) (o : Opening) (records : List StreamRecord) (rest : List ℕ) → image_at input ≡ Passes (image_of o records) rest → IsImage input o records rest
+unfolding image_at opening_at
 accepted_is_image input o records rest h =
-    let a = at_place_accepts ImageHeader (marker_at input) (λ _ i. at_place ImageHeader (version_at i) (λ version j. at_place DomainHeader (kind_at j) (λ kind k. of_records (opening_of version kind) k))) o records rest h in
-    let b = at_place_accepts ImageHeader (version_at a.mid) (λ version j. at_place DomainHeader (kind_at j) (λ kind k. of_records (opening_of version kind) k)) o records rest a.second in
-    let c = at_place_accepts DomainHeader (kind_at b.mid) (λ kind k. of_records (opening_of b.x kind) k) o records rest b.second in
-    let m = header_passes 8 fault_of_marker (λ l. l) input a.x a.mid a.first in
-    let g = header_passes 16 fault_of_image (λ l. be32 l 4) a.mid b.x b.mid b.first in
-    let d = header_passes 16 fault_of_domain (λ l. kind_of_number (le32 l 0)) b.mid c.x c.mid c.first in
+    let n = both_pass (opening_at input) (λ opening. records_at opening.0 opening.1) (image_of o records) rest h in
+    let a = both_pass (placed ImageHeader (marker_at input)) (λ marker. placed ImageHeader (version_at marker.1) >>= behind_version) n.x n.mid n.first in
+    let b = both_pass (placed ImageHeader (version_at a.mid)) behind_version n.x n.mid a.second in
+    let c = both_pass (placed DomainHeader (kind_at b.mid)) (behind_kind b.x) n.x n.mid b.second in
+    let e = same_passes _ _ _ _ c.second in
+    let m = header_passes 8 fault_of_marker (λ l. l) input a.x a.mid (placed_passes ImageHeader (marker_at input) a.x a.mid a.first) in
+    let g = header_passes 16 fault_of_image (λ l. be32 l 4) a.mid b.x b.mid (placed_passes ImageHeader (version_at a.mid) b.x b.mid b.first) in
+    let d = header_passes 16 fault_of_domain (λ l. kind_of_number (le32 l 0)) b.mid c.x c.mid (placed_passes DomainHeader (kind_at b.mid) c.x c.mid c.first) in
     let opened = opening_of b.x c.x in
-    let (same, bytes, whole, spelled, ended) = accepted_spelled opened c.mid o records rest c.second in
+    let judged : records_at opened c.mid ≡ Passes (image_of o records) rest = ap (λ (p : Opening). records_at p c.mid) e.0 ∙ ap (records_at n.x) e.1 ∙ n.second in
+    let (same, bytes, whole, spelled, ended) = accepted_spelled opened c.mid o records rest judged in
     let image : IsImage input opened records rest = record {
       image_header = m.bytes ++ g.bytes;
       domain_header = d.bytes;

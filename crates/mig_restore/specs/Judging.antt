@@ -37,6 +37,16 @@ pub record Opening : Type 0 where
 abbrev pub opening_of : ℕ → Kind → Opening
 opening_of version kind = record { version = version; kind = kind }
 
+-- what stands before a record: the headers, the types of the records, and the greatest frame number of a PV guest so far
+pub record Before : Type 0 where
+  pub opening : Opening
+  pub types : List ℕ
+  pub top : ℕ
+
+-- these records behind this opening
+abbrev pub before : Opening → List StreamRecord → Before
+before o records = record { opening = o; types = types_of records; top = (mean o.kind records).top }
+
 -- ---- the head
 
 -- whether records of this type are read at all in a stream of this kind: so far none of the types of a PV stream is
@@ -57,21 +67,21 @@ most_records = 2 ^ 28
 abbrev pub fault_of_number : List ℕ → Option Cause
 fault_of_number types = first_fault ((nat_le most_records (length types), TooManyRecords) ∷ [])
 
--- what is wrong with a head of this type and length, behind records of these types
-unfoldable pub fault_of_fields : Opening → List ℕ → ℕ → ℕ → Option Cause
-fault_of_fields o types type len =
-    option_or (fault_of_built o.kind type)
+-- what is wrong with a head of this type and length
+unfoldable pub fault_of_fields : Before → ℕ → ℕ → Option Cause
+fault_of_fields b type len =
+    option_or (fault_of_built b.opening.kind type)
     (option_or (fault_of_long len)
-    (option_or (fault_of_type o.version o.kind types type)
-    (option_or (fault_of_length type len) (fault_of_number types))))
+    (option_or (fault_of_type b.opening.version b.opening.kind b.types type)
+    (option_or (fault_of_length type len) (fault_of_number b.types))))
 
-abbrev pub fault_of_head : Opening → List ℕ → List ℕ → Option Cause
-fault_of_head o types head = fault_of_fields o types (le32 head 0) (le32 head 4)
+abbrev pub fault_of_head : Before → List ℕ → Option Cause
+fault_of_head b head = fault_of_fields b (le32 head 0) (le32 head 4)
 
-abbrev pub head_at : Opening → List ℕ → List ℕ → Judged Cause (List ℕ)
-head_at o types input = do
+abbrev pub head_at : Before → List ℕ → Judged Cause (List ℕ)
+head_at b input = do
   head ← part Truncated 8 input
-  _ ← tried (fault_of_head o types head.0) head.1
+  _ ← tried (fault_of_head b head.0) head.1
   Passes head.0 head.1
 
 -- ---- bodies
@@ -136,45 +146,53 @@ entry_at w input = do
   page ← page_at w input
   Passes (record { pfn = word_pfn w; type = type_in_word w; page = page.0 }) page.1
 
-abbrev pub entries_at : Kind → ℕ → List ℕ → Judged Cause (List Entry)
-entries_at kind len input = do
+abbrev pub entries_at : Kind → ℕ → ℕ → List ℕ → Judged Cause (List Entry)
+entries_at kind top len input = do
   front ← part Truncated 8 input
   _ ← tried (fault_of_count len (le32 front.0 0)) front.1
   ws ← words_at (le32 front.0 0) front.1
-  _ ← tried (fault_of_words kind 0 ws.0) ws.1
+  _ ← tried (fault_of_words kind top ws.0) ws.1
   _ ← tried (fault_of_data len ws.0) ws.1
   each entry_at ws.0 ws.1
 
-abbrev pub pages_at : Kind → ℕ → List ℕ → Judged Cause Content
-pages_at kind len input = do
-  entries ← entries_at kind len input
+abbrev pub pages_at : Kind → ℕ → ℕ → List ℕ → Judged Cause Content
+pages_at kind top len input = do
+  entries ← entries_at kind top len input
   Passes (Frames entries.0) entries.1
 
 -- ---- a record
 
--- a body of this type; the records that only mark a place have none
-abbrev pub typed_at : Kind → Option RecordType → ℕ → List ℕ → Judged Cause Content
-typed_at kind (Some PageData) len input = pages_at kind len input
-typed_at kind (Some X86TscInfo) len input = plain_at tsc_says len input
-typed_at kind (Some HvmContext) len input = context_at len input
-typed_at kind (Some HvmParams) len input = params_at len input
-typed_at kind (Some X86CpuidPolicy) len input = plain_at leaves_say len input
-typed_at kind (Some X86MsrPolicy) len input = plain_at msrs_say len input
-typed_at kind _ len input = Passes Nothing input
+-- a body of this type, in a stream of this kind with frame numbers up to top; the records that only mark a place have none
+abbrev pub typed_at : Kind → ℕ → Option RecordType → ℕ → List ℕ → Judged Cause Content
+typed_at kind top (Some PageData) len input = pages_at kind top len input
+typed_at kind top (Some X86TscInfo) len input = plain_at tsc_says len input
+typed_at kind top (Some HvmContext) len input = context_at len input
+typed_at kind top (Some HvmParams) len input = params_at len input
+typed_at kind top (Some X86CpuidPolicy) len input = plain_at leaves_say len input
+typed_at kind top (Some X86MsrPolicy) len input = plain_at msrs_say len input
+typed_at kind top _ len input = Passes Nothing input
 
 -- an optional record says nothing, whatever its body
-abbrev pub body_at : Kind → ℕ → ℕ → List ℕ → Judged Cause Content
-body_at kind type len input = if is_optional type then plain_at (λ _. Nothing) len input else typed_at kind (type_of_number type) len input
+abbrev pub body_at : Kind → ℕ → ℕ → ℕ → List ℕ → Judged Cause Content
+body_at kind top type len input = if is_optional type then plain_at (λ _. Nothing) len input else typed_at kind top (type_of_number type) len input
 
--- at END, the whole guest
+-- a record: its head, its body, its padding
+unfoldable pub record_at : Before → List ℕ → Judged Cause StreamRecord
+record_at b input = do
+  head ← head_at b input
+  body ← body_at b.opening.kind b.top (le32 head.0 0) (le32 head.0 4) head.1
+  padding ← part Truncated (padding_len (le32 head.0 4)) body.1
+  Passes (record { type = le32 head.0 0; content = body.0 }) padding.1
+
+-- ---- the whole guest
+
+-- asked at END
 abbrev pub fault_at_end : ℕ → GuestOf → Option Cause
 fault_at_end type g = if type == 0 then fault_of_guest g else None
 
--- a record behind these records
-unfoldable pub record_at : Opening → List StreamRecord → List ℕ → Judged Cause StreamRecord
-record_at o records input = do
-  head ← head_at o (types_of records) input
-  _ ← tried (fault_at_end (le32 head.0 0) (mean o.kind records)) head.1
-  body ← body_at o.kind (le32 head.0 0) (le32 head.0 4) head.1
-  padding ← part Truncated (padding_len (le32 head.0 4)) body.1
-  Passes (record { type = le32 head.0 0; content = body.0 }) padding.1
+-- a record behind these records; the one that ends the image asks for a whole guest, which all of them mean
+unfoldable pub next_at : Opening → List StreamRecord → List ℕ → Judged Cause StreamRecord
+next_at o records input = do
+  r ← record_at (before o records) input
+  _ ← tried (fault_at_end r.0.type (mean o.kind (records ++ r.0 ∷ []))) r.1
+  Passes r.0 r.1

@@ -1,4 +1,3 @@
-pub mod Answer
 pub mod Judging
 pub mod Mean
 pub mod Record

@@ -17,7 +17,8 @@ pub record IsSoFar (g : GuestOf) : Type 0 where
   pub msrs : FitsPolicy 18 g.parts
   pub cut : (bytes : List ℕ) → maps.get g.parts context_key ≡ Some bytes → IsCut bytes
 
--- reading leads from one guest to another: the kind stays, and what was kept is kept
+-- reading leads from one guest to another: the kind and the top stay, and what was kept is kept
 pub record Grows (g h : GuestOf) : Type 0 where
   pub kind : h.kind ≡ g.kind
+  pub top : h.top ≡ g.top
   pub kept : IsSoFar g → IsSoFar h

@@ -40,11 +40,11 @@ AreEntries [] bytes es = (bytes ≡ []) × (es ≡ [])
 AreEntries (w ∷ ws) bytes es = (page : List ℕ) × (rest : List ℕ) × (e : Entry) × (others : List Entry) × (bytes ≡ page ++ rest) × (es ≡ e ∷ others) × IsEntry w page e × AreEntries ws rest others
 
 -- a word of a type that isn't reserved, whose frame lies inside
-abbrev pub IsGoodWord : Kind → ℕ → Type 0
-IsGoodWord kind word = (has_reserved_type word ≡ false) × (names_outside kind 0 word ≡ false)
+abbrev pub IsGoodWord : Kind → ℕ → ℕ → Type 0
+IsGoodWord kind top word = (has_reserved_type word ≡ false) × (names_outside kind top word ≡ false)
 
 -- a count, as many words, and the pages
-pub record IsBatch (kind : Kind) (body : List ℕ) (es : List Entry) : Type 0 where
+pub record IsBatch (kind : Kind) (top : ℕ) (body : List ℕ) (es : List Entry) : Type 0 where
   pub front : List ℕ
   pub words_bytes : List ℕ
   pub pages_bytes : List ℕ
@@ -52,22 +52,22 @@ pub record IsBatch (kind : Kind) (body : List ℕ) (es : List Entry) : Type 0 wh
   pub front_len : length front ≡ 8
   pub some : 0 < le32 front 0
   pub words_len : length words_bytes ≡ 8 * le32 front 0
-  pub good : All (IsGoodWord kind) (words (le32 front 0) words_bytes)
+  pub good : All (IsGoodWord kind top) (words (le32 front 0) words_bytes)
   pub entries : AreEntries (words (le32 front 0) words_bytes) pages_bytes es
 
 -- ---- records
 
--- a body of this type, and what it says
-pub data HasContent (kind : Kind) : ℕ → List ℕ → Content → Type 0 where
-  optional : (type : ℕ) (body : List ℕ) → 2 ^ 31 ≤ type → HasContent kind type body Nothing
-  ends : HasContent kind 0 [] Nothing
-  pages : (body : List ℕ) (es : List Entry) → IsBatch kind body es → HasContent kind 1 body (Frames es)
-  tsc : (body : List ℕ) → length body ≡ 24 → HasContent kind 8 body (Parts ((tsc_key, take 20 body) ∷ []))
-  context : (body : List ℕ) (o : ℕ) → scan body ≡ Ok o → HasContent kind 9 body (Parts ((context_key, take o body ++ replicate 8 0) ∷ []))
-  params : (body : List ℕ) (ps : List (PartKey × List ℕ)) → IsParams body ps → HasContent kind 0xA body (Parts ps)
-  static_end : HasContent kind 0x10 [] Nothing
-  leaves : (body : List ℕ) (ps : List (PartKey × List ℕ)) → AreLeaves body ps → length ps ≤ 65536 → HasContent kind 0x11 body (Policy 17 ps)
-  msrs : (body : List ℕ) (ps : List (PartKey × List ℕ)) → AreMsrs body ps → length ps ≤ 65536 → HasContent kind 0x12 body (Policy 18 ps)
+-- a body of this type in a stream of this kind, with frame numbers up to top, and what it says
+pub data HasContent (kind : Kind) (top : ℕ) : ℕ → List ℕ → Content → Type 0 where
+  optional : (type : ℕ) (body : List ℕ) → 2 ^ 31 ≤ type → HasContent kind top type body Nothing
+  ends : HasContent kind top 0 [] Nothing
+  pages : (body : List ℕ) (es : List Entry) → IsBatch kind top body es → HasContent kind top 1 body (Frames es)
+  tsc : (body : List ℕ) → length body ≡ 24 → HasContent kind top 8 body (Parts ((tsc_key, take 20 body) ∷ []))
+  context : (body : List ℕ) (o : ℕ) → scan body ≡ Ok o → HasContent kind top 9 body (Parts ((context_key, take o body ++ replicate 8 0) ∷ []))
+  params : (body : List ℕ) (ps : List (PartKey × List ℕ)) → IsParams body ps → HasContent kind top 0xA body (Parts ps)
+  static_end : HasContent kind top 0x10 [] Nothing
+  leaves : (body : List ℕ) (ps : List (PartKey × List ℕ)) → AreLeaves body ps → length ps ≤ 65536 → HasContent kind top 0x11 body (Policy 17 ps)
+  msrs : (body : List ℕ) (ps : List (PartKey × List ℕ)) → AreMsrs body ps → length ps ≤ 65536 → HasContent kind top 0x12 body (Policy 18 ps)
 
 -- what END asks of the guest: its context, and not too many frames
 pub record IsComplete (g : GuestOf) : Type 0 where
@@ -78,13 +78,13 @@ pub record IsComplete (g : GuestOf) : Type 0 where
 pub record Follows (o : Opening) (records : List StreamRecord) (r : StreamRecord) (bytes : List ℕ) : Type 0 where
   pub body : List ℕ
   pub is : IsRecord r.type body bytes
-  pub says : HasContent o.kind r.type body r.content
+  pub says : HasContent o.kind (mean o.kind records).top r.type body r.content
   pub small : length body ≤ 2 ^ 27
   pub built : is_built o.kind r.type ≡ true
   pub ordered : IsInOrder o.version o.kind (types_of records) r.type
   pub few : length records < most_records
   pub not_ended : is_ended records ≡ false
-  pub complete : r.type ≡ 0 → IsComplete (mean o.kind records)
+  pub complete : r.type ≡ 0 → IsComplete (mean o.kind (records ++ r ∷ []))
 
 -- these records, one after another, each in its place
 pub data Spells (o : Opening) : List ℕ → List StreamRecord → Type 0 where

@@ -1,9 +1,11 @@
 -- Judging an image: two headers, and records up to the one that ends it.
-use Rattle.std.specs.Prelude.{◌≡◌, ℕ, List, [], ◌∷◌, ◌++◌, length, Option, Some, None, Result, Ok, Err, ⊤, if◌then◌else◌}
+use Rattle.std.specs.Prelude.{◌≡◌, ℕ, List, [], ◌∷◌, ◌++◌, length, Option, Some, None, Result, Ok, Err, if◌then◌else◌}
 use Rattle.mig_bytes.specs.Fields.{le32, be32}
 use Rattle.mig_bytes.specs.Walk.{walk_end}
-use Rattle.mig_bytes.specs.Judged.{Judged, ◌>>=◌, part, tried}
+use Rattle.mig_bytes.specs.Judged.{Judged, ◌>>=◌, part, tried, placed, Gives}
 use Rattle.mig_bytes.specs.Judged.Judged.{Passes, Faulty}
+use Rattle.mig_bytes.specs.declared.part.Stop.{Stop}
+use Rattle.mig_bytes.specs.declared.part.Stop.TheVariants as stops
 use Rattle.mig_headers.specs.Headers.{fault_of_marker, fault_of_image, fault_of_domain, kind_of_number}
 use Rattle.mig_headers.specs.declared.kind.Kind.{Kind}
 use Rattle.mig_headers.specs.declared.fault.Cause.{Cause}
@@ -11,44 +13,13 @@ use Rattle.mig_headers.specs.declared.fault.Cause.TheVariants.{Truncated}
 use Rattle.mig_headers.specs.declared.fault.Place.{Place}
 use Rattle.mig_headers.specs.declared.fault.Place.TheVariants.{ImageHeader, DomainHeader, Record}
 use Rattle.mig_restore.specs.Record.{StreamRecord, is_ended}
-use Rattle.mig_restore.specs.Judging.{Opening, opening_of, record_at}
+use Rattle.mig_restore.specs.Judging.{Opening, opening_of, next_at}
 use Rattle.mig_restore.specs.Mean.{mean}
-use Rattle.mig_restore.specs.declared.part.StreamAnswer.{StreamAnswer}
-use Rattle.mig_restore.specs.declared.part.StreamAnswer.TheVariants.{Refused, ReadFault, Memory}
+use Rattle.mig_restore.specs.declared.answer.StreamAnswer.{StreamAnswer}
+use Rattle.mig_restore.specs.declared.answer.StreamAnswer.TheVariants.{Refused, ReadFault, Memory}
 use Rattle.mig_restore.specs.declared.read.Reading.{Reading}
 
--- records that stand whole and without fault, and the bytes behind them
-pub record Front : Type 0 where
-  pub records : List StreamRecord
-  pub rest : List ℕ
-
-abbrev pub front_with : List StreamRecord → Judged Cause StreamRecord → Option Front
-front_with records (Passes r rest) = Some (record { records = records ++ r ∷ []; rest = rest })
-front_with records (Faulty c rest) = None
-
--- one record more, up to the one that ends the image
-unfoldable pub one_more : Opening → Front → Option Front
-one_more o f = if is_ended f.records then None else front_with f.records (record_at o f.records f.rest)
-
-abbrev pub at_start : List ℕ → Front
-at_start rest = record { records = []; rest = rest }
-
--- as many records as stand whole and without fault
-unfoldable pub front_of : Opening → List ℕ → Front
-front_of o rest = walk_end (one_more o) (length rest) (at_start rest)
-
--- An image is accepted: what its headers say, its records, and what follows it. Or it is refused: the first fault, and
--- what follows the faulty part.
-pub data Verdict : Type 0 where
-  Accepts : Opening → List StreamRecord → List ℕ → Verdict
-  Refuses : Place → Cause → List ℕ → Verdict
-
-abbrev pub verdict_with : Opening → List StreamRecord → List ℕ → Judged Cause StreamRecord → Verdict
-verdict_with o records rest (Passes r after) = Accepts o records rest
-verdict_with o records rest (Faulty c after) = Refuses (Record (length records)) c after
-
-unfoldable pub verdict_of_front : Opening → Front → Verdict
-verdict_of_front o f = if is_ended f.records then Accepts o f.records f.rest else verdict_with o f.records f.rest (record_at o f.records f.rest)
+-- ---- the headers
 
 abbrev pub marker_at : List ℕ → Judged Cause (List ℕ)
 marker_at input = do
@@ -70,31 +41,81 @@ kind_at input = do
   _ ← tried (fault_of_domain header.0) header.1
   Passes (kind_of_number (le32 header.0 0)) header.1
 
-abbrev pub at_place : {X : Type 0} → Place → Judged Cause X → (X → List ℕ → Verdict) → Verdict
-at_place place (Passes x rest) next = next x rest
-at_place place (Faulty c rest) next = Refuses place c rest
+unfoldable pub opening_at : List ℕ → Judged (Place × Cause) Opening
+opening_at input = do
+  marker ← placed ImageHeader (marker_at input)
+  version ← placed ImageHeader (version_at marker.1)
+  kind ← placed DomainHeader (kind_at version.1)
+  Passes (opening_of version.0 kind.0) kind.1
 
--- the verdict on the records
-abbrev pub of_records : Opening → List ℕ → Verdict
-of_records o rest = verdict_of_front o (front_of o rest)
+-- ---- the records
 
-unfoldable pub verdict : List ℕ → Verdict
-verdict input =
-    at_place ImageHeader (marker_at input) (λ _ i. at_place ImageHeader (version_at i) (λ version j. at_place DomainHeader (kind_at j) (λ kind k. of_records (opening_of version kind) k)))
+-- records that stand whole and without fault, and the bytes behind them
+pub record Front : Type 0 where
+  pub records : List StreamRecord
+  pub rest : List ℕ
 
--- what a reader of images answered is the verdict, and what it left in the source is what the verdict leaves
-abbrev pub ReadsVerdict : Verdict → Option (List ℕ) → Result Reading StreamAnswer → Type 0
-ReadsVerdict v left (Ok reading) = (o : Opening) × (records : List StreamRecord) × (rest : List ℕ) × (v ≡ Accepts o records rest) × (left ≡ Some rest)
-    × (reading.guest ≡ mean o.kind records) × (reading.version ≡ o.version) × (reading.records ≡ length records)
-ReadsVerdict v left (Err (Refused place c)) = (rest : List ℕ) × (v ≡ Refuses place c rest) × (left ≡ Some rest)
-ReadsVerdict v left (Err ReadFault) = ⊤
-ReadsVerdict v left (Err Memory) = ⊤
+abbrev pub front_with : List StreamRecord → Judged Cause StreamRecord → Option Front
+front_with records (Passes r rest) = Some (record { records = records ++ r ∷ []; rest = rest })
+front_with records (Faulty c rest) = None
 
--- where the source tells its bytes
-abbrev pub ReadsAs : (List ℕ → Verdict) → Option (List ℕ) → Option (List ℕ) → Result Reading StreamAnswer → Type 0
-ReadsAs v None new result = ⊤
-ReadsAs v (Some input) new result = ReadsVerdict (v input) new result
+-- one record more, up to the one that ends the image
+unfoldable pub one_more : Opening → Front → Option Front
+one_more o f = if is_ended f.records then None else front_with f.records (next_at o f.records f.rest)
+
+abbrev pub at_start : List ℕ → Front
+at_start rest = record { records = []; rest = rest }
+
+-- as many records as stand whole and without fault
+unfoldable pub front_of : Opening → List ℕ → Front
+front_of o rest = walk_end (one_more o) (length rest) (at_start rest)
+
+-- ---- the image
+
+-- what an image says: its headers, and its records
+pub record ImageOf : Type 0 where
+  pub opening : Opening
+  pub records : List StreamRecord
+
+abbrev pub image_of : Opening → List StreamRecord → ImageOf
+image_of o records = record { opening = o; records = records }
+
+-- a front that ends is an image; behind one that doesn't, the next record is faulty
+unfoldable pub ended_at : Opening → Front → Judged (Place × Cause) ImageOf
+ended_at o f = if is_ended f.records then Passes (image_of o f.records) f.rest else (do
+  next ← placed (Record (length f.records)) (next_at o f.records f.rest)
+  Passes (image_of o f.records) next.1)
+
+abbrev pub records_at : Opening → List ℕ → Judged (Place × Cause) ImageOf
+records_at o rest = ended_at o (front_of o rest)
+
+unfoldable pub image_at : List ℕ → Judged (Place × Cause) ImageOf
+image_at input = do
+  opening ← opening_at input
+  records_at opening.0 opening.1
 
 -- the input is refused at this place, for this cause, and rest follows the faulty part
 abbrev pub IsRefused : List ℕ → Place → Cause → List ℕ → Type 0
-IsRefused input place cause rest = verdict input ≡ Refuses place cause rest
+IsRefused input place cause rest = image_at input ≡ Faulty (place, cause) rest
+
+-- ---- what a reader of images answers
+
+-- the place and the cause of a refusal, as one
+abbrev pub stop_of : StreamAnswer → Stop (Place × Cause)
+stop_of (Refused place cause) = stops.Refused (place, cause)
+stop_of ReadFault = stops.ReadFault
+stop_of Memory = stops.Memory
+
+abbrev pub or_stop : {X : Type 0} → Result X StreamAnswer → Result X (Stop (Place × Cause))
+or_stop (Ok x) = Ok x
+or_stop (Err answer) = Err (stop_of answer)
+
+-- a reading of an image: the guest that its records mean, its version, and the number of its records
+pub record IsReading (reading : Reading) (image : ImageOf) : Type 0 where
+  pub guest : reading.guest ≡ mean image.opening.kind image.records
+  pub version : reading.version ≡ image.opening.version
+  pub records : reading.records ≡ length image.records
+
+-- what a reader of images answered, and what it left in the source, is what judging gives
+abbrev pub ReadsImage : Option (List ℕ) → Option (List ℕ) → Result Reading StreamAnswer → Type 0
+ReadsImage old new result = Gives IsReading old new image_at (or_stop result)

@@ -199,7 +199,7 @@ fn meant(kind: Kind, in_stream: PageType) -> PageType
 
 /// Takes the page that goes with a word, where its type has data, and sets the frame.
 fn take_entry<S: Source>(src: &mut S, word: u64, guest: &mut Guest) -> Result<(), Stop<Cause>>
-    requires { IsGoodWord guest.old.kind word }
+    requires { IsGoodWord guest.old.kind guest.old.top word }
     ensures read { Gives (λ _ e. guest.new ≡ record guest.old { frames = put_entry guest.old.kind guest.old.frames e })
         (S.left src.old) (S.left src.new) (entry_at word) result }
     ensures grown { OnOk result (Grows guest.old guest.new) }
@@ -223,7 +223,7 @@ fn take_entry<S: Source>(src: &mut S, word: u64, guest: &mut Guest) -> Result<()
 
 /// Takes a page for each word that has one.
 fn take_entries<S: Source>(src: &mut S, list: &[u64], guest: &mut Guest) -> Result<(), Stop<Cause>>
-    requires { All (IsGoodWord guest.old.kind) list.now }
+    requires { All (IsGoodWord guest.old.kind guest.old.top) list.now }
     ensures read { Gives (λ _ es. guest.new ≡ record guest.old { frames = put_entries guest.old.kind guest.old.frames es })
         (S.left src.old) (S.left src.new) (each entry_at list.now) result }
     ensures grown { OnOk result (Grows guest.old guest.new) }
@@ -243,7 +243,7 @@ fn take_pages<S: Source>(
     guest: &mut Guest,
 ) -> Result<(), Stop<Cause>>
     requires { len ≤ 2 ^ 27 }
-    ensures read { Gives (λ _ c. guest.new ≡ put_content guest.old c) (S.left src.old) (S.left src.new) (pages_at guest.old.kind len) result }
+    ensures read { Gives (λ _ c. guest.new ≡ put_content guest.old c) (S.left src.old) (S.left src.new) (pages_at guest.old.kind guest.old.top len) result }
     ensures grown { OnOk result (Grows guest.old guest.new) }
     ensures faults { RisesOnReadFault (S.faults src.old) (S.faults src.new) result }
 {
@@ -254,7 +254,7 @@ fn take_pages<S: Source>(
         return Err(Stop::Refused(cause));
     }
     let list = take_words(alloc, src, count)?;
-    if let Some(cause) = words_fault(guest.kind(), 0, &list) {
+    if let Some(cause) = words_fault(guest.kind(), guest.top(), &list) {
         return Err(Stop::Refused(cause));
     }
     if u64::from(len) != data_len(&list) {
@@ -275,7 +275,7 @@ fn take_typed<S: Source>(
 ) -> Result<(), Stop<Cause>>
     requires small { len ≤ 2 ^ 27 }
     requires allowed { (record_row_of this).allows len ≡ true }
-    ensures read { Gives (λ _ c. guest.new ≡ put_content guest.old c) (S.left src.old) (S.left src.new) (typed_at guest.old.kind (Some this) len) result }
+    ensures read { Gives (λ _ c. guest.new ≡ put_content guest.old c) (S.left src.old) (S.left src.new) (typed_at guest.old.kind guest.old.top (Some this) len) result }
     ensures grown { OnOk result (Grows guest.old guest.new) }
     ensures faults { RisesOnReadFault (S.faults src.old) (S.faults src.new) result }
 {
@@ -299,7 +299,7 @@ pub(crate) fn take_body<S: Source>(
 ) -> Result<(), Stop<Cause>>
     requires small { head.len ≤ 2 ^ 27 }
     requires allowed { fault_of_length head.kind head.len ≡ None }
-    ensures read { Gives (λ _ c. guest.new ≡ put_content guest.old c) (S.left src.old) (S.left src.new) (body_at guest.old.kind head.kind head.len) result }
+    ensures read { Gives (λ _ c. guest.new ≡ put_content guest.old c) (S.left src.old) (S.left src.new) (body_at guest.old.kind guest.old.top head.kind head.len) result }
     ensures grown { OnOk result (Grows guest.old guest.new) }
     ensures faults { RisesOnReadFault (S.faults src.old) (S.faults src.new) result }
 {

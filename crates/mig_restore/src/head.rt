@@ -6,7 +6,7 @@ ghost use Rattle.mig_headers.specs.Headers.{unless_faulty};
 ghost use Rattle.mig_headers.specs.RecordTypes.{type_of_number};
 ghost use Rattle.mig_records.specs.Faults.{fault_of_length};
 ghost use Rattle.mig_records.specs.Heads.{head_in};
-ghost use Rattle.mig_restore.specs.Judging.{Opening, most_records, opening_of, is_supported_type, is_built, fault_of_built, fault_of_number, fault_of_fields, head_at};
+ghost use Rattle.mig_restore.specs.Judging.{Opening, Before, most_records, opening_of, is_supported_type, is_built, fault_of_built, fault_of_number, fault_of_fields, head_at};
 
 use mig_bytes::{Source, Stop, take_part};
 use mig_headers::{Cause, Kind, RecordType};
@@ -79,7 +79,7 @@ impl Seen {
     /// Judges the next record's head, and counts the record where nothing is wrong with it.
     #[tactic(auto, unfolding(crate::specs::Judging::fault_of_fields))]
     fn judge(&mut self, head: RecordHead) -> Result<(), Cause>
-        ensures judged { (o : Opening) (types : List ℕ) → IsSeen self.old o types → result ≡ unless_faulty (fault_of_fields o types head.kind head.len) tt }
+        ensures judged { (b : Before) → IsSeen self.old b.opening b.types → result ≡ unless_faulty (fault_of_fields b head.kind head.len) tt }
         ensures seen { OnOk result ((o : Opening) (types : List ℕ) → IsSeen self.old o types → IsSeen self.new o (types ++ head.kind ∷ [])) }
         ensures len { OnOk result (head.len ≤ 2 ^ 27) }
         ensures allowed { OnOk result (fault_of_length head.kind head.len ≡ None) }
@@ -108,8 +108,8 @@ impl Seen {
 
     /// Takes the next record's head.
     pub(crate) fn read_head<S: Source>(&mut self, src: &mut S) -> Result<RecordHead, Stop<Cause>>
-        ensures read { (o : Opening) (types : List ℕ) → IsSeen self.old o types →
-            Gives (λ h head. h ≡ head_in head) (S.left src.old) (S.left src.new) (head_at o types) result }
+        ensures read { (b : Before) → IsSeen self.old b.opening b.types →
+            Gives (λ h head. h ≡ head_in head) (S.left src.old) (S.left src.new) (head_at b) result }
         ensures seen { IfOk result (λ h. (o : Opening) (types : List ℕ) → IsSeen self.old o types → IsSeen self.new o (types ++ h.kind ∷ [])) }
         ensures len { IfOk result (λ h. h.len ≤ 2 ^ 27) }
         ensures allowed { IfOk result (λ h. fault_of_length h.kind h.len ≡ None) }

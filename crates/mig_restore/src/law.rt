@@ -9,19 +9,19 @@ ghost use Rattle.mig_restore.specs.Judging.{Opening};
 ghost use Rattle.mig_restore.specs.Record.{StreamRecord};
 ghost use Rattle.mig_restore.specs.Mean.{mean, last_entry, frame_in, entries_of, last_said};
 ghost use Rattle.mig_restore.specs.Spelled.{IsImage, Accepted};
-ghost use Rattle.mig_restore.specs.Stream.{verdict, IsRefused};
-ghost use Rattle.mig_restore.specs.Stream.Verdict.{Accepts};
+ghost use Rattle.mig_bytes.specs.Judged.Judged.{Passes};
+ghost use Rattle.mig_restore.specs.Stream.{image_at, image_of, IsRefused};
 
 /// What judging accepts is spelled as the format says.
 pub fn accepted_is_image()
     ensures { (input : List ℕ) (o : Opening) (records : List StreamRecord) (rest : List ℕ) →
-        verdict input ≡ Accepts o records rest → IsImage input o records rest }
+        image_at input ≡ Passes (image_of o records) rest → IsImage input o records rest }
 {}
 
 /// What is spelled as the format says is accepted.
 pub fn image_is_accepted()
     ensures { (input : List ℕ) (o : Opening) (records : List StreamRecord) (rest : List ℕ) →
-        IsImage input o records rest → verdict input ≡ Accepts o records rest }
+        IsImage input o records rest → image_at input ≡ Passes (image_of o records) rest }
 {}
 
 /// For every input either a front is an accepted stream, or there is a refusal.

@@ -10,17 +10,17 @@
 //! first fault with its place, and has taken just the accepted front, or all up to the end of the faulty part.
 #![tactic(auto)]
 
+mod answer;
 mod body;
 mod head;
 mod law;
-mod part;
 mod read;
 #[cfg(test)]
 mod tests;
 
+pub use answer::StreamAnswer;
 pub use law::{
     accepted_is_image, accepted_or_refused, image_is_accepted, last_content_decides,
     last_entry_decides, never_both, one_front,
 };
-pub use part::StreamAnswer;
 pub use read::{Reading, read_image};

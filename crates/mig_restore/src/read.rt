@@ -1,4 +1,4 @@
-ghost use Rattle.std.specs.Prelude.{◌≡◌, ◌<◌, ◌+◌, ◌^◌, ◌==◌, ◌∷◌, [], ◌++◌, List, ⊤, true, None, IfOk, IfNone, OnOk, IsErrOf};
+ghost use Rattle.std.specs.Prelude.{◌≡◌, ℕ, ◌<◌, ◌+◌, ◌^◌, ◌==◌, ◌∷◌, [], ◌++◌, List, ⊤, true, None, IfOk, IfNone, OnOk, IsErrOf};
 ghost use Rattle.mig_bytes.specs.Bytes.{padding_len};
 ghost use Rattle.mig_bytes.specs.Faults.{RisesOnReadFault};
 ghost use Rattle.mig_bytes.specs.Judged.{Gives, part};
@@ -7,17 +7,16 @@ ghost use Rattle.mig_headers.specs.declared.fault.Cause.TheVariants.{Truncated};
 ghost use Rattle.mig_headers.specs.declared.kind.Kind.TheVariants.{Hvm};
 ghost use Rattle.mig_guest.specs.Frames.{IsSized};
 ghost use Rattle.mig_pvtables.specs.Whole.{IsWhole, fault_of_guest};
-ghost use Rattle.mig_restore.specs.Answer.{RisesOnStreamFault};
 ghost use Rattle.mig_restore.specs.Mean.{mean, put_record};
 ghost use Rattle.mig_restore.specs.Record.{StreamRecord, types_of};
-ghost use Rattle.mig_restore.specs.Judging.{Opening, most_records, opening_of, record_at};
+ghost use Rattle.mig_restore.specs.Judging.{Opening, Before, most_records, is_built, opening_of, record_at, next_at};
 ghost use Rattle.mig_restore.specs.Seen.{IsSeen};
 ghost use Rattle.mig_restore.specs.SoFar.{Grows};
-ghost use Rattle.mig_restore.specs.Stream.{ReadsAs, of_records, verdict, marker_at, version_at, kind_at};
+ghost use Rattle.mig_restore.specs.Stream.{or_stop, ReadsImage, IsReading, image_at, records_at, opening_at, marker_at, version_at, kind_at};
 
+use crate::answer::{StreamAnswer, answer};
 use crate::body::take_body;
 use crate::head::Seen;
-use crate::part::{StreamAnswer, placed};
 use mig_bytes::{Source, Stop, pad_len, take_part};
 use mig_guest::{Guest, PartKey};
 use mig_headers::{Cause, DomainHeader, ImageHeader, Kind, Place};
@@ -67,8 +66,30 @@ fn guest_fault(guest: &Guest) -> Option<Cause>
     None
 }
 
-/// Takes a record, and keeps what it says. Says whether it ends the image.
-pub(crate) fn read_record<S: Source>(
+/// Takes a record, and keeps what it says. Answers its type.
+fn take_record<S: Source>(
+    alloc: Global,
+    src: &mut S,
+    seen: &mut Seen,
+    guest: &mut Guest,
+) -> Result<u32, Stop<Cause>>
+    ensures read { (b : Before) → IsSeen seen.old b.opening b.types → guest.old.kind ≡ b.opening.kind → guest.old.top ≡ b.top →
+        Gives (λ type r. (guest.new ≡ put_record guest.old r) × (type ≡ r.type)) (S.left src.old) (S.left src.new) (record_at b) result }
+    ensures seen { IfOk result (λ type. (o : Opening) (types : List ℕ) → IsSeen seen.old o types → IsSeen seen.new o (types ++ type ∷ [])) }
+    ensures grown { OnOk result (Grows guest.old guest.new) }
+    ensures built { IfOk result (λ type. is_built seen.old.kind type ≡ true) }
+    ensures counted { OnOk result ((seen.new.records ≡ seen.old.records + 1) × (seen.old.records < most_records)) }
+    ensures kind { seen.new.kind ≡ seen.old.kind }
+    ensures faults { RisesOnReadFault (S.faults src.old) (S.faults src.new) result }
+{
+    let head = seen.read_head(src)?;
+    take_body(alloc, src, head, guest)?;
+    read_padding(src, head.len)?;
+    Ok(head.kind)
+}
+
+/// Takes the next record, and judges the whole guest where it ends the image. Says whether it does.
+pub(crate) fn read_next<S: Source>(
     alloc: Global,
     src: &mut S,
     seen: &mut Seen,
@@ -76,23 +97,20 @@ pub(crate) fn read_record<S: Source>(
 ) -> Result<bool, Stop<Cause>>
     ensures read { (o : Opening) (records : List StreamRecord) → IsSeen seen.old o (types_of records) → guest.old ≡ mean o.kind records →
         Gives (λ over r. (guest.new ≡ put_record guest.old r) × IsSeen seen.new o (types_of (records ++ r ∷ [])) × (over ≡ (r.type == 0)))
-        (S.left src.old) (S.left src.new) (record_at o records) result }
+        (S.left src.old) (S.left src.new) (next_at o records) result }
     ensures grown { OnOk result (Grows guest.old guest.new) }
-    ensures whole { IfOk result (λ over. over ≡ true → (guest.new ≡ guest.old) × (fault_of_guest guest.old ≡ None) × IsSized guest.old.frames × (seen.old.kind ≡ Hvm)) }
+    ensures whole { IfOk result (λ over. over ≡ true → (fault_of_guest guest.new ≡ None) × IsSized guest.new.frames × (seen.old.kind ≡ Hvm)) }
     ensures counted { OnOk result ((seen.new.records ≡ seen.old.records + 1) × (seen.old.records < most_records)) }
     ensures kind { seen.new.kind ≡ seen.old.kind }
     ensures faults { RisesOnReadFault (S.faults src.old) (S.faults src.new) result }
 {
-    let head = seen.read_head(src)?;
-    if head.kind == END {
-        return match guest_fault(guest) {
-            Some(cause) => Err(Stop::Refused(cause)),
-            None => Ok(true),
-        };
+    if take_record(alloc, src, seen, guest)? != END {
+        return Ok(false);
     }
-    take_body(alloc, src, head, guest)?;
-    read_padding(src, head.len)?;
-    Ok(false)
+    match guest_fault(guest) {
+        Some(cause) => Err(Stop::Refused(cause)),
+        None => Ok(true),
+    }
 }
 
 /// Reads records up to the one that ends the image.
@@ -101,16 +119,16 @@ fn read_records<S: Source>(
     src: &mut S,
     version: u32,
     kind: Kind,
-) -> Result<Reading, StreamAnswer>
-    ensures read { ReadsAs (of_records (opening_of version kind)) (S.left src.old) (S.left src.new) result }
+) -> Result<Reading, Stop<(Place, Cause)>>
+    ensures read { Gives IsReading (S.left src.old) (S.left src.new) (records_at (opening_of version kind)) result }
     ensures whole { IfOk result (λ reading. IsWhole reading.guest) }
-    ensures faults { RisesOnStreamFault (S.faults src.old) (S.faults src.new) result }
+    ensures faults { RisesOnReadFault (S.faults src.old) (S.faults src.new) result }
 {
     let mut seen = Seen::new(version, kind);
     let mut guest = Guest::new(alloc, kind);
     'records: loop {
         let number = seen.records;
-        match read_record(alloc, src, &mut seen, &mut guest) {
+        match read_next(alloc, src, &mut seen, &mut guest) {
             Ok(over) => {
                 if over {
                     let records = seen.records;
@@ -121,7 +139,7 @@ fn read_records<S: Source>(
                     });
                 }
             }
-            Err(stop) => return Err(placed(Place::Record(u64::from(number)), stop)),
+            Err(stop) => return Err(stop.at(Place::Record(u64::from(number)))),
         }
     }
 }
@@ -168,24 +186,45 @@ fn read_kind<S: Source>(src: &mut S) -> Result<Kind, Stop<Cause>>
     }
 }
 
+/// Takes both headers: the version and the kind.
+fn read_opening<S: Source>(src: &mut S) -> Result<(u32, Kind), Stop<(Place, Cause)>>
+    ensures read { Gives (λ read opening. opening ≡ opening_of read.0 read.1) (S.left src.old) (S.left src.new) opening_at result }
+    ensures faults { RisesOnReadFault (S.faults src.old) (S.faults src.new) result }
+    ensures takes_no_memory { ¬ IsErrOf result Memory }
+{
+    if let Err(stop) = read_marker(src) {
+        return Err(stop.at(Place::ImageHeader));
+    }
+    let version = match read_version(src) {
+        Ok(version) => version,
+        Err(stop) => return Err(stop.at(Place::ImageHeader)),
+    };
+    match read_kind(src) {
+        Ok(kind) => Ok((version, kind)),
+        Err(stop) => Err(stop.at(Place::DomainHeader)),
+    }
+}
+
+/// Takes the headers and the records.
+fn read_parts<S: Source>(alloc: Global, src: &mut S) -> Result<Reading, Stop<(Place, Cause)>>
+    ensures read { Gives IsReading (S.left src.old) (S.left src.new) image_at result }
+    ensures whole { IfOk result (λ reading. IsWhole reading.guest) }
+    ensures faults { RisesOnReadFault (S.faults src.old) (S.faults src.new) result }
+{
+    let (version, kind) = read_opening(src)?;
+    read_records(alloc, src, version, kind)
+}
+
 /// Reads an image from its marker to its END record, and leaves what follows it unread. `Refused` has the place and the
 /// cause of the first fault, and then the source was read up to the end of the faulty part; `ReadFault` comes only where
 /// a read failed.
 pub fn read_image<S: Source>(alloc: Global, src: &mut S) -> Result<Reading, StreamAnswer>
-    ensures read { ReadsAs verdict (S.left src.old) (S.left src.new) result }
+    ensures read { ReadsImage (S.left src.old) (S.left src.new) result }
     ensures whole { IfOk result (λ reading. IsWhole reading.guest) }
-    ensures faults { RisesOnStreamFault (S.faults src.old) (S.faults src.new) result }
+    ensures faults { RisesOnReadFault (S.faults src.old) (S.faults src.new) (or_stop result) }
 {
-    if let Err(stop) = read_marker(src) {
-        return Err(placed(Place::ImageHeader, stop));
+    match read_parts(alloc, src) {
+        Ok(reading) => Ok(reading),
+        Err(stop) => Err(answer(stop)),
     }
-    let version = match read_version(src) {
-        Ok(version) => version,
-        Err(stop) => return Err(placed(Place::ImageHeader, stop)),
-    };
-    let kind = match read_kind(src) {
-        Ok(kind) => kind,
-        Err(stop) => return Err(placed(Place::DomainHeader, stop)),
-    };
-    read_records(alloc, src, version, kind)
 }

@@ -115,8 +115,8 @@ module _ (f : Frame) (fine : Fine f) where
   small : frame_word_in f < 2 ^ 64
   small = omega (arith, least f.1.type, fine.low)
 
-  good_word : IsGoodWord Hvm (frame_word_in f)
-  good_word = (not_reserved f.1.type (frame_word_in f) typed, not_high (word_pfn (frame_word_in f)) f.0 numbered fine.low)
+  good_word : (top : ℕ) → IsGoodWord Hvm top (frame_word_in f)
+  good_word top = (not_reserved f.1.type (frame_word_in f) typed, not_high (word_pfn (frame_word_in f)) f.0 numbered fine.low)
 
   has_data : word_has_data (frame_word_in f) ≡ type_has_data f.1.type
   has_data = ap (λ n. some_has_data (type_of n)) typed ∙ ap some_has_data (known f.1.type)
@@ -164,9 +164,9 @@ words_are (f ∷ fs) h =
     ap (λ x. x ∷ map (λ k. le64 (words_of (f ∷ fs)) (8 * k)) (range_with_len 1 (length fs))) (le64_first (frame_word_in f) (words_of fs) (small f (All-head Fine f fs h)))
     ∙ ap (λ l. frame_word_in f ∷ l) (shifted (λ k. le64 (words_of (f ∷ fs)) (8 * k)) (λ k. le64 (words_of fs) (8 * k)) 0 (length fs) (le64_next (frame_word_in f) (words_of fs)) ∙ words_are fs (All-tail Fine f fs h))
 
-good_words : (fs : List Frame) → All Fine fs → All (IsGoodWord Hvm) (map frame_word_in fs)
-good_words [] h = All-nil (IsGoodWord Hvm)
-good_words (f ∷ fs) h = All-cons (IsGoodWord Hvm) (frame_word_in f) (map frame_word_in fs) (good_word f (All-head Fine f fs h)) (good_words fs (All-tail Fine f fs h))
+good_words : (top : ℕ) (fs : List Frame) → All Fine fs → All (IsGoodWord Hvm top) (map frame_word_in fs)
+good_words top [] h = All-nil (IsGoodWord Hvm top)
+good_words top (f ∷ fs) h = All-cons (IsGoodWord Hvm top) (frame_word_in f) (map frame_word_in fs) (good_word f (All-head Fine f fs h) top) (good_words top fs (All-tail Fine f fs h))
 
 are_entries : (fs : List Frame) → All Fine fs → AreEntries (map frame_word_in fs) (pages_of fs) (map entry_of fs)
 are_entries [] h = (refl, refl)
@@ -175,9 +175,9 @@ are_entries (f ∷ fs) h = (page_in f, pages_of fs, entry_of f, map entry_of fs,
 abbrev front : List Frame → List ℕ
 front fs = little_bytes 4 (length fs) ++ replicate 4 0
 
-is_batch : (fs : List Frame) → All Fine fs → 0 < length fs → length fs ≤ 1024 → IsBatch Hvm (body_of fs) (map entry_of fs)
+is_batch : (top : ℕ) (fs : List Frame) → All Fine fs → 0 < length fs → length fs ≤ 1024 → IsBatch Hvm top (body_of fs) (map entry_of fs)
 unfolding body_of
-is_batch fs h some most =
+is_batch top fs h some most =
     let count : le32 (front fs) 0 ≡ length fs = le32_first (length fs) (replicate 4 0) (omega arith) in
     let ws : words (le32 (front fs) 0) (words_of fs) ≡ map frame_word_in fs = ap (λ n. words n (words_of fs)) count ∙ words_are fs h in
     record {
@@ -188,7 +188,7 @@ is_batch fs h some most =
       front_len = refl;
       some = subst (λ n. 0 < n) (sym count) some;
       words_len = words_len fs ∙ ap (λ n. 8 * n) (sym count);
-      good = subst (All (IsGoodWord Hvm)) (sym ws) (good_words fs h);
+      good = subst (All (IsGoodWord Hvm top)) (sym ws) (good_words top fs h);
       entries = subst (λ l. AreEntries l (pages_of fs) (map entry_of fs)) (sym ws) (are_entries fs h);
     }
 
@@ -207,7 +207,7 @@ batch_fits fs n all h =
     let size = batch_len fs n h in
     let fine = All-take Fine 1024 (drop (1024 * n) fs) (All-drop Fine (1024 * n) fs all) in
     record {
-      says = pages_say (body_of b) (map entry_of b) (is_batch b fine size.0 size.1);
+      says = λ top. pages_say (body_of b) (map entry_of b) (is_batch top b fine size.0 size.1);
       short = omega (arith, body_len b, words_len b, pages_len b fine, size.1);
     }
 

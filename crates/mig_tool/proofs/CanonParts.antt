@@ -188,21 +188,21 @@ few_params g (p ∷ ps) h all = omega (arith, few_behind g p ps h all)
 
 -- ---- bodies
 
--- a body of this type says this, and isn't too long
+-- a body of this type says this, whatever numbers frames have, and isn't too long
 pub record Fits (type : ℕ) (body : List ℕ) (c : Content) : Type 0 where
-  pub says : HasContent Hvm type body c
+  pub says : (top : ℕ) → HasContent Hvm top type body c
   pub short : length body ≤ 2 ^ 27
 
 module _ (g : GuestOf) (whole : IsWhole g) where
   pub leaves_fit : Fits 0x11 (leaves_body (of_code 17 g)) (Policy 17 (of_code 17 g))
   leaves_fit =
       let ps = of_code 17 g in let all = parts_are g 17 whole in
-      record { says = leaves_say (leaves_body ps) ps (are_leaves g ps all) whole.leaves; short = omega (arith, leaves_len g ps all, whole.leaves) }
+      record { says = λ top. leaves_say (leaves_body ps) ps (are_leaves g ps all) whole.leaves; short = omega (arith, leaves_len g ps all, whole.leaves) }
 
   pub msrs_fit : Fits 0x12 (msrs_body (of_code 18 g)) (Policy 18 (of_code 18 g))
   msrs_fit =
       let ps = of_code 18 g in let all = parts_are g 18 whole in
-      record { says = msrs_say (msrs_body ps) ps (are_msrs g ps all) whole.msrs; short = omega (arith, msrs_len g ps all, whole.msrs) }
+      record { says = λ top. msrs_say (msrs_body ps) ps (are_msrs g ps all) whole.msrs; short = omega (arith, msrs_len g ps all, whole.msrs) }
 
   pub params_fit : Fits 0xA (params_body (of_code 10 g)) (Parts (of_code 10 g))
   params_fit =
@@ -210,7 +210,7 @@ module _ (g : GuestOf) (whole : IsWhole g) where
       let few : length ps ≤ 4096 = few_params g ps (is_sorted-where_key part_cmp (λ k. k.code == 10) (maps.entries g.parts) (maps.entries_sorted g.parts)) all in
       let size : length (params_body ps) ≡ 8 + length (flat_map param_bytes ps) = length-append (little_bytes 4 (length ps) ++ replicate 4 0) (flat_map param_bytes ps) in
       record {
-        says = params_say (params_body ps) ps (record {
+        says = λ top. params_say (params_body ps) ps (record {
           front = little_bytes 4 (length ps) ++ replicate 4 0;
           pairs = flat_map param_bytes ps;
           whole = refl;
@@ -227,8 +227,8 @@ module _ (g : GuestOf) (whole : IsWhole g) where
       let size : length (tsc_body p) ≡ 24 = omega (arith, length-append p.1 (replicate 4 0), t.1) in
       let front : take 20 (tsc_body p) ≡ p.1 = take_at p.1 (replicate 4 0) 20 t.1 in
       record {
-        says = subst (λ (k : PartKey). HasContent Hvm 8 (tsc_body p) (Parts ((k, p.1) ∷ []))) (sym t.0)
-            (subst (λ (v : List ℕ). HasContent Hvm 8 (tsc_body p) (Parts ((tsc_key, v) ∷ []))) front (tsc_says (tsc_body p) size));
+        says = λ top. subst (λ (k : PartKey). HasContent Hvm top 8 (tsc_body p) (Parts ((k, p.1) ∷ []))) (sym t.0)
+            (subst (λ (v : List ℕ). HasContent Hvm top 8 (tsc_body p) (Parts ((tsc_key, v) ∷ []))) front (tsc_says (tsc_body p) size));
         short = omega (arith, size);
       }
 
@@ -242,8 +242,8 @@ module _ (g : GuestOf) (whole : IsWhole g) where
       let same : it.0 ≡ p.1 = same_bytes it.0 p.1 (sym it.1 ∙ ap (maps.get g.parts) (sym t.0) ∙ one.there) in
       let cut : IsCut p.1 = subst IsCut same it.2 in
       record {
-        says = subst (λ (k : PartKey). HasContent Hvm 9 p.1 (Parts ((k, p.1) ∷ []))) (sym t.0)
-            (subst (λ (v : List ℕ). HasContent Hvm 9 p.1 (Parts ((context_key, v) ∷ []))) cut.2 (context_says p.1 cut.0 cut.1));
+        says = λ top. subst (λ (k : PartKey). HasContent Hvm top 9 p.1 (Parts ((k, p.1) ∷ []))) (sym t.0)
+            (subst (λ (v : List ℕ). HasContent Hvm top 9 p.1 (Parts ((context_key, v) ∷ []))) cut.2 (context_says p.1 cut.0 cut.1));
         short = t.1;
       }
 

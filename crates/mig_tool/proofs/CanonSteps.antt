@@ -131,11 +131,11 @@ module _ {bodies : List Record} {g : GuestOf} {settled : Bool} {most : ℕ} (s :
         ∙ ap (λ b. fault_after 3 Hvm (earlier_with types settled (settled && some_earlier types content_records) b) type) s.no_vcpu
         ∙ step.ordered (some_earlier types content_records) (some_earlier types (X86PvInfo ∷ [])) (some_earlier types (X86PvP2mFrames ∷ []))
 
-    follows : (type ≡ 0 → IsComplete (mean Hvm s.records)) → Follows opening s.records this (spelled type body)
+    follows : (type ≡ 0 → IsComplete (mean Hvm (s.records ++ this ∷ []))) → Follows opening s.records this (spelled type body)
     follows complete = record {
       body = body;
       is = is_record type body step.small fits.short;
-      says = fits.says;
+      says = fits.says (mean Hvm s.records).top;
       small = fits.short;
       built = step.built;
       ordered = (faultless_is_in_order 3 Hvm (types_of s.records) type).0 in_place;
@@ -144,13 +144,13 @@ module _ {bodies : List Record} {g : GuestOf} {settled : Bool} {most : ℕ} (s :
       complete = complete;
     }
 
-    pub spells_more : (type ≡ 0 → IsComplete (mean Hvm s.records)) → Spells opening (text_of (bodies ++ (type, body) ∷ [])) (s.records ++ this ∷ [])
+    pub spells_more : (type ≡ 0 → IsComplete (mean Hvm (s.records ++ this ∷ []))) → Spells opening (text_of (bodies ++ (type, body) ∷ [])) (s.records ++ this ∷ [])
     spells_more complete = subst (λ l. Spells opening l (s.records ++ this ∷ [])) (sym (text_more bodies type body)) (one_more (text_of bodies) s.records this (spelled type body) s.spells (follows complete))
 
     pub means_more : mean Hvm (s.records ++ this ∷ []) ≡ put_content g c
     means_more = one_more_record Hvm s.records this ∙ ap (λ h. put_content h c) s.means
 
-    zero_not : nat_eq type 0 ≡ false → type ≡ 0 → IsComplete (mean Hvm s.records)
+    zero_not : nat_eq type 0 ≡ false → type ≡ 0 → IsComplete (mean Hvm (s.records ++ this ∷ []))
     zero_not other e = let no : nat_eq type 0 ≡ true = ap (λ n. nat_eq n 0) e in absurd (clash (sym no ∙ other))
       where
         clash : true ≡ false → ⊥

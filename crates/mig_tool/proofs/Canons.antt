@@ -68,10 +68,10 @@ regroup : (a b c d e f : List Record) → ((((a ++ b) ++ c) ++ d) ++ e) ++ f ≡
 regroup a b c d e f = append_assoc (((a ++ b) ++ c) ++ d) e f ∙ append_assoc ((a ++ b) ++ c) d (e ++ f) ∙ append_assoc (a ++ b) c (d ++ (e ++ f)) ∙ append_assoc a b (c ++ (d ++ (e ++ f)))
 
 nothing_fits : Fits 0x10 [] Nothing
-nothing_fits = record { says = static_end; short = omega arith }
+nothing_fits = record { says = λ top. static_end; short = omega arith }
 
 end_fits : Fits 0 [] Nothing
-end_fits = record { says = ends; short = omega arith }
+end_fits = record { says = λ top. ends; short = omega arith }
 
 module _ (g : GuestOf) (whole : IsWhole g) where
   abbrev n : ℕ
@@ -125,13 +125,13 @@ module _ (g : GuestOf) (whole : IsWhole g) where
   abbrev records : List StreamRecord
   records = before_end.records ++ record { type = 0; content = Nothing } ∷ []
 
-  is_complete : IsComplete (mean Hvm before_end.records)
-  is_complete = subst IsComplete (sym (before_end.means ∙ whole_again g whole)) (complete g whole)
+  means_guest : g ≡ mean Hvm records
+  means_guest = sym (means_more before_end end_step end_fits few_records ∙ whole_again g whole)
 
   spelled_all : Spells opening (text_of (bodies_of g)) records
   spelled_all =
       subst (λ b. Spells opening (text_of b) records) (regroup (static_bodies g) frames tscs params contexts ((0, []) ∷ []))
-      (spells_more before_end end_step end_fits few_records (λ e. is_complete))
+      (spells_more before_end end_step end_fits few_records (λ e. subst IsComplete means_guest (complete g whole)))
 
   ended : is_ended records ≡ true
   ended = ended_more before_end.records (record { type = 0; content = Nothing }) ∙ or_true (is_ended before_end.records)
@@ -154,9 +154,6 @@ module _ (g : GuestOf) (whole : IsWhole g) where
     spelled = spelled_all;
     ended = ended;
   }
-
-  means_guest : g ≡ mean Hvm records
-  means_guest = sym (means_more before_end end_step end_fits few_records ∙ whole_again g whole)
 
 pub canon_is_accepted : (g : GuestOf) (rest : List ℕ) → IsWhole g → Accepted (canon g ++ rest) g rest
 canon_is_accepted g rest whole = record { opening = opening; records = records g whole; image = canon_is_image g whole rest; means = means_guest g whole }

@@ -16,8 +16,8 @@ use Rattle.mig_pvtables.specs.Whole.{IsWhole}
 use Rattle.mig_restore.specs.Judging.{Opening}
 use Rattle.mig_restore.specs.Mean.{mean}
 use Rattle.mig_restore.specs.Record.{StreamRecord}
-use Rattle.mig_restore.specs.Stream.{ReadsAs, verdict}
-use Rattle.mig_restore.specs.Stream.Verdict.{Accepts}
+use Rattle.mig_bytes.specs.Judged.Judged.{Passes}
+use Rattle.mig_restore.specs.Stream.{ImageOf, IsReading, ReadsImage, image_at}
 use Rattle.mig_restore.specs.declared.read.Reading.{Reading}
 use Rattle.mig_restore.proofs.Converse.{never_both}
 use Rattle.mig_restore.proofs.Laws.{accepted_is_image}
@@ -35,8 +35,8 @@ use Rattle.mig_tool.specs.Answers.{restored_text, Written, Done, DonePart, Comes
 use Rattle.mig_tool.specs.declared.command.Command.{Command}
 use Rattle.mig_tool.specs.declared.command.Command.TheVariants.{Normalise, Restore, Verify}
 use Rattle.mig_tool.specs.declared.outcome.Summary.{Summary}
-use Rattle.mig_restore.specs.declared.part.StreamAnswer.{StreamAnswer}
-use Rattle.mig_restore.specs.declared.part.StreamAnswer.TheVariants as answers
+use Rattle.mig_restore.specs.declared.answer.StreamAnswer.{StreamAnswer}
+use Rattle.mig_restore.specs.declared.answer.StreamAnswer.TheVariants as answers
 use Rattle.mig_restore.proofs.Meaning.{mean_kind}
 use Rattle.std.specs.FinMap as maps
 use Rattle.mig_tool.specs.Report.{ok_line}
@@ -139,49 +139,49 @@ input_rose status before now h is = let r = subst (λ s. InputRises s before now
 
 -- ---- what a reading and a writing come to
 
-accepted_front : (input rest : List ℕ) (o : Opening) (records : List StreamRecord) (guest : GuestOf) → verdict input ≡ Accepts o records rest → guest ≡ mean o.kind records → Accepted input guest rest
-accepted_front input rest o records guest accepts is = record { opening = o; records = records; image = accepted_is_image input o records rest accepts; means = is }
+accepted_front : (input rest : List ℕ) (image : ImageOf) (reading : Reading) → image_at input ≡ Passes image rest → IsReading reading image → Accepted input reading.guest rest
+accepted_front input rest image reading accepts is = record { opening = image.opening; records = image.records; image = accepted_is_image input image.opening image.records rest accepts; means = is.guest }
 
-pub came : (told left : Option (List ℕ)) (w : Written) (reading : Reading) (r : Result (Unit {0}) WriteFailed) (outcome : Outcome) → ReadsAs verdict told left (Ok reading) → IsWhole reading.guest → Puts (canon reading.guest) w.out_old w.out_new r
+pub came : (told left : Option (List ℕ)) (w : Written) (reading : Reading) (r : Result (Unit {0}) WriteFailed) (outcome : Outcome) → ReadsImage told left (Ok reading) → IsWhole reading.guest → Puts (canon reading.guest) w.out_old w.out_new r
     → outcome ≡ wrote r → ComesOf Normalise told left w outcome
 came None left w reading r outcome h whole put is = tt
-came (Some input) left w reading (Ok u) outcome (o, records, rest, accepts, left_is, guest, version, count) whole put is =
+came (Some input) left w reading (Ok u) outcome (image, rest, accepts, left_is, is_read) whole put is =
     subst (Comes Normalise input left w) (sym is)
-    (record { guest = reading.guest; rest = rest; accepted = accepted_front input rest o records reading.guest accepts guest; left_is = left_is; wrote = put; whole = whole; kept = λ more. canon_is_accepted reading.guest more whole; alone = λ other is_whole. canon_is_one_to_one other reading.guest is_whole whole })
-came (Some input) left w reading (Err e) outcome (o, records, rest, accepts, left_is, guest, version, count) whole put is =
-    subst (Comes Normalise input left w) (sym is) (record { guest = reading.guest; rest = rest; accepted = accepted_front input rest o records reading.guest accepts guest; left_is = left_is; wrote = put })
+    (record { guest = reading.guest; rest = rest; accepted = accepted_front input rest image reading accepts is_read; left_is = left_is; wrote = put; whole = whole; kept = λ more. canon_is_accepted reading.guest more whole; alone = λ other is_whole. canon_is_one_to_one other reading.guest is_whole whole })
+came (Some input) left w reading (Err e) outcome (image, rest, accepts, left_is, is_read) whole put is =
+    subst (Comes Normalise input left w) (sym is) (record { guest = reading.guest; rest = rest; accepted = accepted_front input rest image reading accepts is_read; left_is = left_is; wrote = put })
 
 -- a base that may be given fits every whole guest
 pub base_fits : (guest : GuestOf) (base : ℕ) → IsWhole guest → IsBase base → IsBaseOutside guest base → ⊥
 base_fits guest base whole range (inl zero) = omega (arith, zero, range.0)
 base_fits guest base whole range (inr above) = omega (arith, above, range.1, whole.few)
 
-pub restored : (told left : Option (List ℕ)) (w : Written) (reading : Reading) (base : ℕ) (outcome : Outcome) → ReadsAs verdict told left (Ok reading) → IsWhole reading.guest → IsBase base
+pub restored : (told left : Option (List ℕ)) (w : Written) (reading : Reading) (base : ℕ) (outcome : Outcome) → ReadsImage told left (Ok reading) → IsWhole reading.guest → IsBase base
     → (outcome ≡ outcomes.Done → Appends w.out_old w.out_new (restored_text base reading.guest)) → (outcome ≡ outcomes.WriteFault → AppendsPart w.out_old w.out_new (restored_text base reading.guest))
     → (outcome ≡ outcomes.Done) ⊎ ((outcome ≡ outcomes.WriteFault) ⊎ (outcome ≡ outcomes.Memory)) → ComesOf (Restore base) told left w outcome
 restored None left w reading base outcome h whole range done part answers = tt
-restored (Some input) left w reading base outcome (o, records, rest, accepts, left_is, guest, version, count) whole range done part (inl is) =
+restored (Some input) left w reading base outcome (image, rest, accepts, left_is, is_read) whole range done part (inl is) =
     let valid = hosted_valid reading.guest base whole (base_fits reading.guest base whole range) in
     subst (Comes (Restore base) input left w) (sym is)
     (record {
       guest = reading.guest;
       rest = rest;
-      accepted = accepted_front input rest o records reading.guest accepts guest;
+      accepted = accepted_front input rest image reading accepts is_read;
       left_is = left_is;
       wrote = done is;
       whole = whole;
       valid = valid;
       kept = λ more. image_reads (restored_text base reading.guest ++ more) (hosted reading.guest base) more (record { valid = valid; spelled = refl });
     })
-restored (Some input) left w reading base outcome (o, records, rest, accepts, left_is, guest, version, count) whole range done part (inr (inl is)) =
-    subst (Comes (Restore base) input left w) (sym is) (record { guest = reading.guest; rest = rest; accepted = accepted_front input rest o records reading.guest accepts guest; left_is = left_is; wrote = part is })
+restored (Some input) left w reading base outcome (image, rest, accepts, left_is, is_read) whole range done part (inr (inl is)) =
+    subst (Comes (Restore base) input left w) (sym is) (record { guest = reading.guest; rest = rest; accepted = accepted_front input rest image reading accepts is_read; left_is = left_is; wrote = part is })
 restored (Some input) left w reading base outcome h whole range done part (inr (inr is)) = subst (Comes (Restore base) input left w) (sym is) tt
 
 -- no stream was read
-pub not_read : (command : Command) (told left : Option (List ℕ)) (w : Written) (answer : StreamAnswer) (outcome : Outcome) → ReadsAs verdict told left (Err answer) → outcome ≡ outcome_of answer → ComesOf command told left w outcome
+pub not_read : (command : Command) (told left : Option (List ℕ)) (w : Written) (answer : StreamAnswer) (outcome : Outcome) → ReadsImage told left (Err answer) → outcome ≡ outcome_of answer → ComesOf command told left w outcome
 not_read command told left w answer outcome h is = subst (ComesOf command told left w) (sym is) (by told answer h)
   where
-    by : (told : Option (List ℕ)) (answer : StreamAnswer) → ReadsAs verdict told left (Err answer) → ComesOf command told left w (outcome_of answer)
+    by : (told : Option (List ℕ)) (answer : StreamAnswer) → ReadsImage told left (Err answer) → ComesOf command told left w (outcome_of answer)
     by None answer h = tt
     by (Some input) (answers.Refused place cause) (rest, refused, is) = (rest, refused, is)
     by (Some input) answers.ReadFault h = tt
@@ -192,24 +192,24 @@ reported (Ok u) = statuses.Done
 reported (Err e) = statuses.WriteFault
 
 -- the summary is that of the stream
-summed : (input rest : List ℕ) (o : Opening) (records : List StreamRecord) (reading : Reading) (a : Accepted input reading.guest rest) (s : Summary) → a.opening ≡ o → a.records ≡ records → reading.guest ≡ mean o.kind records → reading.version ≡ o.version → reading.records ≡ length records
+summed : (input rest : List ℕ) (image : ImageOf) (reading : Reading) (is : IsReading reading image) (a : Accepted input reading.guest rest) (s : Summary) → a.opening ≡ image.opening → a.records ≡ image.records
     → s.version ≡ reading.version → s.kind ≡ reading.guest.kind → s.frames ≡ length (maps.entries reading.guest.frames) → s.records ≡ reading.records → s ≡ summary_of a
-summed input rest o records reading a s oo rr means version count v k f n =
-    let kind : reading.guest.kind ≡ o.kind = ap (λ (x : GuestOf). x.kind) means ∙ mean_kind o.kind records in
-    let v' : s.version ≡ a.opening.version = v ∙ version ∙ ap (λ (x : Opening). x.version) (sym oo) in
+summed input rest image reading is a s oo rr v k f n =
+    let kind : reading.guest.kind ≡ image.opening.kind = ap (λ (x : GuestOf). x.kind) is.guest ∙ mean_kind image.opening.kind image.records in
+    let v' : s.version ≡ a.opening.version = v ∙ is.version ∙ ap (λ (x : Opening). x.version) (sym oo) in
     let k' : s.kind ≡ a.opening.kind = k ∙ kind ∙ ap (λ (x : Opening). x.kind) (sym oo) in
-    let n' : s.records ≡ length a.records = n ∙ count ∙ ap length (sym rr) in
+    let n' : s.records ≡ length a.records = n ∙ is.records ∙ ap length (sym rr) in
     λ i. record { version = v' i; kind = k' i; frames = f i; records = n' i }
 
-pub verified : (told left : Option (List ℕ)) (w : Written) (reading : Reading) (s : Summary) (r : Result (Unit {0}) WriteFailed) (status : Status) → ReadsAs verdict told left (Ok reading)
+pub verified : (told left : Option (List ℕ)) (w : Written) (reading : Reading) (s : Summary) (r : Result (Unit {0}) WriteFailed) (status : Status) → ReadsImage told left (Ok reading)
     → s.version ≡ reading.version → s.kind ≡ reading.guest.kind → s.frames ≡ length (maps.entries reading.guest.frames) → s.records ≡ reading.records
     → Puts (ok_line s) w.report_old w.report_new r → status ≡ reported r → SaysOf Verify told left w status
 unfolding accepted_front
 verified None left w reading s r status h v k f n put is = tt
-verified (Some input) left w reading s r status (o, records, rest, accepts, left_is, guest, version, count) v k f n put is =
-    let a = accepted_front input rest o records reading.guest accepts guest in
-    subst (Says Verify input left w) (sym is) (by r (subst (λ t. Puts (ok_line t) w.report_old w.report_new r) (summed input rest o records reading a s refl refl guest version count v k f n) put))
+verified (Some input) left w reading s r status (image, rest, accepts, left_is, is_read) v k f n put is =
+    let a = accepted_front input rest image reading accepts is_read in
+    subst (Says Verify input left w) (sym is) (by r (subst (λ t. Puts (ok_line t) w.report_old w.report_new r) (summed input rest image reading is_read a s refl refl v k f n) put))
   where
-    by : (r : Result (Unit {0}) WriteFailed) → Puts (ok_line (summary_of (accepted_front input rest o records reading.guest accepts guest))) w.report_old w.report_new r → Says Verify input left w (reported r)
-    by (Ok u) put = record { guest = reading.guest; rest = rest; accepted = accepted_front input rest o records reading.guest accepts guest; left_is = left_is; reported = put }
-    by (Err e) put = record { guest = reading.guest; rest = rest; accepted = accepted_front input rest o records reading.guest accepts guest; left_is = left_is; reported = put }
+    by : (r : Result (Unit {0}) WriteFailed) → Puts (ok_line (summary_of (accepted_front input rest image reading accepts is_read))) w.report_old w.report_new r → Says Verify input left w (reported r)
+    by (Ok u) put = record { guest = reading.guest; rest = rest; accepted = accepted_front input rest image reading accepts is_read; left_is = left_is; reported = put }
+    by (Err e) put = record { guest = reading.guest; rest = rest; accepted = accepted_front input rest image reading accepts is_read; left_is = left_is; reported = put }

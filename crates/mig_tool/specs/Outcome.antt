@@ -1,7 +1,7 @@
 -- What a command came to.
 use Rattle.std.specs.Prelude.{ℕ, List, []}
-use Rattle.mig_restore.specs.declared.part.StreamAnswer.{StreamAnswer}
-use Rattle.mig_restore.specs.declared.part.StreamAnswer.TheVariants as answers
+use Rattle.mig_restore.specs.declared.answer.StreamAnswer.{StreamAnswer}
+use Rattle.mig_restore.specs.declared.answer.StreamAnswer.TheVariants as answers
 use Rattle.mig_tool.specs.declared.outcome.Outcome.{Outcome}
 use Rattle.mig_tool.specs.declared.outcome.Outcome.TheVariants as outcomes
 use Rattle.mig_tool.specs.declared.status.Status.{Status}

@@ -14,7 +14,8 @@ loop-word-init g c = record { read = done _ _ _ tt [] (λ i. refl) refl; grown =
 
 pub take_entry-requires : goal.take_entry-requires
 take_entry-requires g c =
-    subst (λ k. IsGoodWord k (get_or c.args.list.now c.loop-word.word-index 0)) (sym c.loop-word.invariant.grown.kind) (All-get_or (IsGoodWord c.args.guest.now.kind) c.args.list.now c.loop-word.word-index 0 (search rules) c.requires)
+    subst (λ t. IsGoodWord c.loop-word.guest.kind t (get_or c.args.list.now c.loop-word.word-index 0)) (sym c.loop-word.invariant.grown.top)
+    (subst (λ k. IsGoodWord k c.args.guest.now.top (get_or c.args.list.now c.loop-word.word-index 0)) (sym c.loop-word.invariant.grown.kind) (All-get_or (IsGoodWord c.args.guest.now.kind c.args.guest.now.top) c.args.list.now c.loop-word.word-index 0 (search rules) c.requires))
 
 pub returns-in_err-take_entry-clause-read : goal.returns-in_err-take_entry-clause-read
 returns-in_err-take_entry-clause-read g c =

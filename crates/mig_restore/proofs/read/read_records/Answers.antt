@@ -1,11 +1,12 @@
-use Rattle.std.proofs.Common.{◌≡◌, refl, rules, subst, sym, ◌∙◌}
+use Rattle.std.proofs.Common.{◌≡◌, refl, rules, subst, sym, ◌∙◌, Err}
 use Rattle.mig_guest.specs.Guests.{GuestOf}
-use Rattle.mig_pvtables.specs.Whole.{IsWhole}
+use Rattle.mig_bytes.specs.Judged.{Gives}
+use Rattle.mig_restore.specs.declared.read.Reading.{Reading}
+use Rattle.mig_restore.specs.Stream.{records_at, IsReading}
 use Rattle.mig_restore.specs.Judging.{opening_of}
 use Rattle.mig_restore.specs.SoFar.{IsSoFar}
-use Rattle.mig_restore.specs.Stream.{of_records}
 use Rattle.mig_restore.proofs.Growth.{empty_so_far, whole_at_end}
-use Rattle.mig_restore.proofs.Arrivals.{arrived_first, arrived_next, arrived_end, arrived_stopped, answered}
+use Rattle.mig_restore.proofs.Arrivals.{arrived_first, arrived_next, arrived_end, arrived_stopped}
 use Rattle.mig_restore.proofs.read.read_records.Goals as goal
 
 started : (g : GuestOf) (e : GuestOf) → g ≡ e → IsSoFar e → IsSoFar g
@@ -22,8 +23,8 @@ records-init g c = record {
 
 pub records-preserved : goal.records-preserved
 records-preserved g c = record {
-  arrived = arrived_next (opening_of c.args.version c.args.kind) _ _ _ c.records.seen c.read_record.new.seen c.records.guest c.read_record.new.guest c.in-Ok.over c.if-over.false c.records.invariant.arrived (c.in-Ok.ensures.read (opening_of c.args.version c.args.kind));
-  kind = c.read_record.ensures.kind ∙ c.records.invariant.kind ∙ sym c.in-Ok.ensures.grown.kind;
+  arrived = arrived_next (opening_of c.args.version c.args.kind) _ _ _ c.records.seen c.read_next.new.seen c.records.guest c.read_next.new.guest c.in-Ok.over c.if-over.false c.records.invariant.arrived (c.in-Ok.ensures.read (opening_of c.args.version c.args.kind));
+  kind = c.read_next.ensures.kind ∙ c.records.invariant.kind ∙ sym c.in-Ok.ensures.grown.kind;
   so_far = c.in-Ok.ensures.grown.kept c.records.invariant.so_far;
   few = search rules;
   quiet = search rules;
@@ -31,14 +32,15 @@ records-preserved g c = record {
 
 pub returns-then-over-clause-read : goal.returns-then-over-clause-read
 returns-then-over-clause-read g c =
-    arrived_end (opening_of c.args.version c.args.kind) _ _ _ c.records.seen c.read_record.new.seen c.records.guest c.read_record.new.guest _ c.in-Ok.over c.if-over.true refl refl refl c.records.invariant.arrived (c.in-Ok.ensures.read (opening_of c.args.version c.args.kind))
+    arrived_end (opening_of c.args.version c.args.kind) _ _ _ c.records.seen c.read_next.new.seen c.records.guest c.read_next.new.guest _ c.in-Ok.over c.if-over.true refl refl refl c.records.invariant.arrived (c.in-Ok.ensures.read (opening_of c.args.version c.args.kind))
 
 pub returns-then-over-clause-whole : goal.returns-then-over-clause-whole
 returns-then-over-clause-whole g c =
-    let (same, fine, sized, hvm) = c.in-Ok.ensures.whole c.if-over.true in
-    subst IsWhole (sym same) (whole_at_end c.records.guest c.records.invariant.so_far (sym c.records.invariant.kind ∙ hvm) sized fine)
+    let (fine, sized, hvm) = c.in-Ok.ensures.whole c.if-over.true in
+    let grown = c.in-Ok.ensures.grown in
+    whole_at_end c.read_next.new.guest (grown.kept c.records.invariant.so_far) (grown.kind ∙ sym c.records.invariant.kind ∙ hvm) sized fine
 
 pub returns-in-Err-clause-read : goal.returns-in-Err-clause-read
 returns-in-Err-clause-read g c =
-    answered (of_records (opening_of c.args.version c.args.kind)) _ _ _ _ c.placed.ensures
-    (arrived_stopped (opening_of c.args.version c.args.kind) _ _ _ c.records.seen c.read_record.new.seen c.records.guest c.read_record.new.guest c.in-Err.stop _ (search rules) c.records.invariant.arrived (c.in-Err.ensures.read (opening_of c.args.version c.args.kind)))
+    subst (λ s. Gives {X = Reading} IsReading (g.S.Source.left c.args.src.now) (g.S.Source.left c.read_next.new.src) (records_at (opening_of c.args.version c.args.kind)) (Err s)) (sym c.at.ensures)
+    (arrived_stopped (opening_of c.args.version c.args.kind) _ _ _ c.records.seen c.read_next.new.seen c.records.guest c.read_next.new.guest c.in-Err.stop _ (search rules) c.records.invariant.arrived (c.in-Err.ensures.read (opening_of c.args.version c.args.kind)))

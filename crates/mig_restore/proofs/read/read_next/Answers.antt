@@ -1,0 +1,59 @@
+use Rattle.std.proofs.Common.{◌≡◌, ℕ, List, [], ◌∷◌, ◌++◌, true, false, nat_eq, rules, arith, ap, sym, subst, ◌∙◌}
+use Rattle.std.proofs.lemmas.Grind.{common_steps}
+use Rattle.std.proofs.lemmas.List.{map-append}
+use Rattle.mig_bytes.proofs.Joins.{done, then_reads, stopped, refused}
+use Rattle.mig_guest.specs.Guests.{GuestOf}
+use Rattle.mig_pvtables.specs.Whole.{fault_of_guest}
+use Rattle.mig_restore.specs.Mean.{mean, put_record}
+use Rattle.mig_restore.specs.Record.{StreamRecord, types_of}
+use Rattle.mig_restore.specs.Judging.{Opening, before, record_at, next_at}
+use Rattle.mig_restore.specs.Seen.{IsSeen}
+use Rattle.mig_restore.specs.declared.head.Seen.{Seen}
+use Rattle.mig_restore.proofs.Parts.{asks, behind_record, not_last, last_fine, last_faulty}
+use Rattle.mig_restore.proofs.Passing.{same_is}
+use Rattle.mig_restore.proofs.Meaning.{mean_kind, one_more_record}
+use Rattle.mig_restore.proofs.read.read_next.Goals as goal
+
+seen_more : (seen : Seen) (o : Opening) (records : List StreamRecord) (r : StreamRecord) (type : ℕ) → type ≡ r.type → IsSeen seen o (types_of records ++ type ∷ []) → IsSeen seen o (types_of (records ++ r ∷ []))
+seen_more seen o records r type is h = subst (IsSeen seen o) (ap (λ t. types_of records ++ t ∷ []) is ∙ sym (map-append (λ (x : StreamRecord). x.type) records (r ∷ []))) h
+
+guest_kind : (g : GuestOf) (o : Opening) (records : List StreamRecord) → g ≡ mean o.kind records → g.kind ≡ o.kind
+guest_kind g o records is = ap (λ (x : GuestOf). x.kind) is ∙ mean_kind o.kind records
+
+guest_top : (g : GuestOf) (o : Opening) (records : List StreamRecord) → g ≡ mean o.kind records → g.top ≡ (before o records).top
+guest_top g o records is = ap (λ (x : GuestOf). x.top) is
+
+-- the guest that the records up to this one mean
+meant : (g h : GuestOf) (o : Opening) (records : List StreamRecord) (r : StreamRecord) → g ≡ mean o.kind records → h ≡ put_record g r → h ≡ mean o.kind (records ++ r ∷ [])
+meant g h o records r is now = now ∙ ap (λ (x : GuestOf). put_record x r) is ∙ sym (one_more_record o.kind records r)
+
+not_zero : (n : ℕ) → (n ≡ 0 → ⊥) → nat_eq n 0 ≡ false
+not_zero n h = grind (arith, common_steps)
+
+pub returns-in_err-take_record-clause-read : goal.returns-in_err-take_record-clause-read
+returns-in_err-take_record-clause-read g c = λ o records seen guest.
+    stopped _ _ _ _ (record_at (before o records)) (next_at o records) (behind_record o records) c.in_err-take_record.field-0.0 c.from_residual.result (asks o records) (search rules)
+    (c.in_err-take_record.ensures.read (before o records) seen (guest_kind _ o records guest) (guest_top _ o records guest))
+
+pub returns-then-branch-ne-END-clause-read : goal.returns-then-branch-ne-END-clause-read
+returns-then-branch-ne-END-clause-read g c = λ o records seen guest.
+    then_reads _ _ _ _ _ (record_at (before o records)) (next_at o records) (behind_record o records) c.in_ok-take_record.field-0 _ (asks o records)
+    (c.in_ok-take_record.ensures.read (before o records) seen (guest_kind _ o records guest) (guest_top _ o records guest))
+    (λ r told. let goes : nat_eq r.type 0 ≡ false = not_zero r.type (λ is. c.if-branch-ne-END.true (told.1 ∙ is)) in
+    done _ _ (λ i. behind_record o records (r, i)) false r (not_last o records r goes) (told.0, seen_more _ o records r _ told.1 (c.in_ok-take_record.ensures.seen o (types_of records) seen), sym goes))
+
+pub returns-in-Some-clause-read : goal.returns-in-Some-clause-read
+returns-in-Some-clause-read g c = λ o records seen guest.
+    then_reads _ _ _ _ _ (record_at (before o records)) (next_at o records) (behind_record o records) c.in_ok-take_record.field-0 _ (asks o records)
+    (c.in_ok-take_record.ensures.read (before o records) seen (guest_kind _ o records guest) (guest_top _ o records guest))
+    (λ r told. refused _ _ (λ i. behind_record o records (r, i)) c.in-Some.cause
+    (last_faulty o records r c.in-Some.cause (sym told.1 ∙ c.if-branch-ne-END.false) (ap fault_of_guest (sym (meant _ _ o records r guest told.0)) ∙ sym c.in-Some.ensures.fault)))
+
+pub returns-in-None-clause-read : goal.returns-in-None-clause-read
+returns-in-None-clause-read g c = λ o records seen guest.
+    then_reads _ _ _ _ _ (record_at (before o records)) (next_at o records) (behind_record o records) c.in_ok-take_record.field-0 _ (asks o records)
+    (c.in_ok-take_record.ensures.read (before o records) seen (guest_kind _ o records guest) (guest_top _ o records guest))
+    (λ r told. let zero : r.type ≡ 0 = sym told.1 ∙ c.if-branch-ne-END.false in
+    done _ _ (λ i. behind_record o records (r, i)) true r
+    (last_fine o records r zero (ap fault_of_guest (sym (meant _ _ o records r guest told.0)) ∙ sym c.in-None.ensures.fault))
+    (told.0, seen_more _ o records r _ told.1 (c.in_ok-take_record.ensures.seen o (types_of records) seen), sym (same_is r.type 0 zero)))

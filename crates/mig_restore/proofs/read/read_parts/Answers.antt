@@ -1,0 +1,22 @@
+use Rattle.std.proofs.Common.{ℕ, List, refl, sym, subst, rules}
+use Rattle.mig_bytes.specs.Judged.{Judged, Gives}
+use Rattle.mig_bytes.proofs.Joins.{then_reads, stopped}
+use Rattle.mig_headers.specs.declared.fault.Cause.{Cause}
+use Rattle.mig_headers.specs.declared.fault.Place.{Place}
+use Rattle.mig_restore.specs.Judging.{Opening}
+use Rattle.mig_restore.specs.Stream.{ImageOf, image_at, opening_at, records_at, IsReading}
+use Rattle.mig_restore.proofs.read.read_parts.Goals as goal
+
+behind_opening : Opening × List ℕ → Judged (Place × Cause) ImageOf
+behind_opening opening = records_at opening.0 opening.1
+
+pub returns-in_err-version-clause-read : goal.returns-in_err-version-clause-read
+unfolding image_at behind_opening
+returns-in_err-version-clause-read g c =
+    stopped _ _ _ _ opening_at image_at behind_opening c.in_err-version.field-0.0 c.from_residual.result (λ i. refl) (search rules) c.in_err-version.ensures.read
+
+pub returns-clause-read : goal.returns-clause-read
+unfolding image_at behind_opening
+returns-clause-read g c =
+    then_reads _ _ _ _ _ opening_at image_at behind_opening (c.in_ok-version.version, c.in_ok-version.kind) c.read_records.result (λ i. refl) c.in_ok-version.ensures.read
+    (λ opening is. subst (λ (o : Opening). Gives IsReading (g.S.Source.left c.read_opening.new.src) (g.S.Source.left c.read_records.new.src) (records_at o) c.read_records.result) (sym is) c.read_records.ensures.read)

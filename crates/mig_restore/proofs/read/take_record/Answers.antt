@@ -1,0 +1,35 @@
+use Rattle.std.proofs.Common.{◌≡◌, refl, rules}
+use Rattle.mig_bytes.specs.Bytes.{padding_len}
+use Rattle.mig_bytes.specs.Judged.{part}
+use Rattle.mig_bytes.specs.Judged.Judged.{Passes}
+use Rattle.mig_bytes.proofs.Joins.{mapped, then_reads, stopped}
+use Rattle.mig_headers.specs.declared.fault.Cause.TheVariants.{Truncated}
+use Rattle.mig_restore.specs.Judging.{record_at, head_at, body_at}
+use Rattle.mig_restore.proofs.Parts.{behind_body, behind_head, begins, goes_on, padded}
+use Rattle.mig_restore.proofs.read.take_record.Goals as goal
+
+pub returns-in_err-head-clause-read : goal.returns-in_err-head-clause-read
+returns-in_err-head-clause-read g c = λ b seen kind top.
+    stopped _ _ _ _ (head_at b) (record_at b) (behind_head b.opening.kind b.top) c.in_err-head.field-0.0 c.from_residual.result (begins b) (search rules) (c.in_err-head.ensures.read b seen)
+
+pub returns-in_err-take_body-clause-read : goal.returns-in_err-take_body-clause-read
+returns-in_err-take_body-clause-read g c = λ b seen kind top.
+    then_reads _ _ _ _ _ (head_at b) (record_at b) (behind_head b.opening.kind b.top) c.in_ok-head.head c.from_residual-in_err-take_body.result (begins b) (c.in_ok-head.ensures.read b seen)
+    (λ head is. stopped _ _ _ _ (body_at c.args.guest.now.kind c.args.guest.now.top c.in_ok-head.head.kind c.in_ok-head.head.len) (λ i. behind_head b.opening.kind b.top (head, i)) (behind_body head) c.in_err-take_body.field-0.0 c.from_residual-in_err-take_body.result
+    (goes_on head c.in_ok-head.head b.opening.kind c.args.guest.now.kind b.top c.args.guest.now.top is kind top) (search rules) c.in_err-take_body.ensures.read)
+
+pub returns-in_err-read_padding-clause-read : goal.returns-in_err-read_padding-clause-read
+returns-in_err-read_padding-clause-read g c = λ b seen kind top.
+    then_reads _ _ _ _ _ (head_at b) (record_at b) (behind_head b.opening.kind b.top) c.in_ok-head.head c.from_residual-in_err-read_padding.result (begins b) (c.in_ok-head.ensures.read b seen)
+    (λ head is. then_reads _ _ _ _ _ (body_at c.args.guest.now.kind c.args.guest.now.top c.in_ok-head.head.kind c.in_ok-head.head.len) (λ i. behind_head b.opening.kind b.top (head, i)) (behind_body head) _ c.from_residual-in_err-read_padding.result
+    (goes_on head c.in_ok-head.head b.opening.kind c.args.guest.now.kind b.top c.args.guest.now.top is kind top) c.in_ok-take_body.ensures.read
+    (λ r _. stopped _ _ _ _ (part Truncated (padding_len c.in_ok-head.head.len)) (λ i. behind_body head (r, i)) (λ padding. Passes (record { type = c.in_ok-head.head.kind; content = r }) padding.1) c.in_err-read_padding.field-0.0 c.from_residual-in_err-read_padding.result
+    (padded head c.in_ok-head.head r is) (search rules) c.in_err-read_padding.ensures.read))
+
+pub returns-clause-read : goal.returns-clause-read
+returns-clause-read g c = λ b seen kind top.
+    then_reads _ _ _ _ _ (head_at b) (record_at b) (behind_head b.opening.kind b.top) c.in_ok-head.head _ (begins b) (c.in_ok-head.ensures.read b seen)
+    (λ head is. then_reads _ _ _ _ _ (body_at c.args.guest.now.kind c.args.guest.now.top c.in_ok-head.head.kind c.in_ok-head.head.len) (λ i. behind_head b.opening.kind b.top (head, i)) (behind_body head) _ _
+    (goes_on head c.in_ok-head.head b.opening.kind c.args.guest.now.kind b.top c.args.guest.now.top is kind top) c.in_ok-take_body.ensures.read
+    (λ r told. mapped _ _ _ _ (part Truncated (padding_len c.in_ok-head.head.len)) (λ i. behind_body head (r, i)) (λ _. record { type = c.in_ok-head.head.kind; content = r }) _ _
+    (padded head c.in_ok-head.head r is) c.in_ok-read_padding.ensures.read (λ _ _. (told, refl))))
