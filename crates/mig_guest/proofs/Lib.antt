@@ -7,3 +7,7 @@ pub mod Cursor
 pub mod PartCursor
 pub mod PartSets
 pub mod Entries
+pub mod Counts
+pub mod Kept
+pub mod Found
+pub mod PartRows

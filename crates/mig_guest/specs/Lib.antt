@@ -7,3 +7,5 @@ pub mod Parts
 pub mod Hosts
 pub mod PartKeys
 pub mod PartCodes
+pub mod Tables
+pub mod Formed

@@ -11,10 +11,17 @@
 
 mod frames;
 mod guest;
+mod law;
 mod part_code;
 mod part_key;
 mod parts;
+mod table;
 
 pub use guest::Guest;
+pub use law::{
+    empty_guest_is_formed, setting_frames_keeps_formed, setting_parts_keeps_formed,
+    setting_policies_keeps_formed,
+};
 pub use part_code::PartCode;
 pub use part_key::PartKey;
+pub use table::Entry;

@@ -1,0 +1,91 @@
+-- Each row of the table of parts has a number of its own, and each part the row of its code.
+use Rattle.std.proofs.Common.{◌≡◌, ℕ, ◌<◌, ◌^◌, Bool, true, false, cond, List, [], ◌∷◌, length, Option, Some, None, refl, sym, ap, subst, ◌∙◌}
+use Rattle.std.specs.Prelude.{◌==◌, find}
+use Rattle.std.proofs.lemmas.Bool.{eqb-true}
+use Rattle.mig_headers.specs.declared.kind.Kind.{Kind}
+use Rattle.mig_guest.specs.declared.part_code.PartCode.{PartCode}
+use Rattle.mig_guest.specs.declared.part_code.PartCode.TheVariants.{P2mFrames, VcpuBasic, VcpuExtended, VcpuXsave, SharedInfo, Tsc, HvmContext, HvmParam, VcpuMsrs, CpuidLeaf, Msr, EmulatorPairs, EmulatorContext}
+use Rattle.mig_guest.specs.declared.part_key.PartKey.{PartKey}
+use Rattle.mig_guest.specs.PartCodes.{row_of, code_number, part_codes, code_of_number}
+use Rattle.mig_pagetypes.specs.PageTypes.{level_of}
+use Rattle.mig_pagetypes.specs.declared.page_type.PageType.{PageType}
+use Rattle.mig_pagetypes.specs.declared.page_type.PageType.TheVariants.{Notab, L1Tab, L2Tab, L3Tab, L4Tab, L1Pinned, L2Pinned, L3Pinned, L4Pinned, Broken, Xalloc, Xtab}
+use Rattle.mig_guest.specs.declared.table.Entry.{Entry}
+use Rattle.mig_guest.specs.Tables.{EachEntry}
+use Rattle.mig_guest.specs.Frames.{FrameOf, is_hvm_type}
+use Rattle.mig_guest.specs.Formed.{IsPart, IsContent}
+
+pub number_back : (c : PartCode) → code_of_number (code_number c) ≡ Some c
+number_back P2mFrames = refl
+number_back VcpuBasic = refl
+number_back VcpuExtended = refl
+number_back VcpuXsave = refl
+number_back SharedInfo = refl
+number_back Tsc = refl
+number_back HvmContext = refl
+number_back HvmParam = refl
+number_back VcpuMsrs = refl
+number_back CpuidLeaf = refl
+number_back Msr = refl
+number_back EmulatorPairs = refl
+number_back EmulatorContext = refl
+
+some_is : (a b : PartCode) → Some a ≡ Some b → a ≡ b
+some_is a b e = cc
+
+pub one_code : (a b : PartCode) → code_number a ≡ code_number b → a ≡ b
+one_code a b e = some_is a b (sym (number_back a) ∙ ap code_of_number e ∙ number_back b)
+
+row_found : (n : ℕ) (c d : PartCode) (o : Option PartCode) (b : Bool) → (code_number d == n) ≡ b → (o ≡ Some c → n ≡ code_number c) → cond b (Some d) o ≡ Some c → n ≡ code_number c
+row_found n c d o true same later is = sym (eqb-true (code_number d) n same) ∙ ap code_number (some_is d c is)
+row_found n c d o false other later is = later is
+
+found_in : (n : ℕ) (cs : List PartCode) (c : PartCode) → find (λ code. code_number code == n) cs ≡ Some c → n ≡ code_number c
+found_in n [] c is = cc
+found_in n (d ∷ cs) c is = row_found n c d (find (λ code. code_number code == n) cs) (code_number d == n) refl (found_in n cs c) is
+
+pub number_found : (n : ℕ) (c : PartCode) → code_of_number n ≡ Some c → n ≡ code_number c
+number_found n c is = found_in n part_codes c is
+
+-- a part of this code
+pub record IsOf (code : PartCode) (width : ℕ) (p : PartKey × List ℕ) : Type 0 where
+  pub number : p.0.code ≡ code_number code
+  pub keys : (row_of code).keys p.0.key1 p.0.key2 ≡ true
+  pub len : (row_of code).allows width (length p.1) ≡ true
+  pub content : IsContent code p.1
+  pub small1 : p.0.key1 < 2 ^ 32
+  pub small2 : p.0.key2 < 2 ^ 32
+
+pub of_part : (code : PartCode) (kind : Kind) (width : ℕ) (p : PartKey × List ℕ) → IsPart kind width p.0 p.1 → p.0.code ≡ code_number code → IsOf code width p
+of_part code kind width p is number =
+    let same : is.code ≡ code = one_code is.code code (sym is.number ∙ number) in
+    record {
+      number = number;
+      keys = subst (λ (c : PartCode). (row_of c).keys p.0.key1 p.0.key2 ≡ true) same is.keys;
+      len = subst (λ (c : PartCode). (row_of c).allows width (length p.1) ≡ true) same is.len;
+      content = subst (λ (c : PartCode). IsContent c p.1) same is.content;
+      small1 = is.small1;
+      small2 = is.small2;
+    }
+
+-- ---- frames that are no tables
+
+none_some : (n : ℕ) → None ≡ Some n → ⊥
+none_some n e = cc
+
+pub no_entries : (P : Entry → Type 0) (frame : FrameOf) → is_hvm_type frame.type ≡ true → EachEntry P frame
+no_entries P frame hvm level page is = absurd (none_some level (sym (no_level frame.type hvm) ∙ is))
+  where
+    no_level : (t : PageType) → is_hvm_type t ≡ true → level_of t ≡ None
+    no_level Notab h = refl
+    no_level Broken h = refl
+    no_level Xalloc h = refl
+    no_level L1Tab h = cc
+    no_level L2Tab h = cc
+    no_level L3Tab h = cc
+    no_level L4Tab h = cc
+    no_level L1Pinned h = cc
+    no_level L2Pinned h = cc
+    no_level L3Pinned h = cc
+    no_level L4Pinned h = cc
+    no_level Xtab h = cc
