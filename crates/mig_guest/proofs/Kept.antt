@@ -17,7 +17,7 @@ use Rattle.mig_guest.specs.Order.{part_cmp}
 use Rattle.mig_guest.specs.Parts.{PartMap, put_part, put_parts, replace_code, parts_of, FitsPolicy}
 use Rattle.mig_guest.proofs.PartOrder.{part_total, part_exact}
 use Rattle.mig_guest.proofs.KeyedMaps.{tied}
-use Rattle.mig_guest.specs.Formed.{IsPart, IsTop, IsGuestFrame, is_policy, width_of, IsFormed, AreParts}
+use Rattle.mig_guest.specs.Formed.{IsPart, IsTop, IsGuestFrame, is_policy, width_of, IsFormed, AreParts, is_emulator_code, HasNoEmulators}
 use Rattle.mig_guest.proofs.Counts.{Part, unequal, put_all_len, insert_kept, entries_cleared, none_left, others_left}
 
 -- ---- what holds of each part
@@ -45,13 +45,18 @@ module _ (P : PartKey → List ℕ → Type 0) where
 -- ---- parts of one code
 
 module _ (kind : Kind) (width code : ℕ) where
-  puts_hold : (m : PartMap) (ps : List Part) → AreParts kind width code ps → Each (IsPart kind width) m → Each (IsPart kind width) (put_parts m ps)
-  puts_hold m [] are each = each
-  puts_hold m (p ∷ ps) are each = puts_hold (put_part m p) ps are.2 (insert_holds (IsPart kind width) m p.0 p.1 each are.0)
-
   puts_kept : (d : ℕ) → code ≢ d → (m : PartMap) (ps : List Part) → AreParts kind width code ps → parts_of d (fin.entries (put_parts m ps)) ≡ parts_of d (fin.entries m)
   puts_kept d differ m [] are = refl
   puts_kept d differ m (p ∷ ps) are = puts_kept d differ (put_part m p) ps are.2 ∙ insert_kept d m p.0 p.1 (unequal p.0.code code d are.1 differ)
+
+  module _ (P : PartKey → List ℕ → Type 0) (fits : (p : Part) → IsPart kind width p.0 p.1 → p.0.code ≡ code → P p.0 p.1) where
+    puts_hold : (m : PartMap) (ps : List Part) → AreParts kind width code ps → Each P m → Each P (put_parts m ps)
+    puts_hold m [] are each = each
+    puts_hold m (p ∷ ps) are each = puts_hold (put_part m p) ps are.2 (insert_holds P m p.0 p.1 each (fits p are.0 are.1))
+
+    replace_holds : (m : PartMap) (ps : List Part) → AreParts kind width code ps → Each P m → Each P (replace_code code m ps)
+    replace_holds m [] are each = each
+    replace_holds m (p ∷ ps) are each = puts_hold (fin.retain_keys m (λ k. not (nat_eq k.code code))) (p ∷ ps) are (cleared_holds P m code each)
 
 fewer : (a b n : ℕ) → a ≡ b → b ≤ n → a ≤ n
 fewer a b n e h = subst (λ x. x ≤ n) (sym e) h
@@ -66,17 +71,13 @@ pub parts_keep : (g : GuestOf) (code : ℕ) (ps : List Part) → is_policy code 
 parts_keep g code ps not_policy are formed = record {
   top = formed.top;
   frames = formed.frames;
-  parts = puts_hold g.kind (width_of g) code g.parts ps are formed.parts;
+  parts = puts_hold g.kind (width_of g) code (IsPart g.kind (width_of g)) (λ p is same. is) g.parts ps are formed.parts;
   policies = λ d one. fewer _ _ 65536 (ap length (puts_kept g.kind (width_of g) code d (no_policy code d not_policy one) g.parts ps are)) (formed.policies d one);
 }
 
 -- ---- a policy
 
 module _ (kind : Kind) (width code : ℕ) (m : PartMap) where
-  replace_holds : (ps : List Part) → AreParts kind width code ps → Each (IsPart kind width) m → Each (IsPart kind width) (replace_code code m ps)
-  replace_holds [] are each = each
-  replace_holds (p ∷ ps) are each = puts_hold kind width code (fin.retain_keys m (λ k. not (nat_eq k.code code))) (p ∷ ps) are (cleared_holds (IsPart kind width) m code each)
-
   replace_fits : (d : ℕ) (ps : List Part) → AreParts kind width code ps → length ps ≤ 65536 → FitsPolicy d m → FitsPolicy d (replace_code code m ps)
   replace_fits d [] are few fits = fits
   replace_fits d (p ∷ ps) are few fits = which (nat_eq d code) refl
@@ -103,9 +104,24 @@ pub policies_keep : (g : GuestOf) (code : ℕ) (ps : List Part) → length ps �
 policies_keep g code ps few are formed = record {
   top = formed.top;
   frames = formed.frames;
-  parts = replace_holds g.kind (width_of g) code g.parts ps are formed.parts;
+  parts = replace_holds g.kind (width_of g) code (IsPart g.kind (width_of g)) (λ p is same. is) g.parts ps are formed.parts;
   policies = λ d one. replace_fits g.kind (width_of g) code g.parts d ps are few (formed.policies d one);
 }
+
+-- ---- no emulator parts
+
+module _ (kind : Kind) (width code : ℕ) (plain : is_emulator_code code ≡ false) (m : PartMap) (ps : List Part) (are : AreParts kind width code ps) (before : HasNoEmulators m) where
+  abbrev IsPlain : PartKey → List ℕ → Type 0
+  IsPlain key bytes = is_emulator_code key.code ≡ false
+
+  is_plain : (p : Part) → IsPart kind width p.0 p.1 → p.0.code ≡ code → IsPlain p.0 p.1
+  is_plain p is same = ap is_emulator_code same ∙ plain
+
+  pub parts_plain : HasNoEmulators (put_parts m ps)
+  parts_plain = puts_hold kind width code IsPlain is_plain m ps are before
+
+  pub policies_plain : HasNoEmulators (replace_code code m ps)
+  policies_plain = replace_holds kind width code IsPlain is_plain m ps are before
 
 -- ---- a frame
 

@@ -1,11 +1,12 @@
 -- Each row of the table of parts has a number of its own, and each part the row of its code.
-use Rattle.std.proofs.Common.{◌≡◌, ℕ, ◌<◌, ◌^◌, Bool, true, false, cond, List, [], ◌∷◌, length, Option, Some, None, refl, sym, ap, subst, ◌∙◌}
-use Rattle.std.specs.Prelude.{◌==◌, find}
+use Rattle.std.proofs.Common.{◌≡◌, ℕ, ◌<◌, ◌≤◌, ◌^◌, nat_lt, ltb-true, leb-true, Bool, true, false, cond, List, [], ◌∷◌, length, Option, Some, None, refl, sym, ap, subst, ◌∙◌}
+use Rattle.std.specs.Prelude.{◌==◌, ◌&&◌, find}
 use Rattle.std.proofs.lemmas.Bool.{eqb-true}
 use Rattle.mig_headers.specs.declared.kind.Kind.{Kind}
 use Rattle.mig_guest.specs.declared.part_code.PartCode.{PartCode}
 use Rattle.mig_guest.specs.declared.part_code.PartCode.TheVariants.{P2mFrames, VcpuBasic, VcpuExtended, VcpuXsave, SharedInfo, Tsc, HvmContext, HvmParam, VcpuMsrs, CpuidLeaf, Msr, EmulatorPairs, EmulatorContext}
 use Rattle.mig_guest.specs.declared.part_key.PartKey.{PartKey}
+use Rattle.mig_guest.specs.PartKeys.{tsc_key, context_key, param_key, leaf_key, msr_key}
 use Rattle.mig_guest.specs.PartCodes.{row_of, code_number, part_codes, code_of_number}
 use Rattle.mig_pagetypes.specs.PageTypes.{level_of}
 use Rattle.mig_pagetypes.specs.declared.page_type.PageType.{PageType}
@@ -13,7 +14,7 @@ use Rattle.mig_pagetypes.specs.declared.page_type.PageType.TheVariants.{Notab, L
 use Rattle.mig_guest.specs.declared.table.Entry.{Entry}
 use Rattle.mig_guest.specs.Tables.{EachEntry}
 use Rattle.mig_guest.specs.Frames.{FrameOf, is_hvm_type}
-use Rattle.mig_guest.specs.Formed.{IsPart, IsContent}
+use Rattle.mig_guest.specs.Formed.{IsPart, IsContent, IsCut}
 
 pub number_back : (c : PartCode) → code_of_number (code_number c) ≡ Some c
 number_back P2mFrames = refl
@@ -47,6 +48,11 @@ found_in n (d ∷ cs) c is = row_found n c d (find (λ code. code_number code ==
 pub number_found : (n : ℕ) (c : PartCode) → code_of_number n ≡ Some c → n ≡ code_number c
 number_found n c is = found_in n part_codes c is
 
+both_true : (a b : Bool) → (a && b) ≡ true → (a ≡ true) × (b ≡ true)
+both_true true true h = (refl, refl)
+both_true true false h = cc
+both_true false b h = cc
+
 -- a part of this code
 pub record IsOf (code : PartCode) (width : ℕ) (p : PartKey × List ℕ) : Type 0 where
   pub number : p.0.code ≡ code_number code
@@ -67,6 +73,33 @@ of_part code kind width p is number =
       small1 = is.small1;
       small2 = is.small2;
     }
+
+-- ---- single rows
+
+keyed : (k : PartKey) (code key1 key2 : ℕ) → k.code ≡ code → k.key1 ≡ key1 → k.key2 ≡ key2 → k ≡ record { code = code; key1 = key1; key2 = key2 }
+keyed k code key1 key2 a b c = λ i. record { code = a i; key1 = b i; key2 = c i }
+
+module _ (kind : Kind) (width : ℕ) (k : PartKey) (bytes : List ℕ) (part : IsPart kind width k bytes) where
+  pub tsc_part : k.code ≡ 8 → (k ≡ tsc_key) × (length bytes ≡ 20)
+  tsc_part e =
+      let is = of_part Tsc kind width (k, bytes) part e in let (a, b) = both_true (k.key1 == 0) (k.key2 == 0) is.keys in
+      (keyed k 8 0 0 e (eqb-true k.key1 0 a) (eqb-true k.key2 0 b), eqb-true (length bytes) 20 is.len)
+
+  pub context_part : k.code ≡ 9 → (k ≡ context_key) × (length bytes ≤ 2 ^ 27) × IsCut bytes
+  context_part e =
+      let is = of_part HvmContext kind width (k, bytes) part e in let (a, b) = both_true (k.key1 == 0) (k.key2 == 0) is.keys in
+      (keyed k 9 0 0 e (eqb-true k.key1 0 a) (eqb-true k.key2 0 b), leb-true (length bytes) (2 ^ 27) is.len, is.content)
+
+  pub param_part : k.code ≡ 10 → (k.key1 < 4096) × (k ≡ param_key k.key1) × (length bytes ≡ 8)
+  param_part e =
+      let is = of_part HvmParam kind width (k, bytes) part e in let (a, b) = both_true (nat_lt k.key1 4096) (k.key2 == 0) is.keys in
+      (ltb-true k.key1 4096 a, keyed k 10 k.key1 0 e refl (eqb-true k.key2 0 b), eqb-true (length bytes) 8 is.len)
+
+  pub leaf_part : k.code ≡ 17 → (k ≡ leaf_key k.key1 k.key2) × (length bytes ≡ 16)
+  leaf_part e = let is = of_part CpuidLeaf kind width (k, bytes) part e in (keyed k 17 k.key1 k.key2 e refl refl, eqb-true (length bytes) 16 is.len)
+
+  pub msr_part : k.code ≡ 18 → (k ≡ msr_key k.key1) × (length bytes ≡ 12)
+  msr_part e = let is = of_part Msr kind width (k, bytes) part e in (keyed k 18 k.key1 0 e refl (eqb-true k.key2 0 is.keys), eqb-true (length bytes) 12 is.len)
 
 -- ---- frames that are no tables
 

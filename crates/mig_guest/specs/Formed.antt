@@ -1,5 +1,5 @@
 -- Guests that are well formed: what a guest on its way to a whole one keeps, whatever records come.
-use Rattle.std.specs.Prelude.{◌≡◌, ◌≤◌, ◌<◌, ℕ, ◌+◌, ◌^◌, ⊤, Bool, true, List, [], ◌∷◌, ◌++◌, length, take, replicate, Some, Ok, ◌==◌, ◌||◌}
+use Rattle.std.specs.Prelude.{◌≡◌, ◌≤◌, ◌<◌, ℕ, ◌+◌, ◌^◌, ⊤, Bool, true, false, List, [], ◌∷◌, ◌++◌, length, take, replicate, Some, Ok, ◌==◌, ◌||◌}
 use Rattle.std.specs.FinMap as maps
 use Rattle.mig_bytes.specs.Fields.{le64}
 use Rattle.mig_headers.specs.Contexts.{scan}
@@ -13,7 +13,7 @@ use Rattle.mig_guest.specs.declared.part_key.PartKey.{PartKey}
 use Rattle.mig_guest.specs.PartCodes.{row_of, code_number}
 use Rattle.mig_guest.specs.Frames.{FrameOf, IsFrame, is_type_of}
 use Rattle.mig_guest.specs.Guests.{GuestOf}
-use Rattle.mig_guest.specs.Parts.{FitsPolicy}
+use Rattle.mig_guest.specs.Parts.{PartMap, FitsPolicy}
 use Rattle.mig_guest.specs.Tables.{EachEntry, IsWithin}
 
 -- ---- a part, by its row of the table
@@ -56,6 +56,10 @@ IsPart = IsRowPart IsContent
 abbrev pub is_policy : ℕ → Bool
 is_policy code = (code == 17) || (code == 18)
 
+-- the codes of an emulator's parts
+abbrev pub is_emulator_code : ℕ → Bool
+is_emulator_code code = (code == 258) || (code == 259)
+
 -- ---- a guest
 
 -- how many frame numbers a guest has
@@ -90,3 +94,7 @@ pub record IsFormed (g : GuestOf) : Type 0 where
 abbrev pub AreParts : Kind → ℕ → ℕ → List (PartKey × List ℕ) → Type 0
 AreParts kind width code [] = ⊤
 AreParts kind width code (p ∷ ps) = IsPart kind width p.0 p.1 × (p.0.code ≡ code) × AreParts kind width code ps
+
+-- a guest without emulator parts
+abbrev pub HasNoEmulators : PartMap → Type 0
+HasNoEmulators parts = (key : PartKey) (bytes : List ℕ) → maps.get parts key ≡ Some bytes → is_emulator_code key.code ≡ false

@@ -7,5 +7,6 @@ pub mod Parts
 pub mod Hosts
 pub mod PartKeys
 pub mod PartCodes
+pub mod Longs
 pub mod Tables
 pub mod Formed

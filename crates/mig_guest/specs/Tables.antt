@@ -1,11 +1,11 @@
 -- Page tables (libxc migration stream, "PAGE_DATA"; the layout of entries is the processor's): 512 entries of 8 bytes, in
 -- slots 0 to 511. Bit 0 says that an entry is present, bit 7 that it is a superpage (levels 2 to 4), and bits 12 to 51
 -- name a frame.
-use Rattle.std.specs.Prelude.{◌≡◌, ◌≤◌, ◌<◌, ⊤, ℕ, ◌*◌, ◌/◌, ◌%◌, ◌^◌, Bool, List, Some, ◌==◌, ◌&&◌, not, nat_le, if◌then◌else◌}
-use Rattle.mig_bytes.specs.Fields.{le64}
+use Rattle.std.specs.Prelude.{◌≡◌, ◌≤◌, ◌<◌, ⊤, ℕ, ◌/◌, ◌%◌, ◌^◌, Bool, List, Some, ◌==◌, ◌&&◌, not, nat_le, if◌then◌else◌}
 use Rattle.mig_pagetypes.specs.PageTypes.{level_of}
 use Rattle.mig_guest.specs.declared.table.Entry.{Entry}
 use Rattle.mig_guest.specs.declared.table.Entry.TheVariants.{Blank, NotPresent, Superpage, Frame}
+use Rattle.mig_guest.specs.Longs.{long_at, each_long}
 use Rattle.mig_guest.specs.Frames.{FrameOf}
 
 abbrev pub is_present : ℕ → Bool
@@ -28,7 +28,7 @@ entry_of level slot e = if is_blank_slot level slot then Blank else if not (is_p
 
 -- what this slot of a page says, as a table of this level
 abbrev pub entry : ℕ → List ℕ → ℕ → Entry
-entry level page slot = entry_of level slot (le64 page (8 * slot))
+entry level page slot = entry_of level slot (long_at page slot)
 
 -- P holds of what each slot of the frame says, where the frame is a table
 abbrev pub EachEntry : (Entry → Type 0) → FrameOf → Type 0
@@ -40,3 +40,12 @@ IsWithin top Blank = ⊤
 IsWithin top NotPresent = ⊤
 IsWithin top Superpage = ⊥
 IsWithin top (Frame n) = n ≤ top
+
+-- ---- the blank form
+
+unfoldable pub blanked_entry : ℕ → ℕ → ℕ → ℕ
+blanked_entry level slot e = if is_blank_slot level slot then 0 else e
+
+-- a table of this level with 0 in the blank slots
+abbrev pub blanked_table : ℕ → List ℕ → List ℕ
+blanked_table level page = each_long 512 (blanked_entry level) page
