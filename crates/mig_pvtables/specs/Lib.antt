@@ -1,1 +1,5 @@
+pub mod P2mFrames
+pub mod VcpuContexts
+pub mod Blank
+pub mod Faults
 pub mod Whole

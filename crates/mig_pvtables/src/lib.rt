@@ -1,5 +1,9 @@
 //! Whole guests and their blank form.
 //!
-//! So far definitions alone, of HVM guests: what a whole guest is, and what is wrong with a guest at the end of its
-//! stream. Page tables and the contexts of vCPUs come with PV guests.
+//! So far definitions and laws: what is wrong with a guest at the end of its stream, what a whole guest is, and what its
+//! blank form is. Code that tests a PV guest, and brings it to its blank form, comes with PV streams.
 #![tactic(auto)]
+
+mod law;
+
+pub use law::{hvm_guest_has_two_faults, hvm_guest_is_blank, hvm_guest_is_whole};

@@ -26,7 +26,10 @@ use Rattle.mig_guest.specs.PartKeys.{context_key}
 use Rattle.mig_records.specs.Faults.{long_rows, length_rows, type_allows, fault_of_long, fault_of_length}
 use Rattle.mig_order.specs.Order.{IsInOrder, fault_of_type}
 use Rattle.mig_order.proofs.OrderLaw.{faultless_is_in_order}
-use Rattle.mig_pvtables.specs.Whole.{guest_rows, fault_of_guest}
+use Rattle.mig_pvtables.specs.Faults.{fault_of_guest}
+use Rattle.mig_pvtables.proofs.HvmGuests.{hvm_faultless}
+use Rattle.mig_headers.specs.declared.kind.Kind.TheVariants.{Hvm}
+use Rattle.mig_restore.proofs.Meaning.{mean_kind}
 use Rattle.mig_restore.specs.Record.{StreamRecord, types_of, is_ended}
 use Rattle.mig_restore.specs.Judging.{Opening, Before, opening_of, before, is_built, fault_of_built, fault_of_fields, fault_of_head, head_at, fault_at_end, body_at, record_at, next_at}
 use Rattle.mig_restore.specs.Mean.{mean}
@@ -39,7 +42,7 @@ use Rattle.mig_restore.proofs.Parts.{begins, behind_head, behind_body, asks, beh
 use Rattle.mig_restore.proofs.Arrivals.{goes_on, ends_at, accepted, stops_ended}
 use Rattle.mig_bytes.proofs.Joins.{then_passes, tried_none}
 use Rattle.mig_headers.proofs.FirstFaults.{no_fault, neither_some}
-use Rattle.mig_restore.proofs.Passing.{ge_ltb}
+use Rattle.mig_restore.proofs.Passing.{ge_ltb, ends_hvm}
 use Rattle.mig_restore.proofs.BodiesPass.{body_goes, length_fits}
 use Rattle.mig_restore.proofs.Laws.{accepted_is_image}
 
@@ -59,18 +62,14 @@ fine_fields b type len built small in_order allowed few =
     few_is : (n : ℕ) → n < 2 ^ 28 → nat_le (2 ^ 28) n ≡ false
     few_is n h = grind (arith, common_steps)
 
-is_there : {X : Type 0} (x : Option X) → IsSome x → is_none x ≡ false
-is_there None e = absurd (cc)
-is_there (Some x) e = refl
-
-fine_at_end : (type : ℕ) (g : GuestOf) → (type ≡ 0 → IsComplete g) → fault_at_end type g ≡ None
-fine_at_end type g complete = by (nat_eq type 0) refl
+fine_at_end : (type : ℕ) (g : GuestOf) → (type ≡ 0 → g.kind ≡ Hvm) → (type ≡ 0 → IsComplete g) → fault_at_end type g ≡ None
+fine_at_end type g hvm complete = by (nat_eq type 0) refl
   where
-    whole : IsComplete g → fault_of_guest g ≡ None
-    whole c = no_fault (guest_rows g) (is_there (maps.get g.parts context_key) c.context, (ge_ltb _ _ c.few, tt))
+    whole : type ≡ 0 → fault_of_guest g ≡ None
+    whole is = let c = complete is in hvm_faultless g (hvm is) c.context c.few
 
     by : (b : Bool) → nat_eq type 0 ≡ b → fault_at_end type g ≡ None
-    by true is = rw is (whole (complete (eqb-true type 0 is)))
+    by true is = rw is (whole (eqb-true type 0 is))
     by false is = rw is refl
 
 record_goes : (o : Opening) (records : List StreamRecord) (r : StreamRecord) (text rest : List ℕ) → Follows o records r text → record_at (before o records) (text ++ rest) ≡ Passes r rest
@@ -95,7 +94,7 @@ unfolding behind_record
 next_goes o records r text rest f =
     asks o records (text ++ rest)
     ∙ then_passes (record_at (before o records) (text ++ rest)) (behind_record o records) r rest _ (record_goes o records r text rest f)
-    (tried_none (fault_at_end r.type (mean o.kind (records ++ r ∷ []))) rest _ (fine_at_end r.type (mean o.kind (records ++ r ∷ [])) f.complete))
+    (tried_none (fault_at_end r.type (mean o.kind (records ++ r ∷ []))) rest _ (fine_at_end r.type (mean o.kind (records ++ r ∷ [])) (λ zero. mean_kind o.kind (records ++ r ∷ []) ∙ ends_hvm o.kind r.type zero f.built) f.complete))
 
 -- ---- a front, and the whole image
 

@@ -23,7 +23,8 @@ use Rattle.mig_guest.specs.PartKeys.{context_key}
 use Rattle.mig_records.specs.Faults.{long_rows, length_rows, type_allows, fault_of_long, fault_of_length}
 use Rattle.mig_order.specs.Order.{IsInOrder, fault_of_type}
 use Rattle.mig_order.proofs.OrderLaw.{faultless_is_in_order}
-use Rattle.mig_pvtables.specs.Whole.{guest_rows, fault_of_guest}
+use Rattle.mig_pvtables.specs.Faults.{fault_of_guest}
+use Rattle.mig_pvtables.proofs.HvmGuests.{hvm_complete}
 use Rattle.mig_restore.specs.Record.{StreamRecord, types_of, is_ended}
 use Rattle.mig_restore.specs.Judging.{Opening, Before, opening_of, before, is_built, fault_of_built, fault_of_number, fault_of_fields, fault_of_head, head_at, fault_at_end, body_at, record_at, next_at}
 use Rattle.mig_restore.specs.Mean.{mean}
@@ -33,7 +34,8 @@ use Rattle.mig_restore.specs.Stream.{Front, one_more, at_start, front_of, front_
 use Rattle.mig_restore.proofs.Parts.{begins, behind_head, behind_body, asks, behind_record}
 use Rattle.mig_restore.proofs.Arrivals.{goes_on, front_stops}
 use Rattle.mig_headers.proofs.FirstFaults.{rows_fine, both_none}
-use Rattle.mig_restore.proofs.Passing.{not_false}
+use Rattle.mig_restore.proofs.Meaning.{mean_kind}
+use Rattle.mig_restore.proofs.Passing.{not_false, ends_hvm}
 use Rattle.mig_restore.proofs.Bodies.{body_says}
 
 -- ---- a head
@@ -64,15 +66,12 @@ fields_fine b type len fine =
 
 -- ---- the guest at END
 
-some_is : {X : Type 0} (x : Option X) → is_none x ≡ false → IsSome x
-some_is None e = absurd (cc)
-some_is (Some x) e = refl
-
-complete_at_end : (type : ℕ) (g : GuestOf) → fault_at_end type g ≡ None → type ≡ 0 → IsComplete g
-complete_at_end type g fine is =
+complete_at_end : (o : Opening) (records : List StreamRecord) (type : ℕ) → is_built o.kind type ≡ true → fault_at_end type (mean o.kind records) ≡ None → type ≡ 0 → IsComplete (mean o.kind records)
+complete_at_end o records type built fine is =
+    let g = mean o.kind records in
     let at_end : fault_of_guest g ≡ None = subst (λ t. fault_at_end t g ≡ None) is fine in
-    let a = rows_fine (guest_rows g) at_end in
-    record { context = some_is (maps.get g.parts context_key) a.0; few = ltb-false (2 ^ 24) (length (maps.entries g.frames)) a.1.0 }
+    let words = hvm_complete g (mean_kind o.kind records ∙ ends_hvm o.kind type is built) at_end in
+    record { context = words.0; few = words.1 }
 
 -- ---- a whole record
 
@@ -124,7 +123,7 @@ found o records i r rest going h =
         ordered = fine.ordered;
         few = subst (λ n. n < 2 ^ 28) (length-map records (λ (x : StreamRecord). x.type)) fine.few;
         not_ended = going;
-        complete = complete_at_end type (mean o.kind (records ++ record { type = type; content = c.x } ∷ []))
+        complete = complete_at_end o (records ++ record { type = type; content = c.x } ∷ []) type fine.built
             (subst (λ (x : StreamRecord). fault_at_end x.type (mean o.kind (records ++ x ∷ [])) ≡ None) (sym is_record) whole.0);
       };
     })

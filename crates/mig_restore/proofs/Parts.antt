@@ -9,7 +9,7 @@ use Rattle.mig_headers.specs.declared.fault.Cause.TheVariants.{Truncated}
 use Rattle.mig_headers.specs.declared.kind.Kind.{Kind}
 use Rattle.mig_records.specs.declared.head.RecordHead.{RecordHead}
 use Rattle.mig_records.specs.Heads.{head_in}
-use Rattle.mig_pvtables.specs.Whole.{fault_of_guest}
+use Rattle.mig_pvtables.specs.Faults.{fault_of_guest}
 use Rattle.mig_restore.specs.Mean.{mean}
 use Rattle.mig_restore.specs.Record.{StreamRecord, Content}
 use Rattle.mig_restore.specs.Judging.{Opening, Before, before, record_at, next_at, head_at, body_at, fault_at_end}

@@ -24,7 +24,7 @@ use Rattle.mig_records.specs.Words.{words, data_len_of}
 use Rattle.mig_order.specs.Order.{fault_of_type}
 use Rattle.mig_hvm.specs.Params.{fault_of_params, params_in}
 use Rattle.mig_policy.specs.Policies.{leaves_in, msrs_in, tsc_in}
-use Rattle.mig_pvtables.specs.Whole.{fault_of_guest}
+use Rattle.mig_pvtables.specs.Faults.{fault_of_guest}
 use Rattle.mig_restore.specs.Mean.{mean}
 use Rattle.mig_restore.specs.Record.{Entry, StreamRecord, Content, types_of}
 use Rattle.mig_restore.specs.Record.Content.{Nothing, Frames, Parts, Policy}

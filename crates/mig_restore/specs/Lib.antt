@@ -2,6 +2,6 @@ pub mod Judging
 pub mod Mean
 pub mod Record
 pub mod Seen
-pub mod SoFar
+pub mod Grows
 pub mod Spelled
 pub mod Stream

@@ -15,7 +15,7 @@ use Rattle.mig_records.specs.Words.{words, has_reserved_type, names_outside}
 use Rattle.mig_order.specs.Order.{IsInOrder}
 use Rattle.mig_hvm.specs.Params.{IsParams}
 use Rattle.mig_policy.specs.Policies.{AreLeaves, AreMsrs}
-use Rattle.mig_pvtables.specs.Whole.{IsFew}
+use Rattle.mig_guest.specs.Frames.{IsFew}
 use Rattle.mig_restore.specs.Judging.{Opening, most_records, is_built, type_in_word}
 use Rattle.mig_restore.specs.Mean.{mean}
 use Rattle.mig_restore.specs.Record.{StreamRecord, Entry, Content, types_of, is_ended}

@@ -10,7 +10,7 @@ ghost use Rattle.mig_pagetypes.specs.FrameWords.{word_pfn};
 ghost use Rattle.mig_restore.specs.Mean.{meant_type, put_entry, put_entries, put_content};
 ghost use Rattle.mig_restore.specs.Judging.{context_at, params_at, plain_at, tsc_says, leaves_say, msrs_say, words_at, type_in_word, entry_at, pages_at, typed_at, body_at};
 ghost use Rattle.mig_restore.specs.Record.Content.{Nothing};
-ghost use Rattle.mig_restore.specs.SoFar.{Grows};
+ghost use Rattle.mig_restore.specs.Grows.{Grows};
 ghost use Rattle.mig_restore.specs.Spelled.{IsGoodWord};
 
 use mig_bytes::{ReadFailed, Source, Stop, skip, take_long, take_part, u32_le, u64_le};

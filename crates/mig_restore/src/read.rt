@@ -5,13 +5,14 @@ ghost use Rattle.mig_bytes.specs.Judged.{Gives, part};
 ghost use Rattle.mig_bytes.specs.declared.part.Stop.TheVariants.{Memory};
 ghost use Rattle.mig_headers.specs.declared.fault.Cause.TheVariants.{Truncated};
 ghost use Rattle.mig_headers.specs.declared.kind.Kind.TheVariants.{Hvm};
-ghost use Rattle.mig_guest.specs.Frames.{IsSized};
-ghost use Rattle.mig_pvtables.specs.Whole.{IsWhole, fault_of_guest};
+ghost use Rattle.mig_guest.specs.Formed.{HasNoEmulators};
+ghost use Rattle.mig_pvtables.specs.Faults.{fault_of_guest};
+ghost use Rattle.mig_pvtables.specs.Whole.{IsWhole};
 ghost use Rattle.mig_restore.specs.Mean.{mean, put_record};
 ghost use Rattle.mig_restore.specs.Record.{StreamRecord, types_of};
 ghost use Rattle.mig_restore.specs.Judging.{Opening, Before, most_records, is_built, opening_of, record_at, next_at};
 ghost use Rattle.mig_restore.specs.Seen.{IsSeen};
-ghost use Rattle.mig_restore.specs.SoFar.{Grows};
+ghost use Rattle.mig_restore.specs.Grows.{Grows};
 ghost use Rattle.mig_restore.specs.Stream.{or_stop, ReadsImage, IsReading, image_at, records_at, opening_at, marker_at, version_at, kind_at};
 
 use crate::answer::{StreamAnswer, answer};
@@ -47,10 +48,10 @@ fn read_padding<S: Source>(src: &mut S, len: u32) -> Result<(), Stop<Cause>>
     take_part(src, &mut padding[..pad_len(len)], Cause::Truncated)
 }
 
-/// What is wrong with the whole guest, at the record that ends the image.
+/// What is wrong with an HVM guest, at the record that ends the image.
 fn guest_fault(guest: &Guest) -> Option<Cause>
-    ensures fault { result ≡ fault_of_guest guest.now }
-    ensures sized { IfNone result (IsSized guest.now.frames) }
+    requires { guest.now.kind ≡ Hvm }
+    ensures { result ≡ fault_of_guest guest.now }
 {
     let context = PartKey {
         code: 9,
@@ -95,11 +96,12 @@ pub(crate) fn read_next<S: Source>(
     seen: &mut Seen,
     guest: &mut Guest,
 ) -> Result<bool, Stop<Cause>>
+    requires { seen.old.kind ≡ guest.old.kind }
     ensures read { (o : Opening) (records : List StreamRecord) → IsSeen seen.old o (types_of records) → guest.old ≡ mean o.kind records →
         Gives (λ over r. (guest.new ≡ put_record guest.old r) × IsSeen seen.new o (types_of (records ++ r ∷ [])) × (over ≡ (r.type == 0)))
         (S.left src.old) (S.left src.new) (next_at o records) result }
     ensures grown { OnOk result (Grows guest.old guest.new) }
-    ensures whole { IfOk result (λ over. over ≡ true → (fault_of_guest guest.new ≡ None) × IsSized guest.new.frames × (seen.old.kind ≡ Hvm)) }
+    ensures whole { IfOk result (λ over. over ≡ true → (fault_of_guest guest.new ≡ None) × (guest.new.kind ≡ Hvm)) }
     ensures counted { OnOk result ((seen.new.records ≡ seen.old.records + 1) × (seen.old.records < most_records)) }
     ensures kind { seen.new.kind ≡ seen.old.kind }
     ensures faults { RisesOnReadFault (S.faults src.old) (S.faults src.new) result }
@@ -121,7 +123,7 @@ fn read_records<S: Source>(
     kind: Kind,
 ) -> Result<Reading, Stop<(Place, Cause)>>
     ensures read { Gives IsReading (S.left src.old) (S.left src.new) (records_at (opening_of version kind)) result }
-    ensures whole { IfOk result (λ reading. IsWhole reading.guest) }
+    ensures whole { IfOk result (λ reading. IsWhole reading.guest × (reading.guest.kind ≡ Hvm) × HasNoEmulators reading.guest.parts) }
     ensures faults { RisesOnReadFault (S.faults src.old) (S.faults src.new) result }
 {
     let mut seen = Seen::new(version, kind);
@@ -208,7 +210,7 @@ fn read_opening<S: Source>(src: &mut S) -> Result<(u32, Kind), Stop<(Place, Caus
 /// Takes the headers and the records.
 fn read_parts<S: Source>(alloc: Global, src: &mut S) -> Result<Reading, Stop<(Place, Cause)>>
     ensures read { Gives IsReading (S.left src.old) (S.left src.new) image_at result }
-    ensures whole { IfOk result (λ reading. IsWhole reading.guest) }
+    ensures whole { IfOk result (λ reading. IsWhole reading.guest × (reading.guest.kind ≡ Hvm) × HasNoEmulators reading.guest.parts) }
     ensures faults { RisesOnReadFault (S.faults src.old) (S.faults src.new) result }
 {
     let (version, kind) = read_opening(src)?;
@@ -220,7 +222,7 @@ fn read_parts<S: Source>(alloc: Global, src: &mut S) -> Result<Reading, Stop<(Pl
 /// a read failed.
 pub fn read_image<S: Source>(alloc: Global, src: &mut S) -> Result<Reading, StreamAnswer>
     ensures read { ReadsImage (S.left src.old) (S.left src.new) result }
-    ensures whole { IfOk result (λ reading. IsWhole reading.guest) }
+    ensures whole { IfOk result (λ reading. IsWhole reading.guest × (reading.guest.kind ≡ Hvm) × HasNoEmulators reading.guest.parts) }
     ensures faults { RisesOnReadFault (S.faults src.old) (S.faults src.new) (or_stop result) }
 {
     match read_parts(alloc, src) {

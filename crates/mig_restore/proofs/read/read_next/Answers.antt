@@ -3,7 +3,7 @@ use Rattle.std.proofs.lemmas.Grind.{common_steps}
 use Rattle.std.proofs.lemmas.List.{map-append}
 use Rattle.mig_bytes.proofs.Joins.{done, then_reads, stopped, refused}
 use Rattle.mig_guest.specs.Guests.{GuestOf}
-use Rattle.mig_pvtables.specs.Whole.{fault_of_guest}
+use Rattle.mig_pvtables.specs.Faults.{fault_of_guest}
 use Rattle.mig_restore.specs.Mean.{mean, put_record}
 use Rattle.mig_restore.specs.Record.{StreamRecord, types_of}
 use Rattle.mig_restore.specs.Judging.{Opening, before, record_at, next_at}
@@ -47,7 +47,7 @@ returns-in-Some-clause-read g c = λ o records seen guest.
     then_reads _ _ _ _ _ (record_at (before o records)) (next_at o records) (behind_record o records) c.in_ok-take_record.field-0 _ (asks o records)
     (c.in_ok-take_record.ensures.read (before o records) seen (guest_kind _ o records guest) (guest_top _ o records guest))
     (λ r told. refused _ _ (λ i. behind_record o records (r, i)) c.in-Some.cause
-    (last_faulty o records r c.in-Some.cause (sym told.1 ∙ c.if-branch-ne-END.false) (ap fault_of_guest (sym (meant _ _ o records r guest told.0)) ∙ sym c.in-Some.ensures.fault)))
+    (last_faulty o records r c.in-Some.cause (sym told.1 ∙ c.if-branch-ne-END.false) (ap fault_of_guest (sym (meant _ _ o records r guest told.0)) ∙ sym c.in-Some.ensures)))
 
 pub returns-in-None-clause-read : goal.returns-in-None-clause-read
 returns-in-None-clause-read g c = λ o records seen guest.
@@ -55,5 +55,5 @@ returns-in-None-clause-read g c = λ o records seen guest.
     (c.in_ok-take_record.ensures.read (before o records) seen (guest_kind _ o records guest) (guest_top _ o records guest))
     (λ r told. let zero : r.type ≡ 0 = sym told.1 ∙ c.if-branch-ne-END.false in
     done _ _ (λ i. behind_record o records (r, i)) true r
-    (last_fine o records r zero (ap fault_of_guest (sym (meant _ _ o records r guest told.0)) ∙ sym c.in-None.ensures.fault))
+    (last_fine o records r zero (ap fault_of_guest (sym (meant _ _ o records r guest told.0)) ∙ sym c.in-None.ensures))
     (told.0, seen_more _ o records r _ told.1 (c.in_ok-take_record.ensures.seen o (types_of records) seen), sym (same_is r.type 0 zero)))

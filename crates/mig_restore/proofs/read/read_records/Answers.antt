@@ -1,22 +1,26 @@
-use Rattle.std.proofs.Common.{◌≡◌, refl, rules, subst, sym, ◌∙◌, Err}
+use Rattle.std.proofs.Common.{◌≡◌, ℕ, List, Some, None, refl, rules, subst, sym, ◌∙◌, Err}
 use Rattle.mig_guest.specs.Guests.{GuestOf}
 use Rattle.mig_bytes.specs.Judged.{Gives}
 use Rattle.mig_restore.specs.declared.read.Reading.{Reading}
 use Rattle.mig_restore.specs.Stream.{records_at, IsReading}
 use Rattle.mig_restore.specs.Judging.{opening_of}
-use Rattle.mig_restore.specs.SoFar.{IsSoFar}
-use Rattle.mig_restore.proofs.Growth.{empty_so_far, whole_at_end}
+use Rattle.std.specs.FinMap.{get-empty}
+use Rattle.mig_headers.specs.declared.kind.Kind.TheVariants.{Hvm}
+use Rattle.mig_guest.specs.Order.{part_cmp}
+use Rattle.mig_guest.specs.Formed.{IsFormed, HasNoEmulators}
+use Rattle.mig_guest.proofs.Kept.{empty_formed}
 use Rattle.mig_restore.proofs.Arrivals.{arrived_first, arrived_next, arrived_end, arrived_stopped}
 use Rattle.mig_restore.proofs.read.read_records.Goals as goal
 
-started : (g : GuestOf) (e : GuestOf) → g ≡ e → IsSoFar e → IsSoFar g
-started g e is h = subst IsSoFar (sym is) h
+none_some : (bytes : List ℕ) → None ≡ Some bytes → ⊥
+none_some bytes e = cc
 
 pub records-init : goal.records-init
 records-init g c = record {
   arrived = arrived_first (opening_of c.args.version c.args.kind) _ c.new-seen.result c.new-guest.result c.new-seen.ensures.seen c.new-guest.ensures;
   kind = search rules;
-  so_far = empty_so_far c.new-guest.result (search rules) (search rules) (search rules);
+  formed = λ hvm. subst IsFormed (sym c.new-guest.ensures) (empty_formed c.args.kind);
+  plain = subst (λ (x : GuestOf). HasNoEmulators x.parts) (sym c.new-guest.ensures) (λ key bytes got. absurd (none_some bytes (sym (get-empty part_cmp key) ∙ got)));
   few = search rules;
   quiet = search rules;
 }
@@ -25,7 +29,8 @@ pub records-preserved : goal.records-preserved
 records-preserved g c = record {
   arrived = arrived_next (opening_of c.args.version c.args.kind) _ _ _ c.records.seen c.read_next.new.seen c.records.guest c.read_next.new.guest c.in-Ok.over c.if-over.false c.records.invariant.arrived (c.in-Ok.ensures.read (opening_of c.args.version c.args.kind));
   kind = c.read_next.ensures.kind ∙ c.records.invariant.kind ∙ sym c.in-Ok.ensures.grown.kind;
-  so_far = c.in-Ok.ensures.grown.kept c.records.invariant.so_far;
+  formed = λ hvm. let before = sym c.in-Ok.ensures.grown.kind ∙ hvm in c.in-Ok.ensures.grown.kept before (c.records.invariant.formed before);
+  plain = c.in-Ok.ensures.grown.plain c.records.invariant.plain;
   few = search rules;
   quiet = search rules;
 }
@@ -36,9 +41,10 @@ returns-then-over-clause-read g c =
 
 pub returns-then-over-clause-whole : goal.returns-then-over-clause-whole
 returns-then-over-clause-whole g c =
-    let (fine, sized, hvm) = c.in-Ok.ensures.whole c.if-over.true in
+    let (fine, hvm) = c.in-Ok.ensures.whole c.if-over.true in
     let grown = c.in-Ok.ensures.grown in
-    whole_at_end c.read_next.new.guest (grown.kept c.records.invariant.so_far) (grown.kind ∙ sym c.records.invariant.kind ∙ hvm) sized fine
+    let before = sym grown.kind ∙ hvm in
+    (record { formed = grown.kept before (c.records.invariant.formed before); faultless = fine }, hvm, grown.plain c.records.invariant.plain)
 
 pub returns-in-Err-clause-read : goal.returns-in-Err-clause-read
 returns-in-Err-clause-read g c =

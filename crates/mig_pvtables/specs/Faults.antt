@@ -1,0 +1,129 @@
+-- What is wrong with a guest at the end of its stream: each cause at its least place.
+use Rattle.std.specs.Prelude.{ℕ, ◌+◌, ◌*◌, Bool, true, false, List, [], ◌∷◌, length, Option, Some, None, is_some, is_none, ◌==◌, ◌&&◌, ◌||◌, not, nat_le, nat_lt, find, if◌then◌else◌}
+use Rattle.std.specs.List.{list_any, range_with_len}
+use Rattle.std.specs.Option.{option_map, option_or}
+use Rattle.std.specs.FinMap as maps
+use Rattle.mig_headers.specs.declared.kind.Kind.{Kind}
+use Rattle.mig_headers.specs.declared.kind.Kind.TheVariants.{Pv, Hvm}
+use Rattle.mig_headers.specs.declared.fault.Cause.{Cause}
+use Rattle.mig_headers.specs.declared.fault.Cause.TheVariants.{Missing, P2mFrame, TargetAbsent, VcpuFrame, TooManyFrames}
+use Rattle.mig_pagetypes.specs.declared.page_type.PageType.{PageType}
+use Rattle.mig_pagetypes.specs.declared.page_type.PageType.TheVariants.{Notab, L4Tab, L4Pinned}
+use Rattle.mig_pagetypes.specs.PageTypes.{level_of}
+use Rattle.mig_pagetypes.specs.Limits.{most_frames}
+use Rattle.mig_guest.specs.declared.part_key.PartKey.{PartKey}
+use Rattle.mig_guest.specs.declared.table.Entry.{Entry}
+use Rattle.mig_guest.specs.declared.table.Entry.TheVariants.{Frame}
+use Rattle.mig_guest.specs.Frames.{FrameMap}
+use Rattle.mig_guest.specs.Guests.{GuestOf}
+use Rattle.mig_guest.specs.Parts.{PartMap}
+use Rattle.mig_guest.specs.PartKeys.{p2m_key, vcpu_key, shared_key, context_key}
+use Rattle.mig_guest.specs.Tables.{entry}
+use Rattle.mig_guest.specs.Formed.{gdt_ents}
+use Rattle.mig_pvtables.specs.VcpuContexts.{field_value, is_used, frame_of_field}
+use Rattle.mig_pvtables.specs.P2mFrames.{count_in, listed}
+
+-- the first answer that f gives along a list
+abbrev pub first_some : {A C : Type 0} → (A → Option C) → List A → Option C
+first_some f [] = None
+first_some f (x ∷ xs) = option_or (f x) (first_some f xs)
+
+-- the first of some causes that stands
+abbrev pub first_of : {C : Type 0} → List (Option C) → Option C
+first_of [] = None
+first_of (cause ∷ causes) = option_or cause (first_of causes)
+
+-- ---- a part that no guest of this kind goes without
+
+abbrev pub missing : PartMap → PartKey → Option Cause
+missing parts key = if is_none (maps.get parts key) then Some (Missing key.code) else None
+
+-- ---- a P2M frame, by its index
+
+unfoldable pub slots : List ℕ
+slots = range_with_len 0 512
+
+-- the type of a frame
+abbrev pub type_at : FrameMap → ℕ → Option PageType
+type_at frames pfn = option_map (λ f. f.type) (maps.get frames pfn)
+
+abbrev pub is_notab : Option PageType → Bool
+is_notab (Some Notab) = true
+is_notab _ = false
+
+-- some PFN of P2M frame k has a frame
+abbrev pub is_needed : FrameMap → ℕ → Bool
+is_needed frames k = list_any (λ slot. is_some (maps.get frames (512 * k + slot))) slots
+
+abbrev pub is_this : ℕ → Option ℕ → Bool
+is_this pfn None = false
+is_this pfn (Some n) = n == pfn
+
+-- the PFN listed at k isn't a NOTAB frame, or it is listed before, at j, and the frames of j or k are needed
+abbrev pub is_misplaced : FrameMap → PartMap → ℕ → Option ℕ → Bool
+is_misplaced frames parts k None = false
+is_misplaced frames parts k (Some pfn) =
+    not (is_notab (type_at frames pfn)) || list_any (λ j. is_this pfn (listed parts j) && (is_needed frames j || is_needed frames k)) (range_with_len 0 k)
+
+abbrev pub find_p2m : FrameMap → PartMap → Option ℕ
+find_p2m frames parts = find (λ k. is_misplaced frames parts k (listed parts k)) (range_with_len 0 (count_in (maps.get parts p2m_key)))
+
+-- ---- an entry of a table, by the table's frame number and its slot
+
+-- the first slot that passes a test, where there is a table of this level
+abbrev pub find_slot : (Entry → Bool) → Option ℕ → Option (List ℕ) → Option ℕ
+find_slot bad (Some level) (Some page) = find (λ slot. bad (entry level page slot)) slots
+find_slot bad (Some level) None = None
+find_slot bad None page = None
+
+abbrev pub find_entry : (Entry → Bool) → FrameMap → Option (ℕ × ℕ)
+find_entry bad frames = first_some (λ e. option_map (λ slot. (e.0, slot)) (find_slot bad (level_of e.1.type) e.1.page)) (maps.entries frames)
+
+-- it names a frame that isn't there
+abbrev pub is_absent : FrameMap → Entry → Bool
+is_absent frames (Frame n) = is_none (maps.get frames n)
+is_absent frames _ = false
+
+-- ---- a field, by the vCPU's id and its number
+
+unfoldable pub field_numbers : List ℕ
+field_numbers = range_with_len 0 19
+
+-- ctrlreg[3] and ctrlreg[1] are for level 4 tables, pinned or not; the other fields for NOTAB frames
+abbrev pub is_root : Option PageType → Bool
+is_root (Some L4Tab) = true
+is_root (Some L4Pinned) = true
+is_root _ = false
+
+abbrev pub fits_field : ℕ → Option PageType → Bool
+fits_field field type = if nat_le field 16 then is_notab type else is_root type
+
+-- the field is used, and says no frame of its type
+abbrev pub misfits : FrameMap → ℕ → List ℕ → ℕ → Bool
+misfits frames id context field =
+    is_used id (gdt_ents context) field (field_value context field) && not (fits_field field (type_at frames (frame_of_field field (field_value context field))))
+
+abbrev pub find_field : FrameMap → PartMap → Option (ℕ × ℕ)
+find_field frames parts =
+    first_some (λ e. if e.0.code == 4 then option_map (λ field. (e.0.key1, field)) (find (misfits frames e.0.key1 e.1) field_numbers) else None) (maps.entries parts)
+
+-- ---- a guest at the end of its stream
+
+abbrev pub too_many : FrameMap → Option Cause
+too_many frames = if nat_lt most_frames (length (maps.entries frames)) then Some TooManyFrames else None
+
+-- the causes that are tried, in the order of their numbers. An HVM guest has no P2M frames, tables and contexts of vCPUs.
+abbrev pub faults_for : Kind → GuestOf → List (Option Cause)
+faults_for Hvm g = missing g.parts context_key ∷ too_many g.frames ∷ []
+faults_for Pv g =
+    missing g.parts p2m_key
+    ∷ missing g.parts shared_key
+    ∷ missing g.parts (vcpu_key 0)
+    ∷ option_map (λ k. P2mFrame k) (find_p2m g.frames g.parts)
+    ∷ option_map (λ at. TargetAbsent at.0 at.1) (find_entry (is_absent g.frames) g.frames)
+    ∷ option_map (λ at. VcpuFrame at.0 at.1) (find_field g.frames g.parts)
+    ∷ too_many g.frames
+    ∷ []
+
+abbrev pub fault_of_guest : GuestOf → Option Cause
+fault_of_guest g = first_of (faults_for g.kind g)

@@ -1,0 +1,29 @@
+ghost use Rattle.std.specs.Prelude.{◌≡◌, ◌↔◌, ◌∷◌, [], length, is_none, nat_lt, IsSome};
+ghost use Rattle.std.specs.FinMap as maps;
+ghost use Rattle.mig_headers.specs.Rows.{first_fault};
+ghost use Rattle.mig_headers.specs.declared.fault.Cause.TheVariants.{Missing, TooManyFrames};
+ghost use Rattle.mig_headers.specs.declared.kind.Kind.TheVariants.{Hvm};
+ghost use Rattle.mig_pagetypes.specs.Limits.{most_frames};
+ghost use Rattle.mig_guest.specs.Formed.{IsFormed};
+ghost use Rattle.mig_guest.specs.Frames.{IsFew};
+ghost use Rattle.mig_guest.specs.Guests.{GuestOf};
+ghost use Rattle.mig_guest.specs.PartKeys.{context_key};
+ghost use Rattle.mig_pvtables.specs.Blank.{blank};
+ghost use Rattle.mig_pvtables.specs.Faults.{fault_of_guest};
+ghost use Rattle.mig_pvtables.specs.Whole.{IsWhole};
+
+/// Of an HVM guest two causes are tried: that it has no context, and that it has too many frames.
+pub fn hvm_guest_has_two_faults()
+    ensures { (g : GuestOf) → g.kind ≡ Hvm → fault_of_guest g ≡
+        first_fault ((is_none (maps.get g.parts context_key), Missing 9) ∷ (nat_lt most_frames (length (maps.entries g.frames)), TooManyFrames) ∷ []) }
+{}
+
+/// A whole HVM guest is a well formed one that has a context and not too many frames.
+pub fn hvm_guest_is_whole()
+    ensures { (g : GuestOf) → g.kind ≡ Hvm → IsWhole g ↔ (IsFormed g × IsSome (maps.get g.parts context_key) × IsFew g.frames) }
+{}
+
+/// An HVM guest is its own blank form.
+pub fn hvm_guest_is_blank()
+    ensures { (g : GuestOf) → g.kind ≡ Hvm → blank g ≡ g }
+{}
