@@ -1,5 +1,5 @@
 -- The canonical stream of a guest: stated records in a stated order, keys ascending, all that a reader ignores zero.
--- So far for HVM guests.
+-- So far for HVM guests without emulator parts.
 use Rattle.std.specs.Prelude.{ℕ, ◌*◌, List, [], ◌∷◌, ◌++◌, length, take, drop, map, replicate, unwrap_or}
 use Rattle.byteorder.specs.Endian.{little_bytes}
 use Rattle.std.specs.Int.{div_ceil}

@@ -1,6 +1,8 @@
-ghost use Rattle.std.specs.Prelude.{◌≡◌, ◌≢◌, ◌+◌, ◌<◌, ◌≤◌, ◌^◌, OnOk, IfOk};
+ghost use Rattle.std.specs.Prelude.{◌≡◌, ℕ, false, ◌+◌, ◌<◌, ◌≤◌, ◌^◌, OnOk, IfOk};
 ghost use Rattle.std.specs.FinMap as maps;
-ghost use Rattle.mig_pvtables.specs.Whole.{IsWhole, IsHvmPart};
+ghost use Rattle.mig_headers.specs.declared.kind.Kind.TheVariants.{Hvm};
+ghost use Rattle.mig_guest.specs.Formed.{IsPart, IsPlainHvm, is_emulator_code};
+ghost use Rattle.mig_pvtables.specs.Whole.{IsWhole};
 
 use crate::write_canon;
 use mig_bytes::{MemSink, Memory, WriteFailed};
@@ -44,13 +46,13 @@ const FIRST_BATCH: [u8; 24] = [
     1, 0, 0, 0, 8, 0x20, 0x40, 0, 0, 4, 0, 0, 0, 0, 0, 0, 3, 0, 0, 0, 0, 0, 0, 0,
 ];
 
-// Adds a part that is no context.
+// Adds a part that is no emulator's.
 fn add_part(guest: &mut Guest, key: PartKey, bytes: &[u8]) -> Result<(), Memory>
-    requires whole { IsWhole guest.old }
-    requires part { IsHvmPart key bytes.now }
-    requires other { key.code ≢ 9 }
+    requires whole { IsWhole guest.old × IsPlainHvm guest.old }
+    requires part { (width : ℕ) → IsPart Hvm width key bytes.now }
+    requires plain { is_emulator_code key.code ≡ false }
     requires few { maps.len guest.old.parts < 65536 }
-    ensures whole { OnOk result (IsWhole guest.new) }
+    ensures whole { OnOk result (IsWhole guest.new × IsPlainHvm guest.new) }
     ensures len { OnOk result (maps.len guest.new.parts ≤ maps.len guest.old.parts + 1) }
 {
     guest.set_part(key, bytes)
@@ -58,7 +60,7 @@ fn add_part(guest: &mut Guest, key: PartKey, bytes: &[u8]) -> Result<(), Memory>
 
 // A guest with a context alone.
 fn smallest(alloc: Global) -> Result<Guest, Memory>
-    ensures whole { IfOk result (λ g. IsWhole g) }
+    ensures whole { IfOk result (λ g. IsWhole g × IsPlainHvm g) }
     ensures len { IfOk result (λ g. maps.len g.parts ≤ 1) }
 {
     let mut guest = Guest::new(alloc, Kind::Hvm);
@@ -82,7 +84,7 @@ fn key(code: u32, key1: u32, key2: u32) -> PartKey
 
 // A guest with all kinds of parts, which are set in another order.
 fn with_parts(alloc: Global) -> Result<Guest, Memory>
-    ensures { IfOk result (λ g. IsWhole g) }
+    ensures { IfOk result (λ g. IsWhole g × IsPlainHvm g) }
 {
     let mut guest = smallest(alloc)?;
     add_part(&mut guest, key(10, 5, 0), &[0xd5; 8])?;
@@ -101,9 +103,9 @@ fn page() -> [u8; 4096] {
 
 // Adds a frame with a page; no memory where there are too many.
 fn add_frame(guest: &mut Guest, pfn: u64) -> Result<(), Memory>
-    requires whole { IsWhole guest.old }
+    requires whole { IsWhole guest.old × IsPlainHvm guest.old }
     requires small { pfn < 2 ^ 28 }
-    ensures { OnOk result (IsWhole guest.new) }
+    ensures { OnOk result (IsWhole guest.new × IsPlainHvm guest.new) }
 {
     guest.set_frame(pfn, PageType::Notab, Some(&page()))?;
     if guest.frames() > 1 << 24 {
@@ -114,9 +116,9 @@ fn add_frame(guest: &mut Guest, pfn: u64) -> Result<(), Memory>
 
 // Adds so many frames.
 fn add_frames(guest: &mut Guest, count: u64) -> Result<(), Memory>
-    requires whole { IsWhole guest.old }
+    requires whole { IsWhole guest.old × IsPlainHvm guest.old }
     requires small { count ≤ 2000 }
-    ensures { OnOk result (IsWhole guest.new) }
+    ensures { OnOk result (IsWhole guest.new × IsPlainHvm guest.new) }
 {
     for i in 0..count {
         add_frame(guest, 3 + i)?;

@@ -1,6 +1,7 @@
 ghost use Rattle.std.specs.Prelude.{◌≡◌, ◌++◌, map};
 ghost use Rattle.mig_bytes.specs.Bytes.{Puts};
 ghost use Rattle.mig_bytes.specs.Faults.{HasCause};
+ghost use Rattle.mig_guest.specs.Formed.{IsPlainHvm};
 ghost use Rattle.mig_pvtables.specs.Whole.{IsWhole};
 ghost use Rattle.mig_canon.specs.Canon.{headers, static_bodies, last_bodies, tsc_body, of_code, text_of, canon};
 
@@ -88,9 +89,11 @@ fn write_last<K: Sink>(sink: &mut K, guest: &Guest) -> Result<(), WriteFailed>
     write_record(sink, END, &[])
 }
 
-/// Appends the canonical stream of the guest. After `WriteFailed` some first bytes of it are appended, but not all.
+/// Appends the canonical stream of the guest. After `WriteFailed` some first bytes of it are appended, but not all. So far
+/// of HVM guests without emulator parts.
 pub fn write_canon<K: Sink>(sink: &mut K, guest: &Guest) -> Result<(), WriteFailed>
-    requires { IsWhole guest.now }
+    requires whole { IsWhole guest.now }
+    requires plain { IsPlainHvm guest.now }
     ensures bytes { Puts (canon guest.now) (K.written sink.old) (K.written sink.new) result }
     ensures cause { HasCause (K.faults sink.old) (K.faults sink.new) result }
 {

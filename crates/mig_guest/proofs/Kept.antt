@@ -134,10 +134,10 @@ module _ (P : ℕ → FrameOf → Type 0) where
   not_gone true q frame o others is = let no : ◌≡◌ {A = Option FrameOf} None (Some frame) = is in cc
   not_gone false q frame o others is = others is
 
-  abbrev EachFrame : FrameMap → Type 0
+  abbrev pub EachFrame : FrameMap → Type 0
   EachFrame m = (pfn : ℕ) (frame : FrameOf) → fin.get m pfn ≡ Some frame → P pfn frame
 
-  set_holds : (m : FrameMap) (pfn : ℕ) (f : FrameOf) → EachFrame m → P pfn f → EachFrame (fin.insert m pfn f)
+  pub set_holds : (m : FrameMap) (pfn : ℕ) (f : FrameOf) → EachFrame m → P pfn f → EachFrame (fin.insert m pfn f)
   set_holds m pfn f each holds q frame got =
       this_frame (eq_by_cmp nat_cmp q pfn) pfn q f frame (fin.get m q) (λ e. nat_cmp-IsAntisymmetric q pfn (tied (nat_cmp q pfn) e)) holds (each q frame) (sym (fin.get-insert nat_cmp_total m pfn f q) ∙ got)
 

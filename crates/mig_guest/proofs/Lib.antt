@@ -11,3 +11,4 @@ pub mod Counts
 pub mod Kept
 pub mod Found
 pub mod PartRows
+pub mod CodeParts

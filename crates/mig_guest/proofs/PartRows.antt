@@ -13,9 +13,11 @@ use Rattle.mig_pagetypes.specs.PageTypes.{level_of}
 use Rattle.mig_pagetypes.specs.declared.page_type.PageType.{PageType}
 use Rattle.mig_pagetypes.specs.declared.page_type.PageType.TheVariants.{Notab, L1Tab, L2Tab, L3Tab, L4Tab, L1Pinned, L2Pinned, L3Pinned, L4Pinned, Broken, Xalloc, Xtab}
 use Rattle.mig_guest.specs.declared.table.Entry.{Entry}
-use Rattle.mig_guest.specs.Tables.{EachEntry}
-use Rattle.mig_guest.specs.Frames.{FrameOf, is_hvm_type}
-use Rattle.mig_guest.specs.Formed.{IsPart, IsContent, IsCut}
+use Rattle.mig_guest.specs.Hosts.{IsHostPart}
+use Rattle.mig_guest.specs.Tables.{EachEntry, IsWithin}
+use Rattle.mig_guest.specs.Frames.{FrameOf, IsFrame, is_hvm_type, is_type_of}
+use Rattle.mig_pagetypes.specs.Limits.{pfn_limit}
+use Rattle.mig_guest.specs.Formed.{IsPart, IsContent, IsRawContent, IsCut, IsInside, IsGuestFrame}
 
 pub number_back : (c : PartCode) → code_of_number (code_number c) ≡ Some c
 number_back P2mFrames = refl
@@ -53,6 +55,9 @@ both_true : (a b : Bool) → (a && b) ≡ true → (a ≡ true) × (b ≡ true)
 both_true true true h = (refl, refl)
 both_true true false h = cc
 both_true false b h = cc
+
+pub numbered : (n : ℕ) (c : PartCode) → n ≡ code_number c → code_of_number n ≡ Some c
+numbered n c is = ap code_of_number is ∙ number_back c
 
 -- a part of this code
 pub record IsOf (code : PartCode) (width : ℕ) (p : PartKey × List ℕ) : Type 0 where
@@ -133,12 +138,35 @@ pub msr_is : (kind : Kind) (width index : ℕ) (bytes : List ℕ) → index < 2 
 msr_is kind width index bytes small len =
     record { code = Msr; number = refl; of_kind = refl; keys = refl; small1 = small; small2 = omega arith; len = eq-eqb (length bytes) 12 len; content = tt }
 
+-- ---- a part of a guest is one of its host
+
+raw : (code : PartCode) (bytes : List ℕ) → IsContent code bytes → IsRawContent code bytes
+raw EmulatorPairs bytes h = h
+raw _ bytes h = tt
+
+-- of an HVM guest's parts none has a length that depends on the width
+same_len : (code : PartCode) (v w n : ℕ) → (row_of code).of_kind Hvm ≡ true → (row_of code).allows v n ≡ (row_of code).allows w n
+same_len P2mFrames v w n of_hvm = let no : false ≡ true = of_hvm in cc
+same_len _ v w n of_hvm = refl
+
+pub host_part : (v w : ℕ) (key : PartKey) (bytes : List ℕ) → IsPart Hvm v key bytes → IsHostPart Hvm w key bytes
+host_part v w key bytes is = record {
+  code = is.code;
+  number = is.number;
+  of_kind = is.of_kind;
+  keys = is.keys;
+  small1 = is.small1;
+  small2 = is.small2;
+  len = sym (same_len is.code v w (length bytes) is.of_kind) ∙ is.len;
+  content = raw is.code bytes is.content;
+}
+
 -- ---- frames that are no tables
 
 none_some : (n : ℕ) → None ≡ Some n → ⊥
 none_some n e = cc
 
-pub no_entries : (P : Entry → Type 0) (frame : FrameOf) → is_hvm_type frame.type ≡ true → EachEntry P frame
+no_entries : (P : Entry → Type 0) (frame : FrameOf) → is_hvm_type frame.type ≡ true → EachEntry P frame
 no_entries P frame hvm level page is = absurd (none_some level (sym (no_level frame.type hvm) ∙ is))
   where
     no_level : (t : PageType) → is_hvm_type t ≡ true → level_of t ≡ None
@@ -154,3 +182,13 @@ no_entries P frame hvm level page is = absurd (none_some level (sym (no_level fr
     no_level L3Pinned h = cc
     no_level L4Pinned h = cc
     no_level Xtab h = cc
+
+-- a frame of an HVM guest
+pub hvm_frame : (kind : Kind) (top pfn : ℕ) (frame : FrameOf) → kind ≡ Hvm → pfn < pfn_limit → IsFrame frame → is_hvm_type frame.type ≡ true → IsGuestFrame kind top pfn frame
+hvm_frame kind top pfn frame hvm small is type = record {
+  small = small;
+  inside = subst (λ k. IsInside k top pfn) (sym hvm) tt;
+  is = is;
+  type = subst (λ k. is_type_of k frame.type ≡ true) (sym hvm) type;
+  entries = no_entries (λ e. IsWithin top e) frame type;
+}

@@ -6,15 +6,12 @@ use Rattle.std.specs.Coded.{Coded, code_by, coded×, coded_ℕ, coded_list, code
 use Rattle.mig_headers.specs.declared.kind.Kind.{Kind}
 use Rattle.mig_headers.specs.declared.kind.Kind.TheVariants.{Pv}
 use Rattle.mig_headers.specs.contracts.kind.Kind as kind
-use Rattle.mig_headers.specs.Pairs.{AreCanonicalPairs}
 use Rattle.mig_pagetypes.specs.declared.page_type.PageType.{PageType}
 use Rattle.mig_pagetypes.specs.contracts.page_type.PageType as page_type
 use Rattle.mig_pagetypes.specs.PageTypes.{type_has_data}
-use Rattle.mig_guest.specs.declared.part_code.PartCode.{PartCode}
-use Rattle.mig_guest.specs.declared.part_code.PartCode.TheVariants.{EmulatorPairs}
 use Rattle.mig_guest.specs.declared.part_key.PartKey.{PartKey}
 use Rattle.mig_guest.specs.Frames.{IsFew, is_type_of}
-use Rattle.mig_guest.specs.PartCodes.{code_of_number, row_of}
+use Rattle.mig_guest.specs.Formed.{IsRowPart, IsRawContent}
 use Rattle.mig_guest.specs.Parts.{PartMap, FitsPolicy, parts_code}
 
 -- a frame: its type, its machine frame (MFN), and the raw page where the type has data
@@ -52,16 +49,9 @@ pub record IsHostFrame (kind : Kind) (width pfn : ℕ) (frame : HostFrame) : Typ
   pub in_step : is_some frame.page ≡ type_has_data frame.type
   pub whole : (page : List ℕ) → frame.page ≡ Some page → length page ≡ 4096
 
--- a part that its code's row has
-pub record IsHostPart (kind : Kind) (width : ℕ) (key : PartKey) (bytes : List ℕ) : Type 0 where
-  pub code : PartCode
-  pub numbered : code_of_number key.code ≡ Some code
-  pub of_kind : (row_of code).of_kind kind ≡ true
-  pub keys : (row_of code).keys key.key1 key.key2 ≡ true
-  pub small1 : key.key1 < 2 ^ 32
-  pub small2 : key.key2 < 2 ^ 32
-  pub allowed : (row_of code).allows width (length bytes) ≡ true
-  pub pairs : code ≡ EmulatorPairs → AreCanonicalPairs bytes
+-- a part of a host, which is raw
+abbrev pub IsHostPart : Kind → ℕ → PartKey → List ℕ → Type 0
+IsHostPart = IsRowPart IsRawContent
 
 -- no machine frame belongs to two frames
 abbrev pub IsOneToOne : HostFrames → Type 0

@@ -27,7 +27,7 @@ use Rattle.mig_guest.proofs.PartOrder.{part_total}
 use Rattle.mig_image.specs.Image.{part_text}
 use Rattle.mig_image.specs.ImageParts.{part_at, is_full}
 use Rattle.mig_image.proofs.InOrder.{has_from, entries_behind, front_below, get_at, each_entry, no_entries}
-use Rattle.mig_image.proofs.PartTexts.{PartFits, number_is, part_goes}
+use Rattle.mig_image.proofs.PartTexts.{PartFits, part_goes}
 use Rattle.mig_bytes.proofs.Joins.{then_passes}
 
 abbrev pub Entry : Type 0
@@ -138,7 +138,7 @@ small_by EmulatorPairs k is h = let n = two_numbers k.key1 k.key2 h in inr (omeg
 small_by EmulatorContext k is h = let n = two_numbers k.key1 k.key2 h in inr (omega arith, n.0, n.1)
 
 pub small_key : (kind : Kind) (width : ℕ) (k : PartKey) (bytes : List ℕ) → IsHostPart kind width k bytes → Small k
-small_key kind width k bytes is = small_by is.code k (number_is k.code is.code is.numbered) is.keys
+small_key kind width k bytes is = small_by is.code k (sym is.number) is.keys
 
 below : (a b : ℕ) → T (is_lt (nat_cmp a b)) → a < b
 below a b h = grind (arith, common_steps)

@@ -1,5 +1,5 @@
 -- A part that fits behind others is read as it is spelled.
-use Rattle.std.proofs.Common.{◌≡◌, ℕ, zero, suc, ◌+◌, ◌-◌, ◌*◌, ◌/◌, ◌%◌, ◌^◌, ◌<◌, ◌≤◌, Bool, true, false, not, nat_eq, nat_le, List, [], ◌∷◌, ◌++◌, length, replicate, Some, None, refl, sym, ap, ◌∙◌, arith, append_assoc}
+use Rattle.std.proofs.Common.{◌≡◌, ℕ, zero, suc, ◌+◌, ◌-◌, ◌*◌, ◌/◌, ◌%◌, ◌^◌, ◌<◌, ◌≤◌, Bool, true, false, not, nat_eq, nat_le, List, [], ◌∷◌, ◌++◌, length, replicate, Some, None, refl, sym, ap, subst, ◌∙◌, arith, append_assoc}
 use Rattle.std.specs.Prelude.{◌&&◌}
 use Rattle.std.specs.List.{list_all}
 use Rattle.std.proofs.lemmas.Bool.{and_from, and_parts, eqb-true, leb-true}
@@ -19,7 +19,9 @@ use Rattle.mig_headers.specs.declared.kind.Kind.{Kind}
 use Rattle.mig_guest.specs.declared.part_code.PartCode.{PartCode}
 use Rattle.mig_guest.specs.declared.part_code.PartCode.TheVariants.{P2mFrames, VcpuBasic, VcpuExtended, VcpuXsave, SharedInfo, Tsc, HvmContext, HvmParam, VcpuMsrs, CpuidLeaf, Msr, EmulatorPairs, EmulatorContext}
 use Rattle.mig_guest.specs.declared.part_key.PartKey.{PartKey}
+use Rattle.mig_guest.specs.Formed.{IsRawContent}
 use Rattle.mig_guest.specs.Hosts.{HostOf, IsHostPart}
+use Rattle.mig_guest.proofs.PartRows.{numbered, one_code}
 use Rattle.mig_guest.specs.PartCodes.{code_number, code_of_number, part_codes, row_of}
 use Rattle.mig_guest.specs.Parts.{PartMap}
 use Rattle.mig_image.specs.Image.{part_head_of, part_text}
@@ -35,9 +37,6 @@ pub record PartFits (kind : Kind) (width : ℕ) (m : PartMap) (e : PartKey × Li
   pub room : is_full m e.0.code ≡ false
 
 -- ---- codes
-
-pub number_is : (number : ℕ) (code : PartCode) → code_of_number number ≡ Some code → code_number code ≡ number
-number_is number code is = eqb-true (code_number code) number (found_passes (λ c. nat_eq (code_number c) number) part_codes code is)
 
 code_small : (code : PartCode) → code_number code < 260
 code_small P2mFrames = omega arith
@@ -111,14 +110,14 @@ record Says (head : List ℕ) (k : PartKey) (n : ℕ) : Type 0 where
 
 says : (kind : Kind) (width : ℕ) (e : PartKey × List ℕ) → width ≤ 2 ^ 28 → IsHostPart kind width e.0 e.1 → Says (part_head_of e.0 (length e.1)) e.0 (length e.1)
 says kind width e wide is =
-    let small : e.0.code < 2 ^ 32 = omega (arith, number_is e.0.code is.code is.numbered, code_small is.code) in
+    let small : e.0.code < 2 ^ 32 = omega (arith, is.number, code_small is.code) in
     let c = code_read e.0 (length e.1) small in
     let k1 = key1_read e.0 (length e.1) is.small1 in
     let k2 = key2_read e.0 (length e.1) is.small2 in
     record {
       code = c;
       key = λ i. record { code = c i; key1 = k1 i; key2 = k2 i };
-      len = len_read e.0 (length e.1) (len_small is.code width (length e.1) wide is.allowed);
+      len = len_read e.0 (length e.1) (len_small is.code width (length e.1) wide is.len);
     }
 
 -- ---- no fault
@@ -130,14 +129,14 @@ fits_is kind key code a b is = ap (λ c. code_fits c kind key) is ∙ and_from (
 fine : (h : HostOf) (e : PartKey × List ℕ) (head : List ℕ) → Says head e.0 (length e.1) → PartFits h.kind h.width h.parts e → fault_of_part h head ≡ None
 fine h e head s f = no_fault (part_rows h head) (
   ap (λ c. not (code_fits (code_of_number c) h.kind (head_key head))) s.code ∙ ap (λ k. not (code_fits (code_of_number e.0.code) h.kind k)) s.key
-      ∙ ap not (fits_is h.kind e.0 f.is.code f.is.of_kind f.is.keys f.is.numbered),
+      ∙ ap not (fits_is h.kind e.0 f.is.code f.is.of_kind f.is.keys (numbered e.0.code f.is.code f.is.number)),
   (
     ap (has_part_from h.parts) s.key ∙ f.behind,
     (
       ap (is_full h.parts) s.code ∙ f.room,
       (
         ap (λ c. not (code_allows (code_of_number c) h.width (le32 head 12))) s.code ∙ ap (λ n. not (code_allows (code_of_number e.0.code) h.width n)) s.len
-            ∙ ap (λ c. not (code_allows c h.width (length e.1))) f.is.numbered ∙ ap not f.is.allowed,
+            ∙ ap (λ c. not (code_allows c h.width (length e.1))) (numbered e.0.code f.is.code f.is.number) ∙ ap not f.is.len,
         tt,
       ),
     ),
@@ -147,14 +146,13 @@ fine h e head s f = no_fault (part_rows h head) (
 same_code : (c d : PartCode) → Some c ≡ Some d → c ≡ d
 same_code c d e = cc
 
-fine_bytes : (code : PartCode) (number : ℕ) (bytes : List ℕ) → code_of_number number ≡ Some code → (code ≡ EmulatorPairs → AreCanonicalPairs bytes) → fault_of_bytes number bytes ≡ None
-fine_bytes code number bytes is pairs = no_fault ((nat_eq number 258 && not (are_canonical_pairs bytes), PartBytes) ∷ []) (by (nat_eq number 258) refl, tt)
+fine_bytes : (code : PartCode) (number : ℕ) (bytes : List ℕ) → number ≡ code_number code → IsRawContent code bytes → fault_of_bytes number bytes ≡ None
+fine_bytes code number bytes is content = no_fault ((nat_eq number 258 && not (are_canonical_pairs bytes), PartBytes) ∷ []) (by (nat_eq number 258) refl, tt)
   where
     by : (b : Bool) → nat_eq number 258 ≡ b → (b && not (are_canonical_pairs bytes)) ≡ false
     by true same =
-        let number_same : number ≡ 258 = eqb-true number 258 same in
-        let code_same : Some code ≡ Some EmulatorPairs = sym is ∙ ap code_of_number number_same in
-        ap not ((canonical_pairs_are_computed bytes).1 (pairs (same_code code EmulatorPairs code_same)))
+        let code_same : code ≡ EmulatorPairs = one_code code EmulatorPairs (sym is ∙ eqb-true number 258 same) in
+        ap not ((canonical_pairs_are_computed bytes).1 (subst (λ (c : PartCode). IsRawContent c bytes) code_same content))
     by false same = refl
 
 all_zero : (n : ℕ) → list_all (λ b. nat_eq b 0) (replicate n 0) ≡ true
@@ -197,6 +195,6 @@ part_goes h e rest wide f =
     ∙ then_passes (part_head_at h (head ++ mid)) (behind_part_head h) head mid _
     (then_passes (part Truncated 16 (head ++ mid)) (λ a. tried (fault_of_part h a.0) a.1 >>= λ _. Passes a.0 a.1) head mid _ (part_whole Truncated 16 head mid (head_len e.0 (length e.1))) (tried_none (fault_of_part h head) mid (Passes head mid) (fine h e head s f)))
     (then_passes (bytes_at (le32 head 0) (le32 head 12) mid) (behind_bytes h head) e.1 (zeros ++ rest) _
-    (ap (λ c. bytes_at c (le32 head 12) mid) s.code ∙ ap (λ n. bytes_at e.0.code n mid) s.len ∙ bytes_go e.0.code e.1 (zeros ++ rest) (fine_bytes f.is.code e.0.code e.1 f.is.numbered f.is.pairs))
+    (ap (λ c. bytes_at c (le32 head 12) mid) s.code ∙ ap (λ n. bytes_at e.0.code n mid) s.len ∙ bytes_go e.0.code e.1 (zeros ++ rest) (fine_bytes f.is.code e.0.code e.1 f.is.number f.is.content))
     (then_passes (padding_at (le32 head 12) (zeros ++ rest)) (λ padding. Passes (put_part_in h (head_key head) e.1) padding.1) zeros rest _
     (ap (λ n. padding_at n (zeros ++ rest)) s.len ∙ padding_goes (length e.1) rest) (part_is h e head rest s)))

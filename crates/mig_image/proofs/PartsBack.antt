@@ -1,5 +1,5 @@
 -- Parts that are read are spelled by what was taken, and stand as those of a valid host.
-use Rattle.std.proofs.Common.{◌≡◌, ℕ, zero, suc, ◌+◌, ◌≤◌, ◌⊎◌, inl, inr, Bool, true, false, cond, not, nat_eq, nat_le, List, [], ◌∷◌, ◌++◌, length, take, drop, replicate, Option, Some, None, refl, sym, ap, subst, ◌∙◌, arith, append_assoc, append-nil, length-append}
+use Rattle.std.proofs.Common.{◌≡◌, ℕ, zero, suc, ◌+◌, ◌^◌, ◌<◌, ◌≤◌, ◌⊎◌, inl, inr, Bool, true, false, cond, not, nat_eq, nat_le, List, [], ◌∷◌, ◌++◌, length, take, drop, replicate, Option, Some, None, refl, sym, ap, subst, ◌∙◌, arith, append_assoc, append-nil, length-append}
 use Rattle.std.specs.Prelude.{◌&&◌, ◌||◌}
 use Rattle.std.specs.List.{flat_map, list_all}
 use Rattle.std.proofs.lemmas.Bool.{not-false, and_parts, leb-false, eqb-true, eq-eqb}
@@ -22,7 +22,10 @@ use Rattle.mig_guest.specs.declared.part_code.PartCode.{PartCode}
 use Rattle.mig_guest.specs.declared.part_key.PartKey.{PartKey}
 use Rattle.mig_guest.specs.Hosts.{HostOf, IsHostPart}
 use Rattle.mig_guest.specs.Order.{part_cmp}
-use Rattle.mig_guest.specs.PartCodes.{code_of_number, row_of}
+use Rattle.mig_guest.specs.declared.part_code.PartCode.TheVariants.{EmulatorPairs}
+use Rattle.mig_guest.specs.Formed.{IsRawContent}
+use Rattle.mig_guest.specs.PartCodes.{code_of_number, code_number, row_of}
+use Rattle.mig_guest.proofs.PartRows.{number_found}
 use Rattle.mig_guest.specs.Parts.{PartMap, parts_of, FitsPolicy}
 use Rattle.mig_guest.proofs.PartOrder.{part_total, part_exact}
 use Rattle.mig_image.specs.Image.{part_head_of, part_text}
@@ -30,7 +33,7 @@ use Rattle.mig_image.specs.ImageParts.{head_key, code_fits, code_allows, is_full
 use Rattle.mig_image.proofs.FieldBytes.{Bytes, bytes_front, bytes_back, word_back, word_below, cut, last, judged_part, placed_passes, regroup}
 use Rattle.mig_image.proofs.InOrder.{entries_behind, found_more}
 use Rattle.mig_image.proofs.PartChains.{Entry, PartChain, put_all, with_parts}
-use Rattle.mig_image.proofs.PartTexts.{PartFits, number_is, behind_bytes, behind_part_head}
+use Rattle.mig_image.proofs.PartTexts.{PartFits, behind_bytes, behind_part_head}
 use Rattle.mig_headers.proofs.FirstFaults.{rows_fine}
 
 -- ---- a head
@@ -50,26 +53,25 @@ head_back head all size =
     ap (λ l. l ++ (k1 ++ (k2 ++ n))) a ∙ ap (λ l. take 4 head ++ (l ++ (k2 ++ n))) b ∙ ap (λ l. take 4 head ++ (take 4 (drop 4 head) ++ (l ++ n))) c
     ∙ ap (λ l. take 4 head ++ (take 4 (drop 4 head) ++ (take 4 (drop 8 head) ++ l))) d ∙ sym apart
 
--- the code that a row was found for
-record Coded (kind : Kind) (width : ℕ) (k : PartKey) (len : ℕ) : Type 0 where
-  code : PartCode
-  numbered : code_of_number k.code ≡ Some code
-  of_kind : (row_of code).of_kind kind ≡ true
-  keys : (row_of code).keys k.key1 k.key2 ≡ true
-  allowed : (row_of code).allows width len ≡ true
-
-coded : (kind : Kind) (width : ℕ) (k : PartKey) (len : ℕ) (o : Option PartCode) → code_of_number k.code ≡ o → code_fits o kind k ≡ true → code_allows o width len ≡ true → Coded kind width k len
-coded kind width k len None is fits allows = cc
-coded kind width k len (Some c) is fits allows =
-    let p = and_parts ((row_of c).of_kind kind) ((row_of c).keys k.key1 k.key2) fits in
-    record { code = c; numbered = is; of_kind = p.0; keys = p.1; allowed = allows }
-
 -- ---- bytes and zeros
 
-pub canonical : (number : ℕ) (bytes : List ℕ) → fault_of_bytes number bytes ≡ None → number ≡ 258 → AreCanonicalPairs bytes
+canonical : (number : ℕ) (bytes : List ℕ) → fault_of_bytes number bytes ≡ None → number ≡ 258 → AreCanonicalPairs bytes
 canonical number bytes fine is =
     let (test, done) = rows_fine ((nat_eq number 258 && not (are_canonical_pairs bytes), PartBytes) ∷ []) fine in
     (canonical_pairs_are_computed bytes).0 (not-false (are_canonical_pairs bytes) (sym (ap (λ b. b && not (are_canonical_pairs bytes)) (eq-eqb number 258 is)) ∙ test))
+
+raw_content : (code : PartCode) (number : ℕ) (bytes : List ℕ) → number ≡ code_number code → fault_of_bytes number bytes ≡ None → IsRawContent code bytes
+raw_content EmulatorPairs number bytes is fine = canonical number bytes fine is
+raw_content _ number bytes is fine = tt
+
+-- a part whose head and bytes have no fault
+pub coded : (kind : Kind) (width : ℕ) (key : PartKey) (bytes : List ℕ) (o : Option PartCode) → code_of_number key.code ≡ o → code_fits o kind key ≡ true → code_allows o width (length bytes) ≡ true
+    → key.key1 < 2 ^ 32 → key.key2 < 2 ^ 32 → fault_of_bytes key.code bytes ≡ None → IsHostPart kind width key bytes
+coded kind width key bytes None is fits allows small1 small2 fine = let no : false ≡ true = fits in cc
+coded kind width key bytes (Some code) is fits allows small1 small2 fine =
+    let p = and_parts ((row_of code).of_kind kind) ((row_of code).keys key.key1 key.key2) fits in
+    let number = number_found key.code code is in
+    record { code = code; number = number; of_kind = p.0; keys = p.1; small1 = small1; small2 = small2; len = allows; content = raw_content code key.code bytes number fine }
 
 all_zero : (xs : List ℕ) → list_all (λ b. nat_eq b 0) xs ≡ true → xs ≡ replicate (length xs) 0
 all_zero [] h = refl
@@ -93,20 +95,9 @@ record PartFound (h : HostOf) (i : List ℕ) (g : HostOf) (rest : List ℕ) : Ty
 fits_from : (h : HostOf) (head bytes : List ℕ) → Bytes head → length bytes ≡ le32 head 12 → fault_of_part h head ≡ None → fault_of_bytes (le32 head 0) bytes ≡ None → PartFits h.kind h.width h.parts (head_key head, bytes)
 fits_from h head bytes all size fine fine_bytes =
     let (row, (order, (many, (len, done)))) = rows_fine (part_rows h head) fine in
-    let c = coded h.kind h.width (head_key head) (le32 head 12) (code_of_number (le32 head 0)) refl
-    (not-false (code_fits (code_of_number (le32 head 0)) h.kind (head_key head)) row)
-    (not-false (code_allows (code_of_number (le32 head 0)) h.width (le32 head 12)) len) in
     record {
-      is = record {
-        code = c.code;
-        numbered = c.numbered;
-        of_kind = c.of_kind;
-        keys = c.keys;
-        small1 = word_below 4 head all;
-        small2 = word_below 8 head all;
-        allowed = ap ((row_of c.code).allows h.width) size ∙ c.allowed;
-        pairs = λ same. canonical (le32 head 0) bytes fine_bytes (sym (number_is (le32 head 0) c.code c.numbered) ∙ ap (λ code. (row_of code).number) same);
-      };
+      is = coded h.kind h.width (head_key head) bytes (code_of_number (le32 head 0)) refl (not-false (code_fits (code_of_number (le32 head 0)) h.kind (head_key head)) row)
+          (ap (code_allows (code_of_number (le32 head 0)) h.width) size ∙ not-false (code_allows (code_of_number (le32 head 0)) h.width (le32 head 12)) len) (word_below 4 head all) (word_below 8 head all) fine_bytes;
       behind = order;
       room = many;
     }

@@ -18,26 +18,7 @@ use Rattle.mig_image.specs.ImageParts.{head_key, code_fits, code_allows, has_par
 use Rattle.mig_image.specs.PartCounts.{Counts}
 use Rattle.mig_image.proofs.InOrder.{entries_behind, no_entries}
 use Rattle.mig_headers.proofs.FirstFaults.{rows_fine}
-use Rattle.mig_image.proofs.PartTexts.{number_is}
-use Rattle.mig_image.proofs.PartsBack.{canonical}
-
--- ---- a part that a host has
-
-coded : (kind : Kind) (width : ℕ) (key : PartKey) (bytes : List ℕ) (o : Option PartCode) → code_of_number key.code ≡ o → code_fits o kind key ≡ true → code_allows o width (length bytes) ≡ true
-    → key.key1 < 2 ^ 32 → key.key2 < 2 ^ 32 → fault_of_bytes key.code bytes ≡ None → IsHostPart kind width key bytes
-coded kind width key bytes None is fits allows small1 small2 fine = let no : false ≡ true = fits in cc
-coded kind width key bytes (Some code) is fits allows small1 small2 fine =
-    let p = and_parts ((row_of code).of_kind kind) ((row_of code).keys key.key1 key.key2) fits in
-    record {
-      code = code;
-      numbered = is;
-      of_kind = p.0;
-      keys = p.1;
-      small1 = small1;
-      small2 = small2;
-      allowed = allows;
-      pairs = λ same. canonical key.code bytes fine (sym (number_is key.code code is) ∙ ap code_number same);
-    }
+use Rattle.mig_image.proofs.PartsBack.{coded}
 
 -- ---- one more of its code
 

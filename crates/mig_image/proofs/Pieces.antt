@@ -28,7 +28,7 @@ image_is h head kind width frames parts is k w f p = rw (is, k, w, f, maps.len-e
 pub part_small : (h : HostOf) (i : ℕ) (e : PartKey × List ℕ) (rest : List (PartKey × List ℕ)) → IsValid h → drop i (maps.entries h.parts) ≡ e ∷ rest → length e.1 < 2 ^ 32
 part_small h i e rest valid is =
     let part = holds_at (λ (e : PartKey × List ℕ). IsHostPart h.kind h.width e.0 e.1) i (maps.entries h.parts) rest e is (each_entry part_total (IsHostPart h.kind h.width) h.parts valid.parts) in
-    len_small part.code h.width (length e.1) valid.width part.allowed
+    len_small part.code h.width (length e.1) valid.width part.len
 
 -- a front and what follows it, put one after the other in a buffer of their length
 pub both_put : (n : ℕ) (room x y front page : List ℕ) → length front ≡ n → length room ≡ n + length page → x ≡ with_field room 0 front → y ≡ with_field x n page → y ≡ front ++ page

@@ -11,7 +11,7 @@ use Rattle.std.proofs.lemmas.Bool.{lt-ltb, le-ltb, cases_lt, cases_eq}
 use Rattle.mig_guest.specs.Frames.{FrameOf, FrameMap}
 use Rattle.mig_guest.proofs.KeyedMaps.{tied}
 use Rattle.mig_guest.proofs.PartCursor.{both_of}
-use Rattle.mig_image.specs.Hosted.{rank_in, width_of}
+use Rattle.mig_image.specs.Hosted.{rank_in, least_width}
 use Rattle.mig_image.proofs.HostEntries.{none_below, found_at}
 use Rattle.mig_image.proofs.MachineMaps.{nothing}
 
@@ -118,15 +118,15 @@ module _ {X : Type 0} where
       let (first, others) = both_of (below_all nat_cmp e.0 es) (is_sorted nat_cmp es) sorted in
       step_case p e es v (eq_by_cmp nat_cmp p e.0) refl first is (below_step p es v others)
 
-  inside_case : (p : ℕ) (e : ℕ × X) (es : List (ℕ × X)) (v : X) (b : Bool) → eq_by_cmp nat_cmp p e.0 ≡ b → cond b (Some e.1) (find nat_cmp p es) ≡ Some v → (find nat_cmp p es ≡ Some v → p < width_of es) → p < max (e.0 + 1) (width_of es)
+  inside_case : (p : ℕ) (e : ℕ × X) (es : List (ℕ × X)) (v : X) (b : Bool) → eq_by_cmp nat_cmp p e.0 ≡ b → cond b (Some e.1) (find nat_cmp p es) ≡ Some v → (find nat_cmp p es ≡ Some v → p < least_width es) → p < max (e.0 + 1) (least_width es)
   inside_case p e es v true t is go = let same = nat_cmp-IsAntisymmetric p e.0 (tied (nat_cmp p e.0) t) in omega (arith, same)
   inside_case p e es v false t is go = omega (arith, go is)
 
-  width_inside : (p : ℕ) (es : List (ℕ × X)) (v : X) → find nat_cmp p es ≡ Some v → p < width_of es
+  width_inside : (p : ℕ) (es : List (ℕ × X)) (v : X) → find nat_cmp p es ≡ Some v → p < least_width es
   width_inside p [] v is = absurd (nothing v is)
   width_inside p (e ∷ es) v is = inside_case p e es v (eq_by_cmp nat_cmp p e.0) refl is (width_inside p es v)
 
-  width_least : (p : ℕ) (es : List (ℕ × X)) → ((k : ℕ) → p ≤ k → find nat_cmp k es ≡ None) → width_of es ≤ p
+  width_least : (p : ℕ) (es : List (ℕ × X)) → ((k : ℕ) → p ≤ k → find nat_cmp k es ≡ None) → least_width es ≤ p
   width_least p [] none = omega arith
   width_least p (e ∷ es) none =
       let rest = width_least p es (λ k from. none_later k e es (none k from)) in
@@ -168,8 +168,8 @@ module _ (frames : FrameMap) where
   pub rank_full : (p : ℕ) → rank_in frames p ≡ length es → (k : ℕ) → p ≤ k → maps.get frames k ≡ None
   rank_full p full k from = full_case p k full from (maps.get frames k) refl
 
-  pub frame_inside : (p : ℕ) (f : FrameOf) → maps.get frames p ≡ Some f → p < width_of es
+  pub frame_inside : (p : ℕ) (f : FrameOf) → maps.get frames p ≡ Some f → p < least_width es
   frame_inside p f is = width_inside p es f (found p (Some f) is)
 
-  pub frames_inside : (p : ℕ) → ((k : ℕ) → p ≤ k → maps.get frames k ≡ None) → width_of es ≤ p
+  pub frames_inside : (p : ℕ) → ((k : ℕ) → p ≤ k → maps.get frames k ≡ None) → least_width es ≤ p
   frames_inside p none = width_least p es (λ k from. found k None (none k from))

@@ -15,9 +15,12 @@ use Rattle.mig_guest.specs.declared.part_key.PartKey.{PartKey}
 use Rattle.mig_guest.specs.Frames.{FrameOf, FrameMap, is_type_of}
 use Rattle.mig_guest.specs.Guests.{GuestOf}
 use Rattle.mig_guest.specs.Hosts.{HostFrame, HostFrames, IsHostFrame, IsHostPart, IsOneToOne, IsValid}
-use Rattle.mig_pvtables.specs.Whole.{IsWhole, IsHvmPart, is_hvm_type, tsc, context, param, leaf, msr}
+use Rattle.mig_guest.specs.Formed.{IsPart, width_of}
+use Rattle.mig_guest.proofs.PartRows.{host_part}
+use Rattle.mig_pvtables.specs.Whole.{IsWhole}
+use Rattle.mig_pvtables.proofs.HvmGuests.{hvm_complete}
 use Rattle.mig_image.specs.HostView.{MachineMap, with_machine, with_machines, machine_in, host_seen, AreMatched}
-use Rattle.mig_image.specs.Hosted.{rank_in, width_of, hosted, IsBaseOutside}
+use Rattle.mig_image.specs.Hosted.{rank_in, least_width, hosted, IsBaseOutside}
 use Rattle.mig_image.proofs.HostMaps.{joined, get_with_machines, count_with_machines}
 use Rattle.mig_image.proofs.MachineMaps.{got_put, got_other, same_value, nothing}
 use Rattle.mig_image.proofs.Ranks.{rank_small, frames_inside, rank_strict, rank_step, rank_gap, rank_zero, frame_inside}
@@ -36,7 +39,7 @@ module _ (frames : FrameMap) (base : ℕ) where
     pub below : (pfn : ℕ) → pfn < from → maps.get machines pfn ≡ counted_at pfn
     pub above : (pfn : ℕ) → from ≤ pfn → maps.get machines pfn ≡ None
     pub rank : rank_in frames from ≡ i
-    pub width : from ≤ width_of (maps.entries frames)
+    pub width : from ≤ least_width (maps.entries frames)
     pub few : i ≤ length (maps.entries frames)
 
   none_at : (pfn : ℕ) → maps.get frames pfn ≡ None → counted_at pfn ≡ None
@@ -105,59 +108,6 @@ module _ (frames : FrameMap) (base : ℕ) where
 
 -- ---- the host that a whole guest becomes
 
--- a part of an HVM guest is one of an HVM host
-host_part : (width : ℕ) (key : PartKey) (bytes : List ℕ) → IsHvmPart key bytes → IsHostPart Hvm width key bytes
-host_part width key bytes (tsc bytes' size) = record {
-  code = Tsc;
-  numbered = refl;
-  of_kind = refl;
-  keys = refl;
-  small1 = omega arith;
-  small2 = omega arith;
-  allowed = eq-eqb (length bytes) 20 size;
-  pairs = λ e. let no : Tsc ≡ EmulatorPairs = e in cc;
-}
-host_part width key bytes (context bytes' size) = record {
-  code = HvmContext;
-  numbered = refl;
-  of_kind = refl;
-  keys = refl;
-  small1 = omega arith;
-  small2 = omega arith;
-  allowed = le-leb (length bytes) (2 ^ 27) size;
-  pairs = λ e. let no : HvmContext ≡ EmulatorPairs = e in cc;
-}
-host_part width key bytes (param index bytes' small size) = record {
-  code = HvmParam;
-  numbered = refl;
-  of_kind = refl;
-  keys = ap (λ b. b && true) (lt-ltb index 4096 small);
-  small1 = omega (arith, small);
-  small2 = omega arith;
-  allowed = eq-eqb (length bytes) 8 size;
-  pairs = λ e. let no : HvmParam ≡ EmulatorPairs = e in cc;
-}
-host_part width key bytes (leaf l s bytes' small1 small2 size) = record {
-  code = CpuidLeaf;
-  numbered = refl;
-  of_kind = refl;
-  keys = refl;
-  small1 = small1;
-  small2 = small2;
-  allowed = eq-eqb (length bytes) 16 size;
-  pairs = λ e. let no : CpuidLeaf ≡ EmulatorPairs = e in cc;
-}
-host_part width key bytes (msr index bytes' small size) = record {
-  code = Msr;
-  numbered = refl;
-  of_kind = refl;
-  keys = refl;
-  small1 = small;
-  small2 = omega arith;
-  allowed = eq-eqb (length bytes) 12 size;
-  pairs = λ e. let no : Msr ≡ EmulatorPairs = e in cc;
-}
-
 module _ (g : GuestOf) (base : ℕ) where
   abbrev machine_of : ℕ → ℕ
   machine_of pfn = base + rank_in g.frames pfn
@@ -180,10 +130,10 @@ module _ (g : GuestOf) (base : ℕ) where
         get_with_machines g.frames (machine_in machines) pfn ∙ same_frame pfn (maps.get machines pfn) (maps.get g.frames pfn) (counted pfn)
         ∙ sym (get_with_machines g.frames machine_of pfn))
 
-    pub seen_hosted : width ≡ width_of (maps.entries g.frames) → host_seen g width machines ≡ hosted g base
+    pub seen_hosted : width ≡ least_width (maps.entries g.frames) → host_seen g width machines ≡ hosted g base
     seen_hosted is =
         ap (λ (w : ℕ). host_seen g w machines) is
-        ∙ ap (λ (m : HostFrames). record { kind = g.kind; width = width_of (maps.entries g.frames); frames = m; parts = g.parts }) same_frames
+        ∙ ap (λ (m : HostFrames). record { kind = g.kind; width = least_width (maps.entries g.frames); frames = m; parts = g.parts }) same_frames
 
   restored : (pfn : ℕ) (frame : HostFrame) (o : Option FrameOf) → option_map (λ (f : FrameOf). with_machine f (machine_of pfn)) o ≡ Some frame → (f : FrameOf) × (o ≡ Some f) × (with_machine f (machine_of pfn) ≡ frame)
   restored pfn frame None is = let no : None ≡ Some frame = is in cc
@@ -206,46 +156,44 @@ module _ (g : GuestOf) (base : ℕ) where
         ]
       ]
 
-  module _ (whole : IsWhole g) where
-    host_type : (kind : Kind) (type : PageType) → kind ≡ Hvm → is_hvm_type type ≡ true → is_type_of kind type ≡ true
-    host_type kind type is fine = ap (λ (k : Kind). is_type_of k type) is ∙ fine
-
+  module _ (whole : IsWhole g) (hvm : g.kind ≡ Hvm) where
     outside_none : (k : ℕ) (o : Option FrameOf) → 2 ^ 28 ≤ k → maps.get g.frames k ≡ o → o ≡ None
     outside_none k None ge is = refl
-    outside_none k (Some f) ge is = absurd (omega (arith, ge, (whole.frames k f is).0))
+    outside_none k (Some f) ge is = absurd (omega (arith, ge, (whole.formed.frames k f is).small))
 
-    small_width : width_of (maps.entries g.frames) ≤ 2 ^ 28
+    small_width : least_width (maps.entries g.frames) ≤ 2 ^ 28
     small_width = frames_inside g.frames (2 ^ 28) (λ k ge. outside_none k (maps.get g.frames k) ge refl)
 
-    host_frame : (0 < base) × (base + length (maps.entries g.frames) ≤ 2 ^ 40) → (pfn : ℕ) (f : FrameOf) → maps.get g.frames pfn ≡ Some f → IsHostFrame g.kind (width_of (maps.entries g.frames)) pfn (with_machine f (machine_of pfn))
+    host_frame : (0 < base) × (base + length (maps.entries g.frames) ≤ 2 ^ 40) → (pfn : ℕ) (f : FrameOf) → maps.get g.frames pfn ≡ Some f → IsHostFrame g.kind (least_width (maps.entries g.frames)) pfn (with_machine f (machine_of pfn))
     host_frame range pfn f is = record {
       inside = frame_inside g.frames pfn f is;
-      type = host_type g.kind f.type whole.hvm (whole.types pfn f is);
+      type = (whole.formed.frames pfn f is).type;
       some_machine = omega (arith, range.0);
       machine = omega (arith, range.1, rank_small g.frames pfn f is);
-      in_step = (whole.frames pfn f is).1.in_step;
-      whole = (whole.frames pfn f is).1.whole;
+      in_step = (whole.formed.frames pfn f is).is.in_step;
+      whole = (whole.formed.frames pfn f is).is.whole;
     }
 
-    host_frames : (0 < base) × (base + length (maps.entries g.frames) ≤ 2 ^ 40) → (pfn : ℕ) (frame : HostFrame) → maps.get (with_machines g.frames machine_of) pfn ≡ Some frame → IsHostFrame g.kind (width_of (maps.entries g.frames)) pfn frame
+    host_frames : (0 < base) × (base + length (maps.entries g.frames) ≤ 2 ^ 40) → (pfn : ℕ) (frame : HostFrame) → maps.get (with_machines g.frames machine_of) pfn ≡ Some frame → IsHostFrame g.kind (least_width (maps.entries g.frames)) pfn frame
     host_frames range pfn frame is =
         let (f, f_is, same) = from_guest pfn frame is in
-        subst (IsHostFrame g.kind (width_of (maps.entries g.frames)) pfn) same (host_frame range pfn f f_is)
+        subst (IsHostFrame g.kind (least_width (maps.entries g.frames)) pfn) same (host_frame range pfn f f_is)
 
     pub whole_is_valid : (0 < base) × (base + length (maps.entries g.frames) ≤ 2 ^ 40) → IsValid (hosted g base)
     whole_is_valid range = record {
       width = small_width;
-      some_width = λ pv. absurd (let no : Pv ≡ Hvm = sym pv ∙ whole.hvm in cc);
+      some_width = λ pv. absurd (let no : Pv ≡ Hvm = sym pv ∙ hvm in cc);
       frames = host_frames range;
       one_to_one = one_to_one;
-      few = omega (arith, whole.few, count_with_machines g.frames machine_of);
-      parts = λ key bytes is. subst (λ (k : Kind). IsHostPart k (width_of (maps.entries g.frames)) key bytes) (sym whole.hvm) (host_part (width_of (maps.entries g.frames)) key bytes (whole.parts key bytes is));
-      leaves = whole.leaves;
-      msrs = whole.msrs;
+      few = omega (arith, (hvm_complete g hvm whole.faultless).1, count_with_machines g.frames machine_of);
+      parts = λ key bytes is. subst (λ (k : Kind). IsHostPart k (least_width (maps.entries g.frames)) key bytes) (sym hvm)
+          (host_part (width_of g) (least_width (maps.entries g.frames)) key bytes (subst (λ (k : Kind). IsPart k (width_of g) key bytes) hvm (whole.formed.parts key bytes is)));
+      leaves = whole.formed.policies 17 refl;
+      msrs = whole.formed.policies 18 refl;
     }
 
-pub hosted_valid : (guest : GuestOf) (base : ℕ) → IsWhole guest → (IsBaseOutside guest base → ⊥) → IsValid (hosted guest base)
-hosted_valid g base whole inside = whole_is_valid g base whole (positive base (λ e. inside (inl e)), elim (cases_lt (2 ^ 40) (base + length (maps.entries g.frames))) [ inl lt ↦ absurd (inside (inr lt)) | inr ge ↦ ge ])
+pub hosted_valid : (guest : GuestOf) (base : ℕ) → IsWhole guest → guest.kind ≡ Hvm → (IsBaseOutside guest base → ⊥) → IsValid (hosted guest base)
+hosted_valid g base whole hvm inside = whole_is_valid g base whole hvm (positive base (λ e. inside (inl e)), elim (cases_lt (2 ^ 40) (base + length (maps.entries g.frames))) [ inl lt ↦ absurd (inside (inr lt)) | inr ge ↦ ge ])
   where
     positive : (n : ℕ) → n ≢ 0 → 0 < n
     positive n ne = elim (cases_lt 0 n) [ inl lt ↦ lt | inr ge ↦ absurd (ne (omega (arith, ge))) ]

@@ -12,15 +12,15 @@ abbrev pub rank_in : FrameMap → ℕ → ℕ
 rank_in frames pfn = length (filter (λ e. nat_lt e.0 pfn) (maps.entries frames))
 
 -- one more than the greatest PFN, or 0 where there is no frame
-abbrev pub width_of : {X : Type 0} → List (ℕ × X) → ℕ
-width_of [] = 0
-width_of (e ∷ es) = max (e.0 + 1) (width_of es)
+abbrev pub least_width : {X : Type 0} → List (ℕ × X) → ℕ
+least_width [] = 0
+least_width (e ∷ es) = max (e.0 + 1) (least_width es)
 
 -- the frame of rank i has machine frame base + i
 abbrev pub hosted : GuestOf → ℕ → HostOf
 hosted g base = record {
   kind = g.kind;
-  width = width_of (maps.entries g.frames);
+  width = least_width (maps.entries g.frames);
   frames = with_machines g.frames (λ pfn. base + rank_in g.frames pfn);
   parts = g.parts;
 }

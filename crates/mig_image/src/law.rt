@@ -1,5 +1,6 @@
 ghost use Rattle.std.specs.Prelude.{◌≡◌, ℕ, List};
 ghost use Rattle.mig_bytes.specs.Judged.Judged.{Passes};
+ghost use Rattle.mig_headers.specs.declared.kind.Kind.TheVariants.{Hvm};
 ghost use Rattle.mig_guest.specs.Guests.{GuestOf};
 ghost use Rattle.mig_guest.specs.Hosts.{HostOf, IsValid};
 ghost use Rattle.mig_pvtables.specs.Whole.{IsWhole};
@@ -22,7 +23,7 @@ pub fn one_image()
     ensures { (input : List ℕ) (g h : HostOf) (rest more : List ℕ) → IsImage input g rest → IsImage input h more → (g ≡ h) × (rest ≡ more) }
 {}
 
-/// What a whole guest becomes is a valid host, where the base isn't out of range.
+/// What a whole HVM guest becomes is a valid host, where the base isn't out of range.
 pub fn hosted_is_valid()
-    ensures { (guest : GuestOf) (base : ℕ) → IsWhole guest → (IsBaseOutside guest base → ⊥) → IsValid (hosted guest base) }
+    ensures { (guest : GuestOf) (base : ℕ) → IsWhole guest → guest.kind ≡ Hvm → (IsBaseOutside guest base → ⊥) → IsValid (hosted guest base) }
 {}

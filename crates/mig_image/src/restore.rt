@@ -1,8 +1,9 @@
 ghost use Rattle.std.specs.Prelude.{◌≡◌, ◌⊎◌, ℕ, ◌+◌, ◌<◌, ◌≤◌, ◌^◌, ◌↔◌, true, false, IfOk, Err, IsSome, length};
 ghost use Rattle.std.specs.FinMap as maps;
 ghost use Rattle.std.specs.Option.{option_map};
+ghost use Rattle.mig_headers.specs.declared.kind.Kind.TheVariants.{Hvm};
 ghost use Rattle.mig_pvtables.specs.Whole.{IsWhole};
-ghost use Rattle.mig_image.specs.Hosted.{hosted, rank_in, width_of, IsBaseOutside};
+ghost use Rattle.mig_image.specs.Hosted.{hosted, rank_in, least_width, IsBaseOutside};
 ghost use Rattle.mig_image.specs.declared.restore.HostAnswer.TheVariants.{BaseRange};
 
 use crate::host::Host;
@@ -35,7 +36,7 @@ fn is_outside(base: u64, frames: u64) -> bool
 fn count_up(alloc: Global, guest: &Guest, base: u64) -> Result<(MachineFrames, u64), Memory>
     requires { base + length (maps.entries guest.now.frames) ≤ 2 ^ 40 }
     ensures machines { IfOk result (λ r. (pfn : ℕ) → maps.get r.0 pfn ≡ option_map (λ _. base + rank_in guest.now.frames pfn) (maps.get guest.now.frames pfn)) }
-    ensures width { IfOk result (λ r. r.1 ≡ width_of (maps.entries guest.now.frames)) }
+    ensures width { IfOk result (λ r. r.1 ≡ least_width (maps.entries guest.now.frames)) }
 {
     let mut machines = MachineFrames::new(alloc);
     let mut from = 0;
@@ -54,7 +55,8 @@ fn count_up(alloc: Global, guest: &Guest, base: u64) -> Result<(MachineFrames, u
 ///
 /// So far for HVM guests, whose pages and parts hold no machine frames.
 pub fn host_of(alloc: Global, guest: Guest, base: u64) -> Result<Host, HostAnswer>
-    requires { IsWhole guest }
+    requires whole { IsWhole guest }
+    requires hvm { guest.kind ≡ Hvm }
     ensures hosted { IfOk result (λ host. host ≡ hosted guest base) }
     ensures outside { (result ≡ Err BaseRange) ↔ IsBaseOutside guest base }
 {
@@ -95,7 +97,7 @@ mod tests {
 
     // A guest without frames.
     fn bare_guest(rt: &HostRuntime) -> Result<Guest, Fail>
-        ensures whole { IfOk result (λ guest. IsWhole guest) }
+        ensures whole { IfOk result (λ guest. IsWhole guest × (guest.kind ≡ Hvm)) }
     {
         let mut guest = Guest::new(rt.alloc(), Kind::Hvm);
         guest.set_part(CONTEXT, &CHAIN)?;
@@ -107,7 +109,7 @@ mod tests {
 
     // A guest of three frames, with a parameter.
     fn small_guest(rt: &HostRuntime) -> Result<Guest, Fail>
-        ensures whole { IfOk result (λ guest. IsWhole guest) }
+        ensures whole { IfOk result (λ guest. IsWhole guest × (guest.kind ≡ Hvm)) }
     {
         let mut guest = Guest::new(rt.alloc(), Kind::Hvm);
         guest.set_frame(9, PageType::Notab, Some(&[7; 4096]))?;

@@ -1,1 +1,2 @@
 pub mod HvmGuests
+pub mod HvmSamples

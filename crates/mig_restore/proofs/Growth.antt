@@ -15,7 +15,6 @@ use Rattle.mig_pagetypes.specs.PageTypes.{type_has_data}
 use Rattle.mig_pagetypes.specs.declared.page_type.PageType.{PageType}
 use Rattle.mig_pagetypes.specs.declared.page_type.PageType.TheVariants.{Notab, L1Tab, L2Tab, L3Tab, L4Tab, L1Pinned, L2Pinned, L3Pinned, L4Pinned, Broken, Xalloc, Xtab}
 use Rattle.mig_guest.specs.Formed.{AreParts, IsPart, IsInside, IsFormed, IsGuestFrame, HasNoEmulators, is_policy, is_emulator_code, width_of}
-use Rattle.mig_guest.specs.Tables.{IsWithin}
 use Rattle.mig_guest.specs.declared.part_key.PartKey.{PartKey}
 use Rattle.mig_guest.specs.Frames.{FrameOf, IsFrame, framed, is_hvm_type, is_type_of}
 use Rattle.mig_guest.specs.Guests.{GuestOf}
@@ -23,7 +22,7 @@ use Rattle.mig_guest.specs.Parts.{put_part, put_parts, replace_code}
 use Rattle.mig_guest.specs.PartKeys.{context_key, tsc_key}
 use Rattle.mig_guest.proofs.Counts.{Part}
 use Rattle.mig_guest.proofs.Kept.{parts_keep, policies_keep, parts_plain, policies_plain, frames_keep}
-use Rattle.mig_guest.proofs.PartRows.{tsc_is, context_is, param_is, leaf_is, msr_is, no_entries}
+use Rattle.mig_guest.proofs.PartRows.{tsc_is, context_is, param_is, leaf_is, msr_is, hvm_frame}
 use Rattle.mig_hvm.specs.Params.{ArePairs, IsParams, fault_of_params, params_in}
 use Rattle.mig_hvm.proofs.Pairs.{params_are_spelled}
 use Rattle.mig_policy.specs.Policies.{IsSmallKey, leaf_at, leaves_in, msr_at, msrs_in, tsc_in}
@@ -56,16 +55,6 @@ meant_is_hvm L4Pinned there = refl
 meant_is_hvm Broken there = refl
 meant_is_hvm Xalloc there = refl
 meant_is_hvm Xtab there = absurd (there refl)
-
--- a frame of an HVM guest
-pub hvm_frame : (kind : Kind) (top pfn : ℕ) (frame : FrameOf) → kind ≡ Hvm → pfn < pfn_limit → IsFrame frame → is_hvm_type frame.type ≡ true → IsGuestFrame kind top pfn frame
-hvm_frame kind top pfn frame hvm small is type = record {
-  small = small;
-  inside = subst (λ k. IsInside k top pfn) (sym hvm) tt;
-  is = is;
-  type = subst (λ k. is_type_of k frame.type ≡ true) (sym hvm) type;
-  entries = no_entries (λ e. IsWithin top e) frame type;
-}
 
 -- a frame of the type that is meant keeps an HVM guest well formed
 pub frame_kept : (g : GuestOf) (t : PageType) (pfn : ℕ) (page : Option (List ℕ)) → g.kind ≡ Hvm → pfn < pfn_limit → is_some page ≡ type_has_data (meant_type Hvm t) → ((bytes : List ℕ) → page ≡ Some bytes → length bytes ≡ 4096)

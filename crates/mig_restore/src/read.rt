@@ -5,7 +5,7 @@ ghost use Rattle.mig_bytes.specs.Judged.{Gives, part};
 ghost use Rattle.mig_bytes.specs.declared.part.Stop.TheVariants.{Memory};
 ghost use Rattle.mig_headers.specs.declared.fault.Cause.TheVariants.{Truncated};
 ghost use Rattle.mig_headers.specs.declared.kind.Kind.TheVariants.{Hvm};
-ghost use Rattle.mig_guest.specs.Formed.{HasNoEmulators};
+ghost use Rattle.mig_guest.specs.Formed.{IsPlainHvm};
 ghost use Rattle.mig_pvtables.specs.Faults.{fault_of_guest};
 ghost use Rattle.mig_pvtables.specs.Whole.{IsWhole};
 ghost use Rattle.mig_restore.specs.Mean.{mean, put_record};
@@ -123,7 +123,7 @@ fn read_records<S: Source>(
     kind: Kind,
 ) -> Result<Reading, Stop<(Place, Cause)>>
     ensures read { Gives IsReading (S.left src.old) (S.left src.new) (records_at (opening_of version kind)) result }
-    ensures whole { IfOk result (λ reading. IsWhole reading.guest × (reading.guest.kind ≡ Hvm) × HasNoEmulators reading.guest.parts) }
+    ensures whole { IfOk result (λ reading. IsWhole reading.guest × IsPlainHvm reading.guest) }
     ensures faults { RisesOnReadFault (S.faults src.old) (S.faults src.new) result }
 {
     let mut seen = Seen::new(version, kind);
@@ -210,7 +210,7 @@ fn read_opening<S: Source>(src: &mut S) -> Result<(u32, Kind), Stop<(Place, Caus
 /// Takes the headers and the records.
 fn read_parts<S: Source>(alloc: Global, src: &mut S) -> Result<Reading, Stop<(Place, Cause)>>
     ensures read { Gives IsReading (S.left src.old) (S.left src.new) image_at result }
-    ensures whole { IfOk result (λ reading. IsWhole reading.guest × (reading.guest.kind ≡ Hvm) × HasNoEmulators reading.guest.parts) }
+    ensures whole { IfOk result (λ reading. IsWhole reading.guest × IsPlainHvm reading.guest) }
     ensures faults { RisesOnReadFault (S.faults src.old) (S.faults src.new) result }
 {
     let (version, kind) = read_opening(src)?;
@@ -222,7 +222,7 @@ fn read_parts<S: Source>(alloc: Global, src: &mut S) -> Result<Reading, Stop<(Pl
 /// a read failed.
 pub fn read_image<S: Source>(alloc: Global, src: &mut S) -> Result<Reading, StreamAnswer>
     ensures read { ReadsImage (S.left src.old) (S.left src.new) result }
-    ensures whole { IfOk result (λ reading. IsWhole reading.guest × (reading.guest.kind ≡ Hvm) × HasNoEmulators reading.guest.parts) }
+    ensures whole { IfOk result (λ reading. IsWhole reading.guest × IsPlainHvm reading.guest) }
     ensures faults { RisesOnReadFault (S.faults src.old) (S.faults src.new) (or_stop result) }
 {
     match read_parts(alloc, src) {

@@ -33,7 +33,7 @@ pub of-requires : goal.of-requires
 of-requires c = record {
   matched = counted_matched c.args.guest c.args.base c.in-Ok.width c.in-Ok.machines c.in-Ok.ensures.machines;
   valid = subst IsValid (sym (seen_hosted c.args.guest c.args.base c.in-Ok.width c.in-Ok.machines c.in-Ok.ensures.machines c.in-Ok.ensures.width))
-      (whole_is_valid c.args.guest c.args.base c.requires (in_range c.args.guest c.args.base c.frames.result c.frames.ensures.count (c.is_outside.ensures.no c.if-is_outside.false)));
+      (whole_is_valid c.args.guest c.args.base c.requires.whole c.requires.hvm (in_range c.args.guest c.args.base c.frames.result c.frames.ensures.count (c.is_outside.ensures.no c.if-is_outside.false)));
 }
 
 pub returns-in-Ok-clause-hosted : goal.returns-in-Ok-clause-hosted

@@ -7,7 +7,7 @@ use Rattle.mig_restore.specs.Judging.{opening_of}
 use Rattle.std.specs.FinMap.{get-empty}
 use Rattle.mig_headers.specs.declared.kind.Kind.TheVariants.{Hvm}
 use Rattle.mig_guest.specs.Order.{part_cmp}
-use Rattle.mig_guest.specs.Formed.{IsFormed, HasNoEmulators}
+use Rattle.mig_guest.specs.Formed.{IsFormed, HasNoEmulators, IsPlainHvm}
 use Rattle.mig_guest.proofs.Kept.{empty_formed}
 use Rattle.mig_restore.proofs.Arrivals.{arrived_first, arrived_next, arrived_end, arrived_stopped}
 use Rattle.mig_restore.proofs.read.read_records.Goals as goal
@@ -44,7 +44,7 @@ returns-then-over-clause-whole g c =
     let (fine, hvm) = c.in-Ok.ensures.whole c.if-over.true in
     let grown = c.in-Ok.ensures.grown in
     let before = sym grown.kind ∙ hvm in
-    (record { formed = grown.kept before (c.records.invariant.formed before); faultless = fine }, hvm, grown.plain c.records.invariant.plain)
+    (record { formed = grown.kept before (c.records.invariant.formed before); faultless = fine }, record { hvm = hvm; plain = grown.plain c.records.invariant.plain })
 
 pub returns-in-Err-clause-read : goal.returns-in-Err-clause-read
 returns-in-Err-clause-read g c =

@@ -14,13 +14,13 @@ of_hvm h kind key bytes is fine = subst (λ (k : Kind). IsHostPart k h.width key
 pub set_part-requires-clause-is : goal.set_part-requires-clause-is
 set_part-requires-clause-is c = of_hvm c.new-host.result Hvm _ _ (ap (λ (h : HostOf). h.kind) c.new-host.ensures) (record {
   code = HvmParam;
-  numbered = refl;
+  number = refl;
   of_kind = refl;
   keys = refl;
   small1 = lit< tt;
   small2 = lit< tt;
-  allowed = refl;
-  pairs = λ e. absurd (cc);
+  len = refl;
+  content = tt;
 })
 
 pub set_part-requires-clause-leaves : goal.set_part-requires-clause-leaves
@@ -32,13 +32,13 @@ set_part-requires-clause-msrs c = first_fits 18 _ (ap (λ (h : HostOf). h.parts)
 pub set_part-requires-2-clause-is : goal.set_part-requires-2-clause-is
 set_part-requires-2-clause-is c = of_hvm c.set_part.new.self Hvm _ _ (ap (λ (h : HostOf). h.kind) c.in_ok-set_part.ensures.ok ∙ ap (λ (h : HostOf). h.kind) c.new-host.ensures) (record {
   code = Tsc;
-  numbered = refl;
+  number = refl;
   of_kind = refl;
   keys = refl;
   small1 = lit< tt;
   small2 = lit< tt;
-  allowed = refl;
-  pairs = λ e. absurd (cc);
+  len = refl;
+  content = tt;
 })
 
 pub set_part-requires-2-clause-leaves : goal.set_part-requires-2-clause-leaves
