@@ -12,21 +12,24 @@ use Rattle.std.specs.FinMap.{nat_cmp-IsAntisymmetric}
 use Rattle.byteorder.specs.Endian.{little_bytes, little_number}
 use Rattle.byteorder.specs.Numbers.{little_number-reads_back}
 use Rattle.mig_bytes.specs.Fields.{le32, le64}
+use Rattle.mig_headers.specs.declared.kind.Kind.{Kind}
 use Rattle.mig_headers.specs.declared.kind.Kind.TheVariants.{Hvm}
 use Rattle.mig_pagetypes.specs.declared.page_type.PageType.{PageType}
 use Rattle.mig_pagetypes.specs.declared.page_type.PageType.TheVariants.{Notab, L1Tab, L2Tab, L3Tab, L4Tab, L1Pinned, L2Pinned, L3Pinned, L4Pinned, Broken, Xalloc, Xtab}
 use Rattle.mig_pagetypes.specs.PageTypes.{number_of, type_of, type_or_none, type_has_data}
 use Rattle.mig_pagetypes.specs.FrameWords.{word_type, word_pfn, word_has_data, some_has_data}
-use Rattle.mig_guest.specs.Frames.{IsFrame}
+use Rattle.mig_guest.specs.Frames.{IsFrame, is_type_of}
 use Rattle.mig_guest.specs.Guests.{GuestOf}
 use Rattle.mig_records.specs.Words.{words, has_reserved_type}
-use Rattle.mig_pvtables.specs.Whole.{IsWhole}
+use Rattle.mig_guest.specs.Formed.{IsFormed}
+use Rattle.mig_guest.proofs.CodeParts.{all_of}
+use Rattle.mig_guest.proofs.Found.{all_found}
 use Rattle.mig_canon.specs.Canon.{Frame, batch, batches, frame_word_in, page_in, words_of, pages_of, body_of, frames_in}
 use Rattle.mig_restore.specs.Record.Content.{Frames}
 use Rattle.mig_restore.specs.Spelled.{IsPage, IsEntry, AreEntries, IsGoodWord, IsBatch}
 use Rattle.mig_restore.specs.Spelled.HasContent.{pages as pages_say}
-use Rattle.mig_tool.proofs.CanonMaps.{all_found, entry_of, HasHvmType}
-use Rattle.mig_tool.proofs.CanonParts.{le32_first, all_of, Fits}
+use Rattle.mig_tool.proofs.CanonMaps.{entry_of, HasHvmType}
+use Rattle.mig_tool.proofs.CanonParts.{le32_first, Fits}
 
 -- a frame that a whole guest may have
 pub record Fine (f : Frame) : Type 0 where
@@ -34,11 +37,11 @@ pub record Fine (f : Frame) : Type 0 where
   pub frame : IsFrame f.1
   pub hvm : HasHvmType f
 
-pub all_fine : (g : GuestOf) → IsWhole g → All Fine (frames_in g)
-all_fine g whole = all_found nat_cmp_total nat_cmp-IsAntisymmetric Fine (frames_in g) (maps.entries_sorted g.frames) (λ q v is.
+pub all_fine : (g : GuestOf) → IsFormed g → g.kind ≡ Hvm → All Fine (frames_in g)
+all_fine g formed hvm = all_found nat_cmp_total nat_cmp-IsAntisymmetric Fine (frames_in g) (maps.entries_sorted g.frames) (λ q v is.
     let it = maps.get-entries g.frames q ∙ is in
-    let sized = whole.frames q v it in
-    record { low = sized.0; frame = sized.1; hvm = whole.types q v it })
+    let frame = formed.frames q v it in
+    record { low = frame.small; frame = frame.is; hvm = subst (λ (k : Kind). is_type_of k v.type ≡ true) hvm frame.type })
 
 pub all_hvm : (fs : List Frame) → All Fine fs → All HasHvmType fs
 all_hvm fs all = all_of Fine Fine HasHvmType (λ f fine same. fine.hvm) fs all all

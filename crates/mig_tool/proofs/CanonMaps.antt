@@ -12,60 +12,25 @@ use Rattle.std.specs.declared.cmp.Ordering.TheVariants.{Less, Equal, Greater}
 use Rattle.std.specs.FinMap as maps
 use Rattle.std.specs.FinMap.{find, is_sorted, IsAntisymmetric, nat_cmp-IsAntisymmetric}
 use Rattle.std.specs.FinMap.Entries.{below_all, find-where_key, is_sorted-where_key}
+use Rattle.mig_headers.specs.declared.kind.Kind.{Kind}
 use Rattle.mig_headers.specs.declared.kind.Kind.TheVariants.{Hvm}
 use Rattle.mig_pagetypes.specs.declared.page_type.PageType.{PageType}
 use Rattle.mig_pagetypes.specs.declared.page_type.PageType.TheVariants.{Notab, L1Tab, L2Tab, L3Tab, L4Tab, L1Pinned, L2Pinned, L3Pinned, L4Pinned, Broken, Xalloc, Xtab}
 use Rattle.mig_guest.specs.declared.part_key.PartKey.{PartKey}
-use Rattle.mig_guest.specs.Frames.{FrameMap}
+use Rattle.mig_guest.specs.Frames.{FrameMap, is_hvm_type}
 use Rattle.mig_guest.specs.Order.{part_cmp}
 use Rattle.mig_guest.specs.Parts.{PartMap, put_part, put_parts, replace_code, parts_of}
 use Rattle.mig_guest.proofs.PartOrder.{part_total, part_exact}
 use Rattle.mig_guest.proofs.PartCursor.{both_of}
-use Rattle.mig_pvtables.specs.Whole.{IsHvmPart, is_hvm_type}
-use Rattle.mig_pvtables.specs.Whole.IsHvmPart.{tsc, context, param, leaf, msr}
+use Rattle.mig_guest.specs.declared.part_code.PartCode.{PartCode}
+use Rattle.mig_guest.specs.declared.part_code.PartCode.TheVariants.{P2mFrames, VcpuBasic, VcpuExtended, VcpuXsave, SharedInfo, Tsc, HvmContext, HvmParam, VcpuMsrs, CpuidLeaf, Msr, EmulatorPairs, EmulatorContext}
+use Rattle.mig_guest.specs.PartCodes.{row_of, code_number}
+use Rattle.mig_guest.specs.Guests.{GuestOf}
+use Rattle.mig_guest.specs.Formed.{IsPart, IsFormed, IsPlainHvm, is_emulator_code, width_of}
+use Rattle.mig_guest.proofs.Found.{found_first}
 use Rattle.mig_canon.specs.Canon.{Frame, Part}
 use Rattle.mig_restore.specs.Record.{Entry}
 use Rattle.mig_restore.specs.Mean.{put_entry, put_entries}
-
--- ---- entries in order
-
-not_tied : (r : Ordering) → T (is_lt r) → is_eq r ≡ false
-not_tied Less t = refl
-not_tied Equal t = absurd t
-not_tied Greater t = absurd t
-
-is_tied : (r : Ordering) → is_eq r ≡ true → r ≡ Equal
-is_tied Less e = cc
-is_tied Equal e = refl
-is_tied Greater e = cc
-
-module _ {K X : Type 0} {R : K → K → Ordering} (total : IsTotalOrder R) (exact : IsAntisymmetric R) where
-  found_none : (q : K) (fs : List (K × X)) → T (below_all R q fs) → find R q fs ≡ None
-  found_none q [] h = refl
-  found_none q (f ∷ fs) h =
-      let (first, others) = both_of (is_lt (R q f.0)) (below_all R q fs) h in
-      ap (λ b. cond b (Some f.1) (find R q fs)) (not_tied (R q f.0) first) ∙ found_none q fs others
-
-  -- behind an entry there is none of its key
-  none_behind : (q : K) (f : K × X) (fs : List (K × X)) → eq_by_cmp R q f.0 ≡ true → T (below_all R f.0 fs) → find R q fs ≡ None
-  none_behind q f fs is below = found_none q fs (subst (λ k. T (below_all R k fs)) (sym (exact q f.0 (is_tied (R q f.0) is))) below)
-
-  later_found : (q : K) (f : K × X) (fs : List (K × X)) (v : X) (b : Bool) → eq_by_cmp R q f.0 ≡ b → T (below_all R f.0 fs) → find R q fs ≡ Some v → cond b (Some f.1) (find R q fs) ≡ Some v
-  later_found q f fs v true is below h = let no = sym (none_behind q f fs is below) ∙ h in cc
-  later_found q f fs v false is below h = h
-
-  module _ (P : K × X → Type 0) where
-    -- what holds of all that is found holds of all entries
-    pub all_found : (fs : List (K × X)) → T (is_sorted R fs) → ((q : K) (v : X) → find R q fs ≡ Some v → P (q, v)) → All P fs
-    all_found [] h go = All-nil P
-    all_found (f ∷ fs) h go =
-        let (first, others) = both_of (below_all R f.0 fs) (is_sorted R fs) h in
-        All-cons P f fs (go f.0 f.1 (ap (λ b. cond b (Some f.1) (find R f.0 fs)) ((eq_by_cmp_equiv total).refl f.0)))
-        (all_found fs others (λ q v is. go q v (ap (λ b. cond b (Some f.1) (find R q fs)) refl ∙ later_found q f fs v (eq_by_cmp R q f.0) refl first is)))
-
-  pub found_first : (q : K) (f : K × X) (fs : List (K × X)) (o : Option X) (b : Bool) → eq_by_cmp R q f.0 ≡ b → T (below_all R f.0 fs) → option_or (find R q fs) (cond b (Some f.1) o) ≡ option_or (cond b (Some f.1) (find R q fs)) o
-  found_first q f fs o true is below = ap (λ r. option_or r (Some f.1)) (none_behind q f fs is below)
-  found_first q f fs o false is below = refl
 
 -- ---- frames set again
 
@@ -168,23 +133,35 @@ module _ (of : PartMap) (codes : ℕ → Bool) (m : PartMap) (c : ℕ) (holds : 
 abbrev pub hvm_codes : ℕ → Bool
 hvm_codes x = nat_eq x 9 || (nat_eq x 10 || (nat_eq x 8 || (nat_eq x 18 || (nat_eq x 17 || false))))
 
-has_hvm_code : (q : PartKey) (bytes : List ℕ) → IsHvmPart q bytes → hvm_codes q.code ≡ true
-has_hvm_code _ _ (tsc bytes h) = refl
-has_hvm_code _ _ (context bytes h) = refl
-has_hvm_code _ _ (param i bytes small h) = refl
-has_hvm_code _ _ (leaf i j bytes s t h) = refl
-has_hvm_code _ _ (msr i bytes s h) = refl
+hvm_code : (c : PartCode) → (row_of c).of_kind Hvm ≡ true → is_emulator_code (code_number c) ≡ false → hvm_codes (code_number c) ≡ true
+hvm_code Tsc of_hvm plain = refl
+hvm_code HvmContext of_hvm plain = refl
+hvm_code HvmParam of_hvm plain = refl
+hvm_code CpuidLeaf of_hvm plain = refl
+hvm_code Msr of_hvm plain = refl
+hvm_code EmulatorPairs of_hvm plain = let no : true ≡ false = plain in cc
+hvm_code EmulatorContext of_hvm plain = let no : true ≡ false = plain in cc
+hvm_code P2mFrames of_hvm plain = let no : false ≡ true = of_hvm in cc
+hvm_code VcpuBasic of_hvm plain = let no : false ≡ true = of_hvm in cc
+hvm_code VcpuExtended of_hvm plain = let no : false ≡ true = of_hvm in cc
+hvm_code VcpuXsave of_hvm plain = let no : false ≡ true = of_hvm in cc
+hvm_code SharedInfo of_hvm plain = let no : false ≡ true = of_hvm in cc
+hvm_code VcpuMsrs of_hvm plain = let no : false ≡ true = of_hvm in cc
+
+has_hvm_code : (kind : Kind) (width : ℕ) (q : PartKey) (bytes : List ℕ) → kind ≡ Hvm → is_emulator_code q.code ≡ false → IsPart kind width q bytes → hvm_codes q.code ≡ true
+has_hvm_code kind width q bytes hvm plain part =
+    ap hvm_codes part.number ∙ hvm_code part.code (subst (λ (k : Kind). (row_of part.code).of_kind k ≡ true) hvm part.of_kind) (ap is_emulator_code (sym part.number) ∙ plain)
 
 pub holds_none : (of : PartMap) → Holds of (λ x. false) maps.empty
 holds_none of q = maps.get-empty part_cmp q
 
-pub holds_all : (of m : PartMap) → ((q : PartKey) (bytes : List ℕ) → maps.get of q ≡ Some bytes → IsHvmPart q bytes) → Holds of hvm_codes m → m ≡ of
-holds_all of m hvm holds = maps.same_map part_total part_exact m of (λ q. holds q ∙ there q (maps.get of q) refl)
+pub holds_all : (g : GuestOf) (m : PartMap) → IsFormed g → IsPlainHvm g → Holds g.parts hvm_codes m → m ≡ g.parts
+holds_all g m formed is holds = maps.same_map part_total part_exact m g.parts (λ q. holds q ∙ there q (maps.get g.parts q) refl)
   where
-    there : (q : PartKey) (o : Option (List ℕ)) → maps.get of q ≡ o → cond (hvm_codes q.code) (maps.get of q) None ≡ maps.get of q
-    there q None is = same (hvm_codes q.code) (maps.get of q) is
+    there : (q : PartKey) (o : Option (List ℕ)) → maps.get g.parts q ≡ o → cond (hvm_codes q.code) (maps.get g.parts q) None ≡ maps.get g.parts q
+    there q None is = same (hvm_codes q.code) (maps.get g.parts q) is
       where
         same : (b : Bool) (o : Option (List ℕ)) → o ≡ None → cond b o None ≡ o
         same true o e = refl
         same false o e = sym e
-    there q (Some bytes) is = ap (λ b. cond b (maps.get of q) None) (has_hvm_code q bytes (hvm q bytes is))
+    there q (Some bytes) got = ap (λ b. cond b (maps.get g.parts q) None) (has_hvm_code g.kind (width_of g) q bytes is.hvm (is.plain q bytes got) (formed.parts q bytes got))

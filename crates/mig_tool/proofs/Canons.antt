@@ -9,7 +9,11 @@ use Rattle.mig_headers.proofs.HeaderLaws.{image_is_read_back, domain_is_read_bac
 use Rattle.mig_guest.specs.Guests.{GuestOf}
 use Rattle.mig_guest.specs.PartKeys.{context_key}
 use Rattle.mig_guest.specs.Parts.{PartMap, put_parts, replace_code}
+use Rattle.mig_guest.specs.Frames.{IsFew}
+use Rattle.mig_guest.specs.Formed.{IsFormed, IsPlainHvm, IsTop}
+use Rattle.mig_guest.proofs.CodeParts.{all_of, IsHeld, parts_are, one_tsc, one_context}
 use Rattle.mig_pvtables.specs.Whole.{IsWhole}
+use Rattle.mig_pvtables.proofs.HvmGuests.{hvm_complete}
 use Rattle.mig_canon.specs.Canon.{Part, Record, batches, frame_bodies, where_some, of_code, frames_in, leaves_body, msrs_body, params_body, tsc_body, static_bodies, bodies_of, text_of, headers, canon}
 use Rattle.mig_restore.specs.Record.{StreamRecord, is_ended}
 use Rattle.mig_restore.specs.Record.Content.{Nothing, Parts, Policy}
@@ -19,7 +23,7 @@ use Rattle.mig_restore.specs.Spelled.HasContent.{ends, static_end}
 use Rattle.mig_restore.specs.Spelled.Spells.{none}
 use Rattle.mig_restore.proofs.Converse.{one_front}
 use Rattle.mig_tool.proofs.CanonMaps.{entry_of, frames_again, holds_none, holds_more, holds_replaced, holds_all}
-use Rattle.mig_tool.proofs.CanonParts.{IsOf, parts_are, all_of, Fits, leaves_fit, msrs_fit, params_fit, tsc_fits, context_fits, one_tsc, one_context}
+use Rattle.mig_tool.proofs.CanonParts.{Fits, leaves_fit, msrs_fit, params_fit, tsc_fits, context_fits}
 use Rattle.mig_tool.proofs.CanonFrames.{all_fine, all_hvm, all_taken, few_batches}
 use Rattle.mig_tool.proofs.CanonSteps.{opening, guest_with, State, leaves_step, msrs_step, static_end_step, tsc_step, params_step, context_step, end_step, ended_more, spells_more, means_more, more, maybe, each_more, frames_put, frames_more}
 
@@ -32,31 +36,25 @@ static_parts g = replace_code 18 (replace_code 17 maps.empty (of_code 17 g)) (of
 abbrev all_parts : GuestOf → PartMap
 all_parts g = put_parts (put_parts (put_parts (static_parts g) (of_code 8 g)) (of_code 10 g)) (of_code 9 g)
 
-parts_again : (g : GuestOf) → IsWhole g → all_parts g ≡ g.parts
-parts_again g whole =
+parts_again : (g : GuestOf) → IsFormed g → IsPlainHvm g → all_parts g ≡ g.parts
+parts_again g formed is =
     let p = g.parts in
     let a = holds_replaced p (λ x. false) maps.empty 17 (holds_none p) in
     let b = holds_replaced p _ (replace_code 17 maps.empty (of_code 17 g)) 18 a in
     let c = holds_more p _ (static_parts g) 8 b in
     let d = holds_more p _ (put_parts (static_parts g) (of_code 8 g)) 10 c in
-    holds_all p (all_parts g) whole.parts (holds_more p _ (put_parts (put_parts (static_parts g) (of_code 8 g)) (of_code 10 g)) 9 d)
+    holds_all g (all_parts g) formed is (holds_more p _ (put_parts (put_parts (static_parts g) (of_code 8 g)) (of_code 10 g)) 9 d)
 
-frames_are : (g : GuestOf) → IsWhole g → frames_put (frames_in g) (batches (frames_in g)) ≡ g.frames
-frames_are g whole =
-    ap (λ fs. put_entries Hvm maps.empty (map entry_of fs)) (all_taken (frames_in g)) ∙ frames_again g.frames (all_hvm (frames_in g) (all_fine g whole))
+frames_are : (g : GuestOf) → IsFormed g → g.kind ≡ Hvm → frames_put (frames_in g) (batches (frames_in g)) ≡ g.frames
+frames_are g formed hvm =
+    ap (λ fs. put_entries Hvm maps.empty (map entry_of fs)) (all_taken (frames_in g)) ∙ frames_again g.frames (all_hvm (frames_in g) (all_fine g formed hvm))
 
-whole_again : (g : GuestOf) → IsWhole g → guest_with (frames_put (frames_in g) (batches (frames_in g))) (all_parts g) ≡ g
-whole_again g whole =
-    ap (λ f. guest_with f (all_parts g)) (frames_are g whole) ∙ ap (guest_with g.frames) (parts_again g whole)
-    ∙ ap (λ (k : Kind). record { kind = k; top = 0; frames = g.frames; parts = g.parts }) (sym whole.hvm)
-    ∙ ap (λ (t : ℕ). record { kind = g.kind; top = t; frames = g.frames; parts = g.parts }) (sym whole.top)
-
-there : (x : Option (List ℕ)) (bytes : List ℕ) → x ≡ Some bytes → IsSome x
-there None bytes e = absurd (cc)
-there (Some y) bytes e = refl
-
-complete : (g : GuestOf) → IsWhole g → IsComplete g
-complete g whole = record { context = there (maps.get g.parts context_key) whole.context.0 whole.context.1; few = whole.few }
+whole_again : (g : GuestOf) → IsFormed g → IsPlainHvm g → guest_with (frames_put (frames_in g) (batches (frames_in g))) (all_parts g) ≡ g
+whole_again g formed is =
+    let top : g.top ≡ 0 = subst (λ (k : Kind). IsTop k g.top) is.hvm formed.top in
+    ap (λ f. guest_with f (all_parts g)) (frames_are g formed is.hvm) ∙ ap (guest_with g.frames) (parts_again g formed is)
+    ∙ ap (λ (k : Kind). record { kind = k; top = 0; frames = g.frames; parts = g.parts }) (sym is.hvm)
+    ∙ ap (λ (t : ℕ). record { kind = g.kind; top = t; frames = g.frames; parts = g.parts }) (sym top)
 
 -- ---- the records
 
@@ -73,7 +71,13 @@ nothing_fits = record { says = λ top. static_end; short = omega arith }
 end_fits : Fits 0 [] Nothing
 end_fits = record { says = λ top. ends; short = omega arith }
 
-module _ (g : GuestOf) (whole : IsWhole g) where
+module _ (g : GuestOf) (whole : IsWhole g) (is : IsPlainHvm g) where
+  abbrev formed : IsFormed g
+  formed = whole.formed
+
+  complete : IsSome (maps.get g.parts context_key) × IsFew g.frames
+  complete = hvm_complete g is.hvm whole.faultless
+
   abbrev n : ℕ
   n = batches (frames_in g)
 
@@ -93,45 +97,45 @@ module _ (g : GuestOf) (whole : IsWhole g) where
   static_state =
       let l = of_code 17 g in let m = of_code 18 g in
       let g1 = put_content (empty_guest Hvm) (Policy 17 l) in
-      let first = maybe l [] (empty_guest Hvm) false 0 0x11 (leaves_body l) (Policy 17 l) at_start leaves_step (leaves_fit g whole) (omega arith) refl (λ e. ap (λ ps. put_content (empty_guest Hvm) (Policy 17 ps)) e) in
-      let second = maybe m (where_some l (0x11, leaves_body l)) g1 false 1 0x12 (msrs_body m) (Policy 18 m) first msrs_step (msrs_fit g whole) (omega arith) refl (λ e. ap (λ ps. put_content g1 (Policy 18 ps)) e) in
+      let first = maybe l [] (empty_guest Hvm) false 0 0x11 (leaves_body l) (Policy 17 l) at_start leaves_step (leaves_fit g formed) (omega arith) refl (λ e. ap (λ ps. put_content (empty_guest Hvm) (Policy 17 ps)) e) in
+      let second = maybe m (where_some l (0x11, leaves_body l)) g1 false 1 0x12 (msrs_body m) (Policy 18 m) first msrs_step (msrs_fit g formed) (omega arith) refl (λ e. ap (λ ps. put_content g1 (Policy 18 ps)) e) in
       subst (λ b. State b (guest_with maps.empty (static_parts g)) true 3) (append_assoc (where_some l (0x11, leaves_body l)) (where_some m (0x12, msrs_body m)) ((0x10, []) ∷ []))
       (more second static_end_step nothing_fits (omega arith) refl)
 
   few : n ≤ 2 ^ 14
-  few = few_batches (frames_in g) whole.few
+  few = few_batches (frames_in g) complete.1
 
   abbrev most : ℕ
   most = 3 + n + length (of_code 8 g) + 1 + length (of_code 9 g)
 
   few_records : most < 2 ^ 28
-  few_records = omega (arith, few, one_tsc g whole, one_context g whole)
+  few_records = omega (arith, few, one_tsc g formed, one_context g formed)
 
   before_end : State ((((static_bodies g ++ frames) ++ tscs) ++ params) ++ contexts) (guest_with (frames_put (frames_in g) n) (all_parts g)) true most
   before_end =
       let l = of_code 8 g in let m = of_code 10 g in let c = of_code 9 g in
-      let P : Part → Type 0 = IsOf g 8 in let Q : Part → Type 0 = IsOf g 9 in
+      let P : Part → Type 0 = IsHeld g 8 in let Q : Part → Type 0 = IsHeld g 9 in
       let F = frames_put (frames_in g) n in
       let g1 = guest_with F (static_parts g) in
       let g2 = guest_with F (put_parts (static_parts g) l) in
       let g3 = guest_with F (put_parts (put_parts (static_parts g) l) m) in
-      let framed = frames_more (frames_in g) (all_fine g whole) whole.few (static_bodies g) (static_parts g) 3 (omega arith) static_state n (le_refl n) in
-      let timed = each_more 8 tsc_body tsc_step refl l (all_of P P (λ p. Fits 8 (tsc_body p) (Parts (p ∷ []))) (λ p one same. tsc_fits g whole p one) l (parts_are g 8 whole) (parts_are g 8 whole))
-      (static_bodies g ++ frames) g1 (3 + n) (omega (arith, few, one_tsc g whole)) framed in
-      let ruled = maybe m ((static_bodies g ++ frames) ++ tscs) g2 true (3 + n + length l) 0xA (params_body m) (Parts m) timed params_step (params_fit g whole) (omega (arith, few, one_tsc g whole)) refl (λ e. ap (λ ps. put_content g2 (Parts ps)) e) in
-      each_more 9 (λ p. p.1) context_step refl c (all_of Q Q (λ p. Fits 9 p.1 (Parts (p ∷ []))) (λ p one same. context_fits g whole p one) c (parts_are g 9 whole) (parts_are g 9 whole))
+      let framed = frames_more (frames_in g) (all_fine g formed is.hvm) complete.1 (static_bodies g) (static_parts g) 3 (omega arith) static_state n (le_refl n) in
+      let timed = each_more 8 tsc_body tsc_step refl l (all_of P P (λ p. Fits 8 (tsc_body p) (Parts (p ∷ []))) (λ p one same. tsc_fits g formed p one) l (parts_are g 8 formed) (parts_are g 8 formed))
+      (static_bodies g ++ frames) g1 (3 + n) (omega (arith, few, one_tsc g formed)) framed in
+      let ruled = maybe m ((static_bodies g ++ frames) ++ tscs) g2 true (3 + n + length l) 0xA (params_body m) (Parts m) timed params_step (params_fit g formed) (omega (arith, few, one_tsc g formed)) refl (λ e. ap (λ ps. put_content g2 (Parts ps)) e) in
+      each_more 9 (λ p. p.1) context_step refl c (all_of Q Q (λ p. Fits 9 p.1 (Parts (p ∷ []))) (λ p one same. context_fits g formed p one) c (parts_are g 9 formed) (parts_are g 9 formed))
       (((static_bodies g ++ frames) ++ tscs) ++ params) g3 (3 + n + length l + 1) few_records ruled
 
   abbrev records : List StreamRecord
   records = before_end.records ++ record { type = 0; content = Nothing } ∷ []
 
   means_guest : g ≡ mean Hvm records
-  means_guest = sym (means_more before_end end_step end_fits few_records ∙ whole_again g whole)
+  means_guest = sym (means_more before_end end_step end_fits few_records ∙ whole_again g formed is)
 
   spelled_all : Spells opening (text_of (bodies_of g)) records
   spelled_all =
       subst (λ b. Spells opening (text_of b) records) (regroup (static_bodies g) frames tscs params contexts ((0, []) ∷ []))
-      (spells_more before_end end_step end_fits few_records (λ e. subst IsComplete means_guest (complete g whole)))
+      (spells_more before_end end_step end_fits few_records (λ e. subst IsComplete means_guest (record { context = complete.0; few = complete.1 })))
 
   ended : is_ended records ≡ true
   ended = ended_more before_end.records (record { type = 0; content = Nothing }) ∙ or_true (is_ended before_end.records)
@@ -155,17 +159,17 @@ module _ (g : GuestOf) (whole : IsWhole g) where
     ended = ended;
   }
 
-pub canon_is_accepted : (g : GuestOf) (rest : List ℕ) → IsWhole g → Accepted (canon g ++ rest) g rest
-canon_is_accepted g rest whole = record { opening = opening; records = records g whole; image = canon_is_image g whole rest; means = means_guest g whole }
+pub canon_is_accepted : (g : GuestOf) (rest : List ℕ) → IsWhole g → IsPlainHvm g → Accepted (canon g ++ rest) g rest
+canon_is_accepted g rest whole is = record { opening = opening; records = records g whole is; image = canon_is_image g whole is rest; means = means_guest g whole is }
 
-pub canon_is_one_to_one : (g h : GuestOf) → IsWhole g → IsWhole h → (canon g ≡ canon h) ↔ (g ≡ h)
-canon_is_one_to_one g h whole other = (
-  (λ e. (one_front (canon g ++ []) g h [] [] (canon_is_accepted g [] whole) (subst (λ l. Accepted (l ++ []) h []) (sym e) (canon_is_accepted h [] other))).0),
+pub canon_is_one_to_one : (g h : GuestOf) → IsWhole g → IsPlainHvm g → IsWhole h → IsPlainHvm h → (canon g ≡ canon h) ↔ (g ≡ h)
+canon_is_one_to_one g h whole is other too = (
+  (λ e. (one_front (canon g ++ []) g h [] [] (canon_is_accepted g [] whole is) (subst (λ l. Accepted (l ++ []) h []) (sym e) (canon_is_accepted h [] other too))).0),
   (λ e. ap canon e),
 )
 
-pub twice_is_once : (guest other : GuestOf) (rest : List ℕ) → IsWhole guest → Accepted (canon guest) other rest → (canon other ≡ canon guest) × (rest ≡ [])
-twice_is_once guest other rest whole again =
-    let once : Accepted (canon guest) guest [] = subst (λ l. Accepted l guest []) (append-nil (canon guest)) (canon_is_accepted guest [] whole) in
+pub twice_is_once : (guest other : GuestOf) (rest : List ℕ) → IsWhole guest → IsPlainHvm guest → Accepted (canon guest) other rest → (canon other ≡ canon guest) × (rest ≡ [])
+twice_is_once guest other rest whole is again =
+    let once : Accepted (canon guest) guest [] = subst (λ l. Accepted l guest []) (append-nil (canon guest)) (canon_is_accepted guest [] whole is) in
     let same = one_front (canon guest) other guest rest [] again once in
     (ap canon same.0, same.1)

@@ -12,7 +12,10 @@ use Rattle.mig_guest.specs.Guests.{GuestOf}
 use Rattle.mig_restore.specs.Spelled.{Accepted}
 use Rattle.mig_restore.specs.Stream.{IsRefused}
 use Rattle.mig_canon.specs.Canon.{canon}
+use Rattle.mig_guest.specs.Formed.{IsPlainHvm}
+use Rattle.mig_guest.specs.Frames.{IsFew}
 use Rattle.mig_pvtables.specs.Whole.{IsWhole}
+use Rattle.mig_pvtables.proofs.HvmGuests.{hvm_complete}
 use Rattle.mig_restore.specs.Judging.{Opening}
 use Rattle.mig_restore.specs.Mean.{mean}
 use Rattle.mig_restore.specs.Record.{StreamRecord}
@@ -142,26 +145,26 @@ input_rose status before now h is = let r = subst (λ s. InputRises s before now
 accepted_front : (input rest : List ℕ) (image : ImageOf) (reading : Reading) → image_at input ≡ Passes image rest → IsReading reading image → Accepted input reading.guest rest
 accepted_front input rest image reading accepts is = record { opening = image.opening; records = image.records; image = accepted_is_image input image.opening image.records rest accepts; means = is.guest }
 
-pub came : (told left : Option (List ℕ)) (w : Written) (reading : Reading) (r : Result (Unit {0}) WriteFailed) (outcome : Outcome) → ReadsImage told left (Ok reading) → IsWhole reading.guest → Puts (canon reading.guest) w.out_old w.out_new r
+pub came : (told left : Option (List ℕ)) (w : Written) (reading : Reading) (r : Result (Unit {0}) WriteFailed) (outcome : Outcome) → ReadsImage told left (Ok reading) → IsWhole reading.guest × IsPlainHvm reading.guest → Puts (canon reading.guest) w.out_old w.out_new r
     → outcome ≡ wrote r → ComesOf Normalise told left w outcome
 came None left w reading r outcome h whole put is = tt
 came (Some input) left w reading (Ok u) outcome (image, rest, accepts, left_is, is_read) whole put is =
     subst (Comes Normalise input left w) (sym is)
-    (record { guest = reading.guest; rest = rest; accepted = accepted_front input rest image reading accepts is_read; left_is = left_is; wrote = put; whole = whole; kept = λ more. canon_is_accepted reading.guest more whole; alone = λ other is_whole. canon_is_one_to_one other reading.guest is_whole whole })
+    (record { guest = reading.guest; rest = rest; accepted = accepted_front input rest image reading accepts is_read; left_is = left_is; wrote = put; whole = whole.0; plain = whole.1; kept = λ more. canon_is_accepted reading.guest more whole.0 whole.1; alone = λ other is_whole too. canon_is_one_to_one other reading.guest is_whole too whole.0 whole.1 })
 came (Some input) left w reading (Err e) outcome (image, rest, accepts, left_is, is_read) whole put is =
     subst (Comes Normalise input left w) (sym is) (record { guest = reading.guest; rest = rest; accepted = accepted_front input rest image reading accepts is_read; left_is = left_is; wrote = put })
 
--- a base that may be given fits every whole guest
-pub base_fits : (guest : GuestOf) (base : ℕ) → IsWhole guest → IsBase base → IsBaseOutside guest base → ⊥
-base_fits guest base whole range (inl zero) = omega (arith, zero, range.0)
-base_fits guest base whole range (inr above) = omega (arith, above, range.1, whole.few)
+-- a base that may be given fits every guest without too many frames
+pub base_fits : (guest : GuestOf) (base : ℕ) → IsFew guest.frames → IsBase base → IsBaseOutside guest base → ⊥
+base_fits guest base few range (inl zero) = omega (arith, zero, range.0)
+base_fits guest base few range (inr above) = omega (arith, above, range.1, few)
 
-pub restored : (told left : Option (List ℕ)) (w : Written) (reading : Reading) (base : ℕ) (outcome : Outcome) → ReadsImage told left (Ok reading) → IsWhole reading.guest → IsBase base
+pub restored : (told left : Option (List ℕ)) (w : Written) (reading : Reading) (base : ℕ) (outcome : Outcome) → ReadsImage told left (Ok reading) → IsWhole reading.guest × IsPlainHvm reading.guest → IsBase base
     → (outcome ≡ outcomes.Done → Appends w.out_old w.out_new (restored_text base reading.guest)) → (outcome ≡ outcomes.WriteFault → AppendsPart w.out_old w.out_new (restored_text base reading.guest))
     → (outcome ≡ outcomes.Done) ⊎ ((outcome ≡ outcomes.WriteFault) ⊎ (outcome ≡ outcomes.Memory)) → ComesOf (Restore base) told left w outcome
 restored None left w reading base outcome h whole range done part answers = tt
 restored (Some input) left w reading base outcome (image, rest, accepts, left_is, is_read) whole range done part (inl is) =
-    let valid = hosted_valid reading.guest base whole (base_fits reading.guest base whole range) in
+    let valid = hosted_valid reading.guest base whole.0 whole.1.hvm (base_fits reading.guest base (hvm_complete reading.guest whole.1.hvm whole.0.faultless).1 range) in
     subst (Comes (Restore base) input left w) (sym is)
     (record {
       guest = reading.guest;
@@ -169,7 +172,8 @@ restored (Some input) left w reading base outcome (image, rest, accepts, left_is
       accepted = accepted_front input rest image reading accepts is_read;
       left_is = left_is;
       wrote = done is;
-      whole = whole;
+      whole = whole.0;
+      plain = whole.1;
       valid = valid;
       kept = λ more. image_reads (restored_text base reading.guest ++ more) (hosted reading.guest base) more (record { valid = valid; spelled = refl });
     })

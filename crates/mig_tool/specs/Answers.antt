@@ -9,6 +9,7 @@ use Rattle.mig_headers.specs.declared.fault.Cause.{Cause}
 use Rattle.mig_headers.specs.declared.fault.Place.{Place}
 use Rattle.mig_canon.specs.Canon.{canon}
 use Rattle.mig_guest.specs.Guests.{GuestOf}
+use Rattle.mig_guest.specs.Formed.{IsPlainHvm}
 use Rattle.mig_guest.specs.Hosts.{IsValid}
 use Rattle.mig_image.specs.Hosted.{hosted}
 use Rattle.mig_image.specs.Image.{image}
@@ -27,8 +28,8 @@ use Rattle.mig_tool.specs.Report.{refusal_line, usage_line, read_fault_line, wri
 
 -- ---- an accepted front of the input, and what was written of its guest
 
--- a front of the input is an accepted stream, the rest is left, and of its guest, a whole one, the canonical stream was
--- written: it is accepted with this guest, and no other guest has it
+-- a front of the input is an accepted stream, the rest is left, and of its guest, a whole one (so far an HVM guest without
+-- emulator parts), the canonical stream was written: it is accepted with this guest, and no other such guest has it
 pub record Normalised (input : List ℕ) (left old new : Option (List ℕ)) : Type 0 where
   pub guest : GuestOf
   pub rest : List ℕ
@@ -36,8 +37,9 @@ pub record Normalised (input : List ℕ) (left old new : Option (List ℕ)) : Ty
   pub left_is : left ≡ Some rest
   pub wrote : Appends old new (canon guest)
   pub whole : IsWhole guest
+  pub plain : IsPlainHvm guest
   pub kept : (more : List ℕ) → Accepted (canon guest ++ more) guest more
-  pub alone : (other : GuestOf) → IsWhole other → (canon other ≡ canon guest) ↔ (other ≡ guest)
+  pub alone : (other : GuestOf) → IsWhole other → IsPlainHvm other → (canon other ≡ canon guest) ↔ (other ≡ guest)
 
 -- the image of the guest, restored with machine frames from the base on
 abbrev pub restored_text : ℕ → GuestOf → List ℕ
@@ -52,6 +54,7 @@ pub record Restored (base : ℕ) (input : List ℕ) (left old new : Option (List
   pub left_is : left ≡ Some rest
   pub wrote : Appends old new (restored_text base guest)
   pub whole : IsWhole guest
+  pub plain : IsPlainHvm guest
   pub valid : IsValid (hosted guest base)
   pub kept : (more : List ℕ) → image_at (restored_text base guest ++ more) ≡ Passes (hosted guest base) more
 

@@ -2,6 +2,7 @@ ghost use Rattle.std.specs.Prelude.{◌≡◌, ◌≢◌, ◌≤◌, ◌⊎◌, 
 ghost use Rattle.std.specs.Io.KnownBytes.{Appends};
 ghost use Rattle.mig_bytes.specs.Bytes.{AppendsPart};
 ghost use Rattle.mig_bytes.specs.Faults.{Rose};
+ghost use Rattle.mig_headers.specs.declared.kind.Kind.TheVariants.{Hvm};
 ghost use Rattle.mig_pvtables.specs.Whole.{IsWhole};
 ghost use Rattle.mig_tool.specs.Answers.{SaysOf, ComesOf, WriteRose, InputRises, OutputRises, IsLine, HasOwnLine, restored_text};
 ghost use Rattle.mig_tool.specs.Outcome.{outcome_of, status_of};
@@ -53,6 +54,7 @@ fn normalise<S: Source, K: Sink>(alloc: Global, input: &mut S, out: &mut K) -> O
 /// Writes the image of a guest, with machine frames counted up from the base.
 fn write_restored<K: Sink>(alloc: Global, guest: Guest, base: u64, out: &mut K) -> Outcome
     requires whole { IsWhole guest }
+    requires hvm { guest.kind ≡ Hvm }
     requires base { IsBase base }
     ensures done { result ≡ outcomes.Done → Appends (K.written out.old) (K.written out.new) (restored_text base guest) }
     ensures part { result ≡ outcomes.WriteFault → AppendsPart (K.written out.old) (K.written out.new) (restored_text base guest) }
