@@ -6,7 +6,7 @@ use Rattle.std.proofs.Math.Seq.{drop-cons}
 use Rattle.std.proofs.Common.{◌≡◌, ℕ, suc, ◌+◌, ◌<◌, length, take, drop, get_or, take-append-drop, List, [], ◌∷◌, ◌++◌, Bool, true, false, cond, nat_lt, Option, Some, None, Result, Ok, Err, refl, sym, ap, subst, ◌∙◌, length-append, arith, length-take-le, ltb-false}
 use Rattle.mig_bytes.specs.declared.part.Stop.{Stop}
 use Rattle.mig_bytes.specs.declared.part.Stop.TheVariants.{Refused, ReadFault, Memory}
-use Rattle.mig_bytes.specs.Judged.{Judged, ◌>>=◌, part, tried, each, Matches, Gives}
+use Rattle.mig_bytes.specs.Judged.{Judged, ◌>>=◌, part, tried, each, placed, Matches, Gives}
 use Rattle.mig_bytes.specs.Judged.Judged.{Passes, Faulty}
 
 module _ {C X Y : Type 0} (R : X → Y → Type 0) where
@@ -174,6 +174,10 @@ tried_passes {C} (Some c) i rest u h = let no : ◌≡◌ {A = Judged C (Unit {0
 
 pub same_passes : {C X : Type 0} (x y : X) (i j : List ℕ) → ◌≡◌ {A = Judged C X} (Passes x i) (Passes y j) → (x ≡ y) × (i ≡ j)
 same_passes x y i j h = (cc, cc)
+
+pub placed_passes : {P C X : Type 0} (place : P) (j : Judged C X) (x : X) (rest : List ℕ) → placed place j ≡ Passes x rest → j ≡ Passes x rest
+placed_passes place (Passes y mid) x rest h = let e = same_passes y x mid rest h in ap (λ z. Passes z mid) e.0 ∙ ap (Passes x) e.1
+placed_passes {P} {C} {X} place (Faulty c mid) x rest h = let no : ◌≡◌ {A = Judged (P × C) X} (Faulty (place, c) mid) (Passes x rest) = h in absurd (cc)
 
 -- ---- and put together
 

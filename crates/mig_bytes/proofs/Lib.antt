@@ -1,4 +1,5 @@
 pub mod Streams
+pub mod Taking
 pub mod Texts
 pub mod Vectors
 pub mod Walks
@@ -6,3 +7,4 @@ pub mod FieldWrites
 pub mod Joins
 pub mod Steps
 pub mod Placed
+pub mod Fronts

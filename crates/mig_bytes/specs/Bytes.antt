@@ -1,14 +1,23 @@
 -- What the calls over a source and a sink do to the bytes that are left, or written, where these are told.
-use Rattle.std.specs.Prelude.{◌≡◌, ◌<◌, ℕ, ◌-◌, ◌%◌, List, ◌++◌, length, take, Bool, true, false, Result, Ok, Err}
+use Rattle.std.specs.Prelude.{◌≡◌, ◌<◌, ◌≤◌, ℕ, ◌+◌, ◌-◌, ◌*◌, ◌%◌, List, ◌++◌, length, take, Bool, true, false, Result, Ok, Err}
+use Rattle.std.specs.List.{All}
 use Rattle.std.specs.declared.option.Option.{Option}
 use Rattle.std.specs.Io.KnownBytes.{Consumes, Appends, IsAtEnd}
 use Rattle.mig_bytes.specs.declared.take.Got.{Got}
 use Rattle.mig_bytes.specs.declared.take.Got.TheVariants.{Whole, Short}
 use Rattle.mig_bytes.specs.declared.failure.WriteFailed.{WriteFailed}
 
--- the least number that makes a length a multiple of 8
+-- how many bytes make a length a multiple of 8
 abbrev pub padding_len : ℕ → ℕ
 padding_len len = (8 - len % 8) % 8
+
+abbrev pub IsMultipleOf8 : ℕ → Type 0
+IsMultipleOf8 n = (k : ℕ) × (n ≡ 8 * k)
+
+-- so many bytes make the length a multiple of 8, and none fewer do
+pub record IsLeastPadding (len padding : ℕ) : Type 0 where
+  pub fills : IsMultipleOf8 (len + padding)
+  pub least : (fewer : ℕ) → IsMultipleOf8 (len + fewer) → padding ≤ fewer
 
 -- the buffer holds the next bytes; or the source ended after n of them, fewer than there is room for
 abbrev pub Taken : Option (List ℕ) → Option (List ℕ) → List ℕ → Got → Type 0
@@ -20,9 +29,15 @@ abbrev pub Skipped : Option (List ℕ) → Option (List ℕ) → ℕ → Bool �
 Skipped old new n true = (bytes : List ℕ) × (length bytes ≡ n) × Consumes old new bytes
 Skipped old new n false = (bytes : List ℕ) × (length bytes < n) × Consumes old new bytes × IsAtEnd new
 
--- some first bytes of what was left are gone
-abbrev pub ConsumesSome : Option (List ℕ) → Option (List ℕ) → Type 0
-ConsumesSome old new = (bytes : List ℕ) × Consumes old new bytes
+-- each element is a byte
+abbrev pub AreBytes : List ℕ → Type 0
+AreBytes items = All (λ b. b < 256) items
+
+-- some first elements of what was left are gone, and they are bytes
+pub record TakesBytes (old new : Option (List ℕ)) : Type 0 where
+  pub taken : List ℕ
+  pub bytes : AreBytes taken
+  pub gone : Consumes old new taken
 
 -- the vector grew by the next n bytes; or by all that was left, fewer than n
 abbrev pub Grown : Option (List ℕ) → Option (List ℕ) → List ℕ → List ℕ → ℕ → Got → Type 0

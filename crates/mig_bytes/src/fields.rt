@@ -1,6 +1,6 @@
-ghost use Rattle.std.specs.Prelude.{◌≡◌, ◌+◌, ◌≤◌, ◌<◌, length};
+ghost use Rattle.std.specs.Prelude.{◌≡◌, ℕ, ◌+◌, ◌≤◌, ◌<◌, length};
 ghost use Rattle.byteorder.specs.Endian.{little_bytes, big_bytes};
-ghost use Rattle.mig_bytes.specs.Bytes.{padding_len};
+ghost use Rattle.mig_bytes.specs.Bytes.{padding_len, IsLeastPadding};
 ghost use Rattle.mig_bytes.specs.Fields.{le16, le32, le64, be16, be32, be64, with_field};
 
 use byteorder::{BigEndian, ByteOrder, LittleEndian};
@@ -12,6 +12,11 @@ pub fn pad_len(len: u32) -> usize
 {
     ((8 - len % 8) % 8) as usize
 }
+
+/// The padding of a length is the least number that makes it a multiple of 8.
+pub fn padding_is_least()
+    ensures { (len : ℕ) → IsLeastPadding len (padding_len len) }
+{}
 
 /// The 16-bit number at `at`, the lowest byte first.
 #[tactic(auto, unfolding(crate::specs::Fields::le16))]

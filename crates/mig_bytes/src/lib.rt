@@ -22,8 +22,8 @@ mod take;
 
 pub use failure::{Failed, Memory, ReadFailed, WriteFailed};
 pub use fields::{
-    pad_len, put_u16_le, put_u32_be, put_u32_le, put_u64_be, put_u64_le, u16_be, u16_le, u32_be,
-    u32_le, u64_be, u64_le,
+    pad_len, padding_is_least, put_u16_le, put_u32_be, put_u32_le, put_u64_be, put_u64_le, u16_be,
+    u16_le, u32_be, u32_le, u64_be, u64_le,
 };
 pub use memory::{MemSink, MemSource};
 pub use outside::{InSource, OutSink};

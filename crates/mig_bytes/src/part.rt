@@ -1,4 +1,5 @@
 ghost use Rattle.std.specs.Prelude.{◌≡◌, length, IfOk, IsErrOf, vec_len};
+ghost use Rattle.mig_bytes.specs.Bytes.{TakesBytes};
 ghost use Rattle.mig_bytes.specs.Faults.{RisesOnReadFault};
 ghost use Rattle.mig_bytes.specs.Judged.{Gives, part, stop_at};
 ghost use Rattle.mig_bytes.specs.declared.part.Stop.TheVariants.{Memory};
@@ -34,6 +35,7 @@ pub fn take_part<S: Source, C: Copy>(
     truncated: C,
 ) -> Result<(), Stop<C>>
     ensures read { Gives (λ _ part. part ≡ buf.new) (S.left src.old) (S.left src.new) (part truncated (length buf.new)) result }
+    ensures taken { TakesBytes (S.left src.old) (S.left src.new) }
     ensures faults { RisesOnReadFault (S.faults src.old) (S.faults src.new) result }
     ensures takes_no_memory { ¬ IsErrOf result Memory }
 {
@@ -52,6 +54,7 @@ pub fn take_long<S: Source, C: Copy>(
     truncated: C,
 ) -> Result<Vec<u8>, Stop<C>>
     ensures read { Gives (λ v part. part ≡ v.items) (S.left src.old) (S.left src.new) (part truncated len) result }
+    ensures taken { TakesBytes (S.left src.old) (S.left src.new) }
     ensures len { IfOk result (λ v. vec_len v ≡ len) }
     ensures faults { RisesOnReadFault (S.faults src.old) (S.faults src.new) result }
 {
