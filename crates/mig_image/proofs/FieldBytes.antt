@@ -7,8 +7,8 @@ use Rattle.std.proofs.lemmas.Nat.{le_bytes_4, le_bytes_8, be_bytes_8}
 use Rattle.byteorder.specs.Endian.{little_bytes, little_number, big_number}
 use Rattle.byteorder.specs.Numbers.{little_from-lt}
 use Rattle.mig_bytes.specs.Fields.{le32, le64, be64}
-use Rattle.mig_bytes.specs.Judged.{Judged, ◌>>=◌, part, tried, placed}
-use Rattle.mig_bytes.specs.Judged.Judged.{Passes, Faulty}
+use Rattle.mig_bytes.specs.Judged.{◌>>=◌, part, tried}
+use Rattle.mig_bytes.specs.Judged.Judged.{Passes}
 use Rattle.mig_bytes.proofs.Joins.{both_pass, part_passes, tried_passes, same_passes}
 
 abbrev pub Bytes : List ℕ → Type 0
@@ -118,10 +118,3 @@ judged_part truncated n f i x rest h =
     let t = both_pass (tried (f b.x) b.mid) (λ _. Passes b.x b.mid) x rest b.second in
     let e = same_passes b.x x b.mid rest t.second in
     (p.0 ∙ ap (λ l. l ++ b.mid) e.0 ∙ ap (λ l. x ++ l) e.1, ap length (sym e.0) ∙ p.1, ap f (sym e.0) ∙ (tried_passes (f b.x) b.mid t.mid t.x t.first).0)
-
-pub placed_passes : {P C X : Type 0} (place : P) (j : Judged C X) (x : X) (rest : List ℕ) → placed place j ≡ Passes x rest → j ≡ Passes x rest
-placed_passes place (Passes y mid) x rest h = let e = same_passes y x mid rest h in ap (λ z. Passes z mid) e.0 ∙ ap (Passes x) e.1
-placed_passes {P} {C} {X} place (Faulty c mid) x rest h = absurd (faulty h)
-  where
-    faulty : ◌≡◌ {A = Judged (P × C) X} (Faulty (place, c) mid) (Passes x rest) → ⊥
-    faulty e = cc

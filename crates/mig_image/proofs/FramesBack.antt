@@ -10,7 +10,7 @@ use Rattle.byteorder.specs.Endian.{little_bytes}
 use Rattle.mig_bytes.specs.Fields.{le32, le64}
 use Rattle.mig_bytes.specs.Judged.{Judged, ◌>>=◌, part, steps, placed}
 use Rattle.mig_bytes.specs.Judged.Judged.{Passes}
-use Rattle.mig_bytes.proofs.Joins.{both_pass, part_passes, same_passes}
+use Rattle.mig_bytes.proofs.Joins.{both_pass, part_passes, same_passes, placed_passes}
 use Rattle.mig_headers.specs.declared.image_fault.ImageCause.{ImageCause}
 use Rattle.mig_headers.specs.declared.image_fault.ImageCause.TheVariants.{Truncated}
 use Rattle.mig_headers.specs.declared.image_fault.ImagePlace.{ImagePlace}
@@ -24,7 +24,7 @@ use Rattle.mig_guest.specs.Frames.{is_type_of}
 use Rattle.mig_guest.specs.Hosts.{HostOf, HostFrame, HostFrames, IsHostFrame, IsOneToOne}
 use Rattle.mig_image.specs.Image.{host_word, frame_head_of, frame_text}
 use Rattle.mig_image.specs.ImageParts.{head_pfn, head_type_number, head_type, frame_rows, fault_of_frame, frame_head_at, page_at, frame_said, put_frame, frame_at}
-use Rattle.mig_image.proofs.FieldBytes.{Bytes, bytes_front, bytes_back, word_back, long_back, cut, last, judged_part, placed_passes, regroup}
+use Rattle.mig_image.proofs.FieldBytes.{Bytes, bytes_front, bytes_back, word_back, long_back, cut, last, judged_part, regroup}
 use Rattle.mig_image.proofs.FrameTexts.{FrameFits, page_if}
 use Rattle.mig_image.proofs.FrameChains.{Entry, FrameChain, put_frames, with_frames, from_is}
 use Rattle.mig_image.proofs.InOrder.{entries_behind, none_passes, found_more, found_passes}

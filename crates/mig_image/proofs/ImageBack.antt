@@ -7,10 +7,11 @@ use Rattle.std.proofs.lemmas.List.Elements.{recursion_from_All}
 use Rattle.std.specs.Ordering.{nat_cmp}
 use Rattle.std.specs.FinMap as maps
 use Rattle.byteorder.specs.Endian.{little_bytes}
+use Rattle.mig_bytes.specs.Bytes.{AreBytes}
 use Rattle.mig_bytes.specs.Fields.{le32, le64, be64}
 use Rattle.mig_bytes.specs.Judged.{◌>>=◌, part, placed}
 use Rattle.mig_bytes.specs.Judged.Judged.{Passes}
-use Rattle.mig_bytes.proofs.Joins.{both_pass, part_passes, same_passes}
+use Rattle.mig_bytes.proofs.Joins.{both_pass, part_passes, same_passes, placed_passes}
 use Rattle.mig_headers.specs.Headers.{kind_number, kind_of_number}
 use Rattle.mig_headers.specs.RecordTypes.{pv}
 use Rattle.mig_headers.specs.declared.image_fault.ImageCause.TheVariants.{Truncated}
@@ -19,9 +20,9 @@ use Rattle.mig_headers.specs.declared.kind.Kind.{Kind}
 use Rattle.mig_headers.specs.declared.kind.Kind.TheVariants.{Pv, Hvm}
 use Rattle.mig_guest.specs.Hosts.{HostOf, HostFrame, IsValid}
 use Rattle.mig_guest.specs.Order.{part_cmp}
-use Rattle.mig_image.specs.Image.{head_of, frame_text, part_text, image, IsImage, AreBytes}
+use Rattle.mig_image.specs.Image.{head_of, frame_text, part_text, image, IsImage}
 use Rattle.mig_image.specs.ImageParts.{name_rows, size_rows, fault_of_name, fault_of_sizes, fault_of_head, head_at, opened, frames_at, parts_at, count_at, behind_head, image_at}
-use Rattle.mig_image.proofs.FieldBytes.{Bytes, bytes_front, bytes_back, name_back, word_back, long_back, cut, last, judged_part, placed_passes, regroup}
+use Rattle.mig_image.proofs.FieldBytes.{Bytes, bytes_front, bytes_back, name_back, word_back, long_back, cut, last, judged_part, regroup}
 use Rattle.mig_image.proofs.FrameChains.{put_frames, with_frames}
 use Rattle.mig_image.proofs.FrameChains.{Entry as Frame}
 use Rattle.mig_image.proofs.FramesBack.{FramesFound, frames_back, frames_fine, no_frames}

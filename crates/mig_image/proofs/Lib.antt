@@ -7,6 +7,7 @@ pub mod HostEntries
 pub mod HostMaps
 pub mod HostsMade
 pub mod ImageBack
+pub mod ImageFronts
 pub mod ImageRead
 pub mod ImageReads
 pub mod InOrder

@@ -10,7 +10,7 @@ use Rattle.mig_bytes.specs.Bytes.{padding_len}
 use Rattle.mig_bytes.specs.Fields.{le32}
 use Rattle.mig_bytes.specs.Judged.{Judged, steps, placed}
 use Rattle.mig_bytes.specs.Judged.Judged.{Passes}
-use Rattle.mig_bytes.proofs.Joins.{both_pass, same_passes}
+use Rattle.mig_bytes.proofs.Joins.{both_pass, same_passes, placed_passes}
 use Rattle.mig_headers.specs.Pairs.{AreCanonicalPairs, are_canonical_pairs}
 use Rattle.mig_headers.proofs.PairTexts.{canonical_pairs_are_computed}
 use Rattle.mig_headers.specs.declared.image_fault.ImageCause.{ImageCause}
@@ -30,7 +30,7 @@ use Rattle.mig_guest.specs.Parts.{PartMap, parts_of, FitsPolicy}
 use Rattle.mig_guest.proofs.PartOrder.{part_total, part_exact}
 use Rattle.mig_image.specs.Image.{part_head_of, part_text}
 use Rattle.mig_image.specs.ImageParts.{head_key, code_fits, code_allows, is_full, part_rows, fault_of_part, fault_of_bytes, fault_of_padding, put_part_in, part_head_at, bytes_at, padding_at, part_at}
-use Rattle.mig_image.proofs.FieldBytes.{Bytes, bytes_front, bytes_back, word_back, word_below, cut, last, judged_part, placed_passes, regroup}
+use Rattle.mig_image.proofs.FieldBytes.{Bytes, bytes_front, bytes_back, word_back, word_below, cut, last, judged_part, regroup}
 use Rattle.mig_image.proofs.InOrder.{entries_behind, found_more}
 use Rattle.mig_image.proofs.PartChains.{Entry, PartChain, put_all, with_parts}
 use Rattle.mig_image.proofs.PartTexts.{PartFits, behind_bytes, behind_part_head}

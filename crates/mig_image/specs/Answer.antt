@@ -8,6 +8,7 @@ use Rattle.mig_bytes.specs.Judged.Judged.{Passes, Faulty}
 use Rattle.mig_headers.specs.declared.image_fault.ImageCause.{ImageCause}
 use Rattle.mig_headers.specs.declared.image_fault.ImagePlace.{ImagePlace}
 use Rattle.mig_guest.specs.Hosts.{HostOf}
+use Rattle.mig_image.specs.Image.{IsImage}
 use Rattle.mig_image.specs.declared.read.ImageAnswer.{ImageAnswer}
 use Rattle.mig_image.specs.declared.read.ImageAnswer.TheVariants.{Refused, ReadFault, Memory}
 
@@ -35,6 +36,12 @@ IsJudged judged left (Err Memory) = ⊤
 abbrev pub ReadsAs : (List ℕ → Judged (ImagePlace × ImageCause) HostOf) → Option (List ℕ) → Option (List ℕ) → Result HostOf ImageAnswer → Type 0
 ReadsAs judge None new result = ⊤
 ReadsAs judge (Some input) new result = IsJudged (judge input) new result
+
+-- where the source tells its bytes, an accepted input begins with the image of the host, a valid one, and the rest is left
+abbrev pub BeginsWithImage : Option (List ℕ) → Option (List ℕ) → Result HostOf ImageAnswer → Type 0
+BeginsWithImage None new result = ⊤
+BeginsWithImage (Some input) new (Ok host) = (rest : List ℕ) × IsImage input host rest × (new ≡ Some rest)
+BeginsWithImage (Some input) new (Err answer) = ⊤
 
 -- a read fault is answered only where the count of the source rose, and every other answer only where it stands as it was
 abbrev pub RisesOnImageFault : {X : Type 0} → ℕ → ℕ → Result X ImageAnswer → Type 0

@@ -1,7 +1,7 @@
 -- The image file of a host, version 1: a head, the frames by ascending PFN, and the parts by ascending key. All fields
 -- are little-endian, and all that isn't named is 0.
-use Rattle.std.specs.Prelude.{◌≡◌, ℕ, ◌+◌, ◌*◌, ◌<◌, ◌^◌, List, [], ◌++◌, length, codes, replicate, unwrap_or}
-use Rattle.std.specs.List.{All, flat_map}
+use Rattle.std.specs.Prelude.{◌≡◌, ℕ, ◌+◌, ◌*◌, ◌^◌, List, [], ◌++◌, length, codes, replicate, unwrap_or}
+use Rattle.std.specs.List.{flat_map}
 use Rattle.std.specs.FinMap as maps
 use Rattle.byteorder.specs.Endian.{little_bytes}
 use Rattle.mig_bytes.specs.Bytes.{padding_len}
@@ -51,7 +51,3 @@ image h =
 pub record IsImage (input : List ℕ) (h : HostOf) (rest : List ℕ) : Type 0 where
   pub valid : IsValid h
   pub spelled : input ≡ image h ++ rest
-
--- each element is a byte
-abbrev pub AreBytes : List ℕ → Type 0
-AreBytes input = All (λ b. b < 256) input

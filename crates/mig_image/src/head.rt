@@ -1,4 +1,5 @@
-ghost use Rattle.std.specs.Prelude.{◌≡◌, IfOk, IsErrOf, None};
+ghost use Rattle.std.specs.Prelude.{◌≡◌, OnOk, IfOk, IsErrOf, None};
+ghost use Rattle.mig_bytes.specs.Bytes.{TakesBytes};
 ghost use Rattle.mig_bytes.specs.Faults.{RisesOnReadFault};
 ghost use Rattle.mig_bytes.specs.Fields.{le32};
 ghost use Rattle.mig_bytes.specs.Judged.{Gives};
@@ -60,6 +61,7 @@ fn size_fault(kind: Kind, width: u64, frames: u64) -> Option<ImageCause>
 pub(crate) fn read_head<S: Source>(src: &mut S) -> Result<[u8; 32], Stop<ImageCause>>
     ensures read { Gives (λ v head. head ≡ v) (S.left src.old) (S.left src.new) head_at result }
     ensures fine { IfOk result (λ head. fault_of_head head ≡ None) }
+    ensures taken { OnOk result (TakesBytes (S.left src.old) (S.left src.new)) }
     ensures faults { RisesOnReadFault (S.faults src.old) (S.faults src.new) result }
     ensures takes_no_memory { ¬ IsErrOf result Memory }
 {

@@ -1,11 +1,12 @@
 ghost use Rattle.std.specs.Prelude.{◌≡◌, ℕ, List};
+ghost use Rattle.mig_bytes.specs.Bytes.{AreBytes};
 ghost use Rattle.mig_bytes.specs.Judged.Judged.{Passes};
 ghost use Rattle.mig_headers.specs.declared.kind.Kind.TheVariants.{Hvm};
 ghost use Rattle.mig_guest.specs.Guests.{GuestOf};
 ghost use Rattle.mig_guest.specs.Hosts.{HostOf, IsValid};
 ghost use Rattle.mig_pvtables.specs.Whole.{IsWhole};
 ghost use Rattle.mig_image.specs.Hosted.{hosted, IsBaseOutside};
-ghost use Rattle.mig_image.specs.Image.{IsImage, AreBytes};
+ghost use Rattle.mig_image.specs.Image.{IsImage};
 ghost use Rattle.mig_image.specs.ImageParts.{image_at};
 
 /// The image of a valid host is read as this host, whatever follows it.

@@ -1,11 +1,12 @@
 ghost use Rattle.std.specs.Prelude.{◌≡◌, ◌≤◌, ◌<◌, ◌+◌, OnOk, IfOk, IsErrOf, length, None};
 ghost use Rattle.std.specs.FinMap as maps;
+ghost use Rattle.mig_bytes.specs.Bytes.{TakesBytes};
 ghost use Rattle.mig_bytes.specs.Faults.{RisesOnReadFault};
 ghost use Rattle.mig_bytes.specs.Judged.{Gives};
 ghost use Rattle.mig_bytes.specs.declared.part.Stop.TheVariants.{Memory};
 ghost use Rattle.mig_pagetypes.specs.Limits.{pfn_limit, most_frames};
 ghost use Rattle.mig_guest.specs.Frames.{is_type_of};
-ghost use Rattle.mig_image.specs.Answer.{ReadsAs, RisesOnImageFault, answer_of, placed_stop};
+ghost use Rattle.mig_image.specs.Answer.{ReadsAs, BeginsWithImage, RisesOnImageFault, answer_of, placed_stop};
 ghost use Rattle.mig_image.specs.ImageParts.{fault_of_head, fault_of_frame, has_frame_from, frame_head_at, frame_at, frames_at, count_at, head_type, head_pfn, behind_head, image_at};
 
 use crate::head::{kind_in, read_head};
@@ -109,6 +110,7 @@ fn frame_fault(host: &Host, head: &[u8; 16]) -> Option<ImageCause>
 fn read_frame_head<S: Source>(src: &mut S, host: &Host) -> Result<[u8; 16], Stop<ImageCause>>
     ensures read { Gives (λ v head. head ≡ v) (S.left src.old) (S.left src.new) (frame_head_at host.now) result }
     ensures fine { IfOk result (λ head. fault_of_frame host.now head ≡ None) }
+    ensures taken { OnOk result (TakesBytes (S.left src.old) (S.left src.new)) }
     ensures faults { RisesOnReadFault (S.faults src.old) (S.faults src.new) result }
     ensures takes_no_memory { ¬ IsErrOf result Memory }
 {
@@ -126,6 +128,7 @@ fn read_frame<S: Source>(src: &mut S, host: &mut Host) -> Result<(), Stop<ImageC
     ensures read { Gives (λ _ h. host.new ≡ h) (S.left src.old) (S.left src.new) (frame_at host.old) result }
     ensures counted { OnOk result (length (maps.entries host.new.frames) ≡ length (maps.entries host.old.frames) + 1) }
     ensures parts { OnOk result (host.new.parts ≡ host.old.parts) }
+    ensures taken { OnOk result (TakesBytes (S.left src.old) (S.left src.new)) }
     ensures faults { RisesOnReadFault (S.faults src.old) (S.faults src.new) result }
 {
     let head = read_frame_head(src, host)?;
@@ -155,6 +158,7 @@ fn read_frames<S: Source>(
     requires none { length (maps.entries host.old.frames) ≡ 0 }
     ensures read { Gives (λ _ h. host.new ≡ h) (S.left src.old) (S.left src.new) (frames_at count host.old) result }
     ensures parts { OnOk result (host.new.parts ≡ host.old.parts) }
+    ensures taken { OnOk result (TakesBytes (S.left src.old) (S.left src.new)) }
     ensures faults { RisesOnReadFault (S.faults src.old) (S.faults src.new) result }
 {
     for i in 0..count {
@@ -168,6 +172,7 @@ fn read_frames<S: Source>(
 /// Takes the number of parts.
 fn read_count<S: Source>(src: &mut S) -> Result<u64, Stop<ImageCause>>
     ensures read { Gives (λ v count. count ≡ v) (S.left src.old) (S.left src.new) count_at result }
+    ensures taken { OnOk result (TakesBytes (S.left src.old) (S.left src.new)) }
     ensures faults { RisesOnReadFault (S.faults src.old) (S.faults src.new) result }
     ensures takes_no_memory { ¬ IsErrOf result Memory }
 {
@@ -184,6 +189,7 @@ fn read_behind<S: Source>(
 ) -> Result<Host, Stop<(ImagePlace, ImageCause)>>
     requires { fault_of_head head.now ≡ None }
     ensures read { Gives (λ host h. host ≡ h) (S.left src.old) (S.left src.new) (behind_head head.now) result }
+    ensures taken { OnOk result (TakesBytes (S.left src.old) (S.left src.new)) }
     ensures faults { RisesOnReadFault (S.faults src.old) (S.faults src.new) result }
 {
     let mut host = Host::new(alloc, kind_in(head), u64_le(head, 16));
@@ -200,6 +206,7 @@ fn read_behind<S: Source>(
 /// fault, and then the source was read up to the end of the faulty part; `ReadFault` comes only where a read failed.
 pub fn read_host<S: Source>(alloc: Global, src: &mut S) -> Result<Host, ImageAnswer>
     ensures read { ReadsAs image_at (S.left src.old) (S.left src.new) result }
+    ensures spelled { BeginsWithImage (S.left src.old) (S.left src.new) result }
     ensures faults { RisesOnImageFault (S.faults src.old) (S.faults src.new) result }
 {
     let head = match read_head(src) {

@@ -1,6 +1,7 @@
 ghost use Rattle.std.specs.Prelude.{◌≡◌, ◌==◌, ◌+◌, ◌≤◌, ◌<◌, ⊤, OnOk, IfOk, IfNone, IsErrOf, length, None, if◌then◌else◌};
 ghost use Rattle.std.specs.List.{list_all};
 ghost use Rattle.std.specs.FinMap as maps;
+ghost use Rattle.mig_bytes.specs.Bytes.{TakesBytes};
 ghost use Rattle.mig_bytes.specs.Faults.{RisesOnReadFault};
 ghost use Rattle.mig_bytes.specs.Judged.{Gives};
 ghost use Rattle.mig_bytes.specs.declared.part.Stop.TheVariants.{Memory};
@@ -133,6 +134,7 @@ fn read_part_head<S: Source>(
     ensures read { Gives (λ v head. head ≡ v) (S.left src.old) (S.left src.new) (part_head_at host.now) result }
     ensures fine { IfOk result (λ head. fault_of_part host.now head ≡ None) }
     ensures valid { IfOk result (λ _. IsValid host.now) }
+    ensures taken { OnOk result (TakesBytes (S.left src.old) (S.left src.new)) }
     ensures faults { RisesOnReadFault (S.faults src.old) (S.faults src.new) result }
     ensures takes_no_memory { ¬ IsErrOf result Memory }
 {
@@ -154,6 +156,7 @@ fn read_bytes<S: Source>(
     ensures read { Gives (λ v bytes. bytes ≡ v.items) (S.left src.old) (S.left src.new) (bytes_at code len) result }
     ensures len { IfOk result (λ v. length v.items ≡ len) }
     ensures fine { IfOk result (λ v. fault_of_bytes code v.items ≡ None) }
+    ensures taken { OnOk result (TakesBytes (S.left src.old) (S.left src.new)) }
     ensures faults { RisesOnReadFault (S.faults src.old) (S.faults src.new) result }
 {
     let bytes = take_long(alloc, src, len, ImageCause::Truncated)?;
@@ -173,6 +176,7 @@ fn are_zeros(bytes: &[u8]) -> bool
 /// Takes the zeros behind so many bytes.
 fn read_padding<S: Source>(src: &mut S, len: u32) -> Result<(), Stop<ImageCause>>
     ensures read { Gives (λ _ _. ⊤) (S.left src.old) (S.left src.new) (padding_at len) result }
+    ensures taken { OnOk result (TakesBytes (S.left src.old) (S.left src.new)) }
     ensures faults { RisesOnReadFault (S.faults src.old) (S.faults src.new) result }
     ensures takes_no_memory { ¬ IsErrOf result Memory }
 {
@@ -195,6 +199,7 @@ fn read_part<S: Source>(
     requires { Counts entries.old host.old.parts }
     ensures read { Gives (λ _ h. host.new ≡ h) (S.left src.old) (S.left src.new) (part_at host.old) result }
     ensures counted { OnOk result (Counts entries.new host.new.parts) }
+    ensures taken { OnOk result (TakesBytes (S.left src.old) (S.left src.new)) }
     ensures faults { RisesOnReadFault (S.faults src.old) (S.faults src.new) result }
 {
     let head = read_part_head(src, host, *entries)?;
@@ -218,6 +223,7 @@ pub(crate) fn read_parts<S: Source>(
 ) -> Result<(), Stop<(ImagePlace, ImageCause)>>
     requires { host.old.parts ≡ maps.empty }
     ensures read { Gives (λ _ h. host.new ≡ h) (S.left src.old) (S.left src.new) (parts_at count host.old) result }
+    ensures taken { OnOk result (TakesBytes (S.left src.old) (S.left src.new)) }
     ensures faults { RisesOnReadFault (S.faults src.old) (S.faults src.new) result }
 {
     let mut entries = Entries { leaves: 0, msrs: 0 };

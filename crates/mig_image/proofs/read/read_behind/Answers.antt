@@ -1,6 +1,7 @@
 use Rattle.std.proofs.Common.{◌≡◌, ◌∙◌, ap, length, rules}
 use Rattle.std.specs.Ordering.{nat_cmp}
 use Rattle.std.specs.FinMap as maps
+use Rattle.mig_bytes.proofs.Taking.{takes_more}
 use Rattle.mig_guest.specs.Hosts.{HostOf, HostFrame}
 use Rattle.mig_image.specs.ImageParts.{opened}
 use Rattle.mig_image.proofs.ImageRead.{behind_reads}
@@ -14,3 +15,6 @@ pub returns-clause-read : goal.returns-clause-read
 returns-clause-read g c =
     let is : c.new-host.result ≡ opened c.args.head.now = search rules in
     behind_reads c.args.head.now c.new-host.result is c.u64_le-2.result c.u64_le-2.ensures _ _ _ _ c.read_frames.new.host c.read_parts.new.host c.in-Ok.count c.in_ok-read_frames.ensures.read c.in-Ok.ensures.read c.in_ok-read_parts.ensures.read
+
+pub returns-clause-taken : goal.returns-clause-taken
+returns-clause-taken g c = takes_more _ _ _ (takes_more _ _ _ c.in_ok-read_frames.ensures.taken c.in-Ok.ensures.taken) c.in_ok-read_parts.ensures.taken

@@ -1,5 +1,6 @@
 use Rattle.std.proofs.Common.{◌∙◌, length, Some, None, ap, sym, rules}
 use Rattle.std.specs.FinMap as maps
+use Rattle.mig_bytes.proofs.Taking.{takes_more}
 use Rattle.mig_guest.specs.Hosts.{HostOf}
 use Rattle.mig_image.proofs.FrameRead.{frame_reads, page_reads, page_stops, frames_more, is_absent, is_unused, is_frame, said_is}
 use Rattle.mig_image.proofs.read.read_frame.Goals as goal
@@ -41,3 +42,6 @@ returns-in-Ok-add_frame-clause-read g c =
 pub returns-in-Ok-add_frame-clause-counted : goal.returns-in-Ok-add_frame-clause-counted
 returns-in-Ok-add_frame-clause-counted g c =
     ap (λ (h : HostOf). length (maps.entries h.frames)) c.in-Ok-add_frame.ensures.ok ∙ frames_more c.args.host.now.frames c.pfn_of-pfn.result _ (is_absent c.args.host.now c.in_ok-head.head c.in_ok-head.ensures.fine c.pfn_of-pfn.result c.pfn_of-pfn.ensures.value)
+
+pub returns-in-Ok-add_frame-clause-taken : goal.returns-in-Ok-add_frame-clause-taken
+returns-in-Ok-add_frame-clause-taken g c = takes_more _ _ _ c.in_ok-head.ensures.taken c.in_ok-take_part.ensures.taken

@@ -1,5 +1,6 @@
 use Rattle.std.proofs.Common.{◌≡◌, ◌∙◌, ◌+◌, ap, subst, rules, refl, Ok}
 use Rattle.mig_bytes.specs.Judged.{Gives}
+use Rattle.mig_bytes.proofs.Taking.{takes_none, takes_more}
 use Rattle.mig_bytes.proofs.Steps.{begins}
 use Rattle.mig_headers.specs.declared.image_fault.ImagePlace.TheVariants.{Frame}
 use Rattle.mig_guest.specs.Hosts.{HostOf}
@@ -12,6 +13,7 @@ loop-i-init g c = record {
   read = begins (λ (v h : HostOf). v ≡ h) _ c.args.host.now c.args.host.now _ refl;
   counted = c.requires.none;
   parts = refl;
+  taken = takes_none _;
   quiet = search rules;
 }
 
@@ -24,6 +26,7 @@ loop-i-preserved g c = record {
   read = one_more Frame frame_at _ _ _ c.loop-i.i c.args.host.now c.loop-i.host c.read_frame.new.host _ c.loop-i.invariant.read c.in_default.ensures.read;
   counted = c.in_default.ensures.counted ∙ ap (λ n. n + 1) c.loop-i.invariant.counted;
   parts = c.in_default.ensures.parts ∙ c.loop-i.invariant.parts;
+  taken = takes_more _ _ _ c.loop-i.invariant.taken c.in_default.ensures.taken;
   quiet = search rules;
 }
 

@@ -1,4 +1,5 @@
 use Rattle.std.proofs.Common.{◌∙◌, ap, sym, subst, rules}
+use Rattle.mig_bytes.proofs.Taking.{takes_more}
 use Rattle.mig_guest.specs.Hosts.{HostOf}
 use Rattle.mig_image.specs.ImageParts.{head_key, put_part_in}
 use Rattle.mig_image.specs.PartCounts.{Counts}
@@ -36,3 +37,6 @@ returns-in-Ok-clause-counted g c =
     subst (Counts c.count.new.self) (sym (ap (λ (h : HostOf). h.parts) c.in-Ok.ensures.ok))
     (counts_more c.args.host.now.parts c.key_of-key.result c.deref.result.now (is_behind c.args.host.now c.in_ok-head.head c.in_ok-head.ensures.fine c.key_of-key.result c.key_of-key.ensures)
     c.args.entries.now c.count.new.self c.requires c.count.ensures.leaves c.count.ensures.msrs)
+
+pub returns-in-Ok-clause-taken : goal.returns-in-Ok-clause-taken
+returns-in-Ok-clause-taken g c = takes_more _ _ _ (takes_more _ _ _ c.in_ok-head.ensures.taken c.in_ok-bytes.ensures.taken) c.in_ok-read_padding.ensures.taken

@@ -1,5 +1,6 @@
 use Rattle.std.proofs.Common.{◌≡◌, subst, rules, refl, Ok}
 use Rattle.mig_bytes.specs.Judged.{Gives}
+use Rattle.mig_bytes.proofs.Taking.{takes_none, takes_more}
 use Rattle.mig_bytes.proofs.Steps.{begins}
 use Rattle.mig_headers.specs.declared.image_fault.ImagePlace.TheVariants.{Part}
 use Rattle.mig_guest.specs.Hosts.{HostOf}
@@ -12,6 +13,7 @@ pub loop-i-init : goal.loop-i-init
 loop-i-init g c = record {
   read = begins (λ (v h : HostOf). v ≡ h) _ c.args.host.now c.args.host.now _ refl;
   counted = counts_none _ _ c.requires refl refl;
+  taken = takes_none _;
   quiet = search rules;
 }
 
@@ -23,6 +25,7 @@ pub loop-i-preserved : goal.loop-i-preserved
 loop-i-preserved g c = record {
   read = one_more Part part_at _ _ _ c.loop-i.i c.args.host.now c.loop-i.host c.read_part.new.host _ c.loop-i.invariant.read c.in_default.ensures.read;
   counted = c.in_default.ensures.counted;
+  taken = takes_more _ _ _ c.loop-i.invariant.taken c.in_default.ensures.taken;
   quiet = search rules;
 }
 
