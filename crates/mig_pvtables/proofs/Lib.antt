@@ -1,2 +1,4 @@
 pub mod HvmGuests
 pub mod HvmSamples
+pub mod Searches
+pub mod PvGuests

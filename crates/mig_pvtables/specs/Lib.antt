@@ -3,3 +3,4 @@ pub mod VcpuContexts
 pub mod Blank
 pub mod Faults
 pub mod Whole
+pub mod WholePv

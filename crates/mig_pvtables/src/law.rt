@@ -2,7 +2,7 @@ ghost use Rattle.std.specs.Prelude.{◌≡◌, ◌↔◌, ◌∷◌, [], length,
 ghost use Rattle.std.specs.FinMap as maps;
 ghost use Rattle.mig_headers.specs.Rows.{first_fault};
 ghost use Rattle.mig_headers.specs.declared.fault.Cause.TheVariants.{Missing, TooManyFrames};
-ghost use Rattle.mig_headers.specs.declared.kind.Kind.TheVariants.{Hvm};
+ghost use Rattle.mig_headers.specs.declared.kind.Kind.TheVariants.{Pv, Hvm};
 ghost use Rattle.mig_pagetypes.specs.Limits.{most_frames};
 ghost use Rattle.mig_guest.specs.Formed.{IsFormed};
 ghost use Rattle.mig_guest.specs.Frames.{IsFew};
@@ -11,6 +11,7 @@ ghost use Rattle.mig_guest.specs.PartKeys.{context_key};
 ghost use Rattle.mig_pvtables.specs.Blank.{blank};
 ghost use Rattle.mig_pvtables.specs.Faults.{fault_of_guest};
 ghost use Rattle.mig_pvtables.specs.Whole.{IsWhole};
+ghost use Rattle.mig_pvtables.specs.WholePv.{IsWholePv};
 
 /// Of an HVM guest two causes are tried: that it has no context, and that it has too many frames.
 pub fn hvm_guest_has_two_faults()
@@ -21,6 +22,11 @@ pub fn hvm_guest_has_two_faults()
 /// A whole HVM guest is a well formed one that has a context and not too many frames.
 pub fn hvm_guest_is_whole()
     ensures { (g : GuestOf) → g.kind ≡ Hvm → IsWhole g ↔ (IsFormed g × IsSome (maps.get g.parts context_key) × IsFew g.frames) }
+{}
+
+/// A whole PV guest is one that is whole in the words of the format.
+pub fn pv_guest_is_whole()
+    ensures { (g : GuestOf) → g.kind ≡ Pv → IsWhole g ↔ IsWholePv g }
 {}
 
 /// An HVM guest is its own blank form.
