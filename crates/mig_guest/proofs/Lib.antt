@@ -12,3 +12,4 @@ pub mod Kept
 pub mod Found
 pub mod PartRows
 pub mod CodeParts
+pub mod Longs

@@ -6,4 +6,6 @@
 
 mod law;
 
-pub use law::{hvm_guest_has_two_faults, hvm_guest_is_blank, hvm_guest_is_whole, pv_guest_is_whole};
+pub use law::{
+    hvm_guest_has_two_faults, hvm_guest_is_blank, hvm_guest_is_whole, pv_guest_is_whole,
+};
