@@ -122,7 +122,8 @@ SaysOf command (Some input) left w status = Says command input left w status
 -- a write fault is one of the sink that the command writes on: `verify` writes its line on the report
 abbrev pub WriteRose : Command → ℕ → ℕ → ℕ → ℕ → Type 0
 WriteRose Verify out out_now report report_now = Rose report report_now
-WriteRose _ out out_now report report_now = Rose out out_now
+WriteRose Normalise out out_now report report_now = Rose out out_now
+WriteRose (Restore base) out out_now report report_now = Rose out out_now
 
 -- the count of the input rises with a read fault, and with every other status it stands as it was
 abbrev pub InputRises : Status → ℕ → ℕ → Type 0
@@ -150,11 +151,27 @@ IsLine told statuses.ReadFault line = line ≡ read_fault_line
 IsLine told statuses.WriteFault line = line ≡ write_fault_line
 IsLine told statuses.Memory line = line ≡ memory_line
 
--- `verify` has put its own line, or a part of it
+-- a command has put a line of its own, or a part of it: `verify` alone does
 abbrev pub HasOwnLine : Command → Status → Type 0
+HasOwnLine Normalise status = ⊥
+HasOwnLine (Restore base) status = ⊥
 HasOwnLine Verify statuses.Done = ⊤
 HasOwnLine Verify statuses.WriteFault = ⊤
-HasOwnLine _ _ = ⊥
+HasOwnLine Verify status = ⊥
+
+-- which line that is: that of some stream, whole with status 0, and a part of it with status 4
+abbrev pub PutsOwnLine : Command → Option (List ℕ) → Option (List ℕ) → Status → Type 0
+PutsOwnLine Normalise old new status = ⊤
+PutsOwnLine (Restore base) old new status = ⊤
+PutsOwnLine Verify old new statuses.Done = (s : Summary) × Appends old new (ok_line s)
+PutsOwnLine Verify old new statuses.WriteFault = (s : Summary) × AppendsPart old new (ok_line s)
+PutsOwnLine Verify old new status = ⊤
+
+-- the output isn't touched by this command, whatever its status
+abbrev pub LeavesOut : Command → Type 0
+LeavesOut Normalise = ⊥
+LeavesOut (Restore base) = ⊥
+LeavesOut Verify = ⊤
 
 -- ---- the same of an outcome, which has the refusal
 

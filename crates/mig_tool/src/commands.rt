@@ -4,13 +4,12 @@ ghost use Rattle.mig_bytes.specs.Bytes.{AppendsPart};
 ghost use Rattle.mig_bytes.specs.Faults.{Rose};
 ghost use Rattle.mig_headers.specs.declared.kind.Kind.TheVariants.{Hvm};
 ghost use Rattle.mig_pvtables.specs.Whole.{IsWhole};
-ghost use Rattle.mig_tool.specs.Answers.{SaysOf, ComesOf, WriteRose, InputRises, OutputRises, IsLine, HasOwnLine, restored_text};
+ghost use Rattle.mig_tool.specs.Answers.{SaysOf, ComesOf, WriteRose, InputRises, OutputRises, IsLine, HasOwnLine, PutsOwnLine, LeavesOut, restored_text};
 ghost use Rattle.mig_tool.specs.Outcome.{outcome_of, status_of};
-ghost use Rattle.mig_tool.specs.Report.{Reports, ok_line};
+ghost use Rattle.mig_tool.specs.Report.{Reports};
 ghost use Rattle.mig_tool.specs.Words.{IsBase};
 ghost use Rattle.mig_tool.specs.declared.command.Command.TheVariants as commands;
 ghost use Rattle.mig_tool.specs.declared.outcome.Outcome.TheVariants as outcomes;
-ghost use Rattle.mig_tool.specs.declared.outcome.Summary.{Summary};
 ghost use Rattle.mig_tool.specs.declared.status.Status.TheVariants as statuses;
 
 use crate::command::Command;
@@ -97,8 +96,7 @@ fn verify<S: Source, R: Sink>(alloc: Global, input: &mut S, report: &mut R) -> S
     ensures quiet { result ≡ statuses.Done → R.faults report.new ≡ R.faults report.old }
     ensures line { (HasOwnLine commands.Verify result → ⊥)
         → (line : List ℕ) × IsLine (S.left input.old) result line × Reports line (R.written report.old) (R.written report.new) (R.faults report.old) (R.faults report.new) }
-    ensures ok_line { result ≡ statuses.Done → (s : Summary) × Appends (R.written report.old) (R.written report.new) (ok_line s) }
-    ensures part_line { result ≡ statuses.WriteFault → (s : Summary) × AppendsPart (R.written report.old) (R.written report.new) (ok_line s) }
+    ensures own_line { PutsOwnLine commands.Verify (R.written report.old) (R.written report.new) result }
     ensures report_later { R.faults report.old ≤ R.faults report.new }
 {
     let reading = match read_image(alloc, input) {
@@ -129,13 +127,12 @@ pub(crate) fn carry_out<S: Source, K: Sink, R: Sink>(
     ensures said { SaysOf command (S.left input.old) (S.left input.new) (record { out_old = K.written out.old; out_new = K.written out.new; report_old = R.written report.old; report_new = R.written report.new }) result }
     ensures known { result ≢ statuses.Usage }
     ensures kept { result ≢ statuses.Done → result ≢ statuses.WriteFault → out.new ≡ out.old }
-    ensures untouched { command ≡ commands.Verify → out.new ≡ out.old }
+    ensures untouched { LeavesOut command → out.new ≡ out.old }
     ensures read { InputRises result (S.faults input.old) (S.faults input.new) }
     ensures write { result ≡ statuses.WriteFault → WriteRose command (K.faults out.old) (K.faults out.new) (R.faults report.old) (R.faults report.new) }
     ensures line { (HasOwnLine command result → ⊥)
         → (line : List ℕ) × IsLine (S.left input.old) result line × Reports line (R.written report.old) (R.written report.new) (R.faults report.old) (R.faults report.new) }
-    ensures ok_line { command ≡ commands.Verify → result ≡ statuses.Done → (s : Summary) × Appends (R.written report.old) (R.written report.new) (ok_line s) }
-    ensures part_line { command ≡ commands.Verify → result ≡ statuses.WriteFault → (s : Summary) × AppendsPart (R.written report.old) (R.written report.new) (ok_line s) }
+    ensures own_line { PutsOwnLine command (R.written report.old) (R.written report.new) result }
     ensures out_quiet { result ≡ statuses.Done → K.faults out.new ≡ K.faults out.old }
     ensures report_quiet { result ≡ statuses.Done → R.faults report.new ≡ R.faults report.old }
     ensures out_later { K.faults out.old ≤ K.faults out.new }

@@ -1,18 +1,14 @@
 ghost use Rattle.std.specs.Prelude.{◌≡◌, ◌≢◌, ◌≤◌, ◌<◌, ◌⊎◌, ℕ, List, Option, Some};
-ghost use Rattle.std.specs.Io.KnownBytes.{Appends};
-ghost use Rattle.mig_bytes.specs.Bytes.{AppendsPart};
 ghost use Rattle.mig_bytes.specs.Faults.{Rose};
 ghost use Rattle.mig_headers.specs.declared.fault.Cause.{Cause};
 ghost use Rattle.mig_headers.specs.declared.fault.Place.{Place};
 ghost use Rattle.mig_guest.specs.Guests.{GuestOf};
 ghost use Rattle.mig_restore.specs.Spelled.{Accepted};
 ghost use Rattle.mig_restore.specs.Stream.{IsRefused};
-ghost use Rattle.mig_tool.specs.Answers.{Written, SaysOf, WriteRose, InputRises, IsLine, HasOwnLine};
-ghost use Rattle.mig_tool.specs.Report.{Reports, ok_line};
+ghost use Rattle.mig_tool.specs.Answers.{Written, SaysOf, WriteRose, InputRises, IsLine, HasOwnLine, PutsOwnLine, LeavesOut};
+ghost use Rattle.mig_tool.specs.Report.{Reports};
 ghost use Rattle.mig_tool.specs.Words.{texts_of, Names};
 ghost use Rattle.mig_tool.specs.declared.command.Command.{Command};
-ghost use Rattle.mig_tool.specs.declared.command.Command.TheVariants as commands;
-ghost use Rattle.mig_tool.specs.declared.outcome.Summary.{Summary};
 ghost use Rattle.mig_tool.specs.declared.status.Status.TheVariants as statuses;
 
 use crate::command::command_in;
@@ -41,12 +37,8 @@ pub fn run<S: Source, K: Sink, R: Sink>(
 
     // Status 0: an accepted front was taken, and the text of its guest was written, or its line reported. Status 1: the
     // input was taken up to the end of the refused part. Status 4: as 0, but a part of the text or line was written.
-    ensures normalised { Names (texts_of words.now) commands.Normalise
-        → SaysOf commands.Normalise (S.left input.old) (S.left input.new) (record { out_old = K.written out.old; out_new = K.written out.new; report_old = R.written report.old; report_new = R.written report.new }) result }
-    ensures restored { (base : ℕ) → Names (texts_of words.now) (commands.Restore base)
-        → SaysOf (commands.Restore base) (S.left input.old) (S.left input.new) (record { out_old = K.written out.old; out_new = K.written out.new; report_old = R.written report.old; report_new = R.written report.new }) result }
-    ensures verified { Names (texts_of words.now) commands.Verify
-        → SaysOf commands.Verify (S.left input.old) (S.left input.new) (record { out_old = K.written out.old; out_new = K.written out.new; report_old = R.written report.old; report_new = R.written report.new }) result }
+    ensures done { (command : Command) → Names (texts_of words.now) command
+        → SaysOf command (S.left input.old) (S.left input.new) (record { out_old = K.written out.old; out_new = K.written out.new; report_old = R.written report.old; report_new = R.written report.new }) result }
 
     // An accepted stream is done and a refused one refused, but for memory, where nothing failed.
     ensures accepted { (command : Command) (bytes : List ℕ) (guest : GuestOf) (rest : List ℕ) → Names (texts_of words.now) command → S.left input.old ≡ Some bytes → Accepted bytes guest rest
@@ -58,7 +50,7 @@ pub fn run<S: Source, K: Sink, R: Sink>(
     // `out` is touched for an accepted stream alone, and never by `verify`. A fault is answered only where a count rose,
     // and that of the input rises with no other status. With status 0 no count rose.
     ensures kept { result ≢ statuses.Done → result ≢ statuses.WriteFault → out.new ≡ out.old }
-    ensures untouched { Names (texts_of words.now) commands.Verify → out.new ≡ out.old }
+    ensures untouched { (command : Command) → Names (texts_of words.now) command → LeavesOut command → out.new ≡ out.old }
     ensures read { InputRises result (S.faults input.old) (S.faults input.new) }
     ensures write { (command : Command) → Names (texts_of words.now) command → result ≡ statuses.WriteFault
         → WriteRose command (K.faults out.old) (K.faults out.new) (R.faults report.old) (R.faults report.new) }
@@ -67,8 +59,7 @@ pub fn run<S: Source, K: Sink, R: Sink>(
     // `verify` at its own line, which is whole with status 0, and a part with status 4.
     ensures line { ((command : Command) → Names (texts_of words.now) command → HasOwnLine command result → ⊥)
         → (line : List ℕ) × IsLine (S.left input.old) result line × Reports line (R.written report.old) (R.written report.new) (R.faults report.old) (R.faults report.new) }
-    ensures ok_line { Names (texts_of words.now) commands.Verify → result ≡ statuses.Done → (s : Summary) × Appends (R.written report.old) (R.written report.new) (ok_line s) }
-    ensures part_line { Names (texts_of words.now) commands.Verify → result ≡ statuses.WriteFault → (s : Summary) × AppendsPart (R.written report.old) (R.written report.new) (ok_line s) }
+    ensures own_line { (command : Command) → Names (texts_of words.now) command → PutsOwnLine command (R.written report.old) (R.written report.new) result }
 
     ensures out_quiet { result ≡ statuses.Done → K.faults out.new ≡ K.faults out.old }
     ensures report_quiet { result ≡ statuses.Done → R.faults report.new ≡ R.faults report.old }

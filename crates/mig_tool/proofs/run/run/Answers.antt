@@ -1,16 +1,25 @@
-use Rattle.std.proofs.Common.{subst}
-use Rattle.mig_tool.specs.Answers.{Written, SaysOf, WriteRose}
+use Rattle.std.proofs.Common.{subst, sym}
+use Rattle.mig_tool.specs.Answers.{Written, SaysOf, WriteRose, PutsOwnLine, LeavesOut}
 use Rattle.mig_tool.specs.declared.command.Command.{Command}
 use Rattle.mig_tool.specs.declared.command.Command.TheVariants as commands
 use Rattle.mig_tool.proofs.Naming.{same_command}
 use Rattle.mig_tool.proofs.Reporting.{accepted_done, refused_refused, input_rose}
 use Rattle.mig_tool.proofs.run.run.Goals as goal
 
-pub returns-in-Some-clause-restored : goal.returns-in-Some-clause-restored
-returns-in-Some-clause-restored g c = λ base is.
+pub returns-in-Some-clause-done : goal.returns-in-Some-clause-done
+returns-in-Some-clause-done g c = λ command is.
     let w : Written = record { out_old = g.K.Sink.written c.args.out.now; out_new = g.K.Sink.written c.carry_out.new.out; report_old = g.R.Sink.written c.args.report.now; report_new = g.R.Sink.written c.carry_out.new.report } in
     subst (λ (d : Command). SaysOf d (g.S.Source.left c.args.input.now) (g.S.Source.left c.carry_out.new.input) w c.carry_out.result)
-    (same_command _ c.in-Some.command (commands.Restore base) c.in-Some.ensures.some is) c.carry_out.ensures.said
+    (same_command _ c.in-Some.command command c.in-Some.ensures.some is) c.carry_out.ensures.said
+
+pub returns-in-Some-clause-untouched : goal.returns-in-Some-clause-untouched
+returns-in-Some-clause-untouched g c = λ command is leaves.
+    c.carry_out.ensures.untouched (subst LeavesOut (sym (same_command _ c.in-Some.command command c.in-Some.ensures.some is)) leaves)
+
+pub returns-in-Some-clause-own_line : goal.returns-in-Some-clause-own_line
+returns-in-Some-clause-own_line g c = λ command is.
+    subst (λ (d : Command). PutsOwnLine d (g.R.Sink.written c.args.report.now) (g.R.Sink.written c.carry_out.new.report) c.carry_out.result)
+    (same_command _ c.in-Some.command command c.in-Some.ensures.some is) c.carry_out.ensures.own_line
 
 pub returns-in-Some-clause-accepted : goal.returns-in-Some-clause-accepted
 returns-in-Some-clause-accepted g c = λ command bytes guest rest is told accepted reads writes.
@@ -25,11 +34,11 @@ returns-in-Some-clause-refused g c = λ command bytes place cause rest is told r
     refused_refused c.in-Some.command (g.S.Source.left c.args.input.now) (g.S.Source.left c.carry_out.new.input) w c.carry_out.result bytes place cause rest c.carry_out.ensures.said told refused
     (λ e. reads (input_rose _ _ _ c.carry_out.ensures.read e))
 
-pub returns-in-None-clause-normalised : goal.returns-in-None-clause-normalised
-returns-in-None-clause-normalised g c = λ is. absurd (c.in-None.ensures.none commands.Normalise is)
+pub returns-in-None-clause-done : goal.returns-in-None-clause-done
+returns-in-None-clause-done g c = λ command is. absurd (c.in-None.ensures.none command is)
 
-pub returns-in-None-clause-restored : goal.returns-in-None-clause-restored
-returns-in-None-clause-restored g c = λ base is. absurd (c.in-None.ensures.none (commands.Restore base) is)
+pub returns-in-None-clause-untouched : goal.returns-in-None-clause-untouched
+returns-in-None-clause-untouched g c = λ command is leaves. absurd (c.in-None.ensures.none command is)
 
-pub returns-in-None-clause-verified : goal.returns-in-None-clause-verified
-returns-in-None-clause-verified g c = λ is. absurd (c.in-None.ensures.none commands.Verify is)
+pub returns-in-None-clause-own_line : goal.returns-in-None-clause-own_line
+returns-in-None-clause-own_line g c = λ command is. absurd (c.in-None.ensures.none command is)
