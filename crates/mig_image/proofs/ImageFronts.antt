@@ -4,7 +4,7 @@ use Rattle.std.proofs.lemmas.List.{append_cancel_right}
 use Rattle.std.specs.Io.KnownBytes.{Consumes}
 use Rattle.mig_bytes.specs.Bytes.{padding_len, AreBytes, TakesBytes}
 use Rattle.mig_bytes.specs.Fields.{le32, le64}
-use Rattle.mig_bytes.specs.Judged.{Judged, ◌>>=◌, part, tried, placed}
+use Rattle.mig_bytes.specs.Judged.{◌>>=◌, part, tried, placed, Gives}
 use Rattle.mig_bytes.specs.Judged.Judged.{Passes}
 use Rattle.mig_bytes.proofs.Joins.{part_whole, then_passes, tried_none}
 use Rattle.mig_bytes.proofs.Fronts.{TakesFronts, front_pass, front_part, front_then, front_steps, front_placed}
@@ -14,7 +14,7 @@ use Rattle.mig_headers.specs.declared.image_fault.ImagePlace.TheVariants.{Head, 
 use Rattle.mig_pagetypes.specs.declared.page_type.PageType.{PageType}
 use Rattle.mig_pagetypes.specs.PageTypes.{type_has_data}
 use Rattle.mig_guest.specs.Hosts.{HostOf}
-use Rattle.mig_image.specs.Answer.{ReadsAs, BeginsWithImage}
+use Rattle.mig_image.specs.Answer.{IsHost, BeginsWithImage}
 use Rattle.mig_image.specs.Image.{image, IsImage}
 use Rattle.mig_image.specs.ImageParts.{fault_of_head, fault_of_frame, fault_of_part, fault_of_bytes, fault_of_padding, opened, head_at, head_type, head_pfn, head_key, frame_head_at, page_at, frame_said, put_frame, frame_at, part_head_at, bytes_at, padding_at, put_part_in, part_at, frames_at, parts_at, count_at, behind_head, image_at}
 use Rattle.mig_image.proofs.FieldBytes.{judged_part}
@@ -69,7 +69,8 @@ taken_is_image input taken rest h gone bytes is =
     record { valid = said.valid; spelled = p.whole ∙ ap (λ l. l ++ rest) (sym (append-nil p.front) ∙ said.spelled ∙ append-nil (image h)) }
 
 -- what was read as a host begins with its image
-pub begins_with_image : (told left : Option (List ℕ)) (h : HostOf) → ReadsAs image_at told left (Ok h) → TakesBytes told left → BeginsWithImage told left (Ok h)
+pub begins_with_image : (told left : Option (List ℕ)) (h : HostOf) → Gives IsHost told left image_at (Ok h) → TakesBytes told left → BeginsWithImage told left (Ok h)
 begins_with_image None left h read taken = tt
-begins_with_image (Some input) left h (rest, is, left_is) taken =
-    (rest, taken_is_image input taken.taken rest h (subst (λ l. Consumes (Some input) l taken.taken) left_is taken.gone) taken.bytes is, left_is)
+begins_with_image (Some input) left h (host, rest, is, left_is, same) taken =
+    let said = taken_is_image input taken.taken rest host (subst (λ l. Consumes (Some input) l taken.taken) left_is taken.gone) taken.bytes is in
+    (rest, subst (λ (g : HostOf). IsImage input g rest) (sym same) said, left_is)

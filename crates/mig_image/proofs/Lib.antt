@@ -19,7 +19,6 @@ pub mod PartTexts
 pub mod PartsBack
 pub mod PartsMore
 pub mod Pieces
-pub mod Placed
 pub mod Ranks
 pub mod RestoredHosts
 pub mod RestoredSamples

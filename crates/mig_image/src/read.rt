@@ -6,7 +6,7 @@ ghost use Rattle.mig_bytes.specs.Judged.{Gives};
 ghost use Rattle.mig_bytes.specs.declared.part.Stop.TheVariants.{Memory};
 ghost use Rattle.mig_pagetypes.specs.Limits.{pfn_limit, most_frames};
 ghost use Rattle.mig_guest.specs.Frames.{is_type_of};
-ghost use Rattle.mig_image.specs.Answer.{ReadsAs, BeginsWithImage, RisesOnImageFault, answer_of, placed_stop};
+ghost use Rattle.mig_image.specs.Answer.{IsHost, ReadsHost, BeginsWithImage, image_stop_of, or_image_stop};
 ghost use Rattle.mig_image.specs.ImageParts.{fault_of_head, fault_of_frame, has_frame_from, frame_head_at, frame_at, frames_at, count_at, head_type, head_pfn, behind_head, image_at};
 
 use crate::head::{kind_in, read_head};
@@ -26,19 +26,9 @@ pub enum ImageAnswer {
     Memory,
 }
 
-/// A stop at this place.
-pub(crate) fn placed(place: ImagePlace, stop: Stop<ImageCause>) -> Stop<(ImagePlace, ImageCause)>
-    ensures { result ≡ placed_stop place stop }
-{
-    match stop {
-        Stop::Refused(cause) => Stop::Refused((place, cause)),
-        Stop::ReadFault => Stop::ReadFault,
-        Stop::Memory => Stop::Memory,
-    }
-}
-
+/// The answer for what stopped the reading.
 fn answer(stop: Stop<(ImagePlace, ImageCause)>) -> ImageAnswer
-    ensures { result ≡ answer_of stop }
+    ensures { image_stop_of result ≡ stop }
 {
     match stop {
         Stop::Refused((place, cause)) => ImageAnswer::Refused(place, cause),
@@ -163,7 +153,7 @@ fn read_frames<S: Source>(
 {
     for i in 0..count {
         if let Err(stop) = read_frame(src, host) {
-            return Err(placed(ImagePlace::Frame(i), stop));
+            return Err(stop.at(ImagePlace::Frame(i)));
         }
     }
     Ok(())
@@ -196,24 +186,33 @@ fn read_behind<S: Source>(
     read_frames(src, &mut host, u64_le(head, 24))?;
     let count = match read_count(src) {
         Ok(count) => count,
-        Err(stop) => return Err(placed(ImagePlace::Parts, stop)),
+        Err(stop) => return Err(stop.at(ImagePlace::Parts)),
     };
     read_parts(alloc, src, &mut host, count)?;
     Ok(host)
 }
 
-/// Reads the image of a host, and leaves unread what follows it. `Refused` has the place and the cause of the first
-/// fault, and then the source was read up to the end of the faulty part; `ReadFault` comes only where a read failed.
-pub fn read_host<S: Source>(alloc: Global, src: &mut S) -> Result<Host, ImageAnswer>
-    ensures read { ReadsAs image_at (S.left src.old) (S.left src.new) result }
-    ensures spelled { BeginsWithImage (S.left src.old) (S.left src.new) result }
-    ensures faults { RisesOnImageFault (S.faults src.old) (S.faults src.new) result }
+/// Takes the head, and what stands behind it.
+fn read_whole<S: Source>(alloc: Global, src: &mut S) -> Result<Host, Stop<(ImagePlace, ImageCause)>>
+    ensures read { Gives IsHost (S.left src.old) (S.left src.new) image_at result }
+    ensures taken { OnOk result (TakesBytes (S.left src.old) (S.left src.new)) }
+    ensures faults { RisesOnReadFault (S.faults src.old) (S.faults src.new) result }
 {
     let head = match read_head(src) {
         Ok(head) => head,
-        Err(stop) => return Err(answer(placed(ImagePlace::Head, stop))),
+        Err(stop) => return Err(stop.at(ImagePlace::Head)),
     };
-    match read_behind(alloc, src, &head) {
+    read_behind(alloc, src, &head)
+}
+
+/// Reads the image of a host, and leaves unread what follows it. `Refused` has the place and the cause of the first
+/// fault, and then the source was read up to the end of the faulty part; `ReadFault` comes only where a read failed.
+pub fn read_host<S: Source>(alloc: Global, src: &mut S) -> Result<Host, ImageAnswer>
+    ensures read { ReadsHost (S.left src.old) (S.left src.new) result }
+    ensures spelled { BeginsWithImage (S.left src.old) (S.left src.new) result }
+    ensures faults { RisesOnReadFault (S.faults src.old) (S.faults src.new) (or_image_stop result) }
+{
+    match read_whole(alloc, src) {
         Ok(host) => Ok(host),
         Err(stop) => Err(answer(stop)),
     }

@@ -13,7 +13,6 @@ ghost use Rattle.mig_image.specs.ImageParts.{fault_of_part, fault_of_bytes, head
 ghost use Rattle.mig_image.specs.PartCounts.{Counts};
 
 use crate::host::Host;
-use crate::read::placed;
 use mig_bytes::{Source, Stop, pad_len, take_long, take_part, u32_le};
 use mig_guest::{PartCode, PartKey};
 use mig_headers::{ImageCause, ImagePlace, Kind};
@@ -229,7 +228,7 @@ pub(crate) fn read_parts<S: Source>(
     let mut entries = Entries { leaves: 0, msrs: 0 };
     for i in 0..count {
         if let Err(stop) = read_part(alloc, src, host, &mut entries) {
-            return Err(placed(ImagePlace::Part(i), stop));
+            return Err(stop.at(ImagePlace::Part(i)));
         }
     }
     Ok(())

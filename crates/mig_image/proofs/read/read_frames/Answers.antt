@@ -2,10 +2,10 @@ use Rattle.std.proofs.Common.{◌≡◌, ◌∙◌, ◌+◌, ap, subst, rules, r
 use Rattle.mig_bytes.specs.Judged.{Gives}
 use Rattle.mig_bytes.proofs.Taking.{takes_none, takes_more}
 use Rattle.mig_bytes.proofs.Steps.{begins}
+use Rattle.mig_bytes.proofs.Placed.{told, one_more, one_stops}
 use Rattle.mig_headers.specs.declared.image_fault.ImagePlace.TheVariants.{Frame}
 use Rattle.mig_guest.specs.Hosts.{HostOf}
 use Rattle.mig_image.specs.ImageParts.{frame_at, frames_at}
-use Rattle.mig_image.proofs.Placed.{told, one_more, one_stops}
 use Rattle.mig_image.proofs.read.read_frames.Goals as goal
 
 pub loop-i-init : goal.loop-i-init
@@ -19,7 +19,7 @@ loop-i-init g c = record {
 
 pub returns-in-Err-clause-read : goal.returns-in-Err-clause-read
 returns-in-Err-clause-read g c =
-    one_stops Frame frame_at _ _ _ _ _ c.loop-i.i c.args.count c.args.host.now c.loop-i.host c.in-Err.stop c.placed.result (search rules) c.loop-i.invariant.read c.in-Err.ensures.read c.placed.ensures
+    one_stops Frame frame_at _ _ _ _ _ c.loop-i.i c.args.count c.args.host.now c.loop-i.host c.in-Err.stop c.at.result (search rules) c.loop-i.invariant.read c.in-Err.ensures.read c.at.ensures
 
 pub loop-i-preserved : goal.loop-i-preserved
 loop-i-preserved g c = record {
