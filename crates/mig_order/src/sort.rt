@@ -5,8 +5,6 @@ ghost use Rattle.mig_order.specs.Order.{among, static_records, content_records, 
 
 use mig_headers::RecordType;
 
-// Not inlined: clang's vectorizer compiles two such comparisons, joined into flags that lie side by side, wrongly.
-#[inline(never)]
 pub fn is_same(this: RecordType, other: RecordType) -> bool
     ensures { result ≡ among (other ∷ []) (type_number this) }
 {
