@@ -18,7 +18,8 @@ use Rattle.mig_guest.proofs.KeyedMaps.{tied}
 use Rattle.mig_guest.proofs.PartCursor.{both_of}
 use Rattle.mig_image.specs.HostView.{MachineMap, with_machine, machine_in, AreMatched}
 use Rattle.mig_image.proofs.MachineMaps.{same_value}
-use Rattle.mig_image.proofs.HostMaps.{shown, joined, entries_with_machines, machine_joined}
+use Rattle.mig_pvtables.proofs.EachValue.{shown}
+use Rattle.mig_image.proofs.HostMaps.{joined, entries_with_machines, machine_joined}
 
 -- ---- entries in order
 

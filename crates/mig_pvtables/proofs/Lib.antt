@@ -1,4 +1,5 @@
 pub mod HvmGuests
 pub mod HvmSamples
 pub mod Searches
+pub mod EachValue
 pub mod PvGuests
