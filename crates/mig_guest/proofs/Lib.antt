@@ -6,7 +6,6 @@ pub mod Loans
 pub mod Cursor
 pub mod PartCursor
 pub mod PartSets
-pub mod Entries
 pub mod Counts
 pub mod Kept
 pub mod Found

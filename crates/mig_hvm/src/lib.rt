@@ -9,11 +9,9 @@
 #![tactic(auto)]
 
 mod context;
-mod laws;
 mod params;
 
 pub use context::{read_context, scan_context};
-pub use laws::params_law;
 pub use params::{params_fault, read_params};
 
 #[cfg(test)]

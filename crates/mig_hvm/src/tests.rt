@@ -147,8 +147,3 @@ fn the_last_value_of_an_index_decides(rt: HostRuntime) -> Result<(), Fail> {
     assert_eq!(rt; guest.next_part(Some(key)), None);
     Ok(())
 }
-
-#[test]
-fn laws(_rt: HostRuntime) {
-    params_law();
-}

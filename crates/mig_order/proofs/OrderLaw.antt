@@ -1,15 +1,16 @@
 -- A type has no fault exactly where it is in order.
 use Rattle.std.proofs.Common.{◌≡◌, ◌⊎◌, ℕ, ◌^◌, ◌≤◌, Bool, true, false, not, ◌&&◌, ◌||◌, ◌==◌, if◌then◌else◌, List, [], ◌∷◌, Option, Some, None, refl, sym, ap, ◌∙◌, inl, inr, arith}
 use Rattle.std.proofs.lemmas.Bool.{eqb-true, leb-true}
+use Rattle.std.proofs.lemmas.Option.{slice_get_past}
 use Rattle.mig_headers.specs.declared.kind.Kind.{Kind}
 use Rattle.mig_headers.specs.declared.kind.Kind.TheVariants.{Pv, Hvm}
 use Rattle.mig_headers.specs.declared.fault.Cause.{Cause}
 use Rattle.mig_headers.specs.declared.record_type.RecordType.{RecordType}
 use Rattle.mig_headers.specs.declared.record_type.RecordType.TheVariants.{PageData, X86PvInfo, X86PvP2mFrames, StaticDataEnd}
 use Rattle.mig_headers.specs.Rows.{first_fault}
-use Rattle.mig_headers.specs.RecordTypes.{record_row_of, pv, type_number, type_of_number, is_optional}
+use Rattle.mig_headers.specs.RecordTypes.{record_types, record_row_of, pv, type_number, type_of_number, is_optional}
 use Rattle.mig_headers.proofs.RecordNumbers.{numbers_are_inverse}
-use Rattle.mig_order.specs.Order.{earlier_in, is_of, some_earlier, static_records, content_records, vcpu_records, causes, fault_of_mandatory, fault_of_type, KeepsOrder, IsInOrder, optional, ordered}
+use Rattle.mig_order.specs.Order.{Earlier, earlier_in, is_of, some_earlier, static_records, content_records, vcpu_records, causes, fault_of_mandatory, fault_after, fault_of_type, KeepsOrder, IsInOrder, optional, ordered}
 use Rattle.mig_order.specs.Gate.{FaultlessIsInOrder}
 
 -- no row's test holds
@@ -171,3 +172,16 @@ faultless_is_in_order version kind types number = (
   ]),
   faultless version kind types number,
 )
+
+-- a type without fault is one of the stream's kind, if the table has it
+pub has_kind : (version : ℕ) (kind : Kind) (earlier : Earlier) (number : ℕ) → fault_after version kind earlier number ≡ None → (this : RecordType) → type_of_number number ≡ Some this → (record_row_of this).of_kind kind ≡ true
+has_kind version kind earlier number fine this found = elim (none_optional number (fault_of_mandatory version kind earlier number (type_of_number number)) fine) [
+  | inl above ↦ absurd (no_type (sym (slice_get_past record_types number (past number above)) ∙ found))
+  | inr mandatory ↦ not_false ((record_row_of this).of_kind kind) (clear_rows (causes version kind earlier this) (ap (fault_of_mandatory version kind earlier number) (sym found) ∙ mandatory)).1.0
+]
+  where
+    past : (n : ℕ) → 2 ^ 31 ≤ n → 19 ≤ n
+    past n above = omega arith
+
+    no_type : {this : RecordType} → None ≡ Some this → ⊥
+    no_type e = cc

@@ -1,7 +1,8 @@
-ghost use Rattle.std.specs.Prelude.{◌≡◌, ◌++◌, ◌∷◌, [], ℕ, List, OnOk, OnErr};
+ghost use Rattle.std.specs.Prelude.{◌≡◌, ◌++◌, ◌∷◌, [], ℕ, List, true, Some, OnOk, OnErr};
 ghost use Rattle.mig_headers.specs.Rows.{first_fault};
 ghost use Rattle.mig_headers.specs.Headers.{unless_faulty};
-ghost use Rattle.mig_headers.specs.RecordTypes.{type_number};
+ghost use Rattle.mig_headers.specs.RecordTypes.{record_row_of, type_number, type_of_number};
+ghost use Rattle.mig_headers.specs.declared.record_type.RecordType.{RecordType};
 ghost use Rattle.mig_order.specs.Order.{broken_rules, causes, fault_after, fault_of_type, second_end, late_static, early_content, second_pv_info, early_p2m_frames, early_pages, late_pages};
 ghost use Rattle.mig_order.specs.Gate.{GateOf, StandsFor, then_type};
 
@@ -49,6 +50,7 @@ impl Gate {
     pub fn step(&mut self, kind: u32) -> Result<(), Cause>
         ensures judged { (types : List ℕ) → StandsFor self.old types → result ≡ unless_faulty (fault_of_type self.old.version self.old.kind types kind) tt }
         ensures passed { OnOk result ((types : List ℕ) → StandsFor self.old types → StandsFor self.new (types ++ kind ∷ [])) }
+        ensures of_kind { OnOk result ((this : RecordType) → type_of_number kind ≡ Some this → (record_row_of this).of_kind self.old.kind ≡ true) }
         ensures refused { OnErr result (self.new ≡ self.old) }
         ensures version { self.new.version ≡ self.old.version }
         ensures kind { self.new.kind ≡ self.old.kind }

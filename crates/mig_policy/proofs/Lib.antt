@@ -1,3 +1,1 @@
-pub mod EntriesRead
-pub mod Below
 pub mod PairSteps

@@ -8,16 +8,12 @@
 //! replaces all entries of its policy; bytes pass as pairs exactly where they spell pairs in canonical form.
 #![tactic(auto)]
 
-mod cpuid;
-mod laws;
-mod msr;
 mod pairs;
+mod policies;
 mod tsc;
 
-pub use cpuid::read_cpuid;
-pub use laws::policy_laws;
-pub use msr::read_msr;
 pub use pairs::canonical_pairs;
+pub use policies::{read_cpuid, read_msr};
 pub use tsc::read_tsc;
 
 #[cfg(test)]

@@ -132,8 +132,3 @@ fn knows_canonical_pairs(rt: HostRuntime) {
         assert_eq!(rt; canonical_pairs(bytes), want, "{bytes:?}");
     }
 }
-
-#[test]
-fn laws(_rt: HostRuntime) {
-    policy_laws();
-}

@@ -1,19 +1,16 @@
 ghost use Rattle.std.specs.Prelude.{◌≡◌, OnOk, OnErr};
-ghost use Rattle.mig_guest.specs.Parts.{put_part};
-ghost use Rattle.mig_policy.specs.Policies.{tsc_in};
+ghost use Rattle.mig_guest.specs.Parts.{put_parts};
+ghost use Rattle.mig_guest.specs.declared.part_code.PartCode.TheVariants.{Tsc};
+ghost use Rattle.mig_bodies.specs.Shapes.{parts_of_body};
 
+use mig_bodies::read_single;
 use mig_bytes::Memory;
-use mig_guest::{Guest, PartKey};
+use mig_guest::{Guest, PartCode};
 
 /// Sets the part of the TSC: the first 20 bytes of the body. Where no memory is found, the guest stays.
 pub fn read_tsc(guest: &mut Guest, body: &[u8; 24]) -> Result<(), Memory>
-    ensures ok { OnOk result (guest.new ≡ record guest.old { parts = put_part guest.old.parts (tsc_in body.now) }) }
+    ensures ok { OnOk result (guest.new ≡ record guest.old { parts = put_parts guest.old.parts (parts_of_body Tsc body.now) }) }
     ensures err { OnErr result (guest.new ≡ guest.old) }
 {
-    let key = PartKey {
-        code: 8,
-        key1: 0,
-        key2: 0,
-    };
-    guest.set_part(key, &body[..20])
+    read_single(guest, PartCode::Tsc, 20, body)
 }

@@ -20,16 +20,17 @@ use Rattle.mig_headers.specs.declared.fault.Place.{Place}
 use Rattle.mig_headers.specs.declared.fault.Place.TheVariants.{Record}
 use Rattle.mig_headers.specs.declared.kind.Kind.{Kind}
 use Rattle.mig_headers.specs.declared.record_type.RecordType.{RecordType}
-use Rattle.mig_headers.specs.declared.record_type.RecordType.TheVariants.{PageData, X86TscInfo, HvmContext, HvmParams, X86CpuidPolicy, X86MsrPolicy}
+use Rattle.mig_headers.specs.declared.record_type.RecordType.TheVariants.{PageData}
 use Rattle.mig_guest.specs.Guests.{GuestOf}
 use Rattle.mig_pagetypes.specs.FrameWords.{word_has_data}
 use Rattle.mig_records.specs.Faults.{fault_of_count, fault_of_words}
-use Rattle.mig_hvm.specs.Params.{fault_of_params}
+use Rattle.mig_guest.specs.declared.part_code.PartCode.{PartCode}
+use Rattle.mig_bodies.specs.Shapes.{fault_of_body}
 use Rattle.mig_restore.specs.declared.head.Seen.{Seen}
 use Rattle.mig_restore.specs.declared.read.Reading.{Reading}
 use Rattle.mig_restore.specs.Mean.{mean, put_record, empty_guest}
 use Rattle.mig_restore.specs.Record.{StreamRecord, Content, types_of, is_ended}
-use Rattle.mig_restore.specs.Judging.{Opening, Before, before, record_at, next_at, head_at, body_at, typed_at, pages_at, entries_at, page_at, entry_at, context_at, params_at, plain_at, words_at, fault_of_head, fault_of_scan, fault_of_data, fault_at_end}
+use Rattle.mig_restore.specs.Judging.{Opening, Before, before, record_at, next_at, head_at, body_at, typed_at, pages_at, entries_at, page_at, entry_at, plain_at, code_of_type, coded_at, words_at, fault_of_head, fault_of_data, fault_at_end}
 use Rattle.mig_restore.specs.Seen.{IsSeen}
 use Rattle.mig_restore.specs.Stream.{Front, one_more, at_start, front_of, front_with, image_of, ended_at, records_at, IsReading}
 use Rattle.mig_restore.proofs.Parts.{begins, behind_head, asks, behind_record}
@@ -74,11 +75,9 @@ checked m f i j h go = leaves_then m m (tried f i) (λ _. j) (leaves_tried m f i
 leaves_plain : (says : List ℕ → Content) (m len : ℕ) (i : List ℕ) → length i ≤ m → Leaves m (plain_at says len i)
 leaves_plain says m len i h = no_more m len i _ h (λ x rest le. leaves_all m _ rest le)
 
-leaves_context : (m len : ℕ) (i : List ℕ) → length i ≤ m → Leaves m (context_at len i)
-leaves_context m len i h = no_more m len i _ h (λ x rest le. checked m (fault_of_scan (scan x)) rest _ le (leaves_all m _ rest le))
-
-leaves_params : (m len : ℕ) (i : List ℕ) → length i ≤ m → Leaves m (params_at len i)
-leaves_params m len i h = no_more m len i _ h (λ x rest le. checked m (fault_of_params x) rest _ le (leaves_all m _ rest le))
+leaves_coded : (o : Option PartCode) (m len : ℕ) (i : List ℕ) → length i ≤ m → Leaves m (coded_at o len i)
+leaves_coded None m len i h = leaves_all m _ i h
+leaves_coded (Some code) m len i h = no_more m len i _ h (λ x rest le. checked m (fault_of_body code x) rest _ le (leaves_all m _ rest le))
 
 chosen : {X : Type 0} (m : ℕ) (b : Bool) (j k : Judged Cause X) → Leaves m j → Leaves m k → Leaves m (cond b j k)
 chosen m true j k p q = p
@@ -97,13 +96,9 @@ leaves_pages : (kind : Kind) (top m len : ℕ) (i : List ℕ) → length i ≤ m
 leaves_pages kind top m len i h = leaves_then m m (entries_at kind top len i) _ (leaves_entries kind top m len i h) (λ es rest le. leaves_all m _ rest le)
 
 leaves_typed : (kind : Kind) (top : ℕ) (t : Option RecordType) (m len : ℕ) (i : List ℕ) → length i ≤ m → Leaves m (typed_at kind top t len i)
+leaves_typed kind top None m len i h = leaves_all m _ i h
 leaves_typed kind top (Some PageData) m len i h = leaves_pages kind top m len i h
-leaves_typed kind top (Some X86TscInfo) m len i h = leaves_plain _ m len i h
-leaves_typed kind top (Some HvmContext) m len i h = leaves_context m len i h
-leaves_typed kind top (Some HvmParams) m len i h = leaves_params m len i h
-leaves_typed kind top (Some X86CpuidPolicy) m len i h = leaves_plain _ m len i h
-leaves_typed kind top (Some X86MsrPolicy) m len i h = leaves_plain _ m len i h
-leaves_typed kind top _ m len i h = leaves_all m _ i h
+leaves_typed kind top (Some this) m len i h = leaves_coded (code_of_type this) m len i h
 
 leaves_body : (kind : Kind) (top m type len : ℕ) (i : List ℕ) → length i ≤ m → Leaves m (body_at kind top type len i)
 leaves_body kind top m type len i h = chosen m (is_optional type) _ _ (leaves_plain _ m len i h) (leaves_typed kind top (type_of_number type) m len i h)

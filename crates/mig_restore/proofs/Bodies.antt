@@ -15,20 +15,23 @@ use Rattle.mig_headers.specs.declared.fault.ContextFault.{ContextFault}
 use Rattle.mig_headers.specs.declared.kind.Kind.{Kind}
 use Rattle.mig_headers.specs.declared.kind.Kind.TheVariants.{Pv, Hvm}
 use Rattle.mig_headers.specs.declared.record_type.RecordType.{RecordType}
-use Rattle.mig_headers.specs.declared.record_type.RecordType.TheVariants.{End, PageData, X86PvInfo, X86PvP2mFrames, X86PvVcpuBasic, X86PvVcpuExtended, X86PvVcpuXsave, SharedInfo, X86TscInfo, HvmContext, HvmParams, Toolstack, X86PvVcpuMsrs, Verify, Checkpoint, CheckpointDirtyPfnList, StaticDataEnd, X86CpuidPolicy, X86MsrPolicy}
+use Rattle.mig_headers.specs.declared.record_type.RecordType.TheVariants.{End, PageData, X86PvP2mFrames, StaticDataEnd}
 use Rattle.mig_headers.proofs.RecordNumbers.{numbers_are_inverse}
 use Rattle.mig_records.specs.Faults.{type_allows}
 use Rattle.mig_order.specs.Order.{IsInOrder, optional, ordered}
-use Rattle.mig_hvm.specs.Params.{fault_of_params, params_in}
-use Rattle.mig_hvm.proofs.Pairs.{params_are_spelled}
-use Rattle.mig_policy.specs.Policies.{leaf_at, leaves_in, msr_at, msrs_in}
-use Rattle.mig_policy.proofs.EntriesRead.{leaves_are_spelled, msrs_are_spelled}
+use Rattle.mig_guest.specs.declared.part_code.PartCode.{PartCode}
+use Rattle.mig_bodies.specs.Shapes.{shape_of, has_shape, fault_of_body, parts_of_body}
+use Rattle.mig_bodies.proofs.Spelled.{bodies_are_spelled}
 use Rattle.mig_restore.specs.Record.{Content}
-use Rattle.mig_restore.specs.Record.Content.{Nothing, Parts}
-use Rattle.mig_restore.specs.Judging.{is_built, fault_of_scan, cut, context_at, params_at, plain_at, tsc_says, leaves_say, msrs_say, entries_at, pages_at, typed_at, body_at}
+use Rattle.mig_restore.specs.Record.Content.{Nothing, Sets}
+use Rattle.mig_restore.specs.Judging.{is_built, sets_at, plain_at, entries_at, pages_at, code_of_type, coded_at, typed_at, body_at}
 use Rattle.mig_restore.specs.Spelled.{HasContent}
-use Rattle.mig_restore.specs.Spelled.HasContent.{optional as has_optional, ends as has_ends, pages as has_pages, tsc as has_tsc, context as has_context, params as has_params, static_end as has_static_end, leaves as has_leaves, msrs as has_msrs}
+use Rattle.mig_restore.specs.Spelled.HasContent.{optional as has_optional, ends as has_ends, pages as has_pages, sets as has_sets, static_end as has_static_end}
 use Rattle.mig_restore.proofs.Batches.{batch_passes}
+
+has_shape_in : Option PartCode → Bool
+has_shape_in None = false
+has_shape_in (Some code) = has_shape (shape_of code)
 
 -- ---- judging passes
 
@@ -52,31 +55,21 @@ nothing_says kind top type len i c rest has_it none h =
     let e = same_passes _ _ _ _ h in
     record { body = []; whole = e.1; body_len = sym none; says = subst (HasContent kind top type []) e.0 has_it }
 
-context_has : (kind : Kind) (top : ℕ) (body : List ℕ) (o : Result ℕ ContextFault) → scan body ≡ o → fault_of_scan o ≡ None → HasContent kind top 9 body (Parts ((record { code = 9; key1 = 0; key2 = 0 }, cut o body) ∷ []))
-context_has kind top body (Ok o) is fine = has_context body o is
-context_has kind top body (Err f) is fine = let no : ◌≡◌ {A = Option Cause} (Some (BadContext f)) None = fine in absurd (some_none f no)
-  where
-    some_none : (f : ContextFault) → Some (BadContext f) ≡ None → ⊥
-    some_none f e = cc
-
-context_says : (kind : Kind) (top : ℕ) (len : ℕ) (i : List ℕ) (c : Content) (rest : List ℕ) → context_at len i ≡ Passes c rest → Says kind top 9 len i c rest
-context_says kind top len i c rest h =
+sets_say : (kind : Kind) (top : ℕ) (this : RecordType) (code : PartCode) (len : ℕ) (i : List ℕ) (c : Content) (rest : List ℕ) → code_of_type this ≡ Some code → has_shape (shape_of code) ≡ true → (record_row_of this).allows len ≡ true
+    → sets_at code len i ≡ Passes c rest → Says kind top (type_number this) len i c rest
+sets_say kind top this code len i c rest is shaped allowed h =
     let b = both_pass (part Truncated len i) _ c rest h in
     let p = part_passes Truncated len i b.x b.mid b.first in
-    let t = both_pass (tried (fault_of_scan (scan b.x)) b.mid) (λ _. Passes (Parts ((record { code = 9; key1 = 0; key2 = 0 }, cut (scan b.x) b.x) ∷ [])) b.mid) c rest b.second in
+    let t = both_pass (tried (fault_of_body code b.x) b.mid) (λ _. Passes (Sets code (parts_of_body code b.x)) b.mid) c rest b.second in
     let fine = tried_passes _ b.mid t.mid t.x t.first in
     let e = same_passes _ _ _ _ t.second in
-    record { body = b.x; whole = p.0 ∙ ap (λ l. b.x ++ l) e.1; body_len = p.1; says = subst (HasContent kind top 9 b.x) e.0 (context_has kind top b.x (scan b.x) refl fine.0) }
-
-params_say : (kind : Kind) (top : ℕ) (len : ℕ) (i : List ℕ) (c : Content) (rest : List ℕ) → 8 ≤ len → params_at len i ≡ Passes c rest → Says kind top 0xA len i c rest
-params_say kind top len i c rest least h =
-    let b = both_pass (part Truncated len i) _ c rest h in
-    let p = part_passes Truncated len i b.x b.mid b.first in
-    let t = both_pass (tried (fault_of_params b.x) b.mid) (λ _. Passes (Parts (params_in b.x)) b.mid) c rest b.second in
-    let fine = tried_passes _ b.mid t.mid t.x t.first in
-    let e = same_passes _ _ _ _ t.second in
-    let spelled = (params_are_spelled b.x (params_in b.x)).0 (subst (λ n. 8 ≤ n) (sym p.1) least, fine.0, refl) in
-    record { body = b.x; whole = p.0 ∙ ap (λ l. b.x ++ l) e.1; body_len = p.1; says = subst (HasContent kind top 0xA b.x) e.0 (has_params b.x (params_in b.x) spelled) }
+    let spelled = (bodies_are_spelled code b.x (parts_of_body code b.x) shaped).0 (fine.0, refl) in
+    record {
+      body = b.x;
+      whole = p.0 ∙ ap (λ l. b.x ++ l) e.1;
+      body_len = p.1;
+      says = subst (HasContent kind top (type_number this) b.x) e.0 (has_sets this code b.x (parts_of_body code b.x) is (ap (record_row_of this).allows p.1 ∙ allowed) spelled);
+    }
 
 pages_say : (kind : Kind) (top : ℕ) (len : ℕ) (i : List ℕ) (c : Content) (rest : List ℕ) → pages_at kind top len i ≡ Passes c rest → Says kind top 1 len i c rest
 pages_say kind top len i c rest h =
@@ -85,48 +78,33 @@ pages_say kind top len i c rest h =
     let e = same_passes _ _ _ _ a.second in
     record { body = b.body; whole = b.whole ∙ ap (λ l. b.body ++ l) e.1; body_len = b.size; says = subst (HasContent kind top 1 b.body) e.0 (has_pages b.body a.x b.batch) }
 
-both_true : (a b : Bool) → (a && b) ≡ true → (a ≡ true) × (b ≡ true)
-both_true true b e = (refl, e)
-both_true false b e = absurd (cc)
+-- a type that sets parts is read by its code
+pub coded_is : (kind : Kind) (top : ℕ) (this : RecordType) (code : PartCode) (len : ℕ) (i : List ℕ) → code_of_type this ≡ Some code → typed_at kind top (Some this) len i ≡ sets_at code len i
+coded_is kind top PageData code len i is = cc
+coded_is kind top _ code len i is = ap (λ o. coded_at o len i) is
 
-leaves_have : (kind : Kind) (top : ℕ) (len : ℕ) → (nat_eq (len % 24) 0 && nat_le len (2 ^ 16 * 24)) ≡ true → (body : List ℕ) → length body ≡ len → HasContent kind top 0x11 body (leaves_say body)
-leaves_have kind top len allowed body size =
-    let (whole, most) = both_true (nat_eq (len % 24) 0) (nat_le len (2 ^ 16 * 24)) allowed in
-    let count : length (leaves_in body) ≡ length body / 24 = length-map-range_with_len (leaf_at body) 0 (length body / 24) in
-    let bound : len ≤ 2 ^ 16 * 24 = leb-true len (2 ^ 16 * 24) most in
-    let rest : len % 24 ≡ 0 = eqb-true (len % 24) 0 whole in
-    has_leaves body (leaves_in body) ((leaves_are_spelled body (leaves_in body)).0 (ap (λ n. n % 24) size ∙ rest, refl)) (omega (arith, count, bound, size))
+-- of the types of an HVM stream only P2M frames have a body of their own
+shaped : (this : RecordType) (code : PartCode) → (record_row_of this).of_kind Hvm ≡ true → code_of_type this ≡ Some code → has_shape (shape_of code) ≡ true
+unfolding has_shape_in
+shaped X86PvP2mFrames code k is = cc
+shaped _ code k is = cc (ap has_shape_in is)
 
-msrs_have : (kind : Kind) (top : ℕ) (len : ℕ) → (nat_eq (len % 16) 0 && nat_le len (2 ^ 16 * 16)) ≡ true → (body : List ℕ) → length body ≡ len → HasContent kind top 0x12 body (msrs_say body)
-msrs_have kind top len allowed body size =
-    let (whole, most) = both_true (nat_eq (len % 16) 0) (nat_le len (2 ^ 16 * 16)) allowed in
-    let count : length (msrs_in body) ≡ length body / 16 = length-map-range_with_len (msr_at body) 0 (length body / 16) in
-    let bound : len ≤ 2 ^ 16 * 16 = leb-true len (2 ^ 16 * 16) most in
-    let rest : len % 16 ≡ 0 = eqb-true (len % 16) 0 whole in
-    has_msrs body (msrs_in body) ((msrs_are_spelled body (msrs_in body)).0 (ap (λ n. n % 16) size ∙ rest, refl)) (omega (arith, count, bound, size))
+-- the types that set no parts: END, page data, and the end of the static data
+marked : (top : ℕ) (this : RecordType) (len : ℕ) (i : List ℕ) (c : Content) (rest : List ℕ) → (record_row_of this).supported ≡ true → (record_row_of this).of_kind Hvm ≡ true → (record_row_of this).allows len ≡ true
+    → code_of_type this ≡ None → typed_at Hvm top (Some this) len i ≡ Passes c rest → Says Hvm top (type_number this) len i c rest
+marked top End len i c rest s k allowed is h = nothing_says Hvm top 0 len i c rest has_ends (eqb-true len 0 allowed) h
+marked top PageData len i c rest s k allowed is h = pages_say Hvm top len i c rest h
+marked top StaticDataEnd len i c rest s k allowed is h = nothing_says Hvm top 0x10 len i c rest has_static_end (eqb-true len 0 allowed) h
+marked top _ len i c rest s k allowed is h = absurd (cc)
 
 -- a type of an HVM stream
 hvm_says : (top : ℕ) (this : RecordType) (len : ℕ) (i : List ℕ) (c : Content) (rest : List ℕ) → (record_row_of this).supported ≡ true → (record_row_of this).of_kind Hvm ≡ true → (record_row_of this).allows len ≡ true
     → typed_at Hvm top (Some this) len i ≡ Passes c rest → Says Hvm top (type_number this) len i c rest
-hvm_says top End len i c rest s k allowed h = nothing_says Hvm top 0 len i c rest has_ends (eqb-true len 0 allowed) h
-hvm_says top PageData len i c rest s k allowed h = pages_say Hvm top len i c rest h
-hvm_says top X86PvInfo len i c rest s k allowed h = absurd (cc)
-hvm_says top X86PvP2mFrames len i c rest s k allowed h = absurd (cc)
-hvm_says top X86PvVcpuBasic len i c rest s k allowed h = absurd (cc)
-hvm_says top X86PvVcpuExtended len i c rest s k allowed h = absurd (cc)
-hvm_says top X86PvVcpuXsave len i c rest s k allowed h = absurd (cc)
-hvm_says top SharedInfo len i c rest s k allowed h = absurd (cc)
-hvm_says top X86TscInfo len i c rest s k allowed h = plain_says Hvm top 8 len i c rest tsc_says (λ body size. has_tsc body (size ∙ eqb-true len 24 allowed)) h
-hvm_says top HvmContext len i c rest s k allowed h = context_says Hvm top len i c rest h
-hvm_says top HvmParams len i c rest s k allowed h = params_say Hvm top len i c rest (leb-true 8 len allowed) h
-hvm_says top Toolstack len i c rest s k allowed h = absurd (cc)
-hvm_says top X86PvVcpuMsrs len i c rest s k allowed h = absurd (cc)
-hvm_says top Verify len i c rest s k allowed h = absurd (cc)
-hvm_says top Checkpoint len i c rest s k allowed h = absurd (cc)
-hvm_says top CheckpointDirtyPfnList len i c rest s k allowed h = absurd (cc)
-hvm_says top StaticDataEnd len i c rest s k allowed h = nothing_says Hvm top 0x10 len i c rest has_static_end (eqb-true len 0 allowed) h
-hvm_says top X86CpuidPolicy len i c rest s k allowed h = plain_says Hvm top 0x11 len i c rest leaves_say (leaves_have Hvm top len allowed) h
-hvm_says top X86MsrPolicy len i c rest s k allowed h = plain_says Hvm top 0x12 len i c rest msrs_say (msrs_have Hvm top len allowed) h
+hvm_says top this len i c rest s k allowed h = by (code_of_type this) refl
+  where
+    by : (o : Option PartCode) → code_of_type this ≡ o → Says Hvm top (type_number this) len i c rest
+    by None is = marked top this len i c rest s k allowed is h
+    by (Some code) is = sets_say Hvm top this code len i c rest is (shaped this code k is) allowed (sym (coded_is Hvm top this code len i is) ∙ h)
 
 -- no type of a PV stream is read so far
 no_pv : (this : RecordType) → is_built Pv (type_number this) ≡ true → (record_row_of this).supported ≡ true → ⊥
@@ -137,24 +115,7 @@ no_pv this built s = let is : type_of_number (type_number this) ≡ Some this = 
 
 mandatory : (this : RecordType) → is_optional (type_number this) ≡ false
 mandatory End = refl
-mandatory PageData = refl
-mandatory X86PvInfo = refl
-mandatory X86PvP2mFrames = refl
-mandatory X86PvVcpuBasic = refl
-mandatory X86PvVcpuExtended = refl
-mandatory X86PvVcpuXsave = refl
-mandatory SharedInfo = refl
-mandatory X86TscInfo = refl
-mandatory HvmContext = refl
-mandatory HvmParams = refl
-mandatory Toolstack = refl
-mandatory X86PvVcpuMsrs = refl
-mandatory Verify = refl
-mandatory Checkpoint = refl
-mandatory CheckpointDirtyPfnList = refl
-mandatory StaticDataEnd = refl
-mandatory X86CpuidPolicy = refl
-mandatory X86MsrPolicy = refl
+mandatory _ = refl
 
 -- the body of an optional record, and of a type of the table
 pub optional_at : (kind : Kind) (top : ℕ) (type len : ℕ) (i : List ℕ) → 2 ^ 31 ≤ type → body_at kind top type len i ≡ plain_at (λ _. Nothing) len i

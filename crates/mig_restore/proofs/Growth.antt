@@ -1,7 +1,7 @@
 -- What reading keeps of a guest: each part or frame that is set leaves it well formed.
-use Rattle.std.proofs.Common.{◌≡◌, ◌≢◌, ℕ, zero, suc, ◌+◌, ◌*◌, ◌/◌, ◌^◌, ◌≤◌, ◌<◌, List, [], ◌∷◌, ◌++◌, length, take, drop, map, replicate, true, false, Option, Some, None, is_some, Ok, refl, sym, ap, subst, ◌∙◌, arith, length-append, length-drop, length-take-le}
+use Rattle.std.proofs.Common.{◌≡◌, ◌≢◌, ℕ, zero, suc, ◌+◌, ◌*◌, ◌/◌, ◌^◌, ◌≤◌, ◌<◌, List, [], ◌∷◌, ◌++◌, length, take, drop, map, replicate, Bool, true, false, Option, Some, None, is_some, Ok, refl, sym, ap, subst, ◌∙◌, arith, length-append, length-drop, length-take-le}
 use Rattle.std.specs.Prelude.{IfOk}
-use Rattle.std.specs.List.{range_with_len}
+use Rattle.std.specs.List.{AllByRecursion}
 use Rattle.std.specs.FinMap as fin
 use Rattle.std.proofs.lemmas.List.{take_at, length-map}
 use Rattle.std.proofs.lemmas.List.FromFn.{length-range_with_len}
@@ -18,14 +18,23 @@ use Rattle.mig_guest.specs.Formed.{AreParts, IsPart, IsInside, IsFormed, IsGuest
 use Rattle.mig_guest.specs.declared.part_key.PartKey.{PartKey}
 use Rattle.mig_guest.specs.Frames.{FrameOf, IsFrame, framed, is_hvm_type, is_type_of}
 use Rattle.mig_guest.specs.Guests.{GuestOf}
-use Rattle.mig_guest.specs.Parts.{put_part, put_parts, replace_code}
+use Rattle.mig_guest.specs.Parts.{PartMap}
 use Rattle.mig_guest.specs.PartKeys.{context_key, tsc_key}
 use Rattle.mig_guest.proofs.Counts.{Part}
 use Rattle.mig_guest.proofs.Kept.{parts_keep, policies_keep, parts_plain, policies_plain, frames_keep}
-use Rattle.mig_guest.proofs.PartRows.{tsc_is, context_is, param_is, leaf_is, msr_is, hvm_frame}
-use Rattle.mig_hvm.specs.Params.{ArePairs, IsParams, fault_of_params, params_in}
-use Rattle.mig_hvm.proofs.Pairs.{params_are_spelled}
-use Rattle.mig_policy.specs.Policies.{IsSmallKey, leaf_at, leaves_in, msr_at, msrs_in, tsc_in}
+use Rattle.mig_guest.proofs.PartRows.{hvm_frame}
+use Rattle.mig_headers.specs.RecordTypes.{record_row_of, type_number, type_of_number}
+use Rattle.mig_headers.specs.declared.record_type.RecordType.{RecordType}
+use Rattle.mig_headers.specs.declared.record_type.RecordType.TheVariants.{End}
+use Rattle.mig_headers.proofs.RecordNumbers.{numbers_are_inverse}
+use Rattle.mig_guest.specs.declared.part_code.PartCode.{PartCode}
+use Rattle.mig_guest.specs.PartCodes.{row_of, code_number}
+use Rattle.mig_guest.proofs.PartRows.{number_found}
+use Rattle.mig_bodies.specs.Layouts.{IsSmallKey}
+use Rattle.mig_bodies.specs.Shapes.{shape_of, has_shape, fault_of_body, parts_of_body, set_parts, IsBody, HasBodyLength}
+use Rattle.mig_bodies.proofs.Spelled.{bodies_are_spelled}
+use Rattle.mig_bodies.proofs.Kept.{bodies_say_parts, bodies_keep_formed, set_plain, sets_nothing}
+use Rattle.mig_restore.specs.Judging.{code_of_type}
 use Rattle.mig_restore.specs.Mean.{meant_type}
 use Rattle.mig_restore.specs.Grows.{Grows}
 
@@ -77,87 +86,50 @@ grows_frame g h t meant pfn page is small in_step whole now = moved g (record g 
 
 -- ---- parts
 
--- parts of one code, as an HVM guest may have them whatever its width
-abbrev pub AreHvmParts : ℕ → List Part → Type 0
-AreHvmParts code ps = (width : ℕ) → AreParts Hvm width code ps
+-- the type of a record that sets parts, and their code
+module _ (this : RecordType) (code : PartCode) (is : code_of_type this ≡ Some code) where
+  number_is : type_number this ≡ code_number code
+  number_is = number_found (type_number this) code is
 
-of_kind : (g : GuestOf) (code : ℕ) (ps : List Part) → AreHvmParts code ps → g.kind ≡ Hvm → AreParts g.kind (width_of g) code ps
-of_kind g code ps are hvm = subst (λ k. AreParts k (width_of g) code ps) (sym hvm) (are (width_of g))
+  -- the length that the record's type has
+  pub has_length : (len : ℕ) → (record_row_of this).allows len ≡ true → HasBodyLength code len
+  has_length len allowed type named =
+      let same : this ≡ type = some_is this type (sym (numbers_are_inverse.type_of this) ∙ ap type_of_number number_is ∙ named) in
+      subst (λ (t : RecordType). (record_row_of t).allows len ≡ true) same allowed
+    where
+      some_is : (a b : RecordType) → Some a ≡ Some b → a ≡ b
+      some_is a b e = cc
 
--- parts of a code that is neither a policy's nor an emulator's
-pub grows_parts : (code : ℕ) → is_policy code ≡ false → is_emulator_code code ≡ false → (g h : GuestOf) (ps : List Part) → AreHvmParts code ps → h ≡ record g { parts = put_parts g.parts ps } → Grows g h
-grows_parts code no_policy no_emulator g h ps are now = moved g (record g { parts = put_parts g.parts ps }) h now (record {
-  kind = refl;
-  top = refl;
-  kept = λ hvm formed. parts_keep g code ps no_policy (of_kind g code ps are hvm) formed;
-  plain = λ before. parts_plain Hvm 0 code no_emulator g.parts ps (are 0) before;
-})
+kind_of : Option PartCode → Kind → Bool
+kind_of None kind = false
+kind_of (Some code) kind = (row_of code).of_kind kind
 
-grows_policy : (code : ℕ) → is_emulator_code code ≡ false → (g h : GuestOf) (ps : List Part) → AreHvmParts code ps → length ps ≤ 65536 → h ≡ record g { parts = replace_code code g.parts ps } → Grows g h
-grows_policy code no_emulator g h ps are few now = moved g (record g { parts = replace_code code g.parts ps }) h now (record {
-  kind = refl;
-  top = refl;
-  kept = λ hvm formed. policies_keep g code ps few (of_kind g code ps are hvm) formed;
-  plain = λ before. policies_plain Hvm 0 code no_emulator g.parts ps (are 0) before;
-})
+pub same_kinds : (this : RecordType) (code : PartCode) → code_of_type this ≡ Some code → (kind : Kind) → (record_row_of this).of_kind kind ≡ (row_of code).of_kind kind
+unfolding kind_of
+same_kinds End code is kind = cc
+same_kinds _ code is kind = cc (ap (λ o. kind_of o kind) is)
 
-pub grows_tsc : (g h : GuestOf) (body : List ℕ) → length body ≡ 24 → h ≡ record g { parts = put_part g.parts (tsc_in body) } → Grows g h
-grows_tsc g h body size now =
-    grows_parts 8 refl refl g h (tsc_in body ∷ []) (λ width. (tsc_is Hvm width (take 20 body) (length-take-le 20 body (omega (arith, size))), refl, tt)) now
+no_emulator : (this : RecordType) → is_emulator_code (type_number this) ≡ false
+no_emulator End = refl
+no_emulator _ = refl
 
-pairs_are : (bytes : List ℕ) (ps : List Part) → ArePairs bytes ps → AreHvmParts 10 ps
-pairs_are bytes [] h width = tt
-pairs_are bytes (p ∷ ps) (index, rest, whole, size, value, low, key, more) width =
-    (subst (λ k. IsPart Hvm width k p.1) (sym key) (param_is width (le64 index 0) p.1 low value), ap (λ (k : PartKey). k.code) key, pairs_are rest ps more width)
+pub sets_no_emulator : (this : RecordType) (code : PartCode) → code_of_type this ≡ Some code → is_emulator_code (code_number code) ≡ false
+sets_no_emulator this code is = ap is_emulator_code (sym (number_is this code is)) ∙ no_emulator this
 
-pub grows_params : (g h : GuestOf) (body : List ℕ) → 8 ≤ length body → fault_of_params body ≡ None → h ≡ record g { parts = put_parts g.parts (params_in body) } → Grows g h
-grows_params g h body long fine now =
-    let spelled : IsParams body (params_in body) = (params_are_spelled body (params_in body)).0 (long, fine, refl) in
-    grows_parts 10 refl refl g h (params_in body) (pairs_are spelled.pairs (params_in body) spelled.each) now
-
--- ---- the context
-
-some_is : (x y : List ℕ) → Some x ≡ Some y → x ≡ y
-some_is x y e = cc
-
-pub context_set : (g n : GuestOf) (body : List ℕ) (o : ℕ) → scan body ≡ Ok o → IfOk (scan body) (λ end. n ≡ record g { parts = fin.insert g.parts context_key (take end body ++ replicate 8 0) })
-    → n ≡ record g { parts = fin.insert g.parts context_key (take o body ++ replicate 8 0) }
-context_set g n body o is h = subst (λ r. IfOk r (λ end. n ≡ record g { parts = fin.insert g.parts context_key (take end body ++ replicate 8 0) })) is h
-
-pub context_kept : (body : List ℕ) (o : ℕ) → scan body ≡ Ok o → length body ≤ 2 ^ 27 → AreHvmParts 9 ((context_key, take o body ++ replicate 8 0) ∷ [])
-context_kept body o is short width =
-    let bytes = take o body ++ replicate 8 0 in
-    let fits : o + 8 ≤ length body = end_fits body o is in
-    let size : length bytes ≡ o + 8 = length-append (take o body) (replicate 8 0) ∙ ap (λ n. n + 8) (length-take-le o body (omega (arith, fits))) in
-    let same : take o bytes ++ replicate 8 0 ≡ bytes = ap (λ l. l ++ replicate 8 0) (take_at (take o body) (replicate 8 0) o (length-take-le o body (omega (arith, fits)))) in
-    (context_is width bytes (omega (arith, size, fits, short)) (o, scan_cut body o is, same), refl, tt)
-
-pub grows_context : (g h : GuestOf) (body : List ℕ) (o : ℕ) → scan body ≡ Ok o → length body ≤ 2 ^ 27 → h ≡ record g { parts = fin.insert g.parts context_key (take o body ++ replicate 8 0) } → Grows g h
-grows_context g h body o is short now = grows_parts 9 refl refl g h ((context_key, take o body ++ replicate 8 0) ∷ []) (context_kept body o is short) now
-
--- ---- a policy
-
-mapped_are : (code : ℕ) (f : ℕ → Part) (s n : ℕ) → ((k : ℕ) → k < s + n → ((width : ℕ) → IsPart Hvm width (f k).0 (f k).1) × ((f k).0.code ≡ code)) → AreHvmParts code (map f (range_with_len s n))
-mapped_are code f s zero go width = tt
-mapped_are code f s (suc n) go width = let first = go s (omega arith) in (first.0 width, first.1, mapped_are code f (s + 1) n (λ k less. go k (omega (arith, less))) width)
-
-mapped_len : (f : ℕ → Part) (n : ℕ) → length (map f (range_with_len 0 n)) ≡ n
-mapped_len f n = length-map (range_with_len 0 n) f ∙ length-range_with_len 0 n
-
-pub grows_leaves : (g h : GuestOf) (body : List ℕ) → length body ≤ 24 * 65536 → ((k : ℕ) → k < length body / 24 → IsSmallKey (leaf_at body k).0) → h ≡ record g { parts = replace_code 17 g.parts (leaves_in body) } → Grows g h
-grows_leaves g h body short small now =
-    grows_policy 17 refl g h (leaves_in body)
-    (mapped_are 17 (leaf_at body) 0 (length body / 24) (λ k low. let less : k < length body / 24 = omega (arith, low) in (λ width. leaf_is Hvm width (le32 body (24 * k)) (le32 body (24 * k + 4)) (take 16 (drop (24 * k + 8) body)) (small k less).0 (small k less).1 (sized k less), refl)))
-    (let e = mapped_len (leaf_at body) (length body / 24) in subst (λ n. n ≤ 65536) (sym e) (omega (arith, short))) now
+-- a body that sets parts of a code that is no emulator's
+pub grows_sets : (code : PartCode) (g h : GuestOf) (body : List ℕ) → (row_of code).of_kind g.kind ≡ true → is_emulator_code (code_number code) ≡ false → HasBodyLength code (length body) → length body ≤ 2 ^ 27
+    → fault_of_body code body ≡ None → AllByRecursion (λ p. IsSmallKey p.0) (parts_of_body code body) → h ≡ record g { parts = set_parts code g.parts (parts_of_body code body) } → Grows g h
+grows_sets code g h body of_kind no_emulator has short fine small now = by (has_shape (shape_of code)) refl
   where
-    sized : (k : ℕ) → k < length body / 24 → length (take 16 (drop (24 * k + 8) body)) ≡ 16
-    sized k less = length-take-le 16 (drop (24 * k + 8) body) (omega (arith, less, length-drop (24 * k + 8) body))
-
-pub grows_msrs : (g h : GuestOf) (body : List ℕ) → length body ≤ 16 * 65536 → ((k : ℕ) → k < length body / 16 → IsSmallKey (msr_at body k).0) → h ≡ record g { parts = replace_code 18 g.parts (msrs_in body) } → Grows g h
-grows_msrs g h body short small now =
-    grows_policy 18 refl g h (msrs_in body)
-    (mapped_are 18 (msr_at body) 0 (length body / 16) (λ k low. let less : k < length body / 16 = omega (arith, low) in (λ width. msr_is Hvm width (le32 body (16 * k)) (take 12 (drop (16 * k + 4) body)) (small k less).0 (sized k less), refl)))
-    (let e = mapped_len (msr_at body) (length body / 16) in subst (λ n. n ≤ 65536) (sym e) (omega (arith, short))) now
-  where
-    sized : (k : ℕ) → k < length body / 16 → length (take 12 (drop (16 * k + 4) body)) ≡ 12
-    sized k less = length-take-le 12 (drop (16 * k + 4) body) (omega (arith, less, length-drop (16 * k + 4) body))
+    by : (b : Bool) → has_shape (shape_of code) ≡ b → Grows g h
+    by true shaped =
+        let ps = parts_of_body code body in
+        let says : IsBody code body ps = (bodies_are_spelled code body ps shaped).0 (fine, refl) in
+        let are : AreParts g.kind (width_of g) (code_number code) ps = bodies_say_parts code g.kind (width_of g) body ps of_kind has short says small in
+        moved g (record g { parts = set_parts code g.parts ps }) h now (record {
+          kind = refl;
+          top = refl;
+          kept = λ hvm formed. bodies_keep_formed code g body ps of_kind has short says small formed;
+          plain = λ before. set_plain code g.kind (width_of g) no_emulator g.parts ps are before;
+        })
+    by false other = moved g g h (now ∙ ap (λ (m : PartMap). record g { parts = m }) (sets_nothing code body other g.parts)) (grows_not g)

@@ -2,7 +2,7 @@
 use Rattle.std.proofs.Common.{◌≡◌, ℕ, List, [], ◌∷◌, ◌++◌, Bool, true, false, cond, not, nat_eq, Option, Some, None, refl, sym, ap, ◌∙◌, arith}
 use Rattle.std.specs.Prelude.{option_and_then, unwrap_or, ◌&&◌}
 use Rattle.std.specs.List.{fold}
-use Rattle.std.specs.Option.{option_or}
+use Rattle.std.specs.Option.{option_map, option_or}
 use Rattle.std.specs.Ordering.{nat_cmp, eq_by_cmp, is_eq, ordering_then}
 use Rattle.std.specs.declared.cmp.Ordering.{Ordering}
 use Rattle.std.specs.declared.cmp.Ordering.TheVariants.{Less, Equal, Greater}
@@ -17,13 +17,16 @@ use Rattle.mig_guest.specs.declared.part_key.PartKey.{PartKey}
 use Rattle.mig_guest.specs.Frames.{FrameMap, FrameOf, framed}
 use Rattle.mig_guest.specs.Guests.{GuestOf}
 use Rattle.mig_guest.specs.Order.{part_cmp}
-use Rattle.mig_guest.specs.Parts.{PartMap, put_part, put_parts}
+use Rattle.mig_guest.specs.PartCodes.{code_number}
+use Rattle.mig_guest.specs.Parts.{PartMap, put_part, put_parts, replace_code}
+use Rattle.mig_guest.specs.Formed.{is_policy}
+use Rattle.mig_bodies.specs.Layouts.{Part}
 use Rattle.mig_guest.proofs.PartOrder.{part_total, part_exact}
 use Rattle.mig_pagetypes.specs.FrameWords.{word_pfn}
 use Rattle.mig_restore.specs.Judging.{type_in_word}
 use Rattle.mig_restore.specs.Record.{Entry, StreamRecord, Content}
-use Rattle.mig_restore.specs.Record.Content.{Nothing, Frames, Parts, Policy}
-use Rattle.mig_restore.specs.Mean.{meant_type, put_entry, put_entries, put_content, put_record, empty_guest, mean, entries_in, entries_of, last_entry, some_frame, frame_in, same_key, last_bytes, says_of_part, last_said}
+use Rattle.mig_restore.specs.Record.Content.{Nothing, Frames, Sets}
+use Rattle.mig_restore.specs.Mean.{meant_type, put_entry, put_entries, put_content, put_record, empty_guest, mean, entries_in, entries_of, last_entry, some_frame, frame_in, same_key, last_bytes, parts_say_of_part, policy_says_of_part, says_of_part, last_said}
 
 pub one_more_entry : (g h k : GuestOf) (es : List Entry) (e : Entry) → h ≡ record g { frames = put_entries g.kind g.frames es } → k ≡ record h { frames = put_entry h.kind h.frames e }
     → k ≡ record g { frames = put_entries g.kind g.frames (es ++ e ∷ []) }
@@ -46,8 +49,7 @@ one_more_record kind rs r = fold-append put_record (empty_guest kind) rs (r ∷ 
 pub put_kind : (g : GuestOf) (c : Content) → (put_content g c).kind ≡ g.kind
 put_kind g Nothing = refl
 put_kind g (Frames es) = refl
-put_kind g (Parts ps) = refl
-put_kind g (Policy code ps) = refl
+put_kind g (Sets code ps) = refl
 
 folded_kind : (g : GuestOf) (rs : List StreamRecord) → (fold put_record g rs).kind ≡ g.kind
 folded_kind g [] = refl
@@ -89,8 +91,7 @@ at_last kind (Some e) = refl
 put_frames : (g : GuestOf) (c : Content) → (put_content g c).frames ≡ put_entries g.kind g.frames (entries_in c)
 put_frames g Nothing = refl
 put_frames g (Frames es) = refl
-put_frames g (Parts ps) = refl
-put_frames g (Policy code ps) = refl
+put_frames g (Sets code ps) = refl
 
 folded_frames : (g : GuestOf) (rs : List StreamRecord) → (fold put_record g rs).frames ≡ put_entries g.kind g.frames (entries_of rs)
 folded_frames g [] = refl
@@ -146,30 +147,32 @@ abbrev unless_said : Option (Option (List ℕ)) → Option (List ℕ) → Option
 unless_said None before = before
 unless_said (Some now) before = now
 
-said_parts : (o before : Option (List ℕ)) (ps : List (PartKey × List ℕ)) (q : PartKey) → last_bytes q ps ≡ o → over o before ≡ unless_said (says_of_part q (Parts ps)) before
-said_parts None before ps q is = rw is refl
-said_parts (Some bytes) before ps q is = rw is refl
+said_parts : (o before : Option (List ℕ)) → over o before ≡ unless_said (option_map Some o) before
+said_parts None before = refl
+said_parts (Some bytes) before = refl
 
 cleared : (m : PartMap) (code : ℕ) (q : PartKey) → fin.get (fin.retain_keys m (λ k. not (nat_eq k.code code))) q ≡ cond (not (nat_eq q.code code)) (fin.get m q) None
 cleared m code q = fin.get-retain_keys m (λ k. not (nat_eq k.code code)) q (λ k e. ap (λ (x : PartKey). not (nat_eq x.code code)) (sym (part_exact q k e)))
 
-kept_or : (b : Bool) (before : Option (List ℕ)) → cond (not b) before None ≡ unless_said (cond b (Some None) None) before
-kept_or true before = refl
-kept_or false before = refl
+said_policy : (o before : Option (List ℕ)) (b : Bool) → over o (cond (not b) before None) ≡ unless_said (option_or (option_map Some o) (cond b (Some None) None)) before
+said_policy None before true = refl
+said_policy None before false = refl
+said_policy (Some bytes) before b = refl
 
-said_policy : (o before : Option (List ℕ)) (code : ℕ) (p : PartKey × List ℕ) (ps : List (PartKey × List ℕ)) (q : PartKey) → last_bytes q (p ∷ ps) ≡ o
-    → over o (cond (not (nat_eq q.code code)) before None) ≡ unless_said (says_of_part q (Policy code (p ∷ ps))) before
-said_policy None before code p ps q is = rw is (kept_or (nat_eq q.code code) before)
-said_policy (Some bytes) before code p ps q is = rw is refl
+replaced : (m : PartMap) (code : ℕ) (ps : List Part) (q : PartKey) → fin.get (replace_code code m ps) q ≡ unless_said (policy_says_of_part q code ps) (fin.get m q)
+replaced m code [] q = refl
+replaced m code (p ∷ ps) q =
+    parts_got (fin.retain_keys m (λ k. not (nat_eq k.code code))) (p ∷ ps) q ∙ ap (over (last_bytes q (p ∷ ps))) (cleared m code q) ∙ said_policy (last_bytes q (p ∷ ps)) (fin.get m q) (nat_eq q.code code)
+
+sets_said : (m : PartMap) (b : Bool) (code : ℕ) (ps : List Part) (q : PartKey)
+    → fin.get (cond b (replace_code code m ps) (put_parts m ps)) q ≡ unless_said (cond b (policy_says_of_part q code ps) (parts_say_of_part q ps)) (fin.get m q)
+sets_said m true code ps q = replaced m code ps q
+sets_said m false code ps q = parts_got m ps q ∙ said_parts (last_bytes q ps) (fin.get m q)
 
 pub said : (g : GuestOf) (c : Content) (q : PartKey) → fin.get (put_content g c).parts q ≡ unless_said (says_of_part q c) (fin.get g.parts q)
 said g Nothing q = refl
 said g (Frames es) q = refl
-said g (Parts ps) q = parts_got g.parts ps q ∙ said_parts (last_bytes q ps) (fin.get g.parts q) ps q refl
-said g (Policy code []) q = refl
-said g (Policy code (p ∷ ps)) q =
-    parts_got (fin.retain_keys g.parts (λ k. not (nat_eq k.code code))) (p ∷ ps) q ∙ ap (over (last_bytes q (p ∷ ps))) (cleared g.parts code q)
-    ∙ said_policy (last_bytes q (p ∷ ps)) (fin.get g.parts q) code p ps q refl
+said g (Sets code ps) q = sets_said g.parts (is_policy (code_number code)) (code_number code) ps q
 
 later_said : (o p : Option (Option (List ℕ))) (before : Option (List ℕ)) → unless_said o (unless_said p before) ≡ unless_said (option_or o p) before
 later_said None p before = refl

@@ -5,29 +5,27 @@ use Rattle.mig_bytes.specs.Bytes.{padding_len}
 use Rattle.mig_bytes.specs.Fields.{le32}
 use Rattle.mig_bytes.specs.Judged.{Judged, ◌>>=◌, part, tried, each}
 use Rattle.mig_bytes.specs.Judged.Judged.{Passes}
-use Rattle.mig_headers.specs.Contexts.{scan}
-use Rattle.mig_headers.specs.RecordTypes.{record_row_of, pv, type_of_number, is_optional}
+use Rattle.mig_headers.specs.RecordTypes.{record_row_of, pv, type_number, type_of_number, is_optional}
 use Rattle.mig_headers.specs.Rows.{first_fault}
 use Rattle.mig_headers.specs.declared.kind.Kind.{Kind}
 use Rattle.mig_headers.specs.declared.record_type.RecordType.{RecordType}
-use Rattle.mig_headers.specs.declared.record_type.RecordType.TheVariants.{PageData, X86TscInfo, HvmContext, HvmParams, X86CpuidPolicy, X86MsrPolicy}
-use Rattle.mig_headers.specs.declared.fault.ContextFault.{ContextFault}
+use Rattle.mig_headers.specs.declared.record_type.RecordType.TheVariants.{PageData}
 use Rattle.mig_headers.specs.declared.fault.Cause.{Cause}
-use Rattle.mig_headers.specs.declared.fault.Cause.TheVariants.{NotBuilt, BadContext, BadLength, TooManyRecords, Truncated}
+use Rattle.mig_headers.specs.declared.fault.Cause.TheVariants.{NotBuilt, BadLength, TooManyRecords, Truncated}
 use Rattle.mig_pagetypes.specs.declared.page_type.PageType.{PageType}
 use Rattle.mig_pagetypes.specs.PageTypes.{type_of, type_or_none}
 use Rattle.mig_pagetypes.specs.FrameWords.{word_type, word_pfn, word_has_data}
 use Rattle.mig_guest.specs.Guests.{GuestOf}
-use Rattle.mig_guest.specs.PartKeys.{context_key}
 use Rattle.mig_records.specs.Faults.{fault_of_long, fault_of_length, fault_of_count, fault_of_words}
 use Rattle.mig_records.specs.Words.{words, data_len_of}
 use Rattle.mig_order.specs.Order.{fault_of_type}
-use Rattle.mig_hvm.specs.Params.{fault_of_params, params_in}
-use Rattle.mig_policy.specs.Policies.{leaves_in, msrs_in, tsc_in}
+use Rattle.mig_guest.specs.declared.part_code.PartCode.{PartCode}
+use Rattle.mig_guest.specs.PartCodes.{code_of_number}
+use Rattle.mig_bodies.specs.Shapes.{fault_of_body, parts_of_body}
 use Rattle.mig_pvtables.specs.Faults.{fault_of_guest}
 use Rattle.mig_restore.specs.Mean.{mean}
 use Rattle.mig_restore.specs.Record.{Entry, StreamRecord, Content, types_of}
-use Rattle.mig_restore.specs.Record.Content.{Nothing, Frames, Parts, Policy}
+use Rattle.mig_restore.specs.Record.Content.{Nothing, Frames, Sets}
 
 -- what the headers say
 pub record Opening : Type 0 where
@@ -86,41 +84,18 @@ head_at b input = do
 
 -- ---- bodies
 
-abbrev pub fault_of_scan : Result ℕ ContextFault → Option Cause
-fault_of_scan (Ok o) = None
-fault_of_scan (Err f) = Some (BadContext f)
-
--- the chain up to its end, and 8 zero bytes
-abbrev pub cut : Result ℕ ContextFault → List ℕ → List ℕ
-cut (Ok o) body = take o body ++ replicate 8 0
-cut (Err f) body = []
-
-abbrev pub context_at : ℕ → List ℕ → Judged Cause Content
-context_at len input = do
+-- a body that sets parts of this code
+abbrev pub sets_at : PartCode → ℕ → List ℕ → Judged Cause Content
+sets_at code len input = do
   body ← part Truncated len input
-  _ ← tried (fault_of_scan (scan body.0)) body.1
-  Passes (Parts ((context_key, cut (scan body.0) body.0) ∷ [])) body.1
-
-abbrev pub params_at : ℕ → List ℕ → Judged Cause Content
-params_at len input = do
-  body ← part Truncated len input
-  _ ← tried (fault_of_params body.0) body.1
-  Passes (Parts (params_in body.0)) body.1
+  _ ← tried (fault_of_body code body.0) body.1
+  Passes (Sets code (parts_of_body code body.0)) body.1
 
 -- a body without a cause, of which this is said
 abbrev pub plain_at : (List ℕ → Content) → ℕ → List ℕ → Judged Cause Content
 plain_at says len input = do
   body ← part Truncated len input
   Passes (says body.0) body.1
-
-abbrev pub tsc_says : List ℕ → Content
-tsc_says body = Parts (tsc_in body ∷ [])
-
-abbrev pub leaves_say : List ℕ → Content
-leaves_say body = Policy 17 (leaves_in body)
-
-abbrev pub msrs_say : List ℕ → Content
-msrs_say body = Policy 18 (msrs_in body)
 
 -- ---- the body of a PAGE_DATA record
 
@@ -162,15 +137,20 @@ pages_at kind top len input = do
 
 -- ---- a record
 
--- a body of this type, in a stream of this kind with frame numbers up to top; the records that only mark a place have none
+-- the code of the parts that records of this type set, if any
+abbrev pub code_of_type : RecordType → Option PartCode
+code_of_type this = code_of_number (type_number this)
+
+-- the records that only mark a place have no body
+abbrev pub coded_at : Option PartCode → ℕ → List ℕ → Judged Cause Content
+coded_at None len input = Passes Nothing input
+coded_at (Some code) len input = sets_at code len input
+
+-- a body of this type, in a stream of this kind with frame numbers up to top
 abbrev pub typed_at : Kind → ℕ → Option RecordType → ℕ → List ℕ → Judged Cause Content
+typed_at kind top None len input = Passes Nothing input
 typed_at kind top (Some PageData) len input = pages_at kind top len input
-typed_at kind top (Some X86TscInfo) len input = plain_at tsc_says len input
-typed_at kind top (Some HvmContext) len input = context_at len input
-typed_at kind top (Some HvmParams) len input = params_at len input
-typed_at kind top (Some X86CpuidPolicy) len input = plain_at leaves_say len input
-typed_at kind top (Some X86MsrPolicy) len input = plain_at msrs_say len input
-typed_at kind top _ len input = Passes Nothing input
+typed_at kind top (Some this) len input = coded_at (code_of_type this) len input
 
 -- an optional record says nothing, whatever its body
 abbrev pub body_at : Kind → ℕ → ℕ → ℕ → List ℕ → Judged Cause Content

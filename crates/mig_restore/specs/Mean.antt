@@ -1,7 +1,7 @@
 -- What records mean: of each frame number its last entry; of each part its last content; of a policy its last body that
 -- isn't empty.
 use Rattle.std.specs.Prelude.{ℕ, List, [], ◌∷◌, ◌++◌, Bool, Option, Some, None, fold, ◌==◌, ◌&&◌, if◌then◌else◌}
-use Rattle.std.specs.Option.{option_or}
+use Rattle.std.specs.Option.{option_map, option_or}
 use Rattle.std.specs.FinMap as maps
 use Rattle.mig_headers.specs.declared.kind.Kind.{Kind}
 use Rattle.mig_headers.specs.declared.kind.Kind.TheVariants.{Pv, Hvm}
@@ -11,9 +11,12 @@ use Rattle.mig_pagetypes.specs.PageTypes.{type_has_data}
 use Rattle.mig_guest.specs.declared.part_key.PartKey.{PartKey}
 use Rattle.mig_guest.specs.Frames.{FrameMap, FrameOf, framed}
 use Rattle.mig_guest.specs.Guests.{GuestOf}
-use Rattle.mig_guest.specs.Parts.{put_parts, replace_code}
+use Rattle.mig_guest.specs.PartCodes.{code_number}
+use Rattle.mig_guest.specs.Formed.{is_policy}
+use Rattle.mig_bodies.specs.Layouts.{Part}
+use Rattle.mig_bodies.specs.Shapes.{set_parts}
 use Rattle.mig_restore.specs.Record.{Entry, StreamRecord, Content}
-use Rattle.mig_restore.specs.Record.Content.{Nothing, Frames, Parts, Policy}
+use Rattle.mig_restore.specs.Record.Content.{Nothing, Frames, Sets}
 
 -- the type that a frame has in a guest of this kind: in an HVM guest every type with data is NOTAB
 abbrev pub meant_type : Kind → PageType → PageType
@@ -30,8 +33,7 @@ put_entries kind frames es = fold (put_entry kind) frames es
 abbrev pub put_content : GuestOf → Content → GuestOf
 put_content g Nothing = g
 put_content g (Frames es) = record { kind = g.kind; top = g.top; frames = put_entries g.kind g.frames es; parts = g.parts }
-put_content g (Parts ps) = record { kind = g.kind; top = g.top; frames = g.frames; parts = put_parts g.parts ps }
-put_content g (Policy code ps) = record { kind = g.kind; top = g.top; frames = g.frames; parts = replace_code code g.parts ps }
+put_content g (Sets code ps) = record { kind = g.kind; top = g.top; frames = g.frames; parts = set_parts code g.parts ps }
 
 abbrev pub put_record : GuestOf → StreamRecord → GuestOf
 put_record g r = put_content g r.content
@@ -48,8 +50,7 @@ mean kind records = fold put_record (empty_guest kind) records
 abbrev pub entries_in : Content → List Entry
 entries_in Nothing = []
 entries_in (Frames es) = es
-entries_in (Parts ps) = []
-entries_in (Policy code ps) = []
+entries_in (Sets code ps) = []
 
 -- all entries, in stream order
 abbrev pub entries_of : List StreamRecord → List Entry
@@ -75,26 +76,24 @@ abbrev pub same_key : PartKey → PartKey → Bool
 same_key k q = (k.code == q.code) && ((k.key1 == q.key1) && (k.key2 == q.key2))
 
 -- the last bytes for a key
-abbrev pub last_bytes : PartKey → List (PartKey × List ℕ) → Option (List ℕ)
+abbrev pub last_bytes : PartKey → List Part → Option (List ℕ)
 last_bytes q [] = None
 last_bytes q (p ∷ ps) = option_or (last_bytes q ps) (if same_key p.0 q then Some p.1 else None)
 
--- a content that says something of a part: bytes for it, or, for a policy that isn't empty and has no entry of the key,
--- that there are none
+-- parts say bytes, or nothing of a part
+abbrev pub parts_say_of_part : PartKey → List Part → Option (Option (List ℕ))
+parts_say_of_part q ps = option_map Some (last_bytes q ps)
+
+-- a policy that isn't empty says bytes for a part, or of one of its code that there are none
+abbrev pub policy_says_of_part : PartKey → ℕ → List Part → Option (Option (List ℕ))
+policy_says_of_part q code [] = None
+policy_says_of_part q code (p ∷ ps) = option_or (parts_say_of_part q (p ∷ ps)) (if q.code == code then Some None else None)
+
+-- what a content says of a part
 abbrev pub says_of_part : PartKey → Content → Option (Option (List ℕ))
 says_of_part q Nothing = None
 says_of_part q (Frames es) = None
-says_of_part q (Parts ps) = said (last_bytes q ps)
-  where
-    said : Option (List ℕ) → Option (Option (List ℕ))
-    said None = None
-    said (Some bytes) = Some (Some bytes)
-says_of_part q (Policy code []) = None
-says_of_part q (Policy code (p ∷ ps)) = said_all (last_bytes q (p ∷ ps))
-  where
-    said_all : Option (List ℕ) → Option (Option (List ℕ))
-    said_all None = if q.code == code then Some None else None
-    said_all (Some bytes) = Some (Some bytes)
+says_of_part q (Sets code ps) = if is_policy (code_number code) then policy_says_of_part q (code_number code) ps else parts_say_of_part q ps
 
 -- the last content that says something of a part
 abbrev pub last_said : PartKey → List StreamRecord → Option (Option (List ℕ))

@@ -3,7 +3,8 @@ use Rattle.std.specs.Prelude.{ℕ, List, map, Option}
 use Rattle.std.specs.List.{list_any}
 use Rattle.std.specs.Prelude.{Bool, ◌==◌}
 use Rattle.mig_pagetypes.specs.declared.page_type.PageType.{PageType}
-use Rattle.mig_guest.specs.declared.part_key.PartKey.{PartKey}
+use Rattle.mig_guest.specs.declared.part_code.PartCode.{PartCode}
+use Rattle.mig_bodies.specs.Layouts.{Part}
 
 -- an entry of a PAGE_DATA record: a frame number and a type, and the page where the type has data
 pub record Entry : Type 0 where
@@ -11,12 +12,11 @@ pub record Entry : Type 0 where
   pub type : PageType
   pub page : Option (List ℕ)
 
--- what a record says: nothing; frames; parts, of each key the last; or all entries of a policy, which is a part's code
+-- what a record says: nothing; frames; or parts of one code, of each key the last
 pub data Content : Type 0 where
   Nothing : Content
   Frames : List Entry → Content
-  Parts : List (PartKey × List ℕ) → Content
-  Policy : ℕ → List (PartKey × List ℕ) → Content
+  Sets : PartCode → List Part → Content
 
 pub record StreamRecord : Type 0 where
   pub type : ℕ

@@ -3,7 +3,6 @@ use Rattle.std.specs.Prelude.{◌≡◌, ℕ, ◌*◌, ◌≤◌, ◌<◌, ◌^�
 use Rattle.std.specs.List.{All}
 use Rattle.std.specs.FinMap as maps
 use Rattle.mig_bytes.specs.Fields.{le32}
-use Rattle.mig_headers.specs.Contexts.{scan}
 use Rattle.mig_headers.specs.Headers.{IsImageHeader, IsDomainHeader}
 use Rattle.mig_headers.specs.declared.kind.Kind.{Kind}
 use Rattle.mig_pagetypes.specs.FrameWords.{word_pfn, word_has_data}
@@ -13,13 +12,16 @@ use Rattle.mig_guest.specs.PartKeys.{tsc_key, context_key}
 use Rattle.mig_records.specs.Records.{IsRecord}
 use Rattle.mig_records.specs.Words.{words, has_reserved_type, names_outside}
 use Rattle.mig_order.specs.Order.{IsInOrder}
-use Rattle.mig_hvm.specs.Params.{IsParams}
-use Rattle.mig_policy.specs.Policies.{AreLeaves, AreMsrs}
+use Rattle.mig_headers.specs.RecordTypes.{record_row_of, type_number}
+use Rattle.mig_headers.specs.declared.record_type.RecordType.{RecordType}
+use Rattle.mig_guest.specs.declared.part_code.PartCode.{PartCode}
+use Rattle.mig_bodies.specs.Layouts.{Part}
+use Rattle.mig_bodies.specs.Shapes.{IsBody}
 use Rattle.mig_guest.specs.Frames.{IsFew}
-use Rattle.mig_restore.specs.Judging.{Opening, most_records, is_built, type_in_word}
+use Rattle.mig_restore.specs.Judging.{Opening, most_records, is_built, type_in_word, code_of_type}
 use Rattle.mig_restore.specs.Mean.{mean}
 use Rattle.mig_restore.specs.Record.{StreamRecord, Entry, Content, types_of, is_ended}
-use Rattle.mig_restore.specs.Record.Content.{Nothing, Frames, Parts, Policy}
+use Rattle.mig_restore.specs.Record.Content.{Nothing, Frames, Sets}
 
 -- ---- PAGE_DATA
 
@@ -62,12 +64,8 @@ pub data HasContent (kind : Kind) (top : ℕ) : ℕ → List ℕ → Content →
   optional : (type : ℕ) (body : List ℕ) → 2 ^ 31 ≤ type → HasContent kind top type body Nothing
   ends : HasContent kind top 0 [] Nothing
   pages : (body : List ℕ) (es : List Entry) → IsBatch kind top body es → HasContent kind top 1 body (Frames es)
-  tsc : (body : List ℕ) → length body ≡ 24 → HasContent kind top 8 body (Parts ((tsc_key, take 20 body) ∷ []))
-  context : (body : List ℕ) (o : ℕ) → scan body ≡ Ok o → HasContent kind top 9 body (Parts ((context_key, take o body ++ replicate 8 0) ∷ []))
-  params : (body : List ℕ) (ps : List (PartKey × List ℕ)) → IsParams body ps → HasContent kind top 0xA body (Parts ps)
+  sets : (this : RecordType) (code : PartCode) (body : List ℕ) (ps : List Part) → code_of_type this ≡ Some code → (record_row_of this).allows (length body) ≡ true → IsBody code body ps → HasContent kind top (type_number this) body (Sets code ps)
   static_end : HasContent kind top 0x10 [] Nothing
-  leaves : (body : List ℕ) (ps : List (PartKey × List ℕ)) → AreLeaves body ps → length ps ≤ 65536 → HasContent kind top 0x11 body (Policy 17 ps)
-  msrs : (body : List ℕ) (ps : List (PartKey × List ℕ)) → AreMsrs body ps → length ps ≤ 65536 → HasContent kind top 0x12 body (Policy 18 ps)
 
 -- what END asks of the guest: its context, and not too many frames
 pub record IsComplete (g : GuestOf) : Type 0 where

@@ -1,122 +1,80 @@
-ghost use Rattle.std.specs.Prelude.{◌≡◌, ◌≤◌, ◌^◌, ◌*◌, IfOk, OnOk, IsErrOf, length, vec_len, true, None, Some, ◌%◌};
-ghost use Rattle.std.specs.List.{All};
+ghost use Rattle.std.specs.Prelude.{◌≡◌, ◌≤◌, ◌^◌, ◌*◌, IfOk, OnOk, IsErrOf, length, vec_len, true, false, None, Some};
+ghost use Rattle.std.specs.List.{All, AllByRecursion};
 ghost use Rattle.mig_bytes.specs.Faults.{RisesOnReadFault};
 ghost use Rattle.mig_bytes.specs.Judged.{Gives, each};
 ghost use Rattle.mig_bytes.specs.declared.part.Stop.TheVariants.{Memory};
-ghost use Rattle.mig_headers.specs.RecordTypes.{record_row_of};
+ghost use Rattle.mig_headers.specs.RecordTypes.{record_row_of, type_of_number};
+ghost use Rattle.mig_headers.specs.declared.record_type.RecordType.{RecordType};
+ghost use Rattle.mig_guest.specs.PartCodes.{row_of, code_number};
+ghost use Rattle.mig_guest.specs.Formed.{is_emulator_code};
+ghost use Rattle.mig_bodies.specs.Layouts.{IsSmallKey};
+ghost use Rattle.mig_bodies.specs.Shapes.{fault_of_body, parts_of_body, set_parts, HasBodyLength};
 ghost use Rattle.mig_records.specs.Faults.{fault_of_length};
 ghost use Rattle.mig_records.specs.Words.{words as words_in};
 ghost use Rattle.mig_pagetypes.specs.FrameWords.{word_pfn};
 ghost use Rattle.mig_restore.specs.Mean.{meant_type, put_entry, put_entries, put_content};
-ghost use Rattle.mig_restore.specs.Judging.{context_at, params_at, plain_at, tsc_says, leaves_say, msrs_say, words_at, type_in_word, entry_at, pages_at, typed_at, body_at};
+ghost use Rattle.mig_restore.specs.Judging.{sets_at, plain_at, words_at, type_in_word, entry_at, pages_at, typed_at, body_at};
 ghost use Rattle.mig_restore.specs.Record.Content.{Nothing};
 ghost use Rattle.mig_restore.specs.Grows.{Grows};
 ghost use Rattle.mig_restore.specs.Spelled.{IsGoodWord};
 
+use mig_bodies::{body_fault, read_body};
 use mig_bytes::{ReadFailed, Source, Stop, skip, take_long, take_part, u32_le, u64_le};
-use mig_guest::Guest;
+use mig_guest::{Guest, PartCode};
 use mig_headers::{Cause, Kind, RecordType, is_optional};
-use mig_hvm::{params_fault, read_context, read_params, scan_context};
+use mig_hvm::{read_context, scan_context};
 use mig_pagetypes::{PageType, decode_word};
-use mig_policy::{read_cpuid, read_msr, read_tsc};
 use mig_records::{RecordHead, count_fault, data_len, words_fault};
 use std::alloc::{AllocError, Global};
 
 // ---- parts
 
-/// Takes an HVM context, and keeps it up to the entry that ends it.
-fn take_context<S: Source>(
-    alloc: Global,
-    src: &mut S,
-    len: u32,
-    guest: &mut Guest,
-) -> Result<(), Stop<Cause>>
-    requires { len ≤ 2 ^ 27 }
-    ensures read { Gives (λ _ c. guest.new ≡ put_content guest.old c) (S.left src.old) (S.left src.new) (context_at len) result }
-    ensures grown { OnOk result (Grows guest.old guest.new) }
-    ensures faults { RisesOnReadFault (S.faults src.old) (S.faults src.new) result }
+/// What is wrong with a body that sets parts of this code.
+fn sets_fault(code: PartCode, body: &[u8]) -> Option<Cause>
+    ensures { result ≡ fault_of_body code body.now }
 {
-    let body = take_long(alloc, src, len, Cause::Truncated)?;
-    if let Err(fault) = scan_context(&body) {
-        return Err(Stop::Refused(Cause::BadContext(fault)));
-    }
-    match read_context(guest, &body) {
-        Ok(()) => Ok(()),
-        Err(_) => Err(Stop::Memory),
+    match code {
+        PartCode::HvmContext => match scan_context(body) {
+            Ok(_) => None,
+            Err(fault) => Some(Cause::BadContext(fault)),
+        },
+        _ => body_fault(code, body),
     }
 }
 
-/// Takes HVM parameters.
-fn take_params<S: Source>(
+/// Sets the parts of a body without fault.
+fn set_parts(guest: &mut Guest, code: PartCode, body: &[u8]) -> Result<(), mig_bytes::Memory>
+    requires { fault_of_body code body.now ≡ None }
+    ensures ok { OnOk result (guest.new ≡ record guest.old { parts = set_parts code guest.old.parts (parts_of_body code body.now) }) }
+    ensures small { AllByRecursion (λ p. IsSmallKey p.0) (parts_of_body code body.now) }
+{
+    match code {
+        PartCode::HvmContext => read_context(guest, body),
+        _ => read_body(guest, code, body),
+    }
+}
+
+/// Takes a body that sets parts of this code.
+fn take_sets<S: Source>(
     alloc: Global,
     src: &mut S,
+    code: PartCode,
     len: u32,
     guest: &mut Guest,
 ) -> Result<(), Stop<Cause>>
-    requires { 8 ≤ len }
-    ensures read { Gives (λ _ c. guest.new ≡ put_content guest.old c) (S.left src.old) (S.left src.new) (params_at len) result }
+    requires small { len ≤ 2 ^ 27 }
+    requires allowed { HasBodyLength code len }
+    requires of_kind { (row_of code).of_kind guest.old.kind ≡ true }
+    requires no_emulator { is_emulator_code (code_number code) ≡ false }
+    ensures read { Gives (λ _ c. guest.new ≡ put_content guest.old c) (S.left src.old) (S.left src.new) (sets_at code len) result }
     ensures grown { OnOk result (Grows guest.old guest.new) }
     ensures faults { RisesOnReadFault (S.faults src.old) (S.faults src.new) result }
 {
     let body = take_long(alloc, src, len, Cause::Truncated)?;
-    if let Some(cause) = params_fault(&body) {
+    if let Some(cause) = sets_fault(code, &body) {
         return Err(Stop::Refused(cause));
     }
-    match read_params(guest, &body) {
-        Ok(()) => Ok(()),
-        Err(_) => Err(Stop::Memory),
-    }
-}
-
-/// Takes the TSC.
-fn take_tsc<S: Source>(src: &mut S, guest: &mut Guest) -> Result<(), Stop<Cause>>
-    ensures read { Gives (λ _ c. guest.new ≡ put_content guest.old c) (S.left src.old) (S.left src.new) (plain_at tsc_says 24) result }
-    ensures grown { OnOk result (Grows guest.old guest.new) }
-    ensures faults { RisesOnReadFault (S.faults src.old) (S.faults src.new) result }
-{
-    let mut body = [0; 24];
-    take_part(src, &mut body, Cause::Truncated)?;
-    match read_tsc(guest, &body) {
-        Ok(()) => Ok(()),
-        Err(_) => Err(Stop::Memory),
-    }
-}
-
-/// Takes a CPUID policy.
-fn take_cpuid<S: Source>(
-    alloc: Global,
-    src: &mut S,
-    len: u32,
-    guest: &mut Guest,
-) -> Result<(), Stop<Cause>>
-    requires whole { len % 24 ≡ 0 }
-    requires few { len ≤ 24 * 65536 }
-    ensures read { Gives (λ _ c. guest.new ≡ put_content guest.old c) (S.left src.old) (S.left src.new) (plain_at leaves_say len) result }
-    ensures grown { OnOk result (Grows guest.old guest.new) }
-    ensures faults { RisesOnReadFault (S.faults src.old) (S.faults src.new) result }
-{
-    let body = take_long(alloc, src, len, Cause::Truncated)?;
-    match read_cpuid(guest, &body) {
-        Ok(()) => Ok(()),
-        Err(_) => Err(Stop::Memory),
-    }
-}
-
-/// Takes an MSR policy.
-fn take_msr<S: Source>(
-    alloc: Global,
-    src: &mut S,
-    len: u32,
-    guest: &mut Guest,
-) -> Result<(), Stop<Cause>>
-    requires whole { len % 16 ≡ 0 }
-    requires few { len ≤ 16 * 65536 }
-    ensures read { Gives (λ _ c. guest.new ≡ put_content guest.old c) (S.left src.old) (S.left src.new) (plain_at msrs_say len) result }
-    ensures grown { OnOk result (Grows guest.old guest.new) }
-    ensures faults { RisesOnReadFault (S.faults src.old) (S.faults src.new) result }
-{
-    let body = take_long(alloc, src, len, Cause::Truncated)?;
-    match read_msr(guest, &body) {
+    match set_parts(guest, code, &body) {
         Ok(()) => Ok(()),
         Err(_) => Err(Stop::Memory),
     }
@@ -275,18 +233,17 @@ fn take_typed<S: Source>(
 ) -> Result<(), Stop<Cause>>
     requires small { len ≤ 2 ^ 27 }
     requires allowed { (record_row_of this).allows len ≡ true }
+    requires of_kind { (record_row_of this).of_kind guest.old.kind ≡ true }
     ensures read { Gives (λ _ c. guest.new ≡ put_content guest.old c) (S.left src.old) (S.left src.new) (typed_at guest.old.kind guest.old.top (Some this) len) result }
     ensures grown { OnOk result (Grows guest.old guest.new) }
     ensures faults { RisesOnReadFault (S.faults src.old) (S.faults src.new) result }
 {
     match this {
         RecordType::PageData => take_pages(alloc, src, len, guest),
-        RecordType::X86TscInfo => take_tsc(src, guest),
-        RecordType::HvmContext => take_context(alloc, src, len, guest),
-        RecordType::HvmParams => take_params(alloc, src, len, guest),
-        RecordType::X86CpuidPolicy => take_cpuid(alloc, src, len, guest),
-        RecordType::X86MsrPolicy => take_msr(alloc, src, len, guest),
-        _ => Ok(()),
+        _ => match PartCode::from_number(this.number()) {
+            Some(code) => take_sets(alloc, src, code, len, guest),
+            None => Ok(()),
+        },
     }
 }
 
@@ -299,6 +256,7 @@ pub(crate) fn take_body<S: Source>(
 ) -> Result<(), Stop<Cause>>
     requires small { head.len ≤ 2 ^ 27 }
     requires allowed { fault_of_length head.kind head.len ≡ None }
+    requires of_kind { (this : RecordType) → type_of_number head.kind ≡ Some this → (record_row_of this).of_kind guest.old.kind ≡ true }
     ensures read { Gives (λ _ c. guest.new ≡ put_content guest.old c) (S.left src.old) (S.left src.new) (body_at guest.old.kind guest.old.top head.kind head.len) result }
     ensures grown { OnOk result (Grows guest.old guest.new) }
     ensures faults { RisesOnReadFault (S.faults src.old) (S.faults src.new) result }

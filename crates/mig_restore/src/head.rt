@@ -1,9 +1,10 @@
-ghost use Rattle.std.specs.Prelude.{◌≡◌, ◌≤◌, ◌<◌, ◌^◌, ◌∷◌, [], ◌++◌, List, ℕ, ◌+◌, length, true, IfNone, IfOk, OnOk, IfNone as OnNone, None, IsErrOf};
+ghost use Rattle.std.specs.Prelude.{◌≡◌, ◌≤◌, ◌<◌, ◌^◌, ◌∷◌, [], ◌++◌, List, ℕ, ◌+◌, length, true, IfNone, IfOk, OnOk, IfNone as OnNone, None, Some, IsErrOf};
 ghost use Rattle.mig_bytes.specs.Faults.{RisesOnReadFault};
 ghost use Rattle.mig_bytes.specs.Judged.{Gives};
 ghost use Rattle.mig_bytes.specs.declared.part.Stop.TheVariants.{Memory};
 ghost use Rattle.mig_headers.specs.Headers.{unless_faulty};
-ghost use Rattle.mig_headers.specs.RecordTypes.{type_of_number};
+ghost use Rattle.mig_headers.specs.RecordTypes.{record_row_of, type_of_number};
+ghost use Rattle.mig_headers.specs.declared.record_type.RecordType.{RecordType};
 ghost use Rattle.mig_records.specs.Faults.{fault_of_length};
 ghost use Rattle.mig_records.specs.Heads.{head_in};
 ghost use Rattle.mig_restore.specs.Judging.{Opening, Before, most_records, opening_of, is_supported_type, is_built, fault_of_built, fault_of_number, fault_of_fields, head_at};
@@ -22,6 +23,7 @@ pub(crate) struct Seen {
     pub(crate) records: u32,
     pub(crate) kind: Kind,
     pub(crate) gate: Gate,
+    ghost same_kind: { gate.kind ≡ kind },
 }
 
 /// Whether a type has a row in the table of record types, and is read in some stream.
@@ -85,6 +87,7 @@ impl Seen {
         ensures allowed { OnOk result (fault_of_length head.kind head.len ≡ None) }
         ensures count { OnOk result ((self.new.records ≡ self.old.records + 1) × (self.old.records < most_records)) }
         ensures built { OnOk result (is_built self.old.kind head.kind ≡ true) }
+        ensures of_kind { OnOk result ((this : RecordType) → type_of_number head.kind ≡ Some this → (record_row_of this).of_kind self.old.kind ≡ true) }
         ensures kind { self.new.kind ≡ self.old.kind }
     {
         if let Some(cause) = built_fault(self.kind, head.kind) {
@@ -115,6 +118,7 @@ impl Seen {
         ensures allowed { IfOk result (λ h. fault_of_length h.kind h.len ≡ None) }
         ensures count { OnOk result ((self.new.records ≡ self.old.records + 1) × (self.old.records < most_records)) }
         ensures built { IfOk result (λ h. is_built self.old.kind h.kind ≡ true) }
+        ensures of_kind { IfOk result (λ h. (this : RecordType) → type_of_number h.kind ≡ Some this → (record_row_of this).of_kind self.old.kind ≡ true) }
         ensures kind { self.new.kind ≡ self.old.kind }
         ensures faults { RisesOnReadFault (S.faults src.old) (S.faults src.new) result }
         ensures takes_no_memory { ¬ IsErrOf result Memory }

@@ -74,6 +74,7 @@ fn take_record<S: Source>(
     seen: &mut Seen,
     guest: &mut Guest,
 ) -> Result<u32, Stop<Cause>>
+    requires { seen.old.kind ≡ guest.old.kind }
     ensures read { (b : Before) → IsSeen seen.old b.opening b.types → guest.old.kind ≡ b.opening.kind → guest.old.top ≡ b.top →
         Gives (λ type r. (guest.new ≡ put_record guest.old r) × (type ≡ r.type)) (S.left src.old) (S.left src.new) (record_at b) result }
     ensures seen { IfOk result (λ type. (o : Opening) (types : List ℕ) → IsSeen seen.old o types → IsSeen seen.new o (types ++ type ∷ [])) }

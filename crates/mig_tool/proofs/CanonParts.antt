@@ -1,7 +1,7 @@
 -- The bodies of a whole guest's parts say these parts.
-use Rattle.std.proofs.Common.{◌≡◌, ℕ, ◌+◌, ◌*◌, ◌≤◌, ◌<◌, ◌^◌, List, [], ◌∷◌, ◌++◌, length, take, replicate, true, Some, refl, sym, ap, subst, ◌∙◌, arith, length-append}
-use Rattle.std.specs.Prelude.{T, ◌==◌}
-use Rattle.std.proofs.lemmas.Bool.{eqb-true}
+use Rattle.std.proofs.Common.{◌≡◌, ℕ, ◌+◌, ◌*◌, ◌≤◌, ◌<◌, ◌^◌, ◌%◌, Bool, List, [], ◌∷◌, ◌++◌, length, take, replicate, true, false, Some, refl, sym, ap, subst, ◌∙◌, arith, length-append, append-nil}
+use Rattle.std.specs.Prelude.{T, ◌==◌, ◌&&◌}
+use Rattle.std.proofs.lemmas.Bool.{eqb-true, eq-eqb, le-leb}
 use Rattle.std.proofs.lemmas.List.{take_at}
 use Rattle.std.proofs.lemmas.List.Elements.{All-nil, All-cons, All-head, All-tail, All-filter, filter_passes}
 use Rattle.std.specs.List.{All, flat_map}
@@ -12,9 +12,9 @@ use Rattle.std.proofs.lemmas.Grind.{common_steps}
 use Rattle.std.specs.FinMap as maps
 use Rattle.std.specs.FinMap.{is_sorted}
 use Rattle.std.specs.FinMap.Entries.{below_all, is_sorted-where_key}
-use Rattle.byteorder.specs.Endian.{little_bytes}
+use Rattle.byteorder.specs.Endian.{little_number, little_bytes}
 use Rattle.byteorder.specs.Numbers.{little_number-reads_back}
-use Rattle.mig_bytes.specs.Fields.{le32, le64}
+use Rattle.mig_bytes.specs.Fields.{le32}
 use Rattle.mig_headers.specs.declared.kind.Kind.TheVariants.{Hvm}
 use Rattle.mig_guest.specs.declared.part_key.PartKey.{PartKey}
 use Rattle.mig_guest.specs.Guests.{GuestOf}
@@ -22,15 +22,18 @@ use Rattle.mig_guest.specs.Order.{part_cmp}
 use Rattle.mig_guest.specs.PartKeys.{tsc_key, context_key, param_key, leaf_key, msr_key}
 use Rattle.mig_guest.proofs.PartOrder.{part_total, part_exact}
 use Rattle.mig_guest.proofs.PartCursor.{both_of, not_itself}
-use Rattle.mig_hvm.specs.Params.{ArePairs}
-use Rattle.mig_policy.specs.Policies.{AreLeaves, AreMsrs}
+use Rattle.mig_headers.specs.declared.record_type.RecordType.TheVariants as types
+use Rattle.mig_guest.specs.declared.part_code.PartCode.TheVariants.{Tsc, HvmContext, HvmParam, CpuidLeaf, Msr}
+use Rattle.mig_bodies.specs.Layouts.{layout, AreTableEntries}
+use Rattle.mig_bodies.specs.Shapes.{IsBody}
+use Rattle.mig_bodies.proofs.Rows.{small_passes}
 use Rattle.mig_guest.specs.Formed.{IsFormed}
 use Rattle.mig_guest.proofs.CodeParts.{IsHeld, parts_are, held_tsc, held_context, held_param, held_leaf, held_msr, few_params}
 use Rattle.mig_canon.specs.Canon.{Part, of_code, leaves_body, msrs_body, params_body, param_bytes, tsc_body}
 use Rattle.mig_restore.specs.Record.{Content}
-use Rattle.mig_restore.specs.Record.Content.{Parts, Policy}
+use Rattle.mig_restore.specs.Record.Content.{Sets}
 use Rattle.mig_restore.specs.Spelled.{HasContent}
-use Rattle.mig_restore.specs.Spelled.HasContent.{leaves as leaves_say, msrs as msrs_say, params as params_say, tsc as tsc_says, context as context_says}
+use Rattle.mig_restore.specs.Spelled.HasContent.{sets}
 
 -- ---- fields read back
 
@@ -42,43 +45,32 @@ pub le32_second : (n m : ℕ) → m < 2 ^ 32 → le32 (little_bytes 4 n ++ littl
 unfolding le32
 le32_second n m small = little_number-reads_back 4 m [] small
 
-le32_only : (n : ℕ) → n < 2 ^ 32 → le32 (little_bytes 4 n) 0 ≡ n
-unfolding le32
-le32_only n small = little_number-reads_back 4 n [] small
-
-le64_only : (n : ℕ) → n < 2 ^ 64 → le64 (little_bytes 8 n) 0 ≡ n
-unfolding le64
-le64_only n small = little_number-reads_back 8 n [] small
+reads_back : (n x : ℕ) → x < 256 ^ n → little_number n (little_bytes n x) ≡ x
+reads_back n x small = ap (little_number n) (sym (append-nil (little_bytes n x))) ∙ little_number-reads_back n x [] small
 
 -- ---- entries
 
 module _ (g : GuestOf) where
-  are_leaves : (ps : List Part) → All (IsHeld g 17) ps → AreLeaves (leaves_body ps) ps
+  are_leaves : (ps : List Part) → All (IsHeld g 17) ps → AreTableEntries CpuidLeaf (layout false 4 4 16) (leaves_body ps) ps
   are_leaves [] h = refl
   are_leaves (p ∷ ps) h =
       let one = All-head (IsHeld g 17) p ps h in let l = held_leaf g p one in
-      let key : List ℕ = little_bytes 4 p.0.key1 ++ little_bytes 4 p.0.key2 in (
-        key,
-        leaves_body ps,
-        refl,
-        refl,
-        l.1,
-        l.0 ∙ ap (λ n. leaf_key n p.0.key2) (sym (le32_first p.0.key1 (little_bytes 4 p.0.key2) one.part.small1)) ∙ ap (leaf_key (le32 key 0)) (sym (le32_second p.0.key1 p.0.key2 one.part.small2)),
-        are_leaves ps (All-tail (IsHeld g 17) p ps h),
-      )
+      let key1 = reads_back 4 p.0.key1 one.part.small1 in let key2 = reads_back 4 p.0.key2 one.part.small2 in
+      (little_bytes 4 p.0.key1, little_bytes 4 p.0.key2, leaves_body ps, refl, refl, refl, l.1, (λ i. record { code = one.code_is i; key1 = sym key1 i; key2 = sym key2 i }), refl, are_leaves ps (All-tail (IsHeld g 17) p ps h))
 
-  are_msrs : (ps : List Part) → All (IsHeld g 18) ps → AreMsrs (msrs_body ps) ps
+  are_msrs : (ps : List Part) → All (IsHeld g 18) ps → AreTableEntries Msr (layout false 4 0 12) (msrs_body ps) ps
   are_msrs [] h = refl
   are_msrs (p ∷ ps) h =
       let one = All-head (IsHeld g 18) p ps h in let l = held_msr g p one in
-      (little_bytes 4 p.0.key1, msrs_body ps, refl, refl, l.1, l.0 ∙ ap msr_key (sym (le32_only p.0.key1 one.part.small1)), are_msrs ps (All-tail (IsHeld g 18) p ps h))
+      (little_bytes 4 p.0.key1, [], msrs_body ps, refl, refl, refl, l.1, l.0 ∙ ap msr_key (sym (reads_back 4 p.0.key1 one.part.small1)), refl, are_msrs ps (All-tail (IsHeld g 18) p ps h))
 
-  are_pairs : (ps : List Part) → All (IsHeld g 10) ps → ArePairs (flat_map param_bytes ps) ps
+  are_pairs : (ps : List Part) → All (IsHeld g 10) ps → AreTableEntries HvmParam (layout true 8 0 8) (flat_map param_bytes ps) ps
   are_pairs [] h = refl
   are_pairs (p ∷ ps) h =
       let one = All-head (IsHeld g 10) p ps h in let l = held_param g p one in
-      let read = le64_only p.0.key1 (omega (arith, l.0)) in
-      (little_bytes 8 p.0.key1, flat_map param_bytes ps, refl, refl, l.2, subst (λ n. n < 4096) (sym read) l.0, l.1 ∙ ap param_key (sym read), are_pairs ps (All-tail (IsHeld g 10) p ps h))
+      let none : p.0.key2 ≡ 0 = ap (λ (k : PartKey). k.key2) l.1 in
+      let key1 = reads_back 8 p.0.key1 (omega (arith, l.0)) in
+      (little_bytes 8 p.0.key1, [], flat_map param_bytes ps, refl, refl, refl, l.2, l.1 ∙ ap param_key (sym key1), small_passes p.0.key1 p.0.key2 _ l.0 none, are_pairs ps (All-tail (IsHeld g 10) p ps h))
 
   leaves_len : (ps : List Part) → All (IsHeld g 17) ps → length (leaves_body ps) ≡ 24 * length ps
   leaves_len [] h = refl
@@ -109,49 +101,63 @@ pub record Fits (type : ℕ) (body : List ℕ) (c : Content) : Type 0 where
   pub short : length body ≤ 2 ^ 27
 
 module _ (g : GuestOf) (formed : IsFormed g) where
-  pub leaves_fit : Fits 0x11 (leaves_body (of_code 17 g)) (Policy 17 (of_code 17 g))
+  both_hold : (a b : Bool) → a ≡ true → b ≡ true → (a && b) ≡ true
+  both_hold a b e f = rw (e, f) refl
+
+  pub leaves_fit : Fits 0x11 (leaves_body (of_code 17 g)) (Sets CpuidLeaf (of_code 17 g))
   leaves_fit =
-      let ps = of_code 17 g in let all = parts_are g 17 formed in
-      record { says = λ top. leaves_say (leaves_body ps) ps (are_leaves g ps all) (formed.policies 17 refl); short = omega (arith, leaves_len g ps all, formed.policies 17 refl) }
+      let ps = of_code 17 g in let all = parts_are g 17 formed in let body = leaves_body ps in
+      let size = leaves_len g ps all in let few = formed.policies 17 refl in
+      let allowed = both_hold _ _ (eq-eqb (length body % 24) 0 (omega (arith, size))) (le-leb (length body) (2 ^ 16 * 24) (omega (arith, size, few))) in
+      record { says = λ top. sets types.X86CpuidPolicy CpuidLeaf body ps refl allowed (record { front = []; bytes = body; whole = refl; counted = refl; each = are_leaves g ps all }); short = omega (arith, size, few) }
 
-  pub msrs_fit : Fits 0x12 (msrs_body (of_code 18 g)) (Policy 18 (of_code 18 g))
+  pub msrs_fit : Fits 0x12 (msrs_body (of_code 18 g)) (Sets Msr (of_code 18 g))
   msrs_fit =
-      let ps = of_code 18 g in let all = parts_are g 18 formed in
-      record { says = λ top. msrs_say (msrs_body ps) ps (are_msrs g ps all) (formed.policies 18 refl); short = omega (arith, msrs_len g ps all, formed.policies 18 refl) }
+      let ps = of_code 18 g in let all = parts_are g 18 formed in let body = msrs_body ps in
+      let size = msrs_len g ps all in let few = formed.policies 18 refl in
+      let allowed = both_hold _ _ (eq-eqb (length body % 16) 0 (omega (arith, size))) (le-leb (length body) (2 ^ 16 * 16) (omega (arith, size, few))) in
+      record { says = λ top. sets types.X86MsrPolicy Msr body ps refl allowed (record { front = []; bytes = body; whole = refl; counted = refl; each = are_msrs g ps all }); short = omega (arith, size, few) }
 
-  pub params_fit : Fits 0xA (params_body (of_code 10 g)) (Parts (of_code 10 g))
+  pub params_fit : Fits 0xA (params_body (of_code 10 g)) (Sets HvmParam (of_code 10 g))
   params_fit =
       let ps = of_code 10 g in let all = parts_are g 10 formed in
       let few : length ps ≤ 4096 = few_params g formed in
       let size : length (params_body ps) ≡ 8 + length (flat_map param_bytes ps) = length-append (little_bytes 4 (length ps) ++ replicate 4 0) (flat_map param_bytes ps) in
       record {
-        says = λ top. params_say (params_body ps) ps (record {
+        says = λ top. sets types.HvmParams HvmParam (params_body ps) ps refl (le-leb 8 (length (params_body ps)) (omega (arith, size))) (record {
           front = little_bytes 4 (length ps) ++ replicate 4 0;
-          pairs = flat_map param_bytes ps;
+          bytes = flat_map param_bytes ps;
           whole = refl;
-          front_len = refl;
-          count_is = le32_first (length ps) (replicate 4 0) (omega (arith, few));
+          counted = (refl, le32_first (length ps) (replicate 4 0) (omega (arith, few)));
           each = are_pairs g ps all;
         });
         short = omega (arith, size, pairs_len g ps all, few);
       }
 
-  pub tsc_fits : (p : Part) → IsHeld g 8 p → Fits 8 (tsc_body p) (Parts (p ∷ []))
+  pub tsc_fits : (p : Part) → IsHeld g 8 p → Fits 8 (tsc_body p) (Sets Tsc (p ∷ []))
   tsc_fits p one =
       let t = held_tsc g p one in
       let size : length (tsc_body p) ≡ 24 = omega (arith, length-append p.1 (replicate 4 0), t.1) in
-      let front : take 20 (tsc_body p) ≡ p.1 = take_at p.1 (replicate 4 0) 20 t.1 in
       record {
-        says = λ top. subst (λ (k : PartKey). HasContent Hvm top 8 (tsc_body p) (Parts ((k, p.1) ∷ []))) (sym t.0)
-            (subst (λ (v : List ℕ). HasContent Hvm top 8 (tsc_body p) (Parts ((tsc_key, v) ∷ []))) front (tsc_says (tsc_body p) size));
+        says = λ top. sets types.X86TscInfo Tsc (tsc_body p) (p ∷ []) refl (eq-eqb (length (tsc_body p)) 24 size) (record {
+          bytes = p.1;
+          behind = replicate 4 0;
+          whole = refl;
+          bytes_len = t.1;
+          behind_len = refl;
+          says = ap (λ (k : PartKey). (k, p.1) ∷ []) t.0;
+        });
         short = omega (arith, size);
       }
 
-  pub context_fits : (p : Part) → IsHeld g 9 p → Fits 9 p.1 (Parts (p ∷ []))
+  pub context_fits : (p : Part) → IsHeld g 9 p → Fits 9 p.1 (Sets HvmContext (p ∷ []))
   context_fits p one =
       let t = held_context g p one in let cut = t.2 in
       record {
-        says = λ top. subst (λ (k : PartKey). HasContent Hvm top 9 p.1 (Parts ((k, p.1) ∷ []))) (sym t.0)
-            (subst (λ (v : List ℕ). HasContent Hvm top 9 p.1 (Parts ((context_key, v) ∷ []))) cut.2 (context_says p.1 cut.0 cut.1));
+        says = λ top. sets types.HvmContext HvmContext p.1 (p ∷ []) refl refl (record {
+          end = cut.0;
+          scanned = cut.1;
+          says = ap (λ (k : PartKey). (k, p.1) ∷ []) t.0 ∙ ap (λ (v : List ℕ). (context_key, v) ∷ []) (sym cut.2);
+        });
         short = t.1;
       }

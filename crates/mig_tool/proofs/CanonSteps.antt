@@ -16,13 +16,15 @@ use Rattle.mig_headers.specs.declared.record_type.RecordType.{RecordType}
 use Rattle.mig_headers.specs.declared.record_type.RecordType.TheVariants.{StaticDataEnd, X86PvInfo, X86PvP2mFrames}
 use Rattle.mig_guest.specs.Frames.{FrameMap}
 use Rattle.mig_guest.specs.Guests.{GuestOf}
-use Rattle.mig_guest.specs.Parts.{PartMap}
+use Rattle.mig_guest.specs.declared.part_code.PartCode.{PartCode}
+use Rattle.mig_guest.specs.Parts.{PartMap, put_parts}
+use Rattle.mig_bodies.specs.Shapes.{set_parts}
 use Rattle.mig_records.specs.Records.{IsRecord, head_of, spelled}
 use Rattle.mig_order.specs.Order.{Earlier, some_earlier, among, content_records, vcpu_records, fault_after, fault_of_type}
 use Rattle.mig_order.proofs.OrderLaw.{faultless_is_in_order}
 use Rattle.mig_canon.specs.Canon.{Frame, Part, Record, batch, batches, body_of, frame_bodies, where_some, text_of}
 use Rattle.mig_restore.specs.Record.{StreamRecord, Content, types_of, is_ended}
-use Rattle.mig_restore.specs.Record.Content.{Parts}
+use Rattle.mig_restore.specs.Record.Content.{Sets}
 use Rattle.mig_restore.specs.Judging.{Opening, is_built}
 use Rattle.mig_restore.specs.Mean.{mean, put_content, put_entry, put_entries}
 use Rattle.mig_restore.specs.Spelled.{IsComplete, Follows, Spells}
@@ -178,15 +180,25 @@ maybe [] bodies g settled most type body c s step fits room other none =
     subst (λ h. State (bodies ++ []) h settled (most + 1)) (sym (none refl)) (subst (λ l. State l g settled (most + 1)) (sym (append-nil bodies)) (looser s (most + 1) (omega arith)))
 maybe (p ∷ ps) bodies g settled most type body c s step fits room other none = more s step fits room other
 
--- a record for each part
-pub each_more : (type : ℕ) (body : Part → List ℕ) → IsStep type true true → nat_eq type 0 ≡ false → (ps : List Part) → All (λ p. Fits type (body p) (Parts (p ∷ []))) ps → (bodies : List Record) (g : GuestOf) (most : ℕ) → most + length ps < 2 ^ 28
-    → State bodies g true most → State (bodies ++ map (λ p. (type, body p)) ps) (put_content g (Parts ps)) true (most + length ps)
-each_more type body step other [] all bodies g most room s = subst (λ l. State l g true (most + 0)) (sym (append-nil bodies)) (looser s (most + 0) (omega arith))
-each_more type body step other (p ∷ ps) all bodies g most room s =
-    let P : Part → Type 0 = λ x. Fits type (body x) (Parts (x ∷ [])) in
-    let one = more s step (All-head P p ps all) (omega (arith, room)) other in
-    let rest = each_more type body step other ps (All-tail P p ps all) (bodies ++ (type, body p) ∷ []) (put_content g (Parts (p ∷ []))) (most + 1) (omega (arith, room)) one in
-    looser (subst (λ l. State l (put_content g (Parts (p ∷ ps))) true (most + 1 + length ps)) (append_assoc bodies ((type, body p) ∷ []) (map (λ x. (type, body x)) ps)) rest) (most + suc (length ps)) (omega arith)
+-- parts of a code that is no policy's, set one after another
+module _ (code : PartCode) (puts : (m : PartMap) (ps : List Part) → set_parts code m ps ≡ put_parts m ps) where
+  set_on : (g : GuestOf) (p : Part) (ps : List Part) → put_content (put_content g (Sets code (p ∷ []))) (Sets code ps) ≡ put_content g (Sets code (p ∷ ps))
+  set_on g p ps = ap (λ (m : PartMap). record g { parts = m }) (puts (set_parts code g.parts (p ∷ [])) ps ∙ ap (λ m. put_parts m ps) (puts g.parts (p ∷ [])) ∙ sym (puts g.parts (p ∷ ps)))
+
+  set_none : (g : GuestOf) → put_content g (Sets code []) ≡ g
+  set_none g = ap (λ (m : PartMap). record g { parts = m }) (puts g.parts [])
+
+  -- a record for each part
+  pub each_more : (type : ℕ) (body : Part → List ℕ) → IsStep type true true → nat_eq type 0 ≡ false → (ps : List Part) → All (λ p. Fits type (body p) (Sets code (p ∷ []))) ps → (bodies : List Record) (g : GuestOf) (most : ℕ) → most + length ps < 2 ^ 28
+      → State bodies g true most → State (bodies ++ map (λ p. (type, body p)) ps) (put_content g (Sets code ps)) true (most + length ps)
+  each_more type body step other [] all bodies g most room s =
+      subst (λ h. State (bodies ++ []) h true (most + 0)) (sym (set_none g)) (subst (λ l. State l g true (most + 0)) (sym (append-nil bodies)) (looser s (most + 0) (omega arith)))
+  each_more type body step other (p ∷ ps) all bodies g most room s =
+      let P : Part → Type 0 = λ x. Fits type (body x) (Sets code (x ∷ [])) in
+      let one = more s step (All-head P p ps all) (omega (arith, room)) other in
+      let rest = each_more type body step other ps (All-tail P p ps all) (bodies ++ (type, body p) ∷ []) (put_content g (Sets code (p ∷ []))) (most + 1) (omega (arith, room)) one in
+      let here = subst (λ l. State l (put_content (put_content g (Sets code (p ∷ []))) (Sets code ps)) true (most + 1 + length ps)) (append_assoc bodies ((type, body p) ∷ []) (map (λ x. (type, body x)) ps)) rest in
+      looser (subst (λ h. State (bodies ++ map (λ x. (type, body x)) (p ∷ ps)) h true (most + 1 + length ps)) (set_on g p ps) here) (most + suc (length ps)) (omega arith)
 
 bodies_more : (fs : List Frame) (n : ℕ) → frame_bodies fs (suc n) ≡ frame_bodies fs n ++ (1, body_of (batch fs n)) ∷ []
 bodies_more fs n = ap (frame_bodies fs) (let e : suc n ≡ n + 1 = omega arith in e) ∙ map-range_with_len_more (λ k. (1, body_of (batch fs k))) 0 n n (omega arith)

@@ -7,6 +7,7 @@ use Rattle.mig_headers.specs.declared.kind.Kind.TheVariants.{Hvm}
 use Rattle.mig_headers.specs.Headers.{image_header_of, domain_header_of}
 use Rattle.mig_headers.proofs.HeaderLaws.{image_is_read_back, domain_is_read_back}
 use Rattle.mig_guest.specs.Guests.{GuestOf}
+use Rattle.mig_guest.specs.declared.part_code.PartCode.TheVariants.{Tsc, HvmContext, HvmParam, CpuidLeaf, Msr}
 use Rattle.mig_guest.specs.PartKeys.{context_key}
 use Rattle.mig_guest.specs.Parts.{PartMap, put_parts, replace_code}
 use Rattle.mig_guest.specs.Frames.{IsFew}
@@ -16,7 +17,7 @@ use Rattle.mig_pvtables.specs.Whole.{IsWhole}
 use Rattle.mig_pvtables.proofs.HvmGuests.{hvm_complete}
 use Rattle.mig_canon.specs.Canon.{Part, Record, batches, frame_bodies, where_some, of_code, frames_in, leaves_body, msrs_body, params_body, tsc_body, static_bodies, bodies_of, text_of, headers, canon}
 use Rattle.mig_restore.specs.Record.{StreamRecord, is_ended}
-use Rattle.mig_restore.specs.Record.Content.{Nothing, Parts, Policy}
+use Rattle.mig_restore.specs.Record.Content.{Nothing, Sets}
 use Rattle.mig_restore.specs.Mean.{mean, empty_guest, put_content, put_entries}
 use Rattle.mig_restore.specs.Spelled.{IsComplete, Spells, IsImage, Accepted}
 use Rattle.mig_restore.specs.Spelled.HasContent.{ends, static_end}
@@ -96,9 +97,9 @@ module _ (g : GuestOf) (whole : IsWhole g) (is : IsPlainHvm g) where
   static_state : State (static_bodies g) (guest_with maps.empty (static_parts g)) true 3
   static_state =
       let l = of_code 17 g in let m = of_code 18 g in
-      let g1 = put_content (empty_guest Hvm) (Policy 17 l) in
-      let first = maybe l [] (empty_guest Hvm) false 0 0x11 (leaves_body l) (Policy 17 l) at_start leaves_step (leaves_fit g formed) (omega arith) refl (λ e. ap (λ ps. put_content (empty_guest Hvm) (Policy 17 ps)) e) in
-      let second = maybe m (where_some l (0x11, leaves_body l)) g1 false 1 0x12 (msrs_body m) (Policy 18 m) first msrs_step (msrs_fit g formed) (omega arith) refl (λ e. ap (λ ps. put_content g1 (Policy 18 ps)) e) in
+      let g1 = put_content (empty_guest Hvm) (Sets CpuidLeaf l) in
+      let first = maybe l [] (empty_guest Hvm) false 0 0x11 (leaves_body l) (Sets CpuidLeaf l) at_start leaves_step (leaves_fit g formed) (omega arith) refl (λ e. ap (λ ps. put_content (empty_guest Hvm) (Sets CpuidLeaf ps)) e) in
+      let second = maybe m (where_some l (0x11, leaves_body l)) g1 false 1 0x12 (msrs_body m) (Sets Msr m) first msrs_step (msrs_fit g formed) (omega arith) refl (λ e. ap (λ ps. put_content g1 (Sets Msr ps)) e) in
       subst (λ b. State b (guest_with maps.empty (static_parts g)) true 3) (append_assoc (where_some l (0x11, leaves_body l)) (where_some m (0x12, msrs_body m)) ((0x10, []) ∷ []))
       (more second static_end_step nothing_fits (omega arith) refl)
 
@@ -120,10 +121,10 @@ module _ (g : GuestOf) (whole : IsWhole g) (is : IsPlainHvm g) where
       let g2 = guest_with F (put_parts (static_parts g) l) in
       let g3 = guest_with F (put_parts (put_parts (static_parts g) l) m) in
       let framed = frames_more (frames_in g) (all_fine g formed is.hvm) complete.1 (static_bodies g) (static_parts g) 3 (omega arith) static_state n (le_refl n) in
-      let timed = each_more 8 tsc_body tsc_step refl l (all_of P P (λ p. Fits 8 (tsc_body p) (Parts (p ∷ []))) (λ p one same. tsc_fits g formed p one) l (parts_are g 8 formed) (parts_are g 8 formed))
+      let timed = each_more Tsc (λ _ _. refl) 8 tsc_body tsc_step refl l (all_of P P (λ p. Fits 8 (tsc_body p) (Sets Tsc (p ∷ []))) (λ p one same. tsc_fits g formed p one) l (parts_are g 8 formed) (parts_are g 8 formed))
       (static_bodies g ++ frames) g1 (3 + n) (omega (arith, few, one_tsc g formed)) framed in
-      let ruled = maybe m ((static_bodies g ++ frames) ++ tscs) g2 true (3 + n + length l) 0xA (params_body m) (Parts m) timed params_step (params_fit g formed) (omega (arith, few, one_tsc g formed)) refl (λ e. ap (λ ps. put_content g2 (Parts ps)) e) in
-      each_more 9 (λ p. p.1) context_step refl c (all_of Q Q (λ p. Fits 9 p.1 (Parts (p ∷ []))) (λ p one same. context_fits g formed p one) c (parts_are g 9 formed) (parts_are g 9 formed))
+      let ruled = maybe m ((static_bodies g ++ frames) ++ tscs) g2 true (3 + n + length l) 0xA (params_body m) (Sets HvmParam m) timed params_step (params_fit g formed) (omega (arith, few, one_tsc g formed)) refl (λ e. ap (λ ps. put_content g2 (Sets HvmParam ps)) e) in
+      each_more HvmContext (λ _ _. refl) 9 (λ p. p.1) context_step refl c (all_of Q Q (λ p. Fits 9 p.1 (Sets HvmContext (p ∷ []))) (λ p one same. context_fits g formed p one) c (parts_are g 9 formed) (parts_are g 9 formed))
       (((static_bodies g ++ frames) ++ tscs) ++ params) g3 (3 + n + length l + 1) few_records ruled
 
   abbrev records : List StreamRecord

@@ -1,0 +1,5 @@
+pub mod TableSpelled
+pub mod Spelled
+pub mod Reading
+pub mod Rows
+pub mod Kept

@@ -1,0 +1,69 @@
+-- What is to be shown of each row.
+use Rattle.std.proofs.Common.{◌≡◌, ℕ, zero, suc, ◌+◌, ◌*◌, ◌%◌, ◌<◌, ◌≤◌, ◌^◌, Bool, true, false, not, List, [], ◌∷◌, length, drop, None, refl, arith}
+use Rattle.std.specs.Prelude.{nat_lt, ◌&&◌, ◌==◌}
+use Rattle.std.proofs.lemmas.Grind.{common_steps}
+use Rattle.mig_headers.specs.Rows.{first_fault}
+use Rattle.mig_headers.specs.declared.fault.Cause.{Cause}
+use Rattle.mig_headers.proofs.FirstFaults.{rows_fine, no_fault, neither_some}
+use Rattle.mig_guest.specs.declared.part_code.PartCode.{PartCode}
+use Rattle.mig_guest.specs.declared.part_code.PartCode.TheVariants.{P2mFrames, VcpuBasic, VcpuExtended, VcpuXsave, SharedInfo, Tsc, HvmContext, HvmParam, VcpuMsrs, CpuidLeaf, Msr, EmulatorPairs, EmulatorContext}
+use Rattle.mig_guest.specs.PartCodes.{small_number}
+use Rattle.mig_bodies.specs.declared.layout.Layout.{Layout}
+use Rattle.mig_bodies.specs.Layouts.{layout, entry_width, front_width, fault_of_key, fault_of_entries, entry_count, fault_of_table}
+use Rattle.mig_bodies.specs.Shapes.{shape_of, IsRow, fault_of_body}
+use Rattle.mig_bodies.proofs.TableSpelled.{length_passes}
+
+small_of : (a b : Bool) → not (a && b) ≡ false → a ≡ true
+small_of true b h = refl
+small_of false b h = cc
+
+below : (n : ℕ) → nat_lt n 4096 ≡ true → n < 4096
+below n h = grind (arith, common_steps)
+
+pub below_4096 : (key1 key2 : ℕ) (c : Cause) → first_fault ((not (small_number key1 key2), c) ∷ []) ≡ None → key1 < 4096
+below_4096 key1 key2 c fine = below key1 (small_of (nat_lt key1 4096) (key2 == 0) (rows_fine ((not (small_number key1 key2), c) ∷ []) fine).0)
+
+pub small_passes : (key1 key2 : ℕ) (c : Cause) → key1 < 4096 → key2 ≡ 0 → first_fault ((not (small_number key1 key2), c) ∷ []) ≡ None
+small_passes key1 key2 c low none = no_fault ((not (small_number key1 key2), c) ∷ []) (passes key1 key2 low none, tt)
+  where
+    passes : (n m : ℕ) → n < 4096 → m ≡ 0 → not (nat_lt n 4096 && (m == 0)) ≡ false
+    passes n m h e = grind (arith, common_steps)
+
+pub all_rows : (code : PartCode) → IsRow code (shape_of code)
+all_rows P2mFrames = tt
+all_rows VcpuBasic = (omega arith, omega arith, refl)
+all_rows VcpuExtended = (omega arith, omega arith, refl)
+all_rows VcpuXsave = (omega arith, omega arith, refl)
+all_rows SharedInfo = (omega arith, refl)
+all_rows Tsc = (omega arith, refl)
+all_rows HvmContext = tt
+all_rows HvmParam = record {
+  widths = record { some = omega arith; first = omega arith; second = omega arith; value = omega arith };
+  small = λ key1 key2 low1 low2 fine. let h = below_4096 key1 key2 _ fine in (omega (arith, h), omega (arith, low2));
+}
+all_rows VcpuMsrs = (omega arith, omega arith, refl)
+all_rows CpuidLeaf = record {
+  widths = record { some = omega arith; first = omega arith; second = omega arith; value = omega arith };
+  small = λ key1 key2 low1 low2 fine. (low1, low2);
+}
+all_rows Msr = record {
+  widths = record { some = omega arith; first = omega arith; second = omega arith; value = omega arith };
+  small = λ key1 key2 low1 low2 fine. (low1, omega (arith, low2));
+}
+all_rows EmulatorPairs = tt
+all_rows EmulatorContext = tt
+
+-- ---- tables of which no key is refused
+
+no_key_fault : (code : PartCode) (l : Layout) → ((key1 key2 : ℕ) → fault_of_key code key1 key2 ≡ None) → (n : ℕ) (bytes : List ℕ) → fault_of_entries code l n bytes ≡ None
+no_key_fault code l none zero bytes = refl
+no_key_fault code l none (suc n) bytes = neither_some _ _ (none _ _) (no_key_fault code l none n (drop (entry_width l) bytes))
+
+whole_table : (code : PartCode) (l : Layout) → ((key1 key2 : ℕ) → fault_of_key code key1 key2 ≡ None) → (body : List ℕ) → length body ≡ front_width l + entry_width l * entry_count l body → fault_of_table code l body ≡ None
+whole_table code l none body size = neither_some _ _ (length_passes _ _ size) (no_key_fault code l none (entry_count l body) (drop (front_width l) body))
+
+pub whole_leaves : (body : List ℕ) → length body % 24 ≡ 0 → fault_of_body CpuidLeaf body ≡ None
+whole_leaves body h = whole_table CpuidLeaf (layout false 4 4 16) (λ _ _. refl) body (omega (arith, h))
+
+pub whole_msrs : (body : List ℕ) → length body % 16 ≡ 0 → fault_of_body Msr body ≡ None
+whole_msrs body h = whole_table Msr (layout false 4 0 12) (λ _ _. refl) body (omega (arith, h))

@@ -1,0 +1,130 @@
+-- The bodies without fault are those that are spelled so: a lemma for each shape.
+use Rattle.std.proofs.Common.{◌≡◌, ℕ, ◌+◌, ◌≤◌, Bool, true, false, List, [], ◌∷◌, ◌++◌, length, take, drop, nat_lt, Option, Some, None, Result, Ok, Err, refl, sym, ap, ◌∙◌, arith, length-append, length-drop, length-take-le, take-append-drop, drop-drop, drop_at}
+use Rattle.std.specs.Prelude.{◌↔◌}
+use Rattle.std.specs.Option.{option_or}
+use Rattle.std.proofs.lemmas.Grind.{common_steps}
+use Rattle.std.proofs.lemmas.List.{take_at}
+use Rattle.byteorder.specs.Endian.{little_number}
+use Rattle.mig_headers.specs.declared.fault.Cause.{Cause}
+use Rattle.mig_headers.specs.declared.fault.Cause.TheVariants.{BadLength}
+use Rattle.mig_headers.specs.declared.fault.ContextFault.{ContextFault}
+use Rattle.mig_headers.specs.Contexts.{scan}
+use Rattle.mig_headers.specs.Rows.{first_fault}
+use Rattle.mig_headers.proofs.FirstFaults.{both_none, neither_some, rows_fine, no_fault}
+use Rattle.mig_guest.specs.declared.part_code.PartCode.{PartCode}
+use Rattle.mig_guest.specs.PartCodes.{code_number}
+use Rattle.mig_bodies.specs.declared.shape.Shape.{Shape}
+use Rattle.mig_bodies.specs.declared.shape.Shape.TheVariants.{Table, Single, Named, Chain, Other}
+use Rattle.mig_bodies.specs.Layouts.{Part, fault_of_key, spelled_key, key_in}
+use Rattle.mig_bodies.specs.Shapes.{shape_of, sole_key, named_parts, IsSingle, IsNamed, IsChain, IsShaped, IsBody, IsRow, fault_of_content, fault_of_scan, cut, fault_by_shape, parts_by_shape, fault_of_body, parts_of_body, has_shape, BodiesAreSpelled, BodiesSayOne}
+use Rattle.mig_bodies.proofs.TableSpelled.{number_first, length_is, length_passes, table_forth, table_back}
+use Rattle.mig_bodies.proofs.Rows.{all_rows}
+
+long_of : (n m : ℕ) → nat_lt n m ≡ false → m ≤ n
+long_of n m h = grind (arith, common_steps)
+
+long_passes : (n m : ℕ) → m ≤ n → nat_lt n m ≡ false
+long_passes n m h = grind (arith, common_steps)
+
+module _ (code : PartCode) (body : List ℕ) (ps : List Part) where
+  -- ---- single values
+
+  single_forth : (len ignored : ℕ) → fault_by_shape (Single len ignored) code body ≡ None → parts_by_shape (Single len ignored) code body ≡ ps → IsSingle code len ignored body ps
+  single_forth len ignored fine is =
+      let size = length_is (length body) (len + ignored) fine in
+      record {
+        bytes = take len body;
+        behind = drop len body;
+        whole = sym (take-append-drop len body);
+        bytes_len = length-take-le len body (omega (arith, size));
+        behind_len = length-drop len body ∙ omega (arith, size);
+        says = sym is;
+      }
+
+  single_back : (len ignored : ℕ) → IsSingle code len ignored body ps → (fault_by_shape (Single len ignored) code body ≡ None) × (parts_by_shape (Single len ignored) code body ≡ ps)
+  single_back len ignored h =
+      let size : length body ≡ len + ignored = ap length h.whole ∙ omega (arith, length-append h.bytes h.behind, h.bytes_len, h.behind_len) in
+      let front : take len body ≡ h.bytes = ap (take len) h.whole ∙ take_at h.bytes h.behind len h.bytes_len in
+      (length_passes (length body) (len + ignored) size, ap (λ (v : List ℕ). (sole_key code, v) ∷ []) front ∙ sym h.says)
+
+  -- ---- named parts
+
+  module _ (second ignored : ℕ) (skips : Bool) where
+    abbrev short_fault : Option Cause
+    short_fault = first_fault ((nat_lt (length body) (4 + second + ignored), BadLength (length body)) ∷ [])
+
+    named_forth : fault_by_shape (Named second ignored skips) code body ≡ None → parts_by_shape (Named second ignored skips) code body ≡ ps → IsNamed code second ignored skips body ps
+    named_forth fine is =
+        let content = fault_of_content code (drop (4 + second + ignored) body) in
+        let key = fault_of_key code (little_number 4 body) (little_number second (drop 4 body)) in
+        let both = both_none short_fault (option_or key content) fine in
+        let named = both_none key content both.1 in
+        let long = long_of (length body) (4 + second + ignored) (rows_fine ((nat_lt (length body) (4 + second + ignored), BadLength (length body)) ∷ []) both.0).0 in
+        let a = take 4 body in let b = take second (drop 4 body) in let i = take ignored (drop (4 + second) body) in
+        let a_len : length a ≡ 4 = length-take-le 4 body (omega (arith, long)) in
+        let b_len : length b ≡ second = length-take-le second (drop 4 body) (omega (arith, long, length-drop 4 body)) in
+        let n1 : little_number 4 body ≡ little_number 4 a = ap (little_number 4) (sym (take-append-drop 4 body)) ∙ number_first 4 a (drop 4 body) a_len in
+        let n2 : little_number second (drop 4 body) ≡ little_number second b = ap (little_number second) (sym (take-append-drop second (drop 4 body))) ∙ number_first second b (drop second (drop 4 body)) b_len in
+        record {
+          name1 = a;
+          name2 = b;
+          gap = i;
+          bytes = drop (4 + second + ignored) body;
+          whole = sym (take-append-drop 4 body)
+              ∙ ap (λ x. a ++ x) (sym (take-append-drop second (drop 4 body))
+              ∙ ap (λ x. b ++ x) (drop-drop second 4 body ∙ sym (take-append-drop ignored (drop (4 + second) body)) ∙ ap (λ x. i ++ x) (drop-drop ignored (4 + second) body)));
+          name1_len = a_len;
+          name2_len = b_len;
+          gap_len = length-take-le ignored (drop (4 + second) body) (omega (arith, long, length-drop (4 + second) body));
+          named = (λ j. fault_of_key code (sym n1 j) (sym n2 j)) ∙ named.0;
+          fine = named.1;
+          says = sym is ∙ (λ j. named_parts skips (record { code = code_number code; key1 = n1 j; key2 = n2 j }) (drop (4 + second + ignored) body));
+        }
+
+    named_back : IsNamed code second ignored skips body ps → (fault_by_shape (Named second ignored skips) code body ≡ None) × (parts_by_shape (Named second ignored skips) code body ≡ ps)
+    named_back h =
+        let rest1 : drop 4 body ≡ h.name2 ++ (h.gap ++ h.bytes) = ap (drop 4) h.whole ∙ drop_at h.name1 (h.name2 ++ (h.gap ++ h.bytes)) 4 h.name1_len in
+        let rest2 : drop (4 + second) body ≡ h.gap ++ h.bytes = sym (drop-drop second 4 body) ∙ ap (drop second) rest1 ∙ drop_at h.name2 (h.gap ++ h.bytes) second h.name2_len in
+        let rest3 : drop (4 + second + ignored) body ≡ h.bytes = sym (drop-drop ignored (4 + second) body) ∙ ap (drop ignored) rest2 ∙ drop_at h.gap h.bytes ignored h.gap_len in
+        let n1 : little_number 4 body ≡ little_number 4 h.name1 = ap (little_number 4) h.whole ∙ number_first 4 h.name1 (h.name2 ++ (h.gap ++ h.bytes)) h.name1_len in
+        let n2 : little_number second (drop 4 body) ≡ little_number second h.name2 = ap (little_number second) rest1 ∙ number_first second h.name2 (h.gap ++ h.bytes) h.name2_len in
+        let long : 4 + second + ignored ≤ length body = omega (arith, ap length h.whole, length-append h.name1 (h.name2 ++ (h.gap ++ h.bytes)), length-append h.name2 (h.gap ++ h.bytes), length-append h.gap h.bytes, h.name1_len, h.name2_len, h.gap_len) in (
+          neither_some _ _ (no_fault ((nat_lt (length body) (4 + second + ignored), BadLength (length body)) ∷ []) (long_passes (length body) (4 + second + ignored) long, tt)) (neither_some _ _ ((λ j. fault_of_key code (n1 j) (n2 j)) ∙ h.named) (ap (fault_of_content code) rest3 ∙ h.fine)),
+          (λ j. named_parts skips (record { code = code_number code; key1 = n1 j; key2 = n2 j }) (rest3 j)) ∙ sym h.says,
+        )
+
+  -- ---- the chain
+
+  chain_forth : (r : Result ℕ ContextFault) → scan body ≡ r → fault_of_scan r ≡ None → (sole_key code, cut r body) ∷ [] ≡ ps → IsChain code body ps
+  chain_forth (Ok o) is fine says = record { end = o; scanned = is; says = sym says }
+  chain_forth (Err f) is fine says = let no : ◌≡◌ {A = Option Cause} (Some _) None = fine in cc
+
+  chain_back : IsChain code body ps → (fault_of_scan (scan body) ≡ None) × ((sole_key code, cut (scan body) body) ∷ [] ≡ ps)
+  chain_back h = (ap fault_of_scan h.scanned, ap (λ r. (sole_key code, cut r body) ∷ []) h.scanned ∙ sym h.says)
+
+  -- ---- all shapes
+
+  by_shape : (shape : Shape) → IsRow code shape → has_shape shape ≡ true → ((fault_by_shape shape code body ≡ None) × (parts_by_shape shape code body ≡ ps)) ↔ IsShaped shape code body ps
+  by_shape (Table l) row shaped = ((λ h. table_forth code l row.widths body ps h.0 h.1), table_back code l row.widths body ps)
+  by_shape (Single len ignored) row shaped = ((λ h. single_forth len ignored h.0 h.1), single_back len ignored)
+  by_shape (Named second ignored skips) row shaped = ((λ h. named_forth second ignored skips h.0 h.1), named_back second ignored skips)
+  by_shape Chain row shaped = ((λ h. chain_forth (scan body) refl h.0 h.1), chain_back)
+  by_shape Other row shaped = absurd (clash shaped)
+    where
+      clash : false ≡ true → ⊥
+      clash e = cc
+
+pub bodies_are_spelled : BodiesAreSpelled
+bodies_are_spelled code body ps shaped = by_shape code body ps (shape_of code) (all_rows code) shaped
+
+pub is_shaped : (code : PartCode) (body : List ℕ) (ps : List Part) (shape : Shape) → IsShaped shape code body ps → has_shape shape ≡ true
+is_shaped code body ps (Table l) h = refl
+is_shaped code body ps (Single len ignored) h = refl
+is_shaped code body ps (Named second ignored skips) h = refl
+is_shaped code body ps Chain h = refl
+is_shaped code body ps Other h = absurd h
+
+pub bodies_say_one : BodiesSayOne
+bodies_say_one code body ps qs a b =
+    let shaped = is_shaped code body ps (shape_of code) a in
+    sym ((bodies_are_spelled code body ps shaped).1 a).1 ∙ ((bodies_are_spelled code body qs shaped).1 b).1

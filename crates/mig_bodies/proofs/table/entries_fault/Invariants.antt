@@ -1,0 +1,9 @@
+use Rattle.std.proofs.Common.{◌≡◌, ◌*◌, ◌-◌, length}
+use Rattle.mig_bodies.specs.Layouts.{entry_width, fault_of_entries}
+use Rattle.mig_bodies.proofs.table.entries_fault.Given as goal
+
+abbrev pub invariant-loop-i : goal.invariant-loop-i
+invariant-loop-i l = record {
+  whole : length l.rest ≡ entry_width l.layout * (l.count - l.i);
+  same : fault_of_entries l.code l.layout (l.count - l.i) l.rest ≡ fault_of_entries l.code l.layout l.count l.bytes;
+}

@@ -1,0 +1,21 @@
+ghost use Rattle.mig_bodies.specs.Shapes.{BodiesAreSpelled, BodiesSayOne, BodiesSayParts, BodiesKeepFormed};
+
+/// The bodies without fault, and the parts that they set, are exactly those that are spelled so.
+pub fn bodies_are_spelled_law()
+    ensures { BodiesAreSpelled }
+{}
+
+/// A body says one list of parts.
+pub fn bodies_say_one_law()
+    ensures { BodiesSayOne }
+{}
+
+/// A body of a record of this kind says parts that a guest of this kind may have.
+pub fn bodies_say_parts_law()
+    ensures { BodiesSayParts }
+{}
+
+/// A guest that is well formed stays so, whatever body of a record of its kind is read.
+pub fn bodies_keep_formed_law()
+    ensures { BodiesKeepFormed }
+{}

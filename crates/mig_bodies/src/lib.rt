@@ -1,0 +1,26 @@
+//! What the bodies of records say: the layout of each, a row for each code of parts.
+//!
+//! Responsible for: tables of entries, single values and named parts, and which parts a body of each code sets (libxc
+//! migration stream, "Records"). The words for the context's chain stand here too, so that the table is whole; its
+//! reader, P2M frames, page data and an emulator's pairs are left to the layers above.
+//!
+//! What the layers above rely on: the first fault of a body; and which parts of a guest a faultless body sets, all else
+//! staying.
+#![tactic(auto)]
+
+mod laws;
+mod layout;
+mod number;
+mod read;
+mod shape;
+mod table;
+
+pub use laws::{
+    bodies_are_spelled_law, bodies_keep_formed_law, bodies_say_one_law, bodies_say_parts_law,
+};
+pub use layout::Layout;
+pub use read::{body_fault, read_body, read_single};
+pub use shape::{Shape, shape_of};
+
+#[cfg(test)]
+mod tests;

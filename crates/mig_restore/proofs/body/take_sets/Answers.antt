@@ -1,0 +1,20 @@
+use Rattle.std.proofs.Common.{◌≡◌, ◌∙◌, length, ap, sym, subst, rules, None}
+use Rattle.mig_bodies.specs.Shapes.{fault_of_body, parts_of_body, HasBodyLength}
+use Rattle.mig_restore.specs.Mean.{put_content}
+use Rattle.mig_restore.specs.Record.Content.{Sets}
+use Rattle.mig_restore.proofs.Growth.{grows_sets}
+use Rattle.mig_restore.proofs.Joins.{tried_said}
+use Rattle.mig_restore.proofs.body.take_sets.Goals as goal
+
+pub returns-in-Ok-clause-read : goal.returns-in-Ok-clause-read
+returns-in-Ok-clause-read g c =
+    let code = c.args.code in
+    let fine : fault_of_body code c.in_ok-body.body.items ≡ None = search rules in
+    let same : c.deref-2.result.now ≡ c.in_ok-body.body.items = search rules in
+    tried_said _ _ _ _ c.args.len (fault_of_body code) (λ b. Sets code (parts_of_body code b)) c.in_ok-body.body tt c.in_ok-body.ensures.read
+    (λ bytes e. (ap (fault_of_body code) e ∙ fine, c.in-Ok.ensures.ok ∙ ap (λ b. put_content c.args.guest.now (Sets code (parts_of_body code b))) (same ∙ sym e)))
+
+pub returns-in-Ok-clause-grown : goal.returns-in-Ok-clause-grown
+returns-in-Ok-clause-grown g c =
+    let size : length c.deref-2.result.now ≡ c.args.len = search rules in
+    grows_sets c.args.code c.args.guest.now c.set_parts.new.guest c.deref-2.result.now c.requires.of_kind c.requires.no_emulator (subst (HasBodyLength c.args.code) (sym size) c.requires.allowed) (search rules) (search rules) c.in-Ok.ensures.small c.in-Ok.ensures.ok

@@ -1,0 +1,39 @@
+use Rattle.std.proofs.Common.{◌≡◌, ◌∙◌, List, ℕ, Option, Some, Result, ap, sym, subst}
+use Rattle.mig_bytes.specs.Judged.{Judged, Gives}
+use Rattle.mig_bytes.specs.declared.part.Stop.{Stop}
+use Rattle.mig_headers.specs.declared.fault.Cause.{Cause}
+use Rattle.mig_headers.specs.declared.record_type.RecordType.{RecordType}
+use Rattle.mig_guest.specs.PartCodes.{code_of_number}
+use Rattle.mig_guest.specs.declared.part_code.PartCode.{PartCode}
+use Rattle.mig_restore.specs.Record.{Content}
+use Rattle.mig_restore.specs.Judging.{code_of_type}
+use Rattle.mig_restore.proofs.Bodies.{coded_is}
+use Rattle.mig_restore.proofs.Growth.{has_length, same_kinds, sets_no_emulator}
+use Rattle.mig_restore.proofs.body.take_typed.Goals as goal
+
+found : (this : RecordType) (code : PartCode) (number : ℕ) (r : Option PartCode) → code_of_type this ≡ code_of_number number → r ≡ code_of_number number → r ≡ Some code → code_of_type this ≡ Some code
+found this code number r a b is = a ∙ sym b ∙ is
+
+-- what is read as one says is read as the other
+as_coded : {X : Type 0} (R : X → Content → Type 0) (a b : Option (List ℕ)) (f h : List ℕ → Judged Cause Content) (r : Result X (Stop Cause)) → ((i : List ℕ) → h i ≡ f i) → Gives R a b f r → Gives R a b h r
+as_coded R a b f h r same given = subst (λ (k : List ℕ → Judged Cause Content). Gives R a b k r) (λ j i. sym (same i) j) given
+
+pub take_sets-requires : goal.take_sets-requires
+take_sets-requires g c =
+    let is = found c.args.this c.in-Some.code c.number.result c.from_number.result (ap code_of_number (sym c.number.ensures)) c.from_number.ensures c.in-Some.is in
+    record {
+      small = c.requires.small;
+      allowed = has_length c.args.this c.in-Some.code is c.args.len c.requires.allowed;
+      of_kind = sym (same_kinds c.args.this c.in-Some.code is c.args.guest.now.kind) ∙ c.requires.of_kind;
+      no_emulator = sets_no_emulator c.args.this c.in-Some.code is;
+    }
+
+pub returns-in-Some : goal.returns-in-Some
+returns-in-Some g c =
+    let kind = c.args.guest.now.kind in let top = c.args.guest.now.top in
+    let is = found c.args.this c.in-Some.code c.number.result c.from_number.result (ap code_of_number (sym c.number.ensures)) c.from_number.ensures c.in-Some.is in
+    record {
+      read = as_coded _ _ _ _ _ _ (λ i. coded_is kind top c.args.this c.in-Some.code c.args.len i is) c.take_sets.ensures.read;
+      grown = c.take_sets.ensures.grown;
+      faults = c.take_sets.ensures.faults;
+    }
