@@ -8,7 +8,7 @@ use Rattle.std.proofs.lemmas.List.{take_at}
 use Rattle.std.proofs.lemmas.Grind.{common_steps}
 use Rattle.byteorder.specs.Endian.{little_number}
 use Rattle.mig_headers.specs.RecordTypes.{vcpu_context, vcpu_entries, at_least, entries}
-use Rattle.mig_headers.specs.Contexts.{scan}
+use Rattle.mig_headers.specs.Contexts.{scan, cut_at}
 use Rattle.mig_headers.specs.Rows.{first_fault}
 use Rattle.mig_headers.specs.declared.fault.Cause.{Cause}
 use Rattle.mig_headers.specs.declared.kind.Kind.{Kind}
@@ -26,7 +26,7 @@ use Rattle.mig_guest.proofs.Kept.{parts_keep, policies_keep, parts_plain, polici
 use Rattle.mig_bodies.specs.declared.layout.Layout.{Layout}
 use Rattle.mig_bodies.specs.Layouts.{Part, layout, fault_of_key, spelled_key, entry_width, front_width, entry_count, IsSmallKey, AreTableEntries, IsTable}
 use Rattle.mig_bodies.specs.Shapes.{shape_of, has_shape, parts_of_body, fault_of_content, named_parts, IsSingle, IsNamed, IsChain, IsBody, HasBodyLength, BodiesSayParts, set_parts, BodiesKeepFormed}
-use Rattle.mig_bodies.proofs.Spelled.{bodies_are_spelled}
+use Rattle.mig_bodies.proofs.Spelled.{bodies_are_spelled, chain_scanned}
 use Rattle.mig_bodies.proofs.TableSpelled.{entries_len, table_whole}
 use Rattle.mig_bodies.proofs.Reading.{table_all}
 
@@ -151,7 +151,7 @@ module _ (code : PartCode) (kind : Kind) (width : ℕ) (of_kind : (row_of code).
 -- ---- the chain
 
 -- the context, cut behind its end
-cut_is : (body : List ℕ) (o : ℕ) → scan body ≡ Ok o → length body ≤ 2 ^ 27 → (length (take o body ++ replicate 8 0) ≤ 2 ^ 27) × IsCut (take o body ++ replicate 8 0)
+cut_is : (body : List ℕ) (o : ℕ) → scan body ≡ Ok o → length body ≤ 2 ^ 27 → (length (cut_at body o) ≤ 2 ^ 27) × IsCut (cut_at body o)
 cut_is body o is short =
     let fits : o + 8 ≤ length body = end_fits body o is in
     let front : length (take o body) ≡ o = length-take-le o body (omega (arith, fits)) in
@@ -160,7 +160,7 @@ cut_is body o is short =
 
 chain_says : (kind : Kind) (width : ℕ) → (row_of HvmContext).of_kind kind ≡ true → (body : List ℕ) (ps : List Part) → length body ≤ 2 ^ 27 → IsChain HvmContext body ps → AreParts kind width 9 ps
 chain_says kind width of_kind body ps short h =
-    let (small, cut) = cut_is body h.end h.scanned short in
+    let (small, cut) = cut_is body (length h.context.before) (chain_scanned HvmContext body ps h) short in
     subst (AreParts kind width 9) (sym h.says)
     (record { code = HvmContext; number = refl; of_kind = of_kind; keys = refl; small1 = omega arith; small2 = omega arith; len = le_true _ _ small; content = cut }, refl, tt)
 

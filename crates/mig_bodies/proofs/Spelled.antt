@@ -8,7 +8,8 @@ use Rattle.byteorder.specs.Endian.{little_number}
 use Rattle.mig_headers.specs.declared.fault.Cause.{Cause}
 use Rattle.mig_headers.specs.declared.fault.Cause.TheVariants.{BadLength}
 use Rattle.mig_headers.specs.declared.fault.ContextFault.{ContextFault}
-use Rattle.mig_headers.specs.Contexts.{scan}
+use Rattle.mig_headers.specs.Contexts.{scan, cut_at}
+use Rattle.mig_headers.proofs.ContextTexts.{contexts_are_spelled}
 use Rattle.mig_headers.specs.Rows.{first_fault}
 use Rattle.mig_headers.proofs.FirstFaults.{both_none, neither_some, rows_fine, no_fault}
 use Rattle.mig_guest.specs.declared.part_code.PartCode.{PartCode}
@@ -95,12 +96,20 @@ module _ (code : PartCode) (body : List ℕ) (ps : List Part) where
 
   -- ---- the chain
 
+  pub scanned_chain : (end : ℕ) → scan body ≡ Ok end → ps ≡ (sole_key code, cut_at body end) ∷ [] → IsChain code body ps
+  scanned_chain end is says =
+      let (entries, context, same) = (contexts_are_spelled body end).0 is in
+      record { entries = entries; context = context; says = says ∙ ap (λ n. (sole_key code, cut_at body n) ∷ []) (sym same) }
+
+  pub chain_scanned : (h : IsChain code body ps) → scan body ≡ Ok (length h.context.before)
+  chain_scanned h = (contexts_are_spelled body (length h.context.before)).1 (h.entries, h.context, refl)
+
   chain_forth : (r : Result ℕ ContextFault) → scan body ≡ r → fault_of_scan r ≡ None → (sole_key code, cut r body) ∷ [] ≡ ps → IsChain code body ps
-  chain_forth (Ok o) is fine says = record { end = o; scanned = is; says = sym says }
+  chain_forth (Ok o) is fine says = scanned_chain o is (sym says)
   chain_forth (Err f) is fine says = let no : ◌≡◌ {A = Option Cause} (Some _) None = fine in cc
 
   chain_back : IsChain code body ps → (fault_of_scan (scan body) ≡ None) × ((sole_key code, cut (scan body) body) ∷ [] ≡ ps)
-  chain_back h = (ap fault_of_scan h.scanned, ap (λ r. (sole_key code, cut r body) ∷ []) h.scanned ∙ sym h.says)
+  chain_back h = (ap fault_of_scan (chain_scanned h), ap (λ r. (sole_key code, cut r body) ∷ []) (chain_scanned h) ∙ sym h.says)
 
   -- ---- all shapes
 

@@ -8,7 +8,7 @@ use Rattle.byteorder.specs.Endian.{little_number, little_bytes}
 use Rattle.mig_headers.specs.declared.fault.Cause.{Cause}
 use Rattle.mig_headers.specs.declared.fault.Cause.TheVariants.{BadLength, GdtEnts, BadContext}
 use Rattle.mig_headers.specs.declared.fault.ContextFault.{ContextFault}
-use Rattle.mig_headers.specs.Contexts.{scan}
+use Rattle.mig_headers.specs.Contexts.{ContextEntry, IsContext, scan, cut_at}
 use Rattle.mig_headers.specs.RecordTypes.{record_row_of, type_of_number}
 use Rattle.mig_headers.specs.Rows.{first_fault}
 use Rattle.mig_headers.specs.declared.kind.Kind.{Kind}
@@ -91,11 +91,11 @@ pub record IsNamed (code : PartCode) (second ignored : ℕ) (skips : Bool) (body
   pub fine : fault_of_content code bytes ≡ None
   pub says : ps ≡ named_parts skips (spelled_key code 4 second name1 name2) bytes
 
--- a chain without fault: what stands before its end, and 8 zero bytes
+-- a context: its entries, and an END of zeros
 pub record IsChain (code : PartCode) (body : List ℕ) (ps : List Part) : Type 0 where
-  pub end : ℕ
-  pub scanned : scan body ≡ Ok end
-  pub says : ps ≡ (sole_key code, take end body ++ replicate 8 0) ∷ []
+  pub entries : List ContextEntry
+  pub context : IsContext body entries
+  pub says : ps ≡ (sole_key code, cut_at body (length context.before)) ∷ []
 
 abbrev pub IsShaped : Shape → PartCode → List ℕ → List Part → Type 0
 IsShaped (Table l) code body ps = IsTable code l body ps
@@ -135,9 +135,9 @@ abbrev pub fault_of_scan : Result ℕ ContextFault → Option Cause
 fault_of_scan (Ok end) = None
 fault_of_scan (Err fault) = Some (BadContext fault)
 
--- the chain up to its end, and 8 zero bytes
+-- the chain up to its end, and an END of zeros
 abbrev pub cut : Result ℕ ContextFault → List ℕ → List ℕ
-cut (Ok end) body = take end body ++ replicate 8 0
+cut (Ok end) body = cut_at body end
 cut (Err fault) body = []
 
 -- the first fault of a body

@@ -1,8 +1,8 @@
 -- Guests that are well formed: what a guest on its way to a whole one keeps, whatever records come.
-use Rattle.std.specs.Prelude.{◌≡◌, ◌≤◌, ◌<◌, ℕ, ◌+◌, ◌^◌, ⊤, Bool, true, false, List, [], ◌∷◌, ◌++◌, length, take, replicate, Some, Ok, ◌==◌, ◌||◌}
+use Rattle.std.specs.Prelude.{◌≡◌, ◌≤◌, ◌<◌, ℕ, ◌+◌, ◌^◌, ⊤, Bool, true, false, List, [], ◌∷◌, length, Some, Ok, ◌==◌, ◌||◌}
 use Rattle.std.specs.FinMap as maps
 use Rattle.mig_bytes.specs.Fields.{le64}
-use Rattle.mig_headers.specs.Contexts.{scan}
+use Rattle.mig_headers.specs.Contexts.{scan, cut_at}
 use Rattle.mig_headers.specs.Pairs.{AreCanonicalPairs}
 use Rattle.mig_headers.specs.declared.kind.Kind.{Kind}
 use Rattle.mig_headers.specs.declared.kind.Kind.TheVariants.{Pv, Hvm}
@@ -31,7 +31,7 @@ pub record IsRowPart (asks : PartCode → List ℕ → Type 0) (kind : Kind) (wi
 
 -- a chain that ends with 8 zero bytes as its only END entry
 abbrev pub IsCut : List ℕ → Type 0
-IsCut bytes = (o : ℕ) × (scan bytes ≡ Ok o) × (take o bytes ++ replicate 8 0 ≡ bytes)
+IsCut bytes = (o : ℕ) × (scan bytes ≡ Ok o) × (cut_at bytes o ≡ bytes)
 
 -- how many descriptors a vCPU's GDT has
 abbrev pub gdt_ents : List ℕ → ℕ

@@ -1,22 +1,21 @@
 -- One more entry of a chain, and where the chain ends.
 use Rattle.std.proofs.Common.{◌≡◌, ℕ, ◌+◌, ◌-◌, ◌<◌, ◌≤◌, List, length, Option, Some, None, Result, Ok, Err, Bool, true, false, is_some, refl, ap, sym, subst, ◌∙◌, cond, arith}
-use Rattle.std.proofs.Common.{[], ◌∷◌, ◌++◌, take, drop, replicate, not, nat_eq, nat_lt, nat_le, get_or, length-append, length-take-le, drop_at, ltb-false}
+use Rattle.std.proofs.Common.{[], ◌∷◌, take, drop, replicate, not, nat_eq, nat_lt, nat_le, get_or, length-append, length-take-le, drop_at, ltb-false}
 use Rattle.std.specs.Prelude.{◌&&◌}
 use Rattle.std.proofs.lemmas.Bool.{eqb-true}
 use Rattle.std.proofs.lemmas.List.{get_or-drop, get_or-take}
 use Rattle.std.proofs.Math.ListN.{get_or-append}
 use Rattle.byteorder.specs.Endian.{little_number}
-use Rattle.std.specs.List.{AllByRecursion}
 use Rattle.mig_bytes.specs.Fields.{le16, le32}
 use Rattle.mig_bytes.proofs.Walks.{walk_end_ends, walk_end_reached}
-use Rattle.mig_headers.specs.Rows.{first_fault}
 use Rattle.mig_headers.specs.declared.fault.ContextFault.TheVariants.{NoHeader, HeaderSize, ShortEntry, NoEnd}
 use Rattle.std.proofs.lemmas.Grind.{common_steps}
 use Rattle.mig_bytes.specs.Walk.{walk_end}
 use Rattle.mig_bytes.specs.Walk.Reaches.{here, next}
 use Rattle.mig_bytes.proofs.Walks.{walk_end_is}
 use Rattle.mig_headers.specs.declared.fault.ContextFault.{ContextFault}
-use Rattle.mig_headers.specs.Contexts.{ChainTo, Scanned, scan, scan_at, fault_at, is_last, entry_end, after_entry}
+use Rattle.mig_headers.proofs.FirstFaults.{rows_fine, no_fault}
+use Rattle.mig_headers.specs.Contexts.{ChainTo, Scanned, scan, scan_at, fault_at, is_last, entry_end, after_entry, cut_at}
 
 stepped : (bytes : List ℕ) (o : ℕ) → fault_at bytes o ≡ None → is_last bytes o ≡ false → after_entry bytes o ≡ Some (entry_end bytes o)
 unfolding after_entry
@@ -37,16 +36,21 @@ within : (bytes : List ℕ) (o : ℕ) → fault_at bytes o ≡ None → o < leng
 unfolding fault_at
 within bytes o fine = grind (arith, common_steps)
 
-none_of : (f : Option ContextFault) → is_some f ≡ false → f ≡ None
+pub none_of : (f : Option ContextFault) → is_some f ≡ false → f ≡ None
 none_of None e = refl
 none_of (Some f) e = cc
 
-gone : (a b : Bool) (e t : ℕ) → cond a None (cond b None (Some e)) ≡ Some t → (a ≡ false) × (e ≡ t)
+pub gone : (a b : Bool) (e t : ℕ) → cond a None (cond b None (Some e)) ≡ Some t → (a ≡ false) × (e ≡ t)
 gone true b e t h = (cc, cc)
 gone false true e t h = (cc, cc)
 gone false false e t h = (refl, cc)
 
-falls : (bytes : List ℕ) (o t : ℕ) → after_entry bytes o ≡ Some t → length bytes - t < length bytes - o
+pub not_last : (a b : Bool) (e u : ℕ) → cond a None (cond b None (Some e)) ≡ Some u → b ≡ false
+not_last a false e u h = refl
+not_last true true e u h = let no : ◌≡◌ {A = Option ℕ} None (Some u) = h in cc
+not_last false true e u h = let no : ◌≡◌ {A = Option ℕ} None (Some u) = h in cc
+
+pub falls : (bytes : List ℕ) (o t : ℕ) → after_entry bytes o ≡ Some t → length bytes - t < length bytes - o
 unfolding after_entry
 falls bytes o t goes =
     let (fine, is) = gone (is_some (fault_at bytes o)) (is_last bytes o) (entry_end bytes o) t goes in
@@ -65,18 +69,6 @@ scan_is bytes (Err f) (o, chain, fault) = sym (scan_where bytes o (Some f) (ends
 
 -- ---- a chain, cut at its end
 
-no_rows : {C : Type 0} (rows : List (Bool × C)) → AllByRecursion (λ row. row.0 ≡ false) rows → first_fault rows ≡ None
-no_rows [] h = refl
-no_rows (row ∷ rows) h = rw h.0 (no_rows rows h.1)
-
-rows_fine : {C : Type 0} (rows : List (Bool × C)) → first_fault rows ≡ None → AllByRecursion (λ row. row.0 ≡ false) rows
-rows_fine [] h = tt
-rows_fine {C} ((true, c) ∷ rows) h = let no : ◌≡◌ {A = Option C} (Some c) None = h in absurd (some_none no)
-  where
-    some_none : {c : C} → Some c ≡ None → ⊥
-    some_none e = cc
-rows_fine ((false, c) ∷ rows) h = (refl, rows_fine rows h)
-
 rows : List ℕ → ℕ → List (Bool × ContextFault)
 rows bytes o =
     (nat_le (length bytes) o && nat_eq o 0, NoHeader)
@@ -88,21 +80,21 @@ rows bytes o =
     ∷ []
 
 -- an entry without fault
-record Sound (bytes : List ℕ) (o : ℕ) : Type 0 where
-  r1 : (nat_le (length bytes) o && nat_eq o 0) ≡ false
-  r2 : nat_le (length bytes) o ≡ false
-  r3 : nat_lt (length bytes) (o + 8) ≡ false
-  r4 : (nat_eq o 0 && not (nat_eq (le16 bytes 0) 1)) ≡ false
-  r5 : (nat_eq o 0 && not (nat_eq (le32 bytes 4) 24)) ≡ false
-  r6 : (not (is_last bytes o) && nat_lt (length bytes) (entry_end bytes o)) ≡ false
+pub record Sound (bytes : List ℕ) (o : ℕ) : Type 0 where
+  pub r1 : (nat_le (length bytes) o && nat_eq o 0) ≡ false
+  pub r2 : nat_le (length bytes) o ≡ false
+  pub r3 : nat_lt (length bytes) (o + 8) ≡ false
+  pub r4 : (nat_eq o 0 && not (nat_eq (le16 bytes 0) 1)) ≡ false
+  pub r5 : (nat_eq o 0 && not (nat_eq (le32 bytes 4) 24)) ≡ false
+  pub r6 : (not (is_last bytes o) && nat_lt (length bytes) (entry_end bytes o)) ≡ false
 
-sound_of : (bytes : List ℕ) (o : ℕ) → fault_at bytes o ≡ None → Sound bytes o
+pub sound_of : (bytes : List ℕ) (o : ℕ) → fault_at bytes o ≡ None → Sound bytes o
 unfolding fault_at rows
 sound_of bytes o h = let a = rows_fine (rows bytes o) h in record { r1 = a.0; r2 = a.1.0; r3 = a.1.1.0; r4 = a.1.1.1.0; r5 = a.1.1.1.1.0; r6 = a.1.1.1.1.1.0 }
 
-fine_of : (bytes : List ℕ) (o : ℕ) → Sound bytes o → fault_at bytes o ≡ None
+pub fine_of : (bytes : List ℕ) (o : ℕ) → Sound bytes o → fault_at bytes o ≡ None
 unfolding fault_at rows
-fine_of bytes o s = no_rows (rows bytes o) (s.r1, (s.r2, (s.r3, (s.r4, (s.r5, (s.r6, tt))))))
+fine_of bytes o s = no_fault (rows bytes o) (s.r1, (s.r2, (s.r3, (s.r4, (s.r5, (s.r6, tt))))))
 
 last_of : (bytes : List ℕ) (o : ℕ) (f : Option ContextFault) (b : Bool) → f ≡ None → cond (is_some f) None (cond b None (Some (entry_end bytes o))) ≡ None → b ≡ true
 last_of bytes o f true e h = refl
@@ -122,9 +114,6 @@ scan_found bytes o h =
     let stops = walk_end_ends (after_entry bytes) (λ i. length bytes - i) (falls bytes) (length bytes) 0 (omega arith) in
     subst (λ n. ChainTo bytes n × (fault_at bytes n ≡ None) × (is_last bytes n ≡ true)) is
     (walk_end_reached (after_entry bytes) (length bytes) 0 0 here, fine, last_of bytes w (fault_at bytes w) (is_last bytes w) fine stops)
-
-abbrev cut_at : List ℕ → ℕ → List ℕ
-cut_at bytes o = take o bytes ++ replicate 8 0
 
 cut_len : (bytes : List ℕ) (o : ℕ) → o ≤ length bytes → length (cut_at bytes o) ≡ o + 8
 cut_len bytes o h = length-append (take o bytes) (replicate 8 0) ∙ ap (λ n. n + 8) (length-take-le o bytes h)
@@ -147,21 +136,21 @@ zero_at : (bytes : List ℕ) (o : ℕ) → o ≤ length bytes → le16 (cut_at b
 unfolding le16
 zero_at bytes o fits = ap (little_number 2) (drop_at (take o bytes) (replicate 8 0) o (length-take-le o bytes fits))
 
-le_false : (n m : ℕ) → m < n → nat_le n m ≡ false
+pub le_false : (n m : ℕ) → m < n → nat_le n m ≡ false
 le_false n m h = grind (arith, common_steps)
 
-lt_false : (n m : ℕ) → m ≤ n → nat_lt n m ≡ false
+pub lt_false : (n m : ℕ) → m ≤ n → nat_lt n m ≡ false
 lt_false n m h = grind (arith, common_steps)
 
-and_false : (a b : Bool) → b ≡ false → (a && b) ≡ false
+pub and_false : (a b : Bool) → b ≡ false → (a && b) ≡ false
 and_false true b e = e
 and_false false b e = refl
 
-at_zero : (b c : Bool) → (b ≡ true → c ≡ false) → (b && c) ≡ false
+pub at_zero : (b c : Bool) → (b ≡ true → c ≡ false) → (b && c) ≡ false
 at_zero true c h = h refl
 at_zero false c h = refl
 
-when_zero : (b c : Bool) → (b && c) ≡ false → b ≡ true → c ≡ false
+pub when_zero : (b c : Bool) → (b && c) ≡ false → b ≡ true → c ≡ false
 when_zero true c h e = h
 when_zero false c h e = cc
 
@@ -185,18 +174,13 @@ module _ (bytes : List ℕ) (o : ℕ) (fits : o ≤ length bytes) where
         r6 = and_false (not (is_last (cut_at bytes o) s)) _ (lt_false (length (cut_at bytes o)) (entry_end (cut_at bytes o) s) (omega (arith, size, same_end, is, le)));
       } in
       rw (fine_of (cut_at bytes o) s now, same_last) (ap Some (same_end ∙ is))
-    where
-      not_last : (a b : Bool) (e u : ℕ) → cond a None (cond b None (Some e)) ≡ Some u → b ≡ false
-      not_last a false e u h = refl
-      not_last true true e u h = let no : ◌≡◌ {A = Option ℕ} None (Some u) = h in cc
-      not_last false true e u h = let no : ◌≡◌ {A = Option ℕ} None (Some u) = h in cc
 
   chain_kept : (t : ℕ) → t ≤ o → ChainTo bytes t → ChainTo (cut_at bytes o) t
   chain_kept _ le here = here
   chain_kept _ le (next s t reached goes) =
       next s t (chain_kept s (omega (arith, falls bytes s t goes, le)) reached) (entry_kept s t le goes)
 
-not_first : (bytes : List ℕ) (o : ℕ) → Sound bytes o → is_last bytes o ≡ true → (b : Bool) → nat_eq o 0 ≡ b → b ≡ false
+pub not_first : (bytes : List ℕ) (o : ℕ) → Sound bytes o → is_last bytes o ≡ true → (b : Bool) → nat_eq o 0 ≡ b → b ≡ false
 not_first bytes o s last false is = refl
 not_first bytes o s last true is =
     let one = when_zero (nat_eq o 0) _ s.r4 is in
@@ -207,7 +191,7 @@ not_first bytes o s last true is =
     apart n p q = grind (arith, common_steps)
 
 -- a chain that is cut at its end is a chain with this end
-pub scan_cut : (bytes : List ℕ) (o : ℕ) → scan bytes ≡ Ok o → scan (take o bytes ++ replicate 8 0) ≡ Ok o
+pub scan_cut : (bytes : List ℕ) (o : ℕ) → scan bytes ≡ Ok o → scan (cut_at bytes o) ≡ Ok o
 scan_cut bytes o h =
     let found = scan_found bytes o h in
     let s = sound_of bytes o found.1 in

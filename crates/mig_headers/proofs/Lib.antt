@@ -4,3 +4,4 @@ pub mod Writing
 pub mod Chains
 pub mod PairTexts
 pub mod FirstFaults
+pub mod ContextTexts

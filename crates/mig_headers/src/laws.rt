@@ -1,3 +1,4 @@
+ghost use Rattle.mig_headers.specs.Contexts.{ContextsAreSpelled};
 ghost use Rattle.mig_headers.specs.HeaderLaws.{ImageHeaderIsSpelled, DomainHeaderIsSpelled, ImageHeadersAreReadBack, DomainHeadersAreReadBack};
 ghost use Rattle.mig_headers.specs.Pairs.{CanonicalPairsAreComputed};
 ghost use Rattle.mig_headers.specs.RecordTypes.{NumbersAreInverse};
@@ -22,4 +23,10 @@ pub fn record_number_law()
 /// The test of bytes for pairs in canonical form holds exactly where they spell such pairs.
 pub fn canonical_pairs_law()
     ensures { CanonicalPairsAreComputed }
+{}
+
+/// A chain without fault is exactly one that is spelled as entries, the header first, and END; the scan answers where
+/// END stands.
+pub fn context_law()
+    ensures { ContextsAreSpelled }
 {}

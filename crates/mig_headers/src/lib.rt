@@ -29,6 +29,8 @@ pub use header::{DomainHeader, ImageHeader};
 pub use image_fault::{ImageCause, ImagePlace};
 pub use image_text::{put_image_cause, put_image_place};
 pub use kind::Kind;
-pub use laws::{canonical_pairs_law, domain_header_laws, image_header_laws, record_number_law};
+pub use laws::{
+    canonical_pairs_law, context_law, domain_header_laws, image_header_laws, record_number_law,
+};
 pub use record_type::{RecordType, is_optional};
 pub use text::{put_cause, put_number, put_place};

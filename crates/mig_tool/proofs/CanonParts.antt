@@ -27,6 +27,7 @@ use Rattle.mig_guest.specs.declared.part_code.PartCode.TheVariants.{Tsc, HvmCont
 use Rattle.mig_bodies.specs.Layouts.{layout, AreTableEntries}
 use Rattle.mig_bodies.specs.Shapes.{IsBody}
 use Rattle.mig_bodies.proofs.Rows.{small_passes}
+use Rattle.mig_bodies.proofs.Spelled.{scanned_chain}
 use Rattle.mig_guest.specs.Formed.{IsFormed}
 use Rattle.mig_guest.proofs.CodeParts.{IsHeld, parts_are, held_tsc, held_context, held_param, held_leaf, held_msr, few_params}
 use Rattle.mig_canon.specs.Canon.{Part, of_code, leaves_body, msrs_body, params_body, param_bytes, tsc_body}
@@ -154,10 +155,7 @@ module _ (g : GuestOf) (formed : IsFormed g) where
   context_fits p one =
       let t = held_context g p one in let cut = t.2 in
       record {
-        says = λ top. sets types.HvmContext HvmContext p.1 (p ∷ []) refl refl (record {
-          end = cut.0;
-          scanned = cut.1;
-          says = ap (λ (k : PartKey). (k, p.1) ∷ []) t.0 ∙ ap (λ (v : List ℕ). (context_key, v) ∷ []) (sym cut.2);
-        });
+        says = λ top. sets types.HvmContext HvmContext p.1 (p ∷ []) refl refl
+            (scanned_chain HvmContext p.1 (p ∷ []) cut.0 cut.1 (ap (λ (k : PartKey). (k, p.1) ∷ []) t.0 ∙ ap (λ (v : List ℕ). (context_key, v) ∷ []) (sym cut.2)));
         short = t.1;
       }
