@@ -5,6 +5,7 @@ pub mod FrameTexts
 pub mod FramesBack
 pub mod HostEntries
 pub mod HostMaps
+pub mod HostViews
 pub mod HostsMade
 pub mod ImageBack
 pub mod ImageFronts

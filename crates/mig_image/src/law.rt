@@ -4,6 +4,7 @@ ghost use Rattle.mig_bytes.specs.Judged.Judged.{Passes};
 ghost use Rattle.mig_headers.specs.declared.kind.Kind.TheVariants.{Hvm};
 ghost use Rattle.mig_guest.specs.Guests.{GuestOf};
 ghost use Rattle.mig_guest.specs.Hosts.{HostOf, IsValid};
+ghost use Rattle.mig_pvtables.specs.View.{hvm_view};
 ghost use Rattle.mig_pvtables.specs.Whole.{IsWhole};
 ghost use Rattle.mig_image.specs.Hosted.{hosted, IsBaseOutside};
 ghost use Rattle.mig_image.specs.Image.{IsImage};
@@ -27,4 +28,9 @@ pub fn one_image()
 /// What a whole HVM guest becomes is a valid host, where the base isn't out of range.
 pub fn hosted_is_valid()
     ensures { (guest : GuestOf) (base : ℕ) → IsWhole guest → guest.kind ≡ Hvm → (IsBaseOutside guest base → ⊥) → IsValid (hosted guest base) }
+{}
+
+/// The host that a whole HVM guest becomes is seen as this guest, whatever the base.
+pub fn hosted_is_seen()
+    ensures { (guest : GuestOf) (base : ℕ) → IsWhole guest → guest.kind ≡ Hvm → hvm_view (hosted guest base) ≡ guest }
 {}

@@ -4,3 +4,4 @@ pub mod Blank
 pub mod Faults
 pub mod Whole
 pub mod WholePv
+pub mod View
