@@ -21,6 +21,3 @@ pub use laws::{
 pub use layout::Layout;
 pub use read::{body_fault, read_body, read_single};
 pub use shape::{Shape, shape_of};
-
-#[cfg(test)]
-mod tests;

@@ -32,6 +32,3 @@ pub use put::put_all;
 pub use sink::Sink;
 pub use source::Source;
 pub use take::{Got, TakeFault, skip, take_exact, take_vec};
-
-#[cfg(test)]
-mod tests;

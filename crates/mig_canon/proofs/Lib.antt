@@ -2,4 +2,3 @@ pub mod Steps
 pub mod Wholes
 pub mod Spelling
 pub mod Batches
-pub mod Samples

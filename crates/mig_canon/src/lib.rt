@@ -11,8 +11,6 @@
 
 mod entries;
 mod frames;
-#[cfg(test)]
-mod tests;
 mod writer;
 
 pub use writer::write_canon;

@@ -204,35 +204,3 @@ impl Parts {
         );
     }
 }
-
-#[cfg(test)]
-mod tests {
-    use crate::{Guest, PartKey};
-    use mig_headers::Kind;
-
-    fn key(code: u32, key1: u32) -> PartKey
-        ensures { result.code ≡ code }
-    {
-        PartKey {
-            code,
-            key1,
-            key2: 0,
-        }
-    }
-
-    #[test]
-    fn parts_of_a_code(rt: HostRuntime) {
-        let mut guest = Guest::new(rt.alloc(), Kind::Hvm);
-        for (code, index) in [(10, 7), (9, 0), (10, 3), (17, 0)] {
-            assert!(rt;
-                guest
-                    .set_part(key(code, index), &index.to_le_bytes())
-                    .is_ok()
-            );
-        }
-        assert!(rt; guest.next_of_code(10, None) == Some((key(10, 3), &[3, 0, 0, 0])));
-        assert!(rt; guest.next_of_code(10, Some(key(10, 3))) == Some((key(10, 7), &[7, 0, 0, 0])));
-        assert!(rt; guest.next_of_code(10, Some(key(10, 7))) == None);
-        assert!(rt; guest.next_of_code(8, None) == None);
-    }
-}

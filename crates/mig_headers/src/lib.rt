@@ -18,11 +18,7 @@ mod image_text;
 mod kind;
 mod laws;
 mod record_type;
-#[cfg(test)]
-mod tests;
 mod text;
-#[cfg(test)]
-mod text_tests;
 
 pub use fault::{Cause, ContextFault, Place};
 pub use header::{DomainHeader, ImageHeader};

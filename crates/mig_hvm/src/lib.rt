@@ -13,6 +13,3 @@ mod params;
 
 pub use context::{read_context, scan_context};
 pub use params::{params_fault, read_params};
-
-#[cfg(test)]
-mod tests;

@@ -22,6 +22,4 @@ pub mod PartsMore
 pub mod Pieces
 pub mod Ranks
 pub mod RestoredHosts
-pub mod RestoredSamples
-pub mod Samples
 pub mod Walked

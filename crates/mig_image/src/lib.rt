@@ -22,6 +22,3 @@ pub use law::{hosted_is_seen, hosted_is_valid, image_is_judged, judged_is_image,
 pub use read::{ImageAnswer, read_host};
 pub use restore::{HostAnswer, host_of};
 pub use write::write_host;
-
-#[cfg(test)]
-mod read_tests;

@@ -13,8 +13,6 @@
 mod gate;
 mod law;
 mod sort;
-#[cfg(test)]
-mod tests;
 
 pub use gate::Gate;
 pub use law::order_law;

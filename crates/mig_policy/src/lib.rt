@@ -15,6 +15,3 @@ mod tsc;
 pub use pairs::canonical_pairs;
 pub use policies::{read_cpuid, read_msr};
 pub use tsc::read_tsc;
-
-#[cfg(test)]
-mod tests;

@@ -23,6 +23,3 @@ pub use laws::{
 };
 pub use words::{data_len, words_fault};
 pub use write::{write_head, write_padding, write_record};
-
-#[cfg(test)]
-mod tests;

@@ -15,8 +15,6 @@ mod body;
 mod head;
 mod law;
 mod read;
-#[cfg(test)]
-mod tests;
 
 pub use answer::StreamAnswer;
 pub use law::{

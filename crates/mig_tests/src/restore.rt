@@ -1,7 +1,7 @@
-use crate::{StreamAnswer, read_image};
 use mig_bytes::{MemSource, skip};
 use mig_guest::PartKey;
 use mig_headers::{Cause, Place};
+use mig_restore::{StreamAnswer, read_image};
 use std::alloc::Global;
 use std::test::Fail;
 

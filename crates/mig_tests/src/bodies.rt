@@ -1,4 +1,7 @@
-use super::*;
+use mig_bodies::{
+    bodies_are_spelled_law, bodies_keep_formed_law, bodies_say_one_law, bodies_say_parts_law,
+    body_fault, read_body, read_single,
+};
 use mig_guest::{Guest, PartCode, PartKey};
 use mig_headers::{Cause, Kind};
 use std::test::Fail;

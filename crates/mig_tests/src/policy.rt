@@ -1,6 +1,6 @@
-use super::*;
 use mig_guest::{Guest, PartKey};
 use mig_headers::Kind;
+use mig_policy::{canonical_pairs, read_cpuid, read_msr, read_tsc};
 use std::test::Fail;
 
 // Leaves 1 and 2.

@@ -1,6 +1,6 @@
-use super::*;
 use mig_guest::{Guest, PartKey};
 use mig_headers::{Cause, ContextFault, Kind};
+use mig_hvm::{params_fault, read_context, read_params, scan_context};
 use std::test::Fail;
 
 // A chain of a HEADER with 24 bytes, an entry of typecode 2 with 4 bytes, and an END whose other fields aren't zero;

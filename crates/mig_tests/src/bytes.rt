@@ -1,4 +1,8 @@
-use crate::*;
+use mig_bytes::{
+    Got, InSource, MemSink, MemSource, OutSink, ReadFailed, Sink, TakeFault, WriteFailed, pad_len,
+    put_all, put_u16_le, put_u32_be, put_u32_le, put_u64_be, put_u64_le, skip, take_exact,
+    take_vec, u16_be, u16_le, u32_be, u32_le, u64_be, u64_le,
+};
 use std::alloc::Global;
 use std::io;
 use std::io::{Read, Write};
@@ -196,23 +200,6 @@ impl Write for Wire {
         }
         Ok(())
     }
-}
-
-#[test]
-fn adapters_pass_on(rt: HostRuntime) -> Result<(), Fail> {
-    let mut reader = TEN.as_slice();
-    let mut src = InSource::new(&mut reader);
-    let mut buf = [0; 4];
-    assert_eq!(rt; take_exact(&mut src, &mut buf), Ok(Got::Whole));
-    assert_eq!(rt; buf, [10, 11, 12, 13]);
-    assert_eq!(rt; skip(&mut src, 7), Ok(false));
-    let mut written = Vec::new(rt.alloc());
-    let mut sink = OutSink::new(&mut written);
-    assert_eq!(rt; put_all(&mut sink, b"ab"), Ok(()));
-    assert_eq!(rt; sink.write(b""), Ok(0));
-    drop(sink);
-    assert_eq!(rt; written.as_slice(), b"ab".as_slice());
-    Ok(())
 }
 
 #[test]
