@@ -1,5 +1,5 @@
 -- What is kept of a well formed guest where parts are set: one lemma over the table, whatever the code.
-use Rattle.std.proofs.Common.{◌≡◌, ◌≢◌, ℕ, suc, ◌+◌, ◌≤◌, List, [], ◌∷◌, length, Bool, true, false, cond, not, nat_eq, Option, Some, None, refl, sym, ap, subst, ◌∙◌, arith}
+use Rattle.std.proofs.Common.{◌≡◌, ◌≢◌, ℕ, suc, ◌≤◌, List, [], ◌∷◌, length, Bool, true, false, cond, not, nat_eq, Option, Some, None, refl, sym, ap, subst, ◌∙◌, arith}
 use Rattle.std.specs.Ordering.{eq_by_cmp, nat_cmp}
 use Rattle.std.specs.FinMap.{nat_cmp-IsAntisymmetric}
 use Rattle.std.proofs.lemmas.Cmp.{nat_cmp_total}
@@ -176,13 +176,16 @@ no_entries = empty_list (fin.entries fin.empty) (sym (fin.len-entries (fin.empty
     empty_list [] e = refl
     empty_list (x ∷ l) e = let no : suc (length l) ≡ 0 = e in absurd (omega (arith, no))
 
-pub empty_formed : (kind : Kind) → IsFormed (record { kind = kind; top = 0; frames = fin.empty; parts = fin.empty })
-empty_formed kind = record {
-  top = by kind;
+pub bare_formed : (kind : Kind) (top : ℕ) → IsTop kind top → IsFormed (record { kind = kind; top = top; frames = fin.empty; parts = fin.empty })
+bare_formed kind top fits = record {
+  top = fits;
   frames = λ pfn frame got. let no : None ≡ Some frame = sym (fin.get-empty nat_cmp pfn) ∙ got in cc;
   parts = λ key bytes got. let no : None ≡ Some bytes = sym (fin.get-empty part_cmp key) ∙ got in cc;
   policies = λ code one. subst (λ es. length (parts_of code es) ≤ 65536) (sym no_entries) (omega arith);
 }
+
+pub empty_formed : (kind : Kind) → IsFormed (record { kind = kind; top = 0; frames = fin.empty; parts = fin.empty })
+empty_formed kind = bare_formed kind 0 (by kind)
   where
     by : (kind : Kind) → IsTop kind 0
     by Pv = omega arith

@@ -9,7 +9,7 @@ use Rattle.mig_headers.specs.Rows.{first_fault}
 use Rattle.mig_headers.specs.declared.fault.Cause.{Cause}
 use Rattle.mig_headers.specs.declared.fault.Cause.TheVariants.{Missing, TooManyFrames}
 use Rattle.mig_headers.specs.declared.kind.Kind.TheVariants.{Hvm}
-use Rattle.mig_headers.proofs.FirstFaults.{both_none, neither_some}
+use Rattle.mig_headers.proofs.FirstFaults.{both_none}
 use Rattle.mig_pagetypes.specs.Limits.{most_frames}
 use Rattle.mig_guest.specs.Frames.{IsFew}
 use Rattle.mig_guest.specs.Guests.{GuestOf}

@@ -1,12 +1,10 @@
 -- HVM guests that are made step by step, as tests make them, are whole.
-use Rattle.std.proofs.Common.{◌≡◌, ◌≢◌, ℕ, ◌+◌, ◌≤◌, ◌<◌, List, [], ◌∷◌, length, filter, Bool, true, false, cond, Option, Some, None, IsSome, is_some, refl, sym, ap, subst, ◌∙◌, arith}
+use Rattle.std.proofs.Common.{◌≡◌, ◌≢◌, ℕ, ◌+◌, ◌≤◌, ◌<◌, List, [], ◌∷◌, length, filter, Bool, true, false, cond, Option, Some, None, IsSome, refl, sym, ap, subst, ◌∙◌, arith}
 use Rattle.std.specs.Prelude.{◌==◌}
-use Rattle.std.specs.Ordering.{nat_cmp, eq_by_cmp}
+use Rattle.std.specs.Ordering.{eq_by_cmp}
 use Rattle.std.specs.Cmp.{nat_cmp_total}
 use Rattle.std.specs.FinMap as maps
-use Rattle.std.specs.FinMap.{nat_cmp-IsAntisymmetric}
 use Rattle.std.proofs.lemmas.Cmp.{eq_by_cmp_equiv}
-use Rattle.mig_headers.specs.declared.kind.Kind.{Kind}
 use Rattle.mig_headers.specs.declared.kind.Kind.TheVariants.{Hvm}
 use Rattle.mig_pagetypes.specs.Limits.{pfn_limit, most_frames}
 use Rattle.mig_pagetypes.specs.PageTypes.{type_has_data}
@@ -18,12 +16,12 @@ use Rattle.mig_guest.specs.Guests.{GuestOf}
 use Rattle.mig_guest.specs.Order.{part_cmp}
 use Rattle.mig_guest.specs.Parts.{PartMap, FitsPolicy}
 use Rattle.mig_guest.specs.PartKeys.{context_key}
-use Rattle.mig_guest.specs.Formed.{IsPart, IsFormed, IsGuestFrame, HasNoEmulators, IsPlainHvm, is_emulator_code, width_of}
+use Rattle.mig_guest.specs.Formed.{IsPart, IsFormed, IsGuestFrame, IsPlainHvm, is_emulator_code, width_of}
 use Rattle.mig_guest.proofs.Kept.{empty_formed, insert_holds, set_holds}
 use Rattle.mig_guest.proofs.PartRows.{hvm_frame}
 use Rattle.mig_guest.proofs.PartOrder.{part_total}
 use Rattle.mig_pvtables.specs.Whole.{IsWhole}
-use Rattle.mig_pvtables.proofs.HvmGuests.{hvm_complete, hvm_faultless}
+use Rattle.mig_pvtables.proofs.HvmGuests.{hvm_faultless}
 
 -- an HVM guest of at most n parts, as far as each step keeps it
 pub record IsSample (n : ℕ) (g : GuestOf) : Type 0 where
@@ -54,7 +52,7 @@ fewer p (e ∷ es) = kept (p e) (fewer p es)
 fits : (code : ℕ) (m : PartMap) → maps.len m ≤ 65536 → FitsPolicy code m
 fits code m h = omega (arith, fewer (λ e. e.0.code == code) (maps.entries m), maps.len-entries m)
 
-one_more : (b : Bool) (n : ℕ) → cond b n (n + 1) ≤ n + 1
+pub one_more : (b : Bool) (n : ℕ) → cond b n (n + 1) ≤ n + 1
 one_more true n = omega arith
 one_more false n = omega arith
 

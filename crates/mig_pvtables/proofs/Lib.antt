@@ -3,3 +3,4 @@ pub mod HvmSamples
 pub mod Searches
 pub mod EachValue
 pub mod PvGuests
+pub mod PvSample

@@ -19,7 +19,7 @@ use Rattle.mig_guest.specs.declared.part_key.PartKey.{PartKey}
 use Rattle.mig_guest.specs.declared.table.Entry.{Entry}
 use Rattle.mig_guest.specs.declared.table.Entry.TheVariants.{Blank, NotPresent, Superpage, Frame}
 use Rattle.mig_guest.specs.Formed.{gdt_ents}
-use Rattle.mig_guest.specs.Frames.{FrameOf, FrameMap, IsFew}
+use Rattle.mig_guest.specs.Frames.{FrameOf, FrameMap}
 use Rattle.mig_guest.specs.Guests.{GuestOf}
 use Rattle.mig_guest.specs.Longs.{long_at}
 use Rattle.mig_guest.specs.Parts.{PartMap}
@@ -28,7 +28,7 @@ use Rattle.mig_guest.specs.Tables.{entry, EachEntry}
 use Rattle.mig_guest.proofs.PartOrder.{part_total, part_exact}
 use Rattle.mig_pvtables.specs.VcpuContexts.{field_value, is_used, frame_of_field}
 use Rattle.mig_pvtables.specs.P2mFrames.{count_in, listed_in, listed}
-use Rattle.mig_pvtables.specs.Faults.{first_of, missing, slots, type_at, is_notab, is_needed, is_this, is_misplaced, find_p2m, find_slot, find_entry, is_absent, field_numbers, fits_field, misfits, find_field, too_many, faults_for, fault_of_guest}
+use Rattle.mig_pvtables.specs.Faults.{first_of, slots, type_at, is_notab, is_needed, is_this, is_misplaced, find_p2m, find_slot, find_entry, is_absent, field_numbers, fits_field, misfits, find_field, faults_for, fault_of_guest}
 use Rattle.mig_pvtables.specs.Whole.{IsWhole}
 use Rattle.mig_pvtables.specs.WholePv.{IsEmptyRange, AreP2mFrames, FieldsFit, IsWholePv}
 use Rattle.mig_pvtables.proofs.Searches.{none_in_range, none_any, not_in_range, not_any, none_found, not_found}

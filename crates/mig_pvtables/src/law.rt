@@ -29,6 +29,11 @@ pub fn pv_guest_is_whole()
     ensures { (g : GuestOf) → g.kind ≡ Pv → IsWhole g ↔ IsWholePv g }
 {}
 
+/// Some PV guest is whole.
+pub fn some_pv_guest_is_whole()
+    ensures { (g : GuestOf) × (g.kind ≡ Pv) × IsWhole g }
+{}
+
 /// An HVM guest is its own blank form.
 pub fn hvm_guest_is_blank()
     ensures { (g : GuestOf) → g.kind ≡ Hvm → blank g ≡ g }

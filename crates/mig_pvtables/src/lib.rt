@@ -8,4 +8,5 @@ mod law;
 
 pub use law::{
     hvm_guest_has_two_faults, hvm_guest_is_blank, hvm_guest_is_whole, pv_guest_is_whole,
+    some_pv_guest_is_whole,
 };
