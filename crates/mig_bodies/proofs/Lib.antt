@@ -3,3 +3,4 @@ pub mod Spelled
 pub mod Reading
 pub mod Rows
 pub mod Kept
+pub mod Small

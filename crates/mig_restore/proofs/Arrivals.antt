@@ -19,6 +19,7 @@ use Rattle.mig_headers.specs.declared.fault.Cause.TheVariants.{Truncated}
 use Rattle.mig_headers.specs.declared.fault.Place.{Place}
 use Rattle.mig_headers.specs.declared.fault.Place.TheVariants.{Record}
 use Rattle.mig_headers.specs.declared.kind.Kind.{Kind}
+use Rattle.mig_headers.specs.declared.kind.Kind.TheVariants.{Hvm}
 use Rattle.mig_headers.specs.declared.record_type.RecordType.{RecordType}
 use Rattle.mig_headers.specs.declared.record_type.RecordType.TheVariants.{PageData}
 use Rattle.mig_guest.specs.Guests.{GuestOf}
@@ -28,13 +29,13 @@ use Rattle.mig_guest.specs.declared.part_code.PartCode.{PartCode}
 use Rattle.mig_bodies.specs.Shapes.{fault_of_body}
 use Rattle.mig_restore.specs.declared.head.Seen.{Seen}
 use Rattle.mig_restore.specs.declared.read.Reading.{Reading}
-use Rattle.mig_restore.specs.Mean.{mean, put_record, empty_guest}
+use Rattle.mig_restore.specs.Mean.{sent, put_record, empty_guest}
 use Rattle.mig_restore.specs.Record.{StreamRecord, Content, types_of, is_ended}
 use Rattle.mig_restore.specs.Judging.{Opening, Before, before, record_at, next_at, head_at, body_at, typed_at, pages_at, entries_at, page_at, entry_at, plain_at, code_of_type, coded_at, words_at, fault_of_head, fault_of_data, fault_at_end}
 use Rattle.mig_restore.specs.Seen.{IsSeen}
 use Rattle.mig_restore.specs.Stream.{Front, one_more, at_start, front_of, front_with, image_of, ended_at, records_at, IsReading}
 use Rattle.mig_restore.proofs.Parts.{begins, behind_head, asks, behind_record}
-use Rattle.mig_restore.proofs.Meaning.{one_more_record}
+use Rattle.mig_restore.proofs.Meaning.{one_more_record, meant_as_sent}
 
 -- ---- judging takes bytes away
 
@@ -117,7 +118,7 @@ unfolding next_at
 leaves_next o records i =
     let m = length i - 8 in
     leaves_then m m (record_at (before o records) i) _ (leaves_record (before o records) i)
-    (λ r rest le. checked m (fault_at_end r.type (mean o.kind (records ++ r ∷ []))) rest _ le (leaves_all m _ rest le))
+    (λ r rest le. checked m (fault_at_end r.type (sent o.kind (records ++ r ∷ []))) rest _ le (leaves_all m _ rest le))
 
 -- ---- the front
 
@@ -193,7 +194,7 @@ ended_more records r going =
 module _ (o : Opening) where
   abbrev pub Arrived : Option (List ℕ) → Option (List ℕ) → Seen → GuestOf → Type 0
   Arrived None now seen guest = ⊤
-  Arrived (Some rest) now seen guest = (f : Front) × Reaches (one_more o) (at_start rest) f × (now ≡ Some f.rest) × IsSeen seen o (types_of f.records) × (guest ≡ mean o.kind f.records) × (is_ended f.records ≡ false)
+  Arrived (Some rest) now seen guest = (f : Front) × Reaches (one_more o) (at_start rest) f × (now ≡ Some f.rest) × IsSeen seen o (types_of f.records) × (guest ≡ sent o.kind f.records) × (is_ended f.records ≡ false)
 
   -- what a record that was read says of the guest, and whether it ends the image
   abbrev pub Told : GuestOf → GuestOf → Seen → List StreamRecord → Bool → StreamRecord → Type 0
@@ -201,17 +202,17 @@ module _ (o : Opening) where
 
   -- the clause of the reader of a record
   abbrev pub Tells : GuestOf → GuestOf → Seen → Seen → Option (List ℕ) → Option (List ℕ) → Result Bool (Stop Cause) → Type 0
-  Tells guest guest' seen seen' b c r = (records : List StreamRecord) → IsSeen seen o (types_of records) → guest ≡ mean o.kind records → Gives (Told guest guest' seen' records) b c (next_at o records) r
+  Tells guest guest' seen seen' b c r = (records : List StreamRecord) → IsSeen seen o (types_of records) → guest ≡ sent o.kind records → Gives (Told guest guest' seen' records) b c (next_at o records) r
 
   pub arrived_first : (a : Option (List ℕ)) (seen : Seen) (guest : GuestOf) → IsSeen seen o [] → guest ≡ empty_guest o.kind → Arrived a a seen guest
-  unfolding mean
+  unfolding sent
   arrived_first None seen guest s g = tt
   arrived_first (Some i) seen guest s g = (at_start i, here, refl, s, g, refl)
 
   -- one record more
   arrived_after : (rest : List ℕ) (f : Front) (r : StreamRecord) (after : List ℕ) (guest guest' : GuestOf) → Reaches (one_more o) (at_start rest) f → is_ended f.records ≡ false → next_at o f.records f.rest ≡ Passes r after
-      → guest ≡ mean o.kind f.records → guest' ≡ put_record guest r
-      → Reaches (one_more o) (at_start rest) (record { records = f.records ++ r ∷ []; rest = after }) × (guest' ≡ mean o.kind (f.records ++ r ∷ []))
+      → guest ≡ sent o.kind f.records → guest' ≡ put_record guest r
+      → Reaches (one_more o) (at_start rest) (record { records = f.records ++ r ∷ []; rest = after }) × (guest' ≡ sent o.kind (f.records ++ r ∷ []))
   arrived_after rest f r after guest guest' reached going is g g' =
       (next f (record { records = f.records ++ r ∷ []; rest = after }) reached (goes_on o f r after going is), g' ∙ ap (λ w. put_record w r) g ∙ sym (one_more_record o.kind f.records r))
 
@@ -222,15 +223,15 @@ module _ (o : Opening) where
       let (reached', g'') = arrived_after i f r after guest guest' reached going is g told'.0 in
       (record { records = f.records ++ r ∷ []; rest = after }, reached', left, told'.1, g'', ended_more f.records r going ∙ sym told'.2 ∙ is_open)
 
-  pub arrived_end : (a b c : Option (List ℕ)) (seen seen' : Seen) (guest guest' : GuestOf) (reading : Reading) (over : Bool) → over ≡ true → reading.guest ≡ guest' → reading.version ≡ o.version → reading.records ≡ seen'.records → Arrived a b seen guest
+  pub arrived_end : (a b c : Option (List ℕ)) (seen seen' : Seen) (guest guest' : GuestOf) (reading : Reading) (over : Bool) → over ≡ true → guest'.kind ≡ Hvm → reading.guest ≡ guest' → reading.version ≡ o.version → reading.records ≡ seen'.records → Arrived a b seen guest
       → Tells guest guest' seen seen' b c (Ok over) → Gives IsReading a c (records_at o) (Ok reading)
-  arrived_end None b c seen seen' guest guest' reading over is_over rg rv rs h told = tt
-  arrived_end (Some i) b c seen seen' guest guest' reading over is_over rg rv rs (f, reached, now, s, g, going) told =
+  arrived_end None b c seen seen' guest guest' reading over is_over hvm rg rv rs h told = tt
+  arrived_end (Some i) b c seen seen' guest guest' reading over is_over hvm rg rv rs (f, reached, now, s, g, going) told =
       let (r, after, is, left, told') = subst (λ b. Gives (Told guest guest' seen' f.records) b c (next_at o f.records) (Ok over)) now (told f.records s g) in
       let (reached', g'') = arrived_after i f r after guest guest' reached going is g told'.0 in
       let f' : Front = record { records = f.records ++ r ∷ []; rest = after } in
       let over1 : is_ended f'.records ≡ true = ended_more f.records r going ∙ sym told'.2 ∙ is_over in
-      (image_of o f'.records, after, ap (ended_at o) (ends_at o i f' reached' (stops_ended o f' over1)) ∙ accepted o f' over1, left, record { guest = rg ∙ g''; version = rv; records = rs ∙ told'.1.count ∙ length-map f'.records (λ (x : StreamRecord). x.type) })
+      (image_of o f'.records, after, ap (ended_at o) (ends_at o i f' reached' (stops_ended o f' over1)) ∙ accepted o f' over1, left, record { guest = rg ∙ meant_as_sent guest' o.kind f'.records g'' hvm; version = rv; records = rs ∙ told'.1.count ∙ length-map f'.records (λ (x : StreamRecord). x.type) })
 
   pub arrived_stopped : (a b c : Option (List ℕ)) (seen seen' : Seen) (guest guest' : GuestOf) (stop : Stop Cause) (n : ℕ) → n ≡ seen.records → Arrived a b seen guest → Tells guest guest' seen seen' b c (Err stop) → Gives {X = Reading} IsReading a c (records_at o) (Err (stop_at (Record n) stop))
   arrived_stopped None b c seen seen' guest guest' stop n count h told = tt

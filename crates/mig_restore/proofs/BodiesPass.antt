@@ -52,7 +52,7 @@ body_goes kind top _ len _ rest _ static_end size = refl
 least : (n len : ℕ) → n ≤ len → nat_le n len ≡ true
 least n len h = grind (arith, common_steps)
 
-no_type : (type : ℕ) → 2 ^ 31 ≤ type → type_of_number type ≡ None
+pub no_type : (type : ℕ) → 2 ^ 31 ≤ type → type_of_number type ≡ None
 no_type type above = let past : 19 ≤ type = omega arith in slice_get_past record_types type past
 
 pub length_fits : (kind : Kind) (top : ℕ) (type len : ℕ) (body : List ℕ) (c : Content) → HasContent kind top type body c → length body ≡ len → type_allows (type_of_number type) len ≡ true

@@ -29,10 +29,10 @@ use Rattle.mig_order.proofs.OrderLaw.{faultless_is_in_order}
 use Rattle.mig_pvtables.specs.Faults.{fault_of_guest}
 use Rattle.mig_pvtables.proofs.HvmGuests.{hvm_faultless}
 use Rattle.mig_headers.specs.declared.kind.Kind.TheVariants.{Hvm}
-use Rattle.mig_restore.proofs.Meaning.{mean_kind}
+use Rattle.mig_restore.proofs.Meaning.{sent_kind}
 use Rattle.mig_restore.specs.Record.{StreamRecord, types_of, is_ended}
 use Rattle.mig_restore.specs.Judging.{Opening, Before, opening_of, before, is_built, fault_of_built, fault_of_fields, fault_of_head, head_at, fault_at_end, body_at, record_at, next_at}
-use Rattle.mig_restore.specs.Mean.{mean}
+use Rattle.mig_restore.specs.Mean.{sent, mean}
 use Rattle.mig_restore.specs.Spelled.{IsComplete, Follows, Spells, IsImage, Accepted}
 use Rattle.mig_restore.specs.Spelled.Spells.{none, one_more}
 use Rattle.mig_restore.specs.Stream as stream
@@ -94,7 +94,7 @@ unfolding behind_record
 next_goes o records r text rest f =
     asks o records (text ++ rest)
     ∙ then_passes (record_at (before o records) (text ++ rest)) (behind_record o records) r rest _ (record_goes o records r text rest f)
-    (tried_none (fault_at_end r.type (mean o.kind (records ++ r ∷ []))) rest _ (fine_at_end r.type (mean o.kind (records ++ r ∷ [])) (λ zero. mean_kind o.kind (records ++ r ∷ []) ∙ ends_hvm o.kind r.type zero f.built) f.complete))
+    (tried_none (fault_at_end r.type (sent o.kind (records ++ r ∷ []))) rest _ (fine_at_end r.type (sent o.kind (records ++ r ∷ [])) (λ zero. sent_kind o.kind (records ++ r ∷ []) ∙ ends_hvm o.kind r.type zero f.built) f.complete))
 
 -- ---- a front, and the whole image
 

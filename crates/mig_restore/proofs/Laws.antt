@@ -27,14 +27,14 @@ use Rattle.mig_pvtables.specs.Faults.{fault_of_guest}
 use Rattle.mig_pvtables.proofs.HvmGuests.{hvm_complete}
 use Rattle.mig_restore.specs.Record.{StreamRecord, types_of, is_ended}
 use Rattle.mig_restore.specs.Judging.{Opening, Before, opening_of, before, is_built, fault_of_built, fault_of_number, fault_of_fields, fault_of_head, head_at, fault_at_end, body_at, record_at, next_at}
-use Rattle.mig_restore.specs.Mean.{mean}
+use Rattle.mig_restore.specs.Mean.{sent}
 use Rattle.mig_restore.specs.Spelled.{IsComplete, Follows, Spells, IsImage}
 use Rattle.mig_restore.specs.Spelled.{Spells as spells}
 use Rattle.mig_restore.specs.Stream.{Front, one_more, at_start, front_of, front_with, ImageOf, image_of, ended_at, records_at, image_at, opening_at, marker_at, version_at, kind_at}
 use Rattle.mig_restore.proofs.Parts.{begins, behind_head, behind_body, asks, behind_record}
 use Rattle.mig_restore.proofs.Arrivals.{goes_on, front_stops}
 use Rattle.mig_headers.proofs.FirstFaults.{rows_fine, both_none}
-use Rattle.mig_restore.proofs.Meaning.{mean_kind}
+use Rattle.mig_restore.proofs.Meaning.{sent_kind}
 use Rattle.mig_restore.proofs.Passing.{not_false, ends_hvm}
 use Rattle.mig_restore.proofs.Bodies.{body_says}
 
@@ -66,11 +66,11 @@ fields_fine b type len fine =
 
 -- ---- the guest at END
 
-complete_at_end : (o : Opening) (records : List StreamRecord) (type : ℕ) → is_built o.kind type ≡ true → fault_at_end type (mean o.kind records) ≡ None → type ≡ 0 → IsComplete (mean o.kind records)
+complete_at_end : (o : Opening) (records : List StreamRecord) (type : ℕ) → is_built o.kind type ≡ true → fault_at_end type (sent o.kind records) ≡ None → type ≡ 0 → IsComplete (sent o.kind records)
 complete_at_end o records type built fine is =
-    let g = mean o.kind records in
+    let g = sent o.kind records in
     let at_end : fault_of_guest g ≡ None = subst (λ t. fault_at_end t g ≡ None) is fine in
-    let words = hvm_complete g (mean_kind o.kind records ∙ ends_hvm o.kind type is built) at_end in
+    let words = hvm_complete g (sent_kind o.kind records ∙ ends_hvm o.kind type is built) at_end in
     record { context = words.0; few = words.1 }
 
 -- ---- a whole record
@@ -93,7 +93,7 @@ unfolding behind_record behind_head behind_body
 found o records i r rest going h =
     let b = before o records in
     let n = both_pass (record_at b i) (behind_record o records) r rest (sym (asks o records i) ∙ h) in
-    let w = both_pass (tried (fault_at_end n.x.type (mean o.kind (records ++ n.x ∷ []))) n.mid) (λ _. Passes n.x n.mid) r rest n.second in
+    let w = both_pass (tried (fault_at_end n.x.type (sent o.kind (records ++ n.x ∷ []))) n.mid) (λ _. Passes n.x n.mid) r rest n.second in
     let whole = tried_passes _ n.mid w.mid w.x w.first in
     let same = same_passes _ _ _ _ w.second in
     let a = both_pass (head_at b i) (behind_head o.kind b.top) n.x n.mid (sym (begins b i) ∙ n.first) in
@@ -124,7 +124,7 @@ found o records i r rest going h =
         few = subst (λ n. n < 2 ^ 28) (length-map records (λ (x : StreamRecord). x.type)) fine.few;
         not_ended = going;
         complete = complete_at_end o (records ++ record { type = type; content = c.x } ∷ []) type fine.built
-            (subst (λ (x : StreamRecord). fault_at_end x.type (mean o.kind (records ++ x ∷ [])) ≡ None) (sym is_record) whole.0);
+            (subst (λ (x : StreamRecord). fault_at_end x.type (sent o.kind (records ++ x ∷ [])) ≡ None) (sym is_record) whole.0);
       };
     })
 

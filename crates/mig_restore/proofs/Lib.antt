@@ -11,3 +11,4 @@ pub mod Laws
 pub mod Meaning
 pub mod Parts
 pub mod Passing
+pub mod AcceptedWhole

@@ -11,6 +11,7 @@ use Rattle.std.specs.FinMap as fin
 use Rattle.std.proofs.lemmas.Grind.{common_steps}
 use Rattle.std.proofs.lemmas.List.Sums.{fold-append}
 use Rattle.mig_headers.specs.declared.kind.Kind.{Kind}
+use Rattle.mig_headers.specs.declared.kind.Kind.TheVariants.{Pv, Hvm}
 use Rattle.mig_pagetypes.specs.declared.page_type.PageType.{PageType}
 use Rattle.mig_pagetypes.specs.declared.page_type.PageType.TheVariants.{Xtab}
 use Rattle.mig_guest.specs.declared.part_key.PartKey.{PartKey}
@@ -26,7 +27,9 @@ use Rattle.mig_pagetypes.specs.FrameWords.{word_pfn}
 use Rattle.mig_restore.specs.Judging.{type_in_word}
 use Rattle.mig_restore.specs.Record.{Entry, StreamRecord, Content}
 use Rattle.mig_restore.specs.Record.Content.{Nothing, Frames, Sets}
-use Rattle.mig_restore.specs.Mean.{meant_type, put_entry, put_entries, put_content, put_record, empty_guest, mean, entries_in, entries_of, last_entry, some_frame, frame_in, same_key, last_bytes, parts_say_of_part, policy_says_of_part, says_of_part, last_said}
+use Rattle.mig_pvtables.specs.Blank.{blank, blank_of}
+use Rattle.mig_pvtables.proofs.HvmGuests.{hvm_blank}
+use Rattle.mig_restore.specs.Mean.{meant_type, put_entry, put_entries, put_content, put_record, empty_guest, sent, mean, entries_in, entries_of, last_entry, some_frame, frame_in, same_key, last_bytes, parts_say_of_part, policy_says_of_part, says_of_part, last_said}
 
 pub one_more_entry : (g h k : GuestOf) (es : List Entry) (e : Entry) → h ≡ record g { frames = put_entries g.kind g.frames es } → k ≡ record h { frames = put_entry h.kind h.frames e }
     → k ≡ record g { frames = put_entries g.kind g.frames (es ++ e ∷ []) }
@@ -40,8 +43,8 @@ pub entry_set : (g n : GuestOf) (w pfn : ℕ) (meant : PageType) (page : Option 
 entry_set g n w pfn meant page at is now =
     now ∙ ap (λ p. record g { frames = framed g.frames p meant page }) at ∙ ap (λ (t : PageType). record g { frames = framed g.frames (word_pfn w) t page }) is
 
-pub one_more_record : (kind : Kind) (rs : List StreamRecord) (r : StreamRecord) → mean kind (rs ++ r ∷ []) ≡ put_record (mean kind rs) r
-unfolding mean
+pub one_more_record : (kind : Kind) (rs : List StreamRecord) (r : StreamRecord) → sent kind (rs ++ r ∷ []) ≡ put_record (sent kind rs) r
+unfolding sent
 one_more_record kind rs r = fold-append put_record (empty_guest kind) rs (r ∷ [])
 
 -- ---- a record keeps the kind
@@ -55,9 +58,22 @@ folded_kind : (g : GuestOf) (rs : List StreamRecord) → (fold put_record g rs).
 folded_kind g [] = refl
 folded_kind g (r ∷ rs) = folded_kind (put_record g r) rs ∙ put_kind g r.content
 
+pub sent_kind : (kind : Kind) (rs : List StreamRecord) → (sent kind rs).kind ≡ kind
+unfolding sent
+sent_kind kind rs = folded_kind (empty_guest kind) rs
+
+blank_kind : (k : Kind) (g : GuestOf) → (blank_of k g).kind ≡ g.kind
+blank_kind Pv g = refl
+blank_kind Hvm g = refl
+
 pub mean_kind : (kind : Kind) (rs : List StreamRecord) → (mean kind rs).kind ≡ kind
 unfolding mean
-mean_kind kind rs = folded_kind (empty_guest kind) rs
+mean_kind kind rs = blank_kind (sent kind rs).kind (sent kind rs) ∙ sent_kind kind rs
+
+-- what is sent of an HVM guest is meant
+pub meant_as_sent : (g : GuestOf) (kind : Kind) (rs : List StreamRecord) → g ≡ sent kind rs → g.kind ≡ Hvm → g ≡ mean kind rs
+unfolding mean
+meant_as_sent g kind rs is hvm = sym (hvm_blank g hvm) ∙ ap blank is
 
 -- ---- of each frame number the last entry decides
 
@@ -100,13 +116,13 @@ folded_frames g (r ∷ rs) =
     ∙ ap (λ m. put_entries g.kind m (entries_of rs)) (put_frames g r.content) ∙ sym (fold-append (put_entry g.kind) g.frames (entries_in r.content) (entries_of rs))
 
 -- the frames are those of all entries
-pub mean_frames : (kind : Kind) (records : List StreamRecord) → (mean kind records).frames ≡ put_entries kind fin.empty (entries_of records)
-unfolding mean
-mean_frames kind records = folded_frames (empty_guest kind) records
+pub sent_frames : (kind : Kind) (records : List StreamRecord) → (sent kind records).frames ≡ put_entries kind fin.empty (entries_of records)
+unfolding sent
+sent_frames kind records = folded_frames (empty_guest kind) records
 
-pub last_entry_is : (kind : Kind) (records : List StreamRecord) (pfn : ℕ) → fin.get (mean kind records).frames pfn ≡ option_and_then (frame_in kind) (last_entry pfn (entries_of records))
+pub last_entry_is : (kind : Kind) (records : List StreamRecord) (pfn : ℕ) → fin.get (sent kind records).frames pfn ≡ option_and_then (frame_in kind) (last_entry pfn (entries_of records))
 last_entry_is kind records pfn =
-    ap (λ m. fin.get m pfn) (mean_frames kind records) ∙ folded kind fin.empty pfn (entries_of records)
+    ap (λ m. fin.get m pfn) (sent_frames kind records) ∙ folded kind fin.empty pfn (entries_of records)
     ∙ ap (otherwise kind (last_entry pfn (entries_of records))) (fin.get-empty nat_cmp pfn) ∙ at_last kind (last_entry pfn (entries_of records))
 
 -- ---- of each part the last content decides
@@ -186,7 +202,7 @@ said_none : (o : Option (Option (List ℕ))) → unless_said o None ≡ unwrap_o
 said_none None = refl
 said_none (Some now) = refl
 
-pub last_content_is : (kind : Kind) (records : List StreamRecord) (q : PartKey) → fin.get (mean kind records).parts q ≡ unwrap_or (last_said q records) None
-unfolding mean
+pub last_content_is : (kind : Kind) (records : List StreamRecord) (q : PartKey) → fin.get (sent kind records).parts q ≡ unwrap_or (last_said q records) None
+unfolding sent
 last_content_is kind records q =
     folded_parts (empty_guest kind) records q ∙ ap (unless_said (last_said q records)) (fin.get-empty part_cmp q) ∙ said_none (last_said q records)

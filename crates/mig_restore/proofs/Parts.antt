@@ -10,7 +10,7 @@ use Rattle.mig_headers.specs.declared.kind.Kind.{Kind}
 use Rattle.mig_records.specs.declared.head.RecordHead.{RecordHead}
 use Rattle.mig_records.specs.Heads.{head_in}
 use Rattle.mig_pvtables.specs.Faults.{fault_of_guest}
-use Rattle.mig_restore.specs.Mean.{mean}
+use Rattle.mig_restore.specs.Mean.{sent}
 use Rattle.mig_restore.specs.Record.{StreamRecord, Content}
 use Rattle.mig_restore.specs.Judging.{Opening, Before, before, record_at, next_at, head_at, body_at, fault_at_end}
 
@@ -38,7 +38,7 @@ padded head h c is i = rw (ap (λ (x : RecordHead). x.kind) is, ap (λ (x : Reco
 -- ---- the whole guest
 
 unfoldable pub behind_record : Opening → List StreamRecord → StreamRecord × List ℕ → Judged Cause StreamRecord
-behind_record o records r = tried (fault_at_end r.0.type (mean o.kind (records ++ r.0 ∷ []))) r.1 >>= λ _. Passes r.0 r.1
+behind_record o records r = tried (fault_at_end r.0.type (sent o.kind (records ++ r.0 ∷ []))) r.1 >>= λ _. Passes r.0 r.1
 
 pub asks : (o : Opening) (records : List StreamRecord) (i : List ℕ) → next_at o records i ≡ (record_at (before o records) i >>= behind_record o records)
 unfolding next_at behind_record
@@ -51,14 +51,14 @@ module _ (o : Opening) (records : List StreamRecord) (r : StreamRecord) where
   not_last goes i = rw goes refl
 
   -- the last, of a whole guest, and of one with a fault
-  pub last_fine : r.type ≡ 0 → fault_of_guest (mean o.kind (records ++ r ∷ [])) ≡ None → (i : List ℕ) → behind_record o records (r, i) ≡ Passes r i
+  pub last_fine : r.type ≡ 0 → fault_of_guest (sent o.kind (records ++ r ∷ [])) ≡ None → (i : List ℕ) → behind_record o records (r, i) ≡ Passes r i
   unfolding behind_record
   last_fine zero fine i =
-      let none : fault_at_end r.type (mean o.kind (records ++ r ∷ [])) ≡ None = ap (λ t. fault_at_end t (mean o.kind (records ++ r ∷ []))) zero ∙ fine in
+      let none : fault_at_end r.type (sent o.kind (records ++ r ∷ [])) ≡ None = ap (λ t. fault_at_end t (sent o.kind (records ++ r ∷ []))) zero ∙ fine in
       ap (λ (f : Option Cause). tried f i >>= λ _. Passes r i) none
 
-  pub last_faulty : (c : Cause) → r.type ≡ 0 → fault_of_guest (mean o.kind (records ++ r ∷ [])) ≡ Some c → (i : List ℕ) → behind_record o records (r, i) ≡ Faulty c i
+  pub last_faulty : (c : Cause) → r.type ≡ 0 → fault_of_guest (sent o.kind (records ++ r ∷ [])) ≡ Some c → (i : List ℕ) → behind_record o records (r, i) ≡ Faulty c i
   unfolding behind_record
   last_faulty c zero fault i =
-      let some : fault_at_end r.type (mean o.kind (records ++ r ∷ [])) ≡ Some c = ap (λ t. fault_at_end t (mean o.kind (records ++ r ∷ []))) zero ∙ fault in
+      let some : fault_at_end r.type (sent o.kind (records ++ r ∷ [])) ≡ Some c = ap (λ t. fault_at_end t (sent o.kind (records ++ r ∷ []))) zero ∙ fault in
       ap (λ (f : Option Cause). tried f i >>= λ _. Passes r i) some

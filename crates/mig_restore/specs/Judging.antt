@@ -23,7 +23,7 @@ use Rattle.mig_guest.specs.declared.part_code.PartCode.{PartCode}
 use Rattle.mig_guest.specs.PartCodes.{code_of_number}
 use Rattle.mig_bodies.specs.Shapes.{fault_of_body, parts_of_body}
 use Rattle.mig_pvtables.specs.Faults.{fault_of_guest}
-use Rattle.mig_restore.specs.Mean.{mean}
+use Rattle.mig_restore.specs.Mean.{sent}
 use Rattle.mig_restore.specs.Record.{Entry, StreamRecord, Content, types_of}
 use Rattle.mig_restore.specs.Record.Content.{Nothing, Frames, Sets}
 
@@ -43,7 +43,7 @@ pub record Before : Type 0 where
 
 -- these records behind this opening
 abbrev pub before : Opening → List StreamRecord → Before
-before o records = record { opening = o; types = types_of records; top = (mean o.kind records).top }
+before o records = record { opening = o; types = types_of records; top = (sent o.kind records).top }
 
 -- ---- the head
 
@@ -170,9 +170,9 @@ record_at b input = do
 abbrev pub fault_at_end : ℕ → GuestOf → Option Cause
 fault_at_end type g = if type == 0 then fault_of_guest g else None
 
--- a record behind these records; the one that ends the image asks for a whole guest, which all of them mean
+-- a record behind these records; the one that ends the image asks that what all of them sent has no fault
 unfoldable pub next_at : Opening → List StreamRecord → List ℕ → Judged Cause StreamRecord
 next_at o records input = do
   r ← record_at (before o records) input
-  _ ← tried (fault_at_end r.0.type (mean o.kind (records ++ r.0 ∷ []))) r.1
+  _ ← tried (fault_at_end r.0.type (sent o.kind (records ++ r.0 ∷ []))) r.1
   Passes r.0 r.1

@@ -1,5 +1,5 @@
--- What records mean: of each frame number its last entry; of each part its last content; of a policy its last body that
--- isn't empty.
+-- What records send: of each frame number its last entry; of each part its last content; of a policy its last body that
+-- isn't empty. They mean the blank form of it.
 use Rattle.std.specs.Prelude.{ℕ, List, [], ◌∷◌, ◌++◌, Bool, Option, Some, None, fold, ◌==◌, ◌&&◌, if◌then◌else◌}
 use Rattle.std.specs.Option.{option_map, option_or}
 use Rattle.std.specs.FinMap as maps
@@ -15,6 +15,7 @@ use Rattle.mig_guest.specs.PartCodes.{code_number}
 use Rattle.mig_guest.specs.Formed.{is_policy}
 use Rattle.mig_bodies.specs.Layouts.{Part}
 use Rattle.mig_bodies.specs.Shapes.{set_parts}
+use Rattle.mig_pvtables.specs.Blank.{blank}
 use Rattle.mig_restore.specs.Record.{Entry, StreamRecord, Content}
 use Rattle.mig_restore.specs.Record.Content.{Nothing, Frames, Sets}
 
@@ -42,8 +43,13 @@ put_record g r = put_content g r.content
 abbrev pub empty_guest : Kind → GuestOf
 empty_guest kind = record { kind = kind; top = 0; frames = maps.empty; parts = maps.empty }
 
+-- the guest as it was sent
+unfoldable pub sent : Kind → List StreamRecord → GuestOf
+sent kind records = fold put_record (empty_guest kind) records
+
+-- the guest that is meant: the blank form of what was sent
 unfoldable pub mean : Kind → List StreamRecord → GuestOf
-mean kind records = fold put_record (empty_guest kind) records
+mean kind records = blank (sent kind records)
 
 -- ---- frames in the words of the format
 

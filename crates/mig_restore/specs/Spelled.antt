@@ -19,7 +19,7 @@ use Rattle.mig_bodies.specs.Layouts.{Part}
 use Rattle.mig_bodies.specs.Shapes.{IsBody}
 use Rattle.mig_guest.specs.Frames.{IsFew}
 use Rattle.mig_restore.specs.Judging.{Opening, most_records, is_built, type_in_word, code_of_type}
-use Rattle.mig_restore.specs.Mean.{mean}
+use Rattle.mig_restore.specs.Mean.{sent, mean}
 use Rattle.mig_restore.specs.Record.{StreamRecord, Entry, Content, types_of, is_ended}
 use Rattle.mig_restore.specs.Record.Content.{Nothing, Frames, Sets}
 
@@ -76,13 +76,13 @@ pub record IsComplete (g : GuestOf) : Type 0 where
 pub record Follows (o : Opening) (records : List StreamRecord) (r : StreamRecord) (bytes : List ℕ) : Type 0 where
   pub body : List ℕ
   pub is : IsRecord r.type body bytes
-  pub says : HasContent o.kind (mean o.kind records).top r.type body r.content
+  pub says : HasContent o.kind (sent o.kind records).top r.type body r.content
   pub small : length body ≤ 2 ^ 27
   pub built : is_built o.kind r.type ≡ true
   pub ordered : IsInOrder o.version o.kind (types_of records) r.type
   pub few : length records < most_records
   pub not_ended : is_ended records ≡ false
-  pub complete : r.type ≡ 0 → IsComplete (mean o.kind (records ++ r ∷ []))
+  pub complete : r.type ≡ 0 → IsComplete (sent o.kind (records ++ r ∷ []))
 
 -- these records, one after another, each in its place
 pub data Spells (o : Opening) : List ℕ → List StreamRecord → Type 0 where

@@ -1,13 +1,16 @@
 ghost use Rattle.std.specs.Prelude.{◌≡◌, ℕ, List, ◌⊎◌, option_and_then, unwrap_or, None};
 ghost use Rattle.std.specs.FinMap as maps;
+ghost use Rattle.mig_bytes.specs.Bytes.{AreBytes};
 ghost use Rattle.mig_headers.specs.declared.fault.Cause.{Cause};
 ghost use Rattle.mig_headers.specs.declared.fault.Place.{Place};
 ghost use Rattle.mig_headers.specs.declared.kind.Kind.{Kind};
+ghost use Rattle.mig_guest.specs.Formed.{IsPlainHvm};
 ghost use Rattle.mig_guest.specs.Guests.{GuestOf};
+ghost use Rattle.mig_pvtables.specs.Whole.{IsWhole};
 ghost use Rattle.mig_guest.specs.declared.part_key.PartKey.{PartKey};
 ghost use Rattle.mig_restore.specs.Judging.{Opening};
 ghost use Rattle.mig_restore.specs.Record.{StreamRecord};
-ghost use Rattle.mig_restore.specs.Mean.{mean, last_entry, frame_in, entries_of, last_said};
+ghost use Rattle.mig_restore.specs.Mean.{sent, last_entry, frame_in, entries_of, last_said};
 ghost use Rattle.mig_restore.specs.Spelled.{IsImage, Accepted};
 ghost use Rattle.mig_bytes.specs.Judged.Judged.{Passes};
 ghost use Rattle.mig_restore.specs.Stream.{image_at, image_of, IsRefused};
@@ -42,16 +45,21 @@ pub fn one_front()
         → (g ≡ h) × (rest ≡ more) }
 {}
 
-/// Of each frame number the last entry in stream order decides: it says the frame's type and page, or that there is no
-/// frame.
-pub fn last_entry_decides()
-    ensures { (kind : Kind) (records : List StreamRecord) (pfn : ℕ) →
-        maps.get (mean kind records).frames pfn ≡ option_and_then (frame_in kind) (last_entry pfn (entries_of records)) }
+/// An accepted guest of an input of bytes is whole; so far it is an HVM guest without emulator parts.
+pub fn accepted_is_whole()
+    ensures { (input : List ℕ) (guest : GuestOf) (rest : List ℕ) → AreBytes input → Accepted input guest rest → IsWhole guest × IsPlainHvm guest }
 {}
 
-/// Of each part the last content that says something of it decides; a policy body that isn't empty says of each part of
+/// Of each frame number the last entry in stream order decides what was sent: it says the frame's type and page, or that
+/// there is no frame.
+pub fn last_entry_decides()
+    ensures { (kind : Kind) (records : List StreamRecord) (pfn : ℕ) →
+        maps.get (sent kind records).frames pfn ≡ option_and_then (frame_in kind) (last_entry pfn (entries_of records)) }
+{}
+
+/// Of each part the last content that says something of it decides what was sent; a policy body that isn't empty says of each part of
 /// its code whether it is there.
 pub fn last_content_decides()
     ensures { (kind : Kind) (records : List StreamRecord) (key : PartKey) →
-        maps.get (mean kind records).parts key ≡ unwrap_or (last_said key records) None }
+        maps.get (sent kind records).parts key ≡ unwrap_or (last_said key records) None }
 {}

@@ -8,7 +8,7 @@ ghost use Rattle.mig_headers.specs.declared.kind.Kind.TheVariants.{Hvm};
 ghost use Rattle.mig_guest.specs.Formed.{IsPlainHvm};
 ghost use Rattle.mig_pvtables.specs.Faults.{fault_of_guest};
 ghost use Rattle.mig_pvtables.specs.Whole.{IsWhole};
-ghost use Rattle.mig_restore.specs.Mean.{mean, put_record};
+ghost use Rattle.mig_restore.specs.Mean.{sent, put_record};
 ghost use Rattle.mig_restore.specs.Record.{StreamRecord, types_of};
 ghost use Rattle.mig_restore.specs.Judging.{Opening, Before, most_records, is_built, opening_of, record_at, next_at};
 ghost use Rattle.mig_restore.specs.Seen.{IsSeen};
@@ -98,7 +98,7 @@ pub(crate) fn read_next<S: Source>(
     guest: &mut Guest,
 ) -> Result<bool, Stop<Cause>>
     requires { seen.old.kind ≡ guest.old.kind }
-    ensures read { (o : Opening) (records : List StreamRecord) → IsSeen seen.old o (types_of records) → guest.old ≡ mean o.kind records →
+    ensures read { (o : Opening) (records : List StreamRecord) → IsSeen seen.old o (types_of records) → guest.old ≡ sent o.kind records →
         Gives (λ over r. (guest.new ≡ put_record guest.old r) × IsSeen seen.new o (types_of (records ++ r ∷ [])) × (over ≡ (r.type == 0)))
         (S.left src.old) (S.left src.new) (next_at o records) result }
     ensures grown { OnOk result (Grows guest.old guest.new) }

@@ -26,7 +26,7 @@ use Rattle.mig_canon.specs.Canon.{Frame, Part, Record, batch, batches, body_of, 
 use Rattle.mig_restore.specs.Record.{StreamRecord, Content, types_of, is_ended}
 use Rattle.mig_restore.specs.Record.Content.{Sets}
 use Rattle.mig_restore.specs.Judging.{Opening, is_built}
-use Rattle.mig_restore.specs.Mean.{mean, put_content, put_entry, put_entries}
+use Rattle.mig_restore.specs.Mean.{sent, put_content, put_entry, put_entries}
 use Rattle.mig_restore.specs.Spelled.{IsComplete, Follows, Spells}
 use Rattle.mig_restore.specs.Spelled.Spells.{one_more}
 use Rattle.mig_restore.proofs.Meaning.{one_more_record}
@@ -63,7 +63,7 @@ text_more bodies type body = flat_map-append (λ (b : Record). spelled b.0 b.1) 
 pub record State (bodies : List Record) (g : GuestOf) (settled : Bool) (most : ℕ) : Type 0 where
   pub records : List StreamRecord
   pub spells : Spells opening (text_of bodies) records
-  pub means : mean Hvm records ≡ g
+  pub means : sent Hvm records ≡ g
   pub going : is_ended records ≡ false
   pub settled_is : some_earlier (types_of records) (StaticDataEnd ∷ []) ≡ settled
   pub bare : some_earlier (types_of records) content_records ≡ (settled && some_earlier (types_of records) content_records)
@@ -133,11 +133,11 @@ module _ {bodies : List Record} {g : GuestOf} {settled : Bool} {most : ℕ} (s :
         ∙ ap (λ b. fault_after 3 Hvm (earlier_with types settled (settled && some_earlier types content_records) b) type) s.no_vcpu
         ∙ step.ordered (some_earlier types content_records) (some_earlier types (X86PvInfo ∷ [])) (some_earlier types (X86PvP2mFrames ∷ []))
 
-    follows : (type ≡ 0 → IsComplete (mean Hvm (s.records ++ this ∷ []))) → Follows opening s.records this (spelled type body)
+    follows : (type ≡ 0 → IsComplete (sent Hvm (s.records ++ this ∷ []))) → Follows opening s.records this (spelled type body)
     follows complete = record {
       body = body;
       is = is_record type body step.small fits.short;
-      says = fits.says (mean Hvm s.records).top;
+      says = fits.says (sent Hvm s.records).top;
       small = fits.short;
       built = step.built;
       ordered = (faultless_is_in_order 3 Hvm (types_of s.records) type).0 in_place;
@@ -146,13 +146,13 @@ module _ {bodies : List Record} {g : GuestOf} {settled : Bool} {most : ℕ} (s :
       complete = complete;
     }
 
-    pub spells_more : (type ≡ 0 → IsComplete (mean Hvm (s.records ++ this ∷ []))) → Spells opening (text_of (bodies ++ (type, body) ∷ [])) (s.records ++ this ∷ [])
+    pub spells_more : (type ≡ 0 → IsComplete (sent Hvm (s.records ++ this ∷ []))) → Spells opening (text_of (bodies ++ (type, body) ∷ [])) (s.records ++ this ∷ [])
     spells_more complete = subst (λ l. Spells opening l (s.records ++ this ∷ [])) (sym (text_more bodies type body)) (one_more (text_of bodies) s.records this (spelled type body) s.spells (follows complete))
 
-    pub means_more : mean Hvm (s.records ++ this ∷ []) ≡ put_content g c
+    pub means_more : sent Hvm (s.records ++ this ∷ []) ≡ put_content g c
     means_more = one_more_record Hvm s.records this ∙ ap (λ h. put_content h c) s.means
 
-    zero_not : nat_eq type 0 ≡ false → type ≡ 0 → IsComplete (mean Hvm (s.records ++ this ∷ []))
+    zero_not : nat_eq type 0 ≡ false → type ≡ 0 → IsComplete (sent Hvm (s.records ++ this ∷ []))
     zero_not other e = let no : nat_eq type 0 ≡ true = ap (λ n. nat_eq n 0) e in absurd (clash (sym no ∙ other))
       where
         clash : true ≡ false → ⊥

@@ -18,11 +18,12 @@ use Rattle.mig_pvtables.proofs.HvmGuests.{hvm_complete}
 use Rattle.mig_canon.specs.Canon.{Part, Record, batches, frame_bodies, where_some, of_code, frames_in, leaves_body, msrs_body, params_body, tsc_body, static_bodies, bodies_of, text_of, headers, canon}
 use Rattle.mig_restore.specs.Record.{StreamRecord, is_ended}
 use Rattle.mig_restore.specs.Record.Content.{Nothing, Sets}
-use Rattle.mig_restore.specs.Mean.{mean, empty_guest, put_content, put_entries}
+use Rattle.mig_restore.specs.Mean.{sent, empty_guest, put_content, put_entries}
 use Rattle.mig_restore.specs.Spelled.{IsComplete, Spells, IsImage, Accepted}
 use Rattle.mig_restore.specs.Spelled.HasContent.{ends, static_end}
 use Rattle.mig_restore.specs.Spelled.Spells.{none}
 use Rattle.mig_restore.proofs.Converse.{one_front}
+use Rattle.mig_restore.proofs.Meaning.{meant_as_sent}
 use Rattle.mig_tool.proofs.CanonMaps.{entry_of, frames_again, holds_none, holds_more, holds_replaced, holds_all}
 use Rattle.mig_tool.proofs.CanonParts.{Fits, leaves_fit, msrs_fit, params_fit, tsc_fits, context_fits}
 use Rattle.mig_tool.proofs.CanonFrames.{all_fine, all_hvm, all_taken, few_batches}
@@ -60,7 +61,7 @@ whole_again g formed is =
 -- ---- the records
 
 at_start : State [] (empty_guest Hvm) false 0
-unfolding mean
+unfolding sent
 at_start = record { records = []; spells = none; means = refl; going = refl; settled_is = refl; bare = refl; no_vcpu = refl; few = le_refl 0 }
 
 regroup : (a b c d e f : List Record) → ((((a ++ b) ++ c) ++ d) ++ e) ++ f ≡ a ++ (b ++ (c ++ (d ++ (e ++ f))))
@@ -130,13 +131,13 @@ module _ (g : GuestOf) (whole : IsWhole g) (is : IsPlainHvm g) where
   abbrev records : List StreamRecord
   records = before_end.records ++ record { type = 0; content = Nothing } ∷ []
 
-  means_guest : g ≡ mean Hvm records
-  means_guest = sym (means_more before_end end_step end_fits few_records ∙ whole_again g formed is)
+  is_sent : g ≡ sent Hvm records
+  is_sent = sym (means_more before_end end_step end_fits few_records ∙ whole_again g formed is)
 
   spelled_all : Spells opening (text_of (bodies_of g)) records
   spelled_all =
       subst (λ b. Spells opening (text_of b) records) (regroup (static_bodies g) frames tscs params contexts ((0, []) ∷ []))
-      (spells_more before_end end_step end_fits few_records (λ e. subst IsComplete means_guest (record { context = complete.0; few = complete.1 })))
+      (spells_more before_end end_step end_fits few_records (λ e. subst IsComplete is_sent (record { context = complete.0; few = complete.1 })))
 
   ended : is_ended records ≡ true
   ended = ended_more before_end.records (record { type = 0; content = Nothing }) ∙ or_true (is_ended before_end.records)
@@ -161,7 +162,7 @@ module _ (g : GuestOf) (whole : IsWhole g) (is : IsPlainHvm g) where
   }
 
 pub canon_is_accepted : (g : GuestOf) (rest : List ℕ) → IsWhole g → IsPlainHvm g → Accepted (canon g ++ rest) g rest
-canon_is_accepted g rest whole is = record { opening = opening; records = records g whole is; image = canon_is_image g whole is rest; means = means_guest g whole is }
+canon_is_accepted g rest whole is = record { opening = opening; records = records g whole is; image = canon_is_image g whole is rest; means = meant_as_sent g Hvm (records g whole is) (is_sent g whole is) is.hvm }
 
 pub canon_is_one_to_one : (g h : GuestOf) → IsWhole g → IsPlainHvm g → IsWhole h → IsPlainHvm h → (canon g ≡ canon h) ↔ (g ≡ h)
 canon_is_one_to_one g h whole is other too = (

@@ -4,27 +4,27 @@ use Rattle.std.proofs.lemmas.List.{map-append}
 use Rattle.mig_bytes.proofs.Joins.{done, then_reads, stopped, refused}
 use Rattle.mig_guest.specs.Guests.{GuestOf}
 use Rattle.mig_pvtables.specs.Faults.{fault_of_guest}
-use Rattle.mig_restore.specs.Mean.{mean, put_record}
+use Rattle.mig_restore.specs.Mean.{sent, put_record}
 use Rattle.mig_restore.specs.Record.{StreamRecord, types_of}
 use Rattle.mig_restore.specs.Judging.{Opening, before, record_at, next_at}
 use Rattle.mig_restore.specs.Seen.{IsSeen}
 use Rattle.mig_restore.specs.declared.head.Seen.{Seen}
 use Rattle.mig_restore.proofs.Parts.{asks, behind_record, not_last, last_fine, last_faulty}
 use Rattle.mig_restore.proofs.Passing.{same_is}
-use Rattle.mig_restore.proofs.Meaning.{mean_kind, one_more_record}
+use Rattle.mig_restore.proofs.Meaning.{sent_kind, one_more_record}
 use Rattle.mig_restore.proofs.read.read_next.Goals as goal
 
 seen_more : (seen : Seen) (o : Opening) (records : List StreamRecord) (r : StreamRecord) (type : ℕ) → type ≡ r.type → IsSeen seen o (types_of records ++ type ∷ []) → IsSeen seen o (types_of (records ++ r ∷ []))
 seen_more seen o records r type is h = subst (IsSeen seen o) (ap (λ t. types_of records ++ t ∷ []) is ∙ sym (map-append (λ (x : StreamRecord). x.type) records (r ∷ []))) h
 
-guest_kind : (g : GuestOf) (o : Opening) (records : List StreamRecord) → g ≡ mean o.kind records → g.kind ≡ o.kind
-guest_kind g o records is = ap (λ (x : GuestOf). x.kind) is ∙ mean_kind o.kind records
+guest_kind : (g : GuestOf) (o : Opening) (records : List StreamRecord) → g ≡ sent o.kind records → g.kind ≡ o.kind
+guest_kind g o records is = ap (λ (x : GuestOf). x.kind) is ∙ sent_kind o.kind records
 
-guest_top : (g : GuestOf) (o : Opening) (records : List StreamRecord) → g ≡ mean o.kind records → g.top ≡ (before o records).top
+guest_top : (g : GuestOf) (o : Opening) (records : List StreamRecord) → g ≡ sent o.kind records → g.top ≡ (before o records).top
 guest_top g o records is = ap (λ (x : GuestOf). x.top) is
 
 -- the guest that the records up to this one mean
-meant : (g h : GuestOf) (o : Opening) (records : List StreamRecord) (r : StreamRecord) → g ≡ mean o.kind records → h ≡ put_record g r → h ≡ mean o.kind (records ++ r ∷ [])
+meant : (g h : GuestOf) (o : Opening) (records : List StreamRecord) (r : StreamRecord) → g ≡ sent o.kind records → h ≡ put_record g r → h ≡ sent o.kind (records ++ r ∷ [])
 meant g h o records r is now = now ∙ ap (λ (x : GuestOf). put_record x r) is ∙ sym (one_more_record o.kind records r)
 
 not_zero : (n : ℕ) → (n ≡ 0 → ⊥) → nat_eq n 0 ≡ false

@@ -37,7 +37,7 @@ records-preserved g c = record {
 
 pub returns-then-over-clause-read : goal.returns-then-over-clause-read
 returns-then-over-clause-read g c =
-    arrived_end (opening_of c.args.version c.args.kind) _ _ _ c.records.seen c.read_next.new.seen c.records.guest c.read_next.new.guest _ c.in-Ok.over c.if-over.true refl refl refl c.records.invariant.arrived (c.in-Ok.ensures.read (opening_of c.args.version c.args.kind))
+    arrived_end (opening_of c.args.version c.args.kind) _ _ _ c.records.seen c.read_next.new.seen c.records.guest c.read_next.new.guest _ c.in-Ok.over c.if-over.true (c.in-Ok.ensures.whole c.if-over.true).1 refl refl refl c.records.invariant.arrived (c.in-Ok.ensures.read (opening_of c.args.version c.args.kind))
 
 pub returns-then-over-clause-whole : goal.returns-then-over-clause-whole
 returns-then-over-clause-whole g c =

@@ -1,0 +1,20 @@
+-- The parts of a body in memory have keys of 32 bits, whatever its shape.
+use Rattle.std.proofs.Common.{◌≡◌, ◌<◌, ◌^◌, List, ℕ, None, arith}
+use Rattle.std.specs.List.{AllByRecursion}
+use Rattle.mig_guest.specs.declared.part_code.PartCode.{PartCode}
+use Rattle.mig_bodies.specs.declared.shape.Shape.{Shape}
+use Rattle.mig_bodies.specs.declared.shape.Shape.TheVariants.{Table, Single, Named, Chain, Other}
+use Rattle.mig_bodies.specs.Layouts.{IsSmallKey, key_in}
+use Rattle.mig_bodies.specs.Shapes.{shape_of, IsRow, fault_by_shape, parts_by_shape, fault_of_body, parts_of_body}
+use Rattle.mig_bodies.proofs.Reading.{AreOctets, small_table, small_name, named_small}
+use Rattle.mig_bodies.proofs.Rows.{all_rows}
+
+by_shape : (code : PartCode) (body : List ℕ) (shape : Shape) → IsRow code shape → AreOctets body → fault_by_shape shape code body ≡ None → AllByRecursion (λ p. IsSmallKey p.0) (parts_by_shape shape code body)
+by_shape code body (Table l) row octets fine = small_table code l body fine row octets
+by_shape code body (Single len ignored) row octets fine = ((omega arith, omega arith), tt)
+by_shape code body (Named second ignored skips) row octets fine = named_small skips (key_in code 4 second body) _ (small_name code second row.0 body octets)
+by_shape code body Chain row octets fine = ((omega arith, omega arith), tt)
+by_shape code body Other row octets fine = tt
+
+pub small_parts : (code : PartCode) (body : List ℕ) → AreOctets body → fault_of_body code body ≡ None → AllByRecursion (λ p. IsSmallKey p.0) (parts_of_body code body)
+small_parts code body octets fine = by_shape code body (shape_of code) (all_rows code) octets fine
