@@ -4,9 +4,9 @@ use Rattle.mig_headers.specs.declared.text.Arguments.{Arguments}
 use Rattle.mig_headers.specs.declared.text.Arguments.TheVariants.{Nothing, One, Two, Three, Context}
 use Rattle.mig_headers.specs.Texts.{words_of_context}
 
-abbrev pub words_of : Arguments → List (List ℕ)
-words_of Nothing = []
-words_of (One a) = decimal a ∷ []
-words_of (Two a b) = decimal a ∷ decimal b ∷ []
-words_of (Three a b c) = decimal a ∷ decimal b ∷ decimal c ∷ []
-words_of (Context fault) = words_of_context fault
+abbrev pub argument_texts : Arguments → List (List ℕ)
+argument_texts Nothing = []
+argument_texts (One a) = decimal a ∷ []
+argument_texts (Two a b) = decimal a ∷ decimal b ∷ []
+argument_texts (Three a b c) = decimal a ∷ decimal b ∷ decimal c ∷ []
+argument_texts (Context fault) = words_of_context fault

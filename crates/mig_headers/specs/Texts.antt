@@ -8,40 +8,40 @@ use Rattle.mig_headers.specs.declared.fault.Cause.{Cause}
 use Rattle.mig_headers.specs.declared.fault.Cause.TheVariants.{NotBuilt, Truncated, NotStream, BadId, BadVersion, BigEndian, BadKind, BadPageShift, BodyTooLong, Unsupported, UnknownMandatory, WrongKind, OutOfOrder, BadLength, NoPages, BadPageType, PfnOutside, Superpage, EntryOutside, Pv32, BadPvInfo, P2mStart, P2mRange, VcpuId, GdtEnts, BadContext, ParamIndex, Missing, P2mFrame, TargetAbsent, VcpuFrame, TooManyRecords, TooManyFrames}
 
 -- the number of a cause
-abbrev pub number_of : Cause → ℕ
-number_of (NotBuilt _) = 0
-number_of Truncated = 1
-number_of NotStream = 2
-number_of BadId = 3
-number_of (BadVersion _) = 4
-number_of BigEndian = 5
-number_of (BadKind _) = 6
-number_of (BadPageShift _) = 7
-number_of (BodyTooLong _) = 8
-number_of (Unsupported _) = 9
-number_of (UnknownMandatory _) = 10
-number_of (WrongKind _) = 11
-number_of (OutOfOrder _) = 12
-number_of (BadLength _) = 13
-number_of NoPages = 14
-number_of (BadPageType _ _) = 15
-number_of (PfnOutside _ _) = 16
-number_of (Superpage _ _) = 17
-number_of (EntryOutside _ _ _) = 18
-number_of Pv32 = 19
-number_of BadPvInfo = 20
-number_of (P2mStart _) = 21
-number_of (P2mRange _) = 22
-number_of (VcpuId _) = 23
-number_of (GdtEnts _) = 24
-number_of (BadContext _) = 25
-number_of (ParamIndex _) = 26
-number_of (Missing _) = 27
-number_of (P2mFrame _) = 28
-number_of (TargetAbsent _ _) = 29
-number_of (VcpuFrame _ _) = 30
-number_of TooManyRecords = 31
-number_of TooManyFrames = 32
+abbrev pub number_of_cause : Cause → ℕ
+number_of_cause (NotBuilt _) = 0
+number_of_cause Truncated = 1
+number_of_cause NotStream = 2
+number_of_cause BadId = 3
+number_of_cause (BadVersion _) = 4
+number_of_cause BigEndian = 5
+number_of_cause (BadKind _) = 6
+number_of_cause (BadPageShift _) = 7
+number_of_cause (BodyTooLong _) = 8
+number_of_cause (Unsupported _) = 9
+number_of_cause (UnknownMandatory _) = 10
+number_of_cause (WrongKind _) = 11
+number_of_cause (OutOfOrder _) = 12
+number_of_cause (BadLength _) = 13
+number_of_cause NoPages = 14
+number_of_cause (BadPageType _ _) = 15
+number_of_cause (PfnOutside _ _) = 16
+number_of_cause (Superpage _ _) = 17
+number_of_cause (EntryOutside _ _ _) = 18
+number_of_cause Pv32 = 19
+number_of_cause BadPvInfo = 20
+number_of_cause (P2mStart _) = 21
+number_of_cause (P2mRange _) = 22
+number_of_cause (VcpuId _) = 23
+number_of_cause (GdtEnts _) = 24
+number_of_cause (BadContext _) = 25
+number_of_cause (ParamIndex _) = 26
+number_of_cause (Missing _) = 27
+number_of_cause (P2mFrame _) = 28
+number_of_cause (TargetAbsent _ _) = 29
+number_of_cause (VcpuFrame _ _) = 30
+number_of_cause TooManyRecords = 31
+number_of_cause TooManyFrames = 32
 
 -- the name of a cause
 abbrev pub name_of : Cause → List ℕ
@@ -120,7 +120,7 @@ spaced [] = []
 spaced (word ∷ words) = (codes " " ++ word) ++ spaced words
 
 abbrev pub text_of_cause : Cause → List ℕ
-text_of_cause cause = decimal (number_of cause) ++ spaced (name_of cause ∷ arguments_of cause)
+text_of_cause cause = decimal (number_of_cause cause) ++ spaced (name_of cause ∷ arguments_of cause)
 
 abbrev pub text_of_place : Place → List ℕ
 text_of_place ImageHeader = codes "ImageHeader"

@@ -1,7 +1,7 @@
 ghost use Rattle.std.specs.Prelude.{◌≡◌};
 ghost use Rattle.mig_bytes.specs.Bytes.{Puts};
 ghost use Rattle.mig_bytes.specs.Faults.{HasCause};
-ghost use Rattle.mig_headers.specs.Arguments.{words_of};
+ghost use Rattle.mig_headers.specs.Arguments.{argument_texts};
 ghost use Rattle.mig_headers.specs.ImageTexts.{number_of_image_cause, name_of_image_cause, arguments_of_image_cause, text_of_image_cause, text_of_image_place};
 
 use crate::text::{Arguments, put_numbered, put_words};
@@ -60,7 +60,7 @@ impl ImageCause {
     }
 
     fn arguments(self) -> Arguments
-        ensures { words_of result ≡ arguments_of_image_cause self }
+        ensures { argument_texts result ≡ arguments_of_image_cause self }
     {
         match self {
             ImageCause::BadKind(kind) => Arguments::One(kind),

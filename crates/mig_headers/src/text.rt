@@ -1,8 +1,8 @@
 ghost use Rattle.std.specs.Prelude.{◌≡◌, ◌∷◌, ◌++◌, codes, decimal, map};
 ghost use Rattle.mig_bytes.specs.Bytes.{Puts};
 ghost use Rattle.mig_bytes.specs.Faults.{HasCause};
-ghost use Rattle.mig_headers.specs.Arguments.{words_of};
-ghost use Rattle.mig_headers.specs.Texts.{number_of, name_of, arguments_of, words_of_context, spaced, text_of_cause, text_of_place};
+ghost use Rattle.mig_headers.specs.Arguments.{argument_texts};
+ghost use Rattle.mig_headers.specs.Texts.{number_of_cause, name_of, arguments_of, words_of_context, spaced, text_of_cause, text_of_place};
 
 use crate::{Cause, ContextFault, Place};
 use itoa::Buffer;
@@ -20,7 +20,7 @@ pub(crate) enum Arguments {
 
 impl Arguments {
     fn put<K: Sink>(self, sink: &mut K) -> Result<(), WriteFailed>
-        ensures bytes { Puts (spaced (words_of self)) (K.written sink.old) (K.written sink.new) result }
+        ensures bytes { Puts (spaced (argument_texts self)) (K.written sink.old) (K.written sink.new) result }
         ensures cause { HasCause (K.faults sink.old) (K.faults sink.new) result }
     {
         match self {
@@ -36,7 +36,7 @@ impl Arguments {
 impl Cause {
     /// The number of this cause, which is part of its printed text.
     pub fn number(self) -> u64
-        ensures { result ≡ number_of self }
+        ensures { result ≡ number_of_cause self }
     {
         match self {
             Cause::NotBuilt(_) => 0,
@@ -117,7 +117,7 @@ impl Cause {
     }
 
     fn arguments(self) -> Arguments
-        ensures { words_of result ≡ arguments_of self }
+        ensures { argument_texts result ≡ arguments_of self }
     {
         match self {
             Cause::NotBuilt(kind) => Arguments::One(kind),
@@ -195,7 +195,7 @@ pub(crate) fn put_words<K: Sink>(
     name: &str,
     arguments: Arguments,
 ) -> Result<(), WriteFailed>
-    ensures bytes { Puts (decimal number ++ spaced (name.now ∷ words_of arguments)) (K.written sink.old) (K.written sink.new) result }
+    ensures bytes { Puts (decimal number ++ spaced (name.now ∷ argument_texts arguments)) (K.written sink.old) (K.written sink.new) result }
     ensures cause { HasCause (K.faults sink.old) (K.faults sink.new) result }
 {
     put_number(sink, number)?;
@@ -207,7 +207,7 @@ fn put_name_and_arguments<K: Sink>(
     name: &str,
     arguments: Arguments,
 ) -> Result<(), WriteFailed>
-    ensures bytes { Puts (spaced (name.now ∷ words_of arguments)) (K.written sink.old) (K.written sink.new) result }
+    ensures bytes { Puts (spaced (name.now ∷ argument_texts arguments)) (K.written sink.old) (K.written sink.new) result }
     ensures cause { HasCause (K.faults sink.old) (K.faults sink.new) result }
 {
     put_word(sink, name)?;

@@ -16,7 +16,7 @@ use Rattle.mig_headers.specs.declared.kind.Kind.{Kind}
 use Rattle.mig_guest.specs.Hosts.{HostOf, HostFrame, HostFrames, IsValid}
 use Rattle.mig_guest.proofs.PartCursor.{both_of}
 use Rattle.mig_image.specs.Image.{frame_text}
-use Rattle.mig_image.specs.ImageParts.{frame_at}
+use Rattle.mig_image.specs.ImageParts.{host_frame_at}
 use Rattle.mig_image.proofs.FrameTexts.{FrameFits, frame_goes}
 use Rattle.mig_image.proofs.InOrder.{has_from, entries_behind, below_at, sorted_back, front_below, get_at, each_entry, no_entries}
 use Rattle.mig_bytes.proofs.Joins.{then_passes}
@@ -39,14 +39,14 @@ with_frames h m = record h { frames = m }
 -- ---- they are read
 
 pub frames_go : (h : HostOf) (m : HostFrames) (es : List Entry) (k : ℕ) (rest : List ℕ) → h.width ≤ 2 ^ 28 → FrameChain h.kind h.width m es
-    → steps (λ i h. λ input. placed (Frame i) (frame_at h input)) (length es) k (with_frames h m) (flat_map frame_text es ++ rest) ≡ Passes (with_frames h (put_frames m es)) rest
+    → steps (λ i h. λ input. placed (Frame i) (host_frame_at h input)) (length es) k (with_frames h m) (flat_map frame_text es ++ rest) ≡ Passes (with_frames h (put_frames m es)) rest
 unfolding steps
 frames_go h m [] k rest wide chain = refl
 frames_go h m (e ∷ es) k rest wide chain =
     let more = flat_map frame_text es ++ rest in
     let n = maps.insert m e.0 e.1 in
-    ap (steps (λ i h. λ input. placed (Frame i) (frame_at h input)) (suc (length es)) k (with_frames h m)) (append_assoc (frame_text e) (flat_map frame_text es) rest)
-    ∙ then_passes (placed (Frame k) (frame_at (with_frames h m) (frame_text e ++ more))) (λ y. steps (λ i h. λ input. placed (Frame i) (frame_at h input)) (length es) (k + 1) y.0 y.1) (with_frames h n) more _
+    ap (steps (λ i h. λ input. placed (Frame i) (host_frame_at h input)) (suc (length es)) k (with_frames h m)) (append_assoc (frame_text e) (flat_map frame_text es) rest)
+    ∙ then_passes (placed (Frame k) (host_frame_at (with_frames h m) (frame_text e ++ more))) (λ y. steps (λ i h. λ input. placed (Frame i) (host_frame_at h input)) (length es) (k + 1) y.0 y.1) (with_frames h n) more _
     (ap (placed (Frame k)) (frame_goes (with_frames h m) e more wide chain.0)) (frames_go h n es (k + 1) rest wide chain.1)
 
 -- ---- the frames of a valid host

@@ -18,7 +18,7 @@ use Rattle.mig_pagetypes.specs.declared.page_type.PageType.{PageType}
 use Rattle.mig_pagetypes.specs.PageTypes.{type_has_data}
 use Rattle.mig_guest.specs.Frames.{is_type_of}
 use Rattle.mig_guest.specs.Hosts.{HostOf, HostFrame, HostFrames, IsHostFrame}
-use Rattle.mig_image.specs.ImageParts.{head_pfn, head_type, frame_rows, fault_of_frame, frame_head_at, page_at, frame_said, put_frame, frame_at}
+use Rattle.mig_image.specs.ImageParts.{head_pfn, head_type, frame_rows, fault_of_frame, frame_head_at, host_page_at, frame_said, put_frame, host_frame_at}
 use Rattle.mig_image.proofs.InOrder.{none_passes}
 use Rattle.mig_image.proofs.KeyTests.{frame_absent}
 use Rattle.mig_image.proofs.PartRead.{after, handed_on}
@@ -31,7 +31,7 @@ module _ (h : HostOf) where
   put_said head page = Passes (put_frame h (head_pfn head) (frame_said head page.0)) page.1
 
   abbrev behind_head : List ℕ × List ℕ → Judged ImageCause HostOf
-  behind_head head = page_at (head_type head.0) head.1 >>= put_said head.0
+  behind_head head = host_page_at (head_type head.0) head.1 >>= put_said head.0
 
   said_after : (head : List ℕ) (j : Judged ImageCause (List ℕ)) → ((j >>= λ page. Passes (Some page.0) page.1) >>= put_said head) ≡ (j >>= λ page. put_said head (Some page.0, page.1))
   said_after head (Passes page rest) = refl
@@ -42,7 +42,7 @@ module _ (h : HostOf) where
 
   module _ {Z : Type 0} (Q : Z → HostOf → Type 0) (a b : Option (List ℕ)) (head : List ℕ) (opens : Gives {X = List ℕ} (λ v head. head ≡ v) a b (frame_head_at h) (Ok head)) (kind : PageType) (same : kind ≡ head_type head) where
     -- of a type without data
-    pub frame_reads : (z : Z) → type_has_data kind ≡ false → Q z (put_frame h (head_pfn head) (frame_said head None)) → Gives Q a b (frame_at h) (Ok z)
+    pub frame_reads : (z : Z) → type_has_data kind ≡ false → Q z (put_frame h (head_pfn head) (frame_said head None)) → Gives Q a b (host_frame_at h) (Ok z)
     frame_reads z none q =
         let bare : type_has_data (head_type head) ≡ false = ap type_has_data (sym same) ∙ none in
         after (λ v. v) Q a b b (frame_head_at h) behind_head head (Ok z) opens
@@ -55,20 +55,20 @@ module _ (h : HostOf) where
       whole : (r : Result (Unit {0}) (Stop ImageCause)) → Reads r → Gives {X = Unit {0}} (λ _ bytes. bytes ≡ page) b c (part Truncated 4096) r
       whole r n = subst (λ m. Gives {X = Unit {0}} (λ _ bytes. bytes ≡ page) b c (part Truncated m) r) size n
 
-      behind : (r : Result Z (Stop ImageCause)) → Gives Q b c (λ i. part Truncated 4096 i >>= λ page. put_said head (Some page.0, page.1)) r → Gives Q a c (frame_at h) r
+      behind : (r : Result Z (Stop ImageCause)) → Gives Q b c (λ i. part Truncated 4096 i >>= λ page. put_said head (Some page.0, page.1)) r → Gives Q a c (host_frame_at h) r
       behind r n = after (λ v. v) Q a b c (frame_head_at h) behind_head head r opens
           (judged_so Q b c (λ i. part Truncated 4096 i >>= λ page. put_said head (Some page.0, page.1)) (λ i. behind_head (head, i)) r (λ i. with_page head i (ap type_has_data (sym same) ∙ some)) n)
 
       -- with its page
-      pub page_reads : (z : Z) → Reads (Ok tt) → Q z (put_frame h (head_pfn head) (frame_said head (Some page))) → Gives Q a c (frame_at h) (Ok z)
+      pub page_reads : (z : Z) → Reads (Ok tt) → Q z (put_frame h (head_pfn head) (frame_said head (Some page))) → Gives Q a c (host_frame_at h) (Ok z)
       page_reads z n q =
           behind (Ok z) (after {V = Unit {0}} (λ _. page) Q b c c (part Truncated 4096) (λ page. put_said head (Some page.0, page.1)) tt (Ok z) (whole (Ok tt) n)
           (done Q c (λ i. put_said head (Some page, i)) z (put_frame h (head_pfn head) (frame_said head (Some page))) (λ i. refl) q))
 
       -- the page isn't read
-      pub page_stops : (e : Stop ImageCause) (r : Result Z (Stop ImageCause)) → IsErrAnd r (λ d. d ≡ e) → Reads (Err e) → Gives Q a c (frame_at h) r
+      pub page_stops : (e : Stop ImageCause) (r : Result Z (Stop ImageCause)) → IsErrAnd r (λ d. d ≡ e) → Reads (Err e) → Gives Q a c (host_frame_at h) r
       page_stops e r is n =
-          handed_on Q a c (frame_at h) e r is (behind (Err e) (stop {W = Unit {0}} (λ _ bytes. bytes ≡ page) Q b c (part Truncated 4096) (λ page. put_said head (Some page.0, page.1)) e (whole (Err e) n)))
+          handed_on Q a c (host_frame_at h) e r is (behind (Err e) (stop {W = Unit {0}} (λ _ bytes. bytes ≡ page) Q b c (part Truncated 4096) (λ page. put_said head (Some page.0, page.1)) e (whole (Err e) n)))
 
 -- ---- a frame whose head has no fault
 

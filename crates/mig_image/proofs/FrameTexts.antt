@@ -19,7 +19,7 @@ use Rattle.mig_pagetypes.specs.PageTypes.{number_of, type_of, type_or_none, type
 use Rattle.mig_guest.specs.Frames.{is_type_of}
 use Rattle.mig_guest.specs.Hosts.{HostOf, HostFrame, HostFrames, IsHostFrame}
 use Rattle.mig_image.specs.Image.{host_word, frame_head_of, frame_text}
-use Rattle.mig_image.specs.ImageParts.{head_pfn, head_type, has_machine, has_frame_from, frame_rows, fault_of_frame, frame_head_at, page_at, frame_said, put_frame, frame_at}
+use Rattle.mig_image.specs.ImageParts.{head_pfn, head_type, has_machine, has_frame_from, frame_rows, fault_of_frame, frame_head_at, host_page_at, frame_said, put_frame, host_frame_at}
 use Rattle.mig_bytes.proofs.Joins.{then_passes, tried_none}
 use Rattle.mig_headers.proofs.FirstFaults.{no_fault}
 
@@ -137,7 +137,7 @@ abbrev pub page_if : Bool → List ℕ → Judged ImageCause (Option (List ℕ))
 page_if b input = cond b (part Truncated 4096 input >>= λ page. Passes (Some page.0) page.1) (Passes None input)
 
 page_goes : (kind : PageType) (page : Option (List ℕ)) (rest : List ℕ) → is_some page ≡ type_has_data kind → ((p : List ℕ) → page ≡ Some p → length p ≡ 4096)
-    → page_at kind (unwrap_or page [] ++ rest) ≡ Passes page rest
+    → host_page_at kind (unwrap_or page [] ++ rest) ≡ Passes page rest
 page_goes kind None rest step whole = ap (λ b. page_if b rest) (sym step)
 page_goes kind (Some p) rest step whole =
     ap (λ b. page_if b (p ++ rest)) (sym step) ∙ then_passes (part Truncated 4096 (p ++ rest)) (λ page. Passes (Some page.0) page.1) p rest _ (part_whole Truncated 4096 p rest (whole p refl)) refl
@@ -151,13 +151,13 @@ frame_is h e head rest s =
     ∙ ap (λ k. Passes (put_frame h e.0 (record { type = k; machine = le64 head 8; page = e.1.page })) rest) s.kind
     ∙ ap (λ m. Passes (put_frame h e.0 (record { type = e.1.type; machine = m; page = e.1.page })) rest) s.machine
 
-pub frame_goes : (h : HostOf) (e : ℕ × HostFrame) (rest : List ℕ) → h.width ≤ 2 ^ 28 → FrameFits h.kind h.width h.frames e → frame_at h (frame_text e ++ rest) ≡ Passes (put_frame h e.0 e.1) rest
+pub frame_goes : (h : HostOf) (e : ℕ × HostFrame) (rest : List ℕ) → h.width ≤ 2 ^ 28 → FrameFits h.kind h.width h.frames e → host_frame_at h (frame_text e ++ rest) ≡ Passes (put_frame h e.0 e.1) rest
 frame_goes h e rest wide f =
     let head = frame_head_of e.0 e.1 in
     let mid = unwrap_or e.1.page [] ++ rest in
     let s = says e (let below : e.0 < 2 ^ 28 = omega (arith, f.is.inside, wide) in below) f.is.machine in
-    ap (frame_at h) (append_assoc head (unwrap_or e.1.page []) rest)
-    ∙ then_passes (frame_head_at h (head ++ mid)) (λ a. page_at (head_type a.0) a.1 >>= λ page. Passes (put_frame h (head_pfn a.0) (frame_said a.0 page.0)) page.1) head mid _
+    ap (host_frame_at h) (append_assoc head (unwrap_or e.1.page []) rest)
+    ∙ then_passes (frame_head_at h (head ++ mid)) (λ a. host_page_at (head_type a.0) a.1 >>= λ page. Passes (put_frame h (head_pfn a.0) (frame_said a.0 page.0)) page.1) head mid _
     (then_passes (part Truncated 16 (head ++ mid)) (λ a. tried (fault_of_frame h a.0) a.1 >>= λ _. Passes a.0 a.1) head mid _ (part_whole Truncated 16 head mid (head_len e.0 e.1)) (tried_none (fault_of_frame h head) mid (Passes head mid) (fine h e head s f)))
-    (then_passes (page_at (head_type head) mid) (λ page. Passes (put_frame h (head_pfn head) (frame_said head page.0)) page.1) e.1.page rest _
-    (ap (λ k. page_at k mid) s.kind ∙ page_goes e.1.type e.1.page rest f.is.in_step f.is.whole) (frame_is h e head rest s))
+    (then_passes (host_page_at (head_type head) mid) (λ page. Passes (put_frame h (head_pfn head) (frame_said head page.0)) page.1) e.1.page rest _
+    (ap (λ k. host_page_at k mid) s.kind ∙ page_goes e.1.type e.1.page rest f.is.in_step f.is.whole) (frame_is h e head rest s))

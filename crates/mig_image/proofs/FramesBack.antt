@@ -23,7 +23,7 @@ use Rattle.mig_pagetypes.specs.PageTypes.{number_of, type_of, type_or_none, type
 use Rattle.mig_guest.specs.Frames.{is_type_of}
 use Rattle.mig_guest.specs.Hosts.{HostOf, HostFrame, HostFrames, IsHostFrame, IsOneToOne}
 use Rattle.mig_image.specs.Image.{host_word, frame_head_of, frame_text}
-use Rattle.mig_image.specs.ImageParts.{head_pfn, head_type_number, head_type, frame_rows, fault_of_frame, frame_head_at, page_at, frame_said, put_frame, frame_at}
+use Rattle.mig_image.specs.ImageParts.{head_pfn, head_type_number, head_type, frame_rows, fault_of_frame, frame_head_at, host_page_at, frame_said, put_frame, host_frame_at}
 use Rattle.mig_image.proofs.FieldBytes.{Bytes, bytes_front, bytes_back, word_back, long_back, cut, last, judged_part, regroup}
 use Rattle.mig_image.proofs.FrameTexts.{FrameFits, page_if}
 use Rattle.mig_image.proofs.FrameChains.{Entry, FrameChain, put_frames, with_frames, from_is}
@@ -60,7 +60,7 @@ record PageFound (kind : PageType) (i : List ℕ) (page : Option (List ℕ)) (re
   in_step : is_some page ≡ type_has_data kind
   size : (p : List ℕ) → page ≡ Some p → length p ≡ 4096
 
-page_back : (kind : PageType) (i : List ℕ) (page : Option (List ℕ)) (rest : List ℕ) → page_at kind i ≡ Passes page rest → PageFound kind i page rest
+page_back : (kind : PageType) (i : List ℕ) (page : Option (List ℕ)) (rest : List ℕ) → host_page_at kind i ≡ Passes page rest → PageFound kind i page rest
 page_back kind i page rest h = by (type_has_data kind) refl h
   where
     nothing : (p : List ℕ) → None ≡ Some p → ⊥
@@ -124,14 +124,14 @@ said_head h head page all size fine =
     (sym (eqb-true (le32 head 4) 0 (not-false (nat_eq (le32 head 4) 0) reserved))) refl
 
 abbrev behind_frame_head : HostOf → List ℕ × List ℕ → Judged ImageCause HostOf
-behind_frame_head h a = page_at (head_type a.0) a.1 >>= λ page. Passes (put_frame h (head_pfn a.0) (frame_said a.0 page.0)) page.1
+behind_frame_head h a = host_page_at (head_type a.0) a.1 >>= λ page. Passes (put_frame h (head_pfn a.0) (frame_said a.0 page.0)) page.1
 
-frame_back : (h : HostOf) (i : List ℕ) (g : HostOf) (rest : List ℕ) → Bytes i → frame_at h i ≡ Passes g rest → FrameFound h i g rest
+frame_back : (h : HostOf) (i : List ℕ) (g : HostOf) (rest : List ℕ) → Bytes i → host_frame_at h i ≡ Passes g rest → FrameFound h i g rest
 frame_back h i g rest all is =
     let a = both_pass (frame_head_at h i) (behind_frame_head h) g rest is in
     let head = a.x in
     let p = judged_part Truncated 16 (fault_of_frame h) i head a.mid a.first in
-    let c = both_pass (page_at (head_type head) a.mid) (λ page. Passes (put_frame h (head_pfn head) (frame_said head page.0)) page.1) g rest a.second in
+    let c = both_pass (host_page_at (head_type head) a.mid) (λ page. Passes (put_frame h (head_pfn head) (frame_said head page.0)) page.1) g rest a.second in
     let q = page_back (head_type head) a.mid c.x c.mid c.first in
     let e = same_passes (put_frame h (head_pfn head) (frame_said head c.x)) g c.mid rest c.second in
     let bytes : Bytes head = bytes_front i head a.mid p.0 all in
@@ -153,7 +153,7 @@ pub record FramesFound (h : HostOf) (m : HostFrames) (n : ℕ) (i : List ℕ) (g
   pub is : g ≡ with_frames h (put_frames m es)
 
 abbrev step : ℕ → HostOf → List ℕ → Judged (ImagePlace × ImageCause) HostOf
-step i h input = placed (Frame i) (frame_at h input)
+step i h input = placed (Frame i) (host_frame_at h input)
 
 frame_then : (h : HostOf) (m : HostFrames) (n k : ℕ) (i mid : List ℕ) (x g : HostOf) (rest : List ℕ) (f : FrameFound (with_frames h m) i x mid) → steps step n k x mid ≡ Passes g rest
     → (steps step n k (with_frames h (maps.insert m f.e.0 f.e.1)) mid ≡ Passes g rest → FramesFound h (maps.insert m f.e.0 f.e.1) n mid g rest) → FramesFound h m (suc n) i g rest
@@ -167,14 +167,14 @@ frame_then h m n k i mid x g rest f passes go =
       is = more.is;
     }
 
-pub frames_back : (h : HostOf) (m : HostFrames) (n k : ℕ) (i : List ℕ) (g : HostOf) (rest : List ℕ) → Bytes i → steps (λ i h. λ input. placed (Frame i) (frame_at h input)) n k (with_frames h m) i ≡ Passes g rest → FramesFound h m n i g rest
+pub frames_back : (h : HostOf) (m : HostFrames) (n k : ℕ) (i : List ℕ) (g : HostOf) (rest : List ℕ) → Bytes i → steps (λ i h. λ input. placed (Frame i) (host_frame_at h input)) n k (with_frames h m) i ≡ Passes g rest → FramesFound h m n i g rest
 unfolding steps
 frames_back h m zero k i g rest all is =
     let e = same_passes (with_frames h m) g i rest is in
     record { es = []; size = refl; whole = e.1; chain = tt; is = sym e.0 }
 frames_back h m (suc n) k i g rest all is =
     let a = both_pass (step k (with_frames h m) i) (λ y. steps step n (k + 1) y.0 y.1) g rest is in
-    let f = frame_back (with_frames h m) i a.x a.mid all (placed_passes (Frame k) (frame_at (with_frames h m) i) a.x a.mid a.first) in
+    let f = frame_back (with_frames h m) i a.x a.mid all (placed_passes (Frame k) (host_frame_at (with_frames h m) i) a.x a.mid a.first) in
     frame_then h m n (k + 1) i a.mid a.x g rest f a.second (frames_back h (maps.insert m f.e.0 f.e.1) n (k + 1) a.mid g rest (bytes_back i (frame_text f.e) a.mid f.whole all))
 
 -- ---- they are those of a valid host

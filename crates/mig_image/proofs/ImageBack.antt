@@ -20,8 +20,8 @@ use Rattle.mig_headers.specs.declared.kind.Kind.{Kind}
 use Rattle.mig_headers.specs.declared.kind.Kind.TheVariants.{Pv, Hvm}
 use Rattle.mig_guest.specs.Hosts.{HostOf, HostFrame, IsValid}
 use Rattle.mig_guest.specs.Order.{part_cmp}
-use Rattle.mig_image.specs.Image.{head_of, frame_text, part_text, image, IsImage}
-use Rattle.mig_image.specs.ImageParts.{name_rows, size_rows, fault_of_name, fault_of_sizes, fault_of_head, head_at, opened, frames_at, parts_at, count_at, behind_head, image_at}
+use Rattle.mig_image.specs.Image.{host_head, frame_text, part_text, image, IsHostImage}
+use Rattle.mig_image.specs.ImageParts.{name_rows, size_rows, fault_of_name, fault_of_sizes, fault_of_host_head, host_head_at, opened, frames_at, parts_at, count_at, behind_head, host_at}
 use Rattle.mig_image.proofs.FieldBytes.{Bytes, bytes_front, bytes_back, name_back, word_back, long_back, cut, last, judged_part, regroup}
 use Rattle.mig_image.proofs.FrameChains.{put_frames, with_frames}
 use Rattle.mig_image.proofs.FrameChains.{Entry as Frame}
@@ -43,8 +43,8 @@ kind_known n h = by (nat_eq n 1) (nat_eq n 2) refl refl h
     by false false p q h = cc
 
 head_back : (h : HostOf) (head : List ℕ) → Bytes head → length head ≡ 32 → be64 head 0 ≡ 0x5847494D41474531 → kind_number h.kind ≡ le32 head 8 → 0 ≡ le32 head 12 → h.width ≡ le64 head 16 → length (maps.entries h.frames) ≡ le64 head 24
-    → head_of h ≡ head
-unfolding head_of
+    → host_head h ≡ head
+unfolding host_head
 head_back h head all size name kind none width count =
     let n : List ℕ = codes "XGIMAGE1" in
     let a : n ≡ take 8 head = name_back head all (omega (arith, size)) name in
@@ -80,7 +80,7 @@ not_both Hvm width h is = absurd (apart is)
     apart : Hvm ≡ Pv → ⊥
     apart e = cc
 
-head_fine : (head : List ℕ) → fault_of_head head ≡ None → HeadFine head
+head_fine : (head : List ℕ) → fault_of_host_head head ≡ None → HeadFine head
 head_fine head fine =
     let kind = kind_of_number (le32 head 8) in
     let width = le64 head 16 in
@@ -137,11 +137,11 @@ parts_found : (head at_frames at_count at_parts : List ℕ) (passed h : HostOf) 
 parts_found head at_frames at_count at_parts passed h count rest f all is =
     parts_back (framed head f.es) maps.empty count 0 at_parts h rest all (subst (λ x. parts_at count x at_parts ≡ Passes h rest) f.is is)
 
-found : (input : List ℕ) (h : HostOf) (rest : List ℕ) → Bytes input → image_at input ≡ Passes h rest → Found input h rest
-unfolding image_at
+found : (input : List ℕ) (h : HostOf) (rest : List ℕ) → Bytes input → host_at input ≡ Passes h rest → Found input h rest
+unfolding host_at
 found input h rest all is =
-    let a = both_pass (placed Head (head_at input)) (λ head. behind_head head.0 head.1) h rest is in
-    let p = judged_part Truncated 32 fault_of_head input a.x a.mid (placed_passes Head (head_at input) a.x a.mid a.first) in
+    let a = both_pass (placed Head (host_head_at input)) (λ head. behind_head head.0 head.1) h rest is in
+    let p = judged_part Truncated 32 fault_of_host_head input a.x a.mid (placed_passes Head (host_head_at input) a.x a.mid a.first) in
     let in_frames : Bytes a.mid = bytes_back input a.x a.mid p.0 all in
     let b = both_pass (frames_at (le64 a.x 24) (opened a.x) a.mid) (λ f. placed Parts (count_at f.1) >>= λ count. parts_at count.0 f.0 count.1) h rest a.second in
     let f = frames_back (opened a.x) maps.empty (le64 a.x 24) 0 a.mid b.x b.mid in_frames b.first in
@@ -171,7 +171,7 @@ joined input head at_frames frames at_count count at_parts parts rest a b c d =
     regroup input at_frames rest head (frames ++ (count ++ parts)) a (regroup at_frames at_count rest frames (count ++ parts) b (regroup at_count at_parts rest count parts c d))
 
 -- an image of these pieces
-image_of : (g : HostOf) (head : List ℕ) (fs : List Frame) (n : ℕ) (ps : List Part) → head_of g ≡ head → maps.entries g.frames ≡ fs → length (maps.entries g.parts) ≡ n → maps.entries g.parts ≡ ps
+image_of : (g : HostOf) (head : List ℕ) (fs : List Frame) (n : ℕ) (ps : List Part) → host_head g ≡ head → maps.entries g.frames ≡ fs → length (maps.entries g.parts) ≡ n → maps.entries g.parts ≡ ps
     → image g ≡ head ++ (flat_map frame_text fs ++ (little_bytes 8 n ++ flat_map part_text ps))
 unfolding image
 image_of g head fs n ps a b c d =
@@ -214,7 +214,7 @@ module _ (input : List ℕ) (h : HostOf) (rest : List ℕ) (f : Found input h re
         msrs = parts.msrs;
       }
 
-  head_is : head_of given ≡ f.head
+  head_is : host_head given ≡ f.head
   head_is = head_back given f.head f.bytes f.size f.said.name f.said.kind f.said.none refl frame_count
 
   spelled : input ≡ image given ++ rest
@@ -222,8 +222,8 @@ module _ (input : List ℕ) (h : HostOf) (rest : List ℕ) (f : Found input h re
       joined input f.head f.at_frames (flat_map frame_text f.frames.es) f.at_count (little_bytes 8 f.count) f.at_parts (flat_map part_text f.parts.es) rest f.whole f.frames.whole f.counted f.parts.whole
       ∙ ap (λ l. l ++ rest) (sym (image_of given f.head f.frames.es f.count f.parts.es head_is frame_entries (ap length part_entries ∙ f.parts.size) part_entries))
 
-  is_image : IsImage input h rest
-  is_image = subst (λ (g : HostOf). IsImage input g rest) (sym f.parts.is) (record { valid = valid; spelled = spelled })
+  is_image : IsHostImage input h rest
+  is_image = subst (λ (g : HostOf). IsHostImage input g rest) (sym f.parts.is) (record { valid = valid; spelled = spelled })
 
-pub image_back : (input : List ℕ) (h : HostOf) (rest : List ℕ) → AreBytes input → image_at input ≡ Passes h rest → IsImage input h rest
+pub image_back : (input : List ℕ) (h : HostOf) (rest : List ℕ) → AreBytes input → host_at input ≡ Passes h rest → IsHostImage input h rest
 image_back input h rest all is = is_image input h rest (found input h rest (recursion_from_All (λ b. b < 256) input all) is)

@@ -15,8 +15,8 @@ use Rattle.mig_pagetypes.specs.declared.page_type.PageType.{PageType}
 use Rattle.mig_pagetypes.specs.PageTypes.{type_has_data}
 use Rattle.mig_guest.specs.Hosts.{HostOf}
 use Rattle.mig_image.specs.Answer.{IsHost, BeginsWithImage}
-use Rattle.mig_image.specs.Image.{image, IsImage}
-use Rattle.mig_image.specs.ImageParts.{fault_of_head, fault_of_frame, fault_of_part, fault_of_bytes, fault_of_padding, opened, head_at, head_type, head_pfn, head_key, frame_head_at, page_at, frame_said, put_frame, frame_at, part_head_at, bytes_at, padding_at, put_part_in, part_at, frames_at, parts_at, count_at, behind_head, image_at}
+use Rattle.mig_image.specs.Image.{image, IsHostImage}
+use Rattle.mig_image.specs.ImageParts.{fault_of_host_head, fault_of_frame, fault_of_part, fault_of_bytes, fault_of_padding, opened, host_head_at, head_type, head_pfn, head_key, frame_head_at, host_page_at, frame_said, put_frame, host_frame_at, part_head_at, bytes_at, padding_at, put_part_in, part_at, frames_at, parts_at, count_at, behind_head, host_at}
 use Rattle.mig_image.proofs.FieldBytes.{judged_part}
 use Rattle.mig_image.proofs.ImageBack.{image_back}
 
@@ -29,17 +29,17 @@ judged n fault input x rest is =
       again = λ more. then_passes (part Truncated n (x ++ more)) (λ a. tried (fault a.0) a.1 >>= λ _. Passes a.0 a.1) x more (Passes x more) (part_whole Truncated n x more p.1) (tried_none (fault x) more (Passes x more) p.2);
     }
 
-page : (type : PageType) → TakesFronts (page_at type)
+page : (type : PageType) → TakesFronts (host_page_at type)
 page type = by (type_has_data type)
   where
     by : (b : Bool) → TakesFronts (λ i. cond b (part Truncated 4096 i >>= λ a. Passes (Some a.0) a.1) (Passes None i))
     by true = front_then (part Truncated 4096) (λ a. Passes (Some a.0) a.1) (front_part Truncated 4096) (λ x. front_pass (Some x))
     by false = front_pass None
 
-frame : (h : HostOf) → TakesFronts (frame_at h)
+frame : (h : HostOf) → TakesFronts (host_frame_at h)
 frame h =
-    front_then (frame_head_at h) (λ head. page_at (head_type head.0) head.1 >>= λ page. Passes (put_frame h (head_pfn head.0) (frame_said head.0 page.0)) page.1) (judged 16 (fault_of_frame h))
-    (λ head. front_then (page_at (head_type head)) (λ page. Passes (put_frame h (head_pfn head) (frame_said head page.0)) page.1) (page (head_type head)) (λ p. front_pass (put_frame h (head_pfn head) (frame_said head p))))
+    front_then (frame_head_at h) (λ head. host_page_at (head_type head.0) head.1 >>= λ page. Passes (put_frame h (head_pfn head.0) (frame_said head.0 page.0)) page.1) (judged 16 (fault_of_frame h))
+    (λ head. front_then (host_page_at (head_type head)) (λ page. Passes (put_frame h (head_pfn head) (frame_said head page.0)) page.1) (page (head_type head)) (λ p. front_pass (put_frame h (head_pfn head) (frame_said head p))))
 
 a_part : (h : HostOf) → TakesFronts (part_at h)
 a_part h =
@@ -53,15 +53,15 @@ count = front_then (part Truncated 8) (λ a. Passes (le64 a.0 0) a.1) (front_par
 behind : (head : List ℕ) → TakesFronts (behind_head head)
 behind head =
     front_then (frames_at (le64 head 24) (opened head)) (λ framed. placed Parts (count_at framed.1) >>= λ count. parts_at count.0 framed.0 count.1)
-    (front_steps (λ i h input. placed (Frame i) (frame_at h input)) (λ i h. front_placed (Frame i) (frame_at h) (frame h)) (le64 head 24) 0 (opened head))
+    (front_steps (λ i h input. placed (Frame i) (host_frame_at h input)) (λ i h. front_placed (Frame i) (host_frame_at h) (frame h)) (le64 head 24) 0 (opened head))
     (λ h. front_then (λ i. placed Parts (count_at i)) (λ count. parts_at count.0 h count.1) (front_placed Parts count_at count)
     (λ n. front_steps (λ i h input. placed (Part i) (part_at h input)) (λ i h. front_placed (Part i) (part_at h) (a_part h)) n 0 h))
 
-whole : TakesFronts image_at
-unfolding image_at
-whole = front_then (λ i. placed Head (head_at i)) (λ head. behind_head head.0 head.1) (front_placed Head head_at (judged 32 fault_of_head)) behind
+whole : TakesFronts host_at
+unfolding host_at
+whole = front_then (λ i. placed Head (host_head_at i)) (λ head. behind_head head.0 head.1) (front_placed Head host_head_at (judged 32 fault_of_host_head)) behind
 
-taken_is_image : (input taken rest : List ℕ) (h : HostOf) → input ≡ taken ++ rest → AreBytes taken → image_at input ≡ Passes h rest → IsImage input h rest
+taken_is_image : (input taken rest : List ℕ) (h : HostOf) → input ≡ taken ++ rest → AreBytes taken → host_at input ≡ Passes h rest → IsHostImage input h rest
 taken_is_image input taken rest h gone bytes is =
     let p = whole input h rest is in
     let same : p.front ≡ taken = append_cancel_right p.front taken rest (sym p.whole ∙ gone) in
@@ -69,8 +69,8 @@ taken_is_image input taken rest h gone bytes is =
     record { valid = said.valid; spelled = p.whole ∙ ap (λ l. l ++ rest) (sym (append-nil p.front) ∙ said.spelled ∙ append-nil (image h)) }
 
 -- what was read as a host begins with its image
-pub begins_with_image : (told left : Option (List ℕ)) (h : HostOf) → Gives IsHost told left image_at (Ok h) → TakesBytes told left → BeginsWithImage told left (Ok h)
+pub begins_with_image : (told left : Option (List ℕ)) (h : HostOf) → Gives IsHost told left host_at (Ok h) → TakesBytes told left → BeginsWithImage told left (Ok h)
 begins_with_image None left h read taken = tt
 begins_with_image (Some input) left h (host, rest, is, left_is, same) taken =
     let said = taken_is_image input taken.taken rest host (subst (λ l. Consumes (Some input) l taken.taken) left_is taken.gone) taken.bytes is in
-    (rest, subst (λ (g : HostOf). IsImage input g rest) (sym same) said, left_is)
+    (rest, subst (λ (g : HostOf). IsHostImage input g rest) (sym same) said, left_is)

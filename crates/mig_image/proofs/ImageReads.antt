@@ -19,8 +19,8 @@ use Rattle.mig_headers.specs.declared.image_fault.ImagePlace.TheVariants.{Head, 
 use Rattle.mig_headers.specs.declared.kind.Kind.{Kind}
 use Rattle.mig_headers.specs.declared.kind.Kind.TheVariants.{Pv, Hvm}
 use Rattle.mig_guest.specs.Hosts.{HostOf, IsValid}
-use Rattle.mig_image.specs.Image.{head_of, frame_text, part_text, image, IsImage}
-use Rattle.mig_image.specs.ImageParts.{is_wide, name_rows, size_rows, fault_of_name, fault_of_sizes, fault_of_head, head_at, opened, frames_at, parts_at, count_at, behind_head, image_at}
+use Rattle.mig_image.specs.Image.{host_head, frame_text, part_text, image, IsHostImage}
+use Rattle.mig_image.specs.ImageParts.{is_wide, name_rows, size_rows, fault_of_name, fault_of_sizes, fault_of_host_head, host_head_at, opened, frames_at, parts_at, count_at, behind_head, host_at}
 use Rattle.mig_image.proofs.FrameChains.{frames_go, frames_chain, frames_same, frames_within, with_frames}
 use Rattle.mig_image.proofs.PartChains.{parts_go, parts_chain, parts_same, parts_few}
 use Rattle.mig_bytes.proofs.Joins.{then_passes, tried_none}
@@ -28,32 +28,32 @@ use Rattle.mig_headers.proofs.FirstFaults.{no_fault}
 
 -- ---- the head
 
-name_read : (h : HostOf) → be64 (head_of h) 0 ≡ 0x5847494D41474531
-unfolding be64 head_of
+name_read : (h : HostOf) → be64 (host_head h) 0 ≡ 0x5847494D41474531
+unfolding be64 host_head
 name_read h = refl
 
 kind_small : (kind : Kind) → kind_number kind < 2 ^ 32
 kind_small Pv = omega arith
 kind_small Hvm = omega arith
 
-kind_read : (h : HostOf) → le32 (head_of h) 8 ≡ kind_number h.kind
-unfolding le32 head_of
+kind_read : (h : HostOf) → le32 (host_head h) 8 ≡ kind_number h.kind
+unfolding le32 host_head
 kind_read h = little_number-reads_back 4 (kind_number h.kind) (little_bytes 4 0 ++ (little_bytes 8 h.width ++ little_bytes 8 (length (maps.entries h.frames)))) (kind_small h.kind)
 
-zero_read : (h : HostOf) → le32 (head_of h) 12 ≡ 0
-unfolding le32 head_of
+zero_read : (h : HostOf) → le32 (host_head h) 12 ≡ 0
+unfolding le32 host_head
 zero_read h = refl
 
-width_read : (h : HostOf) → h.width < 2 ^ 64 → le64 (head_of h) 16 ≡ h.width
-unfolding le64 head_of
+width_read : (h : HostOf) → h.width < 2 ^ 64 → le64 (host_head h) 16 ≡ h.width
+unfolding le64 host_head
 width_read h small = little_number-reads_back 8 h.width (little_bytes 8 (length (maps.entries h.frames))) small
 
-count_read : (h : HostOf) → length (maps.entries h.frames) < 2 ^ 64 → le64 (head_of h) 24 ≡ length (maps.entries h.frames)
-unfolding le64 head_of
+count_read : (h : HostOf) → length (maps.entries h.frames) < 2 ^ 64 → le64 (host_head h) 24 ≡ length (maps.entries h.frames)
+unfolding le64 host_head
 count_read h small = little_number-reads_back 8 (length (maps.entries h.frames)) [] small
 
-head_len : (h : HostOf) → length (head_of h) ≡ 32
-unfolding head_of
+head_len : (h : HostOf) → length (host_head h) ≡ 32
+unfolding host_head
 head_len h = refl
 
 kind_back : (kind : Kind) → kind_of_number (kind_number kind) ≡ kind
@@ -79,7 +79,7 @@ record Says (head : List ℕ) (h : HostOf) : Type 0 where
   width : le64 head 16 ≡ h.width
   count : le64 head 24 ≡ length (maps.entries h.frames)
 
-says : (h : HostOf) → IsValid h → Says (head_of h) h
+says : (h : HostOf) → IsValid h → Says (host_head h) h
 says h valid = record {
   name = name_read h;
   kind = kind_read h;
@@ -88,7 +88,7 @@ says h valid = record {
   count = count_read h (let small : length (maps.entries h.frames) < 2 ^ 64 = let few = valid.few in omega (arith, few) in small);
 }
 
-fine : (h : HostOf) (head : List ℕ) → IsValid h → Says head h → fault_of_head head ≡ None
+fine : (h : HostOf) (head : List ℕ) → IsValid h → Says head h → fault_of_host_head head ≡ None
 fine h head valid s =
     let n = length (maps.entries h.frames) in
     let first : fault_of_name head ≡ None = no_fault (name_rows head) (
@@ -152,11 +152,11 @@ module _ (h : HostOf) (valid : IsValid h) (rest : List ℕ) where
   abbrev framed : HostOf
   framed = with_frames (without h) h.frames
 
-  spelled : image h ++ rest ≡ head_of h ++ at_frames
+  spelled : image h ++ rest ≡ host_head h ++ at_frames
   unfolding image
   spelled =
-      append_assoc (head_of h) (frames_text ++ (little_bytes 8 count ++ parts_text)) rest
-      ∙ ap (λ l. head_of h ++ l) (append_assoc frames_text (little_bytes 8 count ++ parts_text) rest ∙ ap (λ l. frames_text ++ l) (append_assoc (little_bytes 8 count) parts_text rest))
+      append_assoc (host_head h) (frames_text ++ (little_bytes 8 count ++ parts_text)) rest
+      ∙ ap (λ l. host_head h ++ l) (append_assoc frames_text (little_bytes 8 count ++ parts_text) rest ∙ ap (λ l. frames_text ++ l) (append_assoc (little_bytes 8 count) parts_text rest))
 
   wide : h.width ≤ 2 ^ 28
   wide = valid.width
@@ -170,25 +170,25 @@ module _ (h : HostOf) (valid : IsValid h) (rest : List ℕ) where
   abbrev behind_frames : HostOf × List ℕ → Judged (ImagePlace × ImageCause) HostOf
   behind_frames f = placed Parts (count_at f.1) >>= λ count. parts_at count.0 f.0 count.1
 
-  behind : behind_head (head_of h) at_frames ≡ Passes h rest
+  behind : behind_head (host_head h) at_frames ≡ Passes h rest
   behind =
       let s = says h valid in
-      then_passes (frames_at (le64 (head_of h) 24) (opened (head_of h)) at_frames) behind_frames framed at_count _
-      (ap (λ n. frames_at n (opened (head_of h)) at_frames) s.count ∙ ap (λ o. frames_at (length (maps.entries h.frames)) o at_frames) (opened_is h (head_of h) s) ∙ frames_read)
+      then_passes (frames_at (le64 (host_head h) 24) (opened (host_head h)) at_frames) behind_frames framed at_count _
+      (ap (λ n. frames_at n (opened (host_head h)) at_frames) s.count ∙ ap (λ o. frames_at (length (maps.entries h.frames)) o at_frames) (opened_is h (host_head h) s) ∙ frames_read)
       (then_passes (placed Parts (count_at at_count)) (λ count. parts_at count.0 framed count.1) count at_parts _ (ap (placed Parts) (count_text count at_parts (parts_few h valid))) parts_read)
 
-  head_reads : head_at (head_of h ++ at_frames) ≡ Passes (head_of h) at_frames
+  head_reads : host_head_at (host_head h ++ at_frames) ≡ Passes (host_head h) at_frames
   head_reads =
-      then_passes (part Truncated 32 (head_of h ++ at_frames)) (λ head. tried (fault_of_head head.0) head.1 >>= λ _. Passes head.0 head.1) (head_of h) at_frames _ (part_whole Truncated 32 (head_of h) at_frames (head_len h))
-      (tried_none (fault_of_head (head_of h)) at_frames (Passes (head_of h) at_frames) (fine h (head_of h) valid (says h valid)))
+      then_passes (part Truncated 32 (host_head h ++ at_frames)) (λ head. tried (fault_of_host_head head.0) head.1 >>= λ _. Passes head.0 head.1) (host_head h) at_frames _ (part_whole Truncated 32 (host_head h) at_frames (head_len h))
+      (tried_none (fault_of_host_head (host_head h)) at_frames (Passes (host_head h) at_frames) (fine h (host_head h) valid (says h valid)))
 
-  reads : image_at (head_of h ++ at_frames) ≡ Passes h rest
-  unfolding image_at
-  reads = then_passes (placed Head (head_at (head_of h ++ at_frames))) (λ head. behind_head head.0 head.1) (head_of h) at_frames _ (ap (placed Head) head_reads) behind
+  reads : host_at (host_head h ++ at_frames) ≡ Passes h rest
+  unfolding host_at
+  reads = then_passes (placed Head (host_head_at (host_head h ++ at_frames))) (λ head. behind_head head.0 head.1) (host_head h) at_frames _ (ap (placed Head) head_reads) behind
 
-pub image_reads : (input : List ℕ) (h : HostOf) (rest : List ℕ) → IsImage input h rest → image_at input ≡ Passes h rest
-image_reads input h rest im = ap image_at (im.spelled ∙ spelled h im.valid rest) ∙ reads h im.valid rest
+pub image_reads : (input : List ℕ) (h : HostOf) (rest : List ℕ) → IsHostImage input h rest → host_at input ≡ Passes h rest
+image_reads input h rest im = ap host_at (im.spelled ∙ spelled h im.valid rest) ∙ reads h im.valid rest
 
 -- an input begins with the image of at most one host
-pub one_host : (input : List ℕ) (g h : HostOf) (rest more : List ℕ) → IsImage input g rest → IsImage input h more → (g ≡ h) × (rest ≡ more)
+pub one_host : (input : List ℕ) (g h : HostOf) (rest more : List ℕ) → IsHostImage input g rest → IsHostImage input h more → (g ≡ h) × (rest ≡ more)
 one_host input g h rest more a b = same_passes g h rest more (sym (image_reads input g rest a) ∙ image_reads input h more b)

@@ -11,7 +11,7 @@ use Rattle.mig_headers.specs.declared.kind.Kind.{Kind}
 use Rattle.mig_guest.specs.declared.part_key.PartKey.{PartKey}
 use Rattle.mig_guest.specs.Hosts.{HostOf, IsHostPart, IsValid}
 use Rattle.mig_guest.proofs.PartOrder.{part_total}
-use Rattle.mig_image.specs.Image.{head_of, frame_text, part_text, image}
+use Rattle.mig_image.specs.Image.{host_head, frame_text, part_text, image}
 use Rattle.mig_image.proofs.InOrder.{each_entry}
 use Rattle.mig_image.proofs.PartTexts.{len_small}
 use Rattle.mig_image.proofs.Walked.{holds_at}
@@ -21,7 +21,7 @@ pub image_is : (h : HostOf) (head : List ℕ) (kind : Kind) (width frames parts 
     → head ≡ codes "XGIMAGE1" ++ (little_bytes 4 (kind_number kind) ++ (little_bytes 4 0 ++ (little_bytes 8 width ++ little_bytes 8 frames)))
     → kind ≡ h.kind → width ≡ h.width → frames ≡ maps.len h.frames → parts ≡ length (maps.entries h.parts)
     → image h ≡ head ++ (flat_map frame_text (maps.entries h.frames) ++ (little_bytes 8 parts ++ flat_map part_text (maps.entries h.parts)))
-unfolding image head_of
+unfolding image host_head
 image_is h head kind width frames parts is k w f p = rw (is, k, w, f, maps.len-entries h.frames, p) refl
 
 -- a part of a valid host has a length of 32 bits

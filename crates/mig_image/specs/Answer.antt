@@ -6,8 +6,8 @@ use Rattle.mig_bytes.specs.declared.part.Stop.TheVariants as stops
 use Rattle.mig_headers.specs.declared.image_fault.ImageCause.{ImageCause}
 use Rattle.mig_headers.specs.declared.image_fault.ImagePlace.{ImagePlace}
 use Rattle.mig_guest.specs.Hosts.{HostOf}
-use Rattle.mig_image.specs.Image.{IsImage}
-use Rattle.mig_image.specs.ImageParts.{image_at}
+use Rattle.mig_image.specs.Image.{IsHostImage}
+use Rattle.mig_image.specs.ImageParts.{host_at}
 use Rattle.mig_image.specs.declared.read.ImageAnswer.{ImageAnswer}
 use Rattle.mig_image.specs.declared.read.ImageAnswer.TheVariants.{Refused, ReadFault, Memory}
 
@@ -26,10 +26,10 @@ IsHost read host = read ≡ host
 
 -- what a reader of image files answered, and what it left in the source, is what judging gives
 abbrev pub ReadsHost : Option (List ℕ) → Option (List ℕ) → Result HostOf ImageAnswer → Type 0
-ReadsHost old new result = Gives IsHost old new image_at (or_image_stop result)
+ReadsHost old new result = Gives IsHost old new host_at (or_image_stop result)
 
 -- where the source tells its bytes, an accepted input begins with the image of the host, a valid one, and the rest is left
 abbrev pub BeginsWithImage : Option (List ℕ) → Option (List ℕ) → Result HostOf ImageAnswer → Type 0
 BeginsWithImage None new result = ⊤
-BeginsWithImage (Some input) new (Ok host) = (rest : List ℕ) × IsImage input host rest × (new ≡ Some rest)
+BeginsWithImage (Some input) new (Ok host) = (rest : List ℕ) × IsHostImage input host rest × (new ≡ Some rest)
 BeginsWithImage (Some input) new (Err answer) = ⊤

@@ -12,8 +12,8 @@ use Rattle.mig_guest.specs.declared.part_key.PartKey.{PartKey}
 use Rattle.mig_guest.specs.Hosts.{HostOf, HostFrame, IsValid}
 
 -- a name, the kind, 0, the width and the number of frames
-unfoldable pub head_of : HostOf → List ℕ
-head_of h =
+unfoldable pub host_head : HostOf → List ℕ
+host_head h =
     codes "XGIMAGE1" ++ (little_bytes 4 (kind_number h.kind) ++ (little_bytes 4 0
     ++ (little_bytes 8 h.width ++ little_bytes 8 (length (maps.entries h.frames)))))
 
@@ -44,10 +44,10 @@ part_text e = part_head_of e.0 (length e.1) ++ (e.1 ++ replicate (padding_len (l
 -- the image of a host
 unfoldable pub image : HostOf → List ℕ
 image h =
-    head_of h ++ (flat_map frame_text (maps.entries h.frames)
+    host_head h ++ (flat_map frame_text (maps.entries h.frames)
     ++ (little_bytes 8 (length (maps.entries h.parts)) ++ flat_map part_text (maps.entries h.parts)))
 
 -- a front of the input is the image of this host, a valid one, and rest follows it
-pub record IsImage (input : List ℕ) (h : HostOf) (rest : List ℕ) : Type 0 where
+pub record IsHostImage (input : List ℕ) (h : HostOf) (rest : List ℕ) : Type 0 where
   pub valid : IsValid h
   pub spelled : input ≡ image h ++ rest

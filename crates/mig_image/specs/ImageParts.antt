@@ -58,13 +58,13 @@ fault_of_name head = first_fault (name_rows head)
 abbrev pub fault_of_sizes : Kind → ℕ → ℕ → Option ImageCause
 fault_of_sizes kind width count = first_fault (size_rows kind width count)
 
-abbrev pub fault_of_head : List ℕ → Option ImageCause
-fault_of_head head = option_or (fault_of_name head) (fault_of_sizes (kind_of_number (le32 head 8)) (le64 head 16) (le64 head 24))
+abbrev pub fault_of_host_head : List ℕ → Option ImageCause
+fault_of_host_head head = option_or (fault_of_name head) (fault_of_sizes (kind_of_number (le32 head 8)) (le64 head 16) (le64 head 24))
 
-abbrev pub head_at : List ℕ → Judged ImageCause (List ℕ)
-head_at input = do
+abbrev pub host_head_at : List ℕ → Judged ImageCause (List ℕ)
+host_head_at input = do
   head ← part Truncated 32 input
-  _ ← tried (fault_of_head head.0) head.1
+  _ ← tried (fault_of_host_head head.0) head.1
   Passes head.0 head.1
 
 -- the host that a head opens, so far without frames and parts
@@ -111,8 +111,8 @@ frame_head_at h input = do
   _ ← tried (fault_of_frame h head.0) head.1
   Passes head.0 head.1
 
-abbrev pub page_at : PageType → List ℕ → Judged ImageCause (Option (List ℕ))
-page_at type input = if type_has_data type then (do
+abbrev pub host_page_at : PageType → List ℕ → Judged ImageCause (Option (List ℕ))
+host_page_at type input = if type_has_data type then (do
   page ← part Truncated 4096 input
   Passes (Some page.0) page.1) else Passes None input
 
@@ -123,10 +123,10 @@ frame_said head page = record { type = head_type head; machine = le64 head 8; pa
 abbrev pub put_frame : HostOf → ℕ → HostFrame → HostOf
 put_frame h pfn frame = record h { frames = maps.insert h.frames pfn frame }
 
-abbrev pub frame_at : HostOf → List ℕ → Judged ImageCause HostOf
-frame_at h input = do
+abbrev pub host_frame_at : HostOf → List ℕ → Judged ImageCause HostOf
+host_frame_at h input = do
   head ← frame_head_at h input
-  page ← page_at (head_type head.0) head.1
+  page ← host_page_at (head_type head.0) head.1
   Passes (put_frame h (head_pfn head.0) (frame_said head.0 page.0)) page.1
 
 -- ---- a part behind the parts of a host: 16 bytes, so many bytes, and zeros
@@ -202,7 +202,7 @@ part_at h input = do
 
 -- so many frames, and so many parts, numbered from 0
 abbrev pub frames_at : ℕ → HostOf → List ℕ → Judged (ImagePlace × ImageCause) HostOf
-frames_at count h input = steps (λ i h. λ input. placed (Frame i) (frame_at h input)) count 0 h input
+frames_at count h input = steps (λ i h. λ input. placed (Frame i) (host_frame_at h input)) count 0 h input
 
 abbrev pub parts_at : ℕ → HostOf → List ℕ → Judged (ImagePlace × ImageCause) HostOf
 parts_at count h input = steps (λ i h. λ input. placed (Part i) (part_at h input)) count 0 h input
@@ -220,7 +220,7 @@ behind_head head input = do
   count ← placed Parts (count_at framed.1)
   parts_at count.0 framed.0 count.1
 
-unfoldable pub image_at : List ℕ → Judged (ImagePlace × ImageCause) HostOf
-image_at input = do
-  head ← placed Head (head_at input)
+unfoldable pub host_at : List ℕ → Judged (ImagePlace × ImageCause) HostOf
+host_at input = do
+  head ← placed Head (host_head_at input)
   behind_head head.0 head.1

@@ -5,7 +5,7 @@ ghost use Rattle.mig_bytes.specs.Fields.{le32};
 ghost use Rattle.mig_bytes.specs.Judged.{Gives};
 ghost use Rattle.mig_bytes.specs.declared.part.Stop.TheVariants.{Memory};
 ghost use Rattle.mig_headers.specs.Headers.{kind_of_number};
-ghost use Rattle.mig_image.specs.ImageParts.{fault_of_name, fault_of_sizes, fault_of_head, head_at};
+ghost use Rattle.mig_image.specs.ImageParts.{fault_of_name, fault_of_sizes, fault_of_host_head, host_head_at};
 
 use mig_bytes::{Source, Stop, take_part, u32_le, u64_be, u64_le};
 use mig_headers::{ImageCause, Kind};
@@ -59,8 +59,8 @@ fn size_fault(kind: Kind, width: u64, frames: u64) -> Option<ImageCause>
 
 /// Takes the head of an image.
 pub(crate) fn read_head<S: Source>(src: &mut S) -> Result<[u8; 32], Stop<ImageCause>>
-    ensures read { Gives (λ v head. head ≡ v) (S.left src.old) (S.left src.new) head_at result }
-    ensures fine { IfOk result (λ head. fault_of_head head ≡ None) }
+    ensures read { Gives (λ v head. head ≡ v) (S.left src.old) (S.left src.new) host_head_at result }
+    ensures fine { IfOk result (λ head. fault_of_host_head head ≡ None) }
     ensures taken { OnOk result (TakesBytes (S.left src.old) (S.left src.new)) }
     ensures faults { RisesOnReadFault (S.faults src.old) (S.faults src.new) result }
     ensures takes_no_memory { ¬ IsErrOf result Memory }

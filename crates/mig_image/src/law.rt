@@ -7,22 +7,22 @@ ghost use Rattle.mig_guest.specs.Hosts.{HostOf, IsValid};
 ghost use Rattle.mig_pvtables.specs.View.{hvm_view};
 ghost use Rattle.mig_pvtables.specs.Whole.{IsWhole};
 ghost use Rattle.mig_image.specs.Hosted.{hosted, IsBaseOutside};
-ghost use Rattle.mig_image.specs.Image.{IsImage};
-ghost use Rattle.mig_image.specs.ImageParts.{image_at};
+ghost use Rattle.mig_image.specs.Image.{IsHostImage};
+ghost use Rattle.mig_image.specs.ImageParts.{host_at};
 
 /// The image of a valid host is read as this host, whatever follows it.
 pub fn image_is_judged()
-    ensures { (input : List ℕ) (host : HostOf) (rest : List ℕ) → IsImage input host rest → image_at input ≡ Passes host rest }
+    ensures { (input : List ℕ) (host : HostOf) (rest : List ℕ) → IsHostImage input host rest → host_at input ≡ Passes host rest }
 {}
 
 /// Bytes that are read as a host begin with its image, and the host is valid.
 pub fn judged_is_image()
-    ensures { (input : List ℕ) (host : HostOf) (rest : List ℕ) → AreBytes input → image_at input ≡ Passes host rest → IsImage input host rest }
+    ensures { (input : List ℕ) (host : HostOf) (rest : List ℕ) → AreBytes input → host_at input ≡ Passes host rest → IsHostImage input host rest }
 {}
 
 /// An input begins with the image of at most one host.
 pub fn one_image()
-    ensures { (input : List ℕ) (g h : HostOf) (rest more : List ℕ) → IsImage input g rest → IsImage input h more → (g ≡ h) × (rest ≡ more) }
+    ensures { (input : List ℕ) (g h : HostOf) (rest more : List ℕ) → IsHostImage input g rest → IsHostImage input h more → (g ≡ h) × (rest ≡ more) }
 {}
 
 /// What a whole HVM guest becomes is a valid host, where the base isn't out of range.

@@ -7,7 +7,7 @@ ghost use Rattle.mig_bytes.specs.declared.part.Stop.TheVariants.{Memory};
 ghost use Rattle.mig_pagetypes.specs.Limits.{pfn_limit, most_frames};
 ghost use Rattle.mig_guest.specs.Frames.{is_type_of};
 ghost use Rattle.mig_image.specs.Answer.{IsHost, ReadsHost, BeginsWithImage, image_stop_of, or_image_stop};
-ghost use Rattle.mig_image.specs.ImageParts.{fault_of_head, fault_of_frame, has_frame_from, frame_head_at, frame_at, frames_at, count_at, head_type, head_pfn, behind_head, image_at};
+ghost use Rattle.mig_image.specs.ImageParts.{fault_of_host_head, fault_of_frame, has_frame_from, frame_head_at, host_frame_at, frames_at, count_at, head_type, head_pfn, behind_head, host_at};
 
 use crate::head::{kind_in, read_head};
 use crate::host::Host;
@@ -115,7 +115,7 @@ fn read_frame_head<S: Source>(src: &mut S, host: &Host) -> Result<[u8; 16], Stop
 /// Takes a frame that stands behind those of the host, and keeps it.
 fn read_frame<S: Source>(src: &mut S, host: &mut Host) -> Result<(), Stop<ImageCause>>
     requires { length (maps.entries host.old.frames) < most_frames }
-    ensures read { Gives (λ _ h. host.new ≡ h) (S.left src.old) (S.left src.new) (frame_at host.old) result }
+    ensures read { Gives (λ _ h. host.new ≡ h) (S.left src.old) (S.left src.new) (host_frame_at host.old) result }
     ensures counted { OnOk result (length (maps.entries host.new.frames) ≡ length (maps.entries host.old.frames) + 1) }
     ensures parts { OnOk result (host.new.parts ≡ host.old.parts) }
     ensures taken { OnOk result (TakesBytes (S.left src.old) (S.left src.new)) }
@@ -177,7 +177,7 @@ fn read_behind<S: Source>(
     src: &mut S,
     head: &[u8; 32],
 ) -> Result<Host, Stop<(ImagePlace, ImageCause)>>
-    requires { fault_of_head head.now ≡ None }
+    requires { fault_of_host_head head.now ≡ None }
     ensures read { Gives (λ host h. host ≡ h) (S.left src.old) (S.left src.new) (behind_head head.now) result }
     ensures taken { OnOk result (TakesBytes (S.left src.old) (S.left src.new)) }
     ensures faults { RisesOnReadFault (S.faults src.old) (S.faults src.new) result }
@@ -194,7 +194,7 @@ fn read_behind<S: Source>(
 
 /// Takes the head, and what stands behind it.
 fn read_whole<S: Source>(alloc: Global, src: &mut S) -> Result<Host, Stop<(ImagePlace, ImageCause)>>
-    ensures read { Gives IsHost (S.left src.old) (S.left src.new) image_at result }
+    ensures read { Gives IsHost (S.left src.old) (S.left src.new) host_at result }
     ensures taken { OnOk result (TakesBytes (S.left src.old) (S.left src.new)) }
     ensures faults { RisesOnReadFault (S.faults src.old) (S.faults src.new) result }
 {

@@ -51,7 +51,7 @@ fn whole(page: &[u8; 4096]) -> &[u8; 4096]
 }
 
 impl PageStore {
-    ghost use Rattle.mig_pagestore.specs.Lending.{LendsPage};
+    ghost use Rattle.mig_pagestore.specs.Lending.{LendsStoredPage};
 
     /// An empty store, which has taken no memory.
     pub fn new(alloc: Global) -> PageStore
@@ -89,7 +89,7 @@ impl PageStore {
     /// Lends the page of this PFN for writing; none where it isn't there.
     pub fn lend(&mut self, pfn: u64) -> Option<&mut [u8; 4096]>
         requires { pfn < pfn_limit }
-        ensures* writes_back { sem 𝓛 (LendsPage self.entry pfn result) }
+        ensures* writes_back { sem 𝓛 (LendsStoredPage self.entry pfn result) }
         ensures value { option_copied_mut result ≡ map.get self.old.pages pfn }
     {
         match position(&self.pfns, pfn) {

@@ -124,7 +124,8 @@ fn read_records<S: Source>(
     kind: Kind,
 ) -> Result<Reading, Stop<(Place, Cause)>>
     ensures read { Gives IsReading (S.left src.old) (S.left src.new) (records_at (opening_of version kind)) result }
-    ensures whole { IfOk result (λ reading. IsWhole reading.guest × IsPlainHvm reading.guest) }
+    ensures whole { IfOk result (λ reading. IsWhole reading.guest) }
+    ensures plain { IfOk result (λ reading. IsPlainHvm reading.guest) }
     ensures faults { RisesOnReadFault (S.faults src.old) (S.faults src.new) result }
 {
     let mut seen = Seen::new(version, kind);
@@ -211,7 +212,8 @@ fn read_opening<S: Source>(src: &mut S) -> Result<(u32, Kind), Stop<(Place, Caus
 /// Takes the headers and the records.
 fn read_parts<S: Source>(alloc: Global, src: &mut S) -> Result<Reading, Stop<(Place, Cause)>>
     ensures read { Gives IsReading (S.left src.old) (S.left src.new) image_at result }
-    ensures whole { IfOk result (λ reading. IsWhole reading.guest × IsPlainHvm reading.guest) }
+    ensures whole { IfOk result (λ reading. IsWhole reading.guest) }
+    ensures plain { IfOk result (λ reading. IsPlainHvm reading.guest) }
     ensures faults { RisesOnReadFault (S.faults src.old) (S.faults src.new) result }
 {
     let (version, kind) = read_opening(src)?;
@@ -223,7 +225,8 @@ fn read_parts<S: Source>(alloc: Global, src: &mut S) -> Result<Reading, Stop<(Pl
 /// a read failed.
 pub fn read_image<S: Source>(alloc: Global, src: &mut S) -> Result<Reading, StreamAnswer>
     ensures read { ReadsImage (S.left src.old) (S.left src.new) result }
-    ensures whole { IfOk result (λ reading. IsWhole reading.guest × IsPlainHvm reading.guest) }
+    ensures whole { IfOk result (λ reading. IsWhole reading.guest) }
+    ensures plain { IfOk result (λ reading. IsPlainHvm reading.guest) }
     ensures faults { RisesOnReadFault (S.faults src.old) (S.faults src.new) (or_stop result) }
 {
     match read_parts(alloc, src) {

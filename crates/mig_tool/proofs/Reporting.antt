@@ -31,6 +31,7 @@ use Rattle.mig_tool.specs.declared.status.Status.{Status}
 use Rattle.mig_tool.specs.declared.status.Status.TheVariants as statuses
 use Rattle.mig_image.specs.Hosted.{hosted, IsBaseOutside}
 use Rattle.mig_image.proofs.ImageReads.{image_reads}
+use Rattle.mig_image.proofs.HostViews.{hosted_seen}
 use Rattle.mig_image.proofs.RestoredHosts.{hosted_valid}
 use Rattle.mig_tool.specs.Words.{IsBase}
 use Rattle.mig_bytes.specs.Bytes.{AppendsPart}
@@ -175,6 +176,7 @@ restored (Some input) left w reading base outcome (image, rest, accepts, left_is
       whole = whole.0;
       plain = whole.1;
       valid = valid;
+      seen = hosted_seen reading.guest base whole.0 whole.1.hvm;
       kept = λ more. image_reads (restored_text base reading.guest ++ more) (hosted reading.guest base) more (record { valid = valid; spelled = refl });
     })
 restored (Some input) left w reading base outcome (image, rest, accepts, left_is, is_read) whole range done part (inr (inl is)) =

@@ -13,7 +13,8 @@ use Rattle.mig_guest.specs.Formed.{IsPlainHvm}
 use Rattle.mig_guest.specs.Hosts.{IsValid}
 use Rattle.mig_image.specs.Hosted.{hosted}
 use Rattle.mig_image.specs.Image.{image}
-use Rattle.mig_image.specs.ImageParts.{image_at}
+use Rattle.mig_image.specs.ImageParts.{host_at}
+use Rattle.mig_pvtables.specs.View.{hvm_view}
 use Rattle.mig_pvtables.specs.Whole.{IsWhole}
 use Rattle.mig_restore.specs.Spelled.{Accepted}
 use Rattle.mig_restore.specs.Stream.{IsRefused}
@@ -56,7 +57,8 @@ pub record Restored (base : ℕ) (input : List ℕ) (left old new : Option (List
   pub whole : IsWhole guest
   pub plain : IsPlainHvm guest
   pub valid : IsValid (hosted guest base)
-  pub kept : (more : List ℕ) → image_at (restored_text base guest ++ more) ≡ Passes (hosted guest base) more
+  pub seen : hvm_view (hosted guest base) ≡ guest
+  pub kept : (more : List ℕ) → host_at (restored_text base guest ++ more) ≡ Passes (hosted guest base) more
 
 -- the same, but a write failed, and of the guest's text only a part was written
 pub record PartWritten (text : GuestOf → List ℕ) (input : List ℕ) (left old new : Option (List ℕ)) : Type 0 where

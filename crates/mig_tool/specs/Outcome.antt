@@ -26,13 +26,13 @@ line_of outcomes.WriteFault = write_fault_line
 line_of outcomes.Memory = memory_line
 
 -- the exit code of the program
-abbrev pub code_of : Status → ℕ
-code_of statuses.Done = 0
-code_of statuses.Refused = 1
-code_of statuses.Usage = 2
-code_of statuses.ReadFault = 3
-code_of statuses.WriteFault = 4
-code_of statuses.Memory = 5
+abbrev pub exit_code : Status → ℕ
+exit_code statuses.Done = 0
+exit_code statuses.Refused = 1
+exit_code statuses.Usage = 2
+exit_code statuses.ReadFault = 3
+exit_code statuses.WriteFault = 4
+exit_code statuses.Memory = 5
 
 -- the outcome where no stream is read
 abbrev pub outcome_of : StreamAnswer → Outcome

@@ -18,11 +18,11 @@ pub enum Status {
 }
 
 impl Status {
-    ghost use Rattle.mig_tool.specs.Outcome.{code_of};
+    ghost use Rattle.mig_tool.specs.Outcome.{exit_code};
 
     /// The exit code of the program: 0 to 5 in the order of the variants.
     pub fn code(self) -> u8
-        ensures { result ≡ code_of self }
+        ensures { result ≡ exit_code self }
     {
         self as u8
     }

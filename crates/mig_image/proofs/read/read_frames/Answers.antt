@@ -5,7 +5,7 @@ use Rattle.mig_bytes.proofs.Steps.{begins}
 use Rattle.mig_bytes.proofs.Placed.{told, one_more, one_stops}
 use Rattle.mig_headers.specs.declared.image_fault.ImagePlace.TheVariants.{Frame}
 use Rattle.mig_guest.specs.Hosts.{HostOf}
-use Rattle.mig_image.specs.ImageParts.{frame_at, frames_at}
+use Rattle.mig_image.specs.ImageParts.{host_frame_at, frames_at}
 use Rattle.mig_image.proofs.read.read_frames.Goals as goal
 
 pub loop-i-init : goal.loop-i-init
@@ -19,11 +19,11 @@ loop-i-init g c = record {
 
 pub returns-in-Err-clause-read : goal.returns-in-Err-clause-read
 returns-in-Err-clause-read g c =
-    one_stops Frame frame_at _ _ _ _ _ c.loop-i.i c.args.count c.args.host.now c.loop-i.host c.in-Err.stop c.at.result (search rules) c.loop-i.invariant.read c.in-Err.ensures.read c.at.ensures
+    one_stops Frame host_frame_at _ _ _ _ _ c.loop-i.i c.args.count c.args.host.now c.loop-i.host c.in-Err.stop c.at.result (search rules) c.loop-i.invariant.read c.in-Err.ensures.read c.at.ensures
 
 pub loop-i-preserved : goal.loop-i-preserved
 loop-i-preserved g c = record {
-  read = one_more Frame frame_at _ _ _ c.loop-i.i c.args.host.now c.loop-i.host c.read_frame.new.host _ c.loop-i.invariant.read c.in_default.ensures.read;
+  read = one_more Frame host_frame_at _ _ _ c.loop-i.i c.args.host.now c.loop-i.host c.read_frame.new.host _ c.loop-i.invariant.read c.in_default.ensures.read;
   counted = c.in_default.ensures.counted ∙ ap (λ n. n + 1) c.loop-i.invariant.counted;
   parts = c.in_default.ensures.parts ∙ c.loop-i.invariant.parts;
   taken = takes_more _ _ _ c.loop-i.invariant.taken c.in_default.ensures.taken;

@@ -44,7 +44,10 @@ returns-then-over-clause-whole g c =
     let (fine, hvm) = c.in-Ok.ensures.whole c.if-over.true in
     let grown = c.in-Ok.ensures.grown in
     let before = sym grown.kind ∙ hvm in
-    (record { formed = grown.kept before (c.records.invariant.formed before); faultless = fine }, record { hvm = hvm; plain = grown.plain c.records.invariant.plain })
+    record { formed = grown.kept before (c.records.invariant.formed before); faultless = fine }
+
+pub returns-then-over-clause-plain : goal.returns-then-over-clause-plain
+returns-then-over-clause-plain g c = record { hvm = (c.in-Ok.ensures.whole c.if-over.true).1; plain = c.in-Ok.ensures.grown.plain c.records.invariant.plain }
 
 pub returns-in-Err-clause-read : goal.returns-in-Err-clause-read
 returns-in-Err-clause-read g c =

@@ -1,7 +1,7 @@
 use Rattle.std.proofs.Common.{sym, ap, ◌∙◌, length, inl, inr}
 use Rattle.std.specs.FinMap as maps
 use Rattle.mig_pagestore.specs.Pages.{Store}
-use Rattle.mig_pagestore.specs.Lending.{with_page}
+use Rattle.mig_pagestore.specs.Lending.{with_stored_page}
 use Rattle.mig_pagestore.proofs.Boxes.{box_at, box_gap, box_set}
 use Rattle.std.specs.Box.{with_value}
 use Rattle.mig_pagestore.proofs.page_store.PageStore.lend.Goals as goal
@@ -14,7 +14,7 @@ returns-in-Ok c =
         c.as_mut.result.ghost_name,
         λ w.
             ((λ j. record { pages = box_set (λ b. b.value) _ _ is.rising is.as_many pfn _ (with_value c.index_mut.result.now w) at j; spare = length c.self.inside.pool.items })
-            ∙ ap (λ (s : Store). with_page s pfn w) c.self.view_is) i,
+            ∙ ap (λ (s : Store). with_stored_page s pfn w) c.self.view_is) i,
       )),
       record {
         writes_back = tt;
