@@ -16,7 +16,6 @@ use Rattle.mig_headers.specs.Contexts.{scan}
 use Rattle.mig_headers.specs.RecordTypes.{is_optional, type_of_number}
 use Rattle.mig_headers.specs.declared.fault.Cause.{Cause}
 use Rattle.mig_headers.specs.declared.fault.Cause.TheVariants.{Truncated}
-use Rattle.mig_headers.specs.declared.fault.Place.{Place}
 use Rattle.mig_headers.specs.declared.fault.Place.TheVariants.{Record}
 use Rattle.mig_headers.specs.declared.kind.Kind.{Kind}
 use Rattle.mig_headers.specs.declared.kind.Kind.TheVariants.{Hvm}
@@ -168,7 +167,7 @@ module _ (o : Opening) where
   unfolding one_more
   stops_ended f over1 = rw over1 refl
 
-  stops_refused : (f : Front) (c : Cause) (rest : List ℕ) → is_ended f.records ≡ false → next_at o f.records f.rest ≡ Faulty c rest → one_more o f ≡ None
+  pub stops_refused : (f : Front) (c : Cause) (rest : List ℕ) → is_ended f.records ≡ false → next_at o f.records f.rest ≡ Faulty c rest → one_more o f ≡ None
   unfolding one_more
   stops_refused f c rest going is = rw (going, is) refl
 
@@ -176,7 +175,7 @@ module _ (o : Opening) where
   unfolding ended_at
   accepted f over1 = rw over1 refl
 
-  rejected : (f : Front) (c : Cause) (rest : List ℕ) → is_ended f.records ≡ false → next_at o f.records f.rest ≡ Faulty c rest → ended_at o f ≡ Faulty (Record (length f.records), c) rest
+  pub rejected : (f : Front) (c : Cause) (rest : List ℕ) → is_ended f.records ≡ false → next_at o f.records f.rest ≡ Faulty c rest → ended_at o f ≡ Faulty (Record (length f.records), c) rest
   unfolding ended_at
   rejected f c rest going is = rw (going, is) refl
 

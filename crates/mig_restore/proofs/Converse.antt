@@ -1,9 +1,8 @@
 -- What is spelled as the format says is accepted.
-use Rattle.std.proofs.Common.{◌≡◌, ℕ, ◌≤◌, ◌<◌, ◌^◌, List, [], ◌∷◌, ◌++◌, length, Bool, true, false, nat_eq, nat_le, not, is_none, IsSome, Option, Some, None, refl, sym, ap, subst, ◌∙◌, arith, append_assoc, take, drop, take-append-drop, length-take-le, length-drop, ◌⊎◌, inl, inr}
+use Rattle.std.proofs.Common.{◌≡◌, ℕ, ◌≤◌, ◌<◌, ◌^◌, List, [], ◌∷◌, ◌++◌, length, Bool, true, false, nat_eq, nat_le, not, Option, None, refl, sym, ap, subst, ◌∙◌, arith, append_assoc, take, drop, take-append-drop, length-take-le, length-drop, ◌⊎◌, inl, inr}
 use Rattle.std.proofs.lemmas.Bool.{eqb-true}
 use Rattle.std.proofs.lemmas.Grind.{common_steps}
 use Rattle.std.proofs.lemmas.List.{length-map}
-use Rattle.std.specs.FinMap as maps
 use Rattle.mig_bytes.specs.Bytes.{padding_len}
 use Rattle.mig_bytes.specs.Fields.{le32, be32}
 use Rattle.mig_bytes.specs.Walk.{Reaches}
@@ -22,7 +21,6 @@ use Rattle.mig_headers.specs.declared.header.ImageHeader.{ImageHeader}
 use Rattle.mig_headers.specs.declared.header.DomainHeader.{DomainHeader}
 use Rattle.mig_headers.specs.declared.kind.Kind.{Kind}
 use Rattle.mig_guest.specs.Guests.{GuestOf}
-use Rattle.mig_guest.specs.PartKeys.{context_key}
 use Rattle.mig_records.specs.Faults.{long_rows, length_rows, type_allows, fault_of_long, fault_of_length}
 use Rattle.mig_order.specs.Order.{IsInOrder, fault_of_type}
 use Rattle.mig_order.proofs.OrderLaw.{faultless_is_in_order}
@@ -44,7 +42,7 @@ use Rattle.mig_bytes.proofs.Joins.{then_passes, tried_none}
 use Rattle.mig_headers.proofs.FirstFaults.{no_fault, neither_some}
 use Rattle.mig_restore.proofs.Passing.{ge_ltb, ends_hvm}
 use Rattle.mig_restore.proofs.BodiesPass.{body_goes, length_fits}
-use Rattle.mig_restore.proofs.Laws.{accepted_is_image}
+use Rattle.mig_restore.proofs.Laws.{accepted_is_image, behind_marker, behind_version, behind_kind}
 
 -- ---- a record
 
@@ -98,7 +96,7 @@ next_goes o records r text rest f =
 
 -- ---- a front, and the whole image
 
-spelled_reached : (o : Opening) (bytes : List ℕ) (records : List StreamRecord) (rest : List ℕ) → Spells o bytes records → Reaches (stream.one_more o) (at_start (bytes ++ rest)) (record { records = records; rest = rest })
+pub spelled_reached : (o : Opening) (bytes : List ℕ) (records : List StreamRecord) (rest : List ℕ) → Spells o bytes records → Reaches (stream.one_more o) (at_start (bytes ++ rest)) (record { records = records; rest = rest })
 spelled_reached o _ _ rest none = here
 spelled_reached o _ _ rest (one_more bytes records r text before f) =
     next (record { records = records; rest = text ++ rest }) _
@@ -144,31 +142,35 @@ domain_fine header kind major minor is =
     let o = unless_ok (fault_of_domain header) (record { kind = kind_of_number (le32 header 0); major = le32 header 8; minor = le32 header 12 }) (record { kind = kind; major = major; minor = minor }) read in
     (o.0, ap (λ (h : DomainHeader). h.kind) o.1)
 
-opening_is : (o : Opening) (first more header rest : List ℕ) → length first ≡ 8 → length more ≡ 16 → length header ≡ 16 → fault_of_marker first ≡ None → fault_of_image more ≡ None → fault_of_domain header ≡ None
-    → be32 more 4 ≡ o.version → kind_of_number (le32 header 0) ≡ o.kind → opening_at (first ++ (more ++ (header ++ rest))) ≡ Passes o rest
+-- the headers, one after another
+pub marker_goes : (first rest : List ℕ) → length first ≡ 8 → fault_of_marker first ≡ None → opening_at (first ++ rest) ≡ behind_marker (first, rest)
 unfolding opening_at
-opening_is o first more header rest size1 size2 size3 marker image domain version kind =
-    part_is places.ImageHeader 8 fault_of_marker (λ l. l) first _ _ size1 marker
-    ∙ part_is places.ImageHeader 16 fault_of_image (λ l. be32 l 4) more _ _ size2 image
-    ∙ part_is places.DomainHeader 16 fault_of_domain (λ l. kind_of_number (le32 l 0)) header _ _ size3 domain
-    ∙ ap (λ v. Passes (opening_of v (kind_of_number (le32 header 0))) rest) version ∙ ap (λ k. Passes (opening_of o.version k) rest) kind
+marker_goes first rest size fine = part_is places.ImageHeader 8 fault_of_marker (λ l. l) first rest behind_marker size fine
+
+pub image_header_goes : (header rest : List ℕ) (version : ℕ) → IsImageHeader header version → opening_at (header ++ rest) ≡ behind_version (version, rest)
+image_header_goes header rest version is =
+    let p = image_parts header version is in
+    ap opening_at (ap (λ l. l ++ rest) p.whole ∙ append_assoc p.first p.more rest) ∙ marker_goes p.first (p.more ++ rest) p.first_len p.marker
+    ∙ part_is places.ImageHeader 16 fault_of_image (λ l. be32 l 4) p.more rest behind_version p.more_len p.fine ∙ ap (λ v. behind_version (v, rest)) p.version_is
+
+pub headers_go : (o : Opening) (first second rest : List ℕ) (major minor : ℕ) → IsImageHeader first o.version → IsDomainHeader second o.kind major minor → opening_at (first ++ (second ++ rest)) ≡ Passes o rest
+headers_go o first second rest major minor is_first is_second =
+    let d = domain_fine second o.kind major minor is_second in
+    image_header_goes first (second ++ rest) o.version is_first
+    ∙ part_is places.DomainHeader 16 fault_of_domain (λ l. kind_of_number (le32 l 0)) second rest (behind_kind o.version) is_second.size d.0 ∙ ap (λ k. Passes (opening_of o.version k) rest) d.1
 
 pub image_is_accepted : (input : List ℕ) (o : Opening) (records : List StreamRecord) (rest : List ℕ) → IsImage input o records rest → image_at input ≡ Passes (image_of o records) rest
 unfolding image_at
 image_is_accepted input o records rest im =
-    let p = image_parts im.image_header o.version im.is_image_header in
-    let d = domain_fine im.domain_header o.kind im.major im.minor im.is_domain_header in
-    let input_is : input ≡ p.first ++ (p.more ++ (im.domain_header ++ (im.bytes ++ rest))) = im.whole ∙ ap (λ l. l ++ (im.domain_header ++ (im.bytes ++ rest))) p.whole ∙ append_assoc p.first p.more _ in
-    ap image_at input_is
-    ∙ then_passes (opening_at (p.first ++ (p.more ++ (im.domain_header ++ (im.bytes ++ rest))))) (λ opening. records_at opening.0 opening.1) o (im.bytes ++ rest) _
-    (opening_is o p.first p.more im.domain_header (im.bytes ++ rest) p.first_len p.more_len im.is_domain_header.size p.marker p.fine d.0 p.version_is d.1)
-    (spelled_accepted o im.bytes records rest im.spelled im.ended)
+    ap image_at im.whole
+    ∙ then_passes (opening_at (im.image_header ++ (im.domain_header ++ (im.bytes ++ rest)))) (λ opening. records_at opening.0 opening.1) o (im.bytes ++ rest) _
+    (headers_go o im.image_header im.domain_header (im.bytes ++ rest) im.major im.minor im.is_image_header im.is_domain_header) (spelled_accepted o im.bytes records rest im.spelled im.ended)
 
+-- an input has one front that is an image
 same_images : (o p : Opening) (rs ss : List StreamRecord) (i j : List ℕ) → ◌≡◌ {A = Judged (Place × Cause) ImageOf} (Passes (image_of o rs) i) (Passes (image_of p ss) j) → (o ≡ p) × (rs ≡ ss) × (i ≡ j)
 same_images o p rs ss i j e =
     let same = same_passes (image_of o rs) (image_of p ss) i j e in (ap (λ (im : ImageOf). im.opening) same.0, ap (λ (im : ImageOf). im.records) same.0, same.1)
 
--- an input has one front that is an image
 pub one_image : (input : List ℕ) (o p : Opening) (rs ss : List StreamRecord) (rest more : List ℕ) → IsImage input o rs rest → IsImage input p ss more → (o ≡ p) × (rs ≡ ss) × (rest ≡ more)
 one_image input o p rs ss rest more a b = same_images o p rs ss rest more (sym (image_is_accepted input o rs rest a) ∙ image_is_accepted input p ss more b)
 

@@ -1,7 +1,6 @@
 -- What judging accepts is spelled as the format says.
-use Rattle.std.proofs.Common.{◌≡◌, ℕ, ◌≤◌, ◌<◌, ◌^◌, List, [], ◌∷◌, ◌++◌, length, Bool, true, false, cond, nat_le, not, Option, Some, None, is_none, IsSome, refl, sym, ap, subst, ◌∙◌, append_assoc, ltb-false, leb-false, Ok}
+use Rattle.std.proofs.Common.{◌≡◌, ℕ, ◌≤◌, ◌<◌, ◌^◌, List, [], ◌∷◌, ◌++◌, length, Bool, true, false, cond, nat_le, not, Option, Some, None, refl, sym, ap, subst, ◌∙◌, append_assoc, ltb-false, leb-false, Ok}
 use Rattle.std.proofs.lemmas.List.{length-map}
-use Rattle.std.specs.FinMap as maps
 use Rattle.mig_bytes.specs.Bytes.{padding_len}
 use Rattle.mig_bytes.specs.Fields.{le32, be32}
 use Rattle.mig_bytes.specs.Walk.{Reaches}
@@ -9,7 +8,7 @@ use Rattle.mig_bytes.specs.Walk.Reaches.{here, next}
 use Rattle.mig_bytes.specs.Judged.{Judged, ◌>>=◌, part, tried, placed}
 use Rattle.mig_bytes.specs.Judged.Judged.{Passes, Faulty}
 use Rattle.mig_bytes.proofs.Walks.{walk_end_reached}
-use Rattle.mig_bytes.proofs.Joins.{both_pass, part_passes, tried_passes, same_passes}
+use Rattle.mig_bytes.proofs.Joins.{both_pass, part_passes, tried_passes, same_passes, placed_passes}
 use Rattle.mig_headers.specs.Headers.{fault_of_marker, fault_of_image, fault_of_domain, kind_of_number, unless_faulty, IsImageHeader, IsDomainHeader}
 use Rattle.mig_headers.proofs.HeaderLaws.{image_is_spelled, domain_is_spelled}
 use Rattle.mig_headers.specs.RecordTypes.{type_of_number}
@@ -18,14 +17,12 @@ use Rattle.mig_headers.specs.declared.fault.Cause.TheVariants.{NotBuilt, TooMany
 use Rattle.mig_headers.specs.declared.fault.Place.{Place}
 use Rattle.mig_headers.specs.declared.fault.Place.TheVariants.{Record, ImageHeader, DomainHeader}
 use Rattle.mig_headers.specs.declared.kind.Kind.{Kind}
-use Rattle.mig_guest.specs.Guests.{GuestOf}
-use Rattle.mig_guest.specs.PartKeys.{context_key}
 use Rattle.mig_records.specs.Faults.{long_rows, length_rows, type_allows, fault_of_long, fault_of_length}
 use Rattle.mig_order.specs.Order.{IsInOrder, fault_of_type}
 use Rattle.mig_order.proofs.OrderLaw.{faultless_is_in_order}
 use Rattle.mig_pvtables.specs.Faults.{fault_of_guest}
 use Rattle.mig_pvtables.proofs.HvmGuests.{hvm_complete}
-use Rattle.mig_restore.specs.Record.{StreamRecord, types_of, is_ended}
+use Rattle.mig_restore.specs.Record.{StreamRecord, is_ended}
 use Rattle.mig_restore.specs.Judging.{Opening, Before, opening_of, before, is_built, fault_of_built, fault_of_number, fault_of_fields, fault_of_head, head_at, fault_at_end, body_at, record_at, next_at}
 use Rattle.mig_restore.specs.Mean.{sent}
 use Rattle.mig_restore.specs.Spelled.{IsComplete, Follows, Spells, IsImage}
@@ -41,14 +38,14 @@ use Rattle.mig_restore.proofs.Bodies.{body_says}
 -- ---- a head
 
 -- what fields without fault say
-record FineFields (b : Before) (type len : ℕ) : Type 0 where
-  built : is_built b.opening.kind type ≡ true
-  small : len ≤ 2 ^ 27
-  ordered : IsInOrder b.opening.version b.opening.kind b.types type
-  allowed : type_allows (type_of_number type) len ≡ true
-  few : length b.types < 2 ^ 28
+pub record FineFields (b : Before) (type len : ℕ) : Type 0 where
+  pub built : is_built b.opening.kind type ≡ true
+  pub small : len ≤ 2 ^ 27
+  pub ordered : IsInOrder b.opening.version b.opening.kind b.types type
+  pub allowed : type_allows (type_of_number type) len ≡ true
+  pub few : length b.types < 2 ^ 28
 
-fields_fine : (b : Before) (type len : ℕ) → fault_of_fields b type len ≡ None → FineFields b type len
+pub fields_fine : (b : Before) (type len : ℕ) → fault_of_fields b type len ≡ None → FineFields b type len
 unfolding fault_of_fields
 fields_fine b type len fine =
     let o = b.opening in
@@ -150,10 +147,10 @@ module _ (o : Opening) where
   unfolding one_more
   step_of f t h = step_at f t (is_ended f.records) (next_at o f.records f.rest) refl refl h
 
-  record Split (rest : List ℕ) (f : Front) : Type 0 where
-    bytes : List ℕ
-    whole : rest ≡ bytes ++ f.rest
-    spelled : Spells o bytes f.records
+  pub record Split (rest : List ℕ) (f : Front) : Type 0 where
+    pub bytes : List ℕ
+    pub whole : rest ≡ bytes ++ f.rest
+    pub spelled : Spells o bytes f.records
 
   split_more : (rest : List ℕ) (u t : Front) → Split rest u → Step u t → Split rest t
   split_more rest u t s step =
@@ -164,7 +161,7 @@ module _ (o : Opening) where
         spelled = spells.one_more s.bytes u.records step.r g.text s.spelled g.follows;
       } in subst (Split rest) (sym step.is) more
 
-  front_spelled : (rest : List ℕ) (f : Front) → Reaches (one_more o) (at_start rest) f → Split rest f
+  pub front_spelled : (rest : List ℕ) (f : Front) → Reaches (one_more o) (at_start rest) f → Split rest f
   front_spelled rest _ here = record { bytes = []; whole = refl; spelled = spells.none }
   front_spelled rest _ (next u t reached goes) = split_more rest u t (front_spelled rest u reached) (step_of u t goes)
 
@@ -186,14 +183,14 @@ module _ (o : Opening) where
 
 -- ---- the headers
 
-record HeaderPart {Y : Type 0} (n : ℕ) (f : List ℕ → Option Cause) (y : List ℕ → Y) (i : List ℕ) (x : Y) (rest : List ℕ) : Type 0 where
-  bytes : List ℕ
-  whole : i ≡ bytes ++ rest
-  size : length bytes ≡ n
-  fine : f bytes ≡ None
-  value : y bytes ≡ x
+pub record HeaderPart {Y : Type 0} (n : ℕ) (f : List ℕ → Option Cause) (y : List ℕ → Y) (i : List ℕ) (x : Y) (rest : List ℕ) : Type 0 where
+  pub bytes : List ℕ
+  pub whole : i ≡ bytes ++ rest
+  pub size : length bytes ≡ n
+  pub fine : f bytes ≡ None
+  pub value : y bytes ≡ x
 
-header_passes : {Y : Type 0} (n : ℕ) (f : List ℕ → Option Cause) (y : List ℕ → Y) (i : List ℕ) (x : Y) (rest : List ℕ) → (part Truncated n i >>= λ p. tried (f p.0) p.1 >>= λ _. Passes (y p.0) p.1) ≡ Passes x rest → HeaderPart n f y i x rest
+pub header_passes : {Y : Type 0} (n : ℕ) (f : List ℕ → Option Cause) (y : List ℕ → Y) (i : List ℕ) (x : Y) (rest : List ℕ) → (part Truncated n i >>= λ p. tried (f p.0) p.1 >>= λ _. Passes (y p.0) p.1) ≡ Passes x rest → HeaderPart n f y i x rest
 header_passes n f y i x rest h =
     let b = both_pass (part Truncated n i) (λ p. tried (f p.0) p.1 >>= λ _. Passes (y p.0) p.1) x rest h in
     let p = part_passes Truncated n i b.x b.mid b.first in
@@ -201,60 +198,74 @@ header_passes n f y i x rest h =
     let e = same_passes _ _ _ _ t.second in
     record { bytes = b.x; whole = p.0 ∙ ap (λ l. b.x ++ l) e.1; size = p.1; fine = (tried_passes (f b.x) b.mid t.mid t.x t.first).0; value = e.0 }
 
--- a placed judgement passes where it passes
-placed_passes : {X : Type 0} (place : Place) (j : Judged Cause X) (x : X) (rest : List ℕ) → placed place j ≡ Passes x rest → j ≡ Passes x rest
-placed_passes place (Passes y mid) x rest h = let e = same_passes _ _ _ _ h in rw (e.0, e.1) refl
-placed_passes {X} place (Faulty c mid) x rest h = let no : ◌≡◌ {A = Judged (Place × Cause) X} (Faulty (place, c) mid) (Passes x rest) = h in absurd (wrong no)
-  where
-    wrong : ◌≡◌ {A = Judged (Place × Cause) X} (Faulty (place, c) mid) (Passes x rest) → ⊥
-    wrong q = cc
-
 reads_as : {H : Type 0} (f : Option Cause) (h x : H) → f ≡ None → h ≡ x → unless_faulty f h ≡ Ok x
 reads_as f h x fine is = rw (fine, is) refl
 
-image_header : (first rest : List ℕ) (version : ℕ) → length first ≡ 8 → length rest ≡ 16 → fault_of_marker first ≡ None → fault_of_image rest ≡ None → be32 rest 4 ≡ version → IsImageHeader (first ++ rest) version
+pub image_header : (first rest : List ℕ) (version : ℕ) → length first ≡ 8 → length rest ≡ 16 → fault_of_marker first ≡ None → fault_of_image rest ≡ None → be32 rest 4 ≡ version → IsImageHeader (first ++ rest) version
 image_header first rest version size more marker fine is =
     (image_is_spelled first rest version size more).0 (marker, reads_as (fault_of_image rest) (record { version = be32 rest 4 }) (record { version = version }) fine (ap (λ v. record { version = v }) is))
 
-domain_header : (bytes : List ℕ) (kind : Kind) → length bytes ≡ 16 → fault_of_domain bytes ≡ None → kind_of_number (le32 bytes 0) ≡ kind → IsDomainHeader bytes kind (le32 bytes 8) (le32 bytes 12)
+pub domain_header : (bytes : List ℕ) (kind : Kind) → length bytes ≡ 16 → fault_of_domain bytes ≡ None → kind_of_number (le32 bytes 0) ≡ kind → IsDomainHeader bytes kind (le32 bytes 8) (le32 bytes 12)
 domain_header bytes kind size fine is =
     (domain_is_spelled bytes kind (le32 bytes 8) (le32 bytes 12) size).0
     (reads_as (fault_of_domain bytes) (record { kind = kind_of_number (le32 bytes 0); major = le32 bytes 8; minor = le32 bytes 12 }) (record { kind = kind; major = le32 bytes 8; minor = le32 bytes 12 }) fine
     (ap (λ k. record { kind = k; major = le32 bytes 8; minor = le32 bytes 12 }) is))
 
-regroup_headers : (input m i g j d k bytes rest : List ℕ) → input ≡ m ++ i → i ≡ g ++ j → j ≡ d ++ k → k ≡ bytes ++ rest → input ≡ (m ++ g) ++ (d ++ (bytes ++ rest))
-regroup_headers input m i g j d k bytes rest e1 e2 e3 e4 =
-    e1 ∙ ap (λ l. m ++ l) (e2 ∙ ap (λ l. g ++ l) (e3 ∙ ap (λ l. d ++ l) e4)) ∙ sym (append_assoc m g (d ++ (bytes ++ rest)))
-
-abbrev behind_kind : ℕ → Kind × List ℕ → Judged (Place × Cause) Opening
+abbrev pub behind_kind : ℕ → Kind × List ℕ → Judged (Place × Cause) Opening
 behind_kind version kind = Passes (opening_of version kind.0) kind.1
 
-abbrev behind_version : ℕ × List ℕ → Judged (Place × Cause) Opening
+abbrev pub behind_version : ℕ × List ℕ → Judged (Place × Cause) Opening
 behind_version version = placed DomainHeader (kind_at version.1) >>= behind_kind version.0
 
-pub accepted_is_image : (input : List ℕ) (o : Opening) (records : List StreamRecord) (rest : List ℕ) → image_at input ≡ Passes (image_of o records) rest → IsImage input o records rest
-unfolding image_at opening_at
-accepted_is_image input o records rest h =
-    let n = both_pass (opening_at input) (λ opening. records_at opening.0 opening.1) (image_of o records) rest h in
-    let a = both_pass (placed ImageHeader (marker_at input)) (λ marker. placed ImageHeader (version_at marker.1) >>= behind_version) n.x n.mid n.first in
-    let b = both_pass (placed ImageHeader (version_at a.mid)) behind_version n.x n.mid a.second in
-    let c = both_pass (placed DomainHeader (kind_at b.mid)) (behind_kind b.x) n.x n.mid b.second in
+abbrev pub behind_marker : List ℕ × List ℕ → Judged (Place × Cause) Opening
+behind_marker marker = placed ImageHeader (version_at marker.1) >>= behind_version
+
+-- the headers of an input, and what follows them
+pub record Opened (input : List ℕ) (o : Opening) (rest : List ℕ) : Type 0 where
+  pub image_header : List ℕ
+  pub domain_header : List ℕ
+  pub major : ℕ
+  pub minor : ℕ
+  pub whole : input ≡ image_header ++ (domain_header ++ rest)
+  pub is_image_header : IsImageHeader image_header o.version
+  pub is_domain_header : IsDomainHeader domain_header o.kind major minor
+
+pub opened : (input : List ℕ) (o : Opening) (rest : List ℕ) → opening_at input ≡ Passes o rest → Opened input o rest
+unfolding opening_at
+opened input o rest h =
+    let a = both_pass (placed ImageHeader (marker_at input)) behind_marker o rest h in
+    let b = both_pass (placed ImageHeader (version_at a.mid)) behind_version o rest a.second in
+    let c = both_pass (placed DomainHeader (kind_at b.mid)) (behind_kind b.x) o rest b.second in
     let e = same_passes _ _ _ _ c.second in
     let m = header_passes 8 fault_of_marker (λ l. l) input a.x a.mid (placed_passes ImageHeader (marker_at input) a.x a.mid a.first) in
     let g = header_passes 16 fault_of_image (λ l. be32 l 4) a.mid b.x b.mid (placed_passes ImageHeader (version_at a.mid) b.x b.mid b.first) in
     let d = header_passes 16 fault_of_domain (λ l. kind_of_number (le32 l 0)) b.mid c.x c.mid (placed_passes DomainHeader (kind_at b.mid) c.x c.mid c.first) in
-    let opened = opening_of b.x c.x in
-    let judged : records_at opened c.mid ≡ Passes (image_of o records) rest = ap (λ (p : Opening). records_at p c.mid) e.0 ∙ ap (records_at n.x) e.1 ∙ n.second in
-    let (same, bytes, whole, spelled, ended) = accepted_spelled opened c.mid o records rest judged in
-    let image : IsImage input opened records rest = record {
+    let found : Opened input (opening_of b.x c.x) rest = record {
       image_header = m.bytes ++ g.bytes;
       domain_header = d.bytes;
       major = le32 d.bytes 8;
       minor = le32 d.bytes 12;
-      bytes = bytes;
-      whole = regroup_headers input m.bytes a.mid g.bytes b.mid d.bytes c.mid bytes rest m.whole g.whole d.whole whole;
+      whole = m.whole ∙ ap (λ l. m.bytes ++ l) (g.whole ∙ ap (λ l. g.bytes ++ l) (d.whole ∙ ap (λ l. d.bytes ++ l) e.1)) ∙ sym (append_assoc m.bytes g.bytes (d.bytes ++ rest));
       is_image_header = image_header m.bytes g.bytes b.x m.size g.size m.fine g.fine g.value;
       is_domain_header = domain_header d.bytes c.x d.size d.fine d.value;
+    } in
+    subst (λ (p : Opening). Opened input p rest) e.0 found
+
+pub accepted_is_image : (input : List ℕ) (o : Opening) (records : List StreamRecord) (rest : List ℕ) → image_at input ≡ Passes (image_of o records) rest → IsImage input o records rest
+unfolding image_at
+accepted_is_image input o records rest h =
+    let n = both_pass (opening_at input) (λ opening. records_at opening.0 opening.1) (image_of o records) rest h in
+    let w = opened input n.x n.mid n.first in
+    let (same, bytes, whole, spelled, ended) = accepted_spelled n.x n.mid o records rest n.second in
+    let image : IsImage input n.x records rest = record {
+      image_header = w.image_header;
+      domain_header = w.domain_header;
+      major = w.major;
+      minor = w.minor;
+      bytes = bytes;
+      whole = w.whole ∙ ap (λ l. w.image_header ++ (w.domain_header ++ l)) whole;
+      is_image_header = w.is_image_header;
+      is_domain_header = w.is_domain_header;
       spelled = spelled;
       ended = ended;
     } in
