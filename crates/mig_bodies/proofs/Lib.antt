@@ -4,3 +4,4 @@ pub mod Reading
 pub mod Rows
 pub mod Kept
 pub mod Small
+pub mod Canonical

@@ -183,3 +183,9 @@ module _ (code : PartCode) (l : Layout) (widths : AreWidths l) (body : List ℕ)
         neither_some _ _ (length_passes _ _ (size ∙ ap (λ n. front_width l + entry_width l * n) (sym count))) keys,
         ap (λ n. entry_parts code l n (drop (front_width l) body)) count ∙ ap (entry_parts code l (length ps)) rest ∙ read.same,
       )
+
+  -- the length of a table
+  pub table_len : (ps : List Part) → IsTable code l body ps → length body ≡ front_width l + entry_width l * length ps
+  table_len ps h =
+      let back = table_back ps h in
+      table_whole code l body back.0 ∙ ap (λ n. front_width l + entry_width l * n) (sym (entries_len code l (entry_count l body) (drop (front_width l) body)) ∙ ap length back.1)

@@ -1,6 +1,6 @@
 -- The body of each record that sets parts of one code: its shape, a row for each code, and what a body of each shape says
 -- (libxc migration stream, "Records").
-use Rattle.std.specs.Prelude.{◌≡◌, ◌≤◌, ℕ, ◌+◌, ◌^◌, ◌&&◌, Bool, true, false, List, [], ◌∷◌, ◌++◌, length, take, drop, replicate, map, Option, Some, None, Result, Ok, Err, ◌==◌, not, nat_lt, if◌then◌else◌, ◌↔◌}
+use Rattle.std.specs.Prelude.{◌≡◌, ◌≤◌, ℕ, ◌+◌, ◌^◌, ◌&&◌, Bool, true, false, List, [], ◌∷◌, ◌++◌, length, take, drop, replicate, map, Option, Some, None, Result, Ok, Err, ◌==◌, not, nat_lt, if◌then◌else◌, ◌↔◌, ⊤}
 use Rattle.std.specs.List.{AllByRecursion}
 use Rattle.std.specs.Option.{option_or}
 use Rattle.std.specs.FinMap as maps
@@ -16,7 +16,7 @@ use Rattle.mig_headers.specs.declared.record_type.RecordType.{RecordType}
 use Rattle.mig_guest.specs.declared.part_code.PartCode.{PartCode}
 use Rattle.mig_guest.specs.declared.part_code.PartCode.TheVariants.{P2mFrames, VcpuBasic, VcpuExtended, VcpuXsave, SharedInfo, Tsc, HvmContext, HvmParam, VcpuMsrs, CpuidLeaf, Msr, EmulatorPairs, EmulatorContext}
 use Rattle.mig_guest.specs.declared.part_key.PartKey.{PartKey}
-use Rattle.mig_guest.specs.Parts.{PartMap, put_parts, replace_code}
+use Rattle.mig_guest.specs.Parts.{PartMap, put_parts, replace_code, parts_of}
 use Rattle.mig_guest.specs.PartCodes.{row_of, code_number}
 use Rattle.mig_guest.specs.Guests.{GuestOf}
 use Rattle.mig_guest.specs.Formed.{IsFormed, AreParts, gdt_ents, is_policy, width_of}
@@ -129,6 +129,17 @@ bodies_by_shape shape ps = map (part_body shape) ps
 abbrev pub canonical_bodies : PartCode → List Part → List (List ℕ)
 canonical_bodies code ps = bodies_by_shape (shape_of code) ps
 
+-- what these bodies say: a table all parts, any other one each
+abbrev pub contents_by_shape : Shape → List Part → List (List Part)
+contents_by_shape (Table l) [] = []
+contents_by_shape (Table l) (p ∷ ps) = (p ∷ ps) ∷ []
+contents_by_shape Other ps = []
+contents_by_shape shape ps = map (λ p. p ∷ []) ps
+
+-- the parts of this code that a guest has
+abbrev pub parts_at : PartCode → GuestOf → List Part
+parts_at code g = parts_of (code_number code) (maps.entries g.parts)
+
 -- ---- the judging
 
 abbrev pub fault_of_scan : Result ℕ ContextFault → Option Cause
@@ -186,6 +197,19 @@ is_chain _ = false
 abbrev pub HasBodyLength : PartCode → ℕ → Type 0
 HasBodyLength code len = (type : RecordType) → type_of_number (code_number code) ≡ Some type → (record_row_of type).allows len ≡ true
 
+-- a body that says these parts, of a length that a record of its type has
+pub record IsRecordBody (code : PartCode) (body : List ℕ) (ps : List Part) : Type 0 where
+  pub says : IsBody code body ps
+  pub has : HasBodyLength code (length body)
+  pub short : length body ≤ 2 ^ 27
+
+-- these bodies say these lists of parts
+abbrev pub SayAll : PartCode → List (List ℕ) → List (List Part) → Type 0
+SayAll code [] [] = ⊤
+SayAll code [] (ps ∷ pss) = ⊥
+SayAll code (body ∷ bodies) [] = ⊥
+SayAll code (body ∷ bodies) (ps ∷ pss) = IsRecordBody code body ps × SayAll code bodies pss
+
 -- ---- laws
 
 -- the bodies without fault, and the parts that they set, are those that are spelled so
@@ -206,3 +230,7 @@ BodiesSayParts = (code : PartCode) (kind : Kind) (width : ℕ) (body : List ℕ)
 abbrev pub BodiesKeepFormed : Type 0
 BodiesKeepFormed = (code : PartCode) (g : GuestOf) (body : List ℕ) (ps : List Part) → (row_of code).of_kind g.kind ≡ true → HasBodyLength code (length body) → length body ≤ 2 ^ 27
     → IsBody code body ps → AllByRecursion (λ p. IsSmallKey p.0) ps → IsFormed g → IsFormed (record g { parts = set_parts code g.parts ps })
+
+-- the canonical bodies of the parts of a code that a well formed guest has say these parts
+abbrev pub CanonicalBodiesSay : Type 0
+CanonicalBodiesSay = (code : PartCode) (g : GuestOf) → IsFormed g → SayAll code (canonical_bodies code (parts_at code g)) (contents_by_shape (shape_of code) (parts_at code g))

@@ -1,4 +1,4 @@
-ghost use Rattle.mig_bodies.specs.Shapes.{BodiesAreSpelled, BodiesSayOne, BodiesSayParts, BodiesKeepFormed};
+ghost use Rattle.mig_bodies.specs.Shapes.{BodiesAreSpelled, BodiesSayOne, BodiesSayParts, BodiesKeepFormed, CanonicalBodiesSay};
 
 /// The bodies without fault, and the parts that they set, are exactly those that are spelled so.
 pub fn bodies_are_spelled_law()
@@ -18,4 +18,9 @@ pub fn bodies_say_parts_law()
 /// A guest that is well formed stays so, whatever body of a record of its kind is read.
 pub fn bodies_keep_formed_law()
     ensures { BodiesKeepFormed }
+{}
+
+/// The canonical bodies of the parts of a code that a well formed guest has say these parts.
+pub fn canonical_bodies_law()
+    ensures { CanonicalBodiesSay }
 {}

@@ -17,6 +17,7 @@ mod table;
 
 pub use laws::{
     bodies_are_spelled_law, bodies_keep_formed_law, bodies_say_one_law, bodies_say_parts_law,
+    canonical_bodies_law,
 };
 pub use layout::Layout;
 pub use read::{body_fault, read_body, read_single};

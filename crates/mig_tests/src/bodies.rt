@@ -83,4 +83,5 @@ fn laws(_rt: HostRuntime) {
     bodies_say_one_law();
     bodies_say_parts_law();
     bodies_keep_formed_law();
+    canonical_bodies_law();
 }
