@@ -25,9 +25,10 @@ use Rattle.mig_guest.specs.PartCodes.{row_of, code_number, small_number}
 use Rattle.mig_guest.specs.Formed.{IsFormed, IsContent, IsCut, gdt_ents, width_of}
 use Rattle.mig_guest.proofs.CodeParts.{IsHeld, parts_are, few_params}
 use Rattle.mig_guest.proofs.PartRows.{IsOf, of_part}
+use Rattle.mig_guest.specs.Parts.{Part}
 use Rattle.mig_bodies.specs.declared.layout.Layout.{Layout}
 use Rattle.mig_bodies.specs.declared.shape.Shape.TheVariants.{Table}
-use Rattle.mig_bodies.specs.Layouts.{Part, layout, fault_of_key, spelled_key, AreTableEntries, IsTableFront, IsTable, AreWidths, entries_text, front_text, table_text}
+use Rattle.mig_bodies.specs.Layouts.{layout, fault_of_key, spelled_key, AreTableEntries, IsTableFront, IsTable, AreWidths, entries_text, front_text, table_text}
 use Rattle.mig_bodies.specs.Shapes.{shape_of, of_vcpu, IsShaped, fault_of_content, sole_key, named_parts, IsSingle, IsNamed, IsChain, IsBody, HasBodyLength, IsRecordBody, SayAll, bodies_by_shape, contents_by_shape, parts_at, CanonicalBodiesSay}
 use Rattle.mig_bodies.proofs.Spelled.{scanned_chain}
 use Rattle.mig_bodies.proofs.TableSpelled.{table_len}

@@ -20,11 +20,11 @@ use Rattle.mig_guest.specs.declared.part_code.PartCode.TheVariants.{P2mFrames, V
 use Rattle.mig_guest.specs.declared.part_key.PartKey.{PartKey}
 use Rattle.mig_guest.specs.Guests.{GuestOf}
 use Rattle.mig_guest.specs.PartCodes.{row_of, code_number, small_number}
-use Rattle.mig_guest.specs.Parts.{PartMap}
+use Rattle.mig_guest.specs.Parts.{Part, PartMap}
 use Rattle.mig_guest.specs.Formed.{IsPart, IsFormed, IsContent, IsCut, AreParts, gdt_ents, width_of, is_policy, is_emulator_code, HasNoEmulators}
 use Rattle.mig_guest.proofs.Kept.{parts_keep, policies_keep, parts_plain, policies_plain}
 use Rattle.mig_bodies.specs.declared.layout.Layout.{Layout}
-use Rattle.mig_bodies.specs.Layouts.{Part, layout, fault_of_key, spelled_key, entry_width, front_width, entry_count, IsSmallKey, AreTableEntries, IsTable}
+use Rattle.mig_bodies.specs.Layouts.{layout, fault_of_key, spelled_key, entry_width, front_width, entry_count, IsSmallKey, AreTableEntries, IsTable}
 use Rattle.mig_bodies.specs.Shapes.{shape_of, has_shape, parts_of_body, fault_of_content, named_parts, IsSingle, IsNamed, IsChain, IsBody, HasBodyLength, BodiesSayParts, set_parts, BodiesKeepFormed}
 use Rattle.mig_bodies.proofs.Spelled.{bodies_are_spelled, chain_scanned}
 use Rattle.mig_bodies.proofs.TableSpelled.{entries_len, table_whole}

@@ -14,10 +14,10 @@ use Rattle.mig_guest.specs.declared.part_code.PartCode.{PartCode}
 use Rattle.mig_guest.specs.declared.part_key.PartKey.{PartKey}
 use Rattle.mig_guest.specs.Guests.{GuestOf}
 use Rattle.mig_guest.specs.PartCodes.{code_number}
-use Rattle.mig_guest.specs.Parts.{PartMap, put_part, put_parts, replace_code}
+use Rattle.mig_guest.specs.Parts.{Part, PartMap, put_part, put_parts, replace_code}
 use Rattle.mig_guest.proofs.PartSets.{put_other, cleared_other}
 use Rattle.mig_bodies.specs.declared.layout.Layout.{Layout}
-use Rattle.mig_bodies.specs.Layouts.{Part, IsLayout, IsSmallKey, entry_width, front_width, AreTableEntries, key_in, entry_part, entry_parts, fault_of_key, fault_of_entry, fault_of_entries, fault_of_table, entry_count, parts_of_table}
+use Rattle.mig_bodies.specs.Layouts.{IsLayout, IsSmallKey, entry_width, front_width, AreTableEntries, key_in, entry_part, entry_parts, fault_of_key, fault_of_entry, fault_of_entries, fault_of_table, entry_count, parts_of_table}
 use Rattle.mig_guest.specs.Formed.{is_policy}
 use Rattle.mig_bodies.specs.Shapes.{cleared, set_parts, named_parts}
 use Rattle.mig_bodies.proofs.TableSpelled.{length_fault, length_is}

@@ -14,8 +14,9 @@ use Rattle.mig_headers.proofs.FirstFaults.{both_none, neither_some, rows_fine, n
 use Rattle.mig_guest.specs.declared.part_code.PartCode.{PartCode}
 use Rattle.mig_guest.specs.declared.part_key.PartKey.{PartKey}
 use Rattle.mig_guest.specs.PartCodes.{code_number}
+use Rattle.mig_guest.specs.Parts.{Part}
 use Rattle.mig_bodies.specs.declared.layout.Layout.{Layout}
-use Rattle.mig_bodies.specs.Layouts.{Part, fault_of_key, spelled_key, key_width, entry_width, front_width, AreTableEntries, IsTableFront, IsTable, key_in, entry_part, entry_parts, fault_of_entries, entry_count, parts_of_table, fault_of_table, AreWidths}
+use Rattle.mig_bodies.specs.Layouts.{fault_of_key, spelled_key, key_width, entry_width, front_width, AreTableEntries, IsTableFront, IsTable, key_in, entry_part, entry_parts, fault_of_entries, entry_count, parts_of_table, fault_of_table, AreWidths}
 
 -- a number reads its own bytes alone
 pub number_first : (n : ℕ) (bytes rest : List ℕ) → length bytes ≡ n → little_number n (bytes ++ rest) ≡ little_number n bytes

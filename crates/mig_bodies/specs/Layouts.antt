@@ -13,10 +13,8 @@ use Rattle.mig_guest.specs.declared.part_code.PartCode.{PartCode}
 use Rattle.mig_guest.specs.declared.part_code.PartCode.TheVariants.{VcpuBasic, VcpuExtended, VcpuXsave, VcpuMsrs, HvmParam}
 use Rattle.mig_guest.specs.declared.part_key.PartKey.{PartKey}
 use Rattle.mig_guest.specs.PartCodes.{code_number, small_number}
+use Rattle.mig_guest.specs.Parts.{Part}
 use Rattle.mig_bodies.specs.declared.layout.Layout.{Layout}
-
-abbrev pub Part : Type 0
-Part = PartKey × List ℕ
 
 -- whether a table's entries are counted, and the bytes of a key's two numbers and of a part
 abbrev pub layout : Bool → ℕ → ℕ → ℕ → Layout

@@ -10,10 +10,11 @@ use Rattle.std.specs.List.{All, flat_map}
 use Rattle.byteorder.specs.Endian.{little_bytes}
 use Rattle.mig_bytes.specs.Bytes.{padding_len}
 use Rattle.mig_guest.specs.Guests.{GuestOf}
+use Rattle.mig_guest.specs.Parts.{Part}
 use Rattle.mig_records.specs.Records.{head_of, spelled}
 use Rattle.mig_canon.specs.declared.entries.Table.{Table}
 use Rattle.mig_canon.specs.declared.entries.Table.TheVariants.{Leaves, Msrs, Params}
-use Rattle.mig_canon.specs.Canon.{Part, Record, where_some, param_bytes, params_body, tsc_body, of_code, frames_in, batches, frame_bodies, static_bodies, last_bodies, leaves_body, msrs_body, text_of, headers, canon}
+use Rattle.mig_canon.specs.Canon.{Record, where_some, param_bytes, params_body, tsc_body, of_code, frames_in, batches, frame_bodies, static_bodies, last_bodies, leaves_body, msrs_body, text_of, headers, canon}
 use Rattle.mig_canon.specs.Tables.{code_of, entry_len, entry_bytes}
 use Rattle.mig_canon.proofs.Wholes.{IsRow}
 

@@ -15,7 +15,7 @@ use Rattle.std.specs.FinMap.Entries.{below_all, is_sorted-where_key}
 use Rattle.mig_guest.specs.declared.part_key.PartKey.{PartKey}
 use Rattle.mig_guest.specs.Order.{part_cmp}
 use Rattle.mig_guest.specs.Guests.{GuestOf}
-use Rattle.mig_guest.specs.Parts.{parts_of, parts_after}
+use Rattle.mig_guest.specs.Parts.{Part, parts_of, parts_after}
 use Rattle.mig_guest.specs.PartKeys.{tsc_key, context_key}
 use Rattle.mig_guest.proofs.PartOrder.{part_total, part_exact}
 use Rattle.mig_guest.proofs.PartCursor.{both_of, not_itself, kept_none}
@@ -23,7 +23,7 @@ use Rattle.mig_guest.proofs.CodeParts.{all_of, IsHeld, parts_are, held_tsc, held
 use Rattle.mig_pvtables.specs.Whole.{IsWhole}
 use Rattle.mig_canon.specs.declared.entries.Table.{Table}
 use Rattle.mig_canon.specs.declared.entries.Table.TheVariants.{Leaves, Msrs, Params}
-use Rattle.mig_canon.specs.Canon.{Part, of_code}
+use Rattle.mig_canon.specs.Canon.{of_code}
 use Rattle.mig_canon.specs.Tables.{code_of, value_len, rows_of}
 
 -- ---- the parts of a code

@@ -8,10 +8,9 @@ use Rattle.std.specs.FinMap as maps
 use Rattle.mig_headers.specs.declared.kind.Kind.TheVariants.{Hvm}
 use Rattle.mig_headers.specs.Headers.{image_header_of, domain_header_of}
 use Rattle.mig_pagetypes.specs.FrameWords.{word_of}
-use Rattle.mig_guest.specs.declared.part_key.PartKey.{PartKey}
 use Rattle.mig_guest.specs.Frames.{FrameOf}
 use Rattle.mig_guest.specs.Guests.{GuestOf}
-use Rattle.mig_guest.specs.Parts.{parts_of}
+use Rattle.mig_guest.specs.Parts.{Part, parts_of}
 use Rattle.mig_records.specs.Records.{spelled}
 
 -- ---- frames: 1024 in each record, and the rest in the last
@@ -50,9 +49,6 @@ Record = ℕ × List ℕ
 -- the records of the first n batches
 abbrev pub frame_bodies : List Frame → ℕ → List Record
 frame_bodies fs n = map (λ k. (1, body_of (batch fs k))) (range_with_len 0 n)
-
-abbrev pub Part : Type 0
-Part = PartKey × List ℕ
 
 -- one record where there are such parts, and none where there are none
 abbrev pub where_some : List Part → Record → List Record

@@ -1,9 +1,10 @@
 -- The parts of a guest that are written as the entries of one record.
 use Rattle.std.specs.Prelude.{ℕ, List}
 use Rattle.mig_guest.specs.Guests.{GuestOf}
+use Rattle.mig_guest.specs.Parts.{Part}
 use Rattle.mig_canon.specs.declared.entries.Table.{Table}
 use Rattle.mig_canon.specs.declared.entries.Table.TheVariants.{Leaves, Msrs, Params}
-use Rattle.mig_canon.specs.Canon.{Part, leaf_bytes, msr_bytes, param_bytes, of_code}
+use Rattle.mig_canon.specs.Canon.{leaf_bytes, msr_bytes, param_bytes, of_code}
 
 -- the code of the parts, which is the type of their record
 abbrev pub code_of : Table → ℕ

@@ -15,9 +15,8 @@ use Rattle.mig_guest.specs.declared.part_key.PartKey.{PartKey}
 use Rattle.mig_guest.specs.Formed.{IsPart, IsFormed, IsCut, width_of}
 use Rattle.mig_guest.specs.Guests.{GuestOf}
 use Rattle.mig_guest.specs.Order.{part_cmp}
-use Rattle.mig_guest.specs.Parts.{parts_of}
+use Rattle.mig_guest.specs.Parts.{Part, parts_of}
 use Rattle.mig_guest.specs.PartKeys.{tsc_key, context_key, param_key, leaf_key, msr_key}
-use Rattle.mig_guest.proofs.Counts.{Part}
 use Rattle.mig_guest.proofs.Found.{all_found}
 use Rattle.mig_guest.proofs.PartCursor.{both_of, not_itself}
 use Rattle.mig_guest.proofs.PartOrder.{part_total, part_exact}

@@ -14,11 +14,11 @@ use Rattle.mig_guest.specs.declared.part_key.PartKey.{PartKey}
 use Rattle.mig_guest.specs.Frames.{FrameOf, FrameMap, framed}
 use Rattle.mig_guest.specs.Guests.{GuestOf}
 use Rattle.mig_guest.specs.Order.{part_cmp}
-use Rattle.mig_guest.specs.Parts.{PartMap, put_part, put_parts, replace_code, parts_of, FitsPolicy}
+use Rattle.mig_guest.specs.Parts.{Part, PartMap, put_part, put_parts, replace_code, parts_of, FitsPolicy}
 use Rattle.mig_guest.proofs.PartOrder.{part_total, part_exact}
 use Rattle.mig_guest.proofs.KeyedMaps.{tied}
 use Rattle.mig_guest.specs.Formed.{IsPart, IsTop, IsGuestFrame, is_policy, width_of, IsFormed, AreParts, is_emulator_code, HasNoEmulators}
-use Rattle.mig_guest.proofs.Counts.{Part, unequal, put_all_len, insert_kept, entries_cleared, none_left, others_left}
+use Rattle.mig_guest.proofs.Counts.{unequal, put_all_len, insert_kept, entries_cleared, none_left, others_left}
 
 -- ---- what holds of each part
 

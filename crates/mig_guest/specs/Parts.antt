@@ -19,14 +19,18 @@ parts_code = maps.code part_key.the_row.coded (coded_list coded_ℕ)
 abbrev pub parts_seen : {Z : Type 0} → List (PartKey × Vec ℕ Z) → PartMap
 parts_seen es = maps.from_entries (map (λ e. (e.0, e.1.items)) es)
 
+-- a part with its key
+abbrev pub Part : Type 0
+Part = PartKey × List ℕ
+
 -- ---- what sets parts
 
 -- a part set, in place of the one of its key
-abbrev pub put_part : PartMap → PartKey × List ℕ → PartMap
+abbrev pub put_part : PartMap → Part → PartMap
 put_part m p = maps.insert m p.0 p.1
 
 -- parts set one after another: of each key the last decides
-abbrev pub put_parts : PartMap → List (PartKey × List ℕ) → PartMap
+abbrev pub put_parts : PartMap → List Part → PartMap
 put_parts m ps = fold put_part m ps
 
 -- all parts of a code replaced by these; where there are none of these, nothing changes

@@ -16,7 +16,7 @@ use Rattle.mig_guest.specs.declared.part_key.PartKey.{PartKey}
 use Rattle.mig_guest.specs.PartKeys.{context_key}
 use Rattle.mig_records.specs.Faults.{type_allows}
 use Rattle.mig_guest.specs.declared.part_code.PartCode.{PartCode}
-use Rattle.mig_bodies.specs.Layouts.{Part}
+use Rattle.mig_guest.specs.Parts.{Part}
 use Rattle.mig_bodies.specs.Shapes.{shape_of, fault_of_body, IsBody}
 use Rattle.mig_bodies.proofs.Spelled.{bodies_are_spelled, is_shaped}
 use Rattle.mig_restore.specs.Record.{Content, Entry}

@@ -18,9 +18,8 @@ use Rattle.mig_guest.specs.Formed.{AreParts, IsPart, IsInside, IsFormed, IsGuest
 use Rattle.mig_guest.specs.declared.part_key.PartKey.{PartKey}
 use Rattle.mig_guest.specs.Frames.{FrameOf, IsFrame, framed, is_hvm_type, is_type_of}
 use Rattle.mig_guest.specs.Guests.{GuestOf}
-use Rattle.mig_guest.specs.Parts.{PartMap}
+use Rattle.mig_guest.specs.Parts.{Part, PartMap}
 use Rattle.mig_guest.specs.PartKeys.{context_key, tsc_key}
-use Rattle.mig_guest.proofs.Counts.{Part}
 use Rattle.mig_guest.proofs.Kept.{parts_keep, policies_keep, parts_plain, policies_plain, frames_keep}
 use Rattle.mig_guest.proofs.PartRows.{hvm_frame}
 use Rattle.mig_headers.specs.RecordTypes.{record_row_of, type_number, type_of_number}

@@ -19,9 +19,8 @@ use Rattle.mig_guest.specs.Frames.{FrameMap, FrameOf, framed}
 use Rattle.mig_guest.specs.Guests.{GuestOf}
 use Rattle.mig_guest.specs.Order.{part_cmp}
 use Rattle.mig_guest.specs.PartCodes.{code_number}
-use Rattle.mig_guest.specs.Parts.{PartMap, put_part, put_parts, replace_code}
+use Rattle.mig_guest.specs.Parts.{Part, PartMap, put_part, put_parts, replace_code}
 use Rattle.mig_guest.specs.Formed.{is_policy}
-use Rattle.mig_bodies.specs.Layouts.{Part}
 use Rattle.mig_guest.proofs.PartOrder.{part_total, part_exact}
 use Rattle.mig_pagetypes.specs.FrameWords.{word_pfn}
 use Rattle.mig_restore.specs.Judging.{type_in_word}

@@ -13,7 +13,7 @@ use Rattle.mig_guest.specs.Frames.{FrameMap, FrameOf, framed}
 use Rattle.mig_guest.specs.Guests.{GuestOf}
 use Rattle.mig_guest.specs.PartCodes.{code_number}
 use Rattle.mig_guest.specs.Formed.{is_policy}
-use Rattle.mig_bodies.specs.Layouts.{Part}
+use Rattle.mig_guest.specs.Parts.{Part}
 use Rattle.mig_bodies.specs.Shapes.{set_parts}
 use Rattle.mig_pvtables.specs.Blank.{blank}
 use Rattle.mig_restore.specs.Record.{Entry, StreamRecord, Content}

@@ -4,7 +4,7 @@ use Rattle.std.specs.List.{list_any}
 use Rattle.std.specs.Prelude.{Bool, ◌==◌}
 use Rattle.mig_pagetypes.specs.declared.page_type.PageType.{PageType}
 use Rattle.mig_guest.specs.declared.part_code.PartCode.{PartCode}
-use Rattle.mig_bodies.specs.Layouts.{Part}
+use Rattle.mig_guest.specs.Parts.{Part}
 
 -- an entry of a PAGE_DATA record: a frame number and a type, and the page where the type has data
 pub record Entry : Type 0 where

@@ -15,9 +15,9 @@ use Rattle.mig_order.specs.Order.{IsInOrder}
 use Rattle.mig_headers.specs.RecordTypes.{record_row_of, type_number}
 use Rattle.mig_headers.specs.declared.record_type.RecordType.{RecordType}
 use Rattle.mig_guest.specs.declared.part_code.PartCode.{PartCode}
-use Rattle.mig_bodies.specs.Layouts.{Part}
 use Rattle.mig_bodies.specs.Shapes.{IsBody}
 use Rattle.mig_guest.specs.Frames.{IsFew}
+use Rattle.mig_guest.specs.Parts.{Part}
 use Rattle.mig_restore.specs.Judging.{Opening, most_records, is_built, type_in_word, code_of_type}
 use Rattle.mig_restore.specs.Mean.{sent, mean}
 use Rattle.mig_restore.specs.Record.{StreamRecord, Entry, Content, types_of, is_ended}

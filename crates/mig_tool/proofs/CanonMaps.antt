@@ -19,7 +19,7 @@ use Rattle.mig_pagetypes.specs.declared.page_type.PageType.TheVariants.{Notab, L
 use Rattle.mig_guest.specs.declared.part_key.PartKey.{PartKey}
 use Rattle.mig_guest.specs.Frames.{FrameMap, is_hvm_type}
 use Rattle.mig_guest.specs.Order.{part_cmp}
-use Rattle.mig_guest.specs.Parts.{PartMap, put_part, put_parts, replace_code, parts_of}
+use Rattle.mig_guest.specs.Parts.{Part, PartMap, put_part, put_parts, replace_code, parts_of}
 use Rattle.mig_guest.proofs.PartOrder.{part_total, part_exact}
 use Rattle.mig_guest.proofs.PartCursor.{both_of}
 use Rattle.mig_guest.specs.declared.part_code.PartCode.{PartCode}
@@ -28,7 +28,7 @@ use Rattle.mig_guest.specs.PartCodes.{row_of, code_number}
 use Rattle.mig_guest.specs.Guests.{GuestOf}
 use Rattle.mig_guest.specs.Formed.{IsPart, IsFormed, IsPlainHvm, is_emulator_code, width_of}
 use Rattle.mig_guest.proofs.Found.{found_first}
-use Rattle.mig_canon.specs.Canon.{Frame, Part}
+use Rattle.mig_canon.specs.Canon.{Frame}
 use Rattle.mig_restore.specs.Record.{Entry}
 use Rattle.mig_restore.specs.Mean.{put_entry, put_entries}
 

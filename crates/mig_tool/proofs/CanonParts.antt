@@ -14,9 +14,10 @@ use Rattle.mig_guest.specs.Guests.{GuestOf}
 use Rattle.mig_guest.specs.Formed.{IsFormed, width_of}
 use Rattle.mig_guest.proofs.CodeParts.{IsHeld}
 use Rattle.mig_guest.proofs.PartRows.{of_part}
+use Rattle.mig_guest.specs.Parts.{Part}
 use Rattle.mig_bodies.specs.Shapes.{IsRecordBody}
 use Rattle.mig_bodies.proofs.Canonical as canonical
-use Rattle.mig_canon.specs.Canon.{Part, of_code, leaves_body, msrs_body, params_body, tsc_body}
+use Rattle.mig_canon.specs.Canon.{of_code, leaves_body, msrs_body, params_body, tsc_body}
 use Rattle.mig_restore.specs.Record.{Content}
 use Rattle.mig_restore.specs.Record.Content.{Sets}
 use Rattle.mig_restore.specs.Judging.{code_of_type}

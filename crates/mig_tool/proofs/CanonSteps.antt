@@ -17,12 +17,12 @@ use Rattle.mig_headers.specs.declared.record_type.RecordType.TheVariants.{Static
 use Rattle.mig_guest.specs.Frames.{FrameMap}
 use Rattle.mig_guest.specs.Guests.{GuestOf}
 use Rattle.mig_guest.specs.declared.part_code.PartCode.{PartCode}
-use Rattle.mig_guest.specs.Parts.{PartMap, put_parts}
+use Rattle.mig_guest.specs.Parts.{Part, PartMap, put_parts}
 use Rattle.mig_bodies.specs.Shapes.{set_parts}
 use Rattle.mig_records.specs.Records.{IsRecord, head_of, spelled}
 use Rattle.mig_order.specs.Order.{Earlier, some_earlier, among, content_records, vcpu_records, fault_after, fault_of_type}
 use Rattle.mig_order.proofs.OrderLaw.{faultless_is_in_order}
-use Rattle.mig_canon.specs.Canon.{Frame, Part, Record, batch, batches, body_of, frame_bodies, where_some, text_of}
+use Rattle.mig_canon.specs.Canon.{Frame, Record, batch, batches, body_of, frame_bodies, where_some, text_of}
 use Rattle.mig_restore.specs.Record.{StreamRecord, Content, types_of, is_ended}
 use Rattle.mig_restore.specs.Record.Content.{Sets}
 use Rattle.mig_restore.specs.Judging.{Opening, is_built}

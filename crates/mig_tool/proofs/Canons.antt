@@ -9,13 +9,13 @@ use Rattle.mig_headers.proofs.HeaderLaws.{image_is_read_back, domain_is_read_bac
 use Rattle.mig_guest.specs.Guests.{GuestOf}
 use Rattle.mig_guest.specs.declared.part_code.PartCode.TheVariants.{Tsc, HvmContext, HvmParam, CpuidLeaf, Msr}
 use Rattle.mig_guest.specs.PartKeys.{context_key}
-use Rattle.mig_guest.specs.Parts.{PartMap, put_parts, replace_code}
+use Rattle.mig_guest.specs.Parts.{Part, PartMap, put_parts, replace_code}
 use Rattle.mig_guest.specs.Frames.{IsFew}
 use Rattle.mig_guest.specs.Formed.{IsFormed, IsPlainHvm, IsTop}
 use Rattle.mig_guest.proofs.CodeParts.{all_of, IsHeld, parts_are, one_tsc, one_context}
 use Rattle.mig_pvtables.specs.Whole.{IsWhole}
 use Rattle.mig_pvtables.proofs.HvmGuests.{hvm_complete}
-use Rattle.mig_canon.specs.Canon.{Part, Record, batches, frame_bodies, where_some, of_code, frames_in, leaves_body, msrs_body, params_body, tsc_body, static_bodies, bodies_of, text_of, headers, canon}
+use Rattle.mig_canon.specs.Canon.{Record, batches, frame_bodies, where_some, of_code, frames_in, leaves_body, msrs_body, params_body, tsc_body, static_bodies, bodies_of, text_of, headers, canon}
 use Rattle.mig_restore.specs.Record.{StreamRecord, is_ended}
 use Rattle.mig_restore.specs.Record.Content.{Nothing, Sets}
 use Rattle.mig_restore.specs.Mean.{sent, empty_guest, put_content, put_entries}

@@ -1,11 +1,11 @@
 use Rattle.std.proofs.Common.{sym, ◌∙◌, arith, rules}
 use Rattle.std.specs.FinMap as maps
 use Rattle.mig_bytes.proofs.Texts.{puts_same}
-use Rattle.mig_canon.specs.Canon.{Part}
 use Rattle.mig_canon.specs.Tables.{code_of, entry_bytes, rows_of}
 use Rattle.mig_canon.proofs.Steps.{drop_next, walk_on, walk_stop, whole_walk, not_ended}
 use Rattle.mig_canon.proofs.Wholes.{IsRow, rows_are, next_row, no_row, holds_next, code_next}
 use Rattle.mig_canon.proofs.entries.write_entries.Goals as goal
+use Rattle.mig_guest.specs.Parts.{Part}
 
 pub write_entry-requires : goal.write_entry-requires
 write_entry-requires g c =

@@ -1,9 +1,10 @@
 use Rattle.std.proofs.Common.{List, map, ap, ◌∙◌}
 use Rattle.mig_bytes.proofs.Texts.{puts_same}
-use Rattle.mig_canon.specs.Canon.{Part, text_of}
+use Rattle.mig_canon.specs.Canon.{text_of}
 use Rattle.mig_canon.proofs.Wholes.{one_context}
 use Rattle.mig_canon.proofs.Spelling.{text_one}
 use Rattle.mig_canon.proofs.writer.write_context.Goals as goal
+use Rattle.mig_guest.specs.Parts.{Part}
 
 pub write_record-requires : goal.write_record-requires
 write_record-requires g c = (one_context c.args.guest.now c.requires (c.in-Some.field-0-0, c.in-Some.bytes.now) c.in-Some.ensures.next).1

@@ -1,10 +1,11 @@
 use Rattle.std.proofs.Common.{ℕ, List, [], ◌∷◌, ◌++◌, map, ap, sym, ◌∙◌}
 use Rattle.mig_bytes.proofs.Texts.{puts_same}
 use Rattle.mig_records.specs.Records.{spelled}
-use Rattle.mig_canon.specs.Canon.{Part, tsc_body, text_of}
+use Rattle.mig_canon.specs.Canon.{tsc_body, text_of}
 use Rattle.mig_canon.proofs.Wholes.{one_tsc}
 use Rattle.mig_canon.proofs.Spelling.{text_one}
 use Rattle.mig_canon.proofs.writer.write_tsc.Goals as goal
+use Rattle.mig_guest.specs.Parts.{Part}
 
 pub copy_from_slice-requires : goal.copy_from_slice-requires
 copy_from_slice-requires g c =
