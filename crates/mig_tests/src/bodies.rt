@@ -1,6 +1,6 @@
 use mig_bodies::{
     bodies_are_spelled_law, bodies_keep_formed_law, bodies_say_one_law, bodies_say_parts_law,
-    body_fault, read_body, read_single,
+    body_fault, canonical_bodies_law, read_body, read_single,
 };
 use mig_guest::{Guest, PartCode, PartKey};
 use mig_headers::{Cause, Kind};
