@@ -107,7 +107,7 @@ hvm_says top this len i c rest s k allowed h = by (code_of_type this) refl
     by (Some code) is = sets_say Hvm top this code len i c rest is (shaped this code k is) allowed (sym (coded_is Hvm top this code len i is) ∙ h)
 
 -- no type of a PV stream is read so far
-no_pv : (this : RecordType) → is_built Pv (type_number this) ≡ true → (record_row_of this).supported ≡ true → ⊥
+pub no_pv : (this : RecordType) → is_built Pv (type_number this) ≡ true → (record_row_of this).supported ≡ true → ⊥
 no_pv this built s = let is : type_of_number (type_number this) ≡ Some this = numbers_are_inverse.type_of this in apart (rw (is, s) at built)
   where
     apart : false ≡ true → ⊥

@@ -1,0 +1,107 @@
+-- Tables of causes: the first row whose test holds is the cause that is named.
+use Rattle.std.proofs.Common.{◌≡◌, ◌⊎◌, inl, inr, ℕ, suc, ◌+◌, ◌*◌, ◌<◌, ◌≤◌, List, [], ◌∷◌, Bool, true, false, nat_le, nat_lt, not, Option, Some, None, refl, sym, ap, subst, ◌∙◌, arith}
+use Rattle.std.proofs.lemmas.Bool.{leb-true, ltb-true}
+use Rattle.std.specs.Prelude.{◌&&◌}
+use Rattle.mig_headers.specs.Rows.{first_fault}
+use Rattle.mig_headers.specs.Texts.{number_of_cause}
+use Rattle.mig_headers.specs.declared.fault.Cause.{Cause}
+use Rattle.mig_headers.specs.declared.fault.Cause.TheVariants.{OutOfOrder}
+use Rattle.mig_refused.specs.Refusal.{IsTriedBefore, IsFirstCause}
+
+abbrev pub LeastOf : (ℕ → Cause → Type 0) → Option Cause → Type 0
+LeastOf Has None = (k : ℕ) (c : Cause) → Has k c → ⊥
+LeastOf Has (Some c) = IsFirstCause Has c
+
+-- what a computed fault is of the causes that stand
+pub record Least (Has : ℕ → Cause → Type 0) (f : Option Cause) : Type 0 where
+  pub holds : LeastOf Has f
+
+-- ---- truth values
+
+pub no_false : false ≡ true → ⊥
+no_false e = cc
+
+pub not_true : (b : Bool) → not b ≡ true → b ≡ false
+not_true true h = absurd (no_false h)
+not_true false h = refl
+
+pub both_true : (a b : Bool) → (a && b) ≡ true → (a ≡ true) × (b ≡ true)
+both_true true b h = (refl, h)
+both_true false b h = absurd (no_false h)
+
+-- ---- rows
+
+-- the place of a cause of a table of tests
+abbrev pub rule_in : Cause → ℕ
+rule_in (OutOfOrder rule) = rule
+rule_in _ = 0
+
+abbrev pub rank : Cause → ℕ
+rank c = number_of_cause c * 8 + rule_in c
+
+abbrev pub above : ℕ → List (Bool × Cause) → Bool
+above m [] = true
+above m (row ∷ rows) = nat_le m (rank row.1) && (nat_lt (rule_in row.1) 8 && above (suc (rank row.1)) rows)
+
+abbrev pub RowHas : List (Bool × Cause) → ℕ → Cause → Type 0
+RowHas [] k c = ⊥
+RowHas (row ∷ rows) k c = ((row.0 ≡ true) × (k ≡ rule_in row.1) × (c ≡ row.1)) ⊎ RowHas rows k c
+
+abbrev pub To : (ℕ → Cause → Type 0) → List (Bool × Cause) → Type 0
+To Has [] = Unit {0}
+To Has (row ∷ rows) = (row.0 ≡ true → Has (rule_in row.1) row.1) × To Has rows
+
+split : (n m : ℕ) → (n < m) ⊎ (m ≤ n)
+split n m = elim (nat_lt n m) as (λ b. nat_lt n m ≡ b → (n < m) ⊎ (m ≤ n)) [ true ↦ λ e. inl (ltb-true n m e) | false ↦ λ e. inr (grind (arith, e)) ] refl
+
+ordered : (n m a b : ℕ) → a < 8 → b < 8 → n * 8 + a < m * 8 + b → (n < m) ⊎ ((n ≡ m) × (a < b))
+ordered n m a b p q less = elim (split n m) [ inl e ↦ inl e | inr e ↦ inr (omega arith, omega arith) ]
+
+-- what stands in rows above a rank has such a rank
+high : (rows : List (Bool × Cause)) (m : ℕ) → above m rows ≡ true → (k : ℕ) (c : Cause) → RowHas rows k c → (m ≤ rank c) × (rule_in c < 8) × (k ≡ rule_in c)
+high [] m asc k c h = absurd h
+high (row ∷ rows) m asc k c (inl h) =
+    let e = both_true _ _ asc in
+    let f = both_true _ _ e.1 in
+    (subst (λ (d : Cause). m ≤ rank d) (sym h.2) (leb-true _ _ e.0), subst (λ (d : Cause). rule_in d < 8) (sym h.2) (ltb-true _ _ f.0), h.1 ∙ ap rule_in (sym h.2))
+high (row ∷ rows) m asc k c (inr h) =
+    let e = both_true _ _ asc in
+    let f = both_true _ _ e.1 in
+    let low : m ≤ rank row.1 = leb-true _ _ e.0 in
+    let g = high rows (suc (rank row.1)) f.1 k c h in
+    (omega (arith, low, g.0), g.1, g.2)
+
+later : (row : Bool × Cause) (rows : List (Bool × Cause)) (m : ℕ) → above m (row ∷ rows) ≡ true → (j : ℕ) (d : Cause) → RowHas rows j d → IsTriedBefore (rule_in row.1) row.1 j d
+later row rows m asc j d h =
+    let e = both_true _ _ asc in
+    let f = both_true _ _ e.1 in
+    let g = high rows (suc (rank row.1)) f.1 j d h in
+    elim (ordered (number_of_cause row.1) (number_of_cause d) (rule_in row.1) (rule_in d) (ltb-true _ _ f.0) g.1 (omega (arith, g.0))) [
+      | inl x ↦ inl x
+      | inr x ↦ inr (x.0, subst (λ n. rule_in row.1 < n) (sym g.2) x.1)
+    ]
+
+rows_least : (rows : List (Bool × Cause)) (m : ℕ) → above m rows ≡ true → Least (RowHas rows) (first_fault rows)
+rows_least [] m asc = record { holds = λ k c h. h }
+rows_least ((true, x) ∷ rows) m asc = record { holds = (rule_in x, inl (refl, refl, refl), λ j d h. elim h [ inl e ↦ inr e.2 | inr e ↦ inl (later (true, x) rows m asc j d e) ]) }
+rows_least ((false, x) ∷ rows) m asc =
+    let e = both_true _ _ asc in
+    let f = both_true _ _ e.1 in
+    skip (first_fault rows) (rows_least rows (suc (rank x)) f.1)
+  where
+    skip : (g : Option Cause) → Least (RowHas rows) g → Least (RowHas ((false, x) ∷ rows)) g
+    skip None p = record { holds = λ k c h. elim h [ inl q ↦ no_false q.0 | inr q ↦ p.holds k c q ] }
+    skip (Some c) p = record { holds = (p.holds.0, inr p.holds.1, λ j d h. elim h [ inl q ↦ absurd (no_false q.0) | inr q ↦ p.holds.2 j d q ]) }
+
+pub turned : (P R : ℕ → Cause → Type 0) (f : Option Cause) → Least P f → ((k : ℕ) (c : Cause) → P k c → R k c) → ((k : ℕ) (c : Cause) → R k c → P k c) → Least R f
+turned P R None p to from = record { holds = λ k c r. p.holds k c (from k c r) }
+turned P R (Some c) p to from = record { holds = (p.holds.0, to p.holds.0 c p.holds.1, λ j d r. p.holds.2 j d (from j d r)) }
+
+into : (Has : ℕ → Cause → Type 0) (rows : List (Bool × Cause)) → To Has rows → (k : ℕ) (c : Cause) → RowHas rows k c → Has k c
+into Has [] to k c h = absurd h
+into Has (row ∷ rows) to k c (inl h) = subst (λ j. Has j c) (sym h.1) (subst (Has (rule_in row.1)) (sym h.2) (to.0 h.0))
+into Has (row ∷ rows) to k c (inr h) = into Has rows to.1 k c h
+
+-- rows in the order of their numbers: the first whose test holds is named
+pub named : (Has : ℕ → Cause → Type 0) (rows : List (Bool × Cause)) → above 0 rows ≡ true → To Has rows → ((k : ℕ) (c : Cause) → Has k c → RowHas rows k c) → Least Has (first_fault rows)
+named Has rows asc to from = turned (RowHas rows) Has (first_fault rows) (rows_least rows 0 asc) (into Has rows to) from

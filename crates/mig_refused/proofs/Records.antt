@@ -1,0 +1,437 @@
+-- A record that fails: the part in which it fails, and the parts before it.
+use Rattle.std.proofs.Common.{◌≡◌, ◌⊎◌, inl, inr, ℕ, ◌+◌, ◌*◌, ◌/◌, ◌%◌, ◌^◌, List, [], ◌∷◌, ◌++◌, Bool, true, false, cond, nat_eq, nat_le, length, Option, Some, None, refl, sym, ap, subst, ◌∙◌, arith, append_assoc}
+use Rattle.std.specs.Prelude.{◌&&◌}
+use Rattle.std.proofs.lemmas.Bool.{eqb-true}
+use Rattle.mig_bytes.specs.Bytes.{padding_len, IsLeastPadding}
+use Rattle.mig_bytes.specs.Fields.{le32}
+use Rattle.mig_bytes.specs.Judged.{Judged, ◌>>=◌, part, tried, each}
+use Rattle.mig_bytes.specs.Judged.Judged.{Passes, Faulty}
+use Rattle.mig_bytes.proofs.Joins.{part_whole, then_passes, tried_none, both_pass, part_passes, tried_passes, same_passes}
+use Rattle.mig_headers.specs.RecordTypes.{record_row_of, type_number, type_of_number}
+use Rattle.mig_headers.specs.Rows.{first_fault}
+use Rattle.mig_headers.proofs.RecordNumbers.{numbers_are_inverse}
+use Rattle.mig_headers.specs.declared.fault.Cause.{Cause}
+use Rattle.mig_headers.specs.declared.fault.Cause.TheVariants.{Truncated}
+use Rattle.mig_headers.specs.declared.kind.Kind.{Kind}
+use Rattle.mig_headers.specs.declared.kind.Kind.TheVariants.{Pv, Hvm}
+use Rattle.mig_headers.specs.declared.record_type.RecordType.{RecordType}
+use Rattle.mig_headers.specs.declared.record_type.RecordType.TheVariants.{End, PageData, X86TscInfo, HvmContext, HvmParams, Toolstack, Verify, Checkpoint, CheckpointDirtyPfnList, StaticDataEnd, X86CpuidPolicy, X86MsrPolicy}
+use Rattle.mig_pagetypes.specs.FrameWords.{word_has_data, word_pfn}
+use Rattle.mig_guest.specs.Guests.{GuestOf}
+use Rattle.mig_guest.specs.declared.part_code.PartCode.{PartCode}
+use Rattle.mig_guest.specs.declared.part_code.PartCode.TheVariants as codes
+use Rattle.mig_bodies.specs.Shapes.{fault_of_body, parts_of_body}
+use Rattle.mig_bodies.proofs.Rows.{whole_leaves, whole_msrs}
+use Rattle.mig_order.specs.Order.{IsInOrder}
+use Rattle.mig_order.specs.Order.{IsInOrder as order}
+use Rattle.mig_records.specs.Faults.{type_allows, fault_of_count, fault_of_words}
+use Rattle.mig_records.specs.Words.{words}
+use Rattle.mig_pvtables.proofs.HvmGuests.{hvm_fault}
+use Rattle.mig_pvtables.specs.Faults.{fault_of_guest}
+use Rattle.mig_restore.specs.Judging.{Opening, Before, before, is_built, record_at, next_at, body_at, typed_at, sets_at, entries_at, entry_at, words_at, fault_of_head, fault_at_end, fault_of_data, type_in_word}
+use Rattle.mig_restore.specs.Mean.{sent}
+use Rattle.mig_restore.specs.Record.{StreamRecord, Entry, Content}
+use Rattle.mig_restore.specs.Record.Content.{Nothing, Frames, Sets}
+use Rattle.mig_restore.proofs.Parts.{begins, behind_head, behind_body, asks, behind_record}
+use Rattle.mig_restore.proofs.Entries.{behind_words}
+use Rattle.mig_restore.proofs.Bodies.{body_says, optional_at, type_at, no_pv}
+use Rattle.mig_restore.proofs.BodiesPass.{body_goes}
+use Rattle.mig_restore.proofs.Meaning.{sent_kind}
+use Rattle.mig_restore.proofs.Passing.{ends_hvm}
+use Rattle.mig_restore.proofs.Laws.{fields_fine, header_passes}
+use Rattle.mig_refused.specs.Refusal.{StreamPart, PagesTo, IsFaultless, InPages, InBody, Within, end_record}
+use Rattle.mig_refused.specs.Refusal.StreamPart.{Head, PagesFront, PagesWords, PagesLength, Page, ContextBody, ParamsBody, OtherBody, Padding, WholeGuest}
+use Rattle.mig_refused.specs.Refusal.PagesTo.{next_page, one_page}
+use Rattle.mig_refused.specs.Refusal.InPages.{at_front, at_words, at_length, at_page}
+use Rattle.mig_refused.specs.Refusal.InBody.{in_pages, tsc, context, params, leaves, msrs, optional}
+use Rattle.mig_refused.specs.Refusal.Within.{at_head, in_body, at_padding}
+use Rattle.mig_refused.proofs.Least.{both_true, no_false}
+use Rattle.mig_refused.proofs.Tables.{guest_rows}
+use Rattle.mig_refused.proofs.Single.{trial, one_part, stage, stage_faulty, stage_passes, stage_cases, then_faulty, bind_cases, passes_not, same_faulty, assoc, fine, faultless}
+
+-- a part that fails in an input, and the parts before it
+pub record Found (Before_it : List ℕ → StreamPart → Type 0) (i : List ℕ) (c : Cause) (rest : List ℕ) : Type 0 where
+  pub front : List ℕ
+  pub left : List ℕ
+  pub part_is : StreamPart
+  pub whole : i ≡ front ++ left
+  pub behind : Before_it front part_is
+  pub fails : one_part part_is left ≡ Faulty c rest
+
+-- the same behind some first bytes
+pub found_behind : (P Q : List ℕ → StreamPart → Type 0) (x i j : List ℕ) (c : Cause) (rest : List ℕ) → j ≡ x ++ i → ((b : List ℕ) (p : StreamPart) → P b p → Q (x ++ b) p) → Found P i c rest → Found Q j c rest
+found_behind P Q x i j c rest whole turn f = record {
+  front = x ++ f.front;
+  left = f.left;
+  part_is = f.part_is;
+  whole = whole ∙ ap (λ l. x ++ l) f.whole ∙ sym (append_assoc x f.front f.left);
+  behind = turn f.front f.part_is f.behind;
+  fails = f.fails;
+}
+
+-- ---- judgements joined
+
+plain_by : {Y : Type 0} (says : List ℕ → Y) (j : Judged Cause (List ℕ)) (c : Cause) (rest : List ℕ) → (j >>= λ p. Passes (says p.0) p.1) ≡ Faulty c rest → (j >>= λ p. tried None p.1) ≡ Faulty c rest
+plain_by says (Passes x mid) c rest h = passes_not (says x) mid c rest h
+plain_by says (Faulty d mid) c rest h = let e = same_faulty d c mid rest h in rw (e.0, e.1) refl
+
+-- a part that isn't whole, whatever is tried in it
+by_plain : {Y : Type 0} (k : List ℕ × List ℕ → Judged Cause Y) (j : Judged Cause (List ℕ)) (c : Cause) (rest : List ℕ) → (j >>= λ p. tried None p.1) ≡ Faulty c rest → (j >>= k) ≡ Faulty c rest
+by_plain k (Passes x mid) c rest h = passes_not tt mid c rest h
+by_plain k (Faulty d mid) c rest h = let e = same_faulty d c mid rest h in rw (e.0, e.1) refl
+
+pub none_taken : (f : List ℕ → Option Cause) (left : List ℕ) → trial 0 f left ≡ tried (f []) left
+none_taken f left = ap (λ j. j >>= λ p. tried (f p.0) p.1) (part_whole Truncated 0 [] left refl)
+
+-- ---- pages
+
+abbrev page_size : ℕ → ℕ
+page_size w = cond (word_has_data w) 4096 0
+
+abbrev page_of : ℕ → List ℕ → Option (List ℕ)
+page_of w b = cond (word_has_data w) (Some b) None
+
+abbrev entry_of : ℕ → List ℕ → Entry
+entry_of w b = record { pfn = word_pfn w; type = type_in_word w; page = page_of w b }
+
+abbrev other_entries : ℕ → List ℕ → List ℕ → List ℕ → Judged Cause (List Entry)
+other_entries w ws b r = each entry_at ws r >>= λ others. Passes (entry_of w b ∷ others.0) others.1
+
+page_by : (b : Bool) (i : List ℕ) → cond b (part Truncated 4096 i >>= λ p. Passes (Some p.0) p.1) (Passes None i) ≡ (part Truncated (cond b 4096 0) i >>= λ p. Passes (cond b (Some p.0) None) p.1)
+page_by true i = refl
+page_by false i = sym (ap (λ j. j >>= λ p. Passes None p.1) (part_whole Truncated 0 [] i refl))
+
+each_by : (w : ℕ) (ws : List ℕ) (j : Judged Cause (List ℕ))
+    → (((j >>= λ p. Passes (page_of w p.0) p.1) >>= λ page. Passes (record { pfn = word_pfn w; type = type_in_word w; page = page.0 }) page.1) >>= λ first. each entry_at ws first.1 >>= λ others. Passes (first.0 ∷ others.0) others.1)
+    ≡ (j >>= λ p. other_entries w ws p.0 p.1)
+each_by w ws (Passes x mid) = refl
+each_by w ws (Faulty c mid) = refl
+
+each_stage : (w : ℕ) (ws i : List ℕ) → each entry_at (w ∷ ws) i ≡ stage (page_size w) (λ _. None) (other_entries w ws) i
+unfolding each
+each_stage w ws i =
+    ap (λ j. (j >>= λ page. Passes (record { pfn = word_pfn w; type = type_in_word w; page = page.0 }) page.1) >>= λ first. each entry_at ws first.1 >>= λ others. Passes (first.0 ∷ others.0) others.1) (page_by (word_has_data w) i)
+    ∙ each_by w ws (part Truncated (page_size w) i)
+
+-- a page fails behind others
+pages_down : (ws pages : List ℕ) (w : ℕ) (left : List ℕ) (c : Cause) (rest : List ℕ) → PagesTo ws pages w → one_part (Page w) left ≡ Faulty c rest → each entry_at ws (pages ++ left) ≡ Faulty c rest
+pages_down _ _ _ left c rest (next_page w ws) h = each_stage w ws left ∙ stage_faulty (page_size w) (λ _. None) (other_entries w ws) left c rest h
+pages_down _ _ _ left c rest (one_page v ws page pages w f before) h =
+    ap (each entry_at (v ∷ ws)) (append_assoc page pages left)
+    ∙ each_stage v ws (page ++ (pages ++ left))
+    ∙ stage_passes (page_size v) (λ _. None) (other_entries v ws) page (pages ++ left) f.size refl
+    ∙ ap (λ j. j >>= λ others. Passes (entry_of v page ∷ others.0) others.1) (pages_down ws pages w left c rest before h)
+
+abbrev NextPage : List ℕ → List ℕ → StreamPart → Type 0
+NextPage ws pages p = (word : ℕ) × PagesTo ws pages word × (p ≡ Page word)
+
+pages_up : (ws i : List ℕ) (c : Cause) (rest : List ℕ) → each entry_at ws i ≡ Faulty c rest → Found (NextPage ws) i c rest
+unfolding each
+pages_up [] i c rest h = passes_not [] i c rest h
+pages_up (w ∷ ws) i c rest h = elim (stage_cases (page_size w) (λ _. None) (other_entries w ws) i c rest (sym (each_stage w ws i) ∙ h)) [
+  | inl e ↦ record { front = []; left = i; part_is = Page w; whole = refl; behind = (w, next_page w ws, refl); fails = e }
+  | inr a ↦ elim (bind_cases (each entry_at ws a.mid) _ c rest a.after) [
+    | inl q ↦ found_behind (NextPage ws) (NextPage (w ∷ ws)) a.bytes a.mid i c rest a.whole (λ b p to. (to.0, one_page w ws a.bytes b to.0 (faultless (Page w) a.bytes a.size refl) to.1, to.2)) (pages_up ws a.mid c rest q)
+    | inr q ↦ passes_not _ q.1 c rest q.3
+  ]
+]
+
+-- ---- a PAGE_DATA body
+
+module _ (kind : Kind) (top len : ℕ) where
+  abbrev count_fault : List ℕ → Option Cause
+  count_fault b = fault_of_count len (le32 b 0)
+
+  abbrev behind_count : List ℕ → List ℕ → Judged Cause (List Entry)
+  behind_count b r = words_at (le32 b 0) r >>= behind_words kind top len
+
+  abbrev words_fault : ℕ → List ℕ → Option Cause
+  words_fault n b = fault_of_words kind top (words n b)
+
+  abbrev behind_good : List ℕ → List ℕ → Judged Cause (List Entry)
+  behind_good ws r = tried (fault_of_data len ws) r >>= λ _. each entry_at ws r
+
+  abbrev behind_bytes : ℕ → List ℕ → List ℕ → Judged Cause (List Entry)
+  behind_bytes n b r = behind_good (words n b) r
+
+  words_stage : (n : ℕ) (i : List ℕ) → (words_at n i >>= behind_words kind top len) ≡ stage (8 * n) (words_fault n) (behind_bytes n) i
+  words_stage n i = words_by (part Truncated (8 * n) i)
+    where
+      words_by : (j : Judged Cause (List ℕ)) → ((j >>= λ b. Passes (words n b.0) b.1) >>= behind_words kind top len) ≡ (j >>= λ p. tried (words_fault n p.0) p.1 >>= λ _. behind_bytes n p.0 p.1)
+      words_by (Passes x mid) = refl
+      words_by (Faulty c mid) = refl
+
+  -- behind the count, and behind the words
+  front_goes : (front mid : List ℕ) → IsFaultless (PagesFront len) front → entries_at kind top len (front ++ mid) ≡ stage (8 * le32 front 0) (words_fault (le32 front 0)) (behind_bytes (le32 front 0)) mid
+  front_goes front mid f = stage_passes 8 count_fault behind_count front mid f.size (fine (PagesFront len) front f) ∙ words_stage (le32 front 0) mid
+
+  words_go : (front ws mid : List ℕ) → IsFaultless (PagesFront len) front → IsFaultless (PagesWords kind top (le32 front 0)) ws → entries_at kind top len (front ++ (ws ++ mid)) ≡ behind_good (words (le32 front 0) ws) mid
+  words_go front ws mid f w =
+      front_goes front (ws ++ mid) f ∙ stage_passes (8 * le32 front 0) (words_fault (le32 front 0)) (behind_bytes (le32 front 0)) ws mid w.size (fine (PagesWords kind top (le32 front 0)) ws w)
+
+  entries_down : (front : List ℕ) (p : StreamPart) (left : List ℕ) (c : Cause) (rest : List ℕ) → InPages kind top len front p → one_part p left ≡ Faulty c rest → entries_at kind top len (front ++ left) ≡ Faulty c rest
+  entries_down _ _ left c rest at_front h = stage_faulty 8 count_fault behind_count left c rest h
+  entries_down _ _ left c rest (at_words front a) h =
+      front_goes front left a ∙ stage_faulty (8 * le32 front 0) (words_fault (le32 front 0)) (behind_bytes (le32 front 0)) left c rest h
+  entries_down _ _ left c rest (at_length front ws a w) h =
+      let l = words (le32 front 0) ws in
+      ap (entries_at kind top len) (append_assoc front ws left) ∙ words_go front ws left a w
+      ∙ then_faulty (tried (fault_of_data len l) left) (λ _. each entry_at l left) c rest (sym (none_taken (λ _. fault_of_data len l) left) ∙ h)
+  entries_down _ _ left c rest (at_page front ws pages word a w l to) h =
+      ap (entries_at kind top len) (append_assoc front (ws ++ pages) left ∙ ap (λ k. front ++ k) (append_assoc ws pages left)) ∙ words_go front ws (pages ++ left) a w
+      ∙ tried_none (fault_of_data len (words (le32 front 0) ws)) (pages ++ left) _ (fine (PagesLength len (words (le32 front 0) ws)) [] l)
+      ∙ pages_down (words (le32 front 0) ws) pages word left c rest to h
+
+  entries_up : (i : List ℕ) (c : Cause) (rest : List ℕ) → entries_at kind top len i ≡ Faulty c rest → Found (InPages kind top len) i c rest
+  entries_up i c rest h = elim (stage_cases 8 count_fault behind_count i c rest h) [
+    | inl e ↦ record { front = []; left = i; part_is = PagesFront len; whole = refl; behind = at_front; fails = e }
+    | inr a ↦
+        let n = le32 a.bytes 0 in
+        let front = faultless (PagesFront len) a.bytes a.size a.none in
+        elim (stage_cases (8 * n) (words_fault n) (behind_bytes n) a.mid c rest (sym (words_stage n a.mid) ∙ a.after)) [
+          | inl e ↦ record { front = a.bytes; left = a.mid; part_is = PagesWords kind top n; whole = a.whole; behind = at_words a.bytes front; fails = e }
+          | inr b ↦
+              let ws = words n b.bytes in
+              let good = faultless (PagesWords kind top n) b.bytes b.size b.none in
+              let all : i ≡ (a.bytes ++ b.bytes) ++ b.mid = a.whole ∙ ap (λ l. a.bytes ++ l) b.whole ∙ sym (append_assoc a.bytes b.bytes b.mid) in
+              elim (bind_cases (tried (fault_of_data len ws) b.mid) (λ _. each entry_at ws b.mid) c rest b.after) [
+                | inl e ↦ record { front = a.bytes ++ b.bytes; left = b.mid; part_is = PagesLength len ws; whole = all; behind = at_length a.bytes b.bytes front good; fails = none_taken (λ _. fault_of_data len ws) b.mid ∙ e }
+                | inr e ↦
+                    let none = (tried_passes (fault_of_data len ws) b.mid e.1 e.0 e.2).0 in
+                    found_behind (NextPage ws) (InPages kind top len) (a.bytes ++ b.bytes) b.mid i c rest all
+                    (λ pages p to. subst (λ q. InPages kind top len ((a.bytes ++ b.bytes) ++ pages) q) (sym to.2) (subst (λ l. InPages kind top len l (Page to.0)) (sym (append_assoc a.bytes b.bytes pages))
+                    (at_page a.bytes b.bytes pages to.0 front good (faultless (PagesLength len ws) [] refl none) to.1)))
+                    (pages_up ws b.mid c rest e.3)
+              ]
+        ]
+  ]
+
+-- ---- a body
+
+abbrev says_parts : PartCode → List ℕ → List ℕ → Judged Cause Content
+says_parts code b r = Passes (Sets code (parts_of_body code b)) r
+
+-- bodies of which the head asked all that is asked
+abbrev IsQuiet : PartCode → ℕ → Type 0
+IsQuiet code len = (body : List ℕ) → length body ≡ len → fault_of_body code body ≡ None
+
+quiet_tsc : (len : ℕ) → nat_eq len 24 ≡ true → IsQuiet codes.Tsc len
+quiet_tsc len is body size = rw (size, is) refl
+
+quiet_leaves : (len : ℕ) → (nat_eq (len % 24) 0 && nat_le len (2 ^ 16 * 24)) ≡ true → IsQuiet codes.CpuidLeaf len
+quiet_leaves len is body size = whole_leaves body (ap (λ n. n % 24) size ∙ eqb-true _ _ (both_true _ _ is).0)
+
+quiet_msrs : (len : ℕ) → (nat_eq (len % 16) 0 && nat_le len (2 ^ 16 * 16)) ≡ true → IsQuiet codes.Msr len
+quiet_msrs len is body size = whole_msrs body (ap (λ n. n % 16) size ∙ eqb-true _ _ (both_true _ _ is).0)
+
+-- a type of PV guests alone is read in no stream so far
+only_pv : {X : Type 0} (this : RecordType) (kind : Kind) → is_built kind (type_number this) ≡ true → (record_row_of this).supported ≡ true → (record_row_of this).of_kind Hvm ≡ false → (record_row_of this).of_kind kind ≡ true → X
+only_pv this Pv built s none k = absurd (no_pv this built s)
+only_pv this Hvm built s none k = absurd (no_false (sym none ∙ k))
+
+module _ (kind : Kind) (top len : ℕ) where
+  body_down : (type : ℕ) (front : List ℕ) (p : StreamPart) (left : List ℕ) (c : Cause) (rest : List ℕ) → InBody kind top len type front p → one_part p left ≡ Faulty c rest → body_at kind top type len (front ++ left) ≡ Faulty c rest
+  body_down _ _ _ left c rest (in_pages front p w) h = then_faulty (entries_at kind top len (front ++ left)) (λ es. Passes (Frames es.0) es.1) c rest (entries_down kind top len front p left c rest w h)
+  body_down _ _ _ left c rest tsc h = by_plain (λ p. tried (fault_of_body codes.Tsc p.0) p.1 >>= λ _. says_parts codes.Tsc p.0 p.1) (part Truncated len left) c rest h
+  body_down _ _ _ left c rest context h = stage_faulty len (fault_of_body codes.HvmContext) (says_parts codes.HvmContext) left c rest h
+  body_down _ _ _ left c rest params h = stage_faulty len (fault_of_body codes.HvmParam) (says_parts codes.HvmParam) left c rest h
+  body_down _ _ _ left c rest leaves h = by_plain (λ p. tried (fault_of_body codes.CpuidLeaf p.0) p.1 >>= λ _. says_parts codes.CpuidLeaf p.0 p.1) (part Truncated len left) c rest h
+  body_down _ _ _ left c rest msrs h = by_plain (λ p. tried (fault_of_body codes.Msr p.0) p.1 >>= λ _. says_parts codes.Msr p.0 p.1) (part Truncated len left) c rest h
+  body_down _ _ _ left c rest (optional type above) h = optional_at kind top type len left above ∙ by_plain (λ p. Passes Nothing p.1) (part Truncated len left) c rest h
+
+  abbrev Fault : ℕ → List ℕ → Cause → List ℕ → Type 0
+  Fault type i c rest = Found (InBody kind top len type) i c rest
+
+  module _ (i : List ℕ) (c : Cause) (rest : List ℕ) where
+    -- a body that is one part
+    one_up : (type : ℕ) (p : StreamPart) (code : PartCode) → InBody kind top len type [] p → (trial len (fault_of_body code) i ≡ Faulty c rest → one_part p i ≡ Faulty c rest) → sets_at code len i ≡ Faulty c rest → Fault type i c rest
+    one_up type p code is same h = elim (stage_cases len (fault_of_body code) (says_parts code) i c rest h) [
+      | inl e ↦ record { front = []; left = i; part_is = p; whole = refl; behind = is; fails = same e }
+      | inr a ↦ passes_not (Sets code (parts_of_body code a.bytes)) a.mid c rest a.after
+    ]
+
+    quiet_up : (type : ℕ) (code : PartCode) → InBody kind top len type [] (OtherBody len) → IsQuiet code len → sets_at code len i ≡ Faulty c rest → Fault type i c rest
+    quiet_up type code is quiet h = one_up type (OtherBody len) code is (λ e. untried (part Truncated len i) refl e) h
+      where
+        untried : (j : Judged Cause (List ℕ)) → part Truncated len i ≡ j → (j >>= λ p. tried (fault_of_body code p.0) p.1) ≡ Faulty c rest → (j >>= λ p. tried None p.1) ≡ Faulty c rest
+        untried (Faulty d mid) is h = let e = same_faulty d c mid rest h in rw (e.0, e.1) refl
+        untried (Passes x mid) is h = ap (λ o. tried o mid) (sym (quiet x (part_passes Truncated len i x mid is).1)) ∙ h
+
+    pages_of : entries_at kind top len i ≡ Faulty c rest → Fault 1 i c rest
+    pages_of h = found_behind (InPages kind top len) (InBody kind top len 1) [] i i c rest refl in_pages (entries_up kind top len i c rest h)
+
+    this_up : (this : RecordType) → (record_row_of this).allows len ≡ true → is_built kind (type_number this) ≡ true → (record_row_of this).supported ≡ true → (record_row_of this).of_kind kind ≡ true → typed_at kind top (Some this) len i ≡ Faulty c rest → Fault (type_number this) i c rest
+    this_up PageData allowed built s k h = elim (bind_cases (entries_at kind top len i) (λ es. Passes (Frames es.0) es.1) c rest h) [ inl e ↦ pages_of e | inr e ↦ passes_not (Frames e.0) e.1 c rest e.3 ]
+    this_up X86TscInfo allowed built s k h = quiet_up 8 codes.Tsc tsc (quiet_tsc len allowed) h
+    this_up HvmContext allowed built s k h = one_up 9 (ContextBody len) codes.HvmContext context (λ e. e) h
+    this_up HvmParams allowed built s k h = one_up 0xA (ParamsBody len) codes.HvmParam params (λ e. e) h
+    this_up X86CpuidPolicy allowed built s k h = quiet_up 0x11 codes.CpuidLeaf leaves (quiet_leaves len allowed) h
+    this_up X86MsrPolicy allowed built s k h = quiet_up 0x12 codes.Msr msrs (quiet_msrs len allowed) h
+    this_up End allowed built s k h = passes_not Nothing i c rest h
+    this_up StaticDataEnd allowed built s k h = passes_not Nothing i c rest h
+    this_up Toolstack allowed built s k h = passes_not Nothing i c rest h
+    this_up Verify allowed built s k h = passes_not Nothing i c rest h
+    this_up Checkpoint allowed built s k h = passes_not Nothing i c rest h
+    this_up CheckpointDirtyPfnList allowed built s k h = passes_not Nothing i c rest h
+    this_up this allowed built s k h = only_pv this kind built s refl k
+
+    body_up : (version : ℕ) (types : List ℕ) (type : ℕ) → is_built kind type ≡ true → IsInOrder version kind types type → type_allows (type_of_number type) len ≡ true → body_at kind top type len i ≡ Faulty c rest → Fault type i c rest
+    body_up version types type built (order.optional above) allowed h =
+        record { front = []; left = i; part_is = OtherBody len; whole = refl; behind = optional type above; fails = plain_by (λ _. Nothing) (part Truncated len i) c rest (sym (optional_at kind top type len i above) ∙ h) }
+    body_up version types type built (order.ordered this is s k keeps) allowed h =
+        let found : type_of_number type ≡ Some this = ap type_of_number is ∙ numbers_are_inverse.type_of this in
+        subst (λ t. Fault t i c rest) (sym is)
+        (this_up this (subst (λ o. type_allows o len ≡ true) found allowed) (subst (λ t. is_built kind t ≡ true) is built) s k (sym (type_at kind top this len i) ∙ subst (λ t. body_at kind top t len i ≡ Faulty c rest) is h))
+
+-- ---- a record
+
+-- the padding of a length is the least that makes a multiple of 8
+is_padding : (len : ℕ) → IsLeastPadding len (padding_len len)
+is_padding len = record { fills = ((len + 7) / 8, omega arith); least = λ fewer (k, is). omega (arith, is) }
+
+padding_is : (len n : ℕ) → IsLeastPadding len n → n ≡ padding_len len
+padding_is len n p =
+    let some = is_padding len in
+    omega (arith, p.least (padding_len len) some.fills, some.least n p.fills)
+
+module _ (b : Before) where
+  abbrev kind : Kind
+  kind = b.opening.kind
+
+  abbrev behind_it : List ℕ → List ℕ → Judged Cause StreamRecord
+  behind_it h r = behind_head kind b.top (h, r)
+
+  head_stage : (i : List ℕ) → record_at b i ≡ stage 8 (fault_of_head b) behind_it i
+  head_stage i = begins b i ∙ sym (assoc (fault_of_head b) behind_it (part Truncated 8 i))
+
+  pub head_goes : (head mid : List ℕ) → IsFaultless (Head b) head → record_at b (head ++ mid) ≡ behind_it head mid
+  head_goes head mid f = head_stage (head ++ mid) ∙ stage_passes 8 (fault_of_head b) behind_it head mid f.size (fine (Head b) head f)
+
+  -- a part fails behind others: so does the record
+  pub down : (front : List ℕ) (p : StreamPart) (left : List ℕ) (c : Cause) (rest : List ℕ) → Within b front p → one_part p left ≡ Faulty c rest → record_at b (front ++ left) ≡ Faulty c rest
+  unfolding behind_head behind_body
+  down _ _ left c rest at_head h = head_stage left ∙ stage_faulty 8 (fault_of_head b) behind_it left c rest h
+  down _ _ left c rest (in_body head front p f w) h =
+      ap (record_at b) (append_assoc head front left) ∙ head_goes head (front ++ left) f
+      ∙ then_faulty (body_at kind b.top (le32 head 0) (le32 head 4) (front ++ left)) (behind_body head) c rest (body_down kind b.top (le32 head 4) (le32 head 0) front p left c rest w h)
+  down _ _ left c rest (at_padding head body content n f size says pads) h =
+      ap (record_at b) (append_assoc head body left) ∙ head_goes head (body ++ left) f
+      ∙ then_passes (body_at kind b.top (le32 head 0) (le32 head 4) (body ++ left)) (behind_body head) content left _ (body_goes kind b.top (le32 head 0) (le32 head 4) body left content says size)
+      (by_plain (λ padding. Passes (record { type = le32 head 0; content = content }) padding.1) (part Truncated (padding_len (le32 head 4)) left) c rest (subst (λ m. one_part (Padding m) left ≡ Faulty c rest) (padding_is (le32 head 4) n pads) h))
+
+  -- a record fails: one of its parts does, and none before it
+  pub up : (i : List ℕ) (c : Cause) (rest : List ℕ) → record_at b i ≡ Faulty c rest → Found (Within b) i c rest
+  unfolding behind_head behind_body
+  up i c rest h = elim (stage_cases 8 (fault_of_head b) behind_it i c rest (sym (head_stage i) ∙ h)) [
+    | inl e ↦ record { front = []; left = i; part_is = Head b; whole = refl; behind = at_head; fails = e }
+    | inr a ↦
+        let head = a.bytes in
+        let type = le32 head 0 in
+        let len = le32 head 4 in
+        let f = faultless (Head b) head a.size a.none in
+        let fields = fields_fine b type len a.none in
+        elim (bind_cases (body_at kind b.top type len a.mid) (behind_body head) c rest a.after) [
+          | inl e ↦ found_behind (InBody kind b.top len type) (Within b) head a.mid i c rest a.whole (λ front p w. in_body head front p f w)
+              (body_up kind b.top len a.mid c rest b.opening.version b.types type fields.built fields.ordered fields.allowed e)
+          | inr e ↦
+              let s = body_says b.opening.version kind b.top b.types type len a.mid e.0 e.1 fields.built fields.ordered fields.allowed e.2 in
+              record {
+                front = head ++ s.body;
+                left = e.1;
+                part_is = Padding (padding_len len);
+                whole = a.whole ∙ ap (λ l. head ++ l) s.whole ∙ sym (append_assoc head s.body e.1);
+                behind = at_padding head s.body e.0 (padding_len len) f s.body_len s.says (is_padding len);
+                fails = plain_by (λ _. record { type = type; content = e.0 }) (part Truncated (padding_len len) e.1) c rest e.3;
+              }
+        ]
+  ]
+
+  -- ---- END
+
+  -- it has no body
+  pub end_passes : (head left : List ℕ) → IsFaultless (Head b) head → le32 head 0 ≡ 0 → record_at b (head ++ left) ≡ Passes end_record left
+  unfolding behind_head behind_body
+  end_passes head left f zero =
+      let len = le32 head 4 in
+      let none : len ≡ 0 = eqb-true len 0 (subst (λ t. type_allows (type_of_number t) len ≡ true) zero (fields_fine b (le32 head 0) len (fine (Head b) head f)).allowed) in
+      head_goes head left f
+      ∙ ap (λ t. body_at kind b.top t len left >>= λ body. part Truncated (padding_len len) body.1 >>= λ padding. Passes (record { type = t; content = body.0 }) padding.1) zero
+      ∙ ap (λ n. part Truncated (padding_len n) left >>= λ padding. Passes end_record padding.1) none
+      ∙ then_passes (part Truncated 0 left) (λ padding. Passes end_record padding.1) [] left _ (part_whole Truncated 0 [] left refl) refl
+
+  -- a record of its type that passes
+  pub record Ended (i : List ℕ) (r : StreamRecord) (mid : List ℕ) : Type 0 where
+    pub head : List ℕ
+    pub whole : i ≡ head ++ mid
+    pub faultless_head : IsFaultless (Head b) head
+    pub zero : le32 head 0 ≡ 0
+    pub is : r ≡ end_record
+
+  pub ended : (i : List ℕ) (r : StreamRecord) (mid : List ℕ) → record_at b i ≡ Passes r mid → r.type ≡ 0 → Ended i r mid
+  unfolding behind_head behind_body
+  ended i r mid h zero =
+      let a = both_pass (stage 8 (fault_of_head b) (λ x r. Passes x r) i) (λ p. behind_it p.0 p.1) r mid (sym (begins b i) ∙ h) in
+      let p = header_passes 8 (fault_of_head b) (λ l. l) i a.x a.mid a.first in
+      let head = p.bytes in
+      let f = faultless (Head b) head p.size p.fine in
+      let body = both_pass (body_at kind b.top (le32 head 0) (le32 head 4) a.mid) (behind_body head) r mid (ap (λ l. behind_it l a.mid) p.value ∙ a.second) in
+      let padding = both_pass (part Truncated (padding_len (le32 head 4)) body.mid) (λ padding. Passes (record { type = le32 head 0; content = body.x }) padding.1) r mid body.second in
+      let type_is : le32 head 0 ≡ 0 = ap (λ (q : StreamRecord). q.type) (same_passes _ _ _ _ padding.second).0 ∙ zero in
+      let same = same_passes _ _ _ _ (sym h ∙ ap (record_at b) p.whole ∙ end_passes head a.mid f type_is) in
+      record { head = head; whole = p.whole ∙ ap (λ l. head ++ l) (sym same.1); faultless_head = f; zero = type_is; is = same.0 }
+
+-- the whole guest behind it
+module _ (o : Opening) (records : List StreamRecord) where
+  abbrev guest : GuestOf
+  guest = sent o.kind (records ++ end_record ∷ [])
+
+  guest_fault : (head : List ℕ) → IsFaultless (Head (before o records)) head → le32 head 0 ≡ 0 → fault_of_guest guest ≡ first_fault (guest_rows guest)
+  guest_fault head f zero =
+      let fields = fields_fine (before o records) (le32 head 0) (le32 head 4) (fine (Head (before o records)) head f) in
+      hvm_fault guest (sent_kind o.kind (records ++ end_record ∷ []) ∙ ends_hvm o.kind (le32 head 0) zero fields.built)
+
+  pub next_down : (i : List ℕ) (c : Cause) (rest : List ℕ) → record_at (before o records) i ≡ Faulty c rest → next_at o records i ≡ Faulty c rest
+  next_down i c rest h = asks o records i ∙ then_faulty (record_at (before o records) i) (behind_record o records) c rest h
+
+  pub guest_down : (head left : List ℕ) (c : Cause) (rest : List ℕ) → IsFaultless (Head (before o records)) head → le32 head 0 ≡ 0 → one_part (WholeGuest guest) left ≡ Faulty c rest → next_at o records (head ++ left) ≡ Faulty c rest
+  unfolding behind_record
+  guest_down head left c rest f zero h =
+      asks o records (head ++ left)
+      ∙ then_passes (record_at (before o records) (head ++ left)) (behind_record o records) end_record left _ (end_passes (before o records) head left f zero)
+      (then_faulty (tried (fault_of_guest guest) left) (λ _. Passes end_record left) c rest (ap (λ x. tried x left) (guest_fault head f zero) ∙ sym (none_taken (λ _. first_fault (guest_rows guest)) left) ∙ h))
+
+  -- where a record that passes is END, and the guest is faulty
+  pub record GuestFault (i : List ℕ) (c : Cause) (rest : List ℕ) : Type 0 where
+    pub head : List ℕ
+    pub left : List ℕ
+    pub whole : i ≡ head ++ left
+    pub faultless_head : IsFaultless (Head (before o records)) head
+    pub zero : le32 head 0 ≡ 0
+    pub fails : one_part (WholeGuest guest) left ≡ Faulty c rest
+
+  guest_up : (i : List ℕ) (c : Cause) (rest : List ℕ) (r : StreamRecord) (mid : List ℕ) → record_at (before o records) i ≡ Passes r mid → tried (fault_at_end r.type (sent o.kind (records ++ r ∷ []))) mid ≡ Faulty c rest → GuestFault i c rest
+  guest_up i c rest r mid is h = by (nat_eq r.type 0) refl
+    where
+      by : (b : Bool) → nat_eq r.type 0 ≡ b → GuestFault i c rest
+      by true last =
+          let e = ended (before o records) i r mid is (eqb-true r.type 0 last) in
+          record {
+            head = e.head;
+            left = mid;
+            whole = e.whole;
+            faultless_head = e.faultless_head;
+            zero = e.zero;
+            fails = none_taken (λ _. first_fault (guest_rows guest)) mid ∙ ap (λ x. tried x mid) (sym (guest_fault e.head e.faultless_head e.zero))
+                ∙ subst (λ (q : StreamRecord). tried (fault_at_end q.type (sent o.kind (records ++ q ∷ []))) mid ≡ Faulty c rest) e.is h;
+          }
+      by false more = passes_not tt mid c rest (rw more at h)
+
+  pub next_up : (i : List ℕ) (c : Cause) (rest : List ℕ) → next_at o records i ≡ Faulty c rest → Found (Within (before o records)) i c rest ⊎ GuestFault i c rest
+  unfolding behind_record
+  next_up i c rest h = elim (bind_cases (record_at (before o records) i) (behind_record o records) c rest (sym (asks o records i) ∙ h)) [
+    | inl e ↦ inl (up (before o records) i c rest e)
+    | inr a ↦ elim (bind_cases (tried (fault_at_end a.0.type (sent o.kind (records ++ a.0 ∷ []))) a.1) (λ _. Passes a.0 a.1) c rest a.3) [
+      | inl e ↦ inr (guest_up i c rest a.0 a.1 a.2 e)
+      | inr e ↦ passes_not a.0 a.1 c rest e.3
+    ]
+  ]

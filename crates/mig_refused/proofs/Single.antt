@@ -1,0 +1,138 @@
+-- One part: what fails in it, and how judging goes on behind it.
+use Rattle.std.proofs.Common.{◌≡◌, ◌⊎◌, inl, inr, ℕ, List, [], ◌++◌, length, take, drop, Bool, true, false, cond, nat_lt, Option, Some, None, refl, sym, ap, subst, ◌∙◌, arith, take-append-drop, length-take-le, ltb-false}
+use Rattle.std.proofs.lemmas.Bool.{lt-ltb, ltb-true}
+use Rattle.mig_bytes.specs.Judged.{Judged, ◌>>=◌, part, tried}
+use Rattle.mig_bytes.specs.Judged.Judged.{Passes, Faulty}
+use Rattle.mig_bytes.proofs.Joins.{part_whole, then_passes, tried_none}
+use Rattle.mig_headers.specs.declared.fault.Cause.{Cause}
+use Rattle.mig_restore.proofs.Laws.{header_passes}
+use Rattle.mig_headers.specs.declared.fault.Cause.TheVariants.{Truncated}
+use Rattle.mig_refused.specs.Refusal.{IsTriedBefore, IsFirstCause, StreamPart, Stands, size_of, IsFaultless, Fails}
+use Rattle.mig_refused.specs.Refusal.Fails.{short, faulty}
+use Rattle.mig_refused.proofs.Least.{Least}
+use Rattle.mig_refused.proofs.Tables.{fault_in, part_least}
+
+-- ---- what is named is what is computed
+
+pub both_before : (j k : ℕ) (c d : Cause) → IsTriedBefore j d k c → IsTriedBefore k c j d → ⊥
+both_before j k c d (inl a) (inl b) = omega (arith, a, b)
+both_before j k c d (inl a) (inr b) = omega (arith, a, b.0)
+both_before j k c d (inr a) (inl b) = omega (arith, a.0, b)
+both_before j k c d (inr a) (inr b) = omega (arith, a.1, b.1)
+
+pub named_is : (Has : ℕ → Cause → Type 0) (f : Option Cause) (c : Cause) → Least Has f → IsFirstCause Has c → f ≡ Some c
+named_is Has None c p n = absurd (p.holds n.0 c n.1)
+named_is Has (Some d) c p n = elim (p.holds.2 n.0 c n.1) [
+  | inr e ↦ ap Some (sym e)
+  | inl before ↦ elim (n.2 p.holds.0 d p.holds.1) [ inr e ↦ ap Some e | inl after ↦ absurd (both_before p.holds.0 n.0 c d before after) ]
+]
+
+pub none_is : (Has : ℕ → Cause → Type 0) (f : Option Cause) → Least Has f → ((k : ℕ) (c : Cause) → Has k c → ⊥) → f ≡ None
+none_is Has None p never = refl
+none_is Has (Some d) p never = absurd (never p.holds.0 d p.holds.1)
+
+is_none : (Has : ℕ → Cause → Type 0) (f : Option Cause) → Least Has f → f ≡ None → (k : ℕ) (c : Cause) → Has k c → ⊥
+is_none Has f p e = (subst (Least Has) e p).holds
+
+is_named : (Has : ℕ → Cause → Type 0) (f : Option Cause) (c : Cause) → Least Has f → f ≡ Some c → IsFirstCause Has c
+is_named Has f c p e = (subst (Least Has) e p).holds
+
+pub fine : (p : StreamPart) (bytes : List ℕ) → IsFaultless p bytes → fault_in p bytes ≡ None
+fine p bytes is = none_is (Stands p bytes) (fault_in p bytes) (part_least p bytes) is.none
+
+pub faultless : (p : StreamPart) (bytes : List ℕ) → length bytes ≡ size_of p → fault_in p bytes ≡ None → IsFaultless p bytes
+faultless p bytes size e = record { size = size; none = is_none (Stands p bytes) (fault_in p bytes) (part_least p bytes) e }
+
+-- ---- one part judged
+
+abbrev pub trial : ℕ → (List ℕ → Option Cause) → List ℕ → Judged Cause (Unit {0})
+trial n f input = part Truncated n input >>= λ p. tried (f p.0) p.1
+
+abbrev pub one_part : StreamPart → List ℕ → Judged Cause (Unit {0})
+one_part p input = trial (size_of p) (fault_in p) input
+
+-- a part, and then what follows it
+abbrev pub stage : {X : Type 0} → ℕ → (List ℕ → Option Cause) → (List ℕ → List ℕ → Judged Cause X) → List ℕ → Judged Cause X
+stage n f next input = part Truncated n input >>= λ p. tried (f p.0) p.1 >>= λ _. next p.0 p.1
+
+pub passes_not : {C X Y : Type 0} (x : X) (i : List ℕ) (c : C) (rest : List ℕ) → ◌≡◌ {A = Judged C X} (Passes x i) (Faulty c rest) → Y
+passes_not {C} {X} x i c rest h = absurd (wrong h)
+  where
+    wrong : ◌≡◌ {A = Judged C X} (Passes x i) (Faulty c rest) → ⊥
+    wrong q = cc
+
+pub same_faulty : {C X : Type 0} (c d : C) (i j : List ℕ) → ◌≡◌ {A = Judged C X} (Faulty c i) (Faulty d j) → (c ≡ d) × (i ≡ j)
+same_faulty c d i j h = (cc, cc)
+
+-- a judgement that is faulty stays so with what follows it
+pub then_faulty : {C X Y : Type 0} (j : Judged C X) (k : X × List ℕ → Judged C Y) (c : C) (rest : List ℕ) → j ≡ Faulty c rest → (j >>= k) ≡ Faulty c rest
+then_faulty j k c rest h = ap (λ i. i >>= k) h
+
+-- of two judgements the first is faulty, or it passes and the second is
+pub bind_cases : {C X Y : Type 0} (j : Judged C X) (k : X × List ℕ → Judged C Y) (c : C) (rest : List ℕ) → (j >>= k) ≡ Faulty c rest
+    → (j ≡ Faulty c rest) ⊎ ((x : X) × (mid : List ℕ) × (j ≡ Passes x mid) × (k (x, mid) ≡ Faulty c rest))
+bind_cases (Passes x mid) k c rest h = inr (x, mid, refl, h)
+bind_cases (Faulty d mid) k c rest h = let e = same_faulty d c mid rest h in inl (rw (e.0, e.1) refl)
+
+pub tried_faulty : (g : Option Cause) (mid : List ℕ) (c : Cause) (rest : List ℕ) → tried g mid ≡ Faulty c rest → (g ≡ Some c) × (mid ≡ rest)
+tried_faulty None mid c rest h = passes_not tt mid c rest h
+tried_faulty (Some d) mid c rest h = let e = same_faulty d c mid rest h in (ap Some e.0, e.1)
+
+-- the causes of so many bytes tried in them alone
+pub assoc : {X : Type 0} (f : List ℕ → Option Cause) (next : List ℕ → List ℕ → Judged Cause X) (j : Judged Cause (List ℕ)) → (j >>= λ p. tried (f p.0) p.1 >>= λ _. next p.0 p.1) ≡ ((j >>= λ p. tried (f p.0) p.1 >>= λ _. Passes p.0 p.1) >>= λ p. next p.0 p.1)
+assoc f next (Faulty d mid) = refl
+assoc f next (Passes x mid) = elim (f x) as (λ g. (tried g mid >>= λ _. next x mid) ≡ ((tried g mid >>= λ _. Passes x mid) >>= λ p. next p.0 p.1)) [ None ↦ refl | Some d ↦ refl ]
+
+trial_cases : (f : List ℕ → Option Cause) (j : Judged Cause (List ℕ)) (c : Cause) (rest : List ℕ) → (j >>= λ p. tried (f p.0) p.1 >>= λ _. Passes p.0 p.1) ≡ Faulty c rest → (j >>= λ p. tried (f p.0) p.1) ≡ Faulty c rest
+trial_cases f (Faulty d mid) c rest h = let e = same_faulty d c mid rest h in rw (e.0, e.1) refl
+trial_cases f (Passes x mid) c rest h = elim (bind_cases (tried (f x) mid) (λ _. Passes x mid) c rest h) [ inl e ↦ e | inr e ↦ passes_not x mid c rest e.3 ]
+
+module _ {X : Type 0} (n : ℕ) (f : List ℕ → Option Cause) (next : List ℕ → List ℕ → Judged Cause X) where
+  pub stage_faulty : (i : List ℕ) (c : Cause) (rest : List ℕ) → trial n f i ≡ Faulty c rest → stage n f next i ≡ Faulty c rest
+  stage_faulty i c rest h = faulty_by (part Truncated n i) h
+    where
+      faulty_by : (j : Judged Cause (List ℕ)) → (j >>= λ p. tried (f p.0) p.1) ≡ Faulty c rest → (j >>= λ p. tried (f p.0) p.1 >>= λ _. next p.0 p.1) ≡ Faulty c rest
+      faulty_by (Passes x mid) h = then_faulty (tried (f x) mid) (λ _. next x mid) c rest h
+      faulty_by (Faulty d mid) h = let e = same_faulty d c mid rest h in rw (e.0, e.1) refl
+
+  pub stage_passes : (bytes rest : List ℕ) → length bytes ≡ n → f bytes ≡ None → stage n f next (bytes ++ rest) ≡ next bytes rest
+  stage_passes bytes rest size none = then_passes (part Truncated n (bytes ++ rest)) _ bytes rest _ (part_whole Truncated n bytes rest size) (tried_none (f bytes) rest _ none)
+
+  pub record Goes (i : List ℕ) (c : Cause) (rest : List ℕ) : Type 0 where
+    pub bytes : List ℕ
+    pub mid : List ℕ
+    pub whole : i ≡ bytes ++ mid
+    pub size : length bytes ≡ n
+    pub none : f bytes ≡ None
+    pub after : next bytes mid ≡ Faulty c rest
+
+  pub stage_cases : (i : List ℕ) (c : Cause) (rest : List ℕ) → stage n f next i ≡ Faulty c rest → (trial n f i ≡ Faulty c rest) ⊎ Goes i c rest
+  stage_cases i c rest h = elim (bind_cases (stage n f (λ x r. Passes x r) i) (λ p. next p.0 p.1) c rest (sym (assoc f next (part Truncated n i)) ∙ h)) [
+    | inl e ↦ inl (trial_cases f (part Truncated n i) c rest e)
+    | inr a ↦
+        let p = header_passes n f (λ l. l) i a.0 a.1 a.2 in
+        inr (record { bytes = p.bytes; mid = a.1; whole = p.whole; size = p.size; none = p.fine; after = ap (λ l. next l a.1) p.value ∙ a.3 })
+  ]
+
+-- ---- a part that fails
+
+pub fails_is : (p : StreamPart) (left : List ℕ) (c : Cause) (rest : List ℕ) → Fails p left c rest → one_part p left ≡ Faulty c rest
+fails_is p left _ _ (short less) = rw (lt-ltb (length left) (size_of p) less) refl
+fails_is p left _ _ (faulty bytes rest c whole size named) =
+    let some : fault_in p bytes ≡ Some c = named_is (Stands p bytes) (fault_in p bytes) c (part_least p bytes) named in
+    ap (one_part p) whole ∙ then_passes (part Truncated (size_of p) (bytes ++ rest)) _ bytes rest _ (part_whole Truncated (size_of p) bytes rest size) (ap (λ g. tried g rest) some)
+
+module _ (p : StreamPart) (left : List ℕ) where
+  fails_tried : (bytes mid : List ℕ) (g : Option Cause) (c : Cause) (rest : List ℕ) → left ≡ bytes ++ mid → length bytes ≡ size_of p → fault_in p bytes ≡ g → tried g mid ≡ Faulty c rest → Fails p left c rest
+  fails_tried bytes mid None c rest whole size is h = passes_not tt mid c rest h
+  fails_tried bytes mid (Some d) c rest whole size is h =
+      let e = same_faulty d c mid rest h in
+      faulty bytes rest c (whole ∙ ap (λ l. bytes ++ l) e.1) size (is_named (Stands p bytes) (fault_in p bytes) c (part_least p bytes) (is ∙ ap Some e.0))
+
+  fails_by : (b : Bool) (c : Cause) (rest : List ℕ) → nat_lt (length left) (size_of p) ≡ b → (cond b (Faulty Truncated []) (Passes (take (size_of p) left) (drop (size_of p) left)) >>= λ q. tried (fault_in p q.0) q.1) ≡ Faulty c rest → Fails p left c rest
+  fails_by true c rest is h = let e = same_faulty Truncated c [] rest h in subst (λ (d : Cause). Fails p left d rest) e.0 (subst (λ l. Fails p left Truncated l) e.1 (short (ltb-true _ _ is)))
+  fails_by false c rest is h =
+      fails_tried (take (size_of p) left) (drop (size_of p) left) (fault_in p (take (size_of p) left)) c rest (sym (take-append-drop (size_of p) left)) (length-take-le (size_of p) left (ltb-false (length left) (size_of p) is)) refl h
+
+  pub is_fails : (c : Cause) (rest : List ℕ) → one_part p left ≡ Faulty c rest → Fails p left c rest
+  is_fails c rest h = fails_by (nat_lt (length left) (size_of p)) c rest refl h
