@@ -1,7 +1,7 @@
 -- The canonical bodies of a well formed guest's parts of a code say these parts, in a length that their record's type has: a
 -- lemma for each shape.
-use Rattle.std.proofs.Common.{◌≡◌, ℕ, ◌+◌, ◌*◌, ◌-◌, ◌%◌, ◌<◌, ◌≤◌, ◌^◌, Bool, true, false, not, List, [], ◌∷◌, ◌++◌, length, take, map, replicate, nat_eq, nat_le, nat_lt, None, Some, Ok, refl, sym, ap, subst, ◌∙◌, arith, length-append, append_assoc, append-nil}
-use Rattle.std.specs.Prelude.{⊤, ◌==◌, ◌&&◌, ◌||◌}
+use Rattle.std.proofs.Common.{◌≡◌, ℕ, ◌+◌, ◌*◌, ◌-◌, ◌%◌, ◌<◌, ◌≤◌, ◌^◌, Bool, true, false, not, List, [], ◌∷◌, ◌++◌, length, map, replicate, nat_eq, nat_le, nat_lt, None, Some, refl, sym, ap, subst, ◌∙◌, arith, length-append, append_assoc, append-nil}
+use Rattle.std.specs.Prelude.{◌==◌, ◌&&◌, ◌||◌}
 use Rattle.std.specs.List.{All}
 use Rattle.std.proofs.lemmas.Bool.{eqb-true, eq-eqb, le-leb, leb-true, ltb-true}
 use Rattle.std.proofs.lemmas.Grind.{common_steps}
@@ -22,14 +22,14 @@ use Rattle.mig_guest.specs.declared.part_code.PartCode.TheVariants.{P2mFrames, V
 use Rattle.mig_guest.specs.declared.part_key.PartKey.{PartKey}
 use Rattle.mig_guest.specs.Guests.{GuestOf}
 use Rattle.mig_guest.specs.PartCodes.{row_of, code_number, small_number}
-use Rattle.mig_guest.specs.Formed.{IsFormed, IsContent, IsCut, gdt_ents, width_of}
+use Rattle.mig_guest.specs.Formed.{IsFormed, IsCut, gdt_ents, width_of}
 use Rattle.mig_guest.proofs.CodeParts.{IsHeld, parts_are, few_params}
 use Rattle.mig_guest.proofs.PartRows.{IsOf, of_part}
 use Rattle.mig_guest.specs.Parts.{Part}
 use Rattle.mig_bodies.specs.declared.layout.Layout.{Layout}
 use Rattle.mig_bodies.specs.declared.shape.Shape.TheVariants.{Table}
-use Rattle.mig_bodies.specs.Layouts.{layout, fault_of_key, spelled_key, AreTableEntries, IsTableFront, IsTable, AreWidths, entries_text, front_text, table_text}
-use Rattle.mig_bodies.specs.Shapes.{shape_of, of_vcpu, IsShaped, fault_of_content, sole_key, named_parts, IsSingle, IsNamed, IsChain, IsBody, HasBodyLength, IsRecordBody, SayAll, bodies_by_shape, contents_by_shape, parts_at, CanonicalBodiesSay}
+use Rattle.mig_bodies.specs.Layouts.{layout, fault_of_key, spelled_key, AreTableEntries, IsTableFront, IsTable, entries_text, front_text, table_text}
+use Rattle.mig_bodies.specs.Shapes.{shape_of, of_vcpu, IsShaped, fault_of_content, sole_key, named_parts, IsSingle, IsNamed, IsChain, HasBodyLength, IsRecordBody, SayAll, bodies_by_shape, contents_by_shape, parts_at, CanonicalBodiesSay}
 use Rattle.mig_bodies.proofs.Spelled.{scanned_chain}
 use Rattle.mig_bodies.proofs.TableSpelled.{table_len}
 use Rattle.mig_bodies.proofs.Rows.{all_rows}

@@ -1,13 +1,11 @@
 -- What a body says are parts that a guest of its kind may have, a lemma for each shape; and so reading it keeps a guest well
 -- formed.
-use Rattle.std.proofs.Common.{◌≡◌, ℕ, zero, ◌+◌, ◌*◌, ◌-◌, ◌/◌, ◌%◌, ◌<◌, ◌≤◌, ◌^◌, Bool, true, false, not, List, [], ◌∷◌, ◌++◌, length, take, drop, replicate, nat_eq, nat_le, nat_lt, None, Some, Ok, refl, sym, ap, subst, ◌∙◌, arith, length-append, length-take-le}
-use Rattle.std.specs.Prelude.{⊤, ◌==◌, ◌&&◌, ◌||◌}
+use Rattle.std.proofs.Common.{◌≡◌, ℕ, ◌+◌, ◌*◌, ◌-◌, ◌/◌, ◌%◌, ◌≤◌, ◌^◌, Bool, true, false, not, List, [], ◌∷◌, ◌++◌, length, take, replicate, nat_eq, nat_le, nat_lt, None, Ok, refl, sym, ap, subst, ◌∙◌, arith, length-append, length-take-le}
+use Rattle.std.specs.Prelude.{◌==◌, ◌&&◌, ◌||◌}
 use Rattle.std.specs.List.{AllByRecursion}
 use Rattle.std.proofs.lemmas.Bool.{eqb-true, leb-true}
 use Rattle.std.proofs.lemmas.List.{take_at}
 use Rattle.std.proofs.lemmas.Grind.{common_steps}
-use Rattle.byteorder.specs.Endian.{little_number}
-use Rattle.mig_headers.specs.RecordTypes.{vcpu_context, vcpu_entries, at_least, entries}
 use Rattle.mig_headers.specs.Contexts.{scan, cut_at}
 use Rattle.mig_headers.specs.Rows.{first_fault}
 use Rattle.mig_headers.specs.declared.fault.Cause.{Cause}
@@ -18,16 +16,15 @@ use Rattle.mig_headers.proofs.FirstFaults.{rows_fine}
 use Rattle.mig_guest.specs.declared.part_code.PartCode.{PartCode}
 use Rattle.mig_guest.specs.declared.part_code.PartCode.TheVariants.{P2mFrames, VcpuBasic, VcpuExtended, VcpuXsave, SharedInfo, Tsc, HvmContext, HvmParam, VcpuMsrs, CpuidLeaf, Msr, EmulatorPairs, EmulatorContext}
 use Rattle.mig_guest.specs.declared.part_key.PartKey.{PartKey}
-use Rattle.mig_guest.specs.Guests.{GuestOf}
 use Rattle.mig_guest.specs.PartCodes.{row_of, code_number, small_number}
 use Rattle.mig_guest.specs.Parts.{Part, PartMap}
 use Rattle.mig_guest.specs.Formed.{IsPart, IsFormed, IsContent, IsCut, AreParts, gdt_ents, width_of, is_policy, is_emulator_code, HasNoEmulators}
 use Rattle.mig_guest.proofs.Kept.{parts_keep, policies_keep, parts_plain, policies_plain}
 use Rattle.mig_bodies.specs.declared.layout.Layout.{Layout}
-use Rattle.mig_bodies.specs.Layouts.{layout, fault_of_key, spelled_key, entry_width, front_width, entry_count, IsSmallKey, AreTableEntries, IsTable}
+use Rattle.mig_bodies.specs.Layouts.{layout, fault_of_key, spelled_key, IsSmallKey, IsTable}
 use Rattle.mig_bodies.specs.Shapes.{shape_of, has_shape, parts_of_body, fault_of_content, named_parts, IsSingle, IsNamed, IsChain, IsBody, HasBodyLength, BodiesSayParts, set_parts, BodiesKeepFormed}
 use Rattle.mig_bodies.proofs.Spelled.{bodies_are_spelled, chain_scanned}
-use Rattle.mig_bodies.proofs.TableSpelled.{entries_len, table_whole}
+use Rattle.mig_bodies.proofs.TableSpelled.{entries_len}
 use Rattle.mig_bodies.proofs.Reading.{table_all}
 
 -- ---- keys and lengths of the rows

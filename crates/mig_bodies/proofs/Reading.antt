@@ -1,11 +1,11 @@
 -- Entries one after another, as a loop goes over them: the first, and the others behind it.
-use Rattle.std.proofs.Common.{◌≡◌, ◌≢◌, ◌<◌, ◌≤◌, ℕ, zero, suc, ◌+◌, ◌*◌, ◌-◌, ◌^◌, Bool, true, false, List, [], ◌∷◌, length, drop, not, nat_eq, Option, Some, None, Result, Ok, Err, refl, sym, ap, subst, ◌∙◌, arith, length-drop}
+use Rattle.std.proofs.Common.{◌≡◌, ◌≢◌, ◌<◌, ◌≤◌, ℕ, zero, suc, ◌+◌, ◌*◌, ◌-◌, ◌^◌, Bool, true, false, List, [], ◌∷◌, length, drop, Some, None, Result, Ok, Err, refl, sym, ap, subst, ◌∙◌, arith, length-drop}
 use Rattle.std.proofs.Math.Nat.{mul-suc, pow-le-pow_right}
 use Rattle.std.proofs.lemmas.List.{get_or-drop}
 use Rattle.std.specs.List.{AllByRecursion}
 use Rattle.std.specs.Option.{option_or}
 use Rattle.std.specs.FinMap as maps
-use Rattle.std.specs.Prelude.{slice_index, if◌then◌else◌, OnOk, OnErr}
+use Rattle.std.specs.Prelude.{slice_index, OnOk, OnErr}
 use Rattle.byteorder.specs.Endian.{little_number}
 use Rattle.byteorder.specs.Numbers.{little_from-lt}
 use Rattle.mig_headers.specs.declared.fault.Cause.{Cause}
@@ -14,7 +14,7 @@ use Rattle.mig_guest.specs.declared.part_code.PartCode.{PartCode}
 use Rattle.mig_guest.specs.declared.part_key.PartKey.{PartKey}
 use Rattle.mig_guest.specs.Guests.{GuestOf}
 use Rattle.mig_guest.specs.PartCodes.{code_number}
-use Rattle.mig_guest.specs.Parts.{Part, PartMap, put_part, put_parts, replace_code}
+use Rattle.mig_guest.specs.Parts.{Part, PartMap, put_part, put_parts}
 use Rattle.mig_guest.proofs.PartSets.{put_other, cleared_other}
 use Rattle.mig_bodies.specs.declared.layout.Layout.{Layout}
 use Rattle.mig_bodies.specs.Layouts.{IsLayout, IsSmallKey, entry_width, front_width, AreTableEntries, key_in, entry_part, entry_parts, fault_of_key, fault_of_entry, fault_of_entries, fault_of_table, entry_count, parts_of_table}

@@ -1,5 +1,5 @@
 -- The parts of a body in memory have keys of 32 bits, whatever its shape.
-use Rattle.std.proofs.Common.{◌≡◌, ◌<◌, ◌^◌, List, ℕ, None, arith}
+use Rattle.std.proofs.Common.{◌≡◌, List, ℕ, None, arith}
 use Rattle.std.specs.List.{AllByRecursion}
 use Rattle.mig_guest.specs.declared.part_code.PartCode.{PartCode}
 use Rattle.mig_bodies.specs.declared.shape.Shape.{Shape}

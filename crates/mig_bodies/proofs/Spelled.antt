@@ -17,8 +17,8 @@ use Rattle.mig_guest.specs.PartCodes.{code_number}
 use Rattle.mig_guest.specs.Parts.{Part}
 use Rattle.mig_bodies.specs.declared.shape.Shape.{Shape}
 use Rattle.mig_bodies.specs.declared.shape.Shape.TheVariants.{Table, Single, Named, Chain, Other}
-use Rattle.mig_bodies.specs.Layouts.{fault_of_key, spelled_key, key_in}
-use Rattle.mig_bodies.specs.Shapes.{shape_of, sole_key, named_parts, IsSingle, IsNamed, IsChain, IsShaped, IsBody, IsRow, fault_of_content, fault_of_scan, cut, fault_by_shape, parts_by_shape, fault_of_body, parts_of_body, has_shape, BodiesAreSpelled, BodiesSayOne}
+use Rattle.mig_bodies.specs.Layouts.{fault_of_key}
+use Rattle.mig_bodies.specs.Shapes.{shape_of, sole_key, named_parts, IsSingle, IsNamed, IsChain, IsShaped, IsRow, fault_of_content, fault_of_scan, cut, fault_by_shape, parts_by_shape, has_shape, BodiesAreSpelled, BodiesSayOne}
 use Rattle.mig_bodies.proofs.TableSpelled.{number_first, length_is, length_passes, table_forth, table_back}
 use Rattle.mig_bodies.proofs.Rows.{all_rows}
 

@@ -19,7 +19,7 @@ use Rattle.mig_guest.specs.declared.part_key.PartKey.{PartKey}
 use Rattle.mig_guest.specs.Parts.{Part, PartMap, put_parts, replace_code, parts_of}
 use Rattle.mig_guest.specs.PartCodes.{row_of, code_number}
 use Rattle.mig_guest.specs.Guests.{GuestOf}
-use Rattle.mig_guest.specs.Formed.{IsFormed, AreParts, gdt_ents, is_policy, width_of}
+use Rattle.mig_guest.specs.Formed.{IsFormed, AreParts, gdt_ents, is_policy}
 use Rattle.mig_bodies.specs.declared.shape.Shape.{Shape}
 use Rattle.mig_bodies.specs.declared.shape.Shape.TheVariants.{Table, Single, Named, Chain, Other}
 use Rattle.mig_bodies.specs.Layouts.{layout, fault_of_key, spelled_key, key_in, IsTable, table_text, fault_of_table, parts_of_table, IsLayout, IsSmallKey}

@@ -1,13 +1,11 @@
 -- The frames of a host, which are those of a guest with their machine frames.
-use Rattle.std.proofs.Common.{◌≡◌, ℕ, length, Bool, true, false, cond, List, [], ◌∷◌, map, Option, Some, None, is_some, IsSome, IfSome, IfNone, option_and_then, ◌≤◌, ◌<◌, refl, sym, ap, subst, ◌∙◌}
-use Rattle.std.specs.Prelude.{T, ◌&&◌, unwrap_or}
+use Rattle.std.proofs.Common.{◌≡◌, ℕ, length, true, false, map, Option, Some, None, is_some, IsSome, IfSome, IfNone, option_and_then, ◌≤◌, ◌<◌, refl, sym, ap, ◌∙◌}
+use Rattle.std.specs.Prelude.{unwrap_or}
 use Rattle.std.proofs.lemmas.List.{length-map}
-use Rattle.std.specs.Ordering.{nat_cmp, is_lt, eq_by_cmp}
 use Rattle.std.specs.Option.{option_map}
 use Rattle.std.specs.Cmp.{nat_cmp_total}
 use Rattle.std.specs.FinMap as maps
-use Rattle.std.specs.FinMap.{FinMap, find, is_sorted, nat_cmp-IsAntisymmetric, same_map, get-from_entries, get-from_sorted, get-entries, entries-from_sorted, entries_sorted}
-use Rattle.std.specs.FinMap.Entries.{below_all}
+use Rattle.std.specs.FinMap.{nat_cmp-IsAntisymmetric}
 use Rattle.mig_guest.specs.Frames.{FrameOf, FrameMap}
 use Rattle.mig_pvtables.proofs.EachValue.{get_each, entries_each}
 use Rattle.mig_guest.specs.Hosts.{HostFrame, HostFrames}

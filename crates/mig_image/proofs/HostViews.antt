@@ -44,8 +44,8 @@ pub hosted_seen : (guest : GuestOf) (base : ℕ) → IsWhole guest → guest.kin
 hosted_seen g base whole hvm =
     let top : g.top ≡ 0 = subst (λ (k : Kind). IsTop k g.top) hvm whole.formed.top in
     let frames =
-        each_each nat_cmp_total nat_cmp-IsAntisymmetric (λ pfn f. without_machine f) (λ pfn (f : FrameOf). with_machine f (base + rank_in g.frames pfn)) g.frames
-        ∙ each_same nat_cmp_total nat_cmp-IsAntisymmetric (λ pfn (f : FrameOf). without_machine (with_machine f (base + rank_in g.frames pfn))) g.frames (λ pfn f is. refl) in
+    each_each nat_cmp_total nat_cmp-IsAntisymmetric (λ pfn f. without_machine f) (λ pfn (f : FrameOf). with_machine f (base + rank_in g.frames pfn)) g.frames
+    ∙ each_same nat_cmp_total nat_cmp-IsAntisymmetric (λ pfn (f : FrameOf). without_machine (with_machine f (base + rank_in g.frames pfn))) g.frames (λ pfn f is. refl) in
     let parts = each_same part_total part_exact part_seen g.parts (λ key bytes is. stays key bytes (whole.formed.parts key bytes is)) in
     λ j. record { kind = g.kind; top = sym top j; frames = frames j; parts = parts j }
   where

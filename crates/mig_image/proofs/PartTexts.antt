@@ -11,7 +11,7 @@ use Rattle.mig_bytes.specs.Fields.{le32}
 use Rattle.mig_bytes.specs.Judged.{Judged, ◌>>=◌, part, tried}
 use Rattle.mig_bytes.specs.Judged.Judged.{Passes}
 use Rattle.mig_bytes.proofs.Joins.{part_whole}
-use Rattle.mig_headers.specs.Pairs.{AreCanonicalPairs, are_canonical_pairs}
+use Rattle.mig_headers.specs.Pairs.{are_canonical_pairs}
 use Rattle.mig_headers.proofs.PairTexts.{canonical_pairs_are_computed}
 use Rattle.mig_headers.specs.declared.image_fault.ImageCause.{ImageCause}
 use Rattle.mig_headers.specs.declared.image_fault.ImageCause.TheVariants.{Truncated, PartBytes, PartPadding}
@@ -22,11 +22,10 @@ use Rattle.mig_guest.specs.declared.part_key.PartKey.{PartKey}
 use Rattle.mig_guest.specs.Formed.{IsRawContent}
 use Rattle.mig_guest.specs.Hosts.{HostOf, IsHostPart}
 use Rattle.mig_guest.proofs.PartRows.{numbered, one_code}
-use Rattle.mig_guest.specs.PartCodes.{code_number, code_of_number, part_codes, row_of}
+use Rattle.mig_guest.specs.PartCodes.{code_number, code_of_number, row_of}
 use Rattle.mig_guest.specs.Parts.{PartMap}
 use Rattle.mig_image.specs.Image.{part_head_of, part_text}
 use Rattle.mig_image.specs.ImageParts.{head_key, code_fits, code_allows, has_part_from, is_full, part_rows, fault_of_part, fault_of_bytes, fault_of_padding, put_part_in, part_head_at, bytes_at, padding_at, part_at}
-use Rattle.mig_image.proofs.InOrder.{found_passes}
 use Rattle.mig_bytes.proofs.Joins.{then_passes, tried_none}
 use Rattle.mig_headers.proofs.FirstFaults.{no_fault}
 

@@ -1,16 +1,14 @@
 -- What a part that stands behind all others adds: it is one that a host has, and one more of its code.
-use Rattle.std.proofs.Common.{◌≡◌, ℕ, ◌+◌, ◌^◌, ◌<◌, Bool, true, false, cond, nat_eq, nat_le, List, [], ◌∷◌, length, Option, Some, None, refl, sym, ap, ◌∙◌, arith, length-append}
+use Rattle.std.proofs.Common.{◌≡◌, ℕ, ◌+◌, ◌^◌, ◌<◌, Bool, true, false, cond, nat_eq, nat_le, List, [], ◌∷◌, length, None, refl, sym, ap, ◌∙◌, arith, length-append}
 use Rattle.std.specs.Prelude.{◌&&◌, ◌||◌, ◌==◌, if◌then◌else◌}
-use Rattle.std.proofs.lemmas.Bool.{not-false, and_parts, leb-false, eqb-true}
+use Rattle.std.proofs.lemmas.Bool.{not-false, leb-false, eqb-true}
 use Rattle.std.proofs.lemmas.List.Elements.{filter-append}
 use Rattle.std.specs.FinMap as maps
 use Rattle.mig_bytes.specs.Fields.{le32}
-use Rattle.mig_headers.specs.declared.kind.Kind.{Kind}
-use Rattle.mig_guest.specs.declared.part_code.PartCode.{PartCode}
 use Rattle.mig_guest.specs.declared.part_key.PartKey.{PartKey}
 use Rattle.mig_guest.specs.Hosts.{HostOf, IsHostPart, IsValid}
 use Rattle.mig_guest.specs.Order.{part_cmp}
-use Rattle.mig_guest.specs.PartCodes.{code_of_number, row_of, code_number}
+use Rattle.mig_guest.specs.PartCodes.{code_of_number}
 use Rattle.mig_guest.specs.Parts.{PartMap, parts_of, FitsPolicy}
 use Rattle.mig_guest.proofs.PartOrder.{part_total}
 use Rattle.mig_image.specs.declared.read_part.Entries.{Entries}

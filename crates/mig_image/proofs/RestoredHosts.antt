@@ -1,18 +1,15 @@
 -- Machine frames that are counted up from a base, and the host that a whole guest becomes with them.
-use Rattle.std.proofs.Common.{◌≡◌, ◌≢◌, ℕ, ◌+◌, ◌<◌, ◌≤◌, ◌^◌, true, false, length, List, Option, Some, None, is_some, IsSome, refl, sym, ap, subst, ◌∙◌, inl, inr, arith}
-use Rattle.std.specs.Prelude.{◌&&◌, unwrap_or}
+use Rattle.std.proofs.Common.{◌≡◌, ◌≢◌, ℕ, ◌+◌, ◌<◌, ◌≤◌, ◌^◌, true, false, length, Option, Some, None, is_some, IsSome, refl, sym, ap, subst, ◌∙◌, inl, inr, arith}
+use Rattle.std.specs.Prelude.{unwrap_or}
 use Rattle.std.specs.Option.{option_map}
 use Rattle.std.specs.Ordering.{nat_cmp}
 use Rattle.std.specs.Cmp.{nat_cmp_total}
 use Rattle.std.specs.FinMap as maps
 use Rattle.std.specs.FinMap.{nat_cmp-IsAntisymmetric, same_map, get-empty}
-use Rattle.std.proofs.lemmas.Bool.{cases_lt, cases_order, lt-ltb, le-leb, eq-eqb}
+use Rattle.std.proofs.lemmas.Bool.{cases_lt, cases_order}
 use Rattle.mig_headers.specs.declared.kind.Kind.{Kind}
 use Rattle.mig_headers.specs.declared.kind.Kind.TheVariants.{Pv, Hvm}
-use Rattle.mig_pagetypes.specs.declared.page_type.PageType.{PageType}
-use Rattle.mig_guest.specs.declared.part_code.PartCode.TheVariants.{Tsc, HvmContext, HvmParam, CpuidLeaf, Msr, EmulatorPairs}
-use Rattle.mig_guest.specs.declared.part_key.PartKey.{PartKey}
-use Rattle.mig_guest.specs.Frames.{FrameOf, FrameMap, is_type_of}
+use Rattle.mig_guest.specs.Frames.{FrameOf, FrameMap}
 use Rattle.mig_guest.specs.Guests.{GuestOf}
 use Rattle.mig_guest.specs.Hosts.{HostFrame, HostFrames, IsHostFrame, IsHostPart, IsOneToOne, IsValid}
 use Rattle.mig_guest.specs.Formed.{IsPart, width_of}

@@ -1,6 +1,6 @@
 -- The host that a restored guest becomes: machine frames are counted up from a base. So far for HVM guests, whose
 -- pages and parts hold no machine frames.
-use Rattle.std.specs.Prelude.{ℕ, ◌+◌, ◌<◌, ◌^◌, ◌⊎◌, ◌≡◌, List, [], ◌∷◌, length, max, filter, nat_lt}
+use Rattle.std.specs.Prelude.{ℕ, ◌+◌, ◌<◌, ◌⊎◌, ◌≡◌, List, [], ◌∷◌, length, max, filter, nat_lt}
 use Rattle.std.specs.FinMap as maps
 use Rattle.mig_guest.specs.Frames.{FrameMap}
 use Rattle.mig_guest.specs.Guests.{GuestOf}

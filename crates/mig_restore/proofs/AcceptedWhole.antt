@@ -7,7 +7,6 @@ use Rattle.std.specs.FinMap as fin
 use Rattle.mig_bytes.specs.Bytes.{AreBytes}
 use Rattle.mig_bytes.specs.Fields.{le32}
 use Rattle.mig_headers.specs.RecordTypes.{record_row_of, type_number, type_of_number}
-use Rattle.mig_headers.specs.declared.kind.Kind.{Kind}
 use Rattle.mig_headers.specs.declared.kind.Kind.TheVariants.{Hvm}
 use Rattle.mig_headers.specs.declared.record_type.RecordType.{RecordType}
 use Rattle.mig_headers.proofs.RecordNumbers.{numbers_are_inverse}
@@ -35,7 +34,7 @@ use Rattle.mig_restore.specs.Judging.{Opening}
 use Rattle.mig_restore.specs.Mean.{meant_type, put_entry, put_entries, put_content, sent}
 use Rattle.mig_restore.specs.Record.{Entry, Content, StreamRecord, types_of, is_ended}
 use Rattle.mig_restore.specs.Record.Content.{Sets}
-use Rattle.mig_restore.specs.Spelled.{IsPage, IsEntry, AreEntries, IsGoodWord, HasContent, IsComplete, Follows, Spells, Accepted}
+use Rattle.mig_restore.specs.Spelled.{IsPage, IsEntry, AreEntries, IsGoodWord, HasContent, IsComplete, Spells, Accepted}
 use Rattle.mig_restore.specs.Spelled.HasContent.{optional, ends, pages, sets, static_end}
 use Rattle.mig_restore.specs.Spelled.Spells.{none, one_more}
 use Rattle.mig_restore.proofs.Arrivals.{ended_more}

@@ -12,7 +12,6 @@ use Rattle.mig_bytes.specs.declared.part.Stop.TheVariants as stops
 use Rattle.mig_bytes.specs.Judged.{Judged, ◌>>=◌, part, tried, each, stop_at, Gives}
 use Rattle.mig_bytes.specs.Judged.Judged.{Passes, Faulty}
 use Rattle.mig_bytes.proofs.Walks.{walk_end_is, walk_end_ends}
-use Rattle.mig_headers.specs.Contexts.{scan}
 use Rattle.mig_headers.specs.RecordTypes.{is_optional, type_of_number}
 use Rattle.mig_headers.specs.declared.fault.Cause.{Cause}
 use Rattle.mig_headers.specs.declared.fault.Cause.TheVariants.{Truncated}

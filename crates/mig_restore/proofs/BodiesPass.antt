@@ -1,19 +1,14 @@
 -- A body that is spelled as the format says passes, and its length is one that its type allows.
-use Rattle.std.proofs.Common.{◌≡◌, ℕ, ◌*◌, ◌/◌, ◌%◌, ◌≤◌, ◌^◌, List, [], ◌∷◌, ◌++◌, length, Bool, true, nat_eq, nat_le, None, Ok, refl, sym, ap, subst, ◌∙◌, arith, length-append}
-use Rattle.std.specs.Prelude.{◌&&◌}
+use Rattle.std.proofs.Common.{◌≡◌, ℕ, ◌≤◌, ◌^◌, List, ◌++◌, length, true, nat_le, None, refl, sym, ap, ◌∙◌, arith, length-append}
 use Rattle.std.proofs.lemmas.Grind.{common_steps}
 use Rattle.std.proofs.lemmas.Option.{slice_get_past}
-use Rattle.std.proofs.lemmas.List.FromFn.{length-map-range_with_len}
 use Rattle.mig_bytes.specs.Judged.{part}
 use Rattle.mig_bytes.specs.Judged.Judged.{Passes}
 use Rattle.mig_bytes.proofs.Joins.{part_whole}
-use Rattle.mig_headers.specs.Contexts.{scan}
 use Rattle.mig_headers.specs.RecordTypes.{record_row_of, type_of_number, record_types}
 use Rattle.mig_headers.proofs.RecordNumbers.{numbers_are_inverse}
 use Rattle.mig_headers.specs.declared.fault.Cause.TheVariants.{Truncated}
 use Rattle.mig_headers.specs.declared.kind.Kind.{Kind}
-use Rattle.mig_guest.specs.declared.part_key.PartKey.{PartKey}
-use Rattle.mig_guest.specs.PartKeys.{context_key}
 use Rattle.mig_records.specs.Faults.{type_allows}
 use Rattle.mig_guest.specs.declared.part_code.PartCode.{PartCode}
 use Rattle.mig_guest.specs.Parts.{Part}

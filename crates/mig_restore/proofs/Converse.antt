@@ -28,7 +28,7 @@ use Rattle.mig_pvtables.specs.Faults.{fault_of_guest}
 use Rattle.mig_pvtables.proofs.HvmGuests.{hvm_faultless}
 use Rattle.mig_headers.specs.declared.kind.Kind.TheVariants.{Hvm}
 use Rattle.mig_restore.proofs.Meaning.{sent_kind}
-use Rattle.mig_restore.specs.Record.{StreamRecord, types_of, is_ended}
+use Rattle.mig_restore.specs.Record.{StreamRecord, is_ended}
 use Rattle.mig_restore.specs.Judging.{Opening, Before, opening_of, before, is_built, fault_of_built, fault_of_fields, fault_of_head, head_at, fault_at_end, body_at, record_at, next_at}
 use Rattle.mig_restore.specs.Mean.{sent, mean}
 use Rattle.mig_restore.specs.Spelled.{IsComplete, Follows, Spells, IsImage, Accepted}

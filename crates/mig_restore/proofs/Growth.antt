@@ -1,26 +1,17 @@
 -- What reading keeps of a guest: each part or frame that is set leaves it well formed.
-use Rattle.std.proofs.Common.{◌≡◌, ◌≢◌, ℕ, zero, suc, ◌+◌, ◌*◌, ◌/◌, ◌^◌, ◌≤◌, ◌<◌, List, [], ◌∷◌, ◌++◌, length, take, drop, map, replicate, Bool, true, false, Option, Some, None, is_some, Ok, refl, sym, ap, subst, ◌∙◌, arith, length-append, length-drop, length-take-le}
-use Rattle.std.specs.Prelude.{IfOk}
+use Rattle.std.proofs.Common.{◌≡◌, ◌≢◌, ℕ, ◌^◌, ◌≤◌, ◌<◌, List, length, Bool, true, false, Option, Some, None, is_some, refl, sym, ap, subst, ◌∙◌}
 use Rattle.std.specs.List.{AllByRecursion}
-use Rattle.std.specs.FinMap as fin
-use Rattle.std.proofs.lemmas.List.{take_at, length-map}
-use Rattle.std.proofs.lemmas.List.FromFn.{length-range_with_len}
-use Rattle.mig_bytes.specs.Fields.{le32, le64}
-use Rattle.mig_headers.specs.Contexts.{scan}
-use Rattle.mig_headers.proofs.Chains.{scan_cut, end_fits}
 use Rattle.mig_headers.specs.declared.kind.Kind.{Kind}
 use Rattle.mig_headers.specs.declared.kind.Kind.TheVariants.{Hvm}
 use Rattle.mig_pagetypes.specs.Limits.{pfn_limit}
 use Rattle.mig_pagetypes.specs.PageTypes.{type_has_data}
 use Rattle.mig_pagetypes.specs.declared.page_type.PageType.{PageType}
 use Rattle.mig_pagetypes.specs.declared.page_type.PageType.TheVariants.{Notab, L1Tab, L2Tab, L3Tab, L4Tab, L1Pinned, L2Pinned, L3Pinned, L4Pinned, Broken, Xalloc, Xtab}
-use Rattle.mig_guest.specs.Formed.{AreParts, IsPart, IsInside, IsFormed, IsGuestFrame, HasNoEmulators, is_policy, is_emulator_code, width_of}
-use Rattle.mig_guest.specs.declared.part_key.PartKey.{PartKey}
-use Rattle.mig_guest.specs.Frames.{FrameOf, IsFrame, framed, is_hvm_type, is_type_of}
+use Rattle.mig_guest.specs.Formed.{AreParts, IsFormed, is_emulator_code, width_of}
+use Rattle.mig_guest.specs.Frames.{framed, is_hvm_type}
 use Rattle.mig_guest.specs.Guests.{GuestOf}
-use Rattle.mig_guest.specs.Parts.{Part, PartMap}
-use Rattle.mig_guest.specs.PartKeys.{context_key, tsc_key}
-use Rattle.mig_guest.proofs.Kept.{parts_keep, policies_keep, parts_plain, policies_plain, frames_keep}
+use Rattle.mig_guest.specs.Parts.{PartMap}
+use Rattle.mig_guest.proofs.Kept.{frames_keep}
 use Rattle.mig_guest.proofs.PartRows.{hvm_frame}
 use Rattle.mig_headers.specs.RecordTypes.{record_row_of, type_number, type_of_number}
 use Rattle.mig_headers.specs.declared.record_type.RecordType.{RecordType}

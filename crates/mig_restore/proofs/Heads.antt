@@ -1,5 +1,5 @@
 -- What judging a head answers, cause by cause.
-use Rattle.std.proofs.Common.{◌≡◌, ℕ, List, Option, Some, None, Result, Ok, Err, sym, ap, ◌∙◌}
+use Rattle.std.proofs.Common.{◌≡◌, ℕ, Option, Some, None, Result, Ok, Err, sym, ap, ◌∙◌}
 use Rattle.std.specs.Option.{option_or}
 use Rattle.mig_headers.specs.Headers.{unless_faulty}
 use Rattle.mig_headers.specs.declared.fault.Cause.{Cause}

@@ -1,5 +1,5 @@
 -- Judging a record: its parts in their order, and the causes that are tried in each, in the order of their numbers.
-use Rattle.std.specs.Prelude.{ℕ, ◌*◌, ◌^◌, List, [], ◌∷◌, ◌++◌, length, take, replicate, Bool, Option, Some, None, Result, Ok, Err, ◌==◌, ◌&&◌, not, nat_le, false, if◌then◌else◌}
+use Rattle.std.specs.Prelude.{ℕ, ◌*◌, ◌^◌, List, [], ◌∷◌, ◌++◌, length, Bool, Option, Some, None, ◌==◌, ◌&&◌, not, nat_le, false, if◌then◌else◌}
 use Rattle.std.specs.Option.{option_or}
 use Rattle.mig_bytes.specs.Bytes.{padding_len}
 use Rattle.mig_bytes.specs.Fields.{le32}

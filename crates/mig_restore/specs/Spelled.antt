@@ -1,14 +1,13 @@
 -- The spelling of an image, in the words of the format: headers, then records one after the other.
-use Rattle.std.specs.Prelude.{◌≡◌, ℕ, ◌*◌, ◌≤◌, ◌<◌, ◌^◌, true, false, Bool, List, [], ◌∷◌, ◌++◌, length, take, Option, Some, None, Ok, replicate, IsSome}
+use Rattle.std.specs.Prelude.{◌≡◌, ℕ, ◌*◌, ◌≤◌, ◌<◌, ◌^◌, true, false, Bool, List, [], ◌∷◌, ◌++◌, length, Option, Some, None, IsSome}
 use Rattle.std.specs.List.{All}
 use Rattle.std.specs.FinMap as maps
 use Rattle.mig_bytes.specs.Fields.{le32}
 use Rattle.mig_headers.specs.Headers.{IsImageHeader, IsDomainHeader}
 use Rattle.mig_headers.specs.declared.kind.Kind.{Kind}
 use Rattle.mig_pagetypes.specs.FrameWords.{word_pfn, word_has_data}
-use Rattle.mig_guest.specs.declared.part_key.PartKey.{PartKey}
 use Rattle.mig_guest.specs.Guests.{GuestOf}
-use Rattle.mig_guest.specs.PartKeys.{tsc_key, context_key}
+use Rattle.mig_guest.specs.PartKeys.{context_key}
 use Rattle.mig_records.specs.Records.{IsRecord}
 use Rattle.mig_records.specs.Words.{words, has_reserved_type, names_outside}
 use Rattle.mig_order.specs.Order.{IsInOrder}

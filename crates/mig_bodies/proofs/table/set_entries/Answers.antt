@@ -1,5 +1,4 @@
 use Rattle.std.proofs.Common.{◌≡◌, ◌+◌, ◌-◌, length, drop, ℕ, List, ap, ◌∙◌, arith, rules}
-use Rattle.mig_guest.specs.Guests.{GuestOf}
 use Rattle.mig_guest.specs.Parts.{put_parts}
 use Rattle.mig_bodies.specs.Layouts.{entry_parts, fault_of_entries}
 use Rattle.mig_bodies.proofs.Reading.{longer, shorter, fine_first, guest_next, others_next}

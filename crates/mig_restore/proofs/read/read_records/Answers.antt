@@ -5,9 +5,8 @@ use Rattle.mig_restore.specs.declared.read.Reading.{Reading}
 use Rattle.mig_restore.specs.Stream.{records_at, IsReading}
 use Rattle.mig_restore.specs.Judging.{opening_of}
 use Rattle.std.specs.FinMap.{get-empty}
-use Rattle.mig_headers.specs.declared.kind.Kind.TheVariants.{Hvm}
 use Rattle.mig_guest.specs.Order.{part_cmp}
-use Rattle.mig_guest.specs.Formed.{IsFormed, HasNoEmulators, IsPlainHvm}
+use Rattle.mig_guest.specs.Formed.{IsFormed, HasNoEmulators}
 use Rattle.mig_guest.proofs.Kept.{empty_formed}
 use Rattle.mig_restore.proofs.Arrivals.{arrived_first, arrived_next, arrived_end, arrived_stopped}
 use Rattle.mig_restore.proofs.read.read_records.Goals as goal
