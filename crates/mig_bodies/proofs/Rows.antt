@@ -23,12 +23,6 @@ below n h = grind (arith, common_steps)
 pub below_4096 : (key1 key2 : ℕ) (c : Cause) → first_fault ((not (small_number key1 key2), c) ∷ []) ≡ None → key1 < 4096
 below_4096 key1 key2 c fine = below key1 (small_of (nat_lt key1 4096) (key2 == 0) (rows_fine ((not (small_number key1 key2), c) ∷ []) fine).0)
 
-pub small_passes : (key1 key2 : ℕ) (c : Cause) → key1 < 4096 → key2 ≡ 0 → first_fault ((not (small_number key1 key2), c) ∷ []) ≡ None
-small_passes key1 key2 c low none = no_fault ((not (small_number key1 key2), c) ∷ []) (passes key1 key2 low none, tt)
-  where
-    passes : (n m : ℕ) → n < 4096 → m ≡ 0 → not (nat_lt n 4096 && (m == 0)) ≡ false
-    passes n m h e = grind (arith, common_steps)
-
 pub all_rows : (code : PartCode) → IsRow code (shape_of code)
 all_rows P2mFrames = tt
 all_rows VcpuBasic = (omega arith, omega arith, refl)

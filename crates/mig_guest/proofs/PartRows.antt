@@ -107,37 +107,6 @@ module _ (kind : Kind) (width : ℕ) (k : PartKey) (bytes : List ℕ) (part : Is
   pub msr_part : k.code ≡ 18 → (k ≡ msr_key k.key1) × (length bytes ≡ 12)
   msr_part e = let is = of_part Msr kind width (k, bytes) part e in (keyed k 18 k.key1 0 e refl (eqb-true k.key2 0 is.keys), eqb-true (length bytes) 12 is.len)
 
-both_hold : (a b : Bool) → a ≡ true → b ≡ true → (a && b) ≡ true
-both_hold a b e f = rw (e, f) refl
-
-pub tsc_is : (kind : Kind) (width : ℕ) (bytes : List ℕ) → length bytes ≡ 20 → IsPart kind width tsc_key bytes
-tsc_is kind width bytes len =
-    record { code = Tsc; number = refl; of_kind = refl; keys = refl; small1 = omega arith; small2 = omega arith; len = eq-eqb (length bytes) 20 len; content = tt }
-
-pub context_is : (width : ℕ) (bytes : List ℕ) → length bytes ≤ 2 ^ 27 → IsCut bytes → IsPart Hvm width context_key bytes
-context_is width bytes len cut =
-    record { code = HvmContext; number = refl; of_kind = refl; keys = refl; small1 = omega arith; small2 = omega arith; len = le-leb (length bytes) (2 ^ 27) len; content = cut }
-
-pub param_is : (width index : ℕ) (bytes : List ℕ) → index < 4096 → length bytes ≡ 8 → IsPart Hvm width (param_key index) bytes
-param_is width index bytes small len = record {
-  code = HvmParam;
-  number = refl;
-  of_kind = refl;
-  keys = both_hold (nat_lt index 4096) true (lt-ltb index 4096 small) refl;
-  small1 = omega (arith, small);
-  small2 = omega arith;
-  len = eq-eqb (length bytes) 8 len;
-  content = tt;
-}
-
-pub leaf_is : (kind : Kind) (width leaf subleaf : ℕ) (bytes : List ℕ) → leaf < 2 ^ 32 → subleaf < 2 ^ 32 → length bytes ≡ 16 → IsPart kind width (leaf_key leaf subleaf) bytes
-leaf_is kind width leaf subleaf bytes a b len =
-    record { code = CpuidLeaf; number = refl; of_kind = refl; keys = refl; small1 = a; small2 = b; len = eq-eqb (length bytes) 16 len; content = tt }
-
-pub msr_is : (kind : Kind) (width index : ℕ) (bytes : List ℕ) → index < 2 ^ 32 → length bytes ≡ 12 → IsPart kind width (msr_key index) bytes
-msr_is kind width index bytes small len =
-    record { code = Msr; number = refl; of_kind = refl; keys = refl; small1 = small; small2 = omega arith; len = eq-eqb (length bytes) 12 len; content = tt }
-
 -- ---- a part of a guest is one of its host
 
 raw : (code : PartCode) (bytes : List ℕ) → IsContent code bytes → IsRawContent code bytes

@@ -1,5 +1,4 @@
 pub mod HvmGuests
-pub mod HvmSamples
 pub mod Searches
 pub mod EachValue
 pub mod PvGuests

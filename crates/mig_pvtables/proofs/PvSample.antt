@@ -31,8 +31,11 @@ use Rattle.mig_pvtables.specs.P2mFrames.{listed_in, listed}
 use Rattle.mig_pvtables.specs.Faults.{type_at, fits_field}
 use Rattle.mig_pvtables.specs.Whole.{IsWhole}
 use Rattle.mig_pvtables.specs.WholePv.{AreP2mFrames, FieldsFit}
-use Rattle.mig_pvtables.proofs.HvmSamples.{one_more}
 use Rattle.mig_pvtables.proofs.PvGuests.{pv_whole}
+
+one_more : (b : Bool) (n : ℕ) → cond b n (n + 1) ≤ n + 1
+one_more true n = omega arith
+one_more false n = omega arith
 
 -- ---- the guest
 

@@ -74,10 +74,6 @@ pub bind_cases : {C X Y : Type 0} (j : Judged C X) (k : X × List ℕ → Judged
 bind_cases (Passes x mid) k c rest h = inr (x, mid, refl, h)
 bind_cases (Faulty d mid) k c rest h = let e = same_faulty d c mid rest h in inl (rw (e.0, e.1) refl)
 
-pub tried_faulty : (g : Option Cause) (mid : List ℕ) (c : Cause) (rest : List ℕ) → tried g mid ≡ Faulty c rest → (g ≡ Some c) × (mid ≡ rest)
-tried_faulty None mid c rest h = passes_not tt mid c rest h
-tried_faulty (Some d) mid c rest h = let e = same_faulty d c mid rest h in (ap Some e.0, e.1)
-
 -- the causes of so many bytes tried in them alone
 pub assoc : {X : Type 0} (f : List ℕ → Option Cause) (next : List ℕ → List ℕ → Judged Cause X) (j : Judged Cause (List ℕ)) → (j >>= λ p. tried (f p.0) p.1 >>= λ _. next p.0 p.1) ≡ ((j >>= λ p. tried (f p.0) p.1 >>= λ _. Passes p.0 p.1) >>= λ p. next p.0 p.1)
 assoc f next (Faulty d mid) = refl
