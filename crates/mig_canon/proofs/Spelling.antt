@@ -1,21 +1,27 @@
 -- How records, tables and the whole stream are spelled, piece by piece.
-use Rattle.std.proofs.Common.{◌≡◌, ℕ, ◌+◌, ◌-◌, take, drop, le_refl, ◌*◌, List, [], ◌∷◌, ◌++◌, length, replicate, map, refl, sym, ap, ◌∙◌, arith, length-append, append-nil}
+use Rattle.std.proofs.Common.{◌≡◌, ℕ, suc, ◌+◌, ◌-◌, take, drop, le_refl, ◌*◌, List, [], ◌∷◌, ◌++◌, length, replicate, map, refl, sym, ap, ◌∙◌, arith, length-append, append-nil, append_assoc}
 use Rattle.std.proofs.lemmas.Grind.{flat_map-append}
 use Rattle.std.proofs.lemmas.List.{take_all}
 use Rattle.std.proofs.Math.Seq.{take-append-add}
 use lib.Seq.{take-append-le}
 use borrow.Rule.Slice.PartMut.{put_mid}
 use Rattle.std.proofs.lemmas.List.Elements.{All-head, All-tail}
-use Rattle.std.specs.List.{All, flat_map}
+use Rattle.std.specs.List.{All}
 use Rattle.byteorder.specs.Endian.{little_bytes}
 use Rattle.mig_bytes.specs.Bytes.{padding_len}
 use Rattle.mig_guest.specs.Guests.{GuestOf}
 use Rattle.mig_guest.specs.Parts.{Part}
+use Rattle.mig_guest.specs.declared.part_code.PartCode.{PartCode}
+use Rattle.mig_bodies.specs.declared.layout.Layout.{Layout}
+use Rattle.mig_bodies.specs.declared.shape.Shape.{Shape}
+use Rattle.mig_bodies.specs.declared.shape.Shape.TheVariants as shapes
+use Rattle.mig_bodies.specs.Layouts.{entry_width, front_width, front_text, entry_text, entries_text, table_text}
+use Rattle.mig_bodies.specs.Shapes.{shape_of, bodies_by_shape}
 use Rattle.mig_records.specs.Records.{head_of, spelled}
 use Rattle.mig_canon.specs.declared.entries.Table.{Table}
 use Rattle.mig_canon.specs.declared.entries.Table.TheVariants.{Leaves, Msrs, Params}
-use Rattle.mig_canon.specs.Canon.{Record, where_some, param_bytes, params_body, tsc_body, of_code, frames_in, batches, frame_bodies, static_bodies, last_bodies, leaves_body, msrs_body, text_of, headers, canon}
-use Rattle.mig_canon.specs.Tables.{code_of, entry_len, entry_bytes}
+use Rattle.mig_canon.specs.Canon.{Record, records_of, records_in_order, frames_in, batches, frame_bodies, static_bodies, last_bodies, text_of, headers, canon}
+use Rattle.mig_canon.specs.Tables.{part_code_of, code_of, layout_of, rows_of}
 use Rattle.mig_canon.proofs.Wholes.{IsRow}
 
 -- ---- a record
@@ -36,60 +42,77 @@ text_join a b = flat_map-append (λ r. spelled r.0 r.1) a b
 
 -- ---- a table
 
-pub where_there : (ps : List Part) (r : Record) → (length ps ≡ 0 → ⊥) → where_some ps r ≡ r ∷ []
-where_there [] r h = absurd (h refl)
-where_there (p ∷ ps) r h = refl
+shape_is : (table : Table) → shape_of (part_code_of table) ≡ shapes.Table (layout_of table)
+shape_is Leaves = refl
+shape_is Msrs = refl
+shape_is Params = refl
 
-pub where_none : (ps : List Part) (r : Record) → length ps ≡ 0 → where_some ps r ≡ []
-where_none [] r h = refl
-where_none (p ∷ ps) r h = absurd (omega arith)
+-- the records of a shape
+abbrev shaped : Shape → ℕ → List Part → List Record
+shaped shape code ps = map (λ body. (code, body)) (bodies_by_shape shape ps)
 
-one_len : (table : Table) (p : Part) → IsRow table p → length (entry_bytes table p) ≡ entry_len table
+shaped_none : (l : Layout) (code : ℕ) (ps : List Part) → length ps ≡ 0 → shaped (shapes.Table l) code ps ≡ []
+shaped_none l code [] h = refl
+shaped_none l code (p ∷ ps) h = absurd (omega arith)
+
+shaped_some : (l : Layout) (code : ℕ) (ps : List Part) → (length ps ≡ 0 → ⊥) → shaped (shapes.Table l) code ps ≡ (code, table_text l ps) ∷ []
+shaped_some l code [] h = absurd (h refl)
+shaped_some l code (p ∷ ps) h = refl
+
+pub no_table : (table : Table) (g : GuestOf) (n : ℕ) → n ≡ length (rows_of table g) → n ≡ 0 → text_of (records_of (part_code_of table) g) ≡ []
+no_table table g n count none =
+    ap (λ s. text_of (shaped s (code_of table) (rows_of table g))) (shape_is table) ∙ ap text_of (shaped_none (layout_of table) (code_of table) (rows_of table g) (sym count ∙ none))
+
+one_len : (table : Table) (p : Part) → IsRow table p → length (entry_text (layout_of table) p) ≡ entry_width (layout_of table)
 one_len Leaves p h = omega (arith, h.len, length-append (little_bytes 4 p.0.key1) (little_bytes 4 p.0.key2 ++ p.1), length-append (little_bytes 4 p.0.key2) p.1)
 one_len Msrs p h = omega (arith, h.len, length-append (little_bytes 4 p.0.key1) p.1)
 one_len Params p h = omega (arith, h.len, length-append (little_bytes 8 p.0.key1) p.1)
 
-entries_len : (table : Table) (ps : List Part) → All (IsRow table) ps → length (flat_map (entry_bytes table) ps) ≡ entry_len table * length ps
-entries_len Leaves [] h = refl
-entries_len Leaves (p ∷ ps) h = omega (arith, length-append (entry_bytes Leaves p) (flat_map (entry_bytes Leaves) ps), one_len Leaves p (All-head (IsRow Leaves) p ps h), entries_len Leaves ps (All-tail (IsRow Leaves) p ps h))
-entries_len Msrs [] h = refl
-entries_len Msrs (p ∷ ps) h = omega (arith, length-append (entry_bytes Msrs p) (flat_map (entry_bytes Msrs) ps), one_len Msrs p (All-head (IsRow Msrs) p ps h), entries_len Msrs ps (All-tail (IsRow Msrs) p ps h))
-entries_len Params [] h = refl
-entries_len Params (p ∷ ps) h = omega (arith, length-append (entry_bytes Params p) (flat_map (entry_bytes Params) ps), one_len Params p (All-head (IsRow Params) p ps h), entries_len Params ps (All-tail (IsRow Params) p ps h))
+more_len : (table : Table) (n m : ℕ) → n ≡ entry_width (layout_of table) * m → entry_width (layout_of table) + n ≡ entry_width (layout_of table) * suc m
+more_len Leaves n m h = omega (arith, h)
+more_len Msrs n m h = omega (arith, h)
+more_len Params n m h = omega (arith, h)
 
-flat : (table : Table) (n : ℕ) → padding_len (entry_len table * n) ≡ 0
+entries_len : (table : Table) (ps : List Part) → All (IsRow table) ps → length (entries_text (layout_of table) ps) ≡ entry_width (layout_of table) * length ps
+entries_len Leaves [] h = refl
+entries_len Msrs [] h = refl
+entries_len Params [] h = refl
+entries_len table (p ∷ ps) h =
+    length-append (entry_text (layout_of table) p) (entries_text (layout_of table) ps) ∙ ap (λ n. n + length (entries_text (layout_of table) ps)) (one_len table p (All-head (IsRow table) p ps h))
+    ∙ more_len table _ (length ps) (entries_len table ps (All-tail (IsRow table) p ps h))
+
+front_len : (table : Table) (n : ℕ) → length (front_text (layout_of table).counted n) ≡ front_width (layout_of table)
+front_len Leaves n = refl
+front_len Msrs n = refl
+front_len Params n = refl
+
+flat : (table : Table) (n : ℕ) → padding_len (front_width (layout_of table) + entry_width (layout_of table) * n) ≡ 0
 flat Leaves n = omega arith
 flat Msrs n = omega arith
 flat Params n = omega arith
 
-pub policy_text : (table : Table) (ps : List Part) (n : ℕ) → All (IsRow table) ps → n ≡ length ps → (n ≡ 0 → ⊥)
-    → text_of (where_some ps (code_of table, flat_map (entry_bytes table) ps)) ≡ head_of (code_of table) (entry_len table * n) ++ flat_map (entry_bytes table) ps
-policy_text table ps n rows count some =
-    ap text_of (where_there ps _ (λ e. some (count ∙ e))) ∙ text_one _ _
-    ∙ spelled_flat _ _ _ (entries_len table ps rows ∙ ap (λ m. entry_len table * m) (sym count)) (flat table n)
-
-params_flat : (n : ℕ) → padding_len (8 + 16 * n) ≡ 0
-params_flat n = omega arith
-
-pub params_text : (ps : List Part) (n : ℕ) → All (IsRow Params) ps → n ≡ length ps → (n ≡ 0 → ⊥)
-    → text_of (where_some ps (0xA, params_body ps)) ≡ head_of 10 (8 + 16 * n) ++ ((little_bytes 4 n ++ replicate 4 0) ++ flat_map (entry_bytes Params) ps)
-params_text ps n rows count some =
-    ap text_of (where_there ps _ (λ e. some (count ∙ e))) ∙ text_one _ _
-    ∙ spelled_flat 10 (8 + 16 * n) (params_body ps) (omega (arith, count, entries_len Params ps rows, length-append (little_bytes 4 (length ps)) (replicate 4 0 ++ flat_map param_bytes ps), length-append (replicate 4 0) (flat_map param_bytes ps))) (params_flat n)
-    ∙ ap (λ m. head_of 10 (8 + 16 * n) ++ ((little_bytes 4 m ++ replicate 4 0) ++ flat_map (entry_bytes Params) ps)) (sym count)
+pub table_record : (table : Table) (g : GuestOf) (n : ℕ) → All (IsRow table) (rows_of table g) → n ≡ length (rows_of table g) → (n ≡ 0 → ⊥)
+    → text_of (records_of (part_code_of table) g) ≡ head_of (code_of table) (front_width (layout_of table) + entry_width (layout_of table) * n) ++ (front_text (layout_of table).counted n ++ entries_text (layout_of table) (rows_of table g))
+table_record table g n rows count some =
+    let l = layout_of table in let ps = rows_of table g in
+    let len : length (table_text l ps) ≡ front_width l + entry_width l * n =
+    length-append (front_text l.counted (length ps)) (entries_text l ps) ∙ ap (λ m. m + length (entries_text l ps)) (front_len table (length ps)) ∙ ap (λ m. front_width l + m) (entries_len table ps rows ∙ ap (λ m. entry_width l * m) (sym count)) in
+    ap (λ s. text_of (shaped s (code_of table) ps)) (shape_is table)
+    ∙ ap text_of (shaped_some l (code_of table) ps (λ e. some (count ∙ e))) ∙ text_one (code_of table) (table_text l ps) ∙ spelled_flat (code_of table) (front_width l + entry_width l * n) (table_text l ps) len (flat table n)
+    ∙ ap (λ m. head_of (code_of table) (front_width l + entry_width l * n) ++ (front_text l.counted m ++ entries_text l ps)) (sym count)
 
 -- ---- the stream
 
-pub static_text : (g : GuestOf) → text_of (static_bodies g) ≡ text_of (where_some (of_code 17 g) (0x11, leaves_body (of_code 17 g))) ++ (text_of (where_some (of_code 18 g) (0x12, msrs_body (of_code 18 g))) ++ spelled 0x10 [])
-static_text g =
-    let a = where_some (of_code 17 g) (0x11, leaves_body (of_code 17 g)) in let b = where_some (of_code 18 g) (0x12, msrs_body (of_code 18 g)) in
-    text_join a (b ++ (0x10, []) ∷ []) ∙ ap (λ l. text_of a ++ l) (text_join b ((0x10, []) ∷ []) ∙ ap (λ l. text_of b ++ l) (text_one 0x10 []))
+abbrev texts_then : List PartCode → GuestOf → List ℕ → List ℕ
+texts_then [] g more = more
+texts_then (code ∷ codes) g more = text_of (records_of code g) ++ texts_then codes g more
 
-pub last_text : (g : GuestOf) → text_of (last_bodies g) ≡ text_of (map (λ p. (8, tsc_body p)) (of_code 8 g)) ++ (text_of (where_some (of_code 10 g) (0xA, params_body (of_code 10 g))) ++ (text_of (map (λ p. (9, p.1)) (of_code 9 g)) ++ spelled 0 []))
-last_text g =
-    let a : List Record = map (λ p. (8, tsc_body p)) (of_code 8 g) in let b = where_some (of_code 10 g) (0xA, params_body (of_code 10 g)) in let d : List Record = map (λ p. (9, p.1)) (of_code 9 g) in
-    text_join a (b ++ (d ++ (0, []) ∷ [])) ∙ ap (λ l. text_of a ++ l) (text_join b (d ++ (0, []) ∷ [])
-    ∙ ap (λ l. text_of b ++ l) (text_join d ((0, []) ∷ []) ∙ ap (λ l. text_of d ++ l) (text_one 0 [])))
+-- the records of codes one after another, and a last one
+pub codes_text : (codes : List PartCode) (g : GuestOf) (type : ℕ) → text_of (records_in_order codes g ++ (type, []) ∷ []) ≡ texts_then codes g (spelled type [])
+codes_text [] g type = text_one type []
+codes_text (code ∷ codes) g type =
+    ap text_of (append_assoc (records_of code g) (records_in_order codes g) ((type, []) ∷ [])) ∙ text_join (records_of code g) (records_in_order codes g ++ (type, []) ∷ [])
+    ∙ ap (λ l. text_of (records_of code g) ++ l) (codes_text codes g type)
 
 pub canon_is : (g : GuestOf) → canon g ≡ headers ++ (text_of (static_bodies g) ++ (text_of (frame_bodies (frames_in g) (batches (frames_in g))) ++ text_of (last_bodies g)))
 unfolding canon

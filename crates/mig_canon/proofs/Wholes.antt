@@ -1,30 +1,22 @@
 -- What a whole guest says of each of its parts.
-use Rattle.std.proofs.Common.{◌≡◌, ℕ, ◌+◌, ◌≤◌, ◌<◌, ◌^◌, List, [], ◌∷◌, length, true, false, cond, Option, Some, None, refl, sym, ap, subst, ◌∙◌, arith}
-use Rattle.std.specs.Prelude.{T, ◌==◌}
-use Rattle.std.proofs.lemmas.Grind.{common_steps}
+use Rattle.std.proofs.Common.{◌≡◌, ℕ, ◌+◌, ◌≤◌, ◌^◌, List, [], ◌∷◌, length, true, false, Option, Some, None, refl, sym, ap, subst, ◌∙◌, arith}
+use Rattle.std.specs.Prelude.{◌==◌}
 use Rattle.std.proofs.lemmas.Bool.{eqb-true}
-use Rattle.std.proofs.lemmas.Cmp.{eq_by_cmp_equiv}
-use Rattle.std.proofs.lemmas.List.Elements.{All-nil, All-cons, All-head, All-tail, All-filter, filter_passes}
+use Rattle.std.proofs.lemmas.List.Elements.{All-head, All-filter, filter_passes}
 use Rattle.std.specs.List.{All}
-use Rattle.std.specs.Ordering.{nat_cmp, is_lt, is_eq, ordering_then}
-use Rattle.std.specs.declared.cmp.Ordering.{Ordering}
-use Rattle.std.specs.declared.cmp.Ordering.TheVariants.{Less, Equal, Greater}
+use Rattle.std.specs.Ordering.{is_lt}
 use Rattle.std.specs.FinMap as maps
-use Rattle.std.specs.FinMap.{find, is_sorted}
-use Rattle.std.specs.FinMap.Entries.{below_all, is_sorted-where_key}
 use Rattle.mig_guest.specs.declared.part_key.PartKey.{PartKey}
 use Rattle.mig_guest.specs.Order.{part_cmp}
 use Rattle.mig_guest.specs.Guests.{GuestOf}
 use Rattle.mig_guest.specs.Parts.{Part, parts_of, parts_after}
 use Rattle.mig_guest.specs.PartKeys.{tsc_key, context_key}
-use Rattle.mig_guest.proofs.PartOrder.{part_total, part_exact}
-use Rattle.mig_guest.proofs.PartCursor.{both_of, not_itself, kept_none}
-use Rattle.mig_guest.proofs.CodeParts.{all_of, IsHeld, parts_are, held_tsc, held_context, held_param, held_leaf, held_msr, few_params}
+use Rattle.mig_guest.proofs.PartCursor.{not_itself, kept_none}
+use Rattle.mig_guest.proofs.CodeParts.{all_of, held_in, IsHeld, parts_are, held_tsc, held_context, held_param, held_leaf, held_msr, few_params}
 use Rattle.mig_pvtables.specs.Whole.{IsWhole}
 use Rattle.mig_canon.specs.declared.entries.Table.{Table}
 use Rattle.mig_canon.specs.declared.entries.Table.TheVariants.{Leaves, Msrs, Params}
-use Rattle.mig_canon.specs.Canon.{of_code}
-use Rattle.mig_canon.specs.Tables.{code_of, value_len, rows_of}
+use Rattle.mig_canon.specs.Tables.{code_of, layout_of, rows_of}
 
 -- ---- the parts of a code
 
@@ -35,9 +27,9 @@ same_code a b h = eqb-true a b h
 
 pub record IsRow (table : Table) (p : Part) : Type 0 where
   pub code : p.0.code ≡ code_of table
-  pub len : length p.1 ≡ value_len table
+  pub len : length p.1 ≡ (layout_of table).value_width
 
-len_of : (g : GuestOf) (table : Table) (p : Part) → IsHeld g (code_of table) p → length p.1 ≡ value_len table
+len_of : (g : GuestOf) (table : Table) (p : Part) → IsHeld g (code_of table) p → length p.1 ≡ (layout_of table).value_width
 len_of g Leaves p one = (held_leaf g p one).1
 len_of g Msrs p one = (held_msr g p one).1
 len_of g Params p one = (held_param g p one).2
@@ -78,18 +70,18 @@ alone_of k code es e all h =
     (all_of P P Q (λ p is same. ap (λ k. is_lt (part_cmp e.0 k)) (is ∙ sym first) ∙ not_itself e.0) (parts_of code es) all all))
 
 module _ (g : GuestOf) (whole : IsWhole g) (e : Part) where
-  is_first : (code : ℕ) → of_code code g ≡ e ∷ parts_after code (Some e.0) (maps.entries g.parts) → IsHeld g code e
+  is_first : (code : ℕ) → held_in code g ≡ e ∷ parts_after code (Some e.0) (maps.entries g.parts) → IsHeld g code e
   is_first code h = holds_next code None (maps.entries g.parts) e _ h (IsHeld g code) (parts_are g code whole.formed)
 
-  alone_in : (code : ℕ) (k : PartKey) → ((p : Part) → IsHeld g code p → p.0 ≡ k) → of_code code g ≡ e ∷ parts_after code (Some e.0) (maps.entries g.parts) → of_code code g ≡ e ∷ []
-  alone_in code k is h = let all = parts_are g code whole.formed in alone_of k code (maps.entries g.parts) e (all_of (IsHeld g code) (IsHeld g code) (λ p. p.0 ≡ k) (λ p one same. is p one) (of_code code g) all all) h
+  alone_in : (code : ℕ) (k : PartKey) → ((p : Part) → IsHeld g code p → p.0 ≡ k) → held_in code g ≡ e ∷ parts_after code (Some e.0) (maps.entries g.parts) → held_in code g ≡ e ∷ []
+  alone_in code k is h = let all = parts_are g code whole.formed in alone_of k code (maps.entries g.parts) e (all_of (IsHeld g code) (IsHeld g code) (λ p. p.0 ≡ k) (λ p one same. is p one) (held_in code g) all all) h
 
   -- the TSC is the only part of its code
-  pub one_tsc : of_code 8 g ≡ e ∷ parts_after 8 (Some e.0) (maps.entries g.parts) → (of_code 8 g ≡ e ∷ []) × (length e.1 ≡ 20)
+  pub one_tsc : held_in 8 g ≡ e ∷ parts_after 8 (Some e.0) (maps.entries g.parts) → (held_in 8 g ≡ e ∷ []) × (length e.1 ≡ 20)
   one_tsc h = let one = is_first 8 h in (alone_in 8 tsc_key (λ p is. (held_tsc g p is).0) h, (held_tsc g e one).1)
 
   -- so is the context
-  pub one_context : of_code 9 g ≡ e ∷ parts_after 9 (Some e.0) (maps.entries g.parts) → (of_code 9 g ≡ e ∷ []) × (length e.1 ≤ 2 ^ 27)
+  pub one_context : held_in 9 g ≡ e ∷ parts_after 9 (Some e.0) (maps.entries g.parts) → (held_in 9 g ≡ e ∷ []) × (length e.1 ≤ 2 ^ 27)
   one_context h =
       let one = is_first 9 h in (alone_in 9 context_key (λ p is. (held_context g p is).0) h, (held_context g e one).1)
 

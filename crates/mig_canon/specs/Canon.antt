@@ -10,7 +10,10 @@ use Rattle.mig_headers.specs.Headers.{image_header_of, domain_header_of}
 use Rattle.mig_pagetypes.specs.FrameWords.{word_of}
 use Rattle.mig_guest.specs.Frames.{FrameOf}
 use Rattle.mig_guest.specs.Guests.{GuestOf}
-use Rattle.mig_guest.specs.Parts.{Part, parts_of}
+use Rattle.mig_guest.specs.declared.part_code.PartCode.{PartCode}
+use Rattle.mig_guest.specs.declared.part_code.PartCode.TheVariants.{Tsc, HvmContext, HvmParam, CpuidLeaf, Msr}
+use Rattle.mig_guest.specs.PartCodes.{code_number}
+use Rattle.mig_bodies.specs.Shapes.{canonical_bodies, parts_at}
 use Rattle.mig_records.specs.Records.{spelled}
 
 -- ---- frames: 1024 in each record, and the rest in the last
@@ -50,53 +53,32 @@ Record = ℕ × List ℕ
 abbrev pub frame_bodies : List Frame → ℕ → List Record
 frame_bodies fs n = map (λ k. (1, body_of (batch fs k))) (range_with_len 0 n)
 
--- one record where there are such parts, and none where there are none
-abbrev pub where_some : List Part → Record → List Record
-where_some [] r = []
-where_some (p ∷ ps) r = r ∷ []
-
--- a leaf's numbers and registers; an MSR's index, flags and value; an index and a value
-abbrev pub leaf_bytes : Part → List ℕ
-leaf_bytes p = little_bytes 4 p.0.key1 ++ (little_bytes 4 p.0.key2 ++ p.1)
-
-abbrev pub msr_bytes : Part → List ℕ
-msr_bytes p = little_bytes 4 p.0.key1 ++ p.1
-
-abbrev pub param_bytes : Part → List ℕ
-param_bytes p = little_bytes 8 p.0.key1 ++ p.1
-
-abbrev pub leaves_body : List Part → List ℕ
-leaves_body ps = flat_map leaf_bytes ps
-
-abbrev pub msrs_body : List Part → List ℕ
-msrs_body ps = flat_map msr_bytes ps
-
--- the count, 4 zero bytes, the pairs
-abbrev pub params_body : List Part → List ℕ
-params_body ps = little_bytes 4 (length ps) ++ (replicate 4 0 ++ flat_map param_bytes ps)
-
--- the TSC's 20 bytes, and 4 zero bytes
-abbrev pub tsc_body : Part → List ℕ
-tsc_body p = p.1 ++ replicate 4 0
-
--- the parts of a guest with this code, by ascending keys
-abbrev pub of_code : ℕ → GuestOf → List Part
-of_code code g = parts_of code (maps.entries g.parts)
-
 abbrev pub frames_in : GuestOf → List Frame
 frames_in g = maps.entries g.frames
 
--- policies, where they have entries, and STATIC_DATA_END
-abbrev pub static_bodies : GuestOf → List Record
-static_bodies g =
-    where_some (of_code 17 g) (0x11, leaves_body (of_code 17 g))
-    ++ (where_some (of_code 18 g) (0x12, msrs_body (of_code 18 g)) ++ (0x10, []) ∷ [])
+-- the records of the parts of one code: a body as its row says, zero where it is ignored
+abbrev pub records_of : PartCode → GuestOf → List Record
+records_of code g = map (λ body. (code_number code, body)) (canonical_bodies code (parts_at code g))
 
--- the TSC, the parameters where there are any, the context, and END
+-- and of several codes, one after another
+abbrev pub records_in_order : List PartCode → GuestOf → List Record
+records_in_order codes g = flat_map (λ code. records_of code g) codes
+
+-- the policies, before the frames
+abbrev pub static_codes : List PartCode
+static_codes = CpuidLeaf ∷ Msr ∷ []
+
+-- the TSC, the parameters and the context, behind the frames
+abbrev pub last_codes : List PartCode
+last_codes = Tsc ∷ HvmParam ∷ HvmContext ∷ []
+
+-- up to STATIC_DATA_END
+abbrev pub static_bodies : GuestOf → List Record
+static_bodies g = records_in_order static_codes g ++ (0x10, []) ∷ []
+
+-- up to END
 abbrev pub last_bodies : GuestOf → List Record
-last_bodies g =
-    map (λ p. (8, tsc_body p)) (of_code 8 g)
-    ++ (where_some (of_code 10 g) (0xA, params_body (of_code 10 g)) ++ (map (λ p. (9, p.1)) (of_code 9 g) ++ (0, []) ∷ []))
+last_bodies g = records_in_order last_codes g ++ (0, []) ∷ []
 
 abbrev pub bodies_of : GuestOf → List Record
 bodies_of g = static_bodies g ++ (frame_bodies (frames_in g) (batches (frames_in g)) ++ last_bodies g)

@@ -1,33 +1,29 @@
 -- The parts of a guest that are written as the entries of one record.
-use Rattle.std.specs.Prelude.{ℕ, List}
+use Rattle.std.specs.Prelude.{ℕ, List, true, false}
+use Rattle.mig_guest.specs.declared.part_code.PartCode.{PartCode}
+use Rattle.mig_guest.specs.declared.part_code.PartCode.TheVariants.{HvmParam, CpuidLeaf, Msr}
 use Rattle.mig_guest.specs.Guests.{GuestOf}
+use Rattle.mig_guest.specs.PartCodes.{code_number}
 use Rattle.mig_guest.specs.Parts.{Part}
+use Rattle.mig_bodies.specs.declared.layout.Layout.{Layout}
+use Rattle.mig_bodies.specs.Layouts.{layout}
+use Rattle.mig_bodies.specs.Shapes.{parts_at}
 use Rattle.mig_canon.specs.declared.entries.Table.{Table}
 use Rattle.mig_canon.specs.declared.entries.Table.TheVariants.{Leaves, Msrs, Params}
-use Rattle.mig_canon.specs.Canon.{leaf_bytes, msr_bytes, param_bytes, of_code}
 
--- the code of the parts, which is the type of their record
+abbrev pub part_code_of : Table → PartCode
+part_code_of Leaves = CpuidLeaf
+part_code_of Msrs = Msr
+part_code_of Params = HvmParam
+
+-- the code's number, which is the type of the record
 abbrev pub code_of : Table → ℕ
-code_of Leaves = 17
-code_of Msrs = 18
-code_of Params = 10
+code_of table = code_number (part_code_of table)
 
--- the bytes of a part
-abbrev pub value_len : Table → ℕ
-value_len Leaves = 16
-value_len Msrs = 12
-value_len Params = 8
-
--- the bytes of an entry
-abbrev pub entry_len : Table → ℕ
-entry_len Leaves = 24
-entry_len Msrs = 16
-entry_len Params = 16
-
-abbrev pub entry_bytes : Table → Part → List ℕ
-entry_bytes Leaves p = leaf_bytes p
-entry_bytes Msrs p = msr_bytes p
-entry_bytes Params p = param_bytes p
+abbrev pub layout_of : Table → Layout
+layout_of Leaves = layout false 4 4 16
+layout_of Msrs = layout false 4 0 12
+layout_of Params = layout true 8 0 8
 
 abbrev pub rows_of : Table → GuestOf → List Part
-rows_of table g = of_code (code_of table) g
+rows_of table g = parts_at (part_code_of table) g

@@ -1,11 +1,11 @@
 ghost use Rattle.std.specs.Prelude.{◌≡◌, ◌+◌, ◌≤◌, length, ◌++◌, replicate};
-ghost use Rattle.std.specs.List.{flat_map};
 ghost use Rattle.byteorder.specs.Endian.{little_bytes};
 ghost use Rattle.mig_bytes.specs.Bytes.{Puts};
 ghost use Rattle.mig_bytes.specs.Faults.{HasCause};
 ghost use Rattle.mig_pvtables.specs.Whole.{IsWhole};
-ghost use Rattle.mig_canon.specs.Canon.{where_some, leaves_body, msrs_body, params_body, of_code, text_of};
-ghost use Rattle.mig_canon.specs.Tables.{code_of, value_len, entry_len, entry_bytes, rows_of};
+ghost use Rattle.mig_bodies.specs.Layouts.{entry_width, front_width, front_text, entry_text, entries_text};
+ghost use Rattle.mig_canon.specs.Canon.{records_of, text_of};
+ghost use Rattle.mig_canon.specs.Tables.{part_code_of, code_of, layout_of, rows_of};
 
 use mig_bytes::{Sink, WriteFailed, put_all, put_u32_le};
 use mig_guest::{Guest, PartKey};
@@ -31,9 +31,20 @@ impl Table {
         }
     }
 
+    /// The bytes before the entries.
+    fn front_len(self) -> u32
+        ensures value { result ≡ front_width (layout_of self) }
+        ensures small { result ≤ 8 }
+    {
+        match self {
+            Table::Leaves | Table::Msrs => 0,
+            Table::Params => 8,
+        }
+    }
+
     /// The bytes of an entry.
     fn entry_len(self) -> u32
-        ensures value { result ≡ entry_len self }
+        ensures value { result ≡ entry_width (layout_of self) }
         ensures small { result ≤ 24 }
     {
         match self {
@@ -81,8 +92,8 @@ fn write_entry<K: Sink>(
     key: PartKey,
     value: &[u8],
 ) -> Result<(), WriteFailed>
-    requires { length value.now ≡ value_len table }
-    ensures bytes { Puts (entry_bytes table (key, value.now)) (K.written sink.old) (K.written sink.new) result }
+    requires { length value.now ≡ (layout_of table).value_width }
+    ensures bytes { Puts (entry_text (layout_of table) (key, value.now)) (K.written sink.old) (K.written sink.new) result }
     ensures cause { HasCause (K.faults sink.old) (K.faults sink.new) result }
 {
     match table {
@@ -116,7 +127,7 @@ fn write_entries<K: Sink>(
 ) -> Result<(), WriteFailed>
     requires whole { IsWhole guest.now }
     requires count { count ≡ length (rows_of table guest.now) }
-    ensures bytes { Puts (flat_map (entry_bytes table) (rows_of table guest.now)) (K.written sink.old) (K.written sink.new) result }
+    ensures bytes { Puts (entries_text (layout_of table) (rows_of table guest.now)) (K.written sink.old) (K.written sink.new) result }
     ensures cause { HasCause (K.faults sink.old) (K.faults sink.new) result }
 {
     let mut after = None;
@@ -132,50 +143,36 @@ fn write_entries<K: Sink>(
     Ok(())
 }
 
-/// Appends the record of a policy, where it has entries.
-fn write_policy<K: Sink>(sink: &mut K, guest: &Guest, table: Table) -> Result<(), WriteFailed>
-    requires whole { IsWhole guest.now }
-    ensures bytes { Puts (text_of (where_some (rows_of table guest.now) (code_of table, flat_map (entry_bytes table) (rows_of table guest.now)))) (K.written sink.old) (K.written sink.new) result }
+/// Appends what stands before the entries: their number, where the table has it.
+fn write_front<K: Sink>(sink: &mut K, table: Table, count: u32) -> Result<(), WriteFailed>
+    ensures bytes { Puts (front_text (layout_of table).counted count) (K.written sink.old) (K.written sink.new) result }
+    ensures cause { HasCause (K.faults sink.old) (K.faults sink.new) result }
+{
+    match table {
+        Table::Params => write_count(sink, count),
+        Table::Leaves | Table::Msrs => Ok(()),
+    }
+}
+
+/// Appends the record of the table, where it has entries.
+pub(crate) fn write_table<K: Sink>(
+    sink: &mut K,
+    guest: &Guest,
+    table: Table,
+) -> Result<(), WriteFailed>
+    requires { IsWhole guest.now }
+    ensures bytes { Puts (text_of (records_of (part_code_of table) guest.now)) (K.written sink.old) (K.written sink.new) result }
     ensures cause { HasCause (K.faults sink.old) (K.faults sink.new) result }
 {
     let count = count_entries(guest, table);
     if count == 0 {
         return Ok(());
     }
-    write_head(sink, table.code(), table.entry_len() * count)?;
+    write_head(
+        sink,
+        table.code(),
+        table.front_len() + table.entry_len() * count,
+    )?;
+    write_front(sink, table, count)?;
     write_entries(sink, guest, table, count)
-}
-
-/// Appends the record of the CPUID policy, where it has entries.
-pub(crate) fn write_leaves<K: Sink>(sink: &mut K, guest: &Guest) -> Result<(), WriteFailed>
-    requires whole { IsWhole guest.now }
-    ensures bytes { Puts (text_of (where_some (of_code 17 guest.now) (0x11, leaves_body (of_code 17 guest.now)))) (K.written sink.old) (K.written sink.new) result }
-    ensures cause { HasCause (K.faults sink.old) (K.faults sink.new) result }
-{
-    write_policy(sink, guest, Table::Leaves)
-}
-
-/// Appends the record of the MSR policy, where it has entries.
-pub(crate) fn write_msrs<K: Sink>(sink: &mut K, guest: &Guest) -> Result<(), WriteFailed>
-    requires whole { IsWhole guest.now }
-    ensures bytes { Puts (text_of (where_some (of_code 18 guest.now) (0x12, msrs_body (of_code 18 guest.now)))) (K.written sink.old) (K.written sink.new) result }
-    ensures cause { HasCause (K.faults sink.old) (K.faults sink.new) result }
-{
-    write_policy(sink, guest, Table::Msrs)
-}
-
-/// Appends the record of the parameters, where there are any.
-pub(crate) fn write_params<K: Sink>(sink: &mut K, guest: &Guest) -> Result<(), WriteFailed>
-    requires whole { IsWhole guest.now }
-    ensures bytes { Puts (text_of (where_some (of_code 10 guest.now) (0xA, params_body (of_code 10 guest.now)))) (K.written sink.old) (K.written sink.new) result }
-    ensures cause { HasCause (K.faults sink.old) (K.faults sink.new) result }
-{
-    let table = Table::Params;
-    let pairs = count_entries(guest, table);
-    if pairs == 0 {
-        return Ok(());
-    }
-    write_head(sink, table.code(), 8 + table.entry_len() * pairs)?;
-    write_count(sink, pairs)?;
-    write_entries(sink, guest, table, pairs)
 }

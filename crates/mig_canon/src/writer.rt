@@ -1,11 +1,12 @@
-ghost use Rattle.std.specs.Prelude.{◌≡◌, ◌++◌, map};
+ghost use Rattle.std.specs.Prelude.{◌≡◌, ◌++◌};
 ghost use Rattle.mig_bytes.specs.Bytes.{Puts};
 ghost use Rattle.mig_bytes.specs.Faults.{HasCause};
 ghost use Rattle.mig_guest.specs.Formed.{IsPlainHvm};
 ghost use Rattle.mig_pvtables.specs.Whole.{IsWhole};
-ghost use Rattle.mig_canon.specs.Canon.{headers, static_bodies, last_bodies, tsc_body, of_code, text_of, canon};
+ghost use Rattle.mig_guest.specs.declared.part_code.PartCode.TheVariants.{Tsc, HvmContext};
+ghost use Rattle.mig_canon.specs.Canon.{headers, records_of, static_bodies, last_bodies, text_of, canon};
 
-use crate::entries::{write_leaves, write_msrs, write_params};
+use crate::entries::{Table, write_table};
 use crate::frames::write_frames;
 use mig_bytes::{Sink, WriteFailed, put_all};
 use mig_guest::Guest;
@@ -44,15 +45,15 @@ fn write_static<K: Sink>(sink: &mut K, guest: &Guest) -> Result<(), WriteFailed>
     ensures bytes { Puts (text_of (static_bodies guest.now)) (K.written sink.old) (K.written sink.new) result }
     ensures cause { HasCause (K.faults sink.old) (K.faults sink.new) result }
 {
-    write_leaves(sink, guest)?;
-    write_msrs(sink, guest)?;
+    write_table(sink, guest, Table::Leaves)?;
+    write_table(sink, guest, Table::Msrs)?;
     write_record(sink, STATIC_DATA_END, &[])
 }
 
 /// Appends the TSC, where there is one.
 fn write_tsc<K: Sink>(sink: &mut K, guest: &Guest) -> Result<(), WriteFailed>
     requires { IsWhole guest.now }
-    ensures bytes { Puts (text_of (map (λ p. (8, tsc_body p)) (of_code 8 guest.now))) (K.written sink.old) (K.written sink.new) result }
+    ensures bytes { Puts (text_of (records_of Tsc guest.now)) (K.written sink.old) (K.written sink.new) result }
     ensures cause { HasCause (K.faults sink.old) (K.faults sink.new) result }
 {
     match guest.next_of_code(TSC_INFO, None) {
@@ -68,7 +69,7 @@ fn write_tsc<K: Sink>(sink: &mut K, guest: &Guest) -> Result<(), WriteFailed>
 /// Appends the context.
 fn write_context<K: Sink>(sink: &mut K, guest: &Guest) -> Result<(), WriteFailed>
     requires { IsWhole guest.now }
-    ensures bytes { Puts (text_of (map (λ p. (9, p.1)) (of_code 9 guest.now))) (K.written sink.old) (K.written sink.new) result }
+    ensures bytes { Puts (text_of (records_of HvmContext guest.now)) (K.written sink.old) (K.written sink.new) result }
     ensures cause { HasCause (K.faults sink.old) (K.faults sink.new) result }
 {
     match guest.next_of_code(HVM_CONTEXT, None) {
@@ -84,7 +85,7 @@ fn write_last<K: Sink>(sink: &mut K, guest: &Guest) -> Result<(), WriteFailed>
     ensures cause { HasCause (K.faults sink.old) (K.faults sink.new) result }
 {
     write_tsc(sink, guest)?;
-    write_params(sink, guest)?;
+    write_table(sink, guest, Table::Params)?;
     write_context(sink, guest)?;
     write_record(sink, END, &[])
 }

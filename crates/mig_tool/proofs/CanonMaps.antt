@@ -1,16 +1,14 @@
 -- Finite maps and their entries: what every entry meets, and what entries that are set again give.
 use Rattle.std.proofs.Common.{◌≡◌, ℕ, Bool, true, false, cond, not, nat_eq, List, [], ◌∷◌, map, Option, Some, None, refl, sym, ap, subst, ◌∙◌}
-use Rattle.std.specs.Prelude.{T, ◌||◌}
+use Rattle.std.specs.Prelude.{T, ◌||◌, if◌then◌else◌}
 use Rattle.std.specs.List.{All}
 use Rattle.std.specs.Option.{option_or}
-use Rattle.std.proofs.lemmas.Cmp.{eq_by_cmp_equiv}
-use Rattle.std.proofs.lemmas.List.Elements.{All-nil, All-cons, All-head, All-tail}
-use Rattle.std.specs.Cmp.{IsTotalOrder, nat_cmp_total}
-use Rattle.std.specs.Ordering.{nat_cmp, is_lt, is_eq, eq_by_cmp}
-use Rattle.std.specs.declared.cmp.Ordering.{Ordering}
-use Rattle.std.specs.declared.cmp.Ordering.TheVariants.{Less, Equal, Greater}
+use Rattle.std.proofs.lemmas.List.Elements.{All-head, All-tail}
+use Rattle.std.specs.Cmp.{nat_cmp_total}
+use Rattle.std.specs.Ordering.{nat_cmp, eq_by_cmp}
+use Rattle.std.specs.declared.cmp.Ordering.TheVariants.{Equal}
 use Rattle.std.specs.FinMap as maps
-use Rattle.std.specs.FinMap.{find, is_sorted, IsAntisymmetric, nat_cmp-IsAntisymmetric}
+use Rattle.std.specs.FinMap.{find, is_sorted, nat_cmp-IsAntisymmetric}
 use Rattle.std.specs.FinMap.Entries.{below_all, find-where_key, is_sorted-where_key}
 use Rattle.mig_headers.specs.declared.kind.Kind.{Kind}
 use Rattle.mig_headers.specs.declared.kind.Kind.TheVariants.{Hvm}
@@ -26,9 +24,10 @@ use Rattle.mig_guest.specs.declared.part_code.PartCode.{PartCode}
 use Rattle.mig_guest.specs.declared.part_code.PartCode.TheVariants.{P2mFrames, VcpuBasic, VcpuExtended, VcpuXsave, SharedInfo, Tsc, HvmContext, HvmParam, VcpuMsrs, CpuidLeaf, Msr, EmulatorPairs, EmulatorContext}
 use Rattle.mig_guest.specs.PartCodes.{row_of, code_number}
 use Rattle.mig_guest.specs.Guests.{GuestOf}
-use Rattle.mig_guest.specs.Formed.{IsPart, IsFormed, IsPlainHvm, is_emulator_code, width_of}
+use Rattle.mig_guest.specs.Formed.{IsPart, IsFormed, IsPlainHvm, is_emulator_code, is_policy, width_of}
 use Rattle.mig_guest.proofs.Found.{found_first}
-use Rattle.mig_canon.specs.Canon.{Frame}
+use Rattle.mig_bodies.specs.Shapes.{set_parts, parts_at}
+use Rattle.mig_canon.specs.Canon.{Frame, static_codes, last_codes}
 use Rattle.mig_restore.specs.Record.{Entry}
 use Rattle.mig_restore.specs.Mean.{put_entry, put_entries}
 
@@ -108,7 +107,7 @@ module _ (of : PartMap) (codes : ℕ → Bool) (m : PartMap) (c : ℕ) (holds : 
   in_order = is_sorted-where_key part_cmp (λ (k : PartKey). nat_eq k.code c) (maps.entries of) (maps.entries_sorted of)
 
   -- the parts of a code set
-  pub holds_more : Holds of (λ x. nat_eq x c || codes x) (put_parts m (parts_of c (maps.entries of)))
+  holds_more : Holds of (λ x. nat_eq x c || codes x) (put_parts m (parts_of c (maps.entries of)))
   holds_more q =
       parts_set m (parts_of c (maps.entries of)) q in_order ∙ ap (option_or (find part_cmp q (parts_of c (maps.entries of)))) (holds q)
       ∙ ap (λ o. option_or o (cond (codes q.code) (maps.get of q) None)) (found_of q) ∙ mixed (nat_eq q.code c) (codes q.code) (maps.get of q)
@@ -126,12 +125,31 @@ module _ (of : PartMap) (codes : ℕ → Bool) (m : PartMap) (c : ℕ) (holds : 
       ∙ anew (nat_eq q.code c) (codes q.code) (maps.get of q)
 
   -- the parts of a code replaced
-  pub holds_replaced : Holds of (λ x. nat_eq x c || codes x) (replace_code c m (parts_of c (maps.entries of)))
+  holds_replaced : Holds of (λ x. nat_eq x c || codes x) (replace_code c m (parts_of c (maps.entries of)))
   holds_replaced = replaced (parts_of c (maps.entries of)) refl
+
+  -- as a record of the code sets them
+  holds_set : (b : Bool) → Holds of (λ x. nat_eq x c || codes x) (if b then replace_code c m (parts_of c (maps.entries of)) else put_parts m (parts_of c (maps.entries of)))
+  holds_set true = holds_replaced
+  holds_set false = holds_more
+
+-- the parts of these codes that a guest has, set code by code
+abbrev pub with_parts : List PartCode → GuestOf → PartMap → PartMap
+with_parts [] g m = m
+with_parts (code ∷ codes) g m = with_parts codes g (set_parts code m (parts_at code g))
+
+abbrev codes_with : List PartCode → (ℕ → Bool) → ℕ → Bool
+codes_with [] codes x = codes x
+codes_with (code ∷ more) codes x = codes_with more (λ n. nat_eq n (code_number code) || codes n) x
+
+pub holds_codes : (more : List PartCode) (g : GuestOf) (codes : ℕ → Bool) (m : PartMap) → Holds g.parts codes m → Holds g.parts (codes_with more codes) (with_parts more g m)
+holds_codes [] g codes m holds = holds
+holds_codes (code ∷ more) g codes m holds =
+    holds_codes more g (λ n. nat_eq n (code_number code) || codes n) (set_parts code m (parts_at code g)) (holds_set g.parts codes m (code_number code) holds (is_policy (code_number code)))
 
 -- the codes of the parts of an HVM guest
 abbrev pub hvm_codes : ℕ → Bool
-hvm_codes x = nat_eq x 9 || (nat_eq x 10 || (nat_eq x 8 || (nat_eq x 18 || (nat_eq x 17 || false))))
+hvm_codes = codes_with last_codes (codes_with static_codes (λ x. false))
 
 hvm_code : (c : PartCode) → (row_of c).of_kind Hvm ≡ true → is_emulator_code (code_number c) ≡ false → hvm_codes (code_number c) ≡ true
 hvm_code Tsc of_hvm plain = refl

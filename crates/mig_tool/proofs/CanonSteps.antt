@@ -1,37 +1,46 @@
 -- Records of a canonical stream one after another, each in its place.
-use Rattle.std.proofs.Common.{◌≡◌, ℕ, zero, suc, ◌+◌, ◌*◌, ◌≤◌, ◌<◌, ◌^◌, List, [], ◌∷◌, ◌++◌, length, take, map, replicate, Bool, true, false, nat_eq, None, refl, sym, ap, subst, ◌∙◌, arith, append_assoc, append-nil, length-append}
-use Rattle.std.specs.Prelude.{◌||◌, ◌&&◌}
+use Rattle.std.proofs.Common.{◌≡◌, ℕ, zero, suc, ◌+◌, ◌*◌, ◌≤◌, ◌<◌, ◌^◌, List, [], ◌∷◌, ◌++◌, length, take, map, replicate, Bool, true, false, nat_eq, Some, None, refl, sym, ap, subst, ◌∙◌, arith, append_assoc, append-nil, length-append}
+use Rattle.std.specs.Prelude.{◌||◌, ◌&&◌, fold, if◌then◌else◌}
 use Rattle.std.proofs.lemmas.Grind.{flat_map-append}
-use Rattle.std.proofs.lemmas.List.{length-replicate, map-append}
-use Rattle.std.proofs.lemmas.List.Elements.{All-head, All-tail}
+use Rattle.std.proofs.lemmas.List.{length-replicate, length-map, map-append}
 use Rattle.std.proofs.lemmas.List.Folds.{list_any-append}
 use Rattle.std.proofs.lemmas.List.FromFn.{map-range_with_len_more}
 use Rattle.std.proofs.lemmas.List.Sums.{fold-append}
-use Rattle.std.specs.List.{All, list_any}
+use Rattle.std.specs.List.{All, AllByRecursion, list_any}
 use Rattle.std.specs.FinMap as maps
 use Rattle.byteorder.specs.Endian.{little_bytes}
 use Rattle.mig_bytes.specs.Bytes.{padding_len}
 use Rattle.mig_headers.specs.declared.kind.Kind.TheVariants.{Hvm}
 use Rattle.mig_headers.specs.declared.record_type.RecordType.{RecordType}
-use Rattle.mig_headers.specs.declared.record_type.RecordType.TheVariants.{StaticDataEnd, X86PvInfo, X86PvP2mFrames}
+use Rattle.mig_headers.specs.declared.record_type.RecordType.TheVariants as types
+use Rattle.mig_headers.specs.declared.record_type.RecordType.TheVariants.{StaticDataEnd, X86PvInfo, X86PvP2mFrames, X86CpuidPolicy, X86MsrPolicy, X86TscInfo, HvmParams}
+use Rattle.mig_headers.specs.RecordTypes.{type_number, type_of_number}
 use Rattle.mig_guest.specs.Frames.{FrameMap}
 use Rattle.mig_guest.specs.Guests.{GuestOf}
 use Rattle.mig_guest.specs.declared.part_code.PartCode.{PartCode}
+use Rattle.mig_guest.specs.declared.part_code.PartCode.TheVariants.{Tsc, HvmContext, HvmParam, CpuidLeaf, Msr}
+use Rattle.mig_guest.specs.PartCodes.{code_number}
 use Rattle.mig_guest.specs.Parts.{Part, PartMap, put_parts}
-use Rattle.mig_bodies.specs.Shapes.{set_parts}
+use Rattle.mig_guest.specs.Formed.{IsFormed, is_policy}
+use Rattle.mig_guest.proofs.CodeParts.{one_tsc, one_context}
+use Rattle.mig_bodies.specs.declared.layout.Layout.{Layout}
+use Rattle.mig_bodies.specs.declared.shape.Shape.TheVariants.{Table, Single, Chain}
+use Rattle.mig_bodies.specs.Layouts.{layout}
+use Rattle.mig_bodies.specs.Shapes.{shape_of, set_parts, parts_at, part_body, bodies_by_shape, canonical_bodies, contents_by_shape, SayAll}
+use Rattle.mig_bodies.proofs.Canonical.{canonical_bodies_say}
 use Rattle.mig_records.specs.Records.{IsRecord, head_of, spelled}
 use Rattle.mig_order.specs.Order.{Earlier, some_earlier, among, content_records, vcpu_records, fault_after, fault_of_type}
 use Rattle.mig_order.proofs.OrderLaw.{faultless_is_in_order}
-use Rattle.mig_canon.specs.Canon.{Frame, Record, batch, batches, body_of, frame_bodies, where_some, text_of}
+use Rattle.mig_canon.specs.Canon.{Frame, Record, batch, batches, body_of, frame_bodies, records_of, records_in_order, static_codes, last_codes, text_of}
 use Rattle.mig_restore.specs.Record.{StreamRecord, Content, types_of, is_ended}
 use Rattle.mig_restore.specs.Record.Content.{Sets}
-use Rattle.mig_restore.specs.Judging.{Opening, is_built}
+use Rattle.mig_restore.specs.Judging.{Opening, is_built, code_of_type}
 use Rattle.mig_restore.specs.Mean.{sent, put_content, put_entry, put_entries}
 use Rattle.mig_restore.specs.Spelled.{IsComplete, Follows, Spells}
 use Rattle.mig_restore.specs.Spelled.Spells.{one_more}
 use Rattle.mig_restore.proofs.Meaning.{one_more_record}
-use Rattle.mig_tool.proofs.CanonMaps.{entry_of}
-use Rattle.mig_tool.proofs.CanonParts.{le32_first, le32_second, Fits}
+use Rattle.mig_tool.proofs.CanonMaps.{entry_of, with_parts}
+use Rattle.mig_tool.proofs.CanonParts.{le32_first, le32_second, Fits, fits_of}
 use Rattle.mig_tool.proofs.CanonFrames.{Fine, batch_fits, take_more, few_batches}
 
 abbrev pub opening : Opening
@@ -79,26 +88,11 @@ pub record IsStep (type : ℕ) (settled next : Bool) : Type 0 where
   pub bare : next ≡ false → among content_records type ≡ false
   pub no_vcpu : among vcpu_records type ≡ false
 
-pub leaves_step : IsStep 0x11 false false
-leaves_step = record { small = omega arith; built = refl; ordered = λ c i m. refl; settles = refl; bare = λ e. refl; no_vcpu = refl }
-
-pub msrs_step : IsStep 0x12 false false
-msrs_step = record { small = omega arith; built = refl; ordered = λ c i m. refl; settles = refl; bare = λ e. refl; no_vcpu = refl }
-
 pub static_end_step : IsStep 0x10 false true
 static_end_step = record { small = omega arith; built = refl; ordered = λ c i m. refl; settles = refl; bare = λ e. absurd (cc); no_vcpu = refl }
 
 pub frames_step : IsStep 1 true true
 frames_step = record { small = omega arith; built = refl; ordered = λ c i m. refl; settles = refl; bare = λ e. absurd (cc); no_vcpu = refl }
-
-pub tsc_step : IsStep 8 true true
-tsc_step = record { small = omega arith; built = refl; ordered = λ c i m. refl; settles = refl; bare = λ e. absurd (cc); no_vcpu = refl }
-
-pub params_step : IsStep 0xA true true
-params_step = record { small = omega arith; built = refl; ordered = λ c i m. refl; settles = refl; bare = λ e. absurd (cc); no_vcpu = refl }
-
-pub context_step : IsStep 9 true true
-context_step = record { small = omega arith; built = refl; ordered = λ c i m. refl; settles = refl; bare = λ e. absurd (cc); no_vcpu = refl }
 
 pub end_step : IsStep 0 true true
 end_step = record { small = omega arith; built = refl; ordered = λ c i m. refl; settles = refl; bare = λ e. absurd (cc); no_vcpu = refl }
@@ -173,32 +167,136 @@ module _ {bodies : List Record} {g : GuestOf} {settled : Bool} {most : ℕ} (s :
 
 -- ---- several records
 
--- a record where there are such parts
-pub maybe : (ps : List Part) (bodies : List Record) (g : GuestOf) (settled : Bool) (most type : ℕ) (body : List ℕ) (c : Content) → State bodies g settled most → IsStep type settled settled → Fits type body c → most < 2 ^ 28 → nat_eq type 0 ≡ false
-    → (ps ≡ [] → put_content g c ≡ g) → State (bodies ++ where_some ps (type, body)) (put_content g c) settled (most + 1)
-maybe [] bodies g settled most type body c s step fits room other none =
-    subst (λ h. State (bodies ++ []) h settled (most + 1)) (sym (none refl)) (subst (λ l. State l g settled (most + 1)) (sym (append-nil bodies)) (looser s (most + 1) (omega arith)))
-maybe (p ∷ ps) bodies g settled most type body c s step fits room other none = more s step fits room other
+-- a code whose records may stand where the static data have ended or not: of one type, at most one, which sets all parts
+pub record IsWritten (g : GuestOf) (settled : Bool) (code : PartCode) : Type 0 where
+  pub step : IsStep (code_number code) settled settled
+  pub type : RecordType
+  pub sets : code_of_type type ≡ Some code
+  pub named : type_of_number (code_number code) ≡ Some type
+  pub number : type_number type ≡ code_number code
+  pub no_end : nat_eq (code_number code) 0 ≡ false
+  pub one : length (canonical_bodies code (parts_at code g)) ≤ 1
+  pub at_once : (m : PartMap) → fold (set_parts code) m (contents_by_shape (shape_of code) (parts_at code g)) ≡ set_parts code m (parts_at code g)
 
--- parts of a code that is no policy's, set one after another
-module _ (code : PartCode) (puts : (m : PartMap) (ps : List Part) → set_parts code m ps ≡ put_parts m ps) where
-  set_on : (g : GuestOf) (p : Part) (ps : List Part) → put_content (put_content g (Sets code (p ∷ []))) (Sets code ps) ≡ put_content g (Sets code (p ∷ ps))
-  set_on g p ps = ap (λ (m : PartMap). record g { parts = m }) (puts (set_parts code g.parts (p ∷ [])) ps ∙ ap (λ m. put_parts m ps) (puts g.parts (p ∷ [])) ∙ sym (puts g.parts (p ∷ ps)))
+module _ (g : GuestOf) (formed : IsFormed g) (settled : Bool) where
+  -- the records with these bodies, which say these parts
+  said_more : (code : PartCode) → IsWritten g settled code → (bodies : List (List ℕ)) (said : List (List Part)) → SayAll code bodies said → (before : List Record) (h : GuestOf) (most : ℕ) → most + length bodies < 2 ^ 28 → State before h settled most
+      → State (before ++ map (λ body. (code_number code, body)) bodies) (record h { parts = fold (set_parts code) h.parts said }) settled (most + length bodies)
+  said_more code w [] [] says before h most room s = subst (λ l. State l h settled (most + 0)) (sym (append-nil before)) (looser s (most + 0) (omega arith))
+  said_more code w [] (ps ∷ said) says before h most room s = absurd says
+  said_more code w (body ∷ bodies) [] says before h most room s = absurd says
+  said_more code w (body ∷ bodies) (ps ∷ said) says before h most room s =
+      let this : Record = (code_number code, body) in let h1 = put_content h (Sets code ps) in
+      let now = more s w.step (fits_of w.type code body ps w.sets w.named w.number says.0) (omega (arith, room)) w.no_end in
+      let rest = said_more code w bodies said says.1 (before ++ this ∷ []) h1 (most + 1) (omega (arith, room)) now in
+      looser (subst (λ l. State l (record h { parts = fold (set_parts code) h1.parts said }) settled (most + 1 + length bodies)) (append_assoc before (this ∷ []) (map (λ b. (code_number code, b)) bodies)) rest) (most + suc (length bodies)) (omega arith)
 
-  set_none : (g : GuestOf) → put_content g (Sets code []) ≡ g
-  set_none g = ap (λ (m : PartMap). record g { parts = m }) (puts g.parts [])
+  -- the records of one code
+  code_more : (code : PartCode) → IsWritten g settled code → (before : List Record) (h : GuestOf) (most : ℕ) → most + 1 < 2 ^ 28 → State before h settled most
+      → State (before ++ records_of code g) (record h { parts = set_parts code h.parts (parts_at code g) }) settled (most + 1)
+  code_more code w before h most room s =
+      let bodies = canonical_bodies code (parts_at code g) in
+      let now = said_more code w bodies (contents_by_shape (shape_of code) (parts_at code g)) (canonical_bodies_say code g formed) before h most (omega (arith, room, w.one)) s in
+      looser (subst (λ m. State (before ++ records_of code g) (record h { parts = m }) settled (most + length bodies)) (w.at_once h.parts) now) (most + 1) (omega (arith, w.one))
 
-  -- a record for each part
-  pub each_more : (type : ℕ) (body : Part → List ℕ) → IsStep type true true → nat_eq type 0 ≡ false → (ps : List Part) → All (λ p. Fits type (body p) (Sets code (p ∷ []))) ps → (bodies : List Record) (g : GuestOf) (most : ℕ) → most + length ps < 2 ^ 28
-      → State bodies g true most → State (bodies ++ map (λ p. (type, body p)) ps) (put_content g (Sets code ps)) true (most + length ps)
-  each_more type body step other [] all bodies g most room s =
-      subst (λ h. State (bodies ++ []) h true (most + 0)) (sym (set_none g)) (subst (λ l. State l g true (most + 0)) (sym (append-nil bodies)) (looser s (most + 0) (omega arith)))
-  each_more type body step other (p ∷ ps) all bodies g most room s =
-      let P : Part → Type 0 = λ x. Fits type (body x) (Sets code (x ∷ [])) in
-      let one = more s step (All-head P p ps all) (omega (arith, room)) other in
-      let rest = each_more type body step other ps (All-tail P p ps all) (bodies ++ (type, body p) ∷ []) (put_content g (Sets code (p ∷ []))) (most + 1) (omega (arith, room)) one in
-      let here = subst (λ l. State l (put_content (put_content g (Sets code (p ∷ []))) (Sets code ps)) true (most + 1 + length ps)) (append_assoc bodies ((type, body p) ∷ []) (map (λ x. (type, body x)) ps)) rest in
-      looser (subst (λ h. State (bodies ++ map (λ x. (type, body x)) (p ∷ ps)) h true (most + 1 + length ps)) (set_on g p ps) here) (most + suc (length ps)) (omega arith)
+  -- the records of several codes
+  pub codes_more : (codes : List PartCode) → AllByRecursion (IsWritten g settled) codes → (before : List Record) (h : GuestOf) (most : ℕ) → most + length codes < 2 ^ 28 → State before h settled most
+      → State (before ++ records_in_order codes g) (record h { parts = with_parts codes g h.parts }) settled (most + length codes)
+  codes_more [] ws before h most room s = subst (λ l. State l h settled (most + 0)) (sym (append-nil before)) (looser s (most + 0) (omega arith))
+  codes_more (code ∷ codes) ws before h most room s =
+      let h1 = put_content h (Sets code (parts_at code g)) in
+      let rest = codes_more codes ws.1 (before ++ records_of code g) h1 (most + 1) (omega (arith, room)) (code_more code ws.0 before h most (omega (arith, room)) s) in
+      looser (subst (λ l. State l (record h { parts = with_parts codes g h1.parts }) settled (most + 1 + length codes)) (append_assoc before (records_of code g) (records_in_order codes g)) rest) (most + suc (length codes)) (omega arith)
+
+-- ---- the codes of an HVM guest
+
+no_parts : (code : PartCode) (m : PartMap) → set_parts code m [] ≡ m
+no_parts code m = same (is_policy (code_number code))
+  where
+    same : (b : Bool) → (if b then m else m) ≡ m
+    same true = refl
+    same false = refl
+
+one_table : (l : Layout) (ps : List Part) → length (bodies_by_shape (Table l) ps) ≤ 1
+one_table l [] = omega arith
+one_table l (p ∷ ps) = omega arith
+
+table_at_once : (code : PartCode) (l : Layout) (ps : List Part) (m : PartMap) → fold (set_parts code) m (contents_by_shape (Table l) ps) ≡ set_parts code m ps
+table_at_once code l [] m = sym (no_parts code m)
+table_at_once code l (p ∷ ps) m = refl
+
+each_at_once : (code : PartCode) → ((m : PartMap) (ps : List Part) → set_parts code m ps ≡ put_parts m ps) → (ps : List Part) (m : PartMap) → fold (set_parts code) m (map (λ p. p ∷ []) ps) ≡ set_parts code m ps
+each_at_once code puts [] m = sym (no_parts code m)
+each_at_once code puts (p ∷ ps) m = each_at_once code puts ps (set_parts code m (p ∷ [])) ∙ puts (set_parts code m (p ∷ [])) ps ∙ ap (λ n. put_parts n ps) (puts m (p ∷ [])) ∙ sym (puts m (p ∷ ps))
+
+module _ (g : GuestOf) (formed : IsFormed g) where
+  leaves_written : IsWritten g false CpuidLeaf
+  leaves_written = record {
+    step = record { small = omega arith; built = refl; ordered = λ c i m. refl; settles = refl; bare = λ e. refl; no_vcpu = refl };
+    type = X86CpuidPolicy;
+    sets = refl;
+    named = refl;
+    number = refl;
+    no_end = refl;
+    one = one_table (layout false 4 4 16) (parts_at CpuidLeaf g);
+    at_once = table_at_once CpuidLeaf (layout false 4 4 16) (parts_at CpuidLeaf g);
+  }
+
+  msrs_written : IsWritten g false Msr
+  msrs_written = record {
+    step = record { small = omega arith; built = refl; ordered = λ c i m. refl; settles = refl; bare = λ e. refl; no_vcpu = refl };
+    type = X86MsrPolicy;
+    sets = refl;
+    named = refl;
+    number = refl;
+    no_end = refl;
+    one = one_table (layout false 4 0 12) (parts_at Msr g);
+    at_once = table_at_once Msr (layout false 4 0 12) (parts_at Msr g);
+  }
+
+  tsc_written : IsWritten g true Tsc
+  tsc_written = record {
+    step = record { small = omega arith; built = refl; ordered = λ c i m. refl; settles = refl; bare = λ e. absurd (cc); no_vcpu = refl };
+    type = X86TscInfo;
+    sets = refl;
+    named = refl;
+    number = refl;
+    no_end = refl;
+    one = omega (arith, length-map (parts_at Tsc g) (part_body (Single 20 4)), one_tsc g formed);
+    at_once = each_at_once Tsc (λ _ _. refl) (parts_at Tsc g);
+  }
+
+  params_written : IsWritten g true HvmParam
+  params_written = record {
+    step = record { small = omega arith; built = refl; ordered = λ c i m. refl; settles = refl; bare = λ e. absurd (cc); no_vcpu = refl };
+    type = HvmParams;
+    sets = refl;
+    named = refl;
+    number = refl;
+    no_end = refl;
+    one = one_table (layout true 8 0 8) (parts_at HvmParam g);
+    at_once = table_at_once HvmParam (layout true 8 0 8) (parts_at HvmParam g);
+  }
+
+  context_written : IsWritten g true HvmContext
+  context_written = record {
+    step = record { small = omega arith; built = refl; ordered = λ c i m. refl; settles = refl; bare = λ e. absurd (cc); no_vcpu = refl };
+    type = types.HvmContext;
+    sets = refl;
+    named = refl;
+    number = refl;
+    no_end = refl;
+    one = omega (arith, length-map (parts_at HvmContext g) (part_body Chain), one_context g formed);
+    at_once = each_at_once HvmContext (λ _ _. refl) (parts_at HvmContext g);
+  }
+
+  pub static_written : AllByRecursion (IsWritten g false) static_codes
+  static_written = (leaves_written, (msrs_written, tt))
+
+  pub last_written : AllByRecursion (IsWritten g true) last_codes
+  last_written = (tsc_written, (params_written, (context_written, tt)))
+
+-- ---- frames
 
 bodies_more : (fs : List Frame) (n : ℕ) → frame_bodies fs (suc n) ≡ frame_bodies fs n ++ (1, body_of (batch fs n)) ∷ []
 bodies_more fs n = ap (frame_bodies fs) (let e : suc n ≡ n + 1 = omega arith in e) ∙ map-range_with_len_more (λ k. (1, body_of (batch fs k))) 0 n n (omega arith)

@@ -17,8 +17,6 @@ use Rattle.mig_guest.specs.Frames.{IsFew}
 use Rattle.mig_pvtables.specs.Whole.{IsWhole}
 use Rattle.mig_pvtables.proofs.HvmGuests.{hvm_complete}
 use Rattle.mig_restore.specs.Judging.{Opening}
-use Rattle.mig_restore.specs.Mean.{mean}
-use Rattle.mig_restore.specs.Record.{StreamRecord}
 use Rattle.mig_bytes.specs.Judged.Judged.{Passes}
 use Rattle.mig_restore.specs.Stream.{ImageOf, IsReading, ReadsImage, image_at}
 use Rattle.mig_restore.specs.declared.read.Reading.{Reading}

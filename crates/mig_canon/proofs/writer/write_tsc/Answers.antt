@@ -1,7 +1,7 @@
-use Rattle.std.proofs.Common.{ℕ, List, [], ◌∷◌, ◌++◌, map, ap, sym, ◌∙◌}
+use Rattle.std.proofs.Common.{ℕ, List, [], ◌∷◌, ◌++◌, map, replicate, ap, sym, ◌∙◌}
 use Rattle.mig_bytes.proofs.Texts.{puts_same}
 use Rattle.mig_records.specs.Records.{spelled}
-use Rattle.mig_canon.specs.Canon.{tsc_body, text_of}
+use Rattle.mig_canon.specs.Canon.{text_of}
 use Rattle.mig_canon.proofs.Wholes.{one_tsc}
 use Rattle.mig_canon.proofs.Spelling.{text_one}
 use Rattle.mig_canon.proofs.writer.write_tsc.Goals as goal
@@ -15,5 +15,5 @@ pub returns-in-Some-clause-bytes : goal.returns-in-Some-clause-bytes
 returns-in-Some-clause-bytes g c =
     let all = (one_tsc c.args.guest.now c.requires (c.in-Some.field-0-0, c.in-Some.bytes.now) c.in-Some.ensures.next).0 in
     puts_same _ _ _ _ c.write_record.result
-    (ap (λ (ps : List Part). text_of (map (λ p. (8, tsc_body p)) ps)) all ∙ text_one 8 (tsc_body (c.in-Some.field-0-0, c.in-Some.bytes.now))
+    (ap (λ (ps : List Part). text_of (map (λ (body : List ℕ). (8, body)) (map (λ (p : Part). p.1 ++ replicate 4 0) ps))) all ∙ text_one 8 (c.in-Some.bytes.now ++ replicate 4 0)
     ∙ ap (λ (l : List ℕ). spelled 8 (l ++ (0 ∷ 0 ∷ 0 ∷ 0 ∷ []))) (sym c.copy_from_slice.ensures.after)) c.write_record.ensures.bytes
