@@ -21,7 +21,7 @@ use Rattle.mig_headers.specs.declared.kind.Kind.TheVariants.{Pv, Hvm}
 use Rattle.mig_guest.specs.Hosts.{HostOf, HostFrame, IsValid}
 use Rattle.mig_guest.specs.Order.{part_cmp}
 use Rattle.mig_image.specs.Image.{host_head, frame_text, part_text, image, IsHostImage}
-use Rattle.mig_image.specs.ImageParts.{name_rows, size_rows, fault_of_name, fault_of_sizes, fault_of_host_head, host_head_at, opened, frames_at, parts_at, count_at, behind_head, host_at}
+use Rattle.mig_image.specs.ImageParts.{name_rows, size_rows, fault_of_name, fault_of_sizes, fault_of_host_head, host_head_at, opened, frames_at, host_parts_at, count_at, behind_head, host_at}
 use Rattle.mig_image.proofs.FieldBytes.{Bytes, bytes_front, bytes_back, name_back, word_back, long_back, cut, last, judged_part, regroup}
 use Rattle.mig_image.proofs.FrameChains.{put_frames, with_frames}
 use Rattle.mig_image.proofs.FrameChains.{Entry as Frame}
@@ -132,10 +132,10 @@ record Found (input : List ℕ) (h : HostOf) (rest : List ℕ) : Type 0 where
   counted : at_count ≡ little_bytes 8 count ++ at_parts
   parts : PartsFound (framed head frames.es) maps.empty count at_parts h rest
 
-parts_found : (head at_frames at_count at_parts : List ℕ) (passed h : HostOf) (count : ℕ) (rest : List ℕ) (f : FramesFound (opened head) maps.empty (le64 head 24) at_frames passed at_count) → Bytes at_parts → parts_at count passed at_parts ≡ Passes h rest
+parts_found : (head at_frames at_count at_parts : List ℕ) (passed h : HostOf) (count : ℕ) (rest : List ℕ) (f : FramesFound (opened head) maps.empty (le64 head 24) at_frames passed at_count) → Bytes at_parts → host_parts_at count passed at_parts ≡ Passes h rest
     → PartsFound (framed head f.es) maps.empty count at_parts h rest
 parts_found head at_frames at_count at_parts passed h count rest f all is =
-    parts_back (framed head f.es) maps.empty count 0 at_parts h rest all (subst (λ x. parts_at count x at_parts ≡ Passes h rest) f.is is)
+    parts_back (framed head f.es) maps.empty count 0 at_parts h rest all (subst (λ x. host_parts_at count x at_parts ≡ Passes h rest) f.is is)
 
 found : (input : List ℕ) (h : HostOf) (rest : List ℕ) → Bytes input → host_at input ≡ Passes h rest → Found input h rest
 unfolding host_at
@@ -143,10 +143,10 @@ found input h rest all is =
     let a = both_pass (placed Head (host_head_at input)) (λ head. behind_head head.0 head.1) h rest is in
     let p = judged_part Truncated 32 fault_of_host_head input a.x a.mid (placed_passes Head (host_head_at input) a.x a.mid a.first) in
     let in_frames : Bytes a.mid = bytes_back input a.x a.mid p.0 all in
-    let b = both_pass (frames_at (le64 a.x 24) (opened a.x) a.mid) (λ f. placed Parts (count_at f.1) >>= λ count. parts_at count.0 f.0 count.1) h rest a.second in
+    let b = both_pass (frames_at (le64 a.x 24) (opened a.x) a.mid) (λ f. placed Parts (count_at f.1) >>= λ count. host_parts_at count.0 f.0 count.1) h rest a.second in
     let f = frames_back (opened a.x) maps.empty (le64 a.x 24) 0 a.mid b.x b.mid in_frames b.first in
     let in_count : Bytes b.mid = bytes_back a.mid (flat_map frame_text f.es) b.mid f.whole in_frames in
-    let c = both_pass (placed Parts (count_at b.mid)) (λ count. parts_at count.0 b.x count.1) h rest b.second in
+    let c = both_pass (placed Parts (count_at b.mid)) (λ count. host_parts_at count.0 b.x count.1) h rest b.second in
     let n = count_back b.mid c.x c.mid in_count (placed_passes Parts (count_at b.mid) c.x c.mid c.first) in
     let in_parts : Bytes c.mid = bytes_back b.mid (little_bytes 8 c.x) c.mid n in_count in
     record {

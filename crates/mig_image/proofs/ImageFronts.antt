@@ -16,7 +16,7 @@ use Rattle.mig_pagetypes.specs.PageTypes.{type_has_data}
 use Rattle.mig_guest.specs.Hosts.{HostOf}
 use Rattle.mig_image.specs.Answer.{IsHost, BeginsWithImage}
 use Rattle.mig_image.specs.Image.{image, IsHostImage}
-use Rattle.mig_image.specs.ImageParts.{fault_of_host_head, fault_of_frame, fault_of_part, fault_of_bytes, fault_of_padding, opened, host_head_at, head_type, head_pfn, head_key, frame_head_at, host_page_at, frame_said, put_frame, host_frame_at, part_head_at, bytes_at, padding_at, put_part_in, part_at, frames_at, parts_at, count_at, behind_head, host_at}
+use Rattle.mig_image.specs.ImageParts.{fault_of_host_head, fault_of_frame, fault_of_part, fault_of_bytes, fault_of_padding, opened, host_head_at, head_type, head_pfn, head_key, frame_head_at, host_page_at, frame_said, put_frame, host_frame_at, part_head_at, bytes_at, padding_at, put_part_in, part_at, frames_at, host_parts_at, count_at, behind_head, host_at}
 use Rattle.mig_image.proofs.FieldBytes.{judged_part}
 use Rattle.mig_image.proofs.ImageBack.{image_back}
 
@@ -52,9 +52,9 @@ count = front_then (part Truncated 8) (λ a. Passes (le64 a.0 0) a.1) (front_par
 
 behind : (head : List ℕ) → TakesFronts (behind_head head)
 behind head =
-    front_then (frames_at (le64 head 24) (opened head)) (λ framed. placed Parts (count_at framed.1) >>= λ count. parts_at count.0 framed.0 count.1)
+    front_then (frames_at (le64 head 24) (opened head)) (λ framed. placed Parts (count_at framed.1) >>= λ count. host_parts_at count.0 framed.0 count.1)
     (front_steps (λ i h input. placed (Frame i) (host_frame_at h input)) (λ i h. front_placed (Frame i) (host_frame_at h) (frame h)) (le64 head 24) 0 (opened head))
-    (λ h. front_then (λ i. placed Parts (count_at i)) (λ count. parts_at count.0 h count.1) (front_placed Parts count_at count)
+    (λ h. front_then (λ i. placed Parts (count_at i)) (λ count. host_parts_at count.0 h count.1) (front_placed Parts count_at count)
     (λ n. front_steps (λ i h input. placed (Part i) (part_at h input)) (λ i h. front_placed (Part i) (part_at h) (a_part h)) n 0 h))
 
 whole : TakesFronts host_at

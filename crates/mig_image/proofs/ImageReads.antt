@@ -20,7 +20,7 @@ use Rattle.mig_headers.specs.declared.kind.Kind.{Kind}
 use Rattle.mig_headers.specs.declared.kind.Kind.TheVariants.{Pv, Hvm}
 use Rattle.mig_guest.specs.Hosts.{HostOf, IsValid}
 use Rattle.mig_image.specs.Image.{host_head, frame_text, part_text, image, IsHostImage}
-use Rattle.mig_image.specs.ImageParts.{is_wide, name_rows, size_rows, fault_of_name, fault_of_sizes, fault_of_host_head, host_head_at, opened, frames_at, parts_at, count_at, behind_head, host_at}
+use Rattle.mig_image.specs.ImageParts.{is_wide, name_rows, size_rows, fault_of_name, fault_of_sizes, fault_of_host_head, host_head_at, opened, frames_at, host_parts_at, count_at, behind_head, host_at}
 use Rattle.mig_image.proofs.FrameChains.{frames_go, frames_chain, frames_same, frames_within, with_frames}
 use Rattle.mig_image.proofs.PartChains.{parts_go, parts_chain, parts_same, parts_few}
 use Rattle.mig_bytes.proofs.Joins.{then_passes, tried_none}
@@ -164,18 +164,18 @@ module _ (h : HostOf) (valid : IsValid h) (rest : List ℕ) where
   frames_read : frames_at (length (maps.entries h.frames)) (without h) at_frames ≡ Passes framed at_count
   frames_read = frames_go (without h) maps.empty (maps.entries h.frames) 0 at_count wide (frames_chain h valid) ∙ ap (λ m. Passes (with_frames (without h) m) at_count) (frames_same h valid)
 
-  parts_read : parts_at count framed at_parts ≡ Passes h rest
+  parts_read : host_parts_at count framed at_parts ≡ Passes h rest
   parts_read = parts_go framed maps.empty (maps.entries h.parts) 0 rest wide (parts_chain h valid) ∙ ap (λ m. Passes (record { kind = h.kind; width = h.width; frames = h.frames; parts = m }) rest) (parts_same h valid)
 
   abbrev behind_frames : HostOf × List ℕ → Judged (ImagePlace × ImageCause) HostOf
-  behind_frames f = placed Parts (count_at f.1) >>= λ count. parts_at count.0 f.0 count.1
+  behind_frames f = placed Parts (count_at f.1) >>= λ count. host_parts_at count.0 f.0 count.1
 
   behind : behind_head (host_head h) at_frames ≡ Passes h rest
   behind =
       let s = says h valid in
       then_passes (frames_at (le64 (host_head h) 24) (opened (host_head h)) at_frames) behind_frames framed at_count _
       (ap (λ n. frames_at n (opened (host_head h)) at_frames) s.count ∙ ap (λ o. frames_at (length (maps.entries h.frames)) o at_frames) (opened_is h (host_head h) s) ∙ frames_read)
-      (then_passes (placed Parts (count_at at_count)) (λ count. parts_at count.0 framed count.1) count at_parts _ (ap (placed Parts) (count_text count at_parts (parts_few h valid))) parts_read)
+      (then_passes (placed Parts (count_at at_count)) (λ count. host_parts_at count.0 framed count.1) count at_parts _ (ap (placed Parts) (count_text count at_parts (parts_few h valid))) parts_read)
 
   head_reads : host_head_at (host_head h ++ at_frames) ≡ Passes (host_head h) at_frames
   head_reads =

@@ -204,8 +204,8 @@ part_at h input = do
 abbrev pub frames_at : ℕ → HostOf → List ℕ → Judged (ImagePlace × ImageCause) HostOf
 frames_at count h input = steps (λ i h. λ input. placed (Frame i) (host_frame_at h input)) count 0 h input
 
-abbrev pub parts_at : ℕ → HostOf → List ℕ → Judged (ImagePlace × ImageCause) HostOf
-parts_at count h input = steps (λ i h. λ input. placed (Part i) (part_at h input)) count 0 h input
+abbrev pub host_parts_at : ℕ → HostOf → List ℕ → Judged (ImagePlace × ImageCause) HostOf
+host_parts_at count h input = steps (λ i h. λ input. placed (Part i) (part_at h input)) count 0 h input
 
 -- the number of parts, 8 bytes
 abbrev pub count_at : List ℕ → Judged ImageCause ℕ
@@ -218,7 +218,7 @@ abbrev pub behind_head : List ℕ → List ℕ → Judged (ImagePlace × ImageCa
 behind_head head input = do
   framed ← frames_at (le64 head 24) (opened head) input
   count ← placed Parts (count_at framed.1)
-  parts_at count.0 framed.0 count.1
+  host_parts_at count.0 framed.0 count.1
 
 unfoldable pub host_at : List ℕ → Judged (ImagePlace × ImageCause) HostOf
 host_at input = do

@@ -9,7 +9,7 @@ ghost use Rattle.mig_headers.specs.declared.kind.Kind.TheVariants.{Pv};
 ghost use Rattle.mig_guest.specs.Hosts.{IsValid};
 ghost use Rattle.mig_guest.specs.PartCodes.{code_of_number};
 ghost use Rattle.mig_guest.specs.Parts.{PartMap};
-ghost use Rattle.mig_image.specs.ImageParts.{fault_of_part, fault_of_bytes, head_key, code_fits, code_allows, has_part_from, is_full, part_head_at, bytes_at, padding_at, part_at, parts_at};
+ghost use Rattle.mig_image.specs.ImageParts.{fault_of_part, fault_of_bytes, head_key, code_fits, code_allows, has_part_from, is_full, part_head_at, bytes_at, padding_at, part_at, host_parts_at};
 ghost use Rattle.mig_image.specs.PartCounts.{Counts};
 
 use crate::host::Host;
@@ -221,7 +221,7 @@ pub(crate) fn read_parts<S: Source>(
     count: u64,
 ) -> Result<(), Stop<(ImagePlace, ImageCause)>>
     requires { host.old.parts ≡ maps.empty }
-    ensures read { Gives (λ _ h. host.new ≡ h) (S.left src.old) (S.left src.new) (parts_at count host.old) result }
+    ensures read { Gives (λ _ h. host.new ≡ h) (S.left src.old) (S.left src.new) (host_parts_at count host.old) result }
     ensures taken { OnOk result (TakesBytes (S.left src.old) (S.left src.new)) }
     ensures faults { RisesOnReadFault (S.faults src.old) (S.faults src.new) result }
 {

@@ -30,7 +30,7 @@ use Rattle.mig_pvtables.proofs.HvmGuests.{hvm_fault}
 use Rattle.mig_pvtables.specs.Faults.{fault_of_guest}
 use Rattle.mig_restore.specs.Judging.{Opening, Before, before, is_built, record_at, next_at, body_at, typed_at, sets_at, entries_at, entry_at, words_at, fault_of_head, fault_at_end, fault_of_data, type_in_word}
 use Rattle.mig_restore.specs.Mean.{sent}
-use Rattle.mig_restore.specs.Record.{StreamRecord, Entry, Content}
+use Rattle.mig_restore.specs.Record.{StreamRecord, FrameEntry, Content}
 use Rattle.mig_restore.specs.Record.Content.{Nothing, Frames, Sets}
 use Rattle.mig_restore.proofs.Parts.{begins, behind_head, behind_body, asks, behind_record}
 use Rattle.mig_restore.proofs.Entries.{behind_words}
@@ -91,10 +91,10 @@ page_size w = cond (word_has_data w) 4096 0
 abbrev page_of : ℕ → List ℕ → Option (List ℕ)
 page_of w b = cond (word_has_data w) (Some b) None
 
-abbrev entry_of : ℕ → List ℕ → Entry
+abbrev entry_of : ℕ → List ℕ → FrameEntry
 entry_of w b = record { pfn = word_pfn w; type = type_in_word w; page = page_of w b }
 
-abbrev other_entries : ℕ → List ℕ → List ℕ → List ℕ → Judged Cause (List Entry)
+abbrev other_entries : ℕ → List ℕ → List ℕ → List ℕ → Judged Cause (List FrameEntry)
 other_entries w ws b r = each entry_at ws r >>= λ others. Passes (entry_of w b ∷ others.0) others.1
 
 page_by : (b : Bool) (i : List ℕ) → cond b (part Truncated 4096 i >>= λ p. Passes (Some p.0) p.1) (Passes None i) ≡ (part Truncated (cond b 4096 0) i >>= λ p. Passes (cond b (Some p.0) None) p.1)
@@ -142,16 +142,16 @@ module _ (kind : Kind) (top len : ℕ) where
   abbrev count_fault : List ℕ → Option Cause
   count_fault b = fault_of_count len (le32 b 0)
 
-  abbrev behind_count : List ℕ → List ℕ → Judged Cause (List Entry)
+  abbrev behind_count : List ℕ → List ℕ → Judged Cause (List FrameEntry)
   behind_count b r = words_at (le32 b 0) r >>= behind_words kind top len
 
   abbrev words_fault : ℕ → List ℕ → Option Cause
   words_fault n b = fault_of_words kind top (words n b)
 
-  abbrev behind_good : List ℕ → List ℕ → Judged Cause (List Entry)
+  abbrev behind_good : List ℕ → List ℕ → Judged Cause (List FrameEntry)
   behind_good ws r = tried (fault_of_data len ws) r >>= λ _. each entry_at ws r
 
-  abbrev behind_bytes : ℕ → List ℕ → List ℕ → Judged Cause (List Entry)
+  abbrev behind_bytes : ℕ → List ℕ → List ℕ → Judged Cause (List FrameEntry)
   behind_bytes n b r = behind_good (words n b) r
 
   words_stage : (n : ℕ) (i : List ℕ) → (words_at n i >>= behind_words kind top len) ≡ stage (8 * n) (words_fault n) (behind_bytes n) i

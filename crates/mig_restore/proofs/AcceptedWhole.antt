@@ -32,7 +32,7 @@ use Rattle.mig_pvtables.proofs.HvmGuests.{hvm_whole}
 use Rattle.mig_restore.specs.Grows.{Grows}
 use Rattle.mig_restore.specs.Judging.{Opening}
 use Rattle.mig_restore.specs.Mean.{meant_type, put_entry, put_entries, put_content, sent}
-use Rattle.mig_restore.specs.Record.{Entry, Content, StreamRecord, types_of, is_ended}
+use Rattle.mig_restore.specs.Record.{FrameEntry, Content, StreamRecord, types_of, is_ended}
 use Rattle.mig_restore.specs.Record.Content.{Sets}
 use Rattle.mig_restore.specs.Spelled.{IsPage, IsEntry, AreEntries, IsGoodWord, HasContent, IsComplete, Spells, Accepted}
 use Rattle.mig_restore.specs.Spelled.HasContent.{optional, ends, pages, sets, static_end}
@@ -92,13 +92,13 @@ page_whole false bytes page h l is = absurd (none_some l (sym h.1 ∙ is))
     none_some : (x : List ℕ) → None ≡ Some x → ⊥
     none_some x e = cc
 
-entry_grows : (g : GuestOf) (top w : ℕ) (bytes : List ℕ) (e : Entry) → g.kind ≡ Hvm → IsGoodWord Hvm top w → IsEntry w bytes e → Grows g (record g { frames = put_entry g.kind g.frames e })
+entry_grows : (g : GuestOf) (top w : ℕ) (bytes : List ℕ) (e : FrameEntry) → g.kind ≡ Hvm → IsGoodWord Hvm top w → IsEntry w bytes e → Grows g (record g { frames = put_entry g.kind g.frames e })
 entry_grows g top w bytes e hvm good is =
     grows_frame g (record g { frames = put_entry g.kind g.frames e }) e.type (meant_type g.kind e.type) e.pfn e.page refl (subst (λ n. n < pfn_limit) (sym is.pfn) (leb-false pfn_limit (word_pfn w) good.1))
     (page_there (word_has_data w) bytes e.page is.page ∙ carries w ∙ ap type_has_data (sym is.type) ∙ sym (data_kept e.type) ∙ ap (λ k. type_has_data (meant_type k e.type)) (sym hvm))
     (page_whole (word_has_data w) bytes e.page is.page) refl
 
-entries_grow : (top : ℕ) (ws bytes : List ℕ) (es : List Entry) → All (IsGoodWord Hvm top) ws → AreEntries ws bytes es → (g : GuestOf) → g.kind ≡ Hvm → Grows g (record g { frames = put_entries g.kind g.frames es })
+entries_grow : (top : ℕ) (ws bytes : List ℕ) (es : List FrameEntry) → All (IsGoodWord Hvm top) ws → AreEntries ws bytes es → (g : GuestOf) → g.kind ≡ Hvm → Grows g (record g { frames = put_entries g.kind g.frames es })
 entries_grow top [] bytes es good (_, is) g hvm = subst (λ l. Grows g (record g { frames = put_entries g.kind g.frames l })) (sym is) (grows_not g)
 entries_grow top (w ∷ ws) bytes es good (page, rest, e, others, cut, is, first, more) g hvm =
     let h : GuestOf = record g { frames = put_entry g.kind g.frames e } in

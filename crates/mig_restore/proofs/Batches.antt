@@ -14,7 +14,7 @@ use Rattle.mig_pagetypes.specs.FrameWords.{word_pfn, word_has_data}
 use Rattle.mig_records.specs.Faults.{fault_of_count, fault_of_words, count_rows}
 use Rattle.mig_records.specs.Words.{words, data_len_of}
 use Rattle.mig_records.proofs.WordFaults.{none_is_wrong, nothing_found}
-use Rattle.mig_restore.specs.Record.{Entry}
+use Rattle.mig_restore.specs.Record.{FrameEntry}
 use Rattle.mig_restore.specs.Judging.{type_in_word, fault_of_data, words_at, page_at, entry_at, entries_at}
 use Rattle.mig_restore.specs.Spelled.{IsPage, IsEntry, AreEntries, IsBatch}
 use Rattle.mig_restore.proofs.Entries.{behind_words}
@@ -32,7 +32,7 @@ counted w ws = sym (length-filter word_has_data (w ∷ ws)) ∙ split (word_has_
 -- ---- judging passes
 
 -- the pages of these words
-record Pages (ws i : List ℕ) (es : List Entry) (rest : List ℕ) : Type 0 where
+record Pages (ws i : List ℕ) (es : List FrameEntry) (rest : List ℕ) : Type 0 where
   bytes : List ℕ
   whole : i ≡ bytes ++ rest
   size : length bytes ≡ 4096 * count_by word_has_data ws
@@ -52,10 +52,10 @@ one_page true i page rest h =
     record { bytes = a.x; whole = p.0 ∙ ap (λ l. a.x ++ l) e.1; size = p.1; page_is = (p.1, sym e.0) }
 one_page false i page rest h = let e = same_passes _ _ _ _ h in record { bytes = []; whole = e.1; size = refl; page_is = (refl, sym e.0) }
 
-entry_is : (w : ℕ) (bytes : List ℕ) (page : Option (List ℕ)) (e : Entry) → IsPage (word_has_data w) bytes page → record { pfn = word_pfn w; type = type_in_word w; page = page } ≡ e → IsEntry w bytes e
+entry_is : (w : ℕ) (bytes : List ℕ) (page : Option (List ℕ)) (e : FrameEntry) → IsPage (word_has_data w) bytes page → record { pfn = word_pfn w; type = type_in_word w; page = page } ≡ e → IsEntry w bytes e
 entry_is w bytes page e page_is is = subst (IsEntry w bytes) is (record { pfn = refl; type = refl; page = page_is })
 
-each_entries : (ws i : List ℕ) (es : List Entry) (rest : List ℕ) → each entry_at ws i ≡ Passes es rest → Pages ws i es rest
+each_entries : (ws i : List ℕ) (es : List FrameEntry) (rest : List ℕ) → each entry_at ws i ≡ Passes es rest → Pages ws i es rest
 unfolding each
 each_entries [] i es rest h = let e = same_passes _ _ _ _ h in record { bytes = []; whole = e.1; size = refl; entries = (refl, sym e.0) }
 each_entries (w ∷ ws) i es rest h =
@@ -81,13 +81,13 @@ body_size : (len n k : ℕ) (f w t : List ℕ) → length f ≡ 8 → length w �
 body_size len n k f w t e1 e2 e3 e4 = omega (arith, length-append f (w ++ t), length-append w t)
 
 -- a batch, and what follows it
-pub record Batch (kind : Kind) (top len : ℕ) (i : List ℕ) (es : List Entry) (rest : List ℕ) : Type 0 where
+pub record Batch (kind : Kind) (top len : ℕ) (i : List ℕ) (es : List FrameEntry) (rest : List ℕ) : Type 0 where
   pub body : List ℕ
   pub whole : i ≡ body ++ rest
   pub size : length body ≡ len
   pub batch : IsBatch kind top body es
 
-pub batch_passes : (kind : Kind) (top len : ℕ) (i : List ℕ) (es : List Entry) (rest : List ℕ) → entries_at kind top len i ≡ Passes es rest → Batch kind top len i es rest
+pub batch_passes : (kind : Kind) (top len : ℕ) (i : List ℕ) (es : List FrameEntry) (rest : List ℕ) → entries_at kind top len i ≡ Passes es rest → Batch kind top len i es rest
 batch_passes kind top len i es rest h =
     let b = both_pass (part Truncated 8 i) _ es rest h in
     let front = b.x in
@@ -134,10 +134,10 @@ page_len : (b : Bool) (bytes : List ℕ) (page : Option (List ℕ)) → IsPage b
 page_len true bytes page (size, is) = size
 page_len false bytes page (size, is) = ap length size
 
-same_entry : (w : ℕ) (bytes : List ℕ) (e : Entry) → IsEntry w bytes e → record { pfn = word_pfn w; type = type_in_word w; page = e.page } ≡ e
+same_entry : (w : ℕ) (bytes : List ℕ) (e : FrameEntry) → IsEntry w bytes e → record { pfn = word_pfn w; type = type_in_word w; page = e.page } ≡ e
 same_entry w bytes e is = ap (λ n. record { pfn = n; type = type_in_word w; page = e.page }) (sym is.pfn) ∙ ap (λ k. record { pfn = e.pfn; type = k; page = e.page }) (sym is.type)
 
-entries_go : (ws bytes rest : List ℕ) (es : List Entry) → AreEntries ws bytes es → each entry_at ws (bytes ++ rest) ≡ Passes es rest
+entries_go : (ws bytes rest : List ℕ) (es : List FrameEntry) → AreEntries ws bytes es → each entry_at ws (bytes ++ rest) ≡ Passes es rest
 unfolding each
 entries_go [] bytes rest es (a, b) = rw (a, b) refl
 entries_go (w ∷ ws) bytes rest es (page, more, e, others, whole, is, one, entries) =
@@ -146,7 +146,7 @@ entries_go (w ∷ ws) bytes rest es (page, more, e, others, whole, is, one, entr
     (then_passes (page_at w (page ++ (more ++ rest))) _ e.page (more ++ rest) _ (page_goes (word_has_data w) page (more ++ rest) e.page one.page) (ap (λ x. Passes x (more ++ rest)) (same_entry w page e one)))
     (then_passes (each entry_at ws (more ++ rest)) _ others rest _ (entries_go ws more rest others entries) (ap (λ l. Passes l rest) (sym is)))
 
-entries_len : (ws bytes : List ℕ) (es : List Entry) → AreEntries ws bytes es → length bytes ≡ 4096 * count_by word_has_data ws
+entries_len : (ws bytes : List ℕ) (es : List FrameEntry) → AreEntries ws bytes es → length bytes ≡ 4096 * count_by word_has_data ws
 entries_len [] bytes es (a, b) = ap length a
 entries_len (w ∷ ws) bytes es (page, more, e, others, whole, is, one, entries) =
     let p = page_len (word_has_data w) page e.page one.page in
@@ -156,7 +156,7 @@ entries_len (w ∷ ws) bytes es (page, more, e, others, whole, is, one, entries)
 size_is : (len n k : ℕ) (body f w t : List ℕ) → body ≡ f ++ (w ++ t) → length f ≡ 8 → length w ≡ 8 * n → length t ≡ 4096 * k → length body ≡ len → len ≡ 8 + 8 * n + 4096 * k
 size_is len n k body f w t e1 e2 e3 e4 e5 = omega (arith, ap length e1, length-append f (w ++ t), length-append w t)
 
-pub batch_goes : (kind : Kind) (top len : ℕ) (body rest : List ℕ) (es : List Entry) → IsBatch kind top body es → length body ≡ len → entries_at kind top len (body ++ rest) ≡ Passes es rest
+pub batch_goes : (kind : Kind) (top len : ℕ) (body rest : List ℕ) (es : List FrameEntry) → IsBatch kind top body es → length body ≡ len → entries_at kind top len (body ++ rest) ≡ Passes es rest
 batch_goes kind top len body rest es b size =
     let n = le32 b.front 0 in
     let ws = words n b.words_bytes in

@@ -14,7 +14,7 @@ use Rattle.mig_guest.specs.declared.part_code.PartCode.{PartCode}
 use Rattle.mig_guest.specs.Parts.{Part}
 use Rattle.mig_bodies.specs.Shapes.{shape_of, fault_of_body, IsBody}
 use Rattle.mig_bodies.proofs.Spelled.{bodies_are_spelled, is_shaped}
-use Rattle.mig_restore.specs.Record.{Content, Entry}
+use Rattle.mig_restore.specs.Record.{Content, FrameEntry}
 use Rattle.mig_restore.specs.Record.Content.{Nothing, Frames, Sets}
 use Rattle.mig_restore.specs.Judging.{sets_at, plain_at, entries_at, pages_at, body_at}
 use Rattle.mig_restore.specs.Spelled.{HasContent, IsBatch}
@@ -27,7 +27,7 @@ use Rattle.mig_restore.proofs.Bodies.{optional_at, type_at, coded_is}
 plain_goes : (f : List ℕ → Content) (c : Content) (len : ℕ) (body rest : List ℕ) → length body ≡ len → f body ≡ c → plain_at f len (body ++ rest) ≡ Passes c rest
 plain_goes f c len body rest size is = then_passes (part Truncated len (body ++ rest)) _ body rest _ (part_whole Truncated len body rest size) (ap (λ d. Passes d rest) is)
 
-pages_go : (kind : Kind) (top : ℕ) (len : ℕ) (body rest : List ℕ) (es : List Entry) → IsBatch kind top body es → length body ≡ len → pages_at kind top len (body ++ rest) ≡ Passes (Frames es) rest
+pages_go : (kind : Kind) (top : ℕ) (len : ℕ) (body rest : List ℕ) (es : List FrameEntry) → IsBatch kind top body es → length body ≡ len → pages_at kind top len (body ++ rest) ≡ Passes (Frames es) rest
 pages_go kind top len body rest es b size = then_passes (entries_at kind top len (body ++ rest)) _ es rest _ (batch_goes kind top len body rest es b size) refl
 
 sets_go : (code : PartCode) (len : ℕ) (body rest : List ℕ) (ps : List Part) → IsBody code body ps → length body ≡ len → sets_at code len (body ++ rest) ≡ Passes (Sets code ps) rest

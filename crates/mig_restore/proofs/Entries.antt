@@ -10,29 +10,29 @@ use Rattle.mig_headers.specs.declared.fault.Cause.TheVariants.{Truncated}
 use Rattle.mig_headers.specs.declared.kind.Kind.{Kind}
 use Rattle.mig_guest.specs.Guests.{GuestOf}
 use Rattle.mig_records.specs.Faults.{fault_of_count, fault_of_words}
-use Rattle.mig_restore.specs.Record.{Entry, Content}
+use Rattle.mig_restore.specs.Record.{FrameEntry, Content}
 use Rattle.mig_restore.specs.Record.Content.{Frames}
 use Rattle.mig_restore.specs.Mean.{put_entries, put_content}
 use Rattle.mig_restore.specs.Judging.{entry_at, words_at, pages_at, fault_of_data}
 
 -- behind the words of a batch
-abbrev pub behind_words : Kind → ℕ → ℕ → List ℕ × List ℕ → Judged Cause (List Entry)
+abbrev pub behind_words : Kind → ℕ → ℕ → List ℕ × List ℕ → Judged Cause (List FrameEntry)
 behind_words kind top len ws = tried (fault_of_words kind top ws.0) ws.1 >>= λ _. tried (fault_of_data len ws.0) ws.1 >>= λ _. each entry_at ws.0 ws.1
 
-abbrev behind_front : ℕ → Kind → ℕ → List ℕ × List ℕ → Judged Cause (List Entry)
+abbrev behind_front : ℕ → Kind → ℕ → List ℕ × List ℕ → Judged Cause (List FrameEntry)
 behind_front len kind top front = tried (fault_of_count len (le32 front.0 0)) front.1 >>= λ _. words_at (le32 front.0 0) front.1 >>= behind_words kind top len
 
-abbrev as_content : List Entry × List ℕ → Judged Cause Content
+abbrev as_content : List FrameEntry × List ℕ → Judged Cause Content
 as_content es = Passes (Frames es.0) es.1
 
 module _ (g new : GuestOf) (e : Option (List ℕ)) where
-  abbrev Set : Unit {0} → List Entry → Type 0
+  abbrev Set : Unit {0} → List FrameEntry → Type 0
   Set _ es = new ≡ record g { frames = put_entries g.kind g.frames es }
 
   abbrev Put : Unit {0} → Content → Type 0
   Put _ c = new ≡ put_content g c
 
-  as_frames : (j : Judged Cause (List Entry)) (r : Result (Unit {0}) (Stop Cause)) → Matches Set e j r → Matches Put e (j >>= as_content) r
+  as_frames : (j : Judged Cause (List FrameEntry)) (r : Result (Unit {0}) (Stop Cause)) → Matches Set e j r → Matches Put e (j >>= as_content) r
   as_frames j (Ok u) (es, rest, is, left, now) = (Frames es, rest, ap (λ k. k >>= as_content) is, left, now)
   as_frames j (Err (Refused c)) (rest, is, left) = (rest, ap (λ k. k >>= as_content) is, left)
   as_frames j (Err ReadFault) h = tt

@@ -8,12 +8,12 @@ use Rattle.mig_headers.specs.declared.fault.Cause.TheVariants.{Truncated}
 use Rattle.mig_headers.specs.Headers.{unless_faulty}
 use Rattle.mig_pagetypes.specs.FrameWords.{word_pfn, word_type, word_has_data, some_has_data}
 use Rattle.mig_pagetypes.specs.PageTypes.{type_of, type_or_none, type_has_data}
-use Rattle.mig_restore.specs.Record.{Entry, Content}
+use Rattle.mig_restore.specs.Record.{FrameEntry, Content}
 use Rattle.mig_restore.specs.Judging.{type_in_word, entry_at, plain_at}
 
 -- ---- the entries of a batch
 
-module _ {X : Type 0} (R : X → Entry → Type 0) where
+module _ {X : Type 0} (R : X → FrameEntry → Type 0) where
   pub no_page : (a : Option (List ℕ)) (w : ℕ) (x : X) → word_has_data w ≡ false → R x (record { pfn = word_pfn w; type = type_in_word w; page = None }) → Gives R a a (entry_at w) (Ok x)
   no_page a w x none r = done R a (entry_at w) x _ (λ i. rw none refl) r
 

@@ -24,13 +24,13 @@ use Rattle.mig_guest.specs.Formed.{is_policy}
 use Rattle.mig_guest.proofs.PartOrder.{part_total, part_exact}
 use Rattle.mig_pagetypes.specs.FrameWords.{word_pfn}
 use Rattle.mig_restore.specs.Judging.{type_in_word}
-use Rattle.mig_restore.specs.Record.{Entry, StreamRecord, Content}
+use Rattle.mig_restore.specs.Record.{FrameEntry, StreamRecord, Content}
 use Rattle.mig_restore.specs.Record.Content.{Nothing, Frames, Sets}
 use Rattle.mig_pvtables.specs.Blank.{blank, blank_of}
 use Rattle.mig_pvtables.proofs.HvmGuests.{hvm_blank}
 use Rattle.mig_restore.specs.Mean.{meant_type, put_entry, put_entries, put_content, put_record, empty_guest, sent, mean, entries_in, entries_of, last_entry, some_frame, frame_in, same_key, last_bytes, parts_say_of_part, policy_says_of_part, says_of_part, last_said}
 
-pub one_more_entry : (g h k : GuestOf) (es : List Entry) (e : Entry) → h ≡ record g { frames = put_entries g.kind g.frames es } → k ≡ record h { frames = put_entry h.kind h.frames e }
+pub one_more_entry : (g h k : GuestOf) (es : List FrameEntry) (e : FrameEntry) → h ≡ record g { frames = put_entries g.kind g.frames es } → k ≡ record h { frames = put_entry h.kind h.frames e }
     → k ≡ record g { frames = put_entries g.kind g.frames (es ++ e ∷ []) }
 one_more_entry g h k es e before now =
     now ∙ ap (λ (w : GuestOf). record w { frames = put_entry w.kind w.frames e }) before
@@ -83,23 +83,23 @@ pub framed_get : (m : FrameMap) (p pfn : ℕ) (t : PageType) (page : Option (Lis
 framed_get m p pfn Xtab page = fin.get-remove nat_cmp_total m pfn p ∙ ap (λ b. cond b None (fin.get m p)) (ties p pfn)
 framed_get m p pfn t page = fin.get-insert nat_cmp_total m pfn (record { type = t; page = page }) p ∙ ap (λ b. cond b (Some (record { type = t; page = page })) (fin.get m p)) (ties p pfn)
 
-pub got : (kind : Kind) (m : FrameMap) (p : ℕ) (e : Entry) → fin.get (put_entry kind m e) p ≡ cond (nat_eq e.pfn p) (frame_in kind e) (fin.get m p)
+pub got : (kind : Kind) (m : FrameMap) (p : ℕ) (e : FrameEntry) → fin.get (put_entry kind m e) p ≡ cond (nat_eq e.pfn p) (frame_in kind e) (fin.get m p)
 got kind m p e = framed_get m p e.pfn (meant_type kind e.type) e.page
 
-abbrev otherwise : Kind → Option Entry → Option FrameOf → Option FrameOf
+abbrev otherwise : Kind → Option FrameEntry → Option FrameOf → Option FrameOf
 otherwise kind None before = before
 otherwise kind (Some e) before = frame_in kind e
 
-chosen : (kind : Kind) (b : Bool) (e : Entry) (later : Option Entry) (before : Option FrameOf) → otherwise kind later (cond b (frame_in kind e) before) ≡ otherwise kind (option_or later (cond b (Some e) None)) before
+chosen : (kind : Kind) (b : Bool) (e : FrameEntry) (later : Option FrameEntry) (before : Option FrameOf) → otherwise kind later (cond b (frame_in kind e) before) ≡ otherwise kind (option_or later (cond b (Some e) None)) before
 chosen kind b e (Some f) before = refl
 chosen kind true e None before = refl
 chosen kind false e None before = refl
 
-folded : (kind : Kind) (m : FrameMap) (p : ℕ) (es : List Entry) → fin.get (put_entries kind m es) p ≡ otherwise kind (last_entry p es) (fin.get m p)
+folded : (kind : Kind) (m : FrameMap) (p : ℕ) (es : List FrameEntry) → fin.get (put_entries kind m es) p ≡ otherwise kind (last_entry p es) (fin.get m p)
 folded kind m p [] = refl
 folded kind m p (e ∷ es) = folded kind (put_entry kind m e) p es ∙ ap (otherwise kind (last_entry p es)) (got kind m p e) ∙ chosen kind (nat_eq e.pfn p) e (last_entry p es) (fin.get m p)
 
-at_last : (kind : Kind) (o : Option Entry) → otherwise kind o None ≡ option_and_then (frame_in kind) o
+at_last : (kind : Kind) (o : Option FrameEntry) → otherwise kind o None ≡ option_and_then (frame_in kind) o
 at_last kind None = refl
 at_last kind (Some e) = refl
 

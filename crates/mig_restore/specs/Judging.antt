@@ -24,7 +24,7 @@ use Rattle.mig_guest.specs.PartCodes.{code_of_number}
 use Rattle.mig_bodies.specs.Shapes.{fault_of_body, parts_of_body}
 use Rattle.mig_pvtables.specs.Faults.{fault_of_guest}
 use Rattle.mig_restore.specs.Mean.{sent}
-use Rattle.mig_restore.specs.Record.{Entry, StreamRecord, Content, types_of}
+use Rattle.mig_restore.specs.Record.{FrameEntry, StreamRecord, Content, types_of}
 use Rattle.mig_restore.specs.Record.Content.{Nothing, Frames, Sets}
 
 -- what the headers say
@@ -116,12 +116,12 @@ page_at w input = if word_has_data w then (do
   page ← part Truncated 4096 input
   Passes (Some page.0) page.1) else Passes None input
 
-abbrev pub entry_at : ℕ → List ℕ → Judged Cause Entry
+abbrev pub entry_at : ℕ → List ℕ → Judged Cause FrameEntry
 entry_at w input = do
   page ← page_at w input
   Passes (record { pfn = word_pfn w; type = type_in_word w; page = page.0 }) page.1
 
-abbrev pub entries_at : Kind → ℕ → ℕ → List ℕ → Judged Cause (List Entry)
+abbrev pub entries_at : Kind → ℕ → ℕ → List ℕ → Judged Cause (List FrameEntry)
 entries_at kind top len input = do
   front ← part Truncated 8 input
   _ ← tried (fault_of_count len (le32 front.0 0)) front.1

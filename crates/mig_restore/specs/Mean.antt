@@ -16,7 +16,7 @@ use Rattle.mig_guest.specs.Formed.{is_policy}
 use Rattle.mig_guest.specs.Parts.{Part}
 use Rattle.mig_bodies.specs.Shapes.{set_parts}
 use Rattle.mig_pvtables.specs.Blank.{blank}
-use Rattle.mig_restore.specs.Record.{Entry, StreamRecord, Content}
+use Rattle.mig_restore.specs.Record.{FrameEntry, StreamRecord, Content}
 use Rattle.mig_restore.specs.Record.Content.{Nothing, Frames, Sets}
 
 -- the type that a frame has in a guest of this kind: in an HVM guest every type with data is NOTAB
@@ -25,10 +25,10 @@ meant_type Pv t = t
 meant_type Hvm t = if type_has_data t then Notab else t
 
 -- an entry sets its frame, or takes it away where its type is XTAB
-abbrev pub put_entry : Kind → FrameMap → Entry → FrameMap
+abbrev pub put_entry : Kind → FrameMap → FrameEntry → FrameMap
 put_entry kind frames e = framed frames e.pfn (meant_type kind e.type) e.page
 
-abbrev pub put_entries : Kind → FrameMap → List Entry → FrameMap
+abbrev pub put_entries : Kind → FrameMap → List FrameEntry → FrameMap
 put_entries kind frames es = fold (put_entry kind) frames es
 
 abbrev pub put_content : GuestOf → Content → GuestOf
@@ -53,18 +53,18 @@ mean kind records = blank (sent kind records)
 
 -- ---- frames in the words of the format
 
-abbrev pub entries_in : Content → List Entry
+abbrev pub entries_in : Content → List FrameEntry
 entries_in Nothing = []
 entries_in (Frames es) = es
 entries_in (Sets code ps) = []
 
 -- all entries, in stream order
-abbrev pub entries_of : List StreamRecord → List Entry
+abbrev pub entries_of : List StreamRecord → List FrameEntry
 entries_of [] = []
 entries_of (r ∷ rs) = entries_in r.content ++ entries_of rs
 
 -- the last entry of a frame number
-abbrev pub last_entry : ℕ → List Entry → Option Entry
+abbrev pub last_entry : ℕ → List FrameEntry → Option FrameEntry
 last_entry p [] = None
 last_entry p (e ∷ es) = option_or (last_entry p es) (if e.pfn == p then Some e else None)
 
@@ -73,7 +73,7 @@ abbrev pub some_frame : PageType → Option (List ℕ) → Option FrameOf
 some_frame Xtab page = None
 some_frame t page = Some (record { type = t; page = page })
 
-abbrev pub frame_in : Kind → Entry → Option FrameOf
+abbrev pub frame_in : Kind → FrameEntry → Option FrameOf
 frame_in kind e = some_frame (meant_type kind e.type) e.page
 
 -- ---- parts in the words of the format

@@ -7,7 +7,7 @@ use Rattle.mig_guest.specs.declared.part_code.PartCode.{PartCode}
 use Rattle.mig_guest.specs.Parts.{Part}
 
 -- an entry of a PAGE_DATA record: a frame number and a type, and the page where the type has data
-pub record Entry : Type 0 where
+pub record FrameEntry : Type 0 where
   pub pfn : ℕ
   pub type : PageType
   pub page : Option (List ℕ)
@@ -15,7 +15,7 @@ pub record Entry : Type 0 where
 -- what a record says: nothing; frames; or parts of one code, of each key the last
 pub data Content : Type 0 where
   Nothing : Content
-  Frames : List Entry → Content
+  Frames : List FrameEntry → Content
   Sets : PartCode → List Part → Content
 
 pub record StreamRecord : Type 0 where

@@ -19,7 +19,7 @@ use Rattle.mig_guest.specs.Frames.{IsFew}
 use Rattle.mig_guest.specs.Parts.{Part}
 use Rattle.mig_restore.specs.Judging.{Opening, most_records, is_built, type_in_word, code_of_type}
 use Rattle.mig_restore.specs.Mean.{sent, mean}
-use Rattle.mig_restore.specs.Record.{StreamRecord, Entry, Content, types_of, is_ended}
+use Rattle.mig_restore.specs.Record.{StreamRecord, FrameEntry, Content, types_of, is_ended}
 use Rattle.mig_restore.specs.Record.Content.{Nothing, Frames, Sets}
 
 -- ---- PAGE_DATA
@@ -30,22 +30,22 @@ IsPage true bytes page = (length bytes ≡ 4096) × (page ≡ Some bytes)
 IsPage false bytes page = (bytes ≡ []) × (page ≡ None)
 
 -- the entry of a word, with these bytes
-pub record IsEntry (word : ℕ) (bytes : List ℕ) (e : Entry) : Type 0 where
+pub record IsEntry (word : ℕ) (bytes : List ℕ) (e : FrameEntry) : Type 0 where
   pub pfn : e.pfn ≡ word_pfn word
   pub type : e.type ≡ type_in_word word
   pub page : IsPage (word_has_data word) bytes e.page
 
 -- the entries of these words, in order
-abbrev pub AreEntries : List ℕ → List ℕ → List Entry → Type 0
+abbrev pub AreEntries : List ℕ → List ℕ → List FrameEntry → Type 0
 AreEntries [] bytes es = (bytes ≡ []) × (es ≡ [])
-AreEntries (w ∷ ws) bytes es = (page : List ℕ) × (rest : List ℕ) × (e : Entry) × (others : List Entry) × (bytes ≡ page ++ rest) × (es ≡ e ∷ others) × IsEntry w page e × AreEntries ws rest others
+AreEntries (w ∷ ws) bytes es = (page : List ℕ) × (rest : List ℕ) × (e : FrameEntry) × (others : List FrameEntry) × (bytes ≡ page ++ rest) × (es ≡ e ∷ others) × IsEntry w page e × AreEntries ws rest others
 
 -- a word of a type that isn't reserved, whose frame lies inside
 abbrev pub IsGoodWord : Kind → ℕ → ℕ → Type 0
 IsGoodWord kind top word = (has_reserved_type word ≡ false) × (names_outside kind top word ≡ false)
 
 -- a count, as many words, and the pages
-pub record IsBatch (kind : Kind) (top : ℕ) (body : List ℕ) (es : List Entry) : Type 0 where
+pub record IsBatch (kind : Kind) (top : ℕ) (body : List ℕ) (es : List FrameEntry) : Type 0 where
   pub front : List ℕ
   pub words_bytes : List ℕ
   pub pages_bytes : List ℕ
@@ -62,7 +62,7 @@ pub record IsBatch (kind : Kind) (top : ℕ) (body : List ℕ) (es : List Entry)
 pub data HasContent (kind : Kind) (top : ℕ) : ℕ → List ℕ → Content → Type 0 where
   optional : (type : ℕ) (body : List ℕ) → 2 ^ 31 ≤ type → HasContent kind top type body Nothing
   ends : HasContent kind top 0 [] Nothing
-  pages : (body : List ℕ) (es : List Entry) → IsBatch kind top body es → HasContent kind top 1 body (Frames es)
+  pages : (body : List ℕ) (es : List FrameEntry) → IsBatch kind top body es → HasContent kind top 1 body (Frames es)
   sets : (this : RecordType) (code : PartCode) (body : List ℕ) (ps : List Part) → code_of_type this ≡ Some code → (record_row_of this).allows (length body) ≡ true → IsBody code body ps → HasContent kind top (type_number this) body (Sets code ps)
   static_end : HasContent kind top 0x10 [] Nothing
 

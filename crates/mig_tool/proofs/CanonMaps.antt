@@ -28,12 +28,12 @@ use Rattle.mig_guest.specs.Formed.{IsPart, IsFormed, IsPlainHvm, is_emulator_cod
 use Rattle.mig_guest.proofs.Found.{found_first}
 use Rattle.mig_bodies.specs.Shapes.{set_parts, parts_at}
 use Rattle.mig_canon.specs.Canon.{Frame, static_codes, last_codes}
-use Rattle.mig_restore.specs.Record.{Entry}
+use Rattle.mig_restore.specs.Record.{FrameEntry}
 use Rattle.mig_restore.specs.Mean.{put_entry, put_entries}
 
 -- ---- frames set again
 
-abbrev pub entry_of : Frame → Entry
+abbrev pub entry_of : Frame → FrameEntry
 entry_of f = record { pfn = f.0; type = f.1.type; page = f.1.page }
 
 abbrev pub HasHvmType : Frame → Type 0

@@ -5,7 +5,7 @@ use Rattle.mig_bytes.proofs.Steps.{begins}
 use Rattle.mig_bytes.proofs.Placed.{told, one_more, one_stops}
 use Rattle.mig_headers.specs.declared.image_fault.ImagePlace.TheVariants.{Part}
 use Rattle.mig_guest.specs.Hosts.{HostOf}
-use Rattle.mig_image.specs.ImageParts.{part_at, parts_at}
+use Rattle.mig_image.specs.ImageParts.{part_at, host_parts_at}
 use Rattle.mig_image.proofs.PartsMore.{counts_none}
 use Rattle.mig_image.proofs.read_part.read_parts.Goals as goal
 
@@ -32,4 +32,4 @@ loop-i-preserved g c = record {
 pub returns-clause-read : goal.returns-clause-read
 returns-clause-read g c =
     let all : c.loop-i.i ≡ c.args.count = search rules in
-    told _ _ (parts_at c.args.count c.args.host.now) c.loop-i.host tt (subst (λ n. Gives {X = HostOf} (λ v h. v ≡ h) (g.S.Source.left c.args.src.now) (g.S.Source.left c.loop-i.src) (parts_at n c.args.host.now) (Ok c.loop-i.host)) all c.loop-i.invariant.read)
+    told _ _ (host_parts_at c.args.count c.args.host.now) c.loop-i.host tt (subst (λ n. Gives {X = HostOf} (λ v h. v ≡ h) (g.S.Source.left c.args.src.now) (g.S.Source.left c.loop-i.src) (host_parts_at n c.args.host.now) (Ok c.loop-i.host)) all c.loop-i.invariant.read)
