@@ -1,28 +1,25 @@
 -- How records, tables and the whole stream are spelled, piece by piece.
-use Rattle.std.proofs.Common.{◌≡◌, ℕ, suc, ◌+◌, ◌-◌, take, drop, le_refl, ◌*◌, List, [], ◌∷◌, ◌++◌, length, replicate, map, refl, sym, ap, ◌∙◌, arith, length-append, append-nil, append_assoc}
+use Rattle.std.specs.Prelude.{◌⊎◌}
+use mathlib.Core.Logic.{inl, inr}
+use Rattle.std.proofs.Common.{◌≡◌, ℕ, suc, ◌+◌, ◌-◌, ◌<◌, List, [], ◌∷◌, ◌++◌, length, replicate, map, Bool, true, false, refl, sym, ap, subst, ◌∙◌, arith, length-append, append-nil, append_assoc}
 use Rattle.std.proofs.lemmas.Grind.{flat_map-append}
-use Rattle.std.proofs.lemmas.List.{take_all}
-use Rattle.std.proofs.Math.Seq.{take-append-add}
-use lib.Seq.{take-append-le}
-use borrow.Rule.Slice.PartMut.{put_mid}
-use Rattle.std.proofs.lemmas.List.Elements.{All-head, All-tail}
-use Rattle.std.specs.List.{All}
+use Rattle.std.proofs.lemmas.List.{length-replicate, replicate-append-replicate}
+use Rattle.std.specs.List.{flat_map}
 use Rattle.byteorder.specs.Endian.{little_bytes}
+use Rattle.byteorder.specs.Numbers.{length-bytes_low_first}
 use Rattle.mig_bytes.specs.Bytes.{padding_len}
 use Rattle.mig_guest.specs.Guests.{GuestOf}
 use Rattle.mig_guest.specs.Parts.{Part}
 use Rattle.mig_guest.specs.declared.part_code.PartCode.{PartCode}
 use Rattle.mig_bodies.specs.declared.layout.Layout.{Layout}
 use Rattle.mig_bodies.specs.declared.shape.Shape.{Shape}
-use Rattle.mig_bodies.specs.declared.shape.Shape.TheVariants as shapes
-use Rattle.mig_bodies.specs.Layouts.{entry_width, front_width, front_text, entry_text, entries_text, table_text}
-use Rattle.mig_bodies.specs.Shapes.{shape_of, bodies_by_shape}
+use Rattle.mig_bodies.specs.declared.shape.Shape.TheVariants.{Table, Single, Named, Chain, Other}
+use Rattle.mig_bodies.specs.Layouts.{front_text, entries_text, table_text}
+use Rattle.mig_guest.specs.PartCodes.{code_number}
+use Rattle.mig_bodies.specs.Shapes.{shape_of, parts_at, part_body, bodies_by_shape}
 use Rattle.mig_records.specs.Records.{head_of, spelled}
-use Rattle.mig_canon.specs.declared.entries.Table.{Table}
-use Rattle.mig_canon.specs.declared.entries.Table.TheVariants.{Leaves, Msrs, Params}
 use Rattle.mig_canon.specs.Canon.{Record, records_of, records_in_order, frames_in, batches, frame_bodies, static_bodies, last_bodies, text_of, headers, canon}
-use Rattle.mig_canon.specs.Tables.{part_code_of, code_of, layout_of, rows_of}
-use Rattle.mig_canon.proofs.Wholes.{IsRow}
+use Rattle.mig_canon.specs.Pieces.{piece}
 
 -- ---- a record
 
@@ -40,66 +37,94 @@ text_one type body = append-nil (spelled type body)
 pub text_join : (a b : List Record) → text_of (a ++ b) ≡ text_of a ++ text_of b
 text_join a b = flat_map-append (λ r. spelled r.0 r.1) a b
 
--- ---- a table
+-- ---- the records of a code
 
-shape_is : (table : Table) → shape_of (part_code_of table) ≡ shapes.Table (layout_of table)
-shape_is Leaves = refl
-shape_is Msrs = refl
-shape_is Params = refl
+abbrev pub is_table : Shape → Bool
+is_table (Table l) = true
+is_table shape = false
 
--- the records of a shape
-abbrev shaped : Shape → ℕ → List Part → List Record
-shaped shape code ps = map (λ body. (code, body)) (bodies_by_shape shape ps)
+pub no_table_is : (s : Shape) → ((x : ℕ) × (y : ℕ) × (s ≡ Single x y)) ⊎ (((x : ℕ) × (y : ℕ) × (b : Bool) × (s ≡ Named x y b)) ⊎ ((s ≡ Chain) ⊎ (s ≡ Other))) → is_table s ≡ false
+no_table_is s (inl (x, y, e)) = ap is_table e
+no_table_is s (inr (inl (x, y, b, e))) = ap is_table e
+no_table_is s (inr (inr (inl e))) = ap is_table e
+no_table_is s (inr (inr (inr e))) = ap is_table e
 
-shaped_none : (l : Layout) (code : ℕ) (ps : List Part) → length ps ≡ 0 → shaped (shapes.Table l) code ps ≡ []
-shaped_none l code [] h = refl
-shaped_none l code (p ∷ ps) h = absurd (omega arith)
+module _ (type : ℕ) where
+  abbrev records : List (List ℕ) → List Record
+  records bodies = map (λ body. (type, body)) bodies
 
-shaped_some : (l : Layout) (code : ℕ) (ps : List Part) → (length ps ≡ 0 → ⊥) → shaped (shapes.Table l) code ps ≡ (code, table_text l ps) ∷ []
-shaped_some l code [] h = absurd (h refl)
-shaped_some l code (p ∷ ps) h = refl
+  alone : (body : Part → List ℕ) (ps : List Part) → text_of (records (map body ps)) ≡ flat_map (λ p. spelled type (body p)) ps
+  alone body [] = refl
+  alone body (p ∷ ps) = ap (λ l. spelled type (body p) ++ l) (alone body ps)
 
-pub no_table : (table : Table) (g : GuestOf) (n : ℕ) → n ≡ length (rows_of table g) → n ≡ 0 → text_of (records_of (part_code_of table) g) ≡ []
-no_table table g n count none =
-    ap (λ s. text_of (shaped s (code_of table) (rows_of table g))) (shape_is table) ∙ ap text_of (shaped_none (layout_of table) (code_of table) (rows_of table g) (sym count ∙ none))
+  nothing : (ps : List Part) → [] ≡ flat_map (piece Other type) ps
+  nothing [] = refl
+  nothing (p ∷ ps) = nothing ps
 
-one_len : (table : Table) (p : Part) → IsRow table p → length (entry_text (layout_of table) p) ≡ entry_width (layout_of table)
-one_len Leaves p h = omega (arith, h.len, length-append (little_bytes 4 p.0.key1) (little_bytes 4 p.0.key2 ++ p.1), length-append (little_bytes 4 p.0.key2) p.1)
-one_len Msrs p h = omega (arith, h.len, length-append (little_bytes 4 p.0.key1) p.1)
-one_len Params p h = omega (arith, h.len, length-append (little_bytes 8 p.0.key1) p.1)
+  -- where each part has its record
+  pub each_text : (shape : Shape) (ps : List Part) → is_table shape ≡ false → text_of (records (bodies_by_shape shape ps)) ≡ flat_map (piece shape type) ps
+  each_text (Table l) ps other = absurd (cc)
+  each_text (Single len ignored) ps other = alone (part_body (Single len ignored)) ps
+  each_text (Named second ignored skips) ps other = alone (part_body (Named second ignored skips)) ps
+  each_text Chain ps other = alone (part_body Chain) ps
+  each_text Other ps other = nothing ps
 
-more_len : (table : Table) (n m : ℕ) → n ≡ entry_width (layout_of table) * m → entry_width (layout_of table) + n ≡ entry_width (layout_of table) * suc m
-more_len Leaves n m h = omega (arith, h)
-more_len Msrs n m h = omega (arith, h)
-more_len Params n m h = omega (arith, h)
+  pub no_table : (l : Layout) (ps : List Part) → length ps ≡ 0 → text_of (records (bodies_by_shape (Table l) ps)) ≡ []
+  no_table l [] h = refl
+  no_table l (p ∷ ps) h = absurd (omega arith)
 
-entries_len : (table : Table) (ps : List Part) → All (IsRow table) ps → length (entries_text (layout_of table) ps) ≡ entry_width (layout_of table) * length ps
-entries_len Leaves [] h = refl
-entries_len Msrs [] h = refl
-entries_len Params [] h = refl
-entries_len table (p ∷ ps) h =
-    length-append (entry_text (layout_of table) p) (entries_text (layout_of table) ps) ∙ ap (λ n. n + length (entries_text (layout_of table) ps)) (one_len table p (All-head (IsRow table) p ps h))
-    ∙ more_len table _ (length ps) (entries_len table ps (All-tail (IsRow table) p ps h))
+  pub table_record : (l : Layout) (ps : List Part) (n len : ℕ) → n ≡ length ps → (n ≡ 0 → ⊥) → len ≡ length (table_text l ps)
+      → text_of (records (bodies_by_shape (Table l) ps)) ≡ head_of type len ++ (front_text l.counted n ++ (flat_map (piece (Table l) type) ps ++ replicate (padding_len len) 0))
+  unfolding spelled
+  table_record l [] n len count some size = absurd (some count)
+  table_record l (p ∷ ps) n len count some size =
+      text_one type (table_text l (p ∷ ps))
+      ∙ ap (λ m. head_of type m ++ (table_text l (p ∷ ps) ++ replicate (padding_len m) 0)) (sym size)
+      ∙ ap (λ t. head_of type len ++ t) (append_assoc (front_text l.counted (length (p ∷ ps))) (entries_text l (p ∷ ps)) (replicate (padding_len len) 0))
+      ∙ ap (λ m. head_of type len ++ (front_text l.counted m ++ (entries_text l (p ∷ ps) ++ replicate (padding_len len) 0))) (sym count)
 
-front_len : (table : Table) (n : ℕ) → length (front_text (layout_of table).counted n) ≡ front_width (layout_of table)
-front_len Leaves n = refl
-front_len Msrs n = refl
-front_len Params n = refl
+-- the record of a table that has entries
+pub code_table : (code : PartCode) (l : Layout) (g : GuestOf) (n len : ℕ) → shape_of code ≡ Table l → n ≡ length (parts_at code g) → (n ≡ 0 → ⊥) → len ≡ length (table_text l (parts_at code g))
+    → text_of (records_of code g) ≡ head_of (code_number code) len ++ (front_text l.counted n ++ (flat_map (piece (shape_of code) (code_number code)) (parts_at code g) ++ replicate (padding_len len) 0))
+code_table code l g n len is count some size =
+    let ps = parts_at code g in let type = code_number code in
+    subst (λ s. text_of (records type (bodies_by_shape s ps)) ≡ head_of type len ++ (front_text l.counted n ++ (flat_map (piece s type) ps ++ replicate (padding_len len) 0))) (sym is) (table_record type l ps n len count some size)
 
-flat : (table : Table) (n : ℕ) → padding_len (front_width (layout_of table) + entry_width (layout_of table) * n) ≡ 0
-flat Leaves n = omega arith
-flat Msrs n = omega arith
-flat Params n = omega arith
+pub code_none : (code : PartCode) (l : Layout) (g : GuestOf) (n : ℕ) → shape_of code ≡ Table l → n ≡ length (parts_at code g) → n ≡ 0 → text_of (records_of code g) ≡ []
+code_none code l g n is count none = ap (λ s. text_of (records (code_number code) (bodies_by_shape s (parts_at code g)))) is ∙ no_table (code_number code) l (parts_at code g) (sym count ∙ none)
 
-pub table_record : (table : Table) (g : GuestOf) (n : ℕ) → All (IsRow table) (rows_of table g) → n ≡ length (rows_of table g) → (n ≡ 0 → ⊥)
-    → text_of (records_of (part_code_of table) g) ≡ head_of (code_of table) (front_width (layout_of table) + entry_width (layout_of table) * n) ++ (front_text (layout_of table).counted n ++ entries_text (layout_of table) (rows_of table g))
-table_record table g n rows count some =
-    let l = layout_of table in let ps = rows_of table g in
-    let len : length (table_text l ps) ≡ front_width l + entry_width l * n =
-    length-append (front_text l.counted (length ps)) (entries_text l ps) ∙ ap (λ m. m + length (entries_text l ps)) (front_len table (length ps)) ∙ ap (λ m. front_width l + m) (entries_len table ps rows ∙ ap (λ m. entry_width l * m) (sym count)) in
-    ap (λ s. text_of (shaped s (code_of table) ps)) (shape_is table)
-    ∙ ap text_of (shaped_some l (code_of table) ps (λ e. some (count ∙ e))) ∙ text_one (code_of table) (table_text l ps) ∙ spelled_flat (code_of table) (front_width l + entry_width l * n) (table_text l ps) len (flat table n)
-    ∙ ap (λ m. head_of (code_of table) (front_width l + entry_width l * n) ++ (front_text l.counted m ++ entries_text l ps)) (sym count)
+-- the records of a code whose parts have one each
+pub code_each : (code : PartCode) (shape : Shape) (g : GuestOf) → shape_of code ≡ shape → is_table shape ≡ false → text_of (records_of code g) ≡ flat_map (piece (shape_of code) (code_number code)) (parts_at code g)
+code_each code shape g is other = each_text (code_number code) (shape_of code) (parts_at code g) (ap is_table is ∙ other)
+
+-- ---- bodies in pieces
+
+pub zeros_split : (i n : ℕ) → i < n → replicate {A = ℕ} n 0 ≡ replicate i 0 ++ ((0 ∷ []) ++ replicate (n - i - 1) 0)
+zeros_split i n less = ap (λ m. replicate {A = ℕ} m 0) (let e : n ≡ i + suc (n - i - 1) = omega arith in e) ∙ sym (replicate-append-replicate {A = ℕ} i (suc (n - i - 1)) 0)
+
+pub zeros_next : (i : ℕ) → replicate {A = ℕ} (i + 1) 0 ≡ replicate i 0 ++ 0 ∷ []
+zeros_next i = sym (replicate-append-replicate {A = ℕ} i 1 0)
+
+pub single_text : (type len ignored : ℕ) (value : List ℕ) → len ≡ length value + ignored → spelled type (value ++ replicate ignored 0) ≡ head_of type len ++ (value ++ (replicate ignored 0 ++ replicate (padding_len len) 0))
+unfolding spelled
+single_text type len ignored value is =
+    let zeros : List ℕ = replicate ignored 0 in
+    ap (λ m. head_of type m ++ ((value ++ zeros) ++ replicate (padding_len m) 0)) (length-append value zeros ∙ ap (λ m. length value + m) (length-replicate ignored 0) ∙ sym is)
+    ∙ ap (λ l. head_of type len ++ l) (append_assoc value zeros (replicate (padding_len len) 0))
+
+pub named_len : (key1 key2 second ignored : ℕ) (value : List ℕ) → length (little_bytes 4 key1 ++ (little_bytes second key2 ++ (replicate ignored 0 ++ value))) ≡ 4 + second + ignored + length value
+named_len key1 key2 second ignored value =
+    let two = little_bytes second key2 in let zeros : List ℕ = replicate ignored 0 in
+    omega (arith, length-append (little_bytes 4 key1) (two ++ (zeros ++ value)), length-append two (zeros ++ value), length-append zeros value, length-bytes_low_first 0 second key2, length-replicate {A = ℕ} ignored 0)
+
+pub named_text : (type len key1 key2 second ignored : ℕ) (value : List ℕ) → len ≡ 4 + second + ignored + length value
+    → spelled type (little_bytes 4 key1 ++ (little_bytes second key2 ++ (replicate ignored 0 ++ value))) ≡ head_of type len ++ ((little_bytes 4 key1 ++ (little_bytes second key2 ++ replicate ignored 0)) ++ (value ++ replicate (padding_len len) 0))
+unfolding spelled
+named_text type len key1 key2 second ignored value is =
+    let one = little_bytes 4 key1 in let two = little_bytes second key2 in let zeros : List ℕ = replicate ignored 0 in let pad : List ℕ = replicate (padding_len len) 0 in
+    ap (λ m. head_of type m ++ ((one ++ (two ++ (zeros ++ value))) ++ replicate (padding_len m) 0)) (named_len key1 key2 second ignored value ∙ sym is)
+    ∙ ap (λ l. head_of type len ++ l) (append_assoc one (two ++ (zeros ++ value)) pad ∙ ap (λ l. one ++ l) (append_assoc two (zeros ++ value) pad ∙ ap (λ l. two ++ l) (append_assoc zeros value pad) ∙ sym (append_assoc two zeros (value ++ pad)))
+    ∙ sym (append_assoc one (two ++ zeros) (value ++ pad)))
 
 -- ---- the stream
 
@@ -119,14 +144,3 @@ unfolding canon
 canon_is g =
     let a = static_bodies g in let b = frame_bodies (frames_in g) (batches (frames_in g)) in
     ap (λ l. headers ++ l) (text_join a (b ++ last_bodies g) ∙ ap (λ l. text_of a ++ l) (text_join b (last_bodies g)))
-
--- ---- two pieces in one array
-
-pub both_put : (front value rest x y : List ℕ) → x ≡ front → y ≡ value
-    → front ++ value ≡ take (length front + length value) (put_mid (length front) (length front + length value - length front) (x ++ rest) y)
-both_put front value rest x y p q =
-    let n = length front in
-    let behind : List ℕ = drop (n + length value - n) (drop n (x ++ rest)) in
-    let first : take n (x ++ rest) ≡ front = ap (λ l. take n (l ++ rest)) p ∙ take-append-le n front rest (le_refl n) ∙ take_all n front (le_refl n) in
-    sym (ap (λ l. take (n + length value) (l ++ (y ++ behind))) first ∙ take-append-add front (y ++ behind) (length value)
-    ∙ ap (λ l. front ++ l) (ap (λ l. take (length value) (l ++ behind)) q ∙ take-append-le (length value) value behind (le_refl (length value)) ∙ take_all (length value) value (le_refl (length value))))

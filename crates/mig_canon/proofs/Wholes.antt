@@ -1,49 +1,25 @@
--- What a whole guest says of each of its parts.
-use Rattle.std.proofs.Common.{◌≡◌, ℕ, ◌+◌, ◌≤◌, ◌^◌, List, [], ◌∷◌, length, true, false, Option, Some, None, refl, sym, ap, subst, ◌∙◌, arith}
+-- What a whole guest says of its parts, code by code.
+use Rattle.std.proofs.Common.{◌≡◌, ℕ, zero, suc, ◌+◌, ◌*◌, ◌<◌, ◌≤◌, ◌^◌, List, [], ◌∷◌, length, map, true, Option, Some, None, refl, sym, ap, subst, ◌∙◌, arith}
 use Rattle.std.specs.Prelude.{◌==◌}
 use Rattle.std.proofs.lemmas.Bool.{eqb-true}
-use Rattle.std.proofs.lemmas.List.Elements.{All-head, All-filter, filter_passes}
+use Rattle.std.proofs.lemmas.List.Elements.{All-nil, All-cons, All-head, All-filter, filter_passes}
 use Rattle.std.specs.List.{All}
 use Rattle.std.specs.Ordering.{is_lt}
-use Rattle.std.specs.FinMap as maps
+use Rattle.mig_guest.specs.declared.part_code.PartCode.{PartCode}
 use Rattle.mig_guest.specs.declared.part_key.PartKey.{PartKey}
 use Rattle.mig_guest.specs.Order.{part_cmp}
 use Rattle.mig_guest.specs.Guests.{GuestOf}
 use Rattle.mig_guest.specs.Parts.{Part, parts_of, parts_after}
-use Rattle.mig_guest.specs.PartKeys.{tsc_key, context_key}
-use Rattle.mig_guest.proofs.PartCursor.{not_itself, kept_none}
-use Rattle.mig_guest.proofs.CodeParts.{all_of, held_in, IsHeld, parts_are, held_tsc, held_context, held_param, held_leaf, held_msr, few_params}
+use Rattle.mig_bodies.specs.declared.layout.Layout.{Layout}
+use Rattle.mig_bodies.specs.declared.shape.Shape.{Shape}
+use Rattle.mig_bodies.specs.declared.shape.Shape.TheVariants.{Table, Single, Named, Chain, Other}
+use Rattle.mig_bodies.specs.Layouts.{AreWidths, entry_width, front_width, table_text}
+use Rattle.mig_bodies.specs.Shapes.{shape_of, parts_at, part_body, bodies_by_shape, contents_by_shape, IsRow, IsShaped, SayAll}
+use Rattle.mig_bodies.proofs.Canonical.{canonical_bodies_say}
+use Rattle.mig_bodies.proofs.Rows.{all_rows}
+use Rattle.mig_bodies.proofs.TableSpelled.{table_len}
 use Rattle.mig_pvtables.specs.Whole.{IsWhole}
-use Rattle.mig_canon.specs.declared.entries.Table.{Table}
-use Rattle.mig_canon.specs.declared.entries.Table.TheVariants.{Leaves, Msrs, Params}
-use Rattle.mig_canon.specs.Tables.{code_of, layout_of, rows_of}
-
--- ---- the parts of a code
-
-same_code : (a b : ℕ) → a == b ≡ true → a ≡ b
-same_code a b h = eqb-true a b h
-
--- ---- the rows of a table
-
-pub record IsRow (table : Table) (p : Part) : Type 0 where
-  pub code : p.0.code ≡ code_of table
-  pub len : length p.1 ≡ (layout_of table).value_width
-
-len_of : (g : GuestOf) (table : Table) (p : Part) → IsHeld g (code_of table) p → length p.1 ≡ (layout_of table).value_width
-len_of g Leaves p one = (held_leaf g p one).1
-len_of g Msrs p one = (held_msr g p one).1
-len_of g Params p one = (held_param g p one).2
-
-pub rows_are : (g : GuestOf) (table : Table) → IsWhole g → All (IsRow table) (rows_of table g)
-rows_are g table whole =
-    let P : Part → Type 0 = IsHeld g (code_of table) in
-    let all = parts_are g (code_of table) whole.formed in
-    all_of P P (IsRow table) (λ p is same. record { code = is.code_is; len = len_of g table p is }) (rows_of table g) all all
-
-pub rows_few : (g : GuestOf) (table : Table) → IsWhole g → length (rows_of table g) ≤ 65536
-rows_few g Leaves whole = whole.formed.policies 17 refl
-rows_few g Msrs whole = whole.formed.policies 18 refl
-rows_few g Params whole = omega (arith, few_params g whole.formed)
+use Rattle.mig_canon.specs.Pieces.{IsShortPart}
 
 -- ---- a walk over a code
 
@@ -57,48 +33,74 @@ module _ (code : ℕ) (after : Option PartKey) (es : List Part) (e : Part) (rest
   holds_next P all = All-head P e rest (subst (All P) h (all_after P after all))
 
   pub code_next : e.0.code ≡ code
-  code_next = same_code e.0.code code (holds_next (λ p. (p.0.code == code) ≡ true) (filter_passes (λ p. p.0.code == code) es))
+  code_next = eqb-true e.0.code code (holds_next (λ p. (p.0.code == code) ≡ true) (filter_passes (λ p. p.0.code == code) es))
 
--- ---- a code with one key
+pub next_part : (n code : ℕ) (after : Option PartKey) (es : List Part) (e : Part) → n ≡ code → parts_after n after es ≡ e ∷ parts_after n (Some e.0) es → parts_after code after es ≡ e ∷ parts_after code (Some e.0) es
+next_part n code after es e is h = subst (λ m. parts_after m after es ≡ e ∷ parts_after m (Some e.0) es) is h
 
-alone_of : (k : PartKey) (code : ℕ) (es : List Part) (e : Part) → All (λ (p : Part). p.0 ≡ k) (parts_of code es) → parts_of code es ≡ e ∷ parts_after code (Some e.0) es → parts_of code es ≡ e ∷ []
-alone_of k code es e all h =
-    let P : Part → Type 0 = λ p. p.0 ≡ k in
-    let Q : Part → Type 0 = λ p. is_lt (part_cmp e.0 p.0) ≡ false in
-    let first : e.0 ≡ k = All-head P e (parts_after code (Some e.0) es) (subst (All P) h all) in
-    h ∙ ap (λ l. e ∷ l) (kept_none (λ p. is_lt (part_cmp e.0 p.0)) (parts_of code es)
-    (all_of P P Q (λ p is same. ap (λ k. is_lt (part_cmp e.0 k)) (is ∙ sym first) ∙ not_itself e.0) (parts_of code es) all all))
+-- ---- no body is too long
 
-module _ (g : GuestOf) (whole : IsWhole g) (e : Part) where
-  is_first : (code : ℕ) → held_in code g ≡ e ∷ parts_after code (Some e.0) (maps.entries g.parts) → IsHeld g code e
-  is_first code h = holds_next code None (maps.entries g.parts) e _ h (IsHeld g code) (parts_are g code whole.formed)
+short_alone : (code : PartCode) (body : Part → List ℕ) (ps : List Part) → SayAll code (map body ps) (map (λ p. p ∷ []) ps) → All (λ p. length (body p) ≤ 2 ^ 27) ps
+short_alone code body [] h = All-nil (λ p. length (body p) ≤ 2 ^ 27)
+short_alone code body (p ∷ ps) h = All-cons (λ p. length (body p) ≤ 2 ^ 27) p ps h.0.short (short_alone code body ps h.1)
 
-  alone_in : (code : ℕ) (k : PartKey) → ((p : Part) → IsHeld g code p → p.0 ≡ k) → held_in code g ≡ e ∷ parts_after code (Some e.0) (maps.entries g.parts) → held_in code g ≡ e ∷ []
-  alone_in code k is h = let all = parts_are g code whole.formed in alone_of k code (maps.entries g.parts) e (all_of (IsHeld g code) (IsHeld g code) (λ p. p.0 ≡ k) (λ p one same. is p one) (held_in code g) all all) h
+all_true : (P : Part → Type 0) → ((p : Part) → P p) → (ps : List Part) → All P ps
+all_true P holds [] = All-nil P
+all_true P holds (p ∷ ps) = All-cons P p ps (holds p) (all_true P holds ps)
 
-  -- the TSC is the only part of its code
-  pub one_tsc : held_in 8 g ≡ e ∷ parts_after 8 (Some e.0) (maps.entries g.parts) → (held_in 8 g ≡ e ∷ []) × (length e.1 ≡ 20)
-  one_tsc h = let one = is_first 8 h in (alone_in 8 tsc_key (λ p is. (held_tsc g p is).0) h, (held_tsc g e one).1)
+short_by_shape : (code : PartCode) (shape : Shape) (ps : List Part) → SayAll code (bodies_by_shape shape ps) (contents_by_shape shape ps) → All (IsShortPart shape) ps
+short_by_shape code (Table l) ps h = all_true (IsShortPart (Table l)) (λ p. tt) ps
+short_by_shape code (Single len ignored) ps h = short_alone code (part_body (Single len ignored)) ps h
+short_by_shape code (Named second ignored skips) ps h = short_alone code (part_body (Named second ignored skips)) ps h
+short_by_shape code Chain ps h = short_alone code (part_body Chain) ps h
+short_by_shape code Other ps h = all_true (IsShortPart Other) (λ p. omega arith) ps
 
-  -- so is the context
-  pub one_context : held_in 9 g ≡ e ∷ parts_after 9 (Some e.0) (maps.entries g.parts) → (held_in 9 g ≡ e ∷ []) × (length e.1 ≤ 2 ^ 27)
-  one_context h =
-      let one = is_first 9 h in (alone_in 9 context_key (λ p is. (held_context g p is).0) h, (held_context g e one).1)
+pub short_parts : (code : PartCode) (g : GuestOf) → IsWhole g → All (IsShortPart (shape_of code)) (parts_at code g)
+short_parts code g whole = short_by_shape code (shape_of code) (parts_at code g) (canonical_bodies_say code g whole.formed)
 
--- ---- the rows of a table one after another
+-- ---- tables
 
-pub next_row : (table : Table) (n : ℕ) (after : Option PartKey) (es : List Part) (e : Part) → n ≡ code_of table → parts_after n after es ≡ e ∷ parts_after n (Some e.0) es → parts_after (code_of table) after es ≡ e ∷ parts_after (code_of table) (Some e.0) es
-next_row table n after es e is h = subst (λ m. parts_after m after es ≡ e ∷ parts_after m (Some e.0) es) is h
+-- a table of so many parts, with its length
+pub record Fits (l : Layout) (ps : List Part) : Type 0 where
+  pub len : length (table_text l ps) ≡ front_width l + entry_width l * length ps
+  pub short : length (table_text l ps) ≤ 2 ^ 27
+  pub few : length ps ≤ 2 ^ 27
 
-pub no_row : (table : Table) (n : ℕ) (after : Option PartKey) (es : List Part) → n ≡ code_of table → parts_after n after es ≡ [] → parts_after (code_of table) after es ≡ []
-no_row table n after es is h = subst (λ m. parts_after m after es ≡ []) is h
+at_most : (w n m : ℕ) → 0 < w → n + w * m ≤ 2 ^ 27 → m ≤ 2 ^ 27
+at_most w n m some h = omega (arith, h, times w m some)
+  where
+    times : (w m : ℕ) → 0 < w → m ≤ w * m
+    times w zero some = omega arith
+    times w (suc m) some = let e : w * suc m ≡ w + w * m = grind arith in omega (arith, e, times w m some, some)
 
--- a row that is next is counted
-pub more_rows : (table : Table) (g : GuestOf) (whole : IsWhole g) (count : ℕ) (after : Option PartKey) (e : Part)
-    → count + length (parts_after (code_of table) after (maps.entries g.parts)) ≡ length (rows_of table g)
-    → parts_after (code_of table) after (maps.entries g.parts) ≡ e ∷ parts_after (code_of table) (Some e.0) (maps.entries g.parts)
-    → (count + 1 + length (parts_after (code_of table) (Some e.0) (maps.entries g.parts)) ≡ length (rows_of table g)) × (count + 1 ≤ 65536)
-more_rows table g whole count after e seen is =
-    let one = ap length is in
-    let next : count + 1 + length (parts_after (code_of table) (Some e.0) (maps.entries g.parts)) ≡ length (rows_of table g) = omega (arith, seen, one) in
-    (next, omega (arith, next, rows_few g table whole))
+widths_by_shape : (code : PartCode) (l : Layout) → shape_of code ≡ Table l → AreWidths l
+widths_by_shape code l is = (subst (IsRow code) is (all_rows code)).widths
+
+table_fits : (code : PartCode) (l : Layout) (ps : List Part) → shape_of code ≡ Table l → (length ps ≡ 0 → ⊥) → SayAll code (bodies_by_shape (Table l) ps) (contents_by_shape (Table l) ps) → Fits l ps
+table_fits code l [] is some h = absurd (some refl)
+table_fits code l (p ∷ ps) is some h =
+    let w = widths_by_shape code l is in
+    let body = table_text l (p ∷ ps) in
+    let len = table_len code l w body (p ∷ ps) (subst (λ s. IsShaped s code body (p ∷ ps)) is h.0.says) in
+    record { len = len; short = h.0.short; few = at_most (entry_width l) (front_width l) (length (p ∷ ps)) (omega (arith, w.some)) (omega (arith, len, h.0.short)) }
+
+module _ (code : PartCode) (l : Layout) (g : GuestOf) (is : shape_of code ≡ Table l) (whole : IsWhole g) where
+  pub widths : AreWidths l
+  widths = widths_by_shape code l is
+
+  pub fits : (length (parts_at code g) ≡ 0 → ⊥) → Fits l (parts_at code g)
+  fits some = let ps = parts_at code g in table_fits code l ps is some (subst (λ s. SayAll code (bodies_by_shape s ps) (contents_by_shape s ps)) is (canonical_bodies_say code g whole.formed))
+
+  pub few_rows : length (parts_at code g) < 2 ^ 32
+  few_rows = by (length (parts_at code g)) refl
+    where
+      by : (n : ℕ) → length (parts_at code g) ≡ n → n < 2 ^ 32
+      by zero e = omega arith
+      by (suc n) e = let f = fits (λ z. omega (arith, e, z)) in omega (arith, f.few, e)
+
+  -- the length that is written
+  pub table_size : (n front entry : ℕ) → n ≡ length (parts_at code g) → (n ≡ 0 → ⊥) → front ≡ front_width l → entry ≡ entry_width l → front + entry * n ≡ length (table_text l (parts_at code g))
+  table_size n front entry count some a b = ap (λ w. w + entry * n) a ∙ ap (λ w. front_width l + w * n) b ∙ ap (λ m. front_width l + entry_width l * m) count ∙ sym (fits (λ e. some (count ∙ e))).len
+
+  pub table_short : (n front entry : ℕ) → n ≡ length (parts_at code g) → (n ≡ 0 → ⊥) → front ≡ front_width l → entry ≡ entry_width l → front + entry * n ≤ 2 ^ 27
+  table_short n front entry count some a b = subst (λ m. m ≤ 2 ^ 27) (sym (table_size n front entry count some a b)) (fits (λ e. some (count ∙ e))).short

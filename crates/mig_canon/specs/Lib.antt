@@ -1,2 +1,2 @@
 pub mod Canon
-pub mod Tables
+pub mod Pieces

@@ -3,24 +3,17 @@ ghost use Rattle.mig_bytes.specs.Bytes.{Puts};
 ghost use Rattle.mig_bytes.specs.Faults.{HasCause};
 ghost use Rattle.mig_guest.specs.Formed.{IsPlainHvm};
 ghost use Rattle.mig_pvtables.specs.Whole.{IsWhole};
-ghost use Rattle.mig_guest.specs.declared.part_code.PartCode.TheVariants.{Tsc, HvmContext};
-ghost use Rattle.mig_canon.specs.Canon.{headers, records_of, static_bodies, last_bodies, text_of, canon};
+ghost use Rattle.mig_canon.specs.Canon.{headers, static_bodies, last_bodies, text_of, canon};
 
-use crate::entries::{Table, write_table};
 use crate::frames::write_frames;
+use crate::parts::write_parts;
 use mig_bytes::{Sink, WriteFailed, put_all};
-use mig_guest::Guest;
+use mig_guest::{Guest, PartCode};
 use mig_headers::{DomainHeader, ImageHeader, Kind};
 use mig_records::write_record;
 
 /// The type of END.
 const END: u32 = 0;
-
-/// The type of X86_TSC_INFO, and the code of its part.
-const TSC_INFO: u32 = 8;
-
-/// The type of HVM_CONTEXT, and the code of its part.
-const HVM_CONTEXT: u32 = 9;
 
 /// The type of STATIC_DATA_END.
 const STATIC_DATA_END: u32 = 0x10;
@@ -45,37 +38,9 @@ fn write_static<K: Sink>(sink: &mut K, guest: &Guest) -> Result<(), WriteFailed>
     ensures bytes { Puts (text_of (static_bodies guest.now)) (K.written sink.old) (K.written sink.new) result }
     ensures cause { HasCause (K.faults sink.old) (K.faults sink.new) result }
 {
-    write_table(sink, guest, Table::Leaves)?;
-    write_table(sink, guest, Table::Msrs)?;
+    write_parts(sink, guest, PartCode::CpuidLeaf)?;
+    write_parts(sink, guest, PartCode::Msr)?;
     write_record(sink, STATIC_DATA_END, &[])
-}
-
-/// Appends the TSC, where there is one.
-fn write_tsc<K: Sink>(sink: &mut K, guest: &Guest) -> Result<(), WriteFailed>
-    requires { IsWhole guest.now }
-    ensures bytes { Puts (text_of (records_of Tsc guest.now)) (K.written sink.old) (K.written sink.new) result }
-    ensures cause { HasCause (K.faults sink.old) (K.faults sink.new) result }
-{
-    match guest.next_of_code(TSC_INFO, None) {
-        Some((_, bytes)) => {
-            let mut body = [0; 24];
-            body[..20].copy_from_slice(bytes);
-            write_record(sink, TSC_INFO, &body)
-        }
-        None => Ok(()),
-    }
-}
-
-/// Appends the context.
-fn write_context<K: Sink>(sink: &mut K, guest: &Guest) -> Result<(), WriteFailed>
-    requires { IsWhole guest.now }
-    ensures bytes { Puts (text_of (records_of HvmContext guest.now)) (K.written sink.old) (K.written sink.new) result }
-    ensures cause { HasCause (K.faults sink.old) (K.faults sink.new) result }
-{
-    match guest.next_of_code(HVM_CONTEXT, None) {
-        Some((_, bytes)) => write_record(sink, HVM_CONTEXT, bytes),
-        None => Ok(()),
-    }
 }
 
 /// Appends the records behind the frames.
@@ -84,9 +49,9 @@ fn write_last<K: Sink>(sink: &mut K, guest: &Guest) -> Result<(), WriteFailed>
     ensures bytes { Puts (text_of (last_bodies guest.now)) (K.written sink.old) (K.written sink.new) result }
     ensures cause { HasCause (K.faults sink.old) (K.faults sink.new) result }
 {
-    write_tsc(sink, guest)?;
-    write_table(sink, guest, Table::Params)?;
-    write_context(sink, guest)?;
+    write_parts(sink, guest, PartCode::Tsc)?;
+    write_parts(sink, guest, PartCode::HvmParam)?;
+    write_parts(sink, guest, PartCode::HvmContext)?;
     write_record(sink, END, &[])
 }
 

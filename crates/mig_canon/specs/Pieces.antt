@@ -1,0 +1,18 @@
+-- How parts of one code are written, one after another: each an entry of their table, or a record.
+use Rattle.std.specs.Prelude.{◌≤◌, ℕ, ◌^◌, List, [], length, ⊤}
+use Rattle.mig_guest.specs.Parts.{Part}
+use Rattle.mig_bodies.specs.declared.shape.Shape.{Shape}
+use Rattle.mig_bodies.specs.declared.shape.Shape.TheVariants.{Table, Other}
+use Rattle.mig_bodies.specs.Layouts.{entry_text}
+use Rattle.mig_bodies.specs.Shapes.{part_body}
+use Rattle.mig_records.specs.Records.{spelled}
+
+abbrev pub piece : Shape → ℕ → Part → List ℕ
+piece (Table l) type p = entry_text l p
+piece Other type p = []
+piece shape type p = spelled type (part_body shape p)
+
+-- a part whose record isn't too long
+abbrev pub IsShortPart : Shape → Part → Type 0
+IsShortPart (Table l) p = ⊤
+IsShortPart shape p = length (part_body shape p) ≤ 2 ^ 27

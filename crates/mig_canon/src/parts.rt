@@ -1,0 +1,223 @@
+ghost use Rattle.std.specs.Prelude.{◌≡◌, ◌+◌, ◌≤◌, ◌<◌, ◌^◌, length, ◌++◌, replicate};
+ghost use Rattle.std.specs.List.{flat_map};
+ghost use Rattle.byteorder.specs.Endian.{little_bytes};
+ghost use Rattle.mig_bytes.specs.Bytes.{Puts};
+ghost use Rattle.mig_bytes.specs.Faults.{HasCause};
+ghost use Rattle.mig_pvtables.specs.Whole.{IsWhole};
+ghost use Rattle.mig_records.specs.Records.{spelled};
+ghost use Rattle.mig_guest.specs.PartCodes.{code_number};
+ghost use Rattle.mig_bodies.specs.declared.shape.Shape.TheVariants as shapes;
+ghost use Rattle.mig_bodies.specs.Layouts.{AreWidths, front_text, entry_text};
+ghost use Rattle.mig_bodies.specs.Shapes.{shape_of, parts_at, IsRow};
+ghost use Rattle.mig_canon.specs.Canon.{records_of, text_of};
+ghost use Rattle.mig_canon.specs.Pieces.{piece, IsShortPart};
+
+use mig_bodies::{Layout, Shape, shape_of};
+use mig_bytes::{Sink, WriteFailed, put_all};
+use mig_guest::{Guest, PartCode, PartKey};
+use mig_records::{write_head, write_padding, write_record};
+
+/// Appends the lowest bytes of a number, the lowest first.
+fn write_number<K: Sink>(sink: &mut K, width: usize, number: u32) -> Result<(), WriteFailed>
+    requires { width ≤ 8 }
+    ensures bytes { Puts (little_bytes width number) (K.written sink.old) (K.written sink.new) result }
+    ensures cause { HasCause (K.faults sink.old) (K.faults sink.new) result }
+{
+    let bytes = u64::from(number).to_le_bytes();
+    put_all(sink, &bytes[..width])
+}
+
+/// Appends so many zero bytes.
+fn write_zeros<K: Sink>(sink: &mut K, count: usize) -> Result<(), WriteFailed>
+    ensures bytes { Puts (replicate count 0) (K.written sink.old) (K.written sink.new) result }
+    ensures cause { HasCause (K.faults sink.old) (K.faults sink.new) result }
+{
+    for i in 0..count {
+        put_all(sink, &[0])?;
+    }
+    Ok(())
+}
+
+/// Appends a count, and 4 zero bytes.
+pub(crate) fn write_count<K: Sink>(sink: &mut K, count: u32) -> Result<(), WriteFailed>
+    ensures bytes { Puts (little_bytes 4 count ++ replicate 4 0) (K.written sink.old) (K.written sink.new) result }
+    ensures cause { HasCause (K.faults sink.old) (K.faults sink.new) result }
+{
+    write_number(sink, 4, count)?;
+    write_number(sink, 4, 0)
+}
+
+/// Appends what stands before the entries of a table: their number, where it has it.
+fn write_front<K: Sink>(sink: &mut K, layout: Layout, count: u32) -> Result<(), WriteFailed>
+    ensures bytes { Puts (front_text layout.counted count) (K.written sink.old) (K.written sink.new) result }
+    ensures cause { HasCause (K.faults sink.old) (K.faults sink.new) result }
+{
+    if layout.counted {
+        write_count(sink, count)
+    } else {
+        Ok(())
+    }
+}
+
+/// Appends an entry of a table.
+fn write_entry<K: Sink>(
+    sink: &mut K,
+    layout: Layout,
+    key: PartKey,
+    value: &[u8],
+) -> Result<(), WriteFailed>
+    requires { AreWidths layout }
+    ensures bytes { Puts (entry_text layout (key, value.now)) (K.written sink.old) (K.written sink.new) result }
+    ensures cause { HasCause (K.faults sink.old) (K.faults sink.new) result }
+{
+    write_number(sink, layout.key1_width, key.key1)?;
+    write_number(sink, layout.key2_width, key.key2)?;
+    put_all(sink, value)
+}
+
+/// Appends the record of a single part: its bytes, and zeros where bytes are ignored.
+fn write_single<K: Sink>(
+    sink: &mut K,
+    number: u32,
+    ignored: usize,
+    value: &[u8],
+) -> Result<(), WriteFailed>
+    requires { length value.now + ignored ≤ 2 ^ 27 }
+    ensures bytes { Puts (spelled number (value.now ++ replicate ignored 0)) (K.written sink.old) (K.written sink.new) result }
+    ensures cause { HasCause (K.faults sink.old) (K.faults sink.new) result }
+{
+    let len = (value.len() + ignored) as u32;
+    write_head(sink, number, len)?;
+    put_all(sink, value)?;
+    write_zeros(sink, ignored)?;
+    write_padding(sink, len)
+}
+
+/// Appends the numbers of a key, the second in so many bytes, and so many zeros.
+fn write_names<K: Sink>(
+    sink: &mut K,
+    key: PartKey,
+    second: usize,
+    ignored: usize,
+) -> Result<(), WriteFailed>
+    requires { second ≤ 4 }
+    ensures bytes { Puts (little_bytes 4 key.key1 ++ (little_bytes second key.key2 ++ replicate ignored 0)) (K.written sink.old) (K.written sink.new) result }
+    ensures cause { HasCause (K.faults sink.old) (K.faults sink.new) result }
+{
+    write_number(sink, 4, key.key1)?;
+    write_number(sink, second, key.key2)?;
+    write_zeros(sink, ignored)
+}
+
+/// Appends the record of a part with its key.
+fn write_named<K: Sink>(
+    sink: &mut K,
+    number: u32,
+    key: PartKey,
+    second: usize,
+    ignored: usize,
+    value: &[u8],
+) -> Result<(), WriteFailed>
+    requires narrow { second ≤ 4 }
+    requires short { 4 + second + ignored + length value.now ≤ 2 ^ 27 }
+    ensures bytes { Puts (spelled number (little_bytes 4 key.key1 ++ (little_bytes second key.key2 ++ (replicate ignored 0 ++ value.now)))) (K.written sink.old) (K.written sink.new) result }
+    ensures cause { HasCause (K.faults sink.old) (K.faults sink.new) result }
+{
+    let len = (4 + second + ignored + value.len()) as u32;
+    write_head(sink, number, len)?;
+    write_names(sink, key, second, ignored)?;
+    put_all(sink, value)?;
+    write_padding(sink, len)
+}
+
+/// Appends a part as its code's shape says: an entry of a table, or a record.
+fn write_piece<K: Sink>(
+    sink: &mut K,
+    code: PartCode,
+    shape: Shape,
+    key: PartKey,
+    value: &[u8],
+) -> Result<(), WriteFailed>
+    requires row { IsRow code shape }
+    requires short { IsShortPart shape (key, value.now) }
+    ensures bytes { Puts (piece shape (code_number code) (key, value.now)) (K.written sink.old) (K.written sink.new) result }
+    ensures cause { HasCause (K.faults sink.old) (K.faults sink.new) result }
+{
+    let number = code.number();
+    match shape {
+        Shape::Table(layout) => write_entry(sink, layout, key, value),
+        Shape::Single(_, ignored) => write_single(sink, number, ignored, value),
+        Shape::Named(second, ignored, _) => write_named(sink, number, key, second, ignored, value),
+        Shape::Chain => write_record(sink, number, value),
+        Shape::Other => Ok(()),
+    }
+}
+
+/// Appends all parts of the code, one after another.
+fn write_pieces<K: Sink>(sink: &mut K, guest: &Guest, code: PartCode) -> Result<(), WriteFailed>
+    requires { IsWhole guest.now }
+    ensures bytes { Puts (flat_map (piece (shape_of code) (code_number code)) (parts_at code guest.now)) (K.written sink.old) (K.written sink.new) result }
+    ensures cause { HasCause (K.faults sink.old) (K.faults sink.new) result }
+{
+    let mut after = None;
+    while let Some((key, value)) = guest.next_of_code(code.number(), after) {
+        write_piece(sink, code, shape_of(code), key, value)?;
+        after = Some(key);
+    }
+    Ok(())
+}
+
+/// How many parts of the code there are.
+fn count_parts(guest: &Guest, code: PartCode) -> u32
+    requires { length (parts_at code guest.now) < 2 ^ 32 }
+    ensures { result ≡ length (parts_at code guest.now) }
+{
+    let mut count = 0;
+    let mut after = None;
+    while let Some((key, _)) = guest.next_of_code(code.number(), after) {
+        count += 1;
+        after = Some(key);
+    }
+    count
+}
+
+/// Appends the record of a table, where it has entries.
+fn write_table<K: Sink>(
+    sink: &mut K,
+    guest: &Guest,
+    code: PartCode,
+    layout: Layout,
+) -> Result<(), WriteFailed>
+    requires whole { IsWhole guest.now }
+    requires shape { shape_of code ≡ shapes.Table layout }
+    ensures bytes { Puts (text_of (records_of code guest.now)) (K.written sink.old) (K.written sink.new) result }
+    ensures cause { HasCause (K.faults sink.old) (K.faults sink.new) result }
+{
+    let count = count_parts(guest, code);
+    if count == 0 {
+        return Ok(());
+    }
+    let len = (layout.front_width() + layout.entry_width() * count as usize) as u32;
+    write_head(sink, code.number(), len)?;
+    write_front(sink, layout, count)?;
+    write_pieces(sink, guest, code)?;
+    write_padding(sink, len)
+}
+
+/// Appends the records of the parts of one code.
+pub(crate) fn write_parts<K: Sink>(
+    sink: &mut K,
+    guest: &Guest,
+    code: PartCode,
+) -> Result<(), WriteFailed>
+    requires { IsWhole guest.now }
+    ensures bytes { Puts (text_of (records_of code guest.now)) (K.written sink.old) (K.written sink.new) result }
+    ensures cause { HasCause (K.faults sink.old) (K.faults sink.new) result }
+{
+    match shape_of(code) {
+        Shape::Table(layout) => write_table(sink, guest, code, layout),
+        Shape::Single(_, _) | Shape::Named(_, _, _) | Shape::Chain | Shape::Other => write_pieces(
+            sink, guest, code,
+        ),
+    }
+}
