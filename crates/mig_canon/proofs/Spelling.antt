@@ -102,9 +102,6 @@ code_each code shape g is other = each_text (code_number code) (shape_of code) (
 pub zeros_split : (i n : ℕ) → i < n → replicate {A = ℕ} n 0 ≡ replicate i 0 ++ ((0 ∷ []) ++ replicate (n - i - 1) 0)
 zeros_split i n less = ap (λ m. replicate {A = ℕ} m 0) (let e : n ≡ i + suc (n - i - 1) = omega arith in e) ∙ sym (replicate-append-replicate {A = ℕ} i (suc (n - i - 1)) 0)
 
-pub zeros_next : (i : ℕ) → replicate {A = ℕ} (i + 1) 0 ≡ replicate i 0 ++ 0 ∷ []
-zeros_next i = sym (replicate-append-replicate {A = ℕ} i 1 0)
-
 pub single_text : (type len ignored : ℕ) (value : List ℕ) → len ≡ length value + ignored → spelled type (value ++ replicate ignored 0) ≡ head_of type len ++ (value ++ (replicate ignored 0 ++ replicate (padding_len len) 0))
 unfolding spelled
 single_text type len ignored value is =
