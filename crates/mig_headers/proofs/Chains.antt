@@ -115,27 +115,6 @@ scan_found bytes o h =
     subst (λ n. ChainTo bytes n × (fault_at bytes n ≡ None) × (is_last bytes n ≡ true)) is
     (walk_end_reached (after_entry bytes) (length bytes) 0 0 here, fine, last_of bytes w (fault_at bytes w) (is_last bytes w) fine stops)
 
-cut_len : (bytes : List ℕ) (o : ℕ) → o ≤ length bytes → length (cut_at bytes o) ≡ o + 8
-cut_len bytes o h = length-append (take o bytes) (replicate 8 0) ∙ ap (λ n. n + 8) (length-take-le o bytes h)
-
--- before the cut the bytes are the same
-byte_is : (bytes : List ℕ) (o s i : ℕ) → o ≤ length bytes → s + i < o → get_or (drop s (cut_at bytes o)) i 0 ≡ get_or (drop s bytes) i 0
-byte_is bytes o s i fits less =
-    get_or-drop s (cut_at bytes o) i 0 ∙ get_or-append (take o bytes) (replicate 8 0) 0 (s + i) (omega (arith, length-take-le o bytes fits))
-    ∙ get_or-take o bytes (s + i) 0 less ∙ sym (get_or-drop s bytes i 0)
-
-le16_is : (bytes : List ℕ) (o s : ℕ) → o ≤ length bytes → s + 2 ≤ o → le16 (cut_at bytes o) s ≡ le16 bytes s
-unfolding le16
-le16_is bytes o s fits less = rw (byte_is bytes o s 0 fits (omega arith), byte_is bytes o s 1 fits (omega arith)) refl
-
-le32_is : (bytes : List ℕ) (o s : ℕ) → o ≤ length bytes → s + 4 ≤ o → le32 (cut_at bytes o) s ≡ le32 bytes s
-unfolding le32
-le32_is bytes o s fits less = rw (byte_is bytes o s 0 fits (omega arith), byte_is bytes o s 1 fits (omega arith), byte_is bytes o s 2 fits (omega arith), byte_is bytes o s 3 fits (omega arith)) refl
-
-zero_at : (bytes : List ℕ) (o : ℕ) → o ≤ length bytes → le16 (cut_at bytes o) o ≡ 0
-unfolding le16
-zero_at bytes o fits = ap (little_number 2) (drop_at (take o bytes) (replicate 8 0) o (length-take-le o bytes fits))
-
 pub le_false : (n m : ℕ) → m < n → nat_le n m ≡ false
 le_false n m h = grind (arith, common_steps)
 
@@ -154,32 +133,6 @@ pub when_zero : (b c : Bool) → (b && c) ≡ false → b ≡ true → c ≡ fal
 when_zero true c h e = h
 when_zero false c h e = cc
 
-module _ (bytes : List ℕ) (o : ℕ) (fits : o ≤ length bytes) where
-  entry_kept : (s t : ℕ) → t ≤ o → after_entry bytes s ≡ Some t → after_entry (cut_at bytes o) s ≡ Some t
-  unfolding after_entry
-  entry_kept s t le goes =
-      let (unflawed, is) = gone (is_some (fault_at bytes s)) (is_last bytes s) (entry_end bytes s) t goes in
-      let was = sound_of bytes s (none_of (fault_at bytes s) unflawed) in
-      let more = not_last (is_some (fault_at bytes s)) (is_last bytes s) (entry_end bytes s) t goes in
-      let size = cut_len bytes o fits in
-      let room : s + 8 ≤ o = omega (arith, is, le) in
-      let same_last : is_last (cut_at bytes o) s ≡ false = ap (λ n. nat_eq n 0) (le16_is bytes o s fits (omega arith)) ∙ more in
-      let same_end : entry_end (cut_at bytes o) s ≡ entry_end bytes s = ap (λ n. s + 8 + n) (le32_is bytes o (s + 4) fits (omega arith)) in
-      let now : Sound (cut_at bytes o) s = record {
-        r1 = rw (le_false (length (cut_at bytes o)) s (omega (arith, size))) refl;
-        r2 = le_false (length (cut_at bytes o)) s (omega (arith, size));
-        r3 = lt_false (length (cut_at bytes o)) (s + 8) (omega (arith, size));
-        r4 = ap (λ n. nat_eq s 0 && not (nat_eq n 1)) (le16_is bytes o 0 fits (omega arith)) ∙ was.r4;
-        r5 = ap (λ n. nat_eq s 0 && not (nat_eq n 24)) (le32_is bytes o 4 fits (omega arith)) ∙ was.r5;
-        r6 = and_false (not (is_last (cut_at bytes o) s)) _ (lt_false (length (cut_at bytes o)) (entry_end (cut_at bytes o) s) (omega (arith, size, same_end, is, le)));
-      } in
-      rw (fine_of (cut_at bytes o) s now, same_last) (ap Some (same_end ∙ is))
-
-  chain_kept : (t : ℕ) → t ≤ o → ChainTo bytes t → ChainTo (cut_at bytes o) t
-  chain_kept _ le here = here
-  chain_kept _ le (next s t reached goes) =
-      next s t (chain_kept s (omega (arith, falls bytes s t goes, le)) reached) (entry_kept s t le goes)
-
 pub not_first : (bytes : List ℕ) (o : ℕ) → Sound bytes o → is_last bytes o ≡ true → (b : Bool) → nat_eq o 0 ≡ b → b ≡ false
 not_first bytes o s last false is = refl
 not_first bytes o s last true is =
@@ -189,25 +142,6 @@ not_first bytes o s last true is =
   where
     apart : (n : ℕ) → not (nat_eq n 1) ≡ false → nat_eq n 0 ≡ true → true ≡ false
     apart n p q = grind (arith, common_steps)
-
--- a chain that is cut at its end is a chain with this end
-pub scan_cut : (bytes : List ℕ) (o : ℕ) → scan bytes ≡ Ok o → scan (cut_at bytes o) ≡ Ok o
-scan_cut bytes o h =
-    let found = scan_found bytes o h in
-    let s = sound_of bytes o found.1 in
-    let fits : o ≤ length bytes = omega (arith, within bytes o found.1) in
-    let size = cut_len bytes o fits in
-    let first = not_first bytes o s found.2 (nat_eq o 0) refl in
-    let last : is_last (cut_at bytes o) o ≡ true = ap (λ n. nat_eq n 0) (zero_at bytes o fits) in
-    let now : Sound (cut_at bytes o) o = record {
-      r1 = and_false _ _ first;
-      r2 = le_false (length (cut_at bytes o)) o (omega (arith, size));
-      r3 = lt_false (length (cut_at bytes o)) (o + 8) (omega (arith, size));
-      r4 = rw first refl;
-      r5 = rw first refl;
-      r6 = rw last refl;
-    } in
-    sym (scan_is (cut_at bytes o) (Ok o) (chain_kept bytes o fits o (omega arith) found.0, fine_of (cut_at bytes o) o now, last))
 
 -- its end leaves room for 8 bytes
 pub end_fits : (bytes : List ℕ) (o : ℕ) → scan bytes ≡ Ok o → o + 8 ≤ length bytes

@@ -1,7 +1,7 @@
 -- A chain without fault is one that is spelled as entries and END.
-use Rattle.std.proofs.Common.{◌≡◌, ◌⊎◌, inl, inr, ℕ, ◌+◌, ◌-◌, ◌<◌, ◌≤◌, List, [], ◌∷◌, ◌++◌, length, take, drop, get_or, Some, None, Ok, Bool, true, false, not, nat_eq, nat_lt, is_some, refl, sym, ap, subst, ◌∙◌, arith, append_assoc, append-nil, length-append, length-take-le, length-drop, take-append-drop, drop-drop, eqb-true, ltb-false}
+use Rattle.std.proofs.Common.{◌≡◌, ◌⊎◌, inl, inr, ℕ, ◌+◌, ◌-◌, ◌<◌, ◌≤◌, List, [], ◌∷◌, ◌++◌, length, take, drop, replicate, get_or, Some, None, Ok, Bool, true, false, not, nat_eq, nat_lt, is_some, refl, sym, ap, subst, ◌∙◌, arith, append_assoc, append-nil, length-append, length-take-le, length-drop, take-append-drop, drop-drop, eqb-true, ltb-false}
 use Rattle.std.specs.Prelude.{◌&&◌}
-use Rattle.std.proofs.Math.Seq.{take-add, drop-append-add}
+use Rattle.std.proofs.Math.Seq.{take-add, take-append_seam, drop-append-add}
 use Rattle.std.proofs.Math.ListN.{get_or-append}
 use Rattle.std.proofs.lemmas.List.{get_or-drop}
 use Rattle.byteorder.specs.Endian.{little_number}
@@ -9,7 +9,7 @@ use Rattle.std.proofs.lemmas.Grind.{common_steps}
 use Rattle.std.proofs.lemmas.Bool.{not-false}
 use Rattle.mig_bytes.specs.Fields.{le16, le32}
 use Rattle.mig_bytes.specs.Walk.Reaches.{here, next}
-use Rattle.mig_headers.specs.Contexts.{ChainTo, scan, fault_at, is_last, entry_end, after_entry, ContextEntry, IsEntryHead, AreContextEntries, BeginsWithHeader, IsContext, ContextsAreSpelled}
+use Rattle.mig_headers.specs.Contexts.{ChainTo, cut_at, scan, fault_at, is_last, entry_end, after_entry, ContextEntry, IsEntryHead, AreContextEntries, BeginsWithHeader, IsContext, ContextsAreSpelled}
 use Rattle.mig_headers.proofs.Chains.{Sound, sound_of, fine_of, chain_more, scan_is, scan_found, end_fits, gone, none_of, not_last, not_first, at_zero, when_zero, and_false, le_false, lt_false}
 
 -- ---- fields of bytes that stand between others
@@ -246,3 +246,20 @@ is_spelled bytes o h =
 
 pub contexts_are_spelled : ContextsAreSpelled
 contexts_are_spelled bytes o = (is_spelled bytes o, λ s. found bytes s.0 s.1 ∙ ap Ok s.2)
+
+-- a chain that is cut at its end is a chain with this end
+pub scan_cut : (bytes : List ℕ) (o : ℕ) → scan bytes ≡ Ok o → scan (cut_at bytes o) ≡ Ok o
+scan_cut bytes o h =
+    let (es, c, size) = is_spelled bytes o h in
+    let same : take o bytes ≡ c.before = ap (λ n. take n bytes) (sym size) ∙ ap (take (length c.before)) c.whole ∙ take-append_seam c.before (c.end ++ c.behind) in
+    let cut : IsContext (cut_at bytes o) es = record {
+      before = c.before;
+      end = replicate 8 0;
+      behind = [];
+      whole = ap (λ l. l ++ replicate 8 0) same;
+      each = c.each;
+      header = c.header;
+      end_size = refl;
+      end_typecode = unfold le16 in refl;
+    } in
+    found (cut_at bytes o) es cut ∙ ap Ok size
