@@ -1,5 +1,5 @@
 -- How what writers append joins.
-use Rattle.std.proofs.Common.{◌≡◌, ℕ, ◌+◌, List, ◌++◌, length, take, Option, Result, Ok, Err, sym, subst, arith, length-append}
+use Rattle.std.proofs.Common.{◌≡◌, ℕ, ◌+◌, List, ◌∷◌, ◌++◌, length, take, Option, Result, Ok, Err, IsErr, refl, sym, subst, arith, length-append}
 use Rattle.std.specs.Result.{IsErrAnd}
 use Rattle.std.proofs.Math.Seq.{take-append-add}
 use lib.Seq.{take-append-le}
@@ -23,3 +23,12 @@ pub puts_stop : {X : Type 0} (first second : List ℕ) (a b : Option (List ℕ))
 puts_stop first second a b e d (Ok x) is p = absurd is
 puts_stop first second a b e d (Err x) is (n, less, p) =
     (n, omega (arith, length-append first second), subst (Appends a b) (sym (take-append-le n first second (omega arith))) p)
+
+-- the same, where all that is known of the answer is that it's an error
+pub puts_part : {X : Type 0} (first second : List ℕ) (a b : Option (List ℕ)) (r : Result X WriteFailed) → IsErr r → AppendsPart a b first → Puts (first ++ second) a b r
+puts_part {X} first second a b (Ok x) is p = absurd (cc)
+puts_part {X} first second a b (Err e) is p = puts_stop {X = X} first second a b e e (Err e) refl p
+
+-- the same, behind a first byte
+pub puts_part_behind : {X : Type 0} (byte : ℕ) (first second : List ℕ) (a b : Option (List ℕ)) (r : Result X WriteFailed) → IsErr r → AppendsPart a b (byte ∷ first) → Puts (byte ∷ (first ++ second)) a b r
+puts_part_behind byte first second = puts_part (byte ∷ first) second
