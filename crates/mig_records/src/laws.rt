@@ -33,6 +33,7 @@ pub fn pieces_spell_a_record()
 {}
 
 /// The place that BadPageType names is the first with a reserved type, which it names too.
+#[tactic(auto, using(crate::proofs::WordFaults::reserved_is_first))]
 pub fn reserved_place_is_first()
     ensures { (kind : Kind) (top : ℕ) (ws : List ℕ) (entry n : ℕ)
         → fault_of_words kind top ws ≡ Some (BadPageType entry n)
@@ -41,6 +42,7 @@ pub fn reserved_place_is_first()
 
 /// The place that PfnOutside names is the first with a frame number outside the guest, which it names too; and no word
 /// has a reserved type.
+#[tactic(auto, using(crate::proofs::WordFaults::outside_is_first))]
 pub fn outside_place_is_first()
     ensures { (kind : Kind) (top : ℕ) (ws : List ℕ) (entry n : ℕ)
         → fault_of_words kind top ws ≡ Some (PfnOutside entry n)
