@@ -12,6 +12,7 @@ ghost use Rattle.mig_records.specs.Records.{head_of, spelled, IsRecord};
 ghost use Rattle.mig_records.specs.Words.{has_reserved_type, names_outside, IsFirst};
 
 /// A head that is written says again what it was written for.
+#[tactic(auto, using(crate::proofs::HeadBytes::type_in_head, crate::proofs::HeadBytes::len_in_head))]
 pub fn heads_are_read_back()
     ensures { (kind len : ℕ) → kind < 2 ^ 32 → len < 2 ^ 32
         → head_in (head_of kind len) ≡ record { kind = kind; len = len } }
@@ -24,6 +25,7 @@ pub fn spelled_is_record()
 {}
 
 /// A head, a body and zeros that pad it, written one after the other, are the canonical spelling.
+#[tactic(auto, unfolding(crate::specs::Records::spelled))]
 pub fn pieces_spell_a_record()
     ensures { (before headed filled after : Option (List ℕ)) (kind : ℕ) (body : List ℕ)
         → Appends before headed (head_of kind (length body))
