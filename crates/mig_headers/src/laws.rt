@@ -10,17 +10,20 @@ pub fn image_header_laws()
 {}
 
 /// Where a domain header has no fault, and what of a header is written is read again.
+#[tactic(auto, using(crate::proofs::HeaderLaws::domain_is_spelled, crate::proofs::HeaderLaws::domain_is_read_back))]
 pub fn domain_header_laws()
     ensures spelled { DomainHeaderIsSpelled }
     ensures read_back { DomainHeadersAreReadBack }
 {}
 
 /// A record type's number is that of no other type, and leads back to it.
+#[tactic(auto, using(crate::proofs::RecordNumbers::numbers_are_inverse))]
 pub fn record_number_law()
     ensures { NumbersAreInverse }
 {}
 
 /// The test of bytes for pairs in canonical form holds exactly where they spell such pairs.
+#[tactic(auto, using(crate::proofs::PairTexts::canonical_pairs_are_computed))]
 pub fn canonical_pairs_law()
     ensures { CanonicalPairsAreComputed }
 {}

@@ -236,6 +236,7 @@ fn put_fault<K: Sink>(sink: &mut K, name: &str, numbers: &[u64]) -> Result<(), W
 }
 
 // Each number after a space.
+#[tactic(auto, using(crate::proofs::Writing::number_more, crate::proofs::Writing::number_stopped))]
 fn put_numbers<K: Sink>(sink: &mut K, numbers: &[u64]) -> Result<(), WriteFailed>
     ensures bytes { Puts (spaced (map decimal numbers.now)) (K.written sink.old) (K.written sink.new) result }
     ensures cause { HasCause (K.faults sink.old) (K.faults sink.new) result }

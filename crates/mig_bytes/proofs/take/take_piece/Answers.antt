@@ -3,17 +3,6 @@ use Rattle.mig_bytes.specs.Bytes.{Taken}
 use Rattle.mig_bytes.proofs.Vectors.{tail_written, first_items}
 use Rattle.mig_bytes.proofs.take.take_piece.Goals as goal
 
-pub returns-in-Ok-Whole-clause-bytes : goal.returns-in-Ok-Whole-clause-bytes
-returns-in-Ok-Whole-clause-bytes g c =
-    let taken = subst (Taken _ _ _) c.in-Ok-Whole.field-0-is c.in-Ok-Whole.ensures.bytes in
-    let fits : length c.take_exact.new.buf ≡ length c.deref_mut.result.now - c.len-before.result = search rules in
-    let all : length c.resize.new.self.items ≡ c.len-before.result + c.args.n = search rules in (
-      c.take_exact.new.buf,
-      search rules,
-      tail_written c.args.to.now.items c.resize.new.self.items c.deref_mut.result.now c.take_exact.new.buf c.len-before.result c.args.n ((c.len-before.result + c.args.n) - vec_len c.args.to.now) c.resize.new.self.len (length c.deref_mut.result.now - c.len-before.result) (search rules) (search rules) (search rules) all fits (search rules) (search rules),
-      taken,
-    )
-
 pub returns-in-Ok-Short-clause-bytes : goal.returns-in-Ok-Short-clause-bytes
 returns-in-Ok-Short-clause-bytes g c =
     let taken = subst (Taken _ _ _) c.in-Ok-Short.field-0-is c.in-Ok-Short.ensures.bytes in
