@@ -11,7 +11,8 @@ use Rattle.mig_headers.specs.Rows.{first_fault}
 use Rattle.mig_headers.specs.declared.fault.Cause.{Cause}
 use Rattle.mig_headers.specs.declared.kind.Kind.{Kind}
 use Rattle.mig_headers.specs.declared.record_type.RecordType.TheVariants as types
-use Rattle.mig_headers.proofs.Chains.{scan_cut, end_fits}
+use Rattle.mig_headers.proofs.Chains.{end_fits}
+use Rattle.mig_headers.proofs.ContextTexts.{scan_cut}
 use Rattle.mig_headers.proofs.FirstFaults.{rows_fine}
 use Rattle.mig_guest.specs.declared.part_code.PartCode.{PartCode}
 use Rattle.mig_guest.specs.declared.part_code.PartCode.TheVariants.{P2mFrames, VcpuBasic, VcpuExtended, VcpuXsave, SharedInfo, Tsc, HvmContext, HvmParam, VcpuMsrs, CpuidLeaf, Msr, EmulatorPairs, EmulatorContext}

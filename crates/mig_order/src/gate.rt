@@ -47,6 +47,7 @@ impl Gate {
     }
 
     /// Lets the next record's type pass, or answers what is wrong with it. A refused step changes nothing.
+    #[tactic(auto, using(crate::proofs::OrderLaw::has_kind))]
     pub fn step(&mut self, kind: u32) -> Result<(), Cause>
         ensures judged { (types : List ℕ) → StandsFor self.old types → result ≡ unless_faulty (fault_of_type self.old.version self.old.kind types kind) tt }
         ensures passed { OnOk result ((types : List ℕ) → StandsFor self.old types → StandsFor self.new (types ++ kind ∷ [])) }
