@@ -15,6 +15,7 @@ fn is_key(bytes: &[u8]) -> bool
 }
 
 // A key that may stand behind this last one.
+#[tactic(auto, using(crate::proofs::PairSteps::next_key))]
 fn may_follow(last: &[u8], key: &[u8]) -> bool
     ensures { result ≡ is_next_key last.now key.now }
 {
@@ -28,6 +29,7 @@ fn first_zero(bytes: &[u8]) -> Option<usize>
 }
 
 // What stands before the first zero, and what stands behind it.
+#[tactic(auto, using(crate::proofs::PairSteps::if_none, crate::proofs::PairSteps::last_text, crate::proofs::PairSteps::first_text))]
 fn split_text(bytes: &[u8]) -> Option<(&[u8], &[u8])>
     ensures none { IfNone result (texts_in bytes.now ≡ bytes.now ∷ []) }
     ensures some { IfSome result (λ r. texts_in bytes.now ≡ r.0.now ∷ texts_in r.1.now) }
@@ -38,6 +40,7 @@ fn split_text(bytes: &[u8]) -> Option<(&[u8], &[u8])>
 }
 
 // The key of the first pair, where it may stand behind this last key, and what stands behind the pair.
+#[tactic(auto, using(crate::proofs::PairSteps::if_none, crate::proofs::PairSteps::no_value, crate::proofs::PairSteps::after_pair))]
 fn split_pair<'a>(last: &[u8], bytes: &'a [u8]) -> Option<(&'a [u8], &'a [u8])>
     requires { 0 < length bytes.now }
     ensures none { IfNone result (are_rising_texts last.now (texts_in bytes.now) ≡ false) }
@@ -55,6 +58,7 @@ fn split_pair<'a>(last: &[u8], bytes: &'a [u8]) -> Option<(&'a [u8], &'a [u8])>
 
 /// Whether these bytes are pairs of texts in canonical form: key NUL value NUL, with ascending distinct keys (libxl
 /// migration stream, "EMULATOR_XENSTORE_DATA").
+#[tactic(auto, using(crate::proofs::PairSteps::all_texts, crate::proofs::PairSteps::at_end, crate::proofs::PairSteps::spelled_as))]
 pub fn canonical_pairs(bytes: &[u8]) -> bool
     ensures value { result ≡ are_canonical_pairs bytes.now }
     ensures spelled { IsTrue result ↔ AreCanonicalPairs bytes.now }
