@@ -1,5 +1,5 @@
-#![tactic(auto, using(mig_bytes::proofs::Texts::puts_then, mig_bytes::proofs::Texts::puts_part, mig_bytes::proofs::Texts::puts_part_behind))]
-ghost use Rattle.std.specs.Prelude.{◌≡◌, ◌∷◌, ◌++◌, codes, decimal, map};
+#![tactic(auto, using(mig_bytes::proofs::Texts::puts_then, mig_bytes::proofs::Texts::puts_part, mig_bytes::proofs::Texts::puts_part_behind, crate::proofs::Writing::two_words))]
+ghost use Rattle.std.specs.Prelude.{◌≡◌, [], ◌∷◌, ◌++◌, codes, decimal};
 ghost use Rattle.mig_bytes.specs.Bytes.{Puts};
 ghost use Rattle.mig_bytes.specs.Faults.{HasCause};
 ghost use Rattle.mig_headers.specs.Arguments.{argument_texts};
@@ -26,9 +26,9 @@ impl Arguments {
     {
         match self {
             Arguments::Nothing => Ok(()),
-            Arguments::One(a) => put_numbers(sink, &[a]),
-            Arguments::Two(a, b) => put_numbers(sink, &[a, b]),
-            Arguments::Three(a, b, c) => put_numbers(sink, &[a, b, c]),
+            Arguments::One(a) => put_spaced_number(sink, a),
+            Arguments::Two(a, b) => put_two(sink, a, b),
+            Arguments::Three(a, b, c) => put_three(sink, a, b, c),
             Arguments::Context(fault) => put_context_fault(sink, fault),
         }
     }
@@ -220,31 +220,35 @@ fn put_context_fault<K: Sink>(sink: &mut K, fault: ContextFault) -> Result<(), W
     ensures cause { HasCause (K.faults sink.old) (K.faults sink.new) result }
 {
     match fault {
-        ContextFault::NoHeader => put_fault(sink, "NoHeader", &[]),
-        ContextFault::HeaderSize(len) => put_fault(sink, "HeaderSize", &[len]),
-        ContextFault::ShortEntry(offset) => put_fault(sink, "ShortEntry", &[offset]),
-        ContextFault::NoEnd => put_fault(sink, "NoEnd", &[]),
+        ContextFault::NoHeader => put_word(sink, "NoHeader"),
+        ContextFault::HeaderSize(len) => put_fault(sink, "HeaderSize", len),
+        ContextFault::ShortEntry(offset) => put_fault(sink, "ShortEntry", offset),
+        ContextFault::NoEnd => put_word(sink, "NoEnd"),
     }
 }
 
-fn put_fault<K: Sink>(sink: &mut K, name: &str, numbers: &[u64]) -> Result<(), WriteFailed>
-    ensures bytes { Puts (spaced (name.now ∷ map decimal numbers.now)) (K.written sink.old) (K.written sink.new) result }
+fn put_fault<K: Sink>(sink: &mut K, name: &str, number: u64) -> Result<(), WriteFailed>
+    ensures bytes { Puts (spaced (name.now ∷ decimal number ∷ [])) (K.written sink.old) (K.written sink.new) result }
     ensures cause { HasCause (K.faults sink.old) (K.faults sink.new) result }
 {
     put_word(sink, name)?;
-    put_numbers(sink, numbers)
+    put_spaced_number(sink, number)
 }
 
-// Each number after a space.
-#[tactic(auto, using(crate::proofs::Writing::number_more, crate::proofs::Writing::number_stopped))]
-fn put_numbers<K: Sink>(sink: &mut K, numbers: &[u64]) -> Result<(), WriteFailed>
-    ensures bytes { Puts (spaced (map decimal numbers.now)) (K.written sink.old) (K.written sink.new) result }
+fn put_two<K: Sink>(sink: &mut K, a: u64, b: u64) -> Result<(), WriteFailed>
+    ensures bytes { Puts (spaced (decimal a ∷ decimal b ∷ [])) (K.written sink.old) (K.written sink.new) result }
     ensures cause { HasCause (K.faults sink.old) (K.faults sink.new) result }
 {
-    for number in numbers {
-        put_spaced_number(sink, *number)?;
-    }
-    Ok(())
+    put_spaced_number(sink, a)?;
+    put_spaced_number(sink, b)
+}
+
+fn put_three<K: Sink>(sink: &mut K, a: u64, b: u64, c: u64) -> Result<(), WriteFailed>
+    ensures bytes { Puts (spaced (decimal a ∷ decimal b ∷ decimal c ∷ [])) (K.written sink.old) (K.written sink.new) result }
+    ensures cause { HasCause (K.faults sink.old) (K.faults sink.new) result }
+{
+    put_spaced_number(sink, a)?;
+    put_two(sink, b, c)
 }
 
 fn put_spaced_number<K: Sink>(sink: &mut K, number: u64) -> Result<(), WriteFailed>
