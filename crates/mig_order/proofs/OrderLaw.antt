@@ -1,13 +1,14 @@
 -- A type has no fault exactly where it is in order.
-use Rattle.std.proofs.Common.{◌≡◌, ◌⊎◌, ℕ, ◌^◌, ◌≤◌, Bool, true, false, not, ◌&&◌, ◌||◌, ◌==◌, if◌then◌else◌, List, [], ◌∷◌, Option, Some, None, refl, sym, ap, ◌∙◌, inl, inr, arith}
-use Rattle.std.proofs.lemmas.Bool.{eqb-true, leb-true}
+use Rattle.std.proofs.Common.{◌≡◌, ◌⊎◌, ℕ, ◌^◌, ◌≤◌, Bool, true, false, not, ◌&&◌, ◌||◌, ◌==◌, if◌then◌else◌, List, [], ◌∷◌, length, Option, Some, None, refl, sym, ap, ◌∙◌, inl, inr, arith}
+use Rattle.std.specs.List.{AllByRecursion}
+use Rattle.std.proofs.lemmas.Bool.{eqb-true, leb-true, not-false, or_parts}
 use Rattle.std.proofs.lemmas.Option.{slice_get_past}
 use Rattle.mig_headers.specs.declared.kind.Kind.{Kind}
 use Rattle.mig_headers.specs.declared.kind.Kind.TheVariants.{Pv, Hvm}
 use Rattle.mig_headers.specs.declared.fault.Cause.{Cause}
 use Rattle.mig_headers.specs.declared.record_type.RecordType.{RecordType}
 use Rattle.mig_headers.specs.declared.record_type.RecordType.TheVariants.{PageData, X86PvInfo, X86PvP2mFrames, StaticDataEnd}
-use Rattle.mig_headers.specs.Rows.{first_fault}
+use Rattle.mig_headers.proofs.FirstFaults.{rows_fine, no_fault}
 use Rattle.mig_headers.specs.RecordTypes.{record_types, record_row_of, pv, type_number, type_of_number, is_optional}
 use Rattle.mig_headers.proofs.RecordNumbers.{numbers_are_inverse}
 use Rattle.mig_order.specs.Order.{Earlier, earlier_in, is_of, some_earlier, static_records, content_records, vcpu_records, causes, fault_of_mandatory, fault_after, fault_of_type, KeepsOrder, IsInOrder, optional, ordered}
@@ -15,20 +16,7 @@ use Rattle.mig_order.specs.Gate.{FaultlessIsInOrder}
 
 -- no row's test holds
 abbrev AllClear : List (Bool × Cause) → Type 0
-AllClear [] = Unit {0}
-AllClear (row ∷ rows) = (row.0 ≡ false) × AllClear rows
-
-none_first : (b : Bool) (cause : Cause) (o : Option Cause) → (if b then Some cause else o) ≡ None → (b ≡ false) × (o ≡ None)
-none_first true cause o is = absurd (cc)
-none_first false cause o is = (refl, is)
-
-clear_rows : (rows : List (Bool × Cause)) → first_fault rows ≡ None → AllClear rows
-clear_rows [] is = tt
-clear_rows (row ∷ rows) is = let parts = none_first row.0 row.1 (first_fault rows) is in (parts.0, clear_rows rows parts.1)
-
-rows_clear : (rows : List (Bool × Cause)) → AllClear rows → first_fault rows ≡ None
-rows_clear [] all = refl
-rows_clear (row ∷ rows) all = rw all.0 (rows_clear rows all.1)
+AllClear rows = AllByRecursion (λ row. row.0 ≡ false) rows
 
 then_false : (a b : Bool) → (a && b) ≡ false → a ≡ true → b ≡ false
 then_false true b is holds = is
@@ -38,10 +26,6 @@ and_false : (a b : Bool) → (a ≡ true → b ≡ false) → (a && b) ≡ false
 and_false true b all = all refl
 and_false false b all = refl
 
-both_false : (a b : Bool) → (a || b) ≡ false → (a ≡ false) × (b ≡ false)
-both_false true b is = absurd (cc)
-both_false false b is = (refl, is)
-
 either_true : (a b : Bool) → (a || b) ≡ true → (a ≡ true) ⊎ (b ≡ true)
 either_true true b is = inl refl
 either_true false b is = inr is
@@ -49,10 +33,6 @@ either_true false b is = inr is
 or_right : (a b : Bool) → b ≡ true → (a || b) ≡ true
 or_right true b is = refl
 or_right false b is = is
-
-not_false : (a : Bool) → not a ≡ false → a ≡ true
-not_false true is = refl
-not_false false is = absurd (cc)
 
 false_not : (a : Bool) → a ≡ true → not a ≡ false
 false_not a is = rw is refl
@@ -76,49 +56,33 @@ of_pv Hvm is = absurd (cc)
 -- what the rows say, in words
 keeps : (version : ℕ) (kind : Kind) (types : List ℕ) (this : RecordType) → AllClear (causes version kind (earlier_in types) this) → KeepsOrder version kind types this
 keeps version kind types this (_, (_, (end, (static, (content, (info, (p2m, (pages, (vcpus, _))))))))) =
-    let late = both_false (is_of static_records this && some_earlier types (StaticDataEnd ∷ [])) (is_of (StaticDataEnd ∷ static_records) this && some_earlier types content_records) static in
+    let late = or_parts (is_of static_records this && some_earlier types (StaticDataEnd ∷ [])) (is_of (StaticDataEnd ∷ static_records) this && some_earlier types content_records) static in
     record {
       one_static_data_end = λ is. then_false (is_of (StaticDataEnd ∷ []) this) (some_earlier types (StaticDataEnd ∷ [])) end (rw is refl);
       static_before_its_end = then_false (is_of static_records this) (some_earlier types (StaticDataEnd ∷ [])) late.0;
       static_before_content = λ is. then_false (is_of (StaticDataEnd ∷ static_records) this) (some_earlier types content_records) late.1 (or_right (type_number this == type_number StaticDataEnd) (is_of static_records this) is);
       static_end_before_content = λ is. then_false (is_of (StaticDataEnd ∷ static_records) this) (some_earlier types content_records) late.1 (rw is refl);
-      content_after_static_end = λ is of. not_false (some_earlier types (StaticDataEnd ∷ [])) (then_false (is_of content_records this) (not (some_earlier types (StaticDataEnd ∷ []))) (then_false (version == 3) (is_of content_records this && not (some_earlier types (StaticDataEnd ∷ []))) content (rw is refl)) of);
+      content_after_static_end = λ is of. not-false (some_earlier types (StaticDataEnd ∷ [])) (then_false (is_of content_records this) (not (some_earlier types (StaticDataEnd ∷ []))) (then_false (version == 3) (is_of content_records this && not (some_earlier types (StaticDataEnd ∷ []))) content (rw is refl)) of);
       one_pv_info = λ is. then_false (is_of (X86PvInfo ∷ []) this) (some_earlier types (X86PvInfo ∷ [])) info (rw is refl);
-      p2m_after_pv_info = λ is. not_false (some_earlier types (X86PvInfo ∷ [])) (then_false (is_of (X86PvP2mFrames ∷ []) this) (not (some_earlier types (X86PvInfo ∷ []))) p2m (rw is refl));
-      pv_pages_after_p2m = λ is of. not_false (some_earlier types (X86PvP2mFrames ∷ [])) (then_false (is_of (PageData ∷ []) this) (not (some_earlier types (X86PvP2mFrames ∷ []))) (then_false (pv kind) (is_of (PageData ∷ []) this && not (some_earlier types (X86PvP2mFrames ∷ []))) pages (rw is refl)) (rw of refl));
+      p2m_after_pv_info = λ is. not-false (some_earlier types (X86PvInfo ∷ [])) (then_false (is_of (X86PvP2mFrames ∷ []) this) (not (some_earlier types (X86PvInfo ∷ []))) p2m (rw is refl));
+      pv_pages_after_p2m = λ is of. not-false (some_earlier types (X86PvP2mFrames ∷ [])) (then_false (is_of (PageData ∷ []) this) (not (some_earlier types (X86PvP2mFrames ∷ []))) (then_false (pv kind) (is_of (PageData ∷ []) this && not (some_earlier types (X86PvP2mFrames ∷ []))) pages (rw is refl)) (rw of refl));
       pages_before_vcpus = λ is. then_false (is_of (PageData ∷ []) this) (some_earlier types vcpu_records) vcpus (rw is refl);
     }
 
 -- what the words say, in rows
 clear : (version : ℕ) (kind : Kind) (types : List ℕ) (this : RecordType) → (record_row_of this).supported ≡ true → (record_row_of this).of_kind kind ≡ true → KeepsOrder version kind types this → AllClear (causes version kind (earlier_in types) this)
-clear version kind types this supported of_kind order = (
-  false_not (record_row_of this).supported supported,
-  (
-    false_not ((record_row_of this).of_kind kind) of_kind,
-    (
-      and_false (is_of (StaticDataEnd ∷ []) this) (some_earlier types (StaticDataEnd ∷ [])) (λ is. order.one_static_data_end (same_type this StaticDataEnd is)),
-      (
-        late,
-        (
-          and_false (version == 3) (is_of content_records this && not (some_earlier types (StaticDataEnd ∷ []))) (λ is. and_false (is_of content_records this) (not (some_earlier types (StaticDataEnd ∷ []))) (λ of. false_not (some_earlier types (StaticDataEnd ∷ [])) (order.content_after_static_end (eqb-true version 3 is) of))),
-          (
-            and_false (is_of (X86PvInfo ∷ []) this) (some_earlier types (X86PvInfo ∷ [])) (λ is. order.one_pv_info (same_type this X86PvInfo is)),
-            (
-              and_false (is_of (X86PvP2mFrames ∷ []) this) (not (some_earlier types (X86PvInfo ∷ []))) (λ is. false_not (some_earlier types (X86PvInfo ∷ [])) (order.p2m_after_pv_info (same_type this X86PvP2mFrames is))),
-              (
-                and_false (pv kind) (is_of (PageData ∷ []) this && not (some_earlier types (X86PvP2mFrames ∷ []))) (λ is. and_false (is_of (PageData ∷ []) this) (not (some_earlier types (X86PvP2mFrames ∷ []))) (λ of. false_not (some_earlier types (X86PvP2mFrames ∷ [])) (order.pv_pages_after_p2m (of_pv kind is) (same_type this PageData of)))),
-                (
-                  and_false (is_of (PageData ∷ []) this) (some_earlier types vcpu_records) (λ is. order.pages_before_vcpus (same_type this PageData is)),
-                  tt,
-                ),
-              ),
-            ),
-          ),
-        ),
-      ),
-    ),
-  ),
-)
+clear version kind types this supported of_kind order =
+    let earlier = some_earlier types in
+    let one_end = and_false (is_of (StaticDataEnd ∷ []) this) (earlier (StaticDataEnd ∷ [])) (λ is. order.one_static_data_end (same_type this StaticDataEnd is)) in
+    let content = and_false (version == 3) (is_of content_records this && not (earlier (StaticDataEnd ∷ [])))
+    (λ three. and_false (is_of content_records this) (not (earlier (StaticDataEnd ∷ []))) (λ is. false_not (earlier (StaticDataEnd ∷ [])) (order.content_after_static_end (eqb-true version 3 three) is))) in
+    let one_info = and_false (is_of (X86PvInfo ∷ []) this) (earlier (X86PvInfo ∷ [])) (λ is. order.one_pv_info (same_type this X86PvInfo is)) in
+    let p2m = and_false (is_of (X86PvP2mFrames ∷ []) this) (not (earlier (X86PvInfo ∷ []))) (λ is. false_not (earlier (X86PvInfo ∷ [])) (order.p2m_after_pv_info (same_type this X86PvP2mFrames is))) in
+    let pages = and_false (pv kind) (is_of (PageData ∷ []) this && not (earlier (X86PvP2mFrames ∷ [])))
+    (λ of. and_false (is_of (PageData ∷ []) this) (not (earlier (X86PvP2mFrames ∷ []))) (λ is. false_not (earlier (X86PvP2mFrames ∷ [])) (order.pv_pages_after_p2m (of_pv kind of) (same_type this PageData is)))) in
+    let vcpus = and_false (is_of (PageData ∷ []) this) (earlier vcpu_records) (λ is. order.pages_before_vcpus (same_type this PageData is)) in
+    let known = false_not (record_row_of this).supported supported in
+    (known, (false_not ((record_row_of this).of_kind kind) of_kind, (one_end, (late, (content, (one_info, (p2m, (pages, (vcpus, tt)))))))))
   where
     neither : (a b : Bool) → a ≡ false → b ≡ false → (a || b) ≡ false
     neither a b p q = rw (p, q) refl
@@ -148,17 +112,17 @@ in_order : (version : ℕ) (kind : Kind) (types : List ℕ) (number : ℕ) (foun
     → fault_of_mandatory version kind (earlier_in types) number found ≡ None → IsInOrder version kind types number
 in_order version kind types number None found is = absurd (cc)
 in_order version kind types number (Some this) found is =
-    let all = clear_rows (causes version kind (earlier_in types) this) is in
+    let all = rows_fine (causes version kind (earlier_in types) this) is in
     ordered this (sym (numbers_are_inverse.number_of number this found))
-    (not_false (record_row_of this).supported all.0)
-    (not_false ((record_row_of this).of_kind kind) all.1.0)
+    (not-false (record_row_of this).supported all.0)
+    (not-false ((record_row_of this).of_kind kind) all.1.0)
     (keeps version kind types this all)
 
 faultless : (version : ℕ) (kind : Kind) (types : List ℕ) (number : ℕ) → IsInOrder version kind types number → fault_of_type version kind types number ≡ None
 faultless version kind types number (optional above) = let e : is_optional number ≡ true = grind arith in rw e refl
 faultless version kind types number (ordered this is supported of_kind order) =
     rw is (skipped (is_optional (type_number this)) (fault_of_mandatory version kind (earlier_in types) (type_number this) (type_of_number (type_number this)))
-    (rw (numbers_are_inverse.type_of this) (rows_clear (causes version kind (earlier_in types) this) (clear version kind types this supported of_kind order))))
+    (rw (numbers_are_inverse.type_of this) (no_fault (causes version kind (earlier_in types) this) (clear version kind types this supported of_kind order))))
   where
     skipped : (b : Bool) (o : Option Cause) → o ≡ None → (if b then None else o) ≡ None
     skipped true o h = refl
@@ -177,10 +141,10 @@ faultless_is_in_order version kind types number = (
 pub has_kind : (version : ℕ) (kind : Kind) (earlier : Earlier) (number : ℕ) → fault_after version kind earlier number ≡ None → (this : RecordType) → type_of_number number ≡ Some this → (record_row_of this).of_kind kind ≡ true
 has_kind version kind earlier number fine this found = elim (none_optional number (fault_of_mandatory version kind earlier number (type_of_number number)) fine) [
   | inl above ↦ absurd (no_type (sym (slice_get_past record_types number (past number above)) ∙ found))
-  | inr mandatory ↦ not_false ((record_row_of this).of_kind kind) (clear_rows (causes version kind earlier this) (ap (fault_of_mandatory version kind earlier number) (sym found) ∙ mandatory)).1.0
+  | inr mandatory ↦ not-false ((record_row_of this).of_kind kind) (rows_fine (causes version kind earlier this) (ap (fault_of_mandatory version kind earlier number) (sym found) ∙ mandatory)).1.0
 ]
   where
-    past : (n : ℕ) → 2 ^ 31 ≤ n → 19 ≤ n
+    past : (n : ℕ) → 2 ^ 31 ≤ n → length record_types ≤ n
     past n above = omega arith
 
     no_type : {this : RecordType} → None ≡ Some this → ⊥

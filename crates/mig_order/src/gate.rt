@@ -6,7 +6,7 @@ ghost use Rattle.mig_headers.specs.declared.record_type.RecordType.{RecordType};
 ghost use Rattle.mig_order.specs.Order.{broken_rules, causes, fault_after, fault_of_type, second_end, late_static, early_content, second_pv_info, early_p2m_frames, early_pages, late_pages};
 ghost use Rattle.mig_order.specs.Gate.{GateOf, StandsFor, then_type};
 
-use crate::sort::{is_content, is_same, is_static, is_static_or_end, is_vcpu};
+use crate::sort::{is_content, is_same, is_static, is_vcpu};
 use mig_headers::{Cause, Kind, RecordType, is_optional};
 use std::marker::Model;
 
@@ -125,7 +125,8 @@ impl Gate {
     fn is_late_static(&self, this: RecordType) -> bool
         ensures { result ≡ late_static self.now.earlier this }
     {
-        is_static(this) && self.static_data_end || is_static_or_end(this) && self.content
+        is_static(this) && self.static_data_end
+            || (is_same(this, RecordType::StaticDataEnd) || is_static(this)) && self.content
     }
 
     fn is_early_content(&self, this: RecordType) -> bool

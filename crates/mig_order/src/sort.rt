@@ -1,5 +1,4 @@
 ghost use Rattle.std.specs.Prelude.{◌≡◌, ◌∷◌, []};
-ghost use Rattle.mig_headers.specs.declared.record_type.RecordType.TheVariants.{StaticDataEnd};
 ghost use Rattle.mig_headers.specs.RecordTypes.{type_number};
 ghost use Rattle.mig_order.specs.Order.{among, static_records, content_records, vcpu_records};
 
@@ -17,18 +16,6 @@ pub fn is_static(this: RecordType) -> bool
     matches!(
         this,
         RecordType::X86PvInfo | RecordType::X86CpuidPolicy | RecordType::X86MsrPolicy
-    )
-}
-
-pub fn is_static_or_end(this: RecordType) -> bool
-    ensures { result ≡ among (StaticDataEnd ∷ static_records) (type_number this) }
-{
-    matches!(
-        this,
-        RecordType::X86PvInfo
-            | RecordType::StaticDataEnd
-            | RecordType::X86CpuidPolicy
-            | RecordType::X86MsrPolicy
     )
 }
 
