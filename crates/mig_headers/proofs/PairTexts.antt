@@ -5,6 +5,7 @@ use Rattle.std.specs.List.{AllByRecursion, flat_map, list_all, slice_split, onto
 use Rattle.std.specs.List.Sorted.{IsStrictlySortedBy}
 use Rattle.std.specs.Cmp.Lexicographic.{slice_cmp}
 use Rattle.std.specs.Ordering.{nat_cmp, is_lt}
+use Rattle.std.proofs.lemmas.Bool.{and_parts}
 use Rattle.std.proofs.lemmas.Grind.{common_steps}
 use Rattle.std.proofs.lemmas.Cmp.{nat_list_cmp_total}
 use Rattle.std.proofs.lemmas.List.Splits.{slice_split_at, slice_split-cons_yes, slice_split-cons_no, join_with_byte-slice_split}
@@ -64,10 +65,6 @@ is_less Less h = refl
 is_less Equal h = cc
 is_less Greater h = cc
 
-both : (a b : Bool) → (a && b) ≡ true → (a ≡ true) × (b ≡ true)
-both true b h = (refl, h)
-both false b h = (cc, cc)
-
 some_key : (last key : List ℕ) → key_cmp last key ≡ Less → 0 < length key
 some_key [] [] h = cc
 some_key (x ∷ xs) [] h = cc
@@ -97,7 +94,7 @@ no_pairs last = record { pairs = []; each = tt; rising = (tt, tt); spelled = ref
 one_pair : (last key value rest : List ℕ) → is_next_key last key ≡ true → IsText value → PairsAbove key rest → PairsAbove last (key ++ 0 ∷ (value ++ 0 ∷ rest))
 unfolding IsStrictlySortedBy
 one_pair last key value rest next text more =
-    let (bytes, lower) = both (list_all is_key_byte key) (is_lt (key_cmp last key)) next in
+    let (bytes, lower) = and_parts (list_all is_key_byte key) (is_lt (key_cmp last key)) next in
     let less = is_less (key_cmp last key) lower in record {
       pairs = record { key = key; value = value } ∷ more.pairs;
       each = (record { some = some_key last key less; key = AllPass-from_list_all is_key_byte key bytes; value = All-from_recursion (λ b. 0 < b) value (values_of value text) }, more.each);
@@ -108,9 +105,9 @@ one_pair last key value rest next text more =
 pairs_of : (last : List ℕ) (texts : List (List ℕ)) → AllByRecursion IsText texts → are_rising_texts last texts ≡ true → PairsAbove last (join_with_byte 0 texts)
 pairs_of last [] are h = cc
 pairs_of last (rest ∷ []) are h = subst (PairsAbove last) (sym (no_bytes rest h)) (no_pairs last)
-pairs_of last (key ∷ value ∷ []) are h = let no = both (is_next_key last key) false h in cc
+pairs_of last (key ∷ value ∷ []) are h = let no = and_parts (is_next_key last key) false h in cc
 pairs_of last (key ∷ value ∷ t ∷ ts) are h =
-    let (next, more) = both (is_next_key last key) (are_rising_texts key (t ∷ ts)) h in
+    let (next, more) = and_parts (is_next_key last key) (are_rising_texts key (t ∷ ts)) h in
     one_pair last key value (join_with_byte 0 (t ∷ ts)) next are.1.0 (pairs_of key (t ∷ ts) are.1.1 more)
 
 -- ---- pairs make texts
