@@ -23,8 +23,8 @@ use Rattle.mig_guest.specs.declared.part_key.PartKey.{PartKey}
 use Rattle.mig_guest.specs.Guests.{GuestOf}
 use Rattle.mig_guest.specs.PartCodes.{row_of, code_number, small_number}
 use Rattle.mig_guest.specs.Formed.{IsFormed, IsCut, gdt_ents, width_of}
-use Rattle.mig_guest.proofs.CodeParts.{IsHeld, parts_are, few_params}
-use Rattle.mig_guest.proofs.PartRows.{IsOf, of_part}
+use Rattle.mig_guest.proofs.CodeParts.{parts_are, few_params}
+use Rattle.mig_guest.proofs.PartRows.{IsOf, sole}
 use Rattle.mig_guest.specs.Parts.{Part}
 use Rattle.mig_bodies.specs.declared.layout.Layout.{Layout}
 use Rattle.mig_bodies.specs.declared.shape.Shape.TheVariants.{Table}
@@ -104,12 +104,6 @@ module _ (code : PartCode) (width : ℕ) where
   -- ---- one part
 
   module _ (p : Part) (one : IsOf code width p) where
-    sole : ((p.0.key1 == 0) && (p.0.key2 == 0)) ≡ true → p.0 ≡ sole_key code
-    sole h =
-        let (a, b) = both (nat_eq p.0.key1 0) (nat_eq p.0.key2 0) h in
-        let k1 = eqb-true p.0.key1 0 a in let k2 = eqb-true p.0.key2 0 b in
-        λ i. record { code = one.number i; key1 = k1 i; key2 = k2 i }
-
     single_is : (size ignored : ℕ) → ((p.0.key1 == 0) && (p.0.key2 == 0)) ≡ true → length p.1 ≡ size → IsSingle code size ignored (p.1 ++ replicate ignored 0) (p ∷ [])
     single_is size ignored keys len = record {
       bytes = p.1;
@@ -117,7 +111,7 @@ module _ (code : PartCode) (width : ℕ) where
       whole = refl;
       bytes_len = len;
       behind_len = length-replicate ignored 0;
-      says = ap (λ (k : PartKey). (k, p.1) ∷ []) (sole keys);
+      says = ap (λ (k : PartKey). (k, p.1) ∷ []) (sole code width p one keys);
     }
 
     -- no part of a vCPU is empty
@@ -150,15 +144,6 @@ chain_is width p one =
     scanned_chain HvmContext p.1 (p ∷ []) cut.0 cut.1 (ap (λ (k : PartKey). (k, p.1) ∷ []) (sole HvmContext width p one one.keys) ∙ ap (λ (v : List ℕ). (sole_key HvmContext, v) ∷ []) (sym cut.2))
 
 -- ---- bodies
-
-held : (code : PartCode) (g : GuestOf) → IsFormed g → All (IsOf code (width_of g)) (parts_at code g)
-held code g formed = all_held (parts_at code g) (parts_are g (code_number code) formed)
-  where
-    all_held : (ps : List Part) → All (IsHeld g (code_number code)) ps → All (IsOf code (width_of g)) ps
-    all_held [] h = All-nil (IsOf code (width_of g))
-    all_held (p ∷ ps) h =
-        let one = All-head (IsHeld g (code_number code)) p ps h in
-        All-cons (IsOf code (width_of g)) p ps (of_part code g.kind (width_of g) p one.part one.code_is) (all_held ps (All-tail (IsHeld g (code_number code)) p ps h))
 
 singles : (code : PartCode) (width : ℕ) (text : Part → List ℕ) → ((p : Part) → IsOf code width p → IsRecordBody code (text p) (p ∷ [])) → (ps : List Part) → All (IsOf code width) ps → SayAll code (map text ps) (map (λ p. p ∷ []) ps)
 singles code width text one [] h = tt
@@ -238,14 +223,14 @@ module _ (g : GuestOf) (formed : IsFormed g) where
   pub params_body : IsRecordBody HvmParam (table_text (layout true 8 0 8) (parts_at HvmParam g)) (parts_at HvmParam g)
   params_body =
       let l = layout true 8 0 8 in let ps = parts_at HvmParam g in let few : length ps ≤ 4096 = few_params g formed in
-      let says = is_table HvmParam (width_of g) l (λ key1 key2 h _ _. small_fit (λ n. ParamIndex n) 8 key1 key2 (omega arith) h) (λ _. refl) ps (omega (arith, few)) (held HvmParam g formed) in
+      let says = is_table HvmParam (width_of g) l (λ key1 key2 h _ _. small_fit (λ n. ParamIndex n) 8 key1 key2 (omega arith) h) (λ _. refl) ps (omega (arith, few)) (parts_are g HvmParam formed) in
       let len = table_len HvmParam l (all_rows HvmParam).widths (table_text l ps) ps says in
       record { says = says; has = has_of HvmParam types.HvmParams (length (table_text l ps)) refl (le-leb 8 (length (table_text l ps)) (omega (arith, len))); short = omega (arith, len, few) }
 
   pub leaves_body : IsRecordBody CpuidLeaf (table_text (layout false 4 4 16) (parts_at CpuidLeaf g)) (parts_at CpuidLeaf g)
   leaves_body =
       let l = layout false 4 4 16 in let ps = parts_at CpuidLeaf g in let few = formed.policies 17 refl in
-      let says = is_table CpuidLeaf (width_of g) l (λ key1 key2 h low1 low2. (low1, low2, refl)) (λ _. refl) ps (under _ few) (held CpuidLeaf g formed) in
+      let says = is_table CpuidLeaf (width_of g) l (λ key1 key2 h low1 low2. (low1, low2, refl)) (λ _. refl) ps (under _ few) (parts_are g CpuidLeaf formed) in
       let len = table_len CpuidLeaf l (all_rows CpuidLeaf).widths (table_text l ps) ps says in
       record {
         says = says;
@@ -256,7 +241,7 @@ module _ (g : GuestOf) (formed : IsFormed g) where
   pub msr_policy_body : IsRecordBody Msr (table_text (layout false 4 0 12) (parts_at Msr g)) (parts_at Msr g)
   msr_policy_body =
       let l = layout false 4 0 12 in let ps = parts_at Msr g in let few = formed.policies 18 refl in
-      let says = is_table Msr (width_of g) l (λ key1 key2 h low1 low2. let zero = eqb-true key2 0 h in (low1, omega (arith, zero), refl)) (λ _. refl) ps (under _ few) (held Msr g formed) in
+      let says = is_table Msr (width_of g) l (λ key1 key2 h low1 low2. let zero = eqb-true key2 0 h in (low1, omega (arith, zero), refl)) (λ _. refl) ps (under _ few) (parts_are g Msr formed) in
       let len = table_len Msr l (all_rows Msr).widths (table_text l ps) ps says in
       record {
         says = says;
@@ -268,16 +253,16 @@ module _ (g : GuestOf) (formed : IsFormed g) where
 
 pub canonical_bodies_say : CanonicalBodiesSay
 canonical_bodies_say P2mFrames g formed = tt
-canonical_bodies_say VcpuBasic g formed = singles VcpuBasic (width_of g) _ (λ p one. basic_body (width_of g) p one) (parts_at VcpuBasic g) (held VcpuBasic g formed)
+canonical_bodies_say VcpuBasic g formed = singles VcpuBasic (width_of g) _ (λ p one. basic_body (width_of g) p one) (parts_at VcpuBasic g) (parts_are g VcpuBasic formed)
 canonical_bodies_say VcpuExtended g formed =
-    singles VcpuExtended (width_of g) _ (λ p one. some_body VcpuExtended types.X86PvVcpuExtended (width_of g) p refl refl (λ _. refl) (λ key1 key2 h _ _. vcpu_fit key1 key2 h) refl one.len one) (parts_at VcpuExtended g) (held VcpuExtended g formed)
+    singles VcpuExtended (width_of g) _ (λ p one. some_body VcpuExtended types.X86PvVcpuExtended (width_of g) p refl refl (λ _. refl) (λ key1 key2 h _ _. vcpu_fit key1 key2 h) refl one.len one) (parts_at VcpuExtended g) (parts_are g VcpuExtended formed)
 canonical_bodies_say VcpuXsave g formed =
-    singles VcpuXsave (width_of g) _ (λ p one. some_body VcpuXsave types.X86PvVcpuXsave (width_of g) p refl refl (λ _. refl) (λ key1 key2 h _ _. vcpu_fit key1 key2 h) refl one.len one) (parts_at VcpuXsave g) (held VcpuXsave g formed)
-canonical_bodies_say SharedInfo g formed = singles SharedInfo (width_of g) _ (λ p one. shared_info_body (width_of g) p one) (parts_at SharedInfo g) (held SharedInfo g formed)
-canonical_bodies_say Tsc g formed = singles Tsc (width_of g) _ (λ p one. tsc_body (width_of g) p one) (parts_at Tsc g) (held Tsc g formed)
-canonical_bodies_say HvmContext g formed = singles HvmContext (width_of g) _ (λ p one. context_body (width_of g) p one) (parts_at HvmContext g) (held HvmContext g formed)
+    singles VcpuXsave (width_of g) _ (λ p one. some_body VcpuXsave types.X86PvVcpuXsave (width_of g) p refl refl (λ _. refl) (λ key1 key2 h _ _. vcpu_fit key1 key2 h) refl one.len one) (parts_at VcpuXsave g) (parts_are g VcpuXsave formed)
+canonical_bodies_say SharedInfo g formed = singles SharedInfo (width_of g) _ (λ p one. shared_info_body (width_of g) p one) (parts_at SharedInfo g) (parts_are g SharedInfo formed)
+canonical_bodies_say Tsc g formed = singles Tsc (width_of g) _ (λ p one. tsc_body (width_of g) p one) (parts_at Tsc g) (parts_are g Tsc formed)
+canonical_bodies_say HvmContext g formed = singles HvmContext (width_of g) _ (λ p one. context_body (width_of g) p one) (parts_at HvmContext g) (parts_are g HvmContext formed)
 canonical_bodies_say HvmParam g formed = one_table HvmParam (layout true 8 0 8) (parts_at HvmParam g) (params_body g formed)
-canonical_bodies_say VcpuMsrs g formed = singles VcpuMsrs (width_of g) _ (λ p one. msrs_body (width_of g) p one) (parts_at VcpuMsrs g) (held VcpuMsrs g formed)
+canonical_bodies_say VcpuMsrs g formed = singles VcpuMsrs (width_of g) _ (λ p one. msrs_body (width_of g) p one) (parts_at VcpuMsrs g) (parts_are g VcpuMsrs formed)
 canonical_bodies_say CpuidLeaf g formed = one_table CpuidLeaf (layout false 4 4 16) (parts_at CpuidLeaf g) (leaves_body g formed)
 canonical_bodies_say Msr g formed = one_table Msr (layout false 4 0 12) (parts_at Msr g) (msr_policy_body g formed)
 canonical_bodies_say EmulatorPairs g formed = tt

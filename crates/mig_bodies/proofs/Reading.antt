@@ -15,7 +15,7 @@ use Rattle.mig_guest.specs.declared.part_key.PartKey.{PartKey}
 use Rattle.mig_guest.specs.Guests.{GuestOf}
 use Rattle.mig_guest.specs.PartCodes.{code_number}
 use Rattle.mig_guest.specs.Parts.{Part, PartMap, put_part, put_parts}
-use Rattle.mig_guest.proofs.PartSets.{put_other, cleared_other}
+use Rattle.mig_guest.proofs.PartSets.{put_other, puts_other, cleared_other}
 use Rattle.mig_bodies.specs.declared.layout.Layout.{Layout}
 use Rattle.mig_bodies.specs.Layouts.{IsLayout, IsSmallKey, entry_width, front_width, AreTableEntries, key_in, entry_part, entry_parts, fault_of_key, fault_of_entry, fault_of_entries, fault_of_table, entry_count, parts_of_table}
 use Rattle.mig_guest.specs.Formed.{is_policy}
@@ -145,14 +145,10 @@ named_of code true k [] is = tt
 named_of code true k (x ∷ xs) is = (is, tt)
 named_of code false k bytes is = (is, tt)
 
-puts_keep : (code : PartCode) (ps : List Part) → AllByRecursion (λ p. p.0.code ≡ code_number code) ps → (m : PartMap) (q : PartKey) → q.code ≢ code_number code → maps.get (put_parts m ps) q ≡ maps.get m q
-puts_keep code [] of m q differ = refl
-puts_keep code (p ∷ ps) of m q differ = puts_keep code ps of.1 (put_part m p) q differ ∙ put_other m p q (λ e. differ (e ∙ of.0))
-
 -- the parts of other codes stay, whether these are set or not
 pub others_kept : {E : Type 0} (code : PartCode) (ps : List Part) → AllByRecursion (λ p. p.0.code ≡ code_number code) ps → (g n : GuestOf) (r : Result (Unit {0}) E)
     → OnOk r (n ≡ record g { parts = put_parts g.parts ps }) → OnErr r (n ≡ g) → (q : PartKey) → q.code ≢ code_number code → maps.get n.parts q ≡ maps.get g.parts q
-others_kept code ps of g n (Ok u) ok err q differ = ap (λ (x : GuestOf). maps.get x.parts q) ok ∙ puts_keep code ps of g.parts q differ
+others_kept code ps of g n (Ok u) ok err q differ = ap (λ (x : GuestOf). maps.get x.parts q) ok ∙ puts_other (code_number code) ps of g.parts q differ
 others_kept code ps of g n (Err e) ok err q differ = ap (λ (x : GuestOf). maps.get x.parts q) err
 
 -- what holds of each part of a table that has a key of 32 bits

@@ -1,5 +1,5 @@
--- The entries of a finite map: what holds of all that is found holds of all entries.
-use Rattle.std.proofs.Common.{◌≡◌, Bool, true, false, cond, List, [], ◌∷◌, Option, Some, None, refl, sym, ap, subst, ◌∙◌}
+-- The entries of a finite map: what holds of all that is found holds of all entries, and still where keys are set or taken away.
+use Rattle.std.proofs.Common.{◌≡◌, Bool, true, false, cond, List, [], ◌∷◌, Option, Some, None, IfSome, refl, sym, ap, subst, ◌∙◌}
 use Rattle.std.specs.Prelude.{T}
 use Rattle.std.specs.List.{All}
 use Rattle.std.specs.Option.{option_or}
@@ -9,7 +9,8 @@ use Rattle.std.specs.Cmp.{IsTotalOrder}
 use Rattle.std.specs.Ordering.{is_lt, is_eq, eq_by_cmp}
 use Rattle.std.specs.declared.cmp.Ordering.{Ordering}
 use Rattle.std.specs.declared.cmp.Ordering.TheVariants.{Less, Equal, Greater}
-use Rattle.std.specs.FinMap.{find, is_sorted, IsAntisymmetric}
+use Rattle.std.specs.FinMap as maps
+use Rattle.std.specs.FinMap.{FinMap, find, is_sorted, IsAntisymmetric}
 use Rattle.std.specs.FinMap.Entries.{below_all}
 use Rattle.mig_guest.proofs.KeyedMaps.{tied}
 use Rattle.mig_guest.proofs.PartCursor.{both_of}
@@ -20,7 +21,7 @@ not_tied Equal t = absurd t
 not_tied Greater t = absurd t
 
 module _ {K X : Type 0} {R : K → K → Ordering} (total : IsTotalOrder R) (exact : IsAntisymmetric R) where
-  pub found_none : (q : K) (fs : List (K × X)) → T (below_all R q fs) → find R q fs ≡ None
+  found_none : (q : K) (fs : List (K × X)) → T (below_all R q fs) → find R q fs ≡ None
   found_none q [] h = refl
   found_none q (f ∷ fs) h =
       let (first, others) = both_of (is_lt (R q f.0)) (below_all R q fs) h in
@@ -30,10 +31,6 @@ module _ {K X : Type 0} {R : K → K → Ordering} (total : IsTotalOrder R) (exa
   none_behind : (q : K) (f : K × X) (fs : List (K × X)) → eq_by_cmp R q f.0 ≡ true → T (below_all R f.0 fs) → find R q fs ≡ None
   none_behind q f fs is below = found_none q fs (subst (λ k. T (below_all R k fs)) (sym (exact q f.0 (tied (R q f.0) is))) below)
 
-  later_found : (q : K) (f : K × X) (fs : List (K × X)) (v : X) (b : Bool) → eq_by_cmp R q f.0 ≡ b → T (below_all R f.0 fs) → find R q fs ≡ Some v → cond b (Some f.1) (find R q fs) ≡ Some v
-  later_found q f fs v true is below h = let no = sym (none_behind q f fs is below) ∙ h in cc
-  later_found q f fs v false is below h = h
-
   module _ (P : K × X → Type 0) where
     -- what holds of all that is found holds of all entries
     pub all_found : (fs : List (K × X)) → T (is_sorted R fs) → ((q : K) (v : X) → find R q fs ≡ Some v → P (q, v)) → All P fs
@@ -41,8 +38,36 @@ module _ {K X : Type 0} {R : K → K → Ordering} (total : IsTotalOrder R) (exa
     all_found (f ∷ fs) h go =
         let (first, others) = both_of (below_all R f.0 fs) (is_sorted R fs) h in
         All-cons P f fs (go f.0 f.1 (ap (λ b. cond b (Some f.1) (find R f.0 fs)) ((eq_by_cmp_equiv total).refl f.0)))
-        (all_found fs others (λ q v is. go q v (ap (λ b. cond b (Some f.1) (find R q fs)) refl ∙ later_found q f fs v (eq_by_cmp R q f.0) refl first is)))
+        (all_found fs others (λ q v is. go q v (elim (eq_by_cmp R q f.0) as (λ b. eq_by_cmp R q f.0 ≡ b → cond b (Some f.1) (find R q fs) ≡ Some v) [
+          | true ↦ λ t. let no = sym (none_behind q f fs t first) ∙ is in cc
+          | false ↦ λ t. is
+        ] refl)))
 
   pub found_first : (q : K) (f : K × X) (fs : List (K × X)) (o : Option X) (b : Bool) → eq_by_cmp R q f.0 ≡ b → T (below_all R f.0 fs) → option_or (find R q fs) (cond b (Some f.1) o) ≡ option_or (cond b (Some f.1) (find R q fs)) o
   found_first q f fs o true is below = ap (λ r. option_or r (Some f.1)) (none_behind q f fs is below)
   found_first q f fs o false is below = refl
+
+  -- ---- maps that change
+
+  module _ (P : K → X → Type 0) where
+    abbrev pub Each : FinMap R X → Type 0
+    Each m = (k : K) (v : X) → maps.get m k ≡ Some v → P k v
+
+    -- n is what one key has from now on
+    pub changed_holds : (m new : FinMap R X) (k : K) (n : Option X) → ((q : K) → maps.get new q ≡ cond (eq_by_cmp R q k) n (maps.get m q)) → Each m → IfSome n (P k) → Each new
+    changed_holds m new k n is each holds q v got = elim (eq_by_cmp R q k) as (λ b. eq_by_cmp R q k ≡ b → cond b n (maps.get m q) ≡ Some v → P q v) [
+      | true ↦ λ t at. subst (λ z. P z v) (sym (exact q k (tied _ t))) (subst (λ o. IfSome o (P k)) at holds)
+      | false ↦ λ t at. each q v at
+    ] refl (sym (is q) ∙ got)
+
+    pub insert_holds : (m : FinMap R X) (k : K) (v : X) → Each m → P k v → Each (maps.insert m k v)
+    insert_holds m k v each holds = changed_holds m (maps.insert m k v) k (Some v) (maps.get-insert total m k v) each holds
+
+    pub remove_holds : (m : FinMap R X) (k : K) → Each m → Each (maps.remove m k)
+    remove_holds m k each = changed_holds m (maps.remove m k) k None (maps.get-remove total m k) each tt
+
+    pub kept_holds : (m : FinMap R X) (p : K → Bool) → Each m → Each (maps.retain_keys m p)
+    kept_holds m p each q v got = each q v (elim (p q) as (λ b. cond b (maps.get m q) None ≡ Some v → maps.get m q ≡ Some v) [
+      | true ↦ λ at. at
+      | false ↦ λ at. let no : None ≡ Some v = at in cc
+    ] (sym (maps.get-retain_keys m p q (λ x e. ap p (sym (exact q x e)))) ∙ got))

@@ -1,53 +1,147 @@
--- The entries of an ordered map seen as a finite map, each value through f.
-use Rattle.std.proofs.Common.{◌≡◌, Bool, true, false, cond, List, [], ◌∷◌, map, Option, Some, None, refl, sym, ap, ◌∙◌}
+-- The entries of an ordered map seen as a finite map, each value through f, which may look at its key.
+use Rattle.std.proofs.Common.{◌≡◌, ℕ, ◌+◌, ◌≤◌, Bool, true, false, cond, List, [], ◌∷◌, map, Option, Some, None, is_some, IsSome, IfSome, IfNone, refl, sym, ap, subst, ◌∙◌, arith}
+use Rattle.std.specs.Prelude.{T, ◌&&◌}
 use Rattle.std.specs.declared.cmp.Ordering.{Ordering}
-use Rattle.std.specs.Ordering.{eq_by_cmp}
+use Rattle.std.specs.declared.cmp.Ordering.TheVariants.{Less, Equal, Greater}
+use Rattle.std.specs.Ordering.{eq_by_cmp, is_eq, is_lt}
 use Rattle.std.specs.Option.{option_map}
 use Rattle.std.specs.Cmp.{IsTotalOrder}
-use Rattle.std.proofs.lemmas.Cmp.{eq_by_cmp_equiv}
+use Rattle.std.specs.List.{AllByRecursion, filter}
+use Rattle.std.specs.List.Sorted.{IsStrictlySortedBy}
 use Rattle.std.specs.BTreeMap.{is_at}
-use Rattle.std.specs.Map.{lookup}
+use Rattle.std.specs.Map.{lookup, keys_of}
 use Rattle.std.specs.FinMap as maps
+use Rattle.std.specs.FinMap.{FinMap, find, is_sorted, IsAntisymmetric, same_map, get-from_entries, get-from_sorted, entries-from_sorted, get-insert, get-remove, get-retain_keys, len-insert}
+use Rattle.std.specs.FinMap.Entries.{below_all}
+use Rattle.std.proofs.lemmas.Cmp.{eq_by_cmp_equiv}
 use Rattle.std.proofs.lemmas.Map.Entries.{lookup-filter-keys}
-use Rattle.std.specs.List.{filter}
-use Rattle.std.specs.declared.cmp.Ordering.TheVariants.{Less, Equal, Greater}
-use Rattle.std.specs.Ordering.{is_eq}
-use Rattle.std.specs.FinMap.{get-retain_keys}
-use Rattle.std.specs.FinMap.{FinMap, find, IsAntisymmetric, same_map, get-from_entries, get-insert}
 
-abbrev pub seen : {K X Y : Type 0} (R : K → K → Ordering) (f : X → Y) → List (K × X) → FinMap R Y
-seen R f es = maps.from_entries (map (λ e. (e.0, f e.1)) es)
+-- an entry, with its value as it is seen
+abbrev pub shown : {K X Y : Type 0} → (K → X → Y) → K × X → K × Y
+shown f e = (e.0, f e.0 e.1)
 
-mapped : {X Y : Type 0} (f : X → Y) (b : Bool) (v : X) (r : Option X) → option_map f (cond b (Some v) r) ≡ cond b (Some (f v)) (option_map f r)
-mapped f true v r = refl
-mapped f false v r = refl
-
-module _ {K X Y : Type 0} {R : K → K → Ordering} (o : IsTotalOrder R) (exact : IsAntisymmetric R) (f : X → Y) where
-  find_lookup : (es : List (K × X)) (q : K) → find R q (map (λ e. (e.0, f e.1)) es) ≡ option_map f (lookup (is_at (R q)) es)
-  find_lookup [] q = refl
-  find_lookup (e ∷ es) q = ap (cond (eq_by_cmp R q e.0) (Some (f e.1))) (find_lookup es q) ∙ sym (mapped f (eq_by_cmp R q e.0) e.1 (lookup (is_at (R q)) es))
-
-  pub get_seen : (es : List (K × X)) (q : K) → maps.get (seen R f es) q ≡ option_map f (lookup (is_at (R q)) es)
-  get_seen es q = get-from_entries o (map (λ e. (e.0, f e.1)) es) q ∙ find_lookup es q
-
-  pub seen_insert : (es fs : List (K × X)) (k : K) (v : X) → ((q : K) → lookup (is_at (R q)) fs ≡ cond (is_at (R k) q) (Some v) (lookup (is_at (R q)) es)) → seen R f fs ≡ maps.insert (seen R f es) k (f v)
-  seen_insert es fs k v is = same_map o exact _ _ (λ q.
-      get_seen fs q ∙ ap (option_map f) (is q) ∙ mapped f (is_at (R k) q) v (lookup (is_at (R q)) es)
-      ∙ ap (λ b. cond b (Some (f v)) (option_map f (lookup (is_at (R q)) es))) ((eq_by_cmp_equiv o).symm k q)
-      ∙ ap (cond (eq_by_cmp R q k) (Some (f v))) (sym (get_seen es q)) ∙ sym (get-insert o (seen R f es) k (f v) q))
-
-cut : {X Y : Type 0} (f : X → Y) (b : Bool) (r : Option X) → option_map f (cond b r None) ≡ cond b (option_map f r) None
-cut f true r = refl
-cut f false r = refl
+abbrev pub seen : {K X Y : Type 0} (R : K → K → Ordering) (f : K → X → Y) → List (K × X) → FinMap R Y
+seen R f es = maps.from_entries (map (shown f) es)
 
 pub tied : (r : Ordering) → is_eq r ≡ true → r ≡ Equal
 tied Less t = cc
 tied Equal t = refl
 tied Greater t = cc
 
--- the entries that pass a test of the keys
-pub seen_filter : {K X Y : Type 0} {R : K → K → Ordering} (o : IsTotalOrder R) (exact : IsAntisymmetric R) (f : X → Y) (p : K → Bool) (es : List (K × X)) → seen R f (filter (λ e. p e.0) es) ≡ maps.retain_keys (seen R f es) p
-seen_filter {K = K} {R = R} o exact f p es = same_map o exact _ _ (λ q.
-    let alike = λ (k : K) (e : R q k ≡ Equal). ap p (sym (exact q k e)) in
-    get_seen o exact f _ q ∙ ap (option_map f) (lookup-filter-keys (is_at (R q)) p (p q) (λ k t. alike k (tied (R q k) t)) es) ∙ cut f (p q) (lookup (is_at (R q)) es)
-    ∙ ap (λ r. cond (p q) r None) (sym (get_seen o exact f es q)) ∙ sym (get-retain_keys (seen R f es) p q alike))
+pub is_some-mapped : {X Y : Type 0} (f : X → Y) (r : Option X) → is_some (option_map f r) ≡ is_some r
+is_some-mapped f None = refl
+is_some-mapped f (Some x) = refl
+
+both : (a b : Bool) → T a → T b → T (a && b)
+both true b p q = q
+both false b p q = p
+
+-- ---- one key set or taken away
+
+module _ {K X : Type 0} {R : K → K → Ordering} (o : IsTotalOrder R) (m : FinMap R X) (k : K) where
+  pub insert_gives : (v : X) → maps.get (maps.insert m k v) k ≡ Some v
+  insert_gives v = get-insert o m k v k ∙ ap (λ b. cond b (Some v) (maps.get m k)) ((eq_by_cmp_equiv o).refl k)
+
+  pub insert_leaves : (v : X) (q : K) → eq_by_cmp R q k ≡ false → maps.get (maps.insert m k v) q ≡ maps.get m q
+  insert_leaves v q other = get-insert o m k v q ∙ ap (λ b. cond b (Some v) (maps.get m q)) other
+
+  pub remove_gives : maps.get (maps.remove m k) k ≡ None
+  remove_gives = get-remove o m k k ∙ ap (λ b. cond b None (maps.get m k)) ((eq_by_cmp_equiv o).refl k)
+
+  pub remove_leaves : (q : K) → eq_by_cmp R q k ≡ false → maps.get (maps.remove m k) q ≡ maps.get m q
+  remove_leaves q other = get-remove o m k q ∙ ap (λ b. cond b None (maps.get m q)) other
+
+  pub insert_len : (v : X) → maps.len (maps.insert m k v) ≤ maps.len m + 1
+  insert_len v = subst (λ n. n ≤ maps.len m + 1) (sym (len-insert o m k v)) (elim (maps.contains_key m k) as (λ b. cond b (maps.len m) (maps.len m + 1) ≤ maps.len m + 1) [ true ↦ omega arith | false ↦ omega arith ])
+
+-- ---- what is seen
+
+module _ {K X Y : Type 0} {R : K → K → Ordering} (o : IsTotalOrder R) (exact : IsAntisymmetric R) where
+  module _ (f : K → X → Y) where
+    pub find_seen : (es : List (K × X)) (q : K) → find R q (map (shown f) es) ≡ option_map (f q) (find R q es)
+    find_seen [] q = refl
+    find_seen (e ∷ es) q = elim (eq_by_cmp R q e.0) as (λ b. eq_by_cmp R q e.0 ≡ b → cond b (Some (f e.0 e.1)) (find R q (map (shown f) es)) ≡ option_map (f q) (cond b (Some e.1) (find R q es))) [
+      | true ↦ λ t. ap (λ k. Some (f k e.1)) (sym (exact q e.0 (tied _ t)))
+      | false ↦ λ t. find_seen es q
+    ] refl
+
+    find_lookup : (es : List (K × X)) (q : K) → find R q es ≡ lookup (is_at (R q)) es
+    find_lookup [] q = refl
+    find_lookup (e ∷ es) q = ap (cond (eq_by_cmp R q e.0) (Some e.1)) (find_lookup es q)
+
+    pub get_seen : (es : List (K × X)) (q : K) → maps.get (seen R f es) q ≡ option_map (f q) (lookup (is_at (R q)) es)
+    get_seen es q = get-from_entries o (map (shown f) es) q ∙ find_seen es q ∙ ap (option_map (f q)) (find_lookup es q)
+
+    same_below : (k : K) (es : List (K × X)) → below_all R k (map (shown f) es) ≡ below_all R k es
+    same_below k [] = refl
+    same_below k (e ∷ es) = ap (λ b. is_lt (R k e.0) && b) (same_below k es)
+
+    same_sorted : (es : List (K × X)) → is_sorted R (map (shown f) es) ≡ is_sorted R es
+    same_sorted [] = refl
+    same_sorted (e ∷ es) = ap (λ b. b && is_sorted R (map (shown f) es)) (same_below e.0 es) ∙ ap (λ b. below_all R e.0 es && b) (same_sorted es)
+
+    -- where the keys rise, the entries stand in the order of the list
+    pub entries_shown : (es : List (K × X)) → T (is_sorted R es) → maps.entries (seen R f es) ≡ map (shown f) es
+    entries_shown es rises =
+        let fs = map (shown f) es in let s = subst T (sym (same_sorted es)) rises in
+        ap maps.entries (same_map o exact (maps.from_entries fs) (maps.from_sorted fs) (λ q. get-from_entries o fs q ∙ sym (get-from_sorted R fs q s)))
+        ∙ entries-from_sorted R fs s
+
+    below : (x : K) (es : List (K × X)) → AllByRecursion (λ y. R x y ≡ Less) (keys_of es) → T (below_all R x es)
+    below x [] h = tt
+    below x (e ∷ es) h = both _ _ (subst (λ r. T (is_lt r)) (sym h.0) tt) (below x es h.1)
+
+    sorted : (es : List (K × X)) → IsStrictlySortedBy R (keys_of es) → T (is_sorted R es)
+    unfolding IsStrictlySortedBy
+    sorted [] h = tt
+    sorted (e ∷ es) h = both _ _ (below e.0 es h.0) (sorted es h.1)
+
+    pub entries_seen : (es : List (K × X)) → IsStrictlySortedBy R (keys_of es) → maps.entries (seen R f es) ≡ map (shown f) es
+    entries_seen es order = entries_shown es (sorted es order)
+
+    pub kept_shown : (p : K → Bool) (es : List (K × X)) → filter (λ e. p e.0) (map (shown f) es) ≡ map (shown f) (filter (λ e. p e.0) es)
+    kept_shown p [] = refl
+    kept_shown p (e ∷ es) = elim (p e.0) as (λ b. cond b (shown f e ∷ filter (λ e. p e.0) (map (shown f) es)) (filter (λ e. p e.0) (map (shown f) es)) ≡ map (shown f) (cond b (e ∷ filter (λ e. p e.0) es) (filter (λ e. p e.0) es))) [
+      | true ↦ ap (λ l. shown f e ∷ l) (kept_shown p es)
+      | false ↦ kept_shown p es
+    ]
+
+    -- the entries that pass a test of the keys
+    pub seen_filter : (p : K → Bool) (es : List (K × X)) → seen R f (filter (λ e. p e.0) es) ≡ maps.retain_keys (seen R f es) p
+    seen_filter p es = same_map o exact _ _ (λ q.
+        let alike = λ (k : K) (e : R q k ≡ Equal). ap p (sym (exact q k e)) in
+        get_seen _ q ∙ ap (option_map (f q)) (lookup-filter-keys (is_at (R q)) p (p q) (λ k t. alike k (tied (R q k) t)) es)
+        ∙ elim (p q) as (λ b. option_map (f q) (cond b (lookup (is_at (R q)) es) None) ≡ cond b (option_map (f q) (lookup (is_at (R q)) es)) None) [ true ↦ refl | false ↦ refl ]
+        ∙ ap (λ r. cond (p q) r None) (sym (get_seen es q)) ∙ sym (get-retain_keys (seen R f es) p q alike))
+
+  -- where what is listed at one key changes, and how the values of no other key are seen
+  pub seen_changed : (f g : K → X → Y) (es fs : List (K × X)) (k : K) (n : Option X)
+      → ((q : K) → lookup (is_at (R q)) fs ≡ cond (is_at (R k) q) n (lookup (is_at (R q)) es))
+      → ((q : K) → eq_by_cmp R q k ≡ false → (x : X) → g q x ≡ f q x)
+      → (q : K) → maps.get (seen R g fs) q ≡ cond (eq_by_cmp R q k) (option_map (g k) n) (maps.get (seen R f es) q)
+  seen_changed f g es fs k n is same q =
+      let here = lookup (is_at (R q)) es in
+      get_seen g fs q ∙ ap (option_map (g q)) (is q ∙ ap (λ b. cond b n here) ((eq_by_cmp_equiv o).symm k q))
+      ∙ elim (eq_by_cmp R q k) as (λ b. eq_by_cmp R q k ≡ b → option_map (g q) (cond b n here) ≡ cond b (option_map (g k) n) (maps.get (seen R f es) q)) [
+        | true ↦ λ t. ap (λ z. option_map (g z) n) (exact q k (tied _ t))
+        | false ↦ λ t. (λ i. option_map (λ x. same q t x i) here) ∙ sym (get_seen f es q)
+      ] refl
+
+  pub seen_insert : (f : K → X → Y) (es fs : List (K × X)) (k : K) (v : X) → ((q : K) → lookup (is_at (R q)) fs ≡ cond (is_at (R k) q) (Some v) (lookup (is_at (R q)) es)) → seen R f fs ≡ maps.insert (seen R f es) k (f k v)
+  seen_insert f es fs k v is = same_map o exact _ _ (λ q. seen_changed f f es fs k (Some v) is (λ _ _ _. refl) q ∙ sym (get-insert o (seen R f es) k (f k v) q))
+
+-- what a search finds by the values that are listed holds of those that are seen
+module _ {K X Y : Type 0} (f : K → X → Y) (listed : K → Option X) (got : K → Option Y) (is : (k : K) → got k ≡ option_map (f k) (listed k)) where
+  none_seen : (k : K) → listed k ≡ None → got k ≡ None
+  none_seen k e = is k ∙ ap (option_map (f k)) e
+
+  pub there_seen : (k : K) → is_some (got k) ≡ is_some (listed k)
+  there_seen k = ap is_some (is k) ∙ is_some-mapped (f k) (listed k)
+
+  pub next_seen : (IsAfter : K → Type 0) (IsBefore : K → K → Type 0) (r : Option K)
+      → IfNone r ((k : K) → IsAfter k → listed k ≡ None)
+      → IfSome r (λ q. IsAfter q × IsSome (listed q) × ((k : K) → IsAfter k → IsBefore k q → listed k ≡ None))
+      → IfNone r ((k : K) → IsAfter k → got k ≡ None)
+      × IfSome r (λ q. IsAfter q × IsSome (got q) × ((k : K) → IsAfter k → IsBefore k q → got k ≡ None))
+  next_seen IsAfter IsBefore None n s = (λ k after. none_seen k (n k after), tt)
+  next_seen IsAfter IsBefore (Some q) n s = (tt, (s.0, there_seen q ∙ s.1, λ k after before. none_seen k (s.2 k after before)))

@@ -3,7 +3,6 @@ pub mod KeyedMaps
 pub mod PartMaps
 pub mod FrameMaps
 pub mod Loans
-pub mod Cursor
 pub mod PartCursor
 pub mod PartSets
 pub mod Counts

@@ -1,38 +1,26 @@
 -- Each row of the table of parts has a number of its own, and each part the row of its code.
-use Rattle.std.proofs.Common.{◌≡◌, ℕ, ◌<◌, ◌≤◌, ◌^◌, nat_lt, ltb-true, leb-true, arith, Bool, true, false, cond, List, [], ◌∷◌, length, Option, Some, None, refl, sym, ap, subst, ◌∙◌}
+use Rattle.std.proofs.Common.{◌≡◌, ℕ, ◌<◌, ◌^◌, Bool, true, false, cond, List, [], ◌∷◌, length, Option, Some, None, refl, sym, ap, subst, ◌∙◌}
 use Rattle.std.specs.Prelude.{◌==◌, ◌&&◌, find}
-use Rattle.std.proofs.lemmas.Bool.{eqb-true, eq-eqb, le-leb, lt-ltb}
+use Rattle.std.proofs.lemmas.Bool.{eqb-true, and_parts}
 use Rattle.mig_headers.specs.declared.kind.Kind.TheVariants.{Hvm}
 use Rattle.mig_headers.specs.declared.kind.Kind.{Kind}
 use Rattle.mig_guest.specs.declared.part_code.PartCode.{PartCode}
-use Rattle.mig_guest.specs.declared.part_code.PartCode.TheVariants.{P2mFrames, VcpuBasic, VcpuExtended, VcpuXsave, SharedInfo, Tsc, HvmContext, HvmParam, VcpuMsrs, CpuidLeaf, Msr, EmulatorPairs, EmulatorContext}
+use Rattle.mig_guest.specs.declared.part_code.PartCode.TheVariants.{P2mFrames, EmulatorPairs}
 use Rattle.mig_guest.specs.declared.part_key.PartKey.{PartKey}
-use Rattle.mig_guest.specs.PartKeys.{tsc_key, context_key, param_key, leaf_key, msr_key}
 use Rattle.mig_guest.specs.PartCodes.{row_of, code_number, part_codes, code_of_number}
 use Rattle.mig_pagetypes.specs.PageTypes.{level_of}
 use Rattle.mig_pagetypes.specs.declared.page_type.PageType.{PageType}
-use Rattle.mig_pagetypes.specs.declared.page_type.PageType.TheVariants.{Notab, L1Tab, L2Tab, L3Tab, L4Tab, L1Pinned, L2Pinned, L3Pinned, L4Pinned, Broken, Xalloc, Xtab}
+use Rattle.mig_pagetypes.specs.declared.page_type.PageType.TheVariants.{Notab, Broken, Xalloc}
 use Rattle.mig_guest.specs.declared.table.Entry.{Entry}
 use Rattle.mig_guest.specs.Hosts.{IsHostPart}
 use Rattle.mig_guest.specs.Tables.{EachEntry, IsWithin}
 use Rattle.mig_guest.specs.Frames.{FrameOf, IsFrame, is_hvm_type, is_type_of}
 use Rattle.mig_pagetypes.specs.Limits.{pfn_limit}
-use Rattle.mig_guest.specs.Formed.{IsPart, IsContent, IsRawContent, IsCut, IsInside, IsGuestFrame}
+use Rattle.mig_guest.specs.Formed.{IsPart, IsContent, IsRawContent, IsInside, IsGuestFrame}
 
 pub number_back : (c : PartCode) → code_of_number (code_number c) ≡ Some c
 number_back P2mFrames = refl
-number_back VcpuBasic = refl
-number_back VcpuExtended = refl
-number_back VcpuXsave = refl
-number_back SharedInfo = refl
-number_back Tsc = refl
-number_back HvmContext = refl
-number_back HvmParam = refl
-number_back VcpuMsrs = refl
-number_back CpuidLeaf = refl
-number_back Msr = refl
-number_back EmulatorPairs = refl
-number_back EmulatorContext = refl
+number_back _ = refl
 
 some_is : (a b : PartCode) → Some a ≡ Some b → a ≡ b
 some_is a b e = cc
@@ -50,11 +38,6 @@ found_in n (d ∷ cs) c is = row_found n c d (find (λ code. code_number code ==
 
 pub number_found : (n : ℕ) (c : PartCode) → code_of_number n ≡ Some c → n ≡ code_number c
 number_found n c is = found_in n part_codes c is
-
-both_true : (a b : Bool) → (a && b) ≡ true → (a ≡ true) × (b ≡ true)
-both_true true true h = (refl, refl)
-both_true true false h = cc
-both_true false b h = cc
 
 pub numbered : (n : ℕ) (c : PartCode) → n ≡ code_number c → code_of_number n ≡ Some c
 numbered n c is = ap code_of_number is ∙ number_back c
@@ -80,32 +63,11 @@ of_part code kind width p is number =
       small2 = is.small2;
     }
 
--- ---- single rows
-
-keyed : (k : PartKey) (code key1 key2 : ℕ) → k.code ≡ code → k.key1 ≡ key1 → k.key2 ≡ key2 → k ≡ record { code = code; key1 = key1; key2 = key2 }
-keyed k code key1 key2 a b c = λ i. record { code = a i; key1 = b i; key2 = c i }
-
-module _ (kind : Kind) (width : ℕ) (k : PartKey) (bytes : List ℕ) (part : IsPart kind width k bytes) where
-  pub tsc_part : k.code ≡ 8 → (k ≡ tsc_key) × (length bytes ≡ 20)
-  tsc_part e =
-      let is = of_part Tsc kind width (k, bytes) part e in let (a, b) = both_true (k.key1 == 0) (k.key2 == 0) is.keys in
-      (keyed k 8 0 0 e (eqb-true k.key1 0 a) (eqb-true k.key2 0 b), eqb-true (length bytes) 20 is.len)
-
-  pub context_part : k.code ≡ 9 → (k ≡ context_key) × (length bytes ≤ 2 ^ 27) × IsCut bytes
-  context_part e =
-      let is = of_part HvmContext kind width (k, bytes) part e in let (a, b) = both_true (k.key1 == 0) (k.key2 == 0) is.keys in
-      (keyed k 9 0 0 e (eqb-true k.key1 0 a) (eqb-true k.key2 0 b), leb-true (length bytes) (2 ^ 27) is.len, is.content)
-
-  pub param_part : k.code ≡ 10 → (k.key1 < 4096) × (k ≡ param_key k.key1) × (length bytes ≡ 8)
-  param_part e =
-      let is = of_part HvmParam kind width (k, bytes) part e in let (a, b) = both_true (nat_lt k.key1 4096) (k.key2 == 0) is.keys in
-      (ltb-true k.key1 4096 a, keyed k 10 k.key1 0 e refl (eqb-true k.key2 0 b), eqb-true (length bytes) 8 is.len)
-
-  pub leaf_part : k.code ≡ 17 → (k ≡ leaf_key k.key1 k.key2) × (length bytes ≡ 16)
-  leaf_part e = let is = of_part CpuidLeaf kind width (k, bytes) part e in (keyed k 17 k.key1 k.key2 e refl refl, eqb-true (length bytes) 16 is.len)
-
-  pub msr_part : k.code ≡ 18 → (k ≡ msr_key k.key1) × (length bytes ≡ 12)
-  msr_part e = let is = of_part Msr kind width (k, bytes) part e in (keyed k 18 k.key1 0 e refl (eqb-true k.key2 0 is.keys), eqb-true (length bytes) 12 is.len)
+-- a code of which no key has numbers has one key
+pub sole : (code : PartCode) (width : ℕ) (p : PartKey × List ℕ) → IsOf code width p → ((p.0.key1 == 0) && (p.0.key2 == 0)) ≡ true → p.0 ≡ record { code = code_number code; key1 = 0; key2 = 0 }
+sole code width p one none =
+    let (a, b) = and_parts (p.0.key1 == 0) (p.0.key2 == 0) none in let key1 = eqb-true p.0.key1 0 a in let key2 = eqb-true p.0.key2 0 b in
+    λ i. record { code = one.number i; key1 = key1 i; key2 = key2 i }
 
 -- ---- a part of a guest is one of its host
 
@@ -115,7 +77,7 @@ raw _ bytes h = tt
 
 -- of an HVM guest's parts none has a length that depends on the width
 same_len : (code : PartCode) (v w n : ℕ) → (row_of code).of_kind Hvm ≡ true → (row_of code).allows v n ≡ (row_of code).allows w n
-same_len P2mFrames v w n of_hvm = let no : false ≡ true = of_hvm in cc
+same_len P2mFrames v w n of_hvm = cc
 same_len _ v w n of_hvm = refl
 
 pub host_part : (v w : ℕ) (key : PartKey) (bytes : List ℕ) → IsPart Hvm v key bytes → IsHostPart Hvm w key bytes
@@ -132,25 +94,14 @@ host_part v w key bytes is = record {
 
 -- ---- frames that are no tables
 
-none_some : (n : ℕ) → None ≡ Some n → ⊥
-none_some n e = cc
-
 no_entries : (P : Entry → Type 0) (frame : FrameOf) → is_hvm_type frame.type ≡ true → EachEntry P frame
-no_entries P frame hvm level page is = absurd (none_some level (sym (no_level frame.type hvm) ∙ is))
+no_entries P frame hvm level page is = let no : None ≡ Some level = sym (no_level frame.type hvm) ∙ is in cc
   where
     no_level : (t : PageType) → is_hvm_type t ≡ true → level_of t ≡ None
     no_level Notab h = refl
     no_level Broken h = refl
     no_level Xalloc h = refl
-    no_level L1Tab h = cc
-    no_level L2Tab h = cc
-    no_level L3Tab h = cc
-    no_level L4Tab h = cc
-    no_level L1Pinned h = cc
-    no_level L2Pinned h = cc
-    no_level L3Pinned h = cc
-    no_level L4Pinned h = cc
-    no_level Xtab h = cc
+    no_level _ h = cc
 
 -- a frame of an HVM guest
 pub hvm_frame : (kind : Kind) (top pfn : ℕ) (frame : FrameOf) → kind ≡ Hvm → pfn < pfn_limit → IsFrame frame → is_hvm_type frame.type ≡ true → IsGuestFrame kind top pfn frame

@@ -55,8 +55,8 @@ pub(crate) fn bytes_mut(part: &mut Vec<u8>) -> &mut [u8]
 
 // The least key.
 fn least_key(parts: &BTreeMap<PartKey, Vec<u8>>) -> Option<PartKey>
-    ensures none { IfNone result ((k : PartKey) → tree.get part_cmp parts.now k ≡ None) }
-    ensures least { IfSome result (λ q. IsSome (tree.get part_cmp parts.now q) × ((k : PartKey) → part_cmp k q ≡ Less → tree.get part_cmp parts.now k ≡ None)) }
+    ensures none { IfNone result ((k : PartKey) → IsAbove None k → tree.get part_cmp parts.now k ≡ None) }
+    ensures least { IfSome result (λ q. IsAbove None q × IsSome (tree.get part_cmp parts.now q) × ((k : PartKey) → IsAbove None k → part_cmp k q ≡ Less → tree.get part_cmp parts.now k ≡ None)) }
 {
     match parts.first_key_value() {
         Some((key, _)) => Some(*key),

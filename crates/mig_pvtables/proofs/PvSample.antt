@@ -6,6 +6,7 @@ use Rattle.std.specs.Option.{option_map}
 use Rattle.std.specs.Ordering.{nat_cmp}
 use Rattle.std.specs.Cmp.{nat_cmp_total}
 use Rattle.std.specs.FinMap as maps
+use Rattle.std.specs.FinMap.{nat_cmp-IsAntisymmetric}
 use Rattle.std.proofs.lemmas.Bool.{cases_eq, cases_lt, ne_eqb}
 use Rattle.mig_headers.specs.declared.kind.Kind.TheVariants.{Pv}
 use Rattle.mig_pagetypes.specs.PageTypes.{type_has_data}
@@ -23,9 +24,10 @@ use Rattle.mig_guest.specs.Order.{part_cmp}
 use Rattle.mig_guest.specs.Parts.{PartMap}
 use Rattle.mig_guest.specs.PartKeys.{p2m_key, vcpu_key, shared_key}
 use Rattle.mig_guest.specs.Tables.{EachEntry, IsWithin, is_blank_slot, entry_of}
-use Rattle.mig_guest.proofs.Kept.{bare_formed, frames_keep, parts_keep, insert_holds, set_holds}
+use Rattle.mig_guest.proofs.Found.{insert_holds}
+use Rattle.mig_guest.proofs.Kept.{bare_formed, frames_keep, parts_keep}
 use Rattle.mig_guest.proofs.Longs.{length_longs, long_of_longs}
-use Rattle.mig_guest.proofs.PartOrder.{part_total}
+use Rattle.mig_guest.proofs.PartOrder.{part_total, part_exact}
 use Rattle.mig_pvtables.specs.VcpuContexts.{field_place, field_value, is_used, is_marked, frame_of_field}
 use Rattle.mig_pvtables.specs.P2mFrames.{listed_in, listed}
 use Rattle.mig_pvtables.specs.Faults.{type_at, fits_field}
@@ -237,9 +239,9 @@ other_code n m differ e = clash (sym (subst (λ k. nat_eq n k ≡ true) e (eq-eq
 
 fields_fit : FieldsFit frames parts
 fields_fit =
-    insert_holds Fields (maps.insert (maps.insert maps.empty p2m_key p2m) shared_key zeros) (vcpu_key 0) context
-    (insert_holds Fields (maps.insert maps.empty p2m_key p2m) shared_key zeros
-    (insert_holds Fields maps.empty p2m_key p2m (λ key bytes got. absurd (none_some bytes (sym (maps.get-empty part_cmp key) ∙ got))) (λ is. absurd (other_code 3 4 refl is)))
+    insert_holds part_total part_exact Fields (maps.insert (maps.insert maps.empty p2m_key p2m) shared_key zeros) (vcpu_key 0) context
+    (insert_holds part_total part_exact Fields (maps.insert maps.empty p2m_key p2m) shared_key zeros
+    (insert_holds part_total part_exact Fields maps.empty p2m_key p2m (λ key bytes got. absurd (none_some bytes (sym (maps.get-empty part_cmp key) ∙ got))) (λ is. absurd (other_code 3 4 refl is)))
     (λ is. absurd (other_code 7 4 refl is)))
     (λ is. context_fields)
 
@@ -263,7 +265,7 @@ sample_is_whole = (pv_whole pv_sample refl).1 (record {
   shared_there = subst IsSome (sym got_shared) refl;
   vcpu_there = subst IsSome (sym got_context) refl;
   p2m = p2m_frames;
-  targets = λ pfn frame got. set_holds Targets (maps.insert maps.empty 0 notab) 1 root (set_holds Targets maps.empty 0 notab (λ q f none. absurd (none_some f (sym (maps.get-empty nat_cmp q) ∙ none))) (targets Notab)) (targets L4Tab) pfn frame got;
+  targets = λ pfn frame got. insert_holds nat_cmp_total nat_cmp-IsAntisymmetric Targets (maps.insert maps.empty 0 notab) 1 root (insert_holds nat_cmp_total nat_cmp-IsAntisymmetric Targets maps.empty 0 notab (λ q f none. absurd (none_some f (sym (maps.get-empty nat_cmp q) ∙ none))) (targets Notab)) (targets L4Tab) pfn frame got;
   fields = fields_fit;
   few = few;
 })

@@ -1,57 +1,50 @@
--- Searches in ranges and among entries: that nothing is found.
-use Rattle.std.proofs.Common.{◌≡◌, ℕ, zero, suc, ◌+◌, ◌<◌, ◌≤◌, Bool, true, false, cond, List, [], ◌∷◌, Option, Some, None, refl, sym, ap, ◌∙◌, inl, inr, arith}
-use Rattle.std.specs.Prelude.{find, ◌||◌}
+-- Searches in ranges, among entries and along rows of causes: when nothing is found.
+use Rattle.std.proofs.Common.{◌≡◌, ℕ, ◌<◌, ◌≤◌, Bool, true, false, cond, List, [], ◌∷◌, length, get_or, ◌+◌, nat_lt, Option, Some, None, is_none, is_some, IsSome, refl, sym, ap, ◌∙◌, arith, ◌↔◌}
+use Rattle.std.specs.Prelude.{find, ⊤, ◌||◌}
 use Rattle.std.specs.List.{All, range_with_len, list_any}
-use Rattle.std.specs.Option.{option_or}
+use Rattle.std.specs.Option.{option_map, option_or}
 use Rattle.std.specs.Ordering.{eq_by_cmp}
 use Rattle.std.specs.declared.cmp.Ordering.{Ordering}
 use Rattle.std.specs.Cmp.{IsTotalOrder}
 use Rattle.std.specs.FinMap as maps
 use Rattle.std.specs.FinMap.{FinMap, IsAntisymmetric, get-entries, entries_sorted}
-use Rattle.std.proofs.lemmas.Bool.{cases_lt}
+use Rattle.std.proofs.lemmas.Bool.{false_from_ne_true, ltb-false, le-ltb}
 use Rattle.std.proofs.lemmas.List.Elements.{All-head, All-tail}
+use Rattle.std.proofs.lemmas.List.Folds.{list_any_at}
+use Rattle.std.proofs.lemmas.List.FromFn.{length-range_with_len, get_or-range_with_len}
+use Rattle.std.proofs.lemmas.List.Recursion.{or_from_places}
+use Rattle.mig_headers.specs.declared.fault.Cause.{Cause}
+use Rattle.mig_headers.specs.declared.fault.Cause.TheVariants.{TooManyFrames}
 use Rattle.mig_headers.proofs.FirstFaults.{both_none}
+use Rattle.mig_pagetypes.specs.Limits.{most_frames}
 use Rattle.mig_guest.proofs.Found.{all_found}
 use Rattle.mig_guest.proofs.KeyedMaps.{tied}
-use Rattle.mig_pvtables.specs.Faults.{first_some}
+use Rattle.mig_pvtables.specs.Faults.{first_some, first_of}
+
+pub none_of : {X : Type 0} (o : Option X) → is_some o ≡ false → o ≡ None
+none_of None is = refl
+none_of (Some x) is = let no : true ≡ false = is in cc
 
 -- ---- in a range
 
 module _ (p : ℕ → Bool) where
-  pub none_in_range : (a n : ℕ) → ((k : ℕ) → a ≤ k → k < a + n → p k ≡ false) → find p (range_with_len a n) ≡ None
-  none_in_range a zero fails = refl
-  none_in_range a (suc n) fails =
-      ap (λ b. cond b (Some a) (find p (range_with_len (a + 1) n))) (fails a (omega arith) (omega arith))
-      ∙ none_in_range (a + 1) n (λ k le lt. fails k (omega (arith, le)) (omega (arith, lt)))
+  pub any_in_range : (n : ℕ) → (list_any p (range_with_len 0 n) ≡ false) ↔ ((k : ℕ) → k < n → p k ≡ false)
+  any_in_range n =
+      let at : (k : ℕ) → k < n → p (get_or (range_with_len 0 n) k 0) ≡ p k = λ k lt. ap p (get_or-range_with_len 0 n k 0 lt ∙ omega arith) in
+      let len = length-range_with_len 0 n in (
+        (λ none k lt. false_from_ne_true (p k) (λ passes. let no : false ≡ true = sym none ∙ list_any_at p (range_with_len 0 n) k 0 (omega (arith, lt, len)) (at k lt ∙ passes) in cc)),
+        (λ fails. or_from_places (list_any p) p refl (λ x xs. refl) (range_with_len 0 n) 0 (λ k lt. let low : k < n = omega (arith, lt, len) in at k low ∙ fails k low)),
+      )
 
-  pub none_any : (a n : ℕ) → ((k : ℕ) → a ≤ k → k < a + n → p k ≡ false) → list_any p (range_with_len a n) ≡ false
-  none_any a zero fails = refl
-  none_any a (suc n) fails =
-      ap (λ b. b || list_any p (range_with_len (a + 1) n)) (fails a (omega arith) (omega arith))
-      ∙ none_any (a + 1) n (λ k le lt. fails k (omega (arith, le)) (omega (arith, lt)))
+  find_any : (xs : List ℕ) → is_some (find p xs) ≡ list_any p xs
+  find_any [] = refl
+  find_any (x ∷ xs) = elim (p x) as (λ b. is_some (cond b (Some x) (find p xs)) ≡ (b || list_any p xs)) [ true ↦ refl | false ↦ find_any xs ]
 
-  first_or_later : (a k : ℕ) → a ≤ k → p a ≡ false → (a + 1 ≤ k → p k ≡ false) → p k ≡ false
-  first_or_later a k le here later = elim (cases_lt a k) [
-    | inl less ↦ later (omega (arith, less))
-    | inr ge ↦ ap p (let e : k ≡ a = omega (arith, ge, le) in e) ∙ here
-  ]
-
-  not_case : (b : Bool) (a k : ℕ) (r : Option ℕ) → p a ≡ b → a ≤ k → (r ≡ None → a + 1 ≤ k → p k ≡ false) → cond b (Some a) r ≡ None → p k ≡ false
-  not_case true a k r here le later at = let absent : Some a ≡ None = at in cc
-  not_case false a k r here le later at = first_or_later a k le here (later at)
-
-  -- where nothing is found, no number passes
-  pub not_in_range : (a n : ℕ) → find p (range_with_len a n) ≡ None → (k : ℕ) → a ≤ k → k < a + n → p k ≡ false
-  not_in_range a zero is k le lt = absurd (omega (arith, le, lt))
-  not_in_range a (suc n) is k le lt = not_case (p a) a k (find p (range_with_len (a + 1) n)) refl le (λ at more. not_in_range (a + 1) n at k more (omega (arith, lt))) is
-
-  any_case : (b : Bool) (a k : ℕ) (r : Bool) → p a ≡ b → a ≤ k → (r ≡ false → a + 1 ≤ k → p k ≡ false) → (b || r) ≡ false → p k ≡ false
-  any_case true a k r here le later at = let absent : true ≡ false = at in cc
-  any_case false a k r here le later at = first_or_later a k le here (later at)
-
-  pub not_any : (a n : ℕ) → list_any p (range_with_len a n) ≡ false → (k : ℕ) → a ≤ k → k < a + n → p k ≡ false
-  not_any a zero is k le lt = absurd (omega (arith, le, lt))
-  not_any a (suc n) is k le lt = any_case (p a) a k (list_any p (range_with_len (a + 1) n)) refl le (λ at more. not_any (a + 1) n at k more (omega (arith, lt))) is
+  pub find_in_range : (n : ℕ) → (find p (range_with_len 0 n) ≡ None) ↔ ((k : ℕ) → k < n → p k ≡ false)
+  find_in_range n = (
+    λ none. (any_in_range n).0 (sym (find_any (range_with_len 0 n)) ∙ ap is_some none),
+    λ fails. none_of (find p (range_with_len 0 n)) (find_any (range_with_len 0 n) ∙ (any_in_range n).1 fails),
+  )
 
 -- ---- among the entries of a map
 
@@ -60,24 +53,50 @@ module _ {K X C : Type 0} {R : K → K → Ordering} (o : IsTotalOrder R) (exact
   none_list [] h = refl
   none_list (e ∷ es) h = ap (λ r. option_or r (first_some f es)) (All-head (λ e. f e ≡ None) e es h) ∙ none_list es (All-tail (λ e. f e ≡ None) e es h)
 
-  -- where f finds nothing at any entry, nothing is found
-  pub none_found : (m : FinMap R X) → ((q : K) (v : X) → maps.get m q ≡ Some v → f (q, v) ≡ None) → first_some f (maps.entries m) ≡ None
-  none_found m fails = none_list (maps.entries m) (all_found o exact (λ e. f e ≡ None) (maps.entries m) (entries_sorted m) (λ q v is. fails q v (get-entries m q ∙ is)))
-
-  some_same : (x y : X) → Some x ≡ Some y → x ≡ y
-  some_same x y e = cc
-
-  kept_case : (q : K) (e : K × X) (v : X) (b : Bool) (r : Option X) → eq_by_cmp R q e.0 ≡ b → f e ≡ None → (r ≡ Some v → f (q, v) ≡ None) → cond b (Some e.1) r ≡ Some v → f (q, v) ≡ None
-  kept_case q e v true r tie here go is =
-      ap (λ k. f (k, v)) (exact q e.0 (tied (R q e.0) tie)) ∙ ap (λ x. f (e.0, x)) (sym (some_same e.1 v is)) ∙ here
-  kept_case q e v false r tie here go is = go is
-
   not_list : (es : List (K × X)) → first_some f es ≡ None → (q : K) (v : X) → maps.find R q es ≡ Some v → f (q, v) ≡ None
-  not_list [] is q v at = let absent : None ≡ Some v = at in cc
+  not_list [] is q v at = cc
   not_list (e ∷ es) is q v at =
       let both = both_none (f e) (first_some f es) is in
-      kept_case q e v (eq_by_cmp R q e.0) (maps.find R q es) refl both.0 (not_list es both.1 q v) at
+      elim (eq_by_cmp R q e.0) as (λ b. eq_by_cmp R q e.0 ≡ b → cond b (Some e.1) (maps.find R q es) ≡ Some v → f (q, v) ≡ None) [
+        | true ↦ λ t at. let same : e.1 ≡ v = cc in let key = exact q e.0 (tied _ t) in (λ i. f (key i, sym same i)) ∙ both.0
+        | false ↦ λ t at. not_list es both.1 q v at
+      ] refl at
 
-  -- and the other way round
-  pub not_found : (m : FinMap R X) → first_some f (maps.entries m) ≡ None → (q : K) (v : X) → maps.get m q ≡ Some v → f (q, v) ≡ None
-  not_found m is q v at = not_list (maps.entries m) is q v (sym (get-entries m q) ∙ at)
+  pub first_found : (m : FinMap R X) → (first_some f (maps.entries m) ≡ None) ↔ ((q : K) (v : X) → maps.get m q ≡ Some v → f (q, v) ≡ None)
+  first_found m = (
+    λ none q v at. not_list (maps.entries m) none q v (sym (get-entries m q) ∙ at),
+    λ fails. none_list (maps.entries m) (all_found o exact (λ e. f e ≡ None) (maps.entries m) (entries_sorted m) (λ q v is. fails q v (get-entries m q ∙ is))),
+  )
+
+-- ---- along rows of causes
+
+-- no row finds anything
+abbrev pub AllNone : {C : Type 0} → List (Option C) → Type 0
+AllNone [] = ⊤
+AllNone (row ∷ rows) = (row ≡ None) × AllNone rows
+
+pub all_none : {C : Type 0} (rows : List (Option C)) → (first_of rows ≡ None) ↔ AllNone rows
+all_none [] = (λ _. tt, λ _. refl)
+all_none (row ∷ rows) = (
+  λ is. let both = both_none row (first_of rows) is in (both.0, (all_none rows).0 both.1),
+  λ all. ap (λ o. option_or o (first_of rows)) all.0 ∙ (all_none rows).1 all.1,
+)
+
+pub none_mapped : {A C : Type 0} (f : A → C) (o : Option A) → (option_map f o ≡ None) ↔ (o ≡ None)
+none_mapped f None = (λ is. refl, λ is. refl)
+none_mapped f (Some a) = (λ is. let no : Some (f a) ≡ None = is in cc, λ is. let no : Some a ≡ None = is in cc)
+
+-- the row of a part that has to be there
+pub is_there : (o : Option (List ℕ)) (c : Cause) → (cond (is_none o) (Some c) None ≡ None) ↔ IsSome o
+is_there None c = (λ is. let no : Some c ≡ None = is in cc, λ has. let no : false ≡ true = has in cc)
+is_there (Some x) c = (λ is. refl, λ has. refl)
+
+-- the row of how many frames there are
+pub are_few : (n : ℕ) → (cond (nat_lt most_frames n) (Some TooManyFrames) None ≡ None) ↔ (n ≤ most_frames)
+are_few n = (
+  elim (nat_lt most_frames n) as (λ b. nat_lt most_frames n ≡ b → cond b (Some TooManyFrames) None ≡ None → n ≤ most_frames) [
+    | true ↦ λ t is. let no : Some TooManyFrames ≡ None = is in cc
+    | false ↦ λ t is. ltb-false most_frames n t
+  ] refl,
+  λ few. ap (λ b. cond b (Some TooManyFrames) None) (le-ltb most_frames n few),
+)

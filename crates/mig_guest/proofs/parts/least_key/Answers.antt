@@ -9,6 +9,7 @@ nothing_there (Some x) h = let no = h refl in cc
 
 pub returns-in-Some-clause-least : goal.returns-in-Some-clause-least
 returns-in-Some-clause-least c = (
+  tt,
   ap is_some c.in-Some.ensures.value,
-  λ k less. nothing_there _ (λ there. sym (ap is_gt (part_total.antisymm c.in-Some.key.now k ∙ ap ordering_reverse less)) ∙ c.in-Some.ensures.least k there),
+  λ k _ less. nothing_there _ (λ there. sym (ap is_gt (part_total.antisymm c.in-Some.key.now k ∙ ap ordering_reverse less)) ∙ c.in-Some.ensures.least k there),
 )

@@ -5,11 +5,14 @@ use Rattle.std.proofs.lemmas.List.{with_items_is}
 use Rattle.std.specs.FinMap as maps
 use Rattle.mig_pagestore.specs.Pages.{spliced}
 use Rattle.mig_guest.specs.Parts.{PartMap}
-use Rattle.mig_guest.proofs.PartMaps.{got, is_some_lent, there_seen, part_at, put_seen}
+use Rattle.mig_guest.proofs.KeyedMaps.{there_seen}
+use Rattle.mig_guest.proofs.PartMaps.{items, got, is_some_lent, part_at, put_seen}
 use Rattle.mig_guest.proofs.parts.Parts.write.Goals as goal
 
 pub unwrap-part-requires : goal.unwrap-part-requires
-unwrap-part-requires c = sym (is_some_lent c.get_mut.result) ∙ ap is_some c.get_mut.ensures.value ∙ sym (there_seen c.self.inside.parts.entries c.args.self.now c.self.view_is c.args.key) ∙ c.requires.there
+unwrap-part-requires c =
+    let es = c.self.inside.parts.entries in let m = c.args.self.now in
+    sym (is_some_lent c.get_mut.result) ∙ ap is_some c.get_mut.ensures.value ∙ sym (there_seen items (part_at es) (maps.get m) (got es m c.self.view_is) c.args.key) ∙ c.requires.there
 
 pub write_over-requires : goal.write_over-requires
 write_over-requires c =
@@ -21,7 +24,7 @@ write_over-requires c =
 pub returns : goal.returns
 returns c =
     let m = c.args.self.now in let key = c.args.key in
-    let at_key : part_at c.self.inside.parts.entries m c.self.view_is key ≡ Some c.unwrap-part.result.now = sym c.get_mut.ensures.value ∙ ap option_copied_mut c.unwrap-part.ensures in
+    let at_key : part_at c.self.inside.parts.entries key ≡ Some c.unwrap-part.result.now = sym c.get_mut.ensures.value ∙ ap option_copied_mut c.unwrap-part.ensures in
     let found : maps.get m key ≡ Some c.unwrap-part.result.now.items = got c.self.inside.parts.entries m c.self.view_is key ∙ ap (option_map (λ v. v.items)) at_key in
     let written = c.write_over.ensures ∙ ap (λ p. spliced p c.args.at c.args.bytes.now) c.deref_mut.ensures.value in
     let after = with_items c.unwrap-part.result.now c.write_over.new.part in
