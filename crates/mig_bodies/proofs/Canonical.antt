@@ -1,38 +1,34 @@
 -- The canonical bodies of a well formed guest's parts of a code say these parts, in a length that their record's type has: a
 -- lemma for each shape.
-use Rattle.std.proofs.Common.{◌≡◌, ℕ, ◌+◌, ◌*◌, ◌-◌, ◌%◌, ◌<◌, ◌≤◌, ◌^◌, Bool, true, false, not, List, [], ◌∷◌, ◌++◌, length, map, replicate, nat_eq, nat_le, nat_lt, None, Some, refl, sym, ap, subst, ◌∙◌, arith, length-append, append_assoc, append-nil}
-use Rattle.std.specs.Prelude.{◌==◌, ◌&&◌, ◌||◌}
+use Rattle.std.proofs.Common.{◌≡◌, ℕ, ◌+◌, ◌*◌, ◌-◌, ◌%◌, ◌<◌, ◌≤◌, ◌^◌, Bool, true, false, not, List, [], ◌∷◌, ◌++◌, length, map, replicate, nat_le, nat_lt, None, refl, sym, ap, subst, ◌∙◌, arith, rules, length-append, append_assoc, append-nil}
+use Rattle.std.specs.Prelude.{◌==◌, ◌&&◌, ◌||◌, ⊤}
 use Rattle.std.specs.List.{All}
-use Rattle.std.proofs.lemmas.Bool.{eqb-true, eq-eqb, le-leb, leb-true, ltb-true}
-use Rattle.std.proofs.lemmas.Grind.{common_steps}
+use Rattle.std.proofs.lemmas.Bool.{and_parts, and_from, and_right, or_right, le-ltb, eqb-true, eq-eqb, le-leb, leb-true, ltb-true}
 use Rattle.std.proofs.lemmas.List.{length-replicate}
-use Rattle.std.proofs.lemmas.List.Elements.{All-nil, All-cons, All-head, All-tail}
+use Rattle.std.proofs.lemmas.List.Elements.{All-head, All-tail}
 use Rattle.byteorder.specs.Endian.{little_number, little_bytes}
 use Rattle.byteorder.specs.Numbers.{little_number-reads_back, length-bytes_low_first}
 use Rattle.mig_bytes.specs.Fields.{le32}
-use Rattle.mig_headers.specs.RecordTypes.{record_row_of, type_of_number}
 use Rattle.mig_headers.specs.Rows.{first_fault}
 use Rattle.mig_headers.specs.declared.fault.Cause.{Cause}
-use Rattle.mig_headers.specs.declared.fault.Cause.TheVariants.{VcpuId, ParamIndex}
-use Rattle.mig_headers.specs.declared.record_type.RecordType.{RecordType}
-use Rattle.mig_headers.specs.declared.record_type.RecordType.TheVariants as types
 use Rattle.mig_headers.proofs.FirstFaults.{no_fault}
 use Rattle.mig_guest.specs.declared.part_code.PartCode.{PartCode}
-use Rattle.mig_guest.specs.declared.part_code.PartCode.TheVariants.{P2mFrames, VcpuBasic, VcpuExtended, VcpuXsave, SharedInfo, Tsc, HvmContext, HvmParam, VcpuMsrs, CpuidLeaf, Msr, EmulatorPairs, EmulatorContext}
+use Rattle.mig_guest.specs.declared.part_code.PartCode.TheVariants.{P2mFrames, VcpuBasic, VcpuMsrs}
 use Rattle.mig_guest.specs.declared.part_key.PartKey.{PartKey}
 use Rattle.mig_guest.specs.Guests.{GuestOf}
 use Rattle.mig_guest.specs.PartCodes.{row_of, code_number, small_number}
-use Rattle.mig_guest.specs.Formed.{IsFormed, IsCut, gdt_ents, width_of}
-use Rattle.mig_guest.proofs.CodeParts.{parts_are, few_params}
+use Rattle.mig_guest.specs.Formed.{IsFormed, IsContent, IsCut, gdt_ents, is_policy, width_of}
+use Rattle.mig_guest.proofs.CodeParts.{parts_are, few_small}
 use Rattle.mig_guest.proofs.PartRows.{IsOf, sole}
 use Rattle.mig_guest.specs.Parts.{Part}
 use Rattle.mig_bodies.specs.declared.layout.Layout.{Layout}
-use Rattle.mig_bodies.specs.declared.shape.Shape.TheVariants.{Table}
-use Rattle.mig_bodies.specs.Layouts.{layout, fault_of_key, spelled_key, AreTableEntries, IsTableFront, IsTable, entries_text, front_text, table_text}
-use Rattle.mig_bodies.specs.Shapes.{shape_of, of_vcpu, IsShaped, fault_of_content, sole_key, named_parts, IsSingle, IsNamed, IsChain, HasBodyLength, IsRecordBody, SayAll, bodies_by_shape, contents_by_shape, parts_at, CanonicalBodiesSay}
+use Rattle.mig_bodies.specs.declared.shape.Shape.{Shape}
+use Rattle.mig_bodies.specs.declared.shape.Shape.TheVariants.{Table, Single, Named, Chain, Other}
+use Rattle.mig_bodies.specs.Layouts.{fault_of_key, spelled_key, entry_width, front_width, AreTableEntries, IsTableFront, IsTable, entries_text, front_text, table_text}
+use Rattle.mig_bodies.specs.Shapes.{shape_of, IsShaped, IsRow, fault_of_content, sole_key, named_parts, IsSingle, IsNamed, IsChain, IsRecordBody, SayAll, part_body, bodies_by_shape, contents_by_shape, parts_at, CanonicalBodiesSay}
 use Rattle.mig_bodies.proofs.Spelled.{scanned_chain}
 use Rattle.mig_bodies.proofs.TableSpelled.{table_len}
-use Rattle.mig_bodies.proofs.Rows.{all_rows}
+use Rattle.mig_bodies.proofs.Rows.{all_rows, record_allows, has_allowed}
 
 reads_back : (n x : ℕ) → x < 256 ^ n → little_number n (little_bytes n x) ≡ x
 reads_back n x small = ap (little_number n) (sym (append-nil (little_bytes n x))) ∙ little_number-reads_back n x [] small
@@ -41,229 +37,190 @@ counted_is : (n : ℕ) → n < 2 ^ 32 → le32 (little_bytes 4 n ++ replicate 4 
 unfolding le32
 counted_is n small = little_number-reads_back 4 n (replicate 4 0) small
 
-both : (a b : Bool) → (a && b) ≡ true → (a ≡ true) × (b ≡ true)
-both true b h = (refl, h)
-both false b h = cc
-
-both_hold : (a b : Bool) → a ≡ true → b ≡ true → (a && b) ≡ true
-both_hold a b e f = rw (e, f) refl
-
--- a length that the type of the code has
-has_of : (code : PartCode) (t : RecordType) (len : ℕ) → type_of_number (code_number code) ≡ Some t → (record_row_of t).allows len ≡ true → HasBodyLength code len
-has_of code t len is allowed type named = subst (λ (x : RecordType). (record_row_of x).allows len ≡ true) (some_is t type (sym is ∙ named)) allowed
-  where
-    some_is : (a b : RecordType) → Some a ≡ Some b → a ≡ b
-    some_is a b e = cc
+-- ---- what is to be shown of each row
 
 -- the numbers of a key that the row of the code has: they have so many bytes, and nothing is refused of them
 abbrev KeysFit : PartCode → ℕ → ℕ → Type 0
 KeysFit code first second = (key1 key2 : ℕ) → (row_of code).keys key1 key2 ≡ true → key1 < 2 ^ 32 → key2 < 2 ^ 32 → (key1 < 256 ^ first) × (key2 < 256 ^ second) × (fault_of_key code key1 key2 ≡ None)
 
-small_fit : (c : ℕ → Cause) (first key1 key2 : ℕ) → 4096 ≤ 256 ^ first → small_number key1 key2 ≡ true → (key1 < 256 ^ first) × (key2 < 256 ^ 0) × (first_fault ((not (small_number key1 key2), c key1) ∷ []) ≡ None)
-small_fit c first key1 key2 wide h =
-    let (low, none) = both (nat_lt key1 4096) (key2 == 0) h in
-    let small = ltb-true key1 4096 low in let zero = eqb-true key2 0 none in
-    (omega (arith, small, wide), omega (arith, zero), no_fault ((not (small_number key1 key2), c key1) ∷ []) (ap not h, tt))
+abbrev HasNoKeys : PartCode → Type 0
+HasNoKeys code = (key1 key2 : ℕ) → (row_of code).keys key1 key2 ≡ true → ((key1 == 0) && (key2 == 0)) ≡ true
 
-module _ (code : PartCode) (width : ℕ) where
-  -- ---- tables
+abbrev HasSize : PartCode → ℕ → Type 0
+HasSize code size = (width n : ℕ) → (row_of code).allows width n ≡ true → n ≡ size
 
-  module _ (l : Layout) (fit : KeysFit code l.key1_width l.key2_width) (len : (n : ℕ) → (row_of code).allows width n ≡ (n == l.value_width)) where
-    are_entries : (ps : List Part) → All (IsOf code width) ps → AreTableEntries code l (entries_text l ps) ps
-    are_entries [] h = refl
-    are_entries (p ∷ ps) h =
-        let one = All-head (IsOf code width) p ps h in
-        let fits = fit p.0.key1 p.0.key2 one.keys one.small1 one.small2 in
-        let first = little_bytes l.key1_width p.0.key1 in let second = little_bytes l.key2_width p.0.key2 in
-        let key1 = reads_back l.key1_width p.0.key1 fits.0 in let key2 = reads_back l.key2_width p.0.key2 fits.1 in (
-          first,
-          second,
-          entries_text l ps,
-          append_assoc first (second ++ p.1) (entries_text l ps) ∙ ap (λ x. first ++ x) (append_assoc second p.1 (entries_text l ps)),
-          length-bytes_low_first 0 l.key1_width p.0.key1,
-          length-bytes_low_first 0 l.key2_width p.0.key2,
-          eqb-true (length p.1) l.value_width (sym (len (length p.1)) ∙ one.len),
-          (λ i. record { code = one.number i; key1 = sym key1 i; key2 = sym key2 i }),
-          fits.2,
-          are_entries ps (All-tail (IsOf code width) p ps h),
-        )
+-- a record of the code's type may have so many bytes
+abbrev HasRoom : PartCode → ℕ → Type 0
+HasRoom code len = (record_allows code len ≡ true) × (len ≤ 2 ^ 27)
 
-    front_is : (b : Bool) (n : ℕ) → n < 2 ^ 32 → IsTableFront b (front_text b n) n
-    front_is true n small = (refl, counted_is n small)
-    front_is false n small = refl
+-- a guest has no more parts of the code than its record can have
+record HasFew (code : PartCode) : Type 0 where
+  few : (g : GuestOf) → IsFormed g → length (parts_at code g) ≤ 65536
 
-    is_table : (ps : List Part) → length ps < 2 ^ 32 → All (IsOf code width) ps → IsTable code l (table_text l ps) ps
-    is_table ps few all = record {
-      front = front_text l.counted (length ps);
-      bytes = entries_text l ps;
-      whole = refl;
-      counted = front_is l.counted (length ps) few;
-      each = are_entries ps all;
-    }
+abbrev HasFineContent : PartCode → Type 0
+HasFineContent code = (bytes : List ℕ) → IsContent code bytes → fault_of_content code bytes ≡ None
 
-  -- ---- one part
+abbrev IsCanonical : PartCode → Shape → Type 0
+IsCanonical code (Table l) = KeysFit code l.key1_width l.key2_width × HasSize code l.value_width × HasFew code × ((n : ℕ) → n ≤ 65536 → HasRoom code (front_width l + entry_width l * n))
+IsCanonical code (Single size ignored) = HasNoKeys code × HasSize code size × HasRoom code (size + ignored)
+IsCanonical code (Named second ignored skips) =
+    KeysFit code 4 second × HasFineContent code × ((width n : ℕ) → (row_of code).allows width n ≡ true → (skips ≡ true → 1 ≤ n) × HasRoom code (4 + second + ignored + n))
+IsCanonical code Chain = HasNoKeys code × ((bytes : List ℕ) → IsContent code bytes → IsCut bytes) × ((width n : ℕ) → (row_of code).allows width n ≡ true → HasRoom code n)
+IsCanonical code Other = ⊤
 
-  module _ (p : Part) (one : IsOf code width p) where
-    single_is : (size ignored : ℕ) → ((p.0.key1 == 0) && (p.0.key2 == 0)) ≡ true → length p.1 ≡ size → IsSingle code size ignored (p.1 ++ replicate ignored 0) (p ∷ [])
-    single_is size ignored keys len = record {
-      bytes = p.1;
-      behind = replicate ignored 0;
-      whole = refl;
-      bytes_len = len;
-      behind_len = length-replicate ignored 0;
-      says = ap (λ (k : PartKey). (k, p.1) ∷ []) (sole code width p one keys);
-    }
+-- a vCPU's id, or a parameter's index
+small_fits : (key1 key2 n : ℕ) → small_number key1 key2 ≡ true → 4096 ≤ n → key1 < n
+small_fits key1 key2 n h wide = let low = ltb-true key1 4096 (and_parts (nat_lt key1 4096) (key2 == 0) h).0 in omega (arith, low, wide)
 
-    -- no part of a vCPU is empty
-    said : (k : PartKey) (bytes : List ℕ) → 1 ≤ length bytes → (k, bytes) ∷ [] ≡ named_parts true k bytes
-    said k [] some = absurd (omega (arith, some))
-    said k (x ∷ xs) some = refl
+second_fits : (key1 key2 : ℕ) → small_number key1 key2 ≡ true → key2 < 1
+second_fits key1 key2 h = let none = eqb-true key2 0 (and_parts (nat_lt key1 4096) (key2 == 0) h).1 in omega (arith, none)
 
-    named_is : KeysFit code 4 0 → 1 ≤ length p.1 → fault_of_content code p.1 ≡ None → IsNamed code 0 4 true (little_bytes 4 p.0.key1 ++ ([] ++ (replicate 4 0 ++ p.1))) (p ∷ [])
-    named_is fit some fine =
-        let fits = fit p.0.key1 p.0.key2 one.keys one.small1 one.small2 in
-        let key1 = reads_back 4 p.0.key1 fits.0 in
-        let none : 0 ≡ p.0.key2 = omega (arith, fits.1) in
-        record {
-          name1 = little_bytes 4 p.0.key1;
-          name2 = [];
-          gap = replicate 4 0;
-          bytes = p.1;
-          whole = refl;
-          name1_len = refl;
-          name2_len = refl;
-          gap_len = refl;
-          named = (λ i. fault_of_key code (key1 i) (none i)) ∙ fits.2;
-          fine = fine;
-          says = (λ i. (record { code = one.number i; key1 = sym key1 i; key2 = sym none i }, p.1) ∷ []) ∙ said (spelled_key code 4 0 (little_bytes 4 p.0.key1) []) p.1 some;
-        }
+not_refused : (key1 key2 : ℕ) (c : Cause) → small_number key1 key2 ≡ true → first_fault ((not (small_number key1 key2), c) ∷ []) ≡ None
+not_refused key1 key2 c h = no_fault ((not (small_number key1 key2), c) ∷ []) (ap not h, tt)
 
-chain_is : (width : ℕ) (p : Part) → IsOf HvmContext width p → IsChain HvmContext p.1 (p ∷ [])
-chain_is width p one =
-    let cut : IsCut p.1 = one.content in
-    scanned_chain HvmContext p.1 (p ∷ []) cut.0 cut.1 (ap (λ (k : PartKey). (k, p.1) ∷ []) (sole HvmContext width p one one.keys) ∙ ap (λ (v : List ℕ). (sole_key HvmContext, v) ∷ []) (sym cut.2))
+none_fits : (key2 : ℕ) → (key2 == 0) ≡ true → key2 < 1
+none_fits key2 h = let none = eqb-true key2 0 h in omega (arith, none)
 
--- ---- bodies
+few_of_policy : (code : PartCode) → is_policy (code_number code) ≡ true → HasFew code
+few_of_policy code policy = record { few = λ g formed. formed.policies (code_number code) policy }
 
-singles : (code : PartCode) (width : ℕ) (text : Part → List ℕ) → ((p : Part) → IsOf code width p → IsRecordBody code (text p) (p ∷ [])) → (ps : List Part) → All (IsOf code width) ps → SayAll code (map text ps) (map (λ p. p ∷ []) ps)
-singles code width text one [] h = tt
-singles code width text one (p ∷ ps) h = (one p (All-head (IsOf code width) p ps h), singles code width text one ps (All-tail (IsOf code width) p ps h))
+few_of_small : (code : PartCode) → ((key1 key2 : ℕ) → (row_of code).keys key1 key2 ≡ small_number key1 key2) → HasFew code
+few_of_small code small = record { few = λ g formed. omega (arith, few_small g code small formed) }
+
+basic_fine : HasFineContent VcpuBasic
+basic_fine bytes few = no_fault (((length bytes == 5168) && nat_lt 7168 (gdt_ents bytes), _) ∷ []) (and_right (length bytes == 5168) _ (le-ltb 7168 (gdt_ents bytes) few), tt)
+
+basic_room : (n : ℕ) → (n == 5168) ≡ true → (true ≡ true → 1 ≤ n) × HasRoom VcpuBasic (8 + n)
+basic_room n h = let size = eqb-true n 5168 h in (λ _. omega (arith, size), (or_right (8 + n == 8) _ (eq-eqb (8 + n) (8 + 5168) (omega (arith, size))), omega (arith, size)))
+
+-- 1 byte or more, in all no more than a body has
+some_room : (n : ℕ) → (nat_le 1 n && nat_le n (2 ^ 27 - 8)) ≡ true → (true ≡ true → 1 ≤ n) × (nat_le 8 (8 + n) ≡ true) × (8 + n ≤ 2 ^ 27)
+some_room n h =
+    let (some, most) = and_parts (nat_le 1 n) (nat_le n (2 ^ 27 - 8)) h in let low = leb-true 1 n some in let high = leb-true n (2 ^ 27 - 8) most in
+    (λ _. low, le-leb 8 (8 + n) (omega arith), omega (arith, high))
+
+msrs_room : (width n : ℕ) → (row_of VcpuMsrs).allows width n ≡ true → (true ≡ true → 1 ≤ n) × HasRoom VcpuMsrs (8 + n)
+msrs_room width n h =
+    let (whole, sizes) = and_parts (n % 16 == 0) (nat_le 16 n && nat_le n (2 ^ 27 - 16)) h in let rest = eqb-true (n % 16) 0 whole in
+    let (some, most) = and_parts (nat_le 16 n) (nat_le n (2 ^ 27 - 16)) sizes in let least = leb-true 16 n some in let short = leb-true n (2 ^ 27 - 16) most in
+    (λ _. omega (arith, least), (and_from _ _ (le-leb 8 (8 + n) (omega arith)) (eq-eqb ((8 + n - 8) % 16) 0 (omega (arith, rest))), omega (arith, short)))
+
+all_canonical : (code : PartCode) → IsCanonical code (shape_of code)
+all_canonical P2mFrames = tt
+all_canonical _ = search (rules, arith, and_from, eqb-true, eq-eqb, le-leb, leb-true, small_fits, second_fits, not_refused, none_fits, few_of_policy, few_of_small, basic_fine, basic_room, some_room, msrs_room)
+
+-- ---- tables
+
+module _ (code : PartCode) (width : ℕ) (l : Layout) (fit : KeysFit code l.key1_width l.key2_width) (size : HasSize code l.value_width) where
+  are_entries : (ps : List Part) → All (IsOf code width) ps → AreTableEntries code l (entries_text l ps) ps
+  are_entries [] h = refl
+  are_entries (p ∷ ps) h =
+      let one = All-head (IsOf code width) p ps h in
+      let fits = fit p.0.key1 p.0.key2 one.keys one.small1 one.small2 in
+      let first = little_bytes l.key1_width p.0.key1 in let second = little_bytes l.key2_width p.0.key2 in
+      let key1 = reads_back l.key1_width p.0.key1 fits.0 in let key2 = reads_back l.key2_width p.0.key2 fits.1 in (
+        first,
+        second,
+        entries_text l ps,
+        append_assoc first (second ++ p.1) (entries_text l ps) ∙ ap (λ x. first ++ x) (append_assoc second p.1 (entries_text l ps)),
+        length-bytes_low_first 0 l.key1_width p.0.key1,
+        length-bytes_low_first 0 l.key2_width p.0.key2,
+        size width (length p.1) one.len,
+        (λ i. record { code = one.number i; key1 = sym key1 i; key2 = sym key2 i }),
+        fits.2,
+        are_entries ps (All-tail (IsOf code width) p ps h),
+      )
+
+  front_is : (b : Bool) (n : ℕ) → n < 2 ^ 32 → IsTableFront b (front_text b n) n
+  front_is true n small = (refl, counted_is n small)
+  front_is false n small = refl
+
+  is_table : (ps : List Part) → length ps < 2 ^ 32 → All (IsOf code width) ps → IsTable code l (table_text l ps) ps
+  is_table ps few all = record {
+    front = front_text l.counted (length ps);
+    bytes = entries_text l ps;
+    whole = refl;
+    counted = front_is l.counted (length ps) few;
+    each = are_entries ps all;
+  }
+
+-- ---- one part
+
+module _ (code : PartCode) (width : ℕ) (p : Part) (one : IsOf code width p) where
+  single_is : (size ignored : ℕ) → HasNoKeys code → HasSize code size → IsSingle code size ignored (p.1 ++ replicate ignored 0) (p ∷ [])
+  single_is size ignored keys sized = record {
+    bytes = p.1;
+    behind = replicate ignored 0;
+    whole = refl;
+    bytes_len = sized width (length p.1) one.len;
+    behind_len = length-replicate ignored 0;
+    says = ap (λ (k : PartKey). (k, p.1) ∷ []) (sole code width p one (keys p.0.key1 p.0.key2 one.keys));
+  }
+
+  -- a part that isn't skipped
+  said : (skips : Bool) (k : PartKey) (bytes : List ℕ) → (skips ≡ true → 1 ≤ length bytes) → (k, bytes) ∷ [] ≡ named_parts skips k bytes
+  said true k [] some = absurd (omega (arith, some refl))
+  said true k (x ∷ xs) some = refl
+  said false k bytes some = refl
+
+  named_is : (second ignored : ℕ) (skips : Bool) → KeysFit code 4 second → (skips ≡ true → 1 ≤ length p.1) → fault_of_content code p.1 ≡ None → IsNamed code second ignored skips (part_body (Named second ignored skips) p) (p ∷ [])
+  named_is second ignored skips fit some fine =
+      let fits = fit p.0.key1 p.0.key2 one.keys one.small1 one.small2 in
+      let key1 = reads_back 4 p.0.key1 fits.0 in let key2 = reads_back second p.0.key2 fits.1 in
+      record {
+        name1 = little_bytes 4 p.0.key1;
+        name2 = little_bytes second p.0.key2;
+        gap = replicate ignored 0;
+        bytes = p.1;
+        whole = refl;
+        name1_len = refl;
+        name2_len = length-bytes_low_first 0 second p.0.key2;
+        gap_len = length-replicate ignored 0;
+        named = (λ i. fault_of_key code (key1 i) (key2 i)) ∙ fits.2;
+        fine = fine;
+        says = (λ i. (record { code = one.number i; key1 = sym key1 i; key2 = sym key2 i }, p.1) ∷ []) ∙ said skips (spelled_key code 4 second (little_bytes 4 p.0.key1) (little_bytes second p.0.key2)) p.1 some;
+      }
+
+  chain_is : HasNoKeys code → IsCut p.1 → IsChain code p.1 (p ∷ [])
+  chain_is keys cut = scanned_chain code p.1 (p ∷ []) cut.0 cut.1
+      (ap (λ (k : PartKey). (k, p.1) ∷ []) (sole code width p one (keys p.0.key1 p.0.key2 one.keys)) ∙ ap (λ (v : List ℕ). (sole_key code, v) ∷ []) (sym cut.2))
+
+-- ---- bodies, by the shape of their code
+
+module _ (code : PartCode) (shape : Shape) (is : shape_of code ≡ shape) where
+  record_body : (body : List ℕ) (ps : List Part) (len : ℕ) → IsShaped shape code body ps → length body ≡ len → HasRoom code len → IsRecordBody code body ps
+  record_body body ps len says size room = record {
+    says = subst (λ s. IsShaped s code body ps) (sym is) says;
+    has = has_allowed code (length body) (subst (λ n. record_allows code n ≡ true) (sym size) room.0);
+    short = omega (arith, size, room.1);
+  }
+
+  singles : (width : ℕ) (text : Part → List ℕ) → ((p : Part) → IsOf code width p → IsRecordBody code (text p) (p ∷ [])) → (ps : List Part) → All (IsOf code width) ps → SayAll code (map text ps) (map (λ p. p ∷ []) ps)
+  singles width text one [] h = tt
+  singles width text one (p ∷ ps) h = (one p (All-head (IsOf code width) p ps h), singles width text one ps (All-tail (IsOf code width) p ps h))
 
 -- one table of all parts, where there are some
 one_table : (code : PartCode) (l : Layout) (ps : List Part) → IsRecordBody code (table_text l ps) ps → SayAll code (bodies_by_shape (Table l) ps) (contents_by_shape (Table l) ps)
 one_table code l [] h = tt
 one_table code l (p ∷ ps) h = (h, tt)
 
--- a part of so many bytes
-sized : (code : PartCode) (width size : ℕ) (p : Part) → ((n : ℕ) → (row_of code).allows width n ≡ (n == size)) → IsOf code width p → length p.1 ≡ size
-sized code width size p len one = eqb-true (length p.1) size (sym (len (length p.1)) ∙ one.len)
-
--- a part of a vCPU, with its id
-named_body : (code : PartCode) (width : ℕ) (p : Part) → shape_of code ≡ of_vcpu → IsOf code width p → KeysFit code 4 0 → 1 ≤ length p.1 → fault_of_content code p.1 ≡ None → HasBodyLength code (8 + length p.1) → length p.1 ≤ 2 ^ 27 - 8 → IsRecordBody code (little_bytes 4 p.0.key1 ++ ([] ++ (replicate 4 0 ++ p.1))) (p ∷ [])
-named_body code width p shape one fit some fine has short =
-    let size : length (little_bytes 4 p.0.key1 ++ ([] ++ (replicate 4 0 ++ p.1))) ≡ 8 + length p.1 = omega arith in
-    record { says = subst (λ s. IsShaped s code (little_bytes 4 p.0.key1 ++ ([] ++ (replicate 4 0 ++ p.1))) (p ∷ [])) (sym shape) (named_is code width p one fit some fine); has = subst (HasBodyLength code) (sym size) has; short = omega (arith, size, short) }
-
-vcpu_fit : (key1 key2 : ℕ) → small_number key1 key2 ≡ true → (key1 < 256 ^ 4) × (key2 < 256 ^ 0) × (first_fault ((not (small_number key1 key2), VcpuId key1) ∷ []) ≡ None)
-vcpu_fit key1 key2 h = small_fit (λ n. VcpuId n) 4 key1 key2 (omega arith) h
-
-basic_body : (width : ℕ) (p : Part) → IsOf VcpuBasic width p → IsRecordBody VcpuBasic (little_bytes 4 p.0.key1 ++ ([] ++ (replicate 4 0 ++ p.1))) (p ∷ [])
-basic_body width p one =
-    let size = sized VcpuBasic width 5168 p (λ _. refl) one in
-    let most : gdt_ents p.1 ≤ 7168 = one.content in
-    named_body VcpuBasic width p refl one (λ key1 key2 h _ _. vcpu_fit key1 key2 h) (omega (arith, size)) (no_fault (((length p.1 == 5168) && nat_lt 7168 (gdt_ents p.1), _) ∷ []) (not_more (length p.1 == 5168) (gdt_ents p.1) most, tt))
-    (has_of VcpuBasic types.X86PvVcpuBasic (8 + length p.1) refl (either (8 + length p.1 == 8) (8 + length p.1 == 8 + 5168) (eq-eqb (8 + length p.1) (8 + 5168) (omega (arith, size))))) (omega (arith, size))
-  where
-    not_more : (b : Bool) (n : ℕ) → n ≤ 7168 → (b && nat_lt 7168 n) ≡ false
-    not_more true n h = grind (arith, common_steps)
-    not_more false n h = refl
-
-    either : (a b : Bool) → b ≡ true → (a || b) ≡ true
-    either true b h = refl
-    either false b h = h
-
--- 1 byte or more, in all no more than a body has
-some_body : (code : PartCode) (t : RecordType) (width : ℕ) (p : Part) → shape_of code ≡ of_vcpu → type_of_number (code_number code) ≡ Some t → ((len : ℕ) → (record_row_of t).allows len ≡ nat_le 8 len) → KeysFit code 4 0 → fault_of_content code p.1 ≡ None → (nat_le 1 (length p.1) && nat_le (length p.1) (2 ^ 27 - 8)) ≡ true
-    → IsOf code width p → IsRecordBody code (little_bytes 4 p.0.key1 ++ ([] ++ (replicate 4 0 ++ p.1))) (p ∷ [])
-some_body code t width p shape is allows fit fine sizes one =
-    let (some, most) = both (nat_le 1 (length p.1)) (nat_le (length p.1) (2 ^ 27 - 8)) sizes in
-    named_body code width p shape one fit (leb-true 1 (length p.1) some) fine (has_of code t (8 + length p.1) is (allows (8 + length p.1) ∙ le-leb 8 (8 + length p.1) (omega arith))) (leb-true (length p.1) (2 ^ 27 - 8) most)
-
-msrs_body : (width : ℕ) (p : Part) → IsOf VcpuMsrs width p → IsRecordBody VcpuMsrs (little_bytes 4 p.0.key1 ++ ([] ++ (replicate 4 0 ++ p.1))) (p ∷ [])
-msrs_body width p one =
-    let (whole, sizes) = both (length p.1 % 16 == 0) (nat_le 16 (length p.1) && nat_le (length p.1) (2 ^ 27 - 16)) one.len in
-    let (some, most) = both (nat_le 16 (length p.1)) (nat_le (length p.1) (2 ^ 27 - 16)) sizes in
-    let least = leb-true 16 (length p.1) some in let short = leb-true (length p.1) (2 ^ 27 - 16) most in let rest = eqb-true (length p.1 % 16) 0 whole in
-    named_body VcpuMsrs width p refl one (λ key1 key2 h _ _. vcpu_fit key1 key2 h) (omega (arith, least)) refl
-    (has_of VcpuMsrs types.X86PvVcpuMsrs (8 + length p.1) refl (both_hold _ _ (le-leb 8 (8 + length p.1) (omega arith)) (eq-eqb ((8 + length p.1 - 8) % 16) 0 (omega (arith, rest))))) (omega (arith, short))
-
--- ---- single values, and the context
-
-pub shared_info_body : (width : ℕ) (p : Part) → IsOf SharedInfo width p → IsRecordBody SharedInfo (p.1 ++ []) (p ∷ [])
-shared_info_body width p one =
-    let size = sized SharedInfo width 4096 p (λ _. refl) one in
-    let len : length (p.1 ++ []) ≡ 4096 = length-append p.1 [] ∙ omega (arith, size) in
-    record { says = single_is SharedInfo width p one 4096 0 one.keys size; has = has_of SharedInfo types.SharedInfo (length (p.1 ++ [])) refl (eq-eqb (length (p.1 ++ [])) 4096 len); short = omega (arith, len) }
-
-pub tsc_body : (width : ℕ) (p : Part) → IsOf Tsc width p → IsRecordBody Tsc (p.1 ++ replicate 4 0) (p ∷ [])
-tsc_body width p one =
-    let size = sized Tsc width 20 p (λ _. refl) one in
-    let len : length (p.1 ++ replicate 4 0) ≡ 24 = length-append p.1 (replicate 4 0) ∙ omega (arith, size) in
-    record { says = single_is Tsc width p one 20 4 one.keys size; has = has_of Tsc types.X86TscInfo (length (p.1 ++ replicate 4 0)) refl (eq-eqb (length (p.1 ++ replicate 4 0)) 24 len); short = omega (arith, len) }
-
-pub context_body : (width : ℕ) (p : Part) → IsOf HvmContext width p → IsRecordBody HvmContext p.1 (p ∷ [])
-context_body width p one = record { says = chain_is width p one; has = has_of HvmContext types.HvmContext (length p.1) refl refl; short = leb-true (length p.1) (2 ^ 27) one.len }
-
--- ---- tables
-
-under : (n : ℕ) → n ≤ 65536 → n < 2 ^ 32
-under n few = omega (arith, few)
-
-module _ (g : GuestOf) (formed : IsFormed g) where
-  pub params_body : IsRecordBody HvmParam (table_text (layout true 8 0 8) (parts_at HvmParam g)) (parts_at HvmParam g)
-  params_body =
-      let l = layout true 8 0 8 in let ps = parts_at HvmParam g in let few : length ps ≤ 4096 = few_params g formed in
-      let says = is_table HvmParam (width_of g) l (λ key1 key2 h _ _. small_fit (λ n. ParamIndex n) 8 key1 key2 (omega arith) h) (λ _. refl) ps (omega (arith, few)) (parts_are g HvmParam formed) in
-      let len = table_len HvmParam l (all_rows HvmParam).widths (table_text l ps) ps says in
-      record { says = says; has = has_of HvmParam types.HvmParams (length (table_text l ps)) refl (le-leb 8 (length (table_text l ps)) (omega (arith, len))); short = omega (arith, len, few) }
-
-  pub leaves_body : IsRecordBody CpuidLeaf (table_text (layout false 4 4 16) (parts_at CpuidLeaf g)) (parts_at CpuidLeaf g)
-  leaves_body =
-      let l = layout false 4 4 16 in let ps = parts_at CpuidLeaf g in let few = formed.policies 17 refl in
-      let says = is_table CpuidLeaf (width_of g) l (λ key1 key2 h low1 low2. (low1, low2, refl)) (λ _. refl) ps (under _ few) (parts_are g CpuidLeaf formed) in
-      let len = table_len CpuidLeaf l (all_rows CpuidLeaf).widths (table_text l ps) ps says in
-      record {
-        says = says;
-        has = has_of CpuidLeaf types.X86CpuidPolicy (length (table_text l ps)) refl (both_hold _ _ (eq-eqb (length (table_text l ps) % 24) 0 (omega (arith, len))) (le-leb (length (table_text l ps)) (2 ^ 16 * 24) (omega (arith, len, few))));
-        short = omega (arith, len, few);
-      }
-
-  pub msr_policy_body : IsRecordBody Msr (table_text (layout false 4 0 12) (parts_at Msr g)) (parts_at Msr g)
-  msr_policy_body =
-      let l = layout false 4 0 12 in let ps = parts_at Msr g in let few = formed.policies 18 refl in
-      let says = is_table Msr (width_of g) l (λ key1 key2 h low1 low2. let zero = eqb-true key2 0 h in (low1, omega (arith, zero), refl)) (λ _. refl) ps (under _ few) (parts_are g Msr formed) in
-      let len = table_len Msr l (all_rows Msr).widths (table_text l ps) ps says in
-      record {
-        says = says;
-        has = has_of Msr types.X86MsrPolicy (length (table_text l ps)) refl (both_hold _ _ (eq-eqb (length (table_text l ps) % 16) 0 (omega (arith, len))) (le-leb (length (table_text l ps)) (2 ^ 16 * 16) (omega (arith, len, few))));
-        short = omega (arith, len, few);
-      }
-
--- ---- by the table
+by_shape : (code : PartCode) (g : GuestOf) → IsFormed g → (shape : Shape) → shape_of code ≡ shape → IsRow code shape → IsCanonical code shape → SayAll code (bodies_by_shape shape (parts_at code g)) (contents_by_shape shape (parts_at code g))
+by_shape code g formed (Table l) is row (fit, size, few, room) =
+    let ps = parts_at code g in let most = few.few g formed in
+    let says = is_table code (width_of g) l fit size ps (omega (arith, most)) (parts_are g code formed) in
+    one_table code l ps (record_body code (Table l) is (table_text l ps) ps _ says (table_len code l row.widths (table_text l ps) ps says) (room (length ps) most))
+by_shape code g formed (Single size ignored) is row (keys, sized, room) =
+    singles code (Single size ignored) is (width_of g) (part_body (Single size ignored)) (λ p one. let says = single_is code (width_of g) p one size ignored keys sized in let len = sized (width_of g) (length p.1) one.len in
+    record_body code (Single size ignored) is (part_body (Single size ignored) p) (p ∷ []) (size + ignored) says (length-append p.1 (replicate ignored 0) ∙ omega (arith, len, length-replicate {A = ℕ} ignored 0)) room) (parts_at code g) (parts_are g code formed)
+by_shape code g formed (Named second ignored skips) is row (fit, fine, room) =
+    singles code (Named second ignored skips) is (width_of g) (part_body (Named second ignored skips)) (λ p one. let fits = room (width_of g) (length p.1) one.len in
+    let says = named_is code (width_of g) p one second ignored skips fit fits.0 (fine p.1 one.content) in
+    let text = length-append (little_bytes second p.0.key2) (replicate ignored 0 ++ p.1) in
+    record_body code (Named second ignored skips) is (part_body (Named second ignored skips) p) (p ∷ []) (4 + second + ignored + length p.1) says
+    (omega (arith, text, length-append (replicate ignored 0) p.1, length-bytes_low_first 0 second p.0.key2, length-replicate {A = ℕ} ignored 0)) fits.1) (parts_at code g) (parts_are g code formed)
+by_shape code g formed Chain is row (keys, cut, room) =
+    singles code Chain is (width_of g) (part_body Chain) (λ p one. record_body code Chain is p.1 (p ∷ []) (length p.1) (chain_is code (width_of g) p one keys (cut p.1 one.content)) refl (room (width_of g) (length p.1) one.len)) (parts_at code g) (parts_are g code formed)
+by_shape code g formed Other is row shown = tt
 
 pub canonical_bodies_say : CanonicalBodiesSay
-canonical_bodies_say P2mFrames g formed = tt
-canonical_bodies_say VcpuBasic g formed = singles VcpuBasic (width_of g) _ (λ p one. basic_body (width_of g) p one) (parts_at VcpuBasic g) (parts_are g VcpuBasic formed)
-canonical_bodies_say VcpuExtended g formed =
-    singles VcpuExtended (width_of g) _ (λ p one. some_body VcpuExtended types.X86PvVcpuExtended (width_of g) p refl refl (λ _. refl) (λ key1 key2 h _ _. vcpu_fit key1 key2 h) refl one.len one) (parts_at VcpuExtended g) (parts_are g VcpuExtended formed)
-canonical_bodies_say VcpuXsave g formed =
-    singles VcpuXsave (width_of g) _ (λ p one. some_body VcpuXsave types.X86PvVcpuXsave (width_of g) p refl refl (λ _. refl) (λ key1 key2 h _ _. vcpu_fit key1 key2 h) refl one.len one) (parts_at VcpuXsave g) (parts_are g VcpuXsave formed)
-canonical_bodies_say SharedInfo g formed = singles SharedInfo (width_of g) _ (λ p one. shared_info_body (width_of g) p one) (parts_at SharedInfo g) (parts_are g SharedInfo formed)
-canonical_bodies_say Tsc g formed = singles Tsc (width_of g) _ (λ p one. tsc_body (width_of g) p one) (parts_at Tsc g) (parts_are g Tsc formed)
-canonical_bodies_say HvmContext g formed = singles HvmContext (width_of g) _ (λ p one. context_body (width_of g) p one) (parts_at HvmContext g) (parts_are g HvmContext formed)
-canonical_bodies_say HvmParam g formed = one_table HvmParam (layout true 8 0 8) (parts_at HvmParam g) (params_body g formed)
-canonical_bodies_say VcpuMsrs g formed = singles VcpuMsrs (width_of g) _ (λ p one. msrs_body (width_of g) p one) (parts_at VcpuMsrs g) (parts_are g VcpuMsrs formed)
-canonical_bodies_say CpuidLeaf g formed = one_table CpuidLeaf (layout false 4 4 16) (parts_at CpuidLeaf g) (leaves_body g formed)
-canonical_bodies_say Msr g formed = one_table Msr (layout false 4 0 12) (parts_at Msr g) (msr_policy_body g formed)
-canonical_bodies_say EmulatorPairs g formed = tt
-canonical_bodies_say EmulatorContext g formed = tt
+canonical_bodies_say code g formed = by_shape code g formed (shape_of code) refl (all_rows code) (all_canonical code)

@@ -1,16 +1,18 @@
 -- What is to be shown of each row.
-use Rattle.std.proofs.Common.{◌≡◌, ℕ, zero, suc, ◌+◌, ◌*◌, ◌%◌, ◌<◌, Bool, true, false, not, List, [], ◌∷◌, length, drop, None, refl, arith}
+use Rattle.std.proofs.Common.{◌≡◌, ℕ, zero, suc, ◌+◌, ◌*◌, ◌%◌, ◌<◌, ◌^◌, Bool, true, false, not, List, [], ◌∷◌, length, drop, None, Option, Some, refl, subst, arith, rules}
 use Rattle.std.specs.Prelude.{nat_lt, ◌&&◌, ◌==◌}
 use Rattle.std.proofs.lemmas.Grind.{common_steps}
 use Rattle.mig_headers.specs.Rows.{first_fault}
+use Rattle.mig_headers.specs.RecordTypes.{record_row_of, type_of_number}
+use Rattle.mig_headers.specs.declared.record_type.RecordType.{RecordType}
 use Rattle.mig_headers.specs.declared.fault.Cause.{Cause}
 use Rattle.mig_headers.proofs.FirstFaults.{rows_fine, no_fault, neither_some}
 use Rattle.mig_guest.specs.declared.part_code.PartCode.{PartCode}
-use Rattle.mig_guest.specs.declared.part_code.PartCode.TheVariants.{P2mFrames, VcpuBasic, VcpuExtended, VcpuXsave, SharedInfo, Tsc, HvmContext, HvmParam, VcpuMsrs, CpuidLeaf, Msr, EmulatorPairs, EmulatorContext}
-use Rattle.mig_guest.specs.PartCodes.{small_number}
+use Rattle.mig_guest.specs.declared.part_code.PartCode.TheVariants.{P2mFrames, CpuidLeaf, Msr}
+use Rattle.mig_guest.specs.PartCodes.{code_number, small_number}
 use Rattle.mig_bodies.specs.declared.layout.Layout.{Layout}
 use Rattle.mig_bodies.specs.Layouts.{layout, entry_width, front_width, fault_of_key, fault_of_entries, entry_count, fault_of_table}
-use Rattle.mig_bodies.specs.Shapes.{shape_of, IsRow, fault_of_body}
+use Rattle.mig_bodies.specs.Shapes.{shape_of, IsRow, HasBodyLength, fault_of_body}
 use Rattle.mig_bodies.proofs.TableSpelled.{length_passes}
 
 small_of : (a b : Bool) → not (a && b) ≡ false → a ≡ true
@@ -23,29 +25,12 @@ below n h = grind (arith, common_steps)
 pub below_4096 : (key1 key2 : ℕ) (c : Cause) → first_fault ((not (small_number key1 key2), c) ∷ []) ≡ None → key1 < 4096
 below_4096 key1 key2 c fine = below key1 (small_of (nat_lt key1 4096) (key2 == 0) (rows_fine ((not (small_number key1 key2), c) ∷ []) fine).0)
 
+low_name : (key1 key2 : ℕ) (c : Cause) → first_fault ((not (small_number key1 key2), c) ∷ []) ≡ None → key1 < 2 ^ 32
+low_name key1 key2 c fine = let low = below_4096 key1 key2 c fine in omega (arith, low)
+
 pub all_rows : (code : PartCode) → IsRow code (shape_of code)
 all_rows P2mFrames = tt
-all_rows VcpuBasic = (omega arith, omega arith, refl)
-all_rows VcpuExtended = (omega arith, omega arith, refl)
-all_rows VcpuXsave = (omega arith, omega arith, refl)
-all_rows SharedInfo = (omega arith, refl)
-all_rows Tsc = (omega arith, refl)
-all_rows HvmContext = tt
-all_rows HvmParam = record {
-  widths = record { some = omega arith; first = omega arith; second = omega arith; value = omega arith };
-  small = λ key1 key2 low1 low2 fine. let h = below_4096 key1 key2 _ fine in (omega (arith, h), omega (arith, low2));
-}
-all_rows VcpuMsrs = (omega arith, omega arith, refl)
-all_rows CpuidLeaf = record {
-  widths = record { some = omega arith; first = omega arith; second = omega arith; value = omega arith };
-  small = λ key1 key2 low1 low2 fine. (low1, low2);
-}
-all_rows Msr = record {
-  widths = record { some = omega arith; first = omega arith; second = omega arith; value = omega arith };
-  small = λ key1 key2 low1 low2 fine. (low1, omega (arith, low2));
-}
-all_rows EmulatorPairs = tt
-all_rows EmulatorContext = tt
+all_rows _ = search (rules, arith, low_name)
 
 -- ---- tables of which no key is refused
 
@@ -61,3 +46,19 @@ whole_leaves body h = whole_table CpuidLeaf (layout false 4 4 16) (λ _ _. refl)
 
 pub whole_msrs : (body : List ℕ) → length body % 16 ≡ 0 → fault_of_body Msr body ≡ None
 whole_msrs body h = whole_table Msr (layout false 4 0 12) (λ _ _. refl) body (omega (arith, h))
+
+-- ---- the lengths of the records
+
+-- whether the record of a code's type may have this length
+abbrev pub allowed_in : Option RecordType → ℕ → Bool
+allowed_in None len = true
+allowed_in (Some type) len = (record_row_of type).allows len
+
+abbrev pub record_allows : PartCode → ℕ → Bool
+record_allows code len = allowed_in (type_of_number (code_number code)) len
+
+pub is_allowed : (code : PartCode) (len : ℕ) → HasBodyLength code len → record_allows code len ≡ true
+is_allowed code len has = elim (type_of_number (code_number code)) as (λ o. type_of_number (code_number code) ≡ o → allowed_in o len ≡ true) [ None ↦ λ _. refl | Some type ↦ λ is. has type is ] refl
+
+pub has_allowed : (code : PartCode) (len : ℕ) → record_allows code len ≡ true → HasBodyLength code len
+has_allowed code len allowed type is = subst (λ o. allowed_in o len ≡ true) is allowed

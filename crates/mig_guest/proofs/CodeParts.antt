@@ -1,8 +1,8 @@
 -- The parts of a code that a well formed guest has: each by its row, and how many there are at most.
 use Rattle.std.proofs.Common.{◌≡◌, ℕ, ◌+◌, ◌≤◌, ◌<◌, List, [], ◌∷◌, length, true, refl, sym, ap, subst, ◌∙◌, arith}
-use Rattle.std.specs.Prelude.{T, ◌==◌, ◌&&◌}
+use Rattle.std.specs.Prelude.{T, nat_lt, ◌==◌, ◌&&◌}
 use Rattle.std.proofs.lemmas.Bool.{and_parts, eqb-true, ltb-true}
-use Rattle.std.proofs.lemmas.Cmp.{ranked}
+use Rattle.std.proofs.lemmas.Cmp.{nat_cmp_total, ranked, tied_itself}
 use Rattle.std.proofs.lemmas.List.Elements.{All-nil, All-cons, All-head, All-tail, All-filter, filter_passes}
 use Rattle.std.specs.List.{All}
 use Rattle.std.specs.Ordering.{is_lt, nat_cmp, ordering_then}
@@ -12,12 +12,11 @@ use Rattle.std.specs.FinMap as maps
 use Rattle.std.specs.FinMap.{is_sorted}
 use Rattle.std.specs.FinMap.Entries.{below_all, is_sorted-where_key}
 use Rattle.mig_guest.specs.declared.part_code.PartCode.{PartCode}
-use Rattle.mig_guest.specs.declared.part_code.PartCode.TheVariants.{Tsc, HvmContext, HvmParam}
+use Rattle.mig_guest.specs.declared.part_code.PartCode.TheVariants.{Tsc, HvmContext}
 use Rattle.mig_guest.specs.Formed.{IsPart, IsFormed, width_of}
 use Rattle.mig_guest.specs.Guests.{GuestOf}
 use Rattle.mig_guest.specs.Order.{part_cmp}
-use Rattle.mig_guest.specs.PartCodes.{code_number, row_of}
-use Rattle.mig_guest.specs.PartKeys.{param_key}
+use Rattle.mig_guest.specs.PartCodes.{code_number, row_of, small_number}
 use Rattle.mig_guest.specs.Parts.{Part, parts_of}
 use Rattle.mig_guest.proofs.Found.{all_found}
 use Rattle.mig_guest.proofs.PartCursor.{both_of, not_itself}
@@ -58,12 +57,13 @@ module _ (code : PartCode) (width limit : ℕ) (number : Part → ℕ) (low : (p
 in_order : (g : GuestOf) (code : PartCode) → T (is_sorted part_cmp (held_in code g))
 in_order g code = is_sorted-where_key part_cmp (λ k. k.code == code_number code) (maps.entries g.parts) (maps.entries_sorted g.parts)
 
-pub few_params : (g : GuestOf) → IsFormed g → length (held_in HvmParam g) ≤ 4096
-few_params g formed = few_rows HvmParam (width_of g) 4096 (λ p. p.0.key1) (λ p one. (is_param p one).0) rises (held_in HvmParam g) (in_order g HvmParam) (parts_are g HvmParam formed)
+-- a code whose parts have one small number each
+pub few_small : (g : GuestOf) (code : PartCode) → ((key1 key2 : ℕ) → (row_of code).keys key1 key2 ≡ small_number key1 key2) → IsFormed g → length (held_in code g) ≤ 4096
+few_small g code small formed = few_rows code (width_of g) 4096 (λ p. p.0.key1) (λ p one. (is_small p one).0) rises (held_in code g) (in_order g code) (parts_are g code formed)
   where
-    is_param : (p : Part) → IsOf HvmParam (width_of g) p → (p.0.key1 < 4096) × (p.0 ≡ param_key p.0.key1)
-    is_param p one =
-        let (low, none) = and_parts _ (p.0.key2 == 0) one.keys in let key2 = eqb-true p.0.key2 0 none in
+    is_small : (p : Part) → IsOf code (width_of g) p → (p.0.key1 < 4096) × (p.0 ≡ record { code = code_number code; key1 = p.0.key1; key2 = 0 })
+    is_small p one =
+        let (low, none) = and_parts (nat_lt p.0.key1 4096) (p.0.key2 == 0) (sym (small p.0.key1 p.0.key2) ∙ one.keys) in let key2 = eqb-true p.0.key2 0 none in
         (ltb-true p.0.key1 4096 low, λ i. record { code = one.number i; key1 = p.0.key1; key2 = key2 i })
 
     by : (i j : ℕ) (r : Ordering) → nat_cmp i j ≡ r → T (is_lt (ordering_then r Equal)) → i < j
@@ -71,8 +71,11 @@ few_params g formed = few_rows HvmParam (width_of g) 4096 (λ p. p.0.key1) (λ p
     by i j Equal is t = absurd t
     by i j Greater is t = absurd t
 
-    rises : (p q : Part) → IsOf HvmParam (width_of g) p → IsOf HvmParam (width_of g) q → T (is_lt (part_cmp p.0 q.0)) → p.0.key1 < q.0.key1
-    rises p q one two less = by p.0.key1 q.0.key1 (nat_cmp p.0.key1 q.0.key1) refl (subst T (λ i. is_lt (part_cmp ((is_param p one).1 i) ((is_param q two).1 i))) less)
+    rises : (p q : Part) → IsOf code (width_of g) p → IsOf code (width_of g) q → T (is_lt (part_cmp p.0 q.0)) → p.0.key1 < q.0.key1
+    rises p q one two less =
+        let compared = nat_cmp p.0.key1 q.0.key1 in
+        let same = (λ i. is_lt (part_cmp ((is_small p one).1 i) ((is_small q two).1 i))) ∙ ap (λ r. is_lt (ordering_then r (ordering_then compared Equal))) (tied_itself nat_cmp_total (code_number code)) in
+        by p.0.key1 q.0.key1 compared refl (subst T same less)
 
 -- a code with one key has one part
 one_of : (g : GuestOf) (code : PartCode) → ((p : Part) → IsOf code (width_of g) p → ((p.0.key1 == 0) && (p.0.key2 == 0)) ≡ true) → IsFormed g → length (held_in code g) ≤ 1
