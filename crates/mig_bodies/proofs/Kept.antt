@@ -1,6 +1,6 @@
 -- What a body says are parts that a guest of its kind may have, a lemma for each shape; and so reading it keeps a guest well
 -- formed.
-use Rattle.std.proofs.Common.{◌≡◌, ℕ, ◌+◌, ◌*◌, ◌-◌, ◌/◌, ◌%◌, ◌≤◌, ◌^◌, Bool, true, false, not, List, [], ◌∷◌, ◌++◌, length, take, replicate, nat_le, nat_lt, None, Ok, refl, sym, ap, subst, ◌∙◌, inl, inr, arith, rules, length-append, length-take-le}
+use Rattle.std.proofs.Common.{◌≡◌, ℕ, ◌+◌, ◌*◌, ◌-◌, ◌/◌, ◌%◌, ◌<◌, ◌≤◌, ◌^◌, Bool, true, false, not, List, [], ◌∷◌, ◌++◌, length, take, replicate, nat_le, nat_lt, None, Ok, refl, sym, ap, subst, ◌∙◌, inl, inr, arith, rules, length-append, length-take-le}
 use Rattle.std.specs.Prelude.{◌==◌, ◌&&◌, ◌||◌, ⊤}
 use Rattle.std.specs.List.{AllByRecursion}
 use Rattle.std.proofs.lemmas.Bool.{and_parts, and_from, or_cases, not-false, eqb-true, eq-eqb, leb-true, le-leb, ltb-false}
@@ -25,11 +25,12 @@ use Rattle.mig_guest.proofs.Kept.{parts_keep, policies_keep, parts_plain, polici
 use Rattle.mig_bodies.specs.declared.layout.Layout.{Layout}
 use Rattle.mig_bodies.specs.declared.shape.Shape.{Shape}
 use Rattle.mig_bodies.specs.declared.shape.Shape.TheVariants.{Table, Single, Named, Chain, Other}
-use Rattle.mig_bodies.specs.Layouts.{layout, fault_of_key, spelled_key, IsSmallKey, IsTable}
-use Rattle.mig_bodies.specs.Shapes.{shape_of, has_shape, parts_of_body, fault_of_content, named_parts, IsShaped, IsNamed, sole_key, IsBody, HasBodyLength, BodiesSayParts, set_parts, BodiesKeepFormed}
-use Rattle.mig_bodies.proofs.Spelled.{bodies_are_spelled, chain_scanned}
-use Rattle.mig_bodies.proofs.TableSpelled.{entries_len}
-use Rattle.mig_bodies.proofs.Reading.{table_all}
+use Rattle.mig_bodies.specs.Layouts.{front_width, entry_width, fault_of_key, spelled_key, IsSmallKey, IsTable}
+use Rattle.mig_bodies.specs.Shapes.{shape_of, has_shape, parts_of_body, parts_by_shape, IsRow, fault_of_content, named_parts, IsShaped, IsNamed, sole_key, IsBody, HasBodyLength, BodiesSayParts, set_parts, BodiesKeepFormed}
+use Rattle.mig_bodies.proofs.Spelled.{chain_scanned}
+use Rattle.mig_bodies.proofs.TableSpelled.{table_len}
+use Rattle.mig_bodies.proofs.Reading.{table_all, set_empty}
+use Rattle.mig_bodies.proofs.Rows.{small_keys, all_rows, record_allows, is_allowed}
 
 -- ---- what is to be shown of each row
 
@@ -54,9 +55,6 @@ SaysParts code (Single size ignored) = ((row_of code).keys 0 0 ≡ true) × HasS
 SaysParts code (Named second ignored skips) = HasKeys code second × HasLengths code (4 + second + ignored) skips × HasContent code
 SaysParts code Chain = ((row_of code).keys 0 0 ≡ true) × ((width n : ℕ) → n ≤ 2 ^ 27 → (row_of code).allows width n ≡ true) × ((bytes : List ℕ) → IsCut bytes → IsContent code bytes)
 SaysParts code Other = ⊤
-
-small_keys : (key1 key2 : ℕ) (c : Cause) → first_fault ((not (small_number key1 key2), c) ∷ []) ≡ None → small_number key1 key2 ≡ true
-small_keys key1 key2 c fine = not-false (small_number key1 key2) (rows_fine ((not (small_number key1 key2), c) ∷ []) fine).0
 
 basic_lengths : HasLengths VcpuBasic 8 true
 basic_lengths len has short some width = by (or_cases (8 + len == 8) (8 + len == 8 + 5168) (has types.X86PvVcpuBasic refl))
@@ -130,19 +128,35 @@ module _ (code : PartCode) (kind : Kind) (width : ℕ) (of_kind : (row_of code).
 pub bodies_say_parts : BodiesSayParts
 bodies_say_parts code kind width body ps of_kind has short h small = says_parts code kind width of_kind (shape_of code) (all_say code) body ps has short h small
 
--- a policy has no more entries than its record can have
-pub few_of_policy : (code : PartCode) (body : List ℕ) (ps : List Part) → is_policy (code_number code) ≡ true → HasBodyLength code (length body) → IsBody code body ps → length ps ≤ 65536
-few_of_policy CpuidLeaf body ps policy has h =
-    let (fine, same) = (bodies_are_spelled CpuidLeaf body ps refl).1 h in
-    let most = leb-true (length body) (2 ^ 16 * 24) (and_parts _ _ (has types.X86CpuidPolicy refl)).1 in
-    let count : length ps ≡ length body / 24 = ap length (sym same) ∙ entries_len CpuidLeaf (layout false 4 4 16) (length body / 24) body in
-    omega (arith, most, count)
-few_of_policy Msr body ps policy has h =
-    let (fine, same) = (bodies_are_spelled Msr body ps refl).1 h in
-    let most = leb-true (length body) (2 ^ 16 * 16) (and_parts _ _ (has types.X86MsrPolicy refl)).1 in
-    let count : length ps ≡ length body / 16 = ap length (sym same) ∙ entries_len Msr (layout false 4 0 12) (length body / 16) body in
-    omega (arith, most, count)
-few_of_policy _ body ps policy has h = cc
+-- ---- policies
+
+-- a record of a policy can't have more entries
+abbrev HasNoMore : PartCode → Shape → Type 0
+HasNoMore code (Table l) = (n : ℕ) → record_allows code (front_width l + entry_width l * n) ≡ true → n ≤ 65536
+HasNoMore code _ = ⊤
+
+most_24 : (n : ℕ) → (((0 + 24 * n) % 24 == 0) && nat_le (0 + 24 * n) (2 ^ 16 * 24)) ≡ true → n ≤ 65536
+most_24 n h = let most = leb-true (0 + 24 * n) (2 ^ 16 * 24) (and_parts ((0 + 24 * n) % 24 == 0) _ h).1 in omega (arith, most)
+
+most_16 : (n : ℕ) → (((0 + 16 * n) % 16 == 0) && nat_le (0 + 16 * n) (2 ^ 16 * 16)) ≡ true → n ≤ 65536
+most_16 n h = let most = leb-true (0 + 16 * n) (2 ^ 16 * 16) (and_parts ((0 + 16 * n) % 16 == 0) _ h).1 in omega (arith, most)
+
+no_policy : (n : ℕ) → false ≡ true → n ≤ 65536
+no_policy n h = cc
+
+no_more : (code : PartCode) → is_policy (code_number code) ≡ true → HasNoMore code (shape_of code)
+no_more P2mFrames policy = tt
+no_more _ policy = search (rules, arith, most_24, most_16, no_policy)
+
+few_of_policy : (code : PartCode) (body : List ℕ) (ps : List Part) → is_policy (code_number code) ≡ true → HasBodyLength code (length body) → IsBody code body ps → length ps ≤ 65536
+few_of_policy code body ps policy has h = by (shape_of code) (all_rows code) (no_more code policy) h
+  where
+    by : (shape : Shape) → IsRow code shape → HasNoMore code shape → IsShaped shape code body ps → length ps ≤ 65536
+    by (Table l) row more h = more (length ps) (subst (λ n. record_allows code n ≡ true) (table_len code l row.widths body ps h) (is_allowed code (length body) has))
+    by (Single size ignored) row more h = omega (arith, ap length h.says)
+    by (Named second ignored skips) row more h = let no : false ≡ true = sym row.2 ∙ policy in cc
+    by Chain row more h = omega (arith, ap length h.says)
+    by Other row more h = absurd h
 
 pub bodies_keep_formed : BodiesKeepFormed
 bodies_keep_formed code g body ps of_kind has short h small formed = which (is_policy (code_number code)) refl
@@ -164,7 +178,8 @@ set_plain code kind width plain m ps are before = which (is_policy (code_number 
 
 -- a body of its own sets nothing here
 pub sets_nothing : (code : PartCode) (body : List ℕ) → has_shape (shape_of code) ≡ false → (m : PartMap) → set_parts code m (parts_of_body code body) ≡ m
-sets_nothing P2mFrames body other m = refl
-sets_nothing EmulatorPairs body other m = refl
-sets_nothing EmulatorContext body other m = refl
-sets_nothing _ body other m = cc
+sets_nothing code body other m = by (shape_of code) other
+  where
+    by : (shape : Shape) → has_shape shape ≡ false → set_parts code m (parts_by_shape shape code body) ≡ m
+    by Other h = set_empty code m
+    by _ h = cc

@@ -1,5 +1,5 @@
 -- Entries one after another, as a loop goes over them: the first, and the others behind it.
-use Rattle.std.proofs.Common.{◌≡◌, ◌≢◌, ◌<◌, ◌≤◌, ℕ, zero, suc, ◌+◌, ◌*◌, ◌-◌, ◌^◌, Bool, true, false, List, [], ◌∷◌, length, drop, Some, None, Result, Ok, Err, refl, sym, ap, subst, ◌∙◌, arith, length-drop}
+use Rattle.std.proofs.Common.{◌≡◌, ◌≢◌, ◌<◌, ◌≤◌, ℕ, zero, suc, ◌+◌, ◌*◌, ◌-◌, ◌^◌, Bool, true, false, cond, not, ◌==◌, List, [], ◌∷◌, length, drop, Some, None, Result, Ok, Err, refl, sym, ap, subst, ◌∙◌, arith, length-drop}
 use Rattle.std.proofs.Math.Nat.{mul-suc, pow-le-pow_right}
 use Rattle.std.proofs.lemmas.List.{get_or-drop}
 use Rattle.std.specs.List.{AllByRecursion}
@@ -14,13 +14,13 @@ use Rattle.mig_guest.specs.declared.part_code.PartCode.{PartCode}
 use Rattle.mig_guest.specs.declared.part_key.PartKey.{PartKey}
 use Rattle.mig_guest.specs.Guests.{GuestOf}
 use Rattle.mig_guest.specs.PartCodes.{code_number}
-use Rattle.mig_guest.specs.Parts.{Part, PartMap, put_part, put_parts}
+use Rattle.mig_guest.specs.Parts.{Part, PartMap, put_part, put_parts, replace_code}
 use Rattle.mig_guest.proofs.PartSets.{put_other, puts_other, cleared_other}
 use Rattle.mig_bodies.specs.declared.layout.Layout.{Layout}
 use Rattle.mig_bodies.specs.Layouts.{IsLayout, IsSmallKey, entry_width, front_width, AreTableEntries, key_in, entry_part, entry_parts, fault_of_key, fault_of_entry, fault_of_entries, fault_of_table, entry_count, parts_of_table}
 use Rattle.mig_guest.specs.Formed.{is_policy}
 use Rattle.mig_bodies.specs.Shapes.{cleared, set_parts, named_parts}
-use Rattle.mig_bodies.proofs.TableSpelled.{length_fault, length_is}
+use Rattle.mig_bodies.proofs.TableSpelled.{fine_table}
 
 -- the bytes of memory
 abbrev pub AreOctets : List ℕ → Type 0
@@ -31,6 +31,9 @@ behind n bytes h k = subst (λ b. b < 256) (sym (get_or-drop n bytes k 0)) (h (n
 
 next : (m : ℕ) → m + 1 ≡ suc m
 next m = omega arith
+
+pub set_empty : (code : PartCode) (m : PartMap) → set_parts code m [] ≡ m
+set_empty code m = elim (is_policy (code_number code)) as (λ b. cond b m m ≡ m) [ true ↦ refl | false ↦ refl ]
 
 module _ (code : PartCode) (l : Layout) where
   -- where n is one more than m: n entries are the first, and m behind it
@@ -75,18 +78,12 @@ module _ (code : PartCode) (l : Layout) where
   -- parts set in place of all of a policy, where there are some
   pub set_some : (n : ℕ) (m : PartMap) (bytes : List ℕ) → n ≢ 0 → put_parts (cleared code m) (entry_parts code l n bytes) ≡ set_parts code m (entry_parts code l n bytes)
   set_some zero m bytes some = absurd (some refl)
-  set_some (suc n) m bytes some = by (is_policy (code_number code)) refl
-    where
-      by : (b : Bool) → is_policy (code_number code) ≡ b → put_parts (cleared code m) (entry_parts code l (suc n) bytes) ≡ set_parts code m (entry_parts code l (suc n) bytes)
-      by true is = rw is refl
-      by false is = rw is refl
+  set_some (suc n) m bytes some =
+      let ps = entry_parts code l (suc n) bytes in
+      elim (is_policy (code_number code)) as (λ b. put_parts (cond b (maps.retain_keys m (λ k. not (k.code == code_number code))) m) ps ≡ cond b (replace_code (code_number code) m ps) (put_parts m ps)) [ true ↦ refl | false ↦ refl ]
 
   pub set_none : (n : ℕ) (m : PartMap) (bytes : List ℕ) → n ≡ 0 → m ≡ set_parts code m (entry_parts code l n bytes)
-  set_none n m bytes none = by (is_policy (code_number code)) refl ∙ ap (λ k. set_parts code m (entry_parts code l k bytes)) (sym none)
-    where
-      by : (b : Bool) → is_policy (code_number code) ≡ b → m ≡ set_parts code m []
-      by true is = rw is refl
-      by false is = rw is refl
+  set_none n m bytes none = sym (ap (λ k. set_parts code m (entry_parts code l k bytes)) none ∙ set_empty code m)
 
   pub none_counted : (n : ℕ) (bytes : List ℕ) → entry_parts code l n bytes ≡ [] → n ≡ 0
   none_counted zero bytes is = refl
@@ -108,23 +105,15 @@ module _ (code : PartCode) (l : Layout) where
       → key1 < 256 ^ l.key1_width → key2 < 256 ^ l.key2_width → fault_of_entry code l bytes ≡ None → (key1 < 2 ^ 32) × (key2 < 2 ^ 32)
   small_entry ok bytes key1 key2 one two low1 low2 fine = ok.small key1 key2 low1 low2 ((λ i. fault_of_key code (one i) (two i)) ∙ fine)
 
-  module _ (body : List ℕ) (fine : fault_of_table code l body ≡ None) where
-    pub fine_entries : (length body ≡ front_width l + entry_width l * entry_count l body) × (fault_of_entries code l (entry_count l body) (drop (front_width l) body) ≡ None)
-    fine_entries =
-        let wanted = front_width l + entry_width l * entry_count l body in
-        let both = both_none (length_fault (length body) wanted) (fault_of_entries code l (entry_count l body) (drop (front_width l) body)) fine in
-        (length_is (length body) wanted both.0, both.1)
-
-    -- the parts of a body in memory have keys of 32 bits
-    pub small_table : IsLayout code l → AreOctets body → AllByRecursion (λ p. IsSmallKey p.0) (parts_of_table code l body)
-    small_table ok h = small_entries ok (entry_count l body) (drop (front_width l) body) (behind (front_width l) body h) fine_entries.1
+  -- the parts of a body in memory have keys of 32 bits
+  pub small_table : (body : List ℕ) → fault_of_table code l body ≡ None → IsLayout code l → AreOctets body → AllByRecursion (λ p. IsSmallKey p.0) (parts_of_table code l body)
+  small_table body fine ok h = small_entries ok (entry_count l body) (drop (front_width l) body) (behind (front_width l) body h) (fine_table code l body fine).1
 
 pub cleared_keeps : (code : PartCode) (m : PartMap) (q : PartKey) → q.code ≢ code_number code → maps.get (cleared code m) q ≡ maps.get m q
-cleared_keeps code m q differ = by (is_policy (code_number code)) refl
-  where
-    by : (b : Bool) → is_policy (code_number code) ≡ b → maps.get (cleared code m) q ≡ maps.get m q
-    by true is = rw is (cleared_other (code_number code) m q differ)
-    by false is = rw is refl
+cleared_keeps code m q differ = elim (is_policy (code_number code)) as (λ b. maps.get (cond b (maps.retain_keys m (λ k. not (k.code == code_number code))) m) q ≡ maps.get m q) [
+  | true ↦ cleared_other (code_number code) m q differ
+  | false ↦ refl
+]
 
 -- ---- one part
 

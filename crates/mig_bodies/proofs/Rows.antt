@@ -1,7 +1,7 @@
 -- What is to be shown of each row.
 use Rattle.std.proofs.Common.{◌≡◌, ℕ, zero, suc, ◌+◌, ◌*◌, ◌%◌, ◌<◌, ◌^◌, Bool, true, false, not, List, [], ◌∷◌, length, drop, None, Option, Some, refl, subst, arith, rules}
 use Rattle.std.specs.Prelude.{nat_lt, ◌&&◌, ◌==◌}
-use Rattle.std.proofs.lemmas.Grind.{common_steps}
+use Rattle.std.proofs.lemmas.Bool.{and_parts, not-false, ltb-true}
 use Rattle.mig_headers.specs.Rows.{first_fault}
 use Rattle.mig_headers.specs.RecordTypes.{record_row_of, type_of_number}
 use Rattle.mig_headers.specs.declared.record_type.RecordType.{RecordType}
@@ -15,18 +15,11 @@ use Rattle.mig_bodies.specs.Layouts.{layout, entry_width, front_width, fault_of_
 use Rattle.mig_bodies.specs.Shapes.{shape_of, IsRow, HasBodyLength, fault_of_body}
 use Rattle.mig_bodies.proofs.TableSpelled.{length_passes}
 
-small_of : (a b : Bool) → not (a && b) ≡ false → a ≡ true
-small_of true b h = refl
-small_of false b h = cc
-
-below : (n : ℕ) → nat_lt n 4096 ≡ true → n < 4096
-below n h = grind (arith, common_steps)
-
-pub below_4096 : (key1 key2 : ℕ) (c : Cause) → first_fault ((not (small_number key1 key2), c) ∷ []) ≡ None → key1 < 4096
-below_4096 key1 key2 c fine = below key1 (small_of (nat_lt key1 4096) (key2 == 0) (rows_fine ((not (small_number key1 key2), c) ∷ []) fine).0)
+pub small_keys : (key1 key2 : ℕ) (c : Cause) → first_fault ((not (small_number key1 key2), c) ∷ []) ≡ None → small_number key1 key2 ≡ true
+small_keys key1 key2 c fine = not-false (small_number key1 key2) (rows_fine ((not (small_number key1 key2), c) ∷ []) fine).0
 
 low_name : (key1 key2 : ℕ) (c : Cause) → first_fault ((not (small_number key1 key2), c) ∷ []) ≡ None → key1 < 2 ^ 32
-low_name key1 key2 c fine = let low = below_4096 key1 key2 c fine in omega (arith, low)
+low_name key1 key2 c fine = let low = ltb-true key1 4096 (and_parts (nat_lt key1 4096) (key2 == 0) (small_keys key1 key2 c fine)).0 in omega (arith, low)
 
 pub all_rows : (code : PartCode) → IsRow code (shape_of code)
 all_rows P2mFrames = tt

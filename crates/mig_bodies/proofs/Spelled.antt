@@ -2,7 +2,7 @@
 use Rattle.std.proofs.Common.{◌≡◌, ℕ, ◌+◌, ◌≤◌, Bool, true, false, List, [], ◌∷◌, ◌++◌, length, take, drop, nat_lt, Option, Some, None, Result, Ok, Err, refl, sym, ap, ◌∙◌, arith, length-append, length-drop, length-take-le, take-append-drop, drop-drop, drop_at}
 use Rattle.std.specs.Prelude.{◌↔◌}
 use Rattle.std.specs.Option.{option_or}
-use Rattle.std.proofs.lemmas.Grind.{common_steps}
+use Rattle.std.proofs.lemmas.Bool.{ltb-false, le-ltb}
 use Rattle.std.proofs.lemmas.List.{take_at}
 use Rattle.byteorder.specs.Endian.{little_number}
 use Rattle.mig_headers.specs.declared.fault.Cause.{Cause}
@@ -19,14 +19,8 @@ use Rattle.mig_bodies.specs.declared.shape.Shape.{Shape}
 use Rattle.mig_bodies.specs.declared.shape.Shape.TheVariants.{Table, Single, Named, Chain, Other}
 use Rattle.mig_bodies.specs.Layouts.{fault_of_key}
 use Rattle.mig_bodies.specs.Shapes.{shape_of, sole_key, named_parts, IsSingle, IsNamed, IsChain, IsShaped, IsRow, fault_of_content, fault_of_scan, cut, fault_by_shape, parts_by_shape, has_shape, BodiesAreSpelled, BodiesSayOne}
-use Rattle.mig_bodies.proofs.TableSpelled.{number_first, length_is, length_passes, table_forth, table_back}
+use Rattle.mig_bodies.proofs.TableSpelled.{Cut, cut_of, behind_value, first_number, second_number, size_is, length_is, length_passes, table_forth, table_back}
 use Rattle.mig_bodies.proofs.Rows.{all_rows}
-
-long_of : (n m : ℕ) → nat_lt n m ≡ false → m ≤ n
-long_of n m h = grind (arith, common_steps)
-
-long_passes : (n m : ℕ) → m ≤ n → nat_lt n m ≡ false
-long_passes n m h = grind (arith, common_steps)
 
 module _ (code : PartCode) (body : List ℕ) (ps : List Part) where
   -- ---- single values
@@ -61,23 +55,17 @@ module _ (code : PartCode) (body : List ℕ) (ps : List Part) where
         let key = fault_of_key code (little_number 4 body) (little_number second (drop 4 body)) in
         let both = both_none short_fault (option_or key content) fine in
         let named = both_none key content both.1 in
-        let long = long_of (length body) (4 + second + ignored) (rows_fine ((nat_lt (length body) (4 + second + ignored), BadLength (length body)) ∷ []) both.0).0 in
-        let a = take 4 body in let b = take second (drop 4 body) in let i = take ignored (drop (4 + second) body) in
-        let a_len : length a ≡ 4 = length-take-le 4 body (omega (arith, long)) in
-        let b_len : length b ≡ second = length-take-le second (drop 4 body) (omega (arith, long, length-drop 4 body)) in
-        let n1 : little_number 4 body ≡ little_number 4 a = ap (little_number 4) (sym (take-append-drop 4 body)) ∙ number_first 4 a (drop 4 body) a_len in
-        let n2 : little_number second (drop 4 body) ≡ little_number second b = ap (little_number second) (sym (take-append-drop second (drop 4 body))) ∙ number_first second b (drop second (drop 4 body)) b_len in
+        let long = ltb-false (length body) (4 + second + ignored) (rows_fine ((nat_lt (length body) (4 + second + ignored), BadLength (length body)) ∷ []) both.0).0 in
+        let c = cut_of 4 second ignored body long in let n1 = first_number c in let n2 = second_number c in
         record {
-          name1 = a;
-          name2 = b;
-          gap = i;
+          name1 = take 4 body;
+          name2 = take second (drop 4 body);
+          gap = take ignored (drop (4 + second) body);
           bytes = drop (4 + second + ignored) body;
-          whole = sym (take-append-drop 4 body)
-              ∙ ap (λ x. a ++ x) (sym (take-append-drop second (drop 4 body))
-              ∙ ap (λ x. b ++ x) (drop-drop second 4 body ∙ sym (take-append-drop ignored (drop (4 + second) body)) ∙ ap (λ x. i ++ x) (drop-drop ignored (4 + second) body)));
-          name1_len = a_len;
-          name2_len = b_len;
-          gap_len = length-take-le ignored (drop (4 + second) body) (omega (arith, long, length-drop (4 + second) body));
+          whole = c.whole;
+          name1_len = c.first_len;
+          name2_len = c.second_len;
+          gap_len = c.value_len;
           named = (λ j. fault_of_key code (sym n1 j) (sym n2 j)) ∙ named.0;
           fine = named.1;
           says = sym is ∙ (λ j. named_parts skips (record { code = code_number code; key1 = n1 j; key2 = n2 j }) (drop (4 + second + ignored) body));
@@ -85,14 +73,12 @@ module _ (code : PartCode) (body : List ℕ) (ps : List Part) where
 
     named_back : IsNamed code second ignored skips body ps → (fault_by_shape (Named second ignored skips) code body ≡ None) × (parts_by_shape (Named second ignored skips) code body ≡ ps)
     named_back h =
-        let rest1 : drop 4 body ≡ h.name2 ++ (h.gap ++ h.bytes) = ap (drop 4) h.whole ∙ drop_at h.name1 (h.name2 ++ (h.gap ++ h.bytes)) 4 h.name1_len in
-        let rest2 : drop (4 + second) body ≡ h.gap ++ h.bytes = sym (drop-drop second 4 body) ∙ ap (drop second) rest1 ∙ drop_at h.name2 (h.gap ++ h.bytes) second h.name2_len in
-        let rest3 : drop (4 + second + ignored) body ≡ h.bytes = sym (drop-drop ignored (4 + second) body) ∙ ap (drop ignored) rest2 ∙ drop_at h.gap h.bytes ignored h.gap_len in
-        let n1 : little_number 4 body ≡ little_number 4 h.name1 = ap (little_number 4) h.whole ∙ number_first 4 h.name1 (h.name2 ++ (h.gap ++ h.bytes)) h.name1_len in
-        let n2 : little_number second (drop 4 body) ≡ little_number second h.name2 = ap (little_number second) rest1 ∙ number_first second h.name2 (h.gap ++ h.bytes) h.name2_len in
-        let long : 4 + second + ignored ≤ length body = omega (arith, ap length h.whole, length-append h.name1 (h.name2 ++ (h.gap ++ h.bytes)), length-append h.name2 (h.gap ++ h.bytes), length-append h.gap h.bytes, h.name1_len, h.name2_len, h.gap_len) in (
-          neither_some _ _ (no_fault ((nat_lt (length body) (4 + second + ignored), BadLength (length body)) ∷ []) (long_passes (length body) (4 + second + ignored) long, tt)) (neither_some _ _ ((λ j. fault_of_key code (n1 j) (n2 j)) ∙ h.named) (ap (fault_of_content code) rest3 ∙ h.fine)),
-          (λ j. named_parts skips (record { code = code_number code; key1 = n1 j; key2 = n2 j }) (rest3 j)) ∙ sym h.says,
+        let c : Cut 4 second ignored body h.name1 h.name2 h.gap h.bytes = record { whole = h.whole; first_len = h.name1_len; second_len = h.name2_len; value_len = h.gap_len } in
+        let n1 = first_number c in let n2 = second_number c in let rest = behind_value c in
+        let long : 4 + second + ignored ≤ length body = omega (arith, size_is c) in (
+          neither_some _ _ (no_fault ((nat_lt (length body) (4 + second + ignored), BadLength (length body)) ∷ []) (le-ltb (length body) (4 + second + ignored) long, tt))
+              (neither_some _ _ ((λ j. fault_of_key code (n1 j) (n2 j)) ∙ h.named) (ap (fault_of_content code) rest ∙ h.fine)),
+          (λ j. named_parts skips (record { code = code_number code; key1 = n1 j; key2 = n2 j }) (rest j)) ∙ sym h.says,
         )
 
   -- ---- the chain
@@ -119,20 +105,14 @@ module _ (code : PartCode) (body : List ℕ) (ps : List Part) where
   by_shape (Single len ignored) row shaped = ((λ h. single_forth len ignored h.0 h.1), single_back len ignored)
   by_shape (Named second ignored skips) row shaped = ((λ h. named_forth second ignored skips h.0 h.1), named_back second ignored skips)
   by_shape Chain row shaped = ((λ h. chain_forth (scan body) refl h.0 h.1), chain_back)
-  by_shape Other row shaped = absurd (clash shaped)
-    where
-      clash : false ≡ true → ⊥
-      clash e = cc
+  by_shape Other row shaped = cc
 
 pub bodies_are_spelled : BodiesAreSpelled
 bodies_are_spelled code body ps shaped = by_shape code body ps (shape_of code) (all_rows code) shaped
 
 pub is_shaped : (code : PartCode) (body : List ℕ) (ps : List Part) (shape : Shape) → IsShaped shape code body ps → has_shape shape ≡ true
-is_shaped code body ps (Table l) h = refl
-is_shaped code body ps (Single len ignored) h = refl
-is_shaped code body ps (Named second ignored skips) h = refl
-is_shaped code body ps Chain h = refl
 is_shaped code body ps Other h = absurd h
+is_shaped code body ps _ h = refl
 
 pub bodies_say_one : BodiesSayOne
 bodies_say_one code body ps qs a b =

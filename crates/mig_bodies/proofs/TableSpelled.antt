@@ -1,8 +1,7 @@
 -- A table without fault is one that is spelled as entries, whatever its layout.
 use Rattle.std.proofs.Common.{◌≡◌, ◌≤◌, ℕ, zero, suc, ◌+◌, ◌*◌, ◌/◌, Bool, true, false, cond, List, [], ◌∷◌, ◌++◌, length, take, drop, not, nat_eq, Option, None, refl, sym, ap, subst, ◌∙◌, arith, length-append, length-drop, length-take-le, take-append-drop, drop-drop, drop_at}
 use Rattle.std.proofs.Math.Nat.{mul-suc, mul-div_cancel_left}
-use Rattle.std.proofs.lemmas.Grind.{common_steps}
-use Rattle.std.proofs.lemmas.Bool.{eqb-true}
+use Rattle.std.proofs.lemmas.Bool.{not-false, not_from_true, eqb-true, eq-eqb}
 use Rattle.std.proofs.lemmas.List.{take_at}
 use Rattle.byteorder.specs.Endian.{little_number}
 use Rattle.byteorder.specs.Numbers.{little_from-append}
@@ -16,7 +15,7 @@ use Rattle.mig_guest.specs.declared.part_key.PartKey.{PartKey}
 use Rattle.mig_guest.specs.PartCodes.{code_number}
 use Rattle.mig_guest.specs.Parts.{Part}
 use Rattle.mig_bodies.specs.declared.layout.Layout.{Layout}
-use Rattle.mig_bodies.specs.Layouts.{fault_of_key, spelled_key, key_width, entry_width, front_width, AreTableEntries, IsTableFront, IsTable, key_in, entry_part, entry_parts, fault_of_entries, entry_count, parts_of_table, fault_of_table, AreWidths}
+use Rattle.mig_bodies.specs.Layouts.{fault_of_key, spelled_key, key_in, entry_width, front_width, AreTableEntries, IsTableFront, IsTable, entry_part, entry_parts, fault_of_entries, entry_count, parts_of_table, fault_of_table, AreWidths}
 
 -- a number reads its own bytes alone
 pub number_first : (n : ℕ) (bytes rest : List ℕ) → length bytes ≡ n → little_number n (bytes ++ rest) ≡ little_number n bytes
@@ -24,65 +23,61 @@ number_first n bytes rest size = little_from-append n bytes rest (omega (arith, 
 
 -- ---- a row that asks for one length
 
-equal_of : (n m : ℕ) → not (nat_eq n m) ≡ false → n ≡ m
-equal_of n m h = grind (arith, eqb-true, common_steps)
-
-equal_passes : (n m : ℕ) → n ≡ m → not (nat_eq n m) ≡ false
-equal_passes n m h = grind (arith, common_steps)
-
 abbrev pub length_fault : ℕ → ℕ → Option Cause
 length_fault len wanted = first_fault ((not (nat_eq len wanted), BadLength len) ∷ [])
 
 pub length_is : (len wanted : ℕ) → length_fault len wanted ≡ None → len ≡ wanted
-length_is len wanted fine = equal_of len wanted (rows_fine ((not (nat_eq len wanted), BadLength len) ∷ []) fine).0
+length_is len wanted fine = eqb-true len wanted (not-false (nat_eq len wanted) (rows_fine ((not (nat_eq len wanted), BadLength len) ∷ []) fine).0)
 
 pub length_passes : (len wanted : ℕ) → len ≡ wanted → length_fault len wanted ≡ None
-length_passes len wanted is = no_fault ((not (nat_eq len wanted), BadLength len) ∷ []) (equal_passes len wanted is, tt)
+length_passes len wanted is = no_fault ((not (nat_eq len wanted), BadLength len) ∷ []) (not_from_true (nat_eq len wanted) (eq-eqb len wanted is), tt)
 
--- ---- what the first bytes of entries say
+-- ---- what the first bytes say, where they are two numbers and a value
 
-record Cut (l : Layout) (bytes first second value rest : List ℕ) : Type 0 where
-  whole : bytes ≡ first ++ (second ++ (value ++ rest))
-  first_len : length first ≡ l.key1_width
-  second_len : length second ≡ l.key2_width
-  value_len : length value ≡ l.value_width
+pub record Cut (a b v : ℕ) (bytes first second value rest : List ℕ) : Type 0 where
+  pub whole : bytes ≡ first ++ (second ++ (value ++ rest))
+  pub first_len : length first ≡ a
+  pub second_len : length second ≡ b
+  pub value_len : length value ≡ v
+
+-- bytes that are long enough are cut so
+pub cut_of : (a b v : ℕ) (bytes : List ℕ) → a + b + v ≤ length bytes → Cut a b v bytes (take a bytes) (take b (drop a bytes)) (take v (drop (a + b) bytes)) (drop (a + b + v) bytes)
+cut_of a b v bytes long = record {
+  whole = sym (take-append-drop a bytes)
+      ∙ ap (λ x. take a bytes ++ x) (sym (take-append-drop b (drop a bytes))
+      ∙ ap (λ x. take b (drop a bytes) ++ x) (drop-drop b a bytes ∙ sym (take-append-drop v (drop (a + b) bytes)) ∙ ap (λ x. take v (drop (a + b) bytes) ++ x) (drop-drop v (a + b) bytes)));
+  first_len = length-take-le a bytes (omega (arith, long));
+  second_len = length-take-le b (drop a bytes) (omega (arith, long, length-drop a bytes));
+  value_len = length-take-le v (drop (a + b) bytes) (omega (arith, long, length-drop (a + b) bytes));
+}
+
+module _ {a b v : ℕ} {bytes first second value rest : List ℕ} (c : Cut a b v bytes first second value rest) where
+  behind_first : drop a bytes ≡ second ++ (value ++ rest)
+  behind_first = ap (drop a) c.whole ∙ drop_at first (second ++ (value ++ rest)) a c.first_len
+
+  behind_key : drop (a + b) bytes ≡ value ++ rest
+  behind_key = sym (drop-drop b a bytes) ∙ ap (drop b) behind_first ∙ drop_at second (value ++ rest) b c.second_len
+
+  pub behind_value : drop (a + b + v) bytes ≡ rest
+  behind_value = sym (drop-drop v (a + b) bytes) ∙ ap (drop v) behind_key ∙ drop_at value rest v c.value_len
+
+  pub first_number : little_number a bytes ≡ little_number a first
+  first_number = ap (little_number a) c.whole ∙ number_first a first (second ++ (value ++ rest)) c.first_len
+
+  pub second_number : little_number b (drop a bytes) ≡ little_number b second
+  second_number = ap (little_number b) behind_first ∙ number_first b second (value ++ rest) c.second_len
+
+  value_is : take v (drop (a + b) bytes) ≡ value
+  value_is = ap (take v) behind_key ∙ take_at value rest v c.value_len
+
+  pub size_is : length bytes ≡ a + b + v + length rest
+  size_is = ap length c.whole ∙ omega (arith, length-append first (second ++ (value ++ rest)), length-append second (value ++ rest), length-append value rest, c.first_len, c.second_len, c.value_len)
 
 module _ (code : PartCode) (l : Layout) where
-  -- bytes that are long enough are cut so
-  cut_of : (bytes : List ℕ) → entry_width l ≤ length bytes
-      → Cut l bytes (take l.key1_width bytes) (take l.key2_width (drop l.key1_width bytes)) (take l.value_width (drop (key_width l) bytes)) (drop (entry_width l) bytes)
-  cut_of bytes long =
-      let a = l.key1_width in let b = l.key2_width in let v = l.value_width in
-      record {
-        whole = sym (take-append-drop a bytes)
-            ∙ ap (λ x. take a bytes ++ x) (sym (take-append-drop b (drop a bytes))
-            ∙ ap (λ x. take b (drop a bytes) ++ x) (drop-drop b a bytes ∙ sym (take-append-drop v (drop (a + b) bytes)) ∙ ap (λ x. take v (drop (a + b) bytes) ++ x) (drop-drop v (a + b) bytes)));
-        first_len = length-take-le a bytes (omega (arith, long));
-        second_len = length-take-le b (drop a bytes) (omega (arith, long, length-drop a bytes));
-        value_len = length-take-le v (drop (a + b) bytes) (omega (arith, long, length-drop (a + b) bytes));
-      }
-
-  module _ (bytes first second value rest : List ℕ) (c : Cut l bytes first second value rest) where
-    behind_first : drop l.key1_width bytes ≡ second ++ (value ++ rest)
-    behind_first = ap (drop l.key1_width) c.whole ∙ drop_at first (second ++ (value ++ rest)) l.key1_width c.first_len
-
-    behind_key : drop (key_width l) bytes ≡ value ++ rest
-    behind_key = sym (drop-drop l.key2_width l.key1_width bytes) ∙ ap (drop l.key2_width) behind_first ∙ drop_at second (value ++ rest) l.key2_width c.second_len
-
-    behind_value : drop (entry_width l) bytes ≡ rest
-    behind_value = sym (drop-drop l.value_width (key_width l) bytes) ∙ ap (drop l.value_width) behind_key ∙ drop_at value rest l.value_width c.value_len
-
-    key_is : key_in code l.key1_width l.key2_width bytes ≡ spelled_key code l.key1_width l.key2_width first second
-    key_is =
-        let one = ap (little_number l.key1_width) c.whole ∙ number_first l.key1_width first (second ++ (value ++ rest)) c.first_len in
-        let two = ap (little_number l.key2_width) behind_first ∙ number_first l.key2_width second (value ++ rest) c.second_len in
-        λ i. record { code = code_number code; key1 = one i; key2 = two i }
-
-    entry_is : entry_part code l bytes ≡ (spelled_key code l.key1_width l.key2_width first second, value)
-    entry_is = let v = ap (take l.value_width) behind_key ∙ take_at value rest l.value_width c.value_len in λ i. (key_is i, v i)
-
-    size_is : length bytes ≡ entry_width l + length rest
-    size_is = ap length c.whole ∙ omega (arith, length-append first (second ++ (value ++ rest)), length-append second (value ++ rest), length-append value rest, c.first_len, c.second_len, c.value_len)
+  entry_is : (bytes first second value rest : List ℕ) → Cut l.key1_width l.key2_width l.value_width bytes first second value rest → entry_part code l bytes ≡ (spelled_key code l.key1_width l.key2_width first second, value)
+  entry_is bytes first second value rest c =
+      let one = first_number c in let two = second_number c in let same = value_is c in
+      λ i. (record { code = code_number code; key1 = one i; key2 = two i }, same i)
 
   -- ---- entries one after another
 
@@ -97,9 +92,9 @@ module _ (code : PartCode) (l : Layout) where
   spells zero bytes size fine = empty_of bytes size
   spells (suc n) bytes size fine =
       let long = mul-suc (entry_width l) n in
-      let c = cut_of bytes (omega (arith, size, long)) in
+      let c = cut_of l.key1_width l.key2_width l.value_width bytes (omega (arith, size, long)) in
       let both = both_none (refused (key_in code l.key1_width l.key2_width bytes)) (fault_of_entries code l n (drop (entry_width l) bytes)) fine in
-      let key = key_is bytes _ _ _ _ c in
+      let key = ap (λ (p : Part). p.0) (entry_is bytes _ _ _ _ c) in
       let rest_size : length (drop (entry_width l) bytes) ≡ entry_width l * n = length-drop (entry_width l) bytes ∙ omega (arith, size, long) in
       (_, _, _, c.whole, c.first_len, c.second_len, c.value_len, key, both.0, spells n (drop (entry_width l) bytes) rest_size both.1)
 
@@ -111,12 +106,12 @@ module _ (code : PartCode) (l : Layout) where
   reads : (bytes : List ℕ) (ps : List Part) → AreTableEntries code l bytes ps → Read bytes ps
   reads bytes [] none = record { size = ap length none ∙ omega arith; same = refl; fine = refl }
   reads bytes (p ∷ ps) (first, second, rest, whole, first_len, second_len, value_len, key, fine, more) =
-      let c : Cut l bytes first second p.1 rest = record { whole = whole; first_len = first_len; second_len = second_len; value_len = value_len } in
+      let c : Cut l.key1_width l.key2_width l.value_width bytes first second p.1 rest = record { whole = whole; first_len = first_len; second_len = second_len; value_len = value_len } in
       let tail = reads rest ps more in
-      let behind = behind_value bytes first second p.1 rest c in
+      let behind = behind_value c in
       let here : entry_part code l bytes ≡ p = entry_is bytes first second p.1 rest c ∙ ap (λ (k : PartKey). (k, p.1)) (sym key) in
       record {
-        size = size_is bytes first second p.1 rest c ∙ omega (arith, tail.size, mul-suc (entry_width l) (length ps));
+        size = size_is c ∙ omega (arith, tail.size, mul-suc (entry_width l) (length ps));
         same = ap (λ q. q ∷ entry_parts code l (length ps) (drop (entry_width l) bytes)) here ∙ ap (λ qs. p ∷ qs) (ap (entry_parts code l (length ps)) behind ∙ tail.same);
         fine = neither_some _ _ (ap (λ (q : Part). refused q.0) here ∙ fine) (ap (fault_of_entries code l (length ps)) behind ∙ tail.fine);
       }
@@ -126,10 +121,11 @@ module _ (code : PartCode) (l : Layout) where
   entries_len (suc n) bytes = ap suc (entries_len n (drop (entry_width l) bytes))
 
   -- a table without fault has the length that its entries ask for
-  pub table_whole : (body : List ℕ) → fault_of_table code l body ≡ None → length body ≡ front_width l + entry_width l * entry_count l body
-  table_whole body fine =
+  pub fine_table : (body : List ℕ) → fault_of_table code l body ≡ None → (length body ≡ front_width l + entry_width l * entry_count l body) × (fault_of_entries code l (entry_count l body) (drop (front_width l) body) ≡ None)
+  fine_table body fine =
       let wanted = front_width l + entry_width l * entry_count l body in
-      length_is (length body) wanted (both_none (length_fault (length body) wanted) (fault_of_entries code l (entry_count l body) (drop (front_width l) body)) fine).0
+      let both = both_none (length_fault (length body) wanted) (fault_of_entries code l (entry_count l body) (drop (front_width l) body)) fine in
+      (length_is (length body) wanted both.0, both.1)
 
 -- ---- tables
 
@@ -150,8 +146,7 @@ module _ (code : PartCode) (l : Layout) (widths : AreWidths l) (body : List ℕ)
   table_forth ps fine is =
       let n = entry_count l body in
       let bytes = drop (front_width l) body in
-      let both = both_none (length_fault (length body) (front_width l + entry_width l * n)) (fault_of_entries code l n bytes) fine in
-      let whole_len = length_is (length body) (front_width l + entry_width l * n) both.0 in
+      let (whole_len, keys) = fine_table code l body fine in
       let size : length bytes ≡ entry_width l * n = length-drop (front_width l) body ∙ omega (arith, whole_len) in
       let count : n ≡ length ps = sym (entries_len code l n bytes) ∙ ap length is in
       record {
@@ -159,7 +154,7 @@ module _ (code : PartCode) (l : Layout) (widths : AreWidths l) (body : List ℕ)
         bytes = bytes;
         whole = sym (take-append-drop (front_width l) body);
         counted = subst (IsTableFront l.counted (take (front_width l) body)) count (front_of l.counted refl (omega (arith, whole_len)));
-        each = subst (AreTableEntries code l bytes) is (spells code l n bytes size both.1);
+        each = subst (AreTableEntries code l bytes) is (spells code l n bytes size keys);
       }
 
   front_size : (b : Bool) (front : List ℕ) (n : ℕ) → IsTableFront b front n → length front ≡ cond b 8 0
@@ -189,4 +184,4 @@ module _ (code : PartCode) (l : Layout) (widths : AreWidths l) (body : List ℕ)
   pub table_len : (ps : List Part) → IsTable code l body ps → length body ≡ front_width l + entry_width l * length ps
   table_len ps h =
       let back = table_back ps h in
-      table_whole code l body back.0 ∙ ap (λ n. front_width l + entry_width l * n) (sym (entries_len code l (entry_count l body) (drop (front_width l) body)) ∙ ap length back.1)
+      (fine_table code l body back.0).0 ∙ ap (λ n. front_width l + entry_width l * n) (sym (entries_len code l (entry_count l body) (drop (front_width l) body)) ∙ ap length back.1)
