@@ -7,6 +7,7 @@ use Rattle.std.specs.Ordering.{nat_cmp}
 use Rattle.std.specs.Cmp.{nat_cmp_total}
 use Rattle.std.specs.FinMap as maps
 use Rattle.std.specs.FinMap.{nat_cmp-IsAntisymmetric}
+use Rattle.std.proofs.lemmas.Option.{cond_some}
 use Rattle.std.proofs.lemmas.Bool.{cases_eq, cases_lt, ne_eqb}
 use Rattle.mig_headers.specs.declared.kind.Kind.TheVariants.{Pv}
 use Rattle.mig_pagetypes.specs.PageTypes.{type_has_data}
@@ -25,6 +26,7 @@ use Rattle.mig_guest.specs.Parts.{PartMap}
 use Rattle.mig_guest.specs.PartKeys.{p2m_key, vcpu_key, shared_key}
 use Rattle.mig_guest.specs.Tables.{EachEntry, IsWithin, is_blank_slot, entry_of}
 use Rattle.mig_guest.proofs.Found.{insert_holds}
+use Rattle.mig_guest.proofs.KeyedMaps.{insert_len}
 use Rattle.mig_guest.proofs.Kept.{bare_formed, frames_keep, parts_keep}
 use Rattle.mig_guest.proofs.Longs.{length_longs, long_of_longs}
 use Rattle.mig_guest.proofs.PartOrder.{part_total, part_exact}
@@ -34,10 +36,6 @@ use Rattle.mig_pvtables.specs.Faults.{type_at, fits_field}
 use Rattle.mig_pvtables.specs.Whole.{IsWhole}
 use Rattle.mig_pvtables.specs.WholePv.{AreP2mFrames, FieldsFit}
 use Rattle.mig_pvtables.proofs.PvGuests.{pv_whole}
-
-one_more : (b : Bool) (n : ℕ) → cond b n (n + 1) ≤ n + 1
-one_more true n = omega arith
-one_more false n = omega arith
 
 -- ---- the guest
 
@@ -76,29 +74,15 @@ pv_sample = record { kind = Pv; top = 1; frames = frames; parts = parts }
 is_zero : (slot : ℕ) → slot < 512 → long_at zeros slot ≡ 0
 is_zero slot lt = long_of_longs 512 (λ i. 0) slot lt (lit< tt)
 
-zero_entry : (P : Entry → Type 0) → P Blank → P NotPresent → (level slot : ℕ) → P (entry_of level slot 0)
-unfolding entry_of
-zero_entry P blank absent level slot = by (is_blank_slot level slot)
-  where
-    by : (b : Bool) → P (cond b Blank NotPresent)
-    by true = blank
-    by false = absent
-
 zero_entries : (P : Entry → Type 0) → P Blank → P NotPresent → (t : PageType) → EachEntry P (record { type = t; page = Some zeros })
+unfolding entry_of
 zero_entries P blank absent t level page is has slot lt =
-    let same : zeros ≡ page = some_is zeros page has in
-    let zero : long_at page slot ≡ 0 = ap (λ l. long_at l slot) (sym same) ∙ is_zero slot lt in
-    subst (λ e. P (entry_of level slot e)) (sym zero) (zero_entry P blank absent level slot)
-  where
-    some_is : (x y : List ℕ) → Some x ≡ Some y → x ≡ y
-    some_is x y e = cc
+    let same : zeros ≡ page = cc in
+    subst (λ e. P (entry_of level slot e)) (sym (ap (λ l. long_at l slot) (sym same) ∙ is_zero slot lt))
+    (elim (is_blank_slot level slot) as (λ b. P (cond b Blank NotPresent)) [ true ↦ blank | false ↦ absent ])
 
 register_is : (i : ℕ) → i < 646 → long_at context i ≡ register i
-register_is i lt = long_of_longs 646 register i lt (small (i == 626))
-  where
-    small : (b : Bool) → cond b 4096 0 < 2 ^ 64
-    small true = lit< tt
-    small false = lit< tt
+register_is i lt = long_of_longs 646 register i lt (elim (i == 626) as (λ b. cond b 4096 0 < 2 ^ 64) [ true ↦ lit< tt | false ↦ lit< tt ])
 
 no_gdt : gdt_ents context ≡ 0
 no_gdt = register_is 620 (lit< tt)
@@ -109,13 +93,10 @@ framed : (t : PageType) (pfn : ℕ) → t ≢ Xtab → type_has_data t ≡ true 
 framed t pfn there paged type inside = record {
   small = omega (arith, inside);
   inside = inside;
-  is = record { there = there; in_step = sym paged; whole = λ page e. ap length (sym (some_is zeros page e)) ∙ length_longs 512 (λ i. 0) };
+  is = record { there = there; in_step = sym paged; whole = λ page e. let same : zeros ≡ page = cc in ap length (sym same) ∙ length_longs 512 (λ i. 0) };
   type = type;
   entries = zero_entries (IsWithin 1) tt tt t;
 }
-  where
-    some_is : (x y : List ℕ) → Some x ≡ Some y → x ≡ y
-    some_is x y e = cc
 
 formed : IsFormed pv_sample
 formed =
@@ -167,16 +148,10 @@ got_context = maps.get-insert part_total (maps.insert (maps.insert maps.empty p2
 
 -- only frame 0 is listed, at index 0
 listed_first : (k pfn : ℕ) → listed parts k ≡ Some pfn → (k ≡ 0) × (pfn ≡ 0)
-listed_first k pfn is = by (nat_lt k 1) refl (sym (ap (λ n. cond (nat_lt k (n / 8)) (Some (long_at p2m k)) None) (length_longs 1 (λ i. 0))) ∙ sym (ap (λ o. listed_in o k) got_p2m) ∙ is)
-  where
-    some_is : (x y : ℕ) → Some x ≡ Some y → x ≡ y
-    some_is x y e = cc
-
-    by : (b : Bool) → nat_lt k 1 ≡ b → cond b (Some (long_at p2m k)) None ≡ Some pfn → (k ≡ 0) × (pfn ≡ 0)
-    by true lt at =
-        let first : k ≡ 0 = omega (arith, ltb-true k 1 lt) in
-        (first, sym (some_is (long_at p2m k) pfn at) ∙ long_of_longs 1 (λ i. 0) k (ltb-true k 1 lt) (lit< tt))
-    by false lt at = let no : None ≡ Some pfn = at in cc
+listed_first k pfn is =
+    let (low, at) = cond_some (nat_lt k 1) (long_at p2m k) pfn (sym (ap (λ n. cond (nat_lt k (n / 8)) (Some (long_at p2m k)) None) (length_longs 1 (λ i. 0))) ∙ sym (ap (λ o. listed_in o k) got_p2m) ∙ is) in
+    let lt = ltb-true k 1 low in
+    (omega (arith, lt), sym at ∙ long_of_longs 1 (λ i. 0) k lt (lit< tt))
 
 p2m_frames : AreP2mFrames frames parts
 p2m_frames = record {
@@ -209,40 +184,22 @@ context_fields : (field : ℕ) → field ≤ 18 → is_used 0 (gdt_ents context)
 context_fields field most used = elim (cases_eq field 0) [
   | inl e ↦ subst (λ f. fits_field f (type_at frames (frame_of_field f (field_value context f))) ≡ true) (sym e) rdx_fits
   | inr some ↦ elim (cases_lt field 17) [
-    | inl lt ↦ absurd (clash (sym (gdt_unused field (positive field some) (omega (arith, lt)) (field_value context field)) ∙ used))
+    | inl lt ↦ let no : false ≡ true = sym (gdt_unused field (omega (arith, some)) (omega (arith, lt)) (field_value context field)) ∙ used in cc
     | inr ge ↦ elim (cases_eq field 17) [
       | inl e ↦ subst (λ f. fits_field f (type_at frames (frame_of_field f (field_value context f))) ≡ true) (sym e) root_fits
       | inr ne ↦
-          let e : field ≡ 18 = eighteen ge ne in
-          absurd (clash (sym other_unused ∙ subst (λ f. is_used 0 (gdt_ents context) f (field_value context f) ≡ true) e used))
+          let last : field ≡ 18 = omega (arith, ge, ne, most) in
+          let no : false ≡ true = sym other_unused ∙ subst (λ f. is_used 0 (gdt_ents context) f (field_value context f) ≡ true) last used in cc
     ]
   ]
 ]
-  where
-    clash : false ≡ true → ⊥
-    clash e = cc
-
-    positive : (n : ℕ) → n ≢ 0 → 0 < n
-    positive n ne = elim (cases_lt 0 n) [ inl lt ↦ lt | inr ge ↦ absurd (ne (omega (arith, ge))) ]
-
-    eighteen : 17 ≤ field → (field ≡ 17 → ⊥) → field ≡ 18
-    eighteen ge ne = elim (cases_lt 17 field) [ inl lt ↦ omega (arith, lt, most) | inr le ↦ absurd (ne (omega (arith, le, ge))) ]
-
-none_some : {A : Type 0} (x : A) → None ≡ Some x → ⊥
-none_some x e = cc
-
-other_code : (n m : ℕ) → nat_eq n m ≡ false → n ≢ m
-other_code n m differ e = clash (sym (subst (λ k. nat_eq n k ≡ true) e (eq-eqb n n refl)) ∙ differ)
-  where
-    clash : true ≡ false → ⊥
-    clash e = cc
 
 fields_fit : FieldsFit frames parts
 fields_fit =
     insert_holds part_total part_exact Fields (maps.insert (maps.insert maps.empty p2m_key p2m) shared_key zeros) (vcpu_key 0) context
     (insert_holds part_total part_exact Fields (maps.insert maps.empty p2m_key p2m) shared_key zeros
-    (insert_holds part_total part_exact Fields maps.empty p2m_key p2m (λ key bytes got. absurd (none_some bytes (sym (maps.get-empty part_cmp key) ∙ got))) (λ is. absurd (other_code 3 4 refl is)))
-    (λ is. absurd (other_code 7 4 refl is)))
+    (insert_holds part_total part_exact Fields maps.empty p2m_key p2m (λ key bytes got. let no : None ≡ Some bytes = sym (maps.get-empty part_cmp key) ∙ got in cc) (λ is. absurd (omega (arith, is))))
+    (λ is. absurd (omega (arith, is))))
     (λ is. context_fields)
 
 -- each entry of a table of zeros names nothing
@@ -252,11 +209,8 @@ Targets pfn frame = EachEntry (λ e. (n : ℕ) → e ≡ Frame n → IsSome (map
 targets : (t : PageType) → EachEntry (λ e. (n : ℕ) → e ≡ Frame n → IsSome (maps.get frames n)) (record { type = t; page = Some zeros })
 targets t = zero_entries (λ e. (n : ℕ) → e ≡ Frame n → IsSome (maps.get frames n)) (λ n e. let no : Blank ≡ Frame n = e in cc) (λ n e. let no : NotPresent ≡ Frame n = e in cc) t
 
-put_one : (m : FrameMap) (pfn : ℕ) (f : FrameOf) → maps.len (maps.insert m pfn f) ≤ maps.len m + 1
-put_one m pfn f = subst (λ n. n ≤ maps.len m + 1) (sym (maps.len-insert nat_cmp_total m pfn f)) (one_more (maps.contains_key m pfn) (maps.len m))
-
 few : IsFew frames
-few = omega (arith, maps.len-entries frames, put_one (maps.insert maps.empty 0 notab) 1 root, put_one maps.empty 0 notab, maps.len-empty nat_cmp FrameOf)
+few = omega (arith, maps.len-entries frames, insert_len nat_cmp_total (maps.insert maps.empty 0 notab) 1 root, insert_len nat_cmp_total maps.empty 0 notab, maps.len-empty nat_cmp FrameOf)
 
 pub sample_is_whole : IsWhole pv_sample
 sample_is_whole = (pv_whole pv_sample refl).1 (record {
@@ -265,7 +219,7 @@ sample_is_whole = (pv_whole pv_sample refl).1 (record {
   shared_there = subst IsSome (sym got_shared) refl;
   vcpu_there = subst IsSome (sym got_context) refl;
   p2m = p2m_frames;
-  targets = λ pfn frame got. insert_holds nat_cmp_total nat_cmp-IsAntisymmetric Targets (maps.insert maps.empty 0 notab) 1 root (insert_holds nat_cmp_total nat_cmp-IsAntisymmetric Targets maps.empty 0 notab (λ q f none. absurd (none_some f (sym (maps.get-empty nat_cmp q) ∙ none))) (targets Notab)) (targets L4Tab) pfn frame got;
+  targets = insert_holds nat_cmp_total nat_cmp-IsAntisymmetric Targets (maps.insert maps.empty 0 notab) 1 root (insert_holds nat_cmp_total nat_cmp-IsAntisymmetric Targets maps.empty 0 notab (λ q f got. let no : None ≡ Some f = sym (maps.get-empty nat_cmp q) ∙ got in cc) (targets Notab)) (targets L4Tab);
   fields = fields_fit;
   few = few;
 })
