@@ -1,2 +1,1 @@
 pub mod ListMaps
-pub mod Boxes

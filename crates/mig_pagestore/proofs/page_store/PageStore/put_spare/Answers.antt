@@ -3,18 +3,14 @@ use Rattle.std.specs.FinMap as maps
 use Rattle.std.specs.Box.{with_value}
 use Rattle.std.proofs.lemmas.List.Edits.{length-insert}
 use Rattle.mig_pagestore.specs.Pages.{Store}
-use Rattle.mig_pagestore.proofs.ListMaps.{rising_insert, small_insert}
-use Rattle.mig_pagestore.proofs.Boxes.{box_gap, box_set, box_insert}
+use Rattle.mig_pagestore.proofs.ListMaps.{rising_insert, small_insert, get_gap, set_at, insert_gap}
 use Rattle.mig_pagestore.proofs.page_store.PageStore.put_spare.Goals as goal
-
-nothing_there : false ≡ true → ⊥
-nothing_there e = cc
 
 pub unwrap-room-requires : goal.unwrap-room-requires
 unwrap-room-requires c =
     let is = c.self.invariant in let pfn = c.args.pfn in
     let gap = rw c.deref.ensures.value at c.in-Err.ensures.absent in
-    let spare = c.requires.room (sym (ap (λ (s : Store). maps.get s.pages pfn) c.self.view_is) ∙ box_gap (λ b. b.value) _ _ is.rising is.as_many pfn _ gap) in
+    let spare = c.requires.room (sym (ap (λ (s : Store). maps.get s.pages pfn) c.self.view_is) ∙ get_gap (λ b. b.value) _ _ is.rising is.as_many pfn _ gap) in
     let pooled : 1 ≤ length c.self.inside.pool.items = subst (λ (s : Store). 1 ≤ s.spare) (sym c.self.view_is) spare in
     c.pop.ensures.variant.1 (omega (arith, pooled, c.self.inside.pool.ok.0))
 
@@ -43,17 +39,17 @@ returns-in-Err-clause-pages c =
     let pfns_in = rw c.unwrap.ensures at c.insert.ensures.items in
     let pages_in = rw c.unwrap-in-Err.ensures at c.insert-in-Err.ensures.items in
     rw (pfns_in, pages_in)
-    (box_insert (λ b. b.value) _ _ is.rising is.as_many pfn _ (with_value c.unwrap-room.result c.args.page.now) gap ∙ ap (λ (s : Store). maps.insert s.pages pfn c.args.page.now) c.self.view_is)
+    (insert_gap (λ b. b.value) _ _ is.rising is.as_many pfn _ (with_value c.unwrap-room.result c.args.page.now) gap ∙ ap (λ (s : Store). maps.insert s.pages pfn c.args.page.now) c.self.view_is)
 
 pub returns-in-Ok-clause-pages : goal.returns-in-Ok-clause-pages
 returns-in-Ok-clause-pages c =
     let is = c.self.invariant in let pfn = c.args.pfn in
     let at = rw c.deref.ensures.value at c.in-Ok.ensures.found in
-    box_set (λ b. b.value) _ _ is.rising is.as_many pfn _ (with_value c.index_mut.result.now c.args.page.now) at ∙ ap (λ (s : Store). maps.insert s.pages pfn c.args.page.now) c.self.view_is
+    set_at (λ b. b.value) _ _ is.rising is.as_many pfn _ (with_value c.index_mut.result.now c.args.page.now) at ∙ ap (λ (s : Store). maps.insert s.pages pfn c.args.page.now) c.self.view_is
 
 pub returns-in-Err-clause-in_place : goal.returns-in-Err-clause-in_place
 returns-in-Err-clause-in_place c there =
     let is = c.self.invariant in let pfn = c.args.pfn in
     let gap = rw c.deref.ensures.value at c.in-Err.ensures.absent in
-    let gone = ap (λ (s : Store). maps.get s.pages pfn) (sym c.self.view_is) ∙ box_gap (λ b. b.value) _ _ is.rising is.as_many pfn _ gap in
-    absurd (nothing_there (sym (ap is_some gone) ∙ there))
+    let gone = ap (λ (s : Store). maps.get s.pages pfn) (sym c.self.view_is) ∙ get_gap (λ b. b.value) _ _ is.rising is.as_many pfn _ gap in
+    let no : false ≡ true = sym (ap is_some gone) ∙ there in cc

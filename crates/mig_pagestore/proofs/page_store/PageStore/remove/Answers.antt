@@ -2,8 +2,7 @@ use Rattle.std.proofs.Common.{sym, ap, ◌∙◌, arith, is_some}
 use Rattle.std.proofs.lemmas.List.Edits.{length-remove}
 use Rattle.std.specs.FinMap as maps
 use Rattle.mig_pagestore.specs.Pages.{Store}
-use Rattle.mig_pagestore.proofs.ListMaps.{rising_remove, small_remove, removes_none}
-use Rattle.mig_pagestore.proofs.Boxes.{box_at, box_gap, box_remove}
+use Rattle.mig_pagestore.proofs.ListMaps.{rising_remove, small_remove, removes_none, found_at, get_gap, remove_at}
 use Rattle.mig_pagestore.proofs.page_store.PageStore.remove.Goals as goal
 
 pub invariant_of-self : goal.invariant_of-self
@@ -23,21 +22,21 @@ invariant_of-self c =
 pub returns-in-Ok-clause-was : goal.returns-in-Ok-clause-was
 returns-in-Ok-clause-was c =
     let is = c.self.invariant in let pfn = c.args.pfn in
-    ap is_some (sym (box_at (λ b. b.value) _ _ is.rising is.as_many pfn c.in-Ok.at c.remove-in-Ok.result (rw c.deref.ensures.value at c.in-Ok.ensures.found) c.remove-in-Ok.ensures.value) ∙ ap (λ (s : Store). maps.get s.pages pfn) c.self.view_is)
+    ap is_some (sym (found_at (λ b. b.value) _ _ is.rising is.as_many pfn c.in-Ok.at c.remove-in-Ok.result (rw c.deref.ensures.value at c.in-Ok.ensures.found) c.remove-in-Ok.ensures.value) ∙ ap (λ (s : Store). maps.get s.pages pfn) c.self.view_is)
 
 pub returns-in-Ok-clause-pages : goal.returns-in-Ok-clause-pages
 returns-in-Ok-clause-pages c =
     let is = c.self.invariant in let pfn = c.args.pfn in
     rw (c.remove.ensures.items, c.remove-in-Ok.ensures.items)
-    (box_remove (λ b. b.value) _ _ is.rising is.as_many pfn _ (rw c.deref.ensures.value at c.in-Ok.ensures.found) ∙ ap (λ (s : Store). maps.remove s.pages pfn) c.self.view_is)
+    (remove_at (λ b. b.value) _ _ is.rising is.as_many pfn _ (rw c.deref.ensures.value at c.in-Ok.ensures.found) ∙ ap (λ (s : Store). maps.remove s.pages pfn) c.self.view_is)
 
 pub returns-in-Err-clause-was : goal.returns-in-Err-clause-was
 returns-in-Err-clause-was c =
     let is = c.self.invariant in let pfn = c.args.pfn in
-    ap is_some (sym (box_gap (λ b. b.value) _ _ is.rising is.as_many pfn _ (rw c.deref.ensures.value at c.in-Err.ensures.absent)) ∙ ap (λ (s : Store). maps.get s.pages pfn) c.self.view_is)
+    ap is_some (sym (get_gap (λ b. b.value) _ _ is.rising is.as_many pfn _ (rw c.deref.ensures.value at c.in-Err.ensures.absent)) ∙ ap (λ (s : Store). maps.get s.pages pfn) c.self.view_is)
 
 pub returns-in-Err-clause-pages : goal.returns-in-Err-clause-pages
 returns-in-Err-clause-pages c =
     let is = c.self.invariant in let pfn = c.args.pfn in
-    let gone = ap (λ (s : Store). maps.get s.pages pfn) (sym c.self.view_is) ∙ box_gap (λ b. b.value) _ _ is.rising is.as_many pfn _ (rw c.deref.ensures.value at c.in-Err.ensures.absent) in
+    let gone = ap (λ (s : Store). maps.get s.pages pfn) (sym c.self.view_is) ∙ get_gap (λ b. b.value) _ _ is.rising is.as_many pfn _ (rw c.deref.ensures.value at c.in-Err.ensures.absent) in
     removes_none c.args.self.now.pages pfn gone
