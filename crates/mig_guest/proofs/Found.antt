@@ -1,24 +1,29 @@
 -- The entries of a finite map: what holds of all that is found holds of all entries, and still where keys are set or taken away.
-use Rattle.std.proofs.Common.{◌≡◌, Bool, true, false, cond, List, [], ◌∷◌, Option, Some, None, IfSome, refl, sym, ap, subst, ◌∙◌}
+use Rattle.std.proofs.Common.{◌≡◌, Bool, true, false, cond, List, [], ◌∷◌, Option, Some, None, is_some, IsSome, IfSome, filter, refl, sym, ap, subst, ◌∙◌}
 use Rattle.std.specs.Prelude.{T}
 use Rattle.std.specs.List.{All}
 use Rattle.std.specs.Option.{option_or}
 use Rattle.std.proofs.lemmas.Cmp.{eq_by_cmp_equiv}
-use Rattle.std.proofs.lemmas.List.Elements.{All-nil, All-cons}
+use Rattle.std.proofs.lemmas.List.Elements.{All-nil, All-cons, All-head, filter_passes}
 use Rattle.std.specs.Cmp.{IsTotalOrder}
 use Rattle.std.specs.Ordering.{is_lt, is_eq, eq_by_cmp}
 use Rattle.std.specs.declared.cmp.Ordering.{Ordering}
 use Rattle.std.specs.declared.cmp.Ordering.TheVariants.{Less, Equal, Greater}
 use Rattle.std.specs.FinMap as maps
 use Rattle.std.specs.FinMap.{FinMap, find, is_sorted, IsAntisymmetric}
-use Rattle.std.specs.FinMap.Entries.{below_all}
-use Rattle.mig_guest.proofs.KeyedMaps.{tied}
+use Rattle.std.specs.FinMap.Entries.{below_all, find-where_key, is_sorted-where_key}
+use Rattle.mig_guest.proofs.KeyedMaps.{tied, both}
 use Rattle.mig_guest.proofs.PartCursor.{both_of}
 
 not_tied : (r : Ordering) → T (is_lt r) → is_eq r ≡ false
 not_tied Less t = refl
 not_tied Equal t = absurd t
 not_tied Greater t = absurd t
+
+is_less : (r : Ordering) → T (is_lt r) → r ≡ Less
+is_less Less t = refl
+is_less Equal t = absurd t
+is_less Greater t = absurd t
 
 module _ {K X : Type 0} {R : K → K → Ordering} (total : IsTotalOrder R) (exact : IsAntisymmetric R) where
   found_none : (q : K) (fs : List (K × X)) → T (below_all R q fs) → find R q fs ≡ None
@@ -46,6 +51,34 @@ module _ {K X : Type 0} {R : K → K → Ordering} (total : IsTotalOrder R) (exa
   pub found_first : (q : K) (f : K × X) (fs : List (K × X)) (o : Option X) (b : Bool) → eq_by_cmp R q f.0 ≡ b → T (below_all R f.0 fs) → option_or (find R q fs) (cond b (Some f.1) o) ≡ option_or (cond b (Some f.1) (find R q fs)) o
   found_first q f fs o true is below = ap (λ r. option_or r (Some f.1)) (none_behind q f fs is below)
   found_first q f fs o false is below = refl
+
+  -- ---- the first entry that passes a test of the keys
+
+  below_trans : (k x : K) (fs : List (K × X)) → R k x ≡ Less → T (below_all R x fs) → T (below_all R k fs)
+  below_trans k x [] less h = tt
+  below_trans k x (f ∷ fs) less h =
+      let (first, others) = both_of (is_lt (R x f.0)) (below_all R x fs) h in
+      both _ _ (subst (λ r. T (is_lt r)) (sym (total.trans k x f.0 less (is_less _ first))) tt) (below_trans k x fs less others)
+
+  module _ (m : FinMap R X) (p : K → Bool) where
+    abbrev passing : List (K × X)
+    passing = filter (λ e. p e.0) (maps.entries m)
+
+    among : (k : K) → p k ≡ true → maps.get m k ≡ find R k passing
+    among k is = maps.get-entries m k ∙ sym (find-where_key R p k (λ x e. ap p (sym (exact k x e))) (maps.entries m) ∙ ap (λ b. cond b (find R k (maps.entries m)) None) is)
+
+    pub none_passes : passing ≡ [] → (k : K) → p k ≡ true → maps.get m k ≡ None
+    none_passes none k is = among k is ∙ ap (find R k) none
+
+    pub first_passes : (e : K × X) (rest : List (K × X)) → passing ≡ e ∷ rest → (p e.0 ≡ true) × IsSome (maps.get m e.0) × ((k : K) → p k ≡ true → R k e.0 ≡ Less → maps.get m k ≡ None)
+    first_passes e rest h =
+        let P : K × X → Type 0 = λ f. p f.0 ≡ true in
+        let passes : p e.0 ≡ true = All-head P e rest (subst (All P) h (filter_passes (λ f. p f.0) (maps.entries m))) in
+        let (below, _) = both_of (below_all R e.0 rest) (is_sorted R rest) (subst (λ es. T (is_sorted R es)) h (is_sorted-where_key R p (maps.entries m) (maps.entries_sorted m))) in (
+          passes,
+          ap is_some (among e.0 passes ∙ ap (find R e.0) h ∙ ap (λ b. cond b (Some e.1) (find R e.0 rest)) ((eq_by_cmp_equiv total).refl e.0)),
+          λ k is less. among k is ∙ ap (find R k) h ∙ found_none k (e ∷ rest) (both _ _ (subst (λ r. T (is_lt r)) (sym less) tt) (below_trans k e.0 rest less below)),
+        )
 
   -- ---- maps that change
 

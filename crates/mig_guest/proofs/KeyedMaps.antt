@@ -32,7 +32,7 @@ pub is_some-mapped : {X Y : Type 0} (f : X → Y) (r : Option X) → is_some (op
 is_some-mapped f None = refl
 is_some-mapped f (Some x) = refl
 
-both : (a b : Bool) → T a → T b → T (a && b)
+pub both : (a b : Bool) → T a → T b → T (a && b)
 both true b p q = q
 both false b p q = p
 
@@ -129,19 +129,3 @@ module _ {K X Y : Type 0} {R : K → K → Ordering} (o : IsTotalOrder R) (exact
 
   pub seen_insert : (f : K → X → Y) (es fs : List (K × X)) (k : K) (v : X) → ((q : K) → lookup (is_at (R q)) fs ≡ cond (is_at (R k) q) (Some v) (lookup (is_at (R q)) es)) → seen R f fs ≡ maps.insert (seen R f es) k (f k v)
   seen_insert f es fs k v is = same_map o exact _ _ (λ q. seen_changed f f es fs k (Some v) is (λ _ _ _. refl) q ∙ sym (get-insert o (seen R f es) k (f k v) q))
-
--- what a search finds by the values that are listed holds of those that are seen
-module _ {K X Y : Type 0} (f : K → X → Y) (listed : K → Option X) (got : K → Option Y) (is : (k : K) → got k ≡ option_map (f k) (listed k)) where
-  none_seen : (k : K) → listed k ≡ None → got k ≡ None
-  none_seen k e = is k ∙ ap (option_map (f k)) e
-
-  pub there_seen : (k : K) → is_some (got k) ≡ is_some (listed k)
-  there_seen k = ap is_some (is k) ∙ is_some-mapped (f k) (listed k)
-
-  pub next_seen : (IsAfter : K → Type 0) (IsBefore : K → K → Type 0) (r : Option K)
-      → IfNone r ((k : K) → IsAfter k → listed k ≡ None)
-      → IfSome r (λ q. IsAfter q × IsSome (listed q) × ((k : K) → IsAfter k → IsBefore k q → listed k ≡ None))
-      → IfNone r ((k : K) → IsAfter k → got k ≡ None)
-      × IfSome r (λ q. IsAfter q × IsSome (got q) × ((k : K) → IsAfter k → IsBefore k q → got k ≡ None))
-  next_seen IsAfter IsBefore None n s = (λ k after. none_seen k (n k after), tt)
-  next_seen IsAfter IsBefore (Some q) n s = (tt, (s.0, there_seen q ∙ s.1, λ k after before. none_seen k (s.2 k after before)))

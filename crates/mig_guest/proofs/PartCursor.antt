@@ -56,13 +56,13 @@ module _ {A : Type 0} where
   kept_none [] = refl
   kept_none (e ∷ es) = kept_none es
 
-  kept_all : (es : List A) → filter (λ _. true) es ≡ es
+  pub kept_all : (es : List A) → filter (λ _. true) es ≡ es
   kept_all [] = refl
   kept_all (e ∷ es) = ap (λ l. e ∷ l) (kept_all es)
 
 -- ---- the entries from a start on
 
-less : (r : Ordering) → is_lt r ≡ true → r ≡ Less
+pub less : (r : Ordering) → is_lt r ≡ true → r ≡ Less
 less Less t = refl
 less Equal t = cc
 less Greater t = cc

@@ -34,17 +34,6 @@ impl Model for Frames {
     ghost invariant = { λ f. IsInStep f.pages.pages f.kinds.entries };
 }
 
-// The least number in the map that is at least `from`.
-fn least_from(kinds: &BTreeMap<u64, PageType>, from: u64) -> Option<u64>
-    ensures none { IfNone result ((k : ℕ) → from ≤ k → tree.get nat_cmp kinds.now k ≡ None) }
-    ensures least { IfSome result (λ q. (from ≤ q) × IsSome (tree.get nat_cmp kinds.now q) × ((k : ℕ) → from ≤ k → k < q → tree.get nat_cmp kinds.now k ≡ None)) }
-{
-    match kinds.range(from..).next() {
-        Some((pfn, _)) => Some(*pfn),
-        None => None,
-    }
-}
-
 impl Frames {
     ghost use Rattle.mig_pagetypes.specs.PageTypes.{type_has_data};
     ghost use Rattle.mig_pagetypes.specs.declared.page_type.PageType.TheVariants.{Xtab};
@@ -98,7 +87,10 @@ impl Frames {
         ensures least { IfSome result (λ q. (from ≤ q) × IsSome (maps.get self.now q) × ((k : ℕ) → from ≤ k → k < q → maps.get self.now k ≡ None)) }
         ensures small { IfSome result (λ q. q < pfn_limit) }
     {
-        least_from(&self.kinds, from)
+        match self.next_entry(from) {
+            Some((pfn, _, _)) => Some(pfn),
+            None => None,
+        }
     }
 
     pub(crate) fn next_entry(&self, from: u64) -> Option<(u64, PageType, Option<&[u8; 4096]>)>

@@ -53,31 +53,6 @@ pub(crate) fn bytes_mut(part: &mut Vec<u8>) -> &mut [u8]
     part.as_mut_slice()
 }
 
-// The least key.
-fn least_key(parts: &BTreeMap<PartKey, Vec<u8>>) -> Option<PartKey>
-    ensures none { IfNone result ((k : PartKey) → IsAbove None k → tree.get part_cmp parts.now k ≡ None) }
-    ensures least { IfSome result (λ q. IsAbove None q × IsSome (tree.get part_cmp parts.now q) × ((k : PartKey) → IsAbove None k → part_cmp k q ≡ Less → tree.get part_cmp parts.now k ≡ None)) }
-{
-    match parts.first_key_value() {
-        Some((key, _)) => Some(*key),
-        None => None,
-    }
-}
-
-// The least key above `after`.
-fn least_above(parts: &BTreeMap<PartKey, Vec<u8>>, after: PartKey) -> Option<PartKey>
-    ensures none { IfNone result ((k : PartKey) → part_cmp after k ≡ Less → tree.get part_cmp parts.now k ≡ None) }
-    ensures least { IfSome result (λ q. (part_cmp after q ≡ Less) × IsSome (tree.get part_cmp parts.now q) × ((k : PartKey) → part_cmp after k ≡ Less → part_cmp k q ≡ Less → tree.get part_cmp parts.now k ≡ None)) }
-{
-    match parts
-        .range((Bound::Excluded(after), Bound::Unbounded))
-        .next()
-    {
-        Some((key, _)) => Some(*key),
-        None => None,
-    }
-}
-
 // Where the parts of a code begin: behind this key, or at the least key of the code.
 fn start_of(code: u32, after: Option<PartKey>) -> Bound<PartKey>
     ensures behind { IfSome after (λ k. result ≡ Excluded k) }
@@ -160,9 +135,9 @@ impl Parts {
         ensures none { IfNone result ((k : PartKey) → IsAbove after k → maps.get self.now k ≡ None) }
         ensures least { IfSome result (λ q. IsAbove after q × IsSome (maps.get self.now q) × ((k : PartKey) → IsAbove after k → part_cmp k q ≡ Less → maps.get self.now k ≡ None)) }
     {
-        match after {
-            Some(key) => least_above(&self.parts, key),
-            None => least_key(&self.parts),
+        match self.next_behind(after) {
+            Some((key, _)) => Some(key),
+            None => None,
         }
     }
 

@@ -1,18 +1,20 @@
-use Rattle.std.proofs.Common.{◌≡◌, ℕ, ◌<◌, ◌≤◌, ◌^◌, Option, Some, None, IsSome, IfSome, sym, ap, subst, ◌∙◌}
-use Rattle.std.specs.FinMap as maps
-use Rattle.mig_guest.specs.Frames.{FrameMap, IsSized}
-use Rattle.mig_guest.specs.FrameView.{frame_at}
-use Rattle.mig_guest.proofs.KeyedMaps.{next_seen}
-use Rattle.mig_guest.proofs.FrameMaps.{kind_at, get_frame, small_of}
+use Rattle.std.proofs.Common.{◌≡◌, ℕ, ◌<◌, nat_le, arith, le-leb}
+use Rattle.std.specs.Cmp.{nat_cmp_total}
+use Rattle.std.specs.Ordering.{nat_cmp}
+use Rattle.std.specs.declared.cmp.Ordering.TheVariants.{Less}
+use Rattle.std.specs.FinMap.{nat_cmp-IsAntisymmetric}
+use Rattle.std.proofs.lemmas.Bool.{leb-true}
+use Rattle.std.proofs.lemmas.Grind.{common_steps}
+use Rattle.mig_guest.proofs.Found.{none_passes, first_passes}
 use Rattle.mig_guest.proofs.frames.Frames.next.Goals as goal
 
-small_next : (m : FrameMap) (from : ℕ) (r : Option ℕ) → IsSized m → IfSome r (λ q. (from ≤ q) × IsSome (maps.get m q) × ((k : ℕ) → from ≤ k → k < q → maps.get m k ≡ None)) → IfSome r (λ q. q < 2 ^ 28)
-small_next m from None sized s = tt
-small_next m from (Some q) sized s = small_of m q sized s.1
+less : (k q : ℕ) → k < q → nat_cmp k q ≡ Less
+less k q lt = grind (arith, common_steps)
 
-pub returns : goal.returns
-returns c =
-    let pages = c.self.inside.pages.pages in let kinds = c.self.inside.kinds.entries in let m = c.args.self.now in
-    let both = next_seen (frame_at pages) (kind_at kinds) (maps.get m) (λ q. ap (λ (n : FrameMap). maps.get n q) (sym c.self.view_is) ∙ get_frame pages kinds q)
-    (λ k. c.args.from ≤ k) (λ k q. k < q) c.least_from.result c.least_from.ensures.none c.least_from.ensures.least in
-    record { none = both.0; least = both.1; small = small_next m c.args.from c.least_from.result (subst IsSized c.self.view_is c.self.invariant.sized) both.1 }
+pub returns-in-Some-clause-least : goal.returns-in-Some-clause-least
+returns-in-Some-clause-least c =
+    let found = first_passes nat_cmp_total nat_cmp-IsAntisymmetric c.args.self.now (nat_le c.args.from) _ _ c.in-Some.ensures.next in
+    (leb-true c.args.from _ found.0, found.1, λ k le lt. found.2 k (le-leb c.args.from k le) (less k _ lt))
+
+pub returns-in-None-clause-none : goal.returns-in-None-clause-none
+returns-in-None-clause-none c = λ k le. none_passes nat_cmp_total nat_cmp-IsAntisymmetric c.args.self.now (nat_le c.args.from) c.in-None.ensures.next k (le-leb c.args.from k le)

@@ -1,19 +1,37 @@
-use Rattle.std.proofs.Common.{◌≡◌, Some, None}
-use Rattle.std.specs.declared.cmp.Ordering.TheVariants.{Less}
+use Rattle.std.proofs.Common.{◌≡◌, ℕ, Bool, true, List, [], ◌∷◌, filter, Option, Some, None, refl, sym, ap, ◌∙◌}
+use Rattle.std.specs.Ordering.{is_lt}
 use Rattle.std.specs.FinMap as maps
+use Rattle.mig_guest.specs.declared.part_key.PartKey.{PartKey}
 use Rattle.mig_guest.specs.Order.{part_cmp, IsAbove}
-use Rattle.mig_guest.proofs.KeyedMaps.{next_seen}
-use Rattle.mig_guest.proofs.PartMaps.{items, part_at, got}
+use Rattle.mig_guest.specs.Parts.{Part, parts_behind}
+use Rattle.mig_guest.proofs.PartOrder.{part_total, part_exact}
+use Rattle.mig_guest.proofs.PartCursor.{less, kept_all}
+use Rattle.mig_guest.proofs.Found.{none_passes, first_passes}
 use Rattle.mig_guest.proofs.parts.Parts.next.Goals as goal
 
-pub returns-in-Some : goal.returns-in-Some
-returns-in-Some c =
-    let es = c.self.inside.parts.entries in let m = c.args.self.now in
-    let both = next_seen items (part_at es) (maps.get m) (got es m c.self.view_is) (IsAbove (Some c.in-Some.key)) (λ k q. part_cmp k q ≡ Less) c.least_above.result c.least_above.ensures.none c.least_above.ensures.least in
-    rw c.in-Some.is (record { none = both.0; least = both.1 })
+abbrev is_above : Option PartKey → PartKey → Bool
+is_above None k = true
+is_above (Some a) k = is_lt (part_cmp a k)
 
-pub returns-in-None : goal.returns-in-None
-returns-in-None c =
-    let es = c.self.inside.parts.entries in let m = c.args.self.now in
-    let both = next_seen items (part_at es) (maps.get m) (got es m c.self.view_is) (IsAbove None) (λ k q. part_cmp k q ≡ Less) c.least_key.result c.least_key.ensures.none c.least_key.ensures.least in
-    rw c.in-None.is (record { none = both.0; least = both.1 })
+behind_are : (after : Option PartKey) (es : List Part) → filter (λ e. is_above after e.0) es ≡ parts_behind after es
+behind_are None es = kept_all es
+behind_are (Some k) es = refl
+
+above : (after : Option PartKey) (k : PartKey) → IsAbove after k → is_above after k ≡ true
+above None k h = refl
+above (Some a) k h = ap is_lt h
+
+is_key_above : (after : Option PartKey) (k : PartKey) → is_above after k ≡ true → IsAbove after k
+is_key_above None k h = tt
+is_key_above (Some a) k h = less _ h
+
+pub returns-in-Some-clause-least : goal.returns-in-Some-clause-least
+returns-in-Some-clause-least c =
+    let m = c.args.self.now in let after = c.args.after in
+    let found = first_passes part_total part_exact m (is_above after) _ _ (behind_are after (maps.entries m) ∙ c.in-Some.ensures) in
+    (is_key_above after _ found.0, found.1, λ k is before. found.2 k (above after k is) before)
+
+pub returns-in-None-clause-none : goal.returns-in-None-clause-none
+returns-in-None-clause-none c =
+    let m = c.args.self.now in let after = c.args.after in
+    λ k is. none_passes part_total part_exact m (is_above after) (behind_are after (maps.entries m) ∙ c.in-None.ensures) k (above after k is)

@@ -5,14 +5,14 @@ use Rattle.std.proofs.lemmas.List.{with_items_is}
 use Rattle.std.specs.FinMap as maps
 use Rattle.mig_pagestore.specs.Pages.{spliced}
 use Rattle.mig_guest.specs.Parts.{PartMap}
-use Rattle.mig_guest.proofs.KeyedMaps.{there_seen}
+use Rattle.mig_guest.proofs.KeyedMaps.{is_some-mapped}
 use Rattle.mig_guest.proofs.PartMaps.{items, got, is_some_lent, part_at, put_seen}
 use Rattle.mig_guest.proofs.parts.Parts.write.Goals as goal
 
 pub unwrap-part-requires : goal.unwrap-part-requires
 unwrap-part-requires c =
     let es = c.self.inside.parts.entries in let m = c.args.self.now in
-    sym (is_some_lent c.get_mut.result) ∙ ap is_some c.get_mut.ensures.value ∙ sym (there_seen items (part_at es) (maps.get m) (got es m c.self.view_is) c.args.key) ∙ c.requires.there
+    sym (is_some_lent c.get_mut.result) ∙ ap is_some c.get_mut.ensures.value ∙ sym (ap is_some (got es m c.self.view_is c.args.key) ∙ is_some-mapped (λ v. v.items) (part_at es c.args.key)) ∙ c.requires.there
 
 pub write_over-requires : goal.write_over-requires
 write_over-requires c =
