@@ -1,5 +1,5 @@
 -- The entries of a finite map: what holds of all that is found holds of all entries, and still where keys are set or taken away.
-use Rattle.std.proofs.Common.{◌≡◌, Bool, true, false, cond, List, [], ◌∷◌, Option, Some, None, is_some, IsSome, IfSome, filter, refl, sym, ap, subst, ◌∙◌}
+use Rattle.std.proofs.Common.{◌≡◌, Bool, true, false, cond, List, [], ◌∷◌, Option, Some, None, IfSome, filter, refl, sym, ap, subst, ◌∙◌}
 use Rattle.std.specs.Prelude.{T}
 use Rattle.std.specs.List.{All}
 use Rattle.std.specs.Option.{option_or}
@@ -70,13 +70,13 @@ module _ {K X : Type 0} {R : K → K → Ordering} (total : IsTotalOrder R) (exa
     pub none_passes : passing ≡ [] → (k : K) → p k ≡ true → maps.get m k ≡ None
     none_passes none k is = among k is ∙ ap (find R k) none
 
-    pub first_passes : (e : K × X) (rest : List (K × X)) → passing ≡ e ∷ rest → (p e.0 ≡ true) × IsSome (maps.get m e.0) × ((k : K) → p k ≡ true → R k e.0 ≡ Less → maps.get m k ≡ None)
+    pub first_passes : (e : K × X) (rest : List (K × X)) → passing ≡ e ∷ rest → (p e.0 ≡ true) × (maps.get m e.0 ≡ Some e.1) × ((k : K) → p k ≡ true → R k e.0 ≡ Less → maps.get m k ≡ None)
     first_passes e rest h =
         let P : K × X → Type 0 = λ f. p f.0 ≡ true in
         let passes : p e.0 ≡ true = All-head P e rest (subst (All P) h (filter_passes (λ f. p f.0) (maps.entries m))) in
         let (below, _) = both_of (below_all R e.0 rest) (is_sorted R rest) (subst (λ es. T (is_sorted R es)) h (is_sorted-where_key R p (maps.entries m) (maps.entries_sorted m))) in (
           passes,
-          ap is_some (among e.0 passes ∙ ap (find R e.0) h ∙ ap (λ b. cond b (Some e.1) (find R e.0 rest)) ((eq_by_cmp_equiv total).refl e.0)),
+          among e.0 passes ∙ ap (find R e.0) h ∙ ap (λ b. cond b (Some e.1) (find R e.0 rest)) ((eq_by_cmp_equiv total).refl e.0),
           λ k is less. among k is ∙ ap (find R k) h ∙ found_none k (e ∷ rest) (both _ _ (subst (λ r. T (is_lt r)) (sym less) tt) (below_trans k e.0 rest less below)),
         )
 

@@ -1,5 +1,5 @@
 -- Each row of the table of parts has a number of its own, and each part the row of its code.
-use Rattle.std.proofs.Common.{◌≡◌, ℕ, ◌<◌, ◌^◌, Bool, true, false, cond, List, [], ◌∷◌, length, Option, Some, None, refl, sym, ap, subst, ◌∙◌}
+use Rattle.std.proofs.Common.{◌≡◌, ℕ, ◌<◌, ◌^◌, true, false, cond, List, [], ◌∷◌, length, Option, Some, None, refl, sym, ap, subst, ◌∙◌}
 use Rattle.std.specs.Prelude.{◌==◌, ◌&&◌, find}
 use Rattle.std.proofs.lemmas.Bool.{eqb-true, and_parts}
 use Rattle.mig_headers.specs.declared.kind.Kind.TheVariants.{Hvm}
@@ -22,19 +22,15 @@ pub number_back : (c : PartCode) → code_of_number (code_number c) ≡ Some c
 number_back P2mFrames = refl
 number_back _ = refl
 
-some_is : (a b : PartCode) → Some a ≡ Some b → a ≡ b
-some_is a b e = cc
-
 pub one_code : (a b : PartCode) → code_number a ≡ code_number b → a ≡ b
-one_code a b e = some_is a b (sym (number_back a) ∙ ap code_of_number e ∙ number_back b)
-
-row_found : (n : ℕ) (c d : PartCode) (o : Option PartCode) (b : Bool) → (code_number d == n) ≡ b → (o ≡ Some c → n ≡ code_number c) → cond b (Some d) o ≡ Some c → n ≡ code_number c
-row_found n c d o true same later is = sym (eqb-true (code_number d) n same) ∙ ap code_number (some_is d c is)
-row_found n c d o false other later is = later is
+one_code a b e = let same : Some a ≡ Some b = sym (number_back a) ∙ ap code_of_number e ∙ number_back b in cc
 
 found_in : (n : ℕ) (cs : List PartCode) (c : PartCode) → find (λ code. code_number code == n) cs ≡ Some c → n ≡ code_number c
 found_in n [] c is = cc
-found_in n (d ∷ cs) c is = row_found n c d (find (λ code. code_number code == n) cs) (code_number d == n) refl (found_in n cs c) is
+found_in n (d ∷ cs) c is = elim (code_number d == n) as (λ b. (code_number d == n) ≡ b → cond b (Some d) (find (λ code. code_number code == n) cs) ≡ Some c → n ≡ code_number c) [
+  | true ↦ λ t at. let same : d ≡ c = cc in sym (eqb-true (code_number d) n t) ∙ ap code_number same
+  | false ↦ λ t at. found_in n cs c at
+] refl is
 
 pub number_found : (n : ℕ) (c : PartCode) → code_of_number n ≡ Some c → n ≡ code_number c
 number_found n c is = found_in n part_codes c is
@@ -53,15 +49,8 @@ pub record IsOf (code : PartCode) (width : ℕ) (p : PartKey × List ℕ) : Type
 
 pub of_part : (code : PartCode) (kind : Kind) (width : ℕ) (p : PartKey × List ℕ) → IsPart kind width p.0 p.1 → p.0.code ≡ code_number code → IsOf code width p
 of_part code kind width p is number =
-    let same : is.code ≡ code = one_code is.code code (sym is.number ∙ number) in
-    record {
-      number = number;
-      keys = subst (λ (c : PartCode). (row_of c).keys p.0.key1 p.0.key2 ≡ true) same is.keys;
-      len = subst (λ (c : PartCode). (row_of c).allows width (length p.1) ≡ true) same is.len;
-      content = subst (λ (c : PartCode). IsContent c p.1) same is.content;
-      small1 = is.small1;
-      small2 = is.small2;
-    }
+    subst (λ c. IsOf c width p) (one_code is.code code (sym is.number ∙ number))
+    (record { number = is.number; keys = is.keys; len = is.len; content = is.content; small1 = is.small1; small2 = is.small2 })
 
 -- a code of which no key has numbers has one key
 pub sole : (code : PartCode) (width : ℕ) (p : PartKey × List ℕ) → IsOf code width p → ((p.0.key1 == 0) && (p.0.key2 == 0)) ≡ true → p.0 ≡ record { code = code_number code; key1 = 0; key2 = 0 }

@@ -1,4 +1,4 @@
-use Rattle.std.proofs.Common.{◌≡◌, ℕ, Bool, true, List, [], ◌∷◌, filter, Option, Some, None, refl, sym, ap, ◌∙◌}
+use Rattle.std.proofs.Common.{◌≡◌, ℕ, Bool, true, List, [], ◌∷◌, filter, Option, Some, None, is_some, refl, sym, ap, ◌∙◌}
 use Rattle.std.specs.Ordering.{is_lt}
 use Rattle.std.specs.FinMap as maps
 use Rattle.mig_guest.specs.declared.part_key.PartKey.{PartKey}
@@ -29,7 +29,7 @@ pub returns-in-Some-clause-least : goal.returns-in-Some-clause-least
 returns-in-Some-clause-least c =
     let m = c.args.self.now in let after = c.args.after in
     let found = first_passes part_total part_exact m (is_above after) _ _ (behind_are after (maps.entries m) ∙ c.in-Some.ensures) in
-    (is_key_above after _ found.0, found.1, λ k is before. found.2 k (above after k is) before)
+    (is_key_above after _ found.0, ap is_some found.1, λ k is before. found.2 k (above after k is) before)
 
 pub returns-in-None-clause-none : goal.returns-in-None-clause-none
 returns-in-None-clause-none c =
