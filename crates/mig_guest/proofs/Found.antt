@@ -8,29 +8,19 @@ use Rattle.std.proofs.lemmas.List.Elements.{All-nil, All-cons, All-head, filter_
 use Rattle.std.specs.Cmp.{IsTotalOrder}
 use Rattle.std.specs.Ordering.{is_lt, is_eq, eq_by_cmp}
 use Rattle.std.specs.declared.cmp.Ordering.{Ordering}
-use Rattle.std.specs.declared.cmp.Ordering.TheVariants.{Less, Equal, Greater}
+use Rattle.std.specs.declared.cmp.Ordering.TheVariants.{Less}
 use Rattle.std.specs.FinMap as maps
 use Rattle.std.specs.FinMap.{FinMap, find, is_sorted, IsAntisymmetric}
 use Rattle.std.specs.FinMap.Entries.{below_all, find-where_key, is_sorted-where_key}
 use Rattle.mig_guest.proofs.KeyedMaps.{tied, both}
-use Rattle.mig_guest.proofs.PartCursor.{both_of}
-
-not_tied : (r : Ordering) → T (is_lt r) → is_eq r ≡ false
-not_tied Less t = refl
-not_tied Equal t = absurd t
-not_tied Greater t = absurd t
-
-is_less : (r : Ordering) → T (is_lt r) → r ≡ Less
-is_less Less t = refl
-is_less Equal t = absurd t
-is_less Greater t = absurd t
+use Rattle.mig_guest.proofs.PartCursor.{both_of, true_of, less}
 
 module _ {K X : Type 0} {R : K → K → Ordering} (total : IsTotalOrder R) (exact : IsAntisymmetric R) where
   found_none : (q : K) (fs : List (K × X)) → T (below_all R q fs) → find R q fs ≡ None
   found_none q [] h = refl
   found_none q (f ∷ fs) h =
       let (first, others) = both_of (is_lt (R q f.0)) (below_all R q fs) h in
-      ap (λ b. cond b (Some f.1) (find R q fs)) (not_tied (R q f.0) first) ∙ found_none q fs others
+      ap (λ b. cond b (Some f.1) (find R q fs)) (ap is_eq (less _ (true_of _ first))) ∙ found_none q fs others
 
   -- behind an entry there is none of its key
   none_behind : (q : K) (f : K × X) (fs : List (K × X)) → eq_by_cmp R q f.0 ≡ true → T (below_all R f.0 fs) → find R q fs ≡ None
@@ -55,10 +45,10 @@ module _ {K X : Type 0} {R : K → K → Ordering} (total : IsTotalOrder R) (exa
   -- ---- the first entry that passes a test of the keys
 
   below_trans : (k x : K) (fs : List (K × X)) → R k x ≡ Less → T (below_all R x fs) → T (below_all R k fs)
-  below_trans k x [] less h = tt
-  below_trans k x (f ∷ fs) less h =
+  below_trans k x [] l h = tt
+  below_trans k x (f ∷ fs) l h =
       let (first, others) = both_of (is_lt (R x f.0)) (below_all R x fs) h in
-      both _ _ (subst (λ r. T (is_lt r)) (sym (total.trans k x f.0 less (is_less _ first))) tt) (below_trans k x fs less others)
+      both _ _ (subst (λ r. T (is_lt r)) (sym (total.trans k x f.0 l (less _ (true_of _ first)))) tt) (below_trans k x fs l others)
 
   module _ (m : FinMap R X) (p : K → Bool) where
     abbrev passing : List (K × X)
@@ -77,7 +67,7 @@ module _ {K X : Type 0} {R : K → K → Ordering} (total : IsTotalOrder R) (exa
         let (below, _) = both_of (below_all R e.0 rest) (is_sorted R rest) (subst (λ es. T (is_sorted R es)) h (is_sorted-where_key R p (maps.entries m) (maps.entries_sorted m))) in (
           passes,
           among e.0 passes ∙ ap (find R e.0) h ∙ ap (λ b. cond b (Some e.1) (find R e.0 rest)) ((eq_by_cmp_equiv total).refl e.0),
-          λ k is less. among k is ∙ ap (find R k) h ∙ found_none k (e ∷ rest) (both _ _ (subst (λ r. T (is_lt r)) (sym less) tt) (below_trans k e.0 rest less below)),
+          λ k is l. among k is ∙ ap (find R k) h ∙ found_none k (e ∷ rest) (both _ _ (subst (λ r. T (is_lt r)) (sym l) tt) (below_trans k e.0 rest l below)),
         )
 
   -- ---- maps that change

@@ -32,10 +32,10 @@ pub get_frame : (pages : PageMap) (kinds : Kinds) (q : ℕ) → maps.get (frames
 get_frame pages kinds = get_seen nat_cmp_total nat_cmp-IsAntisymmetric (frame_at pages) kinds
 
 -- the type of a frame
-pub kind_seen : (pages : PageMap) (kinds : Kinds) (q : ℕ) → kind_at kinds q ≡ option_map (λ (f : FrameOf). f.type) (maps.get (frames_seen pages kinds) q)
-kind_seen pages kinds q =
+pub kind_seen : (pages : PageMap) (kinds : Kinds) (m : FrameMap) (q : ℕ) → frames_seen pages kinds ≡ m → kind_at kinds q ≡ option_map (λ (f : FrameOf). f.type) (maps.get m q)
+kind_seen pages kinds m q view =
     elim (kind_at kinds q) as (λ r. r ≡ option_map (λ (f : FrameOf). f.type) (option_map (frame_at pages q) r)) [ None ↦ refl | Some k ↦ refl ]
-    ∙ ap (option_map (λ (f : FrameOf). f.type)) (sym (get_frame pages kinds q))
+    ∙ ap (option_map (λ (f : FrameOf). f.type)) (sym (get_frame pages kinds q) ∙ ap (λ (n : FrameMap). maps.get n q) view)
 
 no_page : (o : Option (List ℕ)) → (IsSome o → false ≡ true) → o ≡ None
 no_page None h = refl
@@ -70,13 +70,17 @@ module _ (old new : PageMap) (kinds changed : Kinds) (pfn : ℕ) (kind : Option 
   }
 
 -- the number has a type, and may have a page
-pub frames_set : (old new : PageMap) (kinds changed : Kinds) (pfn : ℕ) (kind : PageType)
+pub frame_set : (old new : PageMap) (kinds changed : Kinds) (pfn : ℕ) (kind : PageType) (page : Option (List ℕ)) → IsInStep old kinds
     → ((q : ℕ) → kind_at changed q ≡ cond (is_at (nat_cmp pfn) q) (Some kind) (kind_at kinds q))
     → ((q : ℕ) → eq_by_cmp nat_cmp q pfn ≡ false → maps.get new q ≡ maps.get old q)
-    → (page : Option (List ℕ)) → option_map whole_page (maps.get new pfn) ≡ page → frames_seen new changed ≡ maps.insert (frames_seen old kinds) pfn (record { type = kind; page = page })
-frames_set old new kinds changed pfn kind types others page has = same_map nat_cmp_total nat_cmp-IsAntisymmetric _ _ (λ q.
-    get_changed old new kinds changed pfn (Some kind) types others q ∙ sym (get-insert nat_cmp_total (frames_seen old kinds) pfn (frame_at new pfn kind) q))
-    ∙ ap (λ (p : Option (List ℕ)). maps.insert (frames_seen old kinds) pfn (record { type = kind; page = p })) has
+    → option_map whole_page (maps.get new pfn) ≡ page → pfn < 2 ^ 28 → IsFrame (record { type = kind; page = page })
+    → IsInStep new changed × (frames_seen new changed ≡ maps.insert (frames_seen old kinds) pfn (record { type = kind; page = page }))
+frame_set old new kinds changed pfn kind page step types others has small fine = (
+  in_step_changed old new kinds changed pfn (Some kind) types others step (small, subst (λ (p : Option (List ℕ)). IsFrame (record { type = kind; page = p })) (sym has) fine) (λ _. refl),
+  same_map nat_cmp_total nat_cmp-IsAntisymmetric _ _ (λ q.
+      get_changed old new kinds changed pfn (Some kind) types others q ∙ sym (get-insert nat_cmp_total (frames_seen old kinds) pfn (frame_at new pfn kind) q))
+      ∙ ap (λ (p : Option (List ℕ)). maps.insert (frames_seen old kinds) pfn (record { type = kind; page = p })) has,
+)
 
 -- the number has no type
 pub frames_removed : (old new : PageMap) (kinds changed : Kinds) (pfn : ℕ)
@@ -171,8 +175,6 @@ lent_page pages kinds pfn w step there = by_kind (kind_at kinds pfn) refl
         let was = sized_at pages kinds pfn kind typed step.sized in
         let has : type_has_data kind ≡ true = sym was.1.in_step ∙ is_some-mapped whole_page (maps.get pages pfn) ∙ there in
         let gives : option_map whole_page (maps.get lent pfn) ≡ Some (whole_page w) = ap (option_map whole_page) (insert_gives nat_cmp_total pages pfn w) in
-        let fine : IsFrame (frame_at lent pfn kind) = subst (λ (page : Option (List ℕ)). IsFrame (record { type = kind; page = page })) (sym gives) (whole_frame kind (whole_page w) has (length_whole w)) in
-        let frame = get_frame pages kinds pfn ∙ ap (option_map (frame_at pages pfn)) typed in (
-          in_step_changed pages lent kinds kinds pfn (Some kind) types (insert_leaves nat_cmp_total pages pfn w) step (was.0, fine) (λ _. refl),
-          frames_set pages lent kinds kinds pfn kind types (insert_leaves nat_cmp_total pages pfn w) _ gives ∙ sym (ap (λ (f : Option FrameOf). repaged f (frames_seen pages kinds) pfn w) frame),
-        )
+        let set = frame_set pages lent kinds kinds pfn kind (Some (whole_page w)) step types (insert_leaves nat_cmp_total pages pfn w) gives was.0 (whole_frame kind (whole_page w) has (length_whole w)) in
+        let frame = get_frame pages kinds pfn ∙ ap (option_map (frame_at pages pfn)) typed in
+        (set.0, set.1 ∙ sym (ap (λ (f : Option FrameOf). repaged f (frames_seen pages kinds) pfn w) frame))

@@ -30,7 +30,7 @@ pub both_of : (a b : Bool) → T (a && b) → T a × T b
 both_of true b h = (tt, h)
 both_of false b h = absurd h
 
-true_of : (b : Bool) → T b → b ≡ true
+pub true_of : (b : Bool) → T b → b ≡ true
 true_of true h = refl
 true_of false h = absurd h
 
