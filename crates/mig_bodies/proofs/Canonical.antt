@@ -1,7 +1,7 @@
 -- The canonical bodies of a well formed guest's parts of a code say these parts, in a length that their record's type has: a
 -- lemma for each shape.
 use Rattle.std.proofs.Common.{◌≡◌, ℕ, ◌+◌, ◌*◌, ◌-◌, ◌%◌, ◌<◌, ◌≤◌, ◌^◌, Bool, true, false, not, List, [], ◌∷◌, ◌++◌, length, map, replicate, nat_le, nat_lt, None, refl, sym, ap, subst, ◌∙◌, arith, rules, length-append, append_assoc, append-nil}
-use Rattle.std.specs.Prelude.{◌==◌, ◌&&◌, ◌||◌, ⊤}
+use Rattle.std.specs.Prelude.{◌==◌, ◌&&◌, ⊤}
 use Rattle.std.specs.List.{All}
 use Rattle.std.proofs.lemmas.Bool.{and_parts, and_from, and_right, or_right, le-ltb, eqb-true, eq-eqb, le-leb, leb-true, ltb-true}
 use Rattle.std.proofs.lemmas.List.{length-replicate}

@@ -1,12 +1,12 @@
 -- What is to be shown of each row.
 use Rattle.std.proofs.Common.{◌≡◌, ℕ, zero, suc, ◌+◌, ◌*◌, ◌%◌, ◌<◌, ◌^◌, Bool, true, false, not, List, [], ◌∷◌, length, drop, None, Option, Some, refl, subst, arith, rules}
-use Rattle.std.specs.Prelude.{nat_lt, ◌&&◌, ◌==◌}
+use Rattle.std.specs.Prelude.{nat_lt, ◌==◌}
 use Rattle.std.proofs.lemmas.Bool.{and_parts, not-false, ltb-true}
 use Rattle.mig_headers.specs.Rows.{first_fault}
 use Rattle.mig_headers.specs.RecordTypes.{record_row_of, type_of_number}
 use Rattle.mig_headers.specs.declared.record_type.RecordType.{RecordType}
 use Rattle.mig_headers.specs.declared.fault.Cause.{Cause}
-use Rattle.mig_headers.proofs.FirstFaults.{rows_fine, no_fault, neither_some}
+use Rattle.mig_headers.proofs.FirstFaults.{rows_fine, neither_some}
 use Rattle.mig_guest.specs.declared.part_code.PartCode.{PartCode}
 use Rattle.mig_guest.specs.declared.part_code.PartCode.TheVariants.{P2mFrames, CpuidLeaf, Msr}
 use Rattle.mig_guest.specs.PartCodes.{code_number, small_number}

@@ -1,5 +1,5 @@
 -- What the frames that are seen have at each number, and what a change of one number does to them.
-use Rattle.std.proofs.Common.{◌≡◌, ◌≢◌, ℕ, ◌<◌, ◌^◌, length, replicate, nat_eq, Bool, true, false, cond, List, [], ◌∷◌, Option, Some, None, is_some, IsSome, IfSome, Bor, option_and_then, refl, sym, ap, subst, ◌∙◌}
+use Rattle.std.proofs.Common.{◌≡◌, ◌≢◌, ℕ, ◌<◌, ◌^◌, length, replicate, nat_eq, true, false, cond, List, [], Option, Some, None, is_some, IsSome, IfSome, Bor, option_and_then, refl, sym, ap, subst, ◌∙◌}
 use Rattle.std.specs.Ordering.{nat_cmp, eq_by_cmp}
 use Rattle.std.specs.Option.{option_copied, option_map}
 use Rattle.std.specs.Cmp.{nat_cmp_total}

@@ -1,5 +1,5 @@
 -- An HVM guest at the end of its stream: two causes are tried, of its context and of how many frames it has.
-use Rattle.std.proofs.Common.{◌≡◌, List, ◌∷◌, [], length, Bool, true, false, cond, nat_lt, Some, None, is_none, IsSome, refl, sym, ap, ◌∙◌}
+use Rattle.std.proofs.Common.{◌≡◌, ◌∷◌, [], length, Bool, true, false, cond, nat_lt, Some, None, is_none, IsSome, refl, sym, ap, ◌∙◌}
 use Rattle.std.specs.Prelude.{◌↔◌}
 use Rattle.std.specs.Option.{option_or}
 use Rattle.std.specs.FinMap as maps

@@ -1,6 +1,6 @@
 -- A whole PV guest, so that there is one: two frames, of which the first is NOTAB and the only P2M frame, and the second a
 -- level 4 table of zeros, to which vCPU 0's ctrlreg[3] points.
-use Rattle.std.proofs.Common.{◌≡◌, ◌≢◌, ℕ, ◌+◌, ◌-◌, ◌*◌, ◌/◌, ◌^◌, ◌<◌, ◌≤◌, Bool, true, false, cond, nat_eq, nat_lt, List, [], ◌∷◌, length, Some, None, IsSome, refl, sym, ap, subst, ◌∙◌, inl, inr, arith, le-leb, le-ltb, eq-eqb, lit<, ltb-true}
+use Rattle.std.proofs.Common.{◌≡◌, ◌≢◌, ℕ, ◌-◌, ◌*◌, ◌/◌, ◌^◌, ◌<◌, ◌≤◌, true, false, cond, nat_lt, List, [], ◌∷◌, length, Some, None, IsSome, refl, sym, ap, subst, ◌∙◌, inl, inr, arith, le-leb, le-ltb, eq-eqb, lit<, ltb-true}
 use Rattle.std.specs.Prelude.{◌==◌, nat_le}
 use Rattle.std.specs.Option.{option_map}
 use Rattle.std.specs.Ordering.{nat_cmp}

@@ -1,5 +1,5 @@
 -- Searches in ranges, among entries and along rows of causes: when nothing is found.
-use Rattle.std.proofs.Common.{◌≡◌, ℕ, ◌<◌, ◌≤◌, Bool, true, false, cond, List, [], ◌∷◌, length, get_or, ◌+◌, nat_lt, Option, Some, None, is_none, is_some, IsSome, refl, sym, ap, ◌∙◌, arith, ◌↔◌}
+use Rattle.std.proofs.Common.{◌≡◌, ℕ, ◌<◌, ◌≤◌, Bool, true, false, cond, List, [], ◌∷◌, get_or, nat_lt, Option, Some, None, is_none, is_some, IsSome, refl, sym, ap, ◌∙◌, arith, ◌↔◌}
 use Rattle.std.specs.Prelude.{find, ⊤, ◌||◌}
 use Rattle.std.specs.List.{All, range_with_len, list_any}
 use Rattle.std.specs.Option.{option_map, option_or}

@@ -6,7 +6,7 @@ use Rattle.std.specs.FinMap as maps
 use Rattle.mig_pagestore.specs.Pages.{spliced}
 use Rattle.mig_guest.specs.Parts.{PartMap}
 use Rattle.mig_guest.proofs.KeyedMaps.{is_some-mapped}
-use Rattle.mig_guest.proofs.PartMaps.{items, got, is_some_lent, part_at, put_seen}
+use Rattle.mig_guest.proofs.PartMaps.{got, is_some_lent, part_at, put_seen}
 use Rattle.mig_guest.proofs.parts.Parts.write.Goals as goal
 
 pub unwrap-part-requires : goal.unwrap-part-requires

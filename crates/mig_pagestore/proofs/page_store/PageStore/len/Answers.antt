@@ -1,7 +1,6 @@
 use Rattle.std.specs.List.{zip}
 use Rattle.std.specs.Cmp.{nat_cmp_total}
 use Rattle.std.proofs.Common.{◌^◌, is_some, subst, map, sym, ◌∙◌, ap}
-use Rattle.std.proofs.lemmas.List.{length-map}
 use Rattle.std.specs.FinMap as maps
 use Rattle.mig_pagestore.specs.Pages.{Store, IsSmall}
 use Rattle.mig_pagestore.proofs.ListMaps.{len_of, small_found}
