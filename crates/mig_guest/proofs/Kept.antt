@@ -37,15 +37,12 @@ module _ (kind : Kind) (width code : ℕ) where
     replace_holds m [] are each = each
     replace_holds m (p ∷ ps) are each = puts_hold _ (p ∷ ps) are (kept_holds part_total part_exact P m (λ k. not (nat_eq k.code code)) each)
 
-fewer : (a b n : ℕ) → a ≡ b → b ≤ n → a ≤ n
-fewer a b n e h = subst (λ x. x ≤ n) (sym e) h
-
 pub parts_keep : (g : GuestOf) (code : ℕ) (ps : List Part) → is_policy code ≡ false → AreParts g.kind (width_of g) code ps → IsFormed g → IsFormed (record g { parts = put_parts g.parts ps })
 parts_keep g code ps not_policy are formed = record {
   top = formed.top;
   frames = formed.frames;
   parts = puts_hold g.kind (width_of g) code (IsPart g.kind (width_of g)) (λ p is same. is) g.parts ps are formed.parts;
-  policies = λ d one. fewer _ _ 65536 (ap length (same_parts d (put_parts g.parts ps) g.parts (λ q of_d. puts_other code ps (of_code g.kind (width_of g) code ps are) g.parts q (λ is.
+  policies = λ d one. subst (λ ps. length ps ≤ 65536) (sym (same_parts d (put_parts g.parts ps) g.parts (λ q of_d. puts_other code ps (of_code g.kind (width_of g) code ps are) g.parts q (λ is.
       let clash : true ≡ false = sym one ∙ ap is_policy (sym of_d ∙ is) ∙ not_policy in cc)))) (formed.policies d one);
 }
 
@@ -63,7 +60,7 @@ replace_fits kind width code m d (p ∷ ps) are few fits = which (nat_eq d code)
 
     which : (b : Bool) → nat_eq d code ≡ b → FitsPolicy d (put_parts less (p ∷ ps))
     which true is = subst (λ n. FitsPolicy n (put_parts less (p ∷ ps))) (sym (eqb-true d code is)) (omega (arith, set_len code less (p ∷ ps) of, ap length (none_left code m), few))
-    which false is = fewer _ _ 65536 (ap length (same_parts d (put_parts less (p ∷ ps)) m (λ q of_d.
+    which false is = subst (λ ps. length ps ≤ 65536) (sym (same_parts d (put_parts less (p ∷ ps)) m (λ q of_d.
         let differ : q.code ≢ code = λ e. let clash : true ≡ false = sym (eq-eqb d code (sym of_d ∙ e)) ∙ is in cc in
         puts_other code (p ∷ ps) of less q differ ∙ cleared_other code m q differ))) fits
 
