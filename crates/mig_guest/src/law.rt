@@ -15,12 +15,14 @@ pub fn empty_guest_is_formed()
 {}
 
 /// A well formed guest stays so where parts of one code that is no policy's are set.
+#[tactic(auto, using(crate::proofs::Kept::parts_keep))]
 pub fn setting_parts_keeps_formed()
     ensures { (g : GuestOf) (code : ℕ) (ps : List (PartKey × List ℕ)) → is_policy code ≡ false → AreParts g.kind (width_of g) code ps
         → IsFormed g → IsFormed (record g { parts = put_parts g.parts ps }) }
 {}
 
 /// A well formed guest stays so where all entries of a policy are replaced.
+#[tactic(auto, using(crate::proofs::Kept::policies_keep))]
 pub fn setting_policies_keeps_formed()
     ensures { (g : GuestOf) (code : ℕ) (ps : List (PartKey × List ℕ)) → length ps ≤ 65536 → AreParts g.kind (width_of g) code ps
         → IsFormed g → IsFormed (record g { parts = replace_code code g.parts ps }) }

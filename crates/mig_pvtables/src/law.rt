@@ -14,17 +14,20 @@ ghost use Rattle.mig_pvtables.specs.Whole.{IsWhole};
 ghost use Rattle.mig_pvtables.specs.WholePv.{IsWholePv};
 
 /// Of an HVM guest two causes are tried: that it has no context, and that it has too many frames.
+#[tactic(auto, using(crate::proofs::HvmGuests::hvm_fault))]
 pub fn hvm_guest_has_two_faults()
     ensures { (g : GuestOf) → g.kind ≡ Hvm → fault_of_guest g ≡
         first_fault ((is_none (maps.get g.parts context_key), Missing 9) ∷ (nat_lt most_frames (length (maps.entries g.frames)), TooManyFrames) ∷ []) }
 {}
 
 /// A whole HVM guest is a well formed one that has a context and not too many frames.
+#[tactic(auto, using(crate::proofs::HvmGuests::hvm_whole))]
 pub fn hvm_guest_is_whole()
     ensures { (g : GuestOf) → g.kind ≡ Hvm → IsWhole g ↔ (IsFormed g × IsSome (maps.get g.parts context_key) × IsFew g.frames) }
 {}
 
 /// A whole PV guest is one that is whole in the words of the format.
+#[tactic(auto, using(crate::proofs::PvGuests::pv_whole))]
 pub fn pv_guest_is_whole()
     ensures { (g : GuestOf) → g.kind ≡ Pv → IsWhole g ↔ IsWholePv g }
 {}
@@ -35,6 +38,7 @@ pub fn some_pv_guest_is_whole()
 {}
 
 /// An HVM guest is its own blank form.
+#[tactic(auto, using(crate::proofs::HvmGuests::hvm_blank))]
 pub fn hvm_guest_is_blank()
     ensures { (g : GuestOf) → g.kind ≡ Hvm → blank g ≡ g }
 {}
