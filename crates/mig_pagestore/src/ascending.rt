@@ -11,6 +11,7 @@ pub(crate) fn position(numbers: &[u64], number: u64) -> Result<usize, usize>
 }
 
 // Where the numbers that are at least `least` begin.
+#[tactic(auto, using(crate::proofs::ListMaps::from_at, crate::proofs::ListMaps::from_gap))]
 pub(crate) fn start_from(numbers: &[u64], least: u64) -> usize
     requires { IsRising numbers.now }
     ensures { IsFrom numbers.now least result }
