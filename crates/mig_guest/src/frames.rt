@@ -49,6 +49,7 @@ impl Frames {
         }
     }
 
+    #[tactic(auto, using(crate::proofs::FrameMaps::len_seen))]
     pub(crate) fn len(&self) -> u64
         ensures count { result ≡ maps.len self.now }
         ensures sized { IsSized self.now }
@@ -56,6 +57,7 @@ impl Frames {
         self.kinds.len() as u64
     }
 
+    #[tactic(auto, using(crate::proofs::FrameMaps::kind_seen))]
     pub(crate) fn kind(&self, pfn: u64) -> Option<PageType>
         ensures { result ≡ option_map (λ f. f.type) (maps.get self.now pfn) }
     {
@@ -65,6 +67,7 @@ impl Frames {
         }
     }
 
+    #[tactic(auto, using(crate::proofs::FrameMaps::found_page))]
     pub(crate) fn page(&self, pfn: u64) -> Option<&[u8; 4096]>
         ensures { option_copied result ≡ option_and_then (λ f. f.page) (maps.get self.now pfn) }
     {
