@@ -55,6 +55,7 @@ fn entry_fault(code: PartCode, layout: Layout, bytes: &[u8]) -> Option<Cause>
 }
 
 /// The first fault of the keys of `count` entries.
+#[tactic(auto, using(crate::proofs::Reading::longer, crate::proofs::Reading::shorter, crate::proofs::Reading::fault_next))]
 fn entries_fault(code: PartCode, layout: Layout, bytes: &[u8], count: usize) -> Option<Cause>
     requires widths { AreWidths layout }
     requires whole { length bytes.now ≡ entry_width layout * count }
@@ -88,6 +89,7 @@ pub(crate) fn table_fault(code: PartCode, layout: Layout, body: &[u8]) -> Option
 }
 
 /// Sets the part of the first entry.
+#[tactic(auto, using(crate::proofs::Reading::small_entry))]
 fn set_entry(guest: &mut Guest, code: PartCode, layout: Layout, bytes: &[u8]) -> Result<(), Memory>
     requires layout { IsLayout code layout }
     requires whole { entry_width layout ≤ length bytes.now }
@@ -107,6 +109,7 @@ fn set_entry(guest: &mut Guest, code: PartCode, layout: Layout, bytes: &[u8]) ->
 }
 
 /// Sets the parts of `count` entries, of each key the last. Where no memory is found, some of them may be set.
+#[tactic(auto, using(crate::proofs::Reading::longer, crate::proofs::Reading::shorter, crate::proofs::Reading::fine_first, crate::proofs::Reading::guest_next, crate::proofs::Reading::others_next))]
 fn set_entries(
     guest: &mut Guest,
     code: PartCode,
@@ -147,6 +150,7 @@ fn clear_policy(guest: &mut Guest, code: PartCode)
 
 /// Sets the parts of a table without fault, for a policy in place of all earlier ones; of each key the last entry decides.
 /// A table of no entries changes nothing. Where no memory is found, some of these parts may be set or gone.
+#[tactic(auto, using(crate::proofs::Reading::small_table, crate::proofs::Reading::cleared_keeps, crate::proofs::Reading::none_counted))]
 pub(crate) fn read_table(
     guest: &mut Guest,
     code: PartCode,
