@@ -75,16 +75,6 @@ module _ (code : PartCode) (l : Layout) where
 
   -- ---- all entries
 
-  -- parts set in place of all of a policy, where there are some
-  pub set_some : (n : ℕ) (m : PartMap) (bytes : List ℕ) → n ≢ 0 → put_parts (cleared code m) (entry_parts code l n bytes) ≡ set_parts code m (entry_parts code l n bytes)
-  set_some zero m bytes some = absurd (some refl)
-  set_some (suc n) m bytes some =
-      let ps = entry_parts code l (suc n) bytes in
-      elim (is_policy (code_number code)) as (λ b. put_parts (cond b (maps.retain_keys m (λ k. not (k.code == code_number code))) m) ps ≡ cond b (replace_code (code_number code) m ps) (put_parts m ps)) [ true ↦ refl | false ↦ refl ]
-
-  pub set_none : (n : ℕ) (m : PartMap) (bytes : List ℕ) → n ≡ 0 → m ≡ set_parts code m (entry_parts code l n bytes)
-  set_none n m bytes none = sym (ap (λ k. set_parts code m (entry_parts code l k bytes)) none ∙ set_empty code m)
-
   pub none_counted : (n : ℕ) (bytes : List ℕ) → entry_parts code l n bytes ≡ [] → n ≡ 0
   none_counted zero bytes is = refl
   none_counted (suc n) bytes is = cc

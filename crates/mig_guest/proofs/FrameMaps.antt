@@ -115,13 +115,6 @@ pub len_seen : (pages : PageMap) (kinds : Kinds) → IsStrictlySortedBy nat_cmp 
 len_seen pages kinds order =
     maps.len-entries (frames_seen pages kinds) ∙ ap length (entries_seen nat_cmp_total nat_cmp-IsAntisymmetric (frame_at pages) kinds order) ∙ length-map kinds (shown (frame_at pages))
 
--- a number that has a frame is below 2^28
-pub small_of : (m : FrameMap) (q : ℕ) → IsSized m → IsSome (maps.get m q) → q < 2 ^ 28
-small_of m q sized there = elim (maps.get m q) as (λ r. maps.get m q ≡ r → IsSome r → q < 2 ^ 28) [
-  | None ↦ λ e h. let no : false ≡ true = h in cc
-  | Some f ↦ λ e h. (sized q f e).0
-] refl there
-
 -- a number with a type has a frame of it
 pub sized_at : (pages : PageMap) (kinds : Kinds) (q : ℕ) (kind : PageType) → kind_at kinds q ≡ Some kind → IsSized (frames_seen pages kinds) → (q < 2 ^ 28) × IsFrame (frame_at pages q kind)
 sized_at pages kinds q kind e sized = sized q (frame_at pages q kind) (get_frame pages kinds q ∙ ap (option_map (frame_at pages q)) e)
