@@ -55,10 +55,6 @@ module _ (code : PartCode) (l : Layout) where
   fine_first bytes n m is fine =
       both_none (fault_of_entry code l bytes) (fault_of_entries code l m (drop (entry_width l) bytes)) (subst (λ k. fault_of_entries code l k bytes ≡ None) (is ∙ next m) fine)
 
-  -- a part set, and those behind it
-  puts_next : (parts : PartMap) (bytes : List ℕ) (n m : ℕ) → n ≡ m + 1 → put_parts (put_part parts (entry_part code l bytes)) (entry_parts code l m (drop (entry_width l) bytes)) ≡ put_parts parts (entry_parts code l n bytes)
-  puts_next parts bytes n m is = ap (λ k. put_parts parts (entry_parts code l k bytes)) (sym (is ∙ next m))
-
   -- a guest on the way
   pub guest_next : (g h n : GuestOf) (bytes : List ℕ) (left less : ℕ) (all : List Part) → left ≡ less + 1
       → record h { parts = put_parts h.parts (entry_parts code l left bytes) } ≡ record g { parts = put_parts g.parts all }
@@ -66,7 +62,7 @@ module _ (code : PartCode) (l : Layout) where
       → record n { parts = put_parts n.parts (entry_parts code l less (drop (entry_width l) bytes)) } ≡ record g { parts = put_parts g.parts all }
   guest_next g h n bytes left less all is before set =
       ap (λ (x : GuestOf). record x { parts = put_parts x.parts (entry_parts code l less (drop (entry_width l) bytes)) }) set
-      ∙ ap (λ (p : PartMap). record h { parts = p }) (puts_next h.parts bytes left less is) ∙ before
+      ∙ ap (λ k. record h { parts = put_parts h.parts (entry_parts code l k bytes) }) (sym (is ∙ next less)) ∙ before
 
   pub others_next : (g h n : GuestOf) (bytes : List ℕ) → ((q : PartKey) → q.code ≢ code_number code → maps.get h.parts q ≡ maps.get g.parts q)
       → n ≡ record h { parts = put_part h.parts (entry_part code l bytes) } → (q : PartKey) → q.code ≢ code_number code → maps.get n.parts q ≡ maps.get g.parts q
@@ -114,15 +110,11 @@ narrow n x few low = let wide : 256 ^ n ≤ 256 ^ 4 = pow-le-pow_right {n = 256}
 pub small_name : (code : PartCode) (second : ℕ) → second ≤ 4 → (body : List ℕ) → AreOctets body → IsSmallKey (key_in code 4 second body)
 small_name code second few body h = (narrow 4 _ (omega arith) (little_from-lt 0 4 body h), narrow second _ few (little_from-lt 0 second (drop 4 body) (behind 4 body h)))
 
-pub named_small : (skips : Bool) (k : PartKey) (bytes : List ℕ) → IsSmallKey k → AllByRecursion (λ p. IsSmallKey p.0) (named_parts skips k bytes)
-named_small true k [] small = tt
-named_small true k (x ∷ xs) small = (small, tt)
-named_small false k bytes small = (small, tt)
-
-pub named_of : (code : PartCode) (skips : Bool) (k : PartKey) (bytes : List ℕ) → k.code ≡ code_number code → AllByRecursion (λ p. p.0.code ≡ code_number code) (named_parts skips k bytes)
-named_of code true k [] is = tt
-named_of code true k (x ∷ xs) is = (is, tt)
-named_of code false k bytes is = (is, tt)
+-- what holds of a part that is named holds of what is set
+pub named_all : (P : Part → Type 0) (skips : Bool) (k : PartKey) (bytes : List ℕ) → P (k, bytes) → AllByRecursion P (named_parts skips k bytes)
+named_all P true k [] h = tt
+named_all P true k (x ∷ xs) h = (h, tt)
+named_all P false k bytes h = (h, tt)
 
 -- the parts of other codes stay, whether these are set or not
 pub others_kept : {E : Type 0} (code : PartCode) (ps : List Part) → AllByRecursion (λ p. p.0.code ≡ code_number code) ps → (g n : GuestOf) (r : Result (Unit {0}) E)

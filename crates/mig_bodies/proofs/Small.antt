@@ -6,13 +6,13 @@ use Rattle.mig_bodies.specs.declared.shape.Shape.{Shape}
 use Rattle.mig_bodies.specs.declared.shape.Shape.TheVariants.{Table, Single, Named, Chain, Other}
 use Rattle.mig_bodies.specs.Layouts.{IsSmallKey, key_in}
 use Rattle.mig_bodies.specs.Shapes.{shape_of, IsRow, fault_by_shape, parts_by_shape, fault_of_body, parts_of_body}
-use Rattle.mig_bodies.proofs.Reading.{AreOctets, small_table, small_name, named_small}
+use Rattle.mig_bodies.proofs.Reading.{AreOctets, small_table, small_name, named_all}
 use Rattle.mig_bodies.proofs.Rows.{all_rows}
 
 by_shape : (code : PartCode) (body : List ℕ) (shape : Shape) → IsRow code shape → AreOctets body → fault_by_shape shape code body ≡ None → AllByRecursion (λ p. IsSmallKey p.0) (parts_by_shape shape code body)
 by_shape code body (Table l) row octets fine = small_table code l body fine row octets
 by_shape code body (Single len ignored) row octets fine = ((omega arith, omega arith), tt)
-by_shape code body (Named second ignored skips) row octets fine = named_small skips (key_in code 4 second body) _ (small_name code second row.0 body octets)
+by_shape code body (Named second ignored skips) row octets fine = named_all (λ p. IsSmallKey p.0) skips (key_in code 4 second body) _ (small_name code second row.0 body octets)
 by_shape code body Chain row octets fine = ((omega arith, omega arith), tt)
 by_shape code body Other row octets fine = tt
 

@@ -1,7 +1,8 @@
-use Rattle.std.proofs.Common.{◌+◌, [], ◌∷◌, take, drop, refl}
+use Rattle.std.proofs.Common.{◌≡◌, ◌+◌, [], ◌∷◌, take, drop, refl}
+use Rattle.mig_guest.specs.PartCodes.{code_number}
 use Rattle.mig_bodies.specs.Layouts.{key_in}
 use Rattle.mig_bodies.specs.Shapes.{sole_key, named_parts}
-use Rattle.mig_bodies.proofs.Reading.{named_of, others_kept}
+use Rattle.mig_bodies.proofs.Reading.{named_all, others_kept}
 use Rattle.mig_bodies.proofs.read.read_body.Goals as goal
 
 pub returns-in-Single-clause-others : goal.returns-in-Single-clause-others
@@ -12,4 +13,4 @@ pub returns-in-Named-clause-others : goal.returns-in-Named-clause-others
 returns-in-Named-clause-others c =
     let n = c.in-Named in let body = c.args.body.now in
     let key = key_in c.args.code 4 n.second body in let bytes = drop (4 + n.second + n.ignored) body in
-    others_kept c.args.code (named_parts n.skips key bytes) (named_of c.args.code n.skips key bytes refl) c.args.guest.now c.read_named.new.guest c.read_named.result c.read_named.ensures.ok c.read_named.ensures.err
+    others_kept c.args.code (named_parts n.skips key bytes) (named_all (λ p. p.0.code ≡ code_number c.args.code) n.skips key bytes refl) c.args.guest.now c.read_named.new.guest c.read_named.result c.read_named.ensures.ok c.read_named.ensures.err
