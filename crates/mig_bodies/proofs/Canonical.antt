@@ -195,31 +195,38 @@ module _ (code : PartCode) (shape : Shape) (is : shape_of code ≡ shape) where
     short = omega (arith, size, room.1);
   }
 
-  singles : (width : ℕ) (text : Part → List ℕ) → ((p : Part) → IsOf code width p → IsRecordBody code (text p) (p ∷ [])) → (ps : List Part) → All (IsOf code width) ps → SayAll code (map text ps) (map (λ p. p ∷ []) ps)
-  singles width text one [] h = tt
-  singles width text one (p ∷ ps) h = (one p (All-head (IsOf code width) p ps h), singles width text one ps (All-tail (IsOf code width) p ps h))
+  -- a body for each part, which says it
+  each_part : (g : GuestOf) → IsFormed g → (len : Part → ℕ) → ((p : Part) → IsOf code (width_of g) p → IsShaped shape code (part_body shape p) (p ∷ []) × (length (part_body shape p) ≡ len p) × HasRoom code (len p))
+      → SayAll code (map (part_body shape) (parts_at code g)) (map (λ p. p ∷ []) (parts_at code g))
+  each_part g formed len one = go (parts_at code g) (parts_are g code formed)
+    where
+      go : (ps : List Part) → All (IsOf code (width_of g)) ps → SayAll code (map (part_body shape) ps) (map (λ p. p ∷ []) ps)
+      go [] h = tt
+      go (p ∷ ps) h =
+          let (says, size, room) = one p (All-head (IsOf code (width_of g)) p ps h) in
+          (record_body (part_body shape p) (p ∷ []) (len p) says size room, go ps (All-tail (IsOf code (width_of g)) p ps h))
 
 -- one table of all parts, where there are some
 one_table : (code : PartCode) (l : Layout) (ps : List Part) → IsRecordBody code (table_text l ps) ps → SayAll code (bodies_by_shape (Table l) ps) (contents_by_shape (Table l) ps)
 one_table code l [] h = tt
 one_table code l (p ∷ ps) h = (h, tt)
 
-by_shape : (code : PartCode) (g : GuestOf) → IsFormed g → (shape : Shape) → shape_of code ≡ shape → IsRow code shape → IsCanonical code shape → SayAll code (bodies_by_shape shape (parts_at code g)) (contents_by_shape shape (parts_at code g))
+by_shape : (code : PartCode) (g : GuestOf) → IsFormed g → (shape : Shape) → shape_of code ≡ shape → IsRow code shape → IsCanonical code shape
+    → SayAll code (bodies_by_shape shape (parts_at code g)) (contents_by_shape shape (parts_at code g))
 by_shape code g formed (Table l) is row (fit, size, few, room) =
     let ps = parts_at code g in let most = few.few g formed in
     let says = is_table code (width_of g) l fit size ps (omega (arith, most)) (parts_are g code formed) in
     one_table code l ps (record_body code (Table l) is (table_text l ps) ps _ says (table_len code l row.widths (table_text l ps) ps says) (room (length ps) most))
-by_shape code g formed (Single size ignored) is row (keys, sized, room) =
-    singles code (Single size ignored) is (width_of g) (part_body (Single size ignored)) (λ p one. let says = single_is code (width_of g) p one size ignored keys sized in let len = sized (width_of g) (length p.1) one.len in
-    record_body code (Single size ignored) is (part_body (Single size ignored) p) (p ∷ []) (size + ignored) says (length-append p.1 (replicate ignored 0) ∙ omega (arith, len, length-replicate {A = ℕ} ignored 0)) room) (parts_at code g) (parts_are g code formed)
-by_shape code g formed (Named second ignored skips) is row (fit, fine, room) =
-    singles code (Named second ignored skips) is (width_of g) (part_body (Named second ignored skips)) (λ p one. let fits = room (width_of g) (length p.1) one.len in
-    let says = named_is code (width_of g) p one second ignored skips fit fits.0 (fine p.1 one.content) in
+by_shape code g formed (Single size ignored) is row (keys, sized, room) = each_part code (Single size ignored) is g formed (λ _. size + ignored) (λ p one.
+    let len = sized (width_of g) (length p.1) one.len in
+    (single_is code (width_of g) p one size ignored keys sized, length-append p.1 (replicate ignored 0) ∙ omega (arith, len, length-replicate {A = ℕ} ignored 0), room))
+by_shape code g formed (Named second ignored skips) is row (fit, fine, room) = each_part code (Named second ignored skips) is g formed (λ p. 4 + second + ignored + length p.1) (λ p one.
+    let (some, fits) = room (width_of g) (length p.1) one.len in
+    let says = named_is code (width_of g) p one second ignored skips fit some (fine p.1 one.content) in
     let text = length-append (little_bytes second p.0.key2) (replicate ignored 0 ++ p.1) in
-    record_body code (Named second ignored skips) is (part_body (Named second ignored skips) p) (p ∷ []) (4 + second + ignored + length p.1) says
-    (omega (arith, text, length-append (replicate ignored 0) p.1, length-bytes_low_first 0 second p.0.key2, length-replicate {A = ℕ} ignored 0)) fits.1) (parts_at code g) (parts_are g code formed)
-by_shape code g formed Chain is row (keys, cut, room) =
-    singles code Chain is (width_of g) (part_body Chain) (λ p one. record_body code Chain is p.1 (p ∷ []) (length p.1) (chain_is code (width_of g) p one keys (cut p.1 one.content)) refl (room (width_of g) (length p.1) one.len)) (parts_at code g) (parts_are g code formed)
+    (says, omega (arith, text, length-append (replicate ignored 0) p.1, length-bytes_low_first 0 second p.0.key2, length-replicate {A = ℕ} ignored 0), fits))
+by_shape code g formed Chain is row (keys, cut, room) = each_part code Chain is g formed (λ p. length p.1) (λ p one.
+    (chain_is code (width_of g) p one keys (cut p.1 one.content), refl, room (width_of g) (length p.1) one.len))
 by_shape code g formed Other is row shown = tt
 
 pub canonical_bodies_say : CanonicalBodiesSay

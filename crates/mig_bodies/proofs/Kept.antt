@@ -24,8 +24,8 @@ use Rattle.mig_bodies.specs.declared.shape.Shape.{Shape}
 use Rattle.mig_bodies.specs.declared.shape.Shape.TheVariants.{Table, Single, Named, Chain, Other}
 use Rattle.mig_bodies.specs.Layouts.{front_width, entry_width, fault_of_key, spelled_key, IsSmallKey}
 use Rattle.mig_bodies.specs.Shapes.{shape_of, has_shape, parts_of_body, parts_by_shape, IsRow, fault_of_content, named_parts, IsShaped, IsNamed, sole_key, IsBody, HasBodyLength, BodiesSayParts, set_parts, BodiesKeepFormed}
-use Rattle.mig_bodies.proofs.Spelled.{chain_scanned}
-use Rattle.mig_bodies.proofs.TableSpelled.{table_len}
+use Rattle.mig_bodies.proofs.Spelled.{chain_scanned, named_cut}
+use Rattle.mig_bodies.proofs.TableSpelled.{table_len, size_is}
 use Rattle.mig_bodies.proofs.Reading.{table_all, set_empty}
 use Rattle.mig_bodies.proofs.Rows.{small_keys, all_rows, record_allows, is_allowed}
 
@@ -90,7 +90,8 @@ cut_is body o is short =
 -- ---- a lemma for each shape
 
 module _ (code : PartCode) (kind : Kind) (width : ℕ) (of_kind : (row_of code).of_kind kind ≡ true) where
-  is_part : (key : PartKey) (bytes : List ℕ) → key.code ≡ code_number code → (row_of code).keys key.key1 key.key2 ≡ true → IsSmallKey key → (row_of code).allows width (length bytes) ≡ true → IsContent code bytes → IsPart kind width key bytes
+  is_part : (key : PartKey) (bytes : List ℕ) → key.code ≡ code_number code → (row_of code).keys key.key1 key.key2 ≡ true → IsSmallKey key
+      → (row_of code).allows width (length bytes) ≡ true → IsContent code bytes → IsPart kind width key bytes
   is_part key bytes number keys small len content = record { code = code; number = number; of_kind = of_kind; keys = keys; small1 = small.0; small2 = small.1; len = len; content = content }
 
   all_parts : (ps : List Part) → AllByRecursion (λ p. IsPart kind width p.0 p.1 × (p.0.code ≡ code_number code)) ps → AreParts kind width (code_number code) ps
@@ -107,15 +108,18 @@ module _ (code : PartCode) (kind : Kind) (width : ℕ) (of_kind : (row_of code).
       → HasBodyLength code (length body) → length body ≤ 2 ^ 27 → AllByRecursion (λ p. IsSmallKey p.0) ps → AreParts kind width (code_number code) ps
   named_says second ignored skips keys lengths content body ps h has short small =
       let key = spelled_key code 4 second h.name1 h.name2 in
-      let size : length body ≡ 4 + second + ignored + length h.bytes = ap length h.whole ∙ omega (arith, length-append h.name1 (h.name2 ++ (h.gap ++ h.bytes)), length-append h.name2 (h.gap ++ h.bytes), length-append h.gap h.bytes, h.name1_len, h.name2_len, h.gap_len) in
+      let size : length body ≡ 4 + second + ignored + length h.bytes = size_is (named_cut code body ps second ignored skips h) in
       let len = lengths (length h.bytes) (subst (HasBodyLength code) size has) (omega (arith, size, short)) in
       subst (AreParts kind width (code_number code)) (sym h.says)
-      (named_are skips key refl (keys key.key1 key.key2 (λ none. ap (λ n. little_number n h.name2) none) h.named) h.bytes (subst (AllByRecursion (λ (p : Part). IsSmallKey p.0)) h.says small) (λ some. (len some width, content h.bytes h.fine (len some))))
+      (named_are skips key refl (keys key.key1 key.key2 (λ none. ap (λ n. little_number n h.name2) none) h.named) h.bytes
+      (subst (AllByRecursion (λ (p : Part). IsSmallKey p.0)) h.says small) (λ some. (len some width, content h.bytes h.fine (len some))))
 
-  says_parts : (shape : Shape) → SaysParts code shape → (body : List ℕ) (ps : List Part) → HasBodyLength code (length body) → length body ≤ 2 ^ 27 → IsShaped shape code body ps → AllByRecursion (λ p. IsSmallKey p.0) ps → AreParts kind width (code_number code) ps
+  says_parts : (shape : Shape) → SaysParts code shape → (body : List ℕ) (ps : List Part) → HasBodyLength code (length body) → length body ≤ 2 ^ 27
+      → IsShaped shape code body ps → AllByRecursion (λ p. IsSmallKey p.0) ps → AreParts kind width (code_number code) ps
   says_parts (Table l) row body ps has short h small = all_parts ps (table_all code l (λ p. IsPart kind width p.0 p.1 × (p.0.code ≡ code_number code)) (λ p low number fine none size.
       (is_part p.0 p.1 number (row.0 p.0.key1 p.0.key2 none fine) low (row.1.0 width (length p.1) size) (row.1.1 p.1), number)) h.bytes ps small h.each)
-  says_parts (Single size ignored) row body ps has short h small = subst (AreParts kind width (code_number code)) (sym h.says) (is_part (sole_key code) h.bytes refl row.0 (omega arith, omega arith) (row.1.0 width (length h.bytes) h.bytes_len) (row.1.1 h.bytes), refl, tt)
+  says_parts (Single size ignored) row body ps has short h small = subst (AreParts kind width (code_number code)) (sym h.says)
+      (is_part (sole_key code) h.bytes refl row.0 (omega arith, omega arith) (row.1.0 width (length h.bytes) h.bytes_len) (row.1.1 h.bytes), refl, tt)
   says_parts (Named second ignored skips) row body ps has short h small = named_says second ignored skips row.0 row.1 row.2 body ps h has short small
   says_parts Chain row body ps has short h small =
       let (size, cut) = cut_is body (length h.context.before) (chain_scanned code body ps h) short in

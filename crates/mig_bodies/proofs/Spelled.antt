@@ -71,10 +71,12 @@ module _ (code : PartCode) (body : List ℕ) (ps : List Part) where
           says = sym is ∙ (λ j. named_parts skips (record { code = code_number code; key1 = n1 j; key2 = n2 j }) (drop (4 + second + ignored) body));
         }
 
+    pub named_cut : (h : IsNamed code second ignored skips body ps) → Cut 4 second ignored body h.name1 h.name2 h.gap h.bytes
+    named_cut h = record { whole = h.whole; first_len = h.name1_len; second_len = h.name2_len; value_len = h.gap_len }
+
     named_back : IsNamed code second ignored skips body ps → (fault_by_shape (Named second ignored skips) code body ≡ None) × (parts_by_shape (Named second ignored skips) code body ≡ ps)
     named_back h =
-        let c : Cut 4 second ignored body h.name1 h.name2 h.gap h.bytes = record { whole = h.whole; first_len = h.name1_len; second_len = h.name2_len; value_len = h.gap_len } in
-        let n1 = first_number c in let n2 = second_number c in let rest = behind_value c in
+        let c = named_cut h in let n1 = first_number c in let n2 = second_number c in let rest = behind_value c in
         let long : 4 + second + ignored ≤ length body = omega (arith, size_is c) in (
           neither_some _ _ (no_fault ((nat_lt (length body) (4 + second + ignored), BadLength (length body)) ∷ []) (le-ltb (length body) (4 + second + ignored) long, tt))
               (neither_some _ _ ((λ j. fault_of_key code (n1 j) (n2 j)) ∙ h.named) (ap (fault_of_content code) rest ∙ h.fine)),

@@ -1,6 +1,6 @@
 -- A map made of two lists of one length, with rising keys, and each value through f: what it finds, and what edits at one
 -- place do to it.
-use Rattle.std.proofs.Common.{◌≡◌, ℕ, zero, suc, ◌+◌, ◌-◌, ◌<◌, ◌≤◌, ◌≢◌, true, false, cond, List, [], ◌∷◌, map, length, get_or, set, Some, None, Result, Ok, Err, IfOk, IfErr, refl, sym, ap, ◌∙◌, subst, inl, inr, IsSome, is_some, arith}
+use Rattle.std.proofs.Common.{◌≡◌, ℕ, zero, suc, ◌+◌, ◌-◌, ◌<◌, ◌≤◌, ◌≢◌, true, false, cond, List, [], ◌∷◌, map, length, get_or, set, Some, None, Result, Ok, Err, IfOk, IfErr, Bool, refl, sym, ap, ◌∙◌, subst, inl, inr, IsSome, is_some, arith}
 use Rattle.std.specs.List.{insert, remove, zip}
 use Rattle.std.specs.List.Sorted.{IsSearchInRange, IsBinarySearchResult, IsNonDecreasingBy}
 use Rattle.std.specs.Ordering.{nat_cmp, eq_by_cmp, ordering_index}
@@ -31,6 +31,10 @@ differs q x ne = unsigned_tied q x ∙ ne_eqb q x (λ e. ne (sym e))
 ties : (q x : ℕ) → x ≡ q → eq_by_cmp nat_cmp q x ≡ true
 ties q x e = unsigned_tied q x ∙ eq-eqb q x (sym e)
 
+shadows : {A : Type 0} (b : Bool) (x y z : A) → cond b x z ≡ cond b x (cond b y z)
+shadows true x y z = refl
+shadows false x y z = refl
+
 swaps : {A : Type 0} (q x k : ℕ) → x ≢ k → (u v z : A) → cond (eq_by_cmp nat_cmp q x) v (cond (eq_by_cmp nat_cmp q k) u z) ≡ cond (eq_by_cmp nat_cmp q k) u (cond (eq_by_cmp nat_cmp q x) v z)
 swaps q x k ne u v z = elim (cases_eq q x) [
   | inl e ↦ rw (ties q x (sym e), differs q k (λ h. ne (sym e ∙ sym h))) refl
@@ -53,7 +57,7 @@ module _ {B X : Type 0} (f : B → X) where
   pub find_set : (ks : List ℕ) (vs : List B) (k i : ℕ) (w : B) → i < length ks → length ks ≡ length vs → get_or ks i 0 ≡ k → NoneBefore ks k i → (q : ℕ) → find nat_cmp q (zip ks (map f (set vs i w))) ≡ cond (eq_by_cmp nat_cmp q k) (Some (f w)) (find nat_cmp q (zip ks (map f vs)))
   find_set [] vs k i w lt same at none q = absurd (omega arith)
   find_set (x ∷ ks) [] k i w lt same at none q = absurd (omega arith)
-  find_set (x ∷ ks) (v ∷ vs) k zero w lt same at none q = subst (λ k. cond (eq_by_cmp nat_cmp q x) (Some (f w)) (find nat_cmp q (zip ks (map f vs))) ≡ cond (eq_by_cmp nat_cmp q k) (Some (f w)) (cond (eq_by_cmp nat_cmp q x) (Some (f v)) (find nat_cmp q (zip ks (map f vs))))) at (elim (eq_by_cmp nat_cmp q x) as (λ b. cond b (Some (f w)) (find nat_cmp q (zip ks (map f vs))) ≡ cond b (Some (f w)) (cond b (Some (f v)) (find nat_cmp q (zip ks (map f vs))))) [ true ↦ refl | false ↦ refl ])
+  find_set (x ∷ ks) (v ∷ vs) k zero w lt same at none q = subst (λ k. cond (eq_by_cmp nat_cmp q x) (Some (f w)) (find nat_cmp q (zip ks (map f vs))) ≡ cond (eq_by_cmp nat_cmp q k) (Some (f w)) (cond (eq_by_cmp nat_cmp q x) (Some (f v)) (find nat_cmp q (zip ks (map f vs))))) at (shadows (eq_by_cmp nat_cmp q x) _ _ _)
   find_set (x ∷ ks) (v ∷ vs) k (suc i) w lt same at none q =
       ap (cond (eq_by_cmp nat_cmp q x) (Some (f v))) (find_set ks vs k i w (omega arith) (omega arith) at (tail_none x ks k i none) q) ∙ swaps q x k (none 0 (omega arith)) _ _ _
 
