@@ -1,11 +1,10 @@
 -- The causes that stand in a record's head.
 use Rattle.std.proofs.Common.{◌≡◌, ◌⊎◌, inl, inr, ℕ, ◌^◌, ◌<◌, ◌≤◌, List, [], ◌∷◌, ◌++◌, length, Bool, true, false, nat_le, nat_lt, nat_eq, not, Option, Some, None, refl, sym, ap, subst, ◌∙◌, arith}
 use Rattle.std.proofs.lemmas.Bool.{leb-true, leb-false, ltb-true, eqb-true, le-leb, lt-leb, lt-ltb}
-use Rattle.std.proofs.lemmas.Option.{slice_get_cases}
 use Rattle.std.specs.Prelude.{◌&&◌, ◌||◌}
 use Rattle.std.specs.Option.{option_or}
 use Rattle.mig_headers.specs.Rows.{first_fault}
-use Rattle.mig_headers.specs.RecordTypes.{record_row_of, pv, type_number, type_of_number, record_types, is_optional}
+use Rattle.mig_headers.specs.RecordTypes.{record_row_of, pv, type_number, type_of_number, is_optional}
 use Rattle.mig_headers.proofs.RecordNumbers.{numbers_are_inverse}
 use Rattle.mig_headers.specs.declared.fault.Cause.{Cause}
 use Rattle.mig_headers.specs.declared.fault.Cause.TheVariants.{NotBuilt, BodyTooLong, UnknownMandatory, OutOfOrder, BadLength, TooManyRecords}
@@ -59,8 +58,11 @@ same_type this other is = elim (either_true (nat_eq (type_number this) (type_num
   | inr e ↦ absurd (no_false e)
 ]
 
-small_number : (this : RecordType) → type_number this ≤ 0x12
-small_number this = leb-true (type_number this) 0x12 (elim this as (λ (t : RecordType). nat_le (type_number t) 0x12 ≡ true) [ End ↦ refl | _ ↦ refl ])
+no_such : {X : Type 0} (type : ℕ) (this : RecordType) → type_of_number type ≡ None → type ≡ type_number this → X
+no_such type this none is = let e : None ≡ Some this = sym none ∙ ap type_of_number is ∙ numbers_are_inverse.type_of this in absurd (apart e)
+  where
+    apart : {x : RecordType} → None ≡ Some x → ⊥
+    apart q = cc
 
 mandatory : (this : RecordType) → is_optional (type_number this) ≡ false
 mandatory this = elim this as (λ (t : RecordType). is_optional (type_number t) ≡ false) [ End ↦ refl | _ ↦ refl ]
@@ -198,7 +200,7 @@ module _ (was : Before) (len : ℕ) where
   from_known this _ _ (bad_length other is h) = inr (inr (inr (inr (inr (inr (inr (inr (inr (inr (inr (inl (is_not _ (ap (λ (t : RecordType). (record_row_of t).allows len) (same_number this other is) ∙ h), refl, refl))))))))))))
   from_known this _ _ (out_of_order other rule is h) = rule_row this rule (subst (λ (t : RecordType). Rule t rule) (sym (same_number this other is)) h)
   from_known this _ _ (wrong_kind other is h) = inr (inr (inr (inl (is_not _ (ap (λ (t : RecordType). (record_row_of t).of_kind o.kind) (same_number this other is) ∙ h), refl, refl))))
-  from_known this _ _ (unknown small big) = absurd (omega (arith, small_number this, big))
+  from_known this _ _ (unknown small none) = no_such (type_number this) this none refl
   from_known this _ _ (unsupported other is h) = inr (inr (inl (is_not _ (ap (λ (t : RecordType). (record_row_of t).supported) (same_number this other is) ∙ h), refl, refl)))
   from_known this _ _ (too_long h) = inr (inl (lt-ltb _ _ h, refl, refl))
   from_known this _ _ (not_built other is kind h) = inl (ap (λ b. not (not b)) (both_are _ _ (ap pv kind) (ap (λ (t : RecordType). (record_row_of t).supported) (same_number this other is) ∙ h)), refl, refl)
@@ -231,35 +233,20 @@ module _ (was : Before) (len : ℕ) where
       let size : fault_of_length type len ≡ None = rw none refl in
       rw (none_built type none, sort, size) (ap (option_or (first_fault long_row)) (join (unlisted_row type) number_row) ∙ join long_row (unlisted_row type ++ number_row))
 
-  no_such : {X : Type 0} (type : ℕ) (this : RecordType) → type_of_number type ≡ None → type ≡ type_number this → X
-  no_such type this none is = let e : None ≡ Some this = sym none ∙ ap type_of_number is ∙ numbers_are_inverse.type_of this in absurd (apart e)
-    where
-      apart : {x : RecordType} → None ≡ Some x → ⊥
-      apart q = cc
-
   from_unlisted : (type : ℕ) → type_of_number type ≡ None → (k : ℕ) (c : Cause) → HasType type k c → RowHas (unlisted_rows type) k c
   from_unlisted type none _ _ (too_many h) = inr (inr (inl (le-leb _ _ h, refl, refl)))
   from_unlisted type none _ _ (bad_length this is h) = no_such type this none is
   from_unlisted type none _ _ (out_of_order this rule is h) = no_such type this none is
   from_unlisted type none _ _ (wrong_kind this is h) = no_such type this none is
-  from_unlisted type none _ _ (unknown small big) = inr (inl (is_not _ (lt-leb _ _ small), refl, refl))
+  from_unlisted type none _ _ (unknown small _) = inr (inl (is_not _ (lt-leb _ _ small), refl, refl))
   from_unlisted type none _ _ (unsupported this is h) = no_such type this none is
   from_unlisted type none _ _ (too_long h) = inl (lt-ltb _ _ h, refl, refl)
   from_unlisted type none _ _ (not_built this is kind h) = no_such type this none is
 
-  past_table : (type : ℕ) → type_of_number type ≡ None → 0x12 < type
-  past_table type none = elim ((slice_get_cases record_types type).1) [
-    | inl there ↦ absurd (apart _ (sym none ∙ there.2))
-    | inr past ↦ past.0
-  ]
-    where
-      apart : (x : RecordType) → None ≡ Some x → ⊥
-      apart x q = cc
-
   unlisted_least : (type : ℕ) → type_of_number type ≡ None → Least (HasType type) (fault_of_fields was type len)
   unlisted_least type none =
       subst (Least (HasType type)) (sym (fields_unlisted type none))
-      (named (HasType type) (unlisted_rows type) refl ((λ h. has.too_long (ltb-true (2 ^ 27) len h)), ((λ h. has.unknown (leb-false (2 ^ 31) type (not_true _ h)) (past_table type none)), ((λ h. has.too_many (leb-true most_records (length types) h)), tt))) (from_unlisted type none))
+      (named (HasType type) (unlisted_rows type) refl ((λ h. has.too_long (ltb-true (2 ^ 27) len h)), ((λ h. has.unknown (leb-false (2 ^ 31) type (not_true _ h)) none), ((λ h. has.too_many (leb-true most_records (length types) h)), tt))) (from_unlisted type none))
 
   by_type : (type : ℕ) (found : Option RecordType) → type_of_number type ≡ found → Least (HasType type) (fault_of_fields was type len)
   by_type type None is = unlisted_least type is

@@ -1,7 +1,7 @@
 -- A record that fails: the part in which it fails, and the parts before it.
-use Rattle.std.proofs.Common.{◌≡◌, ◌⊎◌, inl, inr, ℕ, ◌+◌, ◌*◌, ◌/◌, ◌%◌, ◌^◌, List, [], ◌∷◌, ◌++◌, Bool, true, false, cond, nat_eq, nat_le, length, Option, Some, None, refl, sym, ap, subst, ◌∙◌, arith, append_assoc}
+use Rattle.std.proofs.Common.{◌≡◌, ◌⊎◌, inl, inr, ℕ, ◌+◌, ◌*◌, ◌/◌, ◌%◌, ◌^◌, List, [], ◌∷◌, ◌++◌, Bool, true, false, cond, not, nat_eq, zero, suc, drop, length, Option, Some, None, refl, sym, ap, subst, ◌∙◌, arith, append_assoc}
 use Rattle.std.specs.Prelude.{◌&&◌}
-use Rattle.std.proofs.lemmas.Bool.{eqb-true}
+use Rattle.std.proofs.lemmas.Bool.{eqb-true, not-true}
 use Rattle.mig_bytes.specs.Bytes.{padding_len, IsLeastPadding}
 use Rattle.mig_bytes.specs.Fields.{le32}
 use Rattle.mig_bytes.specs.Judged.{Judged, ◌>>=◌, part, tried, each}
@@ -15,37 +15,46 @@ use Rattle.mig_headers.specs.declared.fault.Cause.TheVariants.{Truncated}
 use Rattle.mig_headers.specs.declared.kind.Kind.{Kind}
 use Rattle.mig_headers.specs.declared.kind.Kind.TheVariants.{Pv, Hvm}
 use Rattle.mig_headers.specs.declared.record_type.RecordType.{RecordType}
-use Rattle.mig_headers.specs.declared.record_type.RecordType.TheVariants.{End, PageData, X86TscInfo, HvmContext, HvmParams, Toolstack, Verify, Checkpoint, CheckpointDirtyPfnList, StaticDataEnd, X86CpuidPolicy, X86MsrPolicy}
+use Rattle.mig_headers.specs.declared.record_type.RecordType.TheVariants.{PageData}
 use Rattle.mig_pagetypes.specs.FrameWords.{word_has_data, word_pfn}
 use Rattle.mig_guest.specs.Guests.{GuestOf}
 use Rattle.mig_guest.specs.declared.part_code.PartCode.{PartCode}
-use Rattle.mig_guest.specs.declared.part_code.PartCode.TheVariants as codes
-use Rattle.mig_bodies.specs.Shapes.{fault_of_body, parts_of_body}
-use Rattle.mig_bodies.proofs.Rows.{whole_leaves, whole_msrs}
+use Rattle.mig_guest.specs.declared.part_code.PartCode.TheVariants.{HvmContext, HvmParam}
+use Rattle.mig_guest.specs.PartCodes.{row_of, code_number}
+use Rattle.mig_guest.proofs.PartRows.{number_found}
+use Rattle.mig_restore.proofs.Growth.{same_kinds}
+use Rattle.mig_bodies.specs.declared.layout.Layout.{Layout}
+use Rattle.mig_bodies.specs.declared.shape.Shape.{Shape}
+use Rattle.mig_bodies.specs.declared.shape.Shape.TheVariants.{Table, Single, Other}
+use Rattle.mig_bodies.specs.Layouts.{entry_width, front_width, fault_of_key, fault_of_entries, entry_count}
+use Rattle.mig_bodies.specs.Shapes.{shape_of, fault_by_shape, fault_of_body, parts_of_body}
+use Rattle.mig_bodies.proofs.TableSpelled.{length_passes}
+use Rattle.mig_headers.proofs.FirstFaults.{neither_some}
+use Rattle.std.proofs.lemmas.Grind.{common_steps}
 use Rattle.mig_order.specs.Order.{IsInOrder}
 use Rattle.mig_order.specs.Order.{IsInOrder as order}
 use Rattle.mig_records.specs.Faults.{type_allows, fault_of_count, fault_of_words}
 use Rattle.mig_records.specs.Words.{words}
 use Rattle.mig_pvtables.proofs.HvmGuests.{hvm_fault}
 use Rattle.mig_pvtables.specs.Faults.{fault_of_guest}
-use Rattle.mig_restore.specs.Judging.{Opening, Before, before, is_built, record_at, next_at, body_at, typed_at, sets_at, entries_at, entry_at, words_at, fault_of_head, fault_at_end, fault_of_data, type_in_word}
+use Rattle.mig_restore.specs.Judging.{Opening, Before, before, is_built, record_at, next_at, body_at, typed_at, coded_at, code_of_type, sets_at, entries_at, entry_at, words_at, fault_of_head, fault_at_end, fault_of_data, type_in_word}
 use Rattle.mig_restore.specs.Mean.{sent}
 use Rattle.mig_restore.specs.Record.{StreamRecord, FrameEntry, Content}
 use Rattle.mig_restore.specs.Record.Content.{Nothing, Frames, Sets}
 use Rattle.mig_restore.proofs.Parts.{begins, behind_head, behind_body, asks, behind_record}
 use Rattle.mig_restore.proofs.Entries.{behind_words}
-use Rattle.mig_restore.proofs.Bodies.{body_says, optional_at, type_at, no_pv}
+use Rattle.mig_restore.proofs.Bodies.{body_says, coded_is, optional_at, type_at, no_pv}
 use Rattle.mig_restore.proofs.BodiesPass.{body_goes}
 use Rattle.mig_restore.proofs.Meaning.{sent_kind}
 use Rattle.mig_restore.proofs.Passing.{ends_hvm}
 use Rattle.mig_restore.proofs.Laws.{fields_fine, header_passes}
-use Rattle.mig_refused.specs.Refusal.{StreamPart, PagesTo, IsFaultless, InPages, InBody, Within, end_record}
-use Rattle.mig_refused.specs.Refusal.StreamPart.{Head, PagesFront, PagesWords, PagesLength, Page, ContextBody, ParamsBody, OtherBody, Padding, WholeGuest}
+use Rattle.mig_refused.specs.Refusal.{StreamPart, PagesTo, IsFaultless, InPages, body_part, InBody, Within, end_record}
+use Rattle.mig_refused.specs.Refusal.StreamPart.{Head, PagesFront, PagesWords, PagesLength, Page, OtherBody, Padding, WholeGuest}
 use Rattle.mig_refused.specs.Refusal.PagesTo.{next_page, one_page}
 use Rattle.mig_refused.specs.Refusal.InPages.{at_front, at_words, at_length, at_page}
-use Rattle.mig_refused.specs.Refusal.InBody.{in_pages, tsc, context, params, leaves, msrs, optional}
+use Rattle.mig_refused.specs.Refusal.InBody.{in_pages, of_code, optional}
 use Rattle.mig_refused.specs.Refusal.Within.{at_head, in_body, at_padding}
-use Rattle.mig_refused.proofs.Least.{both_true, no_false}
+use Rattle.mig_refused.proofs.Least.{no_false}
 use Rattle.mig_refused.proofs.Tables.{guest_rows}
 use Rattle.mig_refused.proofs.Single.{trial, one_part, stage, stage_faulty, stage_passes, stage_cases, then_faulty, bind_cases, passes_not, same_faulty, assoc, fine, faultless}
 
@@ -211,77 +220,95 @@ module _ (kind : Kind) (top len : ℕ) where
 abbrev says_parts : PartCode → List ℕ → List ℕ → Judged Cause Content
 says_parts code b r = Passes (Sets code (parts_of_body code b)) r
 
--- bodies of which the head asked all that is asked
-abbrev IsQuiet : PartCode → ℕ → Type 0
-IsQuiet code len = (body : List ℕ) → length body ≡ len → fault_of_body code body ≡ None
+-- of a shape whose length is fixed, or that of its entries, and that length
+abbrev is_plain : Shape → Bool
+is_plain (Table l) = not l.counted
+is_plain (Single len ignored) = true
+is_plain Other = true
+is_plain _ = false
 
-quiet_tsc : (len : ℕ) → nat_eq len 24 ≡ true → IsQuiet codes.Tsc len
-quiet_tsc len is body size = rw (size, is) refl
+abbrev shape_len : Shape → ℕ → ℕ
+shape_len (Table l) len = entry_width l * (len / entry_width l)
+shape_len (Single len ignored) _ = len + ignored
+shape_len _ len = len
 
-quiet_leaves : (len : ℕ) → (nat_eq (len % 24) 0 && nat_le len (2 ^ 16 * 24)) ≡ true → IsQuiet codes.CpuidLeaf len
-quiet_leaves len is body size = whole_leaves body (ap (λ n. n % 24) size ∙ eqb-true _ _ (both_true _ _ is).0)
+-- what leaves no fault to a body of this length: it is as long as its shape says, and no key of it is refused
+record Fits (shape : Shape) (code : PartCode) (len : ℕ) : Type 0 where
+  plain : is_plain shape ≡ true
+  size : len ≡ shape_len shape len
+  keys : (key1 key2 : ℕ) → fault_of_key code key1 key2 ≡ None
 
-quiet_msrs : (len : ℕ) → (nat_eq (len % 16) 0 && nat_le len (2 ^ 16 * 16)) ≡ true → IsQuiet codes.Msr len
-quiet_msrs len is body size = whole_msrs body (ap (λ n. n % 16) size ∙ eqb-true _ _ (both_true _ _ is).0)
+no_key_fault : (code : PartCode) (l : Layout) → ((key1 key2 : ℕ) → fault_of_key code key1 key2 ≡ None) → (n : ℕ) (bytes : List ℕ) → fault_of_entries code l n bytes ≡ None
+no_key_fault code l keys zero bytes = refl
+no_key_fault code l keys (suc n) bytes = neither_some _ _ (keys _ _) (no_key_fault code l keys n (drop (entry_width l) bytes))
+
+quiet : (shape : Shape) (code : PartCode) (body : List ℕ) → Fits shape code (length body) → fault_by_shape shape code body ≡ None
+quiet (Table l) code body f = neither_some _ _ (length_passes _ _ (rw (not-true _ f.plain) (f.size ∙ omega arith))) (no_key_fault code l f.keys (entry_count l body) (drop (front_width l) body))
+quiet (Single len ignored) code body f = length_passes _ _ f.size
+quiet Other code body f = refl
+quiet _ code body f = absurd (no_false f.plain)
 
 -- a type of PV guests alone is read in no stream so far
-only_pv : {X : Type 0} (this : RecordType) (kind : Kind) → is_built kind (type_number this) ≡ true → (record_row_of this).supported ≡ true → (record_row_of this).of_kind Hvm ≡ false → (record_row_of this).of_kind kind ≡ true → X
-only_pv this Pv built s none k = absurd (no_pv this built s)
-only_pv this Hvm built s none k = absurd (no_false (sym none ∙ k))
+of_hvm : (this : RecordType) (kind : Kind) → is_built kind (type_number this) ≡ true → (record_row_of this).supported ≡ true → (record_row_of this).of_kind kind ≡ true → (record_row_of this).of_kind Hvm ≡ true
+of_hvm this Pv built s k = absurd (no_pv this built s)
+of_hvm this Hvm built s k = k
 
 module _ (kind : Kind) (top len : ℕ) where
+  code_down : (code : PartCode) (left : List ℕ) (c : Cause) (rest : List ℕ) → one_part (body_part code len) left ≡ Faulty c rest → sets_at code len left ≡ Faulty c rest
+  code_down HvmContext left c rest h = stage_faulty len (fault_of_body HvmContext) (says_parts HvmContext) left c rest h
+  code_down HvmParam left c rest h = stage_faulty len (fault_of_body HvmParam) (says_parts HvmParam) left c rest h
+  code_down code left c rest h = by_plain (λ p. tried (fault_of_body code p.0) p.1 >>= λ _. says_parts code p.0 p.1) (part Truncated len left) c rest h
+
   body_down : (type : ℕ) (front : List ℕ) (p : StreamPart) (left : List ℕ) (c : Cause) (rest : List ℕ) → InBody kind top len type front p → one_part p left ≡ Faulty c rest → body_at kind top type len (front ++ left) ≡ Faulty c rest
   body_down _ _ _ left c rest (in_pages front p w) h = then_faulty (entries_at kind top len (front ++ left)) (λ es. Passes (Frames es.0) es.1) c rest (entries_down kind top len front p left c rest w h)
-  body_down _ _ _ left c rest tsc h = by_plain (λ p. tried (fault_of_body codes.Tsc p.0) p.1 >>= λ _. says_parts codes.Tsc p.0 p.1) (part Truncated len left) c rest h
-  body_down _ _ _ left c rest context h = stage_faulty len (fault_of_body codes.HvmContext) (says_parts codes.HvmContext) left c rest h
-  body_down _ _ _ left c rest params h = stage_faulty len (fault_of_body codes.HvmParam) (says_parts codes.HvmParam) left c rest h
-  body_down _ _ _ left c rest leaves h = by_plain (λ p. tried (fault_of_body codes.CpuidLeaf p.0) p.1 >>= λ _. says_parts codes.CpuidLeaf p.0 p.1) (part Truncated len left) c rest h
-  body_down _ _ _ left c rest msrs h = by_plain (λ p. tried (fault_of_body codes.Msr p.0) p.1 >>= λ _. says_parts codes.Msr p.0 p.1) (part Truncated len left) c rest h
+  body_down _ _ _ left c rest (of_code this code is) h = type_at kind top this len left ∙ coded_is kind top this code len left is ∙ code_down code left c rest h
   body_down _ _ _ left c rest (optional type above) h = optional_at kind top type len left above ∙ by_plain (λ p. Passes Nothing p.1) (part Truncated len left) c rest h
 
   abbrev Fault : ℕ → List ℕ → Cause → List ℕ → Type 0
   Fault type i c rest = Found (InBody kind top len type) i c rest
 
   module _ (i : List ℕ) (c : Cause) (rest : List ℕ) where
-    -- a body that is one part
-    one_up : (type : ℕ) (p : StreamPart) (code : PartCode) → InBody kind top len type [] p → (trial len (fault_of_body code) i ≡ Faulty c rest → one_part p i ≡ Faulty c rest) → sets_at code len i ≡ Faulty c rest → Fault type i c rest
-    one_up type p code is same h = elim (stage_cases len (fault_of_body code) (says_parts code) i c rest h) [
-      | inl e ↦ record { front = []; left = i; part_is = p; whole = refl; behind = is; fails = same e }
+    -- of a body of which its head asked all that is asked no cause is tried
+    untried : (code : PartCode) → Fits (shape_of code) code len → trial len (fault_of_body code) i ≡ Faulty c rest → one_part (OtherBody len) i ≡ Faulty c rest
+    untried code fits h = by (part Truncated len i) refl h
+      where
+        by : (j : Judged Cause (List ℕ)) → part Truncated len i ≡ j → (j >>= λ p. tried (fault_of_body code p.0) p.1) ≡ Faulty c rest → (j >>= λ p. tried None p.1) ≡ Faulty c rest
+        by (Faulty d mid) is h = let e = same_faulty d c mid rest h in rw (e.0, e.1) refl
+        by (Passes x mid) is h = ap (λ o. tried o mid) (sym (quiet (shape_of code) code x (subst (Fits (shape_of code) code) (sym (part_passes Truncated len i x mid is).1) fits))) ∙ h
+
+    code_part : (code : PartCode) → (row_of code).of_kind Hvm ≡ true → type_allows (type_of_number (code_number code)) len ≡ true → trial len (fault_of_body code) i ≡ Faulty c rest → one_part (body_part code len) i ≡ Faulty c rest
+    code_part HvmContext k allowed h = h
+    code_part HvmParam k allowed h = h
+    code_part code k allowed h = untried code (record { plain = cc; size = grind (arith, common_steps, allowed); keys = λ key1 key2. cc }) h
+
+    -- a body of a type that sets parts is one part
+    coded_up : (this : RecordType) (o : Option PartCode) → code_of_type this ≡ o → type_allows (type_of_number (type_number this)) len ≡ true → (record_row_of this).of_kind Hvm ≡ true → coded_at o len i ≡ Faulty c rest → Fault (type_number this) i c rest
+    coded_up this None is allowed k h = passes_not Nothing i c rest h
+    coded_up this (Some code) is allowed k h = elim (stage_cases len (fault_of_body code) (says_parts code) i c rest h) [
+      | inl e ↦ record {
+        front = [];
+        left = i;
+        part_is = body_part code len;
+        whole = refl;
+        behind = of_code this code is;
+        fails = code_part code (sym (same_kinds this code is Hvm) ∙ k) (subst (λ n. type_allows (type_of_number n) len ≡ true) (number_found (type_number this) code is) allowed) e;
+      }
       | inr a ↦ passes_not (Sets code (parts_of_body code a.bytes)) a.mid c rest a.after
     ]
-
-    quiet_up : (type : ℕ) (code : PartCode) → InBody kind top len type [] (OtherBody len) → IsQuiet code len → sets_at code len i ≡ Faulty c rest → Fault type i c rest
-    quiet_up type code is quiet h = one_up type (OtherBody len) code is (λ e. untried (part Truncated len i) refl e) h
-      where
-        untried : (j : Judged Cause (List ℕ)) → part Truncated len i ≡ j → (j >>= λ p. tried (fault_of_body code p.0) p.1) ≡ Faulty c rest → (j >>= λ p. tried None p.1) ≡ Faulty c rest
-        untried (Faulty d mid) is h = let e = same_faulty d c mid rest h in rw (e.0, e.1) refl
-        untried (Passes x mid) is h = ap (λ o. tried o mid) (sym (quiet x (part_passes Truncated len i x mid is).1)) ∙ h
 
     pages_of : entries_at kind top len i ≡ Faulty c rest → Fault 1 i c rest
     pages_of h = found_behind (InPages kind top len) (InBody kind top len 1) [] i i c rest refl in_pages (entries_up kind top len i c rest h)
 
-    this_up : (this : RecordType) → (record_row_of this).allows len ≡ true → is_built kind (type_number this) ≡ true → (record_row_of this).supported ≡ true → (record_row_of this).of_kind kind ≡ true → typed_at kind top (Some this) len i ≡ Faulty c rest → Fault (type_number this) i c rest
-    this_up PageData allowed built s k h = elim (bind_cases (entries_at kind top len i) (λ es. Passes (Frames es.0) es.1) c rest h) [ inl e ↦ pages_of e | inr e ↦ passes_not (Frames e.0) e.1 c rest e.3 ]
-    this_up X86TscInfo allowed built s k h = quiet_up 8 codes.Tsc tsc (quiet_tsc len allowed) h
-    this_up HvmContext allowed built s k h = one_up 9 (ContextBody len) codes.HvmContext context (λ e. e) h
-    this_up HvmParams allowed built s k h = one_up 0xA (ParamsBody len) codes.HvmParam params (λ e. e) h
-    this_up X86CpuidPolicy allowed built s k h = quiet_up 0x11 codes.CpuidLeaf leaves (quiet_leaves len allowed) h
-    this_up X86MsrPolicy allowed built s k h = quiet_up 0x12 codes.Msr msrs (quiet_msrs len allowed) h
-    this_up End allowed built s k h = passes_not Nothing i c rest h
-    this_up StaticDataEnd allowed built s k h = passes_not Nothing i c rest h
-    this_up Toolstack allowed built s k h = passes_not Nothing i c rest h
-    this_up Verify allowed built s k h = passes_not Nothing i c rest h
-    this_up Checkpoint allowed built s k h = passes_not Nothing i c rest h
-    this_up CheckpointDirtyPfnList allowed built s k h = passes_not Nothing i c rest h
-    this_up this allowed built s k h = only_pv this kind built s refl k
+    this_up : (this : RecordType) → type_allows (type_of_number (type_number this)) len ≡ true → (record_row_of this).of_kind Hvm ≡ true → typed_at kind top (Some this) len i ≡ Faulty c rest → Fault (type_number this) i c rest
+    this_up PageData allowed k h = elim (bind_cases (entries_at kind top len i) (λ es. Passes (Frames es.0) es.1) c rest h) [ inl e ↦ pages_of e | inr e ↦ passes_not (Frames e.0) e.1 c rest e.3 ]
+    this_up this allowed k h = coded_up this (code_of_type this) refl allowed k h
 
     body_up : (version : ℕ) (types : List ℕ) (type : ℕ) → is_built kind type ≡ true → IsInOrder version kind types type → type_allows (type_of_number type) len ≡ true → body_at kind top type len i ≡ Faulty c rest → Fault type i c rest
     body_up version types type built (order.optional above) allowed h =
         record { front = []; left = i; part_is = OtherBody len; whole = refl; behind = optional type above; fails = plain_by (λ _. Nothing) (part Truncated len i) c rest (sym (optional_at kind top type len i above) ∙ h) }
     body_up version types type built (order.ordered this is s k keeps) allowed h =
-        let found : type_of_number type ≡ Some this = ap type_of_number is ∙ numbers_are_inverse.type_of this in
         subst (λ t. Fault t i c rest) (sym is)
-        (this_up this (subst (λ o. type_allows o len ≡ true) found allowed) (subst (λ t. is_built kind t ≡ true) is built) s k (sym (type_at kind top this len i) ∙ subst (λ t. body_at kind top t len i ≡ Faulty c rest) is h))
+        (this_up this (subst (λ t. type_allows (type_of_number t) len ≡ true) is allowed) (of_hvm this kind (subst (λ t. is_built kind t ≡ true) is built) s k) (sym (type_at kind top this len i) ∙ subst (λ t. body_at kind top t len i ≡ Faulty c rest) is h))
 
 -- ---- a record
 
@@ -351,11 +378,11 @@ module _ (b : Before) where
   -- it has no body
   pub end_passes : (head left : List ℕ) → IsFaultless (Head b) head → le32 head 0 ≡ 0 → record_at b (head ++ left) ≡ Passes end_record left
   unfolding behind_head behind_body
-  end_passes head left f zero =
+  end_passes head left f is_end =
       let len = le32 head 4 in
-      let none : len ≡ 0 = eqb-true len 0 (subst (λ t. type_allows (type_of_number t) len ≡ true) zero (fields_fine b (le32 head 0) len (fine (Head b) head f)).allowed) in
+      let none : len ≡ 0 = eqb-true len 0 (subst (λ t. type_allows (type_of_number t) len ≡ true) is_end (fields_fine b (le32 head 0) len (fine (Head b) head f)).allowed) in
       head_goes head left f
-      ∙ ap (λ t. body_at kind b.top t len left >>= λ body. part Truncated (padding_len len) body.1 >>= λ padding. Passes (record { type = t; content = body.0 }) padding.1) zero
+      ∙ ap (λ t. body_at kind b.top t len left >>= λ body. part Truncated (padding_len len) body.1 >>= λ padding. Passes (record { type = t; content = body.0 }) padding.1) is_end
       ∙ ap (λ n. part Truncated (padding_len n) left >>= λ padding. Passes end_record padding.1) none
       ∙ then_passes (part Truncated 0 left) (λ padding. Passes end_record padding.1) [] left _ (part_whole Truncated 0 [] left refl) refl
 
@@ -369,14 +396,14 @@ module _ (b : Before) where
 
   pub ended : (i : List ℕ) (r : StreamRecord) (mid : List ℕ) → record_at b i ≡ Passes r mid → r.type ≡ 0 → Ended i r mid
   unfolding behind_head behind_body
-  ended i r mid h zero =
+  ended i r mid h is_end =
       let a = both_pass (stage 8 (fault_of_head b) (λ x r. Passes x r) i) (λ p. behind_it p.0 p.1) r mid (sym (begins b i) ∙ h) in
       let p = header_passes 8 (fault_of_head b) (λ l. l) i a.x a.mid a.first in
       let head = p.bytes in
       let f = faultless (Head b) head p.size p.fine in
       let body = both_pass (body_at kind b.top (le32 head 0) (le32 head 4) a.mid) (behind_body head) r mid (ap (λ l. behind_it l a.mid) p.value ∙ a.second) in
       let padding = both_pass (part Truncated (padding_len (le32 head 4)) body.mid) (λ padding. Passes (record { type = le32 head 0; content = body.x }) padding.1) r mid body.second in
-      let type_is : le32 head 0 ≡ 0 = ap (λ (q : StreamRecord). q.type) (same_passes _ _ _ _ padding.second).0 ∙ zero in
+      let type_is : le32 head 0 ≡ 0 = ap (λ (q : StreamRecord). q.type) (same_passes _ _ _ _ padding.second).0 ∙ is_end in
       let same = same_passes _ _ _ _ (sym h ∙ ap (record_at b) p.whole ∙ end_passes head a.mid f type_is) in
       record { head = head; whole = p.whole ∙ ap (λ l. head ++ l) (sym same.1); faultless_head = f; zero = type_is; is = same.0 }
 
@@ -386,19 +413,19 @@ module _ (o : Opening) (records : List StreamRecord) where
   guest = sent o.kind (records ++ end_record ∷ [])
 
   guest_fault : (head : List ℕ) → IsFaultless (Head (before o records)) head → le32 head 0 ≡ 0 → fault_of_guest guest ≡ first_fault (guest_rows guest)
-  guest_fault head f zero =
+  guest_fault head f is_end =
       let fields = fields_fine (before o records) (le32 head 0) (le32 head 4) (fine (Head (before o records)) head f) in
-      hvm_fault guest (sent_kind o.kind (records ++ end_record ∷ []) ∙ ends_hvm o.kind (le32 head 0) zero fields.built)
+      hvm_fault guest (sent_kind o.kind (records ++ end_record ∷ []) ∙ ends_hvm o.kind (le32 head 0) is_end fields.built)
 
   pub next_down : (i : List ℕ) (c : Cause) (rest : List ℕ) → record_at (before o records) i ≡ Faulty c rest → next_at o records i ≡ Faulty c rest
   next_down i c rest h = asks o records i ∙ then_faulty (record_at (before o records) i) (behind_record o records) c rest h
 
   pub guest_down : (head left : List ℕ) (c : Cause) (rest : List ℕ) → IsFaultless (Head (before o records)) head → le32 head 0 ≡ 0 → one_part (WholeGuest guest) left ≡ Faulty c rest → next_at o records (head ++ left) ≡ Faulty c rest
   unfolding behind_record
-  guest_down head left c rest f zero h =
+  guest_down head left c rest f is_end h =
       asks o records (head ++ left)
-      ∙ then_passes (record_at (before o records) (head ++ left)) (behind_record o records) end_record left _ (end_passes (before o records) head left f zero)
-      (then_faulty (tried (fault_of_guest guest) left) (λ _. Passes end_record left) c rest (ap (λ x. tried x left) (guest_fault head f zero) ∙ sym (none_taken (λ _. first_fault (guest_rows guest)) left) ∙ h))
+      ∙ then_passes (record_at (before o records) (head ++ left)) (behind_record o records) end_record left _ (end_passes (before o records) head left f is_end)
+      (then_faulty (tried (fault_of_guest guest) left) (λ _. Passes end_record left) c rest (ap (λ x. tried x left) (guest_fault head f is_end) ∙ sym (none_taken (λ _. first_fault (guest_rows guest)) left) ∙ h))
 
   -- where a record that passes is END, and the guest is faulty
   pub record GuestFault (i : List ℕ) (c : Cause) (rest : List ℕ) : Type 0 where

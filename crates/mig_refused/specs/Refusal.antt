@@ -1,11 +1,11 @@
 -- Refusals in the words of the format (libxc migration stream): a faultless front, and behind it a part that isn't whole
 -- or in which a cause stands.
-use Rattle.std.specs.Prelude.{◌≡◌, ◌⊎◌, ℕ, ◌+◌, ◌*◌, ◌^◌, ◌%◌, ◌<◌, ◌≤◌, List, [], ◌∷◌, ◌++◌, length, None, IsTrue, IsFalse, false, count_by, slice_index, if◌then◌else◌}
+use Rattle.std.specs.Prelude.{◌≡◌, ◌⊎◌, ℕ, ◌+◌, ◌*◌, ◌^◌, ◌%◌, ◌<◌, ◌≤◌, List, [], ◌∷◌, ◌++◌, length, Some, None, IsTrue, IsFalse, false, count_by, slice_index, if◌then◌else◌}
 use Rattle.std.specs.FinMap as maps
 use Rattle.mig_bytes.specs.Bytes.{IsLeastPadding}
 use Rattle.mig_bytes.specs.Fields.{le16, le32, le64, be16, be32, be64}
 use Rattle.mig_headers.specs.Headers.{marker as all_ones, image_id, page_shift, IsImageHeader, IsDomainHeader}
-use Rattle.mig_headers.specs.RecordTypes.{record_row_of, type_number}
+use Rattle.mig_headers.specs.RecordTypes.{record_row_of, type_number, type_of_number}
 use Rattle.mig_headers.specs.Texts.{number_of_cause}
 use Rattle.mig_headers.specs.declared.fault.Cause.{Cause}
 use Rattle.mig_headers.specs.declared.fault.Cause.TheVariants.{NotBuilt, Truncated, NotStream, BadId, BadVersion, BigEndian, BadKind, BadPageShift, BodyTooLong, Unsupported, UnknownMandatory, WrongKind, OutOfOrder, BadLength, NoPages, BadPageType, PfnOutside, BadContext, ParamIndex, Missing, TooManyRecords, TooManyFrames}
@@ -21,9 +21,11 @@ use Rattle.mig_pagetypes.specs.FrameWords.{word_type, word_pfn, word_has_data}
 use Rattle.mig_pagetypes.specs.Limits.{pfn_limit, most_frames}
 use Rattle.mig_guest.specs.Guests.{GuestOf}
 use Rattle.mig_guest.specs.PartKeys.{context_key}
+use Rattle.mig_guest.specs.declared.part_code.PartCode.{PartCode}
+use Rattle.mig_guest.specs.declared.part_code.PartCode.TheVariants.{HvmContext, HvmParam}
 use Rattle.mig_records.specs.Words.{words}
 use Rattle.mig_order.specs.Order.{some_earlier, is_of, static_records, content_records, vcpu_records}
-use Rattle.mig_restore.specs.Judging.{Opening, Before, before, most_records}
+use Rattle.mig_restore.specs.Judging.{Opening, Before, before, most_records, code_of_type}
 use Rattle.mig_restore.specs.Mean.{sent}
 use Rattle.mig_restore.specs.Record.{StreamRecord, Content, is_ended}
 use Rattle.mig_restore.specs.Record.Content.{Nothing}
@@ -63,7 +65,7 @@ pub data HeadHas (b : Before) (type len : ℕ) : ℕ → Cause → Type 0 where
   bad_length : (this : RecordType) → type ≡ type_number this → IsFalse ((record_row_of this).allows len) → HeadHas b type len 0 (BadLength len)
   out_of_order : (this : RecordType) (rule : ℕ) → type ≡ type_number this → Breaks b.opening.version b.opening.kind b.types this rule → HeadHas b type len rule (OutOfOrder rule)
   wrong_kind : (this : RecordType) → type ≡ type_number this → IsFalse ((record_row_of this).of_kind b.opening.kind) → HeadHas b type len 0 (WrongKind type)
-  unknown : type < 2 ^ 31 → 0x12 < type → HeadHas b type len 0 (UnknownMandatory type)
+  unknown : type < 2 ^ 31 → type_of_number type ≡ None → HeadHas b type len 0 (UnknownMandatory type)
   unsupported : (this : RecordType) → type ≡ type_number this → IsFalse (record_row_of this).supported → HeadHas b type len 0 (Unsupported type)
   too_long : 2 ^ 27 < len → HeadHas b type len 0 (BodyTooLong len)
   not_built : (this : RecordType) → type ≡ type_number this → b.opening.kind ≡ Pv → IsTrue (record_row_of this).supported → HeadHas b type len 0 (NotBuilt type)
@@ -194,14 +196,16 @@ pub data InPages (kind : Kind) (top len : ℕ) : List ℕ → StreamPart → Typ
   at_page : (front ws pages : List ℕ) (word : ℕ) → IsFaultless (PagesFront len) front → IsFaultless (PagesWords kind top (le32 front 0)) ws → IsFaultless (PagesLength len (words (le32 front 0) ws)) []
       → PagesTo (words (le32 front 0) ws) pages word → InPages kind top len (front ++ (ws ++ pages)) (Page word)
 
--- the first parts of a body of this type and length; END and STATIC_DATA_END have none
+-- a body of a record that sets parts of this code: a context and parameters have causes of their own
+abbrev pub body_part : PartCode → ℕ → StreamPart
+body_part HvmContext len = ContextBody len
+body_part HvmParam len = ParamsBody len
+body_part code len = OtherBody len
+
+-- the first parts of a body of this type and length; a record that only marks a place has none
 pub data InBody (kind : Kind) (top len : ℕ) : ℕ → List ℕ → StreamPart → Type 0 where
   in_pages : (before : List ℕ) (part : StreamPart) → InPages kind top len before part → InBody kind top len 1 before part
-  tsc : InBody kind top len 8 [] (OtherBody len)
-  context : InBody kind top len 9 [] (ContextBody len)
-  params : InBody kind top len 0xA [] (ParamsBody len)
-  leaves : InBody kind top len 0x11 [] (OtherBody len)
-  msrs : InBody kind top len 0x12 [] (OtherBody len)
+  of_code : (this : RecordType) (code : PartCode) → code_of_type this ≡ Some code → InBody kind top len (type_number this) [] (body_part code len)
   optional : (type : ℕ) → 2 ^ 31 ≤ type → InBody kind top len type [] (OtherBody len)
 
 -- the first parts of a record
