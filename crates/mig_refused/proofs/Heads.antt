@@ -1,7 +1,7 @@
 -- The causes that stand in a record's head.
-use Rattle.std.proofs.Common.{◌≡◌, ◌⊎◌, inl, inr, ℕ, ◌^◌, ◌<◌, ◌≤◌, List, [], ◌∷◌, ◌++◌, length, Bool, true, false, nat_le, nat_lt, nat_eq, not, Option, Some, None, refl, sym, ap, subst, ◌∙◌, arith}
-use Rattle.std.proofs.lemmas.Bool.{leb-true, leb-false, ltb-true, eqb-true, le-leb, lt-leb, lt-ltb}
-use Rattle.std.specs.Prelude.{◌&&◌, ◌||◌}
+use Rattle.std.proofs.Common.{◌≡◌, inl, inr, ℕ, ◌^◌, List, [], ◌∷◌, ◌++◌, length, Bool, true, false, nat_le, nat_lt, nat_eq, not, Option, Some, None, refl, sym, ap, subst, ◌∙◌, arith}
+use Rattle.std.proofs.lemmas.Bool.{leb-true, leb-false, ltb-true, eqb-true, le-leb, lt-leb, lt-ltb, false≢true, not-true, and_parts, and_from, not_from_false, or_left, or_right, or_cases}
+use Rattle.std.specs.Prelude.{◌&&◌}
 use Rattle.std.specs.Option.{option_or}
 use Rattle.mig_headers.specs.Rows.{first_fault}
 use Rattle.mig_headers.specs.RecordTypes.{record_row_of, pv, type_number, type_of_number, is_optional}
@@ -20,30 +20,11 @@ use Rattle.mig_refused.specs.Refusal.{HeadHas, Breaks}
 use Rattle.mig_refused.specs.Refusal.HeadHas.{too_many, bad_length, out_of_order, wrong_kind, unknown, unsupported, too_long, not_built}
 use Rattle.mig_refused.specs.Refusal.Breaks.{second_end, static_after_end, static_after_content, early_content, second_pv_info, early_p2m_frames, early_pages, late_pages}
 use Rattle.mig_refused.specs.Refusal.{HeadHas as has, Breaks as broken}
-use Rattle.mig_refused.proofs.Least.{Least, RowHas, To, named, both_true, not_true, no_false}
-
--- ---- truth values
-
-pub is_not : (b : Bool) → b ≡ false → not b ≡ true
-is_not b e = rw e refl
-
-pub both_are : (a b : Bool) → a ≡ true → b ≡ true → (a && b) ≡ true
-both_are a b e f = rw (e, f) refl
-
-pub or_left : (a b : Bool) → a ≡ true → (a || b) ≡ true
-or_left a b e = rw e refl
-
-pub or_right : (a b : Bool) → b ≡ true → (a || b) ≡ true
-or_right true b e = refl
-or_right false b e = e
-
-pub either_true : (a b : Bool) → (a || b) ≡ true → (a ≡ true) ⊎ (b ≡ true)
-either_true true b h = inl refl
-either_true false b h = inr h
+use Rattle.mig_refused.proofs.Least.{Least, RowHas, To, named, join}
 
 of_pv : (kind : Kind) → pv kind ≡ true → kind ≡ Pv
 of_pv Pv is = refl
-of_pv Hvm is = absurd (no_false is)
+of_pv Hvm is = absurd (false≢true is)
 
 -- ---- types
 
@@ -53,9 +34,9 @@ same_number this other is =
     grind arith
 
 same_type : (this other : RecordType) → is_of (other ∷ []) this ≡ true → this ≡ other
-same_type this other is = elim (either_true (nat_eq (type_number this) (type_number other)) false is) [
+same_type this other is = elim (or_cases (nat_eq (type_number this) (type_number other)) false is) [
   | inl e ↦ same_number this other (eqb-true (type_number this) (type_number other) e)
-  | inr e ↦ absurd (no_false e)
+  | inr e ↦ absurd (false≢true e)
 ]
 
 no_such : {X : Type 0} (type : ℕ) (this : RecordType) → type_of_number type ≡ None → type ≡ type_number this → X
@@ -68,11 +49,6 @@ mandatory : (this : RecordType) → is_optional (type_number this) ≡ false
 mandatory this = elim this as (λ (t : RecordType). is_optional (type_number t) ≡ false) [ End ↦ refl | _ ↦ refl ]
 
 -- ---- rows in one list
-
-join : (xs ys : List (Bool × Cause)) → option_or (first_fault xs) (first_fault ys) ≡ first_fault (xs ++ ys)
-join [] ys = refl
-join ((true, c) ∷ xs) ys = refl
-join ((false, c) ∷ xs) ys = join xs ys
 
 join5 : (a b c d e : List (Bool × Cause)) → option_or (first_fault a) (option_or (first_fault b) (option_or (first_fault c) (option_or (first_fault d) (first_fault e)))) ≡ first_fault (a ++ (b ++ (c ++ (d ++ e))))
 join5 a b c d e =
@@ -126,34 +102,34 @@ module _ (was : Before) (len : ℕ) where
   Rule this rule = Breaks o.version o.kind types this rule
 
   rule1 : (this : RecordType) → order.second_end earlier this ≡ true → Rule this 1
-  rule1 this h = let e = both_true (is_of (StaticDataEnd ∷ []) this) _ h in subst (λ (t : RecordType). Rule t 1) (sym (same_type this StaticDataEnd e.0)) (broken.second_end e.1)
+  rule1 this h = let e = and_parts (is_of (StaticDataEnd ∷ []) this) _ h in subst (λ (t : RecordType). Rule t 1) (sym (same_type this StaticDataEnd e.0)) (broken.second_end e.1)
 
   rule2 : (this : RecordType) → late_static earlier this ≡ true → Rule this 2
-  rule2 this h = elim (either_true (is_of static_records this && earlier.static_data_end) (is_of (StaticDataEnd ∷ static_records) this && earlier.content) h) [
-    | inl e ↦ let b = both_true (is_of static_records this) _ e in broken.static_after_end this b.0 b.1
-    | inr e ↦ let b = both_true (is_of (StaticDataEnd ∷ static_records) this) _ e in broken.static_after_content this b.0 b.1
+  rule2 this h = elim (or_cases (is_of static_records this && earlier.static_data_end) (is_of (StaticDataEnd ∷ static_records) this && earlier.content) h) [
+    | inl e ↦ let b = and_parts (is_of static_records this) _ e in broken.static_after_end this b.0 b.1
+    | inr e ↦ let b = and_parts (is_of (StaticDataEnd ∷ static_records) this) _ e in broken.static_after_content this b.0 b.1
   ]
 
   rule3 : (this : RecordType) → order.early_content o.version earlier this ≡ true → Rule this 3
   rule3 this h =
-      let a = both_true (nat_eq o.version 3) _ h in
-      let b = both_true (is_of content_records this) _ a.1 in
-      broken.early_content this (eqb-true o.version 3 a.0) b.0 (not_true _ b.1)
+      let a = and_parts (nat_eq o.version 3) _ h in
+      let b = and_parts (is_of content_records this) _ a.1 in
+      broken.early_content this (eqb-true o.version 3 a.0) b.0 (not-true _ b.1)
 
   rule4 : (this : RecordType) → order.second_pv_info earlier this ≡ true → Rule this 4
-  rule4 this h = let e = both_true (is_of (X86PvInfo ∷ []) this) _ h in subst (λ (t : RecordType). Rule t 4) (sym (same_type this X86PvInfo e.0)) (broken.second_pv_info e.1)
+  rule4 this h = let e = and_parts (is_of (X86PvInfo ∷ []) this) _ h in subst (λ (t : RecordType). Rule t 4) (sym (same_type this X86PvInfo e.0)) (broken.second_pv_info e.1)
 
   rule5 : (this : RecordType) → order.early_p2m_frames earlier this ≡ true → Rule this 5
-  rule5 this h = let e = both_true (is_of (X86PvP2mFrames ∷ []) this) _ h in subst (λ (t : RecordType). Rule t 5) (sym (same_type this X86PvP2mFrames e.0)) (broken.early_p2m_frames (not_true _ e.1))
+  rule5 this h = let e = and_parts (is_of (X86PvP2mFrames ∷ []) this) _ h in subst (λ (t : RecordType). Rule t 5) (sym (same_type this X86PvP2mFrames e.0)) (broken.early_p2m_frames (not-true _ e.1))
 
   rule6 : (this : RecordType) → order.early_pages o.kind earlier this ≡ true → Rule this 6
   rule6 this h =
-      let a = both_true (pv o.kind) _ h in
-      let b = both_true (is_of (PageData ∷ []) this) _ a.1 in
-      subst (λ (t : RecordType). Rule t 6) (sym (same_type this PageData b.0)) (broken.early_pages (of_pv o.kind a.0) (not_true _ b.1))
+      let a = and_parts (pv o.kind) _ h in
+      let b = and_parts (is_of (PageData ∷ []) this) _ a.1 in
+      subst (λ (t : RecordType). Rule t 6) (sym (same_type this PageData b.0)) (broken.early_pages (of_pv o.kind a.0) (not-true _ b.1))
 
   rule7 : (this : RecordType) → order.late_pages earlier this ≡ true → Rule this 7
-  rule7 this h = let e = both_true (is_of (PageData ∷ []) this) _ h in subst (λ (t : RecordType). Rule t 7) (sym (same_type this PageData e.0)) (broken.late_pages e.1)
+  rule7 this h = let e = and_parts (is_of (PageData ∷ []) this) _ h in subst (λ (t : RecordType). Rule t 7) (sym (same_type this PageData e.0)) (broken.late_pages e.1)
 
   abbrev Has : RecordType → ℕ → Cause → Type 0
   Has this k c = HeadHas was (type_number this) len k c
@@ -167,14 +143,14 @@ module _ (was : Before) (len : ℕ) where
 
   to_known : (this : RecordType) → To (Has this) (known_rows this)
   to_known this = (
-    (λ h. let e = both_true (pv o.kind) _ (twice _ h) in has.not_built this refl (of_pv o.kind e.0) e.1),
+    (λ h. let e = and_parts (pv o.kind) _ (twice _ h) in has.not_built this refl (of_pv o.kind e.0) e.1),
     (
       (λ h. has.too_long (ltb-true (2 ^ 27) len h)),
       (
-        (λ h. has.unsupported this refl (not_true _ h)),
+        (λ h. has.unsupported this refl (not-true _ h)),
         (
-          (λ h. has.wrong_kind this refl (not_true _ h)),
-          to_both (Has this) (broken_rules o.version o.kind earlier this) (known_length this ++ number_row) (to_rules this) ((λ h. has.bad_length this refl (not_true _ h)), ((λ h. has.too_many (leb-true most_records (length types) h)), tt)),
+          (λ h. has.wrong_kind this refl (not-true _ h)),
+          to_both (Has this) (broken_rules o.version o.kind earlier this) (known_length this ++ number_row) (to_rules this) ((λ h. has.bad_length this refl (not-true _ h)), ((λ h. has.too_many (leb-true most_records (length types) h)), tt)),
         ),
       ),
     ),
@@ -187,9 +163,9 @@ module _ (was : Before) (len : ℕ) where
   -- a cause that stands has its row
   rule_row : (this : RecordType) (rule : ℕ) → Rule this rule → RowHas (known_rows this) rule (OutOfOrder rule)
   rule_row _ _ (second_end h) = inr (inr (inr (inr (inl (rw h refl, refl, refl)))))
-  rule_row _ _ (static_after_end this h e) = inr (inr (inr (inr (inr (inl (or_left _ _ (both_are _ _ h e), refl, refl))))))
-  rule_row _ _ (static_after_content this h e) = inr (inr (inr (inr (inr (inl (or_right _ _ (both_are _ _ h e), refl, refl))))))
-  rule_row _ _ (early_content this v h e) = inr (inr (inr (inr (inr (inr (inl (both_are _ _ (rw v refl) (both_are _ _ h (is_not _ e)), refl, refl)))))))
+  rule_row _ _ (static_after_end this h e) = inr (inr (inr (inr (inr (inl (or_left _ _ (and_from _ _ h e), refl, refl))))))
+  rule_row _ _ (static_after_content this h e) = inr (inr (inr (inr (inr (inl (or_right _ _ (and_from _ _ h e), refl, refl))))))
+  rule_row _ _ (early_content this v h e) = inr (inr (inr (inr (inr (inr (inl (and_from _ _ (rw v refl) (and_from _ _ h (not_from_false _ e)), refl, refl)))))))
   rule_row _ _ (second_pv_info h) = inr (inr (inr (inr (inr (inr (inr (inl (rw h refl, refl, refl))))))))
   rule_row _ _ (early_p2m_frames h) = inr (inr (inr (inr (inr (inr (inr (inr (inl (rw h refl, refl, refl)))))))))
   rule_row _ _ (early_pages v h) = inr (inr (inr (inr (inr (inr (inr (inr (inr (inl (rw (v, h) refl, refl, refl))))))))))
@@ -197,13 +173,13 @@ module _ (was : Before) (len : ℕ) where
 
   from_known : (this : RecordType) (k : ℕ) (c : Cause) → Has this k c → RowHas (known_rows this) k c
   from_known this _ _ (too_many h) = inr (inr (inr (inr (inr (inr (inr (inr (inr (inr (inr (inr (inl (le-leb _ _ h, refl, refl)))))))))))))
-  from_known this _ _ (bad_length other is h) = inr (inr (inr (inr (inr (inr (inr (inr (inr (inr (inr (inl (is_not _ (ap (λ (t : RecordType). (record_row_of t).allows len) (same_number this other is) ∙ h), refl, refl))))))))))))
+  from_known this _ _ (bad_length other is h) = inr (inr (inr (inr (inr (inr (inr (inr (inr (inr (inr (inl (not_from_false _ (ap (λ (t : RecordType). (record_row_of t).allows len) (same_number this other is) ∙ h), refl, refl))))))))))))
   from_known this _ _ (out_of_order other rule is h) = rule_row this rule (subst (λ (t : RecordType). Rule t rule) (sym (same_number this other is)) h)
-  from_known this _ _ (wrong_kind other is h) = inr (inr (inr (inl (is_not _ (ap (λ (t : RecordType). (record_row_of t).of_kind o.kind) (same_number this other is) ∙ h), refl, refl))))
+  from_known this _ _ (wrong_kind other is h) = inr (inr (inr (inl (not_from_false _ (ap (λ (t : RecordType). (record_row_of t).of_kind o.kind) (same_number this other is) ∙ h), refl, refl))))
   from_known this _ _ (unknown small none) = no_such (type_number this) this none refl
-  from_known this _ _ (unsupported other is h) = inr (inr (inl (is_not _ (ap (λ (t : RecordType). (record_row_of t).supported) (same_number this other is) ∙ h), refl, refl)))
+  from_known this _ _ (unsupported other is h) = inr (inr (inl (not_from_false _ (ap (λ (t : RecordType). (record_row_of t).supported) (same_number this other is) ∙ h), refl, refl)))
   from_known this _ _ (too_long h) = inr (inl (lt-ltb _ _ h, refl, refl))
-  from_known this _ _ (not_built other is kind h) = inl (ap (λ b. not (not b)) (both_are _ _ (ap pv kind) (ap (λ (t : RecordType). (record_row_of t).supported) (same_number this other is) ∙ h)), refl, refl)
+  from_known this _ _ (not_built other is kind h) = inl (ap (λ b. not (not b)) (and_from _ _ (ap pv kind) (ap (λ (t : RecordType). (record_row_of t).supported) (same_number this other is) ∙ h)), refl, refl)
 
   known_least : (this : RecordType) → Least (Has this) (fault_of_fields was (type_number this) len)
   known_least this = subst (Least (Has this)) (sym (fields_known this)) (named (Has this) (known_rows this) refl (to_known this) (from_known this))
@@ -238,7 +214,7 @@ module _ (was : Before) (len : ℕ) where
   from_unlisted type none _ _ (bad_length this is h) = no_such type this none is
   from_unlisted type none _ _ (out_of_order this rule is h) = no_such type this none is
   from_unlisted type none _ _ (wrong_kind this is h) = no_such type this none is
-  from_unlisted type none _ _ (unknown small _) = inr (inl (is_not _ (lt-leb _ _ small), refl, refl))
+  from_unlisted type none _ _ (unknown small _) = inr (inl (not_from_false _ (lt-leb _ _ small), refl, refl))
   from_unlisted type none _ _ (unsupported this is h) = no_such type this none is
   from_unlisted type none _ _ (too_long h) = inl (lt-ltb _ _ h, refl, refl)
   from_unlisted type none _ _ (not_built this is kind h) = no_such type this none is
@@ -246,7 +222,7 @@ module _ (was : Before) (len : ℕ) where
   unlisted_least : (type : ℕ) → type_of_number type ≡ None → Least (HasType type) (fault_of_fields was type len)
   unlisted_least type none =
       subst (Least (HasType type)) (sym (fields_unlisted type none))
-      (named (HasType type) (unlisted_rows type) refl ((λ h. has.too_long (ltb-true (2 ^ 27) len h)), ((λ h. has.unknown (leb-false (2 ^ 31) type (not_true _ h)) none), ((λ h. has.too_many (leb-true most_records (length types) h)), tt))) (from_unlisted type none))
+      (named (HasType type) (unlisted_rows type) refl ((λ h. has.too_long (ltb-true (2 ^ 27) len h)), ((λ h. has.unknown (leb-false (2 ^ 31) type (not-true _ h)) none), ((λ h. has.too_many (leb-true most_records (length types) h)), tt))) (from_unlisted type none))
 
   by_type : (type : ℕ) (found : Option RecordType) → type_of_number type ≡ found → Least (HasType type) (fault_of_fields was type len)
   by_type type None is = unlisted_least type is

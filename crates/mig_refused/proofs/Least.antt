@@ -1,7 +1,8 @@
 -- Tables of causes: the first row whose test holds is the cause that is named.
-use Rattle.std.proofs.Common.{◌≡◌, ◌⊎◌, inl, inr, ℕ, suc, ◌+◌, ◌*◌, ◌<◌, ◌≤◌, List, [], ◌∷◌, Bool, true, false, nat_le, nat_lt, not, Option, Some, None, refl, sym, ap, subst, ◌∙◌, arith}
-use Rattle.std.proofs.lemmas.Bool.{leb-true, ltb-true}
+use Rattle.std.proofs.Common.{◌≡◌, ◌⊎◌, inl, inr, ℕ, suc, ◌+◌, ◌*◌, ◌<◌, ◌≤◌, List, [], ◌∷◌, ◌++◌, Bool, true, false, nat_le, nat_lt, Option, Some, None, refl, sym, ap, subst, ◌∙◌, arith}
+use Rattle.std.proofs.lemmas.Bool.{leb-true, ltb-true, cases_lt, and_parts, false≢true}
 use Rattle.std.specs.Prelude.{◌&&◌}
+use Rattle.std.specs.Option.{option_or}
 use Rattle.mig_headers.specs.Rows.{first_fault}
 use Rattle.mig_headers.specs.Texts.{number_of_cause}
 use Rattle.mig_headers.specs.declared.fault.Cause.{Cause}
@@ -15,19 +16,6 @@ LeastOf Has (Some c) = IsFirstCause Has c
 -- what a computed fault is of the causes that stand
 pub record Least (Has : ℕ → Cause → Type 0) (f : Option Cause) : Type 0 where
   pub holds : LeastOf Has f
-
--- ---- truth values
-
-pub no_false : false ≡ true → ⊥
-no_false e = cc
-
-pub not_true : (b : Bool) → not b ≡ true → b ≡ false
-not_true true h = absurd (no_false h)
-not_true false h = refl
-
-pub both_true : (a b : Bool) → (a && b) ≡ true → (a ≡ true) × (b ≡ true)
-both_true true b h = (refl, h)
-both_true false b h = absurd (no_false h)
 
 -- ---- rows
 
@@ -51,53 +39,50 @@ abbrev pub To : (ℕ → Cause → Type 0) → List (Bool × Cause) → Type 0
 To Has [] = Unit {0}
 To Has (row ∷ rows) = (row.0 ≡ true → Has (rule_in row.1) row.1) × To Has rows
 
-split : (n m : ℕ) → (n < m) ⊎ (m ≤ n)
-split n m = elim (nat_lt n m) as (λ b. nat_lt n m ≡ b → (n < m) ⊎ (m ≤ n)) [ true ↦ λ e. inl (ltb-true n m e) | false ↦ λ e. inr (grind (arith, e)) ] refl
-
 ordered : (n m a b : ℕ) → a < 8 → b < 8 → n * 8 + a < m * 8 + b → (n < m) ⊎ ((n ≡ m) × (a < b))
-ordered n m a b p q less = elim (split n m) [ inl e ↦ inl e | inr e ↦ inr (omega arith, omega arith) ]
+ordered n m a b p q less = elim (cases_lt n m) [ inl e ↦ inl e | inr e ↦ inr (omega arith, omega arith) ]
 
 -- what stands in rows above a rank has such a rank
 high : (rows : List (Bool × Cause)) (m : ℕ) → above m rows ≡ true → (k : ℕ) (c : Cause) → RowHas rows k c → (m ≤ rank c) × (rule_in c < 8) × (k ≡ rule_in c)
 high [] m asc k c h = absurd h
 high (row ∷ rows) m asc k c (inl h) =
-    let e = both_true _ _ asc in
-    let f = both_true _ _ e.1 in
+    let e = and_parts _ _ asc in
+    let f = and_parts _ _ e.1 in
     (subst (λ (d : Cause). m ≤ rank d) (sym h.2) (leb-true _ _ e.0), subst (λ (d : Cause). rule_in d < 8) (sym h.2) (ltb-true _ _ f.0), h.1 ∙ ap rule_in (sym h.2))
 high (row ∷ rows) m asc k c (inr h) =
-    let e = both_true _ _ asc in
-    let f = both_true _ _ e.1 in
+    let e = and_parts _ _ asc in
+    let f = and_parts _ _ e.1 in
     let low : m ≤ rank row.1 = leb-true _ _ e.0 in
     let g = high rows (suc (rank row.1)) f.1 k c h in
     (omega (arith, low, g.0), g.1, g.2)
 
 later : (row : Bool × Cause) (rows : List (Bool × Cause)) (m : ℕ) → above m (row ∷ rows) ≡ true → (j : ℕ) (d : Cause) → RowHas rows j d → IsTriedBefore (rule_in row.1) row.1 j d
 later row rows m asc j d h =
-    let e = both_true _ _ asc in
-    let f = both_true _ _ e.1 in
+    let e = and_parts _ _ asc in
+    let f = and_parts _ _ e.1 in
     let g = high rows (suc (rank row.1)) f.1 j d h in
     elim (ordered (number_of_cause row.1) (number_of_cause d) (rule_in row.1) (rule_in d) (ltb-true _ _ f.0) g.1 (omega (arith, g.0))) [
       | inl x ↦ inl x
       | inr x ↦ inr (x.0, subst (λ n. rule_in row.1 < n) (sym g.2) x.1)
     ]
 
-rows_least : (rows : List (Bool × Cause)) (m : ℕ) → above m rows ≡ true → Least (RowHas rows) (first_fault rows)
+pub rows_least : (rows : List (Bool × Cause)) (m : ℕ) → above m rows ≡ true → Least (RowHas rows) (first_fault rows)
 rows_least [] m asc = record { holds = λ k c h. h }
 rows_least ((true, x) ∷ rows) m asc = record { holds = (rule_in x, inl (refl, refl, refl), λ j d h. elim h [ inl e ↦ inr e.2 | inr e ↦ inl (later (true, x) rows m asc j d e) ]) }
 rows_least ((false, x) ∷ rows) m asc =
-    let e = both_true _ _ asc in
-    let f = both_true _ _ e.1 in
+    let e = and_parts _ _ asc in
+    let f = and_parts _ _ e.1 in
     skip (first_fault rows) (rows_least rows (suc (rank x)) f.1)
   where
     skip : (g : Option Cause) → Least (RowHas rows) g → Least (RowHas ((false, x) ∷ rows)) g
-    skip None p = record { holds = λ k c h. elim h [ inl q ↦ no_false q.0 | inr q ↦ p.holds k c q ] }
-    skip (Some c) p = record { holds = (p.holds.0, inr p.holds.1, λ j d h. elim h [ inl q ↦ absurd (no_false q.0) | inr q ↦ p.holds.2 j d q ]) }
+    skip None p = record { holds = λ k c h. elim h [ inl q ↦ false≢true q.0 | inr q ↦ p.holds k c q ] }
+    skip (Some c) p = record { holds = (p.holds.0, inr p.holds.1, λ j d h. elim h [ inl q ↦ absurd (false≢true q.0) | inr q ↦ p.holds.2 j d q ]) }
 
 pub turned : (P R : ℕ → Cause → Type 0) (f : Option Cause) → Least P f → ((k : ℕ) (c : Cause) → P k c → R k c) → ((k : ℕ) (c : Cause) → R k c → P k c) → Least R f
 turned P R None p to from = record { holds = λ k c r. p.holds k c (from k c r) }
 turned P R (Some c) p to from = record { holds = (p.holds.0, to p.holds.0 c p.holds.1, λ j d r. p.holds.2 j d (from j d r)) }
 
-into : (Has : ℕ → Cause → Type 0) (rows : List (Bool × Cause)) → To Has rows → (k : ℕ) (c : Cause) → RowHas rows k c → Has k c
+pub into : (Has : ℕ → Cause → Type 0) (rows : List (Bool × Cause)) → To Has rows → (k : ℕ) (c : Cause) → RowHas rows k c → Has k c
 into Has [] to k c h = absurd h
 into Has (row ∷ rows) to k c (inl h) = subst (λ j. Has j c) (sym h.1) (subst (Has (rule_in row.1)) (sym h.2) (to.0 h.0))
 into Has (row ∷ rows) to k c (inr h) = into Has rows to.1 k c h
@@ -105,3 +90,17 @@ into Has (row ∷ rows) to k c (inr h) = into Has rows to.1 k c h
 -- rows in the order of their numbers: the first whose test holds is named
 pub named : (Has : ℕ → Cause → Type 0) (rows : List (Bool × Cause)) → above 0 rows ≡ true → To Has rows → ((k : ℕ) (c : Cause) → Has k c → RowHas rows k c) → Least Has (first_fault rows)
 named Has rows asc to from = turned (RowHas rows) Has (first_fault rows) (rows_least rows 0 asc) (into Has rows to) from
+
+-- ---- tables one behind the other
+
+pub join : (xs ys : List (Bool × Cause)) → option_or (first_fault xs) (first_fault ys) ≡ first_fault (xs ++ ys)
+join [] ys = refl
+join ((true, c) ∷ xs) ys = refl
+join ((false, c) ∷ xs) ys = join xs ys
+
+-- causes of which the first ones are tried before the others
+pub both_least : (A B Has : ℕ → Cause → Type 0) (f g : Option Cause) → ((j k : ℕ) (c d : Cause) → A j c → B k d → IsTriedBefore j c k d)
+    → ((k : ℕ) (c : Cause) → A k c ⊎ B k c → Has k c) → ((k : ℕ) (c : Cause) → Has k c → A k c ⊎ B k c) → Least A f → Least B g → Least Has (option_or f g)
+both_least A B Has (Some c) g before to from p q = record { holds = (p.holds.0, to p.holds.0 c (inl p.holds.1), λ j d h. elim (from j d h) [ inl a ↦ p.holds.2 j d a | inr b ↦ inl (before p.holds.0 j c d p.holds.1 b) ]) }
+both_least A B Has None (Some c) before to from p q = record { holds = (q.holds.0, to q.holds.0 c (inr q.holds.1), λ j d h. elim (from j d h) [ inl a ↦ absurd (p.holds j d a) | inr b ↦ q.holds.2 j d b ]) }
+both_least A B Has None None before to from p q = record { holds = λ k c h. elim (from k c h) [ inl a ↦ p.holds k c a | inr b ↦ q.holds k c b ] }

@@ -1,7 +1,6 @@
 -- A record that fails: the part in which it fails, and the parts before it.
-use Rattle.std.proofs.Common.{◌≡◌, ◌⊎◌, inl, inr, ℕ, ◌+◌, ◌*◌, ◌/◌, ◌%◌, ◌^◌, List, [], ◌∷◌, ◌++◌, Bool, true, false, cond, not, nat_eq, zero, suc, drop, length, Option, Some, None, refl, sym, ap, subst, ◌∙◌, arith, append_assoc}
-use Rattle.std.specs.Prelude.{◌&&◌}
-use Rattle.std.proofs.lemmas.Bool.{eqb-true, not-true}
+use Rattle.std.proofs.Common.{◌≡◌, ◌⊎◌, inl, inr, ℕ, ◌+◌, ◌*◌, ◌/◌, List, [], ◌∷◌, ◌++◌, Bool, true, false, cond, not, nat_eq, zero, suc, drop, length, Option, Some, None, refl, sym, ap, subst, ◌∙◌, arith, append_assoc}
+use Rattle.std.proofs.lemmas.Bool.{eqb-true, not-true, false≢true}
 use Rattle.mig_bytes.specs.Bytes.{padding_len, IsLeastPadding}
 use Rattle.mig_bytes.specs.Fields.{le32}
 use Rattle.mig_bytes.specs.Judged.{Judged, ◌>>=◌, part, tried, each}
@@ -9,7 +8,6 @@ use Rattle.mig_bytes.specs.Judged.Judged.{Passes, Faulty}
 use Rattle.mig_bytes.proofs.Joins.{part_whole, then_passes, tried_none, both_pass, part_passes, tried_passes, same_passes}
 use Rattle.mig_headers.specs.RecordTypes.{record_row_of, type_number, type_of_number}
 use Rattle.mig_headers.specs.Rows.{first_fault}
-use Rattle.mig_headers.proofs.RecordNumbers.{numbers_are_inverse}
 use Rattle.mig_headers.specs.declared.fault.Cause.{Cause}
 use Rattle.mig_headers.specs.declared.fault.Cause.TheVariants.{Truncated}
 use Rattle.mig_headers.specs.declared.kind.Kind.{Kind}
@@ -54,7 +52,6 @@ use Rattle.mig_refused.specs.Refusal.PagesTo.{next_page, one_page}
 use Rattle.mig_refused.specs.Refusal.InPages.{at_front, at_words, at_length, at_page}
 use Rattle.mig_refused.specs.Refusal.InBody.{in_pages, of_code, optional}
 use Rattle.mig_refused.specs.Refusal.Within.{at_head, in_body, at_padding}
-use Rattle.mig_refused.proofs.Least.{no_false}
 use Rattle.mig_refused.proofs.Tables.{guest_rows}
 use Rattle.mig_refused.proofs.Single.{trial, one_part, stage, stage_faulty, stage_passes, stage_cases, then_faulty, bind_cases, passes_not, same_faulty, assoc, fine, faultless}
 
@@ -246,7 +243,7 @@ quiet : (shape : Shape) (code : PartCode) (body : List ℕ) → Fits shape code 
 quiet (Table l) code body f = neither_some _ _ (length_passes _ _ (rw (not-true _ f.plain) (f.size ∙ omega arith))) (no_key_fault code l f.keys (entry_count l body) (drop (front_width l) body))
 quiet (Single len ignored) code body f = length_passes _ _ f.size
 quiet Other code body f = refl
-quiet _ code body f = absurd (no_false f.plain)
+quiet _ code body f = absurd (false≢true f.plain)
 
 -- a type of PV guests alone is read in no stream so far
 of_hvm : (this : RecordType) (kind : Kind) → is_built kind (type_number this) ≡ true → (record_row_of this).supported ≡ true → (record_row_of this).of_kind kind ≡ true → (record_row_of this).of_kind Hvm ≡ true

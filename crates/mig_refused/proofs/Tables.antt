@@ -1,6 +1,6 @@
 -- The causes that stand in each part of an image.
 use Rattle.std.proofs.Common.{◌≡◌, ◌⊎◌, inl, inr, ℕ, zero, suc, drop, ltb-false, ◌+◌, ◌*◌, ◌<◌, ◌≤◌, List, [], ◌∷◌, length, Bool, true, false, nat_le, nat_lt, nat_eq, not, is_none, Option, Some, None, Result, Ok, Err, slice_index, refl, sym, ap, subst, ◌∙◌, arith}
-use Rattle.std.proofs.lemmas.Bool.{leb-true, ltb-true, eqb-true, le-leb, lt-ltb}
+use Rattle.std.proofs.lemmas.Bool.{leb-true, ltb-true, eqb-true, eqb-false, ne_eqb, eq-eqb, le-leb, lt-ltb, le-ltb, cases_order, false≢true, both_ways, not-true, and_parts, and_from, or_left, or_right, or_cases}
 use Rattle.std.proofs.lemmas.Grind.{common_steps}
 use Rattle.std.specs.FinMap as maps
 use Rattle.std.specs.Option.{option_or}
@@ -27,15 +27,14 @@ use Rattle.mig_pagetypes.specs.Limits.{pfn_limit, most_frames}
 use Rattle.mig_guest.specs.Guests.{GuestOf}
 use Rattle.mig_guest.specs.PartKeys.{context_key}
 use Rattle.mig_records.specs.Faults.{count_rows, fault_of_count, fault_of_words}
-use Rattle.mig_records.specs.Words.{IsFirst, words, data_len_of, has_reserved_type, names_outside, is_outside, first_place, first_word}
+use Rattle.mig_records.specs.Words.{words, data_len_of, has_reserved_type, names_outside, is_outside, first_place, first_word}
 use Rattle.mig_records.proofs.Places.{place_is_first, none_pass}
 use Rattle.mig_guest.specs.declared.part_code.PartCode.TheVariants.{HvmContext, HvmParam}
 use Rattle.mig_bodies.specs.declared.layout.Layout.{Layout}
-use Rattle.mig_bodies.specs.Layouts.{layout, fault_of_key, fault_of_entries}
+use Rattle.mig_bodies.specs.Layouts.{layout, fault_of_entries}
 use Rattle.mig_bodies.specs.Shapes.{fault_of_body, fault_of_scan}
 use Rattle.mig_restore.specs.Judging.{fault_of_data, fault_of_head}
-use Rattle.mig_restore.proofs.Passing.{same_is}
-use Rattle.mig_refused.specs.Refusal.{MarkerHas, HeaderHas, DomainHas, GuestHas, FrontHas, WordsHas, LengthHas, ContextHas, ParamsHas, IsTriedBefore, IsFirstCause, StreamPart, Stands, FrontHas as fronts, LengthHas as lengths, ParamsHas as of_params}
+use Rattle.mig_refused.specs.Refusal.{MarkerHas, HeaderHas, DomainHas, GuestHas, FrontHas, WordsHas, LengthHas, ContextHas, ParamsHas, IsTriedBefore, StreamPart, Stands, FrontHas as fronts, LengthHas as lengths, ParamsHas as of_params}
 use Rattle.mig_refused.specs.Refusal.MarkerHas.{not_stream}
 use Rattle.mig_refused.specs.Refusal.HeaderHas.{big_endian, bad_version, bad_id}
 use Rattle.mig_refused.specs.Refusal.DomainHas.{bad_page_shift, bad_kind}
@@ -43,17 +42,17 @@ use Rattle.mig_refused.specs.Refusal.GuestHas.{too_many_frames, missing}
 use Rattle.mig_refused.specs.Refusal.WordsHas.{outside, reserved}
 use Rattle.mig_refused.specs.Refusal.ContextHas.{bad_context}
 use Rattle.mig_refused.specs.Refusal.StreamPart.{Marker, HeaderRest, Domain, Head, WholeGuest, PagesFront, PagesWords, PagesLength, Page, ContextBody, ParamsBody, OtherBody, Padding}
-use Rattle.mig_refused.proofs.Least.{Least, RowHas, turned, named, both_true, no_false}
+use Rattle.mig_refused.proofs.Least.{Least, RowHas, rows_least, into, both_least, join, named}
 use Rattle.mig_refused.proofs.Entries.{chain_reached, reached_chain, found_has, has_found}
-use Rattle.mig_refused.proofs.Heads.{head_least, both_are, or_left, or_right, either_true}
+use Rattle.mig_refused.proofs.Heads.{head_least}
 
 -- ---- tests of numbers
 
 differs : (n m : ℕ) → not (nat_eq n m) ≡ true → n ≡ m → ⊥
-differs n m h e = grind (arith, common_steps)
+differs n m h = eqb-false n m (not-true _ h)
 
 test_differs : (n m : ℕ) → (n ≡ m → ⊥) → not (nat_eq n m) ≡ true
-test_differs n m h = elim (nat_eq n m) as (λ b. nat_eq n m ≡ b → not b ≡ true) [ true ↦ λ e. absurd (h (eqb-true n m e)) | false ↦ λ e. refl ] refl
+test_differs n m h = ap not (ne_eqb n m h)
 
 -- ---- headers
 
@@ -64,25 +63,25 @@ marker_least bytes = named (MarkerHas bytes) (marker_rows bytes) refl ((λ h. no
     from _ _ (not_stream h) = inl (test_differs _ _ h, refl, refl)
 
 header_least : (bytes : List ℕ) → Least (HeaderHas bytes) (fault_of_image bytes)
-header_least bytes = named (HeaderHas bytes) (image_rows bytes) refl ((λ h. bad_id (differs _ _ h)), ((λ h. let b = both_true _ _ h in bad_version (differs _ _ b.0) (differs _ _ b.1)), ((λ h. big_endian (eqb-true _ _ h)), tt))) from
+header_least bytes = named (HeaderHas bytes) (image_rows bytes) refl ((λ h. bad_id (differs _ _ h)), ((λ h. let b = and_parts _ _ h in bad_version (differs _ _ b.0) (differs _ _ b.1)), ((λ h. big_endian (eqb-true _ _ h)), tt))) from
   where
     from : (k : ℕ) (c : Cause) → HeaderHas bytes k c → RowHas (image_rows bytes) k c
-    from _ _ (big_endian h) = inr (inr (inl (same_is _ _ h, refl, refl)))
-    from _ _ (bad_version h e) = inr (inl (both_are _ _ (test_differs _ _ h) (test_differs _ _ e), refl, refl))
+    from _ _ (big_endian h) = inr (inr (inl (eq-eqb _ _ h, refl, refl)))
+    from _ _ (bad_version h e) = inr (inl (and_from _ _ (test_differs _ _ h) (test_differs _ _ e), refl, refl))
     from _ _ (bad_id h) = inl (test_differs _ _ h, refl, refl)
 
 domain_least : (bytes : List ℕ) → Least (DomainHas bytes) (fault_of_domain bytes)
-domain_least bytes = named (DomainHas bytes) (domain_rows bytes) refl ((λ h. let b = both_true _ _ h in bad_kind (differs _ _ b.0) (differs _ _ b.1)), ((λ h. bad_page_shift (differs _ _ h)), tt)) from
+domain_least bytes = named (DomainHas bytes) (domain_rows bytes) refl ((λ h. let b = and_parts _ _ h in bad_kind (differs _ _ b.0) (differs _ _ b.1)), ((λ h. bad_page_shift (differs _ _ h)), tt)) from
   where
     from : (k : ℕ) (c : Cause) → DomainHas bytes k c → RowHas (domain_rows bytes) k c
     from _ _ (bad_page_shift h) = inr (inl (test_differs _ _ h, refl, refl))
-    from _ _ (bad_kind h e) = inl (both_are _ _ (test_differs _ _ h) (test_differs _ _ e), refl, refl)
+    from _ _ (bad_kind h e) = inl (and_from _ _ (test_differs _ _ h) (test_differs _ _ e), refl, refl)
 
 -- ---- the whole guest
 
 is_there : {X : Type 0} (x : Option X) → is_none x ≡ true → x ≡ None
 is_there None h = refl
-is_there (Some x) h = absurd (no_false h)
+is_there (Some x) h = absurd (false≢true h)
 
 -- what is tried in the whole guest, where it is an HVM guest
 abbrev pub guest_rows : GuestOf → List (Bool × Cause)
@@ -101,7 +100,7 @@ front_least : (len count : ℕ) → Least (FrontHas len count) (fault_of_count l
 front_least len count = named (FrontHas len count) (count_rows len count) refl ((λ h. fronts.bad_length (ltb-true _ _ h)), ((λ h. fronts.no_pages (eqb-true _ _ h)), tt)) from
   where
     from : (k : ℕ) (c : Cause) → FrontHas len count k c → RowHas (count_rows len count) k c
-    from _ _ (fronts.no_pages h) = inr (inl (same_is _ _ h, refl, refl))
+    from _ _ (fronts.no_pages h) = inr (inl (eq-eqb _ _ h, refl, refl))
     from _ _ (fronts.bad_length h) = inl (lt-ltb _ _ h, refl, refl)
 
 length_least : (len : ℕ) (ws : List ℕ) → Least (LengthHas len ws) (fault_of_data len ws)
@@ -110,73 +109,76 @@ length_least len ws = named (LengthHas len ws) ((not (nat_eq len (data_len_of ws
     from : (k : ℕ) (c : Cause) → LengthHas len ws k c → RowHas ((not (nat_eq len (data_len_of ws)), BadLength len) ∷ []) k c
     from _ _ (lengths.bad_length h) = inl (test_differs _ _ h, refl, refl)
 
-three : (n m : ℕ) → (n < m) ⊎ ((n ≡ m) ⊎ (m < n))
-three n m = elim (nat_lt n m) as (λ b. nat_lt n m ≡ b → (n < m) ⊎ ((n ≡ m) ⊎ (m < n))) [
-  | true ↦ λ e. inl (ltb-true n m e)
-  | false ↦ λ e. inr (elim (nat_eq n m) as (λ b. nat_eq n m ≡ b → (n ≡ m) ⊎ (m < n)) [ true ↦ λ q. inl (eqb-true n m q) | false ↦ λ q. inr (grind (arith, common_steps, e, q)) ] refl)
-] refl
+-- ---- the elements of a list that pass a test
+
+module _ (test : ℕ → Bool) (ws : List ℕ) (cause : ℕ → ℕ → Cause) where
+  -- each has its cause, at its place
+  abbrev Placed : ℕ → Cause → Type 0
+  Placed k c = (k < length ws) × (test (slice_index ws k) ≡ true) × (c ≡ cause k (slice_index ws k))
+
+  abbrev first_of : Option Cause
+  first_of = first_fault ((list_any test ws, cause (first_place test ws) (first_word test ws)) ∷ [])
+
+  placed_least : ((j k v w : ℕ) → number_of_cause (cause j v) ≡ number_of_cause (cause k w)) → Least Placed first_of
+  placed_least same = by (list_any test ws) refl
+    where
+      by : (b : Bool) → list_any test ws ≡ b → Least Placed (first_fault ((b, cause (first_place test ws) (first_word test ws)) ∷ []))
+      by true some =
+          let p = first_place test ws in
+          let f = place_is_first test ws some in
+          record {
+            holds = (
+              p,
+              (f.within, f.passes, refl),
+              λ j d h. elim (cases_order p j) [
+                | inl e ↦ inr (h.2 ∙ ap (λ i. cause i (slice_index ws i)) (sym e))
+                | inr other ↦ elim other [
+                  | inl less ↦ inl (inr (same p j (slice_index ws p) (slice_index ws j) ∙ ap number_of_cause (sym h.2), less))
+                  | inr less ↦ absurd (both_ways _ (f.none_before j less) h.1)
+                ]
+              ],
+            );
+          }
+      by false none = record { holds = λ k c h. both_ways _ (none_pass test ws none k 0 h.0) h.1 }
 
 module _ (kind : Kind) (top : ℕ) (ws : List ℕ) where
-  abbrev at : ℕ → ℕ
-  at place = slice_index ws place
-
-  abbrev Outside : ℕ → Type 0
-  Outside w = (pfn_limit ≤ word_pfn w) ⊎ ((kind ≡ Pv) × (top < word_pfn w))
-
   outside_of : (k : Kind) (n : ℕ) → is_outside k top n ≡ true → (pfn_limit ≤ n) ⊎ ((k ≡ Pv) × (top < n))
-  outside_of Pv n h = elim (either_true (nat_le pfn_limit n) (nat_lt top n) h) [ inl e ↦ inl (leb-true _ _ e) | inr e ↦ inr (refl, ltb-true _ _ e) ]
+  outside_of Pv n h = elim (or_cases (nat_le pfn_limit n) (nat_lt top n) h) [ inl e ↦ inl (leb-true _ _ e) | inr e ↦ inr (refl, ltb-true _ _ e) ]
   outside_of Hvm n h = inl (leb-true _ _ h)
 
   test_outside : (k : Kind) (n : ℕ) → (pfn_limit ≤ n) ⊎ ((k ≡ Pv) × (top < n)) → is_outside k top n ≡ true
   test_outside Pv n (inl e) = or_left _ _ (le-leb _ _ e)
   test_outside Pv n (inr e) = or_right (nat_le pfn_limit n) _ (lt-ltb _ _ e.1)
   test_outside Hvm n (inl e) = le-leb _ _ e
-  test_outside Hvm n (inr e) = absurd (no_false (ap pv e.0))
+  test_outside Hvm n (inr e) = absurd (false≢true (ap pv e.0))
 
-  clash : (b : Bool) {X : Type 0} → b ≡ true → b ≡ false → X
-  clash b p q = absurd (no_false (sym q ∙ p))
+  abbrev page_type : ℕ → ℕ → Cause
+  page_type k w = BadPageType k (word_type w)
 
-  is_reserved : (w : ℕ) → 5 ≤ word_type w → word_type w ≤ 8 → has_reserved_type w ≡ true
-  is_reserved w a b = both_are _ _ (le-leb _ _ a) (le-leb _ _ b)
+  abbrev frame_outside : ℕ → ℕ → Cause
+  frame_outside k w = PfnOutside k (word_pfn w)
 
-  after_reserved : (p : ℕ) → IsFirst has_reserved_type ws p → (j : ℕ) (d : Cause) → WordsHas kind top ws j d → IsTriedBefore p (BadPageType p (word_type (at p))) j d ⊎ (d ≡ BadPageType p (word_type (at p)))
-  after_reserved p first _ _ (outside j within h) = inl (inl (omega arith))
-  after_reserved p first _ _ (reserved j within a b) = elim (three p j) [
-    | inl less ↦ inl (inr (refl, less))
-    | inr more ↦ elim more [
-      | inl e ↦ inr (ap (λ i. BadPageType i (word_type (at i))) (sym e))
-      | inr e ↦ clash _ (is_reserved (at j) a b) (first.none_before j e)
-    ]
-  ]
+  abbrev Reserved : ℕ → Cause → Type 0
+  Reserved = Placed has_reserved_type ws page_type
 
-  after_outside : (p : ℕ) → IsFirst (names_outside kind top) ws p → list_any has_reserved_type ws ≡ false → (j : ℕ) (d : Cause) → WordsHas kind top ws j d → IsTriedBefore p (PfnOutside p (word_pfn (at p))) j d ⊎ (d ≡ PfnOutside p (word_pfn (at p)))
-  after_outside p first none _ _ (reserved j within a b) = clash _ (is_reserved (at j) a b) (none_pass has_reserved_type ws none j 0 within)
-  after_outside p first none _ _ (outside j within h) = elim (three p j) [
-    | inl less ↦ inl (inr (refl, less))
-    | inr more ↦ elim more [
-      | inl e ↦ inr (ap (λ i. PfnOutside i (word_pfn (at i))) (sym e))
-      | inr e ↦ clash _ (test_outside kind (word_pfn (at j)) h) (first.none_before j e)
-    ]
-  ]
-
-  nowhere : list_any has_reserved_type ws ≡ false → list_any (names_outside kind top) ws ≡ false → (k : ℕ) (c : Cause) → WordsHas kind top ws k c → ⊥
-  nowhere none never _ _ (reserved j within a b) = clash _ (is_reserved (at j) a b) (none_pass has_reserved_type ws none j 0 within)
-  nowhere none never _ _ (outside j within h) = clash _ (test_outside kind (word_pfn (at j)) h) (none_pass (names_outside kind top) ws never j 0 within)
-
-  named_reserved : (p : ℕ) → IsFirst has_reserved_type ws p → IsFirstCause (WordsHas kind top ws) (BadPageType p (word_type (at p)))
-  named_reserved p f = let b = both_true _ _ f.passes in (p, reserved p f.within (leb-true _ _ b.0) (leb-true _ _ b.1), after_reserved p f)
-
-  named_outside : (p : ℕ) → IsFirst (names_outside kind top) ws p → list_any has_reserved_type ws ≡ false → IsFirstCause (WordsHas kind top ws) (PfnOutside p (word_pfn (at p)))
-  named_outside p f none = (p, outside p f.within (outside_of kind _ f.passes), after_outside p f none)
-
-  words_by : (a b : Bool) → list_any has_reserved_type ws ≡ a → list_any (names_outside kind top) ws ≡ b
-      → Least (WordsHas kind top ws) (first_fault ((a, BadPageType (first_place has_reserved_type ws) (word_type (first_word has_reserved_type ws))) ∷ (b, PfnOutside (first_place (names_outside kind top) ws) (word_pfn (first_word (names_outside kind top) ws))) ∷ []))
-  words_by true b p q = record { holds = named_reserved (first_place has_reserved_type ws) (place_is_first has_reserved_type ws p) }
-  words_by false true p q = record { holds = named_outside (first_place (names_outside kind top) ws) (place_is_first (names_outside kind top) ws q) p }
-  words_by false false p q = record { holds = nowhere p q }
+  abbrev Outside : ℕ → Cause → Type 0
+  Outside = Placed (names_outside kind top) ws frame_outside
 
   words_least : Least (WordsHas kind top ws) (fault_of_words kind top ws)
-  words_least = words_by (list_any has_reserved_type ws) (list_any (names_outside kind top) ws) refl refl
+  words_least = subst (Least (WordsHas kind top ws)) (join (row_of has_reserved_type page_type ∷ []) (row_of (names_outside kind top) frame_outside ∷ []))
+      (both_least Reserved Outside (WordsHas kind top ws) _ _ (λ j k c d h g. inl (omega (arith, ap number_of_cause h.2, ap number_of_cause g.2))) to from
+      (placed_least has_reserved_type ws page_type (λ j k v w. refl)) (placed_least (names_outside kind top) ws frame_outside (λ j k v w. refl)))
+    where
+      row_of : (ℕ → Bool) → (ℕ → ℕ → Cause) → Bool × Cause
+      row_of test cause = (list_any test ws, cause (first_place test ws) (first_word test ws))
+
+      to : (k : ℕ) (c : Cause) → Reserved k c ⊎ Outside k c → WordsHas kind top ws k c
+      to k c (inl h) = let b = and_parts _ _ h.1 in subst (WordsHas kind top ws k) (sym h.2) (reserved k h.0 (leb-true _ _ b.0) (leb-true _ _ b.1))
+      to k c (inr h) = subst (WordsHas kind top ws k) (sym h.2) (outside k h.0 (outside_of kind _ h.1))
+
+      from : (k : ℕ) (c : Cause) → WordsHas kind top ws k c → Reserved k c ⊎ Outside k c
+      from _ _ (outside k within h) = inr (within, test_outside kind _ h, refl)
+      from _ _ (reserved k within a b) = inl (within, and_from _ _ (le-leb _ _ a) (le-leb _ _ b), refl)
 
 -- ---- contexts
 
@@ -218,86 +220,64 @@ pairs = layout true 8 0 8
 abbrev index_in : List ℕ → ℕ
 index_in bytes = little_number 8 bytes
 
--- at the pair of this place, of n pairs
-abbrev PairHas : ℕ → List ℕ → ℕ → Cause → Type 0
-PairHas n bytes place c = (place < n) × (4096 ≤ index_in (drop (16 * place) bytes)) × (c ≡ ParamIndex (index_in (drop (16 * place) bytes)))
+-- the indices of n pairs
+abbrev indices : ℕ → List ℕ → List ℕ
+indices zero bytes = []
+indices (suc n) bytes = index_in bytes ∷ indices n (drop 16 bytes)
 
-next_pair : (place : ℕ) (bytes : List ℕ) → drop (16 * suc place) bytes ≡ drop (16 * place) (drop 16 bytes)
-next_pair place bytes = let e : 16 * suc place ≡ 16 + 16 * place = omega arith in ap (λ n. drop n bytes) e ∙ sym (drop-drop (16 * place) 16 bytes)
+abbrev is_large : ℕ → Bool
+is_large index = not (nat_lt index 4096)
 
-pair_behind : (n : ℕ) (bytes : List ℕ) (place : ℕ) (c : Cause) → PairHas n (drop 16 bytes) place c → PairHas (suc n) bytes (suc place) c
-pair_behind n bytes place c h = let same = next_pair place bytes in (omega (arith, h.0), subst (λ l. 4096 ≤ index_in l) (sym same) h.1, h.2 ∙ ap (λ l. ParamIndex (index_in l)) (sym same))
+abbrev no_parameter : ℕ → ℕ → Cause
+no_parameter k index = ParamIndex index
 
-behind_pair : (n : ℕ) (bytes : List ℕ) (place : ℕ) (c : Cause) → PairHas (suc n) bytes (suc place) c → PairHas n (drop 16 bytes) place c
-behind_pair n bytes place c h = let same = next_pair place bytes in (omega (arith, h.0), subst (λ l. 4096 ≤ index_in l) same h.1, h.2 ∙ ap (λ l. ParamIndex (index_in l)) same)
+how_many : (n : ℕ) (bytes : List ℕ) → length (indices n bytes) ≡ n
+how_many zero bytes = refl
+how_many (suc n) bytes = ap suc (how_many n (drop 16 bytes))
 
-one_later : (k j : ℕ) (c d : Cause) → IsTriedBefore k c j d ⊎ (d ≡ c) → IsTriedBefore (suc k) c (suc j) d ⊎ (d ≡ c)
-one_later k j c d (inl (inl less)) = inl (inl less)
-one_later k j c d (inl (inr same)) = inl (inr (same.0, omega (arith, same.1)))
-one_later k j c d (inr is) = inr is
+index_at : (n : ℕ) (bytes : List ℕ) (k : ℕ) → k < n → index_in (drop (16 * k) bytes) ≡ slice_index (indices n bytes) k
+index_at zero bytes k less = absurd (omega (arith, less))
+index_at (suc n) bytes zero less = refl
+index_at (suc n) bytes (suc k) less =
+    let e : 16 * suc k ≡ 16 + 16 * k = omega arith in
+    ap (λ m. index_in (drop m bytes)) e ∙ ap index_in (sym (drop-drop (16 * k) 16 bytes)) ∙ index_at n (drop 16 bytes) k (omega (arith, less))
 
-pairs_skip : (n : ℕ) (bytes : List ℕ) (f : Option Cause) → index_in bytes < 4096 → Least (PairHas n (drop 16 bytes)) f → Least (PairHas (suc n) bytes) f
-pairs_skip n bytes None low p = record { holds = none }
-  where
-    none : (k : ℕ) (c : Cause) → PairHas (suc n) bytes k c → ⊥
-    none zero c h = omega (arith, low, h.1)
-    none (suc k) c h = p.holds k c (behind_pair n bytes k c h)
-pairs_skip n bytes (Some c) low p = record { holds = (suc p.holds.0, pair_behind n bytes p.holds.0 c p.holds.1, others) }
-  where
-    others : (j : ℕ) (d : Cause) → PairHas (suc n) bytes j d → IsTriedBefore (suc p.holds.0) c j d ⊎ (d ≡ c)
-    others zero d h = absurd (omega (arith, low, h.1))
-    others (suc j) d h = one_later p.holds.0 j c d (p.holds.2 j d (behind_pair n bytes j d h))
-
-pairs_here : (n : ℕ) (bytes : List ℕ) → 4096 ≤ index_in bytes → IsFirstCause (PairHas (suc n) bytes) (ParamIndex (index_in bytes))
-pairs_here n bytes high = (0, (omega arith, high, refl), others)
-  where
-    others : (j : ℕ) (d : Cause) → PairHas (suc n) bytes j d → IsTriedBefore 0 (ParamIndex (index_in bytes)) j d ⊎ (d ≡ ParamIndex (index_in bytes))
-    others zero d h = inr h.2
-    others (suc j) d h = inl (inr (ap number_of_cause (sym h.2), omega arith))
-
-key_fine : (x y : ℕ) → nat_lt x 4096 ≡ true → y ≡ 0 → fault_of_key HvmParam x y ≡ None
-key_fine x y low none = rw (low, none) refl
-
-key_refused : (x y : ℕ) → nat_lt x 4096 ≡ false → fault_of_key HvmParam x y ≡ Some (ParamIndex x)
-key_refused x y high = rw high refl
-
-pairs_more : (n : ℕ) (bytes : List ℕ) (b : Bool) → nat_lt (index_in bytes) 4096 ≡ b → Least (PairHas n (drop 16 bytes)) (fault_of_entries HvmParam pairs n (drop 16 bytes)) → Least (PairHas (suc n) bytes) (fault_of_entries HvmParam pairs (suc n) bytes)
-pairs_more n bytes true low p =
-    let rest = fault_of_entries HvmParam pairs n (drop 16 bytes) in
-    subst (λ o. Least (PairHas (suc n) bytes) (option_or o rest)) (sym (key_fine (index_in bytes) 0 low refl)) (pairs_skip n bytes rest (ltb-true _ _ low) p)
-pairs_more n bytes false high p =
-    let rest = fault_of_entries HvmParam pairs n (drop 16 bytes) in
-    subst (λ o. Least (PairHas (suc n) bytes) (option_or o rest)) (sym (key_refused (index_in bytes) 0 high)) (record { holds = pairs_here n bytes (ltb-false _ _ high) })
-
-pairs_least : (n : ℕ) (bytes : List ℕ) → Least (PairHas n bytes) (fault_of_entries HvmParam pairs n bytes)
-pairs_least zero bytes = record { holds = λ k c h. omega (arith, h.0) }
-pairs_least (suc n) bytes = pairs_more n bytes (nat_lt (index_in bytes) 4096) refl (pairs_least n (drop 16 bytes))
+first_index : (n : ℕ) (bytes : List ℕ) → first_of is_large (indices n bytes) no_parameter ≡ fault_of_entries HvmParam pairs n bytes
+first_index zero bytes = refl
+first_index (suc n) bytes = grind (arith, common_steps, first_index n (drop 16 bytes))
 
 module _ (body : List ℕ) where
   abbrev count : ℕ
   count = le32 body 0
 
-  pair_at : (k : ℕ) → le64 body (8 + 16 * k) ≡ index_in (drop (16 * k) (drop 8 body))
+  abbrev length_rows : List (Bool × Cause)
+  length_rows = (not (nat_eq (length body) (8 + 16 * count)), BadLength (length body)) ∷ []
+
+  abbrev Large : ℕ → Cause → Type 0
+  Large = Placed is_large (indices count (drop 8 body)) no_parameter
+
+  pair_at : (k : ℕ) → k < count → le64 body (8 + 16 * k) ≡ slice_index (indices count (drop 8 body)) k
   unfolding le64
-  pair_at k = ap (little_number 8) (sym (drop-drop (16 * k) 8 body))
-
-  of_pair : (k : ℕ) (c : Cause) → PairHas count (drop 8 body) k c → ParamsHas body k c
-  of_pair k c h = subst (ParamsHas body k) (ap ParamIndex (pair_at k) ∙ sym h.2) (of_params.param_index k h.0 (subst (λ n. 4096 ≤ n) (sym (pair_at k)) h.1))
-
-  pair_of : length body ≡ 8 + 16 * count → (k : ℕ) (c : Cause) → ParamsHas body k c → PairHas count (drop 8 body) k c
-  pair_of size _ _ (of_params.param_index k less h) = (less, subst (λ n. 4096 ≤ n) (pair_at k) h, ap ParamIndex (pair_at k))
-  pair_of size _ _ (of_params.bad_length h) = absurd (h size)
-
-  after_length : (j : ℕ) (d : Cause) → ParamsHas body j d → IsTriedBefore 0 (BadLength (length body)) j d ⊎ (d ≡ BadLength (length body))
-  after_length _ _ (of_params.bad_length h) = inr refl
-  after_length _ _ (of_params.param_index j within h) = inl (inl (omega arith))
+  pair_at k less = ap (little_number 8) (sym (drop-drop (16 * k) 8 body)) ∙ index_at count (drop 8 body) k less
 
   params_least : Least (ParamsHas body) (fault_of_body HvmParam body)
-  params_least = by (nat_eq (length body) (8 + 16 * count)) refl
+  params_least = subst (λ f. Least (ParamsHas body) (option_or (first_fault length_rows) f)) (first_index count (drop 8 body))
+      (both_least (RowHas length_rows) Large (ParamsHas body) _ _ before to from (rows_least length_rows 0 refl) (placed_least is_large (indices count (drop 8 body)) no_parameter (λ j k v w. refl)))
     where
-      by : (b : Bool) → nat_eq (length body) (8 + 16 * count) ≡ b → Least (ParamsHas body) (fault_of_body HvmParam body)
-      by true same = rw same (turned (PairHas count (drop 8 body)) (ParamsHas body) (fault_of_entries HvmParam pairs count (drop 8 body)) (pairs_least count (drop 8 body)) of_pair (pair_of (eqb-true _ _ same)))
-      by false other = rw other (record { holds = (0, of_params.bad_length (differs _ _ (ap not other)), after_length) })
+      before : (j k : ℕ) (c d : Cause) → RowHas length_rows j c → Large k d → IsTriedBefore j c k d
+      before j k c d (inl h) g = inl (omega (arith, ap number_of_cause h.2, ap number_of_cause g.2))
+      before j k c d (inr h) g = absurd h
+
+      to : (k : ℕ) (c : Cause) → RowHas length_rows k c ⊎ Large k c → ParamsHas body k c
+      to k c (inl h) = into (ParamsHas body) length_rows ((λ other. of_params.bad_length (differs _ _ other)), tt) k c h
+      to k c (inr h) =
+          let less : k < count = omega (arith, h.0, how_many count (drop 8 body)) in
+          let is = pair_at k less in
+          subst (ParamsHas body k) (ap ParamIndex is ∙ sym h.2) (of_params.param_index k less (subst (λ n. 4096 ≤ n) (sym is) (ltb-false _ _ (not-true _ h.1))))
+
+      from : (k : ℕ) (c : Cause) → ParamsHas body k c → RowHas length_rows k c ⊎ Large k c
+      from _ _ (of_params.bad_length h) = inl (inl (test_differs _ _ h, refl, refl))
+      from _ _ (of_params.param_index k less h) = let is = pair_at k less in inr (omega (arith, less, how_many count (drop 8 body)), ap not (le-ltb _ _ (subst (λ n. 4096 ≤ n) is h)), ap ParamIndex is)
 
 -- ---- all parts
 
