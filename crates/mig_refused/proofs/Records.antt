@@ -39,13 +39,11 @@ use Rattle.mig_restore.specs.Judging.{Opening, Before, before, is_built, record_
 use Rattle.mig_restore.specs.Mean.{sent}
 use Rattle.mig_restore.specs.Record.{StreamRecord, FrameEntry, Content}
 use Rattle.mig_restore.specs.Record.Content.{Nothing, Frames, Sets}
-use Rattle.mig_restore.proofs.Parts.{begins, behind_head, behind_body, asks, behind_record}
+use Rattle.mig_restore.proofs.Parts.{begins, behind_head, behind_body, asks, behind_record, header_passes}
 use Rattle.mig_restore.proofs.Entries.{behind_words}
-use Rattle.mig_restore.proofs.Bodies.{body_says, coded_is, optional_at, type_at, no_pv}
-use Rattle.mig_restore.proofs.BodiesPass.{body_goes}
+use Rattle.mig_restore.proofs.Bodies.{body_says, body_goes, coded_is, ends_hvm, optional_at, type_at, no_pv}
 use Rattle.mig_restore.proofs.Meaning.{sent_kind}
-use Rattle.mig_restore.proofs.Passing.{ends_hvm}
-use Rattle.mig_restore.proofs.Laws.{fields_fine, header_passes}
+use Rattle.mig_restore.proofs.Laws.{fields_fine}
 use Rattle.mig_refused.specs.Refusal.{StreamPart, PagesTo, IsFaultless, InPages, body_part, InBody, Within, end_record}
 use Rattle.mig_refused.specs.Refusal.StreamPart.{Head, PagesFront, PagesWords, PagesLength, Page, OtherBody, Padding, WholeGuest}
 use Rattle.mig_refused.specs.Refusal.PagesTo.{next_page, one_page}

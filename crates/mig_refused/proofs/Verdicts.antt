@@ -15,8 +15,8 @@ use Rattle.mig_restore.specs.Judging.{Opening, before, next_at}
 use Rattle.mig_restore.specs.Record.{StreamRecord, is_ended}
 use Rattle.mig_restore.specs.Spelled.{Spells, Accepted}
 use Rattle.mig_restore.specs.Stream.{Front, one_more, at_start, front_of, image_of, ended_at, records_at, opening_at, image_at, marker_at, version_at, kind_at, IsRefused}
-use Rattle.mig_restore.proofs.Arrivals.{ends_at, stops_refused, rejected}
-use Rattle.mig_restore.proofs.Laws.{front_spelled, header_passes, image_header, behind_marker, behind_version, behind_kind, opened}
+use Rattle.mig_restore.proofs.Laws.{ends_at, stops_refused, rejected, front_spelled, image_header, behind_marker, behind_version, behind_kind, opened}
+use Rattle.mig_restore.proofs.Parts.{header_passes}
 use Rattle.mig_restore.proofs.Converse as converse
 use Rattle.mig_restore.proofs.Converse.{spelled_reached, marker_goes, image_header_goes, headers_go}
 use Rattle.mig_refused.specs.Refusal.{StreamPart, IsOpen, Behind, Refused}

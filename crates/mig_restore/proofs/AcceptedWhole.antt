@@ -1,7 +1,9 @@
 -- An accepted guest is whole: each content that is spelled keeps it well formed, and its END asks for the rest.
-use Rattle.std.proofs.Common.{◌≡◌, ℕ, zero, suc, ◌^◌, ◌<◌, ◌≤◌, Bool, true, false, List, [], ◌∷◌, ◌++◌, length, Option, Some, None, is_some, refl, sym, ap, subst, ◌∙◌, arith, leb-false}
+use Rattle.std.proofs.Common.{◌≡◌, ℕ, zero, suc, ◌^◌, ◌<◌, ◌≤◌, Bool, true, false, List, [], ◌∷◌, ◌++◌, length, Option, Some, is_some, refl, sym, ap, subst, ◌∙◌, arith, leb-false}
 use Rattle.std.proofs.lemmas.Bool.{eqb-true}
-use Rattle.std.proofs.lemmas.List.Elements.{All-nil, All-cons, All-head, All-tail}
+use Rattle.std.proofs.lemmas.List.Elements.{All-head, All-tail, All-take, All-drop}
+use Rattle.std.proofs.lemmas.List.{take_at, drop_at}
+use Rattle.std.proofs.lemmas.Option.{none-some, same_Some}
 use Rattle.std.specs.List.{All}
 use Rattle.std.specs.FinMap as fin
 use Rattle.mig_bytes.specs.Bytes.{AreBytes}
@@ -14,7 +16,7 @@ use Rattle.mig_pagetypes.specs.Limits.{pfn_limit}
 use Rattle.mig_pagetypes.specs.FrameWords.{word_pfn, word_has_data}
 use Rattle.mig_pagetypes.specs.PageTypes.{type_has_data}
 use Rattle.mig_pagetypes.specs.declared.page_type.PageType.{PageType}
-use Rattle.mig_pagetypes.specs.declared.page_type.PageType.TheVariants.{Notab, L1Tab, L2Tab, L3Tab, L4Tab, L1Pinned, L2Pinned, L3Pinned, L4Pinned, Broken, Xalloc, Xtab}
+use Rattle.mig_pagetypes.specs.declared.page_type.PageType.TheVariants.{Notab}
 use Rattle.mig_guest.specs.Formed.{IsFormed, IsPlainHvm, HasNoEmulators}
 use Rattle.mig_guest.specs.Guests.{GuestOf}
 use Rattle.mig_guest.specs.Order.{part_cmp}
@@ -38,11 +40,10 @@ use Rattle.mig_restore.specs.Spelled.{IsPage, IsEntry, AreEntries, IsGoodWord, H
 use Rattle.mig_restore.specs.Spelled.HasContent.{optional, ends, pages, sets, static_end}
 use Rattle.mig_restore.specs.Spelled.Spells.{none, one_more}
 use Rattle.mig_restore.proofs.Arrivals.{ended_more}
-use Rattle.mig_restore.proofs.BodiesPass.{no_type}
+use Rattle.mig_restore.proofs.Bodies.{no_type, ends_hvm}
 use Rattle.mig_restore.proofs.Growth.{grows_not, grows_on, grows_frame, grows_sets, has_length, same_kinds, sets_no_emulator}
 use Rattle.mig_restore.proofs.Joins.{carries}
 use Rattle.mig_restore.proofs.Meaning.{one_more_record, sent_kind, meant_as_sent}
-use Rattle.mig_restore.proofs.Passing.{ends_hvm}
 
 -- ---- bytes
 
@@ -50,12 +51,10 @@ abbrev IsByte : ℕ → Type 0
 IsByte b = b < 256
 
 bytes_front : (xs ys : List ℕ) → AreBytes (xs ++ ys) → AreBytes xs
-bytes_front [] ys h = All-nil IsByte
-bytes_front (x ∷ xs) ys h = All-cons IsByte x xs (All-head IsByte x (xs ++ ys) h) (bytes_front xs ys (All-tail IsByte x (xs ++ ys) h))
+bytes_front xs ys h = subst AreBytes (take_at xs ys (length xs) refl) (All-take IsByte (length xs) (xs ++ ys) h)
 
 bytes_back : (xs ys : List ℕ) → AreBytes (xs ++ ys) → AreBytes ys
-bytes_back [] ys h = h
-bytes_back (x ∷ xs) ys h = bytes_back xs ys (All-tail IsByte x (xs ++ ys) h)
+bytes_back xs ys h = subst AreBytes (drop_at xs ys (length xs) refl) (All-drop IsByte (length xs) (xs ++ ys) h)
 
 octets : (xs : List ℕ) → AreBytes xs → AreOctets xs
 octets [] h k = omega arith
@@ -66,31 +65,15 @@ octets (x ∷ xs) h (suc k) = octets xs (All-tail IsByte x xs h) k
 
 data_kept : (t : PageType) → type_has_data (meant_type Hvm t) ≡ type_has_data t
 data_kept Notab = refl
-data_kept L1Tab = refl
-data_kept L2Tab = refl
-data_kept L3Tab = refl
-data_kept L4Tab = refl
-data_kept L1Pinned = refl
-data_kept L2Pinned = refl
-data_kept L3Pinned = refl
-data_kept L4Pinned = refl
-data_kept Broken = refl
-data_kept Xalloc = refl
-data_kept Xtab = refl
+data_kept _ = refl
 
 page_there : (b : Bool) (bytes : List ℕ) (page : Option (List ℕ)) → IsPage b bytes page → is_some page ≡ b
 page_there true bytes page h = ap is_some h.1
 page_there false bytes page h = ap is_some h.1
 
 page_whole : (b : Bool) (bytes : List ℕ) (page : Option (List ℕ)) → IsPage b bytes page → (l : List ℕ) → page ≡ Some l → length l ≡ 4096
-page_whole true bytes page h l is = ap length (sym (some_is bytes l (sym h.1 ∙ is))) ∙ h.0
-  where
-    some_is : (x y : List ℕ) → Some x ≡ Some y → x ≡ y
-    some_is x y e = cc
-page_whole false bytes page h l is = absurd (none_some l (sym h.1 ∙ is))
-  where
-    none_some : (x : List ℕ) → None ≡ Some x → ⊥
-    none_some x e = cc
+page_whole true bytes page h l is = ap length (sym (same_Some bytes l (sym h.1 ∙ is))) ∙ h.0
+page_whole false bytes page h l is = absurd (none-some l (sym h.1 ∙ is))
 
 entry_grows : (g : GuestOf) (top w : ℕ) (bytes : List ℕ) (e : FrameEntry) → g.kind ≡ Hvm → IsGoodWord Hvm top w → IsEntry w bytes e → Grows g (record g { frames = put_entry g.kind g.frames e })
 entry_grows g top w bytes e hvm good is =
@@ -109,17 +92,11 @@ entries_grow top (w ∷ ws) bytes es good (page, rest, e, others, cut, is, first
 -- ---- contents
 
 one_type : (this other : RecordType) → type_number this ≡ type_number other → this ≡ other
-one_type this other is = some_is this other (sym (numbers_are_inverse.type_of this) ∙ ap type_of_number is ∙ numbers_are_inverse.type_of other)
-  where
-    some_is : (a b : RecordType) → Some a ≡ Some b → a ≡ b
-    some_is a b e = cc
+one_type this other is = same_Some this other (sym (numbers_are_inverse.type_of this) ∙ ap type_of_number is ∙ numbers_are_inverse.type_of other)
 
 -- a record of a type that may stand here is one of this kind of guest
 of_this_kind : (o : Opening) (types : List ℕ) (this : RecordType) → IsInOrder o.version o.kind types (type_number this) → (record_row_of this).of_kind o.kind ≡ true
-of_this_kind o types this (is_optional above) = absurd (none_some this (sym (no_type (type_number this) above) ∙ numbers_are_inverse.type_of this))
-  where
-    none_some : (a : RecordType) → None ≡ Some a → ⊥
-    none_some a e = cc
+of_this_kind o types this (is_optional above) = absurd (none-some this (sym (no_type (type_number this) above) ∙ numbers_are_inverse.type_of this))
 of_this_kind o types this (is_ordered other is supported of_kind keeps) = subst (λ (t : RecordType). (record_row_of t).of_kind o.kind ≡ true) (sym (one_type this other is)) of_kind
 
 content_grows : (g : GuestOf) (top type : ℕ) (body : List ℕ) (c : Content) → g.kind ≡ Hvm → AreBytes body → length body ≤ 2 ^ 27
@@ -144,10 +121,7 @@ record IsKept (g : GuestOf) : Type 0 where
 spelled_kept : (o : Opening) (bytes : List ℕ) (records : List StreamRecord) → o.kind ≡ Hvm → AreBytes bytes → Spells o bytes records → IsKept (sent o.kind records)
 unfolding sent
 spelled_kept o bytes records hvm all none =
-    record { formed = empty_formed o.kind; plain = λ key b got. absurd (none_some b (sym (fin.get-empty part_cmp key) ∙ got)) }
-  where
-    none_some : (x : List ℕ) → None ≡ Some x → ⊥
-    none_some x e = cc
+    record { formed = empty_formed o.kind; plain = λ key b got. absurd (none-some b (sym (fin.get-empty part_cmp key) ∙ got)) }
 spelled_kept o bytes records hvm all (one_more front rs r text before f) =
     let was = spelled_kept o front rs hvm (bytes_front front text all) before in
     let g = sent o.kind rs in

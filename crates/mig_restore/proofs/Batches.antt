@@ -1,7 +1,7 @@
 -- The body of a PAGE_DATA record: what judging lets pass is spelled as the format says, and what is spelled so passes.
 use Rattle.std.proofs.Common.{◌≡◌, ℕ, ◌+◌, ◌*◌, List, [], ◌∷◌, ◌++◌, length, Bool, true, false, cond, nat_eq, not, Option, Some, None, refl, sym, ap, subst, ◌∙◌, arith, append_assoc, length-append}
 use Rattle.std.specs.List.{count_by, filter}
-use Rattle.std.proofs.lemmas.Bool.{eqb-true}
+use Rattle.std.proofs.lemmas.Bool.{eqb-true, eqb-false, eq-eqb, ne_eqb, le-ltb, not-false}
 use Rattle.std.proofs.lemmas.List.Sums.{length-filter}
 use Rattle.std.proofs.lemmas.List.FromFn.{length-map-range_with_len}
 use Rattle.mig_bytes.specs.Fields.{le32, le64}
@@ -18,9 +18,9 @@ use Rattle.mig_restore.specs.Record.{FrameEntry}
 use Rattle.mig_restore.specs.Judging.{type_in_word, fault_of_data, words_at, page_at, entry_at, entries_at}
 use Rattle.mig_restore.specs.Spelled.{IsPage, IsEntry, AreEntries, IsBatch}
 use Rattle.mig_restore.proofs.Entries.{behind_words}
+use Rattle.mig_restore.proofs.Parts.{taken}
 use Rattle.mig_bytes.proofs.Joins.{then_passes, tried_none}
 use Rattle.mig_headers.proofs.FirstFaults.{rows_fine, no_fault}
-use Rattle.mig_restore.proofs.Passing.{not_false, ge_ltb, same_is, not_zero, positive}
 
 counted : (w : ℕ) (ws : List ℕ) → count_by word_has_data (w ∷ ws) ≡ cond (word_has_data w) 1 0 + count_by word_has_data ws
 counted w ws = sym (length-filter word_has_data (w ∷ ws)) ∙ split (word_has_data w) (filter word_has_data ws) ∙ ap (λ n. cond (word_has_data w) 1 0 + n) (length-filter word_has_data ws)
@@ -89,15 +89,13 @@ pub record Batch (kind : Kind) (top len : ℕ) (i : List ℕ) (es : List FrameEn
 
 pub batch_passes : (kind : Kind) (top len : ℕ) (i : List ℕ) (es : List FrameEntry) (rest : List ℕ) → entries_at kind top len i ≡ Passes es rest → Batch kind top len i es rest
 batch_passes kind top len i es rest h =
-    let b = both_pass (part Truncated 8 i) _ es rest h in
-    let front = b.x in
+    let a = taken 8 (λ b. fault_of_count len (le32 b 0)) (λ b m. words_at (le32 b 0) m >>= behind_words kind top len) i es rest h in
+    let front = a.bytes in
     let n = le32 front 0 in
-    let p = part_passes Truncated 8 i front b.mid b.first in
-    let c = both_pass (tried (fault_of_count len n) b.mid) (λ _. words_at n b.mid >>= behind_words kind top len) es rest b.second in
-    let fc = rows_fine (count_rows len n) (tried_passes _ b.mid c.mid c.x c.first).0 in
-    let d = both_pass (words_at n b.mid) (behind_words kind top len) es rest c.second in
-    let w = both_pass (part Truncated (8 * n) b.mid) _ d.x d.mid d.first in
-    let q = part_passes Truncated (8 * n) b.mid w.x w.mid w.first in
+    let fc = rows_fine (count_rows len n) a.fine in
+    let d = both_pass (words_at n a.mid) (behind_words kind top len) es rest a.after in
+    let w = both_pass (part Truncated (8 * n) a.mid) _ d.x d.mid d.first in
+    let q = part_passes Truncated (8 * n) a.mid w.x w.mid w.first in
     let e = same_passes _ _ _ _ w.second in
     let ws_is : words n w.x ≡ d.x = e.0 in
     let f = both_pass (tried (fault_of_words kind top d.x) d.mid) (λ _. tried (fault_of_data len d.x) d.mid >>= λ _. each entry_at d.x d.mid) es rest d.second in
@@ -106,18 +104,18 @@ batch_passes kind top len i es rest h =
     let fd = rows_fine ((not (nat_eq len (data_len_of d.x)), BadLength len) ∷ []) (tried_passes _ d.mid g.mid g.x g.first).0 in
     let t = each_entries d.x d.mid es rest g.second in
     let count : length d.x ≡ n = ap length (sym ws_is) ∙ length-map-range_with_len (λ k. le64 w.x (8 * k)) 0 n in
-    let full : len ≡ 8 + 8 * n + 4096 * count_by word_has_data d.x = eqb-true len _ (not_false _ fd.0) ∙ ap (λ m. 8 + 8 * m + 4096 * count_by word_has_data d.x) count in
+    let full : len ≡ 8 + 8 * n + 4096 * count_by word_has_data d.x = eqb-true len _ (not-false _ fd.0) ∙ ap (λ m. 8 + 8 * m + 4096 * count_by word_has_data d.x) count in
     record {
       body = front ++ (w.x ++ t.bytes);
-      whole = regroup_pages i front b.mid w.x w.mid d.mid t.bytes rest p.0 q.0 e.1 t.whole;
-      size = body_size len n (count_by word_has_data d.x) front w.x t.bytes p.1 q.1 t.size full;
+      whole = regroup_pages i front a.mid w.x w.mid d.mid t.bytes rest a.whole q.0 e.1 t.whole;
+      size = body_size len n (count_by word_has_data d.x) front w.x t.bytes a.size q.1 t.size full;
       batch = record {
         front = front;
         words_bytes = w.x;
         pages_bytes = t.bytes;
         whole = refl {a = front ++ (w.x ++ t.bytes)};
-        front_len = p.1;
-        some = positive n fc.1.0;
+        front_len = a.size;
+        some = let other = eqb-false n 0 fc.1.0 in grind (arith, other);
         words_len = q.1;
         good = good;
         entries = subst (λ l. AreEntries l t.bytes es) (sym ws_is) t.entries;
@@ -165,10 +163,10 @@ batch_goes kind top len body rest es b size =
     let input : body ++ rest ≡ b.front ++ mid = ap (λ l. l ++ rest) b.whole ∙ append_assoc b.front _ rest ∙ ap (λ l. b.front ++ l) (append_assoc b.words_bytes b.pages_bytes rest) in
     let full : len ≡ 8 + 8 * n + 4096 * count_by word_has_data ws = size_is len n (count_by word_has_data ws) body b.front b.words_bytes b.pages_bytes b.whole b.front_len b.words_len (entries_len ws b.pages_bytes es b.entries) size in
     let count : length ws ≡ n = length-map-range_with_len (λ k. le64 b.words_bytes (8 * k)) 0 n in
-    let counts : fault_of_count len n ≡ None = no_fault (count_rows len n) (ge_ltb (8 + 8 * n) len (omega (arith, full)), (not_zero n b.some, tt)) in
+    let counts : fault_of_count len n ≡ None = no_fault (count_rows len n) (le-ltb len (8 + 8 * n) (omega (arith, full)), (ne_eqb n 0 (λ e. omega (arith, b.some, e)), tt)) in
     let goods : fault_of_words kind top ws ≡ None = nothing_found kind top ws b.good in
     let sizes : fault_of_data len ws ≡ None = no_fault ((not (nat_eq len (data_len_of ws)), BadLength len) ∷ [])
-    (ap not (same_is len _ (full ∙ ap (λ m. 8 + 8 * m + 4096 * count_by word_has_data ws) (sym count))), tt) in
+    (ap not (eq-eqb len _ (full ∙ ap (λ m. 8 + 8 * m + 4096 * count_by word_has_data ws) (sym count))), tt) in
     ap (entries_at kind top len) input
     ∙ then_passes (part Truncated 8 (b.front ++ mid)) _ b.front mid _ (part_whole Truncated 8 b.front mid b.front_len)
     (tried_none (fault_of_count len n) mid _ counts

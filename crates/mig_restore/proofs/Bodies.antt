@@ -1,11 +1,13 @@
--- The body of a record, type by type: what judging lets pass is spelled as the format says, and what is spelled so
--- passes.
-use Rattle.std.proofs.Common.{◌≡◌, ℕ, ◌≤◌, ◌^◌, List, [], ◌++◌, length, Bool, true, false, Option, Some, None, refl, sym, ap, subst, ◌∙◌, arith}
-use Rattle.std.proofs.lemmas.Bool.{eqb-true}
-use Rattle.mig_bytes.specs.Judged.{Judged, part, tried}
+-- The body of a record, type by type: what judging lets pass is spelled as the format says; what is spelled so passes,
+-- and its length is one that its type allows.
+use Rattle.std.proofs.Common.{◌≡◌, ℕ, ◌≤◌, ◌^◌, List, [], ◌++◌, length, length-append, Bool, true, false, nat_le, Option, Some, None, refl, sym, ap, subst, ◌∙◌, arith}
+use Rattle.std.proofs.lemmas.Bool.{eqb-true, eq-eqb}
+use Rattle.std.proofs.lemmas.Grind.{common_steps}
+use Rattle.std.proofs.lemmas.Option.{slice_get_past}
+use Rattle.mig_bytes.specs.Judged.{Judged, part}
 use Rattle.mig_bytes.specs.Judged.Judged.{Passes}
-use Rattle.mig_bytes.proofs.Joins.{both_pass, part_passes, tried_passes, same_passes}
-use Rattle.mig_headers.specs.RecordTypes.{record_row_of, type_number, type_of_number, is_optional}
+use Rattle.mig_bytes.proofs.Joins.{both_pass, part_passes, same_passes, part_whole, then_passes, tried_none}
+use Rattle.mig_headers.specs.RecordTypes.{record_row_of, type_number, type_of_number, record_types, is_optional}
 use Rattle.mig_headers.specs.declared.fault.Cause.{Cause}
 use Rattle.mig_headers.specs.declared.fault.Cause.TheVariants.{Truncated}
 use Rattle.mig_headers.specs.declared.kind.Kind.{Kind}
@@ -16,14 +18,16 @@ use Rattle.mig_headers.proofs.RecordNumbers.{numbers_are_inverse}
 use Rattle.mig_records.specs.Faults.{type_allows}
 use Rattle.mig_order.specs.Order.{IsInOrder, optional, ordered}
 use Rattle.mig_guest.specs.declared.part_code.PartCode.{PartCode}
-use Rattle.mig_bodies.specs.Shapes.{shape_of, has_shape, fault_of_body, parts_of_body}
-use Rattle.mig_bodies.proofs.Spelled.{bodies_are_spelled}
-use Rattle.mig_restore.specs.Record.{Content}
-use Rattle.mig_restore.specs.Record.Content.{Nothing, Sets}
+use Rattle.mig_bodies.specs.Shapes.{shape_of, has_shape, fault_of_body, parts_of_body, IsBody}
+use Rattle.mig_bodies.proofs.Spelled.{bodies_are_spelled, is_shaped}
+use Rattle.mig_guest.specs.Parts.{Part}
+use Rattle.mig_restore.specs.Record.{FrameEntry, Content}
+use Rattle.mig_restore.specs.Record.Content.{Nothing, Frames, Sets}
 use Rattle.mig_restore.specs.Judging.{is_built, sets_at, plain_at, entries_at, pages_at, code_of_type, coded_at, typed_at, body_at}
-use Rattle.mig_restore.specs.Spelled.{HasContent}
+use Rattle.mig_restore.specs.Spelled.{HasContent, IsBatch}
 use Rattle.mig_restore.specs.Spelled.HasContent.{optional as has_optional, ends as has_ends, pages as has_pages, sets as has_sets, static_end as has_static_end}
-use Rattle.mig_restore.proofs.Batches.{batch_passes}
+use Rattle.mig_restore.proofs.Batches.{batch_passes, batch_goes}
+use Rattle.mig_restore.proofs.Parts.{header_passes}
 
 has_shape_in : Option PartCode → Bool
 has_shape_in None = false
@@ -54,17 +58,13 @@ nothing_says kind top type len i c rest has_it none h =
 sets_say : (kind : Kind) (top : ℕ) (this : RecordType) (code : PartCode) (len : ℕ) (i : List ℕ) (c : Content) (rest : List ℕ) → code_of_type this ≡ Some code → has_shape (shape_of code) ≡ true → (record_row_of this).allows len ≡ true
     → sets_at code len i ≡ Passes c rest → Says kind top (type_number this) len i c rest
 sets_say kind top this code len i c rest is shaped allowed h =
-    let b = both_pass (part Truncated len i) _ c rest h in
-    let p = part_passes Truncated len i b.x b.mid b.first in
-    let t = both_pass (tried (fault_of_body code b.x) b.mid) (λ _. Passes (Sets code (parts_of_body code b.x)) b.mid) c rest b.second in
-    let fine = tried_passes _ b.mid t.mid t.x t.first in
-    let e = same_passes _ _ _ _ t.second in
-    let spelled = (bodies_are_spelled code b.x (parts_of_body code b.x) shaped).0 (fine.0, refl) in
+    let p = header_passes len (fault_of_body code) (λ b. Sets code (parts_of_body code b)) i c rest h in
+    let spelled = (bodies_are_spelled code p.bytes (parts_of_body code p.bytes) shaped).0 (p.fine, refl) in
     record {
-      body = b.x;
-      whole = p.0 ∙ ap (λ l. b.x ++ l) e.1;
-      body_len = p.1;
-      says = subst (HasContent kind top (type_number this) b.x) e.0 (has_sets this code b.x (parts_of_body code b.x) is (ap (record_row_of this).allows p.1 ∙ allowed) spelled);
+      body = p.bytes;
+      whole = p.whole;
+      body_len = p.size;
+      says = subst (HasContent kind top (type_number this) p.bytes) p.value (has_sets this code p.bytes (parts_of_body code p.bytes) is (ap (record_row_of this).allows p.size ∙ allowed) spelled);
     }
 
 pages_say : (kind : Kind) (top : ℕ) (len : ℕ) (i : List ℕ) (c : Content) (rest : List ℕ) → pages_at kind top len i ≡ Passes c rest → Says kind top 1 len i c rest
@@ -109,6 +109,11 @@ no_pv this built s = let is : type_of_number (type_number this) ≡ Some this = 
     apart : false ≡ true → ⊥
     apart e = cc
 
+-- so far only the image of an HVM guest has an END
+pub ends_hvm : (kind : Kind) (type : ℕ) → type ≡ 0 → is_built kind type ≡ true → kind ≡ Hvm
+ends_hvm Hvm type zero built = refl
+ends_hvm Pv type zero built = let no : false ≡ true = sym (ap (is_built Pv) zero) ∙ built in cc
+
 mandatory : (this : RecordType) → is_optional (type_number this) ≡ false
 mandatory End = refl
 mandatory _ = refl
@@ -134,3 +139,38 @@ body_says version kind top types type len i c rest built (ordered this is s k ke
     subst (λ t. Says kind top t len i c rest) (sym is)
     (typed_says kind top this len i c rest (subst (λ t. is_built kind t ≡ true) is built) s k (subst (λ o. type_allows o len ≡ true) found allowed)
     (sym (type_at kind top this len i) ∙ subst (λ t. body_at kind top t len i ≡ Passes c rest) is h))
+
+-- ---- what is spelled passes
+
+plain_goes : (f : List ℕ → Content) (c : Content) (len : ℕ) (body rest : List ℕ) → length body ≡ len → f body ≡ c → plain_at f len (body ++ rest) ≡ Passes c rest
+plain_goes f c len body rest size is = then_passes (part Truncated len (body ++ rest)) _ body rest _ (part_whole Truncated len body rest size) (ap (λ d. Passes d rest) is)
+
+pages_go : (kind : Kind) (top : ℕ) (len : ℕ) (body rest : List ℕ) (es : List FrameEntry) → IsBatch kind top body es → length body ≡ len → pages_at kind top len (body ++ rest) ≡ Passes (Frames es) rest
+pages_go kind top len body rest es b size = then_passes (entries_at kind top len (body ++ rest)) _ es rest _ (batch_goes kind top len body rest es b size) refl
+
+sets_go : (code : PartCode) (len : ℕ) (body rest : List ℕ) (ps : List Part) → IsBody code body ps → length body ≡ len → sets_at code len (body ++ rest) ≡ Passes (Sets code ps) rest
+sets_go code len body rest ps is size =
+    let s = (bodies_are_spelled code body ps (is_shaped code body ps (shape_of code) is)).1 is in
+    then_passes (part Truncated len (body ++ rest)) _ body rest _ (part_whole Truncated len body rest size) (tried_none (fault_of_body code body) rest _ s.0 ∙ ap (λ l. Passes (Sets code l) rest) s.1)
+
+pub body_goes : (kind : Kind) (top : ℕ) (type len : ℕ) (body rest : List ℕ) (c : Content) → HasContent kind top type body c → length body ≡ len → body_at kind top type len (body ++ rest) ≡ Passes c rest
+body_goes kind top _ len body rest _ (has_optional type _ above) size = optional_at kind top type len (body ++ rest) above ∙ plain_goes (λ _. Nothing) Nothing len body rest size refl
+body_goes kind top _ len _ rest _ has_ends size = refl
+body_goes kind top _ len body rest _ (has_pages _ es b) size = pages_go kind top len body rest es b size
+body_goes kind top _ len body rest _ (has_sets this code _ ps is allowed says) size = type_at kind top this len (body ++ rest) ∙ coded_is kind top this code len (body ++ rest) is ∙ sets_go code len body rest ps says size
+body_goes kind top _ len _ rest _ has_static_end size = refl
+
+-- ---- lengths
+
+least : (n len : ℕ) → n ≤ len → nat_le n len ≡ true
+least n len h = grind (arith, common_steps)
+
+pub no_type : (type : ℕ) → 2 ^ 31 ≤ type → type_of_number type ≡ None
+no_type type above = slice_get_past record_types type (omega arith)
+
+pub length_fits : (kind : Kind) (top : ℕ) (type len : ℕ) (body : List ℕ) (c : Content) → HasContent kind top type body c → length body ≡ len → type_allows (type_of_number type) len ≡ true
+length_fits kind top _ len body _ (has_optional type _ above) size = ap (λ o. type_allows o len) (no_type type above)
+length_fits kind top _ len _ _ has_ends size = eq-eqb len 0 (sym size)
+length_fits kind top _ len body _ (has_pages _ es b) size = least 8 len (omega (arith, ap length b.whole, length-append b.front (b.words_bytes ++ b.pages_bytes), b.front_len, size))
+length_fits kind top _ len body _ (has_sets this code _ ps is allowed says) size = ap (λ o. type_allows o len) (numbers_are_inverse.type_of this) ∙ ap (record_row_of this).allows (sym size) ∙ allowed
+length_fits kind top _ len _ _ has_static_end size = eq-eqb len 0 (sym size)

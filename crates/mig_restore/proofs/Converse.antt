@@ -1,7 +1,6 @@
 -- What is spelled as the format says is accepted.
 use Rattle.std.proofs.Common.{◌≡◌, ℕ, ◌≤◌, ◌<◌, ◌^◌, List, [], ◌∷◌, ◌++◌, length, Bool, true, false, nat_eq, nat_le, not, Option, None, refl, sym, ap, subst, ◌∙◌, arith, append_assoc, take, drop, take-append-drop, length-take-le, length-drop, ◌⊎◌, inl, inr}
-use Rattle.std.proofs.lemmas.Bool.{eqb-true}
-use Rattle.std.proofs.lemmas.Grind.{common_steps}
+use Rattle.std.proofs.lemmas.Bool.{eqb-true, le-ltb, lt-leb}
 use Rattle.std.proofs.lemmas.List.{length-map}
 use Rattle.mig_bytes.specs.Bytes.{padding_len}
 use Rattle.mig_bytes.specs.Fields.{le32, be32}
@@ -37,12 +36,10 @@ use Rattle.mig_restore.specs.Stream as stream
 use Rattle.mig_restore.specs.Stream.{Front, at_start, ImageOf, image_of, ended_at, records_at, opening_at, image_at, IsRefused}
 use Rattle.mig_restore.proofs.Joins.{unless_ok}
 use Rattle.mig_restore.proofs.Parts.{begins, behind_head, behind_body, asks, behind_record}
-use Rattle.mig_restore.proofs.Arrivals.{goes_on, ends_at, accepted, stops_ended}
 use Rattle.mig_bytes.proofs.Joins.{then_passes, tried_none}
 use Rattle.mig_headers.proofs.FirstFaults.{no_fault, neither_some}
-use Rattle.mig_restore.proofs.Passing.{ge_ltb, ends_hvm}
-use Rattle.mig_restore.proofs.BodiesPass.{body_goes, length_fits}
-use Rattle.mig_restore.proofs.Laws.{accepted_is_image, behind_marker, behind_version, behind_kind}
+use Rattle.mig_restore.proofs.Bodies.{ends_hvm, body_goes, length_fits}
+use Rattle.mig_restore.proofs.Laws.{goes_on, ends_at, accepted, stops_ended, accepted_is_image, behind_marker, behind_version, behind_kind}
 
 -- ---- a record
 
@@ -52,13 +49,10 @@ unfolding fault_of_fields
 fine_fields b type len built small in_order allowed few =
     let o = b.opening in
     neither_some (fault_of_built o.kind type) _ (no_fault ((not (is_built o.kind type), NotBuilt type) ∷ []) (ap not built, tt))
-    (neither_some (fault_of_long len) _ (no_fault (long_rows len) (ge_ltb _ _ small, tt))
+    (neither_some (fault_of_long len) _ (no_fault (long_rows len) (le-ltb _ _ small, tt))
     (neither_some (fault_of_type o.version o.kind b.types type) _ ((faultless_is_in_order o.version o.kind b.types type).1 in_order)
     (neither_some (fault_of_length type len) _ (no_fault (length_rows type len) (ap not allowed, tt))
-    (no_fault ((nat_le (2 ^ 28) (length b.types), TooManyRecords) ∷ []) (few_is (length b.types) few, tt)))))
-  where
-    few_is : (n : ℕ) → n < 2 ^ 28 → nat_le (2 ^ 28) n ≡ false
-    few_is n h = grind (arith, common_steps)
+    (no_fault ((nat_le (2 ^ 28) (length b.types), TooManyRecords) ∷ []) (lt-leb (2 ^ 28) (length b.types) few, tt)))))
 
 fine_at_end : (type : ℕ) (g : GuestOf) → (type ≡ 0 → g.kind ≡ Hvm) → (type ≡ 0 → IsComplete g) → fault_at_end type g ≡ None
 fine_at_end type g hvm complete = by (nat_eq type 0) refl

@@ -1,12 +1,13 @@
 -- What reading keeps of a guest: each part or frame that is set leaves it well formed.
 use Rattle.std.proofs.Common.{◌≡◌, ◌≢◌, ℕ, ◌^◌, ◌≤◌, ◌<◌, List, length, Bool, true, false, Option, Some, None, is_some, refl, sym, ap, subst, ◌∙◌}
 use Rattle.std.specs.List.{AllByRecursion}
+use Rattle.std.proofs.lemmas.Option.{same_Some}
 use Rattle.mig_headers.specs.declared.kind.Kind.{Kind}
 use Rattle.mig_headers.specs.declared.kind.Kind.TheVariants.{Hvm}
 use Rattle.mig_pagetypes.specs.Limits.{pfn_limit}
 use Rattle.mig_pagetypes.specs.PageTypes.{type_has_data}
 use Rattle.mig_pagetypes.specs.declared.page_type.PageType.{PageType}
-use Rattle.mig_pagetypes.specs.declared.page_type.PageType.TheVariants.{Notab, L1Tab, L2Tab, L3Tab, L4Tab, L1Pinned, L2Pinned, L3Pinned, L4Pinned, Broken, Xalloc, Xtab}
+use Rattle.mig_pagetypes.specs.declared.page_type.PageType.TheVariants.{Xtab}
 use Rattle.mig_guest.specs.Formed.{AreParts, IsFormed, is_emulator_code, width_of}
 use Rattle.mig_guest.specs.Frames.{framed, is_hvm_type}
 use Rattle.mig_guest.specs.Guests.{GuestOf}
@@ -42,18 +43,8 @@ moved g h k is grows = subst (Grows g) (sym is) grows
 -- ---- frames
 
 meant_is_hvm : (t : PageType) → meant_type Hvm t ≢ Xtab → is_hvm_type (meant_type Hvm t) ≡ true
-meant_is_hvm Notab there = refl
-meant_is_hvm L1Tab there = refl
-meant_is_hvm L2Tab there = refl
-meant_is_hvm L3Tab there = refl
-meant_is_hvm L4Tab there = refl
-meant_is_hvm L1Pinned there = refl
-meant_is_hvm L2Pinned there = refl
-meant_is_hvm L3Pinned there = refl
-meant_is_hvm L4Pinned there = refl
-meant_is_hvm Broken there = refl
-meant_is_hvm Xalloc there = refl
 meant_is_hvm Xtab there = absurd (there refl)
+meant_is_hvm _ there = refl
 
 -- a frame of the type that is meant keeps an HVM guest well formed
 pub frame_kept : (g : GuestOf) (t : PageType) (pfn : ℕ) (page : Option (List ℕ)) → g.kind ≡ Hvm → pfn < pfn_limit → is_some page ≡ type_has_data (meant_type Hvm t) → ((bytes : List ℕ) → page ≡ Some bytes → length bytes ≡ 4096)
@@ -84,11 +75,8 @@ module _ (this : RecordType) (code : PartCode) (is : code_of_type this ≡ Some 
   -- the length that the record's type has
   pub has_length : (len : ℕ) → (record_row_of this).allows len ≡ true → HasBodyLength code len
   has_length len allowed type named =
-      let same : this ≡ type = some_is this type (sym (numbers_are_inverse.type_of this) ∙ ap type_of_number number_is ∙ named) in
+      let same : this ≡ type = same_Some this type (sym (numbers_are_inverse.type_of this) ∙ ap type_of_number number_is ∙ named) in
       subst (λ (t : RecordType). (record_row_of t).allows len ≡ true) same allowed
-    where
-      some_is : (a b : RecordType) → Some a ≡ Some b → a ≡ b
-      some_is a b e = cc
 
 kind_of : Option PartCode → Kind → Bool
 kind_of None kind = false

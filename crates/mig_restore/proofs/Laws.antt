@@ -1,5 +1,7 @@
 -- What judging accepts is spelled as the format says.
-use Rattle.std.proofs.Common.{◌≡◌, ℕ, ◌≤◌, ◌<◌, ◌^◌, List, [], ◌∷◌, ◌++◌, length, Bool, true, false, cond, nat_le, not, Option, Some, None, refl, sym, ap, subst, ◌∙◌, append_assoc, ltb-false, leb-false, Ok}
+use Rattle.std.proofs.Common.{◌≡◌, ℕ, ◌≤◌, ◌<◌, ◌^◌, List, [], ◌∷◌, ◌++◌, length, Bool, true, false, cond, nat_le, not, Option, Some, None, refl, sym, ap, subst, ◌∙◌, append_assoc, ltb-false, leb-false, Ok, arith, length-append, le_refl}
+use Rattle.std.proofs.lemmas.Bool.{not-false}
+use Rattle.std.proofs.lemmas.Option.{none-some}
 use Rattle.std.proofs.lemmas.List.{length-map}
 use Rattle.mig_bytes.specs.Bytes.{padding_len}
 use Rattle.mig_bytes.specs.Fields.{le32, be32}
@@ -7,7 +9,7 @@ use Rattle.mig_bytes.specs.Walk.{Reaches}
 use Rattle.mig_bytes.specs.Walk.Reaches.{here, next}
 use Rattle.mig_bytes.specs.Judged.{Judged, ◌>>=◌, part, tried, placed}
 use Rattle.mig_bytes.specs.Judged.Judged.{Passes, Faulty}
-use Rattle.mig_bytes.proofs.Walks.{walk_end_reached}
+use Rattle.mig_bytes.proofs.Walks.{walk_end_is, walk_end_ends, walk_end_reached}
 use Rattle.mig_bytes.proofs.Joins.{both_pass, part_passes, tried_passes, same_passes, placed_passes}
 use Rattle.mig_headers.specs.Headers.{fault_of_marker, fault_of_image, fault_of_domain, kind_of_number, unless_faulty, IsImageHeader, IsDomainHeader}
 use Rattle.mig_headers.proofs.HeaderLaws.{image_is_spelled, domain_is_spelled}
@@ -28,12 +30,10 @@ use Rattle.mig_restore.specs.Mean.{sent}
 use Rattle.mig_restore.specs.Spelled.{IsComplete, Follows, Spells, IsImage}
 use Rattle.mig_restore.specs.Spelled.{Spells as spells}
 use Rattle.mig_restore.specs.Stream.{Front, one_more, at_start, front_of, front_with, ImageOf, image_of, ended_at, records_at, image_at, opening_at, marker_at, version_at, kind_at}
-use Rattle.mig_restore.proofs.Parts.{begins, behind_head, behind_body, asks, behind_record}
-use Rattle.mig_restore.proofs.Arrivals.{goes_on, front_stops}
+use Rattle.mig_restore.proofs.Parts.{begins, behind_head, behind_body, asks, behind_record, header_passes}
 use Rattle.mig_headers.proofs.FirstFaults.{rows_fine, both_none}
 use Rattle.mig_restore.proofs.Meaning.{sent_kind}
-use Rattle.mig_restore.proofs.Passing.{not_false, ends_hvm}
-use Rattle.mig_restore.proofs.Bodies.{body_says}
+use Rattle.mig_restore.proofs.Bodies.{body_says, ends_hvm}
 
 -- ---- a head
 
@@ -54,10 +54,10 @@ fields_fine b type len fine =
     let c = both_none (fault_of_type o.version o.kind b.types type) _ l.1 in
     let d = both_none (fault_of_length type len) (fault_of_number b.types) c.1 in
     record {
-      built = not_false _ (rows_fine ((not (is_built o.kind type), NotBuilt type) ∷ []) a.0).0;
+      built = not-false _ (rows_fine ((not (is_built o.kind type), NotBuilt type) ∷ []) a.0).0;
       small = ltb-false (2 ^ 27) len (rows_fine (long_rows len) l.0).0;
       ordered = (faultless_is_in_order o.version o.kind b.types type).0 c.0;
-      allowed = not_false _ (rows_fine (length_rows type len) d.0).0;
+      allowed = not-false _ (rows_fine (length_rows type len) d.0).0;
       few = leb-false (2 ^ 28) (length b.types) (rows_fine ((nat_le (2 ^ 28) (length b.types), TooManyRecords) ∷ []) d.1).0;
     }
 
@@ -78,9 +78,9 @@ record Found (o : Opening) (records : List StreamRecord) (i : List ℕ) (r : Str
   whole : i ≡ text ++ rest
   follows : Follows o records r text
 
-regroup : (i h' m' h m b c p d rest : List ℕ) → i ≡ h' ++ m' → h' ≡ h → m' ≡ m → m ≡ b ++ c → c ≡ p ++ d → d ≡ rest → i ≡ (h ++ (b ++ p)) ++ rest
-regroup i h' m' h m b c p d rest e1 e2 e3 e4 e5 e6 =
-    e1 ∙ ap (λ l. l ++ m') e2 ∙ ap (λ l. h ++ l) (e3 ∙ e4 ∙ ap (λ l. b ++ l) (e5 ∙ ap (λ l. p ++ l) e6) ∙ sym (append_assoc b p rest)) ∙ sym (append_assoc h (b ++ p) rest)
+regroup : (i h' h m b c p d rest : List ℕ) → i ≡ h' ++ m → h' ≡ h → m ≡ b ++ c → c ≡ p ++ d → d ≡ rest → i ≡ (h ++ (b ++ p)) ++ rest
+regroup i h' h m b c p d rest e1 e2 e4 e5 e6 =
+    e1 ∙ ap (λ l. l ++ m) e2 ∙ ap (λ l. h ++ l) (e4 ∙ ap (λ l. b ++ l) (e5 ∙ ap (λ l. p ++ l) e6) ∙ sym (append_assoc b p rest)) ∙ sym (append_assoc h (b ++ p) rest)
 
 found_same : (o : Opening) (records : List StreamRecord) (i rest : List ℕ) (r q : StreamRecord) → r ≡ q → Found o records i r rest → Found o records i q rest
 found_same o records i rest r q is f = subst (λ (x : StreamRecord). Found o records i x rest) is f
@@ -94,14 +94,11 @@ found o records i r rest going h =
     let whole = tried_passes _ n.mid w.mid w.x w.first in
     let same = same_passes _ _ _ _ w.second in
     let a = both_pass (head_at b i) (behind_head o.kind b.top) n.x n.mid (sym (begins b i) ∙ n.first) in
-    let m = both_pass (part Truncated 8 i) _ a.x a.mid a.first in
-    let p = part_passes Truncated 8 i m.x m.mid m.first in
-    let t = both_pass (tried (fault_of_head b m.x) m.mid) (λ _. Passes m.x m.mid) a.x a.mid m.second in
-    let e = same_passes _ _ _ _ t.second in
+    let p = header_passes 8 (fault_of_head b) (λ l. l) i a.x a.mid a.first in
     let head = a.x in
     let type = le32 head 0 in
     let len = le32 head 4 in
-    let fine = fields_fine b type len (subst (λ l. fault_of_head b l ≡ None) e.0 (tried_passes _ m.mid t.mid t.x t.first).0) in
+    let fine = fields_fine b type len (ap (fault_of_head b) (sym p.value) ∙ p.fine) in
     let c = both_pass (body_at o.kind b.top type len a.mid) (behind_body head) n.x n.mid a.second in
     let d = both_pass (part Truncated (padding_len len) c.mid) (λ padding. Passes (record { type = type; content = c.x }) padding.1) n.x n.mid c.second in
     let q = part_passes Truncated _ c.mid d.x d.mid d.first in
@@ -110,10 +107,10 @@ found o records i r rest going h =
     let is_record : record { type = type; content = c.x } ≡ n.x = f.0 in
     found_same o records i rest (record { type = type; content = c.x }) r (is_record ∙ same.0) (record {
       text = head ++ (s.body ++ d.x);
-      whole = regroup i m.x m.mid head a.mid s.body c.mid d.x d.mid rest p.0 e.0 e.1 s.whole q.0 (f.1 ∙ same.1);
+      whole = regroup i p.bytes head a.mid s.body c.mid d.x d.mid rest p.whole p.value s.whole q.0 (f.1 ∙ same.1);
       follows = record {
         body = s.body;
-        is = record { head = head; padding = d.x; whole = refl {a = head ++ (s.body ++ d.x)}; head_len = ap length (sym e.0) ∙ p.1; type_is = refl {a = type}; len_is = sym s.body_len; padded = q.1 ∙ ap padding_len (sym s.body_len) };
+        is = record { head = head; padding = d.x; whole = refl {a = head ++ (s.body ++ d.x)}; head_len = ap length (sym p.value) ∙ p.size; type_is = refl {a = type}; len_is = sym s.body_len; padded = q.1 ∙ ap padding_len (sym s.body_len) };
         says = s.says;
         small = subst (λ n. n ≤ 2 ^ 27) (sym s.body_len) fine.small;
         built = fine.built;
@@ -135,17 +132,49 @@ module _ (o : Opening) where
     judged : next_at o f.records f.rest ≡ Passes r rest
     is : t ≡ record { records = f.records ++ r ∷ []; rest = rest }
 
-  none_some : {x : Front} → None ≡ Some x → ⊥
-  none_some q = cc
-
   step_at : (f t : Front) (b : Bool) (j : Judged Cause StreamRecord) → is_ended f.records ≡ b → next_at o f.records f.rest ≡ j → cond b None (front_with f.records j) ≡ Some t → Step f t
-  step_at f t true j g e h = let no : ◌≡◌ {A = Option Front} None (Some t) = h in absurd (none_some no)
-  step_at f t false (Faulty c after) g e h = let no : ◌≡◌ {A = Option Front} None (Some t) = h in absurd (none_some no)
+  step_at f t true j g e h = absurd (none-some t h)
+  step_at f t false (Faulty c after) g e h = absurd (none-some t h)
   step_at f t false (Passes r after) g e h = record { r = r; rest = after; going = g; judged = e; is = cc }
 
   step_of : (f t : Front) → one_more o f ≡ Some t → Step f t
   unfolding one_more
   step_of f t h = step_at f t (is_ended f.records) (next_at o f.records f.rest) refl refl h
+
+  falls : (f t : Front) → one_more o f ≡ Some t → length t.rest < length f.rest
+  falls f t h =
+      let s = step_of f t h in
+      let g = found o f.records f.rest s.r s.rest s.going s.judged in
+      let is = g.follows.is in
+      omega (arith, ap (λ (x : Front). length x.rest) s.is, ap length g.whole, length-append g.text s.rest, ap length is.whole, length-append is.head (g.follows.body ++ is.padding), is.head_len)
+
+  pub ends_at : (rest : List ℕ) (f : Front) → Reaches (one_more o) (at_start rest) f → one_more o f ≡ None → front_of o rest ≡ f
+  unfolding front_of
+  ends_at rest f reached stops = walk_end_is (one_more o) (λ (g : Front). length g.rest) falls (length rest) (at_start rest) f (le_refl _) reached stops
+
+  pub front_stops : (rest : List ℕ) → one_more o (front_of o rest) ≡ None
+  unfolding front_of
+  front_stops rest = walk_end_ends (one_more o) (λ (g : Front). length g.rest) falls (length rest) (at_start rest) (le_refl _)
+
+  pub goes_on : (f : Front) (r : StreamRecord) (rest : List ℕ) → is_ended f.records ≡ false → next_at o f.records f.rest ≡ Passes r rest → one_more o f ≡ Some (record { records = f.records ++ r ∷ []; rest = rest })
+  unfolding one_more
+  goes_on f r rest going is = rw (going, is) refl
+
+  pub stops_ended : (f : Front) → is_ended f.records ≡ true → one_more o f ≡ None
+  unfolding one_more
+  stops_ended f over1 = rw over1 refl
+
+  pub stops_refused : (f : Front) (c : Cause) (rest : List ℕ) → is_ended f.records ≡ false → next_at o f.records f.rest ≡ Faulty c rest → one_more o f ≡ None
+  unfolding one_more
+  stops_refused f c rest going is = rw (going, is) refl
+
+  pub accepted : (f : Front) → is_ended f.records ≡ true → ended_at o f ≡ Passes (image_of o f.records) f.rest
+  unfolding ended_at
+  accepted f over1 = rw over1 refl
+
+  pub rejected : (f : Front) (c : Cause) (rest : List ℕ) → is_ended f.records ≡ false → next_at o f.records f.rest ≡ Faulty c rest → ended_at o f ≡ Faulty (Record (length f.records), c) rest
+  unfolding ended_at
+  rejected f c rest going is = rw (going, is) refl
 
   pub record Split (rest : List ℕ) (f : Front) : Type 0 where
     pub bytes : List ℕ
@@ -168,7 +197,7 @@ module _ (o : Opening) where
   accepts_at : (f : Front) (b : Bool) (j : Judged Cause StreamRecord) (p : Opening) (records : List StreamRecord) (rest : List ℕ) → is_ended f.records ≡ b → one_more o f ≡ None → next_at o f.records f.rest ≡ j
       → cond b (Passes (image_of o f.records) f.rest) (placed (Record (length f.records)) j >>= λ next. Passes (image_of o f.records) next.1) ≡ Passes (image_of p records) rest → (o ≡ p) × (f.records ≡ records) × (f.rest ≡ rest) × (b ≡ true)
   accepts_at f true j p records rest g stops is h = let e = same_passes {C = Place × Cause} (image_of o f.records) (image_of p records) f.rest rest h in (ap (λ (im : ImageOf). im.opening) e.0, ap (λ (im : ImageOf). im.records) e.0, e.1, refl)
-  accepts_at f false (Passes r after) p records rest g stops is h = let no : ◌≡◌ {A = Option Front} (Some (record { records = f.records ++ r ∷ []; rest = after })) None = sym (goes_on o f r after g is) ∙ stops in cc
+  accepts_at f false (Passes r after) p records rest g stops is h = let no : ◌≡◌ {A = Option Front} (Some (record { records = f.records ++ r ∷ []; rest = after })) None = sym (goes_on f r after g is) ∙ stops in cc
   accepts_at f false (Faulty c after) p records rest g stops is h = let no : ◌≡◌ {A = Judged (Place × Cause) ImageOf} (Faulty (Record (length f.records), c) after) (Passes (image_of p records) rest) = h in (cc, cc, cc, cc)
 
   -- what stands behind the headers of an accepted image is spelled as the format says
@@ -178,25 +207,10 @@ module _ (o : Opening) where
   accepted_spelled i p records rest h =
       let f = front_of o i in
       let s = front_spelled i f (walk_end_reached (one_more o) (length i) (at_start i) (at_start i) here) in
-      let e = accepts_at f (is_ended f.records) (next_at o f.records f.rest) p records rest refl (front_stops o i) refl h in
+      let e = accepts_at f (is_ended f.records) (next_at o f.records f.rest) p records rest refl (front_stops i) refl h in
       (e.0, s.bytes, s.whole ∙ ap (λ l. s.bytes ++ l) e.2, subst (Spells o s.bytes) e.1 s.spelled, ap is_ended (sym e.1) ∙ e.3)
 
 -- ---- the headers
-
-pub record HeaderPart {Y : Type 0} (n : ℕ) (f : List ℕ → Option Cause) (y : List ℕ → Y) (i : List ℕ) (x : Y) (rest : List ℕ) : Type 0 where
-  pub bytes : List ℕ
-  pub whole : i ≡ bytes ++ rest
-  pub size : length bytes ≡ n
-  pub fine : f bytes ≡ None
-  pub value : y bytes ≡ x
-
-pub header_passes : {Y : Type 0} (n : ℕ) (f : List ℕ → Option Cause) (y : List ℕ → Y) (i : List ℕ) (x : Y) (rest : List ℕ) → (part Truncated n i >>= λ p. tried (f p.0) p.1 >>= λ _. Passes (y p.0) p.1) ≡ Passes x rest → HeaderPart n f y i x rest
-header_passes n f y i x rest h =
-    let b = both_pass (part Truncated n i) (λ p. tried (f p.0) p.1 >>= λ _. Passes (y p.0) p.1) x rest h in
-    let p = part_passes Truncated n i b.x b.mid b.first in
-    let t = both_pass (tried (f b.x) b.mid) (λ _. Passes (y b.x) b.mid) x rest b.second in
-    let e = same_passes _ _ _ _ t.second in
-    record { bytes = b.x; whole = p.0 ∙ ap (λ l. b.x ++ l) e.1; size = p.1; fine = (tried_passes (f b.x) b.mid t.mid t.x t.first).0; value = e.0 }
 
 reads_as : {H : Type 0} (f : Option Cause) (h x : H) → f ≡ None → h ≡ x → unless_faulty f h ≡ Ok x
 reads_as f h x fine is = rw (fine, is) refl

@@ -1,14 +1,11 @@
 pub mod Arrivals
 pub mod Batches
 pub mod Bodies
-pub mod BodiesPass
 pub mod Converse
 pub mod Entries
 pub mod Growth
-pub mod Heads
 pub mod Joins
 pub mod Laws
 pub mod Meaning
 pub mod Parts
-pub mod Passing
 pub mod AcceptedWhole

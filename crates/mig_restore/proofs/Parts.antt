@@ -1,9 +1,10 @@
 -- A record behind its head and behind its body, and the whole guest behind the last record.
-use Rattle.std.proofs.Common.{◌≡◌, ℕ, List, [], ◌∷◌, ◌++◌, false, nat_eq, Option, Some, None, refl, ap, ◌∙◌}
+use Rattle.std.proofs.Common.{◌≡◌, ℕ, List, [], ◌∷◌, ◌++◌, false, nat_eq, Option, Some, None, length, refl, ap, ◌∙◌}
 use Rattle.mig_bytes.specs.Bytes.{padding_len}
 use Rattle.mig_bytes.specs.Fields.{le32}
 use Rattle.mig_bytes.specs.Judged.{Judged, ◌>>=◌, part, tried}
 use Rattle.mig_bytes.specs.Judged.Judged.{Passes, Faulty}
+use Rattle.mig_bytes.proofs.Joins.{both_pass, part_passes, tried_passes, same_passes}
 use Rattle.mig_headers.specs.declared.fault.Cause.{Cause}
 use Rattle.mig_headers.specs.declared.fault.Cause.TheVariants.{Truncated}
 use Rattle.mig_headers.specs.declared.kind.Kind.{Kind}
@@ -62,3 +63,34 @@ module _ (o : Opening) (records : List StreamRecord) (r : StreamRecord) where
   last_faulty c zero fault i =
       let some : fault_at_end r.type (sent o.kind (records ++ r ∷ [])) ≡ Some c = ap (λ t. fault_at_end t (sent o.kind (records ++ r ∷ []))) zero ∙ fault in
       ap (λ (f : Option Cause). tried f i >>= λ _. Passes r i) some
+
+-- ---- a part without fault, and what follows it
+
+pub record Taken {Y : Type 0} (n : ℕ) (f : List ℕ → Option Cause) (next : List ℕ → List ℕ → Judged Cause Y) (i : List ℕ) (x : Y) (rest : List ℕ) : Type 0 where
+  pub bytes : List ℕ
+  pub mid : List ℕ
+  pub whole : i ≡ bytes ++ mid
+  pub size : length bytes ≡ n
+  pub fine : f bytes ≡ None
+  pub after : next bytes mid ≡ Passes x rest
+
+pub taken : {Y : Type 0} (n : ℕ) (f : List ℕ → Option Cause) (next : List ℕ → List ℕ → Judged Cause Y) (i : List ℕ) (x : Y) (rest : List ℕ) → (part Truncated n i >>= λ p. tried (f p.0) p.1 >>= λ _. next p.0 p.1) ≡ Passes x rest → Taken n f next i x rest
+taken n f next i x rest h =
+    let b = both_pass (part Truncated n i) (λ p. tried (f p.0) p.1 >>= λ _. next p.0 p.1) x rest h in
+    let p = part_passes Truncated n i b.x b.mid b.first in
+    let t = both_pass (tried (f b.x) b.mid) (λ _. next b.x b.mid) x rest b.second in
+    record { bytes = b.x; mid = b.mid; whole = p.0; size = p.1; fine = (tried_passes (f b.x) b.mid t.mid t.x t.first).0; after = t.second }
+
+-- the same where it says a value
+pub record HeaderPart {Y : Type 0} (n : ℕ) (f : List ℕ → Option Cause) (y : List ℕ → Y) (i : List ℕ) (x : Y) (rest : List ℕ) : Type 0 where
+  pub bytes : List ℕ
+  pub whole : i ≡ bytes ++ rest
+  pub size : length bytes ≡ n
+  pub fine : f bytes ≡ None
+  pub value : y bytes ≡ x
+
+pub header_passes : {Y : Type 0} (n : ℕ) (f : List ℕ → Option Cause) (y : List ℕ → Y) (i : List ℕ) (x : Y) (rest : List ℕ) → (part Truncated n i >>= λ p. tried (f p.0) p.1 >>= λ _. Passes (y p.0) p.1) ≡ Passes x rest → HeaderPart n f y i x rest
+header_passes n f y i x rest h =
+    let t = taken n f (λ l m. Passes (y l) m) i x rest h in
+    let e = same_passes _ _ _ _ t.after in
+    record { bytes = t.bytes; whole = t.whole ∙ ap (λ l. t.bytes ++ l) e.1; size = t.size; fine = t.fine; value = e.0 }

@@ -1,8 +1,6 @@
-ghost use Rattle.std.specs.Prelude.{◌≡◌, ℕ, List, ◌⊎◌, option_and_then, unwrap_or, None};
+ghost use Rattle.std.specs.Prelude.{◌≡◌, ℕ, List, option_and_then, unwrap_or, None};
 ghost use Rattle.std.specs.FinMap as maps;
 ghost use Rattle.mig_bytes.specs.Bytes.{AreBytes};
-ghost use Rattle.mig_headers.specs.declared.fault.Cause.{Cause};
-ghost use Rattle.mig_headers.specs.declared.fault.Place.{Place};
 ghost use Rattle.mig_headers.specs.declared.kind.Kind.{Kind};
 ghost use Rattle.mig_guest.specs.Formed.{IsPlainHvm};
 ghost use Rattle.mig_guest.specs.Guests.{GuestOf};
@@ -13,9 +11,10 @@ ghost use Rattle.mig_restore.specs.Record.{StreamRecord};
 ghost use Rattle.mig_restore.specs.Mean.{sent, last_entry, frame_in, entries_of, last_said};
 ghost use Rattle.mig_restore.specs.Spelled.{IsImage, Accepted};
 ghost use Rattle.mig_bytes.specs.Judged.Judged.{Passes};
-ghost use Rattle.mig_restore.specs.Stream.{image_at, image_of, IsRefused};
+ghost use Rattle.mig_restore.specs.Stream.{image_at, image_of};
 
 /// What judging accepts is spelled as the format says.
+#[tactic(auto, using(crate::proofs::Laws::accepted_is_image))]
 pub fn accepted_is_image()
     ensures { (input : List ℕ) (o : Opening) (records : List StreamRecord) (rest : List ℕ) →
         image_at input ≡ Passes (image_of o records) rest → IsImage input o records rest }
@@ -25,18 +24,6 @@ pub fn accepted_is_image()
 pub fn image_is_accepted()
     ensures { (input : List ℕ) (o : Opening) (records : List StreamRecord) (rest : List ℕ) →
         IsImage input o records rest → image_at input ≡ Passes (image_of o records) rest }
-{}
-
-/// For every input either a front is an accepted stream, or there is a refusal.
-pub fn accepted_or_refused()
-    ensures { (input : List ℕ) → ((guest : GuestOf) × (rest : List ℕ) × Accepted input guest rest)
-        ⊎ ((place : Place) × (cause : Cause) × (rest : List ℕ) × IsRefused input place cause rest) }
-{}
-
-/// An input with an accepted front has no refusal.
-pub fn never_both()
-    ensures { (input : List ℕ) (guest : GuestOf) (rest : List ℕ) (place : Place) (cause : Cause) (more : List ℕ) →
-        Accepted input guest rest → IsRefused input place cause more → ⊥ }
 {}
 
 /// At most one front of an input is an accepted stream, with one guest.
@@ -52,6 +39,7 @@ pub fn accepted_is_whole()
 
 /// Of each frame number the last entry in stream order decides what was sent: it says the frame's type and page, or that
 /// there is no frame.
+#[tactic(auto, using(crate::proofs::Meaning::last_entry_is))]
 pub fn last_entry_decides()
     ensures { (kind : Kind) (records : List StreamRecord) (pfn : ℕ) →
         maps.get (sent kind records).frames pfn ≡ option_and_then (frame_in kind) (last_entry pfn (entries_of records)) }
@@ -59,6 +47,7 @@ pub fn last_entry_decides()
 
 /// Of each part the last content that says something of it decides what was sent; a policy body that isn't empty says of each part of
 /// its code whether it is there.
+#[tactic(auto, using(crate::proofs::Meaning::last_content_is))]
 pub fn last_content_decides()
     ensures { (kind : Kind) (records : List StreamRecord) (key : PartKey) →
         maps.get (sent kind records).parts key ≡ unwrap_or (last_said key records) None }

@@ -1,4 +1,5 @@
-use Rattle.std.proofs.Common.{◌≡◌, ℕ, List, Some, None, length, ap, sym, ◌∙◌, rules}
+use Rattle.std.proofs.Common.{Some, None, length, ap, sym, ◌∙◌, rules}
+use Rattle.std.proofs.lemmas.Option.{none-some, same_Some}
 use Rattle.mig_restore.proofs.Growth.{grows_frame}
 use Rattle.mig_restore.proofs.Meaning.{entry_set}
 use Rattle.mig_restore.proofs.Joins.{no_page, with_page, carries}
@@ -14,16 +15,10 @@ returns-in-Ok-set_frame-clause-read g c =
     with_page _ _ _ c.args.word _ c.take_part.new.buf tt tt (search rules) c.in_ok-take_part.ensures.read (carries c.args.word ∙ search rules)
     (entry_set c.args.guest.now _ c.args.word _ _ _ c.pfn_in-2.ensures (search rules) c.in-Ok-set_frame.ensures.ok)
 
-none_some : (bytes : List ℕ) → None ≡ Some bytes → ⊥
-none_some bytes e = cc
-
-some_is : (page bytes : List ℕ) → Some page ≡ Some bytes → page ≡ bytes
-some_is page bytes e = cc
-
 pub returns-in-Ok-clause-grown : goal.returns-in-Ok-clause-grown
 returns-in-Ok-clause-grown g c =
-    grows_frame c.args.guest.now _ c.type_in-in_stream.result c.meant-kind.result c.pfn_in.result None (search rules) (search rules) (search rules) (λ bytes e. absurd (none_some bytes e)) c.in-Ok.ensures.ok
+    grows_frame c.args.guest.now _ c.type_in-in_stream.result c.meant-kind.result c.pfn_in.result None (search rules) (search rules) (search rules) (λ bytes e. absurd (none-some bytes e)) c.in-Ok.ensures.ok
 
 pub returns-in-Ok-set_frame-clause-grown : goal.returns-in-Ok-set_frame-clause-grown
 returns-in-Ok-set_frame-clause-grown g c =
-    grows_frame c.args.guest.now _ c.type_in-in_stream.result c.meant-kind.result c.pfn_in-2.result (Some c.take_part.new.buf) (search rules) (search rules) (search rules) (λ bytes e. ap length (sym (some_is c.take_part.new.buf bytes e)) ∙ search rules) c.in-Ok-set_frame.ensures.ok
+    grows_frame c.args.guest.now _ c.type_in-in_stream.result c.meant-kind.result c.pfn_in-2.result (Some c.take_part.new.buf) (search rules) (search rules) (search rules) (λ bytes e. ap length (sym (same_Some c.take_part.new.buf bytes e)) ∙ search rules) c.in-Ok-set_frame.ensures.ok

@@ -1,5 +1,5 @@
-use Rattle.std.proofs.Common.{◌≡◌, ℕ, List, [], ◌∷◌, ◌++◌, true, false, nat_eq, rules, arith, ap, sym, subst, ◌∙◌}
-use Rattle.std.proofs.lemmas.Grind.{common_steps}
+use Rattle.std.proofs.Common.{◌≡◌, ℕ, List, [], ◌∷◌, ◌++◌, true, false, nat_eq, rules, ap, sym, subst, ◌∙◌}
+use Rattle.std.proofs.lemmas.Bool.{eq-eqb, ne_eqb}
 use Rattle.std.proofs.lemmas.List.{map-append}
 use Rattle.mig_bytes.proofs.Joins.{done, then_reads, stopped, refused}
 use Rattle.mig_guest.specs.Guests.{GuestOf}
@@ -10,7 +10,6 @@ use Rattle.mig_restore.specs.Judging.{Opening, before, record_at, next_at}
 use Rattle.mig_restore.specs.Seen.{IsSeen}
 use Rattle.mig_restore.specs.declared.head.Seen.{Seen}
 use Rattle.mig_restore.proofs.Parts.{asks, behind_record, not_last, last_fine, last_faulty}
-use Rattle.mig_restore.proofs.Passing.{same_is}
 use Rattle.mig_restore.proofs.Meaning.{sent_kind, one_more_record}
 use Rattle.mig_restore.proofs.read.read_next.Goals as goal
 
@@ -27,9 +26,6 @@ guest_top g o records is = ap (λ (x : GuestOf). x.top) is
 meant : (g h : GuestOf) (o : Opening) (records : List StreamRecord) (r : StreamRecord) → g ≡ sent o.kind records → h ≡ put_record g r → h ≡ sent o.kind (records ++ r ∷ [])
 meant g h o records r is now = now ∙ ap (λ (x : GuestOf). put_record x r) is ∙ sym (one_more_record o.kind records r)
 
-not_zero : (n : ℕ) → (n ≡ 0 → ⊥) → nat_eq n 0 ≡ false
-not_zero n h = grind (arith, common_steps)
-
 pub returns-in_err-take_record-clause-read : goal.returns-in_err-take_record-clause-read
 returns-in_err-take_record-clause-read g c = λ o records seen guest.
     stopped _ _ _ _ (record_at (before o records)) (next_at o records) (behind_record o records) c.in_err-take_record.field-0.0 c.from_residual.result (asks o records) (search rules)
@@ -39,7 +35,7 @@ pub returns-then-branch-ne-END-clause-read : goal.returns-then-branch-ne-END-cla
 returns-then-branch-ne-END-clause-read g c = λ o records seen guest.
     then_reads _ _ _ _ _ (record_at (before o records)) (next_at o records) (behind_record o records) c.in_ok-take_record.field-0 _ (asks o records)
     (c.in_ok-take_record.ensures.read (before o records) seen (guest_kind _ o records guest) (guest_top _ o records guest))
-    (λ r told. let goes : nat_eq r.type 0 ≡ false = not_zero r.type (λ is. c.if-branch-ne-END.true (told.1 ∙ is)) in
+    (λ r told. let goes : nat_eq r.type 0 ≡ false = ne_eqb r.type 0 (λ is. c.if-branch-ne-END.true (told.1 ∙ is)) in
     done _ _ (λ i. behind_record o records (r, i)) false r (not_last o records r goes) (told.0, seen_more _ o records r _ told.1 (c.in_ok-take_record.ensures.seen o (types_of records) seen), sym goes))
 
 pub returns-in-Some-clause-read : goal.returns-in-Some-clause-read
@@ -56,4 +52,4 @@ returns-in-None-clause-read g c = λ o records seen guest.
     (λ r told. let zero : r.type ≡ 0 = sym told.1 ∙ c.if-branch-ne-END.false in
     done _ _ (λ i. behind_record o records (r, i)) true r
     (last_fine o records r zero (ap fault_of_guest (sym (meant _ _ o records r guest told.0)) ∙ sym c.in-None.ensures))
-    (told.0, seen_more _ o records r _ told.1 (c.in_ok-take_record.ensures.seen o (types_of records) seen), sym (same_is r.type 0 zero)))
+    (told.0, seen_more _ o records r _ told.1 (c.in_ok-take_record.ensures.seen o (types_of records) seen), sym (eq-eqb r.type 0 zero)))

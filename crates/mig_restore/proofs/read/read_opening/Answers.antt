@@ -1,24 +1,12 @@
-use Rattle.std.proofs.Common.{ℕ, List, refl, ap, ◌∙◌}
-use Rattle.mig_bytes.specs.Judged.{Judged, ◌>>=◌, placed}
-use Rattle.mig_bytes.specs.Judged.Judged.{Passes}
+use Rattle.std.proofs.Common.{refl, ap, ◌∙◌}
+use Rattle.mig_bytes.specs.Judged.{placed}
 use Rattle.mig_bytes.proofs.Joins.{mapped}
 use Rattle.mig_bytes.proofs.Placed.{placed_fine, placed_then, placed_ends}
-use Rattle.mig_headers.specs.declared.fault.Cause.{Cause}
-use Rattle.mig_headers.specs.declared.fault.Place.{Place}
 use Rattle.mig_headers.specs.declared.fault.Place.TheVariants.{ImageHeader, DomainHeader}
-use Rattle.mig_headers.specs.declared.kind.Kind.{Kind}
-use Rattle.mig_restore.specs.Judging.{Opening, opening_of}
+use Rattle.mig_restore.specs.Judging.{opening_of}
 use Rattle.mig_restore.specs.Stream.{opening_at, marker_at, version_at, kind_at}
+use Rattle.mig_restore.proofs.Laws.{behind_marker, behind_version, behind_kind}
 use Rattle.mig_restore.proofs.read.read_opening.Goals as goal
-
-abbrev behind_kind : ℕ → Kind × List ℕ → Judged (Place × Cause) Opening
-behind_kind version kind = Passes (opening_of version kind.0) kind.1
-
-abbrev behind_version : ℕ × List ℕ → Judged (Place × Cause) Opening
-behind_version version = placed DomainHeader (kind_at version.1) >>= behind_kind version.0
-
-abbrev behind_marker : List ℕ × List ℕ → Judged (Place × Cause) Opening
-behind_marker marker = placed ImageHeader (version_at marker.1) >>= behind_version
 
 pub returns-in-Err-clause-read : goal.returns-in-Err-clause-read
 unfolding opening_at

@@ -1,9 +1,10 @@
-use Rattle.std.proofs.Common.{◌≡◌, ℕ, List, Some, None, refl, rules, subst, sym, ◌∙◌, Err}
+use Rattle.std.proofs.Common.{refl, rules, subst, sym, ◌∙◌, Err}
 use Rattle.mig_guest.specs.Guests.{GuestOf}
 use Rattle.mig_bytes.specs.Judged.{Gives}
 use Rattle.mig_restore.specs.declared.read.Reading.{Reading}
 use Rattle.mig_restore.specs.Stream.{records_at, IsReading}
 use Rattle.mig_restore.specs.Judging.{opening_of}
+use Rattle.std.proofs.lemmas.Option.{none-some}
 use Rattle.std.specs.FinMap.{get-empty}
 use Rattle.mig_guest.specs.Order.{part_cmp}
 use Rattle.mig_guest.specs.Formed.{IsFormed, HasNoEmulators}
@@ -11,15 +12,12 @@ use Rattle.mig_guest.proofs.Kept.{empty_formed}
 use Rattle.mig_restore.proofs.Arrivals.{arrived_first, arrived_next, arrived_end, arrived_stopped}
 use Rattle.mig_restore.proofs.read.read_records.Goals as goal
 
-none_some : (bytes : List ℕ) → None ≡ Some bytes → ⊥
-none_some bytes e = cc
-
 pub records-init : goal.records-init
 records-init g c = record {
   arrived = arrived_first (opening_of c.args.version c.args.kind) _ c.new-seen.result c.new-guest.result c.new-seen.ensures.seen c.new-guest.ensures;
   kind = search rules;
   formed = λ hvm. subst IsFormed (sym c.new-guest.ensures) (empty_formed c.args.kind);
-  plain = subst (λ (x : GuestOf). HasNoEmulators x.parts) (sym c.new-guest.ensures) (λ key bytes got. absurd (none_some bytes (sym (get-empty part_cmp key) ∙ got)));
+  plain = subst (λ (x : GuestOf). HasNoEmulators x.parts) (sym c.new-guest.ensures) (λ key bytes got. absurd (none-some bytes (sym (get-empty part_cmp key) ∙ got)));
   few = search rules;
   quiet = search rules;
 }

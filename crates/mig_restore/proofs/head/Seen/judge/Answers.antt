@@ -1,6 +1,28 @@
-use Rattle.std.proofs.Common.{rules}
-use Rattle.mig_restore.proofs.Heads.{order_broken}
+use Rattle.std.proofs.Common.{rules, ◌≡◌, ℕ, Option, Some, None, Result, Ok, Err, sym, ap, ◌∙◌}
+use Rattle.std.specs.Option.{option_or}
+use Rattle.mig_headers.specs.Headers.{unless_faulty}
+use Rattle.mig_headers.specs.declared.fault.Cause.{Cause}
+use Rattle.mig_order.specs.Order.{fault_of_type}
+use Rattle.mig_records.specs.Faults.{fault_of_long, fault_of_length}
+use Rattle.mig_restore.specs.declared.head.Seen.{Seen}
+use Rattle.mig_restore.specs.Judging.{Before, fault_of_built, fault_of_number, fault_of_fields}
+use Rattle.mig_restore.specs.Seen.{IsSeen}
 use Rattle.mig_restore.proofs.head.Seen.judge.Goals as goal
+
+abbrev Verdict : Type 0
+Verdict = Result (Unit {0}) Cause
+
+third : (a b c d e : Option Cause) (cause : Cause) → a ≡ None → b ≡ None → ◌≡◌ {A = Verdict} (Err cause) (unless_faulty c tt) → ◌≡◌ {A = Verdict} (Err cause) (unless_faulty (option_or a (option_or b (option_or c (option_or d e)))) tt)
+third a b None d e cause p q is = let no : ◌≡◌ {A = Verdict} (Err cause) (Ok tt) = is in cc
+third a b (Some x) d e cause p q is = rw (p, q) is
+
+-- the order is broken
+order_broken : (seen : Seen) (b : Before) (type len : ℕ) (cause : Cause) → IsSeen seen b.opening b.types → fault_of_built seen.kind type ≡ None → fault_of_long len ≡ None
+    → ◌≡◌ {A = Verdict} (Err cause) (unless_faulty (fault_of_type seen.gate.version seen.gate.kind b.types type) tt) → ◌≡◌ {A = Verdict} (Err cause) (unless_faulty (fault_of_fields b type len) tt)
+unfolding fault_of_fields
+order_broken seen b type len cause s built short is =
+    third _ _ _ (fault_of_length type len) (fault_of_number b.types) cause (ap (λ k. fault_of_built k type) (sym s.kind) ∙ built) short
+    (is ∙ ap (λ v. unless_faulty (fault_of_type v seen.gate.kind b.types type) tt) s.gate_version ∙ ap (λ k. unless_faulty (fault_of_type b.opening.version k b.types type) tt) s.gate_kind)
 
 pub returns-in-Err-clause-judged : goal.returns-in-Err-clause-judged
 returns-in-Err-clause-judged c = λ b seen.
