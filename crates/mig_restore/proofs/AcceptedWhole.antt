@@ -31,9 +31,8 @@ use Rattle.mig_bodies.proofs.Small.{small_parts}
 use Rattle.mig_bodies.proofs.Spelled.{bodies_are_spelled, is_shaped}
 use Rattle.mig_pvtables.specs.Whole.{IsWhole}
 use Rattle.mig_pvtables.proofs.HvmGuests.{hvm_whole}
-use Rattle.mig_restore.specs.Grows.{Grows}
 use Rattle.mig_restore.specs.Judging.{Opening}
-use Rattle.mig_restore.specs.Mean.{meant_type, put_entry, put_entries, put_content, sent}
+use Rattle.mig_restore.specs.Mean.{meant_type, put_entry, put_entries, put_content, sent, Grows}
 use Rattle.mig_restore.specs.Record.{FrameEntry, Content, StreamRecord, types_of, is_ended}
 use Rattle.mig_restore.specs.Record.Content.{Sets}
 use Rattle.mig_restore.specs.Spelled.{IsPage, IsEntry, AreEntries, IsGoodWord, HasContent, IsComplete, Spells, Accepted}
@@ -42,7 +41,7 @@ use Rattle.mig_restore.specs.Spelled.Spells.{none, one_more}
 use Rattle.mig_restore.proofs.Arrivals.{ended_more}
 use Rattle.mig_restore.proofs.Bodies.{no_type, ends_hvm}
 use Rattle.mig_restore.proofs.Growth.{grows_not, grows_on, grows_frame, grows_sets, has_length, same_kinds, sets_no_emulator}
-use Rattle.mig_restore.proofs.Joins.{carries}
+use Rattle.mig_restore.proofs.Batches.{carries}
 use Rattle.mig_restore.proofs.Meaning.{one_more_record, sent_kind, meant_as_sent}
 
 -- ---- bytes

@@ -1,26 +1,80 @@
 -- The body of a PAGE_DATA record: what judging lets pass is spelled as the format says, and what is spelled so passes.
-use Rattle.std.proofs.Common.{◌≡◌, ℕ, ◌+◌, ◌*◌, List, [], ◌∷◌, ◌++◌, length, Bool, true, false, cond, nat_eq, not, Option, Some, None, refl, sym, ap, subst, ◌∙◌, arith, append_assoc, length-append}
+use Rattle.std.proofs.Common.{◌≡◌, ℕ, ◌+◌, ◌*◌, List, [], ◌∷◌, ◌++◌, length, Bool, true, false, cond, nat_eq, not, Option, Some, None, refl, sym, ap, subst, ◌∙◌, arith, append_assoc, length-append, Result, Ok, Err}
 use Rattle.std.specs.List.{count_by, filter}
 use Rattle.std.proofs.lemmas.Bool.{eqb-true, eqb-false, eq-eqb, ne_eqb, le-ltb, not-false}
 use Rattle.std.proofs.lemmas.List.Sums.{length-filter}
 use Rattle.std.proofs.lemmas.List.FromFn.{length-map-range_with_len}
 use Rattle.mig_bytes.specs.Fields.{le32, le64}
-use Rattle.mig_bytes.specs.Judged.{◌>>=◌, part, tried, each}
+use Rattle.mig_bytes.specs.Judged.{◌>>=◌, part, tried, each, Judged, Matches, Gives}
 use Rattle.mig_bytes.specs.Judged.Judged.{Passes}
-use Rattle.mig_bytes.proofs.Joins.{part_whole, both_pass, part_passes, tried_passes, same_passes}
+use Rattle.mig_bytes.proofs.Joins.{part_whole, both_pass, part_passes, tried_passes, same_passes, then_passes, tried_none}
 use Rattle.mig_headers.specs.declared.fault.Cause.TheVariants.{BadLength, Truncated}
 use Rattle.mig_headers.specs.declared.kind.Kind.{Kind}
-use Rattle.mig_pagetypes.specs.FrameWords.{word_pfn, word_has_data}
+use Rattle.mig_pagetypes.specs.FrameWords.{word_pfn, word_has_data, word_type, some_has_data}
 use Rattle.mig_records.specs.Faults.{fault_of_count, fault_of_words, count_rows}
 use Rattle.mig_records.specs.Words.{words, data_len_of}
 use Rattle.mig_records.proofs.WordFaults.{none_is_wrong, nothing_found}
-use Rattle.mig_restore.specs.Record.{FrameEntry}
-use Rattle.mig_restore.specs.Judging.{type_in_word, fault_of_data, words_at, page_at, entry_at, entries_at}
+use Rattle.mig_restore.specs.Record.{FrameEntry, Content}
+use Rattle.mig_restore.specs.Judging.{type_in_word, fault_of_data, words_at, page_at, entry_at, entries_at, pages_at}
 use Rattle.mig_restore.specs.Spelled.{IsPage, IsEntry, AreEntries, IsBatch}
-use Rattle.mig_restore.proofs.Entries.{behind_words}
 use Rattle.mig_restore.proofs.Parts.{taken}
-use Rattle.mig_bytes.proofs.Joins.{then_passes, tried_none}
 use Rattle.mig_headers.proofs.FirstFaults.{rows_fine, no_fault}
+use Rattle.mig_pagetypes.specs.PageTypes.{type_of, type_or_none, type_has_data}
+use Rattle.mig_bytes.specs.declared.part.Stop.{Stop}
+use Rattle.mig_bytes.specs.declared.part.Stop.TheVariants.{Refused, ReadFault, Memory}
+use Rattle.mig_headers.specs.declared.fault.Cause.{Cause}
+use Rattle.mig_guest.specs.Guests.{GuestOf}
+use Rattle.mig_restore.specs.Record.Content.{Frames}
+use Rattle.mig_restore.specs.Mean.{put_entries, put_content}
+
+-- the tests of a word and of its type agree
+pub carries : (w : ℕ) → word_has_data w ≡ type_has_data (type_in_word w)
+carries w = elim (type_of (word_type w)) as (λ o. some_has_data o ≡ type_has_data (type_or_none o)) [ None ↦ refl | Some t ↦ refl ]
+
+-- behind the words of a batch
+abbrev pub behind_words : Kind → ℕ → ℕ → List ℕ × List ℕ → Judged Cause (List FrameEntry)
+behind_words kind top len ws = tried (fault_of_words kind top ws.0) ws.1 >>= λ _. tried (fault_of_data len ws.0) ws.1 >>= λ _. each entry_at ws.0 ws.1
+
+abbrev behind_front : ℕ → Kind → ℕ → List ℕ × List ℕ → Judged Cause (List FrameEntry)
+behind_front len kind top front = tried (fault_of_count len (le32 front.0 0)) front.1 >>= λ _. words_at (le32 front.0 0) front.1 >>= behind_words kind top len
+
+abbrev as_content : List FrameEntry × List ℕ → Judged Cause Content
+as_content es = Passes (Frames es.0) es.1
+
+module _ (g new : GuestOf) (e : Option (List ℕ)) where
+  abbrev Set : Unit {0} → List FrameEntry → Type 0
+  Set _ es = new ≡ record g { frames = put_entries g.kind g.frames es }
+
+  abbrev Put : Unit {0} → Content → Type 0
+  Put _ c = new ≡ put_content g c
+
+  as_frames : (j : Judged Cause (List FrameEntry)) (r : Result (Unit {0}) (Stop Cause)) → Matches Set e j r → Matches Put e (j >>= as_content) r
+  as_frames j (Ok u) (es, rest, is, left, now) = (Frames es, rest, ap (λ k. k >>= as_content) is, left, now)
+  as_frames j (Err (Refused c)) (rest, is, left) = (rest, ap (λ k. k >>= as_content) is, left)
+  as_frames j (Err ReadFault) h = tt
+  as_frames j (Err Memory) h = tt
+
+  module _ {V : Type 0} (items : V → List ℕ) where
+    pub pages_read : (a b d : Option (List ℕ)) (kind : Kind) (top len n m : ℕ) (buf : List ℕ) (list : V) (r : Result (Unit {0}) (Stop Cause)) → kind ≡ g.kind → m ≡ 8
+        → Gives {X = Unit {0}} (λ _ bytes. bytes ≡ buf) a b (part Truncated m) (Ok tt) → n ≡ le32 buf 0 → fault_of_count len n ≡ None
+        → Gives (λ v ws. ws ≡ items v) b d (words_at n) (Ok list) → fault_of_words kind top (items list) ≡ None → fault_of_data len (items list) ≡ None
+        → Gives Set d e (each entry_at (items list)) r → Gives Put a e (pages_at kind top len) r
+    pages_read None b d kind top len n m buf list r k size front at counted read good whole told = tt
+    pages_read (Some i) b d kind top len n m buf list r k size (bytes, rest, is, left, same) at counted read good whole told =
+        let number : le32 bytes 0 ≡ n = ap (λ l. le32 l 0) same ∙ sym at in
+        let (ws, after, is_words, left_words, words_same) = subst (λ o. Gives (λ v l. l ≡ items v) o d (words_at n) (Ok list)) left read in
+        let told' = subst (λ o. Gives Set o e (each entry_at (items list)) r) left_words told in
+        let judged : pages_at kind top len i ≡ (each entry_at (items list) after >>= as_content) =
+        ap (λ j. (j >>= behind_front len kind top) >>= as_content) (ap (λ q. part Truncated q i) (sym size) ∙ is)
+        ∙ ap (λ q. (tried (fault_of_count len q) rest >>= λ _. words_at q rest >>= behind_words kind top len) >>= as_content) number
+        ∙ ap (λ f. (tried f rest >>= λ _. words_at n rest >>= behind_words kind top len) >>= as_content) counted
+        ∙ ap (λ j. (j >>= behind_words kind top len) >>= as_content) is_words
+        ∙ ap (λ l. behind_words kind top len (l, after) >>= as_content) words_same
+        ∙ ap (λ f. (tried f after >>= λ _. tried (fault_of_data len (items list)) after >>= λ _. each entry_at (items list) after) >>= as_content) good
+        ∙ ap (λ f. (tried f after >>= λ _. each entry_at (items list) after) >>= as_content) whole in
+        subst (λ j. Matches Put e j r) (sym judged) (as_frames (each entry_at (items list) after) r told')
+
+-- ---- what the words say of its length
 
 counted : (w : ℕ) (ws : List ℕ) → count_by word_has_data (w ∷ ws) ≡ cond (word_has_data w) 1 0 + count_by word_has_data ws
 counted w ws = sym (length-filter word_has_data (w ∷ ws)) ∙ split (word_has_data w) (filter word_has_data ws) ∙ ap (λ n. cond (word_has_data w) 1 0 + n) (length-filter word_has_data ws)
@@ -77,8 +131,8 @@ regroup_pages : (i f m w m2 d t rest : List ℕ) → i ≡ f ++ m → m ≡ w ++
 regroup_pages i f m w m2 d t rest e1 e2 e3 e4 =
     e1 ∙ ap (λ l. f ++ l) (e2 ∙ ap (λ l. w ++ l) (e3 ∙ e4) ∙ sym (append_assoc w t rest)) ∙ sym (append_assoc f (w ++ t) rest)
 
-body_size : (len n k : ℕ) (f w t : List ℕ) → length f ≡ 8 → length w ≡ 8 * n → length t ≡ 4096 * k → len ≡ 8 + 8 * n + 4096 * k → length (f ++ (w ++ t)) ≡ len
-body_size len n k f w t e1 e2 e3 e4 = omega (arith, length-append f (w ++ t), length-append w t)
+body_len : (n k : ℕ) (f w t : List ℕ) → length f ≡ 8 → length w ≡ 8 * n → length t ≡ 4096 * k → length (f ++ (w ++ t)) ≡ 8 + 8 * n + 4096 * k
+body_len n k f w t e1 e2 e3 = omega (arith, length-append f (w ++ t), length-append w t)
 
 -- a batch, and what follows it
 pub record Batch (kind : Kind) (top len : ℕ) (i : List ℕ) (es : List FrameEntry) (rest : List ℕ) : Type 0 where
@@ -108,7 +162,7 @@ batch_passes kind top len i es rest h =
     record {
       body = front ++ (w.x ++ t.bytes);
       whole = regroup_pages i front a.mid w.x w.mid d.mid t.bytes rest a.whole q.0 e.1 t.whole;
-      size = body_size len n (count_by word_has_data d.x) front w.x t.bytes a.size q.1 t.size full;
+      size = body_len n (count_by word_has_data d.x) front w.x t.bytes a.size q.1 t.size ∙ sym full;
       batch = record {
         front = front;
         words_bytes = w.x;
@@ -151,9 +205,6 @@ entries_len (w ∷ ws) bytes es (page, more, e, others, whole, is, one, entries)
     let q = entries_len ws more others entries in
     omega (arith, ap length whole, length-append page more, p, q, counted w ws)
 
-size_is : (len n k : ℕ) (body f w t : List ℕ) → body ≡ f ++ (w ++ t) → length f ≡ 8 → length w ≡ 8 * n → length t ≡ 4096 * k → length body ≡ len → len ≡ 8 + 8 * n + 4096 * k
-size_is len n k body f w t e1 e2 e3 e4 e5 = omega (arith, ap length e1, length-append f (w ++ t), length-append w t)
-
 pub batch_goes : (kind : Kind) (top len : ℕ) (body rest : List ℕ) (es : List FrameEntry) → IsBatch kind top body es → length body ≡ len → entries_at kind top len (body ++ rest) ≡ Passes es rest
 batch_goes kind top len body rest es b size =
     let n = le32 b.front 0 in
@@ -161,7 +212,7 @@ batch_goes kind top len body rest es b size =
     let tail = b.pages_bytes ++ rest in
     let mid = b.words_bytes ++ tail in
     let input : body ++ rest ≡ b.front ++ mid = ap (λ l. l ++ rest) b.whole ∙ append_assoc b.front _ rest ∙ ap (λ l. b.front ++ l) (append_assoc b.words_bytes b.pages_bytes rest) in
-    let full : len ≡ 8 + 8 * n + 4096 * count_by word_has_data ws = size_is len n (count_by word_has_data ws) body b.front b.words_bytes b.pages_bytes b.whole b.front_len b.words_len (entries_len ws b.pages_bytes es b.entries) size in
+    let full : len ≡ 8 + 8 * n + 4096 * count_by word_has_data ws = sym size ∙ ap length b.whole ∙ body_len n (count_by word_has_data ws) b.front b.words_bytes b.pages_bytes b.front_len b.words_len (entries_len ws b.pages_bytes es b.entries) in
     let count : length ws ≡ n = length-map-range_with_len (λ k. le64 b.words_bytes (8 * k)) 0 n in
     let counts : fault_of_count len n ≡ None = no_fault (count_rows len n) (le-ltb len (8 + 8 * n) (omega (arith, full)), (ne_eqb n 0 (λ e. omega (arith, b.some, e)), tt)) in
     let goods : fault_of_words kind top ws ≡ None = nothing_found kind top ws b.good in

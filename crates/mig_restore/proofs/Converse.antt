@@ -1,5 +1,5 @@
 -- What is spelled as the format says is accepted.
-use Rattle.std.proofs.Common.{◌≡◌, ℕ, ◌≤◌, ◌<◌, ◌^◌, List, [], ◌∷◌, ◌++◌, length, Bool, true, false, nat_eq, nat_le, not, Option, None, refl, sym, ap, subst, ◌∙◌, arith, append_assoc, take, drop, take-append-drop, length-take-le, length-drop, ◌⊎◌, inl, inr}
+use Rattle.std.proofs.Common.{◌≡◌, ℕ, ◌≤◌, ◌<◌, ◌^◌, List, [], ◌∷◌, ◌++◌, length, Bool, true, false, nat_eq, nat_le, not, Option, Some, None, Result, Ok, Err, refl, sym, ap, subst, ◌∙◌, arith, append_assoc, take, drop, take-append-drop, length-take-le, length-drop, ◌⊎◌, inl, inr}
 use Rattle.std.proofs.lemmas.Bool.{eqb-true, le-ltb, lt-leb}
 use Rattle.std.proofs.lemmas.List.{length-map}
 use Rattle.mig_bytes.specs.Bytes.{padding_len}
@@ -9,7 +9,7 @@ use Rattle.mig_bytes.specs.Walk.Reaches.{here, next}
 use Rattle.mig_bytes.specs.Judged.{Judged, ◌>>=◌, part, tried, placed}
 use Rattle.mig_bytes.specs.Judged.Judged.{Passes, Faulty}
 use Rattle.mig_bytes.proofs.Joins.{part_whole, same_passes}
-use Rattle.mig_headers.specs.Headers.{fault_of_marker, fault_of_image, fault_of_domain, kind_of_number, IsImageHeader, IsDomainHeader}
+use Rattle.mig_headers.specs.Headers.{fault_of_marker, fault_of_image, fault_of_domain, kind_of_number, unless_faulty, IsImageHeader, IsDomainHeader}
 use Rattle.mig_headers.proofs.HeaderLaws.{image_is_spelled, domain_is_spelled}
 use Rattle.mig_headers.specs.RecordTypes.{type_of_number}
 use Rattle.mig_headers.specs.declared.fault.Cause.{Cause}
@@ -34,7 +34,6 @@ use Rattle.mig_restore.specs.Spelled.{IsComplete, Follows, Spells, IsImage, Acce
 use Rattle.mig_restore.specs.Spelled.Spells.{none, one_more}
 use Rattle.mig_restore.specs.Stream as stream
 use Rattle.mig_restore.specs.Stream.{Front, at_start, ImageOf, image_of, ended_at, records_at, opening_at, image_at, IsRefused}
-use Rattle.mig_restore.proofs.Joins.{unless_ok}
 use Rattle.mig_restore.proofs.Parts.{begins, behind_head, behind_body, asks, behind_record}
 use Rattle.mig_bytes.proofs.Joins.{then_passes, tried_none}
 use Rattle.mig_headers.proofs.FirstFaults.{no_fault, neither_some}
@@ -107,6 +106,10 @@ spelled_accepted o bytes records rest spelled ended =
 part_is : {Y Z : Type 0} (place : Place) (n : ℕ) (f : List ℕ → Option Cause) (y : List ℕ → Y) (x rest : List ℕ) (k : Y × List ℕ → Judged (Place × Cause) Z) → length x ≡ n → f x ≡ None
     → (placed place (part Truncated n (x ++ rest) >>= λ p. tried (f p.0) p.1 >>= λ _. Passes (y p.0) p.1) >>= k) ≡ k (y x, rest)
 part_is place n f y x rest k size fine = ap (λ j. placed place j >>= k) (then_passes (part Truncated n (x ++ rest)) _ x rest _ (part_whole Truncated n x rest size) (tried_none (f x) rest _ fine))
+
+unless_ok : {H : Type 0} (f : Option Cause) (h x : H) → unless_faulty f h ≡ Ok x → (f ≡ None) × (h ≡ x)
+unless_ok None h x e = (refl, cc)
+unless_ok {H} (Some c) h x e = let no : ◌≡◌ {A = Result H Cause} (Err c) (Ok x) = e in (cc, cc)
 
 -- the two parts of an image header
 record ImageParts (header : List ℕ) (version : ℕ) : Type 0 where

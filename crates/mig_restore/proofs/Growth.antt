@@ -8,7 +8,7 @@ use Rattle.mig_pagetypes.specs.Limits.{pfn_limit}
 use Rattle.mig_pagetypes.specs.PageTypes.{type_has_data}
 use Rattle.mig_pagetypes.specs.declared.page_type.PageType.{PageType}
 use Rattle.mig_pagetypes.specs.declared.page_type.PageType.TheVariants.{Xtab}
-use Rattle.mig_guest.specs.Formed.{AreParts, IsFormed, is_emulator_code, width_of}
+use Rattle.mig_guest.specs.Formed.{AreParts, is_emulator_code, width_of}
 use Rattle.mig_guest.specs.Frames.{framed, is_hvm_type}
 use Rattle.mig_guest.specs.Guests.{GuestOf}
 use Rattle.mig_guest.specs.Parts.{PartMap}
@@ -26,8 +26,7 @@ use Rattle.mig_bodies.specs.Shapes.{shape_of, has_shape, fault_of_body, parts_of
 use Rattle.mig_bodies.proofs.Spelled.{bodies_are_spelled}
 use Rattle.mig_bodies.proofs.Kept.{bodies_say_parts, bodies_keep_formed, set_plain, sets_nothing}
 use Rattle.mig_restore.specs.Judging.{code_of_type}
-use Rattle.mig_restore.specs.Mean.{meant_type}
-use Rattle.mig_restore.specs.Grows.{Grows}
+use Rattle.mig_restore.specs.Mean.{meant_type, Grows}
 
 -- ---- steps
 
@@ -46,13 +45,6 @@ meant_is_hvm : (t : PageType) → meant_type Hvm t ≢ Xtab → is_hvm_type (mea
 meant_is_hvm Xtab there = absurd (there refl)
 meant_is_hvm _ there = refl
 
--- a frame of the type that is meant keeps an HVM guest well formed
-pub frame_kept : (g : GuestOf) (t : PageType) (pfn : ℕ) (page : Option (List ℕ)) → g.kind ≡ Hvm → pfn < pfn_limit → is_some page ≡ type_has_data (meant_type Hvm t) → ((bytes : List ℕ) → page ≡ Some bytes → length bytes ≡ 4096)
-    → IsFormed g → IsFormed (record g { frames = framed g.frames pfn (meant_type Hvm t) page })
-frame_kept g t pfn page hvm small in_step whole formed =
-    frames_keep g pfn (meant_type Hvm t) page
-    (λ there. hvm_frame g.kind g.top pfn (record { type = meant_type Hvm t; page = page }) hvm small (record { there = there; in_step = in_step; whole = whole }) (meant_is_hvm t there)) formed
-
 pub grows_frame : (g h : GuestOf) (t meant : PageType) (pfn : ℕ) (page : Option (List ℕ)) → meant ≡ meant_type g.kind t → pfn < pfn_limit → is_some page ≡ type_has_data meant → ((bytes : List ℕ) → page ≡ Some bytes → length bytes ≡ 4096)
     → h ≡ record g { frames = framed g.frames pfn meant page } → Grows g h
 grows_frame g h t meant pfn page is small in_step whole now = moved g (record g { frames = framed g.frames pfn meant page }) h now (record {
@@ -60,8 +52,9 @@ grows_frame g h t meant pfn page is small in_step whole now = moved g (record g 
   top = refl;
   kept = λ hvm formed.
       let same : meant ≡ meant_type Hvm t = is ∙ ap (λ k. meant_type k t) hvm in
-      subst (λ (m : PageType). IsFormed (record g { frames = framed g.frames pfn m page })) (sym same)
-      (frame_kept g t pfn page hvm small (subst (λ m. is_some page ≡ type_has_data m) same in_step) whole formed);
+      frames_keep g pfn meant page
+      (λ there. hvm_frame g.kind g.top pfn (record { type = meant; page = page }) hvm small (record { there = there; in_step = in_step; whole = whole })
+      (ap is_hvm_type same ∙ meant_is_hvm t (subst (λ m. m ≢ Xtab) same there))) formed;
   plain = λ h. h;
 })
 

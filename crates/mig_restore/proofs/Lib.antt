@@ -2,9 +2,7 @@ pub mod Arrivals
 pub mod Batches
 pub mod Bodies
 pub mod Converse
-pub mod Entries
 pub mod Growth
-pub mod Joins
 pub mod Laws
 pub mod Meaning
 pub mod Parts

@@ -1,11 +1,9 @@
 -- What one more entry, or one more record, means; and that of each frame number and of each part the last decides.
 use Rattle.std.proofs.Common.{◌≡◌, ℕ, List, [], ◌∷◌, ◌++◌, Bool, true, false, cond, not, nat_eq, Option, Some, None, refl, sym, ap, ◌∙◌, arith}
-use Rattle.std.specs.Prelude.{option_and_then, unwrap_or, ◌&&◌}
+use Rattle.std.specs.Prelude.{option_and_then, unwrap_or}
 use Rattle.std.specs.List.{fold}
 use Rattle.std.specs.Option.{option_map, option_or}
-use Rattle.std.specs.Ordering.{nat_cmp, eq_by_cmp, is_eq, ordering_then}
-use Rattle.std.specs.declared.cmp.Ordering.{Ordering}
-use Rattle.std.specs.declared.cmp.Ordering.TheVariants.{Less, Equal, Greater}
+use Rattle.std.specs.Ordering.{nat_cmp, eq_by_cmp}
 use Rattle.std.specs.Cmp.{nat_cmp_total}
 use Rattle.std.specs.FinMap as fin
 use Rattle.std.proofs.lemmas.Grind.{common_steps}
@@ -126,82 +124,57 @@ last_entry_is kind records pfn =
 
 -- ---- of each part the last content decides
 
-nat_ties : (p q : ℕ) → is_eq (nat_cmp p q) ≡ nat_eq q p
-nat_ties p q = ties p q
-
-thens : (r s : Ordering) → is_eq (ordering_then r s) ≡ (is_eq r && is_eq s)
-thens Less s = refl
-thens Equal s = refl
-thens Greater s = refl
-
-both_and : (a b c d : Bool) → a ≡ b → c ≡ d → (a && c) ≡ (b && d)
-both_and a b c d p q = rw (p, q) refl
-
 pub part_ties : (q k : PartKey) → eq_by_cmp part_cmp q k ≡ same_key k q
-part_ties q k =
-    thens (nat_cmp q.code k.code) (ordering_then (nat_cmp q.key1 k.key1) (nat_cmp q.key2 k.key2))
-    ∙ both_and _ _ _ _ (nat_ties q.code k.code) (thens (nat_cmp q.key1 k.key1) (nat_cmp q.key2 k.key2) ∙ both_and _ _ _ _ (nat_ties q.key1 k.key1) (nat_ties q.key2 k.key2))
+part_ties q k = grind (arith, common_steps)
 
-abbrev over : Option (List ℕ) → Option (List ℕ) → Option (List ℕ)
-over None before = before
-over (Some bytes) before = Some bytes
-
-put_over : (b : Bool) (bytes : List ℕ) (later before : Option (List ℕ)) → over later (cond b (Some bytes) before) ≡ over (option_or later (cond b (Some bytes) None)) before
+put_over : (b : Bool) (bytes : List ℕ) (later before : Option (List ℕ)) → option_or later (cond b (Some bytes) before) ≡ option_or (option_or later (cond b (Some bytes) None)) before
 put_over b bytes (Some later) before = refl
 put_over true bytes None before = refl
 put_over false bytes None before = refl
 
-pub parts_got : (m : PartMap) (ps : List (PartKey × List ℕ)) (q : PartKey) → fin.get (put_parts m ps) q ≡ over (last_bytes q ps) (fin.get m q)
+pub parts_got : (m : PartMap) (ps : List (PartKey × List ℕ)) (q : PartKey) → fin.get (put_parts m ps) q ≡ option_or (last_bytes q ps) (fin.get m q)
 parts_got m [] q = refl
 parts_got m (p ∷ ps) q =
     parts_got (put_part m p) ps q
-    ∙ ap (over (last_bytes q ps)) (fin.get-insert part_total m p.0 p.1 q ∙ ap (λ b. cond b (Some p.1) (fin.get m q)) (part_ties q p.0))
+    ∙ ap (option_or (last_bytes q ps)) (fin.get-insert part_total m p.0 p.1 q ∙ ap (λ b. cond b (Some p.1) (fin.get m q)) (part_ties q p.0))
     ∙ put_over (same_key p.0 q) p.1 (last_bytes q ps) (fin.get m q)
 
-abbrev unless_said : Option (Option (List ℕ)) → Option (List ℕ) → Option (List ℕ)
-unless_said None before = before
-unless_said (Some now) before = now
-
-said_parts : (o before : Option (List ℕ)) → over o before ≡ unless_said (option_map Some o) before
+said_parts : (o before : Option (List ℕ)) → option_or o before ≡ unwrap_or (option_map Some o) before
 said_parts None before = refl
 said_parts (Some bytes) before = refl
 
 cleared : (m : PartMap) (code : ℕ) (q : PartKey) → fin.get (fin.retain_keys m (λ k. not (nat_eq k.code code))) q ≡ cond (not (nat_eq q.code code)) (fin.get m q) None
 cleared m code q = fin.get-retain_keys m (λ k. not (nat_eq k.code code)) q (λ k e. ap (λ (x : PartKey). not (nat_eq x.code code)) (sym (part_exact q k e)))
 
-said_policy : (o before : Option (List ℕ)) (b : Bool) → over o (cond (not b) before None) ≡ unless_said (option_or (option_map Some o) (cond b (Some None) None)) before
+said_policy : (o before : Option (List ℕ)) (b : Bool) → option_or o (cond (not b) before None) ≡ unwrap_or (option_or (option_map Some o) (cond b (Some None) None)) before
 said_policy None before true = refl
 said_policy None before false = refl
 said_policy (Some bytes) before b = refl
 
-replaced : (m : PartMap) (code : ℕ) (ps : List Part) (q : PartKey) → fin.get (replace_code code m ps) q ≡ unless_said (policy_says_of_part q code ps) (fin.get m q)
+replaced : (m : PartMap) (code : ℕ) (ps : List Part) (q : PartKey) → fin.get (replace_code code m ps) q ≡ unwrap_or (policy_says_of_part q code ps) (fin.get m q)
 replaced m code [] q = refl
 replaced m code (p ∷ ps) q =
-    parts_got (fin.retain_keys m (λ k. not (nat_eq k.code code))) (p ∷ ps) q ∙ ap (over (last_bytes q (p ∷ ps))) (cleared m code q) ∙ said_policy (last_bytes q (p ∷ ps)) (fin.get m q) (nat_eq q.code code)
+    parts_got (fin.retain_keys m (λ k. not (nat_eq k.code code))) (p ∷ ps) q ∙ ap (option_or (last_bytes q (p ∷ ps))) (cleared m code q) ∙ said_policy (last_bytes q (p ∷ ps)) (fin.get m q) (nat_eq q.code code)
 
 sets_said : (m : PartMap) (b : Bool) (code : ℕ) (ps : List Part) (q : PartKey)
-    → fin.get (cond b (replace_code code m ps) (put_parts m ps)) q ≡ unless_said (cond b (policy_says_of_part q code ps) (parts_say_of_part q ps)) (fin.get m q)
+    → fin.get (cond b (replace_code code m ps) (put_parts m ps)) q ≡ unwrap_or (cond b (policy_says_of_part q code ps) (parts_say_of_part q ps)) (fin.get m q)
 sets_said m true code ps q = replaced m code ps q
 sets_said m false code ps q = parts_got m ps q ∙ said_parts (last_bytes q ps) (fin.get m q)
 
-pub said : (g : GuestOf) (c : Content) (q : PartKey) → fin.get (put_content g c).parts q ≡ unless_said (says_of_part q c) (fin.get g.parts q)
+pub said : (g : GuestOf) (c : Content) (q : PartKey) → fin.get (put_content g c).parts q ≡ unwrap_or (says_of_part q c) (fin.get g.parts q)
 said g Nothing q = refl
 said g (Frames es) q = refl
 said g (Sets code ps) q = sets_said g.parts (is_policy (code_number code)) (code_number code) ps q
 
-later_said : (o p : Option (Option (List ℕ))) (before : Option (List ℕ)) → unless_said o (unless_said p before) ≡ unless_said (option_or o p) before
+later_said : (o p : Option (Option (List ℕ))) (before : Option (List ℕ)) → unwrap_or o (unwrap_or p before) ≡ unwrap_or (option_or o p) before
 later_said None p before = refl
 later_said (Some now) p before = refl
 
-folded_parts : (g : GuestOf) (rs : List StreamRecord) (q : PartKey) → fin.get (fold put_record g rs).parts q ≡ unless_said (last_said q rs) (fin.get g.parts q)
+folded_parts : (g : GuestOf) (rs : List StreamRecord) (q : PartKey) → fin.get (fold put_record g rs).parts q ≡ unwrap_or (last_said q rs) (fin.get g.parts q)
 folded_parts g [] q = refl
-folded_parts g (r ∷ rs) q = folded_parts (put_record g r) rs q ∙ ap (unless_said (last_said q rs)) (said g r.content q) ∙ later_said (last_said q rs) (says_of_part q r.content) (fin.get g.parts q)
-
-said_none : (o : Option (Option (List ℕ))) → unless_said o None ≡ unwrap_or o None
-said_none None = refl
-said_none (Some now) = refl
+folded_parts g (r ∷ rs) q = folded_parts (put_record g r) rs q ∙ ap (unwrap_or (last_said q rs)) (said g r.content q) ∙ later_said (last_said q rs) (says_of_part q r.content) (fin.get g.parts q)
 
 pub last_content_is : (kind : Kind) (records : List StreamRecord) (q : PartKey) → fin.get (sent kind records).parts q ≡ unwrap_or (last_said q records) None
 unfolding sent
 last_content_is kind records q =
-    folded_parts (empty_guest kind) records q ∙ ap (unless_said (last_said q records)) (fin.get-empty part_cmp q) ∙ said_none (last_said q records)
+    folded_parts (empty_guest kind) records q ∙ ap (unwrap_or (last_said q records)) (fin.get-empty part_cmp q)

@@ -2,6 +2,5 @@ pub mod Judging
 pub mod Mean
 pub mod Record
 pub mod Seen
-pub mod Grows
 pub mod Spelled
 pub mod Stream

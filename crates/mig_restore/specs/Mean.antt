@@ -1,6 +1,6 @@
 -- What records send: of each frame number its last entry; of each part its last content; of a policy its last body that
 -- isn't empty. They mean the blank form of it.
-use Rattle.std.specs.Prelude.{ℕ, List, [], ◌∷◌, ◌++◌, Bool, Option, Some, None, fold, ◌==◌, ◌&&◌, if◌then◌else◌}
+use Rattle.std.specs.Prelude.{◌≡◌, ℕ, List, [], ◌∷◌, ◌++◌, Bool, Option, Some, None, fold, ◌==◌, ◌&&◌, if◌then◌else◌}
 use Rattle.std.specs.Option.{option_map, option_or}
 use Rattle.std.specs.FinMap as maps
 use Rattle.mig_headers.specs.declared.kind.Kind.{Kind}
@@ -12,7 +12,7 @@ use Rattle.mig_guest.specs.declared.part_key.PartKey.{PartKey}
 use Rattle.mig_guest.specs.Frames.{FrameMap, FrameOf, framed}
 use Rattle.mig_guest.specs.Guests.{GuestOf}
 use Rattle.mig_guest.specs.PartCodes.{code_number}
-use Rattle.mig_guest.specs.Formed.{is_policy}
+use Rattle.mig_guest.specs.Formed.{is_policy, IsFormed, HasNoEmulators}
 use Rattle.mig_guest.specs.Parts.{Part}
 use Rattle.mig_bodies.specs.Shapes.{set_parts}
 use Rattle.mig_pvtables.specs.Blank.{blank}
@@ -105,3 +105,12 @@ says_of_part q (Sets code ps) = if is_policy (code_number code) then policy_says
 abbrev pub last_said : PartKey → List StreamRecord → Option (Option (List ℕ))
 last_said q [] = None
 last_said q (r ∷ rs) = option_or (last_said q rs) (says_of_part q r.content)
+
+-- ---- what reading keeps of a guest, whatever records come
+
+-- reading leads from one guest to another: the kind and the top stay, an HVM guest stays well formed, and no emulator part comes
+pub record Grows (g h : GuestOf) : Type 0 where
+  pub kind : h.kind ≡ g.kind
+  pub top : h.top ≡ g.top
+  pub kept : g.kind ≡ Hvm → IsFormed g → IsFormed h
+  pub plain : HasNoEmulators g.parts → HasNoEmulators h.parts

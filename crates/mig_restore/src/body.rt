@@ -12,10 +12,9 @@ ghost use Rattle.mig_bodies.specs.Shapes.{fault_of_body, parts_of_body, set_part
 ghost use Rattle.mig_records.specs.Faults.{fault_of_length};
 ghost use Rattle.mig_records.specs.Words.{words as words_in};
 ghost use Rattle.mig_pagetypes.specs.FrameWords.{word_pfn};
-ghost use Rattle.mig_restore.specs.Mean.{meant_type, put_entry, put_entries, put_content};
+ghost use Rattle.mig_restore.specs.Mean.{meant_type, put_entry, put_entries, put_content, Grows};
 ghost use Rattle.mig_restore.specs.Judging.{sets_at, plain_at, words_at, type_in_word, entry_at, pages_at, typed_at, body_at};
 ghost use Rattle.mig_restore.specs.Record.Content.{Nothing};
-ghost use Rattle.mig_restore.specs.Grows.{Grows};
 ghost use Rattle.mig_restore.specs.Spelled.{IsGoodWord};
 
 use mig_bodies::{body_fault, read_body};

@@ -8,11 +8,10 @@ ghost use Rattle.mig_headers.specs.declared.kind.Kind.TheVariants.{Hvm};
 ghost use Rattle.mig_guest.specs.Formed.{IsPlainHvm};
 ghost use Rattle.mig_pvtables.specs.Faults.{fault_of_guest};
 ghost use Rattle.mig_pvtables.specs.Whole.{IsWhole};
-ghost use Rattle.mig_restore.specs.Mean.{sent, put_record};
+ghost use Rattle.mig_restore.specs.Mean.{sent, put_record, Grows};
 ghost use Rattle.mig_restore.specs.Record.{StreamRecord, types_of};
 ghost use Rattle.mig_restore.specs.Judging.{Opening, Before, most_records, is_built, opening_of, record_at, next_at};
 ghost use Rattle.mig_restore.specs.Seen.{IsSeen};
-ghost use Rattle.mig_restore.specs.Grows.{Grows};
 ghost use Rattle.mig_restore.specs.Stream.{or_stop, ReadsImage, IsReading, image_at, records_at, opening_at, marker_at, version_at, kind_at};
 
 use crate::answer::{StreamAnswer, answer};

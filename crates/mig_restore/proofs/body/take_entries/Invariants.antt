@@ -1,8 +1,7 @@
 use Rattle.std.proofs.Common.{◌≡◌, take, Ok}
 use Rattle.mig_bytes.specs.Judged.{Gives, each}
-use Rattle.mig_restore.specs.Mean.{put_entries}
+use Rattle.mig_restore.specs.Mean.{put_entries, Grows}
 use Rattle.mig_restore.specs.Judging.{entry_at}
-use Rattle.mig_restore.specs.Grows.{Grows}
 use Rattle.mig_restore.proofs.body.take_entries.Given as goal
 
 abbrev pub invariant-loop-word : goal.invariant-loop-word

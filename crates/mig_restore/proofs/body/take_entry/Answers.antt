@@ -1,9 +1,27 @@
-use Rattle.std.proofs.Common.{Some, None, length, ap, sym, ◌∙◌, rules}
+use Rattle.std.proofs.Common.{◌≡◌, ℕ, List, Option, Some, None, Ok, true, false, length, refl, ap, sym, subst, ◌∙◌, rules}
 use Rattle.std.proofs.lemmas.Option.{none-some, same_Some}
+use Rattle.mig_bytes.specs.Judged.{part, Gives}
+use Rattle.mig_bytes.specs.Judged.Judged.{Passes}
+use Rattle.mig_bytes.proofs.Joins.{done}
+use Rattle.mig_headers.specs.declared.fault.Cause.TheVariants.{Truncated}
+use Rattle.mig_pagetypes.specs.FrameWords.{word_pfn, word_has_data}
+use Rattle.mig_restore.specs.Record.{FrameEntry}
+use Rattle.mig_restore.specs.Judging.{type_in_word, entry_at}
 use Rattle.mig_restore.proofs.Growth.{grows_frame}
 use Rattle.mig_restore.proofs.Meaning.{entry_set}
-use Rattle.mig_restore.proofs.Joins.{no_page, with_page, carries}
+use Rattle.mig_restore.proofs.Batches.{carries}
 use Rattle.mig_restore.proofs.body.take_entry.Goals as goal
+
+module _ {X : Type 0} (R : X → FrameEntry → Type 0) where
+  no_page : (a : Option (List ℕ)) (w : ℕ) (x : X) → word_has_data w ≡ false → R x (record { pfn = word_pfn w; type = type_in_word w; page = None }) → Gives R a a (entry_at w) (Ok x)
+  no_page a w x none r = done R a (entry_at w) x _ (λ i. rw none refl) r
+
+  with_page : (a b : Option (List ℕ)) (w n : ℕ) (page : List ℕ) (u : Unit {0}) (x : X) → n ≡ 4096 → Gives {X = Unit {0}} (λ _ bytes. bytes ≡ page) a b (part Truncated n) (Ok u) → word_has_data w ≡ true
+      → R x (record { pfn = word_pfn w; type = type_in_word w; page = Some page }) → Gives R a b (entry_at w) (Ok x)
+  with_page None b w n page u x size h some r = tt
+  with_page (Some i) b w n page u x size (bytes, rest, is, left, same) some r =
+      let is' = subst (λ m. part Truncated m i ≡ Passes bytes rest) size is in
+      (record { pfn = word_pfn w; type = type_in_word w; page = Some bytes }, rest, rw (some, is') refl, left, subst (λ p. R x (record { pfn = word_pfn w; type = type_in_word w; page = Some p })) (sym same) r)
 
 pub returns-in-Ok-clause-read : goal.returns-in-Ok-clause-read
 returns-in-Ok-clause-read g c =

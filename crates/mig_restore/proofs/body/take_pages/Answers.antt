@@ -3,7 +3,7 @@ use Rattle.mig_bytes.specs.Judged.{Gives, each}
 use Rattle.mig_records.specs.Faults.{fault_of_count, fault_of_words}
 use Rattle.mig_restore.specs.Mean.{put_entries}
 use Rattle.mig_restore.specs.Judging.{fault_of_data, entry_at}
-use Rattle.mig_restore.proofs.Entries.{pages_read}
+use Rattle.mig_restore.proofs.Batches.{pages_read}
 use Rattle.mig_restore.proofs.body.take_pages.Goals as goal
 
 pub returns-clause-read : goal.returns-clause-read
