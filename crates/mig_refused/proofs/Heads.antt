@@ -19,7 +19,7 @@ use Rattle.mig_refused.specs.Refusal.{HeadHas, Breaks}
 use Rattle.mig_refused.specs.Refusal.HeadHas.{too_many, bad_length, out_of_order, wrong_kind, unknown, unsupported, too_long, not_built}
 use Rattle.mig_refused.specs.Refusal.Breaks.{second_end, static_after_end, static_after_content, early_content, second_pv_info, early_p2m_frames, early_pages, late_pages}
 use Rattle.mig_refused.specs.Refusal.{HeadHas as has, Breaks as broken}
-use Rattle.mig_refused.proofs.Least.{Least, RowHas, To, above, named, join}
+use Rattle.mig_refused.proofs.Least.{Least, RowHas, To, ascends, named, join}
 
 of_pv : (kind : Kind) → pv kind ≡ true → kind ≡ Pv
 of_pv Pv is = refl
@@ -197,9 +197,9 @@ module _ (was : Before) (len type : ℕ) where
   pub head_least : Least Has (fault_of_fields was type len)
   head_least = by (type_of_number type) refl
     where
-      ascends : (found : Option RecordType) → above 0 (rows found) ≡ true
-      ascends None = refl
-      ascends (Some this) = refl
+      in_order : (found : Option RecordType) → ascends (rows found) ≡ true
+      in_order None = refl
+      in_order (Some this) = refl
 
       by : (found : Option RecordType) → type_of_number type ≡ found → Least Has (fault_of_fields was type len)
-      by found is = subst (Least Has) (sym (fields_are found is)) (named Has (rows found) (ascends found) (to found is) (from found is))
+      by found is = subst (Least Has) (sym (fields_are found is)) (named Has (rows found) (in_order found) (to found is) (from found is))

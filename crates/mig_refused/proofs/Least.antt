@@ -1,7 +1,8 @@
 -- Tables of causes: the first row whose test holds is the cause that is named.
-use Rattle.std.proofs.Common.{◌≡◌, ◌⊎◌, inl, inr, ℕ, suc, ◌+◌, ◌*◌, ◌<◌, ◌≤◌, List, [], ◌∷◌, ◌++◌, Bool, true, false, nat_le, nat_lt, Option, Some, None, refl, sym, ap, subst, ◌∙◌, arith}
-use Rattle.std.proofs.lemmas.Bool.{leb-true, ltb-true, cases_lt, and_parts, false≢true}
-use Rattle.std.specs.Prelude.{◌&&◌}
+use Rattle.std.proofs.Common.{◌≡◌, ◌⊎◌, inl, inr, ℕ, List, [], ◌∷◌, ◌++◌, Bool, true, false, nat_lt, nat_eq, Option, Some, None, refl, sym, subst}
+use Rattle.std.proofs.lemmas.Bool.{ltb-true, eqb-true, and_parts, or_cases, false≢true}
+use Rattle.std.specs.Prelude.{◌&&◌, ◌||◌}
+use Rattle.std.specs.List.{list_all}
 use Rattle.std.specs.Option.{option_or}
 use Rattle.mig_headers.specs.Rows.{first_fault}
 use Rattle.mig_headers.specs.Texts.{number_of_cause}
@@ -24,12 +25,13 @@ abbrev pub rule_in : Cause → ℕ
 rule_in (OutOfOrder rule) = rule
 rule_in _ = 0
 
-abbrev pub rank : Cause → ℕ
-rank c = number_of_cause c * 8 + rule_in c
+abbrev is_before : Cause → Cause → Bool
+is_before c d = nat_lt (number_of_cause c) (number_of_cause d) || (nat_eq (number_of_cause c) (number_of_cause d) && nat_lt (rule_in c) (rule_in d))
 
-abbrev pub above : ℕ → List (Bool × Cause) → Bool
-above m [] = true
-above m (row ∷ rows) = nat_le m (rank row.1) && (nat_lt (rule_in row.1) 8 && above (suc (rank row.1)) rows)
+-- each row's cause is tried before those of the rows behind it
+abbrev pub ascends : List (Bool × Cause) → Bool
+ascends [] = true
+ascends (row ∷ rows) = list_all (λ other. is_before row.1 other.1) rows && ascends rows
 
 abbrev pub RowHas : List (Bool × Cause) → ℕ → Cause → Type 0
 RowHas [] k c = ⊥
@@ -39,40 +41,17 @@ abbrev pub To : (ℕ → Cause → Type 0) → List (Bool × Cause) → Type 0
 To Has [] = Unit {0}
 To Has (row ∷ rows) = (row.0 ≡ true → Has (rule_in row.1) row.1) × To Has rows
 
-ordered : (n m a b : ℕ) → a < 8 → b < 8 → n * 8 + a < m * 8 + b → (n < m) ⊎ ((n ≡ m) × (a < b))
-ordered n m a b p q less = elim (cases_lt n m) [ inl e ↦ inl e | inr e ↦ inr (omega arith, omega arith) ]
+later : (c : Cause) (rows : List (Bool × Cause)) → list_all (λ other. is_before c other.1) rows ≡ true → (j : ℕ) (d : Cause) → RowHas rows j d → IsTriedBefore (rule_in c) c j d
+later c [] all j d h = absurd h
+later c (row ∷ rows) all j d (inr h) = later c rows (and_parts _ _ all).1 j d h
+later c (row ∷ rows) all j d (inl (_, at, is)) =
+    subst (λ k. IsTriedBefore (rule_in c) c k d) (sym at)
+    (subst (IsTriedBefore (rule_in c) c (rule_in row.1)) (sym is) (elim (or_cases _ _ (and_parts _ _ all).0) [ inl less ↦ inl (ltb-true _ _ less) | inr same ↦ let e = and_parts _ _ same in inr (eqb-true _ _ e.0, ltb-true _ _ e.1) ]))
 
--- what stands in rows above a rank has such a rank
-high : (rows : List (Bool × Cause)) (m : ℕ) → above m rows ≡ true → (k : ℕ) (c : Cause) → RowHas rows k c → (m ≤ rank c) × (rule_in c < 8) × (k ≡ rule_in c)
-high [] m asc k c h = absurd h
-high (row ∷ rows) m asc k c (inl h) =
-    let e = and_parts _ _ asc in
-    let f = and_parts _ _ e.1 in
-    (subst (λ (d : Cause). m ≤ rank d) (sym h.2) (leb-true _ _ e.0), subst (λ (d : Cause). rule_in d < 8) (sym h.2) (ltb-true _ _ f.0), h.1 ∙ ap rule_in (sym h.2))
-high (row ∷ rows) m asc k c (inr h) =
-    let e = and_parts _ _ asc in
-    let f = and_parts _ _ e.1 in
-    let low : m ≤ rank row.1 = leb-true _ _ e.0 in
-    let g = high rows (suc (rank row.1)) f.1 k c h in
-    (omega (arith, low, g.0), g.1, g.2)
-
-later : (row : Bool × Cause) (rows : List (Bool × Cause)) (m : ℕ) → above m (row ∷ rows) ≡ true → (j : ℕ) (d : Cause) → RowHas rows j d → IsTriedBefore (rule_in row.1) row.1 j d
-later row rows m asc j d h =
-    let e = and_parts _ _ asc in
-    let f = and_parts _ _ e.1 in
-    let g = high rows (suc (rank row.1)) f.1 j d h in
-    elim (ordered (number_of_cause row.1) (number_of_cause d) (rule_in row.1) (rule_in d) (ltb-true _ _ f.0) g.1 (omega (arith, g.0))) [
-      | inl x ↦ inl x
-      | inr x ↦ inr (x.0, subst (λ n. rule_in row.1 < n) (sym g.2) x.1)
-    ]
-
-pub rows_least : (rows : List (Bool × Cause)) (m : ℕ) → above m rows ≡ true → Least (RowHas rows) (first_fault rows)
-rows_least [] m asc = record { holds = λ k c h. h }
-rows_least ((true, x) ∷ rows) m asc = record { holds = (rule_in x, inl (refl, refl, refl), λ j d h. elim h [ inl e ↦ inr e.2 | inr e ↦ inl (later (true, x) rows m asc j d e) ]) }
-rows_least ((false, x) ∷ rows) m asc =
-    let e = and_parts _ _ asc in
-    let f = and_parts _ _ e.1 in
-    skip (first_fault rows) (rows_least rows (suc (rank x)) f.1)
+pub rows_least : (rows : List (Bool × Cause)) → ascends rows ≡ true → Least (RowHas rows) (first_fault rows)
+rows_least [] asc = record { holds = λ k c h. h }
+rows_least ((true, x) ∷ rows) asc = record { holds = (rule_in x, inl (refl, refl, refl), λ j d h. elim h [ inl e ↦ inr e.2 | inr e ↦ inl (later x rows (and_parts _ _ asc).0 j d e) ]) }
+rows_least ((false, x) ∷ rows) asc = skip (first_fault rows) (rows_least rows (and_parts _ _ asc).1)
   where
     skip : (g : Option Cause) → Least (RowHas rows) g → Least (RowHas ((false, x) ∷ rows)) g
     skip None p = record { holds = λ k c h. elim h [ inl q ↦ false≢true q.0 | inr q ↦ p.holds k c q ] }
@@ -88,8 +67,8 @@ into Has (row ∷ rows) to k c (inl h) = subst (λ j. Has j c) (sym h.1) (subst 
 into Has (row ∷ rows) to k c (inr h) = into Has rows to.1 k c h
 
 -- rows in the order of their numbers: the first whose test holds is named
-pub named : (Has : ℕ → Cause → Type 0) (rows : List (Bool × Cause)) → above 0 rows ≡ true → To Has rows → ((k : ℕ) (c : Cause) → Has k c → RowHas rows k c) → Least Has (first_fault rows)
-named Has rows asc to from = turned (RowHas rows) Has (first_fault rows) (rows_least rows 0 asc) (into Has rows to) from
+pub named : (Has : ℕ → Cause → Type 0) (rows : List (Bool × Cause)) → ascends rows ≡ true → To Has rows → ((k : ℕ) (c : Cause) → Has k c → RowHas rows k c) → Least Has (first_fault rows)
+named Has rows asc to from = turned (RowHas rows) Has (first_fault rows) (rows_least rows asc) (into Has rows to) from
 
 -- ---- tables one behind the other
 

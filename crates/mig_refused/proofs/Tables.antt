@@ -262,7 +262,7 @@ module _ (body : List ℕ) where
 
   params_least : Least (ParamsHas body) (fault_of_body HvmParam body)
   params_least = subst (λ f. Least (ParamsHas body) (option_or (first_fault length_rows) f)) (first_index count (drop 8 body))
-      (both_least (RowHas length_rows) Large (ParamsHas body) _ _ before to from (rows_least length_rows 0 refl) (placed_least is_large (indices count (drop 8 body)) no_parameter (λ j k v w. refl)))
+      (both_least (RowHas length_rows) Large (ParamsHas body) _ _ before to from (rows_least length_rows refl) (placed_least is_large (indices count (drop 8 body)) no_parameter (λ j k v w. refl)))
     where
       before : (j k : ℕ) (c d : Cause) → RowHas length_rows j c → Large k d → IsTriedBefore j c k d
       before j k c d (inl h) g = inl (omega (arith, ap number_of_cause h.2, ap number_of_cause g.2))

@@ -1,5 +1,5 @@
 -- An input is refused as the format's words say exactly where judging refuses it.
-use Rattle.std.proofs.Common.{◌≡◌, ◌⊎◌, inl, inr, ◌↔◌, ℕ, List, [], ◌++◌, length, Bool, true, false, cond, Option, refl, sym, ap, subst, ◌∙◌, append_assoc}
+use Rattle.std.proofs.Common.{◌≡◌, inl, inr, ℕ, List, [], ◌++◌, length, Bool, true, false, cond, Option, refl, sym, ap, subst, ◌∙◌, append_assoc}
 use Rattle.mig_bytes.specs.Fields.{le32, be32}
 use Rattle.mig_bytes.specs.Walk.Reaches.{here}
 use Rattle.mig_bytes.specs.Judged.{Judged, ◌>>=◌, placed}
@@ -10,14 +10,12 @@ use Rattle.mig_headers.specs.Headers.{fault_of_marker, fault_of_image, fault_of_
 use Rattle.mig_headers.specs.declared.fault.Cause.{Cause}
 use Rattle.mig_headers.specs.declared.fault.Place.{Place}
 use Rattle.mig_headers.specs.declared.fault.Place.TheVariants.{ImageHeader, DomainHeader, Record}
-use Rattle.mig_guest.specs.Guests.{GuestOf}
 use Rattle.mig_restore.specs.Judging.{Opening, before, next_at}
 use Rattle.mig_restore.specs.Record.{StreamRecord, is_ended}
-use Rattle.mig_restore.specs.Spelled.{Spells, Accepted}
+use Rattle.mig_restore.specs.Spelled.{Spells}
 use Rattle.mig_restore.specs.Stream.{Front, one_more, at_start, front_of, image_of, ended_at, records_at, opening_at, image_at, marker_at, version_at, kind_at, IsRefused}
 use Rattle.mig_restore.proofs.Laws.{ends_at, stops_refused, rejected, front_spelled, image_header, behind_marker, behind_version, behind_kind, opened}
 use Rattle.mig_restore.proofs.Parts.{header_passes}
-use Rattle.mig_restore.proofs.Converse as converse
 use Rattle.mig_restore.proofs.Converse.{spelled_reached, marker_goes, image_header_goes, headers_go}
 use Rattle.mig_refused.specs.Refusal.{StreamPart, IsOpen, Behind, Refused}
 use Rattle.mig_refused.specs.Refusal.StreamPart.{Marker, HeaderRest, Domain}
@@ -162,19 +160,3 @@ module _ (input : List ℕ) (place : Place) (c : Cause) (rest : List ℕ) where
   pub is_refused : IsRefused input place c rest → Refused input place c rest
   unfolding image_at
   is_refused h = elim (bind_cases (opening_at input) (λ opening. records_at opening.0 opening.1) (place, c) rest h) [ inl e ↦ opening_fails e | inr a ↦ records_fail a.0 a.1 a.2 a.3 ]
-
-pub refusals_agree : (input : List ℕ) (place : Place) (c : Cause) (rest : List ℕ) → IsRefused input place c rest ↔ Refused input place c rest
-refusals_agree input place c rest = (is_refused input place c rest, refused_is input place c rest)
-
--- ---- the same, with no word of judging
-
-pub one_refusal : (input : List ℕ) (p q : Place) (c d : Cause) (i j : List ℕ) → Refused input p c i → Refused input q d j → (p ≡ q) × (c ≡ d) × (i ≡ j)
-one_refusal input p q c d i j a b =
-    let e = same_faulty (p, c) (q, d) i j (sym (refused_is input p c i a) ∙ refused_is input q d j b) in
-    (ap (λ (x : Place × Cause). x.0) e.0, ap (λ (x : Place × Cause). x.1) e.0, e.1)
-
-pub accepted_or_refused : (input : List ℕ) → ((guest : GuestOf) × (rest : List ℕ) × Accepted input guest rest) ⊎ ((place : Place) × (cause : Cause) × (rest : List ℕ) × Refused input place cause rest)
-accepted_or_refused input = elim (converse.accepted_or_refused input) [ inl a ↦ inl a | inr r ↦ inr (r.0, r.1, r.2, is_refused input r.0 r.1 r.2 r.3) ]
-
-pub never_both : (input : List ℕ) (guest : GuestOf) (rest : List ℕ) (place : Place) (cause : Cause) (more : List ℕ) → Accepted input guest rest → Refused input place cause more → ⊥
-never_both input guest rest place cause more a r = converse.never_both input guest rest place cause more a (refused_is input place cause more r)
