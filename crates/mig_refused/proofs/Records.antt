@@ -51,7 +51,7 @@ use Rattle.mig_refused.specs.Refusal.InPages.{at_front, at_words, at_length, at_
 use Rattle.mig_refused.specs.Refusal.InBody.{in_pages, of_code, optional}
 use Rattle.mig_refused.specs.Refusal.Within.{at_head, in_body, at_padding}
 use Rattle.mig_refused.proofs.Tables.{guest_rows}
-use Rattle.mig_refused.proofs.Single.{trial, one_part, stage, stage_faulty, stage_passes, stage_cases, then_faulty, bind_cases, passes_not, same_faulty, assoc, fine, faultless}
+use Rattle.mig_refused.proofs.Single.{trial, one_part, stage, stage_faulty, stage_passes, stage_cases, then_faulty, bind_cases, passes_not, same_faulty, only_first, assoc, fine, faultless}
 
 -- a part that fails in an input, and the parts before it
 pub record Found (Before_it : List ℕ → StreamPart → Type 0) (i : List ℕ) (c : Cause) (rest : List ℕ) : Type 0 where
@@ -76,13 +76,11 @@ found_behind P Q x i j c rest whole turn f = record {
 -- ---- judgements joined
 
 plain_by : {Y : Type 0} (says : List ℕ → Y) (j : Judged Cause (List ℕ)) (c : Cause) (rest : List ℕ) → (j >>= λ p. Passes (says p.0) p.1) ≡ Faulty c rest → (j >>= λ p. tried None p.1) ≡ Faulty c rest
-plain_by says (Passes x mid) c rest h = passes_not (says x) mid c rest h
-plain_by says (Faulty d mid) c rest h = let e = same_faulty d c mid rest h in rw (e.0, e.1) refl
+plain_by says j c rest h = ap (λ i. i >>= λ p. tried None p.1) (only_first says j c rest h)
 
 -- a part that isn't whole, whatever is tried in it
 by_plain : {Y : Type 0} (k : List ℕ × List ℕ → Judged Cause Y) (j : Judged Cause (List ℕ)) (c : Cause) (rest : List ℕ) → (j >>= λ p. tried None p.1) ≡ Faulty c rest → (j >>= k) ≡ Faulty c rest
-by_plain k (Passes x mid) c rest h = passes_not tt mid c rest h
-by_plain k (Faulty d mid) c rest h = let e = same_faulty d c mid rest h in rw (e.0, e.1) refl
+by_plain k j c rest h = ap (λ i. i >>= k) (only_first (λ _. tt) j c rest h)
 
 pub none_taken : (f : List ℕ → Option Cause) (left : List ℕ) → trial 0 f left ≡ tried (f []) left
 none_taken f left = ap (λ j. j >>= λ p. tried (f p.0) p.1) (part_whole Truncated 0 [] left refl)
@@ -134,10 +132,8 @@ unfolding each
 pages_up [] i c rest h = passes_not [] i c rest h
 pages_up (w ∷ ws) i c rest h = elim (stage_cases (page_size w) (λ _. None) (other_entries w ws) i c rest (sym (each_stage w ws i) ∙ h)) [
   | inl e ↦ record { front = []; left = i; part_is = Page w; whole = refl; behind = (w, next_page w ws, refl); fails = e }
-  | inr a ↦ elim (bind_cases (each entry_at ws a.mid) _ c rest a.after) [
-    | inl q ↦ found_behind (NextPage ws) (NextPage (w ∷ ws)) a.bytes a.mid i c rest a.whole (λ b p to. (to.0, one_page w ws a.bytes b to.0 (faultless (Page w) a.bytes a.size refl) to.1, to.2)) (pages_up ws a.mid c rest q)
-    | inr q ↦ passes_not _ q.1 c rest q.3
-  ]
+  | inr a ↦ found_behind (NextPage ws) (NextPage (w ∷ ws)) a.bytes a.mid i c rest a.whole (λ b p to. (to.0, one_page w ws a.bytes b to.0 (faultless (Page w) a.bytes a.size refl) to.1, to.2))
+      (pages_up ws a.mid c rest (only_first (λ others. entry_of w a.bytes ∷ others) (each entry_at ws a.mid) c rest a.after))
 ]
 
 -- ---- a PAGE_DATA body
@@ -291,11 +287,8 @@ module _ (kind : Kind) (top len : ℕ) where
       | inr a ↦ passes_not (Sets code (parts_of_body code a.bytes)) a.mid c rest a.after
     ]
 
-    pages_of : entries_at kind top len i ≡ Faulty c rest → Fault 1 i c rest
-    pages_of h = found_behind (InPages kind top len) (InBody kind top len 1) [] i i c rest refl in_pages (entries_up kind top len i c rest h)
-
     this_up : (this : RecordType) → type_allows (type_of_number (type_number this)) len ≡ true → (record_row_of this).of_kind Hvm ≡ true → typed_at kind top (Some this) len i ≡ Faulty c rest → Fault (type_number this) i c rest
-    this_up PageData allowed k h = elim (bind_cases (entries_at kind top len i) (λ es. Passes (Frames es.0) es.1) c rest h) [ inl e ↦ pages_of e | inr e ↦ passes_not (Frames e.0) e.1 c rest e.3 ]
+    this_up PageData allowed k h = found_behind (InPages kind top len) (InBody kind top len 1) [] i i c rest refl in_pages (entries_up kind top len i c rest (only_first Frames (entries_at kind top len i) c rest h))
     this_up this allowed k h = coded_up this (code_of_type this) refl allowed k h
 
     body_up : (version : ℕ) (types : List ℕ) (type : ℕ) → is_built kind type ≡ true → IsInOrder version kind types type → type_allows (type_of_number type) len ≡ true → body_at kind top type len i ≡ Faulty c rest → Fault type i c rest

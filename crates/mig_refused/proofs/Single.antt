@@ -74,6 +74,11 @@ pub bind_cases : {C X Y : Type 0} (j : Judged C X) (k : X × List ℕ → Judged
 bind_cases (Passes x mid) k c rest h = inr (x, mid, refl, h)
 bind_cases (Faulty d mid) k c rest h = let e = same_faulty d c mid rest h in inl (rw (e.0, e.1) refl)
 
+-- what is said of a judgement that passes has no fault of its own
+pub only_first : {C X Y : Type 0} (says : X → Y) (j : Judged C X) (c : C) (rest : List ℕ) → (j >>= λ p. Passes (says p.0) p.1) ≡ Faulty c rest → j ≡ Faulty c rest
+only_first says (Passes x mid) c rest h = passes_not (says x) mid c rest h
+only_first says (Faulty d mid) c rest h = let e = same_faulty d c mid rest h in rw (e.0, e.1) refl
+
 -- the causes of so many bytes tried in them alone
 pub assoc : {X : Type 0} (f : List ℕ → Option Cause) (next : List ℕ → List ℕ → Judged Cause X) (j : Judged Cause (List ℕ)) → (j >>= λ p. tried (f p.0) p.1 >>= λ _. next p.0 p.1) ≡ ((j >>= λ p. tried (f p.0) p.1 >>= λ _. Passes p.0 p.1) >>= λ p. next p.0 p.1)
 assoc f next (Faulty d mid) = refl

@@ -41,7 +41,7 @@ use Rattle.mig_refused.specs.Refusal.DomainHas.{bad_page_shift, bad_kind}
 use Rattle.mig_refused.specs.Refusal.GuestHas.{too_many_frames, missing}
 use Rattle.mig_refused.specs.Refusal.WordsHas.{outside, reserved}
 use Rattle.mig_refused.specs.Refusal.ContextHas.{bad_context}
-use Rattle.mig_refused.specs.Refusal.StreamPart.{Marker, HeaderRest, Domain, Head, WholeGuest, PagesFront, PagesWords, PagesLength, Page, ContextBody, ParamsBody, OtherBody, Padding}
+use Rattle.mig_refused.specs.Refusal.StreamPart.{Marker, HeaderRest, Domain, Head, WholeGuest, PagesFront, PagesWords, PagesLength, ContextBody, ParamsBody}
 use Rattle.mig_refused.proofs.Least.{Least, RowHas, rows_least, into, both_least, join, named}
 use Rattle.mig_refused.proofs.Entries.{chain_reached, reached_chain, found_has, has_found}
 use Rattle.mig_refused.proofs.Heads.{head_least}
@@ -291,11 +291,9 @@ fault_in (WholeGuest g) bytes = first_fault (guest_rows g)
 fault_in (PagesFront len) bytes = fault_of_count len (le32 bytes 0)
 fault_in (PagesWords kind top n) bytes = fault_of_words kind top (words n bytes)
 fault_in (PagesLength len ws) bytes = fault_of_data len ws
-fault_in (Page word) bytes = None
 fault_in (ContextBody len) bytes = fault_of_body HvmContext bytes
 fault_in (ParamsBody len) bytes = fault_of_body HvmParam bytes
-fault_in (OtherBody len) bytes = None
-fault_in (Padding len) bytes = None
+fault_in _ bytes = None
 
 pub part_least : (part : StreamPart) (bytes : List ℕ) → Least (Stands part bytes) (fault_in part bytes)
 part_least Marker bytes = marker_least bytes
@@ -306,8 +304,6 @@ part_least (WholeGuest g) bytes = guest_least g
 part_least (PagesFront len) bytes = front_least len (le32 bytes 0)
 part_least (PagesWords kind top n) bytes = words_least kind top (words n bytes)
 part_least (PagesLength len ws) bytes = length_least len ws
-part_least (Page word) bytes = record { holds = λ k c h. h }
 part_least (ContextBody len) bytes = context_least bytes
 part_least (ParamsBody len) bytes = params_least bytes
-part_least (OtherBody len) bytes = record { holds = λ k c h. h }
-part_least (Padding len) bytes = record { holds = λ k c h. h }
+part_least _ bytes = record { holds = λ k c h. h }

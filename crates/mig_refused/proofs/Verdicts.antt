@@ -20,7 +20,7 @@ use Rattle.mig_restore.proofs.Converse.{spelled_reached, marker_goes, image_head
 use Rattle.mig_refused.specs.Refusal.{StreamPart, IsOpen, Behind, Refused}
 use Rattle.mig_refused.specs.Refusal.StreamPart.{Marker, HeaderRest, Domain}
 use Rattle.mig_refused.specs.Refusal.Behind.{at_marker, at_header, at_domain, in_record, at_guest}
-use Rattle.mig_refused.proofs.Single.{trial, one_part, stage, stage_faulty, stage_cases, then_faulty, bind_cases, passes_not, same_faulty, fails_is, is_fails, fine, faultless}
+use Rattle.mig_refused.proofs.Single.{trial, one_part, stage, stage_faulty, stage_cases, then_faulty, bind_cases, passes_not, same_faulty, only_first, fails_is, is_fails, fine, faultless}
 use Rattle.mig_refused.proofs.Records.{down, next_down, guest_down, next_up}
 
 -- ---- what is refused in words is refused
@@ -87,12 +87,9 @@ module _ (o : Opening) (i : List ℕ) (place : Place) (c : Cause) (rest : List �
       → cond b (Passes (image_of o f.records) f.rest) (placed (Record (length f.records)) (next_at o f.records f.rest) >>= λ next. Passes (image_of o f.records) next.1) ≡ Faulty (place, c) rest → Stops o i place c rest
   stops_by f bytes true whole spelled over h = passes_not (image_of o f.records) f.rest (place, c) rest h
   stops_by f bytes false whole spelled going h =
-      elim (bind_cases (placed (Record (length f.records)) (next_at o f.records f.rest)) (λ next. Passes (image_of o f.records) next.1) (place, c) rest h) [
-        | inl e ↦
-            let p = placed_faulty (Record (length f.records)) place (next_at o f.records f.rest) c rest e in
-            record { bytes = bytes; left = f.rest; records = f.records; whole = whole; spelled = spelled; going = going; fails = p.0; place_is = p.1 }
-        | inr e ↦ passes_not (image_of o f.records) e.1 (place, c) rest e.3
-      ]
+      let e = only_first (λ _. image_of o f.records) (placed (Record (length f.records)) (next_at o f.records f.rest)) (place, c) rest h in
+      let p = placed_faulty (Record (length f.records)) place (next_at o f.records f.rest) c rest e in
+      record { bytes = bytes; left = f.rest; records = f.records; whole = whole; spelled = spelled; going = going; fails = p.0; place_is = p.1 }
 
   stops : records_at o i ≡ Faulty (place, c) rest → Stops o i place c rest
   unfolding ended_at front_of
