@@ -89,17 +89,14 @@ otherwise kind None before = before
 otherwise kind (Some e) before = frame_in kind e
 
 chosen : (kind : Kind) (b : Bool) (e : FrameEntry) (later : Option FrameEntry) (before : Option FrameOf) → otherwise kind later (cond b (frame_in kind e) before) ≡ otherwise kind (option_or later (cond b (Some e) None)) before
-chosen kind b e (Some f) before = refl
-chosen kind true e None before = refl
-chosen kind false e None before = refl
+chosen kind b e later before = grind (arith, common_steps)
 
 folded : (kind : Kind) (m : FrameMap) (p : ℕ) (es : List FrameEntry) → fin.get (put_entries kind m es) p ≡ otherwise kind (last_entry p es) (fin.get m p)
 folded kind m p [] = refl
 folded kind m p (e ∷ es) = folded kind (put_entry kind m e) p es ∙ ap (otherwise kind (last_entry p es)) (got kind m p e) ∙ chosen kind (nat_eq e.pfn p) e (last_entry p es) (fin.get m p)
 
 at_last : (kind : Kind) (o : Option FrameEntry) → otherwise kind o None ≡ option_and_then (frame_in kind) o
-at_last kind None = refl
-at_last kind (Some e) = refl
+at_last kind o = grind (arith, common_steps)
 
 put_frames : (g : GuestOf) (c : Content) → (put_content g c).frames ≡ put_entries g.kind g.frames (entries_in c)
 put_frames g Nothing = refl
@@ -128,9 +125,7 @@ pub part_ties : (q k : PartKey) → eq_by_cmp part_cmp q k ≡ same_key k q
 part_ties q k = grind (arith, common_steps)
 
 put_over : (b : Bool) (bytes : List ℕ) (later before : Option (List ℕ)) → option_or later (cond b (Some bytes) before) ≡ option_or (option_or later (cond b (Some bytes) None)) before
-put_over b bytes (Some later) before = refl
-put_over true bytes None before = refl
-put_over false bytes None before = refl
+put_over b bytes later before = grind (arith, common_steps)
 
 pub parts_got : (m : PartMap) (ps : List (PartKey × List ℕ)) (q : PartKey) → fin.get (put_parts m ps) q ≡ option_or (last_bytes q ps) (fin.get m q)
 parts_got m [] q = refl
@@ -140,16 +135,13 @@ parts_got m (p ∷ ps) q =
     ∙ put_over (same_key p.0 q) p.1 (last_bytes q ps) (fin.get m q)
 
 said_parts : (o before : Option (List ℕ)) → option_or o before ≡ unwrap_or (option_map Some o) before
-said_parts None before = refl
-said_parts (Some bytes) before = refl
+said_parts o before = grind (arith, common_steps)
 
 cleared : (m : PartMap) (code : ℕ) (q : PartKey) → fin.get (fin.retain_keys m (λ k. not (nat_eq k.code code))) q ≡ cond (not (nat_eq q.code code)) (fin.get m q) None
 cleared m code q = fin.get-retain_keys m (λ k. not (nat_eq k.code code)) q (λ k e. ap (λ (x : PartKey). not (nat_eq x.code code)) (sym (part_exact q k e)))
 
 said_policy : (o before : Option (List ℕ)) (b : Bool) → option_or o (cond (not b) before None) ≡ unwrap_or (option_or (option_map Some o) (cond b (Some None) None)) before
-said_policy None before true = refl
-said_policy None before false = refl
-said_policy (Some bytes) before b = refl
+said_policy o before b = grind (arith, common_steps)
 
 replaced : (m : PartMap) (code : ℕ) (ps : List Part) (q : PartKey) → fin.get (replace_code code m ps) q ≡ unwrap_or (policy_says_of_part q code ps) (fin.get m q)
 replaced m code [] q = refl
@@ -167,8 +159,7 @@ said g (Frames es) q = refl
 said g (Sets code ps) q = sets_said g.parts (is_policy (code_number code)) (code_number code) ps q
 
 later_said : (o p : Option (Option (List ℕ))) (before : Option (List ℕ)) → unwrap_or o (unwrap_or p before) ≡ unwrap_or (option_or o p) before
-later_said None p before = refl
-later_said (Some now) p before = refl
+later_said o p before = grind (arith, common_steps)
 
 folded_parts : (g : GuestOf) (rs : List StreamRecord) (q : PartKey) → fin.get (fold put_record g rs).parts q ≡ unwrap_or (last_said q rs) (fin.get g.parts q)
 folded_parts g [] q = refl
