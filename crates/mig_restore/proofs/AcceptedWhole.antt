@@ -6,6 +6,7 @@ use Rattle.std.proofs.lemmas.List.{take_at, drop_at}
 use Rattle.std.proofs.lemmas.Option.{none-some, same_Some}
 use Rattle.std.specs.List.{All}
 use Rattle.std.specs.FinMap as fin
+use Rattle.std.proofs.lemmas.Grind.{common_steps}
 use Rattle.mig_bytes.specs.Bytes.{AreBytes}
 use Rattle.mig_bytes.specs.Fields.{le32}
 use Rattle.mig_headers.specs.RecordTypes.{record_row_of, type_number, type_of_number}
@@ -67,8 +68,7 @@ data_kept Notab = refl
 data_kept _ = refl
 
 page_there : (b : Bool) (bytes : List ℕ) (page : Option (List ℕ)) → IsPage b bytes page → is_some page ≡ b
-page_there true bytes page h = ap is_some h.1
-page_there false bytes page h = ap is_some h.1
+page_there b bytes page h = grind (arith, common_steps, h)
 
 page_whole : (b : Bool) (bytes : List ℕ) (page : Option (List ℕ)) → IsPage b bytes page → (l : List ℕ) → page ≡ Some l → length l ≡ 4096
 page_whole true bytes page h l is = ap length (sym (same_Some bytes l (sym h.1 ∙ is))) ∙ h.0

@@ -1,9 +1,10 @@
 -- The front of a stream that the reader has behind it.
-use Rattle.std.proofs.Common.{◌≡◌, ℕ, List, [], ◌∷◌, ◌++◌, length, Bool, true, false, nat_eq, Option, Some, None, Result, Ok, Err, refl, sym, ap, subst, ◌∙◌}
+use Rattle.std.proofs.Common.{arith, ◌≡◌, ℕ, List, [], ◌∷◌, ◌++◌, length, Bool, true, false, nat_eq, Option, Some, None, Result, Ok, Err, refl, sym, ap, subst, ◌∙◌}
 use Rattle.std.specs.Prelude.{⊤, ◌||◌}
 use Rattle.std.specs.List.{list_any}
 use Rattle.std.proofs.lemmas.List.{map-append, length-map}
 use Rattle.std.proofs.lemmas.List.Folds.{list_any-append}
+use Rattle.std.proofs.lemmas.Grind.{common_steps}
 use Rattle.mig_bytes.specs.Walk.{Reaches}
 use Rattle.mig_bytes.specs.Walk.Reaches.{here, next}
 use Rattle.mig_bytes.specs.declared.part.Stop.{Stop}
@@ -24,14 +25,10 @@ use Rattle.mig_restore.specs.Stream.{Front, one_more, at_start, image_of, ended_
 use Rattle.mig_restore.proofs.Laws.{ends_at, goes_on, stops_ended, stops_refused, accepted, rejected}
 use Rattle.mig_restore.proofs.Meaning.{one_more_record, meant_as_sent}
 
-or_false : (b : Bool) → (false || (b || false)) ≡ b
-or_false true = refl
-or_false false = refl
-
 pub ended_more : (records : List StreamRecord) (r : StreamRecord) → is_ended records ≡ false → is_ended (records ++ r ∷ []) ≡ nat_eq r.type 0
 ended_more records r going =
     ap (list_any (λ t. nat_eq t 0)) (map-append (λ (x : StreamRecord). x.type) records (r ∷ [])) ∙ list_any-append (λ t. nat_eq t 0) (types_of records) (r.type ∷ [])
-    ∙ ap (λ b. b || (nat_eq r.type 0 || false)) going ∙ or_false (nat_eq r.type 0)
+    ∙ ap (λ b. b || (nat_eq r.type 0 || false)) going ∙ grind (arith, common_steps)
 
 -- ---- what the reader knows between two records
 

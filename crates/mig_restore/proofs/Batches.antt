@@ -1,9 +1,9 @@
 -- The body of a PAGE_DATA record: what judging lets pass is spelled as the format says, and what is spelled so passes.
 use Rattle.std.proofs.Common.{◌≡◌, ℕ, ◌+◌, ◌*◌, List, [], ◌∷◌, ◌++◌, length, Bool, true, false, cond, nat_eq, not, Option, Some, None, refl, sym, ap, subst, ◌∙◌, arith, append_assoc, length-append, Result, Ok, Err}
-use Rattle.std.specs.List.{count_by, filter}
+use Rattle.std.specs.List.{count_by}
 use Rattle.std.proofs.lemmas.Bool.{eqb-true, eqb-false, eq-eqb, ne_eqb, le-ltb, not-false}
-use Rattle.std.proofs.lemmas.List.Sums.{length-filter}
 use Rattle.std.proofs.lemmas.List.FromFn.{length-map-range_with_len}
+use Rattle.std.proofs.lemmas.Grind.{common_steps}
 use Rattle.mig_bytes.specs.Fields.{le32, le64}
 use Rattle.mig_bytes.specs.Judged.{◌>>=◌, part, tried, each, Judged, Matches, Gives}
 use Rattle.mig_bytes.specs.Judged.Judged.{Passes}
@@ -77,11 +77,7 @@ module _ (g new : GuestOf) (e : Option (List ℕ)) where
 -- ---- what the words say of its length
 
 counted : (w : ℕ) (ws : List ℕ) → count_by word_has_data (w ∷ ws) ≡ cond (word_has_data w) 1 0 + count_by word_has_data ws
-counted w ws = sym (length-filter word_has_data (w ∷ ws)) ∙ split (word_has_data w) (filter word_has_data ws) ∙ ap (λ n. cond (word_has_data w) 1 0 + n) (length-filter word_has_data ws)
-  where
-    split : (b : Bool) (f : List ℕ) → length (cond b (w ∷ f) f) ≡ cond b 1 0 + length f
-    split true f = omega arith
-    split false f = omega arith
+counted w ws = grind (arith, common_steps)
 
 -- ---- judging passes
 
@@ -183,8 +179,7 @@ page_goes true bytes rest page (size, is) = then_passes _ _ bytes rest _ (part_w
 page_goes false bytes rest page (size, is) = rw (size, is) refl
 
 page_len : (b : Bool) (bytes : List ℕ) (page : Option (List ℕ)) → IsPage b bytes page → length bytes ≡ 4096 * cond b 1 0
-page_len true bytes page (size, is) = size
-page_len false bytes page (size, is) = ap length size
+page_len b bytes page h = grind (arith, common_steps, h)
 
 same_entry : (w : ℕ) (bytes : List ℕ) (e : FrameEntry) → IsEntry w bytes e → record { pfn = word_pfn w; type = type_in_word w; page = e.page } ≡ e
 same_entry w bytes e is = ap (λ n. record { pfn = n; type = type_in_word w; page = e.page }) (sym is.pfn) ∙ ap (λ k. record { pfn = e.pfn; type = k; page = e.page }) (sym is.type)

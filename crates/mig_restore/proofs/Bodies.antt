@@ -1,8 +1,7 @@
 -- The body of a record, type by type: what judging lets pass is spelled as the format says; what is spelled so passes,
 -- and its length is one that its type allows.
-use Rattle.std.proofs.Common.{◌≡◌, ℕ, ◌≤◌, ◌^◌, List, [], ◌++◌, length, length-append, Bool, true, false, nat_le, Option, Some, None, refl, sym, ap, subst, ◌∙◌, arith}
-use Rattle.std.proofs.lemmas.Bool.{eqb-true, eq-eqb}
-use Rattle.std.proofs.lemmas.Grind.{common_steps}
+use Rattle.std.proofs.Common.{◌≡◌, ℕ, ◌≤◌, ◌^◌, List, [], ◌++◌, length, length-append, Bool, true, false, Option, Some, None, refl, sym, ap, subst, ◌∙◌, arith}
+use Rattle.std.proofs.lemmas.Bool.{eqb-true, eq-eqb, le-leb}
 use Rattle.std.proofs.lemmas.Option.{slice_get_past}
 use Rattle.mig_bytes.specs.Judged.{Judged, part}
 use Rattle.mig_bytes.specs.Judged.Judged.{Passes}
@@ -162,15 +161,12 @@ body_goes kind top _ len _ rest _ has_static_end size = refl
 
 -- ---- lengths
 
-least : (n len : ℕ) → n ≤ len → nat_le n len ≡ true
-least n len h = grind (arith, common_steps)
-
 pub no_type : (type : ℕ) → 2 ^ 31 ≤ type → type_of_number type ≡ None
 no_type type above = slice_get_past record_types type (omega arith)
 
 pub length_fits : (kind : Kind) (top : ℕ) (type len : ℕ) (body : List ℕ) (c : Content) → HasContent kind top type body c → length body ≡ len → type_allows (type_of_number type) len ≡ true
 length_fits kind top _ len body _ (has_optional type _ above) size = ap (λ o. type_allows o len) (no_type type above)
 length_fits kind top _ len _ _ has_ends size = eq-eqb len 0 (sym size)
-length_fits kind top _ len body _ (has_pages _ es b) size = least 8 len (omega (arith, ap length b.whole, length-append b.front (b.words_bytes ++ b.pages_bytes), b.front_len, size))
+length_fits kind top _ len body _ (has_pages _ es b) size = le-leb 8 len (omega (arith, ap length b.whole, length-append b.front (b.words_bytes ++ b.pages_bytes), b.front_len, size))
 length_fits kind top _ len body _ (has_sets this code _ ps is allowed says) size = ap (λ o. type_allows o len) (numbers_are_inverse.type_of this) ∙ ap (record_row_of this).allows (sym size) ∙ allowed
 length_fits kind top _ len _ _ has_static_end size = eq-eqb len 0 (sym size)

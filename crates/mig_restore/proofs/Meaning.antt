@@ -9,7 +9,7 @@ use Rattle.std.specs.FinMap as fin
 use Rattle.std.proofs.lemmas.Grind.{common_steps}
 use Rattle.std.proofs.lemmas.List.Sums.{fold-append}
 use Rattle.mig_headers.specs.declared.kind.Kind.{Kind}
-use Rattle.mig_headers.specs.declared.kind.Kind.TheVariants.{Pv, Hvm}
+use Rattle.mig_headers.specs.declared.kind.Kind.TheVariants.{Hvm}
 use Rattle.mig_pagetypes.specs.declared.page_type.PageType.{PageType}
 use Rattle.mig_pagetypes.specs.declared.page_type.PageType.TheVariants.{Xtab}
 use Rattle.mig_guest.specs.declared.part_key.PartKey.{PartKey}
@@ -47,9 +47,7 @@ one_more_record kind rs r = fold-append put_record (empty_guest kind) rs (r ∷ 
 -- ---- a record keeps the kind
 
 pub put_kind : (g : GuestOf) (c : Content) → (put_content g c).kind ≡ g.kind
-put_kind g Nothing = refl
-put_kind g (Frames es) = refl
-put_kind g (Sets code ps) = refl
+put_kind g c = grind (arith, common_steps)
 
 folded_kind : (g : GuestOf) (rs : List StreamRecord) → (fold put_record g rs).kind ≡ g.kind
 folded_kind g [] = refl
@@ -60,8 +58,7 @@ unfolding sent
 sent_kind kind rs = folded_kind (empty_guest kind) rs
 
 blank_kind : (k : Kind) (g : GuestOf) → (blank_of k g).kind ≡ g.kind
-blank_kind Pv g = refl
-blank_kind Hvm g = refl
+blank_kind k g = grind (arith, common_steps)
 
 pub mean_kind : (kind : Kind) (rs : List StreamRecord) → (mean kind rs).kind ≡ kind
 unfolding mean
@@ -99,9 +96,7 @@ at_last : (kind : Kind) (o : Option FrameEntry) → otherwise kind o None ≡ op
 at_last kind o = grind (arith, common_steps)
 
 put_frames : (g : GuestOf) (c : Content) → (put_content g c).frames ≡ put_entries g.kind g.frames (entries_in c)
-put_frames g Nothing = refl
-put_frames g (Frames es) = refl
-put_frames g (Sets code ps) = refl
+put_frames g c = grind (arith, common_steps)
 
 folded_frames : (g : GuestOf) (rs : List StreamRecord) → (fold put_record g rs).frames ≡ put_entries g.kind g.frames (entries_of rs)
 folded_frames g [] = refl

@@ -1,5 +1,7 @@
 -- A record behind its head and behind its body, and the whole guest behind the last record.
 use Rattle.std.proofs.Common.{◌≡◌, ℕ, List, [], ◌∷◌, ◌++◌, false, nat_eq, Option, Some, None, length, refl, ap, ◌∙◌}
+use Rattle.std.proofs.Common.{arith}
+use Rattle.std.proofs.lemmas.Grind.{common_steps}
 use Rattle.mig_bytes.specs.Bytes.{padding_len}
 use Rattle.mig_bytes.specs.Fields.{le32}
 use Rattle.mig_bytes.specs.Judged.{Judged, ◌>>=◌, part, tried}
@@ -54,15 +56,11 @@ module _ (o : Opening) (records : List StreamRecord) (r : StreamRecord) where
   -- the last, of a whole guest, and of one with a fault
   pub last_fine : r.type ≡ 0 → fault_of_guest (sent o.kind (records ++ r ∷ [])) ≡ None → (i : List ℕ) → behind_record o records (r, i) ≡ Passes r i
   unfolding behind_record
-  last_fine zero fine i =
-      let none : fault_at_end r.type (sent o.kind (records ++ r ∷ [])) ≡ None = ap (λ t. fault_at_end t (sent o.kind (records ++ r ∷ []))) zero ∙ fine in
-      ap (λ (f : Option Cause). tried f i >>= λ _. Passes r i) none
+  last_fine zero fine i = grind (arith, common_steps, zero, fine)
 
   pub last_faulty : (c : Cause) → r.type ≡ 0 → fault_of_guest (sent o.kind (records ++ r ∷ [])) ≡ Some c → (i : List ℕ) → behind_record o records (r, i) ≡ Faulty c i
   unfolding behind_record
-  last_faulty c zero fault i =
-      let some : fault_at_end r.type (sent o.kind (records ++ r ∷ [])) ≡ Some c = ap (λ t. fault_at_end t (sent o.kind (records ++ r ∷ []))) zero ∙ fault in
-      ap (λ (f : Option Cause). tried f i >>= λ _. Passes r i) some
+  last_faulty c zero fault i = grind (arith, common_steps, zero, fault)
 
 -- ---- a part without fault, and what follows it
 
