@@ -2,7 +2,7 @@
 use Rattle.std.proofs.Common.{◌≡◌, ℕ, List, [], ◌∷◌, ◌++◌, Bool, true, false, cond, not, nat_eq, Option, Some, None, refl, sym, ap, ◌∙◌, arith}
 use Rattle.std.specs.Prelude.{option_and_then, unwrap_or}
 use Rattle.std.specs.List.{fold}
-use Rattle.std.specs.Option.{option_map, option_or}
+use Rattle.std.specs.Option.{option_or}
 use Rattle.std.specs.Ordering.{nat_cmp, eq_by_cmp}
 use Rattle.std.specs.Cmp.{nat_cmp_total}
 use Rattle.std.specs.FinMap as fin
@@ -11,22 +11,18 @@ use Rattle.std.proofs.lemmas.List.Sums.{fold-append}
 use Rattle.mig_headers.specs.declared.kind.Kind.{Kind}
 use Rattle.mig_headers.specs.declared.kind.Kind.TheVariants.{Hvm}
 use Rattle.mig_pagetypes.specs.declared.page_type.PageType.{PageType}
-use Rattle.mig_pagetypes.specs.declared.page_type.PageType.TheVariants.{Xtab}
 use Rattle.mig_guest.specs.declared.part_key.PartKey.{PartKey}
 use Rattle.mig_guest.specs.Frames.{FrameMap, FrameOf, framed}
 use Rattle.mig_guest.specs.Guests.{GuestOf}
 use Rattle.mig_guest.specs.Order.{part_cmp}
-use Rattle.mig_guest.specs.PartCodes.{code_number}
 use Rattle.mig_guest.specs.Parts.{Part, PartMap, put_part, put_parts, replace_code}
-use Rattle.mig_guest.specs.Formed.{is_policy}
 use Rattle.mig_guest.proofs.PartOrder.{part_total, part_exact}
 use Rattle.mig_pagetypes.specs.FrameWords.{word_pfn}
 use Rattle.mig_restore.specs.Judging.{type_in_word}
 use Rattle.mig_restore.specs.Record.{FrameEntry, StreamRecord, Content}
-use Rattle.mig_restore.specs.Record.Content.{Nothing, Frames, Sets}
-use Rattle.mig_pvtables.specs.Blank.{blank, blank_of}
+use Rattle.mig_pvtables.specs.Blank.{blank}
 use Rattle.mig_pvtables.proofs.HvmGuests.{hvm_blank}
-use Rattle.mig_restore.specs.Mean.{meant_type, put_entry, put_entries, put_content, put_record, empty_guest, sent, mean, entries_in, entries_of, last_entry, some_frame, frame_in, same_key, last_bytes, parts_say_of_part, policy_says_of_part, says_of_part, last_said}
+use Rattle.mig_restore.specs.Mean.{meant_type, put_entry, put_entries, put_content, put_record, empty_guest, sent, mean, entries_in, entries_of, last_entry, frame_in, same_key, last_bytes, parts_say_of_part, policy_says_of_part, says_of_part, last_said}
 
 pub one_more_entry : (g h k : GuestOf) (es : List FrameEntry) (e : FrameEntry) → h ≡ record g { frames = put_entries g.kind g.frames es } → k ≡ record h { frames = put_entry h.kind h.frames e }
     → k ≡ record g { frames = put_entries g.kind g.frames (es ++ e ∷ []) }
@@ -46,23 +42,17 @@ one_more_record kind rs r = fold-append put_record (empty_guest kind) rs (r ∷ 
 
 -- ---- a record keeps the kind
 
-pub put_kind : (g : GuestOf) (c : Content) → (put_content g c).kind ≡ g.kind
-put_kind g c = grind (arith, common_steps)
-
 folded_kind : (g : GuestOf) (rs : List StreamRecord) → (fold put_record g rs).kind ≡ g.kind
 folded_kind g [] = refl
-folded_kind g (r ∷ rs) = folded_kind (put_record g r) rs ∙ put_kind g r.content
+folded_kind g (r ∷ rs) = grind (arith, common_steps, folded_kind (put_record g r) rs)
 
 pub sent_kind : (kind : Kind) (rs : List StreamRecord) → (sent kind rs).kind ≡ kind
 unfolding sent
 sent_kind kind rs = folded_kind (empty_guest kind) rs
 
-blank_kind : (k : Kind) (g : GuestOf) → (blank_of k g).kind ≡ g.kind
-blank_kind k g = grind (arith, common_steps)
-
 pub mean_kind : (kind : Kind) (rs : List StreamRecord) → (mean kind rs).kind ≡ kind
 unfolding mean
-mean_kind kind rs = blank_kind (sent kind rs).kind (sent kind rs) ∙ sent_kind kind rs
+mean_kind kind rs = grind (arith, common_steps, sent_kind kind rs)
 
 -- what is sent of an HVM guest is meant
 pub meant_as_sent : (g : GuestOf) (kind : Kind) (rs : List StreamRecord) → g ≡ sent kind rs → g.kind ≡ Hvm → g ≡ mean kind rs
@@ -74,35 +64,20 @@ meant_as_sent g kind rs is hvm = sym (hvm_blank g hvm) ∙ ap blank is
 pub ties : (p q : ℕ) → eq_by_cmp nat_cmp p q ≡ nat_eq q p
 ties p q = grind (arith, common_steps)
 
-pub framed_get : (m : FrameMap) (p pfn : ℕ) (t : PageType) (page : Option (List ℕ)) → fin.get (framed m pfn t page) p ≡ cond (nat_eq pfn p) (some_frame t page) (fin.get m p)
-framed_get m p pfn Xtab page = fin.get-remove nat_cmp_total m pfn p ∙ ap (λ b. cond b None (fin.get m p)) (ties p pfn)
-framed_get m p pfn t page = fin.get-insert nat_cmp_total m pfn (record { type = t; page = page }) p ∙ ap (λ b. cond b (Some (record { type = t; page = page })) (fin.get m p)) (ties p pfn)
-
 pub got : (kind : Kind) (m : FrameMap) (p : ℕ) (e : FrameEntry) → fin.get (put_entry kind m e) p ≡ cond (nat_eq e.pfn p) (frame_in kind e) (fin.get m p)
-got kind m p e = framed_get m p e.pfn (meant_type kind e.type) e.page
+got kind m p e = grind (arith, common_steps, ties p e.pfn, fin.get-remove nat_cmp_total m e.pfn p, fin.get-insert nat_cmp_total m e.pfn (record { type = meant_type kind e.type; page = e.page }) p)
 
 abbrev otherwise : Kind → Option FrameEntry → Option FrameOf → Option FrameOf
 otherwise kind None before = before
 otherwise kind (Some e) before = frame_in kind e
 
-chosen : (kind : Kind) (b : Bool) (e : FrameEntry) (later : Option FrameEntry) (before : Option FrameOf) → otherwise kind later (cond b (frame_in kind e) before) ≡ otherwise kind (option_or later (cond b (Some e) None)) before
-chosen kind b e later before = grind (arith, common_steps)
-
 folded : (kind : Kind) (m : FrameMap) (p : ℕ) (es : List FrameEntry) → fin.get (put_entries kind m es) p ≡ otherwise kind (last_entry p es) (fin.get m p)
 folded kind m p [] = refl
-folded kind m p (e ∷ es) = folded kind (put_entry kind m e) p es ∙ ap (otherwise kind (last_entry p es)) (got kind m p e) ∙ chosen kind (nat_eq e.pfn p) e (last_entry p es) (fin.get m p)
-
-at_last : (kind : Kind) (o : Option FrameEntry) → otherwise kind o None ≡ option_and_then (frame_in kind) o
-at_last kind o = grind (arith, common_steps)
-
-put_frames : (g : GuestOf) (c : Content) → (put_content g c).frames ≡ put_entries g.kind g.frames (entries_in c)
-put_frames g c = grind (arith, common_steps)
+folded kind m p (e ∷ es) = grind (arith, common_steps, folded kind (put_entry kind m e) p es, got kind m p e)
 
 folded_frames : (g : GuestOf) (rs : List StreamRecord) → (fold put_record g rs).frames ≡ put_entries g.kind g.frames (entries_of rs)
 folded_frames g [] = refl
-folded_frames g (r ∷ rs) =
-    folded_frames (put_record g r) rs ∙ ap (λ k. put_entries k (put_record g r).frames (entries_of rs)) (put_kind g r.content)
-    ∙ ap (λ m. put_entries g.kind m (entries_of rs)) (put_frames g r.content) ∙ sym (fold-append (put_entry g.kind) g.frames (entries_in r.content) (entries_of rs))
+folded_frames g (r ∷ rs) = grind (arith, common_steps, folded_frames (put_record g r) rs, fold-append (put_entry g.kind) g.frames (entries_in r.content) (entries_of rs))
 
 -- the frames are those of all entries
 pub sent_frames : (kind : Kind) (records : List StreamRecord) → (sent kind records).frames ≡ put_entries kind fin.empty (entries_of records)
@@ -111,54 +86,35 @@ sent_frames kind records = folded_frames (empty_guest kind) records
 
 pub last_entry_is : (kind : Kind) (records : List StreamRecord) (pfn : ℕ) → fin.get (sent kind records).frames pfn ≡ option_and_then (frame_in kind) (last_entry pfn (entries_of records))
 last_entry_is kind records pfn =
-    ap (λ m. fin.get m pfn) (sent_frames kind records) ∙ folded kind fin.empty pfn (entries_of records)
-    ∙ ap (otherwise kind (last_entry pfn (entries_of records))) (fin.get-empty nat_cmp pfn) ∙ at_last kind (last_entry pfn (entries_of records))
+    ap (λ m. fin.get m pfn) (sent_frames kind records) ∙ grind (arith, common_steps, folded kind fin.empty pfn (entries_of records), fin.get-empty {X = FrameOf} nat_cmp pfn)
 
 -- ---- of each part the last content decides
 
 pub part_ties : (q k : PartKey) → eq_by_cmp part_cmp q k ≡ same_key k q
 part_ties q k = grind (arith, common_steps)
 
-put_over : (b : Bool) (bytes : List ℕ) (later before : Option (List ℕ)) → option_or later (cond b (Some bytes) before) ≡ option_or (option_or later (cond b (Some bytes) None)) before
-put_over b bytes later before = grind (arith, common_steps)
-
 pub parts_got : (m : PartMap) (ps : List (PartKey × List ℕ)) (q : PartKey) → fin.get (put_parts m ps) q ≡ option_or (last_bytes q ps) (fin.get m q)
 parts_got m [] q = refl
-parts_got m (p ∷ ps) q =
-    parts_got (put_part m p) ps q
-    ∙ ap (option_or (last_bytes q ps)) (fin.get-insert part_total m p.0 p.1 q ∙ ap (λ b. cond b (Some p.1) (fin.get m q)) (part_ties q p.0))
-    ∙ put_over (same_key p.0 q) p.1 (last_bytes q ps) (fin.get m q)
-
-said_parts : (o before : Option (List ℕ)) → option_or o before ≡ unwrap_or (option_map Some o) before
-said_parts o before = grind (arith, common_steps)
+parts_got m (p ∷ ps) q = grind (arith, common_steps, parts_got (put_part m p) ps q, fin.get-insert part_total m p.0 p.1 q, part_ties q p.0)
 
 cleared : (m : PartMap) (code : ℕ) (q : PartKey) → fin.get (fin.retain_keys m (λ k. not (nat_eq k.code code))) q ≡ cond (not (nat_eq q.code code)) (fin.get m q) None
 cleared m code q = fin.get-retain_keys m (λ k. not (nat_eq k.code code)) q (λ k e. ap (λ (x : PartKey). not (nat_eq x.code code)) (sym (part_exact q k e)))
 
-said_policy : (o before : Option (List ℕ)) (b : Bool) → option_or o (cond (not b) before None) ≡ unwrap_or (option_or (option_map Some o) (cond b (Some None) None)) before
-said_policy o before b = grind (arith, common_steps)
-
 replaced : (m : PartMap) (code : ℕ) (ps : List Part) (q : PartKey) → fin.get (replace_code code m ps) q ≡ unwrap_or (policy_says_of_part q code ps) (fin.get m q)
 replaced m code [] q = refl
-replaced m code (p ∷ ps) q =
-    parts_got (fin.retain_keys m (λ k. not (nat_eq k.code code))) (p ∷ ps) q ∙ ap (option_or (last_bytes q (p ∷ ps))) (cleared m code q) ∙ said_policy (last_bytes q (p ∷ ps)) (fin.get m q) (nat_eq q.code code)
+replaced m code (p ∷ ps) q = grind (arith, common_steps, parts_got (fin.retain_keys m (λ k. not (nat_eq k.code code))) (p ∷ ps) q, cleared m code q)
 
 sets_said : (m : PartMap) (b : Bool) (code : ℕ) (ps : List Part) (q : PartKey)
     → fin.get (cond b (replace_code code m ps) (put_parts m ps)) q ≡ unwrap_or (cond b (policy_says_of_part q code ps) (parts_say_of_part q ps)) (fin.get m q)
 sets_said m true code ps q = replaced m code ps q
-sets_said m false code ps q = parts_got m ps q ∙ said_parts (last_bytes q ps) (fin.get m q)
+sets_said m false code ps q = grind (arith, common_steps, parts_got m ps q)
 
 pub said : (g : GuestOf) (c : Content) (q : PartKey) → fin.get (put_content g c).parts q ≡ unwrap_or (says_of_part q c) (fin.get g.parts q)
-said g Nothing q = refl
-said g (Frames es) q = refl
-said g (Sets code ps) q = sets_said g.parts (is_policy (code_number code)) (code_number code) ps q
-
-later_said : (o p : Option (Option (List ℕ))) (before : Option (List ℕ)) → unwrap_or o (unwrap_or p before) ≡ unwrap_or (option_or o p) before
-later_said o p before = grind (arith, common_steps)
+said g c q = grind (arith, common_steps, sets_said g.parts)
 
 folded_parts : (g : GuestOf) (rs : List StreamRecord) (q : PartKey) → fin.get (fold put_record g rs).parts q ≡ unwrap_or (last_said q rs) (fin.get g.parts q)
 folded_parts g [] q = refl
-folded_parts g (r ∷ rs) q = folded_parts (put_record g r) rs q ∙ ap (unwrap_or (last_said q rs)) (said g r.content q) ∙ later_said (last_said q rs) (says_of_part q r.content) (fin.get g.parts q)
+folded_parts g (r ∷ rs) q = grind (arith, common_steps, folded_parts (put_record g r) rs q, said g r.content q)
 
 pub last_content_is : (kind : Kind) (records : List StreamRecord) (q : PartKey) → fin.get (sent kind records).parts q ≡ unwrap_or (last_said q records) None
 unfolding sent
