@@ -71,8 +71,7 @@ page_there : (b : Bool) (bytes : List ℕ) (page : Option (List ℕ)) → IsPage
 page_there b bytes page h = grind (arith, common_steps, h)
 
 page_whole : (b : Bool) (bytes : List ℕ) (page : Option (List ℕ)) → IsPage b bytes page → (l : List ℕ) → page ≡ Some l → length l ≡ 4096
-page_whole true bytes page h l is = ap length (sym (same_Some bytes l (sym h.1 ∙ is))) ∙ h.0
-page_whole false bytes page h l is = absurd (none-some l (sym h.1 ∙ is))
+page_whole b bytes page h l is = grind (arith, common_steps, h, is)
 
 entry_grows : (g : GuestOf) (top w : ℕ) (bytes : List ℕ) (e : FrameEntry) → g.kind ≡ Hvm → IsGoodWord Hvm top w → IsEntry w bytes e → Grows g (record g { frames = put_entry g.kind g.frames e })
 entry_grows g top w bytes e hvm good is =

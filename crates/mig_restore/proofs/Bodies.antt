@@ -1,7 +1,7 @@
 -- The body of a record, type by type: what judging lets pass is spelled as the format says; what is spelled so passes,
 -- and its length is one that its type allows.
 use Rattle.std.proofs.Common.{◌≡◌, ℕ, ◌≤◌, ◌^◌, List, [], ◌++◌, length, length-append, Bool, true, false, Option, Some, None, refl, sym, ap, subst, ◌∙◌, arith}
-use Rattle.std.proofs.lemmas.Bool.{eqb-true, eq-eqb, le-leb}
+use Rattle.std.proofs.lemmas.Bool.{eqb-true, eq-eqb, le-leb, false≢true}
 use Rattle.std.proofs.lemmas.Option.{slice_get_past}
 use Rattle.mig_bytes.specs.Judged.{Judged, part}
 use Rattle.mig_bytes.specs.Judged.Judged.{Passes}
@@ -103,10 +103,7 @@ hvm_says top this len i c rest s k allowed h = by (code_of_type this) refl
 
 -- no type of a PV stream is read so far
 pub no_pv : (this : RecordType) → is_built Pv (type_number this) ≡ true → (record_row_of this).supported ≡ true → ⊥
-no_pv this built s = let is : type_of_number (type_number this) ≡ Some this = numbers_are_inverse.type_of this in apart (rw (is, s) at built)
-  where
-    apart : false ≡ true → ⊥
-    apart e = cc
+no_pv this built s = let is : type_of_number (type_number this) ≡ Some this = numbers_are_inverse.type_of this in false≢true (rw (is, s) at built)
 
 -- so far only the image of an HVM guest has an END
 pub ends_hvm : (kind : Kind) (type : ℕ) → type ≡ 0 → is_built kind type ≡ true → kind ≡ Hvm

@@ -1,5 +1,6 @@
 -- What is spelled as the format says is accepted.
 use Rattle.std.proofs.Common.{◌≡◌, ℕ, ◌≤◌, ◌<◌, ◌^◌, List, [], ◌∷◌, ◌++◌, length, Bool, true, false, nat_eq, nat_le, not, Option, Some, None, Result, Ok, Err, refl, sym, ap, subst, ◌∙◌, arith, append_assoc, take, drop, take-append-drop, length-take-le, length-drop, ◌⊎◌, inl, inr}
+use Rattle.std.proofs.lemmas.Grind.{common_steps}
 use Rattle.std.proofs.lemmas.Bool.{eqb-true, le-ltb, lt-leb}
 use Rattle.std.proofs.lemmas.List.{length-map}
 use Rattle.mig_bytes.specs.Bytes.{padding_len}
@@ -25,7 +26,6 @@ use Rattle.mig_order.specs.Order.{IsInOrder, fault_of_type}
 use Rattle.mig_order.proofs.OrderLaw.{faultless_is_in_order}
 use Rattle.mig_pvtables.specs.Faults.{fault_of_guest}
 use Rattle.mig_pvtables.proofs.HvmGuests.{hvm_faultless}
-use Rattle.mig_headers.specs.declared.kind.Kind.TheVariants.{Hvm}
 use Rattle.mig_restore.proofs.Meaning.{sent_kind}
 use Rattle.mig_restore.specs.Record.{StreamRecord, is_ended}
 use Rattle.mig_restore.specs.Judging.{Opening, Before, opening_of, before, is_built, fault_of_built, fault_of_fields, fault_of_head, head_at, fault_at_end, body_at, record_at, next_at}
@@ -53,15 +53,8 @@ fine_fields b type len built small in_order allowed few =
     (neither_some (fault_of_length type len) _ (no_fault (length_rows type len) (ap not allowed, tt))
     (no_fault ((nat_le (2 ^ 28) (length b.types), TooManyRecords) ∷ []) (lt-leb (2 ^ 28) (length b.types) few, tt)))))
 
-fine_at_end : (type : ℕ) (g : GuestOf) → (type ≡ 0 → g.kind ≡ Hvm) → (type ≡ 0 → IsComplete g) → fault_at_end type g ≡ None
-fine_at_end type g hvm complete = by (nat_eq type 0) refl
-  where
-    whole : type ≡ 0 → fault_of_guest g ≡ None
-    whole is = let c = complete is in hvm_faultless g (hvm is) c.context c.few
-
-    by : (b : Bool) → nat_eq type 0 ≡ b → fault_at_end type g ≡ None
-    by true is = rw is (whole (eqb-true type 0 is))
-    by false is = rw is refl
+fine_at_end : (type : ℕ) (g : GuestOf) → (type ≡ 0 → fault_of_guest g ≡ None) → fault_at_end type g ≡ None
+fine_at_end type g whole = grind (arith, common_steps, whole)
 
 record_goes : (o : Opening) (records : List StreamRecord) (r : StreamRecord) (text rest : List ℕ) → Follows o records r text → record_at (before o records) (text ++ rest) ≡ Passes r rest
 unfolding behind_head behind_body
@@ -83,9 +76,10 @@ record_goes o records r text rest f =
 next_goes : (o : Opening) (records : List StreamRecord) (r : StreamRecord) (text rest : List ℕ) → Follows o records r text → next_at o records (text ++ rest) ≡ Passes r rest
 unfolding behind_record
 next_goes o records r text rest f =
+    let whole = λ (zero : r.type ≡ 0). let c = f.complete zero in hvm_faultless (sent o.kind (records ++ r ∷ [])) (sent_kind o.kind (records ++ r ∷ []) ∙ ends_hvm o.kind r.type zero f.built) c.context c.few in
     asks o records (text ++ rest)
     ∙ then_passes (record_at (before o records) (text ++ rest)) (behind_record o records) r rest _ (record_goes o records r text rest f)
-    (tried_none (fault_at_end r.type (sent o.kind (records ++ r ∷ []))) rest _ (fine_at_end r.type (sent o.kind (records ++ r ∷ [])) (λ zero. sent_kind o.kind (records ++ r ∷ []) ∙ ends_hvm o.kind r.type zero f.built) f.complete))
+    (tried_none (fault_at_end r.type (sent o.kind (records ++ r ∷ []))) rest _ (fine_at_end r.type (sent o.kind (records ++ r ∷ [])) whole))
 
 -- ---- a front, and the whole image
 
