@@ -1,6 +1,7 @@
 -- What is wrong with an entry of an HVM context, and the entries before it.
-use Rattle.std.proofs.Common.{◌≡◌, ◌⊎◌, inl, inr, ℕ, ◌+◌, ◌≤◌, List, length, is_some, Option, Some, None, refl, sym, subst, ◌∙◌, arith}
+use Rattle.std.proofs.Common.{◌≡◌, ◌⊎◌, inl, inr, ℕ, ◌+◌, ◌≤◌, List, length, is_some, Some, None, refl, sym, subst, ◌∙◌, arith}
 use Rattle.std.proofs.lemmas.Bool.{cases_eq, cases_lt, eqb-false, ne_eqb}
+use Rattle.std.proofs.lemmas.Option.{none-some, same_Some}
 use Rattle.std.proofs.lemmas.Grind.{common_steps}
 use Rattle.mig_bytes.specs.Fields.{le16, le32}
 use Rattle.mig_bytes.specs.Walk.Reaches.{here, next as goes}
@@ -11,12 +12,6 @@ use Rattle.mig_headers.specs.declared.fault.ContextFault.TheVariants.{NoHeader, 
 use Rattle.mig_refused.specs.Refusal.{EntriesTo, EntryHas}
 use Rattle.mig_refused.specs.Refusal.EntriesTo.{start, next}
 use Rattle.mig_refused.specs.Refusal.EntryHas.{nothing_at_all, nothing_more, short_front, other_first, header_size, short_data}
-
-same_some : {X : Type 0} (x y : X) → ◌≡◌ {A = Option X} (Some x) (Some y) → x ≡ y
-same_some x y h = cc
-
-none_some : {X : Type 0} (x : X) → ◌≡◌ {A = Option X} None (Some x) → ⊥
-none_some x h = cc
 
 module _ (bytes : List ℕ) (o : ℕ) where
   -- an entry without fault
@@ -65,12 +60,12 @@ module _ (bytes : List ℕ) (o : ℕ) where
 
   pub found_has : (fault : ContextFault) → fault_at bytes o ≡ Some fault → EntryHas bytes o fault
   found_has fault h = elim judged [
-    | inl fine ↦ absurd (none_some fault (sym (fine_entry fine) ∙ h))
-    | inr has ↦ subst (EntryHas bytes o) (same_some has.0 fault (sym (has_found has.0 has.1) ∙ h)) has.1
+    | inl fine ↦ absurd (none-some fault (sym (fine_entry fine) ∙ h))
+    | inr has ↦ subst (EntryHas bytes o) (same_Some has.0 fault (sym (has_found has.0 has.1) ∙ h)) has.1
   ]
 
   entry_fine : fault_at bytes o ≡ None → FineEntry
-  entry_fine h = elim judged [ inl fine ↦ fine | inr has ↦ absurd (none_some has.0 (sym h ∙ has_found has.0 has.1)) ]
+  entry_fine h = elim judged [ inl fine ↦ fine | inr has ↦ absurd (none-some has.0 (sym h ∙ has_found has.0 has.1)) ]
 
 module _ (bytes : List ℕ) where
   pub chain_reached : (o : ℕ) → EntriesTo bytes o → ChainTo bytes o

@@ -3,6 +3,8 @@ use Rattle.std.proofs.Common.{◌≡◌, ◌⊎◌, inl, inr, ℕ, ◌^◌, List
 use Rattle.std.proofs.lemmas.Bool.{leb-true, leb-false, ltb-true, eqb-true, le-leb, lt-leb, lt-ltb, false≢true, not-true, and_parts, and_from, not_from_false, or_left, or_right, or_cases, not-false}
 use Rattle.std.specs.Prelude.{◌&&◌}
 use Rattle.std.specs.Option.{option_or}
+use Rattle.std.proofs.lemmas.Option.{same_Some}
+use Rattle.std.proofs.lemmas.Grind.{common_steps}
 use Rattle.mig_headers.specs.Rows.{first_fault}
 use Rattle.mig_headers.specs.RecordTypes.{record_row_of, pv, type_number, type_of_number, is_optional}
 use Rattle.mig_headers.proofs.RecordNumbers.{numbers_are_inverse}
@@ -29,8 +31,7 @@ of_pv Hvm is = absurd (false≢true is)
 
 same_number : (this other : RecordType) → type_number this ≡ type_number other → this ≡ other
 same_number this other is =
-    let e : Some this ≡ Some other = sym (numbers_are_inverse.type_of this) ∙ ap type_of_number is ∙ numbers_are_inverse.type_of other in
-    grind arith
+    same_Some this other (sym (numbers_are_inverse.type_of this) ∙ ap type_of_number is ∙ numbers_are_inverse.type_of other)
 
 same_type : (this other : RecordType) → is_of (other ∷ []) this ≡ true → this ≡ other
 same_type this other is = elim (or_cases (nat_eq (type_number this) (type_number other)) false is) [
@@ -86,11 +87,7 @@ module _ (was : Before) (len type : ℕ) where
   rows found = (not (not (pv o.kind && is_supported_type found)), NotBuilt type) ∷ (nat_lt (2 ^ 27) len, BodyTooLong len) ∷ (own_rows found ++ back_rows found)
 
   own_fault : (found : Option RecordType) → type_of_number type ≡ found → fault_of_type o.version o.kind types type ≡ first_fault (own_rows found)
-  own_fault None none = by (is_optional type) refl
-    where
-      by : (b : Bool) → is_optional type ≡ b → fault_of_type o.version o.kind types type ≡ first_fault (own_rows None)
-      by true is = rw is refl
-      by false is = rw (is, none) refl
+  own_fault None none = grind (arith, common_steps, none)
   own_fault (Some this) is =
       let number = numbers_are_inverse.number_of type this is in
       let asked : is_optional type ≡ false = ap is_optional (sym number) ∙ mandatory this in

@@ -40,7 +40,7 @@ use Rattle.mig_restore.specs.Mean.{sent}
 use Rattle.mig_restore.specs.Record.{StreamRecord, FrameEntry, Content}
 use Rattle.mig_restore.specs.Record.Content.{Nothing, Frames, Sets}
 use Rattle.mig_restore.proofs.Parts.{begins, behind_head, behind_body, asks, behind_record, header_passes}
-use Rattle.mig_restore.proofs.Batches.{behind_words}
+use Rattle.mig_restore.proofs.Batches.{behind_words, behind_good, words_stage}
 use Rattle.mig_restore.proofs.Bodies.{body_says, body_goes, coded_is, ends_hvm, optional_at, type_at, no_pv}
 use Rattle.mig_restore.proofs.Meaning.{sent_kind}
 use Rattle.mig_restore.proofs.Laws.{fields_fine}
@@ -148,24 +148,14 @@ module _ (kind : Kind) (top len : ℕ) where
   abbrev words_fault : ℕ → List ℕ → Option Cause
   words_fault n b = fault_of_words kind top (words n b)
 
-  abbrev behind_good : List ℕ → List ℕ → Judged Cause (List FrameEntry)
-  behind_good ws r = tried (fault_of_data len ws) r >>= λ _. each entry_at ws r
-
   abbrev behind_bytes : ℕ → List ℕ → List ℕ → Judged Cause (List FrameEntry)
-  behind_bytes n b r = behind_good (words n b) r
-
-  words_stage : (n : ℕ) (i : List ℕ) → (words_at n i >>= behind_words kind top len) ≡ stage (8 * n) (words_fault n) (behind_bytes n) i
-  words_stage n i = words_by (part Truncated (8 * n) i)
-    where
-      words_by : (j : Judged Cause (List ℕ)) → ((j >>= λ b. Passes (words n b.0) b.1) >>= behind_words kind top len) ≡ (j >>= λ p. tried (words_fault n p.0) p.1 >>= λ _. behind_bytes n p.0 p.1)
-      words_by (Passes x mid) = refl
-      words_by (Faulty c mid) = refl
+  behind_bytes n b r = behind_good len (words n b) r
 
   -- behind the count, and behind the words
   front_goes : (front mid : List ℕ) → IsFaultless (PagesFront len) front → entries_at kind top len (front ++ mid) ≡ stage (8 * le32 front 0) (words_fault (le32 front 0)) (behind_bytes (le32 front 0)) mid
-  front_goes front mid f = stage_passes 8 count_fault behind_count front mid f.size (fine (PagesFront len) front f) ∙ words_stage (le32 front 0) mid
+  front_goes front mid f = stage_passes 8 count_fault behind_count front mid f.size (fine (PagesFront len) front f) ∙ words_stage kind top len (le32 front 0) mid
 
-  words_go : (front ws mid : List ℕ) → IsFaultless (PagesFront len) front → IsFaultless (PagesWords kind top (le32 front 0)) ws → entries_at kind top len (front ++ (ws ++ mid)) ≡ behind_good (words (le32 front 0) ws) mid
+  words_go : (front ws mid : List ℕ) → IsFaultless (PagesFront len) front → IsFaultless (PagesWords kind top (le32 front 0)) ws → entries_at kind top len (front ++ (ws ++ mid)) ≡ behind_good len (words (le32 front 0) ws) mid
   words_go front ws mid f w =
       front_goes front (ws ++ mid) f ∙ stage_passes (8 * le32 front 0) (words_fault (le32 front 0)) (behind_bytes (le32 front 0)) ws mid w.size (fine (PagesWords kind top (le32 front 0)) ws w)
 
@@ -188,7 +178,7 @@ module _ (kind : Kind) (top len : ℕ) where
     | inr a ↦
         let n = le32 a.bytes 0 in
         let front = faultless (PagesFront len) a.bytes a.size a.none in
-        elim (stage_cases (8 * n) (words_fault n) (behind_bytes n) a.mid c rest (sym (words_stage n a.mid) ∙ a.after)) [
+        elim (stage_cases (8 * n) (words_fault n) (behind_bytes n) a.mid c rest (sym (words_stage kind top len n a.mid) ∙ a.after)) [
           | inl e ↦ record { front = a.bytes; left = a.mid; part_is = PagesWords kind top n; whole = a.whole; behind = at_words a.bytes front; fails = e }
           | inr b ↦
               let ws = words n b.bytes in

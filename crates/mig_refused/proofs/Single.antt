@@ -15,10 +15,7 @@ use Rattle.mig_refused.proofs.Tables.{fault_in, part_least}
 -- ---- what is named is what is computed
 
 pub both_before : (j k : ℕ) (c d : Cause) → IsTriedBefore j d k c → IsTriedBefore k c j d → ⊥
-both_before j k c d (inl a) (inl b) = omega (arith, a, b)
-both_before j k c d (inl a) (inr b) = omega (arith, a, b.0)
-both_before j k c d (inr a) (inl b) = omega (arith, a.0, b)
-both_before j k c d (inr a) (inr b) = omega (arith, a.1, b.1)
+both_before j k c d a b = grind (arith, a, b)
 
 pub named_is : (Has : ℕ → Cause → Type 0) (f : Option Cause) (c : Cause) → Least Has f → IsFirstCause Has c → f ≡ Some c
 named_is Has None c p n = absurd (p.holds n.0 c n.1)
@@ -56,10 +53,7 @@ abbrev pub stage : {X : Type 0} → ℕ → (List ℕ → Option Cause) → (Lis
 stage n f next input = part Truncated n input >>= λ p. tried (f p.0) p.1 >>= λ _. next p.0 p.1
 
 pub passes_not : {C X Y : Type 0} (x : X) (i : List ℕ) (c : C) (rest : List ℕ) → ◌≡◌ {A = Judged C X} (Passes x i) (Faulty c rest) → Y
-passes_not {C} {X} x i c rest h = absurd (wrong h)
-  where
-    wrong : ◌≡◌ {A = Judged C X} (Passes x i) (Faulty c rest) → ⊥
-    wrong q = cc
+passes_not x i c rest h = absurd (cc)
 
 pub same_faulty : {C X : Type 0} (c d : C) (i j : List ℕ) → ◌≡◌ {A = Judged C X} (Faulty c i) (Faulty d j) → (c ≡ d) × (i ≡ j)
 same_faulty c d i j h = (cc, cc)

@@ -34,7 +34,7 @@ use Rattle.mig_bodies.specs.declared.layout.Layout.{Layout}
 use Rattle.mig_bodies.specs.Layouts.{layout, fault_of_entries}
 use Rattle.mig_bodies.specs.Shapes.{fault_of_body, fault_of_scan}
 use Rattle.mig_restore.specs.Judging.{fault_of_data, fault_of_head}
-use Rattle.mig_refused.specs.Refusal.{MarkerHas, HeaderHas, DomainHas, GuestHas, FrontHas, WordsHas, LengthHas, ContextHas, ParamsHas, IsTriedBefore, StreamPart, Stands, FrontHas as fronts, LengthHas as lengths, ParamsHas as of_params}
+use Rattle.mig_refused.specs.Refusal.{EntriesTo, EntryHas, MarkerHas, HeaderHas, DomainHas, GuestHas, FrontHas, WordsHas, LengthHas, ContextHas, ParamsHas, IsTriedBefore, StreamPart, Stands, FrontHas as fronts, LengthHas as lengths, ParamsHas as of_params}
 use Rattle.mig_refused.specs.Refusal.MarkerHas.{not_stream}
 use Rattle.mig_refused.specs.Refusal.HeaderHas.{big_endian, bad_version, bad_id}
 use Rattle.mig_refused.specs.Refusal.DomainHas.{bad_page_shift, bad_kind}
@@ -183,34 +183,28 @@ module _ (kind : Kind) (top : ℕ) (ws : List ℕ) where
 -- ---- contexts
 
 module _ (body : List ℕ) where
-  scanned : (f : ContextFault) → scan body ≡ Err f → Scanned body (Err f)
+  -- a fault in words is the one that the scan answers
+  scan_finds : (o : ℕ) (fault : ContextFault) → EntriesTo body o → EntryHas body o fault → Err fault ≡ scan body
+  scan_finds o fault chain h = scan_is body (Err fault) (o, chain_reached body o chain, has_found body o fault h)
+
+  scanned : (fault : ContextFault) → scan body ≡ Err fault → Scanned body (Err fault)
   unfolding scan
-  scanned f h =
+  scanned fault h =
       let o = walk_end (after_entry body) (length body) 0 in
       (o, walk_end_reached (after_entry body) (length body) 0 0 here, found o (fault_at body o) h)
     where
-      found : (o : ℕ) (x : Option ContextFault) → scan_at o x ≡ Err f → x ≡ Some f
-      found o None h = let no : ◌≡◌ {A = Result ℕ ContextFault} (Ok o) (Err f) = h in cc
-      found o (Some g) h = let e : ◌≡◌ {A = Result ℕ ContextFault} (Err g) (Err f) = h in cc
-
-  err_same : (f g : ContextFault) → ◌≡◌ {A = Result ℕ ContextFault} (Err f) (Err g) → f ≡ g
-  err_same f g h = cc
-
-  ok_err : (o : ℕ) (g : ContextFault) → ◌≡◌ {A = Result ℕ ContextFault} (Err g) (Ok o) → ⊥
-  ok_err o g h = cc
+      found : (o : ℕ) (x : Option ContextFault) → scan_at o x ≡ Err fault → x ≡ Some fault
+      found o x h = grind (arith, common_steps, h)
 
   context_by : (r : Result ℕ ContextFault) → scan body ≡ r → Least (ContextHas body) (fault_of_scan r)
   context_by (Ok o) is = record { holds = none }
     where
       none : (k : ℕ) (c : Cause) → ContextHas body k c → ⊥
-      none _ _ (bad_context p g chain h) = ok_err o g (scan_is body (Err g) (p, chain_reached body p chain, has_found body p g h) ∙ is)
-  context_by (Err f) is = let s = scanned f is in record { holds = (0, bad_context s.0 f (reached_chain body s.0 s.1) (found_has body s.0 f s.2), others) }
+      none _ _ (bad_context p other chain h) = let no : ◌≡◌ {A = Result ℕ ContextFault} (Err other) (Ok o) = scan_finds p other chain h ∙ is in cc
+  context_by (Err fault) is = let s = scanned fault is in record { holds = (0, bad_context s.0 fault (reached_chain body s.0 s.1) (found_has body s.0 fault s.2), others) }
     where
-      others : (k : ℕ) (c : Cause) → ContextHas body k c → IsTriedBefore 0 (BadContext f) k c ⊎ (c ≡ BadContext f)
-      others _ _ (bad_context p g chain h) = inr (ap BadContext (err_same g f (scan_is body (Err g) (p, chain_reached body p chain, has_found body p g h) ∙ is)))
-
-  context_least : Least (ContextHas body) (fault_of_scan (scan body))
-  context_least = context_by (scan body) refl
+      others : (k : ℕ) (c : Cause) → ContextHas body k c → IsTriedBefore 0 (BadContext fault) k c ⊎ (c ≡ BadContext fault)
+      others _ _ (bad_context p other chain h) = let same : ◌≡◌ {A = Result ℕ ContextFault} (Err other) (Err fault) = scan_finds p other chain h ∙ is in inr (cc)
 
 -- ---- parameters
 
@@ -304,6 +298,6 @@ part_least (WholeGuest g) bytes = guest_least g
 part_least (PagesFront len) bytes = front_least len (le32 bytes 0)
 part_least (PagesWords kind top n) bytes = words_least kind top (words n bytes)
 part_least (PagesLength len ws) bytes = length_least len ws
-part_least (ContextBody len) bytes = context_least bytes
+part_least (ContextBody len) bytes = context_by bytes (scan bytes) refl
 part_least (ParamsBody len) bytes = params_least bytes
 part_least _ bytes = record { holds = λ k c h. h }

@@ -6,7 +6,7 @@ use Rattle.std.proofs.lemmas.List.FromFn.{length-map-range_with_len}
 use Rattle.std.proofs.lemmas.Grind.{common_steps}
 use Rattle.mig_bytes.specs.Fields.{le32, le64}
 use Rattle.mig_bytes.specs.Judged.{◌>>=◌, part, tried, each, Judged, Matches, Gives}
-use Rattle.mig_bytes.specs.Judged.Judged.{Passes}
+use Rattle.mig_bytes.specs.Judged.Judged.{Passes, Faulty}
 use Rattle.mig_bytes.proofs.Joins.{part_whole, both_pass, part_passes, tried_passes, same_passes, then_passes, tried_none}
 use Rattle.mig_headers.specs.declared.fault.Cause.TheVariants.{BadLength, Truncated}
 use Rattle.mig_headers.specs.declared.kind.Kind.{Kind}
@@ -34,6 +34,17 @@ carries w = elim (type_of (word_type w)) as (λ o. some_has_data o ≡ type_has_
 -- behind the words of a batch
 abbrev pub behind_words : Kind → ℕ → ℕ → List ℕ × List ℕ → Judged Cause (List FrameEntry)
 behind_words kind top len ws = tried (fault_of_words kind top ws.0) ws.1 >>= λ _. tried (fault_of_data len ws.0) ws.1 >>= λ _. each entry_at ws.0 ws.1
+
+-- behind their bytes
+abbrev pub behind_good : ℕ → List ℕ → List ℕ → Judged Cause (List FrameEntry)
+behind_good len ws rest = tried (fault_of_data len ws) rest >>= λ _. each entry_at ws rest
+
+pub words_stage : (kind : Kind) (top len n : ℕ) (i : List ℕ) → (words_at n i >>= behind_words kind top len) ≡ (part Truncated (8 * n) i >>= λ p. tried (fault_of_words kind top (words n p.0)) p.1 >>= λ _. behind_good len (words n p.0) p.1)
+words_stage kind top len n i = by (part Truncated (8 * n) i)
+  where
+    by : (j : Judged Cause (List ℕ)) → ((j >>= λ b. Passes (words n b.0) b.1) >>= behind_words kind top len) ≡ (j >>= λ p. tried (fault_of_words kind top (words n p.0)) p.1 >>= λ _. behind_good len (words n p.0) p.1)
+    by (Passes x mid) = refl
+    by (Faulty c mid) = refl
 
 abbrev behind_front : ℕ → Kind → ℕ → List ℕ × List ℕ → Judged Cause (List FrameEntry)
 behind_front len kind top front = tried (fault_of_count len (le32 front.0 0)) front.1 >>= λ _. words_at (le32 front.0 0) front.1 >>= behind_words kind top len
@@ -123,9 +134,8 @@ each_entries (w ∷ ws) i es rest h =
       entries = (p.bytes, q.bytes, a.x, c.x, refl, sym f.0, entry_is w p.bytes b.x a.x p.page_is e.0, q.entries);
     }
 
-regroup_pages : (i f m w m2 d t rest : List ℕ) → i ≡ f ++ m → m ≡ w ++ m2 → m2 ≡ d → d ≡ t ++ rest → i ≡ (f ++ (w ++ t)) ++ rest
-regroup_pages i f m w m2 d t rest e1 e2 e3 e4 =
-    e1 ∙ ap (λ l. f ++ l) (e2 ∙ ap (λ l. w ++ l) (e3 ∙ e4) ∙ sym (append_assoc w t rest)) ∙ sym (append_assoc f (w ++ t) rest)
+regroup_pages : (i f m w d t rest : List ℕ) → i ≡ f ++ m → m ≡ w ++ d → d ≡ t ++ rest → i ≡ (f ++ (w ++ t)) ++ rest
+regroup_pages i f m w d t rest e1 e2 e3 = e1 ∙ ap (λ l. f ++ l) (e2 ∙ ap (λ l. w ++ l) e3 ∙ sym (append_assoc w t rest)) ∙ sym (append_assoc f (w ++ t) rest)
 
 body_len : (n k : ℕ) (f w t : List ℕ) → length f ≡ 8 → length w ≡ 8 * n → length t ≡ 4096 * k → length (f ++ (w ++ t)) ≡ 8 + 8 * n + 4096 * k
 body_len n k f w t e1 e2 e3 = omega (arith, length-append f (w ++ t), length-append w t)
@@ -143,32 +153,27 @@ batch_passes kind top len i es rest h =
     let front = a.bytes in
     let n = le32 front 0 in
     let fc = rows_fine (count_rows len n) a.fine in
-    let d = both_pass (words_at n a.mid) (behind_words kind top len) es rest a.after in
-    let w = both_pass (part Truncated (8 * n) a.mid) _ d.x d.mid d.first in
-    let q = part_passes Truncated (8 * n) a.mid w.x w.mid w.first in
-    let e = same_passes _ _ _ _ w.second in
-    let ws_is : words n w.x ≡ d.x = e.0 in
-    let f = both_pass (tried (fault_of_words kind top d.x) d.mid) (λ _. tried (fault_of_data len d.x) d.mid >>= λ _. each entry_at d.x d.mid) es rest d.second in
-    let good = none_is_wrong kind top (words n w.x) (ap (fault_of_words kind top) ws_is ∙ (tried_passes _ d.mid f.mid f.x f.first).0) in
-    let g = both_pass (tried (fault_of_data len d.x) d.mid) (λ _. each entry_at d.x d.mid) es rest f.second in
-    let fd = rows_fine ((not (nat_eq len (data_len_of d.x)), BadLength len) ∷ []) (tried_passes _ d.mid g.mid g.x g.first).0 in
-    let t = each_entries d.x d.mid es rest g.second in
-    let count : length d.x ≡ n = ap length (sym ws_is) ∙ length-map-range_with_len (λ k. le64 w.x (8 * k)) 0 n in
-    let full : len ≡ 8 + 8 * n + 4096 * count_by word_has_data d.x = eqb-true len _ (not-false _ fd.0) ∙ ap (λ m. 8 + 8 * m + 4096 * count_by word_has_data d.x) count in
+    let w = taken (8 * n) (λ b. fault_of_words kind top (words n b)) (λ b m. behind_good len (words n b) m) a.mid es rest (sym (words_stage kind top len n a.mid) ∙ a.after) in
+    let ws = words n w.bytes in
+    let g = both_pass (tried (fault_of_data len ws) w.mid) (λ _. each entry_at ws w.mid) es rest w.after in
+    let fd = rows_fine ((not (nat_eq len (data_len_of ws)), BadLength len) ∷ []) (tried_passes _ w.mid g.mid g.x g.first).0 in
+    let t = each_entries ws w.mid es rest g.second in
+    let count : length ws ≡ n = length-map-range_with_len (λ k. le64 w.bytes (8 * k)) 0 n in
+    let full : len ≡ 8 + 8 * n + 4096 * count_by word_has_data ws = eqb-true len _ (not-false _ fd.0) ∙ ap (λ m. 8 + 8 * m + 4096 * count_by word_has_data ws) count in
     record {
-      body = front ++ (w.x ++ t.bytes);
-      whole = regroup_pages i front a.mid w.x w.mid d.mid t.bytes rest a.whole q.0 e.1 t.whole;
-      size = body_len n (count_by word_has_data d.x) front w.x t.bytes a.size q.1 t.size ∙ sym full;
+      body = front ++ (w.bytes ++ t.bytes);
+      whole = regroup_pages i front a.mid w.bytes w.mid t.bytes rest a.whole w.whole t.whole;
+      size = body_len n (count_by word_has_data ws) front w.bytes t.bytes a.size w.size t.size ∙ sym full;
       batch = record {
         front = front;
-        words_bytes = w.x;
+        words_bytes = w.bytes;
         pages_bytes = t.bytes;
-        whole = refl {a = front ++ (w.x ++ t.bytes)};
+        whole = refl {a = front ++ (w.bytes ++ t.bytes)};
         front_len = a.size;
         some = let other = eqb-false n 0 fc.1.0 in grind (arith, other);
-        words_len = q.1;
-        good = good;
-        entries = subst (λ l. AreEntries l t.bytes es) (sym ws_is) t.entries;
+        words_len = w.size;
+        good = none_is_wrong kind top ws w.fine;
+        entries = t.entries;
       };
     }
 
