@@ -14,31 +14,22 @@ use Rattle.mig_refused.proofs.Tables.{fault_in, part_least}
 
 -- ---- what is named is what is computed
 
-pub both_before : (j k : ℕ) (c d : Cause) → IsTriedBefore j d k c → IsTriedBefore k c j d → ⊥
-both_before j k c d a b = grind (arith, a, b)
-
 pub named_is : (Has : ℕ → Cause → Type 0) (f : Option Cause) (c : Cause) → Least Has f → IsFirstCause Has c → f ≡ Some c
 named_is Has None c p n = absurd (p.holds n.0 c n.1)
 named_is Has (Some d) c p n = elim (p.holds.2 n.0 c n.1) [
   | inr e ↦ ap Some (sym e)
-  | inl before ↦ elim (n.2 p.holds.0 d p.holds.1) [ inr e ↦ ap Some e | inl after ↦ absurd (both_before p.holds.0 n.0 c d before after) ]
+  | inl before ↦ elim (n.2 p.holds.0 d p.holds.1) [ inr e ↦ ap Some e | inl after ↦ absurd (grind (arith, before, after)) ]
 ]
 
 pub none_is : (Has : ℕ → Cause → Type 0) (f : Option Cause) → Least Has f → ((k : ℕ) (c : Cause) → Has k c → ⊥) → f ≡ None
 none_is Has None p never = refl
 none_is Has (Some d) p never = absurd (never p.holds.0 d p.holds.1)
 
-is_none : (Has : ℕ → Cause → Type 0) (f : Option Cause) → Least Has f → f ≡ None → (k : ℕ) (c : Cause) → Has k c → ⊥
-is_none Has f p e = (subst (Least Has) e p).holds
-
-is_named : (Has : ℕ → Cause → Type 0) (f : Option Cause) (c : Cause) → Least Has f → f ≡ Some c → IsFirstCause Has c
-is_named Has f c p e = (subst (Least Has) e p).holds
-
 pub fine : (p : StreamPart) (bytes : List ℕ) → IsFaultless p bytes → fault_in p bytes ≡ None
 fine p bytes is = none_is (Stands p bytes) (fault_in p bytes) (part_least p bytes) is.none
 
 pub faultless : (p : StreamPart) (bytes : List ℕ) → length bytes ≡ size_of p → fault_in p bytes ≡ None → IsFaultless p bytes
-faultless p bytes size e = record { size = size; none = is_none (Stands p bytes) (fault_in p bytes) (part_least p bytes) e }
+faultless p bytes size e = record { size = size; none = (subst (Least (Stands p bytes)) e (part_least p bytes)).holds }
 
 -- ---- one part judged
 
@@ -122,7 +113,7 @@ module _ (p : StreamPart) (left : List ℕ) where
   fails_tried bytes mid None c rest whole size is h = passes_not tt mid c rest h
   fails_tried bytes mid (Some d) c rest whole size is h =
       let e = same_faulty d c mid rest h in
-      faulty bytes rest c (whole ∙ ap (λ l. bytes ++ l) e.1) size (is_named (Stands p bytes) (fault_in p bytes) c (part_least p bytes) (is ∙ ap Some e.0))
+      faulty bytes rest c (whole ∙ ap (λ l. bytes ++ l) e.1) size (subst (Least (Stands p bytes)) (is ∙ ap Some e.0) (part_least p bytes)).holds
 
   fails_by : (b : Bool) (c : Cause) (rest : List ℕ) → nat_lt (length left) (size_of p) ≡ b → (cond b (Faulty Truncated []) (Passes (take (size_of p) left) (drop (size_of p) left)) >>= λ q. tried (fault_in p q.0) q.1) ≡ Faulty c rest → Fails p left c rest
   fails_by true c rest is h = let e = same_faulty Truncated c [] rest h in subst (λ (d : Cause). Fails p left d rest) e.0 (subst (λ l. Fails p left Truncated l) e.1 (short (ltb-true _ _ is)))
