@@ -1,5 +1,5 @@
 -- A record that fails: the part in which it fails, and the parts before it.
-use Rattle.std.proofs.Common.{◌≡◌, ◌⊎◌, inl, inr, ℕ, ◌+◌, ◌*◌, ◌/◌, List, [], ◌∷◌, ◌++◌, Bool, true, false, cond, not, nat_eq, zero, suc, drop, length, Option, Some, None, refl, sym, ap, subst, ◌∙◌, arith, append_assoc}
+use Rattle.std.proofs.Common.{◌≡◌, ◌⊎◌, inl, inr, ℕ, ◌+◌, ◌*◌, ◌/◌, List, [], ◌∷◌, ◌++◌, Bool, true, false, not, nat_eq, zero, suc, drop, length, Option, Some, None, refl, sym, ap, subst, ◌∙◌, arith, append_assoc}
 use Rattle.std.proofs.lemmas.Bool.{eqb-true, not-true, false≢true}
 use Rattle.mig_bytes.specs.Bytes.{padding_len, IsLeastPadding}
 use Rattle.mig_bytes.specs.Fields.{le32}
@@ -14,7 +14,6 @@ use Rattle.mig_headers.specs.declared.kind.Kind.{Kind}
 use Rattle.mig_headers.specs.declared.kind.Kind.TheVariants.{Pv, Hvm}
 use Rattle.mig_headers.specs.declared.record_type.RecordType.{RecordType}
 use Rattle.mig_headers.specs.declared.record_type.RecordType.TheVariants.{PageData}
-use Rattle.mig_pagetypes.specs.FrameWords.{word_has_data, word_pfn}
 use Rattle.mig_guest.specs.Guests.{GuestOf}
 use Rattle.mig_guest.specs.declared.part_code.PartCode.{PartCode}
 use Rattle.mig_guest.specs.declared.part_code.PartCode.TheVariants.{HvmContext, HvmParam}
@@ -35,12 +34,12 @@ use Rattle.mig_records.specs.Faults.{type_allows, fault_of_count, fault_of_words
 use Rattle.mig_records.specs.Words.{words}
 use Rattle.mig_pvtables.proofs.HvmGuests.{hvm_fault}
 use Rattle.mig_pvtables.specs.Faults.{fault_of_guest}
-use Rattle.mig_restore.specs.Judging.{Opening, Before, before, is_built, record_at, next_at, body_at, typed_at, coded_at, code_of_type, sets_at, entries_at, entry_at, words_at, fault_of_head, fault_at_end, fault_of_data, type_in_word}
+use Rattle.mig_restore.specs.Judging.{Opening, Before, before, is_built, record_at, next_at, body_at, typed_at, coded_at, code_of_type, sets_at, entries_at, entry_at, words_at, fault_of_head, fault_at_end, fault_of_data}
 use Rattle.mig_restore.specs.Mean.{sent}
 use Rattle.mig_restore.specs.Record.{StreamRecord, FrameEntry, Content}
 use Rattle.mig_restore.specs.Record.Content.{Nothing, Frames, Sets}
 use Rattle.mig_restore.proofs.Parts.{begins, behind_head, behind_body, asks, behind_record, header_passes}
-use Rattle.mig_restore.proofs.Batches.{behind_words, behind_good, words_stage}
+use Rattle.mig_restore.proofs.Batches.{behind_words, behind_good, words_stage, page_size, entry_of, other_entries, each_stage}
 use Rattle.mig_restore.proofs.Bodies.{body_says, body_goes, coded_is, ends_hvm, optional_at, type_at, no_pv}
 use Rattle.mig_restore.proofs.Meaning.{sent_kind}
 use Rattle.mig_restore.proofs.Laws.{fields_fine}
@@ -86,34 +85,6 @@ pub none_taken : (f : List ℕ → Option Cause) (left : List ℕ) → trial 0 f
 none_taken f left = ap (λ j. j >>= λ p. tried (f p.0) p.1) (part_whole Truncated 0 [] left refl)
 
 -- ---- pages
-
-abbrev page_size : ℕ → ℕ
-page_size w = cond (word_has_data w) 4096 0
-
-abbrev page_of : ℕ → List ℕ → Option (List ℕ)
-page_of w b = cond (word_has_data w) (Some b) None
-
-abbrev entry_of : ℕ → List ℕ → FrameEntry
-entry_of w b = record { pfn = word_pfn w; type = type_in_word w; page = page_of w b }
-
-abbrev other_entries : ℕ → List ℕ → List ℕ → List ℕ → Judged Cause (List FrameEntry)
-other_entries w ws b r = each entry_at ws r >>= λ others. Passes (entry_of w b ∷ others.0) others.1
-
-page_by : (b : Bool) (i : List ℕ) → cond b (part Truncated 4096 i >>= λ p. Passes (Some p.0) p.1) (Passes None i) ≡ (part Truncated (cond b 4096 0) i >>= λ p. Passes (cond b (Some p.0) None) p.1)
-page_by true i = refl
-page_by false i = sym (ap (λ j. j >>= λ p. Passes None p.1) (part_whole Truncated 0 [] i refl))
-
-each_by : (w : ℕ) (ws : List ℕ) (j : Judged Cause (List ℕ))
-    → (((j >>= λ p. Passes (page_of w p.0) p.1) >>= λ page. Passes (record { pfn = word_pfn w; type = type_in_word w; page = page.0 }) page.1) >>= λ first. each entry_at ws first.1 >>= λ others. Passes (first.0 ∷ others.0) others.1)
-    ≡ (j >>= λ p. other_entries w ws p.0 p.1)
-each_by w ws (Passes x mid) = refl
-each_by w ws (Faulty c mid) = refl
-
-each_stage : (w : ℕ) (ws i : List ℕ) → each entry_at (w ∷ ws) i ≡ stage (page_size w) (λ _. None) (other_entries w ws) i
-unfolding each
-each_stage w ws i =
-    ap (λ j. (j >>= λ page. Passes (record { pfn = word_pfn w; type = type_in_word w; page = page.0 }) page.1) >>= λ first. each entry_at ws first.1 >>= λ others. Passes (first.0 ∷ others.0) others.1) (page_by (word_has_data w) i)
-    ∙ each_by w ws (part Truncated (page_size w) i)
 
 -- a page fails behind others
 pages_down : (ws pages : List ℕ) (w : ℕ) (left : List ℕ) (c : Cause) (rest : List ℕ) → PagesTo ws pages w → one_part (Page w) left ≡ Faulty c rest → each entry_at ws (pages ++ left) ≡ Faulty c rest

@@ -7,7 +7,7 @@ use Rattle.mig_bytes.proofs.Joins.{part_whole, then_passes, tried_none}
 use Rattle.mig_headers.specs.declared.fault.Cause.{Cause}
 use Rattle.mig_restore.proofs.Parts.{header_passes}
 use Rattle.mig_headers.specs.declared.fault.Cause.TheVariants.{Truncated}
-use Rattle.mig_refused.specs.Refusal.{IsTriedBefore, IsFirstCause, StreamPart, Stands, size_of, IsFaultless, Fails}
+use Rattle.mig_refused.specs.Refusal.{IsFirstCause, StreamPart, Stands, size_of, IsFaultless, Fails}
 use Rattle.mig_refused.specs.Refusal.Fails.{short, faulty}
 use Rattle.mig_refused.proofs.Least.{Least}
 use Rattle.mig_refused.proofs.Tables.{fault_in, part_least}

@@ -7,7 +7,7 @@ use Rattle.std.proofs.lemmas.Grind.{common_steps}
 use Rattle.mig_bytes.specs.Fields.{le32, le64}
 use Rattle.mig_bytes.specs.Judged.{◌>>=◌, part, tried, each, Judged, Matches, Gives}
 use Rattle.mig_bytes.specs.Judged.Judged.{Passes, Faulty}
-use Rattle.mig_bytes.proofs.Joins.{part_whole, both_pass, part_passes, tried_passes, same_passes, then_passes, tried_none}
+use Rattle.mig_bytes.proofs.Joins.{part_whole, both_pass, tried_passes, same_passes, then_passes, tried_none}
 use Rattle.mig_headers.specs.declared.fault.Cause.TheVariants.{BadLength, Truncated}
 use Rattle.mig_headers.specs.declared.kind.Kind.{Kind}
 use Rattle.mig_pagetypes.specs.FrameWords.{word_pfn, word_has_data, word_type, some_has_data}
@@ -15,7 +15,7 @@ use Rattle.mig_records.specs.Faults.{fault_of_count, fault_of_words, count_rows}
 use Rattle.mig_records.specs.Words.{words, data_len_of}
 use Rattle.mig_records.proofs.WordFaults.{none_is_wrong, nothing_found}
 use Rattle.mig_restore.specs.Record.{FrameEntry, Content}
-use Rattle.mig_restore.specs.Judging.{type_in_word, fault_of_data, words_at, page_at, entry_at, entries_at, pages_at}
+use Rattle.mig_restore.specs.Judging.{type_in_word, fault_of_data, words_at, entry_at, entries_at, pages_at}
 use Rattle.mig_restore.specs.Spelled.{IsPage, IsEntry, AreEntries, IsBatch}
 use Rattle.mig_restore.proofs.Parts.{taken}
 use Rattle.mig_headers.proofs.FirstFaults.{rows_fine, no_fault}
@@ -45,6 +45,32 @@ words_stage kind top len n i = by (part Truncated (8 * n) i)
     by : (j : Judged Cause (List ℕ)) → ((j >>= λ b. Passes (words n b.0) b.1) >>= behind_words kind top len) ≡ (j >>= λ p. tried (fault_of_words kind top (words n p.0)) p.1 >>= λ _. behind_good len (words n p.0) p.1)
     by (Passes x mid) = refl
     by (Faulty c mid) = refl
+
+-- a page, and behind it the other entries
+abbrev pub page_size : ℕ → ℕ
+page_size w = cond (word_has_data w) 4096 0
+
+abbrev pub entry_of : ℕ → List ℕ → FrameEntry
+entry_of w b = record { pfn = word_pfn w; type = type_in_word w; page = cond (word_has_data w) (Some b) None }
+
+abbrev pub other_entries : ℕ → List ℕ → List ℕ → List ℕ → Judged Cause (List FrameEntry)
+other_entries w ws b r = each entry_at ws r >>= λ others. Passes (entry_of w b ∷ others.0) others.1
+
+page_by : (b : Bool) (i : List ℕ) → cond b (part Truncated 4096 i >>= λ p. Passes (Some p.0) p.1) (Passes None i) ≡ (part Truncated (cond b 4096 0) i >>= λ p. Passes (cond b (Some p.0) None) p.1)
+page_by true i = refl
+page_by false i = sym (ap (λ j. j >>= λ p. Passes None p.1) (part_whole Truncated 0 [] i refl))
+
+each_by : (w : ℕ) (ws : List ℕ) (j : Judged Cause (List ℕ))
+    → (((j >>= λ p. Passes (cond (word_has_data w) (Some p.0) None) p.1) >>= λ page. Passes (record { pfn = word_pfn w; type = type_in_word w; page = page.0 }) page.1) >>= λ first. each entry_at ws first.1 >>= λ others. Passes (first.0 ∷ others.0) others.1)
+    ≡ (j >>= λ p. other_entries w ws p.0 p.1)
+each_by w ws (Passes x mid) = refl
+each_by w ws (Faulty c mid) = refl
+
+pub each_stage : (w : ℕ) (ws i : List ℕ) → each entry_at (w ∷ ws) i ≡ (part Truncated (page_size w) i >>= λ p. tried None p.1 >>= λ _. other_entries w ws p.0 p.1)
+unfolding each
+each_stage w ws i =
+    ap (λ j. (j >>= λ page. Passes (record { pfn = word_pfn w; type = type_in_word w; page = page.0 }) page.1) >>= λ first. each entry_at ws first.1 >>= λ others. Passes (first.0 ∷ others.0) others.1) (page_by (word_has_data w) i)
+    ∙ each_by w ws (part Truncated (page_size w) i)
 
 abbrev behind_front : ℕ → Kind → ℕ → List ℕ × List ℕ → Judged Cause (List FrameEntry)
 behind_front len kind top front = tried (fault_of_count len (le32 front.0 0)) front.1 >>= λ _. words_at (le32 front.0 0) front.1 >>= behind_words kind top len
@@ -99,39 +125,28 @@ record Pages (ws i : List ℕ) (es : List FrameEntry) (rest : List ℕ) : Type 0
   size : length bytes ≡ 4096 * count_by word_has_data ws
   entries : AreEntries ws bytes es
 
-record OnePage (b : Bool) (i : List ℕ) (page : Option (List ℕ)) (rest : List ℕ) : Type 0 where
-  bytes : List ℕ
-  whole : i ≡ bytes ++ rest
-  size : length bytes ≡ 4096 * cond b 1 0
-  page_is : IsPage b bytes page
+is_page : (b : Bool) (bytes : List ℕ) → length bytes ≡ cond b 4096 0 → IsPage b bytes (cond b (Some bytes) None)
+is_page true bytes size = (size, refl)
+is_page false [] size = (refl, refl)
+is_page false (x ∷ xs) size = absurd (omega (arith, size))
 
-one_page : (b : Bool) (i : List ℕ) (page : Option (List ℕ)) (rest : List ℕ) → cond b (part Truncated 4096 i >>= λ p. Passes (Some p.0) p.1) (Passes None i) ≡ Passes page rest → OnePage b i page rest
-one_page true i page rest h =
-    let a = both_pass (part Truncated 4096 i) _ page rest h in
-    let p = part_passes Truncated 4096 i a.x a.mid a.first in
-    let e = same_passes _ _ _ _ a.second in
-    record { bytes = a.x; whole = p.0 ∙ ap (λ l. a.x ++ l) e.1; size = p.1; page_is = (p.1, sym e.0) }
-one_page false i page rest h = let e = same_passes _ _ _ _ h in record { bytes = []; whole = e.1; size = refl; page_is = (refl, sym e.0) }
-
-entry_is : (w : ℕ) (bytes : List ℕ) (page : Option (List ℕ)) (e : FrameEntry) → IsPage (word_has_data w) bytes page → record { pfn = word_pfn w; type = type_in_word w; page = page } ≡ e → IsEntry w bytes e
-entry_is w bytes page e page_is is = subst (IsEntry w bytes) is (record { pfn = refl; type = refl; page = page_is })
+page_len : (b : Bool) (bytes : List ℕ) (page : Option (List ℕ)) → IsPage b bytes page → length bytes ≡ 4096 * cond b 1 0
+page_len b bytes page h = grind (arith, common_steps, h)
 
 each_entries : (ws i : List ℕ) (es : List FrameEntry) (rest : List ℕ) → each entry_at ws i ≡ Passes es rest → Pages ws i es rest
 unfolding each
 each_entries [] i es rest h = let e = same_passes _ _ _ _ h in record { bytes = []; whole = e.1; size = refl; entries = (refl, sym e.0) }
 each_entries (w ∷ ws) i es rest h =
-    let a = both_pass (entry_at w i) _ es rest h in
-    let b = both_pass (page_at w i) _ a.x a.mid a.first in
-    let e = same_passes _ _ _ _ b.second in
-    let p = one_page (word_has_data w) i b.x b.mid b.first in
-    let c = both_pass (each entry_at ws a.mid) _ es rest a.second in
-    let q = each_entries ws a.mid c.x c.mid c.first in
+    let p = taken (page_size w) (λ _. None) (other_entries w ws) i es rest (sym (each_stage w ws i) ∙ h) in
+    let c = both_pass (each entry_at ws p.mid) _ es rest p.after in
+    let q = each_entries ws p.mid c.x c.mid c.first in
     let f = same_passes _ _ _ _ c.second in
+    let page = is_page (word_has_data w) p.bytes p.size in
     record {
       bytes = p.bytes ++ q.bytes;
-      whole = p.whole ∙ ap (λ l. p.bytes ++ l) (e.1 ∙ q.whole ∙ ap (λ l. q.bytes ++ l) f.1) ∙ sym (append_assoc p.bytes q.bytes rest);
-      size = omega (arith, length-append p.bytes q.bytes, p.size, q.size, counted w ws);
-      entries = (p.bytes, q.bytes, a.x, c.x, refl, sym f.0, entry_is w p.bytes b.x a.x p.page_is e.0, q.entries);
+      whole = p.whole ∙ ap (λ l. p.bytes ++ l) (q.whole ∙ ap (λ l. q.bytes ++ l) f.1) ∙ sym (append_assoc p.bytes q.bytes rest);
+      size = omega (arith, length-append p.bytes q.bytes, page_len (word_has_data w) p.bytes (entry_of w p.bytes).page page, q.size, counted w ws);
+      entries = (p.bytes, q.bytes, entry_of w p.bytes, c.x, refl, sym f.0, record { pfn = refl; type = refl; page = page }, q.entries);
     }
 
 regroup_pages : (i f m w d t rest : List ℕ) → i ≡ f ++ m → m ≡ w ++ d → d ≡ t ++ rest → i ≡ (f ++ (w ++ t)) ++ rest
@@ -179,24 +194,22 @@ batch_passes kind top len i es rest h =
 
 -- ---- what is spelled passes
 
-page_goes : (b : Bool) (bytes rest : List ℕ) (page : Option (List ℕ)) → IsPage b bytes page → cond b (part Truncated 4096 (bytes ++ rest) >>= λ p. Passes (Some p.0) p.1) (Passes None (bytes ++ rest)) ≡ Passes page rest
-page_goes true bytes rest page (size, is) = then_passes _ _ bytes rest _ (part_whole Truncated 4096 bytes rest size) (ap (λ p. Passes p rest) (sym is))
-page_goes false bytes rest page (size, is) = rw (size, is) refl
+of_page : (b : Bool) (bytes : List ℕ) (page : Option (List ℕ)) → IsPage b bytes page → (length bytes ≡ cond b 4096 0) × (cond b (Some bytes) None ≡ page)
+of_page b bytes page h = (grind (arith, common_steps, h), grind (arith, common_steps, h))
 
-page_len : (b : Bool) (bytes : List ℕ) (page : Option (List ℕ)) → IsPage b bytes page → length bytes ≡ 4096 * cond b 1 0
-page_len b bytes page h = grind (arith, common_steps, h)
-
-same_entry : (w : ℕ) (bytes : List ℕ) (e : FrameEntry) → IsEntry w bytes e → record { pfn = word_pfn w; type = type_in_word w; page = e.page } ≡ e
-same_entry w bytes e is = ap (λ n. record { pfn = n; type = type_in_word w; page = e.page }) (sym is.pfn) ∙ ap (λ k. record { pfn = e.pfn; type = k; page = e.page }) (sym is.type)
+same_entry : (w : ℕ) (bytes : List ℕ) (e : FrameEntry) → IsEntry w bytes e → entry_of w bytes ≡ e
+same_entry w bytes e is =
+    ap (λ p. record { pfn = word_pfn w; type = type_in_word w; page = p }) (of_page (word_has_data w) bytes e.page is.page).1
+    ∙ ap (λ n. record { pfn = n; type = type_in_word w; page = e.page }) (sym is.pfn) ∙ ap (λ k. record { pfn = e.pfn; type = k; page = e.page }) (sym is.type)
 
 entries_go : (ws bytes rest : List ℕ) (es : List FrameEntry) → AreEntries ws bytes es → each entry_at ws (bytes ++ rest) ≡ Passes es rest
 unfolding each
 entries_go [] bytes rest es (a, b) = rw (a, b) refl
 entries_go (w ∷ ws) bytes rest es (page, more, e, others, whole, is, one, entries) =
     ap (each entry_at (w ∷ ws)) (ap (λ l. l ++ rest) whole ∙ append_assoc page more rest)
-    ∙ then_passes (entry_at w (page ++ (more ++ rest))) _ e (more ++ rest) _
-    (then_passes (page_at w (page ++ (more ++ rest))) _ e.page (more ++ rest) _ (page_goes (word_has_data w) page (more ++ rest) e.page one.page) (ap (λ x. Passes x (more ++ rest)) (same_entry w page e one)))
-    (then_passes (each entry_at ws (more ++ rest)) _ others rest _ (entries_go ws more rest others entries) (ap (λ l. Passes l rest) (sym is)))
+    ∙ each_stage w ws (page ++ (more ++ rest))
+    ∙ then_passes (part Truncated (page_size w) (page ++ (more ++ rest))) _ page (more ++ rest) _ (part_whole Truncated (page_size w) page (more ++ rest) (of_page (word_has_data w) page e.page one.page).0)
+    (then_passes (each entry_at ws (more ++ rest)) _ others rest _ (entries_go ws more rest others entries) (ap (λ l. Passes l rest) (ap (λ x. x ∷ others) (same_entry w page e one) ∙ sym is)))
 
 entries_len : (ws bytes : List ℕ) (es : List FrameEntry) → AreEntries ws bytes es → length bytes ≡ 4096 * count_by word_has_data ws
 entries_len [] bytes es (a, b) = ap length a
