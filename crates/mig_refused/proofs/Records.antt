@@ -61,6 +61,10 @@ pub record Found (Before_it : List ℕ → StreamPart → Type 0) (i : List ℕ)
   pub behind : Before_it front part_is
   pub fails : one_part part_is left ≡ Faulty c rest
 
+-- the part that comes first
+found_here : (Before_it : List ℕ → StreamPart → Type 0) (part_is : StreamPart) (i : List ℕ) (c : Cause) (rest : List ℕ) → Before_it [] part_is → one_part part_is i ≡ Faulty c rest → Found Before_it i c rest
+found_here Before_it part_is i c rest behind fails = record { front = []; left = i; part_is = part_is; whole = refl; behind = behind; fails = fails }
+
 -- the same behind some first bytes
 pub found_behind : (P Q : List ℕ → StreamPart → Type 0) (x i j : List ℕ) (c : Cause) (rest : List ℕ) → j ≡ x ++ i → ((b : List ℕ) (p : StreamPart) → P b p → Q (x ++ b) p) → Found P i c rest → Found Q j c rest
 found_behind P Q x i j c rest whole turn f = record {
@@ -102,7 +106,7 @@ pages_up : (ws i : List ℕ) (c : Cause) (rest : List ℕ) → each entry_at ws 
 unfolding each
 pages_up [] i c rest h = passes_not [] i c rest h
 pages_up (w ∷ ws) i c rest h = elim (stage_cases (page_size w) (λ _. None) (other_entries w ws) i c rest (sym (each_stage w ws i) ∙ h)) [
-  | inl e ↦ record { front = []; left = i; part_is = Page w; whole = refl; behind = (w, next_page w ws, refl); fails = e }
+  | inl e ↦ found_here (NextPage (w ∷ ws)) (Page w) i c rest (w, next_page w ws, refl) e
   | inr a ↦ found_behind (NextPage ws) (NextPage (w ∷ ws)) a.bytes a.mid i c rest a.whole (λ b p to. (to.0, one_page w ws a.bytes b to.0 (faultless (Page w) a.bytes a.size refl) to.1, to.2))
       (pages_up ws a.mid c rest (only_first (λ others. entry_of w a.bytes ∷ others) (each entry_at ws a.mid) c rest a.after))
 ]
@@ -145,7 +149,7 @@ module _ (kind : Kind) (top len : ℕ) where
 
   entries_up : (i : List ℕ) (c : Cause) (rest : List ℕ) → entries_at kind top len i ≡ Faulty c rest → Found (InPages kind top len) i c rest
   entries_up i c rest h = elim (stage_cases 8 count_fault behind_count i c rest h) [
-    | inl e ↦ record { front = []; left = i; part_is = PagesFront len; whole = refl; behind = at_front; fails = e }
+    | inl e ↦ found_here (InPages kind top len) (PagesFront len) i c rest at_front e
     | inr a ↦
         let n = le32 a.bytes 0 in
         let front = faultless (PagesFront len) a.bytes a.size a.none in
@@ -237,14 +241,8 @@ module _ (kind : Kind) (top len : ℕ) where
     coded_up : (this : RecordType) (o : Option PartCode) → code_of_type this ≡ o → type_allows (type_of_number (type_number this)) len ≡ true → (record_row_of this).of_kind Hvm ≡ true → coded_at o len i ≡ Faulty c rest → Fault (type_number this) i c rest
     coded_up this None is allowed k h = passes_not Nothing i c rest h
     coded_up this (Some code) is allowed k h = elim (stage_cases len (fault_of_body code) (says_parts code) i c rest h) [
-      | inl e ↦ record {
-        front = [];
-        left = i;
-        part_is = body_part code len;
-        whole = refl;
-        behind = of_code this code is;
-        fails = code_part code (sym (same_kinds this code is Hvm) ∙ k) (subst (λ n. type_allows (type_of_number n) len ≡ true) (number_found (type_number this) code is) allowed) e;
-      }
+      | inl e ↦ found_here (InBody kind top len (type_number this)) (body_part code len) i c rest (of_code this code is)
+          (code_part code (sym (same_kinds this code is Hvm) ∙ k) (subst (λ n. type_allows (type_of_number n) len ≡ true) (number_found (type_number this) code is) allowed) e)
       | inr a ↦ passes_not (Sets code (parts_of_body code a.bytes)) a.mid c rest a.after
     ]
 
@@ -254,7 +252,7 @@ module _ (kind : Kind) (top len : ℕ) where
 
     body_up : (version : ℕ) (types : List ℕ) (type : ℕ) → is_built kind type ≡ true → IsInOrder version kind types type → type_allows (type_of_number type) len ≡ true → body_at kind top type len i ≡ Faulty c rest → Fault type i c rest
     body_up version types type built (order.optional above) allowed h =
-        record { front = []; left = i; part_is = OtherBody len; whole = refl; behind = optional type above; fails = plain_by (λ _. Nothing) (part Truncated len i) c rest (sym (optional_at kind top type len i above) ∙ h) }
+        found_here (InBody kind top len type) (OtherBody len) i c rest (optional type above) (plain_by (λ _. Nothing) (part Truncated len i) c rest (sym (optional_at kind top type len i above) ∙ h))
     body_up version types type built (order.ordered this is s k keeps) allowed h =
         subst (λ t. Fault t i c rest) (sym is)
         (this_up this (subst (λ t. type_allows (type_of_number t) len ≡ true) is allowed) (of_hvm this kind (subst (λ t. is_built kind t ≡ true) is built) s k) (sym (type_at kind top this len i) ∙ subst (λ t. body_at kind top t len i ≡ Faulty c rest) is h))
@@ -299,7 +297,7 @@ module _ (b : Before) where
   pub up : (i : List ℕ) (c : Cause) (rest : List ℕ) → record_at b i ≡ Faulty c rest → Found (Within b) i c rest
   unfolding behind_head behind_body
   up i c rest h = elim (stage_cases 8 (fault_of_head b) behind_it i c rest (sym (head_stage i) ∙ h)) [
-    | inl e ↦ record { front = []; left = i; part_is = Head b; whole = refl; behind = at_head; fails = e }
+    | inl e ↦ found_here (Within b) (Head b) i c rest at_head e
     | inr a ↦
         let head = a.bytes in
         let type = le32 head 0 in

@@ -29,10 +29,6 @@ opening_refused : (input rest : List ℕ) (at : Place × Cause) → opening_at i
 unfolding image_at
 opening_refused input rest at h = then_faulty (opening_at input) (λ opening. records_at opening.0 opening.1) at rest h
 
-marker_refused : (input rest : List ℕ) (c : Cause) → marker_at input ≡ Faulty c rest → opening_at input ≡ Faulty (ImageHeader, c) rest
-unfolding opening_at
-marker_refused input rest c h = ap (λ j. placed ImageHeader j >>= behind_marker) h
-
 next_refused : (front left : List ℕ) (o : Opening) (records : List StreamRecord) (c : Cause) (rest : List ℕ) → IsOpen front o records → next_at o records left ≡ Faulty c rest → image_at (front ++ left) ≡ Faulty (Record (length records), c) rest
 unfolding image_at
 next_refused front left o records c rest is_open h =
@@ -46,7 +42,8 @@ next_refused front left o records c rest is_open h =
     (ap (ended_at o) (ends_at o behind f (spelled_reached o is_open.bytes records left is_open.spelled) (stops_refused o f c rest is_open.not_ended h)) ∙ rejected o f c rest is_open.not_ended h)
 
 behind_refused : (front : List ℕ) (place : Place) (p : StreamPart) (left : List ℕ) (c : Cause) (rest : List ℕ) → Behind front place p → one_part p left ≡ Faulty c rest → image_at (front ++ left) ≡ Faulty (place, c) rest
-behind_refused _ _ _ left c rest at_marker h = opening_refused left rest (ImageHeader, c) (marker_refused left rest c (stage_faulty 8 fault_of_marker (λ m r. Passes m r) left c rest h))
+unfolding opening_at
+behind_refused _ _ _ left c rest at_marker h = opening_refused left rest (ImageHeader, c) (ap (λ j. placed ImageHeader j >>= behind_marker) (stage_faulty 8 fault_of_marker (λ m r. Passes m r) left c rest h))
 behind_refused _ _ _ left c rest (at_header first f) h =
     opening_refused (first ++ left) rest (ImageHeader, c)
     (marker_goes first left f.size (fine Marker first f) ∙ ap (λ j. placed ImageHeader j >>= behind_version) (stage_faulty 16 fault_of_image (λ l r. Passes (be32 l 4) r) left c rest h))
