@@ -1,6 +1,6 @@
 -- The causes that stand in each part of an image.
 use Rattle.std.proofs.Common.{◌≡◌, ◌⊎◌, inl, inr, ℕ, zero, suc, drop, ltb-false, ◌+◌, ◌*◌, ◌<◌, ◌≤◌, List, [], ◌∷◌, length, Bool, true, false, nat_le, nat_lt, nat_eq, not, is_none, Option, Some, None, Result, Ok, Err, slice_index, refl, sym, ap, subst, ◌∙◌, arith}
-use Rattle.std.proofs.lemmas.Bool.{leb-true, ltb-true, eqb-true, eqb-false, ne_eqb, eq-eqb, le-leb, lt-ltb, le-ltb, cases_order, false≢true, both_ways, not-true, and_parts, and_from, or_left, or_right, or_cases}
+use Rattle.std.proofs.lemmas.Bool.{leb-true, ltb-true, eqb-true, eqb-false, ne_eqb, eq-eqb, le-leb, lt-ltb, le-ltb, cases_order, both_ways, not-true, and_parts, and_from, or_cases}
 use Rattle.std.proofs.lemmas.Grind.{common_steps}
 use Rattle.std.specs.FinMap as maps
 use Rattle.std.specs.Option.{option_or}
@@ -14,7 +14,6 @@ use Rattle.mig_bytes.proofs.Walks.{walk_end_reached}
 use Rattle.mig_headers.specs.Contexts.{Scanned, scan, scan_at, fault_at, after_entry}
 use Rattle.mig_headers.proofs.Chains.{scan_is}
 use Rattle.mig_headers.specs.Headers.{marker_rows, image_rows, domain_rows, fault_of_marker, fault_of_image, fault_of_domain}
-use Rattle.mig_headers.specs.RecordTypes.{pv}
 use Rattle.mig_headers.specs.Texts.{number_of_cause}
 use Rattle.mig_headers.specs.Rows.{first_fault}
 use Rattle.mig_headers.specs.declared.fault.Cause.{Cause}
@@ -80,8 +79,7 @@ domain_least bytes = named (DomainHas bytes) (domain_rows bytes) refl ((λ h. le
 -- ---- the whole guest
 
 is_there : {X : Type 0} (x : Option X) → is_none x ≡ true → x ≡ None
-is_there None h = refl
-is_there (Some x) h = absurd (false≢true h)
+is_there x h = grind (arith, common_steps, h)
 
 -- what is tried in the whole guest, where it is an HVM guest
 abbrev pub guest_rows : GuestOf → List (Bool × Cause)
@@ -147,10 +145,7 @@ module _ (kind : Kind) (top : ℕ) (ws : List ℕ) where
   outside_of Hvm n h = inl (leb-true _ _ h)
 
   test_outside : (k : Kind) (n : ℕ) → (pfn_limit ≤ n) ⊎ ((k ≡ Pv) × (top < n)) → is_outside k top n ≡ true
-  test_outside Pv n (inl e) = or_left _ _ (le-leb _ _ e)
-  test_outside Pv n (inr e) = or_right (nat_le pfn_limit n) _ (lt-ltb _ _ e.1)
-  test_outside Hvm n (inl e) = le-leb _ _ e
-  test_outside Hvm n (inr e) = absurd (false≢true (ap pv e.0))
+  test_outside k n h = grind (arith, common_steps, h)
 
   abbrev page_type : ℕ → ℕ → Cause
   page_type k w = BadPageType k (word_type w)
