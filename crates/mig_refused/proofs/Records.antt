@@ -38,7 +38,7 @@ use Rattle.mig_restore.specs.Judging.{Opening, Before, before, is_built, record_
 use Rattle.mig_restore.specs.Mean.{sent}
 use Rattle.mig_restore.specs.Record.{StreamRecord, FrameEntry, Content}
 use Rattle.mig_restore.specs.Record.Content.{Nothing, Frames, Sets}
-use Rattle.mig_restore.proofs.Parts.{begins, behind_head, behind_body, asks, behind_record, header_passes}
+use Rattle.mig_restore.proofs.Parts.{behind_head, behind_body, head_stage, asks, behind_record, taken}
 use Rattle.mig_restore.proofs.Batches.{behind_words, behind_good, words_stage, page_size, entry_of, other_entries, each_stage}
 use Rattle.mig_restore.proofs.Bodies.{body_says, body_goes, coded_is, ends_hvm, optional_at, type_at, no_pv}
 use Rattle.mig_restore.proofs.Meaning.{sent_kind}
@@ -50,7 +50,7 @@ use Rattle.mig_refused.specs.Refusal.InPages.{at_front, at_words, at_length, at_
 use Rattle.mig_refused.specs.Refusal.InBody.{in_pages, of_code, optional}
 use Rattle.mig_refused.specs.Refusal.Within.{at_head, in_body, at_padding}
 use Rattle.mig_refused.proofs.Tables.{guest_rows}
-use Rattle.mig_refused.proofs.Single.{trial, one_part, stage, stage_faulty, stage_passes, stage_cases, then_faulty, bind_cases, passes_not, same_faulty, only_first, assoc, fine, faultless}
+use Rattle.mig_refused.proofs.Single.{trial, one_part, stage, stage_faulty, stage_passes, stage_cases, then_faulty, bind_cases, passes_not, same_faulty, only_first, fine, faultless}
 
 -- a part that fails in an input, and the parts before it
 pub record Found (Before_it : List ℕ → StreamPart → Type 0) (i : List ℕ) (c : Cause) (rest : List ℕ) : Type 0 where
@@ -275,16 +275,13 @@ module _ (b : Before) where
   abbrev behind_it : List ℕ → List ℕ → Judged Cause StreamRecord
   behind_it h r = behind_head kind b.top (h, r)
 
-  head_stage : (i : List ℕ) → record_at b i ≡ stage 8 (fault_of_head b) behind_it i
-  head_stage i = begins b i ∙ sym (assoc (fault_of_head b) behind_it (part Truncated 8 i))
-
   pub head_goes : (head mid : List ℕ) → IsFaultless (Head b) head → record_at b (head ++ mid) ≡ behind_it head mid
-  head_goes head mid f = head_stage (head ++ mid) ∙ stage_passes 8 (fault_of_head b) behind_it head mid f.size (fine (Head b) head f)
+  head_goes head mid f = head_stage b (head ++ mid) ∙ stage_passes 8 (fault_of_head b) behind_it head mid f.size (fine (Head b) head f)
 
   -- a part fails behind others: so does the record
   pub down : (front : List ℕ) (p : StreamPart) (left : List ℕ) (c : Cause) (rest : List ℕ) → Within b front p → one_part p left ≡ Faulty c rest → record_at b (front ++ left) ≡ Faulty c rest
   unfolding behind_head behind_body
-  down _ _ left c rest at_head h = head_stage left ∙ stage_faulty 8 (fault_of_head b) behind_it left c rest h
+  down _ _ left c rest at_head h = head_stage b left ∙ stage_faulty 8 (fault_of_head b) behind_it left c rest h
   down _ _ left c rest (in_body head front p f w) h =
       ap (record_at b) (append_assoc head front left) ∙ head_goes head (front ++ left) f
       ∙ then_faulty (body_at kind b.top (le32 head 0) (le32 head 4) (front ++ left)) (behind_body head) c rest (body_down kind b.top (le32 head 4) (le32 head 0) front p left c rest w h)
@@ -296,7 +293,7 @@ module _ (b : Before) where
   -- a record fails: one of its parts does, and none before it
   pub up : (i : List ℕ) (c : Cause) (rest : List ℕ) → record_at b i ≡ Faulty c rest → Found (Within b) i c rest
   unfolding behind_head behind_body
-  up i c rest h = elim (stage_cases 8 (fault_of_head b) behind_it i c rest (sym (head_stage i) ∙ h)) [
+  up i c rest h = elim (stage_cases 8 (fault_of_head b) behind_it i c rest (sym (head_stage b i) ∙ h)) [
     | inl e ↦ found_here (Within b) (Head b) i c rest at_head e
     | inr a ↦
         let head = a.bytes in
@@ -344,15 +341,14 @@ module _ (b : Before) where
   pub ended : (i : List ℕ) (r : StreamRecord) (mid : List ℕ) → record_at b i ≡ Passes r mid → r.type ≡ 0 → Ended i r mid
   unfolding behind_head behind_body
   ended i r mid h is_end =
-      let a = both_pass (stage 8 (fault_of_head b) (λ x r. Passes x r) i) (λ p. behind_it p.0 p.1) r mid (sym (begins b i) ∙ h) in
-      let p = header_passes 8 (fault_of_head b) (λ l. l) i a.x a.mid a.first in
-      let head = p.bytes in
-      let f = faultless (Head b) head p.size p.fine in
-      let body = both_pass (body_at kind b.top (le32 head 0) (le32 head 4) a.mid) (behind_body head) r mid (ap (λ l. behind_it l a.mid) p.value ∙ a.second) in
+      let a = taken 8 (fault_of_head b) behind_it i r mid (sym (head_stage b i) ∙ h) in
+      let head = a.bytes in
+      let f = faultless (Head b) head a.size a.fine in
+      let body = both_pass (body_at kind b.top (le32 head 0) (le32 head 4) a.mid) (behind_body head) r mid a.after in
       let padding = both_pass (part Truncated (padding_len (le32 head 4)) body.mid) (λ padding. Passes (record { type = le32 head 0; content = body.x }) padding.1) r mid body.second in
       let type_is : le32 head 0 ≡ 0 = ap (λ (q : StreamRecord). q.type) (same_passes _ _ _ _ padding.second).0 ∙ is_end in
-      let same = same_passes _ _ _ _ (sym h ∙ ap (record_at b) p.whole ∙ end_passes head a.mid f type_is) in
-      record { head = head; whole = p.whole ∙ ap (λ l. head ++ l) (sym same.1); faultless_head = f; zero = type_is; is = same.0 }
+      let same = same_passes _ _ _ _ (sym h ∙ ap (record_at b) a.whole ∙ end_passes head a.mid f type_is) in
+      record { head = head; whole = a.whole ∙ ap (λ l. head ++ l) (sym same.1); faultless_head = f; zero = type_is; is = same.0 }
 
 -- the whole guest behind it
 module _ (o : Opening) (records : List StreamRecord) where

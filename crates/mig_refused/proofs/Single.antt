@@ -5,7 +5,7 @@ use Rattle.mig_bytes.specs.Judged.{Judged, ◌>>=◌, part, tried}
 use Rattle.mig_bytes.specs.Judged.Judged.{Passes, Faulty}
 use Rattle.mig_bytes.proofs.Joins.{part_whole, then_passes, tried_none}
 use Rattle.mig_headers.specs.declared.fault.Cause.{Cause}
-use Rattle.mig_restore.proofs.Parts.{header_passes}
+use Rattle.mig_restore.proofs.Parts.{header_passes, assoc}
 use Rattle.mig_headers.specs.declared.fault.Cause.TheVariants.{Truncated}
 use Rattle.mig_refused.specs.Refusal.{IsFirstCause, StreamPart, Stands, size_of, IsFaultless, Fails}
 use Rattle.mig_refused.specs.Refusal.Fails.{short, faulty}
@@ -63,11 +63,6 @@ bind_cases (Faulty d mid) k c rest h = let e = same_faulty d c mid rest h in inl
 pub only_first : {C X Y : Type 0} (says : X → Y) (j : Judged C X) (c : C) (rest : List ℕ) → (j >>= λ p. Passes (says p.0) p.1) ≡ Faulty c rest → j ≡ Faulty c rest
 only_first says (Passes x mid) c rest h = passes_not (says x) mid c rest h
 only_first says (Faulty d mid) c rest h = let e = same_faulty d c mid rest h in rw (e.0, e.1) refl
-
--- the causes of so many bytes tried in them alone
-pub assoc : {X : Type 0} (f : List ℕ → Option Cause) (next : List ℕ → List ℕ → Judged Cause X) (j : Judged Cause (List ℕ)) → (j >>= λ p. tried (f p.0) p.1 >>= λ _. next p.0 p.1) ≡ ((j >>= λ p. tried (f p.0) p.1 >>= λ _. Passes p.0 p.1) >>= λ p. next p.0 p.1)
-assoc f next (Faulty d mid) = refl
-assoc f next (Passes x mid) = elim (f x) as (λ g. (tried g mid >>= λ _. next x mid) ≡ ((tried g mid >>= λ _. Passes x mid) >>= λ p. next p.0 p.1)) [ None ↦ refl | Some d ↦ refl ]
 
 trial_cases : (f : List ℕ → Option Cause) (j : Judged Cause (List ℕ)) (c : Cause) (rest : List ℕ) → (j >>= λ p. tried (f p.0) p.1 >>= λ _. Passes p.0 p.1) ≡ Faulty c rest → (j >>= λ p. tried (f p.0) p.1) ≡ Faulty c rest
 trial_cases f (Faulty d mid) c rest h = let e = same_faulty d c mid rest h in rw (e.0, e.1) refl

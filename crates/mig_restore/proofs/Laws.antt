@@ -25,12 +25,12 @@ use Rattle.mig_order.proofs.OrderLaw.{faultless_is_in_order}
 use Rattle.mig_pvtables.specs.Faults.{fault_of_guest}
 use Rattle.mig_pvtables.proofs.HvmGuests.{hvm_complete}
 use Rattle.mig_restore.specs.Record.{StreamRecord, is_ended}
-use Rattle.mig_restore.specs.Judging.{Opening, Before, opening_of, before, is_built, fault_of_built, fault_of_number, fault_of_fields, fault_of_head, head_at, fault_at_end, body_at, record_at, next_at}
+use Rattle.mig_restore.specs.Judging.{Opening, Before, opening_of, before, is_built, fault_of_built, fault_of_number, fault_of_fields, fault_of_head, fault_at_end, body_at, record_at, next_at}
 use Rattle.mig_restore.specs.Mean.{sent}
 use Rattle.mig_restore.specs.Spelled.{IsComplete, Follows, Spells, IsImage}
 use Rattle.mig_restore.specs.Spelled.{Spells as spells}
 use Rattle.mig_restore.specs.Stream.{Front, one_more, at_start, front_of, front_with, ImageOf, image_of, ended_at, records_at, image_at, opening_at, marker_at, version_at, kind_at}
-use Rattle.mig_restore.proofs.Parts.{begins, behind_head, behind_body, asks, behind_record, header_passes}
+use Rattle.mig_restore.proofs.Parts.{behind_head, behind_body, head_stage, asks, behind_record, taken, header_passes}
 use Rattle.mig_headers.proofs.FirstFaults.{rows_fine, both_none}
 use Rattle.mig_restore.proofs.Meaning.{sent_kind}
 use Rattle.mig_restore.proofs.Bodies.{body_says, ends_hvm}
@@ -78,9 +78,8 @@ record Found (o : Opening) (records : List StreamRecord) (i : List ℕ) (r : Str
   whole : i ≡ text ++ rest
   follows : Follows o records r text
 
-regroup : (i h' h m b c p d rest : List ℕ) → i ≡ h' ++ m → h' ≡ h → m ≡ b ++ c → c ≡ p ++ d → d ≡ rest → i ≡ (h ++ (b ++ p)) ++ rest
-regroup i h' h m b c p d rest e1 e2 e4 e5 e6 =
-    e1 ∙ ap (λ l. l ++ m) e2 ∙ ap (λ l. h ++ l) (e4 ∙ ap (λ l. b ++ l) (e5 ∙ ap (λ l. p ++ l) e6) ∙ sym (append_assoc b p rest)) ∙ sym (append_assoc h (b ++ p) rest)
+regroup : (i h m b c p d rest : List ℕ) → i ≡ h ++ m → m ≡ b ++ c → c ≡ p ++ d → d ≡ rest → i ≡ (h ++ (b ++ p)) ++ rest
+regroup i h m b c p d rest e1 e2 e3 e4 = e1 ∙ ap (λ l. h ++ l) (e2 ∙ ap (λ l. b ++ l) (e3 ∙ ap (λ l. p ++ l) e4) ∙ sym (append_assoc b p rest)) ∙ sym (append_assoc h (b ++ p) rest)
 
 found_same : (o : Opening) (records : List StreamRecord) (i rest : List ℕ) (r q : StreamRecord) → r ≡ q → Found o records i r rest → Found o records i q rest
 found_same o records i rest r q is f = subst (λ (x : StreamRecord). Found o records i x rest) is f
@@ -93,13 +92,12 @@ found o records i r rest going h =
     let w = both_pass (tried (fault_at_end n.x.type (sent o.kind (records ++ n.x ∷ []))) n.mid) (λ _. Passes n.x n.mid) r rest n.second in
     let whole = tried_passes _ n.mid w.mid w.x w.first in
     let same = same_passes _ _ _ _ w.second in
-    let a = both_pass (head_at b i) (behind_head o.kind b.top) n.x n.mid (sym (begins b i) ∙ n.first) in
-    let p = header_passes 8 (fault_of_head b) (λ l. l) i a.x a.mid a.first in
-    let head = a.x in
+    let a = taken 8 (fault_of_head b) (λ head mid. behind_head o.kind b.top (head, mid)) i n.x n.mid (sym (head_stage b i) ∙ n.first) in
+    let head = a.bytes in
     let type = le32 head 0 in
     let len = le32 head 4 in
-    let fine = fields_fine b type len (ap (fault_of_head b) (sym p.value) ∙ p.fine) in
-    let c = both_pass (body_at o.kind b.top type len a.mid) (behind_body head) n.x n.mid a.second in
+    let fine = fields_fine b type len a.fine in
+    let c = both_pass (body_at o.kind b.top type len a.mid) (behind_body head) n.x n.mid a.after in
     let d = both_pass (part Truncated (padding_len len) c.mid) (λ padding. Passes (record { type = type; content = c.x }) padding.1) n.x n.mid c.second in
     let q = part_passes Truncated _ c.mid d.x d.mid d.first in
     let f = same_passes _ _ _ _ d.second in
@@ -107,10 +105,10 @@ found o records i r rest going h =
     let is_record : record { type = type; content = c.x } ≡ n.x = f.0 in
     found_same o records i rest (record { type = type; content = c.x }) r (is_record ∙ same.0) (record {
       text = head ++ (s.body ++ d.x);
-      whole = regroup i p.bytes head a.mid s.body c.mid d.x d.mid rest p.whole p.value s.whole q.0 (f.1 ∙ same.1);
+      whole = regroup i head a.mid s.body c.mid d.x d.mid rest a.whole s.whole q.0 (f.1 ∙ same.1);
       follows = record {
         body = s.body;
-        is = record { head = head; padding = d.x; whole = refl {a = head ++ (s.body ++ d.x)}; head_len = ap length (sym p.value) ∙ p.size; type_is = refl {a = type}; len_is = sym s.body_len; padded = q.1 ∙ ap padding_len (sym s.body_len) };
+        is = record { head = head; padding = d.x; whole = refl {a = head ++ (s.body ++ d.x)}; head_len = a.size; type_is = refl {a = type}; len_is = sym s.body_len; padded = q.1 ∙ ap padding_len (sym s.body_len) };
         says = s.says;
         small = subst (λ n. n ≤ 2 ^ 27) (sym s.body_len) fine.small;
         built = fine.built;

@@ -1,5 +1,5 @@
 -- A record behind its head and behind its body, and the whole guest behind the last record.
-use Rattle.std.proofs.Common.{◌≡◌, ℕ, List, [], ◌∷◌, ◌++◌, false, nat_eq, Option, Some, None, length, refl, ap, ◌∙◌}
+use Rattle.std.proofs.Common.{◌≡◌, ℕ, List, [], ◌∷◌, ◌++◌, false, nat_eq, Option, Some, None, length, refl, sym, ap, ◌∙◌}
 use Rattle.std.proofs.Common.{arith}
 use Rattle.std.proofs.lemmas.Grind.{common_steps}
 use Rattle.mig_bytes.specs.Bytes.{padding_len}
@@ -15,7 +15,7 @@ use Rattle.mig_records.specs.Heads.{head_in}
 use Rattle.mig_pvtables.specs.Faults.{fault_of_guest}
 use Rattle.mig_restore.specs.Mean.{sent}
 use Rattle.mig_restore.specs.Record.{StreamRecord, Content}
-use Rattle.mig_restore.specs.Judging.{Opening, Before, before, record_at, next_at, head_at, body_at, fault_at_end}
+use Rattle.mig_restore.specs.Judging.{Opening, Before, before, record_at, next_at, head_at, body_at, fault_of_head, fault_at_end}
 
 unfoldable pub behind_body : List ℕ → Content × List ℕ → Judged Cause StreamRecord
 behind_body head body = part Truncated (padding_len (le32 head 4)) body.1 >>= λ padding. Passes (record { type = le32 head 0; content = body.0 }) padding.1
@@ -37,6 +37,15 @@ goes_on head h k k' t t' is same_kind same_top i =
 pub padded : (head : List ℕ) (h : RecordHead) (c : Content) → h ≡ head_in head → (i : List ℕ) → behind_body head (c, i) ≡ (part Truncated (padding_len h.len) i >>= λ padding. Passes (record { type = h.kind; content = c }) padding.1)
 unfolding behind_body
 padded head h c is i = rw (ap (λ (x : RecordHead). x.kind) is, ap (λ (x : RecordHead). x.len) is) refl
+
+-- the causes of so many bytes tried in them alone
+pub assoc : {X : Type 0} (f : List ℕ → Option Cause) (next : List ℕ → List ℕ → Judged Cause X) (j : Judged Cause (List ℕ)) → (j >>= λ p. tried (f p.0) p.1 >>= λ _. next p.0 p.1) ≡ ((j >>= λ p. tried (f p.0) p.1 >>= λ _. Passes p.0 p.1) >>= λ p. next p.0 p.1)
+assoc f next (Faulty d mid) = refl
+assoc f next (Passes x mid) = elim (f x) as (λ g. (tried g mid >>= λ _. next x mid) ≡ ((tried g mid >>= λ _. Passes x mid) >>= λ p. next p.0 p.1)) [ None ↦ refl | Some d ↦ refl ]
+
+-- a record: its head, and what follows it
+pub head_stage : (b : Before) (i : List ℕ) → record_at b i ≡ (part Truncated 8 i >>= λ p. tried (fault_of_head b p.0) p.1 >>= λ _. behind_head b.opening.kind b.top (p.0, p.1))
+head_stage b i = begins b i ∙ sym (assoc (fault_of_head b) (λ head rest. behind_head b.opening.kind b.top (head, rest)) (part Truncated 8 i))
 
 -- ---- the whole guest
 
