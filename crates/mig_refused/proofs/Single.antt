@@ -3,9 +3,8 @@ use Rattle.std.proofs.Common.{◌≡◌, ◌⊎◌, inl, inr, ℕ, List, [], ◌
 use Rattle.std.proofs.lemmas.Bool.{lt-ltb, ltb-true}
 use Rattle.mig_bytes.specs.Judged.{Judged, ◌>>=◌, part, tried}
 use Rattle.mig_bytes.specs.Judged.Judged.{Passes, Faulty}
-use Rattle.mig_bytes.proofs.Joins.{part_whole, then_passes, tried_none}
+use Rattle.mig_bytes.proofs.Joins.{part_whole, part_passes, tried_passes, then_passes, tried_none}
 use Rattle.mig_headers.specs.declared.fault.Cause.{Cause}
-use Rattle.mig_restore.proofs.Parts.{header_passes, assoc}
 use Rattle.mig_headers.specs.declared.fault.Cause.TheVariants.{Truncated}
 use Rattle.mig_refused.specs.Refusal.{IsFirstCause, StreamPart, Stands, size_of, IsFaultless, Fails}
 use Rattle.mig_refused.specs.Refusal.Fails.{short, faulty}
@@ -64,10 +63,6 @@ pub only_first : {C X Y : Type 0} (says : X → Y) (j : Judged C X) (c : C) (res
 only_first says (Passes x mid) c rest h = passes_not (says x) mid c rest h
 only_first says (Faulty d mid) c rest h = let e = same_faulty d c mid rest h in rw (e.0, e.1) refl
 
-trial_cases : (f : List ℕ → Option Cause) (j : Judged Cause (List ℕ)) (c : Cause) (rest : List ℕ) → (j >>= λ p. tried (f p.0) p.1 >>= λ _. Passes p.0 p.1) ≡ Faulty c rest → (j >>= λ p. tried (f p.0) p.1) ≡ Faulty c rest
-trial_cases f (Faulty d mid) c rest h = let e = same_faulty d c mid rest h in rw (e.0, e.1) refl
-trial_cases f (Passes x mid) c rest h = elim (bind_cases (tried (f x) mid) (λ _. Passes x mid) c rest h) [ inl e ↦ e | inr e ↦ passes_not x mid c rest e.3 ]
-
 module _ {X : Type 0} (n : ℕ) (f : List ℕ → Option Cause) (next : List ℕ → List ℕ → Judged Cause X) where
   pub stage_faulty : (i : List ℕ) (c : Cause) (rest : List ℕ) → trial n f i ≡ Faulty c rest → stage n f next i ≡ Faulty c rest
   stage_faulty i c rest h = faulty_by (part Truncated n i) h
@@ -88,12 +83,14 @@ module _ {X : Type 0} (n : ℕ) (f : List ℕ → Option Cause) (next : List ℕ
     pub after : next bytes mid ≡ Faulty c rest
 
   pub stage_cases : (i : List ℕ) (c : Cause) (rest : List ℕ) → stage n f next i ≡ Faulty c rest → (trial n f i ≡ Faulty c rest) ⊎ Goes i c rest
-  stage_cases i c rest h = elim (bind_cases (stage n f (λ x r. Passes x r) i) (λ p. next p.0 p.1) c rest (sym (assoc f next (part Truncated n i)) ∙ h)) [
-    | inl e ↦ inl (trial_cases f (part Truncated n i) c rest e)
-    | inr a ↦
-        let p = header_passes n f (λ l. l) i a.0 a.1 a.2 in
-        inr (record { bytes = p.bytes; mid = a.1; whole = p.whole; size = p.size; none = p.fine; after = ap (λ l. next l a.1) p.value ∙ a.3 })
-  ]
+  stage_cases i c rest h = by (part Truncated n i) refl h
+    where
+      by : (j : Judged Cause (List ℕ)) → part Truncated n i ≡ j → (j >>= λ p. tried (f p.0) p.1 >>= λ _. next p.0 p.1) ≡ Faulty c rest → ((j >>= λ p. tried (f p.0) p.1) ≡ Faulty c rest) ⊎ Goes i c rest
+      by (Faulty d mid) is h = let e = same_faulty d c mid rest h in inl (rw (e.0, e.1) refl)
+      by (Passes x mid) is h = elim (bind_cases (tried (f x) mid) (λ _. next x mid) c rest h) [
+        | inl e ↦ inl e
+        | inr a ↦ let p = part_passes Truncated n i x mid is in inr (record { bytes = x; mid = mid; whole = p.0; size = p.1; none = (tried_passes (f x) mid a.1 a.0 a.2).0; after = a.3 })
+      ]
 
 -- ---- a part that fails
 
