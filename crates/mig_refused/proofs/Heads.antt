@@ -34,16 +34,7 @@ same_number this other is =
     same_Some this other (sym (numbers_are_inverse.type_of this) ∙ ap type_of_number is ∙ numbers_are_inverse.type_of other)
 
 same_type : (this other : RecordType) → is_of (other ∷ []) this ≡ true → this ≡ other
-same_type this other is = elim (or_cases (nat_eq (type_number this) (type_number other)) false is) [
-  | inl e ↦ same_number this other (eqb-true (type_number this) (type_number other) e)
-  | inr e ↦ absurd (false≢true e)
-]
-
-no_such : {X : Type 0} (type : ℕ) (this : RecordType) → type_of_number type ≡ None → type ≡ type_number this → X
-no_such type this none is = let e : None ≡ Some this = sym none ∙ ap type_of_number is ∙ numbers_are_inverse.type_of this in absurd (apart e)
-  where
-    apart : {x : RecordType} → None ≡ Some x → ⊥
-    apart q = cc
+same_type this other is = same_number this other (grind (arith, common_steps, is))
 
 mandatory : (this : RecordType) → is_optional (type_number this) ≡ false
 mandatory End = refl

@@ -20,7 +20,7 @@ named_is Has (Some d) c p n = elim (p.holds.2 n.0 c n.1) [
   | inl before ↦ elim (n.2 p.holds.0 d p.holds.1) [ inr e ↦ ap Some e | inl after ↦ absurd (grind (arith, before, after)) ]
 ]
 
-pub none_is : (Has : ℕ → Cause → Type 0) (f : Option Cause) → Least Has f → ((k : ℕ) (c : Cause) → Has k c → ⊥) → f ≡ None
+none_is : (Has : ℕ → Cause → Type 0) (f : Option Cause) → Least Has f → ((k : ℕ) (c : Cause) → Has k c → ⊥) → f ≡ None
 none_is Has None p never = refl
 none_is Has (Some d) p never = absurd (never p.holds.0 d p.holds.1)
 

@@ -39,7 +39,7 @@ unfolding behind_body
 padded head h c is i = rw (ap (λ (x : RecordHead). x.kind) is, ap (λ (x : RecordHead). x.len) is) refl
 
 -- the causes of so many bytes tried in them alone
-pub assoc : {X : Type 0} (f : List ℕ → Option Cause) (next : List ℕ → List ℕ → Judged Cause X) (j : Judged Cause (List ℕ)) → (j >>= λ p. tried (f p.0) p.1 >>= λ _. next p.0 p.1) ≡ ((j >>= λ p. tried (f p.0) p.1 >>= λ _. Passes p.0 p.1) >>= λ p. next p.0 p.1)
+assoc : {X : Type 0} (f : List ℕ → Option Cause) (next : List ℕ → List ℕ → Judged Cause X) (j : Judged Cause (List ℕ)) → (j >>= λ p. tried (f p.0) p.1 >>= λ _. next p.0 p.1) ≡ ((j >>= λ p. tried (f p.0) p.1 >>= λ _. Passes p.0 p.1) >>= λ p. next p.0 p.1)
 assoc f next (Faulty d mid) = refl
 assoc f next (Passes x mid) = elim (f x) as (λ g. (tried g mid >>= λ _. next x mid) ≡ ((tried g mid >>= λ _. Passes x mid) >>= λ p. next p.0 p.1)) [ None ↦ refl | Some d ↦ refl ]
 
