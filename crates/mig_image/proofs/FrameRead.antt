@@ -1,28 +1,28 @@
 -- How what the readers of a frame give joins, and what a head without a fault says.
 use Rattle.std.specs.Result.{IsErrAnd}
-use Rattle.std.proofs.Common.{◌≡◌, ℕ, ◌+◌, ◌^◌, ◌<◌, true, false, cond, nat_le, List, length, Option, Some, None, is_some, Result, Ok, Err, refl, sym, ap, subst, ◌∙◌, arith}
+use Rattle.std.proofs.Common.{◌≡◌, ℕ, ◌+◌, true, false, cond, List, length, Option, Some, None, is_some, Result, Ok, Err, refl, sym, ap, subst, ◌∙◌}
 use Rattle.std.specs.Prelude.{◌==◌}
-use Rattle.std.proofs.lemmas.Bool.{not-false, or_parts, leb-false, eq-eqb}
-use Rattle.std.proofs.lemmas.Grind.{common_steps}
+use Rattle.std.proofs.lemmas.Bool.{eqb-false}
+use Rattle.std.proofs.lemmas.Option.{same_Some}
 use Rattle.std.specs.Cmp.{nat_cmp_total}
 use Rattle.std.specs.FinMap as maps
-use Rattle.std.specs.FinMap.{len-insert, len-entries, get-entries}
+use Rattle.std.specs.FinMap.{nat_cmp-IsAntisymmetric, len-insert, len-entries}
 use Rattle.mig_bytes.specs.declared.part.Stop.{Stop}
 use Rattle.mig_bytes.specs.Fields.{le64}
 use Rattle.mig_bytes.specs.Judged.{Judged, ◌>>=◌, part, Gives}
 use Rattle.mig_bytes.specs.Judged.Judged.{Passes, Faulty}
-use Rattle.mig_bytes.proofs.Joins.{stop, done, judged_so}
+use Rattle.mig_bytes.proofs.Joins.{stopped, done, judged_so}
 use Rattle.mig_headers.specs.declared.image_fault.ImageCause.{ImageCause}
 use Rattle.mig_headers.specs.declared.image_fault.ImageCause.TheVariants.{Truncated}
+use Rattle.mig_headers.proofs.FirstFaults.{rows_fine}
 use Rattle.mig_pagetypes.specs.declared.page_type.PageType.{PageType}
 use Rattle.mig_pagetypes.specs.PageTypes.{type_has_data}
-use Rattle.mig_guest.specs.Frames.{is_type_of}
 use Rattle.mig_guest.specs.Hosts.{HostOf, HostFrame, HostFrames, IsHostFrame}
 use Rattle.mig_image.specs.ImageParts.{head_pfn, head_type, frame_rows, fault_of_frame, frame_head_at, host_page_at, frame_said, put_frame, host_frame_at}
+use Rattle.mig_image.proofs.FrameTexts.{frame_fits}
 use Rattle.mig_image.proofs.InOrder.{none_passes}
 use Rattle.mig_image.proofs.KeyTests.{frame_absent}
-use Rattle.mig_image.proofs.PartRead.{after, handed_on}
-use Rattle.mig_headers.proofs.FirstFaults.{rows_fine}
+use Rattle.mig_image.proofs.PartRead.{after}
 
 -- ---- a frame is read
 
@@ -68,7 +68,7 @@ module _ (h : HostOf) where
       -- the page isn't read
       pub page_stops : (e : Stop ImageCause) (r : Result Z (Stop ImageCause)) → IsErrAnd r (λ d. d ≡ e) → Reads (Err e) → Gives Q a c (host_frame_at h) r
       page_stops e r is n =
-          handed_on Q a c (host_frame_at h) e r is (behind (Err e) (stop {W = Unit {0}} (λ _ bytes. bytes ≡ page) Q b c (part Truncated 4096) (λ page. put_said head (Some page.0, page.1)) e (whole (Err e) n)))
+          behind r (stopped {X = Unit {0}} (λ _ bytes. bytes ≡ page) Q b c (part Truncated 4096) _ (λ page. put_said head (Some page.0, page.1)) e r (λ i. refl) is (whole (Err e) n))
 
 -- ---- a frame whose head has no fault
 
@@ -88,30 +88,20 @@ module _ (h : HostOf) (head : List ℕ) (fine : fault_of_frame h head ≡ None) 
   pub is_unused : (machine : ℕ) → machine ≡ le64 head 8 → (other : ℕ) (frame : HostFrame) → maps.get h.frames other ≡ Some frame → frame.machine ≡ machine → ⊥
   is_unused machine is other frame found same =
       let (zero, (type, (order, (outside, (range, (twice, done)))))) = rows_fine (frame_rows h head) fine in
-      let wrong : true ≡ false = sym (eq-eqb frame.machine (le64 head 8) (same ∙ is)) ∙ none_passes nat_cmp_total (λ (f : HostFrame). f.machine == le64 head 8) other frame (maps.entries h.frames) twice (sym (get-entries h.frames other) ∙ found) in cc
-
-  -- it is one that a host has
-  pub is_frame : (pfn machine : ℕ) (kind : PageType) (page : List ℕ) → pfn ≡ head_pfn head → machine ≡ le64 head 8 → kind ≡ head_type head → type_has_data kind ≡ true → length page ≡ 4096
-      → IsHostFrame h.kind h.width pfn (record { type = kind; machine = machine; page = Some page })
-  is_frame pfn machine kind page pfn_is machine_is kind_is some size =
-      let (zero, (type, (order, (outside, (range, others))))) = rows_fine (frame_rows h head) fine in
-      let (none, wide) = or_parts (le64 head 8 == 0) (nat_le (2 ^ 40) (le64 head 8)) range in
-      record {
-        inside = subst (λ n. n < h.width) (sym pfn_is) (leb-false h.width (head_pfn head) outside);
-        type = ap (is_type_of h.kind) kind_is ∙ not-false (is_type_of h.kind (head_type head)) type;
-        some_machine = subst (λ n. 0 < n) (sym machine_is) (some_number (le64 head 8) none);
-        machine = subst (λ n. n < 2 ^ 40) (sym machine_is) (leb-false (2 ^ 40) (le64 head 8) wide);
-        in_step = sym some;
-        whole = λ other e. ap length (same_page other e) ∙ size;
-      }
-    where
-      some_number : (n : ℕ) → (n == 0) ≡ false → 0 < n
-      some_number n ne = grind (arith, common_steps)
-
-      same_page : (other : List ℕ) → Some page ≡ Some other → other ≡ page
-      same_page other e = cc
+      eqb-false frame.machine (le64 head 8) (none_passes nat_cmp_total nat_cmp-IsAntisymmetric (λ x. x.1.machine == le64 head 8) h.frames other frame twice found) (same ∙ is)
 
 -- the frame that is set is the one that the head and the page say
+said : (head : List ℕ) (pfn machine : ℕ) (kind : PageType) (page : Option (List ℕ)) → pfn ≡ head_pfn head → machine ≡ le64 head 8 → kind ≡ head_type head
+    → ◌≡◌ {A = ℕ × HostFrame} (pfn, record { type = kind; machine = machine; page = page }) (head_pfn head, frame_said head page)
+said head pfn machine kind page p m k i = (p i, record { type = k i; machine = m i; page = page })
+
 pub said_is : (h : HostOf) (head : List ℕ) (pfn machine : ℕ) (kind : PageType) (page : Option (List ℕ)) → pfn ≡ head_pfn head → machine ≡ le64 head 8 → kind ≡ head_type head
     → put_frame h pfn (record { type = kind; machine = machine; page = page }) ≡ put_frame h (head_pfn head) (frame_said head page)
-said_is h head pfn machine kind page p m k i = put_frame h (p i) (record { type = k i; machine = m i; page = page })
+said_is h head pfn machine kind page p m k = ap (λ e. put_frame h e.0 e.1) (said head pfn machine kind page p m k)
+
+-- it is one that a host has
+pub is_frame : (h : HostOf) (head : List ℕ) → fault_of_frame h head ≡ None → (pfn machine : ℕ) (kind : PageType) (page : List ℕ) → pfn ≡ head_pfn head → machine ≡ le64 head 8 → kind ≡ head_type head → type_has_data kind ≡ true → length page ≡ 4096
+    → IsHostFrame h.kind h.width pfn (record { type = kind; machine = machine; page = Some page })
+is_frame h head fine pfn machine kind page p m k some size =
+    subst (λ (e : ℕ × HostFrame). IsHostFrame h.kind h.width e.0 e.1) (sym (said head pfn machine kind (Some page) p m k))
+    (frame_fits h head (Some page) fine (sym (ap type_has_data (sym k) ∙ some)) (λ other e. ap length (sym (same_Some page other e)) ∙ size)).is

@@ -2,7 +2,8 @@
 use Rattle.std.proofs.Common.{◌≡◌, ℕ, ◌+◌, ◌*◌, ◌/◌, ◌%◌, ◌^◌, ◌<◌, ◌≤◌, Bool, false, cond, not, nat_eq, nat_le, List, [], ◌++◌, length, Option, Some, None, is_some, unwrap_or, refl, sym, ap, ◌∙◌, arith, append_assoc}
 use Rattle.std.specs.Prelude.{◌||◌, ◌==◌}
 use Rattle.std.specs.List.{list_any}
-use Rattle.std.proofs.lemmas.Bool.{or_from, lt-leb, ne_eqb}
+use Rattle.std.proofs.lemmas.Bool.{not-false, or_parts, or_from, leb-false, lt-leb, ne_eqb}
+use Rattle.std.proofs.lemmas.Grind.{common_steps}
 use Rattle.std.specs.FinMap as maps
 use Rattle.byteorder.specs.Endian.{little_bytes}
 use Rattle.byteorder.specs.Numbers.{little_number-reads_back}
@@ -14,14 +15,14 @@ use Rattle.mig_headers.specs.declared.image_fault.ImageCause.{ImageCause}
 use Rattle.mig_headers.specs.declared.image_fault.ImageCause.TheVariants.{Truncated}
 use Rattle.mig_headers.specs.declared.kind.Kind.{Kind}
 use Rattle.mig_pagetypes.specs.declared.page_type.PageType.{PageType}
-use Rattle.mig_pagetypes.specs.declared.page_type.PageType.TheVariants.{Notab, L1Tab, L2Tab, L3Tab, L4Tab, L1Pinned, L2Pinned, L3Pinned, L4Pinned, Broken, Xalloc, Xtab}
+use Rattle.mig_pagetypes.specs.declared.page_type.PageType.TheVariants.{Xtab}
 use Rattle.mig_pagetypes.specs.PageTypes.{number_of, type_of, type_or_none, type_has_data}
 use Rattle.mig_guest.specs.Frames.{is_type_of}
 use Rattle.mig_guest.specs.Hosts.{HostOf, HostFrame, HostFrames, IsHostFrame}
 use Rattle.mig_image.specs.Image.{host_word, frame_head_of, frame_text}
 use Rattle.mig_image.specs.ImageParts.{head_pfn, head_type, has_machine, has_frame_from, frame_rows, fault_of_frame, frame_head_at, host_page_at, frame_said, put_frame, host_frame_at}
 use Rattle.mig_bytes.proofs.Joins.{then_passes, tried_none}
-use Rattle.mig_headers.proofs.FirstFaults.{no_fault}
+use Rattle.mig_headers.proofs.FirstFaults.{no_fault, rows_fine}
 
 -- a frame that may stand behind these
 pub record FrameFits (kind : Kind) (width : ℕ) (m : HostFrames) (e : ℕ × HostFrame) : Type 0 where
@@ -29,35 +30,36 @@ pub record FrameFits (kind : Kind) (width : ℕ) (m : HostFrames) (e : ℕ × Ho
   pub behind : list_any (λ x. nat_le e.0 x.0) (maps.entries m) ≡ false
   pub alone : list_any (λ x. x.1.machine == e.1.machine) (maps.entries m) ≡ false
 
+-- so does what a head without a fault and its page say
+pub frame_fits : (h : HostOf) (head : List ℕ) (page : Option (List ℕ)) → fault_of_frame h head ≡ None → is_some page ≡ type_has_data (head_type head) → ((p : List ℕ) → page ≡ Some p → length p ≡ 4096) → FrameFits h.kind h.width h.frames (head_pfn head, frame_said head page)
+frame_fits h head page fine in_step whole =
+    let (reserved, (type, (order, (outside, (machine, (twice, done)))))) = rows_fine (frame_rows h head) fine in
+    let (some, small) = or_parts (nat_eq (le64 head 8) 0) (nat_le (2 ^ 40) (le64 head 8)) machine in
+    record {
+      is = record {
+        inside = leb-false h.width (head_pfn head) outside;
+        type = not-false (is_type_of h.kind (head_type head)) type;
+        some_machine = positive (le64 head 8) some;
+        machine = leb-false (2 ^ 40) (le64 head 8) small;
+        in_step = in_step;
+        whole = whole;
+      };
+      behind = order;
+      alone = twice;
+    }
+  where
+    positive : (n : ℕ) → nat_eq n 0 ≡ false → 0 < n
+    positive n h = grind (arith, common_steps)
+
 -- ---- the fields of a head
 
 number_small : (kind : PageType) → number_of kind < 16
-number_small Notab = omega arith
-number_small L1Tab = omega arith
-number_small L2Tab = omega arith
-number_small L3Tab = omega arith
-number_small L4Tab = omega arith
-number_small L1Pinned = omega arith
-number_small L2Pinned = omega arith
-number_small L3Pinned = omega arith
-number_small L4Pinned = omega arith
-number_small Broken = omega arith
-number_small Xalloc = omega arith
 number_small Xtab = omega arith
+number_small _ = omega arith
 
 typed : (kind : PageType) → type_of (number_of kind) ≡ Some kind
-typed Notab = refl
-typed L1Tab = refl
-typed L2Tab = refl
-typed L3Tab = refl
-typed L4Tab = refl
-typed L1Pinned = refl
-typed L2Pinned = refl
-typed L3Pinned = refl
-typed L4Pinned = refl
-typed Broken = refl
-typed Xalloc = refl
 typed Xtab = refl
+typed _ = refl
 
 word_small : (n pfn : ℕ) → n < 16 → pfn < 2 ^ 28 → n * 2 ^ 28 + pfn < 2 ^ 32
 word_small n pfn a b = omega arith

@@ -1,6 +1,6 @@
 -- The entries of a host's frames: some one of them has a machine frame, and the first from a number on.
 use Rattle.std.proofs.Common.{◌≡◌, ℕ, ◌+◌, Bool, true, false, cond, nat_le, List, [], ◌∷◌, map, Option, Some, None, is_some, IfSome, IfNone, refl, sym, ap, subst, ◌∙◌}
-use Rattle.std.specs.Prelude.{T, ◌||◌, ◌==◌, unwrap_or}
+use Rattle.std.specs.Prelude.{T, ◌==◌, unwrap_or}
 use Rattle.std.specs.List.{list_any}
 use Rattle.std.specs.Option.{option_map}
 use Rattle.std.specs.Ordering.{nat_cmp, is_lt, is_eq, eq_by_cmp}
@@ -17,7 +17,7 @@ use Rattle.mig_guest.specs.Hosts.{HostFrame}
 use Rattle.mig_guest.proofs.KeyedMaps.{tied}
 use Rattle.mig_guest.proofs.PartCursor.{both_of}
 use Rattle.mig_image.specs.HostView.{MachineMap, with_machine, machine_in, AreMatched}
-use Rattle.mig_image.proofs.MachineMaps.{same_value}
+use Rattle.mig_image.proofs.InOrder.{some_entry, no_entry}
 use Rattle.mig_pvtables.proofs.EachValue.{shown}
 use Rattle.mig_image.proofs.HostMaps.{joined, entries_with_machines, machine_joined}
 
@@ -47,27 +47,6 @@ module _ {X : Type 0} where
   -- what is found behind the first is found
   found_later : (q : ℕ) (e : ℕ × X) (es : List (ℕ × X)) (v : X) → T (below_all nat_cmp e.0 es) → find nat_cmp q es ≡ Some v → find nat_cmp q (e ∷ es) ≡ Some v
   found_later q e es v below is = later_case q e es v (eq_by_cmp nat_cmp q e.0) refl below is
-
-  -- ---- whether some value passes a test
-
-  module _ (p : X → Bool) where
-    any_case : (e : ℕ × X) (v : X) (b rest : Bool) (r : Option X) → cond b (Some e.1) r ≡ Some v → p v ≡ true → (r ≡ Some v → rest ≡ true) → (p e.1 || rest) ≡ true
-    any_case e v true rest r is passes go = ap (λ t. t || rest) (ap p (same_value e.1 v is) ∙ passes)
-    any_case e v false rest r is passes go = ap (λ t. p e.1 || t) (go is) ∙ always (p e.1)
-      where
-        always : (b : Bool) → (b || true) ≡ true
-        always true = refl
-        always false = refl
-
-    some_passes : (es : List (ℕ × X)) (q : ℕ) (v : X) → find nat_cmp q es ≡ Some v → p v ≡ true → list_any (λ e. p e.1) es ≡ true
-    some_passes [] q v is passes = let no : None ≡ Some v = is in cc
-    some_passes (e ∷ es) q v is passes = any_case e v (eq_by_cmp nat_cmp q e.0) _ _ is passes (λ h. some_passes es q v h passes)
-
-    none_passes : (es : List (ℕ × X)) → T (is_sorted nat_cmp es) → ((q : ℕ) (v : X) → find nat_cmp q es ≡ Some v → p v ≡ false) → list_any (λ e. p e.1) es ≡ false
-    none_passes [] sorted go = refl
-    none_passes (e ∷ es) sorted go =
-        let (first, others) = both_of (below_all nat_cmp e.0 es) (is_sorted nat_cmp es) sorted in
-        ap (λ t. t || list_any (λ e. p e.1) es) (go e.0 e.1 (found_at e es)) ∙ none_passes es others (λ q v is. go q v (found_later q e es v first is))
 
   -- ---- the first from a number on
 
@@ -130,7 +109,7 @@ module _ (frames : FrameMap) (machines : MachineMap) where
         → is_some r ≡ list_any (λ e. e.1.machine == machine) (maps.entries (joined frames machines))
     used_joined machine (Some pfn) some none =
         let (f, found, is) = machine_found (maps.get (joined frames machines) pfn) machine (sym some ∙ machine_joined frames machines matched pfn) in
-        sym (some_passes (λ (f : HostFrame). f.machine == machine) (maps.entries (joined frames machines)) pfn f (sym (get-entries (joined frames machines) pfn) ∙ found) (eq-eqb f.machine machine is))
+        sym (some_entry nat_cmp_total nat_cmp-IsAntisymmetric (λ e. e.1.machine == machine) (joined frames machines) pfn f found (eq-eqb f.machine machine is))
     used_joined machine None some none =
-        sym (none_passes (λ (f : HostFrame). f.machine == machine) (maps.entries (joined frames machines)) (entries_sorted (joined frames machines)) (λ q f is.
-        ne_eqb f.machine machine (λ e. none q (machine_joined frames machines matched q ∙ ap (option_map (λ (f : HostFrame). f.machine)) (get-entries (joined frames machines) q ∙ is) ∙ ap Some e))))
+        sym (no_entry nat_cmp_total nat_cmp-IsAntisymmetric (λ e. e.1.machine == machine) (joined frames machines) (λ q f is.
+        ne_eqb f.machine machine (λ e. none q (machine_joined frames machines matched q ∙ ap (option_map (λ (f : HostFrame). f.machine)) is ∙ ap Some e))))

@@ -1,45 +1,36 @@
 -- A host stays valid where a frame or a part is added, and stays what its guest and its machine frames make.
-use Rattle.std.proofs.Common.{◌≡◌, ◌≢◌, ℕ, ◌+◌, ◌<◌, ◌≤◌, ◌^◌, Bool, true, false, cond, length, List, [], ◌∷◌, Option, Some, None, is_some, refl, sym, ap, subst, ◌∙◌, inl, inr, arith}
+use Rattle.std.proofs.Common.{◌≡◌, ◌≢◌, ℕ, ◌+◌, ◌<◌, ◌≤◌, ◌^◌, Bool, true, false, cond, length, List, Option, Some, None, is_some, refl, sym, ap, subst, ◌∙◌, ◌⊎◌, inl, inr, arith}
 use Rattle.std.specs.Prelude.{unwrap_or}
 use Rattle.std.specs.declared.cmp.Ordering.{Ordering}
 use Rattle.std.specs.Option.{option_map}
-use Rattle.std.specs.Ordering.{nat_cmp, eq_by_cmp}
+use Rattle.std.specs.Ordering.{nat_cmp}
 use Rattle.std.specs.Cmp.{IsTotalOrder, nat_cmp_total}
 use Rattle.std.specs.FinMap as maps
-use Rattle.std.specs.FinMap.{FinMap, nat_cmp-IsAntisymmetric, same_map, get-insert, get-empty, len-insert, len-empty, len-entries, empty_of_len}
-use Rattle.std.proofs.lemmas.Bool.{cases_eq}
+use Rattle.std.specs.FinMap.{FinMap, nat_cmp-IsAntisymmetric, same_map, get-empty, len-insert, len-empty, len-entries, empty_of_len}
+use Rattle.std.proofs.lemmas.Bool.{cases_eq, false≢true}
+use Rattle.std.proofs.lemmas.Option.{none-some, same_Some}
 use Rattle.mig_headers.specs.declared.kind.Kind.{Kind}
 use Rattle.mig_headers.specs.declared.kind.Kind.TheVariants.{Pv, Hvm}
 use Rattle.mig_pagetypes.specs.declared.page_type.PageType.{PageType}
-use Rattle.mig_pagetypes.specs.declared.page_type.PageType.TheVariants.{Notab, L1Tab, L2Tab, L3Tab, L4Tab, L1Pinned, L2Pinned, L3Pinned, L4Pinned, Broken, Xalloc, Xtab}
+use Rattle.mig_pagetypes.specs.declared.page_type.PageType.TheVariants.{Xtab}
 use Rattle.mig_guest.specs.declared.part_key.PartKey.{PartKey}
 use Rattle.mig_guest.specs.Frames.{FrameOf, FrameMap, framed, is_type_of}
 use Rattle.mig_guest.specs.Guests.{GuestOf}
 use Rattle.mig_guest.specs.Hosts.{HostOf, HostFrame, HostFrames, IsHostFrame, IsHostPart, IsOneToOne, IsValid}
 use Rattle.mig_guest.specs.Order.{part_cmp}
 use Rattle.mig_guest.specs.Parts.{FitsPolicy, parts_of}
-use Rattle.mig_guest.proofs.KeyedMaps.{tied}
 use Rattle.mig_guest.proofs.PartOrder.{part_total, part_exact}
 use Rattle.mig_image.specs.HostView.{MachineMap, with_machine, machine_in, host_seen, AreMatched, IsMade}
 use Rattle.mig_image.specs.ImageParts.{put_frame, put_part_in}
 use Rattle.mig_image.proofs.HostMaps.{joined, get_with_machines, count_with_machines, machine_joined, there_joined}
-use Rattle.mig_image.proofs.MachineMaps.{got_put, got_other, same_value, nothing}
+use Rattle.mig_image.proofs.InOrder.{found_more, holds_more, no_entries}
+use Rattle.mig_image.proofs.MachineMaps.{absent, got_put, got_other}
 
 -- a frame of a type that a host's frame has
 pub framed_typed : (k : Kind) (kind : PageType) → is_type_of k kind ≡ true → (m : FrameMap) (pfn : ℕ) (page : Option (List ℕ)) → framed m pfn kind page ≡ maps.insert m pfn (record { type = kind; page = page })
-framed_typed k Notab is m pfn page = refl
-framed_typed k L1Tab is m pfn page = refl
-framed_typed k L2Tab is m pfn page = refl
-framed_typed k L3Tab is m pfn page = refl
-framed_typed k L4Tab is m pfn page = refl
-framed_typed k L1Pinned is m pfn page = refl
-framed_typed k L2Pinned is m pfn page = refl
-framed_typed k L3Pinned is m pfn page = refl
-framed_typed k L4Pinned is m pfn page = refl
-framed_typed k Broken is m pfn page = refl
-framed_typed k Xalloc is m pfn page = refl
-framed_typed Pv Xtab is m pfn page = absurd (let no : false ≡ true = is in cc)
-framed_typed Hvm Xtab is m pfn page = absurd (let no : false ≡ true = is in cc)
+framed_typed Pv Xtab is m pfn page = absurd (false≢true is)
+framed_typed Hvm Xtab is m pfn page = absurd (false≢true is)
+framed_typed k _ is m pfn page = refl
 
 at_most : (b : Bool) (n : ℕ) → cond b n (n + 1) ≤ n + 1
 at_most true n = omega arith
@@ -59,30 +50,14 @@ module _ (h : HostOf) (pfn : ℕ) (frame : HostFrame) (valid : IsValid h) (fine 
   abbrev more : HostFrames
   more = maps.insert h.frames pfn frame
 
-  -- an entry is the one that was put, or was there
-  is_new : (q : ℕ) (f : HostFrame) → q ≡ pfn → maps.get more q ≡ Some f → frame ≡ f
-  is_new q f same is = same_value frame f (sym (got_put h.frames pfn frame) ∙ ap (maps.get more) (sym same) ∙ is)
-
-  was : (q : ℕ) (f : HostFrame) → q ≢ pfn → maps.get more q ≡ Some f → maps.get h.frames q ≡ Some f
-  was q f ne is = sym (got_other h.frames pfn frame q ne) ∙ is
-
-  fine_more : (q : ℕ) (f : HostFrame) → maps.get more q ≡ Some f → IsHostFrame h.kind h.width q f
-  fine_more q f is = elim (cases_eq q pfn) [
-    | inl same ↦ subst (λ (n : ℕ). IsHostFrame h.kind h.width n f) (sym same) (subst (IsHostFrame h.kind h.width pfn) (is_new q f same is) fine)
-    | inr ne ↦ valid.frames q f (was q f ne is)
-  ]
-
   one_more : IsOneToOne more
-  one_more p q f g has gets alike = elim (cases_eq p pfn) [
-    | inl same ↦ elim (cases_eq q pfn) [
-      | inl too ↦ same ∙ sym too
-      | inr ne ↦ absurd (unused q g (was q g ne gets) (sym alike ∙ ap (λ (x : HostFrame). x.machine) (sym (is_new p f same has))))
-    ]
-    | inr ne ↦ elim (cases_eq q pfn) [
-      | inl too ↦ absurd (unused p f (was p f ne has) (alike ∙ ap (λ (x : HostFrame). x.machine) (sym (is_new q g too gets))))
-      | inr ne' ↦ valid.one_to_one p q f g (was p f ne has) (was q g ne' gets) alike
-    ]
-  ]
+  one_more p q f g has gets alike = by (found_more nat_cmp_total nat_cmp-IsAntisymmetric h.frames pfn frame p f has) (found_more nat_cmp_total nat_cmp-IsAntisymmetric h.frames pfn frame q g gets)
+    where
+      by : ((p ≡ pfn) × (frame ≡ f)) ⊎ (maps.get h.frames p ≡ Some f) → ((q ≡ pfn) × (frame ≡ g)) ⊎ (maps.get h.frames q ≡ Some g) → p ≡ q
+      by (inl (a, b)) (inl (c, d)) = a ∙ sym c
+      by (inl (a, b)) (inr d) = absurd (unused q g d (sym alike ∙ ap (λ (x : HostFrame). x.machine) (sym b)))
+      by (inr b) (inl (c, d)) = absurd (unused p f b (alike ∙ ap (λ (x : HostFrame). x.machine) (sym d)))
+      by (inr b) (inr d) = valid.one_to_one p q f g b d alike
 
   few_more : length (maps.entries h.frames) < 2 ^ 24 → length (maps.entries more) ≤ 2 ^ 24
   few_more few = omega (arith, few, count_put nat_cmp_total h.frames pfn frame)
@@ -91,7 +66,7 @@ module _ (h : HostOf) (pfn : ℕ) (frame : HostFrame) (valid : IsValid h) (fine 
   valid_frame few = record {
     width = valid.width;
     some_width = valid.some_width;
-    frames = fine_more;
+    frames = holds_more nat_cmp_total nat_cmp-IsAntisymmetric (IsHostFrame h.kind h.width) h.frames pfn frame valid.frames fine;
     one_to_one = one_more;
     few = few_more few;
     parts = valid.parts;
@@ -102,11 +77,6 @@ module _ (h : HostOf) (pfn : ℕ) (frame : HostFrame) (valid : IsValid h) (fine 
 -- ---- a part more, or in place of another
 
 module _ (h : HostOf) (key : PartKey) (bytes : List ℕ) (valid : IsValid h) (fine : IsHostPart h.kind h.width key bytes) where
-  part_case : (k : PartKey) (b : List ℕ) (t : Bool) → eq_by_cmp part_cmp k key ≡ t → cond t (Some bytes) (maps.get h.parts k) ≡ Some b → IsHostPart h.kind h.width k b
-  part_case k b true tie is =
-      subst (λ (x : PartKey). IsHostPart h.kind h.width x b) (sym (part_exact k key (tied (part_cmp k key) tie))) (subst (IsHostPart h.kind h.width key) (same_value bytes b is) fine)
-  part_case k b false tie is = valid.parts k b is
-
   pub valid_part : FitsPolicy 17 (maps.insert h.parts key bytes) → FitsPolicy 18 (maps.insert h.parts key bytes) → IsValid (put_part_in h key bytes)
   valid_part leaves msrs = record {
     width = valid.width;
@@ -114,44 +84,41 @@ module _ (h : HostOf) (key : PartKey) (bytes : List ℕ) (valid : IsValid h) (fi
     frames = valid.frames;
     one_to_one = valid.one_to_one;
     few = valid.few;
-    parts = λ k b is. part_case k b (eq_by_cmp part_cmp k key) refl (sym (get-insert part_total h.parts key bytes k) ∙ is);
+    parts = holds_more part_total part_exact (IsHostPart h.kind h.width) h.parts key bytes valid.parts fine;
     leaves = leaves;
     msrs = msrs;
   }
 
 -- ---- what a guest and its machine frames make
 
-no_entries : {A : Type 0} (es : List A) → length es ≡ 0 → es ≡ []
-no_entries [] e = refl
-no_entries (x ∷ es) e = absurd (omega (arith, e))
-
-pub entries_empty : {K : Type 0} (R : K → K → Ordering) (X : Type 0) → maps.entries (maps.empty {X = X} {R = R}) ≡ []
-entries_empty R X = no_entries (maps.entries (maps.empty {X = X} {R = R})) (sym (len-entries (maps.empty {X = X} {R = R})) ∙ len-empty R X)
-
 pub joined_empty : joined maps.empty maps.empty ≡ maps.empty
 joined_empty =
     empty_of_len (joined maps.empty maps.empty)
     (len-entries (joined maps.empty maps.empty) ∙ count_with_machines maps.empty (machine_in maps.empty) ∙ sym (len-entries {R = nat_cmp} (maps.empty {X = FrameOf})) ∙ len-empty nat_cmp FrameOf)
 
--- nothing makes a host without frames and parts
+-- a host without frames and parts
+pub valid_empty : (kind : Kind) (width : ℕ) → width ≤ 2 ^ 28 → (kind ≡ Pv → 0 < width) → IsValid (record { kind = kind; width = width; frames = maps.empty; parts = maps.empty })
+valid_empty kind width small some = record {
+  width = small;
+  some_width = some;
+  frames = λ pfn f has. absurd (none-some f (sym (get-empty nat_cmp pfn) ∙ has));
+  one_to_one = λ p q f g has gets alike. absurd (none-some f (sym (get-empty nat_cmp p) ∙ has));
+  few = subst (λ (es : List (ℕ × HostFrame)). length es ≤ 2 ^ 24) (sym (no_entries nat_cmp HostFrame)) (omega arith);
+  parts = λ k b has. absurd (none-some b (sym (get-empty part_cmp k) ∙ has));
+  leaves = none_of 17;
+  msrs = none_of 18;
+}
+  where
+    none_of : (code : ℕ) → FitsPolicy code maps.empty
+    none_of code = subst (λ (es : List (PartKey × List ℕ)). length (parts_of code es) ≤ 65536) (sym (no_entries part_cmp (List ℕ))) (omega arith)
+
+-- nothing makes such a host
 pub made_empty : (g : GuestOf) (width : ℕ) (kind : Kind) → g ≡ record { kind = kind; top = 0; frames = maps.empty; parts = maps.empty } → width ≤ 2 ^ 28 → (kind ≡ Pv → 0 < width) → IsMade g width maps.empty
 made_empty g width kind is small some =
     subst (λ (x : GuestOf). IsMade x width maps.empty) (sym is) (record {
       matched = λ pfn. ap is_some (get-empty {X = ℕ} nat_cmp pfn) ∙ sym (ap is_some (get-empty {X = FrameOf} nat_cmp pfn));
-      valid = subst (λ (m : HostFrames). IsValid (record { kind = kind; width = width; frames = m; parts = maps.empty })) (sym joined_empty) (record {
-        width = small;
-        some_width = some;
-        frames = λ pfn f has. absurd (nothing f (sym (get-empty nat_cmp pfn) ∙ has));
-        one_to_one = λ p q f g has gets alike. absurd (nothing f (sym (get-empty nat_cmp p) ∙ has));
-        few = subst (λ (es : List (ℕ × HostFrame)). length es ≤ 2 ^ 24) (sym (entries_empty nat_cmp HostFrame)) (omega arith);
-        parts = λ k b has. absurd (nothing b (sym (get-empty part_cmp k) ∙ has));
-        leaves = none_of 17;
-        msrs = none_of 18;
-      });
+      valid = subst (λ (m : HostFrames). IsValid (record { kind = kind; width = width; frames = m; parts = maps.empty })) (sym joined_empty) (valid_empty kind width small some);
     })
-  where
-    none_of : (code : ℕ) → FitsPolicy code maps.empty
-    none_of code = subst (λ (es : List (PartKey × List ℕ)). length (parts_of code es) ≤ 65536) (sym (entries_empty part_cmp (List ℕ))) (omega arith)
 
 module _ (frames : FrameMap) (machines : MachineMap) (pfn : ℕ) (f : FrameOf) (machine : ℕ) where
   abbrev frames_more : FrameMap
@@ -193,18 +160,14 @@ module _ (frames : FrameMap) (machines : MachineMap) (matched : AreMatched frame
   unused_case : (machine : ℕ) (q : ℕ) → maps.get machines q ≡ Some machine → (o : Option HostFrame) → maps.get (joined frames machines) q ≡ o → ((x : HostFrame) → o ≡ Some x → x.machine ≡ machine → ⊥) → ⊥
   unused_case machine q has None is unused = let no : Some machine ≡ None = sym has ∙ no_machine q is in cc
   unused_case machine q has (Some x) is unused =
-      unused x refl (same_value x.machine machine (sym (sym has ∙ machine_joined frames machines matched q ∙ ap (option_map (λ (x : HostFrame). x.machine)) is)))
+      unused x refl (same_Some x.machine machine (sym (sym has ∙ machine_joined frames machines matched q ∙ ap (option_map (λ (x : HostFrame). x.machine)) is)))
 
   -- a machine frame that no frame has belongs to no number
   pub machine_unused : (machine : ℕ) → ((other : ℕ) (x : HostFrame) → maps.get (joined frames machines) other ≡ Some x → x.machine ≡ machine → ⊥) → (q : ℕ) → maps.get machines q ≡ Some machine → ⊥
   machine_unused machine unused q has = unused_case machine q has (maps.get (joined frames machines) q) refl (unused q)
 
-no_value : {X : Type 0} (o : Option X) → is_some o ≡ false → o ≡ None
-no_value None e = refl
-no_value (Some x) e = let no : true ≡ false = e in cc
-
 pub no_frame : (frames : FrameMap) (machines : MachineMap) (pfn : ℕ) → maps.get (joined frames machines) pfn ≡ None → maps.get frames pfn ≡ None
-no_frame frames machines pfn is = no_value (maps.get frames pfn) (sym (there_joined frames machines pfn) ∙ ap is_some is)
+no_frame frames machines pfn is = absent (maps.get frames pfn) (sym (there_joined frames machines pfn) ∙ ap is_some is)
 
 module _ (g : GuestOf) (width : ℕ) (machines : MachineMap) where
   module _ (pfn : ℕ) (f : FrameOf) (machine : ℕ) where

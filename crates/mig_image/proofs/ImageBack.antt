@@ -4,7 +4,6 @@ use Rattle.std.specs.Prelude.{◌&&◌}
 use Rattle.std.specs.List.{flat_map}
 use Rattle.std.proofs.lemmas.Bool.{not-false, or_parts, ltb-false, eqb-true, eqb-false}
 use Rattle.std.proofs.lemmas.List.Elements.{recursion_from_All}
-use Rattle.std.specs.Ordering.{nat_cmp}
 use Rattle.std.specs.FinMap as maps
 use Rattle.byteorder.specs.Endian.{little_bytes}
 use Rattle.mig_bytes.specs.Bytes.{AreBytes}
@@ -18,18 +17,15 @@ use Rattle.mig_headers.specs.declared.image_fault.ImageCause.TheVariants.{Trunca
 use Rattle.mig_headers.specs.declared.image_fault.ImagePlace.TheVariants.{Head, Parts}
 use Rattle.mig_headers.specs.declared.kind.Kind.{Kind}
 use Rattle.mig_headers.specs.declared.kind.Kind.TheVariants.{Pv, Hvm}
+use Rattle.mig_guest.specs.declared.part_key.PartKey.{PartKey}
 use Rattle.mig_guest.specs.Hosts.{HostOf, HostFrame, IsValid}
-use Rattle.mig_guest.specs.Order.{part_cmp}
 use Rattle.mig_image.specs.Image.{host_head, frame_text, part_text, image, IsHostImage}
 use Rattle.mig_image.specs.ImageParts.{name_rows, size_rows, fault_of_name, fault_of_sizes, fault_of_host_head, host_head_at, opened, frames_at, host_parts_at, count_at, behind_head, host_at}
 use Rattle.mig_image.proofs.FieldBytes.{Bytes, bytes_front, bytes_back, name_back, word_back, long_back, cut, last, judged_part, regroup}
-use Rattle.mig_image.proofs.FrameChains.{put_frames, with_frames}
-use Rattle.mig_image.proofs.FrameChains.{Entry as Frame}
-use Rattle.mig_image.proofs.FramesBack.{FramesFound, frames_back, frames_fine, no_frames}
-use Rattle.mig_image.proofs.PartChains.{put_all, with_parts}
-use Rattle.mig_image.proofs.PartChains.{Entry as Part}
-use Rattle.mig_image.proofs.PartsBack.{PartsFound, parts_back, parts_fine, no_parts}
-use Rattle.mig_image.proofs.InOrder.{no_entries}
+use Rattle.mig_image.proofs.Chains.{put_all}
+use Rattle.mig_image.proofs.FramesBack.{with_frames, FramesFound, frames_back, frame_entries, frames_valid}
+use Rattle.mig_image.proofs.HostsMade.{valid_empty}
+use Rattle.mig_image.proofs.PartsBack.{with_parts, PartsFound, parts_back, part_entries, parts_valid}
 use Rattle.mig_headers.proofs.FirstFaults.{rows_fine, both_none}
 
 -- ---- the head
@@ -113,8 +109,8 @@ count_back i n rest all is =
 -- ---- the whole
 
 -- the host that frames give, so far without parts
-abbrev framed : List ℕ → List Frame → HostOf
-framed head es = with_frames (opened head) (put_frames maps.empty es)
+abbrev framed : List ℕ → List (ℕ × HostFrame) → HostOf
+framed head es = with_frames (opened head) (put_all maps.empty es)
 
 -- a front of the input, as it was judged
 record Found (input : List ℕ) (h : HostOf) (rest : List ℕ) : Type 0 where
@@ -128,14 +124,14 @@ record Found (input : List ℕ) (h : HostOf) (rest : List ℕ) : Type 0 where
   size : length head ≡ 32
   bytes : Bytes head
   said : HeadFine head
-  frames : FramesFound (opened head) maps.empty (le64 head 24) at_frames passed at_count
+  frames : FramesFound (opened head) (le64 head 24) at_frames passed at_count
   counted : at_count ≡ little_bytes 8 count ++ at_parts
-  parts : PartsFound (framed head frames.es) maps.empty count at_parts h rest
+  parts : PartsFound (framed head frames.es) count at_parts h rest
 
-parts_found : (head at_frames at_count at_parts : List ℕ) (passed h : HostOf) (count : ℕ) (rest : List ℕ) (f : FramesFound (opened head) maps.empty (le64 head 24) at_frames passed at_count) → Bytes at_parts → host_parts_at count passed at_parts ≡ Passes h rest
-    → PartsFound (framed head f.es) maps.empty count at_parts h rest
+parts_found : (head at_frames at_count at_parts : List ℕ) (passed h : HostOf) (count : ℕ) (rest : List ℕ) (f : FramesFound (opened head) (le64 head 24) at_frames passed at_count) → Bytes at_parts → host_parts_at count passed at_parts ≡ Passes h rest
+    → PartsFound (framed head f.es) count at_parts h rest
 parts_found head at_frames at_count at_parts passed h count rest f all is =
-    parts_back (framed head f.es) maps.empty count 0 at_parts h rest all (subst (λ x. host_parts_at count x at_parts ≡ Passes h rest) f.is is)
+    parts_back (framed head f.es) count at_parts h rest all (subst (λ x. host_parts_at count x at_parts ≡ Passes h rest) f.is is)
 
 found : (input : List ℕ) (h : HostOf) (rest : List ℕ) → Bytes input → host_at input ≡ Passes h rest → Found input h rest
 unfolding host_at
@@ -144,7 +140,7 @@ found input h rest all is =
     let p = judged_part Truncated 32 fault_of_host_head input a.x a.mid (placed_passes Head (host_head_at input) a.x a.mid a.first) in
     let in_frames : Bytes a.mid = bytes_back input a.x a.mid p.0 all in
     let b = both_pass (frames_at (le64 a.x 24) (opened a.x) a.mid) (λ f. placed Parts (count_at f.1) >>= λ count. host_parts_at count.0 f.0 count.1) h rest a.second in
-    let f = frames_back (opened a.x) maps.empty (le64 a.x 24) 0 a.mid b.x b.mid in_frames b.first in
+    let f = frames_back (opened a.x) (le64 a.x 24) a.mid b.x b.mid in_frames b.first in
     let in_count : Bytes b.mid = bytes_back a.mid (flat_map frame_text f.es) b.mid f.whole in_frames in
     let c = both_pass (placed Parts (count_at b.mid)) (λ count. host_parts_at count.0 b.x count.1) h rest b.second in
     let n = count_back b.mid c.x c.mid in_count (placed_passes Parts (count_at b.mid) c.x c.mid c.first) in
@@ -171,7 +167,7 @@ joined input head at_frames frames at_count count at_parts parts rest a b c d =
     regroup input at_frames rest head (frames ++ (count ++ parts)) a (regroup at_frames at_count rest frames (count ++ parts) b (regroup at_count at_parts rest count parts c d))
 
 -- an image of these pieces
-image_of : (g : HostOf) (head : List ℕ) (fs : List Frame) (n : ℕ) (ps : List Part) → host_head g ≡ head → maps.entries g.frames ≡ fs → length (maps.entries g.parts) ≡ n → maps.entries g.parts ≡ ps
+image_of : (g : HostOf) (head : List ℕ) (fs : List (ℕ × HostFrame)) (n : ℕ) (ps : List (PartKey × List ℕ)) → host_head g ≡ head → maps.entries g.frames ≡ fs → length (maps.entries g.parts) ≡ n → maps.entries g.parts ≡ ps
     → image g ≡ head ++ (flat_map frame_text fs ++ (little_bytes 8 n ++ flat_map part_text ps))
 unfolding image
 image_of g head fs n ps a b c d =
@@ -181,46 +177,27 @@ image_of g head fs n ps a b c d =
     ∙ ap (λ l. head ++ (flat_map frame_text fs ++ (little_bytes 8 n ++ flat_map part_text l))) d
 
 module _ (input : List ℕ) (h : HostOf) (rest : List ℕ) (f : Found input h rest) where
-  abbrev kind : Kind
-  kind = kind_of_number (le32 f.head 8)
-
-  abbrev width : ℕ
-  width = le64 f.head 16
-
   abbrev given : HostOf
   given = with_parts (framed f.head f.frames.es) (put_all maps.empty f.parts.es)
 
-  frame_entries : maps.entries given.frames ≡ f.frames.es
-  frame_entries = (frames_fine kind width maps.empty f.frames.es (no_frames kind width) f.frames.chain).1 ∙ ap (λ l. l ++ f.frames.es) (no_entries nat_cmp HostFrame)
+  frames_are : maps.entries given.frames ≡ f.frames.es
+  frames_are = frame_entries (opened f.head) f.frames.es f.frames.chain
 
-  part_entries : maps.entries given.parts ≡ f.parts.es
-  part_entries = (parts_fine kind width maps.empty f.parts.es (no_parts kind width (no_entries part_cmp (List ℕ))) f.parts.chain).1 ∙ ap (λ l. l ++ f.parts.es) (no_entries part_cmp (List ℕ))
-
-  frame_count : length (maps.entries given.frames) ≡ le64 f.head 24
-  frame_count = ap length frame_entries ∙ f.frames.size
+  parts_are : maps.entries given.parts ≡ f.parts.es
+  parts_are = part_entries (framed f.head f.frames.es) f.parts.es f.parts.chain
 
   valid : IsValid given
   valid =
-      let frames = (frames_fine kind width maps.empty f.frames.es (no_frames kind width) f.frames.chain).0 in
-      let parts = (parts_fine kind width maps.empty f.parts.es (no_parts kind width (no_entries part_cmp (List ℕ))) f.parts.chain).0 in
-      record {
-        width = f.said.width;
-        some_width = f.said.some_width;
-        frames = frames.each;
-        one_to_one = frames.one;
-        few = subst (λ n. n ≤ 2 ^ 24) (sym frame_count) f.said.few;
-        parts = parts.each;
-        leaves = parts.leaves;
-        msrs = parts.msrs;
-      }
+      let none = valid_empty (kind_of_number (le32 f.head 8)) (le64 f.head 16) f.said.width f.said.some_width in
+      parts_valid (framed f.head f.frames.es) f.parts.es (frames_valid (opened f.head) f.frames.es none f.frames.chain (subst (λ n. n ≤ 2 ^ 24) (sym f.frames.size) f.said.few)) f.parts.chain
 
   head_is : host_head given ≡ f.head
-  head_is = head_back given f.head f.bytes f.size f.said.name f.said.kind f.said.none refl frame_count
+  head_is = head_back given f.head f.bytes f.size f.said.name f.said.kind f.said.none refl (ap length frames_are ∙ f.frames.size)
 
   spelled : input ≡ image given ++ rest
   spelled =
       joined input f.head f.at_frames (flat_map frame_text f.frames.es) f.at_count (little_bytes 8 f.count) f.at_parts (flat_map part_text f.parts.es) rest f.whole f.frames.whole f.counted f.parts.whole
-      ∙ ap (λ l. l ++ rest) (sym (image_of given f.head f.frames.es f.count f.parts.es head_is frame_entries (ap length part_entries ∙ f.parts.size) part_entries))
+      ∙ ap (λ l. l ++ rest) (sym (image_of given f.head f.frames.es f.count f.parts.es head_is frames_are (ap length parts_are ∙ f.parts.size) parts_are))
 
   is_image : IsHostImage input h rest
   is_image = subst (λ (g : HostOf). IsHostImage input g rest) (sym f.parts.is) (record { valid = valid; spelled = spelled })

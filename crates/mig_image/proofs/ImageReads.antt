@@ -15,14 +15,19 @@ use Rattle.mig_headers.specs.RecordTypes.{pv}
 use Rattle.mig_headers.specs.declared.image_fault.ImageCause.{ImageCause}
 use Rattle.mig_headers.specs.declared.image_fault.ImageCause.TheVariants.{Truncated}
 use Rattle.mig_headers.specs.declared.image_fault.ImagePlace.{ImagePlace}
-use Rattle.mig_headers.specs.declared.image_fault.ImagePlace.TheVariants.{Head, Parts}
+use Rattle.mig_headers.specs.declared.image_fault.ImagePlace.TheVariants.{Head, Frame, Parts, Part}
 use Rattle.mig_headers.specs.declared.kind.Kind.{Kind}
 use Rattle.mig_headers.specs.declared.kind.Kind.TheVariants.{Pv, Hvm}
 use Rattle.mig_guest.specs.Hosts.{HostOf, IsValid}
 use Rattle.mig_image.specs.Image.{host_head, frame_text, part_text, image, IsHostImage}
-use Rattle.mig_image.specs.ImageParts.{is_wide, name_rows, size_rows, fault_of_name, fault_of_sizes, fault_of_host_head, host_head_at, opened, frames_at, host_parts_at, count_at, behind_head, host_at}
-use Rattle.mig_image.proofs.FrameChains.{frames_go, frames_chain, frames_same, frames_within, with_frames}
-use Rattle.mig_image.proofs.PartChains.{parts_go, parts_chain, parts_same, parts_few}
+use Rattle.mig_image.specs.ImageParts.{is_wide, name_rows, size_rows, fault_of_name, fault_of_sizes, fault_of_host_head, host_head_at, opened, host_frame_at, part_at, frames_at, host_parts_at, count_at, behind_head, host_at}
+use Rattle.mig_image.proofs.Chains.{chain_goes}
+use Rattle.mig_image.proofs.FrameChains.{frames_chain, frames_same, frames_within}
+use Rattle.mig_image.proofs.FramesBack.{with_frames}
+use Rattle.mig_image.proofs.FrameTexts.{FrameFits, frame_goes}
+use Rattle.mig_image.proofs.PartChains.{parts_chain, parts_same, parts_few}
+use Rattle.mig_image.proofs.PartsBack.{with_parts}
+use Rattle.mig_image.proofs.PartTexts.{PartFits, part_goes}
 use Rattle.mig_bytes.proofs.Joins.{then_passes, tried_none}
 use Rattle.mig_headers.proofs.FirstFaults.{no_fault}
 
@@ -162,10 +167,14 @@ module _ (h : HostOf) (valid : IsValid h) (rest : List ℕ) where
   wide = valid.width
 
   frames_read : frames_at (length (maps.entries h.frames)) (without h) at_frames ≡ Passes framed at_count
-  frames_read = frames_go (without h) maps.empty (maps.entries h.frames) 0 at_count wide (frames_chain h valid) ∙ ap (λ m. Passes (with_frames (without h) m) at_count) (frames_same h valid)
+  frames_read =
+      chain_goes (FrameFits h.kind h.width) frame_text Frame host_frame_at (with_frames (without h)) (λ m e rest f. frame_goes (with_frames (without h) m) e rest wide f) maps.empty (maps.entries h.frames) 0 at_count (frames_chain h valid)
+      ∙ ap (λ m. Passes (with_frames (without h) m) at_count) (frames_same h valid)
 
   parts_read : host_parts_at count framed at_parts ≡ Passes h rest
-  parts_read = parts_go framed maps.empty (maps.entries h.parts) 0 rest wide (parts_chain h valid) ∙ ap (λ m. Passes (record { kind = h.kind; width = h.width; frames = h.frames; parts = m }) rest) (parts_same h valid)
+  parts_read =
+      chain_goes (PartFits h.kind h.width) part_text Part part_at (with_parts framed) (λ m e rest f. part_goes (with_parts framed m) e rest wide f) maps.empty (maps.entries h.parts) 0 rest (parts_chain h valid)
+      ∙ ap (λ m. Passes (record { kind = h.kind; width = h.width; frames = h.frames; parts = m }) rest) (parts_same h valid)
 
   abbrev behind_frames : HostOf × List ℕ → Judged (ImagePlace × ImageCause) HostOf
   behind_frames f = placed Parts (count_at f.1) >>= λ count. host_parts_at count.0 f.0 count.1

@@ -1,3 +1,4 @@
+pub mod Chains
 pub mod FieldBytes
 pub mod FrameChains
 pub mod FrameRead

@@ -1,5 +1,5 @@
 -- Maps from numbers to numbers, as ordered maps keep them, and pairs of maps that are each other's inverse.
-use Rattle.std.proofs.Common.{◌≡◌, ◌≢◌, ℕ, Bool, true, false, cond, List, [], ◌∷◌, Option, Some, None, Result, Ok, Err, refl, sym, ap, ◌∙◌, inl, inr}
+use Rattle.std.proofs.Common.{◌≡◌, ◌≢◌, ℕ, Bool, true, false, cond, List, [], ◌∷◌, Option, Some, None, is_some, Result, Ok, Err, refl, sym, ap, ◌∙◌, inl, inr}
 use Rattle.std.specs.Result.{OnOk, OnErr, is_err}
 use Rattle.std.specs.Ordering.{nat_cmp, eq_by_cmp}
 use Rattle.std.specs.Cmp.{nat_cmp_total, unsigned_tied}
@@ -7,7 +7,8 @@ use Rattle.std.specs.BTreeMap.{is_at}
 use Rattle.std.specs.Map.{lookup}
 use Rattle.std.specs.FinMap as maps
 use Rattle.std.specs.FinMap.{FinMap, find, nat_cmp-IsAntisymmetric, same_map, get-from_entries, get-insert, get-remove, get-empty}
-use Rattle.std.proofs.lemmas.Bool.{eq-eqb, ne_eqb, cases_eq}
+use Rattle.std.proofs.lemmas.Bool.{eq-eqb, ne_eqb, cases_eq, true≢false}
+use Rattle.std.proofs.lemmas.Option.{none-some, same_Some}
 use Rattle.std.proofs.lemmas.Cmp.{eq_by_cmp_equiv}
 use Rattle.mig_image.specs.HostView.{MachineMap, AreInverse}
 
@@ -20,6 +21,10 @@ on_failure (Err y) e h = h
 pub on_success : {T E P : Type 0} (r : Result T E) → is_err r ≡ false → OnOk r P → P
 on_success (Ok x) e h = h
 on_success (Err y) e h = let no : true ≡ false = e in cc
+
+pub absent : {X : Type 0} (o : Option X) → is_some o ≡ false → o ≡ None
+absent None e = refl
+absent (Some x) e = absurd (true≢false e)
 
 -- ---- one number put or taken
 
@@ -77,20 +82,14 @@ module _ (es fs : List (ℕ × ℕ)) (k : ℕ) where
 
 -- ---- inverse maps
 
-pub same_value : {X : Type 0} (x y : X) → Some x ≡ Some y → x ≡ y
-same_value x y e = cc
-
-pub nothing : {X : Type 0} (x : X) → None ≡ Some x → ⊥
-nothing x e = cc
-
 pub inverse_empty : AreInverse maps.empty maps.empty
-inverse_empty = (λ p m is. absurd (nothing m (sym (get-empty nat_cmp p) ∙ is)), λ m p is. absurd (nothing p (sym (get-empty nat_cmp m) ∙ is)))
+inverse_empty = (λ p m is. absurd (none-some m (sym (get-empty nat_cmp p) ∙ is)), λ m p is. absurd (none-some p (sym (get-empty nat_cmp m) ∙ is)))
 
 one_way : (there back : MachineMap) (p m : ℕ) → ((q n : ℕ) → maps.get there q ≡ Some n → maps.get back n ≡ Some q) → ((q n : ℕ) → maps.get there q ≡ Some n → n ≢ m)
     → (q n : ℕ) → maps.get (maps.insert there p m) q ≡ Some n → maps.get (maps.insert back m p) n ≡ Some q
 one_way there back p m go apart q n is = elim (cases_eq q p) [
   | inl same ↦
-      let value = same_value m n (sym (got_put there p m) ∙ ap (maps.get (maps.insert there p m)) (sym same) ∙ is) in
+      let value = same_Some m n (sym (got_put there p m) ∙ ap (maps.get (maps.insert there p m)) (sym same) ∙ is) in
       ap (maps.get (maps.insert back m p)) (sym value) ∙ got_put back m p ∙ ap Some (sym same)
   | inr ne ↦
       let was = sym (got_other there p m q ne) ∙ is in
@@ -102,5 +101,5 @@ pub inverse_insert : (there back : MachineMap) (p m : ℕ) → AreInverse there 
     → AreInverse (maps.insert there p m) (maps.insert back m p)
 inverse_insert there back p m inverse absent unused = (
   one_way there back p m inverse.0 (λ q n is e. unused q (is ∙ ap Some e)),
-  one_way back there m p inverse.1 (λ n q is e. nothing n (sym absent ∙ ap (maps.get there) (sym e) ∙ inverse.1 n q is)),
+  one_way back there m p inverse.1 (λ n q is e. none-some n (sym absent ∙ ap (maps.get there) (sym e) ∙ inverse.1 n q is)),
 )

@@ -1,8 +1,9 @@
 -- A part that fits behind others is read as it is spelled.
-use Rattle.std.proofs.Common.{◌≡◌, ℕ, zero, suc, ◌+◌, ◌-◌, ◌*◌, ◌/◌, ◌%◌, ◌^◌, ◌<◌, ◌≤◌, Bool, true, false, not, nat_eq, nat_le, List, [], ◌∷◌, ◌++◌, length, replicate, Some, None, refl, sym, ap, subst, ◌∙◌, arith, append_assoc}
+use Rattle.std.proofs.Common.{◌≡◌, ℕ, zero, suc, ◌^◌, ◌<◌, ◌≤◌, Bool, true, false, not, nat_eq, List, [], ◌∷◌, ◌++◌, length, replicate, Some, None, refl, sym, ap, subst, ◌∙◌, arith, append_assoc}
 use Rattle.std.specs.Prelude.{◌&&◌}
 use Rattle.std.specs.List.{list_all}
-use Rattle.std.proofs.lemmas.Bool.{and_from, and_parts, eqb-true, leb-true}
+use Rattle.std.proofs.lemmas.Bool.{and_from, eqb-true}
+use Rattle.std.proofs.lemmas.Grind.{common_steps}
 use Rattle.std.proofs.lemmas.List.{length-replicate}
 use Rattle.byteorder.specs.Endian.{little_bytes}
 use Rattle.byteorder.specs.Numbers.{little_number-reads_back}
@@ -17,7 +18,7 @@ use Rattle.mig_headers.specs.declared.image_fault.ImageCause.{ImageCause}
 use Rattle.mig_headers.specs.declared.image_fault.ImageCause.TheVariants.{Truncated, PartBytes, PartPadding}
 use Rattle.mig_headers.specs.declared.kind.Kind.{Kind}
 use Rattle.mig_guest.specs.declared.part_code.PartCode.{PartCode}
-use Rattle.mig_guest.specs.declared.part_code.PartCode.TheVariants.{P2mFrames, VcpuBasic, VcpuExtended, VcpuXsave, SharedInfo, Tsc, HvmContext, HvmParam, VcpuMsrs, CpuidLeaf, Msr, EmulatorPairs, EmulatorContext}
+use Rattle.mig_guest.specs.declared.part_code.PartCode.TheVariants.{EmulatorPairs}
 use Rattle.mig_guest.specs.declared.part_key.PartKey.{PartKey}
 use Rattle.mig_guest.specs.Formed.{IsRawContent}
 use Rattle.mig_guest.specs.Hosts.{HostOf, IsHostPart}
@@ -37,47 +38,11 @@ pub record PartFits (kind : Kind) (width : ℕ) (m : PartMap) (e : PartKey × Li
 
 -- ---- codes
 
-code_small : (code : PartCode) → code_number code < 260
-code_small P2mFrames = omega arith
-code_small VcpuBasic = omega arith
-code_small VcpuExtended = omega arith
-code_small VcpuXsave = omega arith
-code_small SharedInfo = omega arith
-code_small Tsc = omega arith
-code_small HvmContext = omega arith
-code_small HvmParam = omega arith
-code_small VcpuMsrs = omega arith
-code_small CpuidLeaf = omega arith
-code_small Msr = omega arith
-code_small EmulatorPairs = omega arith
-code_small EmulatorContext = omega arith
-
-small_exactly : (n len : ℕ) → n < 2 ^ 32 → nat_eq len n ≡ true → len < 2 ^ 32
-small_exactly n len h is = omega (arith, eqb-true len n is)
-
-small_most : (n len : ℕ) → n < 2 ^ 32 → nat_le len n ≡ true → len < 2 ^ 32
-small_most n len h is = omega (arith, leb-true len n is)
-
-small_from : (least most len : ℕ) → most < 2 ^ 32 → (nat_le least len && nat_le len most) ≡ true → len < 2 ^ 32
-small_from least most len h is = small_most most len h (and_parts (nat_le least len) (nat_le len most) is).1
-
-p2m_small : (width : ℕ) → width ≤ 2 ^ 28 → 8 * ((width - 1) / 512 + 1) < 2 ^ 32
-p2m_small width h = omega arith
+code_small : (code : PartCode) → code_number code < 2 ^ 32
+code_small code = grind (arith, common_steps)
 
 pub len_small : (code : PartCode) (width len : ℕ) → width ≤ 2 ^ 28 → (row_of code).allows width len ≡ true → len < 2 ^ 32
-len_small P2mFrames width len wide is = small_exactly (8 * ((width - 1) / 512 + 1)) len (p2m_small width wide) is
-len_small VcpuBasic width len wide is = small_exactly 5168 len (omega arith) is
-len_small VcpuExtended width len wide is = small_from 1 (2 ^ 27 - 8) len (omega arith) is
-len_small VcpuXsave width len wide is = small_from 1 (2 ^ 27 - 8) len (omega arith) is
-len_small SharedInfo width len wide is = small_exactly 4096 len (omega arith) is
-len_small Tsc width len wide is = small_exactly 20 len (omega arith) is
-len_small HvmContext width len wide is = small_most (2 ^ 27) len (omega arith) is
-len_small HvmParam width len wide is = small_exactly 8 len (omega arith) is
-len_small VcpuMsrs width len wide is = small_from 16 (2 ^ 27 - 16) len (omega arith) (and_parts (nat_eq (len % 16) 0) (nat_le 16 len && nat_le len (2 ^ 27 - 16)) is).1
-len_small CpuidLeaf width len wide is = small_exactly 16 len (omega arith) is
-len_small Msr width len wide is = small_exactly 12 len (omega arith) is
-len_small EmulatorPairs width len wide is = small_from 1 (2 ^ 24) len (omega arith) is
-len_small EmulatorContext width len wide is = small_most (2 ^ 27 - 8) len (omega arith) is
+len_small _ width len wide is = grind (arith, common_steps)
 
 -- ---- the fields of a head
 

@@ -1,22 +1,30 @@
 -- What a part that stands behind all others adds: it is one that a host has, and one more of its code.
-use Rattle.std.proofs.Common.{◌≡◌, ℕ, ◌+◌, ◌^◌, ◌<◌, Bool, true, false, cond, nat_eq, nat_le, List, [], ◌∷◌, length, None, refl, sym, ap, ◌∙◌, arith, length-append}
+use Rattle.std.proofs.Common.{◌≡◌, ℕ, ◌+◌, ◌^◌, ◌<◌, Bool, true, false, cond, not, nat_eq, nat_le, List, [], ◌∷◌, length, Option, Some, None, refl, sym, ap, ◌∙◌, arith, length-append}
 use Rattle.std.specs.Prelude.{◌&&◌, ◌||◌, ◌==◌, if◌then◌else◌}
-use Rattle.std.proofs.lemmas.Bool.{not-false, leb-false, eqb-true}
+use Rattle.std.proofs.lemmas.Bool.{not-false, and_parts, leb-false, eqb-true, eq-eqb}
 use Rattle.std.proofs.lemmas.List.Elements.{filter-append}
 use Rattle.std.specs.FinMap as maps
 use Rattle.mig_bytes.specs.Fields.{le32}
+use Rattle.mig_headers.specs.Pairs.{AreCanonicalPairs, are_canonical_pairs}
+use Rattle.mig_headers.specs.declared.image_fault.ImageCause.TheVariants.{PartBytes}
+use Rattle.mig_headers.specs.declared.kind.Kind.{Kind}
+use Rattle.mig_headers.proofs.FirstFaults.{rows_fine}
+use Rattle.mig_headers.proofs.PairTexts.{canonical_pairs_are_computed}
+use Rattle.mig_guest.specs.declared.part_code.PartCode.{PartCode}
+use Rattle.mig_guest.specs.declared.part_code.PartCode.TheVariants.{EmulatorPairs}
 use Rattle.mig_guest.specs.declared.part_key.PartKey.{PartKey}
+use Rattle.mig_guest.specs.Formed.{IsRawContent}
 use Rattle.mig_guest.specs.Hosts.{HostOf, IsHostPart, IsValid}
 use Rattle.mig_guest.specs.Order.{part_cmp}
-use Rattle.mig_guest.specs.PartCodes.{code_of_number}
+use Rattle.mig_guest.specs.PartCodes.{code_of_number, code_number, row_of}
 use Rattle.mig_guest.specs.Parts.{PartMap, parts_of, FitsPolicy}
 use Rattle.mig_guest.proofs.PartOrder.{part_total}
+use Rattle.mig_guest.proofs.PartRows.{number_found}
 use Rattle.mig_image.specs.declared.read_part.Entries.{Entries}
 use Rattle.mig_image.specs.ImageParts.{head_key, code_fits, code_allows, has_part_from, is_full, part_rows, fault_of_part, fault_of_bytes}
 use Rattle.mig_image.specs.PartCounts.{Counts}
 use Rattle.mig_image.proofs.InOrder.{entries_behind, no_entries}
-use Rattle.mig_headers.proofs.FirstFaults.{rows_fine}
-use Rattle.mig_image.proofs.PartsBack.{coded}
+use Rattle.mig_image.proofs.PartTexts.{PartFits}
 
 -- ---- one more of its code
 
@@ -56,30 +64,51 @@ module _ (parts : PartMap) (key : PartKey) (bytes : List ℕ) (behind : has_part
   fits_more : (code : ℕ) → ((code == 17) || (code == 18)) ≡ true → is_full parts key.code ≡ false → FitsPolicy code parts → FitsPolicy code more
   fits_more code policy room fits = fits_by code (nat_eq key.code code) refl policy room fits (count_is code)
 
--- ---- a part whose head has no fault
+pub policies_more : (h : HostOf) → IsValid h → (key : PartKey) (bytes : List ℕ) → has_part_from h.parts key ≡ false → is_full h.parts key.code ≡ false → FitsPolicy 17 (maps.insert h.parts key bytes) × FitsPolicy 18 (maps.insert h.parts key bytes)
+policies_more h valid key bytes behind room = (fits_more h.parts key bytes behind 17 refl room valid.leaves, fits_more h.parts key bytes behind 18 refl room valid.msrs)
+
+-- ---- a part whose head and bytes have no fault
+
+canonical : (number : ℕ) (bytes : List ℕ) → fault_of_bytes number bytes ≡ None → number ≡ 258 → AreCanonicalPairs bytes
+canonical number bytes fine is =
+    let (test, done) = rows_fine ((nat_eq number 258 && not (are_canonical_pairs bytes), PartBytes) ∷ []) fine in
+    (canonical_pairs_are_computed bytes).0 (not-false (are_canonical_pairs bytes) (sym (ap (λ b. b && not (are_canonical_pairs bytes)) (eq-eqb number 258 is)) ∙ test))
+
+raw_content : (code : PartCode) (number : ℕ) (bytes : List ℕ) → number ≡ code_number code → fault_of_bytes number bytes ≡ None → IsRawContent code bytes
+raw_content EmulatorPairs number bytes is fine = canonical number bytes fine is
+raw_content _ number bytes is fine = tt
+
+coded : (kind : Kind) (width : ℕ) (key : PartKey) (bytes : List ℕ) (o : Option PartCode) → code_of_number key.code ≡ o → code_fits o kind key ≡ true → code_allows o width (length bytes) ≡ true
+    → key.key1 < 2 ^ 32 → key.key2 < 2 ^ 32 → fault_of_bytes key.code bytes ≡ None → IsHostPart kind width key bytes
+coded kind width key bytes None is fits allows small1 small2 fine = let no : false ≡ true = fits in cc
+coded kind width key bytes (Some code) is fits allows small1 small2 fine =
+    let p = and_parts ((row_of code).of_kind kind) ((row_of code).keys key.key1 key.key2) fits in
+    let number = number_found key.code code is in
+    record { code = code; number = number; of_kind = p.0; keys = p.1; small1 = small1; small2 = small2; len = allows; content = raw_content code key.code bytes number fine }
 
 module _ (h : HostOf) (head : List ℕ) (fine : fault_of_part h head ≡ None) (key : PartKey) (is : key ≡ head_key head) where
-  tests : (code_fits (code_of_number key.code) h.kind key ≡ true) × (has_part_from h.parts key ≡ false) × (is_full h.parts key.code ≡ false) × (code_allows (code_of_number key.code) h.width (le32 head 12) ≡ true)
-  tests =
-      let (row, (order, (many, (len, done)))) = rows_fine (part_rows h head) fine in (
-        ap (λ (k : PartKey). code_fits (code_of_number k.code) h.kind k) is ∙ not-false (code_fits (code_of_number (le32 head 0)) h.kind (head_key head)) row,
-        ap (has_part_from h.parts) is ∙ order,
-        ap (λ (k : PartKey). is_full h.parts k.code) is ∙ many,
-        ap (λ (k : PartKey). code_allows (code_of_number k.code) h.width (le32 head 12)) is ∙ not-false (code_allows (code_of_number (le32 head 0)) h.width (le32 head 12)) len,
-      )
-
   -- no part of the host has its key or a greater one
   pub is_behind : has_part_from h.parts key ≡ false
-  is_behind = tests.1
+  is_behind = let (row, (order, others)) = rows_fine (part_rows h head) fine in ap (has_part_from h.parts) is ∙ order
+
+  is_room : is_full h.parts key.code ≡ false
+  is_room = let (row, (order, (many, others))) = rows_fine (part_rows h head) fine in ap (λ (k : PartKey). is_full h.parts k.code) is ∙ many
 
   pub is_part : (bytes : List ℕ) → length bytes ≡ le32 head 12 → key.key1 < 2 ^ 32 → key.key2 < 2 ^ 32 → fault_of_bytes key.code bytes ≡ None → IsHostPart h.kind h.width key bytes
   is_part bytes size small1 small2 good =
-      coded h.kind h.width key bytes (code_of_number key.code) refl tests.0 (ap (code_allows (code_of_number key.code) h.width) size ∙ tests.3) small1 small2 good
+      let (row, (order, (many, (len, done)))) = rows_fine (part_rows h head) fine in
+      coded h.kind h.width key bytes (code_of_number key.code) refl
+      (ap (λ (k : PartKey). code_fits (code_of_number k.code) h.kind k) is ∙ not-false (code_fits (code_of_number (le32 head 0)) h.kind (head_key head)) row)
+      (ap (code_allows (code_of_number key.code) h.width) size ∙ ap (λ (k : PartKey). code_allows (code_of_number k.code) h.width (le32 head 12)) is ∙ not-false (code_allows (code_of_number (le32 head 0)) h.width (le32 head 12)) len)
+      small1 small2 good
 
   -- the policies' entries still are few
   pub policies_fit : IsValid h → (bytes : List ℕ) → FitsPolicy 17 (maps.insert h.parts key bytes) × FitsPolicy 18 (maps.insert h.parts key bytes)
-  policies_fit valid bytes =
-      (fits_more h.parts key bytes tests.1 17 refl tests.2 valid.leaves, fits_more h.parts key bytes tests.1 18 refl tests.2 valid.msrs)
+  policies_fit valid bytes = policies_more h valid key bytes is_behind is_room
+
+  -- it may stand behind the parts of the host
+  pub part_fits : (bytes : List ℕ) → length bytes ≡ le32 head 12 → key.key1 < 2 ^ 32 → key.key2 < 2 ^ 32 → fault_of_bytes key.code bytes ≡ None → PartFits h.kind h.width h.parts (key, bytes)
+  part_fits bytes size small1 small2 good = record { is = is_part bytes size small1 small2 good; behind = is_behind; room = is_room }
 
 -- of no parts there are none
 pub counts_none : (entries : Entries) (parts : PartMap) → parts ≡ maps.empty → entries.leaves ≡ 0 → entries.msrs ≡ 0 → Counts entries parts

@@ -10,7 +10,7 @@ use Rattle.mig_headers.specs.Headers.{kind_number}
 use Rattle.mig_headers.specs.declared.kind.Kind.{Kind}
 use Rattle.mig_guest.specs.declared.part_key.PartKey.{PartKey}
 use Rattle.mig_guest.specs.Hosts.{HostOf, IsHostPart, IsValid}
-use Rattle.mig_guest.proofs.PartOrder.{part_total}
+use Rattle.mig_guest.proofs.PartOrder.{part_total, part_exact}
 use Rattle.mig_image.specs.Image.{host_head, frame_text, part_text, image}
 use Rattle.mig_image.proofs.InOrder.{each_entry}
 use Rattle.mig_image.proofs.PartTexts.{len_small}
@@ -27,7 +27,7 @@ image_is h head kind width frames parts is k w f p = rw (is, k, w, f, maps.len-e
 -- a part of a valid host has a length of 32 bits
 pub part_small : (h : HostOf) (i : ℕ) (e : PartKey × List ℕ) (rest : List (PartKey × List ℕ)) → IsValid h → drop i (maps.entries h.parts) ≡ e ∷ rest → length e.1 < 2 ^ 32
 part_small h i e rest valid is =
-    let part = holds_at (λ (e : PartKey × List ℕ). IsHostPart h.kind h.width e.0 e.1) i (maps.entries h.parts) rest e is (each_entry part_total (IsHostPart h.kind h.width) h.parts valid.parts) in
+    let part = holds_at (λ (e : PartKey × List ℕ). IsHostPart h.kind h.width e.0 e.1) i (maps.entries h.parts) rest e is (each_entry part_total part_exact (IsHostPart h.kind h.width) h.parts valid.parts) in
     len_small part.code h.width (length e.1) valid.width part.len
 
 -- a front and what follows it, put one after the other in a buffer of their length

@@ -13,7 +13,7 @@ use Rattle.mig_guest.proofs.KeyedMaps.{tied}
 use Rattle.mig_guest.proofs.PartCursor.{both_of}
 use Rattle.mig_image.specs.Hosted.{rank_in, least_width}
 use Rattle.mig_image.proofs.HostEntries.{none_below, found_at}
-use Rattle.mig_image.proofs.MachineMaps.{nothing}
+use Rattle.std.proofs.lemmas.Option.{none-some}
 
 -- 1 for a test that is passed
 abbrev one : Bool → ℕ
@@ -71,7 +71,7 @@ module _ {X : Type 0} where
 
   -- more lie below a number than below an entry that lies below it
   below_strict : (p q : ℕ) (es : List (ℕ × X)) (v : X) → p < q → find nat_cmp p es ≡ Some v → below p es < below q es
-  below_strict p q [] v lt is = absurd (nothing v is)
+  below_strict p q [] v lt is = absurd (none-some v is)
   below_strict p q (e ∷ es) v lt is = strict_case p q e es v (eq_by_cmp nat_cmp p e.0) lt refl is (below_strict p q es v lt)
 
   none_behind : (b : Bool) (x : X) (r : Option X) → cond b (Some x) r ≡ None → r ≡ None
@@ -113,7 +113,7 @@ module _ {X : Type 0} where
 
   -- one more lies below the number behind an entry than below the entry
   below_step : (p : ℕ) (es : List (ℕ × X)) (v : X) → T (is_sorted nat_cmp es) → find nat_cmp p es ≡ Some v → below (p + 1) es ≡ below p es + 1
-  below_step p [] v sorted is = absurd (nothing v is)
+  below_step p [] v sorted is = absurd (none-some v is)
   below_step p (e ∷ es) v sorted is =
       let (first, others) = both_of (below_all nat_cmp e.0 es) (is_sorted nat_cmp es) sorted in
       step_case p e es v (eq_by_cmp nat_cmp p e.0) refl first is (below_step p es v others)
@@ -123,7 +123,7 @@ module _ {X : Type 0} where
   inside_case p e es v false t is go = omega (arith, go is)
 
   width_inside : (p : ℕ) (es : List (ℕ × X)) (v : X) → find nat_cmp p es ≡ Some v → p < least_width es
-  width_inside p [] v is = absurd (nothing v is)
+  width_inside p [] v is = absurd (none-some v is)
   width_inside p (e ∷ es) v is = inside_case p e es v (eq_by_cmp nat_cmp p e.0) refl is (width_inside p es v)
 
   width_least : (p : ℕ) (es : List (ℕ × X)) → ((k : ℕ) → p ≤ k → find nat_cmp k es ≡ None) → least_width es ≤ p

@@ -19,7 +19,8 @@ use Rattle.mig_pvtables.proofs.HvmGuests.{hvm_complete}
 use Rattle.mig_image.specs.HostView.{MachineMap, with_machine, with_machines, machine_in, host_seen, AreMatched}
 use Rattle.mig_image.specs.Hosted.{rank_in, least_width, hosted, IsBaseOutside}
 use Rattle.mig_image.proofs.HostMaps.{joined, get_with_machines, count_with_machines}
-use Rattle.mig_image.proofs.MachineMaps.{got_put, got_other, same_value, nothing}
+use Rattle.mig_image.proofs.MachineMaps.{got_put, got_other}
+use Rattle.std.proofs.lemmas.Option.{none-some, same_Some}
 use Rattle.mig_image.proofs.Ranks.{rank_small, frames_inside, rank_strict, rank_step, rank_gap, rank_zero, frame_inside}
 
 pub some_value : {X : Type 0} (o : Option X) → IsSome o → (x : X) × (o ≡ Some x)
@@ -60,16 +61,16 @@ module _ (frames : FrameMap) (base : ℕ) where
     ]
 
     unused_case : (other : ℕ) → other < from → maps.get machines other ≡ Some (base + i) → (o : Option FrameOf) → maps.get frames other ≡ o → ⊥
-    unused_case other lt has None is = nothing (base + i) (sym (none_at other is) ∙ sym (counted.below other lt) ∙ has)
+    unused_case other lt has None is = none-some (base + i) (sym (none_at other is) ∙ sym (counted.below other lt) ∙ has)
     unused_case other lt has (Some f) is =
-        let same = same_value (base + rank_in frames other) (base + i) (sym (ap (option_map (λ _. base + rank_in frames other)) is) ∙ sym (counted.below other lt) ∙ has) in
+        let same = same_Some (base + rank_in frames other) (base + i) (sym (ap (option_map (λ _. base + rank_in frames other)) is) ∙ sym (counted.below other lt) ∙ has) in
         omega (arith, same, counted.rank, rank_strict frames other from f lt is)
 
     -- no number has the next machine frame
     pub counted_unused : (other : ℕ) → maps.get machines other ≡ Some (base + i) → ⊥
     counted_unused other has = elim (cases_lt other from) [
       | inl lt ↦ unused_case other lt has (maps.get frames other) refl
-      | inr ge ↦ nothing (base + i) (sym (counted.above other ge) ∙ has)
+      | inr ge ↦ none-some (base + i) (sym (counted.above other ge) ∙ has)
     ]
 
     module _ (pfn : ℕ) (f : FrameOf) (is : maps.get frames pfn ≡ Some f) (le : from ≤ pfn) (none : (k : ℕ) → from ≤ k → k < pfn → maps.get frames k ≡ None) where
@@ -134,7 +135,7 @@ module _ (g : GuestOf) (base : ℕ) where
 
   restored : (pfn : ℕ) (frame : HostFrame) (o : Option FrameOf) → option_map (λ (f : FrameOf). with_machine f (machine_of pfn)) o ≡ Some frame → (f : FrameOf) × (o ≡ Some f) × (with_machine f (machine_of pfn) ≡ frame)
   restored pfn frame None is = let no : None ≡ Some frame = is in cc
-  restored pfn frame (Some f) is = (f, refl, same_value (with_machine f (machine_of pfn)) frame is)
+  restored pfn frame (Some f) is = (f, refl, same_Some (with_machine f (machine_of pfn)) frame is)
 
   -- a frame of the host is one of the guest with its machine frame
   from_guest : (pfn : ℕ) (frame : HostFrame) → maps.get (with_machines g.frames machine_of) pfn ≡ Some frame → (f : FrameOf) × (maps.get g.frames pfn ≡ Some f) × (with_machine f (machine_of pfn) ≡ frame)

@@ -1,15 +1,12 @@
 use Rattle.std.proofs.Common.{◌≡◌, ◌∙◌, ap, sym, Bool, true, false, Option, Some, None, is_some, refl}
 use Rattle.std.specs.Option.{option_map}
 use Rattle.mig_image.proofs.KeyTests.{part_there, parts_from}
+use Rattle.mig_image.proofs.MachineMaps.{absent}
 use Rattle.mig_image.proofs.read_part.has_from.Goals as goal
 
 kept : {A B : Type 0} (f : A → B) (r : Option A) → is_some (option_map f r) ≡ is_some r
 kept f None = refl
 kept f (Some x) = refl
-
-absent : {B : Type 0} (o : Option B) → is_some o ≡ false → o ≡ None
-absent None e = refl
-absent (Some x) e = let no : true ≡ false = e in cc
 
 -- whether the part is there
 there : {A B : Type 0} (f : A → B) (r : Option A) (o : Option B) (b t : Bool) → b ≡ is_some r → option_map f r ≡ o → b ≡ t → is_some o ≡ t
