@@ -23,6 +23,9 @@ module _ (frames : FrameMap) (machine_of : ℕ → ℕ) where
   pub count_with_machines : length (maps.entries (with_machines frames machine_of)) ≡ length (maps.entries frames)
   count_with_machines = ap length entries_with_machines ∙ length-map (maps.entries frames) (λ (e : ℕ × FrameOf). (e.0, with_machine e.1 (machine_of e.0)))
 
+  pub len_with_machines : maps.len (with_machines frames machine_of) ≡ maps.len frames
+  len_with_machines = maps.len-entries (with_machines frames machine_of) ∙ count_with_machines ∙ sym (maps.len-entries frames)
+
 -- ---- what a host is seen to have
 
 module _ (frames : FrameMap) (machines : MachineMap) where
@@ -55,7 +58,7 @@ module _ (frames : FrameMap) (machines : MachineMap) where
   pub machine_joined : AreMatched frames machines → (pfn : ℕ) → maps.get machines pfn ≡ option_map (λ (f : HostFrame). f.machine) (maps.get joined pfn)
   machine_joined matched pfn = machine_of (maps.get machines pfn) (maps.get frames pfn) (matched pfn) ∙ ap (option_map (λ (f : HostFrame). f.machine)) (sym (seen pfn))
 
-  none_joined : (pfn : ℕ) → maps.get frames pfn ≡ None → maps.get joined pfn ≡ None
+  pub none_joined : (pfn : ℕ) → maps.get frames pfn ≡ None → maps.get joined pfn ≡ None
   none_joined pfn e = seen pfn ∙ ap (option_map (λ (f : FrameOf). with_machine f (machine_in machines pfn))) e
 
   there : (m : ℕ) (r : Option FrameOf) → is_some (option_map (λ (f : FrameOf). with_machine f m) r) ≡ is_some r
@@ -64,10 +67,3 @@ module _ (frames : FrameMap) (machines : MachineMap) where
 
   pub there_joined : (pfn : ℕ) → is_some (maps.get joined pfn) ≡ is_some (maps.get frames pfn)
   there_joined pfn = ap is_some (seen pfn) ∙ there (machine_in machines pfn) (maps.get frames pfn)
-
-  -- the first frame from a number on
-  pub first_joined : (from : ℕ) (r : Option ℕ)
-      → IfNone r ((k : ℕ) → from ≤ k → maps.get frames k ≡ None) → IfSome r (λ q. IsSome (maps.get frames q)) → IfSome r (λ q. (from ≤ q) × ((k : ℕ) → from ≤ k → k < q → maps.get frames k ≡ None))
-      → IfNone r ((k : ℕ) → from ≤ k → maps.get joined k ≡ None) × IfSome r (λ q. IsSome (maps.get joined q)) × IfSome r (λ q. (from ≤ q) × ((k : ℕ) → from ≤ k → k < q → maps.get joined k ≡ None))
-  first_joined from None n t l = (λ k le. none_joined k (n k le), tt, tt)
-  first_joined from (Some q) n t l = (tt, there_joined q ∙ t, (l.0, λ k le lt. none_joined k (l.1 k le lt)))

@@ -22,7 +22,7 @@ use Rattle.mig_image.proofs.Chains.{Chain, put_all, Found, AllFound, chain_back,
 use Rattle.mig_image.proofs.FieldBytes.{Bytes, bytes_front, word_back, word_below, cut, last, judged_part, regroup}
 use Rattle.mig_image.proofs.HostsMade.{valid_part}
 use Rattle.mig_image.proofs.PartTexts.{PartFits, behind_bytes, behind_part_head}
-use Rattle.mig_image.proofs.PartsMore.{part_fits, policies_more}
+use Rattle.mig_image.proofs.PartsMore.{fits_more, part_fits}
 
 -- ---- a head
 
@@ -97,7 +97,7 @@ module _ (h : HostOf) where
   part_entries es chain = chain_entries part_total (PartFits h.kind h.width) (λ m e f. f.behind) es chain
 
   fine_more : (m : PartMap) (e : PartKey × List ℕ) → PartFits h.kind h.width m e → IsValid (with_parts h m) → IsValid (with_parts h (maps.insert m e.0 e.1))
-  fine_more m e f valid = let p = policies_more (with_parts h m) valid e.0 e.1 f.behind f.room in valid_part (with_parts h m) e.0 e.1 valid f.is p.0 p.1
+  fine_more m e f valid = valid_part (with_parts h m) e.0 e.1 valid f.is (fits_more m e.0 e.1 f.behind 17 refl f.room valid.leaves) (fits_more m e.0 e.1 f.behind 18 refl f.room valid.msrs)
 
   -- they are those of a valid host
   pub parts_valid : (es : List (PartKey × List ℕ)) → IsValid (with_parts h maps.empty) → Chain (PartFits h.kind h.width) maps.empty es → IsValid (with_parts h (put_all maps.empty es))

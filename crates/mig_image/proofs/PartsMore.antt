@@ -61,11 +61,8 @@ module _ (parts : PartMap) (key : PartKey) (bytes : List ℕ) (behind : has_part
       omega (arith, is, less)
   fits_by code false same policy room fits is = omega (arith, is, fits)
 
-  fits_more : (code : ℕ) → ((code == 17) || (code == 18)) ≡ true → is_full parts key.code ≡ false → FitsPolicy code parts → FitsPolicy code more
+  pub fits_more : (code : ℕ) → ((code == 17) || (code == 18)) ≡ true → is_full parts key.code ≡ false → FitsPolicy code parts → FitsPolicy code more
   fits_more code policy room fits = fits_by code (nat_eq key.code code) refl policy room fits (count_is code)
-
-pub policies_more : (h : HostOf) → IsValid h → (key : PartKey) (bytes : List ℕ) → has_part_from h.parts key ≡ false → is_full h.parts key.code ≡ false → FitsPolicy 17 (maps.insert h.parts key bytes) × FitsPolicy 18 (maps.insert h.parts key bytes)
-policies_more h valid key bytes behind room = (fits_more h.parts key bytes behind 17 refl room valid.leaves, fits_more h.parts key bytes behind 18 refl room valid.msrs)
 
 -- ---- a part whose head and bytes have no fault
 
@@ -102,9 +99,9 @@ module _ (h : HostOf) (head : List ℕ) (fine : fault_of_part h head ≡ None) (
       (ap (code_allows (code_of_number key.code) h.width) size ∙ ap (λ (k : PartKey). code_allows (code_of_number k.code) h.width (le32 head 12)) is ∙ not-false (code_allows (code_of_number (le32 head 0)) h.width (le32 head 12)) len)
       small1 small2 good
 
-  -- the policies' entries still are few
-  pub policies_fit : IsValid h → (bytes : List ℕ) → FitsPolicy 17 (maps.insert h.parts key bytes) × FitsPolicy 18 (maps.insert h.parts key bytes)
-  policies_fit valid bytes = policies_more h valid key bytes is_behind is_room
+  -- the entries of this policy still are few
+  pub policy_fits : (code : ℕ) → ((code == 17) || (code == 18)) ≡ true → FitsPolicy code h.parts → (bytes : List ℕ) → FitsPolicy code (maps.insert h.parts key bytes)
+  policy_fits code policy before bytes = fits_more h.parts key bytes is_behind code policy is_room before
 
   -- it may stand behind the parts of the host
   pub part_fits : (bytes : List ℕ) → length bytes ≡ le32 head 12 → key.key1 < 2 ^ 32 → key.key2 < 2 ^ 32 → fault_of_bytes key.code bytes ≡ None → PartFits h.kind h.width h.parts (key, bytes)

@@ -47,6 +47,7 @@ impl Host {
     ghost use Rattle.mig_image.specs.HostView.{host_seen, IsMade};
 
     /// A host without frames and parts.
+    #[tactic(auto, using(crate::proofs::HostsMade::joined_empty))]
     pub(crate) fn new(alloc: Global, kind: Kind, width: u64) -> Host
         requires width { width ≤ most_width }
         requires some_width { kind ≡ Pv → 0 < width }
@@ -86,6 +87,7 @@ impl Host {
     }
 
     /// The number of frames.
+    #[tactic(auto, using(crate::proofs::HostMaps::len_with_machines))]
     pub fn frames(&self) -> u64
         ensures { result ≡ maps.len self.now.frames }
     {
@@ -93,6 +95,7 @@ impl Host {
     }
 
     /// The type of this frame; none where the host doesn't have it.
+    #[tactic(auto, using(crate::proofs::HostMaps::kind_joined))]
     pub fn frame(&self, pfn: u64) -> Option<PageType>
         ensures { result ≡ option_map (λ f. f.type) (maps.get self.now.frames pfn) }
     {
@@ -100,6 +103,7 @@ impl Host {
     }
 
     /// The raw page of this frame; none where there is no frame, or its type has no data.
+    #[tactic(auto, using(crate::proofs::HostMaps::page_joined))]
     pub fn page(&self, pfn: u64) -> Option<&[u8; 4096]>
         ensures { option_copied result ≡ option_and_then (λ f. f.page) (maps.get self.now.frames pfn) }
     {
@@ -107,6 +111,7 @@ impl Host {
     }
 
     /// The machine frame of this frame.
+    #[tactic(auto, using(crate::proofs::HostMaps::machine_joined))]
     pub(crate) fn machine(&self, pfn: u64) -> Option<u64>
         ensures { result ≡ option_map (λ f. f.machine) (maps.get self.now.frames pfn) }
     {
@@ -114,6 +119,7 @@ impl Host {
     }
 
     /// Whether some frame has this machine frame.
+    #[tactic(auto, using(crate::proofs::HostEntries::used_joined))]
     pub(crate) fn uses_machine(&self, machine: u64) -> bool
         ensures { result ≡ has_machine self.now machine }
     {
@@ -121,6 +127,7 @@ impl Host {
     }
 
     /// The least PFN that has a frame and is at least `from`, which may be any number.
+    #[tactic(auto, using(crate::proofs::HostMaps::none_joined, crate::proofs::HostMaps::there_joined))]
     pub fn next_frame(&self, from: u64) -> Option<u64>
         ensures none { IfNone result ((k : ℕ) → from ≤ k → maps.get self.now.frames k ≡ None) }
         ensures there { IfSome result (λ q. IsSome (maps.get self.now.frames q)) }
@@ -131,6 +138,7 @@ impl Host {
     }
 
     /// The first frame from this number on, with its type, its machine frame and its page.
+    #[tactic(auto, using(crate::proofs::HostEntries::none_from, crate::proofs::HostEntries::next_joined, crate::proofs::HostEntries::has_no_machine))]
     pub(crate) fn next_entry(&self, from: u64) -> Option<(u64, PageType, u64, Option<&[u8; 4096]>)>
         ensures next { NextEntry from (maps.entries self.now.frames) (option_map (λ e. (e.0, record { type = e.1; machine = e.2; page = option_copied e.3 })) result) }
         ensures small { IfSome result (λ e. e.0 < pfn_limit) }
@@ -164,6 +172,7 @@ impl Host {
     }
 
     /// Adds a frame; where no memory is found, the host stays.
+    #[tactic(auto, using(crate::proofs::HostsMade::no_machine))]
     pub(crate) fn add_frame(
         &mut self,
         pfn: u64,

@@ -11,6 +11,7 @@ ghost use Rattle.mig_image.specs.Image.{IsHostImage};
 ghost use Rattle.mig_image.specs.ImageParts.{host_at};
 
 /// The image of a valid host is read as this host, whatever follows it.
+#[tactic(auto, using(crate::proofs::ImageReads::image_reads))]
 pub fn image_is_judged()
     ensures { (input : List ℕ) (host : HostOf) (rest : List ℕ) → IsHostImage input host rest → host_at input ≡ Passes host rest }
 {}
@@ -31,6 +32,7 @@ pub fn hosted_is_valid()
 {}
 
 /// The host that a whole HVM guest becomes is seen as this guest, whatever the base.
+#[tactic(auto, using(crate::proofs::HostViews::hosted_seen))]
 pub fn hosted_is_seen()
     ensures { (guest : GuestOf) (base : ℕ) → IsWhole guest → guest.kind ≡ Hvm → hvm_view (hosted guest base) ≡ guest }
 {}

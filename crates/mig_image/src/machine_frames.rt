@@ -31,6 +31,7 @@ impl Model for MachineFrames {
 }
 
 impl MachineFrames {
+    #[tactic(auto, using(crate::proofs::MachineMaps::inverse_empty))]
     pub(crate) fn new(alloc: Global) -> MachineFrames
         ensures { result ≡ maps.empty }
     {
@@ -41,6 +42,7 @@ impl MachineFrames {
     }
 
     /// The machine frame of this PFN.
+    #[tactic(auto, using(crate::proofs::MachineMaps::get_made))]
     pub(crate) fn machine(&self, pfn: u64) -> Option<u64>
         ensures { result ≡ maps.get self.now pfn }
     {
@@ -56,6 +58,7 @@ impl MachineFrames {
     }
 
     /// Gives a PFN a machine frame that no other has; where no memory is found, all stays.
+    #[tactic(auto, using(crate::proofs::MachineMaps::made_insert))]
     pub(crate) fn insert(&mut self, pfn: u64, machine: u64) -> Result<(), Memory>
         requires absent { maps.get self.old pfn ≡ None }
         requires unused { (other : ℕ) → maps.get self.old other ≡ Some machine → ⊥ }

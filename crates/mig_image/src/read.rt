@@ -63,6 +63,7 @@ fn is_type_of(kind: Kind, this: PageType) -> bool
 }
 
 /// Whether the host has a frame of this number or of a greater one.
+#[tactic(auto, using(crate::proofs::KeyTests::frames_from))]
 fn has_from(host: &Host, pfn: u64) -> bool
     ensures { result ≡ has_frame_from host.now pfn }
 {
@@ -113,6 +114,7 @@ fn read_frame_head<S: Source>(src: &mut S, host: &Host) -> Result<[u8; 16], Stop
 }
 
 /// Takes a frame that stands behind those of the host, and keeps it.
+#[tactic(auto, using(crate::proofs::FrameRead::page_stops, crate::proofs::FrameRead::frames_more, crate::proofs::FrameRead::is_absent))]
 fn read_frame<S: Source>(src: &mut S, host: &mut Host) -> Result<(), Stop<ImageCause>>
     requires { length (maps.entries host.old.frames) < most_frames }
     ensures read { Gives (λ _ h. host.new ≡ h) (S.left src.old) (S.left src.new) (host_frame_at host.old) result }
@@ -172,6 +174,7 @@ fn read_count<S: Source>(src: &mut S) -> Result<u64, Stop<ImageCause>>
 }
 
 /// Takes the frames and parts behind a head.
+#[tactic(auto, using(crate::proofs::InOrder::no_entries))]
 fn read_behind<S: Source>(
     alloc: Global,
     src: &mut S,
@@ -207,6 +210,7 @@ fn read_whole<S: Source>(alloc: Global, src: &mut S) -> Result<Host, Stop<(Image
 
 /// Reads the image of a host, and leaves unread what follows it. `Refused` has the place and the cause of the first
 /// fault, and then the source was read up to the end of the faulty part; `ReadFault` comes only where a read failed.
+#[tactic(auto, using(crate::proofs::ImageFronts::begins_with_image))]
 pub fn read_host<S: Source>(alloc: Global, src: &mut S) -> Result<Host, ImageAnswer>
     ensures read { ReadsHost (S.left src.old) (S.left src.new) result }
     ensures spelled { BeginsWithImage (S.left src.old) (S.left src.new) result }

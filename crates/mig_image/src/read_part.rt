@@ -94,6 +94,7 @@ fn allows(code: u32, width: u64, len: u32) -> bool
 }
 
 /// Whether the host has a part of this key or of a greater one.
+#[tactic(auto, using(crate::proofs::KeyTests::part_there, crate::proofs::KeyTests::parts_from))]
 fn has_from(host: &Host, key: PartKey) -> bool
     ensures { result ≡ has_part_from host.now.parts key }
 {
@@ -189,6 +190,7 @@ fn read_padding<S: Source>(src: &mut S, len: u32) -> Result<(), Stop<ImageCause>
 }
 
 /// Takes a part that stands behind those of the host, and keeps it.
+#[tactic(auto, using(crate::proofs::PartsMore::is_part, crate::proofs::PartsMore::policy_fits))]
 fn read_part<S: Source>(
     alloc: Global,
     src: &mut S,

@@ -8,9 +8,6 @@ use Rattle.mig_image.proofs.ImageRead.{behind_reads}
 use Rattle.mig_image.proofs.InOrder.{no_entries}
 use Rattle.mig_image.proofs.read.read_behind.Goals as goal
 
-pub read_frames-requires-clause-none : goal.read_frames-requires-clause-none
-read_frames-requires-clause-none g c = ap (λ (h : HostOf). length (maps.entries h.frames)) c.new-host.ensures ∙ ap length (no_entries nat_cmp HostFrame)
-
 pub returns-clause-read : goal.returns-clause-read
 returns-clause-read g c =
     let is : c.new-host.result ≡ opened c.args.head.now = search rules in

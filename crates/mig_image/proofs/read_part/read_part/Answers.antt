@@ -4,7 +4,7 @@ use Rattle.mig_guest.specs.Hosts.{HostOf}
 use Rattle.mig_image.specs.ImageParts.{head_key, put_part_in}
 use Rattle.mig_image.specs.PartCounts.{Counts}
 use Rattle.mig_image.proofs.PartRead.{bytes_stop, padding_stop, part_reads}
-use Rattle.mig_image.proofs.PartsMore.{is_behind, is_part, policies_fit, counts_more}
+use Rattle.mig_image.proofs.PartsMore.{is_behind, counts_more}
 use Rattle.mig_image.proofs.read_part.read_part.Goals as goal
 
 pub returns-in_err-bytes-clause-read : goal.returns-in_err-bytes-clause-read
@@ -14,18 +14,6 @@ returns-in_err-bytes-clause-read g c =
 pub returns-in_err-read_padding-clause-read : goal.returns-in_err-read_padding-clause-read
 returns-in_err-read_padding-clause-read g c =
     padding_stop c.args.host.now (λ v. v.items) _ _ _ c.in_ok-head.head c.in_ok-head.ensures.read _ _ (ap (λ k. k.code) c.key_of-key.ensures) c.u32_le-len.ensures _ _ _ c.in_ok-bytes.bytes c.in_ok-bytes.ensures.read c.in_err-read_padding.field-0.0 c.from_residual-in_err-read_padding.result (search rules) c.in_err-read_padding.ensures.read
-
-pub set_part-requires-clause-is : goal.set_part-requires-clause-is
-set_part-requires-clause-is g c =
-    is_part c.args.host.now c.in_ok-head.head c.in_ok-head.ensures.fine c.key_of-key.result c.key_of-key.ensures c.deref.result.now (search rules) (search rules) (search rules) (search rules)
-
-pub set_part-requires-clause-leaves : goal.set_part-requires-clause-leaves
-set_part-requires-clause-leaves g c =
-    (policies_fit c.args.host.now c.in_ok-head.head c.in_ok-head.ensures.fine c.key_of-key.result c.key_of-key.ensures c.in_ok-head.ensures.valid c.deref.result.now).0
-
-pub set_part-requires-clause-msrs : goal.set_part-requires-clause-msrs
-set_part-requires-clause-msrs g c =
-    (policies_fit c.args.host.now c.in_ok-head.head c.in_ok-head.ensures.fine c.key_of-key.result c.key_of-key.ensures c.in_ok-head.ensures.valid c.deref.result.now).1
 
 pub returns-in-Ok-clause-read : goal.returns-in-Ok-clause-read
 returns-in-Ok-clause-read g c =

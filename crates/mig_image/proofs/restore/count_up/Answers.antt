@@ -8,18 +8,6 @@ use Rattle.mig_image.proofs.restore.count_up.Goals as goal
 pub loop-i-init : goal.loop-i-init
 loop-i-init c = subst (λ (m : MachineMap). AreCounted c.args.guest.now.frames c.args.base 0 0 m) (sym c.new-machines.ensures) (counted_none c.args.guest.now.frames c.args.base)
 
-pub returns-in_default-clause-machines : goal.returns-in_default-clause-machines
-returns-in_default-clause-machines c = counted_all c.args.guest.now.frames c.args.base c.loop-i.from c.loop-i.i c.loop-i.machines c.loop-i.invariant c.in_default.ensures.none
-
-pub returns-in_default-clause-width : goal.returns-in_default-clause-width
-returns-in_default-clause-width c = omega (arith, c.loop-i.invariant.width, frames_inside c.args.guest.now.frames c.loop-i.from c.in_default.ensures.none)
-
-pub insert-requires-clause-absent : goal.insert-requires-clause-absent
-insert-requires-clause-absent c = c.loop-i.invariant.above c.in-Some.pfn c.in-Some.ensures.least.0
-
-pub insert-requires-clause-unused : goal.insert-requires-clause-unused
-insert-requires-clause-unused c = counted_unused c.args.guest.now.frames c.args.base c.loop-i.from c.loop-i.i c.loop-i.machines c.loop-i.invariant
-
 pub loop-i-preserved : goal.loop-i-preserved
 loop-i-preserved c =
     let frames = c.args.guest.now.frames in

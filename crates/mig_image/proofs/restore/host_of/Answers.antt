@@ -36,9 +36,6 @@ of-requires c = record {
       (whole_is_valid c.args.guest c.args.base c.requires.whole c.requires.hvm (in_range c.args.guest c.args.base c.frames.result c.frames.ensures.count (c.is_outside.ensures.no c.if-is_outside.false)));
 }
 
-pub returns-in-Ok-clause-hosted : goal.returns-in-Ok-clause-hosted
-returns-in-Ok-clause-hosted c = c.of.ensures ∙ seen_hosted c.args.guest c.args.base c.in-Ok.width c.in-Ok.machines c.in-Ok.ensures.machines c.in-Ok.ensures.width
-
 memory : {T : Type 0} → ◌≡◌ {A = Result T HostAnswer} (Err Memory) (Err BaseRange) → ⊥
 memory e = cc
 

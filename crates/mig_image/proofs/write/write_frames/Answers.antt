@@ -16,22 +16,6 @@ returns-in_err-write_frame-in-Some-clause-bytes g c =
     walk_stop frame_text all c.loop.counter e _ _ _ _ _ _ c.from_residual.result
     (sym c.loop.invariant.at ∙ c.in-Some.ensures.next) c.loop.invariant.bytes c.from_residual.ensures.1 c.in_err-write_frame-in-Some.ensures.bytes
 
-pub returns-in-None-clause-bytes : goal.returns-in-None-clause-bytes
-returns-in-None-clause-bytes g c =
-    let all = maps.entries c.args.host.now.frames in
-    absurd (not_ended c.loop.counter c.frames-end.result all (sym c.loop.invariant.at ∙ c.in-None.ensures.next) c.loop-test.true (c.frames-end.ensures ∙ maps.len-entries c.args.host.now.frames))
-
-pub loop-preserved : goal.loop-preserved
-loop-preserved g c =
-    let all = maps.entries c.args.host.now.frames in
-    let e : ℕ × HostFrame = (c.in-Some.pfn, record { type = c.in-Some.kind; machine = c.in-Some.machine; page = option_copied c.in-Some.page }) in
-    let here = sym c.loop.invariant.at ∙ c.in-Some.ensures.next in
-    record {
-      at = sym (drop_next c.loop.counter all _ e here);
-      bytes = walk_on frame_text all c.loop.counter e _ _ _ _ here c.loop.invariant.bytes c.in_ok-write_frame-in-Some.ensures.bytes;
-      quiet = search rules;
-    }
-
 pub returns-clause-bytes : goal.returns-clause-bytes
 returns-clause-bytes g c =
     walked frame_text (maps.entries c.args.host.now.frames) c.loop.counter c.frames-end.result _ _ (omega (arith, c.loop-test.false)) (c.frames-end.ensures ∙ maps.len-entries c.args.host.now.frames) c.loop.invariant.bytes

@@ -6,29 +6,9 @@ use Rattle.mig_image.proofs.Pieces.{part_small}
 use Rattle.mig_image.proofs.Walked.{drop_next, not_ended, walk_on, walk_stop}
 use Rattle.mig_image.proofs.write.write_parts.Goals as goal
 
-pub write_part-requires : goal.write_part-requires
-write_part-requires g c =
-    part_small c.args.host.now c.loop.counter (c.in-Some.key, c.in-Some.bytes.now) _ c.requires.valid (sym c.loop.invariant.at ∙ c.in-Some.ensures.next)
-
 pub returns-in_err-write_part-in-Some-clause-bytes : goal.returns-in_err-write_part-in-Some-clause-bytes
 returns-in_err-write_part-in-Some-clause-bytes g c =
     let all = maps.entries c.args.host.now.parts in
     let e : PartKey × List ℕ = (c.in-Some.key, c.in-Some.bytes.now) in
     walk_stop part_text all c.loop.counter e _ _ _ _ _ _ c.from_residual.result
     (sym c.loop.invariant.at ∙ c.in-Some.ensures.next) c.loop.invariant.bytes c.from_residual.ensures.1 c.in_err-write_part-in-Some.ensures.bytes
-
-pub returns-in-None-clause-bytes : goal.returns-in-None-clause-bytes
-returns-in-None-clause-bytes g c =
-    let all = maps.entries c.args.host.now.parts in
-    absurd (not_ended c.loop.counter c.args.count all (sym c.loop.invariant.at ∙ c.in-None.ensures.next) c.loop-test.true c.requires.count)
-
-pub loop-preserved : goal.loop-preserved
-loop-preserved g c =
-    let all = maps.entries c.args.host.now.parts in
-    let e : PartKey × List ℕ = (c.in-Some.key, c.in-Some.bytes.now) in
-    let here = sym c.loop.invariant.at ∙ c.in-Some.ensures.next in
-    record {
-      at = sym (drop_next c.loop.counter all _ e here);
-      bytes = walk_on part_text all c.loop.counter e _ _ _ _ here c.loop.invariant.bytes c.in_ok-write_part-in-Some.ensures.bytes;
-      quiet = search rules;
-    }

@@ -10,10 +10,6 @@ use Rattle.mig_image.proofs.HostsMade.{framed_typed, no_machine, machine_unused,
 use Rattle.mig_image.proofs.MachineMaps.{put_undone, on_failure, on_success}
 use Rattle.mig_image.proofs.host.Host.add_frame.Goals as goal
 
-pub insert-requires-clause-absent : goal.insert-requires-clause-absent
-insert-requires-clause-absent c =
-    no_machine c.self.inside.guest.frames c.self.inside.machines c.self.invariant.matched c.args.pfn (ap (λ (h : HostOf). maps.get h.frames c.args.pfn) c.self.view_is ∙ c.requires.absent)
-
 pub insert-requires-clause-unused : goal.insert-requires-clause-unused
 insert-requires-clause-unused c =
     machine_unused c.self.inside.guest.frames c.self.inside.machines c.self.invariant.matched c.args.machine

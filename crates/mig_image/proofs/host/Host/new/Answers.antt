@@ -9,8 +9,3 @@ use Rattle.mig_image.proofs.host.Host.new.Goals as goal
 pub invariant_of-result : goal.invariant_of-result
 invariant_of-result c =
     subst (λ (m : MachineMap). IsMade c.new.result c.args.width m) (sym c.new-2.ensures) (made_empty c.new.result c.args.width c.args.kind c.new.ensures c.requires.width c.requires.some_width)
-
-pub returns : goal.returns
-returns c =
-    ap (λ (m : MachineMap). host_seen c.new.result c.args.width m) c.new-2.ensures ∙ ap (λ (g : GuestOf). host_seen g c.args.width maps.empty) c.new.ensures
-    ∙ ap (λ (m : HostFrames). record { kind = c.args.kind; width = c.args.width; frames = m; parts = maps.empty }) joined_empty

@@ -29,8 +29,3 @@ invariant_of-self-else-is_err c =
     (subst (AreInverse (maps.insert (made es) pfn machine)) (sym (made_insert back c.insert-2.new.self.entries machine pfn updates.0))
     (inverse_insert (made es) (made back) pfn machine c.self.invariant (ap (λ (m : MachineMap). maps.get m pfn) c.self.view_is ∙ c.requires.absent)
     (λ q has. c.requires.unused q (sym (ap (λ (m : MachineMap). maps.get m q) c.self.view_is) ∙ has))))
-
-pub returns-clause-ok : goal.returns-clause-ok
-returns-clause-ok c =
-    made_insert c.self.inside.machines.entries c.insert.new.self.entries c.args.pfn c.args.machine c.in-Ok.ensures.updates.0
-    ∙ ap (λ (m : MachineMap). maps.insert m c.args.pfn c.args.machine) c.self.view_is
