@@ -2,10 +2,10 @@
 use Rattle.std.proofs.Common.{◌≡◌, ℕ, zero, suc, ◌+◌, ◌^◌, ◌<◌, ◌≤◌, List, [], ◌∷◌, ◌++◌, length, take, drop, get_or, Option, None, refl, sym, ap, subst, ◌∙◌, arith, take-append-drop, drop-drop, length-drop, append_assoc, codes}
 use Rattle.std.specs.List.{AllByRecursion}
 use Rattle.std.specs.Int.{w32, w64, from_le_bytes, from_be_bytes}
-use Rattle.std.proofs.lemmas.List.{take_all}
+use Rattle.std.proofs.lemmas.List.{take_all, length-take-le}
 use Rattle.std.proofs.lemmas.Nat.{le_bytes_4, le_bytes_8, be_bytes_8}
 use Rattle.byteorder.specs.Endian.{little_bytes, little_number, big_number}
-use Rattle.byteorder.specs.Numbers.{little_from-lt}
+use Rattle.byteorder.specs.Numbers.{little_from-take, big_from-take, little_from-lt}
 use Rattle.mig_bytes.specs.Fields.{le32, le64, be64}
 use Rattle.mig_bytes.specs.Judged.{◌>>=◌, part, tried}
 use Rattle.mig_bytes.specs.Judged.Judged.{Passes}
@@ -35,73 +35,67 @@ below [] i h = omega arith
 below (x ∷ xs) zero h = h.0
 below (x ∷ xs) (suc i) h = below xs i h.1
 
-sum_of_4 : (a b c d : ℕ) → little_number 4 (a ∷ b ∷ c ∷ d ∷ []) ≡ from_le_bytes w32 (a ∷ b ∷ c ∷ d ∷ [])
-sum_of_4 a b c d = omega arith
+-- ---- fields
 
-sum_of_8 : (a b c d e f g h : ℕ) → little_number 8 (a ∷ b ∷ c ∷ d ∷ e ∷ f ∷ g ∷ h ∷ []) ≡ from_le_bytes w64 (a ∷ b ∷ c ∷ d ∷ e ∷ f ∷ g ∷ h ∷ [])
-sum_of_8 a b c d e f g h = omega arith
+module _ (n at : ℕ) (xs : List ℕ) (all : Bytes xs) (long : at + n ≤ length xs) where
+  size : length (take n (drop at xs)) ≡ n
+  size = length-take-le n (drop at xs) (omega (arith, long, length-drop at xs))
 
-big_sum_of_8 : (a b c d e f g h : ℕ) → big_number 8 (a ∷ b ∷ c ∷ d ∷ e ∷ f ∷ g ∷ h ∷ []) ≡ from_be_bytes w64 (a ∷ b ∷ c ∷ d ∷ e ∷ f ∷ g ∷ h ∷ [])
-big_sum_of_8 a b c d e f g h = omega arith
-
-four : (xs : List ℕ) → Bytes xs → 4 ≤ length xs → little_bytes 4 (little_number 4 xs) ≡ take 4 xs
-four [] all long = absurd (omega (arith, long))
-four (a ∷ []) all long = absurd (omega (arith, long))
-four (a ∷ b ∷ []) all long = absurd (omega (arith, long))
-four (a ∷ b ∷ c ∷ []) all long = absurd (omega (arith, long))
-four (a ∷ b ∷ c ∷ d ∷ xs) (pa, (pb, (pc, (pd, all)))) long =
-    le_bytes_4 (a ∷ b ∷ c ∷ d ∷ []) (little_number 4 (a ∷ b ∷ c ∷ d ∷ [])) refl (λ i. below (a ∷ b ∷ c ∷ d ∷ []) i (pa, (pb, (pc, (pd, tt))))) (sum_of_4 a b c d)
-
-eight : (xs : List ℕ) → Bytes xs → 8 ≤ length xs → little_bytes 8 (little_number 8 xs) ≡ take 8 xs
-eight [] all long = absurd (omega (arith, long))
-eight (a ∷ []) all long = absurd (omega (arith, long))
-eight (a ∷ b ∷ []) all long = absurd (omega (arith, long))
-eight (a ∷ b ∷ c ∷ []) all long = absurd (omega (arith, long))
-eight (a ∷ b ∷ c ∷ d ∷ []) all long = absurd (omega (arith, long))
-eight (a ∷ b ∷ c ∷ d ∷ e ∷ []) all long = absurd (omega (arith, long))
-eight (a ∷ b ∷ c ∷ d ∷ e ∷ f ∷ []) all long = absurd (omega (arith, long))
-eight (a ∷ b ∷ c ∷ d ∷ e ∷ f ∷ g ∷ []) all long = absurd (omega (arith, long))
-eight (a ∷ b ∷ c ∷ d ∷ e ∷ f ∷ g ∷ h ∷ xs) (pa, (pb, (pc, (pd, (pe, (pf, (pg, (ph, all)))))))) long =
-    le_bytes_8 (a ∷ b ∷ c ∷ d ∷ e ∷ f ∷ g ∷ h ∷ []) (little_number 8 (a ∷ b ∷ c ∷ d ∷ e ∷ f ∷ g ∷ h ∷ [])) refl
-    (λ i. below (a ∷ b ∷ c ∷ d ∷ e ∷ f ∷ g ∷ h ∷ []) i (pa, (pb, (pc, (pd, (pe, (pf, (pg, (ph, tt))))))))) (sum_of_8 a b c d e f g h)
-
-name_bytes : (xs : List ℕ) → Bytes xs → 8 ≤ length xs → big_number 8 xs ≡ 0x5847494D41474531 → codes "XGIMAGE1" ≡ take 8 xs
-name_bytes [] all long is = absurd (omega (arith, long))
-name_bytes (a ∷ []) all long is = absurd (omega (arith, long))
-name_bytes (a ∷ b ∷ []) all long is = absurd (omega (arith, long))
-name_bytes (a ∷ b ∷ c ∷ []) all long is = absurd (omega (arith, long))
-name_bytes (a ∷ b ∷ c ∷ d ∷ []) all long is = absurd (omega (arith, long))
-name_bytes (a ∷ b ∷ c ∷ d ∷ e ∷ []) all long is = absurd (omega (arith, long))
-name_bytes (a ∷ b ∷ c ∷ d ∷ e ∷ f ∷ []) all long is = absurd (omega (arith, long))
-name_bytes (a ∷ b ∷ c ∷ d ∷ e ∷ f ∷ g ∷ []) all long is = absurd (omega (arith, long))
-name_bytes (a ∷ b ∷ c ∷ d ∷ e ∷ f ∷ g ∷ h ∷ xs) (pa, (pb, (pc, (pd, (pe, (pf, (pg, (ph, all)))))))) long is =
-    be_bytes_8 (a ∷ b ∷ c ∷ d ∷ e ∷ f ∷ g ∷ h ∷ []) 0x5847494D41474531 refl
-    (λ i. below (a ∷ b ∷ c ∷ d ∷ e ∷ f ∷ g ∷ h ∷ []) i (pa, (pb, (pc, (pd, (pe, (pf, (pg, (ph, tt))))))))) (sym is ∙ big_sum_of_8 a b c d e f g h)
+  small : (i : ℕ) → get_or (take n (drop at xs)) i 0 < 256
+  small i = below (take n (drop at xs)) i (bytes_front (drop at xs) (take n (drop at xs)) (drop n (drop at xs)) (sym (take-append-drop n (drop at xs))) (bytes_drop at xs all))
 
 -- the bytes of a field
-pub word_back : (at : ℕ) (xs : List ℕ) → Bytes xs → at + 4 ≤ length xs → little_bytes 4 (le32 xs at) ≡ take 4 (drop at xs)
+word_back : (at : ℕ) (xs : List ℕ) → Bytes xs → at + 4 ≤ length xs → little_bytes 4 (le32 xs at) ≡ take 4 (drop at xs)
 unfolding le32
-word_back at xs all long = four (drop at xs) (bytes_drop at xs all) (omega (arith, long, length-drop at xs))
+word_back at xs all long =
+    le_bytes_4 (take 4 (drop at xs)) (le32 xs at) (size 4 at xs all long) (small 4 at xs all long) (sym (little_from-take 0 4 4 (drop at xs) (omega arith)) ∙ sum (take 4 (drop at xs)))
+  where
+    sum : (bs : List ℕ) → little_number 4 bs ≡ from_le_bytes w32 bs
+    sum bs = omega arith
 
 pub long_back : (at : ℕ) (xs : List ℕ) → Bytes xs → at + 8 ≤ length xs → little_bytes 8 (le64 xs at) ≡ take 8 (drop at xs)
 unfolding le64
-long_back at xs all long = eight (drop at xs) (bytes_drop at xs all) (omega (arith, long, length-drop at xs))
+long_back at xs all long =
+    le_bytes_8 (take 8 (drop at xs)) (le64 xs at) (size 8 at xs all long) (small 8 at xs all long) (sym (little_from-take 0 8 8 (drop at xs) (omega arith)) ∙ sum (take 8 (drop at xs)))
+  where
+    sum : (bs : List ℕ) → little_number 8 bs ≡ from_le_bytes w64 bs
+    sum bs = omega arith
 
-pub name_back : (xs : List ℕ) → Bytes xs → 8 ≤ length xs → be64 xs 0 ≡ 0x5847494D41474531 → codes "XGIMAGE1" ≡ take 8 xs
+name_back : (xs : List ℕ) → Bytes xs → 8 ≤ length xs → be64 xs 0 ≡ 0x5847494D41474531 → codes "XGIMAGE1" ≡ take 8 xs
 unfolding be64
-name_back xs all long is = name_bytes xs all long is
+name_back xs all long is =
+    be_bytes_8 (take 8 xs) 0x5847494D41474531 (size 8 0 xs all long) (small 8 0 xs all long) (sym is ∙ sym (big_from-take 0 8 8 xs (omega arith)) ∙ sum (take 8 xs))
+  where
+    sum : (bs : List ℕ) → big_number 8 bs ≡ from_be_bytes w64 bs
+    sum bs = omega arith
 
 pub word_below : (at : ℕ) (xs : List ℕ) → Bytes xs → le32 xs at < 2 ^ 32
 unfolding le32
 word_below at xs all = little_from-lt 0 4 (drop at xs) (λ k. below (drop at xs) k (bytes_drop at xs all))
 
--- a list, cut behind n of the elements from `at` on
-pub cut : (at n : ℕ) (xs : List ℕ) → drop at xs ≡ take n (drop at xs) ++ drop (at + n) xs
-cut at n xs = sym (take-append-drop n (drop at xs)) ∙ ap (λ l. take n (drop at xs) ++ l) (drop-drop n at xs)
+-- a field, and what stands behind it
+field_then : (n at : ℕ) (xs field tail : List ℕ) → field ≡ take n (drop at xs) → tail ≡ drop (at + n) xs → field ++ tail ≡ drop at xs
+field_then n at xs field tail a b = ap (λ l. l ++ tail) a ∙ ap (λ l. take n (drop at xs) ++ l) (b ∙ sym (drop-drop n at xs)) ∙ take-append-drop n (drop at xs)
 
--- the last of them
-pub last : (at n : ℕ) (xs : List ℕ) → length xs ≡ at + n → drop at xs ≡ take n (drop at xs)
-last at n xs size = sym (take_all n (drop at xs) (omega (arith, size, length-drop at xs)))
+-- the last of the elements
+pub last : (n at : ℕ) (xs : List ℕ) → length xs ≡ at + n → take n (drop at xs) ≡ drop at xs
+last n at xs size = take_all n (drop at xs) (omega (arith, size, length-drop at xs))
+
+module _ (xs : List ℕ) (all : Bytes xs) where
+  pub name_then : {tail : List ℕ} → 8 ≤ length xs → be64 xs 0 ≡ 0x5847494D41474531 → tail ≡ drop 8 xs → codes "XGIMAGE1" ++ tail ≡ xs
+  name_then {tail} long is more = field_then 8 0 xs (codes "XGIMAGE1") tail (name_back xs all long is) more
+
+  pub word_then : {n : ℕ} {tail : List ℕ} (at : ℕ) → at + 4 ≤ length xs → n ≡ le32 xs at → tail ≡ drop (at + 4) xs → little_bytes 4 n ++ tail ≡ drop at xs
+  word_then {n} {tail} at long is more = field_then 4 at xs (little_bytes 4 n) tail (ap (little_bytes 4) is ∙ word_back at xs all long) more
+
+  pub long_then : {n : ℕ} {tail : List ℕ} (at : ℕ) → at + 8 ≤ length xs → n ≡ le64 xs at → tail ≡ drop (at + 8) xs → little_bytes 8 n ++ tail ≡ drop at xs
+  long_then {n} {tail} at long is more = field_then 8 at xs (little_bytes 8 n) tail (ap (little_bytes 8) is ∙ long_back at xs all long) more
+
+  pub word_last : {n : ℕ} (at : ℕ) → length xs ≡ at + 4 → n ≡ le32 xs at → little_bytes 4 n ≡ drop at xs
+  word_last at size is = ap (little_bytes 4) is ∙ word_back at xs all (omega (arith, size)) ∙ last 4 at xs size
+
+  pub long_last : {n : ℕ} (at : ℕ) → length xs ≡ at + 8 → n ≡ le64 xs at → little_bytes 8 n ≡ drop at xs
+  long_last at size is = ap (little_bytes 8) is ∙ long_back at xs all (omega (arith, size)) ∙ last 8 at xs size
 
 -- two texts, and what follows them
 pub regroup : (i mid rest a b : List ℕ) → i ≡ a ++ mid → mid ≡ b ++ rest → i ≡ (a ++ b) ++ rest

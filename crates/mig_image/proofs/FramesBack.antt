@@ -25,7 +25,7 @@ use Rattle.mig_guest.specs.Hosts.{HostOf, HostFrame, HostFrames, IsValid}
 use Rattle.mig_image.specs.Image.{host_word, frame_head_of, frame_text}
 use Rattle.mig_image.specs.ImageParts.{head_pfn, head_type_number, head_type, frame_rows, fault_of_frame, frame_head_at, host_page_at, frame_said, put_frame, host_frame_at, frames_at}
 use Rattle.mig_image.proofs.Chains.{Chain, put_all, Found, AllFound, chain_back, chain_entries, chain_keeps}
-use Rattle.mig_image.proofs.FieldBytes.{Bytes, bytes_front, word_back, long_back, cut, last, judged_part, regroup}
+use Rattle.mig_image.proofs.FieldBytes.{Bytes, bytes_front, word_then, long_last, judged_part, regroup}
 use Rattle.mig_image.proofs.FrameChains.{behind}
 use Rattle.mig_image.proofs.FrameTexts.{FrameFits, frame_fits, page_if}
 use Rattle.mig_image.proofs.HostsMade.{valid_frame}
@@ -46,13 +46,7 @@ whole_word w = omega arith
 
 head_back : (head : List ℕ) (pfn : ℕ) (f : HostFrame) → Bytes head → length head ≡ 16 → host_word pfn f.type ≡ le32 head 0 → 0 ≡ le32 head 4 → f.machine ≡ le64 head 8 → frame_head_of pfn f ≡ head
 unfolding frame_head_of
-head_back head pfn f all size word none machine =
-    let first : little_bytes 4 (host_word pfn f.type) ≡ take 4 head = ap (little_bytes 4) word ∙ word_back 0 head all (omega (arith, size)) in
-    let second : little_bytes 4 0 ≡ take 4 (drop 4 head) = ap (little_bytes 4) none ∙ word_back 4 head all (omega (arith, size)) in
-    let third : little_bytes 8 f.machine ≡ drop 8 head = ap (little_bytes 8) machine ∙ long_back 8 head all (omega (arith, size)) ∙ sym (last 8 8 head size) in
-    let apart : head ≡ take 4 head ++ (take 4 (drop 4 head) ++ drop 8 head) = cut 0 4 head ∙ ap (λ l. take 4 head ++ l) (cut 4 4 head) in
-    ap (λ l. l ++ (little_bytes 4 0 ++ little_bytes 8 f.machine)) first ∙ ap (λ l. take 4 head ++ (l ++ little_bytes 8 f.machine)) second
-    ∙ ap (λ l. take 4 head ++ (take 4 (drop 4 head) ++ l)) third ∙ sym apart
+head_back head pfn f all size word none machine = word_then head all 0 (omega (arith, size)) word (word_then head all 4 (omega (arith, size)) none (long_last head all 8 size machine))
 
 -- ---- a page
 

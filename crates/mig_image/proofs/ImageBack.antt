@@ -21,7 +21,7 @@ use Rattle.mig_guest.specs.declared.part_key.PartKey.{PartKey}
 use Rattle.mig_guest.specs.Hosts.{HostOf, HostFrame, IsValid}
 use Rattle.mig_image.specs.Image.{host_head, frame_text, part_text, image, IsHostImage}
 use Rattle.mig_image.specs.ImageParts.{name_rows, size_rows, fault_of_name, fault_of_sizes, fault_of_host_head, host_head_at, opened, frames_at, host_parts_at, count_at, behind_head, host_at}
-use Rattle.mig_image.proofs.FieldBytes.{Bytes, bytes_front, bytes_back, name_back, word_back, long_back, cut, last, judged_part, regroup}
+use Rattle.mig_image.proofs.FieldBytes.{Bytes, bytes_front, bytes_back, name_then, word_then, long_then, long_last, judged_part, regroup}
 use Rattle.mig_image.proofs.Chains.{put_all}
 use Rattle.mig_image.proofs.FramesBack.{with_frames, FramesFound, frames_back, frame_entries, frames_valid}
 use Rattle.mig_image.proofs.HostsMade.{valid_empty}
@@ -42,20 +42,8 @@ head_back : (h : HostOf) (head : List ℕ) → Bytes head → length head ≡ 32
     → host_head h ≡ head
 unfolding host_head
 head_back h head all size name kind none width count =
-    let n : List ℕ = codes "XGIMAGE1" in
-    let a : n ≡ take 8 head = name_back head all (omega (arith, size)) name in
-    let b : little_bytes 4 (kind_number h.kind) ≡ take 4 (drop 8 head) = ap (little_bytes 4) kind ∙ word_back 8 head all (omega (arith, size)) in
-    let c : little_bytes 4 0 ≡ take 4 (drop 12 head) = ap (little_bytes 4) none ∙ word_back 12 head all (omega (arith, size)) in
-    let d : little_bytes 8 h.width ≡ take 8 (drop 16 head) = ap (little_bytes 8) width ∙ long_back 16 head all (omega (arith, size)) in
-    let e : little_bytes 8 (length (maps.entries h.frames)) ≡ drop 24 head = ap (little_bytes 8) count ∙ long_back 24 head all (omega (arith, size)) ∙ sym (last 24 8 head size) in
-    five n (little_bytes 4 (kind_number h.kind)) (little_bytes 4 0) (little_bytes 8 h.width) (little_bytes 8 (length (maps.entries h.frames))) (take 8 head) (take 4 (drop 8 head)) (take 4 (drop 12 head)) (take 8 (drop 16 head)) (drop 24 head) a b c d e
-    ∙ sym (apart head)
-  where
-    five : (a b c d e a' b' c' d' e' : List ℕ) → a ≡ a' → b ≡ b' → c ≡ c' → d ≡ d' → e ≡ e' → a ++ (b ++ (c ++ (d ++ e))) ≡ a' ++ (b' ++ (c' ++ (d' ++ e')))
-    five a b c d e a' b' c' d' e' p q r s t = cc
-
-    apart : (head : List ℕ) → head ≡ take 8 head ++ (take 4 (drop 8 head) ++ (take 4 (drop 12 head) ++ (take 8 (drop 16 head) ++ drop 24 head)))
-    apart head = cut 0 8 head ∙ ap (λ l. take 8 head ++ l) (cut 8 4 head ∙ ap (λ l. take 4 (drop 8 head) ++ l) (cut 12 4 head ∙ ap (λ l. take 4 (drop 12 head) ++ l) (cut 16 8 head)))
+    name_then head all (omega (arith, size)) name (word_then head all 8 (omega (arith, size)) kind (word_then head all 12 (omega (arith, size)) none
+    (long_then head all 16 (omega (arith, size)) width (long_last head all 24 size count))))
 
 -- what a head without a fault says
 record HeadFine (head : List ℕ) : Type 0 where
@@ -103,7 +91,7 @@ count_back i n rest all is =
     let p = part_passes Truncated 8 i a.x a.mid a.first in
     let e = same_passes (le64 a.x 0) n a.mid rest a.second in
     let bytes : Bytes a.x = bytes_front i a.x a.mid p.0 all in
-    let text : a.x ≡ little_bytes 8 (le64 a.x 0) = last 0 8 a.x p.1 ∙ sym (long_back 0 a.x bytes (omega (arith, p.1))) in
+    let text : a.x ≡ little_bytes 8 (le64 a.x 0) = sym (long_last a.x bytes 0 p.1 refl) in
     p.0 ∙ ap (λ l. l ++ a.mid) (text ∙ ap (little_bytes 8) e.0) ∙ ap (λ l. little_bytes 8 n ++ l) e.1
 
 -- ---- the whole

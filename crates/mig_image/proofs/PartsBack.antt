@@ -19,7 +19,7 @@ use Rattle.mig_guest.proofs.PartOrder.{part_total}
 use Rattle.mig_image.specs.Image.{part_head_of, part_text}
 use Rattle.mig_image.specs.ImageParts.{head_key, fault_of_part, fault_of_bytes, fault_of_padding, put_part_in, part_head_at, bytes_at, padding_at, part_at, host_parts_at}
 use Rattle.mig_image.proofs.Chains.{Chain, put_all, Found, AllFound, chain_back, chain_entries, chain_keeps}
-use Rattle.mig_image.proofs.FieldBytes.{Bytes, bytes_front, word_back, word_below, cut, last, judged_part, regroup}
+use Rattle.mig_image.proofs.FieldBytes.{Bytes, bytes_front, word_then, word_last, word_below, judged_part, regroup}
 use Rattle.mig_image.proofs.HostsMade.{valid_part}
 use Rattle.mig_image.proofs.PartTexts.{PartFits, behind_bytes, behind_part_head}
 use Rattle.mig_image.proofs.PartsMore.{fits_more, part_fits}
@@ -29,17 +29,7 @@ use Rattle.mig_image.proofs.PartsMore.{fits_more, part_fits}
 head_back : (head : List ℕ) → Bytes head → length head ≡ 16 → part_head_of (head_key head) (le32 head 12) ≡ head
 unfolding part_head_of
 head_back head all size =
-    let a : little_bytes 4 (le32 head 0) ≡ take 4 head = word_back 0 head all (omega (arith, size)) in
-    let b : little_bytes 4 (le32 head 4) ≡ take 4 (drop 4 head) = word_back 4 head all (omega (arith, size)) in
-    let c : little_bytes 4 (le32 head 8) ≡ take 4 (drop 8 head) = word_back 8 head all (omega (arith, size)) in
-    let d : little_bytes 4 (le32 head 12) ≡ drop 12 head = word_back 12 head all (omega (arith, size)) ∙ sym (last 12 4 head size) in
-    let apart : head ≡ take 4 head ++ (take 4 (drop 4 head) ++ (take 4 (drop 8 head) ++ drop 12 head)) =
-    cut 0 4 head ∙ ap (λ l. take 4 head ++ l) (cut 4 4 head ∙ ap (λ l. take 4 (drop 4 head) ++ l) (cut 8 4 head)) in
-    let k1 = little_bytes 4 (le32 head 4) in
-    let k2 = little_bytes 4 (le32 head 8) in
-    let n = little_bytes 4 (le32 head 12) in
-    ap (λ l. l ++ (k1 ++ (k2 ++ n))) a ∙ ap (λ l. take 4 head ++ (l ++ (k2 ++ n))) b ∙ ap (λ l. take 4 head ++ (take 4 (drop 4 head) ++ (l ++ n))) c
-    ∙ ap (λ l. take 4 head ++ (take 4 (drop 4 head) ++ (take 4 (drop 8 head) ++ l))) d ∙ sym apart
+    word_then head all 0 (omega (arith, size)) refl (word_then head all 4 (omega (arith, size)) refl (word_then head all 8 (omega (arith, size)) refl (word_last head all 12 size refl)))
 
 -- ---- zeros
 
