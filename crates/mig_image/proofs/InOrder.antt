@@ -2,10 +2,10 @@
 use Rattle.std.proofs.Common.{◌≡◌, ℕ, ◌+◌, ◌<◌, ◌≤◌, Bool, true, false, cond, not, List, [], ◌∷◌, ◌++◌, Option, Some, refl, sym, ap, subst, ◌∙◌, length, arith, ◌⊎◌, inl, inr}
 use Rattle.std.specs.Prelude.{T, ◌||◌}
 use Rattle.std.specs.List as list
-use Rattle.std.specs.List.{AllByRecursion, list_any}
+use Rattle.std.specs.List.{All, AllByRecursion, list_any}
 use Rattle.std.proofs.lemmas.Bool.{or_left, or_right, or_parts, or_from, false_from_ne_true, true≢false}
 use Rattle.std.proofs.lemmas.Cmp.{eq_by_cmp_equiv}
-use Rattle.std.proofs.lemmas.List.Elements.{recursion_from_All}
+use Rattle.std.proofs.lemmas.List.Elements.{All-weaker, recursion_from_All}
 use Rattle.std.proofs.lemmas.List.Folds.{list_any_none}
 use Rattle.std.proofs.lemmas.Option.{none-some, same_Some}
 use Rattle.std.specs.Cmp.{IsTotalOrder}
@@ -92,9 +92,13 @@ module _ {K X : Type 0} {R : K → K → Ordering} (total : IsTotalOrder R) wher
 -- ---- what holds of all entries, and tests of them
 
 module _ {K X : Type 0} {R : K → K → Ordering} (total : IsTotalOrder R) (exact : IsAntisymmetric R) where
+  -- all entries are found
+  pub all_there : (m : FinMap R X) → All (λ (e : K × X). maps.get m e.0 ≡ Some e.1) (maps.entries m)
+  all_there m = all_found total exact (λ e. maps.get m e.0 ≡ Some e.1) (maps.entries m) (maps.entries_sorted m) (λ q v is. maps.get-entries m q ∙ is)
+
   -- what holds of all that is found holds of all entries
   pub each_entry : (P : K → X → Type 0) (m : FinMap R X) → ((k : K) (v : X) → maps.get m k ≡ Some v → P k v) → AllByRecursion (λ e. P e.0 e.1) (maps.entries m)
-  each_entry P m go = recursion_from_All (λ e. P e.0 e.1) (maps.entries m) (all_found total exact (λ e. P e.0 e.1) (maps.entries m) (maps.entries_sorted m) (λ q v is. go q v (maps.get-entries m q ∙ is)))
+  each_entry P m go = recursion_from_All (λ e. P e.0 e.1) (maps.entries m) (All-weaker _ (λ e. P e.0 e.1) (λ e is. go e.0 e.1 is) (maps.entries m) (all_there m))
 
   -- what is found in a map with one value more: this value, or what was found before
   pub found_more : (m : FinMap R X) (k : K) (x : X) (q : K) (v : X) → maps.get (maps.insert m k x) q ≡ Some v → ((q ≡ k) × (x ≡ v)) ⊎ (maps.get m q ≡ Some v)
@@ -128,7 +132,7 @@ module _ {K X : Type 0} {R : K → K → Ordering} (total : IsTotalOrder R) (exa
 
     -- no entry passes
     pub no_entry : (m : FinMap R X) → ((k : K) (v : X) → maps.get m k ≡ Some v → p (k, v) ≡ false) → list_any p (maps.entries m) ≡ false
-    no_entry m none = list_any_none p (maps.entries m) (all_found total exact (λ e. p e ≡ false) (maps.entries m) (maps.entries_sorted m) (λ q v is. none q v (maps.get-entries m q ∙ is)))
+    no_entry m none = list_any_none p (maps.entries m) (All-weaker _ (λ e. p e ≡ false) (λ e is. none e.0 e.1 is) (maps.entries m) (all_there m))
 
     -- where no entry passes
     pub none_passes : (m : FinMap R X) (q : K) (v : X) → list_any p (maps.entries m) ≡ false → maps.get m q ≡ Some v → p (q, v) ≡ false

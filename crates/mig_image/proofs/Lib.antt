@@ -4,7 +4,6 @@ pub mod FrameChains
 pub mod FrameRead
 pub mod FrameTexts
 pub mod FramesBack
-pub mod HostEntries
 pub mod HostMaps
 pub mod HostViews
 pub mod HostsMade

@@ -119,7 +119,7 @@ impl Host {
     }
 
     /// Whether some frame has this machine frame.
-    #[tactic(auto, using(crate::proofs::HostEntries::used_joined))]
+    #[tactic(auto, using(crate::proofs::HostMaps::used_joined))]
     pub(crate) fn uses_machine(&self, machine: u64) -> bool
         ensures { result ≡ has_machine self.now machine }
     {
@@ -138,7 +138,7 @@ impl Host {
     }
 
     /// The first frame from this number on, with its type, its machine frame and its page.
-    #[tactic(auto, using(crate::proofs::HostEntries::none_from, crate::proofs::HostEntries::next_joined, crate::proofs::HostEntries::has_no_machine))]
+    #[tactic(auto, using(crate::proofs::HostMaps::none_from, crate::proofs::HostMaps::next_joined, crate::proofs::HostMaps::has_no_machine))]
     pub(crate) fn next_entry(&self, from: u64) -> Option<(u64, PageType, u64, Option<&[u8; 4096]>)>
         ensures next { NextEntry from (maps.entries self.now.frames) (option_map (λ e. (e.0, record { type = e.1; machine = e.2; page = option_copied e.3 })) result) }
         ensures small { IfSome result (λ e. e.0 < pfn_limit) }
