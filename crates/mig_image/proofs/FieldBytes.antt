@@ -9,7 +9,7 @@ use Rattle.byteorder.specs.Numbers.{little_from-take, big_from-take, little_from
 use Rattle.mig_bytes.specs.Fields.{le32, le64, be64}
 use Rattle.mig_bytes.specs.Judged.{◌>>=◌, part, tried}
 use Rattle.mig_bytes.specs.Judged.Judged.{Passes}
-use Rattle.mig_bytes.proofs.Joins.{both_pass, part_passes, tried_passes, same_passes}
+use Rattle.mig_bytes.proofs.Joins.{both_pass, part_whole, part_passes, tried_none, tried_passes, then_passes, same_passes}
 
 abbrev pub Bytes : List ℕ → Type 0
 Bytes xs = AllByRecursion (λ b. b < 256) xs
@@ -112,3 +112,8 @@ judged_part truncated n f i x rest h =
     let t = both_pass (tried (f b.x) b.mid) (λ _. Passes b.x b.mid) x rest b.second in
     let e = same_passes b.x x b.mid rest t.second in
     (p.0 ∙ ap (λ l. l ++ b.mid) e.0 ∙ ap (λ l. x ++ l) e.1, ap length (sym e.0) ∙ p.1, ap f (sym e.0) ∙ (tried_passes (f b.x) b.mid t.mid t.x t.first).0)
+
+-- a part of this length without a fault passes
+pub judged_goes : {C : Type 0} (truncated : C) (n : ℕ) (f : List ℕ → Option C) (x rest : List ℕ) → length x ≡ n → f x ≡ None → (part truncated n (x ++ rest) >>= λ a. tried (f a.0) a.1 >>= λ _. Passes a.0 a.1) ≡ Passes x rest
+judged_goes truncated n f x rest size fine =
+    then_passes (part truncated n (x ++ rest)) (λ a. tried (f a.0) a.1 >>= λ _. Passes a.0 a.1) x rest _ (part_whole truncated n x rest size) (tried_none (f x) rest (Passes x rest) fine)

@@ -21,8 +21,9 @@ use Rattle.mig_guest.specs.Frames.{is_type_of}
 use Rattle.mig_guest.specs.Hosts.{HostOf, HostFrame, HostFrames, IsHostFrame}
 use Rattle.mig_image.specs.Image.{host_word, frame_head_of, frame_text}
 use Rattle.mig_image.specs.ImageParts.{head_pfn, head_type, has_machine, has_frame_from, frame_rows, fault_of_frame, frame_head_at, host_page_at, frame_said, put_frame, host_frame_at}
-use Rattle.mig_bytes.proofs.Joins.{then_passes, tried_none}
+use Rattle.mig_bytes.proofs.Joins.{then_passes}
 use Rattle.mig_headers.proofs.FirstFaults.{no_fault, rows_fine}
+use Rattle.mig_image.proofs.FieldBytes.{judged_goes}
 
 -- a frame that may stand behind these
 pub record FrameFits (kind : Kind) (width : ℕ) (m : HostFrames) (e : ℕ × HostFrame) : Type 0 where
@@ -70,18 +71,6 @@ low_part n pfn h = omega arith
 high_part : (n pfn : ℕ) → pfn < 2 ^ 28 → (n * 2 ^ 28 + pfn) / 2 ^ 28 ≡ n
 high_part n pfn h = omega arith
 
-word_read : (pfn : ℕ) (f : HostFrame) → host_word pfn f.type < 2 ^ 32 → le32 (frame_head_of pfn f) 0 ≡ host_word pfn f.type
-unfolding le32 frame_head_of
-word_read pfn f small = little_number-reads_back 4 (host_word pfn f.type) (little_bytes 4 0 ++ little_bytes 8 f.machine) small
-
-zero_read : (pfn : ℕ) (f : HostFrame) → le32 (frame_head_of pfn f) 4 ≡ 0
-unfolding le32 frame_head_of
-zero_read pfn f = refl
-
-machine_read : (pfn : ℕ) (f : HostFrame) → f.machine < 2 ^ 64 → le64 (frame_head_of pfn f) 8 ≡ f.machine
-unfolding le64 frame_head_of
-machine_read pfn f small = little_number-reads_back 8 f.machine [] small
-
 head_len : (pfn : ℕ) (f : HostFrame) → length (frame_head_of pfn f) ≡ 16
 unfolding frame_head_of
 head_len pfn f = refl
@@ -94,14 +83,15 @@ record Says (head : List ℕ) (e : ℕ × HostFrame) : Type 0 where
   machine : le64 head 8 ≡ e.1.machine
 
 says : (e : ℕ × HostFrame) → e.0 < 2 ^ 28 → e.1.machine < 2 ^ 40 → Says (frame_head_of e.0 e.1) e
+unfolding le32 le64 frame_head_of
 says e below small =
     let n = number_of e.1.type in
-    let word = word_read e.0 e.1 (word_small n e.0 (number_small e.1.type) below) in
+    let word = little_number-reads_back 4 (host_word e.0 e.1.type) (little_bytes 4 0 ++ little_bytes 8 e.1.machine) (word_small n e.0 (number_small e.1.type) below) in
     record {
-      zero = zero_read e.0 e.1;
+      zero = refl;
       pfn = ap (λ w. w % 2 ^ 28) word ∙ low_part n e.0 below;
       kind = ap (λ w. type_or_none (type_of (w / 2 ^ 28))) word ∙ ap (λ t. type_or_none (type_of t)) (high_part n e.0 below) ∙ ap type_or_none (typed e.1.type);
-      machine = machine_read e.0 e.1 (omega arith);
+      machine = little_number-reads_back 8 e.1.machine [] (omega arith);
     }
 
 -- ---- no fault
@@ -160,6 +150,6 @@ frame_goes h e rest wide f =
     let s = says e (let below : e.0 < 2 ^ 28 = omega (arith, f.is.inside, wide) in below) f.is.machine in
     ap (host_frame_at h) (append_assoc head (unwrap_or e.1.page []) rest)
     ∙ then_passes (frame_head_at h (head ++ mid)) (λ a. host_page_at (head_type a.0) a.1 >>= λ page. Passes (put_frame h (head_pfn a.0) (frame_said a.0 page.0)) page.1) head mid _
-    (then_passes (part Truncated 16 (head ++ mid)) (λ a. tried (fault_of_frame h a.0) a.1 >>= λ _. Passes a.0 a.1) head mid _ (part_whole Truncated 16 head mid (head_len e.0 e.1)) (tried_none (fault_of_frame h head) mid (Passes head mid) (fine h e head s f)))
+    (judged_goes Truncated 16 (fault_of_frame h) head mid (head_len e.0 e.1) (fine h e head s f))
     (then_passes (host_page_at (head_type head) mid) (λ page. Passes (put_frame h (head_pfn head) (frame_said head page.0)) page.1) e.1.page rest _
     (ap (λ k. host_page_at k mid) s.kind ∙ page_goes e.1.type e.1.page rest f.is.in_step f.is.whole) (frame_is h e head rest s))

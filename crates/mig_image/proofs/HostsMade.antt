@@ -3,7 +3,7 @@ use Rattle.std.proofs.Common.{◌≡◌, ◌≢◌, ℕ, ◌+◌, ◌<◌, ◌�
 use Rattle.std.specs.Prelude.{unwrap_or}
 use Rattle.std.specs.declared.cmp.Ordering.{Ordering}
 use Rattle.std.specs.Option.{option_map}
-use Rattle.std.specs.Ordering.{nat_cmp}
+use Rattle.std.specs.Ordering.{nat_cmp, eq_by_cmp}
 use Rattle.std.specs.Cmp.{IsTotalOrder, nat_cmp_total}
 use Rattle.std.specs.FinMap as maps
 use Rattle.std.specs.FinMap.{FinMap, nat_cmp-IsAntisymmetric, same_map, get-empty, len-insert, len-empty, len-entries, empty_of_len}
@@ -127,30 +127,26 @@ module _ (frames : FrameMap) (machines : MachineMap) (pfn : ℕ) (f : FrameOf) (
   abbrev machines_more : MachineMap
   machines_more = maps.insert machines pfn machine
 
-  at_new : maps.get (joined frames_more machines_more) pfn ≡ maps.get (maps.insert (joined frames machines) pfn (with_machine f machine)) pfn
-  at_new =
-      get_with_machines frames_more (machine_in machines_more) pfn ∙ ap (option_map (λ (x : FrameOf). with_machine x (machine_in machines_more pfn))) (got_put frames pfn f)
-      ∙ ap (λ (o : Option ℕ). Some (with_machine f (unwrap_or o 0))) (got_put machines pfn machine) ∙ sym (got_put (joined frames machines) pfn (with_machine f machine))
-
-  at_others : (q : ℕ) → q ≢ pfn → maps.get (joined frames_more machines_more) q ≡ maps.get (maps.insert (joined frames machines) pfn (with_machine f machine)) q
-  at_others q ne =
-      get_with_machines frames_more (machine_in machines_more) q ∙ ap (option_map (λ (x : FrameOf). with_machine x (machine_in machines_more q))) (got_other frames pfn f q ne)
-      ∙ ap (λ (o : Option ℕ). option_map (λ (x : FrameOf). with_machine x (unwrap_or o 0)) (maps.get frames q)) (got_other machines pfn machine q ne)
-      ∙ sym (get_with_machines frames (machine_in machines) q) ∙ sym (got_other (joined frames machines) pfn (with_machine f machine) q ne)
-
   -- a frame and its machine frame put
   pub joined_put : joined frames_more machines_more ≡ maps.insert (joined frames machines) pfn (with_machine f machine)
-  joined_put = same_map nat_cmp_total nat_cmp-IsAntisymmetric _ _ (λ q. elim (cases_eq q pfn) [
-    | inl same ↦ subst (λ (n : ℕ). maps.get (joined frames_more machines_more) n ≡ maps.get (maps.insert (joined frames machines) pfn (with_machine f machine)) n) (sym same) at_new
-    | inr ne ↦ at_others q ne
-  ])
+  joined_put = same_map nat_cmp_total nat_cmp-IsAntisymmetric _ _ (λ q.
+      get_with_machines frames_more (machine_in machines_more) q
+      ∙ ap (λ (o : Option FrameOf). option_map (λ (x : FrameOf). with_machine x (machine_in machines_more q)) o) (maps.get-insert nat_cmp_total frames pfn f q)
+      ∙ ap (λ (o : Option ℕ). option_map (λ (x : FrameOf). with_machine x (unwrap_or o 0)) (cond (eq_by_cmp nat_cmp q pfn) (Some f) (maps.get frames q))) (maps.get-insert nat_cmp_total machines pfn machine q)
+      ∙ by (eq_by_cmp nat_cmp q pfn) (maps.get frames q) (maps.get machines q)
+      ∙ ap (cond (eq_by_cmp nat_cmp q pfn) (Some (with_machine f machine))) (sym (get_with_machines frames (machine_in machines) q))
+      ∙ sym (maps.get-insert nat_cmp_total (joined frames machines) pfn (with_machine f machine) q))
+    where
+      by : (b : Bool) (o : Option FrameOf) (m : Option ℕ) → option_map (λ (x : FrameOf). with_machine x (unwrap_or (cond b (Some machine) m) 0)) (cond b (Some f) o) ≡ cond b (Some (with_machine f machine)) (option_map (λ (x : FrameOf). with_machine x (unwrap_or m 0)) o)
+      by true o m = refl
+      by false o m = refl
 
   matched_put : AreMatched frames machines → AreMatched frames_more machines_more
-  matched_put matched q = elim (cases_eq q pfn) [
-    | inl same ↦ subst (λ (n : ℕ). is_some (maps.get machines_more n) ≡ is_some (maps.get frames_more n)) (sym same)
-        (ap is_some (got_put machines pfn machine) ∙ sym (ap is_some (got_put frames pfn f)))
-    | inr ne ↦ ap is_some (got_other machines pfn machine q ne) ∙ matched q ∙ sym (ap is_some (got_other frames pfn f q ne))
-  ]
+  matched_put matched q = ap is_some (maps.get-insert nat_cmp_total machines pfn machine q) ∙ by (eq_by_cmp nat_cmp q pfn) ∙ sym (ap is_some (maps.get-insert nat_cmp_total frames pfn f q))
+    where
+      by : (b : Bool) → is_some (cond b (Some machine) (maps.get machines q)) ≡ is_some (cond b (Some f) (maps.get frames q))
+      by true = refl
+      by false = matched q
 
 module _ (frames : FrameMap) (machines : MachineMap) (matched : AreMatched frames machines) where
   -- a number without a frame has no machine frame

@@ -116,11 +116,6 @@ record Found (input : List ℕ) (h : HostOf) (rest : List ℕ) : Type 0 where
   counted : at_count ≡ little_bytes 8 count ++ at_parts
   parts : PartsFound (framed head frames.es) count at_parts h rest
 
-parts_found : (head at_frames at_count at_parts : List ℕ) (passed h : HostOf) (count : ℕ) (rest : List ℕ) (f : FramesFound (opened head) (le64 head 24) at_frames passed at_count) → Bytes at_parts → host_parts_at count passed at_parts ≡ Passes h rest
-    → PartsFound (framed head f.es) count at_parts h rest
-parts_found head at_frames at_count at_parts passed h count rest f all is =
-    parts_back (framed head f.es) count at_parts h rest all (subst (λ x. host_parts_at count x at_parts ≡ Passes h rest) f.is is)
-
 found : (input : List ℕ) (h : HostOf) (rest : List ℕ) → Bytes input → host_at input ≡ Passes h rest → Found input h rest
 unfolding host_at
 found input h rest all is =
@@ -146,7 +141,7 @@ found input h rest all is =
       said = head_fine a.x p.2;
       frames = f;
       counted = n;
-      parts = parts_found a.x a.mid b.mid c.mid b.x h c.x rest f in_parts c.second;
+      parts = parts_back (framed a.x f.es) c.x c.mid h rest in_parts (subst (λ x. host_parts_at c.x x c.mid ≡ Passes h rest) f.is c.second);
     }
 
 joined : (input head at_frames frames at_count count at_parts parts rest : List ℕ) → input ≡ head ++ at_frames → at_frames ≡ frames ++ at_count → at_count ≡ count ++ at_parts → at_parts ≡ parts ++ rest
@@ -158,11 +153,7 @@ joined input head at_frames frames at_count count at_parts parts rest a b c d =
 image_of : (g : HostOf) (head : List ℕ) (fs : List (ℕ × HostFrame)) (n : ℕ) (ps : List (PartKey × List ℕ)) → host_head g ≡ head → maps.entries g.frames ≡ fs → length (maps.entries g.parts) ≡ n → maps.entries g.parts ≡ ps
     → image g ≡ head ++ (flat_map frame_text fs ++ (little_bytes 8 n ++ flat_map part_text ps))
 unfolding image
-image_of g head fs n ps a b c d =
-    ap (λ l. l ++ (flat_map frame_text (maps.entries g.frames) ++ (little_bytes 8 (length (maps.entries g.parts)) ++ flat_map part_text (maps.entries g.parts)))) a
-    ∙ ap (λ l. head ++ (flat_map frame_text l ++ (little_bytes 8 (length (maps.entries g.parts)) ++ flat_map part_text (maps.entries g.parts)))) b
-    ∙ ap (λ m. head ++ (flat_map frame_text fs ++ (little_bytes 8 m ++ flat_map part_text (maps.entries g.parts)))) c
-    ∙ ap (λ l. head ++ (flat_map frame_text fs ++ (little_bytes 8 n ++ flat_map part_text l))) d
+image_of g head fs n ps a b c d = rw (a, c, b, d) refl
 
 module _ (input : List ℕ) (h : HostOf) (rest : List ℕ) (f : Found input h rest) where
   abbrev given : HostOf

@@ -6,7 +6,6 @@ use Rattle.mig_bytes.specs.Bytes.{padding_len, AreBytes, TakesBytes}
 use Rattle.mig_bytes.specs.Fields.{le32, le64}
 use Rattle.mig_bytes.specs.Judged.{◌>>=◌, part, tried, placed, Gives}
 use Rattle.mig_bytes.specs.Judged.Judged.{Passes}
-use Rattle.mig_bytes.proofs.Joins.{part_whole, then_passes, tried_none}
 use Rattle.mig_bytes.proofs.Fronts.{TakesFronts, front_pass, front_part, front_then, front_steps, front_placed}
 use Rattle.mig_headers.specs.declared.image_fault.ImageCause.{ImageCause}
 use Rattle.mig_headers.specs.declared.image_fault.ImageCause.TheVariants.{Truncated}
@@ -17,7 +16,7 @@ use Rattle.mig_guest.specs.Hosts.{HostOf}
 use Rattle.mig_image.specs.Answer.{IsHost, BeginsWithImage}
 use Rattle.mig_image.specs.Image.{image, IsHostImage}
 use Rattle.mig_image.specs.ImageParts.{fault_of_host_head, fault_of_frame, fault_of_part, fault_of_bytes, fault_of_padding, opened, host_head_at, head_type, head_pfn, head_key, frame_head_at, host_page_at, frame_said, put_frame, host_frame_at, part_head_at, bytes_at, padding_at, put_part_in, part_at, frames_at, host_parts_at, count_at, behind_head, host_at}
-use Rattle.mig_image.proofs.FieldBytes.{judged_part}
+use Rattle.mig_image.proofs.FieldBytes.{judged_part, judged_goes}
 use Rattle.mig_image.proofs.ImageBack.{image_back}
 
 judged : (n : ℕ) (fault : List ℕ → Option ImageCause) → TakesFronts (λ i. part Truncated n i >>= λ a. tried (fault a.0) a.1 >>= λ _. Passes a.0 a.1)
@@ -26,7 +25,7 @@ judged n fault input x rest is =
     record {
       front = x;
       whole = p.0;
-      again = λ more. then_passes (part Truncated n (x ++ more)) (λ a. tried (fault a.0) a.1 >>= λ _. Passes a.0 a.1) x more (Passes x more) (part_whole Truncated n x more p.1) (tried_none (fault x) more (Passes x more) p.2);
+      again = λ more. judged_goes Truncated n fault x more p.1 p.2;
     }
 
 page : (type : PageType) → TakesFronts (host_page_at type)

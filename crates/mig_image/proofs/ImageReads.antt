@@ -21,6 +21,7 @@ use Rattle.mig_headers.specs.declared.kind.Kind.TheVariants.{Pv, Hvm}
 use Rattle.mig_guest.specs.Hosts.{HostOf, IsValid}
 use Rattle.mig_image.specs.Image.{host_head, frame_text, part_text, image, IsHostImage}
 use Rattle.mig_image.specs.ImageParts.{is_wide, name_rows, size_rows, fault_of_name, fault_of_sizes, fault_of_host_head, host_head_at, opened, host_frame_at, part_at, frames_at, host_parts_at, count_at, behind_head, host_at}
+use Rattle.mig_image.proofs.FieldBytes.{judged_goes}
 use Rattle.mig_image.proofs.Chains.{chain_goes}
 use Rattle.mig_image.proofs.FrameChains.{frames_chain, frames_same, frames_within}
 use Rattle.mig_image.proofs.FramesBack.{with_frames}
@@ -28,34 +29,14 @@ use Rattle.mig_image.proofs.FrameTexts.{FrameFits, frame_goes}
 use Rattle.mig_image.proofs.PartChains.{parts_chain, parts_same, parts_few}
 use Rattle.mig_image.proofs.PartsBack.{with_parts}
 use Rattle.mig_image.proofs.PartTexts.{PartFits, part_goes}
-use Rattle.mig_bytes.proofs.Joins.{then_passes, tried_none}
+use Rattle.mig_bytes.proofs.Joins.{then_passes}
 use Rattle.mig_headers.proofs.FirstFaults.{no_fault}
 
 -- ---- the head
 
-name_read : (h : HostOf) → be64 (host_head h) 0 ≡ 0x5847494D41474531
-unfolding be64 host_head
-name_read h = refl
-
 kind_small : (kind : Kind) → kind_number kind < 2 ^ 32
 kind_small Pv = omega arith
 kind_small Hvm = omega arith
-
-kind_read : (h : HostOf) → le32 (host_head h) 8 ≡ kind_number h.kind
-unfolding le32 host_head
-kind_read h = little_number-reads_back 4 (kind_number h.kind) (little_bytes 4 0 ++ (little_bytes 8 h.width ++ little_bytes 8 (length (maps.entries h.frames)))) (kind_small h.kind)
-
-zero_read : (h : HostOf) → le32 (host_head h) 12 ≡ 0
-unfolding le32 host_head
-zero_read h = refl
-
-width_read : (h : HostOf) → h.width < 2 ^ 64 → le64 (host_head h) 16 ≡ h.width
-unfolding le64 host_head
-width_read h small = little_number-reads_back 8 h.width (little_bytes 8 (length (maps.entries h.frames))) small
-
-count_read : (h : HostOf) → length (maps.entries h.frames) < 2 ^ 64 → le64 (host_head h) 24 ≡ length (maps.entries h.frames)
-unfolding le64 host_head
-count_read h small = little_number-reads_back 8 (length (maps.entries h.frames)) [] small
 
 head_len : (h : HostOf) → length (host_head h) ≡ 32
 unfolding host_head
@@ -85,12 +66,13 @@ record Says (head : List ℕ) (h : HostOf) : Type 0 where
   count : le64 head 24 ≡ length (maps.entries h.frames)
 
 says : (h : HostOf) → IsValid h → Says (host_head h) h
+unfolding be64 le32 le64 host_head
 says h valid = record {
-  name = name_read h;
-  kind = kind_read h;
-  zero = zero_read h;
-  width = width_read h (let small : h.width < 2 ^ 64 = omega (arith, valid.width) in small);
-  count = count_read h (let small : length (maps.entries h.frames) < 2 ^ 64 = let few = valid.few in omega (arith, few) in small);
+  name = refl;
+  kind = little_number-reads_back 4 (kind_number h.kind) (little_bytes 4 0 ++ (little_bytes 8 h.width ++ little_bytes 8 (length (maps.entries h.frames)))) (kind_small h.kind);
+  zero = refl;
+  width = little_number-reads_back 8 h.width (little_bytes 8 (length (maps.entries h.frames))) (let small : h.width < 2 ^ 64 = omega (arith, valid.width) in small);
+  count = little_number-reads_back 8 (length (maps.entries h.frames)) [] (let small : length (maps.entries h.frames) < 2 ^ 64 = let few = valid.few in omega (arith, few) in small);
 }
 
 fine : (h : HostOf) (head : List ℕ) → IsValid h → Says head h → fault_of_host_head head ≡ None
@@ -124,14 +106,11 @@ opened_is h head s =
 
 -- ---- the number of parts
 
-number_read : (n : ℕ) → n < 2 ^ 64 → le64 (little_bytes 8 n) 0 ≡ n
-unfolding le64
-number_read n small = little_number-reads_back 8 n [] small
-
 count_text : (n : ℕ) (rest : List ℕ) → n < 2 ^ 64 → count_at (little_bytes 8 n ++ rest) ≡ Passes n rest
+unfolding le64
 count_text n rest small =
     then_passes (part Truncated 8 (little_bytes 8 n ++ rest)) (λ count. Passes (le64 count.0 0) count.1) (little_bytes 8 n) rest _ (part_whole Truncated 8 (little_bytes 8 n) rest refl)
-    (ap (λ m. Passes m rest) (number_read n small))
+    (ap (λ m. Passes m rest) (little_number-reads_back 8 n [] small))
 
 -- ---- the whole
 
@@ -187,9 +166,7 @@ module _ (h : HostOf) (valid : IsValid h) (rest : List ℕ) where
       (then_passes (placed Parts (count_at at_count)) (λ count. host_parts_at count.0 framed count.1) count at_parts _ (ap (placed Parts) (count_text count at_parts (parts_few h valid))) parts_read)
 
   head_reads : host_head_at (host_head h ++ at_frames) ≡ Passes (host_head h) at_frames
-  head_reads =
-      then_passes (part Truncated 32 (host_head h ++ at_frames)) (λ head. tried (fault_of_host_head head.0) head.1 >>= λ _. Passes head.0 head.1) (host_head h) at_frames _ (part_whole Truncated 32 (host_head h) at_frames (head_len h))
-      (tried_none (fault_of_host_head (host_head h)) at_frames (Passes (host_head h) at_frames) (fine h (host_head h) valid (says h valid)))
+  head_reads = judged_goes Truncated 32 fault_of_host_head (host_head h) at_frames (head_len h) (fine h (host_head h) valid (says h valid))
 
   reads : host_at (host_head h ++ at_frames) ≡ Passes h rest
   unfolding host_at

@@ -11,7 +11,6 @@ use Rattle.mig_bytes.specs.Bytes.{padding_len}
 use Rattle.mig_bytes.specs.Fields.{le32}
 use Rattle.mig_bytes.specs.Judged.{Judged, ◌>>=◌, part, tried}
 use Rattle.mig_bytes.specs.Judged.Judged.{Passes}
-use Rattle.mig_bytes.proofs.Joins.{part_whole}
 use Rattle.mig_headers.specs.Pairs.{are_canonical_pairs}
 use Rattle.mig_headers.proofs.PairTexts.{canonical_pairs_are_computed}
 use Rattle.mig_headers.specs.declared.image_fault.ImageCause.{ImageCause}
@@ -27,8 +26,9 @@ use Rattle.mig_guest.specs.PartCodes.{code_number, code_of_number, row_of}
 use Rattle.mig_guest.specs.Parts.{PartMap}
 use Rattle.mig_image.specs.Image.{part_head_of, part_text}
 use Rattle.mig_image.specs.ImageParts.{head_key, code_fits, code_allows, has_part_from, is_full, part_rows, fault_of_part, fault_of_bytes, fault_of_padding, put_part_in, part_head_at, bytes_at, padding_at, part_at}
-use Rattle.mig_bytes.proofs.Joins.{then_passes, tried_none}
+use Rattle.mig_bytes.proofs.Joins.{then_passes}
 use Rattle.mig_headers.proofs.FirstFaults.{no_fault}
+use Rattle.mig_image.proofs.FieldBytes.{judged_goes}
 
 -- a part that may stand behind these
 pub record PartFits (kind : Kind) (width : ℕ) (m : PartMap) (e : PartKey × List ℕ) : Type 0 where
@@ -46,22 +46,6 @@ len_small _ width len wide is = grind (arith, common_steps)
 
 -- ---- the fields of a head
 
-code_read : (key : PartKey) (len : ℕ) → key.code < 2 ^ 32 → le32 (part_head_of key len) 0 ≡ key.code
-unfolding le32 part_head_of
-code_read key len small = little_number-reads_back 4 key.code (little_bytes 4 key.key1 ++ (little_bytes 4 key.key2 ++ little_bytes 4 len)) small
-
-key1_read : (key : PartKey) (len : ℕ) → key.key1 < 2 ^ 32 → le32 (part_head_of key len) 4 ≡ key.key1
-unfolding le32 part_head_of
-key1_read key len small = little_number-reads_back 4 key.key1 (little_bytes 4 key.key2 ++ little_bytes 4 len) small
-
-key2_read : (key : PartKey) (len : ℕ) → key.key2 < 2 ^ 32 → le32 (part_head_of key len) 8 ≡ key.key2
-unfolding le32 part_head_of
-key2_read key len small = little_number-reads_back 4 key.key2 (little_bytes 4 len) small
-
-len_read : (key : PartKey) (len : ℕ) → len < 2 ^ 32 → le32 (part_head_of key len) 12 ≡ len
-unfolding le32 part_head_of
-len_read key len small = little_number-reads_back 4 len [] small
-
 head_len : (key : PartKey) (len : ℕ) → length (part_head_of key len) ≡ 16
 unfolding part_head_of
 head_len key len = refl
@@ -73,15 +57,16 @@ record Says (head : List ℕ) (k : PartKey) (n : ℕ) : Type 0 where
   len : le32 head 12 ≡ n
 
 says : (kind : Kind) (width : ℕ) (e : PartKey × List ℕ) → width ≤ 2 ^ 28 → IsHostPart kind width e.0 e.1 → Says (part_head_of e.0 (length e.1)) e.0 (length e.1)
+unfolding le32 part_head_of
 says kind width e wide is =
-    let small : e.0.code < 2 ^ 32 = omega (arith, is.number, code_small is.code) in
-    let c = code_read e.0 (length e.1) small in
-    let k1 = key1_read e.0 (length e.1) is.small1 in
-    let k2 = key2_read e.0 (length e.1) is.small2 in
+    let n = little_bytes 4 (length e.1) in
+    let c = little_number-reads_back 4 e.0.code (little_bytes 4 e.0.key1 ++ (little_bytes 4 e.0.key2 ++ n)) (let small : e.0.code < 2 ^ 32 = omega (arith, is.number, code_small is.code) in small) in
+    let k1 = little_number-reads_back 4 e.0.key1 (little_bytes 4 e.0.key2 ++ n) is.small1 in
+    let k2 = little_number-reads_back 4 e.0.key2 n is.small2 in
     record {
       code = c;
       key = λ i. record { code = c i; key1 = k1 i; key2 = k2 i };
-      len = len_read e.0 (length e.1) (len_small is.code width (length e.1) wide is.len);
+      len = little_number-reads_back 4 (length e.1) [] (len_small is.code width (length e.1) wide is.len);
     }
 
 -- ---- no fault
@@ -131,18 +116,6 @@ fine_padding n = no_fault ((not (list_all (λ b. nat_eq b 0) (replicate n 0)), P
 part_is : (h : HostOf) (e : PartKey × List ℕ) (head rest : List ℕ) → Says head e.0 (length e.1) → ◌≡◌ {A = Judged ImageCause HostOf} (Passes (put_part_in h (head_key head) e.1) rest) (Passes (put_part_in h e.0 e.1) rest)
 part_is h e head rest s = ap (λ k. Passes (put_part_in h k e.1) rest) s.key
 
-bytes_go : (number : ℕ) (bytes rest : List ℕ) → fault_of_bytes number bytes ≡ None → bytes_at number (length bytes) (bytes ++ rest) ≡ Passes bytes rest
-bytes_go number bytes rest none =
-    then_passes (part Truncated (length bytes) (bytes ++ rest)) (λ a. tried (fault_of_bytes number a.0) a.1 >>= λ _. Passes a.0 a.1) bytes rest _ (part_whole Truncated (length bytes) bytes rest refl)
-    (tried_none (fault_of_bytes number bytes) rest (Passes bytes rest) none)
-
-padding_goes : (len : ℕ) (rest : List ℕ) → padding_at len (replicate (padding_len len) 0 ++ rest) ≡ Passes (replicate (padding_len len) 0) rest
-padding_goes len rest =
-    let zeros = replicate (padding_len len) 0 in
-    then_passes (part Truncated (padding_len len) (zeros ++ rest)) (λ a. tried (fault_of_padding a.0) a.1 >>= λ _. Passes a.0 a.1) zeros rest _
-    (part_whole Truncated (padding_len len) zeros rest (length-replicate {A = ℕ} (padding_len len) 0))
-    (tried_none (fault_of_padding zeros) rest (Passes zeros rest) (fine_padding (padding_len len)))
-
 abbrev pub behind_bytes : HostOf → List ℕ → List ℕ × List ℕ → Judged ImageCause HostOf
 behind_bytes h head bytes = padding_at (le32 head 12) bytes.1 >>= λ padding. Passes (put_part_in h (head_key head) bytes.0) padding.1
 
@@ -157,8 +130,8 @@ part_goes h e rest wide f =
     let s = says h.kind h.width e wide f.is in
     ap (part_at h) (append_assoc head (e.1 ++ zeros) rest ∙ ap (λ l. head ++ l) (append_assoc e.1 zeros rest))
     ∙ then_passes (part_head_at h (head ++ mid)) (behind_part_head h) head mid _
-    (then_passes (part Truncated 16 (head ++ mid)) (λ a. tried (fault_of_part h a.0) a.1 >>= λ _. Passes a.0 a.1) head mid _ (part_whole Truncated 16 head mid (head_len e.0 (length e.1))) (tried_none (fault_of_part h head) mid (Passes head mid) (fine h e head s f)))
+    (judged_goes Truncated 16 (fault_of_part h) head mid (head_len e.0 (length e.1)) (fine h e head s f))
     (then_passes (bytes_at (le32 head 0) (le32 head 12) mid) (behind_bytes h head) e.1 (zeros ++ rest) _
-    (ap (λ c. bytes_at c (le32 head 12) mid) s.code ∙ ap (λ n. bytes_at e.0.code n mid) s.len ∙ bytes_go e.0.code e.1 (zeros ++ rest) (fine_bytes f.is.code e.0.code e.1 f.is.number f.is.content))
+    (ap (λ c. bytes_at c (le32 head 12) mid) s.code ∙ ap (λ n. bytes_at e.0.code n mid) s.len ∙ judged_goes Truncated (length e.1) (fault_of_bytes e.0.code) e.1 (zeros ++ rest) refl (fine_bytes f.is.code e.0.code e.1 f.is.number f.is.content))
     (then_passes (padding_at (le32 head 12) (zeros ++ rest)) (λ padding. Passes (put_part_in h (head_key head) e.1) padding.1) zeros rest _
-    (ap (λ n. padding_at n (zeros ++ rest)) s.len ∙ padding_goes (length e.1) rest) (part_is h e head rest s)))
+    (ap (λ n. padding_at n (zeros ++ rest)) s.len ∙ judged_goes Truncated (padding_len (length e.1)) fault_of_padding zeros rest (length-replicate {A = ℕ} (padding_len (length e.1)) 0) (fine_padding (padding_len (length e.1)))) (part_is h e head rest s)))
