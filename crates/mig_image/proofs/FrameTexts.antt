@@ -136,6 +136,9 @@ page_goes kind (Some p) rest step whole =
 
 -- ---- the frame
 
+abbrev pub behind_frame_head : HostOf → List ℕ × List ℕ → Judged ImageCause HostOf
+behind_frame_head h a = host_page_at (head_type a.0) a.1 >>= λ page. Passes (put_frame h (head_pfn a.0) (frame_said a.0 page.0)) page.1
+
 frame_is : (h : HostOf) (e : ℕ × HostFrame) (head : List ℕ) (rest : List ℕ) → Says head e
     → ◌≡◌ {A = Judged ImageCause HostOf} (Passes (put_frame h (head_pfn head) (frame_said head e.1.page)) rest) (Passes (put_frame h e.0 e.1) rest)
 frame_is h e head rest s =
@@ -149,7 +152,7 @@ frame_goes h e rest wide f =
     let mid = unwrap_or e.1.page [] ++ rest in
     let s = says e (let below : e.0 < 2 ^ 28 = omega (arith, f.is.inside, wide) in below) f.is.machine in
     ap (host_frame_at h) (append_assoc head (unwrap_or e.1.page []) rest)
-    ∙ then_passes (frame_head_at h (head ++ mid)) (λ a. host_page_at (head_type a.0) a.1 >>= λ page. Passes (put_frame h (head_pfn a.0) (frame_said a.0 page.0)) page.1) head mid _
+    ∙ then_passes (frame_head_at h (head ++ mid)) (behind_frame_head h) head mid _
     (judged_goes Truncated 16 (fault_of_frame h) head mid (head_len e.0 e.1) (fine h e head s f))
     (then_passes (host_page_at (head_type head) mid) (λ page. Passes (put_frame h (head_pfn head) (frame_said head page.0)) page.1) e.1.page rest _
     (ap (λ k. host_page_at k mid) s.kind ∙ page_goes e.1.type e.1.page rest f.is.in_step f.is.whole) (frame_is h e head rest s))

@@ -1,11 +1,14 @@
--- Frames that are read are spelled by what was taken, and are those of a valid host.
-use Rattle.std.proofs.Common.{◌≡◌, ℕ, ◌+◌, ◌*◌, ◌/◌, ◌%◌, ◌^◌, ◌<◌, ◌≤◌, Bool, true, false, nat_eq, List, [], ◌∷◌, ◌++◌, length, take, drop, Option, Some, None, is_some, unwrap_or, refl, sym, ap, subst, ◌∙◌, arith, length-append}
-use Rattle.std.proofs.lemmas.Bool.{not-false, eqb-true, eqb-false}
-use Rattle.std.proofs.lemmas.Option.{none-some, same_Some}
+-- The frames of a valid host fit one behind the other, and frames that are read are spelled by what was taken and are those of a valid host.
+use Rattle.std.proofs.Common.{◌≡◌, ℕ, ◌<◌, ◌≤◌, false, not, nat_eq, nat_le, List, [], ◌∷◌, ◌++◌, length, refl, sym, ◌∙◌, arith, ◌+◌, ◌*◌, ◌/◌, ◌%◌, ◌^◌, Bool, true, take, drop, Option, Some, None, is_some, unwrap_or, ap, subst, length-append}
+use Rattle.std.specs.Prelude.{T}
+use Rattle.std.specs.List.{list_any}
+use Rattle.std.proofs.lemmas.Bool.{leb-false, ne_eqb, not-false, eqb-true, eqb-false}
+use Rattle.std.proofs.lemmas.Grind.{common_steps}
 use Rattle.std.specs.Cmp.{nat_cmp_total}
-use Rattle.std.specs.Ordering.{nat_cmp}
-use Rattle.std.specs.FinMap as maps
+use Rattle.std.specs.Ordering.{nat_cmp, is_lt}
 use Rattle.std.specs.FinMap.{nat_cmp-IsAntisymmetric}
+use Rattle.std.proofs.lemmas.Option.{none-some, same_Some}
+use Rattle.std.specs.FinMap as maps
 use Rattle.byteorder.specs.Endian.{little_bytes}
 use Rattle.mig_bytes.specs.Fields.{le32, le64}
 use Rattle.mig_bytes.specs.Judged.{Judged, ◌>>=◌, part}
@@ -20,16 +23,52 @@ use Rattle.mig_headers.proofs.FirstFaults.{rows_fine}
 use Rattle.mig_pagetypes.specs.declared.page_type.PageType.{PageType}
 use Rattle.mig_pagetypes.specs.declared.page_type.PageType.TheVariants.{Xtab}
 use Rattle.mig_pagetypes.specs.PageTypes.{number_of, type_of, type_or_none, type_has_data, all_types}
-use Rattle.mig_guest.specs.Frames.{is_type_of}
 use Rattle.mig_guest.specs.Hosts.{HostOf, HostFrame, HostFrames, IsValid}
+use Rattle.mig_guest.specs.Frames.{is_type_of}
+use Rattle.mig_image.proofs.Chains.{Chain, put_all, chain_of, chain_same, Found, AllFound, chain_back, chain_entries, chain_keeps}
+use Rattle.mig_image.proofs.FrameTexts.{FrameFits, frame_fits, page_if, behind_frame_head}
+use Rattle.mig_image.proofs.InOrder.{has_from, get_at, get_front, each_entry, no_entry, none_passes, few_ranks, entries_behind, found_passes}
 use Rattle.mig_image.specs.Image.{host_word, frame_head_of, frame_text}
 use Rattle.mig_image.specs.ImageParts.{head_pfn, head_type_number, head_type, frame_rows, fault_of_frame, frame_head_at, host_page_at, frame_said, put_frame, host_frame_at, frames_at}
-use Rattle.mig_image.proofs.Chains.{Chain, put_all, Found, AllFound, chain_back, chain_entries, chain_keeps}
 use Rattle.mig_image.proofs.FieldBytes.{Bytes, bytes_front, word_then, long_last, judged_part, regroup}
-use Rattle.mig_image.proofs.FrameChains.{behind}
-use Rattle.mig_image.proofs.FrameTexts.{FrameFits, frame_fits, page_if}
 use Rattle.mig_image.proofs.HostsMade.{valid_frame}
-use Rattle.mig_image.proofs.InOrder.{entries_behind, none_passes, found_passes}
+
+test_is : (k q : ℕ) → nat_le k q ≡ not (is_lt (nat_cmp q k))
+test_is k q = grind (arith, common_steps)
+
+from_is : (k : ℕ) (es : List (ℕ × HostFrame)) → list_any (λ x. nat_le k x.0) es ≡ has_from nat_cmp_total es k
+from_is k [] = refl
+from_is k (e ∷ es) = rw (test_is k e.0, from_is k es) refl
+
+pub behind : (m : HostFrames) (e : ℕ × HostFrame) → list_any (λ x. nat_le e.0 x.0) (maps.entries m) ≡ false → has_from nat_cmp_total (maps.entries m) e.0 ≡ false
+behind m e is = sym (from_is e.0 (maps.entries m)) ∙ is
+
+module _ (g : HostOf) (valid : IsValid g) where
+  fits : (m : HostFrames) (e : ℕ × HostFrame) (more : List (ℕ × HostFrame)) → maps.entries g.frames ≡ maps.entries m ++ e ∷ more → has_from nat_cmp_total (maps.entries m) e.0 ≡ false → FrameFits g.kind g.width m e
+  fits m e more is below =
+      let there = get_at nat_cmp_total g.frames (maps.entries m) e more is in
+      let above = from_is e.0 (maps.entries m) ∙ below in
+      record {
+        is = valid.frames e.0 e.1 there;
+        behind = above;
+        alone = no_entry nat_cmp_total nat_cmp-IsAntisymmetric (λ x. nat_eq x.1.machine e.1.machine) m (λ q f found. ne_eqb f.machine e.1.machine (λ same.
+            let alike = valid.one_to_one q e.0 f e.1 (get_front nat_cmp_total m g.frames (e ∷ more) is q f found) there same in
+            let less = leb-false e.0 q (none_passes nat_cmp_total nat_cmp-IsAntisymmetric (λ x. nat_le e.0 x.0) m q f above found) in absurd (omega (arith, alike, less))));
+      }
+
+  pub frames_chain : Chain (FrameFits g.kind g.width) maps.empty (maps.entries g.frames)
+  frames_chain = chain_of nat_cmp_total (FrameFits g.kind g.width) (λ m e f. behind m e f.behind) g.frames fits
+
+  pub frames_same : put_all maps.empty (maps.entries g.frames) ≡ g.frames
+  frames_same = chain_same nat_cmp_total (FrameFits g.kind g.width) (λ m e f. behind m e f.behind) g.frames fits
+
+  pub frames_within : length (maps.entries g.frames) ≤ g.width
+  frames_within =
+      let all = each_entry nat_cmp_total nat_cmp-IsAntisymmetric (λ k v. Unit {0} × (0 ≤ k) × (k < g.width)) g.frames (λ k v is. (tt, (omega arith), (valid.frames k v is).inside)) in
+      let few = few_ranks nat_cmp (λ k. k) g.width (λ _. Unit {0}) rises 0 (maps.entries g.frames) (omega arith) (maps.entries_sorted g.frames) all in omega (arith, few)
+    where
+      rises : (a b : ℕ) → Unit {0} → T (is_lt (nat_cmp a b)) → a < b
+      rises a b _ h = grind (arith, common_steps)
 
 -- ---- a head
 
@@ -87,9 +126,6 @@ said_head h head page all size fine =
     let number : number_of (head_type head) ≡ head_type_number head = type_number h.kind (head_type_number head) (type_of (head_type_number head)) refl (not-false (is_type_of h.kind (head_type head)) type) in
     head_back head (head_pfn head) (frame_said head page) all size (ap (λ n. n * 2 ^ 28 + head_pfn head) number ∙ whole_word (le32 head 0))
     (sym (eqb-true (le32 head 4) 0 (not-false (nat_eq (le32 head 4) 0) reserved))) refl
-
-abbrev behind_frame_head : HostOf → List ℕ × List ℕ → Judged ImageCause HostOf
-behind_frame_head h a = host_page_at (head_type a.0) a.1 >>= λ page. Passes (put_frame h (head_pfn a.0) (frame_said a.0 page.0)) page.1
 
 module _ (h : HostOf) where
   frame_back : (m : HostFrames) (i : List ℕ) (g : HostOf) (rest : List ℕ) → Bytes i → host_frame_at (with_frames h m) i ≡ Passes g rest → Found (FrameFits h.kind h.width) frame_text Frame host_frame_at (with_frames h) m i g rest

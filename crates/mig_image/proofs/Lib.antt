@@ -1,7 +1,5 @@
 pub mod Chains
 pub mod FieldBytes
-pub mod FrameChains
-pub mod FrameRead
 pub mod FrameTexts
 pub mod FramesBack
 pub mod HostMaps
@@ -9,17 +7,14 @@ pub mod HostViews
 pub mod HostsMade
 pub mod ImageBack
 pub mod ImageFronts
-pub mod ImageRead
 pub mod ImageReads
 pub mod InOrder
 pub mod KeyTests
 pub mod MachineMaps
-pub mod PartChains
-pub mod PartRead
 pub mod PartTexts
 pub mod PartsBack
 pub mod PartsMore
-pub mod Pieces
 pub mod Ranks
+pub mod Readers
 pub mod RestoredHosts
-pub mod Walked
+pub mod Writers

@@ -1,7 +1,15 @@
--- Parts that are read are spelled by what was taken, and are those of a valid host.
-use Rattle.std.proofs.Common.{◌≡◌, ℕ, true, not, nat_eq, List, [], ◌∷◌, ◌++◌, length, take, drop, replicate, None, refl, sym, ap, ◌∙◌, arith}
-use Rattle.std.specs.List.{list_all}
-use Rattle.std.proofs.lemmas.Bool.{not-false, and_parts, eqb-true}
+-- The parts of a valid host fit one behind the other, and parts that are read are spelled by what was taken and are those of a valid host.
+use Rattle.std.proofs.Common.{◌≡◌, ℕ, ◌+◌, ◌*◌, ◌^◌, ◌<◌, ◌≤◌, Bool, true, false, cond, not, nat_eq, nat_le, List, [], ◌∷◌, ◌++◌, length, refl, sym, ap, subst, ◌∙◌, arith, length-append, take, drop, replicate, None}
+use Rattle.std.specs.Prelude.{T, ◌||◌}
+use Rattle.std.specs.List.{AllByRecursion, list_all}
+use Rattle.std.proofs.lemmas.Bool.{and_left, and_right, eq-eqb, eqb-true, lt-leb, true≢false, not-false, and_parts}
+use Rattle.std.proofs.lemmas.Grind.{common_steps}
+use Rattle.std.proofs.lemmas.List.Elements.{filter-append}
+use Rattle.std.specs.Ordering.{nat_cmp, is_lt, ordering_then}
+use Rattle.std.specs.declared.cmp.Ordering.{Ordering}
+use Rattle.std.specs.declared.cmp.Ordering.TheVariants.{Less, Equal, Greater}
+use Rattle.std.specs.FinMap.{nat_cmp-IsAntisymmetric}
+use Rattle.std.specs.FinMap.Entries.{where_key, is_sorted-where_key}
 use Rattle.std.specs.FinMap as maps
 use Rattle.byteorder.specs.Endian.{little_bytes}
 use Rattle.mig_bytes.specs.Bytes.{padding_len}
@@ -11,18 +19,120 @@ use Rattle.mig_bytes.proofs.Joins.{both_pass, same_passes}
 use Rattle.mig_headers.specs.declared.image_fault.ImageCause.TheVariants.{Truncated, PartPadding}
 use Rattle.mig_headers.specs.declared.image_fault.ImagePlace.TheVariants.{Part}
 use Rattle.mig_headers.proofs.FirstFaults.{rows_fine}
+use Rattle.mig_guest.specs.declared.part_code.PartCode.{PartCode}
+use Rattle.mig_guest.specs.declared.part_code.PartCode.TheVariants.{CpuidLeaf, Msr}
 use Rattle.mig_guest.specs.declared.part_key.PartKey.{PartKey}
 use Rattle.mig_guest.specs.Hosts.{HostOf, IsValid}
 use Rattle.mig_guest.specs.Order.{part_cmp}
-use Rattle.mig_guest.specs.Parts.{PartMap}
-use Rattle.mig_guest.proofs.PartOrder.{part_total}
+use Rattle.mig_guest.specs.PartCodes.{row_of, code_number}
+use Rattle.mig_guest.specs.Parts.{PartMap, parts_of, FitsPolicy}
+use Rattle.mig_guest.proofs.PartOrder.{part_total, part_exact}
+use Rattle.mig_image.specs.ImageParts.{is_full, head_key, fault_of_part, fault_of_bytes, fault_of_padding, put_part_in, part_head_at, bytes_at, padding_at, part_at, host_parts_at}
+use Rattle.mig_image.proofs.Chains.{Chain, put_all, chain_of, chain_same, Found, AllFound, chain_back, chain_entries, chain_keeps}
+use Rattle.mig_image.proofs.InOrder.{has_from, get_at, each_entry, few_ranks}
+use Rattle.mig_image.proofs.PartTexts.{PartFits, behind_bytes, behind_part_head}
 use Rattle.mig_image.specs.Image.{part_head_of, part_text}
-use Rattle.mig_image.specs.ImageParts.{head_key, fault_of_part, fault_of_bytes, fault_of_padding, put_part_in, part_head_at, bytes_at, padding_at, part_at, host_parts_at}
-use Rattle.mig_image.proofs.Chains.{Chain, put_all, Found, AllFound, chain_back, chain_entries, chain_keeps}
 use Rattle.mig_image.proofs.FieldBytes.{Bytes, bytes_front, word_then, word_last, word_below, judged_part, regroup}
 use Rattle.mig_image.proofs.HostsMade.{valid_part}
-use Rattle.mig_image.proofs.PartTexts.{PartFits, behind_bytes, behind_part_head}
 use Rattle.mig_image.proofs.PartsMore.{fits_more, part_fits}
+
+abbrev Entry : Type 0
+Entry = PartKey × List ℕ
+
+abbrev policy : ℕ → Bool
+policy code = nat_eq code 17 || nat_eq code 18
+
+-- there is room for one more of a code where there is room for it and others
+room_for : (code : ℕ) (done more : List Entry) (e : Entry) → e.0.code ≡ code → length (parts_of code (done ++ e ∷ more)) ≤ 65536 → nat_le 65536 (length (parts_of code done)) ≡ false
+room_for code done more e is few =
+    let split = filter-append (λ (x : Entry). nat_eq x.0.code code) done (e ∷ more) in
+    let first : parts_of code (e ∷ more) ≡ e ∷ parts_of code more = ap (λ b. cond b (e ∷ parts_of code more) (parts_of code more)) (eq-eqb e.0.code code is) in
+    let size = length-append (parts_of code done) (parts_of code (e ∷ more)) in
+    lt-leb 65536 (length (parts_of code done)) (omega (arith, few, ap length split, size, ap length first))
+
+module _ (g : HostOf) (valid : IsValid g) where
+  roomy : (m : PartMap) (e : Entry) (more : List Entry) → maps.entries g.parts ≡ maps.entries m ++ e ∷ more → is_full m e.0.code ≡ false
+  roomy m e more eg = by (nat_eq e.0.code 17) (nat_eq e.0.code 18) refl refl
+    where
+      few : (code : ℕ) → FitsPolicy code g.parts → e.0.code ≡ code → nat_le 65536 (length (parts_of e.0.code (maps.entries m))) ≡ false
+      few code fits is = ap (λ c. nat_le 65536 (length (parts_of c (maps.entries m)))) is ∙ room_for code (maps.entries m) more e is (subst (λ l. length (parts_of code l) ≤ 65536) eg fits)
+
+      by : (a b : Bool) → nat_eq e.0.code 17 ≡ a → nat_eq e.0.code 18 ≡ b → is_full m e.0.code ≡ false
+      by true b p q = and_right (policy e.0.code) _ (few 17 valid.leaves (eqb-true e.0.code 17 p))
+      by false true p q = and_right (policy e.0.code) _ (few 18 valid.msrs (eqb-true e.0.code 18 q))
+      by false false p q = and_left (policy e.0.code) _ (rw (p, q) refl)
+
+  fits : (m : PartMap) (e : Entry) (more : List Entry) → maps.entries g.parts ≡ maps.entries m ++ e ∷ more → has_from part_total (maps.entries m) e.0 ≡ false → PartFits g.kind g.width m e
+  fits m e more is below = record { is = valid.parts e.0 e.1 (get_at part_total g.parts (maps.entries m) e more is); behind = below; room = roomy m e more is }
+
+  pub parts_chain : Chain (PartFits g.kind g.width) maps.empty (maps.entries g.parts)
+  parts_chain = chain_of part_total (PartFits g.kind g.width) (λ m e f. f.behind) g.parts fits
+
+  pub parts_same : put_all maps.empty (maps.entries g.parts) ≡ g.parts
+  parts_same = chain_same part_total (PartFits g.kind g.width) (λ m e f. f.behind) g.parts fits
+
+-- ---- how many there are: of the codes of policies no more than fit, and of the others no more than there are keys
+
+-- the place of a key among those that aren't a policy's
+abbrev rank : PartKey → ℕ
+rank k = (k.code * 4096 + k.key1) * 256 + k.key2
+
+abbrev IsSmall : PartKey → Type 0
+IsSmall k = (k.key1 < 4096) × (k.key2 < 256)
+
+small_by : (code : PartCode) (k : PartKey) → code_number code ≡ k.code → policy k.code ≡ false → (row_of code).keys k.key1 k.key2 ≡ true → IsSmall k × (k.code < 260)
+small_by CpuidLeaf k is other h = absurd (true≢false (ap policy is ∙ other))
+small_by Msr k is other h = absurd (true≢false (ap policy is ∙ other))
+small_by _ k is other h = grind (arith, common_steps)
+
+below : (a b : ℕ) → T (is_lt (nat_cmp a b)) → a < b
+below a b h = grind (arith, common_steps)
+
+-- greater in the order, and so of a greater rank
+rises_by : (k l : PartKey) (r s : Ordering) → nat_cmp k.code l.code ≡ r → nat_cmp k.key1 l.key1 ≡ s → IsSmall k → T (is_lt (ordering_then r (ordering_then s (nat_cmp k.key2 l.key2)))) → rank k < rank l
+rises_by k l Less s p q small h = let less : k.code < l.code = below k.code l.code (subst (λ o. T (is_lt o)) (sym p) tt) in omega arith
+rises_by k l Greater s p q small h = absurd h
+rises_by k l Equal Less p q small h =
+    let same : k.code ≡ l.code = nat_cmp-IsAntisymmetric k.code l.code p in
+    let less : k.key1 < l.key1 = below k.key1 l.key1 (subst (λ o. T (is_lt o)) (sym q) tt) in omega arith
+rises_by k l Equal Greater p q small h = absurd h
+rises_by k l Equal Equal p q small h =
+    let same : k.code ≡ l.code = nat_cmp-IsAntisymmetric k.code l.code p in
+    let alike : k.key1 ≡ l.key1 = nat_cmp-IsAntisymmetric k.key1 l.key1 q in
+    let less : k.key2 < l.key2 = below k.key2 l.key2 h in omega arith
+
+rises : (k l : PartKey) → IsSmall k → T (is_lt (part_cmp k l)) → rank k < rank l
+rises k l small h = rises_by k l (nat_cmp k.code l.code) (nat_cmp k.key1 l.key1) refl refl small h
+
+-- those that aren't a policy's
+abbrev others : List Entry → List Entry
+others es = where_key part_cmp (λ k. not (policy k.code)) es
+
+one_split : (a b : Bool) (e : Entry) (xs ys zs : List Entry) (n : ℕ) → n ≤ length xs + length ys + length zs → n + 1 ≤ length (cond a (e ∷ xs) xs) + length (cond b (e ∷ ys) ys) + length (cond (not (a || b)) (e ∷ zs) zs)
+one_split true b e xs ys zs n le = grind (arith, common_steps)
+one_split false true e xs ys zs n le = omega arith
+one_split false false e xs ys zs n le = omega arith
+
+split : (es : List Entry) → length es ≤ length (parts_of 17 es) + length (parts_of 18 es) + length (others es)
+split [] = omega arith
+split (e ∷ es) = omega (arith, one_split (nat_eq e.0.code 17) (nat_eq e.0.code 18) e (parts_of 17 es) (parts_of 18 es) (others es) (length es) (split es))
+
+kept : (es : List Entry) → AllByRecursion (λ (e : Entry). policy e.0.code ≡ false → IsSmall e.0 × (e.0.code < 260)) es → AllByRecursion (λ (e : Entry). IsSmall e.0 × (0 ≤ rank e.0) × (rank e.0 < 2 ^ 29)) (others es)
+kept [] all = tt
+kept (e ∷ es) all = by (policy e.0.code) refl (kept es all.1)
+  where
+    by : (b : Bool) → policy e.0.code ≡ b → AllByRecursion (λ (e : Entry). IsSmall e.0 × (0 ≤ rank e.0) × (rank e.0 < 2 ^ 29)) (others es) → AllByRecursion (λ (e : Entry). IsSmall e.0 × (0 ≤ rank e.0) × (rank e.0 < 2 ^ 29)) (cond (not b) (e ∷ others es) (others es))
+    by true is more = more
+    by false is more = let (small, code) = all.0 is in ((small, (omega arith), (omega (arith, small, code))), more)
+
+pub parts_few : (g : HostOf) → IsValid g → length (maps.entries g.parts) < 2 ^ 64
+parts_few g valid =
+    let es = maps.entries g.parts in
+    let all = kept es (each_entry part_total part_exact (λ k v. policy k.code ≡ false → IsSmall k × (k.code < 260)) g.parts (λ k v is other. let p = valid.parts k v is in small_by p.code k (sym p.number) other p.keys)) in
+    let bound = few_ranks part_cmp rank (2 ^ 29) IsSmall rises 0 (others es) (omega arith) (is_sorted-where_key part_cmp (λ k. not (policy k.code)) es (maps.entries_sorted g.parts)) all in
+    let leaves = valid.leaves in
+    let msrs = valid.msrs in
+    omega (arith, split es, bound, leaves, msrs)
 
 -- ---- a head
 

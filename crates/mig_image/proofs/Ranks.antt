@@ -126,6 +126,8 @@ module _ (frames : FrameMap) where
   pub frame_inside : (p : ℕ) (f : FrameOf) → maps.get frames p ≡ Some f → p < least_width es
   frame_inside p f is = width_inside p es f (found p f is)
 
+  pub width_within : (n : ℕ) → ((k : ℕ) (f : FrameOf) → maps.get frames k ≡ Some f → k < n) → least_width es ≤ n
+  width_within n small = width_least n es (each_entry nat_cmp_total nat_cmp-IsAntisymmetric (λ k _. k < n) frames small)
+
   pub frames_inside : (p : ℕ) → ((k : ℕ) → p ≤ k → maps.get frames k ≡ None) → least_width es ≤ p
-  frames_inside p none = width_least p es (each_entry nat_cmp_total nat_cmp-IsAntisymmetric (λ k _. k < p) frames (λ k f is.
-      elim (cases_lt k p) [ inl lt ↦ lt | inr ge ↦ absurd (none-some f (sym (none k ge) ∙ is)) ]))
+  frames_inside p none = width_within p (λ k f is. elim (cases_lt k p) [ inl lt ↦ lt | inr ge ↦ absurd (none-some f (sym (none k ge) ∙ is)) ])

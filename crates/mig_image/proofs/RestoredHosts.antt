@@ -21,7 +21,7 @@ use Rattle.mig_image.specs.Hosted.{rank_in, least_width, hosted, IsBaseOutside}
 use Rattle.mig_image.proofs.HostMaps.{joined, get_with_machines, count_with_machines}
 use Rattle.mig_image.proofs.MachineMaps.{got_put, got_other}
 use Rattle.std.proofs.lemmas.Option.{none-some, same_Some}
-use Rattle.mig_image.proofs.Ranks.{rank_small, frames_inside, rank_strict, rank_step, rank_gap, rank_zero, frame_inside}
+use Rattle.mig_image.proofs.Ranks.{rank_small, width_within, rank_strict, rank_step, rank_gap, rank_zero, frame_inside}
 
 pub some_value : {X : Type 0} (o : Option X) → IsSome o → (x : X) × (o ≡ Some x)
 some_value None is = let no : false ≡ true = is in cc
@@ -155,27 +155,21 @@ module _ (g : GuestOf) (base : ℕ) where
       ]
 
   module _ (whole : IsWhole g) (hvm : g.kind ≡ Hvm) where
-    outside_none : (k : ℕ) (o : Option FrameOf) → 2 ^ 28 ≤ k → maps.get g.frames k ≡ o → o ≡ None
-    outside_none k None ge is = refl
-    outside_none k (Some f) ge is = absurd (omega (arith, ge, (whole.formed.frames k f is).small))
-
     small_width : least_width (maps.entries g.frames) ≤ 2 ^ 28
-    small_width = frames_inside g.frames (2 ^ 28) (λ k ge. outside_none k (maps.get g.frames k) ge refl)
-
-    host_frame : (0 < base) × (base + length (maps.entries g.frames) ≤ 2 ^ 40) → (pfn : ℕ) (f : FrameOf) → maps.get g.frames pfn ≡ Some f → IsHostFrame g.kind (least_width (maps.entries g.frames)) pfn (with_machine f (machine_of pfn))
-    host_frame range pfn f is = record {
-      inside = frame_inside g.frames pfn f is;
-      type = (whole.formed.frames pfn f is).type;
-      some_machine = omega (arith, range.0);
-      machine = omega (arith, range.1, rank_small g.frames pfn f is);
-      in_step = (whole.formed.frames pfn f is).is.in_step;
-      whole = (whole.formed.frames pfn f is).is.whole;
-    }
+    small_width = width_within g.frames (2 ^ 28) (λ k f is. (whole.formed.frames k f is).small)
 
     host_frames : (0 < base) × (base + length (maps.entries g.frames) ≤ 2 ^ 40) → (pfn : ℕ) (frame : HostFrame) → maps.get (with_machines g.frames machine_of) pfn ≡ Some frame → IsHostFrame g.kind (least_width (maps.entries g.frames)) pfn frame
     host_frames range pfn frame is =
-        let (f, f_is, same) = from_guest pfn frame is in
-        subst (IsHostFrame g.kind (least_width (maps.entries g.frames)) pfn) same (host_frame range pfn f f_is)
+        let (f, there, same) = from_guest pfn frame is in
+        let formed = whole.formed.frames pfn f there in
+        subst (IsHostFrame g.kind (least_width (maps.entries g.frames)) pfn) same (record {
+          inside = frame_inside g.frames pfn f there;
+          type = formed.type;
+          some_machine = omega (arith, range.0);
+          machine = omega (arith, range.1, rank_small g.frames pfn f there);
+          in_step = formed.is.in_step;
+          whole = formed.is.whole;
+        })
 
     pub whole_is_valid : (0 < base) × (base + length (maps.entries g.frames) ≤ 2 ^ 40) → IsValid (hosted g base)
     whole_is_valid range = record {

@@ -109,7 +109,7 @@ fn write_frame<K: Sink>(
 }
 
 /// Appends all frames.
-#[tactic(auto, using(crate::proofs::Walked::drop_next, crate::proofs::Walked::not_ended, crate::proofs::Walked::walk_on, crate::proofs::Walked::walked))]
+#[tactic(auto, using(crate::proofs::Writers::drop_next, crate::proofs::Writers::not_ended, crate::proofs::Writers::walk_on, crate::proofs::Writers::walked))]
 fn write_frames<K: Sink>(sink: &mut K, host: &Host) -> Result<(), WriteFailed>
     ensures bytes { Puts (flat_map frame_text (maps.entries host.now.frames)) (K.written sink.old) (K.written sink.new) result }
     ensures cause { HasCause (K.faults sink.old) (K.faults sink.new) result }
@@ -128,7 +128,7 @@ fn write_frames<K: Sink>(sink: &mut K, host: &Host) -> Result<(), WriteFailed>
 }
 
 /// The number of parts.
-#[tactic(auto, using(crate::proofs::PartChains::parts_few))]
+#[tactic(auto, using(crate::proofs::PartsBack::parts_few))]
 fn count_parts(host: &Host) -> u64
     requires { IsValid host.now }
     ensures { result ≡ length (maps.entries host.now.parts) }
@@ -163,7 +163,7 @@ fn write_part<K: Sink>(sink: &mut K, key: PartKey, bytes: &[u8]) -> Result<(), W
 }
 
 /// Appends so many parts, which are all.
-#[tactic(auto, using(crate::proofs::Pieces::part_small, crate::proofs::Walked::drop_next, crate::proofs::Walked::not_ended, crate::proofs::Walked::walk_on))]
+#[tactic(auto, using(crate::proofs::Writers::part_small, crate::proofs::Writers::drop_next, crate::proofs::Writers::not_ended, crate::proofs::Writers::walk_on))]
 fn write_parts<K: Sink>(sink: &mut K, host: &Host, count: u64) -> Result<(), WriteFailed>
     requires valid { IsValid host.now }
     requires count { count ≡ length (maps.entries host.now.parts) }

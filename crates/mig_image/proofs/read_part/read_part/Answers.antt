@@ -3,7 +3,7 @@ use Rattle.mig_bytes.proofs.Taking.{takes_more}
 use Rattle.mig_guest.specs.Hosts.{HostOf}
 use Rattle.mig_image.specs.ImageParts.{head_key, put_part_in}
 use Rattle.mig_image.specs.PartCounts.{Counts}
-use Rattle.mig_image.proofs.PartRead.{bytes_stop, padding_stop, part_reads}
+use Rattle.mig_image.proofs.Readers.{bytes_stop, padding_stop, part_reads}
 use Rattle.mig_image.proofs.PartsMore.{is_behind, counts_more}
 use Rattle.mig_image.proofs.read_part.read_part.Goals as goal
 

@@ -1,5 +1,5 @@
 use Rattle.std.proofs.Common.{arith}
-use Rattle.mig_image.proofs.Pieces.{both_put}
+use Rattle.mig_image.proofs.Writers.{both_put}
 use Rattle.mig_image.proofs.write.frame_bytes.Goals as goal
 
 pub returns : goal.returns

@@ -3,7 +3,7 @@ use Rattle.std.specs.FinMap as maps
 use Rattle.std.specs.Option.{option_copied}
 use Rattle.mig_guest.specs.Hosts.{HostFrame}
 use Rattle.mig_image.specs.Image.{frame_text}
-use Rattle.mig_image.proofs.Walked.{from_zero, drop_next, not_ended, walk_on, walk_stop, walked}
+use Rattle.mig_image.proofs.Writers.{from_zero, drop_next, not_ended, walk_on, walk_stop, walked}
 use Rattle.mig_image.proofs.write.write_frames.Goals as goal
 
 pub loop-init : goal.loop-init

@@ -1,6 +1,6 @@
 use Rattle.std.proofs.Common.{refl}
 use Rattle.mig_bytes.proofs.Texts.{puts_then, puts_stop, puts_same}
-use Rattle.mig_image.proofs.Pieces.{image_is}
+use Rattle.mig_image.proofs.Writers.{image_is}
 use Rattle.mig_image.proofs.write.write_host.Goals as goal
 
 pub returns-in_err-put_all-clause-bytes : goal.returns-in_err-put_all-clause-bytes
