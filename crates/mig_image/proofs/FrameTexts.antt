@@ -96,32 +96,18 @@ says e below small =
 
 -- ---- no fault
 
-inside : (pfn width : ℕ) → pfn < width → nat_le width pfn ≡ false
-inside pfn width h = lt-leb width pfn h
-
 some_machine : (m : ℕ) → 0 < m → m < 2 ^ 40 → (nat_eq m 0 || nat_le (2 ^ 40) m) ≡ false
 some_machine m a b = or_from (nat_eq m 0) (nat_le (2 ^ 40) m) (ne_eqb m 0 (λ e. absurd (omega arith))) (lt-leb (2 ^ 40) m b)
 
 fine : (h : HostOf) (e : ℕ × HostFrame) (head : List ℕ) → Says head e → FrameFits h.kind h.width h.frames e → fault_of_frame h head ≡ None
-fine h e head s f = no_fault (frame_rows h head) (
-  ap (λ n. not (nat_eq n 0)) s.zero,
-  (
-    ap (λ k. not (is_type_of h.kind k)) s.kind ∙ ap not f.is.type,
-    (
-      ap (has_frame_from h) s.pfn ∙ f.behind,
-      (
-        ap (nat_le h.width) s.pfn ∙ inside e.0 h.width f.is.inside,
-        (
-          ap (λ m. nat_eq m 0 || nat_le (2 ^ 40) m) s.machine ∙ some_machine e.1.machine f.is.some_machine f.is.machine,
-          (
-            ap (has_machine h) s.machine ∙ f.alone,
-            tt,
-          ),
-        ),
-      ),
-    ),
-  ),
-)
+fine h e head s f =
+    let reserved = ap (λ n. not (nat_eq n 0)) s.zero in
+    let type = ap (λ k. not (is_type_of h.kind k)) s.kind ∙ ap not f.is.type in
+    let order = ap (has_frame_from h) s.pfn ∙ f.behind in
+    let outside = ap (nat_le h.width) s.pfn ∙ lt-leb h.width e.0 f.is.inside in
+    let machine = ap (λ m. nat_eq m 0 || nat_le (2 ^ 40) m) s.machine ∙ some_machine e.1.machine f.is.some_machine f.is.machine in
+    let twice = ap (has_machine h) s.machine ∙ f.alone in
+    no_fault (frame_rows h head) (reserved, (type, (order, (outside, (machine, (twice, tt))))))
 
 -- ---- the page
 

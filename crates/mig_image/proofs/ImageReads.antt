@@ -76,18 +76,11 @@ says h valid = record {
 fine : (h : HostOf) (head : List ℕ) → IsValid h → Says head h → fault_of_host_head head ≡ None
 fine h head valid s =
     let n = length (maps.entries h.frames) in
-    let first : fault_of_name head ≡ None = no_fault (name_rows head) (
-      ap (λ n. not (nat_eq n 0x5847494D41474531)) s.name,
-      (
-        ap (λ n. not (nat_eq n 1) && not (nat_eq n 2)) s.kind ∙ kind_known h.kind,
-        (ap (λ n. not (nat_eq n 0)) s.zero, tt),
-      ),
-    ) in
-    let few = valid.few in
-    let sizes : fault_of_sizes h.kind h.width n ≡ None = no_fault (size_rows h.kind h.width n) (
-      not_wide h.kind h.width valid.width valid.some_width,
-      (or_from (nat_lt (2 ^ 24) n) (nat_lt h.width n) (le-ltb (2 ^ 24) n few) (le-ltb h.width n (frames_within h valid)), tt),
-    ) in
+    let name = ap (λ n. not (nat_eq n 0x5847494D41474531)) s.name in
+    let kind = ap (λ n. not (nat_eq n 1) && not (nat_eq n 2)) s.kind ∙ kind_known h.kind in
+    let first : fault_of_name head ≡ None = no_fault (name_rows head) (name, (kind, (ap (λ n. not (nat_eq n 0)) s.zero, tt))) in
+    let few = or_from (nat_lt (2 ^ 24) n) (nat_lt h.width n) (le-ltb (2 ^ 24) n valid.few) (le-ltb h.width n (frames_within h valid)) in
+    let sizes : fault_of_sizes h.kind h.width n ≡ None = no_fault (size_rows h.kind h.width n) (not_wide h.kind h.width valid.width valid.some_width, (few, tt)) in
     let second : fault_of_sizes (kind_of_number (le32 head 8)) (le64 head 16) (le64 head 24) ≡ None =
     ap (λ k. fault_of_sizes (kind_of_number k) (le64 head 16) (le64 head 24)) s.kind ∙ ap (λ k. fault_of_sizes k (le64 head 16) (le64 head 24)) (kind_back h.kind)
     ∙ ap (λ w. fault_of_sizes h.kind w (le64 head 24)) s.width ∙ ap (fault_of_sizes h.kind h.width) s.count ∙ sizes in

@@ -13,7 +13,6 @@ pub mod KeyTests
 pub mod MachineMaps
 pub mod PartTexts
 pub mod PartsBack
-pub mod PartsMore
 pub mod Ranks
 pub mod Readers
 pub mod RestoredHosts

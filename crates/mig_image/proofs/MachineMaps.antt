@@ -10,6 +10,7 @@ use Rattle.std.specs.FinMap.{FinMap, find, nat_cmp-IsAntisymmetric, same_map, ge
 use Rattle.std.proofs.lemmas.Bool.{eq-eqb, ne_eqb, cases_eq, true≢false}
 use Rattle.std.proofs.lemmas.Option.{none-some, same_Some}
 use Rattle.std.proofs.lemmas.Cmp.{eq_by_cmp_equiv}
+use Rattle.mig_guest.proofs.KeyedMaps.{tied}
 use Rattle.mig_image.specs.HostView.{MachineMap, AreInverse}
 
 -- ---- what a call did, where it is known whether it failed
@@ -41,18 +42,14 @@ module _ {X : Type 0} (m : FinMap nat_cmp X) (k : ℕ) where
   pub got_other : (x : X) (q : ℕ) → q ≢ k → maps.get (maps.insert m k x) q ≡ maps.get m q
   got_other x q ne = get-insert nat_cmp_total m k x q ∙ ap (λ b. cond b (Some x) (maps.get m q)) (differs q k ne)
 
-  twice : (b : Bool) (x : X) (r : Option X) (s : Option X) → (b ≡ true → s ≡ None) → r ≡ cond b (Some x) s → cond b None r ≡ s
-  twice true x r s none e = sym (none refl)
-  twice false x r s none e = e
-
-  alike : (q : ℕ) → eq_by_cmp nat_cmp q k ≡ true → q ≡ k
-  alike q t = elim (cases_eq q k) [ inl same ↦ same | inr ne ↦ (let no : true ≡ false = sym t ∙ differs q k ne in cc) ]
-
   -- what is put where there is nothing, and taken again
   pub put_undone : (x : X) → maps.get m k ≡ None → maps.remove (maps.insert m k x) k ≡ m
   put_undone x none = same_map nat_cmp_total nat_cmp-IsAntisymmetric _ _ (λ q.
-      get-remove nat_cmp_total (maps.insert m k x) k q
-      ∙ twice (eq_by_cmp nat_cmp q k) x _ _ (λ t. ap (maps.get m) (alike q t) ∙ none) (get-insert nat_cmp_total m k x q))
+      get-remove nat_cmp_total (maps.insert m k x) k q ∙ ap (cond (eq_by_cmp nat_cmp q k) None) (get-insert nat_cmp_total m k x q) ∙ by q (eq_by_cmp nat_cmp q k) refl)
+    where
+      by : (q : ℕ) (b : Bool) → eq_by_cmp nat_cmp q k ≡ b → cond b None (cond b (Some x) (maps.get m q)) ≡ maps.get m q
+      by q true tie = sym (ap (maps.get m) (nat_cmp-IsAntisymmetric q k (tied (nat_cmp q k) tie)) ∙ none)
+      by q false tie = refl
 
 -- ---- the map that the entries of an ordered map make
 
@@ -70,15 +67,16 @@ pub get_made : (es : List (ℕ × ℕ)) (q : ℕ) → maps.get (made es) q ≡ a
 get_made es q = get-from_entries nat_cmp_total es q ∙ find_lookup es q
 
 module _ (es fs : List (ℕ × ℕ)) (k : ℕ) where
+  -- what is changed at a number alone
+  made_at : (m : MachineMap) (o : Option ℕ) → ((q : ℕ) → maps.get m q ≡ cond (eq_by_cmp nat_cmp q k) o (maps.get (made es) q)) → ((q : ℕ) → at_key fs q ≡ cond (is_at (nat_cmp k) q) o (at_key es q)) → made fs ≡ m
+  made_at m o there is = same_map nat_cmp_total nat_cmp-IsAntisymmetric _ _ (λ q.
+      get_made fs q ∙ is q ∙ ap (λ b. cond b o (at_key es q)) ((eq_by_cmp_equiv nat_cmp_total).symm k q) ∙ ap (cond (eq_by_cmp nat_cmp q k) o) (sym (get_made es q)) ∙ sym (there q))
+
   pub made_insert : (v : ℕ) → ((q : ℕ) → at_key fs q ≡ cond (is_at (nat_cmp k) q) (Some v) (at_key es q)) → made fs ≡ maps.insert (made es) k v
-  made_insert v is = same_map nat_cmp_total nat_cmp-IsAntisymmetric _ _ (λ q.
-      get_made fs q ∙ is q ∙ ap (λ b. cond b (Some v) (at_key es q)) ((eq_by_cmp_equiv nat_cmp_total).symm k q)
-      ∙ ap (cond (eq_by_cmp nat_cmp q k) (Some v)) (sym (get_made es q)) ∙ sym (get-insert nat_cmp_total (made es) k v q))
+  made_insert v is = made_at (maps.insert (made es) k v) (Some v) (get-insert nat_cmp_total (made es) k v) is
 
   pub made_remove : ((q : ℕ) → at_key fs q ≡ cond (is_at (nat_cmp k) q) None (at_key es q)) → made fs ≡ maps.remove (made es) k
-  made_remove is = same_map nat_cmp_total nat_cmp-IsAntisymmetric _ _ (λ q.
-      get_made fs q ∙ is q ∙ ap (λ b. cond b None (at_key es q)) ((eq_by_cmp_equiv nat_cmp_total).symm k q)
-      ∙ ap (cond (eq_by_cmp nat_cmp q k) None) (sym (get_made es q)) ∙ sym (get-remove nat_cmp_total (made es) k q))
+  made_remove is = made_at (maps.remove (made es) k) None (get-remove nat_cmp_total (made es) k) is
 
 -- ---- inverse maps
 

@@ -30,11 +30,10 @@ use Rattle.mig_guest.proofs.PartOrder.{part_total, part_exact}
 use Rattle.mig_image.specs.ImageParts.{is_full, head_key, fault_of_part, fault_of_bytes, fault_of_padding, put_part_in, part_head_at, bytes_at, padding_at, part_at, host_parts_at}
 use Rattle.mig_image.proofs.Chains.{Chain, put_all, chain_of, chain_same, Found, AllFound, chain_back, chain_entries, chain_keeps}
 use Rattle.mig_image.proofs.InOrder.{has_from, get_at, each_entry, few_ranks}
-use Rattle.mig_image.proofs.PartTexts.{PartFits, behind_bytes, behind_part_head}
+use Rattle.mig_image.proofs.PartTexts.{PartFits, behind_bytes, behind_part_head, fits_more, part_fits}
 use Rattle.mig_image.specs.Image.{part_head_of, part_text}
 use Rattle.mig_image.proofs.FieldBytes.{Bytes, bytes_front, word_then, word_last, word_below, judged_part, regroup}
 use Rattle.mig_image.proofs.HostsMade.{valid_part}
-use Rattle.mig_image.proofs.PartsMore.{fits_more, part_fits}
 
 abbrev Entry : Type 0
 Entry = PartKey × List ℕ
