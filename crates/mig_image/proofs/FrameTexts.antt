@@ -8,7 +8,7 @@ use Rattle.std.specs.FinMap as maps
 use Rattle.byteorder.specs.Endian.{little_bytes}
 use Rattle.byteorder.specs.Numbers.{little_number-reads_back}
 use Rattle.mig_bytes.specs.Fields.{le32, le64}
-use Rattle.mig_bytes.specs.Judged.{Judged, ◌>>=◌, part, tried}
+use Rattle.mig_bytes.specs.Judged.{Judged, ◌>>=◌, part}
 use Rattle.mig_bytes.specs.Judged.Judged.{Passes}
 use Rattle.mig_bytes.proofs.Joins.{part_whole}
 use Rattle.mig_headers.specs.declared.image_fault.ImageCause.{ImageCause}

@@ -1,5 +1,5 @@
 -- The frames of a valid host fit one behind the other, and frames that are read are spelled by what was taken and are those of a valid host.
-use Rattle.std.proofs.Common.{◌≡◌, ℕ, ◌<◌, ◌≤◌, false, not, nat_eq, nat_le, List, [], ◌∷◌, ◌++◌, length, refl, sym, ◌∙◌, arith, ◌+◌, ◌*◌, ◌/◌, ◌%◌, ◌^◌, Bool, true, take, drop, Option, Some, None, is_some, unwrap_or, ap, subst, length-append}
+use Rattle.std.proofs.Common.{◌≡◌, ℕ, ◌<◌, ◌≤◌, false, not, nat_eq, nat_le, List, [], ◌∷◌, ◌++◌, length, refl, sym, ◌∙◌, arith, ◌+◌, ◌*◌, ◌/◌, ◌%◌, ◌^◌, Bool, true, Option, Some, None, is_some, unwrap_or, ap, subst, length-append}
 use Rattle.std.specs.Prelude.{T}
 use Rattle.std.specs.List.{list_any}
 use Rattle.std.proofs.lemmas.Bool.{leb-false, ne_eqb, not-false, eqb-true, eqb-false}
@@ -9,12 +9,10 @@ use Rattle.std.specs.Ordering.{nat_cmp, is_lt}
 use Rattle.std.specs.FinMap.{nat_cmp-IsAntisymmetric}
 use Rattle.std.proofs.lemmas.Option.{none-some, same_Some}
 use Rattle.std.specs.FinMap as maps
-use Rattle.byteorder.specs.Endian.{little_bytes}
 use Rattle.mig_bytes.specs.Fields.{le32, le64}
-use Rattle.mig_bytes.specs.Judged.{Judged, ◌>>=◌, part}
+use Rattle.mig_bytes.specs.Judged.{part}
 use Rattle.mig_bytes.specs.Judged.Judged.{Passes}
 use Rattle.mig_bytes.proofs.Joins.{both_pass, part_passes, same_passes}
-use Rattle.mig_headers.specs.declared.image_fault.ImageCause.{ImageCause}
 use Rattle.mig_headers.specs.declared.image_fault.ImageCause.TheVariants.{Truncated}
 use Rattle.mig_headers.specs.declared.image_fault.ImagePlace.TheVariants.{Frame}
 use Rattle.mig_headers.specs.declared.kind.Kind.{Kind}

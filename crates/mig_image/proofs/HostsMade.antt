@@ -1,5 +1,5 @@
 -- A host stays valid where a frame or a part is added, and stays what its guest and its machine frames make.
-use Rattle.std.proofs.Common.{◌≡◌, ◌≢◌, ℕ, ◌+◌, ◌<◌, ◌≤◌, ◌^◌, Bool, true, false, cond, length, List, Option, Some, None, is_some, refl, sym, ap, subst, ◌∙◌, ◌⊎◌, inl, inr, arith}
+use Rattle.std.proofs.Common.{◌≡◌, ℕ, ◌+◌, ◌<◌, ◌≤◌, ◌^◌, Bool, true, false, cond, length, List, Option, Some, None, is_some, refl, sym, ap, subst, ◌∙◌, ◌⊎◌, inl, inr, arith}
 use Rattle.std.specs.Prelude.{unwrap_or}
 use Rattle.std.specs.declared.cmp.Ordering.{Ordering}
 use Rattle.std.specs.Option.{option_map}
@@ -7,7 +7,7 @@ use Rattle.std.specs.Ordering.{nat_cmp, eq_by_cmp}
 use Rattle.std.specs.Cmp.{IsTotalOrder, nat_cmp_total}
 use Rattle.std.specs.FinMap as maps
 use Rattle.std.specs.FinMap.{FinMap, nat_cmp-IsAntisymmetric, same_map, get-empty, len-insert, len-empty, len-entries, empty_of_len}
-use Rattle.std.proofs.lemmas.Bool.{cases_eq, false≢true}
+use Rattle.std.proofs.lemmas.Bool.{false≢true}
 use Rattle.std.proofs.lemmas.Option.{none-some, same_Some}
 use Rattle.mig_headers.specs.declared.kind.Kind.{Kind}
 use Rattle.mig_headers.specs.declared.kind.Kind.TheVariants.{Pv, Hvm}
@@ -24,7 +24,7 @@ use Rattle.mig_image.specs.HostView.{MachineMap, with_machine, machine_in, host_
 use Rattle.mig_image.specs.ImageParts.{put_frame, put_part_in}
 use Rattle.mig_image.proofs.HostMaps.{joined, get_with_machines, count_with_machines, machine_joined, there_joined}
 use Rattle.mig_image.proofs.InOrder.{found_more, holds_more, no_entries}
-use Rattle.mig_image.proofs.MachineMaps.{absent, got_put, got_other}
+use Rattle.mig_image.proofs.MachineMaps.{absent}
 
 -- a frame of a type that a host's frame has
 pub framed_typed : (k : Kind) (kind : PageType) → is_type_of k kind ≡ true → (m : FrameMap) (pfn : ℕ) (page : Option (List ℕ)) → framed m pfn kind page ≡ maps.insert m pfn (record { type = kind; page = page })

@@ -7,7 +7,7 @@ use Rattle.std.specs.FinMap as maps
 use Rattle.byteorder.specs.Endian.{little_bytes}
 use Rattle.byteorder.specs.Numbers.{little_number-reads_back}
 use Rattle.mig_bytes.specs.Fields.{le32, le64, be64}
-use Rattle.mig_bytes.specs.Judged.{Judged, ◌>>=◌, part, tried, placed}
+use Rattle.mig_bytes.specs.Judged.{Judged, ◌>>=◌, part, placed}
 use Rattle.mig_bytes.specs.Judged.Judged.{Passes}
 use Rattle.mig_bytes.proofs.Joins.{part_whole, same_passes}
 use Rattle.mig_headers.specs.Headers.{kind_number, kind_of_number}

@@ -148,6 +148,9 @@ no_entries R X = empty_of (maps.entries (maps.empty {X = X} {R = R})) (sym (maps
 
 -- ---- how many entries there are
 
+pub entries_counted : {K X : Type 0} {R : K → K → Ordering} (m : FinMap R X) → maps.len m ≡ length (maps.entries m)
+entries_counted m = maps.len-entries m
+
 -- no more than there are ranks, where the ranks rise with the keys
 module _ {K X : Type 0} (R : K → K → Ordering) (rank : K → ℕ) (n : ℕ) (Good : K → Type 0) (rises : (k l : K) → Good k → T (is_lt (R k l)) → rank k < rank l) where
   -- each of a rank from lo on

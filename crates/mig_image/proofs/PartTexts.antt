@@ -11,7 +11,7 @@ use Rattle.byteorder.specs.Endian.{little_bytes}
 use Rattle.byteorder.specs.Numbers.{little_number-reads_back}
 use Rattle.mig_bytes.specs.Bytes.{padding_len}
 use Rattle.mig_bytes.specs.Fields.{le32}
-use Rattle.mig_bytes.specs.Judged.{Judged, ◌>>=◌, part, tried}
+use Rattle.mig_bytes.specs.Judged.{Judged, ◌>>=◌}
 use Rattle.mig_bytes.specs.Judged.Judged.{Passes}
 use Rattle.mig_bytes.proofs.Joins.{then_passes}
 use Rattle.mig_headers.specs.Pairs.{are_canonical_pairs, AreCanonicalPairs}
@@ -24,7 +24,7 @@ use Rattle.mig_guest.specs.declared.part_code.PartCode.{PartCode}
 use Rattle.mig_guest.specs.declared.part_code.PartCode.TheVariants.{EmulatorPairs}
 use Rattle.mig_guest.specs.declared.part_key.PartKey.{PartKey}
 use Rattle.mig_guest.specs.Formed.{IsRawContent}
-use Rattle.mig_guest.specs.Hosts.{HostOf, IsHostPart, IsValid}
+use Rattle.mig_guest.specs.Hosts.{HostOf, IsHostPart}
 use Rattle.mig_guest.proofs.PartRows.{numbered, one_code, number_found}
 use Rattle.mig_guest.specs.PartCodes.{code_number, code_of_number, row_of}
 use Rattle.mig_guest.specs.Parts.{PartMap, parts_of, FitsPolicy}

@@ -10,7 +10,7 @@ use Rattle.std.specs.FinMap as maps
 use Rattle.mig_bytes.specs.declared.part.Stop.{Stop}
 use Rattle.mig_bytes.specs.Fields.{le32, le64}
 use Rattle.mig_bytes.specs.Judged.{Judged, ◌>>=◌, Gives, part, placed}
-use Rattle.mig_bytes.specs.Judged.Judged.{Passes, Faulty}
+use Rattle.mig_bytes.specs.Judged.Judged.{Passes}
 use Rattle.mig_bytes.proofs.Joins.{seq, mapped, stopped, done}
 use Rattle.mig_bytes.proofs.Placed.{placed_fine, known}
 use Rattle.mig_headers.specs.declared.image_fault.ImageCause.{ImageCause}

@@ -16,7 +16,7 @@ use Rattle.mig_guest.specs.Formed.{IsPart, width_of}
 use Rattle.mig_guest.proofs.PartRows.{host_part}
 use Rattle.mig_pvtables.specs.Whole.{IsWhole}
 use Rattle.mig_pvtables.proofs.HvmGuests.{hvm_complete}
-use Rattle.mig_image.specs.HostView.{MachineMap, with_machine, with_machines, machine_in, host_seen, AreMatched}
+use Rattle.mig_image.specs.HostView.{MachineMap, with_machine, with_machines, machine_in, host_seen, AreMatched, IsMade}
 use Rattle.mig_image.specs.Hosted.{rank_in, least_width, hosted, IsBaseOutside}
 use Rattle.mig_image.proofs.HostMaps.{joined, get_with_machines, count_with_machines}
 use Rattle.mig_image.proofs.MachineMaps.{got_put, got_other}
@@ -183,6 +183,9 @@ module _ (g : GuestOf) (base : ℕ) where
       leaves = whole.formed.policies 17 refl;
       msrs = whole.formed.policies 18 refl;
     }
+
+    pub made_hosted : (width : ℕ) (machines : MachineMap) → 0 < base → base + length (maps.entries g.frames) ≤ 2 ^ 40 → ((pfn : ℕ) → maps.get machines pfn ≡ counted_at g.frames base pfn) → width ≡ least_width (maps.entries g.frames) → IsMade g width machines
+    made_hosted width machines some small counted is = record { matched = counted_matched width machines counted; valid = subst IsValid (sym (seen_hosted width machines counted is)) (whole_is_valid (some, small)) }
 
 pub hosted_valid : (guest : GuestOf) (base : ℕ) → IsWhole guest → guest.kind ≡ Hvm → (IsBaseOutside guest base → ⊥) → IsValid (hosted guest base)
 hosted_valid g base whole hvm inside = whole_is_valid g base whole hvm (positive base (λ e. inside (inl e)), elim (cases_lt (2 ^ 40) (base + length (maps.entries g.frames))) [ inl lt ↦ absurd (inside (inr lt)) | inr ge ↦ ge ])

@@ -33,7 +33,7 @@ fn is_outside(base: u64, frames: u64) -> bool
 }
 
 /// The frame of rank i gets machine frame base + i. Answers them, and one more than the greatest PFN.
-#[tactic(auto, using(crate::proofs::Ranks::frames_inside, crate::proofs::RestoredHosts::counted_all, crate::proofs::RestoredHosts::counted_unused))]
+#[tactic(auto, using(crate::proofs::Ranks::rank_full, crate::proofs::Ranks::frames_inside, crate::proofs::InOrder::entries_counted, crate::proofs::RestoredHosts::counted_all, crate::proofs::RestoredHosts::counted_unused))]
 fn count_up(alloc: Global, guest: &Guest, base: u64) -> Result<(MachineFrames, u64), Memory>
     requires { base + length (maps.entries guest.now.frames) ≤ 2 ^ 40 }
     ensures machines { IfOk result (λ r. (pfn : ℕ) → maps.get r.0 pfn ≡ option_map (λ _. base + rank_in guest.now.frames pfn) (maps.get guest.now.frames pfn)) }
@@ -55,7 +55,7 @@ fn count_up(alloc: Global, guest: &Guest, base: u64) -> Result<(MachineFrames, u
 /// base + i. The pages and parts of the guest are moved, not copied. A refusal drops the guest.
 ///
 /// So far for HVM guests, whose pages and parts hold no machine frames.
-#[tactic(auto, using(crate::proofs::RestoredHosts::seen_hosted))]
+#[tactic(auto, using(crate::proofs::InOrder::entries_counted, crate::proofs::RestoredHosts::made_hosted, crate::proofs::RestoredHosts::seen_hosted))]
 pub fn host_of(alloc: Global, guest: Guest, base: u64) -> Result<Host, HostAnswer>
     requires whole { IsWhole guest }
     requires hvm { guest.kind ≡ Hvm }

@@ -109,7 +109,7 @@ fn write_frame<K: Sink>(
 }
 
 /// Appends all frames.
-#[tactic(auto, using(crate::proofs::Writers::drop_next, crate::proofs::Writers::not_ended, crate::proofs::Writers::walk_on, crate::proofs::Writers::walked))]
+#[tactic(auto, using(crate::proofs::InOrder::entries_counted, crate::proofs::Writers::drop_next, crate::proofs::Writers::not_ended, crate::proofs::Writers::walk_on, crate::proofs::Writers::walked))]
 fn write_frames<K: Sink>(sink: &mut K, host: &Host) -> Result<(), WriteFailed>
     ensures bytes { Puts (flat_map frame_text (maps.entries host.now.frames)) (K.written sink.old) (K.written sink.new) result }
     ensures cause { HasCause (K.faults sink.old) (K.faults sink.new) result }

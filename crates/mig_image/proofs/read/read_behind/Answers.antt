@@ -1,11 +1,7 @@
-use Rattle.std.proofs.Common.{◌≡◌, ◌∙◌, ap, length, rules}
-use Rattle.std.specs.Ordering.{nat_cmp}
-use Rattle.std.specs.FinMap as maps
+use Rattle.std.proofs.Common.{◌≡◌, rules}
 use Rattle.mig_bytes.proofs.Taking.{takes_more}
-use Rattle.mig_guest.specs.Hosts.{HostOf, HostFrame}
 use Rattle.mig_image.specs.ImageParts.{opened}
 use Rattle.mig_image.proofs.Readers.{behind_reads}
-use Rattle.mig_image.proofs.InOrder.{no_entries}
 use Rattle.mig_image.proofs.read.read_behind.Goals as goal
 
 pub returns-clause-read : goal.returns-clause-read

@@ -1,8 +1,6 @@
-use Rattle.std.proofs.Common.{◌∙◌, length, Some, None, ap, sym, rules}
-use Rattle.std.specs.FinMap as maps
+use Rattle.std.proofs.Common.{◌∙◌, Some, None, sym, rules}
 use Rattle.mig_bytes.proofs.Taking.{takes_more}
-use Rattle.mig_guest.specs.Hosts.{HostOf}
-use Rattle.mig_image.proofs.Readers.{frame_reads, page_reads, page_stops, frames_more, is_absent, is_unused, is_frame, said_is}
+use Rattle.mig_image.proofs.Readers.{frame_reads, page_reads, is_unused, is_frame, said_is}
 use Rattle.mig_image.proofs.read.read_frame.Goals as goal
 
 pub add_frame-requires-clause-unused : goal.add_frame-requires-clause-unused

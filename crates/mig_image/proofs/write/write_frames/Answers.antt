@@ -1,9 +1,9 @@
-use Rattle.std.proofs.Common.{sym, ◌∙◌, ℕ, rules, arith}
+use Rattle.std.proofs.Common.{sym, ◌∙◌, ℕ, rules}
 use Rattle.std.specs.FinMap as maps
 use Rattle.std.specs.Option.{option_copied}
 use Rattle.mig_guest.specs.Hosts.{HostFrame}
 use Rattle.mig_image.specs.Image.{frame_text}
-use Rattle.mig_image.proofs.Writers.{from_zero, drop_next, not_ended, walk_on, walk_stop, walked}
+use Rattle.mig_image.proofs.Writers.{from_zero, walk_stop}
 use Rattle.mig_image.proofs.write.write_frames.Goals as goal
 
 pub loop-init : goal.loop-init
@@ -15,7 +15,3 @@ returns-in_err-write_frame-in-Some-clause-bytes g c =
     let e : ℕ × HostFrame = (c.in-Some.pfn, record { type = c.in-Some.kind; machine = c.in-Some.machine; page = option_copied c.in-Some.page }) in
     walk_stop frame_text all c.loop.counter e _ _ _ _ _ _ c.from_residual.result
     (sym c.loop.invariant.at ∙ c.in-Some.ensures.next) c.loop.invariant.bytes c.from_residual.ensures.1 c.in_err-write_frame-in-Some.ensures.bytes
-
-pub returns-clause-bytes : goal.returns-clause-bytes
-returns-clause-bytes g c =
-    walked frame_text (maps.entries c.args.host.now.frames) c.loop.counter c.frames-end.result _ _ (omega (arith, c.loop-test.false)) (c.frames-end.ensures ∙ maps.len-entries c.args.host.now.frames) c.loop.invariant.bytes

@@ -1,8 +1,8 @@
-use Rattle.std.proofs.Common.{sym, ◌∙◌, ℕ, List, rules}
+use Rattle.std.proofs.Common.{sym, ◌∙◌, ℕ, List}
 use Rattle.std.specs.FinMap as maps
 use Rattle.mig_guest.specs.declared.part_key.PartKey.{PartKey}
 use Rattle.mig_image.specs.Image.{part_text}
-use Rattle.mig_image.proofs.Writers.{part_small, drop_next, not_ended, walk_on, walk_stop}
+use Rattle.mig_image.proofs.Writers.{walk_stop}
 use Rattle.mig_image.proofs.write.write_parts.Goals as goal
 
 pub returns-in_err-write_part-in-Some-clause-bytes : goal.returns-in_err-write_part-in-Some-clause-bytes

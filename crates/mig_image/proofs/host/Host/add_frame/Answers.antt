@@ -6,7 +6,7 @@ use Rattle.mig_guest.specs.Guests.{GuestOf}
 use Rattle.mig_guest.specs.Hosts.{HostOf, IsHostFrame}
 use Rattle.mig_image.specs.HostView.{host_seen, IsMade}
 use Rattle.mig_image.specs.ImageParts.{put_frame}
-use Rattle.mig_image.proofs.HostsMade.{framed_typed, no_machine, machine_unused, no_frame, seen_frame, made_frame}
+use Rattle.mig_image.proofs.HostsMade.{framed_typed, machine_unused, no_frame, seen_frame, made_frame}
 use Rattle.mig_image.proofs.MachineMaps.{put_undone, on_failure, on_success}
 use Rattle.mig_image.proofs.host.Host.add_frame.Goals as goal
 

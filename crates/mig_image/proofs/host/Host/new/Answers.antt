@@ -1,9 +1,6 @@
-use Rattle.std.proofs.Common.{sym, ap, subst, ◌∙◌}
-use Rattle.std.specs.FinMap as maps
-use Rattle.mig_guest.specs.Guests.{GuestOf}
-use Rattle.mig_guest.specs.Hosts.{HostFrames}
-use Rattle.mig_image.specs.HostView.{MachineMap, host_seen, IsMade}
-use Rattle.mig_image.proofs.HostsMade.{joined_empty, made_empty}
+use Rattle.std.proofs.Common.{sym, subst}
+use Rattle.mig_image.specs.HostView.{MachineMap, IsMade}
+use Rattle.mig_image.proofs.HostsMade.{made_empty}
 use Rattle.mig_image.proofs.host.Host.new.Goals as goal
 
 pub invariant_of-result : goal.invariant_of-result
