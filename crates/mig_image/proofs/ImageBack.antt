@@ -23,9 +23,9 @@ use Rattle.mig_image.specs.Image.{host_head, frame_text, part_text, image, IsHos
 use Rattle.mig_image.specs.ImageParts.{name_rows, size_rows, fault_of_name, fault_of_sizes, fault_of_host_head, host_head_at, opened, frames_at, host_parts_at, count_at, behind_head, host_at}
 use Rattle.mig_image.proofs.FieldBytes.{Bytes, bytes_front, bytes_back, name_then, word_then, long_then, long_last, judged_part, regroup}
 use Rattle.mig_image.proofs.Chains.{put_all}
-use Rattle.mig_image.proofs.FramesBack.{with_frames, FramesFound, frames_back, frame_entries, frames_valid}
+use Rattle.mig_image.proofs.Frames.{with_frames, FramesFound, frames_back, frame_entries, frames_valid}
 use Rattle.mig_image.proofs.HostsMade.{valid_empty}
-use Rattle.mig_image.proofs.PartsBack.{with_parts, PartsFound, parts_back, part_entries, parts_valid}
+use Rattle.mig_image.proofs.Parts.{with_parts, PartsFound, parts_back, part_entries, parts_valid}
 use Rattle.mig_headers.proofs.FirstFaults.{rows_fine, both_none}
 
 -- ---- the head

@@ -23,10 +23,8 @@ use Rattle.mig_image.specs.Image.{host_head, frame_text, part_text, image, IsHos
 use Rattle.mig_image.specs.ImageParts.{is_wide, name_rows, size_rows, fault_of_name, fault_of_sizes, fault_of_host_head, host_head_at, opened, host_frame_at, part_at, frames_at, host_parts_at, count_at, behind_head, host_at}
 use Rattle.mig_image.proofs.FieldBytes.{judged_goes}
 use Rattle.mig_image.proofs.Chains.{chain_goes}
-use Rattle.mig_image.proofs.FramesBack.{frames_chain, frames_same, frames_within, with_frames}
-use Rattle.mig_image.proofs.FrameTexts.{FrameFits, frame_goes}
-use Rattle.mig_image.proofs.PartsBack.{parts_chain, parts_same, parts_few, with_parts}
-use Rattle.mig_image.proofs.PartTexts.{PartFits, part_goes}
+use Rattle.mig_image.proofs.Frames.{frames_chain, frames_same, frames_within, with_frames, FrameFits, frame_goes}
+use Rattle.mig_image.proofs.Parts.{parts_chain, parts_same, parts_few, with_parts, PartFits, part_goes}
 use Rattle.mig_bytes.proofs.Joins.{then_passes}
 use Rattle.mig_headers.proofs.FirstFaults.{no_fault}
 

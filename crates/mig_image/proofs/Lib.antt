@@ -1,7 +1,6 @@
 pub mod Chains
 pub mod FieldBytes
-pub mod FrameTexts
-pub mod FramesBack
+pub mod Frames
 pub mod HostMaps
 pub mod HostViews
 pub mod HostsMade
@@ -11,8 +10,7 @@ pub mod ImageReads
 pub mod InOrder
 pub mod KeyTests
 pub mod MachineMaps
-pub mod PartTexts
-pub mod PartsBack
+pub mod Parts
 pub mod Ranks
 pub mod Readers
 pub mod RestoredHosts

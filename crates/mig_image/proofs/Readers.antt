@@ -22,8 +22,8 @@ use Rattle.mig_pagetypes.specs.declared.page_type.PageType.{PageType}
 use Rattle.mig_pagetypes.specs.PageTypes.{type_has_data}
 use Rattle.mig_guest.specs.Hosts.{HostOf, HostFrame, HostFrames, IsHostFrame}
 use Rattle.mig_image.specs.ImageParts.{head_key, put_part_in, part_head_at, bytes_at, padding_at, part_at, head_pfn, head_type, frame_rows, fault_of_frame, frame_head_at, host_page_at, frame_said, put_frame, host_frame_at, opened, frames_at, count_at, host_parts_at, behind_head}
-use Rattle.mig_image.proofs.PartTexts.{behind_bytes, behind_part_head}
-use Rattle.mig_image.proofs.FrameTexts.{frame_fits, page_if, behind_frame_head}
+use Rattle.mig_image.proofs.Parts.{behind_bytes, behind_part_head}
+use Rattle.mig_image.proofs.Frames.{frame_fits, page_if, behind_frame_head}
 use Rattle.mig_image.proofs.InOrder.{none_passes}
 use Rattle.mig_image.proofs.KeyTests.{frame_absent}
 use Rattle.mig_image.specs.Answer.{IsHost}

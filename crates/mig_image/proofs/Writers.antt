@@ -23,7 +23,7 @@ use Rattle.mig_guest.specs.Hosts.{HostOf, IsHostPart, IsValid}
 use Rattle.mig_guest.proofs.PartOrder.{part_total, part_exact}
 use Rattle.mig_image.specs.Image.{host_head, frame_text, part_text, image}
 use Rattle.mig_image.proofs.InOrder.{each_entry}
-use Rattle.mig_image.proofs.PartTexts.{len_small}
+use Rattle.mig_image.proofs.Parts.{len_small}
 
 -- all numbers are 0 or more
 pub from_zero : {X : Type 0} (es : List (ℕ × X)) → entries_from 0 es ≡ es

@@ -114,7 +114,7 @@ fn read_frame_head<S: Source>(src: &mut S, host: &Host) -> Result<[u8; 16], Stop
 }
 
 /// Takes a frame that stands behind those of the host, and keeps it.
-#[tactic(auto, using(crate::proofs::Readers::page_stops, crate::proofs::Readers::frames_more, crate::proofs::Readers::is_absent))]
+#[tactic(auto, using(crate::proofs::Readers::frames_more, crate::proofs::Readers::is_absent))]
 fn read_frame<S: Source>(src: &mut S, host: &mut Host) -> Result<(), Stop<ImageCause>>
     requires { length (maps.entries host.old.frames) < most_frames }
     ensures read { Gives (λ _ h. host.new ≡ h) (S.left src.old) (S.left src.new) (host_frame_at host.old) result }

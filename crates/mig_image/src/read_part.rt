@@ -190,7 +190,7 @@ fn read_padding<S: Source>(src: &mut S, len: u32) -> Result<(), Stop<ImageCause>
 }
 
 /// Takes a part that stands behind those of the host, and keeps it.
-#[tactic(auto, using(crate::proofs::PartTexts::is_part, crate::proofs::PartTexts::policy_fits))]
+#[tactic(auto, using(crate::proofs::Parts::is_part, crate::proofs::Parts::policy_fits))]
 fn read_part<S: Source>(
     alloc: Global,
     src: &mut S,

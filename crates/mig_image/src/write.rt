@@ -128,7 +128,7 @@ fn write_frames<K: Sink>(sink: &mut K, host: &Host) -> Result<(), WriteFailed>
 }
 
 /// The number of parts.
-#[tactic(auto, using(crate::proofs::PartsBack::parts_few))]
+#[tactic(auto, using(crate::proofs::Parts::parts_few))]
 fn count_parts(host: &Host) -> u64
     requires { IsValid host.now }
     ensures { result ≡ length (maps.entries host.now.parts) }
@@ -163,7 +163,7 @@ fn write_part<K: Sink>(sink: &mut K, key: PartKey, bytes: &[u8]) -> Result<(), W
 }
 
 /// Appends so many parts, which are all.
-#[tactic(auto, using(crate::proofs::Writers::part_small, crate::proofs::Writers::drop_next, crate::proofs::Writers::not_ended, crate::proofs::Writers::walk_on))]
+#[tactic(auto, using(crate::proofs::Writers::part_small, crate::proofs::Writers::not_ended))]
 fn write_parts<K: Sink>(sink: &mut K, host: &Host, count: u64) -> Result<(), WriteFailed>
     requires valid { IsValid host.now }
     requires count { count ≡ length (maps.entries host.now.parts) }

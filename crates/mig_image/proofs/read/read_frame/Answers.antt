@@ -1,6 +1,6 @@
 use Rattle.std.proofs.Common.{◌∙◌, Some, None, sym, rules}
 use Rattle.mig_bytes.proofs.Taking.{takes_more}
-use Rattle.mig_image.proofs.Readers.{frame_reads, page_reads, is_unused, is_frame, said_is}
+use Rattle.mig_image.proofs.Readers.{frame_reads, page_reads, page_stops, is_unused, is_frame, said_is}
 use Rattle.mig_image.proofs.read.read_frame.Goals as goal
 
 pub add_frame-requires-clause-unused : goal.add_frame-requires-clause-unused
@@ -10,6 +10,10 @@ pub returns-in-Ok-clause-read : goal.returns-in-Ok-clause-read
 returns-in-Ok-clause-read g c =
     frame_reads c.args.host.now _ _ _ c.in_ok-head.head c.in_ok-head.ensures.read c.kind_of-kind.result c.kind_of-kind.ensures tt (sym c.has_data.ensures ∙ c.if-not-has_data.true)
     (c.in-Ok.ensures.ok ∙ said_is c.args.host.now c.in_ok-head.head c.pfn_of-pfn.result c.u64_le-machine.result c.kind_of-kind.result None c.pfn_of-pfn.ensures.value c.u64_le-machine.ensures c.kind_of-kind.ensures)
+
+pub returns-in_err-take_part-clause-read : goal.returns-in_err-take_part-clause-read
+returns-in_err-take_part-clause-read g c =
+    page_stops c.args.host.now _ _ _ c.in_ok-head.head c.in_ok-head.ensures.read c.kind_of-kind.result c.kind_of-kind.ensures (sym c.has_data.ensures ∙ c.if-not-has_data.false) _ _ (search rules) _ c.in_err-take_part.field-0.0 c.from_residual-in_err-take_part.result (search rules) c.in_err-take_part.ensures.read
 
 pub add_frame-requires-2-clause-is : goal.add_frame-requires-2-clause-is
 add_frame-requires-2-clause-is g c =

@@ -4,7 +4,7 @@ use Rattle.mig_guest.specs.Hosts.{HostOf}
 use Rattle.mig_image.specs.ImageParts.{head_key, put_part_in}
 use Rattle.mig_image.specs.PartCounts.{Counts}
 use Rattle.mig_image.proofs.Readers.{bytes_stop, padding_stop, part_reads}
-use Rattle.mig_image.proofs.PartTexts.{is_behind, counts_more}
+use Rattle.mig_image.proofs.Parts.{is_behind, counts_more}
 use Rattle.mig_image.proofs.read_part.read_part.Goals as goal
 
 pub returns-in_err-bytes-clause-read : goal.returns-in_err-bytes-clause-read

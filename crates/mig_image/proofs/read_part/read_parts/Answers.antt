@@ -6,7 +6,7 @@ use Rattle.mig_bytes.proofs.Placed.{told, one_more, one_stops}
 use Rattle.mig_headers.specs.declared.image_fault.ImagePlace.TheVariants.{Part}
 use Rattle.mig_guest.specs.Hosts.{HostOf}
 use Rattle.mig_image.specs.ImageParts.{part_at, host_parts_at}
-use Rattle.mig_image.proofs.PartTexts.{counts_none}
+use Rattle.mig_image.proofs.Parts.{counts_none}
 use Rattle.mig_image.proofs.read_part.read_parts.Goals as goal
 
 pub loop-i-init : goal.loop-i-init
