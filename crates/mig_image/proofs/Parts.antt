@@ -271,7 +271,7 @@ rank k = (k.code * 4096 + k.key1) * 256 + k.key2
 abbrev IsSmall : PartKey → Type 0
 IsSmall k = (k.key1 < 4096) × (k.key2 < 256)
 
-small_by : (code : PartCode) (k : PartKey) → code_number code ≡ k.code → policy k.code ≡ false → (row_of code).keys k.key1 k.key2 ≡ true → IsSmall k × (k.code < 260)
+small_by : (code : PartCode) (k : PartKey) → code_number code ≡ k.code → policy k.code ≡ false → (row_of code).keys k.key1 k.key2 ≡ true → IsSmall k
 small_by CpuidLeaf k is other h = absurd (true≢false (ap policy is ∙ other))
 small_by Msr k is other h = absurd (true≢false (ap policy is ∙ other))
 small_by _ k is other h = grind (arith, common_steps)
@@ -308,19 +308,19 @@ split : (es : List Entry) → length es ≤ length (parts_of 17 es) + length (pa
 split [] = omega arith
 split (e ∷ es) = omega (arith, one_split (nat_eq e.0.code 17) (nat_eq e.0.code 18) e (parts_of 17 es) (parts_of 18 es) (others es) (length es) (split es))
 
-kept : (es : List Entry) → AllByRecursion (λ (e : Entry). policy e.0.code ≡ false → IsSmall e.0 × (e.0.code < 260)) es → AllByRecursion (λ (e : Entry). IsSmall e.0 × (0 ≤ rank e.0) × (rank e.0 < 2 ^ 29)) (others es)
+kept : (es : List Entry) → AllByRecursion (λ (e : Entry). policy e.0.code ≡ false → IsSmall e.0 × (e.0.code < 2 ^ 32)) es → AllByRecursion (λ (e : Entry). IsSmall e.0 × (0 ≤ rank e.0) × (rank e.0 < 2 ^ 52)) (others es)
 kept [] all = tt
 kept (e ∷ es) all = by (policy e.0.code) refl (kept es all.1)
   where
-    by : (b : Bool) → policy e.0.code ≡ b → AllByRecursion (λ (e : Entry). IsSmall e.0 × (0 ≤ rank e.0) × (rank e.0 < 2 ^ 29)) (others es) → AllByRecursion (λ (e : Entry). IsSmall e.0 × (0 ≤ rank e.0) × (rank e.0 < 2 ^ 29)) (cond (not b) (e ∷ others es) (others es))
+    by : (b : Bool) → policy e.0.code ≡ b → AllByRecursion (λ (e : Entry). IsSmall e.0 × (0 ≤ rank e.0) × (rank e.0 < 2 ^ 52)) (others es) → AllByRecursion (λ (e : Entry). IsSmall e.0 × (0 ≤ rank e.0) × (rank e.0 < 2 ^ 52)) (cond (not b) (e ∷ others es) (others es))
     by true is more = more
     by false is more = let (small, code) = all.0 is in ((small, (omega arith), (omega (arith, small, code))), more)
 
 pub parts_few : (g : HostOf) → IsValid g → length (maps.entries g.parts) < 2 ^ 64
 parts_few g valid =
     let es = maps.entries g.parts in
-    let all = kept es (each_entry part_total part_exact (λ k v. policy k.code ≡ false → IsSmall k × (k.code < 260)) g.parts (λ k v is other. let p = valid.parts k v is in small_by p.code k (sym p.number) other p.keys)) in
-    let bound = few_ranks part_cmp rank (2 ^ 29) IsSmall rises 0 (others es) (omega arith) (is_sorted-where_key part_cmp (λ k. not (policy k.code)) es (maps.entries_sorted g.parts)) all in
+    let all = kept es (each_entry part_total part_exact (λ k v. policy k.code ≡ false → IsSmall k × (k.code < 2 ^ 32)) g.parts (λ k v is other. let p = valid.parts k v is in (small_by p.code k (sym p.number) other p.keys, (let small : k.code < 2 ^ 32 = omega (arith, p.number, code_small p.code) in small)))) in
+    let bound = few_ranks part_cmp rank (2 ^ 52) IsSmall rises 0 (others es) (omega arith) (is_sorted-where_key part_cmp (λ k. not (policy k.code)) es (maps.entries_sorted g.parts)) all in
     let leaves = valid.leaves in
     let msrs = valid.msrs in
     omega (arith, split es, bound, leaves, msrs)
