@@ -53,7 +53,7 @@ word_back at xs all long =
     sum : (bs : List ℕ) → little_number 4 bs ≡ from_le_bytes w32 bs
     sum bs = omega arith
 
-pub long_back : (at : ℕ) (xs : List ℕ) → Bytes xs → at + 8 ≤ length xs → little_bytes 8 (le64 xs at) ≡ take 8 (drop at xs)
+long_back : (at : ℕ) (xs : List ℕ) → Bytes xs → at + 8 ≤ length xs → little_bytes 8 (le64 xs at) ≡ take 8 (drop at xs)
 unfolding le64
 long_back at xs all long =
     le_bytes_8 (take 8 (drop at xs)) (le64 xs at) (size 8 at xs all long) (small 8 at xs all long) (sym (little_from-take 0 8 8 (drop at xs) (omega arith)) ∙ sum (take 8 (drop at xs)))

@@ -54,11 +54,15 @@ module _ (frames : FrameMap) (base : ℕ) where
   }
 
   module _ (from i : ℕ) (machines : MachineMap) (counted : AreCounted from i machines) where
-    pub counted_all : ((k : ℕ) → from ≤ k → maps.get frames k ≡ None) → (pfn : ℕ) → maps.get machines pfn ≡ counted_at pfn
-    counted_all none pfn = elim (cases_lt pfn from) [
-      | inl lt ↦ counted.below pfn lt
-      | inr ge ↦ counted.above pfn ge ∙ sym (none_at pfn (none pfn ge))
+    -- below a number, where no frame lies between
+    upto : (n : ℕ) → ((k : ℕ) → from ≤ k → k < n → maps.get frames k ≡ None) → (q : ℕ) → q < n → maps.get machines q ≡ counted_at q
+    upto n none q small = elim (cases_lt q from) [
+      | inl lt ↦ counted.below q lt
+      | inr ge ↦ counted.above q ge ∙ sym (none_at q (none q ge small))
     ]
+
+    pub counted_all : ((k : ℕ) → from ≤ k → maps.get frames k ≡ None) → (pfn : ℕ) → maps.get machines pfn ≡ counted_at pfn
+    counted_all none pfn = upto (pfn + 1) (λ k ge _. none k ge) pfn (omega arith)
 
     unused_case : (other : ℕ) → other < from → maps.get machines other ≡ Some (base + i) → (o : Option FrameOf) → maps.get frames other ≡ o → ⊥
     unused_case other lt has None is = none-some (base + i) (sym (none_at other is) ∙ sym (counted.below other lt) ∙ has)
@@ -80,15 +84,9 @@ module _ (frames : FrameMap) (base : ℕ) where
       abbrev more : MachineMap
       more = maps.insert machines pfn (base + i)
 
-      below_other : (q : ℕ) → q < pfn → maps.get machines q ≡ counted_at q
-      below_other q small = elim (cases_lt q from) [
-        | inl lt ↦ counted.below q lt
-        | inr ge ↦ counted.above q ge ∙ sym (none_at q (none q ge small))
-      ]
-
       below_more : (q : ℕ) → q < pfn + 1 → maps.get more q ≡ counted_at q
       below_more q small = elim (cases_lt q pfn) [
-        | inl lt ↦ got_other machines pfn (base + i) q (λ e. omega (arith, e, lt)) ∙ below_other q lt
+        | inl lt ↦ got_other machines pfn (base + i) q (λ e. omega (arith, e, lt)) ∙ upto pfn none q lt
         | inr ge ↦
             subst (λ n. maps.get more n ≡ counted_at n) (let e : pfn ≡ q = omega (arith, ge, small) in e)
             (got_put machines pfn (base + i) ∙ ap (λ n. Some (base + n)) (sym next_rank) ∙ sym (ap (option_map (λ _. base + rank_in frames pfn)) is))
