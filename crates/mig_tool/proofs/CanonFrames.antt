@@ -15,7 +15,7 @@ use Rattle.mig_bytes.specs.Fields.{le32, le64}
 use Rattle.mig_headers.specs.declared.kind.Kind.{Kind}
 use Rattle.mig_headers.specs.declared.kind.Kind.TheVariants.{Hvm}
 use Rattle.mig_pagetypes.specs.declared.page_type.PageType.{PageType}
-use Rattle.mig_pagetypes.specs.declared.page_type.PageType.TheVariants.{Notab, L1Tab, L2Tab, L3Tab, L4Tab, L1Pinned, L2Pinned, L3Pinned, L4Pinned, Broken, Xalloc, Xtab}
+use Rattle.mig_pagetypes.specs.declared.page_type.PageType.TheVariants.{Notab}
 use Rattle.mig_pagetypes.specs.PageTypes.{number_of, type_of, type_or_none, type_has_data}
 use Rattle.mig_pagetypes.specs.FrameWords.{word_type, word_pfn, word_has_data, some_has_data}
 use Rattle.mig_guest.specs.Frames.{IsFrame, is_type_of}
@@ -56,45 +56,15 @@ pfn_is n p h = omega arith
 
 known : (t : PageType) → type_of (number_of t) ≡ Some t
 known Notab = refl
-known L1Tab = refl
-known L2Tab = refl
-known L3Tab = refl
-known L4Tab = refl
-known L1Pinned = refl
-known L2Pinned = refl
-known L3Pinned = refl
-known L4Pinned = refl
-known Broken = refl
-known Xalloc = refl
-known Xtab = refl
+known _ = refl
 
 least : (t : PageType) → number_of t < 16
 least Notab = omega arith
-least L1Tab = omega arith
-least L2Tab = omega arith
-least L3Tab = omega arith
-least L4Tab = omega arith
-least L1Pinned = omega arith
-least L2Pinned = omega arith
-least L3Pinned = omega arith
-least L4Pinned = omega arith
-least Broken = omega arith
-least Xalloc = omega arith
-least Xtab = omega arith
+least _ = omega arith
 
 not_reserved : (t : PageType) (w : ℕ) → word_type w ≡ number_of t → has_reserved_type w ≡ false
 not_reserved Notab w is = rw is refl
-not_reserved L1Tab w is = rw is refl
-not_reserved L2Tab w is = rw is refl
-not_reserved L3Tab w is = rw is refl
-not_reserved L4Tab w is = rw is refl
-not_reserved L1Pinned w is = rw is refl
-not_reserved L2Pinned w is = rw is refl
-not_reserved L3Pinned w is = rw is refl
-not_reserved L4Pinned w is = rw is refl
-not_reserved Broken w is = rw is refl
-not_reserved Xalloc w is = rw is refl
-not_reserved Xtab w is = rw is refl
+not_reserved _ w is = rw is refl
 
 not_high : (n p : ℕ) → n ≡ p → p < 2 ^ 28 → nat_le (2 ^ 28) n ≡ false
 not_high n p is h = low n (omega (arith, is, h))

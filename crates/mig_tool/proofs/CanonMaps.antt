@@ -13,7 +13,7 @@ use Rattle.std.specs.FinMap.Entries.{below_all, find-where_key, is_sorted-where_
 use Rattle.mig_headers.specs.declared.kind.Kind.{Kind}
 use Rattle.mig_headers.specs.declared.kind.Kind.TheVariants.{Hvm}
 use Rattle.mig_pagetypes.specs.declared.page_type.PageType.{PageType}
-use Rattle.mig_pagetypes.specs.declared.page_type.PageType.TheVariants.{Notab, L1Tab, L2Tab, L3Tab, L4Tab, L1Pinned, L2Pinned, L3Pinned, L4Pinned, Broken, Xalloc, Xtab}
+use Rattle.mig_pagetypes.specs.declared.page_type.PageType.TheVariants.{Notab, Broken, Xalloc}
 use Rattle.mig_guest.specs.declared.part_key.PartKey.{PartKey}
 use Rattle.mig_guest.specs.Frames.{FrameMap, is_hvm_type}
 use Rattle.mig_guest.specs.Order.{part_cmp}
@@ -21,7 +21,7 @@ use Rattle.mig_guest.specs.Parts.{Part, PartMap, put_part, put_parts, replace_co
 use Rattle.mig_guest.proofs.PartOrder.{part_total, part_exact}
 use Rattle.mig_guest.proofs.PartCursor.{both_of}
 use Rattle.mig_guest.specs.declared.part_code.PartCode.{PartCode}
-use Rattle.mig_guest.specs.declared.part_code.PartCode.TheVariants.{P2mFrames, VcpuBasic, VcpuExtended, VcpuXsave, SharedInfo, Tsc, HvmContext, HvmParam, VcpuMsrs, CpuidLeaf, Msr, EmulatorPairs, EmulatorContext}
+use Rattle.mig_guest.specs.declared.part_code.PartCode.TheVariants.{Tsc}
 use Rattle.mig_guest.specs.PartCodes.{row_of, code_number}
 use Rattle.mig_guest.specs.Guests.{GuestOf}
 use Rattle.mig_guest.specs.Formed.{IsPart, IsFormed, IsPlainHvm, is_emulator_code, is_policy, width_of}
@@ -41,17 +41,9 @@ HasHvmType f = is_hvm_type f.1.type ≡ true
 
 put_hvm : (m : FrameMap) (pfn : ℕ) (t : PageType) (page : Option (List ℕ)) → is_hvm_type t ≡ true → put_entry Hvm m (record { pfn = pfn; type = t; page = page }) ≡ maps.insert m pfn (record { type = t; page = page })
 put_hvm m pfn Notab page is = refl
-put_hvm m pfn L1Tab page is = absurd (cc)
-put_hvm m pfn L2Tab page is = absurd (cc)
-put_hvm m pfn L3Tab page is = absurd (cc)
-put_hvm m pfn L4Tab page is = absurd (cc)
-put_hvm m pfn L1Pinned page is = absurd (cc)
-put_hvm m pfn L2Pinned page is = absurd (cc)
-put_hvm m pfn L3Pinned page is = absurd (cc)
-put_hvm m pfn L4Pinned page is = absurd (cc)
 put_hvm m pfn Broken page is = refl
 put_hvm m pfn Xalloc page is = refl
-put_hvm m pfn Xtab page is = absurd (cc)
+put_hvm m pfn _ page is = absurd (cc)
 
 frames_set : (m : FrameMap) (fs : List Frame) (q : ℕ) → T (is_sorted nat_cmp fs) → All HasHvmType fs → maps.get (put_entries Hvm m (map entry_of fs)) q ≡ option_or (find nat_cmp q fs) (maps.get m q)
 frames_set m [] q h hvm = refl
@@ -153,18 +145,7 @@ hvm_codes = codes_with last_codes (codes_with static_codes (λ x. false))
 
 hvm_code : (c : PartCode) → (row_of c).of_kind Hvm ≡ true → is_emulator_code (code_number c) ≡ false → hvm_codes (code_number c) ≡ true
 hvm_code Tsc of_hvm plain = refl
-hvm_code HvmContext of_hvm plain = refl
-hvm_code HvmParam of_hvm plain = refl
-hvm_code CpuidLeaf of_hvm plain = refl
-hvm_code Msr of_hvm plain = refl
-hvm_code EmulatorPairs of_hvm plain = let no : true ≡ false = plain in cc
-hvm_code EmulatorContext of_hvm plain = let no : true ≡ false = plain in cc
-hvm_code P2mFrames of_hvm plain = let no : false ≡ true = of_hvm in cc
-hvm_code VcpuBasic of_hvm plain = let no : false ≡ true = of_hvm in cc
-hvm_code VcpuExtended of_hvm plain = let no : false ≡ true = of_hvm in cc
-hvm_code VcpuXsave of_hvm plain = let no : false ≡ true = of_hvm in cc
-hvm_code SharedInfo of_hvm plain = let no : false ≡ true = of_hvm in cc
-hvm_code VcpuMsrs of_hvm plain = let no : false ≡ true = of_hvm in cc
+hvm_code _ of_hvm plain = cc
 
 has_hvm_code : (kind : Kind) (width : ℕ) (q : PartKey) (bytes : List ℕ) → kind ≡ Hvm → is_emulator_code q.code ≡ false → IsPart kind width q bytes → hvm_codes q.code ≡ true
 has_hvm_code kind width q bytes hvm plain part =
