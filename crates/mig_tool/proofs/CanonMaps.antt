@@ -88,6 +88,9 @@ anew true s (Some x) = refl
 anew true s None = refl
 anew false s o = refl
 
+pub parts_in_order : (of : PartMap) (c : ℕ) → T (is_sorted part_cmp (parts_of c (maps.entries of)))
+parts_in_order of c = is_sorted-where_key part_cmp (λ (k : PartKey). nat_eq k.code c) (maps.entries of) (maps.entries_sorted of)
+
 module _ (of : PartMap) (codes : ℕ → Bool) (m : PartMap) (c : ℕ) (holds : Holds of codes m) where
   alike : (q x : PartKey) → part_cmp q x ≡ Equal → nat_eq x.code c ≡ nat_eq q.code c
   alike q x e = ap (λ (k : PartKey). nat_eq k.code c) (sym (part_exact q x e))
@@ -95,13 +98,10 @@ module _ (of : PartMap) (codes : ℕ → Bool) (m : PartMap) (c : ℕ) (holds : 
   found_of : (q : PartKey) → find part_cmp q (parts_of c (maps.entries of)) ≡ cond (nat_eq q.code c) (maps.get of q) None
   found_of q = find-where_key part_cmp (λ (k : PartKey). nat_eq k.code c) q (alike q) (maps.entries of) ∙ ap (λ o. cond (nat_eq q.code c) o None) (sym (maps.get-entries of q))
 
-  in_order : T (is_sorted part_cmp (parts_of c (maps.entries of)))
-  in_order = is_sorted-where_key part_cmp (λ (k : PartKey). nat_eq k.code c) (maps.entries of) (maps.entries_sorted of)
-
   -- the parts of a code set
   holds_more : Holds of (λ x. nat_eq x c || codes x) (put_parts m (parts_of c (maps.entries of)))
   holds_more q =
-      parts_set m (parts_of c (maps.entries of)) q in_order ∙ ap (option_or (find part_cmp q (parts_of c (maps.entries of)))) (holds q)
+      parts_set m (parts_of c (maps.entries of)) q (parts_in_order of c) ∙ ap (option_or (find part_cmp q (parts_of c (maps.entries of)))) (holds q)
       ∙ ap (λ o. option_or o (cond (codes q.code) (maps.get of q) None)) (found_of q) ∙ mixed (nat_eq q.code c) (codes q.code) (maps.get of q)
 
   cleared : (q : PartKey) → maps.get (maps.retain_keys m (λ k. not (nat_eq k.code c))) q ≡ cond (not (nat_eq q.code c)) (cond (codes q.code) (maps.get of q) None) None
@@ -111,7 +111,7 @@ module _ (of : PartMap) (codes : ℕ → Bool) (m : PartMap) (c : ℕ) (holds : 
   replaced [] is q =
       holds q ∙ ap (λ o. option_or o (cond (codes q.code) (maps.get of q) None)) (sym (ap (find part_cmp q) is) ∙ found_of q) ∙ mixed (nat_eq q.code c) (codes q.code) (maps.get of q)
   replaced (p ∷ ps) is q =
-      parts_set (maps.retain_keys m (λ k. not (nat_eq k.code c))) (p ∷ ps) q (subst (λ l. T (is_sorted part_cmp l)) is in_order)
+      parts_set (maps.retain_keys m (λ k. not (nat_eq k.code c))) (p ∷ ps) q (subst (λ l. T (is_sorted part_cmp l)) is (parts_in_order of c))
       ∙ ap (option_or (find part_cmp q (p ∷ ps))) (cleared q)
       ∙ ap (λ o. option_or o (cond (not (nat_eq q.code c)) (cond (codes q.code) (maps.get of q) None) None)) (sym (ap (find part_cmp q) is) ∙ found_of q)
       ∙ anew (nat_eq q.code c) (codes q.code) (maps.get of q)

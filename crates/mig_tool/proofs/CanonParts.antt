@@ -1,18 +1,20 @@
 -- What a body of a record says, and that fields are read back.
-use Rattle.std.proofs.Common.{◌≡◌, ℕ, ◌≤◌, ◌<◌, ◌^◌, List, [], ◌++◌, length, Some, subst}
+use Rattle.std.proofs.Common.{◌≡◌, ℕ, ◌≤◌, ◌<◌, ◌^◌, List, [], ◌++◌, length, true, Option, Some, None, refl, subst}
+use Rattle.std.specs.Prelude.{is_some}
 use Rattle.byteorder.specs.Endian.{little_bytes}
 use Rattle.byteorder.specs.Numbers.{little_number-reads_back}
 use Rattle.mig_bytes.specs.Fields.{le32}
 use Rattle.mig_headers.specs.RecordTypes.{type_number, type_of_number}
+use Rattle.mig_headers.proofs.RecordNumbers.{numbers_are_inverse}
 use Rattle.mig_headers.specs.declared.kind.Kind.TheVariants.{Hvm}
 use Rattle.mig_headers.specs.declared.record_type.RecordType.{RecordType}
 use Rattle.mig_guest.specs.declared.part_code.PartCode.{PartCode}
 use Rattle.mig_guest.specs.PartCodes.{code_number}
 use Rattle.mig_guest.specs.Parts.{Part}
+use Rattle.mig_guest.proofs.PartRows.{numbered}
 use Rattle.mig_bodies.specs.Shapes.{IsRecordBody}
 use Rattle.mig_restore.specs.Record.{Content}
 use Rattle.mig_restore.specs.Record.Content.{Sets}
-use Rattle.mig_restore.specs.Judging.{code_of_type}
 use Rattle.mig_restore.specs.Spelled.{HasContent}
 use Rattle.mig_restore.specs.Spelled.HasContent.{sets}
 
@@ -33,6 +35,12 @@ pub record Fits (type : ℕ) (body : List ℕ) (c : Content) : Type 0 where
   pub says : (top : ℕ) → HasContent Hvm top type body c
   pub short : length body ≤ 2 ^ 27
 
--- a body of a record of this type, which sets parts of this code
-pub fits_of : (this : RecordType) (code : PartCode) (body : List ℕ) (ps : List Part) → code_of_type this ≡ Some code → type_of_number (code_number code) ≡ Some this → type_number this ≡ code_number code → IsRecordBody code body ps → Fits (code_number code) body (Sets code ps)
-fits_of this code body ps sets_it named same is = subst (λ n. Fits n body (Sets code ps)) same (record { says = λ top. sets this code body ps sets_it (is.has this named) is.says; short = is.short })
+-- a body of a record that sets parts of this code
+pub fits_of : (code : PartCode) (body : List ℕ) (ps : List Part) → is_some (type_of_number (code_number code)) ≡ true → IsRecordBody code body ps → Fits (code_number code) body (Sets code ps)
+fits_of code body ps known is = by (type_of_number (code_number code)) refl known
+  where
+    by : (o : Option RecordType) → type_of_number (code_number code) ≡ o → is_some o ≡ true → Fits (code_number code) body (Sets code ps)
+    by None named known = absurd (cc)
+    by (Some this) named known =
+        let same = numbers_are_inverse.number_of (code_number code) this named in
+        subst (λ n. Fits n body (Sets code ps)) same (record { says = λ top. sets this code body ps (numbered (type_number this) code same) (is.has this named) is.says; short = is.short })

@@ -1,32 +1,36 @@
 -- Records of a canonical stream one after another, each in its place.
-use Rattle.std.proofs.Common.{◌≡◌, ℕ, zero, suc, ◌+◌, ◌*◌, ◌≤◌, ◌<◌, ◌^◌, List, [], ◌∷◌, ◌++◌, length, take, map, replicate, Bool, true, false, nat_eq, Some, None, refl, sym, ap, subst, ◌∙◌, arith, append_assoc, append-nil, length-append}
-use Rattle.std.specs.Prelude.{◌||◌, ◌&&◌, fold, if◌then◌else◌}
+use Rattle.std.proofs.Common.{◌≡◌, ℕ, zero, suc, ◌+◌, ◌*◌, ◌≤◌, ◌<◌, ◌^◌, List, [], ◌∷◌, ◌++◌, length, take, map, replicate, Bool, true, false, nat_eq, None, refl, sym, ap, subst, ◌∙◌, arith, append_assoc, append-nil, length-append}
+use Rattle.std.specs.Prelude.{T, ◌||◌, ◌&&◌, not, fold, if◌then◌else◌, is_some}
+use Rattle.std.proofs.lemmas.Bool.{and_parts, not-true}
 use Rattle.std.proofs.lemmas.Grind.{flat_map-append}
-use Rattle.std.proofs.lemmas.List.{length-replicate, length-map, map-append}
+use Rattle.std.proofs.lemmas.List.{length-replicate, map-append}
 use Rattle.std.proofs.lemmas.List.Folds.{list_any-append}
 use Rattle.std.proofs.lemmas.List.FromFn.{map-range_with_len_more}
 use Rattle.std.proofs.lemmas.List.Sums.{fold-append}
-use Rattle.std.specs.List.{All, AllByRecursion, list_any}
+use Rattle.std.specs.List.{All, AllByRecursion, list_any, list_all}
+use Rattle.std.specs.Ordering.{is_lt}
 use Rattle.std.specs.FinMap as maps
+use Rattle.std.specs.FinMap.{is_sorted}
+use Rattle.std.specs.FinMap.Entries.{below_all}
 use Rattle.byteorder.specs.Endian.{little_bytes}
 use Rattle.mig_bytes.specs.Bytes.{padding_len}
 use Rattle.mig_headers.specs.declared.kind.Kind.TheVariants.{Hvm}
 use Rattle.mig_headers.specs.declared.record_type.RecordType.{RecordType}
-use Rattle.mig_headers.specs.declared.record_type.RecordType.TheVariants as types
-use Rattle.mig_headers.specs.declared.record_type.RecordType.TheVariants.{StaticDataEnd, X86PvInfo, X86PvP2mFrames, X86CpuidPolicy, X86MsrPolicy, X86TscInfo, HvmParams}
-use Rattle.mig_headers.specs.RecordTypes.{type_number, type_of_number}
+use Rattle.mig_headers.specs.declared.record_type.RecordType.TheVariants.{StaticDataEnd, X86PvInfo, X86PvP2mFrames}
+use Rattle.mig_headers.specs.RecordTypes.{type_of_number}
 use Rattle.mig_guest.specs.Frames.{FrameMap}
 use Rattle.mig_guest.specs.Guests.{GuestOf}
 use Rattle.mig_guest.specs.declared.part_code.PartCode.{PartCode}
-use Rattle.mig_guest.specs.declared.part_code.PartCode.TheVariants.{Tsc, HvmContext, HvmParam, CpuidLeaf, Msr}
+use Rattle.mig_guest.specs.declared.part_code.PartCode.TheVariants.{Tsc, CpuidLeaf}
+use Rattle.mig_guest.specs.declared.part_key.PartKey.{PartKey}
+use Rattle.mig_guest.specs.Order.{part_cmp}
 use Rattle.mig_guest.specs.PartCodes.{code_number}
-use Rattle.mig_guest.specs.Parts.{Part, PartMap, put_parts}
+use Rattle.mig_guest.specs.Parts.{Part, PartMap, put_parts, replace_code}
 use Rattle.mig_guest.specs.Formed.{IsFormed, is_policy}
-use Rattle.mig_guest.proofs.CodeParts.{one_tsc, one_context}
-use Rattle.mig_bodies.specs.declared.layout.Layout.{Layout}
-use Rattle.mig_bodies.specs.declared.shape.Shape.TheVariants.{Table, Single, Chain}
-use Rattle.mig_bodies.specs.Layouts.{layout}
-use Rattle.mig_bodies.specs.Shapes.{shape_of, set_parts, parts_at, part_body, bodies_by_shape, canonical_bodies, contents_by_shape, SayAll}
+use Rattle.mig_guest.proofs.PartCursor.{both_of, not_itself}
+use Rattle.mig_bodies.specs.declared.shape.Shape.{Shape}
+use Rattle.mig_bodies.specs.declared.shape.Shape.TheVariants.{Table, Single, Named, Chain, Other}
+use Rattle.mig_bodies.specs.Shapes.{shape_of, set_parts, parts_at, part_body, bodies_by_shape, canonical_bodies, contents_by_shape, sole_key, IsBody, IsShaped, SayAll}
 use Rattle.mig_bodies.proofs.Canonical.{canonical_bodies_say}
 use Rattle.mig_records.specs.Records.{IsRecord, head_of, spelled}
 use Rattle.mig_order.specs.Order.{Earlier, some_earlier, among, content_records, vcpu_records, fault_after, fault_of_type}
@@ -34,12 +38,12 @@ use Rattle.mig_order.proofs.OrderLaw.{faultless_is_in_order}
 use Rattle.mig_canon.specs.Canon.{Frame, Record, batch, batches, body_of, frame_bodies, records_of, records_in_order, static_codes, last_codes, text_of}
 use Rattle.mig_restore.specs.Record.{StreamRecord, Content, types_of, is_ended}
 use Rattle.mig_restore.specs.Record.Content.{Sets}
-use Rattle.mig_restore.specs.Judging.{Opening, is_built, code_of_type}
+use Rattle.mig_restore.specs.Judging.{Opening, is_built}
 use Rattle.mig_restore.specs.Mean.{sent, put_content, put_entry, put_entries}
 use Rattle.mig_restore.specs.Spelled.{IsComplete, Follows, Spells}
 use Rattle.mig_restore.specs.Spelled.Spells.{one_more}
 use Rattle.mig_restore.proofs.Meaning.{one_more_record}
-use Rattle.mig_tool.proofs.CanonMaps.{entry_of, with_parts}
+use Rattle.mig_tool.proofs.CanonMaps.{entry_of, parts_in_order, with_parts}
 use Rattle.mig_tool.proofs.CanonParts.{le32_first, le32_second, Fits, fits_of}
 use Rattle.mig_tool.proofs.CanonFrames.{Fine, batch_fits, take_more, few_batches}
 
@@ -96,6 +100,18 @@ frames_step = record { small = omega arith; built = refl; ordered = λ c i m. re
 
 pub end_step : IsStep 0 true true
 end_step = record { small = omega arith; built = refl; ordered = λ c i m. refl; settles = refl; bare = λ e. absurd (cc); no_vcpu = refl }
+
+-- the records of a code that is one of these
+abbrev is_in : List PartCode → PartCode → Bool
+is_in codes code = list_any (λ c. nat_eq (code_number c) (code_number code)) codes
+
+pub static_step : (code : PartCode) → is_in static_codes code ≡ true → IsStep (code_number code) false false
+static_step CpuidLeaf is = record { small = omega arith; built = cc; ordered = λ c i m. cc; settles = cc; bare = λ e. cc; no_vcpu = cc }
+static_step _ is = record { small = omega arith; built = cc; ordered = λ c i m. cc; settles = cc; bare = λ e. cc; no_vcpu = cc }
+
+pub last_step : (code : PartCode) → is_in last_codes code ≡ true → IsStep (code_number code) true true
+last_step Tsc is = record { small = omega arith; built = cc; ordered = λ c i m. cc; settles = cc; bare = λ e. absurd (cc); no_vcpu = cc }
+last_step _ is = record { small = omega arith; built = cc; ordered = λ c i m. cc; settles = cc; bare = λ e. absurd (cc); no_vcpu = cc }
 
 abbrev earlier_with : List ℕ → Bool → Bool → Bool → Earlier
 earlier_with types settled content vcpu = record { static_data_end = settled; content = content; pv_info = some_earlier types (X86PvInfo ∷ []); p2m_frames = some_earlier types (X86PvP2mFrames ∷ []); vcpu = vcpu }
@@ -167,13 +183,10 @@ module _ {bodies : List Record} {g : GuestOf} {settled : Bool} {most : ℕ} (s :
 
 -- ---- several records
 
--- a code whose records may stand where the static data have ended or not: of one type, at most one, which sets all parts
+-- a code whose records may stand where the static data have ended or not: at most one, which sets all parts
 pub record IsWritten (g : GuestOf) (settled : Bool) (code : PartCode) : Type 0 where
   pub step : IsStep (code_number code) settled settled
-  pub type : RecordType
-  pub sets : code_of_type type ≡ Some code
-  pub named : type_of_number (code_number code) ≡ Some type
-  pub number : type_number type ≡ code_number code
+  pub known : is_some (type_of_number (code_number code)) ≡ true
   pub no_end : nat_eq (code_number code) 0 ≡ false
   pub one : length (canonical_bodies code (parts_at code g)) ≤ 1
   pub at_once : (m : PartMap) → fold (set_parts code) m (contents_by_shape (shape_of code) (parts_at code g)) ≡ set_parts code m (parts_at code g)
@@ -187,7 +200,7 @@ module _ (g : GuestOf) (formed : IsFormed g) (settled : Bool) where
   said_more code w (body ∷ bodies) [] says before h most room s = absurd says
   said_more code w (body ∷ bodies) (ps ∷ said) says before h most room s =
       let this : Record = (code_number code, body) in let h1 = put_content h (Sets code ps) in
-      let now = more s w.step (fits_of w.type code body ps w.sets w.named w.number says.0) (omega (arith, room)) w.no_end in
+      let now = more s w.step (fits_of code body ps w.known says.0) (omega (arith, room)) w.no_end in
       let rest = said_more code w bodies said says.1 (before ++ this ∷ []) h1 (most + 1) (omega (arith, room)) now in
       looser (subst (λ l. State l (record h { parts = fold (set_parts code) h1.parts said }) settled (most + 1 + length bodies)) (append_assoc before (this ∷ []) (map (λ b. (code_number code, b)) bodies)) rest) (most + suc (length bodies)) (omega arith)
 
@@ -208,7 +221,17 @@ module _ (g : GuestOf) (formed : IsFormed g) (settled : Bool) where
       let rest = codes_more codes ws.1 (before ++ records_of code g) h1 (most + 1) (omega (arith, room)) (code_more code ws.0 before h most (omega (arith, room)) s) in
       looser (subst (λ l. State l (record h { parts = with_parts codes g h1.parts }) settled (most + 1 + length codes)) (append_assoc before (records_of code g) (records_in_order codes g)) rest) (most + suc (length codes)) (omega arith)
 
--- ---- the codes of an HVM guest
+-- ---- codes that are written
+
+-- a test of it: the code's one part, or all parts in a table, are a record's
+abbrev is_record_of_all : Shape → ℕ → Bool
+is_record_of_all (Table l) number = true
+is_record_of_all (Named second ignored skips) number = false
+is_record_of_all Other number = false
+is_record_of_all shape number = not (is_policy number)
+
+abbrev is_written : List PartCode → PartCode → Bool
+is_written codes code = is_in codes code && ((is_some (type_of_number (code_number code)) && not (nat_eq (code_number code) 0)) && is_record_of_all (shape_of code) (code_number code))
 
 no_parts : (code : PartCode) (m : PartMap) → set_parts code m [] ≡ m
 no_parts code m = same (is_policy (code_number code))
@@ -217,84 +240,55 @@ no_parts code m = same (is_policy (code_number code))
     same true = refl
     same false = refl
 
-one_table : (l : Layout) (ps : List Part) → length (bodies_by_shape (Table l) ps) ≤ 1
-one_table l [] = omega arith
-one_table l (p ∷ ps) = omega arith
+puts : (code : PartCode) → not (is_policy (code_number code)) ≡ true → (m : PartMap) (ps : List Part) → set_parts code m ps ≡ put_parts m ps
+puts code plain m ps = ap (λ b. if b then replace_code (code_number code) m ps else put_parts m ps) (not-true _ plain)
 
-table_at_once : (code : PartCode) (l : Layout) (ps : List Part) (m : PartMap) → fold (set_parts code) m (contents_by_shape (Table l) ps) ≡ set_parts code m ps
-table_at_once code l [] m = sym (no_parts code m)
-table_at_once code l (p ∷ ps) m = refl
+each_at_once : (code : PartCode) → not (is_policy (code_number code)) ≡ true → (ps : List Part) (m : PartMap) → fold (set_parts code) m (map (λ p. p ∷ []) ps) ≡ set_parts code m ps
+each_at_once code plain [] m = sym (no_parts code m)
+each_at_once code plain (p ∷ ps) m =
+    each_at_once code plain ps (set_parts code m (p ∷ [])) ∙ puts code plain (set_parts code m (p ∷ [])) ps ∙ ap (λ n. put_parts n ps) (puts code plain m (p ∷ [])) ∙ sym (puts code plain m (p ∷ ps))
 
-each_at_once : (code : PartCode) → ((m : PartMap) (ps : List Part) → set_parts code m ps ≡ put_parts m ps) → (ps : List Part) (m : PartMap) → fold (set_parts code) m (map (λ p. p ∷ []) ps) ≡ set_parts code m ps
-each_at_once code puts [] m = sym (no_parts code m)
-each_at_once code puts (p ∷ ps) m = each_at_once code puts ps (set_parts code m (p ∷ [])) ∙ puts (set_parts code m (p ∷ [])) ps ∙ ap (λ n. put_parts n ps) (puts m (p ∷ [])) ∙ sym (puts m (p ∷ ps))
+-- bodies that say the same key are one at most
+one_each : (code : PartCode) (body : Part → List ℕ) → ((text : List ℕ) (p : Part) → IsBody code text (p ∷ []) → p.0 ≡ sole_key code) → (ps : List Part) → T (is_sorted part_cmp ps)
+    → SayAll code (map body ps) (map (λ p. p ∷ []) ps) → length (map body ps) ≤ 1
+one_each code body key [] order say = omega arith
+one_each code body key (p ∷ []) order say = omega arith
+one_each code body key (p ∷ q ∷ ps) order say =
+    let first = (both_of (is_lt (part_cmp p.0 q.0)) (below_all part_cmp p.0 ps) (both_of (below_all part_cmp p.0 (q ∷ ps)) (is_sorted part_cmp (q ∷ ps)) order).0).0 in
+    let same = key (body p) p say.0.says ∙ sym (key (body q) q say.1.0.says) in
+    absurd (subst T (ap (λ k. is_lt (part_cmp p.0 k)) (sym same) ∙ not_itself p.0) first)
 
-module _ (g : GuestOf) (formed : IsFormed g) where
-  leaves_written : IsWritten g false CpuidLeaf
-  leaves_written = record {
-    step = record { small = omega arith; built = refl; ordered = λ c i m. refl; settles = refl; bare = λ e. refl; no_vcpu = refl };
-    type = X86CpuidPolicy;
-    sets = refl;
-    named = refl;
-    number = refl;
-    no_end = refl;
-    one = one_table (layout false 4 4 16) (parts_at CpuidLeaf g);
-    at_once = table_at_once CpuidLeaf (layout false 4 4 16) (parts_at CpuidLeaf g);
-  }
+first_key : (p : Part) (k : PartKey) (bytes : List ℕ) → p ∷ [] ≡ (k, bytes) ∷ [] → p.0 ≡ k
+first_key p k bytes is = let e : p ≡ (k, bytes) = cc in ap (λ (r : Part). r.0) e
 
-  msrs_written : IsWritten g false Msr
-  msrs_written = record {
-    step = record { small = omega arith; built = refl; ordered = λ c i m. refl; settles = refl; bare = λ e. refl; no_vcpu = refl };
-    type = X86MsrPolicy;
-    sets = refl;
-    named = refl;
-    number = refl;
-    no_end = refl;
-    one = one_table (layout false 4 0 12) (parts_at Msr g);
-    at_once = table_at_once Msr (layout false 4 0 12) (parts_at Msr g);
-  }
+record AtOnce (code : PartCode) (shape : Shape) (ps : List Part) : Type 0 where
+  one : length (bodies_by_shape shape ps) ≤ 1
+  all : (m : PartMap) → fold (set_parts code) m (contents_by_shape shape ps) ≡ set_parts code m ps
 
-  tsc_written : IsWritten g true Tsc
-  tsc_written = record {
-    step = record { small = omega arith; built = refl; ordered = λ c i m. refl; settles = refl; bare = λ e. absurd (cc); no_vcpu = refl };
-    type = X86TscInfo;
-    sets = refl;
-    named = refl;
-    number = refl;
-    no_end = refl;
-    one = omega (arith, length-map (parts_at Tsc g) (part_body (Single 20 4)), one_tsc g formed);
-    at_once = each_at_once Tsc (λ _ _. refl) (parts_at Tsc g);
-  }
+at_once : (code : PartCode) (shape : Shape) (ps : List Part) → shape_of code ≡ shape → is_record_of_all shape (code_number code) ≡ true → T (is_sorted part_cmp ps) → SayAll code (bodies_by_shape shape ps) (contents_by_shape shape ps) → AtOnce code shape ps
+at_once code (Table l) [] is fine order say = record { one = omega arith; all = λ m. sym (no_parts code m) }
+at_once code (Table l) (p ∷ ps) is fine order say = record { one = omega arith; all = λ m. refl }
+at_once code (Single len ignored) ps is fine order say = record {
+  one = one_each code (part_body (Single len ignored)) (λ text p this. let single = subst (λ s. IsShaped s code text (p ∷ [])) is this in first_key p _ _ single.says) ps order say;
+  all = each_at_once code fine ps;
+}
+at_once code Chain ps is fine order say = record {
+  one = one_each code (part_body Chain) (λ text p this. let chain = subst (λ s. IsShaped s code text (p ∷ [])) is this in first_key p _ _ chain.says) ps order say;
+  all = each_at_once code fine ps;
+}
+at_once code (Named second ignored skips) ps is fine order say = absurd (cc)
+at_once code Other ps is fine order say = absurd (cc)
 
-  params_written : IsWritten g true HvmParam
-  params_written = record {
-    step = record { small = omega arith; built = refl; ordered = λ c i m. refl; settles = refl; bare = λ e. absurd (cc); no_vcpu = refl };
-    type = HvmParams;
-    sets = refl;
-    named = refl;
-    number = refl;
-    no_end = refl;
-    one = one_table (layout true 8 0 8) (parts_at HvmParam g);
-    at_once = table_at_once HvmParam (layout true 8 0 8) (parts_at HvmParam g);
-  }
-
-  context_written : IsWritten g true HvmContext
-  context_written = record {
-    step = record { small = omega arith; built = refl; ordered = λ c i m. refl; settles = refl; bare = λ e. absurd (cc); no_vcpu = refl };
-    type = types.HvmContext;
-    sets = refl;
-    named = refl;
-    number = refl;
-    no_end = refl;
-    one = omega (arith, length-map (parts_at HvmContext g) (part_body Chain), one_context g formed);
-    at_once = each_at_once HvmContext (λ _ _. refl) (parts_at HvmContext g);
-  }
-
-  pub static_written : AllByRecursion (IsWritten g false) static_codes
-  static_written = (leaves_written, (msrs_written, tt))
-
-  pub last_written : AllByRecursion (IsWritten g true) last_codes
-  last_written = (tsc_written, (params_written, (context_written, tt)))
+pub all_written : (g : GuestOf) → IsFormed g → (settled : Bool) (these : List PartCode) → ((code : PartCode) → is_in these code ≡ true → IsStep (code_number code) settled settled) → (codes : List PartCode) → list_all (is_written these) codes ≡ true
+    → AllByRecursion (IsWritten g settled) codes
+all_written g formed settled these step [] h = tt
+all_written g formed settled these step (code ∷ codes) h =
+    let (first, others) = and_parts _ _ h in
+    let (there, typed) = and_parts _ _ first in
+    let (numbered, fine) = and_parts _ _ typed in
+    let (known, no_end) = and_parts _ _ numbered in
+    let once = at_once code (shape_of code) (parts_at code g) refl fine (parts_in_order g.parts (code_number code)) (canonical_bodies_say code g formed) in
+    (record { step = step code there; known = known; no_end = not-true _ no_end; one = once.one; at_once = once.all }, all_written g formed settled these step codes others)
 
 -- ---- frames
 

@@ -25,7 +25,7 @@ use Rattle.mig_restore.proofs.Meaning.{meant_as_sent}
 use Rattle.mig_tool.proofs.CanonMaps.{entry_of, frames_again, with_parts, holds_none, holds_codes, holds_all}
 use Rattle.mig_tool.proofs.CanonParts.{Fits}
 use Rattle.mig_tool.proofs.CanonFrames.{all_fine, all_hvm, all_taken, few_batches}
-use Rattle.mig_tool.proofs.CanonSteps.{opening, guest_with, State, static_end_step, end_step, ended_more, spells_more, means_more, more, codes_more, static_written, last_written, frames_put, frames_more}
+use Rattle.mig_tool.proofs.CanonSteps.{opening, guest_with, State, static_end_step, end_step, ended_more, spells_more, means_more, more, codes_more, static_step, last_step, all_written, frames_put, frames_more}
 
 -- ---- what the records mean
 
@@ -79,7 +79,7 @@ module _ (g : GuestOf) (whole : IsWhole g) (is : IsPlainHvm g) where
   frames = frame_bodies (frames_in g) n
 
   static_state : State (static_bodies g) (guest_with maps.empty (static_parts g)) true 3
-  static_state = more (codes_more g formed false static_codes (static_written g formed) [] (empty_guest Hvm) 0 (omega arith) at_start) static_end_step nothing_fits (omega arith) refl
+  static_state = more (codes_more g formed false static_codes (all_written g formed false static_codes static_step static_codes refl) [] (empty_guest Hvm) 0 (omega arith) at_start) static_end_step nothing_fits (omega arith) refl
 
   few : n ≤ 2 ^ 14
   few = few_batches (frames_in g) complete.1
@@ -89,7 +89,7 @@ module _ (g : GuestOf) (whole : IsWhole g) (is : IsPlainHvm g) where
 
   before_end : State ((static_bodies g ++ frames) ++ records_in_order last_codes g) (guest_with (frames_put (frames_in g) n) (all_parts g)) true (3 + n + 3)
   before_end =
-      codes_more g formed true last_codes (last_written g formed) (static_bodies g ++ frames) (guest_with (frames_put (frames_in g) n) (static_parts g)) (3 + n) few_records
+      codes_more g formed true last_codes (all_written g formed true last_codes last_step last_codes refl) (static_bodies g ++ frames) (guest_with (frames_put (frames_in g) n) (static_parts g)) (3 + n) few_records
       (frames_more (frames_in g) (all_fine g formed is.hvm) complete.1 (static_bodies g) (static_parts g) 3 (omega arith) static_state n (le_refl n))
 
   abbrev records : List StreamRecord
