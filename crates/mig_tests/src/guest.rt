@@ -1,68 +1,152 @@
-use mig_guest::{Guest, PartKey};
-use mig_headers::Kind;
+use mig_bodies::{body_fault, read_body};
+use mig_guest::{Guest, PartCode, PartKey};
+use mig_headers::{Cause, Kind};
+use mig_hvm::{params_fault, read_params};
+use mig_pagestore::PageStore;
 use mig_pagetypes::PageType;
+use mig_policy::{read_cpuid, read_msr, read_tsc};
+use std::process::Abort;
 use std::test::Fail;
+
+#[test]
+fn pages_by_number(rt: HostRuntime) -> Result<(), Fail> {
+    let mut store = PageStore::new(rt.alloc());
+    store.reserve(1)?;
+    store.put_spare(5, &[5; 4096]);
+    store.put(7, &[7; 4096])?;
+    assert!(rt; store.get(7).is_some());
+    store.overwrite(7, 4094, &[1, 2]);
+    if let Some(page) = store.lend(7) {
+        page[0] = 3;
+    }
+    let page = store.get(7).ok_or("no page")?;
+    assert_eq!(rt; (page[0], page[1], page[4094], page[4095]), (3, 7, 1, 2));
+    assert_eq!(rt; store.next_from(6), Some(7));
+    assert!(rt; store.remove(7));
+    assert!(rt; !store.remove(7));
+    assert_eq!(rt; store.len(), 1);
+    Ok(())
+}
 
 fn key(code: u32, key1: u32, key2: u32) -> PartKey {
     PartKey { code, key1, key2 }
 }
 
+// The parts of the guest, in their order, are just these.
+fn has(rt: &impl Abort, guest: &Guest, parts: &[(PartKey, &[u8])]) {
+    let mut after = None;
+    for (key, bytes) in parts {
+        assert_eq!(rt; guest.next_part(after), Some(*key));
+        assert_eq!(rt; guest.part(*key), Some(*bytes));
+        after = Some(*key);
+    }
+    assert_eq!(rt; guest.next_part(after), None);
+}
+
+// Writes on what the guest lends.
+fn fill(guest: &mut Guest) {
+    if let Some(page) = guest.page_mut(5) {
+        page[4095] = 9;
+    }
+    if let Some(part) = guest.part_mut(key(4, 1, 0)) {
+        part.fill(7);
+    }
+}
+
 fn small_guest(rt: &HostRuntime) -> Result<Guest, Fail> {
     let mut guest = Guest::new(rt.alloc(), Kind::Pv);
     guest.set_frame(5, PageType::L1Tab, Some(&[1; 4096]))?;
-    guest.set_frame(2, PageType::Broken, None)?;
-    guest.set_frame(0xfff_ffff, PageType::Notab, Some(&[2; 4096]))?;
     guest.set_part(key(4, 1, 0), &[1, 2, 3, 4])?;
     guest.set_part(key(4, 0, 9), &[5])?;
-    guest.set_part(key(3, 7, 7), &[])?;
-    guest.set_part(key(17, 0, 0), &[6])?;
     Ok(guest)
 }
 
 #[test]
-fn kind_and_top(rt: HostRuntime) -> Result<(), Fail> {
-    let mut guest = Guest::new(rt.alloc(), Kind::Hvm);
-    assert_eq!(rt; guest.kind(), Kind::Hvm);
-    assert_eq!(rt; guest.top(), 0);
+fn a_guest_is_lent(rt: HostRuntime) -> Result<(), Fail> {
+    let mut guest = small_guest(&rt)?;
     guest.set_top(0xffff);
     assert_eq!(rt; guest.top(), 0xffff);
-    Ok(())
-}
-
-#[test]
-fn lends_pages(rt: HostRuntime) -> Result<(), Fail> {
-    let mut guest = small_guest(&rt)?;
-    let Some(page) = guest.page_mut(5) else {
-        return Err("no page".into());
-    };
-    page[0] = 7;
-    page[4095] = 9;
+    fill(&mut guest);
     let page = guest.page(5).ok_or("no page")?;
-    assert_eq!(rt; (page[0], page[1], page[4095]), (7, 1, 9));
+    assert_eq!(rt; (page[0], page[4095]), (1, 9));
     assert_eq!(rt; guest.frame(5), Some(PageType::L1Tab));
-    assert!(rt; guest.page(0xfff_ffff) == Some(&[2; 4096]));
-    assert!(rt; guest.page_mut(2).is_none());
-    assert!(rt; guest.page_mut(6).is_none());
-    assert!(rt; guest.page_mut(u64::MAX).is_none());
-    assert_eq!(rt; guest.frames(), 3);
+    has(
+        &rt,
+        &guest,
+        &[(key(4, 0, 9), &[5]), (key(4, 1, 0), &[7; 4])],
+    );
     Ok(())
 }
 
+// Leaf 3 with subleaf 0; the MSRs 0xc0000080 and 0x10; parameter 1, twice.
+const LEAF: [u8; 24] = [
+    3, 0, 0, 0, 0, 0, 0, 0, 1, 0, 0, 0, 2, 0, 0, 0, 3, 0, 0, 0, 4, 0, 0, 0,
+];
+
+const MSRS: [u8; 32] = [
+    0x80, 0, 0, 0xc0, 1, 0, 0, 0, 0, 0x0d, 0, 0, 0, 0, 0, 0, 0x10, 0, 0, 0, 2, 0, 0, 0, 3, 3, 3, 3,
+    3, 3, 3, 3,
+];
+
+const PARAMETERS: [u8; 40] = [
+    2, 0, 0, 0, 0, 0, 0, 0, 1, 0, 0, 0, 0, 0, 0, 0, 5, 0, 0, 0, 0, 0, 0, 0, 1, 0, 0, 0, 0, 0, 0, 0,
+    7, 0, 0, 0, 0, 0, 0, 0,
+];
+
 #[test]
-fn lends_parts(rt: HostRuntime) -> Result<(), Fail> {
-    let mut guest = small_guest(&rt)?;
-    let Some(part) = guest.part_mut(key(4, 1, 0)) else {
-        return Err("no part".into());
-    };
-    assert!(rt; part.len() == 4 && part[0] == 1);
-    part.fill(7);
-    if let Some(last) = part.last_mut() {
-        *last = 9;
+fn bodies_of_an_hvm_guest(rt: HostRuntime) -> Result<(), Fail> {
+    let mut guest = Guest::new(rt.alloc(), Kind::Hvm);
+    read_cpuid(&mut guest, &LEAF)?;
+    read_msr(&mut guest, &MSRS)?;
+    read_tsc(&mut guest, &[0x22; 24])?;
+    assert_eq!(rt; params_fault(&PARAMETERS[..24]), Some(Cause::BadLength(24)));
+    assert_eq!(rt; params_fault(&PARAMETERS), None);
+    read_params(&mut guest, &PARAMETERS)?;
+    has(
+        &rt,
+        &guest,
+        &[
+            (key(8, 0, 0), &[0x22; 20]),
+            (key(10, 1, 0), &[7, 0, 0, 0, 0, 0, 0, 0]),
+            (key(17, 3, 0), &LEAF[8..]),
+            (key(18, 0x10, 0), &MSRS[20..]),
+            (key(18, 0xc000_0080, 0), &MSRS[4..16]),
+        ],
+    );
+    Ok(())
+}
+
+// A vCPU's id, 4 bytes that are ignored, and the part.
+const XSAVE: [u8; 12] = [3, 0, 0, 0, 9, 9, 9, 9, 77, 0, 0, 1];
+
+#[test]
+fn bodies_of_a_pv_guest(rt: HostRuntime) -> Result<(), Fail> {
+    let mut far = XSAVE;
+    far[1] = 16;
+    for (code, body, want) in [
+        (
+            PartCode::VcpuXsave,
+            far.as_slice(),
+            Some(Cause::VcpuId(4099)),
+        ),
+        (PartCode::VcpuXsave, &XSAVE[..7], Some(Cause::BadLength(7))),
+        (PartCode::SharedInfo, &XSAVE, Some(Cause::BadLength(12))),
+    ] {
+        assert_eq!(rt; body_fault(code, body), want);
     }
-    assert_eq!(rt; guest.part(key(4, 1, 0)), Some([7, 7, 7, 9].as_slice()));
-    assert_eq!(rt; guest.part(key(4, 0, 9)), Some([5].as_slice()));
-    assert!(rt; guest.part_mut(key(3, 7, 7)).is_some());
-    assert!(rt; guest.part_mut(key(4, 1, 1)).is_none());
-    assert_eq!(rt; guest.part(key(17, 0, 0)), Some([6].as_slice()));
+    let mut guest = Guest::new(rt.alloc(), Kind::Pv);
+    // an empty part is none
+    assert_eq!(rt; body_fault(PartCode::VcpuXsave, &XSAVE[..8]), None);
+    read_body(&mut guest, PartCode::VcpuXsave, &XSAVE[..8])?;
+    assert_eq!(rt; guest.next_part(None), None);
+    assert_eq!(rt; body_fault(PartCode::VcpuXsave, &XSAVE), None);
+    read_body(&mut guest, PartCode::VcpuXsave, &XSAVE)?;
+    assert_eq!(rt; body_fault(PartCode::SharedInfo, &[5; 4096]), None);
+    read_body(&mut guest, PartCode::SharedInfo, &[5; 4096])?;
+    has(
+        &rt,
+        &guest,
+        &[(key(6, 3, 0), &XSAVE[8..]), (key(7, 0, 0), &[5; 4096])],
+    );
     Ok(())
 }

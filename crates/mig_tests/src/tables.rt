@@ -1,0 +1,186 @@
+use mig_bytes::MemSink;
+use mig_headers::{Cause, Kind, RecordType, is_optional, put_cause};
+use mig_order::Gate;
+use mig_pagetypes::PageType;
+use mig_policy::canonical_pairs;
+use mig_records::words_fault;
+use std::test::Fail;
+
+// Number, whether the type is supported, whether it stands in PV and in HVM guests, a length that it may have, and one
+// that it may not have; u32::MAX where it may have any.
+const RECORD_TYPES: [(u32, bool, bool, bool, u32, u32); 23] = [
+    (0x0, true, true, true, 0, 8),
+    (0x1, true, true, true, 8, 7),
+    (0x2, true, true, false, 8, 9),
+    (0x3, true, true, false, 16, 0),
+    (0x4, true, true, false, 5176, 5168),
+    (0x4, true, true, false, 8, 0),
+    (0x5, true, true, false, 8, 7),
+    (0x6, true, true, false, 9, 7),
+    (0x7, true, true, false, 4096, 4095),
+    (0x8, true, true, true, 24, 20),
+    (0x9, true, false, true, 0, u32::MAX),
+    (0xA, true, false, true, 8, 4),
+    (0xB, false, true, true, 0, u32::MAX),
+    (0xC, true, true, false, 8, 16),
+    (0xC, true, true, false, 24, 0),
+    (0xD, false, true, true, 0, u32::MAX),
+    (0xE, false, true, true, 0, u32::MAX),
+    (0xF, false, true, true, 0, u32::MAX),
+    (0x10, true, true, true, 0, 1),
+    (0x11, true, true, true, 1_572_864, 1_572_888),
+    (0x11, true, true, true, 0, 16),
+    (0x12, true, true, true, 1_048_576, 1_048_592),
+    (0x12, true, true, true, 16, 24),
+];
+
+#[test]
+fn knows_record_types(rt: HostRuntime) -> Result<(), Fail> {
+    for (number, supported, pv, hvm, good, bad) in RECORD_TYPES {
+        let kind = RecordType::from_number(number).ok_or("no type")?;
+        assert_eq!(rt; kind.number(), number);
+        assert_eq!(rt; kind.is_supported(), supported, "{number}");
+        assert_eq!(rt; kind.is_of(Kind::Pv), pv, "{number}");
+        assert_eq!(rt; kind.is_of(Kind::Hvm), hvm, "{number}");
+        assert!(rt; kind.allows_length(good), "{number}");
+        assert!(rt; bad == u32::MAX || !kind.allows_length(bad), "{number}");
+    }
+    assert_eq!(rt; RecordType::from_number(0x13), None);
+    assert!(rt; is_optional(0x8000_0000) && !is_optional(0x7fff_ffff));
+    Ok(())
+}
+
+// Those that no stream has so far, or only one of gigabytes.
+const CAUSES: [(Cause, &str); 13] = [
+    (Cause::Superpage(2, 511), "17 Superpage 2 511"),
+    (Cause::EntryOutside(1, 2, 99), "18 EntryOutside 1 2 99"),
+    (Cause::Pv32, "19 Pv32"),
+    (Cause::BadPvInfo, "20 BadPvInfo"),
+    (Cause::P2mStart(1), "21 P2mStart 1"),
+    (Cause::P2mRange(268_435_456), "22 P2mRange 268435456"),
+    (Cause::VcpuId(4096), "23 VcpuId 4096"),
+    (Cause::GdtEnts(8193), "24 GdtEnts 8193"),
+    (Cause::P2mFrame(0), "28 P2mFrame 0"),
+    (Cause::TargetAbsent(4, 1), "29 TargetAbsent 4 1"),
+    (Cause::VcpuFrame(0, 17), "30 VcpuFrame 0 17"),
+    (Cause::TooManyRecords, "31 TooManyRecords"),
+    (Cause::TooManyFrames, "32 TooManyFrames"),
+];
+
+#[test]
+fn prints_causes(rt: HostRuntime) {
+    for (cause, want) in CAUSES {
+        let mut sink = MemSink::new(rt.alloc(), Vec::new(rt.alloc()));
+        assert_eq!(rt; put_cause(&mut sink, cause), Ok(()));
+        assert_eq!(rt; sink.bytes(), want.as_bytes());
+    }
+}
+
+// Number, the type, whether a page comes with it, and its level as a table.
+const PAGE_TYPES: [(u8, Option<PageType>, bool, Option<u8>); 18] = [
+    (0, Some(PageType::Notab), true, None),
+    (1, Some(PageType::L1Tab), true, Some(1)),
+    (2, Some(PageType::L2Tab), true, Some(2)),
+    (3, Some(PageType::L3Tab), true, Some(3)),
+    (4, Some(PageType::L4Tab), true, Some(4)),
+    (5, None, false, None),
+    (6, None, false, None),
+    (7, None, false, None),
+    (8, None, false, None),
+    (9, Some(PageType::L1Pinned), true, Some(1)),
+    (10, Some(PageType::L2Pinned), true, Some(2)),
+    (11, Some(PageType::L3Pinned), true, Some(3)),
+    (12, Some(PageType::L4Pinned), true, Some(4)),
+    (13, Some(PageType::Broken), false, None),
+    (14, Some(PageType::Xalloc), false, None),
+    (15, Some(PageType::Xtab), false, None),
+    (16, None, false, None),
+    (255, None, false, None),
+];
+
+#[test]
+fn knows_page_types(rt: HostRuntime) {
+    for (number, kind, data, level) in PAGE_TYPES {
+        assert_eq!(rt; PageType::from_nibble(number), kind, "type {number}");
+        if let Some(known) = kind {
+            assert_eq!(rt; known.nibble(), number);
+            assert_eq!(rt; known.has_data(), data, "data of {number}");
+            assert_eq!(rt; known.table_level(), level, "level of {number}");
+        }
+    }
+}
+
+// Of a PV guest whose last frame is 8: NOTAB 7, XTAB 5, a pinned L4TAB 9 with ignored bits set.
+#[test]
+fn frames_of_a_pv_guest(rt: HostRuntime) {
+    let words = [7, 0xf000_0000_0000_0005, 0xcff0_0000_0000_0009];
+    for (top, want) in [
+        (9, None),
+        (8, Some(Cause::PfnOutside(2, 9))),
+        (6, Some(Cause::PfnOutside(0, 7))),
+    ] {
+        assert_eq!(rt; words_fault(Kind::Pv, top, &words), want);
+    }
+}
+
+// Version, and types of records of a PV guest, which no stream has so far; what the last of them comes to, each before
+// it passes.
+const ORDERS: [(u32, &[u32], Result<(), Cause>); 13] = [
+    (
+        3,
+        &[2, 0x11, 0x12, 0x10, 3, 1, 1, 3, 8, 7, 4, 5, 6, 0xC, 4, 0],
+        Ok(()),
+    ),
+    (2, &[2, 3, 1, 1, 8, 7, 4, 5, 6, 0xC, 0], Ok(())),
+    (2, &[2, 0x10, 3, 1, 0], Ok(())),
+    (2, &[2, 3, 1, 9], Err(Cause::WrongKind(9))),
+    (3, &[0x10, 2], Err(Cause::OutOfOrder(2))),
+    (3, &[2, 3], Err(Cause::OutOfOrder(3))),
+    (2, &[2, 2], Err(Cause::OutOfOrder(4))),
+    (2, &[8, 3], Err(Cause::OutOfOrder(5))),
+    (3, &[0x10, 4, 3], Err(Cause::OutOfOrder(5))),
+    (2, &[2, 1], Err(Cause::OutOfOrder(6))),
+    (2, &[4, 1], Err(Cause::OutOfOrder(6))),
+    (3, &[2, 0x10, 3, 1, 0xC, 1], Err(Cause::OutOfOrder(7))),
+    (2, &[2, 3, 5, 1], Err(Cause::OutOfOrder(7))),
+];
+
+#[test]
+fn orders_of_a_pv_guest(rt: HostRuntime) {
+    for (version, types, want) in ORDERS {
+        let mut gate = Gate::new(version, Kind::Pv);
+        let mut come = Ok(());
+        for number in types {
+            assert_eq!(rt; come, Ok(()), "before {number}");
+            come = gate.step(*number);
+        }
+        assert_eq!(rt; come, want);
+    }
+}
+
+// Bytes, and whether they are canonical pairs of texts.
+const PAIRS: [(&[u8], bool); 16] = [
+    (b"", true),
+    (b"a\0\0", true),
+    (b"a\0b\0aa\0c\0b\0d\0", true),
+    (b"-/09@AZ_az\0\x01 =.\x7f\xff\0", true),
+    (b"\0", false),
+    (b"\0b\0", false),
+    (b"a.b\0c\0", false),
+    (b"a b\0c\0", false),
+    (b"a\x80\0c\0", false),
+    (b"a\0b\0a\0b\0", false),
+    (b"b\0c\0a\0d\0", false),
+    (b"aa\0c\0a\0d\0", false),
+    (b"a\0b\0\0c\0", false),
+    (b"a", false),
+    (b"a\0", false),
+    (b"a\0b", false),
+];
+
+#[test]
+fn knows_canonical_pairs(rt: HostRuntime) {
+    for (bytes, want) in PAIRS {
+        assert_eq!(rt; canonical_pairs(bytes), want, "{bytes:?}");
+    }
+}
