@@ -1,12 +1,15 @@
 -- How records, tables and the whole stream are spelled, piece by piece.
 use Rattle.std.specs.Prelude.{◌⊎◌}
 use mathlib.Core.Logic.{inl, inr}
-use Rattle.std.proofs.Common.{◌≡◌, ℕ, suc, ◌+◌, ◌-◌, ◌<◌, List, [], ◌∷◌, ◌++◌, length, replicate, map, Bool, true, false, refl, sym, ap, subst, ◌∙◌, arith, length-append, append-nil, append_assoc}
+use Rattle.std.proofs.Common.{◌≡◌, ℕ, suc, ◌+◌, ◌-◌, ◌<◌, ◌≤◌, List, [], ◌∷◌, ◌++◌, length, take, drop, replicate, map, Bool, true, false, refl, sym, ap, subst, ◌∙◌, arith, length-append, append-nil, append_assoc}
 use Rattle.std.proofs.lemmas.Grind.{flat_map-append}
-use Rattle.std.proofs.lemmas.List.{length-replicate, replicate-append-replicate}
+use Rattle.std.proofs.lemmas.List.{length-replicate, replicate-append-replicate, take-append-le}
+use Rattle.std.proofs.Math.Seq.{take-append-add}
 use Rattle.std.specs.List.{flat_map}
 use Rattle.byteorder.specs.Endian.{little_bytes}
 use Rattle.byteorder.specs.Numbers.{length-bytes_low_first}
+use Rattle.byteorder.proofs.Bytes.{take-bytes_low_first}
+use Rattle.mig_bytes.specs.Fields.{with_field}
 use Rattle.mig_bytes.specs.Bytes.{padding_len}
 use Rattle.mig_guest.specs.Guests.{GuestOf}
 use Rattle.mig_guest.specs.Parts.{Part}
@@ -23,13 +26,13 @@ use Rattle.mig_canon.specs.Pieces.{piece}
 
 -- ---- a record
 
+pub record_text : (type n : ℕ) (body : List ℕ) → n ≡ length body → spelled type body ≡ head_of type n ++ (body ++ replicate (padding_len n) 0)
+unfolding spelled
+record_text type n body size = ap (λ m. head_of type m ++ (body ++ replicate (padding_len m) 0)) (sym size)
+
 -- a body whose length is a multiple of 8
 pub spelled_flat : (type n : ℕ) (body : List ℕ) → length body ≡ n → padding_len n ≡ 0 → spelled type body ≡ head_of type n ++ body
-unfolding spelled
-spelled_flat type n body size none =
-    ap (λ m. head_of type m ++ (body ++ replicate (padding_len m) 0)) size
-    ∙ ap (λ m. head_of type n ++ (body ++ replicate m 0)) none
-    ∙ ap (λ l. head_of type n ++ l) (append-nil body)
+spelled_flat type n body size none = record_text type n body (sym size) ∙ ap (λ m. head_of type n ++ (body ++ replicate m 0)) none ∙ ap (λ l. head_of type n ++ l) (append-nil body)
 
 pub text_one : (type : ℕ) (body : List ℕ) → text_of ((type, body) ∷ []) ≡ spelled type body
 text_one type body = append-nil (spelled type body)
@@ -90,9 +93,6 @@ code_table code l g n len is count some size =
     let ps = parts_at code g in let type = code_number code in
     subst (λ s. text_of (records type (bodies_by_shape s ps)) ≡ head_of type len ++ (front_text l.counted n ++ (flat_map (piece s type) ps ++ replicate (padding_len len) 0))) (sym is) (table_record type l ps n len count some size)
 
-pub code_none : (code : PartCode) (l : Layout) (g : GuestOf) (n : ℕ) → shape_of code ≡ Table l → n ≡ length (parts_at code g) → n ≡ 0 → text_of (records_of code g) ≡ []
-code_none code l g n is count none = ap (λ s. text_of (records (code_number code) (bodies_by_shape s (parts_at code g)))) is ∙ no_table (code_number code) l (parts_at code g) (sym count ∙ none)
-
 -- the records of a code whose parts have one each
 pub code_each : (code : PartCode) (shape : Shape) (g : GuestOf) → shape_of code ≡ shape → is_table shape ≡ false → text_of (records_of code g) ≡ flat_map (piece (shape_of code) (code_number code)) (parts_at code g)
 code_each code shape g is other = each_text (code_number code) (shape_of code) (parts_at code g) (ap is_table is ∙ other)
@@ -103,25 +103,31 @@ pub zeros_split : (i n : ℕ) → i < n → replicate {A = ℕ} n 0 ≡ replicat
 zeros_split i n less = ap (λ m. replicate {A = ℕ} m 0) (let e : n ≡ i + suc (n - i - 1) = omega arith in e) ∙ sym (replicate-append-replicate {A = ℕ} i (suc (n - i - 1)) 0)
 
 pub single_text : (type len ignored : ℕ) (value : List ℕ) → len ≡ length value + ignored → spelled type (value ++ replicate ignored 0) ≡ head_of type len ++ (value ++ (replicate ignored 0 ++ replicate (padding_len len) 0))
-unfolding spelled
 single_text type len ignored value is =
     let zeros : List ℕ = replicate ignored 0 in
-    ap (λ m. head_of type m ++ ((value ++ zeros) ++ replicate (padding_len m) 0)) (length-append value zeros ∙ ap (λ m. length value + m) (length-replicate ignored 0) ∙ sym is)
-    ∙ ap (λ l. head_of type len ++ l) (append_assoc value zeros (replicate (padding_len len) 0))
+    record_text type len (value ++ zeros) (omega (arith, is, length-append value zeros, length-replicate {A = ℕ} ignored 0)) ∙ ap (λ l. head_of type len ++ l) (append_assoc value zeros (replicate (padding_len len) 0))
 
 pub named_len : (key1 key2 second ignored : ℕ) (value : List ℕ) → length (little_bytes 4 key1 ++ (little_bytes second key2 ++ (replicate ignored 0 ++ value))) ≡ 4 + second + ignored + length value
 named_len key1 key2 second ignored value =
     let two = little_bytes second key2 in let zeros : List ℕ = replicate ignored 0 in
     omega (arith, length-append (little_bytes 4 key1) (two ++ (zeros ++ value)), length-append two (zeros ++ value), length-append zeros value, length-bytes_low_first 0 second key2, length-replicate {A = ℕ} ignored 0)
 
-pub named_text : (type len key1 key2 second ignored : ℕ) (value : List ℕ) → len ≡ 4 + second + ignored + length value
-    → spelled type (little_bytes 4 key1 ++ (little_bytes second key2 ++ (replicate ignored 0 ++ value))) ≡ head_of type len ++ ((little_bytes 4 key1 ++ (little_bytes second key2 ++ replicate ignored 0)) ++ (value ++ replicate (padding_len len) 0))
-unfolding spelled
-named_text type len key1 key2 second ignored value is =
-    let one = little_bytes 4 key1 in let two = little_bytes second key2 in let zeros : List ℕ = replicate ignored 0 in let pad : List ℕ = replicate (padding_len len) 0 in
-    ap (λ m. head_of type m ++ ((one ++ (two ++ (zeros ++ value))) ++ replicate (padding_len m) 0)) (named_len key1 key2 second ignored value ∙ sym is)
-    ∙ ap (λ l. head_of type len ++ l) (append_assoc one (two ++ (zeros ++ value)) pad ∙ ap (λ l. one ++ l) (append_assoc two (zeros ++ value) pad ∙ ap (λ l. two ++ l) (append_assoc zeros value pad) ∙ sym (append_assoc two zeros (value ++ pad)))
-    ∙ sym (append_assoc one (two ++ zeros) (value ++ pad)))
+-- the lowest bytes of a number, which are the first of a field
+low_bytes : (width number : ℕ) (more : List ℕ) → width ≤ 8 → take width (little_bytes 8 number ++ more) ≡ little_bytes width number
+low_bytes width number more small = take-append-le width (little_bytes 8 number) more small ∙ take-bytes_low_first 0 8 width number small
+
+-- a buffer in which a number is written, and behind its lowest bytes another
+pub numbers_text : (first second one two : ℕ) (buffer once twice : List ℕ) → first ≤ 8 → second ≤ 8 → once ≡ with_field buffer 0 (little_bytes 8 one) → twice ≡ with_field once first (little_bytes 8 two)
+    → little_bytes first one ++ little_bytes second two ≡ take (first + second) twice
+numbers_text first second one two buffer once twice a b put again =
+    let field = little_bytes first one in let behind = little_bytes 8 two ++ drop (first + 8) once in
+    ap (λ l. field ++ l) (sym (low_bytes second two (drop (first + 8) once) b)) ∙ sym (take-append-add field behind second)
+    ∙ ap (λ n. take (n + second) (field ++ behind)) (length-bytes_low_first 0 first one)
+    ∙ ap (λ l. take (first + second) (l ++ behind)) (sym (ap (take first) put ∙ low_bytes first one (drop 8 buffer) a)) ∙ ap (take (first + second)) (sym again)
+
+-- the numbers of a key, zeros and a value
+pub keyed_text : (first second ignored key1 key2 : ℕ) (value : List ℕ) → little_bytes first key1 ++ (little_bytes second key2 ++ (replicate ignored 0 ++ value)) ≡ (little_bytes first key1 ++ little_bytes second key2) ++ (replicate ignored 0 ++ value)
+keyed_text first second ignored key1 key2 value = sym (append_assoc (little_bytes first key1) (little_bytes second key2) (replicate ignored 0 ++ value))
 
 -- ---- the stream
 

@@ -13,18 +13,27 @@ ghost use Rattle.mig_canon.specs.Canon.{records_of, text_of};
 ghost use Rattle.mig_canon.specs.Pieces.{piece, IsShortPart};
 
 use mig_bodies::{Layout, Shape, shape_of};
-use mig_bytes::{Sink, WriteFailed, put_all};
+use mig_bytes::{Sink, WriteFailed, put_all, put_u64_le};
 use mig_guest::{Guest, PartCode, PartKey};
 use mig_records::{write_head, write_padding, write_record};
 
-/// Appends the lowest bytes of a number, the lowest first.
-fn write_number<K: Sink>(sink: &mut K, width: usize, number: u32) -> Result<(), WriteFailed>
-    requires { width ≤ 8 }
-    ensures bytes { Puts (little_bytes width number) (K.written sink.old) (K.written sink.new) result }
+/// Appends the lowest bytes of two numbers, of each the lowest first.
+fn write_numbers<K: Sink>(
+    sink: &mut K,
+    first: usize,
+    one: u32,
+    second: usize,
+    two: u32,
+) -> Result<(), WriteFailed>
+    requires first { first ≤ 8 }
+    requires second { second ≤ 8 }
+    ensures bytes { Puts (little_bytes first one ++ little_bytes second two) (K.written sink.old) (K.written sink.new) result }
     ensures cause { HasCause (K.faults sink.old) (K.faults sink.new) result }
 {
-    let bytes = u64::from(number).to_le_bytes();
-    put_all(sink, &bytes[..width])
+    let mut bytes = [0; 16];
+    put_u64_le(&mut bytes, 0, u64::from(one));
+    put_u64_le(&mut bytes, first, u64::from(two));
+    put_all(sink, &bytes[..first + second])
 }
 
 /// Appends so many zero bytes.
@@ -43,8 +52,7 @@ pub(crate) fn write_count<K: Sink>(sink: &mut K, count: u32) -> Result<(), Write
     ensures bytes { Puts (little_bytes 4 count ++ replicate 4 0) (K.written sink.old) (K.written sink.new) result }
     ensures cause { HasCause (K.faults sink.old) (K.faults sink.new) result }
 {
-    write_number(sink, 4, count)?;
-    write_number(sink, 4, 0)
+    write_numbers(sink, 4, count, 4, 0)
 }
 
 /// Appends what stands before the entries of a table: their number, where it has it.
@@ -59,19 +67,22 @@ fn write_front<K: Sink>(sink: &mut K, layout: Layout, count: u32) -> Result<(), 
     }
 }
 
-/// Appends an entry of a table.
-fn write_entry<K: Sink>(
+/// Appends the numbers of a key, each in so many bytes, so many zeros, and a value.
+fn write_keyed<K: Sink>(
     sink: &mut K,
-    layout: Layout,
+    first: usize,
+    second: usize,
+    ignored: usize,
     key: PartKey,
     value: &[u8],
 ) -> Result<(), WriteFailed>
-    requires { AreWidths layout }
-    ensures bytes { Puts (entry_text layout (key, value.now)) (K.written sink.old) (K.written sink.new) result }
+    requires first { first ≤ 8 }
+    requires second { second ≤ 8 }
+    ensures bytes { Puts (little_bytes first key.key1 ++ (little_bytes second key.key2 ++ (replicate ignored 0 ++ value.now))) (K.written sink.old) (K.written sink.new) result }
     ensures cause { HasCause (K.faults sink.old) (K.faults sink.new) result }
 {
-    write_number(sink, layout.key1_width, key.key1)?;
-    write_number(sink, layout.key2_width, key.key2)?;
+    write_numbers(sink, first, key.key1, second, key.key2)?;
+    write_zeros(sink, ignored)?;
     put_all(sink, value)
 }
 
@@ -93,22 +104,6 @@ fn write_single<K: Sink>(
     write_padding(sink, len)
 }
 
-/// Appends the numbers of a key, the second in so many bytes, and so many zeros.
-fn write_names<K: Sink>(
-    sink: &mut K,
-    key: PartKey,
-    second: usize,
-    ignored: usize,
-) -> Result<(), WriteFailed>
-    requires { second ≤ 4 }
-    ensures bytes { Puts (little_bytes 4 key.key1 ++ (little_bytes second key.key2 ++ replicate ignored 0)) (K.written sink.old) (K.written sink.new) result }
-    ensures cause { HasCause (K.faults sink.old) (K.faults sink.new) result }
-{
-    write_number(sink, 4, key.key1)?;
-    write_number(sink, second, key.key2)?;
-    write_zeros(sink, ignored)
-}
-
 /// Appends the record of a part with its key.
 fn write_named<K: Sink>(
     sink: &mut K,
@@ -125,8 +120,7 @@ fn write_named<K: Sink>(
 {
     let len = (4 + second + ignored + value.len()) as u32;
     write_head(sink, number, len)?;
-    write_names(sink, key, second, ignored)?;
-    put_all(sink, value)?;
+    write_keyed(sink, 4, second, ignored, key, value)?;
     write_padding(sink, len)
 }
 
@@ -145,7 +139,14 @@ fn write_piece<K: Sink>(
 {
     let number = code.number();
     match shape {
-        Shape::Table(layout) => write_entry(sink, layout, key, value),
+        Shape::Table(layout) => write_keyed(
+            sink,
+            layout.key1_width,
+            layout.key2_width,
+            0,
+            key,
+            value,
+        ),
         Shape::Single(_, ignored) => write_single(sink, number, ignored, value),
         Shape::Named(second, ignored, _) => write_named(sink, number, key, second, ignored, value),
         Shape::Chain => write_record(sink, number, value),
