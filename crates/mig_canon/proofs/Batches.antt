@@ -1,19 +1,17 @@
 -- Batches of frames one after another.
-use Rattle.std.specs.Prelude.{◌⊎◌}
-use mathlib.Core.Logic.{inl, inr}
-use Rattle.std.proofs.Common.{⊎_elim, zero, replicate, le_refl, ◌≡◌, ℕ, suc, ◌+◌, ◌-◌, ◌*◌, ◌<◌, ◌≤◌, min, List, [], ◌∷◌, ◌++◌, length, take, drop, Bool, true, false, cond, nat_le, refl, sym, ap, ◌∙◌, arith, drop-drop, length-append, append_assoc, append-nil}
+use Rattle.std.proofs.Common.{replicate, ◌≡◌, ℕ, suc, ◌+◌, ◌-◌, ◌*◌, ◌<◌, ◌≤◌, min, List, [], ◌∷◌, ◌++◌, length, take, drop, true, cond, nat_le, refl, sym, ap, ◌∙◌, arith, drop-drop, drop-cons, length-append}
 use Rattle.std.proofs.lemmas.Grind.{common_steps}
-use Rattle.std.proofs.lemmas.List.{length-drop, length-take, take_all, drop_all}
-use Rattle.std.proofs.lemmas.List.FromFn.{map-range_with_len_more}
+use Rattle.std.proofs.lemmas.List.{length-drop, length-take, take_all, take_min, drop_min}
+use Rattle.std.proofs.lemmas.List.FromFn.{length-map-range_with_len, get_or-map-range_with_len}
 use Rattle.byteorder.specs.Endian.{little_bytes}
 use Rattle.mig_bytes.specs.Bytes.{padding_len}
 use Rattle.mig_bytes.specs.Fields.{with_field}
 use Rattle.std.proofs.Math.Seq.{take-append-add}
 use Rattle.mig_guest.specs.Frames.{entries_from}
 use Rattle.mig_records.specs.Records.{head_of, spelled}
-use Rattle.mig_canon.specs.Canon.{Frame, batch, frame_word_in, page_in, words_of, pages_of, body_of, frame_bodies, text_of}
+use Rattle.mig_canon.specs.Canon.{Frame, Record, batch, frame_word_in, page_in, words_of, pages_of, body_of, frame_bodies}
 use Rattle.mig_canon.proofs.Steps.{flat_next}
-use Rattle.mig_canon.proofs.Spelling.{spelled_flat, text_join, text_one}
+use Rattle.mig_canon.proofs.Spelling.{spelled_flat}
 
 -- ---- the cursor at the first frame
 
@@ -56,61 +54,32 @@ some_text fs n pages le len = batch_text (take n fs) n pages (omega (arith, leng
 
 -- ---- all batches
 
-le_of : (p q : ℕ) → nat_le p q ≡ true → p ≤ q
-le_of p q h = grind (arith, common_steps)
-
-lt_of : (p q : ℕ) → nat_le p q ≡ false → q < p
-lt_of p q h = grind (arith, common_steps)
-
-min_case : (n : ℕ) (b : Bool) → nat_le 1024 n ≡ b → (min n 1024 ≡ 1024) ⊎ ((min n 1024 ≡ n) × (n ≤ 1024))
-min_case n true h = inl (omega (arith, le_of 1024 n h))
-min_case n false h = inr (omega (arith, lt_of 1024 n h), omega (arith, lt_of 1024 n h))
-
-take_min : (fs : List Frame) → take (min (length fs) 1024) fs ≡ take 1024 fs
-take_min fs = ⊎_elim (λ e. ap (λ n. take n fs) e) (λ e. ap (λ n. take n fs) e.0 ∙ take_all (length fs) fs (le_refl (length fs)) ∙ sym (take_all 1024 fs e.1)) (min_case (length fs) (nat_le 1024 (length fs)) refl)
-
-drop_min : (fs : List Frame) → drop (min (length fs) 1024) fs ≡ drop 1024 fs
-drop_min fs = ⊎_elim (λ e. ap (λ n. drop n fs) e) (λ e. ap (λ n. drop n fs) e.0 ∙ drop_all (length fs) fs (le_refl (length fs)) ∙ sym (drop_all 1024 fs e.1)) (min_case (length fs) (nat_le 1024 (length fs)) refl)
-
 -- a count of frames that is the next batch's
 pub record Counted (fs at : List Frame) (k count : ℕ) : Type 0 where
-  pub size : count ≡ min (length at) 1024
+  pub size : count ≡ min 1024 (length at)
   pub batch_is : take count at ≡ batch fs k
   pub next_is : drop count at ≡ drop (1024 * (k + 1)) fs
 
-pub counted : (fs at : List Frame) (k count total : ℕ) → at ≡ drop (1024 * k) fs → total ≡ length fs → count ≡ min (total - 1024 * k) 1024 → Counted fs at k count
+pub counted : (fs at : List Frame) (k count total : ℕ) → at ≡ drop (1024 * k) fs → total ≡ length fs → count ≡ min 1024 (total - 1024 * k) → Counted fs at k count
 counted fs at k count total is all n =
-    let size : count ≡ min (length at) 1024 = n ∙ ap (λ m. min m 1024) (ap (λ m. m - 1024 * k) all ∙ sym (length-drop (1024 * k) fs) ∙ ap length (sym is)) in
+    let size : count ≡ min 1024 (length at) = n ∙ ap (λ m. min 1024 (m - 1024 * k)) all ∙ ap (min 1024) (sym (length-drop (1024 * k) fs) ∙ ap length (sym is)) in
     record {
       size = size;
-      batch_is = ap (λ m. take m at) size ∙ take_min at ∙ ap (take 1024) is;
-      next_is = ap (λ m. drop m at) size ∙ drop_min at ∙ ap (drop 1024) is ∙ drop-drop 1024 (1024 * k) fs ∙ ap (λ m. drop m fs) (let e : 1024 * k + 1024 ≡ 1024 * (k + 1) = omega arith in e);
+      batch_is = ap (λ m. take m at) size ∙ take_min 1024 at ∙ ap (take 1024) is;
+      next_is = ap (λ m. drop m at) size ∙ drop_min 1024 at ∙ ap (drop 1024) is ∙ drop-drop 1024 (1024 * k) fs ∙ ap (λ m. drop m fs) (let e : 1024 * k + 1024 ≡ 1024 * (k + 1) = omega arith in e);
     }
 
-bodies_more : (fs : List Frame) (n : ℕ) → frame_bodies fs (n + 1) ≡ frame_bodies fs n ++ (1, body_of (batch fs n)) ∷ []
-bodies_more fs n = map-range_with_len_more (λ k. (1, body_of (batch fs k))) 0 n n (omega arith)
+module _ (fs : List Frame) (n : ℕ) where
+  bodies_len : length (frame_bodies fs n) ≡ n
+  bodies_len = length-map-range_with_len (λ k. (1, body_of (batch fs k))) 0 n
 
-pub frames_more : (fs : List Frame) (k : ℕ) → text_of (frame_bodies fs (k + 1)) ≡ text_of (frame_bodies fs k) ++ spelled 1 (body_of (batch fs k))
-frames_more fs k = ap text_of (bodies_more fs k) ∙ text_join (frame_bodies fs k) ((1, body_of (batch fs k)) ∷ []) ∙ ap (λ l. text_of (frame_bodies fs k) ++ l) (text_one 1 (body_of (batch fs k)))
+  pub batch_next : (k : ℕ) → k < n → drop k (frame_bodies fs n) ≡ (1, body_of (batch fs k)) ∷ drop (suc k) (frame_bodies fs n)
+  batch_next k less =
+      let one : ℕ → Record = λ i. (1, body_of (batch fs i)) in
+      drop-cons (frame_bodies fs n) k (one k) (omega (arith, less, bodies_len)) ∙ ap (λ r. r ∷ drop (suc k) (frame_bodies fs n)) (get_or-map-range_with_len one 0 n k k (one k) less (omega arith))
 
-record More (fs : List Frame) (k n : ℕ) : Type 0 where
-  more : List ℕ
-  is : text_of (frame_bodies fs n) ≡ text_of (frame_bodies fs k) ++ more
-
-more_of : (fs : List Frame) (k j : ℕ) → More fs k (k + j)
-more_of fs k zero = record { more = []; is = ap (λ n. text_of (frame_bodies fs n)) (let e : k + 0 ≡ k = omega arith in e) ∙ sym (append-nil (text_of (frame_bodies fs k))) }
-more_of fs k (suc j) =
-    let m = more_of fs k j in
-    record {
-      more = m.more ++ spelled 1 (body_of (batch fs (k + j)));
-      is = ap (λ n. text_of (frame_bodies fs n)) (let e : k + suc j ≡ (k + j) + 1 = omega arith in e) ∙ frames_more fs (k + j) ∙ ap (λ l. l ++ spelled 1 (body_of (batch fs (k + j)))) m.is ∙ append_assoc (text_of (frame_bodies fs k)) m.more _;
-    }
-
--- the batches up to one, it, and the rest
-pub frames_split : (fs : List Frame) (k n : ℕ) → k < n → (more : List ℕ) × (text_of (frame_bodies fs n) ≡ text_of (frame_bodies fs k) ++ (spelled 1 (body_of (batch fs k)) ++ more))
-frames_split fs k n less =
-    let m = more_of fs (k + 1) (n - (k + 1)) in
-    (m.more, ap (λ i. text_of (frame_bodies fs i)) (let e : n ≡ (k + 1) + (n - (k + 1)) = omega arith in e) ∙ m.is ∙ ap (λ l. l ++ m.more) (frames_more fs k) ∙ append_assoc (text_of (frame_bodies fs k)) (spelled 1 (body_of (batch fs k))) m.more)
+  pub all_bodies : (k : ℕ) → k ≡ n → take k (frame_bodies fs n) ≡ frame_bodies fs n
+  all_bodies k all = take_all k (frame_bodies fs n) (omega (arith, bodies_len, all))
 
 -- ---- the words in a buffer
 

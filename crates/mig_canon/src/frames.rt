@@ -130,7 +130,7 @@ pub(crate) fn write_frames<K: Sink>(sink: &mut K, guest: &Guest) -> Result<(), W
     let total = guest.frames();
     let mut from = 0;
     for k in 0..total.div_ceil(BATCH) {
-        let count = (total - BATCH * k).min(BATCH);
+        let count = BATCH.min(total - BATCH * k);
         from = write_batch(sink, guest, from, count as u32)?;
     }
     Ok(())

@@ -1,12 +1,12 @@
-use Rattle.std.proofs.Common.{◌≡◌, ◌*◌, drop}
+use Rattle.std.proofs.Common.{◌≡◌, ◌*◌, take, drop}
 use Rattle.std.specs.Io.KnownBytes.{Appends}
 use Rattle.mig_guest.specs.Frames.{entries_from}
-use Rattle.mig_canon.specs.Canon.{text_of, frame_bodies, frames_in}
+use Rattle.mig_canon.specs.Canon.{batches, text_of, frame_bodies, frames_in}
 use Rattle.mig_canon.proofs.frames.write_frames.Given as goal
 
 abbrev pub invariant-loop-k : goal.invariant-loop-k
 invariant-loop-k g l = record {
   at : entries_from l.from (frames_in l.guest) ≡ drop (1024 * l.k) (frames_in l.guest);
-  bytes : Appends (g.K.Sink.written l.fn.sink) (g.K.Sink.written l.sink) (text_of (frame_bodies (frames_in l.guest) l.k));
+  bytes : Appends (g.K.Sink.written l.fn.sink) (g.K.Sink.written l.sink) (text_of (take l.k (frame_bodies (frames_in l.guest) (batches (frames_in l.guest)))));
   quiet : g.K.Sink.faults l.sink ≡ g.K.Sink.faults l.fn.sink;
 }
