@@ -1,6 +1,4 @@
 -- How records, tables and the whole stream are spelled, piece by piece.
-use Rattle.std.specs.Prelude.{◌⊎◌}
-use mathlib.Core.Logic.{inl, inr}
 use Rattle.std.proofs.Common.{◌≡◌, ℕ, suc, ◌+◌, ◌-◌, ◌<◌, ◌≤◌, List, [], ◌∷◌, ◌++◌, length, take, drop, replicate, map, Bool, true, false, refl, sym, ap, subst, ◌∙◌, arith, length-append, append-nil, append_assoc}
 use Rattle.std.proofs.lemmas.Grind.{flat_map-append}
 use Rattle.std.proofs.lemmas.List.{length-replicate, replicate-append-replicate, take-append-le}
@@ -46,11 +44,9 @@ abbrev pub is_table : Shape → Bool
 is_table (Table l) = true
 is_table shape = false
 
-pub no_table_is : (s : Shape) → ((x : ℕ) × (y : ℕ) × (s ≡ Single x y)) ⊎ (((x : ℕ) × (y : ℕ) × (b : Bool) × (s ≡ Named x y b)) ⊎ ((s ≡ Chain) ⊎ (s ≡ Other))) → is_table s ≡ false
-no_table_is s (inl (x, y, e)) = ap is_table e
-no_table_is s (inr (inl (x, y, b, e))) = ap is_table e
-no_table_is s (inr (inr (inl e))) = ap is_table e
-no_table_is s (inr (inr (inr e))) = ap is_table e
+pub no_table_is : (s : Shape) → ((l : Layout) → s ≡ Table l → ⊥) → is_table s ≡ false
+no_table_is (Table l) other = absurd (other l refl)
+no_table_is _ other = refl
 
 module _ (type : ℕ) where
   abbrev records : List (List ℕ) → List Record
@@ -71,10 +67,6 @@ module _ (type : ℕ) where
   each_text (Named second ignored skips) ps other = alone (part_body (Named second ignored skips)) ps
   each_text Chain ps other = alone (part_body Chain) ps
   each_text Other ps other = nothing ps
-
-  pub no_table : (l : Layout) (ps : List Part) → length ps ≡ 0 → text_of (records (bodies_by_shape (Table l) ps)) ≡ []
-  no_table l [] h = refl
-  no_table l (p ∷ ps) h = absurd (omega arith)
 
   pub table_record : (l : Layout) (ps : List Part) (n len : ℕ) → n ≡ length ps → (n ≡ 0 → ⊥) → len ≡ length (table_text l ps)
       → text_of (records (bodies_by_shape (Table l) ps)) ≡ head_of type len ++ (front_text l.counted n ++ (flat_map (piece (Table l) type) ps ++ replicate (padding_len len) 0))

@@ -215,10 +215,8 @@ pub(crate) fn write_parts<K: Sink>(
     ensures bytes { Puts (text_of (records_of code guest.now)) (K.written sink.old) (K.written sink.new) result }
     ensures cause { HasCause (K.faults sink.old) (K.faults sink.new) result }
 {
-    match shape_of(code) {
-        Shape::Table(layout) => write_table(sink, guest, code, layout),
-        Shape::Single(_, _) | Shape::Named(_, _, _) | Shape::Chain | Shape::Other => write_pieces(
-            sink, guest, code,
-        ),
+    if let Shape::Table(layout) = shape_of(code) {
+        return write_table(sink, guest, code, layout);
     }
+    write_pieces(sink, guest, code)
 }

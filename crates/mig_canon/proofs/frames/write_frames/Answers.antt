@@ -32,7 +32,7 @@ returns-in_err-from-clause-bytes g c =
     let this = counted fs (entries_from c.loop-k.from fs) k c.min-count.result c.frames-total.result c.loop-k.invariant.at (counts _ _ c.frames-total.ensures.count) c.min-count.ensures in
     let within : k < batches fs = subst (λ n. k < n) (c.div_ceil-k-end.ensures ∙ ap (λ n. div_ceil n 1024) (counts _ _ c.frames-total.ensures.count)) c.loop-k-test.true in
     puts_same _ _ _ _ r (ap text_of (sym (all_bodies fs (batches fs) (batches fs) refl)))
-    (walk_stop text_in all k (batches fs) (1, body_of (batch fs k)) _ _ _ _ _ _ r (batch_next fs (batches fs) k within) within c.loop-k.invariant.bytes c.from_residual.ensures.1
+    (walk_stop text_in all k (batches fs) (1, body_of (batch fs k)) _ _ _ _ _ r (batch_next fs (batches fs) k within) within c.loop-k.invariant.bytes c.from_residual.ensures.1
     (subst (λ l. AppendsPart (g.K.Sink.written c.loop-k.sink) (g.K.Sink.written c.write_batch.new.sink) (spelled 1 (body_of l))) this.batch_is c.in_err-from.ensures.bytes))
 
 pub loop-k-preserved : goal.loop-k-preserved

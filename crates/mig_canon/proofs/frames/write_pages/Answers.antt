@@ -9,7 +9,7 @@ pub returns-in_err-write_page-in-Some-clause-bytes : goal.returns-in_err-write_p
 returns-in_err-write_page-in-Some-clause-bytes g c =
     let all = entries_from c.args.start (frames_in c.args.guest.now) in
     let e : Frame = (c.in-Some.pfn, record { type = c.in-Some.field-0-1; page = option_copied c.in-Some.page }) in
-    walk_stop page_in all c.loop-i.i c.args.count e _ _ _ _ _ _ c.from_residual.result
+    walk_stop page_in all c.loop-i.i c.args.count e _ _ _ _ _ c.from_residual.result
     (sym c.loop-i.invariant.at ∙ c.in-Some.ensures.next) c.loop-i-test.true c.loop-i.invariant.bytes c.from_residual.ensures.1 c.in_err-write_page-in-Some.ensures.bytes
 
 pub returns-in-None-clause-bytes : goal.returns-in-None-clause-bytes

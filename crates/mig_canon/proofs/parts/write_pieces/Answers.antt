@@ -19,7 +19,7 @@ returns-in_err-write_piece-clause-bytes g c =
     let es = maps.entries c.args.guest.now.parts in let code = c.args.code in let e : Part = (c.in-Some.key, c.in-Some.value.now) in
     let is = next_part c.number.result (code_number code) c.loop-key.after es e c.number.ensures c.in-Some.ensures.next in
     let (done, split, before) = c.loop-key.invariant.bytes in
-    done_stop (piece (shape_of code) (code_number code)) (parts_at code c.args.guest.now) done _ e (split ∙ ap (λ l. done ++ l) is) _ _ _ _ c.from_residual.result before c.from_residual.ensures.1 (rw (c.shape_of.ensures) at c.in_err-write_piece.ensures.bytes)
+    done_stop (piece (shape_of code) (code_number code)) done e (parts_at code c.args.guest.now) _ _ _ _ _ c.from_residual.result (split ∙ ap (λ l. done ++ l) is) before c.from_residual.ensures.1 (rw (c.shape_of.ensures) at c.in_err-write_piece.ensures.bytes)
 
 pub loop-key-preserved : goal.loop-key-preserved
 loop-key-preserved g c =
@@ -27,9 +27,8 @@ loop-key-preserved g c =
     let is = next_part c.number.result (code_number code) c.loop-key.after es e c.number.ensures c.in-Some.ensures.next in
     let (done, split, before) = c.loop-key.invariant.bytes in
     let F = piece (shape_of code) (code_number code) in
-    let here = split ∙ ap (λ l. done ++ l) is in
     record {
       code = code_next _ c.loop-key.after es e _ is;
-      bytes = (done ++ e ∷ [], more_done F (parts_at code c.args.guest.now) done _ e here, done_on F (parts_at code c.args.guest.now) done _ e here _ _ _ before (rw (c.shape_of.ensures) at c.in_ok-write_piece.ensures.bytes));
+      bytes = (done ++ e ∷ [], more_done F done e (parts_at code c.args.guest.now) _ (split ∙ ap (λ l. done ++ l) is), done_on F done e _ _ _ before (rw (c.shape_of.ensures) at c.in_ok-write_piece.ensures.bytes));
       quiet = search rules;
     }
