@@ -91,6 +91,11 @@ fn front(letter: &str) -> &'static str {
     }
 }
 
+// The rows, of which a proof is to know nothing.
+fn refused() -> &'static [&'static str] {
+    &REFUSED
+}
+
 // Appends the bytes of words of hexadecimal digits, which are parted by one space.
 fn append(bytes: &mut Vec<u8>, alloc: Global, text: &str) -> Result<(), Fail> {
     for word in text.split(' ') {
@@ -99,17 +104,25 @@ fn append(bytes: &mut Vec<u8>, alloc: Global, text: &str) -> Result<(), Fail> {
     Ok(())
 }
 
-// The sample.
-fn sample(alloc: Global) -> Result<Vec<u8>, Fail> {
+fn around_the_page(alloc: Global, before: &[&str], behind: &[&str]) -> Result<Vec<u8>, Fail> {
     let mut bytes = Vec::new(alloc);
-    for text in BEFORE_THE_PAGE {
+    for text in before {
         append(&mut bytes, alloc, text)?;
     }
     bytes.extend_from_slice(&PAGE)?;
-    for text in BEHIND_THE_PAGE {
+    for text in behind {
         append(&mut bytes, alloc, text)?;
     }
     Ok(bytes)
+}
+
+fn sample(alloc: Global) -> Result<Vec<u8>, Fail> {
+    around_the_page(alloc, &BEFORE_THE_PAGE, &BEHIND_THE_PAGE)
+}
+
+// The sample, whose read of this number fails.
+fn source(alloc: Global, fails: u64) -> Result<MemSource, Fail> {
+    Ok(MemSource::new(sample(alloc)?, Vec::new(alloc), vec![in alloc; fails; 1]?))
 }
 
 // The line of what reading an image comes to.
@@ -128,22 +141,33 @@ fn line_of(alloc: Global, src: &mut MemSource) -> Result<MemSink, Fail> {
     Ok(line)
 }
 
-// What follows the image is left.
+// An image in pieces of 7 bytes comes to this line, and the three bytes behind it are left.
+fn is_refused(
+    rt: &impl Abort,
+    alloc: Global,
+    front: &str,
+    text: &str,
+    want: &str,
+) -> Result<(), Fail> {
+    let mut bytes = Vec::new(alloc);
+    append(&mut bytes, alloc, front)?;
+    append(&mut bytes, alloc, text)?;
+    bytes.extend_from_slice(&[1; 3])?;
+    let cuts = vec![in alloc; 7; 30]?;
+    let mut src = MemSource::new(bytes, cuts, Vec::new(alloc));
+    let line = line_of(alloc, &mut src)?;
+    assert_eq!(rt; line.bytes(), want.as_bytes(), "{text}");
+    assert_eq!(rt; skip(&mut src, 3), Ok(true), "{text}");
+    assert_eq!(rt; skip(&mut src, 1), Ok(false), "{text}");
+    Ok(())
+}
+
 #[test]
 fn images_are_refused(rt: HostRuntime) -> Result<(), Fail> {
-    for row in REFUSED {
+    for row in refused() {
         let (letter, rest) = row.split_once(' ').ok_or("no bytes")?;
         let (text, want) = rest.split_once(": ").ok_or("no line")?;
-        let mut bytes = Vec::new(rt.alloc());
-        append(&mut bytes, rt.alloc(), front(letter))?;
-        append(&mut bytes, rt.alloc(), text)?;
-        bytes.extend_from_slice(&[1; 3])?;
-        let cuts = vec![in rt.alloc(); 7; 30]?;
-        let mut src = MemSource::new(bytes, cuts, Vec::new(rt.alloc()));
-        let line = line_of(rt.alloc(), &mut src)?;
-        assert_eq!(rt; line.bytes(), want.as_bytes(), "{row}");
-        assert_eq!(rt; skip(&mut src, 3), Ok(true), "{row}");
-        assert_eq!(rt; skip(&mut src, 1), Ok(false), "{row}");
+        is_refused(&rt, rt.alloc(), front(letter), text, want)?;
     }
     Ok(())
 }
@@ -187,15 +211,10 @@ fn is_sample(rt: &impl Abort, host: &Host) {
     assert_eq!(rt; host.next_part(Some(key)), Some(PartKey { key1: 5, ..key }));
 }
 
-// Each image that is read is written as it was; the first reads and writes fail in turn.
 #[test]
 fn an_image_is_read_and_written(rt: HostRuntime) -> Result<(), Fail> {
     let image = sample(rt.alloc())?;
-    let mut src = MemSource::new(
-        sample(rt.alloc())?,
-        Vec::new(rt.alloc()),
-        Vec::new(rt.alloc()),
-    );
+    let mut src = source(rt.alloc(), u64::MAX)?;
     let Ok(host) = read_host(rt.alloc(), &mut src) else {
         return Err("the image is refused".into());
     };
@@ -203,18 +222,18 @@ fn an_image_is_read_and_written(rt: HostRuntime) -> Result<(), Fail> {
     let mut sink = MemSink::new(rt.alloc(), Vec::new(rt.alloc()));
     assert_eq!(rt; write_host(&mut sink, &host), Ok(()));
     assert_eq!(rt; sink.bytes(), image.as_slice());
-    for call in 0..10 {
-        let mut sink = MemSink::new(rt.alloc(), vec![in rt.alloc(); call; 1]?);
-        assert_eq!(rt;
-            write_host(&mut sink, &host),
-            Err(WriteFailed),
-            "write {call}"
-        );
-        assert!(rt; image.starts_with(sink.bytes()), "write {call}");
-        let failing = vec![in rt.alloc(); call; 1]?;
-        let mut src = MemSource::new(sample(rt.alloc())?, Vec::new(rt.alloc()), failing);
-        let line = line_of(rt.alloc(), &mut src)?;
-        assert_eq!(rt; line.bytes(), b"fault: read".as_slice(), "read {call}");
+    // the fourth write fails
+    let mut sink = MemSink::new(rt.alloc(), vec![in rt.alloc(); 3; 1]?);
+    assert_eq!(rt; write_host(&mut sink, &host), Err(WriteFailed));
+    assert!(rt; image.starts_with(sink.bytes()));
+    Ok(())
+}
+
+#[test]
+fn a_read_of_an_image_fails(rt: HostRuntime) -> Result<(), Fail> {
+    for read in 0..10 {
+        let line = line_of(rt.alloc(), &mut source(rt.alloc(), read)?)?;
+        assert_eq!(rt; line.bytes(), b"fault: read".as_slice(), "read {read}");
     }
     Ok(())
 }

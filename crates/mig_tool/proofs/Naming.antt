@@ -38,9 +38,4 @@ pub same_command : (words : List (List ℕ)) (c d : Command) → Names words c �
 same_command words Normalise Normalise h k = refl
 same_command words Verify Verify h k = refl
 same_command words (Restore a) (Restore b) h k = ap (λ (n : ℕ). Restore n) (same_base words a b h k)
-same_command words Normalise Verify h k = let e : 110 ≡ 118 = sym (begins words Normalise h) ∙ begins words Verify k in absurd (omega (arith, e))
-same_command words Normalise (Restore b) h k = let e : 110 ≡ 114 = sym (begins words Normalise h) ∙ begins words (Restore b) k in absurd (omega (arith, e))
-same_command words Verify Normalise h k = let e : 118 ≡ 110 = sym (begins words Verify h) ∙ begins words Normalise k in absurd (omega (arith, e))
-same_command words Verify (Restore b) h k = let e : 118 ≡ 114 = sym (begins words Verify h) ∙ begins words (Restore b) k in absurd (omega (arith, e))
-same_command words (Restore a) Normalise h k = let e : 114 ≡ 110 = sym (begins words (Restore a) h) ∙ begins words Normalise k in absurd (omega (arith, e))
-same_command words (Restore a) Verify h k = let e : 114 ≡ 118 = sym (begins words (Restore a) h) ∙ begins words Verify k in absurd (omega (arith, e))
+same_command words c d h k = absurd (omega (arith, sym (begins words c h) ∙ begins words d k))

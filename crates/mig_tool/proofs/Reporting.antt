@@ -64,27 +64,22 @@ names : (command : Command) (told left : Option (List ℕ)) (w : Written) (place
 names command None left w place cause h = tt
 names command (Some input) left w place cause (rest, refused, is) = (rest, refused)
 
-pub names_of : (command : Command) (told left : Option (List ℕ)) (w : Written) (outcome : Outcome) (place : Place) (cause : Cause) → ComesOf command told left w outcome → outcome ≡ outcomes.Refused place cause → NamesRefusal told place cause
-names_of command told left w outcome place cause h is = names command told left w place cause (subst (ComesOf command told left w) is h)
-
 -- the line of an outcome is that of its status
-pub line_is : (told : Option (List ℕ)) (outcome : Outcome) → ((place : Place) (cause : Cause) → outcome ≡ outcomes.Refused place cause → NamesRefusal told place cause) → IsLine told (status_of outcome) (line_of outcome)
-line_is told outcomes.Done h = refl
+line_is : (told : Option (List ℕ)) (outcome : Outcome) → ((place : Place) (cause : Cause) → outcome ≡ outcomes.Refused place cause → NamesRefusal told place cause) → IsLine told (status_of outcome) (line_of outcome)
 line_is told (outcomes.Refused place cause) h = (place, cause, refl, h place cause refl)
-line_is told outcomes.Usage h = refl
-line_is told outcomes.ReadFault h = refl
-line_is told outcomes.WriteFault h = refl
-line_is told outcomes.Memory h = refl
+line_is told _ h = refl
+
+-- and it was reported
+pub line_reported : (command : Command) (told left : Option (List ℕ)) (w : Written) (outcome : Outcome) (status : Status) (old new : Option (List ℕ)) (before now : ℕ) → status ≡ status_of outcome → ComesOf command told left w outcome → Reports (line_of outcome) old new before now
+    → (line : List ℕ) × IsLine told status line × Reports line old new before now
+line_reported command told left w outcome status old new before now is h line =
+    (line_of outcome, subst (λ s. IsLine told s (line_of outcome)) (sym is) (line_is told outcome (λ place cause e. names command told left w place cause (subst (ComesOf command told left w) e h))), line)
 
 -- ---- the status
 
 says : (command : Command) (input : List ℕ) (left : Option (List ℕ)) (w : Written) (outcome : Outcome) → Comes command input left w outcome → Says command input left w (status_of outcome)
-says command input left w outcomes.Done h = h
 says command input left w (outcomes.Refused place cause) (rest, refused, is) = record { place = place; cause = cause; rest = rest; refused = refused; left_is = is }
-says command input left w outcomes.Usage h = h
-says command input left w outcomes.ReadFault h = tt
-says command input left w outcomes.WriteFault h = h
-says command input left w outcomes.Memory h = tt
+says command input left w _ h = h
 
 pub says_of : (command : Command) (told left : Option (List ℕ)) (w : Written) (outcome : Outcome) → ComesOf command told left w outcome → SaysOf command told left w (status_of outcome)
 says_of command None left w outcome h = tt
@@ -98,13 +93,11 @@ said_of command this told left w outcome status same is h =
 -- a refused input isn't done
 done_refused : (command : Command) (input : List ℕ) (left : Option (List ℕ)) (w : Written) (place : Place) (cause : Cause) (rest : List ℕ) → Done command input left w → IsRefused input place cause rest → ⊥
 done_refused Normalise input left w place cause rest h refused = never_both input h.guest h.rest place cause rest h.accepted refused
-done_refused (Restore base) input left w place cause rest h refused = never_both input h.guest h.rest place cause rest h.accepted refused
-done_refused Verify input left w place cause rest h refused = never_both input h.guest h.rest place cause rest h.accepted refused
+done_refused _ input left w place cause rest h refused = never_both input h.guest h.rest place cause rest h.accepted refused
 
 part_refused : (command : Command) (input : List ℕ) (left : Option (List ℕ)) (w : Written) (place : Place) (cause : Cause) (rest : List ℕ) → DonePart command input left w → IsRefused input place cause rest → ⊥
 part_refused Normalise input left w place cause rest h refused = never_both input h.guest h.rest place cause rest h.accepted refused
-part_refused (Restore base) input left w place cause rest h refused = never_both input h.guest h.rest place cause rest h.accepted refused
-part_refused Verify input left w place cause rest h refused = never_both input h.guest h.rest place cause rest h.accepted refused
+part_refused _ input left w place cause rest h refused = never_both input h.guest h.rest place cause rest h.accepted refused
 
 -- an accepted stream is done, but for memory, where nothing failed
 done_or : (command : Command) (input : List ℕ) (left : Option (List ℕ)) (w : Written) (status : Status) (guest : GuestOf) (rest : List ℕ) → Says command input left w status → Accepted input guest rest
@@ -188,8 +181,7 @@ not_read command told left w answer outcome h is = subst (ComesOf command told l
     by : (told : Option (List ℕ)) (answer : StreamAnswer) → ReadsImage told left (Err answer) → ComesOf command told left w (outcome_of answer)
     by None answer h = tt
     by (Some input) (answers.Refused place cause) (rest, refused, is) = (rest, refused, is)
-    by (Some input) answers.ReadFault h = tt
-    by (Some input) answers.Memory h = tt
+    by (Some input) _ h = tt
 
 abbrev pub reported : Result (Unit {0}) WriteFailed → Status
 reported (Ok u) = statuses.Done

@@ -1,8 +1,6 @@
-use Rattle.std.proofs.Common.{sym, subst}
-use Rattle.mig_tool.specs.Answers.{Written, IsLine}
-use Rattle.mig_tool.specs.Outcome.{line_of}
+use Rattle.mig_tool.specs.Answers.{Written}
 use Rattle.mig_tool.specs.declared.command.Command.TheVariants as commands
-use Rattle.mig_tool.proofs.Reporting.{said_of, line_is, names_of}
+use Rattle.mig_tool.proofs.Reporting.{said_of, line_reported}
 use Rattle.mig_tool.proofs.commands.carry_out.Goals as goal
 
 pub returns-in-Normalise-clause-said : goal.returns-in-Normalise-clause-said
@@ -16,12 +14,7 @@ returns-in-Normalise-clause-said g c =
 pub returns-in-Normalise-clause-line : goal.returns-in-Normalise-clause-line
 returns-in-Normalise-clause-line g c = λ _.
     let told = g.S.Source.left c.args.input.now in
-    let outcome = c.normalise-outcome.result in (
-      line_of outcome,
-      subst (λ s. IsLine told s (line_of outcome)) (sym c.finish.ensures.status)
-          (line_is told outcome (λ place cause is. names_of commands.Normalise told _ _ outcome place cause (c.normalise-outcome.ensures.answer told told) is)),
-      c.finish.ensures.line,
-    )
+    line_reported commands.Normalise told _ _ c.normalise-outcome.result c.finish.result _ _ _ _ c.finish.ensures.status (c.normalise-outcome.ensures.answer told told) c.finish.ensures.line
 
 pub returns-in-Restore-clause-said : goal.returns-in-Restore-clause-said
 returns-in-Restore-clause-said g c =
@@ -34,10 +27,4 @@ returns-in-Restore-clause-said g c =
 pub returns-in-Restore-clause-line : goal.returns-in-Restore-clause-line
 returns-in-Restore-clause-line g c = λ _.
     let told = g.S.Source.left c.args.input.now in
-    let outcome = c.restore-outcome.result in
-    let this = commands.Restore c.in-Restore.base in (
-      line_of outcome,
-      subst (λ s. IsLine told s (line_of outcome)) (sym c.finish-in-Restore.ensures.status)
-          (line_is told outcome (λ place cause is. names_of this told _ _ outcome place cause (c.restore-outcome.ensures.answer told told) is)),
-      c.finish-in-Restore.ensures.line,
-    )
+    line_reported (commands.Restore c.in-Restore.base) told _ _ c.restore-outcome.result c.finish-in-Restore.result _ _ _ _ c.finish-in-Restore.ensures.status (c.restore-outcome.ensures.answer told told) c.finish-in-Restore.ensures.line
