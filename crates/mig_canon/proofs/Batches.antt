@@ -24,7 +24,7 @@ from_zero (f ∷ fs) = ap (λ b. cond b (f ∷ entries_from 0 fs) (entries_from 
 
 -- ---- a batch
 
-words_len : (fs : List Frame) → length (words_of fs) ≡ 8 * length fs
+pub words_len : (fs : List Frame) → length (words_of fs) ≡ 8 * length fs
 words_len [] = refl
 words_len (f ∷ fs) = omega (arith, length-append (little_bytes 8 (frame_word_in f)) (words_of fs), words_len fs)
 

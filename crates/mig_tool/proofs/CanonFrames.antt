@@ -25,6 +25,7 @@ use Rattle.mig_guest.specs.Formed.{IsFormed}
 use Rattle.mig_guest.proofs.CodeParts.{all_of}
 use Rattle.mig_guest.proofs.Found.{all_found}
 use Rattle.mig_canon.specs.Canon.{Frame, batch, batches, frame_word_in, page_in, words_of, pages_of, body_of, frames_in}
+use Rattle.mig_canon.proofs.Batches.{words_len}
 use Rattle.mig_restore.specs.Record.Content.{Frames}
 use Rattle.mig_restore.specs.Spelled.{IsPage, IsEntry, AreEntries, IsGoodWord, IsBatch}
 use Rattle.mig_restore.specs.Spelled.HasContent.{pages as pages_say}
@@ -102,10 +103,6 @@ module _ (f : Frame) (fine : Fine f) where
   }
 
 -- ---- a batch
-
-words_len : (fs : List Frame) → length (words_of fs) ≡ 8 * length fs
-words_len [] = refl
-words_len (f ∷ fs) = omega (arith, length-append (little_bytes 8 (frame_word_in f)) (words_of fs), words_len fs)
 
 page_len : (b : Bool) (bytes : List ℕ) (page : Option (List ℕ)) → IsPage b bytes page → length bytes ≤ 4096
 page_len true bytes page h = omega (arith, h.0)

@@ -33,7 +33,7 @@ use Rattle.mig_image.proofs.HostViews.{hosted_seen}
 use Rattle.mig_image.proofs.RestoredHosts.{hosted_valid}
 use Rattle.mig_tool.specs.Words.{IsBase}
 use Rattle.mig_bytes.specs.Bytes.{AppendsPart}
-use Rattle.mig_tool.specs.Answers.{restored_text, Written, Done, DonePart, Comes, ComesOf, Says, SaysOf, InputRises, IsLine, NamesRefusal, summary_of}
+use Rattle.mig_tool.specs.Answers.{restored_text, Written, Done, DonePart, Comes, ComesOf, Says, SaysOf, InputRises, IsLine, summary_of}
 use Rattle.mig_tool.specs.declared.command.Command.{Command}
 use Rattle.mig_tool.specs.declared.command.Command.TheVariants.{Normalise, Restore, Verify}
 use Rattle.mig_tool.specs.declared.outcome.Summary.{Summary}
@@ -60,20 +60,17 @@ pub nothing_fails : (line : List ℕ) (old new : Option (List ℕ)) (before now 
 nothing_fails line old new before now (inl whole) none = whole.0
 nothing_fails line old new before now (inr (later, rose, part)) none = absurd (omega (arith, part.1, ap length none))
 
-names : (command : Command) (told left : Option (List ℕ)) (w : Written) (place : Place) (cause : Cause) → ComesOf command told left w (outcomes.Refused place cause) → NamesRefusal told place cause
-names command None left w place cause h = tt
-names command (Some input) left w place cause (rest, refused, is) = (rest, refused)
-
 -- the line of an outcome is that of its status
-line_is : (told : Option (List ℕ)) (outcome : Outcome) → ((place : Place) (cause : Cause) → outcome ≡ outcomes.Refused place cause → NamesRefusal told place cause) → IsLine told (status_of outcome) (line_of outcome)
-line_is told (outcomes.Refused place cause) h = (place, cause, refl, h place cause refl)
-line_is told _ h = refl
+line_is : (command : Command) (told left : Option (List ℕ)) (w : Written) (outcome : Outcome) → ComesOf command told left w outcome → IsLine told (status_of outcome) (line_of outcome)
+line_is command None left w (outcomes.Refused place cause) h = (place, cause, refl, tt)
+line_is command (Some input) left w (outcomes.Refused place cause) (rest, refused, is) = (place, cause, refl, (rest, refused))
+line_is command told left w _ h = refl
 
 -- and it was reported
 pub line_reported : (command : Command) (told left : Option (List ℕ)) (w : Written) (outcome : Outcome) (status : Status) (old new : Option (List ℕ)) (before now : ℕ) → status ≡ status_of outcome → ComesOf command told left w outcome → Reports (line_of outcome) old new before now
     → (line : List ℕ) × IsLine told status line × Reports line old new before now
 line_reported command told left w outcome status old new before now is h line =
-    (line_of outcome, subst (λ s. IsLine told s (line_of outcome)) (sym is) (line_is told outcome (λ place cause e. names command told left w place cause (subst (ComesOf command told left w) e h))), line)
+    (line_of outcome, subst (λ s. IsLine told s (line_of outcome)) (sym is) (line_is command told left w outcome h), line)
 
 -- ---- the status
 
