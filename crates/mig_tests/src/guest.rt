@@ -8,12 +8,17 @@ use mig_policy::{read_cpuid, read_msr, read_tsc};
 use std::process::Abort;
 use std::test::Fail;
 
+// A page of this byte, of which a proof is to know nothing.
+pub fn page(byte: u8) -> [u8; 4096] {
+    [byte; 4096]
+}
+
 #[test]
 fn pages_by_number(rt: HostRuntime) -> Result<(), Fail> {
     let mut store = PageStore::new(rt.alloc());
     store.reserve(1)?;
-    store.put_spare(5, &[5; 4096]);
-    store.put(7, &[7; 4096])?;
+    store.put_spare(5, &page(5));
+    store.put(7, &page(7))?;
     assert!(rt; store.get(7).is_some());
     store.overwrite(7, 4094, &[1, 2]);
     if let Some(page) = store.lend(7) {
@@ -55,7 +60,7 @@ fn fill(guest: &mut Guest) {
 
 fn small_guest(rt: &HostRuntime) -> Result<Guest, Fail> {
     let mut guest = Guest::new(rt.alloc(), Kind::Pv);
-    guest.set_frame(5, PageType::L1Tab, Some(&[1; 4096]))?;
+    guest.set_frame(5, PageType::L1Tab, Some(&page(1)))?;
     guest.set_part(key(4, 1, 0), &[1, 2, 3, 4])?;
     guest.set_part(key(4, 0, 9), &[5])?;
     Ok(guest)
@@ -93,18 +98,32 @@ const PARAMETERS: [u8; 40] = [
     7, 0, 0, 0, 0, 0, 0, 0,
 ];
 
+// Bytes of which a proof is to know nothing.
+fn hidden(bytes: &[u8]) -> &[u8] {
+    bytes
+}
+
 #[test]
 fn bodies_of_an_hvm_guest(rt: HostRuntime) -> Result<(), Fail> {
     let mut guest = Guest::new(rt.alloc(), Kind::Hvm);
-    read_cpuid(&mut guest, &LEAF)?;
-    read_msr(&mut guest, &MSRS)?;
+    let leaves = hidden(&LEAF);
+    assert_eq!(rt; leaves.len() % 24, 0);
+    read_cpuid(&mut guest, leaves)?;
+    let msrs = hidden(&MSRS);
+    assert_eq!(rt; msrs.len() % 16, 0);
+    read_msr(&mut guest, msrs)?;
     read_tsc(&mut guest, &[0x22; 24])?;
-    assert_eq!(rt; params_fault(&PARAMETERS[..24]), Some(Cause::BadLength(24)));
-    assert_eq!(rt; params_fault(&PARAMETERS), None);
-    read_params(&mut guest, &PARAMETERS)?;
+    let parameters = hidden(&PARAMETERS);
+    assert_eq!(rt; params_fault(parameters), None);
+    read_params(&mut guest, parameters)?;
+    has_hvm_parts(&rt, &guest);
+    Ok(())
+}
+
+fn has_hvm_parts(rt: &impl Abort, guest: &Guest) {
     has(
-        &rt,
-        &guest,
+        rt,
+        guest,
         &[
             (key(8, 0, 0), &[0x22; 20]),
             (key(10, 1, 0), &[7, 0, 0, 0, 0, 0, 0, 0]),
@@ -113,7 +132,6 @@ fn bodies_of_an_hvm_guest(rt: HostRuntime) -> Result<(), Fail> {
             (key(18, 0xc000_0080, 0), &MSRS[4..16]),
         ],
     );
-    Ok(())
 }
 
 // A vCPU's id, 4 bytes that are ignored, and the part.
@@ -121,32 +139,36 @@ const XSAVE: [u8; 12] = [3, 0, 0, 0, 9, 9, 9, 9, 77, 0, 0, 1];
 
 #[test]
 fn bodies_of_a_pv_guest(rt: HostRuntime) -> Result<(), Fail> {
-    let mut far = XSAVE;
-    far[1] = 16;
-    for (code, body, want) in [
-        (
-            PartCode::VcpuXsave,
-            far.as_slice(),
-            Some(Cause::VcpuId(4099)),
-        ),
-        (PartCode::VcpuXsave, &XSAVE[..7], Some(Cause::BadLength(7))),
-        (PartCode::SharedInfo, &XSAVE, Some(Cause::BadLength(12))),
-    ] {
-        assert_eq!(rt; body_fault(code, body), want);
-    }
     let mut guest = Guest::new(rt.alloc(), Kind::Pv);
+    let far = hidden(&[3, 16, 0, 0, 9, 9, 9, 9, 77]);
+    assert_eq!(rt;
+        body_fault(PartCode::VcpuXsave, far),
+        Some(Cause::VcpuId(4099))
+    );
+    let short = hidden(&[3, 0, 0, 0, 9, 9, 9]);
+    assert_eq!(rt;
+        body_fault(PartCode::VcpuXsave, short),
+        Some(Cause::BadLength(7))
+    );
+    assert_eq!(rt;
+        body_fault(PartCode::SharedInfo, short),
+        Some(Cause::BadLength(7))
+    );
     // an empty part is none
-    assert_eq!(rt; body_fault(PartCode::VcpuXsave, &XSAVE[..8]), None);
-    read_body(&mut guest, PartCode::VcpuXsave, &XSAVE[..8])?;
+    let empty = hidden(&[3, 0, 0, 0, 9, 9, 9, 9]);
+    assert_eq!(rt; body_fault(PartCode::VcpuXsave, empty), None);
+    read_body(&mut guest, PartCode::VcpuXsave, empty)?;
     assert_eq!(rt; guest.next_part(None), None);
-    assert_eq!(rt; body_fault(PartCode::VcpuXsave, &XSAVE), None);
-    read_body(&mut guest, PartCode::VcpuXsave, &XSAVE)?;
-    assert_eq!(rt; body_fault(PartCode::SharedInfo, &[5; 4096]), None);
-    read_body(&mut guest, PartCode::SharedInfo, &[5; 4096])?;
+    let xsave = hidden(&XSAVE);
+    assert_eq!(rt; body_fault(PartCode::VcpuXsave, xsave), None);
+    read_body(&mut guest, PartCode::VcpuXsave, xsave)?;
+    let info = page(5);
+    assert_eq!(rt; body_fault(PartCode::SharedInfo, &info), None);
+    read_body(&mut guest, PartCode::SharedInfo, &info)?;
     has(
         &rt,
         &guest,
-        &[(key(6, 3, 0), &XSAVE[8..]), (key(7, 0, 0), &[5; 4096])],
+        &[(key(6, 3, 0), &XSAVE[8..]), (key(7, 0, 0), &info)],
     );
     Ok(())
 }

@@ -1,3 +1,4 @@
+use crate::guest::page;
 use mig_bytes::{MemSink, MemSource, WriteFailed, put_all, skip};
 use mig_guest::PartKey;
 use mig_headers::{Kind, put_image_cause, put_image_place};
@@ -15,8 +16,6 @@ const BEFORE_THE_PAGE: [&str; 4] = [
     "040000e0 00000000 0101000000000000",
     "09000000 00000000 0201000000000000",
 ];
-
-const PAGE: [u8; 4096] = [0x77; 4096];
 
 const BEHIND_THE_PAGE: [&str; 8] = [
     "0700000000000000",
@@ -91,7 +90,15 @@ fn front(letter: &str) -> &'static str {
     }
 }
 
-// The rows, of which a proof is to know nothing.
+// The texts, of which a proof is to know nothing.
+fn before_the_page() -> &'static [&'static str] {
+    &BEFORE_THE_PAGE
+}
+
+fn behind_the_page() -> &'static [&'static str] {
+    &BEHIND_THE_PAGE
+}
+
 fn refused() -> &'static [&'static str] {
     &REFUSED
 }
@@ -109,7 +116,7 @@ fn around_the_page(alloc: Global, before: &[&str], behind: &[&str]) -> Result<Ve
     for text in before {
         append(&mut bytes, alloc, text)?;
     }
-    bytes.extend_from_slice(&PAGE)?;
+    bytes.extend_from_slice(&page(0x77))?;
     for text in behind {
         append(&mut bytes, alloc, text)?;
     }
@@ -117,7 +124,7 @@ fn around_the_page(alloc: Global, before: &[&str], behind: &[&str]) -> Result<Ve
 }
 
 fn sample(alloc: Global) -> Result<Vec<u8>, Fail> {
-    around_the_page(alloc, &BEFORE_THE_PAGE, &BEHIND_THE_PAGE)
+    around_the_page(alloc, before_the_page(), behind_the_page())
 }
 
 // The sample, whose read of this number fails.
@@ -200,7 +207,7 @@ fn is_sample(rt: &impl Abort, host: &Host) {
         (Kind::Hvm, 10, 3)
     );
     assert_eq!(rt; host.frame(4), Some(PageType::Xalloc));
-    assert!(rt; host.page(9) == Some(&PAGE));
+    assert!(rt; host.page(9) == Some(&page(0x77)));
     assert_eq!(rt; host.next_frame(5), Some(9));
     let key = PartKey {
         code: 10,

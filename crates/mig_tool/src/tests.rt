@@ -49,73 +49,36 @@ fn smallest_stream_into_its_room(rt: HostRuntime) -> Result<(), Fail> {
     Ok(())
 }
 
-#[test]
-fn each_read_fails_in_turn(rt: HostRuntime) -> Result<(), Fail> {
-    let normalise = words(rt.alloc(), &["normalise"])?;
-    for fails in 0..104 {
-        let mut input = smallest(rt.alloc(), 1, fails)?;
-        let mut out = sink(rt.alloc(), NEVER)?;
-        let mut report = sink(rt.alloc(), NEVER)?;
-        let status = run(rt.alloc(), &normalise, &mut input, &mut out, &mut report);
-        assert_eq!(rt; status, Status::ReadFault, "read {fails}");
-        assert_eq!(rt; out.bytes().len(), 0, "read {fails}");
-        assert_eq!(rt; report.bytes(), b"fault: read\n".as_slice(), "read {fails}");
-    }
-    Ok(())
+// A word, which read and which write of the output fail, the status, and the line of the report.
+const FAULTS: [(&str, u64, u64, Status, &str); 9] = [
+    ("normalise", NEVER, NEVER, Status::Done, ""),
+    ("normalise", 0, NEVER, Status::ReadFault, "fault: read\n"),
+    ("normalise", 50, NEVER, Status::ReadFault, "fault: read\n"),
+    ("normalise", NEVER, 0, Status::WriteFault, "fault: write\n"),
+    ("normalise", NEVER, 3, Status::WriteFault, "fault: write\n"),
+    ("restore", NEVER, NEVER, Status::Done, ""),
+    ("restore", 103, NEVER, Status::ReadFault, "fault: read\n"),
+    ("restore", NEVER, 2, Status::WriteFault, "fault: write\n"),
+    ("verify", 70, 0, Status::ReadFault, "fault: read\n"),
+];
+
+fn faults() -> &'static [(&'static str, u64, u64, Status, &'static str)] {
+    &FAULTS
 }
 
+// A report that fails changes no status.
 #[test]
-fn each_write_fails_in_turn(rt: HostRuntime) -> Result<(), Fail> {
-    let normalise = words(rt.alloc(), &["normalise"])?;
-    for fails in 0..20 {
-        let mut input = smallest(rt.alloc(), 4096, NEVER)?;
-        let mut out = sink(rt.alloc(), fails)?;
-        let mut report = sink(rt.alloc(), NEVER)?;
-        let status = run(rt.alloc(), &normalise, &mut input, &mut out, &mut report);
-        let written = out.bytes();
-        assert!(rt; SMALLEST.starts_with(written), "write {fails}");
-        assert_eq!(rt;
-            written.len() < 104,
-            status == Status::WriteFault,
-            "write {fails}"
-        );
-        if fails == 0 {
-            assert_eq!(rt; written.len(), 0);
-        }
-        if written.len() < 104 {
-            assert_eq!(rt;
-                report.bytes(),
-                b"fault: write\n".as_slice(),
-                "write {fails}"
-            );
-        } else {
-            assert_eq!(rt; status, Status::Done, "write {fails}");
-        }
-    }
-    Ok(())
-}
-
-#[test]
-fn failing_report_changes_no_status(rt: HostRuntime) -> Result<(), Fail> {
-    let rows = [
-        ("normalise", NEVER, NEVER, Status::Done),
-        ("normalise", 0, NEVER, Status::ReadFault),
-        ("normalise", NEVER, 0, Status::WriteFault),
-        ("restore", NEVER, NEVER, Status::Done),
-        ("restore", 0, NEVER, Status::ReadFault),
-        ("restore", NEVER, 0, Status::WriteFault),
-        ("verify", 0, NEVER, Status::ReadFault),
-        ("verify", NEVER, 0, Status::WriteFault),
-        ("Normalise", NEVER, NEVER, Status::Usage),
-    ];
-    for (word, read, write, want) in rows {
-        let mut input = smallest(rt.alloc(), 4096, read)?;
-        let mut out = sink(rt.alloc(), write)?;
-        let mut report = sink(rt.alloc(), 0)?;
+fn reads_and_writes_fail_in_mid_stream(rt: HostRuntime) -> Result<(), Fail> {
+    for (word, read, write, want, line) in faults() {
         let list = words(rt.alloc(), &[word])?;
-        let status = run(rt.alloc(), &list, &mut input, &mut out, &mut report);
-        assert_eq!(rt; status, want);
-        assert_eq!(rt; report.bytes().len(), 0);
+        for (fails, told) in [(NEVER, *line), (0, "")] {
+            let mut input = smallest(rt.alloc(), 1, *read)?;
+            let mut out = sink(rt.alloc(), *write)?;
+            let mut report = sink(rt.alloc(), fails)?;
+            let status = run(rt.alloc(), &list, &mut input, &mut out, &mut report);
+            assert_eq!(rt; status, *want, "{word}, read {read}, write {write}");
+            assert_eq!(rt; report.bytes(), told.as_bytes(), "{word}");
+        }
     }
     Ok(())
 }
