@@ -10,14 +10,12 @@ use std::test::Fail;
 
 // An image: a head, three frames, the last of which has a page; the number of parts, the TSC, the context, two
 // parameters, two leaves and an MSR.
-const BEFORE_THE_PAGE: [&str; 4] = [
+const SAMPLE: [&str; 13] = [
     "5847494d41474531 02000000 00000000 0a00000000000000 0300000000000000",
     "020000d0 00000000 0001000000000000",
     "040000e0 00000000 0101000000000000",
     "09000000 00000000 0201000000000000",
-];
-
-const BEHIND_THE_PAGE: [&str; 8] = [
+    "page",
     "0700000000000000",
     "08000000 00000000 00000000 14000000 c1c1c1c1c1c1c1c1c1c1c1c1c1c1c1c1c1c1c1c1 00000000",
     "09000000 00000000 00000000 28000000 0100 0000 18000000 111111111111111111111111111111111111111111111111 0000 0000 00000000",
@@ -91,40 +89,32 @@ fn front(letter: &str) -> &'static str {
 }
 
 // The texts, of which a proof is to know nothing.
-fn before_the_page() -> &'static [&'static str] {
-    &BEFORE_THE_PAGE
-}
-
-fn behind_the_page() -> &'static [&'static str] {
-    &BEHIND_THE_PAGE
+fn texts() -> &'static [&'static str] {
+    &SAMPLE
 }
 
 fn refused() -> &'static [&'static str] {
     &REFUSED
 }
 
-// Appends the bytes of words of hexadecimal digits, which are parted by one space.
+// Appends the bytes of words of hexadecimal digits, which are parted by one space, or a page.
 fn append(bytes: &mut Vec<u8>, alloc: Global, text: &str) -> Result<(), Fail> {
     for word in text.split(' ') {
-        bytes.extend_from_slice(&hex::decode(alloc, word)?)?;
+        if word == "page" {
+            bytes.extend_from_slice(&page(0x77))?;
+        } else {
+            bytes.extend_from_slice(&hex::decode(alloc, word)?)?;
+        }
     }
     Ok(())
 }
 
-fn around_the_page(alloc: Global, before: &[&str], behind: &[&str]) -> Result<Vec<u8>, Fail> {
+fn sample(alloc: Global) -> Result<Vec<u8>, Fail> {
     let mut bytes = Vec::new(alloc);
-    for text in before {
-        append(&mut bytes, alloc, text)?;
-    }
-    bytes.extend_from_slice(&page(0x77))?;
-    for text in behind {
+    for text in texts() {
         append(&mut bytes, alloc, text)?;
     }
     Ok(bytes)
-}
-
-fn sample(alloc: Global) -> Result<Vec<u8>, Fail> {
-    around_the_page(alloc, before_the_page(), behind_the_page())
 }
 
 // The sample, whose read of this number fails.
