@@ -6,7 +6,8 @@ use Rattle.std.proofs.lemmas.List.FromFn.{length-map-range_with_len, get_or-map-
 use Rattle.byteorder.specs.Endian.{little_bytes}
 use Rattle.mig_bytes.specs.Bytes.{padding_len}
 use Rattle.mig_bytes.specs.Fields.{with_field}
-use Rattle.std.proofs.Math.Seq.{take-append-add}
+use Rattle.std.proofs.Math.Seq.{take-add, take-append-add}
+use Rattle.std.proofs.lemmas.Grind.{flat_map-append}
 use Rattle.mig_guest.specs.Frames.{entries_from}
 use Rattle.mig_records.specs.Records.{head_of, spelled}
 use Rattle.mig_canon.specs.Canon.{Frame, Record, batch, frame_word_in, page_in, words_of, pages_of, body_of, frame_bodies}
@@ -92,3 +93,22 @@ words_put i fs rest e buf new is room before put =
     ap (take (8 * (i + 1))) put ∙ ap (λ n. take n (front ++ (field ++ behind))) (let e : 8 * (i + 1) ≡ length front + 8 = omega (arith, size) in e)
     ∙ take-append-add front (field ++ behind) 8 ∙ ap (λ l. l ++ field) before
     ∙ sym (flat_next (λ f. little_bytes 8 (frame_word_in f)) i fs rest e is)
+
+-- ---- the pages in a buffer
+
+-- one frame's page more
+pub pages_put : (i : ℕ) (fs rest : List Frame) (e : Frame) (n m : ℕ) (buf new : List ℕ) → drop i fs ≡ e ∷ rest → take (4096 * n) buf ≡ pages_of (take i fs) → take (4096 * (n + m)) new ≡ take (4096 * n) buf ++ page_in e
+    → take (4096 * (n + m)) new ≡ pages_of (take (i + 1) fs)
+pages_put i fs rest e n m buf new is before put = put ∙ ap (λ l. l ++ page_in e) before ∙ sym (flat_next page_in i fs rest e is)
+
+-- some frames more
+pub pages_more : (i n : ℕ) (fs : List Frame) → pages_of (take (i + n) fs) ≡ pages_of (take i fs) ++ pages_of (take n (drop i fs))
+pages_more i n fs = ap pages_of (take-add i n fs) ∙ flat_map-append page_in (take i fs) (take n (drop i fs))
+
+-- and those behind them
+pub pages_split : (i n count : ℕ) (fs : List Frame) → i + n ≤ count
+    → pages_of (take count fs) ≡ pages_of (take i fs) ++ (pages_of (take n (drop i fs)) ++ pages_of (take (count - (i + n)) (drop (i + n) fs)))
+pages_split i n count fs le =
+    ap (λ m. pages_of (take m fs)) (let e : count ≡ (i + n) + (count - (i + n)) = omega (arith, le) in e) ∙ pages_more (i + n) (count - (i + n)) fs
+    ∙ ap (λ l. l ++ pages_of (take (count - (i + n)) (drop (i + n) fs))) (pages_more i n fs)
+    ∙ append_assoc (pages_of (take i fs)) (pages_of (take n (drop i fs))) (pages_of (take (count - (i + n)) (drop (i + n) fs)))

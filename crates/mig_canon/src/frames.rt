@@ -1,4 +1,4 @@
-ghost use Rattle.std.specs.Prelude.{◌≡◌, ℕ, ◌*◌, ◌≤◌, [], length, take, drop, IfOk};
+ghost use Rattle.std.specs.Prelude.{◌≡◌, ℕ, ◌+◌, ◌*◌, ◌≤◌, [], ◌++◌, length, take, drop, IfOk};
 ghost use Rattle.std.specs.Option.{option_copied, unwrap_or};
 ghost use Rattle.std.specs.FinMap as maps;
 ghost use Rattle.mig_bytes.specs.Bytes.{Puts};
@@ -16,6 +16,9 @@ use mig_records::write_head;
 
 /// The number of frames of a whole batch.
 const BATCH: u64 = 1024;
+
+/// The most pages that one write takes.
+const GATHERED: u32 = 4;
 
 /// How many pages a page is.
 fn one_page(page: &[u8; 4096]) -> u32
@@ -36,14 +39,20 @@ fn pages_with(page: Option<&[u8; 4096]>) -> u32
     }
 }
 
-/// Appends the page, if there is one.
-fn write_page<K: Sink>(sink: &mut K, page: Option<&[u8; 4096]>) -> Result<(), WriteFailed>
-    ensures bytes { Puts (unwrap_or (option_copied page.entry) []) (K.written sink.old) (K.written sink.new) result }
-    ensures cause { HasCause (K.faults sink.old) (K.faults sink.new) result }
+/// Puts the page, if there is one, behind so many pages; answers how many came: 1 or 0.
+fn put_page(buffer: &mut [u8], pages: u32, page: Option<&[u8; 4096]>) -> u32
+    requires room { 4096 * (pages + 1) ≤ length buffer.old }
+    ensures bytes { take (4096 * (pages + result)) buffer.new ≡ take (4096 * pages) buffer.old ++ unwrap_or (option_copied page.entry) [] }
+    ensures room { length buffer.new ≡ length buffer.old }
+    ensures most { result ≤ 1 }
 {
     match page {
-        Some(bytes) => put_all(sink, bytes),
-        None => Ok(()),
+        Some(bytes) => {
+            let at = 4096 * pages as usize;
+            buffer[at..at + 4096].copy_from_slice(bytes);
+            1
+        }
+        None => 0,
     }
 }
 
@@ -76,7 +85,37 @@ fn fill_words(words: &mut [u8], guest: &Guest, start: u64, count: u32) -> u32
     pages
 }
 
-/// Appends the pages of so many frames, from this number on; answers the number behind them.
+/// Room for the pages of one write.
+fn no_pages() -> [u8; 16384] {
+    [0; 16384]
+}
+
+/// Puts the pages of so many frames, from this number on, one behind the other; answers the number behind the frames,
+/// and how many pages come with them.
+fn fill_pages(buffer: &mut [u8], guest: &Guest, start: u64, count: u32) -> (u64, u32)
+    requires room { 4096 * count ≤ length buffer.old }
+    requires most { count ≤ 4 }
+    requires has { count ≤ length (entries_from start (frames_in guest.now)) }
+    ensures bytes { take (4096 * result.1) buffer.new ≡ pages_of (take count (entries_from start (frames_in guest.now))) }
+    ensures next { entries_from result.0 (frames_in guest.now) ≡ drop count (entries_from start (frames_in guest.now)) }
+    ensures few { result.1 ≤ count }
+    ensures room { length buffer.new ≡ length buffer.old }
+{
+    let mut pages = 0;
+    let mut from = start;
+    for i in 0..count {
+        match guest.next_entry(from) {
+            Some((pfn, _, page)) => {
+                pages += put_page(buffer, pages, page);
+                from = pfn + 1;
+            }
+            None => return (from, pages),
+        }
+    }
+    (from, pages)
+}
+
+/// Appends the pages of so many frames, from this number on, four at a time; answers the number behind the frames.
 fn write_pages<K: Sink>(
     sink: &mut K,
     guest: &Guest,
@@ -88,15 +127,15 @@ fn write_pages<K: Sink>(
     ensures next { IfOk result (λ next. entries_from next (frames_in guest.now) ≡ drop count (entries_from start (frames_in guest.now))) }
     ensures cause { HasCause (K.faults sink.old) (K.faults sink.new) result }
 {
+    let mut buffer = no_pages();
     let mut from = start;
-    for i in 0..count {
-        match guest.next_entry(from) {
-            Some((pfn, _, page)) => {
-                write_page(sink, page)?;
-                from = pfn + 1;
-            }
-            None => return Ok(from),
-        }
+    let mut done = 0;
+    while done < count {
+        let some = (count - done).min(GATHERED);
+        let (next, pages) = fill_pages(&mut buffer, guest, from, some);
+        put_all(sink, &buffer[..4096 * pages as usize])?;
+        from = next;
+        done += some;
     }
     Ok(from)
 }

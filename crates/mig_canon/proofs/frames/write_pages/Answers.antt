@@ -1,32 +1,29 @@
-use Rattle.std.proofs.Common.{sym, ◌∙◌, rules}
-use Rattle.std.specs.Option.{option_copied}
+use Rattle.std.proofs.Common.{take, drop, sym, ap, subst, ◌∙◌, rules, arith, drop-drop}
+use Rattle.std.specs.Io.KnownBytes.{Appends}
+use Rattle.std.proofs.KnownBytes.{Appends-trans}
+use Rattle.mig_bytes.specs.Bytes.{AppendsPart}
+use Rattle.mig_bytes.proofs.Texts.{puts_then, puts_stop, puts_same}
 use Rattle.mig_guest.specs.Frames.{entries_from}
-use Rattle.mig_canon.specs.Canon.{Frame, page_in, frames_in}
-use Rattle.mig_canon.proofs.Steps.{drop_next, walk_on, walk_stop, not_ended}
+use Rattle.mig_canon.specs.Canon.{pages_of, frames_in}
+use Rattle.mig_canon.proofs.Batches.{pages_more, pages_split}
 use Rattle.mig_canon.proofs.frames.write_pages.Goals as goal
 
-pub returns-in_err-write_page-in-Some-clause-bytes : goal.returns-in_err-write_page-in-Some-clause-bytes
-returns-in_err-write_page-in-Some-clause-bytes g c =
+pub returns-in_err-put_all-clause-bytes : goal.returns-in_err-put_all-clause-bytes
+returns-in_err-put_all-clause-bytes g c =
     let all = entries_from c.args.start (frames_in c.args.guest.now) in
-    let e : Frame = (c.in-Some.pfn, record { type = c.in-Some.field-0-1; page = option_copied c.in-Some.page }) in
-    walk_stop page_in all c.loop-i.i c.args.count e _ _ _ _ _ c.from_residual.result
-    (sym c.loop-i.invariant.at ∙ c.in-Some.ensures.next) c.loop-i-test.true c.loop-i.invariant.bytes c.from_residual.ensures.1 c.in_err-write_page-in-Some.ensures.bytes
+    let r = c.from_residual.result in
+    let text = c.fill_pages-next.ensures.bytes ∙ ap (λ l. pages_of (take c.min-some.result l)) c.loop-done.invariant.at in
+    puts_same _ _ _ _ r (pages_split c.loop-done.done c.min-some.result c.args.count all (omega arith))
+    (puts_then _ _ _ _ _ r c.loop-done.invariant.bytes (puts_stop _ _ _ _ _ _ r c.from_residual.ensures.1 (subst (AppendsPart _ _) text c.in_err-put_all.ensures.bytes)))
 
-pub returns-in-None-clause-bytes : goal.returns-in-None-clause-bytes
-returns-in-None-clause-bytes g c =
-    absurd (not_ended c.loop-i.i c.args.count (entries_from c.args.start (frames_in c.args.guest.now)) (sym c.loop-i.invariant.at ∙ c.in-None.ensures.next) c.loop-i-test.true c.requires)
-
-pub returns-in-None-clause-next : goal.returns-in-None-clause-next
-returns-in-None-clause-next g c =
-    absurd (not_ended c.loop-i.i c.args.count (entries_from c.args.start (frames_in c.args.guest.now)) (sym c.loop-i.invariant.at ∙ c.in-None.ensures.next) c.loop-i-test.true c.requires)
-
-pub loop-i-preserved : goal.loop-i-preserved
-loop-i-preserved g c =
+pub loop-done-preserved : goal.loop-done-preserved
+loop-done-preserved g c =
     let all = entries_from c.args.start (frames_in c.args.guest.now) in
-    let e : Frame = (c.in-Some.pfn, record { type = c.in-Some.field-0-1; page = option_copied c.in-Some.page }) in
-    let here = sym c.loop-i.invariant.at ∙ c.in-Some.ensures.next in
+    let text = c.fill_pages-next.ensures.bytes ∙ ap (λ l. pages_of (take c.min-some.result l)) c.loop-done.invariant.at in
     record {
-      at = sym (drop_next c.loop-i.i all _ e here);
-      bytes = walk_on page_in all c.loop-i.i c.args.count e _ _ _ _ here c.loop-i.invariant.bytes c.in_ok-write_page-in-Some.ensures.bytes;
+      at = c.fill_pages-next.ensures.next ∙ ap (drop c.min-some.result) c.loop-done.invariant.at ∙ drop-drop c.min-some.result c.loop-done.done all;
+      bytes = subst (Appends _ _) (sym (pages_more c.loop-done.done c.min-some.result all)) (Appends-trans _ _ _ _ _ c.loop-done.invariant.bytes (subst (Appends _ _) text c.in_ok-put_all.ensures.bytes));
+      within = omega arith;
+      room = search rules;
       quiet = search rules;
     }
