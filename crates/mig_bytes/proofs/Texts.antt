@@ -1,7 +1,9 @@
 -- How what writers append joins.
-use Rattle.std.proofs.Common.{◌≡◌, ℕ, ◌+◌, List, ◌∷◌, ◌++◌, length, take, Option, Result, Ok, Err, IsErr, refl, sym, subst, arith, length-append}
+use Rattle.std.proofs.Common.{◌≡◌, ℕ, ◌+◌, ◌-◌, ◌≤◌, List, ◌∷◌, ◌++◌, length, take, drop, Option, Result, Ok, Err, IsErr, refl, sym, ap, subst, ◌∙◌, arith, append_assoc, length-append}
+use Rattle.std.specs.List.{flat_map}
+use Rattle.std.proofs.lemmas.Grind.{flat_map-append}
 use Rattle.std.specs.Result.{IsErrAnd}
-use Rattle.std.proofs.Math.Seq.{take-append-add}
+use Rattle.std.proofs.Math.Seq.{take-add, take-length, take-append-add}
 use lib.Seq.{take-append-le}
 use Rattle.std.proofs.KnownBytes.{Appends-trans}
 use Rattle.std.specs.Io.KnownBytes.{Appends}
@@ -32,3 +34,21 @@ puts_part {X} first second a b (Err e) is p = puts_stop {X = X} first second a b
 -- the same, behind a first byte
 pub puts_part_behind : {X : Type 0} (byte : ℕ) (first second : List ℕ) (a b : Option (List ℕ)) (r : Result X WriteFailed) → IsErr r → AppendsPart a b (byte ∷ first) → Puts (byte ∷ (first ++ second)) a b r
 puts_part_behind byte first second = puts_part (byte ∷ first) second
+
+-- ---- the texts of the elements of a list, some at a time
+
+module _ {X : Type 0} (F : X → List ℕ) where
+  -- n more
+  pub flat_more : (i n : ℕ) (xs : List X) → flat_map F (take (i + n) xs) ≡ flat_map F (take i xs) ++ flat_map F (take n (drop i xs))
+  flat_more i n xs = ap (flat_map F) (take-add i n xs) ∙ flat_map-append F (take i xs) (take n (drop i xs))
+
+  -- and those behind them
+  pub flat_parted : (i n count : ℕ) (xs : List X) → i + n ≤ count
+      → flat_map F (take count xs) ≡ flat_map F (take i xs) ++ (flat_map F (take n (drop i xs)) ++ flat_map F (take (count - (i + n)) (drop (i + n) xs)))
+  flat_parted i n count xs le =
+      let behind = flat_map F (take (count - (i + n)) (drop (i + n) xs)) in
+      ap (λ m. flat_map F (take m xs)) (let e : count ≡ (i + n) + (count - (i + n)) = omega (arith, le) in e) ∙ flat_more (i + n) (count - (i + n)) xs
+      ∙ ap (λ l. l ++ behind) (flat_more i n xs) ∙ append_assoc (flat_map F (take i xs)) (flat_map F (take n (drop i xs))) behind
+
+  pub all_parted : (i n : ℕ) (xs : List X) → i + n ≤ length xs → flat_map F xs ≡ flat_map F (take i xs) ++ (flat_map F (take n (drop i xs)) ++ flat_map F (take (length xs - (i + n)) (drop (i + n) xs)))
+  all_parted i n xs le = ap (flat_map F) (sym (take-length xs)) ∙ flat_parted i n (length xs) xs le

@@ -41,12 +41,15 @@ module _ {X : Type 0} where
   pub not_ended : (i n : ℕ) (xs : List X) → drop i xs ≡ [] → i < n → n ≡ length xs → ⊥
   not_ended i n xs h less is = omega (arith, sym (length-drop i xs) ∙ ap length h, is)
 
+  pub ended_early : (i n : ℕ) (xs : List X) → drop i xs ≡ [] → i < n → n ≤ length xs → ⊥
+  ended_early i n xs h less le = omega (arith, sym (length-drop i xs) ∙ ap length h, le)
+
   -- what holds of all holds at a place
   pub holds_at : (P : X → Type 0) (i : ℕ) (xs rest : List X) (x : X) → drop i xs ≡ x ∷ rest → AllByRecursion P xs → P x
   holds_at P i xs rest x h all = All-head P x rest (subst (All P) h (All-drop P i xs (All-from_recursion P xs all)))
 
 module _ {Y : Type 0} (F : Y → List ℕ) (all : List Y) (i : ℕ) (e : Y) (rest : List Y) where
-  flat_next : drop i all ≡ e ∷ rest → flat_map F (take (i + 1) all) ≡ flat_map F (take i all) ++ F e
+  pub flat_next : drop i all ≡ e ∷ rest → flat_map F (take (i + 1) all) ≡ flat_map F (take i all) ++ F e
   flat_next h = ap (flat_map F) (take-add i 1 all ∙ ap (λ l. take i all ++ take 1 l) h) ∙ flat_map-append F (take i all) (e ∷ []) ∙ ap (λ l. flat_map F (take i all) ++ l) (append-nil (F e))
 
   flat_split : drop i all ≡ e ∷ rest → flat_map F all ≡ flat_map F (take i all) ++ (F e ++ flat_map F rest)

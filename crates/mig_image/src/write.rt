@@ -1,4 +1,4 @@
-ghost use Rattle.std.specs.Prelude.{◌≡◌, ◌+◌, ◌≤◌, ◌<◌, ◌^◌, ℕ, List, Option, ◌++◌, length, codes};
+ghost use Rattle.std.specs.Prelude.{◌≡◌, ◌+◌, ◌≤◌, ◌<◌, ◌^◌, ℕ, List, Option, ◌++◌, ◌*◌, length, take, drop, codes};
 ghost use Rattle.std.specs.List.{flat_map};
 ghost use Rattle.std.specs.FinMap as maps;
 ghost use Rattle.std.specs.Option.{option_copied};
@@ -9,6 +9,7 @@ ghost use Rattle.mig_bytes.specs.Faults.{HasCause};
 ghost use Rattle.mig_headers.specs.Headers.{kind_number};
 ghost use Rattle.mig_pagetypes.specs.Limits.{pfn_limit};
 ghost use Rattle.mig_guest.specs.Hosts.{IsValid};
+ghost use Rattle.mig_guest.specs.Frames.{entries_from};
 ghost use Rattle.mig_image.specs.Image.{frame_head_of, frame_text, part_head_of, part_text, image};
 
 use crate::head::IMAGE_NAME;
@@ -66,9 +67,12 @@ fn part_head(key: PartKey, len: u32) -> [u8; 16]
     head
 }
 
-/// Room for a frame with its page.
-fn no_bytes() -> [u8; 4112] {
-    [0; 4112]
+/// The most frames of one write.
+const GATHERED: u64 = 4;
+
+/// Room for the frames of one write, with their pages.
+fn no_bytes() -> [u8; 16448] {
+    [0; 16448]
 }
 
 /// Puts these bytes at a place of the buffer. All others stay.
@@ -79,50 +83,71 @@ fn put_bytes(buffer: &mut [u8], at: usize, bytes: &[u8])
     buffer[at..at + bytes.len()].copy_from_slice(bytes);
 }
 
-/// The head of a frame and its page.
-fn frame_bytes(head: &[u8; 16], page: &[u8; 4096]) -> [u8; 4112]
-    ensures { result ≡ head.now ++ page.now }
-{
-    let mut frame = no_bytes();
-    put_bytes(&mut frame, 0, head);
-    put_bytes(&mut frame, 16, page);
-    frame
-}
-
-/// Appends a frame, in one piece.
-fn write_frame<K: Sink>(
-    sink: &mut K,
+/// Puts a frame behind so many bytes; answers how many there are then.
+fn put_frame(
+    buffer: &mut [u8],
+    used: usize,
     pfn: u64,
     kind: PageType,
     machine: u64,
     page: Option<&[u8; 4096]>,
-) -> Result<(), WriteFailed>
-    requires { pfn < pfn_limit }
-    ensures bytes { Puts (frame_text (pfn, record { type = kind; machine = machine; page = option_copied page.entry })) (K.written sink.old) (K.written sink.new) result }
-    ensures cause { HasCause (K.faults sink.old) (K.faults sink.new) result }
+) -> usize
+    requires small { pfn < pfn_limit }
+    requires space { used + 4112 ≤ length buffer.old }
+    ensures bytes { take result buffer.new ≡ take used buffer.old ++ frame_text (pfn, record { type = kind; machine = machine; page = option_copied page.entry }) }
+    ensures most { result ≤ used + 4112 }
+    ensures room { length buffer.new ≡ length buffer.old }
 {
-    let head = frame_head(pfn, kind, machine);
+    put_bytes(buffer, used, &frame_head(pfn, kind, machine));
     match page {
-        Some(bytes) => put_all(sink, &frame_bytes(&head, bytes)),
-        None => put_all(sink, &head),
+        Some(bytes) => {
+            put_bytes(buffer, used + 16, bytes);
+            used + 4112
+        }
+        None => used + 16,
     }
 }
 
-/// Appends all frames.
-#[tactic(auto, using(crate::proofs::InOrder::entries_counted, crate::proofs::Writers::drop_next, crate::proofs::Writers::not_ended, crate::proofs::Writers::walk_on, crate::proofs::Writers::walked))]
+/// Puts so many frames, from this number on, one behind the other; answers the number behind them, and how many bytes
+/// they take.
+fn fill_frames(buffer: &mut [u8], host: &Host, start: u64, count: u64) -> (u64, usize)
+    requires space { 4112 * count ≤ length buffer.old }
+    requires most { count ≤ 4 }
+    requires has { count ≤ length (entries_from start (maps.entries host.now.frames)) }
+    ensures bytes { take result.1 buffer.new ≡ flat_map frame_text (take count (entries_from start (maps.entries host.now.frames))) }
+    ensures next { entries_from result.0 (maps.entries host.now.frames) ≡ drop count (entries_from start (maps.entries host.now.frames)) }
+    ensures few { result.1 ≤ 4112 * count }
+    ensures room { length buffer.new ≡ length buffer.old }
+{
+    let mut used = 0;
+    let mut from = start;
+    for i in 0..count {
+        match host.next_entry(from) {
+            Some((pfn, kind, machine, page)) => {
+                used = put_frame(buffer, used, pfn, kind, machine, page);
+                from = pfn + 1;
+            }
+            None => return (from, used),
+        }
+    }
+    (from, used)
+}
+
+/// Appends all frames, four at a time.
 fn write_frames<K: Sink>(sink: &mut K, host: &Host) -> Result<(), WriteFailed>
     ensures bytes { Puts (flat_map frame_text (maps.entries host.now.frames)) (K.written sink.old) (K.written sink.new) result }
     ensures cause { HasCause (K.faults sink.old) (K.faults sink.new) result }
 {
+    let mut buffer = no_bytes();
+    let total = host.frames();
     let mut from = 0;
-    for _ in 0..host.frames() {
-        match host.next_entry(from) {
-            Some((pfn, kind, machine, page)) => {
-                write_frame(sink, pfn, kind, machine, page)?;
-                from = pfn + 1;
-            }
-            None => return Ok(()),
-        }
+    let mut done = 0;
+    while done < total {
+        let some = (total - done).min(GATHERED);
+        let (next, used) = fill_frames(&mut buffer, host, from, some);
+        put_all(sink, &buffer[..used])?;
+        from = next;
+        done += some;
     }
     Ok(())
 }

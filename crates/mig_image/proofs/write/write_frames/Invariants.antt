@@ -1,4 +1,4 @@
-use Rattle.std.proofs.Common.{◌≡◌, take, drop}
+use Rattle.std.proofs.Common.{◌≡◌, ◌≤◌, ◌-◌, length, take, drop}
 use Rattle.std.specs.FinMap as maps
 use Rattle.std.specs.List.{flat_map}
 use Rattle.std.specs.Io.KnownBytes.{Appends}
@@ -6,9 +6,14 @@ use Rattle.mig_guest.specs.Frames.{entries_from}
 use Rattle.mig_image.specs.Image.{frame_text}
 use Rattle.mig_image.proofs.write.write_frames.Given as goal
 
-abbrev pub invariant-loop : goal.invariant-loop
-invariant-loop g l = record {
-  at : entries_from l.from (maps.entries l.host.frames) ≡ drop l.counter (maps.entries l.host.frames);
-  bytes : Appends (g.K.Sink.written l.fn.sink) (g.K.Sink.written l.sink) (flat_map frame_text (take l.counter (maps.entries l.host.frames)));
+abbrev pub invariant-loop-done : goal.invariant-loop-done
+invariant-loop-done g l = record {
+  at : entries_from l.from (maps.entries l.host.frames) ≡ drop l.done (maps.entries l.host.frames);
+  bytes : Appends (g.K.Sink.written l.fn.sink) (g.K.Sink.written l.sink) (flat_map frame_text (take l.done (maps.entries l.host.frames)));
+  within : l.done ≤ l.total;
+  room : length l.buffer ≡ 16448;
   quiet : g.K.Sink.faults l.sink ≡ g.K.Sink.faults l.fn.sink;
 }
+
+abbrev pub decreases-loop-done : goal.decreases-loop-done
+decreases-loop-done g l = l.total - l.done
