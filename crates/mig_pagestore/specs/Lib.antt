@@ -1,4 +1,7 @@
-pub mod Ascending
+pub mod Radix
+pub mod Index
+pub mod Packed
+pub mod ArenaLends
 pub mod Sound
 pub mod Pages
 pub mod Lending

@@ -1,6 +1,6 @@
 //! Pages of 4096 bytes by frame number.
 //!
-//! Responsible for: one owned page for each frame number that is there, for room that is kept ready so that a page can
+//! Responsible for: a page in a slab for each frame number that is there, for room that is kept ready so that a page can
 //! be put without asking for memory, and for handing out pages without a copy. It knows nothing of page types, guests
 //! or streams.
 //!
@@ -9,8 +9,9 @@
 //! spare page can't be refused. Every frame number in a store is below 2^28.
 #![tactic(auto)]
 
-mod ascending;
+mod arena;
+mod index;
+mod level;
 mod page_store;
-mod pool;
 
 pub use page_store::PageStore;

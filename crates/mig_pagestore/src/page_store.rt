@@ -1,4 +1,4 @@
-ghost use Rattle.std.specs.Prelude.{◌≡◌, ℕ, ◌+◌, ◌<◌, ◌≤◌, length, IsSome, IsNone, IsOk, OnOk, OnErr, IfSome, IfNone};
+ghost use Rattle.std.specs.Prelude.{◌≡◌, ℕ, ◌+◌, ◌^◌, ◌<◌, ◌≤◌, [], ◌∷◌, ◌++◌, length, vec_capacity, IsSome, IsNone, IsOk, OnOk, OnErr, IfSome, IfNone};
 ghost use Rattle.std.specs.Option.{option_copied, option_copied_mut};
 ghost use Rattle.std.specs.Ordering.{nat_cmp};
 ghost use Rattle.std.specs.FinMap as map;
@@ -6,40 +6,76 @@ ghost use Rattle.std.specs.Borrow.{sem};
 ghost use Rattle.mig_pagetypes.specs.Limits.{pfn_limit};
 ghost use Rattle.mig_pagestore.specs.Pages.{spliced, IsSmall};
 
-use crate::ascending::{position, start_from};
-use crate::pool::fill;
+use crate::arena::Arena;
+use crate::index::Index;
 use mig_bytes::Memory;
-use std::alloc::Global;
+use std::alloc::{AllocError, Global};
 use std::marker::Model;
 
-/// Pages by frame number (PFN), and spare pages.
+/// Frame numbers are below 2^28.
+const PFN_LIMIT: u64 = 1 << 28;
+
+/// Places are counted in 32 bits.
+const MOST_PAGES: usize = 1 << 31;
+
+/// Pages by frame number (PFN), and room for spare ones.
 ///
-/// The pages lie in the ascending order of their numbers, and each `Vec` has room for the spare ones.
+/// The pages lie in slabs, in the order in which they came; the index leads from a PFN to the place of its page.
 #[derive(Drop)]
 pub struct PageStore {
     alloc: Global,
+    /// The place of a PFN's page, counted from 1.
+    index: Index,
+    /// The PFN of the page at each place.
     pfns: Vec<u64>,
-    pages: Vec<Box<[u8; 4096]>>,
-    pool: Vec<Box<[u8; 4096]>>,
+    arena: Arena,
+    spare: usize,
 }
 
 impl Model for PageStore {
-    ghost use Rattle.std.specs.Prelude.{map, length, vec_capacity};
+    ghost use Rattle.std.specs.Prelude.{◌≡◌, length, vec_capacity};
     ghost use Rattle.std.specs.List.{zip};
     ghost use Rattle.std.specs.FinMap.{from_entries};
     ghost use Rattle.mig_pagestore.specs.Pages.{Store, store_code};
-    ghost use Rattle.mig_pagestore.specs.Sound.{IsSound};
+    ghost use Rattle.mig_pagestore.specs.Sound.{Leads, HasRoom};
 
     ghost Value = { Store };
 
     ghost coded = { store_code };
 
-    ghost view = { λ a. record {
-      pages = from_entries (zip a.pfns.items (map (λ b. b.value) a.pages.items));
-      spare = length a.pool.items;
-    } };
+    ghost view = { λ a. record { pages = from_entries (zip a.pfns.items a.arena.pages); spare = a.spare } };
 
-    ghost invariant = { λ a. IsSound a.pfns.items (length a.pages.items) (length a.pool.items) (vec_capacity a.pfns) (vec_capacity a.pages) };
+    ghost invariant = { λ a. Leads a.index a.pfns.items × (length a.pfns.items ≡ length a.arena.pages) × HasRoom a.index (length a.pfns.items) (vec_capacity a.pfns) a.arena.room a.spare };
+}
+
+/// Puts a number behind the others, in room that is there.
+fn push_spare(list: &mut Vec<u64>, number: u64)
+    requires { length list.old.items < vec_capacity list.old }
+    ensures items { list.new.items ≡ list.old.items ++ number ∷ [] }
+    ensures capacity { vec_capacity list.old ≤ vec_capacity list.new }
+{
+    list.push(number).unwrap();
+}
+
+/// Takes the last number out.
+fn take_last(list: &mut Vec<u64>) -> u64
+    requires { 0 < length list.old.items }
+    ensures items { list.old.items ≡ list.new.items ++ result ∷ [] }
+    ensures capacity { vec_capacity list.old ≤ vec_capacity list.new }
+{
+    list.pop().unwrap()
+}
+
+/// Sees to it that there is room for so many more pages.
+fn make_room(alloc: Global, arena: &mut Arena, more: usize) -> Result<(), AllocError>
+    ensures pages { arena.new.pages ≡ arena.old.pages }
+    ensures kept { arena.old.room ≤ arena.new.room }
+    ensures ready { OnOk result (more ≤ arena.new.room) }
+{
+    while arena.room() < more {
+        arena.grow(alloc)?;
+    }
+    Ok(())
 }
 
 // A page, which has as many bytes as its type says.
@@ -60,9 +96,10 @@ impl PageStore {
     {
         PageStore {
             alloc,
+            index: Index::new(alloc),
             pfns: Vec::new(alloc),
-            pages: Vec::new(alloc),
-            pool: Vec::new(alloc),
+            arena: Arena::new(alloc),
+            spare: 0,
         }
     }
 
@@ -80,10 +117,16 @@ impl PageStore {
         ensures whole { IfSome result (λ page. length page.now ≡ 4096) }
         ensures small { IsSome result → pfn < pfn_limit }
     {
-        match position(&self.pfns, pfn) {
-            Ok(at) => Some(whole(self.pages[at].as_ref())),
-            Err(_) => None,
+        // A field is read first, so that the proof has what holds of them.
+        let _count = self.pfns.len();
+        if pfn >= PFN_LIMIT {
+            return None;
         }
+        let place = self.index.get(pfn);
+        if place == 0 {
+            return None;
+        }
+        Some(whole(self.arena.get(place as usize - 1)))
     }
 
     /// Lends the page of this PFN for writing; none where it isn't there.
@@ -92,10 +135,11 @@ impl PageStore {
         ensures* writes_back { sem 𝓛 (LendsStoredPage self.entry pfn result) }
         ensures value { option_copied_mut result ≡ map.get self.old.pages pfn }
     {
-        match position(&self.pfns, pfn) {
-            Ok(at) => Some(self.pages[at].as_mut()),
-            Err(_) => None,
+        let place = self.index.get(pfn);
+        if place == 0 {
+            return None;
         }
+        Some(self.arena.lend(place as usize - 1))
     }
 
     /// The least PFN that is there and is at least `pfn`, which may be any number.
@@ -105,12 +149,11 @@ impl PageStore {
         ensures least { IfSome result (λ q. (pfn ≤ q) × ((k : ℕ) → pfn ≤ k → k < q → map.get self.now.pages k ≡ None)) }
         ensures small { IfSome result (λ q. q < pfn_limit) }
     {
-        let at = start_from(&self.pfns, pfn);
-        if at < self.pfns.len() {
-            Some(self.pfns[at])
-        } else {
-            None
+        let _count = self.pfns.len();
+        if pfn >= PFN_LIMIT {
+            return None;
         }
+        self.index.next(pfn)
     }
 
     /// Makes ready at least `more` spare pages, those included that are spare already.
@@ -120,13 +163,30 @@ impl PageStore {
         ensures kept { self.old.spare ≤ self.new.spare }
         ensures enough { more ≤ self.old.spare → IsOk result }
     {
-        if more <= self.pool.len() {
+        if more <= self.spare {
             return Ok(());
         }
-        if self.pfns.reserve(more).is_err() || self.pages.reserve(more).is_err() {
+        if more >= MOST_PAGES - self.pfns.len() {
             return Err(Memory);
         }
-        fill(self.alloc, &mut self.pool, more)
+        match self.make_ready(more) {
+            Ok(()) => Ok(()),
+            Err(AllocError) => Err(Memory),
+        }
+    }
+
+    fn make_ready(&mut self, more: usize) -> Result<(), AllocError>
+        requires few { more + map.len self.old.pages < 2 ^ 31 }
+        requires more { self.old.spare < more }
+        ensures pages { self.new.pages ≡ self.old.pages }
+        ensures ready { OnOk result (more ≤ self.new.spare) }
+        ensures kept { self.old.spare ≤ self.new.spare }
+    {
+        make_room(self.alloc, &mut self.arena, more)?;
+        self.pfns.reserve(more)?;
+        self.index.reserve(more)?;
+        self.spare = more;
+        Ok(())
     }
 
     /// Sets the page of this PFN, and takes no memory: a PFN that wasn't there takes a spare page.
@@ -137,15 +197,15 @@ impl PageStore {
         ensures taken { self.old.spare ≤ self.new.spare + 1 }
         ensures in_place { IsSome (map.get self.old.pages pfn) → self.new.spare ≡ self.old.spare }
     {
-        match position(&self.pfns, pfn) {
-            Ok(at) => *self.pages[at] = *page,
-            Err(at) => {
-                let mut room = self.pool.pop().unwrap();
-                *room = *page;
-                self.pfns.insert(at, pfn).unwrap();
-                self.pages.insert(at, room).unwrap();
-            }
+        let place = self.index.get(pfn);
+        if place > 0 {
+            *self.arena.lend(place as usize - 1) = *page;
+            return;
         }
+        self.arena.push(page);
+        push_spare(&mut self.pfns, pfn);
+        self.index.put_spare(pfn, self.pfns.len() as u32);
+        self.spare -= 1;
     }
 
     /// Sets the page of this PFN; where no memory is found, the pages stay.
@@ -171,14 +231,19 @@ impl PageStore {
         ensures pages { self.new.pages ≡ map.remove self.old.pages pfn }
         ensures spare { self.old.spare ≤ self.new.spare }
     {
-        match position(&self.pfns, pfn) {
-            Ok(at) => {
-                self.pfns.remove(at);
-                self.pages.remove(at);
-                true
-            }
-            Err(_) => false,
+        let place = self.index.get(pfn);
+        if place == 0 {
+            return false;
         }
+        let page = self.arena.pop();
+        let last = take_last(&mut self.pfns);
+        self.index.replace(pfn, 0);
+        if last != pfn {
+            *self.arena.lend(place as usize - 1) = page;
+            self.pfns[place as usize - 1] = last;
+            self.index.replace(last, place);
+        }
+        true
     }
 
     /// Writes `bytes` over those of one page from its byte `at` on.

@@ -1,21 +1,23 @@
-use Rattle.std.proofs.Common.{◌<◌, ◌^◌, subst, sym, ap, ◌∙◌}
-use Rattle.std.specs.FinMap as maps
+use Rattle.std.proofs.Common.{◌<◌, ◌≤◌, ◌-◌, ◌^◌, ℕ, Some, slice_get, sym, ap, ◌∙◌, arith}
+use Rattle.std.specs.FinMap as map
+use Rattle.mig_pagestore.specs.Index.{found}
 use Rattle.mig_pagestore.specs.Pages.{Store}
-use Rattle.mig_pagestore.proofs.ListMaps.{found_at, get_gap}
+use Rattle.mig_pagestore.proofs.Leading.{absent, present, got, none_found}
 use Rattle.mig_pagestore.proofs.page_store.PageStore.get.Goals as goal
 
-pub returns-in-Ok-clause-value : goal.returns-in-Ok-clause-value
-returns-in-Ok-clause-value c =
-    let is = c.self.invariant in let pfn = c.args.pfn in
-    rw (c.whole.ensures.same, c.as_ref.ensures) (sym (found_at (λ b. b.value) _ _ is.rising is.as_many pfn _ c.index.result.now (rw c.deref.ensures.value at c.in-Ok.ensures.found) c.index.ensures)
-    ∙ ap (λ (s : Store). maps.get s.pages pfn) c.self.view_is)
+pub returns-then-pfn-ge-PFN_LIMIT-clause-value : goal.returns-then-pfn-ge-PFN_LIMIT-clause-value
+returns-then-pfn-ge-PFN_LIMIT-clause-value c =
+    let is = c.self.invariant in let past : 2 ^ 28 ≤ c.args.pfn = c.if-pfn-ge-PFN_LIMIT.true in
+    sym (none_found c.self.inside.index _ _ is.0 is.1 c.args.pfn (λ lt. absurd (omega (arith, lt, past)))) ∙ ap (λ (s : Store). map.get s.pages c.args.pfn) c.self.view_is
 
-pub returns-in-Err-clause-value : goal.returns-in-Err-clause-value
-returns-in-Err-clause-value c =
-    let is = c.self.invariant in let pfn = c.args.pfn in
-    sym (get_gap (λ b. b.value) _ _ is.rising is.as_many pfn _ (rw c.deref.ensures.value at c.in-Err.ensures.absent)) ∙ ap (λ (s : Store). maps.get s.pages pfn) c.self.view_is
+pub returns-then-place-eq0-clause-value : goal.returns-then-place-eq0-clause-value
+returns-then-place-eq0-clause-value c =
+    let is = c.self.invariant in
+    sym (absent _ _ is.0 _ is.1 c.args.pfn (sym c.get-place.ensures ∙ c.if-place-eq0.true)) ∙ ap (λ (s : Store). map.get s.pages c.args.pfn) c.self.view_is
 
-pub returns-in-Ok-clause-small : goal.returns-in-Ok-clause-small
-returns-in-Ok-clause-small c there =
-    let at = rw c.deref.ensures.value at c.in-Ok.ensures.found in
-    subst (λ n. n < 2 ^ 28) at.same (c.self.invariant.small _ at.in_range)
+pub returns-clause-value : goal.returns-clause-value
+returns-clause-value c =
+    let is = c.self.invariant in let pages = c.self.inside.arena.pages in
+    let some : 0 < found c.self.inside.index c.args.pfn = omega (arith, c.get-place.ensures, c.if-place-eq0.false) in
+    let at = ap (λ (p : ℕ). slice_get pages (p - 1)) (sym c.get-place.ensures) ∙ c.get.ensures in
+    ap Some c.whole.ensures.same ∙ ap Some (sym (got pages _ c.get.result.now at)) ∙ sym (present _ _ is.0 pages is.1 c.args.pfn some c.get.result.now) ∙ ap (λ (s : Store). map.get s.pages c.args.pfn) c.self.view_is

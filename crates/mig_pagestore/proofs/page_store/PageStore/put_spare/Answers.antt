@@ -1,55 +1,81 @@
-use Rattle.std.proofs.Common.{◌≡◌, ◌≤◌, ◌+◌, sym, ap, ◌∙◌, subst, length, arith, is_some, true, false}
-use Rattle.std.specs.FinMap as maps
-use Rattle.std.specs.Box.{with_value}
-use Rattle.std.proofs.lemmas.List.Edits.{length-insert}
+use Rattle.std.proofs.Common.{◌≡◌, ◌<◌, ◌+◌, ◌-◌, ◌∷◌, [], ℕ, List, length, set, sym, ap, ◌∙◌, arith, subst, length-append}
+use Rattle.std.specs.FinMap as map
+use Rattle.mig_pagestore.specs.Index.{found}
 use Rattle.mig_pagestore.specs.Pages.{Store}
-use Rattle.mig_pagestore.proofs.ListMaps.{rising_insert, small_insert, get_gap, set_at, insert_gap}
+use Rattle.mig_pagestore.specs.Sound.{Leads}
+use Rattle.mig_pagestore.proofs.ListMaps.{of}
+use Rattle.mig_pagestore.proofs.Leading.{absent, over, behind, leads_on, one_spare, not_there}
 use Rattle.mig_pagestore.proofs.page_store.PageStore.put_spare.Goals as goal
 
-pub unwrap-room-requires : goal.unwrap-room-requires
-unwrap-room-requires c =
-    let is = c.self.invariant in let pfn = c.args.pfn in
-    let gap = rw c.deref.ensures.value at c.in-Err.ensures.absent in
-    let spare = c.requires.room (sym (ap (λ (s : Store). maps.get s.pages pfn) c.self.view_is) ∙ get_gap (λ b. b.value) _ _ is.rising is.as_many pfn _ gap) in
-    let pooled : 1 ≤ length c.self.inside.pool.items = subst (λ (s : Store). 1 ≤ s.spare) (sym c.self.view_is) spare in
-    c.pop.ensures.variant.1 (omega (arith, pooled, c.self.inside.pool.ok.0))
+pub returns-then-place-gt0-clause-pages : goal.returns-then-place-gt0-clause-pages
+returns-then-place-gt0-clause-pages c =
+    let is = c.self.invariant in let pages = c.self.inside.arena.pages in let w = c.args.page.now in
+    let some : 0 < found c.self.inside.index c.args.pfn = omega (arith, c.get-place.ensures, c.if-place-gt0.true) in
+    ap (λ (p : ℕ). of c.self.inside.pfns.items (set pages (p - 1) w)) c.get-place.ensures ∙ over _ _ is.0 pages is.1 c.args.pfn some w ∙ ap (λ (s : Store). map.insert s.pages c.args.pfn w) c.self.view_is
 
-pub invariant_of-self-in-Err : goal.invariant_of-self-in-Err
-invariant_of-self-in-Err c =
-    let is = c.self.invariant in let gap = rw c.deref.ensures.value at c.in-Err.ensures.absent in
-    let pfns_in = rw c.unwrap.ensures at c.insert.ensures.items in
-    let pages_in = rw c.unwrap-in-Err.ensures at c.insert-in-Err.ensures.items in
-    let popped = rw c.unwrap-room.ensures at c.pop.ensures.cases in
-    let pool : length c.pop.new.self.items + 1 ≡ length c.self.inside.pool.items = omega (arith, popped, c.pop.new.self.ok.0, c.self.inside.pool.ok.0) in
-    let pfns = length-insert c.self.inside.pfns.items c.in-Err.at c.args.pfn gap.in_range in
-    let pages = length-insert c.self.inside.pages.items c.in-Err.at (with_value c.unwrap-room.result c.args.page.now) (omega (arith, gap.in_range, is.as_many)) in
-    rw (pfns_in, pages_in)
-    (record {
-      rising = rising_insert _ is.rising c.args.pfn _ gap;
-      small = small_insert _ c.args.pfn _ _ is.small gap c.requires.small;
-      as_many = omega (arith, is.as_many);
-      pfn_room = omega (arith, is.pfn_room, c.insert.ensures.capacity);
-      room_for_pages = omega (arith, is.room_for_pages, c.insert-in-Err.ensures.capacity);
-    })
+pub push-requires : goal.push-requires
+push-requires c =
+    let is = c.self.invariant in
+    let none : found c.self.inside.index c.args.pfn ≡ 0 = omega (arith, c.get-place.ensures, c.if-place-gt0.false) in
+    let one = one_spare _ _ _ c.args.pfn c.self.view_is (absent _ _ is.0 _ is.1 c.args.pfn none) c.requires.room in
+    omega (arith, one, is.2.pages)
 
-pub returns-in-Err-clause-pages : goal.returns-in-Err-clause-pages
-returns-in-Err-clause-pages c =
-    let is = c.self.invariant in let pfn = c.args.pfn in
-    let gap = rw c.deref.ensures.value at c.in-Err.ensures.absent in
-    let pfns_in = rw c.unwrap.ensures at c.insert.ensures.items in
-    let pages_in = rw c.unwrap-in-Err.ensures at c.insert-in-Err.ensures.items in
-    rw (pfns_in, pages_in)
-    (insert_gap (λ b. b.value) _ _ is.rising is.as_many pfn _ (with_value c.unwrap-room.result c.args.page.now) gap ∙ ap (λ (s : Store). maps.insert s.pages pfn c.args.page.now) c.self.view_is)
+pub push_spare-requires : goal.push_spare-requires
+push_spare-requires c =
+    let is = c.self.invariant in
+    let none : found c.self.inside.index c.args.pfn ≡ 0 = omega (arith, c.get-place.ensures, c.if-place-gt0.false) in
+    let one = one_spare _ _ _ c.args.pfn c.self.view_is (absent _ _ is.0 _ is.1 c.args.pfn none) c.requires.room in
+    omega (arith, one, is.2.numbers)
 
-pub returns-in-Ok-clause-pages : goal.returns-in-Ok-clause-pages
-returns-in-Ok-clause-pages c =
-    let is = c.self.invariant in let pfn = c.args.pfn in
-    let at = rw c.deref.ensures.value at c.in-Ok.ensures.found in
-    set_at (λ b. b.value) _ _ is.rising is.as_many pfn _ (with_value c.index_mut.result.now c.args.page.now) at ∙ ap (λ (s : Store). maps.insert s.pages pfn c.args.page.now) c.self.view_is
+pub put_spare-requires-clause-spare : goal.put_spare-requires-clause-spare
+put_spare-requires-clause-spare c =
+    let is = c.self.invariant in
+    let none : found c.self.inside.index c.args.pfn ≡ 0 = omega (arith, c.get-place.ensures, c.if-place-gt0.false) in
+    let one = one_spare _ _ _ c.args.pfn c.self.view_is (absent _ _ is.0 _ is.1 c.args.pfn none) c.requires.room in
+    (omega (arith, one, is.2.mids), omega (arith, one, is.2.leaves))
 
-pub returns-in-Err-clause-in_place : goal.returns-in-Err-clause-in_place
-returns-in-Err-clause-in_place c there =
-    let is = c.self.invariant in let pfn = c.args.pfn in
-    let gap = rw c.deref.ensures.value at c.in-Err.ensures.absent in
-    let gone = ap (λ (s : Store). maps.get s.pages pfn) (sym c.self.view_is) ∙ get_gap (λ b. b.value) _ _ is.rising is.as_many pfn _ gap in
-    let no : false ≡ true = sym (ap is_some gone) ∙ there in cc
+pub overflow_sub-self : goal.overflow_sub-self
+overflow_sub-self c =
+    let is = c.self.invariant in
+    let none : found c.self.inside.index c.args.pfn ≡ 0 = omega (arith, c.get-place.ensures, c.if-place-gt0.false) in
+    one_spare _ _ _ c.args.pfn c.self.view_is (absent _ _ is.0 _ is.1 c.args.pfn none) c.requires.room
+
+pub invariant_of-self-2 : goal.invariant_of-self-2
+invariant_of-self-2 c =
+    let is = c.self.invariant in let pfns = c.self.inside.pfns.items in let k = c.args.pfn in
+    let none : found c.self.inside.index k ≡ 0 = omega (arith, c.get-place.ensures, c.if-place-gt0.false) in
+    let one = one_spare _ _ _ k c.self.view_is (absent _ _ is.0 _ is.1 k none) c.requires.room in
+    let items = c.push_spare.ensures.items in
+    let long : length c.push_spare.new.list.items ≡ length pfns + 1 = ap length items ∙ length-append pfns (k ∷ []) in
+    let count : c.len.result ≡ length pfns + 1 = omega (arith, c.len.ensures, c.push_spare.new.list.ok.0, long) in
+    let put = c.put_spare.ensures in (
+      subst (λ (l : List ℕ). Leads c.put_spare.new.self l) (sym items) (leads_on _ pfns is.0 c.put_spare.new.self k c.len.result put.sound none c.requires.small count put.set),
+      omega (arith, long, is.1, ap length c.push.ensures.pages, length-append c.self.inside.arena.pages (c.args.page.now ∷ [])),
+      record {
+        pages = omega (arith, one, is.2.pages, c.push.ensures.room);
+        numbers = omega (arith, one, is.2.numbers, long, c.push_spare.ensures.capacity);
+        few = omega (arith, one, is.2.few, long);
+        top = λ some. omega (arith, put.top, is.2.top (omega (arith, one)));
+        mids = omega (arith, one, is.2.mids, put.mids.used, put.mids.there);
+        leaves = omega (arith, one, is.2.leaves, put.leaves.used, put.leaves.there);
+      },
+    )
+
+pub returns-clause-pages : goal.returns-clause-pages
+returns-clause-pages c =
+    let is = c.self.invariant in let pages = c.self.inside.arena.pages in let w = c.args.page.now in let k = c.args.pfn in
+    let none : found c.self.inside.index k ≡ 0 = omega (arith, c.get-place.ensures, c.if-place-gt0.false) in
+    (λ i. of (c.push_spare.ensures.items i) (c.push.ensures.pages i)) ∙ behind _ _ is.0 pages is.1 k none w ∙ ap (λ (s : Store). map.insert s.pages k w) c.self.view_is
+
+pub returns-clause-in_place : goal.returns-clause-in_place
+returns-clause-in_place c there =
+    let is = c.self.invariant in
+    let none : found c.self.inside.index c.args.pfn ≡ 0 = omega (arith, c.get-place.ensures, c.if-place-gt0.false) in
+    absurd (not_there _ _ _ c.args.pfn c.self.view_is (absent _ _ is.0 _ is.1 c.args.pfn none) there)
+
+pub put_spare-requires-clause-wide : goal.put_spare-requires-clause-wide
+put_spare-requires-clause-wide c =
+    let is = c.self.invariant in
+    let none : found c.self.inside.index c.args.pfn ≡ 0 = omega (arith, c.get-place.ensures, c.if-place-gt0.false) in
+    let one = one_spare _ _ _ c.args.pfn c.self.view_is (absent _ _ is.0 _ is.1 c.args.pfn none) c.requires.room in
+    is.2.top (omega (arith, one))

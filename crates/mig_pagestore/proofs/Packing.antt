@@ -1,0 +1,135 @@
+-- What edits in one slab do to all pages.
+use Rattle.std.proofs.Common.{◌≡◌, ℕ, zero, suc, ◌+◌, ◌-◌, ◌*◌, ◌/◌, ◌%◌, ◌<◌, ◌≤◌, List, [], ◌∷◌, ◌++◌, length, get_or, set, slice_get, refl, sym, ap, ◌∙◌, subst, arith, length-append, length-set, append-nil, append_assoc}
+use Rattle.mig_slab.specs.Slab.{Pages}
+use Rattle.mig_pagestore.specs.Packed.{IsPacked, all_pages}
+
+module _ {X : Type 0} where
+  get_left : (xs ys : List X) (i : ℕ) → i < length xs → slice_get (xs ++ ys) i ≡ slice_get xs i
+  get_left [] ys i lt = absurd (omega arith)
+  get_left (x ∷ xs) ys zero lt = refl
+  get_left (x ∷ xs) ys (suc i) lt = get_left xs ys i (omega arith)
+
+  get_right : (xs ys : List X) (i k : ℕ) → i ≡ length xs + k → slice_get (xs ++ ys) i ≡ slice_get ys k
+  get_right [] ys i k e = let same : i ≡ k = omega arith in ap (slice_get ys) same
+  get_right (x ∷ xs) ys zero k e = absurd (omega arith)
+  get_right (x ∷ xs) ys (suc i) k e = get_right xs ys i k (omega arith)
+
+  set_left : (xs ys : List X) (i : ℕ) (w : X) → i < length xs → set (xs ++ ys) i w ≡ set xs i w ++ ys
+  set_left [] ys i w lt = absurd (omega arith)
+  set_left (x ∷ xs) ys zero w lt = refl
+  set_left (x ∷ xs) ys (suc i) w lt = ap (λ l. x ∷ l) (set_left xs ys i w (omega arith))
+
+  set_right : (xs ys : List X) (i k : ℕ) (w : X) → i ≡ length xs + k → set (xs ++ ys) i w ≡ xs ++ set ys k w
+  set_right [] ys i k w e = let same : i ≡ k = omega arith in ap (λ m. set ys m w) same
+  set_right (x ∷ xs) ys zero k w e = absurd (omega arith)
+  set_right (x ∷ xs) ys (suc i) k w e = ap (λ l. x ∷ l) (set_right xs ys i k w (omega arith))
+
+zeroth : (r : ℕ) → 0 * 64 + r ≡ r
+zeroth r = omega arith
+
+abbrev pub with_pages : List (List ℕ) → Pages
+with_pages l = record { pages = l }
+
+nothing : (xs ys : List (List ℕ)) → length xs ≡ 0 → ys ≡ [] → xs ++ ys ≡ []
+nothing [] ys e f = f
+nothing (x ∷ xs) ys e f = absurd (omega (arith, e))
+
+empty_rest : (ss : List Pages) → IsPacked ss 0 → all_pages ss ≡ []
+unfolding IsPacked all_pages
+empty_rest [] p = refl
+empty_rest (s ∷ ss) p = nothing s.pages (all_pages ss) (p.2 (omega arith)) (empty_rest ss p.3)
+
+pub count_of : (ss : List Pages) (n : ℕ) → IsPacked ss n → (length (all_pages ss) ≡ n) × (n ≤ length ss * 64)
+unfolding IsPacked all_pages
+count_of [] n p = (omega (arith, p), omega (arith, p))
+count_of (s ∷ ss) n p = let on = count_of ss (n - 64) p.3 in let long = length-append s.pages (all_pages ss) in
+    (grind (arith, long, on.0, p.1, p.2), omega (arith, on.1))
+
+pub at_place : (ss : List Pages) (n j r : ℕ) (s : Pages) → IsPacked ss n → r < 64 → j * 64 + r < n → s ≡ get_or ss j s
+    → (j < length ss) × (r < length s.pages) × (slice_get (all_pages ss) (j * 64 + r) ≡ slice_get s.pages r)
+unfolding IsPacked all_pages
+at_place [] n j r s p small lt e = absurd (omega (arith, p, lt))
+at_place (t ∷ ss) n zero r s p small lt e =
+    let within : r < length t.pages = grind (arith, p.1, p.2, lt, small) in
+    (omega arith, subst (λ (u : Pages). r < length u.pages) (sym e) within, ap (slice_get (t.pages ++ all_pages ss)) (zeroth r) ∙ get_left t.pages (all_pages ss) r within ∙ ap (λ (u : Pages). slice_get u.pages r) (sym e))
+at_place (t ∷ ss) n (suc j) r s p small lt e =
+    let on = at_place ss (n - 64) j r s p.3 small (omega (arith, lt)) e in
+    let full : length t.pages ≡ 64 = p.1 (omega (arith, lt)) in
+    (omega (arith, on.0), on.1, get_right t.pages (all_pages ss) (suc j * 64 + r) (j * 64 + r) (omega (arith, full)) ∙ on.2)
+
+pub set_place : (ss : List Pages) (n j r : ℕ) (s : Pages) (w : List ℕ) → IsPacked ss n → r < 64 → j * 64 + r < n → s ≡ get_or ss j s
+    → IsPacked (set ss j (with_pages (set s.pages r w))) n × (all_pages (set ss j (with_pages (set s.pages r w))) ≡ set (all_pages ss) (j * 64 + r) w)
+unfolding IsPacked all_pages
+set_place [] n j r s w p small lt e = absurd (omega (arith, p, lt))
+set_place (t ∷ ss) n zero r s w p small lt e =
+    let within : r < length t.pages = grind (arith, p.1, p.2, lt, small) in
+    let long = length-set t.pages r w in
+    subst (λ (u : Pages). IsPacked (with_pages (set u.pages r w) ∷ ss) n × (set u.pages r w ++ all_pages ss ≡ set (t.pages ++ all_pages ss) (0 * 64 + r) w)) (sym e)
+    ((omega (arith, long, p.0), λ le. long ∙ p.1 le, λ le. long ∙ p.2 le, p.3), sym (set_left t.pages (all_pages ss) r w within) ∙ ap (λ k. set (t.pages ++ all_pages ss) k w) (sym (zeroth r)))
+set_place (t ∷ ss) n (suc j) r s w p small lt e =
+    let on = set_place ss (n - 64) j r s w p.3 small (omega (arith, lt)) e in
+    let full : length t.pages ≡ 64 = p.1 (omega (arith, lt)) in
+    ((p.0, p.1, p.2, on.0), ap (λ l. t.pages ++ l) on.1 ∙ sym (set_right t.pages (all_pages ss) (suc j * 64 + r) (j * 64 + r) w (omega (arith, full))))
+
+pub push_place : (ss : List Pages) (n j r : ℕ) (s : Pages) (w : List ℕ) → IsPacked ss n → r < 64 → j * 64 + r ≡ n → n < length ss * 64 → s ≡ get_or ss j s
+    → (length s.pages ≡ r) × IsPacked (set ss j (with_pages (s.pages ++ w ∷ []))) (n + 1) × (all_pages (set ss j (with_pages (s.pages ++ w ∷ []))) ≡ all_pages ss ++ w ∷ [])
+unfolding IsPacked all_pages
+push_place [] n j r s w p small is lt e = absurd (omega (arith, lt))
+push_place (t ∷ ss) n zero r s w p small is lt e =
+    let has : length t.pages ≡ r = omega (arith, p.2 (omega (arith, small, is)), is) in
+    let long = length-append t.pages (w ∷ []) in
+    let later : n - 64 ≡ 0 = omega (arith, small, is) in let after : n + 1 - 64 ≡ n - 64 = omega (arith, small, is) in
+    let none : all_pages ss ≡ [] = empty_rest ss (subst (IsPacked ss) later p.3) in
+    subst (λ (u : Pages). (length u.pages ≡ r) × IsPacked (with_pages (u.pages ++ w ∷ []) ∷ ss) (n + 1) × ((u.pages ++ w ∷ []) ++ all_pages ss ≡ (t.pages ++ all_pages ss) ++ w ∷ [])) (sym e) (
+      has,
+      (omega (arith, long, has, small), λ le. omega (arith, long, has, is, le), λ le. omega (arith, long, has, is), subst (IsPacked ss) (sym after) p.3),
+      append_assoc t.pages (w ∷ []) (all_pages ss) ∙ ap (λ l. t.pages ++ (w ∷ l)) none ∙ ap (λ l. l ++ w ∷ []) (sym (append-nil t.pages) ∙ ap (λ l. t.pages ++ l) (sym none)),
+    )
+push_place (t ∷ ss) n (suc j) r s w p small is lt e =
+    let on = push_place ss (n - 64) j r s w p.3 small (omega (arith, is)) (omega (arith, is, lt)) e in
+    let step : n + 1 - 64 ≡ n - 64 + 1 = omega (arith, is) in (
+      on.0,
+      (p.0, λ le. p.1 (omega (arith, is)), λ le. absurd (omega (arith, is, le)), subst (IsPacked (set ss j (with_pages (s.pages ++ w ∷ [])))) (sym step) on.1),
+      ap (λ l. t.pages ++ l) on.2 ∙ sym (append_assoc t.pages (all_pages ss) (w ∷ [])),
+    )
+
+pub one_more : (ss : List Pages) (n : ℕ) (s : Pages) → IsPacked ss n → s.pages ≡ [] → IsPacked (ss ++ s ∷ []) n × (all_pages (ss ++ s ∷ []) ≡ all_pages ss)
+unfolding IsPacked all_pages
+one_more [] n s p e = let none = ap length e in
+    ((omega (arith, none), λ le. absurd (omega (arith, p, le)), λ le. none ∙ sym p, omega (arith, p)), append-nil s.pages ∙ e)
+one_more (t ∷ ss) n s p e = let on = one_more ss (n - 64) s p.3 e in ((p.0, p.1, p.2, on.0), ap (λ l. t.pages ++ l) on.1)
+
+pub whole : (place : ℕ) → place / 64 * 64 + place % 64 ≡ place
+whole place = omega arith
+
+pub small_rest : (place : ℕ) → place % 64 < 64
+small_rest place = omega arith
+
+pub in_slab : (ss : List Pages) (n place : ℕ) → IsPacked ss n → place < n → place / 64 < length ss
+in_slab ss n place p lt = omega (arith, (count_of ss n p).1, lt)
+
+pub pop_place : (ss : List Pages) (n j r : ℕ) (s : Pages) → IsPacked ss n → r < 64 → j * 64 + r + 1 ≡ n → s ≡ get_or ss j s
+    → (0 < length s.pages) × ((us : List (List ℕ)) (w : List ℕ) → s.pages ≡ us ++ w ∷ [] → IsPacked (set ss j (with_pages us)) (n - 1) × (all_pages ss ≡ all_pages (set ss j (with_pages us)) ++ w ∷ []))
+unfolding IsPacked all_pages
+pop_place [] n j r s p small is e = absurd (omega (arith, p, is))
+pop_place (t ∷ ss) n zero r s p small is e =
+    let has : length t.pages ≡ n = p.2 (omega (arith, small, is)) in
+    let later : n - 64 ≡ 0 = omega (arith, small, is) in let after : n - 1 - 64 ≡ n - 64 = omega (arith, small, is) in
+    let none : all_pages ss ≡ [] = empty_rest ss (subst (IsPacked ss) later p.3) in (
+      subst (λ (u : Pages). 0 < length u.pages) (sym e) (omega (arith, has, is)),
+      λ us w split.
+          let cut : t.pages ≡ us ++ w ∷ [] = ap (λ (u : Pages). u.pages) (sym e) ∙ split in
+          let long : length us + 1 ≡ n = omega (arith, ap length cut, length-append us (w ∷ []), has) in (
+            (omega (arith, long, p.0, has), λ le. absurd (omega (arith, le, is, small)), λ le. omega (arith, long), subst (IsPacked ss) (sym after) p.3),
+            (λ i. cut i ++ none i) ∙ append-nil (us ++ w ∷ []) ∙ ap (λ l. l ++ w ∷ []) (sym (append-nil us) ∙ ap (λ l. us ++ l) (sym none)),
+          ),
+    )
+pop_place (t ∷ ss) n (suc j) r s p small is e =
+    let on = pop_place ss (n - 64) j r s p.3 small (omega (arith, is)) e in
+    let step : n - 1 - 64 ≡ n - 64 - 1 = omega (arith, is) in (
+      on.0,
+      λ us w split. let did = on.1 us w split in (
+        (p.0, λ le. p.1 (omega (arith, is)), λ le. p.1 (omega (arith, is)) ∙ omega (arith, le, is), subst (IsPacked (set ss j (with_pages us))) (sym step) did.0),
+        ap (λ l. t.pages ++ l) did.1 ∙ sym (append_assoc t.pages (all_pages (set ss j (with_pages us))) (w ∷ [])),
+      ),
+    )

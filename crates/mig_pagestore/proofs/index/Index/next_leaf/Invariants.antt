@@ -1,0 +1,12 @@
+use Rattle.std.proofs.Common.{◌≡◌, ℕ, ◌-◌, ◌<◌, ◌≤◌, ◌^◌}
+use Rattle.mig_pagestore.specs.Index.{leaf}
+use Rattle.mig_pagestore.proofs.index.Index.next_leaf.Given as goal
+
+abbrev pub invariant-loop-at : goal.invariant-loop-at
+invariant-loop-at l = record {
+  range : (l.from ≤ l.at) × (l.at ≤ 2 ^ 19);
+  none : (k : ℕ) → l.from ≤ k → k < l.at → leaf l.self k ≡ 0;
+}
+
+abbrev pub decreases-loop-at : goal.decreases-loop-at
+decreases-loop-at l = 2 ^ 19 - l.at

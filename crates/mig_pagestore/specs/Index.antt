@@ -1,0 +1,50 @@
+-- What an index finds.
+use Rattle.std.specs.Prelude.{◌≡◌, ◌≢◌, ℕ, ◌+◌, ◌*◌, ◌≤◌, List, length, slice_index}
+use Rattle.mig_pagestore.specs.Radix.{under, IsLevel, IsFan}
+use Rattle.mig_pagestore.specs.declared.index.Index.{Index}
+use Rattle.mig_pagestore.specs.declared.level.Level.{Level}
+
+-- the node of the third level for the numbers k * 512 to k * 512 + 511
+abbrev pub leaf_in : List ℕ → List ℕ → ℕ → ℕ
+leaf_in top mids = under (slice_index top) mids
+
+-- the value of number k; 0 where there is none
+abbrev pub found_in : List ℕ → List ℕ → List ℕ → ℕ → ℕ
+found_in top mids leaves = under (leaf_in top mids) leaves
+
+pub record IsTree (top mids : List ℕ) (mids_used : ℕ) (leaves : List ℕ) (leaves_used : ℕ) : Type 0 where
+  pub mids_level : IsLevel mids mids_used
+  pub leaves_level : IsLevel leaves leaves_used
+  pub to_mids : IsFan (slice_index top) mids_used
+  pub to_leaves : IsFan (leaf_in top mids) leaves_used
+
+abbrev pub IsIndex : Index → Type 0
+IsIndex x = IsTree x.top.items x.mids.cells.items x.mids.used x.leaves.cells.items x.leaves.used
+
+abbrev pub mid : Index → ℕ → ℕ
+mid x = slice_index x.top.items
+
+abbrev pub leaf : Index → ℕ → ℕ
+leaf x = leaf_in x.top.items x.mids.cells.items
+
+abbrev pub found : Index → ℕ → ℕ
+found x = found_in x.top.items x.mids.cells.items x.leaves.cells.items
+
+-- nodes that are there and not in use
+abbrev pub HasSpare : List ℕ → ℕ → ℕ → Type 0
+HasSpare cells used more = (used + more) * 512 ≤ length cells
+
+-- the same but for the value of one number
+pub record Sets (x y : Index) (k v : ℕ) : Type 0 where
+  pub here : found y k ≡ v
+  pub there : (q : ℕ) → q ≢ k → found y q ≡ found x q
+
+-- at most one more node is in use, and as many are there
+pub record IsOneLess (x y : Level) : Type 0 where
+  pub used : y.used ≤ x.used + 1
+  pub there : length y.cells.items ≡ length x.cells.items
+
+-- as many nodes are in use, and no fewer are there
+pub record IsKept (x y : Level) : Type 0 where
+  pub used : y.used ≡ x.used
+  pub there : length x.cells.items ≤ length y.cells.items

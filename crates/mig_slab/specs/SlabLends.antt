@@ -1,0 +1,9 @@
+-- What a slab ends as, once a `&mut` into it has ended.
+use Rattle.std.specs.Prelude.{ℕ, List, slice_set}
+use Rattle.std.specs.Borrow.{Fml, MutBor, Array, u8, Lends}
+use Rattle.mig_slab.specs.Slab.{Pages}
+use Rattle.mig_slab.specs.contracts.slab.Slab.{the_row}
+
+-- the page at the index is the last one written through r
+abbrev pub lends_page : MutBor Pages → ℕ → MutBor (List ℕ) → Fml
+lends_page s i r = Lends the_row (Array u8 4096) s r (λ w. record { pages = slice_set s.now.pages i w })
