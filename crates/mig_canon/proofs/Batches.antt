@@ -100,15 +100,3 @@ words_put i fs rest e buf new is room before put =
 pub pages_put : (i : ℕ) (fs rest : List Frame) (e : Frame) (n m : ℕ) (buf new : List ℕ) → drop i fs ≡ e ∷ rest → take (4096 * n) buf ≡ pages_of (take i fs) → take (4096 * (n + m)) new ≡ take (4096 * n) buf ++ page_in e
     → take (4096 * (n + m)) new ≡ pages_of (take (i + 1) fs)
 pages_put i fs rest e n m buf new is before put = put ∙ ap (λ l. l ++ page_in e) before ∙ sym (flat_next page_in i fs rest e is)
-
--- some frames more
-pub pages_more : (i n : ℕ) (fs : List Frame) → pages_of (take (i + n) fs) ≡ pages_of (take i fs) ++ pages_of (take n (drop i fs))
-pages_more i n fs = ap pages_of (take-add i n fs) ∙ flat_map-append page_in (take i fs) (take n (drop i fs))
-
--- and those behind them
-pub pages_split : (i n count : ℕ) (fs : List Frame) → i + n ≤ count
-    → pages_of (take count fs) ≡ pages_of (take i fs) ++ (pages_of (take n (drop i fs)) ++ pages_of (take (count - (i + n)) (drop (i + n) fs)))
-pages_split i n count fs le =
-    ap (λ m. pages_of (take m fs)) (let e : count ≡ (i + n) + (count - (i + n)) = omega (arith, le) in e) ∙ pages_more (i + n) (count - (i + n)) fs
-    ∙ ap (λ l. l ++ pages_of (take (count - (i + n)) (drop (i + n) fs))) (pages_more i n fs)
-    ∙ append_assoc (pages_of (take i fs)) (pages_of (take n (drop i fs))) (pages_of (take (count - (i + n)) (drop (i + n) fs)))

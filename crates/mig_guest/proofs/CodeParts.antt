@@ -1,6 +1,6 @@
 -- The parts of a code that a well formed guest has: each by its row, and how many there are at most.
 use Rattle.std.proofs.Common.{◌≡◌, ℕ, ◌+◌, ◌≤◌, ◌<◌, List, [], ◌∷◌, length, true, refl, sym, ap, subst, ◌∙◌, arith}
-use Rattle.std.specs.Prelude.{T, nat_lt, ◌==◌, ◌&&◌}
+use Rattle.std.specs.Prelude.{T, nat_lt, ◌==◌}
 use Rattle.std.proofs.lemmas.Bool.{and_parts, eqb-true, ltb-true}
 use Rattle.std.proofs.lemmas.Cmp.{nat_cmp_total, ranked, tied_itself}
 use Rattle.std.proofs.lemmas.List.Elements.{All-nil, All-cons, All-head, All-tail, All-filter, filter_passes}
@@ -12,16 +12,15 @@ use Rattle.std.specs.FinMap as maps
 use Rattle.std.specs.FinMap.{is_sorted}
 use Rattle.std.specs.FinMap.Entries.{below_all, is_sorted-where_key}
 use Rattle.mig_guest.specs.declared.part_code.PartCode.{PartCode}
-use Rattle.mig_guest.specs.declared.part_code.PartCode.TheVariants.{Tsc, HvmContext}
 use Rattle.mig_guest.specs.Formed.{IsPart, IsFormed, width_of}
 use Rattle.mig_guest.specs.Guests.{GuestOf}
 use Rattle.mig_guest.specs.Order.{part_cmp}
 use Rattle.mig_guest.specs.PartCodes.{code_number, row_of, small_number}
 use Rattle.mig_guest.specs.Parts.{Part, parts_of}
 use Rattle.mig_guest.proofs.Found.{all_found}
-use Rattle.mig_guest.proofs.PartCursor.{both_of, not_itself}
+use Rattle.mig_guest.proofs.PartCursor.{both_of}
 use Rattle.mig_guest.proofs.PartOrder.{part_total, part_exact}
-use Rattle.mig_guest.proofs.PartRows.{IsOf, of_part, sole}
+use Rattle.mig_guest.proofs.PartRows.{IsOf, of_part}
 
 pub all_of : {A : Type 0} (P Q R : A → Type 0) → ((e : A) → P e → Q e → R e) → (es : List A) → All P es → All Q es → All R es
 all_of P Q R go [] p q = All-nil R
@@ -76,15 +75,3 @@ few_small g code small formed = few_rows code (width_of g) 4096 (λ p. p.0.key1)
         let compared = nat_cmp p.0.key1 q.0.key1 in
         let same = (λ i. is_lt (part_cmp ((is_small p one).1 i) ((is_small q two).1 i))) ∙ ap (λ r. is_lt (ordering_then r (ordering_then compared Equal))) (tied_itself nat_cmp_total (code_number code)) in
         by p.0.key1 q.0.key1 compared refl (subst T same less)
-
--- a code with one key has one part
-one_of : (g : GuestOf) (code : PartCode) → ((p : Part) → IsOf code (width_of g) p → ((p.0.key1 == 0) && (p.0.key2 == 0)) ≡ true) → IsFormed g → length (held_in code g) ≤ 1
-one_of g code none formed = few_rows code (width_of g) 1 (λ _. 0) (λ _ _. omega arith) (λ p q one two less.
-    let same : p.0 ≡ q.0 = sole code (width_of g) p one (none p one) ∙ sym (sole code (width_of g) q two (none q two)) in
-    absurd (subst T (ap (λ k. is_lt (part_cmp p.0 k)) (sym same) ∙ not_itself part_total p.0) less)) (held_in code g) (in_order g code) (parts_are g code formed)
-
-pub one_tsc : (g : GuestOf) → IsFormed g → length (held_in Tsc g) ≤ 1
-one_tsc g formed = one_of g Tsc (λ p one. one.keys) formed
-
-pub one_context : (g : GuestOf) → IsFormed g → length (held_in HvmContext g) ≤ 1
-one_context g formed = one_of g HvmContext (λ p one. one.keys) formed

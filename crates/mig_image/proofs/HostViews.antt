@@ -11,7 +11,8 @@ use Rattle.mig_guest.specs.Frames.{FrameOf}
 use Rattle.mig_guest.specs.Guests.{GuestOf}
 use Rattle.mig_guest.specs.Formed.{IsPart, IsTop, width_of}
 use Rattle.mig_guest.proofs.PartOrder.{part_total, part_exact}
-use Rattle.mig_guest.proofs.PartRows.{context_part}
+use Rattle.mig_guest.proofs.PartRows.{of_part}
+use Rattle.mig_guest.specs.declared.part_code.PartCode.TheVariants.{HvmContext}
 use Rattle.mig_pvtables.specs.View.{without_machine, cut_by, part_seen, hvm_view}
 use Rattle.mig_pvtables.specs.Whole.{IsWhole}
 use Rattle.mig_pvtables.proofs.EachValue.{each_each, each_same}
@@ -31,5 +32,5 @@ hosted_seen g base whole hvm =
     stays key bytes part = by (nat_eq key.code 9) refl
       where
         by : (b : Bool) → nat_eq key.code 9 ≡ b → cond b (cut_by (scan bytes) bytes) bytes ≡ bytes
-        by true same = let (end, scanned, cut) = (context_part g.kind (width_of g) key bytes part (eqb-true key.code 9 same)).2 in ap (λ r. cut_by r bytes) scanned ∙ cut
+        by true same = let (end, scanned, cut) = (of_part HvmContext g.kind (width_of g) (key, bytes) part (eqb-true key.code 9 same)).content in ap (λ r. cut_by r bytes) scanned ∙ cut
         by false same = refl

@@ -1,7 +1,7 @@
 -- The pieces of an image, as they are put together and written one behind the other.
-use Rattle.std.proofs.Common.{◌≡◌, ℕ, ◌+◌, ◌<◌, ◌≤◌, cond, true, nat_le, List, [], ◌∷◌, ◌++◌, length, take, drop, Option, Result, refl, sym, ap, subst, ◌∙◌, arith, take-append-drop, drop-drop, append-nil, ◌^◌, codes, length-append, length-drop}
+use Rattle.std.proofs.Common.{◌≡◌, ℕ, ◌+◌, ◌<◌, ◌≤◌, cond, true, nat_le, List, [], ◌∷◌, ◌++◌, length, take, drop, Option, Result, refl, sym, ap, subst, ◌∙◌, arith, take-append-drop, drop-drop, append-nil, ◌^◌, codes, length-drop}
 use Rattle.std.proofs.lemmas.Grind.{flat_map-append, common_steps}
-use Rattle.std.proofs.lemmas.List.{length-drop, take_all, drop_all}
+use Rattle.std.proofs.lemmas.List.{length-drop, take_all}
 use Rattle.std.proofs.lemmas.List.Elements.{All-head, All-drop, All-from_recursion}
 use Rattle.std.proofs.Math.Seq.{take-add}
 use Rattle.std.specs.List.{All, AllByRecursion, flat_map}
@@ -9,12 +9,10 @@ use Rattle.std.specs.Result.{IsErrAnd}
 use Rattle.std.specs.Io.KnownBytes.{Appends}
 use Rattle.std.proofs.KnownBytes.{Appends-trans}
 use Rattle.std.specs.FinMap as maps
-use lib.Seq.{take-append-le}
 use Rattle.byteorder.specs.Endian.{little_bytes}
 use Rattle.mig_bytes.specs.declared.failure.WriteFailed.{WriteFailed}
 use Rattle.mig_bytes.specs.Bytes.{AppendsPart, Puts}
 use Rattle.mig_bytes.proofs.Texts.{puts_then, puts_stop, puts_same}
-use Rattle.mig_bytes.specs.Fields.{with_field}
 use Rattle.mig_headers.specs.Headers.{kind_number}
 use Rattle.mig_headers.specs.declared.kind.Kind.{Kind}
 use Rattle.mig_guest.specs.Frames.{entries_from}
@@ -81,11 +79,3 @@ pub part_small : (h : HostOf) (i : ℕ) (e : PartKey × List ℕ) (rest : List (
 part_small h i e rest valid is =
     let part = holds_at (λ (e : PartKey × List ℕ). IsHostPart h.kind h.width e.0 e.1) i (maps.entries h.parts) rest e is (each_entry part_total part_exact (IsHostPart h.kind h.width) h.parts valid.parts) in
     len_small part.code h.width (length e.1) valid.width part.len
-
--- a front and what follows it, put one after the other in a buffer of their length
-pub both_put : (n : ℕ) (room x y front page : List ℕ) → length front ≡ n → length room ≡ n + length page → x ≡ with_field room 0 front → y ≡ with_field x n page → y ≡ front ++ page
-both_put n room x y front page size whole p q =
-    let behind = drop (0 + length front) room in
-    let first : take n x ≡ front = ap (take n) p ∙ take-append-le n front behind (omega (arith, size)) ∙ take_all n front (omega (arith, size)) in
-    let all : length x ≡ n + length page = omega (arith, ap length p, length-append front behind, length-drop (0 + length front) room, size, whole) in
-    q ∙ ap (λ l. l ++ (page ++ drop (n + length page) x)) first ∙ ap (λ l. front ++ (page ++ l)) (drop_all (n + length page) x (omega (arith, all))) ∙ ap (λ l. front ++ l) (append-nil page)

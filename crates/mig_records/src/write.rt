@@ -1,4 +1,5 @@
 #![tactic(auto, using(mig_bytes::proofs::Texts::puts_then, mig_bytes::proofs::Texts::puts_part), unfolding(crate::specs::Records::spelled))]
+
 ghost use Rattle.std.specs.Prelude.{◌≡◌, ◌≤◌, ◌^◌, length, replicate};
 ghost use Rattle.mig_bytes.specs.Bytes.{Puts, padding_len};
 ghost use Rattle.mig_bytes.specs.Faults.{HasCause};

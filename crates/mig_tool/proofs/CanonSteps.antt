@@ -28,6 +28,7 @@ use Rattle.mig_guest.specs.PartCodes.{code_number}
 use Rattle.mig_guest.specs.Parts.{Part, PartMap, put_parts, replace_code}
 use Rattle.mig_guest.specs.Formed.{IsFormed, is_policy}
 use Rattle.mig_guest.proofs.PartCursor.{both_of, not_itself}
+use Rattle.mig_guest.proofs.PartOrder.{part_total}
 use Rattle.mig_bodies.specs.declared.shape.Shape.{Shape}
 use Rattle.mig_bodies.specs.declared.shape.Shape.TheVariants.{Table, Single, Named, Chain, Other}
 use Rattle.mig_bodies.specs.Shapes.{shape_of, set_parts, parts_at, part_body, bodies_by_shape, canonical_bodies, contents_by_shape, sole_key, IsBody, IsShaped, SayAll}
@@ -256,7 +257,7 @@ one_each code body key (p ∷ []) order say = omega arith
 one_each code body key (p ∷ q ∷ ps) order say =
     let first = (both_of (is_lt (part_cmp p.0 q.0)) (below_all part_cmp p.0 ps) (both_of (below_all part_cmp p.0 (q ∷ ps)) (is_sorted part_cmp (q ∷ ps)) order).0).0 in
     let same = key (body p) p say.0.says ∙ sym (key (body q) q say.1.0.says) in
-    absurd (subst T (ap (λ k. is_lt (part_cmp p.0 k)) (sym same) ∙ not_itself p.0) first)
+    absurd (subst T (ap (λ k. is_lt (part_cmp p.0 k)) (sym same) ∙ not_itself part_total p.0) first)
 
 first_key : (p : Part) (k : PartKey) (bytes : List ℕ) → p ∷ [] ≡ (k, bytes) ∷ [] → p.0 ≡ k
 first_key p k bytes is = let e : p ≡ (k, bytes) = cc in ap (λ (r : Part). r.0) e

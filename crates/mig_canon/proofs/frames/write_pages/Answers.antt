@@ -2,10 +2,9 @@ use Rattle.std.proofs.Common.{take, drop, sym, ap, subst, ◌∙◌, rules, arit
 use Rattle.std.specs.Io.KnownBytes.{Appends}
 use Rattle.std.proofs.KnownBytes.{Appends-trans}
 use Rattle.mig_bytes.specs.Bytes.{AppendsPart}
-use Rattle.mig_bytes.proofs.Texts.{puts_then, puts_stop, puts_same}
+use Rattle.mig_bytes.proofs.Texts.{puts_then, puts_stop, puts_same, flat_more, flat_parted}
 use Rattle.mig_guest.specs.Frames.{entries_from}
-use Rattle.mig_canon.specs.Canon.{pages_of, frames_in}
-use Rattle.mig_canon.proofs.Batches.{pages_more, pages_split}
+use Rattle.mig_canon.specs.Canon.{page_in, pages_of, frames_in}
 use Rattle.mig_canon.proofs.frames.write_pages.Goals as goal
 
 pub returns-in_err-put_all-clause-bytes : goal.returns-in_err-put_all-clause-bytes
@@ -13,7 +12,7 @@ returns-in_err-put_all-clause-bytes g c =
     let all = entries_from c.args.start (frames_in c.args.guest.now) in
     let r = c.from_residual.result in
     let text = c.fill_pages-next.ensures.bytes ∙ ap (λ l. pages_of (take c.min-some.result l)) c.loop-done.invariant.at in
-    puts_same _ _ _ _ r (pages_split c.loop-done.done c.min-some.result c.args.count all (omega arith))
+    puts_same _ _ _ _ r (flat_parted page_in c.loop-done.done c.min-some.result c.args.count all (omega arith))
     (puts_then _ _ _ _ _ r c.loop-done.invariant.bytes (puts_stop _ _ _ _ _ _ r c.from_residual.ensures.1 (subst (AppendsPart _ _) text c.in_err-put_all.ensures.bytes)))
 
 pub loop-done-preserved : goal.loop-done-preserved
@@ -22,7 +21,7 @@ loop-done-preserved g c =
     let text = c.fill_pages-next.ensures.bytes ∙ ap (λ l. pages_of (take c.min-some.result l)) c.loop-done.invariant.at in
     record {
       at = c.fill_pages-next.ensures.next ∙ ap (drop c.min-some.result) c.loop-done.invariant.at ∙ drop-drop c.min-some.result c.loop-done.done all;
-      bytes = subst (Appends _ _) (sym (pages_more c.loop-done.done c.min-some.result all)) (Appends-trans _ _ _ _ _ c.loop-done.invariant.bytes (subst (Appends _ _) text c.in_ok-put_all.ensures.bytes));
+      bytes = subst (Appends _ _) (sym (flat_more page_in c.loop-done.done c.min-some.result all)) (Appends-trans _ _ _ _ _ c.loop-done.invariant.bytes (subst (Appends _ _) text c.in_ok-put_all.ensures.bytes));
       within = omega arith;
       room = search rules;
       quiet = search rules;
