@@ -25,6 +25,10 @@ use std::{env, io};
 /// How much of standard input is read at once.
 const INPUT_BUFFER: usize = 131072;
 
+/// A block of this size, let go at once, makes the C library's allocator give blocks of up to this size out of one heap:
+/// slabs of pages then lie one behind another, and none is rounded up to whole pages of its own.
+const HEAP_BLOCK: usize = 16 << 20;
+
 /// The words behind the program's name; None where there is no memory. Words that aren't UTF-8 name no command, as no
 /// words do.
 fn words_of(alloc: Global, args: io::Result<env::Args>) -> Option<Vec<String>> {
@@ -43,6 +47,7 @@ fn words_of(alloc: Global, args: io::Result<env::Args>) -> Option<Vec<String>> {
 
 fn main(rt: HostRuntime) -> ExitCode {
     let alloc = rt.alloc();
+    let _ = Vec::<u8>::with_capacity(alloc, HEAP_BLOCK);
     let mut report = OutSink::new(rt.stderr());
     let words = words_of(alloc, env::args(&rt));
     let reader = BufReader::with_capacity(alloc, INPUT_BUFFER, rt.stdin());
