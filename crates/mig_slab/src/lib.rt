@@ -3,6 +3,7 @@
 
 #![tactic(auto)]
 
+mod cells;
 mod slab;
 
 pub use slab::{PLACES, Slab};

@@ -1,29 +1,33 @@
 ghost use Rattle.std.specs.Prelude.{◌≡◌, ◌<◌, ◌≤◌, [], ◌∷◌, ◌++◌, length, slice_get, IfOk, Some};
 ghost use Rattle.std.specs.Borrow.{sem};
 
+use crate::cells::{Base, Cells, Deed, allocate, deallocate};
 use std::alloc::{AllocError, Global};
 use std::marker::Model;
 
 /// How many pages a slab has room for.
 pub const PLACES: usize = 64;
 
-/// Up to 64 pages.
-#[derive(Drop)]
+/// Up to 64 pages, in one block of raw memory.
 pub struct Slab {
-    pages: Vec<[u8; 4096]>,
+    base: Base,
+    len: usize,
+    cells: Cells,
+    deed: Deed<Global>,
+    alloc: Global,
 }
 
 impl Model for Slab {
-    ghost use Rattle.std.specs.Prelude.{◌≤◌, length, vec_capacity};
+    ghost use Rattle.std.specs.Prelude.{◌≡◌, ◌≤◌, length};
     ghost use Rattle.mig_slab.specs.Slab.{Pages, pages_code};
 
     ghost Value = { Pages };
 
     ghost coded = { pages_code };
 
-    ghost view = { λ s. record { pages = s.pages.items } };
+    ghost view = { λ s. record { pages = s.cells.pages } };
 
-    ghost invariant = { λ s. (length s.pages.items ≤ 64) × (64 ≤ vec_capacity s.pages) };
+    ghost invariant = { λ s. (s.cells.at ≡ s.base.ptr) × (s.deed.at ≡ s.base.ptr) × (s.deed.alloc ≡ s.alloc) × (s.len ≡ length s.cells.pages) × (s.len ≤ 64) };
 }
 
 impl Slab {
@@ -33,8 +37,14 @@ impl Slab {
     pub fn new(alloc: Global) -> Result<Slab, AllocError>
         ensures { IfOk result (λ s. s.pages ≡ []) }
     {
-        let pages = Vec::with_capacity(alloc, PLACES)?;
-        Ok(Slab { pages })
+        let (base, cells, deed) = allocate(&alloc)?;
+        Ok(Slab {
+            base,
+            len: 0,
+            cells,
+            deed,
+            alloc,
+        })
     }
 
     /// How many pages are in it.
@@ -42,7 +52,7 @@ impl Slab {
         ensures len { result ≡ length self.now.pages }
         ensures most { result ≤ 64 }
     {
-        self.pages.len()
+        self.len
     }
 
     /// Puts a page behind the others, and takes no memory.
@@ -50,7 +60,8 @@ impl Slab {
         requires { length self.old.pages < 64 }
         ensures { self.new.pages ≡ self.old.pages ++ page.now ∷ [] }
     {
-        self.pages.push(*page).unwrap();
+        self.cells.push(self.base, self.len, *page);
+        self.len += 1;
     }
 
     /// Takes the last page out.
@@ -58,7 +69,8 @@ impl Slab {
         requires { 0 < length self.old.pages }
         ensures { self.old.pages ≡ self.new.pages ++ result ∷ [] }
     {
-        self.pages.pop().unwrap()
+        self.len -= 1;
+        self.cells.pop(self.base, self.len)
     }
 
     /// The page at this place.
@@ -66,7 +78,7 @@ impl Slab {
         requires { at < length self.now.pages }
         ensures { slice_get self.now.pages at ≡ Some result.now }
     {
-        &self.pages[at]
+        &self.cells.pages(self.base, self.len)[at]
     }
 
     /// Lends the page at this place for writing.
@@ -75,6 +87,19 @@ impl Slab {
         ensures* writes_back { sem 𝓛 (lends_page self.entry at result) }
         ensures value { slice_get self.old.pages at ≡ Some result.now }
     {
-        &mut self.pages[at]
+        self.cells.page_mut(self.base, at)
+    }
+}
+
+impl Drop for Slab {
+    fn drop(self) {
+        let Slab {
+            base,
+            len: _,
+            cells,
+            deed,
+            alloc,
+        } = self;
+        deallocate(&alloc, base, cells, deed);
     }
 }

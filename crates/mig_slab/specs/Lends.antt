@@ -1,0 +1,12 @@
+-- What the cells end as, once a `&mut` to a page of theirs has ended.
+use Rattle.std.specs.Prelude.{ℕ, List, slice_set}
+use Rattle.std.specs.Borrow.{Fml, MutBor, Lends}
+use Rattle.mig_slab.specs.Ownership.{Page}
+use Rattle.mig_slab.specs.declared.cells.Cells.{Cells}
+use Rattle.mig_slab.specs.contracts.cells.Cells.{the_row}
+
+abbrev pub with_page : Cells → ℕ → List ℕ → Cells
+with_page c i w = record { mark = c.mark; at = c.at; pages = slice_set c.pages i w }
+
+abbrev pub lends_cell : MutBor Cells → ℕ → MutBor (List ℕ) → Fml
+lends_cell c i r = Lends the_row Page c r (with_page c.now i)

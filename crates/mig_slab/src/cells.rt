@@ -1,0 +1,102 @@
+//! The block of raw memory in which a slab's pages lie one behind another. All pointers are here.
+ghost use Rattle.std.specs.Prelude.{◌≡◌, ℕ, ◌+◌, ◌<◌, ◌≤◌, List, [], ◌∷◌, ◌++◌, length, slice_index_or, IfOk};
+ghost use Rattle.std.specs.Borrow.{sem};
+ghost use denote.RawPtr.{Ptr};
+ghost use Rattle.mig_slab.specs.Ownership.{cells_own, cells_lent, deed_owns};
+
+use crate::slab::PLACES;
+use std::alloc::{AllocError, Allocator};
+use std::marker::{Model, PhantomData};
+use std::slice;
+
+const BYTES: usize = PLACES * 4096;
+
+/// Where the block begins. It owns nothing.
+#[derive(Clone, Copy)]
+pub struct Base {
+    ptr: *mut [u8; 4096],
+}
+
+/// The owner of the pages and of the room behind them. It takes no space: the slab holds the pointer.
+pub struct Cells {
+    mark: PhantomData<*const u8>,
+    ghost at: { Ptr },
+    ghost pages: { List (List ℕ) },
+}
+
+impl Model for Cells {
+    ghost also_owns = { λ c. cells_own c.at c.pages };
+
+    ghost also_shares = { λ c _ κ. cells_lent c.at c.pages κ };
+}
+
+/// The right to give the block at `at` back to `alloc`. It takes no space.
+pub struct Deed<A: Allocator> {
+    mark: PhantomData<A>,
+    ghost at: { Ptr },
+    ghost alloc: { A },
+}
+
+impl<A: Allocator> Model for Deed<A> {
+    ghost also_owns = { λ d. deed_owns (A.dealloc_token d.alloc) d.at };
+}
+
+pub(crate) fn allocate<A: Allocator>(alloc: &A) -> Result<(Base, Cells, Deed<A>), AllocError>
+    ensures { IfOk result (λ r. (r.1.at ≡ r.0.ptr) × (r.1.pages ≡ []) × (r.2.at ≡ r.0.ptr) × (r.2.alloc ≡ alloc.now)) }
+{
+    match alloc.allocate(BYTES, 1) {
+        Ok(block) => {
+            let ptr = block as *mut [u8; 4096];
+            Ok((
+                Base { ptr },
+                Cells { mark: PhantomData },
+                Deed { mark: PhantomData },
+            ))
+        }
+        Err(error) => Err(error),
+    }
+}
+
+pub(crate) fn deallocate<A: Allocator>(alloc: &A, base: Base, cells: Cells, deed: Deed<A>)
+    requires { (cells.at ≡ base.ptr) × (length cells.pages ≤ 64) × (deed.at ≡ base.ptr) × (deed.alloc ≡ alloc.now) }
+{
+    let Cells { mark: _ } = cells;
+    let Deed { mark: _ } = deed;
+    unsafe {
+        alloc.deallocate(base.ptr as *mut u8, BYTES, 1);
+    }
+}
+
+impl Cells {
+    ghost use Rattle.mig_slab.specs.Lends.{lends_cell};
+
+    pub(crate) fn push(&mut self, base: Base, len: usize, page: [u8; 4096])
+        requires { (base.ptr ≡ self.old.at) × (len ≡ length self.old.pages) × (len < 64) }
+        ensures { (self.new.at ≡ self.old.at) × (self.new.pages ≡ self.old.pages ++ page ∷ []) }
+    {
+        unsafe { base.ptr.add(len).write(page) }
+    }
+
+    /// Leaves `len` pages.
+    pub(crate) fn pop(&mut self, base: Base, len: usize) -> [u8; 4096]
+        requires { (base.ptr ≡ self.old.at) × (length self.old.pages ≡ len + 1) × (len < 64) }
+        ensures { (self.new.at ≡ self.old.at) × (self.old.pages ≡ self.new.pages ++ result ∷ []) }
+    {
+        unsafe { base.ptr.add(len).read() }
+    }
+
+    pub(crate) fn pages(&self, base: Base, len: usize) -> &[[u8; 4096]]
+        requires { (base.ptr ≡ self.now.at) × (len ≡ length self.now.pages) × (len ≤ 64) }
+        ensures { result.now ≡ self.now.pages }
+    {
+        unsafe { slice::from_raw_parts(base.ptr, len) }
+    }
+
+    pub(crate) fn page_mut(&mut self, base: Base, at: usize) -> &mut [u8; 4096]
+        requires { (base.ptr ≡ self.old.at) × (at < length self.old.pages) × (length self.old.pages ≤ 64) }
+        ensures* writes_back { sem 𝓛 (lends_cell self.entry at result) }
+        ensures value { result.now ≡ slice_index_or self.old.pages at [] }
+    {
+        unsafe { &mut *base.ptr.add(at) }
+    }
+}
