@@ -20,7 +20,7 @@ use denote.Struct.Owning.{shape}
 use Rattle.mig_slab.specs.Ownership.{Page, block}
 use Rattle.mig_slab.specs.contracts.cells.Cells as C
 
--- the one field of `Cells`, which takes no bytes
+-- the one field of `Cells` and of `Deed`, which takes no bytes
 abbrev pub Mark : RattleType
 Mark = Struct (shape C.the_type)
 
@@ -42,7 +42,8 @@ cut_end (p ∷ []) h = ([], p, refl)
 cut_end (p ∷ q ∷ ps) h = let on = cut_end (q ∷ ps) (omega arith) in (p ∷ on.0, on.1, ap (λ l. p ∷ l) on.2)
 
 -- a constant that `lit` doesn't take
-pub big : {M : Type 1} {𝓤 : Ura M} {𝓛 : Logic 𝓤} {K : Type 0} {Γ : List (Item 𝓤)} {E : Env 𝓤 𝓛.H} → K → {w : Width} {n : ℕ} → Fits w n → Opd K 𝓛 Γ E (int_big w n) (vint w n)
+pub big : {M : Type 1} {𝓤 : Ura M} {𝓛 : Logic 𝓤} {K : Type 0} {Γ : List (Item 𝓤)} {E : Env 𝓤 𝓛.H} → K → {w : Width} {n : ℕ} → Fits w n
+    → Opd K 𝓛 Γ E (int_big w n) (vint w n)
 big {𝓤 = 𝓤} t {w} {n} z = record { go = λ Kt h. via 𝓤 (Kt (vint w n)) h (guard_i 𝓤 (Fits w n) (Kt (vint w n)) z) }
 
 module _ {M : Type 1} {𝓤 : Ura M} (𝓛 : Logic 𝓤) (b : ℕ) where
@@ -54,18 +55,22 @@ module _ {M : Type 1} {𝓤 : Ura M} (𝓛 : Logic 𝓤) (b : ℕ) where
   abbrev One : ℕ → List ℕ → Fml
   One o p = part_at Page full_share p b o
 
-  pub snoc : (ps : List (List ℕ)) (p : List ℕ) (o at : ℕ) → at ≡ length ps * 4096 + o → ent 𝓤 (sep 𝓤 (sem 𝓛 (Row o ps)) (sem 𝓛 (One at p))) (sem 𝓛 (Row o (ps ++ p ∷ [])))
+  pub snoc : (ps : List (List ℕ)) (p : List ℕ) (o at : ℕ) → at ≡ length ps * 4096 + o
+      → ent 𝓤 (sep 𝓤 (sem 𝓛 (Row o ps)) (sem 𝓛 (One at p))) (sem 𝓛 (Row o (ps ++ p ∷ [])))
   snoc [] p o at e = qed 𝓛 (‵ (Row o []) ∷ ‵ (One at p) ∷ []) ∵ rewrite ! 1 (λ (k : ℕ). ‵ (One k p)) {x = o} (omega arith) refl $ move ! (1 ∷ 0 ∷ []) $ fjoin ! $ done !
   snoc (x ∷ ps) p o at e = let more : at ≡ suc (length ps) * 4096 + o = e in qed 𝓛 (‵ (Row o (x ∷ ps)) ∷ ‵ (One at p) ∷ []) ∵ fsplit ! $ move ! (1 ∷ 2 ∷ []) $
       use2 𝓛 (‵ (Row (o + 4096) (ps ++ p ∷ []))) (snoc ps p (o + 4096) at (omega arith)) $ move ! (1 ∷ 0 ∷ []) $ fjoin ! $ done !
 
-  pub unsnoc : (ps : List (List ℕ)) (p : List ℕ) (o at : ℕ) → at ≡ length ps * 4096 + o → ent 𝓤 (sem 𝓛 (Row o (ps ++ p ∷ []))) (sep 𝓤 (sem 𝓛 (One at p)) (sem 𝓛 (Row o ps)))
+  pub unsnoc : (ps : List (List ℕ)) (p : List ℕ) (o at : ℕ) → at ≡ length ps * 4096 + o
+      → ent 𝓤 (sem 𝓛 (Row o (ps ++ p ∷ []))) (sep 𝓤 (sem 𝓛 (One at p)) (sem 𝓛 (Row o ps)))
   unsnoc [] p o at e = qed 𝓛 (‵ (Row o (p ∷ [])) ∷ []) ∵ fsplit ! $ rewrite ! 0 (λ (k : ℕ). ‵ (One k p)) {x = at} (omega arith) refl $ done !
   unsnoc (x ∷ ps) p o at e = let more : at ≡ suc (length ps) * 4096 + o = e in qed 𝓛 (‵ (Row o (x ∷ ps ++ p ∷ [])) ∷ []) ∵ fsplit ! $ move ! (1 ∷ []) $
-      use1 𝓛 (‵ (One at p) ⊛ ‵ (Row (o + 4096) ps)) (unsnoc ps p (o + 4096) at (omega arith)) $ split ! $ move ! (2 ∷ 1 ∷ []) $ fjoin ! $ move ! (1 ∷ 0 ∷ []) $ done !
+      use1 𝓛 (‵ (One at p) ⊛ ‵ (Row (o + 4096) ps)) (unsnoc ps p (o + 4096) at (omega arith)) $ split ! $ move ! (2 ∷ 1 ∷ []) $ fjoin ! $ move ! (1 ∷ 0 ∷ []) $
+      done !
 
   -- the pages are let go: the logic is affine
-  pub all_room : (ps : List (List ℕ)) (n t o at : ℕ) → t ≡ length ps + n → at ≡ length ps * 4096 + o → ent 𝓤 (sep 𝓤 (sem 𝓛 (Row o ps)) (H.room (block n) b at)) (H.room (block t) b o)
+  pub all_room : (ps : List (List ℕ)) (n t o at : ℕ) → t ≡ length ps + n → at ≡ length ps * 4096 + o
+      → ent 𝓤 (sep 𝓤 (sem 𝓛 (Row o ps)) (H.room (block n) b at)) (H.room (block t) b o)
   all_room [] n t o at e f = qed 𝓛 (‵ (Row o []) ∷ ‵ (froom (block n) b at) ∷ []) ∵ drop ! $
       rewrite ! 0 (λ (k : ℕ × ℕ). ‵ (froom (block k.0) b k.1)) {x = (t, o)} (let same : n ≡ t = omega arith in let here : at ≡ o = omega arith in λ i. (same i, here i)) refl $ done !
   all_room (p ∷ ps) n t o at e f = let more : at ≡ suc (length ps) * 4096 + o = f in let all : t ≡ suc (length ps) + n = e in let last : suc (length ps + n) ≡ t = omega arith in
@@ -73,4 +78,5 @@ module _ {M : Type 1} {𝓤 : Ura M} (𝓛 : Logic 𝓤) (b : ℕ) where
       use1 𝓛 (some (λ (v : Val). ‵ (fat full_share page b o v) ⊛ ‵ (Page.own_val p (v ∷ [])))) (part_out 𝓛 Page refl full_share p b o) $ pick ! (λ v. split ! $
       use1 𝓛 (‵ (froom page b o)) (𝓛.laws.at_room page b o v) $ move ! (2 ∷ 3 ∷ []) $
       use2 𝓛 (‵ (froom (block (length ps + n)) b (o + 4096))) (all_room ps n (length ps + n) (o + 4096) at refl (omega arith)) $ move ! (1 ∷ 0 ∷ []) $
-      use2 𝓛 (‵ (froom (block (suc (length ps + n))) b o)) (𝓛.laws.room_cons page (length ps + n) b o) $ rewrite ! 0 (λ (k : ℕ). ‵ (froom (block k) b o)) last refl $ keep ! (0 ∷ []) $ done !)
+      use2 𝓛 (‵ (froom (block (suc (length ps + n))) b o)) (𝓛.laws.room_cons page (length ps + n) b o) $
+      rewrite ! 0 (λ (k : ℕ). ‵ (froom (block k) b o)) last refl $ keep ! (0 ∷ []) $ done !)

@@ -32,7 +32,8 @@ deallocate_spec 𝓤 𝓛 𝓜 𝓡 wired A L g d dd met md =
     proved_at 𝓛 E stays c 𝓜 𝓡 (Goes-dropped 𝓛 2 (RefOf (0 ∷ []) tt (plain (λ _. Z)) (λ _. tt)) E.kept.0 (λ κs x w. refl), (Goes-dropped 𝓛 2 (plain (λ _. Base)) E.kept.1.0 (λ κs x w. refl), (Goes-blank 𝓛 2 (plain (λ _. Cells)) E.kept.1.1.0 (λ κs x w. tt), (Goes-blank 𝓛 2 (plain (λ _. Deed)) E.kept.1.1.1.0 (λ κs x w. tt), tt))))
     (f.Key.name args) fn (code.unfolded 𝓤 H 𝓜 𝓡 wired (A, tt) d dd) (λ z are.
     let Post : Val → SProp 𝓤 = (walk_of 𝓛 E stays c).post z in
-    let a = z.0.3 in let h = a.0.now in let at = a.0.ref_ptr in let p = a.1.0.ptr in let cells = a.1.1.0 in let deed = a.1.1.1.0 in let ps = cells.pages in let vss = z.0.4 in let κ : Lft = z.0.0.0 in let q : Share = z.0.1.0 in
+    let a = z.0.3 in let h = a.0.now in let at = a.0.ref_ptr in let p = a.1.0.ptr in let cells = a.1.1.0 in let deed = a.1.1.1.0 in let ps = cells.pages in
+    let vss = z.0.4 in let κ : Lft = z.0.0.0 in let q : Share = z.0.1.0 in
     let Asked : Type 0 = (cells.at ≡ p) × (length ps ≤ 64) × (deed.at ≡ p) × (deed.alloc ≡ h) in
     qed 𝓛 ((raw (alive 𝓛 E.signature z.0.0 z.0.1) ⊛ ‵ (owns (types_at E.signature.params z.0.0) a vss)) ∷ (raw (fact 𝓤 (z.0.0.1.0 ⊑ A.lives)) ⊛ raw (fact 𝓤 Asked)) ∷ []) ∵
     move ! (1 ∷ []) $ split ! $ heard ! (z.0.0.1.0 ⊑ A.lives) (λ le. heard ! Asked (λ asked. split ! $ move ! (1 ∷ []) $ fsplit ! $ fsplit ! $ drop ! $
@@ -40,7 +41,8 @@ deallocate_spec 𝓤 𝓛 𝓜 𝓡 wired A L g d dd met md =
     -- [the token; nothing; the pages with the room; the handle; the lifetimes]
     move ! (2 ∷ []) $ rewrite ! 0 (λ (p : Ptr). ‵ (cells_own p ps)) asked.0 refl $ in_a_block ! p (λ p. cells_own p ps) (id⊢ 𝓤 (never 𝓤)) (λ b o e. fsplit ! $
     use2 𝓛 (‵ (froom (block 64) b o)) (all_room 𝓛 b ps (64 - length ps) 64 o (length ps * 4096 + o) (omega (arith, asked.1)) refl) $
-    rewrite ! 1 (λ (u : A.Denot × Ptr). ‵ (g.dealloc_token u.0 (block 64) u.1)) (λ i. (asked.3 i, (asked.2 ∙ e) i)) refl $ move ! (2 ∷ []) $ drop ! $ move ! (2 ∷ []) $ use1 𝓛 (‵ (seen Y κ at h)) (id⊢ 𝓤 _) $
+    rewrite ! 1 (λ (u : A.Denot × Ptr). ‵ (g.dealloc_token u.0 (block 64) u.1)) (λ i. (asked.3 i, (asked.2 ∙ e) i)) refl $ move ! (2 ∷ []) $ drop ! $
+    move ! (2 ∷ []) $ use1 𝓛 (‵ (seen Y κ at h)) (id⊢ 𝓤 _) $
     move ! (3 ∷ []) $ use1 𝓛 (‵ (flft κ q) ⊛ ‵ (flft z.0.0.1.0 z.0.1.1.0) ⊛ ‵ ftrue) (id⊢ 𝓤 _) $ split ! $ move ! (3 ∷ 4 ∷ 2 ∷ 0 ∷ []) $
     let y = at_gives Y 𝓛 𝓜.mem 𝓡.returns κ q at h b o 262144 1 (block 64) in
     regoal ! (λ (us : List Val). prop (WpFn 𝓤 H C Λ fn us Post))
@@ -54,4 +56,5 @@ deallocate_spec 𝓤 𝓛 𝓜 𝓡 wired A L g d dd met md =
     lands_last ! refl (subst (λ (z : Val). T (has_ty ty_unit z) × WT z) (sym is_unit) (tt, tt)) $ exec ! C Λ En (after 1 fn.body) (at_ret En Post) $
     sets ! (of_opd ! (unit_lit !)) refl (tt, tt) $ returns ! (look_at ! 0 refl) $ free_all ! refl $ keep ! (0 ∷ 1 ∷ []) $
     suffices ! _ (ends_at 𝓛 E stays c z vunit tt (tt, (tt, (tt, (tt, tt)))) (tt, (tt, (tt, (tt, tt))))) $
-    join ! $ feq_i ! (List Val) (vunit ∷ []) (vunit ∷ []) refl $ nothing ! $ nothing ! $ fjoin ! $ nothing ! $ fjoin ! $ nothing ! $ fjoin ! $ nothing ! $ fjoin ! $ join ! $ move ! (1 ∷ 0 ∷ []) $ join ! $ nothing ! $ move ! (1 ∷ 0 ∷ []) $ done !)))))))
+    join ! $ feq_i ! (List Val) (vunit ∷ []) (vunit ∷ []) refl $ nothing ! $ nothing ! $ fjoin ! $ nothing ! $ fjoin ! $ nothing ! $ fjoin ! $ nothing ! $
+    fjoin ! $ join ! $ move ! (1 ∷ 0 ∷ []) $ join ! $ nothing ! $ move ! (1 ∷ 0 ∷ []) $ done !)))))))

@@ -13,7 +13,8 @@ pages_spec 𝓤 𝓛 𝓜 𝓡 wired =
     let c = f.clauses 𝓛 𝓜.mem 𝓡.returns in let W = walk_of 𝓛 f.ended stayed c in let 𝓣 = tables 𝓤 𝓛.H 𝓜 𝓡 𝓡.env in
     proved 𝓛 f.ended stayed c 𝓜 𝓡 (Goes-dropped 𝓛 1 (RefOf (0 ∷ []) tt (plain (λ _. Cells)) (λ _. tt)) yes (λ κs x w. refl), (Goes-dropped 𝓛 1 (plain (λ _. Base)) yes (λ κs x w. refl), (Goes-dropped 𝓛 1 (plain (λ _. usize)) yes (λ κs x w. refl), tt)))
     f.Key.name code.function (code.unfolded 𝓤 𝓛.H 𝓜 𝓡 wired)
-    (λ κs. (shr_vals, ((λ x. lowers.lowered x ∷ []), (uint_vals w64, tt)))) (λ κs. (shr_Tells (named 0) κs.0 Cells, (lowers.val_is, (uint_Tells w64, tt)))) (λ κs qs bounds a _ are.
+    (λ κs. (shr_vals, ((λ x. lowers.lowered x ∷ []), (uint_vals w64, tt)))) (λ κs. (shr_Tells (named 0) κs.0 Cells, (lowers.val_is, (uint_Tells w64, tt))))
+    (λ κs qs bounds a _ are.
     let d = a.0.now in let len = a.1.1.0 in let rb = a.0.ref_ptr.0 in let ro = a.0.ref_ptr.1 in
     let y : W.Ghost = ((κs, qs, bounds, a, (shr_vals a.0, (lowers.lowered a.1.0 ∷ [], (uint_vals w64 len, tt)))), tt) in
     let Asked : Type 0 = (a.1.0.ptr ≡ d.at) × (len ≡ length d.pages) × (len ≤ 64) in
@@ -30,5 +31,6 @@ pages_spec 𝓤 𝓛 𝓜 𝓡 wired =
     flt_i ! (length d.pages * 4096) (2 ^ 63) (omega arith) $ flt_i ! (length d.pages) (2 ^ 64) (omega arith) $ fjoin ! $
     feq_i ! (List Val) (slice_val at len ∷ []) (slice_val at (length d.pages) ∷ []) (ap (λ k. slice_val at k ∷ []) long) $ fjoin ! $ fjoin ! $
     returns ! (look_at ! 0 refl) $ free_all ! refl $ move ! (1 ∷ []) $
-    suffices ! _ (ends_at 𝓛 f.ended stayed c y (slice_val at len) (record { ref_ptr = at; now = d.pages }) (tt, (tt, (tt, tt))) (tt, (tt, (tt, tt)))) $ says ! refl $
+    suffices ! _ (ends_at 𝓛 f.ended stayed c y (slice_val at len) (record { ref_ptr = at; now = d.pages }) (tt, (tt, (tt, tt))) (tt, (tt, (tt, tt)))) $
+    says ! refl $
     nothing ! $ move ! (1 ∷ 0 ∷ []) $ join ! $ frame ! $ nothing ! $ nothing ! $ fjoin ! $ nothing ! $ fjoin ! $ nothing ! $ fjoin ! $ done !)))))
