@@ -123,16 +123,13 @@ keyed_text first second ignored key1 key2 value = sym (append_assoc (little_byte
 
 -- ---- the stream
 
-abbrev texts_then : List PartCode → GuestOf → List ℕ → List ℕ
-texts_then [] g more = more
-texts_then (code ∷ codes) g more = text_of (records_of code g) ++ texts_then codes g more
-
 -- the records of codes one after another, and a last one
-pub codes_text : (codes : List PartCode) (g : GuestOf) (type : ℕ) → text_of (records_in_order codes g ++ (type, []) ∷ []) ≡ texts_then codes g (spelled type [])
+pub codes_text : (codes : List PartCode) (g : GuestOf) (type : ℕ) → text_of (records_in_order codes g ++ (type, []) ∷ []) ≡ flat_map (λ code. text_of (records_of code g)) codes ++ spelled type []
 codes_text [] g type = text_one type []
 codes_text (code ∷ codes) g type =
+    let these = text_of (records_of code g) in
     ap text_of (append_assoc (records_of code g) (records_in_order codes g) ((type, []) ∷ [])) ∙ text_join (records_of code g) (records_in_order codes g ++ (type, []) ∷ [])
-    ∙ ap (λ l. text_of (records_of code g) ++ l) (codes_text codes g type)
+    ∙ ap (λ l. these ++ l) (codes_text codes g type) ∙ sym (append_assoc these (flat_map (λ c. text_of (records_of c g)) codes) (spelled type []))
 
 pub canon_is : (g : GuestOf) → canon g ≡ headers ++ (text_of (static_bodies g) ++ (text_of (frame_bodies (frames_in g) (batches (frames_in g))) ++ text_of (last_bodies g)))
 unfolding canon

@@ -3,7 +3,8 @@ ghost use Rattle.mig_bytes.specs.Bytes.{Puts};
 ghost use Rattle.mig_bytes.specs.Faults.{HasCause};
 ghost use Rattle.mig_guest.specs.Formed.{IsPlainHvm};
 ghost use Rattle.mig_pvtables.specs.Whole.{IsWhole};
-ghost use Rattle.mig_canon.specs.Canon.{headers, static_bodies, last_bodies, text_of, canon};
+ghost use Rattle.std.specs.List.{flat_map};
+ghost use Rattle.mig_canon.specs.Canon.{headers, records_of, static_bodies, last_bodies, text_of, canon};
 
 use crate::frames::write_frames;
 use crate::parts::write_parts;
@@ -32,14 +33,25 @@ fn write_headers<K: Sink>(sink: &mut K) -> Result<(), WriteFailed>
     put_all(sink, &domain.encode())
 }
 
+/// Appends the records of the parts of these codes, one code after another.
+fn write_codes<K: Sink>(sink: &mut K, guest: &Guest, codes: &[PartCode]) -> Result<(), WriteFailed>
+    requires { IsWhole guest.now }
+    ensures bytes { Puts (flat_map (λ code. text_of (records_of code guest.now)) codes.now) (K.written sink.old) (K.written sink.new) result }
+    ensures cause { HasCause (K.faults sink.old) (K.faults sink.new) result }
+{
+    for code in codes {
+        write_parts(sink, guest, *code)?;
+    }
+    Ok(())
+}
+
 /// Appends the policies, where they have entries, and STATIC_DATA_END.
 fn write_static<K: Sink>(sink: &mut K, guest: &Guest) -> Result<(), WriteFailed>
     requires { IsWhole guest.now }
     ensures bytes { Puts (text_of (static_bodies guest.now)) (K.written sink.old) (K.written sink.new) result }
     ensures cause { HasCause (K.faults sink.old) (K.faults sink.new) result }
 {
-    write_parts(sink, guest, PartCode::CpuidLeaf)?;
-    write_parts(sink, guest, PartCode::Msr)?;
+    write_codes(sink, guest, &[PartCode::CpuidLeaf, PartCode::Msr])?;
     write_record(sink, STATIC_DATA_END, &[])
 }
 
@@ -49,9 +61,11 @@ fn write_last<K: Sink>(sink: &mut K, guest: &Guest) -> Result<(), WriteFailed>
     ensures bytes { Puts (text_of (last_bodies guest.now)) (K.written sink.old) (K.written sink.new) result }
     ensures cause { HasCause (K.faults sink.old) (K.faults sink.new) result }
 {
-    write_parts(sink, guest, PartCode::Tsc)?;
-    write_parts(sink, guest, PartCode::HvmParam)?;
-    write_parts(sink, guest, PartCode::HvmContext)?;
+    write_codes(
+        sink,
+        guest,
+        &[PartCode::Tsc, PartCode::HvmParam, PartCode::HvmContext],
+    )?;
     write_record(sink, END, &[])
 }
 

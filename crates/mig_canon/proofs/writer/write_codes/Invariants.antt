@@ -1,0 +1,11 @@
+use Rattle.std.proofs.Common.{◌≡◌, take}
+use Rattle.std.specs.List.{flat_map}
+use Rattle.std.specs.Io.KnownBytes.{Appends}
+use Rattle.mig_canon.specs.Canon.{records_of, text_of}
+use Rattle.mig_canon.proofs.writer.write_codes.Given as goal
+
+abbrev pub invariant-loop-code : goal.invariant-loop-code
+invariant-loop-code g l = record {
+  bytes : Appends (g.K.Sink.written l.fn.sink) (g.K.Sink.written l.sink) (flat_map (λ code. text_of (records_of code l.guest)) (take l.code-index l.codes));
+  quiet : g.K.Sink.faults l.sink ≡ g.K.Sink.faults l.fn.sink;
+}
