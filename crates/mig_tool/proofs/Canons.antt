@@ -1,5 +1,5 @@
 -- The canonical stream of a whole guest is accepted, and means the guest.
-use Rattle.std.proofs.Common.{◌≡◌, ℕ, ◌+◌, ◌≤◌, ◌<◌, ◌^◌, List, [], ◌∷◌, ◌++◌, map, Bool, true, false, IsSome, refl, sym, ap, subst, ◌∙◌, arith, append_assoc, append-nil, le_refl, ◌↔◌, inr}
+use Rattle.std.proofs.Common.{◌≡◌, ℕ, ◌+◌, ◌≤◌, ◌<◌, ◌^◌, List, [], ◌∷◌, ◌++◌, length, map, Bool, true, false, IsSome, refl, sym, ap, subst, ◌∙◌, arith, append_assoc, append-nil, le_refl, ◌↔◌, inr}
 use Rattle.std.specs.Prelude.{◌||◌}
 use Rattle.std.specs.FinMap as maps
 use Rattle.mig_headers.specs.declared.kind.Kind.{Kind}
@@ -78,19 +78,26 @@ module _ (g : GuestOf) (whole : IsWhole g) (is : IsPlainHvm g) where
   abbrev frames : List Record
   frames = frame_bodies (frames_in g) n
 
-  static_state : State (static_bodies g) (guest_with maps.empty (static_parts g)) true 3
+  -- at most so many records before the frames and behind them
+  abbrev before : ℕ
+  before = length static_codes + 1
+
+  abbrev behind : ℕ
+  behind = length last_codes
+
+  static_state : State (static_bodies g) (guest_with maps.empty (static_parts g)) true before
   static_state = more (codes_more g formed false static_codes (all_written g formed false static_codes static_step static_codes refl) [] (empty_guest Hvm) 0 (omega arith) at_start) static_end_step nothing_fits (omega arith) refl
 
   few : n ≤ 2 ^ 14
   few = few_batches (frames_in g) complete.1
 
-  few_records : 3 + n + 3 < 2 ^ 28
+  few_records : before + n + behind < 2 ^ 28
   few_records = omega (arith, few)
 
-  before_end : State ((static_bodies g ++ frames) ++ records_in_order last_codes g) (guest_with (frames_put (frames_in g) n) (all_parts g)) true (3 + n + 3)
+  before_end : State ((static_bodies g ++ frames) ++ records_in_order last_codes g) (guest_with (frames_put (frames_in g) n) (all_parts g)) true (before + n + behind)
   before_end =
-      codes_more g formed true last_codes (all_written g formed true last_codes last_step last_codes refl) (static_bodies g ++ frames) (guest_with (frames_put (frames_in g) n) (static_parts g)) (3 + n) few_records
-      (frames_more (frames_in g) (all_fine g formed is.hvm) complete.1 (static_bodies g) (static_parts g) 3 (omega arith) static_state n (le_refl n))
+      codes_more g formed true last_codes (all_written g formed true last_codes last_step last_codes refl) (static_bodies g ++ frames) (guest_with (frames_put (frames_in g) n) (static_parts g)) (before + n) few_records
+      (frames_more (frames_in g) (all_fine g formed is.hvm) complete.1 (static_bodies g) (static_parts g) before (omega arith) static_state n (le_refl n))
 
   abbrev records : List StreamRecord
   records = before_end.records ++ record { type = 0; content = Nothing } ∷ []
