@@ -1,6 +1,8 @@
-ghost use Rattle.std.specs.Prelude.{◌≡◌, ℕ, List, option_and_then, unwrap_or, None};
+ghost use Rattle.std.specs.Prelude.{◌≡◌, ◌⊎◌, ℕ, List, option_and_then, unwrap_or, None};
 ghost use Rattle.std.specs.FinMap as maps;
 ghost use Rattle.mig_bytes.specs.Bytes.{AreBytes};
+ghost use Rattle.mig_headers.specs.declared.fault.Cause.{Cause};
+ghost use Rattle.mig_headers.specs.declared.fault.Place.{Place};
 ghost use Rattle.mig_headers.specs.declared.kind.Kind.{Kind};
 ghost use Rattle.mig_guest.specs.Formed.{IsPlainHvm};
 ghost use Rattle.mig_guest.specs.Guests.{GuestOf};
@@ -11,7 +13,7 @@ ghost use Rattle.mig_restore.specs.Record.{StreamRecord};
 ghost use Rattle.mig_restore.specs.Mean.{sent, last_entry, frame_in, entries_of, last_said};
 ghost use Rattle.mig_restore.specs.Spelled.{IsImage, Accepted};
 ghost use Rattle.mig_bytes.specs.Judged.Judged.{Passes};
-ghost use Rattle.mig_restore.specs.Stream.{image_at, image_of};
+ghost use Rattle.mig_restore.specs.Stream.{image_at, image_of, IsRefused};
 
 /// What judging accepts is spelled as the format says.
 #[tactic(auto, using(crate::proofs::Laws::accepted_is_image))]
@@ -24,6 +26,18 @@ pub fn accepted_is_image()
 pub fn image_is_accepted()
     ensures { (input : List ℕ) (o : Opening) (records : List StreamRecord) (rest : List ℕ) →
         IsImage input o records rest → image_at input ≡ Passes (image_of o records) rest }
+{}
+
+/// For every input either a front is an accepted stream, or it is refused at a place for a cause.
+pub fn accepted_or_refused()
+    ensures { (input : List ℕ) → ((guest : GuestOf) × (rest : List ℕ) × Accepted input guest rest)
+        ⊎ ((place : Place) × (cause : Cause) × (rest : List ℕ) × IsRefused input place cause rest) }
+{}
+
+/// An input with an accepted front has no refusal.
+pub fn never_both()
+    ensures { (input : List ℕ) (guest : GuestOf) (rest : List ℕ) (place : Place) (cause : Cause) (more : List ℕ) →
+        Accepted input guest rest → IsRefused input place cause more → ⊥ }
 {}
 
 /// At most one front of an input is an accepted stream, with one guest.
