@@ -1,8 +1,9 @@
 -- The context of a vCPU (libxc migration stream, "X86_PV_VCPU_BASIC"; Xen public/arch-x86/xen.h, vcpu_guest_context):
 -- 5168 bytes, 646 numbers of 8 bytes. Nineteen of them are fields that hold a frame: rdx (field 0), the GDT's frames
 -- (fields 1 to 16), ctrlreg[3] (17) and ctrlreg[1] (18).
-use Rattle.std.specs.Prelude.{ℕ, ◌+◌, ◌-◌, ◌*◌, ◌/◌, ◌%◌, Bool, true, List, Option, Some, None, ◌==◌, ◌&&◌, nat_le, nat_lt, if◌then◌else◌}
+use Rattle.std.specs.Prelude.{ℕ, ◌+◌, ◌-◌, ◌*◌, ◌/◌, ◌%◌, Bool, true, List, Option, Some, None, ◌==◌, ◌&&◌, not, nat_le, nat_lt, if◌then◌else◌}
 use Rattle.mig_guest.specs.Longs.{long_at, each_long}
+use Rattle.mig_guest.specs.Formed.{gdt_ents}
 
 -- the field that stands at place i, where a field does: rdx at byte 616, gdt_frames from byte 4832 on, ctrlreg[3] at
 -- byte 5008, ctrlreg[1] at byte 4992
@@ -48,3 +49,17 @@ blanked_shared_value i v = if i == 387 then 0 else v
 
 abbrev pub blanked_shared : List ℕ → List ℕ
 blanked_shared bytes = each_long 512 blanked_shared_value bytes
+
+-- ---- a field of its own
+
+-- the frame that the field says, where vCPU id uses it in a stream
+abbrev pub frame_said : ℕ → List ℕ → ℕ → Option ℕ
+frame_said id context field = if is_used id (gdt_ents context) field (field_value context field) then Some (frame_of_field field (field_value context field)) else None
+
+-- whether vCPU id uses the field in a stream or in a host: there ctrlreg[1] is used where it isn't 0
+abbrev pub is_used_somewhere : ℕ → ℕ → ℕ → ℕ → Bool
+is_used_somewhere id ents field v = if field == 18 then not (v == 0) else is_used id ents field v
+
+-- the value that says the frame
+abbrev pub field_of_frame : ℕ → ℕ → ℕ
+field_of_frame field frame = if nat_le field 16 then frame else if field == 17 then frame * 4096 else frame * 4096 + 1

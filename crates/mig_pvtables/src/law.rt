@@ -1,4 +1,4 @@
-ghost use Rattle.std.specs.Prelude.{◌≡◌, ◌↔◌, ◌∷◌, [], length, is_none, nat_lt, IsSome};
+ghost use Rattle.std.specs.Prelude.{◌≡◌, ◌↔◌, ◌<◌, ◌∷◌, [], ℕ, List, length, is_none, nat_lt, None, IsSome};
 ghost use Rattle.std.specs.FinMap as maps;
 ghost use Rattle.mig_headers.specs.Rows.{first_fault};
 ghost use Rattle.mig_headers.specs.declared.fault.Cause.TheVariants.{Missing, TooManyFrames};
@@ -8,8 +8,10 @@ ghost use Rattle.mig_guest.specs.Formed.{IsFormed};
 ghost use Rattle.mig_guest.specs.Frames.{IsFew};
 ghost use Rattle.mig_guest.specs.Guests.{GuestOf};
 ghost use Rattle.mig_guest.specs.PartKeys.{context_key};
+ghost use Rattle.mig_guest.specs.Tables.{entry, IsWithin};
 ghost use Rattle.mig_pvtables.specs.Blank.{blank};
 ghost use Rattle.mig_pvtables.specs.Faults.{fault_of_guest};
+ghost use Rattle.mig_pvtables.specs.Tables.{fault_of_table};
 ghost use Rattle.mig_pvtables.specs.Whole.{IsWhole};
 ghost use Rattle.mig_pvtables.specs.WholePv.{IsWholePv};
 
@@ -35,6 +37,12 @@ pub fn pv_guest_is_whole()
 /// Some PV guest is whole.
 pub fn some_pv_guest_is_whole()
     ensures { (g : GuestOf) × (g.kind ≡ Pv) × IsWhole g }
+{}
+
+/// A table has no fault in a stream exactly where none of its slots says a superpage or a frame above top.
+#[tactic(auto, using(crate::proofs::Within::table_within))]
+pub fn faultless_table_is_within()
+    ensures { (place top level : ℕ) (page : List ℕ) → (fault_of_table place top level page ≡ None) ↔ ((slot : ℕ) → slot < 512 → IsWithin top (entry level page slot)) }
 {}
 
 /// An HVM guest is its own blank form.

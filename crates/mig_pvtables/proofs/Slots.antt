@@ -1,0 +1,24 @@
+-- The first slot of a table that passes a test.
+use Rattle.std.proofs.Common.{◌≡◌, ℕ, zero, suc, ◌+◌, ◌<◌, ◌≤◌, Bool, true, false, cond, Some, None, ap, subst, ◌∙◌, inl, inr, arith, ◌↔◌}
+use Rattle.std.specs.Prelude.{find}
+use Rattle.std.specs.List.{range_with_len}
+use Rattle.std.proofs.lemmas.Bool.{cases_eq}
+use Rattle.mig_pvtables.specs.Faults.{slots}
+use Rattle.mig_pvtables.proofs.Searches.{find_in_range}
+
+module _ (p : ℕ → Bool) where
+  first_in_range : (a n k : ℕ) → a ≤ k → k < a + n → p k ≡ true → ((j : ℕ) → a ≤ j → j < k → p j ≡ false) → find p (range_with_len a n) ≡ Some k
+  first_in_range a zero k le lt here before = absurd (omega (arith, le, lt))
+  first_in_range a (suc n) k le lt here before = elim (cases_eq a k) [
+    | inl e ↦ subst (λ m. cond (p a) (Some a) (find p (range_with_len (a + 1) n)) ≡ Some m) e (ap (λ b. cond b (Some a) (find p (range_with_len (a + 1) n))) (ap p e ∙ here))
+    | inr ne ↦ ap (λ b. cond b (Some a) (find p (range_with_len (a + 1) n))) (before a (omega arith) (omega (arith, le, ne)))
+        ∙ first_in_range (a + 1) n k (omega (arith, le, ne)) (omega (arith, lt)) here (λ j more under. before j (omega (arith, more)) under)
+  ]
+
+  pub first_slot : (k : ℕ) → k < 512 → p k ≡ true → ((j : ℕ) → j < k → p j ≡ false) → find p slots ≡ Some k
+  unfolding slots
+  first_slot k lt here before = first_in_range 0 512 k (omega arith) (omega (arith, lt)) here (λ j _ under. before j under)
+
+  pub no_slot : (find p slots ≡ None) ↔ ((k : ℕ) → k < 512 → p k ≡ false)
+  unfolding slots
+  no_slot = find_in_range p 512

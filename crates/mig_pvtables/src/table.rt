@@ -1,0 +1,103 @@
+ghost use Rattle.std.specs.Prelude.{◌≡◌, ◌≤◌, ◌<◌, ◌*◌, ◌^◌, ℕ, IfSome};
+ghost use Rattle.byteorder.specs.Endian.{little_bytes};
+ghost use Rattle.mig_bytes.specs.Fields.{with_field};
+ghost use Rattle.mig_guest.specs.Longs.{long_at};
+ghost use Rattle.mig_guest.specs.Tables.{entry as what_is_said, named_frame};
+ghost use Rattle.mig_pvtables.specs.Tables.{first_superpage, first_outside, fault_of_table, with_frame, is_superpage, is_outside};
+
+use mig_bytes::{put_u64_le, u64_le};
+use mig_guest::Entry;
+use mig_headers::Cause;
+
+/// How many entries a table has.
+const SLOTS: usize = 512;
+
+/// An entry names a frame in 40 bits.
+const FRAMES: u64 = 1 << 40;
+
+/// What the entry in this slot says, as one of a table of this level.
+#[tactic(auto, unfolding(mig_guest::specs::Tables::entry_of))]
+pub fn entry(page: &[u8; 4096], level: u8, slot: usize) -> Entry
+    requires least { 1 ≤ level }
+    requires most { level ≤ 4 }
+    requires slot { slot < 512 }
+    ensures { result ≡ what_is_said level page.now slot }
+{
+    let e = u64_le(page, 8 * slot);
+    if level == 4 && (256 <= slot && slot <= 271) {
+        Entry::Blank
+    } else if e % 2 != 1 {
+        Entry::NotPresent
+    } else if level >= 2 && e / 128 % 2 == 1 {
+        Entry::Superpage
+    } else {
+        Entry::Frame(e / 4096 % FRAMES)
+    }
+}
+
+/// Puts a frame into the entry in this slot. All its other bits, and all other entries, stay.
+pub fn put_entry(page: &mut [u8; 4096], slot: usize, frame: u64)
+    requires slot { slot < 512 }
+    requires frame { frame < 2 ^ 40 }
+    ensures { page.new ≡ with_field page.old (8 * slot) (little_bytes 8 (with_frame (long_at page.old slot) frame)) }
+{
+    let e = u64_le(page, 8 * slot);
+    put_u64_le(page, 8 * slot, (e >> 52 << 52) + (frame * 4096 + e % 4096));
+}
+
+/// The first slot with a superpage.
+#[tactic(auto, using(crate::proofs::Slots::no_slot))]
+fn superpage_slot(page: &[u8; 4096], level: u8) -> Option<usize>
+    requires least { 1 ≤ level }
+    requires most { level ≤ 4 }
+    ensures value { result ≡ first_superpage level page.now }
+    ensures small { IfSome result (λ slot. slot < 512) }
+{
+    for slot in 0..SLOTS {
+        if let Entry::Superpage = entry(page, level, slot) {
+            return Some(slot);
+        }
+    }
+    None
+}
+
+/// The first slot whose entry names a frame above `top`.
+#[tactic(auto, using(crate::proofs::Slots::no_slot))]
+fn outside_slot(page: &[u8; 4096], level: u8, top: u64) -> Option<usize>
+    requires least { 1 ≤ level }
+    requires most { level ≤ 4 }
+    ensures value { result ≡ first_outside top level page.now }
+    ensures small { IfSome result (λ slot. slot < 512) }
+{
+    for slot in 0..SLOTS {
+        if let Entry::Frame(pfn) = entry(page, level, slot) {
+            if top < pfn {
+                return Some(slot);
+            }
+        }
+    }
+    None
+}
+
+/// The bits of a slot that name a frame.
+fn frame_at(page: &[u8; 4096], slot: usize) -> u64
+    requires { slot < 512 }
+    ensures { result ≡ named_frame (long_at page.now slot) }
+{
+    u64_le(page, 8 * slot) / 4096 % FRAMES
+}
+
+/// What is wrong with a table of this level in a stream: its first superpage before all else, then the first entry that
+/// names a frame above `top`. `entry` is the table's place in its record.
+pub fn check_table(page: &[u8; 4096], level: u8, entry: u32, top: u64) -> Option<Cause>
+    requires least { 1 ≤ level }
+    requires most { level ≤ 4 }
+    ensures { result ≡ fault_of_table entry top level page.now }
+{
+    let place = u64::from(entry);
+    if let Some(slot) = superpage_slot(page, level) {
+        return Some(Cause::Superpage(place, slot as u64));
+    }
+    let slot = outside_slot(page, level, top)?;
+    Some(Cause::EntryOutside(place, slot as u64, frame_at(page, slot)))
+}

@@ -1,0 +1,62 @@
+ghost use Rattle.std.specs.Prelude.{◌≡◌, ◌≤◌, ◌<◌, ◌*◌, ◌^◌, true};
+ghost use Rattle.byteorder.specs.Endian.{little_bytes};
+ghost use Rattle.mig_bytes.specs.Fields.{with_field};
+ghost use Rattle.mig_guest.specs.Formed.{gdt_ents as ents_in};
+ghost use Rattle.mig_pvtables.specs.VcpuContexts.{field_place, field_value, frame_said, field_of_frame, is_used_somewhere};
+
+use mig_bytes::{put_u64_le, u64_le};
+
+/// Where the number of the GDT's descriptors stands.
+const GDT_ENTS: usize = 4960;
+
+/// Where a field stands.
+fn place_of(field: u8) -> usize
+    requires { field ≤ 18 }
+    ensures value { result ≡ 8 * field_place field }
+    ensures inside { result ≤ 5160 }
+{
+    match field {
+        0 => 616,
+        17 => 5008,
+        18 => 4992,
+        _ => 4824 + 8 * field as usize,
+    }
+}
+
+/// The frame that a field of a vCPU's context says, where a stream uses the field: 0 is rdx, 1 to 16 are the GDT's
+/// frames, 17 is ctrlreg[3], 18 ctrlreg[1]. The id is that of the vCPU.
+pub fn vcpu_frame(context: &[u8; 5168], id: u32, field: u8) -> Option<u64>
+    requires { field ≤ 18 }
+    ensures { result ≡ frame_said id context.now field }
+{
+    let value = u64_le(context, place_of(field));
+    let used = match field {
+        0 => id == 0,
+        17 => true,
+        18 => value % 2 == 1,
+        _ => (u64::from(field) - 1) * 512 < u64_le(context, GDT_ENTS),
+    };
+    if !used {
+        return None;
+    }
+    if field <= 16 {
+        Some(value)
+    } else {
+        Some(value / 4096)
+    }
+}
+
+/// Puts a frame into a field that is used. All other bytes stay.
+pub fn put_vcpu_frame(context: &mut [u8; 5168], id: u32, field: u8, frame: u64)
+    requires field { field ≤ 18 }
+    requires used { is_used_somewhere id (ents_in context.old) field (field_value context.old field) ≡ true }
+    requires frame { frame < 2 ^ 52 }
+    ensures { context.new ≡ with_field context.old (8 * field_place field) (little_bytes 8 (field_of_frame field frame)) }
+{
+    let value = match field {
+        17 => frame * 4096,
+        18 => frame * 4096 + 1,
+        _ => frame,
+    };
+    put_u64_le(context, place_of(field), value);
+}
