@@ -5,3 +5,5 @@ pub mod Rows
 pub mod Kept
 pub mod Small
 pub mod Canonical
+pub mod PvLaws
+pub mod P2mFormed

@@ -1,3 +1,11 @@
+ghost use Rattle.std.specs.Prelude.{◌≡◌, ◌↔◌, ◌≤◌, ℕ, List, length, drop, None};
+ghost use Rattle.std.specs.FinMap as maps;
+ghost use Rattle.mig_bytes.specs.Fields.{le32};
+ghost use Rattle.mig_headers.specs.declared.kind.Kind.TheVariants.{Pv};
+ghost use Rattle.mig_guest.specs.Guests.{GuestOf};
+ghost use Rattle.mig_guest.specs.PartKeys.{p2m_key};
+ghost use Rattle.mig_guest.specs.Formed.{IsFormed};
+ghost use Rattle.mig_bodies.specs.PvBodies.{IsPvInfo, fault_of_pv_info, IsP2m, fault_of_p2m, set_p2m};
 ghost use Rattle.mig_bodies.specs.Shapes.{BodiesAreSpelled, BodiesSayOne, BodiesSayParts, BodiesKeepFormed, CanonicalBodiesSay};
 
 /// The bodies without fault, and the parts that they set, are exactly those that are spelled so.
@@ -28,4 +36,22 @@ pub fn bodies_keep_formed_law()
 #[tactic(auto, using(crate::proofs::Canonical::canonical_bodies_say))]
 pub fn canonical_bodies_law()
     ensures { CanonicalBodiesSay }
+{}
+
+/// The body of an X86_PV_INFO has no fault exactly where it says a width of 8 and 4 levels.
+#[tactic(auto, using(crate::proofs::PvLaws::info_is_spelled))]
+pub fn pv_info_law()
+    ensures { (body : List ℕ) → length body ≡ 8 → (fault_of_pv_info body ≡ None) ↔ IsPvInfo body }
+{}
+
+/// The body of an X86_PV_P2M_FRAMES has no fault exactly where it lists the P2M frames of all frame numbers up to its last.
+#[tactic(auto, using(crate::proofs::PvLaws::p2m_is_spelled))]
+pub fn p2m_law()
+    ensures { (body : List ℕ) → 8 ≤ length body → (fault_of_p2m body ≡ None) ↔ IsP2m (le32 body 4) (drop 8 body) body }
+{}
+
+/// A PV guest that is well formed, with top 0 before any P2M frames are listed, stays so where P2M frames are listed.
+pub fn p2m_keeps_formed_law()
+    ensures { (g : GuestOf) (last : ℕ) (frames body : List ℕ) → g.kind ≡ Pv → (maps.get g.parts p2m_key ≡ None → g.top ≡ 0) → IsP2m last frames body
+        → IsFormed g → IsFormed (set_p2m last frames g) }
 {}

@@ -1,0 +1,75 @@
+-- The bodies of X86_PV_INFO and X86_PV_P2M_FRAMES without fault are those that are spelled so; P2M frames keep a guest
+-- well formed.
+use Rattle.std.proofs.Common.{◌≡◌, ℕ, ◌+◌, ◌*◌, ◌≤◌, ◌↔◌, Bool, true, false, not, List, [], ◌∷◌, ◌++◌, length, take, drop, nat_le, None, refl, sym, ap, ◌∙◌, arith, take-append-drop, length-drop}
+use Rattle.std.specs.Prelude.{◌==◌, ◌&&◌}
+use Rattle.std.proofs.lemmas.List.{drop-append-le, length-take-le}
+use Rattle.byteorder.specs.Endian.{little_number}
+use Rattle.byteorder.specs.Numbers.{little_from-append}
+use Rattle.std.proofs.lemmas.Bool.{eqb-true, eq-eqb, leb-false, le-leb, lt-leb, and_parts, not-false}
+use Rattle.mig_bytes.specs.Fields.{le32}
+use Rattle.mig_headers.proofs.FirstFaults.{rows_fine, no_fault}
+use Rattle.mig_headers.specs.declared.fault.Cause.TheVariants.{BadLength, Pv32, BadPvInfo, P2mStart, P2mRange}
+use Rattle.mig_pagetypes.specs.Limits.{pfn_limit}
+use Rattle.mig_bodies.specs.PvBodies.{IsPvInfo, fault_of_pv_info, p2m_count, IsP2m, fault_of_p2m}
+
+-- ---- X86_PV_INFO
+
+spelled_info : (body : List ℕ) → length body ≡ 8 → fault_of_pv_info body ≡ None → IsPvInfo body
+spelled_info [] len fine = absurd (omega (arith, len))
+spelled_info (x ∷ []) len fine = absurd (omega (arith, len))
+spelled_info (x ∷ y ∷ rest) len fine =
+    let both = and_parts (x == 8) (y == 4) (not-false ((x == 8) && (y == 4)) (rows_fine ((x == 4, Pv32) ∷ (not ((x == 8) && (y == 4)), BadPvInfo) ∷ []) fine).1.0) in
+    record { ignored = rest; whole = rw (eqb-true x 8 both.0, eqb-true y 4 both.1) refl }
+
+pub info_is_spelled : (body : List ℕ) → length body ≡ 8 → (fault_of_pv_info body ≡ None) ↔ IsPvInfo body
+info_is_spelled body len = (spelled_info body len, (λ is. ap fault_of_pv_info is.whole))
+
+-- ---- X86_PV_P2M_FRAMES
+
+at_front : (front bytes : List ℕ) (at : ℕ) → at + 4 ≤ length front → le32 (front ++ bytes) at ≡ le32 front at
+unfolding le32
+at_front front bytes at le = ap (little_number 4) (drop-append-le at front bytes (omega (arith, le))) ∙ little_from-append 4 (drop at front) bytes (omega (arith, length-drop at front, le))
+
+-- a test that isn't passed, of two of which one is met
+other_fails : (b c : Bool) → (b && not c) ≡ false → b ≡ true → c ≡ true
+other_fails true c none is = not-false c none
+other_fails false c none is = let no : false ≡ true = is in cc
+
+module _ (body : List ℕ) (long : 8 ≤ length body) where
+  abbrev first : ℕ
+  first = le32 body 0
+
+  abbrev last : ℕ
+  last = le32 body 4
+
+  in_front : (at : ℕ) → at + 4 ≤ 8 → le32 (take 8 body) at ≡ le32 body at
+  in_front at le = sym (at_front (take 8 body) (drop 8 body) at (omega (arith, le, length-take-le 8 body long))) ∙ ap (λ b. le32 b at) (take-append-drop 8 body)
+
+  spelled_p2m : fault_of_p2m body ≡ None → IsP2m last (drop 8 body) body
+  spelled_p2m fine =
+      let rows = rows_fine ((nat_le first last && not (length body == 8 + 8 * p2m_count first last), BadLength (length body)) ∷ (not (first == 0), P2mStart first) ∷ (nat_le pfn_limit last, P2mRange last) ∷ []) fine in
+      let zero : first ≡ 0 = eqb-true first 0 (not-false (first == 0) rows.1.0) in
+      let size : length body ≡ 8 + 8 * p2m_count first last = eqb-true _ _ (other_fails (nat_le first last) (length body == 8 + 8 * p2m_count first last) rows.0 (le-leb first last (omega (arith, zero)))) in
+      record {
+        front = take 8 body;
+        whole = sym (take-append-drop 8 body);
+        front_len = length-take-le 8 body long;
+        first_is = in_front 0 (omega arith) ∙ zero;
+        last_is = in_front 4 (omega arith);
+        small = leb-false pfn_limit last rows.1.1.0;
+        listed = omega (arith, length-drop 8 body, size, ap (λ n. 8 * p2m_count n last) zero);
+      }
+
+  p2m_spelled : IsP2m last (drop 8 body) body → fault_of_p2m body ≡ None
+  p2m_spelled is =
+      let zero : first ≡ 0 = ap (λ b. le32 b 0) is.whole ∙ at_front is.front (drop 8 body) 0 (omega (arith, is.front_len)) ∙ is.first_is in
+      let size : length body ≡ 8 + 8 * p2m_count first last = omega (arith, length-drop 8 body, long, is.listed, ap (λ n. 8 * p2m_count n last) zero) in
+      no_fault ((nat_le first last && not (length body == 8 + 8 * p2m_count first last), BadLength (length body)) ∷ (not (first == 0), P2mStart first) ∷ (nat_le pfn_limit last, P2mRange last) ∷ [])
+      (never (nat_le first last) _ (eq-eqb _ _ size), (ap not (eq-eqb first 0 zero), (lt-leb pfn_limit last is.small, tt)))
+    where
+      never : (b c : Bool) → c ≡ true → (b && not c) ≡ false
+      never true c is = ap not is
+      never false c is = refl
+
+  pub p2m_is_spelled : (fault_of_p2m body ≡ None) ↔ IsP2m last (drop 8 body) body
+  p2m_is_spelled = (spelled_p2m, p2m_spelled)

@@ -1,0 +1,59 @@
+-- The bodies of X86_PV_INFO and X86_PV_P2M_FRAMES (libxc migration stream, "Records").
+use Rattle.std.specs.Prelude.{◌≡◌, ◌<◌, ℕ, ◌+◌, ◌-◌, ◌*◌, ◌/◌, List, [], ◌∷◌, ◌++◌, length, drop, slice_index, Option, Some, None, ◌==◌, ◌&&◌, not, nat_le, if◌then◌else◌}
+use Rattle.std.specs.FinMap as maps
+use Rattle.mig_bytes.specs.Fields.{le32}
+use Rattle.mig_headers.specs.Rows.{first_fault}
+use Rattle.mig_headers.specs.declared.fault.Cause.{Cause}
+use Rattle.mig_headers.specs.declared.fault.Cause.TheVariants.{BadLength, Pv32, BadPvInfo, P2mStart, P2mRange}
+use Rattle.mig_pagetypes.specs.Limits.{pfn_limit}
+use Rattle.mig_guest.specs.Guests.{GuestOf}
+use Rattle.mig_guest.specs.PartKeys.{p2m_key}
+
+-- ---- X86_PV_INFO: the guest's width in bytes, the levels of its page tables, and 6 bytes that are ignored
+
+pub record IsPvInfo (body : List ℕ) : Type 0 where
+  pub ignored : List ℕ
+  pub whole : body ≡ 8 ∷ 4 ∷ ignored
+
+-- a guest of width 4, or any other but one of width 8 and 4 levels
+abbrev pub fault_of_pv_info : List ℕ → Option Cause
+fault_of_pv_info body =
+    first_fault ((slice_index body 0 == 4, Pv32) ∷ (not ((slice_index body 0 == 8) && (slice_index body 1 == 4)), BadPvInfo) ∷ [])
+
+-- ---- X86_PV_P2M_FRAMES: the first and the last frame number whose machine frame the P2M frames hold, and their PFNs
+
+-- how many P2M frames hold the machine frames of the frame numbers from first to last, 512 in each
+abbrev pub p2m_count : ℕ → ℕ → ℕ
+p2m_count first last = last / 512 - first / 512 + 1
+
+-- it lists the P2M frames of all frame numbers up to last
+pub record IsP2m (last : ℕ) (frames body : List ℕ) : Type 0 where
+  pub front : List ℕ
+  pub whole : body ≡ front ++ frames
+  pub front_len : length front ≡ 8
+  pub first_is : le32 front 0 ≡ 0
+  pub last_is : le32 front 4 ≡ last
+  pub small : last < pfn_limit
+  pub listed : length frames ≡ 8 * p2m_count 0 last
+
+-- a body of another length than its two frame numbers ask for, a first one that isn't 0, a last one that is none. Where
+-- the first is above the last they ask for no length.
+abbrev pub fault_of_p2m : List ℕ → Option Cause
+fault_of_p2m body =
+    first_fault (
+    (nat_le (le32 body 0) (le32 body 4) && not (length body == 8 + 8 * p2m_count (le32 body 0) (le32 body 4)), BadLength (length body))
+    ∷ (not (le32 body 0 == 0), P2mStart (le32 body 0))
+    ∷ (nat_le pfn_limit (le32 body 4), P2mRange (le32 body 4))
+    ∷ [])
+
+-- the frames that were listed before, where these replace the first of them
+abbrev pub listed_over : List ℕ → Option (List ℕ) → List ℕ
+listed_over frames None = frames
+listed_over frames (Some before) = frames ++ drop (length frames) before
+
+abbrev pub greater : ℕ → ℕ → ℕ
+greater m n = if nat_le m n then n else m
+
+-- the guest behind a record that lists the P2M frames up to last
+abbrev pub set_p2m : ℕ → List ℕ → GuestOf → GuestOf
+set_p2m last frames g = record g { top = greater g.top last; parts = maps.insert g.parts p2m_key (listed_over frames (maps.get g.parts p2m_key)) }
