@@ -92,6 +92,7 @@ fn no_pages() -> [u8; 16384] {
 
 /// Puts the pages of so many frames, from this number on, one behind the other; answers the number behind the frames,
 /// and how many pages come with them.
+#[tactic(auto, using(crate::proofs::Steps::drop_next, crate::proofs::Steps::not_ended, crate::proofs::Batches::pages_put))]
 fn fill_pages(buffer: &mut [u8], guest: &Guest, start: u64, count: u32) -> (u64, u32)
     requires room { 4096 * count ≤ length buffer.old }
     requires most { count ≤ 4 }

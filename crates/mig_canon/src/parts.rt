@@ -18,6 +18,7 @@ use mig_guest::{Guest, PartCode, PartKey};
 use mig_records::{write_head, write_padding, write_record};
 
 /// Appends the lowest bytes of two numbers, of each the lowest first.
+#[tactic(auto, using(mig_bytes::proofs::Texts::puts_same, crate::proofs::Spelling::numbers_text))]
 fn write_numbers<K: Sink>(
     sink: &mut K,
     first: usize,
@@ -68,6 +69,7 @@ fn write_front<K: Sink>(sink: &mut K, layout: Layout, count: u32) -> Result<(), 
 }
 
 /// Appends the numbers of a key, each in so many bytes, so many zeros, and a value.
+#[tactic(auto, using(mig_bytes::proofs::Texts::puts_then, mig_bytes::proofs::Texts::puts_stop, mig_bytes::proofs::Texts::puts_same, crate::proofs::Spelling::keyed_text))]
 fn write_keyed<K: Sink>(
     sink: &mut K,
     first: usize,
@@ -169,6 +171,7 @@ fn write_pieces<K: Sink>(sink: &mut K, guest: &Guest, code: PartCode) -> Result<
 }
 
 /// How many parts of the code there are.
+#[tactic(auto, using(crate::proofs::Wholes::next_part, crate::proofs::Wholes::code_next))]
 fn count_parts(guest: &Guest, code: PartCode) -> u32
     requires { length (parts_at code guest.now) < 2 ^ 32 }
     ensures { result ≡ length (parts_at code guest.now) }
@@ -183,6 +186,7 @@ fn count_parts(guest: &Guest, code: PartCode) -> u32
 }
 
 /// Appends the record of a table, where it has entries.
+#[tactic(auto, using(mig_bytes::proofs::Texts::puts_then, mig_bytes::proofs::Texts::puts_stop, mig_bytes::proofs::Texts::puts_same, crate::proofs::Spelling::code_table, crate::proofs::Wholes::few_rows, crate::proofs::Wholes::table_size, crate::proofs::Wholes::table_short))]
 fn write_table<K: Sink>(
     sink: &mut K,
     guest: &Guest,
@@ -206,6 +210,7 @@ fn write_table<K: Sink>(
 }
 
 /// Appends the records of the parts of one code.
+#[tactic(auto, using(mig_bytes::proofs::Texts::puts_same, crate::proofs::Spelling::code_each, crate::proofs::Spelling::no_table_is))]
 pub(crate) fn write_parts<K: Sink>(
     sink: &mut K,
     guest: &Guest,

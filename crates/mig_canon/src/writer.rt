@@ -20,6 +20,7 @@ const END: u32 = 0;
 const STATIC_DATA_END: u32 = 0x10;
 
 /// Appends the headers.
+#[tactic(auto, using(mig_bytes::proofs::Texts::puts_then))]
 fn write_headers<K: Sink>(sink: &mut K) -> Result<(), WriteFailed>
     ensures bytes { Puts headers (K.written sink.old) (K.written sink.new) result }
     ensures cause { HasCause (K.faults sink.old) (K.faults sink.new) result }
@@ -46,6 +47,7 @@ fn write_codes<K: Sink>(sink: &mut K, guest: &Guest, codes: &[PartCode]) -> Resu
 }
 
 /// Appends the policies, where they have entries, and STATIC_DATA_END.
+#[tactic(auto, using(mig_bytes::proofs::Texts::puts_then, mig_bytes::proofs::Texts::puts_stop, mig_bytes::proofs::Texts::puts_same, crate::proofs::Spelling::codes_text))]
 fn write_static<K: Sink>(sink: &mut K, guest: &Guest) -> Result<(), WriteFailed>
     requires { IsWhole guest.now }
     ensures bytes { Puts (text_of (static_bodies guest.now)) (K.written sink.old) (K.written sink.new) result }
@@ -56,6 +58,7 @@ fn write_static<K: Sink>(sink: &mut K, guest: &Guest) -> Result<(), WriteFailed>
 }
 
 /// Appends the records behind the frames.
+#[tactic(auto, using(mig_bytes::proofs::Texts::puts_then, mig_bytes::proofs::Texts::puts_stop, mig_bytes::proofs::Texts::puts_same, crate::proofs::Spelling::codes_text))]
 fn write_last<K: Sink>(sink: &mut K, guest: &Guest) -> Result<(), WriteFailed>
     requires { IsWhole guest.now }
     ensures bytes { Puts (text_of (last_bodies guest.now)) (K.written sink.old) (K.written sink.new) result }
@@ -71,6 +74,7 @@ fn write_last<K: Sink>(sink: &mut K, guest: &Guest) -> Result<(), WriteFailed>
 
 /// Appends the canonical stream of the guest. After `WriteFailed` some first bytes of it are appended, but not all. So far
 /// of HVM guests without emulator parts.
+#[tactic(auto, using(mig_bytes::proofs::Texts::puts_then, mig_bytes::proofs::Texts::puts_stop, mig_bytes::proofs::Texts::puts_same, crate::proofs::Spelling::canon_is))]
 pub fn write_canon<K: Sink>(sink: &mut K, guest: &Guest) -> Result<(), WriteFailed>
     requires whole { IsWhole guest.now }
     requires plain { IsPlainHvm guest.now }

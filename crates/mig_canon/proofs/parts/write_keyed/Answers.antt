@@ -2,20 +2,8 @@ use Rattle.mig_bytes.proofs.Texts.{puts_then, puts_stop, puts_same}
 use Rattle.mig_canon.proofs.Spelling.{keyed_text}
 use Rattle.mig_canon.proofs.parts.write_keyed.Goals as goal
 
-pub returns-in_err-write_numbers-clause-bytes : goal.returns-in_err-write_numbers-clause-bytes
-returns-in_err-write_numbers-clause-bytes g c =
-    let r = c.from_residual.result in
-    puts_same _ _ _ _ r (keyed_text c.args.first c.args.second c.args.ignored c.args.key.key1 c.args.key.key2 c.args.value.now)
-    (puts_stop _ _ _ _ _ _ r c.from_residual.ensures.1 c.in_err-write_numbers.ensures.bytes)
-
 pub returns-in_err-write_zeros-clause-bytes : goal.returns-in_err-write_zeros-clause-bytes
 returns-in_err-write_zeros-clause-bytes g c =
     let r = c.from_residual-in_err-write_zeros.result in
     puts_same _ _ _ _ r (keyed_text c.args.first c.args.second c.args.ignored c.args.key.key1 c.args.key.key2 c.args.value.now)
     (puts_then _ _ _ _ _ r c.in_ok-write_numbers.ensures.bytes (puts_stop _ _ _ _ _ _ r c.from_residual-in_err-write_zeros.ensures.1 c.in_err-write_zeros.ensures.bytes))
-
-pub returns-clause-bytes : goal.returns-clause-bytes
-returns-clause-bytes g c =
-    let r = c.put_all.result in
-    puts_same _ _ _ _ r (keyed_text c.args.first c.args.second c.args.ignored c.args.key.key1 c.args.key.key2 c.args.value.now)
-    (puts_then _ _ _ _ _ r c.in_ok-write_numbers.ensures.bytes (puts_then _ _ _ _ _ r c.in_ok-write_zeros.ensures.bytes c.put_all.ensures.bytes))

@@ -4,14 +4,6 @@ use Rattle.mig_canon.proofs.Spelling.{code_table}
 use Rattle.mig_canon.proofs.Wholes.{few_rows, table_size, table_short}
 use Rattle.mig_canon.proofs.parts.write_table.Goals as goal
 
-pub count_parts-count-requires : goal.count_parts-count-requires
-count_parts-count-requires g c =
-    few_rows c.args.code c.args.layout c.args.guest.now c.requires.shape c.requires.whole
-
-pub overflow_cast-len-2 : goal.overflow_cast-len-2
-overflow_cast-len-2 g c =
-    omega (arith, table_short c.args.code c.args.layout c.args.guest.now c.requires.shape c.requires.whole c.count_parts-count.result c.front_width.result c.entry_width.result c.count_parts-count.ensures c.if-count-eq0.false c.front_width.ensures c.entry_width.ensures.value)
-
 pub returns-in_err-write_head-clause-bytes : goal.returns-in_err-write_head-clause-bytes
 returns-in_err-write_head-clause-bytes g c =
     let r = c.from_residual.result in

@@ -19,9 +19,3 @@ returns-in_err-write_frames-clause-bytes g c =
     let r = c.from_residual-in_err-write_frames.result in
     puts_same _ _ _ _ r (canon_is c.args.guest.now)
     (puts_then _ _ _ _ _ r c.in_ok-write_headers.ensures.bytes (puts_then _ _ _ _ _ r c.in_ok-write_static.ensures.bytes (puts_stop _ _ _ _ _ _ r c.from_residual-in_err-write_frames.ensures.1 c.in_err-write_frames.ensures.bytes)))
-
-pub returns-clause-bytes : goal.returns-clause-bytes
-returns-clause-bytes g c =
-    let r = c.write_last.result in
-    puts_same _ _ _ _ r (canon_is c.args.guest.now)
-    (puts_then _ _ _ _ _ r c.in_ok-write_headers.ensures.bytes (puts_then _ _ _ _ _ r c.in_ok-write_static.ensures.bytes (puts_then _ _ _ _ _ r c.in_ok-write_frames.ensures.bytes c.write_last.ensures.bytes)))
