@@ -1,31 +1,10 @@
 -- The canonical bodies of a well formed guest's parts of a code say these parts, in a length that their record's type has: a
 -- lemma for each shape.
-use Rattle.std.proofs.Common.{◌≡◌, ℕ, ◌+◌, ◌*◌, ◌-◌, ◌%◌, ◌<◌, ◌≤◌, ◌^◌, Bool, true, false, not, List, [], ◌∷◌, ◌++◌, length, map, replicate, nat_le, nat_lt, None, refl, sym, ap, subst, ◌∙◌, arith, rules, length-append, append_assoc, append-nil}
-use Rattle.std.specs.Prelude.{◌==◌, ◌&&◌, ⊤}
-use Rattle.std.specs.List.{All}
-use Rattle.std.proofs.lemmas.Bool.{and_parts, and_from, and_right, or_right, le-ltb, eqb-true, eq-eqb, le-leb, leb-true, ltb-true}
-use Rattle.std.proofs.lemmas.List.{length-replicate}
+use Rattle.mig_bodies.proofs.Common.{◌≡◌, ℕ, ◌+◌, ◌*◌, ◌-◌, ◌%◌, ◌<◌, ◌≤◌, ◌^◌, Bool, true, false, not, List, [], ◌∷◌, ◌++◌, length, map, replicate, nat_le, nat_lt, None, refl, sym, ap, subst, ◌∙◌, arith, rules, length-append, append_assoc, append-nil, ◌==◌, ◌&&◌, ⊤, All, and_parts, and_from, and_right, or_right, le-ltb, eqb-true, eq-eqb, le-leb, leb-true, ltb-true, length-replicate, little_number, little_bytes, little_number-reads_back, length-bytes_low_first, first_fault, Cause, no_fault, PartCode, P2mFrames, VcpuBasic, VcpuMsrs, PartKey, GuestOf, row_of, code_number, small_number, IsFormed, IsContent, IsCut, gdt_ents, is_policy, width_of, Part, Layout, Shape, Table, Single, Named, Chain, Other, fault_of_key, spelled_key, entry_width, front_width, AreTableEntries, IsTableFront, IsTable, entries_text, front_text, table_text, shape_of, IsShaped, IsRow, fault_of_content, sole_key, named_parts, IsSingle, IsNamed, IsChain, IsRecordBody, SayAll, part_body, bodies_by_shape, contents_by_shape, parts_at, CanonicalBodiesSay}
 use Rattle.std.proofs.lemmas.List.Elements.{All-head, All-tail}
-use Rattle.byteorder.specs.Endian.{little_number, little_bytes}
-use Rattle.byteorder.specs.Numbers.{little_number-reads_back, length-bytes_low_first}
 use Rattle.mig_bytes.specs.Fields.{le32}
-use Rattle.mig_headers.specs.Rows.{first_fault}
-use Rattle.mig_headers.specs.declared.fault.Cause.{Cause}
-use Rattle.mig_headers.proofs.FirstFaults.{no_fault}
-use Rattle.mig_guest.specs.declared.part_code.PartCode.{PartCode}
-use Rattle.mig_guest.specs.declared.part_code.PartCode.TheVariants.{P2mFrames, VcpuBasic, VcpuMsrs}
-use Rattle.mig_guest.specs.declared.part_key.PartKey.{PartKey}
-use Rattle.mig_guest.specs.Guests.{GuestOf}
-use Rattle.mig_guest.specs.PartCodes.{row_of, code_number, small_number}
-use Rattle.mig_guest.specs.Formed.{IsFormed, IsContent, IsCut, gdt_ents, is_policy, width_of}
 use Rattle.mig_guest.proofs.CodeParts.{parts_are, few_small}
 use Rattle.mig_guest.proofs.PartRows.{IsOf, sole}
-use Rattle.mig_guest.specs.Parts.{Part}
-use Rattle.mig_bodies.specs.declared.layout.Layout.{Layout}
-use Rattle.mig_bodies.specs.declared.shape.Shape.{Shape}
-use Rattle.mig_bodies.specs.declared.shape.Shape.TheVariants.{Table, Single, Named, Chain, Other}
-use Rattle.mig_bodies.specs.Layouts.{fault_of_key, spelled_key, entry_width, front_width, AreTableEntries, IsTableFront, IsTable, entries_text, front_text, table_text}
-use Rattle.mig_bodies.specs.Shapes.{shape_of, IsShaped, IsRow, fault_of_content, sole_key, named_parts, IsSingle, IsNamed, IsChain, IsRecordBody, SayAll, part_body, bodies_by_shape, contents_by_shape, parts_at, CanonicalBodiesSay}
 use Rattle.mig_bodies.proofs.Spelled.{scanned_chain}
 use Rattle.mig_bodies.proofs.TableSpelled.{table_len}
 use Rattle.mig_bodies.proofs.Rows.{all_rows, record_allows, has_allowed}

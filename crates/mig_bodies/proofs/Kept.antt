@@ -1,29 +1,13 @@
 -- What a body says are parts that a guest of its kind may have, a lemma for each shape; and so reading it keeps a guest well
 -- formed.
-use Rattle.std.proofs.Common.{◌≡◌, ℕ, ◌+◌, ◌*◌, ◌-◌, ◌%◌, ◌≤◌, ◌^◌, Bool, true, false, List, [], ◌∷◌, ◌++◌, length, take, replicate, nat_le, nat_lt, None, Ok, refl, sym, ap, subst, ◌∙◌, inl, inr, arith, rules, length-append, length-take-le}
-use Rattle.std.specs.Prelude.{◌==◌, ◌&&◌, ⊤}
-use Rattle.std.specs.List.{AllByRecursion}
-use Rattle.std.proofs.lemmas.Bool.{and_parts, and_from, or_cases, eqb-true, eq-eqb, leb-true, le-leb, ltb-false}
-use Rattle.std.proofs.lemmas.List.{take_at}
-use Rattle.byteorder.specs.Endian.{little_number}
+use Rattle.mig_bodies.proofs.Common.{◌≡◌, ℕ, ◌+◌, ◌*◌, ◌-◌, ◌%◌, ◌≤◌, ◌^◌, Bool, true, false, List, [], ◌∷◌, ◌++◌, length, take, replicate, nat_le, nat_lt, None, Ok, refl, sym, ap, subst, ◌∙◌, inl, inr, arith, rules, length-append, length-take-le, ◌==◌, ◌&&◌, ⊤, AllByRecursion, and_parts, and_from, or_cases, eqb-true, eq-eqb, leb-true, le-leb, ltb-false, take_at, little_number, rows_fine, PartCode, P2mFrames, VcpuBasic, VcpuMsrs, PartKey, row_of, code_number, Part, PartMap, IsPart, IsFormed, IsContent, IsCut, AreParts, gdt_ents, width_of, is_policy, is_emulator_code, HasNoEmulators, Shape, Table, Single, Named, Chain, Other, front_width, entry_width, fault_of_key, spelled_key, IsSmallKey, shape_of, has_shape, parts_of_body, parts_by_shape, IsRow, fault_of_content, named_parts, IsShaped, IsNamed, sole_key, IsBody, HasBodyLength, BodiesSayParts, set_parts, BodiesKeepFormed}
 use mathlib.Core.Logic.{◌⊎◌}
 use Rattle.mig_headers.specs.Contexts.{scan, cut_at}
 use Rattle.mig_headers.specs.declared.kind.Kind.{Kind}
 use Rattle.mig_headers.specs.declared.record_type.RecordType.TheVariants as types
 use Rattle.mig_headers.proofs.Chains.{end_fits}
 use Rattle.mig_headers.proofs.ContextTexts.{scan_cut}
-use Rattle.mig_headers.proofs.FirstFaults.{rows_fine}
-use Rattle.mig_guest.specs.declared.part_code.PartCode.{PartCode}
-use Rattle.mig_guest.specs.declared.part_code.PartCode.TheVariants.{P2mFrames, VcpuBasic, VcpuMsrs}
-use Rattle.mig_guest.specs.declared.part_key.PartKey.{PartKey}
-use Rattle.mig_guest.specs.PartCodes.{row_of, code_number}
-use Rattle.mig_guest.specs.Parts.{Part, PartMap}
-use Rattle.mig_guest.specs.Formed.{IsPart, IsFormed, IsContent, IsCut, AreParts, gdt_ents, width_of, is_policy, is_emulator_code, HasNoEmulators}
 use Rattle.mig_guest.proofs.Kept.{parts_keep, policies_keep, parts_plain, policies_plain}
-use Rattle.mig_bodies.specs.declared.shape.Shape.{Shape}
-use Rattle.mig_bodies.specs.declared.shape.Shape.TheVariants.{Table, Single, Named, Chain, Other}
-use Rattle.mig_bodies.specs.Layouts.{front_width, entry_width, fault_of_key, spelled_key, IsSmallKey}
-use Rattle.mig_bodies.specs.Shapes.{shape_of, has_shape, parts_of_body, parts_by_shape, IsRow, fault_of_content, named_parts, IsShaped, IsNamed, sole_key, IsBody, HasBodyLength, BodiesSayParts, set_parts, BodiesKeepFormed}
 use Rattle.mig_bodies.proofs.Spelled.{chain_scanned, named_cut}
 use Rattle.mig_bodies.proofs.TableSpelled.{table_len, size_is}
 use Rattle.mig_bodies.proofs.Reading.{table_all, set_empty}

@@ -1,3 +1,4 @@
+pub mod Common
 pub mod TableSpelled
 pub mod Spelled
 pub mod Reading

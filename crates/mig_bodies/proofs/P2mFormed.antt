@@ -1,24 +1,17 @@
 -- A well formed PV guest stays so where P2M frames are listed.
-use Rattle.std.proofs.Common.{◌≡◌, ◌≢◌, ℕ, ◌+◌, ◌-◌, ◌*◌, ◌/◌, ◌<◌, ◌≤◌, Bool, true, false, cond, List, length, drop, nat_le, Option, Some, None, refl, sym, ap, ◌∙◌, subst, arith, length-append, length-drop}
+use Rattle.mig_bodies.proofs.Common.{◌≡◌, ◌≢◌, ℕ, ◌+◌, ◌-◌, ◌*◌, ◌/◌, ◌<◌, ◌≤◌, Bool, true, false, cond, List, length, drop, nat_le, Option, Some, None, refl, sym, ap, ◌∙◌, subst, arith, length-append, length-drop, eqb-true, eq-eqb, leb-true, leb-false, PartCode, P2mFrames, PartKey, GuestOf, row_of, code_number, IsPart, IsTop, IsInside, IsGuestFrame, IsFormed, is_policy, width_of}
 use Rattle.std.specs.FinMap as maps
 use Rattle.std.specs.FinMap.{get-insert}
 use Rattle.std.specs.Ordering.{eq_by_cmp}
-use Rattle.std.proofs.lemmas.Bool.{eqb-true, eq-eqb, leb-true, leb-false}
 use Rattle.mig_headers.specs.declared.kind.Kind.{Kind}
 use Rattle.mig_headers.specs.declared.kind.Kind.TheVariants.{Pv, Hvm}
 use Rattle.mig_pagetypes.specs.Limits.{pfn_limit}
-use Rattle.mig_guest.specs.declared.part_code.PartCode.{PartCode}
-use Rattle.mig_guest.specs.declared.part_code.PartCode.TheVariants.{P2mFrames}
-use Rattle.mig_guest.specs.declared.part_key.PartKey.{PartKey}
 use Rattle.mig_guest.specs.declared.table.Entry.{Entry}
 use Rattle.mig_guest.specs.declared.table.Entry.TheVariants.{Blank, NotPresent, Superpage, Frame}
 use Rattle.mig_guest.specs.Frames.{FrameOf}
-use Rattle.mig_guest.specs.Guests.{GuestOf}
 use Rattle.mig_guest.specs.Order.{part_cmp}
-use Rattle.mig_guest.specs.PartCodes.{row_of, code_number}
 use Rattle.mig_guest.specs.PartKeys.{p2m_key}
 use Rattle.mig_guest.specs.Tables.{IsWithin}
-use Rattle.mig_guest.specs.Formed.{IsPart, IsTop, IsInside, IsGuestFrame, IsFormed, is_policy, width_of}
 use Rattle.mig_guest.proofs.Counts.{same_parts}
 use Rattle.mig_guest.proofs.KeyedMaps.{tied}
 use Rattle.mig_guest.proofs.PartSets.{put_other}

@@ -1,14 +1,8 @@
 -- The bodies of X86_PV_INFO and X86_PV_P2M_FRAMES without fault are those that are spelled so; P2M frames keep a guest
 -- well formed.
-use Rattle.std.proofs.Common.{◌≡◌, ℕ, ◌+◌, ◌*◌, ◌≤◌, ◌↔◌, Bool, true, false, not, List, [], ◌∷◌, ◌++◌, length, take, drop, nat_le, None, refl, sym, ap, ◌∙◌, arith, take-append-drop, length-drop}
-use Rattle.std.specs.Prelude.{◌==◌, ◌&&◌}
-use Rattle.std.proofs.lemmas.List.{drop-append-le, length-take-le}
-use Rattle.byteorder.specs.Endian.{little_number}
-use Rattle.byteorder.specs.Numbers.{little_from-append}
-use Rattle.std.proofs.lemmas.Bool.{eqb-true, eq-eqb, leb-false, le-leb, lt-leb, and_parts, not-false}
+use Rattle.mig_bodies.proofs.Common.{◌≡◌, ℕ, ◌+◌, ◌*◌, ◌≤◌, ◌↔◌, Bool, true, false, not, List, [], ◌∷◌, ◌++◌, length, take, drop, nat_le, None, refl, sym, ap, ◌∙◌, arith, take-append-drop, length-drop, ◌==◌, ◌&&◌, drop-append-le, little_number, little_from-append, eqb-true, eq-eqb, leb-false, le-leb, lt-leb, and_parts, not-false, rows_fine, no_fault, BadLength, Pv32, BadPvInfo, P2mStart, P2mRange}
+use Rattle.std.proofs.lemmas.List.{length-take-le}
 use Rattle.mig_bytes.specs.Fields.{le32}
-use Rattle.mig_headers.proofs.FirstFaults.{rows_fine, no_fault}
-use Rattle.mig_headers.specs.declared.fault.Cause.TheVariants.{BadLength, Pv32, BadPvInfo, P2mStart, P2mRange}
 use Rattle.mig_pagetypes.specs.Limits.{pfn_limit}
 use Rattle.mig_bodies.specs.PvBodies.{IsPvInfo, fault_of_pv_info, p2m_count, IsP2m, fault_of_p2m}
 

@@ -1,25 +1,10 @@
 -- Entries one after another, as a loop goes over them: the first, and the others behind it.
-use Rattle.std.proofs.Common.{◌≡◌, ◌≢◌, ◌<◌, ◌≤◌, ℕ, zero, suc, ◌+◌, ◌*◌, ◌-◌, ◌^◌, Bool, true, false, cond, not, ◌==◌, List, [], ◌∷◌, length, drop, Some, None, Result, Ok, Err, refl, sym, ap, subst, ◌∙◌, arith, length-drop}
+use Rattle.mig_bodies.proofs.Common.{◌≡◌, ◌≢◌, ◌<◌, ◌≤◌, ℕ, zero, suc, ◌+◌, ◌*◌, ◌-◌, ◌^◌, Bool, true, false, cond, not, List, [], ◌∷◌, length, drop, Some, None, Result, Ok, Err, refl, sym, ap, subst, ◌∙◌, arith, length-drop, get_or-drop, AllByRecursion, slice_index, OnOk, OnErr, little_number, little_from-lt, Cause, both_none, PartCode, PartKey, GuestOf, code_number, Part, PartMap, put_part, put_parts, Layout, IsLayout, IsSmallKey, entry_width, front_width, AreTableEntries, key_in, entry_part, entry_parts, fault_of_key, fault_of_entry, fault_of_entries, fault_of_table, entry_count, parts_of_table, is_policy, cleared, set_parts, named_parts}
+use Rattle.std.proofs.Common.{◌==◌}
 use Rattle.std.proofs.Math.Nat.{mul-suc, pow-le-pow_right}
-use Rattle.std.proofs.lemmas.List.{get_or-drop}
-use Rattle.std.specs.List.{AllByRecursion}
 use Rattle.std.specs.Option.{option_or}
 use Rattle.std.specs.FinMap as maps
-use Rattle.std.specs.Prelude.{slice_index, OnOk, OnErr}
-use Rattle.byteorder.specs.Endian.{little_number}
-use Rattle.byteorder.specs.Numbers.{little_from-lt}
-use Rattle.mig_headers.specs.declared.fault.Cause.{Cause}
-use Rattle.mig_headers.proofs.FirstFaults.{both_none}
-use Rattle.mig_guest.specs.declared.part_code.PartCode.{PartCode}
-use Rattle.mig_guest.specs.declared.part_key.PartKey.{PartKey}
-use Rattle.mig_guest.specs.Guests.{GuestOf}
-use Rattle.mig_guest.specs.PartCodes.{code_number}
-use Rattle.mig_guest.specs.Parts.{Part, PartMap, put_part, put_parts}
 use Rattle.mig_guest.proofs.PartSets.{put_other, puts_other, cleared_other}
-use Rattle.mig_bodies.specs.declared.layout.Layout.{Layout}
-use Rattle.mig_bodies.specs.Layouts.{IsLayout, IsSmallKey, entry_width, front_width, AreTableEntries, key_in, entry_part, entry_parts, fault_of_key, fault_of_entry, fault_of_entries, fault_of_table, entry_count, parts_of_table}
-use Rattle.mig_guest.specs.Formed.{is_policy}
-use Rattle.mig_bodies.specs.Shapes.{cleared, set_parts, named_parts}
 use Rattle.mig_bodies.proofs.TableSpelled.{fine_table}
 
 -- the bytes of memory

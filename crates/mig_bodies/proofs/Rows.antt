@@ -1,18 +1,8 @@
 -- What is to be shown of each row.
-use Rattle.std.proofs.Common.{◌≡◌, ℕ, zero, suc, ◌+◌, ◌*◌, ◌%◌, ◌<◌, ◌^◌, Bool, true, false, not, List, [], ◌∷◌, length, drop, None, Option, Some, refl, subst, arith, rules}
-use Rattle.std.specs.Prelude.{nat_lt, ◌==◌}
-use Rattle.std.proofs.lemmas.Bool.{and_parts, not-false, ltb-true}
-use Rattle.mig_headers.specs.Rows.{first_fault}
+use Rattle.mig_bodies.proofs.Common.{◌≡◌, ℕ, zero, suc, ◌+◌, ◌*◌, ◌%◌, ◌<◌, ◌^◌, Bool, true, false, not, List, [], ◌∷◌, length, drop, None, Option, Some, refl, subst, arith, rules, ◌==◌, and_parts, not-false, ltb-true, first_fault, Cause, rows_fine, neither_some, PartCode, P2mFrames, CpuidLeaf, Msr, code_number, small_number, Layout, layout, entry_width, front_width, fault_of_key, fault_of_entries, entry_count, fault_of_table, shape_of, IsRow, HasBodyLength, fault_of_body}
+use Rattle.std.specs.Prelude.{nat_lt}
 use Rattle.mig_headers.specs.RecordTypes.{record_row_of, type_of_number}
 use Rattle.mig_headers.specs.declared.record_type.RecordType.{RecordType}
-use Rattle.mig_headers.specs.declared.fault.Cause.{Cause}
-use Rattle.mig_headers.proofs.FirstFaults.{rows_fine, neither_some}
-use Rattle.mig_guest.specs.declared.part_code.PartCode.{PartCode}
-use Rattle.mig_guest.specs.declared.part_code.PartCode.TheVariants.{P2mFrames, CpuidLeaf, Msr}
-use Rattle.mig_guest.specs.PartCodes.{code_number, small_number}
-use Rattle.mig_bodies.specs.declared.layout.Layout.{Layout}
-use Rattle.mig_bodies.specs.Layouts.{layout, entry_width, front_width, fault_of_key, fault_of_entries, entry_count, fault_of_table}
-use Rattle.mig_bodies.specs.Shapes.{shape_of, IsRow, HasBodyLength, fault_of_body}
 use Rattle.mig_bodies.proofs.TableSpelled.{length_passes}
 
 pub small_keys : (key1 key2 : ℕ) (c : Cause) → first_fault ((not (small_number key1 key2), c) ∷ []) ≡ None → small_number key1 key2 ≡ true

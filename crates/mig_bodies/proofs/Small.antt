@@ -1,11 +1,5 @@
 -- The parts of a body in memory have keys of 32 bits, whatever its shape.
-use Rattle.std.proofs.Common.{◌≡◌, List, ℕ, None, arith}
-use Rattle.std.specs.List.{AllByRecursion}
-use Rattle.mig_guest.specs.declared.part_code.PartCode.{PartCode}
-use Rattle.mig_bodies.specs.declared.shape.Shape.{Shape}
-use Rattle.mig_bodies.specs.declared.shape.Shape.TheVariants.{Table, Single, Named, Chain, Other}
-use Rattle.mig_bodies.specs.Layouts.{IsSmallKey, key_in}
-use Rattle.mig_bodies.specs.Shapes.{shape_of, IsRow, fault_by_shape, parts_by_shape, fault_of_body, parts_of_body}
+use Rattle.mig_bodies.proofs.Common.{◌≡◌, List, ℕ, None, arith, AllByRecursion, PartCode, Shape, Table, Single, Named, Chain, Other, IsSmallKey, key_in, shape_of, IsRow, fault_by_shape, parts_by_shape, fault_of_body, parts_of_body}
 use Rattle.mig_bodies.proofs.Reading.{AreOctets, small_table, small_name, named_all}
 use Rattle.mig_bodies.proofs.Rows.{all_rows}
 

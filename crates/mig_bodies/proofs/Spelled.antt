@@ -1,24 +1,10 @@
 -- The bodies without fault are those that are spelled so: a lemma for each shape.
-use Rattle.std.proofs.Common.{◌≡◌, ℕ, ◌+◌, ◌≤◌, Bool, true, List, [], ◌∷◌, length, take, drop, nat_lt, Option, Some, None, Result, Ok, Err, refl, sym, ap, ◌∙◌, arith, length-append, length-drop, length-take-le, take-append-drop}
+use Rattle.mig_bodies.proofs.Common.{◌≡◌, ℕ, ◌+◌, ◌≤◌, Bool, true, List, [], ◌∷◌, length, take, drop, nat_lt, Option, Some, None, Result, Ok, Err, refl, sym, ap, ◌∙◌, arith, length-append, length-drop, length-take-le, take-append-drop, ltb-false, le-ltb, take_at, little_number, Cause, BadLength, first_fault, both_none, neither_some, rows_fine, no_fault, PartCode, code_number, Part, Shape, Table, Single, Named, Chain, Other, fault_of_key, shape_of, sole_key, named_parts, IsSingle, IsNamed, IsChain, IsShaped, IsRow, fault_of_content, fault_of_scan, cut, fault_by_shape, parts_by_shape, has_shape, BodiesAreSpelled, BodiesSayOne}
 use Rattle.std.specs.Prelude.{◌↔◌}
 use Rattle.std.specs.Option.{option_or}
-use Rattle.std.proofs.lemmas.Bool.{ltb-false, le-ltb}
-use Rattle.std.proofs.lemmas.List.{take_at}
-use Rattle.byteorder.specs.Endian.{little_number}
-use Rattle.mig_headers.specs.declared.fault.Cause.{Cause}
-use Rattle.mig_headers.specs.declared.fault.Cause.TheVariants.{BadLength}
 use Rattle.mig_headers.specs.declared.fault.ContextFault.{ContextFault}
 use Rattle.mig_headers.specs.Contexts.{scan, cut_at}
 use Rattle.mig_headers.proofs.ContextTexts.{contexts_are_spelled}
-use Rattle.mig_headers.specs.Rows.{first_fault}
-use Rattle.mig_headers.proofs.FirstFaults.{both_none, neither_some, rows_fine, no_fault}
-use Rattle.mig_guest.specs.declared.part_code.PartCode.{PartCode}
-use Rattle.mig_guest.specs.PartCodes.{code_number}
-use Rattle.mig_guest.specs.Parts.{Part}
-use Rattle.mig_bodies.specs.declared.shape.Shape.{Shape}
-use Rattle.mig_bodies.specs.declared.shape.Shape.TheVariants.{Table, Single, Named, Chain, Other}
-use Rattle.mig_bodies.specs.Layouts.{fault_of_key}
-use Rattle.mig_bodies.specs.Shapes.{shape_of, sole_key, named_parts, IsSingle, IsNamed, IsChain, IsShaped, IsRow, fault_of_content, fault_of_scan, cut, fault_by_shape, parts_by_shape, has_shape, BodiesAreSpelled, BodiesSayOne}
 use Rattle.mig_bodies.proofs.TableSpelled.{Cut, cut_of, behind_value, first_number, second_number, size_is, length_is, length_passes, table_forth, table_back}
 use Rattle.mig_bodies.proofs.Rows.{all_rows}
 

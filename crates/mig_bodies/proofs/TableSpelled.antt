@@ -1,21 +1,7 @@
 -- A table without fault is one that is spelled as entries, whatever its layout.
-use Rattle.std.proofs.Common.{◌≡◌, ◌≤◌, ℕ, zero, suc, ◌+◌, ◌*◌, ◌/◌, Bool, true, false, cond, List, [], ◌∷◌, ◌++◌, length, take, drop, not, nat_eq, Option, None, refl, sym, ap, subst, ◌∙◌, arith, length-append, length-drop, length-take-le, take-append-drop, drop-drop, drop_at}
+use Rattle.mig_bodies.proofs.Common.{◌≡◌, ◌≤◌, ℕ, zero, suc, ◌+◌, ◌*◌, ◌/◌, Bool, true, false, cond, List, [], ◌∷◌, ◌++◌, length, take, drop, not, nat_eq, Option, None, refl, sym, ap, subst, ◌∙◌, arith, length-append, length-drop, length-take-le, take-append-drop, drop-drop, drop_at, not-false, not_from_true, eqb-true, eq-eqb, take_at, little_number, little_from-append, Cause, BadLength, first_fault, both_none, neither_some, rows_fine, no_fault, PartCode, PartKey, code_number, Part, Layout, fault_of_key, spelled_key, key_in, entry_width, front_width, AreTableEntries, IsTableFront, IsTable, entry_part, entry_parts, fault_of_entries, entry_count, parts_of_table, fault_of_table, AreWidths}
 use Rattle.std.proofs.Math.Nat.{mul-suc, mul-div_cancel_left}
-use Rattle.std.proofs.lemmas.Bool.{not-false, not_from_true, eqb-true, eq-eqb}
-use Rattle.std.proofs.lemmas.List.{take_at}
-use Rattle.byteorder.specs.Endian.{little_number}
-use Rattle.byteorder.specs.Numbers.{little_from-append}
 use Rattle.mig_bytes.specs.Fields.{le32}
-use Rattle.mig_headers.specs.declared.fault.Cause.{Cause}
-use Rattle.mig_headers.specs.declared.fault.Cause.TheVariants.{BadLength}
-use Rattle.mig_headers.specs.Rows.{first_fault}
-use Rattle.mig_headers.proofs.FirstFaults.{both_none, neither_some, rows_fine, no_fault}
-use Rattle.mig_guest.specs.declared.part_code.PartCode.{PartCode}
-use Rattle.mig_guest.specs.declared.part_key.PartKey.{PartKey}
-use Rattle.mig_guest.specs.PartCodes.{code_number}
-use Rattle.mig_guest.specs.Parts.{Part}
-use Rattle.mig_bodies.specs.declared.layout.Layout.{Layout}
-use Rattle.mig_bodies.specs.Layouts.{fault_of_key, spelled_key, key_in, entry_width, front_width, AreTableEntries, IsTableFront, IsTable, entry_part, entry_parts, fault_of_entries, entry_count, parts_of_table, fault_of_table, AreWidths}
 
 -- a number reads its own bytes alone
 pub number_first : (n : ℕ) (bytes rest : List ℕ) → length bytes ≡ n → little_number n (bytes ++ rest) ≡ little_number n bytes

@@ -1,16 +1,10 @@
 -- Batches of frames one after another.
-use Rattle.std.proofs.Common.{replicate, ◌≡◌, ℕ, suc, ◌+◌, ◌-◌, ◌*◌, ◌<◌, ◌≤◌, min, List, [], ◌∷◌, ◌++◌, length, take, drop, true, cond, nat_le, refl, sym, ap, ◌∙◌, arith, drop-drop, drop-cons, length-append}
-use Rattle.std.proofs.lemmas.Grind.{common_steps}
-use Rattle.std.proofs.lemmas.List.{length-drop, length-take, take_all, take_min, drop_min}
+use Rattle.mig_canon.proofs.Common.{replicate, ◌≡◌, ℕ, suc, ◌+◌, ◌-◌, ◌*◌, ◌<◌, ◌≤◌, min, List, [], ◌∷◌, ◌++◌, length, take, drop, true, cond, nat_le, refl, sym, ap, ◌∙◌, arith, drop-drop, drop-cons, length-append, common_steps, length-drop, length-take, take_all, take_min, drop_min, padding_len, take-append-add, entries_from, head_of, Frame, Record, batch, frame_word_in, page_in, words_of, pages_of, frame_bodies}
 use Rattle.std.proofs.lemmas.List.FromFn.{length-map-range_with_len, get_or-map-range_with_len}
 use Rattle.byteorder.specs.Endian.{little_bytes}
-use Rattle.mig_bytes.specs.Bytes.{padding_len}
 use Rattle.mig_bytes.specs.Fields.{with_field}
-use Rattle.std.proofs.Math.Seq.{take-add, take-append-add}
-use Rattle.std.proofs.lemmas.Grind.{flat_map-append}
-use Rattle.mig_guest.specs.Frames.{entries_from}
-use Rattle.mig_records.specs.Records.{head_of, spelled}
-use Rattle.mig_canon.specs.Canon.{Frame, Record, batch, frame_word_in, page_in, words_of, pages_of, body_of, frame_bodies}
+use Rattle.mig_records.specs.Records.{spelled}
+use Rattle.mig_canon.specs.Canon.{body_of}
 use Rattle.mig_canon.proofs.Steps.{flat_next}
 use Rattle.mig_canon.proofs.Spelling.{spelled_flat}
 

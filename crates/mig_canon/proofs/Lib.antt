@@ -1,3 +1,4 @@
+pub mod Common
 pub mod Steps
 pub mod Wholes
 pub mod Spelling

@@ -1,26 +1,17 @@
 -- How records, tables and the whole stream are spelled, piece by piece.
-use Rattle.std.proofs.Common.{◌≡◌, ℕ, suc, ◌+◌, ◌-◌, ◌<◌, ◌≤◌, List, [], ◌∷◌, ◌++◌, length, take, drop, replicate, map, Bool, true, false, refl, sym, ap, subst, ◌∙◌, arith, length-append, append-nil, append_assoc}
-use Rattle.std.proofs.lemmas.Grind.{flat_map-append}
-use Rattle.std.proofs.lemmas.List.{length-replicate, replicate-append-replicate, take-append-le}
-use Rattle.std.proofs.Math.Seq.{take-append-add}
-use Rattle.std.specs.List.{flat_map}
+use Rattle.mig_canon.proofs.Common.{◌≡◌, ℕ, suc, ◌+◌, ◌-◌, ◌<◌, ◌≤◌, List, [], ◌∷◌, ◌++◌, length, take, drop, replicate, map, Bool, true, false, refl, sym, ap, subst, ◌∙◌, arith, length-append, append-nil, append_assoc, flat_map-append, length-replicate, replicate-append-replicate, take-append-le, take-append-add, flat_map, padding_len, Part, code_number, shape_of, parts_at, part_body, bodies_by_shape, head_of, Record, records_of, records_in_order, frames_in, batches, frame_bodies, static_bodies, last_bodies, text_of, headers, piece}
 use Rattle.byteorder.specs.Endian.{little_bytes}
 use Rattle.byteorder.specs.Numbers.{length-bytes_low_first}
 use Rattle.byteorder.proofs.Bytes.{take-bytes_low_first}
 use Rattle.mig_bytes.specs.Fields.{with_field}
-use Rattle.mig_bytes.specs.Bytes.{padding_len}
 use Rattle.mig_guest.specs.Guests.{GuestOf}
-use Rattle.mig_guest.specs.Parts.{Part}
 use Rattle.mig_guest.specs.declared.part_code.PartCode.{PartCode}
 use Rattle.mig_bodies.specs.declared.layout.Layout.{Layout}
 use Rattle.mig_bodies.specs.declared.shape.Shape.{Shape}
 use Rattle.mig_bodies.specs.declared.shape.Shape.TheVariants.{Table, Single, Named, Chain, Other}
 use Rattle.mig_bodies.specs.Layouts.{front_text, entries_text, table_text}
-use Rattle.mig_guest.specs.PartCodes.{code_number}
-use Rattle.mig_bodies.specs.Shapes.{shape_of, parts_at, part_body, bodies_by_shape}
-use Rattle.mig_records.specs.Records.{head_of, spelled}
-use Rattle.mig_canon.specs.Canon.{Record, records_of, records_in_order, frames_in, batches, frame_bodies, static_bodies, last_bodies, text_of, headers, canon}
-use Rattle.mig_canon.specs.Pieces.{piece}
+use Rattle.mig_records.specs.Records.{spelled}
+use Rattle.mig_canon.specs.Canon.{canon}
 
 -- ---- a record
 

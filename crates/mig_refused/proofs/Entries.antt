@@ -1,15 +1,11 @@
 -- What is wrong with an entry of an HVM context, and the entries before it.
-use Rattle.std.proofs.Common.{◌≡◌, ◌⊎◌, inl, inr, ℕ, ◌+◌, ◌≤◌, List, length, is_some, Some, None, refl, sym, subst, ◌∙◌, arith}
-use Rattle.std.proofs.lemmas.Bool.{cases_eq, cases_lt, eqb-false, ne_eqb}
+use Rattle.mig_refused.proofs.Common.{◌≡◌, ◌⊎◌, inl, inr, ℕ, ◌+◌, ◌≤◌, List, length, is_some, Some, None, refl, sym, subst, ◌∙◌, arith, cases_eq, cases_lt, eqb-false, ne_eqb, common_steps, le16, le32, here, EntriesTo, EntryHas}
 use Rattle.std.proofs.lemmas.Option.{none-some, same_Some}
-use Rattle.std.proofs.lemmas.Grind.{common_steps}
-use Rattle.mig_bytes.specs.Fields.{le16, le32}
-use Rattle.mig_bytes.specs.Walk.Reaches.{here, next as goes}
+use Rattle.mig_bytes.specs.Walk.Reaches.{next as goes}
 use Rattle.mig_headers.specs.Contexts.{ChainTo, fault_at, after_entry, entry_end, is_last}
 use Rattle.mig_headers.proofs.Chains.{chain_more, gone, none_of, not_last}
 use Rattle.mig_headers.specs.declared.fault.ContextFault.{ContextFault}
 use Rattle.mig_headers.specs.declared.fault.ContextFault.TheVariants.{NoHeader, HeaderSize, ShortEntry, NoEnd}
-use Rattle.mig_refused.specs.Refusal.{EntriesTo, EntryHas}
 use Rattle.mig_refused.specs.Refusal.EntriesTo.{start, next}
 use Rattle.mig_refused.specs.Refusal.EntryHas.{nothing_at_all, nothing_more, short_front, other_first, header_size, short_data}
 

@@ -1,23 +1,13 @@
 -- The causes that stand in a record's head.
-use Rattle.std.proofs.Common.{◌≡◌, ◌⊎◌, inl, inr, ℕ, ◌^◌, List, [], ◌∷◌, ◌++◌, length, Bool, true, false, nat_le, nat_lt, nat_eq, not, Option, Some, None, refl, sym, ap, subst, ◌∙◌, arith}
-use Rattle.std.proofs.lemmas.Bool.{leb-true, leb-false, ltb-true, eqb-true, le-leb, lt-leb, lt-ltb, false≢true, not-true, and_parts, and_from, not_from_false, or_left, or_right, or_cases, not-false}
+use Rattle.mig_refused.proofs.Common.{◌≡◌, ◌⊎◌, inl, inr, ℕ, ◌^◌, List, [], ◌∷◌, ◌++◌, length, Bool, true, false, nat_le, nat_lt, nat_eq, not, Option, Some, None, refl, sym, ap, subst, ◌∙◌, arith, leb-true, leb-false, ltb-true, eqb-true, le-leb, lt-leb, lt-ltb, false≢true, not-true, and_parts, and_from, not_from_false, or_left, or_right, or_cases, not-false, option_or, common_steps, first_fault, Cause, NotBuilt, BodyTooLong, UnknownMandatory, OutOfOrder, BadLength, TooManyRecords, Unsupported, WrongKind, Kind, Pv, Hvm, type_allows, fault_of_long, Opening, Before, most_records, is_supported_type, fault_of_number, HeadHas, Breaks}
 use Rattle.std.specs.Prelude.{◌&&◌}
-use Rattle.std.specs.Option.{option_or}
 use Rattle.std.proofs.lemmas.Option.{same_Some}
-use Rattle.std.proofs.lemmas.Grind.{common_steps}
-use Rattle.mig_headers.specs.Rows.{first_fault}
 use Rattle.mig_headers.specs.RecordTypes.{record_row_of, pv, type_number, type_of_number, is_optional}
 use Rattle.mig_headers.proofs.RecordNumbers.{numbers_are_inverse}
-use Rattle.mig_headers.specs.declared.fault.Cause.{Cause}
-use Rattle.mig_headers.specs.declared.fault.Cause.TheVariants.{NotBuilt, BodyTooLong, UnknownMandatory, OutOfOrder, BadLength, TooManyRecords, Unsupported, WrongKind}
-use Rattle.mig_headers.specs.declared.kind.Kind.{Kind}
-use Rattle.mig_headers.specs.declared.kind.Kind.TheVariants.{Pv, Hvm}
 use Rattle.mig_headers.specs.declared.record_type.RecordType.{RecordType}
 use Rattle.mig_headers.specs.declared.record_type.RecordType.TheVariants.{End, PageData, X86PvInfo, X86PvP2mFrames, StaticDataEnd}
 use Rattle.mig_order.specs.Order.{earlier_in, is_of, static_records, content_records, broken_rules, fault_of_type, late_static}
-use Rattle.mig_records.specs.Faults.{type_allows, fault_of_long}
-use Rattle.mig_restore.specs.Judging.{Opening, Before, most_records, fault_of_fields, is_supported_type, fault_of_number}
-use Rattle.mig_refused.specs.Refusal.{HeadHas, Breaks}
+use Rattle.mig_restore.specs.Judging.{fault_of_fields}
 use Rattle.mig_refused.specs.Refusal.HeadHas.{too_many, bad_length, out_of_order, wrong_kind, unknown, unsupported, too_long, not_built}
 use Rattle.mig_refused.specs.Refusal.Breaks.{second_end, static_after_end, static_after_content, early_content, second_pv_info, early_p2m_frames, early_pages, late_pages}
 use Rattle.mig_refused.specs.Refusal.{HeadHas as has, Breaks as broken}

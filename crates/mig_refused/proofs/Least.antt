@@ -1,14 +1,8 @@
 -- Tables of causes: the first row whose test holds is the cause that is named.
-use Rattle.std.proofs.Common.{◌≡◌, ◌⊎◌, inl, inr, ℕ, List, [], ◌∷◌, ◌++◌, Bool, true, false, nat_lt, nat_eq, Option, Some, None, refl, sym, subst}
-use Rattle.std.proofs.lemmas.Bool.{ltb-true, eqb-true, and_parts, or_cases, false≢true}
+use Rattle.mig_refused.proofs.Common.{◌≡◌, ◌⊎◌, inl, inr, ℕ, List, [], ◌∷◌, ◌++◌, Bool, true, false, nat_lt, nat_eq, Option, Some, None, refl, sym, subst, ltb-true, eqb-true, and_parts, or_cases, false≢true, option_or, first_fault, Cause, OutOfOrder, IsTriedBefore, IsFirstCause}
 use Rattle.std.specs.Prelude.{◌&&◌, ◌||◌}
 use Rattle.std.specs.List.{list_all}
-use Rattle.std.specs.Option.{option_or}
-use Rattle.mig_headers.specs.Rows.{first_fault}
 use Rattle.mig_headers.specs.Texts.{number_of_cause}
-use Rattle.mig_headers.specs.declared.fault.Cause.{Cause}
-use Rattle.mig_headers.specs.declared.fault.Cause.TheVariants.{OutOfOrder}
-use Rattle.mig_refused.specs.Refusal.{IsTriedBefore, IsFirstCause}
 
 abbrev pub LeastOf : (ℕ → Cause → Type 0) → Option Cause → Type 0
 LeastOf Has None = (k : ℕ) (c : Cause) → Has k c → ⊥

@@ -1,17 +1,8 @@
 -- A record that fails: the part in which it fails, and the parts before it.
-use Rattle.std.proofs.Common.{◌≡◌, ◌⊎◌, inl, inr, ℕ, ◌+◌, ◌*◌, ◌/◌, List, [], ◌∷◌, ◌++◌, Bool, true, false, not, nat_eq, zero, suc, drop, length, Option, Some, None, refl, sym, ap, subst, ◌∙◌, arith, append_assoc}
-use Rattle.std.proofs.lemmas.Bool.{eqb-true, not-true, false≢true}
+use Rattle.mig_refused.proofs.Common.{◌≡◌, ◌⊎◌, inl, inr, ℕ, ◌+◌, ◌*◌, ◌/◌, List, [], ◌∷◌, ◌++◌, Bool, true, false, not, nat_eq, zero, suc, drop, length, Option, Some, None, refl, sym, ap, subst, ◌∙◌, arith, append_assoc, eqb-true, not-true, false≢true, le32, Judged, ◌>>=◌, part, tried, Passes, Faulty, part_whole, then_passes, tried_none, both_pass, part_passes, tried_passes, same_passes, first_fault, Cause, Truncated, Kind, Pv, Hvm, common_steps, type_allows, fault_of_count, fault_of_words, Opening, Before, before, is_built, record_at, next_at, body_at, typed_at, coded_at, code_of_type, sets_at, entries_at, entry_at, words_at, fault_of_head, fault_at_end, fault_of_data, StreamPart, PagesTo, IsFaultless, InPages, body_part, InBody, Within, end_record, Head, PagesFront, PagesWords, PagesLength, Page, OtherBody, Padding, WholeGuest}
 use Rattle.mig_bytes.specs.Bytes.{padding_len, IsLeastPadding}
-use Rattle.mig_bytes.specs.Fields.{le32}
-use Rattle.mig_bytes.specs.Judged.{Judged, ◌>>=◌, part, tried, each}
-use Rattle.mig_bytes.specs.Judged.Judged.{Passes, Faulty}
-use Rattle.mig_bytes.proofs.Joins.{part_whole, then_passes, tried_none, both_pass, part_passes, tried_passes, same_passes}
+use Rattle.mig_bytes.specs.Judged.{each}
 use Rattle.mig_headers.specs.RecordTypes.{record_row_of, type_number, type_of_number}
-use Rattle.mig_headers.specs.Rows.{first_fault}
-use Rattle.mig_headers.specs.declared.fault.Cause.{Cause}
-use Rattle.mig_headers.specs.declared.fault.Cause.TheVariants.{Truncated}
-use Rattle.mig_headers.specs.declared.kind.Kind.{Kind}
-use Rattle.mig_headers.specs.declared.kind.Kind.TheVariants.{Pv, Hvm}
 use Rattle.mig_headers.specs.declared.record_type.RecordType.{RecordType}
 use Rattle.mig_headers.specs.declared.record_type.RecordType.TheVariants.{PageData}
 use Rattle.mig_guest.specs.Guests.{GuestOf}
@@ -27,14 +18,11 @@ use Rattle.mig_bodies.specs.Layouts.{entry_width, front_width, fault_of_key, fau
 use Rattle.mig_bodies.specs.Shapes.{shape_of, fault_by_shape, fault_of_body, parts_of_body}
 use Rattle.mig_bodies.proofs.TableSpelled.{length_passes}
 use Rattle.mig_headers.proofs.FirstFaults.{neither_some}
-use Rattle.std.proofs.lemmas.Grind.{common_steps}
 use Rattle.mig_order.specs.Order.{IsInOrder}
 use Rattle.mig_order.specs.Order.{IsInOrder as order}
-use Rattle.mig_records.specs.Faults.{type_allows, fault_of_count, fault_of_words}
 use Rattle.mig_records.specs.Words.{words}
 use Rattle.mig_pvtables.proofs.HvmGuests.{hvm_fault}
 use Rattle.mig_pvtables.specs.Faults.{fault_of_guest}
-use Rattle.mig_restore.specs.Judging.{Opening, Before, before, is_built, record_at, next_at, body_at, typed_at, coded_at, code_of_type, sets_at, entries_at, entry_at, words_at, fault_of_head, fault_at_end, fault_of_data}
 use Rattle.mig_restore.specs.Mean.{sent}
 use Rattle.mig_restore.specs.Record.{StreamRecord, FrameEntry, Content}
 use Rattle.mig_restore.specs.Record.Content.{Nothing, Frames, Sets}
@@ -43,8 +31,6 @@ use Rattle.mig_restore.proofs.Batches.{behind_words, behind_good, words_stage, p
 use Rattle.mig_restore.proofs.Bodies.{body_says, body_goes, coded_is, ends_hvm, optional_at, type_at, no_pv}
 use Rattle.mig_restore.proofs.Meaning.{sent_kind}
 use Rattle.mig_restore.proofs.Laws.{fields_fine}
-use Rattle.mig_refused.specs.Refusal.{StreamPart, PagesTo, IsFaultless, InPages, body_part, InBody, Within, end_record}
-use Rattle.mig_refused.specs.Refusal.StreamPart.{Head, PagesFront, PagesWords, PagesLength, Page, OtherBody, Padding, WholeGuest}
 use Rattle.mig_refused.specs.Refusal.PagesTo.{next_page, one_page}
 use Rattle.mig_refused.specs.Refusal.InPages.{at_front, at_words, at_length, at_page}
 use Rattle.mig_refused.specs.Refusal.InBody.{in_pages, of_code, optional}

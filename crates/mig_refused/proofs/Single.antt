@@ -1,12 +1,5 @@
 -- One part: what fails in it, and how judging goes on behind it.
-use Rattle.std.proofs.Common.{◌≡◌, ◌⊎◌, inl, inr, ℕ, List, [], ◌++◌, length, take, drop, Bool, true, false, cond, nat_lt, Option, Some, None, refl, sym, ap, subst, ◌∙◌, arith, take-append-drop, length-take-le, ltb-false}
-use Rattle.std.proofs.lemmas.Bool.{lt-ltb, ltb-true}
-use Rattle.mig_bytes.specs.Judged.{Judged, ◌>>=◌, part, tried}
-use Rattle.mig_bytes.specs.Judged.Judged.{Passes, Faulty}
-use Rattle.mig_bytes.proofs.Joins.{part_whole, part_passes, tried_passes, then_passes, tried_none}
-use Rattle.mig_headers.specs.declared.fault.Cause.{Cause}
-use Rattle.mig_headers.specs.declared.fault.Cause.TheVariants.{Truncated}
-use Rattle.mig_refused.specs.Refusal.{IsFirstCause, StreamPart, Stands, size_of, IsFaultless, Fails}
+use Rattle.mig_refused.proofs.Common.{◌≡◌, ◌⊎◌, inl, inr, ℕ, List, [], ◌++◌, length, take, drop, Bool, true, false, cond, nat_lt, Option, Some, None, refl, sym, ap, subst, ◌∙◌, arith, take-append-drop, length-take-le, ltb-false, lt-ltb, ltb-true, Judged, ◌>>=◌, part, tried, Passes, Faulty, part_whole, part_passes, tried_passes, then_passes, tried_none, Cause, Truncated, IsFirstCause, StreamPart, Stands, size_of, IsFaultless, Fails}
 use Rattle.mig_refused.specs.Refusal.Fails.{short, faulty}
 use Rattle.mig_refused.proofs.Least.{Least}
 use Rattle.mig_refused.proofs.Tables.{fault_in, part_least}

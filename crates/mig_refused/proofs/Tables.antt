@@ -1,46 +1,34 @@
 -- The causes that stand in each part of an image.
-use Rattle.std.proofs.Common.{◌≡◌, ◌⊎◌, inl, inr, ℕ, zero, suc, drop, ltb-false, ◌+◌, ◌*◌, ◌<◌, ◌≤◌, List, [], ◌∷◌, length, Bool, true, false, nat_le, nat_lt, nat_eq, not, is_none, Option, Some, None, Result, Ok, Err, slice_index, refl, sym, ap, subst, ◌∙◌, arith}
-use Rattle.std.proofs.lemmas.Bool.{leb-true, ltb-true, eqb-true, eqb-false, ne_eqb, eq-eqb, le-leb, lt-ltb, le-ltb, cases_order, both_ways, not-true, and_parts, and_from, or_cases}
-use Rattle.std.proofs.lemmas.Grind.{common_steps}
+use Rattle.mig_refused.proofs.Common.{◌≡◌, ◌⊎◌, inl, inr, ℕ, zero, suc, drop, ltb-false, ◌+◌, ◌*◌, ◌<◌, ◌≤◌, List, [], ◌∷◌, length, Bool, true, false, nat_le, nat_lt, nat_eq, not, is_none, Option, Some, None, Result, Ok, Err, slice_index, refl, sym, ap, subst, ◌∙◌, arith, leb-true, ltb-true, eqb-true, eqb-false, ne_eqb, eq-eqb, le-leb, lt-ltb, le-ltb, cases_order, both_ways, not-true, and_parts, and_from, or_cases, common_steps, option_or, le32, here, first_fault, Cause, BadLength, BadPageType, PfnOutside, BadContext, ParamIndex, Missing, TooManyFrames, Kind, Pv, Hvm, count_rows, fault_of_count, fault_of_words, fault_of_data, fault_of_head, EntriesTo, EntryHas, MarkerHas, HeaderHas, DomainHas, GuestHas, FrontHas, WordsHas, LengthHas, ContextHas, ParamsHas, IsTriedBefore, StreamPart, Stands, Marker, HeaderRest, Domain, Head, WholeGuest, PagesFront, PagesWords, PagesLength, ContextBody, ParamsBody}
 use Rattle.std.specs.FinMap as maps
-use Rattle.std.specs.Option.{option_or}
 use Rattle.std.specs.List.{list_any}
 use Rattle.std.proofs.lemmas.List.{drop-drop}
 use Rattle.byteorder.specs.Endian.{little_number}
-use Rattle.mig_bytes.specs.Fields.{le32, le64}
+use Rattle.mig_bytes.specs.Fields.{le64}
 use Rattle.mig_bytes.specs.Walk.{walk_end}
-use Rattle.mig_bytes.specs.Walk.Reaches.{here}
 use Rattle.mig_bytes.proofs.Walks.{walk_end_reached}
 use Rattle.mig_headers.specs.Contexts.{Scanned, scan, scan_at, fault_at, after_entry}
 use Rattle.mig_headers.proofs.Chains.{scan_is}
 use Rattle.mig_headers.specs.Headers.{marker_rows, image_rows, domain_rows, fault_of_marker, fault_of_image, fault_of_domain}
 use Rattle.mig_headers.specs.Texts.{number_of_cause}
-use Rattle.mig_headers.specs.Rows.{first_fault}
-use Rattle.mig_headers.specs.declared.fault.Cause.{Cause}
-use Rattle.mig_headers.specs.declared.fault.Cause.TheVariants.{BadLength, BadPageType, PfnOutside, BadContext, ParamIndex, Missing, TooManyFrames}
 use Rattle.mig_headers.specs.declared.fault.ContextFault.{ContextFault}
-use Rattle.mig_headers.specs.declared.kind.Kind.{Kind}
-use Rattle.mig_headers.specs.declared.kind.Kind.TheVariants.{Pv, Hvm}
 use Rattle.mig_pagetypes.specs.FrameWords.{word_type, word_pfn}
 use Rattle.mig_pagetypes.specs.Limits.{pfn_limit, most_frames}
 use Rattle.mig_guest.specs.Guests.{GuestOf}
 use Rattle.mig_guest.specs.PartKeys.{context_key}
-use Rattle.mig_records.specs.Faults.{count_rows, fault_of_count, fault_of_words}
 use Rattle.mig_records.specs.Words.{words, data_len_of, has_reserved_type, names_outside, is_outside, first_place, first_word}
 use Rattle.mig_records.proofs.Places.{place_is_first, none_pass}
 use Rattle.mig_guest.specs.declared.part_code.PartCode.TheVariants.{HvmContext, HvmParam}
 use Rattle.mig_bodies.specs.declared.layout.Layout.{Layout}
 use Rattle.mig_bodies.specs.Layouts.{layout, fault_of_entries}
 use Rattle.mig_bodies.specs.Shapes.{fault_of_body, fault_of_scan}
-use Rattle.mig_restore.specs.Judging.{fault_of_data, fault_of_head}
-use Rattle.mig_refused.specs.Refusal.{EntriesTo, EntryHas, MarkerHas, HeaderHas, DomainHas, GuestHas, FrontHas, WordsHas, LengthHas, ContextHas, ParamsHas, IsTriedBefore, StreamPart, Stands, FrontHas as fronts, LengthHas as lengths, ParamsHas as of_params}
+use Rattle.mig_refused.specs.Refusal.{FrontHas as fronts, LengthHas as lengths, ParamsHas as of_params}
 use Rattle.mig_refused.specs.Refusal.MarkerHas.{not_stream}
 use Rattle.mig_refused.specs.Refusal.HeaderHas.{big_endian, bad_version, bad_id}
 use Rattle.mig_refused.specs.Refusal.DomainHas.{bad_page_shift, bad_kind}
 use Rattle.mig_refused.specs.Refusal.GuestHas.{too_many_frames, missing}
 use Rattle.mig_refused.specs.Refusal.WordsHas.{outside, reserved}
 use Rattle.mig_refused.specs.Refusal.ContextHas.{bad_context}
-use Rattle.mig_refused.specs.Refusal.StreamPart.{Marker, HeaderRest, Domain, Head, WholeGuest, PagesFront, PagesWords, PagesLength, ContextBody, ParamsBody}
 use Rattle.mig_refused.proofs.Least.{Least, RowHas, rows_least, into, both_least, join, named}
 use Rattle.mig_refused.proofs.Entries.{chain_reached, reached_chain, found_has, has_found}
 use Rattle.mig_refused.proofs.Heads.{head_least}

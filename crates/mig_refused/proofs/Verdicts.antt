@@ -1,24 +1,14 @@
 -- An input is refused as the format's words say exactly where judging refuses it.
-use Rattle.std.proofs.Common.{◌≡◌, inl, inr, ℕ, List, [], ◌++◌, length, Bool, true, false, cond, Option, refl, sym, ap, subst, ◌∙◌, append_assoc}
-use Rattle.mig_bytes.specs.Fields.{le32, be32}
-use Rattle.mig_bytes.specs.Walk.Reaches.{here}
-use Rattle.mig_bytes.specs.Judged.{Judged, ◌>>=◌, placed}
-use Rattle.mig_bytes.specs.Judged.Judged.{Passes, Faulty}
-use Rattle.mig_bytes.proofs.Joins.{then_passes, placed_passes}
+use Rattle.mig_refused.proofs.Common.{◌≡◌, inl, inr, ℕ, List, [], ◌++◌, length, Bool, true, false, cond, Option, refl, sym, ap, subst, ◌∙◌, append_assoc, le32, be32, here, Judged, ◌>>=◌, placed, Passes, Faulty, then_passes, placed_passes, Cause, Opening, before, next_at, spelled_reached, marker_goes, image_header_goes, headers_go, StreamPart, IsOpen, Behind, Refused, Marker, HeaderRest, Domain}
 use Rattle.mig_bytes.proofs.Walks.{walk_end_reached}
 use Rattle.mig_headers.specs.Headers.{fault_of_marker, fault_of_image, fault_of_domain, kind_of_number}
-use Rattle.mig_headers.specs.declared.fault.Cause.{Cause}
 use Rattle.mig_headers.specs.declared.fault.Place.{Place}
 use Rattle.mig_headers.specs.declared.fault.Place.TheVariants.{ImageHeader, DomainHeader, Record}
-use Rattle.mig_restore.specs.Judging.{Opening, before, next_at}
 use Rattle.mig_restore.specs.Record.{StreamRecord, is_ended}
 use Rattle.mig_restore.specs.Spelled.{Spells}
 use Rattle.mig_restore.specs.Stream.{Front, one_more, at_start, front_of, image_of, ended_at, records_at, opening_at, image_at, marker_at, version_at, kind_at, IsRefused}
 use Rattle.mig_restore.proofs.Laws.{ends_at, stops_refused, rejected, front_spelled, image_header, behind_marker, behind_version, behind_kind, opened}
 use Rattle.mig_restore.proofs.Parts.{header_passes}
-use Rattle.mig_restore.proofs.Converse.{spelled_reached, marker_goes, image_header_goes, headers_go}
-use Rattle.mig_refused.specs.Refusal.{StreamPart, IsOpen, Behind, Refused}
-use Rattle.mig_refused.specs.Refusal.StreamPart.{Marker, HeaderRest, Domain}
 use Rattle.mig_refused.specs.Refusal.Behind.{at_marker, at_header, at_domain, in_record, at_guest}
 use Rattle.mig_refused.proofs.Single.{trial, one_part, stage, stage_faulty, stage_cases, then_faulty, bind_cases, passes_not, same_faulty, only_first, fails_is, is_fails, fine, faultless}
 use Rattle.mig_refused.proofs.Records.{down, next_down, guest_down, next_up}

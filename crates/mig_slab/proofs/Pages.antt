@@ -1,19 +1,10 @@
 -- The pages in memory, and the room behind them. Assumes `Logic`.
 use Rattle.std.proofs.Common.{◌≡◌, ℕ, suc, ◌+◌, ◌*◌, ◌<◌, List, [], ◌∷◌, ◌++◌, length, refl, ap, ◌∙◌, arith}
-use seplogic.Ra.Ura.{Ura}
-use mir.Syntax.{Ty, Width, int_big}
-use mir.Val.{Val, Fits, vint, vstruct, vcons, vnil, of_list}
-use prog.Wp.{Env}
+use Rattle.mig_slab.proofs.Common.{Ura, Ty, Width, int_big, Val, Fits, vint, vstruct, vcons, vnil, of_list, Env, Fml, fat, froom, Item, ‵, ◌⊛◌, some, ◌$◌, ◌∵◌, !, qed, move, keep, drop, use1, use2, split, pick, rewrite, fsplit, fjoin, done, Opd, row, lone, part_at, RattleType}
 use base.Fraction.{full_share}
-use base.Fml.{Fml, fat, froom}
 use base.Logic.{ent, sep, emp, via, guard_i}
 use borrow.Table.OneValue.{part_out}
 use types.Logic.{Logic, sem}
-use types.Kit.{Item, ‵, ◌⊛◌, some, ◌$◌, ◌∵◌, !, qed, move, keep, drop, use1, use2, split, pick, rewrite, fsplit, fjoin, done}
-use types.Run.{Opd}
-use denote.Index.{row}
-use denote.Memory.{lone, part_at}
-use denote.RattleType.{RattleType}
 use denote.Shadow.{shadow, makes_shadow}
 use denote.Struct.Struct.{Struct}
 use denote.Struct.Owning.{shape}

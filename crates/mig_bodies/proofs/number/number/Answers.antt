@@ -1,5 +1,4 @@
-use Rattle.std.proofs.Common.{◌<◌, ◌^◌, sym, subst, arith}
-use Rattle.byteorder.specs.Numbers.{little_from-lt}
+use Rattle.mig_bodies.proofs.Common.{◌<◌, ◌^◌, sym, subst, arith, little_from-lt}
 use Rattle.mig_bodies.proofs.number.number.Goals as goal
 
 pub returns-clause-fits : goal.returns-clause-fits

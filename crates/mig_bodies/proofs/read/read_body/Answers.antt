@@ -1,7 +1,4 @@
-use Rattle.std.proofs.Common.{◌≡◌, ◌+◌, [], ◌∷◌, take, drop, refl}
-use Rattle.mig_guest.specs.PartCodes.{code_number}
-use Rattle.mig_bodies.specs.Layouts.{key_in}
-use Rattle.mig_bodies.specs.Shapes.{sole_key, named_parts}
+use Rattle.mig_bodies.proofs.Common.{◌≡◌, ◌+◌, [], ◌∷◌, take, drop, refl, code_number, key_in, sole_key, named_parts}
 use Rattle.mig_bodies.proofs.Reading.{named_all, others_kept}
 use Rattle.mig_bodies.proofs.read.read_body.Goals as goal
 

@@ -1,5 +1,4 @@
-use Rattle.std.proofs.Common.{◌+◌, drop, arith}
-use Rattle.mig_bodies.specs.Layouts.{IsSmallKey, key_in}
+use Rattle.mig_bodies.proofs.Common.{◌+◌, drop, arith, IsSmallKey, key_in}
 use Rattle.mig_bodies.proofs.Reading.{narrow, small_name, named_all}
 use Rattle.mig_bodies.proofs.read.read_named.Goals as goal
 

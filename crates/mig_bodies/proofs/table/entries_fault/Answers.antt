@@ -1,4 +1,4 @@
-use Rattle.std.proofs.Common.{◌+◌, ◌-◌, sym, ◌∙◌, arith}
+use Rattle.mig_bodies.proofs.Common.{◌+◌, ◌-◌, sym, ◌∙◌, arith}
 use Rattle.mig_bodies.proofs.Reading.{fault_here}
 use Rattle.mig_bodies.proofs.table.entries_fault.Goals as goal
 

@@ -1,5 +1,4 @@
-use Rattle.std.proofs.Common.{◌≡◌, ◌*◌, ◌-◌, length}
-use Rattle.mig_bodies.specs.Layouts.{entry_width, fault_of_entries}
+use Rattle.mig_bodies.proofs.Common.{◌≡◌, ◌*◌, ◌-◌, length, entry_width, fault_of_entries}
 use Rattle.mig_bodies.proofs.table.entries_fault.Given as goal
 
 abbrev pub invariant-loop-i : goal.invariant-loop-i

@@ -1,4 +1,4 @@
-use Rattle.std.proofs.Common.{◌+◌, ◌-◌, arith}
+use Rattle.mig_bodies.proofs.Common.{◌+◌, ◌-◌, arith}
 use Rattle.mig_bodies.proofs.Reading.{fine_first}
 use Rattle.mig_bodies.proofs.table.set_entries.Goals as goal
 

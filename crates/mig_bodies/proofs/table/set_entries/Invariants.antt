@@ -1,9 +1,5 @@
-use Rattle.std.proofs.Common.{◌≡◌, ◌≢◌, ◌*◌, ◌-◌, length, None}
+use Rattle.mig_bodies.proofs.Common.{◌≡◌, ◌≢◌, ◌*◌, ◌-◌, length, None, PartKey, code_number, put_parts, entry_width, fault_of_entries, entry_parts}
 use Rattle.std.specs.FinMap as maps
-use Rattle.mig_guest.specs.declared.part_key.PartKey.{PartKey}
-use Rattle.mig_guest.specs.PartCodes.{code_number}
-use Rattle.mig_guest.specs.Parts.{put_parts}
-use Rattle.mig_bodies.specs.Layouts.{entry_width, fault_of_entries, entry_parts}
 use Rattle.mig_bodies.proofs.table.set_entries.Given as goal
 
 -- with what is left set, the guest is the one with all entries set

@@ -1,7 +1,5 @@
-use Rattle.std.proofs.Common.{sym, ◌∙◌, arith}
+use Rattle.mig_canon.proofs.Common.{sym, ◌∙◌, arith, entries_from, Frame, frames_in}
 use Rattle.std.specs.Option.{option_copied}
-use Rattle.mig_guest.specs.Frames.{entries_from}
-use Rattle.mig_canon.specs.Canon.{Frame, frames_in}
 use Rattle.mig_canon.proofs.Steps.{drop_next, not_ended}
 use Rattle.mig_canon.proofs.Batches.{pages_next, words_put}
 use Rattle.mig_canon.proofs.frames.fill_words.Goals as goal

@@ -1,6 +1,4 @@
-use Rattle.std.proofs.Common.{◌≡◌, ◌≤◌, ◌*◌, length, take, drop}
-use Rattle.mig_guest.specs.Frames.{entries_from}
-use Rattle.mig_canon.specs.Canon.{words_of, pages_of, frames_in}
+use Rattle.mig_canon.proofs.Common.{◌≡◌, ◌≤◌, ◌*◌, length, take, drop, entries_from, words_of, pages_of, frames_in}
 use Rattle.mig_canon.proofs.frames.fill_words.Given as goal
 
 abbrev pub invariant-loop-i : goal.invariant-loop-i

@@ -1,6 +1,4 @@
-use Rattle.mig_guest.specs.Frames.{entries_from}
-use Rattle.mig_bytes.proofs.Texts.{puts_then, puts_stop, puts_same}
-use Rattle.mig_canon.specs.Canon.{frames_in}
+use Rattle.mig_canon.proofs.Common.{entries_from, puts_then, puts_stop, puts_same, frames_in}
 use Rattle.mig_canon.proofs.Batches.{some_text}
 use Rattle.mig_canon.proofs.frames.write_batch.Goals as goal
 

@@ -1,12 +1,8 @@
-use Rattle.std.proofs.Common.{◌≡◌, ℕ, ◌<◌, List, length, refl, sym, ap, subst, ◌∙◌, rules, arith}
+use Rattle.mig_canon.proofs.Common.{◌≡◌, ℕ, ◌<◌, List, length, refl, sym, ap, subst, ◌∙◌, rules, arith, Appends, AppendsPart, FrameMap, entries_from, Record, batch, batches, text_of, frame_bodies, frames_in, puts_same}
 use Rattle.std.specs.Int.{div_ceil}
 use Rattle.std.specs.FinMap as maps
-use Rattle.std.specs.Io.KnownBytes.{Appends}
-use Rattle.mig_bytes.specs.Bytes.{AppendsPart}
-use Rattle.mig_guest.specs.Frames.{FrameMap, entries_from}
 use Rattle.mig_records.specs.Records.{spelled}
-use Rattle.mig_canon.specs.Canon.{Record, batch, batches, body_of, text_of, frame_bodies, frames_in}
-use Rattle.mig_bytes.proofs.Texts.{puts_same}
+use Rattle.mig_canon.specs.Canon.{body_of}
 use Rattle.mig_canon.proofs.Steps.{walk_on, walk_stop}
 use Rattle.mig_canon.proofs.Batches.{from_zero, counted, batch_next, all_bodies}
 use Rattle.mig_canon.proofs.frames.write_frames.Goals as goal

@@ -1,7 +1,4 @@
-use Rattle.std.proofs.Common.{◌≡◌, ◌*◌, take, drop}
-use Rattle.std.specs.Io.KnownBytes.{Appends}
-use Rattle.mig_guest.specs.Frames.{entries_from}
-use Rattle.mig_canon.specs.Canon.{batches, text_of, frame_bodies, frames_in}
+use Rattle.mig_canon.proofs.Common.{◌≡◌, ◌*◌, take, drop, Appends, entries_from, batches, text_of, frame_bodies, frames_in}
 use Rattle.mig_canon.proofs.frames.write_frames.Given as goal
 
 abbrev pub invariant-loop-k : goal.invariant-loop-k

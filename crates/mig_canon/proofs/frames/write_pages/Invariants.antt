@@ -1,7 +1,4 @@
-use Rattle.std.proofs.Common.{◌≡◌, ◌≤◌, ◌-◌, ℕ, length, take, drop}
-use Rattle.std.specs.Io.KnownBytes.{Appends}
-use Rattle.mig_guest.specs.Frames.{entries_from}
-use Rattle.mig_canon.specs.Canon.{pages_of, frames_in}
+use Rattle.mig_canon.proofs.Common.{◌≡◌, ◌≤◌, ◌-◌, length, take, drop, Appends, entries_from, pages_of, frames_in}
 use Rattle.mig_canon.proofs.frames.write_pages.Given as goal
 
 abbrev pub invariant-loop-done : goal.invariant-loop-done

@@ -1,8 +1,5 @@
-use Rattle.std.proofs.Common.{◌≡◌, ◌+◌, length, IfSome}
+use Rattle.mig_canon.proofs.Common.{◌≡◌, ◌+◌, length, IfSome, code_number, parts_after, parts_at}
 use Rattle.std.specs.FinMap as maps
-use Rattle.mig_guest.specs.PartCodes.{code_number}
-use Rattle.mig_guest.specs.Parts.{parts_after}
-use Rattle.mig_bodies.specs.Shapes.{parts_at}
 use Rattle.mig_canon.proofs.parts.count_parts.Given as goal
 
 abbrev pub invariant-loop-key : goal.invariant-loop-key

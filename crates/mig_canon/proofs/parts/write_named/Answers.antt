@@ -1,5 +1,4 @@
-use Rattle.std.proofs.Common.{sym}
-use Rattle.mig_bytes.proofs.Texts.{puts_then, puts_stop, puts_same}
+use Rattle.mig_canon.proofs.Common.{sym, puts_then, puts_stop, puts_same}
 use Rattle.mig_canon.proofs.Spelling.{record_text, named_len}
 use Rattle.mig_canon.proofs.parts.write_named.Goals as goal
 

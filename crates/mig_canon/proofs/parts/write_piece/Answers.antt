@@ -1,5 +1,4 @@
-use Rattle.std.proofs.Common.{◌≤◌, ◌^◌, subst}
-use Rattle.mig_canon.specs.Pieces.{IsShortPart}
+use Rattle.mig_canon.proofs.Common.{◌≤◌, ◌^◌, subst, IsShortPart}
 use Rattle.mig_canon.proofs.Spelling.{named_len}
 use Rattle.mig_canon.proofs.parts.write_piece.Goals as goal
 

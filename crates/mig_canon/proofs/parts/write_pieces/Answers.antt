@@ -1,9 +1,5 @@
-use Rattle.std.proofs.Common.{[], ◌∷◌, ◌++◌, sym, ap, subst, ◌∙◌, rules}
+use Rattle.mig_canon.proofs.Common.{[], ◌∷◌, ◌++◌, sym, ap, subst, ◌∙◌, rules, code_number, Part, shape_of, parts_at, piece, IsShortPart}
 use Rattle.std.specs.FinMap as maps
-use Rattle.mig_guest.specs.PartCodes.{code_number}
-use Rattle.mig_guest.specs.Parts.{Part}
-use Rattle.mig_bodies.specs.Shapes.{shape_of, parts_at}
-use Rattle.mig_canon.specs.Pieces.{piece, IsShortPart}
 use Rattle.mig_canon.proofs.Steps.{more_done, done_on, done_stop}
 use Rattle.mig_canon.proofs.Wholes.{next_part, holds_next, code_next, short_parts}
 use Rattle.mig_canon.proofs.parts.write_pieces.Goals as goal

@@ -1,11 +1,5 @@
-use Rattle.std.proofs.Common.{◌≡◌, List, ◌++◌, length, IfSome}
+use Rattle.mig_canon.proofs.Common.{◌≡◌, List, ◌++◌, length, IfSome, flat_map, Appends, code_number, Part, parts_after, shape_of, parts_at, piece}
 use Rattle.std.specs.FinMap as maps
-use Rattle.std.specs.List.{flat_map}
-use Rattle.std.specs.Io.KnownBytes.{Appends}
-use Rattle.mig_guest.specs.PartCodes.{code_number}
-use Rattle.mig_guest.specs.Parts.{Part, parts_after}
-use Rattle.mig_bodies.specs.Shapes.{shape_of, parts_at}
-use Rattle.mig_canon.specs.Pieces.{piece}
 use Rattle.mig_canon.proofs.parts.write_pieces.Given as goal
 
 abbrev pub invariant-loop-key : goal.invariant-loop-key

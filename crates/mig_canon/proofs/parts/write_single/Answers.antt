@@ -1,5 +1,4 @@
-use Rattle.mig_bytes.proofs.Texts.{puts_then, puts_stop, puts_same}
-use Rattle.std.proofs.Common.{refl}
+use Rattle.mig_canon.proofs.Common.{puts_then, puts_stop, puts_same, refl}
 use Rattle.mig_canon.proofs.Spelling.{single_text}
 use Rattle.mig_canon.proofs.parts.write_single.Goals as goal
 

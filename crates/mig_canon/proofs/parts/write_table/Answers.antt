@@ -1,7 +1,6 @@
-use Rattle.std.proofs.Common.{arith}
-use Rattle.mig_bytes.proofs.Texts.{puts_then, puts_stop, puts_same}
+use Rattle.mig_canon.proofs.Common.{puts_then, puts_stop, puts_same}
 use Rattle.mig_canon.proofs.Spelling.{code_table}
-use Rattle.mig_canon.proofs.Wholes.{few_rows, table_size, table_short}
+use Rattle.mig_canon.proofs.Wholes.{table_size}
 use Rattle.mig_canon.proofs.parts.write_table.Goals as goal
 
 pub returns-in_err-write_head-clause-bytes : goal.returns-in_err-write_head-clause-bytes

@@ -1,4 +1,4 @@
-use Rattle.mig_bytes.proofs.Texts.{puts_then, puts_stop, puts_same}
+use Rattle.mig_canon.proofs.Common.{puts_then, puts_stop, puts_same}
 use Rattle.mig_canon.proofs.Spelling.{zeros_split}
 use Rattle.mig_canon.proofs.parts.write_zeros.Goals as goal
 

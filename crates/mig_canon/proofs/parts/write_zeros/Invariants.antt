@@ -1,5 +1,4 @@
-use Rattle.std.proofs.Common.{◌≡◌, replicate}
-use Rattle.std.specs.Io.KnownBytes.{Appends}
+use Rattle.mig_canon.proofs.Common.{◌≡◌, replicate, Appends}
 use Rattle.mig_canon.proofs.parts.write_zeros.Given as goal
 
 abbrev pub invariant-loop-i : goal.invariant-loop-i

@@ -1,4 +1,4 @@
-use Rattle.mig_bytes.proofs.Texts.{puts_then, puts_stop, puts_same}
+use Rattle.mig_canon.proofs.Common.{puts_then, puts_stop, puts_same}
 use Rattle.mig_canon.proofs.Spelling.{canon_is}
 use Rattle.mig_canon.proofs.writer.write_canon.Goals as goal
 

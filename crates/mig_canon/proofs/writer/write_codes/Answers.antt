@@ -1,6 +1,5 @@
-use Rattle.std.proofs.Common.{get_or, take, ap, sym, ◌∙◌, ◌++◌, drop-cons, take-append-drop}
+use Rattle.mig_canon.proofs.Common.{get_or, take, ap, sym, ◌∙◌, ◌++◌, drop-cons, take-append-drop, records_of, text_of}
 use Rattle.mig_guest.specs.declared.part_code.PartCode.TheVariants.{P2mFrames}
-use Rattle.mig_canon.specs.Canon.{records_of, text_of}
 use Rattle.mig_canon.proofs.Steps.{done_stop}
 use Rattle.mig_canon.proofs.writer.write_codes.Goals as goal
 

@@ -1,7 +1,4 @@
-use Rattle.std.proofs.Common.{◌≡◌, take}
-use Rattle.std.specs.List.{flat_map}
-use Rattle.std.specs.Io.KnownBytes.{Appends}
-use Rattle.mig_canon.specs.Canon.{records_of, text_of}
+use Rattle.mig_canon.proofs.Common.{◌≡◌, take, flat_map, Appends, records_of, text_of}
 use Rattle.mig_canon.proofs.writer.write_codes.Given as goal
 
 abbrev pub invariant-loop-code : goal.invariant-loop-code

@@ -1,5 +1,4 @@
-use Rattle.mig_bytes.proofs.Texts.{puts_then, puts_stop, puts_same}
-use Rattle.mig_canon.specs.Canon.{static_codes}
+use Rattle.mig_canon.proofs.Common.{puts_then, puts_same, static_codes}
 use Rattle.mig_canon.proofs.Spelling.{codes_text}
 use Rattle.mig_canon.proofs.writer.write_static.Goals as goal
 

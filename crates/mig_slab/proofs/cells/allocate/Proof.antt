@@ -1,20 +1,14 @@
 -- `allocate` takes a block with no page in it, and keeps the right to free it. Assumes `Logic`.
 use Rattle.mig_slab.proofs.Steps.{◌≡◌, ℕ, ◌+◌, ◌*◌, List, [], ◌∷◌, ◌++◌, refl, lit<, arith, after, ent, sep, SProp, id⊢, ftrue, froom, flft, Val, vptr, fact, tables, WpFn, Logic, sem, ‵, raw, ◌⊛◌, later, prop, at_ret, ◌$◌, ◌∵◌, !, qed, by, move, keep, drop, use0, use1, use2, use3, split, join, fsplit, fjoin, fpack, feq_i, await, rewrite, regoal, suffices, frame, done, whole, agg, enter, of_opd, lit, stop, fld, no_more, and_then, first, exec, returns, alloc_all, pass_all, free_all, look_at, get, get_in, sets, sets_last, env, owns, RefOf, Ptr, block_ptr, plain, nothing, heard, Stays, walk_of, says, stay_dropped, Goes-dropped, ends_at, block, Base, Cells, word, Good, Mark, mark, mark_made, big}
 use mathlib.Core.Bool.{true, false}
-use seplogic.Ra.Ura.{Ura}
-use base.Fml.{Lft, Share}
+use Rattle.mig_slab.proofs.Common.{Ura, Lft, Share, Args, Fn, a_type, dcons, dnil, vstruct, vcons, vnil, Env, Wp, after_seq, at_return, Item, ⋆, any_q, switches_on, RattleType, Valss}
 use contract.BorrowLft.{◌⊑◌, ⊑_trans}
 use mir.MapTy.{inst_fn}
-use mir.Syntax.{Args, Fn, a_type, dcons, dnil}
-use mir.Val.{vstruct, vcons, vnil}
-use prog.Wp.{Env, Wp, after_seq, at_return}
 use types.ByLocal.{get_tag, lands_as}
-use types.Kit.{Item, ⋆, any_q, Post as After}
+use types.Kit.{Post as After}
 use types.Match.{live, vrt, in_variant}
-use types.Run.{switches_on}
 use denote.Laws.{Is}
 use denote.Param.{bounded, layout, param}
-use denote.RattleType.{RattleType, Valss}
 use denote.RawPtr.{ptr_val}
 use denote.Shadow.{makes_shadow}
 use denote.Signature.{types_at, type_at}

@@ -1,16 +1,11 @@
 -- `deallocate` makes one block of the pages and of the room behind them, and hands it back with the allocator's token. Assumes `Logic`.
 use Rattle.mig_slab.proofs.Steps.{◌≡◌, ◌+◌, ◌-◌, ◌*◌, ◌≤◌, List, [], ◌∷◌, ◌++◌, length, refl, sym, ap, subst, ◌∙◌, lit<, arith, after, SProp, id⊢, never, ftrue, froom, flft, Val, vunit, vptr, fact, tables, WpFn, ‵, raw, ◌⊛◌, later, prop, at_ret, ◌$◌, ◌∵◌, !, qed, move, keep, drop, use1, use2, split, join, fsplit, fjoin, feq_i, await, rewrite, regoal, suffices, group, done, whole, sub, enter, of_opd, unit_lit, lit, stop, fld, no_more, and_then, first, blocks, exec, returns, alloc_all, pass_all, free_all, look_at, get, get_in, sets, env, owns, RefOf, Ptr, block_ptr, in_a_block, plain, nothing, heard, Stays, walk_of, stay_dropped, Goes-dropped, ends_at, block, cells_own, Base, Cells, lowers, word, mark, mark_told, big, all_room}
-use base.Fml.{Lft, Share}
+use Rattle.mig_slab.proofs.Common.{Lft, Share, Args, Fn, a_type, dcons, dnil, ty_unit, has_ty, WT, Env, given, learn, RattleType}
 use contract.BorrowLft.{◌⊑◌, ⊑_trans}
 use lib.Dec.{T}
 use mir.MapTy.{inst_fn}
-use mir.Syntax.{Args, Fn, a_type, dcons, dnil, ty_unit}
-use mir.Val.{has_ty, WT}
-use prog.Wp.{Env}
 use types.ByLocal.{lands_last}
-use types.Kit.{given, learn}
 use denote.Param.{bounded, param}
-use denote.RattleType.{RattleType}
 use denote.Signature.{types_at}
 use denote.Triple.Call.{calls_at_last}
 use denote.Triple.Entry.{alive}

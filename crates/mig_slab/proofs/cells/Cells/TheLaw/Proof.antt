@@ -1,12 +1,9 @@
 -- A `&` to the cells reaches each page. Assumes `Logic`.
 use Prim.Native.Nat.{ℕ}
 use mathlib.Core.List.{List}
-use seplogic.Ra.Ura.{Ura}
+use Rattle.mig_slab.proofs.Common.{Ura, Lft, ffalse, row, mem, shared_of, each_shared, each_shr_laws}
 use base.Fraction.{full_share}
-use base.Fml.{Lft, ffalse}
 use types.Logic.{Logic}
-use denote.Index.{row}
-use denote.Memory.{mem, shared_of, each_shared, each_shr_laws}
 use denote.RawPtr.{Ptr, RawPtr, block_ptr, null_ptr}
 use denote.Param.Shared.{copy_shared}
 use denote.Shares.{shares_each}
