@@ -14,20 +14,20 @@ is_superpage Superpage = true
 is_superpage _ = false
 
 -- it names a frame above top
-abbrev pub is_outside : ℕ → Entry → Bool
-is_outside top (Frame n) = nat_lt top n
-is_outside top _ = false
+abbrev pub names_above : ℕ → Entry → Bool
+names_above top (Frame n) = nat_lt top n
+names_above top _ = false
 
 abbrev pub first_superpage : ℕ → List ℕ → Option ℕ
 first_superpage level page = find (λ slot. is_superpage (entry level page slot)) slots
 
 abbrev pub first_outside : ℕ → ℕ → List ℕ → Option ℕ
-first_outside top level page = find (λ slot. is_outside top (entry level page slot)) slots
+first_outside top level page = find (λ slot. names_above top (entry level page slot)) slots
 
 -- of the table at this place of its record: the first superpage, and where there is none, the first entry that names a
 -- frame above top
-abbrev pub fault_of_table : ℕ → ℕ → ℕ → List ℕ → Option Cause
-fault_of_table place top level page =
+abbrev pub fault_of_page_table : ℕ → ℕ → ℕ → List ℕ → Option Cause
+fault_of_page_table place top level page =
     option_or (option_map (λ slot. causes.Superpage place slot) (first_superpage level page))
     (option_map (λ slot. causes.EntryOutside place slot (named_frame (long_at page slot))) (first_outside top level page))
 

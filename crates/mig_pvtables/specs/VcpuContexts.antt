@@ -53,8 +53,8 @@ blanked_shared bytes = each_long 512 blanked_shared_value bytes
 -- ---- a field of its own
 
 -- the frame that the field says, where vCPU id uses it in a stream
-abbrev pub frame_said : ℕ → List ℕ → ℕ → Option ℕ
-frame_said id context field = if is_used id (gdt_ents context) field (field_value context field) then Some (frame_of_field field (field_value context field)) else None
+abbrev pub field_says : ℕ → List ℕ → ℕ → Option ℕ
+field_says id context field = if is_used id (gdt_ents context) field (field_value context field) then Some (frame_of_field field (field_value context field)) else None
 
 -- whether vCPU id uses the field in a stream or in a host: there ctrlreg[1] is used where it isn't 0
 abbrev pub is_used_somewhere : ℕ → ℕ → ℕ → ℕ → Bool

@@ -11,7 +11,7 @@ ghost use Rattle.mig_guest.specs.PartKeys.{context_key};
 ghost use Rattle.mig_guest.specs.Tables.{entry, IsWithin};
 ghost use Rattle.mig_pvtables.specs.Blank.{blank};
 ghost use Rattle.mig_pvtables.specs.Faults.{fault_of_guest};
-ghost use Rattle.mig_pvtables.specs.Tables.{fault_of_table};
+ghost use Rattle.mig_pvtables.specs.Tables.{fault_of_page_table};
 ghost use Rattle.mig_pvtables.specs.Whole.{IsWhole};
 ghost use Rattle.mig_pvtables.specs.WholePv.{IsWholePv};
 
@@ -42,7 +42,7 @@ pub fn some_pv_guest_is_whole()
 /// A table has no fault in a stream exactly where none of its slots says a superpage or a frame above top.
 #[tactic(auto, using(crate::proofs::Within::table_within))]
 pub fn faultless_table_is_within()
-    ensures { (place top level : ℕ) (page : List ℕ) → (fault_of_table place top level page ≡ None) ↔ ((slot : ℕ) → slot < 512 → IsWithin top (entry level page slot)) }
+    ensures { (place top level : ℕ) (page : List ℕ) → (fault_of_page_table place top level page ≡ None) ↔ ((slot : ℕ) → slot < 512 → IsWithin top (entry level page slot)) }
 {}
 
 /// An HVM guest is its own blank form.

@@ -3,7 +3,7 @@ ghost use Rattle.byteorder.specs.Endian.{little_bytes};
 ghost use Rattle.mig_bytes.specs.Fields.{with_field};
 ghost use Rattle.mig_guest.specs.Longs.{long_at};
 ghost use Rattle.mig_guest.specs.Tables.{entry as what_is_said, named_frame};
-ghost use Rattle.mig_pvtables.specs.Tables.{first_superpage, first_outside, fault_of_table, with_frame, is_superpage, is_outside};
+ghost use Rattle.mig_pvtables.specs.Tables.{first_superpage, first_outside, fault_of_page_table, with_frame, is_superpage, names_above};
 
 use mig_bytes::{put_u64_le, u64_le};
 use mig_guest::Entry;
@@ -92,7 +92,7 @@ fn frame_at(page: &[u8; 4096], slot: usize) -> u64
 pub fn check_table(page: &[u8; 4096], level: u8, entry: u32, top: u64) -> Option<Cause>
     requires least { 1 ≤ level }
     requires most { level ≤ 4 }
-    ensures { result ≡ fault_of_table entry top level page.now }
+    ensures { result ≡ fault_of_page_table entry top level page.now }
 {
     let place = u64::from(entry);
     if let Some(slot) = superpage_slot(page, level) {

@@ -2,7 +2,7 @@ ghost use Rattle.std.specs.Prelude.{◌≡◌, ◌≤◌, ◌<◌, ◌*◌, ◌^
 ghost use Rattle.byteorder.specs.Endian.{little_bytes};
 ghost use Rattle.mig_bytes.specs.Fields.{with_field};
 ghost use Rattle.mig_guest.specs.Formed.{gdt_ents as ents_in};
-ghost use Rattle.mig_pvtables.specs.VcpuContexts.{field_place, field_value, frame_said, field_of_frame, is_used_somewhere};
+ghost use Rattle.mig_pvtables.specs.VcpuContexts.{field_place, field_value, field_says, field_of_frame, is_used_somewhere};
 
 use mig_bytes::{put_u64_le, u64_le};
 
@@ -27,7 +27,7 @@ fn place_of(field: u8) -> usize
 /// frames, 17 is ctrlreg[3], 18 ctrlreg[1]. The id is that of the vCPU.
 pub fn vcpu_frame(context: &[u8; 5168], id: u32, field: u8) -> Option<u64>
     requires { field ≤ 18 }
-    ensures { result ≡ frame_said id context.now field }
+    ensures { result ≡ field_says id context.now field }
 {
     let value = u64_le(context, place_of(field));
     let used = match field {

@@ -1,11 +1,11 @@
 use Rattle.std.proofs.Common.{sym, ap, ◌∙◌}
 use Rattle.std.proofs.lemmas.Bool.{lt-ltb}
 use Rattle.mig_guest.specs.Tables.{entry}
-use Rattle.mig_pvtables.specs.Tables.{is_outside}
+use Rattle.mig_pvtables.specs.Tables.{names_above}
 use Rattle.mig_pvtables.proofs.Slots.{first_slot}
 use Rattle.mig_pvtables.proofs.table.outside_slot.Goals as goal
 
 pub returns-then-top-pfn-clause-value : goal.returns-then-top-pfn-clause-value
 returns-then-top-pfn-clause-value c =
-    sym (first_slot (λ slot. is_outside c.args.top (entry c.args.level c.args.page.now slot)) c.loop-slot.slot c.loop-slot-test.true
-    (ap (is_outside c.args.top) (sym c.entry.ensures ∙ c.in-Frame.is) ∙ lt-ltb c.args.top c.in-Frame.pfn c.if-top-pfn.true) c.loop-slot.invariant)
+    sym (first_slot (λ slot. names_above c.args.top (entry c.args.level c.args.page.now slot)) c.loop-slot.slot c.loop-slot-test.true
+    (ap (names_above c.args.top) (sym c.entry.ensures ∙ c.in-Frame.is) ∙ lt-ltb c.args.top c.in-Frame.pfn c.if-top-pfn.true) c.loop-slot.invariant)

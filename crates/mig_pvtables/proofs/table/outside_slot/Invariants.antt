@@ -1,7 +1,7 @@
 use Rattle.std.proofs.Common.{◌≡◌, ℕ, ◌<◌, false}
 use Rattle.mig_guest.specs.Tables.{entry}
-use Rattle.mig_pvtables.specs.Tables.{is_outside}
+use Rattle.mig_pvtables.specs.Tables.{names_above}
 use Rattle.mig_pvtables.proofs.table.outside_slot.Given as goal
 
 abbrev pub invariant-loop-slot : goal.invariant-loop-slot
-invariant-loop-slot l = (k : ℕ) → k < l.slot → is_outside l.top (entry l.level l.page k) ≡ false
+invariant-loop-slot l = (k : ℕ) → k < l.slot → names_above l.top (entry l.level l.page k) ≡ false
