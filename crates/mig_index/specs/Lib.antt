@@ -1,0 +1,3 @@
+pub mod Radix
+pub mod Tree
+pub mod Indexed
