@@ -1,5 +1,9 @@
-pub mod Fans
+pub mod Common
 pub mod Packing
-pub mod ListMaps
-pub mod Leading
-pub mod Removing
+pub mod Mapping
+pub mod Cells
+pub mod Places
+pub mod Led
+pub mod Seen
+pub mod Loans
+pub mod PagesSeen

@@ -1,5 +1,5 @@
 -- What edits in one slab do to all pages.
-use Rattle.std.proofs.Common.{◌≡◌, ℕ, zero, suc, ◌+◌, ◌-◌, ◌*◌, ◌/◌, ◌%◌, ◌<◌, ◌≤◌, List, [], ◌∷◌, ◌++◌, length, get_or, set, slice_get, refl, sym, ap, ◌∙◌, subst, arith, length-append, length-set, append-nil, append_assoc}
+use Rattle.mig_pagestore.proofs.Common.{◌≡◌, ℕ, zero, suc, ◌+◌, ◌-◌, ◌*◌, ◌/◌, ◌%◌, ◌<◌, ◌≤◌, List, [], ◌∷◌, ◌++◌, length, get_or, set, slice_get, refl, sym, ap, ◌∙◌, subst, arith, length-append, length-set, append-nil, append_assoc, IsArena}
 use Rattle.mig_slab.specs.Slab.{Pages}
 use Rattle.mig_pagestore.specs.Packed.{IsPacked, all_pages}
 
@@ -133,3 +133,99 @@ pop_place (t ∷ ss) n (suc j) r s p small is e =
         ap (λ l. t.pages ++ l) did.1 ∙ sym (append_assoc t.pages (all_pages (set ss j (with_pages us))) (w ∷ [])),
       ),
     )
+
+-- ---- the same of an arena, by place
+
+module _ (ss : List Pages) (n : ℕ) (arena : IsArena ss n) where
+  pub arena_len : length (all_pages ss) ≡ n
+  arena_len = (count_of ss n arena.packed).0
+
+  pub arena_room : n ≤ length ss * 64
+  arena_room = (count_of ss n arena.packed).1
+
+  module _ (place : ℕ) (lt : place < length (all_pages ss)) where
+    below : place < n
+    below = omega (arith, lt, arena_len)
+
+    pub slab_there : place / 64 < length ss
+    slab_there = omega (arith, arena_room, below)
+
+    module _ (s : Pages) (e : s ≡ get_or ss (place / 64) s) where
+      at : (place / 64 < length ss) × (place % 64 < length s.pages) × (slice_get (all_pages ss) (place / 64 * 64 + place % 64) ≡ slice_get s.pages (place % 64))
+      at = at_place ss n (place / 64) (place % 64) s arena.packed (small_rest place) (omega (arith, whole place, below)) e
+
+      pub page_within : place % 64 < length s.pages
+      page_within = at.1
+
+      pub page_in_slab : slice_get (all_pages ss) place ≡ slice_get s.pages (place % 64)
+      page_in_slab = ap (slice_get (all_pages ss)) (sym (whole place)) ∙ at.2
+
+      module _ (w : List ℕ) where
+        did : IsPacked (set ss (place / 64) (with_pages (set s.pages (place % 64) w))) n × (all_pages (set ss (place / 64) (with_pages (set s.pages (place % 64) w))) ≡ set (all_pages ss) (place / 64 * 64 + place % 64) w)
+        did = set_place ss n (place / 64) (place % 64) s w arena.packed (small_rest place) (omega (arith, whole place, below)) e
+
+        pub arena_set : IsArena (set ss (place / 64) (with_pages (set s.pages (place % 64) w))) n
+        arena_set = record { packed = did.0; few = omega (arith, arena.few, length-set ss (place / 64) (with_pages (set s.pages (place % 64) w))) }
+
+        pub pages_set : all_pages (set ss (place / 64) (with_pages (set s.pages (place % 64) w))) ≡ set (all_pages ss) place w
+        pages_set = did.1 ∙ ap (λ k. set (all_pages ss) k w) (whole place)
+
+  module _ (room : 1 ≤ length ss * 64 - n) where
+    pub slab_spare : n / 64 < length ss
+    slab_spare = omega (arith, room)
+
+    module _ (s : Pages) (e : s ≡ get_or ss (n / 64) s) where
+      pushed : (w : List ℕ) → (length s.pages ≡ n % 64) × IsPacked (set ss (n / 64) (with_pages (s.pages ++ w ∷ []))) (n + 1) × (all_pages (set ss (n / 64) (with_pages (s.pages ++ w ∷ []))) ≡ all_pages ss ++ w ∷ [])
+      pushed w = push_place ss n (n / 64) (n % 64) s w arena.packed (small_rest n) (whole n) (omega (arith, room)) e
+
+      pub spare_within : length s.pages < 64
+      spare_within = omega (arith, (pushed []).0, small_rest n)
+
+      module _ (w : List ℕ) (t : Pages) (more : t.pages ≡ s.pages ++ w ∷ []) where
+        pub arena_pushed : IsArena (set ss (n / 64) t) (n + 1)
+        arena_pushed = record { packed = subst (λ (l : List (List ℕ)). IsPacked (set ss (n / 64) (with_pages l)) (n + 1)) (sym more) (pushed w).1; few = omega (arith, arena.few, length-set ss (n / 64) t) }
+
+        pub pages_pushed : all_pages (set ss (n / 64) t) ≡ all_pages ss ++ w ∷ []
+        pages_pushed = ap (λ (l : List (List ℕ)). all_pages (set ss (n / 64) (with_pages l))) more ∙ (pushed w).2
+
+  module _ (some : 0 < length (all_pages ss)) where
+    one : 0 < n
+    one = omega (arith, some, arena_len)
+
+    pub slab_last : (n - 1) / 64 < length ss
+    slab_last = omega (arith, one, arena_room)
+
+    module _ (s : Pages) (e : s ≡ get_or ss ((n - 1) / 64) s) where
+      popped : (0 < length s.pages) × ((us : List (List ℕ)) (w : List ℕ) → s.pages ≡ us ++ w ∷ [] → IsPacked (set ss ((n - 1) / 64) (with_pages us)) (n - 1) × (all_pages ss ≡ all_pages (set ss ((n - 1) / 64) (with_pages us)) ++ w ∷ []))
+      popped = pop_place ss n ((n - 1) / 64) ((n - 1) % 64) s arena.packed (small_rest (n - 1)) (omega (arith, whole (n - 1), one)) e
+
+      pub last_within : 0 < length s.pages
+      last_within = popped.0
+
+      module _ (w : List ℕ) (t : Pages) (split : s.pages ≡ t.pages ++ w ∷ []) where
+        pub arena_popped : IsArena (set ss ((n - 1) / 64) t) (n - 1)
+        arena_popped = record { packed = (popped.1 t.pages w split).0; few = omega (arith, arena.few, length-set ss ((n - 1) / 64) t) }
+
+        pub room_popped : length (set ss ((n - 1) / 64) t) * 64 - (n - 1) ≡ length ss * 64 - n + 1
+        room_popped = omega (arith, one, arena_room, length-set ss ((n - 1) / 64) t)
+
+        pub pages_popped : all_pages ss ≡ all_pages (set ss ((n - 1) / 64) t) ++ w ∷ []
+        pages_popped = (popped.1 t.pages w split).1
+
+  module _ (l : List Pages) (s : Pages) (items : l ≡ ss ++ s ∷ []) (none : s.pages ≡ []) where
+    pub arena_more : length ss < 16777216 → IsArena l n
+    arena_more few = subst (λ (l : List Pages). IsArena l n) (sym items) (record { packed = (one_more ss n s arena.packed none).0; few = omega (arith, few, length-append ss (s ∷ [])) })
+
+    pub pages_more : all_pages l ≡ all_pages ss
+    pages_more = ap all_pages items ∙ (one_more ss n s arena.packed none).1
+
+    pub room_more : length l * 64 - n ≡ length ss * 64 - n + 64
+    room_more = omega (arith, arena_room, ap length items, length-append ss (s ∷ []))
+
+pub arena_none : (l : List Pages) → l ≡ [] → IsArena l 0
+unfolding IsPacked
+arena_none l e = subst (λ (l : List Pages). IsArena l 0) (sym e) (record { packed = refl; few = omega arith })
+
+pub pages_none : (l : List Pages) → l ≡ [] → all_pages l ≡ []
+unfolding all_pages
+pages_none l e = ap all_pages e

@@ -1,7 +1,9 @@
-pub mod Radix
-pub mod Index
 pub mod Packed
 pub mod ArenaLends
-pub mod Sound
+pub mod Frames
+pub mod Mapped
+pub mod FrameView
+pub mod FrameLending
 pub mod Pages
+pub mod PageView
 pub mod Lending

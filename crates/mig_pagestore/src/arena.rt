@@ -43,6 +43,7 @@ fn add(slabs: &mut Vec<Slab>, slab: Slab) -> Result<(), AllocError>
 impl Arena {
     ghost use Rattle.mig_pagestore.specs.ArenaLends.{lends_page};
 
+    #[tactic(auto, using(crate::proofs::Packing::arena_none, crate::proofs::Packing::pages_none))]
     pub(crate) fn new(alloc: Global) -> Arena
         ensures pages { result.pages ≡ [] }
         ensures room { result.room ≡ 0 }
@@ -53,6 +54,7 @@ impl Arena {
         }
     }
 
+    #[tactic(auto, using(crate::proofs::Packing::arena_len))]
     pub(crate) fn len(&self) -> usize
         ensures { result ≡ length self.now.pages }
     {
@@ -60,6 +62,7 @@ impl Arena {
     }
 
     /// How many more pages there is room for.
+    #[tactic(auto, using(crate::proofs::Packing::arena_room))]
     pub(crate) fn room(&self) -> usize
         ensures { result ≡ self.now.room }
     {
@@ -67,6 +70,7 @@ impl Arena {
     }
 
     /// The page at this place.
+    #[tactic(auto, using(crate::proofs::Packing::slab_there, crate::proofs::Packing::page_within, crate::proofs::Packing::page_in_slab))]
     pub(crate) fn get(&self, place: usize) -> &[u8; 4096]
         requires { place < length self.now.pages }
         ensures { slice_get self.now.pages place ≡ Some result.now }
@@ -75,6 +79,7 @@ impl Arena {
     }
 
     /// Lends the page at this place for writing.
+    #[tactic(auto, using(crate::proofs::Packing::slab_there, crate::proofs::Packing::page_within, crate::proofs::Packing::page_in_slab))]
     pub(crate) fn lend(&mut self, place: usize) -> &mut [u8; 4096]
         requires { place < length self.old.pages }
         ensures* writes_back { sem 𝓛 (lends_page self.entry place result) }
@@ -84,6 +89,7 @@ impl Arena {
     }
 
     /// Puts a page behind the others, and takes no memory.
+    #[tactic(auto, using(crate::proofs::Packing::slab_spare, crate::proofs::Packing::spare_within, crate::proofs::Packing::pages_pushed))]
     pub(crate) fn push(&mut self, page: &[u8; 4096])
         requires { 1 ≤ self.old.room }
         ensures pages { self.new.pages ≡ self.old.pages ++ page.now ∷ [] }
@@ -94,6 +100,7 @@ impl Arena {
     }
 
     /// Takes the last page out; its place is spare again.
+    #[tactic(auto, using(crate::proofs::Packing::arena_len, crate::proofs::Packing::slab_last, crate::proofs::Packing::last_within, crate::proofs::Packing::pages_popped))]
     pub(crate) fn pop(&mut self) -> [u8; 4096]
         requires { 0 < length self.old.pages }
         ensures pages { self.old.pages ≡ self.new.pages ++ result ∷ [] }
@@ -104,6 +111,7 @@ impl Arena {
     }
 
     /// Makes room for 64 more pages.
+    #[tactic(auto, using(crate::proofs::Packing::pages_more, crate::proofs::Packing::room_more))]
     pub(crate) fn grow(&mut self, alloc: Global) -> Result<(), AllocError>
         ensures pages { self.new.pages ≡ self.old.pages }
         ensures ok { OnOk result (self.new.room ≡ self.old.room + 64) }

@@ -5,8 +5,8 @@ use Rattle.mig_slab.specs.Ownership.{Page}
 use Rattle.mig_slab.specs.declared.cells.Cells.{Cells}
 use Rattle.mig_slab.specs.contracts.cells.Cells.{the_row}
 
-abbrev pub with_page : Cells → ℕ → List ℕ → Cells
-with_page c i w = record { mark = c.mark; at = c.at; pages = slice_set c.pages i w }
+abbrev pub with_slab_page : Cells → ℕ → List ℕ → Cells
+with_slab_page c i w = record { mark = c.mark; at = c.at; pages = slice_set c.pages i w }
 
 abbrev pub lends_cell : MutBor Cells → ℕ → MutBor (List ℕ) → Fml
-lends_cell c i r = Lends the_row Page c r (with_page c.now i)
+lends_cell c i r = Lends the_row Page c r (with_slab_page c.now i)

@@ -5,5 +5,5 @@ use Rattle.mig_slab.specs.Slab.{Pages}
 use Rattle.mig_slab.specs.contracts.slab.Slab.{the_row}
 
 -- the page at the index is the last one written through r
-abbrev pub lends_page : MutBor Pages → ℕ → MutBor (List ℕ) → Fml
-lends_page s i r = Lends the_row (Array u8 4096) s r (λ w. record { pages = slice_set s.now.pages i w })
+abbrev pub lends_slab_page : MutBor Pages → ℕ → MutBor (List ℕ) → Fml
+lends_slab_page s i r = Lends the_row (Array u8 4096) s r (λ w. record { pages = slice_set s.now.pages i w })

@@ -31,7 +31,7 @@ impl Model for Slab {
 }
 
 impl Slab {
-    ghost use Rattle.mig_slab.specs.SlabLends.{lends_page};
+    ghost use Rattle.mig_slab.specs.SlabLends.{lends_slab_page};
 
     /// A slab with no page in it.
     pub fn new(alloc: Global) -> Result<Slab, AllocError>
@@ -84,7 +84,7 @@ impl Slab {
     /// Lends the page at this place for writing.
     pub fn lend(&mut self, at: usize) -> &mut [u8; 4096]
         requires { at < length self.old.pages }
-        ensures* writes_back { sem 𝓛 (lends_page self.entry at result) }
+        ensures* writes_back { sem 𝓛 (lends_slab_page self.entry at result) }
         ensures value { slice_get self.old.pages at ≡ Some result.now }
     {
         self.cells.page_mut(self.base, at)

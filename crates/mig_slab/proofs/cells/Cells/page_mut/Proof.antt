@@ -3,7 +3,7 @@ use Rattle.mig_slab.proofs.Steps.{◌≡◌, ℕ, ◌+◌, ◌-◌, ◌*◌, ◌
 use Rattle.mig_slab.proofs.Common.{Ura, GName, addr, place_is, others, takes, puts, shares}
 use denote.Follow.{follows, lends_Part}
 use denote.Memory.{part_of}
-use Rattle.mig_slab.specs.Lends.{with_page}
+use Rattle.mig_slab.specs.Lends.{with_slab_page}
 use Rattle.mig_slab.specs.contracts.cells.Cells.page_mut as f
 use Rattle.mig_slab.proofs.cells.Cells.page_mut.Statement.{statement}
 use Rattle.mig_slab.proofs.cells.Cells.page_mut.Code as code
@@ -18,7 +18,7 @@ module _ {M : Type 1} {𝓤 : Ura M} (𝓛 : Logic 𝓤) (d : Cells.Denot) (i : 
       (fsep (froom (block (64 - length d.pages)) b (length d.pages * 4096 + o)) (fsep (Mark.own_val (tt, tt) vs) (cell_at full_share Cells.mir vs rb ro)))
 
   back : d.at ≡ block_ptr b o → i < length d.pages → (w : List ℕ)
-      → ent 𝓤 (sep 𝓤 (sem 𝓛 ((mem Page).own_at w b (i * 4096 + o))) (sem 𝓛 Rest)) (sem 𝓛 ((mem Cells).own_at (with_page d i w) rb ro))
+      → ent 𝓤 (sep 𝓤 (sem 𝓛 ((mem Page).own_at w b (i * 4096 + o))) (sem 𝓛 Rest)) (sem 𝓛 ((mem Cells).own_at (with_slab_page d i w) rb ro))
   unfolding part_of
   back e lt w =
       let ws = set d.pages i w in
@@ -27,7 +27,7 @@ module _ {M : Type 1} {𝓤 : Ura M} (𝓛 : Logic 𝓤) (d : Cells.Denot) (i : 
       move ! (3 ∷ 0 ∷ []) $ use2 𝓛 (‵ (row Page full_share ws b o)) (puts (shares Page) full_share 𝓛 d.pages i w b o lt) $
       move ! (1 ∷ []) $ rewrite ! 0 (λ (k : ℕ). ‵ (froom (block (64 - k)) b (k * 4096 + o))) (sym (length-set d.pages i w)) refl $ move ! (1 ∷ 0 ∷ []) $ fjoin ! $
       rewrite ! 0 (λ (p : Ptr). ‵ (cells_own p ws)) (sym e) refl $ move ! (1 ∷ []) $ fsplit ! $ move ! (0 ∷ 2 ∷ []) $ fjoin ! $ move ! (1 ∷ 0 ∷ []) $ fjoin ! $
-      fpack ! (List Val) (λ us. fsep (cell_at full_share Cells.mir us rb ro) (Cells.own_val (with_page d i w) us)) vs $ done !
+      fpack ! (List Val) (λ us. fsep (cell_at full_share Cells.mir us rb ro) (Cells.own_val (with_slab_page d i w) us)) vs $ done !
 
 pub page_mut_spec : {M : Type 1} → statement M
 page_mut_spec 𝓤 𝓛 𝓜 𝓡 wired =
@@ -56,8 +56,8 @@ page_mut_spec 𝓤 𝓛 𝓜 𝓡 wired =
     exec ! 𝓣.C 𝓣.Λ (env code.Mir.locals l) (after 1 (code.function).body) (at_ret _ (W.post y)) $ sets ! (of_opd ! (get ! refl)) refl (tt, tt) $
     -- [the page; the others; the room; the mark; its cell; the open borrow; obs; auth]
     move ! (2 ∷ 3 ∷ 4 ∷ []) $ fjoin3 ! $ move ! (2 ∷ 0 ∷ []) $ fjoin ! $ move ! (2 ∷ 3 ∷ 4 ∷ 1 ∷ 0 ∷ []) $ group ! 5 $ let code' = Cells.coded.code d in
-    use1 𝓛 (later (some (λ (δ : GName). ‵ ((MutRef (named 0) κ Page).own_val (record { ref_ptr = (b, at); ghost_name = δ; now = x }) (vptr b at ∷ [])) ⊛ ‵ (flft κ q) ⊛ ‵ (follows Cells Page γ δ (with_page d i)))))
-    (lends_Part 𝓛 Cells Page (with_page d i) (named 0) κ q rb ro b at γ (sem 𝓛 (Rest 𝓛 d i vs rb ro b o)) (back 𝓛 d i vs rb ro b o e asked.1) code' code' x) $
+    use1 𝓛 (later (some (λ (δ : GName). ‵ ((MutRef (named 0) κ Page).own_val (record { ref_ptr = (b, at); ghost_name = δ; now = x }) (vptr b at ∷ [])) ⊛ ‵ (flft κ q) ⊛ ‵ (follows Cells Page γ δ (with_slab_page d i)))))
+    (lends_Part 𝓛 Cells Page (with_slab_page d i) (named 0) κ q rb ro b at γ (sem 𝓛 (Rest 𝓛 d i vs rb ro b o)) (back 𝓛 d i vs rb ro b o e asked.1) code' code' x) $
     await ! tt $ pick ! (λ δ. split ! $ move ! (1 ∷ []) $ split ! $ move ! (2 ∷ []) $
     returns ! (look_at ! 0 refl) $ free_all ! refl $
     suffices ! _ (ends_at 𝓛 f.ended stayed c y (vptr b at) (record { ref_ptr = (b, at); ghost_name = δ; now = x }) (tt, (tt, (tt, tt))) (tt, (tt, (tt, tt)))) $

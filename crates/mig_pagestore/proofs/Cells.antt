@@ -1,0 +1,53 @@
+-- What a cell says again that was written.
+use Rattle.mig_pagestore.proofs.Common.{◌≡◌, ◌≢◌, ℕ, zero, suc, ◌+◌, ◌*◌, ◌/◌, ◌%◌, ◌^◌, ◌<◌, true, Some, refl, sym, ap, ◌∙◌, arith, PageType, number_of, type_of, type_or_none, type_has_data, is_place, IsCell}
+use Rattle.mig_pagetypes.specs.declared.page_type.PageType.TheVariants.{Notab, L1Tab, L2Tab, L3Tab, L4Tab, L1Pinned, L2Pinned, L3Pinned, L4Pinned, Broken, Xalloc, Xtab}
+use Rattle.mig_pagetypes.specs.FrameWords.{word_of}
+use Rattle.mig_pagestore.specs.FrameView.{cell_type, cell_place}
+
+named : (k : PageType) → type_of (number_of k) ≡ Some k
+named Notab = refl
+named L1Tab = refl
+named L2Tab = refl
+named L3Tab = refl
+named L4Tab = refl
+named L1Pinned = refl
+named L2Pinned = refl
+named L3Pinned = refl
+named L4Pinned = refl
+named Broken = refl
+named Xalloc = refl
+named Xtab = refl
+
+upper : (n p : ℕ) → p < 2 ^ 52 → (n * 2 ^ 60 + p) / 2 ^ 60 ≡ n
+upper n p lt = omega arith
+
+lower : (n p : ℕ) → p < 2 ^ 52 → (n * 2 ^ 60 + p) % 2 ^ 52 ≡ p
+lower n p lt = omega arith
+
+pub type_of_cell : (kind : PageType) (p : ℕ) → p < 2 ^ 52 → cell_type (word_of (record { pfn = p; kind = kind })) ≡ kind
+unfolding cell_type
+type_of_cell kind p lt = ap (λ n. type_or_none (type_of n)) (upper (number_of kind) p lt) ∙ ap type_or_none (named kind)
+
+pub place_of_cell : (kind : PageType) (p : ℕ) → p < 2 ^ 52 → cell_place (word_of (record { pfn = p; kind = kind })) ≡ p
+unfolding cell_place
+place_of_cell kind p lt = lower (number_of kind) p lt
+
+zero_is_none : is_place (cell_place 0) ≢ type_has_data (cell_type 0)
+unfolding cell_type cell_place
+zero_is_none e = cc
+
+-- 0 is no cell: a page belongs to NOTAB
+pub cell_some : (c : ℕ) → IsCell c → 0 < c
+cell_some zero is = absurd (zero_is_none is.in_step)
+cell_some (suc c) is = omega arith
+
+pub some_place : (p : ℕ) → 0 < p → is_place p ≡ true
+some_place zero some = absurd (omega (arith, some))
+some_place (suc p) some = refl
+
+-- a cell that leads to another place is one as well
+pub cell_moved : (c d : ℕ) → IsCell c → 0 < cell_place c → cell_type d ≡ cell_type c → 0 < cell_place d → IsCell d
+cell_moved c d is some same at = record {
+  there = λ e. is.there (sym same ∙ e);
+  in_step = some_place (cell_place d) at ∙ sym (some_place (cell_place c) some) ∙ is.in_step ∙ ap type_has_data (sym same);
+}

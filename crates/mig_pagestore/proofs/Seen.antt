@@ -1,0 +1,114 @@
+-- What the frames that are seen tell.
+use Rattle.mig_pagestore.proofs.Common.{◌≡◌, ◌≢◌, ℕ, ◌+◌, ◌<◌, ◌≤◌, ◌-◌, List, [], length, set, Option, Some, None, IsSome, IfNone, is_some, true, false, inl, inr, Bor, refl, sym, ap, ◌∙◌, subst, arith, nat_cmp, option_map, option_and_then, option_copied, get-empty, cases_eq, ValueMap, FrameOf, Framed, IsFrame, IsSized, frame_page, whole_page, is_place, IsCell, frame_at, frames_seen, place_or_0, place_of_page, IsLed, SameBut, repaged, with_page, PageType, type_has_data}
+use Rattle.std.specs.FinMap as maps
+use Rattle.mig_pagestore.specs.FrameView.{cell_type, cell_place, page_at_place}
+use Rattle.mig_pagetypes.specs.declared.page_type.PageType.TheVariants.{Xtab}
+use Rattle.mig_pagetypes.specs.Limits.{pfn_limit}
+use Rattle.mig_pagestore.proofs.Mapping.{is_inserted, inserted, inserted_other, is_removed, removed, removed_other, get-mapped, len-mapped, mapped-empty}
+use Rattle.mig_pagestore.proofs.Places.{some_copied, no_page, page_over, page_is_some, page_is_whole}
+use Rattle.mig_pagestore.proofs.Led.{place_in_range, frame_is, same_over}
+
+pub if_none : {A : Type 0} {P : Type 0} (r : Option A) → P → IfNone r P
+if_none None p = p
+if_none (Some x) p = tt
+
+module _ (pages : List (List ℕ)) (cells : ValueMap) where
+  get_seen : (q : ℕ) → maps.get (frames_seen pages cells) q ≡ option_map (frame_at pages) (maps.get cells q)
+  get_seen q = get-mapped (frame_at pages) cells q
+
+  pub get_none : (q : ℕ) → maps.get cells q ≡ None → maps.get (frames_seen pages cells) q ≡ None
+  get_none q e = get_seen q ∙ ap (option_map (frame_at pages)) e
+
+  pub get_some : (q c : ℕ) → maps.get cells q ≡ Some c → maps.get (frames_seen pages cells) q ≡ Some (frame_at pages c)
+  get_some q c e = get_seen q ∙ ap (option_map (frame_at pages)) e
+
+  pub len_seen : maps.len (frames_seen pages cells) ≡ maps.len cells
+  len_seen = len-mapped (frame_at pages) cells
+
+  sized_at : (q : ℕ) (f : FrameOf) (o : Option ℕ) → (IsSome (maps.get cells q) → q < pfn_limit) → ((c : ℕ) → maps.get cells q ≡ Some c → IsCell c) → maps.get cells q ≡ o → option_map (frame_at pages) o ≡ Some f → (q < pfn_limit) × IsFrame f
+  sized_at q f None small typed e is = cc
+  sized_at q f (Some c) small typed e is =
+      let at : frame_at pages c ≡ f = cc in let cell = typed c e in
+      (small (ap is_some e), subst IsFrame at (record { there = cell.there; in_step = page_is_some pages (cell_place c) ∙ cell.in_step; whole = page_is_whole pages (cell_place c) }))
+
+  pub sized_seen : (pfns : List ℕ) → IsLed cells pfns pages → ((q : ℕ) → IsSome (maps.get cells q) → q < pfn_limit) → IsSized (frames_seen pages cells)
+  sized_seen pfns led small q f e = sized_at q f (maps.get cells q) (small q) (led.typed q) refl (sym (get_seen q) ∙ e)
+
+  page_of_frame : (o : Option ℕ) → option_and_then (λ (f : FrameOf). f.page) (option_map (frame_at pages) o) ≡ page_at_place pages (place_or_0 o)
+  page_of_frame None = no_page pages 0 refl
+  page_of_frame (Some c) = refl
+
+  pub page_seen : (q : ℕ) → frame_page (frames_seen pages cells) q ≡ page_at_place pages (place_of_page cells q)
+  page_seen q = ap (option_and_then (λ (f : FrameOf). f.page)) (get_seen q) ∙ page_of_frame (maps.get cells q)
+
+  pub page_none : (q : ℕ) → place_of_page cells q ≡ 0 → frame_page (frames_seen pages cells) q ≡ None
+  page_none q e = page_seen q ∙ sym (no_page pages (place_of_page cells q) e)
+
+  some_place : (o : Option ℕ) → (place_or_0 o ≡ 0 → ⊥) → 0 < place_or_0 o
+  some_place o ne = omega (arith, ne)
+
+  pub page_some : (q : ℕ) → IsSome (frame_page (frames_seen pages cells) q) → 0 < place_of_page cells q
+  page_some q there = some_place (maps.get cells q) (λ e. let no : false ≡ true = sym (ap is_some (page_none q e)) ∙ there in cc)
+
+  -- a frame without a page finds a spare one
+  pub spare_enough : (n q : ℕ) (s : Framed) → record { frames = frames_seen pages cells; spare = n } ≡ s → (frame_page s.frames q ≡ None → 1 ≤ s.spare) → 1 - place_of_page cells q ≤ n
+  spare_enough n q s view need = elim (cases_eq (place_of_page cells q) 0) [
+    | inl e ↦ let one = subst (λ (t : Framed). frame_page t.frames q ≡ None → 1 ≤ t.spare) (sym view) need (page_none q e) in omega (arith, one)
+    | inr ne ↦ omega (arith, ne)
+  ]
+
+  some_cell : (o : Option ℕ) → 0 < place_or_0 o → (c : ℕ) × (o ≡ Some c)
+  some_cell None some = absurd (omega (arith, some))
+  some_cell (Some c) some = (c, refl)
+
+  -- the page of k is w
+  pub repaged_seen : (pfns : List ℕ) → IsLed cells pfns pages → (k p : ℕ) (w : List ℕ) → p ≡ place_of_page cells k → 0 < p → frames_seen (set pages (p - 1) w) cells ≡ with_page (frames_seen pages cells) k w
+  repaged_seen pfns led k p w at some =
+      let cell = some_cell (maps.get cells k) (omega (arith, at, some)) in
+      let ps = set pages (p - 1) w in let f : FrameOf = record { type = cell_type cell.0; page = Some (whole_page w) } in
+      let here : maps.get (frames_seen ps cells) k ≡ Some f = get-mapped (frame_at ps) cells k
+      ∙ frame_is ps (maps.get cells k) (cell_type cell.0) (Some (whole_page w)) (ap (option_map cell_type) cell.1)
+      (ap (page_at_place ps) (sym at) ∙ page_over pages p w some (omega (arith, at, place_in_range cells pfns pages led k))) in
+      is_inserted (frames_seen ps cells) (frames_seen pages cells) k f here
+      (λ q ne. get-mapped (frame_at ps) cells q ∙ (same_over cells pfns pages led k w p at some).same q ne ∙ sym (get-mapped (frame_at pages) cells q))
+      ∙ sym (ap (λ (o : Option FrameOf). repaged o (frames_seen pages cells) k w) (get-mapped (frame_at pages) cells k ∙ ap (option_map (frame_at pages)) cell.1))
+
+pub led_empty : (cells : ValueMap) (pfns : List ℕ) (pages : List (List ℕ)) → cells ≡ maps.empty → pfns ≡ [] → pages ≡ [] → IsLed cells pfns pages
+led_empty cells pfns pages none no_pfn no_page = record {
+  typed = λ q c e. let no : None ≡ Some c = sym (ap (λ (m : ValueMap). maps.get m q) none ∙ get-empty nat_cmp q) ∙ e in absurd (cc);
+  leads = record {
+    there = λ i lt. absurd (omega (arith, lt, ap length no_pfn));
+    back = λ q some. absurd (omega (arith, some, ap place_or_0 (ap (λ (m : ValueMap). maps.get m q) none ∙ get-empty nat_cmp q)));
+  };
+  as_many = ap length no_pfn ∙ sym (ap length no_page);
+}
+
+-- an empty map shows no frames
+pub none_seen : (pages : List (List ℕ)) (cells : ValueMap) → cells ≡ maps.empty → frames_seen pages cells ≡ maps.empty
+none_seen pages cells e = ap (frames_seen pages) e ∙ mapped-empty (frame_at pages)
+
+-- the frame of k is set
+pub put_seen : (pages ps : List (List ℕ)) (cells new : ValueMap) (k c : ℕ) (f : FrameOf) → SameBut k pages cells ps new → cell_type c ≡ f.type → page_at_place ps (cell_place c) ≡ f.page → frames_seen ps (maps.insert new k c) ≡ maps.insert (frames_seen pages cells) k f
+put_seen pages ps cells new k c f others type page =
+    is_inserted (frames_seen ps (maps.insert new k c)) (frames_seen pages cells) k f
+    (get-mapped (frame_at ps) (maps.insert new k c) k ∙ ap (option_map (frame_at ps)) (inserted new k k c refl) ∙ (λ i. Some (record { type = type i; page = page i })))
+    (λ q ne. get-mapped (frame_at ps) (maps.insert new k c) q ∙ ap (option_map (frame_at ps)) (inserted_other new k q c ne) ∙ others.same q ne ∙ sym (get-mapped (frame_at pages) cells q))
+
+-- the frame of k goes
+pub out_seen : (pages ps : List (List ℕ)) (cells new : ValueMap) (k : ℕ) → SameBut k pages cells ps new → frames_seen ps (maps.remove new k) ≡ maps.remove (frames_seen pages cells) k
+out_seen pages ps cells new k others =
+    is_removed (frames_seen ps (maps.remove new k)) (frames_seen pages cells) k
+    (get-mapped (frame_at ps) (maps.remove new k) k ∙ ap (option_map (frame_at ps)) (removed new k k refl))
+    (λ q ne. get-mapped (frame_at ps) (maps.remove new k) q ∙ ap (option_map (frame_at ps)) (removed_other new k q ne) ∙ others.same q ne ∙ sym (get-mapped (frame_at pages) cells q))
+
+-- a number that has a cell takes no spare one
+pub numbers_left : (o : Option ℕ) (before after n : ℕ) → (IsSome o → after ≡ before) → before ≤ after + 1 → n ≤ before → n - (1 - place_or_0 o) ≤ after
+numbers_left None before after n kept taken le = omega (arith, taken, le)
+numbers_left (Some c) before after n kept taken le = let same : after ≡ before = kept refl in omega (arith, same, le)
+
+-- the cell that is written for a frame
+pub cell_is : (pages : List (List ℕ)) (p : ℕ) (r : Option (Bor (List ℕ))) (t : PageType) (d : ℕ) → page_at_place pages p ≡ option_copied r → is_some r ≡ type_has_data t → t ≢ Xtab → cell_type d ≡ t → cell_place d ≡ p → IsCell d
+cell_is pages p r t d here paged there type place = record {
+  there = λ e. there (sym type ∙ e);
+  in_step = ap is_place place ∙ sym (page_is_some pages p) ∙ ap is_some here ∙ some_copied r ∙ paged ∙ ap type_has_data (sym type);
+}

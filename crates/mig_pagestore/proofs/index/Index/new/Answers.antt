@@ -1,9 +1,0 @@
-use Rattle.std.proofs.Common.{refl}
-use Rattle.mig_pagestore.proofs.Fans.{tree_empty, none_in_empty}
-use Rattle.mig_pagestore.proofs.index.Index.new.Goals as goal
-
-pub returns-clause-sound : goal.returns-clause-sound
-returns-clause-sound c = tree_empty _ _ _ _ _ c.new.ensures.items c.new-2.ensures.unused c.new-3.ensures.unused c.new-2.ensures.sound c.new-3.ensures.sound
-
-pub returns-clause-empty : goal.returns-clause-empty
-returns-clause-empty c = none_in_empty _ _ 0 _ 0 c.new.ensures.items refl refl

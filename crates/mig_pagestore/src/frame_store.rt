@@ -1,0 +1,376 @@
+ghost use Rattle.std.specs.Prelude.{◌≡◌, ◌≢◌, ℕ, ◌+◌, ◌-◌, ◌^◌, ◌<◌, ◌≤◌, [], ◌∷◌, ◌++◌, length, vec_capacity, IsSome, IsOk, OnOk, OnErr, IfSome, IfNone, Some, None, is_some};
+ghost use Rattle.std.specs.Option.{option_copied, option_copied_mut, option_map};
+ghost use Rattle.std.specs.FinMap as maps;
+ghost use Rattle.std.specs.Borrow.{sem};
+ghost use Rattle.mig_pagetypes.specs.PageTypes.{type_has_data};
+ghost use Rattle.mig_pagetypes.specs.Limits.{pfn_limit};
+ghost use Rattle.mig_pagetypes.specs.declared.page_type.PageType.TheVariants.{Xtab};
+ghost use Rattle.mig_pagestore.specs.Frames.{FrameOf, frame_page, IsSized, framed};
+ghost use Rattle.mig_pagestore.specs.FrameView.{cell_type, cell_place, IsCell, AreCells, page_at_place, frame_at, place_of_page, IsLed, SameBut, Moved};
+ghost use Rattle.mig_pagestore.specs.FrameLending.{LendsFramePage};
+
+use crate::arena::Arena;
+use mig_bytes::Memory;
+use mig_index::Index;
+use mig_pagetypes::{FrameWord, PageType, decode_word, encode_word};
+use std::alloc::{AllocError, Global};
+use std::marker::Model;
+
+/// Places are counted in 32 bits.
+const MOST_PAGES: usize = 1 << 31;
+
+/// Frames by number (PFN): the type of each, a page where its type has data, and room for spare ones.
+///
+/// The pages lie in slabs, in the order in which they came; the index leads from a PFN to the type of its frame and
+/// the place of its page.
+#[derive(Drop)]
+pub struct FrameStore {
+    alloc: Global,
+    /// The type of each PFN's frame and the place of its page, counted from 1; 0 where it has none.
+    index: Index,
+    /// The PFN of the page at each place.
+    pfns: Vec<u64>,
+    arena: Arena,
+    spare: usize,
+}
+
+impl Model for FrameStore {
+    ghost use Rattle.mig_pagestore.specs.Frames.{Framed, framed_code};
+    ghost use Rattle.mig_pagestore.specs.FrameView.{frames_seen, IsLed, HasFrameRoom};
+    ghost use Rattle.std.specs.Prelude.{length, vec_capacity};
+
+    ghost Value = { Framed };
+
+    ghost coded = { framed_code };
+
+    ghost view = { λ s. record { frames = frames_seen s.arena.pages s.index.values; spare = s.spare } };
+
+    ghost invariant = { λ s. IsLed s.index.values s.pfns.items s.arena.pages × HasFrameRoom s.index.spare (length s.pfns.items) (vec_capacity s.pfns) s.arena.room s.spare };
+}
+
+/// Puts a number behind the others, in room that is there.
+fn push_spare(list: &mut Vec<u64>, number: u64)
+    requires { length list.old.items < vec_capacity list.old }
+    ensures items { list.new.items ≡ list.old.items ++ number ∷ [] }
+    ensures capacity { vec_capacity list.old ≤ vec_capacity list.new }
+{
+    list.push(number).unwrap();
+}
+
+/// Takes the last number out.
+fn take_last(list: &mut Vec<u64>) -> u64
+    requires { 0 < length list.old.items }
+    ensures items { list.old.items ≡ list.new.items ++ result ∷ [] }
+    ensures capacity { vec_capacity list.old ≤ vec_capacity list.new }
+{
+    list.pop().unwrap()
+}
+
+/// Sees to it that there is room for so many more pages and their PFNs.
+fn make_room(
+    alloc: Global,
+    arena: &mut Arena,
+    pfns: &mut Vec<u64>,
+    more: usize,
+) -> Result<(), AllocError>
+    ensures pages { arena.new.pages ≡ arena.old.pages }
+    ensures pfns { pfns.new.items ≡ pfns.old.items }
+    ensures kept { (arena.old.room ≤ arena.new.room) × (vec_capacity pfns.old ≤ vec_capacity pfns.new) }
+    ensures ready { OnOk result ((more ≤ arena.new.room) × (length pfns.new.items + more ≤ vec_capacity pfns.new)) }
+{
+    while arena.room() < more {
+        arena.grow(alloc)?;
+    }
+    pfns.reserve(more)?;
+    Ok(())
+}
+
+/// A page, which has as many bytes as its type says.
+pub(crate) fn whole(page: &[u8; 4096]) -> &[u8; 4096]
+    ensures same { result.now ≡ page.now }
+    ensures size { length result.now ≡ 4096 }
+{
+    page
+}
+
+/// What a cell of the index says: a frame's type, and for its PFN the place of the frame's page.
+#[tactic(auto, unfolding(crate::specs::FrameView::cell_type, crate::specs::FrameView::cell_place))]
+fn read_cell(cell: u64) -> FrameWord
+    requires { cell_type cell ≢ Xtab }
+    ensures kind { result.kind ≡ cell_type cell }
+    ensures place { result.pfn ≡ cell_place cell }
+{
+    decode_word(cell).unwrap()
+}
+
+/// The cell of a frame of this type with its page at this place.
+#[tactic(auto, using(crate::proofs::Cells::type_of_cell, crate::proofs::Cells::place_of_cell))]
+fn write_cell(kind: PageType, place: u64) -> u64
+    requires { place < 2 ^ 52 }
+    ensures kind { cell_type result ≡ kind }
+    ensures place { cell_place result ≡ place }
+{
+    encode_word(FrameWord { pfn: place, kind })
+}
+
+/// The place of a frame's page, counted from 1; 0 where it has none.
+fn place_of(index: &Index, pfn: u64) -> u64
+    requires { AreCells index.now.values }
+    ensures { result ≡ place_of_page index.now.values pfn }
+{
+    match index.get(pfn) {
+        Some(cell) => read_cell(cell).pfn,
+        None => 0,
+    }
+}
+
+/// The page at a place that is counted from 1; none at 0.
+#[tactic(auto, using(crate::proofs::Places::no_page, crate::proofs::Places::page_found))]
+fn page_of(arena: &Arena, place: u64) -> Option<&[u8; 4096]>
+    requires { place ≤ length arena.now.pages }
+    ensures { option_copied result ≡ page_at_place arena.now.pages place }
+{
+    if place == 0 {
+        return None;
+    }
+    Some(whole(arena.get(place as usize - 1)))
+}
+
+/// The frame that a cell tells of.
+#[tactic(auto, using(crate::proofs::Places::frame_paged))]
+fn frame_of(arena: &Arena, cell: u64) -> (PageType, Option<&[u8; 4096]>)
+    requires cell { IsCell cell }
+    requires place { cell_place cell ≤ length arena.now.pages }
+    ensures value { record { type = result.0; page = option_copied result.1 } ≡ frame_at arena.now.pages cell }
+    ensures paged { is_some result.1 ≡ type_has_data result.0 }
+{
+    let word = read_cell(cell);
+    (word.kind, page_of(arena, word.pfn))
+}
+
+/// Has the cell of a frame lead to another place.
+fn move_page(index: &mut Index, pfn: u64, place: u64)
+    requires small { (0 < place) × (place < 2 ^ 52) }
+    requires there { 0 < place_of_page index.old.values pfn }
+    requires typed { AreCells index.old.values }
+    ensures moved { Moved index.old.values index.new.values pfn place }
+    ensures spare { index.new.spare ≡ index.old.spare }
+{
+    let cell = index.get(pfn).unwrap();
+    index.put_spare(pfn, write_cell(read_cell(cell).kind, place));
+}
+
+/// Takes the page at this place out, which is the frame's; its cell stays as it is. The last page comes to the place.
+#[tactic(auto, using(crate::proofs::Led::same_popped, crate::proofs::Led::last_is_there, crate::proofs::Led::in_both, crate::proofs::Led::same_swapped, crate::proofs::Led::cell_kept))]
+fn take_page(index: &mut Index, pfns: &mut Vec<u64>, arena: &mut Arena, pfn: u64, place: u64)
+    requires led { IsLed index.old.values pfns.old.items arena.old.pages }
+    requires place { place ≡ place_of_page index.old.values pfn }
+    requires few { length pfns.old.items < 2 ^ 31 }
+    ensures led { IsLed (maps.remove index.new.values pfn) pfns.new.items arena.new.pages }
+    ensures others { SameBut pfn arena.old.pages index.old.values arena.new.pages index.new.values }
+    ensures cell { maps.get index.new.values pfn ≡ maps.get index.old.values pfn }
+    ensures numbers { index.new.spare ≡ index.old.spare }
+    ensures pages { arena.old.room ≤ arena.new.room }
+    ensures places { length pfns.new.items ≤ length pfns.old.items }
+    ensures capacity { vec_capacity pfns.old ≤ vec_capacity pfns.new }
+{
+    if place == 0 {
+        return;
+    }
+    let page = arena.pop();
+    let last = take_last(pfns);
+    if last != pfn {
+        *arena.lend(place as usize - 1) = page;
+        pfns[place as usize - 1] = last;
+        move_page(index, last, place);
+    }
+}
+
+/// Sets the page of a frame that has its page at this place, or takes it out; the answer is its place from now on. The
+/// frame's cell stays as it is.
+#[tactic(auto, using(crate::proofs::Places::no_page, crate::proofs::Led::same_over, crate::proofs::Led::here_over))]
+fn set_page(
+    index: &mut Index,
+    pfns: &mut Vec<u64>,
+    arena: &mut Arena,
+    pfn: u64,
+    place: u64,
+    page: Option<&[u8; 4096]>,
+) -> u64
+    requires led { IsLed index.old.values pfns.old.items arena.old.pages }
+    requires place { place ≡ place_of_page index.old.values pfn }
+    requires few { length pfns.old.items < 2 ^ 31 }
+    requires room { place ≡ 0 → (1 ≤ arena.old.room) × (length pfns.old.items < vec_capacity pfns.old) }
+    ensures led { (c : ℕ) → IsCell c → cell_place c ≡ result → IsLed (maps.insert index.new.values pfn c) pfns.new.items arena.new.pages }
+    ensures here { page_at_place arena.new.pages result ≡ option_copied page.entry }
+    ensures others { SameBut pfn arena.old.pages index.old.values arena.new.pages index.new.values }
+    ensures cell { maps.get index.new.values pfn ≡ maps.get index.old.values pfn }
+    ensures small { result < 2 ^ 52 }
+    ensures numbers { index.new.spare ≡ index.old.spare }
+    ensures pages { arena.old.room ≤ arena.new.room + (1 - place) }
+    ensures places { length pfns.new.items ≤ length pfns.old.items + (1 - place) }
+    ensures capacity { vec_capacity pfns.old ≤ vec_capacity pfns.new }
+{
+    let Some(page) = page else {
+        take_page(index, pfns, arena, pfn, place);
+        return 0;
+    };
+    if place > 0 {
+        *arena.lend(place as usize - 1) = *whole(page);
+        return place;
+    }
+    arena.push(whole(page));
+    push_spare(pfns, pfn);
+    pfns.len() as u64
+}
+
+/// How many spare pages a frame takes whose page is at this place, when it is set.
+fn pages_taken(place: u64) -> usize
+    ensures { result ≡ 1 - place }
+{
+    usize::from(place == 0)
+}
+
+impl FrameStore {
+    /// No frames; it has taken no memory.
+    #[tactic(auto, using(crate::proofs::Seen::led_empty, crate::proofs::Seen::none_seen))]
+    pub fn new(alloc: Global) -> FrameStore
+        ensures frames { result.frames ≡ maps.empty }
+        ensures spare { result.spare ≡ 0 }
+    {
+        FrameStore {
+            alloc,
+            index: Index::new(alloc),
+            pfns: Vec::new(alloc),
+            arena: Arena::new(alloc),
+            spare: 0,
+        }
+    }
+
+    /// The number of frames.
+    #[tactic(auto, using(crate::proofs::Seen::len_seen))]
+    pub fn len(&self) -> u64
+        ensures count { result ≡ maps.len self.now.frames }
+        ensures sized { IsSized self.now.frames }
+    {
+        self.index.len()
+    }
+
+    /// The frame of this PFN, which may be any number: its type, and its page where the type has data.
+    #[tactic(auto, using(crate::proofs::Seen::get_none, crate::proofs::Seen::get_some))]
+    pub fn get(&self, pfn: u64) -> Option<(PageType, Option<&[u8; 4096]>)>
+        ensures value { option_map (λ f. record { type = f.0; page = option_copied f.1 }) result ≡ maps.get self.now.frames pfn }
+        ensures paged { IfSome result (λ f. is_some f.1 ≡ type_has_data f.0) }
+        ensures small { IsSome result → pfn < pfn_limit }
+    {
+        let cell = self.index.get(pfn)?;
+        Some(frame_of(&self.arena, cell))
+    }
+
+    /// Lends the page of this PFN for writing; none where there is no frame, or its type has no data.
+    pub fn lend(&mut self, pfn: u64) -> Option<&mut [u8; 4096]>
+        ensures* writes_back { sem 𝓛 (LendsFramePage self.entry pfn result) }
+        ensures value { option_copied_mut result ≡ frame_page self.old.frames pfn }
+    {
+        let place = place_of(&self.index, pfn);
+        if place == 0 {
+            return None;
+        }
+        // To the proof a page that is read tells its size, one that is lent doesn't.
+        let _page = whole(self.arena.get(place as usize - 1));
+        Some(self.arena.lend(place as usize - 1))
+    }
+
+    /// The frame with the least PFN that is at least `from`, which may be any number.
+    #[tactic(auto, using(crate::proofs::Seen::get_none, crate::proofs::Seen::get_some))]
+    pub fn next(&self, from: u64) -> Option<(u64, PageType, Option<&[u8; 4096]>)>
+        ensures none { IfNone result ((k : ℕ) → from ≤ k → maps.get self.now.frames k ≡ None) }
+        ensures there { IfSome result (λ e. maps.get self.now.frames e.0 ≡ Some (record { type = e.1; page = option_copied e.2 })) }
+        ensures least { IfSome result (λ e. (from ≤ e.0) × ((k : ℕ) → from ≤ k → k < e.0 → maps.get self.now.frames k ≡ None)) }
+        ensures paged { IfSome result (λ e. is_some e.2 ≡ type_has_data e.1) }
+        ensures small { IfSome result (λ e. e.0 < pfn_limit) }
+    {
+        let (pfn, cell) = self.index.next(from)?;
+        let (kind, page) = frame_of(&self.arena, cell);
+        Some((pfn, kind, page))
+    }
+
+    /// Makes ready room for at least `more` frames with pages, those included that are spare already.
+    pub fn reserve(&mut self, more: usize) -> Result<(), Memory>
+        ensures frames { self.new.frames ≡ self.old.frames }
+        ensures ready { OnOk result (more ≤ self.new.spare) }
+        ensures kept { self.old.spare ≤ self.new.spare }
+        ensures enough { more ≤ self.old.spare → IsOk result }
+    {
+        if more <= self.spare {
+            return Ok(());
+        }
+        if more >= MOST_PAGES - self.pfns.len() {
+            return Err(Memory);
+        }
+        self.index.reserve(more)?;
+        match make_room(self.alloc, &mut self.arena, &mut self.pfns, more) {
+            Ok(()) => {
+                self.spare = more;
+                Ok(())
+            }
+            Err(AllocError) => Err(Memory),
+        }
+    }
+
+    /// Sets the type of a frame, and its page where the type has data, and takes no memory: a frame that had no page
+    /// takes a spare one.
+    pub fn put_spare(&mut self, pfn: u64, kind: PageType, page: Option<&[u8; 4096]>)
+        requires small { pfn < pfn_limit }
+        requires there { kind ≢ Xtab }
+        requires paged { is_some page ≡ type_has_data kind }
+        requires room { frame_page self.old.frames pfn ≡ None → 1 ≤ self.old.spare }
+        ensures frames { self.new.frames ≡ maps.insert self.old.frames pfn (record { type = kind; page = option_copied page.entry }) }
+        ensures taken { self.old.spare ≤ self.new.spare + 1 }
+        ensures in_place { IsSome (frame_page self.old.frames pfn) → self.new.spare ≡ self.old.spare }
+    {
+        let old = place_of(&self.index, pfn);
+        self.spare -= pages_taken(old);
+        let place = set_page(
+            &mut self.index,
+            &mut self.pfns,
+            &mut self.arena,
+            pfn,
+            old,
+            page,
+        );
+        self.index.put_spare(pfn, write_cell(kind, place));
+    }
+
+    /// Takes a frame away, where it is there.
+    #[tactic(auto, using(crate::proofs::Seen::out_seen))]
+    pub fn remove(&mut self, pfn: u64)
+        requires { pfn < pfn_limit }
+        ensures frames { self.new.frames ≡ maps.remove self.old.frames pfn }
+        ensures spare { self.old.spare ≤ self.new.spare }
+    {
+        let place = place_of(&self.index, pfn);
+        take_page(&mut self.index, &mut self.pfns, &mut self.arena, pfn, place);
+        self.index.remove(pfn);
+    }
+
+    /// Sets the type of a frame, and its page where the type has data; XTAB takes the frame away. Where no memory is
+    /// found, the frames stay.
+    pub fn set(&mut self, pfn: u64, kind: PageType, page: Option<&[u8; 4096]>) -> Result<(), Memory>
+        requires small { pfn < pfn_limit }
+        requires paged { is_some page ≡ type_has_data kind }
+        ensures ok { OnOk result (self.new.frames ≡ framed self.old.frames pfn kind (option_copied page.entry)) }
+        ensures err { OnErr result (self.new.frames ≡ self.old.frames) }
+        ensures taken { kind ≡ Xtab → IsOk result }
+        ensures ready { 1 ≤ self.old.spare → IsOk result }
+        ensures spare { self.old.spare ≤ self.new.spare + 1 }
+    {
+        if let PageType::Xtab = kind {
+            self.remove(pfn);
+            return Ok(());
+        }
+        self.reserve(1)?;
+        self.put_spare(pfn, kind, page);
+        Ok(())
+    }
+}
