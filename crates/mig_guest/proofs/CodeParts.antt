@@ -1,22 +1,8 @@
 -- The parts of a code that a well formed guest has: each by its row, and how many there are at most.
-use Rattle.std.proofs.Common.{◌≡◌, ℕ, ◌+◌, ◌≤◌, ◌<◌, List, [], ◌∷◌, length, true, refl, sym, ap, subst, ◌∙◌, arith}
-use Rattle.std.specs.Prelude.{T, nat_lt, ◌==◌}
-use Rattle.std.proofs.lemmas.Bool.{and_parts, eqb-true, ltb-true}
-use Rattle.std.proofs.lemmas.Cmp.{nat_cmp_total, ranked, tied_itself}
-use Rattle.std.proofs.lemmas.List.Elements.{All-nil, All-cons, All-head, All-tail, All-filter, filter_passes}
-use Rattle.std.specs.List.{All}
-use Rattle.std.specs.Ordering.{is_lt, nat_cmp, ordering_then}
-use Rattle.std.specs.declared.cmp.Ordering.{Ordering}
-use Rattle.std.specs.declared.cmp.Ordering.TheVariants.{Less, Equal, Greater}
+use Rattle.mig_guest.proofs.Common.{◌≡◌, ℕ, ◌+◌, ◌≤◌, ◌<◌, List, [], ◌∷◌, length, true, refl, sym, ap, subst, ◌∙◌, arith, T, nat_lt, ◌==◌, and_parts, eqb-true, ltb-true, nat_cmp_total, ranked, tied_itself, All-nil, All-cons, All-head, All-tail, All-filter, filter_passes, All, is_lt, nat_cmp, ordering_then, Ordering, Less, Equal, Greater, is_sorted, below_all, is_sorted-where_key, IsPart, IsFormed, width_of, GuestOf, part_cmp, Part, parts_of}
 use Rattle.std.specs.FinMap as maps
-use Rattle.std.specs.FinMap.{is_sorted}
-use Rattle.std.specs.FinMap.Entries.{below_all, is_sorted-where_key}
 use Rattle.mig_guest.specs.declared.part_code.PartCode.{PartCode}
-use Rattle.mig_guest.specs.Formed.{IsPart, IsFormed, width_of}
-use Rattle.mig_guest.specs.Guests.{GuestOf}
-use Rattle.mig_guest.specs.Order.{part_cmp}
 use Rattle.mig_guest.specs.PartCodes.{code_number, row_of, small_number}
-use Rattle.mig_guest.specs.Parts.{Part, parts_of}
 use Rattle.mig_guest.proofs.Found.{all_found}
 use Rattle.mig_guest.proofs.PartCursor.{both_of}
 use Rattle.mig_guest.proofs.PartOrder.{part_total, part_exact}

@@ -1,17 +1,6 @@
 -- The entries of a finite map: what holds of all that is found holds of all entries, and still where keys are set or taken away.
-use Rattle.std.proofs.Common.{◌≡◌, Bool, true, false, cond, List, [], ◌∷◌, Option, Some, None, IfSome, filter, refl, sym, ap, subst, ◌∙◌}
-use Rattle.std.specs.Prelude.{T}
-use Rattle.std.specs.List.{All}
-use Rattle.std.specs.Option.{option_or}
-use Rattle.std.proofs.lemmas.Cmp.{eq_by_cmp_equiv}
-use Rattle.std.proofs.lemmas.List.Elements.{All-nil, All-cons, All-head, filter_passes}
-use Rattle.std.specs.Cmp.{IsTotalOrder}
-use Rattle.std.specs.Ordering.{is_lt, is_eq, eq_by_cmp}
-use Rattle.std.specs.declared.cmp.Ordering.{Ordering}
-use Rattle.std.specs.declared.cmp.Ordering.TheVariants.{Less}
+use Rattle.mig_guest.proofs.Common.{◌≡◌, Bool, true, false, cond, List, [], ◌∷◌, Option, Some, None, IfSome, filter, refl, sym, ap, subst, ◌∙◌, T, All, option_or, eq_by_cmp_equiv, All-nil, All-cons, All-head, filter_passes, IsTotalOrder, is_lt, is_eq, eq_by_cmp, Ordering, Less, FinMap, find, is_sorted, IsAntisymmetric, below_all, find-where_key, is_sorted-where_key}
 use Rattle.std.specs.FinMap as maps
-use Rattle.std.specs.FinMap.{FinMap, find, is_sorted, IsAntisymmetric}
-use Rattle.std.specs.FinMap.Entries.{below_all, find-where_key, is_sorted-where_key}
 use Rattle.mig_guest.proofs.KeyedMaps.{tied, both}
 use Rattle.mig_guest.proofs.PartCursor.{both_of, true_of, less}
 
@@ -77,7 +66,7 @@ module _ {K X : Type 0} {R : K → K → Ordering} (total : IsTotalOrder R) (exa
     Each m = (k : K) (v : X) → maps.get m k ≡ Some v → P k v
 
     -- n is what one key has from now on
-    pub changed_holds : (m new : FinMap R X) (k : K) (n : Option X) → ((q : K) → maps.get new q ≡ cond (eq_by_cmp R q k) n (maps.get m q)) → Each m → IfSome n (P k) → Each new
+    changed_holds : (m new : FinMap R X) (k : K) (n : Option X) → ((q : K) → maps.get new q ≡ cond (eq_by_cmp R q k) n (maps.get m q)) → Each m → IfSome n (P k) → Each new
     changed_holds m new k n is each holds q v got = elim (eq_by_cmp R q k) as (λ b. eq_by_cmp R q k ≡ b → cond b n (maps.get m q) ≡ Some v → P q v) [
       | true ↦ λ t at. subst (λ z. P z v) (sym (exact q k (tied _ t))) (subst (λ o. IfSome o (P k)) at holds)
       | false ↦ λ t at. each q v at

@@ -1,23 +1,12 @@
 -- What is kept of a well formed guest where parts are set: one lemma over the table, whatever the code.
-use Rattle.std.proofs.Common.{◌≡◌, ◌≢◌, ℕ, ◌≤◌, List, [], ◌∷◌, length, Bool, true, false, not, nat_eq, Option, Some, None, refl, sym, ap, subst, ◌∙◌, arith}
-use Rattle.std.specs.Ordering.{nat_cmp}
-use Rattle.std.specs.List.{AllByRecursion}
-use Rattle.std.specs.FinMap.{nat_cmp-IsAntisymmetric}
-use Rattle.std.proofs.lemmas.Cmp.{nat_cmp_total}
+use Rattle.mig_guest.proofs.Common.{◌≡◌, ◌≢◌, ℕ, ◌≤◌, List, [], ◌∷◌, length, Bool, true, false, not, nat_eq, Option, Some, None, refl, sym, ap, subst, ◌∙◌, arith, nat_cmp, AllByRecursion, nat_cmp-IsAntisymmetric, nat_cmp_total, eqb-true, eq-eqb, PartKey, FrameOf, FrameMap, framed, GuestOf, part_cmp, Part, PartMap, put_part, put_parts, replace_code, parts_of, FitsPolicy, IsPart, IsTop, IsGuestFrame, is_policy, width_of, IsFormed, AreParts, is_emulator_code, HasNoEmulators}
 use Rattle.std.specs.FinMap as fin
-use Rattle.std.proofs.lemmas.Bool.{eqb-true, eq-eqb}
 use Rattle.mig_headers.specs.declared.kind.Kind.{Kind}
 use Rattle.mig_headers.specs.declared.kind.Kind.TheVariants.{Pv, Hvm}
 use Rattle.mig_pagetypes.specs.declared.page_type.PageType.{PageType}
 use Rattle.mig_pagetypes.specs.declared.page_type.PageType.TheVariants.{Xtab}
-use Rattle.mig_guest.specs.declared.part_key.PartKey.{PartKey}
-use Rattle.mig_guest.specs.Frames.{FrameOf, FrameMap, framed}
-use Rattle.mig_guest.specs.Guests.{GuestOf}
-use Rattle.mig_guest.specs.Order.{part_cmp}
-use Rattle.mig_guest.specs.Parts.{Part, PartMap, put_part, put_parts, replace_code, parts_of, FitsPolicy}
 use Rattle.mig_guest.proofs.PartOrder.{part_total, part_exact}
 use Rattle.mig_guest.proofs.PartSets.{puts_other, cleared_other}
-use Rattle.mig_guest.specs.Formed.{IsPart, IsTop, IsGuestFrame, is_policy, width_of, IsFormed, AreParts, is_emulator_code, HasNoEmulators}
 use Rattle.mig_guest.proofs.Counts.{same_parts, set_len, none_left}
 use Rattle.mig_guest.proofs.Found.{Each, insert_holds, remove_holds, kept_holds}
 

@@ -1,19 +1,9 @@
 -- The entries of an ordered map seen as a finite map, each value through f, which may look at its key.
-use Rattle.std.proofs.Common.{◌≡◌, ◌+◌, ◌≤◌, Bool, true, false, cond, List, [], ◌∷◌, map, Option, Some, None, is_some, refl, sym, ap, subst, ◌∙◌, arith}
-use Rattle.std.specs.Prelude.{T, ◌&&◌}
-use Rattle.std.specs.declared.cmp.Ordering.{Ordering}
-use Rattle.std.specs.declared.cmp.Ordering.TheVariants.{Less, Equal, Greater}
-use Rattle.std.specs.Ordering.{eq_by_cmp, is_eq, is_lt}
-use Rattle.std.specs.Option.{option_map}
-use Rattle.std.specs.Cmp.{IsTotalOrder}
-use Rattle.std.specs.List.{AllByRecursion, filter}
+use Rattle.mig_guest.proofs.Common.{◌≡◌, ◌+◌, ◌≤◌, Bool, true, false, cond, List, [], ◌∷◌, map, Option, Some, None, is_some, refl, sym, ap, subst, ◌∙◌, arith, T, ◌&&◌, Ordering, Less, Equal, Greater, eq_by_cmp, is_eq, is_lt, option_map, IsTotalOrder, AllByRecursion, lookup, keys_of, FinMap, find, is_sorted, IsAntisymmetric, same_map, get-from_entries, get-from_sorted, entries-from_sorted, get-insert, get-retain_keys, len-insert, below_all, eq_by_cmp_equiv}
+use Rattle.std.specs.List.{filter}
 use Rattle.std.specs.List.Sorted.{IsStrictlySortedBy}
 use Rattle.std.specs.BTreeMap.{is_at}
-use Rattle.std.specs.Map.{lookup, keys_of}
 use Rattle.std.specs.FinMap as maps
-use Rattle.std.specs.FinMap.{FinMap, find, is_sorted, IsAntisymmetric, same_map, get-from_entries, get-from_sorted, entries-from_sorted, get-insert, get-remove, get-retain_keys, len-insert}
-use Rattle.std.specs.FinMap.Entries.{below_all}
-use Rattle.std.proofs.lemmas.Cmp.{eq_by_cmp_equiv}
 use Rattle.std.proofs.lemmas.Map.Entries.{lookup-filter-keys}
 
 -- an entry, with its value as it is seen
@@ -44,12 +34,6 @@ module _ {K X : Type 0} {R : K → K → Ordering} (o : IsTotalOrder R) (m : Fin
 
   pub insert_leaves : (v : X) (q : K) → eq_by_cmp R q k ≡ false → maps.get (maps.insert m k v) q ≡ maps.get m q
   insert_leaves v q other = get-insert o m k v q ∙ ap (λ b. cond b (Some v) (maps.get m q)) other
-
-  pub remove_gives : maps.get (maps.remove m k) k ≡ None
-  remove_gives = get-remove o m k k ∙ ap (λ b. cond b None (maps.get m k)) ((eq_by_cmp_equiv o).refl k)
-
-  pub remove_leaves : (q : K) → eq_by_cmp R q k ≡ false → maps.get (maps.remove m k) q ≡ maps.get m q
-  remove_leaves q other = get-remove o m k q ∙ ap (λ b. cond b None (maps.get m q)) other
 
   pub insert_len : (v : X) → maps.len (maps.insert m k v) ≤ maps.len m + 1
   insert_len v = subst (λ n. n ≤ maps.len m + 1) (sym (len-insert o m k v)) (elim (maps.contains_key m k) as (λ b. cond b (maps.len m) (maps.len m + 1) ≤ maps.len m + 1) [ true ↦ omega arith | false ↦ omega arith ])
@@ -114,18 +98,13 @@ module _ {K X Y : Type 0} {R : K → K → Ordering} (o : IsTotalOrder R) (exact
         ∙ elim (p q) as (λ b. option_map (f q) (cond b (lookup (is_at (R q)) es) None) ≡ cond b (option_map (f q) (lookup (is_at (R q)) es)) None) [ true ↦ refl | false ↦ refl ]
         ∙ ap (λ r. cond (p q) r None) (sym (get_seen es q)) ∙ sym (get-retain_keys (seen R f es) p q alike))
 
-  -- where what is listed at one key changes, and how the values of no other key are seen
-  pub seen_changed : (f g : K → X → Y) (es fs : List (K × X)) (k : K) (n : Option X)
-      → ((q : K) → lookup (is_at (R q)) fs ≡ cond (is_at (R k) q) n (lookup (is_at (R q)) es))
-      → ((q : K) → eq_by_cmp R q k ≡ false → (x : X) → g q x ≡ f q x)
-      → (q : K) → maps.get (seen R g fs) q ≡ cond (eq_by_cmp R q k) (option_map (g k) n) (maps.get (seen R f es) q)
-  seen_changed f g es fs k n is same q =
-      let here = lookup (is_at (R q)) es in
-      get_seen g fs q ∙ ap (option_map (g q)) (is q ∙ ap (λ b. cond b n here) ((eq_by_cmp_equiv o).symm k q))
-      ∙ elim (eq_by_cmp R q k) as (λ b. eq_by_cmp R q k ≡ b → option_map (g q) (cond b n here) ≡ cond b (option_map (g k) n) (maps.get (seen R f es) q)) [
-        | true ↦ λ t. ap (λ z. option_map (g z) n) (exact q k (tied _ t))
-        | false ↦ λ t. (λ i. option_map (λ x. same q t x i) here) ∙ sym (get_seen f es q)
-      ] refl
-
+  -- one key listed with another value
   pub seen_insert : (f : K → X → Y) (es fs : List (K × X)) (k : K) (v : X) → ((q : K) → lookup (is_at (R q)) fs ≡ cond (is_at (R k) q) (Some v) (lookup (is_at (R q)) es)) → seen R f fs ≡ maps.insert (seen R f es) k (f k v)
-  seen_insert f es fs k v is = same_map o exact _ _ (λ q. seen_changed f f es fs k (Some v) is (λ _ _ _. refl) q ∙ sym (get-insert o (seen R f es) k (f k v) q))
+  seen_insert f es fs k v is = same_map o exact _ _ (λ q.
+      let here = lookup (is_at (R q)) es in
+      get_seen f fs q ∙ ap (option_map (f q)) (is q ∙ ap (λ b. cond b (Some v) here) ((eq_by_cmp_equiv o).symm k q))
+      ∙ elim (eq_by_cmp R q k) as (λ b. eq_by_cmp R q k ≡ b → option_map (f q) (cond b (Some v) here) ≡ cond b (Some (f k v)) (maps.get (seen R f es) q)) [
+        | true ↦ λ t. ap (λ z. Some (f z v)) (exact q k (tied _ t))
+        | false ↦ λ t. sym (get_seen f es q)
+      ] refl
+      ∙ sym (get-insert o (seen R f es) k (f k v) q))

@@ -1,13 +1,14 @@
+pub mod Common
 pub mod PartOrder
 pub mod KeyedMaps
 pub mod PartMaps
-pub mod FrameMaps
 pub mod Loans
 pub mod PartCursor
 pub mod PartSets
 pub mod Counts
 pub mod Kept
 pub mod Found
+pub mod NextEntries
 pub mod PartRows
 pub mod CodeParts
 pub mod Longs

@@ -1,12 +1,6 @@
 -- The order of part keys is total, and only equal keys tie.
-use Rattle.std.proofs.Common.{ℕ, ap}
-use Rattle.std.specs.Ordering.{nat_cmp, ordering_then}
-use Rattle.std.proofs.lemmas.Cmp.{on_total, then_total, nat_cmp_total}
+use Rattle.mig_guest.proofs.Common.{ℕ, ap, nat_cmp, ordering_then, on_total, then_total, nat_cmp_total, IsTotalOrder, IsAntisymmetric, PartKey, part_cmp}
 use Rattle.std.proofs.lemmas.Map.Lookups.{exact_pairs, exact_unsigned}
-use Rattle.std.specs.Cmp.{IsTotalOrder}
-use Rattle.std.specs.FinMap.{IsAntisymmetric}
-use Rattle.mig_guest.specs.declared.part_key.PartKey.{PartKey}
-use Rattle.mig_guest.specs.Order.{part_cmp}
 
 pub part_total : IsTotalOrder part_cmp
 part_total = then_total (on_total (λ (k : PartKey). k.code) nat_cmp_total) (then_total (on_total (λ (k : PartKey). k.key1) nat_cmp_total) (on_total (λ (k : PartKey). k.key2) nat_cmp_total))

@@ -1,12 +1,6 @@
 -- What setting parts one after another does to the others, and to a guest.
-use Rattle.std.proofs.Common.{◌≡◌, ◌≢◌, ℕ, true, false, cond, not, nat_eq, List, [], ◌∷◌, Some, None, refl, sym, ap, ◌∙◌, arith}
-use Rattle.std.proofs.lemmas.Grind.{common_steps}
-use Rattle.std.specs.List.{AllByRecursion}
-use Rattle.std.specs.Ordering.{eq_by_cmp}
+use Rattle.mig_guest.proofs.Common.{◌≡◌, ◌≢◌, ℕ, true, false, cond, not, nat_eq, List, [], ◌∷◌, Some, None, refl, sym, ap, ◌∙◌, arith, common_steps, AllByRecursion, eq_by_cmp, PartKey, part_cmp, Part, PartMap, put_part, put_parts}
 use Rattle.std.specs.FinMap as maps
-use Rattle.mig_guest.specs.declared.part_key.PartKey.{PartKey}
-use Rattle.mig_guest.specs.Order.{part_cmp}
-use Rattle.mig_guest.specs.Parts.{Part, PartMap, put_part, put_parts}
 use Rattle.mig_guest.proofs.PartOrder.{part_total, part_exact}
 use Rattle.mig_guest.proofs.KeyedMaps.{tied, insert_gives, insert_leaves}
 

@@ -8,30 +8,16 @@ use Rattle.std.specs.Vec.{with_items}
 use Rattle.std.specs.contracts.vec.Vec as vec
 use Rattle.std.specs.contracts.alloc.Global as global
 use Rattle.std.specs.contracts.impls.GlobalAllocator.TheImpl.{ghosts}
+use Rattle.mig_pagestore.specs.FrameLending.{with_page}
 use Rattle.mig_guest.specs.declared.part_key.PartKey.{PartKey}
-use Rattle.mig_guest.specs.Frames.{FrameOf, FrameMap}
-use Rattle.mig_guest.specs.FrameView.{whole_page}
 use Rattle.mig_guest.specs.Parts.{PartMap}
 use Rattle.mig_guest.specs.Guests.{GuestOf}
-use Rattle.mig_guest.specs.contracts.frames.Frames as frames
 use Rattle.mig_guest.specs.contracts.parts.Parts as parts
 use Rattle.mig_guest.specs.contracts.guest.Guest as guest
 
 -- ---- pages
 
--- the frames, where a frame that is there has w as its page
-abbrev pub repaged : Option FrameOf → FrameMap → ℕ → List ℕ → FrameMap
-repaged None m pfn w = m
-repaged (Some f) m pfn w = maps.insert m pfn (record f { page = Some (whole_page w) })
-
-abbrev pub with_page : FrameMap → ℕ → List ℕ → FrameMap
-with_page m pfn w = repaged (maps.get m pfn) m pfn w
-
--- at `Some` the frames end with the last bytes behind r as the page of pfn; at `None` they stay
-abbrev pub LendsPage : MutBor FrameMap → ℕ → Option (MutBor (List ℕ)) → Fml
-LendsPage m pfn r = LendsIf frames.the_row (Array u8 4096) m r (with_page m.now pfn) m.now
-
--- the same of a guest
+-- at `Some` the guest ends with the last bytes behind r as the page of pfn; at `None` it stays
 abbrev pub LendsGuestPage : MutBor GuestOf → ℕ → Option (MutBor (List ℕ)) → Fml
 LendsGuestPage g pfn r = LendsIf guest.the_row (Array u8 4096) g r (λ w. record g.now { frames = with_page g.now.frames pfn w }) g.now
 

@@ -1,6 +1,5 @@
 pub mod Order
 pub mod Frames
-pub mod FrameView
 pub mod Lending
 pub mod Guests
 pub mod Parts

@@ -12,11 +12,11 @@ ghost use Rattle.mig_guest.specs.Order.{part_cmp, IsAbove};
 ghost use Rattle.mig_guest.specs.Frames.{framed, IsSized, NextEntry};
 ghost use Rattle.mig_guest.specs.Parts.{NextPart, NextBehind};
 
-use crate::frames::Frames;
 use crate::part_key::PartKey;
 use crate::parts::{Parts, bytes_mut};
 use mig_bytes::Memory;
 use mig_headers::Kind;
+use mig_pagestore::FrameStore;
 use mig_pagetypes::PageType;
 use std::alloc::Global;
 use std::marker::Model;
@@ -26,7 +26,7 @@ use std::marker::Model;
 pub struct Guest {
     kind: Kind,
     top: u64,
-    frames: Frames,
+    frames: FrameStore,
     parts: Parts,
 }
 
@@ -37,7 +37,7 @@ impl Model for Guest {
 
     ghost coded = { guest_code };
 
-    ghost view = { λ g. record { kind = g.kind; top = g.top; frames = g.frames; parts = g.parts } };
+    ghost view = { λ g. record { kind = g.kind; top = g.top; frames = g.frames.frames; parts = g.parts } };
 }
 
 impl Guest {
@@ -50,7 +50,7 @@ impl Guest {
         Guest {
             kind,
             top: 0,
-            frames: Frames::new(alloc),
+            frames: FrameStore::new(alloc),
             parts: Parts::new(alloc),
         }
     }
@@ -95,14 +95,20 @@ impl Guest {
     pub fn frame(&self, pfn: u64) -> Option<PageType>
         ensures { result ≡ option_map (λ f. f.type) (maps.get self.now.frames pfn) }
     {
-        self.frames.kind(pfn)
+        match self.frames.get(pfn) {
+            Some((kind, _)) => Some(kind),
+            None => None,
+        }
     }
 
     /// The page of this frame; none where there is no frame, or its type has no data.
     pub fn page(&self, pfn: u64) -> Option<&[u8; 4096]>
         ensures { option_copied result ≡ option_and_then (λ f. f.page) (maps.get self.now.frames pfn) }
     {
-        self.frames.page(pfn)
+        match self.frames.get(pfn) {
+            Some((_, page)) => page,
+            None => None,
+        }
     }
 
     /// Lends the page of this frame for writing; none where there is no frame, or its type has no data.
@@ -110,7 +116,7 @@ impl Guest {
         ensures* writes_back { sem 𝓛 (LendsGuestPage self.entry pfn result) }
         ensures value { option_copied_mut result ≡ option_and_then (λ f. f.page) (maps.get self.old.frames pfn) }
     {
-        self.frames.page_mut(pfn)
+        self.frames.lend(pfn)
     }
 
     /// The least PFN that has a frame and is at least `from`, which may be any number.
@@ -120,7 +126,10 @@ impl Guest {
         ensures least { IfSome result (λ q. (from ≤ q) × ((k : ℕ) → from ≤ k → k < q → maps.get self.now.frames k ≡ None)) }
         ensures small { IfSome result (λ q. q < pfn_limit) }
     {
-        self.frames.next(from)
+        match self.frames.next(from) {
+            Some((pfn, _, _)) => Some(pfn),
+            None => None,
+        }
     }
 
     /// The first frame from this number on, with its type and its page.
@@ -129,7 +138,7 @@ impl Guest {
         ensures small { IfSome result (λ e. e.0 < pfn_limit) }
         ensures paged { IfSome result (λ e. is_some e.2 ≡ type_has_data e.1) }
     {
-        self.frames.next_entry(from)
+        self.frames.next(from)
     }
 
     /// The number of frames.
@@ -212,5 +221,13 @@ impl Guest {
         ensures { self.new ≡ record self.old { parts = maps.retain_keys self.old.parts (λ k. not (k.code == code)) } }
     {
         self.parts.clear_code(code);
+    }
+
+    /// The frames, with the room that is spare, and the parts.
+    pub fn into_frames_and_parts(self) -> (FrameStore, Parts)
+        ensures frames { result.0.frames ≡ self.frames }
+        ensures parts { result.1 ≡ self.parts }
+    {
+        (self.frames, self.parts)
     }
 }

@@ -9,7 +9,6 @@
 //! number is below 2^28, no frame has type XTAB, and a frame has a page of 4096 bytes exactly where its type has data.
 #![tactic(auto)]
 
-mod frames;
 mod guest;
 mod law;
 mod part_code;
@@ -22,6 +21,8 @@ pub use law::{
     empty_guest_is_formed, setting_frames_keeps_formed, setting_parts_keeps_formed,
     setting_policies_keeps_formed,
 };
+pub use mig_pagestore::FrameStore;
 pub use part_code::PartCode;
 pub use part_key::PartKey;
+pub use parts::Parts;
 pub use table::Entry;

@@ -20,7 +20,7 @@ use std::ops::Bound;
 
 /// Parts by key: the bytes of each.
 #[derive(Drop)]
-pub(crate) struct Parts {
+pub struct Parts {
     alloc: Global,
     parts: BTreeMap<PartKey, Vec<u8>>,
 }
@@ -82,7 +82,8 @@ fn behind(after: Option<PartKey>) -> Bound<PartKey>
 impl Parts {
     ghost use Rattle.mig_guest.specs.Lending.{LendsPart};
 
-    pub(crate) fn new(alloc: Global) -> Parts
+    /// No parts.
+    pub fn new(alloc: Global) -> Parts
         ensures { result ≡ maps.empty }
     {
         Parts {
@@ -91,7 +92,8 @@ impl Parts {
         }
     }
 
-    pub(crate) fn get(&self, key: PartKey) -> Option<&[u8]>
+    /// The bytes of a part; none where it isn't there.
+    pub fn get(&self, key: PartKey) -> Option<&[u8]>
         ensures { option_copied result ≡ maps.get self.now key }
     {
         match self.parts.get(&key) {
@@ -100,7 +102,8 @@ impl Parts {
         }
     }
 
-    pub(crate) fn set(&mut self, key: PartKey, bytes: &[u8]) -> Result<(), Memory>
+    /// Sets the bytes of a part; where no memory is found, the parts stay.
+    pub fn set(&mut self, key: PartKey, bytes: &[u8]) -> Result<(), Memory>
         ensures ok { OnOk result (self.new ≡ maps.insert self.old key bytes.now) }
         ensures err { OnErr result (self.new ≡ self.old) }
     {
@@ -131,7 +134,8 @@ impl Parts {
         write_over(part, at, bytes);
     }
 
-    pub(crate) fn next(&self, after: Option<PartKey>) -> Option<PartKey>
+    /// The least key of a part that is above `after`, or of all parts.
+    pub fn next(&self, after: Option<PartKey>) -> Option<PartKey>
         ensures none { IfNone result ((k : PartKey) → IsAbove after k → maps.get self.now k ≡ None) }
         ensures least { IfSome result (λ q. IsAbove after q × IsSome (maps.get self.now q) × ((k : PartKey) → IsAbove after k → part_cmp k q ≡ Less → maps.get self.now k ≡ None)) }
     {
@@ -157,7 +161,8 @@ impl Parts {
         }
     }
 
-    pub(crate) fn next_behind(&self, after: Option<PartKey>) -> Option<(PartKey, &[u8])>
+    /// The part with the least key above `after`, or of all parts, with its bytes.
+    pub fn next_behind(&self, after: Option<PartKey>) -> Option<(PartKey, &[u8])>
         ensures { NextBehind after (maps.entries self.now) (option_map (λ e. (e.0, e.1.now)) result) }
     {
         let start = behind(after);

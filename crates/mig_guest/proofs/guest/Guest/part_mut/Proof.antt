@@ -1,5 +1,6 @@
 -- `part_mut` lends the bytes of the part that `lend_part` lends.
-use Rattle.std.proofs.Common.{◌≡◌, ℕ, List, [], ◌∷◌, ◌++◌, length, take, drop as list_drop, Option, Some, None, MutBor, refl, sym, ap, ◌∙◌, inl, inr, lit<, arith}
+use Rattle.mig_guest.proofs.Common.{◌≡◌, ℕ, List, [], ◌∷◌, ◌++◌, length, take, Option, Some, None, MutBor, refl, sym, ap, ◌∙◌, inl, inr, lit<, arith, option_map, option_copied_mut, PartKey, GuestOf}
+use Rattle.std.proofs.Common.{drop as list_drop}
 use Rattle.std.proofs.raw_atomic.Walks.{proved}
 use Rattle.std.proofs.VecSteps.Element.{Some-of, none_of}
 use base.Logic.{id⊢}
@@ -30,12 +31,9 @@ use denote.Triple.Clauses.{lasts}
 use denote.Triple.Spec.{triple_of}
 use denote.Triple.Walked.{Stays, walk_of, says, stay_dropped, Goes-dropped, Goes-spent_ref, ends_at}
 use denote.Triple.Table.{framed}
-use Rattle.std.specs.Option.{option_map, option_copied_mut}
 use Rattle.std.specs.Vec.{with_items}
 use Rattle.std.specs.FinMap as maps
 use Rattle.std.specs.contracts.option.Option as option
-use Rattle.mig_guest.specs.declared.part_key.PartKey.{PartKey}
-use Rattle.mig_guest.specs.Guests.{GuestOf}
 use Rattle.mig_guest.specs.Lending.{Bytes, part_row, LendsGuestPart, LendsBytes, rewritten, with_part}
 use Rattle.mig_guest.specs.contracts.guest.Guest as guest
 use Rattle.mig_guest.specs.contracts.part_key.PartKey as key

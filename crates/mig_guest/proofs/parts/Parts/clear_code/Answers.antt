@@ -1,8 +1,7 @@
-use Rattle.std.proofs.Common.{◌≡◌, ℕ, ◌==◌, not, refl, sym, ap, ◌∙◌}
+use Rattle.mig_guest.proofs.Common.{◌≡◌, ℕ, not, refl, sym, ap, ◌∙◌, PartKey, PartMap, parts_seen}
+use Rattle.std.proofs.Common.{◌==◌}
 use Rattle.std.proofs.lemmas.Map.Entries.{filter_from_retain_pairs}
-use Rattle.mig_guest.specs.declared.part_key.PartKey.{PartKey}
 use Rattle.std.specs.FinMap as maps
-use Rattle.mig_guest.specs.Parts.{PartMap, parts_seen}
 use Rattle.mig_guest.proofs.PartOrder.{part_total, part_exact}
 use Rattle.mig_guest.proofs.KeyedMaps.{seen_filter}
 use Rattle.mig_guest.proofs.PartMaps.{items}

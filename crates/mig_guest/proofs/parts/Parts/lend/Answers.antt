@@ -1,9 +1,6 @@
-use Rattle.std.proofs.Common.{is_some, sym, ap, ◌∙◌, refl}
-use Rattle.std.specs.Option.{option_map}
+use Rattle.mig_guest.proofs.Common.{is_some, sym, ap, ◌∙◌, refl, option_map, PartKey, PartMap, parts_seen}
 use Rattle.std.specs.BTreeMap as tree
 use Rattle.std.specs.FinMap as maps
-use Rattle.mig_guest.specs.declared.part_key.PartKey.{PartKey}
-use Rattle.mig_guest.specs.Parts.{PartMap, parts_seen}
 use Rattle.mig_guest.specs.Lending.{Bytes}
 use Rattle.mig_guest.proofs.PartMaps.{got, is_some_lent, put_seen}
 use Rattle.mig_guest.proofs.Loans.{same_loan_if}

@@ -1,9 +1,5 @@
-use Rattle.std.proofs.Common.{◌≡◌, Bool, true, List, filter, Option, Some, None, is_some, refl, ap, ◌∙◌}
-use Rattle.std.specs.Ordering.{is_lt}
+use Rattle.mig_guest.proofs.Common.{◌≡◌, Bool, true, List, filter, Option, Some, None, is_some, refl, ap, ◌∙◌, is_lt, PartKey, part_cmp, IsAbove, Part, parts_behind}
 use Rattle.std.specs.FinMap as maps
-use Rattle.mig_guest.specs.declared.part_key.PartKey.{PartKey}
-use Rattle.mig_guest.specs.Order.{part_cmp, IsAbove}
-use Rattle.mig_guest.specs.Parts.{Part, parts_behind}
 use Rattle.mig_guest.proofs.PartOrder.{part_total, part_exact}
 use Rattle.mig_guest.proofs.PartCursor.{less, kept_all}
 use Rattle.mig_guest.proofs.Found.{none_passes, first_passes}

@@ -1,4 +1,4 @@
-use Rattle.std.proofs.Common.{ℕ, List, ◌∷◌, map, sym, ap, ◌∙◌}
+use Rattle.mig_guest.proofs.Common.{ℕ, List, ◌∷◌, map, sym, ap, ◌∙◌}
 use Rattle.std.specs.FinMap as maps
 use Rattle.mig_guest.proofs.KeyedMaps.{shown}
 use Rattle.mig_guest.proofs.PartOrder.{part_total, part_exact}

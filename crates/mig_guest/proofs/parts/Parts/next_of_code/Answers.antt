@@ -1,4 +1,5 @@
-use Rattle.std.proofs.Common.{ℕ, List, ◌∷◌, map, sym, ap, ◌∙◌, eq-eqb, rules}
+use Rattle.mig_guest.proofs.Common.{ℕ, List, ◌∷◌, map, sym, ap, ◌∙◌, rules}
+use Rattle.std.proofs.Common.{eq-eqb}
 use Rattle.mig_guest.proofs.KeyedMaps.{shown}
 use Rattle.mig_guest.proofs.PartOrder.{part_total, part_exact}
 use Rattle.mig_guest.proofs.PartMaps.{items}

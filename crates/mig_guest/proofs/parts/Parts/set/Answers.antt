@@ -1,6 +1,5 @@
-use Rattle.std.proofs.Common.{ap, ◌∙◌}
+use Rattle.mig_guest.proofs.Common.{ap, ◌∙◌, PartMap}
 use Rattle.std.specs.FinMap as maps
-use Rattle.mig_guest.specs.Parts.{PartMap}
 use Rattle.mig_guest.proofs.PartMaps.{put_seen}
 use Rattle.mig_guest.proofs.parts.Parts.set.Goals as goal
 

@@ -1,10 +1,8 @@
-use Rattle.std.proofs.Common.{◌≡◌, ◌+◌, ◌≤◌, length, Some, is_some, sym, ap, ◌∙◌, arith}
-use Rattle.std.specs.Option.{option_map, option_copied_mut}
+use Rattle.mig_guest.proofs.Common.{◌≡◌, ◌+◌, ◌≤◌, length, Some, is_some, sym, ap, ◌∙◌, arith, option_map, option_copied_mut, PartMap}
 use Rattle.std.specs.Vec.{with_items}
 use Rattle.std.proofs.lemmas.List.{with_items_is}
 use Rattle.std.specs.FinMap as maps
 use Rattle.mig_pagestore.specs.Pages.{spliced}
-use Rattle.mig_guest.specs.Parts.{PartMap}
 use Rattle.mig_guest.proofs.KeyedMaps.{is_some-mapped}
 use Rattle.mig_guest.proofs.PartMaps.{got, is_some_lent, part_at, put_seen}
 use Rattle.mig_guest.proofs.parts.Parts.write.Goals as goal
