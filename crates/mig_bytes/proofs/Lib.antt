@@ -8,3 +8,4 @@ pub mod Joins
 pub mod Steps
 pub mod Placed
 pub mod Fronts
+pub mod ByteLists

@@ -1,13 +1,7 @@
 -- Maps with each value changed, by its key.
-use Rattle.std.proofs.Common.{◌≡◌, map, Some, None, refl, sym, ap, ◌∙◌}
-use Rattle.std.specs.declared.cmp.Ordering.{Ordering}
-use Rattle.std.specs.FinMap.{FinMap, IsAntisymmetric, same_map, get-from_entries, get-entries, entries_sorted}
+use Rattle.mig_pvtables.proofs.Common.{◌≡◌, map, Some, None, refl, sym, ap, ◌∙◌, Ordering, FinMap, IsAntisymmetric, same_map, get-from_entries, get-entries, entries_sorted, option_map, IsTotalOrder, find_seen, entries_shown, each_value}
 use Rattle.std.specs.FinMap as maps
-use Rattle.std.specs.Option.{option_map}
-use Rattle.std.specs.Cmp.{IsTotalOrder}
 pub use Rattle.mig_guest.proofs.KeyedMaps.{shown}
-use Rattle.mig_guest.proofs.KeyedMaps.{find_seen, entries_shown}
-use Rattle.mig_pvtables.specs.Blank.{each_value}
 
 module _ {K : Type 0} {R : K → K → Ordering} (o : IsTotalOrder R) (exact : IsAntisymmetric R) where
   module _ {X Y : Type 0} (f : K → X → Y) where
@@ -30,3 +24,10 @@ module _ {K : Type 0} {R : K → K → Ordering} (o : IsTotalOrder R) (exact : I
   pub each_same : {X : Type 0} (f : K → X → X) (m : FinMap R X) → ((k : K) (x : X) → maps.get m k ≡ Some x → f k x ≡ x) → each_value f m ≡ m
   each_same f m same = same_map o exact _ _ (λ q.
       get_each f m q ∙ elim (maps.get m q) as (λ r. maps.get m q ≡ r → option_map (f q) r ≡ r) [ None ↦ λ _. refl | Some x ↦ λ is. ap Some (same q x is) ] refl)
+
+  -- changed alike
+  pub same_each : {X Y : Type 0} (f g : K → X → Y) (m : FinMap R X) → ((k : K) (x : X) → maps.get m k ≡ Some x → f k x ≡ g k x) → each_value f m ≡ each_value g m
+  same_each f g m same = same_map o exact _ _ (λ q.
+      get_each f m q
+      ∙ elim (maps.get m q) as (λ r. maps.get m q ≡ r → option_map (f q) r ≡ option_map (g q) r) [ None ↦ λ _. refl | Some x ↦ λ is. ap Some (same q x is) ] refl
+      ∙ sym (get_each g m q))

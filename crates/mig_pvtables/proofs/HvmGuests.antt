@@ -1,20 +1,9 @@
 -- An HVM guest at the end of its stream: two causes are tried, of its context and of how many frames it has.
-use Rattle.std.proofs.Common.{◌≡◌, ◌∷◌, [], length, Bool, true, false, cond, nat_lt, Some, None, is_none, IsSome, refl, sym, ap, ◌∙◌}
+use Rattle.mig_pvtables.proofs.Common.{◌≡◌, ◌∷◌, [], length, Bool, true, false, cond, nat_lt, Some, None, is_none, IsSome, refl, sym, ap, ◌∙◌, option_or, Missing, TooManyFrames, Hvm, most_frames, IsFew, GuestOf, context_key, IsFormed, blank, blank_of, first_of, faults_for, fault_of_guest, IsWhole}
 use Rattle.std.specs.Prelude.{◌↔◌}
-use Rattle.std.specs.Option.{option_or}
 use Rattle.std.specs.FinMap as maps
 use Rattle.mig_headers.specs.Rows.{first_fault}
 use Rattle.mig_headers.specs.declared.fault.Cause.{Cause}
-use Rattle.mig_headers.specs.declared.fault.Cause.TheVariants.{Missing, TooManyFrames}
-use Rattle.mig_headers.specs.declared.kind.Kind.TheVariants.{Hvm}
-use Rattle.mig_pagetypes.specs.Limits.{most_frames}
-use Rattle.mig_guest.specs.Frames.{IsFew}
-use Rattle.mig_guest.specs.Guests.{GuestOf}
-use Rattle.mig_guest.specs.PartKeys.{context_key}
-use Rattle.mig_guest.specs.Formed.{IsFormed}
-use Rattle.mig_pvtables.specs.Blank.{blank, blank_of}
-use Rattle.mig_pvtables.specs.Faults.{first_of, faults_for, fault_of_guest}
-use Rattle.mig_pvtables.specs.Whole.{IsWhole}
 use Rattle.mig_pvtables.proofs.Searches.{all_none, is_there, are_few}
 
 pub hvm_blank : (g : GuestOf) → g.kind ≡ Hvm → blank g ≡ g

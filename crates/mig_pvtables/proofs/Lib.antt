@@ -1,3 +1,4 @@
+pub mod Common
 pub mod HvmGuests
 pub mod Searches
 pub mod Slots
@@ -5,3 +6,11 @@ pub mod Within
 pub mod EachValue
 pub mod PvGuests
 pub mod PvSample
+pub mod Only
+pub mod BlankBytes
+pub mod BlankFrames
+pub mod BlankParts
+pub mod BlankLists
+pub mod BlankCodes
+pub mod BlankGuests
+pub mod BlankAgain

@@ -1,32 +1,11 @@
 -- The rows of faults find nothing in a PV guest exactly where what they look for isn't there.
-use Rattle.std.proofs.Common.{◌≡◌, ℕ, ◌+◌, ◌*◌, ◌<◌, ◌≤◌, Bool, true, false, cond, not, ◌==◌, List, length, Option, Some, None, is_some, IsSome, refl, sym, ap, ◌∙◌, arith, ◌↔◌}
-use Rattle.std.specs.Prelude.{find, ◌&&◌, ◌||◌, is_none}
-use Rattle.std.specs.List.{range_with_len}
-use Rattle.std.specs.Option.{option_map}
-use Rattle.std.specs.Cmp.{nat_cmp_total}
+use Rattle.mig_pvtables.proofs.Common.{◌≡◌, ℕ, ◌+◌, ◌*◌, ◌<◌, ◌≤◌, Bool, true, false, cond, not, List, length, Option, Some, None, is_some, IsSome, refl, sym, ap, ◌∙◌, arith, ◌↔◌, find, ◌&&◌, ◌||◌, range_with_len, option_map, nat_cmp_total, nat_cmp-IsAntisymmetric, eqb-true, eq-eqb, ltb-true, or_parts, or_from, cond-true, cond_both, Missing, Pv, PageType, level_of, PartKey, Entry, Frame, gdt_ents, FrameOf, FrameMap, GuestOf, PartMap, p2m_key, vcpu_key, shared_key, entry, EachEntry, part_total, part_exact, field_value, is_used, frame_of_field, count_in, listed_in, listed, first_of, type_at, is_notab, is_needed, is_this, is_misplaced, find_p2m, find_slot, find_entry, is_absent, fits_field, misfits, find_field, faults_for, fault_of_guest, IsWhole}
+use Rattle.std.proofs.Common.{◌==◌}
+use Rattle.std.specs.Prelude.{is_none}
 use Rattle.std.specs.FinMap as maps
-use Rattle.std.specs.FinMap.{nat_cmp-IsAntisymmetric}
-use Rattle.std.proofs.lemmas.Bool.{eqb-true, eq-eqb, ltb-true, or_parts, or_from, cond-true, cond_both}
 use Rattle.std.proofs.lemmas.Option.{cond_some}
-use Rattle.mig_headers.specs.declared.fault.Cause.TheVariants.{Missing}
-use Rattle.mig_headers.specs.declared.kind.Kind.TheVariants.{Pv}
-use Rattle.mig_pagetypes.specs.declared.page_type.PageType.{PageType}
 use Rattle.mig_pagetypes.specs.declared.page_type.PageType.TheVariants.{Notab}
-use Rattle.mig_pagetypes.specs.PageTypes.{level_of}
-use Rattle.mig_guest.specs.declared.part_key.PartKey.{PartKey}
-use Rattle.mig_guest.specs.declared.table.Entry.{Entry}
-use Rattle.mig_guest.specs.declared.table.Entry.TheVariants.{Frame}
-use Rattle.mig_guest.specs.Formed.{gdt_ents}
-use Rattle.mig_guest.specs.Frames.{FrameOf, FrameMap}
-use Rattle.mig_guest.specs.Guests.{GuestOf}
-use Rattle.mig_guest.specs.Parts.{PartMap}
-use Rattle.mig_guest.specs.PartKeys.{p2m_key, vcpu_key, shared_key}
-use Rattle.mig_guest.specs.Tables.{entry, EachEntry}
-use Rattle.mig_guest.proofs.PartOrder.{part_total, part_exact}
-use Rattle.mig_pvtables.specs.VcpuContexts.{field_value, is_used, frame_of_field}
-use Rattle.mig_pvtables.specs.P2mFrames.{count_in, listed_in, listed}
-use Rattle.mig_pvtables.specs.Faults.{first_of, slots, type_at, is_notab, is_needed, is_this, is_misplaced, find_p2m, find_slot, find_entry, is_absent, field_numbers, fits_field, misfits, find_field, faults_for, fault_of_guest}
-use Rattle.mig_pvtables.specs.Whole.{IsWhole}
+use Rattle.mig_pvtables.specs.Faults.{slots, field_numbers}
 use Rattle.mig_pvtables.specs.WholePv.{IsEmptyRange, AreP2mFrames, FieldsFit, IsWholePv}
 use Rattle.mig_pvtables.proofs.Searches.{none_of, any_in_range, find_in_range, first_found, all_none, none_mapped, is_there, are_few}
 
@@ -122,7 +101,7 @@ module _ (frames : FrameMap) (parts : PartMap) where
         (λ h. or_from _ _ (ap (λ t. not (is_notab t)) h.0) (search.1 (λ j lt. (not_again j k pfn (listed parts j)).1 (h.1 j lt)))),
       )
 
-  counted : (o : Option (List ℕ)) (k pfn : ℕ) → listed_in o k ≡ Some pfn → k < count_in o
+  pub counted : (o : Option (List ℕ)) (k pfn : ℕ) → listed_in o k ≡ Some pfn → k < count_in o
   counted None k pfn is = cc
   counted (Some bytes) k pfn is = ltb-true k _ (cond_some _ _ _ is).0
 

@@ -1,39 +1,13 @@
 -- A whole PV guest, so that there is one: two frames, of which the first is NOTAB and the only P2M frame, and the second a
 -- level 4 table of zeros, to which vCPU 0's ctrlreg[3] points.
-use Rattle.std.proofs.Common.{◌≡◌, ◌≢◌, ℕ, ◌-◌, ◌*◌, ◌/◌, ◌^◌, ◌<◌, ◌≤◌, true, false, cond, nat_lt, List, [], ◌∷◌, length, Some, None, IsSome, refl, sym, ap, subst, ◌∙◌, inl, inr, arith, le-leb, le-ltb, eq-eqb, lit<, ltb-true}
-use Rattle.std.specs.Prelude.{◌==◌, nat_le}
-use Rattle.std.specs.Option.{option_map}
-use Rattle.std.specs.Ordering.{nat_cmp}
-use Rattle.std.specs.Cmp.{nat_cmp_total}
+use Rattle.mig_pvtables.proofs.Common.{◌≡◌, ◌≢◌, ℕ, ◌-◌, ◌*◌, ◌/◌, ◌^◌, ◌<◌, ◌≤◌, true, false, cond, nat_lt, List, [], ◌∷◌, length, Some, None, IsSome, refl, sym, ap, subst, ◌∙◌, inl, inr, arith, le-leb, lit<, ◌==◌, nat_le, option_map, nat_cmp, nat_cmp_total, nat_cmp-IsAntisymmetric, cases_eq, cases_lt, ne_eqb, Pv, type_has_data, PageType, PartKey, Entry, Blank, NotPresent, Frame, IsPart, IsFormed, IsGuestFrame, gdt_ents, FrameOf, FrameMap, IsFew, is_type_of, GuestOf, long_at, longs, part_cmp, PartMap, p2m_key, vcpu_key, shared_key, EachEntry, IsWithin, is_blank_slot, insert_holds, insert_len, length_longs, long_of_longs, part_total, part_exact, field_place, field_value, is_used, is_marked, frame_of_field, listed_in, listed, type_at, fits_field, IsWhole}
+use Rattle.std.proofs.Common.{le-ltb, eq-eqb, ltb-true}
 use Rattle.std.specs.FinMap as maps
-use Rattle.std.specs.FinMap.{nat_cmp-IsAntisymmetric}
 use Rattle.std.proofs.lemmas.Option.{cond_some}
-use Rattle.std.proofs.lemmas.Bool.{cases_eq, cases_lt, ne_eqb}
-use Rattle.mig_headers.specs.declared.kind.Kind.TheVariants.{Pv}
-use Rattle.mig_pagetypes.specs.PageTypes.{type_has_data}
-use Rattle.mig_pagetypes.specs.declared.page_type.PageType.{PageType}
 use Rattle.mig_pagetypes.specs.declared.page_type.PageType.TheVariants.{Notab, L4Tab, Xtab}
 use Rattle.mig_guest.specs.declared.part_code.PartCode.TheVariants.{P2mFrames, VcpuBasic, SharedInfo}
-use Rattle.mig_guest.specs.declared.part_key.PartKey.{PartKey}
-use Rattle.mig_guest.specs.declared.table.Entry.{Entry}
-use Rattle.mig_guest.specs.declared.table.Entry.TheVariants.{Blank, NotPresent, Frame}
-use Rattle.mig_guest.specs.Formed.{IsPart, IsFormed, IsGuestFrame, gdt_ents}
-use Rattle.mig_guest.specs.Frames.{FrameOf, FrameMap, IsFew, is_type_of}
-use Rattle.mig_guest.specs.Guests.{GuestOf}
-use Rattle.mig_guest.specs.Longs.{long_at, longs}
-use Rattle.mig_guest.specs.Order.{part_cmp}
-use Rattle.mig_guest.specs.Parts.{PartMap}
-use Rattle.mig_guest.specs.PartKeys.{p2m_key, vcpu_key, shared_key}
-use Rattle.mig_guest.specs.Tables.{EachEntry, IsWithin, is_blank_slot, entry_of}
-use Rattle.mig_guest.proofs.Found.{insert_holds}
-use Rattle.mig_guest.proofs.KeyedMaps.{insert_len}
+use Rattle.mig_guest.specs.Tables.{entry_of}
 use Rattle.mig_guest.proofs.Kept.{bare_formed, frames_keep, parts_keep}
-use Rattle.mig_guest.proofs.Longs.{length_longs, long_of_longs}
-use Rattle.mig_guest.proofs.PartOrder.{part_total, part_exact}
-use Rattle.mig_pvtables.specs.VcpuContexts.{field_place, field_value, is_used, is_marked, frame_of_field}
-use Rattle.mig_pvtables.specs.P2mFrames.{listed_in, listed}
-use Rattle.mig_pvtables.specs.Faults.{type_at, fits_field}
-use Rattle.mig_pvtables.specs.Whole.{IsWhole}
 use Rattle.mig_pvtables.specs.WholePv.{AreP2mFrames, FieldsFit}
 use Rattle.mig_pvtables.proofs.PvGuests.{pv_whole}
 

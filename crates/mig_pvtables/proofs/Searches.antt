@@ -1,25 +1,12 @@
 -- Searches in ranges, among entries and along rows of causes: when nothing is found.
-use Rattle.std.proofs.Common.{◌≡◌, ℕ, ◌<◌, ◌≤◌, Bool, true, false, cond, List, [], ◌∷◌, get_or, nat_lt, Option, Some, None, is_none, is_some, IsSome, refl, sym, ap, ◌∙◌, arith, ◌↔◌}
-use Rattle.std.specs.Prelude.{find, ⊤, ◌||◌}
-use Rattle.std.specs.List.{All, range_with_len, list_any}
-use Rattle.std.specs.Option.{option_map, option_or}
-use Rattle.std.specs.Ordering.{eq_by_cmp}
-use Rattle.std.specs.declared.cmp.Ordering.{Ordering}
-use Rattle.std.specs.Cmp.{IsTotalOrder}
+use Rattle.mig_pvtables.proofs.Common.{◌≡◌, ℕ, ◌<◌, ◌≤◌, Bool, true, false, cond, List, [], ◌∷◌, get_or, nat_lt, Option, Some, None, is_none, is_some, IsSome, refl, sym, ap, ◌∙◌, arith, ◌↔◌, find, ⊤, ◌||◌, All, range_with_len, list_any, option_map, option_or, eq_by_cmp, Ordering, IsTotalOrder, FinMap, IsAntisymmetric, get-entries, entries_sorted, false_from_ne_true, ltb-false, le-ltb, TooManyFrames, most_frames, all_found, tied, first_some, first_of}
 use Rattle.std.specs.FinMap as maps
-use Rattle.std.specs.FinMap.{FinMap, IsAntisymmetric, get-entries, entries_sorted}
-use Rattle.std.proofs.lemmas.Bool.{false_from_ne_true, ltb-false, le-ltb}
 use Rattle.std.proofs.lemmas.List.Elements.{All-head, All-tail}
 use Rattle.std.proofs.lemmas.List.Folds.{list_any_at}
 use Rattle.std.proofs.lemmas.List.FromFn.{length-range_with_len, get_or-range_with_len}
 use Rattle.std.proofs.lemmas.List.Recursion.{or_from_places}
 use Rattle.mig_headers.specs.declared.fault.Cause.{Cause}
-use Rattle.mig_headers.specs.declared.fault.Cause.TheVariants.{TooManyFrames}
 use Rattle.mig_headers.proofs.FirstFaults.{both_none}
-use Rattle.mig_pagetypes.specs.Limits.{most_frames}
-use Rattle.mig_guest.proofs.Found.{all_found}
-use Rattle.mig_guest.proofs.KeyedMaps.{tied}
-use Rattle.mig_pvtables.specs.Faults.{first_some, first_of}
 
 pub none_of : {X : Type 0} (o : Option X) → is_some o ≡ false → o ≡ None
 none_of None is = refl

@@ -1,8 +1,5 @@
 -- The first slot of a table that passes a test.
-use Rattle.std.proofs.Common.{◌≡◌, ℕ, zero, suc, ◌+◌, ◌<◌, ◌≤◌, Bool, true, false, cond, Some, None, ap, subst, ◌∙◌, inl, inr, arith, ◌↔◌}
-use Rattle.std.specs.Prelude.{find}
-use Rattle.std.specs.List.{range_with_len}
-use Rattle.std.proofs.lemmas.Bool.{cases_eq}
+use Rattle.mig_pvtables.proofs.Common.{◌≡◌, ℕ, zero, suc, ◌+◌, ◌<◌, ◌≤◌, Bool, true, false, cond, Some, None, ap, subst, ◌∙◌, inl, inr, arith, ◌↔◌, find, range_with_len, cases_eq}
 use Rattle.mig_pvtables.specs.Faults.{slots}
 use Rattle.mig_pvtables.proofs.Searches.{find_in_range}
 

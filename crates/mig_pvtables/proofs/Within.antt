@@ -1,12 +1,6 @@
 -- A table without fault has no superpage and names no frame above top.
-use Rattle.std.proofs.Common.{◌≡◌, ℕ, ◌<◌, true, false, List, Option, Some, None, refl, ◌↔◌}
-use Rattle.std.specs.Option.{option_map}
-use Rattle.std.proofs.lemmas.Bool.{ltb-false, le-ltb}
-use Rattle.mig_guest.specs.declared.table.Entry.{Entry}
-use Rattle.mig_guest.specs.declared.table.Entry.TheVariants.{Blank, NotPresent, Superpage, Frame}
-use Rattle.mig_guest.specs.Tables.{entry, IsWithin}
+use Rattle.mig_pvtables.proofs.Common.{◌≡◌, ℕ, ◌<◌, true, false, List, Option, Some, None, refl, ◌↔◌, option_map, ltb-false, le-ltb, Entry, Blank, NotPresent, Superpage, Frame, entry, IsWithin, is_superpage, names_above, first_superpage, first_outside, fault_of_page_table}
 use Rattle.mig_headers.proofs.FirstFaults.{both_none}
-use Rattle.mig_pvtables.specs.Tables.{is_superpage, names_above, first_superpage, first_outside, fault_of_page_table}
 use Rattle.mig_pvtables.proofs.Slots.{no_slot}
 
 within : (top : ℕ) (e : Entry) → is_superpage e ≡ false → names_above top e ≡ false → IsWithin top e

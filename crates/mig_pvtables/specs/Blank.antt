@@ -1,8 +1,9 @@
 -- The blank form of a guest: nothing in it is the hypervisor's own, or is made anew where the guest is restored.
-use Rattle.std.specs.Prelude.{ℕ, List, map, replicate, Option, Some, None, ◌==◌, if◌then◌else◌}
+use Rattle.std.specs.Prelude.{◌≡◌, ℕ, List, map, replicate, Option, Some, None, ◌==◌, if◌then◌else◌}
 use Rattle.std.specs.Option.{option_map}
 use Rattle.std.specs.declared.cmp.Ordering.{Ordering}
 use Rattle.std.specs.FinMap as maps
+use Rattle.mig_bytes.specs.Bytes.{AreBytes}
 use Rattle.mig_headers.specs.declared.kind.Kind.{Kind}
 use Rattle.mig_headers.specs.declared.kind.Kind.TheVariants.{Pv, Hvm}
 use Rattle.mig_pagetypes.specs.PageTypes.{level_of}
@@ -41,3 +42,8 @@ blank_of Pv g = record g { frames = each_value (blanked_frame g.parts) g.frames;
 -- the blank form of a guest: an HVM guest is its own
 abbrev pub blank : GuestOf → GuestOf
 blank g = blank_of g.kind g
+
+-- each number in a page or a part is a byte
+pub record IsOfBytes (g : GuestOf) : Type 0 where
+  pub pages : (pfn : ℕ) (frame : FrameOf) (page : List ℕ) → maps.get g.frames pfn ≡ Some frame → frame.page ≡ Some page → AreBytes page
+  pub parts : (key : PartKey) (bytes : List ℕ) → maps.get g.parts key ≡ Some bytes → AreBytes bytes

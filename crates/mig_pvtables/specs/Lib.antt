@@ -6,3 +6,4 @@ pub mod Tables
 pub mod Whole
 pub mod WholePv
 pub mod View
+pub mod BlankSteps

@@ -1,7 +1,4 @@
-use Rattle.std.proofs.Common.{sym, ap, ◌∙◌}
-use Rattle.std.proofs.lemmas.Bool.{lt-ltb}
-use Rattle.mig_guest.specs.Tables.{entry}
-use Rattle.mig_pvtables.specs.Tables.{names_above}
+use Rattle.mig_pvtables.proofs.Common.{sym, ap, ◌∙◌, lt-ltb, entry, names_above}
 use Rattle.mig_pvtables.proofs.Slots.{first_slot}
 use Rattle.mig_pvtables.proofs.table.outside_slot.Goals as goal
 

@@ -1,6 +1,4 @@
-use Rattle.std.proofs.Common.{sym, ap, ◌∙◌}
-use Rattle.mig_guest.specs.Tables.{entry}
-use Rattle.mig_pvtables.specs.Tables.{is_superpage}
+use Rattle.mig_pvtables.proofs.Common.{sym, ap, ◌∙◌, entry, is_superpage}
 use Rattle.mig_pvtables.proofs.Slots.{first_slot}
 use Rattle.mig_pvtables.proofs.table.superpage_slot.Goals as goal
 

@@ -1,6 +1,4 @@
-use Rattle.std.proofs.Common.{◌≡◌, ℕ, ◌<◌, false}
-use Rattle.mig_guest.specs.Tables.{entry}
-use Rattle.mig_pvtables.specs.Tables.{is_superpage}
+use Rattle.mig_pvtables.proofs.Common.{◌≡◌, ℕ, ◌<◌, false, entry, is_superpage}
 use Rattle.mig_pvtables.proofs.table.superpage_slot.Given as goal
 
 abbrev pub invariant-loop-slot : goal.invariant-loop-slot

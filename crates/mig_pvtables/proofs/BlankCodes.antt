@@ -1,0 +1,168 @@
+-- The parts of a code, one after another.
+use Rattle.mig_pvtables.proofs.Common.{◌≡◌, ℕ, ◌<◌, Bool, true, false, cond, not, List, [], ◌∷◌, length, filter, Option, Some, None, IfSome, refl, sym, ap, subst, ◌∙◌, arith, ◌&&◌, ◌==◌, option_map, eq_by_cmp, is_lt, is_eq, ordering_reverse, Ordering, and_parts, and_from, eqb-true, eq-eqb, length-map, PartKey, GuestOf, part_cmp, Part, PartMap, parts_after, first_passes, none_passes, shown, kept_shown, part_total, part_exact, each_value, only, blanked_code, is_reached, blanked_up_to}
+use Rattle.std.specs.declared.cmp.Ordering.TheVariants.{Less, Equal, Greater}
+use Rattle.std.specs.FinMap as maps
+use Rattle.mig_guest.proofs.PartCursor.{kept_both, less, not_itself}
+use Rattle.mig_pvtables.proofs.EachValue.{get_each, entries_each, each_same, same_each}
+use Rattle.mig_pvtables.proofs.Only.{by_key, then_only}
+use Rattle.mig_pvtables.proofs.BlankParts.{WithParts, OnlyPart}
+
+-- ---- the order of the keys
+
+is_above : Option PartKey → PartKey → Bool
+is_above None key = true
+is_above (Some after) key = is_lt (part_cmp after key)
+
+reached_is : (after : Option PartKey) (key : PartKey) → is_reached after key ≡ not (is_above after key)
+unfolding is_above
+reached_is None key = refl
+reached_is (Some after) key = refl
+
+above_up : (after : Option PartKey) (x y : PartKey) → is_above after x ≡ true → is_lt (part_cmp x y) ≡ true → is_above after y ≡ true
+unfolding is_above
+above_up None x y up l = refl
+above_up (Some after) x y up l = ap is_lt (part_total.trans after x y (less _ up) (less _ l))
+
+-- one of two keys that aren't the same is below the other
+other_below : (q key : PartKey) → eq_by_cmp part_cmp q key ≡ false → (part_cmp q key ≡ Less → ⊥) → is_lt (part_cmp key q) ≡ true
+other_below q key ne not_less = by_case (part_cmp q key) refl
+  where
+    by_case : (r : Ordering) → part_cmp q key ≡ r → is_lt (part_cmp key q) ≡ true
+    by_case Less e = absurd (not_less e)
+    by_case Equal e = let no : true ≡ false = sym (ap is_eq e) ∙ ne in cc
+    by_case Greater e = ap is_lt (part_total.antisymm key q ∙ ap ordering_reverse e)
+
+-- ---- the parts of a code behind a key, by one test
+
+module _ (code : ℕ) where
+  is_next : Option PartKey → PartKey → Bool
+  is_next after key = (key.code == code) && is_above after key
+
+  by_test : {X : Type 0} (after : Option PartKey) (es : List (PartKey × X)) → parts_after code after es ≡ filter (λ e. is_next after e.0) es
+  unfolding is_next is_above
+  by_test None es = sym (true_too es)
+    where
+      true_too : {X : Type 0} (es : List (PartKey × X)) → filter (λ e. (e.0.code == code) && true) es ≡ filter (λ e. e.0.code == code) es
+      true_too [] = refl
+      true_too (e ∷ es) = elim (e.0.code == code) as (λ b. cond (b && true) (e ∷ filter (λ e. (e.0.code == code) && true) es) (filter (λ e. (e.0.code == code) && true) es) ≡ cond b (e ∷ filter (λ e. e.0.code == code) es) (filter (λ e. e.0.code == code) es)) [
+        | true ↦ ap (λ l. e ∷ l) (true_too es)
+        | false ↦ true_too es
+      ]
+  by_test (Some k) es = kept_both (λ e. is_lt (part_cmp k e.0)) (λ e. e.0.code == code) es
+
+  next_parts : (after : Option PartKey) (key : PartKey) → is_next after key ≡ true → (key.code ≡ code) × (is_above after key ≡ true)
+  unfolding is_next
+  next_parts after key is = let (a, b) = and_parts (key.code == code) (is_above after key) is in (eqb-true key.code code a, b)
+
+  next_from : (after : Option PartKey) (key : PartKey) → (key.code == code) ≡ true → is_above after key ≡ true → is_next after key ≡ true
+  unfolding is_next
+  next_from after key a b = and_from (key.code == code) (is_above after key) a b
+
+module _ (code : ℕ) (f : List ℕ → List ℕ) (m : PartMap) where
+  none_reached : each_value (blanked_up_to code f None) m ≡ m
+  none_reached = each_same part_total part_exact (blanked_up_to code f None) m (λ q x is. by_code (q.code == code) x)
+    where
+      by_code : (b : Bool) (x : List ℕ) → cond (b && false) (f x) x ≡ x
+      by_code true x = refl
+      by_code false x = refl
+
+  module _ (after : Option PartKey) where
+    abbrev now : PartMap
+    now = each_value (blanked_up_to code f after) m
+
+    -- there are as many parts as before
+    same_count : (k : Option PartKey) → length (parts_after code k (maps.entries now)) ≡ length (parts_after code k (maps.entries m))
+    same_count k =
+        let es = maps.entries m in let F = blanked_up_to code f after in
+        ap length (by_test code k (maps.entries now) ∙ ap (filter (λ e. is_next code k e.0)) (entries_each part_total part_exact F m) ∙ kept_shown part_total part_exact F (is_next code k) es)
+        ∙ length-map (filter (λ e. is_next code k e.0) es) (shown F) ∙ ap length (sym (by_test code k es))
+
+    there : (q : PartKey) (x : List ℕ) → maps.get m q ≡ Some x → maps.get now q ≡ None → ⊥
+    there q x is none = let no : None ≡ Some (blanked_up_to code f after q x) = sym none ∙ get_each part_total part_exact (blanked_up_to code f after) m q ∙ ap (option_map (blanked_up_to code f after q)) is in cc
+
+    all_reached : parts_after code after (maps.entries now) ≡ [] → now ≡ each_value (blanked_code code f) m
+    all_reached none = same_each part_total part_exact (blanked_up_to code f after) (blanked_code code f) m (λ q x is.
+        by_code q x (q.code == code) refl (is_above after q) refl
+        (λ t. there q x is (none_passes part_total part_exact now (is_next code after) (sym (by_test code after (maps.entries now)) ∙ none) q t)))
+      where
+        by_code : (q : PartKey) (x : List ℕ) (b : Bool) → (q.code == code) ≡ b → (u : Bool) → is_above after q ≡ u → (is_next code after q ≡ true → ⊥) → cond (b && is_reached after q) (f x) x ≡ cond b (f x) x
+        by_code q x false e u a never = refl
+        by_code q x true e true a never = absurd (never (next_from code after q e a))
+        by_code q x true e false a never = ap (λ r. cond r (f x) x) (reached_is after q ∙ ap not a)
+
+    module _ (e : Part) (next : parts_after code after (maps.entries now) ≡ e ∷ parts_after code (Some e.0) (maps.entries now)) where
+      found : (is_next code after e.0 ≡ true) × (maps.get now e.0 ≡ Some e.1) × ((k : PartKey) → is_next code after k ≡ true → part_cmp k e.0 ≡ Less → maps.get now k ≡ None)
+      found = first_passes part_total part_exact now (is_next code after) e (parts_after code (Some e.0) (maps.entries now)) (sym (by_test code after (maps.entries now)) ∙ next)
+
+      next_code : e.0.code ≡ code
+      next_code = (next_parts code after e.0 found.0).0
+
+      fewer : length (parts_after code (Some e.0) (maps.entries m)) < length (parts_after code after (maps.entries m))
+      fewer = omega (arith, same_count after, same_count (Some e.0), ap length next)
+
+      -- another key of the code is reached as before
+      as_before : (q : PartKey) (x : List ℕ) → maps.get m q ≡ Some x → eq_by_cmp part_cmp q e.0 ≡ false → (q.code == code) ≡ true → is_reached after q ≡ is_reached (Some e.0) q
+      as_before q x is ne coded = reached_is after q ∙ ap not (by_case (is_above after q) refl)
+        where
+          by_case : (b : Bool) → is_above after q ≡ b → b ≡ is_lt (part_cmp e.0 q)
+          by_case true up = sym (other_below q e.0 ne (λ l. there q x is (found.2 q (next_from code after q coded up) l)))
+          by_case false down = by_order (is_lt (part_cmp e.0 q)) refl
+            where
+              by_order : (b : Bool) → is_lt (part_cmp e.0 q) ≡ b → false ≡ b
+              by_order false l = refl
+              by_order true l = sym down ∙ above_up after e.0 q (next_parts code after e.0 found.0).1 l
+
+      next_reached : each_value (only part_cmp e.0 f) now ≡ each_value (blanked_up_to code f (Some e.0)) m
+      next_reached = then_only part_total part_exact m e.0 f (blanked_up_to code f after) (blanked_up_to code f (Some e.0)) (λ q x is.
+          by_key part_total part_exact (λ b. cond b (f (blanked_up_to code f after q x)) (blanked_up_to code f after q x) ≡ blanked_up_to code f (Some e.0) q x) q e.0
+          (λ same. subst (λ k. f (blanked_up_to code f after k x) ≡ blanked_up_to code f (Some e.0) k x) (sym same) (here x))
+          (λ ne. by_code q x is ne (q.code == code) refl))
+        where
+          here : (x : List ℕ) → f (blanked_up_to code f after e.0 x) ≡ blanked_up_to code f (Some e.0) e.0 x
+          here x =
+              let coded : (e.0.code == code) ≡ true = eq-eqb e.0.code code next_code in
+              let fresh : is_reached after e.0 ≡ false = reached_is after e.0 ∙ ap not (next_parts code after e.0 found.0).1 in
+              (λ i. f (cond (coded i && fresh i) (f x) x)) ∙ sym (λ i. cond (coded i && not (not_itself part_total e.0 i)) (f x) x)
+
+          by_code : (q : PartKey) (x : List ℕ) → maps.get m q ≡ Some x → eq_by_cmp part_cmp q e.0 ≡ false → (b : Bool) → (q.code == code) ≡ b → cond (b && is_reached after q) (f x) x ≡ cond (b && is_reached (Some e.0) q) (f x) x
+          by_code q x is ne false coded = refl
+          by_code q x is ne true coded = ap (λ r. cond r (f x) x) (as_before q x is ne coded)
+
+-- ---- of a guest
+
+module _ (g : GuestOf) (code : ℕ) (f : List ℕ → List ℕ) where
+  pub code_start : g ≡ WithParts g (each_value (blanked_up_to code f None) g.parts)
+  code_start = ap (WithParts g) (sym (none_reached code f g.parts))
+
+  module _ (after : Option PartKey) (now : GuestOf) (is : now ≡ WithParts g (each_value (blanked_up_to code f after) g.parts)) where
+    abbrev there_now : PartMap
+    there_now = each_value (blanked_up_to code f after) g.parts
+
+    pub code_end : parts_after code after (maps.entries now.parts) ≡ [] → now ≡ WithParts g (each_value (blanked_code code f) g.parts)
+    code_end none = is ∙ ap (WithParts g) (all_reached code f g.parts after (ap (λ (s : GuestOf). parts_after code after (maps.entries s.parts)) (sym is) ∙ none))
+
+    module _ (e : Part) (next : parts_after code after (maps.entries now.parts) ≡ e ∷ parts_after code (Some e.0) (maps.entries now.parts)) where
+      next_now : parts_after code after (maps.entries there_now) ≡ e ∷ parts_after code (Some e.0) (maps.entries there_now)
+      next_now = subst (λ (s : GuestOf). parts_after code after (maps.entries s.parts) ≡ e ∷ parts_after code (Some e.0) (maps.entries s.parts)) is next
+
+      pub code_next : (new : GuestOf) → new ≡ OnlyPart f now e.0 → new ≡ WithParts g (each_value (blanked_up_to code f (Some e.0)) g.parts)
+      code_next new one = one ∙ ap (λ (s : GuestOf). OnlyPart f s e.0) is ∙ ap (WithParts g) (next_reached code f g.parts after e next_now)
+
+      pub code_is : e.0.code ≡ code
+      code_is = next_code code f g.parts after e next_now
+
+      pub code_fewer : length (parts_after code (Some e.0) (maps.entries g.parts)) < length (parts_after code after (maps.entries g.parts))
+      code_fewer = fewer code f g.parts after e next_now
+
+      -- a length that all parts of the code have, and keep
+      pub code_long : (n : ℕ) → ((x : List ℕ) → length (f x) ≡ n) → ((key : PartKey) (x : List ℕ) → maps.get g.parts key ≡ Some x → key.code ≡ code → length x ≡ n) → IfSome (maps.get now.parts e.0) (λ x. length x ≡ n)
+      code_long n keeps long =
+          subst (λ o. IfSome o (λ x. length x ≡ n)) (sym (ap (λ (s : GuestOf). maps.get s.parts e.0) is ∙ get_each part_total part_exact (blanked_up_to code f after) g.parts e.0))
+          (elim (maps.get g.parts e.0) as (λ o. maps.get g.parts e.0 ≡ o → IfSome (option_map (blanked_up_to code f after e.0) o) (λ x. length x ≡ n)) [
+            | None ↦ λ none. tt
+            | Some x ↦ λ has. either ((e.0.code == code) && is_reached after e.0) x (long e.0 x has code_is)
+          ] refl)
+        where
+          either : (b : Bool) (x : List ℕ) → length x ≡ n → length (cond b (f x) x) ≡ n
+          either true x size = keeps x
+          either false x size = size

@@ -1,0 +1,55 @@
+-- The steps by which a guest comes to its blank form: one frame or part after another.
+use Rattle.std.specs.Prelude.{ℕ, Bool, false, List, Option, None, Some, ◌==◌, ◌&&◌, not, nat_lt, is_some, if◌then◌else◌}
+use Rattle.std.specs.List.{list_any, range_with_len}
+use Rattle.std.specs.Ordering.{eq_by_cmp, is_lt}
+use Rattle.std.specs.Option.{option_map}
+use Rattle.std.specs.declared.cmp.Ordering.{Ordering}
+use Rattle.mig_pagetypes.specs.PageTypes.{level_of}
+use Rattle.mig_guest.specs.declared.part_key.PartKey.{PartKey}
+use Rattle.mig_guest.specs.Frames.{FrameOf}
+use Rattle.mig_guest.specs.Order.{part_cmp}
+use Rattle.mig_guest.specs.Parts.{PartMap}
+use Rattle.mig_pvtables.specs.Blank.{zero_page, blanked_page}
+use Rattle.mig_pvtables.specs.Faults.{is_this}
+use Rattle.mig_pvtables.specs.P2mFrames.{listed, place_of}
+
+-- the value of one key changed
+abbrev pub only : {K X : Type 0} → (K → K → Ordering) → K → (X → X) → K → X → X
+only R key f q x = if eq_by_cmp R q key then f x else x
+
+-- a frame whose page is zeros, where it has one
+abbrev pub with_zero_page : FrameOf → FrameOf
+with_zero_page frame = record { type = frame.type; page = option_map (λ _. zero_page) frame.page }
+
+-- a frame whose page is in its blank form, where it is a table
+abbrev pub with_table_blanked : FrameOf → FrameOf
+with_table_blanked frame = record { type = frame.type; page = blanked_page None (level_of frame.type) frame.page }
+
+-- the frames of the numbers that are listed changed
+abbrev pub where_listed : PartMap → (FrameOf → FrameOf) → ℕ → FrameOf → FrameOf
+where_listed parts f pfn frame = if is_some (place_of parts pfn) then f frame else frame
+
+-- whether one of the first k numbers listed is this one
+abbrev pub is_listed_before : PartMap → ℕ → ℕ → Bool
+is_listed_before parts k pfn = list_any (λ j. is_this pfn (listed parts j)) (range_with_len 0 k)
+
+-- the parts of a code changed
+abbrev pub blanked_code : ℕ → (List ℕ → List ℕ) → PartKey → List ℕ → List ℕ
+blanked_code code f key bytes = if key.code == code then f bytes else bytes
+
+-- whether the key isn't above another
+abbrev pub is_reached : Option PartKey → PartKey → Bool
+is_reached None key = false
+is_reached (Some after) key = not (is_lt (part_cmp after key))
+
+-- the parts of a code changed that aren't above a key
+abbrev pub blanked_up_to : ℕ → (List ℕ → List ℕ) → Option PartKey → PartKey → List ℕ → List ℕ
+blanked_up_to code f after key bytes = if (key.code == code) && is_reached after key then f bytes else bytes
+
+-- the frames below a number changed
+abbrev pub blanked_below : ℕ → (FrameOf → FrameOf) → ℕ → FrameOf → FrameOf
+blanked_below n f pfn frame = if nat_lt pfn n then f frame else frame
+
+-- the frames that are among the first k listed changed
+abbrev pub blanked_listed : PartMap → ℕ → (FrameOf → FrameOf) → ℕ → FrameOf → FrameOf
+blanked_listed parts k f pfn frame = if is_listed_before parts k pfn then f frame else frame

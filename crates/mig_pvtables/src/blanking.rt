@@ -1,0 +1,205 @@
+ghost use Rattle.std.specs.Prelude.{◌≡◌, ◌≤◌, ℕ, List, ◌+◌, ◌<◌, ◌^◌, length, get_or, IfSome, IsSome};
+ghost use Rattle.std.specs.Ordering.{nat_cmp};
+ghost use Rattle.std.specs.FinMap as maps;
+ghost use Rattle.byteorder.specs.Endian.{little_bytes};
+ghost use Rattle.mig_bytes.specs.Fields.{with_field};
+ghost use Rattle.mig_guest.specs.declared.part_key.PartKey.{PartKey};
+ghost use Rattle.mig_guest.specs.Order.{part_cmp};
+ghost use Rattle.mig_guest.specs.PartCodes.{code_number};
+ghost use Rattle.mig_guest.specs.PartKeys.{p2m_key as list_key, shared_key as page_key};
+ghost use Rattle.mig_guest.specs.Tables.{blanked_table};
+ghost use Rattle.mig_pvtables.specs.Blank.{each_value, zero_page as zeros, blank as blank_form};
+ghost use Rattle.mig_pvtables.specs.BlankSteps.{only, with_table_blanked, with_zero_page, where_listed, blanked_code};
+ghost use Rattle.mig_pvtables.specs.P2mFrames.{listed};
+ghost use Rattle.mig_pvtables.specs.VcpuContexts.{blanked_value, blanked_context, blanked_shared};
+ghost use Rattle.mig_pvtables.specs.Whole.{IsWhole};
+
+use mig_bytes::{put_u64_le, u64_le};
+use mig_guest::{Guest, PartCode, PartKey};
+use mig_headers::Kind;
+
+/// The code of the parts that are contexts of vCPUs.
+const VCPU_BASIC: u32 = 4;
+
+/// Where ctrlreg[1], the root of user space, stands in a vCPU's context.
+const USER_ROOT: usize = 4992;
+
+/// Where ctrlreg[3], the root, stands.
+const ROOT: usize = 5008;
+
+/// Where SHARED_INFO has pfn_to_mfn_frame_list_list, the frame of the root of the P2M lists.
+const FRAME_LIST_LIST: usize = 3096;
+
+/// The key of the only part of its code.
+fn sole_key(code: PartCode) -> PartKey
+    ensures { result ≡ record { code = code_number code; key1 = 0; key2 = 0 } }
+{
+    PartKey {
+        code: code.number(),
+        key1: 0,
+        key2: 0,
+    }
+}
+
+/// Sets the hypervisor's slots of a level 4 table, 256 to 271, to 0; a table of another level stays.
+#[tactic(auto, using(crate::proofs::BlankBytes::level_4_blanked, crate::proofs::BlankBytes::other_blanked))]
+fn blank_table(page: &mut [u8; 4096], level: u8)
+    ensures { page.new ≡ blanked_table level page.old }
+{
+    if level == 4 {
+        page[2048..2176].fill(0);
+    }
+}
+
+/// Brings the table of this frame to its blank form, where the frame is a table.
+#[tactic(auto, using(crate::proofs::BlankFrames::no_frame, crate::proofs::BlankFrames::no_table, crate::proofs::BlankFrames::no_table_page, crate::proofs::BlankFrames::table_written))]
+fn blank_frame(guest: &mut Guest, pfn: u64)
+    ensures { guest.new ≡ record guest.old { frames = each_value (only nat_cmp pfn with_table_blanked) guest.old.frames } }
+{
+    let Some(kind) = guest.frame(pfn) else {
+        return;
+    };
+    let Some(level) = kind.table_level() else {
+        return;
+    };
+    if let Some(page) = guest.page_mut(pfn) {
+        blank_table(page, level);
+    }
+}
+
+/// Brings each table to its blank form.
+fn blank_tables(guest: &mut Guest)
+    ensures { guest.new ≡ record guest.old { frames = each_value (λ _ frame. with_table_blanked frame) guest.old.frames } }
+{
+    let mut from = 0;
+    while let Some(pfn) = guest.next_frame(from) {
+        blank_frame(guest, pfn);
+        from = pfn + 1;
+    }
+}
+
+/// The page becomes zeros.
+fn clear(page: &mut [u8; 4096])
+    ensures { page.new ≡ zeros }
+{
+    page.fill(0);
+}
+
+/// The page of this frame becomes zeros, where it has one.
+#[tactic(auto, using(crate::proofs::BlankFrames::zeroed, crate::proofs::BlankFrames::nothing_zeroed))]
+fn zero_page(guest: &mut Guest, pfn: u64)
+    ensures { guest.new ≡ record guest.old { frames = each_value (only nat_cmp pfn with_zero_page) guest.old.frames } }
+{
+    if let Some(page) = guest.page_mut(pfn) {
+        clear(page);
+    }
+}
+
+/// The PFN of P2M frame `index`, where there are so many.
+fn listed_pfn(guest: &Guest, index: usize) -> Option<u64>
+    ensures value { result ≡ listed guest.now.parts index }
+    ensures small { IfSome result (λ _. index < 2 ^ 61) }
+{
+    let list = guest.part(sole_key(PartCode::P2mFrames))?;
+    if index < list.len() / 8 {
+        Some(u64_le(list, 8 * index))
+    } else {
+        None
+    }
+}
+
+/// The pages of the P2M frames become zeros.
+fn zero_p2m_frames(guest: &mut Guest)
+    ensures { guest.new ≡ record guest.old { frames = each_value (where_listed guest.old.parts with_zero_page) guest.old.frames } }
+{
+    let mut index = 0;
+    while let Some(pfn) = listed_pfn(guest, index) {
+        zero_page(guest, pfn);
+        index += 1;
+    }
+}
+
+/// Does nothing. That bytes are below 256 is what a part's other numbers stay by, where it is read and written as numbers
+/// of 8 bytes.
+fn are_small(bytes: &[u8])
+    ensures { (i : ℕ) → get_or bytes.now i 0 < 256 }
+{}
+
+/// Puts a number of 8 bytes into a part, from this byte on.
+fn put_long(guest: &mut Guest, key: PartKey, at: usize, value: u64)
+    requires there { IsSome (maps.get guest.old.parts key) }
+    requires range { IfSome (maps.get guest.old.parts key) (λ part. at + 8 ≤ length part) }
+    ensures { guest.new ≡ record guest.old { parts = each_value (only part_cmp key (λ part. with_field part at (little_bytes 8 value))) guest.old.parts } }
+{
+    let mut bytes = [0; 8];
+    put_u64_le(&mut bytes, 0, value);
+    guest.write_part(key, at, &bytes);
+}
+
+/// The blank form of ctrlreg[1]: its frame and bit 0, where bit 0 says that a stream uses it.
+#[tactic(auto, unfolding(crate::specs::VcpuContexts::blanked_value))]
+fn blank_user_root(value: u64) -> u64
+    ensures { result ≡ blanked_value 624 value }
+{
+    if value % 2 == 1 {
+        value / 4096 * 4096 + 1
+    } else {
+        0
+    }
+}
+
+/// Brings the context of this key to its blank form.
+fn blank_vcpu(guest: &mut Guest, key: PartKey)
+    requires { IfSome (maps.get guest.old.parts key) (λ context. length context ≡ 5168) }
+    ensures { guest.new ≡ record guest.old { parts = each_value (only part_cmp key blanked_context) guest.old.parts } }
+{
+    let Some(context) = guest.part(key) else {
+        return;
+    };
+    are_small(context);
+    let root = u64_le(context, ROOT) / 4096 * 4096;
+    let user_root = blank_user_root(u64_le(context, USER_ROOT));
+    put_long(guest, key, ROOT, root);
+    put_long(guest, key, USER_ROOT, user_root);
+}
+
+/// Brings each vCPU's context to its blank form.
+fn blank_vcpus(guest: &mut Guest)
+    requires { (key : PartKey) (context : List ℕ) → maps.get guest.old.parts key ≡ Some context → key.code ≡ 4 → length context ≡ 5168 }
+    ensures { guest.new ≡ record guest.old { parts = each_value (blanked_code 4 blanked_context) guest.old.parts } }
+{
+    let mut after = None;
+    while let Some((key, _)) = guest.next_of_code(VCPU_BASIC, after) {
+        blank_vcpu(guest, key);
+        after = Some(key);
+    }
+}
+
+/// Bytes 3096 to 3103 of SHARED_INFO become 0.
+fn blank_shared_info(guest: &mut Guest)
+    requires { IfSome (maps.get guest.old.parts page_key) (λ page. length page ≡ 4096) }
+    ensures { guest.new ≡ record guest.old { parts = each_value (only part_cmp page_key blanked_shared) guest.old.parts } }
+{
+    let key = sole_key(PartCode::SharedInfo);
+    if let Some(page) = guest.part(key) {
+        are_small(page);
+        put_long(guest, key, FRAME_LIST_LIST, 0);
+    }
+}
+
+/// Brings a guest to its blank form: nothing in it is the hypervisor's own, or is made anew where the guest is restored
+/// (P2M frames are zero pages, the hypervisor's slots of level 4 tables are 0, ...). Takes no memory.
+pub fn blank(guest: &mut Guest)
+    requires { IsWhole guest.old }
+    ensures { guest.new ≡ blank_form guest.old }
+{
+    match guest.kind() {
+        Kind::Hvm => {}
+        Kind::Pv => {
+            blank_tables(guest);
+            zero_p2m_frames(guest);
+            blank_vcpus(guest);
+            blank_shared_info(guest);
+        }
+    }
+}
