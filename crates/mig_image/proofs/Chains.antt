@@ -1,16 +1,9 @@
 -- Entries one behind the other, each as it may stand behind those before it: they are read as they are spelled, what is
 -- read is spelled, and they are the entries of the map that they make.
-use Rattle.std.proofs.Common.{◌≡◌, ℕ, zero, suc, ◌+◌, false, List, [], ◌∷◌, ◌++◌, length, refl, sym, ap, subst, ◌∙◌, append_assoc, append-nil}
-use Rattle.std.specs.Prelude.{T}
-use Rattle.std.specs.List.{flat_map}
-use Rattle.std.specs.Cmp.{IsTotalOrder}
-use Rattle.std.specs.declared.cmp.Ordering.{Ordering}
+use Rattle.mig_image.proofs.Common.{◌≡◌, ℕ, zero, suc, ◌+◌, false, List, [], ◌∷◌, ◌++◌, length, refl, sym, ap, subst, ◌∙◌, append_assoc, append-nil, T, flat_map, IsTotalOrder, Ordering, FinMap, is_sorted, Judged, placed, Passes, both_pass, same_passes, placed_passes, then_passes, Bytes, bytes_back}
 use Rattle.std.specs.FinMap as maps
-use Rattle.std.specs.FinMap.{FinMap, is_sorted}
-use Rattle.mig_bytes.specs.Judged.{Judged, steps, placed}
-use Rattle.mig_bytes.specs.Judged.Judged.{Passes}
-use Rattle.mig_bytes.proofs.Joins.{both_pass, same_passes, placed_passes, then_passes}
-use Rattle.mig_image.proofs.FieldBytes.{Bytes, bytes_back, regroup}
+use Rattle.mig_bytes.specs.Judged.{steps}
+use Rattle.mig_image.proofs.FieldBytes.{regroup}
 use Rattle.mig_image.proofs.InOrder.{has_from, entries_behind, front_below, no_entries}
 
 module _ {K X : Type 0} {R : K → K → Ordering} where

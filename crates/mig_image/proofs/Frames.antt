@@ -1,34 +1,11 @@
 -- The frames of an image: what they spell is read, what is read they spell, and both are the frames of a valid host.
-use Rattle.std.proofs.Common.{◌≡◌, ℕ, ◌+◌, ◌*◌, ◌/◌, ◌%◌, ◌^◌, ◌<◌, ◌≤◌, Bool, false, cond, not, nat_eq, nat_le, List, [], ◌++◌, length, Option, Some, None, is_some, unwrap_or, refl, sym, ap, ◌∙◌, arith, append_assoc, ◌∷◌, true, subst, length-append}
-use Rattle.std.specs.Prelude.{◌||◌, ◌==◌, T}
-use Rattle.std.specs.List.{list_any}
-use Rattle.std.proofs.lemmas.Bool.{not-false, or_parts, or_from, leb-false, lt-leb, ne_eqb, eqb-true, eqb-false}
-use Rattle.std.proofs.lemmas.Grind.{common_steps}
-use Rattle.std.specs.Cmp.{nat_cmp_total}
-use Rattle.std.specs.Ordering.{nat_cmp, is_lt}
-use Rattle.std.specs.FinMap.{nat_cmp-IsAntisymmetric}
-use Rattle.std.proofs.lemmas.Option.{none-some, same_Some}
+use Rattle.mig_image.proofs.Common.{◌≡◌, ℕ, ◌+◌, ◌*◌, ◌/◌, ◌%◌, ◌^◌, ◌<◌, ◌≤◌, Bool, false, cond, not, nat_eq, nat_le, List, [], ◌++◌, length, Option, Some, None, is_some, refl, sym, ap, ◌∙◌, arith, append_assoc, ◌∷◌, true, subst, length-append, ◌||◌, ◌==◌, T, list_any, not-false, or_parts, or_from, leb-false, lt-leb, ne_eqb, eqb-true, eqb-false, common_steps, nat_cmp_total, nat_cmp, is_lt, nat_cmp-IsAntisymmetric, none-some, same_Some, little_bytes, little_number-reads_back, Judged, ◌>>=◌, part, Passes, part_whole, then_passes, both_pass, part_passes, same_passes, ImageCause, Truncated, Kind, no_fault, rows_fine, Frame, Pv, Hvm, PageType, number_of, type_of, type_or_none, type_has_data, all_types, is_type_of, HostOf, HostFrame, HostFrames, IsHostFrame, IsValid, host_word, frame_text, head_pfn, head_type, has_machine, has_frame_from, frame_rows, fault_of_frame, frame_head_at, host_page_at, frame_said, put_frame, host_frame_at, head_type_number, frames_at, Bytes, bytes_front}
+use Rattle.std.proofs.Common.{unwrap_or}
 use Rattle.std.specs.FinMap as maps
-use Rattle.byteorder.specs.Endian.{little_bytes}
-use Rattle.byteorder.specs.Numbers.{little_number-reads_back}
 use Rattle.mig_bytes.specs.Fields.{le32, le64}
-use Rattle.mig_bytes.specs.Judged.{Judged, ◌>>=◌, part}
-use Rattle.mig_bytes.specs.Judged.Judged.{Passes}
-use Rattle.mig_bytes.proofs.Joins.{part_whole, then_passes, both_pass, part_passes, same_passes}
-use Rattle.mig_headers.specs.declared.image_fault.ImageCause.{ImageCause}
-use Rattle.mig_headers.specs.declared.image_fault.ImageCause.TheVariants.{Truncated}
-use Rattle.mig_headers.specs.declared.kind.Kind.{Kind}
-use Rattle.mig_headers.proofs.FirstFaults.{no_fault, rows_fine}
-use Rattle.mig_headers.specs.declared.image_fault.ImagePlace.TheVariants.{Frame}
-use Rattle.mig_headers.specs.declared.kind.Kind.TheVariants.{Pv, Hvm}
-use Rattle.mig_pagetypes.specs.declared.page_type.PageType.{PageType}
 use Rattle.mig_pagetypes.specs.declared.page_type.PageType.TheVariants.{Xtab}
-use Rattle.mig_pagetypes.specs.PageTypes.{number_of, type_of, type_or_none, type_has_data, all_types}
-use Rattle.mig_guest.specs.Frames.{is_type_of}
-use Rattle.mig_guest.specs.Hosts.{HostOf, HostFrame, HostFrames, IsHostFrame, IsValid}
-use Rattle.mig_image.specs.Image.{host_word, frame_head_of, frame_text}
-use Rattle.mig_image.specs.ImageParts.{head_pfn, head_type, has_machine, has_frame_from, frame_rows, fault_of_frame, frame_head_at, host_page_at, frame_said, put_frame, host_frame_at, head_type_number, frames_at}
-use Rattle.mig_image.proofs.FieldBytes.{judged_goes, Bytes, bytes_front, word_then, long_last, judged_part, regroup}
+use Rattle.mig_image.specs.Image.{frame_head_of}
+use Rattle.mig_image.proofs.FieldBytes.{judged_goes, word_then, long_last, judged_part, regroup}
 use Rattle.mig_image.proofs.Chains.{Chain, put_all, chain_of, chain_same, Found, AllFound, chain_back, chain_entries, chain_keeps}
 use Rattle.mig_image.proofs.InOrder.{has_from, get_at, get_front, each_entry, no_entry, none_passes, few_ranks, entries_behind, found_passes}
 use Rattle.mig_image.proofs.HostsMade.{valid_frame}

@@ -1,28 +1,9 @@
 -- The frames of a host, which are those of a guest with their machine frames.
-use Rattle.std.proofs.Common.{◌≡◌, ℕ, ◌+◌, length, Bool, true, false, cond, nat_le, List, [], ◌∷◌, map, Option, Some, None, is_some, IfSome, IfNone, option_and_then, refl, sym, ap, subst, ◌∙◌}
-use Rattle.std.specs.Prelude.{◌==◌, unwrap_or}
-use Rattle.std.specs.List.{All, list_any}
-use Rattle.std.proofs.lemmas.Bool.{eq-eqb, ne_eqb}
-use Rattle.std.proofs.lemmas.List.{length-map}
-use Rattle.std.proofs.lemmas.List.Elements.{All-head, All-filter}
-use Rattle.std.specs.Option.{option_map}
-use Rattle.std.specs.Cmp.{nat_cmp_total}
+use Rattle.mig_image.proofs.Common.{◌≡◌, ℕ, ◌+◌, ◌<◌, ◌≤◌, length, true, false, [], ◌∷◌, map, Option, Some, None, is_some, IfSome, IfNone, option_and_then, refl, sym, ap, ◌∙◌, ◌==◌, unwrap_or, list_any, eq-eqb, ne_eqb, length-map, option_map, nat_cmp_total, nat_cmp-IsAntisymmetric, FrameOf, FrameMap, entries_from, HostFrame, HostFrames, MachineMap, with_machine, with_machines, machine_in, AreMatched}
 use Rattle.std.specs.FinMap as maps
-use Rattle.std.specs.FinMap.{nat_cmp-IsAntisymmetric}
-use Rattle.mig_guest.specs.Frames.{FrameOf, FrameMap, entries_from}
-use Rattle.mig_guest.specs.Hosts.{HostFrame, HostFrames}
-use Rattle.mig_pvtables.proofs.EachValue.{get_each, entries_each, shown}
-use Rattle.mig_image.specs.HostView.{MachineMap, with_machine, with_machines, machine_in, AreMatched}
-use Rattle.mig_image.proofs.InOrder.{all_there, some_entry, no_entry}
-
-module _ {X Y : Type 0} (f : ℕ → X → Y) (p : ℕ) where
-  kept_case : (b : Bool) (e : ℕ × X) (xs : List (ℕ × Y)) (ys : List (ℕ × X)) → xs ≡ map (shown f) ys → cond b (shown f e ∷ xs) xs ≡ map (shown f) (cond b (e ∷ ys) ys)
-  kept_case true e xs ys h = ap (λ l. shown f e ∷ l) h
-  kept_case false e xs ys h = h
-
-  from_mapped : (es : List (ℕ × X)) → entries_from p (map (shown f) es) ≡ map (shown f) (entries_from p es)
-  from_mapped [] = refl
-  from_mapped (e ∷ es) = kept_case (nat_le p e.0) e _ _ (from_mapped es)
+use Rattle.mig_pvtables.proofs.EachValue.{get_each, entries_each}
+use Rattle.mig_guest.proofs.NextEntries.{next_entry}
+use Rattle.mig_image.proofs.InOrder.{some_entry, no_entry}
 
 -- ---- the frames of a host
 
@@ -83,31 +64,20 @@ module _ (frames : FrameMap) (machines : MachineMap) where
 
   -- ---- its entries
 
-  abbrev join : ℕ → FrameOf → HostFrame
-  join pfn f = with_machine f (machine_in machines pfn)
+  pub none_from : (from : ℕ) → ((k : ℕ) → from ≤ k → maps.get frames k ≡ None) → entries_from from (maps.entries joined) ≡ []
+  none_from from none = next_entry joined from {Y = ℕ × HostFrame} (λ e. e.0) (λ e. e.1) None (λ k le. none_joined k (none k le)) tt tt
 
-  from_joined : (p : ℕ) → entries_from p (maps.entries (joined)) ≡ map (shown join) (entries_from p (maps.entries frames))
-  from_joined p = ap (entries_from p) (entries_with_machines frames (machine_in machines)) ∙ from_mapped join p (maps.entries frames)
-
-  pub none_from : (p : ℕ) → entries_from p (maps.entries frames) ≡ [] → entries_from p (maps.entries (joined)) ≡ []
-  none_from p is = from_joined p ∙ ap (map (shown join)) is
-
-  pub next_joined : (p pfn : ℕ) (f : FrameOf) (machine : ℕ) → Some machine ≡ maps.get machines pfn → entries_from p (maps.entries frames) ≡ (pfn, f) ∷ entries_from (pfn + 1) (maps.entries frames)
-      → entries_from p (maps.entries (joined)) ≡ (pfn, with_machine f machine) ∷ entries_from (pfn + 1) (maps.entries (joined))
-  next_joined p pfn f machine has is =
-      from_joined p ∙ ap (map (shown join)) is ∙ ap (λ (m : ℕ). (pfn, with_machine f m) ∷ map (shown join) (entries_from (pfn + 1) (maps.entries frames))) (ap (λ (o : Option ℕ). unwrap_or o 0) (sym has))
-      ∙ ap (λ l. (pfn, with_machine f machine) ∷ l) (sym (from_joined (pfn + 1)))
-
-  abbrev IsThere : ℕ × FrameOf → Type 0
-  IsThere e = maps.get frames e.0 ≡ Some e.1
+  pub next_joined : (from pfn : ℕ) (f : FrameOf) (machine : ℕ) → Some machine ≡ maps.get machines pfn → maps.get frames pfn ≡ Some f → from ≤ pfn → ((k : ℕ) → from ≤ k → k < pfn → maps.get frames k ≡ None)
+      → entries_from from (maps.entries joined) ≡ (pfn, with_machine f machine) ∷ entries_from (pfn + 1) (maps.entries joined)
+  next_joined from pfn f machine has is le none =
+      next_entry joined from {Y = ℕ × HostFrame} (λ e. e.0) (λ e. e.1) (Some (pfn, with_machine f machine)) tt
+      (seen pfn ∙ ap (option_map (λ (f : FrameOf). with_machine f (machine_in machines pfn))) is ∙ ap (λ (o : Option ℕ). Some (with_machine f (unwrap_or o 0))) (sym has))
+      (le, λ k above below. none_joined k (none k above below))
 
   module _ (matched : AreMatched frames machines) where
-    -- a frame that is found has a machine frame
-    pub has_no_machine : (p pfn : ℕ) (f : FrameOf) (rest : List (ℕ × FrameOf)) → None ≡ maps.get machines pfn → entries_from p (maps.entries frames) ≡ (pfn, f) ∷ rest → ⊥
-    has_no_machine p pfn f rest none is =
-        let there = All-filter (λ e. nat_le p e.0) IsThere (maps.entries frames) (all_there nat_cmp_total nat_cmp-IsAntisymmetric frames) in
-        let found : maps.get frames pfn ≡ Some f = All-head IsThere (pfn, f) rest (subst (All IsThere) is there) in
-        let wrong : false ≡ true = ap is_some none ∙ matched pfn ∙ ap is_some found in cc
+    -- a frame that is there has a machine frame
+    pub has_no_machine : (pfn : ℕ) (f : FrameOf) → None ≡ maps.get machines pfn → maps.get frames pfn ≡ Some f → ⊥
+    has_no_machine pfn f none found = let wrong : false ≡ true = ap is_some none ∙ matched pfn ∙ ap is_some found in cc
 
     machine_found : (o : Option HostFrame) (m : ℕ) → Some m ≡ option_map (λ (f : HostFrame). f.machine) o → (f : HostFrame) × (o ≡ Some f) × (f.machine ≡ m)
     machine_found None m e = let no : Some m ≡ None = e in cc

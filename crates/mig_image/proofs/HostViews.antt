@@ -1,23 +1,11 @@
 -- The host that a whole HVM guest becomes is seen as this guest.
-use Rattle.std.proofs.Common.{◌≡◌, ℕ, ◌+◌, Bool, true, false, cond, nat_eq, List, refl, sym, ap, subst, ◌∙◌}
-use Rattle.std.proofs.lemmas.Bool.{eqb-true}
-use Rattle.std.specs.Cmp.{nat_cmp_total}
-use Rattle.std.specs.FinMap.{nat_cmp-IsAntisymmetric}
+use Rattle.mig_image.proofs.Common.{◌≡◌, ℕ, ◌+◌, Bool, true, false, cond, nat_eq, List, refl, sym, ap, subst, ◌∙◌, eqb-true, nat_cmp_total, nat_cmp-IsAntisymmetric, Kind, Hvm, PartKey, FrameOf, IsPart, IsTop, width_of, part_total, part_exact, of_part, with_machine, rank_in, hosted}
 use Rattle.mig_headers.specs.Contexts.{scan}
-use Rattle.mig_headers.specs.declared.kind.Kind.{Kind}
-use Rattle.mig_headers.specs.declared.kind.Kind.TheVariants.{Hvm}
-use Rattle.mig_guest.specs.declared.part_key.PartKey.{PartKey}
-use Rattle.mig_guest.specs.Frames.{FrameOf}
 use Rattle.mig_guest.specs.Guests.{GuestOf}
-use Rattle.mig_guest.specs.Formed.{IsPart, IsTop, width_of}
-use Rattle.mig_guest.proofs.PartOrder.{part_total, part_exact}
-use Rattle.mig_guest.proofs.PartRows.{of_part}
 use Rattle.mig_guest.specs.declared.part_code.PartCode.TheVariants.{HvmContext}
 use Rattle.mig_pvtables.specs.View.{without_machine, cut_by, part_seen, hvm_view}
 use Rattle.mig_pvtables.specs.Whole.{IsWhole}
 use Rattle.mig_pvtables.proofs.EachValue.{each_each, each_same}
-use Rattle.mig_image.specs.HostView.{with_machine}
-use Rattle.mig_image.specs.Hosted.{rank_in, hosted}
 
 pub hosted_seen : (guest : GuestOf) (base : ℕ) → IsWhole guest → guest.kind ≡ Hvm → hvm_view (hosted guest base) ≡ guest
 hosted_seen g base whole hvm =

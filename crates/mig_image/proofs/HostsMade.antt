@@ -1,36 +1,8 @@
 -- A host stays valid where a frame or a part is added, and stays what its guest and its machine frames make.
-use Rattle.std.proofs.Common.{◌≡◌, ℕ, ◌+◌, ◌<◌, ◌≤◌, ◌^◌, Bool, true, false, cond, length, List, Option, Some, None, is_some, refl, sym, ap, subst, ◌∙◌, ◌⊎◌, inl, inr, arith}
-use Rattle.std.specs.Prelude.{unwrap_or}
-use Rattle.std.specs.declared.cmp.Ordering.{Ordering}
-use Rattle.std.specs.Option.{option_map}
-use Rattle.std.specs.Ordering.{nat_cmp, eq_by_cmp}
-use Rattle.std.specs.Cmp.{IsTotalOrder, nat_cmp_total}
+use Rattle.mig_image.proofs.Common.{◌≡◌, ℕ, ◌+◌, ◌<◌, ◌≤◌, ◌^◌, Bool, true, false, cond, length, List, Option, Some, None, is_some, refl, sym, ap, subst, ◌∙◌, ◌⊎◌, inl, inr, arith, unwrap_or, Ordering, option_map, nat_cmp, eq_by_cmp, IsTotalOrder, nat_cmp_total, FinMap, nat_cmp-IsAntisymmetric, same_map, get-empty, len-insert, len-empty, len-entries, empty_of_len, none-some, same_Some, Kind, Pv, PartKey, FrameOf, FrameMap, HostOf, HostFrame, HostFrames, IsHostFrame, IsHostPart, IsOneToOne, IsValid, part_cmp, PartMap, FitsPolicy, parts_of, part_total, part_exact, MachineMap, with_machine, machine_in, host_seen, AreMatched, IsMade, put_frame, put_part_in}
 use Rattle.std.specs.FinMap as maps
-use Rattle.std.specs.FinMap.{FinMap, nat_cmp-IsAntisymmetric, same_map, get-empty, len-insert, len-empty, len-entries, empty_of_len}
-use Rattle.std.proofs.lemmas.Bool.{false≢true}
-use Rattle.std.proofs.lemmas.Option.{none-some, same_Some}
-use Rattle.mig_headers.specs.declared.kind.Kind.{Kind}
-use Rattle.mig_headers.specs.declared.kind.Kind.TheVariants.{Pv, Hvm}
-use Rattle.mig_pagetypes.specs.declared.page_type.PageType.{PageType}
-use Rattle.mig_pagetypes.specs.declared.page_type.PageType.TheVariants.{Xtab}
-use Rattle.mig_guest.specs.declared.part_key.PartKey.{PartKey}
-use Rattle.mig_guest.specs.Frames.{FrameOf, FrameMap, framed, is_type_of}
-use Rattle.mig_guest.specs.Guests.{GuestOf}
-use Rattle.mig_guest.specs.Hosts.{HostOf, HostFrame, HostFrames, IsHostFrame, IsHostPart, IsOneToOne, IsValid}
-use Rattle.mig_guest.specs.Order.{part_cmp}
-use Rattle.mig_guest.specs.Parts.{FitsPolicy, parts_of}
-use Rattle.mig_guest.proofs.PartOrder.{part_total, part_exact}
-use Rattle.mig_image.specs.HostView.{MachineMap, with_machine, machine_in, host_seen, AreMatched, IsMade}
-use Rattle.mig_image.specs.ImageParts.{put_frame, put_part_in}
-use Rattle.mig_image.proofs.HostMaps.{joined, get_with_machines, count_with_machines, machine_joined, there_joined}
+use Rattle.mig_image.proofs.HostMaps.{joined, get_with_machines, count_with_machines, machine_joined}
 use Rattle.mig_image.proofs.InOrder.{found_more, holds_more, no_entries}
-use Rattle.mig_image.proofs.MachineMaps.{absent}
-
--- a frame of a type that a host's frame has
-pub framed_typed : (k : Kind) (kind : PageType) → is_type_of k kind ≡ true → (m : FrameMap) (pfn : ℕ) (page : Option (List ℕ)) → framed m pfn kind page ≡ maps.insert m pfn (record { type = kind; page = page })
-framed_typed Pv Xtab is m pfn page = absurd (false≢true is)
-framed_typed Hvm Xtab is m pfn page = absurd (false≢true is)
-framed_typed k _ is m pfn page = refl
 
 at_most : (b : Bool) (n : ℕ) → cond b n (n + 1) ≤ n + 1
 at_most true n = omega arith
@@ -113,12 +85,11 @@ valid_empty kind width small some = record {
     none_of code = subst (λ (es : List (PartKey × List ℕ)). length (parts_of code es) ≤ 65536) (sym (no_entries part_cmp (List ℕ))) (omega arith)
 
 -- nothing makes such a host
-pub made_empty : (g : GuestOf) (width : ℕ) (kind : Kind) → g ≡ record { kind = kind; top = 0; frames = maps.empty; parts = maps.empty } → width ≤ 2 ^ 28 → (kind ≡ Pv → 0 < width) → IsMade g width maps.empty
-made_empty g width kind is small some =
-    subst (λ (x : GuestOf). IsMade x width maps.empty) (sym is) (record {
-      matched = λ pfn. ap is_some (get-empty {X = ℕ} nat_cmp pfn) ∙ sym (ap is_some (get-empty {X = FrameOf} nat_cmp pfn));
-      valid = subst (λ (m : HostFrames). IsValid (record { kind = kind; width = width; frames = m; parts = maps.empty })) (sym joined_empty) (valid_empty kind width small some);
-    })
+pub made_empty : (kind : Kind) (width : ℕ) → width ≤ 2 ^ 28 → (kind ≡ Pv → 0 < width) → IsMade kind width maps.empty maps.empty maps.empty
+made_empty kind width small some = record {
+  matched = λ pfn. ap is_some (get-empty {X = ℕ} nat_cmp pfn) ∙ sym (ap is_some (get-empty {X = FrameOf} nat_cmp pfn));
+  valid = subst (λ (m : HostFrames). IsValid (record { kind = kind; width = width; frames = m; parts = maps.empty })) (sym joined_empty) (valid_empty kind width small some);
+}
 
 module _ (frames : FrameMap) (machines : MachineMap) (pfn : ℕ) (f : FrameOf) (machine : ℕ) where
   abbrev frames_more : FrameMap
@@ -162,22 +133,22 @@ module _ (frames : FrameMap) (machines : MachineMap) (matched : AreMatched frame
   pub machine_unused : (machine : ℕ) → ((other : ℕ) (x : HostFrame) → maps.get (joined frames machines) other ≡ Some x → x.machine ≡ machine → ⊥) → (q : ℕ) → maps.get machines q ≡ Some machine → ⊥
   machine_unused machine unused q has = unused_case machine q has (maps.get (joined frames machines) q) refl (unused q)
 
-pub no_frame : (frames : FrameMap) (machines : MachineMap) (pfn : ℕ) → maps.get (joined frames machines) pfn ≡ None → maps.get frames pfn ≡ None
-no_frame frames machines pfn is = absent (maps.get frames pfn) (sym (there_joined frames machines pfn) ∙ ap is_some is)
+module _ (kind : Kind) (width : ℕ) (frames : FrameMap) (machines : MachineMap) (parts : PartMap) where
+  abbrev seen : HostOf
+  seen = host_seen kind width frames machines parts
 
-module _ (g : GuestOf) (width : ℕ) (machines : MachineMap) where
   module _ (pfn : ℕ) (f : FrameOf) (machine : ℕ) where
-    pub seen_frame : host_seen (record g { frames = maps.insert g.frames pfn f }) width (maps.insert machines pfn machine) ≡ put_frame (host_seen g width machines) pfn (with_machine f machine)
-    seen_frame = ap (λ (m : HostFrames). record { kind = g.kind; width = width; frames = m; parts = g.parts }) (joined_put g.frames machines pfn f machine)
+    pub seen_frame : host_seen kind width (maps.insert frames pfn f) (maps.insert machines pfn machine) parts ≡ put_frame seen pfn (with_machine f machine)
+    seen_frame = ap (λ (m : HostFrames). record { kind = kind; width = width; frames = m; parts = parts }) (joined_put frames machines pfn f machine)
 
-    pub made_frame : IsMade g width machines → IsHostFrame g.kind width pfn (with_machine f machine)
-        → ((other : ℕ) (x : HostFrame) → maps.get (joined g.frames machines) other ≡ Some x → x.machine ≡ machine → ⊥) → length (maps.entries (joined g.frames machines)) < 2 ^ 24
-        → IsMade (record g { frames = maps.insert g.frames pfn f }) width (maps.insert machines pfn machine)
+    pub made_frame : IsMade kind width frames machines parts → IsHostFrame kind width pfn (with_machine f machine)
+        → ((other : ℕ) (x : HostFrame) → maps.get (joined frames machines) other ≡ Some x → x.machine ≡ machine → ⊥) → length (maps.entries (joined frames machines)) < 2 ^ 24
+        → IsMade kind width (maps.insert frames pfn f) (maps.insert machines pfn machine) parts
     made_frame made fine unused few = record {
-      matched = matched_put g.frames machines pfn f machine made.matched;
-      valid = subst IsValid (sym seen_frame) (valid_frame (host_seen g width machines) pfn (with_machine f machine) made.valid fine unused few);
+      matched = matched_put frames machines pfn f machine made.matched;
+      valid = subst IsValid (sym seen_frame) (valid_frame seen pfn (with_machine f machine) made.valid fine unused few);
     }
 
-  pub made_part : (key : PartKey) (bytes : List ℕ) → IsMade g width machines → IsHostPart g.kind width key bytes → FitsPolicy 17 (maps.insert g.parts key bytes) → FitsPolicy 18 (maps.insert g.parts key bytes)
-      → IsMade (record g { parts = maps.insert g.parts key bytes }) width machines
-  made_part key bytes made fine leaves msrs = record { matched = made.matched; valid = valid_part (host_seen g width machines) key bytes made.valid fine leaves msrs }
+  pub made_part : (key : PartKey) (bytes : List ℕ) → IsMade kind width frames machines parts → IsHostPart kind width key bytes → FitsPolicy 17 (maps.insert parts key bytes) → FitsPolicy 18 (maps.insert parts key bytes)
+      → IsMade kind width frames machines (maps.insert parts key bytes)
+  made_part key bytes made fine leaves msrs = record { matched = made.matched; valid = valid_part seen key bytes made.valid fine leaves msrs }

@@ -1,32 +1,15 @@
 -- Bytes that are read as a host begin with its image, and the host is valid.
-use Rattle.std.proofs.Common.{◌≡◌, ℕ, ◌^◌, ◌<◌, ◌≤◌, Bool, true, false, not, nat_eq, nat_lt, List, ◌++◌, length, None, refl, sym, ap, subst, ◌∙◌, arith}
-use Rattle.std.specs.Prelude.{◌&&◌}
-use Rattle.std.specs.List.{flat_map}
-use Rattle.std.proofs.lemmas.Bool.{not-false, or_parts, ltb-false, eqb-true, eqb-false}
-use Rattle.std.proofs.lemmas.List.Elements.{recursion_from_All}
+use Rattle.mig_image.proofs.Common.{◌≡◌, ℕ, ◌^◌, ◌<◌, ◌≤◌, Bool, true, false, not, nat_eq, nat_lt, List, ◌++◌, length, None, refl, sym, ap, subst, ◌∙◌, arith, ◌&&◌, flat_map, not-false, or_parts, ltb-false, eqb-true, eqb-false, recursion_from_All, little_bytes, AreBytes, ◌>>=◌, part, placed, Passes, both_pass, part_passes, same_passes, placed_passes, kind_number, kind_of_number, Truncated, Head, Parts, Kind, Pv, Hvm, PartKey, HostOf, HostFrame, IsValid, frame_text, part_text, IsHostImage, name_rows, size_rows, fault_of_name, fault_of_sizes, fault_of_host_head, host_head_at, opened, frames_at, host_parts_at, count_at, behind_head, Bytes, bytes_front, bytes_back, rows_fine, both_none}
 use Rattle.std.specs.FinMap as maps
-use Rattle.byteorder.specs.Endian.{little_bytes}
-use Rattle.mig_bytes.specs.Bytes.{AreBytes}
 use Rattle.mig_bytes.specs.Fields.{le32, le64, be64}
-use Rattle.mig_bytes.specs.Judged.{◌>>=◌, part, placed}
-use Rattle.mig_bytes.specs.Judged.Judged.{Passes}
-use Rattle.mig_bytes.proofs.Joins.{both_pass, part_passes, same_passes, placed_passes}
-use Rattle.mig_headers.specs.Headers.{kind_number, kind_of_number}
 use Rattle.mig_headers.specs.RecordTypes.{pv}
-use Rattle.mig_headers.specs.declared.image_fault.ImageCause.TheVariants.{Truncated}
-use Rattle.mig_headers.specs.declared.image_fault.ImagePlace.TheVariants.{Head, Parts}
-use Rattle.mig_headers.specs.declared.kind.Kind.{Kind}
-use Rattle.mig_headers.specs.declared.kind.Kind.TheVariants.{Pv, Hvm}
-use Rattle.mig_guest.specs.declared.part_key.PartKey.{PartKey}
-use Rattle.mig_guest.specs.Hosts.{HostOf, HostFrame, IsValid}
-use Rattle.mig_image.specs.Image.{host_head, frame_text, part_text, image, IsHostImage}
-use Rattle.mig_image.specs.ImageParts.{name_rows, size_rows, fault_of_name, fault_of_sizes, fault_of_host_head, host_head_at, opened, frames_at, host_parts_at, count_at, behind_head, host_at}
-use Rattle.mig_image.proofs.FieldBytes.{Bytes, bytes_front, bytes_back, name_then, word_then, long_then, long_last, judged_part, regroup}
+use Rattle.mig_image.specs.Image.{host_head, image}
+use Rattle.mig_image.specs.ImageParts.{host_at}
+use Rattle.mig_image.proofs.FieldBytes.{name_then, word_then, long_then, long_last, judged_part, regroup}
 use Rattle.mig_image.proofs.Chains.{put_all}
 use Rattle.mig_image.proofs.Frames.{with_frames, FramesFound, frames_back, frame_entries, frames_valid}
 use Rattle.mig_image.proofs.HostsMade.{valid_empty}
 use Rattle.mig_image.proofs.Parts.{with_parts, PartsFound, parts_back, part_entries, parts_valid}
-use Rattle.mig_headers.proofs.FirstFaults.{rows_fine, both_none}
 
 -- ---- the head
 

@@ -1,21 +1,9 @@
 -- What was taken as a host is its image, where it is bytes, whatever follows it.
-use Rattle.std.proofs.Common.{◌≡◌, ℕ, Bool, true, false, cond, List, [], ◌++◌, Option, Some, None, Ok, sym, ap, subst, ◌∙◌, append-nil}
-use Rattle.std.proofs.lemmas.List.{append_cancel_right}
-use Rattle.std.specs.Io.KnownBytes.{Consumes}
-use Rattle.mig_bytes.specs.Bytes.{padding_len, AreBytes, TakesBytes}
+use Rattle.mig_image.proofs.Common.{◌≡◌, ℕ, Bool, true, false, cond, List, [], ◌++◌, Option, Some, None, Ok, sym, ap, subst, ◌∙◌, append-nil, append_cancel_right, Consumes, padding_len, AreBytes, TakesBytes, ◌>>=◌, part, tried, placed, Gives, Passes, ImageCause, Truncated, Head, Frame, Parts, Part, PageType, type_has_data, HostOf, HostAndSpare, IsHost, BeginsWithImage, IsHostImage, fault_of_host_head, fault_of_frame, fault_of_part, fault_of_bytes, fault_of_padding, opened, host_head_at, head_type, head_pfn, head_key, frame_head_at, host_page_at, frame_said, put_frame, host_frame_at, part_head_at, bytes_at, padding_at, put_part_in, part_at, frames_at, host_parts_at, count_at, behind_head}
 use Rattle.mig_bytes.specs.Fields.{le32, le64}
-use Rattle.mig_bytes.specs.Judged.{◌>>=◌, part, tried, placed, Gives}
-use Rattle.mig_bytes.specs.Judged.Judged.{Passes}
 use Rattle.mig_bytes.proofs.Fronts.{TakesFronts, front_pass, front_part, front_then, front_steps, front_placed}
-use Rattle.mig_headers.specs.declared.image_fault.ImageCause.{ImageCause}
-use Rattle.mig_headers.specs.declared.image_fault.ImageCause.TheVariants.{Truncated}
-use Rattle.mig_headers.specs.declared.image_fault.ImagePlace.TheVariants.{Head, Frame, Parts, Part}
-use Rattle.mig_pagetypes.specs.declared.page_type.PageType.{PageType}
-use Rattle.mig_pagetypes.specs.PageTypes.{type_has_data}
-use Rattle.mig_guest.specs.Hosts.{HostOf}
-use Rattle.mig_image.specs.Answer.{IsHost, BeginsWithImage}
-use Rattle.mig_image.specs.Image.{image, IsHostImage}
-use Rattle.mig_image.specs.ImageParts.{fault_of_host_head, fault_of_frame, fault_of_part, fault_of_bytes, fault_of_padding, opened, host_head_at, head_type, head_pfn, head_key, frame_head_at, host_page_at, frame_said, put_frame, host_frame_at, part_head_at, bytes_at, padding_at, put_part_in, part_at, frames_at, host_parts_at, count_at, behind_head, host_at}
+use Rattle.mig_image.specs.Image.{image}
+use Rattle.mig_image.specs.ImageParts.{host_at}
 use Rattle.mig_image.proofs.FieldBytes.{judged_part, judged_goes}
 use Rattle.mig_image.proofs.ImageBack.{image_back}
 
@@ -68,7 +56,7 @@ taken_is_image input taken rest h gone bytes is =
     record { valid = said.valid; spelled = p.whole ∙ ap (λ l. l ++ rest) (sym (append-nil p.front) ∙ said.spelled ∙ append-nil (image h)) }
 
 -- what was read as a host begins with its image
-pub begins_with_image : (told left : Option (List ℕ)) (h : HostOf) → Gives IsHost told left host_at (Ok h) → TakesBytes told left → BeginsWithImage told left (Ok h)
+pub begins_with_image : (told left : Option (List ℕ)) (h : HostAndSpare) → Gives IsHost told left host_at (Ok h) → TakesBytes told left → BeginsWithImage told left (Ok h)
 begins_with_image None left h read taken = tt
 begins_with_image (Some input) left h (host, rest, is, left_is, same) taken =
     let said = taken_is_image input taken.taken rest host (subst (λ l. Consumes (Some input) l taken.taken) left_is taken.gone) taken.bytes is in

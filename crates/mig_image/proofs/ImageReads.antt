@@ -1,32 +1,14 @@
 -- The image of a valid host is read as this host.
-use Rattle.std.proofs.Common.{◌≡◌, ℕ, ◌^◌, ◌<◌, ◌≤◌, false, not, nat_eq, nat_lt, List, [], ◌++◌, length, None, refl, sym, ap, ◌∙◌, arith, append_assoc}
-use Rattle.std.specs.Prelude.{◌&&◌}
-use Rattle.std.specs.List.{flat_map}
-use Rattle.std.proofs.lemmas.Bool.{or_from, le-ltb, ne_eqb}
+use Rattle.mig_image.proofs.Common.{◌≡◌, ℕ, ◌^◌, ◌<◌, ◌≤◌, false, not, nat_eq, nat_lt, List, [], ◌++◌, length, None, refl, sym, ap, ◌∙◌, arith, append_assoc, ◌&&◌, flat_map, or_from, le-ltb, ne_eqb, little_bytes, little_number-reads_back, Judged, ◌>>=◌, part, placed, Passes, part_whole, same_passes, kind_number, kind_of_number, ImageCause, Truncated, ImagePlace, Head, Frame, Parts, Part, Kind, Pv, Hvm, HostOf, IsValid, frame_text, part_text, IsHostImage, is_wide, name_rows, size_rows, fault_of_name, fault_of_sizes, fault_of_host_head, host_head_at, opened, host_frame_at, part_at, frames_at, host_parts_at, count_at, behind_head, then_passes, no_fault}
 use Rattle.std.specs.FinMap as maps
-use Rattle.byteorder.specs.Endian.{little_bytes}
-use Rattle.byteorder.specs.Numbers.{little_number-reads_back}
 use Rattle.mig_bytes.specs.Fields.{le32, le64, be64}
-use Rattle.mig_bytes.specs.Judged.{Judged, ◌>>=◌, part, placed}
-use Rattle.mig_bytes.specs.Judged.Judged.{Passes}
-use Rattle.mig_bytes.proofs.Joins.{part_whole, same_passes}
-use Rattle.mig_headers.specs.Headers.{kind_number, kind_of_number}
 use Rattle.mig_headers.specs.RecordTypes.{pv}
-use Rattle.mig_headers.specs.declared.image_fault.ImageCause.{ImageCause}
-use Rattle.mig_headers.specs.declared.image_fault.ImageCause.TheVariants.{Truncated}
-use Rattle.mig_headers.specs.declared.image_fault.ImagePlace.{ImagePlace}
-use Rattle.mig_headers.specs.declared.image_fault.ImagePlace.TheVariants.{Head, Frame, Parts, Part}
-use Rattle.mig_headers.specs.declared.kind.Kind.{Kind}
-use Rattle.mig_headers.specs.declared.kind.Kind.TheVariants.{Pv, Hvm}
-use Rattle.mig_guest.specs.Hosts.{HostOf, IsValid}
-use Rattle.mig_image.specs.Image.{host_head, frame_text, part_text, image, IsHostImage}
-use Rattle.mig_image.specs.ImageParts.{is_wide, name_rows, size_rows, fault_of_name, fault_of_sizes, fault_of_host_head, host_head_at, opened, host_frame_at, part_at, frames_at, host_parts_at, count_at, behind_head, host_at}
+use Rattle.mig_image.specs.Image.{host_head, image}
+use Rattle.mig_image.specs.ImageParts.{host_at}
 use Rattle.mig_image.proofs.FieldBytes.{judged_goes}
 use Rattle.mig_image.proofs.Chains.{chain_goes}
 use Rattle.mig_image.proofs.Frames.{frames_chain, frames_same, frames_within, with_frames, FrameFits, frame_goes}
 use Rattle.mig_image.proofs.Parts.{parts_chain, parts_same, parts_few, with_parts, PartFits, part_goes}
-use Rattle.mig_bytes.proofs.Joins.{then_passes}
-use Rattle.mig_headers.proofs.FirstFaults.{no_fault}
 
 -- ---- the head
 

@@ -1,20 +1,6 @@
 -- Whether a host has a frame or a part from a key on.
-use Rattle.std.proofs.Common.{◌≡◌, ℕ, ◌≤◌, ◌<◌, Bool, true, false, not, nat_le, Option, Some, None, is_some, IsSome, IfSome, IfNone, refl, sym, ap, ◌∙◌, arith}
-use Rattle.std.specs.List.{list_any}
-use Rattle.std.proofs.lemmas.Bool.{leb-true, le-leb, true≢false, false_from_ne_true}
-use Rattle.std.proofs.lemmas.Option.{none-some}
-use Rattle.std.specs.Cmp.{IsTotalOrder, nat_cmp_total}
-use Rattle.std.specs.Ordering.{is_lt, ordering_reverse}
-use Rattle.std.specs.declared.cmp.Ordering.{Ordering}
-use Rattle.std.specs.declared.cmp.Ordering.TheVariants.{Less, Equal, Greater}
+use Rattle.mig_image.proofs.Common.{◌≡◌, ℕ, ◌≤◌, ◌<◌, Bool, true, false, not, nat_le, Option, Some, None, is_some, IsSome, IfSome, IfNone, refl, sym, ap, ◌∙◌, arith, list_any, leb-true, le-leb, true≢false, false_from_ne_true, none-some, IsTotalOrder, nat_cmp_total, is_lt, ordering_reverse, Ordering, Less, Equal, Greater, FinMap, IsAntisymmetric, nat_cmp-IsAntisymmetric, PartKey, part_cmp, IsAbove, HostFrames, PartMap, part_total, part_exact, has_part_from}
 use Rattle.std.specs.FinMap as maps
-use Rattle.std.specs.FinMap.{FinMap, IsAntisymmetric, nat_cmp-IsAntisymmetric}
-use Rattle.mig_guest.specs.declared.part_key.PartKey.{PartKey}
-use Rattle.mig_guest.specs.Order.{part_cmp, IsAbove}
-use Rattle.mig_guest.specs.Hosts.{HostFrames}
-use Rattle.mig_guest.specs.Parts.{PartMap}
-use Rattle.mig_guest.proofs.PartOrder.{part_total, part_exact}
-use Rattle.mig_image.specs.ImageParts.{has_part_from}
 use Rattle.mig_image.proofs.InOrder.{some_entry, no_entry, none_passes}
 
 module _ {K X : Type 0} {R : K → K → Ordering} (total : IsTotalOrder R) (exact : IsAntisymmetric R) (p : K → Bool) (m : FinMap R X) where

@@ -1,46 +1,15 @@
 -- The parts of an image: what they spell is read, what is read they spell, and both are the parts of a valid host.
-use Rattle.std.proofs.Common.{◌≡◌, ℕ, zero, suc, ◌^◌, ◌<◌, ◌≤◌, Bool, true, false, not, nat_eq, List, [], ◌∷◌, ◌++◌, length, replicate, Some, None, refl, sym, ap, subst, ◌∙◌, arith, append_assoc, ◌+◌, cond, nat_le, Option, length-append, ◌*◌}
-use Rattle.std.specs.Prelude.{◌&&◌, ◌||◌, ◌==◌, if◌then◌else◌, T}
-use Rattle.std.specs.List.{list_all, AllByRecursion}
-use Rattle.std.proofs.lemmas.Bool.{and_from, eqb-true, not-false, and_parts, leb-false, eq-eqb, and_left, and_right, lt-leb, true≢false}
-use Rattle.std.proofs.lemmas.Grind.{common_steps}
-use Rattle.std.proofs.lemmas.List.{length-replicate}
-use Rattle.std.proofs.lemmas.List.Elements.{filter-append}
-use Rattle.std.specs.Ordering.{nat_cmp, is_lt, ordering_then}
-use Rattle.std.specs.declared.cmp.Ordering.{Ordering}
-use Rattle.std.specs.declared.cmp.Ordering.TheVariants.{Less, Equal, Greater}
-use Rattle.std.specs.FinMap.{nat_cmp-IsAntisymmetric}
-use Rattle.std.specs.FinMap.Entries.{where_key, is_sorted-where_key}
+use Rattle.mig_image.proofs.Common.{◌≡◌, ℕ, zero, suc, ◌^◌, ◌<◌, ◌≤◌, Bool, true, false, not, nat_eq, List, [], ◌∷◌, ◌++◌, length, replicate, Some, None, refl, sym, ap, subst, ◌∙◌, arith, append_assoc, ◌+◌, cond, nat_le, Option, length-append, ◌*◌, ◌&&◌, ◌||◌, ◌==◌, if◌then◌else◌, T, list_all, AllByRecursion, and_from, eqb-true, not-false, and_parts, leb-false, eq-eqb, and_left, and_right, lt-leb, true≢false, common_steps, length-replicate, filter-append, nat_cmp, is_lt, ordering_then, Ordering, Less, Equal, Greater, nat_cmp-IsAntisymmetric, where_key, is_sorted-where_key, little_bytes, little_number-reads_back, padding_len, Judged, ◌>>=◌, Passes, then_passes, both_pass, same_passes, ImageCause, Truncated, PartBytes, PartPadding, Kind, no_fault, rows_fine, Part, PartKey, IsRawContent, HostOf, IsHostPart, IsValid, numbered, one_code, number_found, PartMap, parts_of, FitsPolicy, part_cmp, part_total, part_exact, part_text, head_key, code_fits, code_allows, has_part_from, is_full, part_rows, fault_of_part, fault_of_bytes, fault_of_padding, put_part_in, part_head_at, bytes_at, padding_at, part_at, host_parts_at, Bytes, bytes_front, word_below, Counts}
 use Rattle.std.specs.FinMap as maps
-use Rattle.byteorder.specs.Endian.{little_bytes}
-use Rattle.byteorder.specs.Numbers.{little_number-reads_back}
-use Rattle.mig_bytes.specs.Bytes.{padding_len}
 use Rattle.mig_bytes.specs.Fields.{le32}
-use Rattle.mig_bytes.specs.Judged.{Judged, ◌>>=◌}
-use Rattle.mig_bytes.specs.Judged.Judged.{Passes}
-use Rattle.mig_bytes.proofs.Joins.{then_passes, both_pass, same_passes}
 use Rattle.mig_headers.specs.Pairs.{are_canonical_pairs, AreCanonicalPairs}
 use Rattle.mig_headers.proofs.PairTexts.{canonical_pairs_are_computed}
-use Rattle.mig_headers.specs.declared.image_fault.ImageCause.{ImageCause}
-use Rattle.mig_headers.specs.declared.image_fault.ImageCause.TheVariants.{Truncated, PartBytes, PartPadding}
-use Rattle.mig_headers.specs.declared.kind.Kind.{Kind}
-use Rattle.mig_headers.proofs.FirstFaults.{no_fault, rows_fine}
-use Rattle.mig_headers.specs.declared.image_fault.ImagePlace.TheVariants.{Part}
 use Rattle.mig_guest.specs.declared.part_code.PartCode.{PartCode}
 use Rattle.mig_guest.specs.declared.part_code.PartCode.TheVariants.{EmulatorPairs, CpuidLeaf, Msr}
-use Rattle.mig_guest.specs.declared.part_key.PartKey.{PartKey}
-use Rattle.mig_guest.specs.Formed.{IsRawContent}
-use Rattle.mig_guest.specs.Hosts.{HostOf, IsHostPart, IsValid}
-use Rattle.mig_guest.proofs.PartRows.{numbered, one_code, number_found}
 use Rattle.mig_guest.specs.PartCodes.{code_number, code_of_number, row_of}
-use Rattle.mig_guest.specs.Parts.{PartMap, parts_of, FitsPolicy}
-use Rattle.mig_guest.specs.Order.{part_cmp}
-use Rattle.mig_guest.proofs.PartOrder.{part_total, part_exact}
-use Rattle.mig_image.specs.Image.{part_head_of, part_text}
-use Rattle.mig_image.specs.ImageParts.{head_key, code_fits, code_allows, has_part_from, is_full, part_rows, fault_of_part, fault_of_bytes, fault_of_padding, put_part_in, part_head_at, bytes_at, padding_at, part_at, host_parts_at}
-use Rattle.mig_image.proofs.FieldBytes.{judged_goes, Bytes, bytes_front, word_then, word_last, word_below, judged_part, regroup}
+use Rattle.mig_image.specs.Image.{part_head_of}
+use Rattle.mig_image.proofs.FieldBytes.{judged_goes, word_then, word_last, judged_part, regroup}
 use Rattle.mig_image.specs.declared.read_part.Entries.{Entries}
-use Rattle.mig_image.specs.PartCounts.{Counts}
 use Rattle.mig_image.proofs.InOrder.{entries_behind, no_entries, has_from, get_at, each_entry, few_ranks}
 use Rattle.mig_image.proofs.Chains.{Chain, put_all, chain_of, chain_same, Found, AllFound, chain_back, chain_entries, chain_keeps}
 use Rattle.mig_image.proofs.HostsMade.{valid_part}

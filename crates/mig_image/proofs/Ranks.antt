@@ -1,18 +1,7 @@
 -- How many entries lie below a number, and the width of entries.
-use Rattle.std.proofs.Common.{◌≡◌, ℕ, ◌+◌, ◌<◌, ◌≤◌, Bool, true, false, cond, length, max, nat_eq, nat_lt, filter, List, [], ◌∷◌, Option, Some, None, refl, sym, ap, subst, ◌∙◌, ◌⊎◌, inl, inr, arith}
-use Rattle.std.specs.Prelude.{T}
-use Rattle.std.specs.List.{AllByRecursion}
-use Rattle.std.specs.Ordering.{nat_cmp, is_lt, eq_by_cmp}
-use Rattle.std.specs.Cmp.{nat_cmp_total, unsigned_tied}
+use Rattle.mig_image.proofs.Common.{◌≡◌, ℕ, ◌+◌, ◌<◌, ◌≤◌, Bool, true, false, cond, length, max, nat_eq, nat_lt, filter, List, [], ◌∷◌, Option, Some, None, refl, sym, ap, subst, ◌∙◌, ◌⊎◌, inl, inr, arith, T, AllByRecursion, nat_cmp, is_lt, eq_by_cmp, nat_cmp_total, unsigned_tied, find, is_sorted, nat_cmp-IsAntisymmetric, get-entries, entries_sorted, below_all, lt-ltb, le-ltb, cases_lt, eqb-true, eqb-false, common_steps, none-some, FrameOf, FrameMap, rank_in, least_width}
 use Rattle.std.specs.FinMap as maps
-use Rattle.std.specs.FinMap.{find, is_sorted, nat_cmp-IsAntisymmetric, get-entries, entries_sorted}
-use Rattle.std.specs.FinMap.Entries.{below_all}
-use Rattle.std.proofs.lemmas.Bool.{lt-ltb, le-ltb, cases_lt, eqb-true, eqb-false}
-use Rattle.std.proofs.lemmas.Grind.{common_steps}
-use Rattle.std.proofs.lemmas.Option.{none-some}
-use Rattle.mig_guest.specs.Frames.{FrameOf, FrameMap}
 use Rattle.mig_guest.proofs.PartCursor.{both_of}
-use Rattle.mig_image.specs.Hosted.{rank_in, least_width}
 use Rattle.mig_image.proofs.InOrder.{each_entry}
 
 -- 1 for a test that is passed

@@ -1,32 +1,12 @@
 -- How what the readers of an image give joins, and what a head without a fault says.
-use Rattle.std.specs.Result.{IsErrAnd}
-use Rattle.std.proofs.Common.{◌≡◌, ℕ, List, Option, Result, Ok, Err, refl, sym, subst, ◌+◌, true, false, cond, length, Some, None, is_some, ap, ◌∙◌}
-use Rattle.std.specs.Prelude.{◌==◌}
-use Rattle.std.proofs.lemmas.Bool.{eqb-false}
-use Rattle.std.proofs.lemmas.Option.{same_Some}
-use Rattle.std.specs.Cmp.{nat_cmp_total}
-use Rattle.std.specs.FinMap.{nat_cmp-IsAntisymmetric, len-insert, len-entries}
+use Rattle.mig_image.proofs.Common.{IsErrAnd, ◌≡◌, ℕ, List, Option, Result, Ok, Err, refl, sym, subst, ◌+◌, true, false, cond, length, Some, None, is_some, ap, ◌∙◌, ◌==◌, eqb-false, same_Some, nat_cmp_total, nat_cmp-IsAntisymmetric, len-insert, len-entries, Judged, ◌>>=◌, Gives, part, placed, Passes, seq, mapped, stopped, done, placed_fine, ImageCause, Truncated, rows_fine, ImagePlace, Parts, PageType, type_has_data, HostOf, HostFrame, HostFrames, IsHostFrame, head_key, put_part_in, part_head_at, bytes_at, padding_at, part_at, head_pfn, head_type, frame_rows, fault_of_frame, frame_head_at, host_page_at, frame_said, put_frame, host_frame_at, opened, frames_at, count_at, host_parts_at, behind_head, HostAndSpare, IsHost}
 use Rattle.std.specs.FinMap as maps
 use Rattle.mig_bytes.specs.declared.part.Stop.{Stop}
 use Rattle.mig_bytes.specs.Fields.{le32, le64}
-use Rattle.mig_bytes.specs.Judged.{Judged, ◌>>=◌, Gives, part, placed}
-use Rattle.mig_bytes.specs.Judged.Judged.{Passes}
-use Rattle.mig_bytes.proofs.Joins.{seq, mapped, stopped, done}
-use Rattle.mig_bytes.proofs.Placed.{placed_fine, known}
-use Rattle.mig_headers.specs.declared.image_fault.ImageCause.{ImageCause}
-use Rattle.mig_headers.specs.declared.image_fault.ImageCause.TheVariants.{Truncated}
-use Rattle.mig_headers.proofs.FirstFaults.{rows_fine}
-use Rattle.mig_headers.specs.declared.image_fault.ImagePlace.{ImagePlace}
-use Rattle.mig_headers.specs.declared.image_fault.ImagePlace.TheVariants.{Parts}
-use Rattle.mig_pagetypes.specs.declared.page_type.PageType.{PageType}
-use Rattle.mig_pagetypes.specs.PageTypes.{type_has_data}
-use Rattle.mig_guest.specs.Hosts.{HostOf, HostFrame, HostFrames, IsHostFrame}
-use Rattle.mig_image.specs.ImageParts.{head_key, put_part_in, part_head_at, bytes_at, padding_at, part_at, head_pfn, head_type, frame_rows, fault_of_frame, frame_head_at, host_page_at, frame_said, put_frame, host_frame_at, opened, frames_at, count_at, host_parts_at, behind_head}
 use Rattle.mig_image.proofs.Parts.{behind_bytes, behind_part_head}
 use Rattle.mig_image.proofs.Frames.{frame_fits, page_if, behind_frame_head}
 use Rattle.mig_image.proofs.InOrder.{none_passes}
 use Rattle.mig_image.proofs.KeyTests.{frame_absent}
-use Rattle.mig_image.specs.Answer.{IsHost}
 
 module _ {C V X Y Z : Type 0} (val : V → X) (Q : Y → Z → Type 0) where
   -- one reader after another, where the first tells what it reads
@@ -134,14 +114,19 @@ is_frame h head fine pfn machine kind page p m k some size =
     subst (λ (e : ℕ × HostFrame). IsHostFrame h.kind h.width e.0 e.1) (sym (said head pfn machine kind (Some page) p m k))
     (frame_fits h head (Some page) fine (sym (ap type_has_data (sym k) ∙ some)) (λ other e. ap length (sym (same_Some page other e)) ∙ size)).is
 
+-- where only the new state of a host was told
+read_as : {C : Type 0} (a b : Option (List ℕ)) (f : List ℕ → Judged C HostOf) (v : HostAndSpare) → Gives {X = Unit {0}} (λ _ h. v.host ≡ h) a b f (Ok tt) → Gives {X = HostAndSpare} IsHost a b f (Ok v)
+read_as None b f v h = tt
+read_as (Some i) b f v h = h
+
 module _ (head : List ℕ) (h : HostOf) (is : h ≡ opened head) (n : ℕ) (same : n ≡ le64 head 24) where
   abbrev behind_frames : HostOf × List ℕ → Judged (ImagePlace × ImageCause) HostOf
   behind_frames framed = placed Parts (count_at framed.1) >>= λ count. host_parts_at count.0 framed.0 count.1
 
-  pub behind_reads : (a b c d : Option (List ℕ)) (framed full : HostOf) (count : ℕ) → Gives {X = Unit {0}} (λ _ h. framed ≡ h) a b (frames_at n h) (Ok tt) → Gives {X = ℕ} (λ v m. m ≡ v) b c count_at (Ok count)
-      → Gives {X = Unit {0}} (λ _ h. full ≡ h) c d (host_parts_at count framed) (Ok tt) → Gives {X = HostOf} IsHost a d (behind_head head) (Ok full)
+  pub behind_reads : (a b c d : Option (List ℕ)) (framed : HostOf) (full : HostAndSpare) (count : ℕ) → Gives {X = Unit {0}} (λ _ h. framed ≡ h) a b (frames_at n h) (Ok tt) → Gives {X = ℕ} (λ v m. m ≡ v) b c count_at (Ok count)
+      → Gives {X = Unit {0}} (λ _ h. full.host ≡ h) c d (host_parts_at count framed) (Ok tt) → Gives {X = HostAndSpare} IsHost a d (behind_head head) (Ok full)
   behind_reads a b c d framed full count frames counts parts =
       seq {W = Unit {0}} (λ _ h. framed ≡ h) IsHost a b d (frames_at (le64 head 24) (opened head)) behind_frames tt (Ok full)
       (subst (λ m. Gives {X = Unit {0}} (λ _ h. framed ≡ h) a b (frames_at m (opened head)) (Ok tt)) same (subst (λ g. Gives {X = Unit {0}} (λ _ h. framed ≡ h) a b (frames_at n g) (Ok tt)) is frames))
       (λ y e. subst (λ z. Gives IsHost b d (λ i. behind_frames (z, i)) (Ok full)) e
-      (after (λ v. v) IsHost b c d (λ i. placed Parts (count_at i)) (λ count. host_parts_at count.0 framed count.1) count (Ok full) (placed_fine (λ v m. m ≡ v) Parts b c count_at count counts) (known c d (host_parts_at count framed) full tt parts)))
+      (after (λ v. v) IsHost b c d (λ i. placed Parts (count_at i)) (λ count. host_parts_at count.0 framed count.1) count (Ok full) (placed_fine (λ v m. m ≡ v) Parts b c count_at count counts) (read_as c d (host_parts_at count framed) full parts)))

@@ -1,26 +1,11 @@
 -- Machine frames that are counted up from a base, and the host that a whole guest becomes with them.
-use Rattle.std.proofs.Common.{◌≡◌, ◌≢◌, ℕ, ◌+◌, ◌<◌, ◌≤◌, ◌^◌, true, false, length, Option, Some, None, is_some, IsSome, refl, sym, ap, subst, ◌∙◌, inl, inr, arith}
-use Rattle.std.specs.Prelude.{unwrap_or}
-use Rattle.std.specs.Option.{option_map}
-use Rattle.std.specs.Ordering.{nat_cmp}
-use Rattle.std.specs.Cmp.{nat_cmp_total}
+use Rattle.mig_image.proofs.Common.{◌≡◌, ◌≢◌, ℕ, ◌+◌, ◌<◌, ◌≤◌, ◌^◌, true, false, length, Option, Some, None, is_some, IsSome, refl, sym, ap, subst, ◌∙◌, inl, inr, arith, unwrap_or, option_map, nat_cmp, nat_cmp_total, nat_cmp-IsAntisymmetric, same_map, get-empty, cases_lt, cases_order, Kind, Pv, Hvm, FrameOf, FrameMap, HostFrame, HostFrames, IsHostFrame, IsHostPart, IsOneToOne, IsValid, IsPart, width_of, host_part, MachineMap, with_machine, with_machines, machine_in, host_seen, AreMatched, IsMade, rank_in, least_width, hosted, IsBaseOutside, none-some, same_Some}
 use Rattle.std.specs.FinMap as maps
-use Rattle.std.specs.FinMap.{nat_cmp-IsAntisymmetric, same_map, get-empty}
-use Rattle.std.proofs.lemmas.Bool.{cases_lt, cases_order}
-use Rattle.mig_headers.specs.declared.kind.Kind.{Kind}
-use Rattle.mig_headers.specs.declared.kind.Kind.TheVariants.{Pv, Hvm}
-use Rattle.mig_guest.specs.Frames.{FrameOf, FrameMap}
 use Rattle.mig_guest.specs.Guests.{GuestOf}
-use Rattle.mig_guest.specs.Hosts.{HostFrame, HostFrames, IsHostFrame, IsHostPart, IsOneToOne, IsValid}
-use Rattle.mig_guest.specs.Formed.{IsPart, width_of}
-use Rattle.mig_guest.proofs.PartRows.{host_part}
 use Rattle.mig_pvtables.specs.Whole.{IsWhole}
 use Rattle.mig_pvtables.proofs.HvmGuests.{hvm_complete}
-use Rattle.mig_image.specs.HostView.{MachineMap, with_machine, with_machines, machine_in, host_seen, AreMatched, IsMade}
-use Rattle.mig_image.specs.Hosted.{rank_in, least_width, hosted, IsBaseOutside}
 use Rattle.mig_image.proofs.HostMaps.{joined, get_with_machines, count_with_machines}
 use Rattle.mig_image.proofs.MachineMaps.{got_put, got_other}
-use Rattle.std.proofs.lemmas.Option.{none-some, same_Some}
 use Rattle.mig_image.proofs.Ranks.{rank_small, width_within, rank_strict, rank_step, rank_gap, rank_zero, frame_inside}
 
 pub some_value : {X : Type 0} (o : Option X) → IsSome o → (x : X) × (o ≡ Some x)
@@ -126,9 +111,9 @@ module _ (g : GuestOf) (base : ℕ) where
         get_with_machines g.frames (machine_in machines) pfn ∙ same_frame pfn (maps.get machines pfn) (maps.get g.frames pfn) (counted pfn)
         ∙ sym (get_with_machines g.frames machine_of pfn))
 
-    pub seen_hosted : width ≡ least_width (maps.entries g.frames) → host_seen g width machines ≡ hosted g base
+    pub seen_hosted : width ≡ least_width (maps.entries g.frames) → host_seen g.kind width g.frames machines g.parts ≡ hosted g base
     seen_hosted is =
-        ap (λ (w : ℕ). host_seen g w machines) is
+        ap (λ (w : ℕ). host_seen g.kind w g.frames machines g.parts) is
         ∙ ap (λ (m : HostFrames). record { kind = g.kind; width = least_width (maps.entries g.frames); frames = m; parts = g.parts }) same_frames
 
   restored : (pfn : ℕ) (frame : HostFrame) (o : Option FrameOf) → option_map (λ (f : FrameOf). with_machine f (machine_of pfn)) o ≡ Some frame → (f : FrameOf) × (o ≡ Some f) × (with_machine f (machine_of pfn) ≡ frame)
@@ -182,7 +167,7 @@ module _ (g : GuestOf) (base : ℕ) where
       msrs = whole.formed.policies 18 refl;
     }
 
-    pub made_hosted : (width : ℕ) (machines : MachineMap) → 0 < base → base + length (maps.entries g.frames) ≤ 2 ^ 40 → ((pfn : ℕ) → maps.get machines pfn ≡ counted_at g.frames base pfn) → width ≡ least_width (maps.entries g.frames) → IsMade g width machines
+    pub made_hosted : (width : ℕ) (machines : MachineMap) → 0 < base → base + length (maps.entries g.frames) ≤ 2 ^ 40 → ((pfn : ℕ) → maps.get machines pfn ≡ counted_at g.frames base pfn) → width ≡ least_width (maps.entries g.frames) → IsMade g.kind width g.frames machines g.parts
     made_hosted width machines some small counted is = record { matched = counted_matched width machines counted; valid = subst IsValid (sym (seen_hosted width machines counted is)) (whole_is_valid (some, small)) }
 
 pub hosted_valid : (guest : GuestOf) (base : ℕ) → IsWhole guest → guest.kind ≡ Hvm → (IsBaseOutside guest base → ⊥) → IsValid (hosted guest base)

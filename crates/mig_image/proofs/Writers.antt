@@ -1,25 +1,11 @@
 -- The pieces of an image, as they are put together and written one behind the other.
-use Rattle.std.proofs.Common.{◌≡◌, ℕ, ◌+◌, ◌<◌, ◌≤◌, cond, true, nat_le, List, [], ◌∷◌, ◌++◌, length, take, drop, Option, Result, refl, sym, ap, subst, ◌∙◌, arith, take-append-drop, drop-drop, append-nil, ◌^◌, codes, length-drop}
-use Rattle.std.proofs.lemmas.Grind.{flat_map-append, common_steps}
-use Rattle.std.proofs.lemmas.List.{length-drop, take_all}
-use Rattle.std.proofs.lemmas.List.Elements.{All-head, All-drop, All-from_recursion}
+use Rattle.mig_image.proofs.Common.{◌≡◌, ℕ, ◌+◌, ◌<◌, ◌≤◌, cond, true, nat_le, List, [], ◌∷◌, ◌++◌, length, take, drop, Option, Result, refl, sym, ap, subst, ◌∙◌, arith, take-append-drop, drop-drop, append-nil, ◌^◌, codes, length-drop, flat_map-append, common_steps, take_all, All-head, All-drop, All-from_recursion, All, AllByRecursion, flat_map, IsErrAnd, Appends, little_bytes, AppendsPart, Puts, puts_then, puts_stop, puts_same, kind_number, Kind, entries_from, PartKey, HostOf, IsHostPart, IsValid, part_total, part_exact, frame_text, part_text}
+use Rattle.std.proofs.lemmas.List.{length-drop}
 use Rattle.std.proofs.Math.Seq.{take-add}
-use Rattle.std.specs.List.{All, AllByRecursion, flat_map}
-use Rattle.std.specs.Result.{IsErrAnd}
-use Rattle.std.specs.Io.KnownBytes.{Appends}
 use Rattle.std.proofs.KnownBytes.{Appends-trans}
 use Rattle.std.specs.FinMap as maps
-use Rattle.byteorder.specs.Endian.{little_bytes}
 use Rattle.mig_bytes.specs.declared.failure.WriteFailed.{WriteFailed}
-use Rattle.mig_bytes.specs.Bytes.{AppendsPart, Puts}
-use Rattle.mig_bytes.proofs.Texts.{puts_then, puts_stop, puts_same}
-use Rattle.mig_headers.specs.Headers.{kind_number}
-use Rattle.mig_headers.specs.declared.kind.Kind.{Kind}
-use Rattle.mig_guest.specs.Frames.{entries_from}
-use Rattle.mig_guest.specs.declared.part_key.PartKey.{PartKey}
-use Rattle.mig_guest.specs.Hosts.{HostOf, IsHostPart, IsValid}
-use Rattle.mig_guest.proofs.PartOrder.{part_total, part_exact}
-use Rattle.mig_image.specs.Image.{host_head, frame_text, part_text, image}
+use Rattle.mig_image.specs.Image.{host_head, image}
 use Rattle.mig_image.proofs.InOrder.{each_entry}
 use Rattle.mig_image.proofs.Parts.{len_small}
 

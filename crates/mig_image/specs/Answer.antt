@@ -6,6 +6,7 @@ use Rattle.mig_bytes.specs.declared.part.Stop.TheVariants as stops
 use Rattle.mig_headers.specs.declared.image_fault.ImageCause.{ImageCause}
 use Rattle.mig_headers.specs.declared.image_fault.ImagePlace.{ImagePlace}
 use Rattle.mig_guest.specs.Hosts.{HostOf}
+use Rattle.mig_image.specs.HostView.{HostAndSpare}
 use Rattle.mig_image.specs.Image.{IsHostImage}
 use Rattle.mig_image.specs.ImageParts.{host_at}
 use Rattle.mig_image.specs.declared.read.ImageAnswer.{ImageAnswer}
@@ -21,15 +22,15 @@ abbrev pub or_image_stop : {X : Type 0} → Result X ImageAnswer → Result X (S
 or_image_stop (Ok x) = Ok x
 or_image_stop (Err answer) = Err (image_stop_of answer)
 
-abbrev pub IsHost : HostOf → HostOf → Type 0
-IsHost read host = read ≡ host
+abbrev pub IsHost : HostAndSpare → HostOf → Type 0
+IsHost read host = read.host ≡ host
 
 -- what a reader of image files answered, and what it left in the source, is what judging gives
-abbrev pub ReadsHost : Option (List ℕ) → Option (List ℕ) → Result HostOf ImageAnswer → Type 0
+abbrev pub ReadsHost : Option (List ℕ) → Option (List ℕ) → Result HostAndSpare ImageAnswer → Type 0
 ReadsHost old new result = Gives IsHost old new host_at (or_image_stop result)
 
 -- where the source tells its bytes, an accepted input begins with the image of the host, a valid one, and the rest is left
-abbrev pub BeginsWithImage : Option (List ℕ) → Option (List ℕ) → Result HostOf ImageAnswer → Type 0
+abbrev pub BeginsWithImage : Option (List ℕ) → Option (List ℕ) → Result HostAndSpare ImageAnswer → Type 0
 BeginsWithImage None new result = ⊤
-BeginsWithImage (Some input) new (Ok host) = (rest : List ℕ) × IsHostImage input host rest × (new ≡ Some rest)
+BeginsWithImage (Some input) new (Ok host) = (rest : List ℕ) × IsHostImage input host.host rest × (new ≡ Some rest)
 BeginsWithImage (Some input) new (Err answer) = ⊤

@@ -1,14 +1,24 @@
--- How a guest and its machine frames are seen as a host.
-use Rattle.std.specs.Prelude.{◌≡◌, ℕ, map, Some, is_some, unwrap_or}
+-- How frames, their machine frames and parts are seen as a host.
+use Rattle.std.specs.Prelude.{◌≡◌, ℕ, map, Option, Some, is_some, unwrap_or, refl}
 use Rattle.std.specs.Ordering.{nat_cmp}
 use Rattle.std.specs.FinMap as maps
+use Rattle.std.specs.Coded.{Coded, code_by, coded×, coded_ℕ}
+use Rattle.mig_headers.specs.declared.kind.Kind.{Kind}
 use Rattle.mig_guest.specs.Frames.{FrameMap, FrameOf}
-use Rattle.mig_guest.specs.Guests.{GuestOf}
-use Rattle.mig_guest.specs.Hosts.{HostOf, HostFrame, HostFrames, IsValid}
+use Rattle.mig_guest.specs.Hosts.{HostOf, HostFrame, HostFrames, IsValid, host_code}
+use Rattle.mig_guest.specs.Parts.{PartMap}
 
 -- machine frames by PFN
 abbrev pub MachineMap : Type 0
 MachineMap = maps.FinMap nat_cmp ℕ
+
+-- machine frames, and how many more can be put without asking for memory
+pub record MachinesAndSpare : Type 0 where
+  pub machines : MachineMap
+  pub spare : ℕ
+
+abbrev pub machines_code : Coded MachinesAndSpare
+machines_code = code_by (MachineMap × ℕ) (coded× (maps.code coded_ℕ coded_ℕ) coded_ℕ) (λ m. (m.machines, m.spare)) (λ p. record { machines = p.0; spare = p.1 }) (λ _. refl)
 
 -- a frame with its machine frame
 abbrev pub with_machine : FrameOf → ℕ → HostFrame
@@ -21,18 +31,26 @@ with_machines frames machine_of = maps.from_entries (map (λ e. (e.0, with_machi
 abbrev pub machine_in : MachineMap → ℕ → ℕ
 machine_in machines pfn = unwrap_or (maps.get machines pfn) 0
 
-abbrev pub host_seen : GuestOf → ℕ → MachineMap → HostOf
-host_seen g width machines = record { kind = g.kind; width = width; frames = with_machines g.frames (machine_in machines); parts = g.parts }
+abbrev pub host_seen : Kind → ℕ → FrameMap → MachineMap → PartMap → HostOf
+host_seen kind width frames machines parts = record { kind = kind; width = width; frames = with_machines frames (machine_in machines); parts = parts }
 
 -- a machine frame for each frame, and for no other number
 abbrev pub AreMatched : FrameMap → MachineMap → Type 0
 AreMatched frames machines = (pfn : ℕ) → is_some (maps.get machines pfn) ≡ is_some (maps.get frames pfn)
 
--- two finite maps are each other's inverse
-abbrev pub AreInverse : MachineMap → MachineMap → Type 0
-AreInverse there back = ((p m : ℕ) → maps.get there p ≡ Some m → maps.get back m ≡ Some p) × ((m p : ℕ) → maps.get back m ≡ Some p → maps.get there p ≡ Some m)
+-- what the map says of a PFN, back says of its machine frame, and the other way round
+abbrev pub AreInverse : MachineMap → (ℕ → Option ℕ) → Type 0
+AreInverse there back = ((p m : ℕ) → maps.get there p ≡ Some m → back m ≡ Some p) × ((m p : ℕ) → back m ≡ Some p → maps.get there p ≡ Some m)
 
 -- each frame has its machine frame, and the host that is seen is valid
-pub record IsMade (g : GuestOf) (width : ℕ) (machines : MachineMap) : Type 0 where
-  pub matched : AreMatched g.frames machines
-  pub valid : IsValid (host_seen g width machines)
+pub record IsMade (kind : Kind) (width : ℕ) (frames : FrameMap) (machines : MachineMap) (parts : PartMap) : Type 0 where
+  pub matched : AreMatched frames machines
+  pub valid : IsValid (host_seen kind width frames machines parts)
+
+-- a host, and how many more frames can be put without asking for memory
+pub record HostAndSpare : Type 0 where
+  pub host : HostOf
+  pub spare : ℕ
+
+abbrev pub host_and_spare_code : Coded HostAndSpare
+host_and_spare_code = code_by (HostOf × ℕ) (coded× host_code coded_ℕ) (λ h. (h.host, h.spare)) (λ p. record { host = p.0; spare = p.1 }) (λ _. refl)

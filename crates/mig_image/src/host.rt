@@ -1,4 +1,4 @@
-ghost use Rattle.std.specs.Prelude.{◌≡◌, ℕ, ◌≤◌, ◌<◌, OnOk, OnErr, IfSome, IfNone, IsSome, Some, None, option_and_then, length};
+ghost use Rattle.std.specs.Prelude.{◌≡◌, ℕ, ◌+◌, ◌≤◌, ◌<◌, OnOk, OnErr, IfSome, IfNone, IsSome, IsOk, Some, None, option_and_then, length, min};
 ghost use Rattle.std.specs.declared.cmp.Ordering.TheVariants.{Less};
 ghost use Rattle.std.specs.Option.{option_copied, option_map};
 ghost use Rattle.std.specs.FinMap as maps;
@@ -13,37 +13,39 @@ ghost use Rattle.mig_image.specs.ImageParts.{put_frame, put_part_in, has_machine
 
 use crate::machine_frames::MachineFrames;
 use mig_bytes::Memory;
-use mig_guest::{Guest, PartKey};
+use mig_guest::{FrameStore, PartKey, Parts};
 use mig_headers::Kind;
 use mig_pagetypes::PageType;
 use std::alloc::Global;
 use std::marker::Model;
 
 /// A guest as it stands in a machine: each frame number below the width that has a frame has a machine frame too, and
-/// no machine frame belongs to two. Its pages and parts are raw, as they stand in the machine.
+/// no machine frame belongs to two. Its pages and parts are raw, as they stand in the machine. There is room for spare
+/// frames.
 #[derive(Drop)]
 pub struct Host {
+    kind: Kind,
     width: u64,
-    guest: Guest,
+    frames: FrameStore,
     machines: MachineFrames,
+    parts: Parts,
 }
 
 impl Model for Host {
-    ghost use Rattle.mig_guest.specs.Hosts.{HostOf, host_code};
-    ghost use Rattle.mig_image.specs.HostView.{host_seen, IsMade};
+    ghost use Rattle.std.specs.Prelude.{min};
+    ghost use Rattle.mig_image.specs.HostView.{HostAndSpare, host_and_spare_code, host_seen, IsMade};
 
-    ghost Value = { HostOf };
+    ghost Value = { HostAndSpare };
 
-    ghost coded = { host_code };
+    ghost coded = { host_and_spare_code };
 
-    ghost view = { λ h. host_seen h.guest h.width h.machines };
+    ghost view = { λ h. record { host = host_seen h.kind h.width h.frames.frames h.machines.machines h.parts; spare = min h.frames.spare h.machines.spare } };
 
-    ghost invariant = { λ h. IsMade h.guest h.width h.machines };
+    ghost invariant = { λ h. IsMade h.kind h.width h.frames.frames h.machines.machines h.parts };
 }
 
 impl Host {
     ghost use Rattle.mig_guest.specs.Hosts.{HostOf, HostFrame};
-    ghost use Rattle.mig_guest.specs.Guests.{GuestOf};
     ghost use Rattle.mig_image.specs.HostView.{host_seen, IsMade};
 
     /// A host without frames and parts.
@@ -51,37 +53,49 @@ impl Host {
     pub(crate) fn new(alloc: Global, kind: Kind, width: u64) -> Host
         requires width { width ≤ most_width }
         requires some_width { kind ≡ Pv → 0 < width }
-        ensures { result ≡ record { kind = kind; width = width; frames = maps.empty; parts = maps.empty } }
+        ensures host { result.host ≡ record { kind = kind; width = width; frames = maps.empty; parts = maps.empty } }
+        ensures spare { result.spare ≡ 0 }
     {
         Host {
+            kind,
             width,
-            guest: Guest::new(alloc, kind),
+            frames: FrameStore::new(alloc),
             machines: MachineFrames::new(alloc),
+            parts: Parts::new(alloc),
         }
     }
 
-    /// The host of a guest's frames and parts, with these machine frames.
-    pub(crate) fn of(guest: Guest, width: u64, machines: MachineFrames) -> Host
-        requires { IsMade guest width machines }
-        ensures { result ≡ host_seen guest width machines }
+    /// The host of these frames, with these machine frames, and of these parts.
+    pub(crate) fn of(
+        kind: Kind,
+        width: u64,
+        frames: FrameStore,
+        machines: MachineFrames,
+        parts: Parts,
+    ) -> Host
+        requires { IsMade kind width frames.frames machines.machines parts }
+        ensures host { result.host ≡ host_seen kind width frames.frames machines.machines parts }
+        ensures spare { result.spare ≡ min frames.spare machines.spare }
     {
         Host {
+            kind,
             width,
-            guest,
+            frames,
             machines,
+            parts,
         }
     }
 
     pub fn kind(&self) -> Kind
-        ensures { result ≡ self.now.kind }
+        ensures { result ≡ self.now.host.kind }
     {
-        self.guest.kind()
+        self.kind
     }
 
     /// One more than the greatest PFN that the host may have.
     pub fn width(&self) -> u64
-        ensures value { result ≡ self.now.width }
-        ensures valid { IsValid self.now }
+        ensures value { result ≡ self.now.host.width }
+        ensures valid { IsValid self.now.host }
     {
         self.width
     }
@@ -89,31 +103,37 @@ impl Host {
     /// The number of frames.
     #[tactic(auto, using(crate::proofs::HostMaps::len_with_machines))]
     pub fn frames(&self) -> u64
-        ensures { result ≡ maps.len self.now.frames }
+        ensures { result ≡ maps.len self.now.host.frames }
     {
-        self.guest.frames()
+        self.frames.len()
     }
 
     /// The type of this frame; none where the host doesn't have it.
     #[tactic(auto, using(crate::proofs::HostMaps::kind_joined))]
     pub fn frame(&self, pfn: u64) -> Option<PageType>
-        ensures { result ≡ option_map (λ f. f.type) (maps.get self.now.frames pfn) }
+        ensures { result ≡ option_map (λ f. f.type) (maps.get self.now.host.frames pfn) }
     {
-        self.guest.frame(pfn)
+        match self.frames.get(pfn) {
+            Some((kind, _)) => Some(kind),
+            None => None,
+        }
     }
 
     /// The raw page of this frame; none where there is no frame, or its type has no data.
     #[tactic(auto, using(crate::proofs::HostMaps::page_joined))]
     pub fn page(&self, pfn: u64) -> Option<&[u8; 4096]>
-        ensures { option_copied result ≡ option_and_then (λ f. f.page) (maps.get self.now.frames pfn) }
+        ensures { option_copied result ≡ option_and_then (λ f. f.page) (maps.get self.now.host.frames pfn) }
     {
-        self.guest.page(pfn)
+        match self.frames.get(pfn) {
+            Some((_, page)) => page,
+            None => None,
+        }
     }
 
     /// The machine frame of this frame.
     #[tactic(auto, using(crate::proofs::HostMaps::machine_joined))]
     pub(crate) fn machine(&self, pfn: u64) -> Option<u64>
-        ensures { result ≡ option_map (λ f. f.machine) (maps.get self.now.frames pfn) }
+        ensures { result ≡ option_map (λ f. f.machine) (maps.get self.now.host.frames pfn) }
     {
         self.machines.machine(pfn)
     }
@@ -121,7 +141,7 @@ impl Host {
     /// Whether some frame has this machine frame.
     #[tactic(auto, using(crate::proofs::HostMaps::used_joined))]
     pub(crate) fn uses_machine(&self, machine: u64) -> bool
-        ensures { result ≡ has_machine self.now machine }
+        ensures { result ≡ has_machine self.now.host machine }
     {
         self.machines.pfn(machine).is_some()
     }
@@ -129,50 +149,84 @@ impl Host {
     /// The least PFN that has a frame and is at least `from`, which may be any number.
     #[tactic(auto, using(crate::proofs::HostMaps::none_joined, crate::proofs::HostMaps::there_joined))]
     pub fn next_frame(&self, from: u64) -> Option<u64>
-        ensures none { IfNone result ((k : ℕ) → from ≤ k → maps.get self.now.frames k ≡ None) }
-        ensures there { IfSome result (λ q. IsSome (maps.get self.now.frames q)) }
-        ensures least { IfSome result (λ q. (from ≤ q) × ((k : ℕ) → from ≤ k → k < q → maps.get self.now.frames k ≡ None)) }
+        ensures none { IfNone result ((k : ℕ) → from ≤ k → maps.get self.now.host.frames k ≡ None) }
+        ensures there { IfSome result (λ q. IsSome (maps.get self.now.host.frames q)) }
+        ensures least { IfSome result (λ q. (from ≤ q) × ((k : ℕ) → from ≤ k → k < q → maps.get self.now.host.frames k ≡ None)) }
         ensures small { IfSome result (λ q. q < pfn_limit) }
     {
-        self.guest.next_frame(from)
+        match self.frames.next(from) {
+            Some((pfn, _, _)) => Some(pfn),
+            None => None,
+        }
     }
 
     /// The first frame from this number on, with its type, its machine frame and its page.
     #[tactic(auto, using(crate::proofs::HostMaps::none_from, crate::proofs::HostMaps::next_joined, crate::proofs::HostMaps::has_no_machine))]
     pub(crate) fn next_entry(&self, from: u64) -> Option<(u64, PageType, u64, Option<&[u8; 4096]>)>
-        ensures next { NextEntry from (maps.entries self.now.frames) (option_map (λ e. (e.0, record { type = e.1; machine = e.2; page = option_copied e.3 })) result) }
+        ensures next { NextEntry from (maps.entries self.now.host.frames) (option_map (λ e. (e.0, record { type = e.1; machine = e.2; page = option_copied e.3 })) result) }
         ensures small { IfSome result (λ e. e.0 < pfn_limit) }
     {
-        let (pfn, kind, page) = self.guest.next_entry(from)?;
+        let (pfn, kind, page) = self.frames.next(from)?;
         let machine = self.machines.machine(pfn)?;
         Some((pfn, kind, machine, page))
     }
 
     /// The raw bytes of a part; none where the host doesn't have it.
     pub fn part(&self, key: PartKey) -> Option<&[u8]>
-        ensures { option_copied result ≡ maps.get self.now.parts key }
+        ensures { option_copied result ≡ maps.get self.now.host.parts key }
     {
-        self.guest.part(key)
+        self.parts.get(key)
     }
 
     /// The least key of a part that is above `after`, or of all parts.
     pub fn next_part(&self, after: Option<PartKey>) -> Option<PartKey>
-        ensures none { IfNone result ((k : PartKey) → IsAbove after k → maps.get self.now.parts k ≡ None) }
-        ensures there { IfSome result (λ q. IsSome (maps.get self.now.parts q)) }
-        ensures least { IfSome result (λ q. IsAbove after q × ((k : PartKey) → IsAbove after k → part_cmp k q ≡ Less → maps.get self.now.parts k ≡ None)) }
+        ensures none { IfNone result ((k : PartKey) → IsAbove after k → maps.get self.now.host.parts k ≡ None) }
+        ensures there { IfSome result (λ q. IsSome (maps.get self.now.host.parts q)) }
+        ensures least { IfSome result (λ q. IsAbove after q × ((k : PartKey) → IsAbove after k → part_cmp k q ≡ Less → maps.get self.now.host.parts k ≡ None)) }
     {
-        self.guest.next_part(after)
+        self.parts.next(after)
     }
 
     /// The part with the least key above `after`, or of all parts, with its bytes.
     pub(crate) fn next_behind(&self, after: Option<PartKey>) -> Option<(PartKey, &[u8])>
-        ensures next { NextBehind after (maps.entries self.now.parts) (option_map (λ e. (e.0, e.1.now)) result) }
+        ensures next { NextBehind after (maps.entries self.now.host.parts) (option_map (λ e. (e.0, e.1.now)) result) }
     {
-        self.guest.next_behind(after)
+        self.parts.next_behind(after)
+    }
+
+    /// Makes ready room for at least `more` frames, those included that are spare already.
+    pub fn reserve(&mut self, more: usize) -> Result<(), Memory>
+        ensures host { self.new.host ≡ self.old.host }
+        ensures ready { OnOk result (more ≤ self.new.spare) }
+        ensures kept { self.old.spare ≤ self.new.spare }
+        ensures enough { more ≤ self.old.spare → IsOk result }
+    {
+        self.frames.reserve(more)?;
+        self.machines.reserve(more)
+    }
+
+    /// Adds a frame, and takes no memory.
+    #[tactic(auto, using(crate::proofs::HostsMade::no_machine))]
+    pub(crate) fn put_spare(
+        &mut self,
+        pfn: u64,
+        kind: PageType,
+        machine: u64,
+        page: Option<&[u8; 4096]>,
+    )
+        requires is { IsHostFrame self.old.host.kind self.old.host.width pfn (record { type = kind; machine = machine; page = option_copied page }) }
+        requires absent { maps.get self.old.host.frames pfn ≡ None }
+        requires unused { (other : ℕ) (frame : HostFrame) → maps.get self.old.host.frames other ≡ Some frame → frame.machine ≡ machine → ⊥ }
+        requires few { length (maps.entries self.old.host.frames) < most_frames }
+        requires room { 1 ≤ self.old.spare }
+        ensures host { self.new.host ≡ put_frame self.old.host pfn (record { type = kind; machine = machine; page = option_copied page.entry }) }
+        ensures taken { self.old.spare ≤ self.new.spare + 1 }
+    {
+        self.frames.put_spare(pfn, kind, page);
+        self.machines.put_spare(pfn, machine);
     }
 
     /// Adds a frame; where no memory is found, the host stays.
-    #[tactic(auto, using(crate::proofs::HostsMade::no_machine))]
     pub(crate) fn add_frame(
         &mut self,
         pfn: u64,
@@ -180,29 +234,28 @@ impl Host {
         machine: u64,
         page: Option<&[u8; 4096]>,
     ) -> Result<(), Memory>
-        requires is { IsHostFrame self.old.kind self.old.width pfn (record { type = kind; machine = machine; page = option_copied page }) }
-        requires absent { maps.get self.old.frames pfn ≡ None }
-        requires unused { (other : ℕ) (frame : HostFrame) → maps.get self.old.frames other ≡ Some frame → frame.machine ≡ machine → ⊥ }
-        requires few { length (maps.entries self.old.frames) < most_frames }
-        ensures ok { OnOk result (self.new ≡ put_frame self.old pfn (record { type = kind; machine = machine; page = option_copied page.entry })) }
-        ensures err { OnErr result (self.new ≡ self.old) }
+        requires is { IsHostFrame self.old.host.kind self.old.host.width pfn (record { type = kind; machine = machine; page = option_copied page }) }
+        requires absent { maps.get self.old.host.frames pfn ≡ None }
+        requires unused { (other : ℕ) (frame : HostFrame) → maps.get self.old.host.frames other ≡ Some frame → frame.machine ≡ machine → ⊥ }
+        requires few { length (maps.entries self.old.host.frames) < most_frames }
+        ensures ok { OnOk result (self.new.host ≡ put_frame self.old.host pfn (record { type = kind; machine = machine; page = option_copied page.entry })) }
+        ensures err { OnErr result (self.new.host ≡ self.old.host) }
+        ensures taken { self.old.spare ≤ self.new.spare + 1 }
     {
-        self.guest.set_frame(pfn, kind, page)?;
-        if self.machines.insert(pfn, machine).is_err() {
-            let _ = self.guest.set_frame(pfn, PageType::Xtab, None);
-            return Err(Memory);
-        }
+        self.reserve(1)?;
+        self.put_spare(pfn, kind, machine, page);
         Ok(())
     }
 
     /// Sets the bytes of a part; where no memory is found, the host stays.
     pub(crate) fn set_part(&mut self, key: PartKey, bytes: &[u8]) -> Result<(), Memory>
-        requires is { IsHostPart self.old.kind self.old.width key bytes.now }
-        requires leaves { FitsPolicy 17 (maps.insert self.old.parts key bytes.now) }
-        requires msrs { FitsPolicy 18 (maps.insert self.old.parts key bytes.now) }
-        ensures ok { OnOk result (self.new ≡ put_part_in self.old key bytes.now) }
-        ensures err { OnErr result (self.new ≡ self.old) }
+        requires is { IsHostPart self.old.host.kind self.old.host.width key bytes.now }
+        requires leaves { FitsPolicy 17 (maps.insert self.old.host.parts key bytes.now) }
+        requires msrs { FitsPolicy 18 (maps.insert self.old.host.parts key bytes.now) }
+        ensures ok { OnOk result (self.new.host ≡ put_part_in self.old.host key bytes.now) }
+        ensures err { OnErr result (self.new.host ≡ self.old.host) }
+        ensures spare { self.new.spare ≡ self.old.spare }
     {
-        self.guest.set_part(key, bytes)
+        self.parts.set(key, bytes)
     }
 }

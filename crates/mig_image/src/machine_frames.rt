@@ -1,77 +1,127 @@
-ghost use Rattle.std.specs.Prelude.{◌≡◌, ℕ, OnOk, OnErr, IfSome, IfNone, Some, None};
+ghost use Rattle.std.specs.Prelude.{◌≡◌, ℕ, ◌+◌, ◌≤◌, ◌<◌, IsOk, OnOk, OnErr, IfSome, IfNone, Some, None};
 ghost use Rattle.std.specs.FinMap as maps;
+ghost use Rattle.mig_pagetypes.specs.Limits.{pfn_limit};
 
 use mig_bytes::Memory;
-use std::alloc::Global;
-use std::collections::BTreeMap;
+use mig_index::Index;
+use std::alloc::{AllocError, Global};
+use std::collections::HashMap;
 use std::marker::Model;
 
 /// Machine frames are below this.
 pub(crate) const MACHINE_LIMIT: u64 = 1 << 40;
 
-/// The machine frame of each PFN, one to one.
+/// The machine frame of each PFN, one to one, and room for spare ones.
 #[derive(Drop)]
 pub(crate) struct MachineFrames {
-    machines: BTreeMap<u64, u64>,
-    pfns: BTreeMap<u64, u64>,
+    /// The machine frame of each PFN.
+    there: Index,
+    /// The PFN of each machine frame.
+    back: HashMap<u64, u64>,
+    spare: usize,
 }
 
 impl Model for MachineFrames {
-    ghost use Rattle.std.specs.Coded.{coded_ℕ};
-    ghost use Rattle.std.specs.FinMap as maps;
-    ghost use Rattle.mig_image.specs.HostView.{MachineMap, AreInverse};
+    ghost use Rattle.std.specs.Prelude.{ℕ, ◌≤◌, nat_eq};
+    ghost use Rattle.std.specs.HashMap as hash;
+    ghost use Rattle.mig_image.specs.HostView.{MachinesAndSpare, machines_code, AreInverse};
 
-    ghost Value = { MachineMap };
+    ghost Value = { MachinesAndSpare };
 
-    ghost coded = { maps.code coded_ℕ coded_ℕ };
+    ghost coded = { machines_code };
 
-    ghost view = { λ f. maps.from_entries f.machines.entries };
+    ghost view = { λ f. record { machines = f.there.values; spare = f.spare } };
 
-    ghost invariant = { λ f. AreInverse (maps.from_entries f.machines.entries) (maps.from_entries f.pfns.entries) };
+    ghost invariant = { λ f. AreInverse f.there.values (hash.get nat_eq f.back) × (f.spare ≤ f.there.spare) × (f.spare ≤ hash.spare f.back) };
 }
 
 impl MachineFrames {
+    /// No machine frames; it has taken no memory.
     #[tactic(auto, using(crate::proofs::MachineMaps::inverse_empty))]
     pub(crate) fn new(alloc: Global) -> MachineFrames
-        ensures { result ≡ maps.empty }
+        ensures machines { result.machines ≡ maps.empty }
+        ensures spare { result.spare ≡ 0 }
     {
         MachineFrames {
-            machines: BTreeMap::new(alloc),
-            pfns: BTreeMap::new(alloc),
+            there: Index::new(alloc),
+            back: HashMap::new(alloc),
+            spare: 0,
         }
     }
 
-    /// The machine frame of this PFN.
-    #[tactic(auto, using(crate::proofs::MachineMaps::get_made))]
+    /// The machine frame of this PFN, which may be any number.
     pub(crate) fn machine(&self, pfn: u64) -> Option<u64>
-        ensures { result ≡ maps.get self.now pfn }
+        ensures { result ≡ maps.get self.now.machines pfn }
     {
-        self.machines.get(&pfn).copied()
+        self.there.get(pfn)
     }
 
     /// The PFN that has this machine frame.
     pub(crate) fn pfn(&self, machine: u64) -> Option<u64>
-        ensures some { IfSome result (λ pfn. maps.get self.now pfn ≡ Some machine) }
-        ensures none { IfNone result ((pfn : ℕ) → maps.get self.now pfn ≡ Some machine → ⊥) }
+        ensures some { IfSome result (λ pfn. maps.get self.now.machines pfn ≡ Some machine) }
+        ensures none { IfNone result ((pfn : ℕ) → maps.get self.now.machines pfn ≡ Some machine → ⊥) }
     {
-        self.pfns.get(&machine).copied()
+        self.back.get(&machine).copied()
+    }
+
+    /// Makes ready room for at least `more` machine frames, those included that are spare already.
+    pub(crate) fn reserve(&mut self, more: usize) -> Result<(), Memory>
+        ensures machines { self.new.machines ≡ self.old.machines }
+        ensures ready { OnOk result (more ≤ self.new.spare) }
+        ensures kept { self.old.spare ≤ self.new.spare }
+        ensures enough { more ≤ self.old.spare → IsOk result }
+    {
+        if more <= self.spare {
+            return Ok(());
+        }
+        self.there.reserve(more)?;
+        match self.back.reserve(more) {
+            Ok(()) => {
+                self.spare = more;
+                Ok(())
+            }
+            Err(AllocError) => Err(Memory),
+        }
+    }
+
+    /// Gives a PFN a machine frame that no other has, and takes no memory.
+    pub(crate) fn put_spare(&mut self, pfn: u64, machine: u64)
+        requires small { pfn < pfn_limit }
+        requires some { 0 < machine }
+        requires absent { maps.get self.old.machines pfn ≡ None }
+        requires unused { (other : ℕ) → maps.get self.old.machines other ≡ Some machine → ⊥ }
+        requires room { 1 ≤ self.old.spare }
+        ensures machines { self.new.machines ≡ maps.insert self.old.machines pfn machine }
+        ensures taken { self.old.spare ≤ self.new.spare + 1 }
+    {
+        self.there.put_spare(pfn, machine);
+        let _ = self.back.insert(machine, pfn);
+        self.spare -= 1;
     }
 
     /// Gives a PFN a machine frame that no other has; where no memory is found, all stays.
-    #[tactic(auto, using(crate::proofs::MachineMaps::made_insert))]
     pub(crate) fn insert(&mut self, pfn: u64, machine: u64) -> Result<(), Memory>
-        requires absent { maps.get self.old pfn ≡ None }
-        requires unused { (other : ℕ) → maps.get self.old other ≡ Some machine → ⊥ }
-        ensures ok { OnOk result (self.new ≡ maps.insert self.old pfn machine) }
-        ensures err { OnErr result (self.new ≡ self.old) }
+        requires small { pfn < pfn_limit }
+        requires some { 0 < machine }
+        requires absent { maps.get self.old.machines pfn ≡ None }
+        requires unused { (other : ℕ) → maps.get self.old.machines other ≡ Some machine → ⊥ }
+        ensures ok { OnOk result (self.new.machines ≡ maps.insert self.old.machines pfn machine) }
+        ensures err { OnErr result (self.new.machines ≡ self.old.machines) }
+        ensures taken { self.old.spare ≤ self.new.spare + 1 }
     {
-        let Ok(_) = self.machines.insert(pfn, machine) else {
-            return Err(Memory);
-        };
-        if self.pfns.insert(machine, pfn).is_err() {
-            self.machines.remove(&pfn);
-            return Err(Memory);
-        }
+        self.reserve(1)?;
+        self.put_spare(pfn, machine);
         Ok(())
+    }
+
+    /// Takes the machine frame of this PFN away, where it has one.
+    pub(crate) fn remove(&mut self, pfn: u64)
+        ensures machines { self.new.machines ≡ maps.remove self.old.machines pfn }
+        ensures spare { self.old.spare ≤ self.new.spare }
+    {
+        if let Some(machine) = self.there.get(pfn) {
+            self.there.remove(pfn);
+            self.back.remove(&machine);
+        }
     }
 }

@@ -65,14 +65,14 @@ fn is_type_of(kind: Kind, this: PageType) -> bool
 /// Whether the host has a frame of this number or of a greater one.
 #[tactic(auto, using(crate::proofs::KeyTests::frames_from))]
 fn has_from(host: &Host, pfn: u64) -> bool
-    ensures { result ≡ has_frame_from host.now pfn }
+    ensures { result ≡ has_frame_from host.now.host pfn }
 {
     host.next_frame(pfn).is_some()
 }
 
 /// What is wrong with the head of a frame behind those of the host.
 fn frame_fault(host: &Host, head: &[u8; 16]) -> Option<ImageCause>
-    ensures { result ≡ fault_of_frame host.now head.now }
+    ensures { result ≡ fault_of_frame host.now.host head.now }
 {
     let pfn = pfn_of(head);
     let machine = u64_le(head, 8);
@@ -99,8 +99,8 @@ fn frame_fault(host: &Host, head: &[u8; 16]) -> Option<ImageCause>
 
 /// Takes the head of a frame that stands behind those of the host.
 fn read_frame_head<S: Source>(src: &mut S, host: &Host) -> Result<[u8; 16], Stop<ImageCause>>
-    ensures read { Gives (λ v head. head ≡ v) (S.left src.old) (S.left src.new) (frame_head_at host.now) result }
-    ensures fine { IfOk result (λ head. fault_of_frame host.now head ≡ None) }
+    ensures read { Gives (λ v head. head ≡ v) (S.left src.old) (S.left src.new) (frame_head_at host.now.host) result }
+    ensures fine { IfOk result (λ head. fault_of_frame host.now.host head ≡ None) }
     ensures taken { OnOk result (TakesBytes (S.left src.old) (S.left src.new)) }
     ensures faults { RisesOnReadFault (S.faults src.old) (S.faults src.new) result }
     ensures takes_no_memory { ¬ IsErrOf result Memory }
@@ -116,10 +116,10 @@ fn read_frame_head<S: Source>(src: &mut S, host: &Host) -> Result<[u8; 16], Stop
 /// Takes a frame that stands behind those of the host, and keeps it.
 #[tactic(auto, using(crate::proofs::Readers::frames_more, crate::proofs::Readers::is_absent))]
 fn read_frame<S: Source>(src: &mut S, host: &mut Host) -> Result<(), Stop<ImageCause>>
-    requires { length (maps.entries host.old.frames) < most_frames }
-    ensures read { Gives (λ _ h. host.new ≡ h) (S.left src.old) (S.left src.new) (host_frame_at host.old) result }
-    ensures counted { OnOk result (length (maps.entries host.new.frames) ≡ length (maps.entries host.old.frames) + 1) }
-    ensures parts { OnOk result (host.new.parts ≡ host.old.parts) }
+    requires { length (maps.entries host.old.host.frames) < most_frames }
+    ensures read { Gives (λ _ h. host.new.host ≡ h) (S.left src.old) (S.left src.new) (host_frame_at host.old.host) result }
+    ensures counted { OnOk result (length (maps.entries host.new.host.frames) ≡ length (maps.entries host.old.host.frames) + 1) }
+    ensures parts { OnOk result (host.new.host.parts ≡ host.old.host.parts) }
     ensures taken { OnOk result (TakesBytes (S.left src.old) (S.left src.new)) }
     ensures faults { RisesOnReadFault (S.faults src.old) (S.faults src.new) result }
 {
@@ -147,9 +147,9 @@ fn read_frames<S: Source>(
     count: u64,
 ) -> Result<(), Stop<(ImagePlace, ImageCause)>>
     requires few { count ≤ most_frames }
-    requires none { length (maps.entries host.old.frames) ≡ 0 }
-    ensures read { Gives (λ _ h. host.new ≡ h) (S.left src.old) (S.left src.new) (frames_at count host.old) result }
-    ensures parts { OnOk result (host.new.parts ≡ host.old.parts) }
+    requires none { length (maps.entries host.old.host.frames) ≡ 0 }
+    ensures read { Gives (λ _ h. host.new.host ≡ h) (S.left src.old) (S.left src.new) (frames_at count host.old.host) result }
+    ensures parts { OnOk result (host.new.host.parts ≡ host.old.host.parts) }
     ensures taken { OnOk result (TakesBytes (S.left src.old) (S.left src.new)) }
     ensures faults { RisesOnReadFault (S.faults src.old) (S.faults src.new) result }
 {
@@ -181,7 +181,7 @@ fn read_behind<S: Source>(
     head: &[u8; 32],
 ) -> Result<Host, Stop<(ImagePlace, ImageCause)>>
     requires { fault_of_host_head head.now ≡ None }
-    ensures read { Gives (λ host h. host ≡ h) (S.left src.old) (S.left src.new) (behind_head head.now) result }
+    ensures read { Gives (λ host h. host.host ≡ h) (S.left src.old) (S.left src.new) (behind_head head.now) result }
     ensures taken { OnOk result (TakesBytes (S.left src.old) (S.left src.new)) }
     ensures faults { RisesOnReadFault (S.faults src.old) (S.faults src.new) result }
 {

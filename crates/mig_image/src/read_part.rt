@@ -96,16 +96,16 @@ fn allows(code: u32, width: u64, len: u32) -> bool
 /// Whether the host has a part of this key or of a greater one.
 #[tactic(auto, using(crate::proofs::KeyTests::part_there, crate::proofs::KeyTests::parts_from))]
 fn has_from(host: &Host, key: PartKey) -> bool
-    ensures { result ≡ has_part_from host.now.parts key }
+    ensures { result ≡ has_part_from host.now.host.parts key }
 {
     host.part(key).is_some() || host.next_part(Some(key)).is_some()
 }
 
 /// What is wrong with the head of a part behind those of the host.
 fn part_fault(host: &Host, entries: Entries, head: &[u8; 16]) -> Option<ImageCause>
-    requires { Counts entries host.now.parts }
-    ensures value { result ≡ fault_of_part host.now head.now }
-    ensures valid { IfNone result (IsValid host.now) }
+    requires { Counts entries host.now.host.parts }
+    ensures value { result ≡ fault_of_part host.now.host head.now }
+    ensures valid { IfNone result (IsValid host.now.host) }
 {
     let key = key_of(head);
     let len = u32_le(head, 12);
@@ -130,10 +130,10 @@ fn read_part_head<S: Source>(
     host: &Host,
     entries: Entries,
 ) -> Result<[u8; 16], Stop<ImageCause>>
-    requires { Counts entries host.now.parts }
-    ensures read { Gives (λ v head. head ≡ v) (S.left src.old) (S.left src.new) (part_head_at host.now) result }
-    ensures fine { IfOk result (λ head. fault_of_part host.now head ≡ None) }
-    ensures valid { IfOk result (λ _. IsValid host.now) }
+    requires { Counts entries host.now.host.parts }
+    ensures read { Gives (λ v head. head ≡ v) (S.left src.old) (S.left src.new) (part_head_at host.now.host) result }
+    ensures fine { IfOk result (λ head. fault_of_part host.now.host head ≡ None) }
+    ensures valid { IfOk result (λ _. IsValid host.now.host) }
     ensures taken { OnOk result (TakesBytes (S.left src.old) (S.left src.new)) }
     ensures faults { RisesOnReadFault (S.faults src.old) (S.faults src.new) result }
     ensures takes_no_memory { ¬ IsErrOf result Memory }
@@ -197,9 +197,9 @@ fn read_part<S: Source>(
     host: &mut Host,
     entries: &mut Entries,
 ) -> Result<(), Stop<ImageCause>>
-    requires { Counts entries.old host.old.parts }
-    ensures read { Gives (λ _ h. host.new ≡ h) (S.left src.old) (S.left src.new) (part_at host.old) result }
-    ensures counted { OnOk result (Counts entries.new host.new.parts) }
+    requires { Counts entries.old host.old.host.parts }
+    ensures read { Gives (λ _ h. host.new.host ≡ h) (S.left src.old) (S.left src.new) (part_at host.old.host) result }
+    ensures counted { OnOk result (Counts entries.new host.new.host.parts) }
     ensures taken { OnOk result (TakesBytes (S.left src.old) (S.left src.new)) }
     ensures faults { RisesOnReadFault (S.faults src.old) (S.faults src.new) result }
 {
@@ -222,8 +222,8 @@ pub(crate) fn read_parts<S: Source>(
     host: &mut Host,
     count: u64,
 ) -> Result<(), Stop<(ImagePlace, ImageCause)>>
-    requires { host.old.parts ≡ maps.empty }
-    ensures read { Gives (λ _ h. host.new ≡ h) (S.left src.old) (S.left src.new) (host_parts_at count host.old) result }
+    requires { host.old.host.parts ≡ maps.empty }
+    ensures read { Gives (λ _ h. host.new.host ≡ h) (S.left src.old) (S.left src.new) (host_parts_at count host.old.host) result }
     ensures taken { OnOk result (TakesBytes (S.left src.old) (S.left src.new)) }
     ensures faults { RisesOnReadFault (S.faults src.old) (S.faults src.new) result }
 {

@@ -35,8 +35,9 @@ fn is_outside(base: u64, frames: u64) -> bool
 /// The frame of rank i gets machine frame base + i. Answers them, and one more than the greatest PFN.
 #[tactic(auto, using(crate::proofs::Ranks::rank_full, crate::proofs::Ranks::frames_inside, crate::proofs::InOrder::entries_counted, crate::proofs::RestoredHosts::counted_all, crate::proofs::RestoredHosts::counted_unused))]
 fn count_up(alloc: Global, guest: &Guest, base: u64) -> Result<(MachineFrames, u64), Memory>
-    requires { base + length (maps.entries guest.now.frames) ≤ 2 ^ 40 }
-    ensures machines { IfOk result (λ r. (pfn : ℕ) → maps.get r.0 pfn ≡ option_map (λ _. base + rank_in guest.now.frames pfn) (maps.get guest.now.frames pfn)) }
+    requires some { 0 < base }
+    requires range { base + length (maps.entries guest.now.frames) ≤ 2 ^ 40 }
+    ensures machines { IfOk result (λ r. (pfn : ℕ) → maps.get r.0.machines pfn ≡ option_map (λ _. base + rank_in guest.now.frames pfn) (maps.get guest.now.frames pfn)) }
     ensures width { IfOk result (λ r. r.1 ≡ least_width (maps.entries guest.now.frames)) }
 {
     let mut machines = MachineFrames::new(alloc);
@@ -59,14 +60,18 @@ fn count_up(alloc: Global, guest: &Guest, base: u64) -> Result<(MachineFrames, u
 pub fn host_of(alloc: Global, guest: Guest, base: u64) -> Result<Host, HostAnswer>
     requires whole { IsWhole guest }
     requires hvm { guest.kind ≡ Hvm }
-    ensures hosted { IfOk result (λ host. host ≡ hosted guest base) }
+    ensures hosted { IfOk result (λ host. host.host ≡ hosted guest base) }
     ensures outside { (result ≡ Err BaseRange) ↔ IsBaseOutside guest base }
 {
     if is_outside(base, guest.frames()) {
         return Err(HostAnswer::BaseRange);
     }
     match count_up(alloc, &guest, base) {
-        Ok((machines, width)) => Ok(Host::of(guest, width, machines)),
+        Ok((machines, width)) => {
+            let kind = guest.kind();
+            let (frames, parts) = guest.into_frames_and_parts();
+            Ok(Host::of(kind, width, frames, machines, parts))
+        }
         Err(Memory) => Err(HostAnswer::Memory),
     }
 }

@@ -113,9 +113,9 @@ fn put_frame(
 fn fill_frames(buffer: &mut [u8], host: &Host, start: u64, count: u64) -> (u64, usize)
     requires space { 4112 * count ≤ length buffer.old }
     requires most { count ≤ 4 }
-    requires has { count ≤ length (entries_from start (maps.entries host.now.frames)) }
-    ensures bytes { take result.1 buffer.new ≡ flat_map frame_text (take count (entries_from start (maps.entries host.now.frames))) }
-    ensures next { entries_from result.0 (maps.entries host.now.frames) ≡ drop count (entries_from start (maps.entries host.now.frames)) }
+    requires has { count ≤ length (entries_from start (maps.entries host.now.host.frames)) }
+    ensures bytes { take result.1 buffer.new ≡ flat_map frame_text (take count (entries_from start (maps.entries host.now.host.frames))) }
+    ensures next { entries_from result.0 (maps.entries host.now.host.frames) ≡ drop count (entries_from start (maps.entries host.now.host.frames)) }
     ensures few { result.1 ≤ 4112 * count }
     ensures room { length buffer.new ≡ length buffer.old }
 {
@@ -135,7 +135,7 @@ fn fill_frames(buffer: &mut [u8], host: &Host, start: u64, count: u64) -> (u64, 
 
 /// Appends all frames, four at a time.
 fn write_frames<K: Sink>(sink: &mut K, host: &Host) -> Result<(), WriteFailed>
-    ensures bytes { Puts (flat_map frame_text (maps.entries host.now.frames)) (K.written sink.old) (K.written sink.new) result }
+    ensures bytes { Puts (flat_map frame_text (maps.entries host.now.host.frames)) (K.written sink.old) (K.written sink.new) result }
     ensures cause { HasCause (K.faults sink.old) (K.faults sink.new) result }
 {
     let mut buffer = no_bytes();
@@ -155,8 +155,8 @@ fn write_frames<K: Sink>(sink: &mut K, host: &Host) -> Result<(), WriteFailed>
 /// The number of parts.
 #[tactic(auto, using(crate::proofs::Parts::parts_few))]
 fn count_parts(host: &Host) -> u64
-    requires { IsValid host.now }
-    ensures { result ≡ length (maps.entries host.now.parts) }
+    requires { IsValid host.now.host }
+    ensures { result ≡ length (maps.entries host.now.host.parts) }
 {
     let mut count = 0;
     let mut after = None;
@@ -190,9 +190,9 @@ fn write_part<K: Sink>(sink: &mut K, key: PartKey, bytes: &[u8]) -> Result<(), W
 /// Appends so many parts, which are all.
 #[tactic(auto, using(crate::proofs::Writers::part_small, crate::proofs::Writers::not_ended))]
 fn write_parts<K: Sink>(sink: &mut K, host: &Host, count: u64) -> Result<(), WriteFailed>
-    requires valid { IsValid host.now }
-    requires count { count ≡ length (maps.entries host.now.parts) }
-    ensures bytes { Puts (flat_map part_text (maps.entries host.now.parts)) (K.written sink.old) (K.written sink.new) result }
+    requires valid { IsValid host.now.host }
+    requires count { count ≡ length (maps.entries host.now.host.parts) }
+    ensures bytes { Puts (flat_map part_text (maps.entries host.now.host.parts)) (K.written sink.old) (K.written sink.new) result }
     ensures cause { HasCause (K.faults sink.old) (K.faults sink.new) result }
 {
     let mut after = None;
@@ -210,7 +210,7 @@ fn write_parts<K: Sink>(sink: &mut K, host: &Host, count: u64) -> Result<(), Wri
 
 /// Appends the image of the host. It takes no memory. After a failed write a part of the image is appended.
 pub fn write_host<K: Sink>(sink: &mut K, host: &Host) -> Result<(), WriteFailed>
-    ensures bytes { Puts (image host.now) (K.written sink.old) (K.written sink.new) result }
+    ensures bytes { Puts (image host.now.host) (K.written sink.old) (K.written sink.new) result }
     ensures cause { HasCause (K.faults sink.old) (K.faults sink.new) result }
 {
     put_all(sink, &head_bytes(host.kind(), host.width(), host.frames()))?;

@@ -1,4 +1,4 @@
-use mig_bodies::{body_fault, read_body};
+use mig_bodies::{body_fault, p2m_fault, read_body, read_p2m};
 use mig_guest::{Guest, PartCode, PartKey};
 use mig_headers::{Cause, Kind};
 use mig_hvm::{params_fault, read_params};
@@ -170,5 +170,31 @@ fn bodies_of_a_pv_guest(rt: HostRuntime) -> Result<(), Fail> {
         &guest,
         &[(key(6, 3, 0), &XSAVE[8..]), (key(7, 0, 0), &info)],
     );
+    Ok(())
+}
+
+// The P2M frames of the frame numbers up to 1023, and then of those up to 511 again.
+const P2M_FRAMES: [u8; 24] = [
+    0, 0, 0, 0, 0xff, 3, 0, 0, 7, 0, 0, 0, 0, 0, 0, 0, 8, 0, 0, 0, 0, 0, 0, 0,
+];
+
+const FIRST_P2M_FRAME: [u8; 16] = [0, 0, 0, 0, 0xff, 1, 0, 0, 9, 0, 0, 0, 0, 0, 0, 0];
+
+// Lists P2M frames, which have no fault.
+fn list(rt: &impl Abort, guest: &mut Guest, body: &[u8]) -> Result<(), Fail> {
+    assert!(rt; body.len() >= 8);
+    assert_eq!(rt; p2m_fault(body), None);
+    read_p2m(guest, body)?;
+    Ok(())
+}
+
+#[test]
+fn p2m_frames_are_listed_again(rt: HostRuntime) -> Result<(), Fail> {
+    let mut guest = Guest::new(rt.alloc(), Kind::Pv);
+    list(&rt, &mut guest, hidden(&P2M_FRAMES))?;
+    list(&rt, &mut guest, hidden(&FIRST_P2M_FRAME))?;
+    assert_eq!(rt; guest.top(), 0x3ff);
+    let listed = [9, 0, 0, 0, 0, 0, 0, 0, 8, 0, 0, 0, 0, 0, 0, 0];
+    has(&rt, &guest, &[(key(3, 0, 0), &listed)]);
     Ok(())
 }

@@ -212,9 +212,10 @@ fn is_sample(rt: &impl Abort, host: &Host) {
 fn an_image_is_read_and_written(rt: HostRuntime) -> Result<(), Fail> {
     let image = sample(rt.alloc())?;
     let mut src = source(rt.alloc(), u64::MAX)?;
-    let Ok(host) = read_host(rt.alloc(), &mut src) else {
+    let Ok(mut host) = read_host(rt.alloc(), &mut src) else {
         return Err("the image is refused".into());
     };
+    assert!(rt; host.reserve(3).is_ok());
     is_sample(&rt, &host);
     let mut sink = MemSink::new(rt.alloc(), Vec::new(rt.alloc()));
     assert_eq!(rt; write_host(&mut sink, &host), Ok(()));

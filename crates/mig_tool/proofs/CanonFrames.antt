@@ -1,33 +1,22 @@
 -- The body of each batch of frames says these frames.
-use Rattle.std.proofs.Common.{◌≡◌, ℕ, zero, suc, ◌+◌, ◌-◌, ◌*◌, ◌/◌, ◌%◌, ◌≤◌, ◌<◌, ◌^◌, min, List, [], ◌∷◌, ◌++◌, length, take, drop, map, replicate, Bool, true, false, nat_le, Option, Some, None, refl, sym, ap, subst, ◌∙◌, arith, length-append, drop-drop}
-use Rattle.std.specs.Prelude.{unwrap_or, is_some}
+use Rattle.mig_tool.proofs.Common.{◌≡◌, ℕ, zero, suc, ◌+◌, ◌-◌, ◌*◌, ◌/◌, ◌%◌, ◌≤◌, ◌<◌, ◌^◌, min, List, [], ◌∷◌, ◌++◌, length, take, drop, map, replicate, Bool, true, false, nat_le, Option, Some, None, refl, sym, ap, subst, ◌∙◌, arith, length-append, drop-drop, unwrap_or, is_some, All, range_with_len, nat_cmp-IsAntisymmetric, little_bytes, little_number, Kind, Hvm, IsFrame, is_type_of, GuestOf, IsFormed, Frame, batch, batches, frame_word_in, page_in, words_of, pages_of, frames_in, Frames, IsPage, IsEntry, AreEntries, IsGoodWord, IsBatch}
 use Rattle.std.proofs.lemmas.Grind.{common_steps}
 use Rattle.std.proofs.lemmas.List.{length-take, length-drop, take_all}
 use Rattle.std.proofs.lemmas.List.Elements.{All-nil, All-cons, All-head, All-tail, All-take, All-drop}
 use Rattle.std.proofs.Math.Seq.{take-add}
-use Rattle.std.specs.List.{All, range_with_len}
 use Rattle.std.specs.Cmp.{nat_cmp_total}
 use Rattle.std.specs.FinMap as maps
-use Rattle.std.specs.FinMap.{nat_cmp-IsAntisymmetric}
-use Rattle.byteorder.specs.Endian.{little_bytes, little_number}
 use Rattle.byteorder.specs.Numbers.{little_number-reads_back}
 use Rattle.mig_bytes.specs.Fields.{le32, le64}
-use Rattle.mig_headers.specs.declared.kind.Kind.{Kind}
-use Rattle.mig_headers.specs.declared.kind.Kind.TheVariants.{Hvm}
 use Rattle.mig_pagetypes.specs.declared.page_type.PageType.{PageType}
 use Rattle.mig_pagetypes.specs.declared.page_type.PageType.TheVariants.{Notab}
 use Rattle.mig_pagetypes.specs.PageTypes.{number_of, type_of, type_or_none, type_has_data}
 use Rattle.mig_pagetypes.specs.FrameWords.{word_type, word_pfn, word_has_data, some_has_data}
-use Rattle.mig_guest.specs.Frames.{IsFrame, is_type_of}
-use Rattle.mig_guest.specs.Guests.{GuestOf}
 use Rattle.mig_records.specs.Words.{words, has_reserved_type}
-use Rattle.mig_guest.specs.Formed.{IsFormed}
 use Rattle.mig_guest.proofs.CodeParts.{all_of}
 use Rattle.mig_guest.proofs.Found.{all_found}
-use Rattle.mig_canon.specs.Canon.{Frame, batch, batches, frame_word_in, page_in, words_of, pages_of, body_of, frames_in}
+use Rattle.mig_canon.specs.Canon.{body_of}
 use Rattle.mig_canon.proofs.Batches.{words_len}
-use Rattle.mig_restore.specs.Record.Content.{Frames}
-use Rattle.mig_restore.specs.Spelled.{IsPage, IsEntry, AreEntries, IsGoodWord, IsBatch}
 use Rattle.mig_restore.specs.Spelled.HasContent.{pages as pages_say}
 use Rattle.mig_tool.proofs.CanonMaps.{entry_of, HasHvmType}
 use Rattle.mig_tool.proofs.CanonParts.{le32_first, Fits}

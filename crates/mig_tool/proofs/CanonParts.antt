@@ -1,22 +1,11 @@
 -- What a body of a record says, and that fields are read back.
-use Rattle.std.proofs.Common.{◌≡◌, ℕ, ◌≤◌, ◌<◌, ◌^◌, List, [], ◌++◌, length, true, Option, Some, None, refl, subst}
-use Rattle.std.specs.Prelude.{is_some}
-use Rattle.byteorder.specs.Endian.{little_bytes}
+use Rattle.mig_tool.proofs.Common.{◌≡◌, ℕ, ◌≤◌, ◌<◌, ◌^◌, List, [], ◌++◌, length, true, Option, Some, None, refl, subst, is_some, little_bytes, Hvm, PartCode, code_number, Part, IsRecordBody, Content, Sets, HasContent, sets}
 use Rattle.byteorder.specs.Numbers.{little_number-reads_back}
 use Rattle.mig_bytes.specs.Fields.{le32}
 use Rattle.mig_headers.specs.RecordTypes.{type_number, type_of_number}
 use Rattle.mig_headers.proofs.RecordNumbers.{numbers_are_inverse}
-use Rattle.mig_headers.specs.declared.kind.Kind.TheVariants.{Hvm}
 use Rattle.mig_headers.specs.declared.record_type.RecordType.{RecordType}
-use Rattle.mig_guest.specs.declared.part_code.PartCode.{PartCode}
-use Rattle.mig_guest.specs.PartCodes.{code_number}
-use Rattle.mig_guest.specs.Parts.{Part}
 use Rattle.mig_guest.proofs.PartRows.{numbered}
-use Rattle.mig_bodies.specs.Shapes.{IsRecordBody}
-use Rattle.mig_restore.specs.Record.{Content}
-use Rattle.mig_restore.specs.Record.Content.{Sets}
-use Rattle.mig_restore.specs.Spelled.{HasContent}
-use Rattle.mig_restore.specs.Spelled.HasContent.{sets}
 
 -- ---- fields read back
 

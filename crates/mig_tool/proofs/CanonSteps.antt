@@ -1,49 +1,34 @@
 -- Records of a canonical stream one after another, each in its place.
-use Rattle.std.proofs.Common.{◌≡◌, ℕ, zero, suc, ◌+◌, ◌*◌, ◌≤◌, ◌<◌, ◌^◌, List, [], ◌∷◌, ◌++◌, length, take, map, replicate, Bool, true, false, nat_eq, None, refl, sym, ap, subst, ◌∙◌, arith, append_assoc, append-nil, length-append}
-use Rattle.std.specs.Prelude.{T, ◌||◌, ◌&&◌, not, fold, if◌then◌else◌, is_some}
+use Rattle.mig_tool.proofs.Common.{◌≡◌, ℕ, zero, suc, ◌+◌, ◌*◌, ◌≤◌, ◌<◌, ◌^◌, List, [], ◌∷◌, ◌++◌, length, take, map, replicate, Bool, true, false, nat_eq, None, refl, sym, ap, subst, ◌∙◌, arith, append_assoc, append-nil, length-append, T, ◌||◌, ◌&&◌, fold, if◌then◌else◌, is_some, All, AllByRecursion, list_any, list_all, is_sorted, little_bytes, Hvm, FrameMap, GuestOf, PartCode, code_number, Part, PartMap, put_parts, replace_code, IsFormed, is_policy, shape_of, set_parts, parts_at, part_body, bodies_by_shape, canonical_bodies, contents_by_shape, sole_key, IsBody, IsShaped, SayAll, Frame, Record, batch, batches, frame_bodies, records_of, records_in_order, static_codes, last_codes, text_of, StreamRecord, Content, types_of, is_ended, Sets, put_content, put_entry, put_entries, IsComplete, Follows, Spells, one_more_record}
+use Rattle.std.specs.Prelude.{not}
 use Rattle.std.proofs.lemmas.Bool.{and_parts, not-true}
 use Rattle.std.proofs.lemmas.Grind.{flat_map-append}
 use Rattle.std.proofs.lemmas.List.{length-replicate, map-append}
 use Rattle.std.proofs.lemmas.List.Folds.{list_any-append}
 use Rattle.std.proofs.lemmas.List.FromFn.{map-range_with_len_more}
 use Rattle.std.proofs.lemmas.List.Sums.{fold-append}
-use Rattle.std.specs.List.{All, AllByRecursion, list_any, list_all}
 use Rattle.std.specs.Ordering.{is_lt}
 use Rattle.std.specs.FinMap as maps
-use Rattle.std.specs.FinMap.{is_sorted}
 use Rattle.std.specs.FinMap.Entries.{below_all}
-use Rattle.byteorder.specs.Endian.{little_bytes}
 use Rattle.mig_bytes.specs.Bytes.{padding_len}
-use Rattle.mig_headers.specs.declared.kind.Kind.TheVariants.{Hvm}
 use Rattle.mig_headers.specs.declared.record_type.RecordType.{RecordType}
 use Rattle.mig_headers.specs.declared.record_type.RecordType.TheVariants.{StaticDataEnd, X86PvInfo, X86PvP2mFrames}
 use Rattle.mig_headers.specs.RecordTypes.{type_of_number}
-use Rattle.mig_guest.specs.Frames.{FrameMap}
-use Rattle.mig_guest.specs.Guests.{GuestOf}
-use Rattle.mig_guest.specs.declared.part_code.PartCode.{PartCode}
 use Rattle.mig_guest.specs.declared.part_code.PartCode.TheVariants.{Tsc, CpuidLeaf}
 use Rattle.mig_guest.specs.declared.part_key.PartKey.{PartKey}
 use Rattle.mig_guest.specs.Order.{part_cmp}
-use Rattle.mig_guest.specs.PartCodes.{code_number}
-use Rattle.mig_guest.specs.Parts.{Part, PartMap, put_parts, replace_code}
-use Rattle.mig_guest.specs.Formed.{IsFormed, is_policy}
 use Rattle.mig_guest.proofs.PartCursor.{both_of, not_itself}
 use Rattle.mig_guest.proofs.PartOrder.{part_total}
 use Rattle.mig_bodies.specs.declared.shape.Shape.{Shape}
 use Rattle.mig_bodies.specs.declared.shape.Shape.TheVariants.{Table, Single, Named, Chain, Other}
-use Rattle.mig_bodies.specs.Shapes.{shape_of, set_parts, parts_at, part_body, bodies_by_shape, canonical_bodies, contents_by_shape, sole_key, IsBody, IsShaped, SayAll}
 use Rattle.mig_bodies.proofs.Canonical.{canonical_bodies_say}
 use Rattle.mig_records.specs.Records.{IsRecord, head_of, spelled}
 use Rattle.mig_order.specs.Order.{Earlier, some_earlier, among, content_records, vcpu_records, fault_after, fault_of_type}
 use Rattle.mig_order.proofs.OrderLaw.{faultless_is_in_order}
-use Rattle.mig_canon.specs.Canon.{Frame, Record, batch, batches, body_of, frame_bodies, records_of, records_in_order, static_codes, last_codes, text_of}
-use Rattle.mig_restore.specs.Record.{StreamRecord, Content, types_of, is_ended}
-use Rattle.mig_restore.specs.Record.Content.{Sets}
+use Rattle.mig_canon.specs.Canon.{body_of}
 use Rattle.mig_restore.specs.Judging.{Opening, is_built}
-use Rattle.mig_restore.specs.Mean.{sent, put_content, put_entry, put_entries}
-use Rattle.mig_restore.specs.Spelled.{IsComplete, Follows, Spells}
+use Rattle.mig_restore.specs.Mean.{sent}
 use Rattle.mig_restore.specs.Spelled.Spells.{one_more}
-use Rattle.mig_restore.proofs.Meaning.{one_more_record}
 use Rattle.mig_tool.proofs.CanonMaps.{entry_of, parts_in_order, with_parts}
 use Rattle.mig_tool.proofs.CanonParts.{le32_first, le32_second, Fits, fits_of}
 use Rattle.mig_tool.proofs.CanonFrames.{Fine, batch_fits, take_more, few_batches}

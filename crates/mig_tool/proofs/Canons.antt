@@ -1,27 +1,15 @@
 -- The canonical stream of a whole guest is accepted, and means the guest.
-use Rattle.std.proofs.Common.{◌≡◌, ℕ, ◌+◌, ◌≤◌, ◌<◌, ◌^◌, List, [], ◌∷◌, ◌++◌, length, map, Bool, true, false, IsSome, refl, sym, ap, subst, ◌∙◌, arith, append_assoc, append-nil, le_refl, ◌↔◌, inr}
-use Rattle.std.specs.Prelude.{◌||◌}
+use Rattle.mig_tool.proofs.Common.{◌≡◌, ℕ, ◌+◌, ◌≤◌, ◌<◌, ◌^◌, List, [], ◌∷◌, ◌++◌, length, map, Bool, true, false, IsSome, refl, sym, ap, subst, ◌∙◌, arith, append_assoc, append-nil, le_refl, ◌↔◌, inr, ◌||◌, Kind, Hvm, GuestOf, PartMap, IsFew, IsFormed, IsPlainHvm, IsTop, Record, batches, frame_bodies, records_in_order, static_codes, last_codes, frames_in, static_bodies, bodies_of, text_of, headers, StreamRecord, is_ended, Nothing, empty_guest, put_entries, IsComplete, Spells, IsImage, Accepted, ends, static_end, meant_as_sent}
 use Rattle.std.specs.FinMap as maps
-use Rattle.mig_headers.specs.declared.kind.Kind.{Kind}
-use Rattle.mig_headers.specs.declared.kind.Kind.TheVariants.{Hvm}
 use Rattle.mig_headers.specs.Headers.{image_header_of, domain_header_of}
 use Rattle.mig_headers.proofs.HeaderLaws.{image_is_read_back, domain_is_read_back}
-use Rattle.mig_guest.specs.Guests.{GuestOf}
 use Rattle.mig_guest.specs.PartKeys.{context_key}
-use Rattle.mig_guest.specs.Parts.{PartMap}
-use Rattle.mig_guest.specs.Frames.{IsFew}
-use Rattle.mig_guest.specs.Formed.{IsFormed, IsPlainHvm, IsTop}
 use Rattle.mig_pvtables.specs.Whole.{IsWhole}
 use Rattle.mig_pvtables.proofs.HvmGuests.{hvm_complete}
-use Rattle.mig_canon.specs.Canon.{Record, batches, frame_bodies, records_in_order, static_codes, last_codes, frames_in, static_bodies, bodies_of, text_of, headers, canon}
-use Rattle.mig_restore.specs.Record.{StreamRecord, is_ended}
-use Rattle.mig_restore.specs.Record.Content.{Nothing}
-use Rattle.mig_restore.specs.Mean.{sent, empty_guest, put_entries}
-use Rattle.mig_restore.specs.Spelled.{IsComplete, Spells, IsImage, Accepted}
-use Rattle.mig_restore.specs.Spelled.HasContent.{ends, static_end}
+use Rattle.mig_canon.specs.Canon.{canon}
+use Rattle.mig_restore.specs.Mean.{sent}
 use Rattle.mig_restore.specs.Spelled.Spells.{none}
 use Rattle.mig_restore.proofs.Converse.{one_front}
-use Rattle.mig_restore.proofs.Meaning.{meant_as_sent}
 use Rattle.mig_tool.proofs.CanonMaps.{entry_of, frames_again, with_parts, holds_none, holds_codes, holds_all}
 use Rattle.mig_tool.proofs.CanonParts.{Fits}
 use Rattle.mig_tool.proofs.CanonFrames.{all_fine, all_hvm, all_taken, few_batches}

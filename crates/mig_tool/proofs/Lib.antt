@@ -1,3 +1,4 @@
+pub mod Common
 pub mod Reporting
 pub mod CanonMaps
 pub mod CanonParts

@@ -1,10 +1,7 @@
 -- Words name one command at most.
 use mathlib.Core.Logic.{inl, inr}
-use Rattle.std.proofs.Common.{◌≡◌, ℕ, ◌<◌, ◌^◌, List, [], length, get_or, sym, ap, ◌∙◌, refl, arith}
+use Rattle.mig_tool.proofs.Common.{◌≡◌, ℕ, ◌<◌, ◌^◌, List, [], length, get_or, sym, ap, ◌∙◌, refl, arith, IsBase, Names, Command, Normalise, Restore, Verify}
 use Rattle.std.proofs.lemmas.Fmt.{decimal_injective}
-use Rattle.mig_tool.specs.Words.{IsBase, Names}
-use Rattle.mig_tool.specs.declared.command.Command.{Command}
-use Rattle.mig_tool.specs.declared.command.Command.TheVariants.{Normalise, Restore, Verify}
 
 -- the first letter of the first word
 abbrev initial : List (List ℕ) → ℕ

@@ -1,19 +1,14 @@
 -- What the program answers, and what the line on the report comes to.
-use Rattle.std.specs.Prelude.{◌⊎◌}
+use Rattle.mig_tool.proofs.Common.{◌⊎◌, ◌≡◌, ℕ, ◌++◌, List, [], length, arith, Option, Some, None, Result, Ok, Err, refl, sym, ap, subst, ◌∙◌, GuestOf, Accepted, IsPlainHvm, IsFew, IsBase, restored_text, Written, Done, DonePart, Comes, ComesOf, Says, SaysOf, InputRises, IsLine, summary_of, Command, Normalise, Restore, Verify, mean_kind, status_of, line_of, outcome_of}
 use mathlib.Core.Logic.{inl, inr}
-use Rattle.std.proofs.Common.{◌≡◌, ℕ, ◌++◌, List, [], length, arith, Option, Some, None, Result, Ok, Err, refl, sym, ap, subst, ◌∙◌}
 use Rattle.std.specs.Io.KnownBytes.{Appends}
 use Rattle.mig_bytes.specs.Bytes.{Puts}
 use Rattle.mig_bytes.specs.Faults.{Rose, HasCause}
 use Rattle.mig_bytes.specs.declared.failure.WriteFailed.{WriteFailed}
 use Rattle.mig_headers.specs.declared.fault.Cause.{Cause}
 use Rattle.mig_headers.specs.declared.fault.Place.{Place}
-use Rattle.mig_guest.specs.Guests.{GuestOf}
-use Rattle.mig_restore.specs.Spelled.{Accepted}
 use Rattle.mig_restore.specs.Stream.{IsRefused}
 use Rattle.mig_canon.specs.Canon.{canon}
-use Rattle.mig_guest.specs.Formed.{IsPlainHvm}
-use Rattle.mig_guest.specs.Frames.{IsFew}
 use Rattle.mig_pvtables.specs.Whole.{IsWhole}
 use Rattle.mig_pvtables.proofs.HvmGuests.{hvm_complete}
 use Rattle.mig_restore.specs.Judging.{Opening}
@@ -31,18 +26,12 @@ use Rattle.mig_image.specs.Hosted.{hosted, IsBaseOutside}
 use Rattle.mig_image.proofs.ImageReads.{image_reads}
 use Rattle.mig_image.proofs.HostViews.{hosted_seen}
 use Rattle.mig_image.proofs.RestoredHosts.{hosted_valid}
-use Rattle.mig_tool.specs.Words.{IsBase}
 use Rattle.mig_bytes.specs.Bytes.{AppendsPart}
-use Rattle.mig_tool.specs.Answers.{restored_text, Written, Done, DonePart, Comes, ComesOf, Says, SaysOf, InputRises, IsLine, summary_of}
-use Rattle.mig_tool.specs.declared.command.Command.{Command}
-use Rattle.mig_tool.specs.declared.command.Command.TheVariants.{Normalise, Restore, Verify}
 use Rattle.mig_tool.specs.declared.outcome.Summary.{Summary}
 use Rattle.mig_restore.specs.declared.answer.StreamAnswer.{StreamAnswer}
 use Rattle.mig_restore.specs.declared.answer.StreamAnswer.TheVariants as answers
-use Rattle.mig_restore.proofs.Meaning.{mean_kind}
 use Rattle.std.specs.FinMap as maps
 use Rattle.mig_tool.specs.Report.{ok_line}
-use Rattle.mig_tool.specs.Outcome.{status_of, line_of, outcome_of}
 use Rattle.mig_tool.specs.Report.{Reports}
 
 abbrev pub wrote : Result (Unit {0}) WriteFailed → Outcome

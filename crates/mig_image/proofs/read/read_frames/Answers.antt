@@ -1,16 +1,10 @@
-use Rattle.std.proofs.Common.{◌≡◌, ◌∙◌, ◌+◌, ap, subst, rules, refl, Ok}
-use Rattle.mig_bytes.specs.Judged.{Gives}
-use Rattle.mig_bytes.proofs.Taking.{takes_none, takes_more}
+use Rattle.mig_image.proofs.Common.{◌≡◌, ◌∙◌, ◌+◌, ap, subst, rules, refl, Ok, Gives, takes_none, takes_more, told, one_more, one_stops, Frame, HostOf, host_frame_at, frames_at}
 use Rattle.mig_bytes.proofs.Steps.{begins}
-use Rattle.mig_bytes.proofs.Placed.{told, one_more, one_stops}
-use Rattle.mig_headers.specs.declared.image_fault.ImagePlace.TheVariants.{Frame}
-use Rattle.mig_guest.specs.Hosts.{HostOf}
-use Rattle.mig_image.specs.ImageParts.{host_frame_at, frames_at}
 use Rattle.mig_image.proofs.read.read_frames.Goals as goal
 
 pub loop-i-init : goal.loop-i-init
 loop-i-init g c = record {
-  read = begins (λ (v h : HostOf). v ≡ h) _ c.args.host.now c.args.host.now _ refl;
+  read = begins (λ (v h : HostOf). v ≡ h) _ c.args.host.now.host c.args.host.now.host _ refl;
   counted = c.requires.none;
   parts = refl;
   taken = takes_none _;
@@ -19,11 +13,11 @@ loop-i-init g c = record {
 
 pub returns-in-Err-clause-read : goal.returns-in-Err-clause-read
 returns-in-Err-clause-read g c =
-    one_stops Frame host_frame_at _ _ _ _ _ c.loop-i.i c.args.count c.args.host.now c.loop-i.host c.in-Err.stop c.at.result (search rules) c.loop-i.invariant.read c.in-Err.ensures.read c.at.ensures
+    one_stops Frame host_frame_at _ _ _ _ _ c.loop-i.i c.args.count c.args.host.now.host c.loop-i.host.host c.in-Err.stop c.at.result (search rules) c.loop-i.invariant.read c.in-Err.ensures.read c.at.ensures
 
 pub loop-i-preserved : goal.loop-i-preserved
 loop-i-preserved g c = record {
-  read = one_more Frame host_frame_at _ _ _ c.loop-i.i c.args.host.now c.loop-i.host c.read_frame.new.host _ c.loop-i.invariant.read c.in_default.ensures.read;
+  read = one_more Frame host_frame_at _ _ _ c.loop-i.i c.args.host.now.host c.loop-i.host.host c.read_frame.new.host.host _ c.loop-i.invariant.read c.in_default.ensures.read;
   counted = c.in_default.ensures.counted ∙ ap (λ n. n + 1) c.loop-i.invariant.counted;
   parts = c.in_default.ensures.parts ∙ c.loop-i.invariant.parts;
   taken = takes_more _ _ _ c.loop-i.invariant.taken c.in_default.ensures.taken;
@@ -33,4 +27,4 @@ loop-i-preserved g c = record {
 pub returns-clause-read : goal.returns-clause-read
 returns-clause-read g c =
     let all : c.loop-i.i ≡ c.args.count = search rules in
-    told _ _ (frames_at c.args.count c.args.host.now) c.loop-i.host tt (subst (λ n. Gives {X = HostOf} (λ v h. v ≡ h) (g.S.Source.left c.args.src.now) (g.S.Source.left c.loop-i.src) (frames_at n c.args.host.now) (Ok c.loop-i.host)) all c.loop-i.invariant.read)
+    told _ _ (frames_at c.args.count c.args.host.now.host) c.loop-i.host.host tt (subst (λ n. Gives {X = HostOf} (λ v h. v ≡ h) (g.S.Source.left c.args.src.now) (g.S.Source.left c.loop-i.src) (frames_at n c.args.host.now.host) (Ok c.loop-i.host.host)) all c.loop-i.invariant.read)

@@ -1,16 +1,12 @@
-use Rattle.std.proofs.Common.{◌≡◌, length, Ok}
+use Rattle.mig_image.proofs.Common.{◌≡◌, length, Ok, TakesBytes, Gives, HostOf, frames_at}
 use Rattle.std.specs.FinMap as maps
-use Rattle.mig_bytes.specs.Bytes.{TakesBytes}
-use Rattle.mig_bytes.specs.Judged.{Gives}
-use Rattle.mig_guest.specs.Hosts.{HostOf}
-use Rattle.mig_image.specs.ImageParts.{frames_at}
 use Rattle.mig_image.proofs.read.read_frames.Given as goal
 
 abbrev pub invariant-loop-i : goal.invariant-loop-i
 invariant-loop-i g l = record {
-  read : Gives {X = HostOf} (λ v h. v ≡ h) (g.S.Source.left l.fn.src) (g.S.Source.left l.src) (frames_at l.i l.fn.host) (Ok l.host);
-  counted : length (maps.entries l.host.frames) ≡ l.i;
-  parts : l.host.parts ≡ l.fn.host.parts;
+  read : Gives {X = HostOf} (λ v h. v ≡ h) (g.S.Source.left l.fn.src) (g.S.Source.left l.src) (frames_at l.i l.fn.host.host) (Ok l.host.host);
+  counted : length (maps.entries l.host.host.frames) ≡ l.i;
+  parts : l.host.host.parts ≡ l.fn.host.host.parts;
   taken : TakesBytes (g.S.Source.left l.fn.src) (g.S.Source.left l.src);
   quiet : g.S.Source.faults l.src ≡ g.S.Source.faults l.fn.src;
 }

@@ -1,14 +1,5 @@
-use Rattle.std.proofs.Common.{List, ℕ, Option, Result, Ok, Err, OnOk, sym, subst}
-use Rattle.mig_bytes.specs.Bytes.{TakesBytes}
-use Rattle.mig_bytes.specs.Judged.{Judged, Gives}
-use Rattle.mig_bytes.proofs.Placed.{placed_then, placed_ends}
-use Rattle.mig_bytes.proofs.Taking.{takes_more}
-use Rattle.mig_headers.specs.declared.image_fault.ImageCause.{ImageCause}
-use Rattle.mig_headers.specs.declared.image_fault.ImagePlace.{ImagePlace}
-use Rattle.mig_headers.specs.declared.image_fault.ImagePlace.TheVariants.{Head}
-use Rattle.mig_guest.specs.Hosts.{HostOf}
-use Rattle.mig_image.specs.Answer.{IsHost}
-use Rattle.mig_image.specs.ImageParts.{host_head_at, behind_head, host_at}
+use Rattle.mig_image.proofs.Common.{List, ℕ, Option, Result, Ok, Err, OnOk, sym, subst, TakesBytes, Judged, Gives, placed_then, placed_ends, takes_more, ImageCause, ImagePlace, Head, HostOf, IsHost, host_head_at, behind_head}
+use Rattle.mig_image.specs.ImageParts.{host_at}
 use Rattle.mig_image.proofs.read.read_whole.Goals as goal
 
 -- what was taken, and then more

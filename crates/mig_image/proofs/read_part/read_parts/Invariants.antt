@@ -1,15 +1,10 @@
-use Rattle.std.proofs.Common.{◌≡◌, Ok}
-use Rattle.mig_bytes.specs.Bytes.{TakesBytes}
-use Rattle.mig_bytes.specs.Judged.{Gives}
-use Rattle.mig_guest.specs.Hosts.{HostOf}
-use Rattle.mig_image.specs.ImageParts.{host_parts_at}
-use Rattle.mig_image.specs.PartCounts.{Counts}
+use Rattle.mig_image.proofs.Common.{◌≡◌, Ok, TakesBytes, Gives, HostOf, host_parts_at, Counts}
 use Rattle.mig_image.proofs.read_part.read_parts.Given as goal
 
 abbrev pub invariant-loop-i : goal.invariant-loop-i
 invariant-loop-i g l = record {
-  read : Gives {X = HostOf} (λ v h. v ≡ h) (g.S.Source.left l.fn.src) (g.S.Source.left l.src) (host_parts_at l.i l.fn.host) (Ok l.host);
-  counted : Counts l.entries l.host.parts;
+  read : Gives {X = HostOf} (λ v h. v ≡ h) (g.S.Source.left l.fn.src) (g.S.Source.left l.src) (host_parts_at l.i l.fn.host.host) (Ok l.host.host);
+  counted : Counts l.entries l.host.host.parts;
   taken : TakesBytes (g.S.Source.left l.fn.src) (g.S.Source.left l.src);
   quiet : g.S.Source.faults l.src ≡ g.S.Source.faults l.fn.src;
 }

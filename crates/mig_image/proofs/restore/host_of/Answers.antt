@@ -1,4 +1,4 @@
-use Rattle.std.proofs.Common.{arith}
+use Rattle.mig_image.proofs.Common.{arith}
 use Rattle.mig_image.proofs.InOrder.{entries_counted}
 use Rattle.mig_image.proofs.RestoredHosts.{made_hosted}
 use Rattle.mig_image.proofs.restore.host_of.Goals as goal
@@ -6,4 +6,5 @@ use Rattle.mig_image.proofs.restore.host_of.Goals as goal
 pub of-requires : goal.of-requires
 of-requires c =
     let inside = c.is_outside.ensures.no c.if-is_outside.false in
-    made_hosted c.args.guest c.args.base c.requires.whole c.requires.hvm c.in-Ok.width c.in-Ok.machines inside.0 (omega (arith, inside.1, c.frames.ensures.count, entries_counted c.args.guest.frames)) c.in-Ok.ensures.machines c.in-Ok.ensures.width
+    rw (c.kind-kind.ensures, c.into_frames_and_parts-frames.ensures.frames, c.into_frames_and_parts-frames.ensures.parts)
+    (made_hosted c.args.guest c.args.base c.requires.whole c.requires.hvm c.in-Ok.width c.in-Ok.machines.machines inside.0 (omega (arith, inside.1, c.frames.ensures.count, entries_counted c.args.guest.frames)) c.in-Ok.ensures.machines c.in-Ok.ensures.width)

@@ -1,10 +1,9 @@
-use Rattle.std.proofs.Common.{◌≡◌, ◌+◌, length}
+use Rattle.mig_image.proofs.Common.{◌≡◌, ◌+◌, length, parts_behind}
 use Rattle.std.specs.FinMap as maps
-use Rattle.mig_guest.specs.Parts.{parts_behind}
 use Rattle.mig_image.proofs.write.count_parts.Given as goal
 
 abbrev pub invariant-loop-key : goal.invariant-loop-key
-invariant-loop-key l = l.count + length (parts_behind l.after (maps.entries l.host.parts)) ≡ length (maps.entries l.host.parts)
+invariant-loop-key l = l.count + length (parts_behind l.after (maps.entries l.host.host.parts)) ≡ length (maps.entries l.host.host.parts)
 
 abbrev pub decreases-loop-key : goal.decreases-loop-key
-decreases-loop-key l = length (parts_behind l.after (maps.entries l.host.parts))
+decreases-loop-key l = length (parts_behind l.after (maps.entries l.host.host.parts))

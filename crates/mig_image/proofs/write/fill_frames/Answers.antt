@@ -1,23 +1,19 @@
-use Rattle.std.proofs.Common.{ℕ, ◌++◌, sym, ap, ◌∙◌, arith}
+use Rattle.mig_image.proofs.Common.{ℕ, ◌++◌, sym, ap, ◌∙◌, arith, option_copied, HostFrame, entries_from, frame_text}
 use Rattle.std.specs.FinMap as maps
-use Rattle.std.specs.Option.{option_copied}
-use Rattle.mig_guest.specs.Hosts.{HostFrame}
-use Rattle.mig_guest.specs.Frames.{entries_from}
-use Rattle.mig_image.specs.Image.{frame_text}
 use Rattle.mig_image.proofs.Writers.{drop_next, ended_early, flat_next}
 use Rattle.mig_image.proofs.write.fill_frames.Goals as goal
 
 pub returns-in-None-clause-bytes : goal.returns-in-None-clause-bytes
 returns-in-None-clause-bytes c =
-    absurd (ended_early c.loop-i.i c.args.count (entries_from c.args.start (maps.entries c.args.host.now.frames)) (sym c.loop-i.invariant.at ∙ c.in-None.ensures.next) c.loop-i-test.true c.requires.has)
+    absurd (ended_early c.loop-i.i c.args.count (entries_from c.args.start (maps.entries c.args.host.now.host.frames)) (sym c.loop-i.invariant.at ∙ c.in-None.ensures.next) c.loop-i-test.true c.requires.has)
 
 pub returns-in-None-clause-next : goal.returns-in-None-clause-next
 returns-in-None-clause-next c =
-    absurd (ended_early c.loop-i.i c.args.count (entries_from c.args.start (maps.entries c.args.host.now.frames)) (sym c.loop-i.invariant.at ∙ c.in-None.ensures.next) c.loop-i-test.true c.requires.has)
+    absurd (ended_early c.loop-i.i c.args.count (entries_from c.args.start (maps.entries c.args.host.now.host.frames)) (sym c.loop-i.invariant.at ∙ c.in-None.ensures.next) c.loop-i-test.true c.requires.has)
 
 pub loop-i-preserved : goal.loop-i-preserved
 loop-i-preserved c =
-    let all = entries_from c.args.start (maps.entries c.args.host.now.frames) in
+    let all = entries_from c.args.start (maps.entries c.args.host.now.host.frames) in
     let e : ℕ × HostFrame = (c.in-Some.pfn, record { type = c.in-Some.kind; machine = c.in-Some.machine; page = option_copied c.in-Some.page }) in
     let here = sym c.loop-i.invariant.at ∙ c.in-Some.ensures.next in
     record {

@@ -1,6 +1,4 @@
-use Rattle.std.proofs.Common.{sym, arith}
-use Rattle.std.proofs.lemmas.List.{take-replicate}
-use Rattle.mig_bytes.proofs.Texts.{puts_then, puts_stop, puts_same}
+use Rattle.mig_image.proofs.Common.{sym, arith, take-replicate, puts_then, puts_stop, puts_same}
 use Rattle.mig_image.proofs.write.write_part.Goals as goal
 
 pub returns-in_err-put_all-2-clause-bytes : goal.returns-in_err-put_all-2-clause-bytes

@@ -1,20 +1,18 @@
-use Rattle.std.proofs.Common.{sym, ◌∙◌, ℕ, List, rules}
+use Rattle.mig_image.proofs.Common.{sym, ◌∙◌, ℕ, List, rules, PartKey, part_text}
 use Rattle.std.specs.FinMap as maps
-use Rattle.mig_guest.specs.declared.part_key.PartKey.{PartKey}
-use Rattle.mig_image.specs.Image.{part_text}
 use Rattle.mig_image.proofs.Writers.{drop_next, walk_on, walk_stop}
 use Rattle.mig_image.proofs.write.write_parts.Goals as goal
 
 pub returns-in_err-write_part-in-Some-clause-bytes : goal.returns-in_err-write_part-in-Some-clause-bytes
 returns-in_err-write_part-in-Some-clause-bytes g c =
-    let all = maps.entries c.args.host.now.parts in
+    let all = maps.entries c.args.host.now.host.parts in
     let e : PartKey × List ℕ = (c.in-Some.key, c.in-Some.bytes.now) in
     walk_stop part_text all c.loop.counter e _ _ _ _ _ _ c.from_residual.result
     (sym c.loop.invariant.at ∙ c.in-Some.ensures.next) c.loop.invariant.bytes c.from_residual.ensures.1 c.in_err-write_part-in-Some.ensures.bytes
 
 pub loop-preserved : goal.loop-preserved
 loop-preserved g c =
-    let all = maps.entries c.args.host.now.parts in
+    let all = maps.entries c.args.host.now.host.parts in
     let e : PartKey × List ℕ = (c.in-Some.key, c.in-Some.bytes.now) in
     let here = sym c.loop.invariant.at ∙ c.in-Some.ensures.next in
     record {

@@ -1,7 +1,5 @@
-use Rattle.std.proofs.Common.{◌≡◌, ℕ, Result, Ok, Err, sym, ap, subst, ◌∙◌, arith, rules}
-use Rattle.std.specs.Prelude.{decimal}
+use Rattle.mig_tool.proofs.Common.{◌≡◌, ℕ, Result, Ok, Err, sym, ap, subst, ◌∙◌, arith, rules, decimal, IsBase}
 use Rattle.std.proofs.lemmas.Fmt.{parse-decimal}
-use Rattle.mig_tool.specs.Words.{IsBase}
 use Rattle.mig_tool.proofs.command.base_in.Goals as goal
 
 apart : {E : Type 0} (e : E) (n : ℕ) → ◌≡◌ {A = Result ℕ E} (Err e) (Ok n) → ⊥

@@ -1,4 +1,4 @@
-use Rattle.mig_tool.specs.Answers.{Written}
+use Rattle.mig_tool.proofs.Common.{Written}
 use Rattle.mig_tool.specs.declared.command.Command.TheVariants as commands
 use Rattle.mig_tool.proofs.Reporting.{said_of, line_reported}
 use Rattle.mig_tool.proofs.commands.carry_out.Goals as goal

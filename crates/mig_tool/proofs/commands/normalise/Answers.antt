@@ -1,5 +1,4 @@
-use Rattle.std.proofs.Common.{refl, Ok, Err}
-use Rattle.mig_tool.specs.declared.command.Command.TheVariants.{Normalise}
+use Rattle.mig_tool.proofs.Common.{refl, Ok, Err, Normalise}
 use Rattle.mig_tool.proofs.Reporting.{came, not_read}
 use Rattle.mig_tool.proofs.commands.normalise.Goals as goal
 

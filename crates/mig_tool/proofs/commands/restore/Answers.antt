@@ -1,4 +1,4 @@
-use Rattle.mig_tool.specs.Answers.{Written}
+use Rattle.mig_tool.proofs.Common.{Written}
 use Rattle.mig_tool.proofs.Reporting.{restored}
 use Rattle.mig_tool.proofs.commands.restore.Goals as goal
 

@@ -1,7 +1,5 @@
-use Rattle.std.proofs.Common.{refl, Ok, Err, sym, subst, ◌∙◌, rules}
+use Rattle.mig_tool.proofs.Common.{refl, Ok, Err, sym, subst, ◌∙◌, rules, SaysOf, Verify}
 use Rattle.std.specs.FinMap as maps
-use Rattle.mig_tool.specs.Answers.{SaysOf}
-use Rattle.mig_tool.specs.declared.command.Command.TheVariants.{Verify}
 use Rattle.mig_tool.proofs.Reporting.{not_read, says_of, verified}
 use Rattle.mig_tool.proofs.commands.verify.Goals as goal
 

@@ -1,6 +1,5 @@
-use Rattle.std.proofs.Common.{ap}
+use Rattle.mig_tool.proofs.Common.{ap, line_of}
 use Rattle.mig_tool.proofs.Reporting.{reports, nothing_fails}
-use Rattle.mig_tool.specs.Outcome.{line_of}
 use Rattle.mig_tool.proofs.outcome.finish.Goals as goal
 
 pub returns-clause-line : goal.returns-clause-line

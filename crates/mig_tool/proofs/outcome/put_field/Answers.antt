@@ -1,4 +1,4 @@
-use Rattle.mig_bytes.proofs.Texts.{puts_then, puts_stop}
+use Rattle.mig_tool.proofs.Common.{puts_then, puts_stop}
 use Rattle.mig_tool.proofs.outcome.put_field.Goals as goal
 
 pub returns-in_err-put_all-clause-bytes : goal.returns-in_err-put_all-clause-bytes

@@ -1,6 +1,4 @@
-use Rattle.std.proofs.Common.{ap}
-use Rattle.mig_bytes.proofs.Texts.{puts_same}
-use Rattle.mig_tool.specs.Outcome.{line_of}
+use Rattle.mig_tool.proofs.Common.{ap, puts_same, line_of}
 use Rattle.mig_tool.proofs.outcome.put_line.Goals as goal
 
 pub returns-in-Usage-clause-bytes : goal.returns-in-Usage-clause-bytes

@@ -1,6 +1,4 @@
-use Rattle.std.proofs.Common.{subst, sym}
-use Rattle.mig_tool.specs.Answers.{Written, SaysOf, WriteRose, PutsOwnLine, LeavesOut}
-use Rattle.mig_tool.specs.declared.command.Command.{Command}
+use Rattle.mig_tool.proofs.Common.{subst, sym, Written, SaysOf, WriteRose, PutsOwnLine, LeavesOut, Command}
 use Rattle.mig_tool.proofs.Naming.{same_command}
 use Rattle.mig_tool.proofs.Reporting.{accepted_done, refused_refused, input_rose}
 use Rattle.mig_tool.proofs.run.run.Goals as goal

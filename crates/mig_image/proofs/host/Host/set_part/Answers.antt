@@ -1,9 +1,5 @@
-use Rattle.std.proofs.Common.{◌≡◌, Result, Ok, Err, OnOk, OnErr, sym, subst}
+use Rattle.mig_image.proofs.Common.{◌≡◌, Result, Ok, Err, OnOk, OnErr, sym, subst, IsHostPart, FitsPolicy, HostAndSpare, IsMade}
 use Rattle.std.specs.FinMap as maps
-use Rattle.mig_guest.specs.Guests.{GuestOf}
-use Rattle.mig_guest.specs.Hosts.{HostOf, IsHostPart}
-use Rattle.mig_guest.specs.Parts.{FitsPolicy}
-use Rattle.mig_image.specs.HostView.{IsMade}
 use Rattle.mig_image.proofs.HostsMade.{made_part}
 use Rattle.mig_image.proofs.host.Host.set_part.Goals as goal
 
@@ -14,9 +10,9 @@ either P (Err y) n a b _ is p q = subst P (sym is) q
 
 pub invariant_of-self : goal.invariant_of-self
 invariant_of-self c =
-    let g = c.self.inside.guest in let width = c.self.inside.width in let machines = c.self.inside.machines in let key = c.args.key in let bytes = c.args.bytes.now in
-    either (λ (g : GuestOf). IsMade g width machines) c.set_part.result c.set_part.new.self (record g { parts = maps.insert g.parts key bytes }) g c.set_part.ensures.ok c.set_part.ensures.err
-    (made_part g width machines key bytes c.self.invariant (subst (λ (h : HostOf). IsHostPart h.kind h.width key bytes) (sym c.self.view_is) c.requires.is)
-    (subst (λ (h : HostOf). FitsPolicy 17 (maps.insert h.parts key bytes)) (sym c.self.view_is) c.requires.leaves)
-    (subst (λ (h : HostOf). FitsPolicy 18 (maps.insert h.parts key bytes)) (sym c.self.view_is) c.requires.msrs))
+    let h = c.self.inside in let key = c.args.key in let bytes = c.args.bytes.now in
+    either (IsMade h.kind h.width h.frames.frames h.machines.machines) c.set.result c.set.new.self (maps.insert h.parts key bytes) h.parts c.set.ensures.ok c.set.ensures.err
+    (made_part h.kind h.width h.frames.frames h.machines.machines h.parts key bytes c.self.invariant (subst (λ (x : HostAndSpare). IsHostPart x.host.kind x.host.width key bytes) (sym c.self.view_is) c.requires.is)
+    (subst (λ (x : HostAndSpare). FitsPolicy 17 (maps.insert x.host.parts key bytes)) (sym c.self.view_is) c.requires.leaves)
+    (subst (λ (x : HostAndSpare). FitsPolicy 18 (maps.insert x.host.parts key bytes)) (sym c.self.view_is) c.requires.msrs))
     c.self.invariant
