@@ -1,42 +1,13 @@
 -- An accepted guest is whole: each content that is spelled keeps it well formed, and its END asks for the rest.
-use Rattle.std.proofs.Common.{◌≡◌, ℕ, zero, suc, ◌^◌, ◌<◌, ◌≤◌, Bool, true, false, List, [], ◌∷◌, ◌++◌, length, Option, Some, is_some, refl, sym, ap, subst, ◌∙◌, arith, leb-false}
-use Rattle.std.proofs.lemmas.Bool.{eqb-true}
+use Rattle.mig_restore.proofs.Common.{◌≡◌, ℕ, zero, suc, ◌^◌, ◌<◌, ◌≤◌, Bool, true, false, List, [], ◌∷◌, ◌++◌, length, Option, Some, is_some, refl, sym, ap, subst, ◌∙◌, arith, leb-false, eqb-true, take_at, drop_at, none-some, same_Some, All, common_steps, AreBytes, le32, record_row_of, type_number, type_of_number, Hvm, RecordType, numbers_are_inverse, pfn_limit, word_pfn, word_has_data, type_has_data, PageType, IsFormed, IsPlainHvm, HasNoEmulators, GuestOf, part_cmp, row_of, empty_formed, words, IsInOrder, shape_of, bodies_are_spelled, is_shaped, hvm_whole, Opening, meant_type, put_entry, put_entries, put_content, Grows, FrameEntry, Content, StreamRecord, types_of, is_ended, Sets, IsPage, IsEntry, AreEntries, IsGoodWord, HasContent, IsComplete, Spells, Accepted}
 use Rattle.std.proofs.lemmas.List.Elements.{All-head, All-tail, All-take, All-drop}
-use Rattle.std.proofs.lemmas.List.{take_at, drop_at}
-use Rattle.std.proofs.lemmas.Option.{none-some, same_Some}
-use Rattle.std.specs.List.{All}
 use Rattle.std.specs.FinMap as fin
-use Rattle.std.proofs.lemmas.Grind.{common_steps}
-use Rattle.mig_bytes.specs.Bytes.{AreBytes}
-use Rattle.mig_bytes.specs.Fields.{le32}
-use Rattle.mig_headers.specs.RecordTypes.{record_row_of, type_number, type_of_number}
-use Rattle.mig_headers.specs.declared.kind.Kind.TheVariants.{Hvm}
-use Rattle.mig_headers.specs.declared.record_type.RecordType.{RecordType}
-use Rattle.mig_headers.proofs.RecordNumbers.{numbers_are_inverse}
-use Rattle.mig_pagetypes.specs.Limits.{pfn_limit}
-use Rattle.mig_pagetypes.specs.FrameWords.{word_pfn, word_has_data}
-use Rattle.mig_pagetypes.specs.PageTypes.{type_has_data}
-use Rattle.mig_pagetypes.specs.declared.page_type.PageType.{PageType}
 use Rattle.mig_pagetypes.specs.declared.page_type.PageType.TheVariants.{Notab}
-use Rattle.mig_guest.specs.Formed.{IsFormed, IsPlainHvm, HasNoEmulators}
-use Rattle.mig_guest.specs.Guests.{GuestOf}
-use Rattle.mig_guest.specs.Order.{part_cmp}
-use Rattle.mig_guest.specs.PartCodes.{row_of}
-use Rattle.mig_guest.proofs.Kept.{empty_formed}
-use Rattle.mig_records.specs.Words.{words}
-use Rattle.mig_order.specs.Order.{IsInOrder}
 use Rattle.mig_order.specs.Order.IsInOrder.{optional as is_optional, ordered as is_ordered}
-use Rattle.mig_bodies.specs.Shapes.{shape_of}
 use Rattle.mig_bodies.proofs.Reading.{AreOctets}
 use Rattle.mig_bodies.proofs.Small.{small_parts}
-use Rattle.mig_bodies.proofs.Spelled.{bodies_are_spelled, is_shaped}
 use Rattle.mig_pvtables.specs.Whole.{IsWhole}
-use Rattle.mig_pvtables.proofs.HvmGuests.{hvm_whole}
-use Rattle.mig_restore.specs.Judging.{Opening}
-use Rattle.mig_restore.specs.Mean.{meant_type, put_entry, put_entries, put_content, sent, Grows}
-use Rattle.mig_restore.specs.Record.{FrameEntry, Content, StreamRecord, types_of, is_ended}
-use Rattle.mig_restore.specs.Record.Content.{Sets}
-use Rattle.mig_restore.specs.Spelled.{IsPage, IsEntry, AreEntries, IsGoodWord, HasContent, IsComplete, Spells, Accepted}
+use Rattle.mig_restore.specs.Mean.{sent}
 use Rattle.mig_restore.specs.Spelled.HasContent.{optional, ends, pages, sets, static_end}
 use Rattle.mig_restore.specs.Spelled.Spells.{none, one_more}
 use Rattle.mig_restore.proofs.Arrivals.{ended_more}

@@ -1,27 +1,11 @@
 -- The front of a stream that the reader has behind it.
-use Rattle.std.proofs.Common.{arith, ◌≡◌, ℕ, List, [], ◌∷◌, ◌++◌, length, Bool, true, false, nat_eq, Option, Some, None, Result, Ok, Err, refl, sym, ap, subst, ◌∙◌}
-use Rattle.std.specs.Prelude.{⊤, ◌||◌}
-use Rattle.std.specs.List.{list_any}
-use Rattle.std.proofs.lemmas.List.{map-append, length-map}
+use Rattle.mig_restore.proofs.Common.{arith, ◌≡◌, ℕ, List, [], ◌∷◌, ◌++◌, length, Bool, true, false, nat_eq, Option, Some, None, Result, Ok, Err, refl, sym, ap, subst, ◌∙◌, ⊤, ◌||◌, list_any, map-append, length-map, common_steps, Reaches, here, next, Stop, stop_at, Gives, Passes, Faulty, Cause, Record, Hvm, GuestOf, Seen, put_record, empty_guest, StreamRecord, types_of, is_ended, Opening, IsSeen, Front, at_start, image_of, records_at, IsReading}
 use Rattle.std.proofs.lemmas.List.Folds.{list_any-append}
-use Rattle.std.proofs.lemmas.Grind.{common_steps}
-use Rattle.mig_bytes.specs.Walk.{Reaches}
-use Rattle.mig_bytes.specs.Walk.Reaches.{here, next}
-use Rattle.mig_bytes.specs.declared.part.Stop.{Stop}
 use Rattle.mig_bytes.specs.declared.part.Stop.TheVariants as stops
-use Rattle.mig_bytes.specs.Judged.{stop_at, Gives}
-use Rattle.mig_bytes.specs.Judged.Judged.{Passes, Faulty}
-use Rattle.mig_headers.specs.declared.fault.Cause.{Cause}
-use Rattle.mig_headers.specs.declared.fault.Place.TheVariants.{Record}
-use Rattle.mig_headers.specs.declared.kind.Kind.TheVariants.{Hvm}
-use Rattle.mig_guest.specs.Guests.{GuestOf}
-use Rattle.mig_restore.specs.declared.head.Seen.{Seen}
 use Rattle.mig_restore.specs.declared.read.Reading.{Reading}
-use Rattle.mig_restore.specs.Mean.{sent, put_record, empty_guest}
-use Rattle.mig_restore.specs.Record.{StreamRecord, types_of, is_ended}
-use Rattle.mig_restore.specs.Judging.{Opening, next_at}
-use Rattle.mig_restore.specs.Seen.{IsSeen}
-use Rattle.mig_restore.specs.Stream.{Front, one_more, at_start, image_of, ended_at, records_at, IsReading}
+use Rattle.mig_restore.specs.Mean.{sent}
+use Rattle.mig_restore.specs.Judging.{next_at}
+use Rattle.mig_restore.specs.Stream.{one_more, ended_at}
 use Rattle.mig_restore.proofs.Laws.{ends_at, goes_on, stops_ended, stops_refused, accepted, rejected}
 use Rattle.mig_restore.proofs.Meaning.{one_more_record, meant_as_sent}
 

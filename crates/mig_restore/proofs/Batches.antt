@@ -1,31 +1,10 @@
 -- The body of a PAGE_DATA record: what judging lets pass is spelled as the format says, and what is spelled so passes.
-use Rattle.std.proofs.Common.{◌≡◌, ℕ, ◌+◌, ◌*◌, List, [], ◌∷◌, ◌++◌, length, Bool, true, false, cond, nat_eq, not, Option, Some, None, refl, sym, ap, subst, ◌∙◌, arith, append_assoc, length-append, Result, Ok, Err}
-use Rattle.std.specs.List.{count_by}
-use Rattle.std.proofs.lemmas.Bool.{eqb-true, eqb-false, eq-eqb, ne_eqb, le-ltb, not-false}
+use Rattle.mig_restore.proofs.Common.{◌≡◌, ℕ, ◌+◌, ◌*◌, List, [], ◌∷◌, ◌++◌, length, Bool, true, false, cond, nat_eq, not, Option, Some, None, refl, sym, ap, subst, ◌∙◌, arith, append_assoc, length-append, Result, Ok, Err, count_by, eqb-true, eqb-false, eq-eqb, ne_eqb, le-ltb, not-false, common_steps, le32, le64, ◌>>=◌, part, tried, Judged, Matches, Gives, Passes, Faulty, part_whole, both_pass, tried_passes, same_passes, then_passes, tried_none, BadLength, Truncated, Kind, word_pfn, word_has_data, word_type, some_has_data, fault_of_count, fault_of_words, count_rows, words, data_len_of, FrameEntry, Content, type_in_word, fault_of_data, words_at, entry_at, entries_at, pages_at, IsPage, IsEntry, AreEntries, IsBatch, rows_fine, no_fault, type_of, type_or_none, type_has_data, Stop, Cause, GuestOf, Frames, put_entries, put_content}
 use Rattle.std.proofs.lemmas.List.FromFn.{length-map-range_with_len}
-use Rattle.std.proofs.lemmas.Grind.{common_steps}
-use Rattle.mig_bytes.specs.Fields.{le32, le64}
-use Rattle.mig_bytes.specs.Judged.{◌>>=◌, part, tried, each, Judged, Matches, Gives}
-use Rattle.mig_bytes.specs.Judged.Judged.{Passes, Faulty}
-use Rattle.mig_bytes.proofs.Joins.{part_whole, both_pass, tried_passes, same_passes, then_passes, tried_none}
-use Rattle.mig_headers.specs.declared.fault.Cause.TheVariants.{BadLength, Truncated}
-use Rattle.mig_headers.specs.declared.kind.Kind.{Kind}
-use Rattle.mig_pagetypes.specs.FrameWords.{word_pfn, word_has_data, word_type, some_has_data}
-use Rattle.mig_records.specs.Faults.{fault_of_count, fault_of_words, count_rows}
-use Rattle.mig_records.specs.Words.{words, data_len_of}
+use Rattle.mig_bytes.specs.Judged.{each}
 use Rattle.mig_records.proofs.WordFaults.{none_is_wrong, nothing_found}
-use Rattle.mig_restore.specs.Record.{FrameEntry, Content}
-use Rattle.mig_restore.specs.Judging.{type_in_word, fault_of_data, words_at, entry_at, entries_at, pages_at}
-use Rattle.mig_restore.specs.Spelled.{IsPage, IsEntry, AreEntries, IsBatch}
 use Rattle.mig_restore.proofs.Parts.{taken}
-use Rattle.mig_headers.proofs.FirstFaults.{rows_fine, no_fault}
-use Rattle.mig_pagetypes.specs.PageTypes.{type_of, type_or_none, type_has_data}
-use Rattle.mig_bytes.specs.declared.part.Stop.{Stop}
 use Rattle.mig_bytes.specs.declared.part.Stop.TheVariants.{Refused, ReadFault, Memory}
-use Rattle.mig_headers.specs.declared.fault.Cause.{Cause}
-use Rattle.mig_guest.specs.Guests.{GuestOf}
-use Rattle.mig_restore.specs.Record.Content.{Frames}
-use Rattle.mig_restore.specs.Mean.{put_entries, put_content}
 
 -- the tests of a word and of its type agree
 pub carries : (w : ℕ) → word_has_data w ≡ type_has_data (type_in_word w)

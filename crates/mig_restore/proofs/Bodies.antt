@@ -1,29 +1,7 @@
 -- The body of a record, type by type: what judging lets pass is spelled as the format says; what is spelled so passes,
 -- and its length is one that its type allows.
-use Rattle.std.proofs.Common.{◌≡◌, ℕ, ◌≤◌, ◌^◌, List, [], ◌++◌, length, length-append, Bool, true, false, Option, Some, None, refl, sym, ap, subst, ◌∙◌, arith}
-use Rattle.std.proofs.lemmas.Bool.{eqb-true, eq-eqb, le-leb, false≢true}
-use Rattle.std.proofs.lemmas.Option.{slice_get_past}
-use Rattle.mig_bytes.specs.Judged.{Judged, part}
-use Rattle.mig_bytes.specs.Judged.Judged.{Passes}
-use Rattle.mig_bytes.proofs.Joins.{both_pass, part_passes, same_passes, part_whole, then_passes, tried_none}
-use Rattle.mig_headers.specs.RecordTypes.{record_row_of, type_number, type_of_number, record_types, is_optional}
-use Rattle.mig_headers.specs.declared.fault.Cause.{Cause}
-use Rattle.mig_headers.specs.declared.fault.Cause.TheVariants.{Truncated}
-use Rattle.mig_headers.specs.declared.kind.Kind.{Kind}
-use Rattle.mig_headers.specs.declared.kind.Kind.TheVariants.{Pv, Hvm}
-use Rattle.mig_headers.specs.declared.record_type.RecordType.{RecordType}
+use Rattle.mig_restore.proofs.Common.{◌≡◌, ℕ, ◌≤◌, ◌^◌, List, [], ◌++◌, length, length-append, Bool, true, false, Option, Some, None, refl, sym, ap, subst, ◌∙◌, arith, eqb-true, eq-eqb, le-leb, false≢true, slice_get_past, Judged, part, Passes, both_pass, part_passes, same_passes, part_whole, then_passes, tried_none, record_row_of, type_number, type_of_number, record_types, is_optional, Cause, Truncated, Kind, Pv, Hvm, RecordType, numbers_are_inverse, type_allows, IsInOrder, optional, ordered, PartCode, shape_of, has_shape, fault_of_body, parts_of_body, IsBody, bodies_are_spelled, is_shaped, Part, FrameEntry, Content, Nothing, Frames, Sets, is_built, sets_at, plain_at, entries_at, pages_at, code_of_type, coded_at, typed_at, body_at, HasContent, IsBatch}
 use Rattle.mig_headers.specs.declared.record_type.RecordType.TheVariants.{End, PageData, X86PvP2mFrames, StaticDataEnd}
-use Rattle.mig_headers.proofs.RecordNumbers.{numbers_are_inverse}
-use Rattle.mig_records.specs.Faults.{type_allows}
-use Rattle.mig_order.specs.Order.{IsInOrder, optional, ordered}
-use Rattle.mig_guest.specs.declared.part_code.PartCode.{PartCode}
-use Rattle.mig_bodies.specs.Shapes.{shape_of, has_shape, fault_of_body, parts_of_body, IsBody}
-use Rattle.mig_bodies.proofs.Spelled.{bodies_are_spelled, is_shaped}
-use Rattle.mig_guest.specs.Parts.{Part}
-use Rattle.mig_restore.specs.Record.{FrameEntry, Content}
-use Rattle.mig_restore.specs.Record.Content.{Nothing, Frames, Sets}
-use Rattle.mig_restore.specs.Judging.{is_built, sets_at, plain_at, entries_at, pages_at, code_of_type, coded_at, typed_at, body_at}
-use Rattle.mig_restore.specs.Spelled.{HasContent, IsBatch}
 use Rattle.mig_restore.specs.Spelled.HasContent.{optional as has_optional, ends as has_ends, pages as has_pages, sets as has_sets, static_end as has_static_end}
 use Rattle.mig_restore.proofs.Batches.{batch_passes, batch_goes}
 use Rattle.mig_restore.proofs.Parts.{header_passes}

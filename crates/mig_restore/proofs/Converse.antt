@@ -1,42 +1,17 @@
 -- What is spelled as the format says is accepted.
-use Rattle.std.proofs.Common.{◌≡◌, ℕ, ◌≤◌, ◌<◌, ◌^◌, List, [], ◌∷◌, ◌++◌, length, true, nat_le, not, Option, Some, None, Result, Ok, Err, refl, sym, ap, subst, ◌∙◌, arith, append_assoc, take, drop, take-append-drop, length-take-le, length-drop, ◌⊎◌, inl, inr}
-use Rattle.std.proofs.lemmas.Grind.{common_steps}
-use Rattle.std.proofs.lemmas.Bool.{le-ltb, lt-leb}
-use Rattle.std.proofs.lemmas.List.{length-map}
-use Rattle.mig_bytes.specs.Bytes.{padding_len}
-use Rattle.mig_bytes.specs.Fields.{le32, be32}
-use Rattle.mig_bytes.specs.Walk.{Reaches}
-use Rattle.mig_bytes.specs.Walk.Reaches.{here, next}
-use Rattle.mig_bytes.specs.Judged.{Judged, ◌>>=◌, part, tried, placed}
-use Rattle.mig_bytes.specs.Judged.Judged.{Passes, Faulty}
-use Rattle.mig_bytes.proofs.Joins.{part_whole, same_passes}
-use Rattle.mig_headers.specs.Headers.{fault_of_marker, fault_of_image, fault_of_domain, kind_of_number, unless_faulty, IsImageHeader, IsDomainHeader}
+use Rattle.mig_restore.proofs.Common.{◌≡◌, ℕ, ◌≤◌, ◌<◌, ◌^◌, List, [], ◌∷◌, ◌++◌, length, true, nat_le, not, Option, Some, None, Result, Ok, Err, refl, sym, ap, subst, ◌∙◌, arith, append_assoc, take, drop, take-append-drop, length-take-le, length-drop, ◌⊎◌, inl, inr, common_steps, le-ltb, lt-leb, length-map, padding_len, le32, be32, Reaches, here, next, Judged, ◌>>=◌, part, tried, placed, Passes, Faulty, part_whole, same_passes, fault_of_marker, fault_of_image, fault_of_domain, kind_of_number, unless_faulty, IsImageHeader, IsDomainHeader, type_of_number, Cause, NotBuilt, TooManyRecords, Truncated, Place, Kind, GuestOf, long_rows, length_rows, type_allows, fault_of_long, fault_of_length, IsInOrder, fault_of_type, fault_of_guest, hvm_faultless, StreamRecord, is_ended, Opening, Before, opening_of, before, is_built, fault_of_built, fault_of_head, head_at, fault_at_end, body_at, Follows, Spells, IsImage, Accepted, Front, at_start, ImageOf, image_of, records_at, IsRefused, then_passes, tried_none, no_fault, neither_some}
 use Rattle.mig_headers.proofs.HeaderLaws.{image_is_spelled, domain_is_spelled}
-use Rattle.mig_headers.specs.RecordTypes.{type_of_number}
-use Rattle.mig_headers.specs.declared.fault.Cause.{Cause}
-use Rattle.mig_headers.specs.declared.fault.Cause.TheVariants.{NotBuilt, TooManyRecords, Truncated}
-use Rattle.mig_headers.specs.declared.fault.Place.{Place}
 use Rattle.mig_headers.specs.declared.fault.Place.TheVariants as places
 use Rattle.mig_headers.specs.declared.header.ImageHeader.{ImageHeader}
 use Rattle.mig_headers.specs.declared.header.DomainHeader.{DomainHeader}
-use Rattle.mig_headers.specs.declared.kind.Kind.{Kind}
-use Rattle.mig_guest.specs.Guests.{GuestOf}
-use Rattle.mig_records.specs.Faults.{long_rows, length_rows, type_allows, fault_of_long, fault_of_length}
-use Rattle.mig_order.specs.Order.{IsInOrder, fault_of_type}
 use Rattle.mig_order.proofs.OrderLaw.{faultless_is_in_order}
-use Rattle.mig_pvtables.specs.Faults.{fault_of_guest}
-use Rattle.mig_pvtables.proofs.HvmGuests.{hvm_faultless}
 use Rattle.mig_restore.proofs.Meaning.{sent_kind}
-use Rattle.mig_restore.specs.Record.{StreamRecord, is_ended}
-use Rattle.mig_restore.specs.Judging.{Opening, Before, opening_of, before, is_built, fault_of_built, fault_of_fields, fault_of_head, head_at, fault_at_end, body_at, record_at, next_at}
+use Rattle.mig_restore.specs.Judging.{fault_of_fields, record_at, next_at}
 use Rattle.mig_restore.specs.Mean.{sent, mean}
-use Rattle.mig_restore.specs.Spelled.{Follows, Spells, IsImage, Accepted}
 use Rattle.mig_restore.specs.Spelled.Spells.{none, one_more}
 use Rattle.mig_restore.specs.Stream as stream
-use Rattle.mig_restore.specs.Stream.{Front, at_start, ImageOf, image_of, ended_at, records_at, opening_at, image_at, IsRefused}
+use Rattle.mig_restore.specs.Stream.{ended_at, opening_at, image_at}
 use Rattle.mig_restore.proofs.Parts.{begins, behind_head, behind_body, asks, behind_record}
-use Rattle.mig_bytes.proofs.Joins.{then_passes, tried_none}
-use Rattle.mig_headers.proofs.FirstFaults.{no_fault, neither_some}
 use Rattle.mig_restore.proofs.Bodies.{ends_hvm, body_goes, length_fits}
 use Rattle.mig_restore.proofs.Laws.{goes_on, ends_at, accepted, stops_ended, accepted_is_image, behind_marker, behind_version, behind_kind}
 

@@ -1,32 +1,12 @@
 -- What reading keeps of a guest: each part or frame that is set leaves it well formed.
-use Rattle.std.proofs.Common.{◌≡◌, ◌≢◌, ℕ, ◌^◌, ◌≤◌, ◌<◌, List, length, Bool, true, false, Option, Some, None, is_some, refl, sym, ap, subst, ◌∙◌}
-use Rattle.std.specs.List.{AllByRecursion}
-use Rattle.std.proofs.lemmas.Option.{same_Some}
-use Rattle.mig_headers.specs.declared.kind.Kind.{Kind}
-use Rattle.mig_headers.specs.declared.kind.Kind.TheVariants.{Hvm}
-use Rattle.mig_pagetypes.specs.Limits.{pfn_limit}
-use Rattle.mig_pagetypes.specs.PageTypes.{type_has_data}
-use Rattle.mig_pagetypes.specs.declared.page_type.PageType.{PageType}
+use Rattle.mig_restore.proofs.Common.{◌≡◌, ◌≢◌, ℕ, ◌^◌, ◌≤◌, ◌<◌, List, length, Bool, true, false, Option, Some, None, is_some, refl, sym, ap, subst, ◌∙◌, AllByRecursion, same_Some, Kind, Hvm, pfn_limit, type_has_data, PageType, AreParts, is_emulator_code, width_of, GuestOf, PartMap, frames_keep, record_row_of, type_number, type_of_number, RecordType, numbers_are_inverse, PartCode, row_of, code_number, shape_of, has_shape, fault_of_body, parts_of_body, set_parts, IsBody, HasBodyLength, bodies_are_spelled, code_of_type, meant_type, Grows}
 use Rattle.mig_pagetypes.specs.declared.page_type.PageType.TheVariants.{Xtab}
-use Rattle.mig_guest.specs.Formed.{AreParts, is_emulator_code, width_of}
 use Rattle.mig_guest.specs.Frames.{framed, is_hvm_type}
-use Rattle.mig_guest.specs.Guests.{GuestOf}
-use Rattle.mig_guest.specs.Parts.{PartMap}
-use Rattle.mig_guest.proofs.Kept.{frames_keep}
 use Rattle.mig_guest.proofs.PartRows.{hvm_frame}
-use Rattle.mig_headers.specs.RecordTypes.{record_row_of, type_number, type_of_number}
-use Rattle.mig_headers.specs.declared.record_type.RecordType.{RecordType}
 use Rattle.mig_headers.specs.declared.record_type.RecordType.TheVariants.{End}
-use Rattle.mig_headers.proofs.RecordNumbers.{numbers_are_inverse}
-use Rattle.mig_guest.specs.declared.part_code.PartCode.{PartCode}
-use Rattle.mig_guest.specs.PartCodes.{row_of, code_number}
 use Rattle.mig_guest.proofs.PartRows.{number_found}
 use Rattle.mig_bodies.specs.Layouts.{IsSmallKey}
-use Rattle.mig_bodies.specs.Shapes.{shape_of, has_shape, fault_of_body, parts_of_body, set_parts, IsBody, HasBodyLength}
-use Rattle.mig_bodies.proofs.Spelled.{bodies_are_spelled}
 use Rattle.mig_bodies.proofs.Kept.{bodies_say_parts, bodies_keep_formed, set_plain, sets_nothing}
-use Rattle.mig_restore.specs.Judging.{code_of_type}
-use Rattle.mig_restore.specs.Mean.{meant_type, Grows}
 
 -- ---- steps
 

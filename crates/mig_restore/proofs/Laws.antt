@@ -1,37 +1,13 @@
 -- What judging accepts is spelled as the format says.
-use Rattle.std.proofs.Common.{◌≡◌, ℕ, ◌≤◌, ◌<◌, ◌^◌, List, [], ◌∷◌, ◌++◌, length, Bool, true, false, cond, nat_le, not, Option, Some, None, refl, sym, ap, subst, ◌∙◌, append_assoc, ltb-false, leb-false, Ok, arith, length-append, le_refl}
-use Rattle.std.proofs.lemmas.Bool.{not-false}
-use Rattle.std.proofs.lemmas.Option.{none-some}
-use Rattle.std.proofs.lemmas.List.{length-map}
-use Rattle.mig_bytes.specs.Bytes.{padding_len}
-use Rattle.mig_bytes.specs.Fields.{le32, be32}
-use Rattle.mig_bytes.specs.Walk.{Reaches}
-use Rattle.mig_bytes.specs.Walk.Reaches.{here, next}
-use Rattle.mig_bytes.specs.Judged.{Judged, ◌>>=◌, part, tried, placed}
-use Rattle.mig_bytes.specs.Judged.Judged.{Passes, Faulty}
+use Rattle.mig_restore.proofs.Common.{◌≡◌, ℕ, ◌≤◌, ◌<◌, ◌^◌, List, [], ◌∷◌, ◌++◌, length, Bool, true, false, cond, nat_le, not, Option, Some, None, refl, sym, ap, subst, ◌∙◌, append_assoc, ltb-false, leb-false, Ok, arith, length-append, le_refl, not-false, none-some, length-map, padding_len, le32, be32, Reaches, here, next, Judged, ◌>>=◌, part, tried, placed, Passes, Faulty, both_pass, part_passes, tried_passes, same_passes, placed_passes, fault_of_marker, fault_of_image, fault_of_domain, kind_of_number, unless_faulty, IsImageHeader, IsDomainHeader, type_of_number, Cause, NotBuilt, TooManyRecords, Truncated, Place, Record, ImageHeader, DomainHeader, Kind, long_rows, length_rows, type_allows, fault_of_long, fault_of_length, IsInOrder, fault_of_type, fault_of_guest, hvm_complete, StreamRecord, is_ended, Opening, Before, opening_of, before, is_built, fault_of_built, fault_of_number, fault_of_head, fault_at_end, body_at, IsComplete, Follows, Spells, IsImage, Front, at_start, front_with, ImageOf, image_of, records_at, marker_at, version_at, kind_at, rows_fine, both_none}
 use Rattle.mig_bytes.proofs.Walks.{walk_end_is, walk_end_ends, walk_end_reached}
-use Rattle.mig_bytes.proofs.Joins.{both_pass, part_passes, tried_passes, same_passes, placed_passes}
-use Rattle.mig_headers.specs.Headers.{fault_of_marker, fault_of_image, fault_of_domain, kind_of_number, unless_faulty, IsImageHeader, IsDomainHeader}
 use Rattle.mig_headers.proofs.HeaderLaws.{image_is_spelled, domain_is_spelled}
-use Rattle.mig_headers.specs.RecordTypes.{type_of_number}
-use Rattle.mig_headers.specs.declared.fault.Cause.{Cause}
-use Rattle.mig_headers.specs.declared.fault.Cause.TheVariants.{NotBuilt, TooManyRecords, Truncated}
-use Rattle.mig_headers.specs.declared.fault.Place.{Place}
-use Rattle.mig_headers.specs.declared.fault.Place.TheVariants.{Record, ImageHeader, DomainHeader}
-use Rattle.mig_headers.specs.declared.kind.Kind.{Kind}
-use Rattle.mig_records.specs.Faults.{long_rows, length_rows, type_allows, fault_of_long, fault_of_length}
-use Rattle.mig_order.specs.Order.{IsInOrder, fault_of_type}
 use Rattle.mig_order.proofs.OrderLaw.{faultless_is_in_order}
-use Rattle.mig_pvtables.specs.Faults.{fault_of_guest}
-use Rattle.mig_pvtables.proofs.HvmGuests.{hvm_complete}
-use Rattle.mig_restore.specs.Record.{StreamRecord, is_ended}
-use Rattle.mig_restore.specs.Judging.{Opening, Before, opening_of, before, is_built, fault_of_built, fault_of_number, fault_of_fields, fault_of_head, fault_at_end, body_at, record_at, next_at}
+use Rattle.mig_restore.specs.Judging.{fault_of_fields, record_at, next_at}
 use Rattle.mig_restore.specs.Mean.{sent}
-use Rattle.mig_restore.specs.Spelled.{IsComplete, Follows, Spells, IsImage}
 use Rattle.mig_restore.specs.Spelled.{Spells as spells}
-use Rattle.mig_restore.specs.Stream.{Front, one_more, at_start, front_of, front_with, ImageOf, image_of, ended_at, records_at, image_at, opening_at, marker_at, version_at, kind_at}
+use Rattle.mig_restore.specs.Stream.{one_more, front_of, ended_at, image_at, opening_at}
 use Rattle.mig_restore.proofs.Parts.{behind_head, behind_body, head_stage, asks, behind_record, taken, header_passes}
-use Rattle.mig_headers.proofs.FirstFaults.{rows_fine, both_none}
 use Rattle.mig_restore.proofs.Meaning.{sent_kind}
 use Rattle.mig_restore.proofs.Bodies.{body_says, ends_hvm}
 

@@ -1,28 +1,15 @@
 -- What one more entry, or one more record, means; and that of each frame number and of each part the last decides.
-use Rattle.std.proofs.Common.{◌≡◌, ℕ, List, [], ◌∷◌, ◌++◌, Bool, true, false, cond, not, nat_eq, Option, Some, None, refl, sym, ap, ◌∙◌, arith}
-use Rattle.std.specs.Prelude.{option_and_then, unwrap_or}
-use Rattle.std.specs.List.{fold}
+use Rattle.mig_restore.proofs.Common.{◌≡◌, ℕ, List, [], ◌∷◌, ◌++◌, Bool, true, false, cond, not, nat_eq, Option, Some, None, refl, sym, ap, ◌∙◌, arith, option_and_then, unwrap_or, fold, common_steps, Kind, Hvm, PageType, GuestOf, part_cmp, Part, PartMap, put_part, put_parts, replace_code, word_pfn, type_in_word, FrameEntry, StreamRecord, Content, hvm_blank, meant_type, put_entry, put_entries, put_content, put_record, empty_guest, entries_in, entries_of, last_entry, frame_in, same_key, last_bytes, parts_say_of_part, policy_says_of_part, says_of_part, last_said}
 use Rattle.std.specs.Option.{option_or}
 use Rattle.std.specs.Ordering.{nat_cmp, eq_by_cmp}
 use Rattle.std.specs.Cmp.{nat_cmp_total}
 use Rattle.std.specs.FinMap as fin
-use Rattle.std.proofs.lemmas.Grind.{common_steps}
 use Rattle.std.proofs.lemmas.List.Sums.{fold-append}
-use Rattle.mig_headers.specs.declared.kind.Kind.{Kind}
-use Rattle.mig_headers.specs.declared.kind.Kind.TheVariants.{Hvm}
-use Rattle.mig_pagetypes.specs.declared.page_type.PageType.{PageType}
 use Rattle.mig_guest.specs.declared.part_key.PartKey.{PartKey}
 use Rattle.mig_guest.specs.Frames.{FrameMap, FrameOf, framed}
-use Rattle.mig_guest.specs.Guests.{GuestOf}
-use Rattle.mig_guest.specs.Order.{part_cmp}
-use Rattle.mig_guest.specs.Parts.{Part, PartMap, put_part, put_parts, replace_code}
 use Rattle.mig_guest.proofs.PartOrder.{part_total, part_exact}
-use Rattle.mig_pagetypes.specs.FrameWords.{word_pfn}
-use Rattle.mig_restore.specs.Judging.{type_in_word}
-use Rattle.mig_restore.specs.Record.{FrameEntry, StreamRecord, Content}
 use Rattle.mig_pvtables.specs.Blank.{blank}
-use Rattle.mig_pvtables.proofs.HvmGuests.{hvm_blank}
-use Rattle.mig_restore.specs.Mean.{meant_type, put_entry, put_entries, put_content, put_record, empty_guest, sent, mean, entries_in, entries_of, last_entry, frame_in, same_key, last_bytes, parts_say_of_part, policy_says_of_part, says_of_part, last_said}
+use Rattle.mig_restore.specs.Mean.{sent, mean}
 
 pub one_more_entry : (g h k : GuestOf) (es : List FrameEntry) (e : FrameEntry) → h ≡ record g { frames = put_entries g.kind g.frames es } → k ≡ record h { frames = put_entry h.kind h.frames e }
     → k ≡ record g { frames = put_entries g.kind g.frames (es ++ e ∷ []) }

@@ -1,21 +1,9 @@
 -- A record behind its head and behind its body, and the whole guest behind the last record.
-use Rattle.std.proofs.Common.{◌≡◌, ℕ, List, [], ◌∷◌, ◌++◌, false, nat_eq, Option, Some, None, length, refl, sym, ap, ◌∙◌}
-use Rattle.std.proofs.Common.{arith}
-use Rattle.std.proofs.lemmas.Grind.{common_steps}
-use Rattle.mig_bytes.specs.Bytes.{padding_len}
-use Rattle.mig_bytes.specs.Fields.{le32}
-use Rattle.mig_bytes.specs.Judged.{Judged, ◌>>=◌, part, tried}
-use Rattle.mig_bytes.specs.Judged.Judged.{Passes, Faulty}
-use Rattle.mig_bytes.proofs.Joins.{both_pass, part_passes, tried_passes, same_passes}
-use Rattle.mig_headers.specs.declared.fault.Cause.{Cause}
-use Rattle.mig_headers.specs.declared.fault.Cause.TheVariants.{Truncated}
-use Rattle.mig_headers.specs.declared.kind.Kind.{Kind}
+use Rattle.mig_restore.proofs.Common.{◌≡◌, ℕ, List, [], ◌∷◌, ◌++◌, false, nat_eq, Option, Some, None, length, refl, sym, ap, ◌∙◌, arith, common_steps, padding_len, le32, Judged, ◌>>=◌, part, tried, Passes, Faulty, both_pass, part_passes, tried_passes, same_passes, Cause, Truncated, Kind, fault_of_guest, StreamRecord, Content, Opening, Before, before, head_at, body_at, fault_of_head, fault_at_end}
 use Rattle.mig_records.specs.declared.head.RecordHead.{RecordHead}
 use Rattle.mig_records.specs.Heads.{head_in}
-use Rattle.mig_pvtables.specs.Faults.{fault_of_guest}
 use Rattle.mig_restore.specs.Mean.{sent}
-use Rattle.mig_restore.specs.Record.{StreamRecord, Content}
-use Rattle.mig_restore.specs.Judging.{Opening, Before, before, record_at, next_at, head_at, body_at, fault_of_head, fault_at_end}
+use Rattle.mig_restore.specs.Judging.{record_at, next_at}
 
 unfoldable pub behind_body : List ℕ → Content × List ℕ → Judged Cause StreamRecord
 behind_body head body = part Truncated (padding_len (le32 head 4)) body.1 >>= λ padding. Passes (record { type = le32 head 0; content = body.0 }) padding.1

@@ -1,6 +1,6 @@
 use Rattle.std.proofs.Common.{◌+◌, ◌++◌, take, drop, replicate, arith, length-take-le}
 use Rattle.mig_guest.specs.PartKeys.{context_key}
-use Rattle.mig_hvm.proofs.ContextParts.{there, within, written, ended}
+use Rattle.mig_hvm.proofs.ContextParts.{within, written, ended}
 use Rattle.mig_hvm.proofs.context.read_context.Goals as goal
 
 pub write_part-requires-clause-range : goal.write_part-requires-clause-range

@@ -1,5 +1,5 @@
 use Rattle.std.proofs.Common.{rules, true, false}
-use Rattle.mig_policy.proofs.PairSteps.{all_texts, at_end, spelled_as}
+use Rattle.mig_policy.proofs.PairSteps.{at_end, spelled_as}
 use Rattle.mig_policy.proofs.pairs.canonical_pairs.Goals as goal
 
 pub returns-in_default-clause-spelled : goal.returns-in_default-clause-spelled

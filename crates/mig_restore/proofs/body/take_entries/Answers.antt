@@ -1,9 +1,6 @@
-use Rattle.std.proofs.Common.{get_or, [], refl, rules, subst, sym}
+use Rattle.mig_restore.proofs.Common.{get_or, [], refl, rules, subst, sym, done, each_step, each_ends, entry_at, IsGoodWord}
 use Rattle.std.proofs.lemmas.List.Elements.{All-get_or}
 use Rattle.mig_bytes.specs.Judged.{each}
-use Rattle.mig_bytes.proofs.Joins.{done, each_step, each_ends}
-use Rattle.mig_restore.specs.Judging.{entry_at}
-use Rattle.mig_restore.specs.Spelled.{IsGoodWord}
 use Rattle.mig_restore.proofs.Growth.{grows_not, grows_on}
 use Rattle.mig_restore.proofs.Meaning.{one_more_entry}
 use Rattle.mig_restore.proofs.body.take_entries.Goals as goal

@@ -1,7 +1,5 @@
-use Rattle.std.proofs.Common.{◌≡◌, take, Ok}
-use Rattle.mig_bytes.specs.Judged.{Gives, each}
-use Rattle.mig_restore.specs.Mean.{put_entries, Grows}
-use Rattle.mig_restore.specs.Judging.{entry_at}
+use Rattle.mig_restore.proofs.Common.{◌≡◌, take, Ok, Gives, put_entries, Grows, entry_at}
+use Rattle.mig_bytes.specs.Judged.{each}
 use Rattle.mig_restore.proofs.body.take_entries.Given as goal
 
 abbrev pub invariant-loop-word : goal.invariant-loop-word

@@ -1,12 +1,4 @@
-use Rattle.std.proofs.Common.{◌≡◌, ℕ, List, Option, Some, None, Ok, true, false, length, refl, ap, sym, subst, ◌∙◌, rules}
-use Rattle.std.proofs.lemmas.Option.{none-some, same_Some}
-use Rattle.mig_bytes.specs.Judged.{part, Gives}
-use Rattle.mig_bytes.specs.Judged.Judged.{Passes}
-use Rattle.mig_bytes.proofs.Joins.{done}
-use Rattle.mig_headers.specs.declared.fault.Cause.TheVariants.{Truncated}
-use Rattle.mig_pagetypes.specs.FrameWords.{word_pfn, word_has_data}
-use Rattle.mig_restore.specs.Record.{FrameEntry}
-use Rattle.mig_restore.specs.Judging.{type_in_word, entry_at}
+use Rattle.mig_restore.proofs.Common.{◌≡◌, ℕ, List, Option, Some, None, Ok, true, false, length, refl, ap, sym, subst, ◌∙◌, rules, none-some, same_Some, part, Gives, Passes, done, Truncated, word_pfn, word_has_data, FrameEntry, type_in_word, entry_at}
 use Rattle.mig_restore.proofs.Growth.{grows_frame}
 use Rattle.mig_restore.proofs.Meaning.{entry_set}
 use Rattle.mig_restore.proofs.Batches.{carries}

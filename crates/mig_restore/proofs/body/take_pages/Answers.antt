@@ -1,8 +1,5 @@
-use Rattle.std.proofs.Common.{◌≡◌, rules, refl, None}
-use Rattle.mig_bytes.specs.Judged.{Gives, each}
-use Rattle.mig_records.specs.Faults.{fault_of_count, fault_of_words}
-use Rattle.mig_restore.specs.Mean.{put_entries}
-use Rattle.mig_restore.specs.Judging.{fault_of_data, entry_at}
+use Rattle.mig_restore.proofs.Common.{◌≡◌, rules, refl, None, Gives, fault_of_count, fault_of_words, put_entries, fault_of_data, entry_at}
+use Rattle.mig_bytes.specs.Judged.{each}
 use Rattle.mig_restore.proofs.Batches.{pages_read}
 use Rattle.mig_restore.proofs.body.take_pages.Goals as goal
 

@@ -1,12 +1,4 @@
-use Rattle.std.proofs.Common.{◌≡◌, ◌∙◌, ℕ, List, Option, Some, None, Ok, length, refl, ap, sym, subst, rules}
-use Rattle.mig_bytes.specs.Judged.{◌>>=◌, part, tried, Gives}
-use Rattle.mig_bytes.specs.Judged.Judged.{Passes}
-use Rattle.mig_headers.specs.declared.fault.Cause.{Cause}
-use Rattle.mig_headers.specs.declared.fault.Cause.TheVariants.{Truncated}
-use Rattle.mig_bodies.specs.Shapes.{fault_of_body, parts_of_body, HasBodyLength}
-use Rattle.mig_restore.specs.Mean.{put_content}
-use Rattle.mig_restore.specs.Record.{Content}
-use Rattle.mig_restore.specs.Record.Content.{Sets}
+use Rattle.mig_restore.proofs.Common.{◌≡◌, ◌∙◌, ℕ, List, Option, Some, None, Ok, length, refl, ap, sym, subst, rules, ◌>>=◌, part, tried, Gives, Passes, Cause, Truncated, fault_of_body, parts_of_body, HasBodyLength, put_content, Content, Sets}
 use Rattle.mig_restore.proofs.Growth.{grows_sets}
 use Rattle.mig_restore.proofs.body.take_sets.Goals as goal
 

@@ -1,12 +1,4 @@
-use Rattle.std.proofs.Common.{◌≡◌, ◌∙◌, List, ℕ, Option, Some, Result, ap, sym, subst}
-use Rattle.mig_bytes.specs.Judged.{Judged, Gives}
-use Rattle.mig_bytes.specs.declared.part.Stop.{Stop}
-use Rattle.mig_headers.specs.declared.fault.Cause.{Cause}
-use Rattle.mig_headers.specs.declared.record_type.RecordType.{RecordType}
-use Rattle.mig_guest.specs.PartCodes.{code_of_number}
-use Rattle.mig_guest.specs.declared.part_code.PartCode.{PartCode}
-use Rattle.mig_restore.specs.Record.{Content}
-use Rattle.mig_restore.specs.Judging.{code_of_type}
+use Rattle.mig_restore.proofs.Common.{◌≡◌, ◌∙◌, List, ℕ, Option, Some, Result, ap, sym, subst, Judged, Gives, Stop, Cause, RecordType, code_of_number, PartCode, Content, code_of_type}
 use Rattle.mig_restore.proofs.Bodies.{coded_is}
 use Rattle.mig_restore.proofs.Growth.{has_length, same_kinds, sets_no_emulator}
 use Rattle.mig_restore.proofs.body.take_typed.Goals as goal

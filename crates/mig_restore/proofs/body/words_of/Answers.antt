@@ -1,7 +1,5 @@
-use Rattle.std.proofs.Common.{◌*◌, arith, rules}
-use Rattle.std.proofs.lemmas.Grind.{common_steps}
+use Rattle.mig_restore.proofs.Common.{◌*◌, arith, rules, common_steps, le64}
 use Rattle.std.proofs.lemmas.List.FromFn.{map-range_with_len_more}
-use Rattle.mig_bytes.specs.Fields.{le64}
 use Rattle.mig_restore.proofs.body.words_of.Goals as goal
 
 pub loop-k-preserved : goal.loop-k-preserved

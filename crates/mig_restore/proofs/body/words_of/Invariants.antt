@@ -1,5 +1,4 @@
-use Rattle.std.proofs.Common.{◌≡◌, vec_len}
-use Rattle.mig_records.specs.Words.{words}
+use Rattle.mig_restore.proofs.Common.{◌≡◌, vec_len, words}
 use Rattle.mig_restore.proofs.body.words_of.Given as goal
 
 abbrev pub invariant-loop-k : goal.invariant-loop-k

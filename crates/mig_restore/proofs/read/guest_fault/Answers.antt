@@ -1,9 +1,6 @@
-use Rattle.std.proofs.Common.{◌≡◌, rules, true, false, length, nat_lt, sym, ◌∙◌, ap}
-use Rattle.std.specs.Prelude.{is_none}
+use Rattle.mig_restore.proofs.Common.{◌≡◌, rules, true, false, length, nat_lt, sym, ◌∙◌, ap, is_none, most_frames, hvm_fault_is}
 use Rattle.std.specs.FinMap as fin
-use Rattle.mig_pagetypes.specs.Limits.{most_frames}
 use Rattle.mig_guest.specs.PartKeys.{context_key}
-use Rattle.mig_pvtables.proofs.HvmGuests.{hvm_fault_is}
 use Rattle.mig_restore.proofs.read.guest_fault.Goals as goal
 
 pub returns-then-frames-gt-MAX_FRAMES : goal.returns-then-frames-gt-MAX_FRAMES

@@ -1,14 +1,6 @@
-use Rattle.std.proofs.Common.{◌≡◌, ℕ, List, [], ◌∷◌, ◌++◌, true, false, nat_eq, rules, ap, sym, subst, ◌∙◌}
-use Rattle.std.proofs.lemmas.Bool.{eq-eqb, ne_eqb}
-use Rattle.std.proofs.lemmas.List.{map-append}
-use Rattle.mig_bytes.proofs.Joins.{done, then_reads, stopped, refused}
-use Rattle.mig_guest.specs.Guests.{GuestOf}
-use Rattle.mig_pvtables.specs.Faults.{fault_of_guest}
-use Rattle.mig_restore.specs.Mean.{sent, put_record}
-use Rattle.mig_restore.specs.Record.{StreamRecord, types_of}
-use Rattle.mig_restore.specs.Judging.{Opening, before, record_at, next_at}
-use Rattle.mig_restore.specs.Seen.{IsSeen}
-use Rattle.mig_restore.specs.declared.head.Seen.{Seen}
+use Rattle.mig_restore.proofs.Common.{◌≡◌, ℕ, List, [], ◌∷◌, ◌++◌, true, false, nat_eq, rules, ap, sym, subst, ◌∙◌, eq-eqb, ne_eqb, map-append, done, then_reads, stopped, refused, GuestOf, fault_of_guest, put_record, StreamRecord, types_of, Opening, before, IsSeen, Seen}
+use Rattle.mig_restore.specs.Mean.{sent}
+use Rattle.mig_restore.specs.Judging.{record_at, next_at}
 use Rattle.mig_restore.proofs.Parts.{asks, behind_record, not_last, last_fine, last_faulty}
 use Rattle.mig_restore.proofs.Meaning.{sent_kind, one_more_record}
 use Rattle.mig_restore.proofs.read.read_next.Goals as goal

@@ -1,10 +1,6 @@
-use Rattle.std.proofs.Common.{refl, ap, ◌∙◌}
-use Rattle.mig_bytes.specs.Judged.{placed}
-use Rattle.mig_bytes.proofs.Joins.{mapped}
+use Rattle.mig_restore.proofs.Common.{refl, ap, ◌∙◌, placed, mapped, ImageHeader, DomainHeader, opening_of, marker_at, version_at, kind_at}
 use Rattle.mig_bytes.proofs.Placed.{placed_fine, placed_then, placed_ends}
-use Rattle.mig_headers.specs.declared.fault.Place.TheVariants.{ImageHeader, DomainHeader}
-use Rattle.mig_restore.specs.Judging.{opening_of}
-use Rattle.mig_restore.specs.Stream.{opening_at, marker_at, version_at, kind_at}
+use Rattle.mig_restore.specs.Stream.{opening_at}
 use Rattle.mig_restore.proofs.Laws.{behind_marker, behind_version, behind_kind}
 use Rattle.mig_restore.proofs.read.read_opening.Goals as goal
 

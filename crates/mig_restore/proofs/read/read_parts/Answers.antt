@@ -1,10 +1,5 @@
-use Rattle.std.proofs.Common.{ℕ, List, refl, sym, subst, rules}
-use Rattle.mig_bytes.specs.Judged.{Judged, Gives}
-use Rattle.mig_bytes.proofs.Joins.{then_reads, stopped}
-use Rattle.mig_headers.specs.declared.fault.Cause.{Cause}
-use Rattle.mig_headers.specs.declared.fault.Place.{Place}
-use Rattle.mig_restore.specs.Judging.{Opening}
-use Rattle.mig_restore.specs.Stream.{ImageOf, image_at, opening_at, records_at, IsReading}
+use Rattle.mig_restore.proofs.Common.{ℕ, List, refl, sym, subst, rules, Judged, Gives, then_reads, stopped, Cause, Place, Opening, ImageOf, records_at, IsReading}
+use Rattle.mig_restore.specs.Stream.{image_at, opening_at}
 use Rattle.mig_restore.proofs.read.read_parts.Goals as goal
 
 behind_opening : Opening × List ℕ → Judged (Place × Cause) ImageOf

@@ -1,14 +1,6 @@
-use Rattle.std.proofs.Common.{refl, rules, subst, sym, ◌∙◌, Err}
-use Rattle.mig_guest.specs.Guests.{GuestOf}
-use Rattle.mig_bytes.specs.Judged.{Gives}
+use Rattle.mig_restore.proofs.Common.{refl, rules, subst, sym, ◌∙◌, Err, GuestOf, Gives, records_at, IsReading, opening_of, none-some, part_cmp, IsFormed, HasNoEmulators, empty_formed}
 use Rattle.mig_restore.specs.declared.read.Reading.{Reading}
-use Rattle.mig_restore.specs.Stream.{records_at, IsReading}
-use Rattle.mig_restore.specs.Judging.{opening_of}
-use Rattle.std.proofs.lemmas.Option.{none-some}
 use Rattle.std.specs.FinMap.{get-empty}
-use Rattle.mig_guest.specs.Order.{part_cmp}
-use Rattle.mig_guest.specs.Formed.{IsFormed, HasNoEmulators}
-use Rattle.mig_guest.proofs.Kept.{empty_formed}
 use Rattle.mig_restore.proofs.Arrivals.{arrived_first, arrived_next, arrived_end, arrived_stopped}
 use Rattle.mig_restore.proofs.read.read_records.Goals as goal
 

@@ -1,10 +1,5 @@
-use Rattle.std.proofs.Common.{refl, rules}
-use Rattle.mig_bytes.specs.Bytes.{padding_len}
-use Rattle.mig_bytes.specs.Judged.{part}
-use Rattle.mig_bytes.specs.Judged.Judged.{Passes}
-use Rattle.mig_bytes.proofs.Joins.{mapped, then_reads, stopped}
-use Rattle.mig_headers.specs.declared.fault.Cause.TheVariants.{Truncated}
-use Rattle.mig_restore.specs.Judging.{record_at, head_at, body_at}
+use Rattle.mig_restore.proofs.Common.{refl, rules, padding_len, part, Passes, mapped, then_reads, stopped, Truncated, head_at, body_at}
+use Rattle.mig_restore.specs.Judging.{record_at}
 use Rattle.mig_restore.proofs.Parts.{behind_body, behind_head, begins, goes_on, padded}
 use Rattle.mig_restore.proofs.read.take_record.Goals as goal
 

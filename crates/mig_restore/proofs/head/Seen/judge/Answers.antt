@@ -1,12 +1,6 @@
-use Rattle.std.proofs.Common.{rules, ◌≡◌, ℕ, Option, Some, None, Result, Ok, Err, sym, ap, ◌∙◌}
+use Rattle.mig_restore.proofs.Common.{rules, ◌≡◌, ℕ, Option, Some, None, Result, Ok, Err, sym, ap, ◌∙◌, unless_faulty, Cause, fault_of_type, fault_of_long, fault_of_length, Seen, Before, fault_of_built, fault_of_number, IsSeen}
 use Rattle.std.specs.Option.{option_or}
-use Rattle.mig_headers.specs.Headers.{unless_faulty}
-use Rattle.mig_headers.specs.declared.fault.Cause.{Cause}
-use Rattle.mig_order.specs.Order.{fault_of_type}
-use Rattle.mig_records.specs.Faults.{fault_of_long, fault_of_length}
-use Rattle.mig_restore.specs.declared.head.Seen.{Seen}
-use Rattle.mig_restore.specs.Judging.{Before, fault_of_built, fault_of_number, fault_of_fields}
-use Rattle.mig_restore.specs.Seen.{IsSeen}
+use Rattle.mig_restore.specs.Judging.{fault_of_fields}
 use Rattle.mig_restore.proofs.head.Seen.judge.Goals as goal
 
 abbrev Verdict : Type 0
