@@ -1,4 +1,4 @@
-ghost use Rattle.std.specs.Prelude.{◌≡◌, ℕ, ◌+◌, ◌≤◌, ◌<◌, IsOk, OnOk, OnErr, IfSome, IfNone, Some, None};
+ghost use Rattle.std.specs.Prelude.{◌≡◌, ℕ, ◌+◌, ◌≤◌, ◌<◌, IsOk, OnOk, OnErr, IfOk, IfSome, IfNone, Some, None};
 ghost use Rattle.std.specs.FinMap as maps;
 ghost use Rattle.mig_pagetypes.specs.Limits.{pfn_limit};
 
@@ -47,6 +47,22 @@ impl MachineFrames {
             back: HashMap::new(alloc),
             spare: 0,
         }
+    }
+
+    /// No machine frames yet. Where the map back is made for as many as will come, it isn't copied as it grows.
+    #[tactic(auto, using(crate::proofs::MachineMaps::inverse_empty))]
+    pub(crate) fn with_capacity(alloc: Global, frames: usize) -> Result<MachineFrames, Memory>
+        ensures machines { IfOk result (λ f. f.machines ≡ maps.empty) }
+        ensures spare { IfOk result (λ f. f.spare ≡ 0) }
+    {
+        let Ok(back) = HashMap::with_capacity(alloc, frames) else {
+            return Err(Memory);
+        };
+        Ok(MachineFrames {
+            there: Index::new(alloc),
+            back,
+            spare: 0,
+        })
     }
 
     /// The machine frame of this PFN, which may be any number.

@@ -33,14 +33,14 @@ fn is_outside(base: u64, frames: u64) -> bool
 }
 
 /// The frame of rank i gets machine frame base + i. Answers them, and one more than the greatest PFN.
-#[tactic(auto, using(crate::proofs::Ranks::rank_full, crate::proofs::Ranks::frames_inside, crate::proofs::InOrder::entries_counted, crate::proofs::RestoredHosts::counted_all, crate::proofs::RestoredHosts::counted_unused))]
+#[tactic(auto, using(crate::proofs::Ranks::rank_full, crate::proofs::Ranks::frames_inside, crate::proofs::InOrder::entries_counted, crate::proofs::RestoredHosts::counted_all))]
 fn count_up(alloc: Global, guest: &Guest, base: u64) -> Result<(MachineFrames, u64), Memory>
     requires some { 0 < base }
     requires range { base + length (maps.entries guest.now.frames) ≤ 2 ^ 40 }
     ensures machines { IfOk result (λ r. (pfn : ℕ) → maps.get r.0.machines pfn ≡ option_map (λ _. base + rank_in guest.now.frames pfn) (maps.get guest.now.frames pfn)) }
     ensures width { IfOk result (λ r. r.1 ≡ least_width (maps.entries guest.now.frames)) }
 {
-    let mut machines = MachineFrames::new(alloc);
+    let mut machines = MachineFrames::with_capacity(alloc, guest.frames() as usize)?;
     let mut from = 0;
     for i in 0..guest.frames() {
         let Some(pfn) = guest.next_frame(from) else {
