@@ -9,7 +9,7 @@ use Rattle.mig_pvtables.proofs.BlankParts.{WithParts, OnlyPart}
 
 -- ---- the order of the keys
 
-is_above : Option PartKey → PartKey → Bool
+pub is_above : Option PartKey → PartKey → Bool
 is_above None key = true
 is_above (Some after) key = is_lt (part_cmp after key)
 
@@ -35,10 +35,10 @@ other_below q key ne not_less = by_case (part_cmp q key) refl
 -- ---- the parts of a code behind a key, by one test
 
 module _ (code : ℕ) where
-  is_next : Option PartKey → PartKey → Bool
+  pub is_next : Option PartKey → PartKey → Bool
   is_next after key = (key.code == code) && is_above after key
 
-  by_test : {X : Type 0} (after : Option PartKey) (es : List (PartKey × X)) → parts_after code after es ≡ filter (λ e. is_next after e.0) es
+  pub by_test : {X : Type 0} (after : Option PartKey) (es : List (PartKey × X)) → parts_after code after es ≡ filter (λ e. is_next after e.0) es
   unfolding is_next is_above
   by_test None es = sym (true_too es)
     where
@@ -50,7 +50,7 @@ module _ (code : ℕ) where
       ]
   by_test (Some k) es = kept_both (λ e. is_lt (part_cmp k e.0)) (λ e. e.0.code == code) es
 
-  next_parts : (after : Option PartKey) (key : PartKey) → is_next after key ≡ true → (key.code ≡ code) × (is_above after key ≡ true)
+  pub next_parts : (after : Option PartKey) (key : PartKey) → is_next after key ≡ true → (key.code ≡ code) × (is_above after key ≡ true)
   unfolding is_next
   next_parts after key is = let (a, b) = and_parts (key.code == code) (is_above after key) is in (eqb-true key.code code a, b)
 

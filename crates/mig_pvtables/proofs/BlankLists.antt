@@ -10,7 +10,7 @@ use Rattle.mig_pvtables.proofs.PvGuests.{counted}
 use Rattle.mig_pvtables.proofs.Searches.{any_in_range, find_in_range, none_of}
 
 -- two tests that fail alike
-alike_false : (a b : Bool) → (a ≡ false → b ≡ false) → (b ≡ false → a ≡ false) → a ≡ b
+pub alike_false : (a b : Bool) → (a ≡ false → b ≡ false) → (b ≡ false → a ≡ false) → a ≡ b
 alike_false true true go back = refl
 alike_false true false go back = back refl
 alike_false false b go back = sym (go refl)

@@ -14,3 +14,5 @@ pub mod BlankLists
 pub mod BlankCodes
 pub mod BlankGuests
 pub mod BlankAgain
+pub mod Walks
+pub mod P2mWalks

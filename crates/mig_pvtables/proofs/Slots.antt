@@ -1,10 +1,10 @@
--- The first slot of a table that passes a test.
+-- The first slot of a table, or field of a context, that passes a test.
 use Rattle.mig_pvtables.proofs.Common.{◌≡◌, ℕ, zero, suc, ◌+◌, ◌<◌, ◌≤◌, Bool, true, false, cond, Some, None, ap, subst, ◌∙◌, inl, inr, arith, ◌↔◌, find, range_with_len, cases_eq}
-use Rattle.mig_pvtables.specs.Faults.{slots}
+use Rattle.mig_pvtables.specs.Faults.{slots, field_numbers}
 use Rattle.mig_pvtables.proofs.Searches.{find_in_range}
 
 module _ (p : ℕ → Bool) where
-  first_in_range : (a n k : ℕ) → a ≤ k → k < a + n → p k ≡ true → ((j : ℕ) → a ≤ j → j < k → p j ≡ false) → find p (range_with_len a n) ≡ Some k
+  pub first_in_range : (a n k : ℕ) → a ≤ k → k < a + n → p k ≡ true → ((j : ℕ) → a ≤ j → j < k → p j ≡ false) → find p (range_with_len a n) ≡ Some k
   first_in_range a zero k le lt here before = absurd (omega (arith, le, lt))
   first_in_range a (suc n) k le lt here before = elim (cases_eq a k) [
     | inl e ↦ subst (λ m. cond (p a) (Some a) (find p (range_with_len (a + 1) n)) ≡ Some m) e (ap (λ b. cond b (Some a) (find p (range_with_len (a + 1) n))) (ap p e ∙ here))
@@ -19,3 +19,11 @@ module _ (p : ℕ → Bool) where
   pub no_slot : (find p slots ≡ None) ↔ ((k : ℕ) → k < 512 → p k ≡ false)
   unfolding slots
   no_slot = find_in_range p 512
+
+  pub first_field : (k : ℕ) → k < 19 → p k ≡ true → ((j : ℕ) → j < k → p j ≡ false) → find p field_numbers ≡ Some k
+  unfolding field_numbers
+  first_field k lt here before = first_in_range 0 19 k (omega arith) (omega (arith, lt)) here (λ j _ under. before j under)
+
+  pub no_field : (find p field_numbers ≡ None) ↔ ((k : ℕ) → k < 19 → p k ≡ false)
+  unfolding field_numbers
+  no_field = find_in_range p 19

@@ -7,3 +7,4 @@ pub mod Whole
 pub mod WholePv
 pub mod View
 pub mod BlankSteps
+pub mod P2mMarks

@@ -14,6 +14,7 @@ ghost use Rattle.mig_pvtables.specs.P2mFrames.{listed};
 ghost use Rattle.mig_pvtables.specs.VcpuContexts.{blanked_value, blanked_context, blanked_shared};
 ghost use Rattle.mig_pvtables.specs.Whole.{IsWhole};
 
+use crate::listing::{listed_pfn, sole_key};
 use mig_bytes::{put_u64_le, u64_le};
 use mig_guest::{Guest, PartCode, PartKey};
 use mig_headers::Kind;
@@ -29,17 +30,6 @@ const ROOT: usize = 5008;
 
 /// Where SHARED_INFO has pfn_to_mfn_frame_list_list, the frame of the root of the P2M lists.
 const FRAME_LIST_LIST: usize = 3096;
-
-/// The key of the only part of its code.
-fn sole_key(code: PartCode) -> PartKey
-    ensures { result ≡ record { code = code_number code; key1 = 0; key2 = 0 } }
-{
-    PartKey {
-        code: code.number(),
-        key1: 0,
-        key2: 0,
-    }
-}
 
 /// Sets the hypervisor's slots of a level 4 table, 256 to 271, to 0; a table of another level stays.
 #[tactic(auto, using(crate::proofs::BlankBytes::level_4_blanked, crate::proofs::BlankBytes::other_blanked))]
@@ -92,19 +82,6 @@ fn zero_page(guest: &mut Guest, pfn: u64)
 {
     if let Some(page) = guest.page_mut(pfn) {
         clear(page);
-    }
-}
-
-/// The PFN of P2M frame `index`, where there are so many.
-fn listed_pfn(guest: &Guest, index: usize) -> Option<u64>
-    ensures value { result ≡ listed guest.now.parts index }
-    ensures small { IfSome result (λ _. index < 2 ^ 61) }
-{
-    let list = guest.part(sole_key(PartCode::P2mFrames))?;
-    if index < list.len() / 8 {
-        Some(u64_le(list, 8 * index))
-    } else {
-        None
     }
 }
 

@@ -1,13 +1,14 @@
 //! Page tables and the contexts of vCPUs, whole guests and their blank form.
 //!
 //! Responsible for: what an entry of a table says, what is wrong with a table in a stream, the frame that a field of a
-//! vCPU's context says, and bringing a guest to its blank form. What is wrong with a guest at the end of its stream, and
-//! what a whole guest is, are so far definitions and laws. Code that tests a PV guest comes with PV streams.
+//! vCPU's context says, what is wrong with a guest at the end of its stream, and bringing a guest to its blank form.
 #![tactic(auto)]
 
 mod blanking;
 mod law;
+mod listing;
 mod table;
+mod testing;
 mod vcpu;
 
 pub use blanking::blank;
@@ -16,4 +17,5 @@ pub use law::{
     hvm_guest_is_whole, pv_guest_is_whole, some_pv_guest_is_whole,
 };
 pub use table::{check_table, entry, put_entry};
+pub use testing::{WholeAnswer, whole};
 pub use vcpu::{put_vcpu_frame, vcpu_frame};

@@ -10,7 +10,7 @@ use mig_guest::Entry;
 use mig_headers::Cause;
 
 /// How many entries a table has.
-const SLOTS: usize = 512;
+pub(crate) const SLOTS: usize = 512;
 
 /// An entry names a frame in 40 bits.
 const FRAMES: u64 = 1 << 40;

@@ -6,6 +6,9 @@ ghost use Rattle.mig_pvtables.specs.VcpuContexts.{field_place, field_value, fiel
 
 use mig_bytes::{put_u64_le, u64_le};
 
+/// How many fields of a context hold a frame.
+pub(crate) const FIELDS: u8 = 19;
+
 /// Where the number of the GDT's descriptors stands.
 const GDT_ENTS: usize = 4960;
 

@@ -1,0 +1,131 @@
+-- Walks along the entries of a map, up to the first that gives an answer.
+use Rattle.mig_pvtables.proofs.Common.{◌≡◌, ℕ, ◌+◌, ◌<◌, Bool, true, false, cond, not, List, [], ◌∷◌, length, Option, Some, None, is_some, is_none, refl, sym, ap, inl, inr, cases_eq, ◌∙◌, arith, ◌&&◌, ◌==◌, le-leb, find, option_map, option_or, Entry, FrameOf, FrameMap, PartKey, PartMap, Part, parts_after, part_total, part_exact, PageType, level_of, first_passes, first_some, find_slot, find_entry, find_field, misfits, type_at, fits_field, gdt_ents, field_value, is_used, frame_of_field}
+use Rattle.std.specs.FinMap as maps
+use Rattle.mig_guest.specs.Frames.{entries_from}
+use Rattle.mig_guest.specs.Parts.{parts_of}
+use Rattle.mig_pvtables.specs.Faults.{field_numbers}
+use Rattle.mig_pvtables.specs.VcpuContexts.{field_says}
+use Rattle.mig_pvtables.proofs.BlankCodes.{is_next, by_test, next_parts}
+
+-- ---- an answer that those behind give, too
+
+module _ {A C : Type 0} (f : A → Option C) (now rest : List A) (answer : Option C) (same : first_some f now ≡ answer) where
+  first_here : (e : A) (c : C) → now ≡ e ∷ rest → f e ≡ Some c → Some c ≡ answer
+  first_here e c is here = sym (ap (first_some f) is ∙ ap (λ o. option_or o (first_some f rest)) here) ∙ same
+
+  first_later : (e : A) → now ≡ e ∷ rest → f e ≡ None → first_some f rest ≡ answer
+  first_later e is nothing = sym (ap (first_some f) is ∙ ap (λ o. option_or o (first_some f rest)) nothing) ∙ same
+
+  first_never : now ≡ [] → None ≡ answer
+  first_never is = sym (ap (first_some f) is) ∙ same
+
+-- ---- a test that fails below a number
+
+pub below_next : (p : ℕ → Bool) (n : ℕ) → ((k : ℕ) → k < n → p k ≡ false) → p n ≡ false → (k : ℕ) → k < n + 1 → p k ≡ false
+below_next p n below here k lt = elim (cases_eq k n) [
+  | inl e ↦ ap p e ∙ here
+  | inr ne ↦ below k (omega (arith, lt, ne))
+]
+
+-- ---- frames
+
+pub frames_counted : (frames : FrameMap) → maps.len frames ≡ length (maps.entries frames)
+frames_counted frames = maps.len-entries frames
+
+from_first : {X : Type 0} (es : List (ℕ × X)) → entries_from 0 es ≡ es
+from_first [] = refl
+from_first (e ∷ es) = ap (λ b. cond b (e ∷ entries_from 0 es) (entries_from 0 es)) (le-leb 0 e.0 (omega arith)) ∙ ap (λ l. e ∷ l) (from_first es)
+
+-- a frame that isn't there
+pub not_there : (frames : FrameMap) (pfn : ℕ) (type : Option PageType) → type ≡ type_at frames pfn → is_some type ≡ false → is_none (maps.get frames pfn) ≡ true
+not_there frames pfn type is none = by_case (maps.get frames pfn) (sym (ap is_some is) ∙ none)
+  where
+    by_case : (o : Option FrameOf) → is_some (option_map (λ f. f.type) o) ≡ false → is_none o ≡ true
+    by_case None h = refl
+    by_case (Some f) h = let no : true ≡ false = h in cc
+
+module _ (bad : Entry → Bool) (frames : FrameMap) where
+  -- what is found in one frame
+  abbrev pub in_frame : ℕ × FrameOf → Option (ℕ × ℕ)
+  in_frame e = option_map (λ slot. (e.0, slot)) (find_slot bad (level_of e.1.type) e.1.page)
+
+  -- what the frames from a number on give is what all give
+  abbrev pub IsSoFrom : ℕ → Type 0
+  IsSoFrom from = first_some in_frame (entries_from from (maps.entries frames)) ≡ find_entry bad frames
+
+  pub frames_start : IsSoFrom 0
+  frames_start = ap (first_some in_frame) (from_first (maps.entries frames))
+
+  module _ (from : ℕ) (so : IsSoFrom from) where
+    pub frames_end : entries_from from (maps.entries frames) ≡ [] → None ≡ find_entry bad frames
+    frames_end none = first_never in_frame (entries_from from (maps.entries frames)) [] (find_entry bad frames) so none
+
+    module _ (e : ℕ × FrameOf) (next : entries_from from (maps.entries frames) ≡ e ∷ entries_from (e.0 + 1) (maps.entries frames)) where
+      pub frames_found : (slot : ℕ) → Some slot ≡ find_slot bad (level_of e.1.type) e.1.page → Some (e.0, slot) ≡ find_entry bad frames
+      frames_found slot is = first_here in_frame _ _ (find_entry bad frames) so e (e.0, slot) next (ap (option_map (λ (s : ℕ). (e.0, s))) (sym is))
+
+      pub frames_next : None ≡ find_slot bad (level_of e.1.type) e.1.page → IsSoFrom (e.0 + 1)
+      frames_next is = first_later in_frame _ _ (find_entry bad frames) so e next (ap (option_map (λ (s : ℕ). (e.0, s))) (sym is))
+
+      pub frames_fewer : length (entries_from (e.0 + 1) (maps.entries frames)) < length (entries_from from (maps.entries frames))
+      frames_fewer = omega (arith, ap length next)
+
+-- ---- contexts of vCPUs
+
+said_by : (used : Bool) (v pfn : ℕ) (fits : ℕ → Bool) → Some pfn ≡ cond used (Some v) None → (used && not (fits v)) ≡ not (fits pfn)
+said_by true v pfn fits is = let same : v ≡ pfn = cc in ap (λ n. not (fits n)) same
+said_by false v pfn fits is = let no : Some pfn ≡ None = is in cc
+
+unsaid_by : (used fits : Bool) (v : ℕ) → None ≡ cond used (Some v) None → (used && not fits) ≡ false
+unsaid_by true fits v is = let no : None ≡ Some v = is in cc
+unsaid_by false fits v is = refl
+
+module _ (frames : FrameMap) where
+  -- a field that is used says a frame of its type, or misfits
+  pub said : (id : ℕ) (context : List ℕ) (field pfn : ℕ) (type : Option PageType) (fits : Bool) → Some pfn ≡ field_says id context field → type ≡ type_at frames pfn → fits ≡ fits_field field type → misfits frames id context field ≡ not fits
+  said id context field pfn type fits is has b =
+      said_by (is_used id (gdt_ents context) field (field_value context field)) (frame_of_field field (field_value context field)) pfn (λ n. fits_field field (type_at frames n)) is
+      ∙ ap (λ t. not (fits_field field t)) (sym has) ∙ ap not (sym b)
+
+  pub unsaid : (id : ℕ) (context : List ℕ) (field : ℕ) → None ≡ field_says id context field → misfits frames id context field ≡ false
+  unsaid id context field is =
+      let v = field_value context field in unsaid_by (is_used id (gdt_ents context) field v) (fits_field field (type_at frames (frame_of_field field v))) (frame_of_field field v) is
+
+  -- what is found in one context
+  abbrev pub in_context : Part → Option (ℕ × ℕ)
+  in_context e = option_map (λ field. (e.0.key1, field)) (find (misfits frames e.0.key1 e.1) field_numbers)
+
+  contexts_alone : (es : List Part) → first_some in_context (parts_of 4 es) ≡ first_some (λ e. cond (e.0.code == 4) (in_context e) None) es
+  contexts_alone [] = refl
+  contexts_alone (e ∷ es) = elim (e.0.code == 4) as (λ b. first_some in_context (cond b (e ∷ parts_of 4 es) (parts_of 4 es)) ≡ option_or (cond b (in_context e) None) (first_some (λ e. cond (e.0.code == 4) (in_context e) None) es)) [
+    | true ↦ ap (option_or (in_context e)) (contexts_alone es)
+    | false ↦ contexts_alone es
+  ]
+
+  module _ (parts : PartMap) where
+    -- what the contexts behind a key give is what all give
+    abbrev pub IsSoBehind : Option PartKey → Type 0
+    IsSoBehind after = first_some in_context (parts_after 4 after (maps.entries parts)) ≡ find_field frames parts
+
+    pub contexts_start : IsSoBehind None
+    contexts_start = contexts_alone (maps.entries parts)
+
+    module _ (after : Option PartKey) (so : IsSoBehind after) where
+      pub contexts_end : parts_after 4 after (maps.entries parts) ≡ [] → None ≡ find_field frames parts
+      contexts_end none = first_never in_context (parts_after 4 after (maps.entries parts)) [] (find_field frames parts) so none
+
+      module _ (e : Part) (next : parts_after 4 after (maps.entries parts) ≡ e ∷ parts_after 4 (Some e.0) (maps.entries parts)) where
+        pub contexts_found : (field : ℕ) → Some field ≡ find (misfits frames e.0.key1 e.1) field_numbers → Some (e.0.key1, field) ≡ find_field frames parts
+        contexts_found field is = first_here in_context _ _ (find_field frames parts) so e (e.0.key1, field) next (ap (option_map (λ (n : ℕ). (e.0.key1, n))) (sym is))
+
+        pub contexts_next : None ≡ find (misfits frames e.0.key1 e.1) field_numbers → IsSoBehind (Some e.0)
+        contexts_next is = first_later in_context _ _ (find_field frames parts) so e next (ap (option_map (λ (n : ℕ). (e.0.key1, n))) (sym is))
+
+pub context_there : (parts : PartMap) (after : Option PartKey) (e : Part) → parts_after 4 after (maps.entries parts) ≡ e ∷ parts_after 4 (Some e.0) (maps.entries parts) → (e.0.code ≡ 4) × (maps.get parts e.0 ≡ Some e.1)
+context_there parts after e next =
+    let found = first_passes part_total part_exact parts (is_next 4 after) e (parts_after 4 (Some e.0) (maps.entries parts)) (sym (by_test 4 after (maps.entries parts)) ∙ next) in
+    ((next_parts 4 after e.0 found.0).0, found.1)
+
+pub contexts_fewer : (parts : PartMap) (after : Option PartKey) (e : Part) → parts_after 4 after (maps.entries parts) ≡ e ∷ parts_after 4 (Some e.0) (maps.entries parts)
+    → length (parts_after 4 (Some e.0) (maps.entries parts)) < length (parts_after 4 after (maps.entries parts))
+contexts_fewer parts after e next = omega (arith, ap length next)

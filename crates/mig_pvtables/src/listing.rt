@@ -1,0 +1,106 @@
+ghost use Rattle.std.specs.Prelude.{◌≡◌, ◌<◌, ◌^◌, IfSome, IfOk, ◌||◌, not, if◌then◌else◌};
+ghost use Rattle.std.specs.FinMap as maps;
+ghost use Rattle.mig_guest.specs.PartCodes.{code_number};
+ghost use Rattle.mig_guest.specs.Formed.{IsFormed};
+ghost use Rattle.mig_guest.specs.PartKeys.{p2m_key};
+ghost use Rattle.mig_pvtables.specs.Faults.{is_needed as has_frames, is_notab, find_p2m};
+ghost use Rattle.mig_pvtables.specs.P2mFrames.{listed, count_in};
+ghost use Rattle.mig_pvtables.specs.P2mMarks.{clashes};
+
+use mig_bytes::{Memory, u64_le};
+use mig_guest::{Guest, PartCode, PartKey};
+use mig_index::Index;
+use mig_pagetypes::PageType;
+use std::alloc::Global;
+
+/// Marks of PFNs that were listed: for ranges without frames, and for one that has some.
+const EMPTY: u64 = 1;
+
+const NEEDED: u64 = 2;
+
+/// The key of the only part of its code.
+pub(crate) fn sole_key(code: PartCode) -> PartKey
+    ensures { result ≡ record { code = code_number code; key1 = 0; key2 = 0 } }
+{
+    PartKey {
+        code: code.number(),
+        key1: 0,
+        key2: 0,
+    }
+}
+
+/// The PFN of P2M frame `index`, where there are so many.
+pub(crate) fn listed_pfn(guest: &Guest, index: usize) -> Option<u64>
+    ensures value { result ≡ listed guest.now.parts index }
+    ensures small { IfSome result (λ _. index < 2 ^ 61) }
+{
+    let list = guest.part(sole_key(PartCode::P2mFrames))?;
+    if index < list.len() / 8 {
+        Some(u64_le(list, 8 * index))
+    } else {
+        None
+    }
+}
+
+/// How many P2M frames are listed.
+fn listed_count(guest: &Guest) -> usize
+    ensures { result ≡ count_in (maps.get guest.now.parts p2m_key) }
+{
+    match guest.part(sole_key(PartCode::P2mFrames)) {
+        Some(list) => list.len() / 8,
+        None => 0,
+    }
+}
+
+/// Whether a PFN of P2M frame `index` has a frame.
+#[tactic(auto, using(crate::proofs::P2mWalks::none_needed, crate::proofs::P2mWalks::some_needed, crate::proofs::P2mWalks::later_needed))]
+fn is_needed(guest: &Guest, index: usize) -> bool
+    requires { index < 2 ^ 50 }
+    ensures { result ≡ has_frames guest.now.frames index }
+{
+    let start = 512 * index as u64;
+    match guest.next_frame(start) {
+        Some(pfn) => pfn - start < 512,
+        None => false,
+    }
+}
+
+/// Whether a frame of this type can't be a P2M frame, or its PFN, which has this mark, is listed once too often.
+fn is_misplaced(kind: Option<PageType>, mark: Option<u64>, needed: bool) -> bool
+    ensures { result ≡ (not (is_notab kind) || clashes mark needed) }
+{
+    let Some(PageType::Notab) = kind else {
+        return true;
+    };
+    match mark {
+        Some(mark) => mark != EMPTY || needed,
+        None => false,
+    }
+}
+
+/// The mark of a PFN that is listed for a range that has frames, or for one without.
+fn mark_for(needed: bool) -> u64
+    ensures value { result ≡ if needed then 2 else 1 }
+    ensures some { 0 < result }
+{
+    if needed { NEEDED } else { EMPTY }
+}
+
+/// The first place at which the list of the P2M frames is wrong.
+pub(crate) fn misplaced_frame(alloc: Global, guest: &Guest) -> Result<Option<usize>, Memory>
+    requires { IsFormed guest.now }
+    ensures { IfOk result (λ place. place ≡ find_p2m guest.now.frames guest.now.parts) }
+{
+    let mut marks = Index::new(alloc);
+    marks.reserve(listed_count(guest))?;
+    let mut index = 0;
+    while let Some(pfn) = listed_pfn(guest, index) {
+        let needed = is_needed(guest, index);
+        if is_misplaced(guest.frame(pfn), marks.get(pfn), needed) {
+            return Ok(Some(index));
+        }
+        marks.put_spare(pfn, mark_for(needed));
+        index += 1;
+    }
+    Ok(None)
+}

@@ -1,0 +1,210 @@
+ghost use Rattle.std.specs.Prelude.{◌≡◌, ◌≢◌, ◌≤◌, ◌<◌, ℕ, List, [], ◌∷◌, length, IfSome, IfOk, OnOk, Some, None, Err, find};
+ghost use Rattle.std.specs.Option.{option_copied, option_map};
+ghost use Rattle.std.specs.FinMap as maps;
+ghost use Rattle.mig_headers.specs.declared.fault.Cause.TheVariants.{TargetAbsent, VcpuFrame};
+ghost use Rattle.mig_headers.specs.declared.kind.Kind.TheVariants.{Hvm, Pv};
+ghost use Rattle.mig_pagetypes.specs.PageTypes.{level_of};
+ghost use Rattle.mig_guest.specs.Formed.{IsFormed};
+ghost use Rattle.mig_guest.specs.PartCodes.{code_number};
+ghost use Rattle.mig_guest.specs.PartKeys.{p2m_key, shared_key, vcpu_key};
+ghost use Rattle.mig_guest.specs.Tables.{entry as what_is_said};
+ghost use Rattle.mig_pvtables.specs.Faults.{find_slot, find_entry, is_absent, slots, find_field, misfits, fits_field, field_numbers, missing, too_many as more_than_allowed, first_of, fault_of_guest};
+ghost use Rattle.mig_pvtables.specs.declared.testing.WholeAnswer.TheVariants.{Fault, Memory as NoMemory};
+
+use crate::listing::{misplaced_frame, sole_key};
+use crate::table::{SLOTS, entry};
+use crate::vcpu::{FIELDS, vcpu_frame};
+use mig_bytes::Memory;
+use mig_guest::{Entry, Guest, PartCode, PartKey};
+use mig_headers::{Cause, Kind};
+use mig_pagetypes::{MAX_FRAMES, PageType};
+use std::alloc::Global;
+use thiserror::Error;
+
+/// The code of the parts that are contexts of vCPUs.
+const VCPU_BASIC: u32 = 4;
+
+/// Why a guest isn't whole, or that this wasn't found out.
+#[derive(Clone, Copy, Debug, PartialEq, Eq, Error)]
+pub enum WholeAnswer {
+    /// The guest isn't whole: the first cause in it, at its least place.
+    #[error("the guest isn't whole")]
+    Fault(Cause),
+    /// There was no memory.
+    #[error("no memory was found")]
+    Memory,
+}
+
+/// That the only part of its code isn't there.
+fn absent_part(guest: &Guest, code: PartCode) -> Option<Cause>
+    ensures { result ≡ missing guest.now.parts (record { code = code_number code; key1 = 0; key2 = 0 }) }
+{
+    let key = sole_key(code);
+    if guest.part(key).is_none() {
+        Some(Cause::Missing(u64::from(key.code)))
+    } else {
+        None
+    }
+}
+
+/// That there are more frames than a guest may have.
+#[tactic(auto, using(crate::proofs::Walks::frames_counted))]
+fn too_many(guest: &Guest) -> Option<Cause>
+    ensures { result ≡ more_than_allowed guest.now.frames }
+{
+    if guest.frames() > MAX_FRAMES {
+        Some(Cause::TooManyFrames)
+    } else {
+        None
+    }
+}
+
+/// The first slot of a table that names a frame that isn't there.
+#[tactic(auto, using(crate::proofs::Slots::no_slot))]
+fn absent_slot(guest: &Guest, page: &[u8; 4096], level: u8) -> Option<usize>
+    requires least { 1 ≤ level }
+    requires most { level ≤ 4 }
+    ensures value { result ≡ find (λ slot. is_absent guest.now.frames (what_is_said level page.now slot)) slots }
+    ensures small { IfSome result (λ slot. slot < 512) }
+{
+    for slot in 0..SLOTS {
+        if let Entry::Frame(pfn) = entry(page, level, slot) {
+            if guest.frame(pfn).is_none() {
+                return Some(slot);
+            }
+        }
+    }
+    None
+}
+
+/// The same of a frame, which may be no table.
+fn absent_in(guest: &Guest, kind: PageType, page: Option<&[u8; 4096]>) -> Option<usize>
+    ensures value { result ≡ find_slot (is_absent guest.now.frames) (level_of kind) (option_copied page.entry) }
+    ensures small { IfSome result (λ slot. slot < 512) }
+{
+    let level = kind.table_level()?;
+    absent_slot(guest, page?, level)
+}
+
+/// The first entry of a table that names a frame that isn't there: the table's PFN, and the slot.
+fn absent_target(guest: &Guest) -> Option<(u64, usize)>
+    ensures { result ≡ find_entry (is_absent guest.now.frames) guest.now.frames }
+{
+    let mut from = 0;
+    while let Some((pfn, kind, page)) = guest.next_entry(from) {
+        if let Some(slot) = absent_in(guest, kind, page) {
+            return Some((pfn, slot));
+        }
+        from = pfn + 1;
+    }
+    None
+}
+
+/// Whether a field of a vCPU's context may say a frame of this type.
+fn fits(field: u8, kind: Option<PageType>) -> bool
+    ensures { result ≡ fits_field field kind }
+{
+    if field <= 16 {
+        matches!(kind, Some(PageType::Notab))
+    } else {
+        matches!(kind, Some(PageType::L4Tab | PageType::L4Pinned))
+    }
+}
+
+/// The first field of a vCPU's context that is used and says no frame of its type.
+fn misfit(guest: &Guest, context: &[u8; 5168], id: u32) -> Option<u8>
+    ensures value { result ≡ find (misfits guest.now.frames id context.now) field_numbers }
+{
+    for field in 0..FIELDS {
+        if let Some(pfn) = vcpu_frame(context, id, field) {
+            if !fits(field, guest.frame(pfn)) {
+                return Some(field);
+            }
+        }
+    }
+    None
+}
+
+/// The first field of a vCPU that is used and says no frame of its type: the vCPU's id, and the field.
+fn bad_field(guest: &Guest) -> Option<(u32, u8)>
+    requires { (key : PartKey) (context : List ℕ) → maps.get guest.now.parts key ≡ Some context → key.code ≡ 4 → length context ≡ 5168 }
+    ensures { result ≡ find_field guest.now.frames guest.now.parts }
+{
+    let mut after = None;
+    while let Some((key, bytes)) = guest.next_of_code(VCPU_BASIC, after) {
+        let context = bytes.as_array::<5168>().unwrap();
+        if let Some(field) = misfit(guest, context, key.key1) {
+            return Some((key.key1, field));
+        }
+        after = Some(key);
+    }
+    None
+}
+
+/// The first of the parts that each PV guest has that isn't there. Of the contexts, that of vCPU 0 has to be.
+fn absent_pv_part(guest: &Guest) -> Option<Cause>
+    ensures { result ≡ first_of (missing guest.now.parts p2m_key ∷ missing guest.now.parts shared_key ∷ missing guest.now.parts (vcpu_key 0) ∷ []) }
+{
+    absent_part(guest, PartCode::P2mFrames)
+        .or(absent_part(guest, PartCode::SharedInfo))
+        .or(absent_part(guest, PartCode::VcpuBasic))
+}
+
+/// The first cause in a PV guest that comes behind those of its P2M frames.
+fn later_fault(guest: &Guest) -> Option<Cause>
+    requires { IsFormed guest.now }
+    ensures { result ≡ first_of (option_map (λ at. TargetAbsent at.0 at.1) (find_entry (is_absent guest.now.frames) guest.now.frames)
+        ∷ option_map (λ at. VcpuFrame at.0 at.1) (find_field guest.now.frames guest.now.parts) ∷ more_than_allowed guest.now.frames ∷ []) }
+{
+    if let Some((pfn, slot)) = absent_target(guest) {
+        return Some(Cause::TargetAbsent(pfn, slot as u64));
+    }
+    if let Some((id, field)) = bad_field(guest) {
+        return Some(Cause::VcpuFrame(u64::from(id), u64::from(field)));
+    }
+    too_many(guest)
+}
+
+/// The first cause in a PV guest.
+fn pv_fault(alloc: Global, guest: &Guest) -> Result<Option<Cause>, Memory>
+    requires formed { IsFormed guest.now }
+    requires pv { guest.now.kind ≡ Pv }
+    ensures { IfOk result (λ fault. fault ≡ fault_of_guest guest.now) }
+{
+    if let Some(cause) = absent_pv_part(guest) {
+        return Ok(Some(cause));
+    }
+    if let Some(place) = misplaced_frame(alloc, guest)? {
+        return Ok(Some(Cause::P2mFrame(place as u64)));
+    }
+    Ok(later_fault(guest))
+}
+
+/// The first cause in an HVM guest.
+fn hvm_fault(guest: &Guest) -> Option<Cause>
+    requires { guest.now.kind ≡ Hvm }
+    ensures { result ≡ fault_of_guest guest.now }
+{
+    absent_part(guest, PartCode::HvmContext).or(too_many(guest))
+}
+
+/// Whether a guest that is well formed is whole; else the first cause in it, at its least place. An HVM guest is tested
+/// without memory.
+pub fn whole(alloc: Global, guest: &Guest) -> Result<(), WholeAnswer>
+    requires { IsFormed guest.now }
+    ensures ok { OnOk result (fault_of_guest guest.now ≡ None) }
+    ensures fault { (c : Cause) → result ≡ Err (Fault c) → fault_of_guest guest.now ≡ Some c }
+    ensures hvm { guest.now.kind ≡ Hvm → result ≢ Err NoMemory }
+{
+    let fault = match guest.kind() {
+        Kind::Hvm => hvm_fault(guest),
+        Kind::Pv => match pv_fault(alloc, guest) {
+            Ok(fault) => fault,
+            Err(Memory) => return Err(WholeAnswer::Memory),
+        },
+    };
+    match fault {
+        Some(cause) => Err(WholeAnswer::Fault(cause)),
+        None => Ok(()),
+    }
+}
