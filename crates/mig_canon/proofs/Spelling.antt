@@ -1,9 +1,10 @@
 -- How records, tables and the whole stream are spelled, piece by piece.
-use Rattle.mig_canon.proofs.Common.{◌≡◌, ℕ, suc, ◌+◌, ◌-◌, ◌<◌, ◌≤◌, List, [], ◌∷◌, ◌++◌, length, take, drop, replicate, map, Bool, true, false, refl, sym, ap, subst, ◌∙◌, arith, length-append, append-nil, append_assoc, flat_map-append, length-replicate, replicate-append-replicate, take-append-le, take-append-add, flat_map, padding_len, Part, code_number, shape_of, parts_at, part_body, bodies_by_shape, head_of, Record, records_of, records_in_order, frames_in, batches, frame_bodies, static_bodies, last_bodies, text_of, headers, piece}
+use Rattle.mig_canon.proofs.Common.{◌≡◌, ℕ, suc, ◌+◌, ◌-◌, ◌<◌, ◌≤◌, List, [], ◌∷◌, ◌++◌, length, take, drop, replicate, map, Bool, true, false, refl, sym, ap, subst, ◌∙◌, arith, length-append, append-nil, append_assoc, flat_map-append, length-replicate, replicate-append-replicate, take-append-le, take-append-add, flat_map, padding_len, Part, code_number, shape_of, parts_at, part_body, bodies_by_shape, head_of, Record, records_of, records_in_order, frames_in, batches, frame_bodies, static_bodies, info_records, p2m_records, pv_last_codes, all_vcpus, last_records, bodies_of, text_of, headers, piece}
 use Rattle.byteorder.specs.Endian.{little_bytes}
 use Rattle.byteorder.specs.Numbers.{length-bytes_low_first}
 use Rattle.byteorder.proofs.Bytes.{take-bytes_low_first}
 use Rattle.mig_bytes.specs.Fields.{with_field}
+use Rattle.mig_headers.specs.declared.kind.Kind.TheVariants.{Pv, Hvm}
 use Rattle.mig_guest.specs.Guests.{GuestOf}
 use Rattle.mig_guest.specs.declared.part_code.PartCode.{PartCode}
 use Rattle.mig_bodies.specs.declared.layout.Layout.{Layout}
@@ -114,16 +115,35 @@ keyed_text first second ignored key1 key2 value = sym (append_assoc (little_byte
 
 -- ---- the stream
 
--- the records of codes one after another, and a last one
-pub codes_text : (codes : List PartCode) (g : GuestOf) (type : ℕ) → text_of (records_in_order codes g ++ (type, []) ∷ []) ≡ flat_map (λ code. text_of (records_of code g)) codes ++ spelled type []
-codes_text [] g type = text_one type []
-codes_text (code ∷ codes) g type =
-    let these = text_of (records_of code g) in
-    ap text_of (append_assoc (records_of code g) (records_in_order codes g) ((type, []) ∷ [])) ∙ text_join (records_of code g) (records_in_order codes g ++ (type, []) ∷ [])
-    ∙ ap (λ l. these ++ l) (codes_text codes g type) ∙ sym (append_assoc these (flat_map (λ c. text_of (records_of c g)) codes) (spelled type []))
+pub texts_of : {X : Type 0} (R : X → List Record) (xs : List X) → text_of (flat_map R xs) ≡ flat_map (λ x. text_of (R x)) xs
+texts_of R [] = refl
+texts_of R (x ∷ xs) = text_join (R x) (flat_map R xs) ∙ ap (λ l. text_of (R x) ++ l) (texts_of R xs)
 
-pub canon_is : (g : GuestOf) → canon g ≡ headers ++ (text_of (static_bodies g) ++ (text_of (frame_bodies (frames_in g) (batches (frames_in g))) ++ text_of (last_bodies g)))
+-- the records of codes one after another
+pub codes_alone : (codes : List PartCode) (g : GuestOf) → text_of (records_in_order codes g) ≡ flat_map (λ code. text_of (records_of code g)) codes
+codes_alone codes g = texts_of (λ code. records_of code g) codes
+
+-- and a last one
+pub codes_text : (codes : List PartCode) (g : GuestOf) (type : ℕ) → text_of (records_in_order codes g ++ (type, []) ∷ []) ≡ flat_map (λ code. text_of (records_of code g)) codes ++ spelled type []
+codes_text codes g type =
+    text_join (records_in_order codes g) ((type, []) ∷ []) ∙ ap (λ l. l ++ text_of ((type, []) ∷ [])) (codes_alone codes g)
+    ∙ ap (λ l. flat_map (λ code. text_of (records_of code g)) codes ++ l) (text_one type [])
+
+-- and the records of the vCPUs
+pub pv_last_text : (g : GuestOf) → text_of (last_records Pv g) ≡ flat_map (λ code. text_of (records_of code g)) pv_last_codes ++ text_of (all_vcpus g)
+pv_last_text g = text_join (records_in_order pv_last_codes g) (all_vcpus g) ∙ ap (λ l. l ++ text_of (all_vcpus g)) (codes_alone pv_last_codes g)
+
+pub canon_is : (g : GuestOf) → canon g ≡ headers g.kind ++ (text_of (info_records g.kind) ++ (text_of (static_bodies g) ++ (text_of (p2m_records g.kind g)
+    ++ (text_of (frame_bodies (frames_in g) (batches (frames_in g))) ++ (text_of (last_records g.kind g) ++ spelled 0 [])))))
 unfolding canon
 canon_is g =
-    let a = static_bodies g in let b = frame_bodies (frames_in g) (batches (frames_in g)) in
-    ap (λ l. headers ++ l) (text_join a (b ++ last_bodies g) ∙ ap (λ l. text_of a ++ l) (text_join b (last_bodies g)))
+    let kind = g.kind in let pages = frame_bodies (frames_in g) (batches (frames_in g)) in
+    let last = last_records kind g ++ (0, []) ∷ [] in let behind_p2m = pages ++ last in let behind_static = p2m_records kind g ++ behind_p2m in
+    ap (λ l. headers kind ++ l) (text_join (info_records kind) (static_bodies g ++ behind_static) ∙ ap (λ l. text_of (info_records kind) ++ l) (text_join (static_bodies g) behind_static
+    ∙ ap (λ l. text_of (static_bodies g) ++ l) (text_join (p2m_records kind g) behind_p2m ∙ ap (λ l. text_of (p2m_records kind g) ++ l) (text_join pages last
+    ∙ ap (λ l. text_of pages ++ l) (text_join (last_records kind g) ((0, []) ∷ []) ∙ ap (λ l. text_of (last_records kind g) ++ l) (text_one 0 []))))))
+
+-- of an HVM guest
+pub hvm_canon : (g : GuestOf) → g.kind ≡ Hvm → canon g ≡ headers Hvm ++ text_of (bodies_of Hvm g)
+unfolding canon
+hvm_canon g hvm = ap (λ kind. headers kind ++ text_of (bodies_of kind g)) hvm

@@ -11,6 +11,7 @@
 
 mod frames;
 mod parts;
+mod pv;
 mod writer;
 
 pub use writer::write_canon;

@@ -19,7 +19,7 @@ use mig_records::{write_head, write_padding, write_record};
 
 /// Appends the lowest bytes of two numbers, of each the lowest first.
 #[tactic(auto, using(mig_bytes::proofs::Texts::puts_same, crate::proofs::Spelling::numbers_text))]
-fn write_numbers<K: Sink>(
+pub(crate) fn write_numbers<K: Sink>(
     sink: &mut K,
     first: usize,
     one: u32,
@@ -127,7 +127,7 @@ fn write_named<K: Sink>(
 }
 
 /// Appends a part as its code's shape says: an entry of a table, or a record.
-fn write_piece<K: Sink>(
+pub(crate) fn write_piece<K: Sink>(
     sink: &mut K,
     code: PartCode,
     shape: Shape,

@@ -1,13 +1,14 @@
 ghost use Rattle.std.specs.Prelude.{◌≡◌, ◌++◌};
 ghost use Rattle.mig_bytes.specs.Bytes.{Puts};
 ghost use Rattle.mig_bytes.specs.Faults.{HasCause};
-ghost use Rattle.mig_guest.specs.Formed.{IsPlainHvm};
+ghost use Rattle.mig_guest.specs.Formed.{HasNoEmulators};
 ghost use Rattle.mig_pvtables.specs.Whole.{IsWhole};
 ghost use Rattle.std.specs.List.{flat_map};
-ghost use Rattle.mig_canon.specs.Canon.{headers, records_of, static_bodies, last_bodies, text_of, canon};
+ghost use Rattle.mig_canon.specs.Canon.{headers, records_of, static_bodies, last_records, text_of, canon};
 
 use crate::frames::write_frames;
 use crate::parts::write_parts;
+use crate::pv::{write_info, write_p2m_frames, write_vcpus};
 use mig_bytes::{Sink, WriteFailed, put_all};
 use mig_guest::{Guest, PartCode};
 use mig_headers::{DomainHeader, ImageHeader, Kind};
@@ -21,12 +22,12 @@ const STATIC_DATA_END: u32 = 0x10;
 
 /// Appends the headers.
 #[tactic(auto, using(mig_bytes::proofs::Texts::puts_then))]
-fn write_headers<K: Sink>(sink: &mut K) -> Result<(), WriteFailed>
-    ensures bytes { Puts headers (K.written sink.old) (K.written sink.new) result }
+fn write_headers<K: Sink>(sink: &mut K, guest: &Guest) -> Result<(), WriteFailed>
+    ensures bytes { Puts (headers guest.now.kind) (K.written sink.old) (K.written sink.new) result }
     ensures cause { HasCause (K.faults sink.old) (K.faults sink.new) result }
 {
     let domain = DomainHeader {
-        kind: Kind::Hvm,
+        kind: guest.kind(),
         major: 0,
         minor: 1,
     };
@@ -57,32 +58,40 @@ fn write_static<K: Sink>(sink: &mut K, guest: &Guest) -> Result<(), WriteFailed>
     write_record(sink, STATIC_DATA_END, &[])
 }
 
-/// Appends the records behind the frames.
-#[tactic(auto, using(mig_bytes::proofs::Texts::puts_then, mig_bytes::proofs::Texts::puts_stop, mig_bytes::proofs::Texts::puts_same, crate::proofs::Spelling::codes_text))]
+/// Appends the records behind the frames, up to END.
+#[tactic(auto, using(mig_bytes::proofs::Texts::puts_then, mig_bytes::proofs::Texts::puts_stop, mig_bytes::proofs::Texts::puts_same, crate::proofs::Spelling::codes_alone, crate::proofs::Spelling::pv_last_text))]
 fn write_last<K: Sink>(sink: &mut K, guest: &Guest) -> Result<(), WriteFailed>
     requires { IsWhole guest.now }
-    ensures bytes { Puts (text_of (last_bodies guest.now)) (K.written sink.old) (K.written sink.new) result }
+    ensures bytes { Puts (text_of (last_records guest.now.kind guest.now)) (K.written sink.old) (K.written sink.new) result }
     ensures cause { HasCause (K.faults sink.old) (K.faults sink.new) result }
 {
-    write_codes(
-        sink,
-        guest,
-        &[PartCode::Tsc, PartCode::HvmParam, PartCode::HvmContext],
-    )?;
-    write_record(sink, END, &[])
+    match guest.kind() {
+        Kind::Pv => {
+            write_codes(sink, guest, &[PartCode::Tsc, PartCode::SharedInfo])?;
+            write_vcpus(sink, guest)
+        }
+        Kind::Hvm => write_codes(
+            sink,
+            guest,
+            &[PartCode::Tsc, PartCode::HvmParam, PartCode::HvmContext],
+        ),
+    }
 }
 
-/// Appends the canonical stream of the guest. After `WriteFailed` some first bytes of it are appended, but not all. So far
-/// of HVM guests without emulator parts.
+/// Appends the canonical stream of the guest, which has no emulator parts. After `WriteFailed` some first bytes of it are
+/// appended, but not all.
 #[tactic(auto, using(mig_bytes::proofs::Texts::puts_then, mig_bytes::proofs::Texts::puts_stop, mig_bytes::proofs::Texts::puts_same, crate::proofs::Spelling::canon_is))]
 pub fn write_canon<K: Sink>(sink: &mut K, guest: &Guest) -> Result<(), WriteFailed>
     requires whole { IsWhole guest.now }
-    requires plain { IsPlainHvm guest.now }
+    requires plain { HasNoEmulators guest.now.parts }
     ensures bytes { Puts (canon guest.now) (K.written sink.old) (K.written sink.new) result }
     ensures cause { HasCause (K.faults sink.old) (K.faults sink.new) result }
 {
-    write_headers(sink)?;
+    write_headers(sink, guest)?;
+    write_info(sink, guest)?;
     write_static(sink, guest)?;
+    write_p2m_frames(sink, guest)?;
     write_frames(sink, guest)?;
-    write_last(sink, guest)
+    write_last(sink, guest)?;
+    write_record(sink, END, &[])
 }

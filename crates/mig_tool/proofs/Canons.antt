@@ -7,6 +7,7 @@ use Rattle.mig_guest.specs.PartKeys.{context_key}
 use Rattle.mig_pvtables.specs.Whole.{IsWhole}
 use Rattle.mig_pvtables.proofs.HvmGuests.{hvm_complete}
 use Rattle.mig_canon.specs.Canon.{canon}
+use Rattle.mig_canon.proofs.Spelling.{hvm_canon}
 use Rattle.mig_restore.specs.Mean.{sent}
 use Rattle.mig_restore.specs.Spelled.Spells.{none}
 use Rattle.mig_restore.proofs.Converse.{one_front}
@@ -93,7 +94,7 @@ module _ (g : GuestOf) (whole : IsWhole g) (is : IsPlainHvm g) where
   is_sent : g ≡ sent Hvm records
   is_sent = sym (means_more before_end end_step end_fits few_records ∙ whole_again g formed is)
 
-  spelled_all : Spells opening (text_of (bodies_of g)) records
+  spelled_all : Spells opening (text_of (bodies_of Hvm g)) records
   spelled_all =
       subst (λ b. Spells opening (text_of b) records) (regroup (static_bodies g) frames (records_in_order last_codes g) ((0, []) ∷ []))
       (spells_more before_end end_step end_fits few_records (λ e. subst IsComplete is_sent (record { context = complete.0; few = complete.1 })))
@@ -106,14 +107,13 @@ module _ (g : GuestOf) (whole : IsWhole g) (is : IsPlainHvm g) where
       or_true false = refl
 
   canon_is_image : (rest : List ℕ) → IsImage (canon g ++ rest) opening records rest
-  unfolding canon
   canon_is_image rest = record {
     image_header = image_header_of 3;
     domain_header = domain_header_of Hvm 0 1;
     major = 0;
     minor = 1;
-    bytes = text_of (bodies_of g);
-    whole = append_assoc headers (text_of (bodies_of g)) rest ∙ append_assoc (image_header_of 3) (domain_header_of Hvm 0 1) (text_of (bodies_of g) ++ rest);
+    bytes = text_of (bodies_of Hvm g);
+    whole = ap (λ l. l ++ rest) (hvm_canon g is.hvm) ∙ append_assoc (headers Hvm) (text_of (bodies_of Hvm g)) rest ∙ append_assoc (image_header_of 3) (domain_header_of Hvm 0 1) (text_of (bodies_of Hvm g) ++ rest);
     is_image_header = (image_is_read_back 3 (inr refl)).spelled;
     is_domain_header = (domain_is_read_back Hvm 0 1 (omega arith) (omega arith)).spelled;
     spelled = spelled_all;

@@ -1,0 +1,119 @@
+ghost use Rattle.std.specs.Prelude.{◌≡◌, ◌+◌, ◌≤◌, ◌^◌, length};
+ghost use Rattle.mig_bytes.specs.Bytes.{Puts};
+ghost use Rattle.mig_bytes.specs.Faults.{HasCause};
+ghost use Rattle.mig_bodies.specs.Shapes.{shape_of, of_vcpu};
+ghost use Rattle.mig_pvtables.specs.Whole.{IsWhole};
+ghost use Rattle.mig_records.specs.Records.{spelled};
+ghost use Rattle.mig_canon.specs.Canon.{info_records, p2m_body, p2m_records, vcpu_record, vcpu_records, all_vcpus, text_of};
+
+use crate::parts::{write_numbers, write_piece};
+use mig_bodies::shape_of;
+use mig_bytes::{Sink, WriteFailed, put_all};
+use mig_guest::{Guest, PartCode, PartKey};
+use mig_headers::Kind;
+use mig_records::{write_head, write_padding, write_record};
+
+/// The type of X86_PV_INFO.
+const PV_INFO: u32 = 2;
+
+/// The key of the P2M frames.
+const P2M_KEY: PartKey = PartKey {
+    code: 3,
+    key1: 0,
+    key2: 0,
+};
+
+/// The ids of vCPUs are below this.
+const VCPU_LIMIT: u32 = 4096;
+
+/// Appends what kind of PV guest it is; nothing for HVM.
+#[tactic(auto, using(mig_bytes::proofs::Texts::puts_same, crate::proofs::Spelling::text_one))]
+pub(crate) fn write_info<K: Sink>(sink: &mut K, guest: &Guest) -> Result<(), WriteFailed>
+    ensures bytes { Puts (text_of (info_records guest.now.kind)) (K.written sink.old) (K.written sink.new) result }
+    ensures cause { HasCause (K.faults sink.old) (K.faults sink.new) result }
+{
+    match guest.kind() {
+        Kind::Pv => write_record(sink, PV_INFO, &[8, 4, 0, 0, 0, 0, 0, 0]),
+        Kind::Hvm => Ok(()),
+    }
+}
+
+/// Appends the record of the P2M frames of all frame numbers up to `top`.
+#[tactic(auto, using(mig_bytes::proofs::Texts::puts_then, mig_bytes::proofs::Texts::puts_stop, mig_bytes::proofs::Texts::puts_same, crate::proofs::PvRecords::p2m_text))]
+fn write_listed<K: Sink>(sink: &mut K, top: u32, frames: &[u8]) -> Result<(), WriteFailed>
+    requires { length frames.now ≤ 2 ^ 22 }
+    ensures bytes { Puts (spelled 3 (p2m_body top frames.now)) (K.written sink.old) (K.written sink.new) result }
+    ensures cause { HasCause (K.faults sink.old) (K.faults sink.new) result }
+{
+    let len = (8 + frames.len()) as u32;
+    write_head(sink, PartCode::P2mFrames.number(), len)?;
+    write_numbers(sink, 4, 0, 4, top)?;
+    put_all(sink, frames)?;
+    write_padding(sink, len)
+}
+
+/// Appends the record of a PV guest's P2M frames; nothing for HVM.
+#[tactic(auto, using(mig_bytes::proofs::Texts::puts_same, crate::proofs::Spelling::text_one, crate::proofs::PvRecords::top_small, crate::proofs::PvRecords::p2m_short))]
+pub(crate) fn write_p2m_frames<K: Sink>(sink: &mut K, guest: &Guest) -> Result<(), WriteFailed>
+    requires { IsWhole guest.now }
+    ensures bytes { Puts (text_of (p2m_records guest.now.kind guest.now)) (K.written sink.old) (K.written sink.new) result }
+    ensures cause { HasCause (K.faults sink.old) (K.faults sink.new) result }
+{
+    match guest.kind() {
+        Kind::Pv => match guest.part(P2M_KEY) {
+            Some(frames) => write_listed(sink, guest.top() as u32, frames),
+            None => Ok(()),
+        },
+        Kind::Hvm => Ok(()),
+    }
+}
+
+/// Appends the record of this part of a vCPU, where the guest has it.
+#[tactic(auto, using(mig_bytes::proofs::Texts::puts_same, crate::proofs::PvRecords::part_text, crate::proofs::PvRecords::short_part))]
+fn write_vcpu_part<K: Sink>(
+    sink: &mut K,
+    guest: &Guest,
+    id: u32,
+    code: PartCode,
+) -> Result<(), WriteFailed>
+    requires whole { IsWhole guest.now }
+    requires shape { shape_of code ≡ of_vcpu }
+    ensures bytes { Puts (text_of (vcpu_record guest.now id code)) (K.written sink.old) (K.written sink.new) result }
+    ensures cause { HasCause (K.faults sink.old) (K.faults sink.new) result }
+{
+    let key = PartKey {
+        code: code.number(),
+        key1: id,
+        key2: 0,
+    };
+    match guest.part(key) {
+        Some(value) => write_piece(sink, code, shape_of(code), key, value),
+        None => Ok(()),
+    }
+}
+
+/// Appends the records of the parts of a vCPU.
+#[tactic(auto, using(mig_bytes::proofs::Texts::puts_then, mig_bytes::proofs::Texts::puts_stop, mig_bytes::proofs::Texts::puts_same, crate::proofs::PvRecords::vcpu_text))]
+fn write_vcpu<K: Sink>(sink: &mut K, guest: &Guest, id: u32) -> Result<(), WriteFailed>
+    requires { IsWhole guest.now }
+    ensures bytes { Puts (text_of (vcpu_records guest.now id)) (K.written sink.old) (K.written sink.new) result }
+    ensures cause { HasCause (K.faults sink.old) (K.faults sink.new) result }
+{
+    write_vcpu_part(sink, guest, id, PartCode::VcpuBasic)?;
+    write_vcpu_part(sink, guest, id, PartCode::VcpuExtended)?;
+    write_vcpu_part(sink, guest, id, PartCode::VcpuXsave)?;
+    write_vcpu_part(sink, guest, id, PartCode::VcpuMsrs)
+}
+
+/// Appends the records of all vCPUs, by ascending id.
+#[tactic(auto, using(mig_bytes::proofs::Texts::puts_same, crate::proofs::PvRecords::vcpu_next, crate::proofs::PvRecords::vcpu_stop, crate::proofs::PvRecords::vcpus_end))]
+pub(crate) fn write_vcpus<K: Sink>(sink: &mut K, guest: &Guest) -> Result<(), WriteFailed>
+    requires { IsWhole guest.now }
+    ensures bytes { Puts (text_of (all_vcpus guest.now)) (K.written sink.old) (K.written sink.new) result }
+    ensures cause { HasCause (K.faults sink.old) (K.faults sink.new) result }
+{
+    for id in 0..VCPU_LIMIT {
+        write_vcpu(sink, guest, id)?;
+    }
+    Ok(())
+}
