@@ -26,7 +26,7 @@ const P2M_KEY: PartKey = PartKey {
 /// The ids of vCPUs are below this.
 const VCPU_LIMIT: u32 = 4096;
 
-/// Appends what kind of PV guest it is; nothing for HVM.
+/// Appends the X86_PV_INFO of a PV guest; nothing for HVM.
 #[tactic(auto, using(mig_bytes::proofs::Texts::puts_same, crate::proofs::Spelling::text_one))]
 pub(crate) fn write_info<K: Sink>(sink: &mut K, guest: &Guest) -> Result<(), WriteFailed>
     ensures bytes { Puts (text_of (info_records guest.now.kind)) (K.written sink.old) (K.written sink.new) result }
@@ -40,7 +40,7 @@ pub(crate) fn write_info<K: Sink>(sink: &mut K, guest: &Guest) -> Result<(), Wri
 
 /// Appends the record of the P2M frames of all frame numbers up to `top`.
 #[tactic(auto, using(mig_bytes::proofs::Texts::puts_then, mig_bytes::proofs::Texts::puts_stop, mig_bytes::proofs::Texts::puts_same, crate::proofs::PvRecords::p2m_text))]
-fn write_listed<K: Sink>(sink: &mut K, top: u32, frames: &[u8]) -> Result<(), WriteFailed>
+fn write_p2m_list<K: Sink>(sink: &mut K, top: u32, frames: &[u8]) -> Result<(), WriteFailed>
     requires { length frames.now ≤ 2 ^ 22 }
     ensures bytes { Puts (spelled 3 (p2m_body top frames.now)) (K.written sink.old) (K.written sink.new) result }
     ensures cause { HasCause (K.faults sink.old) (K.faults sink.new) result }
@@ -61,7 +61,7 @@ pub(crate) fn write_p2m_frames<K: Sink>(sink: &mut K, guest: &Guest) -> Result<(
 {
     match guest.kind() {
         Kind::Pv => match guest.part(P2M_KEY) {
-            Some(frames) => write_listed(sink, guest.top() as u32, frames),
+            Some(frames) => write_p2m_list(sink, guest.top() as u32, frames),
             None => Ok(()),
         },
         Kind::Hvm => Ok(()),

@@ -1,6 +1,6 @@
 use Rattle.mig_canon.proofs.Common.{refl, puts_then, puts_stop, puts_same}
 use Rattle.mig_canon.proofs.PvRecords.{p2m_text}
-use Rattle.mig_canon.proofs.pv.write_listed.Goals as goal
+use Rattle.mig_canon.proofs.pv.write_p2m_list.Goals as goal
 
 pub returns-in_err-write_head-clause-bytes : goal.returns-in_err-write_head-clause-bytes
 returns-in_err-write_head-clause-bytes g c =
