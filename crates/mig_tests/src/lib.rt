@@ -12,3 +12,5 @@ mod guest;
 mod image;
 #[cfg(test)]
 mod tables;
+#[cfg(test)]
+mod whole;
