@@ -55,7 +55,7 @@ fn entry_fault(code: PartCode, layout: Layout, bytes: &[u8]) -> Option<Cause>
 }
 
 /// The first fault of the keys of `count` entries.
-#[tactic(auto, using(crate::proofs::Reading::longer, crate::proofs::Reading::shorter, crate::proofs::Reading::fault_next))]
+#[tactic(auto, using(crate::proofs::Reading::longer))]
 fn entries_fault(code: PartCode, layout: Layout, bytes: &[u8], count: usize) -> Option<Cause>
     requires widths { AreWidths layout }
     requires whole { length bytes.now ≡ entry_width layout * count }

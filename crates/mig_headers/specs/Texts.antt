@@ -5,11 +5,10 @@ use Rattle.mig_headers.specs.declared.fault.Place.TheVariants.{ImageHeader, Doma
 use Rattle.mig_headers.specs.declared.fault.ContextFault.{ContextFault}
 use Rattle.mig_headers.specs.declared.fault.ContextFault.TheVariants.{NoHeader, HeaderSize, ShortEntry, NoEnd}
 use Rattle.mig_headers.specs.declared.fault.Cause.{Cause}
-use Rattle.mig_headers.specs.declared.fault.Cause.TheVariants.{NotBuilt, Truncated, NotStream, BadId, BadVersion, BigEndian, BadKind, BadPageShift, BodyTooLong, Unsupported, UnknownMandatory, WrongKind, OutOfOrder, BadLength, NoPages, BadPageType, PfnOutside, Superpage, EntryOutside, Pv32, BadPvInfo, P2mStart, P2mRange, VcpuId, GdtEnts, BadContext, ParamIndex, Missing, P2mFrame, TargetAbsent, VcpuFrame, TooManyRecords, TooManyFrames}
+use Rattle.mig_headers.specs.declared.fault.Cause.TheVariants.{Truncated, NotStream, BadId, BadVersion, BigEndian, BadKind, BadPageShift, BodyTooLong, Unsupported, UnknownMandatory, WrongKind, OutOfOrder, BadLength, NoPages, BadPageType, PfnOutside, Superpage, EntryOutside, Pv32, BadPvInfo, P2mStart, P2mRange, VcpuId, GdtEnts, BadContext, ParamIndex, Missing, P2mFrame, TargetAbsent, VcpuFrame, TooManyRecords, TooManyFrames}
 
 -- the number of a cause
 abbrev pub number_of_cause : Cause → ℕ
-number_of_cause (NotBuilt _) = 0
 number_of_cause Truncated = 1
 number_of_cause NotStream = 2
 number_of_cause BadId = 3
@@ -45,7 +44,6 @@ number_of_cause TooManyFrames = 32
 
 -- the name of a cause
 abbrev pub name_of : Cause → List ℕ
-name_of (NotBuilt _) = codes "NotBuilt"
 name_of Truncated = codes "Truncated"
 name_of NotStream = codes "NotStream"
 name_of BadId = codes "BadId"
@@ -88,7 +86,6 @@ words_of_context NoEnd = codes "NoEnd" ∷ []
 
 -- the arguments of a cause
 abbrev pub arguments_of : Cause → List (List ℕ)
-arguments_of (NotBuilt type) = decimal type ∷ []
 arguments_of (BadVersion version) = decimal version ∷ []
 arguments_of (BadKind kind) = decimal kind ∷ []
 arguments_of (BadPageShift shift) = decimal shift ∷ []

@@ -20,11 +20,9 @@ pub enum ContextFault {
     NoEnd,
 }
 
-/// Why a part of a stream is refused. The variants stand in the order of their numbers, from 0.
+/// Why a part of a stream is refused. The variants stand in the order of their numbers, from 1.
 #[derive(Clone, Copy, Debug, PartialEq, Eq)]
 pub enum Cause {
-    /// The reader isn't built so far: a record of this type, or 0 for a header.
-    NotBuilt(u64),
     Truncated,
     NotStream,
     BadId,

@@ -41,7 +41,6 @@ impl Cause {
         ensures { result ≡ number_of_cause self }
     {
         match self {
-            Cause::NotBuilt(_) => 0,
             Cause::Truncated => 1,
             Cause::NotStream => 2,
             Cause::BadId => 3,
@@ -82,7 +81,6 @@ impl Cause {
         ensures { result.now ≡ name_of self }
     {
         match self {
-            Cause::NotBuilt(_) => "NotBuilt",
             Cause::Truncated => "Truncated",
             Cause::NotStream => "NotStream",
             Cause::BadId => "BadId",
@@ -122,7 +120,6 @@ impl Cause {
         ensures { argument_texts result ≡ arguments_of self }
     {
         match self {
-            Cause::NotBuilt(kind) => Arguments::One(kind),
             Cause::BadVersion(version) => Arguments::One(version),
             Cause::BadKind(kind) => Arguments::One(kind),
             Cause::BadPageShift(shift) => Arguments::One(shift),

@@ -70,12 +70,6 @@ module _ (f : ℕ → ℕ) where
     | inr le ↦ let none = outside n q le in absurd (none_is_not_some _ none some)
   ]
 
-pub gathered_same : (f g : ℕ → ℕ) (n : ℕ) → ((q : ℕ) → g q ≡ f q) → gathered g n ≡ gathered f n
-gathered_same f g n same = same_map nat_cmp_total nat_cmp-IsAntisymmetric _ _ (λ q. elim (below_or_from q n) [
-  | inl lt ↦ inside g n q lt ∙ ap some_value (same q) ∙ sym (inside f n q lt)
-  | inr le ↦ outside g n q le ∙ sym (outside f n q le)
-])
-
 pub gathered_none : (f : ℕ → ℕ) (n : ℕ) → ((q : ℕ) → f q ≡ 0) → gathered f n ≡ maps.empty
 gathered_none f n none = same_map nat_cmp_total nat_cmp-IsAntisymmetric _ _ (λ q. none_at f n q (λ _. none q) ∙ sym (get-empty nat_cmp q))
 

@@ -105,9 +105,6 @@ whole place = omega arith
 pub small_rest : (place : ℕ) → place % 64 < 64
 small_rest place = omega arith
 
-pub in_slab : (ss : List Pages) (n place : ℕ) → IsPacked ss n → place < n → place / 64 < length ss
-in_slab ss n place p lt = omega (arith, (count_of ss n p).1, lt)
-
 pub pop_place : (ss : List Pages) (n j r : ℕ) (s : Pages) → IsPacked ss n → r < 64 → j * 64 + r + 1 ≡ n → s ≡ get_or ss j s
     → (0 < length s.pages) × ((us : List (List ℕ)) (w : List ℕ) → s.pages ≡ us ++ w ∷ [] → IsPacked (set ss j (with_pages us)) (n - 1) × (all_pages ss ≡ all_pages (set ss j (with_pages us)) ++ w ∷ []))
 unfolding IsPacked all_pages

@@ -6,7 +6,7 @@ use Rattle.std.specs.FinMap as maps
 use Rattle.std.proofs.lemmas.Option.{cond_some}
 use Rattle.mig_pagetypes.specs.declared.page_type.PageType.TheVariants.{Notab}
 use Rattle.mig_pvtables.specs.Faults.{slots, field_numbers}
-use Rattle.mig_pvtables.specs.WholePv.{IsEmptyRange, AreP2mFrames, FieldsFit, IsWholePv}
+use Rattle.mig_pvtables.specs.WholePv.{IsEmptyRange, AreP2mFrames, FieldsFit, IsCompletePv, IsWholePv}
 use Rattle.mig_pvtables.proofs.Searches.{none_of, any_in_range, find_in_range, first_found, all_none, none_mapped, is_there, are_few}
 
 -- ---- entries
@@ -124,11 +124,10 @@ module _ (g : GuestOf) (pv : g.kind ≡ Pv) where
   by_kind : fault_of_guest g ≡ first_of (faults_for Pv g)
   by_kind = ap (λ k. first_of (faults_for k g)) pv
 
-  in_words : IsWhole g → IsWholePv g
-  in_words whole =
-      let (a, (b, (c, (d, (e, (f, (h, _))))))) = (all_none (faults_for Pv g)).0 (sym by_kind ∙ whole.faultless) in
+  pub pv_complete : fault_of_guest g ≡ None → IsCompletePv g
+  pv_complete none =
+      let (a, (b, (c, (d, (e, (f, (h, _))))))) = (all_none (faults_for Pv g)).0 (sym by_kind ∙ none) in
       record {
-        formed = whole.formed;
         p2m_there = (is_there (maps.get g.parts p2m_key) (Missing 3)).0 a;
         shared_there = (is_there (maps.get g.parts shared_key) (Missing 7)).0 b;
         vcpu_there = (is_there (maps.get g.parts (vcpu_key 0)) (Missing 4)).0 c;
@@ -138,8 +137,8 @@ module _ (g : GuestOf) (pv : g.kind ≡ Pv) where
         few = (are_few (length (maps.entries g.frames))).0 h;
       }
 
-  from_words : IsWholePv g → IsWhole g
-  from_words w =
+  pub pv_faultless : IsCompletePv g → fault_of_guest g ≡ None
+  pv_faultless w =
       let targets = (no_entry (is_absent g.frames) g.frames).1 (λ pfn x is l p lev has slot lt. (not_absent g.frames (entry l p slot)).1 (w.targets pfn x is l p lev has slot lt)) in
       let a = (is_there (maps.get g.parts p2m_key) (Missing 3)).1 w.p2m_there in
       let b = (is_there (maps.get g.parts shared_key) (Missing 7)).1 w.shared_there in
@@ -148,7 +147,10 @@ module _ (g : GuestOf) (pv : g.kind ≡ Pv) where
       let e = (none_mapped _ (find_entry (is_absent g.frames) g.frames)).1 targets in
       let f = (none_mapped _ (find_field g.frames g.parts)).1 ((no_field g.frames g.parts).1 w.fields) in
       let h = (are_few (length (maps.entries g.frames))).1 w.few in
-      record { formed = w.formed; faultless = by_kind ∙ (all_none (faults_for Pv g)).1 (a, (b, (c, (d, (e, (f, (h, tt))))))) }
+      by_kind ∙ (all_none (faults_for Pv g)).1 (a, (b, (c, (d, (e, (f, (h, tt)))))))
 
   pub pv_whole : IsWhole g ↔ IsWholePv g
-  pv_whole = (in_words, from_words)
+  pv_whole = (
+    λ whole. record { formed = whole.formed; complete = pv_complete whole.faultless },
+    λ w. record { formed = w.formed; faultless = pv_faultless w.complete },
+  )

@@ -189,11 +189,13 @@ few = omega (arith, maps.len-entries frames, insert_len nat_cmp_total (maps.inse
 pub sample_is_whole : IsWhole pv_sample
 sample_is_whole = (pv_whole pv_sample refl).1 (record {
   formed = formed;
-  p2m_there = subst IsSome (sym got_p2m) refl;
-  shared_there = subst IsSome (sym got_shared) refl;
-  vcpu_there = subst IsSome (sym got_context) refl;
-  p2m = p2m_frames;
-  targets = insert_holds nat_cmp_total nat_cmp-IsAntisymmetric Targets (maps.insert maps.empty 0 notab) 1 root (insert_holds nat_cmp_total nat_cmp-IsAntisymmetric Targets maps.empty 0 notab (λ q f got. let no : None ≡ Some f = sym (maps.get-empty nat_cmp q) ∙ got in cc) (targets Notab)) (targets L4Tab);
-  fields = fields_fit;
-  few = few;
+  complete = record {
+    p2m_there = subst IsSome (sym got_p2m) refl;
+    shared_there = subst IsSome (sym got_shared) refl;
+    vcpu_there = subst IsSome (sym got_context) refl;
+    p2m = p2m_frames;
+    targets = insert_holds nat_cmp_total nat_cmp-IsAntisymmetric Targets (maps.insert maps.empty 0 notab) 1 root (insert_holds nat_cmp_total nat_cmp-IsAntisymmetric Targets maps.empty 0 notab (λ q f got. let no : None ≡ Some f = sym (maps.get-empty nat_cmp q) ∙ got in cc) (targets Notab)) (targets L4Tab);
+    fields = fields_fit;
+    few = few;
+  };
 })

@@ -125,7 +125,3 @@ pub context_there : (parts : PartMap) (after : Option PartKey) (e : Part) → pa
 context_there parts after e next =
     let found = first_passes part_total part_exact parts (is_next 4 after) e (parts_after 4 (Some e.0) (maps.entries parts)) (sym (by_test 4 after (maps.entries parts)) ∙ next) in
     ((next_parts 4 after e.0 found.0).0, found.1)
-
-pub contexts_fewer : (parts : PartMap) (after : Option PartKey) (e : Part) → parts_after 4 after (maps.entries parts) ≡ e ∷ parts_after 4 (Some e.0) (maps.entries parts)
-    → length (parts_after 4 (Some e.0) (maps.entries parts)) < length (parts_after 4 after (maps.entries parts))
-contexts_fewer parts after e next = omega (arith, ap length next)

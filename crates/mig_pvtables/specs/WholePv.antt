@@ -30,8 +30,8 @@ FieldsFit frames parts =
     → (field : ℕ) → field ≤ 18 → is_used key.key1 (gdt_ents context) field (field_value context field) ≡ true
     → fits_field field (type_at frames (frame_of_field field (field_value context field))) ≡ true
 
-pub record IsWholePv (g : GuestOf) : Type 0 where
-  pub formed : IsFormed g
+-- a PV guest has what one needs at the end of its stream: its parts, P2M frames, targets of table entries, fields of vCPUs
+pub record IsCompletePv (g : GuestOf) : Type 0 where
   pub p2m_there : IsSome (maps.get g.parts p2m_key)
   pub shared_there : IsSome (maps.get g.parts shared_key)
   pub vcpu_there : IsSome (maps.get g.parts (vcpu_key 0))
@@ -39,3 +39,7 @@ pub record IsWholePv (g : GuestOf) : Type 0 where
   pub targets : (pfn : ℕ) (frame : FrameOf) → maps.get g.frames pfn ≡ Some frame → EachEntry (λ e. (n : ℕ) → e ≡ Frame n → IsSome (maps.get g.frames n)) frame
   pub fields : FieldsFit g.frames g.parts
   pub few : IsFew g.frames
+
+pub record IsWholePv (g : GuestOf) : Type 0 where
+  pub formed : IsFormed g
+  pub complete : IsCompletePv g
