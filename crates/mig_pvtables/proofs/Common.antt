@@ -11,7 +11,7 @@ pub use Rattle.std.specs.Prelude.{find, nat_le, option_and_then, replicate, ⊤,
 pub use Rattle.std.specs.declared.cmp.Ordering.{Ordering}
 pub use Rattle.mig_guest.proofs.Found.{all_found, first_passes, insert_holds, none_passes}
 pub use Rattle.mig_guest.proofs.KeyedMaps.{entries_shown, find_seen, insert_len, kept_shown, shown, tied}
-pub use Rattle.mig_guest.proofs.Longs.{each_again, each_stays, length_longs, long_of_longs, longs_back, middle_zeroed, put_long}
+pub use Rattle.mig_guest.proofs.Longs.{each_stays, length_longs, long_of_longs, longs_back, middle_zeroed, put_long}
 pub use Rattle.mig_guest.proofs.PartOrder.{part_exact, part_total}
 pub use Rattle.mig_guest.specs.Formed.{IsFormed, IsGuestFrame, IsPart, gdt_ents, width_of}
 pub use Rattle.mig_guest.specs.Frames.{FrameMap, FrameOf, IsFew, is_type_of}

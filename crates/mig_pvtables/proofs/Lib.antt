@@ -13,6 +13,7 @@ pub mod BlankParts
 pub mod BlankLists
 pub mod BlankCodes
 pub mod BlankGuests
+pub mod Moduli
 pub mod BlankAgain
 pub mod Walks
 pub mod P2mWalks

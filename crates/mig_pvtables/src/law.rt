@@ -9,7 +9,7 @@ ghost use Rattle.mig_guest.specs.Frames.{IsFew};
 ghost use Rattle.mig_guest.specs.Guests.{GuestOf};
 ghost use Rattle.mig_guest.specs.PartKeys.{context_key};
 ghost use Rattle.mig_guest.specs.Tables.{entry, IsWithin};
-ghost use Rattle.mig_pvtables.specs.Blank.{blank, IsOfBytes};
+ghost use Rattle.mig_pvtables.specs.Blank.{blank};
 ghost use Rattle.mig_pvtables.specs.Faults.{fault_of_guest};
 ghost use Rattle.mig_pvtables.specs.Tables.{fault_of_page_table};
 ghost use Rattle.mig_pvtables.specs.Whole.{IsWhole};
@@ -54,5 +54,5 @@ pub fn hvm_guest_is_blank()
 /// The blank form of a guest is its own blank form.
 #[tactic(auto, using(crate::proofs::BlankAgain::blank_again))]
 pub fn blank_form_is_blank()
-    ensures { (g : GuestOf) → IsOfBytes g → blank (blank g) ≡ blank g }
+    ensures { (g : GuestOf) → blank (blank g) ≡ blank g }
 {}
