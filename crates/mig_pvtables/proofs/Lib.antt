@@ -15,5 +15,8 @@ pub mod BlankCodes
 pub mod BlankGuests
 pub mod Moduli
 pub mod BlankAgain
+pub mod BlankSays
+pub mod BlankShape
+pub mod BlankWhole
 pub mod Walks
 pub mod P2mWalks

@@ -1,5 +1,5 @@
 -- The first slot of a table, or field of a context, that passes a test.
-use Rattle.mig_pvtables.proofs.Common.{◌≡◌, ℕ, zero, suc, ◌+◌, ◌<◌, ◌≤◌, Bool, true, false, cond, Some, None, ap, subst, ◌∙◌, inl, inr, arith, ◌↔◌, find, range_with_len, cases_eq}
+use Rattle.mig_pvtables.proofs.Common.{◌≡◌, ℕ, zero, suc, ◌+◌, ◌<◌, ◌≤◌, Bool, true, false, cond, Some, None, refl, sym, ap, subst, ◌∙◌, inl, inr, arith, ◌↔◌, find, range_with_len, cases_eq}
 use Rattle.mig_pvtables.specs.Faults.{slots, field_numbers}
 use Rattle.mig_pvtables.proofs.Searches.{find_in_range}
 
@@ -11,6 +11,14 @@ module _ (p : ℕ → Bool) where
     | inr ne ↦ ap (λ b. cond b (Some a) (find p (range_with_len (a + 1) n))) (before a (omega arith) (omega (arith, le, ne)))
         ∙ first_in_range (a + 1) n k (omega (arith, le, ne)) (omega (arith, lt)) here (λ j more under. before j (omega (arith, more)) under)
   ]
+
+  -- what is found stands in the range, and passes
+  pub found_in_range : (a n k : ℕ) → find p (range_with_len a n) ≡ Some k → (k < a + n) × (p k ≡ true)
+  found_in_range a zero k is = cc
+  found_in_range a (suc n) k is = elim (p a) as (λ b. p a ≡ b → cond b (Some a) (find p (range_with_len (a + 1) n)) ≡ Some k → (k < a + suc n) × (p k ≡ true)) [
+    | true ↦ λ t at. let same : a ≡ k = cc in (omega (arith, same), ap p (sym same) ∙ t)
+    | false ↦ λ t at. let (lt, passes) = found_in_range (a + 1) n k at in (omega (arith, lt), passes)
+  ] refl is
 
   pub first_slot : (k : ℕ) → k < 512 → p k ≡ true → ((j : ℕ) → j < k → p j ≡ false) → find p slots ≡ Some k
   unfolding slots

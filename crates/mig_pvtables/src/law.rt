@@ -56,3 +56,8 @@ pub fn hvm_guest_is_blank()
 pub fn blank_form_is_blank()
     ensures { (g : GuestOf) → blank (blank g) ≡ blank g }
 {}
+
+/// The blank form of a whole guest is whole.
+pub fn blank_form_is_whole()
+    ensures { (g : GuestOf) → IsWhole g → IsWhole (blank g) }
+{}

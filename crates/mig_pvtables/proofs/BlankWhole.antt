@@ -1,0 +1,200 @@
+-- The blank form of a whole guest is whole.
+use Rattle.mig_pvtables.proofs.Common.{◌≡◌, ℕ, ◌+◌, ◌*◌, ◌%◌, ◌^◌, ◌<◌, ◌≤◌, Bool, true, false, cond, List, length, Option, Some, None, is_some, IsSome, refl, sym, ap, subst, ◌∙◌, arith, ◌==◌, nat_le, length-replicate, option_map, nat_cmp_total, nat_cmp-IsAntisymmetric, eqb-true, Pv, Hvm, level_of, PartKey, Frame, IsFormed, IsGuestFrame, IsPart, width_of, gdt_ents, FrameOf, GuestOf, p2m_key, vcpu_key, shared_key, EachEntry, IsWithin, blanked_table, length_longs, part_total, part_exact, blanked_page, blanked_frame, blanked_part, blank_of, blank, place_of, type_at, fits_field, field_value, frame_of_field, is_used, blanked_context, blanked_shared, IsWhole}
+use Rattle.std.specs.FinMap as maps
+use Rattle.mig_headers.specs.declared.kind.Kind.{Kind}
+use Rattle.mig_guest.specs.declared.part_code.PartCode.{PartCode}
+use Rattle.mig_guest.specs.declared.part_code.PartCode.TheVariants.{VcpuBasic, SharedInfo}
+use Rattle.mig_guest.specs.Formed.{IsContent, HasNoEmulators}
+use Rattle.mig_guest.specs.Frames.{IsFrame}
+use Rattle.mig_guest.specs.PartCodes.{row_of, code_number}
+use Rattle.mig_guest.proofs.PartRows.{one_code, of_part}
+use Rattle.mig_pvtables.specs.Blank.{zero_page}
+use Rattle.mig_pvtables.specs.WholePv.{IsEmptyRange, AreP2mFrames, FieldsFit, IsCompletePv}
+use Rattle.mig_pvtables.proofs.BlankSays.{same_used, same_said, said_fits, blanked_ents, blanked_field}
+use Rattle.mig_pvtables.proofs.BlankShape.{table_unlisted, entries_there, type_there, frame_there, part_there, listed_there, context_back}
+use Rattle.mig_pvtables.proofs.EachValue.{from_each, len_each, count_each}
+use Rattle.mig_pvtables.proofs.PvGuests.{pv_complete, pv_faultless}
+use Rattle.mig_pvtables.proofs.Searches.{none_of}
+
+-- ---- frames
+
+page_there : (place level : Option ℕ) (page : Option (List ℕ)) → is_some (blanked_page place level page) ≡ is_some page
+page_there (Some k) level None = refl
+page_there (Some k) level (Some p) = refl
+page_there None None page = refl
+page_there None (Some l) None = refl
+page_there None (Some l) (Some p) = refl
+
+zero_size : length zero_page ≡ 4096
+unfolding zero_page
+zero_size = length-replicate {A = ℕ} 4096 0
+
+page_size : (place level : Option ℕ) (page : Option (List ℕ)) → ((p : List ℕ) → page ≡ Some p → length p ≡ 4096) → (q : List ℕ) → blanked_page place level page ≡ Some q → length q ≡ 4096
+page_size (Some k) level None size q is = cc
+page_size (Some k) level (Some p) size q is = let same : zero_page ≡ q = cc in ap length (sym same) ∙ zero_size
+page_size None None page size q is = size q is
+page_size None (Some l) None size q is = cc
+page_size None (Some l) (Some p) size q is = let same : blanked_table l p ≡ q = cc in ap length (sym same) ∙ length_longs 512 _
+
+module _ (g : GuestOf) where
+  blanked_is_frame : (pfn : ℕ) (x : FrameOf) → IsFrame x → IsFrame (blanked_frame g.parts pfn x)
+  blanked_is_frame pfn x is = record {
+    there = is.there;
+    in_step = page_there (place_of g.parts pfn) (level_of x.type) x.page ∙ is.in_step;
+    whole = page_size (place_of g.parts pfn) (level_of x.type) x.page is.whole;
+  }
+
+  blanked_is_guest_frame : AreP2mFrames g.frames g.parts → (pfn : ℕ) (x : FrameOf) → maps.get g.frames pfn ≡ Some x → IsGuestFrame g.kind g.top pfn x → IsGuestFrame g.kind g.top pfn (blanked_frame g.parts pfn x)
+  blanked_is_guest_frame p2m pfn x found is = record {
+    small = is.small;
+    inside = is.inside;
+    is = blanked_is_frame pfn x is.is;
+    type = is.type;
+    entries = entries_there (place_of g.parts pfn) x (table_unlisted g.frames g.parts p2m pfn x found) (IsWithin g.top) is.entries;
+  }
+
+-- ---- parts
+
+module _ (kind : Kind) (width : ℕ) (key : PartKey) (part : List ℕ) (is : IsPart kind width key part) where
+  -- a part of the same length, whose bytes are what they have to be
+  resized : (code : PartCode) (changed : List ℕ) → key.code ≡ code_number code → length changed ≡ length part → IsContent code changed → IsPart kind width key changed
+  resized code changed number size content = record {
+    code = is.code;
+    number = is.number;
+    of_kind = is.of_kind;
+    keys = is.keys;
+    small1 = is.small1;
+    small2 = is.small2;
+    len = ap ((row_of is.code).allows width) size ∙ is.len;
+    content = subst (λ c. IsContent c changed) (one_code code is.code (sym number ∙ is.number)) content;
+  }
+
+  few_ents : (n : ℕ) → gdt_ents part ≤ 7168 → n ≡ gdt_ents part % 2 ^ 64 → n ≤ 7168
+  few_ents n few e = omega (arith, few, e)
+
+  blanked_case : (a b : Bool) → (key.code == 4) ≡ a → (key.code == 7) ≡ b → IsPart kind width key (cond a (blanked_context part) (cond b (blanked_shared part) part))
+  blanked_case true b four seven =
+      let code = eqb-true key.code 4 four in let one = of_part VcpuBasic kind width (key, part) is code in
+      resized VcpuBasic (blanked_context part) code (length_longs 646 _ ∙ sym (eqb-true (length part) 5168 one.len)) (few_ents (gdt_ents (blanked_context part)) one.content (blanked_ents part))
+  blanked_case false true four seven =
+      let code = eqb-true key.code 7 seven in let one = of_part SharedInfo kind width (key, part) is code in
+      resized SharedInfo (blanked_shared part) code (length_longs 512 _ ∙ sym (eqb-true (length part) 4096 one.len)) tt
+  blanked_case false false four seven = is
+
+  blanked_is_part : IsPart kind width key (blanked_part key part)
+  blanked_is_part = blanked_case (key.code == 4) (key.code == 7) refl refl
+
+-- ---- the blank form of a PV guest is formed
+
+module _ (g : GuestOf) where
+  blank_formed : IsFormed g → AreP2mFrames g.frames g.parts → IsFormed (blank_of Pv g)
+  blank_formed formed p2m = record {
+    top = formed.top;
+    frames = λ pfn y is.
+        let (x, found, same) = from_each nat_cmp_total nat_cmp-IsAntisymmetric (blanked_frame g.parts) g.frames pfn y is in
+        subst (IsGuestFrame g.kind g.top pfn) same (blanked_is_guest_frame g p2m pfn x found (formed.frames pfn x found));
+    parts = λ key part is.
+        let (x, found, same) = from_each part_total part_exact blanked_part g.parts key part is in
+        subst (IsPart g.kind (width_of g) key) same (blanked_is_part g.kind (width_of g) key x (formed.parts key x found));
+    policies = λ code policy. subst (λ n. n ≤ 65536) (sym (count_each part_total part_exact blanked_part (λ (k : PartKey). k.code == code) g.parts)) (formed.policies code policy);
+  }
+
+  -- ---- and complete
+
+  still_empty : (k : ℕ) → IsEmptyRange g.frames k → IsEmptyRange (blank_of Pv g).frames k
+  still_empty k empty s lt = none_of _ (frame_there g (512 * k + s) ∙ ap is_some (empty s lt))
+
+  still_p2m : AreP2mFrames g.frames g.parts → AreP2mFrames (blank_of Pv g).frames (blank_of Pv g).parts
+  still_p2m p2m = record {
+    types = λ k pfn is. type_there g pfn ∙ p2m.types k pfn (sym (listed_there g k) ∙ is);
+    twice = λ j k pfn lt one two.
+        let both = p2m.twice j k pfn lt (sym (listed_there g j) ∙ one) (sym (listed_there g k) ∙ two) in
+        (still_empty j both.0, still_empty k both.1);
+  }
+
+-- ---- fields
+
+-- there is no frame that the field fits
+unfit : (field : ℕ) → fits_field field None ≡ false
+unfit field = elim (nat_le field 16) as (λ b. cond b false false ≡ false) [ true ↦ refl | false ↦ refl ]
+
+module _ (g : GuestOf) (formed : IsFormed g) where
+  -- a frame that a field fits has a number below the limit
+  fit_below : (field n : ℕ) → fits_field field (type_at g.frames n) ≡ true → n < 2 ^ 28
+  fit_below field n fits = elim (maps.get g.frames n) as (λ o. maps.get g.frames n ≡ o → n < 2 ^ 28) [
+    | None ↦ λ none. let no : false ≡ true = sym (unfit field) ∙ ap (λ o. fits_field field (option_map (λ (x : FrameOf). x.type) o)) (sym none) ∙ fits in cc
+    | Some x ↦ λ found. (formed.frames n x found).small
+  ] refl
+
+  module _ (key : PartKey) (context : List ℕ) (found : maps.get g.parts key ≡ Some context) (code : key.code ≡ 4) (field : ℕ) (most : field ≤ 18) where
+    same_ents : gdt_ents (blanked_context context) ≡ gdt_ents context
+    same_ents = let few : gdt_ents context ≤ 7168 = (of_part VcpuBasic g.kind (width_of g) (key, context) (formed.parts key context found) code).content in blanked_ents context ∙ omega (arith, few)
+
+    -- the vCPU uses the field where it did
+    pub still_used : is_used key.key1 (gdt_ents (blanked_context context)) field (field_value (blanked_context context) field) ≡ is_used key.key1 (gdt_ents context) field (field_value context field)
+    still_used =
+        let value = blanked_field context field most in
+        (λ i. is_used key.key1 (same_ents i) field (value i)) ∙ same_used key.key1 (gdt_ents context) field (field_value context field)
+
+    -- and it says the same frame
+    pub still_said : field_value context field < 2 ^ 64 → is_used key.key1 (gdt_ents context) field (field_value context field) ≡ true
+        → frame_of_field field (field_value (blanked_context context) field) ≡ frame_of_field field (field_value context field)
+    still_said small used = ap (frame_of_field field) (blanked_field context field most) ∙ same_said key.key1 (gdt_ents context) field (field_value context field) small used
+
+    still_fits : (is_used key.key1 (gdt_ents context) field (field_value context field) ≡ true → fits_field field (type_at g.frames (frame_of_field field (field_value context field))) ≡ true)
+        → is_used key.key1 (gdt_ents (blanked_context context)) field (field_value (blanked_context context) field) ≡ true
+        → fits_field field (type_at (blank_of Pv g).frames (frame_of_field field (field_value (blanked_context context) field))) ≡ true
+    still_fits fit used =
+        let before = sym still_used ∙ used in let fits = fit before in
+        let small = said_fits field (field_value context field) (fit_below field (frame_of_field field (field_value context field)) fits) in
+        ap (λ n. fits_field field (type_at (blank_of Pv g).frames n)) (still_said small before) ∙ ap (fits_field field) (type_there g (frame_of_field field (field_value context field))) ∙ fits
+
+  blank_fields : FieldsFit g.frames g.parts → FieldsFit (blank_of Pv g).frames (blank_of Pv g).parts
+  blank_fields fit key there is code field most =
+      let (context, found, same) = context_back g key there is code in
+      subst (λ c. is_used key.key1 (gdt_ents c) field (field_value c field) ≡ true → fits_field field (type_at (blank_of Pv g).frames (frame_of_field field (field_value c field))) ≡ true) same
+      (still_fits key context found code field most (fit key context found code field most))
+
+  -- ---- the blank form of a complete PV guest is complete
+
+  blank_complete : IsCompletePv g → IsCompletePv (blank_of Pv g)
+  blank_complete complete = record {
+    p2m_there = part_there g p2m_key ∙ complete.p2m_there;
+    shared_there = part_there g shared_key ∙ complete.shared_there;
+    vcpu_there = part_there g (vcpu_key 0) ∙ complete.vcpu_there;
+    p2m = still_p2m g complete.p2m;
+    targets = λ pfn y is.
+        let (x, found, same) = from_each nat_cmp_total nat_cmp-IsAntisymmetric (blanked_frame g.parts) g.frames pfn y is in
+        subst (EachEntry (λ e. (n : ℕ) → e ≡ Frame n → IsSome (maps.get (blank_of Pv g).frames n))) same
+        (entries_there (place_of g.parts pfn) x (table_unlisted g.frames g.parts complete.p2m pfn x found) (λ e. (n : ℕ) → e ≡ Frame n → IsSome (maps.get (blank_of Pv g).frames n))
+        (λ level page lev has slot lt n e. frame_there g n ∙ complete.targets pfn x found level page lev has slot lt n e));
+    fields = blank_fields complete.fields;
+    few = omega (arith, complete.few, len_each nat_cmp_total nat_cmp-IsAntisymmetric (blanked_frame g.parts) g.frames);
+  }
+
+-- ---- either kind
+
+module _ (g : GuestOf) where
+  pub blank_kind : (blank g).kind ≡ g.kind
+  blank_kind = by_kind g.kind
+    where
+      by_kind : (k : Kind) → (blank_of k g).kind ≡ g.kind
+      by_kind Hvm = refl
+      by_kind Pv = refl
+
+  -- no emulator part is made
+  pub blank_plain : HasNoEmulators g.parts → HasNoEmulators (blank g).parts
+  blank_plain plain = by_kind g.kind
+    where
+      by_kind : (k : Kind) → HasNoEmulators (blank_of k g).parts
+      by_kind Hvm = plain
+      by_kind Pv = λ key part is. let (x, found, same) = from_each part_total part_exact blanked_part g.parts key part is in plain key x found
+
+  whole_case : (k : Kind) → g.kind ≡ k → IsWhole g → IsWhole (blank_of k g)
+  whole_case Hvm kind whole = whole
+  whole_case Pv kind whole =
+      let complete = pv_complete g kind whole.faultless in
+      record { formed = blank_formed g whole.formed complete.p2m; faultless = pv_faultless (blank_of Pv g) kind (blank_complete g whole.formed complete) }
+
+  pub whole_blank : IsWhole g → IsWhole (blank g)
+  whole_blank whole = whole_case g.kind refl whole
