@@ -15,10 +15,12 @@ low_says level slot e =
     let named : named_frame (e % 2 ^ 64) ≡ named_frame e = omega arith in
     λ i. cond (is_blank_slot level slot) Blank (cond (not (present i == 1)) NotPresent (cond (nat_le 2 level && (large i == 1)) Superpage (Frame (named i))))
 
+-- a blank slot says nothing
 blank_says : (level slot e : ℕ) → is_blank_slot level slot ≡ true → entry_of level slot e ≡ Blank
 unfolding entry_of
 blank_says level slot e is = ap (λ b. cond b Blank (cond (not (e % 2 == 1)) NotPresent (cond (nat_le 2 level && (e / 2 ^ 7 % 2 == 1)) Superpage (Frame (named_frame e))))) is
 
+-- a slot says in the blank form what it said
 entry_says : (level slot e : ℕ) → entry_of level slot (blanked_entry level slot e) ≡ entry_of level slot e
 unfolding blanked_entry
 entry_says level slot e = by_case (is_blank_slot level slot) refl
@@ -27,12 +29,14 @@ entry_says level slot e = by_case (is_blank_slot level slot) refl
     by_case true is = blank_says level slot 0 is ∙ sym (blank_says level slot e is)
     by_case false is = refl
 
+-- and so in a page
 pub same_entry : (level slot : ℕ) (page : List ℕ) → slot < 512 → entry level (blanked_table level page) slot ≡ entry level page slot
 same_entry level slot page lt =
     ap (entry_of level slot) (long_of_each 512 (blanked_entry level) page slot lt) ∙ low_says level slot (blanked_entry level slot (long_at page slot)) ∙ entry_says level slot (long_at page slot)
 
 -- ---- fields
 
+-- it is a field, and its place is in a context
 abbrev There : ℕ → Type 0
 There field = (field_at (field_place field) ≡ Some field) × (field_place field < 646)
 
@@ -100,7 +104,8 @@ said_fits field v = by_case (nat_le field 16)
 -- ---- contexts
 
 module _ (context : List ℕ) where
-  pub blanked_at : (i : ℕ) → i < 646 → long_at (blanked_context context) i ≡ blanked_value i (long_at context i) % 2 ^ 64
+  -- the number at a place
+  blanked_at : (i : ℕ) → i < 646 → long_at (blanked_context context) i ≡ blanked_value i (long_at context i) % 2 ^ 64
   blanked_at i lt = long_of_each 646 blanked_value context i lt
 
   no_field : (v : ℕ) → blanked_value 620 v ≡ v
@@ -115,6 +120,7 @@ module _ (context : List ℕ) where
   unfolding blanked_value
   at_field i v field is = ap (λ o. value_blanked o v) is
 
+  -- a field's value
   pub blanked_field : (field : ℕ) → field ≤ 18 → field_value (blanked_context context) field ≡ value_blanked (Some field) (field_value context field) % 2 ^ 64
   blanked_field field most =
       let (at, lt) = field_there field most in

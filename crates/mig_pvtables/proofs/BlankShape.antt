@@ -28,12 +28,14 @@ table_unlisted frames parts p2m pfn x found level lev = elim (place_of parts pfn
 -- ---- a frame, where none that is a table is listed
 
 module _ (place : Option ℕ) (x : FrameOf) (apart : (level : ℕ) → level_of x.type ≡ Some level → place ≡ None) where
-  abbrev pub blanked : FrameOf
+  abbrev blanked : FrameOf
   blanked = record { type = x.type; page = blanked_page place (level_of x.type) x.page }
 
+  -- the page of a table
   table_page : (level : ℕ) (page : Option (List ℕ)) → level_of x.type ≡ Some level → x.page ≡ page → blanked.page ≡ option_map (blanked_table level) page
   table_page level page lev is = (λ i. blanked_page (apart level lev i) (lev i) (is i))
 
+  -- what its entries say
   pub entries_there : (P : Entry → Type 0) → EachEntry P x → EachEntry P blanked
   entries_there P each level q lev has slot lt = elim x.page as (λ o. x.page ≡ o → option_map (blanked_table level) o ≡ Some q → P (entry level q slot)) [
     | None ↦ λ is at. cc
@@ -46,6 +48,7 @@ module _ (place : Option ℕ) (x : FrameOf) (apart : (level : ℕ) → level_of 
 -- ---- a guest
 
 module _ (g : GuestOf) where
+  -- frames keep their types, keys their parts, and the list is as it was
   pub type_there : (n : ℕ) → type_at (blank_of Pv g).frames n ≡ type_at g.frames n
   type_there n =
       ap (option_map (λ (x : FrameOf). x.type)) (get_each nat_cmp_total nat_cmp-IsAntisymmetric (blanked_frame g.parts) g.frames n)
@@ -67,6 +70,7 @@ module _ (g : GuestOf) where
   is_context : (key : PartKey) (context : List ℕ) → key.code ≡ 4 → blanked_part key context ≡ blanked_context context
   is_context key context code = ap (λ b. cond b (blanked_context context) (cond (key.code == 7) (blanked_shared context) context)) (eq-eqb key.code 4 code)
 
+  -- the contexts
   pub context_there : (key : PartKey) (context : List ℕ) → maps.get g.parts key ≡ Some context → key.code ≡ 4 → maps.get (blank_of Pv g).parts key ≡ Some (blanked_context context)
   context_there key context found code = to_each part_total part_exact blanked_part g.parts key context found ∙ ap (λ c. Some c) (is_context key context code)
 

@@ -18,6 +18,7 @@ use Rattle.mig_pvtables.proofs.Searches.{none_of}
 
 -- ---- frames
 
+-- there is a page where there was one, and it is as long
 page_there : (place level : Option ℕ) (page : Option (List ℕ)) → is_some (blanked_page place level page) ≡ is_some page
 page_there (Some k) level None = refl
 page_there (Some k) level (Some p) = refl
@@ -69,9 +70,11 @@ module _ (kind : Kind) (width : ℕ) (key : PartKey) (part : List ℕ) (is : IsP
     content = subst (λ c. IsContent c changed) (one_code code is.code (sym number ∙ is.number)) content;
   }
 
+  -- no more descriptors than before
   few_ents : (n : ℕ) → gdt_ents part ≤ 7168 → n ≡ gdt_ents part % 2 ^ 64 → n ≤ 7168
   few_ents n few e = omega (arith, few, e)
 
+  -- by whether it is a context, and whether it is the shared page
   blanked_case : (a b : Bool) → (key.code == 4) ≡ a → (key.code == 7) ≡ b → IsPart kind width key (cond a (blanked_context part) (cond b (blanked_shared part) part))
   blanked_case true b four seven =
       let code = eqb-true key.code 4 four in let one = of_part VcpuBasic kind width (key, part) is code in
@@ -127,6 +130,7 @@ module _ (g : GuestOf) (formed : IsFormed g) where
   ] refl
 
   module _ (key : PartKey) (context : List ℕ) (found : maps.get g.parts key ≡ Some context) (code : key.code ≡ 4) (field : ℕ) (most : field ≤ 18) where
+    -- the GDT has as many descriptors
     same_ents : gdt_ents (blanked_context context) ≡ gdt_ents context
     same_ents = let few : gdt_ents context ≤ 7168 = (of_part VcpuBasic g.kind (width_of g) (key, context) (formed.parts key context found) code).content in blanked_ents context ∙ omega (arith, few)
 
@@ -141,6 +145,7 @@ module _ (g : GuestOf) (formed : IsFormed g) where
         → frame_of_field field (field_value (blanked_context context) field) ≡ frame_of_field field (field_value context field)
     still_said small used = ap (frame_of_field field) (blanked_field context field most) ∙ same_said key.key1 (gdt_ents context) field (field_value context field) small used
 
+    -- and that fits
     still_fits : (is_used key.key1 (gdt_ents context) field (field_value context field) ≡ true → fits_field field (type_at g.frames (frame_of_field field (field_value context field))) ≡ true)
         → is_used key.key1 (gdt_ents (blanked_context context)) field (field_value (blanked_context context) field) ≡ true
         → fits_field field (type_at (blank_of Pv g).frames (frame_of_field field (field_value (blanked_context context) field))) ≡ true

@@ -18,5 +18,6 @@ pub mod BlankAgain
 pub mod BlankSays
 pub mod BlankShape
 pub mod BlankWhole
+pub mod BlankBack
 pub mod Walks
 pub mod P2mWalks

@@ -9,7 +9,7 @@ ghost use Rattle.mig_guest.specs.Frames.{IsFew};
 ghost use Rattle.mig_guest.specs.Guests.{GuestOf};
 ghost use Rattle.mig_guest.specs.PartKeys.{context_key};
 ghost use Rattle.mig_guest.specs.Tables.{entry, IsWithin};
-ghost use Rattle.mig_pvtables.specs.Blank.{blank};
+ghost use Rattle.mig_pvtables.specs.Blank.{blank, IsOfBytes};
 ghost use Rattle.mig_pvtables.specs.Faults.{fault_of_guest};
 ghost use Rattle.mig_pvtables.specs.Tables.{fault_of_page_table};
 ghost use Rattle.mig_pvtables.specs.Whole.{IsWhole};
@@ -60,4 +60,9 @@ pub fn blank_form_is_blank()
 /// The blank form of a whole guest is whole.
 pub fn blank_form_is_whole()
     ensures { (g : GuestOf) → IsWhole g → IsWhole (blank g) }
+{}
+
+/// A well formed guest of bytes whose blank form is whole is whole.
+pub fn whole_as_its_blank_form()
+    ensures { (g : GuestOf) → IsOfBytes g → IsFormed g → IsWhole (blank g) → IsWhole g }
 {}

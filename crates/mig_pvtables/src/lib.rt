@@ -15,6 +15,7 @@ pub use blanking::blank;
 pub use law::{
     blank_form_is_blank, blank_form_is_whole, faultless_table_is_within, hvm_guest_has_two_faults,
     hvm_guest_is_blank, hvm_guest_is_whole, pv_guest_is_whole, some_pv_guest_is_whole,
+    whole_as_its_blank_form,
 };
 pub use table::{check_table, entry, put_entry};
 pub use testing::{WholeAnswer, whole};
