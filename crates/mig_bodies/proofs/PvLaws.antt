@@ -1,7 +1,7 @@
 -- The bodies of X86_PV_INFO and X86_PV_P2M_FRAMES without fault are those that are spelled so; P2M frames keep a guest
 -- well formed.
-use Rattle.mig_bodies.proofs.Common.{◌≡◌, ℕ, ◌+◌, ◌*◌, ◌≤◌, ◌↔◌, Bool, true, false, not, List, [], ◌∷◌, ◌++◌, length, take, drop, nat_le, None, refl, sym, ap, ◌∙◌, arith, take-append-drop, length-drop, ◌==◌, ◌&&◌, drop-append-le, little_number, little_from-append, eqb-true, eq-eqb, leb-false, le-leb, lt-leb, and_parts, not-false, rows_fine, no_fault, BadLength, Pv32, BadPvInfo, P2mStart, P2mRange}
-use Rattle.std.proofs.lemmas.List.{length-take-le}
+use Rattle.mig_bodies.proofs.Common.{◌≡◌, ℕ, ◌+◌, ◌*◌, ◌≤◌, ◌↔◌, Bool, true, false, not, List, [], ◌∷◌, ◌++◌, length, take, drop, nat_le, None, refl, sym, ap, ◌∙◌, arith, take-append-drop, length-append, length-drop, ◌==◌, ◌&&◌, drop-append-le, little_number, little_from-append, eqb-true, eq-eqb, leb-false, le-leb, lt-leb, and_parts, not-false, rows_fine, no_fault, BadLength, Pv32, BadPvInfo, P2mStart, P2mRange}
+use Rattle.std.proofs.lemmas.List.{drop_at, length-take-le}
 use Rattle.mig_bytes.specs.Fields.{le32}
 use Rattle.mig_pagetypes.specs.Limits.{pfn_limit}
 use Rattle.mig_bodies.specs.PvBodies.{IsPvInfo, fault_of_pv_info, p2m_count, IsP2m, fault_of_p2m}
@@ -67,3 +67,12 @@ module _ (body : List ℕ) (long : 8 ≤ length body) where
 
   pub p2m_is_spelled : (fault_of_p2m body ≡ None) ↔ IsP2m last (drop 8 body) body
   p2m_is_spelled = (spelled_p2m, p2m_spelled)
+
+-- what a list of P2M frames is spelled as stands in its body
+pub list_is : (last : ℕ) (frames body : List ℕ) → IsP2m last frames body → (8 ≤ length body) × (le32 body 4 ≡ last) × (drop 8 body ≡ frames)
+list_is last frames body is =
+    let size : length body ≡ 8 + length frames = ap length is.whole ∙ length-append is.front frames ∙ ap (λ n. n + length frames) is.front_len in (
+      omega (arith, size),
+      ap (λ l. le32 l 4) is.whole ∙ at_front is.front frames 4 (omega (arith, is.front_len)) ∙ is.last_is,
+      ap (drop 8) is.whole ∙ drop_at is.front frames 8 is.front_len,
+    )

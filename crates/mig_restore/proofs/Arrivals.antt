@@ -1,7 +1,8 @@
 -- The front of a stream that the reader has behind it.
-use Rattle.mig_restore.proofs.Common.{arith, ◌≡◌, ℕ, List, [], ◌∷◌, ◌++◌, length, Bool, true, false, nat_eq, Option, Some, None, Result, Ok, Err, refl, sym, ap, subst, ◌∙◌, ⊤, ◌||◌, list_any, map-append, length-map, common_steps, Reaches, here, next, Stop, stop_at, Gives, Passes, Faulty, Cause, Record, Hvm, GuestOf, Seen, put_record, empty_guest, StreamRecord, types_of, is_ended, Opening, IsSeen, Front, at_start, image_of, records_at, IsReading}
+use Rattle.mig_restore.proofs.Common.{arith, ◌≡◌, ℕ, List, [], ◌∷◌, ◌++◌, length, Bool, true, false, nat_eq, Option, Some, None, Result, Ok, Err, refl, sym, ap, subst, ◌∙◌, ⊤, ◌||◌, list_any, map-append, length-map, common_steps, Reaches, here, next, Stop, stop_at, Gives, Passes, Faulty, Cause, Record, GuestOf, Seen, put_record, empty_guest, StreamRecord, types_of, is_ended, Opening, IsSeen, Front, at_start, image_of, records_at, IsReading}
 use Rattle.std.proofs.lemmas.List.Folds.{list_any-append}
 use Rattle.mig_bytes.specs.declared.part.Stop.TheVariants as stops
+use Rattle.mig_pvtables.specs.Blank.{blank}
 use Rattle.mig_restore.specs.declared.read.Reading.{Reading}
 use Rattle.mig_restore.specs.Mean.{sent}
 use Rattle.mig_restore.specs.Judging.{next_at}
@@ -48,15 +49,15 @@ module _ (o : Opening) where
       let (reached', g'') = arrived_after i f r after guest guest' reached going is g told'.0 in
       (record { records = f.records ++ r ∷ []; rest = after }, reached', left, told'.1, g'', ended_more f.records r going ∙ sym told'.2 ∙ is_open)
 
-  pub arrived_end : (a b c : Option (List ℕ)) (seen seen' : Seen) (guest guest' : GuestOf) (reading : Reading) (over : Bool) → over ≡ true → guest'.kind ≡ Hvm → reading.guest ≡ guest' → reading.version ≡ o.version → reading.records ≡ seen'.records → Arrived a b seen guest
+  pub arrived_end : (a b c : Option (List ℕ)) (seen seen' : Seen) (guest guest' : GuestOf) (reading : Reading) (over : Bool) → over ≡ true → reading.guest ≡ blank guest' → reading.version ≡ o.version → reading.records ≡ seen'.records → Arrived a b seen guest
       → Tells guest guest' seen seen' b c (Ok over) → Gives IsReading a c (records_at o) (Ok reading)
-  arrived_end None b c seen seen' guest guest' reading over is_over hvm rg rv rs h told = tt
-  arrived_end (Some i) b c seen seen' guest guest' reading over is_over hvm rg rv rs (f, reached, now, s, g, going) told =
+  arrived_end None b c seen seen' guest guest' reading over is_over rg rv rs h told = tt
+  arrived_end (Some i) b c seen seen' guest guest' reading over is_over rg rv rs (f, reached, now, s, g, going) told =
       let (r, after, is, left, told') = subst (λ b. Gives (Told guest guest' seen' f.records) b c (next_at o f.records) (Ok over)) now (told f.records s g) in
       let (reached', g'') = arrived_after i f r after guest guest' reached going is g told'.0 in
       let f' : Front = record { records = f.records ++ r ∷ []; rest = after } in
       let over1 : is_ended f'.records ≡ true = ended_more f.records r going ∙ sym told'.2 ∙ is_over in
-      (image_of o f'.records, after, ap (ended_at o) (ends_at o i f' reached' (stops_ended o f' over1)) ∙ accepted o f' over1, left, record { guest = rg ∙ meant_as_sent guest' o.kind f'.records g'' hvm; version = rv; records = rs ∙ told'.1.count ∙ length-map f'.records (λ (x : StreamRecord). x.type) })
+      (image_of o f'.records, after, ap (ended_at o) (ends_at o i f' reached' (stops_ended o f' over1)) ∙ accepted o f' over1, left, record { guest = rg ∙ meant_as_sent guest' o.kind f'.records g''; version = rv; records = rs ∙ told'.1.count ∙ length-map f'.records (λ (x : StreamRecord). x.type) })
 
   pub arrived_stopped : (a b c : Option (List ℕ)) (seen seen' : Seen) (guest guest' : GuestOf) (stop : Stop Cause) (n : ℕ) → n ≡ seen.records → Arrived a b seen guest → Tells guest guest' seen seen' b c (Err stop) → Gives {X = Reading} IsReading a c (records_at o) (Err (stop_at (Record n) stop))
   arrived_stopped None b c seen seen' guest guest' stop n count h told = tt

@@ -1,7 +1,8 @@
 -- The body of a PAGE_DATA record: what judging lets pass is spelled as the format says, and what is spelled so passes.
-use Rattle.mig_restore.proofs.Common.{◌≡◌, ℕ, ◌+◌, ◌*◌, List, [], ◌∷◌, ◌++◌, length, Bool, true, false, cond, nat_eq, not, Option, Some, None, refl, sym, ap, subst, ◌∙◌, arith, append_assoc, length-append, Result, Ok, Err, count_by, eqb-true, eqb-false, eq-eqb, ne_eqb, le-ltb, not-false, common_steps, le32, le64, ◌>>=◌, part, tried, Judged, Matches, Gives, Passes, Faulty, part_whole, both_pass, tried_passes, same_passes, then_passes, tried_none, BadLength, Truncated, Kind, word_pfn, word_has_data, word_type, some_has_data, fault_of_count, fault_of_words, count_rows, words, data_len_of, FrameEntry, Content, type_in_word, fault_of_data, words_at, entry_at, entries_at, pages_at, IsPage, IsEntry, AreEntries, IsBatch, rows_fine, no_fault, type_of, type_or_none, type_has_data, Stop, Cause, GuestOf, Frames, put_entries, put_content}
+use Rattle.mig_restore.proofs.Common.{get_or, zero, suc, ◌≡◌, ℕ, ◌+◌, ◌*◌, ◌<◌, ◌↔◌, List, [], ◌∷◌, ◌++◌, length, Bool, true, false, cond, nat_eq, not, Option, Some, None, refl, sym, ap, subst, ◌∙◌, arith, append_assoc, length-append, Result, Ok, Err, count_by, eqb-true, eqb-false, eq-eqb, ne_eqb, le-ltb, not-false, common_steps, le32, le64, ◌>>=◌, part, tried, Judged, Matches, Gives, Passes, Faulty, part_whole, both_pass, tried_passes, same_passes, then_passes, tried_none, BadLength, Truncated, Kind, word_pfn, word_has_data, word_type, some_has_data, fault_of_count, fault_of_words, count_rows, words, data_len_of, FrameEntry, Content, type_in_word, fault_of_data, words_at, entry_at, with_places, fault_of_level, fault_of_page, entries_at, pages_at, IsPage, Pv, Hvm, PageType, level_of, meant_type, EachEntry, IsWithin, entry, FrameOf, table_within, IsEntry, AreEntries, IsBatch, rows_fine, no_fault, type_of, type_or_none, type_has_data, Stop, Cause, GuestOf, Frames, put_entries, put_content}
 use Rattle.std.proofs.lemmas.List.FromFn.{length-map-range_with_len}
 use Rattle.mig_bytes.specs.Judged.{each}
+use Rattle.mig_pagetypes.specs.declared.page_type.PageType.TheVariants.{Notab}
 use Rattle.mig_records.proofs.WordFaults.{none_is_wrong, nothing_found}
 use Rattle.mig_restore.proofs.Parts.{taken}
 use Rattle.mig_bytes.specs.declared.part.Stop.TheVariants.{Refused, ReadFault, Memory}
@@ -10,18 +11,67 @@ use Rattle.mig_bytes.specs.declared.part.Stop.TheVariants.{Refused, ReadFault, M
 pub carries : (w : ℕ) → word_has_data w ≡ type_has_data (type_in_word w)
 carries w = elim (type_of (word_type w)) as (λ o. some_has_data o ≡ type_has_data (type_or_none o)) [ None ↦ refl | Some t ↦ refl ]
 
+-- ---- words with their places
+
+pub places_len : (place : ℕ) (ws : List ℕ) → length (with_places place ws) ≡ length ws
+places_len place [] = refl
+places_len place (w ∷ ws) = ap suc (places_len (place + 1) ws)
+
+pub place_at : (place : ℕ) (ws : List ℕ) (k : ℕ) → k < length ws → get_or (with_places place ws) k (0, 0) ≡ (place + k, get_or ws k 0)
+place_at place [] k lt = absurd (omega (arith, lt))
+place_at place (w ∷ ws) zero lt = ap (λ n. (n, w)) (let e : place ≡ place + 0 = omega arith in e)
+place_at place (w ∷ ws) (suc k) lt = place_at (place + 1) ws k (omega (arith, lt)) ∙ ap (λ n. (n, get_or ws k 0)) (let e : place + 1 + k ≡ place + suc k = omega arith in e)
+
+-- ---- the page of a word
+
+-- types without data are no tables
+no_level : (kind : Kind) (t : PageType) → type_has_data t ≡ false → level_of (meant_type kind t) ≡ None
+no_level Pv Notab none = cc
+no_level Pv _ none = cc
+no_level Hvm Notab none = cc
+no_level Hvm _ none = cc
+
+-- a page has no fault exactly where, as a table of this level, it is within top
+pub level_within : (top place : ℕ) (o : Option ℕ) (page : List ℕ) → (fault_of_level top place o page ≡ None) ↔ ((level : ℕ) → o ≡ Some level → (slot : ℕ) → slot < 512 → IsWithin top (entry level page slot))
+level_within top place None page = (λ fine level is. cc, λ within. refl)
+level_within top place (Some l) page =
+    let table = table_within place top l page in (
+      (λ fine level is slot lt. let same : l ≡ level = cc in subst (λ n. IsWithin top (entry n page slot)) same (table.0 fine slot lt)),
+      (λ within. table.1 (within l refl)),
+    )
+
+same_page : (b : Bool) (bytes page : List ℕ) → cond b (Some bytes) None ≡ Some page → bytes ≡ page
+same_page true bytes page is = cc
+same_page false bytes page is = cc
+
+-- the frame of a word, with these bytes
+abbrev frame_said : Kind → ℕ → List ℕ → FrameOf
+frame_said kind w bytes = record { type = meant_type kind (type_in_word w); page = cond (word_has_data w) (Some bytes) None }
+
+-- the entries of a page without fault
+page_within : (kind : Kind) (top place w : ℕ) (bytes : List ℕ) → fault_of_page kind top (place, w) bytes ≡ None → EachEntry (IsWithin top) (frame_said kind w bytes)
+page_within kind top place w bytes fine level page lev has slot lt =
+    subst (λ b. IsWithin top (entry level b slot)) (same_page (word_has_data w) bytes page has) ((level_within top place (level_of (meant_type kind (type_in_word w))) bytes).0 fine level lev slot lt)
+
+within_page : (kind : Kind) (top place w : ℕ) (bytes : List ℕ) → EachEntry (IsWithin top) (frame_said kind w bytes) → fault_of_page kind top (place, w) bytes ≡ None
+within_page kind top place w bytes within = by (word_has_data w) refl
+  where
+    by : (b : Bool) → word_has_data w ≡ b → fault_of_page kind top (place, w) bytes ≡ None
+    by true some = (level_within top place (level_of (meant_type kind (type_in_word w))) bytes).1 (λ level lev. within level bytes lev (ap (λ b. cond b (Some bytes) None) some))
+    by false none = ap (λ o. fault_of_level top place o bytes) (no_level kind (type_in_word w) (sym (carries w) ∙ none))
+
 -- behind the words of a batch
 abbrev pub behind_words : Kind → ℕ → ℕ → List ℕ × List ℕ → Judged Cause (List FrameEntry)
-behind_words kind top len ws = tried (fault_of_words kind top ws.0) ws.1 >>= λ _. tried (fault_of_data len ws.0) ws.1 >>= λ _. each entry_at ws.0 ws.1
+behind_words kind top len ws = tried (fault_of_words kind top ws.0) ws.1 >>= λ _. tried (fault_of_data len ws.0) ws.1 >>= λ _. each (entry_at kind top) (with_places 0 ws.0) ws.1
 
 -- behind their bytes
-abbrev pub behind_good : ℕ → List ℕ → List ℕ → Judged Cause (List FrameEntry)
-behind_good len ws rest = tried (fault_of_data len ws) rest >>= λ _. each entry_at ws rest
+abbrev pub behind_good : Kind → ℕ → ℕ → List ℕ → List ℕ → Judged Cause (List FrameEntry)
+behind_good kind top len ws rest = tried (fault_of_data len ws) rest >>= λ _. each (entry_at kind top) (with_places 0 ws) rest
 
-pub words_stage : (kind : Kind) (top len n : ℕ) (i : List ℕ) → (words_at n i >>= behind_words kind top len) ≡ (part Truncated (8 * n) i >>= λ p. tried (fault_of_words kind top (words n p.0)) p.1 >>= λ _. behind_good len (words n p.0) p.1)
+pub words_stage : (kind : Kind) (top len n : ℕ) (i : List ℕ) → (words_at n i >>= behind_words kind top len) ≡ (part Truncated (8 * n) i >>= λ p. tried (fault_of_words kind top (words n p.0)) p.1 >>= λ _. behind_good kind top len (words n p.0) p.1)
 words_stage kind top len n i = by (part Truncated (8 * n) i)
   where
-    by : (j : Judged Cause (List ℕ)) → ((j >>= λ b. Passes (words n b.0) b.1) >>= behind_words kind top len) ≡ (j >>= λ p. tried (fault_of_words kind top (words n p.0)) p.1 >>= λ _. behind_good len (words n p.0) p.1)
+    by : (j : Judged Cause (List ℕ)) → ((j >>= λ b. Passes (words n b.0) b.1) >>= behind_words kind top len) ≡ (j >>= λ p. tried (fault_of_words kind top (words n p.0)) p.1 >>= λ _. behind_good kind top len (words n p.0) p.1)
     by (Passes x mid) = refl
     by (Faulty c mid) = refl
 
@@ -32,24 +82,36 @@ page_size w = cond (word_has_data w) 4096 0
 abbrev pub entry_of : ℕ → List ℕ → FrameEntry
 entry_of w b = record { pfn = word_pfn w; type = type_in_word w; page = cond (word_has_data w) (Some b) None }
 
-abbrev pub other_entries : ℕ → List ℕ → List ℕ → List ℕ → Judged Cause (List FrameEntry)
-other_entries w ws b r = each entry_at ws r >>= λ others. Passes (entry_of w b ∷ others.0) others.1
+module _ (kind : Kind) (top : ℕ) where
+  abbrev pub entries_in_place : ℕ → List ℕ → List ℕ → Judged Cause (List FrameEntry)
+  entries_in_place place ws i = each (entry_at kind top) (with_places place ws) i
 
-page_by : (b : Bool) (i : List ℕ) → cond b (part Truncated 4096 i >>= λ p. Passes (Some p.0) p.1) (Passes None i) ≡ (part Truncated (cond b 4096 0) i >>= λ p. Passes (cond b (Some p.0) None) p.1)
-page_by true i = refl
-page_by false i = sym (ap (λ j. j >>= λ p. Passes None p.1) (part_whole Truncated 0 [] i refl))
+  abbrev pub other_entries : ℕ → ℕ → List ℕ → List ℕ → List ℕ → Judged Cause (List FrameEntry)
+  other_entries place w ws b r = entries_in_place (place + 1) ws r >>= λ others. Passes (entry_of w b ∷ others.0) others.1
 
-each_by : (w : ℕ) (ws : List ℕ) (j : Judged Cause (List ℕ))
-    → (((j >>= λ p. Passes (cond (word_has_data w) (Some p.0) None) p.1) >>= λ page. Passes (record { pfn = word_pfn w; type = type_in_word w; page = page.0 }) page.1) >>= λ first. each entry_at ws first.1 >>= λ others. Passes (first.0 ∷ others.0) others.1)
-    ≡ (j >>= λ p. other_entries w ws p.0 p.1)
-each_by w ws (Passes x mid) = refl
-each_by w ws (Faulty c mid) = refl
+  page_by : (b : Bool) (f : List ℕ → Option Cause) (i : List ℕ) → (b ≡ false → f [] ≡ None)
+      → cond b (part Truncated 4096 i >>= λ p. tried (f p.0) p.1 >>= λ _. Passes (Some p.0) p.1) (Passes None i) ≡ (part Truncated (cond b 4096 0) i >>= λ p. tried (f p.0) p.1 >>= λ _. Passes (cond b (Some p.0) None) p.1)
+  page_by true f i none = refl
+  page_by false f i none = sym (ap (λ j. j >>= λ p. tried (f p.0) p.1 >>= λ _. Passes None p.1) (part_whole Truncated 0 [] i refl) ∙ ap (λ o. tried o i >>= λ _. Passes None i) (none refl))
 
-pub each_stage : (w : ℕ) (ws i : List ℕ) → each entry_at (w ∷ ws) i ≡ (part Truncated (page_size w) i >>= λ p. tried None p.1 >>= λ _. other_entries w ws p.0 p.1)
-unfolding each
-each_stage w ws i =
-    ap (λ j. (j >>= λ page. Passes (record { pfn = word_pfn w; type = type_in_word w; page = page.0 }) page.1) >>= λ first. each entry_at ws first.1 >>= λ others. Passes (first.0 ∷ others.0) others.1) (page_by (word_has_data w) i)
-    ∙ each_by w ws (part Truncated (page_size w) i)
+  each_by : (place w : ℕ) (ws : List ℕ) (f : List ℕ → Option Cause) (j : Judged Cause (List ℕ))
+      → (((j >>= λ p. tried (f p.0) p.1 >>= λ _. Passes (cond (word_has_data w) (Some p.0) None) p.1) >>= λ page. Passes (record { pfn = word_pfn w; type = type_in_word w; page = page.0 }) page.1) >>= λ first. entries_in_place (place + 1) ws first.1 >>= λ others. Passes (first.0 ∷ others.0) others.1)
+      ≡ (j >>= λ p. tried (f p.0) p.1 >>= λ _. other_entries place w ws p.0 p.1)
+  each_by place w ws f (Faulty c mid) = refl
+  each_by place w ws f (Passes x mid) = by (f x)
+    where
+      by : (o : Option Cause)
+          → (((tried o mid >>= λ _. Passes (cond (word_has_data w) (Some x) None) mid) >>= λ page. Passes (record { pfn = word_pfn w; type = type_in_word w; page = page.0 }) page.1) >>= λ first. entries_in_place (place + 1) ws first.1 >>= λ others. Passes (first.0 ∷ others.0) others.1)
+          ≡ (tried o mid >>= λ _. other_entries place w ws x mid)
+      by None = refl
+      by (Some c) = refl
+
+  pub each_stage : (place w : ℕ) (ws i : List ℕ) → entries_in_place place (w ∷ ws) i ≡ (part Truncated (page_size w) i >>= λ p. tried (fault_of_page kind top (place, w) p.0) p.1 >>= λ _. other_entries place w ws p.0 p.1)
+  unfolding each
+  each_stage place w ws i =
+      ap (λ j. (j >>= λ page. Passes (record { pfn = word_pfn w; type = type_in_word w; page = page.0 }) page.1) >>= λ first. entries_in_place (place + 1) ws first.1 >>= λ others. Passes (first.0 ∷ others.0) others.1)
+      (page_by (word_has_data w) (fault_of_page kind top (place, w)) i (λ none. ap (λ o. fault_of_level top place o []) (no_level kind (type_in_word w) (sym (carries w) ∙ none))))
+      ∙ each_by place w ws (fault_of_page kind top (place, w)) (part Truncated (page_size w) i)
 
 abbrev behind_front : ℕ → Kind → ℕ → List ℕ × List ℕ → Judged Cause (List FrameEntry)
 behind_front len kind top front = tried (fault_of_count len (le32 front.0 0)) front.1 >>= λ _. words_at (le32 front.0 0) front.1 >>= behind_words kind top len
@@ -74,21 +136,21 @@ module _ (g new : GuestOf) (e : Option (List ℕ)) where
     pub pages_read : (a b d : Option (List ℕ)) (kind : Kind) (top len n m : ℕ) (buf : List ℕ) (list : V) (r : Result (Unit {0}) (Stop Cause)) → kind ≡ g.kind → m ≡ 8
         → Gives {X = Unit {0}} (λ _ bytes. bytes ≡ buf) a b (part Truncated m) (Ok tt) → n ≡ le32 buf 0 → fault_of_count len n ≡ None
         → Gives (λ v ws. ws ≡ items v) b d (words_at n) (Ok list) → fault_of_words kind top (items list) ≡ None → fault_of_data len (items list) ≡ None
-        → Gives Set d e (each entry_at (items list)) r → Gives Put a e (pages_at kind top len) r
+        → Gives Set d e (entries_in_place kind top 0 (items list)) r → Gives Put a e (pages_at kind top len) r
     pages_read None b d kind top len n m buf list r k size front at counted read good whole told = tt
     pages_read (Some i) b d kind top len n m buf list r k size (bytes, rest, is, left, same) at counted read good whole told =
         let number : le32 bytes 0 ≡ n = ap (λ l. le32 l 0) same ∙ sym at in
         let (ws, after, is_words, left_words, words_same) = subst (λ o. Gives (λ v l. l ≡ items v) o d (words_at n) (Ok list)) left read in
-        let told' = subst (λ o. Gives Set o e (each entry_at (items list)) r) left_words told in
-        let judged : pages_at kind top len i ≡ (each entry_at (items list) after >>= as_content) =
+        let told' = subst (λ o. Gives Set o e (entries_in_place kind top 0 (items list)) r) left_words told in
+        let judged : pages_at kind top len i ≡ (entries_in_place kind top 0 (items list) after >>= as_content) =
         ap (λ j. (j >>= behind_front len kind top) >>= as_content) (ap (λ q. part Truncated q i) (sym size) ∙ is)
         ∙ ap (λ q. (tried (fault_of_count len q) rest >>= λ _. words_at q rest >>= behind_words kind top len) >>= as_content) number
         ∙ ap (λ f. (tried f rest >>= λ _. words_at n rest >>= behind_words kind top len) >>= as_content) counted
         ∙ ap (λ j. (j >>= behind_words kind top len) >>= as_content) is_words
         ∙ ap (λ l. behind_words kind top len (l, after) >>= as_content) words_same
-        ∙ ap (λ f. (tried f after >>= λ _. tried (fault_of_data len (items list)) after >>= λ _. each entry_at (items list) after) >>= as_content) good
-        ∙ ap (λ f. (tried f after >>= λ _. each entry_at (items list) after) >>= as_content) whole in
-        subst (λ j. Matches Put e j r) (sym judged) (as_frames (each entry_at (items list) after) r told')
+        ∙ ap (λ f. (tried f after >>= λ _. tried (fault_of_data len (items list)) after >>= λ _. entries_in_place kind top 0 (items list) after) >>= as_content) good
+        ∙ ap (λ f. (tried f after >>= λ _. entries_in_place kind top 0 (items list) after) >>= as_content) whole in
+        subst (λ j. Matches Put e j r) (sym judged) (as_frames (entries_in_place kind top 0 (items list) after) r told')
 
 -- ---- what the words say of its length
 
@@ -98,11 +160,11 @@ counted w ws = grind (arith, common_steps)
 -- ---- judging passes
 
 -- the pages of these words
-record Pages (ws i : List ℕ) (es : List FrameEntry) (rest : List ℕ) : Type 0 where
+record Pages (kind : Kind) (top : ℕ) (ws i : List ℕ) (es : List FrameEntry) (rest : List ℕ) : Type 0 where
   bytes : List ℕ
   whole : i ≡ bytes ++ rest
   size : length bytes ≡ 4096 * count_by word_has_data ws
-  entries : AreEntries ws bytes es
+  entries : AreEntries kind top ws bytes es
 
 is_page : (b : Bool) (bytes : List ℕ) → length bytes ≡ cond b 4096 0 → IsPage b bytes (cond b (Some bytes) None)
 is_page true bytes size = (size, refl)
@@ -112,20 +174,20 @@ is_page false (x ∷ xs) size = absurd (omega (arith, size))
 page_len : (b : Bool) (bytes : List ℕ) (page : Option (List ℕ)) → IsPage b bytes page → length bytes ≡ 4096 * cond b 1 0
 page_len b bytes page h = grind (arith, common_steps, h)
 
-each_entries : (ws i : List ℕ) (es : List FrameEntry) (rest : List ℕ) → each entry_at ws i ≡ Passes es rest → Pages ws i es rest
+each_entries : (kind : Kind) (top place : ℕ) (ws i : List ℕ) (es : List FrameEntry) (rest : List ℕ) → entries_in_place kind top place ws i ≡ Passes es rest → Pages kind top ws i es rest
 unfolding each
-each_entries [] i es rest h = let e = same_passes _ _ _ _ h in record { bytes = []; whole = e.1; size = refl; entries = (refl, sym e.0) }
-each_entries (w ∷ ws) i es rest h =
-    let p = taken (page_size w) (λ _. None) (other_entries w ws) i es rest (sym (each_stage w ws i) ∙ h) in
-    let c = both_pass (each entry_at ws p.mid) _ es rest p.after in
-    let q = each_entries ws p.mid c.x c.mid c.first in
+each_entries kind top place [] i es rest h = let e = same_passes _ _ _ _ h in record { bytes = []; whole = e.1; size = refl; entries = (refl, sym e.0) }
+each_entries kind top place (w ∷ ws) i es rest h =
+    let p = taken (page_size w) (fault_of_page kind top (place, w)) (other_entries kind top place w ws) i es rest (sym (each_stage kind top place w ws i) ∙ h) in
+    let c = both_pass (entries_in_place kind top (place + 1) ws p.mid) _ es rest p.after in
+    let q = each_entries kind top (place + 1) ws p.mid c.x c.mid c.first in
     let f = same_passes _ _ _ _ c.second in
     let page = is_page (word_has_data w) p.bytes p.size in
     record {
       bytes = p.bytes ++ q.bytes;
       whole = p.whole ∙ ap (λ l. p.bytes ++ l) (q.whole ∙ ap (λ l. q.bytes ++ l) f.1) ∙ sym (append_assoc p.bytes q.bytes rest);
       size = omega (arith, length-append p.bytes q.bytes, page_len (word_has_data w) p.bytes (entry_of w p.bytes).page page, q.size, counted w ws);
-      entries = (p.bytes, q.bytes, entry_of w p.bytes, c.x, refl, sym f.0, record { pfn = refl; type = refl; page = page }, q.entries);
+      entries = (p.bytes, q.bytes, entry_of w p.bytes, c.x, refl, sym f.0, record { pfn = refl; type = refl; page = page; within = page_within kind top place w p.bytes p.fine }, q.entries);
     }
 
 regroup_pages : (i f m w d t rest : List ℕ) → i ≡ f ++ m → m ≡ w ++ d → d ≡ t ++ rest → i ≡ (f ++ (w ++ t)) ++ rest
@@ -147,11 +209,11 @@ batch_passes kind top len i es rest h =
     let front = a.bytes in
     let n = le32 front 0 in
     let fc = rows_fine (count_rows len n) a.fine in
-    let w = taken (8 * n) (λ b. fault_of_words kind top (words n b)) (λ b m. behind_good len (words n b) m) a.mid es rest (sym (words_stage kind top len n a.mid) ∙ a.after) in
+    let w = taken (8 * n) (λ b. fault_of_words kind top (words n b)) (λ b m. behind_good kind top len (words n b) m) a.mid es rest (sym (words_stage kind top len n a.mid) ∙ a.after) in
     let ws = words n w.bytes in
-    let g = both_pass (tried (fault_of_data len ws) w.mid) (λ _. each entry_at ws w.mid) es rest w.after in
+    let g = both_pass (tried (fault_of_data len ws) w.mid) (λ _. entries_in_place kind top 0 ws w.mid) es rest w.after in
     let fd = rows_fine ((not (nat_eq len (data_len_of ws)), BadLength len) ∷ []) (tried_passes _ w.mid g.mid g.x g.first).0 in
-    let t = each_entries ws w.mid es rest g.second in
+    let t = each_entries kind top 0 ws w.mid es rest g.second in
     let count : length ws ≡ n = length-map-range_with_len (λ k. le64 w.bytes (8 * k)) 0 n in
     let full : len ≡ 8 + 8 * n + 4096 * count_by word_has_data ws = eqb-true len _ (not-false _ fd.0) ∙ ap (λ m. 8 + 8 * m + 4096 * count_by word_has_data ws) count in
     record {
@@ -176,26 +238,32 @@ batch_passes kind top len i es rest h =
 of_page : (b : Bool) (bytes : List ℕ) (page : Option (List ℕ)) → IsPage b bytes page → (length bytes ≡ cond b 4096 0) × (cond b (Some bytes) None ≡ page)
 of_page b bytes page h = (grind (arith, common_steps, h), grind (arith, common_steps, h))
 
-same_entry : (w : ℕ) (bytes : List ℕ) (e : FrameEntry) → IsEntry w bytes e → entry_of w bytes ≡ e
-same_entry w bytes e is =
-    ap (λ p. record { pfn = word_pfn w; type = type_in_word w; page = p }) (of_page (word_has_data w) bytes e.page is.page).1
-    ∙ ap (λ n. record { pfn = n; type = type_in_word w; page = e.page }) (sym is.pfn) ∙ ap (λ k. record { pfn = e.pfn; type = k; page = e.page }) (sym is.type)
+module _ (kind : Kind) (top : ℕ) where
+  same_entry : (w : ℕ) (bytes : List ℕ) (e : FrameEntry) → IsEntry kind top w bytes e → entry_of w bytes ≡ e
+  same_entry w bytes e is =
+      ap (λ p. record { pfn = word_pfn w; type = type_in_word w; page = p }) (of_page (word_has_data w) bytes e.page is.page).1
+      ∙ ap (λ n. record { pfn = n; type = type_in_word w; page = e.page }) (sym is.pfn) ∙ ap (λ k. record { pfn = e.pfn; type = k; page = e.page }) (sym is.type)
 
-entries_go : (ws bytes rest : List ℕ) (es : List FrameEntry) → AreEntries ws bytes es → each entry_at ws (bytes ++ rest) ≡ Passes es rest
-unfolding each
-entries_go [] bytes rest es (a, b) = rw (a, b) refl
-entries_go (w ∷ ws) bytes rest es (page, more, e, others, whole, is, one, entries) =
-    ap (each entry_at (w ∷ ws)) (ap (λ l. l ++ rest) whole ∙ append_assoc page more rest)
-    ∙ each_stage w ws (page ++ (more ++ rest))
-    ∙ then_passes (part Truncated (page_size w) (page ++ (more ++ rest))) _ page (more ++ rest) _ (part_whole Truncated (page_size w) page (more ++ rest) (of_page (word_has_data w) page e.page one.page).0)
-    (then_passes (each entry_at ws (more ++ rest)) _ others rest _ (entries_go ws more rest others entries) (ap (λ l. Passes l rest) (ap (λ x. x ∷ others) (same_entry w page e one) ∙ sym is)))
+  entry_fine : (place w : ℕ) (bytes : List ℕ) (e : FrameEntry) → IsEntry kind top w bytes e → fault_of_page kind top (place, w) bytes ≡ None
+  entry_fine place w bytes e is =
+      within_page kind top place w bytes (subst (λ (x : FrameEntry). EachEntry (IsWithin top) (record { type = meant_type kind x.type; page = x.page })) (sym (same_entry w bytes e is)) is.within)
 
-entries_len : (ws bytes : List ℕ) (es : List FrameEntry) → AreEntries ws bytes es → length bytes ≡ 4096 * count_by word_has_data ws
-entries_len [] bytes es (a, b) = ap length a
-entries_len (w ∷ ws) bytes es (page, more, e, others, whole, is, one, entries) =
-    let p = page_len (word_has_data w) page e.page one.page in
-    let q = entries_len ws more others entries in
-    omega (arith, ap length whole, length-append page more, p, q, counted w ws)
+  entries_go : (place : ℕ) (ws bytes rest : List ℕ) (es : List FrameEntry) → AreEntries kind top ws bytes es → entries_in_place kind top place ws (bytes ++ rest) ≡ Passes es rest
+  unfolding each
+  entries_go place [] bytes rest es (a, b) = rw (a, b) refl
+  entries_go place (w ∷ ws) bytes rest es (page, more, e, others, whole, is, one, entries) =
+      ap (entries_in_place kind top place (w ∷ ws)) (ap (λ l. l ++ rest) whole ∙ append_assoc page more rest)
+      ∙ each_stage kind top place w ws (page ++ (more ++ rest))
+      ∙ then_passes (part Truncated (page_size w) (page ++ (more ++ rest))) _ page (more ++ rest) _ (part_whole Truncated (page_size w) page (more ++ rest) (of_page (word_has_data w) page e.page one.page).0)
+      (tried_none (fault_of_page kind top (place, w) page) (more ++ rest) _ (entry_fine place w page e one)
+      ∙ then_passes (entries_in_place kind top (place + 1) ws (more ++ rest)) _ others rest _ (entries_go (place + 1) ws more rest others entries) (ap (λ l. Passes l rest) (ap (λ x. x ∷ others) (same_entry w page e one) ∙ sym is)))
+
+  entries_len : (ws bytes : List ℕ) (es : List FrameEntry) → AreEntries kind top ws bytes es → length bytes ≡ 4096 * count_by word_has_data ws
+  entries_len [] bytes es (a, b) = ap length a
+  entries_len (w ∷ ws) bytes es (page, more, e, others, whole, is, one, entries) =
+      let p = page_len (word_has_data w) page e.page one.page in
+      let q = entries_len ws more others entries in
+      omega (arith, ap length whole, length-append page more, p, q, counted w ws)
 
 pub batch_goes : (kind : Kind) (top len : ℕ) (body rest : List ℕ) (es : List FrameEntry) → IsBatch kind top body es → length body ≡ len → entries_at kind top len (body ++ rest) ≡ Passes es rest
 batch_goes kind top len body rest es b size =
@@ -204,7 +272,7 @@ batch_goes kind top len body rest es b size =
     let tail = b.pages_bytes ++ rest in
     let mid = b.words_bytes ++ tail in
     let input : body ++ rest ≡ b.front ++ mid = ap (λ l. l ++ rest) b.whole ∙ append_assoc b.front _ rest ∙ ap (λ l. b.front ++ l) (append_assoc b.words_bytes b.pages_bytes rest) in
-    let full : len ≡ 8 + 8 * n + 4096 * count_by word_has_data ws = sym size ∙ ap length b.whole ∙ body_len n (count_by word_has_data ws) b.front b.words_bytes b.pages_bytes b.front_len b.words_len (entries_len ws b.pages_bytes es b.entries) in
+    let full : len ≡ 8 + 8 * n + 4096 * count_by word_has_data ws = sym size ∙ ap length b.whole ∙ body_len n (count_by word_has_data ws) b.front b.words_bytes b.pages_bytes b.front_len b.words_len (entries_len kind top ws b.pages_bytes es b.entries) in
     let count : length ws ≡ n = length-map-range_with_len (λ k. le64 b.words_bytes (8 * k)) 0 n in
     let counts : fault_of_count len n ≡ None = no_fault (count_rows len n) (le-ltb len (8 + 8 * n) (omega (arith, full)), (ne_eqb n 0 (λ e. omega (arith, b.some, e)), tt)) in
     let goods : fault_of_words kind top ws ≡ None = nothing_found kind top ws b.good in
@@ -214,4 +282,4 @@ batch_goes kind top len body rest es b size =
     ∙ then_passes (part Truncated 8 (b.front ++ mid)) _ b.front mid _ (part_whole Truncated 8 b.front mid b.front_len)
     (tried_none (fault_of_count len n) mid _ counts
     ∙ then_passes (words_at n mid) _ ws tail _ (then_passes (part Truncated (8 * n) mid) _ b.words_bytes tail _ (part_whole Truncated (8 * n) b.words_bytes tail b.words_len) refl)
-    (tried_none (fault_of_words kind top ws) tail _ goods ∙ tried_none (fault_of_data len ws) tail _ sizes ∙ entries_go ws b.pages_bytes rest es b.entries))
+    (tried_none (fault_of_words kind top ws) tail _ goods ∙ tried_none (fault_of_data len ws) tail _ sizes ∙ entries_go kind top 0 ws b.pages_bytes rest es b.entries))

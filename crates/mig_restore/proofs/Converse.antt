@@ -1,5 +1,5 @@
 -- What is spelled as the format says is accepted.
-use Rattle.mig_restore.proofs.Common.{◌≡◌, ℕ, ◌≤◌, ◌<◌, ◌^◌, List, [], ◌∷◌, ◌++◌, length, true, nat_le, not, Option, Some, None, Result, Ok, Err, refl, sym, ap, subst, ◌∙◌, arith, append_assoc, take, drop, take-append-drop, length-take-le, length-drop, ◌⊎◌, inl, inr, common_steps, le-ltb, lt-leb, length-map, padding_len, le32, be32, Reaches, here, next, Judged, ◌>>=◌, part, tried, placed, Passes, Faulty, part_whole, same_passes, fault_of_marker, fault_of_image, fault_of_domain, kind_of_number, unless_faulty, IsImageHeader, IsDomainHeader, type_of_number, Cause, NotBuilt, TooManyRecords, Truncated, Place, Kind, GuestOf, long_rows, length_rows, type_allows, fault_of_long, fault_of_length, IsInOrder, fault_of_type, fault_of_guest, hvm_faultless, StreamRecord, is_ended, Opening, Before, opening_of, before, is_built, fault_of_built, fault_of_head, head_at, fault_at_end, body_at, Follows, Spells, IsImage, Accepted, Front, at_start, ImageOf, image_of, records_at, IsRefused, then_passes, tried_none, no_fault, neither_some}
+use Rattle.mig_restore.proofs.Common.{◌≡◌, ℕ, ◌≤◌, ◌<◌, ◌^◌, List, [], ◌∷◌, ◌++◌, length, true, nat_le, not, Option, Some, None, Result, Ok, Err, refl, sym, ap, subst, ◌∙◌, arith, append_assoc, take, drop, take-append-drop, length-take-le, length-drop, ◌⊎◌, inl, inr, common_steps, le-ltb, lt-leb, length-map, padding_len, le32, be32, Reaches, here, next, Judged, ◌>>=◌, part, tried, placed, Passes, Faulty, part_whole, same_passes, fault_of_marker, fault_of_image, fault_of_domain, kind_of_number, unless_faulty, IsImageHeader, IsDomainHeader, type_of_number, Cause, TooManyRecords, Truncated, Place, Kind, GuestOf, long_rows, length_rows, type_allows, fault_of_long, fault_of_length, IsInOrder, fault_of_type, fault_of_guest, StreamRecord, is_ended, Opening, Before, opening_of, before, fault_of_head, head_at, fault_at_end, body_at, Follows, Spells, IsImage, Accepted, Front, at_start, ImageOf, image_of, records_at, IsRefused, then_passes, tried_none, no_fault, neither_some}
 use Rattle.mig_headers.proofs.HeaderLaws.{image_is_spelled, domain_is_spelled}
 use Rattle.mig_headers.specs.declared.fault.Place.TheVariants as places
 use Rattle.mig_headers.specs.declared.header.ImageHeader.{ImageHeader}
@@ -12,17 +12,16 @@ use Rattle.mig_restore.specs.Spelled.Spells.{none, one_more}
 use Rattle.mig_restore.specs.Stream as stream
 use Rattle.mig_restore.specs.Stream.{ended_at, opening_at, image_at}
 use Rattle.mig_restore.proofs.Parts.{begins, behind_head, behind_body, asks, behind_record}
-use Rattle.mig_restore.proofs.Bodies.{ends_hvm, body_goes, length_fits}
-use Rattle.mig_restore.proofs.Laws.{goes_on, ends_at, accepted, stops_ended, accepted_is_image, behind_marker, behind_version, behind_kind}
+use Rattle.mig_restore.proofs.Bodies.{body_goes, length_fits}
+use Rattle.mig_restore.proofs.Laws.{complete_faultless, goes_on, ends_at, accepted, stops_ended, accepted_is_image, behind_marker, behind_version, behind_kind}
 
 -- ---- a record
 
-fine_fields : (b : Before) (type len : ℕ) → is_built b.opening.kind type ≡ true → len ≤ 2 ^ 27 → IsInOrder b.opening.version b.opening.kind b.types type → type_allows (type_of_number type) len ≡ true → length b.types < 2 ^ 28
+fine_fields : (b : Before) (type len : ℕ) → len ≤ 2 ^ 27 → IsInOrder b.opening.version b.opening.kind b.types type → type_allows (type_of_number type) len ≡ true → length b.types < 2 ^ 28
     → fault_of_fields b type len ≡ None
 unfolding fault_of_fields
-fine_fields b type len built small in_order allowed few =
+fine_fields b type len small in_order allowed few =
     let o = b.opening in
-    neither_some (fault_of_built o.kind type) _ (no_fault ((not (is_built o.kind type), NotBuilt type) ∷ []) (ap not built, tt))
     (neither_some (fault_of_long len) _ (no_fault (long_rows len) (le-ltb _ _ small, tt))
     (neither_some (fault_of_type o.version o.kind b.types type) _ ((faultless_is_in_order o.version o.kind b.types type).1 in_order)
     (neither_some (fault_of_length type len) _ (no_fault (length_rows type len) (ap not allowed, tt))
@@ -39,7 +38,7 @@ record_goes o records r text rest f =
     let len = le32 is.head 4 in
     let mid = f.body ++ (is.padding ++ rest) in
     let input : text ++ rest ≡ is.head ++ mid = ap (λ l. l ++ rest) is.whole ∙ append_assoc is.head _ rest ∙ ap (λ l. is.head ++ l) (append_assoc f.body is.padding rest) in
-    let fields = fine_fields b r.type len f.built (omega (arith, is.len_is, f.small)) f.ordered (length_fits o.kind b.top r.type len f.body r.content f.says (sym is.len_is)) (omega (arith, f.few, length-map records (λ (x : StreamRecord). x.type))) in
+    let fields = fine_fields b r.type len (omega (arith, is.len_is, f.small)) f.ordered (length_fits o.kind b.top r.type len f.body r.content f.says (sym is.len_is)) (omega (arith, f.few, length-map records (λ (x : StreamRecord). x.type))) in
     let fine : fault_of_head b is.head ≡ None = ap (λ t. fault_of_fields b t len) is.type_is ∙ fields in
     ap (record_at b) input ∙ begins b (is.head ++ mid)
     ∙ then_passes (head_at b (is.head ++ mid)) (behind_head o.kind b.top) is.head mid _ (then_passes (part Truncated 8 (is.head ++ mid)) _ is.head mid _ (part_whole Truncated 8 is.head mid is.head_len) (tried_none (fault_of_head b is.head) mid _ fine))
@@ -51,7 +50,7 @@ record_goes o records r text rest f =
 next_goes : (o : Opening) (records : List StreamRecord) (r : StreamRecord) (text rest : List ℕ) → Follows o records r text → next_at o records (text ++ rest) ≡ Passes r rest
 unfolding behind_record
 next_goes o records r text rest f =
-    let whole = λ (zero : r.type ≡ 0). let c = f.complete zero in hvm_faultless (sent o.kind (records ++ r ∷ [])) (sent_kind o.kind (records ++ r ∷ []) ∙ ends_hvm o.kind r.type zero f.built) c.context c.few in
+    let whole = λ (zero : r.type ≡ 0). complete_faultless o.kind (sent o.kind (records ++ r ∷ [])) (sent_kind o.kind (records ++ r ∷ [])) (f.complete zero) in
     asks o records (text ++ rest)
     ∙ then_passes (record_at (before o records) (text ++ rest)) (behind_record o records) r rest _ (record_goes o records r text rest f)
     (tried_none (fault_at_end r.type (sent o.kind (records ++ r ∷ []))) rest _ (fine_at_end r.type (sent o.kind (records ++ r ∷ [])) whole))

@@ -1,5 +1,5 @@
 -- What judging accepts is spelled as the format says.
-use Rattle.mig_restore.proofs.Common.{◌≡◌, ℕ, ◌≤◌, ◌<◌, ◌^◌, List, [], ◌∷◌, ◌++◌, length, Bool, true, false, cond, nat_le, not, Option, Some, None, refl, sym, ap, subst, ◌∙◌, append_assoc, ltb-false, leb-false, Ok, arith, length-append, le_refl, not-false, none-some, length-map, padding_len, le32, be32, Reaches, here, next, Judged, ◌>>=◌, part, tried, placed, Passes, Faulty, both_pass, part_passes, tried_passes, same_passes, placed_passes, fault_of_marker, fault_of_image, fault_of_domain, kind_of_number, unless_faulty, IsImageHeader, IsDomainHeader, type_of_number, Cause, NotBuilt, TooManyRecords, Truncated, Place, Record, ImageHeader, DomainHeader, Kind, long_rows, length_rows, type_allows, fault_of_long, fault_of_length, IsInOrder, fault_of_type, fault_of_guest, hvm_complete, StreamRecord, is_ended, Opening, Before, opening_of, before, is_built, fault_of_built, fault_of_number, fault_of_head, fault_at_end, body_at, IsComplete, Follows, Spells, IsImage, Front, at_start, front_with, ImageOf, image_of, records_at, marker_at, version_at, kind_at, rows_fine, both_none}
+use Rattle.mig_restore.proofs.Common.{◌≡◌, ℕ, ◌≤◌, ◌<◌, ◌^◌, List, [], ◌∷◌, ◌++◌, length, Bool, true, false, cond, nat_le, not, Option, Some, None, refl, sym, ap, subst, ◌∙◌, append_assoc, ltb-false, leb-false, Ok, arith, length-append, le_refl, not-false, none-some, length-map, padding_len, le32, be32, Reaches, here, next, Judged, ◌>>=◌, part, tried, placed, Passes, Faulty, both_pass, part_passes, tried_passes, same_passes, placed_passes, fault_of_marker, fault_of_image, fault_of_domain, kind_of_number, unless_faulty, IsImageHeader, IsDomainHeader, type_of_number, Cause, TooManyRecords, Truncated, Place, Record, ImageHeader, DomainHeader, Kind, Pv, Hvm, GuestOf, long_rows, length_rows, type_allows, fault_of_long, fault_of_length, IsInOrder, fault_of_type, fault_of_guest, hvm_complete, hvm_faultless, pv_complete, pv_faultless, StreamRecord, is_ended, Opening, Before, opening_of, before, fault_of_number, fault_of_head, fault_at_end, body_at, IsComplete, Follows, Spells, IsImage, Front, at_start, front_with, ImageOf, image_of, records_at, marker_at, version_at, kind_at, rows_fine, both_none}
 use Rattle.mig_bytes.proofs.Walks.{walk_end_is, walk_end_ends, walk_end_reached}
 use Rattle.mig_headers.proofs.HeaderLaws.{image_is_spelled, domain_is_spelled}
 use Rattle.mig_order.proofs.OrderLaw.{faultless_is_in_order}
@@ -9,13 +9,12 @@ use Rattle.mig_restore.specs.Spelled.{Spells as spells}
 use Rattle.mig_restore.specs.Stream.{one_more, front_of, ended_at, image_at, opening_at}
 use Rattle.mig_restore.proofs.Parts.{behind_head, behind_body, head_stage, asks, behind_record, taken, header_passes}
 use Rattle.mig_restore.proofs.Meaning.{sent_kind}
-use Rattle.mig_restore.proofs.Bodies.{body_says, ends_hvm}
+use Rattle.mig_restore.proofs.Bodies.{body_says}
 
 -- ---- a head
 
 -- what fields without fault say
 pub record FineFields (b : Before) (type len : ℕ) : Type 0 where
-  pub built : is_built b.opening.kind type ≡ true
   pub small : len ≤ 2 ^ 27
   pub ordered : IsInOrder b.opening.version b.opening.kind b.types type
   pub allowed : type_allows (type_of_number type) len ≡ true
@@ -25,12 +24,10 @@ pub fields_fine : (b : Before) (type len : ℕ) → fault_of_fields b type len �
 unfolding fault_of_fields
 fields_fine b type len fine =
     let o = b.opening in
-    let a = both_none (fault_of_built o.kind type) _ fine in
-    let l = both_none (fault_of_long len) _ a.1 in
+    let l = both_none (fault_of_long len) _ fine in
     let c = both_none (fault_of_type o.version o.kind b.types type) _ l.1 in
     let d = both_none (fault_of_length type len) (fault_of_number b.types) c.1 in
     record {
-      built = not-false _ (rows_fine ((not (is_built o.kind type), NotBuilt type) ∷ []) a.0).0;
       small = ltb-false (2 ^ 27) len (rows_fine (long_rows len) l.0).0;
       ordered = (faultless_is_in_order o.version o.kind b.types type).0 c.0;
       allowed = not-false _ (rows_fine (length_rows type len) d.0).0;
@@ -39,12 +36,18 @@ fields_fine b type len fine =
 
 -- ---- the guest at END
 
-complete_at_end : (o : Opening) (records : List StreamRecord) (type : ℕ) → is_built o.kind type ≡ true → fault_at_end type (sent o.kind records) ≡ None → type ≡ 0 → IsComplete (sent o.kind records)
-complete_at_end o records type built fine is =
+is_complete : (kind : Kind) (g : GuestOf) → g.kind ≡ kind → fault_of_guest g ≡ None → IsComplete kind g
+is_complete Hvm g is fine = hvm_complete g is fine
+is_complete Pv g is fine = pv_complete g is fine
+
+pub complete_faultless : (kind : Kind) (g : GuestOf) → g.kind ≡ kind → IsComplete kind g → fault_of_guest g ≡ None
+complete_faultless Hvm g is complete = hvm_faultless g is complete.0 complete.1
+complete_faultless Pv g is complete = pv_faultless g is complete
+
+complete_at_end : (o : Opening) (records : List StreamRecord) (type : ℕ) → fault_at_end type (sent o.kind records) ≡ None → type ≡ 0 → IsComplete o.kind (sent o.kind records)
+complete_at_end o records type fine is =
     let g = sent o.kind records in
-    let at_end : fault_of_guest g ≡ None = subst (λ t. fault_at_end t g ≡ None) is fine in
-    let words = hvm_complete g (sent_kind o.kind records ∙ ends_hvm o.kind type is built) at_end in
-    record { context = words.0; few = words.1 }
+    is_complete o.kind g (sent_kind o.kind records) (subst (λ t. fault_at_end t g ≡ None) is fine)
 
 -- ---- a whole record
 
@@ -77,7 +80,7 @@ found o records i r rest going h =
     let d = both_pass (part Truncated (padding_len len) c.mid) (λ padding. Passes (record { type = type; content = c.x }) padding.1) n.x n.mid c.second in
     let q = part_passes Truncated _ c.mid d.x d.mid d.first in
     let f = same_passes _ _ _ _ d.second in
-    let s = body_says o.version o.kind b.top b.types type len a.mid c.x c.mid fine.built fine.ordered fine.allowed c.first in
+    let s = body_says o.version o.kind b.top b.types type len a.mid c.x c.mid fine.ordered fine.allowed c.first in
     let is_record : record { type = type; content = c.x } ≡ n.x = f.0 in
     found_same o records i rest (record { type = type; content = c.x }) r (is_record ∙ same.0) (record {
       text = head ++ (s.body ++ d.x);
@@ -87,11 +90,10 @@ found o records i r rest going h =
         is = record { head = head; padding = d.x; whole = refl {a = head ++ (s.body ++ d.x)}; head_len = a.size; type_is = refl {a = type}; len_is = sym s.body_len; padded = q.1 ∙ ap padding_len (sym s.body_len) };
         says = s.says;
         small = subst (λ n. n ≤ 2 ^ 27) (sym s.body_len) fine.small;
-        built = fine.built;
         ordered = fine.ordered;
         few = subst (λ n. n < 2 ^ 28) (length-map records (λ (x : StreamRecord). x.type)) fine.few;
         not_ended = going;
-        complete = complete_at_end o (records ++ record { type = type; content = c.x } ∷ []) type fine.built
+        complete = complete_at_end o (records ++ record { type = type; content = c.x } ∷ []) type
             (subst (λ (x : StreamRecord). fault_at_end x.type (sent o.kind (records ++ x ∷ [])) ≡ None) (sym is_record) whole.0);
       };
     })

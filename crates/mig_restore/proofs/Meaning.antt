@@ -1,12 +1,18 @@
 -- What one more entry, or one more record, means; and that of each frame number and of each part the last decides.
-use Rattle.mig_restore.proofs.Common.{◌≡◌, ℕ, List, [], ◌∷◌, ◌++◌, Bool, true, false, cond, not, nat_eq, Option, Some, None, refl, sym, ap, ◌∙◌, arith, option_and_then, unwrap_or, fold, common_steps, Kind, Hvm, PageType, GuestOf, part_cmp, Part, PartMap, put_part, put_parts, replace_code, word_pfn, type_in_word, FrameEntry, StreamRecord, Content, hvm_blank, meant_type, put_entry, put_entries, put_content, put_record, empty_guest, entries_in, entries_of, last_entry, frame_in, same_key, last_bytes, parts_say_of_part, policy_says_of_part, says_of_part, last_said}
+use Rattle.mig_restore.proofs.Common.{◌≡◌, ℕ, List, [], ◌∷◌, ◌++◌, Bool, true, false, cond, not, nat_eq, Option, Some, None, refl, sym, ap, ◌∙◌, arith, option_and_then, unwrap_or, fold, common_steps, Kind, PageType, GuestOf, part_cmp, Part, PartMap, put_part, put_parts, replace_code, leb-false, le_refl, nat_le, ◌≤◌, ◌≢◌, ◌⊎◌, inl, inr, subst, All, p2m_key, set_p2m, word_pfn, type_in_word, FrameEntry, StreamRecord, Content, Nothing, Frames, Sets, Lists, code_number, ends_in, ends_of, meant_type, put_entry, put_entries, put_content, put_record, empty_guest, entries_in, entries_of, last_entry, frame_in, same_key, last_bytes, parts_say_of_part, policy_says_of_part, says_of_part, last_said}
+use Rattle.std.proofs.lemmas.Bool.{leb-true}
+use Rattle.std.proofs.lemmas.List.Elements.{All-nil, All-cons, All-append, Contains-append_left, Contains-append_right}
+use Rattle.std.specs.List.{Contains}
 use Rattle.std.specs.Option.{option_or}
 use Rattle.std.specs.Ordering.{nat_cmp, eq_by_cmp}
 use Rattle.std.specs.Cmp.{nat_cmp_total}
 use Rattle.std.specs.FinMap as fin
 use Rattle.std.proofs.lemmas.List.Sums.{fold-append}
 use Rattle.mig_guest.specs.declared.part_key.PartKey.{PartKey}
+use Rattle.mig_bodies.specs.PvBodies.{listed_over, greater}
+use Rattle.mig_guest.specs.Formed.{is_policy}
 use Rattle.mig_guest.specs.Frames.{FrameMap, FrameOf, framed}
+use Rattle.mig_guest.proofs.KeyedMaps.{tied}
 use Rattle.mig_guest.proofs.PartOrder.{part_total, part_exact}
 use Rattle.mig_pvtables.specs.Blank.{blank}
 use Rattle.mig_restore.specs.Mean.{sent, mean}
@@ -41,10 +47,10 @@ pub mean_kind : (kind : Kind) (rs : List StreamRecord) → (mean kind rs).kind �
 unfolding mean
 mean_kind kind rs = grind (arith, common_steps, sent_kind kind rs)
 
--- what is sent of an HVM guest is meant
-pub meant_as_sent : (g : GuestOf) (kind : Kind) (rs : List StreamRecord) → g ≡ sent kind rs → g.kind ≡ Hvm → g ≡ mean kind rs
+-- the blank form of what is sent is meant
+pub meant_as_sent : (g : GuestOf) (kind : Kind) (rs : List StreamRecord) → g ≡ sent kind rs → blank g ≡ mean kind rs
 unfolding mean
-meant_as_sent g kind rs is hvm = sym (hvm_blank g hvm) ∙ ap blank is
+meant_as_sent g kind rs is = ap blank is
 
 -- ---- of each frame number the last entry decides
 
@@ -96,14 +102,69 @@ sets_said : (m : PartMap) (b : Bool) (code : ℕ) (ps : List Part) (q : PartKey)
 sets_said m true code ps q = replaced m code ps q
 sets_said m false code ps q = grind (arith, common_steps, parts_got m ps q)
 
-pub said : (g : GuestOf) (c : Content) (q : PartKey) → fin.get (put_content g c).parts q ≡ unwrap_or (says_of_part q c) (fin.get g.parts q)
-said g c q = grind (arith, common_steps, sets_said g.parts)
+-- a list of P2M frames says nothing of other parts
+not_list : (g : GuestOf) (last : ℕ) (frames : List ℕ) (q : PartKey) → q ≢ p2m_key → fin.get (set_p2m last frames g).parts q ≡ fin.get g.parts q
+not_list g last frames q other =
+    fin.get-insert part_total g.parts p2m_key (listed_over frames (fin.get g.parts p2m_key)) q ∙ by (eq_by_cmp part_cmp q p2m_key) refl
+  where
+    by : (b : Bool) → eq_by_cmp part_cmp q p2m_key ≡ b → cond b (Some (listed_over frames (fin.get g.parts p2m_key))) (fin.get g.parts q) ≡ fin.get g.parts q
+    by true is = absurd (other (part_exact q p2m_key (tied (part_cmp q p2m_key) is)))
+    by false is = refl
 
-folded_parts : (g : GuestOf) (rs : List StreamRecord) (q : PartKey) → fin.get (fold put_record g rs).parts q ≡ unwrap_or (last_said q rs) (fin.get g.parts q)
-folded_parts g [] q = refl
-folded_parts g (r ∷ rs) q = grind (arith, common_steps, folded_parts (put_record g r) rs q, said g r.content q)
+pub said : (g : GuestOf) (c : Content) (q : PartKey) → ((last : ℕ) (frames : List ℕ) → c ≡ Lists last frames → q ≢ p2m_key) → fin.get (put_content g c).parts q ≡ unwrap_or (says_of_part q c) (fin.get g.parts q)
+said g Nothing q other = refl
+said g (Frames es) q other = refl
+said g (Sets code ps) q other = sets_said g.parts (is_policy (code_number code)) (code_number code) ps q
+said g (Lists last frames) q other = not_list g last frames q (other last frames refl)
 
-pub last_content_is : (kind : Kind) (records : List StreamRecord) (q : PartKey) → fin.get (sent kind records).parts q ≡ unwrap_or (last_said q records) None
+folded_parts : (g : GuestOf) (rs : List StreamRecord) (q : PartKey) → q ≢ p2m_key → fin.get (fold put_record g rs).parts q ≡ unwrap_or (last_said q rs) (fin.get g.parts q)
+folded_parts g [] q other = refl
+folded_parts g (r ∷ rs) q other =
+    folded_parts (put_record g r) rs q other ∙ ap (unwrap_or (last_said q rs)) (said g r.content q (λ _ _ _. other)) ∙ twice (last_said q rs) (says_of_part q r.content) (fin.get g.parts q)
+  where
+    twice : (a b : Option (Option (List ℕ))) (o : Option (List ℕ)) → unwrap_or a (unwrap_or b o) ≡ unwrap_or (option_or a b) o
+    twice None b o = refl
+    twice (Some x) b o = refl
+
+pub last_content_is : (kind : Kind) (records : List StreamRecord) (q : PartKey) → q ≢ p2m_key → fin.get (sent kind records).parts q ≡ unwrap_or (last_said q records) None
 unfolding sent
-last_content_is kind records q =
-    folded_parts (empty_guest kind) records q ∙ ap (unwrap_or (last_said q records)) (fin.get-empty part_cmp q)
+last_content_is kind records q other =
+    folded_parts (empty_guest kind) records q other ∙ ap (unwrap_or (last_said q records)) (fin.get-empty part_cmp q)
+
+-- ---- of the ends of lists the greatest decides
+
+above : (m n : ℕ) → (m ≤ greater m n) × (n ≤ greater m n)
+above m n = by (nat_le m n) refl
+  where
+    by : (b : Bool) → nat_le m n ≡ b → (m ≤ cond b n m) × (n ≤ cond b n m)
+    by true is = (leb-true m n is, le_refl n)
+    by false is = (le_refl m, omega (arith, leb-false m n is))
+
+greater_is : (m n : ℕ) → (greater m n ≡ m) ⊎ (greater m n ≡ n)
+greater_is m n = elim (nat_le m n) as (λ b. (cond b n m ≡ m) ⊎ (cond b n m ≡ n)) [ true ↦ inr refl | false ↦ inl refl ]
+
+-- what follows adds to the ends; those of the guest before count as its top
+abbrev IsGreatestOf : ℕ → List ℕ → ℕ → Type 0
+IsGreatestOf before ends top = (before ≤ top) × All (λ last. last ≤ top) ends × ((top ≡ before) ⊎ Contains ends top)
+
+ends_here : (g : GuestOf) (c : Content) → IsGreatestOf g.top (ends_in c) (put_content g c).top
+ends_here g (Lists last frames) =
+    ((above g.top last).0, All-cons (λ n. n ≤ greater g.top last) last [] (above g.top last).1 (All-nil (λ n. n ≤ greater g.top last)), elim (greater_is g.top last) [ inl e ↦ inl e | inr e ↦ inr (0, omega arith, sym e) ])
+ends_here g Nothing = (le_refl g.top, All-nil (λ n. n ≤ g.top), inl refl)
+ends_here g (Frames es) = (le_refl g.top, All-nil (λ n. n ≤ g.top), inl refl)
+ends_here g (Sets code ps) = (le_refl g.top, All-nil (λ n. n ≤ g.top), inl refl)
+
+ends_join : (a b c : ℕ) (xs ys : List ℕ) → IsGreatestOf a xs b → IsGreatestOf b ys c → IsGreatestOf a (xs ++ ys) c
+ends_join a b c xs ys (low, all, is) (low', all', is') = (
+  omega (arith, low, low'),
+  All-append (λ n. n ≤ c) xs ys (λ k d lt. omega (arith, all k d lt, low')) all',
+  elim is' [ inr there ↦ inr (Contains-append_right xs ys c there) | inl e ↦ elim is [ inl f ↦ inl (e ∙ f) | inr there ↦ inr (subst (Contains (xs ++ ys)) (sym e) (Contains-append_left xs ys b there)) ] ],
+)
+
+folded_ends : (g : GuestOf) (rs : List StreamRecord) → IsGreatestOf g.top (ends_of rs) (fold put_record g rs).top
+folded_ends g [] = (le_refl g.top, All-nil (λ n. n ≤ g.top), inl refl)
+folded_ends g (r ∷ rs) = ends_join g.top (put_record g r).top (fold put_record (put_record g r) rs).top (ends_in r.content) (ends_of rs) (ends_here g r.content) (folded_ends (put_record g r) rs)
+
+pub greatest_end_is : (kind : Kind) (records : List StreamRecord) → All (λ last. last ≤ (sent kind records).top) (ends_of records) × (((sent kind records).top ≡ 0) ⊎ Contains (ends_of records) (sent kind records).top)
+unfolding sent
+greatest_end_is kind records = let (low, all, is) = folded_ends (empty_guest kind) records in (all, is)

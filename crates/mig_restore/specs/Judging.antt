@@ -1,19 +1,19 @@
 -- Judging a record: its parts in their order, and the causes that are tried in each, in the order of their numbers.
-use Rattle.std.specs.Prelude.{ℕ, ◌*◌, ◌^◌, List, [], ◌∷◌, ◌++◌, length, Bool, Option, Some, None, ◌==◌, ◌&&◌, not, nat_le, false, if◌then◌else◌}
+use Rattle.std.specs.Prelude.{ℕ, ◌+◌, ◌*◌, ◌^◌, List, [], ◌∷◌, ◌++◌, length, drop, Option, Some, None, ◌==◌, not, nat_le, if◌then◌else◌}
 use Rattle.std.specs.Option.{option_or}
 use Rattle.mig_bytes.specs.Bytes.{padding_len}
 use Rattle.mig_bytes.specs.Fields.{le32}
 use Rattle.mig_bytes.specs.Judged.{Judged, ◌>>=◌, part, tried, each}
 use Rattle.mig_bytes.specs.Judged.Judged.{Passes}
-use Rattle.mig_headers.specs.RecordTypes.{record_row_of, pv, type_number, type_of_number, is_optional}
+use Rattle.mig_headers.specs.RecordTypes.{type_number, type_of_number, is_optional}
 use Rattle.mig_headers.specs.Rows.{first_fault}
 use Rattle.mig_headers.specs.declared.kind.Kind.{Kind}
 use Rattle.mig_headers.specs.declared.record_type.RecordType.{RecordType}
-use Rattle.mig_headers.specs.declared.record_type.RecordType.TheVariants.{PageData}
+use Rattle.mig_headers.specs.declared.record_type.RecordType.TheVariants.{PageData, X86PvInfo, X86PvP2mFrames}
 use Rattle.mig_headers.specs.declared.fault.Cause.{Cause}
-use Rattle.mig_headers.specs.declared.fault.Cause.TheVariants.{NotBuilt, BadLength, TooManyRecords, Truncated}
+use Rattle.mig_headers.specs.declared.fault.Cause.TheVariants.{BadLength, TooManyRecords, Truncated}
 use Rattle.mig_pagetypes.specs.declared.page_type.PageType.{PageType}
-use Rattle.mig_pagetypes.specs.PageTypes.{type_of, type_or_none}
+use Rattle.mig_pagetypes.specs.PageTypes.{type_of, type_or_none, level_of}
 use Rattle.mig_pagetypes.specs.FrameWords.{word_type, word_pfn, word_has_data}
 use Rattle.mig_guest.specs.Guests.{GuestOf}
 use Rattle.mig_records.specs.Faults.{fault_of_long, fault_of_length, fault_of_count, fault_of_words}
@@ -21,11 +21,13 @@ use Rattle.mig_records.specs.Words.{words, data_len_of}
 use Rattle.mig_order.specs.Order.{fault_of_type}
 use Rattle.mig_guest.specs.declared.part_code.PartCode.{PartCode}
 use Rattle.mig_guest.specs.PartCodes.{code_of_number}
+use Rattle.mig_bodies.specs.PvBodies.{fault_of_pv_info, fault_of_p2m}
 use Rattle.mig_bodies.specs.Shapes.{fault_of_body, parts_of_body}
 use Rattle.mig_pvtables.specs.Faults.{fault_of_guest}
-use Rattle.mig_restore.specs.Mean.{sent}
+use Rattle.mig_pvtables.specs.Tables.{fault_of_page_table}
+use Rattle.mig_restore.specs.Mean.{sent, meant_type}
 use Rattle.mig_restore.specs.Record.{FrameEntry, StreamRecord, Content, types_of}
-use Rattle.mig_restore.specs.Record.Content.{Nothing, Frames, Sets}
+use Rattle.mig_restore.specs.Record.Content.{Nothing, Frames, Sets, Lists}
 
 -- what the headers say
 pub record Opening : Type 0 where
@@ -47,17 +49,6 @@ before o records = record { opening = o; types = types_of records; top = (sent o
 
 -- ---- the head
 
--- whether records of this type are read at all in a stream of this kind: so far none of the types of a PV stream is
-abbrev pub is_supported_type : Option RecordType → Bool
-is_supported_type None = false
-is_supported_type (Some t) = (record_row_of t).supported
-
-abbrev pub is_built : Kind → ℕ → Bool
-is_built kind type = not (pv kind && is_supported_type (type_of_number type))
-
-abbrev pub fault_of_built : Kind → ℕ → Option Cause
-fault_of_built kind type = first_fault ((not (is_built kind type), NotBuilt type) ∷ [])
-
 -- the most records of an image
 abbrev pub most_records : ℕ
 most_records = 2 ^ 28
@@ -68,10 +59,9 @@ fault_of_number types = first_fault ((nat_le most_records (length types), TooMan
 -- what is wrong with a head of this type and length
 unfoldable pub fault_of_fields : Before → ℕ → ℕ → Option Cause
 fault_of_fields b type len =
-    option_or (fault_of_built b.opening.kind type)
-    (option_or (fault_of_long len)
+    option_or (fault_of_long len)
     (option_or (fault_of_type b.opening.version b.opening.kind b.types type)
-    (option_or (fault_of_length type len) (fault_of_number b.types))))
+    (option_or (fault_of_length type len) (fault_of_number b.types)))
 
 abbrev pub fault_of_head : Before → List ℕ → Option Cause
 fault_of_head b head = fault_of_fields b (le32 head 0) (le32 head 4)
@@ -84,12 +74,27 @@ head_at b input = do
 
 -- ---- bodies
 
+-- a whole body, the cause that stands in it, and what it says
+abbrev pub said_at : (List ℕ → Option Cause) → (List ℕ → Content) → ℕ → List ℕ → Judged Cause Content
+said_at fault says len input = do
+  body ← part Truncated len input
+  _ ← tried (fault body.0) body.1
+  Passes (says body.0) body.1
+
 -- a body that sets parts of this code
 abbrev pub sets_at : PartCode → ℕ → List ℕ → Judged Cause Content
-sets_at code len input = do
-  body ← part Truncated len input
-  _ ← tried (fault_of_body code body.0) body.1
-  Passes (Sets code (parts_of_body code body.0)) body.1
+sets_at code len input = said_at (fault_of_body code) (λ body. Sets code (parts_of_body code body)) len input
+
+-- the body of an X86_PV_INFO, of which nothing is kept
+abbrev pub info_at : ℕ → List ℕ → Judged Cause Content
+info_at len input = said_at fault_of_pv_info (λ _. Nothing) len input
+
+-- the body of an X86_PV_P2M_FRAMES: its last frame number, and the PFNs of the P2M frames
+abbrev pub lists_of : List ℕ → Content
+lists_of body = Lists (le32 body 4) (drop 8 body)
+
+abbrev pub p2m_at : ℕ → List ℕ → Judged Cause Content
+p2m_at len input = said_at fault_of_p2m lists_of len input
 
 -- a body without a cause, of which this is said
 abbrev pub plain_at : (List ℕ → Content) → ℕ → List ℕ → Judged Cause Content
@@ -111,15 +116,30 @@ words_at n input = do
   bytes ← part Truncated (8 * n) input
   Passes (words n bytes.0) bytes.1
 
-abbrev pub page_at : ℕ → List ℕ → Judged Cause (Option (List ℕ))
-page_at w input = if word_has_data w then (do
+-- the words, each with its place in the record, from this one on
+abbrev pub with_places : ℕ → List ℕ → List (ℕ × ℕ)
+with_places place [] = []
+with_places place (w ∷ ws) = (place, w) ∷ with_places (place + 1) ws
+
+-- what is wrong with a page at this place of its record, where it is a table of a level
+abbrev pub fault_of_level : ℕ → ℕ → Option ℕ → List ℕ → Option Cause
+fault_of_level top place None page = None
+fault_of_level top place (Some level) page = fault_of_page_table place top level page
+
+-- what is wrong with the page of a word at its place: in a PV stream that of a table is judged
+abbrev pub fault_of_page : Kind → ℕ → ℕ × ℕ → List ℕ → Option Cause
+fault_of_page kind top at page = fault_of_level top at.0 (level_of (meant_type kind (type_in_word at.1))) page
+
+abbrev pub page_at : Kind → ℕ → ℕ × ℕ → List ℕ → Judged Cause (Option (List ℕ))
+page_at kind top at input = if word_has_data at.1 then (do
   page ← part Truncated 4096 input
+  _ ← tried (fault_of_page kind top at page.0) page.1
   Passes (Some page.0) page.1) else Passes None input
 
-abbrev pub entry_at : ℕ → List ℕ → Judged Cause FrameEntry
-entry_at w input = do
-  page ← page_at w input
-  Passes (record { pfn = word_pfn w; type = type_in_word w; page = page.0 }) page.1
+abbrev pub entry_at : Kind → ℕ → ℕ × ℕ → List ℕ → Judged Cause FrameEntry
+entry_at kind top at input = do
+  page ← page_at kind top at input
+  Passes (record { pfn = word_pfn at.1; type = type_in_word at.1; page = page.0 }) page.1
 
 abbrev pub entries_at : Kind → ℕ → ℕ → List ℕ → Judged Cause (List FrameEntry)
 entries_at kind top len input = do
@@ -128,7 +148,7 @@ entries_at kind top len input = do
   ws ← words_at (le32 front.0 0) front.1
   _ ← tried (fault_of_words kind top ws.0) ws.1
   _ ← tried (fault_of_data len ws.0) ws.1
-  each entry_at ws.0 ws.1
+  each (entry_at kind top) (with_places 0 ws.0) ws.1
 
 abbrev pub pages_at : Kind → ℕ → ℕ → List ℕ → Judged Cause Content
 pages_at kind top len input = do
@@ -150,6 +170,8 @@ coded_at (Some code) len input = sets_at code len input
 abbrev pub typed_at : Kind → ℕ → Option RecordType → ℕ → List ℕ → Judged Cause Content
 typed_at kind top None len input = Passes Nothing input
 typed_at kind top (Some PageData) len input = pages_at kind top len input
+typed_at kind top (Some X86PvInfo) len input = info_at len input
+typed_at kind top (Some X86PvP2mFrames) len input = p2m_at len input
 typed_at kind top (Some this) len input = coded_at (code_of_type this) len input
 
 -- an optional record says nothing, whatever its body

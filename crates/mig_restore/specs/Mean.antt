@@ -1,5 +1,5 @@
 -- What records send: of each frame number its last entry; of each part its last content; of a policy its last body that
--- isn't empty. They mean the blank form of it.
+-- isn't empty; of each P2M frame the last PFN that was listed for it. They mean the blank form of it.
 use Rattle.std.specs.Prelude.{◌≡◌, ℕ, List, [], ◌∷◌, ◌++◌, Bool, Option, Some, None, fold, ◌==◌, ◌&&◌, if◌then◌else◌}
 use Rattle.std.specs.Option.{option_map, option_or}
 use Rattle.std.specs.FinMap as maps
@@ -13,11 +13,14 @@ use Rattle.mig_guest.specs.Frames.{FrameMap, FrameOf, framed}
 use Rattle.mig_guest.specs.Guests.{GuestOf}
 use Rattle.mig_guest.specs.PartCodes.{code_number}
 use Rattle.mig_guest.specs.Formed.{is_policy, IsFormed, HasNoEmulators}
+use Rattle.mig_guest.specs.PartKeys.{p2m_key}
 use Rattle.mig_guest.specs.Parts.{Part}
 use Rattle.mig_bodies.specs.Shapes.{set_parts}
+use Rattle.mig_bodies.specs.PvBodies.{set_p2m}
 use Rattle.mig_pvtables.specs.Blank.{blank}
+use Rattle.mig_pvtables.specs.P2mFrames.{listed_in}
 use Rattle.mig_restore.specs.Record.{FrameEntry, StreamRecord, Content}
-use Rattle.mig_restore.specs.Record.Content.{Nothing, Frames, Sets}
+use Rattle.mig_restore.specs.Record.Content.{Nothing, Frames, Sets, Lists}
 
 -- the type that a frame has in a guest of this kind: in an HVM guest every type with data is NOTAB
 abbrev pub meant_type : Kind → PageType → PageType
@@ -35,6 +38,7 @@ abbrev pub put_content : GuestOf → Content → GuestOf
 put_content g Nothing = g
 put_content g (Frames es) = record { kind = g.kind; top = g.top; frames = put_entries g.kind g.frames es; parts = g.parts }
 put_content g (Sets code ps) = record { kind = g.kind; top = g.top; frames = g.frames; parts = set_parts code g.parts ps }
+put_content g (Lists last frames) = set_p2m last frames g
 
 abbrev pub put_record : GuestOf → StreamRecord → GuestOf
 put_record g r = put_content g r.content
@@ -57,6 +61,7 @@ abbrev pub entries_in : Content → List FrameEntry
 entries_in Nothing = []
 entries_in (Frames es) = es
 entries_in (Sets code ps) = []
+entries_in (Lists last frames) = []
 
 -- all entries, in stream order
 abbrev pub entries_of : List StreamRecord → List FrameEntry
@@ -95,22 +100,48 @@ abbrev pub policy_says_of_part : PartKey → ℕ → List Part → Option (Optio
 policy_says_of_part q code [] = None
 policy_says_of_part q code (p ∷ ps) = option_or (parts_say_of_part q (p ∷ ps)) (if q.code == code then Some None else None)
 
--- what a content says of a part
+-- what a content says of a part other than the list of P2M frames
 abbrev pub says_of_part : PartKey → Content → Option (Option (List ℕ))
 says_of_part q Nothing = None
 says_of_part q (Frames es) = None
 says_of_part q (Sets code ps) = if is_policy (code_number code) then policy_says_of_part q (code_number code) ps else parts_say_of_part q ps
+says_of_part q (Lists last frames) = None
 
 -- the last content that says something of a part
 abbrev pub last_said : PartKey → List StreamRecord → Option (Option (List ℕ))
 last_said q [] = None
 last_said q (r ∷ rs) = option_or (last_said q rs) (says_of_part q r.content)
 
+-- ---- the P2M frames in the words of the format
+
+-- the PFN that a content lists at this index
+abbrev pub lists_at : ℕ → Content → Option ℕ
+lists_at k (Lists last frames) = listed_in (Some frames) k
+lists_at k _ = None
+
+-- the last PFN that is listed at this index
+abbrev pub last_listed : ℕ → List StreamRecord → Option ℕ
+last_listed k [] = None
+last_listed k (r ∷ rs) = option_or (last_listed k rs) (lists_at k r.content)
+
+-- the last frame number of each list, in stream order
+abbrev pub ends_in : Content → List ℕ
+ends_in (Lists last frames) = last ∷ []
+ends_in _ = []
+
+abbrev pub ends_of : List StreamRecord → List ℕ
+ends_of [] = []
+ends_of (r ∷ rs) = ends_in r.content ++ ends_of rs
+
 -- ---- what reading keeps of a guest, whatever records come
 
--- reading leads from one guest to another: the kind and the top stay, an HVM guest stays well formed, and no emulator part comes
+-- a guest on its way: well formed, without emulator parts, and with top 0 before any P2M frames are listed
+pub record IsBegun (g : GuestOf) : Type 0 where
+  pub formed : IsFormed g
+  pub plain : HasNoEmulators g.parts
+  pub start : maps.get g.parts p2m_key ≡ None → g.top ≡ 0
+
+-- reading leads from one guest to another: the kind stays, and a guest that is on its way stays so
 pub record Grows (g h : GuestOf) : Type 0 where
   pub kind : h.kind ≡ g.kind
-  pub top : h.top ≡ g.top
-  pub kept : g.kind ≡ Hvm → IsFormed g → IsFormed h
-  pub plain : HasNoEmulators g.parts → HasNoEmulators h.parts
+  pub kept : IsBegun g → IsBegun h

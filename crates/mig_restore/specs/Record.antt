@@ -12,11 +12,12 @@ pub record FrameEntry : Type 0 where
   pub type : PageType
   pub page : Option (List ℕ)
 
--- what a record says: nothing; frames; or parts of one code, of each key the last
+-- what a record says: nothing; frames; parts of one code, of each key the last; or the P2M frames of all frame numbers up to one
 pub data Content : Type 0 where
   Nothing : Content
   Frames : List FrameEntry → Content
   Sets : PartCode → List Part → Content
+  Lists : ℕ → List ℕ → Content
 
 pub record StreamRecord : Type 0 where
   pub type : ℕ

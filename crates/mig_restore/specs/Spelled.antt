@@ -5,6 +5,7 @@ use Rattle.std.specs.FinMap as maps
 use Rattle.mig_bytes.specs.Fields.{le32}
 use Rattle.mig_headers.specs.Headers.{IsImageHeader, IsDomainHeader}
 use Rattle.mig_headers.specs.declared.kind.Kind.{Kind}
+use Rattle.mig_headers.specs.declared.kind.Kind.TheVariants.{Pv, Hvm}
 use Rattle.mig_pagetypes.specs.FrameWords.{word_pfn, word_has_data}
 use Rattle.mig_guest.specs.Guests.{GuestOf}
 use Rattle.mig_guest.specs.PartKeys.{context_key}
@@ -14,13 +15,16 @@ use Rattle.mig_order.specs.Order.{IsInOrder}
 use Rattle.mig_headers.specs.RecordTypes.{record_row_of, type_number}
 use Rattle.mig_headers.specs.declared.record_type.RecordType.{RecordType}
 use Rattle.mig_guest.specs.declared.part_code.PartCode.{PartCode}
+use Rattle.mig_bodies.specs.PvBodies.{IsPvInfo, IsP2m}
 use Rattle.mig_bodies.specs.Shapes.{IsBody}
+use Rattle.mig_pvtables.specs.WholePv.{IsCompletePv}
 use Rattle.mig_guest.specs.Frames.{IsFew}
 use Rattle.mig_guest.specs.Parts.{Part}
-use Rattle.mig_restore.specs.Judging.{Opening, most_records, is_built, type_in_word, code_of_type}
-use Rattle.mig_restore.specs.Mean.{sent, mean}
+use Rattle.mig_guest.specs.Tables.{EachEntry, IsWithin}
+use Rattle.mig_restore.specs.Judging.{Opening, most_records, type_in_word, code_of_type}
+use Rattle.mig_restore.specs.Mean.{sent, mean, meant_type}
 use Rattle.mig_restore.specs.Record.{StreamRecord, FrameEntry, Content, types_of, is_ended}
-use Rattle.mig_restore.specs.Record.Content.{Nothing, Frames, Sets}
+use Rattle.mig_restore.specs.Record.Content.{Nothing, Frames, Sets, Lists}
 
 -- ---- PAGE_DATA
 
@@ -29,16 +33,18 @@ abbrev pub IsPage : Bool → List ℕ → Option (List ℕ) → Type 0
 IsPage true bytes page = (length bytes ≡ 4096) × (page ≡ Some bytes)
 IsPage false bytes page = (bytes ≡ []) × (page ≡ None)
 
--- the entry of a word, with these bytes
-pub record IsEntry (word : ℕ) (bytes : List ℕ) (e : FrameEntry) : Type 0 where
+-- the entry of a word, with these bytes; a table of a PV guest says no superpage, and no frame above top
+pub record IsEntry (kind : Kind) (top word : ℕ) (bytes : List ℕ) (e : FrameEntry) : Type 0 where
   pub pfn : e.pfn ≡ word_pfn word
   pub type : e.type ≡ type_in_word word
   pub page : IsPage (word_has_data word) bytes e.page
+  pub within : EachEntry (IsWithin top) (record { type = meant_type kind e.type; page = e.page })
 
 -- the entries of these words, in order
-abbrev pub AreEntries : List ℕ → List ℕ → List FrameEntry → Type 0
-AreEntries [] bytes es = (bytes ≡ []) × (es ≡ [])
-AreEntries (w ∷ ws) bytes es = (page : List ℕ) × (rest : List ℕ) × (e : FrameEntry) × (others : List FrameEntry) × (bytes ≡ page ++ rest) × (es ≡ e ∷ others) × IsEntry w page e × AreEntries ws rest others
+abbrev pub AreEntries : Kind → ℕ → List ℕ → List ℕ → List FrameEntry → Type 0
+AreEntries kind top [] bytes es = (bytes ≡ []) × (es ≡ [])
+AreEntries kind top (w ∷ ws) bytes es =
+    (page : List ℕ) × (rest : List ℕ) × (e : FrameEntry) × (others : List FrameEntry) × (bytes ≡ page ++ rest) × (es ≡ e ∷ others) × IsEntry kind top w page e × AreEntries kind top ws rest others
 
 -- a word of a type that isn't reserved, whose frame lies inside
 abbrev pub IsGoodWord : Kind → ℕ → ℕ → Type 0
@@ -54,7 +60,7 @@ pub record IsBatch (kind : Kind) (top : ℕ) (body : List ℕ) (es : List FrameE
   pub some : 0 < le32 front 0
   pub words_len : length words_bytes ≡ 8 * le32 front 0
   pub good : All (IsGoodWord kind top) (words (le32 front 0) words_bytes)
-  pub entries : AreEntries (words (le32 front 0) words_bytes) pages_bytes es
+  pub entries : AreEntries kind top (words (le32 front 0) words_bytes) pages_bytes es
 
 -- ---- records
 
@@ -64,12 +70,14 @@ pub data HasContent (kind : Kind) (top : ℕ) : ℕ → List ℕ → Content →
   ends : HasContent kind top 0 [] Nothing
   pages : (body : List ℕ) (es : List FrameEntry) → IsBatch kind top body es → HasContent kind top 1 body (Frames es)
   sets : (this : RecordType) (code : PartCode) (body : List ℕ) (ps : List Part) → code_of_type this ≡ Some code → (record_row_of this).allows (length body) ≡ true → IsBody code body ps → HasContent kind top (type_number this) body (Sets code ps)
+  info : (body : List ℕ) → length body ≡ 8 → IsPvInfo body → HasContent kind top 2 body Nothing
+  p2m_frames : (last : ℕ) (frames body : List ℕ) → IsP2m last frames body → HasContent kind top 3 body (Lists last frames)
   static_end : HasContent kind top 0x10 [] Nothing
 
--- what END asks of the guest: its context, and not too many frames
-pub record IsComplete (g : GuestOf) : Type 0 where
-  pub context : IsSome (maps.get g.parts context_key)
-  pub few : IsFew g.frames
+-- what END asks of the guest: of an HVM guest its context and not too many frames, of a PV guest all that makes it whole
+abbrev pub IsComplete : Kind → GuestOf → Type 0
+IsComplete Hvm g = IsSome (maps.get g.parts context_key) × IsFew g.frames
+IsComplete Pv g = IsCompletePv g
 
 -- a record that may stand behind these records
 pub record Follows (o : Opening) (records : List StreamRecord) (r : StreamRecord) (bytes : List ℕ) : Type 0 where
@@ -77,11 +85,10 @@ pub record Follows (o : Opening) (records : List StreamRecord) (r : StreamRecord
   pub is : IsRecord r.type body bytes
   pub says : HasContent o.kind (sent o.kind records).top r.type body r.content
   pub small : length body ≤ 2 ^ 27
-  pub built : is_built o.kind r.type ≡ true
   pub ordered : IsInOrder o.version o.kind (types_of records) r.type
   pub few : length records < most_records
   pub not_ended : is_ended records ≡ false
-  pub complete : r.type ≡ 0 → IsComplete (sent o.kind (records ++ r ∷ []))
+  pub complete : r.type ≡ 0 → IsComplete o.kind (sent o.kind (records ++ r ∷ []))
 
 -- these records, one after another, each in its place
 pub data Spells (o : Opening) : List ℕ → List StreamRecord → Type 0 where

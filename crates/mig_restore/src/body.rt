@@ -11,18 +11,21 @@ ghost use Rattle.mig_bodies.specs.Layouts.{IsSmallKey};
 ghost use Rattle.mig_bodies.specs.Shapes.{fault_of_body, parts_of_body, set_parts, HasBodyLength};
 ghost use Rattle.mig_records.specs.Faults.{fault_of_length};
 ghost use Rattle.mig_records.specs.Words.{words as words_in};
+ghost use Rattle.mig_headers.specs.declared.kind.Kind.TheVariants.{Pv};
 ghost use Rattle.mig_pagetypes.specs.FrameWords.{word_pfn};
+ghost use Rattle.mig_pagetypes.specs.PageTypes.{level_of};
 ghost use Rattle.mig_restore.specs.Mean.{meant_type, put_entry, put_entries, put_content, Grows};
-ghost use Rattle.mig_restore.specs.Judging.{sets_at, plain_at, words_at, type_in_word, entry_at, pages_at, typed_at, body_at};
+ghost use Rattle.mig_restore.specs.Judging.{sets_at, info_at, p2m_at, plain_at, words_at, type_in_word, fault_of_level, with_places, entry_at, pages_at, typed_at, body_at};
 ghost use Rattle.mig_restore.specs.Record.Content.{Nothing};
 ghost use Rattle.mig_restore.specs.Spelled.{IsGoodWord};
 
-use mig_bodies::{body_fault, read_body};
+use mig_bodies::{body_fault, p2m_fault, pv_info_fault, read_body, read_p2m};
 use mig_bytes::{ReadFailed, Source, Stop, skip, take_long, take_part, u32_le, u64_le};
 use mig_guest::{Guest, PartCode};
 use mig_headers::{Cause, Kind, RecordType, is_optional};
 use mig_hvm::{read_context, scan_context};
 use mig_pagetypes::{PageType, decode_word};
+use mig_pvtables::check_table;
 use mig_records::{RecordHead, count_fault, data_len, words_fault};
 use std::alloc::{AllocError, Global};
 
@@ -74,6 +77,45 @@ fn take_sets<S: Source>(
         return Err(Stop::Refused(cause));
     }
     match set_parts(guest, code, &body) {
+        Ok(()) => Ok(()),
+        Err(_) => Err(Stop::Memory),
+    }
+}
+
+/// Takes the body of an X86_PV_INFO, of which nothing is kept.
+fn take_info<S: Source>(src: &mut S, len: u32) -> Result<(), Stop<Cause>>
+    requires { len ≡ 8 }
+    ensures read { Gives (λ _ c. c ≡ Nothing) (S.left src.old) (S.left src.new) (info_at len) result }
+    ensures faults { RisesOnReadFault (S.faults src.old) (S.faults src.new) result }
+    ensures takes_no_memory { ¬ IsErrOf result Memory }
+{
+    let mut body = [0; 8];
+    take_part(src, &mut body, Cause::Truncated)?;
+    match pv_info_fault(&body) {
+        Some(cause) => Err(Stop::Refused(cause)),
+        None => Ok(()),
+    }
+}
+
+/// Takes the body of an X86_PV_P2M_FRAMES, and sets the list of P2M frames.
+fn take_p2m<S: Source>(
+    alloc: Global,
+    src: &mut S,
+    len: u32,
+    guest: &mut Guest,
+) -> Result<(), Stop<Cause>>
+    requires small { len ≤ 2 ^ 27 }
+    requires front { 8 ≤ len }
+    requires kind { guest.old.kind ≡ Pv }
+    ensures read { Gives (λ _ c. guest.new ≡ put_content guest.old c) (S.left src.old) (S.left src.new) (p2m_at len) result }
+    ensures grown { OnOk result (Grows guest.old guest.new) }
+    ensures faults { RisesOnReadFault (S.faults src.old) (S.faults src.new) result }
+{
+    let body = take_long(alloc, src, len, Cause::Truncated)?;
+    if let Some(cause) = p2m_fault(&body) {
+        return Err(Stop::Refused(cause));
+    }
+    match read_p2m(guest, &body) {
         Ok(()) => Ok(()),
         Err(_) => Err(Stop::Memory),
     }
@@ -154,12 +196,27 @@ fn meant(kind: Kind, in_stream: PageType) -> PageType
     }
 }
 
-/// Takes the page that goes with a word, where its type has data, and sets the frame.
-fn take_entry<S: Source>(src: &mut S, word: u64, guest: &mut Guest) -> Result<(), Stop<Cause>>
+/// What is wrong with a page at this place of its record, where its type is a table's.
+fn page_fault(kind: PageType, page: &[u8; 4096], place: u32, top: u64) -> Option<Cause>
+    ensures { result ≡ fault_of_level top place (level_of kind) page.now }
+{
+    let level = kind.table_level()?;
+    check_table(page, level, place, top)
+}
+
+/// Takes the page that goes with the word at this place of its record, where its type has data, and sets the frame. A
+/// table of a PV guest is judged before.
+fn take_entry<S: Source>(
+    src: &mut S,
+    place: u32,
+    word: u64,
+    guest: &mut Guest,
+) -> Result<(), Stop<Cause>>
     requires { IsGoodWord guest.old.kind guest.old.top word }
     ensures read { Gives (λ _ e. guest.new ≡ record guest.old { frames = put_entry guest.old.kind guest.old.frames e })
-        (S.left src.old) (S.left src.new) (entry_at word) result }
+        (S.left src.old) (S.left src.new) (entry_at guest.old.kind guest.old.top (place, word)) result }
     ensures grown { OnOk result (Grows guest.old guest.new) }
+    ensures top { OnOk result (guest.new.top ≡ guest.old.top) }
     ensures faults { RisesOnReadFault (S.faults src.old) (S.faults src.new) result }
 {
     let in_stream = type_in(word);
@@ -172,6 +229,9 @@ fn take_entry<S: Source>(src: &mut S, word: u64, guest: &mut Guest) -> Result<()
     }
     let mut page = [0; 4096];
     take_part(src, &mut page, Cause::Truncated)?;
+    if let Some(cause) = page_fault(kind, &page, place, guest.top()) {
+        return Err(Stop::Refused(cause));
+    }
     match guest.set_frame(pfn_in(word), kind, Some(&page)) {
         Ok(()) => Ok(()),
         Err(_) => Err(Stop::Memory),
@@ -180,14 +240,15 @@ fn take_entry<S: Source>(src: &mut S, word: u64, guest: &mut Guest) -> Result<()
 
 /// Takes a page for each word that has one.
 fn take_entries<S: Source>(src: &mut S, list: &[u64], guest: &mut Guest) -> Result<(), Stop<Cause>>
-    requires { All (IsGoodWord guest.old.kind guest.old.top) list.now }
+    requires good { All (IsGoodWord guest.old.kind guest.old.top) list.now }
+    requires few { length list.now ≤ 2 ^ 24 }
     ensures read { Gives (λ _ es. guest.new ≡ record guest.old { frames = put_entries guest.old.kind guest.old.frames es })
-        (S.left src.old) (S.left src.new) (each entry_at list.now) result }
+        (S.left src.old) (S.left src.new) (each (entry_at guest.old.kind guest.old.top) (with_places 0 list.now)) result }
     ensures grown { OnOk result (Grows guest.old guest.new) }
     ensures faults { RisesOnReadFault (S.faults src.old) (S.faults src.new) result }
 {
-    for word in list {
-        take_entry(src, *word, guest)?;
+    for place in 0..list.len() {
+        take_entry(src, place as u32, list[place], guest)?;
     }
     Ok(())
 }
@@ -239,6 +300,8 @@ fn take_typed<S: Source>(
 {
     match this {
         RecordType::PageData => take_pages(alloc, src, len, guest),
+        RecordType::X86PvInfo => take_info(src, len),
+        RecordType::X86PvP2mFrames => take_p2m(alloc, src, len, guest),
         _ => match PartCode::from_number(this.number()) {
             Some(code) => take_sets(alloc, src, code, len, guest),
             None => Ok(()),

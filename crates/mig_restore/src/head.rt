@@ -1,4 +1,4 @@
-ghost use Rattle.std.specs.Prelude.{◌≡◌, ◌≤◌, ◌<◌, ◌^◌, ◌∷◌, [], ◌++◌, List, ℕ, ◌+◌, length, true, IfNone, IfOk, OnOk, IfNone as OnNone, None, Some, IsErrOf};
+ghost use Rattle.std.specs.Prelude.{◌≡◌, ◌≤◌, ◌<◌, ◌^◌, ◌∷◌, [], ◌++◌, List, ℕ, ◌+◌, length, true, IfOk, OnOk, IfNone as OnNone, None, Some, IsErrOf};
 ghost use Rattle.mig_bytes.specs.Faults.{RisesOnReadFault};
 ghost use Rattle.mig_bytes.specs.Judged.{Gives};
 ghost use Rattle.mig_bytes.specs.declared.part.Stop.TheVariants.{Memory};
@@ -7,10 +7,10 @@ ghost use Rattle.mig_headers.specs.RecordTypes.{record_row_of, type_of_number};
 ghost use Rattle.mig_headers.specs.declared.record_type.RecordType.{RecordType};
 ghost use Rattle.mig_records.specs.Faults.{fault_of_length};
 ghost use Rattle.mig_records.specs.Heads.{head_in};
-ghost use Rattle.mig_restore.specs.Judging.{Opening, Before, most_records, opening_of, is_supported_type, is_built, fault_of_built, fault_of_number, fault_of_fields, head_at};
+ghost use Rattle.mig_restore.specs.Judging.{Opening, Before, most_records, opening_of, fault_of_number, fault_of_fields, head_at};
 
 use mig_bytes::{Source, Stop, take_part};
-use mig_headers::{Cause, Kind, RecordType};
+use mig_headers::{Cause, Kind};
 use mig_order::Gate;
 use mig_records::{RecordHead, length_fault, long_fault};
 
@@ -24,32 +24,6 @@ pub(crate) struct Seen {
     pub(crate) kind: Kind,
     pub(crate) gate: Gate,
     ghost same_kind: { gate.kind ≡ kind },
-}
-
-/// Whether a type has a row in the table of record types, and is read in some stream.
-fn is_supported(number: u32) -> bool
-    ensures { result ≡ is_supported_type (type_of_number number) }
-{
-    match RecordType::from_number(number) {
-        Some(this) => this.is_supported(),
-        None => false,
-    }
-}
-
-/// Whether the type isn't built so far.
-fn built_fault(kind: Kind, number: u32) -> Option<Cause>
-    ensures fault { result ≡ fault_of_built kind number }
-    ensures built { IfNone result (is_built kind number ≡ true) }
-{
-    match kind {
-        Kind::Pv => {
-            if is_supported(number) {
-                return Some(Cause::NotBuilt(u64::from(number)));
-            }
-            None
-        }
-        Kind::Hvm => None,
-    }
 }
 
 impl Seen {
@@ -86,13 +60,9 @@ impl Seen {
         ensures len { OnOk result (head.len ≤ 2 ^ 27) }
         ensures allowed { OnOk result (fault_of_length head.kind head.len ≡ None) }
         ensures count { OnOk result ((self.new.records ≡ self.old.records + 1) × (self.old.records < most_records)) }
-        ensures built { OnOk result (is_built self.old.kind head.kind ≡ true) }
         ensures of_kind { OnOk result ((this : RecordType) → type_of_number head.kind ≡ Some this → (record_row_of this).of_kind self.old.kind ≡ true) }
         ensures kind { self.new.kind ≡ self.old.kind }
     {
-        if let Some(cause) = built_fault(self.kind, head.kind) {
-            return Err(cause);
-        }
         if let Some(cause) = long_fault(head) {
             return Err(cause);
         }
@@ -117,7 +87,6 @@ impl Seen {
         ensures len { IfOk result (λ h. h.len ≤ 2 ^ 27) }
         ensures allowed { IfOk result (λ h. fault_of_length h.kind h.len ≡ None) }
         ensures count { OnOk result ((self.new.records ≡ self.old.records + 1) × (self.old.records < most_records)) }
-        ensures built { IfOk result (λ h. is_built self.old.kind h.kind ≡ true) }
         ensures of_kind { IfOk result (λ h. (this : RecordType) → type_of_number h.kind ≡ Some this → (record_row_of this).of_kind self.old.kind ≡ true) }
         ensures kind { self.new.kind ≡ self.old.kind }
         ensures faults { RisesOnReadFault (S.faults src.old) (S.faults src.new) result }

@@ -1,16 +1,19 @@
-ghost use Rattle.std.specs.Prelude.{◌≡◌, ◌⊎◌, ℕ, List, option_and_then, unwrap_or, None};
+ghost use Rattle.std.specs.Prelude.{◌≡◌, ◌≢◌, ◌≤◌, ◌⊎◌, ℕ, List, option_and_then, unwrap_or, None};
+ghost use Rattle.std.specs.List.{All, Contains};
 ghost use Rattle.std.specs.FinMap as maps;
 ghost use Rattle.mig_bytes.specs.Bytes.{AreBytes};
 ghost use Rattle.mig_headers.specs.declared.fault.Cause.{Cause};
 ghost use Rattle.mig_headers.specs.declared.fault.Place.{Place};
 ghost use Rattle.mig_headers.specs.declared.kind.Kind.{Kind};
-ghost use Rattle.mig_guest.specs.Formed.{IsPlainHvm};
+ghost use Rattle.mig_guest.specs.Formed.{HasNoEmulators};
+ghost use Rattle.mig_guest.specs.PartKeys.{p2m_key};
+ghost use Rattle.mig_pvtables.specs.Blank.{blank};
 ghost use Rattle.mig_guest.specs.Guests.{GuestOf};
 ghost use Rattle.mig_pvtables.specs.Whole.{IsWhole};
 ghost use Rattle.mig_guest.specs.declared.part_key.PartKey.{PartKey};
 ghost use Rattle.mig_restore.specs.Judging.{Opening};
 ghost use Rattle.mig_restore.specs.Record.{StreamRecord};
-ghost use Rattle.mig_restore.specs.Mean.{sent, last_entry, frame_in, entries_of, last_said};
+ghost use Rattle.mig_restore.specs.Mean.{sent, last_entry, frame_in, entries_of, last_said, ends_of};
 ghost use Rattle.mig_restore.specs.Spelled.{IsImage, Accepted};
 ghost use Rattle.mig_bytes.specs.Judged.Judged.{Passes};
 ghost use Rattle.mig_restore.specs.Stream.{image_at, image_of, IsRefused};
@@ -46,9 +49,10 @@ pub fn one_front()
         → (g ≡ h) × (rest ≡ more) }
 {}
 
-/// An accepted guest of an input of bytes is whole; so far it is an HVM guest without emulator parts.
+/// An accepted guest of an input of bytes is whole and in its blank form, and has no emulator parts.
 pub fn accepted_is_whole()
-    ensures { (input : List ℕ) (guest : GuestOf) (rest : List ℕ) → AreBytes input → Accepted input guest rest → IsWhole guest × IsPlainHvm guest }
+    ensures { (input : List ℕ) (guest : GuestOf) (rest : List ℕ) → AreBytes input → Accepted input guest rest
+        → IsWhole guest × (blank guest ≡ guest) × HasNoEmulators guest.parts }
 {}
 
 /// Of each frame number the last entry in stream order decides what was sent: it says the frame's type and page, or that
@@ -59,10 +63,18 @@ pub fn last_entry_decides()
         maps.get (sent kind records).frames pfn ≡ option_and_then (frame_in kind) (last_entry pfn (entries_of records)) }
 {}
 
-/// Of each part the last content that says something of it decides what was sent; a policy body that isn't empty says of each part of
-/// its code whether it is there.
+/// Of each part but the list of P2M frames the last content that says something of it decides what was sent; a policy body
+/// that isn't empty says of each part of its code whether it is there.
 #[tactic(auto, using(crate::proofs::Meaning::last_content_is))]
 pub fn last_content_decides()
-    ensures { (kind : Kind) (records : List StreamRecord) (key : PartKey) →
+    ensures { (kind : Kind) (records : List StreamRecord) (key : PartKey) → key ≢ p2m_key →
         maps.get (sent kind records).parts key ≡ unwrap_or (last_said key records) None }
+{}
+
+/// The greatest frame number that was sent is 0, or one that ends a list of P2M frames; and no list ends above it.
+#[tactic(auto, using(crate::proofs::Meaning::greatest_end_is))]
+pub fn greatest_end_decides()
+    ensures { (kind : Kind) (records : List StreamRecord) →
+        All (λ last. last ≤ (sent kind records).top) (ends_of records)
+        × (((sent kind records).top ≡ 0) ⊎ Contains (ends_of records) (sent kind records).top) }
 {}

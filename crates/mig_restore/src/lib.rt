@@ -1,10 +1,10 @@
 //! Reads the image of a guest from a stream (libxc migration stream).
 //!
 //! Responsible for: judging an image part by part, in byte order, and the guest that its records mean; the laws that
-//! join the judging with the spelling of the format. So far for HVM guests, in version 2 and 3 of the format.
+//! join the judging with the spelling of the format. For HVM and PV guests, in version 2 and 3 of the format.
 //! Left to others: bytes and fields (mig_bytes), headers, causes and the table of record types (mig_headers), record
 //! heads and PAGE_DATA words (mig_records), the order of records (mig_order), what bodies say (mig_hvm, mig_policy),
-//! frames and parts (mig_guest), whole guests (mig_pvtables).
+//! frames and parts (mig_guest), page tables, whole guests and blank forms (mig_pvtables).
 //!
 //! What the layers above rely on: `read_image` answers the guest that the accepted front of the input means, or the
 //! first fault with its place, and has taken just the accepted front, or all up to the end of the faulty part.
@@ -18,7 +18,7 @@ mod read;
 
 pub use answer::StreamAnswer;
 pub use law::{
-    accepted_is_image, accepted_is_whole, accepted_or_refused, image_is_accepted,
-    last_content_decides, last_entry_decides, never_both, one_front,
+    accepted_is_image, accepted_is_whole, accepted_or_refused, greatest_end_decides,
+    image_is_accepted, last_content_decides, last_entry_decides, never_both, one_front,
 };
 pub use read::{Reading, read_image};

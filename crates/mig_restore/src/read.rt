@@ -4,13 +4,13 @@ ghost use Rattle.mig_bytes.specs.Faults.{RisesOnReadFault};
 ghost use Rattle.mig_bytes.specs.Judged.{Gives, part};
 ghost use Rattle.mig_bytes.specs.declared.part.Stop.TheVariants.{Memory};
 ghost use Rattle.mig_headers.specs.declared.fault.Cause.TheVariants.{Truncated};
-ghost use Rattle.mig_headers.specs.declared.kind.Kind.TheVariants.{Hvm};
-ghost use Rattle.mig_guest.specs.Formed.{IsPlainHvm};
+ghost use Rattle.mig_guest.specs.Formed.{HasNoEmulators};
+ghost use Rattle.mig_pvtables.specs.Blank.{blank as blank_form};
 ghost use Rattle.mig_pvtables.specs.Faults.{fault_of_guest};
 ghost use Rattle.mig_pvtables.specs.Whole.{IsWhole};
-ghost use Rattle.mig_restore.specs.Mean.{sent, put_record, Grows};
+ghost use Rattle.mig_restore.specs.Mean.{sent, put_record, IsBegun, Grows};
 ghost use Rattle.mig_restore.specs.Record.{StreamRecord, types_of};
-ghost use Rattle.mig_restore.specs.Judging.{Opening, Before, most_records, is_built, opening_of, record_at, next_at};
+ghost use Rattle.mig_restore.specs.Judging.{Opening, Before, most_records, opening_of, record_at, next_at};
 ghost use Rattle.mig_restore.specs.Seen.{IsSeen};
 ghost use Rattle.mig_restore.specs.Stream.{or_stop, ReadsImage, IsReading, image_at, records_at, opening_at, marker_at, version_at, kind_at};
 
@@ -18,9 +18,9 @@ use crate::answer::{StreamAnswer, answer};
 use crate::body::take_body;
 use crate::head::Seen;
 use mig_bytes::{Source, Stop, pad_len, take_part};
-use mig_guest::{Guest, PartKey};
+use mig_guest::Guest;
 use mig_headers::{Cause, DomainHeader, ImageHeader, Kind, Place};
-use mig_pagetypes::MAX_FRAMES;
+use mig_pvtables::{WholeAnswer, blank, whole};
 use std::alloc::Global;
 
 /// The type of the record that ends an image.
@@ -47,25 +47,6 @@ fn read_padding<S: Source>(src: &mut S, len: u32) -> Result<(), Stop<Cause>>
     take_part(src, &mut padding[..pad_len(len)], Cause::Truncated)
 }
 
-/// What is wrong with an HVM guest, at the record that ends the image.
-fn guest_fault(guest: &Guest) -> Option<Cause>
-    requires { guest.now.kind ≡ Hvm }
-    ensures { result ≡ fault_of_guest guest.now }
-{
-    let context = PartKey {
-        code: 9,
-        key1: 0,
-        key2: 0,
-    };
-    if guest.part(context).is_none() {
-        return Some(Cause::Missing(9));
-    }
-    if guest.frames() > MAX_FRAMES {
-        return Some(Cause::TooManyFrames);
-    }
-    None
-}
-
 /// Takes a record, and keeps what it says. Answers its type.
 fn take_record<S: Source>(
     alloc: Global,
@@ -78,7 +59,6 @@ fn take_record<S: Source>(
         Gives (λ type r. (guest.new ≡ put_record guest.old r) × (type ≡ r.type)) (S.left src.old) (S.left src.new) (record_at b) result }
     ensures seen { IfOk result (λ type. (o : Opening) (types : List ℕ) → IsSeen seen.old o types → IsSeen seen.new o (types ++ type ∷ [])) }
     ensures grown { OnOk result (Grows guest.old guest.new) }
-    ensures built { IfOk result (λ type. is_built seen.old.kind type ≡ true) }
     ensures counted { OnOk result ((seen.new.records ≡ seen.old.records + 1) × (seen.old.records < most_records)) }
     ensures kind { seen.new.kind ≡ seen.old.kind }
     ensures faults { RisesOnReadFault (S.faults src.old) (S.faults src.new) result }
@@ -96,12 +76,13 @@ pub(crate) fn read_next<S: Source>(
     seen: &mut Seen,
     guest: &mut Guest,
 ) -> Result<bool, Stop<Cause>>
-    requires { seen.old.kind ≡ guest.old.kind }
+    requires kind { seen.old.kind ≡ guest.old.kind }
+    requires begun { IsBegun guest.old }
     ensures read { (o : Opening) (records : List StreamRecord) → IsSeen seen.old o (types_of records) → guest.old ≡ sent o.kind records →
         Gives (λ over r. (guest.new ≡ put_record guest.old r) × IsSeen seen.new o (types_of (records ++ r ∷ [])) × (over ≡ (r.type == 0)))
         (S.left src.old) (S.left src.new) (next_at o records) result }
     ensures grown { OnOk result (Grows guest.old guest.new) }
-    ensures whole { IfOk result (λ over. over ≡ true → (fault_of_guest guest.new ≡ None) × (guest.new.kind ≡ Hvm)) }
+    ensures faultless { IfOk result (λ over. over ≡ true → fault_of_guest guest.new ≡ None) }
     ensures counted { OnOk result ((seen.new.records ≡ seen.old.records + 1) × (seen.old.records < most_records)) }
     ensures kind { seen.new.kind ≡ seen.old.kind }
     ensures faults { RisesOnReadFault (S.faults src.old) (S.faults src.new) result }
@@ -109,9 +90,10 @@ pub(crate) fn read_next<S: Source>(
     if take_record(alloc, src, seen, guest)? != END {
         return Ok(false);
     }
-    match guest_fault(guest) {
-        Some(cause) => Err(Stop::Refused(cause)),
-        None => Ok(true),
+    match whole(alloc, guest) {
+        Ok(()) => Ok(true),
+        Err(WholeAnswer::Fault(cause)) => Err(Stop::Refused(cause)),
+        Err(WholeAnswer::Memory) => Err(Stop::Memory),
     }
 }
 
@@ -124,7 +106,8 @@ fn read_records<S: Source>(
 ) -> Result<Reading, Stop<(Place, Cause)>>
     ensures read { Gives IsReading (S.left src.old) (S.left src.new) (records_at (opening_of version kind)) result }
     ensures whole { IfOk result (λ reading. IsWhole reading.guest) }
-    ensures plain { IfOk result (λ reading. IsPlainHvm reading.guest) }
+    ensures blank { IfOk result (λ reading. blank_form reading.guest ≡ reading.guest) }
+    ensures plain { IfOk result (λ reading. HasNoEmulators reading.guest.parts) }
     ensures faults { RisesOnReadFault (S.faults src.old) (S.faults src.new) result }
 {
     let mut seen = Seen::new(version, kind);
@@ -134,6 +117,7 @@ fn read_records<S: Source>(
         match read_next(alloc, src, &mut seen, &mut guest) {
             Ok(over) => {
                 if over {
+                    blank(&mut guest);
                     let records = seen.records;
                     return Ok(Reading {
                         guest,
@@ -212,20 +196,22 @@ fn read_opening<S: Source>(src: &mut S) -> Result<(u32, Kind), Stop<(Place, Caus
 fn read_parts<S: Source>(alloc: Global, src: &mut S) -> Result<Reading, Stop<(Place, Cause)>>
     ensures read { Gives IsReading (S.left src.old) (S.left src.new) image_at result }
     ensures whole { IfOk result (λ reading. IsWhole reading.guest) }
-    ensures plain { IfOk result (λ reading. IsPlainHvm reading.guest) }
+    ensures blank { IfOk result (λ reading. blank_form reading.guest ≡ reading.guest) }
+    ensures plain { IfOk result (λ reading. HasNoEmulators reading.guest.parts) }
     ensures faults { RisesOnReadFault (S.faults src.old) (S.faults src.new) result }
 {
     let (version, kind) = read_opening(src)?;
     read_records(alloc, src, version, kind)
 }
 
-/// Reads an image from its marker to its END record, and leaves what follows it unread. `Refused` has the place and the
+/// Reads an image from its marker to its END record, and leaves what follows it unread. The guest is in its blank form. `Refused` has the place and the
 /// cause of the first fault, and then the source was read up to the end of the faulty part; `ReadFault` comes only where
 /// a read failed.
 pub fn read_image<S: Source>(alloc: Global, src: &mut S) -> Result<Reading, StreamAnswer>
     ensures read { ReadsImage (S.left src.old) (S.left src.new) result }
     ensures whole { IfOk result (λ reading. IsWhole reading.guest) }
-    ensures plain { IfOk result (λ reading. IsPlainHvm reading.guest) }
+    ensures blank { IfOk result (λ reading. blank_form reading.guest ≡ reading.guest) }
+    ensures plain { IfOk result (λ reading. HasNoEmulators reading.guest.parts) }
     ensures faults { RisesOnReadFault (S.faults src.old) (S.faults src.new) (or_stop result) }
 {
     match read_parts(alloc, src) {

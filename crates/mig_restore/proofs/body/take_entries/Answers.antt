@@ -1,26 +1,52 @@
-use Rattle.mig_restore.proofs.Common.{get_or, [], refl, rules, subst, sym, done, each_step, each_ends, entry_at, IsGoodWord}
+use Rattle.mig_restore.proofs.Common.{◌≡◌, ◌+◌, ◌<◌, ◌≤◌, ℕ, List, Option, Result, get_or, [], refl, rules, ap, subst, sym, ◌∙◌, arith, length, take, Ok, put_entries, done, each_step, each_ends, Kind, FrameEntry, with_places, entry_at, IsGoodWord, Gives, Judged, Cause, Stop}
 use Rattle.std.proofs.lemmas.List.Elements.{All-get_or}
+use Rattle.std.proofs.lemmas.List.{take_all}
 use Rattle.mig_bytes.specs.Judged.{each}
 use Rattle.mig_restore.proofs.Growth.{grows_not, grows_on}
 use Rattle.mig_restore.proofs.Meaning.{one_more_entry}
+use Rattle.mig_restore.proofs.Batches.{places_len, place_at}
 use Rattle.mig_restore.proofs.body.take_entries.Goals as goal
 
-pub loop-word-init : goal.loop-word-init
+-- the entry of the word at this place, judged by the kind and the top of the guest before the loop
+entry_here : {X : Type 0} (R : X → FrameEntry → Type 0) (a b : Option (List ℕ)) (r : Result X (Stop Cause)) (kind now : Kind) (top high place : ℕ) (list : List ℕ) → now ≡ kind → high ≡ top → place < length list
+    → Gives R a b (entry_at now high (place, get_or list place 0)) r → Gives R a b (entry_at kind top (get_or (with_places 0 list) place (0, 0))) r
+entry_here R a b r kind now top high place list k t lt read =
+    let same : entry_at now high (place, get_or list place 0) ≡ entry_at kind top (get_or (with_places 0 list) place (0, 0)) =
+        ap (λ x. entry_at x high (place, get_or list place 0)) k ∙ ap (λ n. entry_at kind n (place, get_or list place 0)) t
+        ∙ ap (λ n. entry_at kind top (n, get_or list place 0)) (let e : place ≡ 0 + place = omega arith in e) ∙ ap (entry_at kind top) (sym (place_at 0 list place lt)) in
+    subst (λ (f : List ℕ → Judged Cause FrameEntry). Gives R a b f r) same read
+
+-- a place of the list is one of the words with their places
+within : (place : ℕ) (list : List ℕ) → place < length list → place < length (with_places 0 list)
+within place list lt = subst (λ n. place < n) (sym (places_len 0 list)) lt
+
+pub loop-place-init : goal.loop-place-init
 unfolding each
-loop-word-init g c = record { read = done _ _ _ tt [] (λ i. refl) refl; grown = grows_not c.args.guest.now; quiet = search rules }
+loop-place-init g c = record { read = done _ _ _ tt [] (λ i. refl) refl; grown = grows_not c.args.guest.now; top = refl; quiet = search rules }
 
 pub take_entry-requires : goal.take_entry-requires
 take_entry-requires g c =
-    subst (λ t. IsGoodWord c.loop-word.guest.kind t (get_or c.args.list.now c.loop-word.word-index 0)) (sym c.loop-word.invariant.grown.top)
-    (subst (λ k. IsGoodWord k c.args.guest.now.top (get_or c.args.list.now c.loop-word.word-index 0)) (sym c.loop-word.invariant.grown.kind) (All-get_or (IsGoodWord c.args.guest.now.kind c.args.guest.now.top) c.args.list.now c.loop-word.word-index 0 (search rules) c.requires))
+    subst (λ t. IsGoodWord c.loop-place.guest.kind t (get_or c.args.list.now c.loop-place.place 0)) (sym c.loop-place.invariant.top)
+    (subst (λ k. IsGoodWord k c.args.guest.now.top (get_or c.args.list.now c.loop-place.place 0)) (sym c.loop-place.invariant.grown.kind)
+    (All-get_or (IsGoodWord c.args.guest.now.kind c.args.guest.now.top) c.args.list.now c.loop-place.place 0 c.loop-place-test.true c.requires.good))
 
 pub returns-in_err-take_entry-clause-read : goal.returns-in_err-take_entry-clause-read
 returns-in_err-take_entry-clause-read g c =
-    each_ends entry_at _ _ _ _ _ _ c.args.list.now c.loop-word.word-index 0 tt c.in_err-take_entry.field-0.0 c.from_residual.result (search rules) c.loop-word.invariant.read c.in_err-take_entry.ensures.read (search rules)
+    each_ends (entry_at c.args.guest.now.kind c.args.guest.now.top) _ _ _ _ _ _ (with_places 0 c.args.list.now) c.loop-place.place (0, 0) tt c.in_err-take_entry.field-0.0 c.from_residual.result (within c.loop-place.place c.args.list.now c.loop-place-test.true) c.loop-place.invariant.read
+    (entry_here _ _ _ _ c.args.guest.now.kind _ c.args.guest.now.top _ c.loop-place.place c.args.list.now c.loop-place.invariant.grown.kind c.loop-place.invariant.top c.loop-place-test.true c.in_err-take_entry.ensures.read) (search rules)
 
-pub loop-word-preserved : goal.loop-word-preserved
-loop-word-preserved g c = record {
-  read = each_step entry_at _ _ _ _ _ _ c.args.list.now c.loop-word.word-index 0 tt _ tt (search rules) c.loop-word.invariant.read c.in_ok-take_entry.ensures.read (λ es e r q. one_more_entry _ _ _ es e r q);
-  grown = grows_on c.args.guest.now _ _ c.loop-word.invariant.grown c.in_ok-take_entry.ensures.grown;
+pub loop-place-preserved : goal.loop-place-preserved
+loop-place-preserved g c = record {
+  read = each_step (entry_at c.args.guest.now.kind c.args.guest.now.top) _ _ _ _ _ _ (with_places 0 c.args.list.now) c.loop-place.place (0, 0) tt _ tt (within c.loop-place.place c.args.list.now c.loop-place-test.true) c.loop-place.invariant.read
+      (entry_here _ _ _ _ c.args.guest.now.kind _ c.args.guest.now.top _ c.loop-place.place c.args.list.now c.loop-place.invariant.grown.kind c.loop-place.invariant.top c.loop-place-test.true c.in_ok-take_entry.ensures.read)
+      (λ es e r q. one_more_entry _ _ _ es e r q);
+  grown = grows_on c.args.guest.now _ _ c.loop-place.invariant.grown c.in_ok-take_entry.ensures.grown;
+  top = search rules;
   quiet = search rules;
 }
+
+pub returns-clause-read : goal.returns-clause-read
+returns-clause-read g c =
+    let at_end : length c.args.list.now ≤ c.loop-place.place = search rules in
+    let whole : take c.loop-place.place (with_places 0 c.args.list.now) ≡ with_places 0 c.args.list.now = take_all c.loop-place.place (with_places 0 c.args.list.now) (subst (λ n. n ≤ c.loop-place.place) (sym (places_len 0 c.args.list.now)) at_end) in
+    subst (λ ats. Gives {X = Unit {0}} (λ _ es. c.loop-place.guest ≡ record c.args.guest.now { frames = put_entries c.args.guest.now.kind c.args.guest.now.frames es }) (g.S.Source.left c.args.src.now) (g.S.Source.left c.loop-place.src) (each (entry_at c.args.guest.now.kind c.args.guest.now.top) ats) (Ok tt)) whole c.loop-place.invariant.read

@@ -1,34 +1,70 @@
-use Rattle.mig_restore.proofs.Common.{◌≡◌, ℕ, List, Option, Some, None, Ok, true, false, length, refl, ap, sym, subst, ◌∙◌, rules, none-some, same_Some, part, Gives, Passes, done, Truncated, word_pfn, word_has_data, FrameEntry, type_in_word, entry_at}
-use Rattle.mig_restore.proofs.Growth.{grows_frame}
+use Rattle.mig_restore.proofs.Common.{◌≡◌, ◌<◌, ℕ, pfn_limit, IsInside, IsWithin, entry, List, Option, Some, None, Err, Ok, true, false, length, refl, ap, sym, subst, ◌∙◌, rules, none-some, same_Some, part, Gives, Passes, done, Cause, Truncated, Kind, GuestOf, PageType, level_of, word_pfn, word_has_data, FrameEntry, type_in_word, fault_of_level, fault_of_page, meant_type, IsGoodWord, entry_at}
+use Rattle.mig_bytes.specs.declared.part.Stop.TheVariants.{Refused}
+use Rattle.mig_restore.proofs.Growth.{CanBeSet, word_inside, grows_frame}
 use Rattle.mig_restore.proofs.Meaning.{entry_set}
-use Rattle.mig_restore.proofs.Batches.{carries}
+use Rattle.mig_restore.proofs.Batches.{carries, level_within}
 use Rattle.mig_restore.proofs.body.take_entry.Goals as goal
 
-module _ {X : Type 0} (R : X → FrameEntry → Type 0) where
-  no_page : (a : Option (List ℕ)) (w : ℕ) (x : X) → word_has_data w ≡ false → R x (record { pfn = word_pfn w; type = type_in_word w; page = None }) → Gives R a a (entry_at w) (Ok x)
-  no_page a w x none r = done R a (entry_at w) x _ (λ i. rw none refl) r
+module _ {X : Type 0} (R : X → FrameEntry → Type 0) (kind : Kind) (top place : ℕ) where
+  no_page : (a : Option (List ℕ)) (w : ℕ) (x : X) → word_has_data w ≡ false → R x (record { pfn = word_pfn w; type = type_in_word w; page = None }) → Gives R a a (entry_at kind top (place, w)) (Ok x)
+  no_page a w x none r = done R a (entry_at kind top (place, w)) x _ (λ i. rw none refl) r
 
   with_page : (a b : Option (List ℕ)) (w n : ℕ) (page : List ℕ) (u : Unit {0}) (x : X) → n ≡ 4096 → Gives {X = Unit {0}} (λ _ bytes. bytes ≡ page) a b (part Truncated n) (Ok u) → word_has_data w ≡ true
-      → R x (record { pfn = word_pfn w; type = type_in_word w; page = Some page }) → Gives R a b (entry_at w) (Ok x)
-  with_page None b w n page u x size h some r = tt
-  with_page (Some i) b w n page u x size (bytes, rest, is, left, same) some r =
+      → fault_of_page kind top (place, w) page ≡ None → R x (record { pfn = word_pfn w; type = type_in_word w; page = Some page }) → Gives R a b (entry_at kind top (place, w)) (Ok x)
+  with_page None b w n page u x size h some fine r = tt
+  with_page (Some i) b w n page u x size (bytes, rest, is, left, same) some fine r =
       let is' = subst (λ m. part Truncated m i ≡ Passes bytes rest) size is in
-      (record { pfn = word_pfn w; type = type_in_word w; page = Some bytes }, rest, rw (some, is') refl, left, subst (λ p. R x (record { pfn = word_pfn w; type = type_in_word w; page = Some p })) (sym same) r)
+      let fine' : fault_of_page kind top (place, w) bytes ≡ None = ap (fault_of_page kind top (place, w)) same ∙ fine in
+      (record { pfn = word_pfn w; type = type_in_word w; page = Some bytes }, rest, rw (some, is', fine') refl, left, subst (λ p. R x (record { pfn = word_pfn w; type = type_in_word w; page = Some p })) (sym same) r)
+
+  bad_page : (a b : Option (List ℕ)) (w n : ℕ) (page : List ℕ) (u : Unit {0}) (c : Cause) → n ≡ 4096 → Gives {X = Unit {0}} (λ _ bytes. bytes ≡ page) a b (part Truncated n) (Ok u) → word_has_data w ≡ true
+      → fault_of_page kind top (place, w) page ≡ Some c → Gives R a b (entry_at kind top (place, w)) (Err (Refused c))
+  bad_page None b w n page u c size h some fault = tt
+  bad_page (Some i) b w n page u c size (bytes, rest, is, left, same) some fault =
+      let is' = subst (λ m. part Truncated m i ≡ Passes bytes rest) size is in
+      let fault' : fault_of_page kind top (place, w) bytes ≡ Some c = ap (fault_of_page kind top (place, w)) same ∙ fault in
+      (rest, rw (some, is', fault') refl, left)
+
+-- what is wrong with the page that was taken
+judged : (g : GuestOf) (place w : ℕ) (kind in_stream : PageType) (page : List ℕ) (o : Option Cause) → in_stream ≡ type_in_word w → kind ≡ meant_type g.kind in_stream → o ≡ fault_of_level g.top place (level_of kind) page → fault_of_page g.kind g.top (place, w) page ≡ o
+judged g place w kind in_stream page o is meant said = ap (λ t. fault_of_level g.top place (level_of t) page) (ap (meant_type g.kind) (sym is) ∙ sym meant) ∙ sym said
 
 pub returns-in-Ok-clause-read : goal.returns-in-Ok-clause-read
 returns-in-Ok-clause-read g c =
-    no_page _ _ c.args.word tt (carries c.args.word ∙ search rules)
+    no_page _ c.args.guest.now.kind c.args.guest.now.top c.args.place _ c.args.word tt (carries c.args.word ∙ search rules)
     (entry_set c.args.guest.now _ c.args.word _ _ _ c.pfn_in.ensures (search rules) c.in-Ok.ensures.ok)
 
 pub returns-in-Ok-set_frame-clause-read : goal.returns-in-Ok-set_frame-clause-read
 returns-in-Ok-set_frame-clause-read g c =
-    with_page _ _ _ c.args.word _ c.take_part.new.buf tt tt (search rules) c.in_ok-take_part.ensures.read (carries c.args.word ∙ search rules)
+    with_page _ c.args.guest.now.kind c.args.guest.now.top c.args.place _ _ c.args.word _ c.take_part.new.buf tt tt (search rules) c.in_ok-take_part.ensures.read (carries c.args.word ∙ search rules)
+    (judged c.args.guest.now c.args.place c.args.word c.meant-kind.result c.type_in-in_stream.result c.take_part.new.buf None (search rules) (search rules) (search rules))
     (entry_set c.args.guest.now _ c.args.word _ _ _ c.pfn_in-2.ensures (search rules) c.in-Ok-set_frame.ensures.ok)
+
+pub returns-in-Some-clause-read : goal.returns-in-Some-clause-read
+returns-in-Some-clause-read g c =
+    bad_page _ c.args.guest.now.kind c.args.guest.now.top c.args.place _ _ c.args.word _ c.take_part.new.buf tt c.in-Some.cause (search rules) c.in_ok-take_part.ensures.read (carries c.args.word ∙ search rules)
+    (judged c.args.guest.now c.args.place c.args.word c.meant-kind.result c.type_in-in_stream.result c.take_part.new.buf (Some c.in-Some.cause) (search rules) (search rules) (search rules))
 
 pub returns-in-Ok-clause-grown : goal.returns-in-Ok-clause-grown
 returns-in-Ok-clause-grown g c =
-    grows_frame c.args.guest.now _ c.type_in-in_stream.result c.meant-kind.result c.pfn_in.result None (search rules) (search rules) (search rules) (λ bytes e. absurd (none-some bytes e)) c.in-Ok.ensures.ok
+    let inside = word_inside c.args.guest.now.kind c.args.guest.now.top _ c.requires.1 in
+    grows_frame c.args.guest.now _ c.type_in-in_stream.result c.meant-kind.result c.pfn_in.result None (search rules) (record {
+      small = subst (λ n. n < pfn_limit) (sym c.pfn_in.ensures) inside.0;
+      inside = subst (IsInside c.args.guest.now.kind c.args.guest.now.top) (sym c.pfn_in.ensures) inside.1;
+      in_step = search rules;
+      whole = λ bytes e. absurd (none-some bytes e);
+      entries = λ level page lev has. absurd (none-some page has);
+    }) c.in-Ok.ensures.ok
 
 pub returns-in-Ok-set_frame-clause-grown : goal.returns-in-Ok-set_frame-clause-grown
 returns-in-Ok-set_frame-clause-grown g c =
-    grows_frame c.args.guest.now _ c.type_in-in_stream.result c.meant-kind.result c.pfn_in-2.result (Some c.take_part.new.buf) (search rules) (search rules) (search rules) (λ bytes e. ap length (sym (same_Some c.take_part.new.buf bytes e)) ∙ search rules) c.in-Ok-set_frame.ensures.ok
+    let inside = word_inside c.args.guest.now.kind c.args.guest.now.top _ c.requires.1 in
+    let page = c.take_part.new.buf in
+    let fine : fault_of_level c.args.guest.now.top c.args.place (level_of c.meant-kind.result) page ≡ None = search rules in
+    grows_frame c.args.guest.now _ c.type_in-in_stream.result c.meant-kind.result c.pfn_in-2.result (Some page) (search rules) (record {
+      small = subst (λ n. n < pfn_limit) (sym c.pfn_in-2.ensures) inside.0;
+      inside = subst (IsInside c.args.guest.now.kind c.args.guest.now.top) (sym c.pfn_in-2.ensures) inside.1;
+      in_step = search rules;
+      whole = λ bytes e. ap length (sym (same_Some page bytes e)) ∙ search rules;
+      entries = λ level bytes lev has slot lt. subst (λ b. IsWithin c.args.guest.now.top (entry level b slot)) (same_Some page bytes has) ((level_within c.args.guest.now.top c.args.place (level_of c.meant-kind.result) page).0 fine level lev slot lt);
+    }) c.in-Ok-set_frame.ensures.ok

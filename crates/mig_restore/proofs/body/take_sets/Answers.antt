@@ -1,15 +1,7 @@
 use Rattle.mig_restore.proofs.Common.{◌≡◌, ◌∙◌, ℕ, List, Option, Some, None, Ok, length, refl, ap, sym, subst, rules, ◌>>=◌, part, tried, Gives, Passes, Cause, Truncated, fault_of_body, parts_of_body, HasBodyLength, put_content, Content, Sets}
 use Rattle.mig_restore.proofs.Growth.{grows_sets}
+use Rattle.mig_restore.proofs.Parts.{tried_said}
 use Rattle.mig_restore.proofs.body.take_sets.Goals as goal
-
--- what a body says in which no cause stands
-tried_said : {X V : Type 0} (R : X → List ℕ → Type 0) (Q : V → Content → Type 0) (a b : Option (List ℕ)) (n : ℕ) (fault : List ℕ → Option Cause) (says : List ℕ → Content) (x : X) (v : V) → Gives R a b (part Truncated n) (Ok x)
-    → ((bytes : List ℕ) → R x bytes → (fault bytes ≡ None) × Q v (says bytes))
-    → Gives Q a b (λ i. part Truncated n i >>= λ body. tried (fault body.0) body.1 >>= λ _. Passes (says body.0) body.1) (Ok v)
-tried_said R Q None b n fault says x v h turn = tt
-tried_said R Q (Some i) b n fault says x v (bytes, rest, is, left, r) turn =
-    let (none, q) = turn bytes r in
-    (says bytes, rest, rw (is, none) refl, left, q)
 
 pub returns-in-Ok-clause-read : goal.returns-in-Ok-clause-read
 returns-in-Ok-clause-read g c =

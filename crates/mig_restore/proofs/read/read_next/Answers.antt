@@ -30,18 +30,18 @@ returns-then-branch-ne-END-clause-read g c = λ o records seen guest.
     (λ r told. let goes : nat_eq r.type 0 ≡ false = ne_eqb r.type 0 (λ is. c.if-branch-ne-END.true (told.1 ∙ is)) in
     done _ _ (λ i. behind_record o records (r, i)) false r (not_last o records r goes) (told.0, seen_more _ o records r _ told.1 (c.in_ok-take_record.ensures.seen o (types_of records) seen), sym goes))
 
-pub returns-in-Some-clause-read : goal.returns-in-Some-clause-read
-returns-in-Some-clause-read g c = λ o records seen guest.
+pub returns-in-Err-Fault-clause-read : goal.returns-in-Err-Fault-clause-read
+returns-in-Err-Fault-clause-read g c = λ o records seen guest.
     then_reads _ _ _ _ _ (record_at (before o records)) (next_at o records) (behind_record o records) c.in_ok-take_record.field-0 _ (asks o records)
     (c.in_ok-take_record.ensures.read (before o records) seen (guest_kind _ o records guest) (guest_top _ o records guest))
-    (λ r told. refused _ _ (λ i. behind_record o records (r, i)) c.in-Some.cause
-    (last_faulty o records r c.in-Some.cause (sym told.1 ∙ c.if-branch-ne-END.false) (ap fault_of_guest (sym (meant _ _ o records r guest told.0)) ∙ sym c.in-Some.ensures)))
+    (λ r told. refused _ _ (λ i. behind_record o records (r, i)) c.in-Err-Fault.cause
+    (last_faulty o records r c.in-Err-Fault.cause (sym told.1 ∙ c.if-branch-ne-END.false) (ap fault_of_guest (sym (meant _ _ o records r guest told.0)) ∙ c.in-Err-Fault.ensures.fault c.in-Err-Fault.cause (search rules))))
 
-pub returns-in-None-clause-read : goal.returns-in-None-clause-read
-returns-in-None-clause-read g c = λ o records seen guest.
+pub returns-in-Ok-clause-read : goal.returns-in-Ok-clause-read
+returns-in-Ok-clause-read g c = λ o records seen guest.
     then_reads _ _ _ _ _ (record_at (before o records)) (next_at o records) (behind_record o records) c.in_ok-take_record.field-0 _ (asks o records)
     (c.in_ok-take_record.ensures.read (before o records) seen (guest_kind _ o records guest) (guest_top _ o records guest))
     (λ r told. let zero : r.type ≡ 0 = sym told.1 ∙ c.if-branch-ne-END.false in
     done _ _ (λ i. behind_record o records (r, i)) true r
-    (last_fine o records r zero (ap fault_of_guest (sym (meant _ _ o records r guest told.0)) ∙ sym c.in-None.ensures))
+    (last_fine o records r zero (ap fault_of_guest (sym (meant _ _ o records r guest told.0)) ∙ c.in-Ok.ensures.ok))
     (told.0, seen_more _ o records r _ told.1 (c.in_ok-take_record.ensures.seen o (types_of records) seen), sym (eq-eqb r.type 0 zero)))

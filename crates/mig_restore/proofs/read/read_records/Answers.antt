@@ -1,15 +1,18 @@
-use Rattle.mig_restore.proofs.Common.{refl, rules, subst, sym, ◌∙◌, Err, GuestOf, Gives, records_at, IsReading, opening_of, none-some, part_cmp, IsFormed, HasNoEmulators, empty_formed}
+use Rattle.mig_restore.proofs.Common.{refl, rules, subst, sym, ◌≡◌, ◌∙◌, Err, GuestOf, Gives, records_at, IsReading, opening_of, HasNoEmulators, IsBegun}
+use Rattle.mig_pvtables.specs.Blank.{blank}
+use Rattle.mig_pvtables.specs.Whole.{IsWhole}
 use Rattle.mig_restore.specs.declared.read.Reading.{Reading}
-use Rattle.std.specs.FinMap.{get-empty}
 use Rattle.mig_restore.proofs.Arrivals.{arrived_first, arrived_next, arrived_end, arrived_stopped}
+use Rattle.mig_pvtables.proofs.BlankAgain.{blank_again}
+use Rattle.mig_pvtables.proofs.BlankWhole.{whole_blank, blank_plain}
+use Rattle.mig_restore.proofs.Growth.{empty_begun}
 use Rattle.mig_restore.proofs.read.read_records.Goals as goal
 
 pub records-init : goal.records-init
 records-init g c = record {
   arrived = arrived_first (opening_of c.args.version c.args.kind) _ c.new-seen.result c.new-guest.result c.new-seen.ensures.seen c.new-guest.ensures;
   kind = search rules;
-  formed = λ hvm. subst IsFormed (sym c.new-guest.ensures) (empty_formed c.args.kind);
-  plain = subst (λ (x : GuestOf). HasNoEmulators x.parts) (sym c.new-guest.ensures) (λ key bytes got. absurd (none-some bytes (sym (get-empty part_cmp key) ∙ got)));
+  begun = subst IsBegun (sym c.new-guest.ensures) (empty_begun c.args.kind);
   few = search rules;
   quiet = search rules;
 }
@@ -18,25 +21,28 @@ pub records-preserved : goal.records-preserved
 records-preserved g c = record {
   arrived = arrived_next (opening_of c.args.version c.args.kind) _ _ _ c.records.seen c.read_next.new.seen c.records.guest c.read_next.new.guest c.in-Ok.over c.if-over.false c.records.invariant.arrived (c.in-Ok.ensures.read (opening_of c.args.version c.args.kind));
   kind = c.read_next.ensures.kind ∙ c.records.invariant.kind ∙ sym c.in-Ok.ensures.grown.kind;
-  formed = λ hvm. let before = sym c.in-Ok.ensures.grown.kind ∙ hvm in c.in-Ok.ensures.grown.kept before (c.records.invariant.formed before);
-  plain = c.in-Ok.ensures.grown.plain c.records.invariant.plain;
+  begun = c.in-Ok.ensures.grown.kept c.records.invariant.begun;
   few = search rules;
   quiet = search rules;
 }
 
+-- the guest that END was read of is whole
+pub blank-requires : goal.blank-requires
+blank-requires g c = record { formed = (c.in-Ok.ensures.grown.kept c.records.invariant.begun).formed; faultless = c.in-Ok.ensures.faultless c.if-over.true }
+
 pub returns-then-over-clause-read : goal.returns-then-over-clause-read
 returns-then-over-clause-read g c =
-    arrived_end (opening_of c.args.version c.args.kind) _ _ _ c.records.seen c.read_next.new.seen c.records.guest c.read_next.new.guest _ c.in-Ok.over c.if-over.true (c.in-Ok.ensures.whole c.if-over.true).1 refl refl refl c.records.invariant.arrived (c.in-Ok.ensures.read (opening_of c.args.version c.args.kind))
+    arrived_end (opening_of c.args.version c.args.kind) _ _ _ c.records.seen c.read_next.new.seen c.records.guest c.read_next.new.guest _ c.in-Ok.over c.if-over.true c.blank.ensures refl refl c.records.invariant.arrived (c.in-Ok.ensures.read (opening_of c.args.version c.args.kind))
 
 pub returns-then-over-clause-whole : goal.returns-then-over-clause-whole
 returns-then-over-clause-whole g c =
-    let (fine, hvm) = c.in-Ok.ensures.whole c.if-over.true in
-    let grown = c.in-Ok.ensures.grown in
-    let before = sym grown.kind ∙ hvm in
-    record { formed = grown.kept before (c.records.invariant.formed before); faultless = fine }
+    subst IsWhole (sym c.blank.ensures) (whole_blank c.read_next.new.guest (record { formed = (c.in-Ok.ensures.grown.kept c.records.invariant.begun).formed; faultless = c.in-Ok.ensures.faultless c.if-over.true }))
+
+pub returns-then-over-clause-blank : goal.returns-then-over-clause-blank
+returns-then-over-clause-blank g c = subst (λ (x : GuestOf). blank x ≡ x) (sym c.blank.ensures) (blank_again c.read_next.new.guest)
 
 pub returns-then-over-clause-plain : goal.returns-then-over-clause-plain
-returns-then-over-clause-plain g c = record { hvm = (c.in-Ok.ensures.whole c.if-over.true).1; plain = c.in-Ok.ensures.grown.plain c.records.invariant.plain }
+returns-then-over-clause-plain g c = subst (λ (x : GuestOf). HasNoEmulators x.parts) (sym c.blank.ensures) (blank_plain c.read_next.new.guest (c.in-Ok.ensures.grown.kept c.records.invariant.begun).plain)
 
 pub returns-in-Err-clause-read : goal.returns-in-Err-clause-read
 returns-in-Err-clause-read g c =

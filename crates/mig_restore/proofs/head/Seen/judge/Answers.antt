@@ -1,4 +1,4 @@
-use Rattle.mig_restore.proofs.Common.{rules, ◌≡◌, ℕ, Option, Some, None, Result, Ok, Err, sym, ap, ◌∙◌, unless_faulty, Cause, fault_of_type, fault_of_long, fault_of_length, Seen, Before, fault_of_built, fault_of_number, IsSeen}
+use Rattle.mig_restore.proofs.Common.{rules, ◌≡◌, ℕ, Option, Some, None, Result, Ok, Err, sym, ap, ◌∙◌, unless_faulty, Cause, fault_of_type, fault_of_long, fault_of_length, Seen, Before, fault_of_number, IsSeen}
 use Rattle.std.specs.Option.{option_or}
 use Rattle.mig_restore.specs.Judging.{fault_of_fields}
 use Rattle.mig_restore.proofs.head.Seen.judge.Goals as goal
@@ -6,18 +6,34 @@ use Rattle.mig_restore.proofs.head.Seen.judge.Goals as goal
 abbrev Verdict : Type 0
 Verdict = Result (Unit {0}) Cause
 
-third : (a b c d e : Option Cause) (cause : Cause) → a ≡ None → b ≡ None → ◌≡◌ {A = Verdict} (Err cause) (unless_faulty c tt) → ◌≡◌ {A = Verdict} (Err cause) (unless_faulty (option_or a (option_or b (option_or c (option_or d e)))) tt)
-third a b None d e cause p q is = let no : ◌≡◌ {A = Verdict} (Err cause) (Ok tt) = is in cc
-third a b (Some x) d e cause p q is = rw (p, q) is
+second : (a b c d : Option Cause) (cause : Cause) → a ≡ None → ◌≡◌ {A = Verdict} (Err cause) (unless_faulty b tt) → ◌≡◌ {A = Verdict} (Err cause) (unless_faulty (option_or a (option_or b (option_or c d))) tt)
+second a None c d cause p is = let no : ◌≡◌ {A = Verdict} (Err cause) (Ok tt) = is in cc
+second a (Some x) c d cause p is = rw p is
 
 -- the order is broken
-order_broken : (seen : Seen) (b : Before) (type len : ℕ) (cause : Cause) → IsSeen seen b.opening b.types → fault_of_built seen.kind type ≡ None → fault_of_long len ≡ None
+order_broken : (seen : Seen) (b : Before) (type len : ℕ) (cause : Cause) → IsSeen seen b.opening b.types → fault_of_long len ≡ None
     → ◌≡◌ {A = Verdict} (Err cause) (unless_faulty (fault_of_type seen.gate.version seen.gate.kind b.types type) tt) → ◌≡◌ {A = Verdict} (Err cause) (unless_faulty (fault_of_fields b type len) tt)
 unfolding fault_of_fields
-order_broken seen b type len cause s built short is =
-    third _ _ _ (fault_of_length type len) (fault_of_number b.types) cause (ap (λ k. fault_of_built k type) (sym s.kind) ∙ built) short
+order_broken seen b type len cause s short is =
+    second _ _ (fault_of_length type len) (fault_of_number b.types) cause short
     (is ∙ ap (λ v. unless_faulty (fault_of_type v seen.gate.kind b.types type) tt) s.gate_version ∙ ap (λ k. unless_faulty (fault_of_type b.opening.version k b.types type) tt) s.gate_kind)
+
+third : (a b c d : Option Cause) (cause : Cause) → a ≡ None → ◌≡◌ {A = Verdict} (Ok tt) (unless_faulty b tt) → c ≡ Some cause → ◌≡◌ {A = Verdict} (Err cause) (unless_faulty (option_or a (option_or b (option_or c d))) tt)
+third a None c d cause p q is = sym (ap (λ o. unless_faulty (option_or o (option_or None (option_or c d))) tt) p ∙ ap (λ o. unless_faulty (option_or o d) tt) is)
+third a (Some x) c d cause p q is = let no : ◌≡◌ {A = Verdict} (Ok tt) (Err x) = q in cc
+
+-- the length isn't one of the type
+length_bad : (seen : Seen) (b : Before) (type len : ℕ) (cause : Cause) → IsSeen seen b.opening b.types → fault_of_long len ≡ None
+    → ◌≡◌ {A = Verdict} (Ok tt) (unless_faulty (fault_of_type seen.gate.version seen.gate.kind b.types type) tt) → fault_of_length type len ≡ Some cause → ◌≡◌ {A = Verdict} (Err cause) (unless_faulty (fault_of_fields b type len) tt)
+unfolding fault_of_fields
+length_bad seen b type len cause s short step is =
+    third _ _ (fault_of_length type len) (fault_of_number b.types) cause short
+    (step ∙ ap (λ v. unless_faulty (fault_of_type v seen.gate.kind b.types type) tt) s.gate_version ∙ ap (λ k. unless_faulty (fault_of_type b.opening.version k b.types type) tt) s.gate_kind) is
 
 pub returns-in-Err-clause-judged : goal.returns-in-Err-clause-judged
 returns-in-Err-clause-judged c = λ b seen.
-    order_broken c.args.self.now b c.args.head.kind c.args.head.len c.in-Err.cause seen (search rules) (search rules) (c.in-Err.ensures.judged b.types seen.gate)
+    order_broken c.args.self.now b c.args.head.kind c.args.head.len c.in-Err.cause seen (search rules) (c.in-Err.ensures.judged b.types seen.gate)
+
+pub returns-in-Some-length_fault-clause-judged : goal.returns-in-Some-length_fault-clause-judged
+returns-in-Some-length_fault-clause-judged c = λ b seen.
+    length_bad c.args.self.now b c.args.head.kind c.args.head.len c.in-Some-length_fault.cause seen (search rules) (c.in_default-step.ensures.judged b.types seen.gate) (search rules)
