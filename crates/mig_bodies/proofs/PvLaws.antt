@@ -1,10 +1,16 @@
--- The bodies of X86_PV_INFO and X86_PV_P2M_FRAMES without fault are those that are spelled so; P2M frames keep a guest
--- well formed.
-use Rattle.mig_bodies.proofs.Common.{◌≡◌, ℕ, ◌+◌, ◌*◌, ◌≤◌, ◌↔◌, Bool, true, false, not, List, [], ◌∷◌, ◌++◌, length, take, drop, nat_le, None, refl, sym, ap, ◌∙◌, arith, take-append-drop, length-append, length-drop, ◌==◌, ◌&&◌, drop-append-le, little_number, little_from-append, eqb-true, eq-eqb, leb-false, le-leb, lt-leb, and_parts, not-false, rows_fine, no_fault, BadLength, Pv32, BadPvInfo, P2mStart, P2mRange}
-use Rattle.std.proofs.lemmas.List.{drop_at, length-take-le}
+-- The bodies of X86_PV_INFO and X86_PV_P2M_FRAMES without fault are those that are spelled so; what is wrong with the body
+-- of a vCPU's record.
+use Rattle.mig_bodies.proofs.Common.{◌≡◌, ℕ, ◌+◌, ◌*◌, ◌≤◌, ◌↔◌, Bool, true, false, not, List, [], ◌∷◌, ◌++◌, length, take, drop, nat_le, None, refl, sym, ap, ◌∙◌, arith, take-append-drop, length-append, length-drop, length-take-le, ◌==◌, ◌&&◌, drop-append-le, little_number, little_from-append, eqb-true, eq-eqb, leb-false, le-leb, le-ltb, lt-leb, and_parts, not-false, rows_fine, no_fault, Cause, Option, first_fault, fault_of_body, HasBodyLength, small_number, gdt_ents, PartCode, VcpuBasic, VcpuMsrs, leb-true, nat_lt, BadLength, Pv32, BadPvInfo, P2mStart, P2mRange}
+use Rattle.std.proofs.lemmas.List.{drop_at}
+use Rattle.std.specs.Prelude.{◌||◌, ◌-◌, ◌%◌}
+use Rattle.std.specs.Option.{option_or}
+use Rattle.std.proofs.lemmas.Grind.{common_steps}
 use Rattle.mig_bytes.specs.Fields.{le32}
 use Rattle.mig_pagetypes.specs.Limits.{pfn_limit}
-use Rattle.mig_bodies.specs.PvBodies.{IsPvInfo, fault_of_pv_info, p2m_count, IsP2m, fault_of_p2m}
+use Rattle.mig_headers.specs.declared.fault.Cause.TheVariants.{VcpuId, GdtEnts}
+use Rattle.mig_headers.specs.declared.record_type.RecordType.TheVariants as types
+use Rattle.mig_guest.specs.declared.part_code.PartCode.TheVariants.{VcpuExtended, VcpuXsave}
+use Rattle.mig_bodies.specs.PvBodies.{IsPvInfo, fault_of_pv_info, p2m_count, IsP2m, fault_of_p2m, is_vcpu, fault_of_vcpu}
 
 -- ---- X86_PV_INFO
 
@@ -76,3 +82,57 @@ list_is last frames body is =
       ap (λ l. le32 l 4) is.whole ∙ at_front is.front frames 4 (omega (arith, is.front_len)) ∙ is.last_is,
       ap (drop 8) is.whole ∙ drop_at is.front frames 8 is.front_len,
     )
+
+-- ---- the records of vCPUs
+
+-- a number isn't below another where that one isn't above it
+not_below : (n : ℕ) → not (nat_lt n 4096 && true) ≡ nat_le 4096 n
+not_below n = grind (arith, common_steps)
+
+-- two rows of a table, each by a test that is another's
+rows_alike : (tests : Bool × Bool) (others : Bool × Bool) (c d : Cause) → tests.0 ≡ others.0 → tests.1 ≡ others.1
+    → option_or (first_fault ((tests.0, c) ∷ [])) (first_fault ((tests.1, d) ∷ [])) ≡ first_fault ((others.0, c) ∷ (others.1, d) ∷ [])
+rows_alike tests others c d first second =
+    elim others.0 as (λ b. tests.0 ≡ b → option_or (first_fault ((tests.0, c) ∷ [])) (first_fault ((tests.1, d) ∷ [])) ≡ first_fault ((b, c) ∷ (others.1, d) ∷ [])) [
+      | true ↦ λ e. ap (λ b. option_or (first_fault ((b, c) ∷ [])) (first_fault ((tests.1, d) ∷ []))) e
+      | false ↦ λ e. ap (λ b. option_or (first_fault ((b, c) ∷ [])) (first_fault ((tests.1, d) ∷ []))) e ∙ ap (λ b. first_fault ((b, d) ∷ [])) second
+    ] first
+
+module _ (body : List ℕ) where
+  abbrev id : ℕ
+  id = le32 body 0
+
+  id_row : not (small_number (little_number 4 body) 0) ≡ nat_le 4096 id
+  unfolding le32
+  id_row = not_below (little_number 4 body)
+
+  id_named : VcpuId (little_number 4 body) ≡ VcpuId id
+  unfolding le32
+  id_named = refl
+
+  -- a body that is long enough, and of which more is asked
+  behind_front : (n : ℕ) (rest : Option Cause) → 8 ≤ length body → option_or (first_fault ((nat_lt (length body) 8, BadLength n) ∷ [])) rest ≡ rest
+  behind_front n rest long = ap (λ b. option_or (first_fault ((b, BadLength n) ∷ [])) rest) (le-ltb (length body) 8 long)
+
+  id_alone : first_fault ((not (small_number (little_number 4 body) 0), VcpuId (little_number 4 body)) ∷ []) ≡ first_fault ((nat_le 4096 id, VcpuId id) ∷ [])
+  id_alone = ap (λ b. first_fault ((b, VcpuId (little_number 4 body)) ∷ [])) id_row ∙ ap (λ c. first_fault ((nat_le 4096 id, c) ∷ [])) id_named
+
+  -- behind the id nothing is refused of a part other than a context
+  other_codes : option_or (first_fault ((not (small_number (little_number 4 body) 0), VcpuId (little_number 4 body)) ∷ [])) None ≡ first_fault ((nat_le 4096 id, VcpuId id) ∷ [])
+  other_codes = elim (not (small_number (little_number 4 body) 0)) as (λ b. option_or (first_fault ((b, VcpuId (little_number 4 body)) ∷ [])) None ≡ first_fault ((b, VcpuId (little_number 4 body)) ∷ [])) [ true ↦ refl | false ↦ refl ] ∙ id_alone
+
+  -- whether a context is whole
+  whole_context : (length body == 8 || length body == 8 + 5168) ≡ true → (8 ≤ length body) × ((length (drop 8 body) == 5168) ≡ nat_lt 8 (length body))
+  whole_context has = grind (arith, common_steps, has, length-drop 8 body)
+
+pub vcpu_rows : (code : PartCode) (body : List ℕ) → is_vcpu code ≡ true → HasBodyLength code (length body) → fault_of_body code body ≡ fault_of_vcpu code body
+vcpu_rows VcpuBasic body is has =
+    let whole = whole_context body (has types.X86PvVcpuBasic refl) in
+    behind_front body _ _ whole.0
+    ∙ rows_alike (not (small_number (little_number 4 body) 0), (length (drop 8 body) == 5168) && nat_lt 7168 (gdt_ents (drop 8 body))) (nat_le 4096 (id body), nat_lt 8 (length body) && nat_lt 7168 (gdt_ents (drop 8 body))) _ _ (id_row body)
+    (ap (λ b. b && nat_lt 7168 (gdt_ents (drop 8 body))) whole.1)
+    ∙ ap (λ c. first_fault ((nat_le 4096 (id body), c) ∷ (nat_lt 8 (length body) && nat_lt 7168 (gdt_ents (drop 8 body)), GdtEnts (gdt_ents (drop 8 body))) ∷ [])) (id_named body)
+vcpu_rows VcpuExtended body is has = behind_front body _ _ (leb-true _ _ (has types.X86PvVcpuExtended refl)) ∙ other_codes body
+vcpu_rows VcpuXsave body is has = behind_front body _ _ (leb-true _ _ (has types.X86PvVcpuXsave refl)) ∙ other_codes body
+vcpu_rows VcpuMsrs body is has = behind_front body _ _ (leb-true _ _ (and_parts (nat_le 8 (length body)) ((length body - 8) % 16 == 0) (has types.X86PvVcpuMsrs refl)).0) ∙ other_codes body
+vcpu_rows _ body is has = let no : false ≡ true = is in cc

@@ -1,12 +1,15 @@
--- The bodies of X86_PV_INFO and X86_PV_P2M_FRAMES (libxc migration stream, "Records").
-use Rattle.std.specs.Prelude.{◌≡◌, ◌<◌, ℕ, ◌+◌, ◌-◌, ◌*◌, ◌/◌, List, [], ◌∷◌, ◌++◌, length, drop, slice_index, Option, Some, None, ◌==◌, ◌&&◌, not, nat_le, if◌then◌else◌}
+-- The bodies of X86_PV_INFO, X86_PV_P2M_FRAMES and the records of vCPUs (libxc migration stream, "Records").
+use Rattle.std.specs.Prelude.{◌≡◌, ◌<◌, ℕ, ◌+◌, ◌-◌, ◌*◌, ◌/◌, Bool, true, false, List, [], ◌∷◌, ◌++◌, length, drop, slice_index, Option, Some, None, ◌==◌, ◌&&◌, not, nat_le, nat_lt, if◌then◌else◌}
 use Rattle.std.specs.FinMap as maps
 use Rattle.mig_bytes.specs.Fields.{le32}
 use Rattle.mig_headers.specs.Rows.{first_fault}
 use Rattle.mig_headers.specs.declared.fault.Cause.{Cause}
-use Rattle.mig_headers.specs.declared.fault.Cause.TheVariants.{BadLength, Pv32, BadPvInfo, P2mStart, P2mRange}
+use Rattle.mig_headers.specs.declared.fault.Cause.TheVariants.{BadLength, Pv32, BadPvInfo, P2mStart, P2mRange, VcpuId, GdtEnts}
 use Rattle.mig_pagetypes.specs.Limits.{pfn_limit}
+use Rattle.mig_guest.specs.declared.part_code.PartCode.{PartCode}
+use Rattle.mig_guest.specs.declared.part_code.PartCode.TheVariants.{VcpuBasic, VcpuExtended, VcpuXsave, VcpuMsrs}
 use Rattle.mig_guest.specs.Guests.{GuestOf}
+use Rattle.mig_guest.specs.Formed.{gdt_ents}
 use Rattle.mig_guest.specs.PartKeys.{p2m_key}
 
 -- ---- X86_PV_INFO: the guest's width in bytes, the levels of its page tables, and 6 bytes that are ignored
@@ -57,3 +60,22 @@ greater m n = if nat_le m n then n else m
 -- the guest behind a record that lists the P2M frames up to last
 abbrev pub set_p2m : ℕ → List ℕ → GuestOf → GuestOf
 set_p2m last frames g = record g { top = greater g.top last; parts = maps.insert g.parts p2m_key (listed_over frames (maps.get g.parts p2m_key)) }
+
+-- ---- the records of vCPUs: a vCPU's id and 4 bytes that are ignored, and then its part, or nothing
+
+-- the codes of the parts that a vCPU has
+abbrev pub is_vcpu : PartCode → Bool
+is_vcpu VcpuBasic = true
+is_vcpu VcpuExtended = true
+is_vcpu VcpuXsave = true
+is_vcpu VcpuMsrs = true
+is_vcpu _ = false
+
+-- an id that is no vCPU's, or a whole context with too many descriptors
+abbrev pub fault_of_vcpu : PartCode → List ℕ → Option Cause
+fault_of_vcpu VcpuBasic body =
+    first_fault (
+    (nat_le 4096 (le32 body 0), VcpuId (le32 body 0))
+    ∷ (nat_lt 8 (length body) && nat_lt 7168 (gdt_ents (drop 8 body)), GdtEnts (gdt_ents (drop 8 body)))
+    ∷ [])
+fault_of_vcpu code body = first_fault ((nat_le 4096 (le32 body 0), VcpuId (le32 body 0)) ∷ [])

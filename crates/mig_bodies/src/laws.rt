@@ -1,12 +1,13 @@
-ghost use Rattle.std.specs.Prelude.{◌≡◌, ◌↔◌, ◌≤◌, ℕ, List, length, drop, None};
+ghost use Rattle.std.specs.Prelude.{◌≡◌, ◌↔◌, ◌≤◌, ℕ, true, List, length, drop, None};
 ghost use Rattle.std.specs.FinMap as maps;
 ghost use Rattle.mig_bytes.specs.Fields.{le32};
 ghost use Rattle.mig_headers.specs.declared.kind.Kind.TheVariants.{Pv};
+ghost use Rattle.mig_guest.specs.declared.part_code.PartCode.{PartCode};
 ghost use Rattle.mig_guest.specs.Guests.{GuestOf};
 ghost use Rattle.mig_guest.specs.PartKeys.{p2m_key};
 ghost use Rattle.mig_guest.specs.Formed.{IsFormed};
-ghost use Rattle.mig_bodies.specs.PvBodies.{IsPvInfo, fault_of_pv_info, IsP2m, fault_of_p2m, set_p2m};
-ghost use Rattle.mig_bodies.specs.Shapes.{BodiesAreSpelled, BodiesSayOne, BodiesSayParts, BodiesKeepFormed, CanonicalBodiesSay};
+ghost use Rattle.mig_bodies.specs.PvBodies.{IsPvInfo, fault_of_pv_info, IsP2m, fault_of_p2m, set_p2m, is_vcpu, fault_of_vcpu};
+ghost use Rattle.mig_bodies.specs.Shapes.{BodiesAreSpelled, BodiesSayOne, BodiesSayParts, BodiesKeepFormed, CanonicalBodiesSay, HasBodyLength, fault_of_body};
 
 /// The bodies without fault, and the parts that they set, are exactly those that are spelled so.
 #[tactic(auto, using(crate::proofs::Spelled::bodies_are_spelled))]
@@ -54,4 +55,11 @@ pub fn p2m_law()
 pub fn p2m_keeps_formed_law()
     ensures { (g : GuestOf) (last : ℕ) (frames body : List ℕ) → g.kind ≡ Pv → (maps.get g.parts p2m_key ≡ None → g.top ≡ 0) → IsP2m last frames body
         → IsFormed g → IsFormed (set_p2m last frames g) }
+{}
+
+/// The first fault of the body of a vCPU's record is that its id is no vCPU's, and then that its context has too many
+/// descriptors.
+#[tactic(auto, using(crate::proofs::PvLaws::vcpu_rows))]
+pub fn vcpu_law()
+    ensures { (code : PartCode) (body : List ℕ) → is_vcpu code ≡ true → HasBodyLength code (length body) → fault_of_body code body ≡ fault_of_vcpu code body }
 {}

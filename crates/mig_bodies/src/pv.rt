@@ -1,9 +1,11 @@
-ghost use Rattle.std.specs.Prelude.{◌≡◌, ◌≤◌, length, drop, None, OnOk, OnErr};
+ghost use Rattle.std.specs.Prelude.{◌≡◌, ◌≤◌, true, length, drop, None, OnOk, OnErr};
 ghost use Rattle.mig_bytes.specs.Fields.{le32};
-ghost use Rattle.mig_bodies.specs.PvBodies.{fault_of_pv_info, fault_of_p2m, set_p2m};
+ghost use Rattle.mig_bodies.specs.PvBodies.{fault_of_pv_info, fault_of_p2m, set_p2m, is_vcpu, fault_of_vcpu};
+ghost use Rattle.mig_bodies.specs.Shapes.{HasBodyLength};
 
+use crate::read::body_fault;
 use mig_bytes::{Memory, u32_le};
-use mig_guest::{Guest, PartKey};
+use mig_guest::{Guest, PartCode, PartKey};
 use mig_headers::Cause;
 use mig_pagetypes::PFN_LIMIT;
 
@@ -73,4 +75,15 @@ pub fn read_p2m(guest: &mut Guest, body: &[u8]) -> Result<(), Memory>
     }
     guest.set_top(guest.top().max(last));
     Ok(())
+}
+
+/// What is wrong with the body of a vCPU's record, of a length that its type has: `VcpuId` where its id is no vCPU's,
+/// `GdtEnts` where it is a whole context with too many descriptors.
+#[tactic(auto, using(crate::proofs::PvLaws::vcpu_rows))]
+pub fn vcpu_fault(code: PartCode, body: &[u8]) -> Option<Cause>
+    requires vcpu { is_vcpu code ≡ true }
+    requires length { HasBodyLength code (length body.now) }
+    ensures { result ≡ fault_of_vcpu code body.now }
+{
+    body_fault(code, body)
 }

@@ -1,4 +1,4 @@
-use Rattle.mig_bodies.proofs.Common.{◌≡◌, ◌+◌, ◌-◌, ◌*◌, List, length, None, ap, sym, ◌∙◌, arith, rules, entry_width, fault_of_entries}
+use Rattle.mig_bodies.proofs.Common.{◌≡◌, ◌+◌, ◌-◌, length, None, ap, sym, ◌∙◌, arith, rules, entry_width, fault_of_entries}
 use Rattle.std.specs.Prelude.{drop}
 use Rattle.mig_bodies.specs.Layouts.{fault_of_entry}
 use Rattle.mig_bodies.proofs.Reading.{shorter, fault_here, fault_next}
