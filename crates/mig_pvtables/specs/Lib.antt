@@ -3,6 +3,7 @@ pub mod VcpuContexts
 pub mod Blank
 pub mod Faults
 pub mod Tables
+pub mod Renaming
 pub mod Whole
 pub mod WholePv
 pub mod View
