@@ -19,5 +19,8 @@ pub mod BlankSays
 pub mod BlankShape
 pub mod BlankWhole
 pub mod BlankBack
+pub mod LongSteps
+pub mod Renamed
+pub mod RenameSteps
 pub mod Walks
 pub mod P2mWalks

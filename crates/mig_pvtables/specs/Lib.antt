@@ -4,6 +4,8 @@ pub mod Blank
 pub mod Faults
 pub mod Tables
 pub mod Renaming
+pub mod P2mPages
+pub mod BadEntries
 pub mod Whole
 pub mod WholePv
 pub mod View

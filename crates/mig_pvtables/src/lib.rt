@@ -5,18 +5,24 @@
 #![tactic(auto)]
 
 mod blanking;
+mod frames;
 mod law;
 mod listing;
+mod p2m;
+mod rename;
 mod table;
 mod testing;
 mod vcpu;
 
 pub use blanking::blank;
+pub use frames::Frames;
 pub use law::{
     blank_form_is_blank, blank_form_is_whole, faultless_table_is_within, hvm_guest_has_two_faults,
     hvm_guest_is_blank, hvm_guest_is_whole, pv_guest_is_whole, some_pv_guest_is_whole,
     whole_as_its_blank_form,
 };
+pub use p2m::p2m_page;
+pub use rename::{BadEntry, Why, localise_table, normalise_table};
 pub use table::{check_table, entry, put_entry};
 pub use testing::{WholeAnswer, whole};
 pub use vcpu::{put_vcpu_frame, vcpu_frame};

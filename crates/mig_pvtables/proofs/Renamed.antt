@@ -1,0 +1,235 @@
+-- Tables whose entries name other frames: what they say then, and that they come back.
+use Rattle.mig_pvtables.proofs.Common.{◌≡◌, ℕ, ◌*◌, ◌/◌, ◌%◌, ◌^◌, ◌<◌, Bool, true, false, cond, not, nat_le, ◌==◌, ◌&&◌, List, Option, Some, None, refl, sym, ap, subst, ◌∙◌, arith, long_at, each_long, Entry, Blank, NotPresent, Superpage, Frame, entry, is_blank_slot, blanked_table}
+use Rattle.mig_bytes.specs.Bytes.{AreBytes}
+use Rattle.mig_bytes.proofs.ByteLists.{Bytes, long_below}
+use Rattle.mig_guest.specs.Tables.{is_present, is_large, named_frame, entry_of, blanked_entry}
+use Rattle.mig_guest.proofs.Longs.{same_longs}
+use Rattle.mig_pvtables.specs.Tables.{with_frame}
+use Rattle.mig_pvtables.specs.Renaming.{with_name, named_anew, renamed_entry, renamed_by, name_for, renamed_table, normalised_table, entry_named, NamesFit, GoesBack}
+use Rattle.mig_pvtables.proofs.LongSteps.{long_of_each, each_twice}
+
+-- ---- the bits of one entry
+
+same_present : (e m : ℕ) → with_frame e m % 2 ≡ e % 2
+same_present e m = omega arith
+
+same_large : (e m : ℕ) → with_frame e m / 2 ^ 7 % 2 ≡ e / 2 ^ 7 % 2
+same_large e m = omega arith
+
+new_frame : (e m : ℕ) → m < 2 ^ 40 → named_frame (with_frame e m) ≡ m
+new_frame e m small = omega (arith, small)
+
+frame_again : (e m : ℕ) → m < 2 ^ 40 → with_frame (with_frame e m) (named_frame e) ≡ e
+frame_again e m small = omega (arith, small)
+
+with_frame_small : (e m : ℕ) → e < 2 ^ 64 → m < 2 ^ 40 → with_frame e m < 2 ^ 64
+with_frame_small e m fits small = omega (arith, fits, small)
+
+-- ---- what an entry says
+
+abbrev pub says : Bool → Bool → Bool → ℕ → Entry
+says blank present large n = cond blank Blank (cond (not present) NotPresent (cond large Superpage (Frame n)))
+
+same_says : (blank present large : Bool) (n m : ℕ) → says blank present large m ≡ entry_named (Some m) (says blank present large n)
+same_says true present large n m = refl
+same_says false false large n m = refl
+same_says false true true n m = refl
+same_says false true false n m = refl
+
+-- another frame in it leaves an entry what it is
+with_frame_says : (level slot e m : ℕ) → m < 2 ^ 40 → entry_of level slot (with_frame e m) ≡ entry_named (Some m) (entry_of level slot e)
+unfolding entry_of
+with_frame_says level slot e m small =
+    ap (λ b. says (is_blank_slot level slot) b (nat_le 2 level && is_large (with_frame e m)) (named_frame (with_frame e m))) (ap (λ n. n == 1) (same_present e m))
+    ∙ ap (λ b. says (is_blank_slot level slot) (is_present e) (nat_le 2 level && b) (named_frame (with_frame e m))) (ap (λ n. n == 1) (same_large e m))
+    ∙ ap (λ n. says (is_blank_slot level slot) (is_present e) (nat_le 2 level && is_large e) n) (new_frame e m small)
+    ∙ same_says (is_blank_slot level slot) (is_present e) (nat_le 2 level && is_large e) (named_frame e) m
+
+says_frame : (blank present large : Bool) (a n : ℕ) → says blank present large a ≡ Frame n → a ≡ n
+says_frame true present large a n is = let no : Blank ≡ Frame n = is in cc
+says_frame false false large a n is = let no : NotPresent ≡ Frame n = is in cc
+says_frame false true true a n is = let no : Superpage ≡ Frame n = is in cc
+says_frame false true false a n is = cc
+
+-- the frame that an entry says is the one in its bits
+frame_said : (level slot e n : ℕ) → entry_of level slot e ≡ Frame n → named_frame e ≡ n
+unfolding entry_of
+frame_said level slot e n is = says_frame (is_blank_slot level slot) (is_present e) (nat_le 2 level && is_large e) (named_frame e) n is
+
+says_blank : (blank present large : Bool) (n : ℕ) → blank ≡ true → says blank present large n ≡ Blank
+says_blank true present large n is = refl
+says_blank false present large n is = let no : false ≡ true = is in cc
+
+pub blank_says : (level slot e : ℕ) → is_blank_slot level slot ≡ true → entry_of level slot e ≡ Blank
+unfolding entry_of
+blank_says level slot e is = says_blank (is_blank_slot level slot) (is_present e) (nat_le 2 level && is_large e) (named_frame e) is
+
+-- ---- one entry renamed by its slot
+
+-- where the entry names a frame, the name fits
+abbrev pub Fits : Option ℕ → Entry → Type 0
+Fits name x = (n m : ℕ) → x ≡ Frame n → name ≡ Some m → m < 2 ^ 40
+
+module _ (name : Option ℕ) (level slot e : ℕ) where
+  plain : (x : Entry) → entry_of level slot e ≡ x → named_anew name e x ≡ e → entry_named name x ≡ x → entry_of level slot (named_anew name e x) ≡ entry_named name x
+  plain x is stays same = ap (entry_of level slot) stays ∙ is ∙ sym same
+
+  entry_stays : (o : Option ℕ) (x : Entry) → ((n : ℕ) → x ≡ Frame n → ⊥) → entry_named o x ≡ x
+  entry_stays None x none = refl
+  entry_stays (Some m) Blank none = refl
+  entry_stays (Some m) NotPresent none = refl
+  entry_stays (Some m) Superpage none = refl
+  entry_stays (Some m) (Frame n) none = absurd (none n refl)
+
+  frame_named : (n : ℕ) (o : Option ℕ) → entry_of level slot e ≡ Frame n → ((m : ℕ) → o ≡ Some m → m < 2 ^ 40) → entry_of level slot (with_name e o) ≡ entry_named o (Frame n)
+  frame_named n None is fits = is
+  frame_named n (Some m) is fits = with_frame_says level slot e m (fits m refl) ∙ ap (entry_named (Some m)) is
+
+  said_case : (x : Entry) → entry_of level slot e ≡ x → Fits name x → entry_of level slot (named_anew name e x) ≡ entry_named name x
+  said_case Blank is fits = plain Blank is refl (entry_stays name Blank (λ n no. cc))
+  said_case NotPresent is fits = plain NotPresent is refl (entry_stays name NotPresent (λ n no. cc))
+  said_case Superpage is fits = plain Superpage is refl (entry_stays name Superpage (λ n no. cc))
+  said_case (Frame n) is fits = frame_named n name is (λ m has. fits n m refl has)
+
+  named_small : (o : Option ℕ) → ((m : ℕ) → o ≡ Some m → m < 2 ^ 40) → e < 2 ^ 64 → with_name e o < 2 ^ 64
+  named_small None fits small = small
+  named_small (Some m) fits small = with_frame_small e m small (fits m refl)
+
+  small_case : (x : Entry) → Fits name x → e < 2 ^ 64 → named_anew name e x < 2 ^ 64
+  small_case Blank fits small = small
+  small_case NotPresent fits small = small
+  small_case Superpage fits small = small
+  small_case (Frame n) fits small = named_small name (λ m has. fits n m refl has) small
+
+  named_bits : (o : Option ℕ) → (is_present (with_name e o) ≡ is_present e) × (is_large (with_name e o) ≡ is_large e)
+  named_bits None = (refl, refl)
+  named_bits (Some m) = (ap (λ n. n == 1) (same_present e m), ap (λ n. n == 1) (same_large e m))
+
+  bits_case : (x : Entry) → (is_present (named_anew name e x) ≡ is_present e) × (is_large (named_anew name e x) ≡ is_large e)
+  bits_case Blank = (refl, refl)
+  bits_case NotPresent = (refl, refl)
+  bits_case Superpage = (refl, refl)
+  bits_case (Frame n) = named_bits name
+
+module _ (names : ℕ → Option ℕ) (level slot e : ℕ) where
+  renamed_says : Fits (names slot) (entry_of level slot e) → entry_of level slot (renamed_entry names level slot e) ≡ entry_named (names slot) (entry_of level slot e)
+  unfolding renamed_entry
+  renamed_says fits = said_case (names slot) level slot e (entry_of level slot e) refl fits
+
+  pub renamed_small : Fits (names slot) (entry_of level slot e) → e < 2 ^ 64 → renamed_entry names level slot e < 2 ^ 64
+  unfolding renamed_entry
+  renamed_small fits small = small_case (names slot) level slot e (entry_of level slot e) fits small
+
+  renamed_bits : (is_present (renamed_entry names level slot e) ≡ is_present e) × (is_large (renamed_entry names level slot e) ≡ is_large e)
+  unfolding renamed_entry
+  renamed_bits = bits_case (names slot) level slot e (entry_of level slot e)
+
+-- ---- a table renamed by its slots
+
+module _ (names : ℕ → Option ℕ) (level : ℕ) (page : List ℕ) (bytes : Bytes page) (fit : NamesFit names level page) where
+  fits_at : (slot : ℕ) → slot < 512 → Fits (names slot) (entry level page slot)
+  fits_at slot lt n m is has = fit slot n m lt is has
+
+  pub all_small : (slot : ℕ) → slot < 512 → renamed_entry names level slot (long_at page slot) < 2 ^ 64
+  all_small slot lt = renamed_small names level slot (long_at page slot) (fits_at slot lt) (long_below (8 * slot) page bytes)
+
+  pub renamed_at : (slot : ℕ) → slot < 512 → long_at (renamed_by names level page) slot ≡ renamed_entry names level slot (long_at page slot)
+  renamed_at slot lt = long_of_each 512 (renamed_entry names level) page all_small slot lt
+
+  -- what it says
+  pub said_anew : (slot : ℕ) → slot < 512 → entry level (renamed_by names level page) slot ≡ entry_named (names slot) (entry level page slot)
+  said_anew slot lt = ap (entry_of level slot) (renamed_at slot lt) ∙ renamed_says names level slot (long_at page slot) (fits_at slot lt)
+
+  pub same_bits : (slot : ℕ) → slot < 512 → (is_present (long_at (renamed_by names level page) slot) ≡ is_present (long_at page slot)) × (is_large (long_at (renamed_by names level page) slot) ≡ is_large (long_at page slot))
+  same_bits slot lt =
+      let bits = renamed_bits names level slot (long_at page slot) in
+      (ap is_present (renamed_at slot lt) ∙ bits.0, ap is_large (renamed_at slot lt) ∙ bits.1)
+
+-- ---- one entry renamed by its frame
+
+abbrev pub renamed_long : (ℕ → Option ℕ) → ℕ → ℕ → ℕ → ℕ
+renamed_long f level slot e = renamed_entry (λ _. name_for f (entry_of level slot e)) level slot e
+
+pub by_frames : (f : ℕ → Option ℕ) (level : ℕ) (page : List ℕ) → renamed_table f level page ≡ each_long 512 (renamed_long f level) page
+unfolding renamed_entry
+by_frames f level page = refl
+
+-- each frame that an entry says goes back
+abbrev pub EntryGoesBack : (ℕ → Option ℕ) → (ℕ → Option ℕ) → Entry → Type 0
+EntryGoesBack f back x = (n : ℕ) → x ≡ Frame n → GoesBack f back n
+
+fits_back : (f back : ℕ → Option ℕ) (x : Entry) → EntryGoesBack f back x → Fits (name_for f x) x
+fits_back f back x goes n m is has =
+    let g = goes n is in
+    let there : f n ≡ Some m = sym (ap (name_for f) is) ∙ has in
+    let same : g.name ≡ m = cc in subst (λ k. k < 2 ^ 40) same g.small
+
+module _ (f : ℕ → Option ℕ) (level slot e : ℕ) where
+  -- an entry that names no frame stays
+  pub renamed_case : (x : Entry) → entry_of level slot e ≡ x → renamed_long f level slot e ≡ named_anew (name_for f x) e x
+  unfolding renamed_entry
+  renamed_case x is = ap (λ y. named_anew (name_for f y) e y) is
+
+  -- an entry that names one gets its name
+  pub renamed_frame : (n m : ℕ) → entry_of level slot e ≡ Frame n → f n ≡ Some m → renamed_long f level slot e ≡ with_frame e m
+  renamed_frame n m is has = renamed_case (Frame n) is ∙ ap (with_name e) has
+
+  module _ (back : ℕ → Option ℕ) where
+    small_back : EntryGoesBack f back (entry_of level slot e) → e < 2 ^ 64 → renamed_long f level slot e < 2 ^ 64
+    small_back goes small = renamed_small (λ _. name_for f (entry_of level slot e)) level slot e (fits_back f back (entry_of level slot e) goes) small
+
+    stays : (x : Entry) → entry_of level slot e ≡ x → named_anew (name_for f x) e x ≡ e → named_anew (name_for back x) e x ≡ e → renamed_long back level slot (renamed_long f level slot e) ≡ e
+    unfolding renamed_entry
+    stays x is one two = ap (renamed_long back level slot) (renamed_case x is ∙ one) ∙ ap (λ y. named_anew (name_for back y) e y) is ∙ two
+
+    from_name : (n m : ℕ) → entry_of level slot (with_frame e m) ≡ Frame m → back m ≡ Some n → renamed_long back level slot (with_frame e m) ≡ with_frame (with_frame e m) n
+    unfolding renamed_entry
+    from_name n m said has = ap (λ y. named_anew (name_for back y) (with_frame e m) y) said ∙ ap (with_name (with_frame e m)) has
+
+    back_case : (x : Entry) → entry_of level slot e ≡ x → EntryGoesBack f back x → renamed_long back level slot (renamed_long f level slot e) ≡ e
+    back_case Blank is goes = stays Blank is refl refl
+    back_case NotPresent is goes = stays NotPresent is refl refl
+    back_case Superpage is goes = stays Superpage is refl refl
+    back_case (Frame n) is goes =
+        let g = goes n refl in
+        ap (renamed_long back level slot) (renamed_frame n g.name is g.there)
+        ∙ from_name n g.name (with_frame_says level slot e g.name g.small ∙ ap (entry_named (Some g.name)) is) g.again
+        ∙ ap (with_frame (with_frame e g.name)) (sym (frame_said level slot e n is)) ∙ frame_again e g.name g.small
+
+    -- renamed, and renamed back
+    entry_back : EntryGoesBack f back (entry_of level slot e) → renamed_long back level slot (renamed_long f level slot e) ≡ e
+    entry_back goes = back_case (entry_of level slot e) refl goes
+
+-- ---- the blank slots
+
+pub blanked_small : (level slot e : ℕ) → e < 2 ^ 64 → blanked_entry level slot e < 2 ^ 64
+unfolding blanked_entry
+blanked_small level slot e fits = elim (is_blank_slot level slot) as (λ b. cond b 0 e < 2 ^ 64) [ true ↦ omega arith | false ↦ fits ]
+
+-- renaming leaves blank slots alone, so they can be set to 0 before it or after it
+blanks_first : (f : ℕ → Option ℕ) (level slot e : ℕ) → renamed_long f level slot (blanked_entry level slot e) ≡ blanked_entry level slot (renamed_long f level slot e)
+unfolding blanked_entry renamed_entry
+blanks_first f level slot e = by_case (is_blank_slot level slot) refl
+  where
+    anew : ℕ → ℕ
+    anew v = named_anew (name_for f (entry_of level slot v)) v (entry_of level slot v)
+
+    by_case : (b : Bool) → is_blank_slot level slot ≡ b → anew (cond b 0 e) ≡ cond b 0 (anew e)
+    by_case true is = ap (λ x. named_anew (name_for f x) 0 x) (blank_says level slot 0 is)
+    by_case false is = refl
+
+-- ---- a table renamed by its frames, and renamed back
+
+-- each frame that a table names goes back
+abbrev pub TableGoesBack : (ℕ → Option ℕ) → (ℕ → Option ℕ) → ℕ → List ℕ → Type 0
+TableGoesBack f back level page = (slot n : ℕ) → slot < 512 → entry level page slot ≡ Frame n → GoesBack f back n
+
+-- normalising a localised table gives the table, with 0 in the blank slots
+normalised_by_longs : (f back : ℕ → Option ℕ) (level : ℕ) (page : List ℕ) → Bytes page → TableGoesBack f back level page → normalised_table back level (renamed_table f level page) ≡ blanked_table level page
+normalised_by_longs f back level page bytes goes =
+    let small = λ (slot : ℕ) (lt : slot < 512). small_back f level slot (long_at page slot) back (λ n is. goes slot n lt is) (long_below (8 * slot) page bytes) in
+    by_frames back level (blanked_table level (renamed_table f level page))
+    ∙ ap (λ p. each_long 512 (renamed_long back level) (blanked_table level p)) (by_frames f level page)
+    ∙ ap (each_long 512 (renamed_long back level)) (each_twice 512 (renamed_long f level) page small (blanked_entry level))
+    ∙ each_twice 512 (λ slot e. blanked_entry level slot (renamed_long f level slot e)) page (λ slot lt. blanked_small level slot _ (small slot lt)) (renamed_long back level)
+    ∙ same_longs 512 _ _ (λ slot lt. blanks_first back level slot (renamed_long f level slot (long_at page slot)) ∙ ap (blanked_entry level slot) (entry_back f level slot (long_at page slot) back (λ n is. goes slot n lt is)))

@@ -1,0 +1,115 @@
+ghost use Rattle.std.specs.Prelude.{◌≡◌, ◌≤◌, ◌<◌, ◌*◌, ◌^◌, ℕ, Option, Some, None, IfSome};
+ghost use Rattle.std.specs.Result.{OnOk, OnErr, IfErr};
+ghost use Rattle.mig_guest.specs.declared.table.Entry.TheVariants.{Frame};
+ghost use Rattle.mig_guest.specs.Tables.{entry as what_is_said};
+ghost use Rattle.mig_pvtables.specs.Renaming.{renamed_table, normalised_table};
+ghost use Rattle.mig_pvtables.specs.BadEntries.{bad_entry, first_unknown};
+
+use crate::frames::Frames;
+use crate::table::{SLOTS, entry, put_entry, superpage_slot};
+use mig_bytes::put_u64_le;
+use mig_guest::Entry;
+use thiserror::Error;
+
+/// Puts the machine frame of each frame number that an entry names in its place. An entry whose frame number has none
+/// stays.
+pub fn localise_table<F: Frames>(page: &mut [u8; 4096], level: u8, frames: &F)
+    requires least { 1 ≤ level }
+    requires most { level ≤ 4 }
+    ensures { page.new ≡ renamed_table (F.mfns frames.now) level page.old }
+{
+    for slot in 0..SLOTS {
+        if let Entry::Frame(pfn) = entry(page, level, slot) {
+            if let Some(mfn) = frames.mfn_of(pfn) {
+                put_entry(page, slot, mfn);
+            }
+        }
+    }
+}
+
+/// Why an entry has no form in a stream.
+#[derive(Clone, Copy, Debug, PartialEq, Eq)]
+pub enum Why {
+    Superpage,
+    /// The machine frame that it names has no frame number.
+    NoFrame,
+}
+
+/// The first entry of a table that has no form in a stream.
+#[derive(Clone, Copy, Debug, PartialEq, Eq, Error)]
+#[error("an entry has no form in a stream")]
+pub struct BadEntry {
+    pub slot: u16,
+    pub why: Why,
+}
+
+/// The first slot whose entry names a machine frame that has no frame number.
+#[tactic(auto, using(crate::proofs::Slots::no_slot))]
+fn unknown_slot<F: Frames>(page: &[u8; 4096], level: u8, frames: &F) -> Option<usize>
+    requires least { 1 ≤ level }
+    requires most { level ≤ 4 }
+    ensures value { result ≡ first_unknown (F.pfns frames.now) level page.now }
+    ensures small { IfSome result (λ slot. slot < 512) }
+{
+    for slot in 0..SLOTS {
+        if let Entry::Frame(mfn) = entry(page, level, slot) {
+            match frames.pfn_of(mfn) {
+                Some(_) => {}
+                None => return Some(slot),
+            }
+        }
+    }
+    None
+}
+
+/// Sets blank slots to 0, and puts the frame number of each machine frame that an entry names in its place.
+fn rename_back<F: Frames>(page: &mut [u8; 4096], level: u8, frames: &F)
+    requires least { 1 ≤ level }
+    requires most { level ≤ 4 }
+    requires small { (slot n pfn : ℕ) → slot < 512 → what_is_said level page.old slot ≡ Frame n → F.pfns frames.now n ≡ Some pfn → pfn < 2 ^ 40 }
+    ensures { page.new ≡ normalised_table (F.pfns frames.now) level page.old }
+{
+    for slot in 0..SLOTS {
+        match entry(page, level, slot) {
+            Entry::Blank => put_u64_le(page, 8 * slot, 0),
+            Entry::Frame(mfn) => {
+                if let Some(pfn) = frames.pfn_of(mfn) {
+                    put_entry(page, slot, pfn);
+                }
+            }
+            _ => {}
+        }
+    }
+}
+
+/// Brings a machine's table to its form in a stream: blank slots are 0, and entries name frame numbers. `Err` is the
+/// first superpage, or where there is none the first entry whose machine frame has no frame number; the page is as it
+/// was then.
+pub fn normalise_table<F: Frames>(
+    page: &mut [u8; 4096],
+    level: u8,
+    frames: &F,
+) -> Result<(), BadEntry>
+    requires least { 1 ≤ level }
+    requires most { level ≤ 4 }
+    requires small { (slot n pfn : ℕ) → slot < 512 → what_is_said level page.old slot ≡ Frame n → F.pfns frames.now n ≡ Some pfn → pfn < 2 ^ 40 }
+    ensures ok { OnOk result (page.new ≡ normalised_table (F.pfns frames.now) level page.old) }
+    ensures none { OnOk result (bad_entry (F.pfns frames.now) level page.old ≡ None) }
+    ensures first { IfErr result (λ bad. bad_entry (F.pfns frames.now) level page.old ≡ Some bad) }
+    ensures err { OnErr result (page.new ≡ page.old) }
+{
+    if let Some(slot) = superpage_slot(page, level) {
+        return Err(BadEntry {
+            slot: slot as u16,
+            why: Why::Superpage,
+        });
+    }
+    if let Some(slot) = unknown_slot(page, level, frames) {
+        return Err(BadEntry {
+            slot: slot as u16,
+            why: Why::NoFrame,
+        });
+    }
+    rename_back(page, level, frames);
+    Ok(())
+}
