@@ -1,7 +1,8 @@
 -- Tables whose entries name other frames: what they say then, and that they come back.
 use Rattle.mig_pvtables.proofs.Common.{◌≡◌, ℕ, ◌*◌, ◌/◌, ◌%◌, ◌^◌, ◌<◌, Bool, true, false, cond, not, nat_le, ◌==◌, ◌&&◌, List, Option, Some, None, refl, sym, ap, subst, ◌∙◌, arith, long_at, each_long, Entry, Blank, NotPresent, Superpage, Frame, entry, is_blank_slot, blanked_table}
+use Rattle.std.proofs.lemmas.List.Elements.{recursion_from_All}
 use Rattle.mig_bytes.specs.Bytes.{AreBytes}
-use Rattle.mig_bytes.proofs.ByteLists.{Bytes, long_below}
+use Rattle.mig_bytes.proofs.ByteLists.{long_below}
 use Rattle.mig_guest.specs.Tables.{is_present, is_large, named_frame, entry_of, blanked_entry}
 use Rattle.mig_guest.proofs.Longs.{same_longs}
 use Rattle.mig_pvtables.specs.Tables.{with_frame}
@@ -12,6 +13,22 @@ use Rattle.mig_pvtables.proofs.LongSteps.{long_of_each, each_twice}
 
 same_present : (e m : ℕ) → with_frame e m % 2 ≡ e % 2
 same_present e m = omega arith
+
+low_bits : (e m : ℕ) → with_frame e m % 2 ^ 12 ≡ e % 2 ^ 12
+low_bits e m = omega arith
+
+high_bits : (e m : ℕ) → m < 2 ^ 40 → with_frame e m / 2 ^ 52 ≡ e / 2 ^ 52
+high_bits e m small = omega (arith, small)
+
+-- all bits but those of the frame are the same
+abbrev pub Kept : ℕ → ℕ → Type 0
+Kept a b = (a % 2 ^ 12 ≡ b % 2 ^ 12) × (a / 2 ^ 52 ≡ b / 2 ^ 52)
+
+kept_present : (a b : ℕ) → Kept a b → is_present a ≡ is_present b
+kept_present a b kept = let low = kept.0 in let e : a % 2 ≡ b % 2 = omega (arith, low) in ap (λ n. n == 1) e
+
+kept_large : (a b : ℕ) → Kept a b → is_large a ≡ is_large b
+kept_large a b kept = let low = kept.0 in let e : a / 2 ^ 7 % 2 ≡ b / 2 ^ 7 % 2 = omega (arith, low) in ap (λ n. n == 1) e
 
 same_large : (e m : ℕ) → with_frame e m / 2 ^ 7 % 2 ≡ e / 2 ^ 7 % 2
 same_large e m = omega arith
@@ -101,15 +118,15 @@ module _ (name : Option ℕ) (level slot e : ℕ) where
   small_case Superpage fits small = small
   small_case (Frame n) fits small = named_small name (λ m has. fits n m refl has) small
 
-  named_bits : (o : Option ℕ) → (is_present (with_name e o) ≡ is_present e) × (is_large (with_name e o) ≡ is_large e)
-  named_bits None = (refl, refl)
-  named_bits (Some m) = (ap (λ n. n == 1) (same_present e m), ap (λ n. n == 1) (same_large e m))
+  named_kept : (o : Option ℕ) → ((m : ℕ) → o ≡ Some m → m < 2 ^ 40) → Kept (with_name e o) e
+  named_kept None fits = (refl, refl)
+  named_kept (Some m) fits = (low_bits e m, high_bits e m (fits m refl))
 
-  bits_case : (x : Entry) → (is_present (named_anew name e x) ≡ is_present e) × (is_large (named_anew name e x) ≡ is_large e)
-  bits_case Blank = (refl, refl)
-  bits_case NotPresent = (refl, refl)
-  bits_case Superpage = (refl, refl)
-  bits_case (Frame n) = named_bits name
+  kept_case : (x : Entry) → Fits name x → Kept (named_anew name e x) e
+  kept_case Blank fits = (refl, refl)
+  kept_case NotPresent fits = (refl, refl)
+  kept_case Superpage fits = (refl, refl)
+  kept_case (Frame n) fits = named_kept name (λ m has. fits n m refl has)
 
 module _ (names : ℕ → Option ℕ) (level slot e : ℕ) where
   renamed_says : Fits (names slot) (entry_of level slot e) → entry_of level slot (renamed_entry names level slot e) ≡ entry_named (names slot) (entry_of level slot e)
@@ -120,18 +137,18 @@ module _ (names : ℕ → Option ℕ) (level slot e : ℕ) where
   unfolding renamed_entry
   renamed_small fits small = small_case (names slot) level slot e (entry_of level slot e) fits small
 
-  renamed_bits : (is_present (renamed_entry names level slot e) ≡ is_present e) × (is_large (renamed_entry names level slot e) ≡ is_large e)
+  renamed_kept : Fits (names slot) (entry_of level slot e) → Kept (renamed_entry names level slot e) e
   unfolding renamed_entry
-  renamed_bits = bits_case (names slot) level slot e (entry_of level slot e)
+  renamed_kept fits = kept_case (names slot) level slot e (entry_of level slot e) fits
 
 -- ---- a table renamed by its slots
 
-module _ (names : ℕ → Option ℕ) (level : ℕ) (page : List ℕ) (bytes : Bytes page) (fit : NamesFit names level page) where
+module _ (names : ℕ → Option ℕ) (level : ℕ) (page : List ℕ) (all : AreBytes page) (fit : NamesFit names level page) where
   fits_at : (slot : ℕ) → slot < 512 → Fits (names slot) (entry level page slot)
   fits_at slot lt n m is has = fit slot n m lt is has
 
   pub all_small : (slot : ℕ) → slot < 512 → renamed_entry names level slot (long_at page slot) < 2 ^ 64
-  all_small slot lt = renamed_small names level slot (long_at page slot) (fits_at slot lt) (long_below (8 * slot) page bytes)
+  all_small slot lt = renamed_small names level slot (long_at page slot) (fits_at slot lt) (long_below (8 * slot) page (recursion_from_All (λ b. b < 256) page all))
 
   pub renamed_at : (slot : ℕ) → slot < 512 → long_at (renamed_by names level page) slot ≡ renamed_entry names level slot (long_at page slot)
   renamed_at slot lt = long_of_each 512 (renamed_entry names level) page all_small slot lt
@@ -140,10 +157,12 @@ module _ (names : ℕ → Option ℕ) (level : ℕ) (page : List ℕ) (bytes : B
   pub said_anew : (slot : ℕ) → slot < 512 → entry level (renamed_by names level page) slot ≡ entry_named (names slot) (entry level page slot)
   said_anew slot lt = ap (entry_of level slot) (renamed_at slot lt) ∙ renamed_says names level slot (long_at page slot) (fits_at slot lt)
 
-  pub same_bits : (slot : ℕ) → slot < 512 → (is_present (long_at (renamed_by names level page) slot) ≡ is_present (long_at page slot)) × (is_large (long_at (renamed_by names level page) slot) ≡ is_large (long_at page slot))
-  same_bits slot lt =
-      let bits = renamed_bits names level slot (long_at page slot) in
-      (ap is_present (renamed_at slot lt) ∙ bits.0, ap is_large (renamed_at slot lt) ∙ bits.1)
+  -- the bits that stay
+  pub kept_at : (slot : ℕ) → slot < 512 → Kept (long_at (renamed_by names level page) slot) (long_at page slot)
+  kept_at slot lt = subst (λ n. Kept n (long_at page slot)) (sym (renamed_at slot lt)) (renamed_kept names level slot (long_at page slot) (fits_at slot lt))
+
+  pub same_kind : (slot : ℕ) → slot < 512 → (is_present (long_at (renamed_by names level page) slot) ≡ is_present (long_at page slot)) × (is_large (long_at (renamed_by names level page) slot) ≡ is_large (long_at page slot))
+  same_kind slot lt = (kept_present _ _ (kept_at slot lt), kept_large _ _ (kept_at slot lt))
 
 -- ---- one entry renamed by its frame
 
@@ -225,8 +244,9 @@ abbrev pub TableGoesBack : (ℕ → Option ℕ) → (ℕ → Option ℕ) → ℕ
 TableGoesBack f back level page = (slot n : ℕ) → slot < 512 → entry level page slot ≡ Frame n → GoesBack f back n
 
 -- normalising a localised table gives the table, with 0 in the blank slots
-normalised_by_longs : (f back : ℕ → Option ℕ) (level : ℕ) (page : List ℕ) → Bytes page → TableGoesBack f back level page → normalised_table back level (renamed_table f level page) ≡ blanked_table level page
-normalised_by_longs f back level page bytes goes =
+pub normalised_back : (f back : ℕ → Option ℕ) (level : ℕ) (page : List ℕ) → AreBytes page → TableGoesBack f back level page → normalised_table back level (renamed_table f level page) ≡ blanked_table level page
+normalised_back f back level page all goes =
+    let bytes = recursion_from_All (λ b. b < 256) page all in
     let small = λ (slot : ℕ) (lt : slot < 512). small_back f level slot (long_at page slot) back (λ n is. goes slot n lt is) (long_below (8 * slot) page bytes) in
     by_frames back level (blanked_table level (renamed_table f level page))
     ∙ ap (λ p. each_long 512 (renamed_long back level) (blanked_table level p)) (by_frames f level page)

@@ -1,7 +1,8 @@
 //! Page tables and the contexts of vCPUs, whole guests and their blank form.
 //!
 //! Responsible for: what an entry of a table says, what is wrong with a table in a stream, the frame that a field of a
-//! vCPU's context says, what is wrong with a guest at the end of its stream, and bringing a guest to its blank form.
+//! vCPU's context says, what is wrong with a guest at the end of its stream, bringing a guest to its blank form, and
+//! bringing tables from frame numbers to machine frames and back.
 #![tactic(auto)]
 
 mod blanking;
@@ -10,6 +11,7 @@ mod law;
 mod listing;
 mod p2m;
 mod rename;
+mod renaming_law;
 mod table;
 mod testing;
 mod vcpu;
@@ -23,6 +25,7 @@ pub use law::{
 };
 pub use p2m::p2m_page;
 pub use rename::{BadEntry, Why, localise_table, normalise_table};
+pub use renaming_law::{localised_table_comes_back, renamed_table_says_the_same};
 pub use table::{check_table, entry, put_entry};
 pub use testing::{WholeAnswer, whole};
 pub use vcpu::{put_vcpu_frame, vcpu_frame};

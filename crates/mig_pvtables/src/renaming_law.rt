@@ -1,0 +1,25 @@
+ghost use Rattle.std.specs.Prelude.{◌≡◌, ◌<◌, ◌/◌, ◌%◌, ◌^◌, ℕ, List, Option};
+ghost use Rattle.mig_bytes.specs.Bytes.{AreBytes};
+ghost use Rattle.mig_guest.specs.declared.table.Entry.TheVariants.{Frame};
+ghost use Rattle.mig_guest.specs.Longs.{long_at};
+ghost use Rattle.mig_guest.specs.Tables.{entry, blanked_table, is_present, is_large};
+ghost use Rattle.mig_pvtables.specs.Renaming.{renamed_by, renamed_table, normalised_table, entry_named, NamesFit, GoesBack};
+
+/// A table that is localised and then normalised is the table with 0 in its blank slots, where each frame that its
+/// entries name has a machine frame and goes back.
+pub fn localised_table_comes_back()
+    ensures { (mfn_of pfn_of : ℕ → Option ℕ) (level : ℕ) (page : List ℕ) → AreBytes page
+        → ((slot n : ℕ) → slot < 512 → entry level page slot ≡ Frame n → GoesBack mfn_of pfn_of n)
+        → normalised_table pfn_of level (renamed_table mfn_of level page) ≡ blanked_table level page }
+{}
+
+/// A table whose entries name other frames says the same in each slot, but for the frames. Entries are present, and
+/// superpages, as they were; bits 0 to 11 and 52 to 63 stay.
+pub fn renamed_table_says_the_same()
+    ensures said { (names : ℕ → Option ℕ) (level : ℕ) (page : List ℕ) → AreBytes page → NamesFit names level page → (slot : ℕ) → slot < 512
+        → entry level (renamed_by names level page) slot ≡ entry_named (names slot) (entry level page slot) }
+    ensures kind { (names : ℕ → Option ℕ) (level : ℕ) (page : List ℕ) → AreBytes page → NamesFit names level page → (slot : ℕ) → slot < 512
+        → (is_present (long_at (renamed_by names level page) slot) ≡ is_present (long_at page slot)) × (is_large (long_at (renamed_by names level page) slot) ≡ is_large (long_at page slot)) }
+    ensures bits { (names : ℕ → Option ℕ) (level : ℕ) (page : List ℕ) → AreBytes page → NamesFit names level page → (slot : ℕ) → slot < 512
+        → (long_at (renamed_by names level page) slot % 2 ^ 12 ≡ long_at page slot % 2 ^ 12) × (long_at (renamed_by names level page) slot / 2 ^ 52 ≡ long_at page slot / 2 ^ 52) }
+{}
