@@ -11,27 +11,22 @@ use Rattle.mig_pvtables.proofs.LongSteps.{long_of_each, each_twice}
 
 -- ---- the bits of one entry
 
-same_present : (e m : ℕ) → with_frame e m % 2 ≡ e % 2
-same_present e m = omega arith
-
 low_bits : (e m : ℕ) → with_frame e m % 2 ^ 12 ≡ e % 2 ^ 12
 low_bits e m = omega arith
 
 high_bits : (e m : ℕ) → m < 2 ^ 40 → with_frame e m / 2 ^ 52 ≡ e / 2 ^ 52
 high_bits e m small = omega (arith, small)
 
+-- the low 12 bits say whether an entry is present, and whether it is a superpage
+same_present : (a b : ℕ) → a % 2 ^ 12 ≡ b % 2 ^ 12 → is_present a ≡ is_present b
+same_present a b low = let e : a % 2 ≡ b % 2 = omega (arith, low) in ap (λ n. n == 1) e
+
+same_large : (a b : ℕ) → a % 2 ^ 12 ≡ b % 2 ^ 12 → is_large a ≡ is_large b
+same_large a b low = let e : a / 2 ^ 7 % 2 ≡ b / 2 ^ 7 % 2 = omega (arith, low) in ap (λ n. n == 1) e
+
 -- all bits but those of the frame are the same
 abbrev pub Kept : ℕ → ℕ → Type 0
 Kept a b = (a % 2 ^ 12 ≡ b % 2 ^ 12) × (a / 2 ^ 52 ≡ b / 2 ^ 52)
-
-kept_present : (a b : ℕ) → Kept a b → is_present a ≡ is_present b
-kept_present a b kept = let low = kept.0 in let e : a % 2 ≡ b % 2 = omega (arith, low) in ap (λ n. n == 1) e
-
-kept_large : (a b : ℕ) → Kept a b → is_large a ≡ is_large b
-kept_large a b kept = let low = kept.0 in let e : a / 2 ^ 7 % 2 ≡ b / 2 ^ 7 % 2 = omega (arith, low) in ap (λ n. n == 1) e
-
-same_large : (e m : ℕ) → with_frame e m / 2 ^ 7 % 2 ≡ e / 2 ^ 7 % 2
-same_large e m = omega arith
 
 new_frame : (e m : ℕ) → m < 2 ^ 40 → named_frame (with_frame e m) ≡ m
 new_frame e m small = omega (arith, small)
@@ -57,8 +52,8 @@ same_says false true false n m = refl
 with_frame_says : (level slot e m : ℕ) → m < 2 ^ 40 → entry_of level slot (with_frame e m) ≡ entry_named (Some m) (entry_of level slot e)
 unfolding entry_of
 with_frame_says level slot e m small =
-    ap (λ b. says (is_blank_slot level slot) b (nat_le 2 level && is_large (with_frame e m)) (named_frame (with_frame e m))) (ap (λ n. n == 1) (same_present e m))
-    ∙ ap (λ b. says (is_blank_slot level slot) (is_present e) (nat_le 2 level && b) (named_frame (with_frame e m))) (ap (λ n. n == 1) (same_large e m))
+    ap (λ b. says (is_blank_slot level slot) b (nat_le 2 level && is_large (with_frame e m)) (named_frame (with_frame e m))) (same_present (with_frame e m) e (low_bits e m))
+    ∙ ap (λ b. says (is_blank_slot level slot) (is_present e) (nat_le 2 level && b) (named_frame (with_frame e m))) (same_large (with_frame e m) e (low_bits e m))
     ∙ ap (λ n. says (is_blank_slot level slot) (is_present e) (nat_le 2 level && is_large e) n) (new_frame e m small)
     ∙ same_says (is_blank_slot level slot) (is_present e) (nat_le 2 level && is_large e) (named_frame e) m
 
@@ -162,7 +157,7 @@ module _ (names : ℕ → Option ℕ) (level : ℕ) (page : List ℕ) (all : Are
   kept_at slot lt = subst (λ n. Kept n (long_at page slot)) (sym (renamed_at slot lt)) (renamed_kept names level slot (long_at page slot) (fits_at slot lt))
 
   pub same_kind : (slot : ℕ) → slot < 512 → (is_present (long_at (renamed_by names level page) slot) ≡ is_present (long_at page slot)) × (is_large (long_at (renamed_by names level page) slot) ≡ is_large (long_at page slot))
-  same_kind slot lt = (kept_present _ _ (kept_at slot lt), kept_large _ _ (kept_at slot lt))
+  same_kind slot lt = let low = (kept_at slot lt).0 in (same_present _ _ low, same_large _ _ low)
 
 -- ---- one entry renamed by its frame
 
