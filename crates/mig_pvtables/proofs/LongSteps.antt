@@ -1,5 +1,5 @@
 -- Numbers of 8 bytes changed one by one, from the first on.
-use Rattle.mig_pvtables.proofs.Common.{Bool, ◌≡◌, ◌≢◌, ℕ, ◌+◌, ◌*◌, ◌^◌, ◌<◌, ◌≤◌, List, length, cond, refl, sym, ap, subst, ◌∙◌, inl, inr, arith, cases_lt, cases_eq, lt-ltb, le-ltb, nat_lt, long_at, longs, each_long, long_of_longs, each_stays, put_long}
+use Rattle.mig_pvtables.proofs.Common.{Bool, ◌≡◌, ◌≢◌, ℕ, ◌+◌, ◌*◌, ◌^◌, ◌<◌, ◌≤◌, List, length, cond, sym, ap, subst, ◌∙◌, inl, inr, arith, cases_lt, cases_eq, lt-ltb, le-ltb, nat_lt, long_at, each_long, long_of_longs, each_stays, put_long}
 use Rattle.byteorder.specs.Endian.{little_bytes}
 use Rattle.mig_bytes.specs.Fields.{with_field}
 use Rattle.mig_bytes.proofs.ByteLists.{Bytes, long_below}
