@@ -14,6 +14,7 @@ abbrev pub is_unknown : (ℕ → Option ℕ) → Entry → Bool
 is_unknown pfn_of (Frame mfn) = is_none (pfn_of mfn)
 is_unknown pfn_of _ = false
 
+-- the first slot that names one
 abbrev pub first_unknown : (ℕ → Option ℕ) → ℕ → List ℕ → Option ℕ
 first_unknown pfn_of level page = find (λ slot. is_unknown pfn_of (entry level page slot)) slots
 

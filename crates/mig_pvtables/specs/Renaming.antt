@@ -11,11 +11,12 @@ abbrev pub with_name : ℕ → Option ℕ → ℕ
 with_name e None = e
 with_name e (Some frame) = with_frame e frame
 
--- the number e, of which an entry is known: where that names a frame, e gets the name
+-- the number e, which says this entry: where that names a frame, e gets the name
 abbrev pub named_anew : Option ℕ → ℕ → Entry → ℕ
 named_anew name e (Frame n) = with_name e name
 named_anew name e _ = e
 
+-- the number e in this slot of a table of this level, with the slot's name in it where it names a frame
 unfoldable pub renamed_entry : (ℕ → Option ℕ) → ℕ → ℕ → ℕ → ℕ
 renamed_entry names level slot e = named_anew (names slot) e (entry_of level slot e)
 
@@ -39,7 +40,7 @@ normalised_table f level page = renamed_table f level (blanked_table level page)
 
 -- ---- what is said anew
 
--- the entry that is said with another name
+-- what an entry says once it has this name
 abbrev pub entry_named : Option ℕ → Entry → Entry
 entry_named (Some name) (Frame n) = Frame name
 entry_named _ x = x
