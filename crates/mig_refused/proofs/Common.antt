@@ -10,11 +10,11 @@ pub use Rattle.mig_bytes.specs.Judged.Judged.{Faulty, Passes}
 pub use Rattle.mig_bytes.specs.Walk.Reaches.{here}
 pub use Rattle.mig_headers.specs.Rows.{first_fault}
 pub use Rattle.mig_headers.specs.declared.fault.Cause.{Cause}
-pub use Rattle.mig_headers.specs.declared.fault.Cause.TheVariants.{BadContext, BadLength, BadPageType, BodyTooLong, Missing, NotBuilt, OutOfOrder, ParamIndex, PfnOutside, TooManyFrames, TooManyRecords, Truncated, UnknownMandatory, Unsupported, WrongKind}
+pub use Rattle.mig_headers.specs.declared.fault.Cause.TheVariants.{BadContext, BadLength, BadPageType, BodyTooLong, Missing, OutOfOrder, ParamIndex, PfnOutside, TooManyFrames, TooManyRecords, Truncated, UnknownMandatory, Unsupported, WrongKind}
 pub use Rattle.mig_headers.specs.declared.kind.Kind.{Kind}
 pub use Rattle.mig_headers.specs.declared.kind.Kind.TheVariants.{Hvm, Pv}
 pub use Rattle.mig_records.specs.Faults.{count_rows, fault_of_count, fault_of_long, fault_of_words, type_allows}
-pub use Rattle.mig_refused.specs.Refusal.{Behind, Breaks, ContextHas, DomainHas, EntriesTo, EntryHas, Fails, FrontHas, GuestHas, HeadHas, HeaderHas, InBody, InPages, IsFaultless, IsFirstCause, IsOpen, IsTriedBefore, LengthHas, MarkerHas, PagesTo, ParamsHas, Refused, Stands, StreamPart, Within, WordsHas, body_part, end_record, size_of}
-pub use Rattle.mig_refused.specs.Refusal.StreamPart.{ContextBody, Domain, Head, HeaderRest, Marker, OtherBody, Padding, Page, PagesFront, PagesLength, PagesWords, ParamsBody, WholeGuest}
+pub use Rattle.mig_refused.specs.Refusal.{Behind, Breaks, ContextHas, DomainHas, EntriesTo, EntryHas, Fails, FrontHas, GuestHas, HeadHas, HeaderHas, InBody, InPages, IsFaultless, IsFirstCause, IsOpen, IsTriedBefore, LengthHas, MarkerHas, PageHas, PagesTo, ParamsHas, Refused, Stands, StreamPart, Within, WordsHas, body_part, end_record, size_of}
+pub use Rattle.mig_refused.specs.Refusal.StreamPart.{ContextBody, Domain, Head, HeaderRest, InfoBody, Marker, OtherBody, P2mBody, Padding, Page, PagesFront, PagesLength, PagesWords, ParamsBody, VcpuBody, WholeGuest}
 pub use Rattle.mig_restore.proofs.Converse.{accepted_or_refused, headers_go, image_header_goes, marker_goes, never_both, spelled_reached}
-pub use Rattle.mig_restore.specs.Judging.{Before, Opening, before, body_at, code_of_type, coded_at, entries_at, entry_at, fault_at_end, fault_of_data, fault_of_head, fault_of_number, is_built, is_supported_type, most_records, next_at, record_at, sets_at, typed_at, words_at}
+pub use Rattle.mig_restore.specs.Judging.{Before, Opening, before, body_at, code_of_type, coded_at, entries_at, entry_at, fault_at_end, fault_of_data, fault_of_head, fault_of_number, fault_of_page, info_at, most_records, next_at, p2m_at, record_at, said_at, sets_at, typed_at, words_at}

@@ -1,5 +1,5 @@
 -- The causes that stand in a record's head.
-use Rattle.mig_refused.proofs.Common.{◌≡◌, ◌⊎◌, inl, inr, ℕ, ◌^◌, List, [], ◌∷◌, ◌++◌, length, Bool, true, false, nat_le, nat_lt, nat_eq, not, Option, Some, None, refl, sym, ap, subst, ◌∙◌, arith, leb-true, leb-false, ltb-true, eqb-true, le-leb, lt-leb, lt-ltb, false≢true, not-true, and_parts, and_from, not_from_false, or_left, or_right, or_cases, not-false, option_or, common_steps, first_fault, Cause, NotBuilt, BodyTooLong, UnknownMandatory, OutOfOrder, BadLength, TooManyRecords, Unsupported, WrongKind, Kind, Pv, Hvm, type_allows, fault_of_long, Opening, Before, most_records, is_supported_type, fault_of_number, HeadHas, Breaks}
+use Rattle.mig_refused.proofs.Common.{◌≡◌, ◌⊎◌, inl, inr, ℕ, ◌^◌, List, [], ◌∷◌, ◌++◌, length, Bool, true, false, nat_le, nat_lt, nat_eq, not, Option, Some, None, refl, sym, ap, subst, ◌∙◌, arith, leb-true, leb-false, ltb-true, eqb-true, le-leb, lt-leb, lt-ltb, false≢true, not-true, and_parts, and_from, not_from_false, or_left, or_right, or_cases, option_or, common_steps, first_fault, Cause, BodyTooLong, UnknownMandatory, OutOfOrder, BadLength, TooManyRecords, Unsupported, WrongKind, Kind, Pv, Hvm, type_allows, fault_of_long, Opening, Before, most_records, fault_of_number, HeadHas, Breaks}
 use Rattle.std.specs.Prelude.{◌&&◌}
 use Rattle.std.proofs.lemmas.Option.{same_Some}
 use Rattle.mig_headers.specs.RecordTypes.{record_row_of, pv, type_number, type_of_number, is_optional}
@@ -8,7 +8,7 @@ use Rattle.mig_headers.specs.declared.record_type.RecordType.{RecordType}
 use Rattle.mig_headers.specs.declared.record_type.RecordType.TheVariants.{End, PageData, X86PvInfo, X86PvP2mFrames, StaticDataEnd}
 use Rattle.mig_order.specs.Order.{earlier_in, is_of, static_records, content_records, broken_rules, fault_of_type, late_static}
 use Rattle.mig_restore.specs.Judging.{fault_of_fields}
-use Rattle.mig_refused.specs.Refusal.HeadHas.{too_many, bad_length, out_of_order, wrong_kind, unknown, unsupported, too_long, not_built}
+use Rattle.mig_refused.specs.Refusal.HeadHas.{too_many, bad_length, out_of_order, wrong_kind, unknown, unsupported, too_long}
 use Rattle.mig_refused.specs.Refusal.Breaks.{second_end, static_after_end, static_after_content, early_content, second_pv_info, early_p2m_frames, early_pages, late_pages}
 use Rattle.mig_refused.specs.Refusal.{HeadHas as has, Breaks as broken}
 use Rattle.mig_refused.proofs.Least.{Least, RowHas, To, ascends, named, join}
@@ -65,7 +65,7 @@ module _ (was : Before) (len type : ℕ) where
   back_rows found = (not (type_allows found len), BadLength len) ∷ (nat_le most_records (length types), TooManyRecords) ∷ []
 
   abbrev rows : Option RecordType → List (Bool × Cause)
-  rows found = (not (not (pv o.kind && is_supported_type found)), NotBuilt type) ∷ (nat_lt (2 ^ 27) len, BodyTooLong len) ∷ (own_rows found ++ back_rows found)
+  rows found = (nat_lt (2 ^ 27) len, BodyTooLong len) ∷ (own_rows found ++ back_rows found)
 
   own_fault : (found : Option RecordType) → type_of_number type ≡ found → fault_of_type o.version o.kind types type ≡ first_fault (own_rows found)
   own_fault None none = grind (arith, common_steps, none)
@@ -77,16 +77,15 @@ module _ (was : Before) (len type : ℕ) where
   fields_are : (found : Option RecordType) → type_of_number type ≡ found → fault_of_fields was type len ≡ first_fault (rows found)
   unfolding fault_of_fields
   fields_are found is =
-      ap (λ t. option_or (first_fault ((not (not (pv o.kind && is_supported_type t)), NotBuilt type) ∷ [])) (option_or (fault_of_long len) (option_or (fault_of_type o.version o.kind types type) (option_or (first_fault ((not (type_allows t len), BadLength len) ∷ [])) (fault_of_number types))))) is
-      ∙ join_front (not (pv o.kind && is_supported_type found)) (nat_lt (2 ^ 27) len)
+      ap (λ t. option_or (fault_of_long len) (option_or (fault_of_type o.version o.kind types type) (option_or (first_fault ((not (type_allows t len), BadLength len) ∷ [])) (fault_of_number types)))) is
+      ∙ join_front (nat_lt (2 ^ 27) len)
       (ap (λ f. option_or f (first_fault (back_rows found))) (own_fault found is) ∙ join (own_rows found) (back_rows found))
     where
-      join_front : (a b : Bool) → option_or (fault_of_type o.version o.kind types type) (first_fault (back_rows found)) ≡ first_fault (own_rows found ++ back_rows found)
-          → option_or (first_fault ((not a, NotBuilt type) ∷ [])) (option_or (first_fault ((b, BodyTooLong len) ∷ [])) (option_or (fault_of_type o.version o.kind types type) (option_or (first_fault ((not (type_allows found len), BadLength len) ∷ [])) (fault_of_number types))))
-          ≡ first_fault ((not a, NotBuilt type) ∷ (b, BodyTooLong len) ∷ (own_rows found ++ back_rows found))
-      join_front false b h = refl
-      join_front true true h = refl
-      join_front true false h = ap (option_or (fault_of_type o.version o.kind types type)) (join ((not (type_allows found len), BadLength len) ∷ []) ((nat_le most_records (length types), TooManyRecords) ∷ [])) ∙ h
+      join_front : (b : Bool) → option_or (fault_of_type o.version o.kind types type) (first_fault (back_rows found)) ≡ first_fault (own_rows found ++ back_rows found)
+          → option_or (first_fault ((b, BodyTooLong len) ∷ [])) (option_or (fault_of_type o.version o.kind types type) (option_or (first_fault ((not (type_allows found len), BadLength len) ∷ [])) (fault_of_number types)))
+          ≡ first_fault ((b, BodyTooLong len) ∷ (own_rows found ++ back_rows found))
+      join_front true h = refl
+      join_front false h = ap (option_or (fault_of_type o.version o.kind types type)) (join ((not (type_allows found len), BadLength len) ∷ []) ((nat_le most_records (length types), TooManyRecords) ∷ [])) ∙ h
 
   -- ---- a row whose test holds says a cause that stands
 
@@ -129,15 +128,12 @@ module _ (was : Before) (len type : ℕ) where
   many : nat_le most_records (length types) ≡ true → Has 0 TooManyRecords
   many h = has.too_many (leb-true most_records (length types) h)
 
-  built : (b : Bool) → not (not (pv o.kind && b)) ≡ true → (o.kind ≡ Pv) × (b ≡ true)
-  built b h = let e = and_parts (pv o.kind) b (not-false _ (not-true _ h)) in (of_pv o.kind e.0, e.1)
-
   to : (found : Option RecordType) → type_of_number type ≡ found → To Has (rows found)
-  to None none = ((λ h. absurd (false≢true (built false h).1)), (long, ((λ h. has.unknown (leb-false (2 ^ 31) type (not-true _ h)) none), ((λ h. absurd (false≢true h)), (many, tt)))))
+  to None none = (long, ((λ h. has.unknown (leb-false (2 ^ 31) type (not-true _ h)) none), ((λ h. absurd (false≢true h)), (many, tt))))
   to (Some this) is =
       let number = sym (numbers_are_inverse.number_of type this is) in
       let behind = to_both Has (rules this) (back_rows (Some this)) (to_rules this number) ((λ h. has.bad_length this number (not-true _ h)), (many, tt)) in
-      ((λ h. let e = built _ h in has.not_built this number e.0 e.1), (long, ((λ h. has.unsupported this number (not-true _ h)), ((λ h. has.wrong_kind this number (not-true _ h)), behind))))
+      (long, ((λ h. has.unsupported this number (not-true _ h)), ((λ h. has.wrong_kind this number (not-true _ h)), behind)))
 
   -- ---- a cause that stands has its row
 
@@ -156,10 +152,10 @@ module _ (was : Before) (len type : ℕ) where
     known this number = sym is ∙ ap type_of_number number ∙ numbers_are_inverse.type_of this
 
     own : (other : Option RecordType) (k : ℕ) (c : Cause) → found ≡ other → RowHas (own_rows other) k c → RowHas (rows found) k c
-    own other k c same h = subst (λ f. RowHas (rows f) k c) (sym same) (inr (inr (from_both (own_rows other) (back_rows other) k c (inl h))))
+    own other k c same h = subst (λ f. RowHas (rows f) k c) (sym same) (inr (from_both (own_rows other) (back_rows other) k c (inl h)))
 
     back : (k : ℕ) (c : Cause) → RowHas (back_rows found) k c → RowHas (rows found) k c
-    back k c h = inr (inr (from_both (own_rows found) (back_rows found) k c (inr h)))
+    back k c h = inr (from_both (own_rows found) (back_rows found) k c (inr h))
 
     from : (k : ℕ) (c : Cause) → Has k c → RowHas (rows found) k c
     from _ _ (too_many h) = back 0 TooManyRecords (inr (inl (le-leb _ _ h, refl, refl)))
@@ -168,8 +164,7 @@ module _ (was : Before) (len type : ℕ) where
     from _ _ (wrong_kind this number h) = own (Some this) 0 (WrongKind type) (known this number) (inr (inl (not_from_false _ h, refl, refl)))
     from _ _ (unknown small none) = own None 0 (UnknownMandatory type) (sym is ∙ none) (inl (not_from_false _ (lt-leb _ _ small), refl, refl))
     from _ _ (unsupported this number h) = own (Some this) 0 (Unsupported type) (known this number) (inl (not_from_false _ h, refl, refl))
-    from _ _ (too_long h) = inr (inl (lt-ltb _ _ h, refl, refl))
-    from _ _ (not_built this number kind h) = inl (ap (λ b. not (not b)) (and_from _ _ (ap pv kind) (ap is_supported_type (known this number) ∙ h)), refl, refl)
+    from _ _ (too_long h) = inl (lt-ltb _ _ h, refl, refl)
 
   -- of a record head the cause that judging gives is the one that is named
   pub head_least : Least Has (fault_of_fields was type len)

@@ -1,41 +1,40 @@
 -- A record that fails: the part in which it fails, and the parts before it.
-use Rattle.mig_refused.proofs.Common.{◌≡◌, ◌⊎◌, inl, inr, ℕ, ◌+◌, ◌*◌, ◌/◌, List, [], ◌∷◌, ◌++◌, Bool, true, false, not, nat_eq, zero, suc, drop, length, Option, Some, None, refl, sym, ap, subst, ◌∙◌, arith, append_assoc, eqb-true, not-true, false≢true, le32, Judged, ◌>>=◌, part, tried, Passes, Faulty, part_whole, then_passes, tried_none, both_pass, part_passes, tried_passes, same_passes, first_fault, Cause, Truncated, Kind, Pv, Hvm, common_steps, type_allows, fault_of_count, fault_of_words, Opening, Before, before, is_built, record_at, next_at, body_at, typed_at, coded_at, code_of_type, sets_at, entries_at, entry_at, words_at, fault_of_head, fault_at_end, fault_of_data, StreamPart, PagesTo, IsFaultless, InPages, body_part, InBody, Within, end_record, Head, PagesFront, PagesWords, PagesLength, Page, OtherBody, Padding, WholeGuest}
+use Rattle.mig_refused.proofs.Common.{◌≡◌, ◌⊎◌, inl, inr, ℕ, ◌+◌, ◌*◌, ◌/◌, List, [], ◌∷◌, ◌++◌, Bool, true, false, not, nat_eq, zero, suc, drop, length, Option, Some, None, refl, sym, ap, subst, ◌∙◌, arith, append_assoc, eqb-true, not-true, false≢true, le32, Judged, ◌>>=◌, part, tried, Passes, Faulty, part_whole, then_passes, tried_none, both_pass, part_passes, tried_passes, same_passes, first_fault, Cause, Truncated, Kind, Pv, Hvm, common_steps, type_allows, fault_of_count, fault_of_words, Opening, Before, before, record_at, next_at, body_at, typed_at, coded_at, code_of_type, said_at, entries_at, words_at, fault_of_head, fault_of_page, fault_at_end, fault_of_data, StreamPart, PagesTo, IsFaultless, InPages, body_part, InBody, Within, end_record, Head, PagesFront, PagesWords, PagesLength, Page, InfoBody, P2mBody, VcpuBody, OtherBody, Padding, WholeGuest}
 use Rattle.mig_bytes.specs.Bytes.{padding_len, IsLeastPadding}
 use Rattle.mig_bytes.specs.Judged.{each}
 use Rattle.mig_headers.specs.RecordTypes.{record_row_of, type_number, type_of_number}
 use Rattle.mig_headers.specs.declared.record_type.RecordType.{RecordType}
-use Rattle.mig_headers.specs.declared.record_type.RecordType.TheVariants.{PageData}
+use Rattle.mig_headers.specs.declared.record_type.RecordType.TheVariants.{PageData, X86PvInfo, X86PvP2mFrames}
 use Rattle.mig_guest.specs.Guests.{GuestOf}
 use Rattle.mig_guest.specs.declared.part_code.PartCode.{PartCode}
-use Rattle.mig_guest.specs.declared.part_code.PartCode.TheVariants.{HvmContext, HvmParam}
-use Rattle.mig_guest.specs.PartCodes.{row_of, code_number}
+use Rattle.mig_guest.specs.declared.part_code.PartCode.TheVariants.{VcpuBasic, VcpuExtended, VcpuXsave, HvmContext, HvmParam, VcpuMsrs}
+use Rattle.mig_guest.specs.PartCodes.{code_number}
 use Rattle.mig_guest.proofs.PartRows.{number_found}
-use Rattle.mig_restore.proofs.Growth.{same_kinds}
+use Rattle.mig_bodies.specs.PvBodies.{fault_of_pv_info, fault_of_p2m, is_vcpu, fault_of_vcpu}
+use Rattle.mig_bodies.proofs.PvLaws.{vcpu_rows}
+use Rattle.mig_restore.specs.Judging.{lists_of}
 use Rattle.mig_bodies.specs.declared.layout.Layout.{Layout}
 use Rattle.mig_bodies.specs.declared.shape.Shape.{Shape}
 use Rattle.mig_bodies.specs.declared.shape.Shape.TheVariants.{Table, Single, Other}
 use Rattle.mig_bodies.specs.Layouts.{entry_width, front_width, fault_of_key, fault_of_entries, entry_count}
-use Rattle.mig_bodies.specs.Shapes.{shape_of, fault_by_shape, fault_of_body, parts_of_body}
+use Rattle.mig_bodies.specs.Shapes.{shape_of, has_shape, fault_by_shape, fault_of_body, parts_of_body}
 use Rattle.mig_bodies.proofs.TableSpelled.{length_passes}
 use Rattle.mig_headers.proofs.FirstFaults.{neither_some}
 use Rattle.mig_order.specs.Order.{IsInOrder}
 use Rattle.mig_order.specs.Order.{IsInOrder as order}
 use Rattle.mig_records.specs.Words.{words}
-use Rattle.mig_pvtables.proofs.HvmGuests.{hvm_fault}
 use Rattle.mig_pvtables.specs.Faults.{fault_of_guest}
 use Rattle.mig_restore.specs.Mean.{sent}
 use Rattle.mig_restore.specs.Record.{StreamRecord, FrameEntry, Content}
 use Rattle.mig_restore.specs.Record.Content.{Nothing, Frames, Sets}
 use Rattle.mig_restore.proofs.Parts.{behind_head, behind_body, head_stage, asks, behind_record, taken}
-use Rattle.mig_restore.proofs.Batches.{behind_words, behind_good, words_stage, page_size, entry_of, other_entries, each_stage}
-use Rattle.mig_restore.proofs.Bodies.{body_says, body_goes, coded_is, ends_hvm, optional_at, type_at, no_pv}
-use Rattle.mig_restore.proofs.Meaning.{sent_kind}
+use Rattle.mig_restore.proofs.Batches.{behind_words, behind_good, words_stage, page_size, entry_of, entries_in_place, other_entries, each_stage}
+use Rattle.mig_restore.proofs.Bodies.{body_says, body_goes, coded_is, shaped_code, optional_at, type_at}
 use Rattle.mig_restore.proofs.Laws.{fields_fine}
 use Rattle.mig_refused.specs.Refusal.PagesTo.{next_page, one_page}
 use Rattle.mig_refused.specs.Refusal.InPages.{at_front, at_words, at_length, at_page}
-use Rattle.mig_refused.specs.Refusal.InBody.{in_pages, of_code, optional}
+use Rattle.mig_refused.specs.Refusal.InBody.{in_pages, at_info, at_p2m_frames, of_code, optional}
 use Rattle.mig_refused.specs.Refusal.Within.{at_head, in_body, at_padding}
-use Rattle.mig_refused.proofs.Tables.{guest_rows}
 use Rattle.mig_refused.proofs.Single.{trial, one_part, stage, stage_faulty, stage_passes, stage_cases, then_faulty, bind_cases, passes_not, same_faulty, only_first, fine, faultless}
 
 -- a part that fails in an input, and the parts before it
@@ -76,26 +75,29 @@ none_taken f left = ap (λ j. j >>= λ p. tried (f p.0) p.1) (part_whole Truncat
 
 -- ---- pages
 
--- a page fails behind others
-pages_down : (ws pages : List ℕ) (w : ℕ) (left : List ℕ) (c : Cause) (rest : List ℕ) → PagesTo ws pages w → one_part (Page w) left ≡ Faulty c rest → each entry_at ws (pages ++ left) ≡ Faulty c rest
-pages_down _ _ _ left c rest (next_page w ws) h = each_stage w ws left ∙ stage_faulty (page_size w) (λ _. None) (other_entries w ws) left c rest h
-pages_down _ _ _ left c rest (one_page v ws page pages w f before) h =
-    ap (each entry_at (v ∷ ws)) (append_assoc page pages left)
-    ∙ each_stage v ws (page ++ (pages ++ left))
-    ∙ stage_passes (page_size v) (λ _. None) (other_entries v ws) page (pages ++ left) f.size refl
-    ∙ ap (λ j. j >>= λ others. Passes (entry_of v page ∷ others.0) others.1) (pages_down ws pages w left c rest before h)
+module _ (kind : Kind) (top : ℕ) where
+  -- a page fails behind others
+  pages_down : (place : ℕ) (ws pages : List ℕ) (at w : ℕ) (left : List ℕ) (c : Cause) (rest : List ℕ) → PagesTo kind top place ws pages at w → one_part (Page kind top at w) left ≡ Faulty c rest
+      → entries_in_place kind top place ws (pages ++ left) ≡ Faulty c rest
+  pages_down _ _ _ _ _ left c rest (next_page place w ws) h = each_stage kind top place w ws left ∙ stage_faulty (page_size w) (fault_of_page kind top (place, w)) (other_entries kind top place w ws) left c rest h
+  pages_down _ _ _ _ _ left c rest (one_page place v ws page pages at w f before) h =
+      ap (entries_in_place kind top place (v ∷ ws)) (append_assoc page pages left)
+      ∙ each_stage kind top place v ws (page ++ (pages ++ left))
+      ∙ stage_passes (page_size v) (fault_of_page kind top (place, v)) (other_entries kind top place v ws) page (pages ++ left) f.size (fine (Page kind top place v) page f)
+      ∙ ap (λ j. j >>= λ others. Passes (entry_of v page ∷ others.0) others.1) (pages_down (place + 1) ws pages at w left c rest before h)
 
-abbrev NextPage : List ℕ → List ℕ → StreamPart → Type 0
-NextPage ws pages p = (word : ℕ) × PagesTo ws pages word × (p ≡ Page word)
+  abbrev NextPage : ℕ → List ℕ → List ℕ → StreamPart → Type 0
+  NextPage place ws pages p = (at : ℕ) × (word : ℕ) × PagesTo kind top place ws pages at word × (p ≡ Page kind top at word)
 
-pages_up : (ws i : List ℕ) (c : Cause) (rest : List ℕ) → each entry_at ws i ≡ Faulty c rest → Found (NextPage ws) i c rest
-unfolding each
-pages_up [] i c rest h = passes_not [] i c rest h
-pages_up (w ∷ ws) i c rest h = elim (stage_cases (page_size w) (λ _. None) (other_entries w ws) i c rest (sym (each_stage w ws i) ∙ h)) [
-  | inl e ↦ found_here (NextPage (w ∷ ws)) (Page w) i c rest (w, next_page w ws, refl) e
-  | inr a ↦ found_behind (NextPage ws) (NextPage (w ∷ ws)) a.bytes a.mid i c rest a.whole (λ b p to. (to.0, one_page w ws a.bytes b to.0 (faultless (Page w) a.bytes a.size refl) to.1, to.2))
-      (pages_up ws a.mid c rest (only_first (λ others. entry_of w a.bytes ∷ others) (each entry_at ws a.mid) c rest a.after))
-]
+  pages_up : (place : ℕ) (ws i : List ℕ) (c : Cause) (rest : List ℕ) → entries_in_place kind top place ws i ≡ Faulty c rest → Found (NextPage place ws) i c rest
+  unfolding each
+  pages_up place [] i c rest h = passes_not [] i c rest h
+  pages_up place (w ∷ ws) i c rest h = elim (stage_cases (page_size w) (fault_of_page kind top (place, w)) (other_entries kind top place w ws) i c rest (sym (each_stage kind top place w ws i) ∙ h)) [
+    | inl e ↦ found_here (NextPage place (w ∷ ws)) (Page kind top place w) i c rest (place, w, next_page place w ws, refl) e
+    | inr a ↦ found_behind (NextPage (place + 1) ws) (NextPage place (w ∷ ws)) a.bytes a.mid i c rest a.whole
+        (λ b p to. (to.0, to.1, one_page place w ws a.bytes b to.0 to.1 (faultless (Page kind top place w) a.bytes a.size a.none) to.2, to.3))
+        (pages_up (place + 1) ws a.mid c rest (only_first (λ others. entry_of w a.bytes ∷ others) (entries_in_place kind top (place + 1) ws a.mid) c rest a.after))
+  ]
 
 -- ---- a PAGE_DATA body
 
@@ -110,13 +112,13 @@ module _ (kind : Kind) (top len : ℕ) where
   words_fault n b = fault_of_words kind top (words n b)
 
   abbrev behind_bytes : ℕ → List ℕ → List ℕ → Judged Cause (List FrameEntry)
-  behind_bytes n b r = behind_good len (words n b) r
+  behind_bytes n b r = behind_good kind top len (words n b) r
 
   -- behind the count, and behind the words
   front_goes : (front mid : List ℕ) → IsFaultless (PagesFront len) front → entries_at kind top len (front ++ mid) ≡ stage (8 * le32 front 0) (words_fault (le32 front 0)) (behind_bytes (le32 front 0)) mid
   front_goes front mid f = stage_passes 8 count_fault behind_count front mid f.size (fine (PagesFront len) front f) ∙ words_stage kind top len (le32 front 0) mid
 
-  words_go : (front ws mid : List ℕ) → IsFaultless (PagesFront len) front → IsFaultless (PagesWords kind top (le32 front 0)) ws → entries_at kind top len (front ++ (ws ++ mid)) ≡ behind_good len (words (le32 front 0) ws) mid
+  words_go : (front ws mid : List ℕ) → IsFaultless (PagesFront len) front → IsFaultless (PagesWords kind top (le32 front 0)) ws → entries_at kind top len (front ++ (ws ++ mid)) ≡ behind_good kind top len (words (le32 front 0) ws) mid
   words_go front ws mid f w =
       front_goes front (ws ++ mid) f ∙ stage_passes (8 * le32 front 0) (words_fault (le32 front 0)) (behind_bytes (le32 front 0)) ws mid w.size (fine (PagesWords kind top (le32 front 0)) ws w)
 
@@ -127,11 +129,11 @@ module _ (kind : Kind) (top len : ℕ) where
   entries_down _ _ left c rest (at_length front ws a w) h =
       let l = words (le32 front 0) ws in
       ap (entries_at kind top len) (append_assoc front ws left) ∙ words_go front ws left a w
-      ∙ then_faulty (tried (fault_of_data len l) left) (λ _. each entry_at l left) c rest (sym (none_taken (λ _. fault_of_data len l) left) ∙ h)
-  entries_down _ _ left c rest (at_page front ws pages word a w l to) h =
+      ∙ then_faulty (tried (fault_of_data len l) left) (λ _. entries_in_place kind top 0 l left) c rest (sym (none_taken (λ _. fault_of_data len l) left) ∙ h)
+  entries_down _ _ left c rest (at_page front ws pages at word a w l to) h =
       ap (entries_at kind top len) (append_assoc front (ws ++ pages) left ∙ ap (λ k. front ++ k) (append_assoc ws pages left)) ∙ words_go front ws (pages ++ left) a w
       ∙ tried_none (fault_of_data len (words (le32 front 0) ws)) (pages ++ left) _ (fine (PagesLength len (words (le32 front 0) ws)) [] l)
-      ∙ pages_down (words (le32 front 0) ws) pages word left c rest to h
+      ∙ pages_down kind top 0 (words (le32 front 0) ws) pages at word left c rest to h
 
   entries_up : (i : List ℕ) (c : Cause) (rest : List ℕ) → entries_at kind top len i ≡ Faulty c rest → Found (InPages kind top len) i c rest
   entries_up i c rest h = elim (stage_cases 8 count_fault behind_count i c rest h) [
@@ -145,14 +147,14 @@ module _ (kind : Kind) (top len : ℕ) where
               let ws = words n b.bytes in
               let good = faultless (PagesWords kind top n) b.bytes b.size b.none in
               let all : i ≡ (a.bytes ++ b.bytes) ++ b.mid = a.whole ∙ ap (λ l. a.bytes ++ l) b.whole ∙ sym (append_assoc a.bytes b.bytes b.mid) in
-              elim (bind_cases (tried (fault_of_data len ws) b.mid) (λ _. each entry_at ws b.mid) c rest b.after) [
+              elim (bind_cases (tried (fault_of_data len ws) b.mid) (λ _. entries_in_place kind top 0 ws b.mid) c rest b.after) [
                 | inl e ↦ record { front = a.bytes ++ b.bytes; left = b.mid; part_is = PagesLength len ws; whole = all; behind = at_length a.bytes b.bytes front good; fails = none_taken (λ _. fault_of_data len ws) b.mid ∙ e }
                 | inr e ↦
                     let none = (tried_passes (fault_of_data len ws) b.mid e.1 e.0 e.2).0 in
-                    found_behind (NextPage ws) (InPages kind top len) (a.bytes ++ b.bytes) b.mid i c rest all
-                    (λ pages p to. subst (λ q. InPages kind top len ((a.bytes ++ b.bytes) ++ pages) q) (sym to.2) (subst (λ l. InPages kind top len l (Page to.0)) (sym (append_assoc a.bytes b.bytes pages))
-                    (at_page a.bytes b.bytes pages to.0 front good (faultless (PagesLength len ws) [] refl none) to.1)))
-                    (pages_up ws b.mid c rest e.3)
+                    found_behind (NextPage kind top 0 ws) (InPages kind top len) (a.bytes ++ b.bytes) b.mid i c rest all
+                    (λ pages p to. subst (λ q. InPages kind top len ((a.bytes ++ b.bytes) ++ pages) q) (sym to.3) (subst (λ l. InPages kind top len l (Page kind top to.0 to.1)) (sym (append_assoc a.bytes b.bytes pages))
+                    (at_page a.bytes b.bytes pages to.0 to.1 front good (faultless (PagesLength len ws) [] refl none) to.2)))
+                    (pages_up kind top 0 ws b.mid c rest e.3)
               ]
         ]
   ]
@@ -190,58 +192,80 @@ quiet (Single len ignored) code body f = length_passes _ _ f.size
 quiet Other code body f = refl
 quiet _ code body f = absurd (false≢true f.plain)
 
--- a type of PV guests alone is read in no stream so far
-of_hvm : (this : RecordType) (kind : Kind) → is_built kind (type_number this) ≡ true → (record_row_of this).supported ≡ true → (record_row_of this).of_kind kind ≡ true → (record_row_of this).of_kind Hvm ≡ true
-of_hvm this Pv built s k = absurd (no_pv this built s)
-of_hvm this Hvm built s k = k
+-- two trials that agree on what has this length
+same_trials : (len : ℕ) (f g : List ℕ → Option Cause) (i : List ℕ) → ((body : List ℕ) → length body ≡ len → f body ≡ g body) → trial len f i ≡ trial len g i
+same_trials len f g i same = by (part Truncated len i) refl
+  where
+    by : (j : Judged Cause (List ℕ)) → part Truncated len i ≡ j → (j >>= λ p. tried (f p.0) p.1) ≡ (j >>= λ p. tried (g p.0) p.1)
+    by (Faulty d mid) is = refl
+    by (Passes x mid) is = ap (λ o. tried o mid) (same x (part_passes Truncated len i x mid is).1)
+
+module _ (len : ℕ) (i : List ℕ) where
+  -- of a vCPU's record its id is tried, and its descriptors
+  vcpu_part : (code : PartCode) → is_vcpu code ≡ true → type_allows (type_of_number (code_number code)) len ≡ true → one_part (VcpuBody code len) i ≡ trial len (fault_of_body code) i
+  vcpu_part code is allowed =
+      same_trials len (fault_of_vcpu code) (fault_of_body code) i (λ body size. sym (vcpu_rows code body is (λ type named. ap (record_row_of type).allows size ∙ subst (λ o. type_allows o len ≡ true) named allowed)))
+
+  -- of a body of which its head asked all that is asked no cause is tried
+  untried : (code : PartCode) → Fits (shape_of code) code len → one_part (OtherBody len) i ≡ trial len (fault_of_body code) i
+  untried code fits = same_trials len (λ _. None) (fault_of_body code) i (λ body size. sym (quiet (shape_of code) code body (subst (Fits (shape_of code) code) (sym size) fits)))
+
+  -- a body of a length that its type has is tried as its part
+  code_part : (code : PartCode) → has_shape (shape_of code) ≡ true → type_allows (type_of_number (code_number code)) len ≡ true → one_part (body_part code len) i ≡ trial len (fault_of_body code) i
+  code_part HvmContext shaped allowed = refl
+  code_part HvmParam shaped allowed = refl
+  code_part VcpuBasic shaped allowed = vcpu_part VcpuBasic refl allowed
+  code_part VcpuExtended shaped allowed = vcpu_part VcpuExtended refl allowed
+  code_part VcpuXsave shaped allowed = vcpu_part VcpuXsave refl allowed
+  code_part VcpuMsrs shaped allowed = vcpu_part VcpuMsrs refl allowed
+  code_part code shaped allowed = untried code (record { plain = cc; size = grind (arith, common_steps, allowed); keys = λ key1 key2. cc })
 
 module _ (kind : Kind) (top len : ℕ) where
-  code_down : (code : PartCode) (left : List ℕ) (c : Cause) (rest : List ℕ) → one_part (body_part code len) left ≡ Faulty c rest → sets_at code len left ≡ Faulty c rest
-  code_down HvmContext left c rest h = stage_faulty len (fault_of_body HvmContext) (says_parts HvmContext) left c rest h
-  code_down HvmParam left c rest h = stage_faulty len (fault_of_body HvmParam) (says_parts HvmParam) left c rest h
-  code_down code left c rest h = by_plain (λ p. tried (fault_of_body code p.0) p.1 >>= λ _. says_parts code p.0 p.1) (part Truncated len left) c rest h
+  -- the length of a type's body is that of its code's
+  of_this_length : (this : RecordType) (code : PartCode) → code_of_type this ≡ Some code → type_allows (type_of_number (type_number this)) len ≡ true → type_allows (type_of_number (code_number code)) len ≡ true
+  of_this_length this code is allowed = subst (λ n. type_allows (type_of_number n) len ≡ true) (number_found (type_number this) code is) allowed
 
-  body_down : (type : ℕ) (front : List ℕ) (p : StreamPart) (left : List ℕ) (c : Cause) (rest : List ℕ) → InBody kind top len type front p → one_part p left ≡ Faulty c rest → body_at kind top type len (front ++ left) ≡ Faulty c rest
-  body_down _ _ _ left c rest (in_pages front p w) h = then_faulty (entries_at kind top len (front ++ left)) (λ es. Passes (Frames es.0) es.1) c rest (entries_down kind top len front p left c rest w h)
-  body_down _ _ _ left c rest (of_code this code is) h = type_at kind top this len left ∙ coded_is kind top this code len left is ∙ code_down code left c rest h
-  body_down _ _ _ left c rest (optional type above) h = optional_at kind top type len left above ∙ by_plain (λ p. Passes Nothing p.1) (part Truncated len left) c rest h
+  body_down : (type : ℕ) (front : List ℕ) (p : StreamPart) (left : List ℕ) (c : Cause) (rest : List ℕ) → type_allows (type_of_number type) len ≡ true → InBody kind top len type front p → one_part p left ≡ Faulty c rest
+      → body_at kind top type len (front ++ left) ≡ Faulty c rest
+  body_down _ _ _ left c rest allowed (in_pages front p w) h = then_faulty (entries_at kind top len (front ++ left)) (λ es. Passes (Frames es.0) es.1) c rest (entries_down kind top len front p left c rest w h)
+  body_down _ _ _ left c rest allowed at_info h = stage_faulty len fault_of_pv_info (λ b r. Passes Nothing r) left c rest h
+  body_down _ _ _ left c rest allowed at_p2m_frames h = stage_faulty len fault_of_p2m (λ b r. Passes (lists_of b) r) left c rest h
+  body_down _ _ _ left c rest allowed (of_code this code is other) h =
+      let shaped = shaped_code this code is other in
+      type_at kind top this len left ∙ coded_is kind top this code len left is shaped
+      ∙ stage_faulty len (fault_of_body code) (says_parts code) left c rest (sym (code_part len left code shaped (of_this_length this code is allowed)) ∙ h)
+  body_down _ _ _ left c rest allowed (optional type above) h = optional_at kind top type len left above ∙ by_plain (λ p. Passes Nothing p.1) (part Truncated len left) c rest h
 
   abbrev Fault : ℕ → List ℕ → Cause → List ℕ → Type 0
   Fault type i c rest = Found (InBody kind top len type) i c rest
 
   module _ (i : List ℕ) (c : Cause) (rest : List ℕ) where
-    -- of a body of which its head asked all that is asked no cause is tried
-    untried : (code : PartCode) → Fits (shape_of code) code len → trial len (fault_of_body code) i ≡ Faulty c rest → one_part (OtherBody len) i ≡ Faulty c rest
-    untried code fits h = by (part Truncated len i) refl h
-      where
-        by : (j : Judged Cause (List ℕ)) → part Truncated len i ≡ j → (j >>= λ p. tried (fault_of_body code p.0) p.1) ≡ Faulty c rest → (j >>= λ p. tried None p.1) ≡ Faulty c rest
-        by (Faulty d mid) is h = let e = same_faulty d c mid rest h in rw (e.0, e.1) refl
-        by (Passes x mid) is h = ap (λ o. tried o mid) (sym (quiet (shape_of code) code x (subst (Fits (shape_of code) code) (sym (part_passes Truncated len i x mid is).1) fits))) ∙ h
-
-    code_part : (code : PartCode) → (row_of code).of_kind Hvm ≡ true → type_allows (type_of_number (code_number code)) len ≡ true → trial len (fault_of_body code) i ≡ Faulty c rest → one_part (body_part code len) i ≡ Faulty c rest
-    code_part HvmContext k allowed h = h
-    code_part HvmParam k allowed h = h
-    code_part code k allowed h = untried code (record { plain = cc; size = grind (arith, common_steps, allowed); keys = λ key1 key2. cc }) h
-
-    -- a body of a type that sets parts is one part
-    coded_up : (this : RecordType) (o : Option PartCode) → code_of_type this ≡ o → type_allows (type_of_number (type_number this)) len ≡ true → (record_row_of this).of_kind Hvm ≡ true → coded_at o len i ≡ Faulty c rest → Fault (type_number this) i c rest
-    coded_up this None is allowed k h = passes_not Nothing i c rest h
-    coded_up this (Some code) is allowed k h = elim (stage_cases len (fault_of_body code) (says_parts code) i c rest h) [
-      | inl e ↦ found_here (InBody kind top len (type_number this)) (body_part code len) i c rest (of_code this code is)
-          (code_part code (sym (same_kinds this code is Hvm) ∙ k) (subst (λ n. type_allows (type_of_number n) len ≡ true) (number_found (type_number this) code is) allowed) e)
-      | inr a ↦ passes_not (Sets code (parts_of_body code a.bytes)) a.mid c rest a.after
+    -- a body that is one part
+    said_up : (type : ℕ) (p : StreamPart) (fault : List ℕ → Option Cause) (says : List ℕ → Content) → InBody kind top len type [] p → one_part p i ≡ trial len fault i → said_at fault says len i ≡ Faulty c rest → Fault type i c rest
+    said_up type p fault says behind same h = elim (stage_cases len fault (λ b r. Passes (says b) r) i c rest h) [
+      | inl e ↦ found_here (InBody kind top len type) p i c rest behind (same ∙ e)
+      | inr a ↦ passes_not (says a.bytes) a.mid c rest a.after
     ]
 
-    this_up : (this : RecordType) → type_allows (type_of_number (type_number this)) len ≡ true → (record_row_of this).of_kind Hvm ≡ true → typed_at kind top (Some this) len i ≡ Faulty c rest → Fault (type_number this) i c rest
-    this_up PageData allowed k h = found_behind (InPages kind top len) (InBody kind top len 1) [] i i c rest refl in_pages (entries_up kind top len i c rest (only_first Frames (entries_at kind top len i) c rest h))
-    this_up this allowed k h = coded_up this (code_of_type this) refl allowed k h
+    -- a body of a type that sets parts
+    coded_up : (this : RecordType) (o : Option PartCode) → code_of_type this ≡ o → (this ≡ X86PvP2mFrames → ⊥) → type_allows (type_of_number (type_number this)) len ≡ true → coded_at o len i ≡ Faulty c rest → Fault (type_number this) i c rest
+    coded_up this None is other allowed h = passes_not Nothing i c rest h
+    coded_up this (Some code) is other allowed h =
+        said_up (type_number this) (body_part code len) (fault_of_body code) (λ b. Sets code (parts_of_body code b)) (of_code this code is other)
+        (code_part len i code (shaped_code this code is other) (of_this_length this code is allowed)) h
 
-    body_up : (version : ℕ) (types : List ℕ) (type : ℕ) → is_built kind type ≡ true → IsInOrder version kind types type → type_allows (type_of_number type) len ≡ true → body_at kind top type len i ≡ Faulty c rest → Fault type i c rest
-    body_up version types type built (order.optional above) allowed h =
+    this_up : (this : RecordType) → type_allows (type_of_number (type_number this)) len ≡ true → typed_at kind top (Some this) len i ≡ Faulty c rest → Fault (type_number this) i c rest
+    this_up PageData allowed h = found_behind (InPages kind top len) (InBody kind top len 1) [] i i c rest refl in_pages (entries_up kind top len i c rest (only_first Frames (entries_at kind top len i) c rest h))
+    this_up X86PvInfo allowed h = said_up 2 (InfoBody len) fault_of_pv_info (λ _. Nothing) at_info refl h
+    this_up X86PvP2mFrames allowed h = said_up 3 (P2mBody len) fault_of_p2m lists_of at_p2m_frames refl h
+    this_up this allowed h = coded_up this (code_of_type this) refl (λ is. cc) allowed h
+
+    body_up : (version : ℕ) (types : List ℕ) (type : ℕ) → IsInOrder version kind types type → type_allows (type_of_number type) len ≡ true → body_at kind top type len i ≡ Faulty c rest → Fault type i c rest
+    body_up version types type (order.optional above) allowed h =
         found_here (InBody kind top len type) (OtherBody len) i c rest (optional type above) (plain_by (λ _. Nothing) (part Truncated len i) c rest (sym (optional_at kind top type len i above) ∙ h))
-    body_up version types type built (order.ordered this is s k keeps) allowed h =
+    body_up version types type (order.ordered this is s k keeps) allowed h =
         subst (λ t. Fault t i c rest) (sym is)
-        (this_up this (subst (λ t. type_allows (type_of_number t) len ≡ true) is allowed) (of_hvm this kind (subst (λ t. is_built kind t ≡ true) is built) s k) (sym (type_at kind top this len i) ∙ subst (λ t. body_at kind top t len i ≡ Faulty c rest) is h))
+        (this_up this (subst (λ t. type_allows (type_of_number t) len ≡ true) is allowed) (sym (type_at kind top this len i) ∙ subst (λ t. body_at kind top t len i ≡ Faulty c rest) is h))
 
 -- ---- a record
 
@@ -270,7 +294,8 @@ module _ (b : Before) where
   down _ _ left c rest at_head h = head_stage b left ∙ stage_faulty 8 (fault_of_head b) behind_it left c rest h
   down _ _ left c rest (in_body head front p f w) h =
       ap (record_at b) (append_assoc head front left) ∙ head_goes head (front ++ left) f
-      ∙ then_faulty (body_at kind b.top (le32 head 0) (le32 head 4) (front ++ left)) (behind_body head) c rest (body_down kind b.top (le32 head 4) (le32 head 0) front p left c rest w h)
+      ∙ then_faulty (body_at kind b.top (le32 head 0) (le32 head 4) (front ++ left)) (behind_body head) c rest
+      (body_down kind b.top (le32 head 4) (le32 head 0) front p left c rest (fields_fine b (le32 head 0) (le32 head 4) (fine (Head b) head f)).allowed w h)
   down _ _ left c rest (at_padding head body content n f size says pads) h =
       ap (record_at b) (append_assoc head body left) ∙ head_goes head (body ++ left) f
       ∙ then_passes (body_at kind b.top (le32 head 0) (le32 head 4) (body ++ left)) (behind_body head) content left _ (body_goes kind b.top (le32 head 0) (le32 head 4) body left content says size)
@@ -289,9 +314,9 @@ module _ (b : Before) where
         let fields = fields_fine b type len a.none in
         elim (bind_cases (body_at kind b.top type len a.mid) (behind_body head) c rest a.after) [
           | inl e ↦ found_behind (InBody kind b.top len type) (Within b) head a.mid i c rest a.whole (λ front p w. in_body head front p f w)
-              (body_up kind b.top len a.mid c rest b.opening.version b.types type fields.built fields.ordered fields.allowed e)
+              (body_up kind b.top len a.mid c rest b.opening.version b.types type fields.ordered fields.allowed e)
           | inr e ↦
-              let s = body_says b.opening.version kind b.top b.types type len a.mid e.0 e.1 fields.built fields.ordered fields.allowed e.2 in
+              let s = body_says b.opening.version kind b.top b.types type len a.mid e.0 e.1 fields.ordered fields.allowed e.2 in
               record {
                 front = head ++ s.body;
                 left = e.1;
@@ -341,11 +366,6 @@ module _ (o : Opening) (records : List StreamRecord) where
   abbrev guest : GuestOf
   guest = sent o.kind (records ++ end_record ∷ [])
 
-  guest_fault : (head : List ℕ) → IsFaultless (Head (before o records)) head → le32 head 0 ≡ 0 → fault_of_guest guest ≡ first_fault (guest_rows guest)
-  guest_fault head f is_end =
-      let fields = fields_fine (before o records) (le32 head 0) (le32 head 4) (fine (Head (before o records)) head f) in
-      hvm_fault guest (sent_kind o.kind (records ++ end_record ∷ []) ∙ ends_hvm o.kind (le32 head 0) is_end fields.built)
-
   pub next_down : (i : List ℕ) (c : Cause) (rest : List ℕ) → record_at (before o records) i ≡ Faulty c rest → next_at o records i ≡ Faulty c rest
   next_down i c rest h = asks o records i ∙ then_faulty (record_at (before o records) i) (behind_record o records) c rest h
 
@@ -354,7 +374,7 @@ module _ (o : Opening) (records : List StreamRecord) where
   guest_down head left c rest f is_end h =
       asks o records (head ++ left)
       ∙ then_passes (record_at (before o records) (head ++ left)) (behind_record o records) end_record left _ (end_passes (before o records) head left f is_end)
-      (then_faulty (tried (fault_of_guest guest) left) (λ _. Passes end_record left) c rest (ap (λ x. tried x left) (guest_fault head f is_end) ∙ sym (none_taken (λ _. first_fault (guest_rows guest)) left) ∙ h))
+      (then_faulty (tried (fault_of_guest guest) left) (λ _. Passes end_record left) c rest (sym (none_taken (λ _. fault_of_guest guest) left) ∙ h))
 
   -- where a record that passes is END, and the guest is faulty
   pub record GuestFault (i : List ℕ) (c : Cause) (rest : List ℕ) : Type 0 where
@@ -377,8 +397,7 @@ module _ (o : Opening) (records : List StreamRecord) where
             whole = e.whole;
             faultless_head = e.faultless_head;
             zero = e.zero;
-            fails = none_taken (λ _. first_fault (guest_rows guest)) mid ∙ ap (λ x. tried x mid) (sym (guest_fault e.head e.faultless_head e.zero))
-                ∙ subst (λ (q : StreamRecord). tried (fault_at_end q.type (sent o.kind (records ++ q ∷ []))) mid ≡ Faulty c rest) e.is h;
+            fails = none_taken (λ _. fault_of_guest guest) mid ∙ subst (λ (q : StreamRecord). tried (fault_at_end q.type (sent o.kind (records ++ q ∷ []))) mid ≡ Faulty c rest) e.is h;
           }
       by false more = passes_not tt mid c rest (rw more at h)
 

@@ -1,5 +1,5 @@
 -- The causes that stand in each part of an image.
-use Rattle.mig_refused.proofs.Common.{◌≡◌, ◌⊎◌, inl, inr, ℕ, zero, suc, drop, ltb-false, ◌+◌, ◌*◌, ◌<◌, ◌≤◌, List, [], ◌∷◌, length, Bool, true, false, nat_le, nat_lt, nat_eq, not, is_none, Option, Some, None, Result, Ok, Err, slice_index, refl, sym, ap, subst, ◌∙◌, arith, leb-true, ltb-true, eqb-true, eqb-false, ne_eqb, eq-eqb, le-leb, lt-ltb, le-ltb, cases_order, both_ways, not-true, and_parts, and_from, or_cases, common_steps, option_or, le32, here, first_fault, Cause, BadLength, BadPageType, PfnOutside, BadContext, ParamIndex, Missing, TooManyFrames, Kind, Pv, Hvm, count_rows, fault_of_count, fault_of_words, fault_of_data, fault_of_head, EntriesTo, EntryHas, MarkerHas, HeaderHas, DomainHas, GuestHas, FrontHas, WordsHas, LengthHas, ContextHas, ParamsHas, IsTriedBefore, StreamPart, Stands, Marker, HeaderRest, Domain, Head, WholeGuest, PagesFront, PagesWords, PagesLength, ContextBody, ParamsBody}
+use Rattle.mig_refused.proofs.Common.{◌≡◌, ◌⊎◌, inl, inr, ℕ, zero, suc, drop, ltb-false, ◌+◌, ◌*◌, ◌<◌, ◌≤◌, List, [], ◌∷◌, length, Bool, true, false, nat_le, nat_lt, nat_eq, not, is_none, Option, Some, None, Result, Ok, Err, slice_index, refl, sym, ap, subst, ◌∙◌, arith, leb-true, ltb-true, eqb-true, eqb-false, ne_eqb, eq-eqb, le-leb, lt-ltb, le-ltb, cases_order, both_ways, not-true, and_parts, and_from, or_cases, common_steps, option_or, le32, here, first_fault, Cause, BadLength, BadPageType, PfnOutside, BadContext, ParamIndex, Missing, TooManyFrames, Kind, Pv, Hvm, count_rows, fault_of_count, fault_of_words, fault_of_data, fault_of_head, EntriesTo, EntryHas, MarkerHas, HeaderHas, DomainHas, GuestHas, FrontHas, WordsHas, LengthHas, PageHas, ContextHas, ParamsHas, IsTriedBefore, StreamPart, Stands, Marker, HeaderRest, Domain, Head, WholeGuest, PagesFront, PagesWords, PagesLength, Page, InfoBody, P2mBody, VcpuBody, ContextBody, ParamsBody, fault_of_page}
 use Rattle.std.specs.FinMap as maps
 use Rattle.std.specs.List.{list_any}
 use Rattle.std.proofs.lemmas.List.{drop-drop}
@@ -21,25 +21,29 @@ use Rattle.mig_records.proofs.Places.{place_is_first, none_pass}
 use Rattle.mig_guest.specs.declared.part_code.PartCode.TheVariants.{HvmContext, HvmParam}
 use Rattle.mig_bodies.specs.declared.layout.Layout.{Layout}
 use Rattle.mig_bodies.specs.Layouts.{layout, fault_of_entries}
+use Rattle.mig_bodies.specs.PvBodies.{fault_of_pv_info, fault_of_p2m, fault_of_vcpu}
 use Rattle.mig_bodies.specs.Shapes.{fault_of_body, fault_of_scan}
+use Rattle.mig_pagetypes.specs.PageTypes.{level_of}
+use Rattle.mig_pvtables.specs.Faults.{fault_of_guest}
+use Rattle.mig_pvtables.specs.Tables.{fault_of_page_table}
+use Rattle.mig_pvtables.proofs.HvmGuests.{hvm_fault}
+use Rattle.mig_restore.specs.Judging.{type_in_word, fault_of_level}
+use Rattle.mig_restore.specs.Mean.{meant_type}
+use Rattle.std.proofs.lemmas.Option.{none-some, same_Some}
+use Rattle.mig_refused.specs.PvRefusal.{TableHas, PvGuestHas}
+use Rattle.mig_refused.specs.Refusal.PageHas.{in_table}
 use Rattle.mig_refused.specs.Refusal.{FrontHas as fronts, LengthHas as lengths, ParamsHas as of_params}
 use Rattle.mig_refused.specs.Refusal.MarkerHas.{not_stream}
 use Rattle.mig_refused.specs.Refusal.HeaderHas.{big_endian, bad_version, bad_id}
 use Rattle.mig_refused.specs.Refusal.DomainHas.{bad_page_shift, bad_kind}
-use Rattle.mig_refused.specs.Refusal.GuestHas.{too_many_frames, missing}
+use Rattle.mig_refused.specs.Refusal.GuestHas.{too_many_frames, missing, of_pv}
 use Rattle.mig_refused.specs.Refusal.WordsHas.{outside, reserved}
 use Rattle.mig_refused.specs.Refusal.ContextHas.{bad_context}
-use Rattle.mig_refused.proofs.Least.{Least, RowHas, rows_least, into, both_least, join, named}
+use Rattle.mig_refused.proofs.Least.{Least, RowHas, rows_least, into, turned, both_least, join, named}
 use Rattle.mig_refused.proofs.Entries.{chain_reached, reached_chain, found_has, has_found}
 use Rattle.mig_refused.proofs.Heads.{head_least}
-
--- ---- tests of numbers
-
-differs : (n m : ℕ) → not (nat_eq n m) ≡ true → n ≡ m → ⊥
-differs n m h = eqb-false n m (not-true _ h)
-
-test_differs : (n m : ℕ) → (n ≡ m → ⊥) → not (nat_eq n m) ≡ true
-test_differs n m h = ap not (ne_eqb n m h)
+use Rattle.mig_refused.proofs.PvTables.{differs, test_differs, table_least, info_least, p2m_least, vcpu_least}
+use Rattle.mig_refused.proofs.PvWhole.{pv_guest_least}
 
 -- ---- headers
 
@@ -70,15 +74,25 @@ is_there : {X : Type 0} (x : Option X) → is_none x ≡ true → x ≡ None
 is_there x h = grind (arith, common_steps, h)
 
 -- what is tried in the whole guest, where it is an HVM guest
-abbrev pub guest_rows : GuestOf → List (Bool × Cause)
+abbrev guest_rows : GuestOf → List (Bool × Cause)
 guest_rows g = (is_none (maps.get g.parts context_key), Missing 9) ∷ (nat_lt most_frames (length (maps.entries g.frames)), TooManyFrames) ∷ []
 
-guest_least : (g : GuestOf) → Least (GuestHas g) (first_fault (guest_rows g))
-guest_least g = named (GuestHas g) (guest_rows g) refl ((λ h. missing (is_there _ h)), ((λ h. too_many_frames (ltb-true _ _ h)), tt)) from
+guest_least : (g : GuestOf) → Least (GuestHas g) (fault_of_guest g)
+guest_least g = by g.kind refl
   where
-    from : (k : ℕ) (c : Cause) → GuestHas g k c → RowHas (guest_rows g) k c
-    from _ _ (too_many_frames h) = inr (inl (lt-ltb _ _ h, refl, refl))
-    from _ _ (missing h) = inl (ap is_none h, refl, refl)
+    from_hvm : g.kind ≡ Hvm → (k : ℕ) (c : Cause) → GuestHas g k c → RowHas (guest_rows g) k c
+    from_hvm hvm _ _ (too_many_frames is h) = inr (inl (lt-ltb _ _ h, refl, refl))
+    from_hvm hvm _ _ (missing is h) = inl (ap is_none h, refl, refl)
+    from_hvm hvm k c (of_pv _ _ is h) = let no : Hvm ≡ Pv = sym hvm ∙ is in cc
+
+    from_pv : g.kind ≡ Pv → (k : ℕ) (c : Cause) → GuestHas g k c → PvGuestHas g k c
+    from_pv pv _ _ (too_many_frames is h) = let no : Hvm ≡ Pv = sym is ∙ pv in cc
+    from_pv pv _ _ (missing is h) = let no : Hvm ≡ Pv = sym is ∙ pv in cc
+    from_pv pv k c (of_pv _ _ is h) = h
+
+    by : (kind : Kind) → g.kind ≡ kind → Least (GuestHas g) (fault_of_guest g)
+    by Hvm is = subst (Least (GuestHas g)) (sym (hvm_fault g is)) (named (GuestHas g) (guest_rows g) refl ((λ h. missing is (is_there _ h)), ((λ h. too_many_frames is (ltb-true _ _ h)), tt)) (from_hvm is))
+    by Pv is = turned (PvGuestHas g) (GuestHas g) (fault_of_guest g) (pv_guest_least g is) (λ k c h. of_pv k c is h) (from_pv is)
 
 -- ---- PAGE_DATA
 
@@ -162,6 +176,21 @@ module _ (kind : Kind) (top : ℕ) (ws : List ℕ) where
       from : (k : ℕ) (c : Cause) → WordsHas kind top ws k c → Reserved k c ⊎ Outside k c
       from _ _ (outside k within h) = inr (within, test_outside kind _ h, refl)
       from _ _ (reserved k within a b) = inl (within, and_from _ _ (le-leb _ _ a) (le-leb _ _ b), refl)
+
+-- ---- pages
+
+page_least : (kind : Kind) (top place word : ℕ) (page : List ℕ) → Least (PageHas kind top place word page) (fault_of_page kind top (place, word) page)
+page_least kind top place word page = by (level_of (meant_type kind (type_in_word word))) refl
+  where
+    by : (o : Option ℕ) → level_of (meant_type kind (type_in_word word)) ≡ o → Least (PageHas kind top place word page) (fault_of_level top place o page)
+    by None is = record { holds = never }
+      where
+        never : (k : ℕ) (c : Cause) → PageHas kind top place word page k c → ⊥
+        never _ _ (in_table level slot cause has h) = none-some level (sym is ∙ has)
+    by (Some l) is = turned (TableHas top place l page) (PageHas kind top place word page) (fault_of_page_table place top l page) (table_least top place l page) (λ k c h. in_table l k c is h) from
+      where
+        from : (k : ℕ) (c : Cause) → PageHas kind top place word page k c → TableHas top place l page k c
+        from k c (in_table level _ _ has h) = subst (λ n. TableHas top place n page k c) (same_Some level l (sym has ∙ is)) h
 
 -- ---- contexts
 
@@ -264,10 +293,14 @@ fault_in Marker bytes = fault_of_marker bytes
 fault_in HeaderRest bytes = fault_of_image bytes
 fault_in Domain bytes = fault_of_domain bytes
 fault_in (Head b) bytes = fault_of_head b bytes
-fault_in (WholeGuest g) bytes = first_fault (guest_rows g)
+fault_in (WholeGuest g) bytes = fault_of_guest g
 fault_in (PagesFront len) bytes = fault_of_count len (le32 bytes 0)
 fault_in (PagesWords kind top n) bytes = fault_of_words kind top (words n bytes)
 fault_in (PagesLength len ws) bytes = fault_of_data len ws
+fault_in (Page kind top place word) bytes = fault_of_page kind top (place, word) bytes
+fault_in (InfoBody len) bytes = fault_of_pv_info bytes
+fault_in (P2mBody len) bytes = fault_of_p2m bytes
+fault_in (VcpuBody code len) bytes = fault_of_vcpu code bytes
 fault_in (ContextBody len) bytes = fault_of_body HvmContext bytes
 fault_in (ParamsBody len) bytes = fault_of_body HvmParam bytes
 fault_in _ bytes = None
@@ -281,6 +314,10 @@ part_least (WholeGuest g) bytes = guest_least g
 part_least (PagesFront len) bytes = front_least len (le32 bytes 0)
 part_least (PagesWords kind top n) bytes = words_least kind top (words n bytes)
 part_least (PagesLength len ws) bytes = length_least len ws
+part_least (Page kind top place word) bytes = page_least kind top place word bytes
+part_least (InfoBody len) bytes = info_least bytes
+part_least (P2mBody len) bytes = p2m_least bytes
+part_least (VcpuBody code len) bytes = vcpu_least code bytes
 part_least (ContextBody len) bytes = context_by bytes (scan bytes) refl
 part_least (ParamsBody len) bytes = params_least bytes
 part_least _ bytes = record { holds = λ k c h. h }

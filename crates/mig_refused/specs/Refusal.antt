@@ -8,28 +8,30 @@ use Rattle.mig_headers.specs.Headers.{marker as all_ones, image_id, page_shift, 
 use Rattle.mig_headers.specs.RecordTypes.{record_row_of, type_number, type_of_number}
 use Rattle.mig_headers.specs.Texts.{number_of_cause}
 use Rattle.mig_headers.specs.declared.fault.Cause.{Cause}
-use Rattle.mig_headers.specs.declared.fault.Cause.TheVariants.{NotBuilt, Truncated, NotStream, BadId, BadVersion, BigEndian, BadKind, BadPageShift, BodyTooLong, Unsupported, UnknownMandatory, WrongKind, OutOfOrder, BadLength, NoPages, BadPageType, PfnOutside, BadContext, ParamIndex, Missing, TooManyRecords, TooManyFrames}
+use Rattle.mig_headers.specs.declared.fault.Cause.TheVariants.{Truncated, NotStream, BadId, BadVersion, BigEndian, BadKind, BadPageShift, BodyTooLong, Unsupported, UnknownMandatory, WrongKind, OutOfOrder, BadLength, NoPages, BadPageType, PfnOutside, BadContext, ParamIndex, Missing, TooManyRecords, TooManyFrames}
 use Rattle.mig_headers.specs.declared.fault.ContextFault.{ContextFault}
 use Rattle.mig_headers.specs.declared.fault.ContextFault.TheVariants.{NoHeader, HeaderSize, ShortEntry, NoEnd}
 use Rattle.mig_headers.specs.declared.fault.Place.{Place}
 use Rattle.mig_headers.specs.declared.fault.Place.TheVariants as places
 use Rattle.mig_headers.specs.declared.kind.Kind.{Kind}
-use Rattle.mig_headers.specs.declared.kind.Kind.TheVariants.{Pv}
+use Rattle.mig_headers.specs.declared.kind.Kind.TheVariants.{Pv, Hvm}
 use Rattle.mig_headers.specs.declared.record_type.RecordType.{RecordType}
 use Rattle.mig_headers.specs.declared.record_type.RecordType.TheVariants.{PageData, X86PvInfo, X86PvP2mFrames, StaticDataEnd}
 use Rattle.mig_pagetypes.specs.FrameWords.{word_type, word_pfn, word_has_data}
 use Rattle.mig_pagetypes.specs.Limits.{pfn_limit, most_frames}
+use Rattle.mig_pagetypes.specs.PageTypes.{level_of}
 use Rattle.mig_guest.specs.Guests.{GuestOf}
 use Rattle.mig_guest.specs.PartKeys.{context_key}
 use Rattle.mig_guest.specs.declared.part_code.PartCode.{PartCode}
-use Rattle.mig_guest.specs.declared.part_code.PartCode.TheVariants.{HvmContext, HvmParam}
+use Rattle.mig_guest.specs.declared.part_code.PartCode.TheVariants.{VcpuBasic, VcpuExtended, VcpuXsave, HvmContext, HvmParam, VcpuMsrs}
 use Rattle.mig_records.specs.Words.{words}
 use Rattle.mig_order.specs.Order.{some_earlier, is_of, static_records, content_records, vcpu_records}
-use Rattle.mig_restore.specs.Judging.{Opening, Before, before, most_records, code_of_type}
-use Rattle.mig_restore.specs.Mean.{sent}
+use Rattle.mig_restore.specs.Judging.{Opening, Before, before, most_records, type_in_word, code_of_type}
+use Rattle.mig_restore.specs.Mean.{sent, meant_type}
 use Rattle.mig_restore.specs.Record.{StreamRecord, Content, is_ended}
 use Rattle.mig_restore.specs.Record.Content.{Nothing}
 use Rattle.mig_restore.specs.Spelled.{HasContent, Spells}
+use Rattle.mig_refused.specs.PvRefusal.{TableHas, InfoHas, P2mHas, VcpuHas, PvGuestHas}
 
 -- ---- where each cause stands, a line for each; causes that have places stand at several, all others at place 0
 
@@ -68,7 +70,6 @@ pub data HeadHas (b : Before) (type len : ℕ) : ℕ → Cause → Type 0 where
   unknown : type < 2 ^ 31 → type_of_number type ≡ None → HeadHas b type len 0 (UnknownMandatory type)
   unsupported : (this : RecordType) → type ≡ type_number this → IsFalse (record_row_of this).supported → HeadHas b type len 0 (Unsupported type)
   too_long : 2 ^ 27 < len → HeadHas b type len 0 (BodyTooLong len)
-  not_built : (this : RecordType) → type ≡ type_number this → b.opening.kind ≡ Pv → IsTrue (record_row_of this).supported → HeadHas b type len 0 (NotBuilt type)
 
 -- the first 8 bytes of a body of this length, with this count ("PAGE_DATA")
 pub data FrontHas (len count : ℕ) : ℕ → Cause → Type 0 where
@@ -83,6 +84,10 @@ pub data WordsHas (kind : Kind) (top : ℕ) (ws : List ℕ) : ℕ → Cause → 
 -- the length of a body with these words ("PAGE_DATA")
 pub data LengthHas (len : ℕ) (ws : List ℕ) : ℕ → Cause → Type 0 where
   bad_length : (len ≡ 8 + 8 * length ws + 4096 * count_by word_has_data ws → ⊥) → LengthHas len ws 0 (BadLength len)
+
+-- the page of a word at this place, where the type that the word means in a stream of this kind is a table of a level; an HVM stream has no tables ("PAGE_DATA")
+pub data PageHas (kind : Kind) (top place word : ℕ) (page : List ℕ) : ℕ → Cause → Type 0 where
+  in_table : (level slot : ℕ) (cause : Cause) → level_of (meant_type kind (type_in_word word)) ≡ Some level → TableHas top place level page slot cause → PageHas kind top place word page slot cause
 
 -- the entries of an HVM context stand whole up to the one at this offset: the first is a header with 24 bytes, and none of them ends the chain (Xen public/arch-x86/hvm/save.h)
 pub data EntriesTo (bytes : List ℕ) : ℕ → Type 0 where
@@ -107,15 +112,17 @@ pub data ParamsHas (body : List ℕ) : ℕ → Cause → Type 0 where
   param_index : (place : ℕ) → place < le32 body 0 → 4096 ≤ le64 body (8 + 16 * place) → ParamsHas body place (ParamIndex (le64 body (8 + 16 * place)))
   bad_length : (length body ≡ 8 + 16 * le32 body 0 → ⊥) → ParamsHas body 0 (BadLength (length body))
 
--- the whole guest at END ("END"); so far it is an HVM guest
+-- the whole guest at END, by its kind ("END")
 pub data GuestHas (g : GuestOf) : ℕ → Cause → Type 0 where
-  too_many_frames : most_frames < length (maps.entries g.frames) → GuestHas g 0 TooManyFrames
-  missing : maps.get g.parts context_key ≡ None → GuestHas g 0 (Missing 9)
+  too_many_frames : g.kind ≡ Hvm → most_frames < length (maps.entries g.frames) → GuestHas g 0 TooManyFrames
+  missing : g.kind ≡ Hvm → maps.get g.parts context_key ≡ None → GuestHas g 0 (Missing 9)
+  of_pv : (place : ℕ) (cause : Cause) → g.kind ≡ Pv → PvGuestHas g place cause → GuestHas g place cause
 
 -- ---- the parts of an image
 
--- the headers; a record's head; of a PAGE_DATA body its front, its words, its length, and the page of a word; other bodies, of
--- which an OtherBody is one of which its head asked all; padding; and the whole guest, which has no bytes of its own
+-- the headers; a record's head; of a PAGE_DATA body its front, its words, its length, and the page of the word at a place, in a
+-- stream of a kind with frame numbers up to top; other bodies, of which an OtherBody is one of which its head asked all;
+-- padding; and the whole guest, which has no bytes of its own
 pub data StreamPart : Type 0 where
   Marker : StreamPart
   HeaderRest : StreamPart
@@ -124,7 +131,10 @@ pub data StreamPart : Type 0 where
   PagesFront : ℕ → StreamPart
   PagesWords : Kind → ℕ → ℕ → StreamPart
   PagesLength : ℕ → List ℕ → StreamPart
-  Page : ℕ → StreamPart
+  Page : Kind → ℕ → ℕ → ℕ → StreamPart
+  InfoBody : ℕ → StreamPart
+  P2mBody : ℕ → StreamPart
+  VcpuBody : PartCode → ℕ → StreamPart
   ContextBody : ℕ → StreamPart
   ParamsBody : ℕ → StreamPart
   OtherBody : ℕ → StreamPart
@@ -140,7 +150,10 @@ size_of (Head b) = 8
 size_of (PagesFront len) = 8
 size_of (PagesWords kind top n) = 8 * n
 size_of (PagesLength len ws) = 0
-size_of (Page word) = if word_has_data word then 4096 else 0
+size_of (Page kind top place word) = if word_has_data word then 4096 else 0
+size_of (InfoBody len) = len
+size_of (P2mBody len) = len
+size_of (VcpuBody code len) = len
 size_of (ContextBody len) = len
 size_of (ParamsBody len) = len
 size_of (OtherBody len) = len
@@ -156,7 +169,10 @@ Stands (Head b) bytes place cause = HeadHas b (le32 bytes 0) (le32 bytes 4) plac
 Stands (PagesFront len) bytes place cause = FrontHas len (le32 bytes 0) place cause
 Stands (PagesWords kind top n) bytes place cause = WordsHas kind top (words n bytes) place cause
 Stands (PagesLength len ws) bytes place cause = LengthHas len ws place cause
-Stands (Page word) bytes place cause = ⊥
+Stands (Page kind top at word) bytes place cause = PageHas kind top at word bytes place cause
+Stands (InfoBody len) bytes place cause = InfoHas bytes place cause
+Stands (P2mBody len) bytes place cause = P2mHas bytes place cause
+Stands (VcpuBody code len) bytes place cause = VcpuHas code bytes place cause
 Stands (ContextBody len) bytes place cause = ContextHas bytes place cause
 Stands (ParamsBody len) bytes place cause = ParamsHas bytes place cause
 Stands (OtherBody len) bytes place cause = ⊥
@@ -183,29 +199,36 @@ pub data Fails (part : StreamPart) (left : List ℕ) : Cause → List ℕ → Ty
 
 -- ---- faultless fronts, and the part that comes next
 
--- the pages of the first of these words, and the word whose page comes next; the page of a word whose type has no data is empty
-pub data PagesTo : List ℕ → List ℕ → ℕ → Type 0 where
-  next_page : (word : ℕ) (others : List ℕ) → PagesTo (word ∷ others) [] word
-  one_page : (first : ℕ) (others page pages : List ℕ) (word : ℕ) → IsFaultless (Page first) page → PagesTo others pages word → PagesTo (first ∷ others) (page ++ pages) word
+-- the pages of the first of these words, of which the first stands at this place, and the place and the word whose page comes next; the page of a word whose type has no data is empty
+pub data PagesTo (kind : Kind) (top : ℕ) : ℕ → List ℕ → List ℕ → ℕ → ℕ → Type 0 where
+  next_page : (place word : ℕ) (others : List ℕ) → PagesTo kind top place (word ∷ others) [] place word
+  one_page : (place first : ℕ) (others page pages : List ℕ) (next word : ℕ) → IsFaultless (Page kind top place first) page → PagesTo kind top (place + 1) others pages next word
+      → PagesTo kind top place (first ∷ others) (page ++ pages) next word
 
 -- the first parts of a PAGE_DATA body of this length
 pub data InPages (kind : Kind) (top len : ℕ) : List ℕ → StreamPart → Type 0 where
   at_front : InPages kind top len [] (PagesFront len)
   at_words : (front : List ℕ) → IsFaultless (PagesFront len) front → InPages kind top len front (PagesWords kind top (le32 front 0))
   at_length : (front ws : List ℕ) → IsFaultless (PagesFront len) front → IsFaultless (PagesWords kind top (le32 front 0)) ws → InPages kind top len (front ++ ws) (PagesLength len (words (le32 front 0) ws))
-  at_page : (front ws pages : List ℕ) (word : ℕ) → IsFaultless (PagesFront len) front → IsFaultless (PagesWords kind top (le32 front 0)) ws → IsFaultless (PagesLength len (words (le32 front 0) ws)) []
-      → PagesTo (words (le32 front 0) ws) pages word → InPages kind top len (front ++ (ws ++ pages)) (Page word)
+  at_page : (front ws pages : List ℕ) (next word : ℕ) → IsFaultless (PagesFront len) front → IsFaultless (PagesWords kind top (le32 front 0)) ws → IsFaultless (PagesLength len (words (le32 front 0) ws)) []
+      → PagesTo kind top 0 (words (le32 front 0) ws) pages next word → InPages kind top len (front ++ (ws ++ pages)) (Page kind top next word)
 
--- a body of a record that sets parts of this code: a context and parameters have causes of their own
+-- a body of a record that sets parts of this code: a vCPU's parts, a context and parameters have causes of their own
 abbrev pub body_part : PartCode → ℕ → StreamPart
+body_part VcpuBasic len = VcpuBody VcpuBasic len
+body_part VcpuExtended len = VcpuBody VcpuExtended len
+body_part VcpuXsave len = VcpuBody VcpuXsave len
+body_part VcpuMsrs len = VcpuBody VcpuMsrs len
 body_part HvmContext len = ContextBody len
 body_part HvmParam len = ParamsBody len
 body_part code len = OtherBody len
 
--- the first parts of a body of this type and length; a record that only marks a place has none
+-- the first parts of a body of this type and length; a record that only marks a place has none, and one that lists P2M frames has a body of its own
 pub data InBody (kind : Kind) (top len : ℕ) : ℕ → List ℕ → StreamPart → Type 0 where
   in_pages : (before : List ℕ) (part : StreamPart) → InPages kind top len before part → InBody kind top len 1 before part
-  of_code : (this : RecordType) (code : PartCode) → code_of_type this ≡ Some code → InBody kind top len (type_number this) [] (body_part code len)
+  at_info : InBody kind top len 2 [] (InfoBody len)
+  at_p2m_frames : InBody kind top len 3 [] (P2mBody len)
+  of_code : (this : RecordType) (code : PartCode) → code_of_type this ≡ Some code → (this ≡ X86PvP2mFrames → ⊥) → InBody kind top len (type_number this) [] (body_part code len)
   optional : (type : ℕ) → 2 ^ 31 ≤ type → InBody kind top len type [] (OtherBody len)
 
 -- the first parts of a record

@@ -1,0 +1,70 @@
+-- Refusals of what only PV guests have, in the words of the format (libxc migration stream): where each cause stands, a line
+-- for each; causes that have places stand at several, all others at place 0.
+use Rattle.std.specs.Prelude.{◌≡◌, ◌⊎◌, ℕ, ◌+◌, ◌*◌, ◌<◌, ◌≤◌, List, length, drop, filter, Some, None, IsSome, IsTrue, IsFalse, slice_index}
+use Rattle.std.specs.FinMap as maps
+use Rattle.std.specs.Ordering.{is_lt}
+use Rattle.mig_bytes.specs.Fields.{le32}
+use Rattle.mig_headers.specs.declared.fault.Cause.{Cause}
+use Rattle.mig_headers.specs.declared.fault.Cause.TheVariants as causes
+use Rattle.mig_pagetypes.specs.Limits.{pfn_limit, most_frames}
+use Rattle.mig_pagetypes.specs.PageTypes.{level_of}
+use Rattle.mig_pagetypes.specs.declared.page_type.PageType.TheVariants.{Notab}
+use Rattle.mig_guest.specs.Formed.{gdt_ents}
+use Rattle.mig_guest.specs.Frames.{FrameOf}
+use Rattle.mig_guest.specs.Guests.{GuestOf}
+use Rattle.mig_guest.specs.Order.{part_cmp}
+use Rattle.mig_guest.specs.Parts.{PartMap}
+use Rattle.mig_guest.specs.PartKeys.{p2m_key, vcpu_key, shared_key}
+use Rattle.mig_guest.specs.Tables.{entry}
+use Rattle.mig_guest.specs.declared.part_code.PartCode.{PartCode}
+use Rattle.mig_guest.specs.declared.part_code.PartCode.TheVariants.{VcpuBasic}
+use Rattle.mig_guest.specs.declared.part_key.PartKey.{PartKey}
+use Rattle.mig_guest.specs.declared.table.Entry.TheVariants.{Superpage, Frame}
+use Rattle.mig_bodies.specs.PvBodies.{p2m_count}
+use Rattle.mig_pvtables.specs.Faults.{type_at, fits_field}
+use Rattle.mig_pvtables.specs.P2mFrames.{listed}
+use Rattle.mig_pvtables.specs.VcpuContexts.{field_value, is_used, frame_of_field}
+
+-- the page of a table of this level, which stands at this place of its record: at each slot ("PAGE_DATA")
+pub data TableHas (top place level : ℕ) (page : List ℕ) : ℕ → Cause → Type 0 where
+  superpage : (slot : ℕ) → slot < 512 → entry level page slot ≡ Superpage → TableHas top place level page slot (causes.Superpage place slot)
+  outside : (slot n : ℕ) → slot < 512 → entry level page slot ≡ Frame n → top < n → TableHas top place level page slot (causes.EntryOutside place slot n)
+
+-- a body that says the guest's width, in its first byte, and the levels of its page tables, in the second ("X86_PV_INFO")
+pub data InfoHas (body : List ℕ) : ℕ → Cause → Type 0 where
+  width_4 : slice_index body 0 ≡ 4 → InfoHas body 0 causes.Pv32
+  other_width : (slice_index body 0 ≡ 8 → ⊥) → InfoHas body 0 causes.BadPvInfo
+  other_levels : (slice_index body 1 ≡ 4 → ⊥) → InfoHas body 0 causes.BadPvInfo
+
+-- a body that lists the P2M frames from its first to its last frame number, which ask for no length where the first is above the last ("X86_PV_P2M_FRAMES")
+pub data P2mHas (body : List ℕ) : ℕ → Cause → Type 0 where
+  bad_length : le32 body 0 ≤ le32 body 4 → (length body ≡ 8 + 8 * p2m_count (le32 body 0) (le32 body 4) → ⊥) → P2mHas body 0 (causes.BadLength (length body))
+  late_start : (le32 body 0 ≡ 0 → ⊥) → P2mHas body 0 (causes.P2mStart (le32 body 0))
+  far_end : pfn_limit ≤ le32 body 4 → P2mHas body 0 (causes.P2mRange (le32 body 4))
+
+-- the body of a vCPU's record that sets parts of this code: its id, and a context where one follows ("X86_PV_VCPU_BASIC" to "X86_PV_VCPU_XSAVE", "X86_PV_VCPU_MSRS")
+pub data VcpuHas (code : PartCode) (body : List ℕ) : ℕ → Cause → Type 0 where
+  vcpu_id : 4096 ≤ le32 body 0 → VcpuHas code body 0 (causes.VcpuId (le32 body 0))
+  descriptors : code ≡ VcpuBasic → 8 < length body → 7168 < gdt_ents (drop 8 body) → VcpuHas code body 0 (causes.GdtEnts (gdt_ents (drop 8 body)))
+
+-- how many parts have a lesser key
+abbrev pub rank_of : PartMap → PartKey → ℕ
+rank_of parts key = length (filter (λ e. is_lt (part_cmp e.0 key)) (maps.entries parts))
+
+-- the whole PV guest at END ("END"). Of the parts that are missing, the P2M frames are tried first, then the shared page, then
+-- the context of vCPU 0. An entry of a table has the place 512 * pfn + slot, with a slot below 512: the tables are tried by
+-- their frame numbers, and one by its slots. A field of a vCPU has the place 32 * rank + field, with a field of at most 18: the
+-- contexts are tried in the order of their keys, and so of the vCPUs' ids, and one by its fields.
+pub data PvGuestHas (g : GuestOf) : ℕ → Cause → Type 0 where
+  no_p2m : maps.get g.parts p2m_key ≡ None → PvGuestHas g 0 (causes.Missing 3)
+  no_shared : maps.get g.parts shared_key ≡ None → PvGuestHas g 1 (causes.Missing 7)
+  no_vcpu : maps.get g.parts (vcpu_key 0) ≡ None → PvGuestHas g 2 (causes.Missing 4)
+  other_type : (k pfn : ℕ) → listed g.parts k ≡ Some pfn → (type_at g.frames pfn ≡ Some Notab → ⊥) → PvGuestHas g k (causes.P2mFrame k)
+  listed_twice : (j k pfn slot : ℕ) → j < k → listed g.parts j ≡ Some pfn → listed g.parts k ≡ Some pfn
+      → slot < 512 → IsSome (maps.get g.frames (512 * j + slot)) ⊎ IsSome (maps.get g.frames (512 * k + slot)) → PvGuestHas g k (causes.P2mFrame k)
+  absent : (pfn slot level n : ℕ) (frame : FrameOf) (page : List ℕ) → maps.get g.frames pfn ≡ Some frame → level_of frame.type ≡ Some level → frame.page ≡ Some page
+      → slot < 512 → entry level page slot ≡ Frame n → maps.get g.frames n ≡ None → PvGuestHas g (512 * pfn + slot) (causes.TargetAbsent pfn slot)
+  field_misfits : (key : PartKey) (field : ℕ) (context : List ℕ) → maps.get g.parts key ≡ Some context → key.code ≡ 4
+      → field ≤ 18 → IsTrue (is_used key.key1 (gdt_ents context) field (field_value context field))
+      → IsFalse (fits_field field (type_at g.frames (frame_of_field field (field_value context field)))) → PvGuestHas g (32 * rank_of g.parts key + field) (causes.VcpuFrame key.key1 field)
+  many_frames : most_frames < length (maps.entries g.frames) → PvGuestHas g 0 causes.TooManyFrames
