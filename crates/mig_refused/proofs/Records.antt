@@ -1,5 +1,5 @@
 -- A record that fails: the part in which it fails, and the parts before it.
-use Rattle.mig_refused.proofs.Common.{◌≡◌, ◌⊎◌, inl, inr, ℕ, ◌+◌, ◌*◌, ◌/◌, List, [], ◌∷◌, ◌++◌, Bool, true, false, not, nat_eq, zero, suc, drop, length, Option, Some, None, refl, sym, ap, subst, ◌∙◌, arith, append_assoc, eqb-true, not-true, false≢true, le32, Judged, ◌>>=◌, part, tried, Passes, Faulty, part_whole, then_passes, tried_none, both_pass, part_passes, tried_passes, same_passes, first_fault, Cause, Truncated, Kind, Pv, Hvm, common_steps, type_allows, fault_of_count, fault_of_words, Opening, Before, before, record_at, next_at, body_at, typed_at, coded_at, code_of_type, said_at, entries_at, words_at, fault_of_head, fault_of_page, fault_at_end, fault_of_data, StreamPart, PagesTo, IsFaultless, InPages, body_part, InBody, Within, end_record, Head, PagesFront, PagesWords, PagesLength, Page, InfoBody, P2mBody, VcpuBody, OtherBody, Padding, WholeGuest}
+use Rattle.mig_refused.proofs.Common.{◌≡◌, ◌⊎◌, inl, inr, ℕ, ◌+◌, ◌*◌, ◌/◌, List, [], ◌∷◌, ◌++◌, Bool, true, false, not, nat_eq, zero, suc, drop, length, Option, Some, None, refl, sym, ap, subst, ◌∙◌, arith, append_assoc, eqb-true, not-true, false≢true, le32, Judged, ◌>>=◌, part, tried, Passes, Faulty, part_whole, then_passes, tried_none, both_pass, part_passes, tried_passes, same_passes, Cause, Truncated, Kind, common_steps, type_allows, fault_of_count, fault_of_words, Opening, Before, before, record_at, next_at, body_at, typed_at, coded_at, code_of_type, said_at, entries_at, words_at, fault_of_head, fault_of_page, fault_at_end, fault_of_data, StreamPart, PagesTo, IsFaultless, InPages, body_part, InBody, Within, end_record, Head, PagesFront, PagesWords, PagesLength, Page, InfoBody, P2mBody, VcpuBody, OtherBody, Padding, WholeGuest}
 use Rattle.mig_bytes.specs.Bytes.{padding_len, IsLeastPadding}
 use Rattle.mig_bytes.specs.Judged.{each}
 use Rattle.mig_headers.specs.RecordTypes.{record_row_of, type_number, type_of_number}
@@ -35,7 +35,7 @@ use Rattle.mig_refused.specs.Refusal.PagesTo.{next_page, one_page}
 use Rattle.mig_refused.specs.Refusal.InPages.{at_front, at_words, at_length, at_page}
 use Rattle.mig_refused.specs.Refusal.InBody.{in_pages, at_info, at_p2m_frames, of_code, optional}
 use Rattle.mig_refused.specs.Refusal.Within.{at_head, in_body, at_padding}
-use Rattle.mig_refused.proofs.Single.{trial, one_part, stage, stage_faulty, stage_passes, stage_cases, then_faulty, bind_cases, passes_not, same_faulty, only_first, fine, faultless}
+use Rattle.mig_refused.proofs.Single.{trial, one_part, stage, stage_faulty, stage_passes, stage_cases, then_faulty, bind_cases, passes_not, only_first, fine, faultless}
 
 -- a part that fails in an input, and the parts before it
 pub record Found (Before_it : List ℕ → StreamPart → Type 0) (i : List ℕ) (c : Cause) (rest : List ℕ) : Type 0 where

@@ -1,5 +1,5 @@
 -- The causes that stand in each part of an image.
-use Rattle.mig_refused.proofs.Common.{◌≡◌, ◌⊎◌, inl, inr, ℕ, zero, suc, drop, ltb-false, ◌+◌, ◌*◌, ◌<◌, ◌≤◌, List, [], ◌∷◌, length, Bool, true, false, nat_le, nat_lt, nat_eq, not, is_none, Option, Some, None, Result, Ok, Err, slice_index, refl, sym, ap, subst, ◌∙◌, arith, leb-true, ltb-true, eqb-true, eqb-false, ne_eqb, eq-eqb, le-leb, lt-ltb, le-ltb, cases_order, both_ways, not-true, and_parts, and_from, or_cases, common_steps, option_or, le32, here, first_fault, Cause, BadLength, BadPageType, PfnOutside, BadContext, ParamIndex, Missing, TooManyFrames, Kind, Pv, Hvm, count_rows, fault_of_count, fault_of_words, fault_of_data, fault_of_head, EntriesTo, EntryHas, MarkerHas, HeaderHas, DomainHas, GuestHas, FrontHas, WordsHas, LengthHas, PageHas, ContextHas, ParamsHas, IsTriedBefore, StreamPart, Stands, Marker, HeaderRest, Domain, Head, WholeGuest, PagesFront, PagesWords, PagesLength, Page, InfoBody, P2mBody, VcpuBody, ContextBody, ParamsBody, fault_of_page}
+use Rattle.mig_refused.proofs.Common.{◌≡◌, ◌⊎◌, inl, inr, ℕ, zero, suc, drop, ltb-false, ◌+◌, ◌*◌, ◌<◌, ◌≤◌, List, [], ◌∷◌, length, Bool, true, false, nat_le, nat_lt, nat_eq, not, is_none, Option, Some, None, Result, Ok, Err, slice_index, refl, sym, ap, subst, ◌∙◌, arith, leb-true, ltb-true, eqb-true, eq-eqb, le-leb, lt-ltb, le-ltb, cases_order, both_ways, not-true, and_parts, and_from, or_cases, common_steps, option_or, le32, here, first_fault, Cause, BadLength, BadPageType, PfnOutside, BadContext, ParamIndex, Missing, TooManyFrames, Kind, Pv, Hvm, count_rows, fault_of_count, fault_of_words, fault_of_data, fault_of_head, EntriesTo, EntryHas, MarkerHas, HeaderHas, DomainHas, GuestHas, FrontHas, WordsHas, LengthHas, PageHas, ContextHas, ParamsHas, IsTriedBefore, StreamPart, Stands, Marker, HeaderRest, Domain, Head, WholeGuest, PagesFront, PagesWords, PagesLength, Page, InfoBody, P2mBody, VcpuBody, ContextBody, ParamsBody, fault_of_page}
 use Rattle.std.specs.FinMap as maps
 use Rattle.std.specs.List.{list_any}
 use Rattle.std.proofs.lemmas.List.{drop-drop}
