@@ -8,9 +8,7 @@ use Rattle.mig_pagetypes.specs.Limits.{pfn_limit}
 use Rattle.mig_guest.specs.Formed.{gdt_ents}
 use Rattle.mig_guest.specs.declared.part_code.PartCode.{PartCode}
 use Rattle.mig_guest.specs.declared.part_code.PartCode.TheVariants.{VcpuBasic}
-use Rattle.mig_bodies.specs.PvBodies.{fault_of_pv_info, p2m_count, fault_of_p2m, is_vcpu, fault_of_vcpu}
-use Rattle.mig_bodies.specs.Shapes.{HasBodyLength, fault_of_body}
-use Rattle.mig_bodies.proofs.PvLaws.{vcpu_rows}
+use Rattle.mig_bodies.specs.PvBodies.{fault_of_pv_info, p2m_count, fault_of_p2m, fault_of_vcpu}
 use Rattle.mig_guest.specs.Longs.{long_at}
 use Rattle.mig_guest.specs.Tables.{entry, entry_of, named_frame}
 use Rattle.mig_guest.specs.declared.table.Entry.{Entry}
@@ -143,7 +141,3 @@ module _ (body : List ℕ) where
 pub vcpu_least : (code : PartCode) (body : List ℕ) → Least (VcpuHas code body) (fault_of_vcpu code body)
 vcpu_least VcpuBasic body = basic_least body
 vcpu_least code body = other_least body code (λ is. cc)
-
--- the first fault of the body of a vCPU's record
-pub vcpu_body_least : (code : PartCode) (body : List ℕ) → is_vcpu code ≡ true → HasBodyLength code (length body) → Least (VcpuHas code body) (fault_of_body code body)
-vcpu_body_least code body is has = subst (Least (VcpuHas code body)) (sym (vcpu_rows code body is has)) (vcpu_least code body)

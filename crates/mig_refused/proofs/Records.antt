@@ -12,7 +12,6 @@ use Rattle.mig_guest.specs.PartCodes.{code_number}
 use Rattle.mig_guest.proofs.PartRows.{number_found}
 use Rattle.mig_bodies.specs.PvBodies.{fault_of_pv_info, fault_of_p2m, is_vcpu, fault_of_vcpu}
 use Rattle.mig_bodies.proofs.PvLaws.{vcpu_rows}
-use Rattle.mig_restore.specs.Judging.{lists_of}
 use Rattle.mig_bodies.specs.declared.layout.Layout.{Layout}
 use Rattle.mig_bodies.specs.declared.shape.Shape.{Shape}
 use Rattle.mig_bodies.specs.declared.shape.Shape.TheVariants.{Table, Single, Other}
@@ -24,6 +23,7 @@ use Rattle.mig_order.specs.Order.{IsInOrder}
 use Rattle.mig_order.specs.Order.{IsInOrder as order}
 use Rattle.mig_records.specs.Words.{words}
 use Rattle.mig_pvtables.specs.Faults.{fault_of_guest}
+use Rattle.mig_restore.specs.Judging.{lists_of}
 use Rattle.mig_restore.specs.Mean.{sent}
 use Rattle.mig_restore.specs.Record.{StreamRecord, FrameEntry, Content}
 use Rattle.mig_restore.specs.Record.Content.{Nothing, Frames, Sets}

@@ -3,6 +3,7 @@ use Rattle.mig_refused.proofs.Common.{◌≡◌, ◌⊎◌, inl, inr, ℕ, zero,
 use Rattle.std.specs.FinMap as maps
 use Rattle.std.specs.List.{list_any}
 use Rattle.std.proofs.lemmas.List.{drop-drop}
+use Rattle.std.proofs.lemmas.Option.{none-some, same_Some}
 use Rattle.byteorder.specs.Endian.{little_number}
 use Rattle.mig_bytes.specs.Fields.{le64}
 use Rattle.mig_bytes.specs.Walk.{walk_end}
@@ -14,6 +15,7 @@ use Rattle.mig_headers.specs.Texts.{number_of_cause}
 use Rattle.mig_headers.specs.declared.fault.ContextFault.{ContextFault}
 use Rattle.mig_pagetypes.specs.FrameWords.{word_type, word_pfn}
 use Rattle.mig_pagetypes.specs.Limits.{pfn_limit, most_frames}
+use Rattle.mig_pagetypes.specs.PageTypes.{level_of}
 use Rattle.mig_guest.specs.Guests.{GuestOf}
 use Rattle.mig_guest.specs.PartKeys.{context_key}
 use Rattle.mig_records.specs.Words.{words, data_len_of, has_reserved_type, names_outside, is_outside, first_place, first_word}
@@ -23,13 +25,11 @@ use Rattle.mig_bodies.specs.declared.layout.Layout.{Layout}
 use Rattle.mig_bodies.specs.Layouts.{layout, fault_of_entries}
 use Rattle.mig_bodies.specs.PvBodies.{fault_of_pv_info, fault_of_p2m, fault_of_vcpu}
 use Rattle.mig_bodies.specs.Shapes.{fault_of_body, fault_of_scan}
-use Rattle.mig_pagetypes.specs.PageTypes.{level_of}
 use Rattle.mig_pvtables.specs.Faults.{fault_of_guest}
 use Rattle.mig_pvtables.specs.Tables.{fault_of_page_table}
 use Rattle.mig_pvtables.proofs.HvmGuests.{hvm_fault}
 use Rattle.mig_restore.specs.Judging.{type_in_word, fault_of_level}
 use Rattle.mig_restore.specs.Mean.{meant_type}
-use Rattle.std.proofs.lemmas.Option.{none-some, same_Some}
 use Rattle.mig_refused.specs.PvRefusal.{TableHas, PvGuestHas}
 use Rattle.mig_refused.specs.Refusal.PageHas.{in_table}
 use Rattle.mig_refused.specs.Refusal.{FrontHas as fronts, LengthHas as lengths, ParamsHas as of_params}
