@@ -1,16 +1,15 @@
 -- Finite maps and their entries: what every entry meets, and what entries that are set again give.
-use Rattle.mig_tool.proofs.Common.{◌≡◌, ℕ, Bool, true, false, cond, not, nat_eq, List, [], ◌∷◌, map, Option, Some, None, refl, sym, ap, subst, ◌∙◌, T, ◌||◌, if◌then◌else◌, All, find, is_sorted, nat_cmp-IsAntisymmetric, Kind, Hvm, FrameMap, is_hvm_type, Part, PartMap, put_part, put_parts, replace_code, parts_of, PartCode, row_of, code_number, GuestOf, IsPart, IsFormed, IsPlainHvm, is_emulator_code, is_policy, width_of, set_parts, parts_at, Frame, static_codes, last_codes, FrameEntry, put_entry, put_entries}
+use Rattle.mig_tool.proofs.Common.{◌≡◌, ◌≢◌, ℕ, Bool, true, false, cond, not, nat_eq, List, [], ◌∷◌, map, Option, Some, None, refl, sym, ap, subst, ◌∙◌, T, ◌||◌, eq_by_cmp, PartKey, part_cmp, if◌then◌else◌, All, find, is_sorted, nat_cmp-IsAntisymmetric, Kind, Hvm, FrameMap, Part, PartMap, put_part, put_parts, replace_code, parts_of, PartCode, row_of, code_number, GuestOf, IsPart, IsFormed, HasNoEmulators, is_emulator_code, is_policy, width_of, set_parts, parts_at, Frame, static_codes, last_codes, FrameEntry, meant_type, put_entry, put_entries}
 use Rattle.std.specs.Option.{option_or}
 use Rattle.std.proofs.lemmas.List.Elements.{All-head, All-tail}
 use Rattle.std.specs.Cmp.{nat_cmp_total}
-use Rattle.std.specs.Ordering.{nat_cmp, eq_by_cmp}
+use Rattle.std.specs.Ordering.{nat_cmp}
 use Rattle.std.specs.declared.cmp.Ordering.TheVariants.{Equal}
 use Rattle.std.specs.FinMap as maps
 use Rattle.std.specs.FinMap.Entries.{below_all, find-where_key, is_sorted-where_key}
 use Rattle.mig_pagetypes.specs.declared.page_type.PageType.{PageType}
-use Rattle.mig_pagetypes.specs.declared.page_type.PageType.TheVariants.{Notab, Broken, Xalloc}
-use Rattle.mig_guest.specs.declared.part_key.PartKey.{PartKey}
-use Rattle.mig_guest.specs.Order.{part_cmp}
+use Rattle.mig_pagetypes.specs.declared.page_type.PageType.TheVariants.{Xtab}
+use Rattle.mig_guest.specs.Frames.{framed}
 use Rattle.mig_guest.proofs.PartOrder.{part_total, part_exact}
 use Rattle.mig_guest.proofs.PartCursor.{both_of}
 use Rattle.mig_guest.specs.declared.part_code.PartCode.TheVariants.{Tsc}
@@ -21,22 +20,24 @@ use Rattle.mig_guest.proofs.Found.{found_first}
 abbrev pub entry_of : Frame → FrameEntry
 entry_of f = record { pfn = f.0; type = f.1.type; page = f.1.page }
 
-abbrev pub HasHvmType : Frame → Type 0
-HasHvmType f = is_hvm_type f.1.type ≡ true
+-- a frame that there is, of a type that stays in a guest of this kind
+abbrev pub IsKept : Kind → Frame → Type 0
+IsKept kind f = (meant_type kind f.1.type ≡ f.1.type) × (f.1.type ≢ Xtab)
 
-put_hvm : (m : FrameMap) (pfn : ℕ) (t : PageType) (page : Option (List ℕ)) → is_hvm_type t ≡ true → put_entry Hvm m (record { pfn = pfn; type = t; page = page }) ≡ maps.insert m pfn (record { type = t; page = page })
-put_hvm m pfn Notab page is = refl
-put_hvm m pfn Broken page is = refl
-put_hvm m pfn Xalloc page is = refl
-put_hvm m pfn _ page is = absurd (cc)
+framed_there : (m : FrameMap) (pfn : ℕ) (t : PageType) (page : Option (List ℕ)) → t ≢ Xtab → framed m pfn t page ≡ maps.insert m pfn (record { type = t; page = page })
+framed_there m pfn Xtab page there = absurd (there refl)
+framed_there m pfn _ page there = refl
 
-frames_set : (m : FrameMap) (fs : List Frame) (q : ℕ) → T (is_sorted nat_cmp fs) → All HasHvmType fs → maps.get (put_entries Hvm m (map entry_of fs)) q ≡ option_or (find nat_cmp q fs) (maps.get m q)
-frames_set m [] q h hvm = refl
-frames_set m (f ∷ fs) q h hvm =
+put_kept : (kind : Kind) (m : FrameMap) (f : Frame) → IsKept kind f → put_entry kind m (entry_of f) ≡ maps.insert m f.0 f.1
+put_kept kind m f kept = ap (λ t. framed m f.0 t f.1.page) kept.0 ∙ framed_there m f.0 f.1.type f.1.page kept.1
+
+frames_set : (kind : Kind) (m : FrameMap) (fs : List Frame) (q : ℕ) → T (is_sorted nat_cmp fs) → All (IsKept kind) fs → maps.get (put_entries kind m (map entry_of fs)) q ≡ option_or (find nat_cmp q fs) (maps.get m q)
+frames_set kind m [] q h kept = refl
+frames_set kind m (f ∷ fs) q h kept =
     let (first, others) = both_of (below_all nat_cmp f.0 fs) (is_sorted nat_cmp fs) h in
-    let n = put_entry Hvm m (entry_of f) in
-    frames_set n fs q others (All-tail HasHvmType f fs hvm)
-    ∙ ap (option_or (find nat_cmp q fs)) (ap (λ k. maps.get k q) (put_hvm m f.0 f.1.type f.1.page (All-head HasHvmType f fs hvm)) ∙ maps.get-insert nat_cmp_total m f.0 f.1 q)
+    let n = put_entry kind m (entry_of f) in
+    frames_set kind n fs q others (All-tail (IsKept kind) f fs kept)
+    ∙ ap (option_or (find nat_cmp q fs)) (ap (λ k. maps.get k q) (put_kept kind m f (All-head (IsKept kind) f fs kept)) ∙ maps.get-insert nat_cmp_total m f.0 f.1 q)
     ∙ found_first nat_cmp_total nat_cmp-IsAntisymmetric q f fs (maps.get m q) (eq_by_cmp nat_cmp q f.0) refl first
 
 or_none : {X : Type 0} (o : Option X) → option_or o None ≡ o
@@ -44,9 +45,9 @@ or_none None = refl
 or_none (Some x) = refl
 
 -- the frames of a map, set one after another, give the map
-pub frames_again : (m : FrameMap) → All HasHvmType (maps.entries m) → put_entries Hvm maps.empty (map entry_of (maps.entries m)) ≡ m
-frames_again m hvm = maps.same_map nat_cmp_total nat_cmp-IsAntisymmetric _ _ (λ q.
-    frames_set maps.empty (maps.entries m) q (maps.entries_sorted m) hvm ∙ ap (option_or (find nat_cmp q (maps.entries m))) (maps.get-empty nat_cmp q)
+pub frames_again : (kind : Kind) (m : FrameMap) → All (IsKept kind) (maps.entries m) → put_entries kind maps.empty (map entry_of (maps.entries m)) ≡ m
+frames_again kind m kept = maps.same_map nat_cmp_total nat_cmp-IsAntisymmetric _ _ (λ q.
+    frames_set kind maps.empty (maps.entries m) q (maps.entries_sorted m) kept ∙ ap (option_or (find nat_cmp q (maps.entries m))) (maps.get-empty nat_cmp q)
     ∙ or_none (find nat_cmp q (maps.entries m)) ∙ sym (maps.get-entries m q))
 
 -- ---- parts set again
@@ -62,7 +63,7 @@ parts_set m (p ∷ ps) q h =
 abbrev pub Holds : PartMap → (ℕ → Bool) → PartMap → Type 0
 Holds of codes m = (q : PartKey) → maps.get m q ≡ cond (codes q.code) (maps.get of q) None
 
-mixed : (b s : Bool) (o : Option (List ℕ)) → option_or (cond b o None) (cond s o None) ≡ cond (b || s) o None
+pub mixed : (b s : Bool) (o : Option (List ℕ)) → option_or (cond b o None) (cond s o None) ≡ cond (b || s) o None
 mixed true s (Some x) = refl
 mixed true true None = refl
 mixed true false None = refl
@@ -115,7 +116,7 @@ abbrev pub with_parts : List PartCode → GuestOf → PartMap → PartMap
 with_parts [] g m = m
 with_parts (code ∷ codes) g m = with_parts codes g (set_parts code m (parts_at code g))
 
-abbrev codes_with : List PartCode → (ℕ → Bool) → ℕ → Bool
+abbrev pub codes_with : List PartCode → (ℕ → Bool) → ℕ → Bool
 codes_with [] codes x = codes x
 codes_with (code ∷ more) codes x = codes_with more (λ n. nat_eq n (code_number code) || codes n) x
 
@@ -139,13 +140,17 @@ has_hvm_code kind width q bytes hvm plain part =
 pub holds_none : (of : PartMap) → Holds of (λ x. false) maps.empty
 holds_none of q = maps.get-empty part_cmp q
 
-pub holds_all : (g : GuestOf) (m : PartMap) → IsFormed g → IsPlainHvm g → Holds g.parts hvm_codes m → m ≡ g.parts
-holds_all g m formed is holds = maps.same_map part_total part_exact m g.parts (λ q. holds q ∙ there q (maps.get g.parts q) refl)
+pub nothing : (b : Bool) (o : Option (List ℕ)) → o ≡ None → cond b o None ≡ o
+nothing true o is = refl
+nothing false o is = sym is
+
+-- a map that has the parts of another that pass a test is that one, where all of them do
+pub all_again : (of m : PartMap) (test : PartKey → Bool) → ((q : PartKey) → maps.get m q ≡ cond (test q) (maps.get of q) None) → ((q : PartKey) (bytes : List ℕ) → maps.get of q ≡ Some bytes → test q ≡ true) → m ≡ of
+all_again of m test holds picked = maps.same_map part_total part_exact m of (λ q. holds q ∙ there q (maps.get of q) refl)
   where
-    there : (q : PartKey) (o : Option (List ℕ)) → maps.get g.parts q ≡ o → cond (hvm_codes q.code) (maps.get g.parts q) None ≡ maps.get g.parts q
-    there q None is = same (hvm_codes q.code) (maps.get g.parts q) is
-      where
-        same : (b : Bool) (o : Option (List ℕ)) → o ≡ None → cond b o None ≡ o
-        same true o e = refl
-        same false o e = sym e
-    there q (Some bytes) got = ap (λ b. cond b (maps.get g.parts q) None) (has_hvm_code g.kind (width_of g) q bytes is.hvm (is.plain q bytes got) (formed.parts q bytes got))
+    there : (q : PartKey) (o : Option (List ℕ)) → maps.get of q ≡ o → cond (test q) o None ≡ o
+    there q None is = nothing (test q) None refl
+    there q (Some bytes) is = ap (λ b. cond b (Some bytes) None) (picked q bytes is)
+
+pub holds_all : (g : GuestOf) (m : PartMap) → IsFormed g → g.kind ≡ Hvm → HasNoEmulators g.parts → Holds g.parts hvm_codes m → m ≡ g.parts
+holds_all g m formed hvm plain holds = all_again g.parts m (λ q. hvm_codes q.code) holds (λ q bytes got. has_hvm_code g.kind (width_of g) q bytes hvm (plain q bytes got) (formed.parts q bytes got))

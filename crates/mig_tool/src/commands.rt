@@ -18,6 +18,7 @@ use crate::status::Status;
 use mig_bytes::{Sink, Source};
 use mig_canon::write_canon;
 use mig_guest::Guest;
+use mig_headers::Kind;
 use mig_image::{HostAnswer, host_of, write_host};
 use mig_restore::{StreamAnswer, read_image};
 use std::alloc::Global;
@@ -71,7 +72,8 @@ fn write_restored<K: Sink>(alloc: Global, guest: Guest, base: u64, out: &mut K) 
     }
 }
 
-/// Reads a stream, and writes the image of its guest, with machine frames counted up from the base.
+/// Reads a stream, and writes the image of its guest, with machine frames counted up from the base. A PV guest isn't restored
+/// so far.
 fn restore<S: Source, K: Sink>(alloc: Global, base: u64, input: &mut S, out: &mut K) -> Outcome
     requires { IsBase base }
     ensures answer { (before now : Option (List ℕ)) → ComesOf (commands.Restore base) (S.left input.old) (S.left input.new) (record { out_old = K.written out.old; out_new = K.written out.new; report_old = before; report_new = now }) result }
@@ -84,7 +86,10 @@ fn restore<S: Source, K: Sink>(alloc: Global, base: u64, input: &mut S, out: &mu
         Ok(reading) => reading.guest,
         Err(answer) => return unread(answer),
     };
-    write_restored(alloc, guest, base, out)
+    match guest.kind() {
+        Kind::Hvm => write_restored(alloc, guest, base, out),
+        Kind::Pv => Outcome::Unbuilt,
+    }
 }
 
 /// Reads a stream, and says on the report what it is.
