@@ -1,93 +1,70 @@
-"""A second reader of HVM streams, written from the format's documents and from docs/, and not from the program.
+"""A second reader of streams, written from the format's documents and from docs/, and not from the program.
 
 `read(bytes)` answers the stream and no line, or none and the line of its refusal (without the end of the line). Of a
 stream that was read, `canonical(guest)` and `image(guest, base)` are what `normalise` and `restore BASE` have to
-write, and `summary(stream)` is the line of `verify`. It is short and slow, and holds everything in memory.
+write, and `summary(stream)` is the line of `verify`. It is short and slow, and holds everything in memory. What PV guests
+alone have stands in pv.py.
 """
 import collections
 import struct
 
-MOST_BODY, MOST_RECORDS, MOST_FRAMES, FRAME_LIMIT = 1 << 27, 1 << 28, 1 << 24, 1 << 28
-PV, HVM = 1, 2
-END, PAGE_DATA, TSC_INFO, CONTEXT, PARAMS, STATIC_DATA_END, CPUID_POLICY, MSR_POLICY = 0, 1, 8, 9, 10, 16, 17, 18
+import pv
+from form import *
 
 # type: the kinds of guest that have it, and the body lengths that it may have
 TABLE = {
     END: ((PV, HVM), lambda n: n == 0),
     PAGE_DATA: ((PV, HVM), lambda n: n >= 8),
-    2: ((PV,), lambda n: n == 8),
-    3: ((PV,), lambda n: n >= 8),
-    4: ((PV,), lambda n: n in (8, 5176)),
-    5: ((PV,), lambda n: n >= 8),
-    6: ((PV,), lambda n: n >= 8),
-    7: ((PV,), lambda n: n == 4096),
+    PV_INFO: ((PV,), lambda n: n == 8),
+    P2M_FRAMES: ((PV,), lambda n: n >= 8),
+    BASIC: ((PV,), lambda n: n in (8, 5176)),
+    EXTENDED: ((PV,), lambda n: n >= 8),
+    XSAVE: ((PV,), lambda n: n >= 8),
+    SHARED_INFO: ((PV,), lambda n: n == 4096),
     TSC_INFO: ((PV, HVM), lambda n: n == 24),
     CONTEXT: ((HVM,), lambda n: True),
     PARAMS: ((HVM,), lambda n: n >= 8),
-    12: ((PV,), lambda n: n >= 8 and (n - 8) % 16 == 0),
+    VCPU_MSRS: ((PV,), lambda n: n >= 8 and (n - 8) % 16 == 0),
     STATIC_DATA_END: ((PV, HVM), lambda n: n == 0),
     CPUID_POLICY: ((PV, HVM), lambda n: n % 24 == 0 and n <= 65536 * 24),
     MSR_POLICY: ((PV, HVM), lambda n: n % 16 == 0 and n <= 65536 * 16),
 }
 UNSUPPORTED = (11, 13, 14, 15)
-STATIC = (2, CPUID_POLICY, MSR_POLICY)
-CONTENT = (END, PAGE_DATA, 3, 4, 5, 6, 7, CONTEXT, PARAMS, 12)
+STATIC = (PV_INFO, CPUID_POLICY, MSR_POLICY)
+CONTENT = (END, PAGE_DATA, P2M_FRAMES, *VCPU, SHARED_INFO, CONTEXT, PARAMS)
 
-
-# the version, the kind of guest, the guest, and the number of records with END
-Stream = collections.namedtuple('Stream', 'version kind guest records')
-
-
-class Refused(Exception):
-    pass
-
-
-class Input:
-    def __init__(self, data):
-        self.data, self.at = data, 0
-
-    def take(self, length):
-        if len(self.data) - self.at < length:
-            raise Refused('1 Truncated')
-        self.at += length
-        return self.data[self.at - length:self.at]
-
-
-def refuse_if(test, cause):
-    if test:
-        raise Refused(cause)
+# the version, the guest that is meant, and the number of records with END
+Stream = collections.namedtuple('Stream', 'version guest records')
 
 
 def is_optional(kind):
     return kind >= 1 << 31
 
 
-def has_page(kind):
-    return kind < 13
-
-
-def broken_rule(version, before, kind):
+def broken_rule(version, guest_kind, before, kind):
     """The least rule of order that a record of this type breaks behind records of these types, or 0."""
     ended = STATIC_DATA_END in before
     content = any(other in CONTENT for other in before)
-    if kind == STATIC_DATA_END and ended:
-        return 1
-    if (kind in STATIC and ended) or (kind in STATIC + (STATIC_DATA_END,) and content):
-        return 2
-    if version == 3 and kind in CONTENT and not ended:
-        return 3
-    return 0
+    broken = {
+        1: kind == STATIC_DATA_END and ended,
+        2: (kind in STATIC and ended) or (kind in (*STATIC, STATIC_DATA_END) and content),
+        3: version == 3 and kind in CONTENT and not ended,
+        4: kind == PV_INFO and PV_INFO in before,
+        5: kind == P2M_FRAMES and PV_INFO not in before,
+        6: guest_kind == PV and kind == PAGE_DATA and P2M_FRAMES not in before,
+        7: kind == PAGE_DATA and any(other in VCPU for other in before),
+    }
+    return min((rule for rule in broken if broken[rule]), default=0)
 
 
 def judge_head(version, guest_kind, before, kind, length):
-    refuse_if(guest_kind == PV and kind in TABLE, '0 NotBuilt %d' % kind)
     refuse_if(length > MOST_BODY, '8 BodyTooLong %d' % length)
     if not is_optional(kind):
         refuse_if(kind in UNSUPPORTED, '9 Unsupported %d' % kind)
         refuse_if(kind not in TABLE, '10 UnknownMandatory %d' % kind)
         kinds, allows = TABLE[kind]
         refuse_if(guest_kind not in kinds, '11 WrongKind %d' % kind)
-        rule = broken_rule(version, before, kind)
+        rule = broken_rule(version, guest_kind, before, kind)
         refuse_if(rule, '12 OutOfOrder %d' % rule)
         refuse_if(not allows(length), '13 BadLength %d' % length)
     refuse_if(len(before) >= MOST_RECORDS, '31 TooManyRecords')
@@ -109,22 +86,30 @@ def end_of_chain(body):
         offset += 8 + length
 
 
-def read_pages(source, length, frames):
+def judge_words(words, guest):
+    limit = FRAME_LIMIT if guest['kind'] == HVM else guest['top'] + 1
+    for entry, (kind, _) in enumerate(words):
+        refuse_if(5 <= kind <= 8, '15 BadPageType %d %d' % (entry, kind))
+    for entry, (_, pfn) in enumerate(words):
+        refuse_if(pfn >= limit, '16 PfnOutside %d %d' % (entry, pfn))
+
+
+def read_pages(source, length, guest):
     count, _ = struct.unpack('<II', source.take(8))
     refuse_if(length < 8 + 8 * count, '13 BadLength %d' % length)
     refuse_if(count == 0, '14 NoPages')
     words = [(word >> 60, word % (1 << 52)) for word in struct.unpack('<%dQ' % count, source.take(8 * count))]
-    for entry, (kind, _) in enumerate(words):
-        refuse_if(5 <= kind <= 8, '15 BadPageType %d %d' % (entry, kind))
-    for entry, (_, pfn) in enumerate(words):
-        refuse_if(pfn >= FRAME_LIMIT, '16 PfnOutside %d %d' % (entry, pfn))
-    refuse_if(length != 8 + 8 * count + 4096 * sum(has_page(kind) for kind, _ in words), '13 BadLength %d' % length)
-    for kind, pfn in words:
-        page = source.take(4096) if has_page(kind) else b''
-        if kind == 15:
-            frames.pop(pfn, None)
+    judge_words(words, guest)
+    refuse_if(length != 8 + 8 * count + PAGE * sum(has_page(kind) for kind, _ in words), '13 BadLength %d' % length)
+    for entry, (kind, pfn) in enumerate(words):
+        page = source.take(PAGE) if has_page(kind) else b''
+        if guest['kind'] == HVM and has_page(kind):
+            kind = NOTAB
+        pv.judge_table(entry, kind, page, guest['top'])
+        if kind == XTAB:
+            guest['frames'].pop(pfn, None)
         else:
-            frames[pfn] = (0 if has_page(kind) else kind, page)
+            guest['frames'][pfn] = kind, page
 
 
 def read_params(body, params):
@@ -136,52 +121,78 @@ def read_params(body, params):
     params.update(pairs)
 
 
+def read_part(kind, body, guest):
+    """The body of a record that sets parts of a guest of either kind."""
+    if kind == TSC_INFO:
+        guest['tsc'] = body[:20]
+    elif kind == CONTEXT:
+        guest['context'] = body[:end_of_chain(body)] + bytes(8)
+    elif kind == PARAMS:
+        read_params(body, guest['params'])
+    elif kind == CPUID_POLICY and body:
+        guest['cpuid'] = {(leaf, subleaf): rest for leaf, subleaf, rest in struct.iter_unpack('<II16s', body)}
+    elif kind == MSR_POLICY and body:
+        guest['msrs'] = {index: rest for index, rest in struct.iter_unpack('<I12s', body)}
+    else:
+        pv.read_body(kind, body, guest)
+
+
+def judge_guest(guest):
+    """The whole guest, at END."""
+    if guest['kind'] == PV:
+        pv.judge_guest(guest)
+    else:
+        refuse_if('context' not in guest, '27 Missing 9')
+    refuse_if(len(guest['frames']) > MOST_FRAMES, '32 TooManyFrames')
+
+
 def read_body(source, kind, length, guest):
     if is_optional(kind):
         source.take(length)
     elif kind == END:
-        refuse_if('context' not in guest, '27 Missing 9')
-        refuse_if(len(guest['frames']) > MOST_FRAMES, '32 TooManyFrames')
+        judge_guest(guest)
     elif kind == PAGE_DATA:
-        read_pages(source, length, guest['frames'])
+        read_pages(source, length, guest)
     else:
-        body = source.take(length)
-        if kind == TSC_INFO:
-            guest['tsc'] = body[:20]
-        elif kind == CONTEXT:
-            guest['context'] = body[:end_of_chain(body)] + bytes(8)
-        elif kind == PARAMS:
-            read_params(body, guest['params'])
-        elif kind == CPUID_POLICY and body:
-            guest['cpuid'] = {(leaf, subleaf): rest for leaf, subleaf, rest in struct.iter_unpack('<II16s', body)}
-        elif kind == MSR_POLICY and body:
-            guest['msrs'] = {index: rest for index, rest in struct.iter_unpack('<I12s', body)}
+        read_part(kind, source.take(length), guest)
     source.take(-length % 8)
 
 
-def record(kind, *pieces):
-    body = b''.join(pieces)
-    return struct.pack('<II', kind, len(body)) + body + bytes(-len(body) % 8)
-
-
-def canonical(guest):
-    out = [b'\xff' * 8, b'XENF', struct.pack('>IHHI', 3, 0, 0, 0), struct.pack('<IHHII', HVM, 12, 0, 0, 1)]
+def policy_records(guest):
+    out = []
     if guest['cpuid']:
         out.append(record(CPUID_POLICY, *(struct.pack('<II', *key) + rest for key, rest in sorted(guest['cpuid'].items()))))
     if guest['msrs']:
         out.append(record(MSR_POLICY, *(struct.pack('<I', key) + rest for key, rest in sorted(guest['msrs'].items()))))
-    out.append(record(STATIC_DATA_END))
-    frames = sorted(guest['frames'].items())
+    return out
+
+
+def page_records(guest):
+    out, frames = [], sorted(guest['frames'].items())
     for at in range(0, len(frames), 1024):
         batch = frames[at:at + 1024]
         words = [struct.pack('<Q', kind << 60 | pfn) for pfn, (kind, _) in batch]
         out.append(record(PAGE_DATA, struct.pack('<II', len(batch), 0), *words, *(page for _, (_, page) in batch)))
-    if 'tsc' in guest:
-        out.append(record(TSC_INFO, guest['tsc'], bytes(4)))
-    if guest['params']:
-        pairs = sorted(guest['params'].items())
-        out.append(record(PARAMS, struct.pack('<II', len(pairs), 0), *(struct.pack('<QQ', *pair) for pair in pairs)))
-    return b''.join(out + [record(CONTEXT, guest['context']), record(END)])
+    return out
+
+
+def machine_records(guest):
+    """What an HVM guest has behind the pages and X86_TSC_INFO."""
+    pairs = sorted(guest['params'].items())
+    params = [record(PARAMS, struct.pack('<II', len(pairs), 0), *(struct.pack('<QQ', *pair) for pair in pairs))]
+    return (params if pairs else []) + [record(CONTEXT, guest['context'])]
+
+
+def canonical(guest):
+    is_pv = guest['kind'] == PV
+    out = [b'\xff' * 8, b'XENF', struct.pack('>IHHI', 3, 0, 0, 0), struct.pack('<IHHII', guest['kind'], 12, 0, 0, 1)]
+    out += [pv.info_record()] if is_pv else []
+    out += policy_records(guest) + [record(STATIC_DATA_END)]
+    out += [pv.p2m_record(guest)] if is_pv else []
+    out += page_records(guest)
+    out += [record(TSC_INFO, guest['tsc'], bytes(4))] if 'tsc' in guest else []
+    out += (pv.machine_records if is_pv else machine_records)(guest)
+    return b''.join(out + [record(END)])
 
 
 def part(key, data):
@@ -200,7 +211,7 @@ def parts_of(guest):
 
 
 def image(guest, base):
-    """The image of the guest, with machine frames counted up from the base."""
+    """The image of an HVM guest, with machine frames counted up from the base."""
     frames, parts = sorted(guest['frames'].items()), sorted(parts_of(guest).items())
     width = max(guest['frames'], default=-1) + 1
     out = [b'XGIMAGE1', struct.pack('<IIQQ', HVM, 0, width, len(frames))]
@@ -211,8 +222,13 @@ def image(guest, base):
 
 def summary(stream):
     """The line of `verify`."""
-    kind = {PV: 'pv', HVM: 'hvm'}[stream.kind]
+    kind = {PV: 'pv', HVM: 'hvm'}[stream.guest['kind']]
     return 'ok version %d kind %s frames %d records %d' % (stream.version, kind, len(stream.guest['frames']), stream.records)
+
+
+def empty_guest(kind):
+    guest = {'kind': kind, 'top': 0, 'frames': {}, 'cpuid': {}, 'msrs': {}}
+    return {**guest, 'p2m': [], 'vcpus': {}} if kind == PV else {**guest, 'params': {}}
 
 
 def read(data):
@@ -227,13 +243,13 @@ def read(data):
         guest_kind, shift = struct.unpack_from('<IH', source.take(16))
         refuse_if(guest_kind not in (PV, HVM), '6 BadKind %d' % guest_kind)
         refuse_if(shift != 12, '7 BadPageShift %d' % shift)
-        guest, before = {'frames': {}, 'params': {}, 'cpuid': {}, 'msrs': {}}, []
+        guest, before = empty_guest(guest_kind), []
         while END not in before:
             place = 'Record %d' % len(before)
             kind, length = struct.unpack('<II', source.take(8))
             judge_head(version, guest_kind, before, kind, length)
             read_body(source, kind, length, guest)
             before.append(kind)
-        return Stream(version, guest_kind, guest, len(before)), ''
+        return Stream(version, pv.blank(guest) if guest_kind == PV else guest, len(before)), ''
     except Refused as cause:
         return None, 'refused: %s: %s' % (place, cause)

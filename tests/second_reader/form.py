@@ -1,0 +1,39 @@
+"""What both kinds of guest have in common in the second reader: numbers of the format, input, refusals, records."""
+import struct
+
+MOST_BODY, MOST_RECORDS, MOST_FRAMES, FRAME_LIMIT = 1 << 27, 1 << 28, 1 << 24, 1 << 28
+PAGE = 4096
+PV, HVM = 1, 2
+END, PAGE_DATA, PV_INFO, P2M_FRAMES, BASIC, EXTENDED, XSAVE, SHARED_INFO, TSC_INFO, CONTEXT, PARAMS = range(11)
+VCPU_MSRS, STATIC_DATA_END, CPUID_POLICY, MSR_POLICY = 12, 16, 17, 18
+VCPU = BASIC, EXTENDED, XSAVE, VCPU_MSRS
+NOTAB, BROKEN, XTAB = 0, 13, 15
+
+
+class Refused(Exception):
+    pass
+
+
+class Input:
+    def __init__(self, data):
+        self.data, self.at = data, 0
+
+    def take(self, length):
+        if len(self.data) - self.at < length:
+            raise Refused('1 Truncated')
+        self.at += length
+        return self.data[self.at - length:self.at]
+
+
+def refuse_if(test, cause):
+    if test:
+        raise Refused(cause)
+
+
+def has_page(kind):
+    return kind < BROKEN
+
+
+def record(kind, *pieces):
+    body = b''.join(pieces)
+    return struct.pack('<II', kind, len(body)) + body + bytes(-len(body) % 8)
