@@ -122,7 +122,7 @@ def read_params(body, params):
 
 
 def read_part(kind, body, guest):
-    """The body of a record that sets parts of a guest of either kind."""
+    """The body of a record that may set parts of a guest."""
     if kind == TSC_INFO:
         guest['tsc'] = body[:20]
     elif kind == CONTEXT:
@@ -133,7 +133,7 @@ def read_part(kind, body, guest):
         guest['cpuid'] = {(leaf, subleaf): rest for leaf, subleaf, rest in struct.iter_unpack('<II16s', body)}
     elif kind == MSR_POLICY and body:
         guest['msrs'] = {index: rest for index, rest in struct.iter_unpack('<I12s', body)}
-    else:
+    elif guest['kind'] == PV:
         pv.read_body(kind, body, guest)
 
 
