@@ -1,5 +1,5 @@
 -- What judging accepts is spelled as the format says.
-use Rattle.mig_restore.proofs.Common.{◌≡◌, ℕ, ◌≤◌, ◌<◌, ◌^◌, List, [], ◌∷◌, ◌++◌, length, Bool, true, false, cond, nat_le, not, Option, Some, None, refl, sym, ap, subst, ◌∙◌, append_assoc, ltb-false, leb-false, Ok, arith, length-append, le_refl, not-false, none-some, length-map, padding_len, le32, be32, Reaches, here, next, Judged, ◌>>=◌, part, tried, placed, Passes, Faulty, both_pass, part_passes, tried_passes, same_passes, placed_passes, fault_of_marker, fault_of_image, fault_of_domain, kind_of_number, unless_faulty, IsImageHeader, IsDomainHeader, type_of_number, Cause, TooManyRecords, Truncated, Place, Record, ImageHeader, DomainHeader, Kind, Pv, Hvm, GuestOf, long_rows, length_rows, type_allows, fault_of_long, fault_of_length, IsInOrder, fault_of_type, fault_of_guest, hvm_complete, hvm_faultless, pv_complete, pv_faultless, StreamRecord, is_ended, Opening, Before, opening_of, before, fault_of_number, fault_of_head, fault_at_end, body_at, IsComplete, Follows, Spells, IsImage, Front, at_start, front_with, ImageOf, image_of, records_at, marker_at, version_at, kind_at, rows_fine, both_none}
+use Rattle.mig_restore.proofs.Common.{◌≡◌, ℕ, ◌≤◌, ◌<◌, ◌^◌, List, [], ◌∷◌, ◌++◌, length, Bool, true, false, cond, nat_le, Option, Some, None, refl, sym, ap, subst, ◌∙◌, append_assoc, ltb-false, leb-false, Ok, arith, length-append, le_refl, not-false, none-some, length-map, padding_len, le32, be32, Reaches, here, next, Judged, ◌>>=◌, part, tried, placed, Passes, Faulty, both_pass, part_passes, tried_passes, same_passes, placed_passes, fault_of_marker, fault_of_image, fault_of_domain, kind_of_number, unless_faulty, IsImageHeader, IsDomainHeader, type_of_number, Cause, TooManyRecords, Truncated, Place, Record, ImageHeader, DomainHeader, Kind, Pv, Hvm, GuestOf, long_rows, length_rows, type_allows, fault_of_long, fault_of_length, IsInOrder, fault_of_type, fault_of_guest, hvm_complete, hvm_faultless, pv_complete, pv_faultless, StreamRecord, is_ended, Opening, Before, opening_of, before, fault_of_number, fault_of_head, fault_at_end, body_at, IsComplete, Follows, Spells, IsImage, Front, at_start, front_with, ImageOf, image_of, records_at, marker_at, version_at, kind_at, rows_fine, both_none}
 use Rattle.mig_bytes.proofs.Walks.{walk_end_is, walk_end_ends, walk_end_reached}
 use Rattle.mig_headers.proofs.HeaderLaws.{image_is_spelled, domain_is_spelled}
 use Rattle.mig_order.proofs.OrderLaw.{faultless_is_in_order}

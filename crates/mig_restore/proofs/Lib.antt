@@ -5,6 +5,7 @@ pub mod Bodies
 pub mod Converse
 pub mod Growth
 pub mod Laws
+pub mod Listings
 pub mod Meaning
 pub mod Parts
 pub mod AcceptedWhole

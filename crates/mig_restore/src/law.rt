@@ -9,11 +9,12 @@ ghost use Rattle.mig_guest.specs.Formed.{HasNoEmulators};
 ghost use Rattle.mig_guest.specs.PartKeys.{p2m_key};
 ghost use Rattle.mig_pvtables.specs.Blank.{blank};
 ghost use Rattle.mig_guest.specs.Guests.{GuestOf};
+ghost use Rattle.mig_pvtables.specs.P2mFrames.{listed};
 ghost use Rattle.mig_pvtables.specs.Whole.{IsWhole};
 ghost use Rattle.mig_guest.specs.declared.part_key.PartKey.{PartKey};
 ghost use Rattle.mig_restore.specs.Judging.{Opening};
 ghost use Rattle.mig_restore.specs.Record.{StreamRecord};
-ghost use Rattle.mig_restore.specs.Mean.{sent, last_entry, frame_in, entries_of, last_said, ends_of};
+ghost use Rattle.mig_restore.specs.Mean.{sent, last_entry, frame_in, entries_of, last_said, last_listed, ends_of};
 ghost use Rattle.mig_restore.specs.Spelled.{IsImage, Accepted};
 ghost use Rattle.mig_bytes.specs.Judged.Judged.{Passes};
 ghost use Rattle.mig_restore.specs.Stream.{image_at, image_of, IsRefused};
@@ -69,6 +70,12 @@ pub fn last_entry_decides()
 pub fn last_content_decides()
     ensures { (kind : Kind) (records : List StreamRecord) (key : PartKey) → key ≢ p2m_key →
         maps.get (sent kind records).parts key ≡ unwrap_or (last_said key records) None }
+{}
+
+/// Of each index of the list of P2M frames the last record that lists it decides what was sent.
+pub fn last_listing_decides()
+    ensures { (input : List ℕ) (o : Opening) (records : List StreamRecord) (rest : List ℕ) (k : ℕ) → IsImage input o records rest →
+        listed (sent o.kind records).parts k ≡ last_listed k records }
 {}
 
 /// The greatest frame number that was sent is 0, or one that ends a list of P2M frames; and no list ends above it.

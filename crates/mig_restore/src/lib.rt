@@ -19,6 +19,7 @@ mod read;
 pub use answer::StreamAnswer;
 pub use law::{
     accepted_is_image, accepted_is_whole, accepted_or_refused, greatest_end_decides,
-    image_is_accepted, last_content_decides, last_entry_decides, never_both, one_front,
+    image_is_accepted, last_content_decides, last_entry_decides, last_listing_decides, never_both,
+    one_front,
 };
 pub use read::{Reading, read_image};

@@ -12,8 +12,8 @@ entry_here : {X : Type 0} (R : X → FrameEntry → Type 0) (a b : Option (List 
     → Gives R a b (entry_at now high (place, get_or list place 0)) r → Gives R a b (entry_at kind top (get_or (with_places 0 list) place (0, 0))) r
 entry_here R a b r kind now top high place list k t lt read =
     let same : entry_at now high (place, get_or list place 0) ≡ entry_at kind top (get_or (with_places 0 list) place (0, 0)) =
-        ap (λ x. entry_at x high (place, get_or list place 0)) k ∙ ap (λ n. entry_at kind n (place, get_or list place 0)) t
-        ∙ ap (λ n. entry_at kind top (n, get_or list place 0)) (let e : place ≡ 0 + place = omega arith in e) ∙ ap (entry_at kind top) (sym (place_at 0 list place lt)) in
+    ap (λ x. entry_at x high (place, get_or list place 0)) k ∙ ap (λ n. entry_at kind n (place, get_or list place 0)) t
+    ∙ ap (λ n. entry_at kind top (n, get_or list place 0)) (let e : place ≡ 0 + place = omega arith in e) ∙ ap (entry_at kind top) (sym (place_at 0 list place lt)) in
     subst (λ (f : List ℕ → Judged Cause FrameEntry). Gives R a b f r) same read
 
 -- a place of the list is one of the words with their places

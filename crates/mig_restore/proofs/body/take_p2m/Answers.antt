@@ -1,4 +1,4 @@
-use Rattle.mig_restore.proofs.Common.{◌≡◌, ◌∙◌, ◌≤◌, List, ℕ, None, length, drop, refl, ap, sym, subst, rules, Content, put_content, lists_of, le32, fault_of_p2m, p2m_is_spelled, set_p2m}
+use Rattle.mig_restore.proofs.Common.{◌≡◌, ◌∙◌, ◌≤◌, None, length, drop, ap, sym, rules, put_content, lists_of, le32, fault_of_p2m, p2m_is_spelled}
 use Rattle.mig_restore.proofs.Growth.{grows_list}
 use Rattle.mig_restore.proofs.Parts.{tried_said}
 use Rattle.mig_restore.proofs.body.take_p2m.Goals as goal

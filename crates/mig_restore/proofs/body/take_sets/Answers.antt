@@ -1,4 +1,4 @@
-use Rattle.mig_restore.proofs.Common.{◌≡◌, ◌∙◌, ℕ, List, Option, Some, None, Ok, length, refl, ap, sym, subst, rules, ◌>>=◌, part, tried, Gives, Passes, Cause, Truncated, fault_of_body, parts_of_body, HasBodyLength, put_content, Content, Sets}
+use Rattle.mig_restore.proofs.Common.{◌≡◌, ◌∙◌, None, length, ap, sym, subst, rules, fault_of_body, parts_of_body, HasBodyLength, put_content, Sets}
 use Rattle.mig_restore.proofs.Growth.{grows_sets}
 use Rattle.mig_restore.proofs.Parts.{tried_said}
 use Rattle.mig_restore.proofs.body.take_sets.Goals as goal
