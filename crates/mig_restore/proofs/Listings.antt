@@ -28,6 +28,7 @@ use Rattle.mig_restore.proofs.Meaning.{one_more_record, said}
 
 -- ---- a list joined with the one before
 
+-- bytes of n frames and no fewer list those below n
 there : (bytes : List ℕ) (n k : ℕ) → 8 * n ≤ length bytes → k < n → listed_in (Some bytes) k ≡ Some (long_at bytes k)
 there bytes n k long lt = ap (λ b. cond b (Some (long_at bytes k)) None) (lt-ltb k _ (omega (arith, long, lt)))
 
@@ -38,6 +39,7 @@ or_none : {X : Type 0} (o : Option X) → o ≡ option_or o None
 or_none None = refl
 or_none (Some x) = refl
 
+-- these n frames in place of the first ones before
 module _ (frames before : List ℕ) (n k : ℕ) (size : length frames ≡ 8 * n) where
   abbrev joined : List ℕ
   joined = frames ++ drop (length frames) before
@@ -80,6 +82,7 @@ no_list : (code : PartCode) → has_shape (shape_of code) ≡ true → nat_eq 3 
 no_list P2mFrames shaped = cc
 no_list _ shaped = refl
 
+-- the keys of these parts have the code's number
 abbrev AreOfCode : PartCode → List Part → Type 0
 AreOfCode code ps = AllByRecursion (λ p. p.0.code ≡ code_number code) ps
 
@@ -122,6 +125,7 @@ not_said code body ps says = by (is_policy (code_number code))
 
 -- ---- records
 
+-- a content that is spelled lists its frames over those before, or none
 content_listed : (g : GuestOf) (k : ℕ) (kind : Kind) (top type : ℕ) (body : List ℕ) (c : Content) → HasContent kind top type body c → listed (put_content g c).parts k ≡ option_or (lists_at k c) (listed g.parts k)
 content_listed g k kind top type body c (optional n b many) = refl
 content_listed g k kind top type body c ends = refl
@@ -134,6 +138,7 @@ content_listed g k kind top type body c (p2m_frames last frames b says) =
 content_listed g k kind top type body c (sets this code b ps is allowed says) =
     ap (λ o. listed_in o k) (said g (Sets code ps) p2m_key (λ last frames e. cc) ∙ ap (λ o. unwrap_or o (fin.get g.parts p2m_key)) (not_said code b ps says))
 
+-- the last record is asked first
 last_more : (k : ℕ) (records : List StreamRecord) (r : StreamRecord) → last_listed k (records ++ r ∷ []) ≡ option_or (lists_at k r.content) (last_listed k records)
 last_more k [] r = or_none (lists_at k r.content)
 last_more k (x ∷ xs) r = ap (λ o. option_or o (lists_at k x.content)) (last_more k xs r) ∙ assoc (lists_at k r.content) (last_listed k xs) (lists_at k x.content)
