@@ -1,5 +1,5 @@
 -- How the records of a PV guest alone are spelled.
-use Rattle.mig_canon.proofs.Common.{◌≡◌, ℕ, ◌+◌, ◌<◌, ◌≤◌, ◌^◌, List, [], ◌∷◌, ◌++◌, length, take, drop, replicate, Bool, true, false, cond, Option, Some, None, Result, refl, sym, ap, subst, ◌∙◌, arith, append_assoc, append-nil, take-append-drop, flat_map-append, flat_map, All, Appends, AppendsPart, Puts, puts_then, puts_stop, puts_same, padding_len, head_of, Part, parts_of, code_number, shape_of, parts_at, part_body, Record, text_of, key_of, part_record, vcpu_record, vcpu_records, vcpus_below, p2m_body, piece, IsShortPart}
+use Rattle.mig_canon.proofs.Common.{◌≡◌, ℕ, ◌+◌, ◌<◌, ◌≤◌, ◌^◌, List, [], ◌∷◌, ◌++◌, length, take, drop, replicate, Bool, true, false, cond, Option, Some, None, Result, refl, sym, ap, subst, ◌∙◌, arith, append_assoc, append-nil, take-append-drop, flat_map-append, flat_map, All, Appends, AppendsPart, Puts, puts_then, puts_stop, puts_same, padding_len, head_of, Part, parts_of, code_number, shape_of, parts_at, part_body, Record, text_of, key_of, part_record, vcpu_record, records_of_vcpu, vcpus_below, p2m_body, piece, IsShortPart}
 use Rattle.std.specs.Prelude.{◌==◌}
 use Rattle.std.specs.List.{range_with_len}
 use Rattle.std.specs.Result.{IsErrAnd}
@@ -45,7 +45,7 @@ part_text code key bytes is =
     text_one (code_number code) (part_body (shape_of code) (key, bytes))
     ∙ subst (λ s. spelled (code_number code) (part_body s (key, bytes)) ≡ piece s (code_number code) (key, bytes)) (sym is) refl
 
-pub vcpu_text : (g : GuestOf) (id : ℕ) → text_of (vcpu_records g id)
+pub vcpu_text : (g : GuestOf) (id : ℕ) → text_of (records_of_vcpu g id)
     ≡ text_of (vcpu_record g id VcpuBasic) ++ (text_of (vcpu_record g id VcpuExtended) ++ (text_of (vcpu_record g id VcpuXsave) ++ text_of (vcpu_record g id VcpuMsrs)))
 vcpu_text g id =
     texts_of (vcpu_record g id) vcpu_codes
@@ -60,28 +60,28 @@ range_more : (i : ℕ) → range_with_len 0 (i + 1) ≡ range_with_len 0 i ++ i 
 range_more i = sym (map-id (range_with_len 0 (i + 1))) ∙ map-range_with_len_more (λ k. k) 0 i i (omega arith) ∙ ap (λ l. l ++ i ∷ []) (map-id (range_with_len 0 i))
 
 module _ (g : GuestOf) (i : ℕ) where
-  below_more : vcpus_below g (i + 1) ≡ vcpus_below g i ++ vcpu_records g i
-  below_more = ap (flat_map (vcpu_records g)) (range_more i) ∙ flat_map-append (vcpu_records g) (range_with_len 0 i) (i ∷ []) ∙ ap (λ l. vcpus_below g i ++ l) (append-nil (vcpu_records g i))
+  below_more : vcpus_below g (i + 1) ≡ vcpus_below g i ++ records_of_vcpu g i
+  below_more = ap (flat_map (records_of_vcpu g)) (range_more i) ∙ flat_map-append (records_of_vcpu g) (range_with_len 0 i) (i ∷ []) ∙ ap (λ l. vcpus_below g i ++ l) (append-nil (records_of_vcpu g i))
 
-  text_next : text_of (vcpus_below g (i + 1)) ≡ text_of (vcpus_below g i) ++ text_of (vcpu_records g i)
-  text_next = ap text_of below_more ∙ text_join (vcpus_below g i) (vcpu_records g i)
+  text_next : text_of (vcpus_below g (i + 1)) ≡ text_of (vcpus_below g i) ++ text_of (records_of_vcpu g i)
+  text_next = ap text_of below_more ∙ text_join (vcpus_below g i) (records_of_vcpu g i)
 
   abbrev behind : ℕ → List Record
-  behind n = flat_map (vcpu_records g) (drop (i + 1) (range_with_len 0 n))
+  behind n = flat_map (records_of_vcpu g) (drop (i + 1) (range_with_len 0 n))
 
-  text_all : (n : ℕ) → i < n → text_of (vcpus_below g n) ≡ text_of (vcpus_below g i) ++ (text_of (vcpu_records g i) ++ text_of (behind n))
+  text_all : (n : ℕ) → i < n → text_of (vcpus_below g n) ≡ text_of (vcpus_below g i) ++ (text_of (records_of_vcpu g i) ++ text_of (behind n))
   text_all n less =
-      ap (λ l. text_of (flat_map (vcpu_records g) l)) (sym (take-append-drop (i + 1) (range_with_len 0 n)) ∙ ap (λ l. l ++ drop (i + 1) (range_with_len 0 n)) (range_front (i + 1) n (omega (arith, less))))
-      ∙ ap text_of (flat_map-append (vcpu_records g) (range_with_len 0 (i + 1)) (drop (i + 1) (range_with_len 0 n))) ∙ text_join (vcpus_below g (i + 1)) (behind n)
-      ∙ ap (λ l. l ++ text_of (behind n)) text_next ∙ append_assoc (text_of (vcpus_below g i)) (text_of (vcpu_records g i)) (text_of (behind n))
+      ap (λ l. text_of (flat_map (records_of_vcpu g) l)) (sym (take-append-drop (i + 1) (range_with_len 0 n)) ∙ ap (λ l. l ++ drop (i + 1) (range_with_len 0 n)) (range_front (i + 1) n (omega (arith, less))))
+      ∙ ap text_of (flat_map-append (records_of_vcpu g) (range_with_len 0 (i + 1)) (drop (i + 1) (range_with_len 0 n))) ∙ text_join (vcpus_below g (i + 1)) (behind n)
+      ∙ ap (λ l. l ++ text_of (behind n)) text_next ∙ append_assoc (text_of (vcpus_below g i)) (text_of (records_of_vcpu g i)) (text_of (behind n))
 
   -- one vCPU more
-  pub vcpu_next : (a b c : Option (List ℕ)) → Appends a b (text_of (vcpus_below g i)) → Appends b c (text_of (vcpu_records g i)) → Appends a c (text_of (vcpus_below g (i + 1)))
-  vcpu_next a b c before more = subst (Appends a c) (sym text_next) (Appends-trans a b c (text_of (vcpus_below g i)) (text_of (vcpu_records g i)) before more)
+  pub vcpu_next : (a b c : Option (List ℕ)) → Appends a b (text_of (vcpus_below g i)) → Appends b c (text_of (records_of_vcpu g i)) → Appends a c (text_of (vcpus_below g (i + 1)))
+  vcpu_next a b c before more = subst (Appends a c) (sym text_next) (Appends-trans a b c (text_of (vcpus_below g i)) (text_of (records_of_vcpu g i)) before more)
 
   -- a write that failed
   pub vcpu_stop : {X : Type 0} (n : ℕ) (a b c : Option (List ℕ)) (d : WriteFailed) (r : Result X WriteFailed) → n ≡ 4096 → i < n → Appends a b (text_of (vcpus_below g i)) → IsErrAnd r (λ y. y ≡ d)
-      → AppendsPart b c (text_of (vcpu_records g i)) → Puts (text_of (all_vcpus g)) a c r
+      → AppendsPart b c (text_of (records_of_vcpu g i)) → Puts (text_of (all_vcpus g)) a c r
   unfolding all_vcpus
   vcpu_stop n a b c d r all less before failed part =
       puts_same _ _ a c r (ap (λ m. text_of (vcpus_below g m)) (sym all) ∙ text_all n less) (puts_then _ _ a b c r before (puts_stop _ _ b c d d r failed part))

@@ -1,10 +1,10 @@
 -- How records, tables and the whole stream are spelled, piece by piece.
-use Rattle.mig_canon.proofs.Common.{◌≡◌, ℕ, suc, ◌+◌, ◌-◌, ◌<◌, ◌≤◌, List, [], ◌∷◌, ◌++◌, length, take, drop, replicate, map, Bool, true, false, refl, sym, ap, subst, ◌∙◌, arith, length-append, append-nil, append_assoc, flat_map-append, length-replicate, replicate-append-replicate, take-append-le, take-append-add, flat_map, padding_len, Part, code_number, shape_of, parts_at, part_body, bodies_by_shape, head_of, Record, records_of, records_in_order, frames_in, batches, frame_bodies, static_bodies, info_records, p2m_records, pv_last_codes, all_vcpus, last_records, bodies_of, text_of, headers, piece}
+use Rattle.mig_canon.proofs.Common.{◌≡◌, ℕ, suc, ◌+◌, ◌-◌, ◌<◌, ◌≤◌, List, [], ◌∷◌, ◌++◌, length, take, drop, replicate, map, Bool, true, false, refl, sym, ap, subst, ◌∙◌, arith, length-append, append-nil, append_assoc, flat_map-append, length-replicate, replicate-append-replicate, take-append-le, take-append-add, flat_map, padding_len, Part, code_number, shape_of, parts_at, part_body, bodies_by_shape, head_of, Record, records_of, records_in_order, frames_in, batches, frame_bodies, static_bodies, info_records, p2m_records, pv_last_codes, all_vcpus, last_records, text_of, headers, piece}
 use Rattle.byteorder.specs.Endian.{little_bytes}
 use Rattle.byteorder.specs.Numbers.{length-bytes_low_first}
 use Rattle.byteorder.proofs.Bytes.{take-bytes_low_first}
 use Rattle.mig_bytes.specs.Fields.{with_field}
-use Rattle.mig_headers.specs.declared.kind.Kind.TheVariants.{Pv, Hvm}
+use Rattle.mig_headers.specs.declared.kind.Kind.TheVariants.{Pv}
 use Rattle.mig_guest.specs.Guests.{GuestOf}
 use Rattle.mig_guest.specs.declared.part_code.PartCode.{PartCode}
 use Rattle.mig_bodies.specs.declared.layout.Layout.{Layout}
@@ -142,8 +142,3 @@ canon_is g =
     ap (λ l. headers kind ++ l) (text_join (info_records kind) (static_bodies g ++ behind_static) ∙ ap (λ l. text_of (info_records kind) ++ l) (text_join (static_bodies g) behind_static
     ∙ ap (λ l. text_of (static_bodies g) ++ l) (text_join (p2m_records kind g) behind_p2m ∙ ap (λ l. text_of (p2m_records kind g) ++ l) (text_join pages last
     ∙ ap (λ l. text_of pages ++ l) (text_join (last_records kind g) ((0, []) ∷ []) ∙ ap (λ l. text_of (last_records kind g) ++ l) (text_one 0 []))))))
-
--- of an HVM guest
-pub hvm_canon : (g : GuestOf) → g.kind ≡ Hvm → canon g ≡ headers Hvm ++ text_of (bodies_of Hvm g)
-unfolding canon
-hvm_canon g hvm = ap (λ kind. headers kind ++ text_of (bodies_of kind g)) hvm

@@ -118,12 +118,12 @@ vcpu_record g id code = part_record code (key_of code id) (maps.get g.parts (key
 abbrev pub vcpu_codes : List PartCode
 vcpu_codes = VcpuBasic ∷ VcpuExtended ∷ VcpuXsave ∷ VcpuMsrs ∷ []
 
-abbrev pub vcpu_records : GuestOf → ℕ → List Record
-vcpu_records g id = flat_map (vcpu_record g id) vcpu_codes
+abbrev pub records_of_vcpu : GuestOf → ℕ → List Record
+records_of_vcpu g id = flat_map (vcpu_record g id) vcpu_codes
 
 -- of the first n vCPUs
 abbrev pub vcpus_below : GuestOf → ℕ → List Record
-vcpus_below g n = flat_map (vcpu_records g) (range_with_len 0 n)
+vcpus_below g n = flat_map (records_of_vcpu g) (range_with_len 0 n)
 
 -- the ids of vCPUs are below 4096
 unfoldable pub all_vcpus : GuestOf → List Record

@@ -4,7 +4,7 @@ ghost use Rattle.mig_bytes.specs.Faults.{HasCause};
 ghost use Rattle.mig_bodies.specs.Shapes.{shape_of, of_vcpu};
 ghost use Rattle.mig_pvtables.specs.Whole.{IsWhole};
 ghost use Rattle.mig_records.specs.Records.{spelled};
-ghost use Rattle.mig_canon.specs.Canon.{info_records, p2m_body, p2m_records, vcpu_record, vcpu_records, all_vcpus, text_of};
+ghost use Rattle.mig_canon.specs.Canon.{info_records, p2m_body, p2m_records, vcpu_record, records_of_vcpu, all_vcpus, text_of};
 
 use crate::parts::{write_numbers, write_piece};
 use mig_bodies::shape_of;
@@ -96,7 +96,7 @@ fn write_vcpu_part<K: Sink>(
 #[tactic(auto, using(mig_bytes::proofs::Texts::puts_then, mig_bytes::proofs::Texts::puts_stop, mig_bytes::proofs::Texts::puts_same, crate::proofs::PvRecords::vcpu_text))]
 fn write_vcpu<K: Sink>(sink: &mut K, guest: &Guest, id: u32) -> Result<(), WriteFailed>
     requires { IsWhole guest.now }
-    ensures bytes { Puts (text_of (vcpu_records guest.now id)) (K.written sink.old) (K.written sink.new) result }
+    ensures bytes { Puts (text_of (records_of_vcpu guest.now id)) (K.written sink.old) (K.written sink.new) result }
     ensures cause { HasCause (K.faults sink.old) (K.faults sink.new) result }
 {
     write_vcpu_part(sink, guest, id, PartCode::VcpuBasic)?;

@@ -5,7 +5,7 @@ use Rattle.std.proofs.lemmas.List.{take_all, drop_all, take_at, take-append-le, 
 use Rattle.byteorder.specs.Endian.{little_bytes, little_number}
 use Rattle.byteorder.specs.Numbers.{little_from-append, little_number-reads_back, length-bytes_low_first}
 use Rattle.mig_bytes.specs.Fields.{le64, with_field}
-use Rattle.mig_bytes.proofs.ByteLists.{Bytes, bytes_drop, long_back, long_below}
+use Rattle.mig_bytes.proofs.ByteLists.{Bytes, bytes_drop, long_back}
 use Rattle.mig_guest.specs.Longs.{long_at, longs, each_long}
 
 front : (xs ys : List ℕ) (i : ℕ) → 8 * i + 8 ≤ length xs → long_at (xs ++ ys) i ≡ long_at xs i
@@ -62,11 +62,6 @@ longs_back n bytes all size = front_back n bytes all (omega (arith, size)) ∙ t
 -- no number changed
 pub each_stays : (n : ℕ) (f : ℕ → ℕ → ℕ) (bytes : List ℕ) → Bytes bytes → length bytes ≡ 8 * n → ((i : ℕ) → i < n → f i (long_at bytes i) ≡ long_at bytes i) → each_long n f bytes ≡ bytes
 each_stays n f bytes all size stays = same_longs n _ _ stays ∙ longs_back n bytes all size
-
--- changed twice alike is changed once
-pub each_again : (n : ℕ) (f : ℕ → ℕ → ℕ) (bytes : List ℕ) → Bytes bytes → ((i e : ℕ) → e < 2 ^ 64 → f i e < 2 ^ 64) → ((i e : ℕ) → f i (f i e) ≡ f i e) → each_long n f (each_long n f bytes) ≡ each_long n f bytes
-each_again n f bytes all small again =
-    same_longs n _ _ (λ i lt. ap (f i) (long_of_longs n (λ i. f i (long_at bytes i)) i lt (small i (long_at bytes i) (long_below (8 * i) bytes all))) ∙ again i (long_at bytes i))
 
 -- ---- some of the numbers are 0
 

@@ -20,11 +20,6 @@ unless false false x y = refl
 pub hvm_fault : (g : GuestOf) → g.kind ≡ Hvm → fault_of_guest g ≡ first_fault ((is_none (maps.get g.parts context_key), Missing 9) ∷ (nat_lt most_frames (length (maps.entries g.frames)), TooManyFrames) ∷ [])
 hvm_fault g is = by_kind g is ∙ unless (is_none (maps.get g.parts context_key)) (nat_lt most_frames (length (maps.entries g.frames))) (Missing 9) TooManyFrames
 
--- the fault, where it is known whether there is a context, and whether there are too many frames
-pub hvm_fault_is : (g : GuestOf) (absent many : Bool) → g.kind ≡ Hvm → is_none (maps.get g.parts context_key) ≡ absent → nat_lt most_frames (length (maps.entries g.frames)) ≡ many
-    → fault_of_guest g ≡ first_fault ((absent, Missing 9) ∷ (many, TooManyFrames) ∷ [])
-hvm_fault_is g absent many is p q = hvm_fault g is ∙ (λ i. first_fault ((p i, Missing 9) ∷ (q i, TooManyFrames) ∷ []))
-
 -- ---- complete
 
 pub hvm_complete : (g : GuestOf) → g.kind ≡ Hvm → fault_of_guest g ≡ None → IsSome (maps.get g.parts context_key) × IsFew g.frames

@@ -1,10 +1,8 @@
 ghost use Rattle.std.specs.Prelude.{◌≡◌, ◌<◌, ◌^◌, IfSome, IfOk, ◌||◌, not, if◌then◌else◌};
-ghost use Rattle.std.specs.FinMap as maps;
 ghost use Rattle.mig_guest.specs.PartCodes.{code_number};
 ghost use Rattle.mig_guest.specs.Formed.{IsFormed};
-ghost use Rattle.mig_guest.specs.PartKeys.{p2m_key};
 ghost use Rattle.mig_pvtables.specs.Faults.{is_needed as has_frames, is_notab, find_p2m};
-ghost use Rattle.mig_pvtables.specs.P2mFrames.{listed, count_in};
+ghost use Rattle.mig_pvtables.specs.P2mFrames.{listed};
 ghost use Rattle.mig_pvtables.specs.P2mMarks.{clashes};
 
 use mig_bytes::{Memory, u64_le};
@@ -42,16 +40,6 @@ pub(crate) fn listed_pfn(guest: &Guest, index: usize) -> Option<u64>
     }
 }
 
-/// How many P2M frames are listed.
-fn listed_count(guest: &Guest) -> usize
-    ensures { result ≡ count_in (maps.get guest.now.parts p2m_key) }
-{
-    match guest.part(sole_key(PartCode::P2mFrames)) {
-        Some(list) => list.len() / 8,
-        None => 0,
-    }
-}
-
 /// Whether a PFN of P2M frame `index` has a frame.
 #[tactic(auto, using(crate::proofs::P2mWalks::none_needed, crate::proofs::P2mWalks::some_needed, crate::proofs::P2mWalks::later_needed))]
 fn is_needed(guest: &Guest, index: usize) -> bool
@@ -86,19 +74,20 @@ fn mark_for(needed: bool) -> u64
     if needed { NEEDED } else { EMPTY }
 }
 
-/// The first place at which the list of the P2M frames is wrong.
+/// The first place at which the list of the P2M frames is wrong. A mark is kept of each PFN that is a frame of its own, so
+/// that memory is taken for frames that were sent, and not for what the list names.
 pub(crate) fn misplaced_frame(alloc: Global, guest: &Guest) -> Result<Option<usize>, Memory>
     requires { IsFormed guest.now }
     ensures { IfOk result (λ place. place ≡ find_p2m guest.now.frames guest.now.parts) }
 {
     let mut marks = Index::new(alloc);
-    marks.reserve(listed_count(guest))?;
     let mut index = 0;
     while let Some(pfn) = listed_pfn(guest, index) {
         let needed = is_needed(guest, index);
         if is_misplaced(guest.frame(pfn), marks.get(pfn), needed) {
             return Ok(Some(index));
         }
+        marks.reserve(1)?;
         marks.put_spare(pfn, mark_for(needed));
         index += 1;
     }

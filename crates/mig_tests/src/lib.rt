@@ -5,12 +5,14 @@
 #![tactic(auto)]
 
 #[cfg(test)]
+mod bodies;
+#[cfg(test)]
 mod bytes;
 #[cfg(test)]
 mod guest;
 #[cfg(test)]
 mod image;
 #[cfg(test)]
-mod tables;
+mod renaming;
 #[cfg(test)]
-mod whole;
+mod tables;

@@ -1,9 +1,7 @@
 use mig_bytes::MemSink;
 use mig_headers::{Cause, Kind, RecordType, is_optional, put_cause};
-use mig_order::Gate;
 use mig_pagetypes::PageType;
 use mig_policy::canonical_pairs;
-use mig_records::words_fault;
 use std::test::Fail;
 
 // Number, whether the type is supported, whether it stands in PV and in HVM guests, a length that it may have, and one
@@ -50,19 +48,8 @@ fn knows_record_types(rt: HostRuntime) -> Result<(), Fail> {
     Ok(())
 }
 
-// Those that no stream has so far, or only one of gigabytes.
-const CAUSES: [(Cause, &str); 13] = [
-    (Cause::Superpage(2, 511), "17 Superpage 2 511"),
-    (Cause::EntryOutside(1, 2, 99), "18 EntryOutside 1 2 99"),
-    (Cause::Pv32, "19 Pv32"),
-    (Cause::BadPvInfo, "20 BadPvInfo"),
-    (Cause::P2mStart(1), "21 P2mStart 1"),
-    (Cause::P2mRange(268_435_456), "22 P2mRange 268435456"),
-    (Cause::VcpuId(4096), "23 VcpuId 4096"),
-    (Cause::GdtEnts(8193), "24 GdtEnts 8193"),
-    (Cause::P2mFrame(0), "28 P2mFrame 0"),
-    (Cause::TargetAbsent(4, 1), "29 TargetAbsent 4 1"),
-    (Cause::VcpuFrame(0, 17), "30 VcpuFrame 0 17"),
+// Those that only a stream of gigabytes has.
+const CAUSES: [(Cause, &str); 2] = [
     (Cause::TooManyRecords, "31 TooManyRecords"),
     (Cause::TooManyFrames, "32 TooManyFrames"),
 ];
@@ -107,54 +94,6 @@ fn knows_page_types(rt: HostRuntime) {
             assert_eq!(rt; known.has_data(), data, "data of {number}");
             assert_eq!(rt; known.table_level(), level, "level of {number}");
         }
-    }
-}
-
-// Of a PV guest whose last frame is 8: NOTAB 7, XTAB 5, a pinned L4TAB 9 with ignored bits set.
-#[test]
-fn frames_of_a_pv_guest(rt: HostRuntime) {
-    let words = [7, 0xf000_0000_0000_0005, 0xcff0_0000_0000_0009];
-    for (top, want) in [
-        (9, None),
-        (8, Some(Cause::PfnOutside(2, 9))),
-        (6, Some(Cause::PfnOutside(0, 7))),
-    ] {
-        assert_eq!(rt; words_fault(Kind::Pv, top, &words), want);
-    }
-}
-
-// Version, and types of records of a PV guest, which no stream has so far; what the last of them comes to, each before
-// it passes.
-const ORDERS: [(u32, &[u32], Result<(), Cause>); 13] = [
-    (
-        3,
-        &[2, 0x11, 0x12, 0x10, 3, 1, 1, 3, 8, 7, 4, 5, 6, 0xC, 4, 0],
-        Ok(()),
-    ),
-    (2, &[2, 3, 1, 1, 8, 7, 4, 5, 6, 0xC, 0], Ok(())),
-    (2, &[2, 0x10, 3, 1, 0], Ok(())),
-    (2, &[2, 3, 1, 9], Err(Cause::WrongKind(9))),
-    (3, &[0x10, 2], Err(Cause::OutOfOrder(2))),
-    (3, &[2, 3], Err(Cause::OutOfOrder(3))),
-    (2, &[2, 2], Err(Cause::OutOfOrder(4))),
-    (2, &[8, 3], Err(Cause::OutOfOrder(5))),
-    (3, &[0x10, 4, 3], Err(Cause::OutOfOrder(5))),
-    (2, &[2, 1], Err(Cause::OutOfOrder(6))),
-    (2, &[4, 1], Err(Cause::OutOfOrder(6))),
-    (3, &[2, 0x10, 3, 1, 0xC, 1], Err(Cause::OutOfOrder(7))),
-    (2, &[2, 3, 5, 1], Err(Cause::OutOfOrder(7))),
-];
-
-#[test]
-fn orders_of_a_pv_guest(rt: HostRuntime) {
-    for (version, types, want) in ORDERS {
-        let mut gate = Gate::new(version, Kind::Pv);
-        let mut come = Ok(());
-        for number in types {
-            assert_eq!(rt; come, Ok(()), "before {number}");
-            come = gate.step(*number);
-        }
-        assert_eq!(rt; come, want);
     }
 }
 

@@ -1,5 +1,5 @@
 -- Records of a canonical stream one after another, each in its place.
-use Rattle.mig_tool.proofs.Common.{◌≡◌, ℕ, zero, suc, ◌+◌, ◌*◌, ◌≤◌, ◌<◌, ◌^◌, List, [], ◌∷◌, ◌++◌, length, take, map, replicate, Bool, true, false, nat_eq, Option, Some, None, refl, sym, ap, subst, ◌∙◌, arith, append_assoc, append-nil, length-append, ◌||◌, ◌&&◌, fold, is_some, All, AllByRecursion, list_any, flat_map, little_bytes, Kind, FrameMap, GuestOf, PartCode, code_number, PartKey, Part, PartMap, IsFormed, shape_of, set_parts, parts_at, canonical_bodies, contents_by_shape, IsRecordBody, part_body, SayAll, Frame, Record, batch, batches, frame_bodies, records_of, records_in_order, key_of, part_record, vcpu_codes, vcpu_record, vcpu_records, vcpus_below, text_of, StreamRecord, Content, types_of, is_ended, Sets, put_content, put_entry, put_entries, IsComplete, HasContent, Follows, Spells, one_more_record}
+use Rattle.mig_tool.proofs.Common.{◌≡◌, ℕ, zero, suc, ◌+◌, ◌*◌, ◌≤◌, ◌<◌, ◌^◌, List, [], ◌∷◌, ◌++◌, length, take, map, replicate, Bool, true, false, nat_eq, Option, Some, None, refl, sym, ap, subst, ◌∙◌, arith, append_assoc, append-nil, length-append, ◌||◌, ◌&&◌, fold, is_some, All, AllByRecursion, list_any, flat_map, little_bytes, Kind, FrameMap, GuestOf, PartCode, code_number, PartKey, Part, PartMap, IsFormed, shape_of, set_parts, parts_at, canonical_bodies, contents_by_shape, IsRecordBody, part_body, SayAll, Frame, Record, batch, batches, frame_bodies, records_of, records_in_order, key_of, part_record, vcpu_codes, vcpu_record, records_of_vcpu, vcpus_below, text_of, StreamRecord, Content, types_of, is_ended, Sets, put_content, put_entry, put_entries, IsComplete, HasContent, Follows, Spells, one_more_record}
 use Rattle.std.proofs.lemmas.Grind.{flat_map-append}
 use Rattle.std.proofs.lemmas.List.{length-replicate, map-append}
 use Rattle.std.proofs.lemmas.List.Folds.{list_any-append}
@@ -231,7 +231,7 @@ module _ (g : GuestOf) {kind : Kind} {stage : Stage} where
       let now = vcpus_state ws says before h most s n (omega (arith, room)) in
       let h1 : GuestOf = record h { parts = vcpu_parts g n h.parts } in
       let next = vcpu_more n vcpu_codes ws says (before ++ vcpus_below g n) h1 (most + 4 * n) (omega (arith, room)) now in
-      looser (subst (λ l. State kind l (record h { parts = vcpu_parts g (suc n) h.parts }) stage (most + 4 * n + 4)) (append_assoc before (vcpus_below g n) (vcpu_records g n) ∙ ap (λ l. before ++ l) (sym (vcpus_more g n))) next) (most + 4 * suc n) (omega arith)
+      looser (subst (λ l. State kind l (record h { parts = vcpu_parts g (suc n) h.parts }) stage (most + 4 * n + 4)) (append_assoc before (vcpus_below g n) (records_of_vcpu g n) ∙ ap (λ l. before ++ l) (sym (vcpus_more g n))) next) (most + 4 * suc n) (omega arith)
 
 -- ---- frames
 

@@ -6,7 +6,7 @@ pub use Rattle.std.specs.Prelude.{T, decimal, fold, if◌then◌else◌, is_some
 pub use Rattle.byteorder.specs.Endian.{little_bytes, little_number}
 pub use Rattle.mig_bodies.specs.Shapes.{IsBody, IsRecordBody, IsShaped, SayAll, bodies_by_shape, canonical_bodies, contents_by_shape, part_body, parts_at, set_parts, shape_of, sole_key}
 pub use Rattle.mig_bytes.proofs.Texts.{puts_same, puts_stop, puts_then}
-pub use Rattle.mig_canon.specs.Canon.{Frame, Record, batch, batches, bodies_of, frame_bodies, frame_word_in, frames_in, headers, last_codes, page_in, pages_of, records_in_order, records_of, static_bodies, static_codes, text_of, words_of, info_records, key_of, last_records, p2m_body, p2m_record, p2m_records, part_record, pv_last_codes, vcpu_codes, vcpu_record, vcpu_records, vcpus_below}
+pub use Rattle.mig_canon.specs.Canon.{Frame, Record, batch, batches, bodies_of, frame_bodies, frame_word_in, frames_in, headers, last_codes, page_in, pages_of, records_in_order, records_of, static_bodies, static_codes, text_of, words_of, info_records, key_of, last_records, p2m_body, p2m_record, p2m_records, part_record, pv_last_codes, vcpu_codes, vcpu_record, records_of_vcpu, vcpus_below}
 pub use Rattle.mig_guest.specs.Formed.{IsFormed, IsPart, IsPlainHvm, IsTop, is_emulator_code, is_policy, width_of, HasNoEmulators, IsInside}
 pub use Rattle.mig_guest.specs.Frames.{FrameMap, IsFew, IsFrame, is_hvm_type, is_type_of}
 pub use Rattle.mig_guest.specs.Guests.{GuestOf}

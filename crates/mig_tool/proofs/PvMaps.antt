@@ -1,5 +1,5 @@
 -- The parts of a PV guest, set again record by record, give its parts.
-use Rattle.mig_tool.proofs.Common.{◌≡◌, ℕ, zero, suc, ◌+◌, Bool, true, false, cond, not, nat_eq, nat_lt, List, [], ◌∷◌, ◌++◌, Option, Some, None, refl, sym, ap, subst, ◌∙◌, arith, append-nil, ◌||◌, ◌&&◌, if◌then◌else◌, list_all, list_any, range_with_len, flat_map, eq_by_cmp, Kind, Pv, PartCode, PartKey, Part, PartMap, GuestOf, IsFormed, is_policy, width_of, part_cmp, row_of, code_number, put_part, put_parts, replace_code, p2m_key, set_parts, key_of, static_codes, pv_last_codes, vcpu_codes, vcpu_records, vcpus_below}
+use Rattle.mig_tool.proofs.Common.{◌≡◌, ℕ, zero, suc, ◌+◌, Bool, true, false, cond, not, nat_eq, nat_lt, List, [], ◌∷◌, ◌++◌, Option, Some, None, refl, sym, ap, subst, ◌∙◌, arith, append-nil, ◌||◌, ◌&&◌, if◌then◌else◌, list_all, list_any, range_with_len, flat_map, eq_by_cmp, Kind, Pv, PartCode, PartKey, Part, PartMap, GuestOf, IsFormed, is_policy, width_of, part_cmp, row_of, code_number, put_part, put_parts, replace_code, p2m_key, set_parts, key_of, static_codes, pv_last_codes, vcpu_codes, records_of_vcpu, vcpus_below}
 use Rattle.std.specs.Prelude.{◌==◌}
 use Rattle.std.specs.Cmp.{tied_then, unsigned_tied}
 use Rattle.std.specs.Option.{option_or}
@@ -134,10 +134,10 @@ module _ (g : GuestOf) (q : PartKey) where
       ∙ ap (with_picked g.parts m q) (both_ids (is_vcpu_code q.code) (nat_lt q.key1 n) (q.key1 == n) (q.key2 == 0) ∙ ap (λ b. is_vcpu_code q.code && (b && (q.key2 == 0))) (one_more q.key1 n))
 
 -- the records of one vCPU more
-pub vcpus_more : (g : GuestOf) (n : ℕ) → vcpus_below g (suc n) ≡ vcpus_below g n ++ vcpu_records g n
+pub vcpus_more : (g : GuestOf) (n : ℕ) → vcpus_below g (suc n) ≡ vcpus_below g n ++ records_of_vcpu g n
 vcpus_more g n =
-    ap (vcpus_below g) (let e : suc n ≡ n + 1 = omega arith in e) ∙ ap (flat_map (vcpu_records g)) range_more
-    ∙ flat_map-append (vcpu_records g) (range_with_len 0 n) (n ∷ []) ∙ ap (λ l. vcpus_below g n ++ l) (append-nil (vcpu_records g n))
+    ap (vcpus_below g) (let e : suc n ≡ n + 1 = omega arith in e) ∙ ap (flat_map (records_of_vcpu g)) range_more
+    ∙ flat_map-append (records_of_vcpu g) (range_with_len 0 n) (n ∷ []) ∙ ap (λ l. vcpus_below g n ++ l) (append-nil (records_of_vcpu g n))
   where
     range_more : range_with_len 0 (n + 1) ≡ range_with_len 0 n ++ n ∷ []
     range_more = sym (map-id (range_with_len 0 (n + 1))) ∙ map-range_with_len_more (λ k. k) 0 n n (omega arith) ∙ ap (λ l. l ++ n ∷ []) (map-id (range_with_len 0 n))

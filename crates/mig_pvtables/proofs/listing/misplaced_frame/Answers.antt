@@ -5,8 +5,7 @@ use Rattle.mig_pvtables.proofs.listing.misplaced_frame.Goals as goal
 
 pub loop-pfn-init : goal.loop-pfn-init
 loop-pfn-init c = record {
-  are = λ pfn. ap (λ m. maps.get m pfn) (c.in_ok-reserve.ensures.values ∙ c.new-marks.ensures.values) ∙ marks_start c.args.guest.now.frames c.args.guest.now.parts pfn;
-  room = omega (arith, c.in_ok-reserve.ensures.ready, c.listed_count.ensures);
+  are = λ pfn. ap (λ m. maps.get m pfn) c.new-marks.ensures.values ∙ marks_start c.args.guest.now.frames c.args.guest.now.parts pfn;
   fine = λ j lt. absurd (omega (arith, lt));
 }
 
@@ -24,8 +23,7 @@ loop-pfn-preserved c =
     let frames = c.args.guest.now.frames in let parts = c.args.guest.now.parts in let k = c.loop-pfn.index in let pfn = c.in-Some.pfn in
     let by = misplaced_by frames parts k c.loop-pfn.marks.values c.loop-pfn.invariant.are pfn c.frame.result c.get.result c.is_needed-needed.result c.frame.ensures c.get.ensures.value c.is_needed-needed.ensures in
     let fine = sym by ∙ sym c.is_misplaced.ensures ∙ c.if-is_misplaced.false in record {
-      are = marks_next frames parts k c.loop-pfn.marks.values c.loop-pfn.invariant.are pfn (sym c.in-Some.ensures.value) fine c.put_spare.new.self.values c.mark_for.result (c.mark_for.ensures.value ∙ ap (λ b. cond b 2 1) c.is_needed-needed.ensures) c.put_spare.ensures.values;
-      room = omega (arith, c.put_spare.ensures.taken, c.loop-pfn.invariant.room);
+      are = marks_next frames parts k c.loop-pfn.marks.values c.loop-pfn.invariant.are pfn (sym c.in-Some.ensures.value) fine c.put_spare.new.self.values c.mark_for.result (c.mark_for.ensures.value ∙ ap (λ b. cond b 2 1) c.is_needed-needed.ensures) (c.put_spare.ensures.values ∙ ap (λ m. maps.insert m pfn c.mark_for.result) c.in_ok-reserve.ensures.values);
       fine = fine_next frames parts k c.loop-pfn.invariant.fine pfn (sym c.in-Some.ensures.value) fine;
     }
 

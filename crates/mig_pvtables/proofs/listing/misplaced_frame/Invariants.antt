@@ -1,4 +1,4 @@
-use Rattle.mig_pvtables.proofs.Common.{◌+◌, ◌-◌, ◌≤◌, p2m_key, count_in}
+use Rattle.mig_pvtables.proofs.Common.{◌-◌, p2m_key, count_in}
 use Rattle.std.specs.FinMap as maps
 use Rattle.mig_pvtables.proofs.P2mWalks.{AreMarks, AreFine}
 use Rattle.mig_pvtables.proofs.listing.misplaced_frame.Given as goal
@@ -6,7 +6,6 @@ use Rattle.mig_pvtables.proofs.listing.misplaced_frame.Given as goal
 abbrev pub invariant-loop-pfn : goal.invariant-loop-pfn
 invariant-loop-pfn l = record {
   are : AreMarks l.fn.guest.frames l.fn.guest.parts l.index l.marks.values;
-  room : count_in (maps.get l.fn.guest.parts p2m_key) ≤ l.marks.spare + l.index;
   fine : AreFine l.fn.guest.frames l.fn.guest.parts l.index;
 }
 
