@@ -1,4 +1,4 @@
-use Rattle.mig_tool.proofs.Common.{◌≡◌, Kind, Hvm, Pv, sym, ◌∙◌, rules, Written}
+use Rattle.mig_tool.proofs.Common.{rules, Written}
 use Rattle.mig_tool.proofs.Reporting.{restored, unbuilt}
 use Rattle.mig_tool.proofs.commands.restore.Goals as goal
 
