@@ -55,7 +55,8 @@ sole code width p one none =
 
 -- ---- a part of a guest is one of its host
 
-raw : (code : PartCode) (bytes : List ℕ) → IsContent code bytes → IsRawContent code bytes
+-- what the bytes of a guest's part are, a host asks of them
+pub raw : (code : PartCode) (bytes : List ℕ) → IsContent code bytes → IsRawContent code bytes
 raw EmulatorPairs bytes h = h
 raw _ bytes h = tt
 
@@ -78,7 +79,7 @@ host_part v w key bytes is = record {
 
 -- ---- frames that are no tables
 
-no_entries : (P : Entry → Type 0) (frame : FrameOf) → is_hvm_type frame.type ≡ true → EachEntry P frame
+pub no_entries : (P : Entry → Type 0) (frame : FrameOf) → is_hvm_type frame.type ≡ true → EachEntry P frame
 no_entries P frame hvm level page is = let no : None ≡ Some level = sym (no_level frame.type hvm) ∙ is in cc
   where
     no_level : (t : PageType) → is_hvm_type t ≡ true → level_of t ≡ None

@@ -4,6 +4,7 @@ pub mod FieldBytes
 pub mod Frames
 pub mod HostMaps
 pub mod HostViews
+pub mod HostedGuests
 pub mod HostsMade
 pub mod ImageBack
 pub mod ImageFronts
@@ -11,6 +12,7 @@ pub mod ImageReads
 pub mod InOrder
 pub mod KeyTests
 pub mod MachineMaps
+pub mod Machines
 pub mod Parts
 pub mod Ranks
 pub mod Readers

@@ -1,10 +1,12 @@
-ghost use Rattle.std.specs.Prelude.{◌≡◌, ℕ, List};
+ghost use Rattle.std.specs.Prelude.{◌≡◌, ℕ, List, None};
 ghost use Rattle.mig_bytes.specs.Bytes.{AreBytes};
 ghost use Rattle.mig_bytes.specs.Judged.Judged.{Passes};
 ghost use Rattle.mig_headers.specs.declared.kind.Kind.TheVariants.{Hvm};
 ghost use Rattle.mig_guest.specs.Guests.{GuestOf};
 ghost use Rattle.mig_guest.specs.Hosts.{HostOf, IsValid};
-ghost use Rattle.mig_pvtables.specs.View.{hvm_view};
+ghost use Rattle.mig_pvtables.specs.Blank.{blank, IsOfBytes};
+ghost use Rattle.mig_pvtables.specs.Sound.{IsSound, unsoundness};
+ghost use Rattle.mig_pvtables.specs.View.{view, hvm_view};
 ghost use Rattle.mig_pvtables.specs.Whole.{IsWhole};
 ghost use Rattle.mig_image.specs.Hosted.{hosted, IsBaseOutside};
 ghost use Rattle.mig_image.specs.Image.{IsHostImage};
@@ -26,13 +28,25 @@ pub fn one_image()
     ensures { (input : List ℕ) (g h : HostOf) (rest more : List ℕ) → IsHostImage input g rest → IsHostImage input h more → (g ≡ h) × (rest ≡ more) }
 {}
 
-/// What a whole HVM guest becomes is a valid host, where the base isn't out of range.
+/// What a whole guest becomes is a valid host, where the base isn't out of range.
 pub fn hosted_is_valid()
-    ensures { (guest : GuestOf) (base : ℕ) → IsWhole guest → guest.kind ≡ Hvm → (IsBaseOutside guest base → ⊥) → IsValid (hosted guest base) }
+    ensures { (guest : GuestOf) (base : ℕ) → IsWhole guest → (IsBaseOutside guest base → ⊥) → IsValid (hosted guest base) }
+{}
+
+/// What a whole guest of bytes in blank form becomes is a sound host: nothing is in the way of seeing it.
+pub fn hosted_is_sound()
+    ensures sound { (guest : GuestOf) (base : ℕ) → IsWhole guest → IsOfBytes guest → blank guest ≡ guest → (IsBaseOutside guest base → ⊥) → IsSound (hosted guest base) }
+    ensures faultless { (guest : GuestOf) (base : ℕ) → IsWhole guest → IsOfBytes guest → blank guest ≡ guest → (IsBaseOutside guest base → ⊥) → unsoundness (hosted guest base) ≡ None }
+{}
+
+/// The host that a whole guest of bytes in blank form becomes is seen as this guest.
+#[tactic(auto, using(crate::proofs::HostedGuests::whole_seen))]
+pub fn hosted_is_seen()
+    ensures { (guest : GuestOf) (base : ℕ) → IsWhole guest → IsOfBytes guest → blank guest ≡ guest → (IsBaseOutside guest base → ⊥) → view (hosted guest base) ≡ guest }
 {}
 
 /// The host that a whole HVM guest becomes is seen as this guest, whatever the base.
 #[tactic(auto, using(crate::proofs::HostViews::hosted_seen))]
-pub fn hosted_is_seen()
+pub fn hvm_hosted_is_seen()
     ensures { (guest : GuestOf) (base : ℕ) → IsWhole guest → guest.kind ≡ Hvm → hvm_view (hosted guest base) ≡ guest }
 {}

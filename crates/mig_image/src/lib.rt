@@ -19,7 +19,10 @@ mod restore;
 mod write;
 
 pub use host::Host;
-pub use law::{hosted_is_seen, hosted_is_valid, image_is_judged, judged_is_image, one_image};
+pub use law::{
+    hosted_is_seen, hosted_is_sound, hosted_is_valid, hvm_hosted_is_seen, image_is_judged,
+    judged_is_image, one_image,
+};
 pub use read::{ImageAnswer, read_host};
 pub use restore::{HostAnswer, host_of};
 pub use write::write_host;

@@ -56,7 +56,7 @@ fn count_up(alloc: Global, guest: &Guest, base: u64) -> Result<(MachineFrames, u
 /// base + i. The pages and parts of the guest are moved, not copied. A refusal drops the guest.
 ///
 /// So far for HVM guests, whose pages and parts hold no machine frames.
-#[tactic(auto, using(crate::proofs::InOrder::entries_counted, crate::proofs::RestoredHosts::made_hosted, crate::proofs::RestoredHosts::seen_hosted))]
+#[tactic(auto, using(crate::proofs::InOrder::entries_counted))]
 pub fn host_of(alloc: Global, guest: Guest, base: u64) -> Result<Host, HostAnswer>
     requires whole { IsWhole guest }
     requires hvm { guest.kind ≡ Hvm }

@@ -41,7 +41,7 @@ abbrev There : ℕ → Type 0
 There field = (field_at (field_place field) ≡ Some field) × (field_place field < 646)
 
 -- each field stands at its place
-field_there : (field : ℕ) → field ≤ 18 → There field
+pub field_there : (field : ℕ) → field ≤ 18 → There field
 field_there field most = elim (cases_eq field 0) [
   | inl e ↦ subst There (sym e) (refl, omega arith)
   | inr some ↦ elim (cases_lt field 17) [
@@ -105,7 +105,7 @@ said_fits field v = by_case (nat_le field 16)
 
 module _ (context : List ℕ) where
   -- the number at a place
-  blanked_at : (i : ℕ) → i < 646 → long_at (blanked_context context) i ≡ blanked_value i (long_at context i) % 2 ^ 64
+  pub blanked_at : (i : ℕ) → i < 646 → long_at (blanked_context context) i ≡ blanked_value i (long_at context i) % 2 ^ 64
   blanked_at i lt = long_of_each 646 blanked_value context i lt
 
   no_field : (v : ℕ) → blanked_value 620 v ≡ v
@@ -116,7 +116,7 @@ module _ (context : List ℕ) where
   pub blanked_ents : gdt_ents (blanked_context context) ≡ gdt_ents context % 2 ^ 64
   blanked_ents = blanked_at 620 (omega arith) ∙ ap (λ v. v % 2 ^ 64) (no_field (long_at context 620))
 
-  at_field : (i v field : ℕ) → field_at i ≡ Some field → blanked_value i v ≡ value_blanked (Some field) v
+  pub at_field : (i v field : ℕ) → field_at i ≡ Some field → blanked_value i v ≡ value_blanked (Some field) v
   unfolding blanked_value
   at_field i v field is = ap (λ o. value_blanked o v) is
 

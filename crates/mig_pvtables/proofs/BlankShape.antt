@@ -9,7 +9,7 @@ use Rattle.mig_pvtables.proofs.EachValue.{get_each, from_each, to_each, some_eac
 use Rattle.mig_pvtables.proofs.Slots.{found_in_range}
 
 -- what has a place in the list is listed there
-place_listed : (o : Option (List ℕ)) (pfn k : ℕ) → place_in o pfn ≡ Some k → listed_in o k ≡ Some pfn
+pub place_listed : (o : Option (List ℕ)) (pfn k : ℕ) → place_in o pfn ≡ Some k → listed_in o k ≡ Some pfn
 unfolding place_in
 place_listed None pfn k is = cc
 place_listed (Some bytes) pfn k is =

@@ -118,7 +118,7 @@ module _ (g : GuestOf) where
 -- ---- fields
 
 -- there is no frame that the field fits
-unfit : (field : ℕ) → fits_field field None ≡ false
+pub unfit : (field : ℕ) → fits_field field None ≡ false
 unfit field = elim (nat_le field 16) as (λ b. cond b false false ≡ false) [ true ↦ refl | false ↦ refl ]
 
 module _ (g : GuestOf) (formed : IsFormed g) where

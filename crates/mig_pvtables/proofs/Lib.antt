@@ -22,5 +22,11 @@ pub mod BlankBack
 pub mod LongSteps
 pub mod Renamed
 pub mod RenameSteps
+pub mod RenamedContexts
+pub mod GuestsBack
+pub mod SoundRows
+pub mod LocalisedGuests
+pub mod SoundGuests
+pub mod HostViews
 pub mod Walks
 pub mod P2mWalks

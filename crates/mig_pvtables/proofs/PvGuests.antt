@@ -5,7 +5,7 @@ use Rattle.std.specs.Prelude.{is_none}
 use Rattle.std.specs.FinMap as maps
 use Rattle.std.proofs.lemmas.Option.{cond_some}
 use Rattle.mig_pagetypes.specs.declared.page_type.PageType.TheVariants.{Notab}
-use Rattle.mig_pvtables.specs.Faults.{slots, field_numbers}
+use Rattle.mig_pvtables.specs.Faults.{slots, field_numbers, find_in_contexts}
 use Rattle.mig_pvtables.specs.WholePv.{IsEmptyRange, AreP2mFrames, FieldsFit, IsCompletePv, IsWholePv}
 use Rattle.mig_pvtables.proofs.Searches.{none_of, any_in_range, find_in_range, first_found, all_none, none_mapped, is_there, are_few}
 
@@ -23,14 +23,14 @@ module _ (bad : Entry → Bool) (frames : FrameMap) where
     λ good. (find_in_range (λ slot. bad (entry l p slot)) 512).1 (λ slot lt. good l p refl refl slot lt),
   )
 
-  no_entry : (find_entry bad frames ≡ None) ↔ ((pfn : ℕ) (frame : FrameOf) → maps.get frames pfn ≡ Some frame → EachEntry (λ e. bad e ≡ false) frame)
+  pub no_entry : (find_entry bad frames ≡ None) ↔ ((pfn : ℕ) (frame : FrameOf) → maps.get frames pfn ≡ Some frame → EachEntry (λ e. bad e ≡ false) frame)
   no_entry =
       let search = first_found nat_cmp_total nat_cmp-IsAntisymmetric (λ (e : ℕ × FrameOf). option_map (λ (slot : ℕ). (e.0, slot)) (find_slot bad (level_of e.1.type) e.1.page)) frames in (
         (λ none pfn x is. (no_slot (level_of x.type) x.page).0 ((none_mapped (λ (slot : ℕ). (pfn, slot)) (find_slot bad (level_of x.type) x.page)).0 (search.0 none pfn x is))),
         (λ good. search.1 (λ pfn x is. (none_mapped (λ (slot : ℕ). (pfn, slot)) (find_slot bad (level_of x.type) x.page)).1 ((no_slot (level_of x.type) x.page).1 (good pfn x is)))),
       )
 
-some_is : {X : Type 0} (o : Option X) → (is_none o ≡ false) ↔ IsSome o
+pub some_is : {X : Type 0} (o : Option X) → (is_none o ≡ false) ↔ IsSome o
 some_is None = (λ is. cc, λ has. cc)
 some_is (Some x) = (λ is. refl, λ has. refl)
 
@@ -43,29 +43,38 @@ not_absent frames _ = (λ is n e. cc, λ there. refl)
 
 -- ---- fields of contexts
 
-not_both : (a b : Bool) → ((a && not b) ≡ false) ↔ (a ≡ true → b ≡ true)
+pub not_both : (a b : Bool) → ((a && not b) ≡ false) ↔ (a ≡ true → b ≡ true)
 not_both false b = (λ is h. cc, λ go. refl)
 not_both true true = (λ is h. refl, λ go. refl)
 not_both true false = (λ is h. cc, λ go. let no : false ≡ true = go refl in cc)
 
-module _ (frames : FrameMap) (parts : PartMap) where
+-- no field of a context passes a test
+module _ (bad : ℕ → List ℕ → ℕ → Bool) (parts : PartMap) where
   abbrev look : PartKey × List ℕ → Option (ℕ × ℕ)
-  look e = cond (e.0.code == 4) (option_map (λ (field : ℕ). (e.0.key1, field)) (find (misfits frames e.0.key1 e.1) field_numbers)) None
+  look e = cond (e.0.code == 4) (option_map (λ (field : ℕ). (e.0.key1, field)) (find (bad e.0.key1 e.1) field_numbers)) None
 
-  no_misfit : (key : PartKey) (context : List ℕ) → (look (key, context) ≡ None) ↔ (key.code ≡ 4 → (field : ℕ) → field ≤ 18 → misfits frames key.key1 context field ≡ false)
+  none_in_context : (key : PartKey) (context : List ℕ) → (look (key, context) ≡ None) ↔ (key.code ≡ 4 → (field : ℕ) → field ≤ 18 → bad key.key1 context field ≡ false)
   unfolding field_numbers
-  no_misfit key context =
-      let found = none_mapped (λ (field : ℕ). (key.key1, field)) (find (misfits frames key.key1 context) (range_with_len 0 19)) in let search = find_in_range (misfits frames key.key1 context) 19 in (
+  none_in_context key context =
+      let found = none_mapped (λ (field : ℕ). (key.key1, field)) (find (bad key.key1 context) (range_with_len 0 19)) in let search = find_in_range (bad key.key1 context) 19 in (
         (λ is code field most. search.0 (found.0 (sym (cond-true (key.code == 4) _ None (eq-eqb key.code 4 code)) ∙ is)) field (omega (arith, most))),
         (λ good. cond_both (key.code == 4) _ None (λ r. r ≡ None) (λ t. found.1 (search.1 (λ field lt. good (eqb-true key.code 4 t) field (omega (arith, lt))))) (λ t. refl)),
       )
 
+  pub none_in_contexts : (find_in_contexts bad parts ≡ None) ↔ ((key : PartKey) (context : List ℕ) → maps.get parts key ≡ Some context → key.code ≡ 4 → (field : ℕ) → field ≤ 18 → bad key.key1 context field ≡ false)
+  none_in_contexts =
+      let search = first_found part_total part_exact look parts in (
+        (λ none key context is. (none_in_context key context).0 (search.0 none key context is)),
+        (λ good. search.1 (λ key context is. (none_in_context key context).1 (good key context is))),
+      )
+
+module _ (frames : FrameMap) (parts : PartMap) where
   no_field : (find_field frames parts ≡ None) ↔ FieldsFit frames parts
   no_field =
-      let search = first_found part_total part_exact look parts in
+      let search = none_in_contexts (misfits frames) parts in
       let fits = λ (key : PartKey) (context : List ℕ) (field : ℕ). not_both (is_used key.key1 (gdt_ents context) field (field_value context field)) (fits_field field (type_at frames (frame_of_field field (field_value context field)))) in (
-        (λ none key context is code field most. (fits key context field).0 ((no_misfit key context).0 (search.0 none key context is) code field most)),
-        (λ fit. search.1 (λ key context is. (no_misfit key context).1 (λ code field most. (fits key context field).1 (fit key context is code field most)))),
+        (λ none key context is code field most. (fits key context field).0 (search.0 none key context is code field most)),
+        (λ fit. search.1 (λ key context is code field most. (fits key context field).1 (fit key context is code field most))),
       )
 
   -- ---- P2M frames
@@ -105,7 +114,7 @@ module _ (frames : FrameMap) (parts : PartMap) where
   counted None k pfn is = cc
   counted (Some bytes) k pfn is = ltb-true k _ (cond_some _ _ _ is).0
 
-  no_p2m : (find_p2m frames parts ≡ None) ↔ AreP2mFrames frames parts
+  pub no_p2m : (find_p2m frames parts ≡ None) ↔ AreP2mFrames frames parts
   no_p2m =
       let search = find_in_range (λ k. is_misplaced frames parts k (listed parts k)) (count_in (maps.get parts p2m_key)) in (
         (λ none.

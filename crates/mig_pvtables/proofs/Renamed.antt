@@ -1,10 +1,10 @@
 -- Tables whose entries name other frames: what they say then, and that they come back.
-use Rattle.mig_pvtables.proofs.Common.{◌≡◌, ℕ, ◌*◌, ◌/◌, ◌%◌, ◌^◌, ◌<◌, Bool, true, false, cond, not, nat_le, ◌==◌, ◌&&◌, List, Option, Some, None, refl, sym, ap, subst, ◌∙◌, arith, long_at, each_long, Entry, Blank, NotPresent, Superpage, Frame, entry, is_blank_slot, blanked_table}
+use Rattle.mig_pvtables.proofs.Common.{◌≡◌, ℕ, ◌*◌, ◌/◌, ◌%◌, ◌^◌, ◌<◌, Bool, true, false, cond, not, nat_le, ◌==◌, ◌&&◌, List, length, Option, Some, None, refl, sym, ap, subst, ◌∙◌, arith, long_at, each_long, Entry, Blank, NotPresent, Superpage, Frame, entry, is_blank_slot, blanked_table}
 use Rattle.std.proofs.lemmas.List.Elements.{recursion_from_All}
 use Rattle.mig_bytes.specs.Bytes.{AreBytes}
 use Rattle.mig_bytes.proofs.ByteLists.{long_below}
 use Rattle.mig_guest.specs.Tables.{is_present, is_large, named_frame, entry_of, blanked_entry}
-use Rattle.mig_guest.proofs.Longs.{same_longs}
+use Rattle.mig_guest.proofs.Longs.{same_longs, each_stays}
 use Rattle.mig_pvtables.specs.Tables.{with_frame}
 use Rattle.mig_pvtables.specs.Renaming.{with_name, named_anew, renamed_entry, renamed_by, name_for, renamed_table, normalised_table, entry_named, NamesFit, GoesBack}
 use Rattle.mig_pvtables.proofs.LongSteps.{long_of_each, each_twice}
@@ -172,7 +172,8 @@ by_frames f level page = refl
 abbrev pub EntryGoesBack : (ℕ → Option ℕ) → (ℕ → Option ℕ) → Entry → Type 0
 EntryGoesBack f back x = (n : ℕ) → x ≡ Frame n → GoesBack f back n
 
-fits_back : (f back : ℕ → Option ℕ) (x : Entry) → EntryGoesBack f back x → Fits (name_for f x) x
+-- such a name fits
+pub fits_back : (f back : ℕ → Option ℕ) (x : Entry) → EntryGoesBack f back x → Fits (name_for f x) x
 fits_back f back x goes n m is has =
     let g = goes n is in
     let there : f n ≡ Some m = sym (ap (name_for f) is) ∙ has in
@@ -248,3 +249,13 @@ normalised_back f back level page all goes =
     ∙ ap (each_long 512 (renamed_long back level)) (each_twice 512 (renamed_long f level) page small (blanked_entry level))
     ∙ each_twice 512 (λ slot e. blanked_entry level slot (renamed_long f level slot e)) page (λ slot lt. blanked_small level slot _ (small slot lt)) (renamed_long back level)
     ∙ same_longs 512 _ _ (λ slot lt. blanks_first back level slot (renamed_long f level slot (long_at page slot)) ∙ ap (blanked_entry level slot) (entry_back f level slot (long_at page slot) back (λ n is. goes slot n lt is)))
+
+-- a localised table that is renamed back is the table
+pub table_back : (f back : ℕ → Option ℕ) (level : ℕ) (page : List ℕ) → AreBytes page → length page ≡ 4096 → TableGoesBack f back level page → renamed_table back level (renamed_table f level page) ≡ page
+table_back f back level page all size goes =
+    let bytes = recursion_from_All (λ b. b < 256) page all in
+    let small = λ (slot : ℕ) (lt : slot < 512). small_back f level slot (long_at page slot) back (λ n is. goes slot n lt is) (long_below (8 * slot) page bytes) in
+    by_frames back level (renamed_table f level page)
+    ∙ ap (each_long 512 (renamed_long back level)) (by_frames f level page)
+    ∙ each_twice 512 (renamed_long f level) page small (renamed_long back level)
+    ∙ each_stays 512 (λ slot e. renamed_long back level slot (renamed_long f level slot e)) page bytes size (λ slot lt. entry_back f level slot (long_at page slot) back (λ n is. goes slot n lt is))

@@ -5,7 +5,6 @@ use Rattle.std.proofs.lemmas.List.Elements.{All-head, All-tail}
 use Rattle.std.proofs.lemmas.List.Folds.{list_any_at}
 use Rattle.std.proofs.lemmas.List.FromFn.{length-range_with_len, get_or-range_with_len}
 use Rattle.std.proofs.lemmas.List.Recursion.{or_from_places}
-use Rattle.mig_headers.specs.declared.fault.Cause.{Cause}
 use Rattle.mig_headers.proofs.FirstFaults.{both_none}
 
 pub none_of : {X : Type 0} (o : Option X) → is_some o ≡ false → o ≡ None
@@ -74,7 +73,7 @@ none_mapped f None = (λ is. refl, λ is. refl)
 none_mapped f (Some a) = (λ is. let no : Some (f a) ≡ None = is in cc, λ is. let no : Some a ≡ None = is in cc)
 
 -- the row of a part that has to be there
-pub is_there : (o : Option (List ℕ)) (c : Cause) → (cond (is_none o) (Some c) None ≡ None) ↔ IsSome o
+pub is_there : {C : Type 0} (o : Option (List ℕ)) (c : C) → (cond (is_none o) (Some c) None ≡ None) ↔ IsSome o
 is_there None c = (λ is. let no : Some c ≡ None = is in cc, λ has. let no : false ≡ true = has in cc)
 is_there (Some x) c = (λ is. refl, λ has. refl)
 

@@ -98,14 +98,18 @@ is_root _ = false
 abbrev pub fits_field : ℕ → Option PageType → Bool
 fits_field field type = if nat_le field 16 then is_notab type else is_root type
 
+-- the first field of a context, by the vCPU's id and its number, that passes a test
+abbrev pub find_in_contexts : (ℕ → List ℕ → ℕ → Bool) → PartMap → Option (ℕ × ℕ)
+find_in_contexts bad parts =
+    first_some (λ e. if e.0.code == 4 then option_map (λ field. (e.0.key1, field)) (find (bad e.0.key1 e.1) field_numbers) else None) (maps.entries parts)
+
 -- the field is used, and says no frame of its type
 abbrev pub misfits : FrameMap → ℕ → List ℕ → ℕ → Bool
 misfits frames id context field =
     is_used id (gdt_ents context) field (field_value context field) && not (fits_field field (type_at frames (frame_of_field field (field_value context field))))
 
 abbrev pub find_field : FrameMap → PartMap → Option (ℕ × ℕ)
-find_field frames parts =
-    first_some (λ e. if e.0.code == 4 then option_map (λ field. (e.0.key1, field)) (find (misfits frames e.0.key1 e.1) field_numbers) else None) (maps.entries parts)
+find_field frames parts = find_in_contexts (misfits frames) parts
 
 -- ---- a guest at the end of its stream
 

@@ -1,25 +1,36 @@
--- The guest that a host is seen as. So far for HVM hosts, in which nothing but the frames themselves has machine frames.
-use Rattle.std.specs.Prelude.{ℕ, List, Result, Ok, Err, ◌==◌, if◌then◌else◌}
-use Rattle.mig_headers.specs.declared.fault.ContextFault.{ContextFault}
-use Rattle.mig_headers.specs.Contexts.{scan, cut_at}
-use Rattle.mig_guest.specs.declared.part_key.PartKey.{PartKey}
+-- The guest that a host is seen as.
+use Rattle.std.specs.Prelude.{ℕ, ◌-◌, Option, ◌==◌, find}
+use Rattle.std.specs.Option.{option_map}
+use Rattle.std.specs.FinMap as maps
+use Rattle.mig_headers.specs.declared.kind.Kind.{Kind}
+use Rattle.mig_headers.specs.declared.kind.Kind.TheVariants.{Pv, Hvm}
 use Rattle.mig_guest.specs.Frames.{FrameOf}
 use Rattle.mig_guest.specs.Guests.{GuestOf}
-use Rattle.mig_guest.specs.Hosts.{HostOf, HostFrame}
+use Rattle.mig_guest.specs.Hosts.{HostOf, HostFrame, HostFrames}
 use Rattle.mig_pvtables.specs.Blank.{each_value}
+use Rattle.mig_pvtables.specs.Normalised.{part_seen, normalised}
 
 -- a frame without its machine frame
 abbrev pub without_machine : HostFrame → FrameOf
 without_machine f = record { type = f.type; page = f.page }
 
--- a raw context up to its END entry, and an END of zeros
-abbrev pub cut_by : Result ℕ ContextFault → List ℕ → List ℕ
-cut_by (Ok end) bytes = cut_at bytes end
-cut_by (Err fault) bytes = bytes
+-- the PFN that has a machine frame
+abbrev pub pfn_in : HostFrames → ℕ → Option ℕ
+pfn_in frames mfn = option_map (λ e. e.0) (find (λ e. e.1.machine == mfn) (maps.entries frames))
 
--- of the parts, the context is raw in a host
-abbrev pub part_seen : PartKey → List ℕ → List ℕ
-part_seen key bytes = if key.code == 9 then cut_by (scan bytes) bytes else bytes
+-- the greatest PFN that a PV host may have
+abbrev pub top_of : Kind → ℕ → ℕ
+top_of Pv width = width - 1
+top_of Hvm width = 0
 
+-- the guest that stands in the host, as it stands there
+abbrev pub guest_in : HostOf → GuestOf
+guest_in h = record { kind = h.kind; top = top_of h.kind h.width; frames = each_value (λ pfn f. without_machine f) h.frames; parts = h.parts }
+
+-- the guest that a host means: PFNs stand in place of machine frames, in blank form
+abbrev pub view : HostOf → GuestOf
+view h = normalised (pfn_in h.frames) (guest_in h)
+
+-- the view of an HVM host, in which nothing but the frames themselves has machine frames
 abbrev pub hvm_view : HostOf → GuestOf
 hvm_view h = record { kind = h.kind; top = 0; frames = each_value (λ pfn f. without_machine f) h.frames; parts = each_value part_seen h.parts }

@@ -2,7 +2,8 @@
 //!
 //! Responsible for: what an entry of a table says, what is wrong with a table in a stream, the frame that a field of a
 //! vCPU's context says, what is wrong with a guest at the end of its stream, bringing a guest to its blank form, and
-//! bringing tables from frame numbers to machine frames and back.
+//! bringing tables from frame numbers to machine frames and back; and, as definitions with their laws, the guest that a
+//! host means and what is in the way of seeing it.
 #![tactic(auto)]
 
 mod blanking;
@@ -15,6 +16,7 @@ mod renaming_law;
 mod table;
 mod testing;
 mod vcpu;
+mod view_law;
 
 pub use blanking::blank;
 pub use frames::Frames;
@@ -29,3 +31,7 @@ pub use renaming_law::{localised_table_comes_back, renamed_table_says_the_same};
 pub use table::{check_table, entry, put_entry};
 pub use testing::{WholeAnswer, whole};
 pub use vcpu::{put_vcpu_frame, vcpu_frame};
+pub use view_law::{
+    hvm_host_is_viewed, localised_guest_can_be_seen, localised_guest_comes_back,
+    renamed_context_comes_back, sound_host_has_no_unsoundness,
+};

@@ -1,5 +1,5 @@
-use Rattle.mig_image.proofs.RestoredHosts.{hosted_valid}
+use Rattle.mig_image.proofs.HostedGuests.{whole_valid}
 use Rattle.mig_image.proofs.law.hosted_is_valid.Goals as goal
 
 pub returns : goal.returns
-returns c = hosted_valid
+returns c = whole_valid

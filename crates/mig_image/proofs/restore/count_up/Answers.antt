@@ -1,6 +1,7 @@
 use Rattle.mig_image.proofs.Common.{◌+◌, sym, subst, MachineMap}
 use Rattle.std.specs.FinMap as maps
-use Rattle.mig_image.proofs.RestoredHosts.{AreCounted, some_value, counted_none, counted_more, counted_unused}
+use Rattle.mig_image.proofs.HostedGuests.{some_value}
+use Rattle.mig_image.proofs.RestoredHosts.{AreCounted, counted_none, counted_more, counted_unused}
 use Rattle.mig_image.proofs.restore.count_up.Goals as goal
 
 pub loop-i-init : goal.loop-i-init
