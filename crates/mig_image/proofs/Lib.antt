@@ -5,6 +5,7 @@ pub mod Frames
 pub mod HostMaps
 pub mod HostViews
 pub mod HostedGuests
+pub mod HostedPages
 pub mod HostsMade
 pub mod ImageBack
 pub mod ImageFronts

@@ -1,14 +1,17 @@
-ghost use Rattle.std.specs.Prelude.{◌≡◌, ℕ, List, None};
+ghost use Rattle.std.specs.Prelude.{◌≡◌, ℕ, List, Some, None};
+ghost use Rattle.std.specs.FinMap as maps;
 ghost use Rattle.mig_bytes.specs.Bytes.{AreBytes};
 ghost use Rattle.mig_bytes.specs.Judged.Judged.{Passes};
-ghost use Rattle.mig_headers.specs.declared.kind.Kind.TheVariants.{Hvm};
+ghost use Rattle.mig_headers.specs.declared.kind.Kind.TheVariants.{Pv, Hvm};
 ghost use Rattle.mig_guest.specs.Guests.{GuestOf};
-ghost use Rattle.mig_guest.specs.Hosts.{HostOf, IsValid};
+ghost use Rattle.mig_guest.specs.Hosts.{HostOf, HostFrame, IsValid};
 ghost use Rattle.mig_pvtables.specs.Blank.{blank, IsOfBytes};
+ghost use Rattle.mig_pvtables.specs.P2mFrames.{listed};
+ghost use Rattle.mig_pvtables.specs.P2mPages.{p2m_page};
 ghost use Rattle.mig_pvtables.specs.Sound.{IsSound, unsoundness};
 ghost use Rattle.mig_pvtables.specs.View.{view, hvm_view};
 ghost use Rattle.mig_pvtables.specs.Whole.{IsWhole};
-ghost use Rattle.mig_image.specs.Hosted.{hosted, IsBaseOutside};
+ghost use Rattle.mig_image.specs.Hosted.{mfn_in, hosted, IsBaseOutside};
 ghost use Rattle.mig_image.specs.Image.{IsHostImage};
 ghost use Rattle.mig_image.specs.ImageParts.{host_at};
 
@@ -43,6 +46,12 @@ pub fn hosted_is_sound()
 #[tactic(auto, using(crate::proofs::HostedGuests::whole_seen))]
 pub fn hosted_is_seen()
     ensures { (guest : GuestOf) (base : ℕ) → IsWhole guest → IsOfBytes guest → blank guest ≡ guest → (IsBaseOutside guest base → ⊥) → view (hosted guest base) ≡ guest }
+{}
+
+/// Each P2M frame that a whole PV guest lists holds the machine frames of its range, at whatever place it is listed.
+pub fn hosted_p2m_frames_are_filled()
+    ensures { (guest : GuestOf) (base k pfn : ℕ) → IsWhole guest → guest.kind ≡ Pv → listed guest.parts k ≡ Some pfn
+        → (frame : HostFrame) × (maps.get (hosted guest base).frames pfn ≡ Some frame) × (frame.page ≡ Some (p2m_page (mfn_in guest.frames base) k)) }
 {}
 
 /// The host that a whole HVM guest becomes is seen as this guest, whatever the base.

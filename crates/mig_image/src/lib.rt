@@ -20,8 +20,8 @@ mod write;
 
 pub use host::Host;
 pub use law::{
-    hosted_is_seen, hosted_is_sound, hosted_is_valid, hvm_hosted_is_seen, image_is_judged,
-    judged_is_image, one_image,
+    hosted_is_seen, hosted_is_sound, hosted_is_valid, hosted_p2m_frames_are_filled,
+    hvm_hosted_is_seen, image_is_judged, judged_is_image, one_image,
 };
 pub use read::{ImageAnswer, read_host};
 pub use restore::{HostAnswer, host_of};

@@ -27,6 +27,7 @@ pub mod GuestsBack
 pub mod SoundRows
 pub mod LocalisedGuests
 pub mod SoundGuests
+pub mod ListedPages
 pub mod HostViews
 pub mod Walks
 pub mod P2mWalks

@@ -11,7 +11,7 @@ use Rattle.mig_guest.proofs.PartRows.{one_code, of_part, no_entries}
 use Rattle.mig_pvtables.specs.Localised.{renamed_part, renamed_page, localised_page, localised_frame, localised_of, localised}
 use Rattle.mig_pvtables.specs.Renaming.{name_for, renamed_table, entry_named, NamesFit, GoesBack}
 use Rattle.mig_pvtables.specs.RenamedContexts.{value_renamed, renamed_value, renamed_context}
-use Rattle.mig_pvtables.specs.Sound.{needed_keys, AreThere, IsNamed, machine_type, CanBeSeen}
+use Rattle.mig_pvtables.specs.Sound.{needed_keys, AreThere, NamesKnown, machine_type, CanBeSeen}
 use Rattle.mig_pvtables.specs.VcpuContexts.{is_used_somewhere}
 use Rattle.mig_pvtables.specs.WholePv.{IsCompletePv}
 use Rattle.mig_pvtables.proofs.BlankSays.{field_there}
@@ -27,17 +27,17 @@ use Rattle.mig_pvtables.proofs.RenamedContexts.{FieldGoesBack, IsBlankField, fra
 -- ---- entries
 
 module _ (f back : ℕ → Option ℕ) where
-  named_anew_is : (x : Entry) (top : ℕ) → EntryGoesBack f back x → IsWithin top x → IsNamed back (entry_named (name_for f x) x)
+  named_anew_is : (x : Entry) (top : ℕ) → EntryGoesBack f back x → IsWithin top x → NamesKnown back (entry_named (name_for f x) x)
   named_anew_is Blank top goes within = tt
   named_anew_is NotPresent top goes within = tt
   named_anew_is Superpage top goes within = absurd within
-  named_anew_is (Frame n) top goes within = let g = goes n refl in subst (λ o. IsNamed back (entry_named o (Frame n))) (sym g.there) (ap is_some g.again)
+  named_anew_is (Frame n) top goes within = let g = goes n refl in subst (λ o. NamesKnown back (entry_named o (Frame n))) (sym g.there) (ap is_some g.again)
 
   -- each entry of a renamed table that names a frame goes back
-  table_named : (level : ℕ) (page : List ℕ) (top : ℕ) → AreBytes page → TableGoesBack f back level page → ((slot : ℕ) → slot < 512 → IsWithin top (entry level page slot)) → (slot : ℕ) → slot < 512 → IsNamed back (entry level (renamed_table f level page) slot)
+  table_named : (level : ℕ) (page : List ℕ) (top : ℕ) → AreBytes page → TableGoesBack f back level page → ((slot : ℕ) → slot < 512 → IsWithin top (entry level page slot)) → (slot : ℕ) → slot < 512 → NamesKnown back (entry level (renamed_table f level page) slot)
   table_named level page top all goes within slot lt =
       let fit : NamesFit (λ slot. name_for f (entry level page slot)) level page = λ slot n m lt is has. fits_back f back (entry level page slot) (λ n is. goes slot n lt is) n m is has in
-      subst (IsNamed back) (sym (said_anew (λ slot. name_for f (entry level page slot)) level page all fit slot lt)) (named_anew_is (entry level page slot) top (λ n is. goes slot n lt is) (within slot lt))
+      subst (NamesKnown back) (sym (said_anew (λ slot. name_for f (entry level page slot)) level page all fit slot lt)) (named_anew_is (entry level page slot) top (λ n is. goes slot n lt is) (within slot lt))
 
 -- ---- fields
 
@@ -78,21 +78,21 @@ module _ (g : GuestOf) (pv : g.kind ≡ Pv) (whole : IsWhole g) (bytes : IsOfByt
   parts_there = (localised_of Pv f g).parts
 
   page_named : (pfn : ℕ) (x : FrameOf) → maps.get g.frames pfn ≡ Some x → (level : ℕ) → level_of x.type ≡ Some level → (o : Option (List ℕ)) → x.page ≡ o
-      → (p : List ℕ) → renamed_page f (Some level) o ≡ Some p → (slot : ℕ) → slot < 512 → IsNamed back (entry level p slot)
+      → (p : List ℕ) → renamed_page f (Some level) o ≡ Some p → (slot : ℕ) → slot < 512 → NamesKnown back (entry level p slot)
   page_named pfn x found level lev None has p is slot lt = cc
   page_named pfn x found level lev (Some q) has p is slot lt =
       let same : renamed_table f level q ≡ p = cc in let (all, size, back_there) = table_goes g whole complete bytes f back goes pfn x found level q lev has in
-      subst (λ r. IsNamed back (entry level r slot)) same (table_named f back level q g.top all back_there ((whole.formed.frames pfn x found).entries level q lev has) slot lt)
+      subst (λ r. NamesKnown back (entry level r slot)) same (table_named f back level q g.top all back_there ((whole.formed.frames pfn x found).entries level q lev has) slot lt)
 
-  frame_named : (pfn : ℕ) (x : FrameOf) → maps.get g.frames pfn ≡ Some x → EachEntry (IsNamed back) (localised_frame g.parts f pfn x)
+  frame_named : (pfn : ℕ) (x : FrameOf) → maps.get g.frames pfn ≡ Some x → EachEntry (NamesKnown back) (localised_frame g.parts f pfn x)
   frame_named pfn x found level p lev has slot lt =
       let unlisted = table_unlisted g.frames g.parts complete.p2m pfn x found level lev in
       page_named pfn x found level lev x.page refl p ((λ i. localised_page (sym unlisted i) f (sym lev i) x.page) ∙ has) slot lt
 
-  entries_there : (pfn : ℕ) (y : FrameOf) → maps.get frames_there pfn ≡ Some y → EachEntry (IsNamed back) y
+  entries_there : (pfn : ℕ) (y : FrameOf) → maps.get frames_there pfn ≡ Some y → EachEntry (NamesKnown back) y
   entries_there pfn y is =
       let (x, found, same) = from_each nat_cmp_total nat_cmp-IsAntisymmetric (localised_frame g.parts f) g.frames pfn y is in
-      subst (EachEntry (IsNamed back)) same (frame_named pfn x found)
+      subst (EachEntry (NamesKnown back)) same (frame_named pfn x found)
 
   module _ (key : PartKey) (context : List ℕ) (found : maps.get g.parts key ≡ Some context) (code : key.code ≡ 4) where
     abbrev there : List ℕ
@@ -159,7 +159,7 @@ module _ (g : GuestOf) (hvm : g.kind ≡ Hvm) (whole : IsWhole g) (back : ℕ �
   hvm_seen = record {
     parts = subst (λ (k : Kind). AreThere g.parts (needed_keys k)) (sym hvm) ((hvm_complete g hvm whole.faultless).0, tt);
     p2m = record { types = λ k pfn is. absurd (none_listed k pfn is); twice = λ j k pfn lt one two. absurd (none_listed j pfn one) };
-    entries = λ pfn x is. no_entries (IsNamed back) x (subst (λ (k : Kind). is_type_of k x.type ≡ true) hvm (whole.formed.frames pfn x is).type);
+    entries = λ pfn x is. no_entries (NamesKnown back) x (subst (λ (k : Kind). is_type_of k x.type ≡ true) hvm (whole.formed.frames pfn x is).type);
     gdt = λ key part is code. absurd (no_vcpu key part is code);
     fields = λ key part is code field most host. absurd (no_vcpu key part is code);
     context = λ part is. let (end, scanned, cut) = (of_part HvmContext g.kind (width_of g) (context_key, part) (whole.formed.parts context_key part is) refl).content in (end, scanned);

@@ -8,7 +8,7 @@ use Rattle.mig_headers.specs.declared.fault.ContextFault.{ContextFault}
 use Rattle.mig_guest.specs.Hosts.{HostOf}
 use Rattle.mig_pvtables.specs.BadEntries.{is_unknown}
 use Rattle.mig_pvtables.specs.Faults.{find_in_contexts}
-use Rattle.mig_pvtables.specs.Sound.{needed_keys, AreThere, IsNamed, machine_type, FieldsName, CanBeSeen, IsSound, absent, misnames, find_gdt, fault_in, unsound_rows, unsoundness}
+use Rattle.mig_pvtables.specs.Sound.{needed_keys, AreThere, NamesKnown, machine_type, FieldsName, CanBeSeen, IsSound, absent, misnames, find_gdt, fault_in, unsound_rows, unsoundness}
 use Rattle.mig_pvtables.specs.Sound.Unsound.{Missing}
 use Rattle.mig_pvtables.specs.VcpuContexts.{is_used_somewhere}
 use Rattle.mig_pvtables.specs.View.{pfn_in, guest_in}
@@ -28,14 +28,14 @@ are_there parts (key ∷ keys) =
 -- ---- entries
 
 module _ (pfn_of : ℕ → Option ℕ) where
-  named : (e : Entry) → ((is_superpage e ≡ false) × (is_unknown pfn_of e ≡ false)) ↔ IsNamed pfn_of e
+  named : (e : Entry) → ((is_superpage e ≡ false) × (is_unknown pfn_of e ≡ false)) ↔ NamesKnown pfn_of e
   named Blank = (λ h. tt, λ h. (refl, refl))
   named NotPresent = (λ h. tt, λ h. (refl, refl))
   named Superpage = (λ h. let no : true ≡ false = h.0 in cc, λ h. absurd h)
   named (Frame mfn) = (λ h. (some_is (pfn_of mfn)).0 h.1, λ h. (refl, (some_is (pfn_of mfn)).1 h))
 
   abbrev AreNamed : FrameMap → Type 0
-  AreNamed frames = (pfn : ℕ) (frame : FrameOf) → maps.get frames pfn ≡ Some frame → EachEntry (IsNamed pfn_of) frame
+  AreNamed frames = (pfn : ℕ) (frame : FrameOf) → maps.get frames pfn ≡ Some frame → EachEntry (NamesKnown pfn_of) frame
 
   are_named : (frames : FrameMap) → find_entry is_superpage frames ≡ None → find_entry (is_unknown pfn_of) frames ≡ None → AreNamed frames
   are_named frames one two pfn x is l p lev has slot lt =

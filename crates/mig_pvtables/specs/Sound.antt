@@ -53,11 +53,11 @@ AreThere parts [] = ⊤
 AreThere parts (key ∷ keys) = IsSome (maps.get parts key) × AreThere parts keys
 
 -- no superpage, and no machine frame for which pfn_of gives nothing
-abbrev pub IsNamed : (ℕ → Option ℕ) → Entry → Type 0
-IsNamed pfn_of entries.Blank = ⊤
-IsNamed pfn_of entries.NotPresent = ⊤
-IsNamed pfn_of entries.Superpage = ⊥
-IsNamed pfn_of (entries.Frame mfn) = IsSome (pfn_of mfn)
+abbrev pub NamesKnown : (ℕ → Option ℕ) → Entry → Type 0
+NamesKnown pfn_of entries.Blank = ⊤
+NamesKnown pfn_of entries.NotPresent = ⊤
+NamesKnown pfn_of entries.Superpage = ⊥
+NamesKnown pfn_of (entries.Frame mfn) = IsSome (pfn_of mfn)
 
 -- the type of the frame that has a machine frame
 abbrev pub machine_type : FrameMap → (ℕ → Option ℕ) → ℕ → Option PageType
@@ -74,7 +74,7 @@ FieldsName frames pfn_of parts =
 pub record CanBeSeen (g : GuestOf) (pfn_of : ℕ → Option ℕ) : Type 0 where
   pub parts : AreThere g.parts (needed_keys g.kind)
   pub p2m : AreP2mFrames g.frames g.parts
-  pub entries : (pfn : ℕ) (frame : FrameOf) → maps.get g.frames pfn ≡ Some frame → EachEntry (IsNamed pfn_of) frame
+  pub entries : (pfn : ℕ) (frame : FrameOf) → maps.get g.frames pfn ≡ Some frame → EachEntry (NamesKnown pfn_of) frame
   pub gdt : (key : PartKey) (context : List ℕ) → maps.get g.parts key ≡ Some context → key.code ≡ 4 → gdt_ents context ≤ 7168
   pub fields : FieldsName g.frames pfn_of g.parts
   pub context : (bytes : List ℕ) → maps.get g.parts context_key ≡ Some bytes → (end : ℕ) × (scan bytes ≡ Ok end)

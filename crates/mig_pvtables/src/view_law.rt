@@ -1,13 +1,16 @@
-ghost use Rattle.std.specs.Prelude.{◌≡◌, ◌≤◌, ◌↔◌, ℕ, List, Option, None, true, IsSome};
+ghost use Rattle.std.specs.Prelude.{◌≡◌, ◌≤◌, ◌↔◌, ℕ, List, Option, Some, None, true, IsSome};
 ghost use Rattle.std.specs.FinMap as maps;
 ghost use Rattle.mig_bytes.specs.Bytes.{AreBytes};
-ghost use Rattle.mig_headers.specs.declared.kind.Kind.TheVariants.{Hvm};
+ghost use Rattle.mig_headers.specs.declared.kind.Kind.TheVariants.{Pv, Hvm};
 ghost use Rattle.mig_guest.specs.Formed.{gdt_ents};
+ghost use Rattle.mig_guest.specs.Frames.{FrameOf};
 ghost use Rattle.mig_guest.specs.Guests.{GuestOf};
 ghost use Rattle.mig_guest.specs.Hosts.{HostOf};
 ghost use Rattle.mig_pvtables.specs.Blank.{blank, IsOfBytes};
 ghost use Rattle.mig_pvtables.specs.Localised.{localised};
 ghost use Rattle.mig_pvtables.specs.Normalised.{normalised};
+ghost use Rattle.mig_pvtables.specs.P2mFrames.{listed};
+ghost use Rattle.mig_pvtables.specs.P2mPages.{p2m_page};
 ghost use Rattle.mig_pvtables.specs.Renaming.{GoesBack};
 ghost use Rattle.mig_pvtables.specs.RenamedContexts.{renamed_context};
 ghost use Rattle.mig_pvtables.specs.Sound.{CanBeSeen, IsSound, unsoundness};
@@ -35,6 +38,14 @@ pub fn localised_guest_comes_back()
 pub fn localised_guest_can_be_seen()
     ensures { (g : GuestOf) → IsWhole g → IsOfBytes g → blank g ≡ g → (mfn_of pfn_of : ℕ → Option ℕ)
         → ((n : ℕ) → IsSome (maps.get g.frames n) → GoesBack mfn_of pfn_of n) → CanBeSeen (localised mfn_of g) pfn_of }
+{}
+
+/// Each P2M frame that a whole PV guest lists holds, once that is localised, the machine frames of its range, at whatever
+/// place it is listed, where numbers without a frame have no machine frame.
+#[tactic(auto, using(crate::proofs::ListedPages::listed_page))]
+pub fn localised_p2m_frames_are_filled()
+    ensures { (g : GuestOf) → IsWhole g → g.kind ≡ Pv → (mfn_of : ℕ → Option ℕ) → ((n : ℕ) → maps.get g.frames n ≡ None → mfn_of n ≡ None) → (k pfn : ℕ) → listed g.parts k ≡ Some pfn
+        → (frame : FrameOf) × (maps.get (localised mfn_of g).frames pfn ≡ Some frame) × (frame.page ≡ Some (p2m_page mfn_of k)) }
 {}
 
 /// A host is sound exactly where no row finds anything in the way.
