@@ -5,7 +5,7 @@ pub mod Slots
 pub mod Within
 pub mod EachValue
 pub mod PvGuests
-pub mod PvSample
+pub mod WorkedGuest
 pub mod Only
 pub mod BlankBytes
 pub mod BlankFrames

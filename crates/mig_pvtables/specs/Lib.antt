@@ -15,3 +15,4 @@ pub mod View
 pub mod Sound
 pub mod BlankSteps
 pub mod P2mMarks
+pub mod WorkedGuest

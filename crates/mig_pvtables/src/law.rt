@@ -14,6 +14,7 @@ ghost use Rattle.mig_pvtables.specs.Faults.{fault_of_guest};
 ghost use Rattle.mig_pvtables.specs.Tables.{fault_of_page_table};
 ghost use Rattle.mig_pvtables.specs.Whole.{IsWhole};
 ghost use Rattle.mig_pvtables.specs.WholePv.{IsWholePv};
+ghost use Rattle.mig_pvtables.specs.WorkedGuest.{worked_pv_guest};
 
 /// Of an HVM guest two causes are tried: that it has no context, and that it has too many frames.
 #[tactic(auto, using(crate::proofs::HvmGuests::hvm_fault))]
@@ -34,9 +35,15 @@ pub fn pv_guest_is_whole()
     ensures { (g : GuestOf) → g.kind ≡ Pv → IsWhole g ↔ IsWholePv g }
 {}
 
-/// Some PV guest is whole.
-pub fn some_pv_guest_is_whole()
-    ensures { (g : GuestOf) × (g.kind ≡ Pv) × IsWhole g }
+/// The PV guest of the worked stream is whole.
+#[tactic(auto, using(crate::proofs::WorkedGuest::worked_is_whole))]
+pub fn worked_pv_guest_is_whole()
+    ensures { IsWhole worked_pv_guest }
+{}
+
+/// Some whole PV guest is in its blank form.
+pub fn some_blank_pv_guest_is_whole()
+    ensures { (g : GuestOf) × (g.kind ≡ Pv) × IsWhole g × (blank g ≡ g) }
 {}
 
 /// A table has no fault in a stream exactly where none of its slots says a superpage or a frame above top.

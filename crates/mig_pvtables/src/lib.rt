@@ -22,8 +22,8 @@ pub use blanking::blank;
 pub use frames::Frames;
 pub use law::{
     blank_form_is_blank, blank_form_is_whole, faultless_table_is_within, hvm_guest_has_two_faults,
-    hvm_guest_is_blank, hvm_guest_is_whole, pv_guest_is_whole, some_pv_guest_is_whole,
-    whole_as_its_blank_form,
+    hvm_guest_is_blank, hvm_guest_is_whole, pv_guest_is_whole, some_blank_pv_guest_is_whole,
+    whole_as_its_blank_form, worked_pv_guest_is_whole,
 };
 pub use p2m::p2m_page;
 pub use rename::{BadEntry, Why, localise_table, normalise_table};
