@@ -1,7 +1,9 @@
-"""The part of the second reader that PV guests alone have: bodies, page tables, the whole guest, the blank form, records.
+"""The part of the second reader that PV guests alone have: bodies, page tables, the whole guest, the blank form, records,
+and what a guest becomes on restore.
 
 A guest's `top` is the greatest E so far, `p2m` the list of its P2M frames, `vcpus` has the context of (vCPU, record type).
 """
+import collections
 import struct
 
 from form import *
@@ -11,6 +13,7 @@ SHARED_BLANK = 3096, 3104                    # the bytes of SHARED_INFO that the
 RDX, GDT_FRAMES, GDT_ENTS, CTRLREG1, CTRLREG3 = 616, 4832, 4960, 4992, 5008     # offsets in a vCPU's context
 MOST_GDT_ENTS, VCPU_LIMIT = 7168, 4096
 L4_TABLES = 4, 12
+NO_FRAME = (1 << 64) - 1                     # in a slot of a P2M frame: the PFN has no frame
 
 
 def number_at(data, offset):
@@ -30,6 +33,10 @@ def level_of(kind):
 
 def frame_in(entry):
     return entry >> 12 & (1 << 40) - 1
+
+
+def with_frame(entry, frame):
+    return entry - (frame_in(entry) << 12) + (frame << 12)
 
 
 def present_entries(level, page):
@@ -170,3 +177,48 @@ def machine_records(guest):
     """What stands behind the pages and X86_TSC_INFO."""
     vcpus = [record(kind, struct.pack('<II', vcpu, 0), context) for (vcpu, kind), context in sorted(guest['vcpus'].items())]
     return [record(SHARED_INFO, guest['shared']), *vcpus]
+
+
+# ---- what a guest in blank form becomes on restore; `machine` has the machine frame of each PFN that has a frame
+
+def restored_table(level, page, machine):
+    for slot, entry in present_entries(level, page):
+        page = with_number(page, 8 * slot, with_frame(entry, machine[frame_in(entry)]))
+    return page
+
+
+def restored_p2m(index, machine):
+    """The page of a P2M frame that is listed at this index alone."""
+    return struct.pack('<512Q', *(machine.get(pfn, NO_FRAME) for pfn in range(512 * index, 512 * index + 512)))
+
+
+def restored_frames(guest, machine):
+    frames, listed = dict(guest['frames']), collections.Counter(guest['p2m'])
+    for pfn, (kind, page) in frames.items():
+        if level_of(kind):
+            frames[pfn] = kind, restored_table(level_of(kind), page, machine)
+    for index, pfn in enumerate(guest['p2m']):
+        frames[pfn] = NOTAB, restored_p2m(index, machine) if listed[pfn] == 1 else b'\xff' * PAGE
+    return frames
+
+
+def restored_context(vcpu, context, machine):
+    for field, pfn, _ in fields_of(vcpu, context):
+        frame = machine[pfn]
+        places = {0: (RDX, frame), 17: (CTRLREG3, frame * 4096), 18: (CTRLREG1, frame * 4096 + 1)}
+        context = with_number(context, *places.get(field, (GDT_FRAMES + 8 * (field - 1), frame)))
+    return context
+
+
+def restored(guest, machine):
+    vcpus = {(vcpu, kind): restored_context(vcpu, context, machine) if kind == BASIC else context
+             for (vcpu, kind), context in guest['vcpus'].items()}
+    return {**guest, 'frames': restored_frames(guest, machine), 'vcpus': vcpus}
+
+
+def parts_of(guest):
+    """The parts by their keys that PV guests alone have."""
+    parts = {(kind, vcpu, 0): context for (vcpu, kind), context in guest['vcpus'].items()}
+    parts[P2M_FRAMES, 0, 0] = struct.pack('<%dQ' % len(guest['p2m']), *guest['p2m'])
+    parts[SHARED_INFO, 0, 0] = guest['shared']
+    return parts

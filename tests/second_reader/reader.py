@@ -199,24 +199,31 @@ def part(key, data):
     return struct.pack('<IIII', *key, len(data)) + data + bytes(-len(data) % 8)
 
 
+def hvm_parts(guest):
+    params = {(PARAMS, index, 0): struct.pack('<Q', value) for index, value in guest['params'].items()}
+    return {(CONTEXT, 0, 0): guest['context'], **params}
+
+
 def parts_of(guest):
     """The parts by their keys: code and two numbers."""
-    parts = {(CONTEXT, 0, 0): guest['context']}
+    parts = (pv.parts_of if guest['kind'] == PV else hvm_parts)(guest)
     if 'tsc' in guest:
         parts[TSC_INFO, 0, 0] = guest['tsc']
-    parts.update(((PARAMS, index, 0), struct.pack('<Q', value)) for index, value in guest['params'].items())
     parts.update(((CPUID_POLICY, *key), rest) for key, rest in guest['cpuid'].items())
     parts.update(((MSR_POLICY, index, 0), rest) for index, rest in guest['msrs'].items())
     return parts
 
 
 def image(guest, base):
-    """The image of an HVM guest, with machine frames counted up from the base."""
-    frames, parts = sorted(guest['frames'].items()), sorted(parts_of(guest).items())
+    """The image of a guest, with machine frames counted up from the base."""
+    machine = {pfn: base + rank for rank, pfn in enumerate(sorted(guest['frames']))}
     width = max(guest['frames'], default=-1) + 1
-    out = [b'XGIMAGE1', struct.pack('<IIQQ', HVM, 0, width, len(frames))]
-    for rank, (pfn, (kind, page)) in enumerate(frames):
-        out.append(struct.pack('<IIQ', kind << 28 | pfn, 0, base + rank) + page)
+    if guest['kind'] == PV:
+        guest, width = pv.restored(guest, machine), guest['top'] + 1
+    frames, parts = sorted(guest['frames'].items()), sorted(parts_of(guest).items())
+    out = [b'XGIMAGE1', struct.pack('<IIQQ', guest['kind'], 0, width, len(frames))]
+    for pfn, (kind, page) in frames:
+        out.append(struct.pack('<IIQ', kind << 28 | pfn, 0, machine[pfn]) + page)
     return b''.join(out + [struct.pack('<Q', len(parts))] + [part(*it) for it in parts])
 
 
