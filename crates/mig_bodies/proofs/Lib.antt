@@ -5,6 +5,7 @@ pub mod Reading
 pub mod Rows
 pub mod Kept
 pub mod Small
+pub mod BodyBytes
 pub mod Canonical
 pub mod PvLaws
 pub mod P2mFormed

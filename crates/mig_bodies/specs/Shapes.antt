@@ -5,6 +5,7 @@ use Rattle.std.specs.List.{AllByRecursion}
 use Rattle.std.specs.Option.{option_or}
 use Rattle.std.specs.FinMap as maps
 use Rattle.byteorder.specs.Endian.{little_number, little_bytes}
+use Rattle.mig_bytes.specs.Bytes.{AreBytes}
 use Rattle.mig_headers.specs.declared.fault.Cause.{Cause}
 use Rattle.mig_headers.specs.declared.fault.Cause.TheVariants.{BadLength, GdtEnts, BadContext}
 use Rattle.mig_headers.specs.declared.fault.ContextFault.{ContextFault}
@@ -225,6 +226,10 @@ BodiesSayOne = (code : PartCode) (body : List ℕ) (ps qs : List Part) → IsBod
 abbrev pub BodiesSayParts : Type 0
 BodiesSayParts = (code : PartCode) (kind : Kind) (width : ℕ) (body : List ℕ) (ps : List Part) → (row_of code).of_kind kind ≡ true → HasBodyLength code (length body) → length body ≤ 2 ^ 27
     → IsBody code body ps → AllByRecursion (λ p. IsSmallKey p.0) ps → AreParts kind width (code_number code) ps
+
+-- the parts that a body of bytes says are of bytes
+abbrev pub BodiesSayBytes : Type 0
+BodiesSayBytes = (code : PartCode) (body : List ℕ) (ps : List Part) → IsBody code body ps → AreBytes body → AllByRecursion (λ p. AreBytes p.1) ps
 
 -- a guest that is well formed stays so, whatever body of a record of its kind is read
 abbrev pub BodiesKeepFormed : Type 0

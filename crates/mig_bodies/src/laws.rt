@@ -7,7 +7,7 @@ ghost use Rattle.mig_guest.specs.Guests.{GuestOf};
 ghost use Rattle.mig_guest.specs.PartKeys.{p2m_key};
 ghost use Rattle.mig_guest.specs.Formed.{IsFormed};
 ghost use Rattle.mig_bodies.specs.PvBodies.{IsPvInfo, fault_of_pv_info, IsP2m, fault_of_p2m, set_p2m, is_vcpu, fault_of_vcpu};
-ghost use Rattle.mig_bodies.specs.Shapes.{BodiesAreSpelled, BodiesSayOne, BodiesSayParts, BodiesKeepFormed, CanonicalBodiesSay, HasBodyLength, fault_of_body};
+ghost use Rattle.mig_bodies.specs.Shapes.{BodiesAreSpelled, BodiesSayOne, BodiesSayParts, BodiesSayBytes, BodiesKeepFormed, CanonicalBodiesSay, HasBodyLength, fault_of_body};
 
 /// The bodies without fault, and the parts that they set, are exactly those that are spelled so.
 #[tactic(auto, using(crate::proofs::Spelled::bodies_are_spelled))]
@@ -25,6 +25,12 @@ pub fn bodies_say_one_law()
 #[tactic(auto, using(crate::proofs::Kept::bodies_say_parts))]
 pub fn bodies_say_parts_law()
     ensures { BodiesSayParts }
+{}
+
+/// The parts that a body of bytes says are of bytes.
+#[tactic(auto, using(crate::proofs::BodyBytes::bodies_say_bytes))]
+pub fn bodies_say_bytes_law()
+    ensures { BodiesSayBytes }
 {}
 
 /// A guest that is well formed stays so, whatever body of a record of its kind is read.

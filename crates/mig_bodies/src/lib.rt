@@ -18,8 +18,9 @@ mod shape;
 mod table;
 
 pub use laws::{
-    bodies_are_spelled_law, bodies_keep_formed_law, bodies_say_one_law, bodies_say_parts_law,
-    canonical_bodies_law, p2m_keeps_formed_law, p2m_law, pv_info_law, vcpu_law,
+    bodies_are_spelled_law, bodies_keep_formed_law, bodies_say_bytes_law, bodies_say_one_law,
+    bodies_say_parts_law, canonical_bodies_law, p2m_keeps_formed_law, p2m_law, pv_info_law,
+    vcpu_law,
 };
 pub use layout::Layout;
 pub use pv::{p2m_fault, pv_info_fault, read_p2m, vcpu_fault};
