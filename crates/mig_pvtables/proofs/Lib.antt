@@ -18,6 +18,7 @@ pub mod BlankAgain
 pub mod BlankSays
 pub mod BlankShape
 pub mod BlankWhole
+pub mod BlankBytesKept
 pub mod BlankBack
 pub mod LongSteps
 pub mod Renamed
