@@ -1,13 +1,16 @@
 -- What reading keeps of a guest: each frame, part or list of P2M frames that is set leaves it on its way.
-use Rattle.mig_restore.proofs.Common.{◌≡◌, ◌≢◌, ℕ, ◌^◌, ◌≤◌, ◌<◌, List, [], ◌∷◌, length, Bool, true, false, cond, nat_le, nat_lt, nat_eq, Option, Some, None, is_some, refl, sym, ap, subst, ◌∙◌, AllByRecursion, same_Some, none-some, leb-false, ltb-false, ne_eqb, unwrap_or, Kind, Pv, Hvm, pfn_limit, type_has_data, PageType, AreParts, is_emulator_code, width_of, IsInside, EachEntry, IsWithin, GuestOf, Part, PartMap, p2m_key, part_cmp, empty_formed, frames_keep, record_row_of, type_number, type_of_number, RecordType, numbers_are_inverse, PartCode, row_of, code_number, shape_of, has_shape, fault_of_body, parts_of_body, set_parts, set_p2m, IsP2m, IsBody, HasBodyLength, bodies_are_spelled, code_of_type, meant_type, Sets, says_of_part, last_bytes, parts_say_of_part, policy_says_of_part, empty_guest, IsBegun, Grows}
+use Rattle.mig_restore.proofs.Common.{◌≡◌, ◌≢◌, ℕ, ◌^◌, ◌≤◌, ◌<◌, List, [], ◌∷◌, length, Bool, true, false, cond, nat_le, nat_lt, nat_eq, Option, Some, None, is_some, refl, sym, ap, subst, ◌∙◌, AllByRecursion, same_Some, none-some, leb-false, ltb-false, ne_eqb, unwrap_or, AreBytes, Kind, Pv, Hvm, pfn_limit, type_has_data, PageType, AreParts, is_emulator_code, width_of, IsInside, EachEntry, IsWithin, GuestOf, Part, PartMap, p2m_key, part_cmp, empty_formed, frames_keep, record_row_of, type_number, type_of_number, RecordType, numbers_are_inverse, PartCode, row_of, code_number, shape_of, has_shape, fault_of_body, parts_of_body, set_parts, set_p2m, IsP2m, IsBody, HasBodyLength, bodies_are_spelled, code_of_type, meant_type, Sets, says_of_part, last_bytes, parts_say_of_part, policy_says_of_part, empty_guest, IsBegun, Grows}
 use Rattle.std.proofs.lemmas.Bool.{or_parts}
 use Rattle.std.specs.FinMap as fin
 use Rattle.std.specs.Option.{option_map, option_or}
-use Rattle.std.specs.Ordering.{eq_by_cmp}
+use Rattle.std.specs.Ordering.{eq_by_cmp, nat_cmp}
+use Rattle.std.specs.Cmp.{nat_cmp_total}
+use Rattle.std.specs.FinMap.{nat_cmp-IsAntisymmetric}
 use Rattle.mig_pagetypes.specs.declared.page_type.PageType.TheVariants.{Xtab}
 use Rattle.mig_guest.specs.Formed.{is_policy}
-use Rattle.mig_guest.specs.Frames.{framed, is_type_of}
+use Rattle.mig_guest.specs.Frames.{FrameMap, FrameOf, framed, is_type_of}
 use Rattle.mig_guest.specs.declared.part_key.PartKey.{PartKey}
+use Rattle.mig_guest.proofs.Found.{Each, insert_holds, remove_holds}
 use Rattle.mig_guest.proofs.KeyedMaps.{tied}
 use Rattle.mig_guest.proofs.PartOrder.{part_total, part_exact}
 use Rattle.mig_guest.proofs.PartRows.{number_found}
@@ -15,6 +18,7 @@ use Rattle.mig_headers.specs.declared.record_type.RecordType.TheVariants.{End}
 use Rattle.mig_records.specs.Words.{is_outside}
 use Rattle.mig_bodies.specs.Layouts.{IsSmallKey}
 use Rattle.mig_bodies.specs.PvBodies.{listed_over}
+use Rattle.mig_bodies.proofs.BodyBytes.{bytes_back, bodies_say_bytes, sets_bytes, list_bytes}
 use Rattle.mig_bodies.proofs.Kept.{bodies_say_parts, bodies_keep_formed, set_plain, sets_nothing}
 use Rattle.mig_bodies.proofs.P2mFormed.{p2m_keeps}
 use Rattle.mig_restore.proofs.Meaning.{said}
@@ -36,6 +40,10 @@ empty_begun kind = record {
   formed = empty_formed kind;
   plain = λ key b got. absurd (none-some b (sym (fin.get-empty part_cmp key) ∙ got));
   start = λ none. refl;
+  bytes = record {
+    pages = λ pfn frame page got. absurd (none-some frame (sym (fin.get-empty nat_cmp pfn) ∙ got));
+    parts = λ key b got. absurd (none-some b (sym (fin.get-empty part_cmp key) ∙ got));
+  };
 }
 
 -- ---- frames
@@ -46,12 +54,24 @@ meant_is Pv _ there = refl
 meant_is Hvm Xtab there = absurd (there refl)
 meant_is Hvm _ there = refl
 
+-- the page of a frame is of bytes
+abbrev IsFrameOfBytes : ℕ → FrameOf → Type 0
+IsFrameOfBytes pfn frame = (page : List ℕ) → frame.page ≡ Some page → AreBytes page
+
+abbrev HoldsPages : FrameMap → Type 0
+HoldsPages m = Each nat_cmp_total nat_cmp-IsAntisymmetric IsFrameOfBytes m
+
+framed_bytes : (m : FrameMap) (pfn : ℕ) (type : PageType) (page : Option (List ℕ)) → ((bytes : List ℕ) → page ≡ Some bytes → AreBytes bytes) → HoldsPages m → HoldsPages (framed m pfn type page)
+framed_bytes m pfn Xtab page all before = remove_holds nat_cmp_total nat_cmp-IsAntisymmetric IsFrameOfBytes m pfn before
+framed_bytes m pfn _ page all before = insert_holds nat_cmp_total nat_cmp-IsAntisymmetric IsFrameOfBytes m pfn _ before all
+
 -- a frame that a word and its page may set
 pub record CanBeSet (g : GuestOf) (pfn : ℕ) (meant : PageType) (page : Option (List ℕ)) : Type 0 where
   pub small : pfn < pfn_limit
   pub inside : IsInside g.kind g.top pfn
   pub in_step : is_some page ≡ type_has_data meant
   pub whole : (bytes : List ℕ) → page ≡ Some bytes → length bytes ≡ 4096
+  pub all : (bytes : List ℕ) → page ≡ Some bytes → AreBytes bytes
   pub entries : EachEntry (IsWithin g.top) (record { type = meant; page = page })
 
 pub grows_frame : (g h : GuestOf) (t meant : PageType) (pfn : ℕ) (page : Option (List ℕ)) → meant ≡ meant_type g.kind t → CanBeSet g pfn meant page → h ≡ record g { frames = framed g.frames pfn meant page } → Grows g h
@@ -67,6 +87,10 @@ grows_frame g h t meant pfn page is can now = moved g (record g { frames = frame
     }) begun.formed;
     plain = begun.plain;
     start = begun.start;
+    bytes = record {
+      pages = λ n frame bytes got has. framed_bytes g.frames pfn meant page can.all (λ k f there p is. begun.bytes.pages k f p there is) n frame got bytes has;
+      parts = begun.bytes.parts;
+    };
   };
 })
 
@@ -130,9 +154,9 @@ list_before g code ps none = by (is_policy (code_number code)) refl (sym (said g
     by false is h = nothing (last_bytes p2m_key ps) (fin.get g.parts p2m_key) (ap (λ b. unwrap_or (cond b (policy_says_of_part p2m_key (code_number code) ps) (parts_say_of_part p2m_key ps)) (fin.get g.parts p2m_key)) (sym is) ∙ h)
 
 -- a body that sets parts of a code that is no emulator's
-pub grows_sets : (code : PartCode) (g h : GuestOf) (body : List ℕ) → (row_of code).of_kind g.kind ≡ true → is_emulator_code (code_number code) ≡ false → HasBodyLength code (length body) → length body ≤ 2 ^ 27
+pub grows_sets : (code : PartCode) (g h : GuestOf) (body : List ℕ) → (row_of code).of_kind g.kind ≡ true → is_emulator_code (code_number code) ≡ false → HasBodyLength code (length body) → length body ≤ 2 ^ 27 → AreBytes body
     → fault_of_body code body ≡ None → AllByRecursion (λ p. IsSmallKey p.0) (parts_of_body code body) → h ≡ record g { parts = set_parts code g.parts (parts_of_body code body) } → Grows g h
-grows_sets code g h body of_kind no_emulator has short fine small now = by (has_shape (shape_of code)) refl
+grows_sets code g h body of_kind no_emulator has short all fine small now = by (has_shape (shape_of code)) refl
   where
     by : (b : Bool) → has_shape (shape_of code) ≡ b → Grows g h
     by true shaped =
@@ -145,19 +169,21 @@ grows_sets code g h body of_kind no_emulator has short fine small now = by (has_
             formed = bodies_keep_formed code g body ps of_kind has short says small begun.formed;
             plain = set_plain code g.kind (width_of g) no_emulator g.parts ps are begun.plain;
             start = λ none. begun.start (list_before g code ps none);
+            bytes = record { pages = begun.bytes.pages; parts = sets_bytes code g.parts ps (bodies_say_bytes code body ps says all) begun.bytes.parts };
           };
         })
     by false other = moved g g h (now ∙ ap (λ (m : PartMap). record g { parts = m }) (sets_nothing code body other g.parts)) (grows_not g)
 
 -- ---- the list of P2M frames
 
-pub grows_list : (g h : GuestOf) (last : ℕ) (frames body : List ℕ) → g.kind ≡ Pv → IsP2m last frames body → h ≡ set_p2m last frames g → Grows g h
-grows_list g h last frames body pv is now = moved g (set_p2m last frames g) h now (record {
+pub grows_list : (g h : GuestOf) (last : ℕ) (frames body : List ℕ) → g.kind ≡ Pv → AreBytes body → IsP2m last frames body → h ≡ set_p2m last frames g → Grows g h
+grows_list g h last frames body pv all is now = moved g (set_p2m last frames g) h now (record {
   kind = refl;
   kept = λ begun. record {
     formed = p2m_keeps g pv begun.formed begun.start last frames body is;
     plain = λ key bytes got. by key bytes (eq_by_cmp part_cmp key p2m_key) refl (begun.plain key bytes) (sym (fin.get-insert part_total g.parts p2m_key (listed_over frames (fin.get g.parts p2m_key)) key) ∙ got);
     start = λ none. absurd (none-some _ (sym none ∙ fin.get-insert part_total g.parts p2m_key (listed_over frames (fin.get g.parts p2m_key)) p2m_key));
+    bytes = record { pages = begun.bytes.pages; parts = list_bytes last frames g (bytes_back is.front frames (subst AreBytes is.whole all)) begun.bytes.parts };
   };
 })
   where

@@ -17,7 +17,7 @@ use Rattle.mig_guest.specs.PartKeys.{p2m_key}
 use Rattle.mig_guest.specs.Parts.{Part}
 use Rattle.mig_bodies.specs.Shapes.{set_parts}
 use Rattle.mig_bodies.specs.PvBodies.{set_p2m}
-use Rattle.mig_pvtables.specs.Blank.{blank}
+use Rattle.mig_pvtables.specs.Blank.{blank, IsOfBytes}
 use Rattle.mig_pvtables.specs.P2mFrames.{listed_in}
 use Rattle.mig_restore.specs.Record.{FrameEntry, StreamRecord, Content}
 use Rattle.mig_restore.specs.Record.Content.{Nothing, Frames, Sets, Lists}
@@ -135,11 +135,12 @@ ends_of (r ∷ rs) = ends_in r.content ++ ends_of rs
 
 -- ---- what reading keeps of a guest, whatever records come
 
--- a guest on its way: well formed, without emulator parts, and with top 0 before any P2M frames are listed
+-- a guest on its way: well formed, without emulator parts, with top 0 before any P2M frames are listed, and of bytes
 pub record IsBegun (g : GuestOf) : Type 0 where
   pub formed : IsFormed g
   pub plain : HasNoEmulators g.parts
   pub start : maps.get g.parts p2m_key ≡ None → g.top ≡ 0
+  pub bytes : IsOfBytes g
 
 -- reading leads from one guest to another: the kind stays, and a guest that is on its way stays so
 pub record Grows (g h : GuestOf) : Type 0 where

@@ -1,5 +1,6 @@
 ghost use Rattle.std.specs.Prelude.{◌≡◌, ◌≤◌, ◌^◌, ◌*◌, IfOk, OnOk, IsErrOf, length, vec_len, true, false, None, Some};
 ghost use Rattle.std.specs.List.{All, AllByRecursion};
+ghost use Rattle.mig_bytes.specs.Bytes.{AreBytes};
 ghost use Rattle.mig_bytes.specs.Faults.{RisesOnReadFault};
 ghost use Rattle.mig_bytes.specs.Judged.{Gives, each};
 ghost use Rattle.mig_bytes.specs.declared.part.Stop.TheVariants.{Memory};
@@ -28,6 +29,11 @@ use mig_pagetypes::{PageType, decode_word};
 use mig_pvtables::check_table;
 use mig_records::{RecordHead, count_fault, data_len, words_fault};
 use std::alloc::{AllocError, Global};
+
+/// Does nothing. That bytes are below 256 is what makes a guest that they are set in one of bytes.
+fn are_bytes(bytes: &[u8])
+    ensures { AreBytes bytes.now }
+{}
 
 // ---- parts
 
@@ -76,6 +82,7 @@ fn take_sets<S: Source>(
     if let Some(cause) = sets_fault(code, &body) {
         return Err(Stop::Refused(cause));
     }
+    are_bytes(&body);
     match set_parts(guest, code, &body) {
         Ok(()) => Ok(()),
         Err(_) => Err(Stop::Memory),
@@ -115,6 +122,7 @@ fn take_p2m<S: Source>(
     if let Some(cause) = p2m_fault(&body) {
         return Err(Stop::Refused(cause));
     }
+    are_bytes(&body);
     match read_p2m(guest, &body) {
         Ok(()) => Ok(()),
         Err(_) => Err(Stop::Memory),
@@ -232,6 +240,7 @@ fn take_entry<S: Source>(
     if let Some(cause) = page_fault(kind, &page, place, guest.top()) {
         return Err(Stop::Refused(cause));
     }
+    are_bytes(&page);
     match guest.set_frame(pfn_in(word), kind, Some(&page)) {
         Ok(()) => Ok(()),
         Err(_) => Err(Stop::Memory),

@@ -7,7 +7,7 @@ ghost use Rattle.mig_headers.specs.declared.fault.Place.{Place};
 ghost use Rattle.mig_headers.specs.declared.kind.Kind.{Kind};
 ghost use Rattle.mig_guest.specs.Formed.{HasNoEmulators};
 ghost use Rattle.mig_guest.specs.PartKeys.{p2m_key};
-ghost use Rattle.mig_pvtables.specs.Blank.{blank};
+ghost use Rattle.mig_pvtables.specs.Blank.{blank, IsOfBytes};
 ghost use Rattle.mig_guest.specs.Guests.{GuestOf};
 ghost use Rattle.mig_pvtables.specs.P2mFrames.{listed};
 ghost use Rattle.mig_pvtables.specs.Whole.{IsWhole};
@@ -50,10 +50,10 @@ pub fn one_front()
         → (g ≡ h) × (rest ≡ more) }
 {}
 
-/// An accepted guest of an input of bytes is whole and in its blank form, and has no emulator parts.
+/// An accepted guest of an input of bytes is whole, in its blank form and of bytes, and has no emulator parts.
 pub fn accepted_is_whole()
     ensures { (input : List ℕ) (guest : GuestOf) (rest : List ℕ) → AreBytes input → Accepted input guest rest
-        → IsWhole guest × (blank guest ≡ guest) × HasNoEmulators guest.parts }
+        → IsWhole guest × (blank guest ≡ guest) × IsOfBytes guest × HasNoEmulators guest.parts }
 {}
 
 /// Of each frame number the last entry in stream order decides what was sent: it says the frame's type and page, or that

@@ -5,7 +5,7 @@ ghost use Rattle.mig_bytes.specs.Judged.{Gives, part};
 ghost use Rattle.mig_bytes.specs.declared.part.Stop.TheVariants.{Memory};
 ghost use Rattle.mig_headers.specs.declared.fault.Cause.TheVariants.{Truncated};
 ghost use Rattle.mig_guest.specs.Formed.{HasNoEmulators};
-ghost use Rattle.mig_pvtables.specs.Blank.{blank as blank_form};
+ghost use Rattle.mig_pvtables.specs.Blank.{blank as blank_form, IsOfBytes};
 ghost use Rattle.mig_pvtables.specs.Faults.{fault_of_guest};
 ghost use Rattle.mig_pvtables.specs.Whole.{IsWhole};
 ghost use Rattle.mig_restore.specs.Mean.{sent, put_record, IsBegun, Grows};
@@ -107,6 +107,7 @@ fn read_records<S: Source>(
     ensures read { Gives IsReading (S.left src.old) (S.left src.new) (records_at (opening_of version kind)) result }
     ensures whole { IfOk result (λ reading. IsWhole reading.guest) }
     ensures blank { IfOk result (λ reading. blank_form reading.guest ≡ reading.guest) }
+    ensures bytes { IfOk result (λ reading. IsOfBytes reading.guest) }
     ensures plain { IfOk result (λ reading. HasNoEmulators reading.guest.parts) }
     ensures faults { RisesOnReadFault (S.faults src.old) (S.faults src.new) result }
 {
@@ -197,6 +198,7 @@ fn read_parts<S: Source>(alloc: Global, src: &mut S) -> Result<Reading, Stop<(Pl
     ensures read { Gives IsReading (S.left src.old) (S.left src.new) image_at result }
     ensures whole { IfOk result (λ reading. IsWhole reading.guest) }
     ensures blank { IfOk result (λ reading. blank_form reading.guest ≡ reading.guest) }
+    ensures bytes { IfOk result (λ reading. IsOfBytes reading.guest) }
     ensures plain { IfOk result (λ reading. HasNoEmulators reading.guest.parts) }
     ensures faults { RisesOnReadFault (S.faults src.old) (S.faults src.new) result }
 {
@@ -211,6 +213,7 @@ pub fn read_image<S: Source>(alloc: Global, src: &mut S) -> Result<Reading, Stre
     ensures read { ReadsImage (S.left src.old) (S.left src.new) result }
     ensures whole { IfOk result (λ reading. IsWhole reading.guest) }
     ensures blank { IfOk result (λ reading. blank_form reading.guest ≡ reading.guest) }
+    ensures bytes { IfOk result (λ reading. IsOfBytes reading.guest) }
     ensures plain { IfOk result (λ reading. HasNoEmulators reading.guest.parts) }
     ensures faults { RisesOnReadFault (S.faults src.old) (S.faults src.new) (or_stop result) }
 {

@@ -1,4 +1,4 @@
-use Rattle.mig_restore.proofs.Common.{◌≡◌, ◌<◌, ℕ, pfn_limit, IsInside, IsWithin, entry, List, Option, Some, None, Err, Ok, true, false, length, refl, ap, sym, subst, ◌∙◌, rules, none-some, same_Some, part, Gives, Passes, done, Cause, Truncated, Kind, GuestOf, PageType, level_of, word_pfn, word_has_data, FrameEntry, type_in_word, fault_of_level, fault_of_page, meant_type, entry_at}
+use Rattle.mig_restore.proofs.Common.{◌≡◌, ◌<◌, ℕ, pfn_limit, IsInside, IsWithin, entry, List, Option, Some, None, Err, Ok, true, false, length, refl, ap, sym, subst, ◌∙◌, rules, AreBytes, none-some, same_Some, part, Gives, Passes, done, Cause, Truncated, Kind, GuestOf, PageType, level_of, word_pfn, word_has_data, FrameEntry, type_in_word, fault_of_level, fault_of_page, meant_type, entry_at}
 use Rattle.mig_bytes.specs.declared.part.Stop.TheVariants.{Refused}
 use Rattle.mig_restore.proofs.Growth.{word_inside, grows_frame}
 use Rattle.mig_restore.proofs.Meaning.{entry_set}
@@ -53,6 +53,7 @@ returns-in-Ok-clause-grown g c =
       inside = subst (IsInside c.args.guest.now.kind c.args.guest.now.top) (sym c.pfn_in.ensures) inside.1;
       in_step = search rules;
       whole = λ bytes e. absurd (none-some bytes e);
+      all = λ bytes e. absurd (none-some bytes e);
       entries = λ level page lev has. absurd (none-some page has);
     }) c.in-Ok.ensures.ok
 
@@ -66,5 +67,6 @@ returns-in-Ok-set_frame-clause-grown g c =
       inside = subst (IsInside c.args.guest.now.kind c.args.guest.now.top) (sym c.pfn_in-2.ensures) inside.1;
       in_step = search rules;
       whole = λ bytes e. ap length (sym (same_Some page bytes e)) ∙ search rules;
+      all = λ bytes e. subst AreBytes (same_Some page bytes e) c.are_bytes.ensures;
       entries = λ level bytes lev has slot lt. subst (λ b. IsWithin c.args.guest.now.top (entry level b slot)) (same_Some page bytes has) ((level_within c.args.guest.now.top c.args.place (level_of c.meant-kind.result) page).0 fine level lev slot lt);
     }) c.in-Ok-set_frame.ensures.ok

@@ -1,9 +1,10 @@
 use Rattle.mig_restore.proofs.Common.{refl, rules, subst, sym, ◌≡◌, ◌∙◌, Err, GuestOf, Gives, records_at, IsReading, opening_of, HasNoEmulators, IsBegun}
-use Rattle.mig_pvtables.specs.Blank.{blank}
+use Rattle.mig_pvtables.specs.Blank.{blank, IsOfBytes}
 use Rattle.mig_pvtables.specs.Whole.{IsWhole}
 use Rattle.mig_restore.specs.declared.read.Reading.{Reading}
 use Rattle.mig_restore.proofs.Arrivals.{arrived_first, arrived_next, arrived_end, arrived_stopped}
 use Rattle.mig_pvtables.proofs.BlankAgain.{blank_again}
+use Rattle.mig_pvtables.proofs.BlankBytesKept.{blank_bytes}
 use Rattle.mig_pvtables.proofs.BlankWhole.{whole_blank, blank_plain}
 use Rattle.mig_restore.proofs.Growth.{empty_begun}
 use Rattle.mig_restore.proofs.read.read_records.Goals as goal
@@ -40,6 +41,9 @@ returns-then-over-clause-whole g c =
 
 pub returns-then-over-clause-blank : goal.returns-then-over-clause-blank
 returns-then-over-clause-blank g c = subst (λ (x : GuestOf). blank x ≡ x) (sym c.blank.ensures) (blank_again c.read_next.new.guest)
+
+pub returns-then-over-clause-bytes : goal.returns-then-over-clause-bytes
+returns-then-over-clause-bytes g c = subst IsOfBytes (sym c.blank.ensures) (blank_bytes c.read_next.new.guest (c.in-Ok.ensures.grown.kept c.records.invariant.begun).bytes)
 
 pub returns-then-over-clause-plain : goal.returns-then-over-clause-plain
 returns-then-over-clause-plain g c = subst (λ (x : GuestOf). HasNoEmulators x.parts) (sym c.blank.ensures) (blank_plain c.read_next.new.guest (c.in-Ok.ensures.grown.kept c.records.invariant.begun).plain)
