@@ -1,7 +1,6 @@
 -- The blank form of a guest of bytes is of bytes.
-use Rattle.mig_pvtables.proofs.Common.{◌≡◌, ℕ, zero, suc, ◌+◌, ◌%◌, ◌<◌, Bool, true, false, cond, List, [], ◌∷◌, length, Option, Some, None, replicate, ap, subst, ◌∙◌, arith, ◌==◌, nat_cmp_total, nat_cmp-IsAntisymmetric, Pv, Hvm, level_of, PartKey, FrameOf, GuestOf, blanked_table, part_total, part_exact, blanked_page, blanked_frame, blanked_part, blank_of, blank, IsOfBytes, place_of, blanked_context, blanked_shared}
+use Rattle.mig_pvtables.proofs.Common.{◌≡◌, ℕ, zero, suc, ◌%◌, ◌<◌, Bool, true, false, cond, List, Option, Some, None, ap, subst, ◌∙◌, arith, ◌==◌, nat_cmp_total, nat_cmp-IsAntisymmetric, Pv, Hvm, level_of, FrameOf, GuestOf, blanked_table, part_total, part_exact, blanked_page, blanked_frame, blanked_part, blank_of, blank, IsOfBytes, place_of, blanked_context, blanked_shared}
 use Rattle.std.proofs.lemmas.List.Elements.{All-nil, All-cons, All-append, All-replicate}
-use Rattle.std.specs.FinMap as maps
 use Rattle.std.specs.Int.{bytes_low_first, byte_at}
 use Rattle.byteorder.specs.Endian.{little_bytes}
 use Rattle.mig_bytes.specs.Bytes.{AreBytes}
