@@ -58,13 +58,13 @@ module _ (code : ℕ) where
   unfolding is_next
   next_from after key a b = and_from (key.code == code) (is_above after key) a b
 
-module _ (code : ℕ) (f : List ℕ → List ℕ) (m : PartMap) where
+module _ (code : ℕ) (f : PartKey → List ℕ → List ℕ) (m : PartMap) where
   none_reached : each_value (blanked_up_to code f None) m ≡ m
-  none_reached = each_same part_total part_exact (blanked_up_to code f None) m (λ q x is. by_code (q.code == code) x)
+  none_reached = each_same part_total part_exact (blanked_up_to code f None) m (λ q x is. by_code (q.code == code) q x)
     where
-      by_code : (b : Bool) (x : List ℕ) → cond (b && false) (f x) x ≡ x
-      by_code true x = refl
-      by_code false x = refl
+      by_code : (b : Bool) (q : PartKey) (x : List ℕ) → cond (b && false) (f q x) x ≡ x
+      by_code true q x = refl
+      by_code false q x = refl
 
   module _ (after : Option PartKey) where
     abbrev now : PartMap
@@ -85,10 +85,10 @@ module _ (code : ℕ) (f : List ℕ → List ℕ) (m : PartMap) where
         by_code q x (q.code == code) refl (is_above after q) refl
         (λ t. there q x is (none_passes part_total part_exact now (is_next code after) (sym (by_test code after (maps.entries now)) ∙ none) q t)))
       where
-        by_code : (q : PartKey) (x : List ℕ) (b : Bool) → (q.code == code) ≡ b → (u : Bool) → is_above after q ≡ u → (is_next code after q ≡ true → ⊥) → cond (b && is_reached after q) (f x) x ≡ cond b (f x) x
+        by_code : (q : PartKey) (x : List ℕ) (b : Bool) → (q.code == code) ≡ b → (u : Bool) → is_above after q ≡ u → (is_next code after q ≡ true → ⊥) → cond (b && is_reached after q) (f q x) x ≡ cond b (f q x) x
         by_code q x false e u a never = refl
         by_code q x true e true a never = absurd (never (next_from code after q e a))
-        by_code q x true e false a never = ap (λ r. cond r (f x) x) (reached_is after q ∙ ap not a)
+        by_code q x true e false a never = ap (λ r. cond r (f q x) x) (reached_is after q ∙ ap not a)
 
     module _ (e : Part) (next : parts_after code after (maps.entries now) ≡ e ∷ parts_after code (Some e.0) (maps.entries now)) where
       found : (is_next code after e.0 ≡ true) × (maps.get now e.0 ≡ Some e.1) × ((k : PartKey) → is_next code after k ≡ true → part_cmp k e.0 ≡ Less → maps.get now k ≡ None)
@@ -112,25 +112,25 @@ module _ (code : ℕ) (f : List ℕ → List ℕ) (m : PartMap) where
               by_order false l = refl
               by_order true l = sym down ∙ above_up after e.0 q (next_parts code after e.0 found.0).1 l
 
-      next_reached : each_value (only part_cmp e.0 f) now ≡ each_value (blanked_up_to code f (Some e.0)) m
-      next_reached = then_only part_total part_exact m e.0 f (blanked_up_to code f after) (blanked_up_to code f (Some e.0)) (λ q x is.
-          by_key part_total part_exact (λ b. cond b (f (blanked_up_to code f after q x)) (blanked_up_to code f after q x) ≡ blanked_up_to code f (Some e.0) q x) q e.0
-          (λ same. subst (λ k. f (blanked_up_to code f after k x) ≡ blanked_up_to code f (Some e.0) k x) (sym same) (here x))
+      next_reached : each_value (only part_cmp e.0 (f e.0)) now ≡ each_value (blanked_up_to code f (Some e.0)) m
+      next_reached = then_only part_total part_exact m e.0 (f e.0) (blanked_up_to code f after) (blanked_up_to code f (Some e.0)) (λ q x is.
+          by_key part_total part_exact (λ b. cond b (f e.0 (blanked_up_to code f after q x)) (blanked_up_to code f after q x) ≡ blanked_up_to code f (Some e.0) q x) q e.0
+          (λ same. subst (λ k. f e.0 (blanked_up_to code f after k x) ≡ blanked_up_to code f (Some e.0) k x) (sym same) (here x))
           (λ ne. by_code q x is ne (q.code == code) refl))
         where
-          here : (x : List ℕ) → f (blanked_up_to code f after e.0 x) ≡ blanked_up_to code f (Some e.0) e.0 x
+          here : (x : List ℕ) → f e.0 (blanked_up_to code f after e.0 x) ≡ blanked_up_to code f (Some e.0) e.0 x
           here x =
               let coded : (e.0.code == code) ≡ true = eq-eqb e.0.code code next_code in
               let fresh : is_reached after e.0 ≡ false = reached_is after e.0 ∙ ap not (next_parts code after e.0 found.0).1 in
-              (λ i. f (cond (coded i && fresh i) (f x) x)) ∙ sym (λ i. cond (coded i && not (not_itself part_total e.0 i)) (f x) x)
+              (λ i. f e.0 (cond (coded i && fresh i) (f e.0 x) x)) ∙ sym (λ i. cond (coded i && not (not_itself part_total e.0 i)) (f e.0 x) x)
 
-          by_code : (q : PartKey) (x : List ℕ) → maps.get m q ≡ Some x → eq_by_cmp part_cmp q e.0 ≡ false → (b : Bool) → (q.code == code) ≡ b → cond (b && is_reached after q) (f x) x ≡ cond (b && is_reached (Some e.0) q) (f x) x
+          by_code : (q : PartKey) (x : List ℕ) → maps.get m q ≡ Some x → eq_by_cmp part_cmp q e.0 ≡ false → (b : Bool) → (q.code == code) ≡ b → cond (b && is_reached after q) (f q x) x ≡ cond (b && is_reached (Some e.0) q) (f q x) x
           by_code q x is ne false coded = refl
-          by_code q x is ne true coded = ap (λ r. cond r (f x) x) (as_before q x is ne coded)
+          by_code q x is ne true coded = ap (λ r. cond r (f q x) x) (as_before q x is ne coded)
 
 -- ---- of a guest
 
-module _ (g : GuestOf) (code : ℕ) (f : List ℕ → List ℕ) where
+module _ (g : GuestOf) (code : ℕ) (f : PartKey → List ℕ → List ℕ) where
   pub code_start : g ≡ WithParts g (each_value (blanked_up_to code f None) g.parts)
   code_start = ap (WithParts g) (sym (none_reached code f g.parts))
 
@@ -145,8 +145,8 @@ module _ (g : GuestOf) (code : ℕ) (f : List ℕ → List ℕ) where
       next_now : parts_after code after (maps.entries there_now) ≡ e ∷ parts_after code (Some e.0) (maps.entries there_now)
       next_now = subst (λ (s : GuestOf). parts_after code after (maps.entries s.parts) ≡ e ∷ parts_after code (Some e.0) (maps.entries s.parts)) is next
 
-      pub code_next : (new : GuestOf) → new ≡ OnlyPart f now e.0 → new ≡ WithParts g (each_value (blanked_up_to code f (Some e.0)) g.parts)
-      code_next new one = one ∙ ap (λ (s : GuestOf). OnlyPart f s e.0) is ∙ ap (WithParts g) (next_reached code f g.parts after e next_now)
+      pub code_next : (new : GuestOf) → new ≡ OnlyPart (f e.0) now e.0 → new ≡ WithParts g (each_value (blanked_up_to code f (Some e.0)) g.parts)
+      code_next new one = one ∙ ap (λ (s : GuestOf). OnlyPart (f e.0) s e.0) is ∙ ap (WithParts g) (next_reached code f g.parts after e next_now)
 
       pub code_is : e.0.code ≡ code
       code_is = next_code code f g.parts after e next_now
@@ -155,7 +155,7 @@ module _ (g : GuestOf) (code : ℕ) (f : List ℕ → List ℕ) where
       code_fewer = fewer code f g.parts after e next_now
 
       -- a length that all parts of the code have, and keep
-      pub code_long : (n : ℕ) → ((x : List ℕ) → length (f x) ≡ n) → ((key : PartKey) (x : List ℕ) → maps.get g.parts key ≡ Some x → key.code ≡ code → length x ≡ n) → IfSome (maps.get now.parts e.0) (λ x. length x ≡ n)
+      pub code_long : (n : ℕ) → ((key : PartKey) (x : List ℕ) → length (f key x) ≡ n) → ((key : PartKey) (x : List ℕ) → maps.get g.parts key ≡ Some x → key.code ≡ code → length x ≡ n) → IfSome (maps.get now.parts e.0) (λ x. length x ≡ n)
       code_long n keeps long =
           subst (λ o. IfSome o (λ x. length x ≡ n)) (sym (ap (λ (s : GuestOf). maps.get s.parts e.0) is ∙ get_each part_total part_exact (blanked_up_to code f after) g.parts e.0))
           (elim (maps.get g.parts e.0) as (λ o. maps.get g.parts e.0 ≡ o → IfSome (option_map (blanked_up_to code f after e.0) o) (λ x. length x ≡ n)) [
@@ -163,6 +163,6 @@ module _ (g : GuestOf) (code : ℕ) (f : List ℕ → List ℕ) where
             | Some x ↦ λ has. either ((e.0.code == code) && is_reached after e.0) x (long e.0 x has code_is)
           ] refl)
         where
-          either : (b : Bool) (x : List ℕ) → length x ≡ n → length (cond b (f x) x) ≡ n
-          either true x size = keeps x
+          either : (b : Bool) (x : List ℕ) → length x ≡ n → length (cond b (f e.0 x) x) ≡ n
+          either true x size = keeps e.0 x
           either false x size = size

@@ -18,7 +18,7 @@ page_in o = option_and_then (λ (f : FrameOf). f.page) o
 
 module _ (m : FrameMap) (pfn : ℕ) (h : FrameOf → FrameOf) where
   -- its page was written
-  page_written : (p w : List ℕ) → Some p ≡ option_and_then (λ (f : FrameOf). f.page) (maps.get m pfn) → length w ≡ 4096
+  pub page_written : (p w : List ℕ) → Some p ≡ option_and_then (λ (f : FrameOf). f.page) (maps.get m pfn) → length w ≡ 4096
       → ((f : FrameOf) → maps.get m pfn ≡ Some f → f.page ≡ Some p → h f ≡ record { type = f.type; page = Some w }) → with_page m pfn w ≡ OnlyFrame h m pfn
   page_written p w has size is = elim (maps.get m pfn) as (λ o. maps.get m pfn ≡ o → Some p ≡ option_and_then (λ (f : FrameOf). f.page) o → repaged o m pfn w ≡ OnlyFrame h m pfn) [
     | None ↦ λ e at. let no : Some p ≡ None = at in cc
@@ -28,7 +28,7 @@ module _ (m : FrameMap) (pfn : ℕ) (h : FrameOf → FrameOf) where
   ] refl has
 
   -- it has no page, or isn't there
-  no_page : None ≡ option_and_then (λ (f : FrameOf). f.page) (maps.get m pfn) → ((f : FrameOf) → f.page ≡ None → h f ≡ f) → m ≡ OnlyFrame h m pfn
+  pub no_page : None ≡ option_and_then (λ (f : FrameOf). f.page) (maps.get m pfn) → ((f : FrameOf) → f.page ≡ None → h f ≡ f) → m ≡ OnlyFrame h m pfn
   no_page none stays = only_stays nat_cmp_total nat_cmp-IsAntisymmetric m pfn h (λ f is. stays f (sym (none ∙ ap page_in is)))
 
 abbrev pub WithFrames : GuestOf → FrameMap → GuestOf

@@ -33,30 +33,30 @@ module _ (g : GuestOf) (formed : IsFormed g) where
   sole_page key bytes is code = let one = of_part SharedInfo g.kind (width_of g) (key, bytes) (formed.parts key bytes is) code in sole SharedInfo (width_of g) (key, bytes) one one.keys
 
   -- it is still as long once the contexts are blank
-  pub page_still : IfSome (maps.get (each_value (blanked_code 4 blanked_context) g.parts) shared_key) (λ page. length page ≡ 4096)
-  page_still = subst (λ o. IfSome o (λ page. length page ≡ 4096)) (sym (get_each part_total part_exact (blanked_code 4 blanked_context) g.parts shared_key))
+  pub page_still : IfSome (maps.get (each_value (blanked_code 4 (λ _. blanked_context)) g.parts) shared_key) (λ page. length page ≡ 4096)
+  page_still = subst (λ o. IfSome o (λ page. length page ≡ 4096)) (sym (get_each part_total part_exact (blanked_code 4 (λ _. blanked_context)) g.parts shared_key))
       (elim (maps.get g.parts shared_key) as (λ o. maps.get g.parts shared_key ≡ o → IfSome (option_map (λ (x : List ℕ). x) o) (λ page. length page ≡ 4096)) [ None ↦ λ is. tt | Some page ↦ λ is. page_long page is ] refl)
 
-  parts_blanked : each_value (only part_cmp shared_key blanked_shared) (each_value (blanked_code 4 blanked_context) g.parts) ≡ each_value blanked_part g.parts
-  parts_blanked = then_only part_total part_exact g.parts shared_key blanked_shared (blanked_code 4 blanked_context) blanked_part (λ q x is.
-      by_key part_total part_exact (λ b. cond b (blanked_shared (blanked_code 4 blanked_context q x)) (blanked_code 4 blanked_context q x) ≡ blanked_part q x) q shared_key
-      (λ e. subst (λ k. blanked_shared (blanked_code 4 blanked_context k x) ≡ blanked_part k x) (sym e) refl)
+  parts_blanked : each_value (only part_cmp shared_key blanked_shared) (each_value (blanked_code 4 (λ _. blanked_context)) g.parts) ≡ each_value blanked_part g.parts
+  parts_blanked = then_only part_total part_exact g.parts shared_key blanked_shared (blanked_code 4 (λ _. blanked_context)) blanked_part (λ q x is.
+      by_key part_total part_exact (λ b. cond b (blanked_shared (blanked_code 4 (λ _. blanked_context) q x)) (blanked_code 4 (λ _. blanked_context) q x) ≡ blanked_part q x) q shared_key
+      (λ e. subst (λ k. blanked_shared (blanked_code 4 (λ _. blanked_context) k x) ≡ blanked_part k x) (sym e) refl)
       (λ ne. ap (λ b. cond (q.code == 4) (blanked_context x) (cond b (blanked_shared x) x)) (sym (false_from_ne_true (q.code == 7) (λ t.
       let no : true ≡ false = sym (ap (λ k. eq_by_cmp part_cmp k shared_key) (sole_page q x is (eqb-true q.code 7 t)) ∙ alike part_total part_exact shared_key) ∙ ne in cc)))))
 
   -- one step after another
   pub all_blanked : (a b c d : GuestOf) → g.kind ≡ Pv → a ≡ record g { frames = each_value (λ _ f. with_table_blanked f) g.frames } → b ≡ record a { frames = each_value (where_listed a.parts with_zero_page) a.frames }
-      → c ≡ record b { parts = each_value (blanked_code 4 blanked_context) b.parts } → d ≡ record c { parts = each_value (only part_cmp shared_key blanked_shared) c.parts } → d ≡ blank g
+      → c ≡ record b { parts = each_value (blanked_code 4 (λ _. blanked_context)) b.parts } → d ≡ record c { parts = each_value (only part_cmp shared_key blanked_shared) c.parts } → d ≡ blank g
   all_blanked a b c d kind one two three four =
       four ∙ ap (λ (s : GuestOf). record s { parts = each_value (only part_cmp shared_key blanked_shared) s.parts }) three
-      ∙ ap (λ (s : GuestOf). record s { parts = each_value (only part_cmp shared_key blanked_shared) (each_value (blanked_code 4 blanked_context) s.parts) }) two
-      ∙ ap (λ (s : GuestOf). record s { frames = each_value (where_listed s.parts with_zero_page) s.frames; parts = each_value (only part_cmp shared_key blanked_shared) (each_value (blanked_code 4 blanked_context) s.parts) }) one
+      ∙ ap (λ (s : GuestOf). record s { parts = each_value (only part_cmp shared_key blanked_shared) (each_value (blanked_code 4 (λ _. blanked_context)) s.parts) }) two
+      ∙ ap (λ (s : GuestOf). record s { frames = each_value (where_listed s.parts with_zero_page) s.frames; parts = each_value (only part_cmp shared_key blanked_shared) (each_value (blanked_code 4 (λ _. blanked_context)) s.parts) }) one
       ∙ (λ i. record g { frames = frames_blanked g i; parts = parts_blanked i }) ∙ ap (λ k. blank_of k g) (sym kind)
 
   -- what is there of the shared page on the way
   pub page_on_way : (a b c : GuestOf) → a ≡ record g { frames = each_value (λ _ f. with_table_blanked f) g.frames } → b ≡ record a { frames = each_value (where_listed a.parts with_zero_page) a.frames }
-      → c ≡ record b { parts = each_value (blanked_code 4 blanked_context) b.parts } → IfSome (maps.get c.parts shared_key) (λ page. length page ≡ 4096)
+      → c ≡ record b { parts = each_value (blanked_code 4 (λ _. blanked_context)) b.parts } → IfSome (maps.get c.parts shared_key) (λ page. length page ≡ 4096)
   page_on_way a b c one two three =
-      let parts : c.parts ≡ each_value (blanked_code 4 blanked_context) g.parts =
-      ap (λ (s : GuestOf). s.parts) three ∙ ap (λ (s : GuestOf). each_value (blanked_code 4 blanked_context) s.parts) two ∙ ap (λ (s : GuestOf). each_value (blanked_code 4 blanked_context) s.parts) one in
+      let parts : c.parts ≡ each_value (blanked_code 4 (λ _. blanked_context)) g.parts =
+      ap (λ (s : GuestOf). s.parts) three ∙ ap (λ (s : GuestOf). each_value (blanked_code 4 (λ _. blanked_context)) s.parts) two ∙ ap (λ (s : GuestOf). each_value (blanked_code 4 (λ _. blanked_context)) s.parts) one in
       subst (λ (m : PartMap). IfSome (maps.get m shared_key) (λ page. length page ≡ 4096)) (sym parts) page_still

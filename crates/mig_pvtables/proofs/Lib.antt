@@ -30,5 +30,8 @@ pub mod LocalisedGuests
 pub mod SoundGuests
 pub mod ListedPages
 pub mod HostViews
+pub mod LocaliseFrames
+pub mod LocaliseContexts
+pub mod LocaliseGuests
 pub mod Walks
 pub mod P2mWalks

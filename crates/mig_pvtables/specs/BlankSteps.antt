@@ -34,8 +34,8 @@ abbrev pub is_listed_before : PartMap → ℕ → ℕ → Bool
 is_listed_before parts k pfn = list_any (λ j. is_this pfn (listed parts j)) (range_with_len 0 k)
 
 -- the parts of a code changed
-abbrev pub blanked_code : ℕ → (List ℕ → List ℕ) → PartKey → List ℕ → List ℕ
-blanked_code code f key bytes = if key.code == code then f bytes else bytes
+abbrev pub blanked_code : ℕ → (PartKey → List ℕ → List ℕ) → PartKey → List ℕ → List ℕ
+blanked_code code f key bytes = if key.code == code then f key bytes else bytes
 
 -- whether the key isn't above another
 abbrev pub is_reached : Option PartKey → PartKey → Bool
@@ -43,8 +43,8 @@ is_reached None key = false
 is_reached (Some after) key = not (is_lt (part_cmp after key))
 
 -- the parts of a code changed that aren't above a key
-abbrev pub blanked_up_to : ℕ → (List ℕ → List ℕ) → Option PartKey → PartKey → List ℕ → List ℕ
-blanked_up_to code f after key bytes = if (key.code == code) && is_reached after key then f bytes else bytes
+abbrev pub blanked_up_to : ℕ → (PartKey → List ℕ → List ℕ) → Option PartKey → PartKey → List ℕ → List ℕ
+blanked_up_to code f after key bytes = if (key.code == code) && is_reached after key then f key bytes else bytes
 
 -- the frames below a number changed
 abbrev pub blanked_below : ℕ → (FrameOf → FrameOf) → ℕ → FrameOf → FrameOf

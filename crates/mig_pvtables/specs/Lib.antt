@@ -14,5 +14,6 @@ pub mod Normalised
 pub mod View
 pub mod Sound
 pub mod BlankSteps
+pub mod LocaliseSteps
 pub mod P2mMarks
 pub mod WorkedGuest

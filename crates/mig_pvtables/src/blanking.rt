@@ -15,12 +15,10 @@ ghost use Rattle.mig_pvtables.specs.VcpuContexts.{blanked_value, blanked_context
 ghost use Rattle.mig_pvtables.specs.Whole.{IsWhole};
 
 use crate::listing::{listed_pfn, sole_key};
+use crate::vcpu::VCPU_BASIC;
 use mig_bytes::{put_u64_le, u64_le};
 use mig_guest::{Guest, PartCode, PartKey};
 use mig_headers::Kind;
-
-/// The code of the parts that are contexts of vCPUs.
-const VCPU_BASIC: u32 = 4;
 
 /// Where ctrlreg[1], the root of user space, stands in a vCPU's context.
 const USER_ROOT: usize = 4992;
@@ -143,7 +141,7 @@ fn blank_vcpu(guest: &mut Guest, key: PartKey)
 /// Brings each vCPU's context to its blank form.
 fn blank_vcpus(guest: &mut Guest)
     requires { (key : PartKey) (context : List ℕ) → maps.get guest.old.parts key ≡ Some context → key.code ≡ 4 → length context ≡ 5168 }
-    ensures { guest.new ≡ record guest.old { parts = each_value (blanked_code 4 blanked_context) guest.old.parts } }
+    ensures { guest.new ≡ record guest.old { parts = each_value (blanked_code 4 (λ _. blanked_context)) guest.old.parts } }
 {
     let mut after = None;
     while let Some((key, _)) = guest.next_of_code(VCPU_BASIC, after) {

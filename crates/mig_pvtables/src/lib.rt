@@ -10,6 +10,7 @@ mod blanking;
 mod frames;
 mod law;
 mod listing;
+mod localising;
 mod p2m;
 mod rename;
 mod renaming_law;
@@ -25,6 +26,7 @@ pub use law::{
     hvm_guest_is_blank, hvm_guest_is_whole, pv_guest_is_whole, some_blank_pv_guest_is_whole,
     whole_as_its_blank_form, worked_pv_guest_is_whole,
 };
+pub use localising::localise;
 pub use p2m::p2m_page;
 pub use rename::{BadEntry, Why, localise_table, normalise_table};
 pub use renaming_law::{localised_table_comes_back, renamed_table_says_the_same};

@@ -1,8 +1,10 @@
+ghost use Rattle.std.specs.FinMap as maps;
+ghost use Rattle.mig_guest.specs.PartKeys.{p2m_key};
 ghost use Rattle.std.specs.Prelude.{◌≡◌, ◌<◌, ◌^◌, IfSome, IfOk, ◌||◌, not, if◌then◌else◌};
 ghost use Rattle.mig_guest.specs.PartCodes.{code_number};
 ghost use Rattle.mig_guest.specs.Formed.{IsFormed};
 ghost use Rattle.mig_pvtables.specs.Faults.{is_needed as has_frames, is_notab, find_p2m};
-ghost use Rattle.mig_pvtables.specs.P2mFrames.{listed};
+ghost use Rattle.mig_pvtables.specs.P2mFrames.{count_in, listed};
 ghost use Rattle.mig_pvtables.specs.P2mMarks.{clashes};
 
 use mig_bytes::{Memory, u64_le};
@@ -24,6 +26,16 @@ pub(crate) fn sole_key(code: PartCode) -> PartKey
         code: code.number(),
         key1: 0,
         key2: 0,
+    }
+}
+
+/// How many P2M frames are listed.
+pub(crate) fn listed_count(guest: &Guest) -> usize
+    ensures { result ≡ count_in (maps.get guest.now.parts p2m_key) }
+{
+    match guest.part(sole_key(PartCode::P2mFrames)) {
+        Some(list) => list.len() / 8,
+        None => 0,
     }
 }
 

@@ -13,16 +13,13 @@ ghost use Rattle.mig_pvtables.specs.declared.testing.WholeAnswer.TheVariants.{Fa
 
 use crate::listing::{misplaced_frame, sole_key};
 use crate::table::{SLOTS, entry};
-use crate::vcpu::{FIELDS, vcpu_frame};
+use crate::vcpu::{FIELDS, VCPU_BASIC, vcpu_frame};
 use mig_bytes::Memory;
 use mig_guest::{Entry, Guest, PartCode, PartKey};
 use mig_headers::{Cause, Kind};
 use mig_pagetypes::{MAX_FRAMES, PageType};
 use std::alloc::Global;
 use thiserror::Error;
-
-/// The code of the parts that are contexts of vCPUs.
-const VCPU_BASIC: u32 = 4;
 
 /// Why a guest isn't whole, or that this wasn't found out.
 #[derive(Clone, Copy, Debug, PartialEq, Eq, Error)]

@@ -6,6 +6,9 @@ ghost use Rattle.mig_pvtables.specs.VcpuContexts.{field_place, field_value, fiel
 
 use mig_bytes::{put_u64_le, u64_le};
 
+/// The code of the parts that are contexts of vCPUs.
+pub(crate) const VCPU_BASIC: u32 = 4;
+
 /// How many fields of a context hold a frame.
 pub(crate) const FIELDS: u8 = 19;
 

@@ -5,7 +5,7 @@ use Rattle.mig_pvtables.proofs.blanking.blank_vcpus.Given as goal
 abbrev pub invariant-loop-key : goal.invariant-loop-key
 invariant-loop-key l = record {
   code : IfSome l.after (λ k. k.code ≡ 4);
-  done : l.guest ≡ record l.fn.guest { parts = each_value (blanked_up_to 4 blanked_context l.after) l.fn.guest.parts };
+  done : l.guest ≡ record l.fn.guest { parts = each_value (blanked_up_to 4 (λ _. blanked_context) l.after) l.fn.guest.parts };
 }
 
 abbrev pub decreases-loop-key : goal.decreases-loop-key
