@@ -1,12 +1,12 @@
 -- A context whose fields are renamed one by one, from field 0 on.
-use Rattle.mig_pvtables.proofs.Common.{◌≡◌, ◌≢◌, ℕ, ◌+◌, ◌*◌, ◌%◌, ◌^◌, ◌<◌, ◌≤◌, Bool, true, false, cond, not, ◌==◌, List, length, get_or, Option, Some, None, refl, sym, ap, subst, ◌∙◌, inl, inr, arith, cases_lt, cases_eq, eqb-true, ne_eqb, lt-ltb, le-ltb, gdt_ents, long_at, each_long, long_of_longs, each_stays, put_long, field_at, field_place, field_value, frame_of_field, is_used}
+use Rattle.mig_pvtables.proofs.Common.{◌≡◌, ◌≢◌, ℕ, ◌+◌, ◌*◌, ◌^◌, ◌<◌, Bool, true, false, cond, List, length, get_or, Option, Some, None, refl, sym, ap, subst, ◌∙◌, inl, inr, arith, cases_lt, cases_eq, lt-ltb, le-ltb, gdt_ents, long_at, each_long, long_of_longs, each_stays, put_long, field_at, field_place, field_value, frame_of_field, is_used}
 use Rattle.byteorder.specs.Endian.{little_bytes}
 use Rattle.mig_bytes.specs.Fields.{with_field}
 use Rattle.mig_bytes.proofs.ByteLists.{bytes_from, long_below}
 use Rattle.mig_guest.proofs.Longs.{same_longs}
 use Rattle.mig_pvtables.specs.LocaliseSteps.{is_field_below, changed_below}
 use Rattle.mig_pvtables.specs.RenamedContexts.{field_named, value_renamed, renamed_value, renamed_context}
-use Rattle.mig_pvtables.specs.VcpuContexts.{field_says, field_of_frame, is_used_somewhere}
+use Rattle.mig_pvtables.specs.VcpuContexts.{field_says, field_of_frame}
 use Rattle.mig_pvtables.proofs.BlankSays.{field_there}
 use Rattle.mig_pvtables.proofs.RenamedContexts.{used, unused, place_field}
 
@@ -18,17 +18,6 @@ split false w n is = let no : Some n ≡ None = is in cc
 unsplit : (b : Bool) (w : ℕ) → None ≡ cond b (Some w) None → b ≡ false
 unsplit true w is = let no : None ≡ Some w = is in cc
 unsplit false w is = refl
-
--- a field that is used in a stream is used somewhere
-used_somewhere : (id ents field v : ℕ) → is_used id ents field v ≡ true → is_used_somewhere id ents field v ≡ true
-used_somewhere id ents field v is = by_case (field == 18) (λ e. eqb-true field 18 e)
-  where
-    last : (k : ℕ) → k ≡ 18 → is_used id ents k v ≡ true → not (v == 0) ≡ true
-    last k e = subst (λ k. is_used id ents k v ≡ true → not (v == 0) ≡ true) (sym e) (λ marked. let odd : v % 2 ≡ 1 = eqb-true (v % 2) 1 marked in ap not (ne_eqb v 0 (λ zero. omega (arith, zero, odd))))
-
-    by_case : (l : Bool) → (l ≡ true → field ≡ 18) → cond l (not (v == 0)) (is_used id ents field v) ≡ true
-    by_case true eighteen = last field (eighteen refl) is
-    by_case false eighteen = is
 
 none_below : (o : Option ℕ) → is_field_below 0 o ≡ false
 none_below None = refl
@@ -120,9 +109,6 @@ module _ (f : ℕ → Option ℕ) (id : ℕ) (context : List ℕ) (fits : (i : �
     module _ (pfn : ℕ) (says : Some pfn ≡ field_says id now n) where
       said : (is_used id ents n v ≡ true) × (frame_of_field n v ≡ pfn)
       said = split (is_used id ents n v) (frame_of_field n v) pfn (says ∙ same_says)
-
-      pub field_used : is_used_somewhere id (gdt_ents now) n (field_value now n) ≡ true
-      field_used = used_somewhere id (gdt_ents now) n (field_value now n) (split (is_used id (gdt_ents now) n (field_value now n)) (frame_of_field n (field_value now n)) pfn says).0
 
       pub field_put : (m : ℕ) → f pfn ≡ Some m → with_field now (8 * field_place n) (little_bytes 8 (field_of_frame n m)) ≡ fields_below (n + 1)
       field_put m has = put (field_of_frame n m) (sym (to_is place v (Some n) there.0 ∙ used f f id ents n v m said.0 (ap f said.1 ∙ has)))

@@ -1,5 +1,5 @@
 -- The frames of a guest on its way into a machine.
-use Rattle.mig_pvtables.proofs.Common.{◌≡◌, ℕ, ◌+◌, ◌-◌, ◌/◌, ◌*◌, ◌<◌, ◌≤◌, ◌^◌, suc, Bool, true, false, cond, List, length, find, range_with_len, ◌==◌, Option, Some, None, IfSome, refl, sym, ap, subst, ◌∙◌, inl, inr, arith, option_and_then, option_map, nat_cmp, eq_by_cmp, nat_cmp_total, nat_cmp-IsAntisymmetric, cases_eq, ne_eqb, eq-eqb, lt-ltb, eqb-true, PageType, level_of, FrameOf, FrameMap, GuestOf, PartMap, p2m_key, long_at, length_longs, each_value, only, count_in, listed, listed_in, place_of}
+use Rattle.mig_pvtables.proofs.Common.{◌≡◌, ℕ, ◌+◌, ◌-◌, ◌/◌, ◌<◌, ◌≤◌, suc, cond, List, length, find, range_with_len, ◌==◌, Option, Some, None, refl, sym, ap, ◌∙◌, inl, inr, arith, option_and_then, option_map, nat_cmp, eq_by_cmp, nat_cmp_total, nat_cmp-IsAntisymmetric, cases_eq, ne_eqb, eq-eqb, lt-ltb, PageType, level_of, FrameOf, FrameMap, GuestOf, PartMap, p2m_key, long_at, length_longs, each_value, only, count_in, listed, listed_in}
 use Rattle.std.specs.FinMap as maps
 use Rattle.mig_pagestore.specs.FrameLending.{with_page}
 use Rattle.mig_pvtables.specs.Localised.{renamed_page, renamed_frame}
@@ -77,11 +77,6 @@ place_step (Some bytes) k n pfn is lt =
     ap (λ c. find (λ j. long_at bytes j == pfn) (range_with_len k c)) (let e : length bytes / 8 - k ≡ suc (length bytes / 8 - (k + 1)) = omega (arith, lt) in e)
     ∙ ap (λ v. cond (v == pfn) (Some k) (find (λ j. long_at bytes j == pfn) (range_with_len (k + 1) (length bytes / 8 - (k + 1))))) same
 
--- each index below the number of those listed is listed
-listed_some : (o : Option (List ℕ)) (k : ℕ) → k < count_in o → None ≡ listed_in o k → ⊥
-listed_some None k lt none = omega (arith, lt)
-listed_some (Some bytes) k lt none = let no : None ≡ Some (long_at bytes k) = none ∙ ap (λ b. cond b (Some (long_at bytes k)) None) (lt-ltb k (length bytes / 8) lt) in cc
-
 module _ (f : ℕ → Option ℕ) where
   filled_again : (k : ℕ) (place : Option ℕ) (x : FrameOf) → with_p2m_page f k (filled_at f place x) ≡ with_p2m_page f k x
   filled_again k None x = refl
@@ -117,9 +112,6 @@ module _ (f : ℕ → Option ℕ) where
         fill_next new n found one =
             one ∙ ap (λ (s : GuestOf). WithFrames s (each_value (only nat_cmp n (with_p2m_page f k)) s.frames)) (is ∙ ap FilledFrom step)
             ∙ ap (WithFrames g) (next_filled g.parts g.frames k n (sym (found ∙ ap (λ (s : GuestOf). listed s.parts k) is)) (omega (arith, step, most)))
-
-        pub fill_listed : None ≡ listed now.parts k → ⊥
-        fill_listed none = listed_some (maps.get g.parts p2m_key) k (omega (arith, step, most)) (none ∙ ap (λ (s : GuestOf). listed s.parts k) is)
 
       pub fill_end : index ≡ 0 → now ≡ WithFrames g (each_value (filled_where_listed g.parts f) g.frames)
       fill_end zero =

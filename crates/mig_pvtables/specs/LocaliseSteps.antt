@@ -4,7 +4,7 @@ use Rattle.std.specs.List.{range_with_len}
 use Rattle.std.specs.Option.{option_map}
 use Rattle.std.specs.FinMap as maps
 use Rattle.mig_guest.specs.Frames.{FrameOf}
-use Rattle.mig_guest.specs.Longs.{long_at, each_long}
+use Rattle.mig_guest.specs.Longs.{long_at}
 use Rattle.mig_guest.specs.Parts.{PartMap}
 use Rattle.mig_guest.specs.PartKeys.{p2m_key}
 use Rattle.mig_pvtables.specs.P2mFrames.{place_of}

@@ -1,9 +1,9 @@
 //! Page tables and the contexts of vCPUs, whole guests and their blank form.
 //!
 //! Responsible for: what an entry of a table says, what is wrong with a table in a stream, the frame that a field of a
-//! vCPU's context says, what is wrong with a guest at the end of its stream, bringing a guest to its blank form, and
-//! bringing tables from frame numbers to machine frames and back; and, as definitions with their laws, the guest that a
-//! host means and what is in the way of seeing it.
+//! vCPU's context says, what is wrong with a guest at the end of its stream, bringing a guest to its blank form and to
+//! the form in which it stands in a machine, and bringing tables from frame numbers to machine frames and back; and, as
+//! definitions with their laws, the guest that a host means and what is in the way of seeing it.
 #![tactic(auto)]
 
 mod blanking;

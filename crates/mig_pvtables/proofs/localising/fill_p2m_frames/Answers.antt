@@ -1,6 +1,4 @@
-use Rattle.mig_pvtables.proofs.Common.{ap, arith}
-use Rattle.std.specs.FinMap as maps
-use Rattle.mig_pvtables.proofs.Common.{◌≡◌, ◌≤◌, ◌-◌, ◌+◌, refl, subst, sym, count_in, p2m_key}
+use Rattle.mig_pvtables.proofs.Common.{◌-◌, arith}
 use Rattle.mig_pvtables.proofs.LocaliseFrames.{fill_start, fill_next, fill_end}
 use Rattle.mig_pvtables.proofs.localising.fill_p2m_frames.Goals as goal
 
