@@ -79,7 +79,7 @@ module _ (frames : FrameMap) (machines : MachineMap) where
     pub has_no_machine : (pfn : ℕ) (f : FrameOf) → None ≡ maps.get machines pfn → maps.get frames pfn ≡ Some f → ⊥
     has_no_machine pfn f none found = let wrong : false ≡ true = ap is_some none ∙ matched pfn ∙ ap is_some found in cc
 
-    machine_found : (o : Option HostFrame) (m : ℕ) → Some m ≡ option_map (λ (f : HostFrame). f.machine) o → (f : HostFrame) × (o ≡ Some f) × (f.machine ≡ m)
+    pub machine_found : (o : Option HostFrame) (m : ℕ) → Some m ≡ option_map (λ (f : HostFrame). f.machine) o → (f : HostFrame) × (o ≡ Some f) × (f.machine ≡ m)
     machine_found None m e = let no : Some m ≡ None = e in cc
     machine_found (Some f) m e = (f, refl, cc)
 

@@ -2,6 +2,7 @@ pub mod Common
 pub mod Chains
 pub mod FieldBytes
 pub mod Frames
+pub mod HostLookups
 pub mod HostMaps
 pub mod HostViews
 pub mod HostedGuests

@@ -1,8 +1,12 @@
 -- Maps from numbers to numbers, and a map with a function that is its inverse.
-use Rattle.mig_image.proofs.Common.{◌≡◌, ◌≢◌, ℕ, Bool, true, false, cond, nat_eq, Option, Some, None, Result, Ok, Err, refl, sym, ap, ◌∙◌, inl, inr, IsOk, nat_cmp, eq_by_cmp, nat_cmp_total, unsigned_tied, FinMap, nat_cmp-IsAntisymmetric, same_map, get-insert, get-remove, get-empty, eq-eqb, ne_eqb, cases_eq, none-some, same_Some, MachineMap, AreInverse}
+use Rattle.mig_image.proofs.Common.{◌≡◌, ◌≢◌, ℕ, ◌<◌, IfSome, Bool, true, false, cond, nat_eq, Option, Some, None, Result, Ok, Err, refl, sym, ap, ◌∙◌, inl, inr, IsOk, nat_cmp, eq_by_cmp, nat_cmp_total, unsigned_tied, FinMap, nat_cmp-IsAntisymmetric, same_map, get-insert, get-remove, get-empty, eq-eqb, ne_eqb, cases_eq, none-some, same_Some, MachineMap, AreInverse}
+use Rattle.mig_image.specs.HostView.{pfn_of_machine_in, AreBelowLimit}
 use Rattle.std.specs.Result.{OnOk}
 use Rattle.std.specs.FinMap as maps
 use Rattle.mig_guest.proofs.KeyedMaps.{tied}
+use Rattle.mig_guest.specs.Hosts.{machine_limit}
+use Rattle.mig_image.proofs.InOrder.{holds_more}
+use Rattle.mig_image.proofs.Machines.{only_pfn, no_pfn}
 
 -- ---- what a call did, where it is known whether it failed
 
@@ -90,3 +94,32 @@ module _ (there : MachineMap) (back after : ℕ → Option ℕ) (p m : ℕ) (inv
 
     pub inverse_taken : AreInverse (maps.remove there p) after
     inverse_taken = (taken_there, taken_back)
+
+-- ---- the PFN that has a machine frame
+
+module _ (there : MachineMap) (back : ℕ → Option ℕ) (inverse : AreInverse there back) where
+  goes_back : (pfn machine : ℕ) → maps.get there pfn ≡ Some machine → pfn_of_machine_in there machine ≡ Some pfn
+  goes_back pfn machine is =
+      only_pfn (λ (m : ℕ). m) machine there pfn machine is refl (λ q m at same. same_Some q pfn (sym (inverse.0 q m at) ∙ ap back same ∙ inverse.0 pfn machine is))
+
+  pub machine_back : (pfn : ℕ) (r : Option ℕ) → r ≡ maps.get there pfn → IfSome r (λ machine. pfn_of_machine_in there machine ≡ Some pfn)
+  machine_back pfn None is = tt
+  machine_back pfn (Some machine) is = goes_back pfn machine (sym is)
+
+  pub pfn_looked_up : (machine : ℕ) (r : Option ℕ) → r ≡ back machine → r ≡ pfn_of_machine_in there machine
+  pfn_looked_up machine (Some pfn) is = sym (goes_back pfn machine (inverse.1 machine pfn (sym is)))
+  pfn_looked_up machine None is = sym (no_pfn (λ (m : ℕ). m) machine there (λ q m at same. none-some q (is ∙ ap back (sym same) ∙ inverse.0 q m at)))
+
+-- ---- machine frames below the limit
+
+pub below_empty : AreBelowLimit maps.empty
+below_empty p m is = absurd (none-some m (sym (get-empty nat_cmp p) ∙ is))
+
+pub below_put : (there : MachineMap) (pfn machine : ℕ) → AreBelowLimit there → machine < machine_limit → AreBelowLimit (maps.insert there pfn machine)
+below_put there pfn machine below small = holds_more nat_cmp_total nat_cmp-IsAntisymmetric (λ p m. m < machine_limit) there pfn machine below small
+
+pub below_taken : (there : MachineMap) (pfn : ℕ) → AreBelowLimit there → AreBelowLimit (maps.remove there pfn)
+below_taken there pfn below p m is = elim (cases_eq p pfn) [
+  | inl e ↦ absurd (none-some m (sym (got_taken there pfn) ∙ ap (maps.get (maps.remove there pfn)) (sym e) ∙ is))
+  | inr ne ↦ below p m (sym (left_other there pfn p ne) ∙ is)
+]

@@ -1,11 +1,12 @@
 -- How frames, their machine frames and parts are seen as a host.
-use Rattle.std.specs.Prelude.{◌≡◌, ℕ, map, Option, Some, is_some, unwrap_or, refl}
+use Rattle.std.specs.Prelude.{◌≡◌, ℕ, ◌<◌, map, Option, Some, is_some, unwrap_or, refl, ◌==◌, find}
+use Rattle.std.specs.Option.{option_map}
 use Rattle.std.specs.Ordering.{nat_cmp}
 use Rattle.std.specs.FinMap as maps
 use Rattle.std.specs.Coded.{Coded, code_by, coded×, coded_ℕ}
 use Rattle.mig_headers.specs.declared.kind.Kind.{Kind}
 use Rattle.mig_guest.specs.Frames.{FrameMap, FrameOf}
-use Rattle.mig_guest.specs.Hosts.{HostOf, HostFrame, HostFrames, IsValid, host_code}
+use Rattle.mig_guest.specs.Hosts.{HostOf, HostFrame, HostFrames, IsValid, host_code, machine_limit}
 use Rattle.mig_guest.specs.Parts.{PartMap}
 
 -- machine frames by PFN
@@ -41,6 +42,14 @@ AreMatched frames machines = (pfn : ℕ) → is_some (maps.get machines pfn) ≡
 -- what the map says of a PFN, back says of its machine frame, and the other way round
 abbrev pub AreInverse : MachineMap → (ℕ → Option ℕ) → Type 0
 AreInverse there back = ((p m : ℕ) → maps.get there p ≡ Some m → back m ≡ Some p) × ((m p : ℕ) → back m ≡ Some p → maps.get there p ≡ Some m)
+
+-- the PFN that has a machine frame
+abbrev pub pfn_of_machine_in : MachineMap → ℕ → Option ℕ
+pfn_of_machine_in machines machine = option_map (λ e. e.0) (find (λ e. e.1 == machine) (maps.entries machines))
+
+-- no machine frame reaches the limit
+abbrev pub AreBelowLimit : MachineMap → Type 0
+AreBelowLimit machines = (pfn machine : ℕ) → maps.get machines pfn ≡ Some machine → machine < machine_limit
 
 -- each frame has its machine frame, and the host that is seen is valid
 pub record IsMade (kind : Kind) (width : ℕ) (frames : FrameMap) (machines : MachineMap) (parts : PartMap) : Type 0 where

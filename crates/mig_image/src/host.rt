@@ -6,9 +6,10 @@ ghost use Rattle.mig_headers.specs.declared.kind.Kind.TheVariants.{Pv};
 ghost use Rattle.mig_pagetypes.specs.Limits.{pfn_limit, most_frames};
 ghost use Rattle.mig_guest.specs.declared.part_key.PartKey.{PartKey};
 ghost use Rattle.mig_guest.specs.Frames.{NextEntry};
-ghost use Rattle.mig_guest.specs.Hosts.{IsHostFrame, IsHostPart, IsValid, most_width};
+ghost use Rattle.mig_guest.specs.Hosts.{IsHostFrame, IsHostPart, IsValid, most_width, machine_limit};
 ghost use Rattle.mig_guest.specs.Order.{part_cmp, IsAbove};
 ghost use Rattle.mig_guest.specs.Parts.{FitsPolicy, NextBehind};
+ghost use Rattle.mig_pvtables.specs.View.{pfn_in};
 ghost use Rattle.mig_image.specs.ImageParts.{put_frame, put_part_in, has_machine};
 
 use crate::machine_frames::MachineFrames;
@@ -16,6 +17,7 @@ use mig_bytes::Memory;
 use mig_guest::{FrameStore, PartKey, Parts};
 use mig_headers::Kind;
 use mig_pagetypes::PageType;
+use mig_pvtables::Frames;
 use std::alloc::Global;
 use std::marker::Model;
 
@@ -133,9 +135,19 @@ impl Host {
     /// The machine frame of this frame.
     #[tactic(auto, using(crate::proofs::HostMaps::machine_joined))]
     pub(crate) fn machine(&self, pfn: u64) -> Option<u64>
-        ensures { result ≡ option_map (λ f. f.machine) (maps.get self.now.host.frames pfn) }
+        ensures value { result ≡ option_map (λ f. f.machine) (maps.get self.now.host.frames pfn) }
+        ensures back { IfSome result (λ machine. pfn_in self.now.host.frames machine ≡ Some pfn) }
+        ensures small { IfSome result (λ machine. machine < machine_limit) }
     {
         self.machines.machine(pfn)
+    }
+
+    /// The PFN that has this machine frame.
+    pub(crate) fn pfn(&self, machine: u64) -> Option<u64>
+        ensures value { result ≡ pfn_in self.now.host.frames machine }
+        ensures back { IfSome result (λ pfn. option_map (λ f. f.machine) (maps.get self.now.host.frames pfn) ≡ Some machine) }
+    {
+        self.machines.pfn(machine)
     }
 
     /// Whether some frame has this machine frame.
@@ -257,5 +269,19 @@ impl Host {
         ensures spare { self.new.spare ≡ self.old.spare }
     {
         self.parts.set(key, bytes)
+    }
+}
+
+impl Frames for Host {
+    ghost pfns = { λ h mfn. pfn_in h.host.frames mfn };
+
+    ghost mfns = { λ h pfn. option_map (λ f. f.machine) (maps.get h.host.frames pfn) };
+
+    fn pfn_of(&self, mfn: u64) -> Option<u64> {
+        self.pfn(mfn)
+    }
+
+    fn mfn_of(&self, pfn: u64) -> Option<u64> {
+        self.machine(pfn)
     }
 }

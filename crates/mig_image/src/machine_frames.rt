@@ -1,9 +1,12 @@
 ghost use Rattle.std.specs.Prelude.{◌≡◌, ℕ, ◌+◌, ◌≤◌, ◌<◌, IsOk, OnOk, OnErr, IfOk, IfSome, IfNone, Some, None};
 ghost use Rattle.std.specs.FinMap as maps;
 ghost use Rattle.mig_pagetypes.specs.Limits.{pfn_limit};
+ghost use Rattle.mig_guest.specs.Hosts.{machine_limit};
+ghost use Rattle.mig_image.specs.HostView.{pfn_of_machine_in};
 
 use mig_bytes::Memory;
 use mig_index::Index;
+use mig_pvtables::Frames;
 use std::alloc::{AllocError, Global};
 use std::collections::HashMap;
 use std::marker::Model;
@@ -11,7 +14,7 @@ use std::marker::Model;
 /// Machine frames are below this.
 pub(crate) const MACHINE_LIMIT: u64 = 1 << 40;
 
-/// The machine frame of each PFN, one to one, and room for spare ones.
+/// The machine frame of each PFN, one to one and below 2^40, and room for spare ones.
 #[derive(Drop)]
 pub(crate) struct MachineFrames {
     /// The machine frame of each PFN.
@@ -24,7 +27,7 @@ pub(crate) struct MachineFrames {
 impl Model for MachineFrames {
     ghost use Rattle.std.specs.Prelude.{ℕ, ◌≤◌, nat_eq};
     ghost use Rattle.std.specs.HashMap as hash;
-    ghost use Rattle.mig_image.specs.HostView.{MachinesAndSpare, machines_code, AreInverse};
+    ghost use Rattle.mig_image.specs.HostView.{MachinesAndSpare, machines_code, AreInverse, AreBelowLimit};
 
     ghost Value = { MachinesAndSpare };
 
@@ -32,12 +35,12 @@ impl Model for MachineFrames {
 
     ghost view = { λ f. record { machines = f.there.values; spare = f.spare } };
 
-    ghost invariant = { λ f. AreInverse f.there.values (hash.get nat_eq f.back) × (f.spare ≤ f.there.spare) × (f.spare ≤ hash.spare f.back) };
+    ghost invariant = { λ f. AreInverse f.there.values (hash.get nat_eq f.back) × (f.spare ≤ f.there.spare) × (f.spare ≤ hash.spare f.back) × AreBelowLimit f.there.values };
 }
 
 impl MachineFrames {
     /// No machine frames; it has taken no memory.
-    #[tactic(auto, using(crate::proofs::MachineMaps::inverse_empty))]
+    #[tactic(auto, using(crate::proofs::MachineMaps::inverse_empty, crate::proofs::MachineMaps::below_empty))]
     pub(crate) fn new(alloc: Global) -> MachineFrames
         ensures machines { result.machines ≡ maps.empty }
         ensures spare { result.spare ≡ 0 }
@@ -50,7 +53,7 @@ impl MachineFrames {
     }
 
     /// No machine frames yet. Where the map back is made for as many as will come, it isn't copied as it grows.
-    #[tactic(auto, using(crate::proofs::MachineMaps::inverse_empty))]
+    #[tactic(auto, using(crate::proofs::MachineMaps::inverse_empty, crate::proofs::MachineMaps::below_empty))]
     pub(crate) fn with_capacity(alloc: Global, frames: usize) -> Result<MachineFrames, Memory>
         ensures machines { IfOk result (λ f. f.machines ≡ maps.empty) }
         ensures spare { IfOk result (λ f. f.spare ≡ 0) }
@@ -67,13 +70,16 @@ impl MachineFrames {
 
     /// The machine frame of this PFN, which may be any number.
     pub(crate) fn machine(&self, pfn: u64) -> Option<u64>
-        ensures { result ≡ maps.get self.now.machines pfn }
+        ensures value { result ≡ maps.get self.now.machines pfn }
+        ensures back { IfSome result (λ machine. pfn_of_machine_in self.now.machines machine ≡ Some pfn) }
+        ensures small { IfSome result (λ machine. machine < machine_limit) }
     {
         self.there.get(pfn)
     }
 
     /// The PFN that has this machine frame.
     pub(crate) fn pfn(&self, machine: u64) -> Option<u64>
+        ensures value { result ≡ pfn_of_machine_in self.now.machines machine }
         ensures some { IfSome result (λ pfn. maps.get self.now.machines pfn ≡ Some machine) }
         ensures none { IfNone result ((pfn : ℕ) → maps.get self.now.machines pfn ≡ Some machine → ⊥) }
     {
@@ -104,6 +110,7 @@ impl MachineFrames {
     pub(crate) fn put_spare(&mut self, pfn: u64, machine: u64)
         requires small { pfn < pfn_limit }
         requires some { 0 < machine }
+        requires below { machine < machine_limit }
         requires absent { maps.get self.old.machines pfn ≡ None }
         requires unused { (other : ℕ) → maps.get self.old.machines other ≡ Some machine → ⊥ }
         requires room { 1 ≤ self.old.spare }
@@ -119,6 +126,7 @@ impl MachineFrames {
     pub(crate) fn insert(&mut self, pfn: u64, machine: u64) -> Result<(), Memory>
         requires small { pfn < pfn_limit }
         requires some { 0 < machine }
+        requires below { machine < machine_limit }
         requires absent { maps.get self.old.machines pfn ≡ None }
         requires unused { (other : ℕ) → maps.get self.old.machines other ≡ Some machine → ⊥ }
         ensures ok { OnOk result (self.new.machines ≡ maps.insert self.old.machines pfn machine) }
@@ -139,5 +147,19 @@ impl MachineFrames {
             self.there.remove(pfn);
             self.back.remove(&machine);
         }
+    }
+}
+
+impl Frames for MachineFrames {
+    ghost pfns = { λ f mfn. pfn_of_machine_in f.machines mfn };
+
+    ghost mfns = { λ f pfn. maps.get f.machines pfn };
+
+    fn pfn_of(&self, mfn: u64) -> Option<u64> {
+        self.pfn(mfn)
+    }
+
+    fn mfn_of(&self, pfn: u64) -> Option<u64> {
+        self.machine(pfn)
     }
 }

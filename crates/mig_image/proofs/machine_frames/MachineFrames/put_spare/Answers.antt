@@ -1,7 +1,8 @@
 use Rattle.mig_image.proofs.Common.{◌<◌, nat_eq, sym, ap, subst, ◌∙◌, arith, MachineMap, MachinesAndSpare, AreInverse}
+use Rattle.mig_image.specs.HostView.{AreBelowLimit}
 use Rattle.std.specs.HashMap as hash
 use Rattle.std.specs.FinMap as maps
-use Rattle.mig_image.proofs.MachineMaps.{on_taken, inverse_put}
+use Rattle.mig_image.proofs.MachineMaps.{on_taken, inverse_put, below_put}
 use Rattle.mig_image.proofs.machine_frames.MachineFrames.put_spare.Goals as goal
 
 pub invariant_of-self : goal.invariant_of-self
@@ -17,4 +18,5 @@ invariant_of-self c =
           put.1 put.2),
       omega (arith, c.self.invariant.1, c.put_spare.ensures.taken),
       omega (arith, c.self.invariant.2, c.insert.ensures.spare),
+      subst AreBelowLimit (sym c.put_spare.ensures.values) (below_put f.there.values pfn machine c.self.invariant.3 c.requires.below),
     )

@@ -1,7 +1,8 @@
 use Rattle.mig_image.proofs.Common.{◌≡◌, nat_eq, sym, subst, arith, MachineMap, MachinesAndSpare, AreInverse}
+use Rattle.mig_image.specs.HostView.{AreBelowLimit}
 use Rattle.std.specs.HashMap as hash
 use Rattle.std.specs.FinMap as maps
-use Rattle.mig_image.proofs.MachineMaps.{taken_none, inverse_taken}
+use Rattle.mig_image.proofs.MachineMaps.{taken_none, inverse_taken, below_taken}
 use Rattle.mig_image.proofs.machine_frames.MachineFrames.remove.Goals as goal
 
 pub invariant_of-self : goal.invariant_of-self
@@ -12,6 +13,7 @@ invariant_of-self c =
           c.remove-in-Some.ensures.updates.1 c.remove-in-Some.ensures.updates.2),
       omega (arith, c.self.invariant.1, c.remove.ensures.spare),
       omega (arith, c.self.invariant.2, c.remove-in-Some.ensures.spare),
+      subst AreBelowLimit (sym c.remove.ensures.values) (below_taken f.there.values c.args.pfn c.self.invariant.3),
     )
 
 pub returns-in_default-clause-machines : goal.returns-in_default-clause-machines
