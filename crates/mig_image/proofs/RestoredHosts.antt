@@ -1,12 +1,13 @@
--- Machine frames that are counted up from a base, and the host that a whole HVM guest becomes with them.
-use Rattle.mig_image.proofs.Common.{◌≡◌, ℕ, ◌+◌, ◌<◌, ◌≤◌, length, Option, Some, None, is_some, refl, sym, ap, subst, ◌∙◌, inl, inr, arith, unwrap_or, option_map, nat_cmp, nat_cmp_total, nat_cmp-IsAntisymmetric, same_map, get-empty, cases_lt, Hvm, FrameOf, FrameMap, HostFrames, IsValid, MachineMap, with_machine, with_machines, machine_in, host_seen, AreMatched, IsMade, rank_in, least_width, hosted, IsBaseOutside, none-some, same_Some}
+-- Machine frames that are counted up from a base, and the host that a whole guest becomes with them.
+use Rattle.mig_image.proofs.Common.{◌≡◌, ℕ, ◌+◌, ◌<◌, ◌≤◌, length, Option, Some, None, is_some, refl, sym, ap, subst, ◌∙◌, inl, inr, arith, unwrap_or, option_map, nat_cmp, nat_cmp_total, nat_cmp-IsAntisymmetric, same_map, get-empty, cases_lt, true, false, Kind, Pv, Hvm, FrameOf, FrameMap, IsValid, MachineMap, with_machine, with_machines, machine_in, host_seen, AreMatched, IsMade, rank_in, least_width, hosted, none-some, same_Some}
 use Rattle.std.specs.FinMap as maps
 use Rattle.mig_guest.specs.Guests.{GuestOf}
 use Rattle.mig_pvtables.specs.Whole.{IsWhole}
-use Rattle.mig_image.specs.Hosted.{mfn_in}
+use Rattle.mig_pvtables.specs.Localised.{localised_frame, localised_of, localised}
+use Rattle.mig_pvtables.proofs.EachValue.{get_each}
+use Rattle.mig_image.specs.Hosted.{mfn_in, hosted_width}
 use Rattle.mig_image.proofs.HostMaps.{joined, get_with_machines}
-use Rattle.mig_image.proofs.HostViews.{hosted_as_hvm}
-use Rattle.mig_image.proofs.HostedGuests.{IsBaseInside, machine_of, valid_inside, whole_valid}
+use Rattle.mig_image.proofs.HostedGuests.{IsBaseInside, machine_of, valid_inside}
 use Rattle.mig_image.proofs.MachineMaps.{got_put, got_other}
 use Rattle.mig_image.proofs.Ranks.{rank_small, rank_strict, rank_step, rank_gap, rank_zero, frame_inside}
 
@@ -84,34 +85,55 @@ module _ (frames : FrameMap) (base : ℕ) where
         few = omega (arith, next_rank, rank_small frames pfn f is);
       }
 
--- ---- the host that a whole HVM guest becomes
+-- ---- the host that a whole guest becomes, of the guest as it is localised with the machine frames that were counted up
 
-module _ (g : GuestOf) (base : ℕ) (hvm : g.kind ≡ Hvm) (width : ℕ) (machines : MachineMap) (counted : (pfn : ℕ) → maps.get machines pfn ≡ mfn_in g.frames base pfn) where
+-- an HVM guest stays as it is
+pub localised_hvm : (mfn_of : ℕ → Option ℕ) (g : GuestOf) → g.kind ≡ Hvm → g ≡ localised mfn_of g
+localised_hvm mfn_of g hvm = sym (ap (λ (k : Kind). localised_of k mfn_of g) hvm)
+
+module _ (g : GuestOf) (base : ℕ) (machines : MachineMap) (counted : (pfn : ℕ) → maps.get machines pfn ≡ mfn_in g.frames base pfn) where
   is_there : (m : ℕ) (o : Option FrameOf) → is_some (option_map (λ (_ : FrameOf). m) o) ≡ is_some o
   is_there m None = refl
   is_there m (Some f) = refl
 
-  counted_matched : AreMatched g.frames machines
-  counted_matched pfn = ap is_some (counted pfn) ∙ is_there (machine_of g base pfn) (maps.get g.frames pfn)
+  -- a localised guest has frames at the same PFNs
+  same_frames_there : (k : Kind) (pfn : ℕ) → is_some (maps.get (localised_of k (mfn_in g.frames base) g).frames pfn) ≡ is_some (maps.get g.frames pfn)
+  same_frames_there Hvm pfn = refl
+  same_frames_there Pv pfn = ap is_some (get_each nat_cmp_total nat_cmp-IsAntisymmetric (localised_frame g.parts (mfn_in g.frames base)) g.frames pfn) ∙ by (maps.get g.frames pfn)
+    where
+      by : (o : Option FrameOf) → is_some (option_map (localised_frame g.parts (mfn_in g.frames base) pfn) o) ≡ is_some o
+      by None = refl
+      by (Some f) = refl
 
-  same_frame : (pfn : ℕ) (s : Option ℕ) (o : Option FrameOf) → s ≡ option_map (λ _. machine_of g base pfn) o
-      → option_map (λ (f : FrameOf). with_machine f (unwrap_or s 0)) o ≡ option_map (λ (f : FrameOf). with_machine f (machine_of g base pfn)) o
-  same_frame pfn s None e = refl
-  same_frame pfn s (Some f) e = ap (λ (o : Option ℕ). Some (with_machine f (unwrap_or o 0))) e
+  counted_matched : AreMatched (localised (mfn_in g.frames base) g).frames machines
+  counted_matched pfn = ap is_some (counted pfn) ∙ is_there (machine_of g base pfn) (maps.get g.frames pfn) ∙ sym (same_frames_there g.kind pfn)
 
-  same_frames : joined g.frames machines ≡ with_machines g.frames (machine_of g base)
+  -- where a frame is there, its machine frame is the one that is counted
+  same_machine : (pfn : ℕ) (s o : Option FrameOf) → is_some s ≡ is_some o → (n : Option ℕ) → n ≡ option_map (λ (_ : FrameOf). machine_of g base pfn) o
+      → option_map (λ (f : FrameOf). with_machine f (unwrap_or n 0)) s ≡ option_map (λ (f : FrameOf). with_machine f (machine_of g base pfn)) s
+  same_machine pfn None o there n is = refl
+  same_machine pfn (Some f) None there n is = let no : true ≡ false = there in cc
+  same_machine pfn (Some f) (Some x) there n is = ap (λ (m : Option ℕ). Some (with_machine f (unwrap_or m 0))) is
+
+  same_frames : joined (localised (mfn_in g.frames base) g).frames machines ≡ with_machines (localised (mfn_in g.frames base) g).frames (machine_of g base)
   same_frames = same_map nat_cmp_total nat_cmp-IsAntisymmetric _ _ (λ pfn.
-      get_with_machines g.frames (machine_in machines) pfn ∙ same_frame pfn (maps.get machines pfn) (maps.get g.frames pfn) (counted pfn)
-      ∙ sym (get_with_machines g.frames (machine_of g base) pfn))
+      let there = (localised (mfn_in g.frames base) g).frames in
+      get_with_machines there (machine_in machines) pfn
+      ∙ same_machine pfn (maps.get there pfn) (maps.get g.frames pfn) (same_frames_there g.kind pfn) (maps.get machines pfn) (counted pfn)
+      ∙ sym (get_with_machines there (machine_of g base) pfn))
 
-  pub seen_hosted : width ≡ least_width (maps.entries g.frames) → host_seen g.kind width g.frames machines g.parts ≡ hosted g base
-  seen_hosted is =
-      ap (λ (w : ℕ). host_seen g.kind w g.frames machines g.parts) is
-      ∙ ap (λ (m : HostFrames). record { kind = g.kind; width = least_width (maps.entries g.frames); frames = m; parts = g.parts }) same_frames
-      ∙ sym (hosted_as_hvm g base hvm)
+  module _ (there : GuestOf) (is : there ≡ localised (maps.get machines) g) (width : ℕ) (wide : width ≡ hosted_width g.kind g) where
+    -- it is localised with what is counted
+    as_counted : there ≡ localised (mfn_in g.frames base) g
+    as_counted = is ∙ (λ i. localised (λ pfn. counted pfn i) g)
 
-  pub made_hosted : IsWhole g → IsBaseInside g base → width ≡ least_width (maps.entries g.frames) → IsMade g.kind width g.frames machines g.parts
-  made_hosted whole range is = record { matched = counted_matched; valid = subst IsValid (sym (seen_hosted is)) (valid_inside g base whole range) }
+    pub seen_restored : host_seen g.kind width there.frames machines there.parts ≡ hosted g base
+    seen_restored =
+        ap (λ (x : GuestOf). host_seen g.kind width x.frames machines x.parts) as_counted
+        ∙ (λ i. record { kind = g.kind; width = wide i; frames = same_frames i; parts = (localised (mfn_in g.frames base) g).parts })
 
-pub hosted_valid : (guest : GuestOf) (base : ℕ) → IsWhole guest → guest.kind ≡ Hvm → (IsBaseOutside guest base → ⊥) → IsValid (hosted guest base)
-hosted_valid g base whole hvm inside = whole_valid g base whole inside
+    pub made_restored : IsWhole g → IsBaseInside g base → IsMade g.kind width there.frames machines there.parts
+    made_restored whole range = record {
+      matched = subst (λ (x : GuestOf). AreMatched x.frames machines) (sym as_counted) counted_matched;
+      valid = subst IsValid (sym seen_restored) (valid_inside g base whole range);
+    }
