@@ -61,7 +61,7 @@ raw EmulatorPairs bytes h = h
 raw _ bytes h = tt
 
 -- of an HVM guest's parts none has a length that depends on the width
-same_len : (code : PartCode) (v w n : ℕ) → (row_of code).of_kind Hvm ≡ true → (row_of code).allows v n ≡ (row_of code).allows w n
+pub same_len : (code : PartCode) (v w n : ℕ) → (row_of code).of_kind Hvm ≡ true → (row_of code).allows v n ≡ (row_of code).allows w n
 same_len P2mFrames v w n of_hvm = cc
 same_len _ v w n of_hvm = refl
 

@@ -7,7 +7,7 @@ use Rattle.mig_pvtables.proofs.Moduli.{long_of_each}
 -- ---- entries
 
 -- bits 0 to 63 are all that an entry says
-low_says : (level slot e : ℕ) → entry_of level slot (e % 2 ^ 64) ≡ entry_of level slot e
+pub low_says : (level slot e : ℕ) → entry_of level slot (e % 2 ^ 64) ≡ entry_of level slot e
 unfolding entry_of
 low_says level slot e =
     let present : e % 2 ^ 64 % 2 ≡ e % 2 = omega arith in

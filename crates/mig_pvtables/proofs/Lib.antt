@@ -29,6 +29,9 @@ pub mod SoundRows
 pub mod LocalisedGuests
 pub mod SoundGuests
 pub mod ListedPages
+pub mod ViewedSays
+pub mod ViewedParts
+pub mod ViewedGuests
 pub mod HostViews
 pub mod LocaliseFrames
 pub mod LocaliseContexts

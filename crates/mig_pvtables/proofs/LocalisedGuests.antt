@@ -18,9 +18,15 @@ use Rattle.mig_pvtables.proofs.EachValue.{get_each, from_each, to_each, some_eac
 
 -- ---- frames
 
+-- a map has frames of the same types once each is changed to one of its type
+pub types_kept : (change : ℕ → FrameOf → FrameOf) → ((n : ℕ) (x : FrameOf) → (change n x).type ≡ x.type) → (frames : FrameMap) (n : ℕ) → type_at (each_value change frames) n ≡ type_at frames n
+types_kept change same frames n =
+    ap (option_map (λ (x : FrameOf). x.type)) (get_each nat_cmp_total nat_cmp-IsAntisymmetric change frames n)
+    ∙ elim (maps.get frames n) as (λ o. option_map (λ (x : FrameOf). x.type) (option_map (change n) o) ≡ option_map (λ (x : FrameOf). x.type) o) [ None ↦ refl | Some x ↦ ap Some (same n x) ]
+
 module _ (f : ℕ → Option ℕ) where
   -- there is a page where there was one, and it is as long
-  page_there : (place level : Option ℕ) (page : Option (List ℕ)) → is_some (localised_page place f level page) ≡ is_some page
+  pub page_there : (place level : Option ℕ) (page : Option (List ℕ)) → is_some (localised_page place f level page) ≡ is_some page
   page_there (Some k) level None = refl
   page_there (Some k) level (Some p) = refl
   page_there None None page = refl
@@ -30,7 +36,7 @@ module _ (f : ℕ → Option ℕ) where
   resized : (made p : List ℕ) → length made ≡ 4096 → Some made ≡ Some p → length p ≡ 4096
   resized made p size is = let same : made ≡ p = cc in ap length (sym same) ∙ size
 
-  page_size : (place level : Option ℕ) (page : Option (List ℕ)) → ((p : List ℕ) → page ≡ Some p → length p ≡ 4096) → (p : List ℕ) → localised_page place f level page ≡ Some p → length p ≡ 4096
+  pub page_size : (place level : Option ℕ) (page : Option (List ℕ)) → ((p : List ℕ) → page ≡ Some p → length p ≡ 4096) → (p : List ℕ) → localised_page place f level page ≡ Some p → length p ≡ 4096
   page_size (Some k) level None size p is = cc
   page_size (Some k) level (Some q) size p is = resized _ p (length_longs 512 _) is
   page_size None None page size p is = size p is
@@ -61,11 +67,8 @@ module _ (f : ℕ → Option ℕ) where
   count_localised Hvm g = refl
   count_localised Pv g = len_each nat_cmp_total nat_cmp-IsAntisymmetric (localised_frame g.parts f) g.frames
 
-  -- frames keep their types
   pub localised_type : (g : GuestOf) (n : ℕ) → type_at (localised_of Pv f g).frames n ≡ type_at g.frames n
-  localised_type g n =
-      ap (option_map (λ (x : FrameOf). x.type)) (get_each nat_cmp_total nat_cmp-IsAntisymmetric (localised_frame g.parts f) g.frames n)
-      ∙ elim (maps.get g.frames n) as (λ o. option_map (λ (x : FrameOf). x.type) (option_map (localised_frame g.parts f n) o) ≡ option_map (λ (x : FrameOf). x.type) o) [ None ↦ refl | Some x ↦ refl ]
+  localised_type g n = types_kept (localised_frame g.parts f) (λ n x. refl) g.frames n
 
 -- ---- parts
 

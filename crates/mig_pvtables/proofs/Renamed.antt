@@ -124,7 +124,7 @@ module _ (name : Option ℕ) (level slot e : ℕ) where
   kept_case (Frame n) fits = named_kept name (λ m has. fits n m refl has)
 
 module _ (names : ℕ → Option ℕ) (level slot e : ℕ) where
-  renamed_says : Fits (names slot) (entry_of level slot e) → entry_of level slot (renamed_entry names level slot e) ≡ entry_named (names slot) (entry_of level slot e)
+  pub renamed_says : Fits (names slot) (entry_of level slot e) → entry_of level slot (renamed_entry names level slot e) ≡ entry_named (names slot) (entry_of level slot e)
   unfolding renamed_entry
   renamed_says fits = said_case (names slot) level slot e (entry_of level slot e) refl fits
 

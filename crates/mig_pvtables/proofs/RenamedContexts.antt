@@ -22,7 +22,7 @@ frame_there field n = by_case (nat_le field 16) (field == 17)
     by_case false true = omega arith
     by_case false false = omega arith
 
-field_small : (field n : ℕ) → n < 2 ^ 40 → field_of_frame field n < 2 ^ 64
+pub field_small : (field n : ℕ) → n < 2 ^ 40 → field_of_frame field n < 2 ^ 64
 field_small field n small = by_case (nat_le field 16) (field == 17)
   where
     by_case : (a b : Bool) → cond a n (cond b (n * 4096) (n * 4096 + 1)) < 2 ^ 64

@@ -5,7 +5,7 @@ ghost use Rattle.mig_headers.specs.declared.kind.Kind.TheVariants.{Pv, Hvm};
 ghost use Rattle.mig_guest.specs.Formed.{gdt_ents};
 ghost use Rattle.mig_guest.specs.Frames.{FrameOf};
 ghost use Rattle.mig_guest.specs.Guests.{GuestOf};
-ghost use Rattle.mig_guest.specs.Hosts.{HostOf};
+ghost use Rattle.mig_guest.specs.Hosts.{HostOf, IsValid};
 ghost use Rattle.mig_pvtables.specs.Blank.{blank, IsOfBytes};
 ghost use Rattle.mig_pvtables.specs.Localised.{localised};
 ghost use Rattle.mig_pvtables.specs.Normalised.{normalised};
@@ -58,4 +58,10 @@ pub fn sound_host_has_no_unsoundness()
 #[tactic(auto, using(crate::proofs::HostViews::hvm_viewed))]
 pub fn hvm_host_is_viewed()
     ensures { (h : HostOf) → h.kind ≡ Hvm → view h ≡ hvm_view h }
+{}
+
+/// What a valid and sound host is seen as is a whole guest in blank form.
+pub fn view_is_whole()
+    ensures whole { (h : HostOf) → IsValid h → IsSound h → IsWhole (view h) }
+    ensures form { (h : HostOf) → IsValid h → IsSound h → blank (view h) ≡ view h }
 {}
