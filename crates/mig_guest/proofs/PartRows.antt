@@ -1,5 +1,5 @@
 -- Each row of the table of parts has a number of its own, and each part the row of its code.
-use Rattle.mig_guest.proofs.Common.{◌≡◌, ℕ, ◌<◌, ◌^◌, true, false, cond, List, [], ◌∷◌, length, Some, None, refl, sym, ap, subst, ◌∙◌, ◌==◌, ◌&&◌, eqb-true, and_parts, PartKey, FrameOf, is_hvm_type, IsPart, IsContent, IsRawContent}
+use Rattle.mig_guest.proofs.Common.{◌≡◌, ℕ, ◌<◌, ◌^◌, true, false, cond, List, [], ◌∷◌, length, Some, None, refl, sym, ap, subst, ◌∙◌, ◌==◌, ◌&&◌, eqb-true, and_parts, PartKey, FrameOf, IsFrame, is_hvm_type, is_type_of, IsPart, IsContent, IsRawContent, IsInside, IsGuestFrame}
 use Rattle.std.specs.Prelude.{find}
 use Rattle.mig_headers.specs.declared.kind.Kind.TheVariants.{Hvm}
 use Rattle.mig_headers.specs.declared.kind.Kind.{Kind}
@@ -11,7 +11,8 @@ use Rattle.mig_pagetypes.specs.declared.page_type.PageType.{PageType}
 use Rattle.mig_pagetypes.specs.declared.page_type.PageType.TheVariants.{Notab, Broken, Xalloc}
 use Rattle.mig_guest.specs.declared.table.Entry.{Entry}
 use Rattle.mig_guest.specs.Hosts.{IsHostPart}
-use Rattle.mig_guest.specs.Tables.{EachEntry}
+use Rattle.mig_guest.specs.Tables.{EachEntry, IsWithin}
+use Rattle.mig_pagetypes.specs.Limits.{pfn_limit}
 
 pub number_back : (c : PartCode) → code_of_number (code_number c) ≡ Some c
 number_back P2mFrames = refl
@@ -87,3 +88,13 @@ no_entries P frame hvm level page is = let no : None ≡ Some level = sym (no_le
     no_level Broken h = refl
     no_level Xalloc h = refl
     no_level _ h = cc
+
+-- a frame of an HVM guest
+pub hvm_frame : (kind : Kind) (top pfn : ℕ) (frame : FrameOf) → kind ≡ Hvm → pfn < pfn_limit → IsFrame frame → is_hvm_type frame.type ≡ true → IsGuestFrame kind top pfn frame
+hvm_frame kind top pfn frame hvm small is type = record {
+  small = small;
+  inside = subst (λ k. IsInside k top pfn) (sym hvm) tt;
+  is = is;
+  type = subst (λ k. is_type_of k frame.type ≡ true) (sym hvm) type;
+  entries = no_entries (λ e. IsWithin top e) frame type;
+}

@@ -23,6 +23,7 @@ pub mod BlankBack
 pub mod LongSteps
 pub mod Renamed
 pub mod RenameSteps
+pub mod RenamedFields
 pub mod RenamedContexts
 pub mod GuestsBack
 pub mod SoundRows
@@ -31,6 +32,9 @@ pub mod SoundGuests
 pub mod ListedPages
 pub mod ViewedSays
 pub mod ViewedParts
+pub mod ViewedFrames
+pub mod ViewedPv
+pub mod ViewedHvm
 pub mod ViewedGuests
 pub mod HostViews
 pub mod LocaliseFrames

@@ -8,7 +8,8 @@ use Rattle.mig_pvtables.specs.LocaliseSteps.{is_field_below, changed_below}
 use Rattle.mig_pvtables.specs.RenamedContexts.{field_named, value_renamed, renamed_value, renamed_context}
 use Rattle.mig_pvtables.specs.VcpuContexts.{field_says, field_of_frame}
 use Rattle.mig_pvtables.proofs.BlankSays.{field_there}
-use Rattle.mig_pvtables.proofs.RenamedContexts.{used, unused, place_field}
+use Rattle.mig_pvtables.proofs.RenamedContexts.{place_field}
+use Rattle.mig_pvtables.proofs.RenamedFields.{used, unused}
 
 -- what is said, where it is used
 split : (b : Bool) (w n : ℕ) → Some n ≡ cond b (Some w) None → (b ≡ true) × (w ≡ n)

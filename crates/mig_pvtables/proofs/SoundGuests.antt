@@ -22,7 +22,8 @@ use Rattle.mig_pvtables.proofs.HvmGuests.{hvm_complete}
 use Rattle.mig_pvtables.proofs.LocalisedGuests.{localised_type, renamed_there, renamed_listed, from_context, kept_p2m}
 use Rattle.mig_pvtables.proofs.PvGuests.{pv_complete}
 use Rattle.mig_pvtables.proofs.Renamed.{EntryGoesBack, TableGoesBack, fits_back, said_anew}
-use Rattle.mig_pvtables.proofs.RenamedContexts.{FieldGoesBack, IsBlankField, frame_there, unused_stays, first, unused, used, there_at, same_ents}
+use Rattle.mig_pvtables.proofs.RenamedContexts.{there_at, same_ents}
+use Rattle.mig_pvtables.proofs.RenamedFields.{FieldGoesBack, IsBlankField, frame_there, unused_stays, first, unused, used}
 
 -- ---- entries
 

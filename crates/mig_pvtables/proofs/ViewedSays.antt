@@ -13,7 +13,7 @@ use Rattle.mig_pvtables.proofs.BlankSays.{low_says, field_there}
 use Rattle.mig_pvtables.proofs.BlankWhole.{unfit}
 use Rattle.mig_pvtables.proofs.Moduli.{long_of_each}
 use Rattle.mig_pvtables.proofs.Renamed.{renamed_long, by_frames, renamed_says}
-use Rattle.mig_pvtables.proofs.RenamedContexts.{frame_there, field_small}
+use Rattle.mig_pvtables.proofs.RenamedFields.{frame_there, field_small}
 
 -- ---- the PFN of a machine frame has a frame
 
