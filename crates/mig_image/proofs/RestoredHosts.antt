@@ -87,10 +87,6 @@ module _ (frames : FrameMap) (base : ℕ) where
 
 -- ---- the host that a whole guest becomes, of the guest as it is localised with the machine frames that were counted up
 
--- an HVM guest stays as it is
-pub localised_hvm : (mfn_of : ℕ → Option ℕ) (g : GuestOf) → g.kind ≡ Hvm → g ≡ localised mfn_of g
-localised_hvm mfn_of g hvm = sym (ap (λ (k : Kind). localised_of k mfn_of g) hvm)
-
 module _ (g : GuestOf) (base : ℕ) (machines : MachineMap) (counted : (pfn : ℕ) → maps.get machines pfn ≡ mfn_in g.frames base pfn) where
   is_there : (m : ℕ) (o : Option FrameOf) → is_some (option_map (λ (_ : FrameOf). m) o) ≡ is_some o
   is_there m None = refl

@@ -1,15 +1,16 @@
 ghost use Rattle.std.specs.Prelude.{◌≡◌, ◌⊎◌, ℕ, ◌+◌, ◌<◌, ◌≤◌, ◌^◌, ◌↔◌, true, false, IfOk, Err, IsSome, length};
 ghost use Rattle.std.specs.FinMap as maps;
 ghost use Rattle.std.specs.Option.{option_map};
-ghost use Rattle.mig_headers.specs.declared.kind.Kind.TheVariants.{Hvm};
 ghost use Rattle.mig_pvtables.specs.Whole.{IsWhole};
-ghost use Rattle.mig_image.specs.Hosted.{hosted, rank_in, least_width, IsBaseOutside};
+ghost use Rattle.mig_image.specs.Hosted.{hosted, hosted_width, rank_in, least_width, IsBaseOutside};
 ghost use Rattle.mig_image.specs.declared.restore.HostAnswer.TheVariants.{BaseRange};
 
 use crate::host::Host;
 use crate::machine_frames::{MACHINE_LIMIT, MachineFrames};
 use mig_bytes::Memory;
 use mig_guest::Guest;
+use mig_headers::Kind;
+use mig_pvtables::localise;
 use std::alloc::Global;
 use thiserror::Error;
 
@@ -52,26 +53,36 @@ fn count_up(alloc: Global, guest: &Guest, base: u64) -> Result<(MachineFrames, u
     Ok((machines, from))
 }
 
+/// The width of the host that a guest becomes, where this is one more than its greatest PFN.
+fn width_for(guest: &Guest, least: u64) -> u64
+    requires { guest.now.top < 2 ^ 28 }
+    ensures { least ≡ least_width (maps.entries guest.now.frames) → result ≡ hosted_width guest.now.kind guest.now }
+{
+    match guest.kind() {
+        Kind::Pv => guest.top() + 1,
+        Kind::Hvm => least,
+    }
+}
+
 /// The host that a restored guest becomes: the frame of rank i, in the order of the frame numbers, gets machine frame
-/// base + i. The pages and parts of the guest are moved, not copied. A refusal drops the guest.
-///
-/// So far for HVM guests, whose pages and parts hold no machine frames.
+/// base + i, and these stand in the tables, P2M frames and vCPUs of a PV guest. The pages and parts of the guest are
+/// moved, and changed where they are. A refusal drops the guest.
 #[tactic(auto, using(crate::proofs::InOrder::entries_counted))]
 pub fn host_of(alloc: Global, guest: Guest, base: u64) -> Result<Host, HostAnswer>
     requires whole { IsWhole guest }
-    requires hvm { guest.kind ≡ Hvm }
     ensures hosted { IfOk result (λ host. host.host ≡ hosted guest base) }
     ensures outside { (result ≡ Err BaseRange) ↔ IsBaseOutside guest base }
 {
     if is_outside(base, guest.frames()) {
         return Err(HostAnswer::BaseRange);
     }
-    match count_up(alloc, &guest, base) {
-        Ok((machines, width)) => {
-            let kind = guest.kind();
-            let (frames, parts) = guest.into_frames_and_parts();
-            Ok(Host::of(kind, width, frames, machines, parts))
-        }
-        Err(Memory) => Err(HostAnswer::Memory),
-    }
+    let Ok((machines, least)) = count_up(alloc, &guest, base) else {
+        return Err(HostAnswer::Memory);
+    };
+    let mut guest = guest;
+    let kind = guest.kind();
+    let width = width_for(&guest, least);
+    localise(&mut guest, &machines);
+    let (frames, parts) = guest.into_frames_and_parts();
+    Ok(Host::of(kind, width, frames, machines, parts))
 }

@@ -21,7 +21,7 @@ pub use Rattle.mig_restore.specs.Record.{Content, FrameEntry, StreamRecord, is_e
 pub use Rattle.mig_restore.specs.Record.Content.{Frames, Nothing, Sets, Lists}
 pub use Rattle.mig_restore.specs.Spelled.{Accepted, AreEntries, Follows, HasContent, IsBatch, IsComplete, IsEntry, IsGoodWord, IsImage, IsPage, Spells}
 pub use Rattle.mig_restore.specs.Spelled.HasContent.{ends, sets, static_end}
-pub use Rattle.mig_tool.specs.Answers.{Comes, ComesOf, Done, DonePart, InputRises, IsLine, IsRejected, IsServed, LeavesOut, PutsOwnLine, Says, SaysOf, WriteRose, Written, restored_text, summary_of}
+pub use Rattle.mig_tool.specs.Answers.{Comes, ComesOf, Done, DonePart, InputRises, IsLine, LeavesOut, PutsOwnLine, Says, SaysOf, WriteRose, Written, restored_text, summary_of}
 pub use Rattle.mig_tool.specs.Bare.{IsBare}
 pub use Rattle.mig_tool.specs.Outcome.{line_of, outcome_of, status_of}
 pub use Rattle.mig_tool.specs.Words.{IsBase, Names}

@@ -1,5 +1,5 @@
 -- What the program answers, and what the line on the report comes to.
-use Rattle.mig_tool.proofs.Common.{◌⊎◌, ◌≡◌, ℕ, ◌++◌, List, [], length, arith, Option, Some, None, Result, Ok, Err, refl, sym, ap, subst, ◌∙◌, GuestOf, Accepted, Pv, Hvm, IsBare, IsFew, IsBase, restored_text, Written, Done, DonePart, IsServed, IsRejected, Comes, ComesOf, Says, SaysOf, InputRises, IsLine, summary_of, Command, Normalise, Restore, Verify, mean_kind, status_of, line_of, outcome_of}
+use Rattle.mig_tool.proofs.Common.{◌⊎◌, ◌≡◌, ℕ, ◌++◌, List, [], length, arith, Option, Some, None, Result, Ok, Err, refl, sym, ap, subst, ◌∙◌, GuestOf, Accepted, Kind, Hvm, Pv, IsBare, IsFew, IsBase, restored_text, Written, Done, DonePart, Comes, ComesOf, Says, SaysOf, InputRises, IsLine, summary_of, Command, Normalise, Restore, Verify, mean_kind, status_of, line_of, outcome_of}
 use mathlib.Core.Logic.{inl, inr}
 use Rattle.std.specs.Io.KnownBytes.{Appends}
 use Rattle.mig_bytes.specs.Bytes.{Puts}
@@ -9,12 +9,12 @@ use Rattle.mig_headers.specs.declared.fault.Cause.{Cause}
 use Rattle.mig_headers.specs.declared.fault.Place.{Place}
 use Rattle.mig_restore.specs.Stream.{IsRefused}
 use Rattle.mig_canon.specs.Canon.{canon}
-use Rattle.mig_pvtables.proofs.HvmGuests.{hvm_complete}
+use Rattle.mig_pvtables.specs.Blank.{IsOfBytes}
 use Rattle.mig_restore.specs.Judging.{Opening}
 use Rattle.mig_bytes.specs.Judged.Judged.{Passes}
 use Rattle.mig_restore.specs.Stream.{ImageOf, IsReading, ReadsImage, image_at}
 use Rattle.mig_restore.specs.declared.read.Reading.{Reading}
-use Rattle.mig_restore.proofs.Converse.{one_front, never_both}
+use Rattle.mig_restore.proofs.Converse.{never_both}
 use Rattle.mig_restore.proofs.Laws.{accepted_is_image}
 use Rattle.mig_tool.proofs.Canons.{canon_is_accepted, canon_is_one_to_one}
 use Rattle.mig_tool.specs.declared.outcome.Outcome.{Outcome}
@@ -23,8 +23,10 @@ use Rattle.mig_tool.specs.declared.status.Status.{Status}
 use Rattle.mig_tool.specs.declared.status.Status.TheVariants as statuses
 use Rattle.mig_image.specs.Hosted.{hosted, IsBaseOutside}
 use Rattle.mig_image.proofs.ImageReads.{image_reads}
-use Rattle.mig_image.proofs.HostViews.{hosted_seen}
-use Rattle.mig_image.proofs.RestoredHosts.{hosted_valid}
+use Rattle.mig_pvtables.specs.Whole.{IsWhole}
+use Rattle.mig_pvtables.proofs.HvmGuests.{hvm_complete}
+use Rattle.mig_pvtables.proofs.PvGuests.{pv_complete}
+use Rattle.mig_image.proofs.HostedGuests.{whole_valid, whole_sound, whole_seen}
 use Rattle.mig_bytes.specs.Bytes.{AppendsPart}
 use Rattle.mig_tool.specs.declared.outcome.Summary.{Summary}
 use Rattle.mig_restore.specs.declared.answer.StreamAnswer.{StreamAnswer}
@@ -50,12 +52,8 @@ nothing_fails line old new before now (inr (later, rose, part)) none = absurd (o
 
 -- the line of an outcome is that of its status
 line_is : (command : Command) (told left : Option (List ℕ)) (w : Written) (outcome : Outcome) → ComesOf command told left w outcome → IsLine told (status_of outcome) (line_of outcome)
-line_is command None left w (outcomes.Refused place cause) h = inl (place, cause, refl, tt)
-line_is command (Some input) left w (outcomes.Refused place cause) (rest, refused, is) = inl (place, cause, refl, (rest, refused))
-line_is command None left w outcomes.Unbuilt h = inr (refl, tt)
-line_is (Restore base) (Some input) left w outcomes.Unbuilt h = inr (refl, (h.guest, h.rest, h.accepted, h.pv))
-line_is Normalise (Some input) left w outcomes.Unbuilt h = absurd h
-line_is Verify (Some input) left w outcomes.Unbuilt h = absurd h
+line_is command None left w (outcomes.Refused place cause) h = (place, cause, refl, tt)
+line_is command (Some input) left w (outcomes.Refused place cause) (rest, refused, is) = (place, cause, refl, (rest, refused))
 line_is command told left w _ h = refl
 
 -- and it was reported
@@ -67,12 +65,7 @@ line_reported command told left w outcome status old new before now is h line =
 -- ---- the status
 
 says : (command : Command) (input : List ℕ) (left : Option (List ℕ)) (w : Written) (outcome : Outcome) → Comes command input left w outcome → Says command input left w (status_of outcome)
-says (Restore base) input left w (outcomes.Refused place cause) (rest, refused, is) = inl (record { place = place; cause = cause; rest = rest; refused = refused; left_is = is })
-says Normalise input left w (outcomes.Refused place cause) (rest, refused, is) = record { place = place; cause = cause; rest = rest; refused = refused; left_is = is }
-says Verify input left w (outcomes.Refused place cause) (rest, refused, is) = record { place = place; cause = cause; rest = rest; refused = refused; left_is = is }
-says (Restore base) input left w outcomes.Unbuilt h = inr h
-says Normalise input left w outcomes.Unbuilt h = absurd h
-says Verify input left w outcomes.Unbuilt h = absurd h
+says command input left w (outcomes.Refused place cause) (rest, refused, is) = record { place = place; cause = cause; rest = rest; refused = refused; left_is = is }
 says command input left w _ h = h
 
 pub says_of : (command : Command) (told left : Option (List ℕ)) (w : Written) (outcome : Outcome) → ComesOf command told left w outcome → SaysOf command told left w (status_of outcome)
@@ -91,48 +84,22 @@ done_refused _ input left w place cause rest h refused = never_both input h.gues
 
 part_refused : (command : Command) (input : List ℕ) (left : Option (List ℕ)) (w : Written) (place : Place) (cause : Cause) (rest : List ℕ) → DonePart command input left w → IsRefused input place cause rest → ⊥
 part_refused Normalise input left w place cause rest h refused = never_both input h.guest h.rest place cause rest h.accepted refused
-part_refused (Restore base) input left w place cause rest h refused = never_both input h.0.guest h.0.rest place cause rest h.0.accepted refused
-part_refused Verify input left w place cause rest h refused = never_both input h.guest h.rest place cause rest h.accepted refused
-
--- where the guest is one that the command serves, an accepted stream isn't refused
-not_rejected : (command : Command) (input : List ℕ) (left : Option (List ℕ)) (guest : GuestOf) (rest : List ℕ) → IsServed command guest → IsRejected command input left → Accepted input guest rest → ⊥
-not_rejected Normalise input left guest rest served h accepted = never_both input guest rest h.place h.cause h.rest accepted h.refused
-not_rejected Verify input left guest rest served h accepted = never_both input guest rest h.place h.cause h.rest accepted h.refused
-not_rejected (Restore base) input left guest rest hvm (inl h) accepted = never_both input guest rest h.place h.cause h.rest accepted h.refused
-not_rejected (Restore base) input left guest rest hvm (inr h) accepted =
-    let no : Hvm ≡ Pv = sym hvm ∙ ap (λ (x : GuestOf). x.kind) (one_front input guest h.guest rest h.rest accepted h.accepted).0 ∙ h.pv in cc
+part_refused _ input left w place cause rest h refused = never_both input h.guest h.rest place cause rest h.accepted refused
 
 -- an accepted stream is done, but for memory, where nothing failed
-done_or : (command : Command) (input : List ℕ) (left : Option (List ℕ)) (w : Written) (status : Status) (guest : GuestOf) (rest : List ℕ) → IsServed command guest → Says command input left w status → Accepted input guest rest
+done_or : (command : Command) (input : List ℕ) (left : Option (List ℕ)) (w : Written) (status : Status) (guest : GuestOf) (rest : List ℕ) → Says command input left w status → Accepted input guest rest
     → (status ≡ statuses.ReadFault → ⊥) → (status ≡ statuses.WriteFault → ⊥) → (status ≡ statuses.Done) ⊎ (status ≡ statuses.Memory)
-done_or command input left w statuses.Done guest rest served h accepted reads writes = inl refl
-done_or command input left w statuses.Refused guest rest served h accepted reads writes = absurd (not_rejected command input left guest rest served h accepted)
-done_or command input left w statuses.Usage guest rest served h accepted reads writes = absurd h
-done_or command input left w statuses.ReadFault guest rest served h accepted reads writes = absurd (reads refl)
-done_or command input left w statuses.WriteFault guest rest served h accepted reads writes = absurd (writes refl)
-done_or command input left w statuses.Memory guest rest served h accepted reads writes = inr refl
+done_or command input left w statuses.Done guest rest h accepted reads writes = inl refl
+done_or command input left w statuses.Refused guest rest h accepted reads writes = absurd (never_both input guest rest h.place h.cause h.rest accepted h.refused)
+done_or command input left w statuses.Usage guest rest h accepted reads writes = absurd h
+done_or command input left w statuses.ReadFault guest rest h accepted reads writes = absurd (reads refl)
+done_or command input left w statuses.WriteFault guest rest h accepted reads writes = absurd (writes refl)
+done_or command input left w statuses.Memory guest rest h accepted reads writes = inr refl
 
-pub accepted_done : (command : Command) (told left : Option (List ℕ)) (w : Written) (status : Status) (input : List ℕ) (guest : GuestOf) (rest : List ℕ) → IsServed command guest → SaysOf command told left w status → told ≡ Some input → Accepted input guest rest
+pub accepted_done : (command : Command) (told left : Option (List ℕ)) (w : Written) (status : Status) (input : List ℕ) (guest : GuestOf) (rest : List ℕ) → SaysOf command told left w status → told ≡ Some input → Accepted input guest rest
     → (status ≡ statuses.ReadFault → ⊥) → (status ≡ statuses.WriteFault → ⊥) → (status ≡ statuses.Done) ⊎ (status ≡ statuses.Memory)
-accepted_done command told left w status input guest rest served h is accepted reads writes =
-    done_or command input left w status guest rest served (subst (λ t. SaysOf command t left w status) is h) accepted reads writes
-
--- a PV guest isn't restored
-unbuilt_or : (base : ℕ) (input : List ℕ) (left : Option (List ℕ)) (w : Written) (status : Status) (guest : GuestOf) (rest : List ℕ) → guest.kind ≡ Pv → Says (Restore base) input left w status → Accepted input guest rest
-    → (status ≡ statuses.ReadFault → ⊥) → (status ≡ statuses.Refused) ⊎ (status ≡ statuses.Memory)
-unbuilt_or base input left w statuses.Done guest rest pv h accepted reads =
-    let no : Hvm ≡ Pv = sym h.hvm ∙ ap (λ (x : GuestOf). x.kind) (one_front input h.guest guest h.rest rest h.accepted accepted).0 ∙ pv in cc
-unbuilt_or base input left w statuses.Refused guest rest pv h accepted reads = inl refl
-unbuilt_or base input left w statuses.Usage guest rest pv h accepted reads = absurd h
-unbuilt_or base input left w statuses.ReadFault guest rest pv h accepted reads = absurd (reads refl)
-unbuilt_or base input left w statuses.WriteFault guest rest pv h accepted reads =
-    let no : Hvm ≡ Pv = sym h.1 ∙ ap (λ (x : GuestOf). x.kind) (one_front input h.0.guest guest h.0.rest rest h.0.accepted accepted).0 ∙ pv in cc
-unbuilt_or base input left w statuses.Memory guest rest pv h accepted reads = inr refl
-
-pub pv_unbuilt : (command : Command) (base : ℕ) (told left : Option (List ℕ)) (w : Written) (status : Status) (input : List ℕ) (guest : GuestOf) (rest : List ℕ) → command ≡ Restore base → guest.kind ≡ Pv → SaysOf command told left w status → told ≡ Some input
-    → Accepted input guest rest → (status ≡ statuses.ReadFault → ⊥) → (status ≡ statuses.Refused) ⊎ (status ≡ statuses.Memory)
-pv_unbuilt command base told left w status input guest rest restores pv h is accepted reads =
-    unbuilt_or base input left w status guest rest pv (subst (λ t. SaysOf (Restore base) t left w status) is (subst (λ (c : Command). SaysOf c told left w status) restores h)) accepted reads
+accepted_done command told left w status input guest rest h is accepted reads writes =
+    done_or command input left w status guest rest (subst (λ t. SaysOf command t left w status) is h) accepted reads writes
 
 refused_or : (command : Command) (input : List ℕ) (left : Option (List ℕ)) (w : Written) (status : Status) (place : Place) (cause : Cause) (rest : List ℕ) → Says command input left w status → IsRefused input place cause rest
     → (status ≡ statuses.ReadFault → ⊥) → (status ≡ statuses.Refused) ⊎ (status ≡ statuses.Memory)
@@ -166,17 +133,25 @@ came (Some input) left w reading (Ok u) outcome (image, rest, accepts, left_is, 
 came (Some input) left w reading (Err e) outcome (image, rest, accepts, left_is, is_read) bare put is =
     subst (Comes Normalise input left w) (sym is) (record { guest = reading.guest; rest = rest; accepted = accepted_front input rest image reading accepts is_read; left_is = left_is; wrote = put })
 
+whole_few : (g : GuestOf) → IsWhole g → IsFew g.frames
+whole_few g whole = by g.kind refl
+  where
+    by : (kind : Kind) → g.kind ≡ kind → IsFew g.frames
+    by Hvm is = (hvm_complete g is whole.faultless).1
+    by Pv is = (pv_complete g is whole.faultless).few
+
 -- a base that may be given fits every guest without too many frames
 pub base_fits : (guest : GuestOf) (base : ℕ) → IsFew guest.frames → IsBase base → IsBaseOutside guest base → ⊥
 base_fits guest base few range (inl zero) = omega (arith, zero, range.0)
 base_fits guest base few range (inr above) = omega (arith, above, range.1, few)
 
-pub restored : (told left : Option (List ℕ)) (w : Written) (reading : Reading) (base : ℕ) (outcome : Outcome) → ReadsImage told left (Ok reading) → IsBare reading.guest → reading.guest.kind ≡ Hvm → IsBase base
+pub restored : (told left : Option (List ℕ)) (w : Written) (reading : Reading) (base : ℕ) (outcome : Outcome) → ReadsImage told left (Ok reading) → IsBare reading.guest → IsOfBytes reading.guest → IsBase base
     → (outcome ≡ outcomes.Done → Appends w.out_old w.out_new (restored_text base reading.guest)) → (outcome ≡ outcomes.WriteFault → AppendsPart w.out_old w.out_new (restored_text base reading.guest))
     → (outcome ≡ outcomes.Done) ⊎ ((outcome ≡ outcomes.WriteFault) ⊎ (outcome ≡ outcomes.Memory)) → ComesOf (Restore base) told left w outcome
-restored None left w reading base outcome h bare hvm range done part answers = tt
-restored (Some input) left w reading base outcome (image, rest, accepts, left_is, is_read) bare hvm range done part (inl is) =
-    let valid = hosted_valid reading.guest base bare.whole hvm (base_fits reading.guest base (hvm_complete reading.guest hvm bare.whole.faultless).1 range) in
+restored None left w reading base outcome h bare bytes range done part answers = tt
+restored (Some input) left w reading base outcome (image, rest, accepts, left_is, is_read) bare bytes range done part (inl is) =
+    let fits = base_fits reading.guest base (whole_few reading.guest bare.whole) range in
+    let valid = whole_valid reading.guest base bare.whole fits in
     subst (Comes (Restore base) input left w) (sym is)
     (record {
       guest = reading.guest;
@@ -185,20 +160,14 @@ restored (Some input) left w reading base outcome (image, rest, accepts, left_is
       left_is = left_is;
       wrote = done is;
       bare = bare;
-      hvm = hvm;
       valid = valid;
-      seen = hosted_seen reading.guest base bare.whole hvm;
+      sound = whole_sound reading.guest base bare.whole bytes bare.blank fits;
+      seen = whole_seen reading.guest base bare.whole bytes bare.blank fits;
       kept = λ more. image_reads (restored_text base reading.guest ++ more) (hosted reading.guest base) more (record { valid = valid; spelled = refl });
     })
-restored (Some input) left w reading base outcome (image, rest, accepts, left_is, is_read) bare hvm range done part (inr (inl is)) =
-    subst (Comes (Restore base) input left w) (sym is) (record { guest = reading.guest; rest = rest; accepted = accepted_front input rest image reading accepts is_read; left_is = left_is; wrote = part is }, hvm)
-restored (Some input) left w reading base outcome h bare hvm range done part (inr (inr is)) = subst (Comes (Restore base) input left w) (sym is) tt
-
--- a PV guest isn't restored
-pub unbuilt : (base : ℕ) (told left : Option (List ℕ)) (w : Written) (reading : Reading) → ReadsImage told left (Ok reading) → reading.guest.kind ≡ Pv → ComesOf (Restore base) told left w outcomes.Unbuilt
-unbuilt base None left w reading h pv = tt
-unbuilt base (Some input) left w reading (image, rest, accepts, left_is, is_read) pv =
-    record { guest = reading.guest; rest = rest; accepted = accepted_front input rest image reading accepts is_read; left_is = left_is; pv = pv }
+restored (Some input) left w reading base outcome (image, rest, accepts, left_is, is_read) bare bytes range done part (inr (inl is)) =
+    subst (Comes (Restore base) input left w) (sym is) (record { guest = reading.guest; rest = rest; accepted = accepted_front input rest image reading accepts is_read; left_is = left_is; wrote = part is })
+restored (Some input) left w reading base outcome h bare bytes range done part (inr (inr is)) = subst (Comes (Restore base) input left w) (sym is) tt
 
 -- no stream was read
 pub not_read : (command : Command) (told left : Option (List ℕ)) (w : Written) (answer : StreamAnswer) (outcome : Outcome) → ReadsImage told left (Err answer) → outcome ≡ outcome_of answer → ComesOf command told left w outcome

@@ -1,5 +1,5 @@
 -- What the program answers, takes and writes.
-use Rattle.std.specs.Prelude.{◌≡◌, ◌↔◌, ◌⊎◌, ◌≤◌, ℕ, List, [], ◌++◌, length, ⊤, Some, None, Option}
+use Rattle.std.specs.Prelude.{◌≡◌, ◌↔◌, ◌≤◌, ℕ, List, [], ◌++◌, length, ⊤, Some, None, Option}
 use Rattle.std.specs.FinMap as maps
 use Rattle.std.specs.Io.KnownBytes.{Appends}
 use Rattle.mig_bytes.specs.Bytes.{AppendsPart}
@@ -7,14 +7,14 @@ use Rattle.mig_bytes.specs.Faults.{Rose}
 use Rattle.mig_bytes.specs.Judged.Judged.{Passes}
 use Rattle.mig_headers.specs.declared.fault.Cause.{Cause}
 use Rattle.mig_headers.specs.declared.fault.Place.{Place}
-use Rattle.mig_headers.specs.declared.kind.Kind.TheVariants.{Pv, Hvm}
 use Rattle.mig_canon.specs.Canon.{canon}
 use Rattle.mig_guest.specs.Guests.{GuestOf}
 use Rattle.mig_guest.specs.Hosts.{IsValid}
 use Rattle.mig_image.specs.Hosted.{hosted}
 use Rattle.mig_image.specs.Image.{image}
 use Rattle.mig_image.specs.ImageParts.{host_at}
-use Rattle.mig_pvtables.specs.View.{hvm_view}
+use Rattle.mig_pvtables.specs.Sound.{IsSound}
+use Rattle.mig_pvtables.specs.View.{view}
 use Rattle.mig_restore.specs.Spelled.{Accepted}
 use Rattle.mig_restore.specs.Stream.{IsRefused}
 use Rattle.mig_tool.specs.Bare.{IsBare}
@@ -25,7 +25,7 @@ use Rattle.mig_tool.specs.declared.outcome.Outcome.TheVariants as outcomes
 use Rattle.mig_tool.specs.declared.outcome.Summary.{Summary}
 use Rattle.mig_tool.specs.declared.status.Status.{Status}
 use Rattle.mig_tool.specs.declared.status.Status.TheVariants as statuses
-use Rattle.mig_tool.specs.Report.{refusal_line, unbuilt_line, usage_line, read_fault_line, write_fault_line, memory_line, ok_line}
+use Rattle.mig_tool.specs.Report.{refusal_line, usage_line, read_fault_line, write_fault_line, memory_line, ok_line}
 
 -- ---- an accepted front of the input, and what was written of its guest
 
@@ -45,8 +45,8 @@ pub record Normalised (input : List ℕ) (left old new : Option (List ℕ)) : Ty
 abbrev pub restored_text : ℕ → GuestOf → List ℕ
 restored_text base guest = image (hosted guest base)
 
--- a front of the input is an accepted stream of an HVM guest, the rest is left, and the image of its guest was written: that
--- of a valid host, as which it is read again
+-- a front of the input is an accepted stream, the rest is left, and the image of its guest was written: that of a valid and
+-- sound host that is seen as the guest, as which it is read again
 pub record Restored (base : ℕ) (input : List ℕ) (left old new : Option (List ℕ)) : Type 0 where
   pub guest : GuestOf
   pub rest : List ℕ
@@ -54,9 +54,9 @@ pub record Restored (base : ℕ) (input : List ℕ) (left old new : Option (List
   pub left_is : left ≡ Some rest
   pub wrote : Appends old new (restored_text base guest)
   pub bare : IsBare guest
-  pub hvm : guest.kind ≡ Hvm
   pub valid : IsValid (hosted guest base)
-  pub seen : hvm_view (hosted guest base) ≡ guest
+  pub sound : IsSound (hosted guest base)
+  pub seen : view (hosted guest base) ≡ guest
   pub kept : (more : List ℕ) → host_at (restored_text base guest ++ more) ≡ Passes (hosted guest base) more
 
 -- the same, but a write failed, and of the guest's text only a part was written
@@ -88,20 +88,6 @@ pub record Rejected (input : List ℕ) (left : Option (List ℕ)) : Type 0 where
   pub refused : IsRefused input place cause rest
   pub left_is : left ≡ Some rest
 
--- a front of the input is an accepted stream of a PV guest, whose image isn't written so far, and the rest is left
-pub record Unbuilt (input : List ℕ) (left : Option (List ℕ)) : Type 0 where
-  pub guest : GuestOf
-  pub rest : List ℕ
-  pub accepted : Accepted input guest rest
-  pub left_is : left ≡ Some rest
-  pub pv : guest.kind ≡ Pv
-
--- which commands do their work for a guest: so far only an HVM guest is restored
-abbrev pub IsServed : Command → GuestOf → Type 0
-IsServed Normalise guest = ⊤
-IsServed (Restore base) guest = guest.kind ≡ Hvm
-IsServed Verify guest = ⊤
-
 -- ---- what a status of a command says: of the input, of what is left of it, of what was written, and of the report
 
 -- what stands on the output and on the report, before the call and after it
@@ -118,18 +104,12 @@ Done Verify input left w = Verified (Appends w.report_old w.report_new) input le
 
 abbrev pub DonePart : Command → List ℕ → Option (List ℕ) → Written → Type 0
 DonePart Normalise input left w = PartWritten canon input left w.out_old w.out_new
-DonePart (Restore base) input left w = (h : PartWritten (restored_text base) input left w.out_old w.out_new) × (h.guest.kind ≡ Hvm)
+DonePart (Restore base) input left w = PartWritten (restored_text base) input left w.out_old w.out_new
 DonePart Verify input left w = Verified (AppendsPart w.report_old w.report_new) input left
-
--- the input was refused; or the guest is one that isn't restored so far
-abbrev pub IsRejected : Command → List ℕ → Option (List ℕ) → Type 0
-IsRejected Normalise input left = Rejected input left
-IsRejected (Restore base) input left = Rejected input left ⊎ Unbuilt input left
-IsRejected Verify input left = Rejected input left
 
 abbrev pub Says : Command → List ℕ → Option (List ℕ) → Written → Status → Type 0
 Says command input left w statuses.Done = Done command input left w
-Says command input left w statuses.Refused = IsRejected command input left
+Says command input left w statuses.Refused = Rejected input left
 Says command input left w statuses.Usage = ⊥
 Says command input left w statuses.ReadFault = ⊤
 Says command input left w statuses.WriteFault = DonePart command input left w
@@ -163,15 +143,10 @@ abbrev pub NamesRefusal : Option (List ℕ) → Place → Cause → Type 0
 NamesRefusal None place cause = ⊤
 NamesRefusal (Some input) place cause = (rest : List ℕ) × IsRefused input place cause rest
 
--- the guest is that of the input, where it tells its bytes
-abbrev pub HasPv : Option (List ℕ) → Type 0
-HasPv None = ⊤
-HasPv (Some input) = (guest : GuestOf) × (rest : List ℕ) × Accepted input guest rest × (guest.kind ≡ Pv)
-
 -- status 0 of `normalise` and `restore` has none
 abbrev pub IsLine : Option (List ℕ) → Status → List ℕ → Type 0
 IsLine told statuses.Done line = line ≡ []
-IsLine told statuses.Refused line = ((place : Place) × (cause : Cause) × (line ≡ refusal_line place cause) × NamesRefusal told place cause) ⊎ ((line ≡ unbuilt_line) × HasPv told)
+IsLine told statuses.Refused line = (place : Place) × (cause : Cause) × (line ≡ refusal_line place cause) × NamesRefusal told place cause
 IsLine told statuses.Usage line = line ≡ usage_line
 IsLine told statuses.ReadFault line = line ≡ read_fault_line
 IsLine told statuses.WriteFault line = line ≡ write_fault_line
@@ -201,15 +176,9 @@ LeavesOut Verify = ⊤
 
 -- ---- the same of an outcome, which has the refusal
 
-abbrev pub ComesUnbuilt : Command → List ℕ → Option (List ℕ) → Type 0
-ComesUnbuilt Normalise input left = ⊥
-ComesUnbuilt (Restore base) input left = Unbuilt input left
-ComesUnbuilt Verify input left = ⊥
-
 abbrev pub Comes : Command → List ℕ → Option (List ℕ) → Written → Outcome → Type 0
 Comes command input left w outcomes.Done = Done command input left w
 Comes command input left w (outcomes.Refused place cause) = (rest : List ℕ) × IsRefused input place cause rest × (left ≡ Some rest)
-Comes command input left w outcomes.Unbuilt = ComesUnbuilt command input left
 Comes command input left w outcomes.Usage = ⊥
 Comes command input left w outcomes.ReadFault = ⊤
 Comes command input left w outcomes.WriteFault = DonePart command input left w

@@ -6,12 +6,11 @@ use Rattle.mig_tool.specs.declared.outcome.Outcome.{Outcome}
 use Rattle.mig_tool.specs.declared.outcome.Outcome.TheVariants as outcomes
 use Rattle.mig_tool.specs.declared.status.Status.{Status}
 use Rattle.mig_tool.specs.declared.status.Status.TheVariants as statuses
-use Rattle.mig_tool.specs.Report.{refusal_line, unbuilt_line, usage_line, read_fault_line, write_fault_line, memory_line}
+use Rattle.mig_tool.specs.Report.{refusal_line, usage_line, read_fault_line, write_fault_line, memory_line}
 
 abbrev pub status_of : Outcome → Status
 status_of outcomes.Done = statuses.Done
 status_of (outcomes.Refused place cause) = statuses.Refused
-status_of outcomes.Unbuilt = statuses.Refused
 status_of outcomes.Usage = statuses.Usage
 status_of outcomes.ReadFault = statuses.ReadFault
 status_of outcomes.WriteFault = statuses.WriteFault
@@ -21,7 +20,6 @@ status_of outcomes.Memory = statuses.Memory
 abbrev pub line_of : Outcome → List ℕ
 line_of outcomes.Done = []
 line_of (outcomes.Refused place cause) = refusal_line place cause
-line_of outcomes.Unbuilt = unbuilt_line
 line_of outcomes.Usage = usage_line
 line_of outcomes.ReadFault = read_fault_line
 line_of outcomes.WriteFault = write_fault_line

@@ -14,10 +14,6 @@ use Rattle.mig_tool.specs.declared.outcome.Summary.{Summary}
 abbrev pub refusal_line : Place → Cause → List ℕ
 refusal_line place cause = codes "refused: " ++ (text_of_place place ++ (codes ": " ++ (text_of_cause cause ++ codes "\n")))
 
--- the guest of an accepted stream is a PV guest, which isn't restored so far
-abbrev pub unbuilt_line : List ℕ
-unbuilt_line = codes "refused: Restore: 0 NotBuilt 1\n"
-
 abbrev pub usage_line : List ℕ
 usage_line = codes "usage: restore [BASE] | verify | normalise | convert | save | exercise SEED FRAMES\n"
 

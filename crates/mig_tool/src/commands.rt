@@ -2,7 +2,6 @@ ghost use Rattle.std.specs.Prelude.{◌≡◌, ◌≢◌, ◌≤◌, ◌⊎◌, 
 ghost use Rattle.std.specs.Io.KnownBytes.{Appends};
 ghost use Rattle.mig_bytes.specs.Bytes.{AppendsPart};
 ghost use Rattle.mig_bytes.specs.Faults.{Rose};
-ghost use Rattle.mig_headers.specs.declared.kind.Kind.TheVariants.{Hvm};
 ghost use Rattle.mig_pvtables.specs.Whole.{IsWhole};
 ghost use Rattle.mig_tool.specs.Answers.{SaysOf, ComesOf, WriteRose, InputRises, OutputRises, IsLine, HasOwnLine, PutsOwnLine, LeavesOut, restored_text};
 ghost use Rattle.mig_tool.specs.Outcome.{outcome_of, status_of};
@@ -18,7 +17,6 @@ use crate::status::Status;
 use mig_bytes::{Sink, Source};
 use mig_canon::write_canon;
 use mig_guest::Guest;
-use mig_headers::Kind;
 use mig_image::{HostAnswer, host_of, write_host};
 use mig_restore::{StreamAnswer, read_image};
 use std::alloc::Global;
@@ -54,7 +52,6 @@ fn normalise<S: Source, K: Sink>(alloc: Global, input: &mut S, out: &mut K) -> O
 /// Writes the image of a guest, with machine frames counted up from the base.
 fn write_restored<K: Sink>(alloc: Global, guest: Guest, base: u64, out: &mut K) -> Outcome
     requires whole { IsWhole guest }
-    requires hvm { guest.kind ≡ Hvm }
     requires base { IsBase base }
     ensures done { result ≡ outcomes.Done → Appends (K.written out.old) (K.written out.new) (restored_text base guest) }
     ensures part { result ≡ outcomes.WriteFault → AppendsPart (K.written out.old) (K.written out.new) (restored_text base guest) }
@@ -72,8 +69,7 @@ fn write_restored<K: Sink>(alloc: Global, guest: Guest, base: u64, out: &mut K) 
     }
 }
 
-/// Reads a stream, and writes the image of its guest, with machine frames counted up from the base. A PV guest isn't restored
-/// so far.
+/// Reads a stream, and writes the image of its guest, with machine frames counted up from the base.
 fn restore<S: Source, K: Sink>(alloc: Global, base: u64, input: &mut S, out: &mut K) -> Outcome
     requires { IsBase base }
     ensures answer { (before now : Option (List ℕ)) → ComesOf (commands.Restore base) (S.left input.old) (S.left input.new) (record { out_old = K.written out.old; out_new = K.written out.new; report_old = before; report_new = now }) result }
@@ -86,10 +82,7 @@ fn restore<S: Source, K: Sink>(alloc: Global, base: u64, input: &mut S, out: &mu
         Ok(reading) => reading.guest,
         Err(answer) => return unread(answer),
     };
-    match guest.kind() {
-        Kind::Hvm => write_restored(alloc, guest, base, out),
-        Kind::Pv => Outcome::Unbuilt,
-    }
+    write_restored(alloc, guest, base, out)
 }
 
 /// Reads a stream, and says on the report what it is.

@@ -14,8 +14,6 @@ use mig_headers::{Cause, Kind, Place, put_cause, put_number, put_place};
 pub(crate) enum Outcome {
     Done,
     Refused(Place, Cause),
-    /// A PV guest isn't restored so far.
-    Unbuilt,
     Usage,
     ReadFault,
     WriteFault,
@@ -39,7 +37,7 @@ fn status(outcome: Outcome) -> Status
 {
     match outcome {
         Outcome::Done => Status::Done,
-        Outcome::Refused(_, _) | Outcome::Unbuilt => Status::Refused,
+        Outcome::Refused(_, _) => Status::Refused,
         Outcome::Usage => Status::Usage,
         Outcome::ReadFault => Status::ReadFault,
         Outcome::WriteFault => Status::WriteFault,
@@ -67,7 +65,6 @@ pub(crate) fn put_line<R: Sink>(report: &mut R, outcome: Outcome) -> Result<(), 
     match outcome {
         Outcome::Done => put_all(report, b""),
         Outcome::Refused(place, cause) => put_refusal(report, place, cause),
-        Outcome::Unbuilt => put_all(report, b"refused: Restore: 0 NotBuilt 1\n"),
         Outcome::Usage => put_all(
             report,
             b"usage: restore [BASE] | verify | normalise | convert | save | exercise SEED FRAMES\n",

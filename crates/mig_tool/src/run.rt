@@ -5,12 +5,10 @@ ghost use Rattle.mig_headers.specs.declared.fault.Place.{Place};
 ghost use Rattle.mig_guest.specs.Guests.{GuestOf};
 ghost use Rattle.mig_restore.specs.Spelled.{Accepted};
 ghost use Rattle.mig_restore.specs.Stream.{IsRefused};
-ghost use Rattle.mig_tool.specs.Answers.{Written, SaysOf, IsServed, WriteRose, InputRises, IsLine, HasOwnLine, PutsOwnLine, LeavesOut};
+ghost use Rattle.mig_tool.specs.Answers.{Written, SaysOf, WriteRose, InputRises, IsLine, HasOwnLine, PutsOwnLine, LeavesOut};
 ghost use Rattle.mig_tool.specs.Report.{Reports};
 ghost use Rattle.mig_tool.specs.Words.{texts_of, Names};
 ghost use Rattle.mig_tool.specs.declared.command.Command.{Command};
-ghost use Rattle.mig_headers.specs.declared.kind.Kind.TheVariants.{Pv};
-ghost use Rattle.mig_tool.specs.declared.command.Command.TheVariants.{Restore};
 ghost use Rattle.mig_tool.specs.declared.status.Status.TheVariants as statuses;
 
 use crate::command::command_in;
@@ -42,15 +40,11 @@ pub fn run<S: Source, K: Sink, R: Sink>(
     ensures done { (command : Command) → Names (texts_of words.now) command
         → SaysOf command (S.left input.old) (S.left input.new) (record { out_old = K.written out.old; out_new = K.written out.new; report_old = R.written report.old; report_new = R.written report.new }) result }
 
-    // An accepted stream is done and a refused one refused, but for memory, where nothing failed. So far a PV guest isn't
-    // restored.
-    ensures accepted { (command : Command) (bytes : List ℕ) (guest : GuestOf) (rest : List ℕ) → Names (texts_of words.now) command → IsServed command guest → S.left input.old ≡ Some bytes → Accepted bytes guest rest
+    // An accepted stream is done and a refused one refused, but for memory, where nothing failed.
+    ensures accepted { (command : Command) (bytes : List ℕ) (guest : GuestOf) (rest : List ℕ) → Names (texts_of words.now) command → S.left input.old ≡ Some bytes → Accepted bytes guest rest
         → (Rose (S.faults input.old) (S.faults input.new) → ⊥) → (WriteRose command (K.faults out.old) (K.faults out.new) (R.faults report.old) (R.faults report.new) → ⊥)
         → (result ≡ statuses.Done) ⊎ (result ≡ statuses.Memory) }
     ensures refused { (command : Command) (bytes : List ℕ) (place : Place) (cause : Cause) (rest : List ℕ) → Names (texts_of words.now) command → S.left input.old ≡ Some bytes → IsRefused bytes place cause rest
-        → (Rose (S.faults input.old) (S.faults input.new) → ⊥) → (result ≡ statuses.Refused) ⊎ (result ≡ statuses.Memory) }
-
-    ensures unbuilt { (base : ℕ) (bytes : List ℕ) (guest : GuestOf) (rest : List ℕ) → Names (texts_of words.now) (Restore base) → guest.kind ≡ Pv → S.left input.old ≡ Some bytes → Accepted bytes guest rest
         → (Rose (S.faults input.old) (S.faults input.new) → ⊥) → (result ≡ statuses.Refused) ⊎ (result ≡ statuses.Memory) }
 
     // `out` is touched for an accepted stream alone, and never by `verify`. A fault is answered only where a count rose,

@@ -12,6 +12,3 @@ returns-in-WriteFault-clause-bytes g c = puts_same _ _ _ _ c.put_all-in-WriteFau
 
 pub returns-in-Memory-clause-bytes : goal.returns-in-Memory-clause-bytes
 returns-in-Memory-clause-bytes g c = puts_same _ _ _ _ c.put_all-in-Memory.result (ap line_of c.in-Memory.is) c.put_all-in-Memory.ensures.bytes
-
-pub returns-in-Unbuilt-clause-bytes : goal.returns-in-Unbuilt-clause-bytes
-returns-in-Unbuilt-clause-bytes g c = puts_same _ _ _ _ c.put_all-in-Unbuilt.result (ap line_of c.in-Unbuilt.is) c.put_all-in-Unbuilt.ensures.bytes

@@ -1,6 +1,6 @@
-use Rattle.mig_tool.proofs.Common.{subst, sym, Written, SaysOf, WriteRose, PutsOwnLine, LeavesOut, Command, Restore, IsServed}
+use Rattle.mig_tool.proofs.Common.{subst, sym, Written, SaysOf, WriteRose, PutsOwnLine, LeavesOut, Command}
 use Rattle.mig_tool.proofs.Naming.{same_command}
-use Rattle.mig_tool.proofs.Reporting.{accepted_done, refused_refused, pv_unbuilt, input_rose}
+use Rattle.mig_tool.proofs.Reporting.{accepted_done, refused_refused, input_rose}
 use Rattle.mig_tool.proofs.run.run.Goals as goal
 
 pub returns-in-Some-clause-done : goal.returns-in-Some-clause-done
@@ -19,10 +19,10 @@ returns-in-Some-clause-own_line g c = λ command is.
     (same_command _ c.in-Some.command command c.in-Some.ensures.some is) c.carry_out.ensures.own_line
 
 pub returns-in-Some-clause-accepted : goal.returns-in-Some-clause-accepted
-returns-in-Some-clause-accepted g c = λ command bytes guest rest is served told accepted reads writes.
+returns-in-Some-clause-accepted g c = λ command bytes guest rest is told accepted reads writes.
     let w : Written = record { out_old = g.K.Sink.written c.args.out.now; out_new = g.K.Sink.written c.carry_out.new.out; report_old = g.R.Sink.written c.args.report.now; report_new = g.R.Sink.written c.carry_out.new.report } in
     let same = same_command _ c.in-Some.command command c.in-Some.ensures.some is in
-    accepted_done c.in-Some.command (g.S.Source.left c.args.input.now) (g.S.Source.left c.carry_out.new.input) w c.carry_out.result bytes guest rest (subst (λ (d : Command). IsServed d guest) (sym same) served) c.carry_out.ensures.said told accepted
+    accepted_done c.in-Some.command (g.S.Source.left c.args.input.now) (g.S.Source.left c.carry_out.new.input) w c.carry_out.result bytes guest rest c.carry_out.ensures.said told accepted
     (λ e. reads (input_rose _ _ _ c.carry_out.ensures.read e)) (λ e. writes (subst (λ (d : Command). WriteRose d (g.K.Sink.faults c.args.out.now) (g.K.Sink.faults c.carry_out.new.out) (g.R.Sink.faults c.args.report.now) (g.R.Sink.faults c.carry_out.new.report)) same (c.carry_out.ensures.write e)))
 
 pub returns-in-Some-clause-refused : goal.returns-in-Some-clause-refused
@@ -39,12 +39,3 @@ returns-in-None-clause-untouched g c = λ command is leaves. absurd (c.in-None.e
 
 pub returns-in-None-clause-own_line : goal.returns-in-None-clause-own_line
 returns-in-None-clause-own_line g c = λ command is. absurd (c.in-None.ensures.none command is)
-
-pub returns-in-Some-clause-unbuilt : goal.returns-in-Some-clause-unbuilt
-returns-in-Some-clause-unbuilt g c = λ base bytes guest rest is pv told accepted reads.
-    let w : Written = record { out_old = g.K.Sink.written c.args.out.now; out_new = g.K.Sink.written c.carry_out.new.out; report_old = g.R.Sink.written c.args.report.now; report_new = g.R.Sink.written c.carry_out.new.report } in
-    pv_unbuilt c.in-Some.command base (g.S.Source.left c.args.input.now) (g.S.Source.left c.carry_out.new.input) w c.carry_out.result bytes guest rest (same_command _ c.in-Some.command (Restore base) c.in-Some.ensures.some is) pv c.carry_out.ensures.said told accepted
-    (λ e. reads (input_rose _ _ _ c.carry_out.ensures.read e))
-
-pub returns-in-None-clause-unbuilt : goal.returns-in-None-clause-unbuilt
-returns-in-None-clause-unbuilt g c = λ base bytes guest rest is pv told accepted reads. absurd (c.in-None.ensures.none (Restore base) is)
