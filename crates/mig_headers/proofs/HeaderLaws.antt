@@ -58,11 +58,11 @@ domain_passes t s major minor Hvm a b e f g h = rw (e, f, g, h) refl
 behind : (first rest : List ℕ) (n k : ℕ) → length first ≡ 8 → k ≡ 8 + n → drop k (first ++ rest) ≡ drop n rest
 behind first rest n k size is = ap (λ m. drop m (first ++ rest)) (let e : k ≡ length first + n = omega arith in e) ∙ drop-append-add first rest n
 
-marker_of : (first rest : List ℕ) → length first ≡ 8 → be64 (first ++ rest) 0 ≡ be64 first 0
+pub marker_of : (first rest : List ℕ) → length first ≡ 8 → be64 (first ++ rest) 0 ≡ be64 first 0
 unfolding be64
 marker_of first rest size = big_from-append 8 first rest (omega arith)
 
-word_of : (first rest : List ℕ) (n k : ℕ) → length first ≡ 8 → k ≡ 8 + n → be32 (first ++ rest) k ≡ be32 rest n
+pub word_of : (first rest : List ℕ) (n k : ℕ) → length first ≡ 8 → k ≡ 8 + n → be32 (first ++ rest) k ≡ be32 rest n
 unfolding be32
 word_of first rest n k size is = rw (behind first rest n k size is) refl
 

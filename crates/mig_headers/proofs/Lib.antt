@@ -5,3 +5,4 @@ pub mod Chains
 pub mod PairTexts
 pub mod FirstFaults
 pub mod ContextTexts
+pub mod LibxlHeaders

@@ -1,5 +1,5 @@
--- The two headers of a stream (libxc migration stream, "Image Header" and "Domain Header"): what is wrong with them, and what they spell.
-use Rattle.std.specs.Prelude.{◌≡◌, ◌⊎◌, ℕ, ◌-◌, ◌^◌, ◌%◌, List, [], ◌∷◌, ◌++◌, length, replicate, Option, Some, None, Result, Ok, Err, Bool, ◌==◌, ◌&&◌, not, if◌then◌else◌}
+-- The headers of a stream (libxc migration stream, "Image Header" and "Domain Header"; libxl migration stream, "Header"): what is wrong with them, and what they spell.
+use Rattle.std.specs.Prelude.{◌≡◌, ◌⊎◌, ℕ, ◌-◌, ◌^◌, ◌/◌, ◌%◌, List, [], ◌∷◌, ◌++◌, length, replicate, Option, Some, None, Result, Ok, Err, Bool, ◌==◌, ◌&&◌, not, if◌then◌else◌}
 use Rattle.byteorder.specs.Endian.{little_bytes, big_bytes}
 use Rattle.mig_bytes.specs.Fields.{le16, le32, be16, be32, be64}
 use Rattle.mig_headers.specs.declared.kind.Kind.{Kind}
@@ -58,6 +58,24 @@ abbrev pub unless_faulty : {H : Type 0} → Option Cause → H → Result H Caus
 unless_faulty None header = Ok header
 unless_faulty (Some cause) header = Err cause
 
+-- "LibxlFmt"
+abbrev pub libxl_ident : ℕ
+libxl_ident = 0x4C6962786C466D74
+
+-- the 8 bytes behind the ident: version and options, of which bit 0 means a big-endian stream
+abbrev pub libxl_rows : List ℕ → List (Bool × Cause)
+libxl_rows rest =
+    (not (be32 rest 0 == 2), BadVersion (be32 rest 0))
+    ∷ (be32 rest 4 % 2 == 1, BigEndian)
+    ∷ []
+
+abbrev pub fault_of_libxl : List ℕ → Option Cause
+fault_of_libxl rest = first_fault (libxl_rows rest)
+
+-- bit 1 of the options: the stream was made from a legacy one
+abbrev pub is_from_legacy : ℕ → Bool
+is_from_legacy options = options / 2 % 2 == 1
+
 -- the kind of a type that has no fault
 abbrev pub kind_of_number : ℕ → Kind
 kind_of_number number = if number == 1 then Pv else Hvm
@@ -92,3 +110,19 @@ image_header_of version =
 unfoldable pub domain_header_of : Kind → ℕ → ℕ → List ℕ
 domain_header_of kind major minor =
     little_bytes 4 (kind_number kind) ++ (little_bytes 2 page_shift ++ (little_bytes 2 0 ++ (little_bytes 4 major ++ little_bytes 4 minor)))
+
+-- 16 bytes that spell the header of a libxl stream; what isn't named has any value
+pub record IsLibxlHeader (bytes : List ℕ) (legacy : Bool) : Type 0 where
+  pub size : length bytes ≡ 16
+  pub ident : be64 bytes 0 ≡ libxl_ident
+  pub version : be32 bytes 8 ≡ 2
+  pub little_endian : be32 bytes 12 % 2 ≡ 0
+  pub from_legacy : is_from_legacy (be32 bytes 12) ≡ legacy
+
+-- the ident, and what stands behind it
+unfoldable pub behind_ident : List ℕ → List ℕ
+behind_ident rest = big_bytes 8 libxl_ident ++ rest
+
+-- ident, version and options, of which bit 1 alone may be set
+unfoldable pub libxl_header_of : Bool → List ℕ
+libxl_header_of legacy = big_bytes 8 libxl_ident ++ (big_bytes 4 2 ++ big_bytes 4 (if legacy then 2 else 0))

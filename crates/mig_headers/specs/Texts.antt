@@ -1,11 +1,11 @@
 -- The printed texts of places and causes: number, name and arguments, parted by one space.
 use Rattle.std.specs.Prelude.{ℕ, List, [], ◌∷◌, ◌++◌, codes, decimal}
 use Rattle.mig_headers.specs.declared.fault.Place.{Place}
-use Rattle.mig_headers.specs.declared.fault.Place.TheVariants.{ImageHeader, DomainHeader, Record}
+use Rattle.mig_headers.specs.declared.fault.Place.TheVariants.{ImageHeader, DomainHeader, Record, LibxlHeader, LibxlRecord}
 use Rattle.mig_headers.specs.declared.fault.ContextFault.{ContextFault}
 use Rattle.mig_headers.specs.declared.fault.ContextFault.TheVariants.{NoHeader, HeaderSize, ShortEntry, NoEnd}
 use Rattle.mig_headers.specs.declared.fault.Cause.{Cause}
-use Rattle.mig_headers.specs.declared.fault.Cause.TheVariants.{Truncated, NotStream, BadId, BadVersion, BigEndian, BadKind, BadPageShift, BodyTooLong, Unsupported, UnknownMandatory, WrongKind, OutOfOrder, BadLength, NoPages, BadPageType, PfnOutside, Superpage, EntryOutside, Pv32, BadPvInfo, P2mStart, P2mRange, VcpuId, GdtEnts, BadContext, ParamIndex, Missing, P2mFrame, TargetAbsent, VcpuFrame, TooManyRecords, TooManyFrames}
+use Rattle.mig_headers.specs.declared.fault.Cause.TheVariants.{Truncated, NotStream, BadId, BadVersion, BigEndian, BadKind, BadPageShift, BodyTooLong, Unsupported, UnknownMandatory, WrongKind, OutOfOrder, BadLength, NoPages, BadPageType, PfnOutside, Superpage, EntryOutside, Pv32, BadPvInfo, P2mStart, P2mRange, VcpuId, GdtEnts, BadContext, ParamIndex, Missing, P2mFrame, TargetAbsent, VcpuFrame, TooManyRecords, TooManyFrames, BadPairs, BadKey, BadEmulator, EmulatorForPv, ContextCount, TooManyPairs, EmulatorIndex}
 
 -- the number of a cause
 abbrev pub number_of_cause : Cause → ℕ
@@ -41,6 +41,13 @@ number_of_cause (TargetAbsent _ _) = 29
 number_of_cause (VcpuFrame _ _) = 30
 number_of_cause TooManyRecords = 31
 number_of_cause TooManyFrames = 32
+number_of_cause (BadPairs _) = 33
+number_of_cause (BadKey _) = 34
+number_of_cause (BadEmulator _) = 35
+number_of_cause EmulatorForPv = 36
+number_of_cause ContextCount = 37
+number_of_cause TooManyPairs = 38
+number_of_cause (EmulatorIndex _) = 39
 
 -- the name of a cause
 abbrev pub name_of : Cause → List ℕ
@@ -76,6 +83,13 @@ name_of (TargetAbsent _ _) = codes "TargetAbsent"
 name_of (VcpuFrame _ _) = codes "VcpuFrame"
 name_of TooManyRecords = codes "TooManyRecords"
 name_of TooManyFrames = codes "TooManyFrames"
+name_of (BadPairs _) = codes "BadPairs"
+name_of (BadKey _) = codes "BadKey"
+name_of (BadEmulator _) = codes "BadEmulator"
+name_of EmulatorForPv = codes "EmulatorForPv"
+name_of ContextCount = codes "ContextCount"
+name_of TooManyPairs = codes "TooManyPairs"
+name_of (EmulatorIndex _) = codes "EmulatorIndex"
 
 -- the name and the number of what is wrong with a chain of HVM context entries
 abbrev pub words_of_context : ContextFault → List (List ℕ)
@@ -109,6 +123,10 @@ arguments_of (Missing type) = decimal type ∷ []
 arguments_of (P2mFrame index) = decimal index ∷ []
 arguments_of (TargetAbsent pfn slot) = decimal pfn ∷ decimal slot ∷ []
 arguments_of (VcpuFrame id field) = decimal id ∷ decimal field ∷ []
+arguments_of (BadPairs offset) = decimal offset ∷ []
+arguments_of (BadKey offset) = decimal offset ∷ []
+arguments_of (BadEmulator id) = decimal id ∷ []
+arguments_of (EmulatorIndex index) = decimal index ∷ []
 arguments_of _ = []
 
 -- each word after a space
@@ -123,3 +141,5 @@ abbrev pub text_of_place : Place → List ℕ
 text_of_place ImageHeader = codes "ImageHeader"
 text_of_place DomainHeader = codes "DomainHeader"
 text_of_place (Record number) = codes "Record " ++ decimal number
+text_of_place LibxlHeader = codes "LibxlHeader"
+text_of_place (LibxlRecord number) = codes "LibxlRecord " ++ decimal number

@@ -5,6 +5,9 @@ pub enum Place {
     DomainHeader,
     /// The record of this number, counted from 0.
     Record(u64),
+    LibxlHeader,
+    /// The record of this number in the libxl stream around an image, counted from 0.
+    LibxlRecord(u64),
 }
 
 /// What is wrong with a chain of HVM context entries. Offsets count from its first byte.
@@ -55,4 +58,11 @@ pub enum Cause {
     VcpuFrame(u64, u64),
     TooManyRecords,
     TooManyFrames,
+    BadPairs(u64),
+    BadKey(u64),
+    BadEmulator(u64),
+    EmulatorForPv,
+    ContextCount,
+    TooManyPairs,
+    EmulatorIndex(u64),
 }

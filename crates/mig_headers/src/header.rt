@@ -1,6 +1,6 @@
-ghost use Rattle.std.specs.Prelude.{◌≡◌, ◌↔◌, None, Ok};
+ghost use Rattle.std.specs.Prelude.{◌≡◌, ◌==◌, ◌↔◌, None, Ok};
 ghost use Rattle.mig_bytes.specs.Fields.{be64};
-ghost use Rattle.mig_headers.specs.Headers.{fault_of_marker, marker, behind_marker, image_header_of, domain_header_of, IsImageHeader, IsDomainHeader};
+ghost use Rattle.mig_headers.specs.Headers.{fault_of_marker, marker, behind_marker, libxl_ident, behind_ident, image_header_of, domain_header_of, libxl_header_of, IsImageHeader, IsDomainHeader, IsLibxlHeader};
 
 use crate::{Cause, Kind};
 use mig_bytes::{
@@ -16,6 +16,12 @@ const IMAGE_ID: u32 = 0x5845_4E46;
 /// Pages have 2^12 bytes.
 const PAGE_SHIFT: u16 = 12;
 
+/// "LibxlFmt".
+const LIBXL_IDENT: u64 = 0x4C69_6278_6C46_6D74;
+
+/// The only version of the libxl stream.
+const LIBXL_VERSION: u32 = 2;
+
 /// What an image header says (libxc migration stream, "Image Header").
 #[derive(Clone, Copy, Debug, PartialEq, Eq)]
 pub struct ImageHeader {
@@ -29,6 +35,13 @@ pub struct DomainHeader {
     /// The version of Xen that wrote the stream.
     pub major: u32,
     pub minor: u32,
+}
+
+/// What the header of a libxl stream says (libxl migration stream, "Header").
+#[derive(Clone, Copy, Debug, PartialEq, Eq)]
+pub struct LibxlHeader {
+    /// Whether the stream was made from a legacy one.
+    pub legacy: bool,
 }
 
 impl ImageHeader {
@@ -121,6 +134,53 @@ impl DomainHeader {
         put_u16_le(&mut bytes, 4, PAGE_SHIFT);
         put_u32_le(&mut bytes, 8, self.major);
         put_u32_le(&mut bytes, 12, self.minor);
+        bytes
+    }
+}
+
+impl LibxlHeader {
+    ghost use Rattle.mig_headers.specs.HeaderValues.{libxl_header_in};
+
+    /// Whether these are the first 8 bytes of a libxl stream.
+    pub fn is_ident(bytes: &[u8; 8]) -> bool
+        ensures { result ≡ (be64 bytes.now 0 == libxl_ident) }
+    {
+        u64_be(bytes, 0) == LIBXL_IDENT
+    }
+
+    /// Reads the 8 bytes behind the ident.
+    pub fn decode(rest: &[u8; 8]) -> Result<LibxlHeader, Cause>
+        ensures value { result ≡ libxl_header_in rest.now }
+        ensures spelled { (header : LibxlHeader) → (result ≡ Ok header) ↔ IsLibxlHeader (behind_ident rest.now) header.legacy }
+    {
+        LibxlHeader::read_fields(rest)
+    }
+
+    fn read_fields(rest: &[u8; 8]) -> Result<LibxlHeader, Cause>
+        ensures { result ≡ libxl_header_in rest.now }
+    {
+        let version = u32_be(rest, 0);
+        if version != LIBXL_VERSION {
+            return Err(Cause::BadVersion(u64::from(version)));
+        }
+        let options = u32_be(rest, 4);
+        if options % 2 == 1 {
+            return Err(Cause::BigEndian);
+        }
+        Ok(LibxlHeader {
+            legacy: options / 2 % 2 == 1,
+        })
+    }
+
+    /// The header's bytes; what a reader ignores is 0.
+    #[tactic(auto, unfolding(crate::specs::Headers::libxl_header_of))]
+    pub fn encode(&self) -> [u8; 16]
+        ensures bytes { result ≡ libxl_header_of self.now.legacy }
+    {
+        let mut bytes = [0; 16];
+        put_u64_be(&mut bytes, 0, LIBXL_IDENT);
+        put_u32_be(&mut bytes, 8, LIBXL_VERSION);
+        put_u32_be(&mut bytes, 12, if self.legacy { 2 } else { 0 });
         bytes
     }
 }

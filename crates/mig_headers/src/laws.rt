@@ -1,5 +1,5 @@
 ghost use Rattle.mig_headers.specs.Contexts.{ContextsAreSpelled};
-ghost use Rattle.mig_headers.specs.HeaderLaws.{ImageHeaderIsSpelled, DomainHeaderIsSpelled, ImageHeadersAreReadBack, DomainHeadersAreReadBack};
+ghost use Rattle.mig_headers.specs.HeaderLaws.{ImageHeaderIsSpelled, DomainHeaderIsSpelled, LibxlHeaderIsSpelled, ImageHeadersAreReadBack, DomainHeadersAreReadBack, LibxlHeadersAreReadBack};
 ghost use Rattle.mig_headers.specs.Pairs.{CanonicalPairsAreComputed};
 ghost use Rattle.mig_headers.specs.RecordTypes.{NumbersAreInverse};
 
@@ -14,6 +14,12 @@ pub fn image_header_laws()
 pub fn domain_header_laws()
     ensures spelled { DomainHeaderIsSpelled }
     ensures read_back { DomainHeadersAreReadBack }
+{}
+
+/// Where the two parts of a libxl header have no fault, and what of a header is written is read again.
+pub fn libxl_header_laws()
+    ensures spelled { LibxlHeaderIsSpelled }
+    ensures read_back { LibxlHeadersAreReadBack }
 {}
 
 /// A record type's number is that of no other type, and leads back to it.

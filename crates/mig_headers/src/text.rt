@@ -73,6 +73,13 @@ impl Cause {
             Cause::VcpuFrame(_, _) => 30,
             Cause::TooManyRecords => 31,
             Cause::TooManyFrames => 32,
+            Cause::BadPairs(_) => 33,
+            Cause::BadKey(_) => 34,
+            Cause::BadEmulator(_) => 35,
+            Cause::EmulatorForPv => 36,
+            Cause::ContextCount => 37,
+            Cause::TooManyPairs => 38,
+            Cause::EmulatorIndex(_) => 39,
         }
     }
 
@@ -113,6 +120,13 @@ impl Cause {
             Cause::VcpuFrame(_, _) => "VcpuFrame",
             Cause::TooManyRecords => "TooManyRecords",
             Cause::TooManyFrames => "TooManyFrames",
+            Cause::BadPairs(_) => "BadPairs",
+            Cause::BadKey(_) => "BadKey",
+            Cause::BadEmulator(_) => "BadEmulator",
+            Cause::EmulatorForPv => "EmulatorForPv",
+            Cause::ContextCount => "ContextCount",
+            Cause::TooManyPairs => "TooManyPairs",
+            Cause::EmulatorIndex(_) => "EmulatorIndex",
         }
     }
 
@@ -143,6 +157,10 @@ impl Cause {
             Cause::P2mFrame(index) => Arguments::One(index),
             Cause::TargetAbsent(pfn, slot) => Arguments::Two(pfn, slot),
             Cause::VcpuFrame(id, field) => Arguments::Two(id, field),
+            Cause::BadPairs(offset) => Arguments::One(offset),
+            Cause::BadKey(offset) => Arguments::One(offset),
+            Cause::BadEmulator(id) => Arguments::One(id),
+            Cause::EmulatorIndex(index) => Arguments::One(index),
             Cause::Truncated => Arguments::Nothing,
             Cause::NotStream => Arguments::Nothing,
             Cause::BadId => Arguments::Nothing,
@@ -152,6 +170,9 @@ impl Cause {
             Cause::BadPvInfo => Arguments::Nothing,
             Cause::TooManyRecords => Arguments::Nothing,
             Cause::TooManyFrames => Arguments::Nothing,
+            Cause::EmulatorForPv => Arguments::Nothing,
+            Cause::ContextCount => Arguments::Nothing,
+            Cause::TooManyPairs => Arguments::Nothing,
         }
     }
 }
@@ -165,6 +186,8 @@ pub fn put_place<K: Sink>(sink: &mut K, place: Place) -> Result<(), WriteFailed>
         Place::ImageHeader => put_all(sink, b"ImageHeader"),
         Place::DomainHeader => put_all(sink, b"DomainHeader"),
         Place::Record(number) => put_numbered(sink, b"Record ", number),
+        Place::LibxlHeader => put_all(sink, b"LibxlHeader"),
+        Place::LibxlRecord(number) => put_numbered(sink, b"LibxlRecord ", number),
     }
 }
 
