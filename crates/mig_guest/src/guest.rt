@@ -223,6 +223,20 @@ impl Guest {
         self.parts.clear_code(code);
     }
 
+    /// The frames, to look at.
+    pub fn frame_store(&self) -> &FrameStore
+        ensures { result.now.frames ≡ self.now.frames }
+    {
+        &self.frames
+    }
+
+    /// The parts, to look at.
+    pub fn parts(&self) -> &Parts
+        ensures { result.now ≡ self.now.parts }
+    {
+        &self.parts
+    }
+
     /// The frames, with the room that is spare, and the parts.
     pub fn into_frames_and_parts(self) -> (FrameStore, Parts)
         ensures frames { result.0.frames ≡ self.frames }

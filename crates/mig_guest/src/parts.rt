@@ -145,7 +145,8 @@ impl Parts {
         }
     }
 
-    pub(crate) fn next_of_code(&self, code: u32, after: Option<PartKey>) -> Option<(PartKey, &[u8])>
+    /// The part with the least key among those of this code that are above `after`, or among all of them.
+    pub fn next_of_code(&self, code: u32, after: Option<PartKey>) -> Option<(PartKey, &[u8])>
         requires { IfSome after (λ k. k.code ≡ code) }
         ensures { NextPart code after (maps.entries self.now) (option_map (λ e. (e.0, e.1.now)) result) }
     {

@@ -5,11 +5,11 @@ use Rattle.std.specs.Prelude.{Result, Ok, Err}
 use Rattle.mig_headers.proofs.FirstFaults.{both_none}
 use Rattle.mig_headers.specs.Contexts.{scan}
 use Rattle.mig_headers.specs.declared.fault.ContextFault.{ContextFault}
+use Rattle.mig_headers.specs.declared.unsound.Unsound.TheVariants.{Missing}
 use Rattle.mig_guest.specs.Hosts.{HostOf}
 use Rattle.mig_pvtables.specs.BadEntries.{is_unknown}
 use Rattle.mig_pvtables.specs.Faults.{find_in_contexts}
 use Rattle.mig_pvtables.specs.Sound.{needed_keys, AreThere, NamesKnown, machine_type, FieldsName, CanBeSeen, IsSound, absent, misnames, find_gdt, fault_in, unsound_rows, unsoundness}
-use Rattle.mig_pvtables.specs.Sound.Unsound.{Missing}
 use Rattle.mig_pvtables.specs.VcpuContexts.{is_used_somewhere}
 use Rattle.mig_pvtables.specs.View.{pfn_in, guest_in}
 use Rattle.mig_pvtables.proofs.PvGuests.{some_is, no_entry, not_both, none_in_contexts, no_p2m}

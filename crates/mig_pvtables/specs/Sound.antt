@@ -6,6 +6,8 @@ use Rattle.mig_headers.specs.Contexts.{scan}
 use Rattle.mig_headers.specs.declared.fault.ContextFault.{ContextFault}
 use Rattle.mig_headers.specs.declared.kind.Kind.{Kind}
 use Rattle.mig_headers.specs.declared.kind.Kind.TheVariants.{Pv, Hvm}
+use Rattle.mig_headers.specs.declared.unsound.Unsound.{Unsound}
+use Rattle.mig_headers.specs.declared.unsound.Unsound.TheVariants.{Missing, P2mFrame, Superpage, NoFrame, GdtEnts, VcpuFrame, BadContext}
 use Rattle.mig_pagetypes.specs.declared.page_type.PageType.{PageType}
 use Rattle.mig_guest.specs.declared.part_key.PartKey.{PartKey}
 use Rattle.mig_guest.specs.declared.table.Entry.{Entry}
@@ -23,23 +25,6 @@ use Rattle.mig_pvtables.specs.Tables.{is_superpage}
 use Rattle.mig_pvtables.specs.VcpuContexts.{field_value, is_used_somewhere, frame_of_field}
 use Rattle.mig_pvtables.specs.View.{pfn_in, guest_in}
 use Rattle.mig_pvtables.specs.WholePv.{AreP2mFrames}
-
--- why a host isn't seen as a guest
-pub data Unsound : Type 0 where
-  -- the part of this code isn't there
-  Missing : ℕ → Unsound
-  -- the P2M frame listed at this place
-  P2mFrame : ℕ → Unsound
-  -- in the table of this PFN, this slot
-  Superpage : ℕ → ℕ → Unsound
-  -- in the table of this PFN, this slot names a machine frame that no PFN has
-  NoFrame : ℕ → ℕ → Unsound
-  -- the GDT of the vCPU of this id has so many descriptors
-  GdtEnts : ℕ → ℕ → Unsound
-  -- in the context of the vCPU of this id, this field
-  VcpuFrame : ℕ → ℕ → Unsound
-  -- the context of an HVM guest
-  BadContext : ContextFault → Unsound
 
 -- ---- a sound host
 

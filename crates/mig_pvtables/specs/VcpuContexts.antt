@@ -60,6 +60,11 @@ field_says id context field = if is_used id (gdt_ents context) field (field_valu
 abbrev pub is_used_somewhere : ℕ → ℕ → ℕ → ℕ → Bool
 is_used_somewhere id ents field v = if field == 18 then not (v == 0) else is_used id ents field v
 
+-- the frame that the field says, where vCPU id uses it in a stream or in a host
+abbrev pub field_says_somewhere : ℕ → List ℕ → ℕ → Option ℕ
+field_says_somewhere id context field =
+    if is_used_somewhere id (gdt_ents context) field (field_value context field) then Some (frame_of_field field (field_value context field)) else None
+
 -- the value that says the frame
 abbrev pub field_of_frame : ℕ → ℕ → ℕ
 field_of_frame field frame = if nat_le field 16 then frame else if field == 17 then frame * 4096 else frame * 4096 + 1

@@ -2,7 +2,7 @@ ghost use Rattle.std.specs.Prelude.{◌≡◌, ◌≤◌, ◌<◌, ◌*◌, ◌^
 ghost use Rattle.byteorder.specs.Endian.{little_bytes};
 ghost use Rattle.mig_bytes.specs.Fields.{with_field};
 ghost use Rattle.mig_guest.specs.Formed.{gdt_ents as ents_in};
-ghost use Rattle.mig_pvtables.specs.VcpuContexts.{field_place, field_value, field_says, field_of_frame, is_used_somewhere};
+ghost use Rattle.mig_pvtables.specs.VcpuContexts.{field_place, field_value, field_says, field_says_somewhere, field_of_frame, is_used_somewhere};
 
 use mig_bytes::{put_u64_le, u64_le};
 
@@ -50,6 +50,18 @@ pub fn vcpu_frame(context: &[u8; 5168], id: u32, field: u8) -> Option<u64>
     } else {
         Some(value / 4096)
     }
+}
+
+/// The frame that a field of a vCPU's context says in a host: there ctrlreg[1] is used where it isn't 0.
+pub(crate) fn host_frame(context: &[u8; 5168], id: u32, field: u8) -> Option<u64>
+    requires { field ≤ 18 }
+    ensures { result ≡ field_says_somewhere id context.now field }
+{
+    if field < 18 {
+        return vcpu_frame(context, id, field);
+    }
+    let value = u64_le(context, place_of(field));
+    if value == 0 { None } else { Some(value / 4096) }
 }
 
 /// Puts a frame into a field that is used. All other bytes stay.
