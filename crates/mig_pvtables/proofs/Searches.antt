@@ -86,3 +86,13 @@ are_few n = (
   ] refl,
   λ few. ap (λ b. cond b (Some TooManyFrames) None) (le-ltb most_frames n few),
 )
+
+three_rows : {C : Type 0} (a b c : Option C) → option_or (option_or a b) c ≡ first_of (a ∷ b ∷ c ∷ [])
+three_rows (Some x) b c = refl
+three_rows None (Some x) c = refl
+three_rows None None (Some x) = refl
+three_rows None None None = refl
+
+-- the first of three causes, tried one after another
+pub first_of_three : {C : Type 0} (a b c x y z either r : Option C) → x ≡ a → y ≡ b → z ≡ c → either ≡ option_or x y → r ≡ option_or either z → r ≡ first_of (a ∷ b ∷ c ∷ [])
+first_of_three a b c x y z either r e f g h is = is ∙ (rw (h, e, f, g) (three_rows a b c))
