@@ -3,6 +3,7 @@ pub mod Arrivals
 pub mod Batches
 pub mod Bodies
 pub mod Converse
+pub mod Behind
 pub mod Growth
 pub mod Laws
 pub mod Listings

@@ -6,7 +6,7 @@ use Rattle.mig_bytes.specs.Judged.{Judged, ◌>>=◌, part, tried, placed, Gives
 use Rattle.mig_bytes.specs.Judged.Judged.{Passes, Faulty}
 use Rattle.mig_bytes.specs.declared.part.Stop.{Stop}
 use Rattle.mig_bytes.specs.declared.part.Stop.TheVariants as stops
-use Rattle.mig_headers.specs.Headers.{fault_of_marker, fault_of_image, fault_of_domain, kind_of_number}
+use Rattle.mig_headers.specs.Headers.{fault_of_marker, fault_of_image, fault_of_domain, kind_of_number, behind_marker}
 use Rattle.mig_headers.specs.declared.kind.Kind.{Kind}
 use Rattle.mig_headers.specs.declared.fault.Cause.{Cause}
 use Rattle.mig_headers.specs.declared.fault.Cause.TheVariants.{Truncated}
@@ -41,12 +41,17 @@ kind_at input = do
   _ ← tried (fault_of_domain header.0) header.1
   Passes (kind_of_number (le32 header.0 0)) header.1
 
+-- both headers behind the marker
+abbrev pub opening_behind : List ℕ → Judged (Place × Cause) Opening
+opening_behind input = do
+  version ← placed ImageHeader (version_at input)
+  kind ← placed DomainHeader (kind_at version.1)
+  Passes (opening_of version.0 kind.0) kind.1
+
 unfoldable pub opening_at : List ℕ → Judged (Place × Cause) Opening
 opening_at input = do
   marker ← placed ImageHeader (marker_at input)
-  version ← placed ImageHeader (version_at marker.1)
-  kind ← placed DomainHeader (kind_at version.1)
-  Passes (opening_of version.0 kind.0) kind.1
+  opening_behind marker.1
 
 -- ---- the records
 
@@ -94,6 +99,10 @@ image_at input = do
   opening ← opening_at input
   records_at opening.0 opening.1
 
+-- the image that a right marker and these bytes begin with
+unfoldable pub image_behind : List ℕ → Judged (Place × Cause) ImageOf
+image_behind rest = image_at (behind_marker rest)
+
 -- the input is refused at this place, for this cause, and rest follows the faulty part
 abbrev pub IsRefused : List ℕ → Place → Cause → List ℕ → Type 0
 IsRefused input place cause rest = image_at input ≡ Faulty (place, cause) rest
@@ -119,3 +128,7 @@ pub record IsReading (reading : Reading) (image : ImageOf) : Type 0 where
 -- what a reader of images answered, and what it left in the source, is what judging gives
 abbrev pub ReadsImage : Option (List ℕ) → Option (List ℕ) → Result Reading StreamAnswer → Type 0
 ReadsImage old new result = Gives IsReading old new image_at (or_stop result)
+
+-- the same where the marker was taken before
+abbrev pub ReadsRest : Option (List ℕ) → Option (List ℕ) → Result Reading StreamAnswer → Type 0
+ReadsRest old new result = Gives IsReading old new image_behind (or_stop result)

@@ -22,4 +22,4 @@ pub use law::{
     image_is_accepted, last_content_decides, last_entry_decides, last_listing_decides, never_both,
     one_front,
 };
-pub use read::{Reading, read_image};
+pub use read::{Reading, read_image, read_image_rest};

@@ -12,7 +12,7 @@ ghost use Rattle.mig_restore.specs.Mean.{sent, put_record, IsBegun, Grows};
 ghost use Rattle.mig_restore.specs.Record.{StreamRecord, types_of};
 ghost use Rattle.mig_restore.specs.Judging.{Opening, Before, most_records, opening_of, record_at, next_at};
 ghost use Rattle.mig_restore.specs.Seen.{IsSeen};
-ghost use Rattle.mig_restore.specs.Stream.{or_stop, ReadsImage, IsReading, image_at, records_at, opening_at, marker_at, version_at, kind_at};
+ghost use Rattle.mig_restore.specs.Stream.{or_stop, ReadsImage, ReadsRest, IsReading, image_at, image_behind, records_at, opening_at, opening_behind, marker_at, version_at, kind_at};
 
 use crate::answer::{StreamAnswer, answer};
 use crate::body::take_body;
@@ -174,6 +174,22 @@ fn read_kind<S: Source>(src: &mut S) -> Result<Kind, Stop<Cause>>
     }
 }
 
+/// Takes both headers behind the marker: the version and the kind.
+fn read_headers<S: Source>(src: &mut S) -> Result<(u32, Kind), Stop<(Place, Cause)>>
+    ensures read { Gives (λ read opening. opening ≡ opening_of read.0 read.1) (S.left src.old) (S.left src.new) opening_behind result }
+    ensures faults { RisesOnReadFault (S.faults src.old) (S.faults src.new) result }
+    ensures takes_no_memory { ¬ IsErrOf result Memory }
+{
+    let version = match read_version(src) {
+        Ok(version) => version,
+        Err(stop) => return Err(stop.at(Place::ImageHeader)),
+    };
+    match read_kind(src) {
+        Ok(kind) => Ok((version, kind)),
+        Err(stop) => Err(stop.at(Place::DomainHeader)),
+    }
+}
+
 /// Takes both headers: the version and the kind.
 fn read_opening<S: Source>(src: &mut S) -> Result<(u32, Kind), Stop<(Place, Cause)>>
     ensures read { Gives (λ read opening. opening ≡ opening_of read.0 read.1) (S.left src.old) (S.left src.new) opening_at result }
@@ -183,14 +199,7 @@ fn read_opening<S: Source>(src: &mut S) -> Result<(u32, Kind), Stop<(Place, Caus
     if let Err(stop) = read_marker(src) {
         return Err(stop.at(Place::ImageHeader));
     }
-    let version = match read_version(src) {
-        Ok(version) => version,
-        Err(stop) => return Err(stop.at(Place::ImageHeader)),
-    };
-    match read_kind(src) {
-        Ok(kind) => Ok((version, kind)),
-        Err(stop) => Err(stop.at(Place::DomainHeader)),
-    }
+    read_headers(src)
 }
 
 /// Takes the headers and the records.
@@ -206,9 +215,22 @@ fn read_parts<S: Source>(alloc: Global, src: &mut S) -> Result<Reading, Stop<(Pl
     read_records(alloc, src, version, kind)
 }
 
-/// Reads an image from its marker to its END record, and leaves what follows it unread. The guest is in its blank form. `Refused` has the place and the
-/// cause of the first fault, and then the source was read up to the end of the faulty part; `ReadFault` comes only where
-/// a read failed.
+/// Takes the headers behind the marker, and the records.
+fn read_rest<S: Source>(alloc: Global, src: &mut S) -> Result<Reading, Stop<(Place, Cause)>>
+    ensures read { Gives IsReading (S.left src.old) (S.left src.new) image_behind result }
+    ensures whole { IfOk result (λ reading. IsWhole reading.guest) }
+    ensures blank { IfOk result (λ reading. blank_form reading.guest ≡ reading.guest) }
+    ensures bytes { IfOk result (λ reading. IsOfBytes reading.guest) }
+    ensures plain { IfOk result (λ reading. HasNoEmulators reading.guest.parts) }
+    ensures faults { RisesOnReadFault (S.faults src.old) (S.faults src.new) result }
+{
+    let (version, kind) = read_headers(src)?;
+    read_records(alloc, src, version, kind)
+}
+
+/// Reads an image from its marker to its END record, and leaves what follows it unread. The guest is in its blank form.
+/// `Refused` has the place and the cause of the first fault, and then the source was read up to the end of the faulty
+/// part; `ReadFault` comes only where a read failed.
 pub fn read_image<S: Source>(alloc: Global, src: &mut S) -> Result<Reading, StreamAnswer>
     ensures read { ReadsImage (S.left src.old) (S.left src.new) result }
     ensures whole { IfOk result (λ reading. IsWhole reading.guest) }
@@ -218,6 +240,21 @@ pub fn read_image<S: Source>(alloc: Global, src: &mut S) -> Result<Reading, Stre
     ensures faults { RisesOnReadFault (S.faults src.old) (S.faults src.new) (or_stop result) }
 {
     match read_parts(alloc, src) {
+        Ok(reading) => Ok(reading),
+        Err(stop) => Err(answer(stop)),
+    }
+}
+
+/// Reads an image whose marker was taken before and found right; the same else.
+pub fn read_image_rest<S: Source>(alloc: Global, src: &mut S) -> Result<Reading, StreamAnswer>
+    ensures read { ReadsRest (S.left src.old) (S.left src.new) result }
+    ensures whole { IfOk result (λ reading. IsWhole reading.guest) }
+    ensures blank { IfOk result (λ reading. blank_form reading.guest ≡ reading.guest) }
+    ensures bytes { IfOk result (λ reading. IsOfBytes reading.guest) }
+    ensures plain { IfOk result (λ reading. HasNoEmulators reading.guest.parts) }
+    ensures faults { RisesOnReadFault (S.faults src.old) (S.faults src.new) (or_stop result) }
+{
+    match read_rest(alloc, src) {
         Ok(reading) => Ok(reading),
         Err(stop) => Err(answer(stop)),
     }
