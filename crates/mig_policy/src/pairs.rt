@@ -1,8 +1,10 @@
-ghost use Rattle.std.specs.Prelude.{◌≡◌, ◌<◌, ◌↔◌, ◌==◌, [], ◌∷◌, length, false, IsTrue, IfNone, IfSome};
-ghost use Rattle.std.specs.List.{list_all, position};
+ghost use Rattle.std.specs.Prelude.{◌≡◌, ◌<◌, ◌↔◌, length, false, IsTrue, IfNone, IfSome};
+ghost use Rattle.std.specs.List.{list_all};
 ghost use Rattle.mig_headers.specs.Pairs.{AreCanonicalPairs, is_key_byte, is_next_key, texts_in, are_rising_texts, are_canonical_pairs};
 
-fn may_be_in_key(byte: u8) -> bool
+use crate::texts::split_text;
+
+pub(crate) fn may_be_in_key(byte: u8) -> bool
     ensures { result ≡ is_key_byte byte }
 {
     matches!(byte, b'0'..=b'9' | b'A'..=b'Z' | b'a'..=b'z' | b'-' | b'/' | b'_' | b'@')
@@ -22,25 +24,8 @@ fn may_follow(last: &[u8], key: &[u8]) -> bool
     is_key(key) && last < key
 }
 
-fn first_zero(bytes: &[u8]) -> Option<usize>
-    ensures { result ≡ position (λ b. b == 0) bytes.now }
-{
-    bytes.iter().position(|byte| *byte == 0)
-}
-
-// What stands before the first zero, and what stands behind it.
-#[tactic(auto, using(crate::proofs::PairSteps::if_none, crate::proofs::PairSteps::last_text, crate::proofs::PairSteps::first_text))]
-fn split_text(bytes: &[u8]) -> Option<(&[u8], &[u8])>
-    ensures none { IfNone result (texts_in bytes.now ≡ bytes.now ∷ []) }
-    ensures some { IfSome result (λ r. texts_in bytes.now ≡ r.0.now ∷ texts_in r.1.now) }
-    ensures shorter { IfSome result (λ r. length r.1.now < length bytes.now) }
-{
-    let end = first_zero(bytes)?;
-    Some((&bytes[..end], &bytes[end + 1..]))
-}
-
 // The key of the first pair, where it may stand behind this last key, and what stands behind the pair.
-#[tactic(auto, using(crate::proofs::PairSteps::if_none, crate::proofs::PairSteps::no_value, crate::proofs::PairSteps::after_pair))]
+#[tactic(auto, using(crate::proofs::TextSteps::if_none, crate::proofs::PairSteps::no_value, crate::proofs::PairSteps::after_pair))]
 fn split_pair<'a>(last: &[u8], bytes: &'a [u8]) -> Option<(&'a [u8], &'a [u8])>
     requires { 0 < length bytes.now }
     ensures none { IfNone result (are_rising_texts last.now (texts_in bytes.now) ≡ false) }

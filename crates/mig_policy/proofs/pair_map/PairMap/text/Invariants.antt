@@ -1,0 +1,7 @@
+use Rattle.std.proofs.Common.{◌≡◌, ◌++◌, map}
+use Rattle.std.specs.List.{flat_map}
+use Rattle.mig_policy.specs.PairMaps.{shown, text_of_entry, text_of_map}
+use Rattle.mig_policy.proofs.pair_map.PairMap.text.Given as goal
+
+abbrev pub invariant-loop-key : goal.invariant-loop-key
+invariant-loop-key l = l.text.items ++ flat_map text_of_entry (map shown l.key-iterator) ≡ text_of_map l.self
