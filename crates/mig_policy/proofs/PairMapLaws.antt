@@ -142,6 +142,9 @@ pairs_put : (m : PairMap) (ps : List Pair) → IsOfPairs m → All IsPair ps →
 pairs_put m ps each are =
     of_good (put_pairs m ps) (subst (AllByRecursion IsGood) (sym (puts_entries m ps)) (puts_good ps (maps.entries m) (recursion_from_All IsPair ps are) (to_good m each)))
 
+empty_text : text_of_map maps.empty ≡ []
+empty_text = ap (flat_map text_of_entry) no_entries
+
 no_pairs : IsOfPairs maps.empty
 no_pairs = of_good maps.empty (subst (AllByRecursion IsGood) (sym no_entries) tt)
 
@@ -158,7 +161,7 @@ added : (m : PairMap) (bytes : List ℕ) → IsOfPairs m → pairs_fault bytes �
 added m bytes each none = let h = (pairs_are_read bytes (pairs_in bytes)).0 (none, refl) in pairs_put m (pairs_in bytes) each h.each
 
 pub maps_are_of_pairs : MapsAreOfPairs
-maps_are_of_pairs = record { none = no_pairs; spelled = spelled_map; added = added; text = text_of_pairs }
+maps_are_of_pairs = record { none = no_pairs; empty = empty_text; spelled = spelled_map; added = added; text = text_of_pairs }
 
 -- ---- canonical texts
 

@@ -104,6 +104,7 @@ pub record TextsAreCanonical : Type 0 where
 -- a map of pairs stays one where bytes without fault are added, and its text is canonical
 pub record MapsAreOfPairs : Type 0 where
   pub none : IsOfPairs maps.empty
+  pub empty : text_of_map maps.empty ≡ []
   pub spelled : (bytes : List ℕ) → AreCanonicalPairs bytes → IsOfPairs (map_of bytes)
   pub added : (m : PairMap) (bytes : List ℕ) → IsOfPairs m → pairs_fault bytes ≡ None → IsOfPairs (put_pairs m (pairs_in bytes))
   pub text : (m : PairMap) → IsOfPairs m → AreCanonicalPairs (text_of_map m)
