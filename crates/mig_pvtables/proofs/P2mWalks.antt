@@ -1,5 +1,5 @@
 -- A walk along the list of the P2M frames, with a mark for each PFN that was listed.
-use Rattle.mig_pvtables.proofs.Common.{◌≡◌, ℕ, ◌+◌, ◌-◌, ◌*◌, ◌/◌, ◌<◌, ◌≤◌, ◌^◌, Bool, true, false, cond, not, List, [], ◌∷◌, length, Option, Some, None, IsSome, is_some, refl, sym, ap, subst, inl, inr, ◌∙◌, arith, ◌==◌, ◌&&◌, ◌||◌, range_with_len, list_any, option_map, nat_cmp, eq_by_cmp, nat_cmp_total, nat_cmp-IsAntisymmetric, cases_lt, cases_eq, eq-eqb, ne_eqb, lt-ltb, or_from, or_parts, get-insert, tied, PageType, FrameOf, FrameMap, PartMap, GuestOf, long_at, IsFormed, p2m_key, is_this, is_needed, is_notab, is_misplaced, find_p2m, type_at, count_in, listed, listed_in, is_listed_before}
+use Rattle.mig_pvtables.proofs.Common.{◌≡◌, ℕ, ◌+◌, ◌-◌, ◌*◌, ◌/◌, ◌<◌, ◌≤◌, ◌^◌, Bool, true, false, cond, not, List, [], ◌∷◌, length, Option, Some, None, IsSome, is_some, refl, sym, ap, subst, inl, inr, ◌∙◌, arith, ◌==◌, ◌&&◌, ◌||◌, range_with_len, list_any, nat_cmp, eq_by_cmp, nat_cmp_total, nat_cmp-IsAntisymmetric, cases_lt, cases_eq, eq-eqb, ne_eqb, lt-ltb, or_from, or_parts, get-insert, tied, PageType, FrameOf, FrameMap, PartMap, long_at, p2m_key, is_this, is_needed, is_notab, is_misplaced, find_p2m, type_at, count_in, listed, listed_in, is_listed_before}
 use Rattle.std.specs.FinMap as maps
 use Rattle.std.proofs.lemmas.List.Folds.{list_any_at}
 use Rattle.std.proofs.lemmas.List.FromFn.{length-range_with_len, get_or-range_with_len}
@@ -25,11 +25,11 @@ module _ (frames : FrameMap) (k : ℕ) where
   pub later_needed : (pfn : ℕ) → ((q : ℕ) → 512 * k ≤ q → q < pfn → maps.get frames q ≡ None) → 512 ≤ pfn - 512 * k → is_needed frames k ≡ false
   later_needed pfn none far = not_needed (λ s lt. none (512 * k + s) (omega arith) (omega (arith, far, lt)))
 
-  pub some_needed : (pfn : ℕ) → IsSome (maps.get frames pfn) → 512 * k ≤ pfn → pfn - 512 * k < 512 → is_needed frames k ≡ true
+  pub some_needed : (pfn : ℕ) (frame : FrameOf) → maps.get frames pfn ≡ Some frame → 512 * k ≤ pfn → pfn - 512 * k < 512 → is_needed frames k ≡ true
   unfolding slots
-  some_needed pfn there le near =
+  some_needed pfn frame there le near =
       list_any_at (λ s. is_some (maps.get frames (512 * k + s))) (range_with_len 0 512) (pfn - 512 * k) 0 (omega (arith, near, length-range_with_len 0 512))
-      (ap (λ s. is_some (maps.get frames (512 * k + s))) (get_or-range_with_len 0 512 (pfn - 512 * k) 0 near) ∙ ap (λ q. is_some (maps.get frames q)) (omega (arith, le)) ∙ there)
+      (ap (λ s. is_some (maps.get frames (512 * k + s))) (get_or-range_with_len 0 512 (pfn - 512 * k) 0 near) ∙ ap (λ q. is_some (maps.get frames q)) (omega (arith, le)) ∙ ap is_some there)
 
 -- ---- tests of places
 
@@ -144,12 +144,7 @@ module _ (frames : FrameMap) (parts : PartMap) where
           | inr ge ↦ ge
         ]
 
--- ---- of a guest that is well formed
-
--- a PFN that isn't misplaced is small
-pub placed_small : (g : GuestOf) (pfn : ℕ) (type : Option PageType) (clash : Bool) → IsFormed g → type ≡ type_at g.frames pfn → (not (is_notab type) || clash) ≡ false → pfn < 2 ^ 28
-placed_small g pfn type clash formed is fine = by_case (maps.get g.frames pfn) refl (ap (λ t. not (is_notab t)) (sym is) ∙ (or_parts (not (is_notab type)) clash fine).0)
-  where
-    by_case : (o : Option FrameOf) → maps.get g.frames pfn ≡ o → not (is_notab (option_map (λ f. f.type) o)) ≡ false → pfn < 2 ^ 28
-    by_case None e h = let no : true ≡ false = h in cc
-    by_case (Some f) e h = (formed.frames pfn f e).small
+-- a PFN that isn't misplaced is one of a frame, and so it is small
+pub placed_small : (pfn : ℕ) (type : Option PageType) (clash : Bool) → (IsSome type → pfn < 2 ^ 28) → (not (is_notab type) || clash) ≡ false → pfn < 2 ^ 28
+placed_small pfn None clash small fine = let no : true ≡ false = fine in cc
+placed_small pfn (Some type) clash small fine = small refl

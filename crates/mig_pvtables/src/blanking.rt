@@ -88,7 +88,7 @@ fn zero_p2m_frames(guest: &mut Guest)
     ensures { guest.new ≡ record guest.old { frames = each_value (where_listed guest.old.parts with_zero_page) guest.old.frames } }
 {
     let mut index = 0;
-    while let Some(pfn) = listed_pfn(guest, index) {
+    while let Some(pfn) = listed_pfn(guest.parts(), index) {
         zero_page(guest, pfn);
         index += 1;
     }

@@ -1,14 +1,14 @@
 ghost use Rattle.std.specs.FinMap as maps;
 ghost use Rattle.mig_guest.specs.PartKeys.{p2m_key};
-ghost use Rattle.std.specs.Prelude.{◌≡◌, ◌<◌, ◌^◌, IfSome, IfOk, ◌||◌, not, if◌then◌else◌};
+ghost use Rattle.std.specs.Prelude.{◌≡◌, ◌≤◌, ◌<◌, ◌^◌, IfSome, IfOk, IsSome, is_none, ◌||◌, not, if◌then◌else◌};
 ghost use Rattle.mig_guest.specs.PartCodes.{code_number};
-ghost use Rattle.mig_guest.specs.Formed.{IsFormed};
-ghost use Rattle.mig_pvtables.specs.Faults.{is_needed as has_frames, is_notab, find_p2m};
+ghost use Rattle.mig_pagetypes.specs.Limits.{pfn_limit};
+ghost use Rattle.mig_pvtables.specs.Faults.{is_needed as has_frames, is_notab, type_at, find_p2m};
 ghost use Rattle.mig_pvtables.specs.P2mFrames.{count_in, listed};
 ghost use Rattle.mig_pvtables.specs.P2mMarks.{clashes};
 
 use mig_bytes::{Memory, u64_le};
-use mig_guest::{Guest, PartCode, PartKey};
+use mig_guest::{FrameStore, PartCode, PartKey, Parts};
 use mig_index::Index;
 use mig_pagetypes::PageType;
 use std::alloc::Global;
@@ -29,22 +29,30 @@ pub(crate) fn sole_key(code: PartCode) -> PartKey
     }
 }
 
-/// How many P2M frames are listed.
-pub(crate) fn listed_count(guest: &Guest) -> usize
-    ensures { result ≡ count_in (maps.get guest.now.parts p2m_key) }
+/// Whether the only part of its code isn't there.
+pub(crate) fn lacks(parts: &Parts, code: PartCode) -> bool
+    ensures { result ≡ is_none (maps.get parts.now (record { code = code_number code; key1 = 0; key2 = 0 })) }
 {
-    match guest.part(sole_key(PartCode::P2mFrames)) {
+    parts.get(sole_key(code)).is_none()
+}
+
+/// How many P2M frames are listed.
+pub(crate) fn listed_count(parts: &Parts) -> usize
+    ensures { result ≡ count_in (maps.get parts.now p2m_key) }
+{
+    match parts.get(sole_key(PartCode::P2mFrames)) {
         Some(list) => list.len() / 8,
         None => 0,
     }
 }
 
 /// The PFN of P2M frame `index`, where there are so many.
-pub(crate) fn listed_pfn(guest: &Guest, index: usize) -> Option<u64>
-    ensures value { result ≡ listed guest.now.parts index }
+pub(crate) fn listed_pfn(parts: &Parts, index: usize) -> Option<u64>
+    ensures value { result ≡ listed parts.now index }
     ensures small { IfSome result (λ _. index < 2 ^ 61) }
+    ensures counted { IfSome result (λ _. index < count_in (maps.get parts.now p2m_key)) }
 {
-    let list = guest.part(sole_key(PartCode::P2mFrames))?;
+    let list = parts.get(sole_key(PartCode::P2mFrames))?;
     if index < list.len() / 8 {
         Some(u64_le(list, 8 * index))
     } else {
@@ -54,13 +62,13 @@ pub(crate) fn listed_pfn(guest: &Guest, index: usize) -> Option<u64>
 
 /// Whether a PFN of P2M frame `index` has a frame.
 #[tactic(auto, using(crate::proofs::P2mWalks::none_needed, crate::proofs::P2mWalks::some_needed, crate::proofs::P2mWalks::later_needed))]
-fn is_needed(guest: &Guest, index: usize) -> bool
+fn is_needed(frames: &FrameStore, index: usize) -> bool
     requires { index < 2 ^ 50 }
-    ensures { result ≡ has_frames guest.now.frames index }
+    ensures { result ≡ has_frames frames.now.frames index }
 {
     let start = 512 * index as u64;
-    match guest.next_frame(start) {
-        Some(pfn) => pfn - start < 512,
+    match frames.next(start) {
+        Some((pfn, _, _)) => pfn - start < 512,
         None => false,
     }
 }
@@ -86,17 +94,32 @@ fn mark_for(needed: bool) -> u64
     if needed { NEEDED } else { EMPTY }
 }
 
+/// The type of a frame.
+pub(crate) fn frame_type(frames: &FrameStore, pfn: u64) -> Option<PageType>
+    ensures value { result ≡ type_at frames.now.frames pfn }
+    ensures small { IsSome result → pfn < pfn_limit }
+{
+    match frames.get(pfn) {
+        Some((kind, _)) => Some(kind),
+        None => None,
+    }
+}
+
 /// The first place at which the list of the P2M frames is wrong. A mark is kept of each PFN that is a frame of its own, so
 /// that memory is taken for frames that were sent, and not for what the list names.
-pub(crate) fn misplaced_frame(alloc: Global, guest: &Guest) -> Result<Option<usize>, Memory>
-    requires { IsFormed guest.now }
-    ensures { IfOk result (λ place. place ≡ find_p2m guest.now.frames guest.now.parts) }
+pub(crate) fn misplaced_frame(
+    alloc: Global,
+    frames: &FrameStore,
+    parts: &Parts,
+) -> Result<Option<usize>, Memory>
+    requires { count_in (maps.get parts.now p2m_key) ≤ 2 ^ 43 }
+    ensures { IfOk result (λ place. place ≡ find_p2m frames.now.frames parts.now) }
 {
     let mut marks = Index::new(alloc);
     let mut index = 0;
-    while let Some(pfn) = listed_pfn(guest, index) {
-        let needed = is_needed(guest, index);
-        if is_misplaced(guest.frame(pfn), marks.get(pfn), needed) {
+    while let Some(pfn) = listed_pfn(parts, index) {
+        let needed = is_needed(frames, index);
+        if is_misplaced(frame_type(frames, pfn), marks.get(pfn), needed) {
             return Ok(Some(index));
         }
         marks.reserve(1)?;

@@ -65,10 +65,10 @@ fn fill_p2m_frames<F: Frames>(guest: &mut Guest, frames: &F)
     requires { count_in (maps.get guest.old.parts p2m_key) ≤ 2 ^ 43 }
     ensures { guest.new ≡ record guest.old { frames = each_value (filled_where_listed guest.old.parts (F.mfns frames.now)) guest.old.frames } }
 {
-    let mut index = listed_count(guest);
+    let mut index = listed_count(guest.parts());
     while 0 < index {
         index -= 1;
-        if let Some(pfn) = listed_pfn(guest, index) {
+        if let Some(pfn) = listed_pfn(guest.parts(), index) {
             fill_page(guest, pfn, index as u64, frames);
         }
     }

@@ -11,11 +11,11 @@ ghost use Rattle.mig_guest.specs.Tables.{entry as what_is_said};
 ghost use Rattle.mig_pvtables.specs.Faults.{find_slot, find_entry, is_absent, slots, find_field, misfits, fits_field, field_numbers, missing, too_many as more_than_allowed, first_of, fault_of_guest};
 ghost use Rattle.mig_pvtables.specs.declared.testing.WholeAnswer.TheVariants.{Fault, Memory as NoMemory};
 
-use crate::listing::{misplaced_frame, sole_key};
+use crate::listing::{lacks, misplaced_frame};
 use crate::table::{SLOTS, entry};
 use crate::vcpu::{FIELDS, VCPU_BASIC, vcpu_frame};
 use mig_bytes::Memory;
-use mig_guest::{Entry, Guest, PartCode, PartKey};
+use mig_guest::{Entry, Guest, PartCode, PartKey, Parts};
 use mig_headers::{Cause, Kind};
 use mig_pagetypes::{MAX_FRAMES, PageType};
 use std::alloc::Global;
@@ -33,12 +33,11 @@ pub enum WholeAnswer {
 }
 
 /// That the only part of its code isn't there.
-fn absent_part(guest: &Guest, code: PartCode) -> Option<Cause>
-    ensures { result ≡ missing guest.now.parts (record { code = code_number code; key1 = 0; key2 = 0 }) }
+fn absent_part(parts: &Parts, code: PartCode) -> Option<Cause>
+    ensures { result ≡ missing parts.now (record { code = code_number code; key1 = 0; key2 = 0 }) }
 {
-    let key = sole_key(code);
-    if guest.part(key).is_none() {
-        Some(Cause::Missing(u64::from(key.code)))
+    if lacks(parts, code) {
+        Some(Cause::Missing(u64::from(code.number())))
     } else {
         None
     }
@@ -98,7 +97,7 @@ fn absent_target(guest: &Guest) -> Option<(u64, usize)>
 }
 
 /// Whether a field of a vCPU's context may say a frame of this type.
-fn fits(field: u8, kind: Option<PageType>) -> bool
+pub(crate) fn fits(field: u8, kind: Option<PageType>) -> bool
     ensures { result ≡ fits_field field kind }
 {
     if field <= 16 {
@@ -139,12 +138,12 @@ fn bad_field(guest: &Guest) -> Option<(u32, u8)>
 }
 
 /// The first of the parts that each PV guest has that isn't there. Of the contexts, that of vCPU 0 has to be.
-fn absent_pv_part(guest: &Guest) -> Option<Cause>
-    ensures { result ≡ first_of (missing guest.now.parts p2m_key ∷ missing guest.now.parts shared_key ∷ missing guest.now.parts (vcpu_key 0) ∷ []) }
+fn absent_pv_part(parts: &Parts) -> Option<Cause>
+    ensures { result ≡ first_of (missing parts.now p2m_key ∷ missing parts.now shared_key ∷ missing parts.now (vcpu_key 0) ∷ []) }
 {
-    absent_part(guest, PartCode::P2mFrames)
-        .or(absent_part(guest, PartCode::SharedInfo))
-        .or(absent_part(guest, PartCode::VcpuBasic))
+    absent_part(parts, PartCode::P2mFrames)
+        .or(absent_part(parts, PartCode::SharedInfo))
+        .or(absent_part(parts, PartCode::VcpuBasic))
 }
 
 /// The first cause in a PV guest that comes behind those of its P2M frames.
@@ -168,10 +167,10 @@ fn pv_fault(alloc: Global, guest: &Guest) -> Result<Option<Cause>, Memory>
     requires pv { guest.now.kind ≡ Pv }
     ensures { IfOk result (λ fault. fault ≡ fault_of_guest guest.now) }
 {
-    if let Some(cause) = absent_pv_part(guest) {
+    if let Some(cause) = absent_pv_part(guest.parts()) {
         return Ok(Some(cause));
     }
-    if let Some(place) = misplaced_frame(alloc, guest)? {
+    if let Some(place) = misplaced_frame(alloc, guest.frame_store(), guest.parts())? {
         return Ok(Some(Cause::P2mFrame(place as u64)));
     }
     Ok(later_fault(guest))
@@ -182,7 +181,7 @@ fn hvm_fault(guest: &Guest) -> Option<Cause>
     requires { guest.now.kind ≡ Hvm }
     ensures { result ≡ fault_of_guest guest.now }
 {
-    absent_part(guest, PartCode::HvmContext).or(too_many(guest))
+    absent_part(guest.parts(), PartCode::HvmContext).or(too_many(guest))
 }
 
 /// Whether a guest that is well formed is whole; else the first cause in it, at its least place. An HVM guest is tested

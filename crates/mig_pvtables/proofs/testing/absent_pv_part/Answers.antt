@@ -5,6 +5,6 @@ use Rattle.mig_pvtables.proofs.testing.absent_pv_part.Goals as goal
 
 pub returns : goal.returns
 returns c =
-    let parts = c.args.guest.now.parts in
+    let parts = c.args.parts.now in
     first_of_three (missing parts p2m_key) (missing parts shared_key) (missing parts (vcpu_key 0)) c.absent_part.result c.absent_part-2.result c.absent_part-3.result c.or.result c.or-2.result
-        c.absent_part.ensures c.absent_part-2.ensures c.absent_part-3.ensures c.or.ensures c.or-2.ensures
+    c.absent_part.ensures c.absent_part-2.ensures c.absent_part-3.ensures c.or.ensures c.or-2.ensures
