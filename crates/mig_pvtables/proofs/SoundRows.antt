@@ -92,9 +92,9 @@ context_ends (Some b) = (
 -- ---- all rows
 
 module _ (g : GuestOf) (pfn_of : ℕ → Option ℕ) where
-  can_be_seen : first_of (unsound_rows g pfn_of) ≡ None → CanBeSeen g pfn_of
+  can_be_seen : first_of (unsound_rows g.kind g.frames g.parts pfn_of) ≡ None → CanBeSeen g pfn_of
   can_be_seen none =
-      let (a, (b, (c, (d, (e, (f, (h, _))))))) = (all_none (unsound_rows g pfn_of)).0 none in
+      let (a, (b, (c, (d, (e, (f, (h, _))))))) = (all_none (unsound_rows g.kind g.frames g.parts pfn_of)).0 none in
       record {
         parts = (are_there g.parts (needed_keys g.kind)).0 a;
         p2m = (no_p2m g.frames g.parts).0 ((none_mapped _ (find_p2m g.frames g.parts)).0 b);
@@ -104,7 +104,7 @@ module _ (g : GuestOf) (pfn_of : ℕ → Option ℕ) where
         context = (context_ends (maps.get g.parts context_key)).0 ((none_mapped _ (option_and_then (λ bytes. fault_in (scan bytes)) (maps.get g.parts context_key))).0 h);
       }
 
-  nothing_found : CanBeSeen g pfn_of → first_of (unsound_rows g pfn_of) ≡ None
+  nothing_found : CanBeSeen g pfn_of → first_of (unsound_rows g.kind g.frames g.parts pfn_of) ≡ None
   nothing_found can =
       let a = (are_there g.parts (needed_keys g.kind)).1 can.parts in
       let b = (none_mapped _ (find_p2m g.frames g.parts)).1 ((no_p2m g.frames g.parts).1 can.p2m) in
@@ -113,7 +113,7 @@ module _ (g : GuestOf) (pfn_of : ℕ → Option ℕ) where
       let e = (none_mapped _ (find_gdt g.parts)).1 ((no_gdt g.parts).1 can.gdt) in
       let f = (none_mapped _ (find_in_contexts (misnames g.frames pfn_of) g.parts)).1 ((no_misname pfn_of g.frames g.parts).1 can.fields) in
       let h = (none_mapped _ (option_and_then (λ bytes. fault_in (scan bytes)) (maps.get g.parts context_key))).1 ((context_ends (maps.get g.parts context_key)).1 can.context) in
-      (all_none (unsound_rows g pfn_of)).1 (a, (b, (c, (d, (e, (f, (h, tt)))))))
+      (all_none (unsound_rows g.kind g.frames g.parts pfn_of)).1 (a, (b, (c, (d, (e, (f, (h, tt)))))))
 
 pub sound_is_faultless : (h : HostOf) → IsSound h ↔ (unsoundness h ≡ None)
 sound_is_faultless h = (nothing_found (guest_in h) (pfn_in h.frames), can_be_seen (guest_in h) (pfn_in h.frames))

@@ -1,10 +1,11 @@
 -- Walks along the entries of a map, up to the first that gives an answer.
-use Rattle.mig_pvtables.proofs.Common.{◌≡◌, ℕ, ◌+◌, ◌<◌, Bool, true, false, cond, not, List, [], ◌∷◌, length, Option, Some, None, is_some, is_none, refl, sym, ap, inl, inr, cases_eq, ◌∙◌, arith, ◌&&◌, ◌==◌, le-leb, find, option_map, option_or, Entry, FrameOf, FrameMap, PartKey, PartMap, Part, parts_after, part_total, part_exact, PageType, level_of, first_passes, first_some, find_slot, find_entry, find_field, misfits, type_at, fits_field, gdt_ents, field_value, is_used, frame_of_field}
+use Rattle.mig_pvtables.proofs.Common.{◌≡◌, ℕ, ◌+◌, ◌<◌, Bool, true, false, cond, not, List, [], ◌∷◌, length, Option, Some, None, is_some, is_none, refl, sym, ap, inl, inr, cases_eq, ◌∙◌, arith, ◌&&◌, ◌==◌, le-leb, find, option_map, option_or, nat_lt, Entry, FrameOf, FrameMap, PartKey, PartMap, Part, parts_after, part_total, part_exact, PageType, level_of, first_passes, first_some, find_slot, find_entry, misfits, type_at, fits_field, gdt_ents, field_value, is_used, frame_of_field}
 use Rattle.std.specs.FinMap as maps
 use Rattle.mig_guest.specs.Frames.{entries_from}
 use Rattle.mig_guest.specs.Parts.{parts_of}
 use Rattle.mig_pvtables.specs.Faults.{field_numbers}
-use Rattle.mig_pvtables.specs.VcpuContexts.{field_says}
+use Rattle.mig_pvtables.specs.Sound.{machine_type, misnames, find_gdt}
+use Rattle.mig_pvtables.specs.VcpuContexts.{field_says, field_says_somewhere, is_used_somewhere}
 use Rattle.mig_pvtables.proofs.BlankCodes.{is_next, by_test, next_parts}
 
 -- ---- an answer that those behind give, too
@@ -18,6 +19,10 @@ module _ {A C : Type 0} (f : A → Option C) (now rest : List A) (answer : Optio
 
   first_never : now ≡ [] → None ≡ answer
   first_never is = sym (ap (first_some f) is) ∙ same
+
+same_search : {A C : Type 0} (f g : A → Option C) → ((a : A) → f a ≡ g a) → (xs : List A) → first_some f xs ≡ first_some g xs
+same_search f g same [] = refl
+same_search f g same (x ∷ xs) = (λ i. option_or (same x i) (same_search f g same xs i))
 
 -- ---- a test that fails below a number
 
@@ -70,6 +75,30 @@ module _ (bad : Entry → Bool) (frames : FrameMap) where
       pub frames_fewer : length (entries_from (e.0 + 1) (maps.entries frames)) < length (entries_from from (maps.entries frames))
       frames_fewer = omega (arith, ap length next)
 
+or_or : {C : Type 0} (a b c : Option C) → option_or (option_or a b) c ≡ option_or a (option_or b c)
+or_or None b c = refl
+or_or (Some x) b c = refl
+
+or_none : {C : Type 0} (a : Option C) → a ≡ option_or a None
+or_none None = refl
+or_none (Some x) = refl
+
+-- what was found is kept while all frames are walked
+module _ (bad : Entry → Bool) (frames : FrameMap) where
+  -- what was found, or else what the frames from a number on give, is what all give
+  abbrev pub IsKeptFrom : Option (ℕ × ℕ) → ℕ → Type 0
+  IsKeptFrom found from = option_or found (first_some (in_frame bad frames) (entries_from from (maps.entries frames))) ≡ find_entry bad frames
+
+  module _ (found : Option (ℕ × ℕ)) (from : ℕ) (kept : IsKeptFrom found from) where
+    pub kept_end : entries_from from (maps.entries frames) ≡ [] → found ≡ find_entry bad frames
+    kept_end none = or_none found ∙ ap (λ es. option_or found (first_some (in_frame bad frames) es)) (sym none) ∙ kept
+
+    pub kept_next : (e : ℕ × FrameOf) → entries_from from (maps.entries frames) ≡ e ∷ entries_from (e.0 + 1) (maps.entries frames)
+        → (now : Option (ℕ × ℕ)) → now ≡ option_or found (in_frame bad frames e) → IsKeptFrom now (e.0 + 1)
+    kept_next e next now is =
+        let rest = first_some (in_frame bad frames) (entries_from (e.0 + 1) (maps.entries frames)) in
+        ap (λ o. option_or o rest) is ∙ or_or found (in_frame bad frames e) rest ∙ ap (λ es. option_or found (first_some (in_frame bad frames) es)) (sym next) ∙ kept
+
 -- ---- contexts of vCPUs
 
 said_by : (used : Bool) (v pfn : ℕ) (fits : ℕ → Bool) → Some pfn ≡ cond used (Some v) None → (used && not (fits v)) ≡ not (fits pfn)
@@ -91,10 +120,21 @@ module _ (frames : FrameMap) where
   unsaid id context field is =
       let v = field_value context field in unsaid_by (is_used id (gdt_ents context) field v) (fits_field field (type_at frames (frame_of_field field v))) (frame_of_field field v) is
 
-  -- what is found in one context
-  abbrev pub in_context : Part → Option (ℕ × ℕ)
-  in_context e = option_map (λ field. (e.0.key1, field)) (find (misfits frames e.0.key1 e.1) field_numbers)
+-- a field that a host uses says a machine frame of its type, or misnames
+module _ (frames : FrameMap) (pfn_of : ℕ → Option ℕ) where
+  pub said_in_host : (id : ℕ) (context : List ℕ) (field mfn : ℕ) (type : Option PageType) (fits : Bool) → Some mfn ≡ field_says_somewhere id context field → type ≡ machine_type frames pfn_of mfn → fits ≡ fits_field field type
+      → misnames frames pfn_of id context field ≡ not fits
+  said_in_host id context field mfn type fits is has b =
+      said_by (is_used_somewhere id (gdt_ents context) field (field_value context field)) (frame_of_field field (field_value context field)) mfn (λ n. fits_field field (machine_type frames pfn_of n)) is
+      ∙ ap (λ t. not (fits_field field t)) (sym has) ∙ ap not (sym b)
 
+  pub unsaid_in_host : (id : ℕ) (context : List ℕ) (field : ℕ) → None ≡ field_says_somewhere id context field → misnames frames pfn_of id context field ≡ false
+  unsaid_in_host id context field is =
+      let v = field_value context field in
+      unsaid_by (is_used_somewhere id (gdt_ents context) field v) (fits_field field (machine_type frames pfn_of (frame_of_field field v))) (frame_of_field field v) is
+
+-- contexts, and what is found in one
+module _ {C : Type 0} (in_context : Part → Option C) where
   contexts_alone : (es : List Part) → first_some in_context (parts_of 4 es) ≡ first_some (λ e. cond (e.0.code == 4) (in_context e) None) es
   contexts_alone [] = refl
   contexts_alone (e ∷ es) = elim (e.0.code == 4) as (λ b. first_some in_context (cond b (e ∷ parts_of 4 es) (parts_of 4 es)) ≡ option_or (cond b (in_context e) None) (first_some (λ e. cond (e.0.code == 4) (in_context e) None) es)) [
@@ -103,23 +143,42 @@ module _ (frames : FrameMap) where
   ]
 
   module _ (parts : PartMap) where
+    -- what is found in all
+    abbrev pub in_contexts : Option C
+    in_contexts = first_some (λ e. cond (e.0.code == 4) (in_context e) None) (maps.entries parts)
+
     -- what the contexts behind a key give is what all give
     abbrev pub IsSoBehind : Option PartKey → Type 0
-    IsSoBehind after = first_some in_context (parts_after 4 after (maps.entries parts)) ≡ find_field frames parts
+    IsSoBehind after = first_some in_context (parts_after 4 after (maps.entries parts)) ≡ in_contexts
 
     pub contexts_start : IsSoBehind None
     contexts_start = contexts_alone (maps.entries parts)
 
     module _ (after : Option PartKey) (so : IsSoBehind after) where
-      pub contexts_end : parts_after 4 after (maps.entries parts) ≡ [] → None ≡ find_field frames parts
-      contexts_end none = first_never in_context (parts_after 4 after (maps.entries parts)) [] (find_field frames parts) so none
+      pub contexts_end : parts_after 4 after (maps.entries parts) ≡ [] → None ≡ in_contexts
+      contexts_end none = first_never in_context (parts_after 4 after (maps.entries parts)) [] in_contexts so none
 
       module _ (e : Part) (next : parts_after 4 after (maps.entries parts) ≡ e ∷ parts_after 4 (Some e.0) (maps.entries parts)) where
-        pub contexts_found : (field : ℕ) → Some field ≡ find (misfits frames e.0.key1 e.1) field_numbers → Some (e.0.key1, field) ≡ find_field frames parts
-        contexts_found field is = first_here in_context _ _ (find_field frames parts) so e (e.0.key1, field) next (ap (option_map (λ (n : ℕ). (e.0.key1, n))) (sym is))
+        pub contexts_found : (c : C) → Some c ≡ in_context e → Some c ≡ in_contexts
+        contexts_found c is = first_here in_context _ _ in_contexts so e c next (sym is)
 
-        pub contexts_next : None ≡ find (misfits frames e.0.key1 e.1) field_numbers → IsSoBehind (Some e.0)
-        contexts_next is = first_later in_context _ _ (find_field frames parts) so e next (ap (option_map (λ (n : ℕ). (e.0.key1, n))) (sym is))
+        pub contexts_next : None ≡ in_context e → IsSoBehind (Some e.0)
+        contexts_next is = first_later in_context _ _ in_contexts so e next (sym is)
+
+-- the first field of a context that passes a test
+abbrev pub in_fields : (ℕ → List ℕ → ℕ → Bool) → Part → Option (ℕ × ℕ)
+in_fields bad e = option_map (λ field. (e.0.key1, field)) (find (bad e.0.key1 e.1) field_numbers)
+
+-- the size of a GDT that has too many descriptors
+abbrev pub large_in : Part → Option (ℕ × ℕ)
+large_in e = cond (nat_lt 7168 (gdt_ents e.1)) (Some (e.0.key1, gdt_ents e.1)) None
+
+pub large_gdts : (parts : PartMap) → in_contexts large_in parts ≡ find_gdt parts
+large_gdts parts = same_search _ _ (λ e. both (e.0.code == 4) (nat_lt 7168 (gdt_ents e.1)) (e.0.key1, gdt_ents e.1)) (maps.entries parts)
+  where
+    both : (a b : Bool) (x : ℕ × ℕ) → cond a (cond b (Some x) None) None ≡ cond (a && b) (Some x) None
+    both true b x = refl
+    both false b x = refl
 
 pub context_there : (parts : PartMap) (after : Option PartKey) (e : Part) → parts_after 4 after (maps.entries parts) ≡ e ∷ parts_after 4 (Some e.0) (maps.entries parts) → (e.0.code ≡ 4) × (maps.get parts e.0 ≡ Some e.1)
 context_there parts after e next =

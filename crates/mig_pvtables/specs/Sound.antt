@@ -85,18 +85,22 @@ abbrev pub fault_in : Result ℕ ContextFault → Option ContextFault
 fault_in (Ok end) = None
 fault_in (Err fault) = Some fault
 
+-- what is wrong with the context of an HVM guest
+abbrev pub find_context_fault : PartMap → Option ContextFault
+find_context_fault parts = option_and_then (λ bytes. fault_in (scan bytes)) (maps.get parts context_key)
+
 -- the causes that are tried, in the order of their numbers
-abbrev pub unsound_rows : GuestOf → (ℕ → Option ℕ) → List (Option Unsound)
-unsound_rows g pfn_of =
-    first_some (absent g.parts) (needed_keys g.kind)
-    ∷ option_map (λ k. P2mFrame k) (find_p2m g.frames g.parts)
-    ∷ option_map (λ at. Superpage at.0 at.1) (find_entry is_superpage g.frames)
-    ∷ option_map (λ at. NoFrame at.0 at.1) (find_entry (is_unknown pfn_of) g.frames)
-    ∷ option_map (λ at. GdtEnts at.0 at.1) (find_gdt g.parts)
-    ∷ option_map (λ at. VcpuFrame at.0 at.1) (find_in_contexts (misnames g.frames pfn_of) g.parts)
-    ∷ option_map (λ fault. BadContext fault) (option_and_then (λ bytes. fault_in (scan bytes)) (maps.get g.parts context_key))
+abbrev pub unsound_rows : Kind → FrameMap → PartMap → (ℕ → Option ℕ) → List (Option Unsound)
+unsound_rows kind frames parts pfn_of =
+    first_some (absent parts) (needed_keys kind)
+    ∷ option_map (λ k. P2mFrame k) (find_p2m frames parts)
+    ∷ option_map (λ at. Superpage at.0 at.1) (find_entry is_superpage frames)
+    ∷ option_map (λ at. NoFrame at.0 at.1) (find_entry (is_unknown pfn_of) frames)
+    ∷ option_map (λ at. GdtEnts at.0 at.1) (find_gdt parts)
+    ∷ option_map (λ at. VcpuFrame at.0 at.1) (find_in_contexts (misnames frames pfn_of) parts)
+    ∷ option_map (λ fault. BadContext fault) (find_context_fault parts)
     ∷ []
 
 -- the first cause that a host isn't sound
 abbrev pub unsoundness : HostOf → Option Unsound
-unsoundness h = first_of (unsound_rows (guest_in h) (pfn_in h.frames))
+unsoundness h = first_of (unsound_rows h.kind (guest_in h).frames h.parts (pfn_in h.frames))

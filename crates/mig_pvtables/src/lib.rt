@@ -2,8 +2,8 @@
 //!
 //! Responsible for: what an entry of a table says, what is wrong with a table in a stream, the frame that a field of a
 //! vCPU's context says, what is wrong with a guest at the end of its stream, bringing a guest to its blank form and to
-//! the form in which it stands in a machine, and bringing tables from frame numbers to machine frames and back; and, as
-//! definitions with their laws, the guest that a host means and what is in the way of seeing it.
+//! the form in which it stands in a machine, bringing tables from frame numbers to machine frames and back, and what is
+//! in the way of seeing a guest that stands in a machine; and, as a definition with its laws, the guest that a host means.
 #![tactic(auto)]
 
 mod blanking;
@@ -14,6 +14,7 @@ mod localising;
 mod p2m;
 mod rename;
 mod renaming_law;
+mod soundness;
 mod table;
 mod testing;
 mod vcpu;
@@ -30,6 +31,7 @@ pub use localising::localise;
 pub use p2m::p2m_page;
 pub use rename::{BadEntry, Why, localise_table, normalise_table};
 pub use renaming_law::{localised_table_comes_back, renamed_table_says_the_same};
+pub use soundness::unsoundness;
 pub use table::{check_table, entry, put_entry};
 pub use testing::{WholeAnswer, whole};
 pub use vcpu::{put_vcpu_frame, vcpu_frame};

@@ -45,7 +45,7 @@ pub struct BadEntry {
 
 /// The first slot whose entry names a machine frame that has no frame number.
 #[tactic(auto, using(crate::proofs::Slots::no_slot))]
-fn unknown_slot<F: Frames>(page: &[u8; 4096], level: u8, frames: &F) -> Option<usize>
+pub(crate) fn unknown_slot<F: Frames>(page: &[u8; 4096], level: u8, frames: &F) -> Option<usize>
     requires least { 1 ≤ level }
     requires most { level ≤ 4 }
     ensures value { result ≡ first_unknown (F.pfns frames.now) level page.now }

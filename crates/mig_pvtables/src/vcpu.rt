@@ -15,6 +15,13 @@ pub(crate) const FIELDS: u8 = 19;
 /// Where the number of the GDT's descriptors stands.
 const GDT_ENTS: usize = 4960;
 
+/// How many descriptors a vCPU's GDT has.
+pub(crate) fn gdt_ents(context: &[u8; 5168]) -> u64
+    ensures { result ≡ ents_in context.now }
+{
+    u64_le(context, GDT_ENTS)
+}
+
 /// Where a field stands.
 fn place_of(field: u8) -> usize
     requires { field ≤ 18 }
@@ -40,7 +47,7 @@ pub fn vcpu_frame(context: &[u8; 5168], id: u32, field: u8) -> Option<u64>
         0 => id == 0,
         17 => true,
         18 => value % 2 == 1,
-        _ => (u64::from(field) - 1) * 512 < u64_le(context, GDT_ENTS),
+        _ => (u64::from(field) - 1) * 512 < gdt_ents(context),
     };
     if !used {
         return None;

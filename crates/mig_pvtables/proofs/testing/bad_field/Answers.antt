@@ -1,13 +1,13 @@
 use Rattle.std.proofs.Common.{Bor}
 use Rattle.std.specs.Array.{IsWholeChunk}
 use Rattle.std.specs.Option.{MatchOption}
-use Rattle.mig_pvtables.proofs.Common.{ap, subst, ◌≡◌, ◌≢◌, ◌∙◌, length, List, Part, Option, ℕ, find, misfits}
+use Rattle.mig_pvtables.proofs.Common.{ap, subst, ◌≡◌, ◌≢◌, ◌∙◌, length, List, Part, Option, ℕ, find, option_map, misfits}
 use Rattle.mig_pvtables.specs.Faults.{field_numbers}
-use Rattle.mig_pvtables.proofs.Walks.{contexts_start, contexts_next, context_there}
+use Rattle.mig_pvtables.proofs.Walks.{in_fields, contexts_start, contexts_next, context_there}
 use Rattle.mig_pvtables.proofs.testing.bad_field.Goals as goal
 
 pub loop-key-init : goal.loop-key-init
-loop-key-init c = record { code = tt; so = contexts_start c.args.guest.now.frames c.args.guest.now.parts }
+loop-key-init c = record { code = tt; so = contexts_start (in_fields (misfits c.args.guest.now.frames)) c.args.guest.now.parts }
 
 pub unwrap-context-requires : goal.unwrap-context-requires
 unwrap-context-requires c =
@@ -20,6 +20,6 @@ loop-key-preserved c =
     let e : Part = (c.in-Some.key, c.in-Some.bytes.now) in
     let same : c.unwrap-context.result.now ≡ c.in-Some.bytes.now = (subst (λ (o : Option (Bor (List ℕ))). MatchOption o (length e.1 ≢ 5168) (λ y. IsWholeChunk e.1 y.now 5168)) c.unwrap-context.ensures c.as_array.ensures.cases).same in record {
       code = (context_there c.args.guest.now.parts c.loop-key.after e c.in-Some.ensures.next).0;
-      so = contexts_next c.args.guest.now.frames c.args.guest.now.parts c.loop-key.after c.loop-key.invariant.so e c.in-Some.ensures.next
-          (c.in_default-misfit.ensures.value ∙ ap (λ bytes. find (misfits c.args.guest.now.frames e.0.key1 bytes) field_numbers) same);
+      so = contexts_next (in_fields (misfits c.args.guest.now.frames)) c.args.guest.now.parts c.loop-key.after c.loop-key.invariant.so e c.in-Some.ensures.next
+          (ap (option_map (λ (n : ℕ). (e.0.key1, n))) (c.in_default-misfit.ensures.value ∙ ap (λ bytes. find (misfits c.args.guest.now.frames e.0.key1 bytes) field_numbers) same));
     }

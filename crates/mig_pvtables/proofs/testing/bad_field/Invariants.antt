@@ -1,12 +1,12 @@
-use Rattle.mig_pvtables.proofs.Common.{◌≡◌, length, IfSome, parts_after}
+use Rattle.mig_pvtables.proofs.Common.{◌≡◌, length, IfSome, parts_after, misfits}
 use Rattle.std.specs.FinMap as maps
-use Rattle.mig_pvtables.proofs.Walks.{IsSoBehind}
+use Rattle.mig_pvtables.proofs.Walks.{in_fields, IsSoBehind}
 use Rattle.mig_pvtables.proofs.testing.bad_field.Given as goal
 
 abbrev pub invariant-loop-key : goal.invariant-loop-key
 invariant-loop-key l = record {
   code : IfSome l.after (λ k. k.code ≡ 4);
-  so : IsSoBehind l.fn.guest.frames l.fn.guest.parts l.after;
+  so : IsSoBehind (in_fields (misfits l.fn.guest.frames)) l.fn.guest.parts l.after;
 }
 
 abbrev pub decreases-loop-key : goal.decreases-loop-key
