@@ -19,4 +19,5 @@ pub mod Parts
 pub mod Ranks
 pub mod Readers
 pub mod RestoredHosts
+pub mod SoundHosts
 pub mod Writers

@@ -9,7 +9,7 @@ ghost use Rattle.mig_guest.specs.Frames.{NextEntry};
 ghost use Rattle.mig_guest.specs.Hosts.{IsHostFrame, IsHostPart, IsValid, most_width, machine_limit};
 ghost use Rattle.mig_guest.specs.Order.{part_cmp, IsAbove};
 ghost use Rattle.mig_guest.specs.Parts.{FitsPolicy, NextBehind};
-ghost use Rattle.mig_pvtables.specs.View.{pfn_in};
+ghost use Rattle.mig_pvtables.specs.View.{guest_in, pfn_in};
 ghost use Rattle.mig_image.specs.ImageParts.{put_frame, put_part_in, has_machine};
 
 use crate::machine_frames::MachineFrames;
@@ -204,6 +204,22 @@ impl Host {
         ensures next { NextBehind after (maps.entries self.now.host.parts) (option_map (λ e. (e.0, e.1.now)) result) }
     {
         self.parts.next_behind(after)
+    }
+
+    /// The frames as they are kept, without their machine frames, to look at.
+    #[tactic(auto, using(crate::proofs::SoundHosts::frames_kept))]
+    pub(crate) fn frame_store(&self) -> &FrameStore
+        ensures { result.now.frames ≡ (guest_in self.now.host).frames }
+    {
+        &self.frames
+    }
+
+    /// The parts, to look at.
+    pub(crate) fn parts(&self) -> &Parts
+        ensures value { result.now ≡ self.now.host.parts }
+        ensures valid { IsValid self.now.host }
+    {
+        &self.parts
     }
 
     /// Makes ready room for at least `more` frames, those included that are spare already.
