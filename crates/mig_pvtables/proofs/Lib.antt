@@ -40,5 +40,7 @@ pub mod HostViews
 pub mod LocaliseFrames
 pub mod LocaliseContexts
 pub mod LocaliseGuests
+pub mod NormaliseFrames
+pub mod NormaliseGuests
 pub mod Walks
 pub mod P2mWalks

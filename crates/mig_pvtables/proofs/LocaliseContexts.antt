@@ -1,15 +1,14 @@
 -- A context whose fields are renamed one by one, from field 0 on.
-use Rattle.mig_pvtables.proofs.Common.{◌≡◌, ◌≢◌, ℕ, ◌+◌, ◌*◌, ◌^◌, ◌<◌, Bool, true, false, cond, List, length, get_or, Option, Some, None, refl, sym, ap, subst, ◌∙◌, inl, inr, arith, cases_lt, cases_eq, lt-ltb, le-ltb, gdt_ents, long_at, each_long, long_of_longs, each_stays, put_long, field_at, field_place, field_value, frame_of_field, is_used}
+use Rattle.mig_pvtables.proofs.Common.{◌≡◌, ◌≢◌, ℕ, ◌+◌, ◌*◌, ◌^◌, ◌<◌, Bool, true, false, cond, List, length, get_or, Option, Some, None, refl, sym, ap, subst, ◌∙◌, inl, inr, arith, cases_lt, cases_eq, lt-ltb, le-ltb, gdt_ents, long_at, each_long, long_of_longs, each_stays, put_long, field_at, field_place, field_value, frame_of_field}
 use Rattle.byteorder.specs.Endian.{little_bytes}
 use Rattle.mig_bytes.specs.Fields.{with_field}
 use Rattle.mig_bytes.proofs.ByteLists.{bytes_from, long_below}
 use Rattle.mig_guest.proofs.Longs.{same_longs}
 use Rattle.mig_pvtables.specs.LocaliseSteps.{is_field_below, changed_below}
-use Rattle.mig_pvtables.specs.RenamedContexts.{field_named, value_renamed, renamed_value, renamed_context}
-use Rattle.mig_pvtables.specs.VcpuContexts.{field_says, field_of_frame}
+use Rattle.mig_pvtables.specs.RenamedContexts.{Usage, field_named, value_renamed, renamed_value, renamed_context}
+use Rattle.mig_pvtables.specs.VcpuContexts.{field_of_frame}
 use Rattle.mig_pvtables.proofs.BlankSays.{field_there}
 use Rattle.mig_pvtables.proofs.RenamedContexts.{place_field}
-use Rattle.mig_pvtables.proofs.RenamedFields.{used, unused}
 
 -- what is said, where it is used
 split : (b : Bool) (w n : ℕ) → Some n ≡ cond b (Some w) None → (b ≡ true) × (w ≡ n)
@@ -24,12 +23,12 @@ none_below : (o : Option ℕ) → is_field_below 0 o ≡ false
 none_below None = refl
 none_below (Some field) = le-ltb field 0 (omega arith)
 
-module _ (f : ℕ → Option ℕ) (id : ℕ) (context : List ℕ) (fits : (i : ℕ) → get_or context i 0 < 256) (size : length context ≡ 5168) where
+module _ (u : Usage) (f : ℕ → Option ℕ) (id : ℕ) (context : List ℕ) (fits : (i : ℕ) → get_or context i 0 < 256) (size : length context ≡ 5168) where
   abbrev ents : ℕ
   ents = gdt_ents context
 
   abbrev to : ℕ → ℕ → ℕ
-  to = renamed_value is_used f id ents
+  to = renamed_value u f id ents
 
   abbrev as_told : ℕ → Bool → ℕ
   as_told i b = cond b (to i (long_at context i)) (long_at context i)
@@ -41,11 +40,11 @@ module _ (f : ℕ → Option ℕ) (id : ℕ) (context : List ℕ) (fits : (i : �
   pub fields_start : context ≡ fields_below 0
   fields_start = sym (each_stays 646 (changed_below 0 to) context (bytes_from context fits) size (λ i lt. ap (as_told i) (none_below (field_at i))))
 
-  to_is : (i v : ℕ) (o : Option ℕ) → field_at i ≡ o → to i v ≡ value_renamed is_used f id ents o v
+  to_is : (i v : ℕ) (o : Option ℕ) → field_at i ≡ o → to i v ≡ value_renamed u f id ents o v
   unfolding renamed_value
-  to_is i v o e = ap (λ o. value_renamed is_used f id ents o v) e
+  to_is i v o e = ap (λ o. value_renamed u f id ents o v) e
 
-  pub fields_end : fields_below 19 ≡ renamed_context is_used f id context
+  pub fields_end : fields_below 19 ≡ renamed_context u f id context
   fields_end = same_longs 646 _ _ (λ i lt. by_case i (field_at i) refl)
     where
       by_case : (i : ℕ) (o : Option ℕ) → field_at i ≡ o → as_told i (is_field_below 19 o) ≡ to i (long_at context i)
@@ -77,8 +76,15 @@ module _ (f : ℕ → Option ℕ) (id : ℕ) (context : List ℕ) (fits : (i : �
     same_value : field_value now n ≡ v
     same_value = same_at place there.1 fresh
 
-    same_says : field_says id now n ≡ field_says id context n
-    same_says = (λ i. cond (is_used id (same_ents i) n (same_value i)) (Some (frame_of_field n (same_value i))) None)
+    -- the frame that the field says, where it is used
+    abbrev says_in : List ℕ → Option ℕ
+    says_in c = cond (u id (gdt_ents c) n (field_value c n)) (Some (frame_of_field n (field_value c n))) None
+
+    same_says : says_in now ≡ says_in context
+    same_says = (λ i. cond (u id (same_ents i) n (same_value i)) (Some (frame_of_field n (same_value i))) None)
+
+    told : (b : Bool) → u id ents n v ≡ b → to place v ≡ cond b (field_named n v (f (frame_of_field n v))) v
+    told b is = to_is place v (Some n) there.0 ∙ ap (λ b. cond b (field_named n v (f (frame_of_field n v))) v) is
 
     same_other : (j : ℕ) → j ≢ place → changed_below n to j (long_at context j) ≡ changed_below (n + 1) to j (long_at context j)
     same_other j ne = ap (as_told j) (by_case (field_at j) refl)
@@ -107,15 +113,18 @@ module _ (f : ℕ → Option ℕ) (id : ℕ) (context : List ℕ) (fits : (i : �
       | inr ne ↦ same_other j ne
     ])
 
-    module _ (pfn : ℕ) (says : Some pfn ≡ field_says id now n) where
-      said : (is_used id ents n v ≡ true) × (frame_of_field n v ≡ pfn)
-      said = split (is_used id ents n v) (frame_of_field n v) pfn (says ∙ same_says)
+    module _ (pfn : ℕ) (says : Some pfn ≡ says_in now) where
+      said : (u id ents n v ≡ true) × (frame_of_field n v ≡ pfn)
+      said = split (u id ents n v) (frame_of_field n v) pfn (says ∙ same_says)
+
+      named : (o : Option ℕ) → f pfn ≡ o → to place v ≡ field_named n v o
+      named o has = told true said.0 ∙ ap (field_named n v) (ap f said.1 ∙ has)
 
       pub field_put : (m : ℕ) → f pfn ≡ Some m → with_field now (8 * field_place n) (little_bytes 8 (field_of_frame n m)) ≡ fields_below (n + 1)
-      field_put m has = put (field_of_frame n m) (sym (to_is place v (Some n) there.0 ∙ used f f id ents n v m said.0 (ap f said.1 ∙ has)))
+      field_put m has = put (field_of_frame n m) (sym (named (Some m) has))
 
       pub field_unknown : f pfn ≡ None → now ≡ fields_below (n + 1)
-      field_unknown none = stays (to_is place v (Some n) there.0 ∙ ap (λ b. cond b (field_named n v (f (frame_of_field n v))) v) said.0 ∙ ap (field_named n v) (ap f said.1 ∙ none))
+      field_unknown none = stays (named None none)
 
-    pub field_unused : None ≡ field_says id now n → now ≡ fields_below (n + 1)
-    field_unused says = stays (to_is place v (Some n) there.0 ∙ unused f f id ents n v (unsplit (is_used id ents n v) (frame_of_field n v) (says ∙ same_says)))
+    pub field_unused : None ≡ says_in now → now ≡ fields_below (n + 1)
+    field_unused says = stays (told false (unsplit (u id ents n v) (frame_of_field n v) (says ∙ same_says)))

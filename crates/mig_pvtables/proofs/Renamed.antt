@@ -222,7 +222,7 @@ unfolding blanked_entry
 blanked_small level slot e fits = elim (is_blank_slot level slot) as (λ b. cond b 0 e < 2 ^ 64) [ true ↦ omega arith | false ↦ fits ]
 
 -- renaming leaves blank slots alone, so they can be set to 0 before it or after it
-blanks_first : (f : ℕ → Option ℕ) (level slot e : ℕ) → renamed_long f level slot (blanked_entry level slot e) ≡ blanked_entry level slot (renamed_long f level slot e)
+pub blanks_first : (f : ℕ → Option ℕ) (level slot e : ℕ) → renamed_long f level slot (blanked_entry level slot e) ≡ blanked_entry level slot (renamed_long f level slot e)
 unfolding blanked_entry renamed_entry
 blanks_first f level slot e = by_case (is_blank_slot level slot) refl
   where

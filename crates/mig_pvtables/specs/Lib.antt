@@ -15,5 +15,6 @@ pub mod View
 pub mod Sound
 pub mod BlankSteps
 pub mod LocaliseSteps
+pub mod NormaliseSteps
 pub mod P2mMarks
 pub mod WorkedGuest

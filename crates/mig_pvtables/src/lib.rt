@@ -1,9 +1,10 @@
 //! Page tables and the contexts of vCPUs, whole guests and their blank form.
 //!
 //! Responsible for: what an entry of a table says, what is wrong with a table in a stream, the frame that a field of a
-//! vCPU's context says, what is wrong with a guest at the end of its stream, bringing a guest to its blank form and to
-//! the form in which it stands in a machine, bringing tables from frame numbers to machine frames and back, and what is
-//! in the way of seeing a guest that stands in a machine; and, as a definition with its laws, the guest that a host means.
+//! vCPU's context says, what is wrong with a guest at the end of its stream, bringing a guest to its blank form, to the
+//! form in which it stands in a machine and, of a PV guest, back to its form in a stream, bringing tables from frame
+//! numbers to machine frames and back, and what is in the way of seeing a guest that stands in a machine; and, as a
+//! definition with its laws, the guest that a host means.
 #![tactic(auto)]
 
 mod blanking;
@@ -11,6 +12,7 @@ mod frames;
 mod law;
 mod listing;
 mod localising;
+mod normalising;
 mod p2m;
 mod rename;
 mod renaming_law;
@@ -28,6 +30,7 @@ pub use law::{
     whole_as_its_blank_form, worked_pv_guest_is_whole,
 };
 pub use localising::localise;
+pub use normalising::normalise;
 pub use p2m::p2m_page;
 pub use rename::{BadEntry, Why, localise_table, normalise_table};
 pub use renaming_law::{localised_table_comes_back, renamed_table_says_the_same};
