@@ -1,5 +1,6 @@
 pub mod Common
 pub mod Chains
+pub mod Copies
 pub mod FieldBytes
 pub mod Frames
 pub mod HostLookups
@@ -19,5 +20,6 @@ pub mod Parts
 pub mod Ranks
 pub mod Readers
 pub mod RestoredHosts
+pub mod SeenGuests
 pub mod SoundHosts
 pub mod Writers

@@ -1,8 +1,8 @@
 //! A guest as it stands in a machine, and the image file that keeps it.
 //!
 //! Responsible for: hosts (a frame number's type, page and machine frame, raw parts, and room for spare frames), the
-//! image file of version 1, which host a restored guest becomes, whether a host can be seen as a guest, and reading and
-//! writing images. It knows nothing of streams.
+//! image file of version 1, which host a restored guest becomes, whether a host can be seen as a guest and as which, and
+//! reading and writing images. It knows nothing of streams.
 //!
 //! What the layers above rely on: a host is always valid, so that its image can be read again; an image is read as the
 //! host whose image it is, or refused at the place of its first fault; of a host exactly its image is written; and a
@@ -16,6 +16,7 @@ mod machine_frames;
 mod read;
 mod read_part;
 mod restore;
+mod seeing;
 mod sound;
 mod write;
 

@@ -1,0 +1,100 @@
+ghost use Rattle.std.specs.Prelude.{◌≡◌, ◌<◌, OnOk, IfOk};
+ghost use Rattle.std.specs.Result.{IsOk};
+ghost use Rattle.std.specs.FinMap as maps;
+ghost use Rattle.mig_headers.specs.Contexts.{scan};
+ghost use Rattle.mig_headers.specs.declared.kind.Kind.TheVariants.{Pv};
+ghost use Rattle.mig_guest.specs.Hosts.{IsValid};
+ghost use Rattle.mig_guest.specs.PartKeys.{context_key};
+ghost use Rattle.mig_pvtables.specs.Blank.{each_value};
+ghost use Rattle.mig_pvtables.specs.Normalised.{part_seen};
+ghost use Rattle.mig_pvtables.specs.Sound.{IsSound};
+ghost use Rattle.mig_pvtables.specs.View.{without_machine, top_of, guest_in, view};
+
+use crate::host::Host;
+use mig_bytes::Memory;
+use mig_guest::{Guest, PartCode, PartKey};
+use mig_headers::Kind;
+use mig_hvm::read_context;
+use mig_pvtables::normalise;
+use std::alloc::Global;
+
+/// The greatest PFN that a guest may have whose host is of this kind and width; 0 for HVM.
+fn top_for(kind: Kind, width: u64) -> u64
+    requires { kind ≡ Pv → 0 < width }
+    ensures { result ≡ top_of kind width }
+{
+    match kind {
+        Kind::Pv => width - 1,
+        Kind::Hvm => 0,
+    }
+}
+
+/// Sets the frames of a host, without their machine frames. Where no memory is found, some may be set.
+fn copy_frames(guest: &mut Guest, host: &Host) -> Result<(), Memory>
+    requires none { guest.old.frames ≡ maps.empty }
+    requires valid { IsValid host.now.host }
+    ensures { OnOk result (guest.new ≡ record guest.old { frames = each_value (λ _ frame. without_machine frame) host.now.host.frames }) }
+{
+    let mut from = 0;
+    while let Some((pfn, kind, _, page)) = host.next_entry(from) {
+        guest.set_frame(pfn, kind, page)?;
+        from = pfn + 1;
+    }
+    Ok(())
+}
+
+/// Sets a part of a host, the context cut behind its END.
+fn copy_part(guest: &mut Guest, key: PartKey, bytes: &[u8]) -> Result<(), Memory>
+    requires sole { key.code ≡ 9 → key ≡ context_key }
+    requires chain { key.code ≡ 9 → IsOk (scan bytes.now) }
+    ensures { OnOk result (guest.new ≡ record guest.old { parts = maps.insert guest.old.parts key (part_seen key bytes.now) }) }
+{
+    if key.code == PartCode::HvmContext.number() {
+        read_context(guest, bytes)
+    } else {
+        guest.set_part(key, bytes)
+    }
+}
+
+/// Sets the parts of a host, the context cut behind its END. Where no memory is found, some may be set.
+fn copy_parts(guest: &mut Guest, host: &Host) -> Result<(), Memory>
+    requires none { guest.old.parts ≡ maps.empty }
+    requires valid { IsValid host.now.host }
+    requires sound { IsSound host.now.host }
+    ensures { OnOk result (guest.new ≡ record guest.old { parts = each_value part_seen host.now.host.parts }) }
+{
+    let mut after = None;
+    while let Some((key, bytes)) = host.next_behind(after) {
+        copy_part(guest, key, bytes)?;
+        after = Some(key);
+    }
+    Ok(())
+}
+
+/// A copy of the guest that stands in a sound host, as it stands there but for the context, which is cut behind its END.
+fn copy_guest(alloc: Global, host: &Host) -> Result<Guest, Memory>
+    requires { IsSound host.now.host }
+    ensures guest { IfOk result (λ guest. guest ≡ record (guest_in host.now.host) { parts = each_value part_seen host.now.host.parts }) }
+    ensures valid { IsValid host.now.host }
+{
+    let kind = host.kind();
+    let top = top_for(kind, host.width());
+    let mut guest = Guest::new(alloc, kind);
+    guest.set_top(top);
+    copy_frames(&mut guest, host)?;
+    copy_parts(&mut guest, host)?;
+    Ok(guest)
+}
+
+/// The guest that stands in a sound host, as a stream says it.
+pub(crate) fn guest_seen(alloc: Global, host: &Host) -> Result<Guest, Memory>
+    requires { IsSound host.now.host }
+    ensures { IfOk result (λ guest. guest ≡ view host.now.host) }
+{
+    let mut guest = copy_guest(alloc, host)?;
+    match host.kind() {
+        Kind::Pv => normalise(&mut guest, host),
+        Kind::Hvm => {}
+    }
+    Ok(guest)
+}
