@@ -152,9 +152,6 @@ module _ (h : HostOf) (g : GuestOf) (is : g ≡ copied_in h) where
     same_parts : g.parts ≡ h.parts
     same_parts = ap (λ (s : GuestOf). s.parts) stands
 
-    pub of_pv : g.kind ≡ Pv
-    of_pv = ap (λ (s : GuestOf). s.kind) is ∙ pv
-
     pub contexts_long : (key : PartKey) (context : List ℕ) → maps.get g.parts key ≡ Some context → key.code ≡ 4 → length context ≡ 5168
     contexts_long key context found four =
         eqb-true (length context) 5168 (host_len Pv h.width key context (host_part key context (ap (λ (m : PartMap). maps.get m key) (sym same_parts) ∙ found)) VcpuBasic four)
