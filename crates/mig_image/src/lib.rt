@@ -27,5 +27,6 @@ pub use law::{
 };
 pub use read::{ImageAnswer, read_host};
 pub use restore::{HostAnswer, host_of};
+pub use seeing::guest_of;
 pub use sound::SoundAnswer;
 pub use write::write_host;

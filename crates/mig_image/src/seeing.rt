@@ -1,16 +1,20 @@
-ghost use Rattle.std.specs.Prelude.{◌≡◌, ◌<◌, OnOk, IfOk};
+ghost use Rattle.std.specs.Prelude.{◌≡◌, ◌<◌, Some, Err, OnOk, IfOk};
 ghost use Rattle.std.specs.Result.{IsOk};
 ghost use Rattle.std.specs.FinMap as maps;
 ghost use Rattle.mig_headers.specs.Contexts.{scan};
 ghost use Rattle.mig_headers.specs.declared.kind.Kind.TheVariants.{Pv};
 ghost use Rattle.mig_guest.specs.Hosts.{IsValid};
 ghost use Rattle.mig_guest.specs.PartKeys.{context_key};
-ghost use Rattle.mig_pvtables.specs.Blank.{each_value};
+ghost use Rattle.mig_headers.specs.declared.unsound.Unsound.{Unsound as Cause};
+ghost use Rattle.mig_pvtables.specs.Blank.{blank, each_value};
 ghost use Rattle.mig_pvtables.specs.Normalised.{part_seen};
-ghost use Rattle.mig_pvtables.specs.Sound.{IsSound};
+ghost use Rattle.mig_pvtables.specs.Sound.{IsSound, unsoundness};
 ghost use Rattle.mig_pvtables.specs.View.{without_machine, top_of, guest_in, view};
+ghost use Rattle.mig_pvtables.specs.Whole.{IsWhole};
+ghost use Rattle.mig_image.specs.declared.sound.SoundAnswer.TheVariants as answers;
 
 use crate::host::Host;
+use crate::sound::SoundAnswer;
 use mig_bytes::Memory;
 use mig_guest::{Guest, PartCode, PartKey};
 use mig_headers::Kind;
@@ -87,9 +91,10 @@ fn copy_guest(alloc: Global, host: &Host) -> Result<Guest, Memory>
 }
 
 /// The guest that stands in a sound host, as a stream says it.
-pub(crate) fn guest_seen(alloc: Global, host: &Host) -> Result<Guest, Memory>
+fn guest_seen(alloc: Global, host: &Host) -> Result<Guest, Memory>
     requires { IsSound host.now.host }
-    ensures { IfOk result (λ guest. guest ≡ view host.now.host) }
+    ensures guest { IfOk result (λ guest. guest ≡ view host.now.host) }
+    ensures valid { OnOk result (IsValid host.now.host) }
 {
     let mut guest = copy_guest(alloc, host)?;
     match host.kind() {
@@ -97,4 +102,20 @@ pub(crate) fn guest_seen(alloc: Global, host: &Host) -> Result<Guest, Memory>
         Kind::Hvm => {}
     }
     Ok(guest)
+}
+
+/// The guest that a host is seen as: a whole one, in its blank form. A host that isn't sound is answered with its first
+/// cause, and no guest is made.
+pub fn guest_of(alloc: Global, host: &Host) -> Result<Guest, SoundAnswer>
+    ensures guest { IfOk result (λ guest. guest ≡ view host.now.host) }
+    ensures whole { IfOk result (λ guest. IsWhole guest) }
+    ensures blank { IfOk result (λ guest. blank guest ≡ guest) }
+    ensures sound { OnOk result (IsSound host.now.host) }
+    ensures unsound { (u : Cause) → result ≡ Err (answers.Unsound u) → unsoundness host.now.host ≡ Some u }
+{
+    host.sound(alloc)?;
+    match guest_seen(alloc, host) {
+        Ok(guest) => Ok(guest),
+        Err(_) => Err(SoundAnswer::Memory),
+    }
 }

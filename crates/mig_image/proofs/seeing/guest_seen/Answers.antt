@@ -15,8 +15,8 @@ normalise-requires-clause-sole c = page_sole c.args.host.now.host c.in_ok-guest.
 pub normalise-requires-clause-names : goal.normalise-requires-clause-names
 normalise-requires-clause-names c = pfns_fit c.args.host.now.host c.in_ok-guest.ensures.valid
 
-pub returns : goal.returns
-returns c = elim c.match-kind.branch [
+pub returns-clause-guest : goal.returns-clause-guest
+returns-clause-guest c = elim c.match-kind.branch [
   | in-Pv w ↦ w.guest-is ∙ pv_seen c.args.host.now.host c.in_ok-guest.guest c.in_ok-guest.ensures.guest c.in_ok-guest.ensures.valid (sym w.in-Pv.ensures) w.normalise.new.guest w.normalise.ensures
   | in-Hvm w ↦ w.guest-is ∙ hvm_seen c.args.host.now.host c.in_ok-guest.guest c.in_ok-guest.ensures.guest (sym w.in-Hvm.ensures)
 ]
