@@ -11,6 +11,8 @@ mod bytes;
 #[cfg(test)]
 mod guest;
 #[cfg(test)]
+mod host;
+#[cfg(test)]
 mod image;
 #[cfg(test)]
 mod renaming;
