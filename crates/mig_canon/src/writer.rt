@@ -1,7 +1,6 @@
 ghost use Rattle.std.specs.Prelude.{◌≡◌, ◌++◌};
 ghost use Rattle.mig_bytes.specs.Bytes.{Puts};
 ghost use Rattle.mig_bytes.specs.Faults.{HasCause};
-ghost use Rattle.mig_guest.specs.Formed.{HasNoEmulators};
 ghost use Rattle.mig_pvtables.specs.Whole.{IsWhole};
 ghost use Rattle.std.specs.List.{flat_map};
 ghost use Rattle.mig_canon.specs.Canon.{headers, records_of, static_bodies, last_records, text_of, canon};
@@ -78,12 +77,11 @@ fn write_last<K: Sink>(sink: &mut K, guest: &Guest) -> Result<(), WriteFailed>
     }
 }
 
-/// Appends the canonical stream of the guest, which has no emulator parts. After `WriteFailed` some first bytes of it are
-/// appended, but not all.
+/// Appends the canonical image of the guest, in which nothing stands of emulators. After `WriteFailed` some first bytes of
+/// it are appended, but not all.
 #[tactic(auto, using(mig_bytes::proofs::Texts::puts_then, mig_bytes::proofs::Texts::puts_stop, mig_bytes::proofs::Texts::puts_same, crate::proofs::Spelling::canon_is))]
 pub fn write_canon<K: Sink>(sink: &mut K, guest: &Guest) -> Result<(), WriteFailed>
-    requires whole { IsWhole guest.now }
-    requires plain { HasNoEmulators guest.now.parts }
+    requires { IsWhole guest.now }
     ensures bytes { Puts (canon guest.now) (K.written sink.old) (K.written sink.new) result }
     ensures cause { HasCause (K.faults sink.old) (K.faults sink.new) result }
 {
