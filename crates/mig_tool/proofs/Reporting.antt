@@ -1,5 +1,5 @@
 -- What the program answers, and what the line on the report comes to.
-use Rattle.mig_tool.proofs.Common.{◌⊎◌, ◌≡◌, ℕ, ◌++◌, List, [], length, arith, Option, Some, None, Result, Ok, Err, refl, sym, ap, subst, ◌∙◌, GuestOf, Accepted, Kind, Hvm, Pv, IsBare, IsFew, IsBase, restored_text, Written, Done, DonePart, Comes, ComesOf, Says, SaysOf, InputRises, IsLine, summary_of, Command, Normalise, Restore, Verify, mean_kind, status_of, line_of, outcome_of}
+use Rattle.mig_tool.proofs.Common.{◌⊎◌, ◌≡◌, ℕ, ◌++◌, List, [], length, arith, Option, Some, None, Result, Ok, Err, refl, sym, ap, subst, ◌∙◌, GuestOf, Accepted, Kind, Hvm, Pv, IsCarried, IsFew, IsBase, restored_text, Written, Done, DonePart, Comes, ComesOf, Says, SaysOf, InputRises, IsLine, summary_of, Command, Normalise, Restore, Verify, mean_kind, status_of, line_of, outcome_of}
 use mathlib.Core.Logic.{inl, inr}
 use Rattle.std.specs.Io.KnownBytes.{Appends}
 use Rattle.mig_bytes.specs.Bytes.{Puts}
@@ -7,16 +7,14 @@ use Rattle.mig_bytes.specs.Faults.{Rose, HasCause}
 use Rattle.mig_bytes.specs.declared.failure.WriteFailed.{WriteFailed}
 use Rattle.mig_headers.specs.declared.fault.Cause.{Cause}
 use Rattle.mig_headers.specs.declared.fault.Place.{Place}
-use Rattle.mig_restore.specs.Stream.{IsRefused}
-use Rattle.mig_canon.specs.Canon.{canon}
+use Rattle.mig_libxl.specs.Canon.{canon_any}
+use Rattle.mig_libxl.specs.Stream.{StreamOf, IsReading, IsRefused, ReadsStream, stream_at}
+use Rattle.mig_libxl.proofs.Laws.{accepted_is_stream, never_both}
+use Rattle.mig_libxl.proofs.AnyCanons.{canon_is_accepted, canon_is_one_to_one}
 use Rattle.mig_pvtables.specs.Blank.{IsOfBytes}
-use Rattle.mig_restore.specs.Judging.{Opening}
 use Rattle.mig_bytes.specs.Judged.Judged.{Passes}
-use Rattle.mig_restore.specs.Stream.{ImageOf, IsReading, ReadsImage, image_at}
+use Rattle.mig_restore.specs.Stream.{ImageOf}
 use Rattle.mig_restore.specs.declared.read.Reading.{Reading}
-use Rattle.mig_restore.proofs.Converse.{never_both}
-use Rattle.mig_restore.proofs.Laws.{accepted_is_image}
-use Rattle.mig_tool.proofs.Canons.{canon_is_accepted, canon_is_one_to_one}
 use Rattle.mig_tool.specs.declared.outcome.Outcome.{Outcome}
 use Rattle.mig_tool.specs.declared.outcome.Outcome.TheVariants as outcomes
 use Rattle.mig_tool.specs.declared.status.Status.{Status}
@@ -121,17 +119,17 @@ input_rose status before now h is = let r = subst (λ s. InputRises s before now
 
 -- ---- what a reading and a writing come to
 
-accepted_front : (input rest : List ℕ) (image : ImageOf) (reading : Reading) → image_at input ≡ Passes image rest → IsReading reading image → Accepted input reading.guest rest
-accepted_front input rest image reading accepts is = record { opening = image.opening; records = image.records; image = accepted_is_image input image.opening image.records rest accepts; means = is.guest }
+accepted_front : (input rest : List ℕ) (stream : StreamOf) (reading : Reading) → stream_at input ≡ Passes stream rest → IsReading reading stream → Accepted input reading.guest rest
+accepted_front input rest stream reading accepts is = record { stream = stream; image = is.image; spelled = accepted_is_stream input stream rest accepts; image_is = is.is; means = is.guest }
 
-pub came : (told left : Option (List ℕ)) (w : Written) (reading : Reading) (r : Result (Unit {0}) WriteFailed) (outcome : Outcome) → ReadsImage told left (Ok reading) → IsBare reading.guest → Puts (canon reading.guest) w.out_old w.out_new r
+pub came : (told left : Option (List ℕ)) (w : Written) (reading : Reading) (r : Result (Unit {0}) WriteFailed) (outcome : Outcome) → ReadsStream told left (Ok reading) → IsCarried reading.guest → Puts (canon_any reading.guest) w.out_old w.out_new r
     → outcome ≡ wrote r → ComesOf Normalise told left w outcome
-came None left w reading r outcome h bare put is = tt
-came (Some input) left w reading (Ok u) outcome (image, rest, accepts, left_is, is_read) bare put is =
+came None left w reading r outcome h carried put is = tt
+came (Some input) left w reading (Ok u) outcome (stream, rest, accepts, left_is, is_read) carried put is =
     subst (Comes Normalise input left w) (sym is)
-    (record { guest = reading.guest; rest = rest; accepted = accepted_front input rest image reading accepts is_read; left_is = left_is; wrote = put; bare = bare; kept = λ more. canon_is_accepted reading.guest more bare; alone = λ other too. canon_is_one_to_one other reading.guest too bare })
-came (Some input) left w reading (Err e) outcome (image, rest, accepts, left_is, is_read) bare put is =
-    subst (Comes Normalise input left w) (sym is) (record { guest = reading.guest; rest = rest; accepted = accepted_front input rest image reading accepts is_read; left_is = left_is; wrote = put })
+    (record { guest = reading.guest; rest = rest; accepted = accepted_front input rest stream reading accepts is_read; left_is = left_is; wrote = put; carried = carried; kept = λ more. canon_is_accepted reading.guest more carried; alone = λ other too. canon_is_one_to_one other reading.guest too carried })
+came (Some input) left w reading (Err e) outcome (stream, rest, accepts, left_is, is_read) carried put is =
+    subst (Comes Normalise input left w) (sym is) (record { guest = reading.guest; rest = rest; accepted = accepted_front input rest stream reading accepts is_read; left_is = left_is; wrote = put })
 
 whole_few : (g : GuestOf) → IsWhole g → IsFew g.frames
 whole_few g whole = by g.kind refl
@@ -145,35 +143,35 @@ pub base_fits : (guest : GuestOf) (base : ℕ) → IsFew guest.frames → IsBase
 base_fits guest base few range (inl zero) = omega (arith, zero, range.0)
 base_fits guest base few range (inr above) = omega (arith, above, range.1, few)
 
-pub restored : (told left : Option (List ℕ)) (w : Written) (reading : Reading) (base : ℕ) (outcome : Outcome) → ReadsImage told left (Ok reading) → IsBare reading.guest → IsOfBytes reading.guest → IsBase base
+pub restored : (told left : Option (List ℕ)) (w : Written) (reading : Reading) (base : ℕ) (outcome : Outcome) → ReadsStream told left (Ok reading) → IsCarried reading.guest → IsOfBytes reading.guest → IsBase base
     → (outcome ≡ outcomes.Done → Appends w.out_old w.out_new (restored_text base reading.guest)) → (outcome ≡ outcomes.WriteFault → AppendsPart w.out_old w.out_new (restored_text base reading.guest))
     → (outcome ≡ outcomes.Done) ⊎ ((outcome ≡ outcomes.WriteFault) ⊎ (outcome ≡ outcomes.Memory)) → ComesOf (Restore base) told left w outcome
-restored None left w reading base outcome h bare bytes range done part answers = tt
-restored (Some input) left w reading base outcome (image, rest, accepts, left_is, is_read) bare bytes range done part (inl is) =
-    let fits = base_fits reading.guest base (whole_few reading.guest bare.whole) range in
-    let valid = whole_valid reading.guest base bare.whole fits in
+restored None left w reading base outcome h carried bytes range done part answers = tt
+restored (Some input) left w reading base outcome (stream, rest, accepts, left_is, is_read) carried bytes range done part (inl is) =
+    let fits = base_fits reading.guest base (whole_few reading.guest carried.whole) range in
+    let valid = whole_valid reading.guest base carried.whole fits in
     subst (Comes (Restore base) input left w) (sym is)
     (record {
       guest = reading.guest;
       rest = rest;
-      accepted = accepted_front input rest image reading accepts is_read;
+      accepted = accepted_front input rest stream reading accepts is_read;
       left_is = left_is;
       wrote = done is;
-      bare = bare;
+      carried = carried;
       valid = valid;
-      sound = whole_sound reading.guest base bare.whole bytes bare.blank fits;
-      seen = whole_seen reading.guest base bare.whole bytes bare.blank fits;
+      sound = whole_sound reading.guest base carried.whole bytes carried.blank fits;
+      seen = whole_seen reading.guest base carried.whole bytes carried.blank fits;
       kept = λ more. image_reads (restored_text base reading.guest ++ more) (hosted reading.guest base) more (record { valid = valid; spelled = refl });
     })
-restored (Some input) left w reading base outcome (image, rest, accepts, left_is, is_read) bare bytes range done part (inr (inl is)) =
-    subst (Comes (Restore base) input left w) (sym is) (record { guest = reading.guest; rest = rest; accepted = accepted_front input rest image reading accepts is_read; left_is = left_is; wrote = part is })
-restored (Some input) left w reading base outcome h bare bytes range done part (inr (inr is)) = subst (Comes (Restore base) input left w) (sym is) tt
+restored (Some input) left w reading base outcome (stream, rest, accepts, left_is, is_read) carried bytes range done part (inr (inl is)) =
+    subst (Comes (Restore base) input left w) (sym is) (record { guest = reading.guest; rest = rest; accepted = accepted_front input rest stream reading accepts is_read; left_is = left_is; wrote = part is })
+restored (Some input) left w reading base outcome h carried bytes range done part (inr (inr is)) = subst (Comes (Restore base) input left w) (sym is) tt
 
 -- no stream was read
-pub not_read : (command : Command) (told left : Option (List ℕ)) (w : Written) (answer : StreamAnswer) (outcome : Outcome) → ReadsImage told left (Err answer) → outcome ≡ outcome_of answer → ComesOf command told left w outcome
+pub not_read : (command : Command) (told left : Option (List ℕ)) (w : Written) (answer : StreamAnswer) (outcome : Outcome) → ReadsStream told left (Err answer) → outcome ≡ outcome_of answer → ComesOf command told left w outcome
 not_read command told left w answer outcome h is = subst (ComesOf command told left w) (sym is) (by told answer h)
   where
-    by : (told : Option (List ℕ)) (answer : StreamAnswer) → ReadsImage told left (Err answer) → ComesOf command told left w (outcome_of answer)
+    by : (told : Option (List ℕ)) (answer : StreamAnswer) → ReadsStream told left (Err answer) → ComesOf command told left w (outcome_of answer)
     by None answer h = tt
     by (Some input) (answers.Refused place cause) (rest, refused, is) = (rest, refused, is)
     by (Some input) _ h = tt
@@ -183,24 +181,24 @@ reported (Ok u) = statuses.Done
 reported (Err e) = statuses.WriteFault
 
 -- the summary is that of the stream
-summed : (input rest : List ℕ) (image : ImageOf) (reading : Reading) (is : IsReading reading image) (a : Accepted input reading.guest rest) (s : Summary) → a.opening ≡ image.opening → a.records ≡ image.records
+summed : (input rest : List ℕ) (stream : StreamOf) (reading : Reading) (is : IsReading reading stream) (a : Accepted input reading.guest rest) (s : Summary) → a.image ≡ is.image
     → s.version ≡ reading.version → s.kind ≡ reading.guest.kind → s.frames ≡ length (maps.entries reading.guest.frames) → s.records ≡ reading.records → s ≡ summary_of a
-summed input rest image reading is a s oo rr v k f n =
-    let kind : reading.guest.kind ≡ image.opening.kind = ap (λ (x : GuestOf). x.kind) is.guest ∙ mean_kind image.opening.kind image.records in
-    let v' : s.version ≡ a.opening.version = v ∙ is.version ∙ ap (λ (x : Opening). x.version) (sym oo) in
-    let k' : s.kind ≡ a.opening.kind = k ∙ kind ∙ ap (λ (x : Opening). x.kind) (sym oo) in
-    let n' : s.records ≡ length a.records = n ∙ is.records ∙ ap length (sym rr) in
+summed input rest stream reading is a s same v k f n =
+    let kind : reading.guest.kind ≡ is.image.opening.kind = ap (λ (x : GuestOf). x.kind) is.guest ∙ mean_kind is.image.opening.kind is.image.records in
+    let v' : s.version ≡ a.image.opening.version = v ∙ is.version ∙ ap (λ (x : ImageOf). x.opening.version) (sym same) in
+    let k' : s.kind ≡ a.image.opening.kind = k ∙ kind ∙ ap (λ (x : ImageOf). x.opening.kind) (sym same) in
+    let n' : s.records ≡ length a.image.records = n ∙ is.records ∙ ap (λ (x : ImageOf). length x.records) (sym same) in
     λ i. record { version = v' i; kind = k' i; frames = f i; records = n' i }
 
-pub verified : (told left : Option (List ℕ)) (w : Written) (reading : Reading) (s : Summary) (r : Result (Unit {0}) WriteFailed) (status : Status) → ReadsImage told left (Ok reading)
+pub verified : (told left : Option (List ℕ)) (w : Written) (reading : Reading) (s : Summary) (r : Result (Unit {0}) WriteFailed) (status : Status) → ReadsStream told left (Ok reading)
     → s.version ≡ reading.version → s.kind ≡ reading.guest.kind → s.frames ≡ length (maps.entries reading.guest.frames) → s.records ≡ reading.records
     → Puts (ok_line s) w.report_old w.report_new r → status ≡ reported r → SaysOf Verify told left w status
 unfolding accepted_front
 verified None left w reading s r status h v k f n put is = tt
-verified (Some input) left w reading s r status (image, rest, accepts, left_is, is_read) v k f n put is =
-    let a = accepted_front input rest image reading accepts is_read in
-    subst (Says Verify input left w) (sym is) (by r (subst (λ t. Puts (ok_line t) w.report_old w.report_new r) (summed input rest image reading is_read a s refl refl v k f n) put))
+verified (Some input) left w reading s r status (stream, rest, accepts, left_is, is_read) v k f n put is =
+    let a = accepted_front input rest stream reading accepts is_read in
+    subst (Says Verify input left w) (sym is) (by r (subst (λ t. Puts (ok_line t) w.report_old w.report_new r) (summed input rest stream reading is_read a s refl v k f n) put))
   where
-    by : (r : Result (Unit {0}) WriteFailed) → Puts (ok_line (summary_of (accepted_front input rest image reading accepts is_read))) w.report_old w.report_new r → Says Verify input left w (reported r)
-    by (Ok u) put = record { guest = reading.guest; rest = rest; accepted = accepted_front input rest image reading accepts is_read; left_is = left_is; reported = put }
-    by (Err e) put = record { guest = reading.guest; rest = rest; accepted = accepted_front input rest image reading accepts is_read; left_is = left_is; reported = put }
+    by : (r : Result (Unit {0}) WriteFailed) → Puts (ok_line (summary_of (accepted_front input rest stream reading accepts is_read))) w.report_old w.report_new r → Says Verify input left w (reported r)
+    by (Ok u) put = record { guest = reading.guest; rest = rest; accepted = accepted_front input rest stream reading accepts is_read; left_is = left_is; reported = put }
+    by (Err e) put = record { guest = reading.guest; rest = rest; accepted = accepted_front input rest stream reading accepts is_read; left_is = left_is; reported = put }

@@ -7,7 +7,6 @@ use Rattle.mig_bytes.specs.Faults.{Rose}
 use Rattle.mig_bytes.specs.Judged.Judged.{Passes}
 use Rattle.mig_headers.specs.declared.fault.Cause.{Cause}
 use Rattle.mig_headers.specs.declared.fault.Place.{Place}
-use Rattle.mig_canon.specs.Canon.{canon}
 use Rattle.mig_guest.specs.Guests.{GuestOf}
 use Rattle.mig_guest.specs.Hosts.{IsValid}
 use Rattle.mig_image.specs.Hosted.{hosted}
@@ -15,9 +14,10 @@ use Rattle.mig_image.specs.Image.{image}
 use Rattle.mig_image.specs.ImageParts.{host_at}
 use Rattle.mig_pvtables.specs.Sound.{IsSound}
 use Rattle.mig_pvtables.specs.View.{view}
-use Rattle.mig_restore.specs.Spelled.{Accepted}
-use Rattle.mig_restore.specs.Stream.{IsRefused}
-use Rattle.mig_tool.specs.Bare.{IsBare}
+use Rattle.mig_libxl.specs.Bare.{IsCarried}
+use Rattle.mig_libxl.specs.Canon.{canon_any}
+use Rattle.mig_libxl.specs.Spelled.{Accepted}
+use Rattle.mig_libxl.specs.Stream.{IsRefused}
 use Rattle.mig_tool.specs.declared.command.Command.{Command}
 use Rattle.mig_tool.specs.declared.command.Command.TheVariants.{Normalise, Restore, Verify}
 use Rattle.mig_tool.specs.declared.outcome.Outcome.{Outcome}
@@ -36,10 +36,10 @@ pub record Normalised (input : List ℕ) (left old new : Option (List ℕ)) : Ty
   pub rest : List ℕ
   pub accepted : Accepted input guest rest
   pub left_is : left ≡ Some rest
-  pub wrote : Appends old new (canon guest)
-  pub bare : IsBare guest
-  pub kept : (more : List ℕ) → Accepted (canon guest ++ more) guest more
-  pub alone : (other : GuestOf) → IsBare other → (canon other ≡ canon guest) ↔ (other ≡ guest)
+  pub wrote : Appends old new (canon_any guest)
+  pub carried : IsCarried guest
+  pub kept : (more : List ℕ) → Accepted (canon_any guest ++ more) guest more
+  pub alone : (other : GuestOf) → IsCarried other → (canon_any other ≡ canon_any guest) ↔ (other ≡ guest)
 
 -- the image of the guest, restored with machine frames from the base on
 abbrev pub restored_text : ℕ → GuestOf → List ℕ
@@ -53,7 +53,7 @@ pub record Restored (base : ℕ) (input : List ℕ) (left old new : Option (List
   pub accepted : Accepted input guest rest
   pub left_is : left ≡ Some rest
   pub wrote : Appends old new (restored_text base guest)
-  pub bare : IsBare guest
+  pub carried : IsCarried guest
   pub valid : IsValid (hosted guest base)
   pub sound : IsSound (hosted guest base)
   pub seen : view (hosted guest base) ≡ guest
@@ -67,10 +67,11 @@ pub record PartWritten (text : GuestOf → List ℕ) (input : List ℕ) (left ol
   pub left_is : left ≡ Some rest
   pub wrote : AppendsPart old new (text guest)
 
--- what is said of an accepted stream: its version and kind, its guest's number of frames, and its number of records
+-- what is said of an accepted stream: the version and kind of its image, its guest's number of frames, and the image's
+-- number of records
 abbrev pub summary_of : {input : List ℕ} {guest : GuestOf} {rest : List ℕ} → Accepted input guest rest → Summary
 summary_of {input} {guest} {rest} a =
-    record { version = a.opening.version; kind = a.opening.kind; frames = length (maps.entries guest.frames); records = length a.records }
+    record { version = a.image.opening.version; kind = a.image.opening.kind; frames = length (maps.entries guest.frames); records = length a.image.records }
 
 -- a front of the input is an accepted stream, the rest is left, and the line of it was reported
 pub record Verified (Reported : List ℕ → Type 0) (input : List ℕ) (left : Option (List ℕ)) : Type 0 where
@@ -103,7 +104,7 @@ Done (Restore base) input left w = Restored base input left w.out_old w.out_new
 Done Verify input left w = Verified (Appends w.report_old w.report_new) input left
 
 abbrev pub DonePart : Command → List ℕ → Option (List ℕ) → Written → Type 0
-DonePart Normalise input left w = PartWritten canon input left w.out_old w.out_new
+DonePart Normalise input left w = PartWritten canon_any input left w.out_old w.out_new
 DonePart (Restore base) input left w = PartWritten (restored_text base) input left w.out_old w.out_new
 DonePart Verify input left w = Verified (AppendsPart w.report_old w.report_new) input left
 

@@ -2,4 +2,3 @@ pub mod Words
 pub mod Report
 pub mod Outcome
 pub mod Answers
-pub mod Bare

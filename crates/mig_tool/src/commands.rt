@@ -15,10 +15,10 @@ use crate::command::Command;
 use crate::outcome::{Outcome, Summary, finish, put_ok};
 use crate::status::Status;
 use mig_bytes::{Sink, Source};
-use mig_canon::write_canon;
 use mig_guest::Guest;
 use mig_image::{HostAnswer, host_of, write_host};
-use mig_restore::{StreamAnswer, read_image};
+use mig_libxl::{read_any, write_any};
+use mig_restore::StreamAnswer;
 use std::alloc::Global;
 
 /// The outcome where no stream is read.
@@ -40,8 +40,8 @@ fn normalise<S: Source, K: Sink>(alloc: Global, input: &mut S, out: &mut K) -> O
     ensures read { InputRises (status_of result) (S.faults input.old) (S.faults input.new) }
     ensures write { OutputRises (status_of result) (K.faults out.old) (K.faults out.new) }
 {
-    match read_image(alloc, input) {
-        Ok(reading) => match write_canon(out, &reading.guest) {
+    match read_any(alloc, input) {
+        Ok(reading) => match write_any(out, &reading.guest) {
             Ok(()) => Outcome::Done,
             Err(_) => Outcome::WriteFault,
         },
@@ -78,7 +78,7 @@ fn restore<S: Source, K: Sink>(alloc: Global, base: u64, input: &mut S, out: &mu
     ensures read { InputRises (status_of result) (S.faults input.old) (S.faults input.new) }
     ensures write { OutputRises (status_of result) (K.faults out.old) (K.faults out.new) }
 {
-    let guest = match read_image(alloc, input) {
+    let guest = match read_any(alloc, input) {
         Ok(reading) => reading.guest,
         Err(answer) => return unread(answer),
     };
@@ -97,7 +97,7 @@ fn verify<S: Source, R: Sink>(alloc: Global, input: &mut S, report: &mut R) -> S
     ensures own_line { PutsOwnLine commands.Verify (R.written report.old) (R.written report.new) result }
     ensures report_later { R.faults report.old ≤ R.faults report.new }
 {
-    let reading = match read_image(alloc, input) {
+    let reading = match read_any(alloc, input) {
         Ok(reading) => reading,
         Err(answer) => return finish(report, unread(answer)),
     };

@@ -6,7 +6,6 @@
 
 mod command;
 mod commands;
-mod law;
 mod outcome;
 mod run;
 mod status;

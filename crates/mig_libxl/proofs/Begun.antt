@@ -1,0 +1,148 @@
+-- What the reader keeps is formed, whatever records come.
+use Rattle.std.proofs.Common.{◌≡◌, ℕ, ◌+◌, ◌≤◌, ◌<◌, ◌^◌, true, List, [], ◌∷◌, ◌++◌, length, drop, Option, Some, None, refl, sym, ap, subst, arith, length-drop}
+use Rattle.std.specs.Prelude.{unwrap_or}
+use Rattle.std.specs.FinMap as maps
+use Rattle.std.specs.FinMap.{entries-insert}
+use Rattle.std.specs.FinMap.Entries.{put, by_order}
+use Rattle.std.specs.List.{AllByRecursion, flat_map}
+use Rattle.std.specs.Ordering.{nat_cmp}
+use Rattle.std.specs.Cmp.Lexicographic.{slice_cmp, nat_list_cmp_total}
+use Rattle.std.specs.declared.cmp.Ordering.TheVariants.{Less, Equal, Greater}
+use Rattle.std.proofs.lemmas.Bool.{false≢true}
+use Rattle.std.proofs.lemmas.List.Elements.{All-from_recursion, recursion_from_All, All-drop}
+use Rattle.mig_bytes.specs.Bytes.{AreBytes}
+use Rattle.mig_bytes.proofs.ByteLists.{Bytes, bytes_front, bytes_back}
+use Rattle.mig_headers.specs.Pairs.{Pair, text_of_pair}
+use Rattle.mig_guest.specs.declared.part_key.PartKey.{PartKey}
+use Rattle.mig_guest.proofs.Found.{insert_holds}
+use Rattle.mig_guest.proofs.PartOrder.{part_total, part_exact}
+use Rattle.mig_policy.specs.PairFaults.{pairs_fault}
+use Rattle.mig_policy.specs.PairMaps.{PairMap, IsOfPairs, text_of_entry, text_of_map, pairs_in, put_pairs}
+use Rattle.mig_policy.proofs.KeyLaws.{pairs_are_read}
+use Rattle.mig_policy.proofs.PairMapLaws.{maps_are_of_pairs, some_bytes_are_some_pairs}
+use Rattle.mig_libxl.specs.Emulators.{EmulatorsOf, store_at, add_pairs}
+use Rattle.mig_libxl.specs.Seen.{AreEmulators, IsEmulatorKey, IsStore, IsBegun}
+use Rattle.mig_libxl.specs.declared.read.Seen.{Seen}
+
+-- ---- the text of a map is of bytes
+
+abbrev Entry : Type 0
+Entry = List ℕ × List ℕ
+
+abbrev IsByteEntry : Entry → Type 0
+IsByteEntry e = Bytes e.0 × Bytes e.1
+
+abbrev IsBytePair : Pair → Type 0
+IsBytePair p = Bytes p.key × Bytes p.value
+
+both_bytes : (xs ys : List ℕ) → Bytes xs → Bytes ys → Bytes (xs ++ ys)
+both_bytes [] ys h k = k
+both_bytes (x ∷ xs) ys h k = (h.0, both_bytes xs ys h.1 k)
+
+-- a pair's key and value in its text
+pair_bytes : (key value rest : List ℕ) → Bytes ((key ++ 0 ∷ (value ++ 0 ∷ [])) ++ rest) → (Bytes key × Bytes value) × Bytes rest
+pair_bytes key value rest h =
+    let text = bytes_front _ (key ++ 0 ∷ (value ++ 0 ∷ [])) rest refl h in
+    let back = bytes_back _ key (0 ∷ (value ++ 0 ∷ [])) refl text in
+    ((bytes_front _ key (0 ∷ (value ++ 0 ∷ [])) refl text, bytes_front _ value (0 ∷ []) refl back.1), bytes_back _ (key ++ 0 ∷ (value ++ 0 ∷ [])) rest refl h)
+
+entries_bytes : (es : List Entry) → Bytes (flat_map text_of_entry es) → AllByRecursion IsByteEntry es
+entries_bytes [] h = tt
+entries_bytes (e ∷ es) h = let b = pair_bytes e.0 e.1 (flat_map text_of_entry es) h in (b.0, entries_bytes es b.1)
+
+pairs_bytes : (ps : List Pair) → Bytes (flat_map text_of_pair ps) → AllByRecursion IsBytePair ps
+pairs_bytes [] h = tt
+pairs_bytes (p ∷ ps) h = let b = pair_bytes p.key p.value (flat_map text_of_pair ps) h in (b.0, pairs_bytes ps b.1)
+
+text_bytes : (es : List Entry) → AllByRecursion IsByteEntry es → Bytes (flat_map text_of_entry es)
+text_bytes [] h = tt
+text_bytes (e ∷ es) h =
+    both_bytes (e.0 ++ 0 ∷ (e.1 ++ 0 ∷ [])) (flat_map text_of_entry es) (both_bytes e.0 (0 ∷ (e.1 ++ 0 ∷ [])) h.0.0 (omega arith, both_bytes e.1 (0 ∷ []) h.0.1 (omega arith, tt))) (text_bytes es h.1)
+
+put_bytes : (k v : List ℕ) (es : List Entry) → Bytes k → Bytes v → AllByRecursion IsByteEntry es → AllByRecursion IsByteEntry (put (slice_cmp nat_cmp) k v es)
+put_bytes k v [] key value each = ((key, value), tt)
+put_bytes k v (e ∷ es) key value each =
+    elim (slice_cmp nat_cmp k e.0) as (λ o. AllByRecursion IsByteEntry (by_order o ((k, v) ∷ e ∷ es) ((e.0, v) ∷ es) (e ∷ put (slice_cmp nat_cmp) k v es))) [
+      | Less ↦ ((key, value), each)
+      | Equal ↦ ((each.0.0, value), each.1)
+      | Greater ↦ (each.0, put_bytes k v es key value each.1)
+    ]
+
+puts_bytes : (m : PairMap) (ps : List Pair) → AllByRecursion IsBytePair ps → AllByRecursion IsByteEntry (maps.entries m) → AllByRecursion IsByteEntry (maps.entries (put_pairs m ps))
+puts_bytes m [] are each = each
+puts_bytes m (p ∷ ps) are each =
+    puts_bytes (maps.insert m p.key p.value) ps are.1 (subst (AllByRecursion IsByteEntry) (sym (entries-insert nat_list_cmp_total m p.key p.value)) (put_bytes p.key p.value (maps.entries m) are.0.0 are.0.1 each))
+
+added_bytes : (m : PairMap) (slice : List ℕ) → pairs_fault slice ≡ None → AreBytes (text_of_map m) → AreBytes slice → AreBytes (text_of_map (put_pairs m (pairs_in slice)))
+added_bytes m slice none text are =
+    let spelled = ((pairs_are_read slice (pairs_in slice)).0 (none, refl)).spelled in
+    let ps : AllByRecursion IsBytePair (pairs_in slice) = pairs_bytes (pairs_in slice) (subst Bytes (sym spelled) (recursion_from_All (λ b. b < 256) slice are)) in
+    All-from_recursion (λ b. b < 256) (text_of_map (put_pairs m (pairs_in slice)))
+    (text_bytes (maps.entries (put_pairs m (pairs_in slice))) (puts_bytes m (pairs_in slice) ps (entries_bytes (maps.entries m) (recursion_from_All (λ b. b < 256) (text_of_map m) text))))
+
+-- ---- an emulator's store
+
+-- a store, or an empty one
+record IsOld (m : PairMap) : Type 0 where
+  pairs : IsOfPairs m
+  small : length (text_of_map m) ≤ 2 ^ 24
+  bytes : AreBytes (text_of_map m)
+
+old_of : (key : PartKey) (o : Option PairMap) → ((m : PairMap) → o ≡ Some m → IsEmulatorKey 258 key × IsStore m) → IsOld (unwrap_or o maps.empty)
+old_of key None is = record {
+  pairs = maps_are_of_pairs.none;
+  small = subst (λ l. length l ≤ 2 ^ 24) (sym maps_are_of_pairs.empty) (omega arith);
+  bytes = subst AreBytes (sym maps_are_of_pairs.empty) (All-from_recursion (λ b. b < 256) [] tt);
+}
+old_of key (Some m) is = let s = (is m refl).1 in record { pairs = s.pairs; small = s.small; bytes = s.bytes }
+
+old_store : (e : EmulatorsOf) (key : PartKey) → AreEmulators e → IsOld (store_at e.stores key)
+old_store e key are = old_of key (maps.get e.stores key) (are.stores key)
+
+pub store_small : (e : EmulatorsOf) (key : PartKey) → AreEmulators e → length (text_of_map (store_at e.stores key)) ≤ 2 ^ 24
+store_small e key are = (old_store e key are).small
+
+-- where there are pairs there are bytes
+some_slice : (l : List ℕ) (p : Pair) (ps : List Pair) → pairs_in l ≡ p ∷ ps → 0 < length l
+unfolding pairs_in
+some_slice [] p ps e = let no : ◌≡◌ {A = List Pair} [] (p ∷ ps) = e in cc
+some_slice (b ∷ bs) p ps e = omega arith
+
+-- ---- with one record more
+
+module _ (seen : Seen) (new : EmulatorsOf) (slice : List ℕ) (id index : ℕ) (begun : IsBegun seen) (known : id < 3) (small : index < 256) where
+  begun_with : AreEmulators new → IsBegun (record { emulators = new; image = seen.image; emulated = true; records = seen.records })
+  begun_with are = record { emulators = are; none = λ no. absurd (false≢true (sym no)); guest = begun.guest }
+
+  pub context_begun : (body : List ℕ) → new ≡ record seen.emulators { contexts = maps.insert seen.emulators.contexts (record { code = 259; key1 = id; key2 = index }) slice } → slice ≡ drop 8 body → 8 ≤ length body → length body ≤ 2 ^ 27 → AreBytes body
+      → IsBegun (record { emulators = new; image = seen.image; emulated = true; records = seen.records })
+  context_begun body is cut long short are =
+      begun_with (subst AreEmulators (sym is) (record {
+        stores = begun.emulators.stores;
+        contexts = insert_holds part_total part_exact (λ key bytes. IsEmulatorKey 259 key × (length bytes + 8 ≤ 2 ^ 27) × AreBytes bytes) seen.emulators.contexts (record { code = 259; key1 = id; key2 = index }) slice begun.emulators.contexts
+            (record { is = refl; known = known; small = small }, omega (arith, ap length cut, length-drop 8 body, long, short), subst AreBytes (sym cut) (All-drop (λ b. b < 256) 8 body are));
+      }))
+
+  pub pairs_begun : new ≡ add_pairs seen.emulators (record { code = 258; key1 = id; key2 = index }) (pairs_in slice) → pairs_fault slice ≡ None
+      → length (text_of_map (put_pairs (store_at seen.emulators.stores (record { code = 258; key1 = id; key2 = index })) (pairs_in slice))) ≤ 2 ^ 24 → AreBytes slice
+      → IsBegun (record { emulators = new; image = seen.image; emulated = true; records = seen.records })
+  pairs_begun is none fits are = begun_with (subst AreEmulators (sym is) (by_pairs (pairs_in slice) refl))
+    where
+      key : PartKey
+      key = record { code = 258; key1 = id; key2 = index }
+
+      by_pairs : (qs : List Pair) → pairs_in slice ≡ qs → AreEmulators (add_pairs seen.emulators key qs)
+      by_pairs [] e = begun.emulators
+      by_pairs (p ∷ ps) e =
+          let old = old_store seen.emulators key begun.emulators in
+          let m = store_at seen.emulators.stores key in
+          let store : IsStore (put_pairs m (pairs_in slice)) = record {
+            pairs = maps_are_of_pairs.added m slice old.pairs none;
+            some = some_bytes_are_some_pairs.text m slice none (some_slice slice p ps e);
+            small = fits;
+            bytes = added_bytes m slice none old.bytes are;
+          } in record {
+            stores = insert_holds part_total part_exact (λ k s. IsEmulatorKey 258 k × IsStore s) seen.emulators.stores key (put_pairs m (p ∷ ps)) begun.emulators.stores
+                (record { is = refl; known = known; small = small }, subst (λ qs. IsStore (put_pairs m qs)) e store);
+            contexts = begun.emulators.contexts;
+          }

@@ -1,0 +1,157 @@
+-- What the reader keeps of a record's content.
+use Rattle.std.proofs.Common.{◌≡◌, ℕ, ◌-◌, ◌≤◌, ◌<◌, ◌^◌, true, false, List, length, take, drop, nat_eq, nat_le, nat_lt, Option, Some, None, Ok, Err, refl, sym, ap, subst, ◌∙◌, arith, length-drop}
+use Rattle.std.specs.Prelude.{◌||◌}
+use Rattle.std.specs.FinMap as maps
+use Rattle.std.proofs.lemmas.Bool.{le-leb, lt-leb, le-ltb, lt-ltb}
+use Rattle.std.proofs.lemmas.Grind.{common_steps}
+use Rattle.std.proofs.lemmas.List.{take_all}
+use Rattle.std.proofs.lemmas.Option.{none-some, same_Some}
+use Rattle.mig_bytes.specs.Fields.{le32}
+use Rattle.mig_bytes.specs.Judged.{◌>>=◌, part, Gives}
+use Rattle.mig_bytes.specs.Judged.Judged.{Passes}
+use Rattle.mig_bytes.specs.declared.part.Stop.TheVariants.{Refused}
+use Rattle.mig_headers.specs.declared.fault.Cause.{Cause}
+use Rattle.mig_headers.specs.declared.fault.Cause.TheVariants.{Truncated, BadEmulator, TooManyPairs, EmulatorIndex}
+use Rattle.mig_policy.specs.PairFaults.{pairs_fault}
+use Rattle.mig_policy.specs.PairMaps.{pairs_in, put_pairs, text_of_map}
+use Rattle.mig_restore.specs.Stream.{image_at}
+use Rattle.mig_restore.specs.Stream.{IsReading as IsImageReading}
+use Rattle.mig_restore.specs.declared.read.Reading.{Reading}
+use Rattle.mig_libxl.specs.Content.{Content, image_in}
+use Rattle.mig_libxl.specs.Content.Content.{Image, Pairs, Context}
+use Rattle.mig_libxl.specs.Emulators.{EmulatorsOf, no_emulators, store_at, add_pairs, put_content}
+use Rattle.mig_libxl.specs.Judging.{key_in, most_pairs, spelled_with, fault_of_pairs, fault_of_context, body_at, inner_at}
+use Rattle.mig_libxl.specs.Seen.{AreEmulators, Holds, Takes}
+use Rattle.mig_libxl.specs.declared.read.Seen.{Seen}
+use Rattle.mig_libxl.proofs.Bodies.{fine_pairs}
+
+-- ---- a whole body, and the cause that stands in it
+
+module _ {X V : Type 0} (R : X → List ℕ → Type 0) (Q : V → Content → Type 0) (n : ℕ) (fault : List ℕ → Option Cause) (says : List ℕ → Content) (x : X) where
+  pub body_said : (a b : Option (List ℕ)) (v : V) → Gives R a b (part Truncated n) (Ok x) → ((bytes : List ℕ) → R x bytes → (fault bytes ≡ None) × Q v (says bytes)) → Gives Q a b (body_at fault says n) (Ok v)
+  body_said None b v h turn = tt
+  body_said (Some i) b v (bytes, rest, is, left, r) turn =
+      let (none, q) = turn bytes r in
+      (says bytes, rest, rw (is, none) refl, left, q)
+
+  pub body_refused : (a b : Option (List ℕ)) (c : Cause) → Gives R a b (part Truncated n) (Ok x) → ((bytes : List ℕ) → R x bytes → fault bytes ≡ Some c) → Gives Q a b (body_at fault says n) (Err (Refused c))
+  body_refused None b c h turn = tt
+  body_refused (Some i) b c (bytes, rest, is, left, r) turn = (rest, rw (is, turn bytes r) refl, left)
+
+-- ---- the causes of an emulator's body
+
+pub context_bad_id : (body : List ℕ) (id named : ℕ) → id ≡ le32 body 0 → named ≡ id → 3 ≤ id → fault_of_context body ≡ Some (BadEmulator named)
+unfolding fault_of_context
+context_bad_id body id named is same high =
+    let over : nat_le 3 (le32 body 0) ≡ true = le-leb 3 (le32 body 0) (subst (λ k. 3 ≤ k) is high) in
+    let to : named ≡ le32 body 0 = same ∙ is in rw (over, to) refl
+
+pub context_bad_index : (body : List ℕ) (id index named : ℕ) → id ≡ le32 body 0 → index ≡ le32 body 4 → named ≡ index → id < 3 → 256 ≤ index → fault_of_context body ≡ Some (EmulatorIndex named)
+unfolding fault_of_context
+context_bad_index body id index named is at same low high =
+    let known : nat_le 3 (le32 body 0) ≡ false = lt-leb 3 (le32 body 0) (subst (λ k. k < 3) is low) in
+    let over : nat_le 256 (le32 body 4) ≡ true = le-leb 256 (le32 body 4) (subst (λ k. 256 ≤ k) at high) in
+    let to : named ≡ le32 body 4 = same ∙ at in rw (known, over, to) refl
+
+-- the slice, the id and the index that are read of a body
+pub record IsRead (body slice : List ℕ) (id index : ℕ) : Type 0 where
+  pub slice_is : slice ≡ drop 8 body
+  pub id_is : id ≡ le32 body 0
+  pub index_is : index ≡ le32 body 4
+
+-- the slice behind the front of a body
+pub behind_front : (body bytes slice : List ℕ) → body ≡ bytes → slice ≡ take (length body - 8) (drop 8 body) → slice ≡ drop 8 bytes
+behind_front body bytes slice same is =
+    is ∙ take_all (length body - 8) (drop 8 body) (omega (arith, length-drop 8 body)) ∙ ap (drop 8) same
+
+module _ (e : EmulatorsOf) (body slice : List ℕ) (id index : ℕ) (r : IsRead body slice id index) where
+  pub pairs_bad : (c : Cause) → pairs_fault slice ≡ Some c → fault_of_pairs e body ≡ Some c
+  unfolding fault_of_pairs
+  pairs_bad c h = let bad : pairs_fault (drop 8 body) ≡ Some c = ap pairs_fault (sym r.slice_is) ∙ h in rw bad refl
+
+  fine_slice : pairs_fault slice ≡ None → pairs_fault (drop 8 body) ≡ None
+  fine_slice none = ap pairs_fault (sym r.slice_is) ∙ none
+
+  pub pairs_bad_id : (named : ℕ) → pairs_fault slice ≡ None → named ≡ id → 3 ≤ id → fault_of_pairs e body ≡ Some (BadEmulator named)
+  unfolding fault_of_pairs
+  pairs_bad_id named none same high =
+      let over : nat_le 3 (le32 body 0) ≡ true = le-leb 3 (le32 body 0) (subst (λ k. 3 ≤ k) r.id_is high) in
+      let to : named ≡ le32 body 0 = same ∙ r.id_is in
+      let fine = fine_slice none in rw (fine, over, to) refl
+
+  -- the pairs that these make of a store
+  pub spelled_len : length (text_of_map (put_pairs (store_at e.stores (record { code = 258; key1 = id; key2 = index })) (pairs_in slice))) ≡ spelled_with e body
+  spelled_len =
+      ap (λ l. length (text_of_map (put_pairs (store_at e.stores (record { code = 258; key1 = id; key2 = index })) (pairs_in l)))) r.slice_is
+      ∙ ap (λ n. length (text_of_map (put_pairs (store_at e.stores (record { code = 258; key1 = n; key2 = index })) (pairs_in (drop 8 body))))) r.id_is
+      ∙ ap (λ n. length (text_of_map (put_pairs (store_at e.stores (record { code = 258; key1 = le32 body 0; key2 = n })) (pairs_in (drop 8 body))))) r.index_is
+
+  pub pairs_too_many : pairs_fault slice ≡ None → id < 3 → 2 ^ 24 < length (text_of_map (put_pairs (store_at e.stores (record { code = 258; key1 = id; key2 = index })) (pairs_in slice))) → fault_of_pairs e body ≡ Some TooManyPairs
+  unfolding fault_of_pairs
+  pairs_too_many none low many =
+      let known : nat_le 3 (le32 body 0) ≡ false = lt-leb 3 (le32 body 0) (subst (λ k. k < 3) r.id_is low) in
+      let full : nat_lt most_pairs (spelled_with e body) ≡ true = lt-ltb most_pairs (spelled_with e body) (subst (λ n. 2 ^ 24 < n) spelled_len many) in
+      let fine = fine_slice none in rw (fine, known, full) refl
+
+  pub pairs_bad_index : (named : ℕ) → pairs_fault slice ≡ None → id < 3 → length (text_of_map (put_pairs (store_at e.stores (record { code = 258; key1 = id; key2 = index })) (pairs_in slice))) ≤ 2 ^ 24 → named ≡ index → 256 ≤ index → fault_of_pairs e body ≡ Some (EmulatorIndex named)
+  unfolding fault_of_pairs
+  pairs_bad_index named none low fits same high =
+      let known : nat_le 3 (le32 body 0) ≡ false = lt-leb 3 (le32 body 0) (subst (λ k. k < 3) r.id_is low) in
+      let room : nat_lt most_pairs (spelled_with e body) ≡ false = le-ltb _ _ (subst (λ n. n ≤ 2 ^ 24) spelled_len fits) in
+      let over : nat_le 256 (le32 body 4) ≡ true = le-leb 256 (le32 body 4) (subst (λ k. 256 ≤ k) r.index_is high) in
+      let to : named ≡ le32 body 4 = same ∙ r.index_is in
+      let fine = fine_slice none in rw (fine, known, room, over, to) refl
+
+  pub pairs_fine : pairs_fault slice ≡ None → id < 3 → length (text_of_map (put_pairs (store_at e.stores (record { code = 258; key1 = id; key2 = index })) (pairs_in slice))) ≤ 2 ^ 24 → index < 256 → fault_of_pairs e body ≡ None
+  pairs_fine none low fits small = fine_pairs e body (record {
+    pairs = fine_slice none;
+    known = subst (λ k. k < 3) r.id_is low;
+    fits = subst (λ n. n ≤ 2 ^ 24) spelled_len fits;
+    small = subst (λ k. k < 256) r.index_is small;
+  })
+
+  pub pairs_put : add_pairs e (record { code = 258; key1 = id; key2 = index }) (pairs_in slice) ≡ put_content e (Pairs (key_in 258 body) (pairs_in (drop 8 body)))
+  pairs_put = rw (r.slice_is, r.id_is, r.index_is) refl
+
+  pub context_put : put_content e (Context (record { code = 259; key1 = id; key2 = index }) slice) ≡ put_content e (Context (key_in 259 body) (drop 8 body))
+  context_put = rw (r.slice_is, r.id_is, r.index_is) refl
+
+-- ---- what is kept
+
+pub takes_of : (old new : Seen) (type : ℕ) (c : Content) → image_in c ≡ None → (nat_eq type 2 || nat_eq type 3) ≡ true → new.emulators ≡ put_content old.emulators c → new.emulated ≡ true → new.image ≡ old.image → new.records ≡ old.records → Takes old new type c
+takes_of old new type c none of_emulator emulators emulated image records = record {
+  emulators = emulators;
+  emulated = emulated ∙ grind (arith, common_steps, of_emulator);
+  first = λ i is. absurd (none-some i (sym none ∙ is));
+  image = λ i is. absurd (none-some i (sym none ∙ is));
+  others = λ _. image;
+  records = records;
+}
+
+-- ---- before any record
+
+pub none_yet : AreEmulators no_emulators
+none_yet = record {
+  stores = λ key m is. absurd (none-some m (sym (maps.get-empty _ key) ∙ is));
+  contexts = λ key bytes is. absurd (none-some bytes (sym (maps.get-empty _ key) ∙ is));
+}
+
+-- ---- the image
+
+pub image_read : (old new : Seen) (a b : Option (List ℕ)) (reading : Reading) → old.image ≡ None → new.emulators ≡ old.emulators → new.emulated ≡ old.emulated → new.image ≡ Some reading → new.records ≡ old.records
+    → Gives IsImageReading a b image_at (Ok reading) → Gives {X = Unit {0}} (λ _ c. Takes old new 1 c) a b inner_at (Ok tt)
+image_read old new None b reading none emulators emulated image records h = tt
+image_read old new (Some i) b reading none emulators emulated image records (im, rest, is, left, read) = (
+  Image im,
+  rest,
+  ap (λ j. j >>= λ x. Passes (Image x.0) x.1) is,
+  left,
+  record {
+    emulators = emulators;
+    emulated = emulated ∙ grind (arith, common_steps);
+    first = λ _ _. none;
+    image = λ j e. subst (λ (o : Option Reading). Holds o (Some j)) (sym image) (subst (IsImageReading reading) (same_Some im j e) read);
+    others = λ no. absurd (none-some im (sym no));
+    records = records;
+  },
+)

@@ -1,0 +1,534 @@
+ghost use Rattle.std.specs.Prelude.{◌≡◌, ◌≤◌, ◌+◌, ◌^◌, ◌==◌, ◌∷◌, [], ◌++◌, ⊤, ◌≢◌, ◌<◌, List, ℕ, true, false, None, length, IfOk, IfNone, IfSome, IsSome, OnOk, IsErrOf};
+ghost use Rattle.mig_bytes.specs.Bytes.{AreBytes, padding_len};
+ghost use Rattle.mig_bytes.specs.Faults.{RisesOnReadFault};
+ghost use Rattle.mig_bytes.specs.Judged.{Gives, part};
+ghost use Rattle.mig_bytes.specs.declared.part.Stop.TheVariants.{Memory as NoMemory};
+ghost use Rattle.mig_headers.specs.declared.fault.Cause.TheVariants.{Truncated};
+ghost use Rattle.mig_pvtables.specs.Blank.{blank, IsOfBytes};
+ghost use Rattle.mig_pvtables.specs.Whole.{IsWhole};
+ghost use Rattle.mig_records.specs.Heads.{head_in};
+ghost use Rattle.mig_restore.specs.Judging.{most_records};
+ghost use Rattle.mig_restore.specs.Stream.{stop_of, or_stop};
+ghost use Rattle.mig_libxl.specs.Content.{LibxlRecord, image_among};
+ghost use Rattle.mig_libxl.specs.Content.Content.{Nothing};
+ghost use Rattle.mig_libxl.specs.Judging.{is_pv, is_pv_kind, fault_of_fields, fault_of_head, head_at, pairs_at, context_at, skipped_at, inner_at, body_of_type, content_at, record_at, allows_length as length_allowed};
+ghost use Rattle.mig_libxl.specs.Seen.{IsSeen, IsBegun, IsClosed};
+ghost use Rattle.mig_libxl.specs.Stream.StreamOf.{Wrapped};
+ghost use Rattle.mig_headers.specs.declared.kind.Kind.TheVariants.{Pv};
+ghost use Rattle.mig_libxl.specs.Stream.{header_at, records_at, wrapped_at, bare_at, stream_at, IsReading, ReadsStream};
+
+use crate::emulators::Emulators;
+use mig_bytes::{Memory, ReadFailed, Source, Stop, pad_len, skip, take_long, take_part, u32_le};
+use mig_guest::PartKey;
+use mig_headers::{Cause, ImageHeader, Kind, LibxlHeader, Place, is_optional};
+use mig_policy::{PairsAnswer, pairs_fault};
+use mig_records::{RecordHead, long_fault};
+use mig_restore::{Reading, StreamAnswer, read_image, read_image_rest};
+use std::alloc::Global;
+
+/// The types of the records of a libxl stream.
+const END: u32 = 0;
+
+const LIBXC_CONTEXT: u32 = 1;
+
+const EMULATOR_XENSTORE_DATA: u32 = 2;
+
+const EMULATOR_CONTEXT: u32 = 3;
+
+const CHECKPOINT_END: u32 = 4;
+
+const CHECKPOINT_STATE: u32 = 5;
+
+/// The codes of the parts that are an emulator's pairs, and its context.
+const PAIRS: u32 = 258;
+
+const CONTEXT: u32 = 259;
+
+/// The most records of a stream.
+const MAX_RECORDS: u32 = 1 << 28;
+
+/// Emulator ids are below this.
+const EMULATORS: u32 = 3;
+
+/// Indices of an emulator are below this.
+const INDICES: u32 = 256;
+
+/// Does nothing. That bytes are below 256 is what makes a guest that they are set in one of bytes.
+fn are_bytes(bytes: &[u8])
+    ensures { AreBytes bytes.now }
+{}
+
+/// The stop for an answer of the reader of images.
+fn stop_for(answer: StreamAnswer) -> Stop<(Place, Cause)>
+    ensures { result ≡ stop_of answer }
+{
+    match answer {
+        StreamAnswer::Refused(place, cause) => Stop::Refused((place, cause)),
+        StreamAnswer::ReadFault => Stop::ReadFault,
+        StreamAnswer::Memory => Stop::Memory,
+    }
+}
+
+/// The answer for what stopped the reading.
+fn answer_for(stop: Stop<(Place, Cause)>) -> StreamAnswer
+    ensures { stop_of result ≡ stop }
+{
+    match stop {
+        Stop::Refused((place, cause)) => StreamAnswer::Refused(place, cause),
+        Stop::ReadFault => StreamAnswer::ReadFault,
+        Stop::Memory => StreamAnswer::Memory,
+    }
+}
+
+/// Takes a body of which nothing is kept.
+fn skip_body<S: Source>(src: &mut S, len: u32) -> Result<(), Stop<Cause>>
+    ensures read { Gives (λ _ c. c ≡ Nothing) (S.left src.old) (S.left src.new) (skipped_at len) result }
+    ensures faults { RisesOnReadFault (S.faults src.old) (S.faults src.new) result }
+    ensures takes_no_memory { ¬ IsErrOf result NoMemory }
+{
+    match skip(src, u64::from(len)) {
+        Ok(true) => Ok(()),
+        Ok(false) => Err(Stop::Refused(Cause::Truncated)),
+        Err(ReadFailed) => Err(Stop::ReadFault),
+    }
+}
+
+/// Takes the bytes behind a body that make its length a multiple of 8.
+fn take_padding<S: Source>(src: &mut S, len: u32) -> Result<(), Stop<Cause>>
+    ensures read { Gives (λ _ _. ⊤) (S.left src.old) (S.left src.new) (part Truncated (padding_len len)) result }
+    ensures faults { RisesOnReadFault (S.faults src.old) (S.faults src.new) result }
+    ensures takes_no_memory { ¬ IsErrOf result NoMemory }
+{
+    let mut padding = [0; 8];
+    take_part(src, &mut padding[..pad_len(len)], Cause::Truncated)
+}
+
+/// What the reader keeps of the records before.
+#[derive(Drop)]
+pub(crate) struct Seen {
+    pub(crate) emulators: Emulators,
+    /// What was read of the image.
+    pub(crate) image: Option<Reading>,
+    /// Whether some record was an emulator's.
+    pub(crate) emulated: bool,
+    pub(crate) records: u32,
+}
+
+/// Whether a record of this type may have a body of this length.
+fn allows_length(kind: u32, len: u32) -> bool
+    ensures { result ≡ length_allowed kind len }
+{
+    match kind {
+        END | LIBXC_CONTEXT => len == 0,
+        EMULATOR_XENSTORE_DATA | EMULATOR_CONTEXT => len >= 8,
+        _ => true,
+    }
+}
+
+/// What is wrong with a head, whatever stands before it.
+#[tactic(auto, unfolding(crate::specs::Judging::fault_of_fields))]
+fn lone_fault(head: RecordHead) -> Option<Cause>
+    ensures fault { result ≡ fault_of_fields head.kind head.len }
+    ensures small { IfNone result (head.len ≤ 2 ^ 27) }
+    ensures allowed { IfNone result (length_allowed head.kind head.len ≡ true) }
+{
+    if let Some(cause) = long_fault(head) {
+        return Some(cause);
+    }
+    if head.kind == CHECKPOINT_END || head.kind == CHECKPOINT_STATE {
+        return Some(Cause::Unsupported(u64::from(head.kind)));
+    }
+    if head.kind > CHECKPOINT_STATE && !is_optional(head.kind) {
+        return Some(Cause::UnknownMandatory(u64::from(head.kind)));
+    }
+    if !allows_length(head.kind, head.len) {
+        return Some(Cause::BadLength(u64::from(head.len)));
+    }
+    None
+}
+
+impl Seen {
+    ghost use Rattle.mig_libxl.specs.Seen.{IsSeen, IsBegun, IsClosed, Takes};
+
+    /// Before the first record.
+    #[tactic(auto, unfolding(crate::specs::Emulators::emulators_of))]
+    fn new(alloc: Global) -> Seen
+        ensures seen { IsSeen result [] }
+        ensures begun { IsBegun result }
+    {
+        Seen {
+            emulators: Emulators::new(alloc),
+            image: None,
+            emulated: false,
+            records: 0,
+        }
+    }
+
+    /// Whether the image is that of a PV guest.
+    fn is_pv(&self) -> bool
+        ensures seen { (records : List LibxlRecord) → IsSeen self.now records → result ≡ is_pv (image_among records) }
+        ensures held { IfSome self.now.image (λ reading. result ≡ is_pv_kind reading.guest.kind) }
+    {
+        match &self.image {
+            Some(reading) => reading.guest.kind() == Kind::Pv,
+            None => false,
+        }
+    }
+
+    /// What is wrong with a head behind these records.
+    #[tactic(auto, unfolding(crate::specs::Judging::fault_of_order))]
+    fn head_fault(&self, head: RecordHead) -> Option<Cause>
+        ensures fault { (records : List LibxlRecord) → IsSeen self.now records → result ≡ fault_of_head records head.kind head.len }
+        ensures small { IfNone result (head.len ≤ 2 ^ 27) }
+        ensures allowed { IfNone result (length_allowed head.kind head.len ≡ true) }
+        ensures room { IfNone result (self.now.records < most_records) }
+        ensures first { IfNone result (head.kind ≡ 1 → self.now.image ≡ None) }
+        ensures ends { IfNone result (head.kind ≡ 0 → IsSome self.now.image) }
+        ensures pv { IfNone result (head.kind ≡ 0 → IfSome self.now.image (λ reading. reading.guest.kind ≡ Pv → self.now.emulated ≡ false)) }
+    {
+        if let Some(cause) = lone_fault(head) {
+            return Some(cause);
+        }
+        if self.records >= MAX_RECORDS {
+            return Some(Cause::TooManyRecords);
+        }
+        if head.kind == END && self.is_pv() && self.emulated {
+            return Some(Cause::EmulatorForPv);
+        }
+        let miscounted = match head.kind {
+            LIBXC_CONTEXT => self.image.is_some(),
+            END => self.image.is_none(),
+            _ => false,
+        };
+        if miscounted {
+            return Some(Cause::ContextCount);
+        }
+        None
+    }
+
+    /// Takes the next record's head.
+    fn take_head<S: Source>(&self, src: &mut S) -> Result<RecordHead, Stop<Cause>>
+        ensures read { (records : List LibxlRecord) → IsSeen self.now records → Gives (λ h head. h ≡ head_in head) (S.left src.old) (S.left src.new) (head_at records) result }
+        ensures small { IfOk result (λ h. h.len ≤ 2 ^ 27) }
+        ensures allowed { IfOk result (λ h. length_allowed h.kind h.len ≡ true) }
+        ensures room { OnOk result (self.now.records < most_records) }
+        ensures first { IfOk result (λ h. h.kind ≡ 1 → self.now.image ≡ None) }
+        ensures ends { IfOk result (λ h. h.kind ≡ 0 → IsSome self.now.image) }
+        ensures pv { IfOk result (λ h. h.kind ≡ 0 → IfSome self.now.image (λ reading. reading.guest.kind ≡ Pv → self.now.emulated ≡ false)) }
+        ensures faults { RisesOnReadFault (S.faults src.old) (S.faults src.new) result }
+        ensures takes_no_memory { ¬ IsErrOf result NoMemory }
+    {
+        let mut bytes = [0; 8];
+        take_part(src, &mut bytes, Cause::Truncated)?;
+        let head = RecordHead::decode(&bytes);
+        match self.head_fault(head) {
+            Some(cause) => Err(Stop::Refused(cause)),
+            None => Ok(head),
+        }
+    }
+
+    /// Takes the body of an EMULATOR_XENSTORE_DATA, and adds its pairs to the store that it names.
+    fn take_pairs<S: Source>(
+        &mut self,
+        alloc: Global,
+        src: &mut S,
+        len: u32,
+    ) -> Result<(), Stop<Cause>>
+        requires front { 8 ≤ len }
+        requires small { len ≤ 2 ^ 27 }
+        requires begun { IsBegun self.old }
+        ensures read { Gives (λ _ c. Takes self.old self.new 2 c) (S.left src.old) (S.left src.new) (pairs_at self.old.emulators len) result }
+        ensures begun { OnOk result (IsBegun self.new) }
+        ensures others { OnOk result ((self.new.records ≡ self.old.records) × (self.new.image ≡ self.old.image)) }
+        ensures faults { RisesOnReadFault (S.faults src.old) (S.faults src.new) result }
+    {
+        let body = take_long(alloc, src, len, Cause::Truncated)?;
+        are_bytes(&body);
+        let id = u32_le(&body, 0);
+        let index = u32_le(&body, 4);
+        let pairs = &body[8..];
+        if let Some(cause) = pairs_fault(pairs) {
+            return Err(Stop::Refused(cause));
+        }
+        if id >= EMULATORS {
+            return Err(Stop::Refused(Cause::BadEmulator(u64::from(id))));
+        }
+        let key = PartKey {
+            code: PAIRS,
+            key1: id,
+            key2: index,
+        };
+        match self.emulators.add_pairs(key, pairs) {
+            Ok(()) => {}
+            Err(PairsAnswer::TooMany) => return Err(Stop::Refused(Cause::TooManyPairs)),
+            Err(PairsAnswer::Memory) => return Err(Stop::Memory),
+        }
+        if index >= INDICES {
+            return Err(Stop::Refused(Cause::EmulatorIndex(u64::from(index))));
+        }
+        self.emulated = true;
+        Ok(())
+    }
+
+    /// Takes the body of an EMULATOR_CONTEXT, and keeps the context.
+    fn take_context<S: Source>(
+        &mut self,
+        alloc: Global,
+        src: &mut S,
+        len: u32,
+    ) -> Result<(), Stop<Cause>>
+        requires front { 8 ≤ len }
+        requires small { len ≤ 2 ^ 27 }
+        requires begun { IsBegun self.old }
+        ensures read { Gives (λ _ c. Takes self.old self.new 3 c) (S.left src.old) (S.left src.new) (context_at len) result }
+        ensures begun { OnOk result (IsBegun self.new) }
+        ensures others { OnOk result ((self.new.records ≡ self.old.records) × (self.new.image ≡ self.old.image)) }
+        ensures faults { RisesOnReadFault (S.faults src.old) (S.faults src.new) result }
+    {
+        let body = take_long(alloc, src, len, Cause::Truncated)?;
+        are_bytes(&body);
+        let id = u32_le(&body, 0);
+        let index = u32_le(&body, 4);
+        if id >= EMULATORS {
+            return Err(Stop::Refused(Cause::BadEmulator(u64::from(id))));
+        }
+        if index >= INDICES {
+            return Err(Stop::Refused(Cause::EmulatorIndex(u64::from(index))));
+        }
+        let key = PartKey {
+            code: CONTEXT,
+            key1: id,
+            key2: index,
+        };
+        match self.emulators.set_context(key, &body[8..]) {
+            Ok(()) => {
+                self.emulated = true;
+                Ok(())
+            }
+            Err(_) => Err(Stop::Memory),
+        }
+    }
+
+    /// Takes the image behind LIBXC_CONTEXT.
+    fn take_image<S: Source>(
+        &mut self,
+        alloc: Global,
+        src: &mut S,
+    ) -> Result<(), Stop<(Place, Cause)>>
+        requires first { self.old.image ≡ None }
+        requires begun { IsBegun self.old }
+        ensures read { Gives (λ _ c. Takes self.old self.new 1 c) (S.left src.old) (S.left src.new) inner_at result }
+        ensures begun { OnOk result (IsBegun self.new) }
+        ensures others { OnOk result ((self.new.records ≡ self.old.records) × (self.new.emulated ≡ self.old.emulated)) }
+        ensures faults { RisesOnReadFault (S.faults src.old) (S.faults src.new) result }
+    {
+        match read_image(alloc, src) {
+            Ok(reading) => {
+                self.image = Some(reading);
+                Ok(())
+            }
+            Err(answer) => Err(stop_for(answer)),
+        }
+    }
+
+    /// Takes the body of a record that isn't LIBXC_CONTEXT, and keeps what it says.
+    fn take_body<S: Source>(
+        &mut self,
+        alloc: Global,
+        src: &mut S,
+        head: RecordHead,
+    ) -> Result<(), Stop<Cause>>
+        requires small { head.len ≤ 2 ^ 27 }
+        requires allowed { length_allowed head.kind head.len ≡ true }
+        requires no_image { head.kind ≢ 1 }
+        requires begun { IsBegun self.old }
+        ensures read { Gives (λ _ c. Takes self.old self.new head.kind c) (S.left src.old) (S.left src.new) (body_of_type self.old.emulators head.kind head.len) result }
+        ensures begun { OnOk result (IsBegun self.new) }
+        ensures others { OnOk result ((self.new.records ≡ self.old.records) × (self.new.image ≡ self.old.image)) }
+        ensures end { OnOk result (head.kind ≡ 0 → self.new ≡ self.old) }
+        ensures faults { RisesOnReadFault (S.faults src.old) (S.faults src.new) result }
+    {
+        match head.kind {
+            EMULATOR_XENSTORE_DATA => self.take_pairs(alloc, src, head.len),
+            EMULATOR_CONTEXT => self.take_context(alloc, src, head.len),
+            _ => skip_body(src, head.len),
+        }
+    }
+
+    /// Takes what stands behind a head: a body, or the image behind LIBXC_CONTEXT.
+    fn take_content<S: Source>(
+        &mut self,
+        alloc: Global,
+        src: &mut S,
+        head: RecordHead,
+    ) -> Result<(), Stop<(Place, Cause)>>
+        requires small { head.len ≤ 2 ^ 27 }
+        requires allowed { length_allowed head.kind head.len ≡ true }
+        requires first { head.kind ≡ 1 → self.old.image ≡ None }
+        requires begun { IsBegun self.old }
+        ensures read { (records : List LibxlRecord) → IsSeen self.old records → Gives (λ _ c. Takes self.old self.new head.kind c) (S.left src.old) (S.left src.new) (content_at records head.kind head.len) result }
+        ensures begun { OnOk result (IsBegun self.new) }
+        ensures others { OnOk result (self.new.records ≡ self.old.records) }
+        ensures end { OnOk result (head.kind ≡ 0 → self.new ≡ self.old) }
+        ensures faults { RisesOnReadFault (S.faults src.old) (S.faults src.new) result }
+    {
+        if head.kind == LIBXC_CONTEXT {
+            return self.take_image(alloc, src);
+        }
+        let place = Place::LibxlRecord(u64::from(self.records));
+        match self.take_body(alloc, src, head) {
+            Ok(()) => Ok(()),
+            Err(stop) => Err(stop.at(place)),
+        }
+    }
+
+    /// Takes the next record, and keeps what it says. Says whether it ends the stream.
+    fn take_record<S: Source>(
+        &mut self,
+        alloc: Global,
+        src: &mut S,
+    ) -> Result<bool, Stop<(Place, Cause)>>
+        requires begun { IsBegun self.old }
+        ensures read { (records : List LibxlRecord) → IsSeen self.old records →
+            Gives (λ over r. IsSeen self.new (records ++ r ∷ []) × (over ≡ (r.type == 0))) (S.left src.old) (S.left src.new) (record_at records) result }
+        ensures begun { OnOk result (IsBegun self.new) }
+        ensures closed { IfOk result (λ over. over ≡ true → IsClosed self.new) }
+        ensures counted { OnOk result ((self.new.records ≡ self.old.records + 1) × (self.old.records < most_records)) }
+        ensures faults { RisesOnReadFault (S.faults src.old) (S.faults src.new) result }
+    {
+        let place = Place::LibxlRecord(u64::from(self.records));
+        let head = match self.take_head(src) {
+            Ok(head) => head,
+            Err(stop) => return Err(stop.at(place)),
+        };
+        self.take_content(alloc, src, head)?;
+        match take_padding(src, head.len) {
+            Ok(()) => {}
+            Err(stop) => return Err(stop.at(place)),
+        }
+        self.records += 1;
+        Ok(head.kind == END)
+    }
+
+    /// The reading of the image, with the emulators put into its guest.
+    fn finish(self) -> Result<Reading, Memory>
+        requires begun { IsBegun self }
+        requires closed { IsClosed self }
+        ensures read { IfOk result (λ reading. (records : List LibxlRecord) → IsSeen self records → IsReading reading (Wrapped records)) }
+        ensures whole { IfOk result (λ reading. IsWhole reading.guest) }
+        ensures blank { IfOk result (λ reading. blank reading.guest ≡ reading.guest) }
+        ensures bytes { IfOk result (λ reading. IsOfBytes reading.guest) }
+    {
+        let Seen {
+            emulators,
+            image,
+            ..
+        } = self;
+        let Some(mut reading) = image else {
+            unreachable!()
+        };
+        emulators.put_into(&mut reading.guest)?;
+        Ok(reading)
+    }
+}
+
+/// Takes records up to the one that ends the stream.
+fn take_records<S: Source>(alloc: Global, src: &mut S) -> Result<Seen, Stop<(Place, Cause)>>
+    ensures read { Gives IsSeen (S.left src.old) (S.left src.new) records_at result }
+    ensures begun { IfOk result (λ seen. IsBegun seen) }
+    ensures closed { IfOk result (λ seen. IsClosed seen) }
+    ensures faults { RisesOnReadFault (S.faults src.old) (S.faults src.new) result }
+{
+    let mut seen = Seen::new(alloc);
+    while !seen.take_record(alloc, src)? {}
+    Ok(seen)
+}
+
+/// Takes the header behind the ident of a libxl stream.
+fn take_header<S: Source>(src: &mut S) -> Result<(), Stop<Cause>>
+    ensures read { Gives (λ _ _. ⊤) (S.left src.old) (S.left src.new) header_at result }
+    ensures faults { RisesOnReadFault (S.faults src.old) (S.faults src.new) result }
+    ensures takes_no_memory { ¬ IsErrOf result NoMemory }
+{
+    let mut header = [0; 8];
+    take_part(src, &mut header, Cause::Truncated)?;
+    match LibxlHeader::decode(&header) {
+        Ok(_) => Ok(()),
+        Err(cause) => Err(Stop::Refused(cause)),
+    }
+}
+
+/// Takes a libxl stream behind its ident.
+fn read_wrapped<S: Source>(alloc: Global, src: &mut S) -> Result<Reading, Stop<(Place, Cause)>>
+    ensures read { Gives IsReading (S.left src.old) (S.left src.new) wrapped_at result }
+    ensures whole { IfOk result (λ reading. IsWhole reading.guest) }
+    ensures blank { IfOk result (λ reading. blank reading.guest ≡ reading.guest) }
+    ensures bytes { IfOk result (λ reading. IsOfBytes reading.guest) }
+    ensures faults { RisesOnReadFault (S.faults src.old) (S.faults src.new) result }
+{
+    if let Err(stop) = take_header(src) {
+        return Err(stop.at(Place::LibxlHeader));
+    }
+    let seen = take_records(alloc, src)?;
+    match seen.finish() {
+        Ok(reading) => Ok(reading),
+        Err(Memory) => Err(Stop::Memory),
+    }
+}
+
+/// Takes an image behind its first 8 bytes.
+fn read_bare<S: Source>(
+    alloc: Global,
+    src: &mut S,
+    first: &[u8; 8],
+) -> Result<Reading, Stop<(Place, Cause)>>
+    ensures read { Gives IsReading (S.left src.old) (S.left src.new) (λ rest. bare_at (first.now ++ rest)) result }
+    ensures whole { IfOk result (λ reading. IsWhole reading.guest) }
+    ensures blank { IfOk result (λ reading. blank reading.guest ≡ reading.guest) }
+    ensures bytes { IfOk result (λ reading. IsOfBytes reading.guest) }
+    ensures faults { RisesOnReadFault (S.faults src.old) (S.faults src.new) result }
+{
+    if let Some(cause) = ImageHeader::marker_fault(first) {
+        return Err(Stop::Refused((Place::ImageHeader, cause)));
+    }
+    match read_image_rest(alloc, src) {
+        Ok(reading) => Ok(reading),
+        Err(answer) => Err(stop_for(answer)),
+    }
+}
+
+/// Takes a stream of either form.
+fn read_form<S: Source>(alloc: Global, src: &mut S) -> Result<Reading, Stop<(Place, Cause)>>
+    ensures read { Gives IsReading (S.left src.old) (S.left src.new) stream_at result }
+    ensures whole { IfOk result (λ reading. IsWhole reading.guest) }
+    ensures blank { IfOk result (λ reading. blank reading.guest ≡ reading.guest) }
+    ensures bytes { IfOk result (λ reading. IsOfBytes reading.guest) }
+    ensures faults { RisesOnReadFault (S.faults src.old) (S.faults src.new) result }
+{
+    let mut first = [0; 8];
+    if let Err(stop) = take_part(src, &mut first, Cause::Truncated) {
+        return Err(stop.at(Place::ImageHeader));
+    }
+    if LibxlHeader::is_ident(&first) {
+        read_wrapped(alloc, src)
+    } else {
+        read_bare(alloc, src, &first)
+    }
+}
+
+/// Reads a stream of either form from its first byte to its last END, and leaves what follows it unread; the first 8 bytes
+/// tell the form. The guest is in its blank form, with the parts of its emulators. Version and number of records are those
+/// of the image. `Refused` has the place and the cause of the first fault, and then the source was read up to the end of
+/// the faulty part; `ReadFault` comes only where a read failed.
+pub fn read_any<S: Source>(alloc: Global, src: &mut S) -> Result<Reading, StreamAnswer>
+    ensures read { ReadsStream (S.left src.old) (S.left src.new) result }
+    ensures whole { IfOk result (λ reading. IsWhole reading.guest) }
+    ensures blank { IfOk result (λ reading. blank reading.guest ≡ reading.guest) }
+    ensures bytes { IfOk result (λ reading. IsOfBytes reading.guest) }
+    ensures faults { RisesOnReadFault (S.faults src.old) (S.faults src.new) (or_stop result) }
+{
+    match read_form(alloc, src) {
+        Ok(reading) => Ok(reading),
+        Err(stop) => Err(answer_for(stop)),
+    }
+}

@@ -1,0 +1,200 @@
+ghost use Rattle.std.specs.Prelude.{◌≡◌, ◌+◌, ◌≤◌, ◌<◌, ◌^◌, ◌==◌, ◌&&◌, ◌++◌, [], true, length};
+ghost use Rattle.std.specs.List.{list_any};
+ghost use Rattle.std.specs.FinMap as maps;
+ghost use Rattle.byteorder.specs.Endian.{little_bytes};
+ghost use Rattle.mig_bytes.specs.Bytes.{Puts};
+ghost use Rattle.mig_bytes.specs.Faults.{HasCause};
+ghost use Rattle.mig_guest.specs.Formed.{is_emulator_code};
+ghost use Rattle.mig_pvtables.specs.Whole.{IsWhole};
+ghost use Rattle.mig_records.specs.Records.{spelled};
+ghost use Rattle.mig_libxl.specs.Canon.{has_emulators as some_emulators, is_of_converter as from_converter, emulator_record, part_with, parts_of_emulator, parts_of_id, emulators_in_order, text_of_emulators, opening_text, wrapped_canon, canon_any};
+
+use mig_bytes::{Sink, WriteFailed, put_all, put_u32_le};
+use mig_canon::write_canon;
+use mig_guest::{Guest, PartKey};
+use mig_headers::LibxlHeader;
+use mig_records::{write_head, write_padding, write_record};
+
+/// The types of END and LIBXC_CONTEXT.
+const END: u32 = 0;
+
+const LIBXC_CONTEXT: u32 = 1;
+
+/// The codes of the parts that are an emulator's pairs, and its context.
+const PAIRS: u32 = 258;
+
+const CONTEXT: u32 = 259;
+
+/// Emulator ids are below this.
+const EMULATORS: u32 = 3;
+
+/// Indices of an emulator are below this.
+const INDICES: u32 = 256;
+
+/// Appends the header of a libxl stream, and the record that an image follows. `legacy` says that the stream is made from
+/// a legacy one.
+#[tactic(auto, using(mig_bytes::proofs::Texts::puts_then, mig_bytes::proofs::Texts::puts_stop))]
+pub fn open_wrapper<K: Sink>(sink: &mut K, legacy: bool) -> Result<(), WriteFailed>
+    ensures bytes { Puts (opening_text legacy) (K.written sink.old) (K.written sink.new) result }
+    ensures cause { HasCause (K.faults sink.old) (K.faults sink.new) result }
+{
+    put_all(sink, &LibxlHeader { legacy }.encode())?;
+    write_record(sink, LIBXC_CONTEXT, &[])
+}
+
+/// The id and the index of an emulator, as the body of its record begins.
+fn front_of(key: PartKey) -> [u8; 8]
+    ensures { result ≡ little_bytes 4 key.key1 ++ little_bytes 4 key.key2 }
+{
+    let mut front = [0; 8];
+    put_u32_le(&mut front, 0, key.key1);
+    put_u32_le(&mut front, 4, key.key2);
+    front
+}
+
+/// Appends the record of an emulator's part: its id and its index, and the part's bytes.
+#[tactic(auto, using(mig_bytes::proofs::Texts::puts_then, mig_bytes::proofs::Texts::puts_stop, mig_bytes::proofs::Texts::puts_same, crate::proofs::EmulatorTexts::emulator_text))]
+pub fn write_emulator<K: Sink>(sink: &mut K, key: PartKey, bytes: &[u8]) -> Result<(), WriteFailed>
+    requires code { is_emulator_code key.code ≡ true }
+    requires small { length bytes.now + 8 ≤ 2 ^ 27 }
+    ensures bytes { Puts (emulator_record (key, bytes.now)) (K.written sink.old) (K.written sink.new) result }
+    ensures cause { HasCause (K.faults sink.old) (K.faults sink.new) result }
+{
+    let len = (8 + bytes.len()) as u32;
+    write_head(sink, key.code - 256, len)?;
+    put_all(sink, &front_of(key))?;
+    put_all(sink, bytes)?;
+    write_padding(sink, len)
+}
+
+/// Appends the record that ends a libxl stream.
+pub fn close_wrapper<K: Sink>(sink: &mut K) -> Result<(), WriteFailed>
+    ensures bytes { Puts (spelled 0 []) (K.written sink.old) (K.written sink.new) result }
+    ensures cause { HasCause (K.faults sink.old) (K.faults sink.new) result }
+{
+    write_record(sink, END, &[])
+}
+
+/// Appends the record of the part of this key, where the guest has it.
+#[tactic(auto, using(mig_bytes::proofs::Texts::puts_same, crate::proofs::EmulatorTexts::text_alone, crate::proofs::EmulatorTexts::short_emulator))]
+fn write_part<K: Sink>(sink: &mut K, guest: &Guest, key: PartKey) -> Result<(), WriteFailed>
+    requires whole { IsWhole guest.now }
+    requires code { is_emulator_code key.code ≡ true }
+    ensures bytes { Puts (text_of_emulators (part_with key (maps.get guest.now.parts key))) (K.written sink.old) (K.written sink.new) result }
+    ensures cause { HasCause (K.faults sink.old) (K.faults sink.new) result }
+{
+    match guest.part(key) {
+        Some(bytes) => write_emulator(sink, key, bytes),
+        None => Ok(()),
+    }
+}
+
+/// Appends the records of the emulator of this id and index.
+#[tactic(auto, using(mig_bytes::proofs::Texts::puts_then, mig_bytes::proofs::Texts::puts_stop, mig_bytes::proofs::Texts::puts_same, crate::proofs::EmulatorTexts::text_of_one))]
+fn write_one<K: Sink>(sink: &mut K, guest: &Guest, id: u32, index: u32) -> Result<(), WriteFailed>
+    requires whole { IsWhole guest.now }
+    ensures bytes { Puts (text_of_emulators (parts_of_emulator guest.now.parts id index)) (K.written sink.old) (K.written sink.new) result }
+    ensures cause { HasCause (K.faults sink.old) (K.faults sink.new) result }
+{
+    let pairs = PartKey {
+        code: PAIRS,
+        key1: id,
+        key2: index,
+    };
+    let context = PartKey {
+        code: CONTEXT,
+        key1: id,
+        key2: index,
+    };
+    write_part(sink, guest, pairs)?;
+    write_part(sink, guest, context)
+}
+
+/// Appends the records of the emulators of this id, indices ascending.
+#[tactic(auto, using(mig_bytes::proofs::Texts::puts_same, crate::proofs::EmulatorTexts::emulator_next, crate::proofs::EmulatorTexts::emulators_end))]
+fn write_id<K: Sink>(sink: &mut K, guest: &Guest, id: u32) -> Result<(), WriteFailed>
+    requires whole { IsWhole guest.now }
+    ensures bytes { Puts (text_of_emulators (parts_of_id guest.now.parts id)) (K.written sink.old) (K.written sink.new) result }
+    ensures cause { HasCause (K.faults sink.old) (K.faults sink.new) result }
+{
+    for index in 0..INDICES {
+        write_one(sink, guest, id, index)?;
+    }
+    Ok(())
+}
+
+/// Appends the records of all emulators, ids ascending.
+#[tactic(auto, using(mig_bytes::proofs::Texts::puts_same, crate::proofs::EmulatorTexts::id_next, crate::proofs::EmulatorTexts::ids_end))]
+fn write_emulators<K: Sink>(sink: &mut K, guest: &Guest) -> Result<(), WriteFailed>
+    requires whole { IsWhole guest.now }
+    ensures bytes { Puts (text_of_emulators (emulators_in_order guest.now.parts)) (K.written sink.old) (K.written sink.new) result }
+    ensures cause { HasCause (K.faults sink.old) (K.faults sink.new) result }
+{
+    for id in 0..EMULATORS {
+        write_id(sink, guest, id)?;
+    }
+    Ok(())
+}
+
+/// Whether the guest has a part of this code.
+#[tactic(auto, using(crate::proofs::FirstParts::some_of_code))]
+fn has_code(guest: &Guest, code: u32) -> bool
+    ensures { result ≡ list_any (λ e. e.0.code == code) (maps.entries guest.now.parts) }
+{
+    guest.next_of_code(code, None).is_some()
+}
+
+/// Whether the guest has a part of an emulator.
+#[tactic(auto, using(crate::proofs::FirstParts::either_code))]
+fn has_emulators(guest: &Guest) -> bool
+    ensures { result ≡ some_emulators guest.now.parts }
+{
+    has_code(guest, PAIRS) || has_code(guest, CONTEXT)
+}
+
+/// Whether the least key of this code is that of an emulator of id 0.
+#[tactic(auto, using(crate::proofs::FirstParts::zero_of_first, crate::proofs::FirstParts::zero_of_none))]
+fn begins_with_0(guest: &Guest, code: u32) -> bool
+    ensures { result ≡ list_any (λ e. (e.0.code == code) && (e.0.key1 == 0)) (maps.entries guest.now.parts) }
+{
+    match guest.next_of_code(code, None) {
+        Some((key, _)) => key.key1 == 0,
+        None => false,
+    }
+}
+
+/// Whether the guest has an emulator of id 0.
+#[tactic(auto, using(crate::proofs::FirstParts::either_zero))]
+fn is_of_converter(guest: &Guest) -> bool
+    ensures { result ≡ from_converter guest.now.parts }
+{
+    begins_with_0(guest, PAIRS) || begins_with_0(guest, CONTEXT)
+}
+
+/// Appends the canonical stream of a guest that has emulators.
+#[tactic(auto, using(mig_bytes::proofs::Texts::puts_then, mig_bytes::proofs::Texts::puts_stop, mig_bytes::proofs::Texts::puts_same, crate::proofs::EmulatorTexts::wrapped_is))]
+fn write_wrapped<K: Sink>(sink: &mut K, guest: &Guest) -> Result<(), WriteFailed>
+    requires whole { IsWhole guest.now }
+    ensures bytes { Puts (wrapped_canon guest.now) (K.written sink.old) (K.written sink.new) result }
+    ensures cause { HasCause (K.faults sink.old) (K.faults sink.new) result }
+{
+    open_wrapper(sink, is_of_converter(guest))?;
+    write_canon(sink, guest)?;
+    write_emulators(sink, guest)?;
+    close_wrapper(sink)
+}
+
+/// Appends the canonical stream of a whole guest in its blank form: its image, inside a libxl stream exactly where the
+/// guest has a part of an emulator. After `WriteFailed` some first bytes of it are appended, but not all. Takes no memory.
+#[tactic(auto, unfolding(crate::specs::Canon::canon_any))]
+pub fn write_any<K: Sink>(sink: &mut K, guest: &Guest) -> Result<(), WriteFailed>
+    requires { IsWhole guest.now }
+    ensures bytes { Puts (canon_any guest.now) (K.written sink.old) (K.written sink.new) result }
+    ensures cause { HasCause (K.faults sink.old) (K.faults sink.new) result }
+{
+    if has_emulators(guest) {
+        write_wrapped(sink, guest)
+    } else {
+        write_canon(sink, guest)
+    }
+}
