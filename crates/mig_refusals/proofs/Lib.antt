@@ -1,0 +1,5 @@
+pub mod Causes
+pub mod Fronts
+pub mod Parts
+pub mod Records
+pub mod Verdicts
