@@ -15,8 +15,10 @@ class Refused(Exception):
 
 
 class Input:
+    """Bytes that are taken one after another, and the place that is printed of what is being judged."""
+
     def __init__(self, data):
-        self.data, self.at = data, 0
+        self.data, self.at, self.place = data, 0, 'ImageHeader'
 
     def take(self, length):
         if len(self.data) - self.at < length:
@@ -32,6 +34,11 @@ def refuse_if(test, cause):
 
 def has_page(kind):
     return kind < BROKEN
+
+
+def is_optional(kind):
+    """Whether a record of this type is one that is skipped."""
+    return kind >= 1 << 31
 
 
 def record(kind, *pieces):

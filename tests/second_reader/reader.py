@@ -3,13 +3,16 @@
 `read(bytes)` answers the stream and no line, or none and the line of its refusal (without the end of the line). Of a
 stream that was read, `canonical(guest)` and `image(guest, base)` are what `normalise` and `restore BASE` have to
 write, and `summary(stream)` is the line of `verify`. It is short and slow, and holds everything in memory. What PV guests
-alone have stands in pv.py.
+alone have stands in pv.py, and the wrapper of libxl in libxl.py.
 """
 import collections
 import struct
 
+import libxl
 import pv
 from form import *
+
+MARKER = b'\xff' * 8
 
 # type: the kinds of guest that have it, and the body lengths that it may have
 TABLE = {
@@ -33,12 +36,8 @@ UNSUPPORTED = (11, 13, 14, 15)
 STATIC = (PV_INFO, CPUID_POLICY, MSR_POLICY)
 CONTENT = (END, PAGE_DATA, P2M_FRAMES, *VCPU, SHARED_INFO, CONTEXT, PARAMS)
 
-# the version, the guest that is meant, and the number of records with END
+# the image's version, the guest that is meant, and the number of the image's records with END
 Stream = collections.namedtuple('Stream', 'version guest records')
-
-
-def is_optional(kind):
-    return kind >= 1 << 31
 
 
 def broken_rule(version, guest_kind, before, kind):
@@ -183,9 +182,9 @@ def machine_records(guest):
     return (params if pairs else []) + [record(CONTEXT, guest['context'])]
 
 
-def canonical(guest):
+def canonical_image(guest):
     is_pv = guest['kind'] == PV
-    out = [b'\xff' * 8, b'XENF', struct.pack('>IHHI', 3, 0, 0, 0), struct.pack('<IHHII', guest['kind'], 12, 0, 0, 1)]
+    out = [MARKER, b'XENF', struct.pack('>IHHI', 3, 0, 0, 0), struct.pack('<IHHII', guest['kind'], 12, 0, 0, 1)]
     out += [pv.info_record()] if is_pv else []
     out += policy_records(guest) + [record(STATIC_DATA_END)]
     out += [pv.p2m_record(guest)] if is_pv else []
@@ -193,6 +192,11 @@ def canonical(guest):
     out += [record(TSC_INFO, guest['tsc'], bytes(4))] if 'tsc' in guest else []
     out += (pv.machine_records if is_pv else machine_records)(guest)
     return b''.join(out + [record(END)])
+
+
+def canonical(guest):
+    bare = canonical_image(guest)
+    return libxl.wrapped(guest['emulators'], bare) if guest['emulators'] else bare
 
 
 def part(key, data):
@@ -211,6 +215,7 @@ def parts_of(guest):
         parts[TSC_INFO, 0, 0] = guest['tsc']
     parts.update(((CPUID_POLICY, *key), rest) for key, rest in guest['cpuid'].items())
     parts.update(((MSR_POLICY, index, 0), rest) for index, rest in guest['msrs'].items())
+    parts.update(libxl.parts_of(guest['emulators']))
     return parts
 
 
@@ -234,29 +239,54 @@ def summary(stream):
 
 
 def empty_guest(kind):
-    guest = {'kind': kind, 'top': 0, 'frames': {}, 'cpuid': {}, 'msrs': {}}
+    guest = {'kind': kind, 'top': 0, 'frames': {}, 'cpuid': {}, 'msrs': {}, 'emulators': {}}
     return {**guest, 'p2m': [], 'vcpus': {}} if kind == PV else {**guest, 'params': {}}
 
 
+def read_headers(source):
+    """What stands of the two headers behind the marker; answers the version and the kind of guest."""
+    name, version, options = struct.unpack_from('>4sIH', source.take(16))
+    refuse_if(name != b'XENF', '3 BadId')
+    refuse_if(version not in (2, 3), '4 BadVersion %d' % version)
+    refuse_if(options & 1, '5 BigEndian')
+    source.place = 'DomainHeader'
+    kind, shift = struct.unpack_from('<IH', source.take(16))
+    refuse_if(kind not in (PV, HVM), '6 BadKind %d' % kind)
+    refuse_if(shift != 12, '7 BadPageShift %d' % shift)
+    return version, kind
+
+
+def read_behind_marker(source):
+    version, guest_kind = read_headers(source)
+    guest, before = empty_guest(guest_kind), []
+    while END not in before:
+        source.place = 'Record %d' % len(before)
+        kind, length = struct.unpack('<II', source.take(8))
+        judge_head(version, guest_kind, before, kind, length)
+        read_body(source, kind, length, guest)
+        before.append(kind)
+    return Stream(version, pv.blank(guest) if guest_kind == PV else guest, len(before))
+
+
+def read_image(source):
+    """An image, marker and all."""
+    source.place = 'ImageHeader'
+    refuse_if(source.take(8) != MARKER, '2 NotStream')
+    return read_behind_marker(source)
+
+
+def read_either(source):
+    """A bare image, or one in the wrapper of libxl."""
+    first = source.take(8)
+    if first == libxl.IDENT:
+        return libxl.read_behind_ident(source, read_image)
+    refuse_if(first != MARKER, '2 NotStream')
+    return read_behind_marker(source)
+
+
 def read(data):
-    source, place = Input(data), 'ImageHeader'
+    source = Input(data)
     try:
-        refuse_if(source.take(8) != b'\xff' * 8, '2 NotStream')
-        name, version, options = struct.unpack_from('>4sIH', source.take(16))
-        refuse_if(name != b'XENF', '3 BadId')
-        refuse_if(version not in (2, 3), '4 BadVersion %d' % version)
-        refuse_if(options & 1, '5 BigEndian')
-        place = 'DomainHeader'
-        guest_kind, shift = struct.unpack_from('<IH', source.take(16))
-        refuse_if(guest_kind not in (PV, HVM), '6 BadKind %d' % guest_kind)
-        refuse_if(shift != 12, '7 BadPageShift %d' % shift)
-        guest, before = empty_guest(guest_kind), []
-        while END not in before:
-            place = 'Record %d' % len(before)
-            kind, length = struct.unpack('<II', source.take(8))
-            judge_head(version, guest_kind, before, kind, length)
-            read_body(source, kind, length, guest)
-            before.append(kind)
-        return Stream(version, pv.blank(guest) if guest_kind == PV else guest, len(before)), ''
+        return read_either(source), ''
     except Refused as cause:
-        return None, 'refused: %s: %s' % (place, cause)
+        return None, 'refused: %s: %s' % (source.place, cause)
