@@ -4,7 +4,8 @@ use mig_headers::{Cause, Kind};
 use mig_hvm::{params_fault, read_params};
 use mig_pagestore::PageStore;
 use mig_pagetypes::PageType;
-use mig_policy::{read_cpuid, read_msr, read_tsc};
+use mig_policy::{merge_pairs, pairs_fault, read_cpuid, read_msr, read_tsc};
+use std::alloc::Global;
 use std::process::Abort;
 use std::test::Fail;
 
@@ -196,5 +197,25 @@ fn p2m_frames_are_listed_again(rt: HostRuntime) -> Result<(), Fail> {
     assert_eq!(rt; guest.top(), 0x3ff);
     let listed = [9, 0, 0, 0, 0, 0, 0, 0, 8, 0, 0, 0, 0, 0, 0, 0];
     has(&rt, &guest, &[(key(3, 0, 0), &listed)]);
+    Ok(())
+}
+
+// Adds pairs, which have no fault, to those of emulator 1 with index 2.
+fn merge(rt: &impl Abort, alloc: Global, guest: &mut Guest, bytes: &[u8]) -> Result<(), Fail> {
+    assert_eq!(rt; pairs_fault(bytes), None);
+    merge_pairs(alloc, guest, 1, 2, bytes)?;
+    Ok(())
+}
+
+#[test]
+fn pairs_are_merged(rt: HostRuntime) -> Result<(), Fail> {
+    let mut guest = Guest::new(rt.alloc(), Kind::Hvm);
+    merge(&rt, rt.alloc(), &mut guest, hidden(b""))?;
+    assert_eq!(rt; guest.next_part(None), None);
+    merge(&rt, rt.alloc(), &mut guest, hidden(b"b\0one\0c\0two\0"))?;
+    merge(&rt, rt.alloc(), &mut guest, hidden(b"b\0three\0a\0\0"))?;
+    merge(&rt, rt.alloc(), &mut guest, hidden(b""))?;
+    let pairs = b"a\0\0b\0three\0c\0two\0";
+    has(&rt, &guest, &[(key(258, 1, 2), pairs)]);
     Ok(())
 }
