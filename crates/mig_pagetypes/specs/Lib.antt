@@ -1,3 +1,4 @@
 pub mod PageTypes
 pub mod FrameWords
+pub mod LegacyWords
 pub mod Limits

@@ -1,8 +1,8 @@
-//! Page types and the frame words of PAGE_DATA records.
+//! Page types, and the frame words of PAGE_DATA records and of a legacy stream's batches.
 //!
 //! Responsible for: which numbers name a page type, which types come with a page, which are page tables of what
-//! level, and how a frame word holds a type and a frame number. It leaves to others how many words a record has, which
-//! frame numbers a guest may have, and what the page of a table means.
+//! level, and how a frame word holds a type and a frame number, also in a legacy stream. It leaves to others how many
+//! words a record or a batch has, which frame numbers a guest may have, and what the page of a table means.
 //!
 //! What the layers above rely on: each answer is the one of the tables in specs/PageTypes, for every number of the
 //! argument's type; a word is refused exactly where its type number is reserved; and reading undoes writing.
@@ -10,12 +10,14 @@
 
 mod frame_word;
 mod laws;
+mod legacy_word;
 mod page_type;
 
 pub use frame_word::{FrameWord, decode_word, encode_word};
 pub use laws::{
     decoding_undoes_encoding, encoding_undoes_decoding, numbers_name_types, types_have_numbers,
 };
+pub use legacy_word::{LegacyWord, decode_legacy_word};
 pub use page_type::PageType;
 
 /// Frame numbers (PFN) are below this.
