@@ -1,8 +1,9 @@
-use mig_bytes::MemSink;
+use mig_bytes::{MemSink, put_all};
 use mig_headers::{
-    Cause, ContextFault, Kind, RecordType, Unsound, is_optional, put_cause, put_unsound,
+    Cause, ContextFault, Kind, LegacyCause, LegacyPlace, RecordType, Unsound, is_optional,
+    put_cause, put_legacy_cause, put_legacy_place, put_unsound,
 };
-use mig_pagetypes::PageType;
+use mig_pagetypes::{FrameWord, LegacyWord, PageType, decode_legacy_word};
 use mig_policy::canonical_pairs;
 use std::test::Fail;
 
@@ -85,6 +86,150 @@ fn prints_why_a_host_is_not_sound(rt: HostRuntime) {
         let mut sink = MemSink::new(rt.alloc(), Vec::new(rt.alloc()));
         assert_eq!(rt; put_unsound(&mut sink, unsound), Ok(()));
         assert_eq!(rt; sink.bytes(), want.as_bytes());
+    }
+}
+
+// No command prints them.
+const LEGACY: [(LegacyPlace, LegacyCause, &str); 19] = [
+    (
+        LegacyPlace::Device,
+        LegacyCause::Truncated,
+        "Device: 1 Truncated",
+    ),
+    (LegacyPlace::Start, LegacyCause::Modern, "Start: 2 Modern"),
+    (LegacyPlace::Start, LegacyCause::Tools32, "Start: 3 Tools32"),
+    (
+        LegacyPlace::Chunk(0),
+        LegacyCause::VerifyOrPv,
+        "Chunk 0: 4 VerifyOrPv",
+    ),
+    (LegacyPlace::Chunk(1), LegacyCause::Tmem, "Chunk 1: 5 Tmem"),
+    (
+        LegacyPlace::Chunk(2),
+        LegacyCause::Compressed,
+        "Chunk 2: 6 Compressed",
+    ),
+    (
+        LegacyPlace::Chunk(3),
+        LegacyCause::UnknownChunk(21),
+        "Chunk 3: 7 UnknownChunk 21",
+    ),
+    (
+        LegacyPlace::Chunk(4),
+        LegacyCause::BatchTooLarge(1025),
+        "Chunk 4: 8 BatchTooLarge 1025",
+    ),
+    (
+        LegacyPlace::Chunk(5),
+        LegacyCause::BadPageType(2, 8),
+        "Chunk 5: 9 BadPageType 2 8",
+    ),
+    (
+        LegacyPlace::Chunk(6),
+        LegacyCause::WordHigh(7),
+        "Chunk 6: 10 WordHigh 7",
+    ),
+    (
+        LegacyPlace::Chunk(7),
+        LegacyCause::BadVcpuMax(4096),
+        "Chunk 7: 11 BadVcpuMax 4096",
+    ),
+    (
+        LegacyPlace::Chunk(8),
+        LegacyCause::BadToolstack(4),
+        "Chunk 8: 12 BadToolstack 4",
+    ),
+    (
+        LegacyPlace::Chunk(9),
+        LegacyCause::UnpairedIoreq,
+        "Chunk 9: 13 UnpairedIoreq",
+    ),
+    (
+        LegacyPlace::Tail,
+        LegacyCause::BadContext(ContextFault::ShortEntry(32)),
+        "Tail: 14 BadContext ShortEntry 32",
+    ),
+    (
+        LegacyPlace::Device,
+        LegacyCause::BadSignature,
+        "Device: 15 BadSignature",
+    ),
+    (
+        LegacyPlace::Chunk(268_435_456),
+        LegacyCause::TooManyChunks,
+        "Chunk 268435456: 16 TooManyChunks",
+    ),
+    (
+        LegacyPlace::Chunk(10),
+        LegacyCause::TooManyFrames,
+        "Chunk 10: 17 TooManyFrames",
+    ),
+    (
+        LegacyPlace::Tail,
+        LegacyCause::BodyTooLong(134_217_729),
+        "Tail: 18 BodyTooLong 134217729",
+    ),
+    (
+        LegacyPlace::Chunk(11),
+        LegacyCause::TooManyPairs,
+        "Chunk 11: 19 TooManyPairs",
+    ),
+];
+
+#[test]
+fn prints_refusals_of_legacy_streams(rt: HostRuntime) -> Result<(), Fail> {
+    for (place, cause, want) in LEGACY {
+        let mut sink = MemSink::new(rt.alloc(), Vec::new(rt.alloc()));
+        put_legacy_place(&mut sink, place)?;
+        put_all(&mut sink, b": ")?;
+        put_legacy_cause(&mut sink, cause)?;
+        assert_eq!(rt; sink.bytes(), want.as_bytes());
+    }
+    Ok(())
+}
+
+// A word of a legacy batch, and what it says.
+const LEGACY_WORDS: [(u64, LegacyWord); 10] = [
+    (0xF000_0000, LegacyWord::Placeholder),
+    (
+        0xF000_0001,
+        LegacyWord::Word(FrameWord {
+            pfn: 1,
+            kind: PageType::Xtab,
+        }),
+    ),
+    (
+        0,
+        LegacyWord::Word(FrameWord {
+            pfn: 0,
+            kind: PageType::Notab,
+        }),
+    ),
+    (
+        0x0FFF_FFFF,
+        LegacyWord::Word(FrameWord {
+            pfn: 0x0FFF_FFFF,
+            kind: PageType::Notab,
+        }),
+    ),
+    (
+        0xC000_0007,
+        LegacyWord::Word(FrameWord {
+            pfn: 7,
+            kind: PageType::L4Pinned,
+        }),
+    ),
+    (0x5000_0000, LegacyWord::BadType(5)),
+    (0x8FFF_FFFF, LegacyWord::BadType(8)),
+    (0x1_0000_0000, LegacyWord::High),
+    (0x1_F000_0000, LegacyWord::High),
+    (0x1_5000_0000, LegacyWord::BadType(5)),
+];
+
+#[test]
+fn knows_legacy_words(rt: HostRuntime) {
+    for (word, want) in LEGACY_WORDS {
+        assert_eq!(rt; decode_legacy_word(word), want, "{word}");
     }
 }
 
