@@ -173,13 +173,6 @@ in_fields bad e = option_map (λ field. (e.0.key1, field)) (find (bad e.0.key1 e
 abbrev pub large_in : Part → Option (ℕ × ℕ)
 large_in e = cond (nat_lt 7168 (gdt_ents e.1)) (Some (e.0.key1, gdt_ents e.1)) None
 
-pub large_gdts : (parts : PartMap) → in_contexts large_in parts ≡ find_gdt parts
-large_gdts parts = same_search _ _ (λ e. both (e.0.code == 4) (nat_lt 7168 (gdt_ents e.1)) (e.0.key1, gdt_ents e.1)) (maps.entries parts)
-  where
-    both : (a b : Bool) (x : ℕ × ℕ) → cond a (cond b (Some x) None) None ≡ cond (a && b) (Some x) None
-    both true b x = refl
-    both false b x = refl
-
 pub context_there : (parts : PartMap) (after : Option PartKey) (e : Part) → parts_after 4 after (maps.entries parts) ≡ e ∷ parts_after 4 (Some e.0) (maps.entries parts) → (e.0.code ≡ 4) × (maps.get parts e.0 ≡ Some e.1)
 context_there parts after e next =
     let found = first_passes part_total part_exact parts (is_next 4 after) e (parts_after 4 (Some e.0) (maps.entries parts)) (sym (by_test 4 after (maps.entries parts)) ∙ next) in
