@@ -1,0 +1,5 @@
+pub mod Names
+pub mod Entries
+pub mod Fields
+pub mod NameForms
+pub mod Spelling

@@ -1,0 +1,3 @@
+pub mod Toolstack
+pub mod Judged
+pub mod Texts

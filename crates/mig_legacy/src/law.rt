@@ -1,0 +1,9 @@
+ghost use Rattle.std.specs.Prelude.{ℕ, List};
+ghost use Rattle.mig_legacy.specs.Judged.{ToolstackIsSpelled};
+
+/// The data of a toolstack have no wrong field exactly where they are spelled as entries, and these are the entries
+/// that they are judged to be.
+#[tactic(auto, using(crate::proofs::Spelling::toolstack_spelled))]
+pub fn toolstack_is_spelled()
+    ensures { (body : List ℕ) → ToolstackIsSpelled body }
+{}
