@@ -15,6 +15,8 @@ mod host;
 #[cfg(test)]
 mod image;
 #[cfg(test)]
+mod legacy;
+#[cfg(test)]
 mod renaming;
 #[cfg(test)]
 mod tables;
