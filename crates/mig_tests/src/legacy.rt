@@ -1,4 +1,7 @@
-use mig_legacy::{physmap_pairs, toolstack_fault};
+use mig_headers::LegacyCause;
+use mig_legacy::{
+    ChunkKind, batch_fault, chunk_kind, page_data_words, physmap_pairs, toolstack_fault,
+};
 use std::alloc::Global;
 use std::process::Abort;
 use std::test::Fail;
@@ -106,5 +109,74 @@ fn changed_data_have_a_fault(rt: HostRuntime) -> Result<(), Fail> {
         let bytes = changed(rt.alloc(), at, byte)?;
         assert_eq!(rt; toolstack_fault(&bytes), Some(want));
     }
+    Ok(())
+}
+
+// The number of a chunk's type, and what it is.
+const CHUNKS: [(u32, Result<ChunkKind, LegacyCause>); 27] = [
+    (0, Ok(ChunkKind::End)),
+    (1, Ok(ChunkKind::Batch(1))),
+    (1024, Ok(ChunkKind::Batch(1024))),
+    (1025, Err(LegacyCause::BatchTooLarge(1025))),
+    (0x7FFF_FFFF, Err(LegacyCause::BatchTooLarge(0x7FFF_FFFF))),
+    (0x8000_0000, Err(LegacyCause::UnknownChunk(0x8000_0000))),
+    (0xFFFF_FFFF, Err(LegacyCause::VerifyOrPv)),
+    (0xFFFF_FFFE, Ok(ChunkKind::VcpuMap)),
+    (0xFFFF_FFFD, Ok(ChunkKind::Param(12))),
+    (0xFFFF_FFFC, Ok(ChunkKind::Param(15))),
+    (0xFFFF_FFFB, Err(LegacyCause::Tmem)),
+    (0xFFFF_FFFA, Err(LegacyCause::Tmem)),
+    (0xFFFF_FFF9, Ok(ChunkKind::Tsc)),
+    (0xFFFF_FFF8, Ok(ChunkKind::Param(17))),
+    (0xFFFF_FFF7, Ok(ChunkKind::LastCheckpoint)),
+    (0xFFFF_FFF6, Ok(ChunkKind::Param(19))),
+    (0xFFFF_FFF5, Ok(ChunkKind::Param(9))),
+    (0xFFFF_FFF4, Err(LegacyCause::Compressed)),
+    (0xFFFF_FFF3, Err(LegacyCause::Compressed)),
+    (0xFFFF_FFF2, Ok(ChunkKind::Param(34))),
+    (0xFFFF_FFF1, Ok(ChunkKind::Param(27))),
+    (0xFFFF_FFF0, Ok(ChunkKind::Param(28))),
+    (0xFFFF_FFEF, Ok(ChunkKind::Param(29))),
+    (0xFFFF_FFEE, Ok(ChunkKind::Toolstack)),
+    (0xFFFF_FFED, Ok(ChunkKind::Param(32))),
+    (0xFFFF_FFEC, Ok(ChunkKind::Param(33))),
+    (0xFFFF_FFEB, Err(LegacyCause::UnknownChunk(21))),
+];
+
+#[test]
+fn knows_legacy_chunks(rt: HostRuntime) {
+    for (number, want) in CHUNKS {
+        assert_eq!(rt; chunk_kind(number), want, "{number}");
+    }
+}
+
+// Words of a legacy batch, and what is wrong with them.
+const BATCHES: [(&[u64], Option<LegacyCause>); 6] = [
+    (&[0xF000_0000, 5, 0xF000_0007, 0x9FFF_FFFF], None),
+    (&[0, 0x5000_0000], Some(LegacyCause::BadPageType(1, 5))),
+    (
+        &[0x1_0000_0000, 0x8FFF_FFFF, 0x6000_0000],
+        Some(LegacyCause::BadPageType(1, 8)),
+    ),
+    (&[0x1_7000_0000], Some(LegacyCause::BadPageType(0, 7))),
+    (
+        &[1, 0x1_0000_0000, 0x1_0000_0000],
+        Some(LegacyCause::WordHigh(1)),
+    ),
+    (&[0xFFFF_FFFF_4000_0000], Some(LegacyCause::WordHigh(0))),
+];
+
+#[test]
+fn knows_faults_of_legacy_batches(rt: HostRuntime) {
+    for (words, want) in BATCHES {
+        assert_eq!(rt; batch_fault(words), want);
+    }
+}
+
+#[test]
+fn frames_of_legacy_batches(rt: HostRuntime) -> Result<(), Fail> {
+    let words = page_data_words(rt.alloc(), &[0xF000_0000, 5, 0xF000_0007, 0xCFFF_FFFF])?;
+    let named = [5, 0xF000_0000_0000_0007, 0xC000_0000_0FFF_FFFF];
+    assert_eq!(rt; words.as_slice(), named.as_slice());
     Ok(())
 }
