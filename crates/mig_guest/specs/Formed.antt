@@ -98,8 +98,3 @@ AreParts kind width code (p ∷ ps) = IsPart kind width p.0 p.1 × (p.0.code ≡
 -- a guest without emulator parts
 abbrev pub HasNoEmulators : PartMap → Type 0
 HasNoEmulators parts = (key : PartKey) (bytes : List ℕ) → maps.get parts key ≡ Some bytes → is_emulator_code key.code ≡ false
-
--- an HVM guest without emulator parts
-pub record IsPlainHvm (g : GuestOf) : Type 0 where
-  pub hvm : g.kind ≡ Hvm
-  pub plain : HasNoEmulators g.parts
