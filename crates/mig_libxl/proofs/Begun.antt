@@ -108,6 +108,40 @@ unfolding pairs_in
 some_slice [] p ps e = let no : ◌≡◌ {A = List Pair} [] (p ∷ ps) = e in cc
 some_slice (b ∷ bs) p ps e = omega arith
 
+-- ---- emulators of which one has more
+
+module _ (e new : EmulatorsOf) (slice : List ℕ) (id index : ℕ) (before : AreEmulators e) (known : id < 3) (small : index < 256) where
+  pub context_kept : new ≡ record e { contexts = maps.insert e.contexts (record { code = 259; key1 = id; key2 = index }) slice } → length slice + 8 ≤ 2 ^ 27 → AreBytes slice → AreEmulators new
+  context_kept is short are =
+      subst AreEmulators (sym is) (record {
+        stores = before.stores;
+        contexts = insert_holds part_total part_exact (λ key bytes. IsEmulatorKey 259 key × (length bytes + 8 ≤ 2 ^ 27) × AreBytes bytes) e.contexts (record { code = 259; key1 = id; key2 = index }) slice before.contexts
+            (record { is = refl; known = known; small = small }, short, are);
+      })
+
+  pub pairs_kept : new ≡ add_pairs e (record { code = 258; key1 = id; key2 = index }) (pairs_in slice) → pairs_fault slice ≡ None
+      → length (text_of_map (put_pairs (store_at e.stores (record { code = 258; key1 = id; key2 = index })) (pairs_in slice))) ≤ 2 ^ 24 → AreBytes slice → AreEmulators new
+  pairs_kept is none fits are = subst AreEmulators (sym is) (by_pairs (pairs_in slice) refl)
+    where
+      key : PartKey
+      key = record { code = 258; key1 = id; key2 = index }
+
+      by_pairs : (qs : List Pair) → pairs_in slice ≡ qs → AreEmulators (add_pairs e key qs)
+      by_pairs [] all = before
+      by_pairs (p ∷ ps) all =
+          let old = old_store e key before in
+          let m = store_at e.stores key in
+          let store : IsStore (put_pairs m (pairs_in slice)) = record {
+            pairs = maps_are_of_pairs.added m slice old.pairs none;
+            some = some_bytes_are_some_pairs.text m slice none (some_slice slice p ps all);
+            small = fits;
+            bytes = added_bytes m slice none old.bytes are;
+          } in record {
+            stores = insert_holds part_total part_exact (λ k s. IsEmulatorKey 258 k × IsStore s) e.stores key (put_pairs m (p ∷ ps)) before.stores
+                (record { is = refl; known = known; small = small }, subst (λ qs. IsStore (put_pairs m qs)) all store);
+            contexts = before.contexts;
+          }
+
 -- ---- with one record more
 
 module _ (seen : Seen) (new : EmulatorsOf) (slice : List ℕ) (id index : ℕ) (begun : IsBegun seen) (known : id < 3) (small : index < 256) where
@@ -117,32 +151,9 @@ module _ (seen : Seen) (new : EmulatorsOf) (slice : List ℕ) (id index : ℕ) (
   pub context_begun : (body : List ℕ) → new ≡ record seen.emulators { contexts = maps.insert seen.emulators.contexts (record { code = 259; key1 = id; key2 = index }) slice } → slice ≡ drop 8 body → 8 ≤ length body → length body ≤ 2 ^ 27 → AreBytes body
       → IsBegun (record { emulators = new; image = seen.image; emulated = true; records = seen.records })
   context_begun body is cut long short are =
-      begun_with (subst AreEmulators (sym is) (record {
-        stores = begun.emulators.stores;
-        contexts = insert_holds part_total part_exact (λ key bytes. IsEmulatorKey 259 key × (length bytes + 8 ≤ 2 ^ 27) × AreBytes bytes) seen.emulators.contexts (record { code = 259; key1 = id; key2 = index }) slice begun.emulators.contexts
-            (record { is = refl; known = known; small = small }, omega (arith, ap length cut, length-drop 8 body, long, short), subst AreBytes (sym cut) (All-drop (λ b. b < 256) 8 body are));
-      }))
+      begun_with (context_kept seen.emulators new slice id index begun.emulators known small is (omega (arith, ap length cut, length-drop 8 body, long, short)) (subst AreBytes (sym cut) (All-drop (λ b. b < 256) 8 body are)))
 
   pub pairs_begun : new ≡ add_pairs seen.emulators (record { code = 258; key1 = id; key2 = index }) (pairs_in slice) → pairs_fault slice ≡ None
       → length (text_of_map (put_pairs (store_at seen.emulators.stores (record { code = 258; key1 = id; key2 = index })) (pairs_in slice))) ≤ 2 ^ 24 → AreBytes slice
       → IsBegun (record { emulators = new; image = seen.image; emulated = true; records = seen.records })
-  pairs_begun is none fits are = begun_with (subst AreEmulators (sym is) (by_pairs (pairs_in slice) refl))
-    where
-      key : PartKey
-      key = record { code = 258; key1 = id; key2 = index }
-
-      by_pairs : (qs : List Pair) → pairs_in slice ≡ qs → AreEmulators (add_pairs seen.emulators key qs)
-      by_pairs [] e = begun.emulators
-      by_pairs (p ∷ ps) e =
-          let old = old_store seen.emulators key begun.emulators in
-          let m = store_at seen.emulators.stores key in
-          let store : IsStore (put_pairs m (pairs_in slice)) = record {
-            pairs = maps_are_of_pairs.added m slice old.pairs none;
-            some = some_bytes_are_some_pairs.text m slice none (some_slice slice p ps e);
-            small = fits;
-            bytes = added_bytes m slice none old.bytes are;
-          } in record {
-            stores = insert_holds part_total part_exact (λ k s. IsEmulatorKey 258 k × IsStore s) seen.emulators.stores key (put_pairs m (p ∷ ps)) begun.emulators.stores
-                (record { is = refl; known = known; small = small }, subst (λ qs. IsStore (put_pairs m qs)) e store);
-            contexts = begun.emulators.contexts;
-          }
+  pairs_begun is none fits are = begun_with (pairs_kept seen.emulators new slice id index begun.emulators known small is none fits are)

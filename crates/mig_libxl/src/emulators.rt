@@ -13,9 +13,9 @@ use std::alloc::Global;
 use std::collections::BTreeMap;
 use std::marker::Model;
 
-/// What records said of emulators: their stores, by the key of the part that each is, and their contexts.
+/// What is said of emulators: their stores, by the key of the part that each is, and their contexts.
 #[derive(Drop)]
-pub(crate) struct Emulators {
+pub struct Emulators {
     alloc: Global,
     stores: BTreeMap<PartKey, PairMap>,
     contexts: Parts,
@@ -32,8 +32,8 @@ impl Model for Emulators {
 }
 
 impl Emulators {
-    /// Before any record.
-    pub(crate) fn new(alloc: Global) -> Emulators
+    /// None of either.
+    pub fn new(alloc: Global) -> Emulators
         ensures { result ≡ no_emulators }
     {
         Emulators {
@@ -44,7 +44,7 @@ impl Emulators {
     }
 
     /// Adds the pairs that these bytes spell to the store of this key. After an error some of them may be there.
-    pub(crate) fn add_pairs(&mut self, key: PartKey, bytes: &[u8]) -> Result<(), PairsAnswer>
+    pub fn add_pairs(&mut self, key: PartKey, bytes: &[u8]) -> Result<(), PairsAnswer>
         requires faultless { pairs_fault bytes.now ≡ None }
         requires small { length (text_of_map (store_at self.old.stores key)) ≤ 2 ^ 24 }
         ensures ok { OnOk result (self.new ≡ add_pairs self.old key (pairs_in bytes.now)) }
@@ -66,7 +66,7 @@ impl Emulators {
     }
 
     /// Sets the context of this key.
-    pub(crate) fn set_context(&mut self, key: PartKey, bytes: &[u8]) -> Result<(), Memory>
+    pub fn set_context(&mut self, key: PartKey, bytes: &[u8]) -> Result<(), Memory>
         ensures ok { OnOk result (self.new ≡ record self.old { contexts = maps.insert self.old.contexts key bytes.now }) }
     {
         self.contexts.set(key, bytes)
@@ -96,7 +96,7 @@ impl Emulators {
     }
 
     /// Sets the parts that the emulators are of a guest.
-    pub(crate) fn put_into(&self, guest: &mut Guest) -> Result<(), Memory>
+    pub fn put_into(&self, guest: &mut Guest) -> Result<(), Memory>
         ensures ok { OnOk result (guest.new ≡ with_emulators guest.old self.now) }
     {
         self.put_stores(guest)?;

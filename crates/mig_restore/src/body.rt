@@ -144,8 +144,8 @@ fn skip_body<S: Source>(src: &mut S, len: u32) -> Result<(), Stop<Cause>>
 
 // ---- frames
 
-/// The words that these bytes spell.
-fn words_of(alloc: Global, bytes: &[u8], count: usize) -> Result<Vec<u64>, AllocError>
+/// The words of 8 bytes, low byte first, that these bytes begin with.
+pub fn words_of(alloc: Global, bytes: &[u8], count: usize) -> Result<Vec<u64>, AllocError>
     requires { 8 * count ≤ length bytes.now }
     ensures words { IfOk result (λ v. v.items ≡ words_in count bytes.now) }
     ensures len { IfOk result (λ v. vec_len v ≡ count) }
@@ -247,8 +247,13 @@ fn take_entry<S: Source>(
     }
 }
 
-/// Takes a page for each word that has one.
-fn take_entries<S: Source>(src: &mut S, list: &[u64], guest: &mut Guest) -> Result<(), Stop<Cause>>
+/// Takes the pages of a PAGE_DATA whose words these are, one for each word of a type with data, and sets the frame of each
+/// word as its page comes. A table of a PV guest is judged before it is set. What was set before a fault stays.
+pub fn take_entries<S: Source>(
+    src: &mut S,
+    list: &[u64],
+    guest: &mut Guest,
+) -> Result<(), Stop<Cause>>
     requires good { All (IsGoodWord guest.old.kind guest.old.top) list.now }
     requires few { length list.now ≤ 2 ^ 24 }
     ensures read { Gives (λ _ es. guest.new ≡ record guest.old { frames = put_entries guest.old.kind guest.old.frames es })

@@ -7,7 +7,8 @@
 //! frames and parts (mig_guest), page tables, whole guests and blank forms (mig_pvtables).
 //!
 //! What the layers above rely on: `read_image` answers the guest that the accepted front of the input means, or the
-//! first fault with its place, and has taken just the accepted front, or all up to the end of the faulty part.
+//! first fault with its place, and has taken just the accepted front, or all up to the end of the faulty part;
+//! `words_of` and `take_entries` do so with the words of a batch and with their pages, in a legacy stream too.
 #![tactic(auto)]
 
 mod answer;
@@ -17,6 +18,7 @@ mod law;
 mod read;
 
 pub use answer::StreamAnswer;
+pub use body::{take_entries, words_of};
 pub use law::{
     accepted_is_image, accepted_is_whole, accepted_or_refused, greatest_end_decides,
     image_is_accepted, last_content_decides, last_entry_decides, last_listing_decides, never_both,
