@@ -1,8 +1,10 @@
 -- Each chunk is that of its number.
-use Rattle.std.proofs.Common.{◌≡◌, ℕ, ◌<◌, ◌≤◌, Bool, true, false, List, [], ◌∷◌, nat_eq, nat_lt, nat_le, cond, Some, Ok, refl, ap, ◌∙◌, arith, eqb-true}
+use Rattle.std.proofs.Common.{◌≡◌, ℕ, ◌<◌, ◌≤◌, Bool, true, false, List, [], ◌∷◌, nat_eq, nat_lt, nat_le, cond, Option, Some, Ok, refl, ap, ◌∙◌, arith, eqb-true}
 use Rattle.std.specs.List.{AllByRecursion}
 use Rattle.std.proofs.lemmas.Grind.{common_steps}
-use Rattle.mig_legacy.specs.Chunks.{negative, param_chunks, second_of, IsParamChunk, kind_of, NumbersHaveKinds}
+use Rattle.mig_legacy.specs.Chunks.{negative, param_chunks, second_of, IsParamChunk, IsNumberOf, kind_of, NumbersHaveKinds}
+use Rattle.mig_legacy.specs.Seen.{IsSound}
+use Rattle.mig_legacy.specs.declared.chunk.ChunkKind.{ChunkKind}
 use Rattle.mig_legacy.specs.declared.chunk.ChunkKind.TheVariants.{End, Batch, VcpuMap, Tsc, LastCheckpoint, Toolstack, Param}
 
 not_zero : (n : ℕ) → 0 < n → nat_eq n 0 ≡ false
@@ -43,3 +45,22 @@ numbers_have_kinds Tsc number h = rw h refl
 numbers_have_kinds LastCheckpoint number h = rw h refl
 numbers_have_kinds Toolstack number h = rw h refl
 numbers_have_kinds (Param index) number h = rows_have_kinds param_chunks table_has_kinds index number h
+
+-- ---- what a chunk's number limits
+
+module _ (first second index number : ℕ) (others : Option ℕ) (small : first < 4096) (rest : IsParamChunk others number → index < 4096) where
+  row_case : (b : Bool) → nat_eq first index ≡ b → IsParamChunk (cond b (Some second) others) number → index < 4096
+  row_case true e is = omega (arith, small, eqb-true first index e)
+  row_case false e is = rest is
+
+small_index : (rows : List (ℕ × ℕ)) → AllByRecursion (λ r. r.0 < 4096) rows → (index number : ℕ) → IsParamChunk (second_of index rows) number → index < 4096
+small_index [] all index number is = absurd is
+small_index (r ∷ rows) all index number is = row_case r.0 r.1 index number (second_of index rows) all.0 (small_index rows all.1 index number) (nat_eq r.0 index) refl is
+
+params_small : AllByRecursion (λ (r : ℕ × ℕ). r.0 < 4096) param_chunks
+params_small = (omega arith, (omega arith, (omega arith, (omega arith, (omega arith, (omega arith, (omega arith, (omega arith, (omega arith, (omega arith, (omega arith, tt)))))))))))
+
+pub sound_kind : (kind : ChunkKind) (number : ℕ) → IsNumberOf kind number → IsSound kind
+sound_kind (Batch n) number is = is.2
+sound_kind (Param index) number is = small_index param_chunks params_small index number is
+sound_kind _ number is = tt

@@ -3,3 +3,9 @@ pub mod Batches
 pub mod Toolstack
 pub mod Judged
 pub mod Texts
+pub mod Legacy
+pub mod Judging
+pub mod Stream
+pub mod Spelled
+pub mod Seen
+pub mod Meaning

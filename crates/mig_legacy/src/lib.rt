@@ -1,24 +1,32 @@
-//! Parts of the legacy stream of HVM guests, which Xen's tools wrote up to Xen 4.5 (xg_save_restore.h): so far what its
-//! chunks are, the words of its batches of pages, and the data of the toolstack.
+//! Reads the legacy stream of HVM guests, which Xen's 64-bit tools wrote up to Xen 4.5 (xg_save_restore.h).
 //!
-//! Responsible for: which number a chunk's type has; what is wrong with the words of a batch, and which words of a
-//! PAGE_DATA name the same frames; which bytes are data of a toolstack, where the first field stands that is wrong, and
-//! which pairs of an emulator's store they make. Left to others: what a single word says (mig_pagetypes), what pairs of
-//! texts mean (mig_policy), and the lines of refusals (mig_headers).
+//! Responsible for: judging a legacy stream part by part, in byte order, and the guest that its chunks and its tail mean;
+//! the laws that join the judging with the spelling of the form, and those that say in its words what it means. Of its
+//! pieces: which number a chunk's type has, what is wrong with the words of a batch, which words of a PAGE_DATA name the
+//! same frames, and which pairs the data of a toolstack make. Left to others: what a single word says (mig_pagetypes),
+//! the pages of a batch (mig_restore), what pairs of texts mean (mig_policy), the device model (mig_libxl), contexts
+//! (mig_hvm), and the lines of refusals (mig_headers).
 //!
-//! What the layers above rely on: each number is that of one chunk or has one cause; the first fault of a batch is
-//! told, and the frames of a batch are named again in their order; data of a toolstack are taken exactly where they are
-//! spelled as entries, and then exactly the pairs of these entries are given.
+//! What the layers above rely on: `read_legacy` answers the guest that the accepted front of the input means, or the
+//! first fault with its place, and has taken just the accepted front, or all up to the end of the faulty part.
 #![tactic(auto)]
 
 mod batch;
+mod body;
 mod chunk;
 mod fault;
 mod law;
+mod read;
+mod tail;
 mod text;
 mod toolstack;
 
 pub use batch::{batch_fault, page_data_words};
 pub use chunk::{ChunkKind, chunk_kind};
-pub use law::{numbers_have_kinds, toolstack_is_spelled};
+pub use law::{
+    accepted_is_legacy, accepted_or_refused, device_record_decides, guest_is_hvm,
+    last_entry_decides, last_pair_decides, last_part_decides, last_value_decides,
+    legacy_is_accepted, never_both, numbers_have_kinds, one_front, toolstack_is_spelled,
+};
+pub use read::{LegacyAnswer, read_legacy};
 pub use toolstack::{physmap_pairs, toolstack_fault};

@@ -7,7 +7,7 @@ ghost use Rattle.mig_legacy.specs.Texts.{hexadecimal, physmap_pair, name_pairs, 
 use mig_bytes::{Memory, u32_le, u64_le};
 
 // Puts bytes at the end.
-fn put(text: &mut Vec<u8>, bytes: &[u8]) -> Result<(), Memory>
+pub(crate) fn put(text: &mut Vec<u8>, bytes: &[u8]) -> Result<(), Memory>
     ensures ok { OnOk result (text.new.items ≡ text.old.items ++ bytes.now) }
 {
     if text.extend_from_slice(bytes).is_err() {

@@ -15,8 +15,6 @@ mod host;
 #[cfg(test)]
 mod image;
 #[cfg(test)]
-mod legacy;
-#[cfg(test)]
 mod renaming;
 #[cfg(test)]
 mod tables;

@@ -1,0 +1,152 @@
+-- The tail: how it is read, and that a guest with it is whole.
+use Rattle.std.proofs.Common.{◌≡◌, ℕ, ◌+◌, ◌<◌, ◌≤◌, ◌^◌, List, ◌++◌, length, take, drop, Option, Result, Ok, Err, refl, sym, ap, subst, ◌∙◌, arith, length-append, length-take-le, length-drop}
+use Rattle.std.specs.Prelude.{IsOk, IfOk, IsSome, replicate}
+use Rattle.std.specs.FinMap as maps
+use Rattle.std.proofs.lemmas.Bool.{false≢true}
+use Rattle.std.proofs.lemmas.List.{take_at}
+use Rattle.std.proofs.lemmas.List.Elements.{All-append, All-take, All-drop, All-replicate}
+use Rattle.mig_bytes.specs.Bytes.{AreBytes}
+use Rattle.mig_bytes.specs.Judged.{Judged, ◌>>=◌, part, Gives}
+use Rattle.mig_bytes.specs.Judged.Judged.{Passes, Faulty}
+use Rattle.mig_bytes.specs.declared.part.Stop.{Stop}
+use Rattle.mig_bytes.proofs.Joins.{then_reads}
+use Rattle.mig_headers.specs.Contexts.{scan, cut_at}
+use Rattle.mig_headers.specs.declared.fault.ContextFault.{ContextFault}
+use Rattle.mig_headers.specs.declared.kind.Kind.TheVariants.{Hvm}
+use Rattle.mig_headers.specs.declared.legacy_fault.LegacyCause.{LegacyCause}
+use Rattle.mig_headers.specs.declared.legacy_fault.LegacyCause.TheVariants.{Truncated}
+use Rattle.mig_headers.proofs.Chains.{end_fits}
+use Rattle.mig_headers.proofs.ContextTexts.{scan_cut}
+use Rattle.mig_guest.specs.Formed.{IsCut, width_of}
+use Rattle.mig_guest.specs.Frames.{IsFew}
+use Rattle.mig_guest.specs.Guests.{GuestOf}
+use Rattle.mig_guest.specs.PartKeys.{context_key}
+use Rattle.mig_guest.specs.declared.part_key.PartKey.{PartKey}
+use Rattle.mig_guest.proofs.PartOrder.{part_total}
+use Rattle.mig_pvtables.specs.Blank.{blank_of}
+use Rattle.mig_restore.specs.Mean.{IsBegun}
+use Rattle.mig_restore.proofs.Laws.{complete_faultless}
+use Rattle.mig_libxl.specs.Seen.{IsPlain}
+use Rattle.mig_legacy.specs.Judging.{length_at, said_at, context_fault, cut_context, tail_of, tail_at}
+use Rattle.mig_legacy.specs.Legacy.{LegacyTail, param_key}
+use Rattle.mig_legacy.specs.Seen.{put_tail}
+use Rattle.mig_legacy.proofs.Growth.{part_grows, param_part, context_part}
+use Rattle.mig_legacy.proofs.Growth.IsPlainCode.{param as param_code, context as context_code}
+use Rattle.mig_legacy.proofs.Taking.{behind, part_set}
+
+-- ---- the parts in their order
+
+-- a context behind its length
+abbrev pub context_at : List ℕ → ℕ → List ℕ → Judged LegacyCause LegacyTail
+context_at frames n input = said_at (λ context. context_fault (scan context)) (tail_of frames) n input
+
+-- what follows the frame numbers
+abbrev pub behind_frames : List ℕ × List ℕ → Judged LegacyCause LegacyTail
+behind_frames frames = length_at (2 ^ 27) frames.1 >>= λ len. context_at frames.0 len.0 len.1
+
+pub tail_parts : (n : ℕ) → n ≡ 24 → (i : List ℕ) → tail_at i ≡ (part Truncated n i >>= behind_frames)
+unfolding tail_at
+tail_parts n is i = by (part Truncated 24 i) ∙ ap (λ k. part Truncated k i >>= behind_frames) (sym is)
+  where
+    by : (j : Judged LegacyCause (List ℕ)) → ((j >>= λ bytes. Passes bytes.0 bytes.1) >>= behind_frames) ≡ (j >>= behind_frames)
+    by (Passes bytes rest) = refl
+    by (Faulty c rest) = refl
+
+module _ {V : Type 0} (Q : V → LegacyTail → Type 0) (n : ℕ) (size : n ≡ 24) (frames : List ℕ) (a b : Option (List ℕ)) (told : Gives {X = Unit {0}} (λ _ bytes. bytes ≡ frames) a b (part Truncated n) (Ok tt)) where
+  -- behind the frame numbers
+  pub framed : (d : Option (List ℕ)) (r : Result V (Stop LegacyCause)) → Gives Q b d (λ i. behind_frames (frames, i)) r → Gives Q a d tail_at r
+  framed d r read =
+      then_reads (λ _ bytes. bytes ≡ frames) Q a b d (part Truncated n) tail_at behind_frames tt r (tail_parts n size) told (λ bytes is. subst (λ l. Gives Q b d (λ i. behind_frames (l, i)) r) (sym is) read)
+
+  -- behind the length too
+  pub counted : (c d : Option (List ℕ)) (len : ℕ) (r : Result V (Stop LegacyCause)) → Gives {X = ℕ} (λ len n. n ≡ len) b c (length_at (2 ^ 27)) (Ok len) → Gives Q c d (context_at frames len) r → Gives Q a d tail_at r
+  counted c d len r counts read =
+      framed d r (then_reads (λ len n. n ≡ len) Q b c d (length_at (2 ^ 27)) (λ i. behind_frames (frames, i)) (λ len. context_at frames len.0 len.1) len r (λ i. refl) counts (λ m is. subst (λ k. Gives Q c d (context_at frames k) r) (sym is) read))
+
+-- ---- what is set
+
+module _ (frames context : List ℕ) where
+  -- the context that the scan found
+  cut_there : (P : List ℕ → Type 0) (s : Result ℕ ContextFault) → IsOk s → IfOk s (λ end. P (cut_at context end)) → P (cut_context context s)
+  cut_there P (Ok end) there is = is
+  cut_there P (Err fault) there is = absurd (false≢true there)
+
+  pub tail_set : (g1 g2 g3 g4 h : GuestOf) (k1 k2 k3 : PartKey) → length frames ≡ 24 → IsOk (scan context) → k1 ≡ param_key 5 → k2 ≡ param_key 6 → k3 ≡ param_key 1
+      → g2 ≡ record g1 { parts = maps.insert g1.parts k1 (take 8 frames) } → g3 ≡ record g2 { parts = maps.insert g2.parts k2 (take 8 (drop 8 frames)) } → g4 ≡ record g3 { parts = maps.insert g3.parts k3 (take 8 (drop 16 frames)) }
+      → IfOk (scan context) (λ end. h ≡ record g4 { parts = maps.insert g4.parts context_key (cut_at context end) }) → h ≡ put_tail g1 (tail_of frames context)
+  tail_set g1 g2 g3 g4 h k1 k2 k3 len there is1 is2 is3 now1 now2 now3 now4 =
+      let set1 = part_set g1 g2 k1 (param_key 5) _ _ is1 refl now1 in
+      let set2 = part_set g2 g3 k2 (param_key 6) _ _ is2 refl now2 ∙ ap (λ (g : GuestOf). record g { parts = maps.insert g.parts (param_key 6) (take 8 (drop 8 frames)) }) set1 in
+      let set3 = part_set g3 g4 k3 (param_key 1) _ (drop 16 frames) is3 (behind 16 24 frames len) now3 ∙ ap (λ (g : GuestOf). record g { parts = maps.insert g.parts (param_key 1) (drop 16 frames) }) set2 in
+      cut_there (λ l. h ≡ record g4 { parts = maps.insert g4.parts context_key l }) (scan context) there now4 ∙ ap (λ (g : GuestOf). record g { parts = maps.insert g.parts context_key (cut_context context (scan context)) }) set3
+
+-- ---- the guest with its tail
+
+-- the context, cut behind its end
+cut_is : (body : List ℕ) (o : ℕ) → scan body ≡ Ok o → length body ≤ 2 ^ 27 → (length (cut_at body o) ≤ 2 ^ 27) × IsCut (cut_at body o)
+cut_is body o is short =
+    let fits : o + 8 ≤ length body = end_fits body o is in
+    let front : length (take o body) ≡ o = length-take-le o body (omega (arith, fits)) in
+    let size : length (take o body ++ replicate 8 0) ≡ o + 8 = length-append (take o body) (replicate 8 0) ∙ ap (λ n. n + 8) front in
+    (omega (arith, size, fits, short), (o, scan_cut body o is, ap (λ x. x ++ replicate 8 0) (take_at (take o body) (replicate 8 0) o front)))
+
+cut_bytes : (body : List ℕ) (o : ℕ) → AreBytes body → AreBytes (cut_at body o)
+cut_bytes body o are = All-append (λ b. b < 256) (take o body) (replicate 8 0) (All-take (λ b. b < 256) o body are) (All-replicate (λ b. b < 256) 8 0 (omega arith))
+
+module _ (g : GuestOf) (frames context : List ℕ) (end : ℕ) (hvm : g.kind ≡ Hvm) (len : length frames ≡ 24) (are : AreBytes frames) (are_too : AreBytes context) (found : scan context ≡ Ok end) (short : length context ≤ 2 ^ 27) where
+  abbrev b1 : List ℕ
+  b1 = take 8 frames
+
+  abbrev b2 : List ℕ
+  b2 = take 8 (drop 8 frames)
+
+  abbrev b3 : List ℕ
+  b3 = drop 16 frames
+
+  abbrev b4 : List ℕ
+  b4 = cut_at context end
+
+  abbrev g1 : GuestOf
+  g1 = record g { parts = maps.insert g.parts (param_key 5) b1 }
+
+  abbrev g2 : GuestOf
+  g2 = record g { parts = maps.insert g1.parts (param_key 6) b2 }
+
+  abbrev g3 : GuestOf
+  g3 = record g { parts = maps.insert g2.parts (param_key 1) b3 }
+
+  abbrev g4 : GuestOf
+  g4 = record g { parts = maps.insert g3.parts context_key b4 }
+
+  cut : (length b4 ≤ 2 ^ 27) × IsCut b4
+  cut = cut_is context end found short
+
+  len1 : length b1 ≡ 8
+  len1 = length-take-le 8 frames (omega (arith, len))
+
+  len2 : length b2 ≡ 8
+  len2 = length-take-le 8 (drop 8 frames) (omega (arith, len, length-drop 8 frames))
+
+  len3 : length b3 ≡ 8
+  len3 = omega (arith, len, length-drop 16 frames)
+
+  begun4 : IsBegun g → IsBegun g4
+  begun4 begun =
+      let width = width_of g in
+      let one = (part_grows g g1 (param_key 5) b1 param_code (param_part g.kind width 5 b1 hvm (omega arith) len1) (All-take (λ b. b < 256) 8 frames are) refl).kept begun in
+      let two = (part_grows g1 g2 (param_key 6) b2 param_code (param_part g.kind width 6 b2 hvm (omega arith) len2) (All-take (λ b. b < 256) 8 (drop 8 frames) (All-drop (λ b. b < 256) 8 frames are)) refl).kept one in
+      let three = (part_grows g2 g3 (param_key 1) b3 param_code (param_part g.kind width 1 b3 hvm (omega arith) len3) (All-drop (λ b. b < 256) 16 frames are) refl).kept two in
+      (part_grows g3 g4 context_key b4 context_code (context_part g.kind width b4 hvm cut.0 cut.1) (cut_bytes context end are_too) refl).kept three
+
+  is_tail : g4 ≡ put_tail g (tail_of frames context)
+  is_tail = ap (λ s. record g { parts = maps.insert g3.parts context_key (cut_context context s) }) (sym found)
+
+  pub tail_plain : (h : GuestOf) → IsBegun g → IsFew g.frames → h ≡ put_tail g (tail_of frames context) → IsPlain h
+  tail_plain h begun few now =
+      let all = begun4 begun in
+      subst IsPlain (is_tail ∙ sym now) (record {
+        whole = record { formed = all.formed; faultless = complete_faultless Hvm g4 hvm (subst (λ (o : Option (List ℕ)). IsSome o) (sym (maps.get-insert part_total g3.parts context_key b4 context_key)) refl, few) };
+        blank = ap (λ k. blank_of k g4) hvm;
+        bytes = all.bytes;
+        plain = all.plain;
+      })

@@ -1,0 +1,126 @@
+-- The chunks and the tail of a legacy stream, and the guest that they mean: that of a libxl stream whose records say the
+-- same (Xen's xg_save_restore.h; libxc migration stream; libxl migration stream).
+use Rattle.std.specs.Prelude.{ℕ, Bool, true, false, List, [], ◌∷◌, ◌++◌, Option, Some, None, ◌==◌}
+use Rattle.std.specs.List.{flat_map, list_any}
+use Rattle.mig_headers.specs.Pairs.{Pair}
+use Rattle.mig_headers.specs.declared.kind.Kind.TheVariants.{Hvm}
+use Rattle.mig_guest.specs.Guests.{GuestOf}
+use Rattle.mig_guest.specs.PartKeys.{context_key}
+use Rattle.mig_guest.specs.declared.part_code.PartCode.TheVariants.{Tsc, HvmParam, HvmContext}
+use Rattle.mig_guest.specs.declared.part_key.PartKey.{PartKey}
+use Rattle.mig_guest.specs.Parts.{Part}
+use Rattle.mig_restore.specs.Mean.{mean}
+use Rattle.mig_restore.specs.Record.{FrameEntry, StreamRecord}
+use Rattle.mig_restore.specs.Record.Content.{Frames as SentFrames, Sets}
+use Rattle.mig_libxl.specs.Content.{LibxlRecord}
+use Rattle.mig_libxl.specs.Content.Content.{Pairs as StorePairs, Context}
+use Rattle.mig_libxl.specs.Emulators.{EmulatorsOf, emulators_of, with_emulators}
+use Rattle.mig_legacy.specs.declared.chunk.ChunkKind.{ChunkKind}
+use Rattle.mig_legacy.specs.declared.chunk.ChunkKind.TheVariants as kinds
+
+-- what a chunk says: nothing; the frames of a batch; the value of an HVM parameter; how time passes; or pairs of the
+-- device model's store
+pub data Content : Type 0 where
+  Nothing : Content
+  Frames : List FrameEntry → Content
+  Value : ℕ → List ℕ → Content
+  Clock : List ℕ → Content
+  Pairs : List Pair → Content
+
+pub record LegacyChunk : Type 0 where
+  pub kind : ChunkKind
+  pub content : Content
+
+-- what stands behind the chunks: the frames of the I/O requests, of the buffered ones and of the store, and the context
+pub record LegacyTail : Type 0 where
+  pub requests : List ℕ
+  pub buffered : List ℕ
+  pub store : List ℕ
+  pub context : List ℕ
+
+-- a whole stream; the device model's data stand in it or not
+pub record LegacyStream : Type 0 where
+  pub chunks : List LegacyChunk
+  pub tail : LegacyTail
+  pub device : Option (List ℕ)
+
+-- ---- what stands among chunks
+
+abbrev pub is_end : ChunkKind → Bool
+is_end kinds.End = true
+is_end _ = false
+
+abbrev pub is_value_of : ℕ → ChunkKind → Bool
+is_value_of index (kinds.Param i) = i == index
+is_value_of index _ = false
+
+-- the last chunk is there
+abbrev pub is_ended : List LegacyChunk → Bool
+is_ended chunks = list_any (λ c. is_end c.kind) chunks
+
+-- some chunk has the value of this parameter
+abbrev pub has_value : ℕ → List LegacyChunk → Bool
+has_value index chunks = list_any (λ c. is_value_of index c.kind) chunks
+
+-- ---- the records that say the same
+
+abbrev pub param_key : ℕ → PartKey
+param_key index = record { code = 10; key1 = index; key2 = 0 }
+
+abbrev pub tsc_key : PartKey
+tsc_key = record { code = 8; key1 = 0; key2 = 0 }
+
+-- the store and the context of the device model, which is the emulator of id 0 and index 0
+abbrev pub store_key : PartKey
+store_key = record { code = 258; key1 = 0; key2 = 0 }
+
+abbrev pub device_key : PartKey
+device_key = record { code = 259; key1 = 0; key2 = 0 }
+
+-- HVM_PARAMS
+abbrev pub params_record : List Part → StreamRecord
+params_record values = record { type = 10; content = Sets HvmParam values }
+
+-- of an image: PAGE_DATA, HVM_PARAMS, X86_TSC_INFO
+abbrev pub records_in : Content → List StreamRecord
+records_in Nothing = []
+records_in (Frames es) = record { type = 1; content = SentFrames es } ∷ []
+records_in (Value index value) = params_record ((param_key index, value) ∷ []) ∷ []
+records_in (Clock bytes) = record { type = 8; content = Sets Tsc ((tsc_key, bytes) ∷ []) } ∷ []
+records_in (Pairs ps) = []
+
+-- HVM_PARAMS and HVM_CONTEXT
+abbrev pub tail_records : LegacyTail → List StreamRecord
+tail_records t =
+    params_record ((param_key 5, t.requests) ∷ (param_key 6, t.buffered) ∷ (param_key 1, t.store) ∷ [])
+    ∷ record { type = 9; content = Sets HvmContext ((context_key, t.context) ∷ []) }
+    ∷ []
+
+-- of a libxl stream: EMULATOR_XENSTORE_DATA
+abbrev pub pairs_in : Content → List LibxlRecord
+pairs_in (Pairs ps) = record { type = 2; content = StorePairs store_key ps } ∷ []
+pairs_in _ = []
+
+-- EMULATOR_CONTEXT
+abbrev pub device_records : Option (List ℕ) → List LibxlRecord
+device_records None = []
+device_records (Some bytes) = record { type = 3; content = Context device_key bytes } ∷ []
+
+abbrev pub image_records : List LegacyChunk → List StreamRecord
+image_records chunks = flat_map (λ c. records_in c.content) chunks
+
+abbrev pub store_records : List LegacyChunk → List LibxlRecord
+store_records chunks = flat_map (λ c. pairs_in c.content) chunks
+
+-- ---- the meaning
+
+-- the guest without emulators
+abbrev pub guest_without : LegacyStream → GuestOf
+guest_without s = mean Hvm (image_records s.chunks ++ tail_records s.tail)
+
+-- the device model
+abbrev pub device_model : LegacyStream → EmulatorsOf
+device_model s = emulators_of (store_records s.chunks ++ device_records s.device)
+
+unfoldable pub mean_legacy : LegacyStream → GuestOf
+mean_legacy s = with_emulators (guest_without s) (device_model s)

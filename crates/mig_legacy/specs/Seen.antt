@@ -1,0 +1,67 @@
+-- What the reader of a legacy stream keeps of the chunks before.
+use Rattle.std.specs.Prelude.{◌≡◌, ◌≤◌, ◌<◌, ℕ, ⊤, List, length, fold, Option}
+use Rattle.mig_bytes.specs.declared.part.Stop.{Stop}
+use Rattle.mig_bytes.specs.declared.part.Stop.TheVariants.{Refused, ReadFault, Memory}
+use Rattle.mig_headers.specs.declared.fault.Cause.{Cause}
+use Rattle.mig_headers.specs.declared.kind.Kind.TheVariants.{Hvm}
+use Rattle.mig_headers.specs.declared.legacy_fault.LegacyCause.{LegacyCause}
+use Rattle.mig_headers.specs.declared.legacy_fault.LegacyCause.TheVariants.{Truncated}
+use Rattle.mig_guest.specs.Guests.{GuestOf}
+use Rattle.mig_restore.specs.Mean.{sent, put_record}
+use Rattle.mig_restore.specs.Mean.{IsBegun as IsGuestBegun}
+use Rattle.mig_libxl.specs.Emulators.{EmulatorsOf, put_content, emulators_of}
+use Rattle.mig_libxl.specs.Seen.{AreEmulators}
+use Rattle.mig_legacy.specs.Legacy.{Content, LegacyChunk, LegacyTail, has_value, records_in, pairs_in, tail_records, device_records, image_records, store_records}
+use Rattle.mig_legacy.specs.declared.chunk.ChunkKind.{ChunkKind}
+use Rattle.mig_legacy.specs.declared.chunk.ChunkKind.TheVariants.{Batch, Param}
+use Rattle.mig_legacy.specs.declared.read.Seen.{Seen}
+
+-- the reader has these chunks behind it
+pub record IsSeen (seen : Seen) (chunks : List LegacyChunk) : Type 0 where
+  pub count : seen.chunks ≡ length chunks
+  pub guest : seen.guest ≡ sent Hvm (image_records chunks)
+  pub emulators : seen.emulators ≡ emulators_of (store_records chunks)
+  pub requests : seen.requests ≡ has_value 32 chunks
+  pub buffered : seen.buffered ≡ has_value 33 chunks
+
+-- ---- what reading keeps, whatever chunks come
+
+pub record IsBegun (seen : Seen) : Type 0 where
+  pub hvm : seen.guest.kind ≡ Hvm
+  pub guest : IsGuestBegun seen.guest
+  pub emulators : AreEmulators seen.emulators
+
+-- what the type of a chunk limits
+abbrev pub IsSound : ChunkKind → Type 0
+IsSound (Batch n) = n ≤ 1024
+IsSound (Param index) = index < 4096
+IsSound _ = ⊤
+
+-- the guest, and the emulators, once a chunk has said this
+abbrev pub put_in_guest : GuestOf → Content → GuestOf
+put_in_guest g c = fold put_record g (records_in c)
+
+abbrev pub put_in_emulators : EmulatorsOf → Content → EmulatorsOf
+put_in_emulators e c = fold (λ e r. put_content e r.content) e (pairs_in c)
+
+-- the guest once the tail has said this
+abbrev pub put_tail : GuestOf → LegacyTail → GuestOf
+put_tail g t = fold put_record g (tail_records t)
+
+-- the emulators once the device model's record has said this
+abbrev pub put_device : EmulatorsOf → Option (List ℕ) → EmulatorsOf
+put_device e device = fold (λ e r. put_content e r.content) e (device_records device)
+
+-- a stop of an image's part, where the only cause is that it isn't whole
+abbrev pub cut_short : Stop Cause → Stop LegacyCause
+cut_short (Refused cause) = Refused Truncated
+cut_short ReadFault = ReadFault
+cut_short Memory = Memory
+
+-- what the content of a chunk makes of what was kept
+pub record Takes (old new : Seen) (c : Content) : Type 0 where
+  pub guest : new.guest ≡ put_in_guest old.guest c
+  pub emulators : new.emulators ≡ put_in_emulators old.emulators c
+  pub chunks : new.chunks ≡ old.chunks
+  pub requests : new.requests ≡ old.requests
+  pub buffered : new.buffered ≡ old.buffered

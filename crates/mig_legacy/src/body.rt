@@ -1,0 +1,241 @@
+ghost use Rattle.std.specs.Prelude.{◌≡◌, ◌≤◌, ◌<◌, ◌^◌, ℕ, List, length, None, IfOk, OnOk, IsErrOf};
+ghost use Rattle.mig_bytes.specs.Bytes.{AreBytes};
+ghost use Rattle.mig_bytes.specs.Faults.{RisesOnReadFault};
+ghost use Rattle.mig_bytes.specs.Judged.{Gives, stop_at};
+ghost use Rattle.mig_bytes.specs.declared.part.Stop.TheVariants.{Memory as NoMemory};
+ghost use Rattle.mig_headers.specs.declared.kind.Kind.TheVariants.{Hvm};
+ghost use Rattle.mig_restore.specs.Mean.{Grows};
+ghost use Rattle.mig_libxl.specs.Seen.{AreEmulators};
+ghost use Rattle.mig_legacy.specs.Batches.{fault_of_batch};
+ghost use Rattle.mig_legacy.specs.Judging.{length_at, words_at, batch_at, clock_of as clock_in, vcpus_at, clock_at, value_at, toolstack_at};
+ghost use Rattle.mig_legacy.specs.Legacy.{Content, param_key as key_of_param};
+ghost use Rattle.mig_legacy.specs.Legacy.Content.{Nothing};
+ghost use Rattle.mig_legacy.specs.Seen.{cut_short, put_in_guest, put_in_emulators};
+
+use crate::batch::{batch_fault, page_data_words};
+use crate::text::put;
+use crate::toolstack::{physmap_pairs, toolstack_fault};
+use mig_bytes::{Memory, ReadFailed, Source, Stop, skip, take_long, take_part, u32_le};
+use mig_guest::{Guest, PartKey};
+use mig_headers::{Cause, LegacyCause};
+use mig_libxl::Emulators;
+use mig_policy::PairsAnswer;
+use mig_restore::{take_entries, words_of};
+use std::alloc::Global;
+
+/// The most bytes of a body.
+pub(crate) const MAX_BODY: u32 = 1 << 27;
+
+/// Ids of vCPUs are below this.
+const VCPUS: u32 = 4096;
+
+/// The key of the part that an X86_TSC_INFO sets.
+const TSC: PartKey = PartKey {
+    code: 8,
+    key1: 0,
+    key2: 0,
+};
+
+/// The store of the device model.
+const STORE: PartKey = PartKey {
+    code: 258,
+    key1: 0,
+    key2: 0,
+};
+
+/// The key of the part that is the value of this HVM parameter.
+pub(crate) fn param_key(index: u32) -> PartKey
+    ensures { result ≡ key_of_param index }
+{
+    PartKey {
+        code: 10,
+        key1: index,
+        key2: 0,
+    }
+}
+
+// Does nothing. That bytes are below 256 is what makes a guest that they are set in one of bytes.
+pub(crate) fn are_bytes(bytes: &[u8])
+    ensures { AreBytes bytes.now }
+{}
+
+/// Takes a length, which is at most so much.
+pub(crate) fn take_length<S: Source>(src: &mut S, most: u32) -> Result<u32, Stop<LegacyCause>>
+    ensures read { Gives (λ len n. n ≡ len) (S.left src.old) (S.left src.new) (length_at most) result }
+    ensures most { IfOk result (λ len. len ≤ most) }
+    ensures faults { RisesOnReadFault (S.faults src.old) (S.faults src.new) result }
+    ensures takes_no_memory { ¬ IsErrOf result NoMemory }
+{
+    let mut bytes = [0; 4];
+    take_part(src, &mut bytes, LegacyCause::Truncated)?;
+    let len = u32_le(&bytes, 0);
+    if len > most {
+        return Err(Stop::Refused(LegacyCause::BodyTooLong(u64::from(len))));
+    }
+    Ok(len)
+}
+
+// ---- frames
+
+// The stop where the page of a word isn't whole, which is all that can be wrong with it.
+fn truncated(stop: Stop<Cause>) -> Stop<LegacyCause>
+    ensures { result ≡ cut_short stop }
+{
+    match stop {
+        Stop::Refused(_) => Stop::Refused(LegacyCause::Truncated),
+        Stop::ReadFault => Stop::ReadFault,
+        Stop::Memory => Stop::Memory,
+    }
+}
+
+// Takes so many words.
+fn take_words<S: Source>(
+    alloc: Global,
+    src: &mut S,
+    count: u32,
+) -> Result<Vec<u64>, Stop<LegacyCause>>
+    requires { count ≤ 1024 }
+    ensures read { Gives (λ list ws. ws ≡ list.items) (S.left src.old) (S.left src.new) (words_at count) result }
+    ensures good { IfOk result (λ list. fault_of_batch list.items ≡ None) }
+    ensures len { IfOk result (λ list. length list.items ≡ count) }
+    ensures faults { RisesOnReadFault (S.faults src.old) (S.faults src.new) result }
+{
+    let bytes = take_long(alloc, src, 8 * count, LegacyCause::Truncated)?;
+    let Ok(words) = words_of(alloc, &bytes, count as usize) else {
+        return Err(Stop::Memory);
+    };
+    match batch_fault(&words) {
+        Some(cause) => Err(Stop::Refused(cause)),
+        None => Ok(words),
+    }
+}
+
+/// Takes the words of a batch and their pages, and sets each frame as its page comes.
+pub(crate) fn take_batch<S: Source>(
+    alloc: Global,
+    src: &mut S,
+    count: u32,
+    guest: &mut Guest,
+) -> Result<(), Stop<LegacyCause>>
+    requires few { count ≤ 1024 }
+    requires hvm { guest.old.kind ≡ Hvm }
+    requires top { guest.old.top ≡ 0 }
+    ensures read { Gives (λ _ c. guest.new ≡ put_in_guest guest.old c) (S.left src.old) (S.left src.new) (batch_at count) result }
+    ensures grown { OnOk result (Grows guest.old guest.new) }
+    ensures faults { RisesOnReadFault (S.faults src.old) (S.faults src.new) result }
+{
+    let words = take_words(alloc, src, count)?;
+    let Ok(list) = page_data_words(alloc, &words) else {
+        return Err(Stop::Memory);
+    };
+    match take_entries(src, &list, guest) {
+        Ok(()) => Ok(()),
+        Err(stop) => Err(truncated(stop)),
+    }
+}
+
+// ---- other bodies
+
+/// Takes which vCPUs there are, of which nothing is kept.
+pub(crate) fn take_vcpus<S: Source>(src: &mut S) -> Result<(), Stop<LegacyCause>>
+    ensures read { Gives (λ _ c. c ≡ Nothing) (S.left src.old) (S.left src.new) vcpus_at result }
+    ensures faults { RisesOnReadFault (S.faults src.old) (S.faults src.new) result }
+    ensures takes_no_memory { ¬ IsErrOf result NoMemory }
+{
+    let mut bytes = [0; 4];
+    take_part(src, &mut bytes, LegacyCause::Truncated)?;
+    let max = u32_le(&bytes, 0);
+    if max >= VCPUS {
+        return Err(Stop::Refused(LegacyCause::BadVcpuMax(u64::from(max))));
+    }
+    match skip(src, u64::from(8 * (max / 64 + 1))) {
+        Ok(true) => Ok(()),
+        Ok(false) => Err(Stop::Refused(LegacyCause::Truncated)),
+        Err(ReadFailed) => Err(Stop::ReadFault),
+    }
+}
+
+// The bytes of an X86_TSC_INFO that say the same.
+fn clock_of(alloc: Global, bytes: &[u8; 20]) -> Result<Vec<u8>, Memory>
+    ensures { IfOk result (λ clock. clock.items ≡ clock_in bytes.now) }
+{
+    let Ok(mut clock) = Vec::with_capacity(alloc, 20) else {
+        return Err(Memory);
+    };
+    put(&mut clock, &bytes[..4])?;
+    put(&mut clock, &bytes[12..16])?;
+    put(&mut clock, &bytes[4..12])?;
+    put(&mut clock, &bytes[16..])?;
+    Ok(clock)
+}
+
+/// Takes how time passes in the guest.
+pub(crate) fn take_clock<S: Source>(
+    alloc: Global,
+    src: &mut S,
+    guest: &mut Guest,
+) -> Result<(), Stop<LegacyCause>>
+    requires hvm { guest.old.kind ≡ Hvm }
+    ensures read { Gives (λ _ c. guest.new ≡ put_in_guest guest.old c) (S.left src.old) (S.left src.new) clock_at result }
+    ensures grown { OnOk result (Grows guest.old guest.new) }
+    ensures faults { RisesOnReadFault (S.faults src.old) (S.faults src.new) result }
+{
+    let mut bytes = [0; 20];
+    take_part(src, &mut bytes, LegacyCause::Truncated)?;
+    let Ok(clock) = clock_of(alloc, &bytes) else {
+        return Err(Stop::Memory);
+    };
+    are_bytes(&clock);
+    match guest.set_part(TSC, &clock) {
+        Ok(()) => Ok(()),
+        Err(_) => Err(Stop::Memory),
+    }
+}
+
+/// Takes the value of the HVM parameter of this index.
+pub(crate) fn take_value<S: Source>(
+    src: &mut S,
+    index: u32,
+    guest: &mut Guest,
+) -> Result<(), Stop<LegacyCause>>
+    requires small { index < 4096 }
+    requires hvm { guest.old.kind ≡ Hvm }
+    ensures read { Gives (λ _ c. guest.new ≡ put_in_guest guest.old c) (S.left src.old) (S.left src.new) (value_at index) result }
+    ensures grown { OnOk result (Grows guest.old guest.new) }
+    ensures faults { RisesOnReadFault (S.faults src.old) (S.faults src.new) result }
+{
+    let mut bytes = [0; 12];
+    take_part(src, &mut bytes, LegacyCause::Truncated)?;
+    are_bytes(&bytes);
+    match guest.set_part(param_key(index), &bytes[4..]) {
+        Ok(()) => Ok(()),
+        Err(_) => Err(Stop::Memory),
+    }
+}
+
+/// Takes the data of the toolstack, and adds their pairs to the device model's store.
+pub(crate) fn take_toolstack<S: Source>(
+    alloc: Global,
+    src: &mut S,
+    emulators: &mut Emulators,
+) -> Result<(), Stop<LegacyCause>>
+    requires begun { AreEmulators emulators.old }
+    ensures read { Gives (λ _ c. emulators.new ≡ put_in_emulators emulators.old c) (S.left src.old) (S.left src.new) (toolstack_at emulators.old) result }
+    ensures begun { OnOk result (AreEmulators emulators.new) }
+    ensures faults { RisesOnReadFault (S.faults src.old) (S.faults src.new) result }
+{
+    let len = take_length(src, MAX_BODY)?;
+    let body = take_long(alloc, src, len, LegacyCause::Truncated)?;
+    if let Some(offset) = toolstack_fault(&body) {
+        return Err(Stop::Refused(LegacyCause::BadToolstack(offset)));
+    }
+    let Ok(pairs) = physmap_pairs(alloc, &body) else {
+        return Err(Stop::Memory);
+    };
+    are_bytes(&pairs);
+    match emulators.add_pairs(STORE, &pairs) {
+        Ok(()) => Ok(()),
+        Err(PairsAnswer::TooMany) => Err(Stop::Refused(LegacyCause::TooManyPairs)),
+        Err(PairsAnswer::Memory) => Err(Stop::Memory),
+    }
+}

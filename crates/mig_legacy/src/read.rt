@@ -1,0 +1,305 @@
+ghost use Rattle.std.specs.Prelude.{◌≡◌, ◌≤◌, ◌+◌, ◌*◌, ◌||◌, ◌<◌, ◌^◌, ◌∷◌, [], ◌++◌, ⊤, ℕ, List, true, IfNone, IfOk, OnOk, IsErrOf, length, Some, None};
+ghost use Rattle.std.specs.Option.{option_copied};
+ghost use Rattle.std.specs.FinMap as maps;
+ghost use Rattle.mig_bytes.specs.Bytes.{AreBytes};
+ghost use Rattle.mig_bytes.specs.Faults.{RisesOnReadFault};
+ghost use Rattle.mig_bytes.specs.Judged.{Gives};
+ghost use Rattle.mig_bytes.specs.declared.part.Stop.TheVariants.{Memory as NoMemory};
+ghost use Rattle.mig_headers.specs.declared.kind.Kind.TheVariants.{Hvm};
+ghost use Rattle.mig_guest.specs.Frames.{IsFew};
+ghost use Rattle.mig_pagetypes.specs.Limits.{most_frames};
+ghost use Rattle.mig_pvtables.specs.Blank.{blank, IsOfBytes};
+ghost use Rattle.mig_pvtables.specs.Whole.{IsWhole};
+ghost use Rattle.mig_libxl.specs.Emulators.{with_emulators};
+ghost use Rattle.mig_libxl.specs.Seen.{IsPlain, AreEmulators};
+ghost use Rattle.mig_legacy.specs.declared.chunk.ChunkKind.TheVariants as kinds;
+ghost use Rattle.mig_legacy.specs.Judging.{most_chunks, fault_of_kind, fault_of_start, kind_at, content_at, chunk_at, start_at, tail_at, device_at};
+ghost use Rattle.mig_legacy.specs.Legacy.{LegacyChunk, device_records, is_end, is_value_of, mean_legacy};
+ghost use Rattle.mig_legacy.specs.Seen.{IsSeen, IsBegun, IsSound, Takes, put_tail};
+ghost use Rattle.mig_legacy.specs.Stream.{chunks_at, legacy_at, stop_of, or_stop, ReadsLegacy};
+
+use crate::body::{take_batch, take_clock, take_toolstack, take_value, take_vcpus};
+use crate::chunk::{ChunkKind, chunk_kind};
+use crate::tail::{take_device, take_tail};
+use mig_bytes::{Memory, Source, Stop, take_part, u32_le};
+use mig_guest::Guest;
+use mig_headers::{ImageHeader, Kind, LegacyCause, LegacyPlace, LibxlHeader};
+use mig_libxl::Emulators;
+use std::alloc::Global;
+
+/// The most chunks of a stream.
+const MAX_CHUNKS: u32 = 1 << 28;
+
+/// The most frames of a guest.
+const MAX_FRAMES: u64 = 1 << 24;
+
+/// Why a legacy stream isn't read: it is refused at a place for a cause, a read failed, or there is no memory.
+#[derive(Clone, Copy, Debug, PartialEq, Eq)]
+pub enum LegacyAnswer {
+    Refused(LegacyPlace, LegacyCause),
+    ReadFault,
+    Memory,
+}
+
+// The answer for what stopped the reading.
+fn answer(stop: Stop<(LegacyPlace, LegacyCause)>) -> LegacyAnswer
+    ensures { stop_of result ≡ stop }
+{
+    match stop {
+        Stop::Refused((place, cause)) => LegacyAnswer::Refused(place, cause),
+        Stop::ReadFault => LegacyAnswer::ReadFault,
+        Stop::Memory => LegacyAnswer::Memory,
+    }
+}
+
+// What is wrong with the first 8 bytes.
+fn start_fault(width: &[u8; 8]) -> Option<LegacyCause>
+    ensures { result ≡ fault_of_start width.now }
+{
+    if ImageHeader::marker_fault(width).is_none() || LibxlHeader::is_ident(width) {
+        return Some(LegacyCause::Modern);
+    }
+    if u32_le(width, 4) != 0 {
+        return Some(LegacyCause::Tools32);
+    }
+    None
+}
+
+// Takes the width of the P2M, of which nothing is kept.
+fn take_start<S: Source>(src: &mut S) -> Result<(), Stop<LegacyCause>>
+    ensures read { Gives (λ _ _. ⊤) (S.left src.old) (S.left src.new) start_at result }
+    ensures faults { RisesOnReadFault (S.faults src.old) (S.faults src.new) result }
+    ensures takes_no_memory { ¬ IsErrOf result NoMemory }
+{
+    let mut width = [0; 8];
+    take_part(src, &mut width, LegacyCause::Truncated)?;
+    match start_fault(&width) {
+        Some(cause) => Err(Stop::Refused(cause)),
+        None => Ok(()),
+    }
+}
+
+// Whether a chunk that is this is the last.
+fn ends_chunks(kind: ChunkKind) -> bool
+    ensures { result ≡ is_end kind }
+{
+    match kind {
+        ChunkKind::End => true,
+        _ => false,
+    }
+}
+
+/// What the reader keeps of the chunks before.
+#[derive(Drop)]
+pub(crate) struct Seen {
+    pub(crate) guest: Guest,
+    pub(crate) emulators: Emulators,
+    pub(crate) chunks: u32,
+    /// Whether the frame of I/O requests was told, and that of buffered ones.
+    pub(crate) requests: bool,
+    pub(crate) buffered: bool,
+}
+
+impl Seen {
+    // Before the first chunk.
+    fn new(alloc: Global) -> Seen
+        ensures seen { IsSeen result [] }
+        ensures begun { IsBegun result }
+    {
+        Seen {
+            guest: Guest::new(alloc, Kind::Hvm),
+            emulators: Emulators::new(alloc),
+            chunks: 0,
+            requests: false,
+            buffered: false,
+        }
+    }
+
+    // What is wrong with a chunk that is this, behind those before.
+    #[tactic(auto, unfolding(crate::specs::Judging::fault_of_kind))]
+    fn kind_fault(&self, kind: ChunkKind) -> Option<LegacyCause>
+        ensures fault { (chunks : List LegacyChunk) → IsSeen self.now chunks → result ≡ fault_of_kind chunks kind }
+        ensures room { IfNone result (self.now.chunks < most_chunks) }
+        ensures few { IfNone result (is_end kind ≡ true → maps.len self.now.guest.frames ≤ most_frames) }
+    {
+        let ends = ends_chunks(kind);
+        if ends && self.requests != self.buffered {
+            return Some(LegacyCause::UnpairedIoreq);
+        }
+        if self.chunks >= MAX_CHUNKS {
+            return Some(LegacyCause::TooManyChunks);
+        }
+        if ends && self.guest.frames() > MAX_FRAMES {
+            return Some(LegacyCause::TooManyFrames);
+        }
+        None
+    }
+
+    // Takes the type of the next chunk.
+    #[tactic(auto, using(crate::proofs::ChunkNumbers::sound_kind))]
+    fn take_kind<S: Source>(&self, src: &mut S) -> Result<ChunkKind, Stop<LegacyCause>>
+        ensures read { (chunks : List LegacyChunk) → IsSeen self.now chunks → Gives (λ kind k. k ≡ kind) (S.left src.old) (S.left src.new) (kind_at chunks) result }
+        ensures sound { IfOk result (λ kind. IsSound kind) }
+        ensures room { OnOk result (self.now.chunks < most_chunks) }
+        ensures few { IfOk result (λ kind. is_end kind ≡ true → maps.len self.now.guest.frames ≤ most_frames) }
+        ensures faults { RisesOnReadFault (S.faults src.old) (S.faults src.new) result }
+        ensures takes_no_memory { ¬ IsErrOf result NoMemory }
+    {
+        let mut number = [0; 4];
+        take_part(src, &mut number, LegacyCause::Truncated)?;
+        let kind = match chunk_kind(u32_le(&number, 0)) {
+            Ok(kind) => kind,
+            Err(cause) => return Err(Stop::Refused(cause)),
+        };
+        match self.kind_fault(kind) {
+            Some(cause) => Err(Stop::Refused(cause)),
+            None => Ok(kind),
+        }
+    }
+
+    // Takes the body of a chunk that is this, and keeps what it says.
+    fn take_content<S: Source>(
+        &mut self,
+        alloc: Global,
+        src: &mut S,
+        kind: ChunkKind,
+    ) -> Result<(), Stop<LegacyCause>>
+        requires begun { IsBegun self.old }
+        requires sound { IsSound kind }
+        ensures read { (chunks : List LegacyChunk) → IsSeen self.old chunks → Gives (λ _ c. Takes self.old self.new c) (S.left src.old) (S.left src.new) (content_at chunks kind) result }
+        ensures begun { OnOk result (IsBegun self.new) }
+        ensures chunks { OnOk result (self.new.chunks ≡ self.old.chunks) }
+        ensures end { OnOk result (is_end kind ≡ true → self.new ≡ self.old) }
+        ensures faults { RisesOnReadFault (S.faults src.old) (S.faults src.new) result }
+    {
+        match kind {
+            ChunkKind::Batch(count) => take_batch(alloc, src, count, &mut self.guest),
+            ChunkKind::VcpuMap => take_vcpus(src),
+            ChunkKind::Tsc => take_clock(alloc, src, &mut self.guest),
+            ChunkKind::Toolstack => take_toolstack(alloc, src, &mut self.emulators),
+            ChunkKind::Param(index) => take_value(src, index, &mut self.guest),
+            ChunkKind::End | ChunkKind::LastCheckpoint => Ok(()),
+        }
+    }
+
+    // Counts a chunk that was taken.
+    fn count(&mut self, kind: ChunkKind)
+        requires room { self.old.chunks < most_chunks }
+        ensures guest { self.new.guest ≡ self.old.guest }
+        ensures emulators { self.new.emulators ≡ self.old.emulators }
+        ensures chunks { self.new.chunks ≡ self.old.chunks + 1 }
+        ensures requests { self.new.requests ≡ (self.old.requests || is_value_of 32 kind) }
+        ensures buffered { self.new.buffered ≡ (self.old.buffered || is_value_of 33 kind) }
+    {
+        self.chunks += 1;
+        match kind {
+            ChunkKind::Param(32) => self.requests = true,
+            ChunkKind::Param(33) => self.buffered = true,
+            _ => {}
+        }
+    }
+
+    // Takes the next chunk, and keeps what it says. Says whether it is the last.
+    fn take_chunk<S: Source>(
+        &mut self,
+        alloc: Global,
+        src: &mut S,
+    ) -> Result<bool, Stop<LegacyCause>>
+        requires begun { IsBegun self.old }
+        ensures read { (chunks : List LegacyChunk) → IsSeen self.old chunks →
+            Gives (λ over c. IsSeen self.new (chunks ++ c ∷ []) × (over ≡ is_end c.kind)) (S.left src.old) (S.left src.new) (chunk_at chunks) result }
+        ensures begun { OnOk result (IsBegun self.new) }
+        ensures few { IfOk result (λ over. over ≡ true → maps.len self.new.guest.frames ≤ most_frames) }
+        ensures counted { OnOk result ((self.new.chunks ≡ self.old.chunks + 1) × (self.old.chunks < most_chunks)) }
+        ensures faults { RisesOnReadFault (S.faults src.old) (S.faults src.new) result }
+    {
+        let kind = self.take_kind(src)?;
+        self.take_content(alloc, src, kind)?;
+        self.count(kind);
+        Ok(ends_chunks(kind))
+    }
+
+    // The guest, with the device model put into it.
+    fn finish(self) -> Result<Guest, Memory>
+        requires plain { IsPlain self.guest }
+        requires hvm { self.guest.kind ≡ Hvm }
+        requires emulators { AreEmulators self.emulators }
+        ensures ok { IfOk result (λ guest. guest ≡ with_emulators self.guest self.emulators) }
+        ensures whole { IfOk result (λ guest. IsWhole guest) }
+        ensures blank { IfOk result (λ guest. blank guest ≡ guest) }
+        ensures bytes { IfOk result (λ guest. IsOfBytes guest) }
+    {
+        let Seen {
+            mut guest,
+            emulators,
+            ..
+        } = self;
+        emulators.put_into(&mut guest)?;
+        Ok(guest)
+    }
+}
+
+// Takes chunks up to the last.
+fn take_chunks<S: Source>(
+    alloc: Global,
+    src: &mut S,
+) -> Result<Seen, Stop<(LegacyPlace, LegacyCause)>>
+    ensures read { Gives IsSeen (S.left src.old) (S.left src.new) chunks_at result }
+    ensures begun { IfOk result (λ seen. IsBegun seen) }
+    ensures few { IfOk result (λ seen. maps.len seen.guest.frames ≤ most_frames) }
+    ensures faults { RisesOnReadFault (S.faults src.old) (S.faults src.new) result }
+{
+    let mut seen = Seen::new(alloc);
+    'chunks: loop {
+        let number = seen.chunks;
+        match seen.take_chunk(alloc, src) {
+            Ok(true) => return Ok(seen),
+            Ok(false) => {}
+            Err(stop) => return Err(stop.at(LegacyPlace::Chunk(u64::from(number)))),
+        }
+    }
+}
+
+// Takes a whole stream, part after part.
+fn read_parts<S: Source>(
+    alloc: Global,
+    src: &mut S,
+) -> Result<Guest, Stop<(LegacyPlace, LegacyCause)>>
+    ensures read { Gives (λ guest s. guest ≡ mean_legacy s) (S.left src.old) (S.left src.new) legacy_at result }
+    ensures whole { IfOk result (λ guest. IsWhole guest) }
+    ensures blank { IfOk result (λ guest. blank guest ≡ guest) }
+    ensures bytes { IfOk result (λ guest. IsOfBytes guest) }
+    ensures faults { RisesOnReadFault (S.faults src.old) (S.faults src.new) result }
+{
+    if let Err(stop) = take_start(src) {
+        return Err(stop.at(LegacyPlace::Start));
+    }
+    let mut seen = take_chunks(alloc, src)?;
+    if let Err(stop) = take_tail(alloc, src, &mut seen.guest) {
+        return Err(stop.at(LegacyPlace::Tail));
+    }
+    if let Err(stop) = take_device(alloc, src, &mut seen.emulators) {
+        return Err(stop.at(LegacyPlace::Device));
+    }
+    match seen.finish() {
+        Ok(guest) => Ok(guest),
+        Err(Memory) => Err(Stop::Memory),
+    }
+}
+
+/// Reads a legacy stream of an HVM guest from its first byte to the end of the device model's record, and leaves what
+/// follows it unread; without such a record the stream ends where the input does. The guest is in its blank form, with the
+/// parts of its device model. `Refused` has the place and the cause of the first fault, and then the source was read up to
+/// the end of the faulty part; `ReadFault` comes only where a read failed (Xen's xg_save_restore.h).
+pub fn read_legacy<S: Source>(alloc: Global, src: &mut S) -> Result<Guest, LegacyAnswer>
+    ensures read { ReadsLegacy (S.left src.old) (S.left src.new) result }
+    ensures whole { IfOk result (λ guest. IsWhole guest) }
+    ensures blank { IfOk result (λ guest. blank guest ≡ guest) }
+    ensures bytes { IfOk result (λ guest. IsOfBytes guest) }
+    ensures faults { RisesOnReadFault (S.faults src.old) (S.faults src.new) (or_stop result) }
+{
+    match read_parts(alloc, src) {
+        Ok(guest) => Ok(guest),
+        Err(stop) => Err(answer(stop)),
+    }
+}
