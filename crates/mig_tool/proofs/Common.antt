@@ -8,9 +8,12 @@ pub use Rattle.mig_headers.specs.declared.kind.Kind.{Kind}
 pub use Rattle.mig_headers.specs.declared.kind.Kind.TheVariants.{Hvm, Pv}
 pub use Rattle.mig_restore.proofs.Meaning.{mean_kind}
 pub use Rattle.mig_libxl.specs.Spelled.{Accepted}
-pub use Rattle.mig_tool.specs.Answers.{Comes, ComesOf, Done, DonePart, InputRises, IsLine, LeavesOut, PutsOwnLine, Says, SaysOf, WriteRose, Written, restored_text, summary_of}
+pub use Rattle.mig_tool.specs.Answers.{AcceptedIn, Comes, ComesOf, Done, DonePart, Form, InputRises, IsLine, LeavesOut, PutsOwnLine, RefusedIn, Says, SaysOf, WriteRose, Written, form_of, restored_text, summary_of}
+pub use Rattle.mig_tool.specs.Answers.Form.{Legacy, Modern}
 pub use Rattle.mig_libxl.specs.Bare.{IsCarried}
-pub use Rattle.mig_tool.specs.Outcome.{line_of, outcome_of, status_of}
+pub use Rattle.mig_tool.specs.Outcome.{line_of, outcome_of, outcome_of_legacy, status_of}
 pub use Rattle.mig_tool.specs.Words.{IsBase, Names}
 pub use Rattle.mig_tool.specs.declared.command.Command.{Command}
-pub use Rattle.mig_tool.specs.declared.command.Command.TheVariants.{Normalise, Restore, Verify}
+pub use Rattle.mig_tool.specs.declared.command.Command.TheVariants.{Convert, Normalise, Restore, Verify}
+pub use Rattle.mig_tool.specs.declared.outcome.Refusal.{Refusal}
+pub use Rattle.mig_tool.specs.declared.outcome.Refusal.TheVariants as refusals

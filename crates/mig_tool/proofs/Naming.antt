@@ -1,6 +1,6 @@
 -- Words name one command at most.
 use mathlib.Core.Logic.{inl, inr}
-use Rattle.mig_tool.proofs.Common.{◌≡◌, ℕ, ◌<◌, ◌^◌, List, [], length, get_or, sym, ap, ◌∙◌, refl, arith, IsBase, Names, Command, Normalise, Restore, Verify}
+use Rattle.mig_tool.proofs.Common.{◌≡◌, ℕ, ◌<◌, ◌^◌, List, [], length, get_or, sym, ap, ◌∙◌, refl, arith, IsBase, Names, Command, Convert, Normalise, Restore, Verify}
 use Rattle.std.proofs.lemmas.Fmt.{decimal_injective}
 
 -- the first letter of the first word
@@ -10,11 +10,13 @@ initial words = get_or (get_or words 0 []) 0 0
 abbrev named : Command → ℕ
 named Normalise = 110
 named Verify = 118
+named Convert = 99
 named (Restore base) = 114
 
 begins : (words : List (List ℕ)) (command : Command) → Names words command → initial words ≡ named command
 begins words Normalise h = ap initial h
 begins words Verify h = ap initial h
+begins words Convert h = ap initial h
 begins words (Restore base) (inl (h, e)) = ap initial h
 begins words (Restore base) (inr (h, e)) = ap initial h
 
@@ -34,5 +36,6 @@ same_base words a b (inr (h, e)) (inr (k, f)) = decimal_injective a b (small a e
 pub same_command : (words : List (List ℕ)) (c d : Command) → Names words c → Names words d → c ≡ d
 same_command words Normalise Normalise h k = refl
 same_command words Verify Verify h k = refl
+same_command words Convert Convert h k = refl
 same_command words (Restore a) (Restore b) h k = ap (λ (n : ℕ). Restore n) (same_base words a b h k)
 same_command words c d h k = absurd (omega (arith, sym (begins words c h) ∙ begins words d k))

@@ -1,15 +1,21 @@
 -- What the program answers, and what the line on the report comes to.
-use Rattle.mig_tool.proofs.Common.{◌⊎◌, ◌≡◌, ℕ, ◌++◌, List, [], length, arith, Option, Some, None, Result, Ok, Err, refl, sym, ap, subst, ◌∙◌, GuestOf, Accepted, Kind, Hvm, Pv, IsCarried, IsFew, IsBase, restored_text, Written, Done, DonePart, Comes, ComesOf, Says, SaysOf, InputRises, IsLine, summary_of, Command, Normalise, Restore, Verify, mean_kind, status_of, line_of, outcome_of}
+use Rattle.mig_tool.proofs.Common.{◌⊎◌, ◌≡◌, ℕ, ◌++◌, List, [], length, arith, Option, Some, None, Result, Ok, Err, refl, sym, ap, subst, ◌∙◌, GuestOf, Accepted, AcceptedIn, RefusedIn, Form, Legacy, Modern, form_of, Refusal, Kind, Hvm, Pv, IsCarried, IsFew, IsBase, restored_text, Written, Done, DonePart, Comes, ComesOf, Says, SaysOf, InputRises, IsLine, summary_of, Command, Convert, Normalise, Restore, Verify, mean_kind, status_of, line_of, outcome_of, outcome_of_legacy}
 use mathlib.Core.Logic.{inl, inr}
 use Rattle.std.specs.Io.KnownBytes.{Appends}
 use Rattle.mig_bytes.specs.Bytes.{Puts}
 use Rattle.mig_bytes.specs.Faults.{Rose, HasCause}
 use Rattle.mig_bytes.specs.declared.failure.WriteFailed.{WriteFailed}
-use Rattle.mig_headers.specs.declared.fault.Cause.{Cause}
-use Rattle.mig_headers.specs.declared.fault.Place.{Place}
 use Rattle.mig_libxl.specs.Canon.{canon_any}
 use Rattle.mig_libxl.specs.Stream.{StreamOf, IsReading, IsRefused, ReadsStream, stream_at}
-use Rattle.mig_libxl.proofs.Laws.{accepted_is_stream, never_both}
+use Rattle.mig_libxl.proofs.Laws.{accepted_is_stream}
+use Rattle.mig_libxl.proofs.Laws.{never_both as never_both_modern}
+use Rattle.mig_legacy.proofs.Laws.{accepted_is_legacy}
+use Rattle.mig_legacy.proofs.Laws.{never_both as never_both_legacy}
+use Rattle.mig_legacy.specs.Legacy.{LegacyStream, mean_legacy}
+use Rattle.mig_legacy.specs.Spelled.{AcceptedLegacy}
+use Rattle.mig_legacy.specs.Stream.{ReadsLegacy, legacy_at}
+use Rattle.mig_legacy.specs.declared.read.LegacyAnswer.{LegacyAnswer}
+use Rattle.mig_legacy.specs.declared.read.LegacyAnswer.TheVariants as legacy
 use Rattle.mig_libxl.proofs.AnyCanons.{canon_is_accepted, canon_is_one_to_one}
 use Rattle.mig_pvtables.specs.Blank.{IsOfBytes}
 use Rattle.mig_bytes.specs.Judged.Judged.{Passes}
@@ -17,6 +23,7 @@ use Rattle.mig_restore.specs.Stream.{ImageOf}
 use Rattle.mig_restore.specs.declared.read.Reading.{Reading}
 use Rattle.mig_tool.specs.declared.outcome.Outcome.{Outcome}
 use Rattle.mig_tool.specs.declared.outcome.Outcome.TheVariants as outcomes
+use Rattle.mig_tool.specs.declared.outcome.Refusal.TheVariants as refusals
 use Rattle.mig_tool.specs.declared.status.Status.{Status}
 use Rattle.mig_tool.specs.declared.status.Status.TheVariants as statuses
 use Rattle.mig_image.specs.Hosted.{hosted, IsBaseOutside}
@@ -30,12 +37,9 @@ use Rattle.mig_tool.specs.declared.outcome.Summary.{Summary}
 use Rattle.mig_restore.specs.declared.answer.StreamAnswer.{StreamAnswer}
 use Rattle.mig_restore.specs.declared.answer.StreamAnswer.TheVariants as answers
 use Rattle.std.specs.FinMap as maps
+use Rattle.mig_tool.specs.Answers.{Normalised, PartWritten}
 use Rattle.mig_tool.specs.Report.{ok_line}
 use Rattle.mig_tool.specs.Report.{Reports}
-
-abbrev pub wrote : Result (Unit {0}) WriteFailed → Outcome
-wrote (Ok u) = outcomes.Done
-wrote (Err e) = outcomes.WriteFault
 
 -- ---- the line
 
@@ -49,21 +53,31 @@ nothing_fails line old new before now (inl whole) none = whole.0
 nothing_fails line old new before now (inr (later, rose, part)) none = absurd (omega (arith, part.1, ap length none))
 
 -- the line of an outcome is that of its status
-line_is : (command : Command) (told left : Option (List ℕ)) (w : Written) (outcome : Outcome) → ComesOf command told left w outcome → IsLine told (status_of outcome) (line_of outcome)
-line_is command None left w (outcomes.Refused place cause) h = (place, cause, refl, tt)
-line_is command (Some input) left w (outcomes.Refused place cause) (rest, refused, is) = (place, cause, refl, (rest, refused))
-line_is command told left w _ h = refl
+line_is : (command : Command) (told left : Option (List ℕ)) (w : Written) (outcome : Outcome) → ComesOf command told left w outcome → IsLine (form_of command) told (status_of outcome) (line_of outcome)
+line_is command None left w (outcomes.Refused refusal) h = (refusal, refl, tt)
+line_is command (Some input) left w (outcomes.Refused refusal) (rest, refused, is) = (refusal, refl, (rest, refused))
+line_is command told left w outcomes.Done h = refl
+line_is command told left w outcomes.Usage h = refl
+line_is command told left w outcomes.ReadFault h = refl
+line_is command told left w outcomes.WriteFault h = refl
+line_is command told left w outcomes.Memory h = refl
 
 -- and it was reported
 pub line_reported : (command : Command) (told left : Option (List ℕ)) (w : Written) (outcome : Outcome) (status : Status) (old new : Option (List ℕ)) (before now : ℕ) → status ≡ status_of outcome → ComesOf command told left w outcome → Reports (line_of outcome) old new before now
-    → (line : List ℕ) × IsLine told status line × Reports line old new before now
+    → (line : List ℕ) × IsLine (form_of command) told status line × Reports line old new before now
 line_reported command told left w outcome status old new before now is h line =
-    (line_of outcome, subst (λ s. IsLine told s (line_of outcome)) (sym is) (line_is command told left w outcome h), line)
+    (line_of outcome, subst (λ s. IsLine (form_of command) told s (line_of outcome)) (sym is) (line_is command told left w outcome h), line)
+
+-- by the command that it is
+pub line_of_this : (command this : Command) (told left : Option (List ℕ)) (w : Written) (outcome : Outcome) (status : Status) (old new : Option (List ℕ)) (before now : ℕ) → command ≡ this → status ≡ status_of outcome → ComesOf this told left w outcome → Reports (line_of outcome) old new before now
+    → (line : List ℕ) × IsLine (form_of command) told status line × Reports line old new before now
+line_of_this command this told left w outcome status old new before now same is h line =
+    subst (λ (c : Command). (l : List ℕ) × IsLine (form_of c) told status l × Reports l old new before now) (sym same) (line_reported this told left w outcome status old new before now is h line)
 
 -- ---- the status
 
 says : (command : Command) (input : List ℕ) (left : Option (List ℕ)) (w : Written) (outcome : Outcome) → Comes command input left w outcome → Says command input left w (status_of outcome)
-says command input left w (outcomes.Refused place cause) (rest, refused, is) = record { place = place; cause = cause; rest = rest; refused = refused; left_is = is }
+says command input left w (outcomes.Refused refusal) (rest, refused, is) = record { refusal = refusal; rest = rest; refused = refused; left_is = is }
 says command input left w _ h = h
 
 pub says_of : (command : Command) (told left : Option (List ℕ)) (w : Written) (outcome : Outcome) → ComesOf command told left w outcome → SaysOf command told left w (status_of outcome)
@@ -75,43 +89,54 @@ pub said_of : (command this : Command) (told left : Option (List ℕ)) (w : Writ
 said_of command this told left w outcome status same is h =
     subst (λ (c : Command). SaysOf c told left w status) (sym same) (subst (SaysOf this told left w) (sym is) (says_of this told left w outcome h))
 
--- a refused input isn't done
-done_refused : (command : Command) (input : List ℕ) (left : Option (List ℕ)) (w : Written) (place : Place) (cause : Cause) (rest : List ℕ) → Done command input left w → IsRefused input place cause rest → ⊥
-done_refused Normalise input left w place cause rest h refused = never_both input h.guest h.rest place cause rest h.accepted refused
-done_refused _ input left w place cause rest h refused = never_both input h.guest h.rest place cause rest h.accepted refused
+-- an input of either form isn't both accepted and refused
+never_both : (form : Form) (input : List ℕ) (guest : GuestOf) (rest more : List ℕ) (refusal : Refusal) → AcceptedIn form input guest rest → RefusedIn form input refusal more → ⊥
+never_both Modern input guest rest more (refusals.Stream place cause) accepted refused = never_both_modern input guest rest place cause more accepted refused
+never_both Modern input guest rest more (refusals.Legacy place cause) accepted refused = refused
+never_both Legacy input guest rest more (refusals.Stream place cause) accepted refused = refused
+never_both Legacy input guest rest more (refusals.Legacy place cause) accepted refused = never_both_legacy input guest rest place cause more accepted refused
 
-part_refused : (command : Command) (input : List ℕ) (left : Option (List ℕ)) (w : Written) (place : Place) (cause : Cause) (rest : List ℕ) → DonePart command input left w → IsRefused input place cause rest → ⊥
-part_refused Normalise input left w place cause rest h refused = never_both input h.guest h.rest place cause rest h.accepted refused
-part_refused _ input left w place cause rest h refused = never_both input h.guest h.rest place cause rest h.accepted refused
+-- a refused input isn't done
+done_refused : (command : Command) (input : List ℕ) (left : Option (List ℕ)) (w : Written) (refusal : Refusal) (rest : List ℕ) → Done command input left w → RefusedIn (form_of command) input refusal rest → ⊥
+done_refused Normalise input left w refusal rest h refused = never_both Modern input h.guest h.rest rest refusal h.accepted refused
+done_refused Convert input left w refusal rest h refused = never_both Legacy input h.guest h.rest rest refusal h.accepted refused
+done_refused (Restore base) input left w refusal rest h refused = never_both Modern input h.guest h.rest rest refusal h.accepted refused
+done_refused Verify input left w refusal rest h refused = never_both Modern input h.guest h.rest rest refusal h.accepted refused
+
+part_refused : (command : Command) (input : List ℕ) (left : Option (List ℕ)) (w : Written) (refusal : Refusal) (rest : List ℕ) → DonePart command input left w → RefusedIn (form_of command) input refusal rest → ⊥
+part_refused Normalise input left w refusal rest h refused = never_both Modern input h.guest h.rest rest refusal h.accepted refused
+part_refused Convert input left w refusal rest h refused = never_both Legacy input h.guest h.rest rest refusal h.accepted refused
+part_refused (Restore base) input left w refusal rest h refused = never_both Modern input h.guest h.rest rest refusal h.accepted refused
+part_refused Verify input left w refusal rest h refused = never_both Modern input h.guest h.rest rest refusal h.accepted refused
 
 -- an accepted stream is done, but for memory, where nothing failed
-done_or : (command : Command) (input : List ℕ) (left : Option (List ℕ)) (w : Written) (status : Status) (guest : GuestOf) (rest : List ℕ) → Says command input left w status → Accepted input guest rest
+done_or : (command : Command) (input : List ℕ) (left : Option (List ℕ)) (w : Written) (status : Status) (guest : GuestOf) (rest : List ℕ) → Says command input left w status → AcceptedIn (form_of command) input guest rest
     → (status ≡ statuses.ReadFault → ⊥) → (status ≡ statuses.WriteFault → ⊥) → (status ≡ statuses.Done) ⊎ (status ≡ statuses.Memory)
 done_or command input left w statuses.Done guest rest h accepted reads writes = inl refl
-done_or command input left w statuses.Refused guest rest h accepted reads writes = absurd (never_both input guest rest h.place h.cause h.rest accepted h.refused)
+done_or command input left w statuses.Refused guest rest h accepted reads writes = absurd (never_both (form_of command) input guest rest h.rest h.refusal accepted h.refused)
 done_or command input left w statuses.Usage guest rest h accepted reads writes = absurd h
 done_or command input left w statuses.ReadFault guest rest h accepted reads writes = absurd (reads refl)
 done_or command input left w statuses.WriteFault guest rest h accepted reads writes = absurd (writes refl)
 done_or command input left w statuses.Memory guest rest h accepted reads writes = inr refl
 
-pub accepted_done : (command : Command) (told left : Option (List ℕ)) (w : Written) (status : Status) (input : List ℕ) (guest : GuestOf) (rest : List ℕ) → SaysOf command told left w status → told ≡ Some input → Accepted input guest rest
+pub accepted_done : (command : Command) (told left : Option (List ℕ)) (w : Written) (status : Status) (input : List ℕ) (guest : GuestOf) (rest : List ℕ) → SaysOf command told left w status → told ≡ Some input → AcceptedIn (form_of command) input guest rest
     → (status ≡ statuses.ReadFault → ⊥) → (status ≡ statuses.WriteFault → ⊥) → (status ≡ statuses.Done) ⊎ (status ≡ statuses.Memory)
 accepted_done command told left w status input guest rest h is accepted reads writes =
     done_or command input left w status guest rest (subst (λ t. SaysOf command t left w status) is h) accepted reads writes
 
-refused_or : (command : Command) (input : List ℕ) (left : Option (List ℕ)) (w : Written) (status : Status) (place : Place) (cause : Cause) (rest : List ℕ) → Says command input left w status → IsRefused input place cause rest
+refused_or : (command : Command) (input : List ℕ) (left : Option (List ℕ)) (w : Written) (status : Status) (refusal : Refusal) (rest : List ℕ) → Says command input left w status → RefusedIn (form_of command) input refusal rest
     → (status ≡ statuses.ReadFault → ⊥) → (status ≡ statuses.Refused) ⊎ (status ≡ statuses.Memory)
-refused_or command input left w statuses.Done place cause rest h refused reads = absurd (done_refused command input left w place cause rest h refused)
-refused_or command input left w statuses.Refused place cause rest h refused reads = inl refl
-refused_or command input left w statuses.Usage place cause rest h refused reads = absurd h
-refused_or command input left w statuses.ReadFault place cause rest h refused reads = absurd (reads refl)
-refused_or command input left w statuses.WriteFault place cause rest h refused reads = absurd (part_refused command input left w place cause rest h refused)
-refused_or command input left w statuses.Memory place cause rest h refused reads = inr refl
+refused_or command input left w statuses.Done refusal rest h refused reads = absurd (done_refused command input left w refusal rest h refused)
+refused_or command input left w statuses.Refused refusal rest h refused reads = inl refl
+refused_or command input left w statuses.Usage refusal rest h refused reads = absurd h
+refused_or command input left w statuses.ReadFault refusal rest h refused reads = absurd (reads refl)
+refused_or command input left w statuses.WriteFault refusal rest h refused reads = absurd (part_refused command input left w refusal rest h refused)
+refused_or command input left w statuses.Memory refusal rest h refused reads = inr refl
 
-pub refused_refused : (command : Command) (told left : Option (List ℕ)) (w : Written) (status : Status) (input : List ℕ) (place : Place) (cause : Cause) (rest : List ℕ) → SaysOf command told left w status → told ≡ Some input → IsRefused input place cause rest
+pub refused_refused : (command : Command) (told left : Option (List ℕ)) (w : Written) (status : Status) (input : List ℕ) (refusal : Refusal) (rest : List ℕ) → SaysOf command told left w status → told ≡ Some input → RefusedIn (form_of command) input refusal rest
     → (status ≡ statuses.ReadFault → ⊥) → (status ≡ statuses.Refused) ⊎ (status ≡ statuses.Memory)
-refused_refused command told left w status input place cause rest h is refused reads =
-    refused_or command input left w status place cause rest (subst (λ t. SaysOf command t left w status) is h) refused reads
+refused_refused command told left w status input refusal rest h is refused reads =
+    refused_or command input left w status refusal rest (subst (λ t. SaysOf command t left w status) is h) refused reads
 
 -- a read fault comes with a risen count
 pub input_rose : (status : Status) (before now : ℕ) → InputRises status before now → status ≡ statuses.ReadFault → Rose before now
@@ -122,14 +147,43 @@ input_rose status before now h is = let r = subst (λ s. InputRises s before now
 accepted_front : (input rest : List ℕ) (stream : StreamOf) (reading : Reading) → stream_at input ≡ Passes stream rest → IsReading reading stream → Accepted input reading.guest rest
 accepted_front input rest stream reading accepts is = record { stream = stream; image = is.image; spelled = accepted_is_stream input stream rest accepts; image_is = is.is; means = is.guest }
 
-pub came : (told left : Option (List ℕ)) (w : Written) (reading : Reading) (r : Result (Unit {0}) WriteFailed) (outcome : Outcome) → ReadsStream told left (Ok reading) → IsCarried reading.guest → Puts (canon_any reading.guest) w.out_old w.out_new r
-    → outcome ≡ wrote r → ComesOf Normalise told left w outcome
-came None left w reading r outcome h carried put is = tt
-came (Some input) left w reading (Ok u) outcome (stream, rest, accepts, left_is, is_read) carried put is =
-    subst (Comes Normalise input left w) (sym is)
-    (record { guest = reading.guest; rest = rest; accepted = accepted_front input rest stream reading accepts is_read; left_is = left_is; wrote = put; carried = carried; kept = λ more. canon_is_accepted reading.guest more carried; alone = λ other too. canon_is_one_to_one other reading.guest too carried })
-came (Some input) left w reading (Err e) outcome (stream, rest, accepts, left_is, is_read) carried put is =
-    subst (Comes Normalise input left w) (sym is) (record { guest = reading.guest; rest = rest; accepted = accepted_front input rest stream reading accepts is_read; left_is = left_is; wrote = put })
+accepted_legacy : (input rest : List ℕ) (stream : LegacyStream) (guest : GuestOf) → legacy_at input ≡ Passes stream rest → guest ≡ mean_legacy stream → AcceptedLegacy input guest rest
+accepted_legacy input rest stream guest accepts is = record { stream = stream; spelled = accepted_is_legacy input stream rest accepts; means = is }
+
+-- what was written of a guest that was read from a front of this form
+module _ (form : Form) (input rest : List ℕ) (left : Option (List ℕ)) (w : Written) (guest : GuestOf) (accepted : AcceptedIn form input guest rest) (left_is : left ≡ Some rest) where
+  whole_text : IsCarried guest → Appends w.out_old w.out_new (canon_any guest) → Normalised form input left w.out_old w.out_new
+  whole_text carried wrote = record {
+    guest = guest;
+    rest = rest;
+    accepted = accepted;
+    left_is = left_is;
+    wrote = wrote;
+    carried = carried;
+    kept = λ more. canon_is_accepted guest more carried;
+    alone = λ other too. canon_is_one_to_one other guest too carried;
+  }
+
+  text_part : AppendsPart w.out_old w.out_new (canon_any guest) → PartWritten form canon_any input left w.out_old w.out_new
+  text_part wrote = record { guest = guest; rest = rest; accepted = accepted; left_is = left_is; wrote = wrote }
+
+pub came : (told left : Option (List ℕ)) (w : Written) (reading : Reading) (outcome : Outcome) → ReadsStream told left (Ok reading) → IsCarried reading.guest
+    → (outcome ≡ outcomes.Done → Appends w.out_old w.out_new (canon_any reading.guest)) → (outcome ≡ outcomes.WriteFault → AppendsPart w.out_old w.out_new (canon_any reading.guest))
+    → (outcome ≡ outcomes.Done) ⊎ (outcome ≡ outcomes.WriteFault) → ComesOf Normalise told left w outcome
+came None left w reading outcome h carried done part answers = tt
+came (Some input) left w reading outcome (stream, rest, accepts, left_is, is_read) carried done part (inl is) =
+    subst (Comes Normalise input left w) (sym is) (whole_text Modern input rest left w reading.guest (accepted_front input rest stream reading accepts is_read) left_is carried (done is))
+came (Some input) left w reading outcome (stream, rest, accepts, left_is, is_read) carried done part (inr is) =
+    subst (Comes Normalise input left w) (sym is) (text_part Modern input rest left w reading.guest (accepted_front input rest stream reading accepts is_read) left_is (part is))
+
+pub converted : (told left : Option (List ℕ)) (w : Written) (guest : GuestOf) (outcome : Outcome) → ReadsLegacy told left (Ok guest) → IsCarried guest
+    → (outcome ≡ outcomes.Done → Appends w.out_old w.out_new (canon_any guest)) → (outcome ≡ outcomes.WriteFault → AppendsPart w.out_old w.out_new (canon_any guest))
+    → (outcome ≡ outcomes.Done) ⊎ (outcome ≡ outcomes.WriteFault) → ComesOf Convert told left w outcome
+converted None left w guest outcome h carried done part answers = tt
+converted (Some input) left w guest outcome (stream, rest, accepts, left_is, is_read) carried done part (inl is) =
+    subst (Comes Convert input left w) (sym is) (whole_text Legacy input rest left w guest (accepted_legacy input rest stream guest accepts is_read) left_is carried (done is))
+converted (Some input) left w guest outcome (stream, rest, accepts, left_is, is_read) carried done part (inr is) =
+    subst (Comes Convert input left w) (sym is) (text_part Legacy input rest left w guest (accepted_legacy input rest stream guest accepts is_read) left_is (part is))
 
 whole_few : (g : GuestOf) → IsWhole g → IsFew g.frames
 whole_few g whole = by g.kind refl
@@ -168,12 +222,21 @@ restored (Some input) left w reading base outcome (stream, rest, accepts, left_i
 restored (Some input) left w reading base outcome h carried bytes range done part (inr (inr is)) = subst (Comes (Restore base) input left w) (sym is) tt
 
 -- no stream was read
-pub not_read : (command : Command) (told left : Option (List ℕ)) (w : Written) (answer : StreamAnswer) (outcome : Outcome) → ReadsStream told left (Err answer) → outcome ≡ outcome_of answer → ComesOf command told left w outcome
-not_read command told left w answer outcome h is = subst (ComesOf command told left w) (sym is) (by told answer h)
+pub not_read : (command : Command) (told left : Option (List ℕ)) (w : Written) (answer : StreamAnswer) (outcome : Outcome) → form_of command ≡ Modern → ReadsStream told left (Err answer) → outcome ≡ outcome_of answer → ComesOf command told left w outcome
+not_read command told left w answer outcome modern h is = subst (ComesOf command told left w) (sym is) (by told answer h)
   where
     by : (told : Option (List ℕ)) (answer : StreamAnswer) → ReadsStream told left (Err answer) → ComesOf command told left w (outcome_of answer)
     by None answer h = tt
-    by (Some input) (answers.Refused place cause) (rest, refused, is) = (rest, refused, is)
+    by (Some input) (answers.Refused place cause) (rest, refused, is) = (rest, subst (λ f. RefusedIn f input (refusals.Stream place cause) rest) (sym modern) refused, is)
+    by (Some input) _ h = tt
+
+-- no legacy stream was read
+pub not_converted : (told left : Option (List ℕ)) (w : Written) (answer : LegacyAnswer) (outcome : Outcome) → ReadsLegacy told left (Err answer) → outcome ≡ outcome_of_legacy answer → ComesOf Convert told left w outcome
+not_converted told left w answer outcome h is = subst (ComesOf Convert told left w) (sym is) (by told answer h)
+  where
+    by : (told : Option (List ℕ)) (answer : LegacyAnswer) → ReadsLegacy told left (Err answer) → ComesOf Convert told left w (outcome_of_legacy answer)
+    by None answer h = tt
+    by (Some input) (legacy.Refused place cause) (rest, refused, is) = (rest, refused, is)
     by (Some input) _ h = tt
 
 abbrev pub reported : Result (Unit {0}) WriteFailed → Status

@@ -5,8 +5,6 @@ use Rattle.std.specs.Io.KnownBytes.{Appends}
 use Rattle.mig_bytes.specs.Bytes.{AppendsPart}
 use Rattle.mig_bytes.specs.Faults.{Rose}
 use Rattle.mig_bytes.specs.Judged.Judged.{Passes}
-use Rattle.mig_headers.specs.declared.fault.Cause.{Cause}
-use Rattle.mig_headers.specs.declared.fault.Place.{Place}
 use Rattle.mig_guest.specs.Guests.{GuestOf}
 use Rattle.mig_guest.specs.Hosts.{IsValid}
 use Rattle.mig_image.specs.Hosted.{hosted}
@@ -18,23 +16,52 @@ use Rattle.mig_libxl.specs.Bare.{IsCarried}
 use Rattle.mig_libxl.specs.Canon.{canon_any}
 use Rattle.mig_libxl.specs.Spelled.{Accepted}
 use Rattle.mig_libxl.specs.Stream.{IsRefused}
+use Rattle.mig_legacy.specs.Spelled.{AcceptedLegacy}
+use Rattle.mig_legacy.specs.Stream.{IsRefused as IsLegacyRefused}
 use Rattle.mig_tool.specs.declared.command.Command.{Command}
-use Rattle.mig_tool.specs.declared.command.Command.TheVariants.{Normalise, Restore, Verify}
+use Rattle.mig_tool.specs.declared.command.Command.TheVariants.{Normalise, Restore, Verify, Convert}
 use Rattle.mig_tool.specs.declared.outcome.Outcome.{Outcome}
 use Rattle.mig_tool.specs.declared.outcome.Outcome.TheVariants as outcomes
+use Rattle.mig_tool.specs.declared.outcome.Refusal.{Refusal}
+use Rattle.mig_tool.specs.declared.outcome.Refusal.TheVariants as refusals
 use Rattle.mig_tool.specs.declared.outcome.Summary.{Summary}
 use Rattle.mig_tool.specs.declared.status.Status.{Status}
 use Rattle.mig_tool.specs.declared.status.Status.TheVariants as statuses
 use Rattle.mig_tool.specs.Report.{refusal_line, usage_line, read_fault_line, write_fault_line, memory_line, ok_line}
 
+-- ---- the forms of input
+
+-- a stream, bare or inside a libxl stream; or a legacy stream
+pub data Form : Type 0 where
+  Modern : Form
+  Legacy : Form
+
+-- which of them a command reads
+abbrev pub form_of : Command → Form
+form_of Normalise = Modern
+form_of (Restore base) = Modern
+form_of Verify = Modern
+form_of Convert = Legacy
+
+-- a front of the input is accepted with this guest, and rest follows it
+abbrev pub AcceptedIn : Form → List ℕ → GuestOf → List ℕ → Type 0
+AcceptedIn Modern input guest rest = Accepted input guest rest
+AcceptedIn Legacy input guest rest = AcceptedLegacy input guest rest
+
+-- the input has this refusal, and rest follows the faulty part
+abbrev pub RefusedIn : Form → List ℕ → Refusal → List ℕ → Type 0
+RefusedIn Modern input (refusals.Stream place cause) rest = IsRefused input place cause rest
+RefusedIn Legacy input (refusals.Legacy place cause) rest = IsLegacyRefused input place cause rest
+RefusedIn _ input _ rest = ⊥
+
 -- ---- an accepted front of the input, and what was written of its guest
 
--- a front of the input is an accepted stream, the rest is left, and of its guest, a whole one in its blank form, the
--- canonical stream was written: it is accepted with this guest, and no other such guest has it
-pub record Normalised (input : List ℕ) (left old new : Option (List ℕ)) : Type 0 where
+-- a front of the input is accepted, the rest is left, and of its guest, a whole one in its blank form, the canonical stream
+-- was written: it is accepted with this guest, and no other such guest has it, whatever form it was read from
+pub record Normalised (form : Form) (input : List ℕ) (left old new : Option (List ℕ)) : Type 0 where
   pub guest : GuestOf
   pub rest : List ℕ
-  pub accepted : Accepted input guest rest
+  pub accepted : AcceptedIn form input guest rest
   pub left_is : left ≡ Some rest
   pub wrote : Appends old new (canon_any guest)
   pub carried : IsCarried guest
@@ -60,10 +87,10 @@ pub record Restored (base : ℕ) (input : List ℕ) (left old new : Option (List
   pub kept : (more : List ℕ) → host_at (restored_text base guest ++ more) ≡ Passes (hosted guest base) more
 
 -- the same, but a write failed, and of the guest's text only a part was written
-pub record PartWritten (text : GuestOf → List ℕ) (input : List ℕ) (left old new : Option (List ℕ)) : Type 0 where
+pub record PartWritten (form : Form) (text : GuestOf → List ℕ) (input : List ℕ) (left old new : Option (List ℕ)) : Type 0 where
   pub guest : GuestOf
   pub rest : List ℕ
-  pub accepted : Accepted input guest rest
+  pub accepted : AcceptedIn form input guest rest
   pub left_is : left ≡ Some rest
   pub wrote : AppendsPart old new (text guest)
 
@@ -82,11 +109,10 @@ pub record Verified (Reported : List ℕ → Type 0) (input : List ℕ) (left : 
   pub reported : Reported (ok_line (summary_of accepted))
 
 -- the input is refused, and what follows the faulty part is left
-pub record Rejected (input : List ℕ) (left : Option (List ℕ)) : Type 0 where
-  pub place : Place
-  pub cause : Cause
+pub record Rejected (form : Form) (input : List ℕ) (left : Option (List ℕ)) : Type 0 where
+  pub refusal : Refusal
   pub rest : List ℕ
-  pub refused : IsRefused input place cause rest
+  pub refused : RefusedIn form input refusal rest
   pub left_is : left ≡ Some rest
 
 -- ---- what a status of a command says: of the input, of what is left of it, of what was written, and of the report
@@ -99,18 +125,20 @@ pub record Written : Type 0 where
   pub report_new : Option (List ℕ)
 
 abbrev pub Done : Command → List ℕ → Option (List ℕ) → Written → Type 0
-Done Normalise input left w = Normalised input left w.out_old w.out_new
+Done Normalise input left w = Normalised Modern input left w.out_old w.out_new
+Done Convert input left w = Normalised Legacy input left w.out_old w.out_new
 Done (Restore base) input left w = Restored base input left w.out_old w.out_new
 Done Verify input left w = Verified (Appends w.report_old w.report_new) input left
 
 abbrev pub DonePart : Command → List ℕ → Option (List ℕ) → Written → Type 0
-DonePart Normalise input left w = PartWritten canon_any input left w.out_old w.out_new
-DonePart (Restore base) input left w = PartWritten (restored_text base) input left w.out_old w.out_new
+DonePart Convert input left w = PartWritten Legacy canon_any input left w.out_old w.out_new
+DonePart Normalise input left w = PartWritten Modern canon_any input left w.out_old w.out_new
+DonePart (Restore base) input left w = PartWritten Modern (restored_text base) input left w.out_old w.out_new
 DonePart Verify input left w = Verified (AppendsPart w.report_old w.report_new) input left
 
 abbrev pub Says : Command → List ℕ → Option (List ℕ) → Written → Status → Type 0
 Says command input left w statuses.Done = Done command input left w
-Says command input left w statuses.Refused = Rejected input left
+Says command input left w statuses.Refused = Rejected (form_of command) input left
 Says command input left w statuses.Usage = ⊥
 Says command input left w statuses.ReadFault = ⊤
 Says command input left w statuses.WriteFault = DonePart command input left w
@@ -125,6 +153,7 @@ SaysOf command (Some input) left w status = Says command input left w status
 abbrev pub WriteRose : Command → ℕ → ℕ → ℕ → ℕ → Type 0
 WriteRose Verify out out_now report report_now = Rose report report_now
 WriteRose Normalise out out_now report report_now = Rose out out_now
+WriteRose Convert out out_now report report_now = Rose out out_now
 WriteRose (Restore base) out out_now report report_now = Rose out out_now
 
 -- the count of the input rises with a read fault, and with every other status it stands as it was
@@ -140,22 +169,23 @@ OutputRises _ before now = now ≡ before
 -- ---- the line of a status
 
 -- the refusal that is named is that of the input, where it tells its bytes
-abbrev pub NamesRefusal : Option (List ℕ) → Place → Cause → Type 0
-NamesRefusal None place cause = ⊤
-NamesRefusal (Some input) place cause = (rest : List ℕ) × IsRefused input place cause rest
+abbrev pub NamesRefusal : Form → Option (List ℕ) → Refusal → Type 0
+NamesRefusal form None refusal = ⊤
+NamesRefusal form (Some input) refusal = (rest : List ℕ) × RefusedIn form input refusal rest
 
--- status 0 of `normalise` and `restore` has none
-abbrev pub IsLine : Option (List ℕ) → Status → List ℕ → Type 0
-IsLine told statuses.Done line = line ≡ []
-IsLine told statuses.Refused line = (place : Place) × (cause : Cause) × (line ≡ refusal_line place cause) × NamesRefusal told place cause
-IsLine told statuses.Usage line = line ≡ usage_line
-IsLine told statuses.ReadFault line = line ≡ read_fault_line
-IsLine told statuses.WriteFault line = line ≡ write_fault_line
-IsLine told statuses.Memory line = line ≡ memory_line
+-- status 0 of `normalise`, `restore` and `convert` has none
+abbrev pub IsLine : Form → Option (List ℕ) → Status → List ℕ → Type 0
+IsLine form told statuses.Done line = line ≡ []
+IsLine form told statuses.Refused line = (refusal : Refusal) × (line ≡ refusal_line refusal) × NamesRefusal form told refusal
+IsLine form told statuses.Usage line = line ≡ usage_line
+IsLine form told statuses.ReadFault line = line ≡ read_fault_line
+IsLine form told statuses.WriteFault line = line ≡ write_fault_line
+IsLine form told statuses.Memory line = line ≡ memory_line
 
 -- a command has put a line of its own, or a part of it: `verify` alone does
 abbrev pub HasOwnLine : Command → Status → Type 0
 HasOwnLine Normalise status = ⊥
+HasOwnLine Convert status = ⊥
 HasOwnLine (Restore base) status = ⊥
 HasOwnLine Verify statuses.Done = ⊤
 HasOwnLine Verify statuses.WriteFault = ⊤
@@ -164,6 +194,7 @@ HasOwnLine Verify status = ⊥
 -- which line that is: that of some stream, whole with status 0, and a part of it with status 4
 abbrev pub PutsOwnLine : Command → Option (List ℕ) → Option (List ℕ) → Status → Type 0
 PutsOwnLine Normalise old new status = ⊤
+PutsOwnLine Convert old new status = ⊤
 PutsOwnLine (Restore base) old new status = ⊤
 PutsOwnLine Verify old new statuses.Done = (s : Summary) × Appends old new (ok_line s)
 PutsOwnLine Verify old new statuses.WriteFault = (s : Summary) × AppendsPart old new (ok_line s)
@@ -172,6 +203,7 @@ PutsOwnLine Verify old new status = ⊤
 -- the output isn't touched by this command, whatever its status
 abbrev pub LeavesOut : Command → Type 0
 LeavesOut Normalise = ⊥
+LeavesOut Convert = ⊥
 LeavesOut (Restore base) = ⊥
 LeavesOut Verify = ⊤
 
@@ -179,7 +211,7 @@ LeavesOut Verify = ⊤
 
 abbrev pub Comes : Command → List ℕ → Option (List ℕ) → Written → Outcome → Type 0
 Comes command input left w outcomes.Done = Done command input left w
-Comes command input left w (outcomes.Refused place cause) = (rest : List ℕ) × IsRefused input place cause rest × (left ≡ Some rest)
+Comes command input left w (outcomes.Refused refusal) = (rest : List ℕ) × RefusedIn (form_of command) input refusal rest × (left ≡ Some rest)
 Comes command input left w outcomes.Usage = ⊥
 Comes command input left w outcomes.ReadFault = ⊤
 Comes command input left w outcomes.WriteFault = DonePart command input left w

@@ -3,16 +3,21 @@ use Rattle.std.specs.Prelude.{◌≡◌, ◌≤◌, ◌⊎◌, ℕ, List, ◌++�
 use Rattle.std.specs.Io.KnownBytes.{Appends}
 use Rattle.mig_bytes.specs.Bytes.{AppendsPart}
 use Rattle.mig_bytes.specs.Faults.{Rose}
-use Rattle.mig_headers.specs.declared.fault.Cause.{Cause}
-use Rattle.mig_headers.specs.declared.fault.Place.{Place}
 use Rattle.mig_headers.specs.declared.kind.Kind.{Kind}
 use Rattle.mig_headers.specs.declared.kind.Kind.TheVariants.{Pv, Hvm}
+use Rattle.mig_headers.specs.LegacyTexts.{text_of_legacy_place, text_of_legacy_cause}
 use Rattle.mig_headers.specs.Texts.{text_of_place, text_of_cause}
+use Rattle.mig_tool.specs.declared.outcome.Refusal.{Refusal}
+use Rattle.mig_tool.specs.declared.outcome.Refusal.TheVariants.{Stream, Legacy}
 use Rattle.mig_tool.specs.declared.outcome.Summary.{Summary}
 
--- `refused: PLACE: NUMBER NAME`, and the cause's arguments
-abbrev pub refusal_line : Place → Cause → List ℕ
-refusal_line place cause = codes "refused: " ++ (text_of_place place ++ (codes ": " ++ (text_of_cause cause ++ codes "\n")))
+-- `PLACE: NUMBER NAME`, and the cause's arguments
+abbrev pub refusal_text : Refusal → List ℕ
+refusal_text (Stream place cause) = text_of_place place ++ (codes ": " ++ text_of_cause cause)
+refusal_text (Legacy place cause) = text_of_legacy_place place ++ (codes ": " ++ text_of_legacy_cause cause)
+
+abbrev pub refusal_line : Refusal → List ℕ
+refusal_line refusal = codes "refused: " ++ (refusal_text refusal ++ codes "\n")
 
 abbrev pub usage_line : List ℕ
 usage_line = codes "usage: restore [BASE] | verify | normalise | convert | save | exercise SEED FRAMES\n"

@@ -19,6 +19,8 @@ pub(crate) enum Command {
     Restore(u64),
     /// Say what the stream is.
     Verify,
+    /// Write the guest of the legacy stream as a canonical stream.
+    Convert,
 }
 
 /// Whether the word is this one.
@@ -66,6 +68,9 @@ fn plain(word: &str) -> Option<Command>
     }
     if is_word(word, "restore") {
         return Some(Command::Restore(USUAL_BASE));
+    }
+    if is_word(word, "convert") {
+        return Some(Command::Convert);
     }
     None
 }

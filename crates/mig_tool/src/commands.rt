@@ -3,8 +3,9 @@ ghost use Rattle.std.specs.Io.KnownBytes.{Appends};
 ghost use Rattle.mig_bytes.specs.Bytes.{AppendsPart};
 ghost use Rattle.mig_bytes.specs.Faults.{Rose};
 ghost use Rattle.mig_pvtables.specs.Whole.{IsWhole};
-ghost use Rattle.mig_tool.specs.Answers.{SaysOf, ComesOf, WriteRose, InputRises, OutputRises, IsLine, HasOwnLine, PutsOwnLine, LeavesOut, restored_text};
-ghost use Rattle.mig_tool.specs.Outcome.{outcome_of, status_of};
+ghost use Rattle.mig_libxl.specs.Canon.{canon_any};
+ghost use Rattle.mig_tool.specs.Answers.{form_of, SaysOf, ComesOf, WriteRose, InputRises, OutputRises, IsLine, HasOwnLine, PutsOwnLine, LeavesOut, restored_text};
+ghost use Rattle.mig_tool.specs.Outcome.{outcome_of, outcome_of_legacy, status_of};
 ghost use Rattle.mig_tool.specs.Report.{Reports};
 ghost use Rattle.mig_tool.specs.Words.{IsBase};
 ghost use Rattle.mig_tool.specs.declared.command.Command.TheVariants as commands;
@@ -12,11 +13,12 @@ ghost use Rattle.mig_tool.specs.declared.outcome.Outcome.TheVariants as outcomes
 ghost use Rattle.mig_tool.specs.declared.status.Status.TheVariants as statuses;
 
 use crate::command::Command;
-use crate::outcome::{Outcome, Summary, finish, put_ok};
+use crate::outcome::{Outcome, Refusal, Summary, finish, put_ok};
 use crate::status::Status;
 use mig_bytes::{Sink, Source};
 use mig_guest::Guest;
 use mig_image::{HostAnswer, host_of, write_host};
+use mig_legacy::{LegacyAnswer, read_legacy};
 use mig_libxl::{read_any, write_any};
 use mig_restore::StreamAnswer;
 use std::alloc::Global;
@@ -26,9 +28,34 @@ fn unread(answer: StreamAnswer) -> Outcome
     ensures { result ≡ outcome_of answer }
 {
     match answer {
-        StreamAnswer::Refused(place, cause) => Outcome::Refused(place, cause),
+        StreamAnswer::Refused(place, cause) => Outcome::Refused(Refusal::Stream(place, cause)),
         StreamAnswer::ReadFault => Outcome::ReadFault,
         StreamAnswer::Memory => Outcome::Memory,
+    }
+}
+
+/// The outcome where no legacy stream is read.
+fn unconverted(answer: LegacyAnswer) -> Outcome
+    ensures { result ≡ outcome_of_legacy answer }
+{
+    match answer {
+        LegacyAnswer::Refused(place, cause) => Outcome::Refused(Refusal::Legacy(place, cause)),
+        LegacyAnswer::ReadFault => Outcome::ReadFault,
+        LegacyAnswer::Memory => Outcome::Memory,
+    }
+}
+
+/// Writes the canonical stream of a guest.
+fn write_canonical<K: Sink>(guest: &Guest, out: &mut K) -> Outcome
+    requires whole { IsWhole guest.now }
+    ensures done { result ≡ outcomes.Done → Appends (K.written out.old) (K.written out.new) (canon_any guest.now) }
+    ensures part { result ≡ outcomes.WriteFault → AppendsPart (K.written out.old) (K.written out.new) (canon_any guest.now) }
+    ensures answers { (result ≡ outcomes.Done) ⊎ (result ≡ outcomes.WriteFault) }
+    ensures write { OutputRises (status_of result) (K.faults out.old) (K.faults out.new) }
+{
+    match write_any(out, guest) {
+        Ok(()) => Outcome::Done,
+        Err(_) => Outcome::WriteFault,
     }
 }
 
@@ -41,11 +68,22 @@ fn normalise<S: Source, K: Sink>(alloc: Global, input: &mut S, out: &mut K) -> O
     ensures write { OutputRises (status_of result) (K.faults out.old) (K.faults out.new) }
 {
     match read_any(alloc, input) {
-        Ok(reading) => match write_any(out, &reading.guest) {
-            Ok(()) => Outcome::Done,
-            Err(_) => Outcome::WriteFault,
-        },
+        Ok(reading) => write_canonical(&reading.guest, out),
         Err(answer) => unread(answer),
+    }
+}
+
+/// Reads a legacy stream, and writes the canonical stream of its guest.
+fn convert<S: Source, K: Sink>(alloc: Global, input: &mut S, out: &mut K) -> Outcome
+    ensures answer { (before now : Option (List ℕ)) → ComesOf commands.Convert (S.left input.old) (S.left input.new) (record { out_old = K.written out.old; out_new = K.written out.new; report_old = before; report_new = now }) result }
+    ensures known { result ≢ outcomes.Usage }
+    ensures kept { result ≢ outcomes.Done → result ≢ outcomes.WriteFault → out.new ≡ out.old }
+    ensures read { InputRises (status_of result) (S.faults input.old) (S.faults input.new) }
+    ensures write { OutputRises (status_of result) (K.faults out.old) (K.faults out.new) }
+{
+    match read_legacy(alloc, input) {
+        Ok(guest) => write_canonical(&guest, out),
+        Err(answer) => unconverted(answer),
     }
 }
 
@@ -93,7 +131,7 @@ fn verify<S: Source, R: Sink>(alloc: Global, input: &mut S, report: &mut R) -> S
     ensures write { result ≡ statuses.WriteFault → Rose (R.faults report.old) (R.faults report.new) }
     ensures quiet { result ≡ statuses.Done → R.faults report.new ≡ R.faults report.old }
     ensures line { (HasOwnLine commands.Verify result → ⊥)
-        → (line : List ℕ) × IsLine (S.left input.old) result line × Reports line (R.written report.old) (R.written report.new) (R.faults report.old) (R.faults report.new) }
+        → (line : List ℕ) × IsLine (form_of commands.Verify) (S.left input.old) result line × Reports line (R.written report.old) (R.written report.new) (R.faults report.old) (R.faults report.new) }
     ensures own_line { PutsOwnLine commands.Verify (R.written report.old) (R.written report.new) result }
     ensures report_later { R.faults report.old ≤ R.faults report.new }
 {
@@ -129,7 +167,7 @@ pub(crate) fn carry_out<S: Source, K: Sink, R: Sink>(
     ensures read { InputRises result (S.faults input.old) (S.faults input.new) }
     ensures write { result ≡ statuses.WriteFault → WriteRose command (K.faults out.old) (K.faults out.new) (R.faults report.old) (R.faults report.new) }
     ensures line { (HasOwnLine command result → ⊥)
-        → (line : List ℕ) × IsLine (S.left input.old) result line × Reports line (R.written report.old) (R.written report.new) (R.faults report.old) (R.faults report.new) }
+        → (line : List ℕ) × IsLine (form_of command) (S.left input.old) result line × Reports line (R.written report.old) (R.written report.new) (R.faults report.old) (R.faults report.new) }
     ensures own_line { PutsOwnLine command (R.written report.old) (R.written report.new) result }
     ensures out_quiet { result ≡ statuses.Done → K.faults out.new ≡ K.faults out.old }
     ensures report_quiet { result ≡ statuses.Done → R.faults report.new ≡ R.faults report.old }
@@ -139,6 +177,10 @@ pub(crate) fn carry_out<S: Source, K: Sink, R: Sink>(
     match command {
         Command::Normalise => {
             let outcome = normalise(alloc, input, out);
+            finish(report, outcome)
+        }
+        Command::Convert => {
+            let outcome = convert(alloc, input, out);
             finish(report, outcome)
         }
         Command::Restore(base) => {

@@ -1,5 +1,5 @@
 //! Reads a stream of a Xen guest, and writes it in its one canonical form, writes the image of the restored guest, or says
-//! what it is.
+//! what it is; or reads a legacy stream, and writes the canonical stream of its guest.
 //!
 //! `run` is the program but for its standard streams; its clauses say what is answered, taken, written and reported.
 #![tactic(auto)]

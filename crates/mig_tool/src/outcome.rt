@@ -2,18 +2,29 @@ ghost use Rattle.std.specs.Prelude.{◌≡◌, ◌≤◌, ◌++◌, decimal};
 ghost use Rattle.mig_bytes.specs.Bytes.{Puts};
 ghost use Rattle.mig_bytes.specs.Faults.{HasCause};
 ghost use Rattle.mig_tool.specs.Outcome.{status_of, line_of};
-ghost use Rattle.mig_tool.specs.Report.{Reports, refusal_line, kind_name, ok_line};
+ghost use Rattle.mig_tool.specs.Report.{Reports, refusal_line, refusal_text, kind_name, ok_line};
 ghost use Rattle.mig_tool.specs.declared.outcome.Outcome.TheVariants as outcomes;
+ghost use Rattle.mig_tool.specs.declared.outcome.Refusal.TheVariants as refusals;
 
 use crate::status::Status;
 use mig_bytes::{Sink, WriteFailed, put_all};
-use mig_headers::{Cause, Kind, Place, put_cause, put_number, put_place};
+use mig_headers::{
+    Cause, Kind, LegacyCause, LegacyPlace, Place, put_cause, put_legacy_cause, put_legacy_place,
+    put_number, put_place,
+};
+
+/// The place and the cause of a refusal: of a stream, or of a legacy stream.
+#[derive(Clone, Copy, Debug, PartialEq, Eq)]
+pub(crate) enum Refusal {
+    Stream(Place, Cause),
+    Legacy(LegacyPlace, LegacyCause),
+}
 
 /// What a command came to: its status, and what its line says.
 #[derive(Clone, Copy, Debug, PartialEq, Eq)]
 pub(crate) enum Outcome {
     Done,
-    Refused(Place, Cause),
+    Refused(Refusal),
     Usage,
     ReadFault,
     WriteFault,
@@ -37,7 +48,7 @@ fn status(outcome: Outcome) -> Status
 {
     match outcome {
         Outcome::Done => Status::Done,
-        Outcome::Refused(_, _) => Status::Refused,
+        Outcome::Refused(_) => Status::Refused,
         Outcome::Usage => Status::Usage,
         Outcome::ReadFault => Status::ReadFault,
         Outcome::WriteFault => Status::WriteFault,
@@ -45,15 +56,52 @@ fn status(outcome: Outcome) -> Status
     }
 }
 
+/// Puts the place and the cause of a stream's refusal.
+fn put_stream_refusal<R: Sink>(
+    report: &mut R,
+    place: Place,
+    cause: Cause,
+) -> Result<(), WriteFailed>
+    ensures bytes { Puts (refusal_text (refusals.Stream place cause)) (R.written report.old) (R.written report.new) result }
+    ensures cause { HasCause (R.faults report.old) (R.faults report.new) result }
+{
+    put_place(report, place)?;
+    put_all(report, b": ")?;
+    put_cause(report, cause)
+}
+
+/// Puts the place and the cause of a legacy stream's refusal.
+fn put_legacy_refusal<R: Sink>(
+    report: &mut R,
+    place: LegacyPlace,
+    cause: LegacyCause,
+) -> Result<(), WriteFailed>
+    ensures bytes { Puts (refusal_text (refusals.Legacy place cause)) (R.written report.old) (R.written report.new) result }
+    ensures cause { HasCause (R.faults report.old) (R.faults report.new) result }
+{
+    put_legacy_place(report, place)?;
+    put_all(report, b": ")?;
+    put_legacy_cause(report, cause)
+}
+
+/// Puts the place and the cause of a refusal.
+fn put_place_and_cause<R: Sink>(report: &mut R, refusal: Refusal) -> Result<(), WriteFailed>
+    ensures bytes { Puts (refusal_text refusal) (R.written report.old) (R.written report.new) result }
+    ensures cause { HasCause (R.faults report.old) (R.faults report.new) result }
+{
+    match refusal {
+        Refusal::Stream(place, cause) => put_stream_refusal(report, place, cause),
+        Refusal::Legacy(place, cause) => put_legacy_refusal(report, place, cause),
+    }
+}
+
 /// Puts the line of a refusal on the report.
-fn put_refusal<R: Sink>(report: &mut R, place: Place, cause: Cause) -> Result<(), WriteFailed>
-    ensures bytes { Puts (refusal_line place cause) (R.written report.old) (R.written report.new) result }
+fn put_refusal<R: Sink>(report: &mut R, refusal: Refusal) -> Result<(), WriteFailed>
+    ensures bytes { Puts (refusal_line refusal) (R.written report.old) (R.written report.new) result }
     ensures cause { HasCause (R.faults report.old) (R.faults report.new) result }
 {
     put_all(report, b"refused: ")?;
-    put_place(report, place)?;
-    put_all(report, b": ")?;
-    put_cause(report, cause)?;
+    put_place_and_cause(report, refusal)?;
     put_all(report, b"\n")
 }
 
@@ -64,7 +112,7 @@ pub(crate) fn put_line<R: Sink>(report: &mut R, outcome: Outcome) -> Result<(), 
 {
     match outcome {
         Outcome::Done => put_all(report, b""),
-        Outcome::Refused(place, cause) => put_refusal(report, place, cause),
+        Outcome::Refused(refusal) => put_refusal(report, refusal),
         Outcome::Usage => put_all(
             report,
             b"usage: restore [BASE] | verify | normalise | convert | save | exercise SEED FRAMES\n",

@@ -1,14 +1,11 @@
 ghost use Rattle.std.specs.Prelude.{◌≡◌, ◌≢◌, ◌≤◌, ◌<◌, ◌⊎◌, ℕ, List, Option, Some};
 ghost use Rattle.mig_bytes.specs.Faults.{Rose};
-ghost use Rattle.mig_headers.specs.declared.fault.Cause.{Cause};
-ghost use Rattle.mig_headers.specs.declared.fault.Place.{Place};
 ghost use Rattle.mig_guest.specs.Guests.{GuestOf};
-ghost use Rattle.mig_libxl.specs.Spelled.{Accepted};
-ghost use Rattle.mig_libxl.specs.Stream.{IsRefused};
-ghost use Rattle.mig_tool.specs.Answers.{Written, SaysOf, WriteRose, InputRises, IsLine, HasOwnLine, PutsOwnLine, LeavesOut};
-ghost use Rattle.mig_tool.specs.Report.{Reports};
+ghost use Rattle.mig_tool.specs.Answers.{form_of, AcceptedIn, RefusedIn, Written, SaysOf, WriteRose, InputRises, IsLine, HasOwnLine, PutsOwnLine, LeavesOut};
+ghost use Rattle.mig_tool.specs.Report.{Reports, usage_line};
 ghost use Rattle.mig_tool.specs.Words.{texts_of, Names};
 ghost use Rattle.mig_tool.specs.declared.command.Command.{Command};
+ghost use Rattle.mig_tool.specs.declared.outcome.Refusal.{Refusal};
 ghost use Rattle.mig_tool.specs.declared.status.Status.TheVariants as statuses;
 
 use crate::command::command_in;
@@ -20,7 +17,8 @@ use std::alloc::Global;
 
 /// Does what the words say: reads `input`, writes on `out`, and puts the line of the status on `report`.
 ///
-/// `normalise` takes a stream and writes it in its canonical form. `restore` takes a stream and writes the image of its
+/// `normalise` takes a stream and writes it in its canonical form. `convert` takes a legacy stream and writes the canonical
+/// stream of its guest. `restore` takes a stream and writes the image of its
 /// guest, with machine frames counted up from the base. `verify` takes a stream and says on `report` what it is. Each
 /// status says what it says however the input is cut, and whatever failed before; want of memory may come at any time.
 pub fn run<S: Source, K: Sink, R: Sink>(
@@ -35,16 +33,17 @@ pub fn run<S: Source, K: Sink, R: Sink>(
     ensures known { (command : Command) → Names (texts_of words.now) command → result ≢ statuses.Usage }
     ensures unread { result ≡ statuses.Usage → input.new ≡ input.old }
 
-    // Status 0: an accepted front was taken, and the text of its guest was written, or its line reported. Status 1: the
-    // input was taken up to the end of the refused part. Status 4: as 0, but a part of the text or line was written.
+    // `convert` reads legacy streams, and all others streams. Status 0: an accepted front was taken, and the text of its
+    // guest was written, or its line reported. Status 1: the input was taken up to the end of the refused part. Status
+    // 4: as 0, but a part of the text or line was written.
     ensures done { (command : Command) → Names (texts_of words.now) command
         → SaysOf command (S.left input.old) (S.left input.new) (record { out_old = K.written out.old; out_new = K.written out.new; report_old = R.written report.old; report_new = R.written report.new }) result }
 
     // An accepted stream is done and a refused one refused, but for memory, where nothing failed.
-    ensures accepted { (command : Command) (bytes : List ℕ) (guest : GuestOf) (rest : List ℕ) → Names (texts_of words.now) command → S.left input.old ≡ Some bytes → Accepted bytes guest rest
+    ensures accepted { (command : Command) (bytes : List ℕ) (guest : GuestOf) (rest : List ℕ) → Names (texts_of words.now) command → S.left input.old ≡ Some bytes → AcceptedIn (form_of command) bytes guest rest
         → (Rose (S.faults input.old) (S.faults input.new) → ⊥) → (WriteRose command (K.faults out.old) (K.faults out.new) (R.faults report.old) (R.faults report.new) → ⊥)
         → (result ≡ statuses.Done) ⊎ (result ≡ statuses.Memory) }
-    ensures refused { (command : Command) (bytes : List ℕ) (place : Place) (cause : Cause) (rest : List ℕ) → Names (texts_of words.now) command → S.left input.old ≡ Some bytes → IsRefused bytes place cause rest
+    ensures refused { (command : Command) (bytes : List ℕ) (refusal : Refusal) (rest : List ℕ) → Names (texts_of words.now) command → S.left input.old ≡ Some bytes → RefusedIn (form_of command) bytes refusal rest
         → (Rose (S.faults input.old) (S.faults input.new) → ⊥) → (result ≡ statuses.Refused) ⊎ (result ≡ statuses.Memory) }
 
     // `out` is touched for an accepted stream alone, and never by `verify`. A fault is answered only where a count rose,
@@ -57,8 +56,9 @@ pub fn run<S: Source, K: Sink, R: Sink>(
 
     // The report got the line of the status, or a part of it where its count rose; that changes no status but that of
     // `verify` at its own line, which is whole with status 0, and a part with status 4.
-    ensures line { ((command : Command) → Names (texts_of words.now) command → HasOwnLine command result → ⊥)
-        → (line : List ℕ) × IsLine (S.left input.old) result line × Reports line (R.written report.old) (R.written report.new) (R.faults report.old) (R.faults report.new) }
+    ensures line { (command : Command) → Names (texts_of words.now) command → (HasOwnLine command result → ⊥)
+        → (line : List ℕ) × IsLine (form_of command) (S.left input.old) result line × Reports line (R.written report.old) (R.written report.new) (R.faults report.old) (R.faults report.new) }
+    ensures usage_line { result ≡ statuses.Usage → Reports usage_line (R.written report.old) (R.written report.new) (R.faults report.old) (R.faults report.new) }
     ensures own_line { (command : Command) → Names (texts_of words.now) command → PutsOwnLine command (R.written report.old) (R.written report.new) result }
 
     ensures out_quiet { result ≡ statuses.Done → K.faults out.new ≡ K.faults out.old }

@@ -12,9 +12,20 @@ const SMALLEST: [u8; 104] = [
     17, 17, 17, 17, 17, 17, 17, 17, 17, 17, 0, 0, 0, 0, 0, 0, 0, 0, 0, 0, 0, 0, 0, 0, 0, 0,
 ];
 
-// The smallest stream, of which each read gives at most `cut` bytes, and read number `fails` none.
-fn smallest(alloc: Global, cut: usize, fails: u64) -> Result<MemSource, Fail> {
-    let bytes = SMALLEST.to_vec(alloc)?;
+// The width of the P2M, the last chunk, three frame numbers, and the same context with its length.
+const LEGACY: [u8; 80] = [
+    0, 1, 0, 0, 0, 0, 0, 0, 0, 0, 0, 0, 1, 0, 0, 0, 0, 0, 0, 0, 2, 0, 0, 0, 0, 0, 0, 0, 3, 0, 0, 0,
+    0, 0, 0, 0, 40, 0, 0, 0, 1, 0, 0, 0, 24, 0, 0, 0, 17, 17, 17, 17, 17, 17, 17, 17, 17, 17, 17,
+    17, 17, 17, 17, 17, 17, 17, 17, 17, 17, 17, 17, 17, 0, 0, 0, 0, 0, 0, 0, 0,
+];
+
+// What the command of this word reads: each read gives at most `cut` bytes, and read number `fails` none.
+fn smallest(alloc: Global, word: &str, cut: usize, fails: u64) -> Result<MemSource, Fail> {
+    let bytes = if word == "convert" {
+        LEGACY.to_vec(alloc)?
+    } else {
+        SMALLEST.to_vec(alloc)?
+    };
     let cuts = vec![in alloc; cut; 200]?;
     Ok(MemSource::new(bytes, cuts, vec![in alloc; fails; 1]?))
 }
@@ -38,7 +49,7 @@ const NEVER: u64 = u64::MAX;
 #[test]
 fn smallest_stream_into_its_room(rt: HostRuntime) -> Result<(), Fail> {
     let normalise = words(rt.alloc(), &["normalise"])?;
-    let mut input = smallest(rt.alloc(), 4096, NEVER)?;
+    let mut input = smallest(rt.alloc(), "normalise", 4096, NEVER)?;
     let mut out = sink(rt.alloc(), NEVER)?;
     let mut report = sink(rt.alloc(), NEVER)?;
     assert_eq!(rt; out.reserve(104), Ok(()));
@@ -50,7 +61,7 @@ fn smallest_stream_into_its_room(rt: HostRuntime) -> Result<(), Fail> {
 }
 
 // A word, which read and which write of the output fail, the status, and the line of the report.
-const FAULTS: [(&str, u64, u64, Status, &str); 9] = [
+const FAULTS: [(&str, u64, u64, Status, &str); 12] = [
     ("normalise", NEVER, NEVER, Status::Done, ""),
     ("normalise", 0, NEVER, Status::ReadFault, "fault: read\n"),
     ("normalise", 50, NEVER, Status::ReadFault, "fault: read\n"),
@@ -60,6 +71,9 @@ const FAULTS: [(&str, u64, u64, Status, &str); 9] = [
     ("restore", 103, NEVER, Status::ReadFault, "fault: read\n"),
     ("restore", NEVER, 2, Status::WriteFault, "fault: write\n"),
     ("verify", 70, 0, Status::ReadFault, "fault: read\n"),
+    ("convert", NEVER, NEVER, Status::Done, ""),
+    ("convert", 79, NEVER, Status::ReadFault, "fault: read\n"),
+    ("convert", NEVER, 2, Status::WriteFault, "fault: write\n"),
 ];
 
 fn faults() -> &'static [(&'static str, u64, u64, Status, &'static str)] {
@@ -72,7 +86,7 @@ fn reads_and_writes_fail_in_mid_stream(rt: HostRuntime) -> Result<(), Fail> {
     for (word, read, write, want, line) in faults() {
         let list = words(rt.alloc(), &[word])?;
         for (fails, told) in [(NEVER, *line), (0, "")] {
-            let mut input = smallest(rt.alloc(), 1, *read)?;
+            let mut input = smallest(rt.alloc(), word, 1, *read)?;
             let mut out = sink(rt.alloc(), *write)?;
             let mut report = sink(rt.alloc(), fails)?;
             let status = run(rt.alloc(), &list, &mut input, &mut out, &mut report);

@@ -1,12 +1,12 @@
-use Rattle.mig_tool.proofs.Common.{refl, Ok, Err, Normalise}
+use Rattle.mig_tool.proofs.Common.{refl, Normalise, Written}
 use Rattle.mig_tool.proofs.Reporting.{came, not_read}
 use Rattle.mig_tool.proofs.commands.normalise.Goals as goal
 
-pub returns-in-Ok-write_any-clause-answer : goal.returns-in-Ok-write_any-clause-answer
-returns-in-Ok-write_any-clause-answer g c = λ before now. came _ _ _ c.in-Ok.reading (Ok c.in-Ok-write_any.field-0) _ c.in-Ok.ensures.read (record { whole = c.in-Ok.ensures.whole; blank = c.in-Ok.ensures.blank }) c.in-Ok-write_any.ensures.bytes refl
-
 pub returns-in-Ok-clause-answer : goal.returns-in-Ok-clause-answer
-returns-in-Ok-clause-answer g c = λ before now. came _ _ _ c.in-Ok.reading (Err c.in-Err-write_any.field-0) _ c.in-Ok.ensures.read (record { whole = c.in-Ok.ensures.whole; blank = c.in-Ok.ensures.blank }) c.in-Err-write_any.ensures.bytes refl
+returns-in-Ok-clause-answer g c = λ before now.
+    let w : Written = record { out_old = g.K.Sink.written c.args.out.now; out_new = g.K.Sink.written c.write_canonical.new.out; report_old = before; report_new = now } in
+    came (g.S.Source.left c.args.input.now) (g.S.Source.left c.read_any.new.src) w c.in-Ok.reading c.write_canonical.result c.in-Ok.ensures.read (record { whole = c.in-Ok.ensures.whole; blank = c.in-Ok.ensures.blank })
+    c.write_canonical.ensures.done c.write_canonical.ensures.part c.write_canonical.ensures.answers
 
-pub returns-clause-answer : goal.returns-clause-answer
-returns-clause-answer g c = λ before now. not_read Normalise _ _ _ c.in-Err.answer _ c.in-Err.ensures.read c.unread.ensures
+pub returns-in-Err-clause-answer : goal.returns-in-Err-clause-answer
+returns-in-Err-clause-answer g c = λ before now. not_read Normalise _ _ _ c.in-Err.answer _ refl c.in-Err.ensures.read c.unread.ensures

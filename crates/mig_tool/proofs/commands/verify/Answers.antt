@@ -4,7 +4,7 @@ use Rattle.mig_tool.proofs.Reporting.{not_read, says_of, verified}
 use Rattle.mig_tool.proofs.commands.verify.Goals as goal
 
 pub returns-in-Err-clause-said : goal.returns-in-Err-clause-said
-returns-in-Err-clause-said g c = λ old new. subst (SaysOf Verify _ _ _) (sym c.finish.ensures.status) (says_of Verify _ _ _ c.unread.result (not_read Verify _ _ _ c.in-Err.answer _ c.in-Err.ensures.read c.unread.ensures))
+returns-in-Err-clause-said g c = λ old new. subst (SaysOf Verify _ _ _) (sym c.finish.ensures.status) (says_of Verify _ _ _ c.unread.result (not_read Verify _ _ _ c.in-Err.answer _ refl c.in-Err.ensures.read c.unread.ensures))
 
 pub returns-in-Ok-put_ok-clause-said : goal.returns-in-Ok-put_ok-clause-said
 returns-in-Ok-put_ok-clause-said g c = λ old new.
