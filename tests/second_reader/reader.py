@@ -3,7 +3,7 @@
 `read(bytes)` answers the stream and no line, or none and the line of its refusal (without the end of the line). Of a
 stream that was read, `canonical(guest)` and `image(guest, base)` are what `normalise` and `restore BASE` have to
 write, and `summary(stream)` is the line of `verify`. It is short and slow, and holds everything in memory. What PV guests
-alone have stands in pv.py, and the wrapper of libxl in libxl.py.
+alone have stands in pv.py, the wrapper of libxl in libxl.py, and what legacy streams have in legacy.py.
 """
 import collections
 import struct
@@ -69,19 +69,19 @@ def judge_head(version, guest_kind, before, kind, length):
     refuse_if(len(before) >= MOST_RECORDS, '31 TooManyRecords')
 
 
-def end_of_chain(body):
-    """The offset of the entry that ends an HVM context."""
+def end_of_chain(body, cause):
+    """The offset of the entry that ends an HVM context; a fault in the chain is refused with this cause."""
     offset = 0
     while True:
-        refuse_if(offset >= len(body), '25 BadContext ' + ('NoEnd' if offset else 'NoHeader'))
-        refuse_if(len(body) - offset < 8, '25 BadContext ShortEntry %d' % offset)
+        refuse_if(offset >= len(body), cause + (' NoEnd' if offset else ' NoHeader'))
+        refuse_if(len(body) - offset < 8, cause + ' ShortEntry %d' % offset)
         typecode, _, length = struct.unpack_from('<HHI', body, offset)
         if offset == 0:
-            refuse_if(typecode != 1, '25 BadContext NoHeader')
-            refuse_if(length != 24, '25 BadContext HeaderSize %d' % length)
+            refuse_if(typecode != 1, cause + ' NoHeader')
+            refuse_if(length != 24, cause + ' HeaderSize %d' % length)
         if typecode == 0:
             return offset
-        refuse_if(offset + 8 + length > len(body), '25 BadContext ShortEntry %d' % offset)
+        refuse_if(offset + 8 + length > len(body), cause + ' ShortEntry %d' % offset)
         offset += 8 + length
 
 
@@ -125,7 +125,7 @@ def read_part(kind, body, guest):
     if kind == TSC_INFO:
         guest['tsc'] = body[:20]
     elif kind == CONTEXT:
-        guest['context'] = body[:end_of_chain(body)] + bytes(8)
+        guest['context'] = body[:end_of_chain(body, '25 BadContext')] + bytes(8)
     elif kind == PARAMS:
         read_params(body, guest['params'])
     elif kind == CPUID_POLICY and body:
