@@ -1,0 +1,9 @@
+pub mod Common
+pub mod Causes
+pub mod Entries
+pub mod Frames
+pub mod Named
+pub mod Parts
+pub mod Single
+pub mod Verdicts
+pub mod Images

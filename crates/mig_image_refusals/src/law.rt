@@ -1,0 +1,36 @@
+ghost use Rattle.std.specs.Prelude.{◌≡◌, ◌↔◌, ℕ, List, ◌⊎◌};
+ghost use Rattle.mig_bytes.specs.Bytes.{AreBytes};
+ghost use Rattle.mig_bytes.specs.Judged.Judged.{Faulty};
+ghost use Rattle.mig_headers.specs.declared.image_fault.ImageCause.{ImageCause};
+ghost use Rattle.mig_headers.specs.declared.image_fault.ImagePlace.{ImagePlace};
+ghost use Rattle.mig_guest.specs.Hosts.{HostOf};
+ghost use Rattle.mig_image.specs.Image.{IsHostImage};
+ghost use Rattle.mig_image.specs.ImageParts.{host_at};
+ghost use Rattle.mig_image_refusals.specs.Refusal.{RefusedImage};
+
+/// Judging refuses an input for a cause at a place exactly where a faultless front of an image is followed by a part that
+/// isn't whole, or that is whole and in which this cause is named: of several causes that of the least number. What is
+/// left is what follows that part.
+pub fn refusals_agree()
+    ensures { (input : List ℕ) (place : ImagePlace) (cause : ImageCause) (rest : List ℕ) →
+        (host_at input ≡ Faulty (place, cause) rest) ↔ RefusedImage input place cause rest }
+{}
+
+/// An input has at most one refusal.
+pub fn one_refusal()
+    ensures { (input : List ℕ) (place other_place : ImagePlace) (cause other : ImageCause) (rest more : List ℕ) →
+        RefusedImage input place cause rest → RefusedImage input other_place other more
+        → (place ≡ other_place) × (cause ≡ other) × (rest ≡ more) }
+{}
+
+/// For every input of bytes either a front is the image of a host, a valid one, or there is a refusal.
+pub fn image_or_refused()
+    ensures { (input : List ℕ) → AreBytes input → ((host : HostOf) × (rest : List ℕ) × IsHostImage input host rest)
+        ⊎ ((place : ImagePlace) × (cause : ImageCause) × (rest : List ℕ) × RefusedImage input place cause rest) }
+{}
+
+/// An input that begins with the image of a host has no refusal.
+pub fn never_both()
+    ensures { (input : List ℕ) (host : HostOf) (rest : List ℕ) (place : ImagePlace) (cause : ImageCause) (more : List ℕ) →
+        IsHostImage input host rest → RefusedImage input place cause more → ⊥ }
+{}
