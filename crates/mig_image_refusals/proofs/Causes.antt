@@ -39,7 +39,7 @@ module _ (head : List ℕ) where
   abbrev head_rows : List (Bool × ImageCause)
   head_rows = name_rows head ++ size_rows kind (le64 head 16) (le64 head 24)
 
-  of_pv : (n : ℕ) → pv (kind_of_number n) ≡ true → n ≡ 1
+  pub of_pv : (n : ℕ) → pv (kind_of_number n) ≡ true → n ≡ 1
   of_pv n h = by (nat_eq n 1) refl h
     where
       by : (b : Bool) → nat_eq n 1 ≡ b → pv (cond b Pv Hvm) ≡ true → n ≡ 1
@@ -147,7 +147,7 @@ module _ (h : HostOf) (head : List ℕ) where
   to_type : IsOther h.kind (head_type_number head) → Has (BadPageType (head_type_number head))
   to_type (inl (low, high)) = frames.reserved_type low high
   to_type (inr (inl high)) = frames.absent_type high
-  to_type (inr (inr (hvm, a, b, c))) = frames.table_of_hvm hvm a b c
+  to_type (inr (inr (hvm, a, b, c))) = frames.not_of_hvm hvm a b c
 
   to_order : has_frame_from h (head_pfn head) ≡ true → Has (causes.FrameOrder (head_pfn head))
   to_order any = let (q, some, le) = frame_from h (head_pfn head) any in frames.not_above q some le
@@ -171,7 +171,7 @@ module _ (h : HostOf) (head : List ℕ) where
   frame_has _ (frames.not_zero r) = inl (test_differs _ _ r, refl)
   frame_has _ (frames.reserved_type low high) = bad_type (inl (low, high))
   frame_has _ (frames.absent_type high) = bad_type (inr (inl high))
-  frame_has _ (frames.table_of_hvm hvm a b c) = bad_type (inr (inr (hvm, a, b, c)))
+  frame_has _ (frames.not_of_hvm hvm a b c) = bad_type (inr (inr (hvm, a, b, c)))
   frame_has _ (frames.not_above q some le) = inr (inr (inl (from_frame h (head_pfn head) q some le, refl)))
   frame_has _ (frames.outside le) = inr (inr (inr (inl (le-leb _ _ le, refl))))
   frame_has _ (frames.no_machine none) = inr (inr (inr (inr (inl (or_left _ _ (eq-eqb _ _ none), refl)))))

@@ -1,5 +1,5 @@
 -- The frames of a front: judging passes them, and what it passes are such frames.
-use Rattle.mig_image_refusals.proofs.Common.{◌≡◌, ℕ, zero, suc, ◌+◌, List, [], ◌++◌, length, Bool, true, false, cond, Option, Some, None, is_some, refl, sym, ap, subst, ◌∙◌, arith, append-nil, append_assoc, unwrap_or, le32, le64, Judged, ◌>>=◌, part, placed, Passes, both_pass, part_passes, part_whole, placed_passes, same_passes, then_passes, ImageCause, ImagePlace, Truncated, Kind, Pv, Hvm, HostOf, HostFrame, PageType, IsFaultless}
+use Rattle.mig_image_refusals.proofs.Common.{◌≡◌, ℕ, zero, suc, ◌+◌, ◌≤◌, List, [], ◌++◌, length, Bool, true, false, cond, Option, Some, None, is_some, refl, sym, ap, subst, ◌∙◌, arith, append-nil, append_assoc, unwrap_or, le32, le64, Judged, part, placed, Passes, both_pass, part_passes, part_whole, placed_passes, same_passes, then_passes, ImageCause, ImagePlace, Truncated, Kind, Pv, Hvm, HostOf, HostFrame, PageType, IsFaultless}
 use Rattle.mig_bytes.proofs.Steps.{steps_more}
 use Rattle.mig_bytes.specs.Judged.{steps}
 use Rattle.mig_headers.specs.Headers.{kind_number, kind_of_number}
@@ -7,6 +7,7 @@ use Rattle.mig_headers.specs.declared.image_fault.ImagePlace.TheVariants as plac
 use Rattle.mig_pagetypes.specs.PageTypes.{number_of, type_has_data, type_of, type_or_none}
 use Rattle.mig_pagetypes.specs.declared.page_type.PageType.TheVariants.{Xtab}
 use Rattle.mig_image.proofs.FieldBytes.{judged_part, judged_goes, regroup}
+use Rattle.mig_image.proofs.Frames.{behind_frame_head, page_if}
 use Rattle.mig_image.specs.ImageParts.{fault_of_frame, frame_head_at, frame_said, frames_at, head_pfn, head_type, head_type_number, host_frame_at, host_page_at, opened, put_frame}
 use Rattle.mig_image_refusals.specs.Refusal.{FramesTo, Opens, SpellsFrame}
 use Rattle.mig_image_refusals.specs.Refusal.FramesTo.{at_first, one_more}
@@ -22,9 +23,6 @@ typed _ = refl
 
 pub type_is : (head : List ℕ) (t : PageType) → head_type_number head ≡ number_of t → head_type head ≡ t
 type_is head t is = ap (λ n. type_or_none (type_of n)) is ∙ ap type_or_none (typed t)
-
-abbrev pub page_if : Bool → List ℕ → Judged ImageCause (Option (List ℕ))
-page_if b input = cond b (part Truncated 4096 input >>= λ page. Passes (Some page.0) page.1) (Passes None input)
 
 page_goes : (t : PageType) (page : Option (List ℕ)) (rest : List ℕ) → is_some page ≡ type_has_data t → IsFaultless (Page t) (unwrap_or page []) → host_page_at t (unwrap_or page [] ++ rest) ≡ Passes page rest
 page_goes t None rest step is = ap (λ b. page_if b rest) (sym step)
@@ -61,9 +59,6 @@ page_back t i page rest h = by (type_has_data t) refl h
         }
 
 -- ---- a frame
-
-abbrev pub behind_frame_head : HostOf → List ℕ × List ℕ → Judged ImageCause HostOf
-behind_frame_head h a = host_page_at (head_type a.0) a.1 >>= λ page. Passes (put_frame h (head_pfn a.0) (frame_said a.0 page.0)) page.1
 
 -- a faultless head passes
 pub head_goes : (h : HostOf) (head rest : List ℕ) → IsFaultless (FrameHead h) head → frame_head_at h (head ++ rest) ≡ Passes head rest
@@ -130,6 +125,7 @@ pub record FramesGo (front : List ℕ) (count n : ℕ) (h : HostOf) : Type 0 whe
   pub whole : front ≡ head ++ frames
   pub head_is : IsFaultless Head head
   pub count_is : count ≡ le64 head 24
+  pub within : n ≤ count
   pub goes : (left : List ℕ) → frames_at n (opened head) (frames ++ left) ≡ Passes h left
 
 abbrev pub frame_step : ℕ → HostOf → List ℕ → Judged (ImagePlace × ImageCause) HostOf
@@ -138,8 +134,8 @@ frame_step i h input = placed (places.Frame i) (host_frame_at h input)
 pub frames_go : (front : List ℕ) (count n : ℕ) (h : HostOf) → FramesTo front count n h → FramesGo front count n h
 unfolding steps
 frames_go _ _ _ _ (at_first head h o) =
-    record { head = head; frames = []; whole = sym (append-nil head); head_is = o.faultless; count_is = refl; goes = λ left. ap (λ g. Passes g left) (opened_is head h o) }
-frames_go _ _ _ _ (one_more front bytes count n h pfn frame before s) =
+    record { head = head; frames = []; whole = sym (append-nil head); head_is = o.faultless; count_is = refl; within = omega arith; goes = λ left. ap (λ g. Passes g left) (opened_is head h o) }
+frames_go _ _ _ _ (one_more front bytes count n h pfn frame before less s) =
     let g = frames_go front count n h before in
     record {
       head = g.head;
@@ -147,6 +143,7 @@ frames_go _ _ _ _ (one_more front bytes count n h pfn frame before s) =
       whole = ap (λ l. l ++ bytes) g.whole ∙ append_assoc g.head g.frames bytes;
       head_is = g.head_is;
       count_is = g.count_is;
+      within = omega (arith, less);
       goes = λ left. ap (frames_at (n + 1) (opened g.head)) (append_assoc g.frames bytes left) ∙ steps_more frame_step n (opened g.head) (g.frames ++ (bytes ++ left))
           ∙ then_passes (frames_at n (opened g.head) (g.frames ++ (bytes ++ left))) (λ a. frame_step n a.0 a.1) h (bytes ++ left) _ (g.goes (bytes ++ left)) (ap (placed (places.Frame n)) (frame_goes h bytes pfn frame left s));
     }
@@ -159,16 +156,16 @@ pub record FramesFound (head : List ℕ) (n : ℕ) (i : List ℕ) (h : HostOf) (
   pub whole : i ≡ frames ++ rest
   pub to : FramesTo (head ++ frames) (le64 head 24) n h
 
-pub frames_back : (head : List ℕ) (n : ℕ) (i : List ℕ) (h : HostOf) (rest : List ℕ) → Opens head (opened head) → frames_at n (opened head) i ≡ Passes h rest → FramesFound head n i h rest
+pub frames_back : (head : List ℕ) (n : ℕ) (i : List ℕ) (h : HostOf) (rest : List ℕ) → Opens head (opened head) → n ≤ le64 head 24 → frames_at n (opened head) i ≡ Passes h rest → FramesFound head n i h rest
 unfolding steps
-frames_back head zero i h rest opens passes =
+frames_back head zero i h rest opens within passes =
     let e = same_passes (opened head) h i rest passes in
     record { frames = []; whole = e.1; to = moved head (head ++ []) (le64 head 24) 0 0 (opened head) h (sym (append-nil head)) refl e.0 (at_first head (opened head) opens) }
-frames_back head (suc n) i h rest opens passes =
+frames_back head (suc n) i h rest opens within passes =
     let a = both_pass (frames_at n (opened head) i) (λ a. frame_step n a.0 a.1) h rest (sym (last_step frame_step n (opened head) i) ∙ passes) in
-    let before = frames_back head n i a.x a.mid opens a.first in
+    let before = frames_back head n i a.x a.mid opens (omega (arith, within)) a.first in
     let f = frame_back a.x a.mid h rest (placed_passes (places.Frame n) (host_frame_at a.x a.mid) h rest a.second) in
-    let more = one_more (head ++ before.frames) f.bytes (le64 head 24) n a.x f.pfn f.frame before.to f.spelled in
+    let more = one_more (head ++ before.frames) f.bytes (le64 head 24) n a.x f.pfn f.frame before.to (omega (arith, within)) f.spelled in
     record {
       frames = before.frames ++ f.bytes;
       whole = regroup i a.mid rest before.frames f.bytes before.whole f.whole;

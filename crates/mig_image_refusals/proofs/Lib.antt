@@ -7,3 +7,4 @@ pub mod Parts
 pub mod Single
 pub mod Verdicts
 pub mod Images
+pub mod Spelled

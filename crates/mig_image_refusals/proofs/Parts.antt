@@ -1,10 +1,11 @@
 -- The parts of a front: judging passes them, and what it passes are such parts.
-use Rattle.mig_image_refusals.proofs.Common.{◌≡◌, ℕ, zero, suc, ◌+◌, List, [], ◌++◌, length, refl, sym, ap, subst, ◌∙◌, arith, append-nil, append_assoc, le32, le64, Judged, ◌>>=◌, part, placed, Passes, both_pass, part_whole, placed_passes, same_passes, then_passes, ImageCause, ImagePlace, Truncated, HostOf, PartKey, IsFaultless}
+use Rattle.mig_image_refusals.proofs.Common.{◌≡◌, ℕ, zero, suc, ◌+◌, ◌≤◌, List, [], ◌++◌, length, refl, sym, ap, subst, ◌∙◌, arith, append-nil, append_assoc, le32, le64, Judged, part, placed, Passes, both_pass, part_whole, placed_passes, same_passes, then_passes, ImageCause, ImagePlace, Truncated, HostOf, PartKey, IsFaultless}
 use Rattle.mig_bytes.proofs.Steps.{steps_more}
 use Rattle.mig_bytes.specs.Bytes.{padding_len}
 use Rattle.mig_bytes.specs.Judged.{steps}
 use Rattle.mig_headers.specs.declared.image_fault.ImagePlace.TheVariants as places
 use Rattle.mig_image.proofs.FieldBytes.{judged_part, judged_goes, regroup}
+use Rattle.mig_image.proofs.Parts.{behind_bytes, behind_part_head}
 use Rattle.mig_image.specs.ImageParts.{bytes_at, count_at, fault_of_bytes, fault_of_padding, fault_of_part, head_key, host_parts_at, padding_at, part_at, part_head_at, put_part_in}
 use Rattle.mig_image_refusals.specs.Refusal.{FramesTo, PartsTo, SpellsPart}
 use Rattle.mig_image_refusals.specs.Refusal.PartsTo.{at_first, one_more}
@@ -12,12 +13,6 @@ use Rattle.mig_image_refusals.specs.Refusal.ImagePart.{PartHead, Bytes, Padding}
 use Rattle.mig_image_refusals.proofs.Single.{fine, faultless, last_step}
 
 -- ---- a part
-
-abbrev pub behind_bytes : HostOf → List ℕ → List ℕ × List ℕ → Judged ImageCause HostOf
-behind_bytes h head b = padding_at (le32 head 12) b.1 >>= λ padding. Passes (put_part_in h (head_key head) b.0) padding.1
-
-abbrev pub behind_part_head : HostOf → List ℕ × List ℕ → Judged ImageCause HostOf
-behind_part_head h a = bytes_at (le32 a.0 0) (le32 a.0 12) a.1 >>= behind_bytes h a.0
 
 -- a faultless head passes, and so do faultless bytes
 pub head_goes : (h : HostOf) (head rest : List ℕ) → IsFaultless (PartHead h) head → part_head_at h (head ++ rest) ≡ Passes head rest
@@ -104,7 +99,7 @@ parts_go _ _ _ _ (at_first front number count h to is) = record {
   count_is = refl;
   goes = λ left. refl;
 }
-parts_go _ _ _ _ (one_more front bytes count n h key content before s) =
+parts_go _ _ _ _ (one_more front bytes count n h key content before less s) =
     let g = parts_go front count n h before in
     record {
       before = g.before;
@@ -133,16 +128,16 @@ pub record PartsFound (front : List ℕ) (count n : ℕ) (i : List ℕ) (h : Hos
   pub to : PartsTo (front ++ parts) count n h
 
 -- behind a front without parts
-pub parts_back : (front : List ℕ) (count : ℕ) (framed : HostOf) (n : ℕ) (i : List ℕ) (h : HostOf) (rest : List ℕ) → PartsTo front count 0 framed → host_parts_at n framed i ≡ Passes h rest → PartsFound front count n i h rest
+pub parts_back : (front : List ℕ) (count : ℕ) (framed : HostOf) (n : ℕ) (i : List ℕ) (h : HostOf) (rest : List ℕ) → PartsTo front count 0 framed → n ≤ count → host_parts_at n framed i ≡ Passes h rest → PartsFound front count n i h rest
 unfolding steps
-parts_back front count framed zero i h rest to passes =
+parts_back front count framed zero i h rest to within passes =
     let e = same_passes framed h i rest passes in
     record { parts = []; whole = e.1; to = moved front (front ++ []) count 0 0 framed h (sym (append-nil front)) refl e.0 to }
-parts_back front count framed (suc n) i h rest to passes =
+parts_back front count framed (suc n) i h rest to within passes =
     let a = both_pass (host_parts_at n framed i) (λ a. part_step n a.0 a.1) h rest (sym (last_step part_step n framed i) ∙ passes) in
-    let before = parts_back front count framed n i a.x a.mid to a.first in
+    let before = parts_back front count framed n i a.x a.mid to (omega (arith, within)) a.first in
     let f = part_back a.x a.mid h rest (placed_passes (places.Part n) (part_at a.x a.mid) h rest a.second) in
-    let more = one_more (front ++ before.parts) f.bytes count n a.x f.key f.content before.to f.spelled in
+    let more = one_more (front ++ before.parts) f.bytes count n a.x f.key f.content before.to (omega (arith, within)) f.spelled in
     record {
       parts = before.parts ++ f.bytes;
       whole = regroup i a.mid rest before.parts f.bytes before.whole f.whole;

@@ -6,6 +6,8 @@ use Rattle.mig_headers.specs.Headers.{kind_number, kind_of_number}
 use Rattle.mig_headers.specs.declared.image_fault.ImagePlace.TheVariants as places
 use Rattle.mig_pagetypes.specs.PageTypes.{type_has_data}
 use Rattle.mig_image.proofs.FieldBytes.{judged_part, judged_goes}
+use Rattle.mig_image.proofs.Frames.{behind_frame_head, page_if}
+use Rattle.mig_image.proofs.Parts.{behind_bytes, behind_part_head}
 use Rattle.mig_image.specs.ImageParts.{behind_head, bytes_at, count_at, fault_of_bytes, fault_of_frame, fault_of_host_head, fault_of_part, frame_head_at, frame_said, frames_at, head_key, head_pfn, head_type, host_at, host_frame_at, host_head_at, host_page_at, host_parts_at, opened, padding_at, part_at, part_head_at, put_frame, put_part_in}
 use Rattle.mig_image_refusals.specs.Refusal.{Behind, FramesTo, Opens, PartsTo, RefusedImage}
 use Rattle.mig_image_refusals.specs.Refusal.Behind.{at_head, at_frame, at_page, at_number, at_part, at_bytes, at_padding}
@@ -13,9 +15,9 @@ use Rattle.mig_image_refusals.specs.Refusal.HeadHas.{bad_kind}
 use Rattle.mig_image_refusals.specs.Refusal.ImagePart.{Head, FrameHead, Page, Number, PartHead, Bytes, Padding}
 use Rattle.mig_image_refusals.specs.Refusal.PartsTo.{at_first}
 use Rattle.mig_image_refusals.proofs.Causes.{type_named}
-use Rattle.mig_image_refusals.proofs.Frames.{FramesGo, behind_frame_head, frame_step, frames_back, frames_go, page_if, type_is}
+use Rattle.mig_image_refusals.proofs.Frames.{FramesGo, frame_step, frames_back, frames_go, type_is}
 use Rattle.mig_image_refusals.proofs.Frames.{head_goes as frame_head_goes}
-use Rattle.mig_image_refusals.proofs.Parts.{behind_bytes, behind_part_head, bytes_go, head_goes, number_goes, part_step, parts_back, parts_go}
+use Rattle.mig_image_refusals.proofs.Parts.{bytes_go, head_goes, number_goes, part_step, parts_back, parts_go}
 use Rattle.mig_image_refusals.proofs.Single.{passes_not, then_faulty, bind_cases, only_first, placed_faulty, steps_cases, fine, faultless, one_part, fails_is, is_fails}
 
 -- ---- parts without a cause
@@ -44,13 +46,13 @@ fails_number left c rest h = then_faulty (part Truncated 8 left) (λ a. Passes a
 
 -- ---- what is refused in words is refused
 
-abbrev Verdict : Type 0
+abbrev pub Verdict : Type 0
 Verdict = Judged (ImagePlace × ImageCause) HostOf
 
-abbrev behind_number : HostOf → ℕ × List ℕ → Verdict
+abbrev pub behind_number : HostOf → ℕ × List ℕ → Verdict
 behind_number framed count = host_parts_at count.0 framed count.1
 
-abbrev behind_frames : HostOf × List ℕ → Verdict
+abbrev pub behind_frames : HostOf × List ℕ → Verdict
 behind_frames framed = placed places.Parts (count_at framed.1) >>= behind_number framed.0
 
 -- behind a faultless head
@@ -77,7 +79,7 @@ module _ (front : List ℕ) (count n : ℕ) (h : HostOf) (to : FramesTo front co
       front_passes
       ∙ then_faulty (frames_at (le64 f.head 24) (opened f.head) in_frames) behind_frames (places.Frame n, c) rest (steps_stop frame_step (n + 1) (le64 f.head 24) (opened f.head) in_frames rest (places.Frame n, c) within stops)
 
-  frames_pass : n ≡ count → host_at (front ++ left) ≡ behind_frames (h, left)
+  pub frames_pass : n ≡ count → host_at (front ++ left) ≡ behind_frames (h, left)
   frames_pass all =
       front_passes
       ∙ then_passes (frames_at (le64 f.head 24) (opened f.head) in_frames) behind_frames h left _ (ap (λ m. frames_at m (opened f.head) in_frames) (sym (all ∙ f.count_is)) ∙ f.goes left) refl
@@ -179,7 +181,7 @@ module _ (input : List ℕ) (place : ImagePlace) (c : ImageCause) (rest : List �
         let e = same_passes (le64 b.x 0) a.0 b.mid a.1 b.second in
         let first = at_first front b.x count h to (record { size = p.1; none = λ c h. h }) in
         let (n, less, g, mid, passes, stops) = steps_cases part_step a.0 h a.1 (place, c) rest a.3 in
-        let f = parts_back (front ++ b.x) (le64 b.x 0) h n a.1 g mid first passes in
+        let f = parts_back (front ++ b.x) (le64 b.x 0) h n a.1 g mid first (omega (arith, less, e.0)) passes in
         let s = placed_faulty (places.Part n) place (part_at g mid) c rest stops in
         let all = whole ∙ ap (λ l. front ++ l) (p.0 ∙ ap (λ l. b.x ++ l) (e.1 ∙ f.whole)) ∙ sym (append_assoc front b.x (f.parts ++ mid)) ∙ sym (append_assoc (front ++ b.x) f.parts mid) in
         part_fails ((front ++ b.x) ++ f.parts) mid (le64 b.x 0) n g all f.to (omega (arith, less, e.0)) s.1 s.0
@@ -189,11 +191,11 @@ module _ (input : List ℕ) (place : ImagePlace) (c : ImageCause) (rest : List �
   behind_fails head left whole is fails = elim (bind_cases (frames_at (le64 head 24) (opened head) left) behind_frames (place, c) rest fails) [
     | inl e ↦
         let (n, less, h, mid, passes, stops) = steps_cases frame_step (le64 head 24) (opened head) left (place, c) rest e in
-        let f = frames_back head n left h mid (opens head is) passes in
+        let f = frames_back head n left h mid (opens head is) (omega (arith, less)) passes in
         let s = placed_faulty (places.Frame n) place (host_frame_at h mid) c rest stops in
         frame_fails (head ++ f.frames) mid (le64 head 24) n h (whole ∙ ap (λ l. head ++ l) f.whole ∙ sym (append_assoc head f.frames mid)) f.to less s.1 s.0
     | inr a ↦
-        let f = frames_back head (le64 head 24) left a.0 a.1 (opens head is) a.2 in
+        let f = frames_back head (le64 head 24) left a.0 a.1 (opens head is) (omega arith) a.2 in
         number_refused (head ++ f.frames) a.1 (le64 head 24) a.0 (whole ∙ ap (λ l. head ++ l) f.whole ∙ sym (append_assoc head f.frames a.1)) f.to a.3
   ]
 

@@ -41,14 +41,14 @@ pub data FrameHas (h : HostOf) (head : List ℕ) : ImageCause → Type 0 where
   not_zero : (le32 head 4 ≡ 0 → ⊥) → FrameHas h head Reserved
   reserved_type : 5 ≤ head_type_number head → head_type_number head ≤ 8 → FrameHas h head (BadPageType (head_type_number head))
   absent_type : 15 ≤ head_type_number head → FrameHas h head (BadPageType (head_type_number head))
-  table_of_hvm : h.kind ≡ Hvm → (head_type_number head ≡ 0 → ⊥) → (head_type_number head ≡ 13 → ⊥) → (head_type_number head ≡ 14 → ⊥) → FrameHas h head (BadPageType (head_type_number head))
+  not_of_hvm : h.kind ≡ Hvm → (head_type_number head ≡ 0 → ⊥) → (head_type_number head ≡ 13 → ⊥) → (head_type_number head ≡ 14 → ⊥) → FrameHas h head (BadPageType (head_type_number head))
   not_above : (pfn : ℕ) → IsSome (maps.get h.frames pfn) → head_pfn head ≤ pfn → FrameHas h head (FrameOrder (head_pfn head))
   outside : h.width ≤ head_pfn head → FrameHas h head (FrameOutside (head_pfn head))
   no_machine : le64 head 8 ≡ 0 → FrameHas h head (MachineFrame (le64 head 8))
   high_machine : machine_limit ≤ le64 head 8 → FrameHas h head (MachineFrame (le64 head 8))
   machine_twice : (pfn : ℕ) (frame : HostFrame) → maps.get h.frames pfn ≡ Some frame → frame.machine ≡ le64 head 8 → FrameHas h head (MachineTwice (le64 head 8))
 
--- a part's head, behind the parts of this host: code, keys and length, which the table of parts allows or doesn't
+-- the head of a host's part, behind the parts of this host: code, keys and length, which the table of parts allows or doesn't
 pub data PartHas (h : HostOf) (head : List ℕ) : ImageCause → Type 0 where
   no_code : ((code : PartCode) → le32 head 0 ≡ code_number code → ⊥) → PartHas h head (causes.PartKey (le32 head 0))
   other_kind : (code : PartCode) → le32 head 0 ≡ code_number code → IsFalse ((row_of code).of_kind h.kind) → PartHas h head (causes.PartKey (le32 head 0))
@@ -57,18 +57,18 @@ pub data PartHas (h : HostOf) (head : List ℕ) : ImageCause → Type 0 where
   too_many : (le32 head 0 ≡ 17) ⊎ (le32 head 0 ≡ 18) → 65536 ≤ length (parts_of (le32 head 0) (maps.entries h.parts)) → PartHas h head (PartMany (le32 head 0))
   other_length : (code : PartCode) → le32 head 0 ≡ code_number code → IsFalse ((row_of code).allows h.width (le32 head 12)) → PartHas h head (PartLength (le32 head 12))
 
--- the bytes of a part of this code: those of 258 are pairs
+-- the bytes of a host's part of this code: those of code 258 are to be pairs
 pub data BytesHave (code : ℕ) (bytes : List ℕ) : ImageCause → Type 0 where
   other_than_pairs : code ≡ 258 → (AreCanonicalPairs bytes → ⊥) → BytesHave code bytes PartBytes
 
--- the padding behind a part's bytes
+-- the padding behind the bytes of a host's part
 pub data PaddingHas (padding : List ℕ) : ImageCause → Type 0 where
   not_zero : (place : ℕ) → place < length padding → (slice_index padding place ≡ 0 → ⊥) → PaddingHas padding PartPadding
 
--- ---- the parts in which an image is judged
+-- ---- the parts of an image
 
--- the head; behind the frames of a host the head of one more, and the page of a frame of a type; the number of parts; behind
--- the parts of a host the head of one more, the bytes of a part of a code and a length, and so much padding
+-- the head; behind the frames of a host the head of one more, and the page of a frame of this type; how many parts the host
+-- has, 8 bytes; behind the parts of a host the head of one more, its bytes, by its code and its length, and so much padding
 pub data ImagePart : Type 0 where
   Head : ImagePart
   FrameHead : HostOf → ImagePart
@@ -133,7 +133,7 @@ pub record SpellsFrame (h : HostOf) (bytes : List ℕ) (pfn : ℕ) (frame : Host
   pub in_step : is_some frame.page ≡ type_has_data frame.type
   pub page : IsFaultless (Page frame.type) (unwrap_or frame.page [])
 
--- a part behind those of this host: a faultless head, so many bytes, and padding up to a multiple of 8
+-- a host's part behind those of this host: a faultless head, so many bytes, and padding up to a multiple of 8
 pub record SpellsPart (h : HostOf) (bytes : List ℕ) (key : PartKey) (content : List ℕ) : Type 0 where
   pub head : List ℕ
   pub padding : List ℕ
@@ -146,12 +146,12 @@ pub record SpellsPart (h : HostOf) (bytes : List ℕ) (key : PartKey) (content :
 -- a head, and the first n of its frames one after another; and the host that they make
 pub data FramesTo : List ℕ → ℕ → ℕ → HostOf → Type 0 where
   at_first : (head : List ℕ) (h : HostOf) → Opens head h → FramesTo head (le64 head 24) 0 h
-  one_more : (front bytes : List ℕ) (count n : ℕ) (h : HostOf) (pfn : ℕ) (frame : HostFrame) → FramesTo front count n h → SpellsFrame h bytes pfn frame → FramesTo (front ++ bytes) count (n + 1) (put_frame h pfn frame)
+  one_more : (front bytes : List ℕ) (count n : ℕ) (h : HostOf) (pfn : ℕ) (frame : HostFrame) → FramesTo front count n h → n < count → SpellsFrame h bytes pfn frame → FramesTo (front ++ bytes) count (n + 1) (put_frame h pfn frame)
 
 -- a head, all its frames, the number of parts, and the first n parts one after another; and the host that they make
 pub data PartsTo : List ℕ → ℕ → ℕ → HostOf → Type 0 where
   at_first : (front number : List ℕ) (count : ℕ) (h : HostOf) → FramesTo front count count h → IsFaultless Number number → PartsTo (front ++ number) (le64 number 0) 0 h
-  one_more : (front bytes : List ℕ) (count n : ℕ) (h : HostOf) (key : PartKey) (content : List ℕ) → PartsTo front count n h → SpellsPart h bytes key content → PartsTo (front ++ bytes) count (n + 1) (put_part_in h key content)
+  one_more : (front bytes : List ℕ) (count n : ℕ) (h : HostOf) (key : PartKey) (content : List ℕ) → PartsTo front count n h → n < count → SpellsPart h bytes key content → PartsTo (front ++ bytes) count (n + 1) (put_part_in h key content)
 
 -- a faultless front of an image, and the place and the part that come next
 pub data Behind : List ℕ → ImagePlace → ImagePart → Type 0 where

@@ -6,7 +6,8 @@ ghost use Rattle.mig_headers.specs.declared.image_fault.ImagePlace.{ImagePlace};
 ghost use Rattle.mig_guest.specs.Hosts.{HostOf};
 ghost use Rattle.mig_image.specs.Image.{IsHostImage};
 ghost use Rattle.mig_image.specs.ImageParts.{host_at};
-ghost use Rattle.mig_image_refusals.specs.Refusal.{RefusedImage};
+ghost use Rattle.mig_image_refusals.specs.Fronts.{EndsInFrames, EndsInParts};
+ghost use Rattle.mig_image_refusals.specs.Refusal.{FramesTo, PartsTo, RefusedImage};
 
 /// Judging refuses an input for a cause at a place exactly where a faultless front of an image is followed by a part that
 /// isn't whole, or that is whole and in which this cause is named: of several causes that of the least number. What is
@@ -33,4 +34,11 @@ pub fn image_or_refused()
 pub fn never_both()
     ensures { (input : List ℕ) (host : HostOf) (rest : List ℕ) (place : ImagePlace) (cause : ImageCause) (more : List ℕ) →
         IsHostImage input host rest → RefusedImage input place cause more → ⊥ }
+{}
+
+/// A front with which a refusal begins is spelled as an image, where it is of bytes: up to a frame it is a faultless head and
+/// the frames of a valid host; up to a part it is the image of a valid host, but for the number of its parts.
+pub fn front_is_spelled()
+    ensures frames { (front : List ℕ) (count n : ℕ) (host : HostOf) → AreBytes front → FramesTo front count n host → EndsInFrames front n host }
+    ensures parts { (front : List ℕ) (count n : ℕ) (host : HostOf) → AreBytes front → PartsTo front count n host → EndsInParts front count n host }
 {}

@@ -6,4 +6,4 @@
 
 mod law;
 
-pub use law::{image_or_refused, never_both, one_refusal, refusals_agree};
+pub use law::{front_is_spelled, image_or_refused, never_both, one_refusal, refusals_agree};
