@@ -90,20 +90,20 @@ other_some Hvm _ n fails is = inr (inr (refl, (λ e. omega (arith, is, e)), (λ 
 not_hvm : Pv ≡ Hvm → ⊥
 not_hvm e = cc
 
+-- the numbers of the types that an HVM guest's frames have
+no_hvm : (n : ℕ) → (n ≡ 0) ⊎ ((n ≡ 13) ⊎ (n ≡ 14)) → IsOther Hvm n → ⊥
+no_hvm n is (inl (a, b)) = grind (arith, is, a, b)
+no_hvm n is (inr (inl a)) = grind (arith, is, a)
+no_hvm n is (inr (inr (_, a, b, c))) = elim is [ inl e ↦ a e | inr other ↦ elim other [ inl e ↦ b e | inr e ↦ c e ] ]
+
 some_other : (kind : Kind) (t : PageType) → IsOther kind (number_of t) → is_type_of kind t ≡ false
 some_other Pv Xtab h = refl
 some_other Pv _ (inl (a, b)) = absurd (omega (arith, a, b))
 some_other Pv _ (inr (inl a)) = absurd (omega (arith, a))
 some_other Pv _ (inr (inr (hvm, _, _, _))) = absurd (not_hvm hvm)
-some_other Hvm Notab (inl (a, b)) = absurd (omega (arith, a, b))
-some_other Hvm Notab (inr (inl a)) = absurd (omega (arith, a))
-some_other Hvm Notab (inr (inr (_, d, _, _))) = absurd (d refl)
-some_other Hvm Broken (inl (a, b)) = absurd (omega (arith, a, b))
-some_other Hvm Broken (inr (inl a)) = absurd (omega (arith, a))
-some_other Hvm Broken (inr (inr (_, _, d, _))) = absurd (d refl)
-some_other Hvm Xalloc (inl (a, b)) = absurd (omega (arith, a, b))
-some_other Hvm Xalloc (inr (inl a)) = absurd (omega (arith, a))
-some_other Hvm Xalloc (inr (inr (_, _, _, d))) = absurd (d refl)
+some_other Hvm Notab h = absurd (no_hvm 0 (inl refl) h)
+some_other Hvm Broken h = absurd (no_hvm 13 (inr (inl refl)) h)
+some_other Hvm Xalloc h = absurd (no_hvm 14 (inr (inr refl)) h)
 some_other Hvm _ h = refl
 
 no_xtab : (kind : Kind) → is_type_of kind Xtab ≡ false
