@@ -1,5 +1,5 @@
 -- The chunks of a legacy stream that the reader has behind it.
-use Rattle.std.proofs.Common.{◌≡◌, ℕ, List, [], ◌∷◌, ◌++◌, length, Bool, true, false, Option, Some, None, Result, Ok, Err, refl, sym, ap, subst, ◌∙◌}
+use Rattle.std.proofs.Common.{◌≡◌, ℕ, List, [], ◌∷◌, ◌++◌, Bool, true, false, Option, Some, None, Result, Ok, Err, refl, sym, ap, subst, ◌∙◌}
 use Rattle.std.specs.Prelude.{⊤}
 use Rattle.mig_bytes.specs.Judged.{Gives, stop_at}
 use Rattle.mig_bytes.specs.Judged.Judged.{Faulty}
@@ -14,7 +14,6 @@ use Rattle.mig_legacy.specs.Legacy.{LegacyChunk, is_end, is_ended}
 use Rattle.mig_legacy.specs.Seen.{IsSeen}
 use Rattle.mig_legacy.specs.Stream.{Front, one_more, at_start, ended_at, chunks_at}
 use Rattle.mig_legacy.specs.declared.read.Seen.{Seen}
-
 use Rattle.mig_legacy.proofs.Fronts.{ended_more, ends_at, goes_on, stops_ended, stops_refused, accepted, rejected}
 
 -- what the reader knows between two chunks

@@ -1,5 +1,5 @@
 -- What the reader keeps is formed, whatever chunks come.
-use Rattle.std.proofs.Common.{◌≡◌, None, sym, ◌∙◌}
+use Rattle.std.proofs.Common.{sym, ◌∙◌}
 use Rattle.std.proofs.lemmas.Option.{none-some}
 use Rattle.std.specs.FinMap as maps
 use Rattle.mig_guest.specs.Order.{part_cmp}

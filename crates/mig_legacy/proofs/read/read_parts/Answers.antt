@@ -1,4 +1,4 @@
-use Rattle.std.proofs.Common.{refl, rules, sym, ap, subst, ◌≤◌, ◌^◌}
+use Rattle.std.proofs.Common.{refl, rules, subst, ◌≤◌, ◌^◌}
 use Rattle.std.specs.FinMap as maps
 use Rattle.mig_bytes.specs.Judged.{◌>>=◌, placed}
 use Rattle.mig_bytes.specs.Judged.Judged.{Passes}

@@ -1,10 +1,10 @@
-use Rattle.std.proofs.Common.{◌≡◌, Bool, true, false, sym, subst, ◌∙◌}
+use Rattle.std.proofs.Common.{◌≡◌, sym, subst, ◌∙◌}
 use Rattle.mig_headers.specs.declared.kind.Kind.{Kind}
 use Rattle.mig_headers.specs.declared.kind.Kind.TheVariants.{Pv, Hvm}
 use Rattle.mig_guest.specs.Guests.{GuestOf}
 use Rattle.mig_pvtables.specs.Blank.{IsOfBytes}
 use Rattle.mig_pvtables.specs.Whole.{IsWhole}
-use Rattle.mig_libxl.specs.Emulators.{EmulatorsOf, no_emulators, with_emulators}
+use Rattle.mig_libxl.specs.Emulators.{EmulatorsOf, with_emulators}
 use Rattle.mig_libxl.specs.Seen.{IsPlain, AreEmulators}
 use Rattle.mig_libxl.proofs.EmulatorGuests.{IsDone, guest_done}
 use Rattle.mig_legacy.proofs.read.Seen.finish.Goals as goal

@@ -1,4 +1,4 @@
-use Rattle.std.proofs.Common.{refl, sym, ap, subst, ◌∙◌}
+use Rattle.std.proofs.Common.{refl, sym, ap, subst}
 use Rattle.mig_headers.specs.declared.kind.Kind.TheVariants.{Hvm}
 use Rattle.mig_guest.specs.Guests.{GuestOf}
 use Rattle.mig_restore.specs.Mean.{sent}

@@ -1,4 +1,4 @@
-use Rattle.std.proofs.Common.{◌++◌, ◌∷◌, [], rules, refl, subst, sym, ◌≡◌, ◌<◌, ◌^◌, ◌∙◌}
+use Rattle.std.proofs.Common.{rules, subst, sym, ◌<◌, ◌^◌}
 use Rattle.mig_bytes.specs.Judged.Judged.{Passes}
 use Rattle.mig_bytes.proofs.Joins.{mapped, stopped, then_reads}
 use Rattle.mig_legacy.specs.Judging.{kind_at, content_at, chunk_at}
