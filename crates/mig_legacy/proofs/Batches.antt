@@ -39,21 +39,21 @@ no_level : (t : PageType) → level_of (meant_type Hvm t) ≡ None
 no_level Notab = refl
 no_level _ = refl
 
-page_fine : (place w : ℕ) (bytes : List ℕ) → fault_of_page Hvm 0 (place, w) bytes ≡ None
+pub page_fine : (place w : ℕ) (bytes : List ℕ) → fault_of_page Hvm 0 (place, w) bytes ≡ None
 page_fine place w bytes = ap (λ o. fault_of_level 0 place o bytes) (no_level (type_in_word w))
 
-no_table : (t : PageType) (page : Option (List ℕ)) → EachEntry (IsWithin 0) (record { type = meant_type Hvm t; page = page })
+pub no_table : (t : PageType) (page : Option (List ℕ)) → EachEntry (IsWithin 0) (record { type = meant_type Hvm t; page = page })
 no_table t page level bytes lev has slot lt = absurd (none-some level (sym (no_level t) ∙ lev))
 
-is_page : (b : Bool) (bytes : List ℕ) → length bytes ≡ cond b 4096 0 → IsPage b bytes (cond b (Some bytes) None)
+pub is_page : (b : Bool) (bytes : List ℕ) → length bytes ≡ cond b 4096 0 → IsPage b bytes (cond b (Some bytes) None)
 is_page true bytes size = (size, refl)
 is_page false [] size = (refl, refl)
 is_page false (x ∷ xs) size = absurd (omega (arith, size))
 
-of_page : (b : Bool) (bytes : List ℕ) (page : Option (List ℕ)) → IsPage b bytes page → (length bytes ≡ cond b 4096 0) × (cond b (Some bytes) None ≡ page)
+pub of_page : (b : Bool) (bytes : List ℕ) (page : Option (List ℕ)) → IsPage b bytes page → (length bytes ≡ cond b 4096 0) × (cond b (Some bytes) None ≡ page)
 of_page b bytes page h = (grind (arith, common_steps, h), grind (arith, common_steps, h))
 
-same_entry : (w : ℕ) (bytes : List ℕ) (e : FrameEntry) → IsEntry Hvm 0 w bytes e → entry_of w bytes ≡ e
+pub same_entry : (w : ℕ) (bytes : List ℕ) (e : FrameEntry) → IsEntry Hvm 0 w bytes e → entry_of w bytes ≡ e
 same_entry w bytes e is =
     ap (λ p. record { pfn = word_pfn w; type = type_in_word w; page = p }) (of_page (word_has_data w) bytes e.page is.page).1
     ∙ ap (λ n. record { pfn = n; type = type_in_word w; page = e.page }) (sym is.pfn) ∙ ap (λ k. record { pfn = e.pfn; type = k; page = e.page }) (sym is.type)
@@ -91,12 +91,12 @@ entries_go place (w ∷ ws) bytes rest es (page, more, e, others, whole, is, one
 
 -- ---- the words
 
-words_fine : (ws : List ℕ) → fault_of_batch ws ≡ None → All IsLegacyWord ws
+pub words_fine : (ws : List ℕ) → fault_of_batch ws ≡ None → All IsLegacyWord ws
 words_fine ws fine =
     let rows = rows_fine (batch_rows ws) fine in
     λ k d lt. (none_pass is_reserved ws rows.0 k d lt, none_pass is_high ws rows.1.0 k d lt)
 
-or_passes : {X : Type 0} (j : Judged Cause X) (x : X) (rest : List ℕ) → or_truncated j ≡ Passes x rest → j ≡ Passes x rest
+pub or_passes : {X : Type 0} (j : Judged Cause X) (x : X) (rest : List ℕ) → or_truncated j ≡ Passes x rest → j ≡ Passes x rest
 or_passes (Passes y mid) x rest h = let e = same_passes y x mid rest h in ap (λ z. Passes z mid) e.0 ∙ ap (Passes x) e.1
 or_passes {X} (Faulty c mid) x rest h = let no : ◌≡◌ {A = Judged LegacyCause X} (Faulty Truncated mid) (Passes x rest) = h in absurd (cc)
 
@@ -109,7 +109,7 @@ pub record Batch (n : ℕ) (i : List ℕ) (c : Content) (rest : List ℕ) : Type
   pub is : IsBatch n body es
   pub says : Frames es ≡ c
 
-abbrev behind_words : List ℕ × List ℕ → Judged LegacyCause Content
+abbrev pub behind_words : List ℕ × List ℕ → Judged LegacyCause Content
 behind_words ws = or_truncated (entries_in_place Hvm 0 0 (page_data_words ws.0) ws.1) >>= λ entries. Passes (Frames entries.0) entries.1
 
 pub batch_passes : (n : ℕ) (i : List ℕ) (c : Content) (rest : List ℕ) → batch_at n i ≡ Passes c rest → Batch n i c rest
@@ -127,7 +127,7 @@ batch_passes n i c rest h =
       says = e.0;
     }
 
-fine_words : (ws : List ℕ) → All IsLegacyWord ws → fault_of_batch ws ≡ None
+pub fine_words : (ws : List ℕ) → All IsLegacyWord ws → fault_of_batch ws ≡ None
 fine_words ws good = no_fault (batch_rows ws) (list_any_none is_reserved ws (λ k d lt. (good k d lt).0), (list_any_none is_high ws (λ k d lt. (good k d lt).1), tt))
 
 pub batch_goes : (n : ℕ) (body rest : List ℕ) (es : List FrameEntry) → IsBatch n body es → batch_at n (body ++ rest) ≡ Passes (Frames es) rest

@@ -48,7 +48,7 @@ asked _ b h = refl
 asks : (kind : ChunkKind) (b : Bool) → (is_end kind && b) ≡ false → kind ≡ End → b ≡ false
 asks kind b h is = subst (λ k. (is_end k && b) ≡ false) is h
 
-fine_stand : (chunks : List LegacyChunk) (kind : ChunkKind) → fault_of_kind chunks kind ≡ None → MayStand chunks kind
+pub fine_stand : (chunks : List LegacyChunk) (kind : ChunkKind) → fault_of_kind chunks kind ≡ None → MayStand chunks kind
 unfolding fault_of_kind
 fine_stand chunks kind fine =
     let rows = rows_fine (kind_rows chunks kind) fine in
@@ -60,7 +60,7 @@ fine_stand chunks kind fine =
       };
     }
 
-stand_fine : (chunks : List LegacyChunk) (kind : ChunkKind) → MayStand chunks kind → fault_of_kind chunks kind ≡ None
+pub stand_fine : (chunks : List LegacyChunk) (kind : ChunkKind) → MayStand chunks kind → fault_of_kind chunks kind ≡ None
 unfolding fault_of_kind
 stand_fine chunks kind s =
     no_fault (kind_rows chunks kind) (
@@ -70,7 +70,7 @@ stand_fine chunks kind s =
 
 -- ---- its number
 
-record Numbered (chunks : List LegacyChunk) (i : List ℕ) (kind : ChunkKind) (mid : List ℕ) : Type 0 where
+pub record Numbered (chunks : List LegacyChunk) (i : List ℕ) (kind : ChunkKind) (mid : List ℕ) : Type 0 where
   pub number : List ℕ
   pub whole : i ≡ number ++ mid
   pub size : length number ≡ 4
@@ -89,14 +89,14 @@ allowed_passes chunks (Ok this) i kind mid h =
     let e = same_passes {C = LegacyCause} this kind i mid b.second in
     record { is = ap Ok e.0; fine = subst (λ k. fault_of_kind chunks k ≡ None) e.0 (tried_passes (fault_of_kind chunks this) i b.mid b.x b.first).0; same = e.1 }
 
-numbered : (chunks : List LegacyChunk) (i : List ℕ) (kind : ChunkKind) (mid : List ℕ) → kind_at chunks i ≡ Passes kind mid → Numbered chunks i kind mid
+pub numbered : (chunks : List LegacyChunk) (i : List ℕ) (kind : ChunkKind) (mid : List ℕ) → kind_at chunks i ≡ Passes kind mid → Numbered chunks i kind mid
 numbered chunks i kind mid h =
     let b = both_pass (part Truncated 4 i) (λ number. allowed chunks (kind_of (le32 number.0 0)) number.1) kind mid h in
     let p = part_passes Truncated 4 i b.x b.mid b.first in
     let a = allowed_passes chunks (kind_of (le32 b.x 0)) b.mid kind mid b.second in
     record { number = b.x; whole = p.0 ∙ ap (λ l. b.x ++ l) a.same; size = p.1; is = kinds_have_numbers (le32 b.x 0) kind a.is; stands = fine_stand chunks kind a.fine }
 
-number_goes : (chunks : List LegacyChunk) (kind : ChunkKind) (number mid : List ℕ) → length number ≡ 4 → IsNumberOf kind (le32 number 0) → MayStand chunks kind → kind_at chunks (number ++ mid) ≡ Passes kind mid
+pub number_goes : (chunks : List LegacyChunk) (kind : ChunkKind) (number mid : List ℕ) → length number ≡ 4 → IsNumberOf kind (le32 number 0) → MayStand chunks kind → kind_at chunks (number ++ mid) ≡ Passes kind mid
 number_goes chunks kind number mid size is stands =
     then_passes (part Truncated 4 (number ++ mid)) (λ n. allowed chunks (kind_of (le32 n.0 0)) n.1) number mid _ (part_whole Truncated 4 number mid size)
     (ap (λ o. allowed chunks o mid) (numbers_have_kinds kind (le32 number 0) is) ∙ tried_none (fault_of_kind chunks kind) mid _ (stand_fine chunks kind stands))
@@ -109,7 +109,7 @@ pub record Found (chunks : List LegacyChunk) (i : List ℕ) (c : LegacyChunk) (r
   pub some : 0 < length text
   pub follows : Follows chunks c text
 
-abbrev behind_kind : List LegacyChunk → ChunkKind × List ℕ → Judged LegacyCause LegacyChunk
+abbrev pub behind_kind : List LegacyChunk → ChunkKind × List ℕ → Judged LegacyCause LegacyChunk
 behind_kind chunks kind = content_at chunks kind.0 kind.1 >>= λ content. Passes (record { kind = kind.0; content = content.0 }) content.1
 
 pub found : (chunks : List LegacyChunk) (i : List ℕ) (c : LegacyChunk) (rest : List ℕ) → is_ended chunks ≡ false → chunk_at chunks i ≡ Passes c rest → Found chunks i c rest

@@ -75,10 +75,10 @@ rejected f cause rest going is = rw (going, is) refl
 
 -- ---- what passes is spelled
 
-record Split (rest : List ℕ) (f : Front) : Type 0 where
-  bytes : List ℕ
-  whole : rest ≡ bytes ++ f.rest
-  spelled : Spells bytes f.chunks
+pub record Split (rest : List ℕ) (f : Front) : Type 0 where
+  pub bytes : List ℕ
+  pub whole : rest ≡ bytes ++ f.rest
+  pub spelled : Spells bytes f.chunks
 
 split_more : (rest : List ℕ) (u t : Front) → Split rest u → Step u t → Split rest t
 split_more rest u t s step =
@@ -89,7 +89,7 @@ split_more rest u t s step =
       spelled = a_chunk s.bytes u.chunks step.c g.text s.spelled g.follows;
     } in subst (Split rest) (sym step.is) more
 
-front_spelled : (rest : List ℕ) (f : Front) → Reaches one_more (at_start rest) f → Split rest f
+pub front_spelled : (rest : List ℕ) (f : Front) → Reaches one_more (at_start rest) f → Split rest f
 front_spelled rest _ here = record { bytes = []; whole = refl; spelled = no_chunk }
 front_spelled rest _ (next u t reached goes) = split_more rest u t (front_spelled rest u reached) (step_of u t goes)
 
@@ -109,7 +109,7 @@ accepted_spelled i chunks rest h =
 
 -- ---- what is spelled passes
 
-spelled_reached : (bytes : List ℕ) (chunks : List LegacyChunk) (rest : List ℕ) → Spells bytes chunks → Reaches one_more (at_start (bytes ++ rest)) (record { chunks = chunks; rest = rest })
+pub spelled_reached : (bytes : List ℕ) (chunks : List LegacyChunk) (rest : List ℕ) → Spells bytes chunks → Reaches one_more (at_start (bytes ++ rest)) (record { chunks = chunks; rest = rest })
 spelled_reached _ _ rest no_chunk = here
 spelled_reached _ _ rest (a_chunk bytes chunks c text before f) =
     next (record { chunks = chunks; rest = text ++ rest }) _

@@ -14,19 +14,19 @@ use Rattle.mig_legacy.specs.Stream.{chunks_at, legacy_at, IsRefused}
 use Rattle.mig_legacy.proofs.Fronts.{accepted_spelled, spelled_accepted}
 use Rattle.mig_legacy.proofs.TailTexts.{start_passes, start_goes, tail_passes, tail_goes, device_passes, device_goes}
 
-abbrev At : Type 0
+abbrev pub At : Type 0
 At = LegacyPlace × LegacyCause
 
-abbrev stream_of : List LegacyChunk → LegacyTail → Option (List ℕ) → LegacyStream
+abbrev pub stream_of : List LegacyChunk → LegacyTail → Option (List ℕ) → LegacyStream
 stream_of chunks tail device = record { chunks = chunks; tail = tail; device = device }
 
-abbrev behind_tail : List LegacyChunk → LegacyTail × List ℕ → Judged At LegacyStream
+abbrev pub behind_tail : List LegacyChunk → LegacyTail × List ℕ → Judged At LegacyStream
 behind_tail chunks tail = placed Device (device_at tail.1) >>= λ device. Passes (stream_of chunks tail.0 device.0) device.1
 
-abbrev behind_chunks : List LegacyChunk × List ℕ → Judged At LegacyStream
+abbrev pub behind_chunks : List LegacyChunk × List ℕ → Judged At LegacyStream
 behind_chunks chunks = placed Tail (tail_at chunks.1) >>= behind_tail chunks.0
 
-abbrev behind_start : List ℕ × List ℕ → Judged At LegacyStream
+abbrev pub behind_start : List ℕ × List ℕ → Judged At LegacyStream
 behind_start start = chunks_at start.1 >>= behind_chunks
 
 pub accepted_is_legacy : (input : List ℕ) (s : LegacyStream) (rest : List ℕ) → legacy_at input ≡ Passes s rest → IsLegacy input s rest

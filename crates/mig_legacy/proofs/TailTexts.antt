@@ -60,7 +60,7 @@ pub record Tail (i : List ℕ) (t : LegacyTail) (rest : List ℕ) : Type 0 where
   pub whole : i ≡ bytes ++ rest
   pub is : IsTail bytes t
 
-abbrev fault_of_tail : List ℕ → Option LegacyCause
+abbrev pub fault_of_tail : List ℕ → Option LegacyCause
 fault_of_tail context = context_fault (scan context)
 
 pub tail_passes : (i : List ℕ) (t : LegacyTail) (rest : List ℕ) → tail_at i ≡ Passes t rest → Tail i t rest
@@ -144,7 +144,7 @@ device_passes [] d rest h =
     subst (λ x. Device [] x rest) e.0 (subst (λ l. Device [] None l) e.1 left)
 device_passes (b ∷ input) d rest h = record_passes (b ∷ input) d rest h
 
-some_device : (i : List ℕ) → 0 < length i → device_at i ≡ record_at i
+pub some_device : (i : List ℕ) → 0 < length i → device_at i ≡ record_at i
 unfolding device_at
 some_device [] some = absurd (omega (arith, some))
 some_device (b ∷ i) some = refl

@@ -196,10 +196,10 @@ page_least kind top place word page = by (level_of (meant_type kind (type_in_wor
 
 module _ (body : List ℕ) where
   -- a fault in words is the one that the scan answers
-  scan_finds : (o : ℕ) (fault : ContextFault) → EntriesTo body o → EntryHas body o fault → Err fault ≡ scan body
+  pub scan_finds : (o : ℕ) (fault : ContextFault) → EntriesTo body o → EntryHas body o fault → Err fault ≡ scan body
   scan_finds o fault chain h = scan_is body (Err fault) (o, chain_reached body o chain, has_found body o fault h)
 
-  scanned : (fault : ContextFault) → scan body ≡ Err fault → Scanned body (Err fault)
+  pub scanned : (fault : ContextFault) → scan body ≡ Err fault → Scanned body (Err fault)
   unfolding scan
   scanned fault h =
       let o = walk_end (after_entry body) (length body) 0 in
