@@ -1,6 +1,5 @@
 -- The parts of a chunk: judging is faulty in one of them exactly where it fails.
-use Rattle.mig_legacy_refusals.proofs.Common.{◌≡◌, ◌⊎◌, inl, inr, ℕ, ◌+◌, ◌*◌, ◌/◌, ◌<◌, ◌^◌, ◌-◌, List, [], ◌∷◌, ◌++◌, length, drop, Option, Some, None, Result, Ok, Err, refl, sym, ap, subst, ◌∙◌, append_assoc, Judged, ◌>>=◌, part, tried, Passes, Faulty, part_whole, then_passes, tried_none, le32, LegacyCause, ChunkKind, LegacyChunk, LegacyPart, IsFaultless, Fails, size_of}
-use Rattle.mig_headers.specs.declared.fault.Cause.TheVariants.{Truncated as Short}
+use Rattle.mig_legacy_refusals.proofs.Common.{◌≡◌, ◌⊎◌, inl, inr, ℕ, ◌+◌, ◌*◌, ◌/◌, ◌<◌, ◌^◌, List, [], ◌++◌, length, drop, Option, Some, None, Result, Ok, Err, refl, sym, ap, subst, ◌∙◌, append_assoc, Judged, ◌>>=◌, part, tried, Passes, Faulty, part_whole, then_passes, tried_none, le32, LegacyCause, ChunkKind, LegacyChunk, LegacyPart, IsFaultless, Fails}
 use Rattle.mig_headers.specs.declared.kind.Kind.TheVariants.{Hvm}
 use Rattle.mig_headers.specs.declared.legacy_fault.LegacyCause.TheVariants.{Truncated}
 use Rattle.mig_libxl.specs.Emulators.{emulators_of}
@@ -8,9 +7,9 @@ use Rattle.mig_records.specs.Words.{words}
 use Rattle.mig_refused.proofs.Single.{passes_not, same_faulty, then_faulty, bind_cases, only_first}
 use Rattle.mig_restore.proofs.Batches.{entries_in_place, page_size}
 use Rattle.mig_legacy.specs.declared.chunk.ChunkKind.TheVariants as kinds
-use Rattle.mig_legacy.specs.Batches.{page_data_words, fault_of_batch}
+use Rattle.mig_legacy.specs.Batches.{page_data_words}
 use Rattle.mig_legacy.specs.Chunks.{kind_of, IsNumberOf}
-use Rattle.mig_legacy.specs.Judging.{said_at, plain_at, length_at, fault_of_kind, fault_of_length, fault_of_max, fault_of_toolstack, allowed, kind_at, words_at, batch_at, vcpus_at, clock_of, clock_at, value_at, pairs_of_toolstack, or_truncated, content_at, chunk_at}
+use Rattle.mig_legacy.specs.Judging.{said_at, plain_at, length_at, fault_of_kind, fault_of_max, fault_of_toolstack, allowed, kind_at, words_at, batch_at, vcpus_at, clock_of, pairs_of_toolstack, or_truncated, content_at, chunk_at}
 use Rattle.mig_legacy.specs.Legacy.{Content, store_records}
 use Rattle.mig_legacy.specs.Legacy.Content.{Nothing, Frames, Value, Clock, Pairs}
 use Rattle.mig_legacy.proofs.Batches.{behind_words}
@@ -123,11 +122,11 @@ module _ (chunks : List LegacyChunk) (c : LegacyCause) (rest : List ℕ) where
       ap (batch_at n) (append_assoc ws pages left)
       ∙ then_passes (words_at n (ws ++ (pages ++ left))) behind_words (words n ws) (pages ++ left) _ (part_goes (Words n) (words n) ws (pages ++ left) is)
       (
-        let (less, same, nothing) = page_short word left c rest fails in
-        ap (λ l. or_truncated (entries_in_place Hvm 0 0 l (pages ++ left)) >>= λ entries. Passes (Frames entries.0) entries.1) are
-        ∙ ap (λ j. or_truncated j >>= λ entries. Passes (Frames entries.0) entries.1) (pages_refused 0 before word others pages left es entries less)
-        ∙ ap (λ x. Faulty x []) same
-        ∙ ap (Faulty c) nothing
+      let (less, same, nothing) = page_short word left c rest fails in
+      ap (λ l. or_truncated (entries_in_place Hvm 0 0 l (pages ++ left)) >>= λ entries. Passes (Frames entries.0) entries.1) are
+      ∙ ap (λ j. or_truncated j >>= λ entries. Passes (Frames entries.0) entries.1) (pages_refused 0 before word others pages left es entries less)
+      ∙ ap (λ x. Faulty x []) same
+      ∙ ap (Faulty c) nothing
       )
   body_refused _ _ _ left at_max fails = then_faulty (said_at fault_of_max (λ bytes. le32 bytes 0) 4 left) (λ max. plain_at (λ _. Nothing) (8 * (max.0 / 64 + 1)) max.1) c rest (fails_is VcpuMax (λ bytes. le32 bytes 0) left c rest fails)
   body_refused _ _ _ left (at_bits max is) fails =

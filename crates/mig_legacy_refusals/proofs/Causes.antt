@@ -1,18 +1,16 @@
 -- The causes that stand in each part of a legacy stream.
-use Rattle.mig_legacy_refusals.proofs.Common.{◌≡◌, ◌⊎◌, inl, inr, ℕ, ◌<◌, ◌≤◌, List, [], ◌∷◌, length, Bool, true, false, cond, not, nat_eq, nat_lt, nat_le, Option, Some, None, Result, Ok, Err, refl, sym, ap, subst, ◌∙◌, arith, and_from, and_parts, both_ways, cases_order, eq-eqb, eqb-false, eqb-true, false≢true, le-leb, leb-true, ltb-false, lt-ltb, ltb-true, ne_eqb, not-true, not_from_false, none-some, same_Some, or_cases, or_left, or_right, slice_index, ◌&&◌, ◌||◌, list_any, be64, le32, first_fault, LegacyCause, ChunkKind, LegacyChunk, IsTriedBefore, LegacyPart, Stands}
+use Rattle.mig_legacy_refusals.proofs.Common.{◌≡◌, ◌⊎◌, inl, inr, ℕ, ◌<◌, ◌≤◌, List, [], ◌∷◌, Bool, true, false, cond, not, nat_eq, nat_lt, nat_le, Option, Some, None, Result, Ok, Err, refl, sym, ap, subst, ◌∙◌, arith, and_from, and_parts, both_ways, cases_order, eq-eqb, eqb-false, eqb-true, false≢true, le-leb, leb-true, ltb-false, lt-ltb, ltb-true, ne_eqb, not-true, none-some, same_Some, or_cases, or_left, or_right, slice_index, ◌&&◌, list_any, le32, first_fault, LegacyCause, ChunkKind, LegacyChunk, IsTriedBefore, LegacyPart, Stands}
 use Rattle.std.specs.FinMap as maps
 use Rattle.std.specs.List.{flat_map}
 use Rattle.std.specs.Option.{option_map, option_or}
 use Rattle.std.specs.Str.{bytes_eq}
 use Rattle.std.proofs.lemmas.Slice.Eq.{bytes_eq-Decides}
 use Rattle.mig_headers.specs.Contexts.{scan}
-use Rattle.mig_headers.specs.Headers.{marker, libxl_ident}
 use Rattle.mig_headers.specs.declared.fault.ContextFault.{ContextFault}
 use Rattle.mig_headers.specs.declared.kind.Kind.TheVariants.{Hvm}
-use Rattle.mig_headers.specs.declared.legacy_fault.LegacyCause.TheVariants.{Modern, Tools32, BadPageType, WordHigh, BadVcpuMax, BadToolstack, UnpairedIoreq, BadContext, BadSignature, TooManyChunks, TooManyFrames, BodyTooLong, TooManyPairs}
+use Rattle.mig_headers.specs.declared.legacy_fault.LegacyCause.TheVariants.{Modern, Tools32, BadPageType, WordHigh, BadVcpuMax, BadToolstack, UnpairedIoreq, BadContext, BadSignature, TooManyFrames, BodyTooLong, TooManyPairs}
 use Rattle.mig_pagetypes.specs.Limits.{most_frames}
 use Rattle.mig_pagetypes.specs.LegacyWords.{legacy_type}
-use Rattle.mig_policy.specs.PairMaps.{text_of_map, put_pairs}
 use Rattle.mig_records.specs.Words.{words, first_place, first_word}
 use Rattle.mig_records.proofs.Places.{none_pass, place_is_first}
 use Rattle.mig_restore.specs.Mean.{sent}
@@ -21,10 +19,10 @@ use Rattle.mig_libxl.specs.Judging.{most_pairs}
 use Rattle.mig_refused.proofs.Entries.{found_has, reached_chain}
 use Rattle.mig_refused.proofs.Tables.{scan_finds, scanned}
 use Rattle.mig_legacy.specs.declared.chunk.ChunkKind.TheVariants.{End, Batch, VcpuMap, Tsc, LastCheckpoint, Toolstack, Param}
-use Rattle.mig_legacy.specs.Batches.{is_reserved, is_high, batch_rows, fault_of_batch}
+use Rattle.mig_legacy.specs.Batches.{is_reserved, is_high, fault_of_batch}
 use Rattle.mig_legacy.specs.Chunks.{kind_of, IsNumberOf}
 use Rattle.mig_legacy.specs.Judged.{toolstack, toolstack_fault}
-use Rattle.mig_legacy.specs.Judging.{most_chunks, is_modern, is_full, is_unpaired, frames_sent, kind_rows, fault_of_kind, fault_of_start, fault_of_length, fault_of_max, fault_of_toolstack, fault_of_signature, pairs_of_toolstack, spelled_with, context_fault, signature}
+use Rattle.mig_legacy.specs.Judging.{is_modern, is_unpaired, frames_sent, kind_rows, fault_of_kind, fault_of_start, fault_of_length, fault_of_max, fault_of_toolstack, fault_of_signature, pairs_of_toolstack, spelled_with, context_fault, signature}
 use Rattle.mig_legacy.specs.Legacy.{has_value, image_records, is_end, store_records}
 use Rattle.mig_legacy.specs.Texts.{pairs_of}
 use Rattle.mig_legacy.proofs.ChunkNumbers.{numbers_have_kinds}
@@ -40,7 +38,7 @@ use Rattle.mig_legacy_refusals.specs.Refusal.ContextHas.{wrong_entry}
 use Rattle.mig_legacy_refusals.specs.Refusal.SignatureHas.{other_bytes}
 use Rattle.mig_legacy_refusals.specs.Refusal.LegacyPart.{Start, ChunkType, Words, Page, VcpuMax, Length, Context, Signature, Plain}
 use Rattle.mig_legacy_refusals.specs.Refusal.{LegacyPart as parts}
-use Rattle.mig_legacy_refusals.proofs.Named.{Named, NamedOf, RowHas, To, ascends, named}
+use Rattle.mig_legacy_refusals.proofs.Named.{Named, RowHas, named}
 use Rattle.mig_legacy_refusals.proofs.Numbers.{decided, low_cause, number_found}
 
 -- ---- the first 8 bytes

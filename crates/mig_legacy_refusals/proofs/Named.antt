@@ -1,5 +1,5 @@
 -- Tables of causes: the first row whose test holds is the cause that is named.
-use Rattle.mig_legacy_refusals.proofs.Common.{◌≡◌, ◌⊎◌, inl, inr, ◌<◌, List, [], ◌∷◌, Bool, true, false, nat_lt, Option, Some, None, refl, sym, ap, subst, arith, ltb-true, and_parts, false≢true, ◌&&◌, list_all, first_fault, LegacyCause, number_of_legacy_cause, IsFirstCause, IsTriedBefore}
+use Rattle.mig_legacy_refusals.proofs.Common.{◌≡◌, ◌⊎◌, inl, inr, List, [], ◌∷◌, Bool, true, false, nat_lt, Option, Some, None, refl, sym, ap, subst, arith, ltb-true, and_parts, false≢true, ◌&&◌, list_all, first_fault, LegacyCause, number_of_legacy_cause, IsFirstCause, IsTriedBefore}
 
 abbrev pub NamedOf : (LegacyCause → Type 0) → Option LegacyCause → Type 0
 NamedOf Has None = (c : LegacyCause) → Has c → ⊥

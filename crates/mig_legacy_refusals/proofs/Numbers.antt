@@ -1,5 +1,5 @@
 -- The causes that stand in the number of a chunk's type.
-use Rattle.mig_legacy_refusals.proofs.Common.{◌≡◌, ◌⊎◌, inl, inr, ℕ, ◌<◌, ◌≤◌, ◌^◌, Bool, true, false, nat_eq, nat_le, nat_lt, cond, Result, Ok, Err, refl, sym, ap, subst, ◌∙◌, arith, common_steps, cases_eq, cases_lt, ne_eqb, LegacyCause, ChunkKind, number_of_legacy_cause}
+use Rattle.mig_legacy_refusals.proofs.Common.{◌≡◌, ◌⊎◌, inl, inr, ℕ, ◌<◌, ◌≤◌, ◌^◌, true, false, nat_eq, nat_le, nat_lt, Result, Ok, Err, refl, ap, ◌∙◌, arith, common_steps, cases_eq, cases_lt, ne_eqb, LegacyCause, ChunkKind, number_of_legacy_cause}
 use Rattle.mig_headers.specs.declared.legacy_fault.LegacyCause.TheVariants.{VerifyOrPv, Tmem, Compressed, UnknownChunk, BatchTooLarge}
 use Rattle.mig_legacy.specs.Chunks.{negative, negative_kind, kind_of}
 use Rattle.mig_legacy.specs.declared.chunk.ChunkKind.TheVariants.{End, Batch, VcpuMap, Tsc, LastCheckpoint, Toolstack, Param}
@@ -41,10 +41,26 @@ small n above low =
 no_chunk : (m : ℕ) → ((k : ℕ) → 1 ≤ k → k ≤ 20 → m ≡ k → ⊥) → negative_kind m ≡ Err (UnknownChunk m)
 no_chunk m never =
     rw (
-      is 1 (omega arith) (omega arith), is 5 (omega arith) (omega arith), is 6 (omega arith) (omega arith), is 12 (omega arith) (omega arith), is 13 (omega arith) (omega arith),
-      is 2 (omega arith) (omega arith), is 7 (omega arith) (omega arith), is 9 (omega arith) (omega arith), is 18 (omega arith) (omega arith), is 3 (omega arith) (omega arith),
-      is 4 (omega arith) (omega arith), is 8 (omega arith) (omega arith), is 10 (omega arith) (omega arith), is 11 (omega arith) (omega arith), is 14 (omega arith) (omega arith),
-      is 15 (omega arith) (omega arith), is 16 (omega arith) (omega arith), is 17 (omega arith) (omega arith), is 19 (omega arith) (omega arith), is 20 (omega arith) (omega arith)
+      is 1 (omega arith) (omega arith),
+      is 5 (omega arith) (omega arith),
+      is 6 (omega arith) (omega arith),
+      is 12 (omega arith) (omega arith),
+      is 13 (omega arith) (omega arith),
+      is 2 (omega arith) (omega arith),
+      is 7 (omega arith) (omega arith),
+      is 9 (omega arith) (omega arith),
+      is 18 (omega arith) (omega arith),
+      is 3 (omega arith) (omega arith),
+      is 4 (omega arith) (omega arith),
+      is 8 (omega arith) (omega arith),
+      is 10 (omega arith) (omega arith),
+      is 11 (omega arith) (omega arith),
+      is 14 (omega arith) (omega arith),
+      is 15 (omega arith) (omega arith),
+      is 16 (omega arith) (omega arith),
+      is 17 (omega arith) (omega arith),
+      is 19 (omega arith) (omega arith),
+      is 20 (omega arith) (omega arith),
     ) refl
   where
     is : (k : ℕ) → 1 ≤ k → k ≤ 20 → nat_eq m k ≡ false

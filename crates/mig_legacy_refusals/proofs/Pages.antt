@@ -1,5 +1,5 @@
 -- The pages of a batch: judging is faulty where one isn't whole.
-use Rattle.mig_legacy_refusals.proofs.Common.{◌≡◌, inl, inr, ℕ, ◌+◌, ◌<◌, List, [], ◌∷◌, ◌++◌, length, Bool, true, false, cond, nat_lt, Some, None, refl, sym, ap, subst, ◌∙◌, append_assoc, lt-ltb, ltb-true, Judged, ◌>>=◌, part, tried, Passes, Faulty, part_passes, part_whole, then_passes, tried_none, LegacyCause}
+use Rattle.mig_legacy_refusals.proofs.Common.{◌≡◌, inl, inr, ℕ, ◌+◌, ◌<◌, List, [], ◌∷◌, ◌++◌, length, Bool, true, false, nat_lt, refl, sym, ap, ◌∙◌, append_assoc, lt-ltb, ltb-true, Judged, ◌>>=◌, part, tried, Passes, Faulty, part_passes, part_whole, then_passes, tried_none, LegacyCause}
 use Rattle.mig_bytes.specs.Judged.{each}
 use Rattle.mig_headers.specs.declared.fault.Cause.{Cause}
 use Rattle.mig_headers.specs.declared.fault.Cause.TheVariants.{Truncated as Short}

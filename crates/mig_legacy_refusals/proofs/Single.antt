@@ -1,5 +1,5 @@
 -- One part: what fails in it, and how judging goes on behind it.
-use Rattle.mig_legacy_refusals.proofs.Common.{◌≡◌, ℕ, ◌<◌, List, [], ◌++◌, length, take, drop, Bool, true, false, cond, nat_lt, Option, Some, None, refl, sym, ap, subst, ◌∙◌, take-append-drop, length-take-le, ltb-false, lt-ltb, ltb-true, Judged, ◌>>=◌, part, placed, tried, Passes, Faulty, part_whole, then_passes, LegacyCause, LegacyPart, Stands, size_of, IsFaultless, Fails}
+use Rattle.mig_legacy_refusals.proofs.Common.{◌≡◌, ℕ, List, [], ◌++◌, length, take, drop, Bool, true, false, cond, nat_lt, Option, Some, None, refl, sym, ap, subst, ◌∙◌, take-append-drop, length-take-le, ltb-false, lt-ltb, ltb-true, Judged, ◌>>=◌, part, placed, tried, Passes, Faulty, part_whole, then_passes, LegacyCause, LegacyPart, Stands, size_of, IsFaultless, Fails}
 use Rattle.mig_headers.specs.declared.legacy_fault.LegacyCause.TheVariants.{Truncated}
 use Rattle.mig_refused.proofs.Single.{passes_not, same_faulty}
 use Rattle.mig_legacy.specs.Judging.{said_at}

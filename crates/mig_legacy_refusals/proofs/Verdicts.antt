@@ -1,5 +1,5 @@
 -- A legacy stream is refused in words exactly where judging refuses it.
-use Rattle.mig_legacy_refusals.proofs.Common.{◌≡◌, ◌⊎◌, inl, inr, ℕ, ◌^◌, ◌-◌, ◌<◌, List, [], ◌∷◌, ◌++◌, length, Bool, true, false, Option, Some, None, refl, sym, ap, subst, ◌∙◌, arith, both_ways, append_assoc, length-append, Judged, ◌>>=◌, part, placed, Passes, Faulty, placed_passes, then_passes, le32, LegacyCause, LegacyPlace, LegacyChunk, LegacyPart, IsFaultless, Fails}
+use Rattle.mig_legacy_refusals.proofs.Common.{◌≡◌, ◌⊎◌, inl, inr, ℕ, ◌^◌, ◌-◌, ◌<◌, List, [], ◌∷◌, ◌++◌, length, Bool, true, false, Option, Some, None, refl, sym, ap, subst, ◌∙◌, arith, both_ways, append_assoc, length-append, Judged, placed, Passes, Faulty, placed_passes, then_passes, le32, LegacyCause, LegacyPlace, LegacyChunk, LegacyPart, IsFaultless, Fails}
 use Rattle.std.specs.Str.{bytes_eq}
 use Rattle.std.proofs.lemmas.Slice.Eq.{bytes_eq-Decides}
 use Rattle.mig_bytes.proofs.Walks.{walk_end_reached}
@@ -9,7 +9,7 @@ use Rattle.mig_guest.specs.Guests.{GuestOf}
 use Rattle.mig_refused.proofs.Single.{passes_not, same_faulty, then_faulty, bind_cases, only_first}
 use Rattle.mig_legacy.specs.Judging.{said_at, plain_at, start_at, chunk_at, signature, fault_of_signature, record_at, tail_at, tail_of, device_at}
 use Rattle.mig_legacy.specs.Legacy.{LegacyTail, LegacyStream, is_ended}
-use Rattle.mig_legacy.specs.Spelled.{AcceptedLegacy, IsStart, IsTail, Spells}
+use Rattle.mig_legacy.specs.Spelled.{AcceptedLegacy, IsStart, Spells}
 use Rattle.mig_legacy.specs.Stream.{Front, at_start as from_start, one_more, front_of, ended_at, chunks_at, legacy_at, IsRefused}
 use Rattle.mig_legacy.proofs.Fronts.{Split, accepted, accepted_spelled, ends_at, front_spelled, front_stops, goes_on, rejected, spelled_accepted, spelled_reached, stops_refused}
 use Rattle.mig_legacy.proofs.Laws.{At, behind_chunks, behind_start, behind_tail, stream_of}

@@ -1,5 +1,5 @@
--- Refusals of legacy streams in the words of their form (Xen's xg_save_restore.h): a faultless front, and behind it a part
--- that isn't whole or in which a cause stands.
+-- Refusals of legacy streams in the words of their form (Xen's xg_save_restore.h): a faultless front, and behind it a
+-- part that isn't whole or in which a cause stands.
 use Rattle.std.specs.Prelude.{◌≡◌, ◌⊎◌, ℕ, ◌+◌, ◌*◌, ◌/◌, ◌-◌, ◌^◌, ◌<◌, ◌≤◌, true, false, List, [], ◌∷◌, ◌++◌, length, Some, slice_index, if◌then◌else◌}
 use Rattle.std.specs.FinMap as maps
 use Rattle.std.specs.List.{flat_map}
@@ -50,8 +50,8 @@ pub data NumberHas (n : ℕ) : LegacyCause → Type 0 where
   unknown : 2 ^ 31 ≤ n → ((k : ℕ) → 1 ≤ k → k ≤ 20 → n ≡ negative k → ⊥) → NumberHas n (UnknownChunk (negative n))
   too_large : 1024 < n → n < 2 ^ 31 → NumberHas n (BatchTooLarge n)
 
--- the type of a chunk behind these chunks; the last chunk, of type 0, asks for both I/O request frames or none, and for not
--- too many frames
+-- the type of a chunk behind these chunks; the last chunk, of type 0, asks for both I/O request frames or none, and for
+-- not too many frames
 pub data TypeHas (chunks : List LegacyChunk) (n : ℕ) : LegacyCause → Type 0 where
   of_number : (cause : LegacyCause) → NumberHas n cause → TypeHas chunks n cause
   unpaired : n ≡ 0 → (has_value 32 chunks ≡ has_value 33 chunks → ⊥) → TypeHas chunks n UnpairedIoreq
@@ -86,9 +86,9 @@ pub data SignatureHas (bytes : List ℕ) : LegacyCause → Type 0 where
 
 -- ---- the parts of a legacy stream
 
--- the first 8 bytes; the type of a chunk behind these chunks; so many words of a batch, and the page of a word, as PAGE_DATA
--- has it; the greatest vCPU id; a length of at most so much; as many bytes of a toolstack behind these chunks, or of a
--- context; the signature of a device model's record; and so many bytes in which no cause stands
+-- the first 8 bytes; the type of a chunk behind these chunks; so many words of a batch, and the page of a word, as
+-- PAGE_DATA has it; the greatest vCPU id; a length of at most so much; as many bytes of a toolstack behind these chunks,
+-- or of a context; the signature of a device model's record; and so many bytes in which no cause stands
 pub data LegacyPart : Type 0 where
   Start : LegacyPart
   ChunkType : List LegacyChunk → LegacyPart

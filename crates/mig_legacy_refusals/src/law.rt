@@ -6,9 +6,9 @@ ghost use Rattle.mig_legacy.specs.Spelled.{AcceptedLegacy};
 ghost use Rattle.mig_legacy.specs.Stream.{IsRefused};
 ghost use Rattle.mig_legacy_refusals.specs.Refusal.{RefusedLegacy};
 
-/// Judging refuses an input for a cause at a place exactly where a faultless front of a legacy stream is followed by a part
-/// that isn't whole, or that is whole and in which this cause is named: of several causes that of the least number, and of
-/// one cause its least place. What is left is what follows that part.
+/// Judging refuses an input for a cause at a place exactly where a faultless front of a legacy stream is followed by a
+/// part that isn't whole, or that is whole and in which this cause is named: of several causes that of the least
+/// number, and of one cause its least place. What is left is what follows that part.
 pub fn refusals_agree()
     ensures { (input : List ℕ) (place : LegacyPlace) (cause : LegacyCause) (rest : List ℕ) →
         IsRefused input place cause rest ↔ RefusedLegacy input place cause rest }
