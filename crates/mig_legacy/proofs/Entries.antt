@@ -31,11 +31,11 @@ pub faultless_first : (n at : ℕ) (rest : List ℕ) → entry_fault rest ≡ No
 unfolding entries_fault
 faultless_first n at rest e = ap (λ f. fault_or at f (entries_fault n (at + entry_len rest) (drop (entry_len rest) rest))) e
 
-faulty_first : (n at field : ℕ) (rest : List ℕ) → entry_fault rest ≡ Some field → entries_fault (suc n) at rest ≡ Some (at + field)
+pub faulty_first : (n at field : ℕ) (rest : List ℕ) → entry_fault rest ≡ Some field → entries_fault (suc n) at rest ≡ Some (at + field)
 unfolding entries_fault
 faulty_first n at field rest e = ap (λ f. fault_or at f (entries_fault n (at + entry_len rest) (drop (entry_len rest) rest))) e
 
-nothing_left : (at : ℕ) (rest : List ℕ) → entries_fault zero at rest ≡ (if nat_eq (length rest) 0 then None else Some at)
+pub nothing_left : (at : ℕ) (rest : List ℕ) → entries_fault zero at rest ≡ (if nat_eq (length rest) 0 then None else Some at)
 unfolding entries_fault
 nothing_left at rest = refl
 

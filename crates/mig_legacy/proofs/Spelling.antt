@@ -27,7 +27,7 @@ not_true false h = cc
 
 -- ---- an entry without fault
 
-record Fine (bytes : List ℕ) : Type 0 where
+pub record Fine (bytes : List ℕ) : Type 0 where
   pub head : 28 ≤ length bytes
   pub named : is_name (name_at bytes) ≡ true
   pub whole : entry_len bytes ≤ length bytes
@@ -40,7 +40,7 @@ fine_of bytes h = let r = rows_fine (entry_rows bytes) h in record {
   whole = at_most (length bytes) (entry_len bytes) r.1.1.1.1.1.1.0;
 }
 
-fault_of : (bytes : List ℕ) → Fine bytes → entry_fault bytes ≡ None
+pub fault_of : (bytes : List ℕ) → Fine bytes → entry_fault bytes ≡ None
 unfolding entry_fault
 fault_of bytes h =
     no_fault (entry_rows bytes) (not_less (length bytes) 8 (omega (arith, h.head)), (not_less (length bytes) 16 (omega (arith, h.head)), (not_less (length bytes) 24 (omega (arith, h.head)), (not_less (length bytes) 28 h.head, (not_less (length bytes) (28 + name_len bytes) (omega (arith, h.whole)), (not_true (is_name (name_at bytes)) h.named, (not_less (length bytes) (entry_len bytes) h.whole, tt)))))))
@@ -93,25 +93,25 @@ module _ (head pad rest : List ℕ) (e : Physmap) (h : IsPhysmapHead head e) (na
   abbrev bytes : List ℕ
   bytes = head ++ (text ++ (pad ++ rest))
 
-  len_is : name_len bytes ≡ length text
+  pub len_is : name_len bytes ≡ length text
   len_is = in32 head (text ++ (pad ++ rest)) 24 (omega (arith, h.len)) ∙ h.name
 
   behind_head : drop 28 bytes ≡ text ++ (pad ++ rest)
   behind_head = ap (λ n. drop n bytes) (sym h.len) ∙ drop-append_seam head (text ++ (pad ++ rest))
 
-  name_is : name_at bytes ≡ text
+  pub name_is : name_at bytes ≡ text
   name_is = ap (λ n. take n (drop 28 bytes)) len_is ∙ ap (take (length text)) behind_head ∙ take-append_seam text (pad ++ rest)
 
-  behind_all : drop (entry_len bytes) bytes ≡ rest
+  pub behind_all : drop (entry_len bytes) bytes ≡ rest
   behind_all =
       ap (λ n. drop n bytes) (let e : entry_len bytes ≡ (28 + length text) + 4 = omega (arith, len_is) in e)
       ∙ sym (drop-drop 4 (28 + length text) bytes) ∙ ap (drop 4) (sym (drop-drop (length text) 28 bytes) ∙ ap (drop (length text)) behind_head ∙ drop-append_seam text (pad ++ rest))
       ∙ ap (λ n. drop n (pad ++ rest)) (sym four) ∙ drop-append_seam pad rest
 
-  long : length bytes ≡ 32 + length text + length rest
+  pub long : length bytes ≡ 32 + length text + length rest
   long = length-append head (text ++ (pad ++ rest)) ∙ omega (arith, h.len, length-append text (pad ++ rest), length-append pad rest, four)
 
-  fine : Fine bytes
+  pub fine : Fine bytes
   fine = record {
     head = omega (arith, long);
     named = ap is_name name_is ∙ name_passes e.name named;

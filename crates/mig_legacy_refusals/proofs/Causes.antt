@@ -39,6 +39,7 @@ use Rattle.mig_legacy_refusals.specs.Refusal.SignatureHas.{other_bytes}
 use Rattle.mig_legacy_refusals.specs.Refusal.LegacyPart.{Start, ChunkType, Words, Page, VcpuMax, Length, Context, Signature, Plain}
 use Rattle.mig_legacy_refusals.specs.Refusal.{LegacyPart as parts}
 use Rattle.mig_legacy_refusals.proofs.Named.{Named, RowHas, named}
+use Rattle.mig_legacy_refusals.proofs.Toolstacks.{field_found, found_field}
 use Rattle.mig_legacy_refusals.proofs.Numbers.{decided, low_cause, number_found}
 
 -- ---- the first 8 bytes
@@ -219,20 +220,20 @@ module _ (chunks : List LegacyChunk) (body : List ℕ) where
   size_with = spelled_with (emulators_of (store_records chunks)) (pairs_of_toolstack body)
 
   toolstack_by : (f : Option ℕ) (b : Bool) → toolstack_fault body ≡ f → nat_lt most_pairs size_with ≡ b → Named (ToolstackHas chunks body) (option_or (option_map BadToolstack f) (first_fault ((b, TooManyPairs) ∷ [])))
-  toolstack_by (Some offset) b is long = record { holds = (wrong_field offset is, others) }
+  toolstack_by (Some offset) b is long = record { holds = (wrong_field offset (found_field body offset is), others) }
     where
       others : (d : LegacyCause) → ToolstackHas chunks body d → IsTriedBefore (BadToolstack offset) d ⊎ (d ≡ BadToolstack offset)
-      others _ (wrong_field other also) = inr (ap BadToolstack (same_Some other offset (sym also ∙ is)))
+      others _ (wrong_field other also) = inr (ap BadToolstack (same_Some other offset (sym (field_found body other also) ∙ is)))
       others _ (too_many_pairs es spelled more) = inl (inl (omega arith))
   toolstack_by None true is long = record { holds = (too_many_pairs (toolstack body) ((toolstack_spelled body).faultless is) (ltb-true _ _ long), others) }
     where
       others : (d : LegacyCause) → ToolstackHas chunks body d → IsTriedBefore TooManyPairs d ⊎ (d ≡ TooManyPairs)
-      others _ (wrong_field other also) = absurd (none-some other (sym is ∙ also))
+      others _ (wrong_field other also) = absurd (none-some other (sym is ∙ field_found body other also))
       others _ (too_many_pairs es spelled more) = inr refl
   toolstack_by None false is short = record { holds = never }
     where
       never : (d : LegacyCause) → ToolstackHas chunks body d → ⊥
-      never _ (wrong_field other also) = none-some other (sym is ∙ also)
+      never _ (wrong_field other also) = none-some other (sym is ∙ field_found body other also)
       never _ (too_many_pairs es spelled more) =
           let within : size_with ≤ most_pairs = ltb-false most_pairs size_with short in
           let same = ((toolstack_spelled body).spelled es spelled).1 in

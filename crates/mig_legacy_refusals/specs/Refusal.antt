@@ -1,6 +1,6 @@
 -- Refusals of legacy streams in the words of their form (Xen's xg_save_restore.h): a faultless front, and behind it a
 -- part that isn't whole or in which a cause stands.
-use Rattle.std.specs.Prelude.{◌≡◌, ◌⊎◌, ℕ, ◌+◌, ◌*◌, ◌/◌, ◌-◌, ◌^◌, ◌<◌, ◌≤◌, true, false, List, [], ◌∷◌, ◌++◌, length, Some, slice_index, if◌then◌else◌}
+use Rattle.std.specs.Prelude.{◌≡◌, ◌⊎◌, ℕ, ◌+◌, ◌*◌, ◌/◌, ◌-◌, ◌^◌, ◌<◌, ◌≤◌, true, false, List, [], ◌∷◌, ◌++◌, length, slice_index, if◌then◌else◌}
 use Rattle.std.specs.FinMap as maps
 use Rattle.std.specs.List.{flat_map}
 use Rattle.mig_bytes.specs.Fields.{le32, be64}
@@ -27,12 +27,12 @@ use Rattle.mig_legacy.specs.declared.chunk.ChunkKind.{ChunkKind}
 use Rattle.mig_legacy.specs.declared.chunk.ChunkKind.TheVariants as kinds
 use Rattle.mig_legacy.specs.Batches.{page_data_words}
 use Rattle.mig_legacy.specs.Chunks.{negative, IsNumberOf}
-use Rattle.mig_legacy.specs.Judged.{toolstack_fault}
 use Rattle.mig_legacy.specs.Judging.{most_chunks, signature}
 use Rattle.mig_legacy.specs.Legacy.{LegacyChunk, LegacyTail, has_value, is_ended, image_records, store_key, store_records}
 use Rattle.mig_legacy.specs.Spelled.{IsStart, IsTail, Spells}
 use Rattle.mig_legacy.specs.Texts.{pairs_of}
 use Rattle.mig_legacy.specs.Toolstack.{Physmap, IsToolstack}
+use Rattle.mig_legacy_refusals.specs.Toolstack.{FieldWrong}
 
 -- ---- where each cause stands, a line for each
 
@@ -71,9 +71,9 @@ pub data MaxHas (bytes : List ℕ) : LegacyCause → Type 0 where
 pub data LengthHas (most : ℕ) (bytes : List ℕ) : LegacyCause → Type 0 where
   too_long : most < le32 bytes 0 → LengthHas most bytes (BodyTooLong (le32 bytes 0))
 
--- the data of a toolstack behind these chunks: a field at this offset is wrong, or its pairs make the store too long
+-- the data of a toolstack behind these chunks: the first field that is wrong, or its pairs make the store too long
 pub data ToolstackHas (chunks : List LegacyChunk) (body : List ℕ) : LegacyCause → Type 0 where
-  wrong_field : (offset : ℕ) → toolstack_fault body ≡ Some offset → ToolstackHas chunks body (BadToolstack offset)
+  wrong_field : (offset : ℕ) → FieldWrong body offset → ToolstackHas chunks body (BadToolstack offset)
   too_many_pairs : (es : List Physmap) → IsToolstack body es → most_pairs < length (text_of_map (put_pairs (store_at (emulators_of (store_records chunks)).stores store_key) (flat_map pairs_of es))) → ToolstackHas chunks body TooManyPairs
 
 -- an HVM context: its entries stand whole up to one in which this is wrong
