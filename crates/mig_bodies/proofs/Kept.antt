@@ -64,7 +64,7 @@ all_say P2mFrames = tt
 all_say _ = search (rules, arith, small_keys, eq-eqb, le-leb, basic_lengths, some_lengths, msrs_lengths, basic_content)
 
 -- the context, cut behind its end
-cut_is : (body : List ℕ) (o : ℕ) → scan body ≡ Ok o → length body ≤ 2 ^ 27 → (length (cut_at body o) ≤ 2 ^ 27) × IsCut (cut_at body o)
+pub cut_is : (body : List ℕ) (o : ℕ) → scan body ≡ Ok o → length body ≤ 2 ^ 27 → (length (cut_at body o) ≤ 2 ^ 27) × IsCut (cut_at body o)
 cut_is body o is short =
     let fits : o + 8 ≤ length body = end_fits body o is in
     let front : length (take o body) ≡ o = length-take-le o body (omega (arith, fits)) in
@@ -74,7 +74,7 @@ cut_is body o is short =
 -- ---- a lemma for each shape
 
 module _ (code : PartCode) (kind : Kind) (width : ℕ) (of_kind : (row_of code).of_kind kind ≡ true) where
-  is_part : (key : PartKey) (bytes : List ℕ) → key.code ≡ code_number code → (row_of code).keys key.key1 key.key2 ≡ true → IsSmallKey key
+  pub is_part : (key : PartKey) (bytes : List ℕ) → key.code ≡ code_number code → (row_of code).keys key.key1 key.key2 ≡ true → IsSmallKey key
       → (row_of code).allows width (length bytes) ≡ true → IsContent code bytes → IsPart kind width key bytes
   is_part key bytes number keys small len content = record { code = code; number = number; of_kind = of_kind; keys = keys; small1 = small.0; small2 = small.1; len = len; content = content }
 

@@ -1,8 +1,9 @@
 -- Judging that passes looks at nothing behind what it takes.
-use Rattle.std.proofs.Common.{◌≡◌, ℕ, zero, suc, ◌+◌, List, [], ◌++◌, sym, ap, ◌∙◌, append_assoc}
-use Rattle.mig_bytes.specs.Judged.{Judged, ◌>>=◌, part, steps, placed}
+use Rattle.std.proofs.Common.{◌≡◌, ℕ, zero, suc, ◌+◌, List, [], ◌++◌, Option, sym, ap, ◌∙◌, append_assoc}
+use Rattle.mig_bytes.specs.Judged.{Judged, ◌>>=◌, part, said_at, steps, placed}
 use Rattle.mig_bytes.specs.Judged.Judged.{Passes}
 use Rattle.mig_bytes.proofs.Joins.{both_pass, part_passes, part_whole, same_passes, then_passes, placed_passes}
+use Rattle.mig_bytes.proofs.Said.{said_passes, said_goes}
 
 -- a front was taken, and it passes as well whatever follows it
 pub record Front {C X : Type 0} (f : List ℕ → Judged C X) (input : List ℕ) (x : X) (rest : List ℕ) : Type 0 where
@@ -21,6 +22,11 @@ module _ {C : Type 0} where
   front_part truncated n input x rest is =
       let taken = part_passes truncated n input x rest is in
       record { front = x; whole = taken.0; again = λ more. part_whole truncated n x more taken.1 }
+
+  pub front_said : {X : Type 0} (truncated : C) (fault : List ℕ → Option C) (says : List ℕ → X) (n : ℕ) → TakesFronts (said_at truncated fault says n)
+  front_said truncated fault says n input x rest is =
+      let s = said_passes truncated fault says n input x rest is in
+      record { front = s.bytes; whole = s.whole; again = λ more. said_goes truncated fault says n s.bytes more s.size s.fine ∙ ap (λ y. Passes y more) s.value }
 
   pub front_then : {X Y : Type 0} (f : List ℕ → Judged C X) (k : X × List ℕ → Judged C Y) → TakesFronts f → ((x : X) → TakesFronts (λ i. k (x, i))) → TakesFronts (λ i. f i >>= k)
   front_then f k first then input y rest is =

@@ -3,7 +3,7 @@ use Rattle.std.specs.Result.{IsErrAnd}
 use Rattle.std.proofs.lemmas.List.{take_more, take_at, drop_at}
 use Rattle.std.proofs.lemmas.Bool.{le-ltb}
 use Rattle.std.proofs.Math.Seq.{drop-cons}
-use Rattle.std.proofs.Common.{◌≡◌, ℕ, suc, ◌+◌, ◌<◌, length, take, drop, get_or, take-append-drop, List, [], ◌∷◌, ◌++◌, Bool, true, false, cond, nat_lt, Option, Some, None, Result, Ok, Err, refl, sym, ap, subst, ◌∙◌, length-append, arith, length-take-le, ltb-false}
+use Rattle.std.proofs.Common.{◌≡◌, ◌⊎◌, inl, inr, ℕ, suc, ◌+◌, ◌<◌, length, take, drop, get_or, take-append-drop, List, [], ◌∷◌, ◌++◌, Bool, true, false, cond, nat_lt, Option, Some, None, Result, Ok, Err, refl, sym, ap, subst, ◌∙◌, length-append, arith, length-take-le, ltb-false}
 use Rattle.mig_bytes.specs.declared.part.Stop.{Stop}
 use Rattle.mig_bytes.specs.declared.part.Stop.TheVariants.{Refused, ReadFault, Memory}
 use Rattle.mig_bytes.specs.Judged.{Judged, ◌>>=◌, part, tried, each, placed, Matches, Gives}
@@ -138,6 +138,18 @@ module _ {C X Y Z V : Type 0} (R : X → Y → Type 0) (Q : V → Z → Type 0) 
       → Gives R a b f (Ok x) → ((y : Y) → R x y → Gives Q b c (λ i. k (y, i)) r) → Gives Q a c g r
   then_reads a b c f g k x r same n next = judged_so Q a c (λ i. f i >>= k) g r same (seq R Q a b c f k x r n next)
 
+-- what a reader gives is told of in another way
+pub weakened : {C X V Y : Type 0} (R : X → Y → Type 0) (Q : V → Y → Type 0) (a b : Option (List ℕ)) (f : List ℕ → Judged C Y) (x : X) (v : V) → ((y : Y) → R x y → Q v y) → Gives R a b f (Ok x) → Gives Q a b f (Ok v)
+weakened R Q None b f x v turn h = tt
+weakened R Q (Some i) b f x v turn (y, rest, is, left, r) = (y, rest, is, left, turn y r)
+
+-- a stop says nothing of what would be given
+pub any_stop : {C X V Y : Type 0} (R : X → Y → Type 0) (Q : V → Y → Type 0) (a b : Option (List ℕ)) (f : List ℕ → Judged C Y) (e : Stop C) → Gives R a b f (Err e) → Gives Q a b f (Err e)
+any_stop R Q None b f e h = tt
+any_stop R Q (Some i) b f (Refused cause) h = h
+any_stop R Q (Some i) b f ReadFault h = tt
+any_stop R Q (Some i) b f Memory h = tt
+
 -- a part that is there
 pub part_whole : {C : Type 0} (truncated : C) (n : ℕ) (x rest : List ℕ) → length x ≡ n → part truncated n (x ++ rest) ≡ Passes x rest
 part_whole truncated n x rest size = rw (le-ltb (length (x ++ rest)) n (omega (arith, length-append x rest)), take_at x rest n size, drop_at x rest n size) refl
@@ -172,6 +184,12 @@ pub tried_passes : {C : Type 0} (f : Option C) (i rest : List ℕ) (u : Unit {0}
 tried_passes None i rest u h = (refl, cc)
 tried_passes {C} (Some c) i rest u h = let no : ◌≡◌ {A = Judged C (Unit {0})} (Faulty c i) (Passes u rest) = h in (cc, cc)
 
+pub passes_not : {C X Y : Type 0} (x : X) (i : List ℕ) (c : C) (rest : List ℕ) → ◌≡◌ {A = Judged C X} (Passes x i) (Faulty c rest) → Y
+passes_not x i c rest h = absurd (cc)
+
+pub same_faulty : {C X : Type 0} (c d : C) (i j : List ℕ) → ◌≡◌ {A = Judged C X} (Faulty c i) (Faulty d j) → (c ≡ d) × (i ≡ j)
+same_faulty c d i j h = (cc, cc)
+
 pub same_passes : {C X : Type 0} (x y : X) (i j : List ℕ) → ◌≡◌ {A = Judged C X} (Passes x i) (Passes y j) → (x ≡ y) × (i ≡ j)
 same_passes x y i j h = (cc, cc)
 
@@ -186,3 +204,25 @@ then_passes j k x mid z p q = ap (λ i. i >>= k) p ∙ q
 
 pub tried_none : {C Y : Type 0} (f : Option C) (i : List ℕ) (j : Judged C Y) → f ≡ None → (tried f i >>= λ _. j) ≡ j
 tried_none f i j p = ap (λ o. tried o i >>= λ _. j) p
+
+-- ---- judgements that are faulty
+
+-- with what follows it too
+pub then_faulty : {C X Y : Type 0} (j : Judged C X) (k : X × List ℕ → Judged C Y) (c : C) (rest : List ℕ) → j ≡ Faulty c rest → (j >>= k) ≡ Faulty c rest
+then_faulty j k c rest h = ap (λ i. i >>= k) h
+
+-- of two judgements the first is faulty, or it passes and the second is
+pub bind_cases : {C X Y : Type 0} (j : Judged C X) (k : X × List ℕ → Judged C Y) (c : C) (rest : List ℕ) → (j >>= k) ≡ Faulty c rest
+    → (j ≡ Faulty c rest) ⊎ ((x : X) × (mid : List ℕ) × (j ≡ Passes x mid) × (k (x, mid) ≡ Faulty c rest))
+bind_cases (Passes x mid) k c rest h = inr (x, mid, refl, h)
+bind_cases (Faulty d mid) k c rest h = let e = same_faulty d c mid rest h in inl (rw (e.0, e.1) refl)
+
+-- what is said of a judgement that passes has no fault of its own
+pub only_first : {C X Y : Type 0} (says : X → Y) (j : Judged C X) (c : C) (rest : List ℕ) → (j >>= λ p. Passes (says p.0) p.1) ≡ Faulty c rest → j ≡ Faulty c rest
+only_first says (Passes x mid) c rest h = passes_not (says x) mid c rest h
+only_first says (Faulty d mid) c rest h = let e = same_faulty d c mid rest h in rw (e.0, e.1) refl
+
+-- what is faulty at a place is faulty, and the place is this one
+pub placed_faulty : {P C X : Type 0} (at place : P) (j : Judged C X) (c : C) (rest : List ℕ) → placed at j ≡ Faulty (place, c) rest → (j ≡ Faulty c rest) × (at ≡ place)
+placed_faulty at place (Passes x mid) c rest h = passes_not x mid (place, c) rest h
+placed_faulty {P} {C} at place (Faulty d mid) c rest h = let e = same_faulty (at, d) (place, c) mid rest h in (ap (λ (p : P × C). Faulty p.1 mid) e.0 ∙ ap (Faulty c) e.1, ap (λ (p : P × C). p.0) e.0)

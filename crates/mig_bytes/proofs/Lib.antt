@@ -9,3 +9,8 @@ pub mod Steps
 pub mod Placed
 pub mod Fronts
 pub mod ByteLists
+pub mod Said
+pub mod Sequences
+pub mod Failing
+pub mod Arrivals
+pub mod NumberMaps

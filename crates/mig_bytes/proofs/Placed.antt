@@ -3,7 +3,7 @@ use Rattle.std.proofs.Common.{◌≡◌, ℕ, ◌+◌, ◌<◌, List, Option, So
 use Rattle.mig_bytes.specs.declared.part.Stop.{Stop}
 use Rattle.mig_bytes.specs.declared.part.Stop.TheVariants.{Refused, ReadFault, Memory}
 use Rattle.mig_bytes.specs.Judged.{Judged, ◌>>=◌, placed, steps, stop_at, Gives}
-use Rattle.mig_bytes.proofs.Joins.{seq, stop}
+use Rattle.mig_bytes.proofs.Joins.{any_stop, seq, stop}
 use Rattle.mig_bytes.proofs.Steps.{goes_on, ends}
 
 module _ {P C X Y : Type 0} (R : X → Y → Type 0) (place : P) (a b : Option (List ℕ)) (f : List ℕ → Judged C Y) where
@@ -52,13 +52,7 @@ module _ {P C H : Type 0} (place : ℕ → P) (read : H → List ℕ → Judged 
   pub one_stops : {U V : Type 0} (R : U → H → Type 0) (Q : V → H → Type 0) (a b c : Option (List ℕ)) (k n : ℕ) (h old : H) (e : Stop C) (d : Stop (P × C)) → k < n
       → Gives {X = H} Is a b (steps one k 0 h) (Ok old) → Gives R b c (read old) (Err e) → d ≡ stop_at (place k) e → Gives Q a c (steps one n 0 h) (Err d)
   one_stops R Q a b c k n h old e d less before now is =
-      ends Is one h Q a b c k n old d less before (λ y same. placed_stops Q (place k) b c (read y) e d is (subst (λ z. Gives Q b c (read z) (Err e)) same (any_told b c (read old) e now)))
-    where
-      any_told : (b c : Option (List ℕ)) (f : List ℕ → Judged C H) (e : Stop C) → Gives R b c f (Err e) → Gives Q b c f (Err e)
-      any_told None c f e now = tt
-      any_told (Some i) c f (Refused cause) now = now
-      any_told (Some i) c f ReadFault now = tt
-      any_told (Some i) c f Memory now = tt
+      ends Is one h Q a b c k n old d less before (λ y same. placed_stops Q (place k) b c (read y) e d is (subst (λ z. Gives Q b c (read z) (Err e)) same (any_stop R Q b c (read old) e now)))
 
 -- ---- a placed reader, and then another
 

@@ -23,6 +23,19 @@ abbrev pub tried : {C : Type 0} → Option C → List ℕ → Judged C (Unit {0}
 tried None input = Passes tt input
 tried (Some c) input = Faulty c input
 
+-- a part of n bytes, the cause that stands in it, and what it says
+abbrev pub said_at : {C X : Type 0} → C → (List ℕ → Option C) → (List ℕ → X) → ℕ → List ℕ → Judged C X
+said_at truncated fault says n input = do
+  bytes ← part truncated n input
+  _ ← tried (fault bytes.0) bytes.1
+  Passes (says bytes.0) bytes.1
+
+-- the same where no cause can stand
+abbrev pub plain_at : {C X : Type 0} → C → (List ℕ → X) → ℕ → List ℕ → Judged C X
+plain_at truncated says n input = do
+  bytes ← part truncated n input
+  Passes (says bytes.0) bytes.1
+
 -- one part after another, for each of a list
 unfoldable pub each : {C W X : Type 0} → (W → List ℕ → Judged C X) → List W → List ℕ → Judged C (List X)
 each part [] input = Passes [] input

@@ -5,3 +5,5 @@ pub mod Memory
 pub mod Outside
 pub mod Walk
 pub mod Judged
+pub mod Sequences
+pub mod Failing

@@ -22,14 +22,14 @@ past32 : (front xs : List ℕ) (k : ℕ) → le32 (front ++ xs) (length front + 
 unfolding le32
 past32 front xs k = ap (little_number 4) (drop-append-add front xs k)
 
-byte_in : (head xs : List ℕ) (k i : ℕ) → k + i < length head → get_or (drop k (head ++ xs)) i 0 ≡ get_or (drop k head) i 0
+pub byte_in : (head xs : List ℕ) (k i : ℕ) → k + i < length head → get_or (drop k (head ++ xs)) i 0 ≡ get_or (drop k head) i 0
 byte_in head xs k i less = get_or-drop k (head ++ xs) i 0 ∙ get_or-append head xs 0 (k + i) less ∙ sym (get_or-drop k head i 0)
 
 in16 : (head xs : List ℕ) (k : ℕ) → k + 2 ≤ length head → le16 (head ++ xs) k ≡ le16 head k
 unfolding le16
 in16 head xs k less = rw (byte_in head xs k 0 (omega arith), byte_in head xs k 1 (omega arith)) refl
 
-in32 : (head xs : List ℕ) (k : ℕ) → k + 4 ≤ length head → le32 (head ++ xs) k ≡ le32 head k
+pub in32 : (head xs : List ℕ) (k : ℕ) → k + 4 ≤ length head → le32 (head ++ xs) k ≡ le32 head k
 unfolding le32
 in32 head xs k less = rw (byte_in head xs k 0 (omega arith), byte_in head xs k 1 (omega arith), byte_in head xs k 2 (omega arith), byte_in head xs k 3 (omega arith)) refl
 

@@ -1,5 +1,5 @@
 -- The headers without a fault are those that are spelled, and what is written of a header is spelled so.
-use Rattle.std.proofs.Common.{◌≡◌, ◌↔◌, ◌⊎◌, ℕ, ◌+◌, ◌%◌, ◌^◌, ◌<◌, List, [], ◌∷◌, ◌++◌, length, drop, take, None, Result, Ok, not, ◌&&◌, ◌==◌, refl, sym, ap, ◌∙◌, inl, inr, arith, length-append, subst}
+use Rattle.std.proofs.Common.{◌≡◌, ◌↔◌, ◌⊎◌, ℕ, ◌+◌, ◌%◌, ◌^◌, ◌<◌, List, [], ◌∷◌, ◌++◌, length, drop, take, Option, Some, None, Result, Ok, Err, not, ◌&&◌, ◌==◌, refl, sym, ap, ◌∙◌, inl, inr, arith, length-append, subst}
 use Rattle.std.proofs.lemmas.Bool.{eqb-true}
 use Rattle.std.proofs.Math.Seq.{drop-append-add}
 use Rattle.byteorder.specs.Endian.{little_bytes, big_bytes}
@@ -21,6 +21,11 @@ marker_stands n h = grind (arith, eqb-true)
 
 marker_passes : (n : ℕ) → n ≡ marker → first_fault ((not (n == marker), NotStream) ∷ []) ≡ None
 marker_passes n h = rw h refl
+
+-- a header that is read has no fault
+pub unless_ok : {H : Type 0} (f : Option Cause) (h x : H) → unless_faulty f h ≡ Ok x → (f ≡ None) × (h ≡ x)
+unless_ok None h x e = (refl, cc)
+unless_ok {H} (Some c) h x e = let no : ◌≡◌ {A = Result H Cause} (Err c) (Ok x) = e in (cc, cc)
 
 -- the fields of an image header, and of a domain header, that is read
 image_of : (id v o : ℕ) → Result ImageHeader Cause

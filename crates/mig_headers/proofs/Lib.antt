@@ -6,3 +6,5 @@ pub mod PairTexts
 pub mod FirstFaults
 pub mod ContextTexts
 pub mod LibxlHeaders
+pub mod FirstCauses
+pub mod KindNumbers

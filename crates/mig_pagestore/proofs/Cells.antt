@@ -1,22 +1,8 @@
 -- What a cell says again that was written.
-use Rattle.mig_pagestore.proofs.Common.{◌≡◌, ◌≢◌, ℕ, zero, suc, ◌+◌, ◌*◌, ◌/◌, ◌%◌, ◌^◌, ◌<◌, true, Some, refl, sym, ap, ◌∙◌, arith, PageType, number_of, type_of, type_or_none, type_has_data, is_place, IsCell}
-use Rattle.mig_pagetypes.specs.declared.page_type.PageType.TheVariants.{Notab, L1Tab, L2Tab, L3Tab, L4Tab, L1Pinned, L2Pinned, L3Pinned, L4Pinned, Broken, Xalloc, Xtab}
+use Rattle.mig_pagestore.proofs.Common.{◌≡◌, ◌≢◌, ℕ, zero, suc, ◌+◌, ◌*◌, ◌/◌, ◌%◌, ◌^◌, ◌<◌, true, refl, sym, ap, ◌∙◌, arith, PageType, number_of, type_of, type_or_none, type_has_data, is_place, IsCell}
+use Rattle.mig_pagetypes.proofs.Numbers.{type_back}
 use Rattle.mig_pagetypes.specs.FrameWords.{word_of}
 use Rattle.mig_pagestore.specs.FrameView.{cell_type, cell_place}
-
-named : (k : PageType) → type_of (number_of k) ≡ Some k
-named Notab = refl
-named L1Tab = refl
-named L2Tab = refl
-named L3Tab = refl
-named L4Tab = refl
-named L1Pinned = refl
-named L2Pinned = refl
-named L3Pinned = refl
-named L4Pinned = refl
-named Broken = refl
-named Xalloc = refl
-named Xtab = refl
 
 upper : (n p : ℕ) → p < 2 ^ 52 → (n * 2 ^ 60 + p) / 2 ^ 60 ≡ n
 upper n p lt = omega arith
@@ -26,7 +12,7 @@ lower n p lt = omega arith
 
 pub type_of_cell : (kind : PageType) (p : ℕ) → p < 2 ^ 52 → cell_type (word_of (record { pfn = p; kind = kind })) ≡ kind
 unfolding cell_type
-type_of_cell kind p lt = ap (λ n. type_or_none (type_of n)) (upper (number_of kind) p lt) ∙ ap type_or_none (named kind)
+type_of_cell kind p lt = ap (λ n. type_or_none (type_of n)) (upper (number_of kind) p lt) ∙ ap type_or_none (type_back kind)
 
 pub place_of_cell : (kind : PageType) (p : ℕ) → p < 2 ^ 52 → cell_place (word_of (record { pfn = p; kind = kind })) ≡ p
 unfolding cell_place

@@ -3,7 +3,7 @@ use Rattle.mig_pagestore.proofs.Common.{◌≡◌, ◌≢◌, ℕ, ◌+◌, ◌-
 use Rattle.std.specs.FinMap as maps
 use Rattle.mig_pagestore.specs.FrameView.{cell_type, cell_place, page_at_place}
 use Rattle.mig_pagestore.proofs.Cells.{cell_some, cell_moved}
-use Rattle.mig_pagestore.proofs.Mapping.{inserted, inserted_other, removed, removed_other}
+use Rattle.mig_bytes.proofs.NumberMaps.{inserted, inserted_other, removed, removed_other}
 use Rattle.mig_pagestore.proofs.Places.{leads_same, apart, in_range, leads_pushed, last_place, not_last, leads_popped, leads_swapped, whole_is, page_left, page_end, page_over, page_beside}
 
 module _ (cells : ValueMap) (k : ℕ) where

@@ -3,7 +3,8 @@ use Rattle.mig_pagestore.proofs.Common.{◌≡◌, ℕ, ◌<◌, List, [], Optio
 use Rattle.std.specs.FinMap as maps
 use Rattle.mig_pagetypes.specs.Limits.{pfn_limit}
 use Rattle.mig_pagestore.specs.PageView.{bytes_of, pages_seen, HasPages}
-use Rattle.mig_pagestore.proofs.Mapping.{inserted, inserted_other, removed, removed_other, get-mapped, len-mapped, mapped-empty, mapped-insert, mapped-remove}
+use Rattle.mig_bytes.proofs.NumberMaps.{inserted, inserted_other, removed, removed_other}
+use Rattle.mig_pagestore.proofs.Mapping.{get-mapped, len-mapped, mapped-empty, mapped-insert, mapped-remove}
 
 a_page : (o : Option (List ℕ)) → IsSome o → Some (unwrap_or o []) ≡ o
 a_page None there = cc

@@ -4,7 +4,8 @@ use Rattle.std.specs.FinMap as maps
 use Rattle.mig_pagestore.specs.FrameView.{cell_type, cell_place, page_at_place}
 use Rattle.mig_pagetypes.specs.declared.page_type.PageType.TheVariants.{Xtab}
 use Rattle.mig_pagetypes.specs.Limits.{pfn_limit}
-use Rattle.mig_pagestore.proofs.Mapping.{is_inserted, inserted, inserted_other, is_removed, removed, removed_other, get-mapped, len-mapped, mapped-empty}
+use Rattle.mig_bytes.proofs.NumberMaps.{is_inserted, inserted, inserted_other, is_removed, removed, removed_other}
+use Rattle.mig_pagestore.proofs.Mapping.{get-mapped, len-mapped, mapped-empty}
 use Rattle.mig_pagestore.proofs.Places.{some_copied, no_page, page_over, page_is_some, page_is_whole}
 use Rattle.mig_pagestore.proofs.Led.{place_in_range, frame_is, same_over}
 

@@ -20,7 +20,7 @@ if_none (Some x) p = tt
 nowhere : (n m : ℕ) → cond (nat_lt n m) (Some n) None ≡ None → m ≤ n
 nowhere n m h = grind (arith, common_steps)
 
-somewhere : (n m i : ℕ) → cond (nat_lt n m) (Some n) None ≡ Some i → (n < m) × (n ≡ i)
+pub somewhere : (n m i : ℕ) → cond (nat_lt n m) (Some n) None ≡ Some i → (n < m) × (n ≡ i)
 somewhere n m i h = grind (arith, common_steps)
 
 pub last_text : (bytes : List ℕ) → None ≡ position is_zero bytes → texts_in bytes ≡ bytes ∷ []
