@@ -30,11 +30,11 @@ module _ {K X Y : Type 0} {R : K → K → Ordering} (total : IsTotalOrder R) (e
       none_behind : has_from total (maps.entries m) e.0 ≡ false
       none_behind = front_below total (maps.entries m) (shown f e) (map (shown f) rest) (subst (λ l. T (is_sorted R l)) in_order (entries_sorted (each_value f whole)))
 
-      pub copy_next : IsCopied f whole (maps.insert m e.0 (f e.0 e.1)) rest
-      copy_next = (
+      pub copy_next : (more : FinMap R Y) → more ≡ maps.insert m e.0 (f e.0 e.1) → IsCopied f whole more rest
+      copy_next more is = (
         copied.0 ++ (e ∷ []),
         append_assoc copied.0 (e ∷ []) rest ∙ parted,
-        entries_behind total m e.0 (f e.0 e.1) none_behind ∙ ap (λ l. l ++ (shown f e ∷ [])) copied.2 ∙ sym (map-append (shown f) copied.0 (e ∷ [])),
+        ap maps.entries is ∙ entries_behind total m e.0 (f e.0 e.1) none_behind ∙ ap (λ l. l ++ (shown f e ∷ [])) copied.2 ∙ sym (map-append (shown f) copied.0 (e ∷ [])),
       )
 
     pub copy_end : left ≡ [] → m ≡ each_value f whole

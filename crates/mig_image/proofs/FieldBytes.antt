@@ -1,5 +1,5 @@
--- The bytes of a field are those of its number, and what judging a part tells.
-use Rattle.mig_image.proofs.Common.{◌≡◌, ℕ, ◌+◌, ◌≤◌, List, ◌++◌, length, take, drop, Option, None, sym, ap, ◌∙◌, arith, take-append-drop, drop-drop, length-drop, append_assoc, codes, take_all, little_bytes, big_number, big_from-take, ◌>>=◌, part, tried, Passes, Bytes, field_size, field_below, word_back, long_back, both_pass, part_whole, part_passes, tried_none, tried_passes, then_passes, same_passes}
+-- The bytes of a field are those of its number.
+use Rattle.mig_image.proofs.Common.{◌≡◌, ℕ, ◌+◌, ◌≤◌, List, ◌++◌, length, take, drop, sym, ap, ◌∙◌, arith, take-append-drop, drop-drop, length-drop, append_assoc, codes, take_all, little_bytes, big_number, big_from-take, Bytes, field_size, field_below, word_back, long_back}
 use Rattle.std.specs.Int.{w64, from_be_bytes}
 use Rattle.std.proofs.lemmas.Nat.{be_bytes_8}
 use Rattle.mig_bytes.specs.Fields.{le32, le64, be64}
@@ -39,20 +39,3 @@ module _ (xs : List ℕ) (all : Bytes xs) where
 -- two texts, and what follows them
 pub regroup : (i mid rest a b : List ℕ) → i ≡ a ++ mid → mid ≡ b ++ rest → i ≡ (a ++ b) ++ rest
 regroup i mid rest a b first second = first ∙ ap (λ l. a ++ l) second ∙ sym (append_assoc a b rest)
-
--- ---- judgements
-
--- a part that passes is there, and has no fault
-pub judged_part : {C : Type 0} (truncated : C) (n : ℕ) (f : List ℕ → Option C) (i x rest : List ℕ) → (part truncated n i >>= λ a. tried (f a.0) a.1 >>= λ _. Passes a.0 a.1) ≡ Passes x rest
-    → (i ≡ x ++ rest) × (length x ≡ n) × (f x ≡ None)
-judged_part truncated n f i x rest h =
-    let b = both_pass (part truncated n i) (λ a. tried (f a.0) a.1 >>= λ _. Passes a.0 a.1) x rest h in
-    let p = part_passes truncated n i b.x b.mid b.first in
-    let t = both_pass (tried (f b.x) b.mid) (λ _. Passes b.x b.mid) x rest b.second in
-    let e = same_passes b.x x b.mid rest t.second in
-    (p.0 ∙ ap (λ l. l ++ b.mid) e.0 ∙ ap (λ l. x ++ l) e.1, ap length (sym e.0) ∙ p.1, ap f (sym e.0) ∙ (tried_passes (f b.x) b.mid t.mid t.x t.first).0)
-
--- a part of this length without a fault passes
-pub judged_goes : {C : Type 0} (truncated : C) (n : ℕ) (f : List ℕ → Option C) (x rest : List ℕ) → length x ≡ n → f x ≡ None → (part truncated n (x ++ rest) >>= λ a. tried (f a.0) a.1 >>= λ _. Passes a.0 a.1) ≡ Passes x rest
-judged_goes truncated n f x rest size fine =
-    then_passes (part truncated n (x ++ rest)) (λ a. tried (f a.0) a.1 >>= λ _. Passes a.0 a.1) x rest _ (part_whole truncated n x rest size) (tried_none (f x) rest (Passes x rest) fine)

@@ -1,13 +1,15 @@
 -- The frames of an image: what they spell is read, what is read they spell, and both are the frames of a valid host.
-use Rattle.mig_image.proofs.Common.{◌≡◌, ℕ, ◌+◌, ◌*◌, ◌/◌, ◌%◌, ◌^◌, ◌<◌, ◌≤◌, Bool, false, cond, not, nat_eq, nat_le, List, [], ◌++◌, length, Option, Some, None, is_some, refl, sym, ap, ◌∙◌, arith, append_assoc, ◌∷◌, true, subst, length-append, ◌||◌, ◌==◌, T, list_any, not-false, or_parts, or_from, leb-false, lt-leb, ne_eqb, eqb-true, eqb-false, common_steps, nat_cmp_total, nat_cmp, is_lt, nat_cmp-IsAntisymmetric, none-some, same_Some, little_bytes, little_number-reads_back, Judged, ◌>>=◌, part, Passes, part_whole, then_passes, both_pass, part_passes, same_passes, ImageCause, Truncated, Kind, no_fault, rows_fine, Frame, Pv, Hvm, PageType, number_of, type_of, type_or_none, type_has_data, all_types, is_type_of, HostOf, HostFrame, HostFrames, IsHostFrame, IsValid, host_word, frame_text, head_pfn, head_type, has_machine, has_frame_from, frame_rows, fault_of_frame, frame_head_at, host_page_at, frame_said, put_frame, host_frame_at, head_type_number, frames_at, Bytes, bytes_front}
+use Rattle.mig_image.proofs.Common.{◌≡◌, ℕ, ◌+◌, ◌*◌, ◌/◌, ◌%◌, ◌^◌, ◌<◌, ◌≤◌, Bool, false, cond, not, nat_eq, nat_le, List, [], ◌++◌, length, Option, Some, None, is_some, refl, sym, ap, ◌∙◌, arith, append_assoc, ◌∷◌, true, subst, length-append, ◌||◌, ◌==◌, list_any, not-false, or_parts, or_from, leb-false, lt-leb, ne_eqb, eqb-true, eqb-false, common_steps, nat_cmp_total, nat_cmp, is_lt, nat_cmp-IsAntisymmetric, none-some, same_Some, little_bytes, little_number-reads_back, Judged, ◌>>=◌, part, Passes, part_whole, then_passes, both_pass, part_passes, same_passes, ImageCause, Truncated, Kind, no_fault, rows_fine, Frame, Pv, Hvm, PageType, number_of, type_of, type_or_none, type_has_data, all_types, is_type_of, HostOf, HostFrame, HostFrames, IsHostFrame, IsValid, host_word, frame_text, head_pfn, head_type, has_machine, has_frame_from, frame_rows, fault_of_frame, frame_head_at, host_page_at, frame_said, put_frame, host_frame_at, head_type_number, frames_at, Bytes, bytes_front}
 use Rattle.std.proofs.Common.{unwrap_or}
 use Rattle.std.specs.FinMap as maps
 use Rattle.mig_bytes.specs.Fields.{le32, le64}
 use Rattle.mig_pagetypes.specs.declared.page_type.PageType.TheVariants.{Xtab}
+use Rattle.mig_pagetypes.proofs.Numbers.{number_small, type_back}
 use Rattle.mig_image.specs.Image.{frame_head_of}
-use Rattle.mig_image.proofs.FieldBytes.{judged_goes, word_then, long_last, judged_part, regroup}
+use Rattle.mig_bytes.proofs.Said.{bytes_pass, said_goes}
+use Rattle.mig_image.proofs.FieldBytes.{word_then, long_last, regroup}
 use Rattle.mig_image.proofs.Chains.{Chain, put_all, chain_of, chain_same, Found, AllFound, chain_back, chain_entries, chain_keeps}
-use Rattle.mig_image.proofs.InOrder.{has_from, get_at, get_front, each_entry, no_entry, none_passes, few_ranks, entries_behind, found_passes}
+use Rattle.mig_image.proofs.InOrder.{has_from, get_at, get_front, each_entry, no_entry, none_passes, few_ranks, entries_behind, found_passes, nat_rises}
 use Rattle.mig_image.proofs.HostsMade.{valid_frame}
 
 -- a frame that may stand behind these
@@ -39,14 +41,6 @@ frame_fits h head page fine in_step whole =
 
 -- ---- the fields of a head
 
-number_small : (kind : PageType) → number_of kind < 16
-number_small Xtab = omega arith
-number_small _ = omega arith
-
-typed : (kind : PageType) → type_of (number_of kind) ≡ Some kind
-typed Xtab = refl
-typed _ = refl
-
 word_small : (n pfn : ℕ) → n < 16 → pfn < 2 ^ 28 → n * 2 ^ 28 + pfn < 2 ^ 32
 word_small n pfn a b = omega arith
 
@@ -75,7 +69,7 @@ says e below small =
     record {
       zero = refl;
       pfn = ap (λ w. w % 2 ^ 28) word ∙ low_part n e.0 below;
-      kind = ap (λ w. type_or_none (type_of (w / 2 ^ 28))) word ∙ ap (λ t. type_or_none (type_of t)) (high_part n e.0 below) ∙ ap type_or_none (typed e.1.type);
+      kind = ap (λ w. type_or_none (type_of (w / 2 ^ 28))) word ∙ ap (λ t. type_or_none (type_of t)) (high_part n e.0 below) ∙ ap type_or_none (type_back e.1.type);
       machine = little_number-reads_back 8 e.1.machine [] (omega arith);
     }
 
@@ -124,7 +118,7 @@ frame_goes h e rest wide f =
     let s = says e (let below : e.0 < 2 ^ 28 = omega (arith, f.is.inside, wide) in below) f.is.machine in
     ap (host_frame_at h) (append_assoc head (unwrap_or e.1.page []) rest)
     ∙ then_passes (frame_head_at h (head ++ mid)) (behind_frame_head h) head mid _
-    (judged_goes Truncated 16 (fault_of_frame h) head mid (head_len e.0 e.1) (fine h e head s f))
+    (said_goes Truncated (fault_of_frame h) (λ l. l) 16 head mid (head_len e.0 e.1) (fine h e head s f))
     (then_passes (host_page_at (head_type head) mid) (λ page. Passes (put_frame h (head_pfn head) (frame_said head page.0)) page.1) e.1.page rest _
     (ap (λ k. host_page_at k mid) s.kind ∙ page_goes e.1.type e.1.page rest f.is.in_step f.is.whole) (frame_is h e head rest s))
 
@@ -160,10 +154,7 @@ module _ (g : HostOf) (valid : IsValid g) where
   pub frames_within : length (maps.entries g.frames) ≤ g.width
   frames_within =
       let all = each_entry nat_cmp_total nat_cmp-IsAntisymmetric (λ k v. Unit {0} × (0 ≤ k) × (k < g.width)) g.frames (λ k v is. (tt, (omega arith), (valid.frames k v is).inside)) in
-      let few = few_ranks nat_cmp (λ k. k) g.width (λ _. Unit {0}) rises 0 (maps.entries g.frames) (omega arith) (maps.entries_sorted g.frames) all in omega (arith, few)
-    where
-      rises : (a b : ℕ) → Unit {0} → T (is_lt (nat_cmp a b)) → a < b
-      rises a b _ h = grind (arith, common_steps)
+      let few = few_ranks nat_cmp (λ k. k) g.width (λ _. Unit {0}) (λ a b _ h. nat_rises a b h) 0 (maps.entries g.frames) (omega arith) (maps.entries_sorted g.frames) all in omega (arith, few)
 
 -- ---- a head
 
@@ -227,7 +218,7 @@ module _ (h : HostOf) where
   frame_back m i g rest all is =
       let a = both_pass (frame_head_at (with_frames h m) i) (behind_frame_head (with_frames h m)) g rest is in
       let head = a.x in
-      let p = judged_part Truncated 16 (fault_of_frame (with_frames h m)) i head a.mid a.first in
+      let p = bytes_pass Truncated (fault_of_frame (with_frames h m)) 16 i head a.mid a.first in
       let c = both_pass (host_page_at (head_type head) a.mid) (λ page. Passes (put_frame (with_frames h m) (head_pfn head) (frame_said head page.0)) page.1) g rest a.second in
       let q = page_back (head_type head) a.mid c.x c.mid c.first in
       let e = same_passes (put_frame (with_frames h m) (head_pfn head) (frame_said head c.x)) g c.mid rest c.second in

@@ -1,7 +1,10 @@
 -- The frames of a host, which are those of a guest with their machine frames.
 use Rattle.mig_image.proofs.Common.{◌≡◌, ℕ, ◌+◌, ◌<◌, ◌≤◌, length, true, false, [], ◌∷◌, map, Option, Some, None, is_some, IfSome, IfNone, option_and_then, refl, sym, ap, ◌∙◌, ◌==◌, unwrap_or, list_any, eq-eqb, ne_eqb, length-map, option_map, nat_cmp_total, nat_cmp-IsAntisymmetric, FrameOf, FrameMap, entries_from, HostFrame, HostFrames, MachineMap, with_machine, with_machines, machine_in, AreMatched}
 use Rattle.std.specs.FinMap as maps
-use Rattle.mig_pvtables.proofs.EachValue.{get_each, entries_each}
+use Rattle.mig_pvtables.proofs.EachValue.{each_each, each_same, get_each, entries_each}
+use Rattle.mig_pvtables.specs.Blank.{each_value}
+use Rattle.mig_pvtables.specs.View.{without_machine}
+use Rattle.mig_guest.proofs.KeyedMaps.{is_some-mapped}
 use Rattle.mig_guest.proofs.NextEntries.{next_entry}
 use Rattle.mig_image.proofs.InOrder.{some_entry, no_entry}
 
@@ -19,6 +22,12 @@ module _ (frames : FrameMap) (machine_of : ℕ → ℕ) where
 
   pub len_with_machines : maps.len (with_machines frames machine_of) ≡ maps.len frames
   len_with_machines = maps.len-entries (with_machines frames machine_of) ∙ count_with_machines ∙ sym (maps.len-entries frames)
+
+  -- without the machine frames they are the frames of the guest
+  pub without_machines : each_value (λ pfn f. without_machine f) (with_machines frames machine_of) ≡ frames
+  without_machines =
+      each_each nat_cmp_total nat_cmp-IsAntisymmetric (λ pfn f. without_machine f) (λ pfn (f : FrameOf). with_machine f (machine_of pfn)) frames
+      ∙ each_same nat_cmp_total nat_cmp-IsAntisymmetric (λ pfn (f : FrameOf). without_machine (with_machine f (machine_of pfn))) frames (λ pfn f is. refl)
 
 -- ---- what a host is seen to have
 
@@ -55,12 +64,8 @@ module _ (frames : FrameMap) (machines : MachineMap) where
   pub none_joined : (pfn : ℕ) → maps.get frames pfn ≡ None → maps.get joined pfn ≡ None
   none_joined pfn e = seen pfn ∙ ap (option_map (λ (f : FrameOf). with_machine f (machine_in machines pfn))) e
 
-  there : (m : ℕ) (r : Option FrameOf) → is_some (option_map (λ (f : FrameOf). with_machine f m) r) ≡ is_some r
-  there m None = refl
-  there m (Some f) = refl
-
   pub there_joined : (pfn : ℕ) → is_some (maps.get joined pfn) ≡ is_some (maps.get frames pfn)
-  there_joined pfn = ap is_some (seen pfn) ∙ there (machine_in machines pfn) (maps.get frames pfn)
+  there_joined pfn = ap is_some (seen pfn) ∙ is_some-mapped (λ (f : FrameOf). with_machine f (machine_in machines pfn)) (maps.get frames pfn)
 
   -- ---- its entries
 

@@ -1,13 +1,13 @@
 -- The host that a whole HVM guest becomes holds no machine frames but those of its frames, and is seen as this guest.
-use Rattle.mig_image.proofs.Common.{◌≡◌, ℕ, ◌+◌, refl, sym, ap, subst, ◌∙◌, nat_cmp_total, nat_cmp-IsAntisymmetric, Kind, Hvm, FrameOf, HostOf, IsTop, with_machine, with_machines, rank_in, least_width, hosted}
+use Rattle.mig_image.proofs.Common.{◌≡◌, ℕ, ◌+◌, sym, ap, subst, ◌∙◌, Kind, Hvm, HostOf, IsTop, with_machines, rank_in, least_width, hosted}
 use Rattle.std.specs.FinMap as maps
 use Rattle.mig_guest.specs.Guests.{GuestOf}
 use Rattle.mig_pvtables.specs.Localised.{localised_of}
-use Rattle.mig_pvtables.specs.View.{without_machine, hvm_view}
+use Rattle.mig_pvtables.specs.View.{hvm_view}
 use Rattle.mig_pvtables.specs.Whole.{IsWhole}
-use Rattle.mig_pvtables.proofs.EachValue.{each_each, each_same}
 use Rattle.mig_pvtables.proofs.GuestsBack.{parts_stay}
 use Rattle.mig_image.specs.Hosted.{mfn_in, hosted_width}
+use Rattle.mig_image.proofs.HostMaps.{without_machines}
 
 -- what an HVM guest becomes
 abbrev pub hvm_hosted : GuestOf → ℕ → HostOf
@@ -25,8 +25,6 @@ hosted_as_hvm g base hvm =
 pub hosted_seen : (guest : GuestOf) (base : ℕ) → IsWhole guest → guest.kind ≡ Hvm → hvm_view (hosted guest base) ≡ guest
 hosted_seen g base whole hvm =
     let top : g.top ≡ 0 = subst (λ (k : Kind). IsTop k g.top) hvm whole.formed.top in
-    let frames =
-    each_each nat_cmp_total nat_cmp-IsAntisymmetric (λ pfn f. without_machine f) (λ pfn (f : FrameOf). with_machine f (base + rank_in g.frames pfn)) g.frames
-    ∙ each_same nat_cmp_total nat_cmp-IsAntisymmetric (λ pfn (f : FrameOf). without_machine (with_machine f (base + rank_in g.frames pfn))) g.frames (λ pfn f is. refl) in
+    let frames = without_machines g.frames (λ pfn. base + rank_in g.frames pfn) in
     let parts = parts_stay g whole in
     ap hvm_view (hosted_as_hvm g base hvm) ∙ (λ j. record { kind = g.kind; top = sym top j; frames = frames j; parts = parts j })

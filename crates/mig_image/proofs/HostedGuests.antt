@@ -1,10 +1,10 @@
 -- The host that a whole guest becomes is valid and, where the guest is in blank form, sound, and means this guest.
-use Rattle.mig_image.proofs.Common.{◌≡◌, ◌≢◌, ℕ, ◌+◌, ◌<◌, ◌≤◌, ◌^◌, length, List, Option, Some, None, IsSome, refl, sym, ap, subst, ◌∙◌, inl, inr, arith, option_map, nat_cmp_total, nat_cmp-IsAntisymmetric, cases_lt, cases_order, Kind, Pv, Hvm, PartKey, FrameOf, FrameMap, is_type_of, HostFrame, HostFrames, IsHostFrame, IsHostPart, IsOneToOne, IsValid, IsPart, IsTop, width_of, host_part, FitsPolicy, part_total, part_exact, with_machine, with_machines, rank_in, hosted, IsBaseOutside}
+use Rattle.mig_image.proofs.Common.{◌≡◌, ◌≢◌, ℕ, ◌+◌, ◌<◌, ◌≤◌, ◌^◌, length, List, Option, Some, None, IsSome, refl, sym, ap, subst, ◌∙◌, inl, inr, arith, option_map, nat_cmp_total, nat_cmp-IsAntisymmetric, cases_lt, cases_order, Kind, Pv, Hvm, PartKey, FrameOf, is_type_of, HostFrame, HostFrames, IsHostFrame, IsHostPart, IsOneToOne, IsValid, IsPart, IsTop, width_of, host_part, FitsPolicy, part_total, part_exact, with_machine, with_machines, rank_in, hosted, IsBaseOutside}
 use Rattle.std.specs.FinMap as maps
 use Rattle.mig_guest.specs.Formed.{IsInside}
 use Rattle.mig_guest.specs.Frames.{IsFrame, IsFew}
 use Rattle.mig_guest.specs.Guests.{GuestOf}
-use Rattle.mig_pvtables.specs.Blank.{IsOfBytes, blank, each_value}
+use Rattle.mig_pvtables.specs.Blank.{IsOfBytes, blank}
 use Rattle.mig_pvtables.specs.Localised.{renamed_part, localised_of, localised}
 use Rattle.mig_pvtables.specs.Normalised.{normalised}
 use Rattle.mig_pvtables.specs.Renaming.{GoesBack}
@@ -12,7 +12,7 @@ use Rattle.mig_pvtables.specs.Sound.{CanBeSeen, IsSound, unsoundness}
 use Rattle.mig_pvtables.specs.VcpuContexts.{is_used}
 use Rattle.mig_pvtables.specs.View.{without_machine, pfn_in, top_of, guest_in, view}
 use Rattle.mig_pvtables.specs.Whole.{IsWhole}
-use Rattle.mig_pvtables.proofs.EachValue.{from_each, to_each, each_each, each_same}
+use Rattle.mig_pvtables.proofs.EachValue.{from_each, to_each}
 use Rattle.mig_pvtables.proofs.GuestsBack.{guest_back}
 use Rattle.mig_pvtables.proofs.HvmGuests.{hvm_complete}
 use Rattle.mig_pvtables.proofs.LocalisedGuests.{from_localised, to_localised, count_localised, renamed_is_part, renamed_policy}
@@ -20,7 +20,7 @@ use Rattle.mig_pvtables.proofs.PvGuests.{pv_complete}
 use Rattle.mig_pvtables.proofs.SoundGuests.{localised_seen}
 use Rattle.mig_pvtables.proofs.SoundRows.{sound_is_faultless}
 use Rattle.mig_image.specs.Hosted.{mfn_in, hosted_width}
-use Rattle.mig_image.proofs.HostMaps.{count_with_machines}
+use Rattle.mig_image.proofs.HostMaps.{count_with_machines, without_machines}
 use Rattle.mig_image.proofs.Machines.{pfn_of_machine}
 use Rattle.mig_image.proofs.Ranks.{rank_small, rank_strict, frame_inside, width_within}
 
@@ -95,11 +95,6 @@ module _ (g : GuestOf) (base : ℕ) where
   module _ (whole : IsWhole g) where
     -- ---- the view
 
-    stripped : (m : FrameMap) → each_value (λ (p : ℕ) (f : HostFrame). without_machine f) (with_machines m machine_of) ≡ m
-    stripped m =
-        each_each nat_cmp_total nat_cmp-IsAntisymmetric (λ (p : ℕ) (f : HostFrame). without_machine f) (λ (p : ℕ) (f : FrameOf). with_machine f (machine_of p)) m
-        ∙ each_same nat_cmp_total nat_cmp-IsAntisymmetric (λ (p : ℕ) (f : FrameOf). without_machine (with_machine f (machine_of p))) m (λ p f is. refl)
-
     same_top : (k : Kind) → g.kind ≡ k → top_of k (hosted_width k g) ≡ (localised_of k mfn_of g).top
     same_top Pv is = omega arith
     same_top Hvm is = sym (subst (λ (k : Kind). IsTop k g.top) is whole.formed.top)
@@ -112,7 +107,7 @@ module _ (g : GuestOf) (base : ℕ) where
     guest_there : guest_in (hosted g base) ≡ localised mfn_of g
     guest_there =
         let there = localised mfn_of g in
-        let kind = same_kind g.kind in let top = same_top g.kind refl in let frames = stripped there.frames in
+        let kind = same_kind g.kind in let top = same_top g.kind refl in let frames = without_machines there.frames machine_of in
         λ i. record { kind = kind i; top = top i; frames = frames i; parts = there.parts }
 
     module _ (range : IsBaseInside g base) (bytes : IsOfBytes g) (blanked : blank g ≡ g) where

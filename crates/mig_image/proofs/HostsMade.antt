@@ -1,19 +1,10 @@
 -- A host stays valid where a frame or a part is added, and stays what its guest and its machine frames make.
-use Rattle.mig_image.proofs.Common.{◌≡◌, ℕ, ◌+◌, ◌<◌, ◌≤◌, ◌^◌, Bool, true, false, cond, length, List, Option, Some, None, is_some, refl, sym, ap, subst, ◌∙◌, ◌⊎◌, inl, inr, arith, unwrap_or, Ordering, option_map, nat_cmp, eq_by_cmp, IsTotalOrder, nat_cmp_total, FinMap, nat_cmp-IsAntisymmetric, same_map, get-empty, len-insert, len-empty, len-entries, empty_of_len, none-some, same_Some, Kind, Pv, PartKey, FrameOf, FrameMap, HostOf, HostFrame, HostFrames, IsHostFrame, IsHostPart, IsOneToOne, IsValid, part_cmp, PartMap, FitsPolicy, parts_of, part_total, part_exact, MachineMap, with_machine, machine_in, host_seen, AreMatched, IsMade, put_frame, put_part_in}
+use Rattle.mig_image.proofs.Common.{◌≡◌, ℕ, ◌<◌, ◌≤◌, ◌^◌, Bool, true, false, cond, length, List, Option, Some, None, is_some, refl, sym, ap, subst, ◌∙◌, ◌⊎◌, inl, inr, arith, unwrap_or, option_map, nat_cmp, eq_by_cmp, nat_cmp_total, nat_cmp-IsAntisymmetric, same_map, get-empty, len-empty, len-entries, empty_of_len, none-some, same_Some, Kind, Pv, PartKey, FrameOf, FrameMap, HostOf, HostFrame, HostFrames, IsHostFrame, IsHostPart, IsOneToOne, IsValid, part_cmp, PartMap, FitsPolicy, parts_of, part_total, part_exact, MachineMap, with_machine, machine_in, host_seen, AreMatched, IsMade, put_frame, put_part_in}
 use Rattle.std.specs.FinMap as maps
+use Rattle.mig_guest.proofs.Found.{insert_holds}
+use Rattle.mig_guest.proofs.KeyedMaps.{insert_len}
 use Rattle.mig_image.proofs.HostMaps.{joined, get_with_machines, count_with_machines, machine_joined}
-use Rattle.mig_image.proofs.InOrder.{found_more, holds_more, no_entries}
-
-at_most : (b : Bool) (n : ℕ) → cond b n (n + 1) ≤ n + 1
-at_most true n = omega arith
-at_most false n = omega arith
-
--- at most one entry more
-pub count_put : {K X : Type 0} {R : K → K → Ordering} (o : IsTotalOrder R) (m : FinMap R X) (k : K) (v : X) → length (maps.entries (maps.insert m k v)) ≤ length (maps.entries m) + 1
-count_put o m k v =
-    let there = is_some (maps.get m k) in let count = length (maps.entries m) in
-    let is = sym (len-entries (maps.insert m k v)) ∙ len-insert o m k v ∙ ap (λ n. cond there n (n + 1)) (len-entries m) in
-    subst (λ n. n ≤ count + 1) (sym is) (at_most there count)
+use Rattle.mig_image.proofs.InOrder.{found_more, no_entries}
 
 -- ---- a frame more
 
@@ -32,13 +23,13 @@ module _ (h : HostOf) (pfn : ℕ) (frame : HostFrame) (valid : IsValid h) (fine 
       by (inr b) (inr d) = valid.one_to_one p q f g b d alike
 
   few_more : length (maps.entries h.frames) < 2 ^ 24 → length (maps.entries more) ≤ 2 ^ 24
-  few_more few = omega (arith, few, count_put nat_cmp_total h.frames pfn frame)
+  few_more few = omega (arith, few, insert_len nat_cmp_total h.frames pfn frame, len-entries more, len-entries h.frames)
 
   pub valid_frame : length (maps.entries h.frames) < 2 ^ 24 → IsValid (put_frame h pfn frame)
   valid_frame few = record {
     width = valid.width;
     some_width = valid.some_width;
-    frames = holds_more nat_cmp_total nat_cmp-IsAntisymmetric (IsHostFrame h.kind h.width) h.frames pfn frame valid.frames fine;
+    frames = insert_holds nat_cmp_total nat_cmp-IsAntisymmetric (IsHostFrame h.kind h.width) h.frames pfn frame valid.frames fine;
     one_to_one = one_more;
     few = few_more few;
     parts = valid.parts;
@@ -56,7 +47,7 @@ module _ (h : HostOf) (key : PartKey) (bytes : List ℕ) (valid : IsValid h) (fi
     frames = valid.frames;
     one_to_one = valid.one_to_one;
     few = valid.few;
-    parts = holds_more part_total part_exact (IsHostPart h.kind h.width) h.parts key bytes valid.parts fine;
+    parts = insert_holds part_total part_exact (IsHostPart h.kind h.width) h.parts key bytes valid.parts fine;
     leaves = leaves;
     msrs = msrs;
   }

@@ -5,11 +5,12 @@ use Rattle.mig_bytes.specs.Fields.{le32, le64, be64}
 use Rattle.mig_headers.specs.RecordTypes.{pv}
 use Rattle.mig_image.specs.Image.{host_head, image}
 use Rattle.mig_image.specs.ImageParts.{host_at}
-use Rattle.mig_image.proofs.FieldBytes.{name_then, word_then, long_then, long_last, judged_part, regroup}
-use Rattle.mig_image.proofs.Chains.{put_all}
-use Rattle.mig_image.proofs.Frames.{with_frames, FramesFound, frames_back, frame_entries, frames_valid}
+use Rattle.mig_bytes.proofs.Said.{bytes_pass}
+use Rattle.mig_image.proofs.FieldBytes.{name_then, word_then, long_then, long_last, regroup}
+use Rattle.mig_image.proofs.Chains.{Chain, put_all}
+use Rattle.mig_image.proofs.Frames.{FrameFits, with_frames, frames_back, frame_entries, frames_valid}
 use Rattle.mig_image.proofs.HostsMade.{valid_empty}
-use Rattle.mig_image.proofs.Parts.{with_parts, PartsFound, parts_back, part_entries, parts_valid}
+use Rattle.mig_image.proofs.Parts.{PartFits, with_parts, parts_back, part_entries, parts_valid}
 
 -- ---- the head
 
@@ -83,50 +84,6 @@ count_back i n rest all is =
 abbrev framed : List ℕ → List (ℕ × HostFrame) → HostOf
 framed head es = with_frames (opened head) (put_all maps.empty es)
 
--- a front of the input, as it was judged
-record Found (input : List ℕ) (h : HostOf) (rest : List ℕ) : Type 0 where
-  head : List ℕ
-  at_frames : List ℕ
-  passed : HostOf
-  at_count : List ℕ
-  at_parts : List ℕ
-  count : ℕ
-  whole : input ≡ head ++ at_frames
-  size : length head ≡ 32
-  bytes : Bytes head
-  said : HeadFine head
-  frames : FramesFound (opened head) (le64 head 24) at_frames passed at_count
-  counted : at_count ≡ little_bytes 8 count ++ at_parts
-  parts : PartsFound (framed head frames.es) count at_parts h rest
-
-found : (input : List ℕ) (h : HostOf) (rest : List ℕ) → Bytes input → host_at input ≡ Passes h rest → Found input h rest
-unfolding host_at
-found input h rest all is =
-    let a = both_pass (placed Head (host_head_at input)) (λ head. behind_head head.0 head.1) h rest is in
-    let p = judged_part Truncated 32 fault_of_host_head input a.x a.mid (placed_passes Head (host_head_at input) a.x a.mid a.first) in
-    let in_frames : Bytes a.mid = bytes_back input a.x a.mid p.0 all in
-    let b = both_pass (frames_at (le64 a.x 24) (opened a.x) a.mid) (λ f. placed Parts (count_at f.1) >>= λ count. host_parts_at count.0 f.0 count.1) h rest a.second in
-    let f = frames_back (opened a.x) (le64 a.x 24) a.mid b.x b.mid in_frames b.first in
-    let in_count : Bytes b.mid = bytes_back a.mid (flat_map frame_text f.es) b.mid f.whole in_frames in
-    let c = both_pass (placed Parts (count_at b.mid)) (λ count. host_parts_at count.0 b.x count.1) h rest b.second in
-    let n = count_back b.mid c.x c.mid in_count (placed_passes Parts (count_at b.mid) c.x c.mid c.first) in
-    let in_parts : Bytes c.mid = bytes_back b.mid (little_bytes 8 c.x) c.mid n in_count in
-    record {
-      head = a.x;
-      at_frames = a.mid;
-      passed = b.x;
-      at_count = b.mid;
-      at_parts = c.mid;
-      count = c.x;
-      whole = p.0;
-      size = p.1;
-      bytes = bytes_front input a.x a.mid p.0 all;
-      said = head_fine a.x p.2;
-      frames = f;
-      counted = n;
-      parts = parts_back (framed a.x f.es) c.x c.mid h rest in_parts (subst (λ x. host_parts_at c.x x c.mid ≡ Passes h rest) f.is c.second);
-    }
-
 joined : (input head at_frames frames at_count count at_parts parts rest : List ℕ) → input ≡ head ++ at_frames → at_frames ≡ frames ++ at_count → at_count ≡ count ++ at_parts → at_parts ≡ parts ++ rest
     → input ≡ (head ++ (frames ++ (count ++ parts))) ++ rest
 joined input head at_frames frames at_count count at_parts parts rest a b c d =
@@ -138,31 +95,42 @@ image_of : (g : HostOf) (head : List ℕ) (fs : List (ℕ × HostFrame)) (n : �
 unfolding image
 image_of g head fs n ps a b c d = rw (a, c, b, d) refl
 
-module _ (input : List ℕ) (h : HostOf) (rest : List ℕ) (f : Found input h rest) where
+module _ (head : List ℕ) (bytes : Bytes head) (size : length head ≡ 32) (said : HeadFine head) (fs : List (ℕ × HostFrame)) (few : length fs ≡ le64 head 24) (fits : Chain (FrameFits (opened head).kind (opened head).width) maps.empty fs)
+    (ps : List (PartKey × List ℕ)) (stand : Chain (PartFits (opened head).kind (opened head).width) maps.empty ps) where
   abbrev given : HostOf
-  given = with_parts (framed f.head f.frames.es) (put_all maps.empty f.parts.es)
+  given = with_parts (framed head fs) (put_all maps.empty ps)
 
-  frames_are : maps.entries given.frames ≡ f.frames.es
-  frames_are = frame_entries (opened f.head) f.frames.es f.frames.chain
+  given_valid : IsValid given
+  given_valid =
+      let none = valid_empty (kind_of_number (le32 head 8)) (le64 head 16) said.width said.some_width in
+      parts_valid (framed head fs) ps (frames_valid (opened head) fs none fits (subst (λ n. n ≤ 2 ^ 24) (sym few) said.few)) stand
 
-  parts_are : maps.entries given.parts ≡ f.parts.es
-  parts_are = part_entries (framed f.head f.frames.es) f.parts.es f.parts.chain
-
-  valid : IsValid given
-  valid =
-      let none = valid_empty (kind_of_number (le32 f.head 8)) (le64 f.head 16) f.said.width f.said.some_width in
-      parts_valid (framed f.head f.frames.es) f.parts.es (frames_valid (opened f.head) f.frames.es none f.frames.chain (subst (λ n. n ≤ 2 ^ 24) (sym f.frames.size) f.said.few)) f.parts.chain
-
-  head_is : host_head given ≡ f.head
-  head_is = head_back given f.head f.bytes f.size f.said.name f.said.kind f.said.none refl (ap length frames_are ∙ f.frames.size)
-
-  spelled : input ≡ image given ++ rest
-  spelled =
-      joined input f.head f.at_frames (flat_map frame_text f.frames.es) f.at_count (little_bytes 8 f.count) f.at_parts (flat_map part_text f.parts.es) rest f.whole f.frames.whole f.counted f.parts.whole
-      ∙ ap (λ l. l ++ rest) (sym (image_of given f.head f.frames.es f.count f.parts.es head_is frames_are (ap length parts_are ∙ f.parts.size) parts_are))
-
-  is_image : IsHostImage input h rest
-  is_image = subst (λ (g : HostOf). IsHostImage input g rest) (sym f.parts.is) (record { valid = valid; spelled = spelled })
+  given_image : image given ≡ head ++ (flat_map frame_text fs ++ (little_bytes 8 (length ps) ++ flat_map part_text ps))
+  given_image =
+      let frames : maps.entries given.frames ≡ fs = frame_entries (opened head) fs fits in
+      let parts : maps.entries given.parts ≡ ps = part_entries (framed head fs) ps stand in
+      image_of given head fs (length ps) ps (head_back given head bytes size said.name said.kind said.none refl (ap length frames ∙ few)) frames (ap length parts) parts
 
 pub image_back : (input : List ℕ) (h : HostOf) (rest : List ℕ) → AreBytes input → host_at input ≡ Passes h rest → IsHostImage input h rest
-image_back input h rest all is = is_image input h rest (found input h rest (recursion_from_All (λ b. b < 256) input all) is)
+unfolding host_at
+image_back input h rest are is =
+    let all : Bytes input = recursion_from_All (λ b. b < 256) input are in
+    let a = both_pass (placed Head (host_head_at input)) (λ head. behind_head head.0 head.1) h rest is in
+    let p = bytes_pass Truncated fault_of_host_head 32 input a.x a.mid (placed_passes Head (host_head_at input) a.x a.mid a.first) in
+    let in_frames : Bytes a.mid = bytes_back input a.x a.mid p.0 all in
+    let b = both_pass (frames_at (le64 a.x 24) (opened a.x) a.mid) (λ f. placed Parts (count_at f.1) >>= λ count. host_parts_at count.0 f.0 count.1) h rest a.second in
+    let f = frames_back (opened a.x) (le64 a.x 24) a.mid b.x b.mid in_frames b.first in
+    let in_count : Bytes b.mid = bytes_back a.mid (flat_map frame_text f.es) b.mid f.whole in_frames in
+    let c = both_pass (placed Parts (count_at b.mid)) (λ count. host_parts_at count.0 b.x count.1) h rest b.second in
+    let n = count_back b.mid c.x c.mid in_count (placed_passes Parts (count_at b.mid) c.x c.mid c.first) in
+    let in_parts : Bytes c.mid = bytes_back b.mid (little_bytes 8 c.x) c.mid n in_count in
+    let q = parts_back (framed a.x f.es) c.x c.mid h rest in_parts (subst (λ x. host_parts_at c.x x c.mid ≡ Passes h rest) f.is c.second) in
+    let bytes = bytes_front input a.x a.mid p.0 all in
+    let said = head_fine a.x p.2 in
+    let counted : b.mid ≡ little_bytes 8 (length q.es) ++ c.mid = n ∙ ap (λ k. little_bytes 8 k ++ c.mid) (sym q.size) in
+    subst (λ (g : HostOf). IsHostImage input g rest) (sym q.is) (record {
+      valid = given_valid a.x bytes p.1 said f.es f.size f.chain q.es q.chain;
+      spelled =
+          joined input a.x a.mid (flat_map frame_text f.es) b.mid (little_bytes 8 (length q.es)) c.mid (flat_map part_text q.es) rest p.0 f.whole counted q.whole
+          ∙ ap (λ l. l ++ rest) (sym (given_image a.x bytes p.1 said f.es f.size f.chain q.es q.chain));
+    })

@@ -1,20 +1,10 @@
 -- What was taken as a host is its image, where it is bytes, whatever follows it.
-use Rattle.mig_image.proofs.Common.{◌≡◌, ℕ, Bool, true, false, cond, List, [], ◌++◌, Option, Some, None, Ok, sym, ap, subst, ◌∙◌, append-nil, append_cancel_right, Consumes, padding_len, AreBytes, TakesBytes, ◌>>=◌, part, tried, placed, Gives, Passes, ImageCause, Truncated, Head, Frame, Parts, Part, PageType, type_has_data, HostOf, HostAndSpare, IsHost, BeginsWithImage, IsHostImage, fault_of_host_head, fault_of_frame, fault_of_part, fault_of_bytes, fault_of_padding, opened, host_head_at, head_type, head_pfn, head_key, frame_head_at, host_page_at, frame_said, put_frame, host_frame_at, part_head_at, bytes_at, padding_at, put_part_in, part_at, frames_at, host_parts_at, count_at, behind_head}
+use Rattle.mig_image.proofs.Common.{◌≡◌, ℕ, Bool, true, false, cond, List, [], ◌++◌, Option, Some, None, Ok, sym, ap, subst, ◌∙◌, append-nil, append_cancel_right, Consumes, padding_len, AreBytes, TakesBytes, ◌>>=◌, part, placed, Gives, Passes, Truncated, Head, Frame, Parts, Part, PageType, type_has_data, HostOf, HostAndSpare, IsHost, BeginsWithImage, IsHostImage, fault_of_host_head, fault_of_frame, fault_of_part, fault_of_bytes, fault_of_padding, opened, host_head_at, head_type, head_pfn, head_key, frame_head_at, host_page_at, frame_said, put_frame, host_frame_at, part_head_at, bytes_at, padding_at, put_part_in, part_at, frames_at, host_parts_at, count_at, behind_head}
 use Rattle.mig_bytes.specs.Fields.{le32, le64}
-use Rattle.mig_bytes.proofs.Fronts.{TakesFronts, front_pass, front_part, front_then, front_steps, front_placed}
+use Rattle.mig_bytes.proofs.Fronts.{TakesFronts, front_pass, front_part, front_said, front_then, front_steps, front_placed}
 use Rattle.mig_image.specs.Image.{image}
 use Rattle.mig_image.specs.ImageParts.{host_at}
-use Rattle.mig_image.proofs.FieldBytes.{judged_part, judged_goes}
 use Rattle.mig_image.proofs.ImageBack.{image_back}
-
-judged : (n : ℕ) (fault : List ℕ → Option ImageCause) → TakesFronts (λ i. part Truncated n i >>= λ a. tried (fault a.0) a.1 >>= λ _. Passes a.0 a.1)
-judged n fault input x rest is =
-    let p = judged_part Truncated n fault input x rest is in
-    record {
-      front = x;
-      whole = p.0;
-      again = λ more. judged_goes Truncated n fault x more p.1 p.2;
-    }
 
 page : (type : PageType) → TakesFronts (host_page_at type)
 page type = by (type_has_data type)
@@ -25,14 +15,14 @@ page type = by (type_has_data type)
 
 frame : (h : HostOf) → TakesFronts (host_frame_at h)
 frame h =
-    front_then (frame_head_at h) (λ head. host_page_at (head_type head.0) head.1 >>= λ page. Passes (put_frame h (head_pfn head.0) (frame_said head.0 page.0)) page.1) (judged 16 (fault_of_frame h))
+    front_then (frame_head_at h) (λ head. host_page_at (head_type head.0) head.1 >>= λ page. Passes (put_frame h (head_pfn head.0) (frame_said head.0 page.0)) page.1) (front_said Truncated (fault_of_frame h) _ 16)
     (λ head. front_then (host_page_at (head_type head)) (λ page. Passes (put_frame h (head_pfn head) (frame_said head page.0)) page.1) (page (head_type head)) (λ p. front_pass (put_frame h (head_pfn head) (frame_said head p))))
 
 a_part : (h : HostOf) → TakesFronts (part_at h)
 a_part h =
-    front_then (part_head_at h) (λ head. bytes_at (le32 head.0 0) (le32 head.0 12) head.1 >>= λ bytes. padding_at (le32 head.0 12) bytes.1 >>= λ padding. Passes (put_part_in h (head_key head.0) bytes.0) padding.1) (judged 16 (fault_of_part h))
-    (λ head. front_then (bytes_at (le32 head 0) (le32 head 12)) (λ bytes. padding_at (le32 head 12) bytes.1 >>= λ padding. Passes (put_part_in h (head_key head) bytes.0) padding.1) (judged (le32 head 12) (fault_of_bytes (le32 head 0)))
-    (λ bytes. front_then (padding_at (le32 head 12)) (λ padding. Passes (put_part_in h (head_key head) bytes) padding.1) (judged (padding_len (le32 head 12)) fault_of_padding) (λ _. front_pass (put_part_in h (head_key head) bytes))))
+    front_then (part_head_at h) (λ head. bytes_at (le32 head.0 0) (le32 head.0 12) head.1 >>= λ bytes. padding_at (le32 head.0 12) bytes.1 >>= λ padding. Passes (put_part_in h (head_key head.0) bytes.0) padding.1) (front_said Truncated (fault_of_part h) _ 16)
+    (λ head. front_then (bytes_at (le32 head 0) (le32 head 12)) (λ bytes. padding_at (le32 head 12) bytes.1 >>= λ padding. Passes (put_part_in h (head_key head) bytes.0) padding.1) (front_said Truncated (fault_of_bytes (le32 head 0)) _ (le32 head 12))
+    (λ bytes. front_then (padding_at (le32 head 12)) (λ padding. Passes (put_part_in h (head_key head) bytes) padding.1) (front_said Truncated fault_of_padding _ (padding_len (le32 head 12))) (λ _. front_pass (put_part_in h (head_key head) bytes))))
 
 count : TakesFronts count_at
 count = front_then (part Truncated 8) (λ a. Passes (le64 a.0 0) a.1) (front_part Truncated 8) (λ x. front_pass (le64 x 0))
@@ -46,7 +36,7 @@ behind head =
 
 whole : TakesFronts host_at
 unfolding host_at
-whole = front_then (λ i. placed Head (host_head_at i)) (λ head. behind_head head.0 head.1) (front_placed Head host_head_at (judged 32 fault_of_host_head)) behind
+whole = front_then (λ i. placed Head (host_head_at i)) (λ head. behind_head head.0 head.1) (front_placed Head host_head_at (front_said Truncated fault_of_host_head _ 32)) behind
 
 taken_is_image : (input taken rest : List ℕ) (h : HostOf) → input ≡ taken ++ rest → AreBytes taken → host_at input ≡ Passes h rest → IsHostImage input h rest
 taken_is_image input taken rest h gone bytes is =

@@ -3,9 +3,10 @@ use Rattle.mig_image.proofs.Common.{◌≡◌, ℕ, ◌^◌, ◌<◌, ◌≤◌,
 use Rattle.std.specs.FinMap as maps
 use Rattle.mig_bytes.specs.Fields.{le32, le64, be64}
 use Rattle.mig_headers.specs.RecordTypes.{pv}
+use Rattle.mig_headers.proofs.KindNumbers.{kind_back}
 use Rattle.mig_image.specs.Image.{host_head, image}
 use Rattle.mig_image.specs.ImageParts.{host_at}
-use Rattle.mig_image.proofs.FieldBytes.{judged_goes}
+use Rattle.mig_bytes.proofs.Said.{said_goes}
 use Rattle.mig_image.proofs.Chains.{chain_goes}
 use Rattle.mig_image.proofs.Frames.{frames_chain, frames_same, frames_within, with_frames, FrameFits, frame_goes}
 use Rattle.mig_image.proofs.Parts.{parts_chain, parts_same, parts_few, with_parts, PartFits, part_goes}
@@ -19,10 +20,6 @@ kind_small Hvm = omega arith
 head_len : (h : HostOf) → length (host_head h) ≡ 32
 unfolding host_head
 head_len h = refl
-
-kind_back : (kind : Kind) → kind_of_number (kind_number kind) ≡ kind
-kind_back Pv = refl
-kind_back Hvm = refl
 
 kind_known : (kind : Kind) → (not (nat_eq (kind_number kind) 1) && not (nat_eq (kind_number kind) 2)) ≡ false
 kind_known Pv = refl
@@ -137,7 +134,7 @@ module _ (h : HostOf) (valid : IsValid h) (rest : List ℕ) where
       (then_passes (placed Parts (count_at at_count)) (λ count. host_parts_at count.0 framed count.1) count at_parts _ (ap (placed Parts) (count_text count at_parts (parts_few h valid))) parts_read)
 
   head_reads : host_head_at (host_head h ++ at_frames) ≡ Passes (host_head h) at_frames
-  head_reads = judged_goes Truncated 32 fault_of_host_head (host_head h) at_frames (head_len h) (fine h (host_head h) valid (says h valid))
+  head_reads = said_goes Truncated fault_of_host_head (λ l. l) 32 (host_head h) at_frames (head_len h) (fine h (host_head h) valid (says h valid))
 
   reads : host_at (host_head h ++ at_frames) ≡ Passes h rest
   unfolding host_at

@@ -1,22 +1,16 @@
 -- Entries in the order of their keys, tests of them, and maps that grow behind all entries.
-use Rattle.mig_image.proofs.Common.{◌≡◌, ℕ, ◌+◌, ◌<◌, ◌≤◌, Bool, true, false, cond, not, List, [], ◌∷◌, ◌++◌, Option, Some, refl, sym, ap, subst, ◌∙◌, length, arith, ◌⊎◌, inl, inr, T, ◌||◌, All, AllByRecursion, list_any, or_left, or_right, or_parts, or_from, false_from_ne_true, true≢false, All-weaker, recursion_from_All, none-some, same_Some, IsTotalOrder, is_lt, is_eq, eq_by_cmp, ordering_reverse, Ordering, Less, Equal, Greater, FinMap, IsAntisymmetric, find, put, is_sorted, below_all, by_order}
+use Rattle.mig_image.proofs.Common.{◌≡◌, ℕ, ◌+◌, ◌<◌, ◌≤◌, Bool, true, false, cond, not, List, [], ◌∷◌, ◌++◌, Option, Some, refl, sym, ap, subst, ◌∙◌, length, arith, ◌⊎◌, inl, inr, T, ◌||◌, All, AllByRecursion, list_any, or_left, or_right, or_parts, or_from, false_from_ne_true, true≢false, All-weaker, recursion_from_All, none-some, same_Some, IsTotalOrder, is_lt, is_eq, eq_by_cmp, ordering_reverse, Ordering, Less, Greater, FinMap, IsAntisymmetric, find, put, is_sorted, below_all, by_order, nat_cmp, common_steps, not-false}
 use Rattle.std.specs.List as list
 use Rattle.std.proofs.lemmas.Cmp.{eq_by_cmp_equiv}
 use Rattle.std.proofs.lemmas.List.Folds.{list_any_none}
 use Rattle.std.specs.FinMap as maps
 use Rattle.mig_guest.proofs.Found.{all_found}
 use Rattle.mig_guest.proofs.KeyedMaps.{tied}
-use Rattle.mig_guest.proofs.PartCursor.{both_of}
+use Rattle.mig_guest.proofs.PartCursor.{both_of, less, true_of}
 
-less_of : (r : Ordering) → T (is_lt r) → r ≡ Less
-less_of Less h = refl
-less_of Equal h = absurd h
-less_of Greater h = absurd h
-
-not_from : (r : Ordering) → not (is_lt r) ≡ false → r ≡ Less
-not_from Less h = refl
-not_from Equal h = cc
-not_from Greater h = cc
+-- numbers in their order
+pub nat_rises : (a b : ℕ) → T (is_lt (nat_cmp a b)) → a < b
+nat_rises a b h = grind (arith, common_steps)
 
 -- what is found passes the test
 pub found_passes : {A : Type 0} (p : A → Bool) (xs : List A) (x : A) → list.find p xs ≡ Some x → p x ≡ true
@@ -39,14 +33,14 @@ module _ {K X : Type 0} {R : K → K → Ordering} (total : IsTotalOrder R) wher
   put_behind k v [] h = refl
   put_behind k v (e ∷ es) h =
       let p = or_parts (not (is_lt (R e.0 k))) (has_from es k) h in
-      ap (λ r. by_order r ((k, v) ∷ e ∷ es) ((e.0, v) ∷ es) (e ∷ put R k v es)) (behind total e.0 k (not_from (R e.0 k) p.0)) ∙ ap (λ l. e ∷ l) (put_behind k v es p.1)
+      ap (λ r. by_order r ((k, v) ∷ e ∷ es) ((e.0, v) ∷ es) (e ∷ put R k v es)) (behind total e.0 k (less (R e.0 k) (not-false (is_lt (R e.0 k)) p.0))) ∙ ap (λ l. e ∷ l) (put_behind k v es p.1)
 
   -- a new key behind all others
   pub entries_behind : (m : FinMap R X) (k : K) (v : X) → has_from (maps.entries m) k ≡ false → maps.entries (maps.insert m k v) ≡ maps.entries m ++ (k, v) ∷ []
   entries_behind m k v h = maps.entries-insert total m k v ∙ put_behind k v (maps.entries m) h
 
   below_at : (x : K) (es : List (K × X)) (f : K × X) (fs : List (K × X)) → T (below_all R x (es ++ f ∷ fs)) → R x f.0 ≡ Less
-  below_at x [] f fs h = less_of (R x f.0) (both_of (is_lt (R x f.0)) (below_all R x fs) h).0
+  below_at x [] f fs h = less (R x f.0) (true_of (is_lt (R x f.0)) (both_of (is_lt (R x f.0)) (below_all R x fs) h).0)
   below_at x (e ∷ es) f fs h = below_at x es f fs (both_of (is_lt (R x e.0)) (below_all R x (es ++ f ∷ fs)) h).1
 
   -- the entries before one have smaller keys
@@ -96,14 +90,6 @@ module _ {K X : Type 0} {R : K → K → Ordering} (total : IsTotalOrder R) (exa
       by : (b : Bool) → eq_by_cmp R q k ≡ b → cond b (Some x) (maps.get m q) ≡ Some v → ((q ≡ k) × (x ≡ v)) ⊎ (maps.get m q ≡ Some v)
       by true tie found = inl (exact q k (tied (R q k) tie), same_Some x v found)
       by false tie found = inr found
-
-  -- what holds of all values, and of one more
-  pub holds_more : (P : K → X → Type 0) (m : FinMap R X) (k : K) (x : X) → ((q : K) (v : X) → maps.get m q ≡ Some v → P q v) → P k x → (q : K) (v : X) → maps.get (maps.insert m k x) q ≡ Some v → P q v
-  holds_more P m k x each one q v is = by (found_more m k x q v is)
-    where
-      by : ((q ≡ k) × (x ≡ v)) ⊎ (maps.get m q ≡ Some v) → P q v
-      by (inl (same, value)) = subst (λ n. P n v) (sym same) (subst (P k) value one)
-      by (inr before) = each q v before
 
   module _ (p : K × X → Bool) where
     passes_case : (q : K) (e : K × X) (v : X) (b rest : Bool) (o : Option X) → eq_by_cmp R q e.0 ≡ b → p (q, v) ≡ true → cond b (Some e.1) o ≡ Some v → (o ≡ Some v → rest ≡ true) → (p e || rest) ≡ true

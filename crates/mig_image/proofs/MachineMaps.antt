@@ -1,11 +1,11 @@
 -- Maps from numbers to numbers, and a map with a function that is its inverse.
-use Rattle.mig_image.proofs.Common.{◌≡◌, ◌≢◌, ℕ, ◌<◌, IfSome, Bool, true, false, cond, nat_eq, Option, Some, None, Result, Ok, Err, refl, sym, ap, ◌∙◌, inl, inr, IsOk, nat_cmp, eq_by_cmp, nat_cmp_total, unsigned_tied, FinMap, nat_cmp-IsAntisymmetric, same_map, get-insert, get-remove, get-empty, eq-eqb, ne_eqb, cases_eq, none-some, same_Some, MachineMap, AreInverse}
+use Rattle.mig_image.proofs.Common.{◌≡◌, ℕ, ◌<◌, IfSome, true, false, nat_eq, Option, Some, None, Result, Ok, Err, refl, sym, ap, ◌∙◌, inl, inr, IsOk, nat_cmp, nat_cmp_total, FinMap, nat_cmp-IsAntisymmetric, get-empty, ne_eqb, cases_eq, none-some, same_Some, MachineMap, AreInverse}
 use Rattle.mig_image.specs.HostView.{pfn_of_machine_in, AreBelowLimit}
 use Rattle.std.specs.Result.{OnOk}
 use Rattle.std.specs.FinMap as maps
-use Rattle.mig_guest.proofs.KeyedMaps.{tied}
+use Rattle.mig_guest.proofs.Found.{insert_holds, remove_holds}
 use Rattle.mig_guest.specs.Hosts.{machine_limit}
-use Rattle.mig_image.proofs.InOrder.{holds_more}
+use Rattle.mig_bytes.proofs.NumberMaps.{inserted, inserted_other, removed, removed_other, is_removed}
 use Rattle.mig_image.proofs.Machines.{only_pfn, no_pfn}
 
 -- ---- what a call did, where it is known whether it failed
@@ -14,34 +14,9 @@ pub on_taken : {T E P : Type 0} (r : Result T E) → IsOk r → OnOk r P → P
 on_taken (Ok x) e h = h
 on_taken (Err y) e h = let no : false ≡ true = e in cc
 
--- ---- one number put or taken
-
-differs : (q k : ℕ) → q ≢ k → eq_by_cmp nat_cmp q k ≡ false
-differs q k ne = unsigned_tied q k ∙ ne_eqb q k ne
-
-ties : (q k : ℕ) → q ≡ k → eq_by_cmp nat_cmp q k ≡ true
-ties q k e = unsigned_tied q k ∙ eq-eqb q k e
-
-module _ {X : Type 0} (m : FinMap nat_cmp X) (k : ℕ) where
-  pub got_put : (x : X) → maps.get (maps.insert m k x) k ≡ Some x
-  got_put x = get-insert nat_cmp_total m k x k ∙ ap (λ b. cond b (Some x) (maps.get m k)) (ties k k refl)
-
-  pub got_other : (x : X) (q : ℕ) → q ≢ k → maps.get (maps.insert m k x) q ≡ maps.get m q
-  got_other x q ne = get-insert nat_cmp_total m k x q ∙ ap (λ b. cond b (Some x) (maps.get m q)) (differs q k ne)
-
-  pub got_taken : maps.get (maps.remove m k) k ≡ None
-  got_taken = get-remove nat_cmp_total m k k ∙ ap (λ b. cond b None (maps.get m k)) (ties k k refl)
-
-  pub left_other : (q : ℕ) → q ≢ k → maps.get (maps.remove m k) q ≡ maps.get m q
-  left_other q ne = get-remove nat_cmp_total m k q ∙ ap (λ b. cond b None (maps.get m q)) (differs q k ne)
-
-  -- what isn't there, taken
-  pub taken_none : maps.get m k ≡ None → maps.remove m k ≡ m
-  taken_none none = same_map nat_cmp_total nat_cmp-IsAntisymmetric _ _ (λ q. get-remove nat_cmp_total m k q ∙ by q (eq_by_cmp nat_cmp q k) refl)
-    where
-      by : (q : ℕ) (b : Bool) → eq_by_cmp nat_cmp q k ≡ b → cond b None (maps.get m q) ≡ maps.get m q
-      by q true tie = sym (ap (maps.get m) (nat_cmp-IsAntisymmetric q k (tied (nat_cmp q k) tie)) ∙ none)
-      by q false tie = refl
+-- what isn't there, taken
+pub taken_none : {X : Type 0} (m : FinMap nat_cmp X) (k : ℕ) → maps.get m k ≡ None → maps.remove m k ≡ m
+taken_none m k none = sym (is_removed m m k none (λ q ne. refl))
 
 -- ---- a map and its inverse
 
@@ -54,10 +29,10 @@ module _ (there : MachineMap) (back after : ℕ → Option ℕ) (p m : ℕ) (inv
     put_there : (q n : ℕ) → maps.get (maps.insert there p m) q ≡ Some n → after n ≡ Some q
     put_there q n is = elim (cases_eq q p) [
       | inl e ↦
-          let value = same_Some m n (sym (got_put there p m) ∙ ap (maps.get (maps.insert there p m)) (sym e) ∙ is) in
+          let value = same_Some m n (sym (inserted there p q m e) ∙ is) in
           ap after (sym value) ∙ same ∙ ap Some (sym e)
       | inr ne ↦
-          let was = sym (got_other there p m q ne) ∙ is in
+          let was = sym (inserted_other there p q m ne) ∙ is in
           others n (ne_eqb m n (λ e. unused q (was ∙ ap Some (sym e)))) ∙ inverse.0 q n was
     ]
 
@@ -65,10 +40,10 @@ module _ (there : MachineMap) (back after : ℕ → Option ℕ) (p m : ℕ) (inv
     put_back n q is = elim (cases_eq m n) [
       | inl e ↦
           let value = same_Some p q (sym same ∙ ap after e ∙ is) in
-          ap (maps.get (maps.insert there p m)) (sym value) ∙ got_put there p m ∙ ap Some e
+          inserted there p q m (sym value) ∙ ap Some e
       | inr ne ↦
           let was = inverse.1 n q (sym (others n (ne_eqb m n ne)) ∙ is) in
-          got_other there p m q (λ e. none-some n (sym absent ∙ ap (maps.get there) (sym e) ∙ was)) ∙ was
+          inserted_other there p q m (λ e. none-some n (sym absent ∙ ap (maps.get there) (sym e) ∙ was)) ∙ was
     ]
 
     pub inverse_put : AreInverse (maps.insert there p m) after
@@ -78,9 +53,9 @@ module _ (there : MachineMap) (back after : ℕ → Option ℕ) (p m : ℕ) (inv
   module _ (has : maps.get there p ≡ Some m) (same : after m ≡ None) (others : (n : ℕ) → nat_eq m n ≡ false → after n ≡ back n) where
     taken_there : (q n : ℕ) → maps.get (maps.remove there p) q ≡ Some n → after n ≡ Some q
     taken_there q n is = elim (cases_eq q p) [
-      | inl e ↦ absurd (none-some n (sym (got_taken there p) ∙ ap (maps.get (maps.remove there p)) (sym e) ∙ is))
+      | inl e ↦ absurd (none-some n (sym (removed there p q e) ∙ is))
       | inr ne ↦
-          let was = sym (left_other there p q ne) ∙ is in
+          let was = sym (removed_other there p q ne) ∙ is in
           others n (ne_eqb m n (λ e. ne (same_Some q p (sym (inverse.0 q n was) ∙ ap back (sym e) ∙ inverse.0 p m has)))) ∙ inverse.0 q n was
     ]
 
@@ -89,7 +64,7 @@ module _ (there : MachineMap) (back after : ℕ → Option ℕ) (p m : ℕ) (inv
       | inl e ↦ absurd (none-some q (sym same ∙ ap after e ∙ is))
       | inr ne ↦
           let was = inverse.1 n q (sym (others n (ne_eqb m n ne)) ∙ is) in
-          left_other there p q (λ e. ne (same_Some m n (sym has ∙ ap (maps.get there) (sym e) ∙ was))) ∙ was
+          removed_other there p q (λ e. ne (same_Some m n (sym has ∙ ap (maps.get there) (sym e) ∙ was))) ∙ was
     ]
 
     pub inverse_taken : AreInverse (maps.remove there p) after
@@ -116,10 +91,7 @@ pub below_empty : AreBelowLimit maps.empty
 below_empty p m is = absurd (none-some m (sym (get-empty nat_cmp p) ∙ is))
 
 pub below_put : (there : MachineMap) (pfn machine : ℕ) → AreBelowLimit there → machine < machine_limit → AreBelowLimit (maps.insert there pfn machine)
-below_put there pfn machine below small = holds_more nat_cmp_total nat_cmp-IsAntisymmetric (λ p m. m < machine_limit) there pfn machine below small
+below_put there pfn machine below small = insert_holds nat_cmp_total nat_cmp-IsAntisymmetric (λ p m. m < machine_limit) there pfn machine below small
 
 pub below_taken : (there : MachineMap) (pfn : ℕ) → AreBelowLimit there → AreBelowLimit (maps.remove there pfn)
-below_taken there pfn below p m is = elim (cases_eq p pfn) [
-  | inl e ↦ absurd (none-some m (sym (got_taken there pfn) ∙ ap (maps.get (maps.remove there pfn)) (sym e) ∙ is))
-  | inr ne ↦ below p m (sym (left_other there pfn p ne) ∙ is)
-]
+below_taken there pfn below = remove_holds nat_cmp_total nat_cmp-IsAntisymmetric (λ p m. m < machine_limit) there pfn below

@@ -8,9 +8,10 @@ use Rattle.mig_guest.specs.declared.part_code.PartCode.{PartCode}
 use Rattle.mig_guest.specs.declared.part_code.PartCode.TheVariants.{EmulatorPairs, CpuidLeaf, Msr}
 use Rattle.mig_guest.specs.PartCodes.{code_number, code_of_number, row_of}
 use Rattle.mig_image.specs.Image.{part_head_of}
-use Rattle.mig_image.proofs.FieldBytes.{judged_goes, word_then, word_last, judged_part, regroup}
+use Rattle.mig_bytes.proofs.Said.{bytes_pass, said_goes}
+use Rattle.mig_image.proofs.FieldBytes.{word_then, word_last, regroup}
 use Rattle.mig_image.specs.declared.read_part.Entries.{Entries}
-use Rattle.mig_image.proofs.InOrder.{entries_behind, no_entries, has_from, get_at, each_entry, few_ranks}
+use Rattle.mig_image.proofs.InOrder.{entries_behind, no_entries, has_from, get_at, each_entry, few_ranks, nat_rises}
 use Rattle.mig_image.proofs.Chains.{Chain, put_all, chain_of, chain_same, Found, AllFound, chain_back, chain_entries, chain_keeps}
 use Rattle.mig_image.proofs.HostsMade.{valid_part}
 
@@ -103,11 +104,11 @@ part_goes h e rest wide f =
     let s = says h.kind h.width e wide f.is in
     ap (part_at h) (append_assoc head (e.1 ++ zeros) rest ∙ ap (λ l. head ++ l) (append_assoc e.1 zeros rest))
     ∙ then_passes (part_head_at h (head ++ mid)) (behind_part_head h) head mid _
-    (judged_goes Truncated 16 (fault_of_part h) head mid (head_len e.0 (length e.1)) (fine h e head s f))
+    (said_goes Truncated (fault_of_part h) (λ l. l) 16 head mid (head_len e.0 (length e.1)) (fine h e head s f))
     (then_passes (bytes_at (le32 head 0) (le32 head 12) mid) (behind_bytes h head) e.1 (zeros ++ rest) _
-    (ap (λ c. bytes_at c (le32 head 12) mid) s.code ∙ ap (λ n. bytes_at e.0.code n mid) s.len ∙ judged_goes Truncated (length e.1) (fault_of_bytes e.0.code) e.1 (zeros ++ rest) refl (fine_bytes f.is.code e.0.code e.1 f.is.number f.is.content))
+    (ap (λ c. bytes_at c (le32 head 12) mid) s.code ∙ ap (λ n. bytes_at e.0.code n mid) s.len ∙ said_goes Truncated (fault_of_bytes e.0.code) (λ l. l) (length e.1) e.1 (zeros ++ rest) refl (fine_bytes f.is.code e.0.code e.1 f.is.number f.is.content))
     (then_passes (padding_at (le32 head 12) (zeros ++ rest)) (λ padding. Passes (put_part_in h (head_key head) e.1) padding.1) zeros rest _
-    (ap (λ n. padding_at n (zeros ++ rest)) s.len ∙ judged_goes Truncated (padding_len (length e.1)) fault_of_padding zeros rest (length-replicate {A = ℕ} (padding_len (length e.1)) 0) (fine_padding (padding_len (length e.1)))) (part_is h e head rest s)))
+    (ap (λ n. padding_at n (zeros ++ rest)) s.len ∙ said_goes Truncated fault_of_padding (λ l. l) (padding_len (length e.1)) zeros rest (length-replicate {A = ℕ} (padding_len (length e.1)) 0) (fine_padding (padding_len (length e.1)))) (part_is h e head rest s)))
 
 -- ---- one more of its code
 
@@ -245,21 +246,18 @@ small_by CpuidLeaf k is other h = absurd (true≢false (ap policy is ∙ other))
 small_by Msr k is other h = absurd (true≢false (ap policy is ∙ other))
 small_by _ k is other h = grind (arith, common_steps)
 
-below : (a b : ℕ) → T (is_lt (nat_cmp a b)) → a < b
-below a b h = grind (arith, common_steps)
-
 -- greater in the order, and so of a greater rank
 rises_by : (k l : PartKey) (r s : Ordering) → nat_cmp k.code l.code ≡ r → nat_cmp k.key1 l.key1 ≡ s → IsSmall k → T (is_lt (ordering_then r (ordering_then s (nat_cmp k.key2 l.key2)))) → rank k < rank l
-rises_by k l Less s p q small h = let less : k.code < l.code = below k.code l.code (subst (λ o. T (is_lt o)) (sym p) tt) in omega arith
+rises_by k l Less s p q small h = let less : k.code < l.code = nat_rises k.code l.code (subst (λ o. T (is_lt o)) (sym p) tt) in omega arith
 rises_by k l Greater s p q small h = absurd h
 rises_by k l Equal Less p q small h =
     let same : k.code ≡ l.code = nat_cmp-IsAntisymmetric k.code l.code p in
-    let less : k.key1 < l.key1 = below k.key1 l.key1 (subst (λ o. T (is_lt o)) (sym q) tt) in omega arith
+    let less : k.key1 < l.key1 = nat_rises k.key1 l.key1 (subst (λ o. T (is_lt o)) (sym q) tt) in omega arith
 rises_by k l Equal Greater p q small h = absurd h
 rises_by k l Equal Equal p q small h =
     let same : k.code ≡ l.code = nat_cmp-IsAntisymmetric k.code l.code p in
     let alike : k.key1 ≡ l.key1 = nat_cmp-IsAntisymmetric k.key1 l.key1 q in
-    let less : k.key2 < l.key2 = below k.key2 l.key2 h in omega arith
+    let less : k.key2 < l.key2 = nat_rises k.key2 l.key2 h in omega arith
 
 rises : (k l : PartKey) → IsSmall k → T (is_lt (part_cmp k l)) → rank k < rank l
 rises k l small h = rises_by k l (nat_cmp k.code l.code) (nat_cmp k.key1 l.key1) refl refl small h
@@ -332,11 +330,11 @@ module _ (h : HostOf) where
   part_back m i g rest all is =
       let a = both_pass (part_head_at (with_parts h m) i) (behind_part_head (with_parts h m)) g rest is in
       let head = a.x in
-      let p = judged_part Truncated 16 (fault_of_part (with_parts h m)) i head a.mid a.first in
+      let p = bytes_pass Truncated (fault_of_part (with_parts h m)) 16 i head a.mid a.first in
       let b = both_pass (bytes_at (le32 head 0) (le32 head 12) a.mid) (behind_bytes (with_parts h m) head) g rest a.second in
-      let q = judged_part Truncated (le32 head 12) (fault_of_bytes (le32 head 0)) a.mid b.x b.mid b.first in
+      let q = bytes_pass Truncated (fault_of_bytes (le32 head 0)) (le32 head 12) a.mid b.x b.mid b.first in
       let c = both_pass (padding_at (le32 head 12) b.mid) (λ padding. Passes (put_part_in (with_parts h m) (head_key head) b.x) padding.1) g rest b.second in
-      let r = judged_part Truncated (padding_len (le32 head 12)) fault_of_padding b.mid c.x c.mid c.first in
+      let r = bytes_pass Truncated fault_of_padding (padding_len (le32 head 12)) b.mid c.x c.mid c.first in
       let e = same_passes (put_part_in (with_parts h m) (head_key head) b.x) g c.mid rest c.second in
       let bytes : Bytes head = bytes_front i head a.mid p.0 all in
       record {

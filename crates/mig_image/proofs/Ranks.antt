@@ -1,8 +1,8 @@
 -- How many entries lie below a number, and the width of entries.
-use Rattle.mig_image.proofs.Common.{◌≡◌, ℕ, ◌+◌, ◌<◌, ◌≤◌, Bool, true, false, cond, length, max, nat_eq, nat_lt, filter, List, [], ◌∷◌, Option, Some, None, refl, sym, ap, subst, ◌∙◌, ◌⊎◌, inl, inr, arith, T, AllByRecursion, nat_cmp, is_lt, eq_by_cmp, nat_cmp_total, unsigned_tied, find, is_sorted, nat_cmp-IsAntisymmetric, get-entries, entries_sorted, below_all, lt-ltb, le-ltb, cases_lt, eqb-true, eqb-false, common_steps, none-some, FrameOf, FrameMap, rank_in, least_width}
+use Rattle.mig_image.proofs.Common.{◌≡◌, ℕ, ◌+◌, ◌<◌, ◌≤◌, Bool, true, false, cond, length, max, nat_eq, nat_lt, filter, List, [], ◌∷◌, Option, Some, None, refl, sym, ap, subst, ◌∙◌, ◌⊎◌, inl, inr, arith, T, AllByRecursion, nat_cmp, is_lt, eq_by_cmp, nat_cmp_total, unsigned_tied, find, is_sorted, nat_cmp-IsAntisymmetric, get-entries, entries_sorted, below_all, lt-ltb, le-ltb, cases_lt, eqb-true, eqb-false, none-some, FrameOf, FrameMap, rank_in, least_width}
 use Rattle.std.specs.FinMap as maps
 use Rattle.mig_guest.proofs.PartCursor.{both_of}
-use Rattle.mig_image.proofs.InOrder.{each_entry}
+use Rattle.mig_image.proofs.InOrder.{each_entry, nat_rises}
 
 -- 1 for a test that is passed
 abbrev one : Bool → ℕ
@@ -42,10 +42,7 @@ module _ {X : Type 0} where
 
   later : (k : ℕ) (es : List (ℕ × X)) → T (below_all nat_cmp k es) → AllByRecursion (λ (e : ℕ × X). (e.0 < k) ⊎ (k + 1 ≤ e.0)) es
   later k [] below = tt
-  later k (e ∷ es) below = let (first, others) = both_of (is_lt (nat_cmp k e.0)) (below_all nat_cmp k es) below in (inr (rises k e.0 first), later k es others)
-    where
-      rises : (a b : ℕ) → T (is_lt (nat_cmp a b)) → a + 1 ≤ b
-      rises a b h = grind (arith, common_steps)
+  later k (e ∷ es) below = let (first, others) = both_of (is_lt (nat_cmp k e.0)) (below_all nat_cmp k es) below in let above : k + 1 ≤ e.0 = omega (arith, nat_rises k e.0 first) in (inr above, later k es others)
 
   -- one more lies below the number behind an entry than below the entry
   below_step : (p : ℕ) (es : List (ℕ × X)) (v : X) → T (is_sorted nat_cmp es) → find nat_cmp p es ≡ Some v → below (p + 1) es ≡ below p es + 1

@@ -5,10 +5,11 @@ use Rattle.mig_guest.specs.Guests.{GuestOf}
 use Rattle.mig_pvtables.specs.Whole.{IsWhole}
 use Rattle.mig_pvtables.specs.Localised.{localised_frame, localised_of, localised}
 use Rattle.mig_pvtables.proofs.EachValue.{get_each}
+use Rattle.mig_guest.proofs.KeyedMaps.{is_some-mapped}
+use Rattle.mig_bytes.proofs.NumberMaps.{inserted, inserted_other}
 use Rattle.mig_image.specs.Hosted.{mfn_in, hosted_width}
 use Rattle.mig_image.proofs.HostMaps.{joined, get_with_machines}
 use Rattle.mig_image.proofs.HostedGuests.{IsBaseInside, machine_of, valid_inside}
-use Rattle.mig_image.proofs.MachineMaps.{got_put, got_other}
 use Rattle.mig_image.proofs.Ranks.{rank_small, rank_strict, rank_step, rank_gap, rank_zero, frame_inside}
 
 module _ (frames : FrameMap) (base : ℕ) where
@@ -69,17 +70,17 @@ module _ (frames : FrameMap) (base : ℕ) where
 
       below_more : (q : ℕ) → q < pfn + 1 → maps.get more q ≡ counted_at q
       below_more q small = elim (cases_lt q pfn) [
-        | inl lt ↦ got_other machines pfn (base + i) q (λ e. omega (arith, e, lt)) ∙ upto pfn none q lt
+        | inl lt ↦ inserted_other machines pfn q (base + i) (λ e. omega (arith, e, lt)) ∙ upto pfn none q lt
         | inr ge ↦
             subst (λ n. maps.get more n ≡ counted_at n) (let e : pfn ≡ q = omega (arith, ge, small) in e)
-            (got_put machines pfn (base + i) ∙ ap (λ n. Some (base + n)) (sym next_rank) ∙ sym (ap (option_map (λ _. base + rank_in frames pfn)) is))
+            (inserted machines pfn pfn (base + i) refl ∙ ap (λ n. Some (base + n)) (sym next_rank) ∙ sym (ap (option_map (λ _. base + rank_in frames pfn)) is))
       ]
 
       -- the next frame gets the next machine frame
       pub counted_more : AreCounted (pfn + 1) (i + 1) more
       counted_more = record {
         below = below_more;
-        above = λ q ge. got_other machines pfn (base + i) q (λ e. omega (arith, e, ge)) ∙ counted.above q (omega (arith, le, ge));
+        above = λ q ge. inserted_other machines pfn q (base + i) (λ e. omega (arith, e, ge)) ∙ counted.above q (omega (arith, le, ge));
         rank = rank_step frames pfn f is ∙ ap (λ n. n + 1) next_rank;
         width = omega (arith, frame_inside frames pfn f is);
         few = omega (arith, next_rank, rank_small frames pfn f is);
@@ -88,21 +89,13 @@ module _ (frames : FrameMap) (base : ℕ) where
 -- ---- the host that a whole guest becomes, of the guest as it is localised with the machine frames that were counted up
 
 module _ (g : GuestOf) (base : ℕ) (machines : MachineMap) (counted : (pfn : ℕ) → maps.get machines pfn ≡ mfn_in g.frames base pfn) where
-  is_there : (m : ℕ) (o : Option FrameOf) → is_some (option_map (λ (_ : FrameOf). m) o) ≡ is_some o
-  is_there m None = refl
-  is_there m (Some f) = refl
-
   -- a localised guest has frames at the same PFNs
   same_frames_there : (k : Kind) (pfn : ℕ) → is_some (maps.get (localised_of k (mfn_in g.frames base) g).frames pfn) ≡ is_some (maps.get g.frames pfn)
   same_frames_there Hvm pfn = refl
-  same_frames_there Pv pfn = ap is_some (get_each nat_cmp_total nat_cmp-IsAntisymmetric (localised_frame g.parts (mfn_in g.frames base)) g.frames pfn) ∙ by (maps.get g.frames pfn)
-    where
-      by : (o : Option FrameOf) → is_some (option_map (localised_frame g.parts (mfn_in g.frames base) pfn) o) ≡ is_some o
-      by None = refl
-      by (Some f) = refl
+  same_frames_there Pv pfn = ap is_some (get_each nat_cmp_total nat_cmp-IsAntisymmetric (localised_frame g.parts (mfn_in g.frames base)) g.frames pfn) ∙ is_some-mapped (localised_frame g.parts (mfn_in g.frames base) pfn) (maps.get g.frames pfn)
 
   counted_matched : AreMatched (localised (mfn_in g.frames base) g).frames machines
-  counted_matched pfn = ap is_some (counted pfn) ∙ is_there (machine_of g base pfn) (maps.get g.frames pfn) ∙ sym (same_frames_there g.kind pfn)
+  counted_matched pfn = ap is_some (counted pfn) ∙ is_some-mapped (λ (_ : FrameOf). machine_of g base pfn) (maps.get g.frames pfn) ∙ sym (same_frames_there g.kind pfn)
 
   -- where a frame is there, its machine frame is the one that is counted
   same_machine : (pfn : ℕ) (s o : Option FrameOf) → is_some s ≡ is_some o → (n : Option ℕ) → n ≡ option_map (λ (_ : FrameOf). machine_of g base pfn) o

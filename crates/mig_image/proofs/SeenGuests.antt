@@ -1,10 +1,10 @@
 -- The guest that stands in a host, copied frame by frame and part by part.
-use Rattle.mig_image.proofs.Common.{◌≡◌, ℕ, ◌+◌, ◌<◌, ◌^◌, Bool, true, false, cond, ◌==◌, ◌&&◌, List, [], ◌∷◌, length, Option, Some, None, Ok, IsSome, IfSome, is_some, refl, sym, ap, subst, ◌∙◌, arith, and_parts, eqb-true, nat_cmp_total, nat_cmp-IsAntisymmetric, IsOk, Kind, Pv, Hvm, PageType, type_has_data, FrameOf, FrameMap, entries_from, HostFrame, HostOf, IsHostFrame, IsHostPart, IsValid, PartKey, PartMap, parts_behind, part_total, part_exact, one_code}
+use Rattle.mig_image.proofs.Common.{◌≡◌, ℕ, ◌+◌, ◌<◌, ◌^◌, Bool, true, false, cond, ◌==◌, ◌&&◌, List, ◌∷◌, length, Option, Some, None, IsSome, IfSome, is_some, refl, sym, ap, subst, ◌∙◌, arith, and_parts, eqb-true, nat_cmp_total, nat_cmp-IsAntisymmetric, IsOk, Kind, Pv, Hvm, PageType, type_has_data, FrameOf, FrameMap, entries_from, HostFrame, HostOf, IsHostFrame, IsHostPart, IsValid, PartKey, PartMap, parts_behind, part_total, part_exact, one_code}
 use Rattle.std.specs.FinMap as maps
 use Rattle.mig_headers.specs.Contexts.{scan}
 use Rattle.mig_pagetypes.specs.declared.page_type.PageType.TheVariants.{Xtab}
 use Rattle.mig_guest.specs.declared.part_code.PartCode.{PartCode}
-use Rattle.mig_guest.specs.declared.part_code.PartCode.TheVariants.{VcpuBasic, SharedInfo, HvmContext}
+use Rattle.mig_guest.specs.declared.part_code.PartCode.TheVariants.{SharedInfo, HvmContext}
 use Rattle.mig_guest.specs.Frames.{framed}
 use Rattle.mig_guest.specs.Guests.{GuestOf}
 use Rattle.mig_guest.specs.PartCodes.{row_of, code_number}
@@ -16,7 +16,8 @@ use Rattle.mig_pvtables.specs.View.{without_machine, pfn_in, top_of, guest_in, v
 use Rattle.mig_pvtables.proofs.EachValue.{each_same}
 use Rattle.mig_pvtables.proofs.HostViews.{hvm_viewed}
 use Rattle.mig_pvtables.proofs.ViewedFrames.{not_absent, pfn_small}
-use Rattle.mig_image.proofs.Copies.{IsCopied, copy_start, copy_there, copy_next, copy_end}
+use Rattle.mig_image.proofs.Copies.{IsCopied, copy_start, copy_there, copy_next}
+use Rattle.mig_image.proofs.SoundHosts.{length_allowed, contexts_long as host_contexts}
 use Rattle.mig_image.proofs.Writers.{from_zero}
 
 -- ---- frames
@@ -37,19 +38,14 @@ module _ (h : HostOf) where
 
   module _ (valid : IsValid h) (g : GuestOf) (from : ℕ) (copied : FramesCopied g.frames from) (e : ℕ × HostFrame) (next : entries_from from (maps.entries h.frames) ≡ e ∷ entries_from (e.0 + 1) (maps.entries h.frames)) where
     fine : IsHostFrame h.kind h.width e.0 e.1
-    fine = valid.frames e.0 e.1 (copy_there nat_cmp_total nat_cmp-IsAntisymmetric bare h.frames g.frames (entries_from from (maps.entries h.frames)) copied e (entries_from (e.0 + 1) (maps.entries h.frames)) next)
+    fine = valid.frames e.0 e.1 (copy_there nat_cmp_total nat_cmp-IsAntisymmetric bare h.frames g.frames _ copied e _ next)
 
     pub frame_paged : is_some e.1.page ≡ type_has_data e.1.type
     frame_paged = fine.in_step
 
     pub frames_next : (new : GuestOf) → new ≡ record g { frames = framed g.frames e.0 e.1.type e.1.page } → FramesCopied new.frames (e.0 + 1)
     frames_next new is =
-        subst (λ m. FramesCopied m (e.0 + 1)) (sym (ap (λ (s : GuestOf). s.frames) is ∙ framed_is g.frames e.0 e.1.type e.1.page (not_absent h.kind e.1.type fine.type)))
-        (copy_next nat_cmp_total nat_cmp-IsAntisymmetric bare h.frames g.frames (entries_from from (maps.entries h.frames)) copied e (entries_from (e.0 + 1) (maps.entries h.frames)) next)
-
-  pub frames_end : (start g : GuestOf) (from : ℕ) → FramesCopied g.frames from → g ≡ record start { frames = g.frames } → entries_from from (maps.entries h.frames) ≡ [] → g ≡ record start { frames = each_value bare h.frames }
-  frames_end start g from copied others none =
-      others ∙ ap (λ m. record start { frames = m }) (copy_end nat_cmp_total nat_cmp-IsAntisymmetric bare h.frames g.frames (entries_from from (maps.entries h.frames)) copied none)
+        copy_next nat_cmp_total nat_cmp-IsAntisymmetric bare h.frames g.frames _ copied e _ next new.frames (ap (λ (s : GuestOf). s.frames) is ∙ framed_is g.frames e.0 e.1.type e.1.page (not_absent h.kind e.1.type fine.type))
 
 -- all but the frames stays
 pub other_frames : (start g new : GuestOf) (m : FrameMap) → g ≡ record start { frames = g.frames } → new ≡ record g { frames = m } → new ≡ record start { frames = new.frames }
@@ -65,9 +61,6 @@ module _ (kind : Kind) (width : ℕ) (key : PartKey) (bytes : List ℕ) (is : Is
   host_kind : (row_of code).of_kind kind ≡ true
   host_kind = subst (λ c. (row_of c).of_kind kind ≡ true) same_code is.of_kind
 
-  host_len : (row_of code).allows width (length bytes) ≡ true
-  host_len = subst (λ c. (row_of c).allows width (length bytes) ≡ true) same_code is.len
-
   host_keys : (row_of code).keys key.key1 key.key2 ≡ true
   host_keys = subst (λ c. (row_of c).keys key.key1 key.key2 ≡ true) same_code is.keys
 
@@ -77,35 +70,23 @@ module _ (kind : Kind) (width : ℕ) (key : PartKey) (bytes : List ℕ) (is : Is
       let (a, b) = and_parts (key.key1 == 0) (key.key2 == 0) none in let one = eqb-true key.key1 0 a in let two = eqb-true key.key2 0 b in
       λ i. record { code = number i; key1 = one i; key2 = two i }
 
-scanned : (bytes : List ℕ) (end : ℕ) → scan bytes ≡ Ok end → IsOk (scan bytes)
-scanned bytes end is = subst (λ r. IsOk r) (sym is) refl
-
 module _ (h : HostOf) where
-  abbrev pub PartsCopied : PartMap → Option PartKey → Type 0
+  abbrev PartsCopied : PartMap → Option PartKey → Type 0
   PartsCopied m after = IsCopied part_seen h.parts m (parts_behind after (maps.entries h.parts))
-
-  pub parts_start : (m : PartMap) → m ≡ maps.empty → PartsCopied m None
-  parts_start m none = copy_start part_total part_exact part_seen h.parts m none
 
   module _ (g : GuestOf) (after : Option PartKey) (copied : PartsCopied g.parts after) (e : PartKey × List ℕ) (next : parts_behind after (maps.entries h.parts) ≡ e ∷ parts_behind (Some e.0) (maps.entries h.parts)) where
     there : maps.get h.parts e.0 ≡ Some e.1
-    there = copy_there part_total part_exact part_seen h.parts g.parts (parts_behind after (maps.entries h.parts)) copied e (parts_behind (Some e.0) (maps.entries h.parts)) next
+    there = copy_there part_total part_exact part_seen h.parts g.parts _ copied e _ next
 
     module _ (valid : IsValid h) where
       pub context_sole : e.0.code ≡ 9 → e.0 ≡ context_key
       context_sole nine = let is = valid.parts e.0 e.1 there in host_sole h.kind h.width e.0 e.1 is HvmContext nine (host_keys h.kind h.width e.0 e.1 is HvmContext nine)
 
       pub context_chain : IsSound h → e.0.code ≡ 9 → IsOk (scan e.1)
-      context_chain sound nine = let (end, is) = sound.context e.1 (ap (maps.get h.parts) (sym (context_sole nine)) ∙ there) in scanned e.1 end is
+      context_chain sound nine = let (end, is) = sound.context e.1 (ap (maps.get h.parts) (sym (context_sole nine)) ∙ there) in subst (λ r. IsOk r) (sym is) refl
 
     pub parts_next : (new : GuestOf) → new ≡ record g { parts = maps.insert g.parts e.0 (part_seen e.0 e.1) } → PartsCopied new.parts (Some e.0)
-    parts_next new is =
-        subst (λ m. PartsCopied m (Some e.0)) (sym (ap (λ (s : GuestOf). s.parts) is))
-        (copy_next part_total part_exact part_seen h.parts g.parts (parts_behind after (maps.entries h.parts)) copied e (parts_behind (Some e.0) (maps.entries h.parts)) next)
-
-  pub parts_end : (start g : GuestOf) (after : Option PartKey) → PartsCopied g.parts after → g ≡ record start { parts = g.parts } → parts_behind after (maps.entries h.parts) ≡ [] → g ≡ record start { parts = each_value part_seen h.parts }
-  parts_end start g after copied others none =
-      others ∙ ap (λ m. record start { parts = m }) (copy_end part_total part_exact part_seen h.parts g.parts (parts_behind after (maps.entries h.parts)) copied none)
+    parts_next new is = copy_next part_total part_exact part_seen h.parts g.parts _ copied e _ next new.parts (ap (λ (s : GuestOf). s.parts) is)
 
 -- all but the parts stays
 pub other_parts : (start g new : GuestOf) (m : PartMap) → g ≡ record start { parts = g.parts } → new ≡ record g { parts = m } → new ≡ record start { parts = new.parts }
@@ -116,15 +97,6 @@ other_parts start g new m others is = is ∙ ap (λ (s : GuestOf). record s { pa
 -- the guest that stands in the host, its context cut
 abbrev pub copied_in : HostOf → GuestOf
 copied_in h = record (guest_in h) { parts = each_value part_seen h.parts }
-
--- one step after another
-pub all_copied : (h : HostOf) (a b c d : GuestOf) (kind : Kind) (top width : ℕ) → kind ≡ h.kind → width ≡ h.width → top ≡ top_of kind width → a ≡ record { kind = kind; top = 0; frames = maps.empty; parts = maps.empty }
-    → b ≡ record a { top = top } → c ≡ record b { frames = each_value bare h.frames } → d ≡ record c { parts = each_value part_seen h.parts } → d ≡ copied_in h
-all_copied h a b c d kind top width k w t one two three four =
-    four ∙ ap (λ (s : GuestOf). record s { parts = each_value part_seen h.parts }) three
-    ∙ ap (λ (s : GuestOf). record s { frames = each_value bare h.frames; parts = each_value part_seen h.parts }) two
-    ∙ ap (λ (s : GuestOf). record s { top = top; frames = each_value bare h.frames; parts = each_value part_seen h.parts }) one
-    ∙ (λ i. record { kind = k i; top = (t ∙ (λ j. top_of (k j) (w j))) i; frames = each_value bare h.frames; parts = each_value part_seen h.parts })
 
 -- PFNs of a host fit into entries
 pub pfns_fit : (h : HostOf) → IsValid h → (mfn pfn : ℕ) → pfn_in h.frames mfn ≡ Some pfn → pfn < 2 ^ 40
@@ -154,12 +126,12 @@ module _ (h : HostOf) (g : GuestOf) (is : g ≡ copied_in h) where
 
     pub contexts_long : (key : PartKey) (context : List ℕ) → maps.get g.parts key ≡ Some context → key.code ≡ 4 → length context ≡ 5168
     contexts_long key context found four =
-        eqb-true (length context) 5168 (host_len Pv h.width key context (host_part key context (ap (λ (m : PartMap). maps.get m key) (sym same_parts) ∙ found)) VcpuBasic four)
+        host_contexts h valid key context (ap (λ (m : PartMap). maps.get m key) (sym same_parts) ∙ found) four
 
     pub page_long : IfSome (maps.get g.parts shared_key) (λ page. length page ≡ 4096)
     page_long = elim (maps.get g.parts shared_key) as (λ o. maps.get g.parts shared_key ≡ o → IfSome o (λ page. length page ≡ 4096)) [
       | None ↦ λ found. tt
-      | Some page ↦ λ found. eqb-true (length page) 4096 (host_len Pv h.width shared_key page (host_part shared_key page (ap (λ (m : PartMap). maps.get m shared_key) (sym same_parts) ∙ found)) SharedInfo refl)
+      | Some page ↦ λ found. eqb-true (length page) 4096 (length_allowed SharedInfo Pv h.width shared_key page (host_part shared_key page (ap (λ (m : PartMap). maps.get m shared_key) (sym same_parts) ∙ found)) refl)
     ] refl
 
     pub page_sole : (key : PartKey) → IsSome (maps.get g.parts key) → key.code ≡ 7 → key ≡ shared_key

@@ -1,5 +1,5 @@
 -- A valid host meets what the test of whether it can be seen as a guest requires.
-use Rattle.mig_image.proofs.Common.{◌≡◌, ℕ, ◌+◌, ◌-◌, ◌*◌, ◌/◌, ◌≤◌, ◌^◌, true, length, List, Option, Some, None, Result, Ok, Err, refl, sym, subst, ◌∙◌, arith, eqb-true, nat_cmp_total, nat_cmp-IsAntisymmetric, one_code, FrameOf, FrameMap, HostOf, IsHostPart, IsValid, PartKey, PartMap, MachineMap, with_machine, machine_in}
+use Rattle.mig_image.proofs.Common.{◌≡◌, ℕ, ◌+◌, ◌-◌, ◌*◌, ◌/◌, ◌≤◌, ◌^◌, true, length, List, Option, Some, None, Result, Ok, Err, refl, sym, subst, ◌∙◌, arith, eqb-true, one_code, FrameMap, HostOf, IsHostPart, IsValid, PartKey, PartMap, MachineMap, machine_in}
 use Rattle.std.specs.FinMap as maps
 use Rattle.std.specs.Prelude.{IfOk}
 use Rattle.mig_headers.specs.declared.kind.Kind.{Kind}
@@ -9,22 +9,19 @@ use Rattle.mig_guest.specs.PartKeys.{p2m_key}
 use Rattle.mig_guest.specs.declared.part_code.PartCode.{PartCode}
 use Rattle.mig_guest.specs.declared.part_code.PartCode.TheVariants.{P2mFrames, VcpuBasic}
 use Rattle.mig_pvtables.specs.Blank.{each_value}
-use Rattle.mig_pvtables.specs.Faults.{first_of}
+use Rattle.mig_pvtables.specs.Faults.{first_cause}
 use Rattle.mig_pvtables.specs.P2mFrames.{count_in}
 use Rattle.mig_pvtables.specs.Sound.{IsSound, unsound_rows, unsoundness}
 use Rattle.mig_pvtables.specs.View.{without_machine, pfn_in, guest_in}
-use Rattle.mig_pvtables.proofs.EachValue.{each_each, each_same}
 use Rattle.mig_pvtables.proofs.SoundRows.{sound_is_faultless}
-use Rattle.mig_image.proofs.HostMaps.{joined}
+use Rattle.mig_image.proofs.HostMaps.{joined, without_machines}
 
 -- the frames of a host without their machine frames are those that it keeps
 pub frames_kept : (frames : FrameMap) (machines : MachineMap) → frames ≡ each_value (λ pfn f. without_machine f) (joined frames machines)
-frames_kept frames machines =
-    sym (each_each nat_cmp_total nat_cmp-IsAntisymmetric (λ pfn f. without_machine f) (λ pfn (f : FrameOf). with_machine f (machine_in machines pfn)) frames
-    ∙ each_same nat_cmp_total nat_cmp-IsAntisymmetric (λ pfn (f : FrameOf). without_machine (with_machine f (machine_in machines pfn))) frames (λ pfn f is. refl))
+frames_kept frames machines = sym (without_machines frames (machine_in machines))
 
 -- a part of a host has the length that the row of its code allows
-length_allowed : (code : PartCode) (kind : Kind) (width : ℕ) (key : PartKey) (bytes : List ℕ) → IsHostPart kind width key bytes → key.code ≡ code_number code → (row_of code).allows width (length bytes) ≡ true
+pub length_allowed : (code : PartCode) (kind : Kind) (width : ℕ) (key : PartKey) (bytes : List ℕ) → IsHostPart kind width key bytes → key.code ≡ code_number code → (row_of code).allows width (length bytes) ≡ true
 length_allowed code kind width key bytes is number = subst (λ c. (row_of c).allows width (length bytes) ≡ true) (one_code is.code code (sym is.number ∙ number)) is.len
 
 module _ (h : HostOf) (valid : IsValid h) where
@@ -47,6 +44,6 @@ sound_if_none h none = (sound_is_faultless h).1 none
 
 -- what is found in the frames and the parts that a host keeps is in the way of seeing it
 pub cause_found : {E : Type 0} (h : HostOf) (kind : Kind) (frames : FrameMap) (parts : PartMap) (r : Result (Option Unsound) E) → kind ≡ h.kind → frames ≡ (guest_in h).frames → parts ≡ h.parts
-    → IfOk r (λ found. found ≡ first_of (unsound_rows kind frames parts (pfn_in h.frames))) → IfOk r (λ found. found ≡ unsoundness h)
-cause_found h kind frames parts (Ok found) a b c is = is ∙ (λ i. first_of (unsound_rows (a i) (b i) (c i) (pfn_in h.frames)))
+    → IfOk r (λ found. found ≡ first_cause (unsound_rows kind frames parts (pfn_in h.frames))) → IfOk r (λ found. found ≡ unsoundness h)
+cause_found h kind frames parts (Ok found) a b c is = is ∙ (λ i. first_cause (unsound_rows (a i) (b i) (c i) (pfn_in h.frames)))
 cause_found h kind frames parts (Err e) a b c is = tt

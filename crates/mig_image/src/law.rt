@@ -32,6 +32,7 @@ pub fn one_image()
 {}
 
 /// What a whole guest becomes is a valid host, where the base isn't out of range.
+#[tactic(auto, using(crate::proofs::HostedGuests::whole_valid))]
 pub fn hosted_is_valid()
     ensures { (guest : GuestOf) (base : ℕ) → IsWhole guest → (IsBaseOutside guest base → ⊥) → IsValid (hosted guest base) }
 {}
@@ -49,6 +50,7 @@ pub fn hosted_is_seen()
 {}
 
 /// Each P2M frame that a whole PV guest lists holds the machine frames of its range, at whatever place it is listed.
+#[tactic(auto, using(crate::proofs::HostedPages::hosted_page))]
 pub fn hosted_p2m_frames_are_filled()
     ensures { (guest : GuestOf) (base k pfn : ℕ) → IsWhole guest → guest.kind ≡ Pv → listed guest.parts k ≡ Some pfn
         → (frame : HostFrame) × (maps.get (hosted guest base).frames pfn ≡ Some frame) × (frame.page ≡ Some (p2m_page (mfn_in guest.frames base) k)) }

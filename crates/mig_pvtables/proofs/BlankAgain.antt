@@ -1,12 +1,14 @@
 -- The blank form of a guest is blank.
-use Rattle.mig_pvtables.proofs.Common.{◌≡◌, ℕ, ◌+◌, ◌*◌, ◌/◌, ◌%◌, ◌^◌, Bool, true, false, cond, List, Option, Some, None, refl, ap, ◌∙◌, arith, nat_le, ◌==◌, option_map, nat_cmp_total, nat_cmp-IsAntisymmetric, eq-eqb, Pv, Hvm, level_of, FrameOf, FrameMap, GuestOf, PartMap, p2m_key, is_blank_slot, part_total, part_exact, each_value, blanked_page, blanked_frame, blanked_part, blank_of, blank, place_of, field_at, is_marked, value_blanked, blanked_context, blanked_shared}
+use Rattle.mig_pvtables.proofs.Common.{◌≡◌, ℕ, ◌+◌, ◌*◌, ◌/◌, ◌%◌, ◌^◌, Bool, true, false, cond, List, Option, Some, None, refl, ap, ◌∙◌, arith, nat_le, ◌==◌, nat_cmp_total, nat_cmp-IsAntisymmetric, eq-eqb, Pv, Hvm, level_of, FrameOf, FrameMap, GuestOf, PartMap, p2m_key, is_blank_slot, part_total, part_exact, each_value, blanked_page, blanked_frame, blanked_part, blank_of, blank, place_of, field_at, is_marked, value_blanked, blanked_context, blanked_shared}
 use Rattle.std.specs.FinMap as maps
 use Rattle.mig_headers.specs.declared.kind.Kind.{Kind}
 use Rattle.mig_guest.specs.Tables.{blanked_entry}
+use Rattle.mig_pvtables.specs.Blank.{zero_page}
 use Rattle.mig_pvtables.specs.P2mFrames.{place_in}
 use Rattle.mig_pvtables.specs.VcpuContexts.{blanked_value, blanked_shared_value}
-use Rattle.mig_pvtables.proofs.EachValue.{get_each, each_each, same_each}
+use Rattle.mig_pvtables.proofs.EachValue.{each_each, same_each, stays_each}
 use Rattle.mig_pvtables.proofs.Moduli.{each_modulo}
+use Rattle.mig_pvtables.proofs.Searches.{overwritten}
 
 -- ---- one number
 
@@ -52,8 +54,7 @@ value_again i v = by_place (field_at i)
 -- ---- pages and parts
 
 page_again : (place level : Option ℕ) (page : Option (List ℕ)) → blanked_page place level (blanked_page place level page) ≡ blanked_page place level page
-page_again (Some k) level None = refl
-page_again (Some k) level (Some p) = refl
+page_again (Some k) level page = overwritten (λ _. zero_page) zero_page page
 page_again None None page = refl
 page_again None (Some l) None = refl
 page_again None (Some l) (Some p) = ap (λ q. Some q) (each_modulo 512 (blanked_entry l) p (entry_again l))
@@ -72,12 +73,8 @@ module _ (g : GuestOf) where
   abbrev parts_there : PartMap
   parts_there = each_value blanked_part g.parts
 
-  itself : (o : Option (List ℕ)) → option_map (λ (x : List ℕ). x) o ≡ o
-  itself None = refl
-  itself (Some x) = refl
-
   same_list : maps.get parts_there p2m_key ≡ maps.get g.parts p2m_key
-  same_list = get_each part_total part_exact blanked_part g.parts p2m_key ∙ itself (maps.get g.parts p2m_key)
+  same_list = stays_each part_total part_exact blanked_part p2m_key (λ _. refl) g.parts
 
   frame_again : (pfn : ℕ) (frame : FrameOf) → blanked_frame parts_there pfn (blanked_frame g.parts pfn frame) ≡ blanked_frame g.parts pfn frame
   frame_again pfn frame =

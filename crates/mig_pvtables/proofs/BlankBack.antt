@@ -1,28 +1,20 @@
 -- A formed guest of bytes whose blank form is whole is whole.
-use Rattle.mig_pvtables.proofs.Common.{◌≡◌, ℕ, ◌+◌, ◌*◌, ◌^◌, ◌<◌, is_some, IsSome, refl, sym, ap, ◌∙◌, arith, nat_cmp_total, nat_cmp-IsAntisymmetric, Pv, Hvm, Frame, IsFormed, GuestOf, p2m_key, vcpu_key, shared_key, blanked_frame, blank_of, blank, IsOfBytes, place_of, type_at, fits_field, field_place, field_value, frame_of_field, blanked_context, IsWhole}
+use Rattle.mig_pvtables.proofs.Common.{◌≡◌, ℕ, ◌*◌, ◌^◌, ◌<◌, IsSome, refl, sym, ap, ◌∙◌, arith, nat_cmp_total, nat_cmp-IsAntisymmetric, Pv, Hvm, Frame, IsFormed, GuestOf, p2m_key, vcpu_key, shared_key, blanked_frame, blank_of, blank, IsOfBytes, place_of, type_at, fits_field, field_place, field_value, frame_of_field, blanked_context, IsWhole}
 use Rattle.std.proofs.lemmas.List.Elements.{recursion_from_All}
 use Rattle.std.specs.FinMap as maps
 use Rattle.mig_bytes.proofs.ByteLists.{long_below}
 use Rattle.mig_headers.specs.declared.kind.Kind.{Kind}
-use Rattle.mig_pvtables.specs.WholePv.{IsEmptyRange, AreP2mFrames, FieldsFit, IsCompletePv}
+use Rattle.mig_pvtables.specs.WholePv.{AreP2mFrames, FieldsFit, IsCompletePv}
 use Rattle.mig_pvtables.proofs.BlankShape.{table_unlisted, entries_back, type_there, frame_there, part_there, listed_there, context_there}
 use Rattle.mig_pvtables.proofs.BlankWhole.{still_used, still_said}
 use Rattle.mig_pvtables.proofs.EachValue.{to_each, len_each}
 use Rattle.mig_pvtables.proofs.PvGuests.{pv_complete, pv_faultless}
-use Rattle.mig_pvtables.proofs.Searches.{none_of}
+use Rattle.mig_pvtables.proofs.SameShape.{kept_p2m}
 
 module _ (g : GuestOf) where
   -- what holds of the blank form held before
-  empty_before : (k : ℕ) → IsEmptyRange (blank_of Pv g).frames k → IsEmptyRange g.frames k
-  empty_before k empty s lt = none_of _ (sym (frame_there g (512 * k + s)) ∙ ap is_some (empty s lt))
-
   p2m_before : AreP2mFrames (blank_of Pv g).frames (blank_of Pv g).parts → AreP2mFrames g.frames g.parts
-  p2m_before p2m = record {
-    types = λ k pfn is. sym (type_there g pfn) ∙ p2m.types k pfn (listed_there g k ∙ is);
-    twice = λ j k pfn lt one two.
-        let both = p2m.twice j k pfn lt (listed_there g j ∙ one) (listed_there g k ∙ two) in
-        (empty_before j both.0, empty_before k both.1);
-  }
+  p2m_before = kept_p2m (blank_of Pv g).frames g.frames (blank_of Pv g).parts g.parts (λ n. sym (type_there g n)) (λ k. sym (listed_there g k))
 
   module _ (bytes : IsOfBytes g) (formed : IsFormed g) where
     fields_before : FieldsFit (blank_of Pv g).frames (blank_of Pv g).parts → FieldsFit g.frames g.parts

@@ -1,6 +1,5 @@
 -- Pages and parts in their blank form, as bytes written in place.
-use Rattle.mig_pvtables.proofs.Common.{◌≡◌, ◌≢◌, ℕ, ◌+◌, ◌*◌, ◌/◌, ◌%◌, ◌<◌, true, false, cond, List, ◌++◌, length, take, drop, refl, sym, ap, ◌∙◌, inl, inr, arith, drop-drop, get_or, Bool, Some, None, nat_lt, lit<, replicate, ◌==◌, ◌&&◌, nat_le, cases_eq, ne_eqb, eq-eqb, lt-leb, and_parts, ltb-true, long_at, longs, blanked_table, longs_back, each_stays, middle_zeroed, put_long, value_blanked, blanked_context, blanked_shared}
-use Rattle.std.specs.Prelude.{◌-◌}
+use Rattle.mig_pvtables.proofs.Common.{◌≡◌, ◌≢◌, ℕ, ◌+◌, ◌*◌, ◌/◌, ◌<◌, true, false, cond, List, ◌++◌, length, take, drop, refl, sym, ap, ◌∙◌, inl, inr, arith, drop-drop, get_or, Option, Some, None, field_at, field_place, is_marked, cases_lt, lit<, replicate, ◌==◌, ◌&&◌, nat_le, cases_eq, ne_eqb, eq-eqb, lt-leb, long_at, longs, blanked_table, longs_back, each_stays, middle_zeroed, put_long, value_blanked, blanked_context, blanked_shared}
 use Rattle.std.proofs.lemmas.Bool.{le-leb}
 use borrow.Rule.Slice.PartMut.{put_mid}
 use Rattle.byteorder.specs.Endian.{little_bytes}
@@ -8,6 +7,7 @@ use Rattle.mig_bytes.specs.Fields.{le64, with_field}
 use Rattle.mig_bytes.proofs.ByteLists.{Bytes, bytes_from}
 use Rattle.mig_guest.specs.Tables.{blanked_entry}
 use Rattle.mig_pvtables.specs.VcpuContexts.{blanked_value, blanked_shared_value}
+use Rattle.mig_pvtables.proofs.BlankSays.{place_field}
 
 -- ---- tables
 
@@ -46,21 +46,18 @@ other_blanked level page other all size = sym (each_stays 512 (blanked_entry lev
 
 no_field : (i : ℕ) → i ≢ 626 → i ≢ 624 → (v : ℕ) → blanked_value i v ≡ v
 unfolding blanked_value
-no_field i a b v = elim (cases_eq i 77) [
-  | inl e ↦ ap (λ t. value_blanked (cond t (Some 0) (cond (nat_le 604 i && nat_lt i 620) (Some (i - 603)) (cond (i == 626) (Some 17) (cond (i == 624) (Some 18) None)))) v) (eq-eqb i 77 e)
-  | inr ne ↦ ap (λ t. value_blanked (cond t (Some 0) (cond (nat_le 604 i && nat_lt i 620) (Some (i - 603)) (cond (i == 626) (Some 17) (cond (i == 624) (Some 18) None)))) v) (ne_eqb i 77 ne)
-      ∙ gdt (nat_le 604 i && nat_lt i 620) refl
-]
+no_field i root user v = by_case (field_at i) refl
   where
-    last : value_blanked (cond (i == 626) (Some 17) (cond (i == 624) (Some 18) None)) v ≡ v
-    last = (λ j. value_blanked (cond (ne_eqb i 626 a j) (Some 17) (cond (ne_eqb i 624 b j) (Some 18) None)) v)
-
-    frames : nat_lt i 620 ≡ true → value_blanked (Some (i - 603)) v ≡ v
-    frames lt = ap (λ t. cond t v (cond ((i - 603) == 17) (v / 4096 * 4096) (cond (v % 2 == 1) (v / 4096 * 4096 + 1) 0))) (le-leb (i - 603) 16 (omega (arith, ltb-true i 620 lt)))
-
-    gdt : (t : Bool) → (nat_le 604 i && nat_lt i 620) ≡ t → value_blanked (cond t (Some (i - 603)) (cond (i == 626) (Some 17) (cond (i == 624) (Some 18) None))) v ≡ v
-    gdt true is = frames (and_parts (nat_le 604 i) (nat_lt i 620) is).1
-    gdt false is = last
+    by_case : (o : Option ℕ) → field_at i ≡ o → value_blanked o v ≡ v
+    by_case None at = refl
+    by_case (Some field) at =
+        let (most, place) = place_field i field at in elim (cases_lt field 17) [
+          | inl lt ↦ ap (λ t. cond t v (cond (field == 17) (v / 4096 * 4096) (cond (is_marked v) (v / 4096 * 4096 + 1) 0))) (le-leb field 16 (omega (arith, lt)))
+          | inr ge ↦ elim (cases_eq field 17) [
+            | inl e ↦ absurd (root (sym place ∙ ap field_place e))
+            | inr ne ↦ let last : field ≡ 18 = omega (arith, ge, ne, most) in absurd (user (sym place ∙ ap field_place last))
+          ]
+        ]
 
 root_is : (v : ℕ) → blanked_value 626 v ≡ v / 4096 * 4096
 unfolding blanked_value

@@ -8,6 +8,7 @@ use Rattle.mig_headers.specs.declared.kind.Kind.{Kind}
 use Rattle.mig_guest.specs.Longs.{longs}
 use Rattle.mig_pvtables.specs.Blank.{zero_page}
 use Rattle.mig_pvtables.proofs.EachValue.{from_each}
+use Rattle.mig_pvtables.proofs.SameShape.{mapped_holds}
 
 abbrev IsByte : ℕ → Type 0
 IsByte b = b < 256
@@ -34,11 +35,9 @@ unfolding zero_page
 zero_bytes = All-replicate IsByte 4096 0 (omega arith)
 
 page_bytes : (place level : Option ℕ) (page : Option (List ℕ)) → ((p : List ℕ) → page ≡ Some p → AreBytes p) → (q : List ℕ) → blanked_page place level page ≡ Some q → AreBytes q
-page_bytes (Some k) level None all q is = cc
-page_bytes (Some k) level (Some p) all q is = let same : zero_page ≡ q = cc in subst AreBytes same zero_bytes
-page_bytes None None page all q is = all q is
-page_bytes None (Some l) None all q is = cc
-page_bytes None (Some l) (Some p) all q is = let same : blanked_table l p ≡ q = cc in subst AreBytes same (longs_bytes 512 _)
+page_bytes (Some k) level page all = mapped_holds AreBytes (λ _. zero_page) (λ _. zero_bytes) page
+page_bytes None (Some level) page all = mapped_holds AreBytes (blanked_table level) (λ _. longs_bytes 512 _) page
+page_bytes None None page all = all
 
 part_bytes : (context shared : Bool) (part : List ℕ) → AreBytes part → AreBytes (cond context (blanked_context part) (cond shared (blanked_shared part) part))
 part_bytes true shared part all = longs_bytes 646 _

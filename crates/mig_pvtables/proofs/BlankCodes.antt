@@ -1,10 +1,10 @@
 -- The parts of a code, one after another.
-use Rattle.mig_pvtables.proofs.Common.{◌≡◌, ℕ, ◌<◌, Bool, true, false, cond, not, List, [], ◌∷◌, length, filter, Option, Some, None, IfSome, refl, sym, ap, subst, ◌∙◌, arith, ◌&&◌, ◌==◌, option_map, eq_by_cmp, is_lt, is_eq, ordering_reverse, Ordering, and_parts, and_from, eqb-true, eq-eqb, length-map, PartKey, GuestOf, part_cmp, Part, PartMap, parts_after, first_passes, none_passes, shown, kept_shown, part_total, part_exact, each_value, only, blanked_code, is_reached, blanked_up_to}
+use Rattle.mig_pvtables.proofs.Common.{◌≡◌, ℕ, ◌<◌, Bool, true, false, cond, not, List, [], ◌∷◌, length, filter, Option, Some, None, IfSome, refl, sym, ap, subst, ◌∙◌, arith, ◌&&◌, ◌==◌, option_map, is_lt, ordering_reverse, Ordering, and_parts, and_from, eqb-true, eq-eqb, length-map, PartKey, GuestOf, part_cmp, Part, PartMap, parts_after, first_passes, none_passes, shown, kept_shown, part_total, part_exact, each_value, only, blanked_code, is_reached, blanked_up_to}
 use Rattle.std.specs.declared.cmp.Ordering.TheVariants.{Less, Equal, Greater}
 use Rattle.std.specs.FinMap as maps
 use Rattle.mig_guest.proofs.PartCursor.{kept_both, less, not_itself}
 use Rattle.mig_pvtables.proofs.EachValue.{get_each, entries_each, each_same, same_each}
-use Rattle.mig_pvtables.proofs.Only.{by_key, then_only}
+use Rattle.mig_pvtables.proofs.Only.{then_only}
 use Rattle.mig_pvtables.proofs.BlankParts.{WithParts, OnlyPart}
 
 -- ---- the order of the keys
@@ -24,12 +24,12 @@ above_up None x y up l = refl
 above_up (Some after) x y up l = ap is_lt (part_total.trans after x y (less _ up) (less _ l))
 
 -- one of two keys that aren't the same is below the other
-other_below : (q key : PartKey) → eq_by_cmp part_cmp q key ≡ false → (part_cmp q key ≡ Less → ⊥) → is_lt (part_cmp key q) ≡ true
+other_below : (q key : PartKey) → (q ≡ key → ⊥) → (part_cmp q key ≡ Less → ⊥) → is_lt (part_cmp key q) ≡ true
 other_below q key ne not_less = by_case (part_cmp q key) refl
   where
     by_case : (r : Ordering) → part_cmp q key ≡ r → is_lt (part_cmp key q) ≡ true
     by_case Less e = absurd (not_less e)
-    by_case Equal e = let no : true ≡ false = sym (ap is_eq e) ∙ ne in cc
+    by_case Equal e = absurd (ne (part_exact q key e))
     by_case Greater e = ap is_lt (part_total.antisymm key q ∙ ap ordering_reverse e)
 
 -- ---- the parts of a code behind a key, by one test
@@ -101,7 +101,7 @@ module _ (code : ℕ) (f : PartKey → List ℕ → List ℕ) (m : PartMap) wher
       fewer = omega (arith, same_count after, same_count (Some e.0), ap length next)
 
       -- another key of the code is reached as before
-      as_before : (q : PartKey) (x : List ℕ) → maps.get m q ≡ Some x → eq_by_cmp part_cmp q e.0 ≡ false → (q.code == code) ≡ true → is_reached after q ≡ is_reached (Some e.0) q
+      as_before : (q : PartKey) (x : List ℕ) → maps.get m q ≡ Some x → (q ≡ e.0 → ⊥) → (q.code == code) ≡ true → is_reached after q ≡ is_reached (Some e.0) q
       as_before q x is ne coded = reached_is after q ∙ ap not (by_case (is_above after q) refl)
         where
           by_case : (b : Bool) → is_above after q ≡ b → b ≡ is_lt (part_cmp e.0 q)
@@ -113,10 +113,7 @@ module _ (code : ℕ) (f : PartKey → List ℕ → List ℕ) (m : PartMap) wher
               by_order true l = sym down ∙ above_up after e.0 q (next_parts code after e.0 found.0).1 l
 
       next_reached : each_value (only part_cmp e.0 (f e.0)) now ≡ each_value (blanked_up_to code f (Some e.0)) m
-      next_reached = then_only part_total part_exact m e.0 (f e.0) (blanked_up_to code f after) (blanked_up_to code f (Some e.0)) (λ q x is.
-          by_key part_total part_exact (λ b. cond b (f e.0 (blanked_up_to code f after q x)) (blanked_up_to code f after q x) ≡ blanked_up_to code f (Some e.0) q x) q e.0
-          (λ same. subst (λ k. f e.0 (blanked_up_to code f after k x) ≡ blanked_up_to code f (Some e.0) k x) (sym same) (here x))
-          (λ ne. by_code q x is ne (q.code == code) refl))
+      next_reached = then_only part_total part_exact m e.0 (f e.0) (blanked_up_to code f after) (blanked_up_to code f (Some e.0)) here (λ q x is ne. by_code q x is ne (q.code == code) refl)
         where
           here : (x : List ℕ) → f e.0 (blanked_up_to code f after e.0 x) ≡ blanked_up_to code f (Some e.0) e.0 x
           here x =
@@ -124,32 +121,37 @@ module _ (code : ℕ) (f : PartKey → List ℕ → List ℕ) (m : PartMap) wher
               let fresh : is_reached after e.0 ≡ false = reached_is after e.0 ∙ ap not (next_parts code after e.0 found.0).1 in
               (λ i. f e.0 (cond (coded i && fresh i) (f e.0 x) x)) ∙ sym (λ i. cond (coded i && not (not_itself part_total e.0 i)) (f e.0 x) x)
 
-          by_code : (q : PartKey) (x : List ℕ) → maps.get m q ≡ Some x → eq_by_cmp part_cmp q e.0 ≡ false → (b : Bool) → (q.code == code) ≡ b → cond (b && is_reached after q) (f q x) x ≡ cond (b && is_reached (Some e.0) q) (f q x) x
+          by_code : (q : PartKey) (x : List ℕ) → maps.get m q ≡ Some x → (q ≡ e.0 → ⊥) → (b : Bool) → (q.code == code) ≡ b → cond (b && is_reached after q) (f q x) x ≡ cond (b && is_reached (Some e.0) q) (f q x) x
           by_code q x is ne false coded = refl
           by_code q x is ne true coded = ap (λ r. cond r (f q x) x) (as_before q x is ne coded)
 
 -- ---- of a guest
 
-module _ (g : GuestOf) (code : ℕ) (f : PartKey → List ℕ → List ℕ) where
-  pub code_start : g ≡ WithParts g (each_value (blanked_up_to code f None) g.parts)
-  code_start = ap (WithParts g) (sym (none_reached code f g.parts))
+-- on the way from g the parts of a code that aren't above a key are changed
+pub record ChangedUpTo (code : ℕ) (f : PartKey → List ℕ → List ℕ) (g : GuestOf) (after : Option PartKey) (now : GuestOf) : Type 0 where
+  pub coded : IfSome after (λ k. k.code ≡ code)
+  pub done : now ≡ WithParts g (each_value (blanked_up_to code f after) g.parts)
 
-  module _ (after : Option PartKey) (now : GuestOf) (is : now ≡ WithParts g (each_value (blanked_up_to code f after) g.parts)) where
+module _ {code : ℕ} {f : PartKey → List ℕ → List ℕ} {g : GuestOf} where
+  pub code_start : ChangedUpTo code f g None g
+  code_start = record { coded = tt; done = ap (WithParts g) (sym (none_reached code f g.parts)) }
+
+  module _ {after : Option PartKey} {now : GuestOf} (is : ChangedUpTo code f g after now) where
     abbrev there_now : PartMap
     there_now = each_value (blanked_up_to code f after) g.parts
 
     pub code_end : parts_after code after (maps.entries now.parts) ≡ [] → now ≡ WithParts g (each_value (blanked_code code f) g.parts)
-    code_end none = is ∙ ap (WithParts g) (all_reached code f g.parts after (ap (λ (s : GuestOf). parts_after code after (maps.entries s.parts)) (sym is) ∙ none))
+    code_end none = is.done ∙ ap (WithParts g) (all_reached code f g.parts after (ap (λ (s : GuestOf). parts_after code after (maps.entries s.parts)) (sym is.done) ∙ none))
 
-    module _ (e : Part) (next : parts_after code after (maps.entries now.parts) ≡ e ∷ parts_after code (Some e.0) (maps.entries now.parts)) where
+    module _ {e : Part} (next : parts_after code after (maps.entries now.parts) ≡ e ∷ parts_after code (Some e.0) (maps.entries now.parts)) where
       next_now : parts_after code after (maps.entries there_now) ≡ e ∷ parts_after code (Some e.0) (maps.entries there_now)
-      next_now = subst (λ (s : GuestOf). parts_after code after (maps.entries s.parts) ≡ e ∷ parts_after code (Some e.0) (maps.entries s.parts)) is next
+      next_now = subst (λ (s : GuestOf). parts_after code after (maps.entries s.parts) ≡ e ∷ parts_after code (Some e.0) (maps.entries s.parts)) is.done next
 
-      pub code_next : (new : GuestOf) → new ≡ OnlyPart (f e.0) now e.0 → new ≡ WithParts g (each_value (blanked_up_to code f (Some e.0)) g.parts)
-      code_next new one = one ∙ ap (λ (s : GuestOf). OnlyPart (f e.0) s e.0) is ∙ ap (WithParts g) (next_reached code f g.parts after e next_now)
-
-      pub code_is : e.0.code ≡ code
-      code_is = next_code code f g.parts after e next_now
+      pub code_next : {new : GuestOf} → new ≡ OnlyPart (f e.0) now e.0 → ChangedUpTo code f g (Some e.0) new
+      code_next one = record {
+        coded = next_code code f g.parts after e next_now;
+        done = one ∙ ap (λ (s : GuestOf). OnlyPart (f e.0) s e.0) is.done ∙ ap (WithParts g) (next_reached code f g.parts after e next_now);
+      }
 
       pub code_fewer : length (parts_after code (Some e.0) (maps.entries g.parts)) < length (parts_after code after (maps.entries g.parts))
       code_fewer = fewer code f g.parts after e next_now
@@ -157,10 +159,10 @@ module _ (g : GuestOf) (code : ℕ) (f : PartKey → List ℕ → List ℕ) wher
       -- a length that all parts of the code have, and keep
       pub code_long : (n : ℕ) → ((key : PartKey) (x : List ℕ) → length (f key x) ≡ n) → ((key : PartKey) (x : List ℕ) → maps.get g.parts key ≡ Some x → key.code ≡ code → length x ≡ n) → IfSome (maps.get now.parts e.0) (λ x. length x ≡ n)
       code_long n keeps long =
-          subst (λ o. IfSome o (λ x. length x ≡ n)) (sym (ap (λ (s : GuestOf). maps.get s.parts e.0) is ∙ get_each part_total part_exact (blanked_up_to code f after) g.parts e.0))
+          subst (λ o. IfSome o (λ x. length x ≡ n)) (sym (ap (λ (s : GuestOf). maps.get s.parts e.0) is.done ∙ get_each part_total part_exact (blanked_up_to code f after) g.parts e.0))
           (elim (maps.get g.parts e.0) as (λ o. maps.get g.parts e.0 ≡ o → IfSome (option_map (blanked_up_to code f after e.0) o) (λ x. length x ≡ n)) [
             | None ↦ λ none. tt
-            | Some x ↦ λ has. either ((e.0.code == code) && is_reached after e.0) x (long e.0 x has code_is)
+            | Some x ↦ λ has. either ((e.0.code == code) && is_reached after e.0) x (long e.0 x has (next_code code f g.parts after e next_now))
           ] refl)
         where
           either : (b : Bool) (x : List ℕ) → length x ≡ n → length (cond b (f e.0 x) x) ≡ n

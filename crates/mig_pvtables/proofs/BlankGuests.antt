@@ -1,18 +1,18 @@
 -- A guest whose tables, P2M frames, contexts and shared page are in their blank form is in its own.
-use Rattle.mig_pvtables.proofs.Common.{◌≡◌, ℕ, true, false, cond, List, length, Option, Some, None, is_some, IsSome, IfSome, refl, sym, ap, subst, ◌∙◌, ◌==◌, option_map, eq_by_cmp, nat_cmp_total, nat_cmp-IsAntisymmetric, eqb-true, false_from_ne_true, Pv, level_of, PartKey, IsFormed, width_of, FrameOf, GuestOf, part_cmp, shared_key, PartMap, part_total, part_exact, each_value, blanked_page, blanked_frame, blanked_part, blank_of, blank, only, with_zero_page, with_table_blanked, where_listed, blanked_code, place_of, blanked_context, blanked_shared}
+use Rattle.mig_pvtables.proofs.Common.{◌≡◌, ℕ, true, false, cond, List, length, Option, Some, None, is_some, IsSome, IfSome, refl, sym, ap, subst, ◌∙◌, ◌==◌, option_map, nat_cmp_total, nat_cmp-IsAntisymmetric, eqb-true, ne_eqb, Pv, level_of, PartKey, IsFormed, width_of, FrameOf, GuestOf, part_cmp, shared_key, PartMap, blanked_table, part_total, part_exact, each_value, blanked_page, blanked_frame, blanked_part, blank_of, blank, only, with_zero_page, with_table_blanked, where_listed, blanked_code, place_of, blanked_context, blanked_shared}
 use Rattle.std.specs.FinMap as maps
 use Rattle.mig_guest.specs.declared.part_code.PartCode.TheVariants.{SharedInfo}
 use Rattle.mig_guest.proofs.PartRows.{of_part, sole}
 use Rattle.mig_pvtables.specs.Blank.{zero_page}
-use Rattle.mig_pvtables.proofs.EachValue.{get_each, each_each, same_each}
-use Rattle.mig_pvtables.proofs.Only.{alike, by_key, then_only}
+use Rattle.mig_pvtables.proofs.EachValue.{each_each, same_each, stays_each}
+use Rattle.mig_pvtables.proofs.Only.{then_only}
+use Rattle.mig_pvtables.proofs.Searches.{overwritten}
 
 -- ---- frames
 
 zeroed_anyway : (level : Option ℕ) (page : Option (List ℕ)) → option_map (λ _. zero_page) (blanked_page None level page) ≡ option_map (λ _. zero_page) page
 zeroed_anyway None page = refl
-zeroed_anyway (Some l) None = refl
-zeroed_anyway (Some l) (Some p) = refl
+zeroed_anyway (Some level) page = overwritten (blanked_table level) zero_page page
 
 frame_blanked : (place : Option ℕ) (f : FrameOf) → cond (is_some place) (with_zero_page (with_table_blanked f)) (with_table_blanked f) ≡ record { type = f.type; page = blanked_page place (level_of f.type) f.page }
 frame_blanked None f = refl
@@ -36,15 +36,11 @@ HasLongPage parts = IfSome (maps.get parts shared_key) (λ page. length page ≡
 module _ (parts : PartMap) where
   -- it is still as long once the contexts are blank
   pub page_still : HasLongPage parts → HasLongPage (each_value (blanked_code 4 (λ _. blanked_context)) parts)
-  page_still long = subst (λ o. IfSome o (λ page. length page ≡ 4096)) (sym (get_each part_total part_exact (blanked_code 4 (λ _. blanked_context)) parts shared_key))
-      (elim (maps.get parts shared_key) as (λ o. IfSome o (λ page. length page ≡ 4096) → IfSome (option_map (λ (x : List ℕ). x) o) (λ page. length page ≡ 4096)) [ None ↦ λ _. tt | Some page ↦ λ size. size ] long)
+  page_still long = subst (λ o. IfSome o (λ page. length page ≡ 4096)) (sym (stays_each part_total part_exact (blanked_code 4 (λ _. blanked_context)) shared_key (λ _. refl) parts)) long
 
   pub parts_blanked : HasSolePage parts → each_value (only part_cmp shared_key blanked_shared) (each_value (blanked_code 4 (λ _. blanked_context)) parts) ≡ each_value blanked_part parts
-  parts_blanked sole_page = then_only part_total part_exact parts shared_key blanked_shared (blanked_code 4 (λ _. blanked_context)) blanked_part (λ q x is.
-      by_key part_total part_exact (λ b. cond b (blanked_shared (blanked_code 4 (λ _. blanked_context) q x)) (blanked_code 4 (λ _. blanked_context) q x) ≡ blanked_part q x) q shared_key
-      (λ e. subst (λ k. blanked_shared (blanked_code 4 (λ _. blanked_context) k x) ≡ blanked_part k x) (sym e) refl)
-      (λ ne. ap (λ b. cond (q.code == 4) (blanked_context x) (cond b (blanked_shared x) x)) (sym (false_from_ne_true (q.code == 7) (λ t.
-      let no : true ≡ false = sym (ap (λ k. eq_by_cmp part_cmp k shared_key) (sole_page q (ap is_some is) (eqb-true q.code 7 t)) ∙ alike part_total part_exact shared_key) ∙ ne in cc)))))
+  parts_blanked sole_page = then_only part_total part_exact parts shared_key blanked_shared (blanked_code 4 (λ _. blanked_context)) blanked_part (λ x. refl)
+      (λ q x is ne. ap (λ b. cond (q.code == 4) (blanked_context x) (cond b (blanked_shared x) x)) (sym (ne_eqb q.code 7 (λ seven. ne (sole_page q (ap is_some is) seven)))))
 
 module _ (g : GuestOf) (formed : IsFormed g) where
   formed_page : HasLongPage g.parts
@@ -60,18 +56,18 @@ module _ (g : GuestOf) (formed : IsFormed g) where
   ] refl there
 
   -- one step after another
-  pub all_blanked : (a b c d : GuestOf) → g.kind ≡ Pv → a ≡ record g { frames = each_value (λ _ f. with_table_blanked f) g.frames } → b ≡ record a { frames = each_value (where_listed a.parts with_zero_page) a.frames }
+  pub all_blanked : {a b c d : GuestOf} → g.kind ≡ Pv → a ≡ record g { frames = each_value (λ _ f. with_table_blanked f) g.frames } → b ≡ record a { frames = each_value (where_listed a.parts with_zero_page) a.frames }
       → c ≡ record b { parts = each_value (blanked_code 4 (λ _. blanked_context)) b.parts } → d ≡ record c { parts = each_value (only part_cmp shared_key blanked_shared) c.parts } → d ≡ blank g
-  all_blanked a b c d kind one two three four =
+  all_blanked kind one two three four =
       four ∙ ap (λ (s : GuestOf). record s { parts = each_value (only part_cmp shared_key blanked_shared) s.parts }) three
       ∙ ap (λ (s : GuestOf). record s { parts = each_value (only part_cmp shared_key blanked_shared) (each_value (blanked_code 4 (λ _. blanked_context)) s.parts) }) two
       ∙ ap (λ (s : GuestOf). record s { frames = each_value (where_listed s.parts with_zero_page) s.frames; parts = each_value (only part_cmp shared_key blanked_shared) (each_value (blanked_code 4 (λ _. blanked_context)) s.parts) }) one
       ∙ (λ i. record g { frames = frames_blanked g i; parts = parts_blanked g.parts formed_sole i }) ∙ ap (λ k. blank_of k g) (sym kind)
 
   -- what is there of the shared page on the way
-  pub page_on_way : (a b c : GuestOf) → a ≡ record g { frames = each_value (λ _ f. with_table_blanked f) g.frames } → b ≡ record a { frames = each_value (where_listed a.parts with_zero_page) a.frames }
+  pub page_on_way : {a b c : GuestOf} → a ≡ record g { frames = each_value (λ _ f. with_table_blanked f) g.frames } → b ≡ record a { frames = each_value (where_listed a.parts with_zero_page) a.frames }
       → c ≡ record b { parts = each_value (blanked_code 4 (λ _. blanked_context)) b.parts } → HasLongPage c.parts
-  page_on_way a b c one two three =
+  page_on_way {c = c} one two three =
       let parts : c.parts ≡ each_value (blanked_code 4 (λ _. blanked_context)) g.parts =
       ap (λ (s : GuestOf). s.parts) three ∙ ap (λ (s : GuestOf). each_value (blanked_code 4 (λ _. blanked_context)) s.parts) two ∙ ap (λ (s : GuestOf). each_value (blanked_code 4 (λ _. blanked_context)) s.parts) one in
       subst HasLongPage (sym parts) (page_still g.parts formed_page)

@@ -1,42 +1,15 @@
 -- The frames that a list names, one after another.
-use Rattle.mig_pvtables.proofs.Common.{◌≡◌, ℕ, ◌+◌, ◌/◌, ◌<◌, Bool, true, false, cond, List, length, Option, Some, None, is_some, refl, sym, ap, ◌∙◌, inl, inr, arith, ◌==◌, range_with_len, list_any, option_map, nat_cmp, eq_by_cmp, nat_cmp_total, nat_cmp-IsAntisymmetric, cases_lt, cases_eq, ne_eqb, eq-eqb, lt-ltb, le-ltb, FrameOf, FrameMap, GuestOf, long_at, PartMap, p2m_key, each_value, only, with_zero_page, where_listed, is_listed_before, blanked_listed, is_this, count_in, listed_in, listed}
+use Rattle.mig_pvtables.proofs.Common.{◌≡◌, ℕ, ◌+◌, ◌/◌, ◌<◌, Bool, true, false, cond, List, length, Option, Some, None, is_some, refl, sym, ap, ◌∙◌, inl, inr, arith, ◌==◌, ◌||◌, range_with_len, list_any, nat_cmp, nat_cmp_total, nat_cmp-IsAntisymmetric, cases_lt, ne_eqb, eq-eqb, lt-ltb, le-ltb, FrameOf, FrameMap, GuestOf, long_at, PartMap, p2m_key, each_value, only, with_zero_page, where_listed, is_listed_before, blanked_listed, is_this, count_in, listed_in, listed}
 use Rattle.std.specs.FinMap as maps
 use Rattle.mig_pvtables.specs.Blank.{zero_page}
 use Rattle.mig_pvtables.specs.P2mFrames.{place_in}
 use Rattle.mig_pvtables.proofs.EachValue.{each_same, same_each}
-use Rattle.mig_pvtables.proofs.Only.{then_only, unlike, alike}
+use Rattle.mig_pvtables.proofs.Only.{then_only}
 use Rattle.mig_pvtables.proofs.BlankFrames.{WithFrames}
 use Rattle.mig_pvtables.proofs.PvGuests.{counted}
-use Rattle.mig_pvtables.proofs.Searches.{any_in_range, find_in_range, none_of}
-
--- two tests that fail alike
-pub alike_false : (a b : Bool) → (a ≡ false → b ≡ false) → (b ≡ false → a ≡ false) → a ≡ b
-alike_false true true go back = refl
-alike_false true false go back = back refl
-alike_false false b go back = sym (go refl)
+use Rattle.mig_pvtables.proofs.Searches.{alike_false, any_in_range, any_more, find_in_range, none_of, overwritten}
 
 -- ---- which numbers are listed
-
-module _ (parts : PartMap) (pfn : ℕ) where
-  abbrev test : ℕ → Bool
-  test j = is_this pfn (listed parts j)
-
-  -- no other is listed at k
-  before_stays : (k : ℕ) → test k ≡ false → is_listed_before parts (k + 1) pfn ≡ is_listed_before parts k pfn
-  before_stays k fails = alike_false _ _
-      (λ none. (any_in_range test k).1 (λ j lt. (any_in_range test (k + 1)).0 none j (omega (arith, lt))))
-      (λ none. (any_in_range test (k + 1)).1 (λ j lt. elim (cases_eq j k) [
-        | inl e ↦ ap test e ∙ fails
-        | inr ne ↦ (any_in_range test k).0 none j (omega (arith, lt, ne))
-      ]))
-
-  -- it is listed at k
-  before_now : (k : ℕ) → test k ≡ true → is_listed_before parts (k + 1) pfn ≡ true
-  before_now k passes = by_case (is_listed_before parts (k + 1) pfn) refl
-    where
-      by_case : (b : Bool) → is_listed_before parts (k + 1) pfn ≡ b → b ≡ true
-      by_case true is = refl
-      by_case false is = sym ((any_in_range test (k + 1)).0 is k (omega arith)) ∙ passes
 
 -- at the end of the list, one is listed before exactly where it has a place
 module _ (o : Option (List ℕ)) (pfn : ℕ) where
@@ -60,52 +33,50 @@ placed (Some bytes) pfn k none = alike_false _ _
 
 -- ---- one frame after another
 
-zero_again : (f : FrameOf) → with_zero_page (with_zero_page f) ≡ with_zero_page f
-zero_again f = by_page f.page
-  where
-    by_page : (o : Option (List ℕ)) → ◌≡◌ {A = FrameOf} (record { type = f.type; page = option_map (λ _. zero_page) (option_map (λ _. zero_page) o) }) (record { type = f.type; page = option_map (λ _. zero_page) o })
-    by_page None = refl
-    by_page (Some p) = refl
-
 module _ (parts : PartMap) (m : FrameMap) where
   none_listed : each_value (blanked_listed parts 0 with_zero_page) m ≡ m
   none_listed = each_same nat_cmp_total nat_cmp-IsAntisymmetric (blanked_listed parts 0 with_zero_page) m (λ q f is. refl)
 
   next_listed : (k pfn : ℕ) → listed parts k ≡ Some pfn → each_value (only nat_cmp pfn with_zero_page) (each_value (blanked_listed parts k with_zero_page) m) ≡ each_value (blanked_listed parts (k + 1) with_zero_page) m
-  next_listed k pfn is = then_only nat_cmp_total nat_cmp-IsAntisymmetric m pfn with_zero_page (blanked_listed parts k with_zero_page) (blanked_listed parts (k + 1) with_zero_page) (λ q f _. elim (cases_eq q pfn) [
-    | inl e ↦
-        ap (λ b. cond b (with_zero_page (blanked_listed parts k with_zero_page q f)) (blanked_listed parts k with_zero_page q f)) (ap (λ k. eq_by_cmp nat_cmp k pfn) e ∙ alike nat_cmp_total nat_cmp-IsAntisymmetric pfn)
-        ∙ zeroed_twice f (is_listed_before parts k q)
-        ∙ sym (ap (λ b. cond b (with_zero_page f) f) (before_now parts q k (ap (is_this q) is ∙ eq-eqb pfn q (sym e))))
-    | inr ne ↦
-        ap (λ b. cond b (with_zero_page (blanked_listed parts k with_zero_page q f)) (blanked_listed parts k with_zero_page q f)) (unlike nat_cmp_total nat_cmp-IsAntisymmetric q pfn ne)
-        ∙ sym (ap (λ b. cond b (with_zero_page f) f) (before_stays parts q k (ap (is_this q) is ∙ ne_eqb pfn q (λ e. ne (sym e)))))
-  ])
+  next_listed k pfn is = then_only nat_cmp_total nat_cmp-IsAntisymmetric m pfn with_zero_page (blanked_listed parts k with_zero_page) (blanked_listed parts (k + 1) with_zero_page)
+      (λ x. zeroed x (is_listed_before parts k pfn) ∙ sym (ap (λ b. cond b (with_zero_page x) x) (more pfn ∙ ap (λ b. is_listed_before parts k pfn || b) (eq-eqb pfn pfn refl))))
+      (λ q x _ ne. stays x (is_listed_before parts k q) ∙ sym (ap (λ b. cond b (with_zero_page x) x) (more q ∙ ap (λ b. is_listed_before parts k q || b) (ne_eqb pfn q (λ e. ne (sym e))))))
     where
-      zeroed_twice : (f : FrameOf) (b : Bool) → with_zero_page (cond b (with_zero_page f) f) ≡ with_zero_page f
-      zeroed_twice f true = zero_again f
-      zeroed_twice f false = refl
+      more : (q : ℕ) → is_listed_before parts (k + 1) q ≡ (is_listed_before parts k q || (pfn == q))
+      more q = any_more (λ j. is_this q (listed parts j)) k ∙ ap (λ o. is_listed_before parts k q || is_this q o) is
+
+      zeroed : (x : FrameOf) (b : Bool) → with_zero_page (cond b (with_zero_page x) x) ≡ cond (b || true) (with_zero_page x) x
+      zeroed x true = ap (λ (o : Option (List ℕ)). record { type = x.type; page = o }) (overwritten (λ _. zero_page) zero_page x.page)
+      zeroed x false = refl
+
+      stays : (x : FrameOf) (b : Bool) → cond b (with_zero_page x) x ≡ cond (b || false) (with_zero_page x) x
+      stays x true = refl
+      stays x false = refl
 
   all_listed : (k : ℕ) → listed parts k ≡ None → each_value (blanked_listed parts k with_zero_page) m ≡ each_value (where_listed parts with_zero_page) m
   all_listed k none = same_each nat_cmp_total nat_cmp-IsAntisymmetric (blanked_listed parts k with_zero_page) (where_listed parts with_zero_page) m (λ q f is.
       ap (λ b. cond b (with_zero_page f) f) (sym (placed (maps.get parts p2m_key) q k none)))
 
-module _ (g : GuestOf) where
-  pub list_start : g ≡ WithFrames g (each_value (blanked_listed g.parts 0 with_zero_page) g.frames)
-  list_start = ap (WithFrames g) (sym (none_listed g.parts g.frames))
+-- on the way from g the first k frames that are listed are zeroed
+pub record ZeroedBefore (g : GuestOf) (k : ℕ) (now : GuestOf) : Type 0 where
+  pub done : now ≡ WithFrames g (each_value (blanked_listed g.parts k with_zero_page) g.frames)
 
-  module _ (k : ℕ) (now : GuestOf) (is : now ≡ WithFrames g (each_value (blanked_listed g.parts k with_zero_page) g.frames)) where
-    same_list : (o : Option ℕ) → o ≡ listed now.parts k → o ≡ listed g.parts k
-    same_list o e = e ∙ ap (λ (s : GuestOf). listed s.parts k) is
+module _ {g : GuestOf} where
+  pub list_start : ZeroedBefore g 0 g
+  list_start = record { done = ap (WithFrames g) (sym (none_listed g.parts g.frames)) }
 
-    pub list_next : (new : GuestOf) (pfn : ℕ) → Some pfn ≡ listed now.parts k → new ≡ WithFrames now (each_value (only nat_cmp pfn with_zero_page) now.frames)
-        → new ≡ WithFrames g (each_value (blanked_listed g.parts (k + 1) with_zero_page) g.frames)
-    list_next new pfn found one =
-        one ∙ ap (λ (s : GuestOf). WithFrames s (each_value (only nat_cmp pfn with_zero_page) s.frames)) is
-        ∙ ap (WithFrames g) (next_listed g.parts g.frames k pfn (sym (same_list (Some pfn) found)))
+  module _ {k : ℕ} {now : GuestOf} (is : ZeroedBefore g k now) {o : Option ℕ} (found : o ≡ listed now.parts k) where
+    same_list : o ≡ listed g.parts k
+    same_list = found ∙ ap (λ (s : GuestOf). listed s.parts k) is.done
 
-    pub list_counted : (pfn : ℕ) → Some pfn ≡ listed now.parts k → k < count_in (maps.get g.parts p2m_key)
-    list_counted pfn found = counted g.frames g.parts (maps.get g.parts p2m_key) k pfn (sym (same_list (Some pfn) found))
+    pub list_next : {new : GuestOf} {pfn : ℕ} → o ≡ Some pfn → new ≡ WithFrames now (each_value (only nat_cmp pfn with_zero_page) now.frames) → ZeroedBefore g (k + 1) new
+    list_next {pfn = pfn} some one = record {
+      done = one ∙ ap (λ (s : GuestOf). WithFrames s (each_value (only nat_cmp pfn with_zero_page) s.frames)) is.done
+          ∙ ap (WithFrames g) (next_listed g.parts g.frames k pfn (sym same_list ∙ some));
+    }
 
-    pub list_end : None ≡ listed now.parts k → now ≡ WithFrames g (each_value (where_listed g.parts with_zero_page) g.frames)
-    list_end none = is ∙ ap (WithFrames g) (all_listed g.parts g.frames k (sym (same_list None none)))
+    pub list_counted : {pfn : ℕ} → o ≡ Some pfn → k < count_in (maps.get g.parts p2m_key)
+    list_counted {pfn = pfn} some = counted g.frames g.parts (maps.get g.parts p2m_key) k pfn (sym same_list ∙ some)
+
+    pub list_end : o ≡ None → now ≡ WithFrames g (each_value (where_listed g.parts with_zero_page) g.frames)
+    list_end none = is.done ∙ ap (WithFrames g) (all_listed g.parts g.frames k (sym same_list ∙ none))

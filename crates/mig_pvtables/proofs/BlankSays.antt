@@ -1,5 +1,6 @@
 -- What the entries of a table and the fields of a context say in the blank form: the same.
 use Rattle.mig_pvtables.proofs.Common.{◌≡◌, ℕ, ◌+◌, ◌-◌, ◌*◌, ◌/◌, ◌%◌, ◌^◌, ◌<◌, ◌≤◌, Bool, true, false, cond, not, List, Some, None, refl, sym, ap, subst, ◌∙◌, inl, inr, arith, nat_le, nat_lt, ◌==◌, ◌&&◌, cases_eq, cases_lt, eqb-true, eq-eqb, le-leb, lt-ltb, ne_eqb, Blank, NotPresent, Superpage, Frame, gdt_ents, is_blank_slot, entry, blanked_table, long_at, field_at, field_place, field_value, frame_of_field, is_marked, is_used, value_blanked, blanked_context}
+use Rattle.std.proofs.lemmas.Bool.{leb-true, ltb-true}
 use Rattle.mig_guest.specs.Tables.{entry_of, blanked_entry, named_frame}
 use Rattle.mig_pvtables.specs.VcpuContexts.{blanked_value}
 use Rattle.mig_pvtables.proofs.Moduli.{long_of_each}
@@ -16,7 +17,7 @@ low_says level slot e =
     λ i. cond (is_blank_slot level slot) Blank (cond (not (present i == 1)) NotPresent (cond (nat_le 2 level && (large i == 1)) Superpage (Frame (named i))))
 
 -- a blank slot says nothing
-blank_says : (level slot e : ℕ) → is_blank_slot level slot ≡ true → entry_of level slot e ≡ Blank
+pub blank_says : (level slot e : ℕ) → is_blank_slot level slot ≡ true → entry_of level slot e ≡ Blank
 unfolding entry_of
 blank_says level slot e is = ap (λ b. cond b Blank (cond (not (e % 2 == 1)) NotPresent (cond (nat_le 2 level && (e / 2 ^ 7 % 2 == 1)) Superpage (Frame (named_frame e))))) is
 
@@ -62,6 +63,33 @@ field_there field most = elim (cases_eq field 0) [
         let at : field_at (603 + field) ≡ Some ((603 + field) - 603) =
         (λ i. cond (not_first i) (Some 0) (cond (low i && high i) (Some ((603 + field) - 603)) (cond ((603 + field) == 626) (Some 17) (cond ((603 + field) == 624) (Some 18) None)))) in
         (ap field_at place ∙ at ∙ ap (λ n. Some n) (let e : (603 + field) - 603 ≡ field = omega arith in e), subst (λ n. n < 646) (sym place) (omega (arith, lt)))
+
+some_is : (x y : ℕ) → Some x ≡ Some y → x ≡ y
+some_is x y e = cc
+
+-- where a field stands, the place is its place
+pub place_field : (i field : ℕ) → field_at i ≡ Some field → (field ≤ 18) × (field_place field ≡ i)
+place_field i field = by_case (i == 77) (nat_le 604 i) (nat_lt i 620) (i == 626) (i == 624) refl refl refl refl refl
+  where
+    Stands : ℕ → Type 0
+    Stands f = (f ≤ 18) × (field_place f ≡ i)
+
+    of_gdt : (field : ℕ) → 0 < field → field ≤ 16 → field_place field ≡ 603 + field
+    of_gdt field some most = (λ j. cond (ne_eqb field 0 (λ e. omega (arith, e, some)) j) 77 (cond (le-leb field 16 most j) (603 + field) (cond (field == 17) 626 624)))
+
+    roots : (d e : Bool) → (i == 626) ≡ d → (i == 624) ≡ e → cond d (Some 17) (cond e (Some 18) None) ≡ Some field → Stands field
+    roots true e id ie is = subst Stands (some_is 17 field is) (omega arith, sym (eqb-true i 626 id))
+    roots false true id ie is = subst Stands (some_is 18 field is) (omega arith, sym (eqb-true i 624 ie))
+    roots false false id ie is = cc
+
+    by_case : (a b c d e : Bool) → (i == 77) ≡ a → nat_le 604 i ≡ b → nat_lt i 620 ≡ c → (i == 626) ≡ d → (i == 624) ≡ e
+        → cond a (Some 0) (cond (b && c) (Some (i - 603)) (cond d (Some 17) (cond e (Some 18) None))) ≡ Some field → Stands field
+    by_case true b c d e ia ib ic id ie is = subst Stands (some_is 0 field is) (omega arith, sym (eqb-true i 77 ia))
+    by_case false true true d e ia ib ic id ie is =
+        let low = leb-true 604 i ib in let high = ltb-true i 620 ic in
+        subst Stands (some_is (i - 603) field is) (omega (arith, high), of_gdt (i - 603) (omega (arith, low)) (omega (arith, high)) ∙ omega (arith, low))
+    by_case false true false d e ia ib ic id ie is = roots d e id ie is
+    by_case false false c d e ia ib ic id ie is = roots d e id ie is
 
 -- a field is used where its blank form is
 pub same_used : (id ents field v : ℕ) → is_used id ents field (value_blanked (Some field) v % 2 ^ 64) ≡ is_used id ents field v

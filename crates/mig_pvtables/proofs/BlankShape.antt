@@ -1,11 +1,12 @@
 -- What the blank form of a PV guest has at each frame number and key.
-use Rattle.mig_pvtables.proofs.Common.{◌≡◌, ℕ, ◌/◌, cond, List, length, Option, Some, None, is_some, refl, sym, ap, subst, ◌∙◌, arith, ◌==◌, option_map, nat_cmp_total, nat_cmp-IsAntisymmetric, eqb-true, eq-eqb, lt-ltb, Pv, level_of, PartKey, Entry, FrameOf, FrameMap, GuestOf, PartMap, p2m_key, long_at, entry, EachEntry, blanked_table, part_total, part_exact, blanked_page, blanked_frame, blanked_part, blank_of, listed_in, listed, place_of, type_at, blanked_context, blanked_shared}
+use Rattle.mig_pvtables.proofs.Common.{◌≡◌, ℕ, ◌/◌, cond, List, length, Option, Some, None, is_some, refl, sym, ap, subst, ◌∙◌, arith, ◌==◌, option_map, nat_cmp_total, nat_cmp-IsAntisymmetric, eqb-true, eq-eqb, lt-ltb, Pv, level_of, PartKey, Entry, FrameOf, FrameMap, GuestOf, PartMap, p2m_key, long_at, EachEntry, blanked_table, part_total, part_exact, blanked_page, blanked_frame, blanked_part, blank_of, listed_in, listed, place_of, type_at, blanked_context, blanked_shared}
 use Rattle.std.specs.FinMap as maps
 use Rattle.mig_pagetypes.specs.declared.page_type.PageType.TheVariants.{Notab}
 use Rattle.mig_pvtables.specs.P2mFrames.{place_in}
 use Rattle.mig_pvtables.specs.WholePv.{AreP2mFrames}
 use Rattle.mig_pvtables.proofs.BlankSays.{same_entry}
-use Rattle.mig_pvtables.proofs.EachValue.{get_each, from_each, to_each, some_each}
+use Rattle.mig_pvtables.proofs.EachValue.{from_each, to_each, some_each, stays_each}
+use Rattle.mig_pvtables.proofs.SameShape.{types_kept, entries_changed}
 use Rattle.mig_pvtables.proofs.Slots.{found_in_range}
 
 -- what has a place in the list is listed there
@@ -37,10 +38,7 @@ module _ (place : Option ℕ) (x : FrameOf) (apart : (level : ℕ) → level_of 
 
   -- what its entries say
   pub entries_there : (P : Entry → Type 0) → EachEntry P x → EachEntry P blanked
-  entries_there P each level q lev has slot lt = elim x.page as (λ o. x.page ≡ o → option_map (blanked_table level) o ≡ Some q → P (entry level q slot)) [
-    | None ↦ λ is at. cc
-    | Some p ↦ λ is at. let same : blanked_table level p ≡ q = cc in subst (λ r. P (entry level r slot)) same (subst P (sym (same_entry level slot p lt)) (each level p lev is slot lt))
-  ] refl (sym (table_page level x.page lev refl) ∙ has)
+  entries_there P = entries_changed P P blanked_table x blanked.page (λ level lev. table_page level x.page lev refl) (λ level p lev has slot lt. subst P (sym (same_entry level slot p lt)))
 
   pub entries_back : (P : Entry → Type 0) → EachEntry P blanked → EachEntry P x
   entries_back P each level p lev has slot lt = subst P (same_entry level slot p lt) (each level (blanked_table level p) lev (table_page level (Some p) lev has) slot lt)
@@ -50,9 +48,7 @@ module _ (place : Option ℕ) (x : FrameOf) (apart : (level : ℕ) → level_of 
 module _ (g : GuestOf) where
   -- frames keep their types, keys their parts, and the list is as it was
   pub type_there : (n : ℕ) → type_at (blank_of Pv g).frames n ≡ type_at g.frames n
-  type_there n =
-      ap (option_map (λ (x : FrameOf). x.type)) (get_each nat_cmp_total nat_cmp-IsAntisymmetric (blanked_frame g.parts) g.frames n)
-      ∙ elim (maps.get g.frames n) as (λ o. option_map (λ (x : FrameOf). x.type) (option_map (blanked_frame g.parts n) o) ≡ option_map (λ (x : FrameOf). x.type) o) [ None ↦ refl | Some x ↦ refl ]
+  type_there n = types_kept (blanked_frame g.parts) (λ n x. refl) g.frames n
 
   pub frame_there : (n : ℕ) → is_some (maps.get (blank_of Pv g).frames n) ≡ is_some (maps.get g.frames n)
   frame_there n = some_each nat_cmp_total nat_cmp-IsAntisymmetric (blanked_frame g.parts) g.frames n
@@ -61,11 +57,7 @@ module _ (g : GuestOf) where
   part_there key = some_each part_total part_exact blanked_part g.parts key
 
   pub listed_there : (k : ℕ) → listed (blank_of Pv g).parts k ≡ listed g.parts k
-  listed_there k = ap (λ o. listed_in o k) (get_each part_total part_exact blanked_part g.parts p2m_key ∙ itself (maps.get g.parts p2m_key))
-    where
-      itself : (o : Option (List ℕ)) → option_map (λ (x : List ℕ). x) o ≡ o
-      itself None = refl
-      itself (Some x) = refl
+  listed_there k = ap (λ o. listed_in o k) (stays_each part_total part_exact blanked_part p2m_key (λ _. refl) g.parts)
 
   is_context : (key : PartKey) (context : List ℕ) → key.code ≡ 4 → blanked_part key context ≡ blanked_context context
   is_context key context code = ap (λ b. cond b (blanked_context context) (cond (key.code == 7) (blanked_shared context) context)) (eq-eqb key.code 4 code)

@@ -1,5 +1,5 @@
 -- The blank form of a whole guest is whole.
-use Rattle.mig_pvtables.proofs.Common.{◌≡◌, ℕ, ◌+◌, ◌*◌, ◌%◌, ◌^◌, ◌<◌, ◌≤◌, Bool, true, false, cond, List, length, Option, Some, None, is_some, IsSome, refl, sym, ap, subst, ◌∙◌, arith, ◌==◌, nat_le, length-replicate, option_map, nat_cmp_total, nat_cmp-IsAntisymmetric, eqb-true, Pv, Hvm, level_of, PartKey, Frame, IsFormed, IsGuestFrame, IsPart, width_of, gdt_ents, FrameOf, GuestOf, p2m_key, vcpu_key, shared_key, EachEntry, IsWithin, blanked_table, length_longs, part_total, part_exact, blanked_page, blanked_frame, blanked_part, blank_of, blank, place_of, type_at, fits_field, field_value, frame_of_field, is_used, blanked_context, blanked_shared, IsWhole}
+use Rattle.mig_pvtables.proofs.Common.{◌≡◌, ℕ, ◌%◌, ◌^◌, ◌<◌, ◌≤◌, Bool, true, false, cond, List, length, Option, Some, None, IsSome, refl, sym, ap, subst, ◌∙◌, arith, ◌==◌, nat_le, length-replicate, option_map, nat_cmp_total, nat_cmp-IsAntisymmetric, eqb-true, eq-eqb, Pv, Hvm, level_of, PartKey, Frame, IsFormed, IsGuestFrame, IsPart, width_of, gdt_ents, FrameOf, FrameMap, GuestOf, p2m_key, vcpu_key, shared_key, EachEntry, IsWithin, blanked_table, length_longs, part_total, part_exact, blanked_page, blanked_frame, blanked_part, blank_of, blank, place_of, type_at, fits_field, field_value, frame_of_field, is_used, blanked_context, blanked_shared, IsWhole}
 use Rattle.std.specs.FinMap as maps
 use Rattle.mig_headers.specs.declared.kind.Kind.{Kind}
 use Rattle.mig_guest.specs.declared.part_code.PartCode.{PartCode}
@@ -7,49 +7,32 @@ use Rattle.mig_guest.specs.declared.part_code.PartCode.TheVariants.{VcpuBasic, S
 use Rattle.mig_guest.specs.Formed.{IsContent, HasNoEmulators}
 use Rattle.mig_guest.specs.Frames.{IsFrame}
 use Rattle.mig_guest.specs.PartCodes.{row_of, code_number}
-use Rattle.mig_guest.proofs.PartRows.{one_code, of_part}
+use Rattle.mig_guest.proofs.PartRows.{of_part, raw}
 use Rattle.mig_pvtables.specs.Blank.{zero_page}
-use Rattle.mig_pvtables.specs.WholePv.{IsEmptyRange, AreP2mFrames, FieldsFit, IsCompletePv}
+use Rattle.mig_pvtables.specs.WholePv.{AreP2mFrames, FieldsFit, IsCompletePv}
 use Rattle.mig_pvtables.proofs.BlankSays.{same_used, same_said, said_fits, blanked_ents, blanked_field}
 use Rattle.mig_pvtables.proofs.BlankShape.{table_unlisted, entries_there, type_there, frame_there, part_there, listed_there, context_back}
 use Rattle.mig_pvtables.proofs.EachValue.{from_each, len_each, count_each}
 use Rattle.mig_pvtables.proofs.PvGuests.{pv_complete, pv_faultless}
-use Rattle.mig_pvtables.proofs.Searches.{none_of}
+use Rattle.mig_pvtables.proofs.SameShape.{repaged_is_frame, kept_p2m, to_host, to_guest}
 
 -- ---- frames
-
--- there is a page where there was one, and it is as long
-page_there : (place level : Option ℕ) (page : Option (List ℕ)) → is_some (blanked_page place level page) ≡ is_some page
-page_there (Some k) level None = refl
-page_there (Some k) level (Some p) = refl
-page_there None None page = refl
-page_there None (Some l) None = refl
-page_there None (Some l) (Some p) = refl
 
 zero_size : length zero_page ≡ 4096
 unfolding zero_page
 zero_size = length-replicate {A = ℕ} 4096 0
 
-page_size : (place level : Option ℕ) (page : Option (List ℕ)) → ((p : List ℕ) → page ≡ Some p → length p ≡ 4096) → (q : List ℕ) → blanked_page place level page ≡ Some q → length q ≡ 4096
-page_size (Some k) level None size q is = cc
-page_size (Some k) level (Some p) size q is = let same : zero_page ≡ q = cc in ap length (sym same) ∙ zero_size
-page_size None None page size q is = size q is
-page_size None (Some l) None size q is = cc
-page_size None (Some l) (Some p) size q is = let same : blanked_table l p ≡ q = cc in ap length (sym same) ∙ length_longs 512 _
+blanked_is_frame : (place level : Option ℕ) (x : FrameOf) → IsFrame x → IsFrame (record { type = x.type; page = blanked_page place level x.page })
+blanked_is_frame (Some k) level x is = repaged_is_frame x (λ _. zero_page) (λ _. zero_size) is
+blanked_is_frame None (Some level) x is = repaged_is_frame x (blanked_table level) (λ _. length_longs 512 _) is
+blanked_is_frame None None x is = is
 
 module _ (g : GuestOf) where
-  blanked_is_frame : (pfn : ℕ) (x : FrameOf) → IsFrame x → IsFrame (blanked_frame g.parts pfn x)
-  blanked_is_frame pfn x is = record {
-    there = is.there;
-    in_step = page_there (place_of g.parts pfn) (level_of x.type) x.page ∙ is.in_step;
-    whole = page_size (place_of g.parts pfn) (level_of x.type) x.page is.whole;
-  }
-
   blanked_is_guest_frame : AreP2mFrames g.frames g.parts → (pfn : ℕ) (x : FrameOf) → maps.get g.frames pfn ≡ Some x → IsGuestFrame g.kind g.top pfn x → IsGuestFrame g.kind g.top pfn (blanked_frame g.parts pfn x)
   blanked_is_guest_frame p2m pfn x found is = record {
     small = is.small;
     inside = is.inside;
-    is = blanked_is_frame pfn x is.is;
+    is = blanked_is_frame (place_of g.parts pfn) (level_of x.type) x is.is;
     type = is.type;
     entries = entries_there (place_of g.parts pfn) x (table_unlisted g.frames g.parts p2m pfn x found) (IsWithin g.top) is.entries;
   }
@@ -57,18 +40,9 @@ module _ (g : GuestOf) where
 -- ---- parts
 
 module _ (kind : Kind) (width : ℕ) (key : PartKey) (part : List ℕ) (is : IsPart kind width key part) where
-  -- a part of the same length, whose bytes are what they have to be
-  resized : (code : PartCode) (changed : List ℕ) → key.code ≡ code_number code → length changed ≡ length part → IsContent code changed → IsPart kind width key changed
-  resized code changed number size content = record {
-    code = is.code;
-    number = is.number;
-    of_kind = is.of_kind;
-    keys = is.keys;
-    small1 = is.small1;
-    small2 = is.small2;
-    len = ap ((row_of is.code).allows width) size ∙ is.len;
-    content = subst (λ c. IsContent c changed) (one_code code is.code (sym number ∙ is.number)) content;
-  }
+  -- a part whose bytes are what they have to be
+  resized : (code : PartCode) (changed : List ℕ) → key.code ≡ code_number code → (row_of code).allows width (length changed) ≡ true → IsContent code changed → IsPart kind width key changed
+  resized code changed number len content = to_guest width code changed number len (to_host width is.code part is.number is.len is (raw is.code part is.content)) content
 
   -- no more descriptors than before
   few_ents : (n : ℕ) → gdt_ents part ≤ 7168 → n ≡ gdt_ents part % 2 ^ 64 → n ≤ 7168
@@ -78,10 +52,9 @@ module _ (kind : Kind) (width : ℕ) (key : PartKey) (part : List ℕ) (is : IsP
   blanked_case : (a b : Bool) → (key.code == 4) ≡ a → (key.code == 7) ≡ b → IsPart kind width key (cond a (blanked_context part) (cond b (blanked_shared part) part))
   blanked_case true b four seven =
       let code = eqb-true key.code 4 four in let one = of_part VcpuBasic kind width (key, part) is code in
-      resized VcpuBasic (blanked_context part) code (length_longs 646 _ ∙ sym (eqb-true (length part) 5168 one.len)) (few_ents (gdt_ents (blanked_context part)) one.content (blanked_ents part))
+      resized VcpuBasic (blanked_context part) code (eq-eqb (length (blanked_context part)) 5168 (length_longs 646 _)) (few_ents (gdt_ents (blanked_context part)) one.content (blanked_ents part))
   blanked_case false true four seven =
-      let code = eqb-true key.code 7 seven in let one = of_part SharedInfo kind width (key, part) is code in
-      resized SharedInfo (blanked_shared part) code (length_longs 512 _ ∙ sym (eqb-true (length part) 4096 one.len)) tt
+      resized SharedInfo (blanked_shared part) (eqb-true key.code 7 seven) (eq-eqb (length (blanked_shared part)) 4096 (length_longs 512 _)) tt
   blanked_case false false four seven = is
 
   blanked_is_part : IsPart kind width key (blanked_part key part)
@@ -104,16 +77,8 @@ module _ (g : GuestOf) where
 
   -- ---- and complete
 
-  still_empty : (k : ℕ) → IsEmptyRange g.frames k → IsEmptyRange (blank_of Pv g).frames k
-  still_empty k empty s lt = none_of _ (frame_there g (512 * k + s) ∙ ap is_some (empty s lt))
-
   still_p2m : AreP2mFrames g.frames g.parts → AreP2mFrames (blank_of Pv g).frames (blank_of Pv g).parts
-  still_p2m p2m = record {
-    types = λ k pfn is. type_there g pfn ∙ p2m.types k pfn (sym (listed_there g k) ∙ is);
-    twice = λ j k pfn lt one two.
-        let both = p2m.twice j k pfn lt (sym (listed_there g j) ∙ one) (sym (listed_there g k) ∙ two) in
-        (still_empty j both.0, still_empty k both.1);
-  }
+  still_p2m = kept_p2m g.frames (blank_of Pv g).frames g.parts (blank_of Pv g).parts (type_there g) (listed_there g)
 
 -- ---- fields
 
@@ -121,13 +86,16 @@ module _ (g : GuestOf) where
 pub unfit : (field : ℕ) → fits_field field None ≡ false
 unfit field = elim (nat_le field 16) as (λ b. cond b false false ≡ false) [ true ↦ refl | false ↦ refl ]
 
+pub fit_there : (frames : FrameMap) (field n : ℕ) → fits_field field (type_at frames n) ≡ true → (x : FrameOf) × (maps.get frames n ≡ Some x)
+fit_there frames field n fits = elim (maps.get frames n) as (λ o. fits_field field (option_map (λ (x : FrameOf). x.type) o) ≡ true → (x : FrameOf) × (o ≡ Some x)) [
+  | None ↦ λ is. let no : false ≡ true = sym (unfit field) ∙ is in cc
+  | Some x ↦ λ is. (x, refl)
+] fits
+
 module _ (g : GuestOf) (formed : IsFormed g) where
   -- a frame that a field fits has a number below the limit
   fit_below : (field n : ℕ) → fits_field field (type_at g.frames n) ≡ true → n < 2 ^ 28
-  fit_below field n fits = elim (maps.get g.frames n) as (λ o. maps.get g.frames n ≡ o → n < 2 ^ 28) [
-    | None ↦ λ none. let no : false ≡ true = sym (unfit field) ∙ ap (λ o. fits_field field (option_map (λ (x : FrameOf). x.type) o)) (sym none) ∙ fits in cc
-    | Some x ↦ λ found. (formed.frames n x found).small
-  ] refl
+  fit_below field n fits = let (x, found) = fit_there g.frames field n fits in (formed.frames n x found).small
 
   module _ (key : PartKey) (context : List ℕ) (found : maps.get g.parts key ≡ Some context) (code : key.code ≡ 4) (field : ℕ) (most : field ≤ 18) where
     -- the GDT has as many descriptors
@@ -180,13 +148,6 @@ module _ (g : GuestOf) (formed : IsFormed g) where
 -- ---- either kind
 
 module _ (g : GuestOf) where
-  pub blank_kind : (blank g).kind ≡ g.kind
-  blank_kind = by_kind g.kind
-    where
-      by_kind : (k : Kind) → (blank_of k g).kind ≡ g.kind
-      by_kind Hvm = refl
-      by_kind Pv = refl
-
   -- no emulator part is made
   pub blank_plain : HasNoEmulators g.parts → HasNoEmulators (blank g).parts
   blank_plain plain = by_kind g.kind

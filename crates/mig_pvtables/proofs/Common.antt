@@ -31,7 +31,7 @@ pub use Rattle.mig_pagetypes.specs.PageTypes.{level_of, type_has_data}
 pub use Rattle.mig_pagetypes.specs.declared.page_type.PageType.{PageType}
 pub use Rattle.mig_pvtables.specs.Blank.{IsOfBytes, blank, blank_of, blanked_frame, blanked_page, blanked_part, each_value}
 pub use Rattle.mig_pvtables.specs.BlankSteps.{blanked_below, blanked_code, blanked_listed, blanked_up_to, is_listed_before, is_reached, only, where_listed, with_table_blanked, with_zero_page}
-pub use Rattle.mig_pvtables.specs.Faults.{fault_of_guest, faults_for, find_entry, find_field, find_p2m, find_slot, first_of, first_some, fits_field, is_absent, is_misplaced, is_needed, is_notab, is_this, misfits, type_at}
+pub use Rattle.mig_pvtables.specs.Faults.{fault_of_guest, faults_for, find_entry, find_field, find_p2m, find_slot, first_cause, first_some, fits_field, is_absent, is_misplaced, is_needed, is_notab, is_this, misfits, type_at}
 pub use Rattle.mig_pvtables.specs.P2mFrames.{count_in, listed, listed_in, place_of}
 pub use Rattle.mig_pvtables.specs.Tables.{fault_of_page_table, first_outside, first_superpage, is_superpage, names_above}
 pub use Rattle.mig_pvtables.specs.VcpuContexts.{blanked_context, blanked_shared, field_at, field_place, field_value, frame_of_field, is_marked, is_used, value_blanked}

@@ -58,3 +58,7 @@ module _ {K : Type 0} {R : K → K → Ordering} (o : IsTotalOrder R) (exact : I
       get_each f m q
       ∙ elim (maps.get m q) as (λ r. maps.get m q ≡ r → option_map (f q) r ≡ option_map (g q) r) [ None ↦ λ _. refl | Some x ↦ λ is. ap Some (same q x is) ] refl
       ∙ sym (get_each g m q))
+
+  -- a key whose values stay
+  pub stays_each : {X : Type 0} (f : K → X → X) (q : K) → ((x : X) → f q x ≡ x) → (m : FinMap R X) → maps.get (each_value f m) q ≡ maps.get m q
+  stays_each f q stays m = get_each f m q ∙ elim (maps.get m q) as (λ r. option_map (f q) r ≡ r) [ None ↦ refl | Some x ↦ ap Some (stays x) ]

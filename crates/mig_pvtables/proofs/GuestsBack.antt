@@ -1,5 +1,5 @@
 -- A whole, blank guest that is localised, and normalised again, is the guest.
-use Rattle.mig_pvtables.proofs.Common.{◌≡◌, ℕ, ◌<◌, Bool, true, false, cond, ◌==◌, List, length, Option, Some, None, IsSome, refl, sym, ap, ◌∙◌, option_map, nat_cmp_total, nat_cmp-IsAntisymmetric, eqb-true, eq-eqb, Pv, Hvm, level_of, PartKey, FrameOf, FrameMap, GuestOf, PartMap, IsPart, width_of, p2m_key, part_total, part_exact, each_value, blank, blank_of, blanked_page, blanked_frame, blanked_part, place_of, IsOfBytes, type_at, fits_field, field_value, frame_of_field, is_used, blanked_context, blanked_shared, IsWhole}
+use Rattle.mig_pvtables.proofs.Common.{◌≡◌, ℕ, ◌<◌, Bool, true, false, cond, ◌==◌, List, length, Option, Some, None, IsSome, is_some, refl, sym, ap, ◌∙◌, nat_cmp_total, nat_cmp-IsAntisymmetric, eqb-true, eq-eqb, Pv, Hvm, level_of, PartKey, FrameOf, FrameMap, GuestOf, PartMap, IsPart, width_of, p2m_key, part_total, part_exact, each_value, blank, blank_of, blanked_page, blanked_frame, blanked_part, place_of, IsOfBytes, field_value, frame_of_field, is_used, blanked_context, blanked_shared, IsWhole}
 use Rattle.std.specs.FinMap as maps
 use Rattle.std.proofs.lemmas.List.Elements.{recursion_from_All}
 use Rattle.mig_bytes.specs.Bytes.{AreBytes}
@@ -14,8 +14,8 @@ use Rattle.mig_pvtables.specs.Renaming.{GoesBack}
 use Rattle.mig_pvtables.specs.RenamedContexts.{renamed_context}
 use Rattle.mig_pvtables.specs.VcpuContexts.{is_used_somewhere}
 use Rattle.mig_pvtables.specs.WholePv.{IsCompletePv}
-use Rattle.mig_pvtables.proofs.BlankWhole.{unfit}
-use Rattle.mig_pvtables.proofs.EachValue.{get_each, to_each, each_each, same_each, each_same}
+use Rattle.mig_pvtables.proofs.BlankWhole.{fit_there}
+use Rattle.mig_pvtables.proofs.EachValue.{stays_each, to_each, each_each, same_each, each_same}
 use Rattle.mig_pvtables.proofs.PvGuests.{pv_complete}
 use Rattle.mig_pvtables.proofs.Renamed.{TableGoesBack, table_back}
 use Rattle.mig_pvtables.proofs.RenamedContexts.{ContextGoesBack, IsBlankContext, context_back, fields_go, blank_value}
@@ -37,12 +37,6 @@ module _ (f back : ℕ → Option ℕ) where
 
 -- ---- what the tables and contexts of a complete guest name is there
 
-known_type : (frames : FrameMap) (field n : ℕ) → fits_field field (type_at frames n) ≡ true → IsSome (maps.get frames n)
-known_type frames field n fits = elim (maps.get frames n) as (λ o. fits_field field (option_map (λ (x : FrameOf). x.type) o) ≡ true → IsSome o) [
-  | None ↦ λ is. let no : false ≡ true = sym (unfit field) ∙ is in cc
-  | Some x ↦ λ is. refl
-] fits
-
 module _ (g : GuestOf) (whole : IsWhole g) (complete : IsCompletePv g) (bytes : IsOfBytes g) (f back : ℕ → Option ℕ) (goes : (n : ℕ) → IsSome (maps.get g.frames n) → GoesBack f back n) where
   pub table_goes : (pfn : ℕ) (x : FrameOf) → maps.get g.frames pfn ≡ Some x → (l : ℕ) (p : List ℕ) → level_of x.type ≡ Some l → x.page ≡ Some p → AreBytes p × (length p ≡ 4096) × TableGoesBack f back l p
   table_goes pfn x is l p lev has = (
@@ -53,7 +47,8 @@ module _ (g : GuestOf) (whole : IsWhole g) (complete : IsCompletePv g) (bytes : 
 
   pub context_goes : (key : PartKey) (context : List ℕ) → maps.get g.parts key ≡ Some context → key.code ≡ 4 → ContextGoesBack f back key.key1 context
   context_goes key context is code =
-      fields_go f back key.key1 context (λ field most used. goes (frame_of_field field (field_value context field)) (known_type g.frames field (frame_of_field field (field_value context field)) (complete.fields key context is code field most used)))
+      fields_go f back key.key1 context (λ field most used.
+      let (x, there) = fit_there g.frames field (frame_of_field field (field_value context field)) (complete.fields key context is code field most used) in goes (frame_of_field field (field_value context field)) (ap is_some there))
 
 -- ---- a blank guest
 
@@ -92,15 +87,9 @@ module _ (g : GuestOf) (whole : IsWhole g) (complete : IsCompletePv g) (bytes : 
       ∙ each_each part_total part_exact blanked_part (λ k x. renamed_part is_used_somewhere back k (renamed_part is_used f k x)) g.parts
       ∙ same_each part_total part_exact (λ k x. blanked_part k (renamed_part is_used_somewhere back k (renamed_part is_used f k x))) blanked_part g.parts part_back
 
-  itself : (o : Option (List ℕ)) → option_map (λ (x : List ℕ). x) o ≡ o
-  itself None = refl
-  itself (Some x) = refl
-
   -- the list of P2M frames is as it was
   same_list : maps.get parts_there p2m_key ≡ maps.get g.parts p2m_key
-  same_list =
-      get_each part_total part_exact (renamed_part is_used_somewhere back) (each_value (renamed_part is_used f) g.parts) p2m_key ∙ itself (maps.get (each_value (renamed_part is_used f) g.parts) p2m_key)
-      ∙ get_each part_total part_exact (renamed_part is_used f) g.parts p2m_key ∙ itself (maps.get g.parts p2m_key)
+  same_list = stays_each part_total part_exact (renamed_part is_used_somewhere back) p2m_key (λ _. refl) (each_value (renamed_part is_used f) g.parts) ∙ stays_each part_total part_exact (renamed_part is_used f) p2m_key (λ _. refl) g.parts
 
   frame_back : (pfn : ℕ) (x : FrameOf) → maps.get g.frames pfn ≡ Some x → blanked_frame parts_there pfn (renamed_frame back (localised_frame g.parts f pfn x)) ≡ blanked_frame g.parts pfn x
   frame_back pfn x is =

@@ -1,5 +1,5 @@
 -- An HVM guest at the end of its stream: two causes are tried, of its context and of how many frames it has.
-use Rattle.mig_pvtables.proofs.Common.{◌≡◌, ◌∷◌, [], length, Bool, true, false, cond, nat_lt, Some, None, is_none, IsSome, refl, sym, ap, ◌∙◌, option_or, Missing, TooManyFrames, Hvm, most_frames, IsFew, GuestOf, context_key, IsFormed, blank, blank_of, first_of, faults_for, fault_of_guest, IsWhole}
+use Rattle.mig_pvtables.proofs.Common.{◌≡◌, ◌∷◌, [], length, Bool, true, false, cond, nat_lt, Some, None, is_none, IsSome, refl, sym, ap, ◌∙◌, option_or, Missing, TooManyFrames, Hvm, most_frames, IsFew, GuestOf, context_key, IsFormed, blank, blank_of, first_cause, faults_for, fault_of_guest, IsWhole}
 use Rattle.std.specs.Prelude.{◌↔◌}
 use Rattle.std.specs.FinMap as maps
 use Rattle.mig_headers.specs.Rows.{first_fault}
@@ -9,8 +9,8 @@ use Rattle.mig_pvtables.proofs.Searches.{all_none, is_there, are_few}
 pub hvm_blank : (g : GuestOf) → g.kind ≡ Hvm → blank g ≡ g
 hvm_blank g is = ap (λ k. blank_of k g) is
 
-by_kind : (g : GuestOf) → g.kind ≡ Hvm → fault_of_guest g ≡ first_of (faults_for Hvm g)
-by_kind g is = ap (λ k. first_of (faults_for k g)) is
+by_kind : (g : GuestOf) → g.kind ≡ Hvm → fault_of_guest g ≡ first_cause (faults_for Hvm g)
+by_kind g is = ap (λ k. first_cause (faults_for k g)) is
 
 unless : (b c : Bool) (x y : Cause) → option_or (cond b (Some x) None) (option_or (cond c (Some y) None) None) ≡ first_fault ((b, x) ∷ (c, y) ∷ [])
 unless true c x y = refl

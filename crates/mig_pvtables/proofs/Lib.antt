@@ -4,6 +4,7 @@ pub mod Searches
 pub mod Slots
 pub mod Within
 pub mod EachValue
+pub mod SameShape
 pub mod PvGuests
 pub mod WorkedGuest
 pub mod Only

@@ -1,6 +1,9 @@
 -- A guest whose tables, P2M frames and contexts hold machine frames is the guest as it stands in a machine.
-use Rattle.mig_pvtables.proofs.Common.{◌≡◌, ℕ, ◌+◌, ◌-◌, ◌*◌, ◌/◌, ◌<◌, ◌≤◌, ◌^◌, List, ◌++◌, length, take, drop, Option, Some, None, IfSome, refl, sym, ap, subst, ◌∙◌, arith, append-nil, drop_all, option_map, nat_cmp_total, nat_cmp-IsAntisymmetric, eqb-true, Pv, pfn_limit, level_of, PartKey, IsFormed, width_of, FrameOf, GuestOf, PartMap, p2m_key, part_total, part_exact, each_value, count_in, place_of, is_used}
+use Rattle.mig_pvtables.proofs.Common.{◌≡◌, ◌≢◌, ℕ, ◌+◌, ◌-◌, ◌*◌, ◌/◌, ◌<◌, ◌≤◌, ◌^◌, List, ◌++◌, length, take, drop, Option, Some, None, IfSome, refl, sym, ap, subst, ◌∙◌, arith, append-nil, drop_all, option_map, nat_cmp_total, nat_cmp-IsAntisymmetric, eqb-true, Pv, pfn_limit, level_of, PartKey, IsFormed, width_of, FrameOf, GuestOf, PartMap, p2m_key, part_total, part_exact, each_value, count_in, place_of, is_used}
+use Rattle.std.proofs.Common.{Bor}
+use Rattle.std.specs.Array.{IsWholeChunk}
 use Rattle.std.specs.FinMap as maps
+use Rattle.std.specs.Option.{MatchOption}
 use Rattle.mig_guest.specs.Formed.{IsTop}
 use Rattle.mig_guest.specs.declared.part_code.PartCode.TheVariants.{P2mFrames, VcpuBasic}
 use Rattle.mig_guest.proofs.PartRows.{of_part}
@@ -8,18 +11,25 @@ use Rattle.mig_headers.specs.declared.kind.Kind.{Kind}
 use Rattle.mig_pvtables.specs.Localised.{renamed_page, renamed_frame, renamed_part, localised_page, localised_frame, localised_of, localised}
 use Rattle.mig_pvtables.specs.LocaliseSteps.{filled_at, filled_where_listed}
 use Rattle.mig_pvtables.specs.P2mPages.{p2m_page}
+use Rattle.mig_pvtables.specs.Renaming.{renamed_table}
 use Rattle.mig_pvtables.proofs.BlankParts.{WithParts, OnlyPart}
 use Rattle.mig_pvtables.proofs.EachValue.{each_each, same_each}
 use Rattle.mig_pvtables.proofs.Only.{insert_only}
+use Rattle.mig_pvtables.proofs.Searches.{overwritten}
 
 -- ---- one context
 
--- a part of which all bytes are written
-pub part_put : (g new : GuestOf) (key : PartKey) (h : List ℕ → List ℕ) (part w : List ℕ) → Some part ≡ maps.get g.parts key → length part ≡ length w → w ≡ h part
+-- a part that is taken as an array of n bytes is that array
+pub taken : (part : List ℕ) (n : ℕ) {o : Option (Bor (List ℕ))} {array : Bor (List ℕ)} → o ≡ Some array → MatchOption o (length part ≢ n) (λ y. IsWholeChunk part y.now n) → array.now ≡ part
+taken part n is cases = (subst (λ (o : Option (Bor (List ℕ))). MatchOption o (length part ≢ n) (λ y. IsWholeChunk part y.now n)) is cases).same
+
+-- a part of n bytes, all of which are written
+pub part_put : (g : GuestOf) (key : PartKey) (h : List ℕ → List ℕ) (n : ℕ) {new : GuestOf} {part w : List ℕ} → Some part ≡ maps.get g.parts key → IfSome (maps.get g.parts key) (λ part. length part ≡ n) → length w ≡ n → w ≡ h part
     → IfSome (maps.get g.parts key) (λ part. new ≡ WithParts g (maps.insert g.parts key ((take 0 part ++ w) ++ drop (0 + length w) part))) → new ≡ OnlyPart h g key
-part_put g new key h part w is size are wrote =
+part_put g key h n {new = new} {part = part} {w = w} is long size are wrote =
+    let whole : length part ≡ n = subst (λ o. IfSome o (λ part. length part ≡ n)) (sym is) long in
     let one : new ≡ WithParts g (maps.insert g.parts key ((take 0 part ++ w) ++ drop (0 + length w) part)) = subst (λ o. IfSome o (λ part. new ≡ WithParts g (maps.insert g.parts key ((take 0 part ++ w) ++ drop (0 + length w) part)))) (sym is) wrote in
-    one ∙ ap (λ l. WithParts g (maps.insert g.parts key (w ++ l))) (drop_all (0 + length w) part (omega (arith, size)))
+    one ∙ ap (λ l. WithParts g (maps.insert g.parts key (w ++ l))) (drop_all (0 + length w) part (omega (arith, size, whole)))
     ∙ ap (λ l. WithParts g (maps.insert g.parts key l)) (append-nil w ∙ are)
     ∙ ap (WithParts g) (insert_only part_total part_exact g.parts key h part (sym is))
 
@@ -28,8 +38,7 @@ part_put g new key h part w is size are wrote =
 module _ (f : ℕ → Option ℕ) where
   filled_anyway : (k : ℕ) (level : Option ℕ) (page : Option (List ℕ)) → option_map (λ _. p2m_page f k) (renamed_page f level page) ≡ option_map (λ _. p2m_page f k) page
   filled_anyway k None page = refl
-  filled_anyway k (Some l) None = refl
-  filled_anyway k (Some l) (Some p) = refl
+  filled_anyway k (Some level) page = overwritten (renamed_table f level) (p2m_page f k) page
 
   frame_there : (place : Option ℕ) (x : FrameOf) → filled_at f place (renamed_frame f x) ≡ record { type = x.type; page = localised_page place f (level_of x.type) x.page }
   frame_there None x = refl
@@ -42,7 +51,7 @@ module _ (f : ℕ → Option ℕ) where
 
 -- ---- a guest
 
-module _ (f : ℕ → Option ℕ) (g : GuestOf) (formed : IsFormed g) (pv : g.kind ≡ Pv) (a : GuestOf) (one : a ≡ record g { frames = each_value (λ _ x. renamed_frame f x) g.frames }) where
+module _ (f : ℕ → Option ℕ) (g : GuestOf) (formed : IsFormed g) (pv : g.kind ≡ Pv) {a : GuestOf} (one : a ≡ record g { frames = each_value (λ _ x. renamed_frame f x) g.frames }) where
   few_in : (o : Option (List ℕ)) → maps.get g.parts p2m_key ≡ o → count_in o ≤ 2 ^ 43
   few_in None is = omega arith
   few_in (Some bytes) is =
@@ -53,7 +62,7 @@ module _ (f : ℕ → Option ℕ) (g : GuestOf) (formed : IsFormed g) (pv : g.ki
   pub few_listed : count_in (maps.get a.parts p2m_key) ≤ 2 ^ 43
   few_listed = subst (λ (s : GuestOf). count_in (maps.get s.parts p2m_key) ≤ 2 ^ 43) (sym one) (few_in (maps.get g.parts p2m_key) refl)
 
-  module _ (b : GuestOf) (two : b ≡ record a { frames = each_value (filled_where_listed a.parts f) a.frames }) where
+  module _ {b : GuestOf} (two : b ≡ record a { frames = each_value (filled_where_listed a.parts f) a.frames }) where
     same_parts : b.parts ≡ g.parts
     same_parts = ap (λ (s : GuestOf). s.parts) two ∙ ap (λ (s : GuestOf). s.parts) one
 
@@ -62,8 +71,8 @@ module _ (f : ℕ → Option ℕ) (g : GuestOf) (formed : IsFormed g) (pv : g.ki
         let found : maps.get g.parts key ≡ Some context = ap (λ (m : PartMap). maps.get m key) (sym same_parts) ∙ is in
         eqb-true (length context) 5168 (of_part VcpuBasic g.kind (width_of g) (key, context) (formed.parts key context found) code).len
 
-    pub all_localised : (c : GuestOf) → c ≡ record b { parts = each_value (renamed_part is_used f) b.parts } → c ≡ localised f g
-    all_localised c three =
+    pub all_localised : {c : GuestOf} → c ≡ record b { parts = each_value (renamed_part is_used f) b.parts } → c ≡ localised f g
+    all_localised three =
         three ∙ ap (λ (s : GuestOf). record s { parts = each_value (renamed_part is_used f) s.parts }) two
         ∙ ap (λ (s : GuestOf). record s { frames = each_value (filled_where_listed s.parts f) s.frames; parts = each_value (renamed_part is_used f) s.parts }) one
         ∙ ap (λ m. record g { frames = m; parts = each_value (renamed_part is_used f) g.parts }) (frames_there f g)

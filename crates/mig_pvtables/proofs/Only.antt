@@ -1,5 +1,5 @@
 -- Maps of which one value is changed, by its key.
-use Rattle.mig_pvtables.proofs.Common.{◌≡◌, Bool, true, false, cond, Option, Some, None, refl, sym, ap, ◌∙◌, Ordering, eq_by_cmp, FinMap, IsAntisymmetric, same_map, get-insert, option_map, IsTotalOrder, false_from_ne_true, tied, each_value, only}
+use Rattle.mig_pvtables.proofs.Common.{◌≡◌, Bool, true, false, cond, Option, Some, None, refl, sym, ap, subst, ◌∙◌, Ordering, eq_by_cmp, FinMap, IsAntisymmetric, same_map, get-insert, option_map, IsTotalOrder, false_from_ne_true, tied, each_value, only}
 use Rattle.std.specs.FinMap as maps
 use Rattle.std.proofs.lemmas.Cmp.{eq_by_cmp_equiv}
 use Rattle.mig_pvtables.proofs.EachValue.{get_each, each_each, each_same, same_each}
@@ -42,6 +42,7 @@ module _ {K : Type 0} {R : K → K → Ordering} (o : IsTotalOrder R) (exact : I
         by_key (λ b. cond b (f (cond b (g x) x)) (cond b (g x) x) ≡ cond b (f (g x)) x) q k (λ _. refl) (λ _. refl))
 
     -- one more value changed
-    pub then_only : (f : X → X) (F G : K → X → X) → ((q : K) (x : X) → maps.get m q ≡ Some x → cond (eq_by_cmp R q k) (f (F q x)) (F q x) ≡ G q x)
-        → each_value (only R k f) (each_value F m) ≡ each_value G m
-    then_only f F G step = each_each o exact (only R k f) F m ∙ same_each o exact (λ q x. only R k f q (F q x)) G m step
+    pub then_only : (f : X → X) (F G : K → X → X) → ((x : X) → f (F k x) ≡ G k x) → ((q : K) (x : X) → maps.get m q ≡ Some x → (q ≡ k → ⊥) → F q x ≡ G q x) → each_value (only R k f) (each_value F m) ≡ each_value G m
+    then_only f F G here others = each_each o exact (only R k f) F m ∙ same_each o exact (λ q x. only R k f q (F q x)) G m (λ q x is.
+        by_key (λ b. cond b (f (F q x)) (F q x) ≡ G q x) q k (λ e. subst (λ q. f (F q x) ≡ G q x) (sym e) (here x))
+        (λ unequal. others q x is (λ e. let no : true ≡ false = sym (ap (λ q. eq_by_cmp R q k) e ∙ alike k) ∙ unequal in cc)))

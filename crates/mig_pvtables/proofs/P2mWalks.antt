@@ -1,29 +1,24 @@
 -- A walk along the list of the P2M frames, with a mark for each PFN that was listed.
-use Rattle.mig_pvtables.proofs.Common.{◌≡◌, ℕ, ◌+◌, ◌-◌, ◌*◌, ◌/◌, ◌<◌, ◌≤◌, ◌^◌, Bool, true, false, cond, not, List, [], ◌∷◌, length, Option, Some, None, IsSome, is_some, refl, sym, ap, subst, inl, inr, ◌∙◌, arith, ◌==◌, ◌&&◌, ◌||◌, range_with_len, list_any, nat_cmp, eq_by_cmp, nat_cmp_total, nat_cmp-IsAntisymmetric, cases_lt, cases_eq, eq-eqb, ne_eqb, lt-ltb, or_from, or_parts, get-insert, tied, PageType, FrameOf, FrameMap, PartMap, long_at, p2m_key, is_this, is_needed, is_notab, is_misplaced, find_p2m, type_at, count_in, listed, listed_in, is_listed_before}
+use Rattle.mig_pvtables.proofs.Common.{◌≡◌, ℕ, ◌+◌, ◌-◌, ◌*◌, ◌/◌, ◌<◌, ◌≤◌, ◌^◌, Bool, true, false, cond, not, List, [], ◌∷◌, length, Option, Some, None, IsSome, is_some, refl, sym, ap, subst, inl, inr, ◌∙◌, arith, ◌==◌, ◌&&◌, ◌||◌, range_with_len, list_any, nat_cmp, eq_by_cmp, nat_cmp_total, nat_cmp-IsAntisymmetric, ltb-false, nat_lt, cases_eq, eq-eqb, ne_eqb, or_parts, get-insert, tied, PageType, FrameOf, FrameMap, PartMap, long_at, p2m_key, is_this, is_needed, is_notab, is_misplaced, find_p2m, type_at, count_in, listed, listed_in, is_listed_before}
 use Rattle.std.specs.FinMap as maps
 use Rattle.std.proofs.lemmas.List.Folds.{list_any_at}
 use Rattle.std.proofs.lemmas.List.FromFn.{length-range_with_len, get_or-range_with_len}
 use Rattle.mig_index.specs.Indexed.{ValueMap}
 use Rattle.mig_pvtables.specs.Faults.{slots}
 use Rattle.mig_pvtables.specs.P2mMarks.{clashes}
-use Rattle.mig_pvtables.proofs.BlankLists.{alike_false}
 use Rattle.mig_pvtables.proofs.Only.{alike}
-use Rattle.mig_pvtables.proofs.PvGuests.{counted}
-use Rattle.mig_pvtables.proofs.Searches.{any_in_range, find_in_range}
+use Rattle.mig_pvtables.proofs.PvGuests.{counted, not_needed}
+use Rattle.mig_pvtables.proofs.Searches.{any_more, cond_none, find_in_range}
 use Rattle.mig_pvtables.proofs.Slots.{first_in_range}
 
 -- ---- a range that has a frame
 
 module _ (frames : FrameMap) (k : ℕ) where
-  not_needed : ((slot : ℕ) → slot < 512 → maps.get frames (512 * k + slot) ≡ None) → is_needed frames k ≡ false
-  unfolding slots
-  not_needed none = (any_in_range (λ s. is_some (maps.get frames (512 * k + s))) 512).1 (λ s lt. ap is_some (none s lt))
-
   pub none_needed : ((q : ℕ) → 512 * k ≤ q → maps.get frames q ≡ None) → is_needed frames k ≡ false
-  none_needed none = not_needed (λ s lt. none (512 * k + s) (omega arith))
+  none_needed none = (not_needed frames k).1 (λ s lt. none (512 * k + s) (omega arith))
 
   pub later_needed : (pfn : ℕ) → ((q : ℕ) → 512 * k ≤ q → q < pfn → maps.get frames q ≡ None) → 512 ≤ pfn - 512 * k → is_needed frames k ≡ false
-  later_needed pfn none far = not_needed (λ s lt. none (512 * k + s) (omega arith) (omega (arith, far, lt)))
+  later_needed pfn none far = (not_needed frames k).1 (λ s lt. none (512 * k + s) (omega arith) (omega (arith, far, lt)))
 
   pub some_needed : (pfn : ℕ) (frame : FrameOf) → maps.get frames pfn ≡ Some frame → 512 * k ≤ pfn → pfn - 512 * k < 512 → is_needed frames k ≡ true
   unfolding slots
@@ -32,14 +27,6 @@ module _ (frames : FrameMap) (k : ℕ) where
       (ap (λ s. is_some (maps.get frames (512 * k + s))) (get_or-range_with_len 0 512 (pfn - 512 * k) 0 near) ∙ ap (λ q. is_some (maps.get frames q)) (omega (arith, le)) ∙ ap is_some there)
 
 -- ---- tests of places
-
-any_more : (p : ℕ → Bool) (k : ℕ) → list_any p (range_with_len 0 (k + 1)) ≡ (list_any p (range_with_len 0 k) || p k)
-any_more p k = alike_false _ _
-    (λ none. or_from _ _ ((any_in_range p k).1 (λ j lt. (any_in_range p (k + 1)).0 none j (omega (arith, lt)))) ((any_in_range p (k + 1)).0 none k (omega arith)))
-    (λ none. let both = or_parts _ _ none in (any_in_range p (k + 1)).1 (λ j lt. elim (cases_eq j k) [
-      | inl e ↦ ap p e ∙ both.1
-      | inr ne ↦ (any_in_range p k).0 both.0 j (omega (arith, lt, ne))
-    ]))
 
 split_step : (t n b r s : Bool) → ((t && (n || b)) || (r || (s && b))) ≡ (((t && n) || r) || ((t || s) && b))
 split_step false n b r s = refl
@@ -139,10 +126,7 @@ module _ (frames : FrameMap) (parts : PartMap) where
       where
         all_counted : (o : Option (List ℕ)) → listed_in o k ≡ None → count_in o ≤ k
         all_counted None is = omega arith
-        all_counted (Some bytes) is = elim (cases_lt k (length bytes / 8)) [
-          | inl lt ↦ let no : Some (long_at bytes k) ≡ None = sym (ap (λ b. cond b (Some (long_at bytes k)) None) (lt-ltb k (length bytes / 8) lt)) ∙ is in cc
-          | inr ge ↦ ge
-        ]
+        all_counted (Some bytes) is = ltb-false k (length bytes / 8) (cond_none (nat_lt k (length bytes / 8)) (long_at bytes k) is)
 
 -- a PFN that isn't misplaced is one of a frame, and so it is small
 pub placed_small : (pfn : ℕ) (type : Option PageType) (clash : Bool) → (IsSome type → pfn < 2 ^ 28) → (not (is_notab type) || clash) ≡ false → pfn < 2 ^ 28

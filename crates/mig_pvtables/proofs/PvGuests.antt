@@ -1,12 +1,13 @@
 -- The rows of faults find nothing in a PV guest exactly where what they look for isn't there.
-use Rattle.mig_pvtables.proofs.Common.{◌≡◌, ℕ, ◌+◌, ◌*◌, ◌<◌, ◌≤◌, Bool, true, false, cond, not, List, length, Option, Some, None, is_some, IsSome, refl, sym, ap, ◌∙◌, arith, ◌↔◌, find, ◌&&◌, ◌||◌, range_with_len, option_map, nat_cmp_total, nat_cmp-IsAntisymmetric, eqb-true, eq-eqb, ltb-true, or_parts, or_from, cond-true, cond_both, Missing, Pv, PageType, level_of, PartKey, Entry, Frame, gdt_ents, FrameOf, FrameMap, GuestOf, PartMap, p2m_key, vcpu_key, shared_key, entry, EachEntry, part_total, part_exact, field_value, is_used, frame_of_field, count_in, listed_in, listed, first_of, type_at, is_notab, is_needed, is_this, is_misplaced, find_p2m, find_slot, find_entry, is_absent, fits_field, misfits, find_field, faults_for, fault_of_guest, IsWhole}
+use Rattle.mig_pvtables.proofs.Common.{◌≡◌, ℕ, ◌+◌, ◌*◌, ◌<◌, ◌≤◌, Bool, true, false, cond, not, List, length, Option, Some, None, is_some, IsSome, refl, sym, ap, ◌∙◌, arith, ◌↔◌, find, ◌&&◌, ◌||◌, range_with_len, option_map, nat_cmp_total, nat_cmp-IsAntisymmetric, eqb-true, eq-eqb, ltb-true, or_parts, or_from, cond-true, cond_both, Missing, Pv, PageType, level_of, PartKey, Entry, Frame, gdt_ents, FrameOf, FrameMap, GuestOf, PartMap, p2m_key, vcpu_key, shared_key, entry, EachEntry, part_total, part_exact, field_value, is_used, frame_of_field, count_in, listed_in, listed, first_cause, type_at, is_notab, is_needed, is_this, is_misplaced, find_p2m, find_slot, find_entry, is_absent, fits_field, find_field, faults_for, fault_of_guest, IsWhole}
 use Rattle.std.proofs.Common.{◌==◌}
 use Rattle.std.specs.Prelude.{is_none}
 use Rattle.std.specs.FinMap as maps
 use Rattle.std.proofs.lemmas.Option.{cond_some}
 use Rattle.mig_pagetypes.specs.declared.page_type.PageType.TheVariants.{Notab}
 use Rattle.mig_pvtables.specs.Faults.{slots, field_numbers, find_in_contexts}
-use Rattle.mig_pvtables.specs.WholePv.{IsEmptyRange, AreP2mFrames, FieldsFit, IsCompletePv, IsWholePv}
+use Rattle.mig_pvtables.specs.RenamedContexts.{Usage}
+use Rattle.mig_pvtables.specs.WholePv.{IsEmptyRange, AreP2mFrames, IsCompletePv, IsWholePv}
 use Rattle.mig_pvtables.proofs.Searches.{none_of, any_in_range, find_in_range, first_found, all_none, none_mapped, is_there, are_few}
 
 -- ---- entries
@@ -43,7 +44,7 @@ not_absent frames _ = (λ is n e. cc, λ there. refl)
 
 -- ---- fields of contexts
 
-pub not_both : (a b : Bool) → ((a && not b) ≡ false) ↔ (a ≡ true → b ≡ true)
+not_both : (a b : Bool) → ((a && not b) ≡ false) ↔ (a ≡ true → b ≡ true)
 not_both false b = (λ is h. cc, λ go. refl)
 not_both true true = (λ is h. refl, λ go. refl)
 not_both true false = (λ is h. cc, λ go. let no : false ≡ true = go refl in cc)
@@ -61,37 +62,43 @@ module _ (bad : ℕ → List ℕ → ℕ → Bool) (parts : PartMap) where
         (λ good. cond_both (key.code == 4) _ None (λ r. r ≡ None) (λ t. found.1 (search.1 (λ field lt. good (eqb-true key.code 4 t) field (omega (arith, lt))))) (λ t. refl)),
       )
 
-  pub none_in_contexts : (find_in_contexts bad parts ≡ None) ↔ ((key : PartKey) (context : List ℕ) → maps.get parts key ≡ Some context → key.code ≡ 4 → (field : ℕ) → field ≤ 18 → bad key.key1 context field ≡ false)
+  none_in_contexts : (find_in_contexts bad parts ≡ None) ↔ ((key : PartKey) (context : List ℕ) → maps.get parts key ≡ Some context → key.code ≡ 4 → (field : ℕ) → field ≤ 18 → bad key.key1 context field ≡ false)
   none_in_contexts =
       let search = first_found part_total part_exact look parts in (
         (λ none key context is. (none_in_context key context).0 (search.0 none key context is)),
         (λ good. search.1 (λ key context is. (none_in_context key context).1 (good key context is))),
       )
 
-module _ (frames : FrameMap) (parts : PartMap) where
-  no_field : (find_field frames parts ≡ None) ↔ FieldsFit frames parts
-  no_field =
-      let search = none_in_contexts (misfits frames) parts in
-      let fits = λ (key : PartKey) (context : List ℕ) (field : ℕ). not_both (is_used key.key1 (gdt_ents context) field (field_value context field)) (fits_field field (type_at frames (frame_of_field field (field_value context field)))) in (
+-- fields that are used and say no frame of their type, where type_of gives the type of the frame that is said
+module _ (used : Usage) (type_of : ℕ → Option PageType) where
+  abbrev pub misses : ℕ → List ℕ → ℕ → Bool
+  misses id context field = used id (gdt_ents context) field (field_value context field) && not (fits_field field (type_of (frame_of_field field (field_value context field))))
+
+  pub none_misses : (parts : PartMap) → (find_in_contexts misses parts ≡ None) ↔ ((key : PartKey) (context : List ℕ) → maps.get parts key ≡ Some context → key.code ≡ 4
+      → (field : ℕ) → field ≤ 18 → used key.key1 (gdt_ents context) field (field_value context field) ≡ true → fits_field field (type_of (frame_of_field field (field_value context field))) ≡ true)
+  none_misses parts =
+      let search = none_in_contexts misses parts in
+      let fits = λ (key : PartKey) (context : List ℕ) (field : ℕ). not_both (used key.key1 (gdt_ents context) field (field_value context field)) (fits_field field (type_of (frame_of_field field (field_value context field)))) in (
         (λ none key context is code field most. (fits key context field).0 (search.0 none key context is code field most)),
         (λ fit. search.1 (λ key context is code field most. (fits key context field).1 (fit key context is code field most))),
       )
 
-  -- ---- P2M frames
+-- ---- P2M frames
 
-  not_needed : (k : ℕ) → (is_needed frames k ≡ false) ↔ IsEmptyRange frames k
-  unfolding slots
-  not_needed k = let search = any_in_range (λ s. is_some (maps.get frames (512 * k + s))) 512 in (λ is s lt. none_of (maps.get frames (512 * k + s)) (search.0 is s lt), λ empty. search.1 (λ s lt. ap is_some (empty s lt)))
+pub not_needed : (frames : FrameMap) (k : ℕ) → (is_needed frames k ≡ false) ↔ IsEmptyRange frames k
+unfolding slots
+not_needed frames k = let search = any_in_range (λ s. is_some (maps.get frames (512 * k + s))) 512 in (λ is s lt. none_of (maps.get frames (512 * k + s)) (search.0 is s lt), λ empty. search.1 (λ s lt. ap is_some (empty s lt)))
 
+module _ (frames : FrameMap) (parts : PartMap) where
   -- what is listed at j isn't this PFN, or neither range is needed
   not_again : (j k pfn : ℕ) (o : Option ℕ) → ((is_this pfn o && (is_needed frames j || is_needed frames k)) ≡ false) ↔ (o ≡ Some pfn → IsEmptyRange frames j × IsEmptyRange frames k)
   not_again j k pfn None = (λ is e. cc, λ go. refl)
   not_again j k pfn (Some n) = (
     λ is e.
         let same : n ≡ pfn = cc in let both = or_parts (is_needed frames j) (is_needed frames k) (sym (ap (λ b. b && (is_needed frames j || is_needed frames k)) (eq-eqb n pfn same)) ∙ is) in
-        ((not_needed j).0 both.0, (not_needed k).0 both.1),
+        ((not_needed frames j).0 both.0, (not_needed frames k).0 both.1),
     λ go. elim (n == pfn) as (λ b. (n == pfn) ≡ b → (b && (is_needed frames j || is_needed frames k)) ≡ false) [
-      | true ↦ λ t. let both = go (ap (λ m. Some m) (eqb-true n pfn t)) in or_from _ _ ((not_needed j).1 both.0) ((not_needed k).1 both.1)
+      | true ↦ λ t. let both = go (ap (λ m. Some m) (eqb-true n pfn t)) in or_from _ _ ((not_needed frames j).1 both.0) ((not_needed frames k).1 both.1)
       | false ↦ λ t. refl
     ] refl,
   )
@@ -130,8 +137,8 @@ module _ (frames : FrameMap) (parts : PartMap) where
 -- ---- a whole guest
 
 module _ (g : GuestOf) (pv : g.kind ≡ Pv) where
-  by_kind : fault_of_guest g ≡ first_of (faults_for Pv g)
-  by_kind = ap (λ k. first_of (faults_for k g)) pv
+  by_kind : fault_of_guest g ≡ first_cause (faults_for Pv g)
+  by_kind = ap (λ k. first_cause (faults_for k g)) pv
 
   pub pv_complete : fault_of_guest g ≡ None → IsCompletePv g
   pv_complete none =
@@ -142,7 +149,7 @@ module _ (g : GuestOf) (pv : g.kind ≡ Pv) where
         vcpu_there = (is_there (maps.get g.parts (vcpu_key 0)) (Missing 4)).0 c;
         p2m = (no_p2m g.frames g.parts).0 ((none_mapped _ (find_p2m g.frames g.parts)).0 d);
         targets = λ pfn x is l p lev has slot lt. (not_absent g.frames (entry l p slot)).0 ((no_entry (is_absent g.frames) g.frames).0 ((none_mapped _ (find_entry (is_absent g.frames) g.frames)).0 e) pfn x is l p lev has slot lt);
-        fields = (no_field g.frames g.parts).0 ((none_mapped _ (find_field g.frames g.parts)).0 f);
+        fields = (none_misses is_used (type_at g.frames) g.parts).0 ((none_mapped _ (find_field g.frames g.parts)).0 f);
         few = (are_few (length (maps.entries g.frames))).0 h;
       }
 
@@ -154,7 +161,7 @@ module _ (g : GuestOf) (pv : g.kind ≡ Pv) where
       let c = (is_there (maps.get g.parts (vcpu_key 0)) (Missing 4)).1 w.vcpu_there in
       let d = (none_mapped _ (find_p2m g.frames g.parts)).1 ((no_p2m g.frames g.parts).1 w.p2m) in
       let e = (none_mapped _ (find_entry (is_absent g.frames) g.frames)).1 targets in
-      let f = (none_mapped _ (find_field g.frames g.parts)).1 ((no_field g.frames g.parts).1 w.fields) in
+      let f = (none_mapped _ (find_field g.frames g.parts)).1 ((none_misses is_used (type_at g.frames) g.parts).1 w.fields) in
       let h = (are_few (length (maps.entries g.frames))).1 w.few in
       by_kind ∙ (all_none (faults_for Pv g)).1 (a, (b, (c, (d, (e, (f, (h, tt)))))))
 

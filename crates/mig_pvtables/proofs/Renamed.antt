@@ -7,6 +7,7 @@ use Rattle.mig_guest.specs.Tables.{is_present, is_large, named_frame, entry_of, 
 use Rattle.mig_guest.proofs.Longs.{same_longs, each_stays}
 use Rattle.mig_pvtables.specs.Tables.{with_frame}
 use Rattle.mig_pvtables.specs.Renaming.{with_name, named_anew, renamed_entry, renamed_by, name_for, renamed_table, normalised_table, entry_named, NamesFit, GoesBack}
+use Rattle.mig_pvtables.proofs.BlankSays.{blank_says}
 use Rattle.mig_pvtables.proofs.LongSteps.{long_of_each, each_twice}
 
 -- ---- the bits of one entry
@@ -68,73 +69,51 @@ frame_said : (level slot e n : ℕ) → entry_of level slot e ≡ Frame n → na
 unfolding entry_of
 frame_said level slot e n is = says_frame (is_blank_slot level slot) (is_present e) (nat_le 2 level && is_large e) (named_frame e) n is
 
-says_blank : (blank present large : Bool) (n : ℕ) → blank ≡ true → says blank present large n ≡ Blank
-says_blank true present large n is = refl
-says_blank false present large n is = let no : false ≡ true = is in cc
-
-pub blank_says : (level slot e : ℕ) → is_blank_slot level slot ≡ true → entry_of level slot e ≡ Blank
-unfolding entry_of
-blank_says level slot e is = says_blank (is_blank_slot level slot) (is_present e) (nat_le 2 level && is_large e) (named_frame e) is
-
 -- ---- one entry renamed by its slot
 
 -- where the entry names a frame, the name fits
 abbrev pub Fits : Option ℕ → Entry → Type 0
 Fits name x = (n m : ℕ) → x ≡ Frame n → name ≡ Some m → m < 2 ^ 40
 
+-- v is e with this name in it, where e names a frame
+record IsAnew (name : Option ℕ) (level slot e v : ℕ) : Type 0 where
+  says : entry_of level slot v ≡ entry_named name (entry_of level slot e)
+  small : e < 2 ^ 64 → v < 2 ^ 64
+  kept : Kept v e
+
 module _ (name : Option ℕ) (level slot e : ℕ) where
-  plain : (x : Entry) → entry_of level slot e ≡ x → named_anew name e x ≡ e → entry_named name x ≡ x → entry_of level slot (named_anew name e x) ≡ entry_named name x
-  plain x is stays same = ap (entry_of level slot) stays ∙ is ∙ sym same
+  -- an entry that stays is named anew where the name isn't for it
+  same : entry_of level slot e ≡ entry_named name (entry_of level slot e) → IsAnew name level slot e e
+  same is = record { says = is; small = λ small. small; kept = (refl, refl) }
 
-  entry_stays : (o : Option ℕ) (x : Entry) → ((n : ℕ) → x ≡ Frame n → ⊥) → entry_named o x ≡ x
-  entry_stays None x none = refl
-  entry_stays (Some m) Blank none = refl
-  entry_stays (Some m) NotPresent none = refl
-  entry_stays (Some m) Superpage none = refl
-  entry_stays (Some m) (Frame n) none = absurd (none n refl)
+  named : (n : ℕ) (o : Option ℕ) → entry_of level slot e ≡ Frame n → ((m : ℕ) → o ≡ Some m → m < 2 ^ 40) → IsAnew o level slot e (with_name e o)
+  named n None is fits = record { says = refl; small = λ small. small; kept = (refl, refl) }
+  named n (Some m) is fits =
+      let low = fits m refl in record { says = with_frame_says level slot e m low; small = λ small. with_frame_small e m small low; kept = (low_bits e m, high_bits e m low) }
 
-  frame_named : (n : ℕ) (o : Option ℕ) → entry_of level slot e ≡ Frame n → ((m : ℕ) → o ≡ Some m → m < 2 ^ 40) → entry_of level slot (with_name e o) ≡ entry_named o (Frame n)
-  frame_named n None is fits = is
-  frame_named n (Some m) is fits = with_frame_says level slot e m (fits m refl) ∙ ap (entry_named (Some m)) is
+  no_frame : (o : Option ℕ) (x : Entry) → ((n : ℕ) → x ≡ Frame n → ⊥) → x ≡ entry_named o x
+  no_frame None x none = refl
+  no_frame (Some m) Blank none = refl
+  no_frame (Some m) NotPresent none = refl
+  no_frame (Some m) Superpage none = refl
+  no_frame (Some m) (Frame n) none = absurd (none n refl)
 
-  said_case : (x : Entry) → entry_of level slot e ≡ x → Fits name x → entry_of level slot (named_anew name e x) ≡ entry_named name x
-  said_case Blank is fits = plain Blank is refl (entry_stays name Blank (λ n no. cc))
-  said_case NotPresent is fits = plain NotPresent is refl (entry_stays name NotPresent (λ n no. cc))
-  said_case Superpage is fits = plain Superpage is refl (entry_stays name Superpage (λ n no. cc))
-  said_case (Frame n) is fits = frame_named n name is (λ m has. fits n m refl has)
+  anew_case : (x : Entry) → entry_of level slot e ≡ x → Fits name x → IsAnew name level slot e (named_anew name e x)
+  anew_case (Frame n) is fits = named n name is (λ m has. fits n m refl has)
+  anew_case Blank is fits = same (no_frame name (entry_of level slot e) (λ n no. let clash : Blank ≡ Frame n = sym is ∙ no in cc))
+  anew_case NotPresent is fits = same (no_frame name (entry_of level slot e) (λ n no. let clash : NotPresent ≡ Frame n = sym is ∙ no in cc))
+  anew_case Superpage is fits = same (no_frame name (entry_of level slot e) (λ n no. let clash : Superpage ≡ Frame n = sym is ∙ no in cc))
 
-  named_small : (o : Option ℕ) → ((m : ℕ) → o ≡ Some m → m < 2 ^ 40) → e < 2 ^ 64 → with_name e o < 2 ^ 64
-  named_small None fits small = small
-  named_small (Some m) fits small = with_frame_small e m small (fits m refl)
-
-  small_case : (x : Entry) → Fits name x → e < 2 ^ 64 → named_anew name e x < 2 ^ 64
-  small_case Blank fits small = small
-  small_case NotPresent fits small = small
-  small_case Superpage fits small = small
-  small_case (Frame n) fits small = named_small name (λ m has. fits n m refl has) small
-
-  named_kept : (o : Option ℕ) → ((m : ℕ) → o ≡ Some m → m < 2 ^ 40) → Kept (with_name e o) e
-  named_kept None fits = (refl, refl)
-  named_kept (Some m) fits = (low_bits e m, high_bits e m (fits m refl))
-
-  kept_case : (x : Entry) → Fits name x → Kept (named_anew name e x) e
-  kept_case Blank fits = (refl, refl)
-  kept_case NotPresent fits = (refl, refl)
-  kept_case Superpage fits = (refl, refl)
-  kept_case (Frame n) fits = named_kept name (λ m has. fits n m refl has)
-
-module _ (names : ℕ → Option ℕ) (level slot e : ℕ) where
-  pub renamed_says : Fits (names slot) (entry_of level slot e) → entry_of level slot (renamed_entry names level slot e) ≡ entry_named (names slot) (entry_of level slot e)
+module _ (names : ℕ → Option ℕ) (level slot e : ℕ) (fits : Fits (names slot) (entry_of level slot e)) where
+  is_anew : IsAnew (names slot) level slot e (renamed_entry names level slot e)
   unfolding renamed_entry
-  renamed_says fits = said_case (names slot) level slot e (entry_of level slot e) refl fits
+  is_anew = anew_case (names slot) level slot e (entry_of level slot e) refl fits
 
-  pub renamed_small : Fits (names slot) (entry_of level slot e) → e < 2 ^ 64 → renamed_entry names level slot e < 2 ^ 64
-  unfolding renamed_entry
-  renamed_small fits small = small_case (names slot) level slot e (entry_of level slot e) fits small
+  pub renamed_says : entry_of level slot (renamed_entry names level slot e) ≡ entry_named (names slot) (entry_of level slot e)
+  renamed_says = is_anew.says
 
-  renamed_kept : Fits (names slot) (entry_of level slot e) → Kept (renamed_entry names level slot e) e
-  unfolding renamed_entry
-  renamed_kept fits = kept_case (names slot) level slot e (entry_of level slot e) fits
+  pub renamed_small : e < 2 ^ 64 → renamed_entry names level slot e < 2 ^ 64
+  renamed_small = is_anew.small
 
 -- ---- a table renamed by its slots
 
@@ -154,7 +133,7 @@ module _ (names : ℕ → Option ℕ) (level : ℕ) (page : List ℕ) (all : Are
 
   -- the bits that stay
   pub kept_at : (slot : ℕ) → slot < 512 → Kept (long_at (renamed_by names level page) slot) (long_at page slot)
-  kept_at slot lt = subst (λ n. Kept n (long_at page slot)) (sym (renamed_at slot lt)) (renamed_kept names level slot (long_at page slot) (fits_at slot lt))
+  kept_at slot lt = subst (λ n. Kept n (long_at page slot)) (sym (renamed_at slot lt)) (is_anew names level slot (long_at page slot) (fits_at slot lt)).kept
 
   pub same_kind : (slot : ℕ) → slot < 512 → (is_present (long_at (renamed_by names level page) slot) ≡ is_present (long_at page slot)) × (is_large (long_at (renamed_by names level page) slot) ≡ is_large (long_at page slot))
   same_kind slot lt = let low = (kept_at slot lt).0 in (same_present _ _ low, same_large _ _ low)

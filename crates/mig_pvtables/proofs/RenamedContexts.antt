@@ -1,6 +1,5 @@
 -- A context whose fields say other frames, and say them back.
-use Rattle.mig_pvtables.proofs.Common.{◌≡◌, ℕ, ◌+◌, ◌-◌, ◌*◌, ◌/◌, ◌%◌, ◌^◌, ◌<◌, ◌≤◌, Bool, true, false, cond, nat_le, nat_lt, ◌==◌, ◌&&◌, List, Option, Some, None, refl, sym, ap, subst, ◌∙◌, arith, eqb-true, ne_eqb, le-leb, ltb-true, gdt_ents, long_at, each_long, field_at, field_place, field_value, frame_of_field, is_used, blanked_context}
-use Rattle.std.proofs.lemmas.Bool.{leb-true}
+use Rattle.mig_pvtables.proofs.Common.{◌≡◌, ℕ, ◌+◌, ◌*◌, ◌/◌, ◌%◌, ◌^◌, ◌<◌, ◌≤◌, true, cond, List, Option, Some, refl, sym, ap, subst, ◌∙◌, arith, gdt_ents, long_at, each_long, field_at, field_value, frame_of_field, is_used, blanked_context}
 use Rattle.std.proofs.lemmas.List.Elements.{recursion_from_All}
 use Rattle.mig_bytes.specs.Bytes.{AreBytes}
 use Rattle.mig_bytes.proofs.ByteLists.{Bytes, long_below}
@@ -8,38 +7,9 @@ use Rattle.mig_guest.proofs.Longs.{same_longs}
 use Rattle.mig_pvtables.specs.Renaming.{GoesBack}
 use Rattle.mig_pvtables.specs.RenamedContexts.{renamed_value, renamed_context}
 use Rattle.mig_pvtables.specs.VcpuContexts.{blanked_value, is_used_somewhere}
-use Rattle.mig_pvtables.proofs.BlankSays.{blanked_at, at_field}
+use Rattle.mig_pvtables.proofs.BlankSays.{blanked_at, at_field, place_field}
 use Rattle.mig_pvtables.proofs.LongSteps.{long_of_each, each_twice}
 use Rattle.mig_pvtables.proofs.RenamedFields.{IsBlankField, PlaceGoesBack, value_small, value_back_small, value_back}
-
--- ---- the places of fields
-
-some_is : (x y : ℕ) → Some x ≡ Some y → x ≡ y
-some_is x y e = cc
-
--- where a field stands, the place is its place
-pub place_field : (i field : ℕ) → field_at i ≡ Some field → (field ≤ 18) × (field_place field ≡ i)
-place_field i field = by_case (i == 77) (nat_le 604 i) (nat_lt i 620) (i == 626) (i == 624) refl refl refl refl refl
-  where
-    Stands : ℕ → Type 0
-    Stands f = (f ≤ 18) × (field_place f ≡ i)
-
-    of_gdt : (field : ℕ) → 0 < field → field ≤ 16 → field_place field ≡ 603 + field
-    of_gdt field some most = (λ j. cond (ne_eqb field 0 (λ e. omega (arith, e, some)) j) 77 (cond (le-leb field 16 most j) (603 + field) (cond (field == 17) 626 624)))
-
-    roots : (d e : Bool) → (i == 626) ≡ d → (i == 624) ≡ e → cond d (Some 17) (cond e (Some 18) None) ≡ Some field → Stands field
-    roots true e id ie is = subst Stands (some_is 17 field is) (omega arith, sym (eqb-true i 626 id))
-    roots false true id ie is = subst Stands (some_is 18 field is) (omega arith, sym (eqb-true i 624 ie))
-    roots false false id ie is = cc
-
-    by_case : (a b c d e : Bool) → (i == 77) ≡ a → nat_le 604 i ≡ b → nat_lt i 620 ≡ c → (i == 626) ≡ d → (i == 624) ≡ e
-        → cond a (Some 0) (cond (b && c) (Some (i - 603)) (cond d (Some 17) (cond e (Some 18) None))) ≡ Some field → Stands field
-    by_case true b c d e ia ib ic id ie is = subst Stands (some_is 0 field is) (omega arith, sym (eqb-true i 77 ia))
-    by_case false true true d e ia ib ic id ie is =
-        let low = leb-true 604 i ib in let high = ltb-true i 620 ic in
-        subst Stands (some_is (i - 603) field is) (omega (arith, high), of_gdt (i - 603) (omega (arith, low)) (omega (arith, high)) ∙ omega (arith, low))
-    by_case false true false d e ia ib ic id ie is = roots d e id ie is
-    by_case false false c d e ia ib ic id ie is = roots d e id ie is
 
 -- ---- a whole context
 
@@ -79,10 +49,10 @@ module _ (f back : ℕ → Option ℕ) (id : ℕ) (context : List ℕ) (bytes : 
       ap (λ n. blanked_context (each_long 646 (renamed_value is_used_somewhere back id n) there)) same_ents
       ∙ ap blanked_context (each_twice 646 (renamed_value is_used f id ents) context there_small (renamed_value is_used_somewhere back id ents))
       ∙ each_twice 646 (λ i v. renamed_value is_used_somewhere back id ents i (renamed_value is_used f id ents i v)) context back_small blanked_value
-      ∙ same_longs 646 _ _ (λ i lt. value_back f back id ents i (long_at context i) (goes i lt) (blank i lt))
+      ∙ same_longs 646 _ _ (λ i lt. value_back f back id ents i (long_at context i) (goes i lt) (long_below (8 * i) context bytes) (blank i lt))
     where
       back_small : (i : ℕ) → i < 646 → renamed_value is_used_somewhere back id ents i (renamed_value is_used f id ents i (long_at context i)) < 2 ^ 64
-      back_small i lt = value_back_small f back id ents i (long_at context i) (goes i lt) (blank i lt) (long_below (8 * i) context bytes)
+      back_small i lt = value_back_small f back id ents i (long_at context i) (goes i lt) (long_below (8 * i) context bytes) (blank i lt)
 
 -- where each frame that a vCPU uses goes back, the frames at its places do
 pub fields_go : (f back : ℕ → Option ℕ) (id : ℕ) (context : List ℕ)

@@ -115,18 +115,24 @@ module _ (f back : ℕ → Option ℕ) (id ents : ℕ) where
         by_case false true = omega (arith, fits)
         by_case false false = omega (arith, fits)
 
-    -- what is asked of a field: its frame goes back, and ctrlreg[1] is 0 where it isn't used
-    back_case : (b : Bool) → is_used id ents field v ≡ b → FieldGoesBack field v → IsBlankField field v → value_blanked (Some field) (then_back (Some field) (first (Some field) v)) ≡ value_blanked (Some field) v
-    back_case true is goes blank = ap (value_blanked (Some field)) (again_used is goes) ∙ blanked_used id ents field v is
-    back_case false is goes blank = ap (value_blanked (Some field)) (again_unused is blank)
+  -- a number whose frame goes back is one of 8 bytes once it is renamed, and once it is renamed back, where ctrlreg[1] is 0
+  -- where it isn't used; then it has the blank form that it had
+  record IsBack (o : Option ℕ) (v : ℕ) : Type 0 where
+    size : then_back o (first o v) < 2 ^ 64
+    blank : value_blanked o (then_back o (first o v)) ≡ value_blanked o v
 
-    back_small_case : (b : Bool) → is_used id ents field v ≡ b → FieldGoesBack field v → IsBlankField field v → v < 2 ^ 64 → then_back (Some field) (first (Some field) v) < 2 ^ 64
-    back_small_case true is goes blank fits = subst (λ w. w < 2 ^ 64) (sym (again_used is goes)) (again_small fits)
-    back_small_case false is goes blank fits = subst (λ w. w < 2 ^ 64) (sym (again_unused is blank)) fits
+  module _ (field v : ℕ) (goes : FieldGoesBack field v) (fits : v < 2 ^ 64) where
+    small_case : (b : Bool) → is_used id ents field v ≡ b → first (Some field) v < 2 ^ 64
+    small_case true is = let g = goes is in subst (λ w. w < 2 ^ 64) (sym (used field v g.name is g.there)) (field_small field g.name g.small)
+    small_case false is = subst (λ w. w < 2 ^ 64) (sym (unused field v is)) fits
 
-    small_case : (b : Bool) → is_used id ents field v ≡ b → FieldGoesBack field v → v < 2 ^ 64 → first (Some field) v < 2 ^ 64
-    small_case true is goes fits = let g = goes is in subst (λ w. w < 2 ^ 64) (sym (used g.name is g.there)) (field_small field g.name g.small)
-    small_case false is goes fits = subst (λ w. w < 2 ^ 64) (sym (unused is)) fits
+    back_case : (b : Bool) → is_used id ents field v ≡ b → IsBlankField field v → IsBack (Some field) v
+    back_case true is blank =
+        let again = again_used field v is goes in
+        record { size = subst (λ w. w < 2 ^ 64) (sym again) (again_small field v fits); blank = ap (value_blanked (Some field)) again ∙ blanked_used id ents field v is }
+    back_case false is blank =
+        let again = again_unused field v is blank in
+        record { size = subst (λ w. w < 2 ^ 64) (sym again) fits; blank = ap (value_blanked (Some field)) again }
 
   -- what is asked of the number at a place, where a field stands there
   abbrev pub PlaceGoesBack : Option ℕ → ℕ → Type 0
@@ -137,24 +143,21 @@ module _ (f back : ℕ → Option ℕ) (id ents : ℕ) where
 
   place_small : (o : Option ℕ) (v : ℕ) → PlaceGoesBack o v → v < 2 ^ 64 → first o v < 2 ^ 64
   place_small None v goes fits = fits
-  place_small (Some field) v goes fits = small_case field v (is_used id ents field v) refl (goes field refl) fits
+  place_small (Some field) v goes fits = small_case field v (goes field refl) fits (is_used id ents field v) refl
 
-  place_back : (o : Option ℕ) (v : ℕ) → PlaceGoesBack o v → IsBlankPlace o v → value_blanked o (then_back o (first o v)) ≡ value_blanked o v
-  place_back None v goes blank = refl
-  place_back (Some field) v goes blank = back_case field v (is_used id ents field v) refl (goes field refl) (blank field refl)
+  place_back : (o : Option ℕ) (v : ℕ) → PlaceGoesBack o v → IsBlankPlace o v → v < 2 ^ 64 → IsBack o v
+  place_back None v goes blank fits = record { size = fits; blank = refl }
+  place_back (Some field) v goes blank fits = back_case field v (goes field refl) fits (is_used id ents field v) refl (blank field refl)
 
-  place_back_small : (o : Option ℕ) (v : ℕ) → PlaceGoesBack o v → IsBlankPlace o v → v < 2 ^ 64 → then_back o (first o v) < 2 ^ 64
-  place_back_small None v goes blank fits = fits
-  place_back_small (Some field) v goes blank fits = back_small_case field v (is_used id ents field v) refl (goes field refl) (blank field refl) fits
+  module _ (i v : ℕ) (goes : PlaceGoesBack (field_at i) v) (fits : v < 2 ^ 64) where
+    pub value_small : renamed_value is_used f id ents i v < 2 ^ 64
+    unfolding renamed_value
+    value_small = place_small (field_at i) v goes fits
 
-  pub value_small : (i v : ℕ) → PlaceGoesBack (field_at i) v → v < 2 ^ 64 → renamed_value is_used f id ents i v < 2 ^ 64
-  unfolding renamed_value
-  value_small i v goes fits = place_small (field_at i) v goes fits
+    pub value_back_small : IsBlankPlace (field_at i) v → renamed_value is_used_somewhere back id ents i (renamed_value is_used f id ents i v) < 2 ^ 64
+    unfolding renamed_value
+    value_back_small blank = (place_back (field_at i) v goes blank fits).size
 
-  pub value_back_small : (i v : ℕ) → PlaceGoesBack (field_at i) v → IsBlankPlace (field_at i) v → v < 2 ^ 64 → renamed_value is_used_somewhere back id ents i (renamed_value is_used f id ents i v) < 2 ^ 64
-  unfolding renamed_value
-  value_back_small i v goes blank fits = place_back_small (field_at i) v goes blank fits
-
-  pub value_back : (i v : ℕ) → PlaceGoesBack (field_at i) v → IsBlankPlace (field_at i) v → blanked_value i (renamed_value is_used_somewhere back id ents i (renamed_value is_used f id ents i v)) ≡ blanked_value i v
-  unfolding renamed_value blanked_value
-  value_back i v goes blank = place_back (field_at i) v goes blank
+    pub value_back : IsBlankPlace (field_at i) v → blanked_value i (renamed_value is_used_somewhere back id ents i (renamed_value is_used f id ents i v)) ≡ blanked_value i v
+    unfolding renamed_value blanked_value
+    value_back blank = (place_back (field_at i) v goes blank fits).blank

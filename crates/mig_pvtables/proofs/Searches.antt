@@ -1,5 +1,5 @@
 -- Searches in ranges, among entries and along rows of causes: when nothing is found.
-use Rattle.mig_pvtables.proofs.Common.{◌≡◌, ℕ, ◌<◌, ◌≤◌, Bool, true, false, cond, List, [], ◌∷◌, get_or, nat_lt, Option, Some, None, is_none, is_some, IsSome, refl, sym, ap, ◌∙◌, arith, ◌↔◌, find, ⊤, ◌||◌, All, range_with_len, list_any, option_map, option_or, eq_by_cmp, Ordering, IsTotalOrder, FinMap, IsAntisymmetric, get-entries, entries_sorted, false_from_ne_true, ltb-false, le-ltb, TooManyFrames, most_frames, all_found, tied, first_some, first_of}
+use Rattle.mig_pvtables.proofs.Common.{◌≡◌, ℕ, ◌+◌, ◌<◌, ◌≤◌, Bool, true, false, cond, List, [], ◌∷◌, get_or, nat_lt, Option, Some, None, is_none, is_some, IsSome, refl, sym, ap, ◌∙◌, inl, inr, arith, cases_eq, or_from, or_parts, ◌↔◌, find, ⊤, ◌||◌, All, range_with_len, list_any, option_map, option_or, eq_by_cmp, Ordering, IsTotalOrder, FinMap, IsAntisymmetric, get-entries, entries_sorted, false_from_ne_true, ltb-false, le-ltb, TooManyFrames, most_frames, all_found, tied, first_some, first_cause}
 use Rattle.std.specs.FinMap as maps
 use Rattle.std.proofs.lemmas.List.Elements.{All-head, All-tail}
 use Rattle.std.proofs.lemmas.List.Folds.{list_any_at}
@@ -10,6 +10,10 @@ use Rattle.mig_headers.proofs.FirstFaults.{both_none}
 pub none_of : {X : Type 0} (o : Option X) → is_some o ≡ false → o ≡ None
 none_of None is = refl
 none_of (Some x) is = let no : true ≡ false = is in cc
+
+pub cond_none : {A : Type 0} (b : Bool) (x : A) → cond b (Some x) None ≡ None → b ≡ false
+cond_none true x is = let no : Some x ≡ None = is in cc
+cond_none false x is = refl
 
 -- ---- in a range
 
@@ -31,6 +35,26 @@ module _ (p : ℕ → Bool) where
     λ none. (any_in_range n).0 (sym (find_any (range_with_len 0 n)) ∙ ap is_some none),
     λ fails. none_of (find p (range_with_len 0 n)) (find_any (range_with_len 0 n) ∙ (any_in_range n).1 fails),
   )
+
+-- two tests that fail alike
+pub alike_false : (a b : Bool) → (a ≡ false → b ≡ false) → (b ≡ false → a ≡ false) → a ≡ b
+alike_false true true go back = refl
+alike_false true false go back = back refl
+alike_false false b go back = sym (go refl)
+
+-- a range that is longer by one
+pub any_more : (p : ℕ → Bool) (k : ℕ) → list_any p (range_with_len 0 (k + 1)) ≡ (list_any p (range_with_len 0 k) || p k)
+any_more p k = alike_false _ _
+    (λ none. or_from _ _ ((any_in_range p k).1 (λ j lt. (any_in_range p (k + 1)).0 none j (omega (arith, lt)))) ((any_in_range p (k + 1)).0 none k (omega arith)))
+    (λ none. let both = or_parts _ _ none in (any_in_range p (k + 1)).1 (λ j lt. elim (cases_eq j k) [
+      | inl e ↦ ap p e ∙ both.1
+      | inr ne ↦ (any_in_range p k).0 both.0 j (omega (arith, lt, ne))
+    ]))
+
+-- an option given anew, whatever it was before
+pub overwritten : {A B C : Type 0} (f : A → B) (c : C) (o : Option A) → option_map (λ _. c) (option_map f o) ≡ option_map (λ _. c) o
+overwritten f c None = refl
+overwritten f c (Some a) = refl
 
 -- ---- among the entries of a map
 
@@ -61,11 +85,11 @@ abbrev pub AllNone : {C : Type 0} → List (Option C) → Type 0
 AllNone [] = ⊤
 AllNone (row ∷ rows) = (row ≡ None) × AllNone rows
 
-pub all_none : {C : Type 0} (rows : List (Option C)) → (first_of rows ≡ None) ↔ AllNone rows
+pub all_none : {C : Type 0} (rows : List (Option C)) → (first_cause rows ≡ None) ↔ AllNone rows
 all_none [] = (λ _. tt, λ _. refl)
 all_none (row ∷ rows) = (
-  λ is. let both = both_none row (first_of rows) is in (both.0, (all_none rows).0 both.1),
-  λ all. ap (λ o. option_or o (first_of rows)) all.0 ∙ (all_none rows).1 all.1,
+  λ is. let both = both_none row (first_cause rows) is in (both.0, (all_none rows).0 both.1),
+  λ all. ap (λ o. option_or o (first_cause rows)) all.0 ∙ (all_none rows).1 all.1,
 )
 
 pub none_mapped : {A C : Type 0} (f : A → C) (o : Option A) → (option_map f o ≡ None) ↔ (o ≡ None)
@@ -87,12 +111,12 @@ are_few n = (
   λ few. ap (λ b. cond b (Some TooManyFrames) None) (le-ltb most_frames n few),
 )
 
-three_rows : {C : Type 0} (a b c : Option C) → option_or (option_or a b) c ≡ first_of (a ∷ b ∷ c ∷ [])
+three_rows : {C : Type 0} (a b c : Option C) → option_or (option_or a b) c ≡ first_cause (a ∷ b ∷ c ∷ [])
 three_rows (Some x) b c = refl
 three_rows None (Some x) c = refl
 three_rows None None (Some x) = refl
 three_rows None None None = refl
 
 -- the first of three causes, tried one after another
-pub first_of_three : {C : Type 0} (a b c x y z either r : Option C) → x ≡ a → y ≡ b → z ≡ c → either ≡ option_or x y → r ≡ option_or either z → r ≡ first_of (a ∷ b ∷ c ∷ [])
-first_of_three a b c x y z either r e f g h is = is ∙ (rw (h, e, f, g) (three_rows a b c))
+pub first_of_three : {C : Type 0} {a b c x y z either r : Option C} → x ≡ a → y ≡ b → z ≡ c → either ≡ option_or x y → r ≡ option_or either z → r ≡ first_cause (a ∷ b ∷ c ∷ [])
+first_of_three {a = a} {b = b} {c = c} e f g h is = is ∙ (rw (h, e, f, g) (three_rows a b c))

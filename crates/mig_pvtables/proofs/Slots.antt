@@ -20,9 +20,9 @@ module _ (p : ℕ → Bool) where
     | false ↦ λ t at. let (lt, passes) = found_in_range (a + 1) n k at in (omega (arith, lt), passes)
   ] refl is
 
-  pub first_slot : (k : ℕ) → k < 512 → p k ≡ true → ((j : ℕ) → j < k → p j ≡ false) → find p slots ≡ Some k
+  pub first_slot : (k : ℕ) → k < 512 → p k ≡ true → ((j : ℕ) → j < k → p j ≡ false) → Some k ≡ find p slots
   unfolding slots
-  first_slot k lt here before = first_in_range 0 512 k (omega arith) (omega (arith, lt)) here (λ j _ under. before j under)
+  first_slot k lt here before = sym (first_in_range 0 512 k (omega arith) (omega (arith, lt)) here (λ j _ under. before j under))
 
   pub no_slot : (find p slots ≡ None) ↔ ((k : ℕ) → k < 512 → p k ≡ false)
   unfolding slots

@@ -1,5 +1,5 @@
 -- A whole, blank guest that is localised can be seen.
-use Rattle.mig_pvtables.proofs.Common.{◌≡◌, ℕ, ◌<◌, ◌≤◌, Bool, true, false, List, Option, Some, None, is_some, IsSome, refl, sym, ap, subst, ◌∙◌, arith, option_and_then, nat_cmp_total, nat_cmp-IsAntisymmetric, Pv, Hvm, PageType, level_of, PartKey, Entry, Blank, NotPresent, Superpage, Frame, FrameOf, FrameMap, GuestOf, PartMap, IsPart, width_of, p2m_key, context_key, gdt_ents, entry, EachEntry, IsWithin, is_type_of, part_total, part_exact, blank, blank_of, IsOfBytes, type_at, fits_field, field_at, field_place, field_value, frame_of_field, is_used, listed, listed_in, IsWhole}
+use Rattle.mig_pvtables.proofs.Common.{◌≡◌, ℕ, ◌<◌, ◌≤◌, Bool, true, false, List, Option, Some, None, is_some, IsSome, refl, sym, ap, subst, ◌∙◌, arith, option_and_then, nat_cmp_total, nat_cmp-IsAntisymmetric, Pv, Hvm, PageType, level_of, PartKey, Entry, Blank, NotPresent, Superpage, Frame, FrameOf, FrameMap, GuestOf, PartMap, IsPart, width_of, p2m_key, context_key, place_of, gdt_ents, entry, EachEntry, IsWithin, is_type_of, part_total, part_exact, blank, blank_of, IsOfBytes, type_at, fits_field, field_at, field_place, field_value, frame_of_field, is_used, listed, listed_in, IsWhole}
 use Rattle.std.specs.FinMap as maps
 use Rattle.std.proofs.lemmas.List.Elements.{recursion_from_All}
 use Rattle.mig_bytes.specs.Bytes.{AreBytes}
@@ -8,7 +8,7 @@ use Rattle.mig_guest.specs.declared.part_code.PartCode.{PartCode}
 use Rattle.mig_guest.specs.declared.part_code.PartCode.TheVariants.{P2mFrames, VcpuBasic, HvmContext}
 use Rattle.mig_guest.specs.PartCodes.{row_of, code_number}
 use Rattle.mig_guest.proofs.PartRows.{one_code, of_part, no_entries}
-use Rattle.mig_pvtables.specs.Localised.{renamed_part, renamed_page, localised_page, localised_frame, localised_of, localised}
+use Rattle.mig_pvtables.specs.Localised.{renamed_part, localised_page, localised_frame, localised_of, localised}
 use Rattle.mig_pvtables.specs.Renaming.{name_for, renamed_table, entry_named, NamesFit, GoesBack}
 use Rattle.mig_pvtables.specs.RenamedContexts.{value_renamed, renamed_value, renamed_context}
 use Rattle.mig_pvtables.specs.Sound.{needed_keys, AreThere, NamesKnown, machine_type, CanBeSeen}
@@ -19,7 +19,8 @@ use Rattle.mig_pvtables.proofs.BlankShape.{table_unlisted}
 use Rattle.mig_pvtables.proofs.EachValue.{from_each}
 use Rattle.mig_pvtables.proofs.GuestsBack.{table_goes, context_goes, blank_context}
 use Rattle.mig_pvtables.proofs.HvmGuests.{hvm_complete}
-use Rattle.mig_pvtables.proofs.LocalisedGuests.{localised_type, renamed_there, renamed_listed, from_context, kept_p2m}
+use Rattle.mig_pvtables.proofs.LocalisedGuests.{localised_type, renamed_there, renamed_listed, from_context}
+use Rattle.mig_pvtables.proofs.SameShape.{entries_changed, kept_p2m}
 use Rattle.mig_pvtables.proofs.PvGuests.{pv_complete}
 use Rattle.mig_pvtables.proofs.Renamed.{EntryGoesBack, TableGoesBack, fits_back, said_anew}
 use Rattle.mig_pvtables.proofs.RenamedContexts.{there_at, same_ents}
@@ -35,10 +36,10 @@ module _ (f back : ℕ → Option ℕ) where
   named_anew_is (Frame n) top goes within = let g = goes n refl in subst (λ o. NamesKnown back (entry_named o (Frame n))) (sym g.there) (ap is_some g.again)
 
   -- each entry of a renamed table that names a frame goes back
-  table_named : (level : ℕ) (page : List ℕ) (top : ℕ) → AreBytes page → TableGoesBack f back level page → ((slot : ℕ) → slot < 512 → IsWithin top (entry level page slot)) → (slot : ℕ) → slot < 512 → NamesKnown back (entry level (renamed_table f level page) slot)
-  table_named level page top all goes within slot lt =
+  table_named : (level : ℕ) (page : List ℕ) (top : ℕ) → AreBytes page → TableGoesBack f back level page → (slot : ℕ) → slot < 512 → IsWithin top (entry level page slot) → NamesKnown back (entry level (renamed_table f level page) slot)
+  table_named level page top all goes slot lt within =
       let fit : NamesFit (λ slot. name_for f (entry level page slot)) level page = λ slot n m lt is has. fits_back f back (entry level page slot) (λ n is. goes slot n lt is) n m is has in
-      subst (NamesKnown back) (sym (said_anew (λ slot. name_for f (entry level page slot)) level page all fit slot lt)) (named_anew_is (entry level page slot) top (λ n is. goes slot n lt is) (within slot lt))
+      subst (NamesKnown back) (sym (said_anew (λ slot. name_for f (entry level page slot)) level page all fit slot lt)) (named_anew_is (entry level page slot) top (λ n is. goes slot n lt is) within)
 
 -- ---- fields
 
@@ -78,17 +79,11 @@ module _ (g : GuestOf) (pv : g.kind ≡ Pv) (whole : IsWhole g) (bytes : IsOfByt
   abbrev parts_there : PartMap
   parts_there = (localised_of Pv f g).parts
 
-  page_named : (pfn : ℕ) (x : FrameOf) → maps.get g.frames pfn ≡ Some x → (level : ℕ) → level_of x.type ≡ Some level → (o : Option (List ℕ)) → x.page ≡ o
-      → (p : List ℕ) → renamed_page f (Some level) o ≡ Some p → (slot : ℕ) → slot < 512 → NamesKnown back (entry level p slot)
-  page_named pfn x found level lev None has p is slot lt = cc
-  page_named pfn x found level lev (Some q) has p is slot lt =
-      let same : renamed_table f level q ≡ p = cc in let (all, size, back_there) = table_goes g whole complete bytes f back goes pfn x found level q lev has in
-      subst (λ r. NamesKnown back (entry level r slot)) same (table_named f back level q g.top all back_there ((whole.formed.frames pfn x found).entries level q lev has) slot lt)
-
   frame_named : (pfn : ℕ) (x : FrameOf) → maps.get g.frames pfn ≡ Some x → EachEntry (NamesKnown back) (localised_frame g.parts f pfn x)
-  frame_named pfn x found level p lev has slot lt =
-      let unlisted = table_unlisted g.frames g.parts complete.p2m pfn x found level lev in
-      page_named pfn x found level lev x.page refl p ((λ i. localised_page (sym unlisted i) f (sym lev i) x.page) ∙ has) slot lt
+  frame_named pfn x found = entries_changed (IsWithin g.top) (NamesKnown back) (renamed_table f) x (localised_page (place_of g.parts pfn) f (level_of x.type) x.page)
+      (λ level lev i. localised_page (table_unlisted g.frames g.parts complete.p2m pfn x found level lev i) f (lev i) x.page)
+      (λ level p lev has slot lt. let (all, size, back_there) = table_goes g whole complete bytes f back goes pfn x found level p lev has in table_named f back level p g.top all back_there slot lt)
+      (whole.formed.frames pfn x found).entries
 
   entries_there : (pfn : ℕ) (y : FrameOf) → maps.get frames_there pfn ≡ Some y → EachEntry (NamesKnown back) y
   entries_there pfn y is =

@@ -1,5 +1,5 @@
 -- The rows of unsoundness find nothing exactly where a host can be seen.
-use Rattle.mig_pvtables.proofs.Common.{◌≡◌, ℕ, ◌≤◌, Bool, true, false, cond, List, [], ◌∷◌, Option, Some, None, refl, sym, ap, ◌∙◌, ◌↔◌, ◌==◌, ◌&&◌, nat_lt, option_and_then, option_or, eqb-true, eq-eqb, ltb-false, le-ltb, PartKey, Entry, Blank, NotPresent, Superpage, Frame, gdt_ents, FrameOf, FrameMap, GuestOf, PartMap, context_key, entry, EachEntry, part_total, part_exact, first_of, first_some, find_entry, find_p2m, fits_field, is_superpage, field_value, frame_of_field}
+use Rattle.mig_pvtables.proofs.Common.{◌≡◌, ℕ, ◌≤◌, Bool, true, false, cond, List, [], ◌∷◌, Option, Some, None, refl, sym, ap, ◌∙◌, ◌↔◌, ◌==◌, ◌&&◌, nat_lt, option_and_then, option_or, eqb-true, eq-eqb, ltb-false, le-ltb, PartKey, Entry, Blank, NotPresent, Superpage, Frame, gdt_ents, FrameOf, FrameMap, GuestOf, PartMap, context_key, entry, EachEntry, part_total, part_exact, first_cause, first_some, find_entry, find_p2m, is_superpage}
 use Rattle.std.specs.FinMap as maps
 use Rattle.std.specs.Prelude.{Result, Ok, Err}
 use Rattle.mig_headers.proofs.FirstFaults.{both_none}
@@ -9,10 +9,10 @@ use Rattle.mig_headers.specs.declared.unsound.Unsound.TheVariants.{Missing}
 use Rattle.mig_guest.specs.Hosts.{HostOf}
 use Rattle.mig_pvtables.specs.BadEntries.{is_unknown}
 use Rattle.mig_pvtables.specs.Faults.{find_in_contexts}
-use Rattle.mig_pvtables.specs.Sound.{needed_keys, AreThere, NamesKnown, machine_type, FieldsName, CanBeSeen, IsSound, absent, misnames, find_gdt, fault_in, unsound_rows, unsoundness}
+use Rattle.mig_pvtables.specs.Sound.{needed_keys, AreThere, NamesKnown, machine_type, CanBeSeen, IsSound, absent, misnames, find_gdt, fault_in, unsound_rows, unsoundness}
 use Rattle.mig_pvtables.specs.VcpuContexts.{is_used_somewhere}
 use Rattle.mig_pvtables.specs.View.{pfn_in, guest_in}
-use Rattle.mig_pvtables.proofs.PvGuests.{some_is, no_entry, not_both, none_in_contexts, no_p2m}
+use Rattle.mig_pvtables.proofs.PvGuests.{some_is, no_entry, none_misses, no_p2m}
 use Rattle.mig_pvtables.proofs.Searches.{first_found, all_none, none_mapped, is_there}
 
 -- ---- parts
@@ -37,25 +37,14 @@ module _ (pfn_of : ℕ → Option ℕ) where
   abbrev AreNamed : FrameMap → Type 0
   AreNamed frames = (pfn : ℕ) (frame : FrameOf) → maps.get frames pfn ≡ Some frame → EachEntry (NamesKnown pfn_of) frame
 
-  are_named : (frames : FrameMap) → find_entry is_superpage frames ≡ None → find_entry (is_unknown pfn_of) frames ≡ None → AreNamed frames
-  are_named frames one two pfn x is l p lev has slot lt =
-      (named (entry l p slot)).0 ((no_entry is_superpage frames).0 one pfn x is l p lev has slot lt, (no_entry (is_unknown pfn_of) frames).0 two pfn x is l p lev has slot lt)
-
-  none_large : (frames : FrameMap) → AreNamed frames → find_entry is_superpage frames ≡ None
-  none_large frames all = (no_entry is_superpage frames).1 (λ pfn x is l p lev has slot lt. ((named (entry l p slot)).1 (all pfn x is l p lev has slot lt)).0)
-
-  none_unknown : (frames : FrameMap) → AreNamed frames → find_entry (is_unknown pfn_of) frames ≡ None
-  none_unknown frames all = (no_entry (is_unknown pfn_of) frames).1 (λ pfn x is l p lev has slot lt. ((named (entry l p slot)).1 (all pfn x is l p lev has slot lt)).1)
-
-  -- ---- fields of contexts
-
-  no_misname : (frames : FrameMap) (parts : PartMap) → (find_in_contexts (misnames frames pfn_of) parts ≡ None) ↔ FieldsName frames pfn_of parts
-  no_misname frames parts =
-      let search = none_in_contexts (misnames frames pfn_of) parts in
-      let fits = λ (key : PartKey) (context : List ℕ) (field : ℕ).
-      not_both (is_used_somewhere key.key1 (gdt_ents context) field (field_value context field)) (fits_field field (machine_type frames pfn_of (frame_of_field field (field_value context field)))) in (
-        (λ none key context is code field most. (fits key context field).0 (search.0 none key context is code field most)),
-        (λ fit. search.1 (λ key context is code field most. (fits key context field).1 (fit key context is code field most))),
+  are_named : (frames : FrameMap) → ((find_entry is_superpage frames ≡ None) × (find_entry (is_unknown pfn_of) frames ≡ None)) ↔ AreNamed frames
+  are_named frames =
+      let large = no_entry is_superpage frames in let unknown = no_entry (is_unknown pfn_of) frames in (
+        (λ none pfn x is l p lev has slot lt. (named (entry l p slot)).0 (large.0 none.0 pfn x is l p lev has slot lt, unknown.0 none.1 pfn x is l p lev has slot lt)),
+        (λ all. (
+          large.1 (λ pfn x is l p lev has slot lt. ((named (entry l p slot)).1 (all pfn x is l p lev has slot lt)).0),
+          unknown.1 (λ pfn x is l p lev has slot lt. ((named (entry l p slot)).1 (all pfn x is l p lev has slot lt)).1),
+        )),
       )
 
 -- ---- descriptors
@@ -92,26 +81,26 @@ context_ends (Some b) = (
 -- ---- all rows
 
 module _ (g : GuestOf) (pfn_of : ℕ → Option ℕ) where
-  can_be_seen : first_of (unsound_rows g.kind g.frames g.parts pfn_of) ≡ None → CanBeSeen g pfn_of
+  can_be_seen : first_cause (unsound_rows g.kind g.frames g.parts pfn_of) ≡ None → CanBeSeen g pfn_of
   can_be_seen none =
       let (a, (b, (c, (d, (e, (f, (h, _))))))) = (all_none (unsound_rows g.kind g.frames g.parts pfn_of)).0 none in
       record {
         parts = (are_there g.parts (needed_keys g.kind)).0 a;
         p2m = (no_p2m g.frames g.parts).0 ((none_mapped _ (find_p2m g.frames g.parts)).0 b);
-        entries = are_named pfn_of g.frames ((none_mapped _ (find_entry is_superpage g.frames)).0 c) ((none_mapped _ (find_entry (is_unknown pfn_of) g.frames)).0 d);
+        entries = (are_named pfn_of g.frames).0 ((none_mapped _ (find_entry is_superpage g.frames)).0 c, (none_mapped _ (find_entry (is_unknown pfn_of) g.frames)).0 d);
         gdt = (no_gdt g.parts).0 ((none_mapped _ (find_gdt g.parts)).0 e);
-        fields = (no_misname pfn_of g.frames g.parts).0 ((none_mapped _ (find_in_contexts (misnames g.frames pfn_of) g.parts)).0 f);
+        fields = (none_misses is_used_somewhere (machine_type g.frames pfn_of) g.parts).0 ((none_mapped _ (find_in_contexts (misnames g.frames pfn_of) g.parts)).0 f);
         context = (context_ends (maps.get g.parts context_key)).0 ((none_mapped _ (option_and_then (λ bytes. fault_in (scan bytes)) (maps.get g.parts context_key))).0 h);
       }
 
-  nothing_found : CanBeSeen g pfn_of → first_of (unsound_rows g.kind g.frames g.parts pfn_of) ≡ None
+  nothing_found : CanBeSeen g pfn_of → first_cause (unsound_rows g.kind g.frames g.parts pfn_of) ≡ None
   nothing_found can =
       let a = (are_there g.parts (needed_keys g.kind)).1 can.parts in
       let b = (none_mapped _ (find_p2m g.frames g.parts)).1 ((no_p2m g.frames g.parts).1 can.p2m) in
-      let c = (none_mapped _ (find_entry is_superpage g.frames)).1 (none_large pfn_of g.frames can.entries) in
-      let d = (none_mapped _ (find_entry (is_unknown pfn_of) g.frames)).1 (none_unknown pfn_of g.frames can.entries) in
+      let c = (none_mapped _ (find_entry is_superpage g.frames)).1 ((are_named pfn_of g.frames).1 can.entries).0 in
+      let d = (none_mapped _ (find_entry (is_unknown pfn_of) g.frames)).1 ((are_named pfn_of g.frames).1 can.entries).1 in
       let e = (none_mapped _ (find_gdt g.parts)).1 ((no_gdt g.parts).1 can.gdt) in
-      let f = (none_mapped _ (find_in_contexts (misnames g.frames pfn_of) g.parts)).1 ((no_misname pfn_of g.frames g.parts).1 can.fields) in
+      let f = (none_mapped _ (find_in_contexts (misnames g.frames pfn_of) g.parts)).1 ((none_misses is_used_somewhere (machine_type g.frames pfn_of) g.parts).1 can.fields) in
       let h = (none_mapped _ (option_and_then (λ bytes. fault_in (scan bytes)) (maps.get g.parts context_key))).1 ((context_ends (maps.get g.parts context_key)).1 can.context) in
       (all_none (unsound_rows g.kind g.frames g.parts pfn_of)).1 (a, (b, (c, (d, (e, (f, (h, tt)))))))
 

@@ -1,8 +1,7 @@
 -- What a valid and sound PV host is seen as is a whole guest.
-use Rattle.mig_pvtables.proofs.Common.{◌≡◌, ℕ, ◌+◌, ◌<◌, ◌≤◌, true, List, Option, Some, None, IsSome, refl, sym, ap, subst, ◌∙◌, arith, ◌==◌, nat_cmp_total, nat_cmp-IsAntisymmetric, Pv, level_of, PartKey, Entry, Blank, NotPresent, Frame, FrameOf, GuestOf, IsFormed, IsGuestFrame, IsPart, width_of, gdt_ents, p2m_key, shared_key, vcpu_key, EachEntry, IsWithin, entry, part_total, part_exact, blank, blank_of, type_at, fits_field, field_value, frame_of_field, is_used, IsWhole}
+use Rattle.mig_pvtables.proofs.Common.{◌≡◌, ℕ, ◌+◌, ◌<◌, ◌≤◌, true, List, Option, Some, None, IsSome, refl, sym, ap, subst, ◌∙◌, arith, ◌==◌, nat_cmp_total, nat_cmp-IsAntisymmetric, Pv, level_of, PartKey, Entry, Blank, NotPresent, Frame, FrameOf, GuestOf, IsFormed, IsGuestFrame, IsPart, width_of, gdt_ents, p2m_key, shared_key, vcpu_key, EachEntry, IsWithin, part_total, part_exact, blank, blank_of, type_at, fits_field, field_value, frame_of_field, is_used, IsWhole}
 use Rattle.std.specs.FinMap as maps
 use Rattle.mig_headers.specs.declared.kind.Kind.{Kind}
-use Rattle.mig_guest.specs.Frames.{IsFrame}
 use Rattle.mig_guest.specs.Hosts.{HostOf, IsHostPart, IsValid}
 use Rattle.mig_guest.specs.Parts.{FitsPolicy}
 use Rattle.mig_pvtables.specs.Localised.{renamed_page, renamed_frame, renamed_part, renamed}
@@ -15,8 +14,9 @@ use Rattle.mig_pvtables.specs.View.{pfn_in, top_of, guest_in, view}
 use Rattle.mig_pvtables.specs.WholePv.{IsCompletePv}
 use Rattle.mig_pvtables.proofs.BlankWhole.{whole_blank}
 use Rattle.mig_pvtables.proofs.EachValue.{from_each, some_each, len_each, count_each}
-use Rattle.mig_pvtables.proofs.LocalisedGuests.{page_there, page_size, types_kept, renamed_there, renamed_listed, from_context, kept_p2m}
+use Rattle.mig_pvtables.proofs.LocalisedGuests.{localised_is_frame, renamed_there, renamed_listed, from_context}
 use Rattle.mig_pvtables.proofs.PvGuests.{pv_whole}
+use Rattle.mig_pvtables.proofs.SameShape.{types_kept, entries_changed, kept_p2m}
 use Rattle.mig_pvtables.proofs.ViewedParts.{pv_part}
 use Rattle.mig_pvtables.proofs.ViewedSays.{entry_there, context_fits}
 use Rattle.mig_pvtables.proofs.ViewedFrames.{top_is, inside_is, each_policy, is_frame, pfn_there, pfn_below, pfn_small, frame_below, frame_type, few_inner}
@@ -34,17 +34,10 @@ module _ (h : HostOf) (valid : IsValid h) (sound : IsSound h) (pv : h.kind ≡ P
   width_there : width_of there ≡ h.width
   width_there = let least : 0 < h.width = valid.some_width pv in ap (λ k. top_of k h.width + 1) pv ∙ omega (arith, least)
 
-  renamed_is_frame : (x : FrameOf) → IsFrame x → IsFrame (renamed_frame pfn_of x)
-  renamed_is_frame x is = record { there = is.there; in_step = page_there pfn_of None (level_of x.type) x.page ∙ is.in_step; whole = page_size pfn_of None (level_of x.type) x.page is.whole }
-
   -- what holds of entries that name nothing, and of those that name a PFN that has a frame, holds of each entry
   entries_there : (P : Entry → Type 0) → P Blank → P NotPresent → ((mfn pfn : ℕ) → pfn_of mfn ≡ Some pfn → P (Frame pfn)) → (x : FrameOf) → EachEntry (NamesKnown pfn_of) x → EachEntry P (renamed_frame pfn_of x)
-  entries_there P blank none named x known level p lev has slot lt = elim x.page as (λ o. x.page ≡ o → renamed_page pfn_of (Some level) o ≡ Some p → P (entry level p slot)) [
-    | None ↦ λ is at. cc
-    | Some q ↦ λ is at.
-        let same : renamed_table pfn_of level q ≡ p = cc in
-        subst (λ r. P (entry level r slot)) same (entry_there pfn_of (pfn_small h valid) P blank none named level slot q lt (known level q lev is slot lt))
-  ] refl ((λ i. renamed_page pfn_of (sym lev i) x.page) ∙ has)
+  entries_there P blank none named x = entries_changed (NamesKnown pfn_of) P (renamed_table pfn_of) x (renamed_page pfn_of (level_of x.type) x.page) (λ level lev i. renamed_page pfn_of (lev i) x.page)
+      (λ level p lev has slot lt. entry_there pfn_of (pfn_small h valid) P blank none named level slot p lt)
 
   abbrev rename : ℕ → FrameOf → FrameOf
   rename pfn x = renamed_frame pfn_of x
@@ -56,7 +49,7 @@ module _ (h : HostOf) (valid : IsValid h) (sound : IsSound h) (pv : h.kind ≡ P
   formed_frame pfn x found = record {
     small = omega (arith, frame_below h valid pfn x found, valid.width);
     inside = inside_is h.kind h.width pfn (frame_below h valid pfn x found);
-    is = renamed_is_frame x (is_frame h valid pfn x found);
+    is = localised_is_frame pfn_of None (level_of x.type) x (is_frame h valid pfn x found);
     type = frame_type h valid pfn x found;
     entries = entries_there (IsWithin there.top) tt tt within x (sound.entries pfn x found);
   }

@@ -1,12 +1,15 @@
 -- Walks along the entries of a map, up to the first that gives an answer.
-use Rattle.mig_pvtables.proofs.Common.{◌≡◌, ℕ, ◌+◌, ◌<◌, Bool, true, false, cond, not, List, [], ◌∷◌, length, Option, Some, None, is_some, is_none, refl, sym, ap, inl, inr, cases_eq, ◌∙◌, arith, ◌&&◌, ◌==◌, le-leb, find, option_map, option_or, nat_lt, Entry, FrameOf, FrameMap, PartKey, PartMap, Part, parts_after, part_total, part_exact, PageType, level_of, first_passes, first_some, find_slot, find_entry, misfits, type_at, fits_field, gdt_ents, field_value, is_used, frame_of_field}
+use Rattle.mig_pvtables.proofs.Common.{◌≡◌, ℕ, ◌+◌, ◌<◌, ◌≤◌, Bool, true, false, cond, not, List, [], ◌∷◌, length, Option, Some, None, is_some, is_none, refl, sym, ap, inl, inr, cases_eq, ◌∙◌, arith, ◌&&◌, ◌==◌, le-leb, find, option_map, option_or, nat_lt, Entry, FrameOf, FrameMap, PartKey, PartMap, Part, parts_after, part_total, part_exact, PageType, level_of, first_passes, first_some, find_slot, find_entry, type_at, fits_field, gdt_ents, field_value, frame_of_field}
 use Rattle.std.specs.FinMap as maps
+use Rattle.std.proofs.lemmas.Option.{cond_some}
 use Rattle.mig_guest.specs.Frames.{entries_from}
 use Rattle.mig_guest.specs.Parts.{parts_of}
 use Rattle.mig_pvtables.specs.Faults.{field_numbers}
-use Rattle.mig_pvtables.specs.Sound.{machine_type, misnames, find_gdt}
-use Rattle.mig_pvtables.specs.VcpuContexts.{field_says, field_says_somewhere, is_used_somewhere}
+use Rattle.mig_pvtables.specs.RenamedContexts.{Usage}
 use Rattle.mig_pvtables.proofs.BlankCodes.{is_next, by_test, next_parts}
+use Rattle.mig_pvtables.proofs.PvGuests.{misses}
+use Rattle.mig_pvtables.proofs.Searches.{cond_none}
+use Rattle.mig_pvtables.proofs.Slots.{first_field, no_field}
 
 -- ---- an answer that those behind give, too
 
@@ -19,18 +22,6 @@ module _ {A C : Type 0} (f : A → Option C) (now rest : List A) (answer : Optio
 
   first_never : now ≡ [] → None ≡ answer
   first_never is = sym (ap (first_some f) is) ∙ same
-
-same_search : {A C : Type 0} (f g : A → Option C) → ((a : A) → f a ≡ g a) → (xs : List A) → first_some f xs ≡ first_some g xs
-same_search f g same [] = refl
-same_search f g same (x ∷ xs) = (λ i. option_or (same x i) (same_search f g same xs i))
-
--- ---- a test that fails below a number
-
-pub below_next : (p : ℕ → Bool) (n : ℕ) → ((k : ℕ) → k < n → p k ≡ false) → p n ≡ false → (k : ℕ) → k < n + 1 → p k ≡ false
-below_next p n below here k lt = elim (cases_eq k n) [
-  | inl e ↦ ap p e ∙ here
-  | inr ne ↦ below k (omega (arith, lt, ne))
-]
 
 -- ---- frames
 
@@ -101,37 +92,43 @@ module _ (bad : Entry → Bool) (frames : FrameMap) where
 
 -- ---- contexts of vCPUs
 
-said_by : (used : Bool) (v pfn : ℕ) (fits : ℕ → Bool) → Some pfn ≡ cond used (Some v) None → (used && not (fits v)) ≡ not (fits pfn)
-said_by true v pfn fits is = let same : v ≡ pfn = cc in ap (λ n. not (fits n)) same
-said_by false v pfn fits is = let no : Some pfn ≡ None = is in cc
+-- of the fields below n none is used and says no frame of its type
+pub record NoneMisses (used : Usage) (type_of : ℕ → Option PageType) (id : ℕ) (context : List ℕ) (n : ℕ) : Type 0 where
+  pub none : (k : ℕ) → k < n → misses used type_of id context k ≡ false
 
-unsaid_by : (used fits : Bool) (v : ℕ) → None ≡ cond used (Some v) None → (used && not fits) ≡ false
-unsaid_by true fits v is = let no : None ≡ Some v = is in cc
-unsaid_by false fits v is = refl
+pub misses_start : {used : Usage} {type_of : ℕ → Option PageType} {id : ℕ} {context : List ℕ} → NoneMisses used type_of id context 0
+misses_start = record { none = λ k lt. absurd (omega (arith, lt)) }
 
-module _ (frames : FrameMap) where
-  -- a field that is used says a frame of its type, or misfits
-  pub said : (id : ℕ) (context : List ℕ) (field pfn : ℕ) (type : Option PageType) (fits : Bool) → Some pfn ≡ field_says id context field → type ≡ type_at frames pfn → fits ≡ fits_field field type → misfits frames id context field ≡ not fits
-  said id context field pfn type fits is has b =
-      said_by (is_used id (gdt_ents context) field (field_value context field)) (frame_of_field field (field_value context field)) pfn (λ n. fits_field field (type_at frames n)) is
-      ∙ ap (λ t. not (fits_field field t)) (sym has) ∙ ap not (sym b)
+module _ {used : Usage} {type_of : ℕ → Option PageType} {id : ℕ} {context : List ℕ} {n : ℕ} (so_far : NoneMisses used type_of id context n) where
+  pub misses_end : 19 ≤ n → None ≡ find (misses used type_of id context) field_numbers
+  misses_end all = sym ((no_field (misses used type_of id context)).1 (λ k lt. so_far.none k (omega (arith, lt, all))))
 
-  pub unsaid : (id : ℕ) (context : List ℕ) (field : ℕ) → None ≡ field_says id context field → misfits frames id context field ≡ false
-  unsaid id context field is =
-      let v = field_value context field in unsaid_by (is_used id (gdt_ents context) field v) (fits_field field (type_at frames (frame_of_field field v))) (frame_of_field field v) is
+  one_fine : misses used type_of id context n ≡ false → NoneMisses used type_of id context (n + 1)
+  one_fine fine = record {
+    none = λ k lt. elim (cases_eq k n) [
+      | inl e ↦ ap (misses used type_of id context) e ∙ fine
+      | inr ne ↦ so_far.none k (omega (arith, lt, ne))
+    ];
+  }
 
--- a field that a host uses says a machine frame of its type, or misnames
-module _ (frames : FrameMap) (pfn_of : ℕ → Option ℕ) where
-  pub said_in_host : (id : ℕ) (context : List ℕ) (field mfn : ℕ) (type : Option PageType) (fits : Bool) → Some mfn ≡ field_says_somewhere id context field → type ≡ machine_type frames pfn_of mfn → fits ≡ fits_field field type
-      → misnames frames pfn_of id context field ≡ not fits
-  said_in_host id context field mfn type fits is has b =
-      said_by (is_used_somewhere id (gdt_ents context) field (field_value context field)) (frame_of_field field (field_value context field)) mfn (λ n. fits_field field (machine_type frames pfn_of n)) is
-      ∙ ap (λ t. not (fits_field field t)) (sym has) ∙ ap not (sym b)
+  -- what the field says, where it is used
+  abbrev says : Option ℕ
+  says = cond (used id (gdt_ents context) n (field_value context n)) (Some (frame_of_field n (field_value context n))) None
 
-  pub unsaid_in_host : (id : ℕ) (context : List ℕ) (field : ℕ) → None ≡ field_says_somewhere id context field → misnames frames pfn_of id context field ≡ false
-  unsaid_in_host id context field is =
-      let v = field_value context field in
-      unsaid_by (is_used_somewhere id (gdt_ents context) field v) (fits_field field (machine_type frames pfn_of (frame_of_field field v))) (frame_of_field field v) is
+  pub field_unused : None ≡ says → NoneMisses used type_of id context (n + 1)
+  field_unused is = one_fine (ap (λ b. b && not (fits_field n (type_of (frame_of_field n (field_value context n))))) (cond_none (used id (gdt_ents context) n (field_value context n)) (frame_of_field n (field_value context n)) (sym is)))
+
+  module _ {frame : ℕ} {type : Option PageType} {fits : Bool} (is : Some frame ≡ says) (has : type ≡ type_of frame) (fit : fits ≡ fits_field n type) where
+    said : misses used type_of id context n ≡ not fits
+    said =
+        let (in_use, same) = cond_some (used id (gdt_ents context) n (field_value context n)) (frame_of_field n (field_value context n)) frame (sym is) in
+        (λ i. in_use i && not (fits_field n (type_of (same i)))) ∙ ap (λ t. not (fits_field n t)) (sym has) ∙ ap not (sym fit)
+
+    pub field_fits : fits ≡ true → NoneMisses used type_of id context (n + 1)
+    field_fits good = one_fine (said ∙ ap not good)
+
+    pub field_misses : n < 19 → fits ≡ false → Some n ≡ find (misses used type_of id context) field_numbers
+    field_misses lt bad = sym (first_field (misses used type_of id context) n lt (said ∙ ap not bad) so_far.none)
 
 -- contexts, and what is found in one
 module _ {C : Type 0} (in_context : Part → Option C) where

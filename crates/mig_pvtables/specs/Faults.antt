@@ -29,9 +29,9 @@ first_some f [] = None
 first_some f (x ∷ xs) = option_or (f x) (first_some f xs)
 
 -- the first of some causes that stands
-abbrev pub first_of : {C : Type 0} → List (Option C) → Option C
-first_of [] = None
-first_of (cause ∷ causes) = option_or cause (first_of causes)
+abbrev pub first_cause : {C : Type 0} → List (Option C) → Option C
+first_cause [] = None
+first_cause (cause ∷ causes) = option_or cause (first_cause causes)
 
 -- ---- a part that no guest of this kind goes without
 
@@ -130,4 +130,4 @@ faults_for Pv g =
     ∷ []
 
 abbrev pub fault_of_guest : GuestOf → Option Cause
-fault_of_guest g = first_of (faults_for g.kind g)
+fault_of_guest g = first_cause (faults_for g.kind g)

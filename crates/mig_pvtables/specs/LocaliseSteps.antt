@@ -37,7 +37,3 @@ filled_from parts k mfn_of pfn frame = filled_at mfn_of (place_from_in (maps.get
 abbrev pub is_field_below : ℕ → Option ℕ → Bool
 is_field_below n None = false
 is_field_below n (Some field) = nat_lt field n
-
--- the number v at place i, changed where a field below this one stands there
-abbrev pub changed_below : ℕ → (ℕ → ℕ → ℕ) → ℕ → ℕ → ℕ
-changed_below n f i v = if is_field_below n (field_at i) then f i v else v

@@ -20,7 +20,7 @@ use Rattle.mig_guest.specs.Parts.{PartMap}
 use Rattle.mig_guest.specs.PartKeys.{p2m_key, vcpu_key, shared_key, context_key}
 use Rattle.mig_guest.specs.Tables.{EachEntry}
 use Rattle.mig_pvtables.specs.BadEntries.{is_unknown}
-use Rattle.mig_pvtables.specs.Faults.{first_some, first_of, type_at, fits_field, find_p2m, find_entry, find_in_contexts}
+use Rattle.mig_pvtables.specs.Faults.{first_some, first_cause, type_at, fits_field, find_p2m, find_entry, find_in_contexts}
 use Rattle.mig_pvtables.specs.Tables.{is_superpage}
 use Rattle.mig_pvtables.specs.VcpuContexts.{field_value, is_used_somewhere, frame_of_field}
 use Rattle.mig_pvtables.specs.View.{pfn_in, guest_in}
@@ -103,4 +103,4 @@ unsound_rows kind frames parts pfn_of =
 
 -- the first cause that a host isn't sound
 abbrev pub unsoundness : HostOf → Option Unsound
-unsoundness h = first_of (unsound_rows h.kind (guest_in h).frames h.parts (pfn_in h.frames))
+unsoundness h = first_cause (unsound_rows h.kind (guest_in h).frames h.parts (pfn_in h.frames))

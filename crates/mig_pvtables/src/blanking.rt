@@ -40,7 +40,6 @@ fn blank_table(page: &mut [u8; 4096], level: u8)
 }
 
 /// Brings the table of this frame to its blank form, where the frame is a table.
-#[tactic(auto, using(crate::proofs::BlankFrames::no_frame, crate::proofs::BlankFrames::no_table, crate::proofs::BlankFrames::no_table_page, crate::proofs::BlankFrames::table_written))]
 fn blank_frame(guest: &mut Guest, pfn: u64)
     ensures { guest.new ≡ record guest.old { frames = each_value (only nat_cmp pfn with_table_blanked) guest.old.frames } }
 {

@@ -22,7 +22,6 @@ use mig_guest::{Guest, PartKey};
 use mig_headers::Kind;
 
 /// Puts machine frames into the table of this frame, where the frame is a table.
-#[tactic(auto, using(crate::proofs::LocaliseFrames::no_frame, crate::proofs::LocaliseFrames::no_table, crate::proofs::LocaliseFrames::no_table_page, crate::proofs::LocaliseFrames::table_written))]
 fn localise_frame<F: Frames>(guest: &mut Guest, pfn: u64, frames: &F)
     ensures { guest.new ≡ record guest.old { frames = each_value (only nat_cmp pfn (renamed_frame (F.mfns frames.now))) guest.old.frames } }
 {

@@ -33,7 +33,6 @@ fn normalise_page<F: Frames>(page: &mut [u8; 4096], level: u8, machines: &F)
 }
 
 /// Brings the table of this frame to its form in a stream, where the frame is a table.
-#[tactic(auto, using(crate::proofs::NormaliseFrames::no_frame, crate::proofs::NormaliseFrames::no_table, crate::proofs::NormaliseFrames::no_table_page, crate::proofs::NormaliseFrames::table_written))]
 fn normalise_frame<F: Frames>(guest: &mut Guest, pfn: u64, machines: &F)
     requires { (mfn pfn : ℕ) → F.pfns machines.now mfn ≡ Some pfn → pfn < 2 ^ 40 }
     ensures { guest.new ≡ record guest.old { frames = each_value (only nat_cmp pfn (normalised_frame (F.pfns machines.now))) guest.old.frames } }

@@ -10,7 +10,7 @@ ghost use Rattle.mig_guest.specs.PartCodes.{code_number};
 ghost use Rattle.mig_guest.specs.PartKeys.{p2m_key};
 ghost use Rattle.mig_guest.specs.Parts.{NextPart};
 ghost use Rattle.mig_pvtables.specs.BadEntries.{is_unknown};
-ghost use Rattle.mig_pvtables.specs.Faults.{find_slot, find_entry, find_in_contexts, field_numbers, first_of, first_some};
+ghost use Rattle.mig_pvtables.specs.Faults.{find_slot, find_entry, find_in_contexts, field_numbers, first_cause, first_some};
 ghost use Rattle.mig_pvtables.specs.P2mFrames.{count_in};
 ghost use Rattle.mig_pvtables.specs.Sound.{absent, needed_keys, misnames, machine_type as type_of_machine_frame, find_gdt, find_context_fault, unsound_rows};
 ghost use Rattle.mig_pvtables.specs.Tables.{is_superpage};
@@ -43,6 +43,7 @@ fn absent_part(parts: &Parts, code: PartCode) -> Option<Unsound>
 }
 
 /// The first of the parts that each PV guest has that isn't there. Of the contexts, that of vCPU 0 has to be.
+#[tactic(auto, using(crate::proofs::Searches::first_of_three))]
 fn absent_pv_part(parts: &Parts) -> Option<Unsound>
     ensures { result ≡ first_some (absent parts.now) (needed_keys Pv) }
 {
@@ -115,7 +116,7 @@ fn next_entry(frames: &FrameStore, from: u64) -> Option<(u64, PageType, Option<&
 /// The first superpage in all tables, and where there is none, the first entry that names a machine frame without a PFN.
 /// A superpage anywhere comes first, so such an entry is kept until no table is left.
 fn bad_entry<F: Frames>(frames: &FrameStore, machines: &F) -> Option<Unsound>
-    ensures { result ≡ first_of (option_map (λ at. Superpage at.0 at.1) (find_entry is_superpage frames.now.frames)
+    ensures { result ≡ first_cause (option_map (λ at. Superpage at.0 at.1) (find_entry is_superpage frames.now.frames)
         ∷ option_map (λ at. NoFrame at.0 at.1) (find_entry (is_unknown (F.pfns machines.now)) frames.now.frames) ∷ []) }
 {
     let mut unknown = None;
@@ -214,7 +215,7 @@ fn context_fault(parts: &Parts) -> Option<ContextFault>
 /// The first cause in the contexts, of vCPUs or of an HVM guest.
 fn bad_context<F: Frames>(frames: &FrameStore, parts: &Parts, machines: &F) -> Option<Unsound>
     requires { (key : PartKey) (context : List ℕ) → maps.get parts.now key ≡ Some context → key.code ≡ 4 → length context ≡ 5168 }
-    ensures { result ≡ first_of (option_map (λ at. GdtEnts at.0 at.1) (find_gdt parts.now)
+    ensures { result ≡ first_cause (option_map (λ at. GdtEnts at.0 at.1) (find_gdt parts.now)
         ∷ option_map (λ at. VcpuFrame at.0 at.1) (find_in_contexts (misnames frames.now.frames (F.pfns machines.now)) parts.now)
         ∷ option_map (λ fault. BadContext fault) (find_context_fault parts.now) ∷ []) }
 {
@@ -239,7 +240,7 @@ pub fn unsoundness<F: Frames>(
 ) -> Result<Option<Unsound>, Memory>
     requires list { count_in (maps.get parts.now p2m_key) ≤ 2 ^ 43 }
     requires contexts { (key : PartKey) (context : List ℕ) → maps.get parts.now key ≡ Some context → key.code ≡ 4 → length context ≡ 5168 }
-    ensures { IfOk result (λ found. found ≡ first_of (unsound_rows kind frames.now.frames parts.now (F.pfns machines.now))) }
+    ensures { IfOk result (λ found. found ≡ first_cause (unsound_rows kind frames.now.frames parts.now (F.pfns machines.now))) }
 {
     if let Some(cause) = absent_needed(kind, parts) {
         return Ok(Some(cause));

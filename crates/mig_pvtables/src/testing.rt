@@ -8,7 +8,7 @@ ghost use Rattle.mig_guest.specs.Formed.{IsFormed};
 ghost use Rattle.mig_guest.specs.PartCodes.{code_number};
 ghost use Rattle.mig_guest.specs.PartKeys.{p2m_key, shared_key, vcpu_key};
 ghost use Rattle.mig_guest.specs.Tables.{entry as what_is_said};
-ghost use Rattle.mig_pvtables.specs.Faults.{find_slot, find_entry, is_absent, slots, find_field, misfits, fits_field, field_numbers, missing, too_many as more_than_allowed, first_of, fault_of_guest};
+ghost use Rattle.mig_pvtables.specs.Faults.{find_slot, find_entry, is_absent, slots, find_field, misfits, fits_field, field_numbers, missing, too_many as more_than_allowed, first_cause, fault_of_guest};
 ghost use Rattle.mig_pvtables.specs.declared.testing.WholeAnswer.TheVariants.{Fault, Memory as NoMemory};
 
 use crate::listing::{lacks, misplaced_frame};
@@ -138,8 +138,9 @@ fn bad_field(guest: &Guest) -> Option<(u32, u8)>
 }
 
 /// The first of the parts that each PV guest has that isn't there. Of the contexts, that of vCPU 0 has to be.
+#[tactic(auto, using(crate::proofs::Searches::first_of_three))]
 fn absent_pv_part(parts: &Parts) -> Option<Cause>
-    ensures { result ≡ first_of (missing parts.now p2m_key ∷ missing parts.now shared_key ∷ missing parts.now (vcpu_key 0) ∷ []) }
+    ensures { result ≡ first_cause (missing parts.now p2m_key ∷ missing parts.now shared_key ∷ missing parts.now (vcpu_key 0) ∷ []) }
 {
     absent_part(parts, PartCode::P2mFrames)
         .or(absent_part(parts, PartCode::SharedInfo))
@@ -149,7 +150,7 @@ fn absent_pv_part(parts: &Parts) -> Option<Cause>
 /// The first cause in a PV guest that comes behind those of its P2M frames.
 fn later_fault(guest: &Guest) -> Option<Cause>
     requires { IsFormed guest.now }
-    ensures { result ≡ first_of (option_map (λ at. TargetAbsent at.0 at.1) (find_entry (is_absent guest.now.frames) guest.now.frames)
+    ensures { result ≡ first_cause (option_map (λ at. TargetAbsent at.0 at.1) (find_entry (is_absent guest.now.frames) guest.now.frames)
         ∷ option_map (λ at. VcpuFrame at.0 at.1) (find_field guest.now.frames guest.now.parts) ∷ more_than_allowed guest.now.frames ∷ []) }
 {
     if let Some((pfn, slot)) = absent_target(guest) {

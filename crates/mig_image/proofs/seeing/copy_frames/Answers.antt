@@ -1,7 +1,8 @@
 use Rattle.std.proofs.Common.{Bor}
 use Rattle.mig_guest.proofs.KeyedMaps.{is_some-mapped}
-use Rattle.mig_image.proofs.Common.{ℕ, List, refl, sym, ◌∙◌, option_copied, HostFrame}
-use Rattle.mig_image.proofs.SeenGuests.{frames_start, frame_paged, frames_next, frames_end, other_frames}
+use Rattle.mig_image.proofs.Common.{ℕ, List, refl, sym, ◌∙◌, option_copied, HostFrame, ap, nat_cmp_total, nat_cmp-IsAntisymmetric}
+use Rattle.mig_image.proofs.Copies.{copy_end}
+use Rattle.mig_image.proofs.SeenGuests.{frames_start, frame_paged, frames_next, bare, other_frames}
 use Rattle.mig_image.proofs.seeing.copy_frames.Goals as goal
 
 pub loop-pfn-init : goal.loop-pfn-init
@@ -20,4 +21,6 @@ loop-pfn-preserved c =
     }
 
 pub returns : goal.returns
-returns c = frames_end c.args.host.now.host c.args.guest.now c.loop-pfn.guest c.loop-pfn.from c.loop-pfn.invariant.copied c.loop-pfn.invariant.others c.in_default.ensures.next
+returns c =
+    c.loop-pfn.invariant.others ∙ ap (λ m. record c.args.guest.now { frames = m })
+    (copy_end nat_cmp_total nat_cmp-IsAntisymmetric bare c.args.host.now.host.frames c.loop-pfn.guest.frames _ c.loop-pfn.invariant.copied c.in_default.ensures.next)

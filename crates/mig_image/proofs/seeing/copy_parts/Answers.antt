@@ -1,9 +1,11 @@
-use Rattle.mig_image.proofs.Common.{ℕ, List, refl, PartKey}
-use Rattle.mig_image.proofs.SeenGuests.{parts_start, context_sole, context_chain, parts_next, parts_end, other_parts}
+use Rattle.mig_image.proofs.Common.{ℕ, List, refl, PartKey, ap, ◌∙◌, part_total, part_exact}
+use Rattle.mig_pvtables.specs.Normalised.{part_seen}
+use Rattle.mig_image.proofs.Copies.{copy_start, copy_end}
+use Rattle.mig_image.proofs.SeenGuests.{context_sole, context_chain, parts_next, other_parts}
 use Rattle.mig_image.proofs.seeing.copy_parts.Goals as goal
 
 pub loop-key-init : goal.loop-key-init
-loop-key-init c = record { others = refl; copied = parts_start c.args.host.now.host c.args.guest.now.parts c.requires.none }
+loop-key-init c = record { others = refl; copied = copy_start part_total part_exact part_seen c.args.host.now.host.parts c.args.guest.now.parts c.requires.none }
 
 pub copy_part-requires-clause-sole : goal.copy_part-requires-clause-sole
 copy_part-requires-clause-sole c =
@@ -23,4 +25,6 @@ loop-key-preserved c =
     }
 
 pub returns : goal.returns
-returns c = parts_end c.args.host.now.host c.args.guest.now c.loop-key.guest c.loop-key.after c.loop-key.invariant.copied c.loop-key.invariant.others c.in_default.ensures.next
+returns c =
+    c.loop-key.invariant.others ∙ ap (λ m. record c.args.guest.now { parts = m })
+    (copy_end part_total part_exact part_seen c.args.host.now.host.parts c.loop-key.guest.parts _ c.loop-key.invariant.copied c.in_default.ensures.next)

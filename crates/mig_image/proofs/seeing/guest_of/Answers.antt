@@ -1,4 +1,4 @@
-use Rattle.mig_image.proofs.Common.{◌≡◌, sym, subst, ap, ◌∙◌}
+use Rattle.mig_image.proofs.Common.{sym, subst, ap, ◌∙◌}
 use Rattle.mig_guest.specs.Guests.{GuestOf}
 use Rattle.mig_pvtables.specs.Blank.{blank}
 use Rattle.mig_pvtables.specs.Whole.{IsWhole}

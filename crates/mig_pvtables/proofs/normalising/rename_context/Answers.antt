@@ -1,29 +1,17 @@
-use Rattle.mig_pvtables.proofs.Common.{◌≡◌, sym, ap, ◌∙◌, arith}
-use Rattle.mig_pvtables.specs.VcpuContexts.{is_used_somewhere}
-use Rattle.mig_pvtables.proofs.LocaliseContexts.{fields_below, fields_start, fields_end, field_put, field_unknown, field_unused}
+use Rattle.mig_pvtables.proofs.Common.{sym, ◌∙◌, arith}
+use Rattle.mig_pvtables.proofs.LocaliseContexts.{fields_start, fields_end, field_put, field_unknown, field_unused}
 use Rattle.mig_pvtables.proofs.normalising.rename_context.Goals as goal
 use Rattle.mig_pvtables.proofs.normalising.rename_context.Goals.{in-Some+in-Some-pfn_of, in-Some+in_default-pfn_of, in_default}
 
 pub loop-field-init : goal.loop-field-init
-loop-field-init g c = fields_start is_used_somewhere (g.F.Frames.pfns c.args.machines.now) c.args.id c.args.context.now c.fits-context c.told-context
+loop-field-init g c = fields_start c.fits-context c.told-context
 
 pub loop-field-preserved : goal.loop-field-preserved
-loop-field-preserved g c =
-    let f = g.F.Frames.pfns c.args.machines.now in elim c.match-host_frame.branch [
-      | in-Some+in-Some-pfn_of w ↦
-          w.context-is ∙ w.put_vcpu_frame.ensures
-          ∙ field_put is_used_somewhere f c.args.id c.args.context.now c.fits-context c.told-context c.loop-field.field c.loop-field-test.true c.loop-field.context c.loop-field.invariant w.in-Some.mfn w.in-Some.ensures w.in-Some-pfn_of.pfn
-          (sym w.pfn_of.ensures.value ∙ w.in-Some-pfn_of.is)
-      | in-Some+in_default-pfn_of w ↦
-          w.context-is
-          ∙ field_unknown is_used_somewhere f c.args.id c.args.context.now c.fits-context c.told-context c.loop-field.field c.loop-field-test.true c.loop-field.context c.loop-field.invariant w.in-Some.mfn w.in-Some.ensures
-          (sym w.pfn_of.ensures.value ∙ w.in_default-pfn_of.is)
-      | in_default w ↦
-          w.context-is ∙ field_unused is_used_somewhere f c.args.id c.args.context.now c.fits-context c.told-context c.loop-field.field c.loop-field-test.true c.loop-field.context c.loop-field.invariant w.in_default.ensures
-    ]
+loop-field-preserved g c = elim c.match-host_frame.branch [
+  | in-Some+in-Some-pfn_of w ↦ field_put c.loop-field.invariant c.loop-field-test.true w.in-Some.ensures (sym w.pfn_of.ensures.value ∙ w.in-Some-pfn_of.is) (w.context-is ∙ w.put_vcpu_frame.ensures)
+  | in-Some+in_default-pfn_of w ↦ field_unknown c.loop-field.invariant c.loop-field-test.true w.in-Some.ensures (sym w.pfn_of.ensures.value ∙ w.in_default-pfn_of.is) w.context-is
+  | in_default w ↦ field_unused c.loop-field.invariant c.loop-field-test.true w.in_default.ensures w.context-is
+]
 
 pub returns : goal.returns
-returns g c =
-    c.loop-field.invariant
-    ∙ ap (fields_below is_used_somewhere (g.F.Frames.pfns c.args.machines.now) c.args.id c.args.context.now c.fits-context c.told-context) (let e : c.loop-field.field ≡ 19 = omega (arith, c.loop-field-test.false, c.loop-field.auto.field-end) in e)
-    ∙ fields_end is_used_somewhere (g.F.Frames.pfns c.args.machines.now) c.args.id c.args.context.now c.fits-context c.told-context
+returns g c = fields_end c.loop-field.invariant (omega (arith, c.loop-field-test.false, c.loop-field.auto.field-end))

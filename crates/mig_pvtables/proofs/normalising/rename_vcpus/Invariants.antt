@@ -1,14 +1,12 @@
-use Rattle.mig_pvtables.proofs.Common.{◌≡◌, length, IfSome, parts_after, each_value, blanked_up_to}
-use Rattle.mig_pvtables.specs.VcpuContexts.{is_used_somewhere}
+use Rattle.mig_pvtables.proofs.Common.{length, parts_after}
 use Rattle.std.specs.FinMap as maps
 use Rattle.mig_pvtables.specs.RenamedContexts.{renamed_context}
+use Rattle.mig_pvtables.specs.VcpuContexts.{is_used_somewhere}
+use Rattle.mig_pvtables.proofs.BlankCodes.{ChangedUpTo}
 use Rattle.mig_pvtables.proofs.normalising.rename_vcpus.Given as goal
 
 abbrev pub invariant-loop-key : goal.invariant-loop-key
-invariant-loop-key g l = record {
-  code : IfSome l.after (λ k. k.code ≡ 4);
-  done : l.guest ≡ record l.fn.guest { parts = each_value (blanked_up_to 4 (λ k. renamed_context is_used_somewhere (g.F.Frames.pfns l.machines) k.key1) l.after) l.fn.guest.parts };
-}
+invariant-loop-key g l = ChangedUpTo 4 (λ k. renamed_context is_used_somewhere (g.F.Frames.pfns l.machines) k.key1) l.fn.guest l.after l.guest
 
 abbrev pub decreases-loop-key : goal.decreases-loop-key
 decreases-loop-key g l = length (parts_after 4 l.after (maps.entries l.fn.guest.parts))

@@ -1,10 +1,8 @@
-use Rattle.mig_pvtables.proofs.Common.{sym, ap, ◌∙◌, entry, is_absent}
+use Rattle.mig_pvtables.proofs.Common.{sym, ap, ◌∙◌, is_absent}
 use Rattle.mig_pvtables.proofs.Slots.{first_slot}
 use Rattle.mig_pvtables.proofs.Walks.{not_there}
 use Rattle.mig_pvtables.proofs.testing.absent_slot.Goals as goal
 
 pub returns-then-is_none-clause-value : goal.returns-then-is_none-clause-value
 returns-then-is_none-clause-value c =
-    let frames = c.args.guest.now.frames in
-    sym (first_slot (λ slot. is_absent frames (entry c.args.level c.args.page.now slot)) c.loop-slot.slot c.loop-slot-test.true
-    (ap (is_absent frames) (sym c.in-Frame.ensures) ∙ not_there frames c.in-Frame.pfn c.frame.result c.frame.ensures c.if-is_none.ensures) c.loop-slot.invariant)
+    first_slot _ _ c.loop-slot-test.true (ap (is_absent c.args.guest.now.frames) (sym c.in-Frame.ensures) ∙ not_there c.args.guest.now.frames c.in-Frame.pfn c.frame.result c.frame.ensures c.if-is_none.ensures) c.loop-slot.invariant

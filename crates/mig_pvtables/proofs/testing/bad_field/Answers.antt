@@ -1,8 +1,6 @@
-use Rattle.std.proofs.Common.{Bor}
-use Rattle.std.specs.Array.{IsWholeChunk}
-use Rattle.std.specs.Option.{MatchOption}
-use Rattle.mig_pvtables.proofs.Common.{ap, subst, ◌≡◌, ◌≢◌, ◌∙◌, length, List, Part, Option, ℕ, find, option_map, misfits}
+use Rattle.mig_pvtables.proofs.Common.{ap, ◌∙◌, Part, ℕ, find, option_map, misfits}
 use Rattle.mig_pvtables.specs.Faults.{field_numbers}
+use Rattle.mig_pvtables.proofs.LocaliseGuests.{taken}
 use Rattle.mig_pvtables.proofs.Walks.{in_fields, contexts_start, contexts_next, context_there}
 use Rattle.mig_pvtables.proofs.testing.bad_field.Goals as goal
 
@@ -18,7 +16,7 @@ unwrap-context-requires c =
 pub loop-key-preserved : goal.loop-key-preserved
 loop-key-preserved c =
     let e : Part = (c.in-Some.key, c.in-Some.bytes.now) in
-    let same : c.unwrap-context.result.now ≡ c.in-Some.bytes.now = (subst (λ (o : Option (Bor (List ℕ))). MatchOption o (length e.1 ≢ 5168) (λ y. IsWholeChunk e.1 y.now 5168)) c.unwrap-context.ensures c.as_array.ensures.cases).same in record {
+    let same = taken e.1 5168 c.unwrap-context.ensures c.as_array.ensures.cases in record {
       code = (context_there c.args.guest.now.parts c.loop-key.after e c.in-Some.ensures.next).0;
       so = contexts_next (in_fields (misfits c.args.guest.now.frames)) c.args.guest.now.parts c.loop-key.after c.loop-key.invariant.so e c.in-Some.ensures.next
           (ap (option_map (λ (n : ℕ). (e.0.key1, n))) (c.in_default-misfit.ensures.value ∙ ap (λ bytes. find (misfits c.args.guest.now.frames e.0.key1 bytes) field_numbers) same));

@@ -1,0 +1,16 @@
+use Rattle.mig_pvtables.proofs.Common.{None, Some, length, ap, sym, ◌∙◌, refl, length_longs, blanked_page}
+use Rattle.mig_pvtables.proofs.BlankFrames.{no_frame, no_table, no_table_page, table_written}
+use Rattle.mig_pvtables.proofs.blanking.blank_frame.Goals as goal
+
+pub returns-in_default : goal.returns-in_default
+returns-in_default c = no_frame (blanked_page None) (λ _. refl) (λ _. refl) _ _ c.in_default.ensures
+
+pub returns-in_default-table_level : goal.returns-in_default-table_level
+returns-in_default-table_level c = no_table (blanked_page None) (λ _. refl) (λ _. refl) _ _ _ c.in-Some.ensures c.in_default-table_level.ensures
+
+pub returns-in_default-page_mut : goal.returns-in_default-page_mut
+returns-in_default-page_mut c = no_table_page (blanked_page None) (λ _. refl) (λ _. refl) _ _ c.in_default-page_mut.ensures.value
+
+pub returns-in-Some-page_mut : goal.returns-in-Some-page_mut
+returns-in-Some-page_mut c =
+    table_written (blanked_page None) (λ _. refl) (λ _. refl) _ _ _ c.in-Some.ensures _ _ _ c.in-Some-table_level.ensures c.in-Some-page_mut.ensures.value (ap length c.blank_table.ensures ∙ length_longs 512 _) (ap Some (sym c.blank_table.ensures))
