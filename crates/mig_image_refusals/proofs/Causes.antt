@@ -1,5 +1,7 @@
 -- The causes that stand in each part of an image.
-use Rattle.mig_image_refusals.proofs.Common.{◌≡◌, ◌⊎◌, inl, inr, ℕ, ◌≤◌, List, [], ◌∷◌, ◌++◌, Bool, true, false, cond, not, nat_eq, nat_le, nat_lt, Option, Some, None, refl, sym, ap, subst, ◌∙◌, arith, and_from, and_left, and_parts, and_right, cases_lt, eq-eqb, eqb-false, eqb-true, false≢true, le-leb, leb-true, lt-ltb, ltb-true, ne_eqb, not-true, not_from_false, or_cases, or_left, or_right, none-some, ◌&&◌, ◌||◌, list_all, le32, le64, first_fault, ImageCause, Kind, Hvm, Pv, HostOf, PageType, ImagePart, Stands}
+use Rattle.mig_image_refusals.proofs.Common.{◌≡◌, ◌⊎◌, inl, inr, ℕ, ◌≤◌, List, [], ◌∷◌, ◌++◌, Bool, true, false, cond, not, nat_eq, nat_le, nat_lt, Option, Some, None, refl, sym, ap, subst, ◌∙◌, arith, and_from, and_left, and_parts, and_right, cases_lt, eq-eqb, eqb-false, eqb-true, false≢true, le-leb, leb-true, lt-ltb, ltb-true, ne_eqb, not-true, not_from_false, or_cases, or_left, or_right, none-some, ◌&&◌, ◌||◌, list_all, le32, le64, first_fault, ImageCause, number_of_image_cause, Kind, Hvm, Pv, HostOf, PageType, ImagePart, StandsInImage}
+use Rattle.mig_headers.proofs.FirstCauses as first
+use Rattle.mig_headers.proofs.FirstCauses.{join}
 use Rattle.mig_headers.proofs.PairTexts.{canonical_pairs_are_computed}
 use Rattle.mig_headers.specs.Headers.{kind_of_number}
 use Rattle.mig_headers.specs.Pairs.{AreCanonicalPairs, are_canonical_pairs}
@@ -15,14 +17,23 @@ use Rattle.mig_pagetypes.specs.Limits.{most_frames}
 use Rattle.mig_pagetypes.specs.PageTypes.{all_types, number_of, type_of, type_or_none}
 use Rattle.mig_pagetypes.specs.declared.page_type.PageType.TheVariants.{Notab, L1Tab, L2Tab, L3Tab, L4Tab, L1Pinned, L2Pinned, L3Pinned, L4Pinned, Broken, Xalloc, Xtab}
 use Rattle.mig_image.proofs.InOrder.{found_passes}
-use Rattle.mig_image.specs.ImageParts.{fault_of_bytes, fault_of_frame, fault_of_host_head, fault_of_padding, fault_of_part, frame_rows, has_frame_from, has_machine, has_part_from, head_key, head_pfn, head_type, head_type_number, is_full, is_wide, name_rows, size_rows}
-use Rattle.mig_image_refusals.specs.Refusal.{HeadHas, FrameHas, PartHas, BytesHave, PaddingHas}
-use Rattle.mig_image_refusals.specs.Refusal.{HeadHas as heads, FrameHas as frames, PartHas as parts}
+use Rattle.mig_image.specs.ImageParts.{code_fits, fault_of_bytes, fault_of_frame, fault_of_host_head, fault_of_padding, fault_of_part, frame_rows, has_frame_from, has_machine, has_part_from, head_key, head_pfn, head_type, head_type_number, is_full, is_wide, name_rows, size_rows}
+use Rattle.mig_image_refusals.specs.Refusal.{ImageHeadHas, FrameHas, PartHas, BytesHave, PaddingHas}
+use Rattle.mig_image_refusals.specs.Refusal.{ImageHeadHas as heads, FrameHas as frames, PartHas as parts}
 use Rattle.mig_image_refusals.specs.Refusal.BytesHave.{other_than_pairs}
 use Rattle.mig_image_refusals.specs.Refusal.PaddingHas.{not_zero}
 use Rattle.mig_image_refusals.specs.Refusal.ImagePart.{Head, FrameHead, PartHead, Bytes, Padding}
-use Rattle.mig_image_refusals.proofs.Named.{Named, RowHas, To, ascends, named, join}
 use Rattle.mig_image_refusals.proofs.Entries.{frame_from, from_frame, machine_of, of_machine, part_from, from_part, some_byte, byte_some}
+
+-- what a computed fault is of the causes that stand
+abbrev pub Named : (ImageCause → Type 0) → Option ImageCause → Type 0
+Named = first.Named number_of_image_cause (λ _. 0)
+
+abbrev RowHas : List (Bool × ImageCause) → ImageCause → Type 0
+RowHas = first.RowHas number_of_image_cause (λ _. 0)
+
+abbrev To : (ImageCause → Type 0) → List (Bool × ImageCause) → Type 0
+To = first.To number_of_image_cause (λ _. 0)
 
 differs : (n m : ℕ) → not (nat_eq n m) ≡ true → n ≡ m → ⊥
 differs n m h = eqb-false n m (not-true _ h)
@@ -46,22 +57,22 @@ module _ (head : List ℕ) where
       by true is h = eqb-true n 1 is
       by false is h = absurd (false≢true h)
 
-  width_of : is_wide kind (le64 head 16) ≡ true → HeadHas head (causes.Width (le64 head 16))
+  width_of : is_wide kind (le64 head 16) ≡ true → ImageHeadHas head (causes.Width (le64 head 16))
   width_of h = elim (or_cases _ _ h) [
     | inl wide ↦ heads.too_wide (ltb-true _ _ wide)
     | inr none ↦ let b = and_parts (pv kind) _ none in heads.pv_without_width (of_pv _ b.0) (eqb-true _ _ b.1)
   ]
 
-  count_of : (nat_lt most_frames (le64 head 24) || nat_lt (le64 head 16) (le64 head 24)) ≡ true → HeadHas head (causes.FrameCount (le64 head 24))
+  count_of : (nat_lt most_frames (le64 head 24) || nat_lt (le64 head 16) (le64 head 24)) ≡ true → ImageHeadHas head (causes.FrameCount (le64 head 24))
   count_of h = elim (or_cases _ _ h) [ inl many ↦ heads.too_many (ltb-true _ _ many) | inr above ↦ heads.above_width (ltb-true _ _ above) ]
 
-  head_to : To (HeadHas head) head_rows
+  head_to : To (ImageHeadHas head) head_rows
   head_to = (
     (λ h. heads.not_image (differs _ _ h)),
     ((λ h. let b = and_parts _ _ h in heads.bad_kind (differs _ _ b.0) (differs _ _ b.1)), ((λ h. heads.not_zero (differs _ _ h)), (width_of, (count_of, tt)))),
   )
 
-  head_from : (c : ImageCause) → HeadHas head c → RowHas head_rows c
+  head_from : (c : ImageCause) → ImageHeadHas head c → RowHas head_rows c
   head_from _ (heads.not_image h) = inl (test_differs _ _ h, refl)
   head_from _ (heads.bad_kind h e) = inr (inl (and_from _ _ (test_differs _ _ h) (test_differs _ _ e), refl))
   head_from _ (heads.not_zero h) = inr (inr (inl (test_differs _ _ h, refl)))
@@ -70,8 +81,8 @@ module _ (head : List ℕ) where
   head_from _ (heads.too_many h) = inr (inr (inr (inr (inl (or_left _ _ (lt-ltb _ _ h), refl)))))
   head_from _ (heads.above_width h) = inr (inr (inr (inr (inl (or_right _ _ (lt-ltb _ _ h), refl)))))
 
-  head_named : Named (HeadHas head) (fault_of_host_head head)
-  head_named = subst (Named (HeadHas head)) (sym (join (name_rows head) (size_rows kind (le64 head 16) (le64 head 24)))) (named (HeadHas head) head_rows refl head_to head_from)
+  head_named : Named (ImageHeadHas head) (fault_of_host_head head)
+  head_named = subst (Named (ImageHeadHas head)) (sym (join (name_rows head) (size_rows kind (le64 head 16) (le64 head 24)))) (first.rows_name _ _ (ImageHeadHas head) head_rows refl head_to head_from)
 
 -- ---- a frame's head
 
@@ -87,9 +98,6 @@ other_some Hvm Broken n fails is = absurd (false≢true (sym fails))
 other_some Hvm Xalloc n fails is = absurd (false≢true (sym fails))
 other_some Hvm _ n fails is = inr (inr (refl, (λ e. omega (arith, is, e)), (λ e. omega (arith, is, e)), (λ e. omega (arith, is, e))))
 
-not_hvm : Pv ≡ Hvm → ⊥
-not_hvm e = cc
-
 -- the numbers of the types that an HVM guest's frames have
 no_hvm : (n : ℕ) → (n ≡ 0) ⊎ ((n ≡ 13) ⊎ (n ≡ 14)) → IsOther Hvm n → ⊥
 no_hvm n is (inl (a, b)) = grind (arith, is, a, b)
@@ -100,15 +108,11 @@ some_other : (kind : Kind) (t : PageType) → IsOther kind (number_of t) → is_
 some_other Pv Xtab h = refl
 some_other Pv _ (inl (a, b)) = absurd (omega (arith, a, b))
 some_other Pv _ (inr (inl a)) = absurd (omega (arith, a))
-some_other Pv _ (inr (inr (hvm, _, _, _))) = absurd (not_hvm hvm)
+some_other Pv _ (inr (inr (hvm, _, _, _))) = (let no : Pv ≡ Hvm = hvm in cc)
 some_other Hvm Notab h = absurd (no_hvm 0 (inl refl) h)
 some_other Hvm Broken h = absurd (no_hvm 13 (inr (inl refl)) h)
 some_other Hvm Xalloc h = absurd (no_hvm 14 (inr (inr refl)) h)
 some_other Hvm _ h = refl
-
-no_xtab : (kind : Kind) → is_type_of kind Xtab ≡ false
-no_xtab Pv = refl
-no_xtab Hvm = refl
 
 module _ (kind : Kind) (n : ℕ) where
   unnamed : type_of n ≡ None → IsOther kind n
@@ -137,7 +141,7 @@ module _ (kind : Kind) (n : ℕ) where
   type_other other = by (type_of n) refl
     where
       by : (o : Option PageType) → type_of n ≡ o → is_type_of kind (type_or_none o) ≡ false
-      by None none = no_xtab kind
+      by None none = some_other kind Xtab (inr (inl (omega arith)))
       by (Some t) is = some_other kind t (subst (IsOther kind) (sym (number_is t is)) other)
 
 module _ (h : HostOf) (head : List ℕ) where
@@ -179,7 +183,7 @@ module _ (h : HostOf) (head : List ℕ) where
   frame_has _ (frames.machine_twice q frame at is) = inr (inr (inr (inr (inr (inl (of_machine h (le64 head 8) q frame at is, refl))))))
 
   frame_named : Named Has (fault_of_frame h head)
-  frame_named = named Has (frame_rows h head) refl frame_to frame_has
+  frame_named = first.rows_name _ _ Has (frame_rows h head) refl frame_to frame_has
 
 -- a head in which no cause stands names a type
 pub type_named : (h : HostOf) (head : List ℕ) → ((c : ImageCause) → FrameHas h head c → ⊥) → head_type_number head ≡ number_of (head_type head)
@@ -204,15 +208,13 @@ module _ (h : HostOf) (head : List ℕ) where
   abbrev fits : PartCode → Bool
   fits code = (row_of code).of_kind h.kind && (row_of code).keys (le32 head 4) (le32 head 8)
 
-  -- the causes of a code, as the table of parts has it or hasn't
+  -- a length is tried only where the table of parts has the code
+  abbrev length_rows : Option PartCode → List (Bool × ImageCause)
+  length_rows None = []
+  length_rows (Some code) = (not ((row_of code).allows h.width len_said), PartLength len_said) ∷ []
+
   abbrev rows : Option PartCode → List (Bool × ImageCause)
-  rows None = (true, causes.PartKey code_said) ∷ (has_part_from h.parts (head_key head), PartOrder code_said) ∷ (is_full h.parts code_said, PartMany code_said) ∷ []
-  rows (Some code) =
-      (not (fits code), causes.PartKey code_said)
-      ∷ (has_part_from h.parts (head_key head), PartOrder code_said)
-      ∷ (is_full h.parts code_said, PartMany code_said)
-      ∷ (not ((row_of code).allows h.width len_said), PartLength len_said)
-      ∷ []
+  rows found = (not (code_fits found h.kind (head_key head)), causes.PartKey code_said) ∷ (has_part_from h.parts (head_key head), PartOrder code_said) ∷ (is_full h.parts code_said, PartMany code_said) ∷ length_rows found
 
   rows_are : (found : Option PartCode) → code_of_number code_said ≡ found → fault_of_part h head ≡ first_fault (rows found)
   rows_are None none = rw none refl
@@ -252,14 +254,6 @@ module _ (h : HostOf) (head : List ℕ) where
     misfits : (code : PartCode) → code_said ≡ code_number code → fits code ≡ false → RowHas (rows found) (causes.PartKey code_said)
     misfits code is fails = subst (λ o. RowHas (rows o) (causes.PartKey code_said)) (sym (known code is)) (inl (not_from_false _ fails, refl))
 
-    above_row : has_part_from h.parts (head_key head) ≡ true → (o : Option PartCode) → RowHas (rows o) (PartOrder code_said)
-    above_row any None = inr (inl (any, refl))
-    above_row any (Some code) = inr (inl (any, refl))
-
-    many_row : is_full h.parts code_said ≡ true → (o : Option PartCode) → RowHas (rows o) (PartMany code_said)
-    many_row full None = inr (inr (inl (full, refl)))
-    many_row full (Some code) = inr (inr (inl (full, refl)))
-
     part_has : (c : ImageCause) → PartOf c → RowHas (rows found) c
     part_has _ (parts.no_code none) = by found found_is
       where
@@ -268,24 +262,24 @@ module _ (h : HostOf) (head : List ℕ) where
         by (Some code) is = absurd (none code (number_found code_said code is))
     part_has _ (parts.other_kind code is fails) = misfits code is (and_left _ _ fails)
     part_has _ (parts.other_keys code is fails) = misfits code is (and_right _ _ fails)
-    part_has _ (parts.not_above q some above) = above_row (from_part h.parts (head_key head) q some above) found
-    part_has _ (parts.too_many policy many) = many_row (and_from _ _ (is_policy policy) (le-leb _ _ many)) found
+    part_has _ (parts.not_above q some above) = inr (inl (from_part h.parts (head_key head) q some above, refl))
+    part_has _ (parts.too_many policy many) = inr (inr (inl (and_from _ _ (is_policy policy) (le-leb _ _ many), refl)))
     part_has _ (parts.other_length code is fails) = subst (λ o. RowHas (rows o) (PartLength len_said)) (sym (known code is)) (inr (inr (inr (inl (not_from_false _ fails, refl)))))
 
   part_named : Named PartOf (fault_of_part h head)
   part_named = by (code_of_number code_said) refl
     where
-      in_order : (found : Option PartCode) → ascends (rows found) ≡ true
+      in_order : (found : Option PartCode) → first.ascends number_of_image_cause (λ _. 0) (rows found) ≡ true
       in_order None = refl
       in_order (Some code) = refl
 
       by : (found : Option PartCode) → code_of_number code_said ≡ found → Named PartOf (fault_of_part h head)
-      by found is = subst (Named PartOf) (sym (rows_are found is)) (named PartOf (rows found) (in_order found) (part_to found is) (part_has found is))
+      by found is = subst (Named PartOf) (sym (rows_are found is)) (first.rows_name _ _ PartOf (rows found) (in_order found) (part_to found is) (part_has found is))
 
 -- ---- what stands behind it
 
 bytes_named : (code : ℕ) (bytes : List ℕ) → Named (BytesHave code bytes) (fault_of_bytes code bytes)
-bytes_named code bytes = named (BytesHave code bytes) bytes_rows refl ((λ r. let b = and_parts (nat_eq code 258) _ r in other_than_pairs (eqb-true _ _ b.0) (λ pairs. false≢true (sym (not-true _ b.1) ∙ (canonical_pairs_are_computed bytes).1 pairs))), tt) from
+bytes_named code bytes = first.rows_name _ _ (BytesHave code bytes) bytes_rows refl ((λ r. let b = and_parts (nat_eq code 258) _ r in other_than_pairs (eqb-true _ _ b.0) (λ pairs. false≢true (sym (not-true _ b.1) ∙ (canonical_pairs_are_computed bytes).1 pairs))), tt) from
   where
     bytes_rows : List (Bool × ImageCause)
     bytes_rows = (nat_eq code 258 && not (are_canonical_pairs bytes), PartBytes) ∷ []
@@ -298,7 +292,7 @@ bytes_named code bytes = named (BytesHave code bytes) bytes_rows refl ((λ r. le
     from _ (other_than_pairs is other) = inl (and_from _ _ (eq-eqb _ _ is) (not_from_false _ (unlike (are_canonical_pairs bytes) refl other)), refl)
 
 padding_named : (padding : List ℕ) → Named (PaddingHas padding) (fault_of_padding padding)
-padding_named padding = named (PaddingHas padding) padding_rows refl ((λ r. let (place, within, some) = some_byte padding (not-true _ r) in not_zero place within some), tt) from
+padding_named padding = first.rows_name _ _ (PaddingHas padding) padding_rows refl ((λ r. let (place, within, some) = some_byte padding (not-true _ r) in not_zero place within some), tt) from
   where
     padding_rows : List (Bool × ImageCause)
     padding_rows = (not (list_all (λ b. nat_eq b 0) padding), PartPadding) ∷ []
@@ -317,7 +311,7 @@ fault_in (Bytes code len) bytes = fault_of_bytes code bytes
 fault_in (Padding n) bytes = fault_of_padding bytes
 fault_in _ bytes = None
 
-pub part_is_named : (part : ImagePart) (bytes : List ℕ) → Named (Stands part bytes) (fault_in part bytes)
+pub part_is_named : (part : ImagePart) (bytes : List ℕ) → Named (StandsInImage part bytes) (fault_in part bytes)
 part_is_named Head bytes = head_named bytes
 part_is_named (FrameHead h) bytes = frame_named h bytes
 part_is_named (PartHead h) bytes = part_named h bytes

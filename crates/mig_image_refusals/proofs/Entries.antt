@@ -16,9 +16,6 @@ use Rattle.mig_image.specs.ImageParts.{has_frame_from, has_machine, has_part_fro
 use Rattle.mig_image.proofs.InOrder.{all_there, some_entry}
 use Rattle.mig_image.proofs.KeyTests.{part_there}
 
-there : {X : Type 0} (o : Option X) (v : X) → o ≡ Some v → IsSome o
-there o v is = subst IsSome (sym is) refl
-
 value_of : {X : Type 0} (o : Option X) → IsSome o → (v : X) × (o ≡ Some v)
 value_of None some = absurd (false≢true some)
 value_of (Some v) some = (v, refl)
@@ -41,7 +38,7 @@ module _ {K X : Type 0} {R : K → K → Ordering} (total : IsTotalOrder R) (exa
 -- ---- frames
 
 pub frame_from : (h : HostOf) (pfn : ℕ) → has_frame_from h pfn ≡ true → (q : ℕ) × IsSome (maps.get h.frames q) × (pfn ≤ q)
-frame_from h pfn any = let (q, v, at, passes) = passing nat_cmp_total nat_cmp-IsAntisymmetric (λ e. nat_le pfn e.0) h.frames any in (q, there _ v at, leb-true pfn q passes)
+frame_from h pfn any = let (q, v, at, passes) = passing nat_cmp_total nat_cmp-IsAntisymmetric (λ e. nat_le pfn e.0) h.frames any in (q, subst IsSome (sym at) refl, leb-true pfn q passes)
 
 pub from_frame : (h : HostOf) (pfn q : ℕ) → IsSome (maps.get h.frames q) → pfn ≤ q → has_frame_from h pfn ≡ true
 from_frame h pfn q some le = let (v, at) = value_of _ some in some_entry nat_cmp_total nat_cmp-IsAntisymmetric (λ e. nat_le pfn e.0) h.frames q v at (le-leb pfn q le)
@@ -64,7 +61,7 @@ module _ (parts : PartMap) (key : PartKey) where
   from_key q Greater is passes = inr (part_total.antisymm key q ∙ ap ordering_reverse is)
 
   pub part_from : has_part_from parts key ≡ true → (q : PartKey) × IsSome (maps.get parts q) × IsFrom key q
-  part_from any = let (q, v, at, passes) = passing part_total part_exact (λ e. not (is_lt (part_cmp e.0 key))) parts any in (q, there _ v at, from_key q (part_cmp q key) refl passes)
+  part_from any = let (q, v, at, passes) = passing part_total part_exact (λ e. not (is_lt (part_cmp e.0 key))) parts any in (q, subst IsSome (sym at) refl, from_key q (part_cmp q key) refl passes)
 
   pub from_part : (q : PartKey) → IsSome (maps.get parts q) → IsFrom key q → has_part_from parts key ≡ true
   from_part q some (inl same) = part_there key parts (subst (λ k. IsSome (maps.get parts k)) same some)

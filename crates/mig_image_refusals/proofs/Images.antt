@@ -1,12 +1,11 @@
 -- An image, or a refusal; and never both.
-use Rattle.mig_image_refusals.proofs.Common.{◌≡◌, ◌⊎◌, inl, inr, List, refl, sym, ◌∙◌, ℕ, Judged, Passes, Faulty, ImageCause, ImagePlace, HostOf}
+use Rattle.mig_image_refusals.proofs.Common.{◌≡◌, ◌⊎◌, inl, inr, List, refl, sym, ◌∙◌, ℕ, Judged, Passes, Faulty, passes_not, ImageCause, ImagePlace, HostOf}
 use Rattle.mig_bytes.specs.Bytes.{AreBytes}
 use Rattle.mig_image.proofs.ImageBack.{image_back}
 use Rattle.mig_image.proofs.ImageReads.{image_reads}
 use Rattle.mig_image.specs.Image.{IsHostImage}
 use Rattle.mig_image.specs.ImageParts.{host_at}
 use Rattle.mig_image_refusals.specs.Refusal.{RefusedImage}
-use Rattle.mig_image_refusals.proofs.Single.{passes_not}
 use Rattle.mig_image_refusals.proofs.Verdicts.{is_refused, refused_is}
 
 pub either : (input : List ℕ) → AreBytes input → ((h : HostOf) × (rest : List ℕ) × IsHostImage input h rest) ⊎ ((place : ImagePlace) × (c : ImageCause) × (rest : List ℕ) × RefusedImage input place c rest)

@@ -2,7 +2,6 @@ pub mod Common
 pub mod Causes
 pub mod Entries
 pub mod Frames
-pub mod Named
 pub mod Parts
 pub mod Single
 pub mod Verdicts

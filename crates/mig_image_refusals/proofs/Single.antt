@@ -1,82 +1,95 @@
--- One part: what fails in it, and how judging goes on behind it.
-use Rattle.mig_image_refusals.proofs.Common.{◌≡◌, ◌⊎◌, inl, inr, ℕ, zero, suc, ◌+◌, ◌<◌, List, [], ◌++◌, length, take, drop, Bool, true, false, cond, nat_lt, Option, Some, None, refl, sym, ap, subst, ◌∙◌, arith, take-append-drop, length-take-le, ltb-false, lt-ltb, ltb-true, Judged, ◌>>=◌, part, placed, tried, Passes, Faulty, part_whole, then_passes, ImageCause, ImagePlace, Truncated, ImagePart, Stands, size_of, IsFaultless, Fails}
+-- One part, and steps one after another: how judging goes on behind them, and what fails in them.
+use Rattle.mig_image_refusals.proofs.Common.{◌≡◌, inl, inr, ℕ, zero, suc, ◌+◌, ◌<◌, ◌≤◌, List, [], ◌++◌, refl, sym, ap, subst, ◌∙◌, arith, append-nil, append_assoc, Judged, ◌>>=◌, said_at, Passes, Faulty, both_pass, same_passes, then_passes, passes_not, bind_cases, ImageCause, Truncated, number_of_image_cause, ImagePart, StandsInImage, image_size, IsFaultlessImagePart}
 use Rattle.mig_bytes.specs.Judged.{steps}
-use Rattle.mig_bytes.proofs.Steps.{steps_more}
-use Rattle.mig_image_refusals.specs.Refusal.Fails.{short, faulty}
-use Rattle.mig_image_refusals.proofs.Named.{Named, named_is, none_is}
-use Rattle.mig_image_refusals.proofs.Causes.{fault_in, part_is_named}
+use Rattle.mig_bytes.proofs.Failing.{Names}
+use Rattle.mig_bytes.proofs.Said.{said_goes, bytes_pass}
+use Rattle.mig_bytes.proofs.Steps.{steps_more, steps_stop}
+use Rattle.mig_headers.specs.FirstCauses.{IsTriedFirst}
+use Rattle.mig_headers.proofs.FirstCauses.{none_is, is_named}
+use Rattle.mig_image_refusals.proofs.Causes.{Named, fault_in, part_is_named}
 
--- ---- judgements that are faulty
-
-pub passes_not : {C X Y : Type 0} (x : X) (i : List ℕ) (c : C) (rest : List ℕ) → ◌≡◌ {A = Judged C X} (Passes x i) (Faulty c rest) → Y
-passes_not x i c rest h = absurd (cc)
-
-pub same_faulty : {C X : Type 0} (c d : C) (i j : List ℕ) → ◌≡◌ {A = Judged C X} (Faulty c i) (Faulty d j) → (c ≡ d) × (i ≡ j)
-same_faulty c d i j h = (cc, cc)
-
--- a judgement that is faulty stays so with what follows it
-pub then_faulty : {C X Y : Type 0} (j : Judged C X) (k : X × List ℕ → Judged C Y) (c : C) (rest : List ℕ) → j ≡ Faulty c rest → (j >>= k) ≡ Faulty c rest
-then_faulty j k c rest h = ap (λ i. i >>= k) h
-
--- of two judgements the first is faulty, or it passes and the second is
-pub bind_cases : {C X Y : Type 0} (j : Judged C X) (k : X × List ℕ → Judged C Y) (c : C) (rest : List ℕ) → (j >>= k) ≡ Faulty c rest
-    → (j ≡ Faulty c rest) ⊎ ((x : X) × (mid : List ℕ) × (j ≡ Passes x mid) × (k (x, mid) ≡ Faulty c rest))
-bind_cases (Passes x mid) k c rest h = inr (x, mid, refl, h)
-bind_cases (Faulty d mid) k c rest h = let e = same_faulty d c mid rest h in inl (rw (e.0, e.1) refl)
-
--- what is said of a judgement that passes has no fault of its own
-pub only_first : {C X Y : Type 0} (says : X → Y) (j : Judged C X) (c : C) (rest : List ℕ) → (j >>= λ p. Passes (says p.0) p.1) ≡ Faulty c rest → j ≡ Faulty c rest
-only_first says (Passes x mid) c rest h = passes_not (says x) mid c rest h
-only_first says (Faulty d mid) c rest h = let e = same_faulty d c mid rest h in rw (e.0, e.1) refl
-
--- what is faulty at a place is faulty, and the place is this one
-pub placed_faulty : {X : Type 0} (at place : ImagePlace) (j : Judged ImageCause X) (c : ImageCause) (rest : List ℕ) → placed at j ≡ Faulty (place, c) rest → (j ≡ Faulty c rest) × (at ≡ place)
-placed_faulty at place (Passes x mid) c rest h = passes_not x mid (place, c) rest h
-placed_faulty at place (Faulty d mid) c rest h = let e = same_faulty (at, d) (place, c) mid rest h in (ap (λ (p : ImagePlace × ImageCause). Faulty p.1 mid) e.0 ∙ ap (Faulty c) e.1, ap (λ (p : ImagePlace × ImageCause). p.0) e.0)
-
--- the first steps, and then the last
-pub last_step : {C X : Type 0} (step : ℕ → X → List ℕ → Judged C X) (n : ℕ) (x : X) (i : List ℕ) → steps step (suc n) 0 x i ≡ (steps step n 0 x i >>= λ a. step n a.0 a.1)
-last_step step n x i = let more : suc n ≡ n + 1 = omega arith in ap (λ m. steps step m 0 x i) more ∙ steps_more step n x i
-
--- of steps that are faulty some first ones pass, and the next is
-pub steps_cases : {C X : Type 0} (step : ℕ → X → List ℕ → Judged C X) (n : ℕ) (x : X) (i : List ℕ) (c : C) (rest : List ℕ) → steps step n 0 x i ≡ Faulty c rest
-    → (k : ℕ) × (k < n) × (y : X) × (mid : List ℕ) × (steps step k 0 x i ≡ Passes y mid) × (step k y mid ≡ Faulty c rest)
-unfolding steps
-steps_cases step zero x i c rest h = passes_not x i c rest h
-steps_cases step (suc n) x i c rest h = elim (bind_cases (steps step n 0 x i) (λ a. step n a.0 a.1) c rest (sym (last_step step n x i) ∙ h)) [
-  | inl e ↦ let (k, less, y, mid, passes, fails) = steps_cases step n x i c rest e in (k, (omega (arith, less)), y, mid, passes, fails)
-  | inr a ↦ (n, (omega arith), a.0, a.1, a.2, a.3)
-]
-
--- ---- one part judged
-
-pub fine : (p : ImagePart) (bytes : List ℕ) → IsFaultless p bytes → fault_in p bytes ≡ None
-fine p bytes is = none_is (Stands p bytes) (fault_in p bytes) (part_is_named p bytes) is.none
-
-pub faultless : (p : ImagePart) (bytes : List ℕ) → length bytes ≡ size_of p → fault_in p bytes ≡ None → IsFaultless p bytes
-faultless p bytes size e = record { size = size; none = (subst (Named (Stands p bytes)) e (part_is_named p bytes)).holds }
+-- ---- one part
 
 abbrev pub one_part : ImagePart → List ℕ → Judged ImageCause (List ℕ)
-one_part p input = part Truncated (size_of p) input >>= λ a. tried (fault_in p a.0) a.1 >>= λ _. Passes a.0 a.1
+one_part p input = said_at Truncated (fault_in p) (λ bytes. bytes) (image_size p) input
 
-pub fails_is : (p : ImagePart) (left : List ℕ) (c : ImageCause) (rest : List ℕ) → Fails p left c rest → one_part p left ≡ Faulty c rest
-fails_is p left _ _ (short less) = rw (lt-ltb (length left) (size_of p) less) refl
-fails_is p left _ _ (faulty bytes rest c whole size named) =
-    let some : fault_in p bytes ≡ Some c = named_is (Stands p bytes) (fault_in p bytes) c (part_is_named p bytes) named in
-    ap (one_part p) whole ∙ then_passes (part Truncated (size_of p) (bytes ++ rest)) _ bytes rest _ (part_whole Truncated (size_of p) bytes rest size) (ap (λ g. tried g rest >>= λ _. Passes bytes rest) some)
+pub names : (p : ImagePart) → Names (λ bytes. IsTriedFirst number_of_image_cause (λ _. 0) (StandsInImage p bytes)) (fault_in p)
+names p = is_named number_of_image_cause (λ _. 0) (StandsInImage p) (fault_in p) (part_is_named p)
 
-module _ (p : ImagePart) (left : List ℕ) where
-  fails_tried : (bytes mid : List ℕ) (g : Option ImageCause) (c : ImageCause) (rest : List ℕ) → left ≡ bytes ++ mid → length bytes ≡ size_of p → fault_in p bytes ≡ g → (tried g mid >>= λ _. Passes bytes mid) ≡ Faulty c rest → Fails p left c rest
-  fails_tried bytes mid None c rest whole size is h = passes_not bytes mid c rest h
-  fails_tried bytes mid (Some d) c rest whole size is h =
-      let e = same_faulty d c mid rest h in
-      faulty bytes rest c (whole ∙ ap (λ l. bytes ++ l) e.1) size (subst (Named (Stands p bytes)) (is ∙ ap Some e.0) (part_is_named p bytes)).holds
+-- a faultless part passes, and a part that passes is faultless
+pub part_goes : (p : ImagePart) (bytes rest : List ℕ) → IsFaultlessImagePart p bytes → one_part p (bytes ++ rest) ≡ Passes bytes rest
+part_goes p bytes rest is = said_goes Truncated (fault_in p) (λ l. l) (image_size p) bytes rest is.size (none_is number_of_image_cause (λ _. 0) (StandsInImage p bytes) (fault_in p bytes) (part_is_named p bytes) is.none)
 
-  fails_by : (b : Bool) (c : ImageCause) (rest : List ℕ) → nat_lt (length left) (size_of p) ≡ b
-      → (cond b (Faulty Truncated []) (Passes (take (size_of p) left) (drop (size_of p) left)) >>= λ a. tried (fault_in p a.0) a.1 >>= λ _. Passes a.0 a.1) ≡ Faulty c rest → Fails p left c rest
-  fails_by true c rest is h = let e = same_faulty Truncated c [] rest h in subst (λ (d : ImageCause). Fails p left d rest) e.0 (subst (λ l. Fails p left Truncated l) e.1 (short (ltb-true _ _ is)))
-  fails_by false c rest is h =
-      fails_tried (take (size_of p) left) (drop (size_of p) left) (fault_in p (take (size_of p) left)) c rest (sym (take-append-drop (size_of p) left)) (length-take-le (size_of p) left (ltb-false (length left) (size_of p) is)) refl h
+pub part_back : (p : ImagePart) (left bytes rest : List ℕ) → one_part p left ≡ Passes bytes rest → (left ≡ bytes ++ rest) × IsFaultlessImagePart p bytes
+part_back p left bytes rest h =
+    let (whole, size, none) = bytes_pass Truncated (fault_in p) (image_size p) left bytes rest h in
+    (whole, record { size = size; none = (subst (Named (StandsInImage p bytes)) none (part_is_named p bytes)).holds })
 
-  pub is_fails : (c : ImageCause) (rest : List ℕ) → one_part p left ≡ Faulty c rest → Fails p left c rest
-  is_fails c rest h = fails_by (nat_lt (length left) (size_of p)) c rest refl h
+-- what is said of a part, and then more of that
+pub said_then : {C X Y Z : Type 0} (says : X → Y) (j : Judged C X) (k : Y × List ℕ → Judged C Z) → ((j >>= λ a. Passes (says a.0) a.1) >>= k) ≡ (j >>= λ a. k (says a.0, a.1))
+said_then says (Passes x rest) k = refl
+said_then says (Faulty c rest) k = refl
+
+-- ---- steps
+
+module _ {C X : Type 0} (step : ℕ → X → List ℕ → Judged C X) where
+  -- the first steps, and then the last
+  last_step : (n : ℕ) (x : X) (i : List ℕ) → steps step (suc n) 0 x i ≡ (steps step n 0 x i >>= λ a. step n a.0 a.1)
+  last_step n x i = let more : suc n ≡ n + 1 = omega arith in ap (λ m. steps step m 0 x i) more ∙ steps_more step n x i
+
+  -- of so many steps the first n stand behind a front that First allows
+  pub record Stepped (First : List ℕ → X → Type 0) (front : List ℕ) (count n : ℕ) (x : X) : Type 0 where
+    pub start : List ℕ
+    pub texts : List ℕ
+    pub base : X
+    pub first : First start base
+    pub whole : front ≡ start ++ texts
+    pub within : n ≤ count
+    pub goes : (left : List ℕ) → steps step n 0 base (texts ++ left) ≡ Passes x left
+
+  module _ (First : List ℕ → X → Type 0) (front : List ℕ) (count : ℕ) where
+    pub no_step : (x : X) → First front x → Stepped First front count 0 x
+    unfolding steps
+    no_step x first = record { start = front; texts = []; base = x; first = first; whole = sym (append-nil front); within = omega arith; goes = λ left. refl }
+
+    module _ (n : ℕ) (x : X) (s : Stepped First front count n x) (less : n < count) where
+      pub one_step_more : (bytes : List ℕ) (y : X) → ((left : List ℕ) → step n x (bytes ++ left) ≡ Passes y left) → Stepped First (front ++ bytes) count (n + 1) y
+      one_step_more bytes y passes = record {
+        start = s.start;
+        texts = s.texts ++ bytes;
+        base = s.base;
+        first = s.first;
+        whole = ap (λ l. l ++ bytes) s.whole ∙ append_assoc s.start s.texts bytes;
+        within = omega (arith, less);
+        goes = λ left. ap (steps step (n + 1) 0 s.base) (append_assoc s.texts bytes left) ∙ steps_more step n s.base (s.texts ++ (bytes ++ left))
+            ∙ then_passes (steps step n 0 s.base (s.texts ++ (bytes ++ left))) (λ a. step n a.0 a.1) x (bytes ++ left) _ (s.goes (bytes ++ left)) (passes left);
+      }
+
+      pub steps_fail : (left : List ℕ) (c : C) (rest : List ℕ) → step n x left ≡ Faulty c rest → steps step count 0 s.base (s.texts ++ left) ≡ Faulty c rest
+      steps_fail left c rest fails =
+          steps_stop step (n + 1) count s.base (s.texts ++ left) rest c (omega (arith, less))
+          (steps_more step n s.base (s.texts ++ left) ∙ then_passes (steps step n 0 s.base (s.texts ++ left)) (λ a. step n a.0 a.1) x left _ (s.goes left) fails)
+
+  -- steps each of which takes what may follow the front: To says of the front, and of how many steps it has, what they make
+  module _ (count : ℕ) (To : List ℕ → ℕ → X → Type 0)
+      (takes : (front : List ℕ) (n : ℕ) (x : X) (i : List ℕ) (y : X) (rest : List ℕ) → To front n x → n < count → step n x i ≡ Passes y rest → (after : List ℕ) × (front ++ i ≡ after ++ rest) × To after (n + 1) y)
+      (front : List ℕ) (x : X) (to : To front 0 x) (i : List ℕ) where
+    pub steps_back : (n : ℕ) (y : X) (rest : List ℕ) → n ≤ count → steps step n 0 x i ≡ Passes y rest → (after : List ℕ) × (front ++ i ≡ after ++ rest) × To after n y
+    unfolding steps
+    steps_back zero y rest within h = let e = same_passes x y i rest h in (front, ap (λ l. front ++ l) e.1, subst (To front 0) e.0 to)
+    steps_back (suc n) y rest within h =
+        let a = both_pass (steps step n 0 x i) (λ a. step n a.0 a.1) y rest (sym (last_step n x i) ∙ h) in
+        let (mid, whole, before) = steps_back n a.x a.mid (omega (arith, within)) a.first in
+        let (after, same, more) = takes mid n a.x a.mid y rest before (omega (arith, within)) a.second in
+        let next : n + 1 ≡ suc n = omega arith in
+        (after, whole ∙ same, subst (λ m. To after m y) next more)
+
+    -- of steps that are faulty some first ones pass, and the next is
+    pub steps_cases : (n : ℕ) (c : C) (rest : List ℕ) → n ≤ count → steps step n 0 x i ≡ Faulty c rest
+        → (k : ℕ) × (k < n) × (y : X) × (mid : List ℕ) × (after : List ℕ) × (front ++ i ≡ after ++ mid) × To after k y × (step k y mid ≡ Faulty c rest)
+    unfolding steps
+    steps_cases zero c rest within h = passes_not x i c rest h
+    steps_cases (suc n) c rest within h = elim (bind_cases (steps step n 0 x i) (λ a. step n a.0 a.1) c rest (sym (last_step n x i) ∙ h)) [
+      | inl e ↦ let (k, less, y, mid, after, whole, before, fails) = steps_cases n c rest (omega (arith, within)) e in (k, omega (arith, less), y, mid, after, whole, before, fails)
+      | inr a ↦ let (after, whole, before) = steps_back n a.0 a.1 (omega (arith, within)) a.2 in (n, omega arith, a.0, a.1, after, whole, before, a.3)
+    ]

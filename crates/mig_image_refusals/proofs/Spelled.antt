@@ -1,9 +1,9 @@
 -- Fronts of bytes are spelled as an image spells the frames and parts of a valid host.
-use Rattle.mig_image_refusals.proofs.Common.{◌≡◌, inl, inr, ℕ, ◌^◌, ◌<◌, ◌≤◌, List, [], ◌++◌, length, refl, sym, ap, subst, ◌∙◌, arith, append-nil, append_assoc, cases_eq, cases_lt, le32, Passes, Pv, HostOf, PartKey, IsFaultless}
+use Rattle.mig_image_refusals.proofs.Common.{◌≡◌, inl, inr, ℕ, ◌^◌, ◌<◌, ◌≤◌, List, [], ◌++◌, length, refl, sym, ap, subst, ◌∙◌, arith, append-nil, append_assoc, cases_eq, cases_lt, le32, Passes, Pv, HostOf, PartKey, IsFaultlessImagePart}
 use Rattle.std.specs.FinMap as maps
 use Rattle.std.specs.List.{flat_map}
 use Rattle.std.proofs.lemmas.List.{append_cancel_right}
-use Rattle.std.proofs.lemmas.List.Elements.{All-append, All-from_recursion, recursion_from_All}
+use Rattle.std.proofs.lemmas.List.Elements.{All-append, All-from_recursion}
 use Rattle.byteorder.specs.Endian.{little_bytes}
 use Rattle.mig_bytes.proofs.ByteLists.{Bytes, bytes_back, bytes_front}
 use Rattle.mig_bytes.specs.Bytes.{AreBytes}
@@ -23,10 +23,10 @@ use Rattle.mig_image.proofs.InOrder.{no_entries}
 use Rattle.mig_image.proofs.Parts.{part_entries, parts_valid, with_parts}
 use Rattle.mig_image.proofs.Parts.{parts_back as parts_said}
 use Rattle.mig_image.specs.Image.{frame_text, host_head, image, part_text}
-use Rattle.mig_image.specs.ImageParts.{host_parts_at, opened}
+use Rattle.mig_image.specs.ImageParts.{frames_at, host_parts_at, opened}
 use Rattle.mig_image_refusals.specs.Fronts.{EndsInFrames, EndsInParts}
 use Rattle.mig_image_refusals.specs.Refusal.{FramesTo, PartsTo}
-use Rattle.mig_image_refusals.specs.Refusal.HeadHas.{pv_without_width, too_many, too_wide}
+use Rattle.mig_image_refusals.specs.Refusal.ImageHeadHas.{pv_without_width, too_many, too_wide}
 use Rattle.mig_image_refusals.specs.Refusal.ImagePart.{Head}
 use Rattle.mig_image_refusals.proofs.Causes.{of_pv}
 use Rattle.mig_image_refusals.proofs.Frames.{frames_go}
@@ -35,7 +35,7 @@ use Rattle.mig_image_refusals.proofs.Verdicts.{behind_frames, frames_pass}
 
 -- ---- what a faultless head says
 
-module _ (head : List ℕ) (is : IsFaultless Head head) where
+module _ (head : List ℕ) (is : IsFaultlessImagePart Head head) where
   width_fits : le64 head 16 ≤ 2 ^ 28
   width_fits = elim (cases_lt (2 ^ 28) (le64 head 16)) [ inl wide ↦ absurd (is.none _ (too_wide wide)) | inr fits ↦ fits ]
 
@@ -50,21 +50,22 @@ module _ (head : List ℕ) (is : IsFaultless Head head) where
 
 -- ---- frames
 
-frames_spelled : (front : List ℕ) (count n : ℕ) (h : HostOf) → Bytes front → FramesTo front count n h → EndsInFrames front n h
+pub frames_spelled : (front : List ℕ) (count n : ℕ) (h : HostOf) → Bytes front → FramesTo front count n h → EndsInFrames front n h
 frames_spelled front count n h bytes to =
     let f = frames_go front count n h to in
-    let in_frames = subst Bytes (sym (append-nil f.frames)) (bytes_back front f.head f.frames f.whole bytes) in
-    let s = frames_said (opened f.head) n (f.frames ++ []) h [] in_frames (f.goes []) in
-    let entries : maps.entries h.frames ≡ s.es = ap (λ (g : HostOf). maps.entries g.frames) s.is ∙ frame_entries (opened f.head) s.es s.chain in
-    let whole : f.frames ≡ flat_map frame_text s.es = sym (append-nil f.frames) ∙ s.whole ∙ append-nil (flat_map frame_text s.es) in
-    let few : length s.es ≤ 2 ^ 24 = omega (arith, s.size, f.within, f.count_is, count_fits f.head f.head_is) in
-    let none = valid_empty (kind_of_number (le32 f.head 8)) (le64 f.head 16) (width_fits f.head f.head_is) (some_width f.head f.head_is) in
+    let (is, count_is, opens) = f.first in
+    let in_frames = subst Bytes (sym (append-nil f.texts)) (bytes_back front f.start f.texts f.whole bytes) in
+    let s = frames_said (opened f.start) n (f.texts ++ []) h [] in_frames (subst (λ g. frames_at n g (f.texts ++ []) ≡ Passes h []) opens (f.goes [])) in
+    let entries : maps.entries h.frames ≡ s.es = ap (λ (g : HostOf). maps.entries g.frames) s.is ∙ frame_entries (opened f.start) s.es s.chain in
+    let whole : f.texts ≡ flat_map frame_text s.es = sym (append-nil f.texts) ∙ s.whole ∙ append-nil (flat_map frame_text s.es) in
+    let few : length s.es ≤ 2 ^ 24 = omega (arith, s.size, f.within, count_is, count_fits f.start is) in
+    let none = valid_empty (kind_of_number (le32 f.start 8)) (le64 f.start 16) (width_fits f.start is) (some_width f.start is) in
     record {
-      head = f.head;
-      faultless = f.head_is;
-      spelled = f.whole ∙ ap (λ l. f.head ++ l) (whole ∙ ap (flat_map frame_text) (sym entries));
+      head = f.start;
+      faultless = is;
+      spelled = f.whole ∙ ap (λ l. f.start ++ l) (whole ∙ ap (flat_map frame_text) (sym entries));
       size = ap length entries ∙ s.size;
-      valid = subst IsValid (sym s.is) (frames_valid (opened f.head) s.es none s.chain few);
+      valid = subst IsValid (sym s.is) (frames_valid (opened f.start) s.es none s.chain few);
       no_parts = ap (λ (g : HostOf). g.parts) s.is;
     }
 
@@ -96,33 +97,31 @@ same_head : (h : HostOf) (m : PartMap) → host_head (with_parts h m) ≡ host_h
 unfolding host_head
 same_head h m = refl
 
-parts_spelled : (front : List ℕ) (count n : ℕ) (h : HostOf) → Bytes front → PartsTo front count n h → EndsInParts front count n h
+pub parts_spelled : (front : List ℕ) (count n : ℕ) (h : HostOf) → Bytes front → PartsTo front count n h → EndsInParts front count n h
 parts_spelled front count n h bytes to =
     let p = parts_go front count n h to in
-    let first = bytes_front front p.before (p.number ++ p.parts) p.whole bytes in
-    let in_parts = bytes_back (p.number ++ p.parts) p.number p.parts refl (bytes_back front p.before (p.number ++ p.parts) p.whole bytes) in
-    let f = frames_spelled p.before p.frames p.frames p.framed first p.to in
-    let bare : p.framed ≡ with_parts p.framed maps.empty = ap (with_parts p.framed) f.no_parts in
-    let all = subst Bytes (sym (append-nil p.parts)) in_parts in
-    let s = parts_said p.framed n (p.parts ++ []) h [] all (subst (λ g. host_parts_at n g (p.parts ++ []) ≡ Passes h []) bare (p.goes [])) in
-    let entries : maps.entries h.parts ≡ s.es = ap (λ (g : HostOf). maps.entries g.parts) s.is ∙ part_entries p.framed s.es s.chain in
-    let whole : p.parts ≡ flat_map part_text s.es = sym (append-nil p.parts) ∙ s.whole ∙ append-nil (flat_map part_text s.es) in
-    let head : host_head p.framed ≡ host_head h = sym (ap host_head s.is ∙ same_head p.framed (put_all maps.empty s.es)) in
+    let c = p.first in
+    let framed = p.base in
+    let counted = bytes_front front p.start p.texts p.whole bytes in
+    let first = bytes_front p.start c.before c.number c.whole counted in
+    let in_parts = bytes_back front p.start p.texts p.whole bytes in
+    let f = frames_spelled c.before c.frames c.frames framed first c.to in
+    let bare : framed ≡ with_parts framed maps.empty = ap (with_parts framed) f.no_parts in
+    let all = subst Bytes (sym (append-nil p.texts)) in_parts in
+    let s = parts_said framed n (p.texts ++ []) h [] all (subst (λ g. host_parts_at n g (p.texts ++ []) ≡ Passes h []) bare (p.goes [])) in
+    let entries : maps.entries h.parts ≡ s.es = ap (λ (g : HostOf). maps.entries g.parts) s.is ∙ part_entries framed s.es s.chain in
+    let whole : p.texts ≡ flat_map part_text s.es = sym (append-nil p.texts) ∙ s.whole ∙ append-nil (flat_map part_text s.es) in
+    let head : host_head framed ≡ host_head h = sym (ap host_head s.is ∙ same_head framed (put_all maps.empty s.es)) in
     let frames = ap (λ (g : HostOf). flat_map frame_text (maps.entries g.frames)) s.is in
-    let behind = p.number ++ p.parts in
+    let behind = c.number ++ p.texts in
     record {
-      number = p.number;
-      number_size = p.size;
-      number_is = p.count_is;
-      spelled = p.whole ∙ ap (λ l. l ++ behind) (head_spelled p.before p.frames p.framed first p.to f.no_parts) ∙ append_assoc (host_head p.framed) (flat_map frame_text (maps.entries p.framed.frames)) behind
-          ∙ ap (λ l. l ++ (flat_map frame_text (maps.entries p.framed.frames) ++ behind)) head ∙ ap (λ l. host_head h ++ (l ++ behind)) (sym frames)
-          ∙ ap (λ l. host_head h ++ (flat_map frame_text (maps.entries h.frames) ++ (p.number ++ l))) (whole ∙ ap (flat_map part_text) (sym entries));
+      number = c.number;
+      number_size = c.is.size;
+      number_is = c.count_is;
+      spelled = p.whole ∙ ap (λ l. l ++ p.texts) c.whole ∙ append_assoc c.before c.number p.texts
+          ∙ ap (λ l. l ++ behind) (head_spelled c.before c.frames framed first c.to f.no_parts) ∙ append_assoc (host_head framed) (flat_map frame_text (maps.entries framed.frames)) behind
+          ∙ ap (λ l. l ++ (flat_map frame_text (maps.entries framed.frames) ++ behind)) head ∙ ap (λ l. host_head h ++ (l ++ behind)) (sym frames)
+          ∙ ap (λ l. host_head h ++ (flat_map frame_text (maps.entries h.frames) ++ (c.number ++ l))) (whole ∙ ap (flat_map part_text) (sym entries));
       size = ap length entries ∙ s.size;
-      valid = subst IsValid (sym s.is) (parts_valid p.framed s.es (subst IsValid bare f.valid) s.chain);
+      valid = subst IsValid (sym s.is) (parts_valid framed s.es (subst IsValid bare f.valid) s.chain);
     }
-
-pub front_of_frames : (front : List ℕ) (count n : ℕ) (h : HostOf) → AreBytes front → FramesTo front count n h → EndsInFrames front n h
-front_of_frames front count n h bytes to = frames_spelled front count n h (recursion_from_All (λ b. b < 256) front bytes) to
-
-pub front_of_parts : (front : List ℕ) (count n : ℕ) (h : HostOf) → AreBytes front → PartsTo front count n h → EndsInParts front count n h
-front_of_parts front count n h bytes to = parts_spelled front count n h (recursion_from_All (λ b. b < 256) front bytes) to

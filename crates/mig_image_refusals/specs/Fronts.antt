@@ -5,13 +5,13 @@ use Rattle.std.specs.List.{flat_map}
 use Rattle.mig_bytes.specs.Fields.{le64}
 use Rattle.mig_guest.specs.Hosts.{HostOf, IsValid}
 use Rattle.mig_image.specs.Image.{frame_text, host_head, part_text}
-use Rattle.mig_image_refusals.specs.Refusal.{IsFaultless}
+use Rattle.mig_image_refusals.specs.Refusal.{IsFaultlessImagePart}
 use Rattle.mig_image_refusals.specs.Refusal.ImagePart.{Head}
 
 -- a faultless head, which may tell more frames, and all n frames of a valid host without parts
 pub record EndsInFrames (front : List ℕ) (n : ℕ) (h : HostOf) : Type 0 where
   pub head : List ℕ
-  pub faultless : IsFaultless Head head
+  pub faultless : IsFaultlessImagePart Head head
   pub spelled : front ≡ head ++ flat_map frame_text (maps.entries h.frames)
   pub size : length (maps.entries h.frames) ≡ n
   pub no_parts : h.parts ≡ maps.empty

@@ -3,7 +3,9 @@
 use Rattle.std.specs.Prelude.{◌≡◌, ◌⊎◌, ℕ, ◌+◌, ◌<◌, ◌≤◌, List, [], ◌++◌, length, Some, is_some, IsSome, IsFalse, slice_index, unwrap_or, if◌then◌else◌}
 use Rattle.std.specs.FinMap as maps
 use Rattle.mig_bytes.specs.Bytes.{padding_len}
+use Rattle.mig_bytes.specs.Failing.{IsFaultless, Fails}
 use Rattle.mig_bytes.specs.Fields.{le32, le64, be64}
+use Rattle.mig_headers.specs.FirstCauses.{IsTriedFirst}
 use Rattle.mig_headers.specs.Headers.{kind_number}
 use Rattle.mig_headers.specs.ImageTexts.{number_of_image_cause}
 use Rattle.mig_headers.specs.Pairs.{AreCanonicalPairs}
@@ -27,14 +29,14 @@ use Rattle.mig_image.specs.ImageParts.{image_name, head_pfn, head_type_number, h
 -- ---- where each cause stands, a line for each
 
 -- the image's head: its name, the kind, 0, the width and the number of frames
-pub data HeadHas (head : List ℕ) : ImageCause → Type 0 where
-  not_image : (be64 head 0 ≡ image_name → ⊥) → HeadHas head NotImage
-  bad_kind : (le32 head 8 ≡ 1 → ⊥) → (le32 head 8 ≡ 2 → ⊥) → HeadHas head (BadKind (le32 head 8))
-  not_zero : (le32 head 12 ≡ 0 → ⊥) → HeadHas head Reserved
-  too_wide : most_width < le64 head 16 → HeadHas head (Width (le64 head 16))
-  pv_without_width : le32 head 8 ≡ 1 → le64 head 16 ≡ 0 → HeadHas head (Width (le64 head 16))
-  too_many : most_frames < le64 head 24 → HeadHas head (FrameCount (le64 head 24))
-  above_width : le64 head 16 < le64 head 24 → HeadHas head (FrameCount (le64 head 24))
+pub data ImageHeadHas (head : List ℕ) : ImageCause → Type 0 where
+  not_image : (be64 head 0 ≡ image_name → ⊥) → ImageHeadHas head NotImage
+  bad_kind : (le32 head 8 ≡ 1 → ⊥) → (le32 head 8 ≡ 2 → ⊥) → ImageHeadHas head (BadKind (le32 head 8))
+  not_zero : (le32 head 12 ≡ 0 → ⊥) → ImageHeadHas head Reserved
+  too_wide : most_width < le64 head 16 → ImageHeadHas head (Width (le64 head 16))
+  pv_without_width : le32 head 8 ≡ 1 → le64 head 16 ≡ 0 → ImageHeadHas head (Width (le64 head 16))
+  too_many : most_frames < le64 head 24 → ImageHeadHas head (FrameCount (le64 head 24))
+  above_width : le64 head 16 < le64 head 24 → ImageHeadHas head (FrameCount (le64 head 24))
 
 -- a frame's head, behind the frames of this host: a word with type and frame number, 0, and the machine frame
 pub data FrameHas (h : HostOf) (head : List ℕ) : ImageCause → Type 0 where
@@ -79,44 +81,39 @@ pub data ImagePart : Type 0 where
   Padding : ℕ → ImagePart
 
 -- how many bytes a part has
-abbrev pub size_of : ImagePart → ℕ
-size_of Head = 32
-size_of (FrameHead h) = 16
-size_of (Page type) = if type_has_data type then 4096 else 0
-size_of Number = 8
-size_of (PartHead h) = 16
-size_of (Bytes code len) = len
-size_of (Padding n) = n
+abbrev pub image_size : ImagePart → ℕ
+image_size Head = 32
+image_size (FrameHead h) = 16
+image_size (Page type) = if type_has_data type then 4096 else 0
+image_size Number = 8
+image_size (PartHead h) = 16
+image_size (Bytes code len) = len
+image_size (Padding n) = n
 
 -- the causes that stand in a part
-abbrev pub Stands : ImagePart → List ℕ → ImageCause → Type 0
-Stands Head bytes cause = HeadHas bytes cause
-Stands (FrameHead h) bytes cause = FrameHas h bytes cause
-Stands (Page type) bytes cause = ⊥
-Stands Number bytes cause = ⊥
-Stands (PartHead h) bytes cause = PartHas h bytes cause
-Stands (Bytes code len) bytes cause = BytesHave code bytes cause
-Stands (Padding n) bytes cause = PaddingHas bytes cause
-
--- the cause stands, and every other that stands has a greater number
-abbrev pub IsFirstCause : (ImageCause → Type 0) → ImageCause → Type 0
-IsFirstCause Has cause = Has cause × ((other : ImageCause) → Has other → (number_of_image_cause cause < number_of_image_cause other) ⊎ (other ≡ cause))
+abbrev pub StandsInImage : ImagePart → List ℕ → ImageCause → Type 0
+StandsInImage Head bytes cause = ImageHeadHas bytes cause
+StandsInImage (FrameHead h) bytes cause = FrameHas h bytes cause
+StandsInImage (Page type) bytes cause = ⊥
+StandsInImage Number bytes cause = ⊥
+StandsInImage (PartHead h) bytes cause = PartHas h bytes cause
+StandsInImage (Bytes code len) bytes cause = BytesHave code bytes cause
+StandsInImage (Padding n) bytes cause = PaddingHas bytes cause
 
 -- a part that is whole and without a cause
-pub record IsFaultless (part : ImagePart) (bytes : List ℕ) : Type 0 where
-  pub size : length bytes ≡ size_of part
-  pub none : (cause : ImageCause) → Stands part bytes cause → ⊥
+abbrev pub IsFaultlessImagePart : ImagePart → List ℕ → Type 0
+IsFaultlessImagePart part bytes = IsFaultless (image_size part) (StandsInImage part) bytes
 
--- a part isn't whole in what is left, of which nothing remains; or it is, and this cause is named, and rest follows it
-pub data Fails (part : ImagePart) (left : List ℕ) : ImageCause → List ℕ → Type 0 where
-  short : length left < size_of part → Fails part left Truncated []
-  faulty : (bytes rest : List ℕ) (cause : ImageCause) → left ≡ bytes ++ rest → length bytes ≡ size_of part → IsFirstCause (Stands part bytes) cause → Fails part left cause rest
+-- a part isn't whole in what is left, of which nothing remains; or it is, and this cause is named, and rest follows it; no
+-- cause of an image stands at several places
+abbrev pub ImagePartFails : ImagePart → List ℕ → ImageCause → List ℕ → Type 0
+ImagePartFails part left cause rest = Fails Truncated (image_size part) (λ bytes. IsTriedFirst number_of_image_cause (λ _. 0) (StandsInImage part bytes)) left cause rest
 
 -- ---- faultless fronts, and the part that comes next
 
 -- a faultless head says this host, so far without frames and parts
 pub record Opens (head : List ℕ) (h : HostOf) : Type 0 where
-  pub faultless : IsFaultless Head head
+  pub faultless : IsFaultlessImagePart Head head
   pub kind : le32 head 8 ≡ kind_number h.kind
   pub width : le64 head 16 ≡ h.width
   pub no_frames : h.frames ≡ maps.empty
@@ -126,22 +123,22 @@ pub record Opens (head : List ℕ) (h : HostOf) : Type 0 where
 pub record SpellsFrame (h : HostOf) (bytes : List ℕ) (pfn : ℕ) (frame : HostFrame) : Type 0 where
   pub head : List ℕ
   pub whole : bytes ≡ head ++ unwrap_or frame.page []
-  pub faultless : IsFaultless (FrameHead h) head
+  pub faultless : IsFaultlessImagePart (FrameHead h) head
   pub pfn_is : head_pfn head ≡ pfn
   pub type : head_type_number head ≡ number_of frame.type
   pub machine : le64 head 8 ≡ frame.machine
   pub in_step : is_some frame.page ≡ type_has_data frame.type
-  pub page : IsFaultless (Page frame.type) (unwrap_or frame.page [])
+  pub page : IsFaultlessImagePart (Page frame.type) (unwrap_or frame.page [])
 
 -- a host's part behind those of this host: a faultless head, so many bytes, and padding up to a multiple of 8
 pub record SpellsPart (h : HostOf) (bytes : List ℕ) (key : PartKey) (content : List ℕ) : Type 0 where
   pub head : List ℕ
   pub padding : List ℕ
   pub whole : bytes ≡ head ++ (content ++ padding)
-  pub faultless : IsFaultless (PartHead h) head
+  pub faultless : IsFaultlessImagePart (PartHead h) head
   pub key_is : head_key head ≡ key
-  pub content_is : IsFaultless (Bytes (le32 head 0) (le32 head 12)) content
-  pub zeros : IsFaultless (Padding (padding_len (le32 head 12))) padding
+  pub content_is : IsFaultlessImagePart (Bytes (le32 head 0) (le32 head 12)) content
+  pub zeros : IsFaultlessImagePart (Padding (padding_len (le32 head 12))) padding
 
 -- a head, and the first n of its frames one after another; and the host that they make
 pub data FramesTo : List ℕ → ℕ → ℕ → HostOf → Type 0 where
@@ -150,20 +147,20 @@ pub data FramesTo : List ℕ → ℕ → ℕ → HostOf → Type 0 where
 
 -- a head, all its frames, the number of parts, and the first n parts one after another; and the host that they make
 pub data PartsTo : List ℕ → ℕ → ℕ → HostOf → Type 0 where
-  at_first : (front number : List ℕ) (count : ℕ) (h : HostOf) → FramesTo front count count h → IsFaultless Number number → PartsTo (front ++ number) (le64 number 0) 0 h
+  at_first : (front number : List ℕ) (count : ℕ) (h : HostOf) → FramesTo front count count h → IsFaultlessImagePart Number number → PartsTo (front ++ number) (le64 number 0) 0 h
   one_more : (front bytes : List ℕ) (count n : ℕ) (h : HostOf) (key : PartKey) (content : List ℕ) → PartsTo front count n h → n < count → SpellsPart h bytes key content → PartsTo (front ++ bytes) count (n + 1) (put_part_in h key content)
 
 -- a faultless front of an image, and the place and the part that come next
-pub data Behind : List ℕ → ImagePlace → ImagePart → Type 0 where
-  at_head : Behind [] places.Head Head
-  at_frame : (front : List ℕ) (count n : ℕ) (h : HostOf) → FramesTo front count n h → n < count → Behind front (places.Frame n) (FrameHead h)
-  at_page : (front head : List ℕ) (count n : ℕ) (h : HostOf) (type : PageType) → FramesTo front count n h → n < count → IsFaultless (FrameHead h) head → head_type_number head ≡ number_of type
-      → Behind (front ++ head) (places.Frame n) (Page type)
-  at_number : (front : List ℕ) (count : ℕ) (h : HostOf) → FramesTo front count count h → Behind front places.Parts Number
-  at_part : (front : List ℕ) (count n : ℕ) (h : HostOf) → PartsTo front count n h → n < count → Behind front (places.Part n) (PartHead h)
-  at_bytes : (front head : List ℕ) (count n : ℕ) (h : HostOf) → PartsTo front count n h → n < count → IsFaultless (PartHead h) head → Behind (front ++ head) (places.Part n) (Bytes (le32 head 0) (le32 head 12))
-  at_padding : (front head content : List ℕ) (count n : ℕ) (h : HostOf) → PartsTo front count n h → n < count → IsFaultless (PartHead h) head → IsFaultless (Bytes (le32 head 0) (le32 head 12)) content
-      → Behind (front ++ (head ++ content)) (places.Part n) (Padding (padding_len (le32 head 12)))
+pub data BehindImage : List ℕ → ImagePlace → ImagePart → Type 0 where
+  at_head : BehindImage [] places.Head Head
+  at_frame : (front : List ℕ) (count n : ℕ) (h : HostOf) → FramesTo front count n h → n < count → BehindImage front (places.Frame n) (FrameHead h)
+  at_page : (front head : List ℕ) (count n : ℕ) (h : HostOf) (type : PageType) → FramesTo front count n h → n < count → IsFaultlessImagePart (FrameHead h) head → head_type_number head ≡ number_of type
+      → BehindImage (front ++ head) (places.Frame n) (Page type)
+  at_number : (front : List ℕ) (count : ℕ) (h : HostOf) → FramesTo front count count h → BehindImage front places.Parts Number
+  at_part : (front : List ℕ) (count n : ℕ) (h : HostOf) → PartsTo front count n h → n < count → BehindImage front (places.Part n) (PartHead h)
+  at_bytes : (front head : List ℕ) (count n : ℕ) (h : HostOf) → PartsTo front count n h → n < count → IsFaultlessImagePart (PartHead h) head → BehindImage (front ++ head) (places.Part n) (Bytes (le32 head 0) (le32 head 12))
+  at_padding : (front head content : List ℕ) (count n : ℕ) (h : HostOf) → PartsTo front count n h → n < count → IsFaultlessImagePart (PartHead h) head → IsFaultlessImagePart (Bytes (le32 head 0) (le32 head 12)) content
+      → BehindImage (front ++ (head ++ content)) (places.Part n) (Padding (padding_len (le32 head 12)))
 
 -- the input is refused as an image at this place, for this cause, and rest follows the faulty part
 pub record RefusedImage (input : List ℕ) (place : ImagePlace) (cause : ImageCause) (rest : List ℕ) : Type 0 where
@@ -171,5 +168,5 @@ pub record RefusedImage (input : List ℕ) (place : ImagePlace) (cause : ImageCa
   pub left : List ℕ
   pub part : ImagePart
   pub whole : input ≡ front ++ left
-  pub behind : Behind front place part
-  pub fails : Fails part left cause rest
+  pub behind : BehindImage front place part
+  pub fails : ImagePartFails part left cause rest

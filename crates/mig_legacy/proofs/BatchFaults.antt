@@ -1,10 +1,6 @@
 -- What is wrong with the words of a batch.
-use Rattle.std.proofs.Common.{◌≡◌, ℕ, List, Some, None, position, slice_index, refl, sym, subst}
-use Rattle.mig_headers.specs.declared.legacy_fault.LegacyCause.TheVariants.{BadPageType, WordHigh}
-use Rattle.mig_pagetypes.specs.LegacyWords.{legacy_type}
-use Rattle.mig_records.specs.Words.{IsFirst}
-use Rattle.mig_records.proofs.Places.{position_some, position_none, place_is_first, none_pass}
-use Rattle.mig_legacy.specs.Batches.{is_reserved, is_high, fault_of_batch, IsBatchFault}
+use Rattle.mig_legacy.proofs.Common.{◌≡◌, ℕ, List, Some, None, slice_index, refl, sym, subst, BadPageType, WordHigh, legacy_type, IsFirst, position_some, position_none, place_is_first, none_pass, is_reserved, is_high, fault_of_batch, IsBatchFault}
+use Rattle.std.proofs.Common.{position}
 
 pub reserved_found : (ws : List ℕ) (entry n : ℕ) → Some entry ≡ position is_reserved ws → n ≡ legacy_type (slice_index ws entry) → Some (BadPageType entry n) ≡ fault_of_batch ws
 reserved_found ws entry n is names = let found = position_some is_reserved ws entry (sym is) in rw (found.0, found.1, names) refl

@@ -1,29 +1,5 @@
 -- The frames of a batch are those of a PAGE_DATA, whose words are good.
-use Rattle.std.proofs.Common.{◌≡◌, ℕ, ◌^◌, ◌≤◌, ◌<◌, Bool, true, false, cond, List, [], ◌∷◌, length, nat_le, Option, Some, None, Ok, refl, sym, ap, subst, ◌∙◌, arith, length-append}
-use Rattle.std.specs.Prelude.{◌&&◌, ◌==◌}
-use Rattle.std.specs.List.{All}
-use Rattle.std.proofs.lemmas.Bool.{lt-leb}
-use Rattle.std.proofs.lemmas.List.Elements.{All-nil, All-cons, All-append, All-head, All-tail}
-use Rattle.mig_bytes.specs.Judged.{Judged, ◌>>=◌, each, Gives}
-use Rattle.mig_bytes.specs.Judged.Judged.{Passes}
-use Rattle.mig_bytes.proofs.Joins.{then_reads}
-use Rattle.mig_headers.specs.declared.kind.Kind.{Kind}
-use Rattle.mig_headers.specs.declared.kind.Kind.TheVariants.{Hvm}
-use Rattle.mig_headers.specs.declared.legacy_fault.LegacyCause.{LegacyCause}
-use Rattle.mig_headers.proofs.FirstFaults.{rows_fine}
-use Rattle.mig_guest.specs.Guests.{GuestOf}
-use Rattle.mig_pagetypes.specs.FrameWords.{word_type, word_pfn}
-use Rattle.mig_pagetypes.specs.LegacyWords.{legacy_type, legacy_pfn, placeholder}
-use Rattle.mig_records.proofs.Places.{none_pass}
-use Rattle.mig_restore.specs.Judging.{entry_at, with_places}
-use Rattle.mig_restore.specs.Mean.{put_entries}
-use Rattle.mig_restore.specs.Record.{FrameEntry}
-use Rattle.mig_restore.specs.Spelled.{IsGoodWord}
-use Rattle.mig_legacy.specs.Batches.{is_reserved, fault_of_batch, batch_rows, page_data_word, page_data_words_of, page_data_words}
-use Rattle.mig_legacy.specs.Judging.{or_truncated, words_at, batch_at}
-use Rattle.mig_legacy.specs.Legacy.{Content}
-use Rattle.mig_legacy.specs.Legacy.Content.{Frames}
-use Rattle.mig_legacy.specs.Seen.{put_in_guest}
+use Rattle.mig_legacy.proofs.Common.{◌≡◌, ℕ, ◌^◌, ◌≤◌, ◌<◌, Bool, true, false, cond, List, [], ◌∷◌, length, nat_le, Option, Some, None, Ok, refl, sym, ap, subst, ◌∙◌, arith, length-append, ◌&&◌, ◌==◌, All, lt-leb, All-nil, All-cons, All-append, All-head, All-tail, Judged, ◌>>=◌, each, Gives, Passes, then_reads, Kind, Hvm, LegacyCause, rows_fine, GuestOf, word_type, word_pfn, legacy_type, legacy_pfn, placeholder, none_pass, entry_at, with_places, put_entries, FrameEntry, IsGoodWord, is_reserved, fault_of_batch, batch_rows, page_data_word, page_data_words_of, page_data_words, or_truncated, legacy_words_at, batch_at, LegacyContent, Frames, put_in_guest}
 
 -- ---- the words
 
@@ -61,7 +37,7 @@ few_words (w ∷ ws) = omega (arith, length-append (page_data_words_of w) (page_
 
 -- ---- the frames
 
-module _ {C X Y V : Type 0} (R : X → Y → Type 0) (Q : V → Content → Type 0) (f : List ℕ → Judged C Y) (says : Y → Content) where
+module _ {C X Y V : Type 0} (R : X → Y → Type 0) (Q : V → LegacyContent → Type 0) (f : List ℕ → Judged C Y) (says : Y → LegacyContent) where
   pub cut_read : (a b : Option (List ℕ)) (x : X) (v : V) → Gives R a b f (Ok x) → ((y : Y) → R x y → Q v (says y)) → Gives Q a b (λ i. or_truncated (f i) >>= λ y. Passes (says y.0) y.1) (Ok v)
   cut_read None b x v h turn = tt
   cut_read (Some i) b x v (y, rest, is, left, r) turn = (says y, rest, ap (λ j. or_truncated j >>= λ y. Passes (says y.0) y.1) is, left, turn y r)
@@ -71,7 +47,7 @@ same_entries : (kind : Kind) (top : ℕ) (ws list : List ℕ) → kind ≡ Hvm �
 same_entries kind top ws list hvm zero is = ap (λ k. each (entry_at k top) (with_places 0 list)) hvm ∙ ap (λ n. each (entry_at Hvm n) (with_places 0 list)) zero ∙ ap (λ l. each (entry_at Hvm 0) (with_places 0 l)) is
 
 module _ {X : Type 0} (g h : GuestOf) (n : ℕ) (hvm : g.kind ≡ Hvm) (zero : g.top ≡ 0) (a b c : Option (List ℕ)) (words : X) (items : X → List ℕ) (list : List ℕ) (is : list ≡ page_data_words (items words)) where
-  abbrev behind_words : List ℕ × List ℕ → Judged LegacyCause Content
+  abbrev behind_words : List ℕ × List ℕ → Judged LegacyCause LegacyContent
   behind_words ws = or_truncated (each (entry_at Hvm 0) (with_places 0 (page_data_words ws.0)) ws.1) >>= λ entries. Passes (Frames entries.0) entries.1
 
   abbrev Sets : Unit {0} → List FrameEntry → Type 0
@@ -80,7 +56,7 @@ module _ {X : Type 0} (g h : GuestOf) (n : ℕ) (hvm : g.kind ≡ Hvm) (zero : g
   same : (ws : List ℕ) → ws ≡ items words → each (entry_at g.kind g.top) (with_places 0 list) ≡ each (entry_at Hvm 0) (with_places 0 (page_data_words ws))
   same ws e = same_entries g.kind g.top ws list hvm zero (is ∙ ap page_data_words (sym e))
 
-  pub batch_read : Gives (λ v ws. ws ≡ items v) a b (words_at n) (Ok words) → Gives Sets b c (each (entry_at g.kind g.top) (with_places 0 list)) (Ok tt) → Gives {X = Unit {0}} (λ _ said. h ≡ put_in_guest g said) a c (batch_at n) (Ok tt)
+  pub batch_read : Gives (λ v ws. ws ≡ items v) a b (legacy_words_at n) (Ok words) → Gives Sets b c (each (entry_at g.kind g.top) (with_places 0 list)) (Ok tt) → Gives {X = Unit {0}} (λ _ said. h ≡ put_in_guest g said) a c (batch_at n) (Ok tt)
   batch_read told read =
-      then_reads (λ v ws. ws ≡ items v) (λ _ said. h ≡ put_in_guest g said) a b c (words_at n) (batch_at n) behind_words words (Ok tt) (λ i. refl) told
+      then_reads (λ v ws. ws ≡ items v) (λ _ said. h ≡ put_in_guest g said) a b c (legacy_words_at n) (batch_at n) behind_words words (Ok tt) (λ i. refl) told
       (λ ws e. cut_read Sets (λ _ said. h ≡ put_in_guest g said) (each (entry_at Hvm 0) (with_places 0 (page_data_words ws))) Frames b c tt tt (subst (λ f. Gives Sets b c f (Ok tt)) (same ws e) read) (λ es now. now))

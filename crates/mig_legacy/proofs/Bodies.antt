@@ -1,55 +1,33 @@
 -- The bodies of chunks: those that pass are those that are spelled.
-use Rattle.std.proofs.Common.{◌≡◌, ℕ, ◌+◌, ◌*◌, ◌/◌, ◌<◌, ◌^◌, false, List, [], ◌∷◌, ◌++◌, length, take, drop, nat_lt, nat_le, Option, Some, None, refl, sym, ap, subst, ◌∙◌, arith, append_assoc, take-append-drop, drop-drop, length-append, length-drop, length-take-le, leb-false, ltb-false}
-use Rattle.std.specs.List.{flat_map}
-use Rattle.std.specs.Option.{option_map}
-use Rattle.std.proofs.lemmas.Bool.{le-ltb, lt-leb}
-use Rattle.std.proofs.lemmas.List.{drop_at, take_at}
-use Rattle.mig_bytes.specs.Fields.{le32}
-use Rattle.mig_bytes.specs.Judged.{Judged}
-use Rattle.mig_bytes.specs.Judged.Judged.{Passes}
-use Rattle.mig_bytes.proofs.Joins.{both_pass, same_passes, then_passes}
-use Rattle.mig_headers.proofs.FirstFaults.{both_none, neither_some, no_fault, rows_fine}
+use Rattle.mig_legacy.proofs.Common.{said_passes, said_goes, ◌≡◌, ℕ, ◌+◌, ◌*◌, ◌/◌, ◌<◌, ◌^◌, false, List, [], ◌∷◌, ◌++◌, length, take, drop, nat_lt, nat_le, Option, Some, None, refl, sym, ap, subst, ◌∙◌, arith, append_assoc, take-append-drop, drop-drop, length-append, length-drop, length-take-le, leb-false, ltb-false, flat_map, option_map, le-ltb, lt-leb, drop_at, take_at, le32, Judged, said_at, plain_at, Passes, both_pass, same_passes, then_passes, both_none, neither_some, no_fault, rows_fine, LegacyCause, Truncated, BadVcpuMax, BadToolstack, TooManyPairs, emulators_of, most_pairs, ChunkKind, End, Batch, VcpuMap, Tsc, LastCheckpoint, Toolstack, Param, toolstack, toolstack_fault, fault_of_max, vcpus_at, clock_of, clock_at, value_at, pairs_of_toolstack, fault_of_toolstack, chunk_content_at, spelled_with, LegacyContent, LegacyChunk, store_records, store_key, Nothing, Frames, Value, Clock, Pairs, HasLegacyContent, StoreFits, IsCounted, pairs_of_physmap, Physmap, IsToolstack}
 use Rattle.mig_headers.specs.Rows.{first_fault}
-use Rattle.mig_headers.specs.declared.legacy_fault.LegacyCause.{LegacyCause}
-use Rattle.mig_headers.specs.declared.legacy_fault.LegacyCause.TheVariants.{BadVcpuMax, BadToolstack, TooManyPairs}
-use Rattle.mig_libxl.specs.Emulators.{emulators_of}
-use Rattle.mig_libxl.specs.Judging.{most_pairs}
-use Rattle.mig_legacy.specs.declared.chunk.ChunkKind.{ChunkKind}
-use Rattle.mig_legacy.specs.declared.chunk.ChunkKind.TheVariants.{End, Batch, VcpuMap, Tsc, LastCheckpoint, Toolstack, Param}
-use Rattle.mig_legacy.specs.Judged.{toolstack, toolstack_fault}
-use Rattle.mig_legacy.specs.Judging.{said_at, plain_at, fault_of_max, vcpus_at, clock_of, clock_at, value_at, pairs_of_toolstack, spelled_with, fault_of_toolstack, content_at}
-use Rattle.mig_legacy.specs.Legacy.{Content, LegacyChunk, store_records}
-use Rattle.mig_legacy.specs.Legacy.Content.{Nothing, Frames, Value, Clock, Pairs}
-use Rattle.mig_legacy.specs.Spelled.{HasContent, Fits, IsCounted}
-use Rattle.mig_legacy.specs.Spelled.HasContent.{ends, batch, vcpus, clock, last_checkpoint, toolstack as a_toolstack, value}
-use Rattle.mig_legacy.specs.Texts.{pairs_of}
-use Rattle.mig_legacy.specs.Toolstack.{Physmap, IsToolstack}
+use Rattle.mig_legacy.specs.Spelled.HasLegacyContent.{ends, batch, vcpus, clock, last_checkpoint, toolstack as a_toolstack, value}
 use Rattle.mig_legacy.proofs.Batches.{batch_passes, batch_goes}
-use Rattle.mig_legacy.proofs.Parts.{said_passes, said_goes, counted_passes, counted_goes}
+use Rattle.mig_legacy.proofs.Parts.{counted_passes, counted_goes}
 use Rattle.mig_legacy.proofs.Spelling.{toolstack_spelled}
 
 -- ---- what a body that passes says
 
-pub record Body (chunks : List LegacyChunk) (kind : ChunkKind) (i : List ℕ) (c : Content) (rest : List ℕ) : Type 0 where
+pub record Body (chunks : List LegacyChunk) (kind : ChunkKind) (i : List ℕ) (c : LegacyContent) (rest : List ℕ) : Type 0 where
   pub bytes : List ℕ
   pub whole : i ≡ bytes ++ rest
-  pub says : HasContent kind bytes c
-  pub fits : Fits chunks c
+  pub says : HasLegacyContent kind bytes c
+  pub fits : StoreFits chunks c
 
-body_same : (chunks : List LegacyChunk) (kind : ChunkKind) (i rest : List ℕ) (c d : Content) → c ≡ d → Body chunks kind i c rest → Body chunks kind i d rest
-body_same chunks kind i rest c d is b = subst (λ (x : Content). Body chunks kind i x rest) is b
+body_same : (chunks : List LegacyChunk) (kind : ChunkKind) (i rest : List ℕ) (c d : LegacyContent) → c ≡ d → Body chunks kind i c rest → Body chunks kind i d rest
+body_same chunks kind i rest c d is b = subst (λ (x : LegacyContent). Body chunks kind i x rest) is b
 
 -- without a body
-none_says : (chunks : List LegacyChunk) (kind : ChunkKind) (i : List ℕ) (c : Content) (rest : List ℕ) → HasContent kind [] Nothing → ◌≡◌ {A = Judged LegacyCause Content} (Passes Nothing i) (Passes c rest) → Body chunks kind i c rest
+none_says : (chunks : List LegacyChunk) (kind : ChunkKind) (i : List ℕ) (c : LegacyContent) (rest : List ℕ) → HasLegacyContent kind [] Nothing → ◌≡◌ {A = Judged LegacyCause LegacyContent} (Passes Nothing i) (Passes c rest) → Body chunks kind i c rest
 none_says chunks kind i c rest says h =
     let e = same_passes {C = LegacyCause} Nothing c i rest h in
     body_same chunks kind i rest Nothing c e.0 (record { bytes = []; whole = e.1; says = says; fits = tt })
 
-vcpus_say : (chunks : List LegacyChunk) (i : List ℕ) (c : Content) (rest : List ℕ) → vcpus_at i ≡ Passes c rest → Body chunks VcpuMap i c rest
+vcpus_say : (chunks : List LegacyChunk) (i : List ℕ) (c : LegacyContent) (rest : List ℕ) → vcpus_at i ≡ Passes c rest → Body chunks VcpuMap i c rest
 vcpus_say chunks i c rest h =
-    let a = both_pass (said_at fault_of_max (λ bytes. le32 bytes 0) 4 i) (λ max. plain_at (λ _. Nothing) (8 * (max.0 / 64 + 1)) max.1) c rest h in
-    let m = said_passes fault_of_max (λ bytes. le32 bytes 0) 4 i a.x a.mid a.first in
-    let b = said_passes (λ _. None) (λ _. Nothing) (8 * (a.x / 64 + 1)) a.mid c rest a.second in
+    let a = both_pass (said_at Truncated fault_of_max (λ bytes. le32 bytes 0) 4 i) (λ max. plain_at Truncated (λ _. Nothing) (8 * (max.0 / 64 + 1)) max.1) c rest h in
+    let m = said_passes Truncated fault_of_max (λ bytes. le32 bytes 0) 4 i a.x a.mid a.first in
+    let b = said_passes Truncated (λ _. None) (λ _. Nothing) (8 * (a.x / 64 + 1)) a.mid c rest a.second in
     let rows = rows_fine ((nat_le 4096 (le32 m.bytes 0), BadVcpuMax (le32 m.bytes 0)) ∷ []) m.fine in
     body_same chunks VcpuMap i rest Nothing c b.value (record {
       bytes = m.bytes ++ b.bytes;
@@ -63,29 +41,29 @@ clock_parts bytes size =
     sym (take-append-drop 4 bytes)
     ∙ ap (λ l. take 4 bytes ++ l) (sym (take-append-drop 8 (drop 4 bytes)) ∙ ap (λ l. take 8 (drop 4 bytes) ++ l) (drop-drop 8 4 bytes ∙ sym (take-append-drop 4 (drop 12 bytes)) ∙ ap (λ l. take 4 (drop 12 bytes) ++ l) (drop-drop 4 12 bytes)))
 
-clock_says : (chunks : List LegacyChunk) (i : List ℕ) (c : Content) (rest : List ℕ) → clock_at i ≡ Passes c rest → Body chunks Tsc i c rest
+clock_says : (chunks : List LegacyChunk) (i : List ℕ) (c : LegacyContent) (rest : List ℕ) → clock_at i ≡ Passes c rest → Body chunks Tsc i c rest
 clock_says chunks i c rest h =
-    let p = said_passes (λ _. None) (λ bytes. Clock (clock_of bytes)) 20 i c rest h in
+    let p = said_passes Truncated (λ _. None) (λ bytes. Clock (clock_of bytes)) 20 i c rest h in
     let whole = clock_parts p.bytes p.size in
     body_same chunks Tsc i rest (Clock (clock_of p.bytes)) c p.value (record {
       bytes = p.bytes;
       whole = p.whole;
-      says = subst (λ l. HasContent Tsc l (Clock (clock_of p.bytes))) (sym whole) (clock (take 4 p.bytes) (take 8 (drop 4 p.bytes)) (take 4 (drop 12 p.bytes)) (drop 16 p.bytes)
+      says = subst (λ l. HasLegacyContent Tsc l (Clock (clock_of p.bytes))) (sym whole) (clock (take 4 p.bytes) (take 8 (drop 4 p.bytes)) (take 4 (drop 12 p.bytes)) (drop 16 p.bytes)
           (length-take-le 4 p.bytes (omega (arith, p.size))) (length-take-le 8 (drop 4 p.bytes) (omega (arith, p.size, length-drop 4 p.bytes))) (length-take-le 4 (drop 12 p.bytes) (omega (arith, p.size, length-drop 12 p.bytes))) (omega (arith, p.size, length-drop 16 p.bytes)));
       fits = tt;
     })
 
-value_says : (chunks : List LegacyChunk) (index : ℕ) (i : List ℕ) (c : Content) (rest : List ℕ) → value_at index i ≡ Passes c rest → Body chunks (Param index) i c rest
+value_says : (chunks : List LegacyChunk) (index : ℕ) (i : List ℕ) (c : LegacyContent) (rest : List ℕ) → value_at index i ≡ Passes c rest → Body chunks (Param index) i c rest
 value_says chunks index i c rest h =
-    let p = said_passes (λ _. None) (λ bytes. Value index (drop 4 bytes)) 12 i c rest h in
+    let p = said_passes Truncated (λ _. None) (λ bytes. Value index (drop 4 bytes)) 12 i c rest h in
     body_same chunks (Param index) i rest (Value index (drop 4 p.bytes)) c p.value (record {
       bytes = p.bytes;
       whole = p.whole;
-      says = subst (λ l. HasContent (Param index) l (Value index (drop 4 p.bytes))) (take-append-drop 4 p.bytes) (value index (take 4 p.bytes) (drop 4 p.bytes) (length-take-le 4 p.bytes (omega (arith, p.size))) (omega (arith, p.size, length-drop 4 p.bytes)));
+      says = subst (λ l. HasLegacyContent (Param index) l (Value index (drop 4 p.bytes))) (take-append-drop 4 p.bytes) (value index (take 4 p.bytes) (drop 4 p.bytes) (length-take-le 4 p.bytes (omega (arith, p.size))) (omega (arith, p.size, length-drop 4 p.bytes)));
       fits = tt;
     })
 
-batch_says : (chunks : List LegacyChunk) (n : ℕ) (i : List ℕ) (c : Content) (rest : List ℕ) → content_at chunks (Batch n) i ≡ Passes c rest → Body chunks (Batch n) i c rest
+batch_says : (chunks : List LegacyChunk) (n : ℕ) (i : List ℕ) (c : LegacyContent) (rest : List ℕ) → chunk_content_at chunks (Batch n) i ≡ Passes c rest → Body chunks (Batch n) i c rest
 batch_says chunks n i c rest h =
     let b = batch_passes n i c rest h in
     body_same chunks (Batch n) i rest (Frames b.es) c b.says (record { bytes = b.body; whole = b.whole; says = batch n b.body b.es b.is; fits = tt })
@@ -94,21 +72,21 @@ unmapped : {X Y : Type 0} (f : X → Y) (o : Option X) → option_map f o ≡ No
 unmapped f None h = refl
 unmapped {X} {Y} f (Some x) h = let no : ◌≡◌ {A = Option Y} (Some (f x)) None = h in cc
 
-toolstack_says : (chunks : List LegacyChunk) (i : List ℕ) (c : Content) (rest : List ℕ) → content_at chunks Toolstack i ≡ Passes c rest → Body chunks Toolstack i c rest
+toolstack_says : (chunks : List LegacyChunk) (i : List ℕ) (c : LegacyContent) (rest : List ℕ) → chunk_content_at chunks Toolstack i ≡ Passes c rest → Body chunks Toolstack i c rest
 toolstack_says chunks i c rest h =
     let e = emulators_of (store_records chunks) in
     let p = counted_passes (2 ^ 27) (fault_of_toolstack e) (λ body. Pairs (pairs_of_toolstack body)) i c rest h in
     let ps = pairs_of_toolstack p.bytes in
     let both = both_none (option_map BadToolstack (toolstack_fault p.bytes)) _ p.fine in
-    let rows = rows_fine ((nat_lt most_pairs (spelled_with e ps), TooManyPairs) ∷ []) both.1 in
+    let rows = rows_fine ((nat_lt most_pairs (spelled_with e store_key ps), TooManyPairs) ∷ []) both.1 in
     body_same chunks Toolstack i rest (Pairs ps) c p.value (record {
       bytes = p.text;
       whole = p.whole;
       says = a_toolstack p.text p.bytes (toolstack p.bytes) p.is ((toolstack_spelled p.bytes).faultless (unmapped BadToolstack (toolstack_fault p.bytes) both.0));
-      fits = ltb-false most_pairs (spelled_with e ps) rows.0;
+      fits = ltb-false most_pairs (spelled_with e store_key ps) rows.0;
     })
 
-pub body_says : (chunks : List LegacyChunk) (kind : ChunkKind) (i : List ℕ) (c : Content) (rest : List ℕ) → content_at chunks kind i ≡ Passes c rest → Body chunks kind i c rest
+pub body_says : (chunks : List LegacyChunk) (kind : ChunkKind) (i : List ℕ) (c : LegacyContent) (rest : List ℕ) → chunk_content_at chunks kind i ≡ Passes c rest → Body chunks kind i c rest
 body_says chunks End i c rest h = none_says chunks End i c rest ends h
 body_says chunks (Batch n) i c rest h = batch_says chunks n i c rest h
 body_says chunks VcpuMap i c rest h = vcpus_say chunks i c rest h
@@ -123,9 +101,9 @@ vcpus_go : (max bits rest : List ℕ) → length max ≡ 4 → le32 max 0 < 4096
 vcpus_go max bits rest size small bits_size =
     let fine : fault_of_max max ≡ None = no_fault ((nat_le 4096 (le32 max 0), BadVcpuMax (le32 max 0)) ∷ []) (lt-leb 4096 (le32 max 0) small, tt) in
     ap vcpus_at (append_assoc max bits rest)
-    ∙ then_passes (said_at fault_of_max (λ bytes. le32 bytes 0) 4 (max ++ (bits ++ rest))) (λ max. plain_at (λ _. Nothing) (8 * (max.0 / 64 + 1)) max.1) (le32 max 0) (bits ++ rest) _
-    (said_goes fault_of_max (λ bytes. le32 bytes 0) 4 max (bits ++ rest) size fine)
-    (said_goes (λ _. None) (λ _. Nothing) (8 * (le32 max 0 / 64 + 1)) bits rest bits_size refl)
+    ∙ then_passes (said_at Truncated fault_of_max (λ bytes. le32 bytes 0) 4 (max ++ (bits ++ rest))) (λ max. plain_at Truncated (λ _. Nothing) (8 * (max.0 / 64 + 1)) max.1) (le32 max 0) (bits ++ rest) _
+    (said_goes Truncated fault_of_max (λ bytes. le32 bytes 0) 4 max (bits ++ rest) size fine)
+    (said_goes Truncated (λ _. None) (λ _. Nothing) (8 * (le32 max 0 / 64 + 1)) bits rest bits_size refl)
 
 module _ (mode nanoseconds frequency incarnation : List ℕ) (four : length mode ≡ 4) (eight : length nanoseconds ≡ 8) (next : length frequency ≡ 4) (last : length incarnation ≡ 4) where
   abbrev clock_bytes : List ℕ
@@ -152,29 +130,29 @@ module _ (mode nanoseconds frequency incarnation : List ℕ) (four : length mode
 
   clock_goes : (rest : List ℕ) → clock_at (clock_bytes ++ rest) ≡ Passes (Clock (mode ++ (frequency ++ (nanoseconds ++ incarnation)))) rest
   clock_goes rest =
-      said_goes (λ _. None) (λ bytes. Clock (clock_of bytes)) 20 clock_bytes rest
+      said_goes Truncated (λ _. None) (λ bytes. Clock (clock_of bytes)) 20 clock_bytes rest
       (omega (arith, length-append mode (nanoseconds ++ (frequency ++ incarnation)), length-append nanoseconds (frequency ++ incarnation), length-append frequency incarnation, four, eight, next, last)) refl
       ∙ ap (λ l. Passes (Clock l) rest) clock_is
 
 value_goes : (index : ℕ) (pad bytes rest : List ℕ) → length pad ≡ 4 → length bytes ≡ 8 → value_at index ((pad ++ bytes) ++ rest) ≡ Passes (Value index bytes) rest
 value_goes index pad bytes rest four eight =
-    said_goes (λ _. None) (λ l. Value index (drop 4 l)) 12 (pad ++ bytes) rest (omega (arith, length-append pad bytes, four, eight)) refl
+    said_goes Truncated (λ _. None) (λ l. Value index (drop 4 l)) 12 (pad ++ bytes) rest (omega (arith, length-append pad bytes, four, eight)) refl
     ∙ ap (λ l. Passes (Value index l) rest) (drop_at pad bytes 4 four)
 
-toolstack_goes : (chunks : List LegacyChunk) (text body : List ℕ) (es : List Physmap) (rest : List ℕ) → IsCounted (2 ^ 27) text body → IsToolstack body es → Fits chunks (Pairs (flat_map pairs_of es))
-    → content_at chunks Toolstack (text ++ rest) ≡ Passes (Pairs (flat_map pairs_of es)) rest
+toolstack_goes : (chunks : List LegacyChunk) (text body : List ℕ) (es : List Physmap) (rest : List ℕ) → IsCounted (2 ^ 27) text body → IsToolstack body es → StoreFits chunks (Pairs (flat_map pairs_of_physmap es))
+    → chunk_content_at chunks Toolstack (text ++ rest) ≡ Passes (Pairs (flat_map pairs_of_physmap es)) rest
 toolstack_goes chunks text body es rest counted is fits =
     let e = emulators_of (store_records chunks) in
     let found = (toolstack_spelled body).spelled es is in
-    let same : pairs_of_toolstack body ≡ flat_map pairs_of es = ap (flat_map pairs_of) found.1 in
-    let room : nat_lt most_pairs (spelled_with e (pairs_of_toolstack body)) ≡ false = ap (λ ps. nat_lt most_pairs (spelled_with e ps)) same ∙ le-ltb most_pairs (spelled_with e (flat_map pairs_of es)) fits in
+    let same : pairs_of_toolstack body ≡ flat_map pairs_of_physmap es = ap (flat_map pairs_of_physmap) found.1 in
+    let room : nat_lt most_pairs (spelled_with e store_key (pairs_of_toolstack body)) ≡ false = ap (λ ps. nat_lt most_pairs (spelled_with e store_key ps)) same ∙ le-ltb most_pairs (spelled_with e store_key (flat_map pairs_of_physmap es)) fits in
     let fine : fault_of_toolstack e body ≡ None =
-    neither_some (option_map BadToolstack (toolstack_fault body)) (first_fault ((nat_lt most_pairs (spelled_with e (pairs_of_toolstack body)), TooManyPairs) ∷ [])) (ap (option_map BadToolstack) found.0)
-    (no_fault ((nat_lt most_pairs (spelled_with e (pairs_of_toolstack body)), TooManyPairs) ∷ []) (room, tt)) in
+    neither_some (option_map BadToolstack (toolstack_fault body)) (first_fault ((nat_lt most_pairs (spelled_with e store_key (pairs_of_toolstack body)), TooManyPairs) ∷ [])) (ap (option_map BadToolstack) found.0)
+    (no_fault ((nat_lt most_pairs (spelled_with e store_key (pairs_of_toolstack body)), TooManyPairs) ∷ []) (room, tt)) in
     counted_goes (2 ^ 27) (fault_of_toolstack e) (λ l. Pairs (pairs_of_toolstack l)) text body rest counted fine
     ∙ ap (λ ps. Passes (Pairs ps) rest) same
 
-pub body_goes : (chunks : List LegacyChunk) (kind : ChunkKind) (body : List ℕ) (c : Content) (rest : List ℕ) → HasContent kind body c → Fits chunks c → content_at chunks kind (body ++ rest) ≡ Passes c rest
+pub body_goes : (chunks : List LegacyChunk) (kind : ChunkKind) (body : List ℕ) (c : LegacyContent) (rest : List ℕ) → HasLegacyContent kind body c → StoreFits chunks c → chunk_content_at chunks kind (body ++ rest) ≡ Passes c rest
 body_goes chunks _ _ _ rest ends fits = refl
 body_goes chunks _ _ _ rest (batch n body es is) fits = batch_goes n body rest es is
 body_goes chunks _ _ _ rest (vcpus max bits size small bits_size) fits = vcpus_go max bits rest size small bits_size

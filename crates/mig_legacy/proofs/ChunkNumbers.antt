@@ -1,40 +1,27 @@
 -- Each chunk is that of its number.
-use Rattle.std.proofs.Common.{◌≡◌, ℕ, ◌<◌, ◌≤◌, Bool, true, false, List, [], ◌∷◌, nat_eq, nat_lt, nat_le, cond, Option, Some, Ok, refl, ap, ◌∙◌, arith, eqb-true}
-use Rattle.std.specs.List.{AllByRecursion}
-use Rattle.std.proofs.lemmas.Grind.{common_steps}
-use Rattle.mig_legacy.specs.Chunks.{negative, param_chunks, second_of, IsParamChunk, IsNumberOf, kind_of, NumbersHaveKinds}
-use Rattle.mig_legacy.specs.Seen.{IsSound}
-use Rattle.mig_legacy.specs.declared.chunk.ChunkKind.{ChunkKind}
-use Rattle.mig_legacy.specs.declared.chunk.ChunkKind.TheVariants.{End, Batch, VcpuMap, Tsc, LastCheckpoint, Toolstack, Param}
-
-not_zero : (n : ℕ) → 0 < n → nat_eq n 0 ≡ false
-not_zero n h = grind (arith, common_steps)
-
-is_less : (n m : ℕ) → n < m → nat_lt n m ≡ true
-is_less n m h = grind (arith, common_steps)
-
-is_most : (n m : ℕ) → n ≤ m → nat_le n m ≡ true
-is_most n m h = grind (arith, common_steps)
+use Rattle.std.proofs.Common.{ne_eqb, subst}
+use Rattle.std.proofs.lemmas.Bool.{le-leb, lt-ltb}
+use Rattle.mig_legacy.proofs.Common.{◌≡◌, ℕ, ◌<◌, ◌≤◌, Bool, true, false, List, [], ◌∷◌, nat_eq, cond, Some, Ok, refl, ap, ◌∙◌, arith, eqb-true, AllByRecursion, negative, param_chunks, second_of, IsParamChunk, IsNumberOf, kind_of, NumbersHaveKinds, IsWithinLimits, ChunkKind, End, Batch, VcpuMap, Tsc, LastCheckpoint, Toolstack, Param}
 
 batch_kind : (number : ℕ) → 0 < number → number ≤ 1024 → kind_of number ≡ Ok (Batch number)
 unfolding kind_of
-batch_kind number some few = rw (not_zero number some, is_less number 2147483648 (omega (arith, few)), is_most number 1024 few) refl
+batch_kind number some few = rw (ne_eqb number 0 (λ none. omega (arith, some, none)), lt-ltb number 2147483648 (omega (arith, few)), le-leb number 1024 few) refl
 
-abbrev HasItsKind : ℕ × ℕ → Type 0
-HasItsKind row = kind_of (negative row.1) ≡ Ok (Param row.0)
+-- a parameter's chunk is that of its number, and its index is small
+abbrev IsSound : ℕ → ℕ → Type 0
+IsSound index number = (kind_of number ≡ Ok (Param index)) × (index < 4096)
 
-one_row : (row : ℕ × ℕ) (rows : List (ℕ × ℕ)) (index number : ℕ) → HasItsKind row → (IsParamChunk (second_of index rows) number → kind_of number ≡ Ok (Param index))
-    → (b : Bool) → nat_eq row.0 index ≡ b → IsParamChunk (cond b (Some row.1) (second_of index rows)) number → kind_of number ≡ Ok (Param index)
-one_row row rows index number here others true e h = ap kind_of h ∙ here ∙ ap (λ k. Ok (Param k)) (eqb-true row.0 index e)
-one_row row rows index number here others false e h = others h
+rows_sound : (rows : List (ℕ × ℕ)) → AllByRecursion (λ row. IsSound row.0 (negative row.1)) rows → (index number : ℕ) → IsParamChunk (second_of index rows) number → IsSound index number
+rows_sound [] all index number h = absurd h
+rows_sound (row ∷ rows) all index number h = by (nat_eq row.0 index) refl (rows_sound rows all.1 index number) h
+  where
+    by : (b : Bool) → nat_eq row.0 index ≡ b → (IsParamChunk (second_of index rows) number → IsSound index number) → IsParamChunk (cond b (Some row.1) (second_of index rows)) number → IsSound index number
+    by true e others h = let is = eqb-true row.0 index e in (ap kind_of h ∙ all.0.0 ∙ ap (λ k. Ok (Param k)) is, subst (λ k. k < 4096) is all.0.1)
+    by false e others h = others h
 
-rows_have_kinds : (rows : List (ℕ × ℕ)) → AllByRecursion HasItsKind rows → (index number : ℕ) → IsParamChunk (second_of index rows) number → kind_of number ≡ Ok (Param index)
-rows_have_kinds [] all index number h = absurd h
-rows_have_kinds (row ∷ rows) all index number h = one_row row rows index number all.0 (rows_have_kinds rows all.1 index number) (nat_eq row.0 index) refl h
-
-table_has_kinds : AllByRecursion HasItsKind param_chunks
+table_sound : AllByRecursion (λ (row : ℕ × ℕ). IsSound row.0 (negative row.1)) param_chunks
 unfolding kind_of
-table_has_kinds = (refl, (refl, (refl, (refl, (refl, (refl, (refl, (refl, (refl, (refl, (refl, tt)))))))))))
+table_sound = ((refl, omega arith), ((refl, omega arith), ((refl, omega arith), ((refl, omega arith), ((refl, omega arith), ((refl, omega arith), ((refl, omega arith), ((refl, omega arith), ((refl, omega arith), ((refl, omega arith), ((refl, omega arith), tt)))))))))))
 
 pub numbers_have_kinds : NumbersHaveKinds
 unfolding kind_of
@@ -44,23 +31,11 @@ numbers_have_kinds VcpuMap number h = rw h refl
 numbers_have_kinds Tsc number h = rw h refl
 numbers_have_kinds LastCheckpoint number h = rw h refl
 numbers_have_kinds Toolstack number h = rw h refl
-numbers_have_kinds (Param index) number h = rows_have_kinds param_chunks table_has_kinds index number h
+numbers_have_kinds (Param index) number h = (rows_sound param_chunks table_sound index number h).0
 
 -- ---- what a chunk's number limits
 
-module _ (first second index number : ℕ) (others : Option ℕ) (small : first < 4096) (rest : IsParamChunk others number → index < 4096) where
-  row_case : (b : Bool) → nat_eq first index ≡ b → IsParamChunk (cond b (Some second) others) number → index < 4096
-  row_case true e is = omega (arith, small, eqb-true first index e)
-  row_case false e is = rest is
-
-small_index : (rows : List (ℕ × ℕ)) → AllByRecursion (λ r. r.0 < 4096) rows → (index number : ℕ) → IsParamChunk (second_of index rows) number → index < 4096
-small_index [] all index number is = absurd is
-small_index (r ∷ rows) all index number is = row_case r.0 r.1 index number (second_of index rows) all.0 (small_index rows all.1 index number) (nat_eq r.0 index) refl is
-
-params_small : AllByRecursion (λ (r : ℕ × ℕ). r.0 < 4096) param_chunks
-params_small = (omega arith, (omega arith, (omega arith, (omega arith, (omega arith, (omega arith, (omega arith, (omega arith, (omega arith, (omega arith, (omega arith, tt)))))))))))
-
-pub sound_kind : (kind : ChunkKind) (number : ℕ) → IsNumberOf kind number → IsSound kind
+pub sound_kind : (kind : ChunkKind) (number : ℕ) → IsNumberOf kind number → IsWithinLimits kind
 sound_kind (Batch n) number is = is.2
-sound_kind (Param index) number is = small_index param_chunks params_small index number is
+sound_kind (Param index) number is = (rows_sound param_chunks table_sound index number is).1
 sound_kind _ number is = tt

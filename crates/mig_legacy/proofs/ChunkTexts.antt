@@ -1,24 +1,8 @@
 -- Chunks: those that pass are those that are spelled.
-use Rattle.std.proofs.Common.{◌≡◌, ℕ, ◌≤◌, ◌<◌, Bool, true, false, cond, List, ◌++◌, length, not, nat_lt, None, Result, Ok, Err, refl, sym, ap, subst, ◌∙◌, arith, append_assoc, length-append, leb-false, ltb-false}
+use Rattle.mig_legacy.proofs.Chunked.{behind_kind}
+use Rattle.mig_legacy.proofs.Common.{◌≡◌, ℕ, ◌≤◌, ◌<◌, Bool, true, false, cond, List, ◌++◌, length, not, nat_lt, None, Result, Ok, Err, refl, sym, ap, subst, ◌∙◌, arith, append_assoc, length-append, leb-false, ltb-false, [], ◌∷◌, ◌&&◌, ◌||◌, common_steps, list_any-append, le-ltb, lt-leb, le32, Judged, part, placed, tried, Passes, Faulty, both_pass, part_passes, part_whole, placed_passes, same_passes, then_passes, tried_none, tried_passes, Found, Chunk, placed_chunk, no_fault, rows_fine, Hvm, LegacyCause, Truncated, sent, ChunkKind, End, kind_of, IsNumberOf, most_chunks, is_unpaired, frames_sent, kind_rows, fault_of_kind, allowed, chunk_kind_at, chunk_content_at, chunk_at, LegacyChunk, is_end, is_legacy_ended, has_value, image_records, IsLegacyComplete, FollowsLegacy}
 use Rattle.std.specs.FinMap as maps
-use Rattle.std.specs.Prelude.{◌&&◌}
-use Rattle.std.proofs.lemmas.Bool.{le-ltb, lt-leb}
-use Rattle.mig_bytes.specs.Fields.{le32}
-use Rattle.mig_bytes.specs.Judged.{Judged, ◌>>=◌, part, tried}
-use Rattle.mig_bytes.specs.Judged.Judged.{Passes, Faulty}
-use Rattle.mig_bytes.proofs.Joins.{both_pass, part_passes, part_whole, same_passes, then_passes, tried_none, tried_passes}
-use Rattle.mig_headers.proofs.FirstFaults.{no_fault, rows_fine}
-use Rattle.mig_headers.specs.declared.kind.Kind.TheVariants.{Hvm}
-use Rattle.mig_headers.specs.declared.legacy_fault.LegacyCause.{LegacyCause}
-use Rattle.mig_headers.specs.declared.legacy_fault.LegacyCause.TheVariants.{Truncated}
 use Rattle.mig_pagetypes.specs.Limits.{most_frames}
-use Rattle.mig_restore.specs.Mean.{sent}
-use Rattle.mig_legacy.specs.declared.chunk.ChunkKind.{ChunkKind}
-use Rattle.mig_legacy.specs.declared.chunk.ChunkKind.TheVariants.{End}
-use Rattle.mig_legacy.specs.Chunks.{kind_of, IsNumberOf}
-use Rattle.mig_legacy.specs.Judging.{most_chunks, is_unpaired, frames_sent, kind_rows, fault_of_kind, allowed, kind_at, content_at, chunk_at}
-use Rattle.mig_legacy.specs.Legacy.{LegacyChunk, is_end, is_ended, has_value, image_records}
-use Rattle.mig_legacy.specs.Spelled.{IsComplete, Follows}
 use Rattle.mig_legacy.proofs.Bodies.{body_says, body_goes}
 use Rattle.mig_legacy.proofs.ChunkNumbers.{numbers_have_kinds}
 use Rattle.mig_legacy.proofs.KindNumbers.{kinds_have_numbers}
@@ -27,7 +11,7 @@ use Rattle.mig_legacy.proofs.KindNumbers.{kinds_have_numbers}
 
 pub record MayStand (chunks : List LegacyChunk) (kind : ChunkKind) : Type 0 where
   pub few : length chunks < most_chunks
-  pub complete : kind ≡ End → IsComplete chunks
+  pub complete : kind ≡ End → IsLegacyComplete chunks
 
 paired : (b d : Bool) → cond b (not d) d ≡ false → b ≡ d
 paired true true h = refl
@@ -89,39 +73,30 @@ allowed_passes chunks (Ok this) i kind mid h =
     let e = same_passes {C = LegacyCause} this kind i mid b.second in
     record { is = ap Ok e.0; fine = subst (λ k. fault_of_kind chunks k ≡ None) e.0 (tried_passes (fault_of_kind chunks this) i b.mid b.x b.first).0; same = e.1 }
 
-pub numbered : (chunks : List LegacyChunk) (i : List ℕ) (kind : ChunkKind) (mid : List ℕ) → kind_at chunks i ≡ Passes kind mid → Numbered chunks i kind mid
+pub numbered : (chunks : List LegacyChunk) (i : List ℕ) (kind : ChunkKind) (mid : List ℕ) → chunk_kind_at chunks i ≡ Passes kind mid → Numbered chunks i kind mid
 numbered chunks i kind mid h =
     let b = both_pass (part Truncated 4 i) (λ number. allowed chunks (kind_of (le32 number.0 0)) number.1) kind mid h in
     let p = part_passes Truncated 4 i b.x b.mid b.first in
     let a = allowed_passes chunks (kind_of (le32 b.x 0)) b.mid kind mid b.second in
     record { number = b.x; whole = p.0 ∙ ap (λ l. b.x ++ l) a.same; size = p.1; is = kinds_have_numbers (le32 b.x 0) kind a.is; stands = fine_stand chunks kind a.fine }
 
-pub number_goes : (chunks : List LegacyChunk) (kind : ChunkKind) (number mid : List ℕ) → length number ≡ 4 → IsNumberOf kind (le32 number 0) → MayStand chunks kind → kind_at chunks (number ++ mid) ≡ Passes kind mid
+pub number_goes : (chunks : List LegacyChunk) (kind : ChunkKind) (number mid : List ℕ) → length number ≡ 4 → IsNumberOf kind (le32 number 0) → MayStand chunks kind → chunk_kind_at chunks (number ++ mid) ≡ Passes kind mid
 number_goes chunks kind number mid size is stands =
     then_passes (part Truncated 4 (number ++ mid)) (λ n. allowed chunks (kind_of (le32 n.0 0)) n.1) number mid _ (part_whole Truncated 4 number mid size)
     (ap (λ o. allowed chunks o mid) (numbers_have_kinds kind (le32 number 0) is) ∙ tried_none (fault_of_kind chunks kind) mid _ (stand_fine chunks kind stands))
 
 -- ---- a chunk
 
-pub record Found (chunks : List LegacyChunk) (i : List ℕ) (c : LegacyChunk) (rest : List ℕ) : Type 0 where
-  pub text : List ℕ
-  pub whole : i ≡ text ++ rest
-  pub some : 0 < length text
-  pub follows : Follows chunks c text
-
-abbrev pub behind_kind : List LegacyChunk → ChunkKind × List ℕ → Judged LegacyCause LegacyChunk
-behind_kind chunks kind = content_at chunks kind.0 kind.1 >>= λ content. Passes (record { kind = kind.0; content = content.0 }) content.1
-
-pub found : (chunks : List LegacyChunk) (i : List ℕ) (c : LegacyChunk) (rest : List ℕ) → is_ended chunks ≡ false → chunk_at chunks i ≡ Passes c rest → Found chunks i c rest
+pub found : (chunks : List LegacyChunk) (i : List ℕ) (c : LegacyChunk) (rest : List ℕ) → is_legacy_ended chunks ≡ false → chunk_at chunks i ≡ Passes c rest → Found FollowsLegacy chunks i c rest
 unfolding chunk_at
 found chunks i c rest going h =
-    let a = both_pass (kind_at chunks i) (behind_kind chunks) c rest h in
+    let a = both_pass (chunk_kind_at chunks i) (behind_kind chunks) c rest h in
     let n = numbered chunks i a.x a.mid a.first in
-    let b = both_pass (content_at chunks a.x a.mid) (λ content. Passes (record { kind = a.x; content = content.0 }) content.1) c rest a.second in
+    let b = both_pass (chunk_content_at chunks a.x a.mid) (λ content. Passes (record { kind = a.x; content = content.0 }) content.1) c rest a.second in
     let s = body_says chunks a.x a.mid b.x b.mid b.first in
     let e = same_passes _ _ _ _ b.second in
     let this : LegacyChunk = record { kind = a.x; content = b.x } in
-    let is : Found chunks i this rest = record {
+    let is : Found FollowsLegacy chunks i this rest = record {
       text = n.number ++ s.bytes;
       whole = n.whole ∙ ap (λ l. n.number ++ l) (s.whole ∙ ap (λ l. s.bytes ++ l) e.1) ∙ sym (append_assoc n.number s.bytes rest);
       some = omega (arith, length-append n.number s.bytes, n.size);
@@ -133,12 +108,26 @@ found chunks i c rest going h =
         complete = n.stands.complete;
       };
     } in
-    subst (λ (x : LegacyChunk). Found chunks i x rest) e.0 is
+    subst (λ (x : LegacyChunk). Found FollowsLegacy chunks i x rest) e.0 is
 
-pub chunk_goes : (chunks : List LegacyChunk) (c : LegacyChunk) (text rest : List ℕ) → Follows chunks c text → chunk_at chunks (text ++ rest) ≡ Passes c rest
+pub chunk_goes : (chunks : List LegacyChunk) (c : LegacyChunk) (text rest : List ℕ) → FollowsLegacy chunks c text → chunk_at chunks (text ++ rest) ≡ Passes c rest
 unfolding chunk_at
 chunk_goes chunks c text rest f =
     let is = f.is in
     ap (chunk_at chunks) (ap (λ l. l ++ rest) is.whole ∙ append_assoc is.number is.body rest)
-    ∙ then_passes (kind_at chunks (is.number ++ (is.body ++ rest))) (behind_kind chunks) c.kind (is.body ++ rest) _ (number_goes chunks c.kind is.number (is.body ++ rest) is.number_len is.is (record { few = f.few; complete = f.complete }))
-    (then_passes (content_at chunks c.kind (is.body ++ rest)) (λ content. Passes (record { kind = c.kind; content = content.0 }) content.1) c.content rest _ (body_goes chunks c.kind is.body c.content rest is.says f.fits) refl)
+    ∙ then_passes (chunk_kind_at chunks (is.number ++ (is.body ++ rest))) (behind_kind chunks) c.kind (is.body ++ rest) _ (number_goes chunks c.kind is.number (is.body ++ rest) is.number_len is.is (record { few = f.few; complete = f.complete }))
+    (then_passes (chunk_content_at chunks c.kind (is.body ++ rest)) (λ content. Passes (record { kind = c.kind; content = content.0 }) content.1) c.content rest _ (body_goes chunks c.kind is.body c.content rest is.says f.fits) refl)
+
+-- ---- a chunk at its place
+
+pub finds : (chunks : List LegacyChunk) (i : List ℕ) (c : LegacyChunk) (rest : List ℕ) → is_legacy_ended chunks ≡ false → placed_chunk chunks i ≡ Passes c rest → Found FollowsLegacy chunks i c rest
+finds chunks i c rest going h = found chunks i c rest going (placed_passes (Chunk (length chunks)) (chunk_at chunks i) c rest h)
+
+pub goes : (chunks : List LegacyChunk) (c : LegacyChunk) (text rest : List ℕ) → FollowsLegacy chunks c text → placed_chunk chunks (text ++ rest) ≡ Passes c rest
+goes chunks c text rest f = ap (placed (Chunk (length chunks))) (chunk_goes chunks c text rest f)
+
+pub not_ended : (chunks : List LegacyChunk) (c : LegacyChunk) (text : List ℕ) → FollowsLegacy chunks c text → is_legacy_ended chunks ≡ false
+not_ended chunks c text f = f.not_ended
+
+pub ended_more : (chunks : List LegacyChunk) (c : LegacyChunk) → is_legacy_ended chunks ≡ false → is_legacy_ended (chunks ++ c ∷ []) ≡ is_end c.kind
+ended_more chunks c going = list_any-append (λ (x : LegacyChunk). is_end x.kind) chunks (c ∷ []) ∙ ap (λ b. b || (is_end c.kind || false)) going ∙ grind (arith, common_steps)

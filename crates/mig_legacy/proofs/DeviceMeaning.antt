@@ -1,33 +1,19 @@
 -- What the device model's data mean: of each key of its store the last value decides; and all parts of the guest.
-use Rattle.std.proofs.Common.{◌≡◌, ◌≢◌, ℕ, Bool, true, false, cond, List, [], ◌∷◌, ◌++◌, Option, Some, None, nat_eq, refl, sym, ap, subst, ◌∙◌, append_assoc, eq-eqb}
-use Rattle.std.specs.Prelude.{fold, option_and_then, unwrap_or}
-use Rattle.std.specs.Option.{option_map, option_or}
+use Rattle.mig_libxl.proofs.EmulatorParts.{or_none}
+use Rattle.mig_legacy.proofs.Common.{◌≡◌, ◌≢◌, ℕ, Bool, true, false, cond, List, [], ◌∷◌, ◌++◌, Option, Some, None, nat_eq, refl, sym, ap, subst, ◌∙◌, append_assoc, eq-eqb, fold, option_and_then, unwrap_or, option_map, option_or, append-nil, fold-append, Pair, part_cmp, PartKey, part_total, part_exact, PairMap, put_pair, put_pairs, text_of_map, same_key, last_bytes, part_ties, EmulatorsOf, no_emulators, store_at, add_pairs, put_libxl_content, emulators_of, last_context, part_there, LegacyContent, LegacyChunk, LegacyTail, LegacyStream, param_key, store_key, device_key, pair_records, device_records, store_records, guest_without, device_model, mean_legacy, Value, Pairs, parts_in, parts_of_chunks, parts_of_tail, parts_told, tail_value, last_value, toolstack_pairs, pairs_of_chunks, store_of}
 use Rattle.std.specs.FinMap as maps
-use Rattle.std.proofs.lemmas.List.{append-nil}
-use Rattle.std.proofs.lemmas.List.Sums.{fold-append}
-use Rattle.mig_headers.specs.Pairs.{Pair}
-use Rattle.mig_guest.specs.Order.{part_cmp}
-use Rattle.mig_guest.specs.declared.part_key.PartKey.{PartKey}
 use Rattle.mig_guest.proofs.KeyedMaps.{tied, insert_gives}
-use Rattle.mig_guest.proofs.PartOrder.{part_total, part_exact}
-use Rattle.mig_policy.specs.PairMaps.{PairMap, put_pair, put_pairs, text_of_map}
-use Rattle.mig_restore.specs.Mean.{same_key, last_bytes}
-use Rattle.mig_restore.proofs.Meaning.{part_ties}
 use Rattle.mig_libxl.specs.Content.{LibxlRecord}
-use Rattle.mig_libxl.specs.Content.Content.{Pairs as StorePairs}
-use Rattle.mig_libxl.specs.Emulators.{EmulatorsOf, no_emulators, store_at, add_pairs, put_content, emulators_of, last_context, last_value as last_pair}
-use Rattle.mig_libxl.proofs.EmulatorGuests.{part_there}
+use Rattle.mig_libxl.specs.Content.LibxlContent.{Pairs as StorePairs}
+use Rattle.mig_libxl.specs.Emulators.{last_pair_value as last_pair}
 use Rattle.mig_libxl.proofs.EmulatorMeaning.{last_context_is, last_value_is}
-use Rattle.mig_legacy.specs.Legacy.{Content, LegacyChunk, LegacyTail, LegacyStream, param_key, store_key, device_key, pairs_in as pair_records, device_records, store_records, guest_without, device_model, mean_legacy}
-use Rattle.mig_legacy.specs.Legacy.Content.{Nothing, Frames, Value, Clock, Pairs}
-use Rattle.mig_legacy.specs.Meaning.{parts_in, parts_of_chunks, parts_of_tail, parts_told, tail_value, last_value, pairs_in, pairs_of_chunks, store_of}
-use Rattle.mig_legacy.proofs.Meaning.{or_none, without_part, last_join, tail_said, values_said}
+use Rattle.mig_legacy.proofs.Meaning.{without_part, last_join, tail_said, values_said}
 
 abbrev all_put : EmulatorsOf → List LibxlRecord → EmulatorsOf
-all_put e rs = fold (λ e r. put_content e r.content) e rs
+all_put e rs = fold (λ e r. put_libxl_content e r.content) e rs
 
 put_join : (e : EmulatorsOf) (rs qs : List LibxlRecord) → all_put e (rs ++ qs) ≡ all_put (all_put e rs) qs
-put_join e rs qs = fold-append (λ (x : EmulatorsOf) (r : LibxlRecord). put_content x r.content) e rs qs
+put_join e rs qs = fold-append (λ (x : EmulatorsOf) (r : LibxlRecord). put_libxl_content x r.content) e rs qs
 
 -- ---- keys
 
@@ -48,12 +34,9 @@ contexts_behind : (key : PartKey) (chunks : List LegacyChunk) (rs : List LibxlRe
 contexts_behind key [] rs = refl
 contexts_behind key (c ∷ cs) rs = ap (last_context key) (append_assoc (pair_records c.content) (store_records cs) rs) ∙ behind c.content ∙ contexts_behind key cs rs
   where
-    behind : (d : Content) → last_context key (pair_records d ++ (store_records cs ++ rs)) ≡ last_context key (store_records cs ++ rs)
-    behind Nothing = refl
-    behind (Frames es) = refl
-    behind (Value index bytes) = refl
-    behind (Clock bytes) = refl
+    behind : (d : LegacyContent) → last_context key (pair_records d ++ (store_records cs ++ rs)) ≡ last_context key (store_records cs ++ rs)
     behind (Pairs ps) = or_none (last_context key (store_records cs ++ rs))
+    behind _ = refl
 
 contexts_are : (s : LegacyStream) (key : PartKey) → maps.get (device_model s).contexts key ≡ last_context key (device_records s.device)
 contexts_are s key = last_context_is (store_records s.chunks ++ device_records s.device) key ∙ contexts_behind key s.chunks (device_records s.device)
@@ -75,12 +58,9 @@ module _ (key : PartKey) (other : key ≢ store_key) where
       maps.get-insert part_total e.stores store_key (put_pairs (store_at e.stores store_key) (p ∷ ps)) key
       ∙ ap (λ b. cond b (Some (put_pairs (store_at e.stores store_key) (p ∷ ps))) (maps.get e.stores key)) (part_ties key store_key ∙ other_key store_key key other) ∙ none
 
-  chunk_leaves : (e : EmulatorsOf) (c : Content) → NoStore e → NoStore (all_put e (pair_records c))
-  chunk_leaves e Nothing none = none
-  chunk_leaves e (Frames es) none = none
-  chunk_leaves e (Value index bytes) none = none
-  chunk_leaves e (Clock bytes) none = none
+  chunk_leaves : (e : EmulatorsOf) (c : LegacyContent) → NoStore e → NoStore (all_put e (pair_records c))
   chunk_leaves e (Pairs ps) none = pairs_leave e ps none
+  chunk_leaves e _ none = none
 
   chunks_leave : (e : EmulatorsOf) (chunks : List LegacyChunk) → NoStore e → NoStore (all_put e (store_records chunks))
   chunks_leave e [] none = none
@@ -111,12 +91,9 @@ pairs_grow : (e : EmulatorsOf) (ps : List Pair) → maps.get (add_pairs e store_
 pairs_grow e [] = refl
 pairs_grow e (p ∷ ps) = insert_gives part_total e.stores store_key (put_pairs (store_at e.stores store_key) (p ∷ ps))
 
-chunk_grows : (e : EmulatorsOf) (c : Content) → maps.get (all_put e (pair_records c)).stores store_key ≡ grown (maps.get e.stores store_key) (pairs_in c)
-chunk_grows e Nothing = refl
-chunk_grows e (Frames es) = refl
-chunk_grows e (Value index bytes) = refl
-chunk_grows e (Clock bytes) = refl
+chunk_grows : (e : EmulatorsOf) (c : LegacyContent) → maps.get (all_put e (pair_records c)).stores store_key ≡ grown (maps.get e.stores store_key) (toolstack_pairs c)
 chunk_grows e (Pairs ps) = pairs_grow e ps
+chunk_grows e _ = refl
 
 chunks_grow : (e : EmulatorsOf) (chunks : List LegacyChunk) → maps.get (all_put e (store_records chunks)).stores store_key ≡ grown (maps.get e.stores store_key) (pairs_of_chunks chunks)
 chunks_grow e [] = refl
@@ -124,7 +101,7 @@ chunks_grow e (c ∷ cs) =
     ap (λ (x : EmulatorsOf). maps.get x.stores store_key) (put_join e (pair_records c.content) (store_records cs))
     ∙ chunks_grow (all_put e (pair_records c.content)) cs
     ∙ ap (λ o. grown o (pairs_of_chunks cs)) (chunk_grows e c.content)
-    ∙ sym (grown_join (maps.get e.stores store_key) (pairs_in c.content) (pairs_of_chunks cs))
+    ∙ sym (grown_join (maps.get e.stores store_key) (toolstack_pairs c.content) (pairs_of_chunks cs))
 
 device_keeps : (e : EmulatorsOf) (device : Option (List ℕ)) → (all_put e (device_records device)).stores ≡ e.stores
 device_keeps e None = refl
@@ -163,7 +140,7 @@ last_part_decides s key no_pairs no_data =
     ∙ without_part s key
 
 -- no chunk and no tail says a part of the device model
-module _ (key : PartKey) (apart : (c : Content) → last_bytes key (parts_in c) ≡ None) (behind : (t : LegacyTail) → last_bytes key (parts_of_tail t) ≡ None) where
+module _ (key : PartKey) (apart : (c : LegacyContent) → last_bytes key (parts_in c) ≡ None) (behind : (t : LegacyTail) → last_bytes key (parts_of_tail t) ≡ None) where
   chunks_apart : (chunks : List LegacyChunk) → last_bytes key (parts_of_chunks chunks) ≡ None
   chunks_apart [] = refl
   chunks_apart (c ∷ cs) = last_join key (parts_in c.content) (parts_of_chunks cs) ∙ ap (λ o. option_or o (last_bytes key (parts_in c.content))) (chunks_apart cs) ∙ apart c.content
@@ -171,11 +148,11 @@ module _ (key : PartKey) (apart : (c : Content) → last_bytes key (parts_in c) 
   untold : (s : LegacyStream) → maps.get (guest_without s).parts key ≡ None
   untold s = without_part s key ∙ last_join key (parts_of_chunks s.chunks) (parts_of_tail s.tail) ∙ ap (λ o. option_or o (last_bytes key (parts_of_chunks s.chunks))) (behind s.tail) ∙ chunks_apart s.chunks
 
-no_device_data : (c : Content) → last_bytes device_key (parts_in c) ≡ None
+no_device_data : (c : LegacyContent) → last_bytes device_key (parts_in c) ≡ None
 no_device_data (Value index bytes) = refl
 no_device_data _ = refl
 
-no_store_text : (c : Content) → last_bytes store_key (parts_in c) ≡ None
+no_store_text : (c : LegacyContent) → last_bytes store_key (parts_in c) ≡ None
 no_store_text (Value index bytes) = refl
 no_store_text _ = refl
 

@@ -1,39 +1,27 @@
 -- The device model's record, of which the first byte is taken alone.
-use Rattle.std.proofs.Common.{◌≡◌, ℕ, suc, ◌-◌, ◌^◌, Bool, true, false, cond, nat_lt, List, [], ◌∷◌, ◌++◌, length, take, drop, get_or, Option, Some, None, Result, Ok, Err, refl, sym, ap, subst, ◌∙◌, arith}
+use Rattle.mig_bytes.proofs.Joins.{any_stop, passes_not, part_whole}
+use Rattle.mig_legacy.proofs.Common.{◌≡◌, ℕ, suc, ◌-◌, ◌^◌, false, cond, nat_lt, List, [], ◌∷◌, ◌++◌, length, take, drop, get_or, Option, Some, None, Result, Ok, Err, refl, sym, ap, subst, ◌∙◌, arith, common_steps, Judged, ◌>>=◌, part, Matches, Gives, plain_at, Passes, Faulty, Stop, part_passes, LegacyCause, Truncated, length_at, fault_of_signature, device_record_at, device_at}
 use Rattle.std.specs.Result.{IsErrAnd}
-use Rattle.std.proofs.lemmas.Grind.{common_steps}
-use Rattle.mig_bytes.specs.Judged.{Judged, ◌>>=◌, part, Matches, Gives}
-use Rattle.mig_bytes.specs.Judged.Judged.{Passes, Faulty}
-use Rattle.mig_bytes.specs.declared.part.Stop.{Stop}
-use Rattle.mig_bytes.specs.declared.part.Stop.TheVariants.{Refused, ReadFault, Memory}
-use Rattle.mig_bytes.proofs.Joins.{part_passes}
-use Rattle.mig_headers.specs.declared.legacy_fault.LegacyCause.{LegacyCause}
-use Rattle.mig_headers.specs.declared.legacy_fault.LegacyCause.TheVariants.{Truncated}
-use Rattle.mig_legacy.specs.Judging.{length_at, plain_at, fault_of_signature, record_at, device_at}
+use Rattle.mig_bytes.specs.declared.part.Stop.TheVariants.{Refused}
 
 -- what follows the signature
 abbrev pub behind_signature : List ℕ → Judged LegacyCause (Option (List ℕ))
-behind_signature input = length_at (2 ^ 27 - 8) input >>= λ len. plain_at Some len.0 len.1
+behind_signature input = length_at (2 ^ 27 - 8) input >>= λ len. plain_at Truncated Some len.0 len.1
 
 -- a byte before a part that is there
 part_more : (n b : ℕ) (i x rest : List ℕ) → part Truncated n i ≡ Passes x rest → part Truncated (suc n) (b ∷ i) ≡ Passes (b ∷ x) rest
-part_more n b i x rest is = by (nat_lt (length i) n) refl
-  where
-    by : (short : Bool) → nat_lt (length i) n ≡ short → part Truncated (suc n) (b ∷ i) ≡ Passes (b ∷ x) rest
-    by true e = let no : ◌≡◌ {A = Judged LegacyCause (List ℕ)} (Faulty Truncated []) (Passes x rest) = ap (λ t. cond t (Faulty Truncated []) (Passes (take n i) (drop n i))) (sym e) ∙ is in cc
-    by false e =
-        let long : nat_lt (suc (length i)) (suc n) ≡ false = grind (arith, common_steps, e) in
-        let there : ◌≡◌ {A = Judged LegacyCause (List ℕ)} (Passes (take n i) (drop n i)) (Passes x rest) = ap (λ t. cond t (Faulty Truncated []) (Passes (take n i) (drop n i))) (sym e) ∙ is in
-        ap (λ t. cond t (Faulty Truncated []) (Passes (take (suc n) (b ∷ i)) (drop (suc n) (b ∷ i)))) long ∙ cc
+part_more n b i x rest is =
+    let (whole, len) = part_passes Truncated n i x rest is in
+    ap (λ l. part Truncated (suc n) (b ∷ l)) whole ∙ part_whole Truncated (suc n) (b ∷ x) rest (ap suc len)
 
 module _ {V : Type 0} (Q : V → Option (List ℕ) → Type 0) (first n : ℕ) (bytes : List ℕ) (size : n ≡ 20) where
   pub signed : (a b d : Option (List ℕ)) (r : Result V (Stop LegacyCause)) → Gives {X = Unit {0}} (λ _ x. x ≡ bytes) a b (part Truncated n) (Ok tt) → fault_of_signature (first ∷ bytes) ≡ None
-      → Gives Q b d behind_signature r → Gives Q a d (λ rest. record_at (first ∷ rest)) r
+      → Gives Q b d behind_signature r → Gives Q a d (λ rest. device_record_at (first ∷ rest)) r
   signed None b d r told fine read = tt
   signed (Some i) b d r (x, rest, is, left, same) fine read =
       let there : part Truncated 21 (first ∷ i) ≡ Passes (first ∷ x) rest = part_more 20 first i x rest (subst (λ k. part Truncated k i ≡ Passes x rest) size is) in
       let none : fault_of_signature (first ∷ x) ≡ None = ap (λ l. fault_of_signature (first ∷ l)) same ∙ fine in
-      let judged : record_at (first ∷ i) ≡ behind_signature rest = rw (there, none) refl in
+      let judged : device_record_at (first ∷ i) ≡ behind_signature rest = rw (there, none) refl in
       subst (λ j. Matches Q d j r) (sym judged) (subst (λ o. Gives Q o d behind_signature r) left read)
 
 -- ---- the first byte
@@ -44,12 +32,9 @@ unfolding device_at
 ended [] c rest is = let nothing : [] ≡ rest = cc in ap (Passes None) nothing
 ended (b ∷ i) c rest is =
     let long : nat_lt (suc (length i)) 1 ≡ false = grind (arith, common_steps) in
-    let no : ◌≡◌ {A = Judged LegacyCause (List ℕ)} (Passes (take 1 (b ∷ i)) (drop 1 (b ∷ i))) (Faulty c rest) = ap (λ t. cond t (Faulty Truncated []) (Passes (take 1 (b ∷ i)) (drop 1 (b ∷ i)))) (sym long) ∙ is in absurd (passes_not no)
-  where
-    passes_not : ◌≡◌ {A = Judged LegacyCause (List ℕ)} (Passes (take 1 (b ∷ i)) (drop 1 (b ∷ i))) (Faulty c rest) → ⊥
-    passes_not e = cc
+    passes_not (take 1 (b ∷ i)) (drop 1 (b ∷ i)) c rest (ap (λ t. cond t (Faulty Truncated []) (Passes (take 1 (b ∷ i)) (drop 1 (b ∷ i)))) (sym long) ∙ is)
 
-begins : (x rest : List ℕ) → length x ≡ 1 → device_at (x ++ rest) ≡ record_at (get_or x 0 0 ∷ rest)
+begins : (x rest : List ℕ) → length x ≡ 1 → device_at (x ++ rest) ≡ device_record_at (get_or x 0 0 ∷ rest)
 unfolding device_at
 begins [] rest one = absurd (omega (arith, one))
 begins (b ∷ []) rest one = refl
@@ -63,26 +48,16 @@ module _ {V : Type 0} (Q : V → Option (List ℕ) → Type 0) (n : ℕ) (size :
       (None, rest, ended i c rest (subst (λ k. part Truncated k i ≡ Faulty c rest) size is), left, q)
 
   pub some_device : (bytes : List ℕ) (first : ℕ) (a b d : Option (List ℕ)) (r : Result V (Stop LegacyCause)) → first ≡ get_or bytes 0 0 → Gives {X = Unit {0}} (λ _ x. x ≡ bytes) a b (part Truncated n) (Ok tt)
-      → Gives Q b d (λ rest. record_at (first ∷ rest)) r → Gives Q a d device_at r
+      → Gives Q b d (λ rest. device_record_at (first ∷ rest)) r → Gives Q a d device_at r
   some_device bytes first None b d r at told read = tt
   some_device bytes first (Some i) b d r at (x, rest, is, left, same) read =
       let (whole, one) = part_passes Truncated 1 i x rest (subst (λ k. part Truncated k i ≡ Passes x rest) size is) in
-      let judged : device_at i ≡ record_at (first ∷ rest) = ap device_at whole ∙ begins x rest one ∙ ap (λ k. record_at (k ∷ rest)) (ap (λ l. get_or l 0 0) same ∙ sym at) in
-      subst (λ j. Matches Q d j r) (sym judged) (subst (λ o. Gives Q o d (λ rest. record_at (first ∷ rest)) r) left read)
+      let judged : device_at i ≡ device_record_at (first ∷ rest) = ap device_at whole ∙ begins x rest one ∙ ap (λ k. device_record_at (k ∷ rest)) (ap (λ l. get_or l 0 0) same ∙ sym at) in
+      subst (λ j. Matches Q d j r) (sym judged) (subst (λ o. Gives Q o d (λ rest. device_record_at (first ∷ rest)) r) left read)
 
--- ---- what is kept of it
+-- ---- where it stops
 
 module _ {X V Y : Type 0} (R : X → Y → Type 0) (Q : V → Y → Type 0) (f : List ℕ → Judged LegacyCause Y) where
-  pub kept_so : (a b : Option (List ℕ)) (x : X) (v : V) → Gives R a b f (Ok x) → ((y : Y) → R x y → Q v y) → Gives Q a b f (Ok v)
-  kept_so None b x v h turn = tt
-  kept_so (Some i) b x v (y, rest, is, left, r) turn = (y, rest, is, left, turn y r)
-
   pub stops_so : (a b : Option (List ℕ)) (e : Stop LegacyCause) (r : Result V (Stop LegacyCause)) → IsErrAnd r (λ d. d ≡ e) → Gives R a b f (Err e) → Gives Q a b f r
   stops_so a b e (Ok v) is h = absurd is
-  stops_so None b e (Err d) is h = tt
-  stops_so (Some i) b e (Err d) is h = subst (λ s. Matches Q b (f i) (Err s)) (sym is) (by e h)
-    where
-      by : (e : Stop LegacyCause) → Matches R b (f i) (Err e) → Matches Q b (f i) (Err e)
-      by (Refused c) h = h
-      by ReadFault h = tt
-      by Memory h = tt
+  stops_so a b e (Err d) is h = subst (λ s. Gives Q a b f (Err s)) (sym is) (any_stop R Q a b f e h)

@@ -1,11 +1,6 @@
 -- One entry less.
-use Rattle.std.proofs.Common.{◌≡◌, ℕ, suc, zero, ◌+◌, ◌-◌, ◌<◌, ◌≤◌, false, List, [], ◌∷◌, ◌++◌, length, take, drop, nat_eq, Option, Some, None, refl, sym, ap, ◌∙◌, arith, append_assoc, append-nil}
-use Rattle.std.specs.Prelude.{if◌then◌else◌}
-use Rattle.std.specs.List.{flat_map}
-use Rattle.std.proofs.lemmas.Grind.{common_steps}
-use Rattle.mig_legacy.specs.Judged.{entry_fault, entry_len, entry_in, entries_fault, entries_in, fault_or}
-use Rattle.mig_legacy.specs.Texts.{text_of_physmaps, pairs_of}
-use Rattle.mig_headers.specs.Pairs.{text_of_pair}
+use Rattle.mig_legacy.proofs.Common.{◌≡◌, ℕ, suc, zero, ◌+◌, ◌-◌, ◌<◌, ◌≤◌, false, List, [], ◌∷◌, ◌++◌, length, take, drop, nat_eq, Option, Some, None, refl, sym, ap, ◌∙◌, arith, append_assoc, if◌then◌else◌, flat_map, common_steps, entry_fault, entry_len, entry_in, entries_fault, physmaps_in, fault_or, text_of_physmaps, pairs_of_physmap, text_of_pair}
+use Rattle.std.proofs.Common.{append-nil}
 use Rattle.mig_legacy.proofs.Names.{whole_entry}
 
 all_behind : (bytes : List ℕ) (n : ℕ) → drop n bytes ≡ take (length bytes - n) (drop n bytes)
@@ -78,20 +73,20 @@ nothing_behind at (b ∷ bytes) e = some (sym (ap (λ t. if t then None else Som
 pub faultless_next : (count counter at : ℕ) (rest : List ℕ) → counter < count → entries_fault (count - counter) at rest ≡ None → entry_fault rest ≡ None
 faultless_next count counter at rest less e = faultless_all (count - (counter + 1)) at rest (ap (λ k. entries_fault k at rest) (sym (left count counter less)) ∙ e)
 
-more_texts : (n : ℕ) (rest : List ℕ) → text_of_physmaps (entries_in (suc n) rest) ≡ flat_map text_of_pair (pairs_of (entry_in rest)) ++ text_of_physmaps (entries_in n (drop (entry_len rest) rest))
-unfolding entries_in
+more_texts : (n : ℕ) (rest : List ℕ) → text_of_physmaps (physmaps_in (suc n) rest) ≡ flat_map text_of_pair (pairs_of_physmap (entry_in rest)) ++ text_of_physmaps (physmaps_in n (drop (entry_len rest) rest))
+unfolding physmaps_in
 more_texts n rest = refl
 
-no_texts : (rest : List ℕ) → text_of_physmaps (entries_in zero rest) ≡ []
-unfolding entries_in
+no_texts : (rest : List ℕ) → text_of_physmaps (physmaps_in zero rest) ≡ []
+unfolding physmaps_in
 no_texts rest = refl
 
 pub texts_step : (count counter : ℕ) (rest before : List ℕ) → counter < count
-    → before ++ text_of_physmaps (entries_in (count - counter) rest) ≡ (before ++ flat_map text_of_pair (pairs_of (entry_in rest))) ++ text_of_physmaps (entries_in (count - (counter + 1)) (behind rest))
+    → before ++ text_of_physmaps (physmaps_in (count - counter) rest) ≡ (before ++ flat_map text_of_pair (pairs_of_physmap (entry_in rest))) ++ text_of_physmaps (physmaps_in (count - (counter + 1)) (behind rest))
 texts_step count counter rest before less =
-    ap (λ k. before ++ text_of_physmaps (entries_in k rest)) (left count counter less)
-    ∙ ap (λ t. before ++ t) (more_texts (count - (counter + 1)) rest ∙ ap (λ b. flat_map text_of_pair (pairs_of (entry_in rest)) ++ text_of_physmaps (entries_in (count - (counter + 1)) b)) (all_behind rest (entry_len rest)))
-    ∙ sym (append_assoc before (flat_map text_of_pair (pairs_of (entry_in rest))) _)
+    ap (λ k. before ++ text_of_physmaps (physmaps_in k rest)) (left count counter less)
+    ∙ ap (λ t. before ++ t) (more_texts (count - (counter + 1)) rest ∙ ap (λ b. flat_map text_of_pair (pairs_of_physmap (entry_in rest)) ++ text_of_physmaps (physmaps_in (count - (counter + 1)) b)) (all_behind rest (entry_len rest)))
+    ∙ sym (append_assoc before (flat_map text_of_pair (pairs_of_physmap (entry_in rest))) _)
 
-pub texts_end : (count counter : ℕ) (rest before : List ℕ) → count ≤ counter → before ++ text_of_physmaps (entries_in (count - counter) rest) ≡ before
-texts_end count counter rest before less = ap (λ k. before ++ text_of_physmaps (entries_in k rest)) (none_left count counter less) ∙ ap (λ t. before ++ t) (no_texts rest) ∙ append-nil before
+pub texts_end : (count counter : ℕ) (rest before : List ℕ) → count ≤ counter → before ++ text_of_physmaps (physmaps_in (count - counter) rest) ≡ before
+texts_end count counter rest before less = ap (λ k. before ++ text_of_physmaps (physmaps_in k rest)) (none_left count counter less) ∙ ap (λ t. before ++ t) (no_texts rest) ∙ append-nil before

@@ -1,15 +1,6 @@
 -- Fields of bytes of which others follow.
-use Rattle.std.proofs.Common.{◌≡◌, ℕ, ◌+◌, ◌<◌, ◌≤◌, List, ◌++◌, length, take, drop, get_or, refl, sym, ap, ◌∙◌, arith, length-take-le, take-append-drop}
-use Rattle.std.proofs.Math.ListN.{get_or-append}
-use Rattle.std.proofs.lemmas.List.{get_or-drop}
-use Rattle.mig_bytes.specs.Fields.{le32, le64}
-
-byte_in : (head xs : List ℕ) (k i : ℕ) → k + i < length head → get_or (drop k (head ++ xs)) i 0 ≡ get_or (drop k head) i 0
-byte_in head xs k i less = get_or-drop k (head ++ xs) i 0 ∙ get_or-append head xs 0 (k + i) less ∙ sym (get_or-drop k head i 0)
-
-pub in32 : (head xs : List ℕ) (k : ℕ) → k + 4 ≤ length head → le32 (head ++ xs) k ≡ le32 head k
-unfolding le32
-in32 head xs k less = rw (byte_in head xs k 0 (omega arith), byte_in head xs k 1 (omega arith), byte_in head xs k 2 (omega arith), byte_in head xs k 3 (omega arith)) refl
+use Rattle.mig_headers.proofs.ContextTexts.{byte_in, in32}
+use Rattle.mig_legacy.proofs.Common.{◌≡◌, ℕ, ◌+◌, ◌≤◌, List, ◌++◌, length, take, drop, refl, sym, ap, ◌∙◌, arith, length-take-le, take-append-drop, le32, le64}
 
 pub in64 : (head xs : List ℕ) (k : ℕ) → k + 8 ≤ length head → le64 (head ++ xs) k ≡ le64 head k
 unfolding le64

@@ -1,3 +1,4 @@
+pub mod Common
 pub mod Names
 pub mod Entries
 pub mod Fields
@@ -7,9 +8,7 @@ pub mod BatchFaults
 pub mod ChunkNumbers
 pub mod PhysmapPairs
 pub mod Growth
-pub mod Begun
 pub mod Chunked
-pub mod Fronts
 pub mod Parts
 pub mod Batches
 pub mod KindNumbers

@@ -1,27 +1,11 @@
 -- What chunks and the tail mean: of each frame number the last entry decides, of each part the last that says it.
-use Rattle.std.proofs.Common.{◌≡◌, ℕ, cond, List, [], ◌∷◌, ◌++◌, Option, Some, None, refl, sym, ap, ◌∙◌, arith, append_assoc}
-use Rattle.std.specs.Prelude.{fold, option_and_then}
-use Rattle.std.specs.Option.{option_or}
+use Rattle.mig_libxl.proofs.EmulatorMeaning.{either_of}
+use Rattle.mig_libxl.proofs.EmulatorParts.{or_none}
+use Rattle.mig_legacy.proofs.Common.{◌≡◌, ℕ, cond, List, [], ◌∷◌, ◌++◌, Some, None, refl, sym, ap, ◌∙◌, arith, append_assoc, fold, option_and_then, option_or, common_steps, append-nil, fold-append, Hvm, GuestOf, part_cmp, PartKey, sent, mean, put_record, empty_guest, entries_of, last_entry, frame_in, same_key, last_bytes, StreamRecord, last_entry_is, parts_got, sent_kind, LegacyContent, LegacyChunk, LegacyTail, LegacyStream, param_key, records_in, tail_records, image_records, guest_without, mean_legacy, Frames, Value, batch_entries, entries_of_chunks, parts_in, parts_of_chunks, parts_of_tail, parts_told, tail_value, value_in, last_value}
 use Rattle.std.specs.FinMap as maps
-use Rattle.std.proofs.lemmas.Grind.{common_steps}
-use Rattle.std.proofs.lemmas.List.{append-nil}
-use Rattle.std.proofs.lemmas.List.Sums.{fold-append}
-use Rattle.mig_headers.specs.declared.kind.Kind.TheVariants.{Hvm}
-use Rattle.mig_guest.specs.Guests.{GuestOf}
-use Rattle.mig_guest.specs.Order.{part_cmp}
 use Rattle.mig_guest.specs.Parts.{Part, put_part, put_parts}
-use Rattle.mig_guest.specs.declared.part_key.PartKey.{PartKey}
 use Rattle.mig_pvtables.proofs.HvmGuests.{hvm_blank}
-use Rattle.mig_restore.specs.Mean.{sent, mean, put_record, empty_guest, entries_in as sent_entries, entries_of, last_entry, frame_in, same_key, last_bytes}
-use Rattle.mig_restore.specs.Record.{StreamRecord}
-use Rattle.mig_restore.proofs.Meaning.{last_entry_is, parts_got, sent_kind}
-use Rattle.mig_legacy.specs.Legacy.{Content, LegacyChunk, LegacyTail, LegacyStream, param_key, records_in, tail_records, image_records, guest_without, mean_legacy}
-use Rattle.mig_legacy.specs.Legacy.Content.{Nothing, Frames, Value, Clock, Pairs}
-use Rattle.mig_legacy.specs.Meaning.{entries_in, entries_of_chunks, parts_in, parts_of_chunks, parts_of_tail, parts_told, tail_value, value_in, last_value}
-
-pub or_none : {X : Type 0} (o : Option X) → option_or o None ≡ o
-or_none None = refl
-or_none (Some x) = refl
+use Rattle.mig_restore.specs.Mean.{entries_in as sent_entries}
 
 -- an HVM guest is its own blank form
 without_is : (s : LegacyStream) → guest_without s ≡ sent Hvm (image_records s.chunks ++ tail_records s.tail)
@@ -34,12 +18,9 @@ entries_join : (rs qs : List StreamRecord) → entries_of (rs ++ qs) ≡ entries
 entries_join [] qs = refl
 entries_join (r ∷ rs) qs = ap (λ l. sent_entries r.content ++ l) (entries_join rs qs) ∙ sym (append_assoc (sent_entries r.content) (entries_of rs) (entries_of qs))
 
-entries_said : (c : Content) → entries_of (records_in c) ≡ entries_in c
-entries_said Nothing = refl
+entries_said : (c : LegacyContent) → entries_of (records_in c) ≡ batch_entries c
 entries_said (Frames es) = append-nil es
-entries_said (Value index bytes) = refl
-entries_said (Clock bytes) = refl
-entries_said (Pairs ps) = refl
+entries_said _ = refl
 
 entries_are : (chunks : List LegacyChunk) (t : LegacyTail) → entries_of (image_records chunks ++ tail_records t) ≡ entries_of_chunks chunks
 entries_are [] t = refl
@@ -47,7 +28,7 @@ entries_are (c ∷ cs) t =
     ap entries_of (append_assoc (records_in c.content) (image_records cs) (tail_records t))
     ∙ entries_join (records_in c.content) (image_records cs ++ tail_records t)
     ∙ ap (λ l. l ++ entries_of (image_records cs ++ tail_records t)) (entries_said c.content)
-    ∙ ap (λ l. entries_in c.content ++ l) (entries_are cs t)
+    ∙ ap (λ l. batch_entries c.content ++ l) (entries_are cs t)
 
 pub last_entry_decides : (s : LegacyStream) (pfn : ℕ) → maps.get (mean_legacy s).frames pfn ≡ option_and_then (frame_in Hvm) (last_entry pfn (entries_of_chunks s.chunks))
 unfolding mean_legacy
@@ -63,12 +44,9 @@ folded_top g [] = refl
 folded_top g (c ∷ cs) =
     ap (λ (h : GuestOf). h.top) (fold-append put_record g (records_in c.content) (image_records cs)) ∙ folded_top (fold put_record g (records_in c.content)) cs ∙ one_top c.content
   where
-    one_top : (d : Content) → (fold put_record g (records_in d)).top ≡ g.top
-    one_top Nothing = refl
+    one_top : (d : LegacyContent) → (fold put_record g (records_in d)).top ≡ g.top
     one_top (Frames es) = refl
-    one_top (Value index bytes) = refl
-    one_top (Clock bytes) = refl
-    one_top (Pairs ps) = refl
+    one_top _ = refl
 
 pub kind_is : (s : LegacyStream) → (mean_legacy s).kind ≡ Hvm
 unfolding mean_legacy
@@ -82,12 +60,9 @@ top_is s =
 
 -- ---- parts without the device model's
 
-chunk_parts : (g : GuestOf) (c : Content) → (fold put_record g (records_in c)).parts ≡ put_parts g.parts (parts_in c)
-chunk_parts g Nothing = refl
+chunk_parts : (g : GuestOf) (c : LegacyContent) → (fold put_record g (records_in c)).parts ≡ put_parts g.parts (parts_in c)
 chunk_parts g (Frames es) = refl
-chunk_parts g (Value index bytes) = refl
-chunk_parts g (Clock bytes) = refl
-chunk_parts g (Pairs ps) = refl
+chunk_parts g _ = refl
 
 chunks_parts : (g : GuestOf) (chunks : List LegacyChunk) → (fold put_record g (image_records chunks)).parts ≡ put_parts g.parts (parts_of_chunks chunks)
 chunks_parts g [] = refl
@@ -97,15 +72,10 @@ chunks_parts g (c ∷ cs) =
     ∙ ap (λ m. put_parts m (parts_of_chunks cs)) (chunk_parts g c.content)
     ∙ sym (fold-append put_part g.parts (parts_in c.content) (parts_of_chunks cs))
 
-tail_parts : (g : GuestOf) (t : LegacyTail) → (fold put_record g (tail_records t)).parts ≡ put_parts g.parts (parts_of_tail t)
-tail_parts g t = refl
-
 without_parts : (s : LegacyStream) → (guest_without s).parts ≡ put_parts maps.empty (parts_told s)
 unfolding sent
 without_parts s =
-    let g = fold put_record (empty_guest Hvm) (image_records s.chunks) in
     ap (λ (h : GuestOf). h.parts) (without_is s ∙ fold-append put_record (empty_guest Hvm) (image_records s.chunks) (tail_records s.tail))
-    ∙ tail_parts g s.tail
     ∙ ap (λ m. put_parts m (parts_of_tail s.tail)) (chunks_parts (empty_guest Hvm) s.chunks)
     ∙ sym (fold-append put_part maps.empty (parts_of_chunks s.chunks) (parts_of_tail s.tail))
 
@@ -118,21 +88,14 @@ without_part s key =
 
 pub last_join : (key : PartKey) (ps qs : List Part) → last_bytes key (ps ++ qs) ≡ option_or (last_bytes key qs) (last_bytes key ps)
 last_join key [] qs = sym (or_none (last_bytes key qs))
-last_join key (p ∷ ps) qs = ap (λ o. option_or o (cond (same_key p.0 key) (Some p.1) None)) (last_join key ps qs) ∙ either (last_bytes key qs) (last_bytes key ps) _
-  where
-    either : (a b c : Option (List ℕ)) → option_or (option_or a b) c ≡ option_or a (option_or b c)
-    either None b c = refl
-    either (Some x) b c = refl
+last_join key (p ∷ ps) qs = ap (λ o. option_or o (cond (same_key p.0 key) (Some p.1) None)) (last_join key ps qs) ∙ sym (either_of (last_bytes key qs) (last_bytes key ps) _)
 
 pub tail_said : (index : ℕ) (t : LegacyTail) → last_bytes (param_key index) (parts_of_tail t) ≡ tail_value index t
 tail_said index t = grind (arith, common_steps)
 
-value_said : (index : ℕ) (c : Content) → last_bytes (param_key index) (parts_in c) ≡ value_in index c
-value_said index Nothing = refl
-value_said index (Frames es) = refl
+value_said : (index : ℕ) (c : LegacyContent) → last_bytes (param_key index) (parts_in c) ≡ value_in index c
 value_said index (Value i bytes) = grind (arith, common_steps)
-value_said index (Clock bytes) = refl
-value_said index (Pairs ps) = refl
+value_said index _ = refl
 
 pub values_said : (index : ℕ) (chunks : List LegacyChunk) → last_bytes (param_key index) (parts_of_chunks chunks) ≡ last_value index chunks
 values_said index [] = refl

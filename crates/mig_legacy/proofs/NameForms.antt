@@ -1,12 +1,5 @@
 -- Names and their bytes.
-use Rattle.std.proofs.Common.{◌≡◌, ℕ, suc, ◌+◌, ◌<◌, Bool, true, false, not, List, [], ◌∷◌, ◌++◌, length, take, nat_eq, cond, Option, Some, None, refl, sym, ap, subst, ◌∙◌, arith, length-append}
-use Rattle.std.specs.Prelude.{◌||◌}
-use Rattle.std.specs.List.{All, prefix_len, position_or_len}
-use Rattle.std.proofs.Math.Seq.{take-append_seam}
-use Rattle.std.proofs.lemmas.Grind.{common_steps}
-use Rattle.std.proofs.lemmas.List.Elements.{All-nil, All-cons, All-head, All-tail}
-use Rattle.mig_legacy.specs.Toolstack.{name_bytes, IsName}
-use Rattle.mig_legacy.specs.Judged.{is_name, name_in}
+use Rattle.mig_legacy.proofs.Common.{◌≡◌, ℕ, suc, ◌+◌, ◌<◌, Bool, true, false, not, List, [], ◌∷◌, ◌++◌, length, take, nat_eq, cond, Option, Some, None, refl, sym, ap, subst, ◌∙◌, arith, length-append, ◌||◌, All, prefix_len, position_or_len, take-append_seam, common_steps, All-nil, All-cons, All-head, All-tail, name_bytes, IsName, is_name, name_in}
 
 abbrev not_zero : ℕ → Bool
 not_zero b = not (nat_eq b 0)

@@ -1,15 +1,9 @@
 -- The pairs of the data of a toolstack are pairs that a store may have, and their text spells them.
-use Rattle.std.proofs.Common.{◌≡◌, ℕ, ◌<◌, ◌/◌, ◌%◌, true, false, List, [], ◌∷◌, ◌++◌, Option, Some, None, refl, sym, ap, ◌∙◌, arith, append_assoc, length-append}
-use Rattle.std.specs.Prelude.{codes, slice_index, zero, suc}
-use Rattle.std.specs.List.{AllByRecursion, flat_map}
-use Rattle.std.proofs.lemmas.List.Elements.{All-from_recursion, recursion_from_All, All-get_or, All-drop}
+use Rattle.std.proofs.lemmas.Grind.{flat_map-append}
+use Rattle.mig_legacy.proofs.Common.{◌≡◌, ℕ, ◌<◌, ◌/◌, ◌%◌, true, false, List, [], ◌∷◌, ◌++◌, Option, Some, None, refl, ap, ◌∙◌, arith, length-append, codes, AllByRecursion, flat_map, All-from_recursion, recursion_from_All, All-get_or, All-drop, IsPair, is_key_byte, text_of_pair, SpellPairs, toolstack, toolstack_fault, hexadecimal, physmap_pair, name_pairs, pairs_of_physmap, text_of_physmaps, Physmap, IsName, ArePhysmaps, IsToolstack}
+use Rattle.std.specs.Prelude.{slice_index, zero, suc}
 use Rattle.byteorder.specs.Endian.{big_bytes}
 use Rattle.hex.specs.Hex.{lower_digits, encode_with, encode_lower}
-use Rattle.mig_headers.specs.Pairs.{Pair, IsPair, is_key_byte, text_of_pair}
-use Rattle.mig_policy.specs.PairFaults.{SpellPairs}
-use Rattle.mig_legacy.specs.Judged.{toolstack, toolstack_fault}
-use Rattle.mig_legacy.specs.Texts.{hexadecimal, physmap_pair, name_pairs, pairs_of, text_of_physmaps}
-use Rattle.mig_legacy.specs.Toolstack.{Physmap, IsName, ArePhysmaps, IsToolstack}
 use Rattle.mig_legacy.proofs.Spelling.{toolstack_spelled}
 
 -- ---- digits
@@ -67,25 +61,21 @@ named : (phys : ℕ) (name : Option (List ℕ)) → IsName name → AllByRecursi
 named phys None is = tt
 named phys (Some name) is = (is_pair phys (codes "name") name (refl, (refl, (refl, (refl, tt)))) (recursion_from_All (λ b. 0 < b) name is), tt)
 
-entry_pairs : (e : Physmap) → IsName e.name → AllByRecursion IsPair (pairs_of e)
+entry_pairs : (e : Physmap) → IsName e.name → AllByRecursion IsPair (pairs_of_physmap e)
 entry_pairs e is = (
   numbered e.phys (codes "start_addr") e.start (refl, (refl, (refl, (refl, (refl, (refl, (refl, (refl, (refl, (refl, tt)))))))))),
   (numbered e.phys (codes "size") e.size (refl, (refl, (refl, (refl, tt)))), named e.phys e.name is),
 )
 
-all_pairs : (bytes : List ℕ) (es : List Physmap) → ArePhysmaps bytes es → AllByRecursion IsPair (flat_map pairs_of es)
+all_pairs : (bytes : List ℕ) (es : List Physmap) → ArePhysmaps bytes es → AllByRecursion IsPair (flat_map pairs_of_physmap es)
 all_pairs bytes [] are = tt
-all_pairs bytes (e ∷ es) (head, pad, rest, whole, is, name, len, others) = both IsPair (pairs_of e) (flat_map pairs_of es) (entry_pairs e name) (all_pairs rest es others)
+all_pairs bytes (e ∷ es) (head, pad, rest, whole, is, name, len, others) = both IsPair (pairs_of_physmap e) (flat_map pairs_of_physmap es) (entry_pairs e name) (all_pairs rest es others)
 
-text_joined : (xs ys : List Pair) → flat_map text_of_pair (xs ++ ys) ≡ flat_map text_of_pair xs ++ flat_map text_of_pair ys
-text_joined [] ys = refl
-text_joined (x ∷ xs) ys = ap (λ t. text_of_pair x ++ t) (text_joined xs ys) ∙ sym (append_assoc (text_of_pair x) (flat_map text_of_pair xs) (flat_map text_of_pair ys))
-
-text_is : (es : List Physmap) → flat_map text_of_pair (flat_map pairs_of es) ≡ text_of_physmaps es
+text_is : (es : List Physmap) → flat_map text_of_pair (flat_map pairs_of_physmap es) ≡ text_of_physmaps es
 text_is [] = refl
-text_is (e ∷ es) = text_joined (pairs_of e) (flat_map pairs_of es) ∙ ap (λ t. flat_map text_of_pair (pairs_of e) ++ t) (text_is es)
+text_is (e ∷ es) = flat_map-append text_of_pair (pairs_of_physmap e) (flat_map pairs_of_physmap es) ∙ ap (λ t. flat_map text_of_pair (pairs_of_physmap e) ++ t) (text_is es)
 
-pub physmaps_spell : (body : List ℕ) → toolstack_fault body ≡ None → SpellPairs (text_of_physmaps (toolstack body)) (flat_map pairs_of (toolstack body))
+pub physmaps_spell : (body : List ℕ) → toolstack_fault body ≡ None → SpellPairs (text_of_physmaps (toolstack body)) (flat_map pairs_of_physmap (toolstack body))
 physmaps_spell body none =
     let is : IsToolstack body (toolstack body) = (toolstack_spelled body).faultless none in
     record { each = All-from_recursion IsPair _ (all_pairs is.rest (toolstack body) is.each); spelled = text_is (toolstack body) }

@@ -1,29 +1,11 @@
 -- Data without a wrong field are those that are spelled as entries.
-use Rattle.std.proofs.Common.{◌≡◌, ℕ, zero, suc, ◌+◌, ◌≤◌, Bool, true, false, not, List, [], ◌∷◌, ◌++◌, length, take, drop, nat_eq, nat_lt, Some, None, refl, sym, ap, subst, ◌∙◌, arith, length-append, length-take-le, length-drop, take-append-drop, drop-drop, eqb-true, eq-eqb}
-use Rattle.std.specs.Prelude.{◌||◌, if◌then◌else◌}
-use Rattle.std.proofs.Math.Seq.{take-append_seam, drop-append_seam}
-use Rattle.std.proofs.lemmas.Grind.{common_steps}
-use Rattle.mig_bytes.specs.Fields.{le32}
-use Rattle.mig_headers.proofs.FirstFaults.{rows_fine, no_fault}
-use Rattle.mig_legacy.specs.Toolstack.{Physmap, IsPhysmapHead, ArePhysmaps, IsToolstack, IsName, name_bytes}
-use Rattle.mig_legacy.specs.Judged.{is_name, name_in, name_len, name_at, entry_len, entry_fault, entry_rows, entry_in, entries_fault, entries_in, toolstack_fault, toolstack, ToolstackIsSpelled}
+use Rattle.std.proofs.Common.{ltb-false}
+use Rattle.std.proofs.lemmas.Bool.{le-ltb, not-false}
+use Rattle.mig_legacy.proofs.Common.{◌≡◌, ℕ, zero, suc, ◌+◌, ◌≤◌, Bool, true, false, not, List, [], ◌∷◌, ◌++◌, length, take, drop, nat_eq, nat_lt, Some, None, refl, sym, ap, subst, ◌∙◌, arith, length-append, length-take-le, length-drop, take-append-drop, drop-drop, eqb-true, eq-eqb, ◌||◌, if◌then◌else◌, take-append_seam, drop-append_seam, le32, rows_fine, no_fault, Physmap, IsPhysmapHead, ArePhysmaps, IsToolstack, IsName, name_bytes, is_name, name_in, name_len, name_at, entry_len, entry_fault, entry_rows, entry_in, entries_fault, physmaps_in, toolstack_fault, toolstack, ToolstackIsSpelled}
 use Rattle.mig_legacy.proofs.Entries.{faultless_first, faultless_all, faultless_rest, nothing_behind}
-use Rattle.mig_legacy.proofs.Fields.{in32, in64, first32, first64}
+use Rattle.mig_headers.proofs.ContextTexts.{in32}
+use Rattle.mig_legacy.proofs.Fields.{in64, first32, first64}
 use Rattle.mig_legacy.proofs.NameForms.{name_passes, name_found, name_spelled}
-
-at_most : (n m : ℕ) → nat_lt n m ≡ false → m ≤ n
-at_most n m h = grind (arith, common_steps)
-
-not_less : (n m : ℕ) → m ≤ n → nat_lt n m ≡ false
-not_less n m h = grind (arith, common_steps)
-
-not_false : (b : Bool) → not b ≡ false → b ≡ true
-not_false true h = refl
-not_false false h = cc
-
-not_true : (b : Bool) → b ≡ true → not b ≡ false
-not_true true h = refl
-not_true false h = cc
 
 -- ---- an entry without fault
 
@@ -35,15 +17,15 @@ pub record Fine (bytes : List ℕ) : Type 0 where
 fine_of : (bytes : List ℕ) → entry_fault bytes ≡ None → Fine bytes
 unfolding entry_fault
 fine_of bytes h = let r = rows_fine (entry_rows bytes) h in record {
-  head = at_most (length bytes) 28 r.1.1.1.0;
-  named = not_false (is_name (name_at bytes)) r.1.1.1.1.1.0;
-  whole = at_most (length bytes) (entry_len bytes) r.1.1.1.1.1.1.0;
+  head = ltb-false (length bytes) 28 r.1.1.1.0;
+  named = not-false (is_name (name_at bytes)) r.1.1.1.1.1.0;
+  whole = ltb-false (length bytes) (entry_len bytes) r.1.1.1.1.1.1.0;
 }
 
 pub fault_of : (bytes : List ℕ) → Fine bytes → entry_fault bytes ≡ None
 unfolding entry_fault
 fault_of bytes h =
-    no_fault (entry_rows bytes) (not_less (length bytes) 8 (omega (arith, h.head)), (not_less (length bytes) 16 (omega (arith, h.head)), (not_less (length bytes) 24 (omega (arith, h.head)), (not_less (length bytes) 28 h.head, (not_less (length bytes) (28 + name_len bytes) (omega (arith, h.whole)), (not_true (is_name (name_at bytes)) h.named, (not_less (length bytes) (entry_len bytes) h.whole, tt)))))))
+    no_fault (entry_rows bytes) (le-ltb (length bytes) 8 (omega (arith, h.head)), (le-ltb (length bytes) 16 (omega (arith, h.head)), (le-ltb (length bytes) 24 (omega (arith, h.head)), (le-ltb (length bytes) 28 h.head, (le-ltb (length bytes) (28 + name_len bytes) (omega (arith, h.whole)), (ap not h.named, (le-ltb (length bytes) (entry_len bytes) h.whole, tt)))))))
 
 -- ---- from no fault to the spelling
 
@@ -77,8 +59,8 @@ module _ (bytes : List ℕ) (h : Fine bytes) where
   len_pad : length pad ≡ 4
   len_pad = length-take-le 4 (drop (28 + name_len bytes) bytes) (omega (arith, h.whole, length-drop (28 + name_len bytes) bytes))
 
-each_back : (n at : ℕ) (bytes : List ℕ) → entries_fault n at bytes ≡ None → ArePhysmaps bytes (entries_in n bytes)
-unfolding entries_in
+each_back : (n at : ℕ) (bytes : List ℕ) → entries_fault n at bytes ≡ None → ArePhysmaps bytes (physmaps_in n bytes)
+unfolding physmaps_in
 each_back zero at bytes h = nothing_behind at bytes h
 each_back (suc n) at bytes h =
     let fine = fine_of bytes (faultless_all n at bytes h) in
@@ -133,15 +115,15 @@ module _ (es : List Physmap) (at : ℕ) (head pad rest : List ℕ) (e : Physmap)
   faultless_more : entries_fault (length es) (at + entry_len front) rest ≡ None → entries_fault (suc (length es)) at front ≡ None
   faultless_more more = faultless_first (length es) at front (fault_of front (fine head pad rest e h named four)) ∙ ap (entries_fault (length es) (at + entry_len front)) (behind_all head pad rest e h named four) ∙ more
 
-  found_more : entries_in (length es) rest ≡ es → entries_in (suc (length es)) front ≡ e ∷ es
-  unfolding entries_in
-  found_more more = ap (λ x. x ∷ entries_in (length es) (drop (entry_len front) front)) (entry_is head pad rest e h named four) ∙ ap (λ l. e ∷ l) (ap (entries_in (length es)) (behind_all head pad rest e h named four) ∙ more)
+  found_more : physmaps_in (length es) rest ≡ es → physmaps_in (suc (length es)) front ≡ e ∷ es
+  unfolding physmaps_in
+  found_more more = ap (λ x. x ∷ physmaps_in (length es) (drop (entry_len front) front)) (entry_is head pad rest e h named four) ∙ ap (λ l. e ∷ l) (ap (physmaps_in (length es)) (behind_all head pad rest e h named four) ∙ more)
 
 abbrev AreFound : List Physmap → List ℕ → Type 0
-AreFound es all = ((at : ℕ) → entries_fault (length es) at all ≡ None) × (entries_in (length es) all ≡ es)
+AreFound es all = ((at : ℕ) → entries_fault (length es) at all ≡ None) × (physmaps_in (length es) all ≡ es)
 
 none_found : AreFound [] []
-unfolding entries_fault entries_in
+unfolding entries_fault physmaps_in
 none_found = (λ at. refl, refl)
 
 each_forth : (es : List Physmap) (all : List ℕ) → ArePhysmaps all es → AreFound es all
@@ -152,8 +134,8 @@ each_forth (e ∷ es) all (first, mid, last, whole, is, named, four, more) =
 
 -- ---- the data
 
-len_in : (n : ℕ) (all : List ℕ) → length (entries_in n all) ≡ n
-unfolding entries_in
+len_in : (n : ℕ) (all : List ℕ) → length (physmaps_in n all) ≡ n
+unfolding physmaps_in
 len_in zero all = refl
 len_in (suc n) all = ap suc (len_in n (drop (entry_len all) all))
 
@@ -173,11 +155,11 @@ fine_head body h = first (nat_lt (length body) 4) (nat_eq (le32 body 0) 1) (nat_
     first true b c v l e = no 0 e
     first false false c v l e = no 0 e
     first false true true v l e = no 4 e
-    first false true false v l e = record { long = at_most (length body) 8 l; version = eqb-true (le32 body 0) 1 v; entries = e }
+    first false true false v l e = record { long = ltb-false (length body) 8 l; version = eqb-true (le32 body 0) 1 v; entries = e }
 
 faultless_head : (body : List ℕ) → FineHead body → toolstack_fault body ≡ None
 unfolding toolstack_fault
-faultless_head body h = rw (not_less (length body) 4 (omega (arith, h.long)), eq-eqb (le32 body 0) 1 h.version, not_less (length body) 8 h.long) h.entries
+faultless_head body h = rw (le-ltb (length body) 4 (omega (arith, h.long)), eq-eqb (le32 body 0) 1 h.version, le-ltb (length body) 8 h.long) h.entries
 
 spelled_data : (body : List ℕ) → toolstack_fault body ≡ None → IsToolstack body (toolstack body)
 unfolding toolstack
@@ -207,7 +189,7 @@ module _ (es : List Physmap) (head rest : List ℕ) (len : length head ≡ 8) (v
 
   data_is : toolstack (head ++ rest) ≡ es
   unfolding toolstack
-  data_is = ap (λ n. entries_in n (drop 8 (head ++ rest))) count_is ∙ ap (entries_in (length es)) behind_fields ∙ (each_forth es rest each).1
+  data_is = ap (λ n. physmaps_in n (drop 8 (head ++ rest))) count_is ∙ ap (physmaps_in (length es)) behind_fields ∙ (each_forth es rest each).1
 
 found_data : (body : List ℕ) (es : List Physmap) → IsToolstack body es → (toolstack_fault body ≡ None) × (toolstack body ≡ es)
 found_data body es h =

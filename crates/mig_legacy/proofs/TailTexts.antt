@@ -1,25 +1,9 @@
 -- What stands before the chunks and behind them: what passes is what is spelled.
-use Rattle.std.proofs.Common.{◌≡◌, ℕ, ◌-◌, ◌<◌, ◌^◌, Bool, false, List, [], ◌∷◌, ◌++◌, length, take, drop, not, nat_eq, Option, Some, None, Result, Ok, Err, refl, sym, ap, subst, ◌∙◌, arith, append_assoc, take-append-drop, drop-drop, length-append, length-drop, length-take-le, eqb-true, eq-eqb}
-use Rattle.std.specs.Prelude.{◌||◌}
+use Rattle.mig_legacy.proofs.Common.{said_at, plain_at, said_passes, said_goes, ◌≡◌, ℕ, ◌-◌, ◌<◌, ◌^◌, Bool, false, List, [], ◌∷◌, ◌++◌, length, take, drop, not, nat_eq, Option, Some, None, Result, Ok, Err, refl, sym, ap, subst, ◌∙◌, arith, append_assoc, take-append-drop, drop-drop, length-append, length-drop, length-take-le, eqb-true, eq-eqb, ◌||◌, eqb-false, ne_eqb, not-false, common_steps, drop_at, take_at, le32, be64, Passes, both_pass, same_passes, then_passes, contexts_are_spelled, no_fault, rows_fine, cut_at, scan, ContextFault, LegacyCause, Truncated, Modern, Tools32, BadContext, BadSignature, is_modern, fault_of_start, start_at, context_fault, cut_context, tail_of, tail_at, signature, fault_of_signature, device_record_at, device_at, LegacyTail, IsStart, IsTail, IsDevice}
 use Rattle.std.specs.Str.{bytes_eq}
-use Rattle.std.proofs.lemmas.Bool.{eqb-false, ne_eqb, not-false}
-use Rattle.std.proofs.lemmas.Grind.{common_steps}
-use Rattle.std.proofs.lemmas.List.{drop_at, take_at}
 use Rattle.std.proofs.lemmas.Slice.Eq.{bytes_eq-Decides}
-use Rattle.mig_bytes.specs.Fields.{le32, be64}
-use Rattle.mig_bytes.specs.Judged.Judged.{Passes}
-use Rattle.mig_bytes.proofs.Joins.{both_pass, same_passes, then_passes}
-use Rattle.mig_headers.proofs.ContextTexts.{contexts_are_spelled}
-use Rattle.mig_headers.proofs.FirstFaults.{no_fault, rows_fine}
-use Rattle.mig_headers.specs.Contexts.{cut_at, scan}
 use Rattle.mig_headers.specs.Headers.{marker, libxl_ident}
-use Rattle.mig_headers.specs.declared.fault.ContextFault.{ContextFault}
-use Rattle.mig_headers.specs.declared.legacy_fault.LegacyCause.{LegacyCause}
-use Rattle.mig_headers.specs.declared.legacy_fault.LegacyCause.TheVariants.{Modern, Tools32, BadContext, BadSignature}
-use Rattle.mig_legacy.specs.Judging.{said_at, plain_at, is_modern, fault_of_start, start_at, context_fault, cut_context, tail_of, tail_at, signature, fault_of_signature, record_at, device_at}
-use Rattle.mig_legacy.specs.Legacy.{LegacyTail}
-use Rattle.mig_legacy.specs.Spelled.{IsStart, IsTail, IsDevice}
-use Rattle.mig_legacy.proofs.Parts.{said_passes, said_goes, counted_at, counted_passes, counted_goes}
+use Rattle.mig_legacy.proofs.Parts.{counted_at, counted_passes, counted_goes}
 
 -- ---- the start
 
@@ -28,7 +12,7 @@ neither a b h = (grind (arith, common_steps, h), grind (arith, common_steps, h))
 
 pub start_passes : (i start rest : List ℕ) → start_at i ≡ Passes start rest → (i ≡ start ++ rest) × IsStart start
 start_passes i start rest h =
-    let p = said_passes fault_of_start (λ bytes. bytes) 8 i start rest h in
+    let p = said_passes Truncated fault_of_start (λ bytes. bytes) 8 i start rest h in
     let rows = rows_fine ((is_modern p.bytes, Modern) ∷ (not (nat_eq (le32 p.bytes 4) 0), Tools32) ∷ []) p.fine in
     let old = neither (nat_eq (be64 p.bytes 0) marker) (nat_eq (be64 p.bytes 0) libxl_ident) rows.0 in
     let is : IsStart p.bytes = record { len = p.size; no_image = eqb-false (be64 p.bytes 0) marker old.0; no_libxl = eqb-false (be64 p.bytes 0) libxl_ident old.1; small = eqb-true (le32 p.bytes 4) 0 (not-false _ rows.1.0) } in
@@ -40,7 +24,7 @@ start_goes start rest is =
     let libxl : nat_eq (be64 start 0) libxl_ident ≡ false = ne_eqb (be64 start 0) libxl_ident is.no_libxl in
     let old : is_modern start ≡ false = rw (image, libxl) refl in
     let wide : not (nat_eq (le32 start 4) 0) ≡ false = ap not (eq-eqb (le32 start 4) 0 is.small) in
-    said_goes fault_of_start (λ bytes. bytes) 8 start rest is.len (no_fault ((is_modern start, Modern) ∷ (not (nat_eq (le32 start 4) 0), Tools32) ∷ []) (old, (wide, tt)))
+    said_goes Truncated fault_of_start (λ bytes. bytes) 8 start rest is.len (no_fault ((is_modern start, Modern) ∷ (not (nat_eq (le32 start 4) 0), Tools32) ∷ []) (old, (wide, tt)))
 
 -- ---- the tail
 
@@ -66,8 +50,8 @@ fault_of_tail context = context_fault (scan context)
 pub tail_passes : (i : List ℕ) (t : LegacyTail) (rest : List ℕ) → tail_at i ≡ Passes t rest → Tail i t rest
 unfolding tail_at
 tail_passes i t rest h =
-    let a = both_pass (plain_at (λ bytes. bytes) 24 i) (λ frames. counted_at (2 ^ 27) fault_of_tail (tail_of frames.0) frames.1) t rest h in
-    let p = said_passes (λ _. None) (λ bytes. bytes) 24 i a.x a.mid a.first in
+    let a = both_pass (plain_at Truncated (λ bytes. bytes) 24 i) (λ frames. counted_at (2 ^ 27) fault_of_tail (tail_of frames.0) frames.1) t rest h in
+    let p = said_passes Truncated (λ _. None) (λ bytes. bytes) 24 i a.x a.mid a.first in
     let frames = a.x in
     let size : length frames ≡ 24 = ap length (sym p.value) ∙ p.size in
     let c = counted_passes (2 ^ 27) fault_of_tail (tail_of frames) a.mid t rest a.second in
@@ -115,8 +99,8 @@ module _ (bytes : List ℕ) (t : LegacyTail) (is : IsTail bytes t) where
   unfolding tail_at
   tail_goes rest =
       ap tail_at (ap (λ l. l ++ rest) (is.whole ∙ sym (joined t.requests t.buffered t.store is.text)) ∙ append_assoc frames is.text rest)
-      ∙ then_passes (plain_at (λ l. l) 24 (frames ++ (is.text ++ rest))) (λ f. counted_at (2 ^ 27) fault_of_tail (tail_of f.0) f.1) frames (is.text ++ rest) _
-      (said_goes (λ _. None) (λ l. l) 24 frames (is.text ++ rest) (omega (arith, length-append t.requests (t.buffered ++ t.store), length-append t.buffered t.store, is.requests_len, is.buffered_len, is.store_len)) refl)
+      ∙ then_passes (plain_at Truncated (λ l. l) 24 (frames ++ (is.text ++ rest))) (λ f. counted_at (2 ^ 27) fault_of_tail (tail_of f.0) f.1) frames (is.text ++ rest) _
+      (said_goes Truncated (λ _. None) (λ l. l) 24 frames (is.text ++ rest) (omega (arith, length-append t.requests (t.buffered ++ t.store), length-append t.buffered t.store, is.requests_len, is.buffered_len, is.store_len)) refl)
       (counted_goes (2 ^ 27) fault_of_tail (tail_of frames) is.text is.context rest is.counted (ap context_fault ends) ∙ ap (λ (x : LegacyTail). Passes x rest) tail_is)
 
 -- ---- the device model's record
@@ -126,10 +110,10 @@ pub record Device (i : List ℕ) (d : Option (List ℕ)) (rest : List ℕ) : Typ
   pub whole : i ≡ bytes ++ rest
   pub is : IsDevice bytes d rest
 
-record_passes : (i : List ℕ) (d : Option (List ℕ)) (rest : List ℕ) → record_at i ≡ Passes d rest → Device i d rest
+record_passes : (i : List ℕ) (d : Option (List ℕ)) (rest : List ℕ) → device_record_at i ≡ Passes d rest → Device i d rest
 record_passes i d rest h =
-    let a = both_pass (said_at fault_of_signature (λ bytes. bytes) (length signature) i) (λ first. counted_at (2 ^ 27 - 8) (λ _. None) Some first.1) d rest h in
-    let p = said_passes fault_of_signature (λ bytes. bytes) (length signature) i a.x a.mid a.first in
+    let a = both_pass (said_at Truncated fault_of_signature (λ bytes. bytes) (length signature) i) (λ first. counted_at (2 ^ 27 - 8) (λ _. None) Some first.1) d rest h in
+    let p = said_passes Truncated fault_of_signature (λ bytes. bytes) (length signature) i a.x a.mid a.first in
     let rows = rows_fine ((not (bytes_eq p.bytes signature), BadSignature) ∷ []) p.fine in
     let same : p.bytes ≡ signature = (bytes_eq-Decides p.bytes signature).0 (not-false _ rows.0) in
     let c = counted_passes (2 ^ 27 - 8) (λ _. None) Some a.mid d rest a.second in
@@ -144,7 +128,7 @@ device_passes [] d rest h =
     subst (λ x. Device [] x rest) e.0 (subst (λ l. Device [] None l) e.1 left)
 device_passes (b ∷ input) d rest h = record_passes (b ∷ input) d rest h
 
-pub some_device : (i : List ℕ) → 0 < length i → device_at i ≡ record_at i
+pub some_device : (i : List ℕ) → 0 < length i → device_at i ≡ device_record_at i
 unfolding device_at
 some_device [] some = absurd (omega (arith, some))
 some_device (b ∷ i) some = refl
@@ -158,9 +142,9 @@ device_goes bytes None rest (nothing, over) = rw (nothing, over) refl
 device_goes bytes (Some content) rest (text, whole, counted) =
     let some : 0 < length (bytes ++ rest) = omega (arith, length-append bytes rest, ap length whole, length-append signature text, signature_len) in
     some_device (bytes ++ rest) some
-    ∙ ap record_at (ap (λ l. l ++ rest) whole ∙ append_assoc signature text rest)
-    ∙ then_passes (said_at fault_of_signature (λ l. l) (length signature) (signature ++ (text ++ rest))) (λ first. counted_at (2 ^ 27 - 8) (λ _. None) Some first.1) signature (text ++ rest) _
-    (said_goes fault_of_signature (λ l. l) (length signature) signature (text ++ rest) refl same_signature)
+    ∙ ap device_record_at (ap (λ l. l ++ rest) whole ∙ append_assoc signature text rest)
+    ∙ then_passes (said_at Truncated fault_of_signature (λ l. l) (length signature) (signature ++ (text ++ rest))) (λ first. counted_at (2 ^ 27 - 8) (λ _. None) Some first.1) signature (text ++ rest) _
+    (said_goes Truncated fault_of_signature (λ l. l) (length signature) signature (text ++ rest) refl same_signature)
     (counted_goes (2 ^ 27 - 8) (λ _. None) Some text content rest counted refl)
   where
     signature_len : length signature ≡ 21

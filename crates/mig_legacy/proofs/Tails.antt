@@ -1,44 +1,17 @@
 -- The tail: how it is read, and that a guest with it is whole.
-use Rattle.std.proofs.Common.{◌≡◌, ℕ, ◌+◌, ◌<◌, ◌≤◌, ◌^◌, List, ◌++◌, length, take, drop, Option, Result, Ok, Err, refl, sym, ap, subst, ◌∙◌, arith, length-append, length-take-le, length-drop}
-use Rattle.std.specs.Prelude.{IsOk, IfOk, IsSome, replicate}
+use Rattle.mig_bodies.proofs.Kept.{cut_is}
+use Rattle.mig_legacy.proofs.Common.{◌≡◌, ℕ, ◌<◌, ◌≤◌, ◌^◌, List, length, take, drop, Option, Result, Ok, Err, refl, sym, ap, subst, ◌∙◌, arith, length-take-le, length-drop, IsOk, IfOk, IsSome, replicate, false≢true, All-append, All-take, All-drop, All-replicate, AreBytes, Judged, ◌>>=◌, part, Gives, said_at, Passes, Faulty, Stop, then_reads, scan, cut_at, ContextFault, Hvm, LegacyCause, Truncated, IsCut, width_of, GuestOf, context_key, PartKey, part_total, blank_of, IsBegun, IsPlain, length_at, context_fault, cut_context, tail_of, tail_at, LegacyTail, param_key, put_tail}
 use Rattle.std.specs.FinMap as maps
-use Rattle.std.proofs.lemmas.Bool.{false≢true}
-use Rattle.std.proofs.lemmas.List.{take_at}
-use Rattle.std.proofs.lemmas.List.Elements.{All-append, All-take, All-drop, All-replicate}
-use Rattle.mig_bytes.specs.Bytes.{AreBytes}
-use Rattle.mig_bytes.specs.Judged.{Judged, ◌>>=◌, part, Gives}
-use Rattle.mig_bytes.specs.Judged.Judged.{Passes, Faulty}
-use Rattle.mig_bytes.specs.declared.part.Stop.{Stop}
-use Rattle.mig_bytes.proofs.Joins.{then_reads}
-use Rattle.mig_headers.specs.Contexts.{scan, cut_at}
-use Rattle.mig_headers.specs.declared.fault.ContextFault.{ContextFault}
-use Rattle.mig_headers.specs.declared.kind.Kind.TheVariants.{Hvm}
-use Rattle.mig_headers.specs.declared.legacy_fault.LegacyCause.{LegacyCause}
-use Rattle.mig_headers.specs.declared.legacy_fault.LegacyCause.TheVariants.{Truncated}
-use Rattle.mig_headers.proofs.Chains.{end_fits}
-use Rattle.mig_headers.proofs.ContextTexts.{scan_cut}
-use Rattle.mig_guest.specs.Formed.{IsCut, width_of}
 use Rattle.mig_guest.specs.Frames.{IsFew}
-use Rattle.mig_guest.specs.Guests.{GuestOf}
-use Rattle.mig_guest.specs.PartKeys.{context_key}
-use Rattle.mig_guest.specs.declared.part_key.PartKey.{PartKey}
-use Rattle.mig_guest.proofs.PartOrder.{part_total}
-use Rattle.mig_pvtables.specs.Blank.{blank_of}
-use Rattle.mig_restore.specs.Mean.{IsBegun}
 use Rattle.mig_restore.proofs.Laws.{complete_faultless}
-use Rattle.mig_libxl.specs.Seen.{IsPlain}
-use Rattle.mig_legacy.specs.Judging.{length_at, said_at, context_fault, cut_context, tail_of, tail_at}
-use Rattle.mig_legacy.specs.Legacy.{LegacyTail, param_key}
-use Rattle.mig_legacy.specs.Seen.{put_tail}
 use Rattle.mig_legacy.proofs.Growth.{part_grows, param_part, context_part}
-use Rattle.mig_legacy.proofs.Growth.IsPlainCode.{param as param_code, context as context_code}
 use Rattle.mig_legacy.proofs.Taking.{behind, part_set}
 
 -- ---- the parts in their order
 
 -- a context behind its length
 abbrev pub context_at : List ℕ → ℕ → List ℕ → Judged LegacyCause LegacyTail
-context_at frames n input = said_at (λ context. context_fault (scan context)) (tail_of frames) n input
+context_at frames n input = said_at Truncated (λ context. context_fault (scan context)) (tail_of frames) n input
 
 -- what follows the frame numbers
 abbrev pub behind_frames : List ℕ × List ℕ → Judged LegacyCause LegacyTail
@@ -81,14 +54,6 @@ module _ (frames context : List ℕ) where
       cut_there (λ l. h ≡ record g4 { parts = maps.insert g4.parts context_key l }) (scan context) there now4 ∙ ap (λ (g : GuestOf). record g { parts = maps.insert g.parts context_key (cut_context context (scan context)) }) set3
 
 -- ---- the guest with its tail
-
--- the context, cut behind its end
-cut_is : (body : List ℕ) (o : ℕ) → scan body ≡ Ok o → length body ≤ 2 ^ 27 → (length (cut_at body o) ≤ 2 ^ 27) × IsCut (cut_at body o)
-cut_is body o is short =
-    let fits : o + 8 ≤ length body = end_fits body o is in
-    let front : length (take o body) ≡ o = length-take-le o body (omega (arith, fits)) in
-    let size : length (take o body ++ replicate 8 0) ≡ o + 8 = length-append (take o body) (replicate 8 0) ∙ ap (λ n. n + 8) front in
-    (omega (arith, size, fits, short), (o, scan_cut body o is, ap (λ x. x ++ replicate 8 0) (take_at (take o body) (replicate 8 0) o front)))
 
 cut_bytes : (body : List ℕ) (o : ℕ) → AreBytes body → AreBytes (cut_at body o)
 cut_bytes body o are = All-append (λ b. b < 256) (take o body) (replicate 8 0) (All-take (λ b. b < 256) o body are) (All-replicate (λ b. b < 256) 8 0 (omega arith))
@@ -133,10 +98,10 @@ module _ (g : GuestOf) (frames context : List ℕ) (end : ℕ) (hvm : g.kind ≡
   begun4 : IsBegun g → IsBegun g4
   begun4 begun =
       let width = width_of g in
-      let one = (part_grows g g1 (param_key 5) b1 param_code (param_part g.kind width 5 b1 hvm (omega arith) len1) (All-take (λ b. b < 256) 8 frames are) refl).kept begun in
-      let two = (part_grows g1 g2 (param_key 6) b2 param_code (param_part g.kind width 6 b2 hvm (omega arith) len2) (All-take (λ b. b < 256) 8 (drop 8 frames) (All-drop (λ b. b < 256) 8 frames are)) refl).kept one in
-      let three = (part_grows g2 g3 (param_key 1) b3 param_code (param_part g.kind width 1 b3 hvm (omega arith) len3) (All-drop (λ b. b < 256) 16 frames are) refl).kept two in
-      (part_grows g3 g4 context_key b4 context_code (context_part g.kind width b4 hvm cut.0 cut.1) (cut_bytes context end are_too) refl).kept three
+      let one = (part_grows g g1 (param_key 5) b1 refl refl refl (param_part g.kind width 5 b1 hvm (omega arith) len1) (All-take (λ b. b < 256) 8 frames are) refl).kept begun in
+      let two = (part_grows g1 g2 (param_key 6) b2 refl refl refl (param_part g.kind width 6 b2 hvm (omega arith) len2) (All-take (λ b. b < 256) 8 (drop 8 frames) (All-drop (λ b. b < 256) 8 frames are)) refl).kept one in
+      let three = (part_grows g2 g3 (param_key 1) b3 refl refl refl (param_part g.kind width 1 b3 hvm (omega arith) len3) (All-drop (λ b. b < 256) 16 frames are) refl).kept two in
+      (part_grows g3 g4 context_key b4 refl refl refl (context_part g.kind width b4 hvm cut.0 cut.1) (cut_bytes context end are_too) refl).kept three
 
   is_tail : g4 ≡ put_tail g (tail_of frames context)
   is_tail = ap (λ s. record g { parts = maps.insert g3.parts context_key (cut_context context s) }) (sym found)

@@ -1,39 +1,6 @@
 -- What is read of a part of a legacy stream, and what a guest keeps of it.
-use Rattle.std.proofs.Common.{◌≡◌, ℕ, ◌-◌, List, [], ◌++◌, length, take, drop, Option, Some, None, Ok, Err, refl, ap, subst, ◌∙◌, arith, append_assoc, length-drop}
+use Rattle.mig_legacy.proofs.Common.{◌≡◌, ℕ, ◌-◌, List, [], ◌++◌, length, take, drop, refl, ap, ◌∙◌, arith, append_assoc, length-drop, take_all, common_steps, GuestOf, PartKey, clock_of, param_key, tsc_key, Value, Clock, put_in_guest}
 use Rattle.std.specs.FinMap as maps
-use Rattle.std.proofs.lemmas.List.{take_all}
-use Rattle.std.proofs.lemmas.Grind.{common_steps}
-use Rattle.mig_bytes.specs.Judged.{part, Gives}
-use Rattle.mig_bytes.specs.Judged.Judged.{Passes}
-use Rattle.mig_bytes.specs.declared.part.Stop.TheVariants.{Refused}
-use Rattle.mig_guest.specs.Guests.{GuestOf}
-use Rattle.mig_guest.specs.declared.part_key.PartKey.{PartKey}
-use Rattle.mig_headers.specs.declared.legacy_fault.LegacyCause.{LegacyCause}
-use Rattle.mig_headers.specs.declared.legacy_fault.LegacyCause.TheVariants.{Truncated}
-use Rattle.mig_legacy.specs.Judging.{said_at, plain_at, clock_of}
-use Rattle.mig_legacy.specs.Legacy.{param_key, tsc_key}
-use Rattle.mig_legacy.specs.Legacy.Content.{Value, Clock}
-use Rattle.mig_legacy.specs.Seen.{put_in_guest}
-
--- ---- so many bytes, and what they say
-
-module _ {X V Y : Type 0} (R : X → List ℕ → Type 0) (Q : V → Y → Type 0) (n m : ℕ) (same : n ≡ m) (says : List ℕ → Y) (x : X) where
-  pub plain_read : (a b : Option (List ℕ)) (v : V) → Gives R a b (part Truncated n) (Ok x) → ((bytes : List ℕ) → R x bytes → Q v (says bytes)) → Gives Q a b (plain_at says m) (Ok v)
-  plain_read None b v h turn = tt
-  plain_read (Some i) b v (bytes, rest, is, left, r) turn = let is' = subst (λ k. part Truncated k i ≡ Passes bytes rest) same is in (says bytes, rest, rw is' refl, left, turn bytes r)
-
-  pub said_read : (fault : List ℕ → Option LegacyCause) (a b : Option (List ℕ)) (v : V) → Gives R a b (part Truncated n) (Ok x)
-      → ((bytes : List ℕ) → R x bytes → (fault bytes ≡ None) × Q v (says bytes)) → Gives Q a b (said_at fault says m) (Ok v)
-  said_read fault None b v h turn = tt
-  said_read fault (Some i) b v (bytes, rest, is, left, r) turn =
-      let is' = subst (λ k. part Truncated k i ≡ Passes bytes rest) same is in
-      let (none, q) = turn bytes r in (says bytes, rest, rw (is', none) refl, left, q)
-
-  pub said_refused : (fault : List ℕ → Option LegacyCause) (a b : Option (List ℕ)) (c : LegacyCause) → Gives R a b (part Truncated n) (Ok x)
-      → ((bytes : List ℕ) → R x bytes → fault bytes ≡ Some c) → Gives Q a b (said_at fault says m) (Err (Refused c))
-  said_refused fault None b c h turn = tt
-  said_refused fault (Some i) b c (bytes, rest, is, left, r) turn =
-      let is' = subst (λ k. part Truncated k i ≡ Passes bytes rest) same is in (rest, rw (is', turn bytes r) refl, left)
 
 -- the bytes behind the first k
 pub behind : (k n : ℕ) (bytes : List ℕ) → length bytes ≡ n → take (n - k) (drop k bytes) ≡ drop k bytes

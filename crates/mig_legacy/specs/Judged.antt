@@ -56,9 +56,9 @@ entries_fault zero at bytes = if length bytes == 0 then None else Some at
 entries_fault (suc n) at bytes = fault_or at (entry_fault bytes) (entries_fault n (at + entry_len bytes) (drop (entry_len bytes) bytes))
 
 -- so many entries
-unfoldable pub entries_in : ℕ → List ℕ → List Physmap
-entries_in zero bytes = []
-entries_in (suc n) bytes = entry_in bytes ∷ entries_in n (drop (entry_len bytes) bytes)
+unfoldable pub physmaps_in : ℕ → List ℕ → List Physmap
+physmaps_in zero bytes = []
+physmaps_in (suc n) bytes = entry_in bytes ∷ physmaps_in n (drop (entry_len bytes) bytes)
 
 -- where the first field stands that is wrong: it isn't whole, it is a version other than 1, it is a name without its one
 -- zero at the end, or it is what follows the last entry
@@ -66,7 +66,7 @@ unfoldable pub toolstack_fault : List ℕ → Option ℕ
 toolstack_fault body = if nat_lt (length body) 4 || not (le32 body 0 == 1) then Some 0 else if nat_lt (length body) 8 then Some 4 else entries_fault (le32 body 4) 8 (drop 8 body)
 
 unfoldable pub toolstack : List ℕ → List Physmap
-toolstack body = entries_in (le32 body 4) (drop 8 body)
+toolstack body = physmaps_in (le32 body 4) (drop 8 body)
 
 -- data have no fault exactly where they are spelled as entries, and these are they
 pub record ToolstackIsSpelled (body : List ℕ) : Type 0 where

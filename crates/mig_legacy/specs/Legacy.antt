@@ -13,23 +13,23 @@ use Rattle.mig_restore.specs.Mean.{mean}
 use Rattle.mig_restore.specs.Record.{FrameEntry, StreamRecord}
 use Rattle.mig_restore.specs.Record.Content.{Frames as SentFrames, Sets}
 use Rattle.mig_libxl.specs.Content.{LibxlRecord}
-use Rattle.mig_libxl.specs.Content.Content.{Pairs as StorePairs, Context}
+use Rattle.mig_libxl.specs.Content.LibxlContent.{Pairs as StorePairs, Context}
 use Rattle.mig_libxl.specs.Emulators.{EmulatorsOf, emulators_of, with_emulators}
 use Rattle.mig_legacy.specs.declared.chunk.ChunkKind.{ChunkKind}
 use Rattle.mig_legacy.specs.declared.chunk.ChunkKind.TheVariants as kinds
 
 -- what a chunk says: nothing; the frames of a batch; the value of an HVM parameter; how time passes; or pairs of the
 -- device model's store
-pub data Content : Type 0 where
-  Nothing : Content
-  Frames : List FrameEntry → Content
-  Value : ℕ → List ℕ → Content
-  Clock : List ℕ → Content
-  Pairs : List Pair → Content
+pub data LegacyContent : Type 0 where
+  Nothing : LegacyContent
+  Frames : List FrameEntry → LegacyContent
+  Value : ℕ → List ℕ → LegacyContent
+  Clock : List ℕ → LegacyContent
+  Pairs : List Pair → LegacyContent
 
 pub record LegacyChunk : Type 0 where
   pub kind : ChunkKind
-  pub content : Content
+  pub content : LegacyContent
 
 -- what stands behind the chunks: the frames of the I/O requests, of the buffered ones and of the store, and the context
 pub record LegacyTail : Type 0 where
@@ -55,8 +55,8 @@ is_value_of index (kinds.Param i) = i == index
 is_value_of index _ = false
 
 -- the last chunk is there
-abbrev pub is_ended : List LegacyChunk → Bool
-is_ended chunks = list_any (λ c. is_end c.kind) chunks
+abbrev pub is_legacy_ended : List LegacyChunk → Bool
+is_legacy_ended chunks = list_any (λ c. is_end c.kind) chunks
 
 -- some chunk has the value of this parameter
 abbrev pub has_value : ℕ → List LegacyChunk → Bool
@@ -82,7 +82,7 @@ abbrev pub params_record : List Part → StreamRecord
 params_record values = record { type = 10; content = Sets HvmParam values }
 
 -- of an image: PAGE_DATA, HVM_PARAMS, X86_TSC_INFO
-abbrev pub records_in : Content → List StreamRecord
+abbrev pub records_in : LegacyContent → List StreamRecord
 records_in Nothing = []
 records_in (Frames es) = record { type = 1; content = SentFrames es } ∷ []
 records_in (Value index value) = params_record ((param_key index, value) ∷ []) ∷ []
@@ -97,9 +97,9 @@ tail_records t =
     ∷ []
 
 -- of a libxl stream: EMULATOR_XENSTORE_DATA
-abbrev pub pairs_in : Content → List LibxlRecord
-pairs_in (Pairs ps) = record { type = 2; content = StorePairs store_key ps } ∷ []
-pairs_in _ = []
+abbrev pub pair_records : LegacyContent → List LibxlRecord
+pair_records (Pairs ps) = record { type = 2; content = StorePairs store_key ps } ∷ []
+pair_records _ = []
 
 -- EMULATOR_CONTEXT
 abbrev pub device_records : Option (List ℕ) → List LibxlRecord
@@ -110,7 +110,7 @@ abbrev pub image_records : List LegacyChunk → List StreamRecord
 image_records chunks = flat_map (λ c. records_in c.content) chunks
 
 abbrev pub store_records : List LegacyChunk → List LibxlRecord
-store_records chunks = flat_map (λ c. pairs_in c.content) chunks
+store_records chunks = flat_map (λ c. pair_records c.content) chunks
 
 -- ---- the meaning
 

@@ -9,24 +9,24 @@ use Rattle.mig_guest.specs.PartKeys.{context_key}
 use Rattle.mig_guest.specs.Parts.{Part}
 use Rattle.mig_policy.specs.PairMaps.{PairMap, put_pairs}
 use Rattle.mig_restore.specs.Record.{FrameEntry}
-use Rattle.mig_legacy.specs.Legacy.{Content, LegacyChunk, LegacyTail, LegacyStream, param_key, tsc_key}
-use Rattle.mig_legacy.specs.Legacy.Content.{Frames, Value, Clock, Pairs}
+use Rattle.mig_legacy.specs.Legacy.{LegacyContent, LegacyChunk, LegacyTail, LegacyStream, param_key, tsc_key}
+use Rattle.mig_legacy.specs.Legacy.LegacyContent.{Frames, Value, Clock, Pairs}
 
 -- ---- frames
 
 -- the entries of a batch
-abbrev pub entries_in : Content → List FrameEntry
-entries_in (Frames es) = es
-entries_in _ = []
+abbrev pub batch_entries : LegacyContent → List FrameEntry
+batch_entries (Frames es) = es
+batch_entries _ = []
 
 -- the entries of all batches, in stream order
 abbrev pub entries_of_chunks : List LegacyChunk → List FrameEntry
-entries_of_chunks chunks = flat_map (λ c. entries_in c.content) chunks
+entries_of_chunks chunks = flat_map (λ c. batch_entries c.content) chunks
 
 -- ---- parts
 
 -- the part that a chunk says, if any
-abbrev pub parts_in : Content → List Part
+abbrev pub parts_in : LegacyContent → List Part
 parts_in (Value index value) = (param_key index, value) ∷ []
 parts_in (Clock bytes) = (tsc_key, bytes) ∷ []
 parts_in _ = []
@@ -50,7 +50,7 @@ abbrev pub tail_value : ℕ → LegacyTail → Option (List ℕ)
 tail_value index t = if index == 1 then Some t.store else if index == 5 then Some t.requests else if index == 6 then Some t.buffered else None
 
 -- the value that a chunk says of a parameter
-abbrev pub value_in : ℕ → Content → Option (List ℕ)
+abbrev pub value_in : ℕ → LegacyContent → Option (List ℕ)
 value_in index (Value i value) = if i == index then Some value else None
 value_in index _ = None
 
@@ -62,13 +62,13 @@ last_value index (c ∷ cs) = option_or (last_value index cs) (value_in index c.
 -- ---- the device model's store
 
 -- the pairs of a toolstack
-abbrev pub pairs_in : Content → List Pair
-pairs_in (Pairs ps) = ps
-pairs_in _ = []
+abbrev pub toolstack_pairs : LegacyContent → List Pair
+toolstack_pairs (Pairs ps) = ps
+toolstack_pairs _ = []
 
 -- the pairs of all toolstacks, in stream order
 abbrev pub pairs_of_chunks : List LegacyChunk → List Pair
-pairs_of_chunks chunks = flat_map (λ c. pairs_in c.content) chunks
+pairs_of_chunks chunks = flat_map (λ c. toolstack_pairs c.content) chunks
 
 -- the store that pairs make, of each key the last value; no pairs make none
 abbrev pub store_of : List Pair → Option PairMap

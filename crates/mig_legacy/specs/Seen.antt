@@ -9,15 +9,15 @@ use Rattle.mig_headers.specs.declared.legacy_fault.LegacyCause.TheVariants.{Trun
 use Rattle.mig_guest.specs.Guests.{GuestOf}
 use Rattle.mig_restore.specs.Mean.{sent, put_record}
 use Rattle.mig_restore.specs.Mean.{IsBegun as IsGuestBegun}
-use Rattle.mig_libxl.specs.Emulators.{EmulatorsOf, put_content, emulators_of}
+use Rattle.mig_libxl.specs.Emulators.{EmulatorsOf, put_libxl_content, emulators_of}
 use Rattle.mig_libxl.specs.Seen.{AreEmulators}
-use Rattle.mig_legacy.specs.Legacy.{Content, LegacyChunk, LegacyTail, has_value, records_in, pairs_in, tail_records, device_records, image_records, store_records}
+use Rattle.mig_legacy.specs.Legacy.{LegacyContent, LegacyChunk, LegacyTail, has_value, records_in, pair_records, tail_records, device_records, image_records, store_records}
 use Rattle.mig_legacy.specs.declared.chunk.ChunkKind.{ChunkKind}
 use Rattle.mig_legacy.specs.declared.chunk.ChunkKind.TheVariants.{Batch, Param}
 use Rattle.mig_legacy.specs.declared.read.Seen.{Seen}
 
 -- the reader has these chunks behind it
-pub record IsSeen (seen : Seen) (chunks : List LegacyChunk) : Type 0 where
+pub record IsLegacySeen (seen : Seen) (chunks : List LegacyChunk) : Type 0 where
   pub count : seen.chunks ≡ length chunks
   pub guest : seen.guest ≡ sent Hvm (image_records chunks)
   pub emulators : seen.emulators ≡ emulators_of (store_records chunks)
@@ -26,23 +26,23 @@ pub record IsSeen (seen : Seen) (chunks : List LegacyChunk) : Type 0 where
 
 -- ---- what reading keeps, whatever chunks come
 
-pub record IsBegun (seen : Seen) : Type 0 where
+pub record IsLegacyBegun (seen : Seen) : Type 0 where
   pub hvm : seen.guest.kind ≡ Hvm
   pub guest : IsGuestBegun seen.guest
   pub emulators : AreEmulators seen.emulators
 
 -- what the type of a chunk limits
-abbrev pub IsSound : ChunkKind → Type 0
-IsSound (Batch n) = n ≤ 1024
-IsSound (Param index) = index < 4096
-IsSound _ = ⊤
+abbrev pub IsWithinLimits : ChunkKind → Type 0
+IsWithinLimits (Batch n) = n ≤ 1024
+IsWithinLimits (Param index) = index < 4096
+IsWithinLimits _ = ⊤
 
 -- the guest, and the emulators, once a chunk has said this
-abbrev pub put_in_guest : GuestOf → Content → GuestOf
+abbrev pub put_in_guest : GuestOf → LegacyContent → GuestOf
 put_in_guest g c = fold put_record g (records_in c)
 
-abbrev pub put_in_emulators : EmulatorsOf → Content → EmulatorsOf
-put_in_emulators e c = fold (λ e r. put_content e r.content) e (pairs_in c)
+abbrev pub put_in_emulators : EmulatorsOf → LegacyContent → EmulatorsOf
+put_in_emulators e c = fold (λ e r. put_libxl_content e r.content) e (pair_records c)
 
 -- the guest once the tail has said this
 abbrev pub put_tail : GuestOf → LegacyTail → GuestOf
@@ -50,7 +50,7 @@ put_tail g t = fold put_record g (tail_records t)
 
 -- the emulators once the device model's record has said this
 abbrev pub put_device : EmulatorsOf → Option (List ℕ) → EmulatorsOf
-put_device e device = fold (λ e r. put_content e r.content) e (device_records device)
+put_device e device = fold (λ e r. put_libxl_content e r.content) e (device_records device)
 
 -- a stop of an image's part, where the only cause is that it isn't whole
 abbrev pub cut_short : Stop Cause → Stop LegacyCause
@@ -59,7 +59,7 @@ cut_short ReadFault = ReadFault
 cut_short Memory = Memory
 
 -- what the content of a chunk makes of what was kept
-pub record Takes (old new : Seen) (c : Content) : Type 0 where
+pub record TakesLegacy (old new : Seen) (c : LegacyContent) : Type 0 where
   pub guest : new.guest ≡ put_in_guest old.guest c
   pub emulators : new.emulators ≡ put_in_emulators old.emulators c
   pub chunks : new.chunks ≡ old.chunks

@@ -1,28 +1,28 @@
 -- The spelling of a legacy stream, in the words of the format: its start, its chunks one after the other, its tail, and the
 -- device model's record or the end of the input (Xen's xg_save_restore.h; libxl's save file up to Xen 4.5).
-use Rattle.std.specs.Prelude.{◌≡◌, ◌≢◌, ◌≤◌, ◌<◌, ℕ, ◌+◌, ◌*◌, ◌/◌, ◌-◌, ◌^◌, ⊤, true, false, List, [], ◌∷◌, ◌++◌, length, Option, Some, None}
+use Rattle.std.specs.Prelude.{◌≡◌, ◌≢◌, ◌≤◌, ◌<◌, ℕ, ◌+◌, ◌*◌, ◌/◌, ◌-◌, ◌^◌, ⊤, true, false, List, [], ◌++◌, length, Option, Some, None}
 use Rattle.std.specs.List.{All, flat_map}
 use Rattle.mig_bytes.specs.Fields.{le32, be64}
+use Rattle.mig_bytes.specs.Sequences.{Spells}
 use Rattle.mig_guest.specs.Frames.{IsFew}
 use Rattle.mig_guest.specs.Guests.{GuestOf}
 use Rattle.mig_headers.specs.Contexts.{ContextEntry, IsContext, cut_at}
 use Rattle.mig_headers.specs.Headers.{marker, libxl_ident}
 use Rattle.mig_headers.specs.declared.kind.Kind.TheVariants.{Hvm}
-use Rattle.mig_policy.specs.PairMaps.{put_pairs, text_of_map}
 use Rattle.mig_records.specs.Words.{words}
 use Rattle.mig_restore.specs.Mean.{sent}
 use Rattle.mig_restore.specs.Record.{FrameEntry}
 use Rattle.mig_restore.specs.Spelled.{AreEntries}
-use Rattle.mig_libxl.specs.Emulators.{store_at, emulators_of}
-use Rattle.mig_libxl.specs.Judging.{most_pairs}
+use Rattle.mig_libxl.specs.Emulators.{emulators_of}
+use Rattle.mig_libxl.specs.Judging.{most_pairs, spelled_with}
 use Rattle.mig_legacy.specs.declared.chunk.ChunkKind.{ChunkKind}
 use Rattle.mig_legacy.specs.declared.chunk.ChunkKind.TheVariants.{End, Batch, VcpuMap, Tsc, LastCheckpoint, Toolstack, Param}
 use Rattle.mig_legacy.specs.Batches.{is_reserved, is_high, page_data_words}
 use Rattle.mig_legacy.specs.Chunks.{IsNumberOf}
 use Rattle.mig_legacy.specs.Judging.{most_chunks, signature}
-use Rattle.mig_legacy.specs.Legacy.{Content, LegacyChunk, LegacyTail, LegacyStream, is_ended, has_value, store_key, image_records, store_records, mean_legacy}
-use Rattle.mig_legacy.specs.Legacy.Content.{Nothing, Frames, Value, Clock, Pairs}
-use Rattle.mig_legacy.specs.Texts.{pairs_of}
+use Rattle.mig_legacy.specs.Legacy.{LegacyContent, LegacyChunk, LegacyTail, LegacyStream, is_legacy_ended, has_value, store_key, image_records, store_records, mean_legacy}
+use Rattle.mig_legacy.specs.Legacy.LegacyContent.{Nothing, Frames, Value, Clock, Pairs}
+use Rattle.mig_legacy.specs.Texts.{pairs_of_physmap}
 use Rattle.mig_legacy.specs.Toolstack.{Physmap, IsToolstack}
 
 -- ---- a chunk
@@ -32,7 +32,7 @@ abbrev pub IsLegacyWord : ℕ → Type 0
 IsLegacyWord word = (is_reserved word ≡ false) × (is_high word ≡ false)
 
 -- so many words, and the pages of those of a type with data; a placeholder says no frame
-pub record IsBatch (n : ℕ) (body : List ℕ) (es : List FrameEntry) : Type 0 where
+pub record IsLegacyBatch (n : ℕ) (body : List ℕ) (es : List FrameEntry) : Type 0 where
   pub words_bytes : List ℕ
   pub pages_bytes : List ℕ
   pub whole : body ≡ words_bytes ++ pages_bytes
@@ -49,15 +49,15 @@ pub record IsCounted (most : ℕ) (text bytes : List ℕ) : Type 0 where
   pub small : length bytes ≤ most
 
 -- the body of a chunk that is this, and what it says
-pub data HasContent : ChunkKind → List ℕ → Content → Type 0 where
-  ends : HasContent End [] Nothing
-  batch : (n : ℕ) (body : List ℕ) (es : List FrameEntry) → IsBatch n body es → HasContent (Batch n) body (Frames es)
-  vcpus : (max bits : List ℕ) → length max ≡ 4 → le32 max 0 < 4096 → length bits ≡ 8 * (le32 max 0 / 64 + 1) → HasContent VcpuMap (max ++ bits) Nothing
+pub data HasLegacyContent : ChunkKind → List ℕ → LegacyContent → Type 0 where
+  ends : HasLegacyContent End [] Nothing
+  batch : (n : ℕ) (body : List ℕ) (es : List FrameEntry) → IsLegacyBatch n body es → HasLegacyContent (Batch n) body (Frames es)
+  vcpus : (max bits : List ℕ) → length max ≡ 4 → le32 max 0 < 4096 → length bits ≡ 8 * (le32 max 0 / 64 + 1) → HasLegacyContent VcpuMap (max ++ bits) Nothing
   clock : (mode nanoseconds frequency incarnation : List ℕ) → length mode ≡ 4 → length nanoseconds ≡ 8 → length frequency ≡ 4 → length incarnation ≡ 4
-      → HasContent Tsc (mode ++ (nanoseconds ++ (frequency ++ incarnation))) (Clock (mode ++ (frequency ++ (nanoseconds ++ incarnation))))
-  last_checkpoint : HasContent LastCheckpoint [] Nothing
-  toolstack : (text body : List ℕ) (es : List Physmap) → IsCounted (2 ^ 27) text body → IsToolstack body es → HasContent Toolstack text (Pairs (flat_map pairs_of es))
-  value : (index : ℕ) (pad value : List ℕ) → length pad ≡ 4 → length value ≡ 8 → HasContent (Param index) (pad ++ value) (Value index value)
+      → HasLegacyContent Tsc (mode ++ (nanoseconds ++ (frequency ++ incarnation))) (Clock (mode ++ (frequency ++ (nanoseconds ++ incarnation))))
+  last_checkpoint : HasLegacyContent LastCheckpoint [] Nothing
+  toolstack : (text body : List ℕ) (es : List Physmap) → IsCounted (2 ^ 27) text body → IsToolstack body es → HasLegacyContent Toolstack text (Pairs (flat_map pairs_of_physmap es))
+  value : (index : ℕ) (pad value : List ℕ) → length pad ≡ 4 → length value ≡ 8 → HasLegacyContent (Param index) (pad ++ value) (Value index value)
 
 -- a chunk: the number of its type, and its body
 pub record IsChunk (c : LegacyChunk) (bytes : List ℕ) : Type 0 where
@@ -66,30 +66,25 @@ pub record IsChunk (c : LegacyChunk) (bytes : List ℕ) : Type 0 where
   pub whole : bytes ≡ number ++ body
   pub number_len : length number ≡ 4
   pub is : IsNumberOf c.kind (le32 number 0)
-  pub says : HasContent c.kind body c.content
+  pub says : HasLegacyContent c.kind body c.content
 
 -- the store has no more pairs than it may have, once these are added
-abbrev pub Fits : List LegacyChunk → Content → Type 0
-Fits chunks (Pairs ps) = length (text_of_map (put_pairs (store_at (emulators_of (store_records chunks)).stores store_key) ps)) ≤ most_pairs
-Fits chunks _ = ⊤
+abbrev pub StoreFits : List LegacyChunk → LegacyContent → Type 0
+StoreFits chunks (Pairs ps) = spelled_with (emulators_of (store_records chunks)) store_key ps ≤ most_pairs
+StoreFits chunks _ = ⊤
 
 -- what the last chunk asks: the values of both frames of I/O requests or of none, and not too many frames
-pub record IsComplete (chunks : List LegacyChunk) : Type 0 where
+pub record IsLegacyComplete (chunks : List LegacyChunk) : Type 0 where
   pub paired : has_value 32 chunks ≡ has_value 33 chunks
   pub few : IsFew (sent Hvm (image_records chunks)).frames
 
 -- a chunk that may stand behind these chunks
-pub record Follows (chunks : List LegacyChunk) (c : LegacyChunk) (bytes : List ℕ) : Type 0 where
+pub record FollowsLegacy (chunks : List LegacyChunk) (c : LegacyChunk) (bytes : List ℕ) : Type 0 where
   pub is : IsChunk c bytes
-  pub fits : Fits chunks c.content
+  pub fits : StoreFits chunks c.content
   pub few : length chunks < most_chunks
-  pub not_ended : is_ended chunks ≡ false
-  pub complete : c.kind ≡ End → IsComplete chunks
-
--- these chunks, one after another, each in its place
-pub data Spells : List ℕ → List LegacyChunk → Type 0 where
-  none : Spells [] []
-  one_more : (bytes : List ℕ) (chunks : List LegacyChunk) (c : LegacyChunk) (text : List ℕ) → Spells bytes chunks → Follows chunks c text → Spells (bytes ++ text) (chunks ++ c ∷ [])
+  pub not_ended : is_legacy_ended chunks ≡ false
+  pub complete : c.kind ≡ End → IsLegacyComplete chunks
 
 -- ---- what stands before the chunks and behind them
 
@@ -128,8 +123,8 @@ pub record IsLegacy (input : List ℕ) (s : LegacyStream) (rest : List ℕ) : Ty
   pub device : List ℕ
   pub whole : input ≡ start ++ (bytes ++ (tail ++ (device ++ rest)))
   pub is_start : IsStart start
-  pub spelled : Spells bytes s.chunks
-  pub ended : is_ended s.chunks ≡ true
+  pub spelled : Spells FollowsLegacy bytes s.chunks
+  pub ended : is_legacy_ended s.chunks ≡ true
   pub is_tail : IsTail tail s.tail
   pub is_device : IsDevice device s.device rest
 

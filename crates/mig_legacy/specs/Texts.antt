@@ -23,9 +23,9 @@ name_pairs phys None = []
 name_pairs phys (Some name) = physmap_pair phys (codes "name") name ∷ []
 
 -- the pairs of an entry
-abbrev pub pairs_of : Physmap → List Pair
-pairs_of e = physmap_pair e.phys (codes "start_addr") (hexadecimal e.start) ∷ physmap_pair e.phys (codes "size") (hexadecimal e.size) ∷ name_pairs e.phys e.name
+abbrev pub pairs_of_physmap : Physmap → List Pair
+pairs_of_physmap e = physmap_pair e.phys (codes "start_addr") (hexadecimal e.start) ∷ physmap_pair e.phys (codes "size") (hexadecimal e.size) ∷ name_pairs e.phys e.name
 
 -- the bytes that spell the pairs of entries
 abbrev pub text_of_physmaps : List Physmap → List ℕ
-text_of_physmaps es = flat_map (λ e. flat_map text_of_pair (pairs_of e)) es
+text_of_physmaps es = flat_map (λ e. flat_map text_of_pair (pairs_of_physmap e)) es

@@ -7,9 +7,9 @@ ghost use Rattle.mig_headers.specs.declared.kind.Kind.TheVariants.{Hvm};
 ghost use Rattle.mig_restore.specs.Mean.{Grows};
 ghost use Rattle.mig_libxl.specs.Seen.{AreEmulators};
 ghost use Rattle.mig_legacy.specs.Batches.{fault_of_batch};
-ghost use Rattle.mig_legacy.specs.Judging.{length_at, words_at, batch_at, clock_of as clock_in, vcpus_at, clock_at, value_at, toolstack_at};
-ghost use Rattle.mig_legacy.specs.Legacy.{Content, param_key as key_of_param};
-ghost use Rattle.mig_legacy.specs.Legacy.Content.{Nothing};
+ghost use Rattle.mig_legacy.specs.Judging.{length_at, legacy_words_at, batch_at, clock_of as clock_in, vcpus_at, clock_at, value_at, toolstack_at};
+ghost use Rattle.mig_legacy.specs.Legacy.{LegacyContent, param_key as key_of_param};
+ghost use Rattle.mig_legacy.specs.Legacy.LegacyContent.{Nothing};
 ghost use Rattle.mig_legacy.specs.Seen.{cut_short, put_in_guest, put_in_emulators};
 
 use crate::batch::{batch_fault, page_data_words};
@@ -95,7 +95,7 @@ fn take_words<S: Source>(
     count: u32,
 ) -> Result<Vec<u64>, Stop<LegacyCause>>
     requires { count ≤ 1024 }
-    ensures read { Gives (λ list ws. ws ≡ list.items) (S.left src.old) (S.left src.new) (words_at count) result }
+    ensures read { Gives (λ list ws. ws ≡ list.items) (S.left src.old) (S.left src.new) (legacy_words_at count) result }
     ensures good { IfOk result (λ list. fault_of_batch list.items ≡ None) }
     ensures len { IfOk result (λ list. length list.items ≡ count) }
     ensures faults { RisesOnReadFault (S.faults src.old) (S.faults src.new) result }

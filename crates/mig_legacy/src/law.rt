@@ -10,13 +10,13 @@ ghost use Rattle.mig_guest.specs.Guests.{GuestOf};
 ghost use Rattle.mig_guest.specs.declared.part_key.PartKey.{PartKey};
 ghost use Rattle.mig_policy.specs.PairMaps.{text_of_map};
 ghost use Rattle.mig_restore.specs.Mean.{frame_in, last_bytes, last_entry};
-ghost use Rattle.mig_libxl.specs.Emulators.{last_value as last_pair};
+ghost use Rattle.mig_libxl.specs.Emulators.{last_pair_value as last_pair};
 ghost use Rattle.mig_legacy.specs.Chunks.{NumbersHaveKinds};
 ghost use Rattle.mig_legacy.specs.Judged.{ToolstackIsSpelled};
 ghost use Rattle.mig_legacy.specs.Legacy.{LegacyStream, device_key, mean_legacy, param_key, store_key};
 ghost use Rattle.mig_legacy.specs.Meaning.{entries_of_chunks, last_value, pairs_of_chunks, parts_told, store_of, tail_value};
 ghost use Rattle.mig_legacy.specs.Spelled.{IsLegacy, AcceptedLegacy};
-ghost use Rattle.mig_legacy.specs.Stream.{legacy_at, IsRefused};
+ghost use Rattle.mig_legacy.specs.Stream.{legacy_at, IsLegacyRefused};
 
 /// Each chunk is that of its number.
 #[tactic(auto, using(crate::proofs::ChunkNumbers::numbers_have_kinds))]
@@ -32,6 +32,7 @@ pub fn toolstack_is_spelled()
 {}
 
 /// What judging accepts is spelled as the format says.
+#[tactic(auto, using(crate::proofs::Laws::accepted_is_legacy))]
 pub fn accepted_is_legacy()
     ensures { (input : List ℕ) (s : LegacyStream) (rest : List ℕ) → legacy_at input ≡ Passes s rest → IsLegacy input s rest }
 {}
@@ -44,13 +45,13 @@ pub fn legacy_is_accepted()
 /// For every input either a front is an accepted stream, or it is refused at a place for a cause.
 pub fn accepted_or_refused()
     ensures { (input : List ℕ) → ((guest : GuestOf) × (rest : List ℕ) × AcceptedLegacy input guest rest)
-        ⊎ ((place : LegacyPlace) × (cause : LegacyCause) × (rest : List ℕ) × IsRefused input place cause rest) }
+        ⊎ ((place : LegacyPlace) × (cause : LegacyCause) × (rest : List ℕ) × IsLegacyRefused input place cause rest) }
 {}
 
 /// An input with an accepted front has no refusal.
 pub fn never_both()
     ensures { (input : List ℕ) (guest : GuestOf) (rest : List ℕ) (place : LegacyPlace) (cause : LegacyCause) (more : List ℕ) →
-        AcceptedLegacy input guest rest → IsRefused input place cause more → ⊥ }
+        AcceptedLegacy input guest rest → IsLegacyRefused input place cause more → ⊥ }
 {}
 
 /// At most one front of an input is an accepted stream, with one guest.
@@ -60,6 +61,7 @@ pub fn one_front()
 {}
 
 /// The guest that a stream means is an HVM guest, and no list of P2M frames gives it a greatest frame number.
+#[tactic(auto, using(crate::proofs::Meaning::kind_is, crate::proofs::Meaning::top_is))]
 pub fn guest_is_hvm()
     ensures kind { (s : LegacyStream) → (mean_legacy s).kind ≡ Hvm }
     ensures top { (s : LegacyStream) → (mean_legacy s).top ≡ 0 }
@@ -67,6 +69,7 @@ pub fn guest_is_hvm()
 
 /// Of each frame number the last entry of all batches decides: it says the frame's type and page, or that there is no
 /// frame.
+#[tactic(auto, using(crate::proofs::Meaning::last_entry_decides))]
 pub fn last_entry_decides()
     ensures { (s : LegacyStream) (pfn : ℕ) →
         maps.get (mean_legacy s).frames pfn ≡ option_and_then (frame_in Hvm) (last_entry pfn (entries_of_chunks s.chunks)) }
@@ -74,6 +77,7 @@ pub fn last_entry_decides()
 
 /// Of each part but the two of the device model the last that the chunks and then the tail say decides. A part that
 /// none of them says isn't there.
+#[tactic(auto, using(crate::proofs::DeviceMeaning::last_part_decides))]
 pub fn last_part_decides()
     ensures { (s : LegacyStream) (key : PartKey) → key ≢ store_key → key ≢ device_key →
         maps.get (mean_legacy s).parts key ≡ last_bytes key (parts_told s) }
@@ -81,6 +85,7 @@ pub fn last_part_decides()
 
 /// An HVM parameter has the tail's value where the tail says one, which it does of 1, 5 and 6; else the value of the
 /// last chunk that says one.
+#[tactic(auto, using(crate::proofs::DeviceMeaning::last_value_decides))]
 pub fn last_value_decides()
     ensures { (s : LegacyStream) (index : ℕ) →
         maps.get (mean_legacy s).parts (param_key index) ≡ option_or (tail_value index s.tail) (last_value index s.chunks) }
@@ -88,6 +93,7 @@ pub fn last_value_decides()
 
 /// The pairs of all toolstacks make the device model's store, which has of each key the last value; no pairs make
 /// none.
+#[tactic(auto, using(crate::proofs::DeviceMeaning::pairs_make_store, crate::proofs::DeviceMeaning::last_pair_decides))]
 pub fn last_pair_decides()
     ensures store { (s : LegacyStream) →
         maps.get (mean_legacy s).parts store_key ≡ option_map text_of_map (store_of (pairs_of_chunks s.chunks)) }
@@ -95,6 +101,7 @@ pub fn last_pair_decides()
 {}
 
 /// The device model's data are those of its record, and without a record there are none.
+#[tactic(auto, using(crate::proofs::DeviceMeaning::device_record_decides))]
 pub fn device_record_decides()
     ensures { (s : LegacyStream) → maps.get (mean_legacy s).parts device_key ≡ s.device }
 {}

@@ -13,10 +13,10 @@ ghost use Rattle.mig_pvtables.specs.Whole.{IsWhole};
 ghost use Rattle.mig_libxl.specs.Emulators.{with_emulators};
 ghost use Rattle.mig_libxl.specs.Seen.{IsPlain, AreEmulators};
 ghost use Rattle.mig_legacy.specs.declared.chunk.ChunkKind.TheVariants as kinds;
-ghost use Rattle.mig_legacy.specs.Judging.{most_chunks, fault_of_kind, fault_of_start, kind_at, content_at, chunk_at, start_at, tail_at, device_at};
+ghost use Rattle.mig_legacy.specs.Judging.{most_chunks, fault_of_kind, fault_of_start, chunk_kind_at, chunk_content_at, chunk_at, start_at, tail_at, device_at};
 ghost use Rattle.mig_legacy.specs.Legacy.{LegacyChunk, device_records, is_end, is_value_of, mean_legacy};
-ghost use Rattle.mig_legacy.specs.Seen.{IsSeen, IsBegun, IsSound, Takes, put_tail};
-ghost use Rattle.mig_legacy.specs.Stream.{chunks_at, legacy_at, stop_of, or_stop, ReadsLegacy};
+ghost use Rattle.mig_legacy.specs.Seen.{IsLegacySeen, IsLegacyBegun, IsWithinLimits, TakesLegacy, put_tail};
+ghost use Rattle.mig_legacy.specs.Stream.{chunks_at, legacy_at, legacy_stop_of, or_legacy_stop, ReadsLegacy};
 
 use crate::body::{take_batch, take_clock, take_toolstack, take_value, take_vcpus};
 use crate::chunk::{ChunkKind, chunk_kind};
@@ -43,7 +43,7 @@ pub enum LegacyAnswer {
 
 // The answer for what stopped the reading.
 fn answer(stop: Stop<(LegacyPlace, LegacyCause)>) -> LegacyAnswer
-    ensures { stop_of result ≡ stop }
+    ensures { legacy_stop_of result ≡ stop }
 {
     match stop {
         Stop::Refused((place, cause)) => LegacyAnswer::Refused(place, cause),
@@ -103,8 +103,8 @@ pub(crate) struct Seen {
 impl Seen {
     // Before the first chunk.
     fn new(alloc: Global) -> Seen
-        ensures seen { IsSeen result [] }
-        ensures begun { IsBegun result }
+        ensures seen { IsLegacySeen result [] }
+        ensures begun { IsLegacyBegun result }
     {
         Seen {
             guest: Guest::new(alloc, Kind::Hvm),
@@ -118,7 +118,7 @@ impl Seen {
     // What is wrong with a chunk that is this, behind those before.
     #[tactic(auto, unfolding(crate::specs::Judging::fault_of_kind))]
     fn kind_fault(&self, kind: ChunkKind) -> Option<LegacyCause>
-        ensures fault { (chunks : List LegacyChunk) → IsSeen self.now chunks → result ≡ fault_of_kind chunks kind }
+        ensures fault { (chunks : List LegacyChunk) → IsLegacySeen self.now chunks → result ≡ fault_of_kind chunks kind }
         ensures room { IfNone result (self.now.chunks < most_chunks) }
         ensures few { IfNone result (is_end kind ≡ true → maps.len self.now.guest.frames ≤ most_frames) }
     {
@@ -138,8 +138,8 @@ impl Seen {
     // Takes the type of the next chunk.
     #[tactic(auto, using(crate::proofs::ChunkNumbers::sound_kind))]
     fn take_kind<S: Source>(&self, src: &mut S) -> Result<ChunkKind, Stop<LegacyCause>>
-        ensures read { (chunks : List LegacyChunk) → IsSeen self.now chunks → Gives (λ kind k. k ≡ kind) (S.left src.old) (S.left src.new) (kind_at chunks) result }
-        ensures sound { IfOk result (λ kind. IsSound kind) }
+        ensures read { (chunks : List LegacyChunk) → IsLegacySeen self.now chunks → Gives (λ kind k. k ≡ kind) (S.left src.old) (S.left src.new) (chunk_kind_at chunks) result }
+        ensures sound { IfOk result (λ kind. IsWithinLimits kind) }
         ensures room { OnOk result (self.now.chunks < most_chunks) }
         ensures few { IfOk result (λ kind. is_end kind ≡ true → maps.len self.now.guest.frames ≤ most_frames) }
         ensures faults { RisesOnReadFault (S.faults src.old) (S.faults src.new) result }
@@ -164,10 +164,10 @@ impl Seen {
         src: &mut S,
         kind: ChunkKind,
     ) -> Result<(), Stop<LegacyCause>>
-        requires begun { IsBegun self.old }
-        requires sound { IsSound kind }
-        ensures read { (chunks : List LegacyChunk) → IsSeen self.old chunks → Gives (λ _ c. Takes self.old self.new c) (S.left src.old) (S.left src.new) (content_at chunks kind) result }
-        ensures begun { OnOk result (IsBegun self.new) }
+        requires begun { IsLegacyBegun self.old }
+        requires sound { IsWithinLimits kind }
+        ensures read { (chunks : List LegacyChunk) → IsLegacySeen self.old chunks → Gives (λ _ c. TakesLegacy self.old self.new c) (S.left src.old) (S.left src.new) (chunk_content_at chunks kind) result }
+        ensures begun { OnOk result (IsLegacyBegun self.new) }
         ensures chunks { OnOk result (self.new.chunks ≡ self.old.chunks) }
         ensures end { OnOk result (is_end kind ≡ true → self.new ≡ self.old) }
         ensures faults { RisesOnReadFault (S.faults src.old) (S.faults src.new) result }
@@ -205,10 +205,10 @@ impl Seen {
         alloc: Global,
         src: &mut S,
     ) -> Result<bool, Stop<LegacyCause>>
-        requires begun { IsBegun self.old }
-        ensures read { (chunks : List LegacyChunk) → IsSeen self.old chunks →
-            Gives (λ over c. IsSeen self.new (chunks ++ c ∷ []) × (over ≡ is_end c.kind)) (S.left src.old) (S.left src.new) (chunk_at chunks) result }
-        ensures begun { OnOk result (IsBegun self.new) }
+        requires begun { IsLegacyBegun self.old }
+        ensures read { (chunks : List LegacyChunk) → IsLegacySeen self.old chunks →
+            Gives (λ over c. IsLegacySeen self.new (chunks ++ c ∷ []) × (over ≡ is_end c.kind)) (S.left src.old) (S.left src.new) (chunk_at chunks) result }
+        ensures begun { OnOk result (IsLegacyBegun self.new) }
         ensures few { IfOk result (λ over. over ≡ true → maps.len self.new.guest.frames ≤ most_frames) }
         ensures counted { OnOk result ((self.new.chunks ≡ self.old.chunks + 1) × (self.old.chunks < most_chunks)) }
         ensures faults { RisesOnReadFault (S.faults src.old) (S.faults src.new) result }
@@ -244,8 +244,8 @@ fn take_chunks<S: Source>(
     alloc: Global,
     src: &mut S,
 ) -> Result<Seen, Stop<(LegacyPlace, LegacyCause)>>
-    ensures read { Gives IsSeen (S.left src.old) (S.left src.new) chunks_at result }
-    ensures begun { IfOk result (λ seen. IsBegun seen) }
+    ensures read { Gives IsLegacySeen (S.left src.old) (S.left src.new) chunks_at result }
+    ensures begun { IfOk result (λ seen. IsLegacyBegun seen) }
     ensures few { IfOk result (λ seen. maps.len seen.guest.frames ≤ most_frames) }
     ensures faults { RisesOnReadFault (S.faults src.old) (S.faults src.new) result }
 {
@@ -296,7 +296,7 @@ pub fn read_legacy<S: Source>(alloc: Global, src: &mut S) -> Result<Guest, Legac
     ensures whole { IfOk result (λ guest. IsWhole guest) }
     ensures blank { IfOk result (λ guest. blank guest ≡ guest) }
     ensures bytes { IfOk result (λ guest. IsOfBytes guest) }
-    ensures faults { RisesOnReadFault (S.faults src.old) (S.faults src.new) (or_stop result) }
+    ensures faults { RisesOnReadFault (S.faults src.old) (S.faults src.new) (or_legacy_stop result) }
 {
     match read_parts(alloc, src) {
         Ok(guest) => Ok(guest),

@@ -6,7 +6,7 @@ ghost use Rattle.mig_headers.specs.declared.kind.Kind.TheVariants.{Hvm};
 ghost use Rattle.mig_guest.specs.Frames.{IsFew};
 ghost use Rattle.mig_restore.specs.Mean.{IsBegun};
 ghost use Rattle.mig_libxl.specs.Seen.{IsPlain, AreEmulators};
-ghost use Rattle.mig_legacy.specs.Judging.{tail_of, tail_at, device_at, record_at};
+ghost use Rattle.mig_legacy.specs.Judging.{tail_of, tail_at, device_at, device_record_at};
 ghost use Rattle.mig_legacy.specs.Seen.{put_tail, put_device};
 
 use crate::body::{MAX_BODY, are_bytes, param_key, take_length};
@@ -80,7 +80,7 @@ fn take_record<S: Source>(
     src: &mut S,
     first: u8,
 ) -> Result<Vec<u8>, Stop<LegacyCause>>
-    ensures read { Gives (λ content device. device ≡ Some content.items) (S.left src.old) (S.left src.new) (λ rest. record_at (first ∷ rest)) result }
+    ensures read { Gives (λ content device. device ≡ Some content.items) (S.left src.old) (S.left src.new) (λ rest. device_record_at (first ∷ rest)) result }
     ensures small { IfOk result (λ content. length content.items + 8 ≤ 2 ^ 27) }
     ensures faults { RisesOnReadFault (S.faults src.old) (S.faults src.new) result }
 {

@@ -2,7 +2,7 @@ ghost use Rattle.std.specs.Prelude.{◌≡◌, ◌≤◌, ◌<◌, ◌==◌, [],
 ghost use Rattle.std.specs.List.{flat_map, position};
 ghost use Rattle.mig_headers.specs.Pairs.{text_of_pair};
 ghost use Rattle.mig_legacy.specs.Judged.{entry_len, entry_in, name_in};
-ghost use Rattle.mig_legacy.specs.Texts.{hexadecimal, physmap_pair, name_pairs, pairs_of, without_zeros};
+ghost use Rattle.mig_legacy.specs.Texts.{hexadecimal, physmap_pair, name_pairs, pairs_of_physmap, without_zeros};
 
 use mig_bytes::{Memory, u32_le, u64_le};
 
@@ -81,7 +81,7 @@ fn put_name(text: &mut Vec<u8>, phys: u64, bytes: &[u8]) -> Result<(), Memory>
 // Puts the pairs of the entry at the front of these bytes at the end.
 pub(crate) fn put_physmap(text: &mut Vec<u8>, bytes: &[u8]) -> Result<(), Memory>
     requires { entry_len bytes.now ≤ length bytes.now }
-    ensures ok { OnOk result (text.new.items ≡ text.old.items ++ flat_map text_of_pair (pairs_of (entry_in bytes.now))) }
+    ensures ok { OnOk result (text.new.items ≡ text.old.items ++ flat_map text_of_pair (pairs_of_physmap (entry_in bytes.now))) }
 {
     let phys = u64_le(bytes, 0);
     put_number(text, phys, b"start_addr", u64_le(bytes, 8))?;

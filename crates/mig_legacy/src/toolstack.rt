@@ -1,5 +1,5 @@
 ghost use Rattle.std.specs.Prelude.{◌≡◌, ◌≤◌, length, drop, ◌++◌, None, IfOk, OnOk};
-ghost use Rattle.mig_legacy.specs.Judged.{entries_fault, entries_in, toolstack_fault as fault_of, toolstack};
+ghost use Rattle.mig_legacy.specs.Judged.{entries_fault, physmaps_in, toolstack_fault as fault_of, toolstack};
 ghost use Rattle.mig_legacy.specs.Texts.{text_of_physmaps};
 
 use crate::fault::{entry_fault, entry_len};
@@ -47,7 +47,7 @@ pub fn toolstack_fault(body: &[u8]) -> Option<u64>
 fn put_entries(text: &mut Vec<u8>, body: &[u8], count: u32) -> Result<(), Memory>
     requires head { 8 ≤ length body.now }
     requires faultless { entries_fault count 8 (drop 8 body.now) ≡ None }
-    ensures { OnOk result (text.new.items ≡ text.old.items ++ text_of_physmaps (entries_in count (drop 8 body.now))) }
+    ensures { OnOk result (text.new.items ≡ text.old.items ++ text_of_physmaps (physmaps_in count (drop 8 body.now))) }
 {
     let mut rest = &body[8..];
     for _ in 0..count {

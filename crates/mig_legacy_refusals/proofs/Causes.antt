@@ -1,10 +1,14 @@
--- The causes that stand in each part of a legacy stream.
-use Rattle.mig_legacy_refusals.proofs.Common.{◌≡◌, ◌⊎◌, inl, inr, ℕ, ◌<◌, ◌≤◌, List, [], ◌∷◌, Bool, true, false, cond, not, nat_eq, nat_lt, nat_le, Option, Some, None, Result, Ok, Err, refl, sym, ap, subst, ◌∙◌, arith, and_from, and_parts, both_ways, cases_order, eq-eqb, eqb-false, eqb-true, false≢true, le-leb, leb-true, ltb-false, lt-ltb, ltb-true, ne_eqb, not-true, none-some, same_Some, or_cases, or_left, or_right, slice_index, ◌&&◌, list_any, le32, first_fault, LegacyCause, ChunkKind, LegacyChunk, IsTriedBefore, LegacyPart, Stands}
+-- The causes that stand in each part of a legacy stream, and parts without one.
+use Rattle.mig_legacy_refusals.proofs.Common.{◌≡◌, ◌⊎◌, inl, inr, ℕ, ◌<◌, ◌≤◌, List, [], ◌∷◌, Bool, true, false, cond, not, nat_eq, nat_lt, nat_le, Option, Some, None, Result, Ok, Err, refl, sym, ap, subst, ◌∙◌, arith, common_steps, and_from, and_parts, both_ways, cases_order, eq-eqb, eqb-false, eqb-true, false≢true, le-leb, leb-true, lt-ltb, ltb-true, ne_eqb, not-true, none-some, same_Some, or_cases, or_left, or_right, slice_index, ◌&&◌, list_any, le32, first_fault, LegacyCause, ChunkKind, LegacyChunk, number_of_legacy_cause, word_place, LegacyPart, StandsInLegacy, legacy_size, IsFaultlessLegacyPart, ◌++◌, length, said_at, Passes, Truncated}
 use Rattle.std.specs.FinMap as maps
 use Rattle.std.specs.List.{flat_map}
 use Rattle.std.specs.Option.{option_map, option_or}
 use Rattle.std.specs.Str.{bytes_eq}
 use Rattle.std.proofs.lemmas.Slice.Eq.{bytes_eq-Decides}
+use Rattle.mig_bytes.proofs.Failing.{Names}
+use Rattle.mig_bytes.proofs.Said.{said_goes, said_passes}
+use Rattle.mig_headers.proofs.FirstCauses as first
+use Rattle.mig_headers.specs.FirstCauses.{IsEarlier, IsTriedFirst}
 use Rattle.mig_headers.specs.Contexts.{scan}
 use Rattle.mig_headers.specs.declared.fault.ContextFault.{ContextFault}
 use Rattle.mig_headers.specs.declared.kind.Kind.TheVariants.{Hvm}
@@ -15,32 +19,43 @@ use Rattle.mig_records.specs.Words.{words, first_place, first_word}
 use Rattle.mig_records.proofs.Places.{none_pass, place_is_first}
 use Rattle.mig_restore.specs.Mean.{sent}
 use Rattle.mig_libxl.specs.Emulators.{emulators_of}
-use Rattle.mig_libxl.specs.Judging.{most_pairs}
+use Rattle.mig_libxl.specs.Judging.{most_pairs, spelled_with}
 use Rattle.mig_refused.proofs.Entries.{found_has, reached_chain}
 use Rattle.mig_refused.proofs.Tables.{scan_finds, scanned}
-use Rattle.mig_legacy.specs.declared.chunk.ChunkKind.TheVariants.{End, Batch, VcpuMap, Tsc, LastCheckpoint, Toolstack, Param}
+use Rattle.mig_legacy.specs.declared.chunk.ChunkKind.TheVariants.{End}
 use Rattle.mig_legacy.specs.Batches.{is_reserved, is_high, fault_of_batch}
 use Rattle.mig_legacy.specs.Chunks.{kind_of, IsNumberOf}
 use Rattle.mig_legacy.specs.Judged.{toolstack, toolstack_fault}
-use Rattle.mig_legacy.specs.Judging.{is_modern, is_unpaired, frames_sent, kind_rows, fault_of_kind, fault_of_start, fault_of_length, fault_of_max, fault_of_toolstack, fault_of_signature, pairs_of_toolstack, spelled_with, context_fault, signature}
-use Rattle.mig_legacy.specs.Legacy.{has_value, image_records, is_end, store_records}
-use Rattle.mig_legacy.specs.Texts.{pairs_of}
+use Rattle.mig_legacy.specs.Judging.{is_modern, is_unpaired, frames_sent, kind_rows, fault_of_kind, fault_of_start, fault_of_counted, fault_of_max, fault_of_toolstack, fault_of_signature, context_fault, signature}
+use Rattle.mig_legacy.specs.Legacy.{has_value, image_records, is_end, store_key, store_records}
+use Rattle.mig_legacy.specs.Texts.{pairs_of_physmap}
+use Rattle.mig_legacy.specs.Toolstack.{Physmap}
 use Rattle.mig_legacy.proofs.ChunkNumbers.{numbers_have_kinds}
 use Rattle.mig_legacy.proofs.KindNumbers.{kinds_have_numbers}
 use Rattle.mig_legacy.proofs.Spelling.{toolstack_spelled}
-use Rattle.mig_legacy_refusals.specs.Refusal.{StartHas, NumberHas, TypeHas, WordsHave, MaxHas, LengthHas, ToolstackHas, ContextHas, SignatureHas}
+use Rattle.mig_legacy_refusals.specs.Refusal.{StartHas, NumberHas, TypeHas, WordsHave, MaxHas, LegacyLengthHas, ToolstackHas, LegacyContextHas, SignatureHas}
 use Rattle.mig_legacy_refusals.specs.Refusal.{StartHas as starts, TypeHas as types}
 use Rattle.mig_legacy_refusals.specs.Refusal.WordsHave.{reserved_type, not_zero}
 use Rattle.mig_legacy_refusals.specs.Refusal.MaxHas.{too_great}
-use Rattle.mig_legacy_refusals.specs.Refusal.LengthHas.{too_long}
+use Rattle.mig_legacy_refusals.specs.Refusal.LegacyLengthHas.{too_long}
 use Rattle.mig_legacy_refusals.specs.Refusal.ToolstackHas.{wrong_field, too_many_pairs}
-use Rattle.mig_legacy_refusals.specs.Refusal.ContextHas.{wrong_entry}
+use Rattle.mig_legacy_refusals.specs.Refusal.LegacyContextHas.{wrong_entry}
 use Rattle.mig_legacy_refusals.specs.Refusal.SignatureHas.{other_bytes}
 use Rattle.mig_legacy_refusals.specs.Refusal.LegacyPart.{Start, ChunkType, Words, Page, VcpuMax, Length, Context, Signature, Plain}
 use Rattle.mig_legacy_refusals.specs.Refusal.{LegacyPart as parts}
-use Rattle.mig_legacy_refusals.proofs.Named.{Named, RowHas, named}
 use Rattle.mig_legacy_refusals.proofs.Toolstacks.{field_found, found_field}
 use Rattle.mig_legacy_refusals.proofs.Numbers.{decided, low_cause, number_found}
+
+-- what a computed fault is of the causes that stand
+abbrev pub Named : (LegacyCause → Type 0) → Option LegacyCause → Type 0
+Named = first.Named number_of_legacy_cause word_place
+
+abbrev RowHas : List (Bool × LegacyCause) → LegacyCause → Type 0
+RowHas = first.RowHas number_of_legacy_cause word_place
+
+-- a cause that is tried before another, or is that one
+abbrev Leads : LegacyCause → LegacyCause → Type 0
+Leads c d = IsEarlier number_of_legacy_cause word_place c d ⊎ (d ≡ c)
 
 -- ---- the first 8 bytes
 
@@ -57,7 +72,7 @@ module _ (bytes : List ℕ) where
   start_from _ (starts.narrow_tools h) = inr (inl (ap not (ne_eqb _ _ h), refl))
 
   start_named : Named (StartHas bytes) (fault_of_start bytes)
-  start_named = named (StartHas bytes) start_rows refl (modern, ((λ h. starts.narrow_tools (eqb-false _ _ (not-true _ h))), tt)) start_from
+  start_named = first.rows_name _ _ (StartHas bytes) start_rows refl (modern, ((λ h. starts.narrow_tools (eqb-false _ _ (not-true _ h))), tt)) start_from
 
 -- ---- the type of a chunk
 
@@ -77,24 +92,13 @@ type_fault chunks (Ok kind) = fault_of_kind chunks kind
 
 end_is : (kind : ChunkKind) → is_end kind ≡ true → kind ≡ End
 end_is End h = refl
-end_is (Batch n) h = absurd (false≢true h)
-end_is VcpuMap h = absurd (false≢true h)
-end_is Tsc h = absurd (false≢true h)
-end_is LastCheckpoint h = absurd (false≢true h)
-end_is Toolstack h = absurd (false≢true h)
-end_is (Param index) h = absurd (false≢true h)
+end_is _ h = absurd (false≢true h)
 
 differing : (b d : Bool) → (b ≡ d → ⊥) → cond b (not d) d ≡ true
-differing true true h = absurd (h refl)
-differing true false h = refl
-differing false true h = refl
-differing false false h = absurd (h refl)
+differing b d h = grind (arith, common_steps, h)
 
 unlike : (b d : Bool) → cond b (not d) d ≡ true → b ≡ d → ⊥
-unlike true true h e = false≢true h
-unlike true false h e = false≢true (sym e)
-unlike false true h e = false≢true e
-unlike false false h e = false≢true h
+unlike b d h e = grind (arith, common_steps, h, e)
 
 module _ (chunks : List LegacyChunk) (n : ℕ) where
   abbrev Has : LegacyCause → Type 0
@@ -104,7 +108,7 @@ module _ (chunks : List LegacyChunk) (n : ℕ) where
   of_err : (c : LegacyCause) → kind_of n ≡ Err c → NumberHas n c → Named Has (Some c)
   of_err c is has = record { holds = (types.of_number c has, others) }
     where
-      others : (d : LegacyCause) → Has d → IsTriedBefore c d ⊎ (d ≡ c)
+      others : (d : LegacyCause) → Has d → Leads c d
       others _ (types.of_number d also) = inr (same_err d c (sym (number_found n d also) ∙ is))
       others _ (types.unpaired zero h) = inl (inl (omega (arith, low_cause n c has)))
       others _ (types.too_many_chunks h) = inl (inl (omega (arith, low_cause n c has)))
@@ -131,7 +135,7 @@ module _ (chunks : List LegacyChunk) (n : ℕ) where
 
     of_ok : Named Has (fault_of_kind chunks kind)
     unfolding fault_of_kind
-    of_ok = named Has (kind_rows chunks kind) refl (to_unpaired, ((λ h. types.too_many_chunks (leb-true _ _ h)), (to_many, tt))) kind_from
+    of_ok = first.rows_name _ _ Has (kind_rows chunks kind) refl (to_unpaired, ((λ h. types.too_many_chunks (leb-true _ _ h)), (to_many, tt))) kind_from
 
   type_named : Named Has (type_fault chunks (kind_of n))
   type_named = elim (decided n) [
@@ -148,6 +152,10 @@ module _ (ws : List ℕ) where
   reserved_passes : (place : ℕ) → 5 ≤ type_at place → type_at place ≤ 8 → is_reserved (slice_index ws place) ≡ true
   reserved_passes place low high = and_from _ _ (le-leb _ _ low) (le-leb _ _ high)
 
+  -- one cause at several places is tried first at the least
+  least : (say : ℕ → LegacyCause) (k place : ℕ) → (k < place → IsEarlier number_of_legacy_cause word_place (say k) (say place)) → (place < k → ⊥) → Leads (say k) (say place)
+  least say k place before never = elim (cases_order k place) [ inl e ↦ inr (ap say (sym e)) | inr other ↦ elim other [ inl below ↦ inl (before below) | inr above ↦ absurd (never above) ] ]
+
   words_by : (a b : Bool) → list_any is_reserved ws ≡ a → list_any is_high ws ≡ b
       → Named (WordsHave ws) (first_fault ((a, BadPageType (first_place is_reserved ws) (legacy_type (first_word is_reserved ws))) ∷ (b, WordHigh (first_place is_high ws)) ∷ []))
   words_by true b any some =
@@ -155,28 +163,15 @@ module _ (ws : List ℕ) where
       let t = and_parts _ _ f.passes in
       record { holds = (reserved_type (first_place is_reserved ws) f.within (leb-true _ _ t.0) (leb-true _ _ t.1), others) }
     where
-      others : (d : LegacyCause) → WordsHave ws d → IsTriedBefore (BadPageType (first_place is_reserved ws) (type_at (first_place is_reserved ws))) d ⊎ (d ≡ BadPageType (first_place is_reserved ws) (type_at (first_place is_reserved ws)))
+      others : (d : LegacyCause) → WordsHave ws d → Leads (BadPageType (first_place is_reserved ws) (type_at (first_place is_reserved ws))) d
       others _ (not_zero place less high) = inl (inl (omega arith))
-      others _ (reserved_type place less low high) = elim (cases_order (first_place is_reserved ws) place) [
-        | inl e ↦ inr (ap (λ k. BadPageType k (type_at k)) (sym e))
-        | inr other ↦ elim other [
-          | inl below ↦ inl (inr (refl, below))
-          | inr above ↦ absurd (both_ways _ ((place_is_first is_reserved ws any).none_before place above) (reserved_passes place low high))
-        ]
-      ]
-  words_by false true none any =
-      let f = place_is_first is_high ws any in
-      record { holds = (not_zero (first_place is_high ws) f.within (leb-true _ _ f.passes), others) }
+      others _ (reserved_type place less low high) =
+          least (λ k. BadPageType k (type_at k)) (first_place is_reserved ws) place (λ below. inr (refl, below)) (λ above. both_ways _ ((place_is_first is_reserved ws any).none_before place above) (reserved_passes place low high))
+  words_by false true none any = let f = place_is_first is_high ws any in record { holds = (not_zero (first_place is_high ws) f.within (leb-true _ _ f.passes), others) }
     where
-      others : (d : LegacyCause) → WordsHave ws d → IsTriedBefore (WordHigh (first_place is_high ws)) d ⊎ (d ≡ WordHigh (first_place is_high ws))
+      others : (d : LegacyCause) → WordsHave ws d → Leads (WordHigh (first_place is_high ws)) d
       others _ (reserved_type place less low high) = absurd (both_ways _ (none_pass is_reserved ws none place 0 less) (reserved_passes place low high))
-      others _ (not_zero place less high) = elim (cases_order (first_place is_high ws) place) [
-        | inl e ↦ inr (ap WordHigh (sym e))
-        | inr other ↦ elim other [
-          | inl below ↦ inl (inr (refl, below))
-          | inr above ↦ absurd (both_ways _ ((place_is_first is_high ws any).none_before place above) (le-leb _ _ high))
-        ]
-      ]
+      others _ (not_zero place less high) = least WordHigh (first_place is_high ws) place (λ below. inr (refl, below)) (λ above. both_ways _ ((place_is_first is_high ws any).none_before place above) (le-leb _ _ high))
   words_by false false none nowhere = record { holds = never }
     where
       never : (d : LegacyCause) → WordsHave ws d → ⊥
@@ -189,19 +184,19 @@ module _ (ws : List ℕ) where
 -- ---- lengths, the greatest vCPU id, and the signature
 
 max_named : (bytes : List ℕ) → Named (MaxHas bytes) (fault_of_max bytes)
-max_named bytes = named (MaxHas bytes) ((nat_le 4096 (le32 bytes 0), BadVcpuMax (le32 bytes 0)) ∷ []) refl ((λ h. too_great (leb-true _ _ h)), tt) from
+max_named bytes = first.rows_name _ _ (MaxHas bytes) ((nat_le 4096 (le32 bytes 0), BadVcpuMax (le32 bytes 0)) ∷ []) refl ((λ h. too_great (leb-true _ _ h)), tt) from
   where
     from : (c : LegacyCause) → MaxHas bytes c → RowHas ((nat_le 4096 (le32 bytes 0), BadVcpuMax (le32 bytes 0)) ∷ []) c
     from _ (too_great h) = inl (le-leb _ _ h, refl)
 
-length_named : (most : ℕ) (bytes : List ℕ) → Named (LengthHas most bytes) (fault_of_length most bytes)
-length_named most bytes = named (LengthHas most bytes) ((nat_lt most (le32 bytes 0), BodyTooLong (le32 bytes 0)) ∷ []) refl ((λ h. too_long (ltb-true _ _ h)), tt) from
+length_named : (most : ℕ) (bytes : List ℕ) → Named (LegacyLengthHas most bytes) (fault_of_counted most bytes)
+length_named most bytes = first.rows_name _ _ (LegacyLengthHas most bytes) ((nat_lt most (le32 bytes 0), BodyTooLong (le32 bytes 0)) ∷ []) refl ((λ h. too_long (ltb-true _ _ h)), tt) from
   where
-    from : (c : LegacyCause) → LengthHas most bytes c → RowHas ((nat_lt most (le32 bytes 0), BodyTooLong (le32 bytes 0)) ∷ []) c
+    from : (c : LegacyCause) → LegacyLengthHas most bytes c → RowHas ((nat_lt most (le32 bytes 0), BodyTooLong (le32 bytes 0)) ∷ []) c
     from _ (too_long h) = inl (lt-ltb _ _ h, refl)
 
 signature_named : (bytes : List ℕ) → Named (SignatureHas bytes) (fault_of_signature bytes)
-signature_named bytes = named (SignatureHas bytes) ((not (bytes_eq bytes signature), BadSignature) ∷ []) refl ((λ h. other_bytes (other h)), tt) from
+signature_named bytes = first.rows_name _ _ (SignatureHas bytes) ((not (bytes_eq bytes signature), BadSignature) ∷ []) refl ((λ h. other_bytes (other h)), tt) from
   where
     other : not (bytes_eq bytes signature) ≡ true → bytes ≡ signature → ⊥
     other h e = both_ways _ (not-true _ h) ((bytes_eq-Decides bytes signature).1 e)
@@ -216,43 +211,36 @@ signature_named bytes = named (SignatureHas bytes) ((not (bytes_eq bytes signatu
 -- ---- the data of a toolstack
 
 module _ (chunks : List LegacyChunk) (body : List ℕ) where
-  abbrev size_with : ℕ
-  size_with = spelled_with (emulators_of (store_records chunks)) (pairs_of_toolstack body)
+  abbrev size_with : List Physmap → ℕ
+  size_with es = spelled_with (emulators_of (store_records chunks)) store_key (flat_map pairs_of_physmap es)
 
-  toolstack_by : (f : Option ℕ) (b : Bool) → toolstack_fault body ≡ f → nat_lt most_pairs size_with ≡ b → Named (ToolstackHas chunks body) (option_or (option_map BadToolstack f) (first_fault ((b, TooManyPairs) ∷ [])))
-  toolstack_by (Some offset) b is long = record { holds = (wrong_field offset (found_field body offset is), others) }
+  toolstack_by : (f : Option ℕ) → toolstack_fault body ≡ f → Named (ToolstackHas chunks body) (option_or (option_map BadToolstack f) (first_fault ((nat_lt most_pairs (size_with (toolstack body)), TooManyPairs) ∷ [])))
+  toolstack_by (Some offset) is = record { holds = (wrong_field offset (found_field body offset is), others) }
     where
-      others : (d : LegacyCause) → ToolstackHas chunks body d → IsTriedBefore (BadToolstack offset) d ⊎ (d ≡ BadToolstack offset)
+      others : (d : LegacyCause) → ToolstackHas chunks body d → Leads (BadToolstack offset) d
       others _ (wrong_field other also) = inr (ap BadToolstack (same_Some other offset (sym (field_found body other also) ∙ is)))
       others _ (too_many_pairs es spelled more) = inl (inl (omega arith))
-  toolstack_by None true is long = record { holds = (too_many_pairs (toolstack body) ((toolstack_spelled body).faultless is) (ltb-true _ _ long), others) }
+  toolstack_by None is =
+      first.rows_name _ _ (ToolstackHas chunks body) ((nat_lt most_pairs (size_with (toolstack body)), TooManyPairs) ∷ []) refl ((λ long. too_many_pairs (toolstack body) ((toolstack_spelled body).faultless is) (ltb-true _ _ long)), tt) from
     where
-      others : (d : LegacyCause) → ToolstackHas chunks body d → IsTriedBefore TooManyPairs d ⊎ (d ≡ TooManyPairs)
-      others _ (wrong_field other also) = absurd (none-some other (sym is ∙ field_found body other also))
-      others _ (too_many_pairs es spelled more) = inr refl
-  toolstack_by None false is short = record { holds = never }
-    where
-      never : (d : LegacyCause) → ToolstackHas chunks body d → ⊥
-      never _ (wrong_field other also) = none-some other (sym is ∙ field_found body other also)
-      never _ (too_many_pairs es spelled more) =
-          let within : size_with ≤ most_pairs = ltb-false most_pairs size_with short in
-          let same = ((toolstack_spelled body).spelled es spelled).1 in
-          omega (arith, within, subst (λ ps. most_pairs < spelled_with (emulators_of (store_records chunks)) (flat_map pairs_of ps)) (sym same) more)
+      from : (d : LegacyCause) → ToolstackHas chunks body d → RowHas ((nat_lt most_pairs (size_with (toolstack body)), TooManyPairs) ∷ []) d
+      from _ (wrong_field other also) = absurd (none-some other (sym is ∙ field_found body other also))
+      from _ (too_many_pairs es spelled more) = inl (lt-ltb _ _ (subst (λ ps. most_pairs < size_with ps) (sym ((toolstack_spelled body).spelled es spelled).1) more), refl)
 
   toolstack_named : Named (ToolstackHas chunks body) (fault_of_toolstack (emulators_of (store_records chunks)) body)
-  toolstack_named = toolstack_by (toolstack_fault body) (nat_lt most_pairs size_with) refl refl
+  toolstack_named = toolstack_by (toolstack_fault body) refl
 
 -- ---- a context
 
 module _ (body : List ℕ) where
-  context_by : (r : Result ℕ ContextFault) → scan body ≡ r → Named (ContextHas body) (context_fault r)
+  context_by : (r : Result ℕ ContextFault) → scan body ≡ r → Named (LegacyContextHas body) (context_fault r)
   context_by (Ok end) is = record { holds = never }
     where
-      never : (d : LegacyCause) → ContextHas body d → ⊥
+      never : (d : LegacyCause) → LegacyContextHas body d → ⊥
       never _ (wrong_entry p other chain h) = let no : ◌≡◌ {A = Result ℕ ContextFault} (Err other) (Ok end) = scan_finds body p other chain h ∙ is in cc
   context_by (Err fault) is = let s = scanned body fault is in record { holds = (wrong_entry s.0 fault (reached_chain body s.0 s.1) (found_has body s.0 fault s.2), others) }
     where
-      others : (d : LegacyCause) → ContextHas body d → IsTriedBefore (BadContext fault) d ⊎ (d ≡ BadContext fault)
+      others : (d : LegacyCause) → LegacyContextHas body d → Leads (BadContext fault) d
       others _ (wrong_entry p other chain h) = let same : ◌≡◌ {A = Result ℕ ContextFault} (Err other) (Err fault) = scan_finds body p other chain h ∙ is in inr (cc)
 
 -- ---- all parts
@@ -264,13 +252,13 @@ fault_in (ChunkType chunks) bytes = type_fault chunks (kind_of (le32 bytes 0))
 fault_in (Words n) bytes = fault_of_batch (words n bytes)
 fault_in (Page word) bytes = None
 fault_in VcpuMax bytes = fault_of_max bytes
-fault_in (Length most) bytes = fault_of_length most bytes
+fault_in (Length most) bytes = fault_of_counted most bytes
 fault_in (parts.Toolstack chunks len) bytes = fault_of_toolstack (emulators_of (store_records chunks)) bytes
 fault_in (Context len) bytes = context_fault (scan bytes)
 fault_in Signature bytes = fault_of_signature bytes
 fault_in (Plain n) bytes = None
 
-pub part_is_named : (p : LegacyPart) (bytes : List ℕ) → Named (Stands p bytes) (fault_in p bytes)
+pub part_is_named : (p : LegacyPart) (bytes : List ℕ) → Named (StandsInLegacy p bytes) (fault_in p bytes)
 part_is_named Start bytes = start_named bytes
 part_is_named (ChunkType chunks) bytes = type_named chunks (le32 bytes 0)
 part_is_named (Words n) bytes = words_named (words n bytes)
@@ -281,3 +269,22 @@ part_is_named (parts.Toolstack chunks len) bytes = toolstack_named chunks bytes
 part_is_named (Context len) bytes = context_by bytes (scan bytes) refl
 part_is_named Signature bytes = signature_named bytes
 part_is_named (Plain n) bytes = record { holds = λ c h. h }
+
+-- ---- one part
+
+pub names : (p : LegacyPart) → Names (λ bytes. IsTriedFirst number_of_legacy_cause word_place (StandsInLegacy p bytes)) (fault_in p)
+names p = first.is_named _ _ (StandsInLegacy p) (fault_in p) (part_is_named p)
+
+pub fine : (p : LegacyPart) (bytes : List ℕ) → IsFaultlessLegacyPart p bytes → fault_in p bytes ≡ None
+fine p bytes is = first.none_is _ _ (StandsInLegacy p bytes) (fault_in p bytes) (part_is_named p bytes) is.none
+
+pub faultless : (p : LegacyPart) (bytes : List ℕ) → length bytes ≡ legacy_size p → fault_in p bytes ≡ None → IsFaultlessLegacyPart p bytes
+faultless p bytes size none = record { size = size; none = (subst (Named (StandsInLegacy p bytes)) none (part_is_named p bytes)).holds }
+
+-- a faultless part passes, and a part that passes is faultless
+module _ {X : Type 0} (p : LegacyPart) (says : List ℕ → X) where
+  pub part_goes : (bytes rest : List ℕ) → IsFaultlessLegacyPart p bytes → said_at Truncated (fault_in p) says (legacy_size p) (bytes ++ rest) ≡ Passes (says bytes) rest
+  part_goes bytes rest is = said_goes Truncated (fault_in p) says (legacy_size p) bytes rest is.size (fine p bytes is)
+
+  pub part_back : (i : List ℕ) (x : X) (rest : List ℕ) → said_at Truncated (fault_in p) says (legacy_size p) i ≡ Passes x rest → (bytes : List ℕ) × (i ≡ bytes ++ rest) × IsFaultlessLegacyPart p bytes × (says bytes ≡ x)
+  part_back i x rest h = let s = said_passes Truncated (fault_in p) says (legacy_size p) i x rest h in (s.bytes, s.whole, faultless p s.bytes s.size s.fine, s.value)

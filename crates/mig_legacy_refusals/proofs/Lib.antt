@@ -1,9 +1,7 @@
 pub mod Common
-pub mod Named
 pub mod Numbers
 pub mod Toolstacks
 pub mod Causes
-pub mod Single
 pub mod Pages
 pub mod Bodies
 pub mod Verdicts

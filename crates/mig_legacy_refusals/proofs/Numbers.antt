@@ -1,13 +1,13 @@
 -- The causes that stand in the number of a chunk's type.
-use Rattle.mig_legacy_refusals.proofs.Common.{◌≡◌, ◌⊎◌, inl, inr, ℕ, ◌<◌, ◌≤◌, ◌^◌, true, false, nat_eq, nat_le, nat_lt, Result, Ok, Err, refl, ap, ◌∙◌, arith, common_steps, cases_eq, cases_lt, ne_eqb, LegacyCause, ChunkKind, number_of_legacy_cause}
+use Rattle.mig_legacy_refusals.proofs.Common.{◌≡◌, ◌⊎◌, inl, inr, ℕ, ◌<◌, ◌≤◌, ◌^◌, Bool, true, false, nat_eq, nat_le, nat_lt, Result, Ok, Err, refl, sym, ap, and_parts, leb-true, ◌&&◌, ◌||◌, ◌∙◌, arith, common_steps, cases_eq, cases_lt, ne_eqb, LegacyCause, ChunkKind, number_of_legacy_cause}
+use Rattle.std.proofs.lemmas.Bool.{agree_below_at}
+use Rattle.std.specs.Result.{is_err}
 use Rattle.mig_headers.specs.declared.legacy_fault.LegacyCause.TheVariants.{VerifyOrPv, Tmem, Compressed, UnknownChunk, BatchTooLarge}
 use Rattle.mig_legacy.specs.Chunks.{negative, negative_kind, kind_of}
-use Rattle.mig_legacy.specs.declared.chunk.ChunkKind.TheVariants.{End, Batch, VcpuMap, Tsc, LastCheckpoint, Toolstack, Param}
+use Rattle.mig_legacy.specs.declared.chunk.ChunkKind.TheVariants.{End, Batch}
+use Rattle.mig_legacy.proofs.ChunkNumbers.{numbers_have_kinds}
 use Rattle.mig_legacy_refusals.specs.Refusal.{NumberHas}
 use Rattle.mig_legacy_refusals.specs.Refusal.NumberHas.{verify_or_pv, tmem, compressed, unknown, too_large}
-
-abbrev Answer : Type 0
-Answer = Result ChunkKind LegacyCause
 
 -- a number is that of a chunk, or a cause stands in it, which is the answer
 abbrev pub Decided : ℕ → Type 0
@@ -29,42 +29,12 @@ large n above low =
     let more : nat_le n 1024 ≡ false = grind (arith, common_steps, above) in
     rw (some, under, more) refl
 
-small : (n : ℕ) → 0 < n → n ≤ 1024 → kind_of n ≡ Ok (Batch n)
-unfolding kind_of
-small n above low =
-    let some : nat_eq n 0 ≡ false = grind (arith, common_steps, above) in
-    let under : nat_lt n 2147483648 ≡ true = grind (arith, common_steps, low) in
-    let few : nat_le n 1024 ≡ true = grind (arith, common_steps, low) in
-    rw (some, under, few) refl
-
 -- none of the chunks −1 to −20
 no_chunk : (m : ℕ) → ((k : ℕ) → 1 ≤ k → k ≤ 20 → m ≡ k → ⊥) → negative_kind m ≡ Err (UnknownChunk m)
-no_chunk m never =
-    rw (
-      is 1 (omega arith) (omega arith),
-      is 5 (omega arith) (omega arith),
-      is 6 (omega arith) (omega arith),
-      is 12 (omega arith) (omega arith),
-      is 13 (omega arith) (omega arith),
-      is 2 (omega arith) (omega arith),
-      is 7 (omega arith) (omega arith),
-      is 9 (omega arith) (omega arith),
-      is 18 (omega arith) (omega arith),
-      is 3 (omega arith) (omega arith),
-      is 4 (omega arith) (omega arith),
-      is 8 (omega arith) (omega arith),
-      is 10 (omega arith) (omega arith),
-      is 11 (omega arith) (omega arith),
-      is 14 (omega arith) (omega arith),
-      is 15 (omega arith) (omega arith),
-      is 16 (omega arith) (omega arith),
-      is 17 (omega arith) (omega arith),
-      is 19 (omega arith) (omega arith),
-      is 20 (omega arith) (omega arith),
-    ) refl
+no_chunk m never = rw (is 1 refl, is 5 refl, is 6 refl, is 12 refl, is 13 refl, is 2 refl, is 7 refl, is 9 refl, is 18 refl, is 3 refl, is 4 refl, is 8 refl, is 10 refl, is 11 refl, is 14 refl, is 15 refl, is 16 refl, is 17 refl, is 19 refl, is 20 refl) refl
   where
-    is : (k : ℕ) → 1 ≤ k → k ≤ 20 → nat_eq m k ≡ false
-    is k low high = ne_eqb m k (never k low high)
+    is : (k : ℕ) → (nat_le 1 k && nat_le k 20) ≡ true → nat_eq m k ≡ false
+    is k within = let b = and_parts _ _ within in ne_eqb m k (never k (leb-true _ _ b.0) (leb-true _ _ b.1))
 
 -- a cause in words is the answer
 pub number_found : (n : ℕ) (c : LegacyCause) → NumberHas n c → kind_of n ≡ Err c
@@ -77,55 +47,39 @@ number_found n _ (compressed (inr is)) = rw is refl
 number_found n _ (unknown high never) = of_half n high ∙ no_chunk (negative n) (λ k low most is. never k low most (omega (arith, high, low, most, is)))
 number_found n _ (too_large above low) = large n above low
 
+-- the numbers up to 20 that no chunk has
+abbrev is_none : ℕ → Bool
+is_none k = nat_eq k 0 || (nat_eq k 1 || (nat_eq k 5 || (nat_eq k 6 || (nat_eq k 12 || nat_eq k 13))))
+
 module _ (n : ℕ) (high : 2 ^ 31 ≤ n) where
-  chunk_is : (k : ℕ) → 1 ≤ k → negative n ≡ k → n ≡ negative k
-  chunk_is k low is = omega (arith, high, low, is)
-
-  a_chunk : (k : ℕ) (kind : ChunkKind) → negative_kind k ≡ Ok kind → negative n ≡ k → Decided n
-  a_chunk k kind found is = inl (kind, of_half n high ∙ ap negative_kind is ∙ found)
-
   a_cause : (c : LegacyCause) → NumberHas n c → Decided n
   a_cause c has = inr (c, has, number_found n c has)
 
-  -- the next of the numbers
-  or_next : (k : ℕ) → (negative n ≡ k → Decided n) → ((negative n ≡ k → ⊥) → Decided n) → Decided n
-  or_next k here next = elim (cases_eq (negative n) k) [ inl e ↦ here e | inr other ↦ next other ]
+  -- the next of the numbers that have a cause
+  or_next : (k : ℕ) (c : LegacyCause) → 1 ≤ k → (n ≡ negative k → NumberHas n c) → ((negative n ≡ k → ⊥) → Decided n) → Decided n
+  or_next k c low has next = elim (cases_eq (negative n) k) [ inl e ↦ a_cause c (has (omega (arith, high, low, e))) | inr other ↦ next other ]
 
-  decided_negative : Decided n
-  decided_negative =
-      or_next 1 (λ e. a_cause VerifyOrPv (verify_or_pv (chunk_is 1 (omega arith) e))) (λ n1.
-      or_next 5 (λ e. a_cause Tmem (tmem (inl (chunk_is 5 (omega arith) e)))) (λ n5.
-      or_next 6 (λ e. a_cause Tmem (tmem (inr (chunk_is 6 (omega arith) e)))) (λ n6.
-      or_next 12 (λ e. a_cause Compressed (compressed (inl (chunk_is 12 (omega arith) e)))) (λ n12.
-      or_next 13 (λ e. a_cause Compressed (compressed (inr (chunk_is 13 (omega arith) e)))) (λ n13.
-      or_next 2 (a_chunk 2 VcpuMap refl) (λ n2.
-      or_next 7 (a_chunk 7 Tsc refl) (λ n7.
-      or_next 9 (a_chunk 9 LastCheckpoint refl) (λ n9.
-      or_next 18 (a_chunk 18 Toolstack refl) (λ n18.
-      or_next 3 (a_chunk 3 (Param 12) refl) (λ n3.
-      or_next 4 (a_chunk 4 (Param 15) refl) (λ n4.
-      or_next 8 (a_chunk 8 (Param 17) refl) (λ n8.
-      or_next 10 (a_chunk 10 (Param 19) refl) (λ n10.
-      or_next 11 (a_chunk 11 (Param 9) refl) (λ n11.
-      or_next 14 (a_chunk 14 (Param 34) refl) (λ n14.
-      or_next 15 (a_chunk 15 (Param 27) refl) (λ n15.
-      or_next 16 (a_chunk 16 (Param 28) refl) (λ n16.
-      or_next 17 (a_chunk 17 (Param 29) refl) (λ n17.
-      or_next 19 (a_chunk 19 (Param 32) refl) (λ n19.
-      or_next 20 (a_chunk 20 (Param 33) refl) (λ n20.
-      a_cause (UnknownChunk (negative n)) (unknown high (λ k low most is. none k low most (omega (arith, is, most)) n1 n2 n3 n4 n5 n6 n7 n8 n9 n10 n11 n12 n13 n14 n15 n16 n17 n18 n19 n20))))))))))))))))))))))
+  decided_by : (o : Result ChunkKind LegacyCause) → negative_kind (negative n) ≡ o → Decided n
+  decided_by (Ok kind) is = inl (kind, of_half n high ∙ is)
+  decided_by (Err c) is =
+      or_next 1 VerifyOrPv (omega arith) verify_or_pv (λ n1.
+      or_next 5 Tmem (omega arith) (λ e. tmem (inl e)) (λ n5.
+      or_next 6 Tmem (omega arith) (λ e. tmem (inr e)) (λ n6.
+      or_next 12 Compressed (omega arith) (λ e. compressed (inl e)) (λ n12.
+      or_next 13 Compressed (omega arith) (λ e. compressed (inr e)) (λ n13.
+      a_cause (UnknownChunk (negative n)) (unknown high (λ k low most e. let same : negative n ≡ k = omega (arith, e, most) in others k low most (ap negative_kind (sym same) ∙ is) same n1 n5 n6 n12 n13)))))))
     where
-      none : (k : ℕ) → 1 ≤ k → k ≤ 20 → negative n ≡ k → (negative n ≡ 1 → ⊥) → (negative n ≡ 2 → ⊥) → (negative n ≡ 3 → ⊥) → (negative n ≡ 4 → ⊥) → (negative n ≡ 5 → ⊥) → (negative n ≡ 6 → ⊥) → (negative n ≡ 7 → ⊥) → (negative n ≡ 8 → ⊥) → (negative n ≡ 9 → ⊥) → (negative n ≡ 10 → ⊥)
-          → (negative n ≡ 11 → ⊥) → (negative n ≡ 12 → ⊥) → (negative n ≡ 13 → ⊥) → (negative n ≡ 14 → ⊥) → (negative n ≡ 15 → ⊥) → (negative n ≡ 16 → ⊥) → (negative n ≡ 17 → ⊥) → (negative n ≡ 18 → ⊥) → (negative n ≡ 19 → ⊥) → (negative n ≡ 20 → ⊥) → ⊥
-      none k low most is n1 n2 n3 n4 n5 n6 n7 n8 n9 n10 n11 n12 n13 n14 n15 n16 n17 n18 n19 n20 = grind (arith, low, most, is, n1, n2, n3, n4, n5, n6, n7, n8, n9, n10, n11, n12, n13, n14, n15, n16, n17, n18, n19, n20)
+      others : (k : ℕ) → 1 ≤ k → k ≤ 20 → negative_kind k ≡ Err c → negative n ≡ k → (negative n ≡ 1 → ⊥) → (negative n ≡ 5 → ⊥) → (negative n ≡ 6 → ⊥) → (negative n ≡ 12 → ⊥) → (negative n ≡ 13 → ⊥) → ⊥
+      others k low most fails same n1 n5 n6 n12 n13 =
+          let none : is_none k ≡ true = agree_below_at is_none (λ k. is_err (negative_kind k)) 21 k refl (omega (arith, most)) ∙ ap is_err fails in
+          grind (arith, common_steps, low, none, same, n1, n5, n6, n12, n13)
 
 pub decided : (n : ℕ) → Decided n
-unfolding kind_of
 decided n = elim (cases_lt n (2 ^ 31)) [
-  | inr high ↦ decided_negative n high
+  | inr high ↦ decided_by n high (negative_kind (negative n)) refl
   | inl low ↦ elim (cases_eq n 0) [
-    | inl zero ↦ inl (End, ap kind_of zero)
-    | inr some ↦ elim (cases_lt 1024 n) [ inl above ↦ inr (BatchTooLarge n, too_large above low, large n above low) | inr few ↦ inl (Batch n, small n (grind (arith, some)) few) ]
+    | inl zero ↦ inl (End, numbers_have_kinds End n zero)
+    | inr some ↦ elim (cases_lt 1024 n) [ inl above ↦ inr (BatchTooLarge n, too_large above low, large n above low) | inr few ↦ inl (Batch n, numbers_have_kinds (Batch n) n (refl, grind (arith, some), few)) ]
   ]
 ]
 

@@ -1,48 +1,41 @@
 -- The first wrong field of a toolstack's data stands where judging finds it.
-use Rattle.mig_legacy_refusals.proofs.Common.{◌≡◌, ◌⊎◌, inl, inr, ℕ, zero, suc, ◌+◌, ◌<◌, ◌≤◌, List, [], ◌∷◌, ◌++◌, length, take, drop, Bool, true, false, nat_eq, nat_lt, Option, Some, refl, sym, ap, subst, ◌∙◌, arith, common_steps, take-append-drop, length-append, length-take-le, cases_eq, cases_lt, eq-eqb, ne_eqb, le-ltb, lt-ltb, none-some, same_Some, both_ways, le32}
+use Rattle.mig_legacy_refusals.proofs.Common.{◌≡◌, ◌⊎◌, inl, inr, ℕ, zero, suc, ◌+◌, ◌<◌, ◌≤◌, List, [], ◌∷◌, ◌++◌, length, take, drop, Bool, true, false, nat_eq, nat_lt, Option, Some, refl, sym, ap, subst, ◌∙◌, arith, common_steps, take-append-drop, length-append, length-take-le, cases_eq, cases_lt, eq-eqb, ne_eqb, le-ltb, lt-ltb, none-some, same_Some, both_ways, le32, not, first_fault}
 use Rattle.std.proofs.Common.{drop-drop, length-drop}
 use Rattle.std.proofs.Math.Seq.{take-append_seam, drop-append_seam}
 use Rattle.mig_bytes.specs.Fields.{le64}
 use Rattle.mig_legacy.specs.Judged.{entries_fault, entry_fault, entry_len, is_name, name_at, name_in, name_len, toolstack_fault}
 use Rattle.mig_legacy.specs.Toolstack.{Physmap, IsName, IsPhysmapHead, name_bytes}
 use Rattle.mig_legacy.proofs.Entries.{faultless_first, faulty_first, nothing_left}
-use Rattle.mig_legacy.proofs.Fields.{first32, in32}
+use Rattle.mig_headers.proofs.ContextTexts.{in32}
+use Rattle.mig_legacy.proofs.Fields.{first32}
 use Rattle.mig_legacy.proofs.NameForms.{name_passes, name_spelled}
 use Rattle.mig_legacy.proofs.Spelling.{fault_of}
 use Rattle.mig_legacy.proofs.Spelling.{behind_all, fine as fine_entry, len_is}
-use Rattle.mig_legacy_refusals.specs.Toolstack.{EntriesTo, EntryWrong, FieldWrong}
-use Rattle.mig_legacy_refusals.specs.Toolstack.EntriesTo.{at_first, one_more}
+use Rattle.mig_legacy_refusals.specs.Toolstack.{PhysmapsTo, EntryWrong, FieldWrong}
+use Rattle.mig_legacy_refusals.specs.Toolstack.PhysmapsTo.{at_first, one_more}
 use Rattle.mig_legacy_refusals.specs.Toolstack.EntryWrong.{short_phys, short_start, short_size, short_length, short_name, no_name, short_padding}
 use Rattle.mig_legacy_refusals.specs.Toolstack.FieldWrong.{short_version, other_version, short_count, in_entry, more_bytes}
 
 -- ---- an entry
 
 module _ (bytes : List ℕ) where
-  -- a name that is none, and padding that isn't whole
-  no_name_found : 28 + name_len bytes ≤ length bytes → is_name (name_at bytes) ≡ false → entry_fault bytes ≡ Some 28
+  -- behind a whole name
+  named_fault : 28 + name_len bytes ≤ length bytes → entry_fault bytes ≡ first_fault ((not (is_name (name_at bytes)), 28) ∷ (nat_lt (length bytes) (entry_len bytes), 28 + name_len bytes) ∷ [])
   unfolding entry_fault
-  no_name_found fits other =
+  named_fault fits =
       rw (
         le-ltb (length bytes) 8 (omega (arith, fits)),
         le-ltb (length bytes) 16 (omega (arith, fits)),
         le-ltb (length bytes) 24 (omega (arith, fits)),
         le-ltb (length bytes) 28 (omega (arith, fits)),
         le-ltb (length bytes) (28 + name_len bytes) fits,
-        other,
       ) refl
 
+  no_name_found : 28 + name_len bytes ≤ length bytes → is_name (name_at bytes) ≡ false → entry_fault bytes ≡ Some 28
+  no_name_found fits other = named_fault fits ∙ rw other refl
+
   short_found : 28 + name_len bytes ≤ length bytes → is_name (name_at bytes) ≡ true → length bytes < entry_len bytes → entry_fault bytes ≡ Some (28 + name_len bytes)
-  unfolding entry_fault
-  short_found fits named less =
-      rw (
-        le-ltb (length bytes) 8 (omega (arith, fits)),
-        le-ltb (length bytes) 16 (omega (arith, fits)),
-        le-ltb (length bytes) 24 (omega (arith, fits)),
-        le-ltb (length bytes) 28 (omega (arith, fits)),
-        le-ltb (length bytes) (28 + name_len bytes) fits,
-        named,
-        lt-ltb (length bytes) (entry_len bytes) less,
-      ) refl
+  short_found fits named less = named_fault fits ∙ rw (named, lt-ltb (length bytes) (entry_len bytes) less) refl
 
 -- a text of which no name has the bytes
 no_name_is : (text : List ℕ) → ((name : Option (List ℕ)) → IsName name → text ≡ name_bytes name → ⊥) → is_name text ≡ false
@@ -83,21 +76,12 @@ entry_found bytes _ (short_padding head padding e whole is named less) =
     ∙ short_found (head ++ (text ++ padding)) (omega (arith, same, long)) (ap is_name (text_is head text padding is.len is.name) ∙ name_passes e.name named) (omega (arith, same, long, less))
     ∙ ap (λ n. Some (28 + n)) same
 
--- an entry that is whole, and what follows it
-record WholeEntry (bytes : List ℕ) : Type 0 where
-  head : List ℕ
-  padding : List ℕ
-  left : List ℕ
-  e : Physmap
-  whole : bytes ≡ head ++ (name_bytes e.name ++ (padding ++ left))
-  is : IsPhysmapHead head e
-  named : IsName e.name
-  size : length padding ≡ 4
-
 -- each entry has a wrong field, or it is whole
 module _ (bytes : List ℕ) where
   abbrev Judged : Type 0
-  Judged = ((field : ℕ) × EntryWrong bytes field) ⊎ WholeEntry bytes
+  Judged =
+      ((field : ℕ) × EntryWrong bytes field)
+      ⊎ ((head : List ℕ) × (padding : List ℕ) × (left : List ℕ) × (e : Physmap) × (bytes ≡ head ++ (name_bytes e.name ++ (padding ++ left))) × IsPhysmapHead head e × IsName e.name × (length padding ≡ 4))
 
   module _ (fits : 28 + le32 bytes 24 ≤ length bytes) where
     abbrev head : List ℕ
@@ -137,16 +121,7 @@ module _ (bytes : List ℕ) where
       by_padding : Judged
       by_padding = elim (cases_lt (length behind) 4) [
         | inl less ↦ inl (28 + length (name_bytes said.name), short_padding head behind said split_name head_is (name_spelled (name_at bytes) named).1 less)
-        | inr four ↦ inr (record {
-          head = head;
-          padding = take 4 behind;
-          left = drop 4 behind;
-          e = said;
-          whole = split_name ∙ ap (λ l. head ++ (name_bytes said.name ++ l)) (sym (take-append-drop 4 behind));
-          is = head_is;
-          named = (name_spelled (name_at bytes) named).1;
-          size = length-take-le 4 behind four;
-        })
+        | inr four ↦ inr (head, take 4 behind, drop 4 behind, said, split_name ∙ ap (λ l. head ++ (name_bytes said.name ++ l)) (sym (take-append-drop 4 behind)), head_is, (name_spelled (name_at bytes) named).1, length-take-le 4 behind four)
       ]
 
     by_name : (b : Bool) → is_name (name_at bytes) ≡ b → Judged
@@ -182,7 +157,7 @@ entry_goes n offset head padding left e is named four =
     ∙ ap (λ m. entries_fault n (offset + m) (drop (entry_len bytes) bytes)) len
     ∙ ap (entries_fault n (offset + (32 + length (name_bytes e.name)))) (behind_all head padding left e is named four)
 
-front_goes : (body : List ℕ) (offset n : ℕ) (left : List ℕ) → EntriesTo body offset n left → toolstack_fault body ≡ entries_fault n offset left
+front_goes : (body : List ℕ) (offset n : ℕ) (left : List ℕ) → PhysmapsTo body offset n left → toolstack_fault body ≡ entries_fault n offset left
 unfolding toolstack_fault
 front_goes body _ _ _ (at_first head left whole size version) =
     let one : le32 (head ++ left) 0 ≡ 1 = in32 head left 0 (omega (arith, size)) ∙ version in
@@ -216,16 +191,16 @@ field_found body _ (in_entry offset n field left to wrong) =
 field_found body _ (more_bytes offset left to some) = front_goes body offset 0 left to ∙ some_left offset left some
 
 module _ (body : List ℕ) (at : ℕ) where
-  entries_cases : (n offset : ℕ) (left : List ℕ) → EntriesTo body offset n left → entries_fault n offset left ≡ Some at → FieldWrong body at
+  entries_cases : (n offset : ℕ) (left : List ℕ) → PhysmapsTo body offset n left → entries_fault n offset left ≡ Some at → FieldWrong body at
   entries_cases zero offset [] to h = absurd (none-some at (sym (nothing_left offset []) ∙ h))
   entries_cases zero offset (b ∷ left) to h = subst (FieldWrong body) (same_Some offset at (sym (some_left offset (b ∷ left) (omega arith)) ∙ h)) (more_bytes offset (b ∷ left) to (omega arith))
   entries_cases (suc n) offset left to h =
       let more : suc n ≡ n + 1 = omega arith in
       elim (entry_judged left) [
-        | inl wrong ↦ subst (FieldWrong body) (same_Some (offset + wrong.0) at (sym (faulty_first n offset wrong.0 left (entry_found left wrong.0 wrong.1)) ∙ h)) (in_entry offset n wrong.0 left (subst (λ m. EntriesTo body offset m left) more to) wrong.1)
-        | inr w ↦
-            let next = one_more offset n w.head w.padding w.left w.e (subst (EntriesTo body offset (n + 1)) w.whole (subst (λ m. EntriesTo body offset m left) more to)) w.is w.named w.size in
-            entries_cases n (offset + (32 + length (name_bytes w.e.name))) w.left next (sym (ap (entries_fault (n + 1) offset) w.whole ∙ entry_goes n offset w.head w.padding w.left w.e w.is w.named w.size) ∙ ap (λ m. entries_fault m offset left) (sym more) ∙ h)
+        | inl wrong ↦ subst (FieldWrong body) (same_Some (offset + wrong.0) at (sym (faulty_first n offset wrong.0 left (entry_found left wrong.0 wrong.1)) ∙ h)) (in_entry offset n wrong.0 left (subst (λ m. PhysmapsTo body offset m left) more to) wrong.1)
+        | inr (head, padding, after, e, whole, is, named, four) ↦
+            let next = one_more offset n head padding after e (subst (PhysmapsTo body offset (n + 1)) whole (subst (λ m. PhysmapsTo body offset m left) more to)) is named four in
+            entries_cases n (offset + (32 + length (name_bytes e.name))) after next (sym (ap (entries_fault (n + 1) offset) whole ∙ entry_goes n offset head padding after e is named four) ∙ ap (λ m. entries_fault m offset left) (sym more) ∙ h)
       ]
 
   pub found_field : toolstack_fault body ≡ Some at → FieldWrong body at

@@ -3,7 +3,10 @@
 use Rattle.std.specs.Prelude.{◌≡◌, ◌⊎◌, ℕ, ◌+◌, ◌*◌, ◌/◌, ◌-◌, ◌^◌, ◌<◌, ◌≤◌, true, false, List, [], ◌∷◌, ◌++◌, length, slice_index, if◌then◌else◌}
 use Rattle.std.specs.FinMap as maps
 use Rattle.std.specs.List.{flat_map}
+use Rattle.mig_bytes.specs.Failing.{IsFaultless, Fails}
 use Rattle.mig_bytes.specs.Fields.{le32, be64}
+use Rattle.mig_bytes.specs.Sequences.{Spells}
+use Rattle.mig_headers.specs.FirstCauses.{IsTriedFirst}
 use Rattle.mig_headers.specs.Headers.{marker, libxl_ident}
 use Rattle.mig_headers.specs.LegacyTexts.{number_of_legacy_cause}
 use Rattle.mig_headers.specs.declared.fault.ContextFault.{ContextFault}
@@ -15,22 +18,21 @@ use Rattle.mig_headers.specs.declared.legacy_fault.LegacyPlace.TheVariants as pl
 use Rattle.mig_pagetypes.specs.FrameWords.{word_has_data}
 use Rattle.mig_pagetypes.specs.LegacyWords.{legacy_type}
 use Rattle.mig_pagetypes.specs.Limits.{most_frames}
-use Rattle.mig_policy.specs.PairMaps.{put_pairs, text_of_map}
 use Rattle.mig_records.specs.Words.{words}
 use Rattle.mig_restore.specs.Mean.{sent}
 use Rattle.mig_restore.specs.Record.{FrameEntry}
 use Rattle.mig_restore.specs.Spelled.{AreEntries}
-use Rattle.mig_libxl.specs.Emulators.{store_at, emulators_of}
-use Rattle.mig_libxl.specs.Judging.{most_pairs}
+use Rattle.mig_libxl.specs.Emulators.{emulators_of}
+use Rattle.mig_libxl.specs.Judging.{most_pairs, spelled_with}
 use Rattle.mig_refused.specs.Refusal.{EntriesTo, EntryHas}
 use Rattle.mig_legacy.specs.declared.chunk.ChunkKind.{ChunkKind}
 use Rattle.mig_legacy.specs.declared.chunk.ChunkKind.TheVariants as kinds
 use Rattle.mig_legacy.specs.Batches.{page_data_words}
 use Rattle.mig_legacy.specs.Chunks.{negative, IsNumberOf}
 use Rattle.mig_legacy.specs.Judging.{most_chunks, signature}
-use Rattle.mig_legacy.specs.Legacy.{LegacyChunk, LegacyTail, has_value, is_ended, image_records, store_key, store_records}
-use Rattle.mig_legacy.specs.Spelled.{IsStart, IsTail, Spells}
-use Rattle.mig_legacy.specs.Texts.{pairs_of}
+use Rattle.mig_legacy.specs.Legacy.{LegacyChunk, LegacyTail, has_value, is_legacy_ended, image_records, store_key, store_records}
+use Rattle.mig_legacy.specs.Spelled.{IsStart, IsTail, FollowsLegacy}
+use Rattle.mig_legacy.specs.Texts.{pairs_of_physmap}
 use Rattle.mig_legacy.specs.Toolstack.{Physmap, IsToolstack}
 use Rattle.mig_legacy_refusals.specs.Toolstack.{FieldWrong}
 
@@ -68,17 +70,17 @@ pub data MaxHas (bytes : List ℕ) : LegacyCause → Type 0 where
   too_great : 4096 ≤ le32 bytes 0 → MaxHas bytes (BadVcpuMax (le32 bytes 0))
 
 -- the length of what may have at most so many bytes
-pub data LengthHas (most : ℕ) (bytes : List ℕ) : LegacyCause → Type 0 where
-  too_long : most < le32 bytes 0 → LengthHas most bytes (BodyTooLong (le32 bytes 0))
+pub data LegacyLengthHas (most : ℕ) (bytes : List ℕ) : LegacyCause → Type 0 where
+  too_long : most < le32 bytes 0 → LegacyLengthHas most bytes (BodyTooLong (le32 bytes 0))
 
 -- the data of a toolstack behind these chunks: the first field that is wrong, or its pairs make the store too long
 pub data ToolstackHas (chunks : List LegacyChunk) (body : List ℕ) : LegacyCause → Type 0 where
   wrong_field : (offset : ℕ) → FieldWrong body offset → ToolstackHas chunks body (BadToolstack offset)
-  too_many_pairs : (es : List Physmap) → IsToolstack body es → most_pairs < length (text_of_map (put_pairs (store_at (emulators_of (store_records chunks)).stores store_key) (flat_map pairs_of es))) → ToolstackHas chunks body TooManyPairs
+  too_many_pairs : (es : List Physmap) → IsToolstack body es → most_pairs < spelled_with (emulators_of (store_records chunks)) store_key (flat_map pairs_of_physmap es) → ToolstackHas chunks body TooManyPairs
 
 -- an HVM context: its entries stand whole up to one in which this is wrong
-pub data ContextHas (body : List ℕ) : LegacyCause → Type 0 where
-  wrong_entry : (offset : ℕ) (fault : ContextFault) → EntriesTo body offset → EntryHas body offset fault → ContextHas body (BadContext fault)
+pub data LegacyContextHas (body : List ℕ) : LegacyCause → Type 0 where
+  wrong_entry : (offset : ℕ) (fault : ContextFault) → EntriesTo body offset → EntryHas body offset fault → LegacyContextHas body (BadContext fault)
 
 -- the first bytes of a device model's record
 pub data SignatureHas (bytes : List ℕ) : LegacyCause → Type 0 where
@@ -102,94 +104,84 @@ pub data LegacyPart : Type 0 where
   Plain : ℕ → LegacyPart
 
 -- how many bytes a part has
-abbrev pub size_of : LegacyPart → ℕ
-size_of Start = 8
-size_of (ChunkType chunks) = 4
-size_of (Words n) = 8 * n
-size_of (Page word) = if word_has_data word then 4096 else 0
-size_of VcpuMax = 4
-size_of (Length most) = 4
-size_of (Toolstack chunks len) = len
-size_of (Context len) = len
-size_of Signature = length signature
-size_of (Plain n) = n
+abbrev pub legacy_size : LegacyPart → ℕ
+legacy_size Start = 8
+legacy_size (ChunkType chunks) = 4
+legacy_size (Words n) = 8 * n
+legacy_size (Page word) = if word_has_data word then 4096 else 0
+legacy_size VcpuMax = 4
+legacy_size (Length most) = 4
+legacy_size (Toolstack chunks len) = len
+legacy_size (Context len) = len
+legacy_size Signature = length signature
+legacy_size (Plain n) = n
 
 -- the causes that stand in a part
-abbrev pub Stands : LegacyPart → List ℕ → LegacyCause → Type 0
-Stands Start bytes cause = StartHas bytes cause
-Stands (ChunkType chunks) bytes cause = TypeHas chunks (le32 bytes 0) cause
-Stands (Words n) bytes cause = WordsHave (words n bytes) cause
-Stands (Page word) bytes cause = ⊥
-Stands VcpuMax bytes cause = MaxHas bytes cause
-Stands (Length most) bytes cause = LengthHas most bytes cause
-Stands (Toolstack chunks len) bytes cause = ToolstackHas chunks bytes cause
-Stands (Context len) bytes cause = ContextHas bytes cause
-Stands Signature bytes cause = SignatureHas bytes cause
-Stands (Plain n) bytes cause = ⊥
+abbrev pub StandsInLegacy : LegacyPart → List ℕ → LegacyCause → Type 0
+StandsInLegacy Start bytes cause = StartHas bytes cause
+StandsInLegacy (ChunkType chunks) bytes cause = TypeHas chunks (le32 bytes 0) cause
+StandsInLegacy (Words n) bytes cause = WordsHave (words n bytes) cause
+StandsInLegacy (Page word) bytes cause = ⊥
+StandsInLegacy VcpuMax bytes cause = MaxHas bytes cause
+StandsInLegacy (Length most) bytes cause = LegacyLengthHas most bytes cause
+StandsInLegacy (Toolstack chunks len) bytes cause = ToolstackHas chunks bytes cause
+StandsInLegacy (Context len) bytes cause = LegacyContextHas bytes cause
+StandsInLegacy Signature bytes cause = SignatureHas bytes cause
+StandsInLegacy (Plain n) bytes cause = ⊥
 
 -- the place of the word that a cause names
-abbrev pub place_of : LegacyCause → ℕ
-place_of (BadPageType place type) = place
-place_of (WordHigh place) = place
-place_of _ = 0
-
--- causes are tried in the order of their numbers, and one cause in the order of its places
-abbrev pub IsTriedBefore : LegacyCause → LegacyCause → Type 0
-IsTriedBefore cause other = (number_of_legacy_cause cause < number_of_legacy_cause other) ⊎ ((number_of_legacy_cause cause ≡ number_of_legacy_cause other) × (place_of cause < place_of other))
-
--- the cause stands, and every other that stands is tried later
-abbrev pub IsFirstCause : (LegacyCause → Type 0) → LegacyCause → Type 0
-IsFirstCause Has cause = Has cause × ((other : LegacyCause) → Has other → IsTriedBefore cause other ⊎ (other ≡ cause))
+abbrev pub word_place : LegacyCause → ℕ
+word_place (BadPageType place type) = place
+word_place (WordHigh place) = place
+word_place _ = 0
 
 -- a part that is whole and without a cause
-pub record IsFaultless (part : LegacyPart) (bytes : List ℕ) : Type 0 where
-  pub size : length bytes ≡ size_of part
-  pub none : (cause : LegacyCause) → Stands part bytes cause → ⊥
+abbrev pub IsFaultlessLegacyPart : LegacyPart → List ℕ → Type 0
+IsFaultlessLegacyPart part bytes = IsFaultless (legacy_size part) (StandsInLegacy part) bytes
 
 -- a part isn't whole in what is left, of which nothing remains; or it is, and this cause is named, and rest follows it
-pub data Fails (part : LegacyPart) (left : List ℕ) : LegacyCause → List ℕ → Type 0 where
-  short : length left < size_of part → Fails part left Truncated []
-  faulty : (bytes rest : List ℕ) (cause : LegacyCause) → left ≡ bytes ++ rest → length bytes ≡ size_of part → IsFirstCause (Stands part bytes) cause → Fails part left cause rest
+abbrev pub LegacyPartFails : LegacyPart → List ℕ → LegacyCause → List ℕ → Type 0
+LegacyPartFails part left cause rest = Fails Truncated (legacy_size part) (λ bytes. IsTriedFirst number_of_legacy_cause word_place (StandsInLegacy part bytes)) left cause rest
 
 -- ---- faultless fronts, and the part that comes next
 
 -- the first parts of the body of a chunk that is this, behind these chunks; of a batch the pages of the first words
-pub data InBody (chunks : List LegacyChunk) : ChunkKind → List ℕ → LegacyPart → Type 0 where
-  at_words : (n : ℕ) → InBody chunks (kinds.Batch n) [] (Words n)
-  at_page : (n : ℕ) (ws pages first : List ℕ) (word : ℕ) (others : List ℕ) (es : List FrameEntry) → IsFaultless (Words n) ws → page_data_words (words n ws) ≡ first ++ word ∷ others → AreEntries Hvm 0 first pages es
-      → InBody chunks (kinds.Batch n) (ws ++ pages) (Page word)
-  at_max : InBody chunks kinds.VcpuMap [] VcpuMax
-  at_bits : (max : List ℕ) → IsFaultless VcpuMax max → InBody chunks kinds.VcpuMap max (Plain (8 * (le32 max 0 / 64 + 1)))
-  at_clock : InBody chunks kinds.Tsc [] (Plain 20)
-  at_value : (index : ℕ) → InBody chunks (kinds.Param index) [] (Plain 12)
-  at_length : InBody chunks kinds.Toolstack [] (Length (2 ^ 27))
-  at_entries : (len : List ℕ) → IsFaultless (Length (2 ^ 27)) len → InBody chunks kinds.Toolstack len (Toolstack chunks (le32 len 0))
+pub data InChunkBody (chunks : List LegacyChunk) : ChunkKind → List ℕ → LegacyPart → Type 0 where
+  at_words : (n : ℕ) → InChunkBody chunks (kinds.Batch n) [] (Words n)
+  at_page : (n : ℕ) (ws pages first : List ℕ) (word : ℕ) (others : List ℕ) (es : List FrameEntry) → IsFaultlessLegacyPart (Words n) ws → page_data_words (words n ws) ≡ first ++ word ∷ others → AreEntries Hvm 0 first pages es
+      → InChunkBody chunks (kinds.Batch n) (ws ++ pages) (Page word)
+  at_max : InChunkBody chunks kinds.VcpuMap [] VcpuMax
+  at_bits : (max : List ℕ) → IsFaultlessLegacyPart VcpuMax max → InChunkBody chunks kinds.VcpuMap max (Plain (8 * (le32 max 0 / 64 + 1)))
+  at_clock : InChunkBody chunks kinds.Tsc [] (Plain 20)
+  at_value : (index : ℕ) → InChunkBody chunks (kinds.Param index) [] (Plain 12)
+  at_length : InChunkBody chunks kinds.Toolstack [] (Length (2 ^ 27))
+  at_entries : (len : List ℕ) → IsFaultlessLegacyPart (Length (2 ^ 27)) len → InChunkBody chunks kinds.Toolstack len (Toolstack chunks (le32 len 0))
 
 -- the first parts of a chunk behind these chunks
 pub data InChunk (chunks : List LegacyChunk) : List ℕ → LegacyPart → Type 0 where
   at_type : InChunk chunks [] (ChunkType chunks)
-  in_body : (number before : List ℕ) (kind : ChunkKind) (part : LegacyPart) → IsFaultless (ChunkType chunks) number → IsNumberOf kind (le32 number 0) → InBody chunks kind before part → InChunk chunks (number ++ before) part
+  in_body : (number before : List ℕ) (kind : ChunkKind) (part : LegacyPart) → IsFaultlessLegacyPart (ChunkType chunks) number → IsNumberOf kind (le32 number 0) → InChunkBody chunks kind before part → InChunk chunks (number ++ before) part
 
 -- the first parts of a tail: three frame numbers, and a length and as many bytes of a context
 pub data InTail : List ℕ → LegacyPart → Type 0 where
   at_frames : InTail [] (Plain 24)
   at_length : (frames : List ℕ) → length frames ≡ 24 → InTail frames (Length (2 ^ 27))
-  at_context : (frames len : List ℕ) → length frames ≡ 24 → IsFaultless (Length (2 ^ 27)) len → InTail (frames ++ len) (Context (le32 len 0))
+  at_context : (frames len : List ℕ) → length frames ≡ 24 → IsFaultlessLegacyPart (Length (2 ^ 27)) len → InTail (frames ++ len) (Context (le32 len 0))
 
 -- the first parts of a device model's record: its signature, and a length and as many bytes
 pub data InDevice : List ℕ → LegacyPart → Type 0 where
   at_signature : InDevice [] Signature
   at_length : InDevice signature (Length (2 ^ 27 - 8))
-  at_content : (len : List ℕ) → IsFaultless (Length (2 ^ 27 - 8)) len → InDevice (signature ++ len) (Plain (le32 len 0))
+  at_content : (len : List ℕ) → IsFaultlessLegacyPart (Length (2 ^ 27 - 8)) len → InDevice (signature ++ len) (Plain (le32 len 0))
 
 -- a faultless front of a legacy stream, and the place and the part that come next
-pub data Behind : List ℕ → LegacyPlace → LegacyPart → Type 0 where
-  at_start : Behind [] places.Start Start
-  in_chunk : (start bytes before : List ℕ) (chunks : List LegacyChunk) (part : LegacyPart) → IsStart start → Spells bytes chunks → is_ended chunks ≡ false → InChunk chunks before part
-      → Behind (start ++ (bytes ++ before)) (places.Chunk (length chunks)) part
-  in_tail : (start bytes before : List ℕ) (chunks : List LegacyChunk) (part : LegacyPart) → IsStart start → Spells bytes chunks → is_ended chunks ≡ true → InTail before part → Behind (start ++ (bytes ++ before)) places.Tail part
-  in_device : (start bytes tail before : List ℕ) (chunks : List LegacyChunk) (t : LegacyTail) (part : LegacyPart) → IsStart start → Spells bytes chunks → is_ended chunks ≡ true → IsTail tail t → InDevice before part
-      → Behind (start ++ (bytes ++ (tail ++ before))) places.Device part
+pub data BehindLegacy : List ℕ → LegacyPlace → LegacyPart → Type 0 where
+  at_start : BehindLegacy [] places.Start Start
+  in_chunk : (start bytes before : List ℕ) (chunks : List LegacyChunk) (part : LegacyPart) → IsStart start → Spells FollowsLegacy bytes chunks → is_legacy_ended chunks ≡ false → InChunk chunks before part
+      → BehindLegacy (start ++ (bytes ++ before)) (places.Chunk (length chunks)) part
+  in_tail : (start bytes before : List ℕ) (chunks : List LegacyChunk) (part : LegacyPart) → IsStart start → Spells FollowsLegacy bytes chunks → is_legacy_ended chunks ≡ true → InTail before part → BehindLegacy (start ++ (bytes ++ before)) places.Tail part
+  in_device : (start bytes tail before : List ℕ) (chunks : List LegacyChunk) (t : LegacyTail) (part : LegacyPart) → IsStart start → Spells FollowsLegacy bytes chunks → is_legacy_ended chunks ≡ true → IsTail tail t → InDevice before part
+      → BehindLegacy (start ++ (bytes ++ (tail ++ before))) places.Device part
 
 -- the input is refused at this place, for this cause, and rest follows the faulty part; a device model's record has to
 -- follow only where any byte does
@@ -198,6 +190,6 @@ pub record RefusedLegacy (input : List ℕ) (place : LegacyPlace) (cause : Legac
   pub left : List ℕ
   pub part : LegacyPart
   pub whole : input ≡ front ++ left
-  pub behind : Behind front place part
+  pub behind : BehindLegacy front place part
   pub begun : part ≡ Signature → 0 < length left
-  pub fails : Fails part left cause rest
+  pub fails : LegacyPartFails part left cause rest

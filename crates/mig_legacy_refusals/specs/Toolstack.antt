@@ -14,10 +14,10 @@ pub data EntryWrong (bytes : List ℕ) : ℕ → Type 0 where
   short_padding : (head padding : List ℕ) (e : Physmap) → bytes ≡ head ++ (name_bytes e.name ++ padding) → IsPhysmapHead head e → IsName e.name → length padding < 4 → EntryWrong bytes (28 + length (name_bytes e.name))
 
 -- a version of 1, a number of entries, and whole entries up to this offset; so many are to follow, and these bytes are left
-pub data EntriesTo (body : List ℕ) : ℕ → ℕ → List ℕ → Type 0 where
-  at_first : (head left : List ℕ) → body ≡ head ++ left → length head ≡ 8 → le32 head 0 ≡ 1 → EntriesTo body 8 (le32 head 4) left
-  one_more : (offset n : ℕ) (head padding left : List ℕ) (e : Physmap) → EntriesTo body offset (n + 1) (head ++ (name_bytes e.name ++ (padding ++ left))) → IsPhysmapHead head e → IsName e.name → length padding ≡ 4
-      → EntriesTo body (offset + (32 + length (name_bytes e.name))) n left
+pub data PhysmapsTo (body : List ℕ) : ℕ → ℕ → List ℕ → Type 0 where
+  at_first : (head left : List ℕ) → body ≡ head ++ left → length head ≡ 8 → le32 head 0 ≡ 1 → PhysmapsTo body 8 (le32 head 4) left
+  one_more : (offset n : ℕ) (head padding left : List ℕ) (e : Physmap) → PhysmapsTo body offset (n + 1) (head ++ (name_bytes e.name ++ (padding ++ left))) → IsPhysmapHead head e → IsName e.name → length padding ≡ 4
+      → PhysmapsTo body (offset + (32 + length (name_bytes e.name))) n left
 
 -- the first field that is wrong stands at this offset: the version, the number of entries, a field of an entry, or what
 -- follows the last one
@@ -25,5 +25,5 @@ pub data FieldWrong (body : List ℕ) : ℕ → Type 0 where
   short_version : length body < 4 → FieldWrong body 0
   other_version : (le32 body 0 ≡ 1 → ⊥) → FieldWrong body 0
   short_count : 4 ≤ length body → le32 body 0 ≡ 1 → length body < 8 → FieldWrong body 4
-  in_entry : (offset n field : ℕ) (left : List ℕ) → EntriesTo body offset (n + 1) left → EntryWrong left field → FieldWrong body (offset + field)
-  more_bytes : (offset : ℕ) (left : List ℕ) → EntriesTo body offset 0 left → 0 < length left → FieldWrong body offset
+  in_entry : (offset n field : ℕ) (left : List ℕ) → PhysmapsTo body offset (n + 1) left → EntryWrong left field → FieldWrong body (offset + field)
+  more_bytes : (offset : ℕ) (left : List ℕ) → PhysmapsTo body offset 0 left → 0 < length left → FieldWrong body offset

@@ -3,7 +3,7 @@ ghost use Rattle.mig_headers.specs.declared.legacy_fault.LegacyCause.{LegacyCaus
 ghost use Rattle.mig_headers.specs.declared.legacy_fault.LegacyPlace.{LegacyPlace};
 ghost use Rattle.mig_guest.specs.Guests.{GuestOf};
 ghost use Rattle.mig_legacy.specs.Spelled.{AcceptedLegacy};
-ghost use Rattle.mig_legacy.specs.Stream.{IsRefused};
+ghost use Rattle.mig_legacy.specs.Stream.{IsLegacyRefused};
 ghost use Rattle.mig_legacy_refusals.specs.Refusal.{RefusedLegacy};
 
 /// Judging refuses an input for a cause at a place exactly where a faultless front of a legacy stream is followed by a
@@ -11,7 +11,7 @@ ghost use Rattle.mig_legacy_refusals.specs.Refusal.{RefusedLegacy};
 /// number, and of one cause its least place. What is left is what follows that part.
 pub fn refusals_agree()
     ensures { (input : List ℕ) (place : LegacyPlace) (cause : LegacyCause) (rest : List ℕ) →
-        IsRefused input place cause rest ↔ RefusedLegacy input place cause rest }
+        IsLegacyRefused input place cause rest ↔ RefusedLegacy input place cause rest }
 {}
 
 /// An input has at most one refusal.

@@ -1,17 +1,20 @@
 -- What stands among records once one more is there.
-use Rattle.std.proofs.Common.{◌≡◌, false, List, [], ◌∷◌, ◌++◌, nat_eq, Option, Some, None, refl, ap, ◌∙◌, arith}
-use Rattle.std.specs.Prelude.{◌||◌}
-use Rattle.std.specs.Option.{option_or}
-use Rattle.std.proofs.lemmas.Grind.{common_steps}
+use Rattle.mig_libxl.proofs.Common.{◌≡◌, false, List, [], ◌∷◌, ◌++◌, nat_eq, Option, Some, None, ap, ◌∙◌, arith, ◌||◌, option_or, common_steps, ImageOf, LibxlRecord, is_libxl_ended, image_in, image_among, fold-append, EmulatorsOf, no_emulators, put_libxl_content}
 use Rattle.std.proofs.lemmas.List.Folds.{list_any-append}
-use Rattle.mig_restore.specs.Stream.{ImageOf}
-use Rattle.mig_libxl.specs.Content.{LibxlRecord, is_ended, has_emulator, image_in, image_among}
+use Rattle.mig_libxl.specs.Content.{has_emulator}
+use Rattle.mig_libxl.specs.Emulators.{emulators_of}
+use Rattle.mig_libxl.proofs.EmulatorParts.{or_none}
 
-pub ended_more : (records : List LibxlRecord) (r : LibxlRecord) → is_ended records ≡ false → is_ended (records ++ r ∷ []) ≡ nat_eq r.type 0
+pub ended_more : (records : List LibxlRecord) (r : LibxlRecord) → is_libxl_ended records ≡ false → is_libxl_ended (records ++ r ∷ []) ≡ nat_eq r.type 0
 ended_more records r going = list_any-append (λ (x : LibxlRecord). nat_eq x.type 0) records (r ∷ []) ∙ ap (λ b. b || (nat_eq r.type 0 || false)) going ∙ grind (arith, common_steps)
 
 pub emulator_more : (records : List LibxlRecord) (r : LibxlRecord) → has_emulator (records ++ r ∷ []) ≡ (has_emulator records || (nat_eq r.type 2 || nat_eq r.type 3))
 emulator_more records r = list_any-append (λ (x : LibxlRecord). nat_eq x.type 2 || nat_eq x.type 3) records (r ∷ []) ∙ grind (arith, common_steps)
+
+-- what the records say of emulators
+pub emulators_more : (records : List LibxlRecord) (r : LibxlRecord) → emulators_of (records ++ r ∷ []) ≡ put_libxl_content (emulators_of records) r.content
+unfolding emulators_of
+emulators_more records r = fold-append (λ (e : EmulatorsOf) (x : LibxlRecord). put_libxl_content e x.content) no_emulators records (r ∷ [])
 
 kept : (o found all : Option ImageOf) (image : ImageOf) → (found ≡ Some image → all ≡ Some image) → option_or o found ≡ Some image → option_or o all ≡ Some image
 kept (Some i) found all image go is = is
@@ -21,10 +24,6 @@ kept None found all image go is = go is
 pub among_more : (records more : List LibxlRecord) (image : ImageOf) → image_among records ≡ Some image → image_among (records ++ more) ≡ Some image
 among_more [] more image is = let no : ◌≡◌ {A = Option ImageOf} None (Some image) = is in cc
 among_more (r ∷ rs) more image is = kept (image_in r.content) (image_among rs) (image_among (rs ++ more)) image (among_more rs more image) is
-
-or_none : (o : Option ImageOf) → option_or o None ≡ o
-or_none None = refl
-or_none (Some i) = refl
 
 added : (o found all last : Option ImageOf) → (found ≡ None → all ≡ last) → option_or o found ≡ None → option_or o all ≡ last
 added None found all last go is = go is

@@ -1,47 +1,37 @@
 -- The canonical stream of a guest of either form is accepted with this guest, and is that of no other.
-use Rattle.std.proofs.Common.{◌≡◌, ◌↔◌, ℕ, ◌*◌, ◌≤◌, Bool, true, false, List, [], ◌∷◌, ◌++◌, length, map, Option, Some, None, refl, sym, ap, subst, ◌∙◌, arith, append_assoc, append-nil, length-append}
-use Rattle.std.specs.List.{All, flat_map, range_with_len}
+use Rattle.mig_libxl.proofs.Common.{◌≡◌, ◌↔◌, ℕ, ◌*◌, ◌≤◌, Bool, true, false, List, [], ◌∷◌, ◌++◌, length, map, Option, Some, None, refl, sym, ap, subst, ◌∙◌, arith, append_assoc, append-nil, length-append, All, flat_map, range_with_len, Pv, GuestOf, part_cmp, Part, PartMap, PartKey, IsImage, ImageOf, IsBare, bare_guest, has_emulators, is_of_converter, part_with, parts_of_emulator, text_of_emulators, LibxlRecord, Image, EmulatorsOf, no_emulators, with_emulators, FollowsLibxl, no_part, one_more, Bare, Wrapped}
 use Rattle.std.specs.FinMap as maps
-use Rattle.std.proofs.lemmas.List.Elements.{All-nil, All-cons}
 use Rattle.std.proofs.lemmas.List.FromFn.{length-range_with_len}
 use Rattle.mig_headers.specs.Headers.{libxl_header_of}
-use Rattle.mig_headers.specs.declared.kind.Kind.TheVariants.{Pv}
 use Rattle.mig_headers.proofs.LibxlHeaders.{libxl_is_read_back}
-use Rattle.mig_guest.specs.Guests.{GuestOf}
-use Rattle.mig_guest.specs.Order.{part_cmp}
-use Rattle.mig_guest.specs.Parts.{Part, PartMap}
-use Rattle.mig_guest.specs.declared.part_key.PartKey.{PartKey}
 use Rattle.mig_records.specs.Records.{spelled}
 use Rattle.mig_canon.specs.Canon.{canon}
 use Rattle.mig_restore.proofs.Meaning.{mean_kind}
 use Rattle.mig_restore.specs.Mean.{mean}
-use Rattle.mig_restore.specs.Spelled.{IsImage}
 use Rattle.mig_restore.specs.Spelled.{Accepted as ImageAccepted}
-use Rattle.mig_restore.specs.Stream.{ImageOf, image_of}
-use Rattle.mig_libxl.specs.Bare.{IsBare, IsCarried}
-use Rattle.mig_libxl.specs.Canon.{bare_guest, canon_any, emulators_in_order, has_emulators, is_of_converter, part_with, parts_of_emulator, parts_of_id, text_of_emulators}
-use Rattle.mig_libxl.specs.Content.{LibxlRecord}
-use Rattle.mig_libxl.specs.Content.Content.{Image, Nothing}
-use Rattle.mig_libxl.specs.Emulators.{EmulatorsOf, emulators_of, no_emulators, with_emulators}
-use Rattle.mig_libxl.specs.Spelled.{Accepted, Follows}
-use Rattle.mig_libxl.specs.Spelled.HasContent.{ends}
+use Rattle.mig_restore.specs.Stream.{image_of}
+use Rattle.mig_libxl.specs.Bare.{IsCarried}
+use Rattle.mig_libxl.specs.Canon.{canon_any, emulators_in_order, parts_of_id}
+use Rattle.mig_libxl.specs.Content.LibxlContent.{Nothing}
+use Rattle.mig_libxl.specs.Emulators.{emulators_of}
+use Rattle.mig_libxl.specs.Spelled.{AcceptedStream}
+use Rattle.mig_libxl.specs.Spelled.HasLibxlContent.{ends}
 use Rattle.mig_libxl.specs.Spelled.IsLibxlRecord.{image as an_image, body as a_body}
-use Rattle.mig_libxl.specs.Spelled.Spells.{none as no_record, one_more as a_record}
-use Rattle.mig_libxl.specs.Stream.StreamOf.{Bare, Wrapped}
-use Rattle.mig_libxl.proofs.Among.{among_more, ended_more}
+use Rattle.mig_libxl.proofs.Among.{emulators_more, among_more, ended_more}
 use Rattle.mig_libxl.proofs.Canon.{bare_plain, bare_whole, canon_any_bare, canon_any_wrapped, canon_bare, plain_is, pv_plain}
 use Rattle.mig_libxl.proofs.Canons.{canon_is_accepted as image_is_accepted}
 use Rattle.mig_libxl.proofs.EmulatorGuests.{none_set}
 use Rattle.mig_libxl.proofs.EmulatorParts.{in_order_differ, in_order_holds}
-use Rattle.mig_libxl.proofs.EmulatorRecords.{is_record, record_of_part}
+use Rattle.mig_libxl.proofs.EmulatorRecords.{record_of_part}
+use Rattle.mig_libxl.proofs.CanonParts.{is_record}
 use Rattle.mig_libxl.proofs.EmulatorMaps.{said_of, said_is, guest_again}
 use Rattle.mig_libxl.proofs.EmulatorTexts.{wrapped_is}
 use Rattle.mig_libxl.proofs.Laws.{one_front}
-use Rattle.mig_libxl.proofs.WrappedCanons.{Here, here_all, emulators_more}
+use Rattle.mig_libxl.proofs.WrappedCanons.{Here, here_all}
 
 -- ---- a bare image
 
-bare_accepted : (g : GuestOf) (rest : List ℕ) → IsBare g → Accepted (canon g ++ rest) g rest
+bare_accepted : (g : GuestOf) (rest : List ℕ) → IsBare g → AcceptedStream (canon g ++ rest) g rest
 bare_accepted g rest bare =
     let a = image_is_accepted g rest bare in
     record { stream = Bare (image_of a.opening a.records); image = image_of a.opening a.records; spelled = a.image; image_is = refl; means = a.means ∙ sym (none_set (mean a.opening.kind a.records)) }
@@ -73,10 +63,6 @@ unfolding emulators_in_order
 few_emulators parts = let few = few_flat (parts_of_id parts) 512 (range_with_len 0 3) (few_of_id parts) in omega (arith, few, length-range_with_len 0 3)
 
 -- ---- a guest that has emulators
-
-none_there : (qs : List Part) → All (λ (p : Part). maps.get no_emulators.stores p.0 ≡ None) qs
-none_there [] = All-nil (λ (p : Part). maps.get no_emulators.stores p.0 ≡ None)
-none_there (q ∷ qs) = All-cons (λ (p : Part). maps.get no_emulators.stores p.0 ≡ None) q qs (maps.get-empty part_cmp q.0) (none_there qs)
 
 -- an image says nothing of emulators
 behind_image : (i : ImageOf) (rs : List LibxlRecord) → emulators_of (record { type = 1; content = Image i } ∷ rs) ≡ emulators_of rs
@@ -116,7 +102,7 @@ module _ (g : GuestOf) (carried : IsCarried g) (some : has_emulators g.parts ≡
   image_text : IsImage (canon g) im.opening im.records []
   image_text = subst (λ l. IsImage l im.opening im.records []) (append-nil (canon bare) ∙ sym (canon_bare g)) inner.image
 
-  first_follows : Follows [] first text
+  first_follows : FollowsLibxl [] first text
   first_follows = record {
     is = an_image (spelled 1 []) (canon g) im (is_record 1 [] (omega arith) (omega arith)) image_text;
     fits = tt;
@@ -132,10 +118,10 @@ module _ (g : GuestOf) (carried : IsCarried g) (some : has_emulators g.parts ≡
 
   at_first : Here g carried.whole.formed im (first ∷ []) text ps
   at_first = record {
-    spelled = a_record [] [] first text no_record first_follows;
+    spelled = one_more [] [] first text no_part first_follows;
     going = refl;
     image = refl;
-    absent = subst (λ (e : EmulatorsOf). All (λ (p : Part). maps.get e.stores p.0 ≡ None) ps) (sym nothing_yet) (none_there ps);
+    absent = subst (λ (e : EmulatorsOf). All (λ (p : Part). maps.get e.stores p.0 ≡ None) ps) (sym nothing_yet) (λ k d l. maps.get-empty part_cmp _);
     few = let few = few_emulators g.parts in omega (arith, few);
   }
 
@@ -155,7 +141,7 @@ module _ (g : GuestOf) (carried : IsCarried g) (some : has_emulators g.parts ≡
       apart : true ≡ false → ⊥
       apart e = cc
 
-  last_follows : Follows (first ∷ map record_of_part ps) last (spelled 0 [])
+  last_follows : FollowsLibxl (first ∷ map record_of_part ps) last (spelled 0 [])
   last_follows = record {
     is = a_body 0 [] (spelled 0 []) Nothing (is_record 0 [] (omega arith) (omega arith)) (omega arith) ends;
     fits = tt;
@@ -171,7 +157,7 @@ module _ (g : GuestOf) (carried : IsCarried g) (some : has_emulators g.parts ≡
   means : g ≡ with_emulators (mean im.opening.kind im.records) (emulators_of records)
   means = sym (guest_again g carried.whole.formed) ∙ (λ i. with_emulators (inner.means i) (said_of g)) ∙ ap (with_emulators (mean im.opening.kind im.records)) (sym said)
 
-  pub wrapped_accepted : (rest : List ℕ) → Accepted (canon_any g ++ rest) g rest
+  pub wrapped_accepted : (rest : List ℕ) → AcceptedStream (canon_any g ++ rest) g rest
   wrapped_accepted rest = record {
     stream = Wrapped records;
     image = im;
@@ -181,7 +167,7 @@ module _ (g : GuestOf) (carried : IsCarried g) (some : has_emulators g.parts ≡
       bytes = (text ++ text_of_emulators ps) ++ spelled 0 [];
       whole = ap (λ l. l ++ rest) (canon_any_wrapped g some ∙ wrapped_is g) ∙ regroup (libxl_header_of (is_of_converter g.parts)) (spelled 1 []) (canon g) (text_of_emulators ps) (spelled 0 []) rest;
       is_header = (libxl_is_read_back (is_of_converter g.parts)).spelled;
-      spelled = a_record (text ++ text_of_emulators ps) (first ∷ map record_of_part ps) last (spelled 0 []) all_parts.spelled last_follows;
+      spelled = one_more (text ++ text_of_emulators ps) (first ∷ map record_of_part ps) last (spelled 0 []) all_parts.spelled last_follows;
       ended = ended_more (first ∷ map record_of_part ps) last all_parts.going;
     };
     image_is = among_more (first ∷ map record_of_part ps) (last ∷ []) im all_parts.image;
@@ -190,21 +176,21 @@ module _ (g : GuestOf) (carried : IsCarried g) (some : has_emulators g.parts ≡
 
 -- ---- of either form
 
-pub canon_is_accepted : (g : GuestOf) (rest : List ℕ) → IsCarried g → Accepted (canon_any g ++ rest) g rest
+pub canon_is_accepted : (g : GuestOf) (rest : List ℕ) → IsCarried g → AcceptedStream (canon_any g ++ rest) g rest
 canon_is_accepted g rest carried = by (has_emulators g.parts) refl
   where
-    by : (b : Bool) → has_emulators g.parts ≡ b → Accepted (canon_any g ++ rest) g rest
+    by : (b : Bool) → has_emulators g.parts ≡ b → AcceptedStream (canon_any g ++ rest) g rest
     by true some = wrapped_accepted g carried some rest
-    by false none = subst (λ l. Accepted (l ++ rest) g rest) (sym (canon_any_bare g none)) (bare_accepted g rest (record { whole = carried.whole; blank = carried.blank; plain = (plain_is g.parts).0 none }))
+    by false none = subst (λ l. AcceptedStream (l ++ rest) g rest) (sym (canon_any_bare g none)) (bare_accepted g rest (record { whole = carried.whole; blank = carried.blank; plain = (plain_is g.parts).0 none }))
 
 pub canon_is_one_to_one : (g h : GuestOf) → IsCarried g → IsCarried h → (canon_any g ≡ canon_any h) ↔ (g ≡ h)
 canon_is_one_to_one g h carried other = (
-  (λ e. (one_front (canon_any g ++ []) g h [] [] (canon_is_accepted g [] carried) (subst (λ l. Accepted (l ++ []) h []) (sym e) (canon_is_accepted h [] other))).0),
+  (λ e. (one_front (canon_any g ++ []) g h [] [] (canon_is_accepted g [] carried) (subst (λ l. AcceptedStream (l ++ []) h []) (sym e) (canon_is_accepted h [] other))).0),
   (λ e. ap canon_any e),
 )
 
-pub twice_is_once : (guest other : GuestOf) (rest : List ℕ) → IsCarried guest → Accepted (canon_any guest) other rest → (canon_any other ≡ canon_any guest) × (rest ≡ [])
+pub twice_is_once : (guest other : GuestOf) (rest : List ℕ) → IsCarried guest → AcceptedStream (canon_any guest) other rest → (canon_any other ≡ canon_any guest) × (rest ≡ [])
 twice_is_once guest other rest carried again =
-    let once : Accepted (canon_any guest) guest [] = subst (λ l. Accepted l guest []) (append-nil (canon_any guest)) (canon_is_accepted guest [] carried) in
+    let once : AcceptedStream (canon_any guest) guest [] = subst (λ l. AcceptedStream l guest []) (append-nil (canon_any guest)) (canon_is_accepted guest [] carried) in
     let same = one_front (canon_any guest) other guest rest [] again once in
     (ap canon_any same.0, same.1)

@@ -1,28 +1,19 @@
 -- What the reader keeps is formed, whatever records come.
-use Rattle.std.proofs.Common.{◌≡◌, ℕ, ◌+◌, ◌≤◌, ◌<◌, ◌^◌, true, List, [], ◌∷◌, ◌++◌, length, drop, Option, Some, None, refl, sym, ap, subst, arith, length-drop}
-use Rattle.std.specs.Prelude.{unwrap_or}
+use Rattle.mig_libxl.proofs.Common.{◌≡◌, ℕ, ◌+◌, ◌≤◌, ◌<◌, ◌^◌, true, List, [], ◌∷◌, ◌++◌, length, drop, Option, Some, None, refl, sym, ap, subst, arith, unwrap_or, AllByRecursion, flat_map, nat_cmp, Equal, All-drop, AreBytes, Pair, PartKey, part_total, part_exact, pairs_fault, PairMap, text_of_map, put_pairs, pairs_are_read, some_bytes_are_some_pairs, EmulatorsOf, store_at, add_pairs, AreEmulators, Seen}
+use Rattle.std.proofs.Common.{length-drop}
 use Rattle.std.specs.FinMap as maps
 use Rattle.std.specs.FinMap.{entries-insert}
 use Rattle.std.specs.FinMap.Entries.{put, by_order}
-use Rattle.std.specs.List.{AllByRecursion, flat_map}
-use Rattle.std.specs.Ordering.{nat_cmp}
 use Rattle.std.specs.Cmp.Lexicographic.{slice_cmp, nat_list_cmp_total}
-use Rattle.std.specs.declared.cmp.Ordering.TheVariants.{Less, Equal, Greater}
+use Rattle.std.specs.declared.cmp.Ordering.TheVariants.{Less, Greater}
 use Rattle.std.proofs.lemmas.Bool.{false≢true}
-use Rattle.std.proofs.lemmas.List.Elements.{All-from_recursion, recursion_from_All, All-drop}
-use Rattle.mig_bytes.specs.Bytes.{AreBytes}
+use Rattle.std.proofs.lemmas.List.Elements.{All-from_recursion, recursion_from_All}
 use Rattle.mig_bytes.proofs.ByteLists.{Bytes, bytes_front, bytes_back}
-use Rattle.mig_headers.specs.Pairs.{Pair, text_of_pair}
-use Rattle.mig_guest.specs.declared.part_key.PartKey.{PartKey}
+use Rattle.mig_headers.specs.Pairs.{text_of_pair}
 use Rattle.mig_guest.proofs.Found.{insert_holds}
-use Rattle.mig_guest.proofs.PartOrder.{part_total, part_exact}
-use Rattle.mig_policy.specs.PairFaults.{pairs_fault}
-use Rattle.mig_policy.specs.PairMaps.{PairMap, IsOfPairs, text_of_entry, text_of_map, pairs_in, put_pairs}
-use Rattle.mig_policy.proofs.KeyLaws.{pairs_are_read}
-use Rattle.mig_policy.proofs.PairMapLaws.{maps_are_of_pairs, some_bytes_are_some_pairs}
-use Rattle.mig_libxl.specs.Emulators.{EmulatorsOf, store_at, add_pairs}
-use Rattle.mig_libxl.specs.Seen.{AreEmulators, IsEmulatorKey, IsStore, IsBegun}
-use Rattle.mig_libxl.specs.declared.read.Seen.{Seen}
+use Rattle.mig_policy.specs.PairMaps.{IsOfPairs, text_of_entry, pairs_in}
+use Rattle.mig_policy.proofs.PairMapLaws.{maps_are_of_pairs}
+use Rattle.mig_libxl.specs.Seen.{IsEmulatorKey, IsStore, IsLibxlBegun}
 
 -- ---- the text of a map is of bytes
 
@@ -144,16 +135,16 @@ module _ (e new : EmulatorsOf) (slice : List ℕ) (id index : ℕ) (before : Are
 
 -- ---- with one record more
 
-module _ (seen : Seen) (new : EmulatorsOf) (slice : List ℕ) (id index : ℕ) (begun : IsBegun seen) (known : id < 3) (small : index < 256) where
-  begun_with : AreEmulators new → IsBegun (record { emulators = new; image = seen.image; emulated = true; records = seen.records })
+module _ (seen : Seen) (new : EmulatorsOf) (slice : List ℕ) (id index : ℕ) (begun : IsLibxlBegun seen) (known : id < 3) (small : index < 256) where
+  begun_with : AreEmulators new → IsLibxlBegun (record { emulators = new; image = seen.image; emulated = true; records = seen.records })
   begun_with are = record { emulators = are; none = λ no. absurd (false≢true (sym no)); guest = begun.guest }
 
   pub context_begun : (body : List ℕ) → new ≡ record seen.emulators { contexts = maps.insert seen.emulators.contexts (record { code = 259; key1 = id; key2 = index }) slice } → slice ≡ drop 8 body → 8 ≤ length body → length body ≤ 2 ^ 27 → AreBytes body
-      → IsBegun (record { emulators = new; image = seen.image; emulated = true; records = seen.records })
+      → IsLibxlBegun (record { emulators = new; image = seen.image; emulated = true; records = seen.records })
   context_begun body is cut long short are =
       begun_with (context_kept seen.emulators new slice id index begun.emulators known small is (omega (arith, ap length cut, length-drop 8 body, long, short)) (subst AreBytes (sym cut) (All-drop (λ b. b < 256) 8 body are)))
 
   pub pairs_begun : new ≡ add_pairs seen.emulators (record { code = 258; key1 = id; key2 = index }) (pairs_in slice) → pairs_fault slice ≡ None
       → length (text_of_map (put_pairs (store_at seen.emulators.stores (record { code = 258; key1 = id; key2 = index })) (pairs_in slice))) ≤ 2 ^ 24 → AreBytes slice
-      → IsBegun (record { emulators = new; image = seen.image; emulated = true; records = seen.records })
+      → IsLibxlBegun (record { emulators = new; image = seen.image; emulated = true; records = seen.records })
   pairs_begun is none fits are = begun_with (pairs_kept seen.emulators new slice id index begun.emulators known small is none fits are)

@@ -1,35 +1,18 @@
 -- The image in a canonical stream: it says the guest without the parts of its emulators.
-use Rattle.std.proofs.Common.{◌≡◌, ℕ, Bool, true, false, cond, not, List, [], ◌∷◌, ◌++◌, map, Option, Some, None, inl, inr, refl, sym, ap, subst, ◌∙◌}
-use Rattle.std.specs.Prelude.{◌==◌, ◌↔◌, ◌≤◌, length, is_none, if◌then◌else◌}
-use Rattle.std.specs.List.{flat_map, list_any, range_with_len}
-use Rattle.std.specs.Ordering.{eq_by_cmp}
+use Rattle.mig_libxl.proofs.Common.{◌≡◌, ℕ, Bool, true, false, cond, not, List, [], ◌∷◌, ◌++◌, map, Option, Some, None, refl, sym, ap, subst, ◌∙◌, ◌↔◌, ◌≤◌, length, is_none, if◌then◌else◌, flat_map, list_any, range_with_len, eq_by_cmp, find, Kind, Pv, Hvm, IsFormed, HasNoEmulators, is_emulator_code, is_policy, GuestOf, part_cmp, row_of, code_number, p2m_key, Part, PartMap, parts_of, PartCode, VcpuBasic, VcpuExtended, VcpuXsave, Tsc, VcpuMsrs, EmulatorPairs, PartKey, all_found, tied, part_total, part_exact, IsWhole, bodies_of, frame_bodies, frames_in, batches, headers, info_records, key_of, last_records, p2m_record, p2m_records, part_record, records_of, records_of_vcpu, static_bodies, text_of, vcpu_record, vcpus_below, has_emulators, bare_guest, IsPlain, arith}
 use Rattle.std.specs.FinMap as maps
-use Rattle.std.specs.FinMap.{find}
-use Rattle.std.proofs.lemmas.Bool.{eqb-true, or_cases, or_parts}
+use Rattle.std.proofs.lemmas.Bool.{or_parts}
 use Rattle.std.proofs.lemmas.List.Folds.{list_any_none}
 use Rattle.mig_headers.specs.declared.fault.Cause.TheVariants.{Missing}
-use Rattle.mig_headers.specs.declared.kind.Kind.{Kind}
-use Rattle.mig_headers.specs.declared.kind.Kind.TheVariants.{Pv, Hvm}
-use Rattle.mig_guest.specs.Formed.{IsFormed, HasNoEmulators, is_emulator_code, is_policy}
-use Rattle.mig_guest.specs.Guests.{GuestOf}
-use Rattle.mig_guest.specs.Order.{part_cmp}
-use Rattle.mig_guest.specs.PartCodes.{row_of, code_number}
-use Rattle.mig_guest.specs.PartKeys.{context_key, p2m_key}
-use Rattle.mig_guest.specs.Parts.{Part, PartMap, parts_of}
-use Rattle.mig_guest.specs.declared.part_code.PartCode.{PartCode}
-use Rattle.mig_guest.specs.declared.part_code.PartCode.TheVariants.{VcpuBasic, VcpuExtended, VcpuXsave, SharedInfo, Tsc, HvmContext, HvmParam, VcpuMsrs, CpuidLeaf, Msr, EmulatorPairs}
-use Rattle.mig_guest.specs.declared.part_key.PartKey.{PartKey}
+use Rattle.mig_guest.specs.PartKeys.{context_key}
+use Rattle.mig_guest.specs.declared.part_code.PartCode.TheVariants.{SharedInfo, HvmContext, HvmParam, CpuidLeaf, Msr}
 use Rattle.mig_guest.proofs.Counts.{same_parts}
-use Rattle.mig_guest.proofs.Found.{all_found}
-use Rattle.mig_guest.proofs.KeyedMaps.{tied}
-use Rattle.mig_guest.proofs.PartOrder.{part_total, part_exact}
 use Rattle.mig_canon.proofs.Common.{bodies_by_shape, shape_of}
 use Rattle.mig_pvtables.specs.Blank.{blank, blank_of, IsOfBytes}
-use Rattle.mig_pvtables.specs.Faults.{fault_of_guest, faults_for, first_of, too_many}
-use Rattle.mig_pvtables.specs.Whole.{IsWhole}
-use Rattle.mig_canon.specs.Canon.{all_vcpus, bodies_of, canon, frame_bodies, frames_in, batches, headers, info_records, key_of, last_records, p2m_record, p2m_records, part_record, records_of, records_of_vcpu, static_bodies, text_of, vcpu_record, vcpus_below}
-use Rattle.mig_libxl.specs.Canon.{has_emulators, wrapped_canon, bare_guest, canon_any}
-use Rattle.mig_libxl.specs.Seen.{IsPlain}
+use Rattle.mig_pvtables.specs.Faults.{fault_of_guest, faults_for, first_cause, too_many}
+use Rattle.mig_canon.specs.Canon.{all_vcpus, canon}
+use Rattle.mig_libxl.specs.Canon.{wrapped_canon, canon_any}
+use Rattle.mig_libxl.proofs.CanonMaps.{nothing}
 
 -- ---- guests with and without emulators
 
@@ -60,9 +43,16 @@ plain_is parts = (
 
 -- ---- the parts that stay
 
-nothing : (b : Bool) (o : Option (List ℕ)) → o ≡ None → cond b o None ≡ o
-nothing true o is = refl
-nothing false o is = sym is
+-- no policy is an emulator's
+pub plain_policy : (code : ℕ) → is_policy code ≡ true → is_emulator_code code ≡ false
+plain_policy code is = grind (arith, is)
+
+-- with other parts an HVM guest has no fault where it has the same context
+pub hvm_faultless : (g : GuestOf) (parts : PartMap) → g.kind ≡ Hvm → maps.get parts context_key ≡ maps.get g.parts context_key → fault_of_guest g ≡ None → fault_of_guest (record g { parts = parts }) ≡ None
+hvm_faultless g parts hvm same faultless =
+    ap (λ k. first_cause (faults_for k (record g { parts = parts }))) hvm
+    ∙ ap (λ (o : Option (List ℕ)). first_cause ((if is_none o then Some (Missing 9) else None) ∷ too_many g.frames ∷ [])) same
+    ∙ sym (ap (λ k. first_cause (faults_for k g)) hvm) ∙ faultless
 
 module _ (g : GuestOf) where
   abbrev pub bare : GuestOf
@@ -151,9 +141,6 @@ module _ (g : GuestOf) where
 
   -- ---- the guest that it says is plain
 
-  plain_policy : (code : ℕ) → is_policy code ≡ true → is_emulator_code code ≡ false
-  plain_policy code is = elim (or_cases (code == 17) (code == 18) is) [ inl a ↦ ap is_emulator_code (eqb-true code 17 a) | inr b ↦ ap is_emulator_code (eqb-true code 18 b) ]
-
   bare_formed : IsFormed g → IsFormed bare
   bare_formed formed = record {
     top = formed.top;
@@ -162,16 +149,9 @@ module _ (g : GuestOf) where
     policies = λ code is. subst (λ (ps : List Part). length ps ≤ 65536) (sym (same_of_code code (plain_policy code is))) (formed.policies code is);
   }
 
-  module _ (hvm : g.kind ≡ Hvm) where
-    bare_faultless : fault_of_guest g ≡ None → fault_of_guest bare ≡ None
-    bare_faultless faultless =
-        ap (λ k. first_of (faults_for k bare)) hvm
-        ∙ ap (λ o. first_of ((if is_none o then Some (Missing 9) else None) ∷ too_many g.frames ∷ [])) (get_same context_key refl)
-        ∙ sym (ap (λ k. first_of (faults_for k g)) hvm) ∙ faultless
-
   pub bare_whole : (kind : Kind) → g.kind ≡ kind → IsWhole g → blank g ≡ g → IsWhole bare × (blank bare ≡ bare)
   bare_whole Pv pv whole blanked = let is = sym (bare_is (pv_plain whole.formed pv)) in (subst IsWhole is whole, subst (λ x. blank x ≡ x) is blanked)
-  bare_whole Hvm hvm whole blanked = (record { formed = bare_formed whole.formed; faultless = bare_faultless hvm whole.faultless }, ap (λ k. blank_of k bare) hvm)
+  bare_whole Hvm hvm whole blanked = (record { formed = bare_formed whole.formed; faultless = hvm_faultless g bare.parts hvm (get_same context_key refl) whole.faultless }, ap (λ k. blank_of k bare) hvm)
 
   -- it is whole, in blank form, of bytes, and has no emulators
   pub plain_bare : IsWhole g → blank g ≡ g → IsOfBytes g → IsPlain bare

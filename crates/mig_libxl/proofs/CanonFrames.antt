@@ -1,22 +1,20 @@
 -- The body of each batch of frames says these frames.
-use Rattle.mig_libxl.proofs.Common.{◌≡◌, ℕ, zero, suc, ◌+◌, ◌-◌, ◌*◌, ◌/◌, ◌%◌, ◌≤◌, ◌<◌, ◌^◌, min, List, [], ◌∷◌, ◌++◌, length, take, drop, map, replicate, Bool, true, false, nat_le, Option, Some, None, refl, sym, ap, subst, ◌∙◌, arith, length-append, drop-drop, unwrap_or, is_some, All, nat_lt, IsInside, meant_type, range_with_len, nat_cmp-IsAntisymmetric, little_bytes, little_number, Kind, Hvm, Pv, IsFrame, is_type_of, GuestOf, IsFormed, Frame, batch, batches, frame_word_in, page_in, words_of, pages_of, frames_in, Frames, IsPage, IsEntry, AreEntries, IsGoodWord, IsBatch}
-use Rattle.std.proofs.lemmas.Grind.{common_steps}
+use Rattle.mig_libxl.proofs.Common.{◌≡◌, ℕ, zero, suc, ◌+◌, ◌-◌, ◌*◌, ◌/◌, ◌%◌, ◌≤◌, ◌<◌, ◌^◌, min, List, [], ◌∷◌, ◌++◌, length, take, drop, map, replicate, Bool, true, false, nat_le, Option, Some, None, refl, sym, ap, subst, ◌∙◌, arith, length-append, drop-drop, unwrap_or, is_some, All, nat_lt, IsInside, meant_type, range_with_len, nat_cmp-IsAntisymmetric, little_bytes, little_number, Kind, Hvm, Pv, IsFrame, is_type_of, GuestOf, IsFormed, Frame, batch, batches, frame_word_in, page_in, words_of, pages_of, frames_in, Frames, IsPage, IsEntry, AreEntries, IsGoodWord, IsBatch, common_steps, All-nil, All-cons, All-head, All-tail, All-drop, all_of, all_found}
 use Rattle.std.proofs.lemmas.Bool.{or_from}
 use Rattle.std.proofs.lemmas.List.{length-take, length-drop, take_all}
-use Rattle.std.proofs.lemmas.List.Elements.{All-nil, All-cons, All-head, All-tail, All-take, All-drop}
+use Rattle.std.proofs.lemmas.List.Elements.{All-take}
 use Rattle.std.proofs.Math.Seq.{take-add}
 use Rattle.std.specs.Cmp.{nat_cmp_total}
 use Rattle.std.specs.FinMap as maps
 use Rattle.byteorder.specs.Numbers.{little_number-reads_back}
 use Rattle.mig_bytes.specs.Fields.{le32, le64}
+use Rattle.mig_pagetypes.proofs.Numbers.{number_small, type_back}
 use Rattle.mig_pagetypes.specs.declared.page_type.PageType.{PageType}
 use Rattle.mig_pagetypes.specs.declared.page_type.PageType.TheVariants.{Notab, Broken, Xalloc}
 use Rattle.mig_pagetypes.specs.PageTypes.{number_of, type_of, type_or_none, type_has_data}
 use Rattle.mig_pagetypes.specs.FrameWords.{word_type, word_pfn, word_has_data, some_has_data}
 use Rattle.mig_records.specs.Words.{words, has_reserved_type, is_outside}
 use Rattle.mig_guest.specs.Tables.{EachEntry, IsWithin}
-use Rattle.mig_guest.proofs.CodeParts.{all_of}
-use Rattle.mig_guest.proofs.Found.{all_found}
 use Rattle.mig_canon.specs.Canon.{body_of}
 use Rattle.mig_canon.proofs.Batches.{words_len}
 use Rattle.mig_restore.specs.Spelled.HasContent.{pages as pages_say}
@@ -61,14 +59,6 @@ type_is n p h = omega arith
 pfn_is : (n p : ℕ) → p < 2 ^ 28 → (n * 2 ^ 60 + p) % 2 ^ 52 ≡ p
 pfn_is n p h = omega arith
 
-known : (t : PageType) → type_of (number_of t) ≡ Some t
-known Notab = refl
-known _ = refl
-
-least : (t : PageType) → number_of t < 16
-least Notab = omega arith
-least _ = omega arith
-
 not_reserved : (t : PageType) (w : ℕ) → word_type w ≡ number_of t → has_reserved_type w ≡ false
 not_reserved Notab w is = rw is refl
 not_reserved _ w is = rw is refl
@@ -101,18 +91,18 @@ module _ (kind : Kind) (top : ℕ) (f : Frame) (fine : Fine kind top f) where
   numbered = pfn_is (number_of f.1.type) f.0 fine.low
 
   small : frame_word_in f < 2 ^ 64
-  small = omega (arith, least f.1.type, fine.low)
+  small = omega (arith, number_small f.1.type, fine.low)
 
   good_word : IsGoodWord kind top (frame_word_in f)
   good_word = (not_reserved f.1.type (frame_word_in f) typed, not_outside kind top (word_pfn (frame_word_in f)) f.0 numbered fine.low fine.inside)
 
   has_data : word_has_data (frame_word_in f) ≡ type_has_data f.1.type
-  has_data = ap (λ n. some_has_data (type_of n)) typed ∙ ap some_has_data (known f.1.type)
+  has_data = ap (λ n. some_has_data (type_of n)) typed ∙ ap some_has_data (type_back f.1.type)
 
   is_entry : IsEntry kind top (frame_word_in f) (page_in f) (entry_of f)
   is_entry = record {
     pfn = sym numbered;
-    type = sym (ap (λ n. type_or_none (type_of n)) typed ∙ ap type_or_none (known f.1.type));
+    type = sym (ap (λ n. type_or_none (type_of n)) typed ∙ ap type_or_none (type_back f.1.type));
     page = subst (λ b. IsPage b (page_in f) f.1.page) (sym has_data) (page_is f.1.page (type_has_data f.1.type) fine.frame.in_step fine.frame.whole);
     within = subst (λ (t : PageType). EachEntry (IsWithin top) (record { type = t; page = f.1.page })) (sym fine.type) fine.entries;
   }

@@ -1,19 +1,13 @@
 -- Finite maps and their entries: what every entry meets, and what entries that are set again give.
-use Rattle.mig_libxl.proofs.Common.{◌≡◌, ◌≢◌, ℕ, Bool, true, false, cond, not, nat_eq, List, [], ◌∷◌, map, Option, Some, None, refl, sym, ap, subst, ◌∙◌, T, ◌||◌, eq_by_cmp, PartKey, part_cmp, if◌then◌else◌, All, find, is_sorted, nat_cmp-IsAntisymmetric, Kind, Hvm, FrameMap, Part, PartMap, put_part, put_parts, replace_code, parts_of, PartCode, row_of, code_number, GuestOf, IsPart, IsFormed, HasNoEmulators, is_emulator_code, is_policy, width_of, set_parts, parts_at, Frame, static_codes, last_codes, FrameEntry, meant_type, put_entry, put_entries}
-use Rattle.std.specs.Option.{option_or}
-use Rattle.std.proofs.lemmas.List.Elements.{All-head, All-tail}
+use Rattle.mig_libxl.proofs.Common.{◌≡◌, ◌≢◌, ℕ, Bool, true, false, cond, not, nat_eq, List, [], ◌∷◌, map, Option, Some, None, refl, sym, ap, subst, ◌∙◌, T, ◌||◌, eq_by_cmp, PartKey, part_cmp, if◌then◌else◌, All, find, is_sorted, nat_cmp-IsAntisymmetric, Kind, Hvm, FrameMap, Part, PartMap, put_part, put_parts, replace_code, parts_of, PartCode, row_of, code_number, GuestOf, IsPart, IsFormed, HasNoEmulators, is_emulator_code, is_policy, width_of, set_parts, parts_at, Frame, static_codes, last_codes, FrameEntry, meant_type, put_entry, put_entries, option_or, All-head, All-tail, nat_cmp, Equal, below_all, part_total, part_exact, both_of, Tsc, found_first, common_steps}
 use Rattle.std.specs.Cmp.{nat_cmp_total}
-use Rattle.std.specs.Ordering.{nat_cmp}
-use Rattle.std.specs.declared.cmp.Ordering.TheVariants.{Equal}
 use Rattle.std.specs.FinMap as maps
-use Rattle.std.specs.FinMap.Entries.{below_all, find-where_key, is_sorted-where_key}
+use Rattle.std.specs.FinMap.Entries.{find-where_key, is_sorted-where_key}
 use Rattle.mig_pagetypes.specs.declared.page_type.PageType.{PageType}
 use Rattle.mig_pagetypes.specs.declared.page_type.PageType.TheVariants.{Xtab}
 use Rattle.mig_guest.specs.Frames.{framed}
-use Rattle.mig_guest.proofs.PartOrder.{part_total, part_exact}
-use Rattle.mig_guest.proofs.PartCursor.{both_of}
-use Rattle.mig_guest.specs.declared.part_code.PartCode.TheVariants.{Tsc}
-use Rattle.mig_guest.proofs.Found.{found_first}
+use Rattle.mig_libxl.proofs.EmulatorParts.{or_none}
+use Rattle.mig_libxl.proofs.Common.{arith}
 
 -- ---- frames set again
 
@@ -40,10 +34,6 @@ frames_set kind m (f ∷ fs) q h kept =
     ∙ ap (option_or (find nat_cmp q fs)) (ap (λ k. maps.get k q) (put_kept kind m f (All-head (IsKept kind) f fs kept)) ∙ maps.get-insert nat_cmp_total m f.0 f.1 q)
     ∙ found_first nat_cmp_total nat_cmp-IsAntisymmetric q f fs (maps.get m q) (eq_by_cmp nat_cmp q f.0) refl first
 
-or_none : {X : Type 0} (o : Option X) → option_or o None ≡ o
-or_none None = refl
-or_none (Some x) = refl
-
 -- the frames of a map, set one after another, give the map
 pub frames_again : (kind : Kind) (m : FrameMap) → All (IsKept kind) (maps.entries m) → put_entries kind maps.empty (map entry_of (maps.entries m)) ≡ m
 frames_again kind m kept = maps.same_map nat_cmp_total nat_cmp-IsAntisymmetric _ _ (λ q.
@@ -52,7 +42,7 @@ frames_again kind m kept = maps.same_map nat_cmp_total nat_cmp-IsAntisymmetric _
 
 -- ---- parts set again
 
-parts_set : (m : PartMap) (ps : List Part) (q : PartKey) → T (is_sorted part_cmp ps) → maps.get (put_parts m ps) q ≡ option_or (find part_cmp q ps) (maps.get m q)
+pub parts_set : (m : PartMap) (ps : List Part) (q : PartKey) → T (is_sorted part_cmp ps) → maps.get (put_parts m ps) q ≡ option_or (find part_cmp q ps) (maps.get m q)
 parts_set m [] q h = refl
 parts_set m (p ∷ ps) q h =
     let (first, others) = both_of (below_all part_cmp p.0 ps) (is_sorted part_cmp ps) h in
@@ -64,15 +54,10 @@ abbrev pub Holds : PartMap → (ℕ → Bool) → PartMap → Type 0
 Holds of codes m = (q : PartKey) → maps.get m q ≡ cond (codes q.code) (maps.get of q) None
 
 pub mixed : (b s : Bool) (o : Option (List ℕ)) → option_or (cond b o None) (cond s o None) ≡ cond (b || s) o None
-mixed true s (Some x) = refl
-mixed true true None = refl
-mixed true false None = refl
-mixed false s o = refl
+mixed b s o = grind (arith, common_steps)
 
 anew : (b s : Bool) (o : Option (List ℕ)) → option_or (cond b o None) (cond (not b) (cond s o None) None) ≡ cond (b || s) o None
-anew true s (Some x) = refl
-anew true s None = refl
-anew false s o = refl
+anew b s o = grind (arith, common_steps)
 
 pub parts_in_order : (of : PartMap) (c : ℕ) → T (is_sorted part_cmp (parts_of c (maps.entries of)))
 parts_in_order of c = is_sorted-where_key part_cmp (λ (k : PartKey). nat_eq k.code c) (maps.entries of) (maps.entries_sorted of)

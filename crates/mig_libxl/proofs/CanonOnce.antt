@@ -1,13 +1,8 @@
 -- Codes of which a guest has one record at most, which sets all parts of the code.
-use Rattle.std.proofs.lemmas.Bool.{and_parts}
-use Rattle.mig_bodies.proofs.Canonical.{canonical_bodies_say}
 use Rattle.mig_libxl.proofs.CanonMaps.{parts_in_order}
-use Rattle.mig_libxl.proofs.Common.{list_all, AllByRecursion, GuestOf, IsFormed, parts_at, ◌≡◌, ℕ, ◌≤◌, Bool, true, false, List, [], ◌∷◌, length, map, not, refl, sym, ap, subst, ◌∙◌, arith, T, fold, if◌then◌else◌, is_sorted, PartCode, PartKey, Part, PartMap, part_cmp, code_number, is_policy, put_parts, replace_code, IsBody, IsShaped, SayAll, bodies_by_shape, contents_by_shape, part_body, set_parts, shape_of, sole_key}
+use Rattle.mig_libxl.proofs.Common.{list_all, AllByRecursion, GuestOf, IsFormed, parts_at, ◌≡◌, ℕ, ◌≤◌, Bool, true, false, List, [], ◌∷◌, length, map, not, refl, sym, ap, subst, ◌∙◌, arith, T, fold, if◌then◌else◌, is_sorted, PartCode, PartKey, Part, PartMap, part_cmp, code_number, is_policy, put_parts, replace_code, IsBody, IsShaped, SayAll, bodies_by_shape, contents_by_shape, part_body, set_parts, shape_of, sole_key, and_parts, canonical_bodies_say, below_all, is_lt, both_of, part_total}
 use Rattle.std.proofs.lemmas.Bool.{not-true}
-use Rattle.std.specs.FinMap.Entries.{below_all}
-use Rattle.std.specs.Ordering.{is_lt}
-use Rattle.mig_guest.proofs.PartCursor.{both_of, not_itself}
-use Rattle.mig_guest.proofs.PartOrder.{part_total}
+use Rattle.mig_guest.proofs.PartCursor.{not_itself}
 use Rattle.mig_bodies.specs.declared.shape.Shape.{Shape}
 use Rattle.mig_bodies.specs.declared.shape.Shape.TheVariants.{Table, Single, Named, Chain, Other}
 

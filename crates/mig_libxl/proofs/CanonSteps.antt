@@ -1,26 +1,20 @@
 -- Records of a canonical stream one after another, each in its place.
-use Rattle.mig_libxl.proofs.Common.{◌≡◌, ℕ, zero, suc, ◌+◌, ◌*◌, ◌≤◌, ◌<◌, ◌^◌, List, [], ◌∷◌, ◌++◌, length, take, map, replicate, Bool, true, false, nat_eq, Option, Some, None, refl, sym, ap, subst, ◌∙◌, arith, append_assoc, append-nil, length-append, ◌||◌, ◌&&◌, fold, is_some, All, AllByRecursion, list_any, flat_map, little_bytes, Kind, FrameMap, GuestOf, PartCode, code_number, PartKey, Part, PartMap, IsFormed, shape_of, set_parts, parts_at, canonical_bodies, contents_by_shape, IsRecordBody, part_body, SayAll, Frame, Record, batch, batches, frame_bodies, records_of, records_in_order, key_of, part_record, vcpu_codes, vcpu_record, records_of_vcpu, vcpus_below, text_of, StreamRecord, Content, types_of, is_ended, Sets, put_content, put_entry, put_entries, IsComplete, HasContent, Follows, Spells, one_more_record}
-use Rattle.std.proofs.lemmas.Grind.{flat_map-append}
-use Rattle.std.proofs.lemmas.List.{length-replicate, map-append}
+use Rattle.mig_libxl.proofs.Common.{◌≡◌, ℕ, zero, suc, ◌+◌, ◌*◌, ◌≤◌, ◌<◌, ◌^◌, List, [], ◌∷◌, ◌++◌, length, take, map, Bool, true, false, nat_eq, Option, Some, None, refl, sym, ap, subst, ◌∙◌, arith, append_assoc, append-nil, length-append, ◌||◌, ◌&&◌, fold, is_some, All, AllByRecursion, list_any, flat_map, Kind, FrameMap, GuestOf, PartCode, code_number, PartKey, Part, PartMap, IsFormed, shape_of, set_parts, parts_at, canonical_bodies, contents_by_shape, IsRecordBody, part_body, SayAll, Frame, Record, batch, batches, frame_bodies, records_of, records_in_order, key_of, part_record, vcpu_codes, vcpu_record, records_of_vcpu, vcpus_below, text_of, StreamRecord, Content, types_of, is_ended, Sets, put_content, put_entry, put_entries, IsComplete, HasContent, Follows, Spells, one_more_record, flat_map-append, map-range_with_len_more, fold-append, canonical_bodies_say, one_more}
+use Rattle.std.proofs.lemmas.List.{map-append}
 use Rattle.std.proofs.lemmas.List.Folds.{list_any-append}
-use Rattle.std.proofs.lemmas.List.FromFn.{map-range_with_len_more}
-use Rattle.std.proofs.lemmas.List.Sums.{fold-append}
 use Rattle.std.specs.FinMap as maps
-use Rattle.mig_bytes.specs.Bytes.{padding_len}
 use Rattle.mig_headers.specs.declared.record_type.RecordType.{RecordType}
 use Rattle.mig_headers.specs.declared.record_type.RecordType.TheVariants.{StaticDataEnd, X86PvInfo, X86PvP2mFrames}
 use Rattle.mig_headers.specs.RecordTypes.{type_of_number}
-use Rattle.mig_bodies.proofs.Canonical.{canonical_bodies_say}
-use Rattle.mig_records.specs.Records.{IsRecord, head_of, spelled}
+use Rattle.mig_records.specs.Records.{spelled}
 use Rattle.mig_order.specs.Order.{Earlier, some_earlier, earlier_in, among, content_records, vcpu_records as vcpu_types, fault_after, fault_of_type}
 use Rattle.mig_order.proofs.OrderLaw.{faultless_is_in_order}
 use Rattle.mig_canon.specs.Canon.{body_of}
 use Rattle.mig_restore.specs.Judging.{Opening}
 use Rattle.mig_restore.specs.Mean.{sent}
-use Rattle.mig_restore.specs.Spelled.Spells.{one_more}
 use Rattle.mig_libxl.proofs.CanonMaps.{entry_of, with_parts}
 use Rattle.mig_libxl.proofs.CanonOnce.{AtOnce}
-use Rattle.mig_libxl.proofs.CanonParts.{le32_first, le32_second, Fits, fits_of}
+use Rattle.mig_libxl.proofs.CanonParts.{is_record, Fits, fits_of}
 use Rattle.mig_libxl.proofs.CanonFrames.{Fine, batch_fits, take_more, few_batches}
 use Rattle.mig_libxl.proofs.PvMaps.{set_found, vcpu_set, vcpu_parts, vcpus_more}
 
@@ -31,18 +25,6 @@ abbrev pub guest_with : Kind → ℕ → FrameMap → PartMap → GuestOf
 guest_with kind top frames parts = record { kind = kind; top = top; frames = frames; parts = parts }
 
 -- ---- a record
-
-is_record : (type : ℕ) (body : List ℕ) → type < 2 ^ 32 → length body ≤ 2 ^ 27 → IsRecord type body (spelled type body)
-unfolding spelled head_of
-is_record type body small short = record {
-  head = little_bytes 4 type ++ little_bytes 4 (length body);
-  padding = replicate (padding_len (length body)) 0;
-  whole = refl;
-  head_len = refl;
-  type_is = le32_first type _ small;
-  len_is = le32_second type (length body) (omega (arith, short));
-  padded = length-replicate (padding_len (length body)) 0;
-}
 
 text_more : (bodies : List Record) (type : ℕ) (body : List ℕ) → text_of (bodies ++ (type, body) ∷ []) ≡ text_of bodies ++ spelled type body
 text_more bodies type body = flat_map-append (λ (b : Record). spelled b.0 b.1) bodies ((type, body) ∷ []) ∙ ap (λ l. text_of bodies ++ l) (append-nil (spelled type body))
@@ -73,7 +55,7 @@ earlier_with e type = record {
 -- records with these bodies, that mean this guest, and where they lead; and no more records than these
 pub record State (kind : Kind) (bodies : List Record) (g : GuestOf) (stage : Stage) (most : ℕ) : Type 0 where
   pub records : List StreamRecord
-  pub spells : Spells (opening kind) (text_of bodies) records
+  pub spells : Spells (Follows (opening kind)) (text_of bodies) records
   pub means : sent kind records ≡ g
   pub going : is_ended records ≡ false
   pub content : Bool
@@ -129,8 +111,8 @@ module _ {kind : Kind} {bodies : List Record} {g : GuestOf} {stage : Stage} {mos
       complete = complete;
     }
 
-    pub spells_more : (type ≡ 0 → IsComplete kind (sent kind (s.records ++ this ∷ []))) → Spells (opening kind) (text_of (bodies ++ (type, body) ∷ [])) (s.records ++ this ∷ [])
-    spells_more complete = subst (λ l. Spells (opening kind) l (s.records ++ this ∷ [])) (sym (text_more bodies type body)) (one_more (text_of bodies) s.records this (spelled type body) s.spells (follows complete))
+    pub spells_more : (type ≡ 0 → IsComplete kind (sent kind (s.records ++ this ∷ []))) → Spells (Follows (opening kind)) (text_of (bodies ++ (type, body) ∷ [])) (s.records ++ this ∷ [])
+    spells_more complete = subst (λ l. Spells (Follows (opening kind)) l (s.records ++ this ∷ [])) (sym (text_more bodies type body)) (one_more (text_of bodies) s.records this (spelled type body) s.spells (follows complete))
 
     pub means_more : sent kind (s.records ++ this ∷ []) ≡ put_content g c
     means_more = one_more_record kind s.records this ∙ ap (λ h. put_content h c) s.means

@@ -1,16 +1,13 @@
 -- The canonical stream of a bare guest is accepted, and means the guest.
-use Rattle.mig_libxl.proofs.Common.{◌≡◌, ℕ, ◌+◌, ◌*◌, ◌≤◌, ◌<◌, ◌^◌, List, [], ◌∷◌, ◌++◌, map, Bool, true, false, Option, Some, None, IsSome, refl, sym, ap, subst, ◌∙◌, arith, append_assoc, append-nil, le_refl, ◌↔◌, inr, ◌||◌, Kind, Hvm, Pv, GuestOf, FrameMap, PartMap, IsFew, IsFormed, IsTop, HasNoEmulators, p2m_key, p2m_body, p2m_record, p2m_records, Record, batches, frame_bodies, records_in_order, static_codes, last_codes, pv_last_codes, vcpus_below, info_records, last_records, frames_in, static_bodies, bodies_of, text_of, headers, StreamRecord, is_ended, Nothing, Lists, empty_guest, put_entries, IsComplete, Spells, IsImage, Accepted, ends, static_end, meant_as_sent, IsBare}
+use Rattle.mig_libxl.proofs.Common.{◌≡◌, ℕ, ◌+◌, ◌*◌, ◌≤◌, ◌<◌, ◌^◌, List, [], ◌∷◌, ◌++◌, map, Bool, true, false, Option, Some, None, IsSome, refl, sym, ap, subst, ◌∙◌, arith, append_assoc, le_refl, inr, ◌||◌, Kind, Hvm, Pv, GuestOf, FrameMap, PartMap, IsFew, IsFormed, IsTop, HasNoEmulators, p2m_key, p2m_body, p2m_record, p2m_records, Record, batches, frame_bodies, records_in_order, static_codes, last_codes, pv_last_codes, vcpus_below, info_records, last_records, frames_in, static_bodies, bodies_of, text_of, headers, StreamRecord, is_ended, Nothing, Lists, empty_guest, put_entries, IsComplete, Spells, IsImage, Accepted, ends, static_end, meant_as_sent, IsBare, Follows, IsWhole, no_part}
 use Rattle.std.specs.FinMap as maps
 use Rattle.mig_headers.specs.Headers.{image_header_of, domain_header_of}
 use Rattle.mig_headers.proofs.HeaderLaws.{image_is_read_back, domain_is_read_back}
-use Rattle.mig_pvtables.specs.Whole.{IsWhole}
 use Rattle.mig_pvtables.proofs.HvmGuests.{hvm_complete}
 use Rattle.mig_pvtables.proofs.PvGuests.{pv_complete}
 use Rattle.mig_canon.specs.Canon.{canon, all_vcpus}
 use Rattle.mig_restore.specs.Mean.{sent}
 use Rattle.mig_restore.specs.Spelled.HasContent.{info, p2m_frames}
-use Rattle.mig_restore.specs.Spelled.Spells.{none}
-use Rattle.mig_restore.proofs.Converse.{one_front}
 use Rattle.mig_libxl.proofs.CanonMaps.{entry_of, frames_again, with_parts, holds_none, holds_codes, holds_all}
 use Rattle.mig_libxl.proofs.CanonOnce.{all_at_once}
 use Rattle.mig_libxl.proofs.CanonParts.{Fits}
@@ -54,7 +51,7 @@ end_fits kind top = record { says = ends; short = omega arith }
 
 at_start : (kind : Kind) → State kind [] (empty_guest kind) start 0
 unfolding sent
-at_start kind = record { records = []; spells = none; means = refl; going = refl; content = false; vcpu = false; stands = refl; few = le_refl 0 }
+at_start kind = record { records = []; spells = no_part; means = refl; going = refl; content = false; vcpu = false; stands = refl; few = le_refl 0 }
 
 begun_state : (kind : Kind) → State kind (info_records kind) (empty_guest kind) (begun kind) 1
 begun_state Hvm = looser (at_start Hvm) 1 (omega arith)
@@ -151,9 +148,9 @@ module _ (g : GuestOf) (kind : Kind) (is : g.kind ≡ kind) (bare : IsBare g) wh
   is_sent : g ≡ sent kind records
   is_sent = sym (means_more before_end (end_step kind) (end_fits kind g.top) few_records ∙ whole_again)
 
-  spelled_all : Spells (opening kind) (text_of (bodies_of kind g)) records
+  spelled_all : Spells (Follows (opening kind)) (text_of (bodies_of kind g)) records
   spelled_all =
-      subst (λ b. Spells (opening kind) (text_of b) records) (regroup (info_records kind) (static_bodies g) (p2m_records kind g) frames (last_records kind g) ((0, []) ∷ []))
+      subst (λ b. Spells (Follows (opening kind)) (text_of b) records) (regroup (info_records kind) (static_bodies g) (p2m_records kind g) frames (last_records kind g) ((0, []) ∷ []))
       (spells_more before_end (end_step kind) (end_fits kind g.top) few_records (λ e. subst (IsComplete kind) is_sent complete))
 
   ended : is_ended records ≡ true
@@ -184,15 +181,3 @@ canon_is_accepted g rest bare = record {
   image = canon_is_image g g.kind refl bare rest;
   means = sym bare.blank ∙ meant_as_sent g g.kind (records g g.kind refl bare) (is_sent g g.kind refl bare);
 }
-
-pub canon_is_one_to_one : (g h : GuestOf) → IsBare g → IsBare h → (canon g ≡ canon h) ↔ (g ≡ h)
-canon_is_one_to_one g h bare other = (
-  (λ e. (one_front (canon g ++ []) g h [] [] (canon_is_accepted g [] bare) (subst (λ l. Accepted (l ++ []) h []) (sym e) (canon_is_accepted h [] other))).0),
-  (λ e. ap canon e),
-)
-
-pub twice_is_once : (guest other : GuestOf) (rest : List ℕ) → IsBare guest → Accepted (canon guest) other rest → (canon other ≡ canon guest) × (rest ≡ [])
-twice_is_once guest other rest bare again =
-    let once : Accepted (canon guest) guest [] = subst (λ l. Accepted l guest []) (append-nil (canon guest)) (canon_is_accepted guest [] bare) in
-    let same = one_front (canon guest) other guest rest [] again once in
-    (ap canon same.0, same.1)

@@ -1,35 +1,18 @@
 -- The records of a guest's emulators say its emulators: they and the guest without emulators are the guest.
-use Rattle.std.proofs.Common.{◌≡◌, ℕ, ◌<◌, Bool, true, false, cond, not, List, [], ◌∷◌, length, map, Option, Some, None, inl, inr, refl, sym, ap, subst, ◌∙◌, arith, T}
-use Rattle.std.specs.Prelude.{◌==◌, ◌||◌, ◌&&◌, fold, unwrap_or, if◌then◌else◌}
-use Rattle.std.specs.List.{All}
-use Rattle.std.specs.Option.{option_map, option_or}
-use Rattle.std.specs.Ordering.{eq_by_cmp, is_lt}
+use Rattle.mig_libxl.proofs.Common.{◌≡◌, ℕ, ◌<◌, Bool, true, false, cond, not, List, [], ◌∷◌, length, map, Option, Some, None, inl, inr, refl, sym, ap, subst, ◌∙◌, ◌==◌, ◌||◌, fold, unwrap_or, if◌then◌else◌, All, option_map, option_or, eq_by_cmp, find, eq-eqb, eqb-true, or_cases, eq_by_cmp_equiv, All-nil, All-cons, All-head, All-tail, IsFormed, is_emulator_code, GuestOf, part_cmp, Part, PartMap, put_parts, PartKey, all_of, tied, part_total, part_exact, put_pairs, text_of_map, some_bytes_are_some_pairs, bare_guest, Pairs, Context, EmulatorsOf, no_emulators, put_libxl_content, with_emulators}
 use Rattle.std.specs.FinMap as maps
-use Rattle.std.specs.FinMap.{FinMap, find, is_sorted}
-use Rattle.std.specs.FinMap.Entries.{below_all}
-use Rattle.std.proofs.lemmas.Bool.{eq-eqb, eqb-true, or_cases}
-use Rattle.std.proofs.lemmas.Cmp.{eq_by_cmp_equiv}
-use Rattle.std.proofs.lemmas.List.Elements.{All-nil, All-cons, All-head, All-tail}
-use Rattle.std.proofs.lemmas.List.Sums.{fold-append}
-use Rattle.mig_headers.specs.Pairs.{Pair}
-use Rattle.mig_guest.specs.Formed.{IsFormed, is_emulator_code}
-use Rattle.mig_guest.specs.Guests.{GuestOf}
-use Rattle.mig_guest.specs.Order.{part_cmp}
-use Rattle.mig_guest.specs.Parts.{Part, PartMap, put_part, put_parts}
-use Rattle.mig_guest.specs.declared.part_key.PartKey.{PartKey}
-use Rattle.mig_guest.proofs.CodeParts.{all_of}
-use Rattle.mig_guest.proofs.Found.{found_first}
-use Rattle.mig_guest.proofs.KeyedMaps.{tied, find_seen, insert_leaves}
-use Rattle.mig_guest.proofs.PartCursor.{both_of}
-use Rattle.mig_guest.proofs.PartOrder.{part_total, part_exact}
-use Rattle.mig_policy.specs.PairMaps.{PairMap, pairs_in, map_of, put_pairs, text_of_map}
-use Rattle.mig_policy.proofs.PairMapLaws.{some_bytes_are_some_pairs, texts_are_canonical}
-use Rattle.mig_libxl.specs.Canon.{bare_guest, emulators_in_order}
-use Rattle.mig_libxl.specs.Content.Content.{Pairs, Context}
-use Rattle.mig_libxl.specs.Emulators.{EmulatorsOf, no_emulators, add_pairs, put_content, emulators_of, store_part, emulator_parts, with_emulators}
+use Rattle.std.specs.FinMap.{FinMap}
+use Rattle.mig_guest.proofs.KeyedMaps.{insert_leaves}
+use Rattle.mig_policy.specs.PairMaps.{pairs_in, map_of}
+use Rattle.mig_policy.proofs.PairMapLaws.{texts_are_canonical}
+use Rattle.mig_libxl.specs.Canon.{emulators_in_order}
+use Rattle.mig_libxl.specs.Emulators.{emulators_of, emulator_parts}
 use Rattle.mig_libxl.proofs.Canon.{bare_get}
 use Rattle.mig_libxl.proofs.EmulatorParts.{KeysDiffer, or_none, in_order_holds, in_order_differ, emulators_found}
 use Rattle.mig_libxl.proofs.EmulatorRecords.{content_of, record_of_part, some_pairs}
+use Rattle.std.proofs.lemmas.Bool.{or_left, or_right}
+use Rattle.mig_libxl.proofs.EmulatorGuests.{part_there}
+use Rattle.mig_libxl.proofs.Stores.{some_added}
 
 -- ---- what records add
 
@@ -65,7 +48,7 @@ module _ {X : Type 0} (f : List ℕ → X) (c : ℕ) (m : FinMap part_cmp X) (p 
   ] refl
 
 -- a key that doesn't stand there is that of none
-apart : (k : PartKey) (ps : List Part) → find part_cmp k ps ≡ None → All (λ r. eq_by_cmp part_cmp r.0 k ≡ false) ps
+pub apart : (k : PartKey) (ps : List Part) → find part_cmp k ps ≡ None → All (λ r. eq_by_cmp part_cmp r.0 k ≡ false) ps
 apart k [] none = All-nil (λ r. eq_by_cmp part_cmp r.0 k ≡ false)
 apart k (r ∷ rs) none = elim (eq_by_cmp part_cmp k r.0) as (λ b. eq_by_cmp part_cmp k r.0 ≡ b → cond b (Some r.1) (find part_cmp k rs) ≡ None → All (λ r. eq_by_cmp part_cmp r.0 k ≡ false) (r ∷ rs)) [
   | true ↦ λ t at. let no : Some r.1 ≡ None = at in absurd (cc)
@@ -79,23 +62,20 @@ pub record IsSaid (p : Part) : Type 0 where
 
 -- what the records of these parts make of what was said before
 abbrev pub after : EmulatorsOf → List Part → EmulatorsOf
-after e ps = fold (λ e r. put_content e r.content) e (map record_of_part ps)
+after e ps = fold (λ e r. put_libxl_content e r.content) e (map record_of_part ps)
 
 -- nothing is there of the store of this key
 abbrev IsNew : EmulatorsOf → Part → Type 0
 IsNew e p = maps.get e.stores p.0 ≡ None
 
-some_added : (e : EmulatorsOf) (key : PartKey) (ps : List Pair) → 0 < length ps → maps.get e.stores key ≡ None → add_pairs e key ps ≡ record e { stores = maps.insert e.stores key (put_pairs maps.empty ps) }
-some_added e key [] some new = absurd (omega (arith, some))
-some_added e key (p ∷ ps) some new = ap (λ o. record e { stores = maps.insert e.stores key (put_pairs (unwrap_or o maps.empty) (p ∷ ps)) }) new
-
 module _ (e : EmulatorsOf) (p : Part) where
-  pairs_said : p.0.code ≡ 258 → 0 < length (pairs_in p.1) → maps.get e.stores p.0 ≡ None → put_content e (content_of p) ≡ record e { stores = maps.insert e.stores p.0 (map_of p.1) }
+  pairs_said : p.0.code ≡ 258 → 0 < length (pairs_in p.1) → maps.get e.stores p.0 ≡ None → put_libxl_content e (content_of p) ≡ record e { stores = maps.insert e.stores p.0 (map_of p.1) }
   pairs_said code some new =
-      ap (λ b. put_content e (if b then Pairs p.0 (pairs_in p.1) else Context p.0 p.1)) (eq-eqb p.0.code 258 code) ∙ some_added e p.0 (pairs_in p.1) some new
+      ap (λ b. put_libxl_content e (if b then Pairs p.0 (pairs_in p.1) else Context p.0 p.1)) (eq-eqb p.0.code 258 code) ∙ some_added e p.0 (pairs_in p.1) some
+      ∙ ap (λ o. record e { stores = maps.insert e.stores p.0 (put_pairs (unwrap_or o maps.empty) (pairs_in p.1)) }) new
 
-  context_said : p.0.code ≡ 259 → put_content e (content_of p) ≡ record e { contexts = maps.insert e.contexts p.0 p.1 }
-  context_said code = ap (λ b. put_content e (if b then Pairs p.0 (pairs_in p.1) else Context p.0 p.1)) (ap (λ n. n == 258) code)
+  context_said : p.0.code ≡ 259 → put_libxl_content e (content_of p) ≡ record e { contexts = maps.insert e.contexts p.0 p.1 }
+  context_said code = ap (λ b. put_libxl_content e (if b then Pairs p.0 (pairs_in p.1) else Context p.0 p.1)) (ap (λ n. n == 258) code)
 
 -- the store and the context of a key, behind the records of these parts
 abbrev Got : EmulatorsOf → EmulatorsOf → List Part → PartKey → Type 0
@@ -148,55 +128,26 @@ module _ (g : GuestOf) (formed : IsFormed g) where
   said_got : (q : PartKey) → Got (said_of g) no_emulators (emulators_in_order g.parts) q
   said_got q = got (emulators_in_order g.parts) no_emulators (in_order_differ g.parts) all_said (λ k d l. maps.get-empty part_cmp _) q
 
-  of_both : {X : Type 0} (a b : Bool) (f : List ℕ → X) (o : Option (List ℕ)) → picked a f (cond (a || b) o None) ≡ picked a f o
-  of_both true b f o = refl
-  of_both false b f o = refl
+  kept : {X : Type 0} (b c : Bool) (f : List ℕ → X) (o : Option (List ℕ)) → (b ≡ true → c ≡ true) → picked b f (cond c o None) ≡ picked b f o
+  kept true c f o up = ap (λ c. option_map f (cond c o None)) (up refl)
+  kept false c f o up = refl
 
-  of_second : {X : Type 0} (a b : Bool) (f : List ℕ → X) (o : Option (List ℕ)) → picked b f (cond (a || b) o None) ≡ picked b f o
-  of_second true b f o = refl
-  of_second false true f o = refl
-  of_second false false f o = refl
+  -- of each part whose key passes a test that emulators' parts alone pass
+  only_said : {X : Type 0} (f : List ℕ → X) (b : Bool) (q : PartKey) → (b ≡ true → is_emulator_code q.code ≡ true)
+      → option_or (picked b f (find part_cmp q (emulators_in_order g.parts))) (maps.get (maps.empty {X = X} {R = part_cmp}) q) ≡ picked b f (maps.get g.parts q)
+  only_said f b q up =
+      ap (option_or (picked b f (find part_cmp q (emulators_in_order g.parts)))) (maps.get-empty part_cmp q) ∙ or_none (picked b f (find part_cmp q (emulators_in_order g.parts)))
+      ∙ ap (picked b f) (emulators_found g formed q) ∙ kept b (is_emulator_code q.code) f (maps.get g.parts q) up
 
   -- the store of each part of pairs
   pub stores_are : (q : PartKey) → maps.get (said_of g).stores q ≡ picked (q.code == 258) map_of (maps.get g.parts q)
-  stores_are q =
-      (said_got q).0 ∙ ap (option_or (picked (q.code == 258) map_of (find part_cmp q (emulators_in_order g.parts)))) (maps.get-empty part_cmp q)
-      ∙ or_none (picked (q.code == 258) map_of (find part_cmp q (emulators_in_order g.parts))) ∙ ap (picked (q.code == 258) map_of) (emulators_found g formed q)
-      ∙ of_both (q.code == 258) (q.code == 259) map_of (maps.get g.parts q)
+  stores_are q = (said_got q).0 ∙ only_said map_of (q.code == 258) q (or_left (q.code == 258) (q.code == 259))
 
   -- the context of each part that is one
   pub contexts_are : (q : PartKey) → maps.get (said_of g).contexts q ≡ picked (q.code == 259) (λ bytes. bytes) (maps.get g.parts q)
-  contexts_are q =
-      (said_got q).1 ∙ ap (option_or (picked (q.code == 259) (λ bytes. bytes) (find part_cmp q (emulators_in_order g.parts)))) (maps.get-empty part_cmp q)
-      ∙ or_none (picked (q.code == 259) (λ bytes. bytes) (find part_cmp q (emulators_in_order g.parts))) ∙ ap (picked (q.code == 259) (λ bytes. bytes)) (emulators_found g formed q)
-      ∙ of_second (q.code == 258) (q.code == 259) (λ bytes. bytes) (maps.get g.parts q)
+  contexts_are q = (said_got q).1 ∙ only_said (λ bytes. bytes) (q.code == 259) q (or_right (q.code == 258) (q.code == 259))
 
 -- ---- the guest again
-
-parts_set : (m : PartMap) (ps : List Part) (q : PartKey) → T (is_sorted part_cmp ps) → maps.get (put_parts m ps) q ≡ option_or (find part_cmp q ps) (maps.get m q)
-parts_set m [] q h = refl
-parts_set m (p ∷ ps) q h =
-    let (first, others) = both_of (below_all part_cmp p.0 ps) (is_sorted part_cmp ps) h in
-    parts_set (put_part m p) ps q others ∙ ap (option_or (find part_cmp q ps)) (maps.get-insert part_total m p.0 p.1 q)
-    ∙ found_first part_total part_exact q p ps (maps.get m q) (eq_by_cmp part_cmp q p.0) refl first
-
-parts_below_all : (k : PartKey) (es : List (PartKey × PairMap)) → below_all part_cmp k (map store_part es) ≡ below_all part_cmp k es
-parts_below_all k [] = refl
-parts_below_all k (e ∷ es) = ap (λ b. is_lt (part_cmp k e.0) && b) (parts_below_all k es)
-
-parts_sorted : (es : List (PartKey × PairMap)) → is_sorted part_cmp (map store_part es) ≡ is_sorted part_cmp es
-parts_sorted [] = refl
-parts_sorted (e ∷ es) = (λ i. parts_below_all e.0 es i && parts_sorted es i)
-
--- emulators set in a map of parts
-set_emulators : (m : PartMap) (e : EmulatorsOf) (q : PartKey) → maps.get (put_parts m (emulator_parts e)) q ≡ option_or (maps.get e.contexts q) (option_or (option_map text_of_map (maps.get e.stores q)) (maps.get m q))
-set_emulators m e q =
-    let stores = map store_part (maps.entries e.stores) in let contexts = maps.entries e.contexts in
-    ap (λ n. maps.get n q) (fold-append put_part m stores contexts)
-    ∙ parts_set (put_parts m stores) contexts q (maps.entries_sorted e.contexts)
-    ∙ ap (λ o. option_or o (maps.get (put_parts m stores) q)) (sym (maps.get-entries e.contexts q))
-    ∙ ap (option_or (maps.get e.contexts q)) (parts_set m stores q (subst T (sym (parts_sorted (maps.entries e.stores))) (maps.entries_sorted e.stores))
-    ∙ ap (λ o. option_or o (maps.get m q)) (find_seen part_total part_exact (λ k s. text_of_map s) (maps.entries e.stores) q ∙ ap (option_map text_of_map) (sym (maps.get-entries e.stores q))))
 
 -- of a part one of the three has the bytes
 settled : (a b : Bool) (o : Option (List ℕ)) → (a ≡ true → (bytes : List ℕ) → o ≡ Some bytes → text_of_map (map_of bytes) ≡ bytes)
@@ -212,7 +163,7 @@ settled false false (Some bytes) again = refl
 module _ (g : GuestOf) (formed : IsFormed g) where
   parts_again : (q : PartKey) → maps.get (put_parts (bare_guest g).parts (emulator_parts (said_of g))) q ≡ maps.get g.parts q
   parts_again q =
-      set_emulators (bare_guest g).parts (said_of g) q
+      part_there (bare_guest g) (said_of g) q
       ∙ (λ i. option_or (contexts_are g formed q i) (option_or (option_map text_of_map (stores_are g formed q i)) (bare_get g q i)))
       ∙ settled (q.code == 258) (q.code == 259) (maps.get g.parts q) (λ t bytes there. texts_are_canonical.again bytes (some_pairs g formed q bytes (eqb-true q.code 258 t) there).canonical)
 

@@ -1,24 +1,11 @@
 -- The parts of emulators in the order of their records: all of a guest, and none twice.
-use Rattle.std.proofs.Common.{◌≡◌, ℕ, zero, suc, ◌+◌, ◌<◌, ◌≤◌, true, false, cond, List, [], ◌∷◌, ◌++◌, Option, Some, None, inl, inr, refl, sym, ap, subst, ◌∙◌, arith}
-use Rattle.std.specs.Prelude.{◌==◌, ◌≢◌, ⊤, nat_lt}
-use Rattle.std.specs.List.{All, flat_map, range_with_len}
-use Rattle.std.specs.Option.{option_or}
-use Rattle.std.specs.Ordering.{eq_by_cmp}
+use Rattle.mig_libxl.proofs.Common.{◌≡◌, ℕ, zero, suc, ◌+◌, ◌<◌, ◌≤◌, true, false, cond, List, [], ◌∷◌, ◌++◌, Option, Some, None, inl, inr, refl, sym, ap, subst, ◌∙◌, arith, ◌==◌, ◌≢◌, nat_lt, All, flat_map, range_with_len, option_or, eq_by_cmp, find, and_parts, eqb-true, or_cases, eq_by_cmp_equiv, All-nil, All-cons, All-head, All-tail, IsFormed, is_emulator_code, width_of, GuestOf, part_cmp, Part, PartMap, EmulatorPairs, EmulatorContext, PartKey, tied, part_total, part_exact, IsOf, of_part, part_with, parts_of_emulator}
+use Rattle.std.specs.Prelude.{⊤}
 use Rattle.std.specs.FinMap as maps
-use Rattle.std.specs.FinMap.{find}
-use Rattle.std.proofs.lemmas.Bool.{and_parts, eqb-true, eqb-false, ltb-true, or_cases}
-use Rattle.std.proofs.lemmas.Cmp.{eq_by_cmp_equiv}
-use Rattle.std.proofs.lemmas.List.Elements.{All-nil, All-cons, All-head, All-tail, All-append}
-use Rattle.mig_guest.specs.Formed.{IsFormed, is_emulator_code, width_of}
-use Rattle.mig_guest.specs.Guests.{GuestOf}
-use Rattle.mig_guest.specs.Order.{part_cmp}
-use Rattle.mig_guest.specs.Parts.{Part, PartMap}
-use Rattle.mig_guest.specs.declared.part_code.PartCode.TheVariants.{EmulatorPairs, EmulatorContext}
-use Rattle.mig_guest.specs.declared.part_key.PartKey.{PartKey}
-use Rattle.mig_guest.proofs.KeyedMaps.{tied}
-use Rattle.mig_guest.proofs.PartOrder.{part_total, part_exact}
-use Rattle.mig_guest.proofs.PartRows.{IsOf, of_part}
-use Rattle.mig_libxl.specs.Canon.{part_with, parts_of_emulator, parts_below, parts_of_id, emulators_in_order}
+use Rattle.std.proofs.lemmas.Bool.{eqb-false, ltb-true}
+use Rattle.std.proofs.lemmas.List.Elements.{All-append}
+use Rattle.mig_libxl.specs.Canon.{parts_below, parts_of_id, emulators_in_order}
+use Rattle.std.proofs.lemmas.Grind.{common_steps}
 
 -- ---- lists of parts
 
@@ -33,10 +20,7 @@ or_none (Some x) = refl
 
 pub find_join : (q : PartKey) (xs ys : List Part) → find part_cmp q (xs ++ ys) ≡ option_or (find part_cmp q xs) (find part_cmp q ys)
 find_join q [] ys = refl
-find_join q (x ∷ xs) ys = elim (eq_by_cmp part_cmp q x.0) as (λ b. cond b (Some x.1) (find part_cmp q (xs ++ ys)) ≡ option_or (cond b (Some x.1) (find part_cmp q xs)) (find part_cmp q ys)) [
-  | true ↦ refl
-  | false ↦ find_join q xs ys
-]
+find_join q (x ∷ xs) ys = grind (arith, common_steps, find_join q xs ys)
 
 -- what holds of all parts holds of one that is found
 pub found_holds : (P : Part → Type 0) (q : PartKey) (bytes : List ℕ) (ps : List Part) → All P ps → find part_cmp q ps ≡ Some bytes → P (q, bytes)

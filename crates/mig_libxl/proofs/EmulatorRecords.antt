@@ -1,53 +1,27 @@
 -- The records of a guest's emulators: each is spelled as the format says, and together they say the emulators.
-use Rattle.std.proofs.Common.{◌≡◌, ℕ, ◌+◌, ◌<◌, ◌≤◌, ◌^◌, List, ◌++◌, length, replicate, Some, inl, inr, refl, sym, subst, arith, append_assoc, length-append}
-use Rattle.std.specs.Prelude.{◌-◌, ◌==◌, nat_le, if◌then◌else◌}
+use Rattle.mig_libxl.proofs.Common.{◌≡◌, ℕ, ◌+◌, ◌<◌, ◌≤◌, ◌^◌, List, ◌++◌, length, Some, inl, inr, refl, sym, subst, arith, append_assoc, length-append, ◌-◌, ◌==◌, nat_le, if◌then◌else◌, and_parts, eqb-true, leb-true, or_cases, little_bytes, IsFormed, width_of, GuestOf, Part, EmulatorPairs, EmulatorContext, PartKey, IsOf, of_part, pairs_are_read, some_bytes_are_some_pairs, LibxlRecord, LibxlContent, Pairs, Context, HasLibxlContent}
 use Rattle.std.specs.FinMap as maps
-use Rattle.std.proofs.lemmas.Bool.{and_parts, eqb-true, leb-true, or_cases}
-use Rattle.std.proofs.lemmas.List.{length-replicate}
-use Rattle.byteorder.specs.Endian.{little_bytes}
 use Rattle.byteorder.specs.Numbers.{length-bytes_low_first}
-use Rattle.mig_bytes.specs.Bytes.{padding_len}
 use Rattle.mig_headers.specs.Pairs.{AreCanonicalPairs}
-use Rattle.mig_guest.specs.Formed.{IsFormed, width_of}
-use Rattle.mig_guest.specs.Guests.{GuestOf}
-use Rattle.mig_guest.specs.Parts.{Part}
-use Rattle.mig_guest.specs.declared.part_code.PartCode.TheVariants.{EmulatorPairs, EmulatorContext}
-use Rattle.mig_guest.specs.declared.part_key.PartKey.{PartKey}
-use Rattle.mig_guest.proofs.PartRows.{IsOf, of_part}
 use Rattle.mig_policy.specs.PairFaults.{SpellPairs}
 use Rattle.mig_policy.specs.PairMaps.{pairs_in}
-use Rattle.mig_policy.proofs.KeyLaws.{pairs_are_read}
-use Rattle.mig_policy.proofs.PairMapLaws.{some_bytes_are_some_pairs}
-use Rattle.mig_records.specs.Records.{IsRecord, head_of, spelled}
+use Rattle.mig_records.specs.Records.{head_of, spelled}
 use Rattle.mig_records.proofs.HeadBytes.{type_in_head, len_in_head}
 use Rattle.mig_libxl.specs.Canon.{emulator_body, emulator_record}
-use Rattle.mig_libxl.specs.Content.{LibxlRecord, Content}
-use Rattle.mig_libxl.specs.Content.Content.{Pairs, Context}
-use Rattle.mig_libxl.specs.Spelled.{IsFront, HasContent, IsLibxlRecord}
-use Rattle.mig_libxl.specs.Spelled.HasContent.{pairs as says_pairs, context as says_context}
+use Rattle.mig_libxl.specs.Spelled.{IsFront, IsLibxlRecord}
+use Rattle.mig_libxl.specs.Spelled.HasLibxlContent.{pairs as says_pairs, context as says_context}
 use Rattle.mig_libxl.specs.Spelled.IsLibxlRecord.{body as a_body}
 use Rattle.mig_libxl.proofs.EmulatorParts.{IsEmulatorPart, pairs_of_emulator, context_of_emulator}
 use Rattle.mig_libxl.proofs.EmulatorTexts.{key_front}
+use Rattle.mig_libxl.proofs.CanonParts.{is_record}
 
 -- ---- what a part's record says
 
-abbrev pub content_of : Part → Content
+abbrev pub content_of : Part → LibxlContent
 content_of p = if p.0.code == 258 then Pairs p.0 (pairs_in p.1) else Context p.0 p.1
 
 abbrev pub record_of_part : Part → LibxlRecord
 record_of_part p = record { type = p.0.code - 256; content = content_of p }
-
-pub is_record : (type : ℕ) (body : List ℕ) → type < 2 ^ 32 → length body ≤ 2 ^ 27 → IsRecord type body (spelled type body)
-unfolding spelled head_of
-is_record type body small short = record {
-  head = head_of type (length body);
-  padding = replicate (padding_len (length body)) 0;
-  whole = refl;
-  head_len = refl;
-  type_is = type_in_head type (length body) small;
-  len_is = len_in_head type (length body) (omega (arith, short));
-  padded = length-replicate (padding_len (length body)) 0;
-}
 
 front_is : (key : PartKey) → key.key1 < 3 → key.key2 < 256 → IsFront key.code (key_front key) key
 unfolding head_of
@@ -73,14 +47,14 @@ module _ (id index : ℕ) (bytes : List ℕ) (known : id < 3) (small : index < 2
   pairs_record spells =
       let key = pairs_of_emulator id index in
       a_body 2 (emulator_body (key, bytes)) (spelled 2 (emulator_body (key, bytes))) (Pairs key (pairs_in bytes)) (is_record 2 (emulator_body (key, bytes)) (omega arith) (body_short (key, bytes) short)) (body_short (key, bytes) short)
-      (subst (λ l. HasContent 2 l (Pairs key (pairs_in bytes))) (body_is (key, bytes)) (says_pairs (key_front key) bytes key (pairs_in bytes) (front_is key known small) spells))
+      (subst (λ l. HasLibxlContent 2 l (Pairs key (pairs_in bytes))) (body_is (key, bytes)) (says_pairs (key_front key) bytes key (pairs_in bytes) (front_is key known small) spells))
 
   context_record : IsLibxlRecord (record_of_part (context_of_emulator id index, bytes)) (emulator_record (context_of_emulator id index, bytes))
   unfolding emulator_record
   context_record =
       let key = context_of_emulator id index in
       a_body 3 (emulator_body (key, bytes)) (spelled 3 (emulator_body (key, bytes))) (Context key bytes) (is_record 3 (emulator_body (key, bytes)) (omega arith) (body_short (key, bytes) short)) (body_short (key, bytes) short)
-      (subst (λ l. HasContent 3 l (Context key bytes)) (body_is (key, bytes)) (says_context (key_front key) bytes key (front_is key known small)))
+      (subst (λ l. HasLibxlContent 3 l (Context key bytes)) (body_is (key, bytes)) (says_context (key_front key) bytes key (front_is key known small)))
 
 -- ---- the parts of a guest's emulators
 

@@ -1,30 +1,17 @@
 -- How the records of emulators are spelled, one after another.
-use Rattle.std.proofs.Common.{◌≡◌, ℕ, ◌+◌, ◌<◌, ◌≤◌, ◌^◌, true, List, [], ◌∷◌, ◌++◌, length, take, drop, replicate, Option, Some, Result, inl, inr, refl, sym, ap, subst, ◌∙◌, arith, append_assoc, append-nil, take-append-drop}
-use Rattle.std.specs.Prelude.{◌-◌, ◌==◌, nat_le}
-use Rattle.std.specs.List.{flat_map, range_with_len}
+use Rattle.mig_libxl.proofs.Common.{◌≡◌, ℕ, ◌+◌, ◌<◌, ◌≤◌, ◌^◌, true, List, [], ◌∷◌, ◌++◌, length, take, drop, replicate, Option, Some, Result, inl, inr, refl, sym, ap, subst, ◌∙◌, arith, append_assoc, append-nil, take-append-drop, ◌-◌, ◌==◌, nat_le, flat_map, range_with_len, and_parts, eqb-true, leb-true, or_cases, flat_map-append, map-range_with_len_more, little_bytes, padding_len, puts_then, puts_stop, puts_same, is_emulator_code, width_of, GuestOf, Part, PartMap, EmulatorPairs, EmulatorContext, PartKey, IsOf, of_part, IsWhole, part_with, parts_of_emulator, text_of_emulators, is_of_converter}
 use Rattle.std.specs.Result.{IsErrAnd}
 use Rattle.std.specs.FinMap as maps
 use Rattle.std.proofs.KnownBytes.{Appends-trans}
-use Rattle.std.proofs.lemmas.Bool.{and_parts, eqb-true, leb-true, or_cases}
-use Rattle.std.proofs.lemmas.Grind.{flat_map-append}
 use Rattle.std.proofs.lemmas.List.{map-id}
-use Rattle.std.proofs.lemmas.List.FromFn.{map-range_with_len_more, take-map-range_with_len}
+use Rattle.std.proofs.lemmas.List.FromFn.{take-map-range_with_len}
 use Rattle.std.specs.Io.KnownBytes.{Appends}
-use Rattle.byteorder.specs.Endian.{little_bytes}
-use Rattle.mig_bytes.specs.Bytes.{AppendsPart, Puts, padding_len}
+use Rattle.mig_bytes.specs.Bytes.{AppendsPart, Puts}
 use Rattle.mig_bytes.specs.declared.failure.WriteFailed.{WriteFailed}
-use Rattle.mig_bytes.proofs.Texts.{puts_then, puts_stop, puts_same}
-use Rattle.mig_guest.specs.Formed.{is_emulator_code, width_of}
-use Rattle.mig_guest.specs.Guests.{GuestOf}
-use Rattle.mig_guest.specs.Parts.{Part, PartMap}
-use Rattle.mig_guest.specs.declared.part_code.PartCode.TheVariants.{EmulatorPairs, EmulatorContext}
-use Rattle.mig_guest.specs.declared.part_key.PartKey.{PartKey}
-use Rattle.mig_guest.proofs.PartRows.{IsOf, of_part}
-use Rattle.mig_pvtables.specs.Whole.{IsWhole}
 use Rattle.mig_records.specs.Records.{head_of, spelled}
 use Rattle.mig_canon.specs.Canon.{canon}
 use Rattle.mig_canon.proofs.Spelling.{record_text}
-use Rattle.mig_libxl.specs.Canon.{emulator_body, emulator_record, part_with, parts_of_emulator, parts_below, parts_of_id, emulators_in_order, parts_of_ids, text_of_emulators, opening_text, is_of_converter, wrapped_canon}
+use Rattle.mig_libxl.specs.Canon.{emulator_body, emulator_record, parts_below, parts_of_id, emulators_in_order, parts_of_ids, opening_text, wrapped_canon}
 
 -- ---- one record
 
@@ -69,16 +56,17 @@ range_front i n le = ap (take i) (sym (map-id (range_with_len 0 n))) ∙ take-ma
 range_more : (i : ℕ) → range_with_len 0 (i + 1) ≡ range_with_len 0 i ++ i ∷ []
 range_more i = sym (map-id (range_with_len 0 (i + 1))) ∙ map-range_with_len_more (λ k. k) 0 i i (omega arith) ∙ ap (λ l. l ++ i ∷ []) (map-id (range_with_len 0 i))
 
+-- what the numbers below one number more give
+pub counted_more : {X : Type 0} (F : ℕ → List X) (i : ℕ) → flat_map F (range_with_len 0 (i + 1)) ≡ flat_map F (range_with_len 0 i) ++ F i
+counted_more F i = ap (flat_map F) (range_more i) ∙ flat_map-append F (range_with_len 0 i) (i ∷ []) ∙ ap (λ l. flat_map F (range_with_len 0 i) ++ l) (append-nil (F i))
+
 module _ (F : ℕ → List Part) (i : ℕ) where
   -- the parts of the numbers below n
   abbrev pub below : ℕ → List Part
   below n = flat_map F (range_with_len 0 n)
 
-  below_more : below (i + 1) ≡ below i ++ F i
-  below_more = ap (flat_map F) (range_more i) ∙ flat_map-append F (range_with_len 0 i) (i ∷ []) ∙ ap (λ l. below i ++ l) (append-nil (F i))
-
   text_next : text_of_emulators (below (i + 1)) ≡ text_of_emulators (below i) ++ text_of_emulators (F i)
-  text_next = ap text_of_emulators below_more ∙ texts_join (below i) (F i)
+  text_next = ap text_of_emulators (counted_more F i) ∙ texts_join (below i) (F i)
 
   abbrev behind : ℕ → List Part
   behind n = flat_map F (drop (i + 1) (range_with_len 0 n))

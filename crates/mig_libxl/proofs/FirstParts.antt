@@ -1,20 +1,15 @@
 -- What the first part of a code says of all parts.
-use Rattle.std.proofs.Common.{◌≡◌, ℕ, ◌≤◌, Bool, true, false, cond, List, [], ◌∷◌, filter, Option, Some, None, is_some, refl, sym, ap, subst, ◌∙◌, arith}
-use Rattle.std.specs.Prelude.{◌==◌, ◌&&◌, ◌||◌}
-use Rattle.std.specs.List.{All, list_any}
-use Rattle.std.specs.Ordering.{is_lt, nat_cmp, ordering_then}
+use Rattle.mig_libxl.proofs.Common.{◌≡◌, ℕ, ◌≤◌, Bool, true, false, List, [], ◌∷◌, Option, Some, None, is_some, refl, sym, ap, subst, ◌∙◌, arith, ◌==◌, ◌&&◌, ◌||◌, All, list_any, is_lt, nat_cmp, Equal, eqb-true, All-head, part_cmp, Part, PartMap, parts_of, PartKey, all_of, has_emulators, is_of_converter, common_steps}
+use Rattle.std.proofs.Common.{filter}
+use Rattle.std.specs.Ordering.{ordering_then}
 use Rattle.std.specs.declared.cmp.Ordering.{Ordering}
-use Rattle.std.specs.declared.cmp.Ordering.TheVariants.{Less, Equal, Greater}
+use Rattle.std.specs.declared.cmp.Ordering.TheVariants.{Less, Greater}
 use Rattle.std.specs.FinMap as maps
-use Rattle.std.proofs.lemmas.Bool.{eqb-true, eqb-false, ne_eqb}
+use Rattle.std.proofs.lemmas.Bool.{eqb-false, ne_eqb}
 use Rattle.std.proofs.lemmas.Cmp.{nat_cmp_total, ranked, tied_itself}
-use Rattle.std.proofs.lemmas.List.Elements.{All-head, All-filter, filter_passes}
+use Rattle.std.proofs.lemmas.List.Elements.{All-filter, filter_passes}
 use Rattle.std.proofs.lemmas.List.Folds.{list_any_none}
-use Rattle.mig_guest.specs.Order.{part_cmp}
-use Rattle.mig_guest.specs.Parts.{Part, PartMap, parts_of, NextPart}
-use Rattle.mig_guest.specs.declared.part_key.PartKey.{PartKey}
-use Rattle.mig_guest.proofs.CodeParts.{all_of}
-use Rattle.mig_libxl.specs.Canon.{has_emulators, is_of_converter}
+use Rattle.mig_guest.specs.Parts.{NextPart}
 
 -- ---- tests of some element
 
@@ -22,43 +17,20 @@ module _ {X : Type 0} (p q : X → Bool) where
   -- some element passes both tests where the second passes one of those that pass the first
   pub any_both : (xs : List X) → list_any (λ x. p x && q x) xs ≡ list_any q (filter p xs)
   any_both [] = refl
-  any_both (x ∷ xs) = elim (p x) as (λ b. ((b && q x) || list_any (λ x. p x && q x) xs) ≡ list_any q (cond b (x ∷ filter p xs) (filter p xs))) [
-    | true ↦ ap (λ b. q x || b) (any_both xs)
-    | false ↦ any_both xs
-  ]
+  any_both (x ∷ xs) = grind (arith, common_steps, any_both xs)
 
   -- some element passes one of the tests, and a third
   pub any_either : (r : X → Bool) (xs : List X) → list_any (λ x. (p x || q x) && r x) xs ≡ (list_any (λ x. p x && r x) xs || list_any (λ x. q x && r x) xs)
   any_either r [] = refl
-  any_either r (x ∷ xs) = ap (λ b. ((p x || q x) && r x) || b) (any_either r xs) ∙ swap (p x) (q x) (r x) (list_any (λ x. p x && r x) xs) (list_any (λ x. q x && r x) xs)
-    where
-      swap : (a b c d e : Bool) → (((a || b) && c) || (d || e)) ≡ (((a && c) || d) || ((b && c) || e))
-      swap true true true d e = refl
-      swap true false true d e = refl
-      swap false true true true e = refl
-      swap false true true false e = refl
-      swap false false true d e = refl
-      swap true true false d e = refl
-      swap true false false d e = refl
-      swap false true false d e = refl
-      swap false false false d e = refl
+  any_either r (x ∷ xs) = grind (arith, common_steps, any_either r xs)
 
   pub any_or : (xs : List X) → list_any (λ x. p x || q x) xs ≡ (list_any p xs || list_any q xs)
   any_or [] = refl
-  any_or (x ∷ xs) = ap (λ b. (p x || q x) || b) (any_or xs) ∙ swap (p x) (q x) (list_any p xs) (list_any q xs)
-    where
-      swap : (a b d e : Bool) → ((a || b) || (d || e)) ≡ ((a || d) || (b || e))
-      swap true b d e = refl
-      swap false true true e = refl
-      swap false true false e = refl
-      swap false false d e = refl
+  any_or (x ∷ xs) = grind (arith, common_steps, any_or xs)
 
 pub any_kept : {X : Type 0} (p : X → Bool) (xs : List X) → list_any p xs ≡ list_any (λ _. true) (filter p xs)
 any_kept p [] = refl
-any_kept p (x ∷ xs) = elim (p x) as (λ b. (b || list_any p xs) ≡ list_any (λ _. true) (cond b (x ∷ filter p xs) (filter p xs))) [
-  | true ↦ refl
-  | false ↦ any_kept p xs
-]
+any_kept p (x ∷ xs) = grind (arith, common_steps, any_kept p xs)
 
 -- ---- the first part of a code
 

@@ -1,36 +1,25 @@
 -- A stream of either form behind its first 8 bytes.
-use Rattle.std.proofs.Common.{◌≡◌, ℕ, Bool, true, false, cond, List, [], ◌∷◌, ◌++◌, length, take, drop, nat_le, nat_lt, nat_eq, Option, Some, None, Result, Ok, Err, refl, sym, ap, subst, ◌∙◌, arith, length-append}
-use Rattle.std.specs.FinMap as maps
-use Rattle.std.specs.FinMap.{len-entries, len-empty}
-use Rattle.std.proofs.lemmas.Bool.{le-leb, lt-leb, ltb-true}
-use Rattle.std.proofs.lemmas.List.{drop_at}
+use Rattle.mig_libxl.proofs.Common.{◌≡◌, ℕ, Bool, true, false, cond, List, [], ◌++◌, length, take, drop, nat_le, nat_lt, nat_eq, Option, Some, None, Result, Ok, Err, refl, sym, ap, subst, ◌∙◌, arith, length-append, le-leb, lt-leb, drop_at, Judged, ◌>>=◌, part, placed, Passes, Cause, Truncated, Place, LibxlHeader, ImageOf, Reading, header_at, libxl_records_at, bare_at, Bare, Wrapped}
+use Rattle.std.proofs.lemmas.Bool.{ltb-true}
 use Rattle.mig_bytes.specs.Fields.{be64}
-use Rattle.mig_bytes.specs.Judged.{Judged, ◌>>=◌, part, tried, placed, stop_at, Matches, Gives}
-use Rattle.mig_bytes.specs.Judged.Judged.{Passes, Faulty}
+use Rattle.mig_bytes.specs.Judged.{tried, stop_at, Matches, Gives}
+use Rattle.mig_bytes.specs.Judged.Judged.{Faulty}
 use Rattle.mig_bytes.specs.declared.part.Stop.{Stop}
 use Rattle.mig_bytes.specs.declared.part.Stop.TheVariants as stops
 use Rattle.mig_bytes.proofs.Joins.{part_whole, part_passes}
 use Rattle.mig_headers.proofs.HeaderLaws.{marker_of}
 use Rattle.mig_headers.specs.Headers.{libxl_ident, fault_of_marker}
-use Rattle.mig_headers.specs.declared.fault.Cause.{Cause}
-use Rattle.mig_headers.specs.declared.fault.Cause.TheVariants.{Truncated}
-use Rattle.mig_headers.specs.declared.fault.Place.{Place}
-use Rattle.mig_headers.specs.declared.fault.Place.TheVariants.{ImageHeader, LibxlHeader}
-use Rattle.mig_guest.specs.Guests.{GuestOf}
-use Rattle.mig_guest.specs.Order.{part_cmp}
-use Rattle.mig_policy.specs.PairMaps.{PairMap}
+use Rattle.mig_headers.specs.declared.fault.Place.TheVariants.{ImageHeader}
 use Rattle.mig_restore.proofs.Behind.{behind_is}
-use Rattle.mig_restore.specs.Stream.{ImageOf, image_at, image_behind, marker_at, opening_at}
+use Rattle.mig_restore.specs.Stream.{image_at, image_behind, marker_at, opening_at}
 use Rattle.mig_restore.specs.Stream.{IsReading as IsImageReading}
-use Rattle.mig_restore.specs.declared.read.Reading.{Reading}
-use Rattle.mig_libxl.specs.Emulators.{no_emulators, with_emulators}
-use Rattle.mig_libxl.specs.Stream.{StreamOf, header_at, records_at, wrapped_at, bare_at, stream_at, IsReading}
-use Rattle.mig_libxl.specs.Stream.StreamOf.{Bare, Wrapped}
+use Rattle.mig_libxl.specs.Stream.{StreamOf, wrapped_at, stream_at, IsStreamReading}
+use Rattle.mig_libxl.proofs.EmulatorGuests.{none_set}
 
 -- ---- a libxl stream behind its ident
 
 abbrev pub behind_header : List ℕ × List ℕ → Judged (Place × Cause) StreamOf
-behind_header header = records_at header.1 >>= λ records. Passes (Wrapped records.0) records.1
+behind_header header = libxl_records_at header.1 >>= λ records. Passes (Wrapped records.0) records.1
 
 pub wrapped_is : (i : List ℕ) → wrapped_at i ≡ (placed LibxlHeader (header_at i) >>= behind_header)
 unfolding wrapped_at
@@ -38,19 +27,8 @@ wrapped_is i = refl
 
 -- ---- a bare image
 
-no_list : {X : Type 0} (es : List X) → length es ≡ 0 → es ≡ []
-no_list [] e = refl
-no_list (x ∷ es) e = absurd (omega (arith, e))
-
-no_entries : {X : Type 0} → maps.entries (maps.empty {X = X} {R = part_cmp}) ≡ []
-no_entries {X} = no_list _ (sym (len-entries (maps.empty {X = X} {R = part_cmp})) ∙ len-empty part_cmp X)
-
--- a guest without emulators is that of its image
-plain : (g : GuestOf) → g ≡ with_emulators g no_emulators
-plain g = rw (no_entries {X = PairMap}, no_entries {X = List ℕ}) refl
-
-pub bare_reading : (reading : Reading) (image : ImageOf) → IsImageReading reading image → IsReading reading (Bare image)
-bare_reading reading image r = record { image = image; is = refl; guest = r.guest ∙ plain _; version = r.version; records = r.records }
+pub bare_reading : (reading : Reading) (image : ImageOf) → IsImageReading reading image → IsStreamReading reading (Bare image)
+bare_reading reading image r = record { image = image; is = refl; guest = r.guest ∙ sym (none_set _); version = r.version; records = r.records }
 
 module _ (first : List ℕ) (size : length first ≡ 8) where
   -- the image header begins with the marker

@@ -1,10 +1,7 @@
 -- The image that the reader keeps, as heads ask for it.
-use Rattle.std.proofs.Common.{◌≡◌, Option, Some, None, sym, ap, ◌∙◌}
-use Rattle.mig_restore.specs.Stream.{ImageOf}
-use Rattle.mig_restore.specs.declared.read.Reading.{Reading}
+use Rattle.mig_libxl.proofs.Common.{◌≡◌, Option, Some, None, sym, ap, ◌∙◌, ImageOf, Reading, Holds}
 use Rattle.mig_restore.proofs.Meaning.{mean_kind}
 use Rattle.mig_libxl.specs.Judging.{is_pv, is_pv_kind}
-use Rattle.mig_libxl.specs.Seen.{Holds}
 
 -- the kind of the image is that of the guest that was read
 pub held_kind : (o : Option Reading) (i : Option ImageOf) (reading : Reading) → o ≡ Some reading → Holds o i → is_pv i ≡ is_pv_kind reading.guest.kind

@@ -7,7 +7,6 @@ pub mod Arrivals
 pub mod Begun
 pub mod Bodies
 pub mod Forms
-pub mod Fronts
 pub mod Heads
 pub mod Laws
 pub mod CanonMaps

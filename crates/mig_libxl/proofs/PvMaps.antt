@@ -1,24 +1,16 @@
 -- The parts of a PV guest, set again record by record, give its parts.
-use Rattle.mig_libxl.proofs.Common.{◌≡◌, ℕ, zero, suc, ◌+◌, Bool, true, false, cond, not, nat_eq, nat_lt, List, [], ◌∷◌, ◌++◌, Option, Some, None, refl, sym, ap, subst, ◌∙◌, arith, append-nil, ◌||◌, ◌&&◌, if◌then◌else◌, list_all, list_any, range_with_len, flat_map, eq_by_cmp, Kind, Pv, PartCode, PartKey, Part, PartMap, GuestOf, IsFormed, is_policy, width_of, part_cmp, row_of, code_number, put_part, put_parts, replace_code, p2m_key, set_parts, key_of, static_codes, pv_last_codes, vcpu_codes, records_of_vcpu, vcpus_below}
-use Rattle.std.specs.Prelude.{◌==◌}
+use Rattle.mig_libxl.proofs.Common.{◌≡◌, ℕ, zero, suc, ◌+◌, Bool, true, false, cond, not, nat_eq, nat_lt, List, [], ◌∷◌, ◌++◌, Option, Some, None, refl, sym, ap, subst, ◌∙◌, arith, ◌||◌, ◌&&◌, if◌then◌else◌, list_all, list_any, eq_by_cmp, Kind, Pv, PartCode, PartKey, Part, PartMap, GuestOf, IsFormed, is_policy, width_of, part_cmp, row_of, code_number, put_part, put_parts, replace_code, p2m_key, set_parts, key_of, static_codes, pv_last_codes, vcpu_codes, records_of_vcpu, vcpus_below, ◌==◌, option_or, nat_cmp, and_parts, eqb-true, le-ltb, common_steps, VcpuBasic, VcpuExtended, VcpuXsave, Tsc, VcpuMsrs, tied, part_total, part_exact, of_part, FrameMap}
 use Rattle.std.specs.Cmp.{tied_then, unsigned_tied}
-use Rattle.std.specs.Option.{option_or}
-use Rattle.std.specs.Ordering.{is_eq, nat_cmp, ordering_then}
+use Rattle.std.specs.Ordering.{is_eq, ordering_then}
 use Rattle.std.specs.FinMap as maps
 use Rattle.std.proofs.Math.Bool.{and-or_distrib_right}
-use Rattle.std.proofs.lemmas.Bool.{and_parts, and_right, eqb-true, le-ltb, not-true}
-use Rattle.std.proofs.lemmas.Grind.{common_steps, flat_map-append}
-use Rattle.std.proofs.lemmas.List.{map-id}
-use Rattle.std.proofs.lemmas.List.FromFn.{map-range_with_len_more}
-use Rattle.mig_guest.specs.declared.part_code.PartCode.TheVariants.{P2mFrames, VcpuBasic, VcpuExtended, VcpuXsave, SharedInfo, Tsc, VcpuMsrs, CpuidLeaf, Msr}
+use Rattle.std.proofs.lemmas.Bool.{and_right, not-true}
+use Rattle.mig_guest.specs.declared.part_code.PartCode.TheVariants.{P2mFrames, SharedInfo, CpuidLeaf, Msr}
 use Rattle.mig_guest.specs.PartCodes.{no_keys}
-use Rattle.mig_guest.proofs.KeyedMaps.{tied}
-use Rattle.mig_guest.proofs.PartOrder.{part_total, part_exact}
-use Rattle.mig_guest.proofs.PartRows.{of_part}
-use Rattle.mig_guest.specs.Frames.{FrameMap}
 use Rattle.mig_bodies.specs.PvBodies.{set_p2m}
 use Rattle.mig_libxl.proofs.PvSays.{p2m_set}
 use Rattle.mig_libxl.proofs.CanonMaps.{Holds, mixed, codes_with, with_parts, holds_codes, holds_none, nothing, all_again}
+use Rattle.mig_libxl.proofs.EmulatorTexts.{counted_more}
 
 -- ---- keys
 
@@ -91,10 +83,7 @@ vcpu_parts g zero m = m
 vcpu_parts g (suc n) m = vcpu_set g n vcpu_codes (vcpu_parts g n m)
 
 either : (a b : Bool) (o x : Option (List ℕ)) → option_or (cond b o None) (option_or (cond a o None) x) ≡ option_or (cond (a || b) o None) x
-either true true None x = refl
-either true true (Some y) x = refl
-either true false o x = refl
-either false b o x = refl
+either a b o x = grind (arith, common_steps)
 
 both_ids : (c a b z : Bool) → ((c && (a && z)) || (c && (b && z))) ≡ (c && ((a || b) && z))
 both_ids true a b z = sym (and-or_distrib_right a b z)
@@ -135,12 +124,7 @@ module _ (g : GuestOf) (q : PartKey) where
 
 -- the records of one vCPU more
 pub vcpus_more : (g : GuestOf) (n : ℕ) → vcpus_below g (suc n) ≡ vcpus_below g n ++ records_of_vcpu g n
-vcpus_more g n =
-    ap (vcpus_below g) (let e : suc n ≡ n + 1 = omega arith in e) ∙ ap (flat_map (records_of_vcpu g)) range_more
-    ∙ flat_map-append (records_of_vcpu g) (range_with_len 0 n) (n ∷ []) ∙ ap (λ l. vcpus_below g n ++ l) (append-nil (records_of_vcpu g n))
-  where
-    range_more : range_with_len 0 (n + 1) ≡ range_with_len 0 n ++ n ∷ []
-    range_more = sym (map-id (range_with_len 0 (n + 1))) ∙ map-range_with_len_more (λ k. k) 0 n n (omega arith) ∙ ap (λ l. l ++ n ∷ []) (map-id (range_with_len 0 n))
+vcpus_more g n = ap (vcpus_below g) (let e : suc n ≡ n + 1 = omega arith in e) ∙ counted_more (records_of_vcpu g) n
 
 -- ---- the P2M frames
 

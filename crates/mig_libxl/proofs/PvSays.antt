@@ -1,19 +1,13 @@
 -- What the bodies of the records of a PV guest say: X86_PV_INFO, the P2M frames, and the parts of each vCPU.
-use Rattle.mig_libxl.proofs.Common.{◌≡◌, ℕ, ◌*◌, ◌<◌, ◌≤◌, ◌^◌, Bool, true, false, cond, List, [], ◌∷◌, ◌++◌, length, map, replicate, Some, None, refl, sym, ap, subst, ◌∙◌, arith, All, AllByRecursion, find, eq_by_cmp, little_bytes, Pv, PartCode, PartKey, Part, GuestOf, IsFormed, IsTop, width_of, part_cmp, code_number, parts_of, put_part, p2m_key, p2m_body, key_of, vcpu_codes, IsRecordBody, SayAll, bodies_by_shape, contents_by_shape, part_body, parts_at, shape_of}
-use Rattle.std.specs.Prelude.{◌==◌}
-use Rattle.std.proofs.lemmas.Bool.{eqb-true, eq-eqb, le-leb}
-use Rattle.std.proofs.lemmas.List.Elements.{All-nil, All-cons, All-head, All-tail}
+use Rattle.mig_libxl.proofs.Common.{◌≡◌, ℕ, ◌*◌, ◌<◌, ◌≤◌, ◌^◌, Bool, true, false, cond, List, [], ◌∷◌, ◌++◌, length, map, replicate, Some, None, refl, sym, ap, subst, ◌∙◌, arith, All, AllByRecursion, find, little_bytes, Pv, PartCode, PartKey, Part, GuestOf, IsFormed, IsTop, width_of, part_cmp, code_number, parts_of, put_part, p2m_key, p2m_body, key_of, vcpu_codes, IsRecordBody, SayAll, bodies_by_shape, contents_by_shape, part_body, parts_at, shape_of, ◌==◌, eqb-true, eq-eqb, le-leb, All-nil, All-cons, VcpuBasic, VcpuExtended, VcpuXsave, VcpuMsrs, part_exact, of_part, canonical_bodies_say}
 use Rattle.std.specs.FinMap as maps
 use Rattle.std.specs.FinMap.Entries.{find-where_key}
-use Rattle.mig_guest.specs.declared.part_code.PartCode.TheVariants.{P2mFrames, VcpuBasic, VcpuExtended, VcpuXsave, VcpuMsrs}
-use Rattle.mig_guest.proofs.KeyedMaps.{tied}
-use Rattle.mig_guest.proofs.PartOrder.{part_exact}
-use Rattle.mig_guest.proofs.PartRows.{of_part}
+use Rattle.mig_guest.specs.declared.part_code.PartCode.TheVariants.{P2mFrames}
 use Rattle.mig_bodies.specs.PvBodies.{IsPvInfo, IsP2m, p2m_count, set_p2m, greater, listed_over}
 use Rattle.mig_bodies.specs.declared.shape.Shape.{Shape}
 use Rattle.mig_bodies.specs.declared.shape.Shape.TheVariants.{Table, Single, Named, Chain, Other}
-use Rattle.mig_bodies.proofs.Canonical.{canonical_bodies_say}
 use Rattle.mig_libxl.proofs.CanonParts.{le32_first, le32_second}
+use Rattle.mig_libxl.proofs.EmulatorParts.{found_holds}
 
 -- ---- X86_PV_INFO
 
@@ -75,14 +69,6 @@ says_by_shape code (Named second ignored skips) alone ps say = each_says code (p
 says_by_shape code Chain alone ps say = each_says code (part_body Chain) ps say
 says_by_shape code Other alone ps say = absurd (cc)
 
--- what holds of all entries holds of one that is found
-holds_of_found : (P : Part → Type 0) (q : PartKey) (bytes : List ℕ) (es : List Part) → All P es → find part_cmp q es ≡ Some bytes → P (q, bytes)
-holds_of_found P q bytes [] all is = absurd (cc)
-holds_of_found P q bytes (e ∷ es) all is = elim (eq_by_cmp part_cmp q e.0) as (λ b. eq_by_cmp part_cmp q e.0 ≡ b → cond b (Some e.1) (find part_cmp q es) ≡ Some bytes → P (q, bytes)) [
-  | true ↦ λ t at. let content : e.1 ≡ bytes = cc in subst (λ k. P (k, bytes)) (sym (part_exact q e.0 (tied _ t))) (subst (λ b. P (e.0, b)) content (All-head P e es all))
-  | false ↦ λ t at. holds_of_found P q bytes es (All-tail P e es all) at
-] refl is
-
 -- a part that is there is among those of its code
 found_at_code : (g : GuestOf) (q : PartKey) (bytes : List ℕ) → maps.get g.parts q ≡ Some bytes → find part_cmp q (parts_of q.code (maps.entries g.parts)) ≡ Some bytes
 found_at_code g q bytes there =
@@ -94,7 +80,7 @@ found_at_code g q bytes there =
 part_says : (g : GuestOf) → IsFormed g → (code : PartCode) → is_alone (shape_of code) ≡ true → (key : PartKey) (bytes : List ℕ) → key.code ≡ code_number code → maps.get g.parts key ≡ Some bytes
     → IsRecordBody code (part_body (shape_of code) (key, bytes)) ((key, bytes) ∷ [])
 part_says g formed code alone key bytes number there =
-    holds_of_found (λ p. IsRecordBody code (part_body (shape_of code) p) (p ∷ [])) key bytes (parts_at code g)
+    found_holds (λ p. IsRecordBody code (part_body (shape_of code) p) (p ∷ [])) key bytes (parts_at code g)
     (says_by_shape code (shape_of code) alone (parts_at code g) (canonical_bodies_say code g formed))
     (subst (λ n. find part_cmp key (parts_of n (maps.entries g.parts)) ≡ Some bytes) number (found_at_code g key bytes there))
 

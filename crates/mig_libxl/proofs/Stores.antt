@@ -1,19 +1,12 @@
 -- The stores as their tree lists them, and pairs added to one.
-use Rattle.std.proofs.Common.{◌≡◌, ℕ, ◌<◌, List, [], ◌∷◌, length, map, cond, Option, Some, None, refl, sym, ap, ◌∙◌, arith}
-use Rattle.std.specs.Prelude.{unwrap_or}
+use Rattle.mig_libxl.proofs.Common.{◌≡◌, ℕ, ◌<◌, List, [], ◌∷◌, length, map, cond, Option, Some, None, refl, sym, ap, ◌∙◌, arith, unwrap_or, option_map, Pair, PartKey, part_cmp, PartMap, part_total, part_exact, PairMap, put_pairs, EmulatorsOf, store_at, add_pairs}
 use Rattle.std.specs.BTreeMap.{is_at}
 use Rattle.std.specs.FinMap as maps
 use Rattle.std.specs.List.Sorted.{IsStrictlySortedBy}
 use Rattle.std.specs.Map.{keys_of, lookup}
-use Rattle.std.specs.Option.{option_map}
-use Rattle.mig_headers.specs.Pairs.{Pair}
-use Rattle.mig_guest.specs.declared.part_key.PartKey.{PartKey}
-use Rattle.mig_guest.specs.Order.{part_cmp}
-use Rattle.mig_guest.specs.Parts.{PartMap}
-use Rattle.mig_guest.proofs.PartOrder.{part_total, part_exact}
 use Rattle.mig_guest.proofs.KeyedMaps.{shown, entries_seen, get_seen, seen_insert}
-use Rattle.mig_policy.specs.PairMaps.{PairMap, pairs_in, put_pairs}
-use Rattle.mig_libxl.specs.Emulators.{EmulatorsOf, store_at, add_pairs, stores_seen}
+use Rattle.mig_policy.specs.PairMaps.{pairs_in}
+use Rattle.mig_libxl.specs.Emulators.{stores_seen}
 
 abbrev pub Entry : Type 0
 Entry = PartKey × PairMap

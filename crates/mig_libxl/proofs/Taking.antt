@@ -1,42 +1,19 @@
 -- What the reader keeps of a record's content.
-use Rattle.std.proofs.Common.{◌≡◌, ℕ, ◌-◌, ◌≤◌, ◌<◌, ◌^◌, true, false, List, length, take, drop, nat_eq, nat_le, nat_lt, Option, Some, None, Ok, Err, refl, sym, ap, subst, ◌∙◌, arith, length-drop}
-use Rattle.std.specs.Prelude.{◌||◌}
+use Rattle.mig_libxl.proofs.Common.{◌≡◌, ℕ, ◌-◌, ◌≤◌, ◌<◌, ◌^◌, true, false, List, length, take, drop, nat_eq, nat_le, nat_lt, Option, Some, None, Ok, refl, sym, ap, subst, ◌∙◌, arith, ◌||◌, le-leb, lt-leb, le-ltb, common_steps, ◌>>=◌, Passes, Cause, pairs_fault, Reading, LibxlContent, image_in, Image, Pairs, Context, EmulatorsOf, no_emulators, add_pairs, put_libxl_content, emulator_key, AreEmulators, Holds, Seen}
+use Rattle.std.proofs.Common.{length-drop}
 use Rattle.std.specs.FinMap as maps
-use Rattle.std.proofs.lemmas.Bool.{le-leb, lt-leb, le-ltb, lt-ltb}
-use Rattle.std.proofs.lemmas.Grind.{common_steps}
+use Rattle.std.proofs.lemmas.Bool.{lt-ltb}
 use Rattle.std.proofs.lemmas.List.{take_all}
 use Rattle.std.proofs.lemmas.Option.{none-some, same_Some}
 use Rattle.mig_bytes.specs.Fields.{le32}
-use Rattle.mig_bytes.specs.Judged.{◌>>=◌, part, Gives}
-use Rattle.mig_bytes.specs.Judged.Judged.{Passes}
-use Rattle.mig_bytes.specs.declared.part.Stop.TheVariants.{Refused}
-use Rattle.mig_headers.specs.declared.fault.Cause.{Cause}
-use Rattle.mig_headers.specs.declared.fault.Cause.TheVariants.{Truncated, BadEmulator, TooManyPairs, EmulatorIndex}
-use Rattle.mig_policy.specs.PairFaults.{pairs_fault}
-use Rattle.mig_policy.specs.PairMaps.{pairs_in, put_pairs, text_of_map}
+use Rattle.mig_bytes.specs.Judged.{Gives}
+use Rattle.mig_headers.specs.declared.fault.Cause.TheVariants.{BadEmulator, TooManyPairs, EmulatorIndex}
+use Rattle.mig_policy.specs.PairMaps.{pairs_in}
 use Rattle.mig_restore.specs.Stream.{image_at}
 use Rattle.mig_restore.specs.Stream.{IsReading as IsImageReading}
-use Rattle.mig_restore.specs.declared.read.Reading.{Reading}
-use Rattle.mig_libxl.specs.Content.{Content, image_in}
-use Rattle.mig_libxl.specs.Content.Content.{Image, Pairs, Context}
-use Rattle.mig_libxl.specs.Emulators.{EmulatorsOf, no_emulators, store_at, add_pairs, put_content}
-use Rattle.mig_libxl.specs.Judging.{key_in, most_pairs, spelled_with, fault_of_pairs, fault_of_context, body_at, inner_at}
-use Rattle.mig_libxl.specs.Seen.{AreEmulators, Holds, Takes}
-use Rattle.mig_libxl.specs.declared.read.Seen.{Seen}
+use Rattle.mig_libxl.specs.Judging.{most_pairs, spelled_with, fault_of_pairs, fault_of_context, inner_at}
+use Rattle.mig_libxl.specs.Seen.{TakesLibxl}
 use Rattle.mig_libxl.proofs.Bodies.{fine_pairs}
-
--- ---- a whole body, and the cause that stands in it
-
-module _ {X V : Type 0} (R : X → List ℕ → Type 0) (Q : V → Content → Type 0) (n : ℕ) (fault : List ℕ → Option Cause) (says : List ℕ → Content) (x : X) where
-  pub body_said : (a b : Option (List ℕ)) (v : V) → Gives R a b (part Truncated n) (Ok x) → ((bytes : List ℕ) → R x bytes → (fault bytes ≡ None) × Q v (says bytes)) → Gives Q a b (body_at fault says n) (Ok v)
-  body_said None b v h turn = tt
-  body_said (Some i) b v (bytes, rest, is, left, r) turn =
-      let (none, q) = turn bytes r in
-      (says bytes, rest, rw (is, none) refl, left, q)
-
-  pub body_refused : (a b : Option (List ℕ)) (c : Cause) → Gives R a b (part Truncated n) (Ok x) → ((bytes : List ℕ) → R x bytes → fault bytes ≡ Some c) → Gives Q a b (body_at fault says n) (Err (Refused c))
-  body_refused None b c h turn = tt
-  body_refused (Some i) b c (bytes, rest, is, left, r) turn = (rest, rw (is, turn bytes r) refl, left)
 
 -- ---- the causes of an emulator's body
 
@@ -64,6 +41,17 @@ pub behind_front : (body bytes slice : List ℕ) → body ≡ bytes → slice �
 behind_front body bytes slice same is =
     is ∙ take_all (length body - 8) (drop 8 body) (omega (arith, length-drop 8 body)) ∙ ap (drop 8) same
 
+-- each is read of the body as it is lent for this
+pub are_read : (body for_id for_index for_slice slice : List ℕ) (id index : ℕ) → for_id ≡ body → for_index ≡ body → for_slice ≡ body → id ≡ le32 for_id 0 → index ≡ le32 for_index 4 → slice ≡ take (length for_slice - 8) (drop 8 for_slice) → IsRead body slice id index
+are_read body for_id for_index for_slice slice id index same alike again id_is index_is slice_is = record {
+  slice_is = behind_front for_slice body slice again slice_is;
+  id_is = id_is ∙ ap (λ l. le32 l 0) same;
+  index_is = index_is ∙ ap (λ l. le32 l 4) alike;
+}
+
+pub read_in : {body slice : List ℕ} {id index : ℕ} (bytes : List ℕ) → IsRead body slice id index → bytes ≡ body → IsRead bytes slice id index
+read_in bytes read is = rw is read
+
 module _ (e : EmulatorsOf) (body slice : List ℕ) (id index : ℕ) (r : IsRead body slice id index) where
   pub pairs_bad : (c : Cause) → pairs_fault slice ≡ Some c → fault_of_pairs e body ≡ Some c
   unfolding fault_of_pairs
@@ -80,29 +68,29 @@ module _ (e : EmulatorsOf) (body slice : List ℕ) (id index : ℕ) (r : IsRead 
       let fine = fine_slice none in rw (fine, over, to) refl
 
   -- the pairs that these make of a store
-  pub spelled_len : length (text_of_map (put_pairs (store_at e.stores (record { code = 258; key1 = id; key2 = index })) (pairs_in slice))) ≡ spelled_with e body
+  pub spelled_len : spelled_with e (record { code = 258; key1 = id; key2 = index }) (pairs_in slice) ≡ spelled_with e (emulator_key 258 body) (pairs_in (drop 8 body))
   spelled_len =
-      ap (λ l. length (text_of_map (put_pairs (store_at e.stores (record { code = 258; key1 = id; key2 = index })) (pairs_in l)))) r.slice_is
-      ∙ ap (λ n. length (text_of_map (put_pairs (store_at e.stores (record { code = 258; key1 = n; key2 = index })) (pairs_in (drop 8 body))))) r.id_is
-      ∙ ap (λ n. length (text_of_map (put_pairs (store_at e.stores (record { code = 258; key1 = le32 body 0; key2 = n })) (pairs_in (drop 8 body))))) r.index_is
+      ap (λ l. spelled_with e (record { code = 258; key1 = id; key2 = index }) (pairs_in l)) r.slice_is
+      ∙ ap (λ n. spelled_with e (record { code = 258; key1 = n; key2 = index }) (pairs_in (drop 8 body))) r.id_is
+      ∙ ap (λ n. spelled_with e (record { code = 258; key1 = le32 body 0; key2 = n }) (pairs_in (drop 8 body))) r.index_is
 
-  pub pairs_too_many : pairs_fault slice ≡ None → id < 3 → 2 ^ 24 < length (text_of_map (put_pairs (store_at e.stores (record { code = 258; key1 = id; key2 = index })) (pairs_in slice))) → fault_of_pairs e body ≡ Some TooManyPairs
+  pub pairs_too_many : pairs_fault slice ≡ None → id < 3 → 2 ^ 24 < spelled_with e (record { code = 258; key1 = id; key2 = index }) (pairs_in slice) → fault_of_pairs e body ≡ Some TooManyPairs
   unfolding fault_of_pairs
   pairs_too_many none low many =
       let known : nat_le 3 (le32 body 0) ≡ false = lt-leb 3 (le32 body 0) (subst (λ k. k < 3) r.id_is low) in
-      let full : nat_lt most_pairs (spelled_with e body) ≡ true = lt-ltb most_pairs (spelled_with e body) (subst (λ n. 2 ^ 24 < n) spelled_len many) in
+      let full : nat_lt most_pairs (spelled_with e (emulator_key 258 body) (pairs_in (drop 8 body))) ≡ true = lt-ltb most_pairs (spelled_with e (emulator_key 258 body) (pairs_in (drop 8 body))) (subst (λ n. 2 ^ 24 < n) spelled_len many) in
       let fine = fine_slice none in rw (fine, known, full) refl
 
-  pub pairs_bad_index : (named : ℕ) → pairs_fault slice ≡ None → id < 3 → length (text_of_map (put_pairs (store_at e.stores (record { code = 258; key1 = id; key2 = index })) (pairs_in slice))) ≤ 2 ^ 24 → named ≡ index → 256 ≤ index → fault_of_pairs e body ≡ Some (EmulatorIndex named)
+  pub pairs_bad_index : (named : ℕ) → pairs_fault slice ≡ None → id < 3 → spelled_with e (record { code = 258; key1 = id; key2 = index }) (pairs_in slice) ≤ 2 ^ 24 → named ≡ index → 256 ≤ index → fault_of_pairs e body ≡ Some (EmulatorIndex named)
   unfolding fault_of_pairs
   pairs_bad_index named none low fits same high =
       let known : nat_le 3 (le32 body 0) ≡ false = lt-leb 3 (le32 body 0) (subst (λ k. k < 3) r.id_is low) in
-      let room : nat_lt most_pairs (spelled_with e body) ≡ false = le-ltb _ _ (subst (λ n. n ≤ 2 ^ 24) spelled_len fits) in
+      let room : nat_lt most_pairs (spelled_with e (emulator_key 258 body) (pairs_in (drop 8 body))) ≡ false = le-ltb _ _ (subst (λ n. n ≤ 2 ^ 24) spelled_len fits) in
       let over : nat_le 256 (le32 body 4) ≡ true = le-leb 256 (le32 body 4) (subst (λ k. 256 ≤ k) r.index_is high) in
       let to : named ≡ le32 body 4 = same ∙ r.index_is in
       let fine = fine_slice none in rw (fine, known, room, over, to) refl
 
-  pub pairs_fine : pairs_fault slice ≡ None → id < 3 → length (text_of_map (put_pairs (store_at e.stores (record { code = 258; key1 = id; key2 = index })) (pairs_in slice))) ≤ 2 ^ 24 → index < 256 → fault_of_pairs e body ≡ None
+  pub pairs_fine : pairs_fault slice ≡ None → id < 3 → spelled_with e (record { code = 258; key1 = id; key2 = index }) (pairs_in slice) ≤ 2 ^ 24 → index < 256 → fault_of_pairs e body ≡ None
   pairs_fine none low fits small = fine_pairs e body (record {
     pairs = fine_slice none;
     known = subst (λ k. k < 3) r.id_is low;
@@ -110,15 +98,15 @@ module _ (e : EmulatorsOf) (body slice : List ℕ) (id index : ℕ) (r : IsRead 
     small = subst (λ k. k < 256) r.index_is small;
   })
 
-  pub pairs_put : add_pairs e (record { code = 258; key1 = id; key2 = index }) (pairs_in slice) ≡ put_content e (Pairs (key_in 258 body) (pairs_in (drop 8 body)))
+  pub pairs_put : add_pairs e (record { code = 258; key1 = id; key2 = index }) (pairs_in slice) ≡ put_libxl_content e (Pairs (emulator_key 258 body) (pairs_in (drop 8 body)))
   pairs_put = rw (r.slice_is, r.id_is, r.index_is) refl
 
-  pub context_put : put_content e (Context (record { code = 259; key1 = id; key2 = index }) slice) ≡ put_content e (Context (key_in 259 body) (drop 8 body))
+  pub context_put : put_libxl_content e (Context (record { code = 259; key1 = id; key2 = index }) slice) ≡ put_libxl_content e (Context (emulator_key 259 body) (drop 8 body))
   context_put = rw (r.slice_is, r.id_is, r.index_is) refl
 
 -- ---- what is kept
 
-pub takes_of : (old new : Seen) (type : ℕ) (c : Content) → image_in c ≡ None → (nat_eq type 2 || nat_eq type 3) ≡ true → new.emulators ≡ put_content old.emulators c → new.emulated ≡ true → new.image ≡ old.image → new.records ≡ old.records → Takes old new type c
+pub takes_of : (old new : Seen) (type : ℕ) (c : LibxlContent) → image_in c ≡ None → (nat_eq type 2 || nat_eq type 3) ≡ true → new.emulators ≡ put_libxl_content old.emulators c → new.emulated ≡ true → new.image ≡ old.image → new.records ≡ old.records → TakesLibxl old new type c
 takes_of old new type c none of_emulator emulators emulated image records = record {
   emulators = emulators;
   emulated = emulated ∙ grind (arith, common_steps, of_emulator);
@@ -139,7 +127,7 @@ none_yet = record {
 -- ---- the image
 
 pub image_read : (old new : Seen) (a b : Option (List ℕ)) (reading : Reading) → old.image ≡ None → new.emulators ≡ old.emulators → new.emulated ≡ old.emulated → new.image ≡ Some reading → new.records ≡ old.records
-    → Gives IsImageReading a b image_at (Ok reading) → Gives {X = Unit {0}} (λ _ c. Takes old new 1 c) a b inner_at (Ok tt)
+    → Gives IsImageReading a b image_at (Ok reading) → Gives {X = Unit {0}} (λ _ c. TakesLibxl old new 1 c) a b inner_at (Ok tt)
 image_read old new None b reading none emulators emulated image records h = tt
 image_read old new (Some i) b reading none emulators emulated image records (im, rest, is, left, read) = (
   Image im,

@@ -8,27 +8,27 @@ use Rattle.mig_restore.specs.Stream.{ImageOf}
 
 -- what a record says: nothing; the image that follows LIBXC_CONTEXT; pairs for an emulator's store, by the key of the part
 -- that they are added to; or an emulator's context, by the key of the part that it is
-pub data Content : Type 0 where
-  Nothing : Content
-  Image : ImageOf → Content
-  Pairs : PartKey → List Pair → Content
-  Context : PartKey → List ℕ → Content
+pub data LibxlContent : Type 0 where
+  Nothing : LibxlContent
+  Image : ImageOf → LibxlContent
+  Pairs : PartKey → List Pair → LibxlContent
+  Context : PartKey → List ℕ → LibxlContent
 
 pub record LibxlRecord : Type 0 where
   pub type : ℕ
-  pub content : Content
+  pub content : LibxlContent
 
 -- ---- what stands among records
 
 -- one that ends the stream
-abbrev pub is_ended : List LibxlRecord → Bool
-is_ended records = list_any (λ r. r.type == 0) records
+abbrev pub is_libxl_ended : List LibxlRecord → Bool
+is_libxl_ended records = list_any (λ r. r.type == 0) records
 
 -- one of an emulator
 abbrev pub has_emulator : List LibxlRecord → Bool
 has_emulator records = list_any (λ r. (r.type == 2) || (r.type == 3)) records
 
-abbrev pub image_in : Content → Option ImageOf
+abbrev pub image_in : LibxlContent → Option ImageOf
 image_in (Image image) = Some image
 image_in _ = None
 

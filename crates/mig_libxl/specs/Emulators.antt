@@ -13,8 +13,8 @@ use Rattle.mig_guest.specs.Order.{part_cmp}
 use Rattle.mig_guest.specs.Parts.{Part, PartMap, parts_code, put_parts}
 use Rattle.mig_policy.specs.PairMaps.{PairMap, pairs_code, put_pairs, text_of_map}
 use Rattle.mig_restore.specs.Mean.{same_key}
-use Rattle.mig_libxl.specs.Content.{LibxlRecord, Content}
-use Rattle.mig_libxl.specs.Content.Content.{Nothing, Image, Pairs, Context}
+use Rattle.mig_libxl.specs.Content.{LibxlRecord, LibxlContent}
+use Rattle.mig_libxl.specs.Content.LibxlContent.{Nothing, Image, Pairs, Context}
 
 -- the stores of emulators by the key of the part that they are, and their contexts
 pub record EmulatorsOf : Type 0 where
@@ -33,20 +33,20 @@ abbrev pub add_pairs : EmulatorsOf → PartKey → List Pair → EmulatorsOf
 add_pairs e key [] = e
 add_pairs e key (p ∷ ps) = record e { stores = maps.insert e.stores key (put_pairs (store_at e.stores key) (p ∷ ps)) }
 
-abbrev pub put_content : EmulatorsOf → Content → EmulatorsOf
-put_content e Nothing = e
-put_content e (Image image) = e
-put_content e (Pairs key ps) = add_pairs e key ps
-put_content e (Context key bytes) = record e { contexts = maps.insert e.contexts key bytes }
+abbrev pub put_libxl_content : EmulatorsOf → LibxlContent → EmulatorsOf
+put_libxl_content e Nothing = e
+put_libxl_content e (Image image) = e
+put_libxl_content e (Pairs key ps) = add_pairs e key ps
+put_libxl_content e (Context key bytes) = record e { contexts = maps.insert e.contexts key bytes }
 
 -- what records say of emulators
 unfoldable pub emulators_of : List LibxlRecord → EmulatorsOf
-emulators_of records = fold (λ e r. put_content e r.content) no_emulators records
+emulators_of records = fold (λ e r. put_libxl_content e r.content) no_emulators records
 
 -- ---- emulators in the words of the format
 
 -- the context that a content says for a key
-abbrev pub context_in : PartKey → Content → Option (List ℕ)
+abbrev pub context_in : PartKey → LibxlContent → Option (List ℕ)
 context_in key (Context k bytes) = if same_key k key then Some bytes else None
 context_in key _ = None
 
@@ -56,7 +56,7 @@ last_context key [] = None
 last_context key (r ∷ rs) = option_or (last_context key rs) (context_in key r.content)
 
 -- the pairs that a content adds to the store of a key
-abbrev pub pairs_for : PartKey → Content → List Pair
+abbrev pub pairs_for : PartKey → LibxlContent → List Pair
 pairs_for key (Pairs k ps) = if same_key k key then ps else []
 pairs_for key _ = []
 
@@ -66,13 +66,13 @@ pairs_said key [] = []
 pairs_said key (r ∷ rs) = pairs_for key r.content ++ pairs_said key rs
 
 -- the value of the last pair with this key
-abbrev pub last_value : List ℕ → List Pair → Option (List ℕ)
-last_value k [] = None
-last_value k (p ∷ ps) = option_or (last_value k ps) (if bytes_eq p.key k then Some p.value else None)
+abbrev pub last_pair_value : List ℕ → List Pair → Option (List ℕ)
+last_pair_value k [] = None
+last_pair_value k (p ∷ ps) = option_or (last_pair_value k ps) (if bytes_eq p.key k then Some p.value else None)
 
 -- the value of a key in the store of an emulator, if it has a store
-abbrev pub value_in : EmulatorsOf → PartKey → List ℕ → Option (List ℕ)
-value_in e key k = option_and_then (λ m. maps.get m k) (maps.get e.stores key)
+abbrev pub value_in_store : EmulatorsOf → PartKey → List ℕ → Option (List ℕ)
+value_in_store e key k = option_and_then (λ m. maps.get m k) (maps.get e.stores key)
 
 -- ---- a guest with its emulators
 

@@ -4,8 +4,9 @@ use Rattle.std.specs.Prelude.{ℕ, ◌^◌, Bool, true, false, List, [], ◌∷�
 use Rattle.std.specs.Option.{option_or}
 use Rattle.mig_bytes.specs.Bytes.{padding_len}
 use Rattle.mig_bytes.specs.Fields.{le32}
-use Rattle.mig_bytes.specs.Judged.{Judged, ◌>>=◌, part, tried, placed}
+use Rattle.mig_bytes.specs.Judged.{Judged, ◌>>=◌, part, placed, said_at, plain_at}
 use Rattle.mig_bytes.specs.Judged.Judged.{Passes}
+use Rattle.mig_headers.specs.Pairs.{Pair}
 use Rattle.mig_headers.specs.RecordTypes.{is_optional}
 use Rattle.mig_headers.specs.Rows.{first_fault}
 use Rattle.mig_headers.specs.declared.kind.Kind.{Kind}
@@ -19,8 +20,8 @@ use Rattle.mig_policy.specs.PairFaults.{pairs_fault}
 use Rattle.mig_policy.specs.PairMaps.{pairs_in, put_pairs, text_of_map}
 use Rattle.mig_restore.specs.Judging.{most_records}
 use Rattle.mig_restore.specs.Stream.{ImageOf, image_at}
-use Rattle.mig_libxl.specs.Content.{LibxlRecord, Content, has_emulator, image_among}
-use Rattle.mig_libxl.specs.Content.Content.{Nothing, Image, Pairs, Context}
+use Rattle.mig_libxl.specs.Content.{LibxlRecord, LibxlContent, has_emulator, image_among}
+use Rattle.mig_libxl.specs.Content.LibxlContent.{Nothing, Image, Pairs, Context}
 use Rattle.mig_libxl.specs.Emulators.{EmulatorsOf, store_at, emulators_of}
 
 -- ---- the head
@@ -63,84 +64,74 @@ order_rows records type =
     ∷ (is_miscounted type (image_among records), ContextCount)
     ∷ []
 
-unfoldable pub fault_of_fields : ℕ → ℕ → Option Cause
-fault_of_fields type len = first_fault (field_rows type len)
+unfoldable pub fault_of_libxl_fields : ℕ → ℕ → Option Cause
+fault_of_libxl_fields type len = first_fault (field_rows type len)
 
 unfoldable pub fault_of_order : List LibxlRecord → ℕ → Option Cause
 fault_of_order records type = first_fault (order_rows records type)
 
-abbrev pub fault_of_head : List LibxlRecord → ℕ → ℕ → Option Cause
-fault_of_head records type len = option_or (fault_of_fields type len) (fault_of_order records type)
+abbrev pub fault_of_libxl_head : List LibxlRecord → ℕ → ℕ → Option Cause
+fault_of_libxl_head records type len = option_or (fault_of_libxl_fields type len) (fault_of_order records type)
 
-abbrev pub head_at : List LibxlRecord → List ℕ → Judged Cause (List ℕ)
-head_at records input = do
-  head ← part Truncated 8 input
-  _ ← tried (fault_of_head records (le32 head.0 0) (le32 head.0 4)) head.1
-  Passes head.0 head.1
+abbrev pub libxl_head_at : List LibxlRecord → List ℕ → Judged Cause (List ℕ)
+libxl_head_at records input = said_at Truncated (λ head. fault_of_libxl_head records (le32 head 0) (le32 head 4)) (λ head. head) 8 input
 
 -- ---- the bodies of emulators
 
 -- the key of the part of this code that a body names, by the emulator's id and its index
-abbrev pub key_in : ℕ → List ℕ → PartKey
-key_in code body = record { code = code; key1 = le32 body 0; key2 = le32 body 4 }
+abbrev pub emulator_key : ℕ → List ℕ → PartKey
+emulator_key code body = record { code = code; key1 = le32 body 0; key2 = le32 body 4 }
 
 -- the most bytes that the pairs of an emulator spell
 abbrev pub most_pairs : ℕ
 most_pairs = 2 ^ 24
 
--- how many bytes an emulator's pairs spell once those in this body are added
-abbrev pub spelled_with : EmulatorsOf → List ℕ → ℕ
-spelled_with e body = length (text_of_map (put_pairs (store_at e.stores (key_in 258 body)) (pairs_in (drop 8 body))))
+-- how many bytes the pairs of the emulator with this key spell once these are added
+abbrev pub spelled_with : EmulatorsOf → PartKey → List Pair → ℕ
+spelled_with e key ps = length (text_of_map (put_pairs (store_at e.stores key) ps))
 
 unfoldable pub fault_of_pairs : EmulatorsOf → List ℕ → Option Cause
 fault_of_pairs e body =
     option_or (pairs_fault (drop 8 body))
     (first_fault (
     (nat_le 3 (le32 body 0), BadEmulator (le32 body 0))
-    ∷ (nat_lt most_pairs (spelled_with e body), TooManyPairs)
+    ∷ (nat_lt most_pairs (spelled_with e (emulator_key 258 body) (pairs_in (drop 8 body))), TooManyPairs)
     ∷ (nat_le 256 (le32 body 4), EmulatorIndex (le32 body 4))
     ∷ []))
 
 unfoldable pub fault_of_context : List ℕ → Option Cause
 fault_of_context body = first_fault ((nat_le 3 (le32 body 0), BadEmulator (le32 body 0)) ∷ (nat_le 256 (le32 body 4), EmulatorIndex (le32 body 4)) ∷ [])
 
--- a whole body, the cause that stands in it, and what it says
-abbrev pub body_at : (List ℕ → Option Cause) → (List ℕ → Content) → ℕ → List ℕ → Judged Cause Content
-body_at fault says len input = do
-  body ← part Truncated len input
-  _ ← tried (fault body.0) body.1
-  Passes (says body.0) body.1
+abbrev pub pairs_at : EmulatorsOf → ℕ → List ℕ → Judged Cause LibxlContent
+pairs_at e len input = said_at Truncated (fault_of_pairs e) (λ body. Pairs (emulator_key 258 body) (pairs_in (drop 8 body))) len input
 
-abbrev pub pairs_at : EmulatorsOf → ℕ → List ℕ → Judged Cause Content
-pairs_at e len input = body_at (fault_of_pairs e) (λ body. Pairs (key_in 258 body) (pairs_in (drop 8 body))) len input
-
-abbrev pub context_at : ℕ → List ℕ → Judged Cause Content
-context_at len input = body_at fault_of_context (λ body. Context (key_in 259 body) (drop 8 body)) len input
+abbrev pub context_at : ℕ → List ℕ → Judged Cause LibxlContent
+context_at len input = said_at Truncated fault_of_context (λ body. Context (emulator_key 259 body) (drop 8 body)) len input
 
 -- a body of which nothing is kept
-abbrev pub skipped_at : ℕ → List ℕ → Judged Cause Content
-skipped_at len input = body_at (λ _. None) (λ _. Nothing) len input
+abbrev pub skipped_at : ℕ → List ℕ → Judged Cause LibxlContent
+skipped_at len input = plain_at Truncated (λ _. Nothing) len input
 
 -- ---- a record
 
 -- the image behind LIBXC_CONTEXT, whose parts have places of their own
-abbrev pub inner_at : List ℕ → Judged (Place × Cause) Content
+abbrev pub inner_at : List ℕ → Judged (Place × Cause) LibxlContent
 inner_at input = do
   image ← image_at input
   Passes (Image image.0) image.1
 
 -- the body of a record of this type, behind these emulators
-abbrev pub body_of_type : EmulatorsOf → ℕ → ℕ → List ℕ → Judged Cause Content
+abbrev pub body_of_type : EmulatorsOf → ℕ → ℕ → List ℕ → Judged Cause LibxlContent
 body_of_type e type len input = if type == 2 then pairs_at e len input else if type == 3 then context_at len input else skipped_at len input
 
 -- what stands behind the head of a record of this type: a body, or the image behind LIBXC_CONTEXT
-abbrev pub content_at : List LibxlRecord → ℕ → ℕ → List ℕ → Judged (Place × Cause) Content
-content_at records type len input = if type == 1 then inner_at input else placed (AtRecord (length records)) (body_of_type (emulators_of records) type len input)
+abbrev pub libxl_content_at : List LibxlRecord → ℕ → ℕ → List ℕ → Judged (Place × Cause) LibxlContent
+libxl_content_at records type len input = if type == 1 then inner_at input else placed (AtRecord (length records)) (body_of_type (emulators_of records) type len input)
 
 -- a record behind these records
-unfoldable pub record_at : List LibxlRecord → List ℕ → Judged (Place × Cause) LibxlRecord
-record_at records input = do
-  head ← placed (AtRecord (length records)) (head_at records input)
-  content ← content_at records (le32 head.0 0) (le32 head.0 4) head.1
+unfoldable pub libxl_record_at : List LibxlRecord → List ℕ → Judged (Place × Cause) LibxlRecord
+libxl_record_at records input = do
+  head ← placed (AtRecord (length records)) (libxl_head_at records input)
+  content ← libxl_content_at records (le32 head.0 0) (le32 head.0 4) head.1
   padding ← placed (AtRecord (length records)) (part Truncated (padding_len (le32 head.0 4)) content.1)
   Passes (record { type = le32 head.0 0; content = content.0 }) padding.1

@@ -12,8 +12,8 @@ use Rattle.mig_pvtables.specs.Whole.{IsWhole}
 use Rattle.mig_restore.specs.Stream.{ImageOf}
 use Rattle.mig_restore.specs.Stream.{IsReading as IsImageReading}
 use Rattle.mig_restore.specs.declared.read.Reading.{Reading}
-use Rattle.mig_libxl.specs.Content.{LibxlRecord, Content, has_emulator, image_in, image_among}
-use Rattle.mig_libxl.specs.Emulators.{EmulatorsOf, no_emulators, put_content, emulators_of}
+use Rattle.mig_libxl.specs.Content.{LibxlRecord, LibxlContent, has_emulator, image_in, image_among}
+use Rattle.mig_libxl.specs.Emulators.{EmulatorsOf, no_emulators, put_libxl_content, emulators_of}
 use Rattle.mig_libxl.specs.declared.read.Seen.{Seen}
 
 -- what was read of the image, where there was one
@@ -24,7 +24,7 @@ Holds (Some reading) None = ⊥
 Holds (Some reading) (Some image) = IsImageReading reading image
 
 -- the reader has these records behind it
-pub record IsSeen (seen : Seen) (records : List LibxlRecord) : Type 0 where
+pub record IsLibxlSeen (seen : Seen) (records : List LibxlRecord) : Type 0 where
   pub count : seen.records ≡ length records
   pub emulators : seen.emulators ≡ emulators_of records
   pub emulated : seen.emulated ≡ has_emulator records
@@ -56,7 +56,7 @@ pub record IsPlain (g : GuestOf) : Type 0 where
   pub bytes : IsOfBytes g
   pub plain : HasNoEmulators g.parts
 
-pub record IsBegun (seen : Seen) : Type 0 where
+pub record IsLibxlBegun (seen : Seen) : Type 0 where
   pub emulators : AreEmulators seen.emulators
   pub none : seen.emulated ≡ false → seen.emulators ≡ no_emulators
   pub guest : IfSome seen.image (λ reading. IsPlain reading.guest)
@@ -67,8 +67,8 @@ pub record IsClosed (seen : Seen) : Type 0 where
   pub alone : IfSome seen.image (λ reading. reading.guest.kind ≡ Pv → seen.emulated ≡ false)
 
 -- what the content of a record of this type makes of what was kept
-pub record Takes (old new : Seen) (type : ℕ) (c : Content) : Type 0 where
-  pub emulators : new.emulators ≡ put_content old.emulators c
+pub record TakesLibxl (old new : Seen) (type : ℕ) (c : LibxlContent) : Type 0 where
+  pub emulators : new.emulators ≡ put_libxl_content old.emulators c
   pub emulated : new.emulated ≡ (old.emulated || ((type == 2) || (type == 3)))
   pub first : (i : ImageOf) → image_in c ≡ Some i → old.image ≡ None
   pub image : (i : ImageOf) → image_in c ≡ Some i → Holds new.image (Some i)

@@ -1,21 +1,21 @@
 -- The spelling of a stream of either form, in the words of the format (libxl migration stream, "Header" and "Records").
-use Rattle.std.specs.Prelude.{◌≡◌, ◌≤◌, ◌<◌, ◌^◌, ℕ, ⊤, true, false, Bool, List, [], ◌∷◌, ◌++◌, length, Some, None}
+use Rattle.std.specs.Prelude.{◌≡◌, ◌≤◌, ◌<◌, ◌^◌, ℕ, ⊤, true, false, Bool, List, [], ◌++◌, length, Some, None}
 use Rattle.mig_bytes.specs.Fields.{le32}
+use Rattle.mig_bytes.specs.Sequences.{Spells}
 use Rattle.mig_headers.specs.Headers.{IsLibxlHeader}
 use Rattle.mig_headers.specs.Pairs.{Pair}
 use Rattle.mig_headers.specs.declared.kind.Kind.TheVariants.{Pv}
 use Rattle.mig_guest.specs.Guests.{GuestOf}
 use Rattle.mig_guest.specs.declared.part_key.PartKey.{PartKey}
 use Rattle.mig_policy.specs.PairFaults.{SpellPairs}
-use Rattle.mig_policy.specs.PairMaps.{put_pairs, text_of_map}
 use Rattle.mig_records.specs.Records.{IsRecord}
 use Rattle.mig_restore.specs.Judging.{most_records}
 use Rattle.mig_restore.specs.Spelled.{IsImage}
 use Rattle.mig_restore.specs.Stream.{ImageOf}
-use Rattle.mig_libxl.specs.Content.{LibxlRecord, Content, is_ended, has_emulator, image_among}
-use Rattle.mig_libxl.specs.Content.Content.{Nothing, Image, Pairs, Context}
-use Rattle.mig_libxl.specs.Emulators.{store_at, emulators_of}
-use Rattle.mig_libxl.specs.Judging.{most_pairs}
+use Rattle.mig_libxl.specs.Content.{LibxlRecord, LibxlContent, is_libxl_ended, has_emulator, image_among}
+use Rattle.mig_libxl.specs.Content.LibxlContent.{Nothing, Image, Pairs, Context}
+use Rattle.mig_libxl.specs.Emulators.{emulators_of}
+use Rattle.mig_libxl.specs.Judging.{most_pairs, spelled_with}
 use Rattle.mig_libxl.specs.Stream.{StreamOf, guest_of, image_of_stream}
 use Rattle.mig_libxl.specs.Stream.StreamOf.{Bare, Wrapped}
 
@@ -29,41 +29,36 @@ pub record IsFront (code : ℕ) (front : List ℕ) (key : PartKey) : Type 0 wher
   pub small : key.key2 < 256
 
 -- a body of this type, and what it says
-pub data HasContent : ℕ → List ℕ → Content → Type 0 where
-  optional : (type : ℕ) (body : List ℕ) → 2 ^ 31 ≤ type → HasContent type body Nothing
-  ends : HasContent 0 [] Nothing
-  pairs : (front text : List ℕ) (key : PartKey) (ps : List Pair) → IsFront 258 front key → SpellPairs text ps → HasContent 2 (front ++ text) (Pairs key ps)
-  context : (front bytes : List ℕ) (key : PartKey) → IsFront 259 front key → HasContent 3 (front ++ bytes) (Context key bytes)
+pub data HasLibxlContent : ℕ → List ℕ → LibxlContent → Type 0 where
+  optional : (type : ℕ) (body : List ℕ) → 2 ^ 31 ≤ type → HasLibxlContent type body Nothing
+  ends : HasLibxlContent 0 [] Nothing
+  pairs : (front text : List ℕ) (key : PartKey) (ps : List Pair) → IsFront 258 front key → SpellPairs text ps → HasLibxlContent 2 (front ++ text) (Pairs key ps)
+  context : (front bytes : List ℕ) (key : PartKey) → IsFront 259 front key → HasLibxlContent 3 (front ++ bytes) (Context key bytes)
 
 -- the bytes of a record: LIBXC_CONTEXT has no body, and an image follows it; of any other, its head, body and padding
 pub data IsLibxlRecord : LibxlRecord → List ℕ → Type 0 where
   image : (head text : List ℕ) (i : ImageOf) → IsRecord 1 [] head → IsImage text i.opening i.records [] → IsLibxlRecord (record { type = 1; content = Image i }) (head ++ text)
-  body : (type : ℕ) (body bytes : List ℕ) (c : Content) → IsRecord type body bytes → length body ≤ 2 ^ 27 → HasContent type body c → IsLibxlRecord (record { type = type; content = c }) bytes
+  body : (type : ℕ) (body bytes : List ℕ) (c : LibxlContent) → IsRecord type body bytes → length body ≤ 2 ^ 27 → HasLibxlContent type body c → IsLibxlRecord (record { type = type; content = c }) bytes
 
 -- no emulator has more pairs than it may have, once these are added
-abbrev pub Fits : List LibxlRecord → Content → Type 0
-Fits records (Pairs key ps) = length (text_of_map (put_pairs (store_at (emulators_of records).stores key) ps)) ≤ most_pairs
-Fits records _ = ⊤
+abbrev pub EmulatorsFit : List LibxlRecord → LibxlContent → Type 0
+EmulatorsFit records (Pairs key ps) = spelled_with (emulators_of records) key ps ≤ most_pairs
+EmulatorsFit records _ = ⊤
 
 -- what END asks: an image, and of a PV guest no emulators
-pub record IsComplete (records : List LibxlRecord) : Type 0 where
+pub record IsLibxlComplete (records : List LibxlRecord) : Type 0 where
   pub image : ImageOf
   pub there : image_among records ≡ Some image
   pub emulators : image.opening.kind ≡ Pv → has_emulator records ≡ false
 
 -- a record that may stand behind these records
-pub record Follows (records : List LibxlRecord) (r : LibxlRecord) (bytes : List ℕ) : Type 0 where
+pub record FollowsLibxl (records : List LibxlRecord) (r : LibxlRecord) (bytes : List ℕ) : Type 0 where
   pub is : IsLibxlRecord r bytes
-  pub fits : Fits records r.content
+  pub fits : EmulatorsFit records r.content
   pub few : length records < most_records
-  pub not_ended : is_ended records ≡ false
+  pub not_ended : is_libxl_ended records ≡ false
   pub one_image : r.type ≡ 1 → image_among records ≡ None
-  pub complete : r.type ≡ 0 → IsComplete records
-
--- these records, one after another, each in its place
-pub data Spells : List ℕ → List LibxlRecord → Type 0 where
-  none : Spells [] []
-  one_more : (bytes : List ℕ) (records : List LibxlRecord) (r : LibxlRecord) (text : List ℕ) → Spells bytes records → Follows records r text → Spells (bytes ++ text) (records ++ r ∷ [])
+  pub complete : r.type ≡ 0 → IsLibxlComplete records
 
 -- a libxl stream without a fault: its header, records of which the last is END, and then what follows
 pub record IsWrapped (input : List ℕ) (records : List LibxlRecord) (rest : List ℕ) : Type 0 where
@@ -72,8 +67,8 @@ pub record IsWrapped (input : List ℕ) (records : List LibxlRecord) (rest : Lis
   pub bytes : List ℕ
   pub whole : input ≡ header ++ (bytes ++ rest)
   pub is_header : IsLibxlHeader header legacy
-  pub spelled : Spells bytes records
-  pub ended : is_ended records ≡ true
+  pub spelled : Spells FollowsLibxl bytes records
+  pub ended : is_libxl_ended records ≡ true
 
 -- a stream of either form
 abbrev pub IsStream : List ℕ → StreamOf → List ℕ → Type 0
@@ -81,7 +76,7 @@ IsStream input (Bare i) rest = IsImage input i.opening i.records rest
 IsStream input (Wrapped records) rest = IsWrapped input records rest
 
 -- a front of the input is an accepted stream with this guest, and rest follows it
-pub record Accepted (input : List ℕ) (guest : GuestOf) (rest : List ℕ) : Type 0 where
+pub record AcceptedStream (input : List ℕ) (guest : GuestOf) (rest : List ℕ) : Type 0 where
   pub stream : StreamOf
   pub image : ImageOf
   pub spelled : IsStream input stream rest

@@ -3,33 +3,35 @@ ghost use Rattle.mig_bytes.specs.Judged.Judged.{Passes};
 ghost use Rattle.mig_headers.specs.declared.fault.Cause.{Cause};
 ghost use Rattle.mig_headers.specs.declared.fault.Place.{Place};
 ghost use Rattle.mig_guest.specs.Guests.{GuestOf};
-ghost use Rattle.mig_libxl.specs.Spelled.{IsStream, Accepted};
-ghost use Rattle.mig_libxl.specs.Stream.{StreamOf, stream_at, IsRefused};
+ghost use Rattle.mig_libxl.specs.Spelled.{IsStream, AcceptedStream};
+ghost use Rattle.mig_libxl.specs.Stream.{StreamOf, stream_at, IsStreamRefused};
 
 /// What judging accepts is spelled as the format says.
+#[tactic(auto, using(crate::proofs::Laws::accepted_is_stream))]
 pub fn accepted_is_stream()
     ensures { (input : List ℕ) (s : StreamOf) (rest : List ℕ) → stream_at input ≡ Passes s rest → IsStream input s rest }
 {}
 
 /// What is spelled as the format says is accepted.
+#[tactic(auto, using(crate::proofs::Laws::stream_is_accepted))]
 pub fn stream_is_accepted()
     ensures { (input : List ℕ) (s : StreamOf) (rest : List ℕ) → IsStream input s rest → stream_at input ≡ Passes s rest }
 {}
 
 /// For every input either a front is an accepted stream, or it is refused at a place for a cause.
 pub fn accepted_or_refused()
-    ensures { (input : List ℕ) → ((guest : GuestOf) × (rest : List ℕ) × Accepted input guest rest)
-        ⊎ ((place : Place) × (cause : Cause) × (rest : List ℕ) × IsRefused input place cause rest) }
+    ensures { (input : List ℕ) → ((guest : GuestOf) × (rest : List ℕ) × AcceptedStream input guest rest)
+        ⊎ ((place : Place) × (cause : Cause) × (rest : List ℕ) × IsStreamRefused input place cause rest) }
 {}
 
 /// An input with an accepted front has no refusal.
 pub fn never_both()
     ensures { (input : List ℕ) (guest : GuestOf) (rest : List ℕ) (place : Place) (cause : Cause) (more : List ℕ) →
-        Accepted input guest rest → IsRefused input place cause more → ⊥ }
+        AcceptedStream input guest rest → IsStreamRefused input place cause more → ⊥ }
 {}
 
 /// At most one front of an input is an accepted stream, with one guest.
 pub fn one_front()
-    ensures { (input : List ℕ) (g h : GuestOf) (rest more : List ℕ) → Accepted input g rest → Accepted input h more
+    ensures { (input : List ℕ) (g h : GuestOf) (rest more : List ℕ) → AcceptedStream input g rest → AcceptedStream input h more
         → (g ≡ h) × (rest ≡ more) }
 {}

@@ -10,12 +10,12 @@ ghost use Rattle.mig_records.specs.Heads.{head_in};
 ghost use Rattle.mig_restore.specs.Judging.{most_records};
 ghost use Rattle.mig_restore.specs.Stream.{stop_of, or_stop};
 ghost use Rattle.mig_libxl.specs.Content.{LibxlRecord, image_among};
-ghost use Rattle.mig_libxl.specs.Content.Content.{Nothing};
-ghost use Rattle.mig_libxl.specs.Judging.{is_pv, is_pv_kind, fault_of_fields, fault_of_head, head_at, pairs_at, context_at, skipped_at, inner_at, body_of_type, content_at, record_at, allows_length as length_allowed};
-ghost use Rattle.mig_libxl.specs.Seen.{IsSeen, IsBegun, IsClosed};
+ghost use Rattle.mig_libxl.specs.Content.LibxlContent.{Nothing};
+ghost use Rattle.mig_libxl.specs.Judging.{is_pv, is_pv_kind, fault_of_libxl_fields, fault_of_libxl_head, libxl_head_at, pairs_at, context_at, skipped_at, inner_at, body_of_type, libxl_content_at, libxl_record_at, allows_length as length_allowed};
+ghost use Rattle.mig_libxl.specs.Seen.{IsLibxlSeen, IsLibxlBegun, IsClosed};
 ghost use Rattle.mig_libxl.specs.Stream.StreamOf.{Wrapped};
 ghost use Rattle.mig_headers.specs.declared.kind.Kind.TheVariants.{Pv};
-ghost use Rattle.mig_libxl.specs.Stream.{header_at, records_at, wrapped_at, bare_at, stream_at, IsReading, ReadsStream};
+ghost use Rattle.mig_libxl.specs.Stream.{header_at, libxl_records_at, wrapped_at, bare_at, stream_at, IsStreamReading, ReadsStream};
 
 use crate::emulators::Emulators;
 use mig_bytes::{Memory, ReadFailed, Source, Stop, pad_len, skip, take_long, take_part, u32_le};
@@ -126,9 +126,9 @@ fn allows_length(kind: u32, len: u32) -> bool
 }
 
 /// What is wrong with a head, whatever stands before it.
-#[tactic(auto, unfolding(crate::specs::Judging::fault_of_fields))]
+#[tactic(auto, unfolding(crate::specs::Judging::fault_of_libxl_fields))]
 fn lone_fault(head: RecordHead) -> Option<Cause>
-    ensures fault { result ≡ fault_of_fields head.kind head.len }
+    ensures fault { result ≡ fault_of_libxl_fields head.kind head.len }
     ensures small { IfNone result (head.len ≤ 2 ^ 27) }
     ensures allowed { IfNone result (length_allowed head.kind head.len ≡ true) }
 {
@@ -148,13 +148,13 @@ fn lone_fault(head: RecordHead) -> Option<Cause>
 }
 
 impl Seen {
-    ghost use Rattle.mig_libxl.specs.Seen.{IsSeen, IsBegun, IsClosed, Takes};
+    ghost use Rattle.mig_libxl.specs.Seen.{IsLibxlSeen, IsLibxlBegun, IsClosed, TakesLibxl};
 
     /// Before the first record.
     #[tactic(auto, unfolding(crate::specs::Emulators::emulators_of))]
     fn new(alloc: Global) -> Seen
-        ensures seen { IsSeen result [] }
-        ensures begun { IsBegun result }
+        ensures seen { IsLibxlSeen result [] }
+        ensures begun { IsLibxlBegun result }
     {
         Seen {
             emulators: Emulators::new(alloc),
@@ -166,7 +166,7 @@ impl Seen {
 
     /// Whether the image is that of a PV guest.
     fn is_pv(&self) -> bool
-        ensures seen { (records : List LibxlRecord) → IsSeen self.now records → result ≡ is_pv (image_among records) }
+        ensures seen { (records : List LibxlRecord) → IsLibxlSeen self.now records → result ≡ is_pv (image_among records) }
         ensures held { IfSome self.now.image (λ reading. result ≡ is_pv_kind reading.guest.kind) }
     {
         match &self.image {
@@ -178,7 +178,7 @@ impl Seen {
     /// What is wrong with a head behind these records.
     #[tactic(auto, unfolding(crate::specs::Judging::fault_of_order))]
     fn head_fault(&self, head: RecordHead) -> Option<Cause>
-        ensures fault { (records : List LibxlRecord) → IsSeen self.now records → result ≡ fault_of_head records head.kind head.len }
+        ensures fault { (records : List LibxlRecord) → IsLibxlSeen self.now records → result ≡ fault_of_libxl_head records head.kind head.len }
         ensures small { IfNone result (head.len ≤ 2 ^ 27) }
         ensures allowed { IfNone result (length_allowed head.kind head.len ≡ true) }
         ensures room { IfNone result (self.now.records < most_records) }
@@ -208,7 +208,7 @@ impl Seen {
 
     /// Takes the next record's head.
     fn take_head<S: Source>(&self, src: &mut S) -> Result<RecordHead, Stop<Cause>>
-        ensures read { (records : List LibxlRecord) → IsSeen self.now records → Gives (λ h head. h ≡ head_in head) (S.left src.old) (S.left src.new) (head_at records) result }
+        ensures read { (records : List LibxlRecord) → IsLibxlSeen self.now records → Gives (λ h head. h ≡ head_in head) (S.left src.old) (S.left src.new) (libxl_head_at records) result }
         ensures small { IfOk result (λ h. h.len ≤ 2 ^ 27) }
         ensures allowed { IfOk result (λ h. length_allowed h.kind h.len ≡ true) }
         ensures room { OnOk result (self.now.records < most_records) }
@@ -236,9 +236,9 @@ impl Seen {
     ) -> Result<(), Stop<Cause>>
         requires front { 8 ≤ len }
         requires small { len ≤ 2 ^ 27 }
-        requires begun { IsBegun self.old }
-        ensures read { Gives (λ _ c. Takes self.old self.new 2 c) (S.left src.old) (S.left src.new) (pairs_at self.old.emulators len) result }
-        ensures begun { OnOk result (IsBegun self.new) }
+        requires begun { IsLibxlBegun self.old }
+        ensures read { Gives (λ _ c. TakesLibxl self.old self.new 2 c) (S.left src.old) (S.left src.new) (pairs_at self.old.emulators len) result }
+        ensures begun { OnOk result (IsLibxlBegun self.new) }
         ensures others { OnOk result ((self.new.records ≡ self.old.records) × (self.new.image ≡ self.old.image)) }
         ensures faults { RisesOnReadFault (S.faults src.old) (S.faults src.new) result }
     {
@@ -279,9 +279,9 @@ impl Seen {
     ) -> Result<(), Stop<Cause>>
         requires front { 8 ≤ len }
         requires small { len ≤ 2 ^ 27 }
-        requires begun { IsBegun self.old }
-        ensures read { Gives (λ _ c. Takes self.old self.new 3 c) (S.left src.old) (S.left src.new) (context_at len) result }
-        ensures begun { OnOk result (IsBegun self.new) }
+        requires begun { IsLibxlBegun self.old }
+        ensures read { Gives (λ _ c. TakesLibxl self.old self.new 3 c) (S.left src.old) (S.left src.new) (context_at len) result }
+        ensures begun { OnOk result (IsLibxlBegun self.new) }
         ensures others { OnOk result ((self.new.records ≡ self.old.records) × (self.new.image ≡ self.old.image)) }
         ensures faults { RisesOnReadFault (S.faults src.old) (S.faults src.new) result }
     {
@@ -316,9 +316,9 @@ impl Seen {
         src: &mut S,
     ) -> Result<(), Stop<(Place, Cause)>>
         requires first { self.old.image ≡ None }
-        requires begun { IsBegun self.old }
-        ensures read { Gives (λ _ c. Takes self.old self.new 1 c) (S.left src.old) (S.left src.new) inner_at result }
-        ensures begun { OnOk result (IsBegun self.new) }
+        requires begun { IsLibxlBegun self.old }
+        ensures read { Gives (λ _ c. TakesLibxl self.old self.new 1 c) (S.left src.old) (S.left src.new) inner_at result }
+        ensures begun { OnOk result (IsLibxlBegun self.new) }
         ensures others { OnOk result ((self.new.records ≡ self.old.records) × (self.new.emulated ≡ self.old.emulated)) }
         ensures faults { RisesOnReadFault (S.faults src.old) (S.faults src.new) result }
     {
@@ -341,9 +341,9 @@ impl Seen {
         requires small { head.len ≤ 2 ^ 27 }
         requires allowed { length_allowed head.kind head.len ≡ true }
         requires no_image { head.kind ≢ 1 }
-        requires begun { IsBegun self.old }
-        ensures read { Gives (λ _ c. Takes self.old self.new head.kind c) (S.left src.old) (S.left src.new) (body_of_type self.old.emulators head.kind head.len) result }
-        ensures begun { OnOk result (IsBegun self.new) }
+        requires begun { IsLibxlBegun self.old }
+        ensures read { Gives (λ _ c. TakesLibxl self.old self.new head.kind c) (S.left src.old) (S.left src.new) (body_of_type self.old.emulators head.kind head.len) result }
+        ensures begun { OnOk result (IsLibxlBegun self.new) }
         ensures others { OnOk result ((self.new.records ≡ self.old.records) × (self.new.image ≡ self.old.image)) }
         ensures end { OnOk result (head.kind ≡ 0 → self.new ≡ self.old) }
         ensures faults { RisesOnReadFault (S.faults src.old) (S.faults src.new) result }
@@ -365,9 +365,9 @@ impl Seen {
         requires small { head.len ≤ 2 ^ 27 }
         requires allowed { length_allowed head.kind head.len ≡ true }
         requires first { head.kind ≡ 1 → self.old.image ≡ None }
-        requires begun { IsBegun self.old }
-        ensures read { (records : List LibxlRecord) → IsSeen self.old records → Gives (λ _ c. Takes self.old self.new head.kind c) (S.left src.old) (S.left src.new) (content_at records head.kind head.len) result }
-        ensures begun { OnOk result (IsBegun self.new) }
+        requires begun { IsLibxlBegun self.old }
+        ensures read { (records : List LibxlRecord) → IsLibxlSeen self.old records → Gives (λ _ c. TakesLibxl self.old self.new head.kind c) (S.left src.old) (S.left src.new) (libxl_content_at records head.kind head.len) result }
+        ensures begun { OnOk result (IsLibxlBegun self.new) }
         ensures others { OnOk result (self.new.records ≡ self.old.records) }
         ensures end { OnOk result (head.kind ≡ 0 → self.new ≡ self.old) }
         ensures faults { RisesOnReadFault (S.faults src.old) (S.faults src.new) result }
@@ -388,10 +388,10 @@ impl Seen {
         alloc: Global,
         src: &mut S,
     ) -> Result<bool, Stop<(Place, Cause)>>
-        requires begun { IsBegun self.old }
-        ensures read { (records : List LibxlRecord) → IsSeen self.old records →
-            Gives (λ over r. IsSeen self.new (records ++ r ∷ []) × (over ≡ (r.type == 0))) (S.left src.old) (S.left src.new) (record_at records) result }
-        ensures begun { OnOk result (IsBegun self.new) }
+        requires begun { IsLibxlBegun self.old }
+        ensures read { (records : List LibxlRecord) → IsLibxlSeen self.old records →
+            Gives (λ over r. IsLibxlSeen self.new (records ++ r ∷ []) × (over ≡ (r.type == 0))) (S.left src.old) (S.left src.new) (libxl_record_at records) result }
+        ensures begun { OnOk result (IsLibxlBegun self.new) }
         ensures closed { IfOk result (λ over. over ≡ true → IsClosed self.new) }
         ensures counted { OnOk result ((self.new.records ≡ self.old.records + 1) × (self.old.records < most_records)) }
         ensures faults { RisesOnReadFault (S.faults src.old) (S.faults src.new) result }
@@ -412,9 +412,9 @@ impl Seen {
 
     /// The reading of the image, with the emulators put into its guest.
     fn finish(self) -> Result<Reading, Memory>
-        requires begun { IsBegun self }
+        requires begun { IsLibxlBegun self }
         requires closed { IsClosed self }
-        ensures read { IfOk result (λ reading. (records : List LibxlRecord) → IsSeen self records → IsReading reading (Wrapped records)) }
+        ensures read { IfOk result (λ reading. (records : List LibxlRecord) → IsLibxlSeen self records → IsStreamReading reading (Wrapped records)) }
         ensures whole { IfOk result (λ reading. IsWhole reading.guest) }
         ensures blank { IfOk result (λ reading. blank reading.guest ≡ reading.guest) }
         ensures bytes { IfOk result (λ reading. IsOfBytes reading.guest) }
@@ -434,8 +434,8 @@ impl Seen {
 
 /// Takes records up to the one that ends the stream.
 fn take_records<S: Source>(alloc: Global, src: &mut S) -> Result<Seen, Stop<(Place, Cause)>>
-    ensures read { Gives IsSeen (S.left src.old) (S.left src.new) records_at result }
-    ensures begun { IfOk result (λ seen. IsBegun seen) }
+    ensures read { Gives IsLibxlSeen (S.left src.old) (S.left src.new) libxl_records_at result }
+    ensures begun { IfOk result (λ seen. IsLibxlBegun seen) }
     ensures closed { IfOk result (λ seen. IsClosed seen) }
     ensures faults { RisesOnReadFault (S.faults src.old) (S.faults src.new) result }
 {
@@ -460,7 +460,7 @@ fn take_header<S: Source>(src: &mut S) -> Result<(), Stop<Cause>>
 
 /// Takes a libxl stream behind its ident.
 fn read_wrapped<S: Source>(alloc: Global, src: &mut S) -> Result<Reading, Stop<(Place, Cause)>>
-    ensures read { Gives IsReading (S.left src.old) (S.left src.new) wrapped_at result }
+    ensures read { Gives IsStreamReading (S.left src.old) (S.left src.new) wrapped_at result }
     ensures whole { IfOk result (λ reading. IsWhole reading.guest) }
     ensures blank { IfOk result (λ reading. blank reading.guest ≡ reading.guest) }
     ensures bytes { IfOk result (λ reading. IsOfBytes reading.guest) }
@@ -482,7 +482,7 @@ fn read_bare<S: Source>(
     src: &mut S,
     first: &[u8; 8],
 ) -> Result<Reading, Stop<(Place, Cause)>>
-    ensures read { Gives IsReading (S.left src.old) (S.left src.new) (λ rest. bare_at (first.now ++ rest)) result }
+    ensures read { Gives IsStreamReading (S.left src.old) (S.left src.new) (λ rest. bare_at (first.now ++ rest)) result }
     ensures whole { IfOk result (λ reading. IsWhole reading.guest) }
     ensures blank { IfOk result (λ reading. blank reading.guest ≡ reading.guest) }
     ensures bytes { IfOk result (λ reading. IsOfBytes reading.guest) }
@@ -499,7 +499,7 @@ fn read_bare<S: Source>(
 
 /// Takes a stream of either form.
 fn read_form<S: Source>(alloc: Global, src: &mut S) -> Result<Reading, Stop<(Place, Cause)>>
-    ensures read { Gives IsReading (S.left src.old) (S.left src.new) stream_at result }
+    ensures read { Gives IsStreamReading (S.left src.old) (S.left src.new) stream_at result }
     ensures whole { IfOk result (λ reading. IsWhole reading.guest) }
     ensures blank { IfOk result (λ reading. blank reading.guest ≡ reading.guest) }
     ensures bytes { IfOk result (λ reading. IsOfBytes reading.guest) }

@@ -1,5 +1,5 @@
 -- The causes that stand in each part of a libxl stream around its image.
-use Rattle.mig_refused.proofs.Common.{◌≡◌, ◌⊎◌, inl, inr, ℕ, ◌^◌, ◌<◌, ◌≤◌, List, [], ◌∷◌, ◌++◌, drop, Bool, true, false, cond, nat_eq, nat_le, nat_lt, not, is_none, Option, Some, None, refl, sym, ap, subst, ◌∙◌, arith, leb-true, leb-false, ltb-true, eqb-true, eqb-false, eq-eqb, le-leb, lt-leb, lt-ltb, false≢true, not-true, and_parts, and_from, not_from_false, or_left, or_right, or_cases, le32, first_fault, Cause, BadLength, Kind, Pv, Hvm, IsTriedBefore}
+use Rattle.mig_refused.proofs.Common.{◌≡◌, ◌⊎◌, inl, inr, ℕ, ◌^◌, ◌≤◌, List, [], ◌∷◌, ◌++◌, drop, Bool, true, false, cond, nat_eq, nat_le, nat_lt, not, is_none, Option, Some, None, refl, sym, ap, subst, ◌∙◌, arith, leb-true, leb-false, ltb-true, eqb-true, eqb-false, eq-eqb, le-leb, lt-leb, lt-ltb, false≢true, not-true, and_parts, and_from, not_from_false, or_left, or_right, or_cases, le32, first_fault, Cause, BadLength, Kind, Pv, Hvm, IsTriedBefore}
 use Rattle.std.specs.Prelude.{◌&&◌, ◌||◌}
 use Rattle.std.proofs.lemmas.Option.{none-some, same_Some}
 use Rattle.mig_headers.specs.Headers.{libxl_rows, fault_of_libxl}
@@ -10,22 +10,25 @@ use Rattle.mig_policy.proofs.KeyLaws.{first_fault_is_computed}
 use Rattle.mig_restore.specs.Stream.{ImageOf}
 use Rattle.mig_libxl.specs.Content.{LibxlRecord, has_emulator, image_among}
 use Rattle.mig_libxl.specs.Emulators.{EmulatorsOf}
-use Rattle.mig_libxl.specs.Judging.{is_pv, is_pv_kind, is_miscounted, allows_length, field_rows, order_rows, fault_of_fields, fault_of_order, fault_of_head, most_pairs, spelled_with, fault_of_pairs, fault_of_context}
-use Rattle.mig_refused.proofs.Least.{Least, RowHas, To, rows_least, into, named, join, both_least}
+use Rattle.mig_policy.specs.PairMaps.{pairs_in}
+use Rattle.mig_libxl.specs.Judging.{emulator_key, is_pv, is_pv_kind, is_miscounted, allows_length, field_rows, order_rows, fault_of_libxl_fields, fault_of_order, fault_of_libxl_head, most_pairs, spelled_with, fault_of_pairs, fault_of_context}
+use Rattle.mig_headers.proofs.FirstCauses.{join}
+use Rattle.mig_refused.proofs.Least.{Least, Tries, nothing_tried, RowHas, To, named, both_least}
+use Rattle.mig_refused.proofs.PvGuests.{is_missing}
 use Rattle.mig_refused.proofs.PvTables.{differs, test_differs}
-use Rattle.mig_refusals.specs.Wrapper.{HeaderHas, HeadHas, PairsHas, ContextHas, WrapperPart, Stands}
-use Rattle.mig_refusals.specs.Wrapper.WrapperPart.{Header, Head, PairsBody, ContextBody}
-use Rattle.mig_refusals.specs.Wrapper.HeaderHas.{big_endian, bad_version}
-use Rattle.mig_refusals.specs.Wrapper.{HeadHas as heads, PairsHas as of_pairs, ContextHas as of_context}
+use Rattle.mig_refusals.specs.Wrapper.{LibxlHeaderHas, LibxlHeadHas, PairsHas, EmulatorContextHas, WrapperPart, StandsInWrapper, wrapper_size}
+use Rattle.mig_refusals.specs.Wrapper.WrapperPart.{Header, Head, PairsBody, ContextBody, OtherBody, Padding}
+use Rattle.mig_refusals.specs.Wrapper.LibxlHeaderHas.{big_endian, bad_version}
+use Rattle.mig_refusals.specs.Wrapper.{LibxlHeadHas as heads, PairsHas as of_pairs, EmulatorContextHas as of_context}
 
 -- ---- the header
 
-header_least : (bytes : List ℕ) → Least (HeaderHas bytes) (fault_of_libxl bytes)
-header_least bytes = named (HeaderHas bytes) (libxl_rows bytes) refl ((λ h. bad_version (differs _ _ h)), ((λ h. big_endian (eqb-true _ _ h)), tt)) from
+pub header_least : (bytes : List ℕ) → Least (LibxlHeaderHas bytes) (fault_of_libxl bytes)
+header_least bytes = named (LibxlHeaderHas bytes) (libxl_rows bytes) refl ((λ h. bad_version (differs _ _ h)), ((λ h. big_endian (eqb-true _ _ h)), tt)) from
   where
-    from : (k : ℕ) (c : Cause) → HeaderHas bytes k c → RowHas (libxl_rows bytes) k c
-    from _ _ (big_endian h) = inr (inl (eq-eqb _ _ h, refl, refl))
-    from _ _ (bad_version h) = inl (test_differs _ _ h, refl, refl)
+    from : (k : ℕ) (c : Cause) → LibxlHeaderHas bytes k c → RowHas (libxl_rows bytes) k c
+    from _ _ (big_endian h) = (refl, inr (inl (eq-eqb _ _ h, refl)))
+    from _ _ (bad_version h) = (refl, inl (test_differs _ _ h, refl))
 
 -- ---- a record's head
 
@@ -42,13 +45,13 @@ of_pv Hvm is = absurd (false≢true is)
 
 module _ (records : List LibxlRecord) (type len : ℕ) where
   abbrev Has : ℕ → Cause → Type 0
-  Has = HeadHas records type len
+  Has = LibxlHeadHas records type len
 
   abbrev rows : List (Bool × Cause)
   rows = field_rows type len ++ order_rows records type
 
-  head_is : fault_of_head records type len ≡ first_fault rows
-  unfolding fault_of_fields fault_of_order
+  head_is : fault_of_libxl_head records type len ≡ first_fault rows
+  unfolding fault_of_libxl_fields fault_of_order
   head_is = join (field_rows type len) (order_rows records type)
 
   -- ---- a row whose test holds says a cause that stands
@@ -71,14 +74,10 @@ module _ (records : List LibxlRecord) (type len : ℕ) where
       by None is pv zero some = absurd (false≢true pv)
       by (Some image) is pv zero some = heads.emulator_for_pv image zero is (of_pv image.opening.kind pv) some
 
-  no_image : (o : Option ImageOf) → is_none o ≡ true → o ≡ None
-  no_image None h = refl
-  no_image (Some image) h = absurd (false≢true h)
-
   miscounted : is_miscounted type (image_among records) ≡ true → Has 0 ContextCount
   miscounted h = elim (or_cases _ _ h) [
     | inl e ↦ let b = and_parts (nat_eq type 1) _ e in heads.second_context (eqb-true type 1 b.0) b.1
-    | inr e ↦ let b = and_parts (nat_eq type 0) _ e in heads.no_context (eqb-true type 0 b.0) (no_image (image_among records) b.1)
+    | inr e ↦ let b = and_parts (nat_eq type 0) _ e in heads.no_context (eqb-true type 0 b.0) (is_missing (image_among records) b.1)
   ]
 
   to : To Has rows
@@ -100,18 +99,18 @@ module _ (records : List LibxlRecord) (type len : ℕ) where
   short_row (inr is) short = rw is (not_from_false _ short)
 
   from : (k : ℕ) (c : Cause) → Has k c → RowHas rows k c
-  from _ _ (heads.too_long h) = inl (lt-ltb _ _ h, refl, refl)
-  from _ _ (heads.unsupported h) = inr (inl (is_one type 4 5 h, refl, refl))
-  from _ _ (heads.unknown above below) = inr (inr (inl (and_from _ _ (lt-ltb _ _ above) (not_from_false _ (lt-leb _ _ below)), refl, refl)))
-  from _ _ (heads.no_body is some) = inr (inr (inr (inl (no_body_row is some, refl, refl))))
-  from _ _ (heads.short_body is short) = inr (inr (inr (inl (short_row is (lt-leb _ _ short), refl, refl))))
-  from _ _ (heads.too_many h) = inr (inr (inr (inr (inl (le-leb _ _ h, refl, refl)))))
+  from _ _ (heads.too_long h) = (refl, inl (lt-ltb _ _ h, refl))
+  from _ _ (heads.unsupported h) = (refl, inr (inl (is_one type 4 5 h, refl)))
+  from _ _ (heads.unknown above below) = (refl, inr (inr (inl (and_from _ _ (lt-ltb _ _ above) (not_from_false _ (lt-leb _ _ below)), refl))))
+  from _ _ (heads.no_body is some) = (refl, inr (inr (inr (inl (no_body_row is some, refl)))))
+  from _ _ (heads.short_body is short) = (refl, inr (inr (inr (inl (short_row is (lt-leb _ _ short), refl)))))
+  from _ _ (heads.too_many h) = (refl, inr (inr (inr (inr (inl (le-leb _ _ h, refl))))))
   from _ _ (heads.emulator_for_pv image zero is kind some) =
-      inr (inr (inr (inr (inr (inl (and_from _ _ (eq-eqb _ _ zero) (and_from _ _ (ap is_pv is ∙ ap is_pv_kind kind) some), refl, refl))))))
-  from _ _ (heads.second_context one some) = inr (inr (inr (inr (inr (inr (inl (or_left _ _ (and_from _ _ (eq-eqb _ _ one) some), refl, refl)))))))
-  from _ _ (heads.no_context zero none) = inr (inr (inr (inr (inr (inr (inl (or_right _ _ (and_from _ _ (eq-eqb _ _ zero) (ap is_none none)), refl, refl)))))))
+      (refl, inr (inr (inr (inr (inr (inl (and_from _ _ (eq-eqb _ _ zero) (and_from _ _ (ap is_pv is ∙ ap is_pv_kind kind) some), refl)))))))
+  from _ _ (heads.second_context one some) = (refl, inr (inr (inr (inr (inr (inr (inl (or_left _ _ (and_from _ _ (eq-eqb _ _ one) some), refl))))))))
+  from _ _ (heads.no_context zero none) = (refl, inr (inr (inr (inr (inr (inr (inl (or_right _ _ (and_from _ _ (eq-eqb _ _ zero) (ap is_none none)), refl))))))))
 
-  head_least : Least Has (fault_of_head records type len)
+  pub head_least : Least Has (fault_of_libxl_head records type len)
   head_least = subst (Least Has) (sym head_is) (named Has rows refl to from)
 
 -- ---- the pairs of an emulator
@@ -153,73 +152,64 @@ module _ (text : List ℕ) where
 
 module _ (e : EmulatorsOf) (body : List ℕ) where
   abbrev pairs_rows : List (Bool × Cause)
-  pairs_rows = (nat_le 3 (le32 body 0), BadEmulator (le32 body 0)) ∷ (nat_lt most_pairs (spelled_with e body), TooManyPairs) ∷ (nat_le 256 (le32 body 4), EmulatorIndex (le32 body 4)) ∷ []
+  pairs_rows = (nat_le 3 (le32 body 0), BadEmulator (le32 body 0)) ∷ (nat_lt most_pairs (spelled_with e (emulator_key 258 body) (pairs_in (drop 8 body))), TooManyPairs) ∷ (nat_le 256 (le32 body 4), EmulatorIndex (le32 body 4)) ∷ []
 
   abbrev InText : ℕ → Cause → Type 0
   InText = TextHas (drop 8 body)
 
-  -- what stands in the text is tried before what stands in front of it
-  text_first : (j k : ℕ) (c d : Cause) → InText j c → RowHas pairs_rows k d → IsTriedBefore j c k d
-  text_first j k c d h g = inl (less (text_number h) (row_number g))
-    where
-      text_number : InText j c → number_of_cause c ≤ 34
-      text_number (inl (t, is)) = omega (arith, ap number_of_cause is)
-      text_number (inr (b, is)) = omega (arith, ap number_of_cause is)
+  -- what stands in front of the text, which is tried behind it
+  abbrev InFront : ℕ → Cause → Type 0
+  InFront k c = PairsHas e body k c × (35 ≤ number_of_cause c)
 
-      row_number : RowHas pairs_rows k d → 35 ≤ number_of_cause d
-      row_number (inl r) = omega (arith, ap number_of_cause r.2)
-      row_number (inr (inl r)) = omega (arith, ap number_of_cause r.2)
-      row_number (inr (inr (inl r))) = omega (arith, ap number_of_cause r.2)
-      row_number (inr (inr (inr r))) = absurd r
+  in_text : (k : ℕ) (c : Cause) → InText k c → number_of_cause c ≤ 34
+  in_text k c (inl (t, is)) = omega (arith, ap number_of_cause is)
+  in_text k c (inr (b, is)) = omega (arith, ap number_of_cause is)
 
-      less : number_of_cause c ≤ 34 → 35 ≤ number_of_cause d → number_of_cause c < number_of_cause d
-      less a b = omega (arith, a, b)
+  rows_to : To InFront pairs_rows
+  rows_to = ((λ h. (of_pairs.bad_emulator (leb-true _ _ h), omega arith)), ((λ h. (of_pairs.too_many (ltb-true _ _ h), omega arith)), ((λ h. (of_pairs.index (leb-true _ _ h), omega arith)), tt)))
 
-  rows_to : To (PairsHas e body) pairs_rows
-  rows_to = ((λ h. of_pairs.bad_emulator (leb-true _ _ h)), ((λ h. of_pairs.too_many (ltb-true _ _ h)), ((λ h. of_pairs.index (leb-true _ _ h)), tt)))
+  rows_from : (k : ℕ) (c : Cause) → InFront k c → RowHas pairs_rows k c
+  rows_from _ _ (of_pairs.index h, behind) = (refl, inr (inr (inl (le-leb _ _ h, refl))))
+  rows_from _ _ (of_pairs.too_many h, behind) = (refl, inr (inl (lt-ltb _ _ h, refl)))
+  rows_from _ _ (of_pairs.bad_emulator h, behind) = (refl, inl (le-leb _ _ h, refl))
+  rows_from _ _ (of_pairs.bad_key k b, behind) = absurd (omega (arith, behind))
+  rows_from _ _ (of_pairs.torn k t, behind) = absurd (omega (arith, behind))
 
-  pairs_to : (k : ℕ) (c : Cause) → InText k c ⊎ RowHas pairs_rows k c → PairsHas e body k c
+  pairs_to : (k : ℕ) (c : Cause) → InText k c ⊎ InFront k c → PairsHas e body k c
   pairs_to k c (inl (inl (t, is))) = subst (PairsHas e body k) (sym is) (of_pairs.torn k t)
   pairs_to k c (inl (inr (b, is))) = subst (PairsHas e body k) (sym is) (of_pairs.bad_key k b)
-  pairs_to k c (inr h) = into (PairsHas e body) pairs_rows rows_to k c h
+  pairs_to k c (inr h) = h.0
 
-  pairs_from : (k : ℕ) (c : Cause) → PairsHas e body k c → InText k c ⊎ RowHas pairs_rows k c
-  pairs_from _ _ (of_pairs.index h) = inr (inr (inr (inl (le-leb _ _ h, refl, refl))))
-  pairs_from _ _ (of_pairs.too_many h) = inr (inr (inl (lt-ltb _ _ h, refl, refl)))
-  pairs_from _ _ (of_pairs.bad_emulator h) = inr (inl (le-leb _ _ h, refl, refl))
+  pairs_from : (k : ℕ) (c : Cause) → PairsHas e body k c → InText k c ⊎ InFront k c
+  pairs_from _ _ (of_pairs.index h) = inr (of_pairs.index h, omega arith)
+  pairs_from _ _ (of_pairs.too_many h) = inr (of_pairs.too_many h, omega arith)
+  pairs_from _ _ (of_pairs.bad_emulator h) = inr (of_pairs.bad_emulator h, omega arith)
   pairs_from _ _ (of_pairs.bad_key k b) = inl (inr (b, refl))
   pairs_from _ _ (of_pairs.torn k t) = inl (inl (t, refl))
 
-  pairs_least : Least (PairsHas e body) (fault_of_pairs e body)
+  pub pairs_least : Least (PairsHas e body) (fault_of_pairs e body)
   unfolding fault_of_pairs
-  pairs_least = both_least InText (RowHas pairs_rows) (PairsHas e body) (pairs_fault (drop 8 body)) (first_fault pairs_rows) text_first pairs_to pairs_from (text_least (drop 8 body)) (rows_least pairs_rows refl)
+  pairs_least = both_least InText InFront (PairsHas e body) (pairs_fault (drop 8 body)) (first_fault pairs_rows) (λ j k c d h g. inl (omega (arith, in_text j c h, g.1))) pairs_to pairs_from (text_least (drop 8 body)) (named InFront pairs_rows refl rows_to rows_from)
 
 -- ---- an emulator's context
 
-context_least : (body : List ℕ) → Least (ContextHas body) (fault_of_context body)
+pub context_least : (body : List ℕ) → Least (EmulatorContextHas body) (fault_of_context body)
 unfolding fault_of_context
-context_least body = named (ContextHas body) rows refl ((λ h. of_context.bad_emulator (leb-true _ _ h)), ((λ h. of_context.index (leb-true _ _ h)), tt)) from
+context_least body = named (EmulatorContextHas body) rows refl ((λ h. of_context.bad_emulator (leb-true _ _ h)), ((λ h. of_context.index (leb-true _ _ h)), tt)) from
   where
     rows : List (Bool × Cause)
     rows = (nat_le 3 (le32 body 0), BadEmulator (le32 body 0)) ∷ (nat_le 256 (le32 body 4), EmulatorIndex (le32 body 4)) ∷ []
 
-    from : (k : ℕ) (c : Cause) → ContextHas body k c → RowHas rows k c
-    from _ _ (of_context.index h) = inr (inl (le-leb _ _ h, refl, refl))
-    from _ _ (of_context.bad_emulator h) = inl (le-leb _ _ h, refl, refl)
+    from : (k : ℕ) (c : Cause) → EmulatorContextHas body k c → RowHas rows k c
+    from _ _ (of_context.index h) = (refl, inr (inl (le-leb _ _ h, refl)))
+    from _ _ (of_context.bad_emulator h) = (refl, inl (le-leb _ _ h, refl))
 
 -- ---- all parts
 
--- what judging tries in a part
-abbrev pub fault_in : WrapperPart → List ℕ → Option Cause
-fault_in Header bytes = fault_of_libxl bytes
-fault_in (Head records) bytes = fault_of_head records (le32 bytes 0) (le32 bytes 4)
-fault_in (PairsBody e len) bytes = fault_of_pairs e bytes
-fault_in (ContextBody len) bytes = fault_of_context bytes
-fault_in _ bytes = None
-
-pub part_least : (part : WrapperPart) (bytes : List ℕ) → Least (Stands part bytes) (fault_in part bytes)
-part_least Header bytes = header_least bytes
-part_least (Head records) bytes = head_least records (le32 bytes 0) (le32 bytes 4)
-part_least (PairsBody e len) bytes = pairs_least e bytes
-part_least (ContextBody len) bytes = context_least bytes
-part_least _ bytes = record { holds = λ k c h. h }
+abbrev pub tries : (part : WrapperPart) → Tries (wrapper_size part) (StandsInWrapper part)
+tries Header = record { fault = fault_of_libxl; least = header_least }
+tries (Head records) = record { fault = λ bytes. fault_of_libxl_head records (le32 bytes 0) (le32 bytes 4); least = λ bytes. head_least records (le32 bytes 0) (le32 bytes 4) }
+tries (PairsBody e len) = record { fault = fault_of_pairs e; least = pairs_least e }
+tries (ContextBody len) = record { fault = fault_of_context; least = context_least }
+tries (OtherBody len) = nothing_tried
+tries (Padding n) = nothing_tried

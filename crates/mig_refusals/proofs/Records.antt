@@ -1,41 +1,24 @@
 -- A record that fails: one of its parts does, or the image that follows its head is refused.
-use Rattle.mig_refused.proofs.Common.{◌≡◌, ◌⊎◌, inl, inr, ℕ, ◌+◌, ◌/◌, List, [], ◌++◌, Bool, true, false, cond, nat_eq, length, Option, None, refl, sym, ap, subst, ◌∙◌, arith, append_assoc, eqb-true, eq-eqb, le32, ◌>>=◌, part, placed, tried, Passes, Faulty, part_whole, then_passes, placed_passes, tried_none, common_steps, Cause, Truncated}
-use Rattle.mig_bytes.specs.Bytes.{padding_len, IsLeastPadding}
+use Rattle.mig_refused.proofs.Common.{then_faulty, bind_cases, passes_not, only_first, placed_faulty, ◌≡◌, ◌⊎◌, inl, inr, ℕ, List, [], ◌++◌, Bool, true, false, cond, nat_eq, length, Option, refl, sym, ap, subst, ◌∙◌, arith, append_assoc, eqb-true, eq-eqb, le32, part, placed, Passes, Faulty, part_whole, then_passes, placed_passes, common_steps, Cause, Truncated}
+use Rattle.mig_bytes.specs.Bytes.{padding_len}
 use Rattle.mig_headers.proofs.FirstFaults.{both_none}
 use Rattle.mig_headers.specs.declared.fault.Place.{Place}
 use Rattle.mig_headers.specs.declared.fault.Place.TheVariants.{LibxlRecord as AtRecord}
-use Rattle.mig_restore.proofs.Parts.{header_passes}
+use Rattle.mig_bytes.proofs.Said.{said_goes, said_passes}
 use Rattle.mig_restore.specs.Stream.{image_at}
-use Rattle.mig_libxl.specs.Content.{LibxlRecord, Content}
-use Rattle.mig_libxl.specs.Content.Content.{Nothing, Image}
+use Rattle.mig_libxl.specs.Content.{LibxlRecord, LibxlContent}
+use Rattle.mig_libxl.specs.Content.LibxlContent.{Nothing, Image}
 use Rattle.mig_libxl.specs.Emulators.{EmulatorsOf, emulators_of}
-use Rattle.mig_libxl.specs.Judging.{allows_length, fault_of_fields, fault_of_order, fault_of_head, head_at, fault_of_pairs, fault_of_context, body_at, inner_at, body_of_type, content_at, record_at}
-use Rattle.mig_libxl.specs.Spelled.{HasContent}
-use Rattle.mig_libxl.specs.Spelled.HasContent.{optional as an_optional, ends as an_end, pairs as some_pairs, context as a_context}
-use Rattle.mig_libxl.proofs.Bodies.{FineFields, fields_fine, body_says, body_goes}
+use Rattle.mig_libxl.specs.Judging.{allows_length, fault_of_libxl_fields, fault_of_order, fault_of_libxl_head, libxl_head_at, skipped_at, inner_at, body_of_type, libxl_content_at, libxl_record_at}
+use Rattle.mig_libxl.proofs.Bodies.{FineFields, fields_fine, body_says, body_goes, has_no_image}
 use Rattle.mig_libxl.proofs.Records.{behind_head, behind_content}
-use Rattle.mig_refused.proofs.Single.{stage_faulty, then_faulty, bind_cases, passes_not, only_first}
-use Rattle.mig_refusals.specs.Wrapper.{WrapperPart, IsFaultless, HasBody, Within}
+use Rattle.mig_refused.proofs.Records.{Found, found_here, is_padding, padding_is}
+use Rattle.mig_refused.proofs.Single.{stage_fails, said_fails, fine, faultless}
+use Rattle.mig_refusals.specs.Wrapper.{WrapperPart, IsFaultlessWrapperPart, WrapperPartFails, HasBody, WithinLibxl}
 use Rattle.mig_refusals.specs.Wrapper.WrapperPart.{Head, PairsBody, ContextBody, OtherBody, Padding}
 use Rattle.mig_refusals.specs.Wrapper.HasBody.{pairs, context, ends, optional}
-use Rattle.mig_refusals.specs.Wrapper.Within.{at_head, in_body, at_padding}
-use Rattle.mig_refusals.proofs.Parts.{fine, faultless, one_part, placed_faulty, said_faulty}
-
--- the padding of a length is the least that makes a multiple of 8
-is_padding : (len : ℕ) → IsLeastPadding len (padding_len len)
-is_padding len = record { fills = ((len + 7) / 8, omega arith); least = λ fewer (k, is). omega (arith, is) }
-
-padding_is : (len n : ℕ) → IsLeastPadding len n → n ≡ padding_len len
-padding_is len n p =
-    let some = is_padding len in
-    omega (arith, p.least (padding_len len) some.fills, some.least n p.fills)
-
--- a part of which nothing is tried
-untried_is : (n : ℕ) (i : List ℕ) (c : Cause) (rest : List ℕ) → one_part (Padding n) i ≡ Faulty c rest → part Truncated n i ≡ Faulty c rest
-untried_is n i c rest h = only_first (λ _. tt) (part Truncated n i) c rest h
-
-is_untried : (n : ℕ) (i : List ℕ) (c : Cause) (rest : List ℕ) → part Truncated n i ≡ Faulty c rest → one_part (Padding n) i ≡ Faulty c rest
-is_untried n i c rest h = ap (λ j. j >>= λ p. tried None p.1) h
+use Rattle.mig_refusals.specs.Wrapper.WithinLibxl.{at_head, in_body, at_padding}
+use Rattle.mig_refusals.proofs.Causes.{tries}
 
 -- no bytes are always there
 no_bytes : {Y : Type 0} (i : List ℕ) (c : Cause) (rest : List ℕ) → part Truncated 0 i ≡ Faulty c rest → Y
@@ -57,120 +40,100 @@ module _ (records : List LibxlRecord) where
   not_image _ len _ ends = refl
   not_image _ len _ (optional type above) = grind (arith, common_steps, above)
 
-  has_no_image : (type : ℕ) (body : List ℕ) (c : Content) → HasContent type body c → nat_eq type 1 ≡ false
-  has_no_image _ _ _ (an_optional type body above) = grind (arith, common_steps, above)
-  has_no_image _ _ _ an_end = refl
-  has_no_image _ _ _ (some_pairs front text key ps f spelled) = refl
-  has_no_image _ _ _ (a_context front bytes key f) = refl
-
-  skipped_as : (type len : ℕ) (i : List ℕ) → nat_eq type 2 ≡ false → nat_eq type 3 ≡ false → body_of_type emulators type len i ≡ body_at (λ _. None) (λ _. Nothing) len i
+  skipped_as : (type len : ℕ) (i : List ℕ) → nat_eq type 2 ≡ false → nat_eq type 3 ≡ false → body_of_type emulators type len i ≡ skipped_at len i
   skipped_as type len i two three = rw (two, three) refl
 
-  skipped_down : (len : ℕ) (left : List ℕ) (c : Cause) (rest : List ℕ) → one_part (OtherBody len) left ≡ Faulty c rest → body_at (λ _. None) (λ _. Nothing) len left ≡ Faulty c rest
-  skipped_down len left c rest h = stage_faulty len (λ _. None) (λ b r. Passes Nothing r) left c rest h
-
-  body_down : (type len : ℕ) (p : WrapperPart) (left : List ℕ) (c : Cause) (rest : List ℕ) → HasBody records len type p → one_part p left ≡ Faulty c rest → body_of_type emulators type len left ≡ Faulty c rest
-  body_down _ len _ left c rest pairs h = stage_faulty len (fault_of_pairs emulators) _ left c rest h
-  body_down _ len _ left c rest context h = stage_faulty len fault_of_context _ left c rest h
-  body_down _ len _ left c rest ends h = skipped_down len left c rest h
-  body_down _ len _ left c rest (optional type above) h = skipped_as type len left (grind (arith, common_steps, above)) (grind (arith, common_steps, above)) ∙ skipped_down len left c rest h
+  body_down : (type len : ℕ) (p : WrapperPart) (left : List ℕ) (c : Cause) (rest : List ℕ) → HasBody records len type p → WrapperPartFails p left c rest → body_of_type emulators type len left ≡ Faulty c rest
+  body_down _ len _ left c rest pairs h = stage_fails (tries (PairsBody emulators len)) _ left c rest h
+  body_down _ len _ left c rest context h = stage_fails (tries (ContextBody len)) _ left c rest h
+  body_down _ len _ left c rest ends h = stage_fails (tries (OtherBody len)) _ left c rest h
+  body_down _ len _ left c rest (optional type above) h = skipped_as type len left (grind (arith, common_steps, above)) (grind (arith, common_steps, above)) ∙ stage_fails (tries (OtherBody len)) _ left c rest h
 
   -- a body that fails is one part that fails
-  record BodyFails (type len : ℕ) (i : List ℕ) (c : Cause) (rest : List ℕ) : Type 0 where
-    part_is : WrapperPart
-    has_body : HasBody records len type part_is
-    fails : one_part part_is i ≡ Faulty c rest
+  abbrev BodyFails : ℕ → ℕ → List ℕ → Cause → List ℕ → Type 0
+  BodyFails type len i c rest = (p : WrapperPart) × HasBody records len type p × WrapperPartFails p i c rest
 
   module _ (len : ℕ) (i : List ℕ) (c : Cause) (rest : List ℕ) where
-    other_up : (type : ℕ) → FineFields type len → nat_eq type 1 ≡ false → nat_eq type 2 ≡ false → nat_eq type 3 ≡ false → body_at (λ _. None) (λ _. Nothing) len i ≡ Faulty c rest → BodyFails type len i c rest
+    other_up : (type : ℕ) → FineFields type len → nat_eq type 1 ≡ false → nat_eq type 2 ≡ false → nat_eq type 3 ≡ false → skipped_at len i ≡ Faulty c rest → BodyFails type len i c rest
     other_up type f one two three h = by (nat_eq type 0) refl
       where
-        fails : one_part (OtherBody len) i ≡ Faulty c rest
-        fails = said_faulty len (λ _. None) (λ _. Nothing) i c rest h
+        fails : WrapperPartFails (OtherBody len) i c rest
+        fails = said_fails (tries (OtherBody len)) (λ _. Nothing) i c rest h
 
         by : (b : Bool) → nat_eq type 0 ≡ b → BodyFails type len i c rest
-        by true zero = subst (λ t. BodyFails t len i c rest) (sym (eqb-true type 0 zero)) (record { part_is = OtherBody len; has_body = ends; fails = fails })
-        by false some = record { part_is = OtherBody len; has_body = optional type (grind (arith, common_steps, f.supported, f.known, one, two, three, some)); fails = fails }
+        by true zero = subst (λ t. BodyFails t len i c rest) (sym (eqb-true type 0 zero)) (OtherBody len, ends, fails)
+        by false some = (OtherBody len, optional type (grind (arith, common_steps, f.supported, f.known, one, two, three, some)), fails)
 
     body_up : (type : ℕ) → FineFields type len → nat_eq type 1 ≡ false → body_of_type emulators type len i ≡ Faulty c rest → BodyFails type len i c rest
     body_up type f one h = by (nat_eq type 2) (nat_eq type 3) refl refl h
       where
-        by : (b d : Bool) → nat_eq type 2 ≡ b → nat_eq type 3 ≡ d → cond b (body_of_type emulators 2 len i) (cond d (body_of_type emulators 3 len i) (body_at (λ _. None) (λ _. Nothing) len i)) ≡ Faulty c rest → BodyFails type len i c rest
-        by true d two three g = subst (λ t. BodyFails t len i c rest) (sym (eqb-true type 2 two)) (record { part_is = PairsBody emulators len; has_body = pairs; fails = said_faulty len (fault_of_pairs emulators) _ i c rest g })
-        by false true two three g = subst (λ t. BodyFails t len i c rest) (sym (eqb-true type 3 three)) (record { part_is = ContextBody len; has_body = context; fails = said_faulty len fault_of_context _ i c rest g })
+        by : (b d : Bool) → nat_eq type 2 ≡ b → nat_eq type 3 ≡ d → cond b (body_of_type emulators 2 len i) (cond d (body_of_type emulators 3 len i) (skipped_at len i)) ≡ Faulty c rest → BodyFails type len i c rest
+        by true d two three g = subst (λ t. BodyFails t len i c rest) (sym (eqb-true type 2 two)) (PairsBody emulators len, pairs, said_fails (tries (PairsBody emulators len)) _ i c rest g)
+        by false true two three g = subst (λ t. BodyFails t len i c rest) (sym (eqb-true type 3 three)) (ContextBody len, context, said_fails (tries (ContextBody len)) _ i c rest g)
         by false false two three g = other_up type f one two three g
 
   -- ---- a record
 
   abbrev head_fault : List ℕ → Option Cause
-  head_fault head = fault_of_head records (le32 head 0) (le32 head 4)
+  head_fault head = fault_of_libxl_head records (le32 head 0) (le32 head 4)
 
-  fields_of : (head : List ℕ) → IsFaultless (Head records) head → FineFields (le32 head 0) (le32 head 4)
-  fields_of head f = fields_fine (le32 head 0) (le32 head 4) (both_none (fault_of_fields (le32 head 0) (le32 head 4)) (fault_of_order records (le32 head 0)) (fine (Head records) head f)).0
+  fields_of : (head : List ℕ) → IsFaultlessWrapperPart (Head records) head → FineFields (le32 head 0) (le32 head 4)
+  fields_of head f = fields_fine (le32 head 0) (le32 head 4) (both_none (fault_of_libxl_fields (le32 head 0) (le32 head 4)) (fault_of_order records (le32 head 0)) (fine (tries (Head records)) head f)).0
 
   -- LIBXC_CONTEXT has no body
   no_body : (type len : ℕ) → FineFields type len → type ≡ 1 → len ≡ 0
   no_body type len f one = eqb-true len 0 (subst (λ t. allows_length t len ≡ true) one f.allowed)
 
-  head_goes : (head mid : List ℕ) → IsFaultless (Head records) head → record_at records (head ++ mid) ≡ behind_head records (head, mid)
-  unfolding record_at
+  head_goes : (head mid : List ℕ) → IsFaultlessWrapperPart (Head records) head → libxl_record_at records (head ++ mid) ≡ behind_head records (head, mid)
+  unfolding libxl_record_at
   head_goes head mid f =
-      then_passes (placed place (head_at records (head ++ mid))) (behind_head records) head mid _
-      (ap (placed place) (then_passes (part Truncated 8 (head ++ mid)) _ head mid _ (part_whole Truncated 8 head mid f.size) (tried_none (head_fault head) mid _ (fine (Head records) head f)))) refl
+      then_passes (placed place (libxl_head_at records (head ++ mid))) (behind_head records) head mid _
+      (ap (placed place) (said_goes Truncated head_fault (λ l. l) 8 head mid f.size (fine (tries (Head records)) head f))) refl
 
   -- a part fails behind others: so does the record
-  pub down : (front : List ℕ) (p : WrapperPart) (left : List ℕ) (c : Cause) (rest : List ℕ) → Within records front p → one_part p left ≡ Faulty c rest → record_at records (front ++ left) ≡ Faulty (place, c) rest
-  unfolding record_at
+  pub down : (front : List ℕ) (p : WrapperPart) (left : List ℕ) (c : Cause) (rest : List ℕ) → WithinLibxl records front p → WrapperPartFails p left c rest → libxl_record_at records (front ++ left) ≡ Faulty (place, c) rest
+  unfolding libxl_record_at
   down _ _ left c rest at_head h =
-      then_faulty (placed place (head_at records left)) (behind_head records) (place, c) rest (ap (placed place) (stage_faulty 8 head_fault (λ head r. Passes head r) left c rest h))
+      then_faulty (placed place (libxl_head_at records left)) (behind_head records) (place, c) rest (ap (placed place) (stage_fails (tries (Head records)) (λ head r. Passes head r) left c rest h))
   down _ _ left c rest (in_body head p f b) h =
       let one = not_image (le32 head 0) (le32 head 4) p b in
       let fails = body_down (le32 head 0) (le32 head 4) p left c rest b h in
       head_goes head left f
-      ∙ then_faulty (content_at records (le32 head 0) (le32 head 4) left) (behind_content records head) (place, c) rest
+      ∙ then_faulty (libxl_content_at records (le32 head 0) (le32 head 4) left) (behind_content records head) (place, c) rest
       (ap (λ t. cond t (inner_at left) (placed place (body_of_type emulators (le32 head 0) (le32 head 4) left))) one ∙ ap (placed place) fails)
   down _ _ left c rest (at_padding head body content n f size says fits pads) h =
       let one = has_no_image (le32 head 0) body content says in
       let goes = subst (λ m. body_of_type emulators (le32 head 0) m (body ++ left) ≡ Passes content left) size (body_goes records (le32 head 0) body content left says fits one) in
-      ap (record_at records) (append_assoc head body left) ∙ head_goes head (body ++ left) f
-      ∙ then_passes (content_at records (le32 head 0) (le32 head 4) (body ++ left)) (behind_content records head) content left _
+      ap (libxl_record_at records) (append_assoc head body left) ∙ head_goes head (body ++ left) f
+      ∙ then_passes (libxl_content_at records (le32 head 0) (le32 head 4) (body ++ left)) (behind_content records head) content left _
       (ap (λ t. cond t (inner_at (body ++ left)) (placed place (body_of_type emulators (le32 head 0) (le32 head 4) (body ++ left)))) one ∙ ap (placed place) goes)
       (then_faulty (placed place (part Truncated (padding_len (le32 head 4)) left)) (λ padding. Passes (record { type = le32 head 0; content = content }) padding.1) (place, c) rest
-      (ap (placed place) (untried_is (padding_len (le32 head 4)) left c rest (subst (λ m. one_part (Padding m) left ≡ Faulty c rest) (padding_is (le32 head 4) n pads) h))))
+      (ap (placed place) (only_first (λ l. l) (part Truncated (padding_len (le32 head 4)) left) c rest (stage_fails (tries (Padding (padding_len (le32 head 4)))) (λ l r. Passes l r) left c rest (subst (λ m. WrapperPartFails (Padding m) left c rest) (padding_is (le32 head 4) n pads) h)))))
 
   -- the image behind LIBXC_CONTEXT is refused: so is the record
-  pub image_down : (head left : List ℕ) (at : Place × Cause) (rest : List ℕ) → IsFaultless (Head records) head → le32 head 0 ≡ 1 → image_at left ≡ Faulty at rest → record_at records (head ++ left) ≡ Faulty at rest
+  pub image_down : (head left : List ℕ) (at : Place × Cause) (rest : List ℕ) → IsFaultlessWrapperPart (Head records) head → le32 head 0 ≡ 1 → image_at left ≡ Faulty at rest → libxl_record_at records (head ++ left) ≡ Faulty at rest
   image_down head left at rest f one h =
       head_goes head left f
-      ∙ then_faulty (content_at records (le32 head 0) (le32 head 4) left) (behind_content records head) at rest
+      ∙ then_faulty (libxl_content_at records (le32 head 0) (le32 head 4) left) (behind_content records head) at rest
       (ap (λ t. cond t (inner_at left) (placed place (body_of_type emulators (le32 head 0) (le32 head 4) left))) (eq-eqb (le32 head 0) 1 one) ∙ then_faulty (image_at left) (λ image. Passes (Image image.0) image.1) at rest h)
 
   -- ---- a record that fails
-
-  -- a part of it fails, and the parts before it
-  pub record PartFails (i : List ℕ) (at : Place) (c : Cause) (rest : List ℕ) : Type 0 where
-    pub front : List ℕ
-    pub left : List ℕ
-    pub part_is : WrapperPart
-    pub whole : i ≡ front ++ left
-    pub within : Within records front part_is
-    pub fails : one_part part_is left ≡ Faulty c rest
-    pub place_is : place ≡ at
 
   -- the image behind its head is refused
   pub record ImageStops (i : List ℕ) (at : Place) (c : Cause) (rest : List ℕ) : Type 0 where
     pub head : List ℕ
     pub left : List ℕ
     pub whole : i ≡ head ++ left
-    pub faultless_head : IsFaultless (Head records) head
+    pub faultless_head : IsFaultlessWrapperPart (Head records) head
     pub is_context : le32 head 0 ≡ 1
     pub refused : image_at left ≡ Faulty (at, c) rest
 
   module _ (i : List ℕ) (at : Place) (c : Cause) (rest : List ℕ) where
+    -- a part of it fails, behind others, or that image
     abbrev Stops : Type 0
-    Stops = PartFails i at c rest ⊎ ImageStops i at c rest
+    Stops = (Found WrapperPartFails (WithinLibxl records) i c rest × (place ≡ at)) ⊎ ImageStops i at c rest
 
-    module _ (head mid : List ℕ) (whole : i ≡ head ++ mid) (f : IsFaultless (Head records) head) where
+    module _ (head mid : List ℕ) (whole : i ≡ head ++ mid) (f : IsFaultlessWrapperPart (Head records) head) where
       abbrev type : ℕ
       type = le32 head 0
 
@@ -183,25 +146,27 @@ module _ (records : List LibxlRecord) where
       content_up false one h =
           let p = placed_faulty place at (body_of_type emulators type len mid) c rest h in
           let b = body_up len mid c rest type (fields_of head f) one p.0 in
-          inl (record { front = head; left = mid; part_is = b.part_is; whole = whole; within = in_body head b.part_is f b.has_body; fails = b.fails; place_is = p.1 })
+          inl (record { front = head; left = mid; part_is = b.0; whole = whole; behind = in_body head b.0 f b.1; fails = b.2 }, p.1)
 
       -- in its padding, of which an image has none
-      padding_up : (content : Content) (left : List ℕ) (b : Bool) → nat_eq type 1 ≡ b → cond b (inner_at mid) (placed place (body_of_type emulators type len mid)) ≡ Passes content left → place ≡ at → part Truncated (padding_len len) left ≡ Faulty c rest → Stops
+      padding_up : (content : LibxlContent) (left : List ℕ) (b : Bool) → nat_eq type 1 ≡ b → cond b (inner_at mid) (placed place (body_of_type emulators type len mid)) ≡ Passes content left → place ≡ at → part Truncated (padding_len len) left ≡ Faulty c rest → Stops
       padding_up content left true one h same fails = no_bytes left c rest (subst (λ n. part Truncated n left ≡ Faulty c rest) (ap padding_len (no_body type len (fields_of head f) (eqb-true type 1 one))) fails)
       padding_up content left false one h same fails =
           let s = body_says records type len mid content left (fields_of head f) one (placed_passes place (body_of_type emulators type len mid) content left h) in
-          inl (record {
-            front = head ++ s.body;
-            left = left;
-            part_is = Padding (padding_len len);
-            whole = whole ∙ ap (λ l. head ++ l) s.whole ∙ sym (append_assoc head s.body left);
-            within = at_padding head s.body content (padding_len len) f s.body_len s.says s.fits (is_padding len);
-            fails = is_untried (padding_len len) left c rest fails;
-            place_is = same;
-          })
+          inl (
+            record {
+              front = head ++ s.body;
+              left = left;
+              part_is = Padding (padding_len len);
+              whole = whole ∙ ap (λ l. head ++ l) s.whole ∙ sym (append_assoc head s.body left);
+              behind = at_padding head s.body content (padding_len len) f s.body_len s.says s.fits (is_padding len);
+              fails = said_fails (tries (Padding (padding_len len))) (λ l. l) left c rest (then_faulty (part Truncated (padding_len len) left) (λ l. Passes l.0 l.1) c rest fails);
+            },
+            same,
+          )
 
       behind_up : behind_head records (head, mid) ≡ Faulty (at, c) rest → Stops
-      behind_up h = elim (bind_cases (content_at records type len mid) (behind_content records head) (at, c) rest h) [
+      behind_up h = elim (bind_cases (libxl_content_at records type len mid) (behind_content records head) (at, c) rest h) [
         | inl e ↦ content_up (nat_eq type 1) refl e
         | inr a ↦
             let e = only_first (λ _. record { type = type; content = a.0 }) (placed place (part Truncated (padding_len len) a.1)) (at, c) rest a.3 in
@@ -209,13 +174,13 @@ module _ (records : List LibxlRecord) where
             padding_up a.0 a.1 (nat_eq type 1) refl a.2 p.1 p.0
       ]
 
-    pub up : record_at records i ≡ Faulty (at, c) rest → Stops
-    unfolding record_at
-    up h = elim (bind_cases (placed place (head_at records i)) (behind_head records) (at, c) rest h) [
+    pub up : libxl_record_at records i ≡ Faulty (at, c) rest → Stops
+    unfolding libxl_record_at
+    up h = elim (bind_cases (placed place (libxl_head_at records i)) (behind_head records) (at, c) rest h) [
       | inl e ↦
-          let p = placed_faulty place at (head_at records i) c rest e in
-          inl (record { front = []; left = i; part_is = Head records; whole = refl; within = at_head; fails = said_faulty 8 head_fault (λ head. head) i c rest p.0; place_is = p.1 })
+          let p = placed_faulty place at (libxl_head_at records i) c rest e in
+          inl (found_here (WithinLibxl records) (Head records) i c rest at_head (said_fails (tries (Head records)) (λ head. head) i c rest p.0), p.1)
       | inr a ↦
-          let s = header_passes 8 head_fault (λ head. head) i a.0 a.1 (placed_passes place (head_at records i) a.0 a.1 a.2) in
-          behind_up s.bytes a.1 s.whole (faultless (Head records) s.bytes s.size s.fine) (ap (λ head. behind_head records (head, a.1)) s.value ∙ a.3)
+          let s = said_passes Truncated head_fault (λ head. head) 8 i a.0 a.1 (placed_passes place (libxl_head_at records i) a.0 a.1 a.2) in
+          behind_up s.bytes a.1 s.whole (faultless (tries (Head records)) s.bytes s.size s.fine) (ap (λ head. behind_head records (head, a.1)) s.value ∙ a.3)
     ]

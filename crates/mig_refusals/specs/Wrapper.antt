@@ -2,7 +2,9 @@
 -- part that isn't whole or in which a cause stands.
 use Rattle.std.specs.Prelude.{◌≡◌, ◌⊎◌, ◌≤◌, ◌<◌, ◌%◌, ◌^◌, ℕ, true, false, Bool, List, [], ◌++◌, length, drop, Some, None, IsSome}
 use Rattle.mig_bytes.specs.Bytes.{IsLeastPadding}
+use Rattle.mig_bytes.specs.Failing.{IsFaultless, Fails}
 use Rattle.mig_bytes.specs.Fields.{le32, be32, be64}
+use Rattle.mig_bytes.specs.Sequences.{Spells}
 use Rattle.mig_headers.specs.Headers.{libxl_ident, IsLibxlHeader}
 use Rattle.mig_headers.specs.declared.fault.Cause.{Cause}
 use Rattle.mig_headers.specs.declared.fault.Cause.TheVariants.{Truncated, BadVersion, BigEndian, BodyTooLong, Unsupported, UnknownMandatory, BadLength, TooManyRecords, BadPairs, BadKey, BadEmulator, EmulatorForPv, ContextCount, TooManyPairs, EmulatorIndex}
@@ -10,47 +12,48 @@ use Rattle.mig_headers.specs.declared.fault.Place.{Place}
 use Rattle.mig_headers.specs.declared.fault.Place.TheVariants as places
 use Rattle.mig_headers.specs.declared.kind.Kind.TheVariants.{Pv}
 use Rattle.mig_policy.specs.PairFaults.{IsTornAt, IsBadKeyAt}
+use Rattle.mig_policy.specs.PairMaps.{pairs_in}
 use Rattle.mig_restore.specs.Judging.{most_records}
 use Rattle.mig_restore.specs.Stream.{ImageOf}
 use Rattle.mig_refused.specs.Refusal.{IsFirstCause}
 use Rattle.mig_refused.specs.Refusal.{Refused as ImageRefused}
-use Rattle.mig_libxl.specs.Content.{LibxlRecord, Content, is_ended, has_emulator, image_among}
+use Rattle.mig_libxl.specs.Content.{LibxlRecord, LibxlContent, is_libxl_ended, has_emulator, image_among}
 use Rattle.mig_libxl.specs.Emulators.{EmulatorsOf, emulators_of}
-use Rattle.mig_libxl.specs.Judging.{most_pairs, spelled_with}
-use Rattle.mig_libxl.specs.Spelled.{HasContent, Fits, Spells}
+use Rattle.mig_libxl.specs.Judging.{most_pairs, emulator_key, spelled_with}
+use Rattle.mig_libxl.specs.Spelled.{HasLibxlContent, EmulatorsFit, FollowsLibxl}
 
 -- ---- where each cause stands, a line for each; causes that have places stand at several, all others at place 0
 
 -- the header behind its ident ("Header")
-pub data HeaderHas (bytes : List ℕ) : ℕ → Cause → Type 0 where
-  big_endian : be32 bytes 4 % 2 ≡ 1 → HeaderHas bytes 0 BigEndian
-  bad_version : (be32 bytes 0 ≡ 2 → ⊥) → HeaderHas bytes 0 (BadVersion (be32 bytes 0))
+pub data LibxlHeaderHas (bytes : List ℕ) : ℕ → Cause → Type 0 where
+  big_endian : be32 bytes 4 % 2 ≡ 1 → LibxlHeaderHas bytes 0 BigEndian
+  bad_version : (be32 bytes 0 ≡ 2 → ⊥) → LibxlHeaderHas bytes 0 (BadVersion (be32 bytes 0))
 
 -- a record head with this type and body length, behind these records ("Records", and the section of each type)
-pub data HeadHas (records : List LibxlRecord) (type len : ℕ) : ℕ → Cause → Type 0 where
-  second_context : type ≡ 1 → IsSome (image_among records) → HeadHas records type len 0 ContextCount
-  no_context : type ≡ 0 → image_among records ≡ None → HeadHas records type len 0 ContextCount
-  emulator_for_pv : (image : ImageOf) → type ≡ 0 → image_among records ≡ Some image → image.opening.kind ≡ Pv → has_emulator records ≡ true → HeadHas records type len 0 EmulatorForPv
-  too_many : most_records ≤ length records → HeadHas records type len 0 TooManyRecords
-  no_body : (type ≡ 0) ⊎ (type ≡ 1) → (len ≡ 0 → ⊥) → HeadHas records type len 0 (BadLength len)
-  short_body : (type ≡ 2) ⊎ (type ≡ 3) → len < 8 → HeadHas records type len 0 (BadLength len)
-  unknown : 5 < type → type < 2 ^ 31 → HeadHas records type len 0 (UnknownMandatory type)
-  unsupported : (type ≡ 4) ⊎ (type ≡ 5) → HeadHas records type len 0 (Unsupported type)
-  too_long : 2 ^ 27 < len → HeadHas records type len 0 (BodyTooLong len)
+pub data LibxlHeadHas (records : List LibxlRecord) (type len : ℕ) : ℕ → Cause → Type 0 where
+  second_context : type ≡ 1 → IsSome (image_among records) → LibxlHeadHas records type len 0 ContextCount
+  no_context : type ≡ 0 → image_among records ≡ None → LibxlHeadHas records type len 0 ContextCount
+  emulator_for_pv : (image : ImageOf) → type ≡ 0 → image_among records ≡ Some image → image.opening.kind ≡ Pv → has_emulator records ≡ true → LibxlHeadHas records type len 0 EmulatorForPv
+  too_many : most_records ≤ length records → LibxlHeadHas records type len 0 TooManyRecords
+  no_body : (type ≡ 0) ⊎ (type ≡ 1) → (len ≡ 0 → ⊥) → LibxlHeadHas records type len 0 (BadLength len)
+  short_body : (type ≡ 2) ⊎ (type ≡ 3) → len < 8 → LibxlHeadHas records type len 0 (BadLength len)
+  unknown : 5 < type → type < 2 ^ 31 → LibxlHeadHas records type len 0 (UnknownMandatory type)
+  unsupported : (type ≡ 4) ⊎ (type ≡ 5) → LibxlHeadHas records type len 0 (Unsupported type)
+  too_long : 2 ^ 27 < len → LibxlHeadHas records type len 0 (BodyTooLong len)
 
 -- a body with pairs for an emulator, behind these emulators; the place of a text counts from the first pair
 -- ("EMULATOR_XENSTORE_DATA")
 pub data PairsHas (e : EmulatorsOf) (body : List ℕ) : ℕ → Cause → Type 0 where
   index : 256 ≤ le32 body 4 → PairsHas e body 0 (EmulatorIndex (le32 body 4))
-  too_many : most_pairs < spelled_with e body → PairsHas e body 0 TooManyPairs
+  too_many : most_pairs < spelled_with e (emulator_key 258 body) (pairs_in (drop 8 body)) → PairsHas e body 0 TooManyPairs
   bad_emulator : 3 ≤ le32 body 0 → PairsHas e body 0 (BadEmulator (le32 body 0))
   bad_key : (place : ℕ) → IsBadKeyAt (drop 8 body) place → PairsHas e body place (BadKey place)
   torn : (place : ℕ) → IsTornAt (drop 8 body) place → PairsHas e body place (BadPairs place)
 
 -- a body with an emulator's context ("EMULATOR_CONTEXT")
-pub data ContextHas (body : List ℕ) : ℕ → Cause → Type 0 where
-  index : 256 ≤ le32 body 4 → ContextHas body 0 (EmulatorIndex (le32 body 4))
-  bad_emulator : 3 ≤ le32 body 0 → ContextHas body 0 (BadEmulator (le32 body 0))
+pub data EmulatorContextHas (body : List ℕ) : ℕ → Cause → Type 0 where
+  index : 256 ≤ le32 body 4 → EmulatorContextHas body 0 (EmulatorIndex (le32 body 4))
+  bad_emulator : 3 ≤ le32 body 0 → EmulatorContextHas body 0 (BadEmulator (le32 body 0))
 
 -- ---- the parts of a libxl stream around its image
 
@@ -64,32 +67,30 @@ pub data WrapperPart : Type 0 where
   Padding : ℕ → WrapperPart
 
 -- how many bytes a part has
-abbrev pub size_of : WrapperPart → ℕ
-size_of Header = 8
-size_of (Head records) = 8
-size_of (PairsBody e len) = len
-size_of (ContextBody len) = len
-size_of (OtherBody len) = len
-size_of (Padding n) = n
+abbrev pub wrapper_size : WrapperPart → ℕ
+wrapper_size Header = 8
+wrapper_size (Head records) = 8
+wrapper_size (PairsBody e len) = len
+wrapper_size (ContextBody len) = len
+wrapper_size (OtherBody len) = len
+wrapper_size (Padding n) = n
 
 -- the causes that stand in a part
-abbrev pub Stands : WrapperPart → List ℕ → ℕ → Cause → Type 0
-Stands Header bytes place cause = HeaderHas bytes place cause
-Stands (Head records) bytes place cause = HeadHas records (le32 bytes 0) (le32 bytes 4) place cause
-Stands (PairsBody e len) bytes place cause = PairsHas e bytes place cause
-Stands (ContextBody len) bytes place cause = ContextHas bytes place cause
-Stands (OtherBody len) bytes place cause = ⊥
-Stands (Padding n) bytes place cause = ⊥
+abbrev pub StandsInWrapper : WrapperPart → List ℕ → ℕ → Cause → Type 0
+StandsInWrapper Header bytes place cause = LibxlHeaderHas bytes place cause
+StandsInWrapper (Head records) bytes place cause = LibxlHeadHas records (le32 bytes 0) (le32 bytes 4) place cause
+StandsInWrapper (PairsBody e len) bytes place cause = PairsHas e bytes place cause
+StandsInWrapper (ContextBody len) bytes place cause = EmulatorContextHas bytes place cause
+StandsInWrapper (OtherBody len) bytes place cause = ⊥
+StandsInWrapper (Padding n) bytes place cause = ⊥
 
 -- a part that is whole and without a cause
-pub record IsFaultless (part : WrapperPart) (bytes : List ℕ) : Type 0 where
-  pub size : length bytes ≡ size_of part
-  pub none : (place : ℕ) (cause : Cause) → Stands part bytes place cause → ⊥
+abbrev pub IsFaultlessWrapperPart : WrapperPart → List ℕ → Type 0
+IsFaultlessWrapperPart part bytes = IsFaultless (wrapper_size part) (λ read (at : ℕ × Cause). StandsInWrapper part read at.0 at.1) bytes
 
 -- a part isn't whole in what is left, of which nothing remains; or it is, and this cause is named, and rest follows it
-pub data Fails (part : WrapperPart) (left : List ℕ) : Cause → List ℕ → Type 0 where
-  short : length left < size_of part → Fails part left Truncated []
-  faulty : (bytes rest : List ℕ) (cause : Cause) → left ≡ bytes ++ rest → length bytes ≡ size_of part → IsFirstCause (Stands part bytes) cause → Fails part left cause rest
+abbrev pub WrapperPartFails : WrapperPart → List ℕ → Cause → List ℕ → Type 0
+WrapperPartFails part left cause rest = Fails Truncated (wrapper_size part) (λ bytes. IsFirstCause (StandsInWrapper part bytes)) left cause rest
 
 -- ---- faultless fronts, and what comes next
 
@@ -101,26 +102,26 @@ pub data HasBody (records : List LibxlRecord) (len : ℕ) : ℕ → WrapperPart 
   optional : (type : ℕ) → 2 ^ 31 ≤ type → HasBody records len type (OtherBody len)
 
 -- the first parts of a record behind these records
-pub data Within (records : List LibxlRecord) : List ℕ → WrapperPart → Type 0 where
-  at_head : Within records [] (Head records)
-  in_body : (head : List ℕ) (part : WrapperPart) → IsFaultless (Head records) head → HasBody records (le32 head 4) (le32 head 0) part → Within records head part
-  at_padding : (head body : List ℕ) (content : Content) (n : ℕ) → IsFaultless (Head records) head → length body ≡ le32 head 4 → HasContent (le32 head 0) body content → Fits records content
-      → IsLeastPadding (le32 head 4) n → Within records (head ++ body) (Padding n)
+pub data WithinLibxl (records : List LibxlRecord) : List ℕ → WrapperPart → Type 0 where
+  at_head : WithinLibxl records [] (Head records)
+  in_body : (head : List ℕ) (part : WrapperPart) → IsFaultlessWrapperPart (Head records) head → HasBody records (le32 head 4) (le32 head 0) part → WithinLibxl records head part
+  at_padding : (head body : List ℕ) (content : LibxlContent) (n : ℕ) → IsFaultlessWrapperPart (Head records) head → length body ≡ le32 head 4 → HasLibxlContent (le32 head 0) body content → EmulatorsFit records content
+      → IsLeastPadding (le32 head 4) n → WithinLibxl records (head ++ body) (Padding n)
 
 -- the header, and behind it these records, of which none is END
-pub record IsOpen (front : List ℕ) (records : List LibxlRecord) : Type 0 where
+pub record IsOpenLibxl (front : List ℕ) (records : List LibxlRecord) : Type 0 where
   pub header : List ℕ
   pub legacy : Bool
   pub bytes : List ℕ
   pub whole : front ≡ header ++ bytes
   pub is_header : IsLibxlHeader header legacy
-  pub spelled : Spells bytes records
-  pub not_ended : is_ended records ≡ false
+  pub spelled : Spells FollowsLibxl bytes records
+  pub not_ended : is_libxl_ended records ≡ false
 
 -- a faultless front of a libxl stream, and the place and the part that come next
-pub data Behind : List ℕ → Place → WrapperPart → Type 0 where
-  at_header : (ident : List ℕ) → length ident ≡ 8 → be64 ident 0 ≡ libxl_ident → Behind ident places.LibxlHeader Header
-  in_record : (front before_it : List ℕ) (records : List LibxlRecord) (part : WrapperPart) → IsOpen front records → Within records before_it part → Behind (front ++ before_it) (places.LibxlRecord (length records)) part
+pub data BehindWrapper : List ℕ → Place → WrapperPart → Type 0 where
+  at_header : (ident : List ℕ) → length ident ≡ 8 → be64 ident 0 ≡ libxl_ident → BehindWrapper ident places.LibxlHeader Header
+  in_record : (front before_it : List ℕ) (records : List LibxlRecord) (part : WrapperPart) → IsOpenLibxl front records → WithinLibxl records before_it part → BehindWrapper (front ++ before_it) (places.LibxlRecord (length records)) part
 
 -- the image that follows LIBXC_CONTEXT is refused
 pub record ImageFails (input : List ℕ) (place : Place) (cause : Cause) (rest : List ℕ) : Type 0 where
@@ -129,8 +130,8 @@ pub record ImageFails (input : List ℕ) (place : Place) (cause : Cause) (rest :
   pub left : List ℕ
   pub records : List LibxlRecord
   pub whole : input ≡ front ++ (head ++ left)
-  pub is_open : IsOpen front records
-  pub faultless : IsFaultless (Head records) head
+  pub is_open : IsOpenLibxl front records
+  pub faultless : IsFaultlessWrapperPart (Head records) head
   pub is_context : le32 head 0 ≡ 1
   pub refused : ImageRefused left place cause rest
 
@@ -140,8 +141,8 @@ pub record WrapperFails (input : List ℕ) (place : Place) (cause : Cause) (rest
   pub left : List ℕ
   pub part : WrapperPart
   pub whole : input ≡ front ++ left
-  pub behind : Behind front place part
-  pub fails : Fails part left cause rest
+  pub behind : BehindWrapper front place part
+  pub fails : WrapperPartFails part left cause rest
 
 -- an input of 8 bytes and more that begins as a libxl stream
 pub record BeginsAsLibxl (input : List ℕ) : Type 0 where
@@ -150,7 +151,7 @@ pub record BeginsAsLibxl (input : List ℕ) : Type 0 where
 
 -- the input is refused at this place, for this cause, and rest follows the faulty part: a libxl stream in a part of its own or
 -- in its image, and any other input as an image
-pub data Refused (input : List ℕ) (place : Place) (cause : Cause) (rest : List ℕ) : Type 0 where
-  bare : (BeginsAsLibxl input → ⊥) → ImageRefused input place cause rest → Refused input place cause rest
-  in_wrapper : WrapperFails input place cause rest → Refused input place cause rest
-  in_image : ImageFails input place cause rest → Refused input place cause rest
+pub data RefusedStream (input : List ℕ) (place : Place) (cause : Cause) (rest : List ℕ) : Type 0 where
+  bare : (BeginsAsLibxl input → ⊥) → ImageRefused input place cause rest → RefusedStream input place cause rest
+  in_wrapper : WrapperFails input place cause rest → RefusedStream input place cause rest
+  in_image : ImageFails input place cause rest → RefusedStream input place cause rest

@@ -1,6 +1,6 @@
 -- The least of what stands along a list: of a range of numbers what a search finds first, and of the entries of a map the
 -- first that has something.
-use Rattle.mig_refused.proofs.Common.{◌≡◌, ◌⊎◌, inl, inr, ℕ, zero, suc, ◌+◌, ◌<◌, ◌≤◌, List, [], ◌∷◌, Bool, true, false, cond, Option, Some, None, refl, sym, ap, subst, ◌∙◌, arith, cases_order, both_ways, or_cases, option_or, Cause, IsTriedBefore}
+use Rattle.mig_refused.proofs.Common.{◌≡◌, ◌⊎◌, inl, inr, ℕ, zero, suc, ◌+◌, ◌<◌, ◌≤◌, List, [], ◌∷◌, Bool, true, false, cond, Option, Some, None, refl, sym, ap, subst, ◌∙◌, arith, cases_eq, both_ways, or_cases, option_or, Cause, IsTriedBefore}
 use Rattle.std.specs.Prelude.{find, T}
 use Rattle.std.specs.List.{All, list_any, range_with_len}
 use Rattle.std.specs.Option.{option_map}
@@ -18,40 +18,21 @@ use Rattle.mig_headers.specs.Texts.{number_of_cause}
 use Rattle.mig_guest.proofs.Found.{all_found}
 use Rattle.mig_guest.proofs.KeyedMaps.{tied}
 use Rattle.mig_guest.proofs.PartCursor.{both_of, true_of, less}
+use Rattle.mig_pvtables.proofs.Searches.{find_in_range}
+use Rattle.mig_pvtables.proofs.Slots.{found_in_range}
 use Rattle.mig_pvtables.specs.Faults.{slots, field_numbers, first_some}
 use Rattle.mig_refused.proofs.Least.{Least, both_least, turned}
 
 -- ---- in a range
 
 module _ (p : ℕ → Bool) where
-  -- what a search in n numbers from a on answers
-  abbrev pub Finds : ℕ → ℕ → Option ℕ → Type 0
-  Finds a n None = (k : ℕ) → a ≤ k → k < a + n → p k ≡ false
-  Finds a n (Some k) = (a ≤ k) × (k < a + n) × (p k ≡ true) × ((j : ℕ) → a ≤ j → j < k → p j ≡ false)
-
-  pub finds : (a n : ℕ) → Finds a n (find p (range_with_len a n))
-  finds a zero = λ k le lt. absurd (omega (arith, le, lt))
-  finds a (suc n) = by (finds (a + 1) n) (p a) refl
-    where
-      -- the first number fails the test
-      behind : (o : Option ℕ) → p a ≡ false → Finds (a + 1) n o → Finds a (suc n) o
-      behind None fails rest = λ k le lt. elim (cases_order a k) [
-        | inl e ↦ ap p (sym e) ∙ fails
-        | inr other ↦ elim other [ inl below ↦ rest k (omega (arith, below)) (omega (arith, lt)) | inr above ↦ absurd (omega (arith, above, le)) ]
-      ]
-      behind (Some k) fails (le, lt, passes, before) = (
-        omega (arith, le),
-        omega (arith, lt),
-        passes,
-        λ j low less. elim (cases_order a j) [
-          | inl e ↦ ap p (sym e) ∙ fails
-          | inr other ↦ elim other [ inl below ↦ before j (omega (arith, below)) less | inr above ↦ absurd (omega (arith, above, low)) ]
-        ],
-      )
-
-      by : Finds (a + 1) n (find p (range_with_len (a + 1) n)) → (b : Bool) → p a ≡ b → Finds a (suc n) (cond b (Some a) (find p (range_with_len (a + 1) n)))
-      by rest true is = (omega arith, omega arith, is, λ j le lt. absurd (omega (arith, le, lt)))
-      by rest false is = behind (find p (range_with_len (a + 1) n)) is rest
+  -- no number that passes is before the one that is found
+  found_first : (a n k j : ℕ) → find p (range_with_len a n) ≡ Some k → a ≤ j → p j ≡ true → k ≤ j
+  found_first a zero k j is low passes = cc
+  found_first a (suc n) k j is low passes = elim (p a) as (λ b. p a ≡ b → cond b (Some a) (find p (range_with_len (a + 1) n)) ≡ Some k → k ≤ j) [
+    | true ↦ λ t at. let same : a ≡ k = cc in omega (arith, same, low)
+    | false ↦ λ t at. elim (cases_eq a j) [ inl e ↦ absurd (both_ways _ (ap p (sym e) ∙ t) passes) | inr other ↦ found_first (a + 1) n k j at (omega (arith, low, other)) passes ]
+  ] refl is
 
 -- some number passes a test
 module _ (p : ℕ → Bool) where
@@ -71,26 +52,24 @@ module _ (p : ℕ → Bool) (place : ℕ → ℕ) (cause : ℕ → Cause) where
   Sought n k c = (i : ℕ) × (i < n) × (p i ≡ true) × (k ≡ place i) × (c ≡ cause i)
 
   module _ (same : (i j : ℕ) → number_of_cause (cause i) ≡ number_of_cause (cause j)) (rises : (i j : ℕ) → i < j → place i < place j) where
-    answer_least : (n : ℕ) (o : Option ℕ) → Finds p 0 n o → Least (Sought n) (option_map cause o)
-    answer_least n None none = record { holds = λ k c h. both_ways _ (none h.0 (omega arith) (omega (arith, h.1))) h.2 }
-    answer_least n (Some i) (low, lt, passes, before) =
-        record {
-          holds = (
-            place i,
-            (i, omega (arith, lt), passes, refl, refl),
-            λ k d h. let (j, under, also, at, is) = h in elim (cases_order i j) [
-              | inl e ↦ inr (is ∙ ap cause (sym e))
-              | inr other ↦ elim other [
-                | inl below ↦ inl (inr (same i j ∙ ap number_of_cause (sym is), subst (λ m. place i < m) (sym at) (rises i j below)))
-                | inr above ↦ absurd (both_ways _ (before j (omega arith) above) also)
-              ]
-            ],
-          );
-        }
-
     -- the least place of a list: a search names the least number that passes
     pub sought_least : (n : ℕ) → Least (Sought n) (option_map cause (find p (range_with_len 0 n)))
-    sought_least n = answer_least n (find p (range_with_len 0 n)) (finds p 0 n)
+    sought_least n = by (find p (range_with_len 0 n)) refl
+      where
+        by : (o : Option ℕ) → find p (range_with_len 0 n) ≡ o → Least (Sought n) (option_map cause o)
+        by None none = record { holds = λ k c h. both_ways _ ((find_in_range p n).0 none h.0 h.1) h.2 }
+        by (Some i) is =
+            let (lt, passes) = found_in_range p 0 n i is in
+            record {
+              holds = (
+                place i,
+                (i, omega (arith, lt), passes, refl, refl),
+                λ k d h. let (j, under, also, at, named) = h in elim (cases_eq i j) [
+                  | inl e ↦ inr (named ∙ ap cause (sym e))
+                  | inr other ↦ inl (inr (same i j ∙ ap number_of_cause (sym named), subst (λ m. place i < m) (sym at) (rises i j (omega (arith, other, found_first p 0 n i j is (omega arith) also)))))
+                ],
+              );
+            }
 
     pub slot_least : Least (Sought 512) (option_map cause (find p slots))
     unfolding slots

@@ -11,7 +11,10 @@ use Rattle.mig_restore.specs.Judging.{fault_of_fields}
 use Rattle.mig_refused.specs.Refusal.HeadHas.{too_many, bad_length, out_of_order, wrong_kind, unknown, unsupported, too_long}
 use Rattle.mig_refused.specs.Refusal.Breaks.{second_end, static_after_end, static_after_content, early_content, second_pv_info, early_p2m_frames, early_pages, late_pages}
 use Rattle.mig_refused.specs.Refusal.{HeadHas as has, Breaks as broken}
-use Rattle.mig_refused.proofs.Least.{Least, RowHas, To, ascends, named, join}
+use Rattle.mig_headers.proofs.FirstCauses.{ascends, join}
+use Rattle.mig_headers.proofs.FirstCauses as firsts
+use Rattle.mig_headers.specs.Texts.{number_of_cause}
+use Rattle.mig_refused.proofs.Least.{Least, RowHas, To, rule_in, named}
 
 of_pv : (kind : Kind) → pv kind ≡ true → kind ≡ Pv
 of_pv Pv is = refl
@@ -32,16 +35,15 @@ mandatory _ = refl
 
 -- ---- rows in one list
 
-to_both : (Has : ℕ → Cause → Type 0) (xs ys : List (Bool × Cause)) → To Has xs → To Has ys → To Has (xs ++ ys)
-to_both Has [] ys f g = g
-to_both Has (x ∷ xs) ys f g = (f.0, to_both Has xs ys f.1 g)
+abbrev InRow : List (Bool × Cause) → Cause → Type 0
+InRow rows c = firsts.RowHas number_of_cause rule_in rows c
 
-from_both : (xs ys : List (Bool × Cause)) (k : ℕ) (c : Cause) → RowHas xs k c ⊎ RowHas ys k c → RowHas (xs ++ ys) k c
-from_both [] ys k c (inl h) = absurd h
-from_both [] ys k c (inr h) = h
-from_both (x ∷ xs) ys k c (inl (inl h)) = inl h
-from_both (x ∷ xs) ys k c (inl (inr h)) = inr (from_both xs ys k c (inl h))
-from_both (x ∷ xs) ys k c (inr h) = inr (from_both xs ys k c (inr h))
+from_both : (xs ys : List (Bool × Cause)) (c : Cause) → InRow xs c ⊎ InRow ys c → InRow (xs ++ ys) c
+from_both [] ys c (inl h) = absurd h
+from_both [] ys c (inr h) = h
+from_both (x ∷ xs) ys c (inl (inl h)) = inl h
+from_both (x ∷ xs) ys c (inl (inr h)) = inr (from_both xs ys c (inl h))
+from_both (x ∷ xs) ys c (inr h) = inr (from_both xs ys c (inr h))
 
 module _ (was : Before) (len type : ℕ) where
   abbrev o : Opening
@@ -98,8 +100,8 @@ module _ (was : Before) (len type : ℕ) where
     | inr e ↦ let b = and_parts (is_of (StaticDataEnd ∷ static_records) this) _ e in broken.static_after_content this b.0 b.1
   ]
 
-  to_rules : (this : RecordType) → type ≡ type_number this → To Has (rules this)
-  to_rules this number = (
+  to_rules : (this : RecordType) (others : List (Bool × Cause)) → type ≡ type_number this → To Has others → To Has (rules this ++ others)
+  to_rules this others number behind = (
     (λ h. breaks 1 (of_one this StaticDataEnd _ 1 h broken.second_end)),
     (
       (λ h. breaks 2 (late this h)),
@@ -111,7 +113,7 @@ module _ (was : Before) (len type : ℕ) where
             (λ h. breaks 5 (of_one this X86PvP2mFrames _ 5 h (λ e. broken.early_p2m_frames (not-true _ e)))),
             (
               (λ h. let a = and_parts (pv o.kind) _ h in breaks 6 (of_one this PageData _ 6 a.1 (λ e. broken.early_pages (of_pv o.kind a.0) (not-true _ e)))),
-              ((λ h. breaks 7 (of_one this PageData _ 7 h broken.late_pages)), tt),
+              ((λ h. breaks 7 (of_one this PageData _ 7 h broken.late_pages)), behind),
             ),
           ),
         ),
@@ -132,45 +134,45 @@ module _ (was : Before) (len type : ℕ) where
   to None none = (long, ((λ h. has.unknown (leb-false (2 ^ 31) type (not-true _ h)) none), ((λ h. absurd (false≢true h)), (many, tt))))
   to (Some this) is =
       let number = sym (numbers_are_inverse.number_of type this is) in
-      let behind = to_both Has (rules this) (back_rows (Some this)) (to_rules this number) ((λ h. has.bad_length this number (not-true _ h)), (many, tt)) in
+      let behind = to_rules this (back_rows (Some this)) number ((λ h. has.bad_length this number (not-true _ h)), (many, tt)) in
       (long, ((λ h. has.unsupported this number (not-true _ h)), ((λ h. has.wrong_kind this number (not-true _ h)), behind)))
 
   -- ---- a cause that stands has its row
 
-  rule_row : (this : RecordType) (rule : ℕ) → Breaks o.version o.kind types this rule → RowHas (rules this) rule (OutOfOrder rule)
-  rule_row _ _ (second_end h) = inl (rw h refl, refl, refl)
-  rule_row _ _ (static_after_end this h e) = inr (inl (or_left _ _ (and_from _ _ h e), refl, refl))
-  rule_row _ _ (static_after_content this h e) = inr (inl (or_right _ _ (and_from _ _ h e), refl, refl))
-  rule_row _ _ (early_content this v h e) = inr (inr (inl (and_from _ _ (rw v refl) (and_from _ _ h (not_from_false _ e)), refl, refl)))
-  rule_row _ _ (second_pv_info h) = inr (inr (inr (inl (rw h refl, refl, refl))))
-  rule_row _ _ (early_p2m_frames h) = inr (inr (inr (inr (inl (rw h refl, refl, refl)))))
-  rule_row _ _ (early_pages v h) = inr (inr (inr (inr (inr (inl (rw (v, h) refl, refl, refl))))))
-  rule_row _ _ (late_pages h) = inr (inr (inr (inr (inr (inr (inl (rw h refl, refl, refl)))))))
+  rule_row : (this : RecordType) (rule : ℕ) → Breaks o.version o.kind types this rule → InRow (rules this) (OutOfOrder rule)
+  rule_row _ _ (second_end h) = inl (rw h refl, refl)
+  rule_row _ _ (static_after_end this h e) = inr (inl (or_left _ _ (and_from _ _ h e), refl))
+  rule_row _ _ (static_after_content this h e) = inr (inl (or_right _ _ (and_from _ _ h e), refl))
+  rule_row _ _ (early_content this v h e) = inr (inr (inl (and_from _ _ (rw v refl) (and_from _ _ h (not_from_false _ e)), refl)))
+  rule_row _ _ (second_pv_info h) = inr (inr (inr (inl (rw h refl, refl))))
+  rule_row _ _ (early_p2m_frames h) = inr (inr (inr (inr (inl (rw h refl, refl)))))
+  rule_row _ _ (early_pages v h) = inr (inr (inr (inr (inr (inl (rw (v, h) refl, refl))))))
+  rule_row _ _ (late_pages h) = inr (inr (inr (inr (inr (inr (inl (rw h refl, refl)))))))
 
   module _ (found : Option RecordType) (is : type_of_number type ≡ found) where
     known : (this : RecordType) → type ≡ type_number this → found ≡ Some this
     known this number = sym is ∙ ap type_of_number number ∙ numbers_are_inverse.type_of this
 
-    own : (other : Option RecordType) (k : ℕ) (c : Cause) → found ≡ other → RowHas (own_rows other) k c → RowHas (rows found) k c
-    own other k c same h = subst (λ f. RowHas (rows f) k c) (sym same) (inr (from_both (own_rows other) (back_rows other) k c (inl h)))
+    own : (other : Option RecordType) (c : Cause) → found ≡ other → InRow (own_rows other) c → RowHas (rows found) (rule_in c) c
+    own other c same h = (refl, subst (λ f. InRow (rows f) c) (sym same) (inr (from_both (own_rows other) (back_rows other) c (inl h))))
 
-    back : (k : ℕ) (c : Cause) → RowHas (back_rows found) k c → RowHas (rows found) k c
-    back k c h = inr (from_both (own_rows found) (back_rows found) k c (inr h))
+    back : (c : Cause) → InRow (back_rows found) c → RowHas (rows found) (rule_in c) c
+    back c h = (refl, inr (from_both (own_rows found) (back_rows found) c (inr h)))
 
     from : (k : ℕ) (c : Cause) → Has k c → RowHas (rows found) k c
-    from _ _ (too_many h) = back 0 TooManyRecords (inr (inl (le-leb _ _ h, refl, refl)))
-    from _ _ (bad_length this number h) = back 0 (BadLength len) (inl (not_from_false _ (ap (λ f. type_allows f len) (known this number) ∙ h), refl, refl))
-    from _ _ (out_of_order this rule number h) = own (Some this) rule (OutOfOrder rule) (known this number) (inr (inr (rule_row this rule h)))
-    from _ _ (wrong_kind this number h) = own (Some this) 0 (WrongKind type) (known this number) (inr (inl (not_from_false _ h, refl, refl)))
-    from _ _ (unknown small none) = own None 0 (UnknownMandatory type) (sym is ∙ none) (inl (not_from_false _ (lt-leb _ _ small), refl, refl))
-    from _ _ (unsupported this number h) = own (Some this) 0 (Unsupported type) (known this number) (inl (not_from_false _ h, refl, refl))
-    from _ _ (too_long h) = inl (lt-ltb _ _ h, refl, refl)
+    from _ _ (too_many h) = back TooManyRecords (inr (inl (le-leb _ _ h, refl)))
+    from _ _ (bad_length this number h) = back (BadLength len) (inl (not_from_false _ (ap (λ f. type_allows f len) (known this number) ∙ h), refl))
+    from _ _ (out_of_order this rule number h) = own (Some this) (OutOfOrder rule) (known this number) (inr (inr (rule_row this rule h)))
+    from _ _ (wrong_kind this number h) = own (Some this) (WrongKind type) (known this number) (inr (inl (not_from_false _ h, refl)))
+    from _ _ (unknown small none) = own None (UnknownMandatory type) (sym is ∙ none) (inl (not_from_false _ (lt-leb _ _ small), refl))
+    from _ _ (unsupported this number h) = own (Some this) (Unsupported type) (known this number) (inl (not_from_false _ h, refl))
+    from _ _ (too_long h) = (refl, inl (lt-ltb _ _ h, refl))
 
   -- of a record head the cause that judging gives is the one that is named
   pub head_least : Least Has (fault_of_fields was type len)
   head_least = by (type_of_number type) refl
     where
-      in_order : (found : Option RecordType) → ascends (rows found) ≡ true
+      in_order : (found : Option RecordType) → ascends number_of_cause rule_in (rows found) ≡ true
       in_order None = refl
       in_order (Some this) = refl
 

@@ -1,8 +1,8 @@
--- Tables of causes: the first row whose test holds is the cause that is named.
-use Rattle.mig_refused.proofs.Common.{◌≡◌, ◌⊎◌, inl, inr, ℕ, List, [], ◌∷◌, ◌++◌, Bool, true, false, nat_lt, nat_eq, Option, Some, None, refl, sym, subst, ltb-true, eqb-true, and_parts, or_cases, false≢true, option_or, first_fault, Cause, OutOfOrder, IsTriedBefore, IsFirstCause}
-use Rattle.std.specs.Prelude.{◌&&◌, ◌||◌}
-use Rattle.std.specs.List.{list_all}
+-- The cause that is named: of a table the first row whose test holds, and of several tables the first that names one.
+use Rattle.mig_refused.proofs.Common.{◌≡◌, ◌⊎◌, inl, inr, ℕ, List, Bool, true, false, cond, refl, false≢true, Option, Some, None, sym, subst, option_or, first_fault, Cause, OutOfOrder, IsTriedBefore, IsFirstCause}
 use Rattle.mig_headers.specs.Texts.{number_of_cause}
+use Rattle.mig_headers.proofs.FirstCauses.{Named, ascends, rows_name}
+use Rattle.mig_headers.proofs.FirstCauses as firsts
 
 abbrev pub LeastOf : (ℕ → Cause → Type 0) → Option Cause → Type 0
 LeastOf Has None = (k : ℕ) (c : Cause) → Has k c → ⊥
@@ -12,6 +12,22 @@ LeastOf Has (Some c) = IsFirstCause Has c
 pub record Least (Has : ℕ → Cause → Type 0) (f : Option Cause) : Type 0 where
   pub holds : LeastOf Has f
 
+-- what is tried in a part of so many bytes: the least of the causes that stand in it
+pub record Tries (n : ℕ) (Has : List ℕ → ℕ → Cause → Type 0) : Type 0 where
+  pub fault : List ℕ → Option Cause
+  pub least : (bytes : List ℕ) → Least (Has bytes) (fault bytes)
+
+abbrev pub nothing_tried : {n : ℕ} → Tries n (λ _ k c. ⊥)
+nothing_tried = record { fault = λ _. None; least = λ _. record { holds = λ k c h. h } }
+
+-- a cause that stands at one place
+abbrev pub Alone : Type 0 → ℕ → Cause → ℕ → Cause → Type 0
+Alone P place cause k c = P × (k ≡ place) × (c ≡ cause)
+
+pub alone_least : (P : Type 0) (place : ℕ) (cause : Cause) (b : Bool) → (b ≡ true → P) → (P → b ≡ true) → Least (Alone P place cause) (cond b (Some cause) None)
+alone_least P place cause true to from = record { holds = (place, (to refl, refl, refl), λ k d h. inr h.2) }
+alone_least P place cause false to from = record { holds = λ k c h. false≢true (from h.0) }
+
 -- ---- rows
 
 -- the place of a cause of a table of tests
@@ -19,57 +35,28 @@ abbrev pub rule_in : Cause → ℕ
 rule_in (OutOfOrder rule) = rule
 rule_in _ = 0
 
-abbrev is_before : Cause → Cause → Bool
-is_before c d = nat_lt (number_of_cause c) (number_of_cause d) || (nat_eq (number_of_cause c) (number_of_cause d) && nat_lt (rule_in c) (rule_in d))
-
--- each row's cause is tried before those of the rows behind it
-abbrev pub ascends : List (Bool × Cause) → Bool
-ascends [] = true
-ascends (row ∷ rows) = list_all (λ other. is_before row.1 other.1) rows && ascends rows
-
 abbrev pub RowHas : List (Bool × Cause) → ℕ → Cause → Type 0
-RowHas [] k c = ⊥
-RowHas (row ∷ rows) k c = ((row.0 ≡ true) × (k ≡ rule_in row.1) × (c ≡ row.1)) ⊎ RowHas rows k c
+RowHas rows k c = (k ≡ rule_in c) × firsts.RowHas number_of_cause rule_in rows c
 
 abbrev pub To : (ℕ → Cause → Type 0) → List (Bool × Cause) → Type 0
-To Has [] = Unit {0}
-To Has (row ∷ rows) = (row.0 ≡ true → Has (rule_in row.1) row.1) × To Has rows
+To Has rows = firsts.To number_of_cause rule_in (λ c. Has (rule_in c) c) rows
 
-later : (c : Cause) (rows : List (Bool × Cause)) → list_all (λ other. is_before c other.1) rows ≡ true → (j : ℕ) (d : Cause) → RowHas rows j d → IsTriedBefore (rule_in c) c j d
-later c [] all j d h = absurd h
-later c (row ∷ rows) all j d (inr h) = later c rows (and_parts _ _ all).1 j d h
-later c (row ∷ rows) all j d (inl (_, at, is)) =
-    subst (λ k. IsTriedBefore (rule_in c) c k d) (sym at)
-    (subst (IsTriedBefore (rule_in c) c (rule_in row.1)) (sym is) (elim (or_cases _ _ (and_parts _ _ all).0) [ inl less ↦ inl (ltb-true _ _ less) | inr same ↦ let e = and_parts _ _ same in inr (eqb-true _ _ e.0, ltb-true _ _ e.1) ]))
-
-pub rows_least : (rows : List (Bool × Cause)) → ascends rows ≡ true → Least (RowHas rows) (first_fault rows)
-rows_least [] asc = record { holds = λ k c h. h }
-rows_least ((true, x) ∷ rows) asc = record { holds = (rule_in x, inl (refl, refl, refl), λ j d h. elim h [ inl e ↦ inr e.2 | inr e ↦ inl (later x rows (and_parts _ _ asc).0 j d e) ]) }
-rows_least ((false, x) ∷ rows) asc = skip (first_fault rows) (rows_least rows (and_parts _ _ asc).1)
+-- rows in the order of their causes: the first whose test holds is named
+pub named : (Has : ℕ → Cause → Type 0) (rows : List (Bool × Cause)) → ascends number_of_cause rule_in rows ≡ true → To Has rows → ((k : ℕ) (c : Cause) → Has k c → RowHas rows k c) → Least Has (first_fault rows)
+named Has rows asc to from = by (first_fault rows) (rows_name number_of_cause rule_in (λ c. Has (rule_in c) c) rows asc to (λ c h. (from (rule_in c) c h).1))
   where
-    skip : (g : Option Cause) → Least (RowHas rows) g → Least (RowHas ((false, x) ∷ rows)) g
-    skip None p = record { holds = λ k c h. elim h [ inl q ↦ false≢true q.0 | inr q ↦ p.holds k c q ] }
-    skip (Some c) p = record { holds = (p.holds.0, inr p.holds.1, λ j d h. elim h [ inl q ↦ absurd (false≢true q.0) | inr q ↦ p.holds.2 j d q ]) }
+    there : (k : ℕ) (c : Cause) → Has k c → Has (rule_in c) c
+    there k c h = subst (λ i. Has i c) (from k c h).0 h
+
+    by : (f : Option Cause) → Named number_of_cause rule_in (λ c. Has (rule_in c) c) f → Least Has f
+    by None p = record { holds = λ k c h. p.holds c (there k c h) }
+    by (Some c) p = record { holds = (rule_in c, p.holds.0, λ j d h. subst (λ i. IsTriedBefore (rule_in c) c i d ⊎ (d ≡ c)) (sym (from j d h).0) (p.holds.1 d (there j d h))) }
+
+-- ---- tables one behind the other
 
 pub turned : (P R : ℕ → Cause → Type 0) (f : Option Cause) → Least P f → ((k : ℕ) (c : Cause) → P k c → R k c) → ((k : ℕ) (c : Cause) → R k c → P k c) → Least R f
 turned P R None p to from = record { holds = λ k c r. p.holds k c (from k c r) }
 turned P R (Some c) p to from = record { holds = (p.holds.0, to p.holds.0 c p.holds.1, λ j d r. p.holds.2 j d (from j d r)) }
-
-pub into : (Has : ℕ → Cause → Type 0) (rows : List (Bool × Cause)) → To Has rows → (k : ℕ) (c : Cause) → RowHas rows k c → Has k c
-into Has [] to k c h = absurd h
-into Has (row ∷ rows) to k c (inl h) = subst (λ j. Has j c) (sym h.1) (subst (Has (rule_in row.1)) (sym h.2) (to.0 h.0))
-into Has (row ∷ rows) to k c (inr h) = into Has rows to.1 k c h
-
--- rows in the order of their numbers: the first whose test holds is named
-pub named : (Has : ℕ → Cause → Type 0) (rows : List (Bool × Cause)) → ascends rows ≡ true → To Has rows → ((k : ℕ) (c : Cause) → Has k c → RowHas rows k c) → Least Has (first_fault rows)
-named Has rows asc to from = turned (RowHas rows) Has (first_fault rows) (rows_least rows asc) (into Has rows to) from
-
--- ---- tables one behind the other
-
-pub join : (xs ys : List (Bool × Cause)) → option_or (first_fault xs) (first_fault ys) ≡ first_fault (xs ++ ys)
-join [] ys = refl
-join ((true, c) ∷ xs) ys = refl
-join ((false, c) ∷ xs) ys = join xs ys
 
 -- causes of which the first ones are tried before the others
 pub both_least : (A B Has : ℕ → Cause → Type 0) (f g : Option Cause) → ((j k : ℕ) (c d : Cause) → A j c → B k d → IsTriedBefore j c k d)

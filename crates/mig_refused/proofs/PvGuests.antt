@@ -25,25 +25,18 @@ use Rattle.mig_pvtables.specs.P2mFrames.{count_in, listed}
 use Rattle.mig_pvtables.proofs.PvGuests.{counted}
 use Rattle.mig_refused.specs.PvRefusal.{PvGuestHas, rank_of}
 use Rattle.mig_refused.specs.PvRefusal.PvGuestHas.{other_type, listed_twice}
-use Rattle.mig_refused.proofs.Least.{Least, turned}
+use Rattle.mig_refused.proofs.Least.{Least, Alone, alone_least, turned}
 use Rattle.mig_refused.proofs.Ranks.{rank_lt}
 use Rattle.mig_refused.proofs.Firsts.{Sought, sought_least, slot_least, field_least, InEntries, Rises, entries_least, some_passes, passes_some, twice_mapped, first_mapped}
 
--- ---- a cause that stands at one place
+-- ---- causes that stand at one place
 
-abbrev pub Alone : Type 0 → ℕ → Cause → ℕ → Cause → Type 0
-Alone P place cause k c = P × (k ≡ place) × (c ≡ cause)
-
-alone_least : (P : Type 0) (place : ℕ) (cause : Cause) (b : Bool) → (b ≡ true → P) → (P → b ≡ true) → Least (Alone P place cause) (cond b (Some cause) None)
-alone_least P place cause true to from = record { holds = (place, (to refl, refl, refl), λ k d h. inr h.2) }
-alone_least P place cause false to from = record { holds = λ k c h. false≢true (from h.0) }
+pub is_missing : {X : Type 0} (o : Option X) → is_none o ≡ true → o ≡ None
+is_missing None h = refl
+is_missing (Some x) h = cc
 
 pub missing_least : (parts : PartMap) (key : PartKey) (place : ℕ) → Least (Alone (maps.get parts key ≡ None) place (Missing key.code)) (cond (is_none (maps.get parts key)) (Some (Missing key.code)) None)
-missing_least parts key place = alone_least _ place (Missing key.code) (is_none (maps.get parts key)) (is_there (maps.get parts key)) (λ h. ap is_none h)
-  where
-    is_there : (o : Option (List ℕ)) → is_none o ≡ true → o ≡ None
-    is_there None h = refl
-    is_there (Some x) h = cc
+missing_least parts key place = alone_least _ place (Missing key.code) (is_none (maps.get parts key)) (is_missing (maps.get parts key)) (λ h. ap is_none h)
 
 pub many_least : (frames : FrameMap) → Least (Alone (most_frames < length (maps.entries frames)) 0 TooManyFrames) (cond (nat_lt most_frames (length (maps.entries frames))) (Some TooManyFrames) None)
 many_least frames = alone_least _ 0 TooManyFrames (nat_lt most_frames (length (maps.entries frames))) (λ h. ltb-true _ _ h) (λ h. lt-ltb _ _ h)
@@ -122,14 +115,6 @@ is_other : (o : Option PageType) → (o ≡ Some Notab → ⊥) → not (is_nota
 is_other (Some Notab) h = absurd (h refl)
 is_other _ h = refl
 
-some_there : {X : Type 0} (o : Option X) → is_some o ≡ true → IsSome o
-some_there None h = cc
-some_there (Some x) h = h
-
-there_some : {X : Type 0} (o : Option X) → IsSome o → is_some o ≡ true
-there_some None h = cc
-there_some (Some x) h = h
-
 same_pfn : (pfn : ℕ) (o : Option ℕ) → is_this pfn o ≡ true → o ≡ Some pfn
 same_pfn pfn None h = cc
 same_pfn pfn (Some n) h = ap (λ m. Some m) (eqb-true n pfn h)
@@ -141,11 +126,11 @@ module _ (frames : FrameMap) (parts : PartMap) where
 
   needed : (k : ℕ) → is_needed frames k ≡ true → Needed k
   unfolding slots
-  needed k h = let (slot, _, lt, is) = some_passes (λ slot. is_some (maps.get frames (512 * k + slot))) 0 512 h in (slot, omega (arith, lt), some_there _ is)
+  needed k h = let (slot, _, lt, is) = some_passes (λ slot. is_some (maps.get frames (512 * k + slot))) 0 512 h in (slot, omega (arith, lt), is)
 
   has_needed : (k slot : ℕ) → slot < 512 → IsSome (maps.get frames (512 * k + slot)) → is_needed frames k ≡ true
   unfolding slots
-  has_needed k slot lt is = passes_some (λ slot. is_some (maps.get frames (512 * k + slot))) 512 slot lt (there_some _ is)
+  has_needed k slot lt is = passes_some (λ slot. is_some (maps.get frames (512 * k + slot))) 512 slot lt is
 
 module _ (g : GuestOf) where
   abbrev pub P2mAt : ℕ → Cause → Type 0

@@ -88,9 +88,9 @@ module _ (body : List ℕ) where
   info_least = named (InfoHas body) info_rows refl ((λ h. width_4 (eqb-true _ _ h)), ((λ h. info_has _ refl h), tt)) from
     where
       from : (k : ℕ) (c : Cause) → InfoHas body k c → RowHas info_rows k c
-      from _ _ (width_4 h) = inl (eq-eqb _ _ h, refl, refl)
-      from _ _ (other_width h) = inr (inl (ap (λ b. not (b && nat_eq levels 4)) (ne_eqb _ _ h), refl, refl))
-      from _ _ (other_levels h) = inr (inl (grind (arith, common_steps, ne_eqb levels 4 h), refl, refl))
+      from _ _ (width_4 h) = (refl, inl (eq-eqb _ _ h, refl))
+      from _ _ (other_width h) = (refl, inr (inl (ap (λ b. not (b && nat_eq levels 4)) (ne_eqb _ _ h), refl)))
+      from _ _ (other_levels h) = (refl, inr (inl (grind (arith, common_steps, ne_eqb levels 4 h), refl)))
 
 -- ---- X86_PV_P2M_FRAMES
 
@@ -108,9 +108,9 @@ module _ (body : List ℕ) where
   p2m_least = named (P2mHas body) p2m_rows refl ((λ h. let b = and_parts _ _ h in bad_length (leb-true _ _ b.0) (differs _ _ b.1)), ((λ h. late_start (differs _ _ h)), ((λ h. far_end (leb-true _ _ h)), tt))) from
     where
       from : (k : ℕ) (c : Cause) → P2mHas body k c → RowHas p2m_rows k c
-      from _ _ (bad_length le h) = inl (and_from _ _ (le-leb _ _ le) (test_differs _ _ h), refl, refl)
-      from _ _ (late_start h) = inr (inl (test_differs _ _ h, refl, refl))
-      from _ _ (far_end h) = inr (inr (inl (le-leb _ _ h, refl, refl)))
+      from _ _ (bad_length le h) = (refl, inl (and_from _ _ (le-leb _ _ le) (test_differs _ _ h), refl))
+      from _ _ (late_start h) = (refl, inr (inl (test_differs _ _ h, refl)))
+      from _ _ (far_end h) = (refl, inr (inr (inl (le-leb _ _ h, refl))))
 
 -- ---- the records of vCPUs
 
@@ -128,14 +128,14 @@ module _ (body : List ℕ) where
   basic_least = named (VcpuHas VcpuBasic body) (id_row ∷ ents_row ∷ []) refl ((λ h. vcpu_id (leb-true _ _ h)), ((λ h. let b = and_parts _ _ h in descriptors refl (ltb-true _ _ b.0) (ltb-true _ _ b.1)), tt)) from
     where
       from : (k : ℕ) (c : Cause) → VcpuHas VcpuBasic body k c → RowHas (id_row ∷ ents_row ∷ []) k c
-      from _ _ (vcpu_id h) = inl (le-leb _ _ h, refl, refl)
-      from _ _ (descriptors is some h) = inr (inl (and_from _ _ (lt-ltb _ _ some) (lt-ltb _ _ h), refl, refl))
+      from _ _ (vcpu_id h) = (refl, inl (le-leb _ _ h, refl))
+      from _ _ (descriptors is some h) = (refl, inr (inl (and_from _ _ (lt-ltb _ _ some) (lt-ltb _ _ h), refl)))
 
   other_least : (code : PartCode) → (code ≡ VcpuBasic → ⊥) → Least (VcpuHas code body) (first_fault (id_row ∷ []))
   other_least code other = named (VcpuHas code body) (id_row ∷ []) refl ((λ h. vcpu_id (leb-true _ _ h)), tt) from
     where
       from : (k : ℕ) (c : Cause) → VcpuHas code body k c → RowHas (id_row ∷ []) k c
-      from _ _ (vcpu_id h) = inl (le-leb _ _ h, refl, refl)
+      from _ _ (vcpu_id h) = (refl, inl (le-leb _ _ h, refl))
       from _ _ (descriptors is some h) = absurd (other is)
 
 pub vcpu_least : (code : PartCode) (body : List ℕ) → Least (VcpuHas code body) (fault_of_vcpu code body)

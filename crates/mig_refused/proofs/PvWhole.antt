@@ -16,13 +16,13 @@ use Rattle.mig_guest.specs.Tables.{entry}
 use Rattle.mig_guest.specs.declared.table.Entry.{Entry}
 use Rattle.mig_guest.specs.declared.table.Entry.TheVariants.{Frame}
 use Rattle.mig_guest.proofs.PartOrder.{part_exact, part_total}
-use Rattle.mig_pvtables.specs.Faults.{first_of, is_absent, faults_for, fault_of_guest}
+use Rattle.mig_pvtables.specs.Faults.{first_cause, is_absent, faults_for, fault_of_guest}
 use Rattle.mig_pvtables.specs.VcpuContexts.{field_value, is_used}
 use Rattle.mig_refused.specs.PvRefusal.{PvGuestHas, rank_of}
 use Rattle.mig_refused.specs.PvRefusal.PvGuestHas.{no_p2m, no_shared, no_vcpu, other_type, listed_twice, absent, field_misfits, many_frames}
-use Rattle.mig_refused.proofs.Least.{Least, both_least, turned}
+use Rattle.mig_refused.proofs.Least.{Least, Alone, both_least, turned}
 use Rattle.mig_refused.proofs.Firsts.{InEntries}
-use Rattle.mig_refused.proofs.PvGuests.{Alone, missing_least, many_least, AbsentAt, entries_are, MisfitAt, fields_are, P2mAt, p2m_are, misplaced_has, type_placed, twice_placed}
+use Rattle.mig_refused.proofs.PvGuests.{is_missing, missing_least, many_least, AbsentAt, entries_are, MisfitAt, fields_are, P2mAt, p2m_are, misplaced_has, type_placed, twice_placed}
 
 -- ---- causes in a row
 
@@ -56,12 +56,8 @@ by_place P Q i n a b less j k c d first second = inr (ap number_of_cause first.2
 
 -- ---- the whole guest
 
-is_empty : {X : Type 0} (o : Option X) → is_none o ≡ true → o ≡ None
-is_empty None h = refl
-is_empty (Some x) h = cc
-
 names_absent : (frames : FrameMap) (e : Entry) → is_absent frames e ≡ true → (n : ℕ) × (e ≡ Frame n) × (maps.get frames n ≡ None)
-names_absent frames (Frame n) h = (n, refl, is_empty (maps.get frames n) h)
+names_absent frames (Frame n) h = (n, refl, is_missing (maps.get frames n) h)
 names_absent frames _ h = cc
 
 module _ (g : GuestOf) where
@@ -106,7 +102,7 @@ module _ (g : GuestOf) where
       before_both _ _ _ (by_number 27 28 _ _ number p2m_number (omega arith))
       (before_both _ _ _ (by_number 27 29 _ _ number absent_number (omega arith)) (before_both _ _ _ (by_number 27 30 _ _ number misfit_number (omega arith)) (by_number 27 32 _ _ number many_number (omega arith))))
 
-  all_least : Least Causes (first_of (faults_for Pv g))
+  all_least : Least Causes (first_cause (faults_for Pv g))
   all_least =
       then_least NoP2m _ _ _ (before_both _ _ _ (by_place _ _ 0 1 3 7 (omega arith)) (before_both _ _ _ (by_place _ _ 0 2 3 4 (omega arith)) (missing_before _ 0 3))) (missing_least g.parts p2m_key 0)
       (then_least NoShared _ _ _ (before_both _ _ _ (by_place _ _ 1 2 7 4 (omega arith)) (missing_before _ 1 7)) (missing_least g.parts shared_key 1)
@@ -155,4 +151,4 @@ module _ (g : GuestOf) where
 
   -- of the causes that stand in a whole PV guest the least is named
   pub pv_guest_least : g.kind ≡ Pv → Least (PvGuestHas g) (fault_of_guest g)
-  pv_guest_least pv = subst (Least (PvGuestHas g)) (sym (ap (λ k. first_of (faults_for k g)) pv)) (turned Causes (PvGuestHas g) (first_of (faults_for Pv g)) all_least all_has has_all)
+  pv_guest_least pv = subst (Least (PvGuestHas g)) (sym (ap (λ k. first_cause (faults_for k g)) pv)) (turned Causes (PvGuestHas g) (first_cause (faults_for Pv g)) all_least all_has has_all)

@@ -1,5 +1,5 @@
 -- The causes that stand in each part of an image.
-use Rattle.mig_refused.proofs.Common.{◌≡◌, ◌⊎◌, inl, inr, ℕ, zero, suc, drop, ltb-false, ◌+◌, ◌*◌, ◌<◌, ◌≤◌, List, [], ◌∷◌, length, Bool, true, false, nat_le, nat_lt, nat_eq, not, is_none, Option, Some, None, Result, Ok, Err, slice_index, refl, sym, ap, subst, ◌∙◌, arith, leb-true, ltb-true, eqb-true, eq-eqb, le-leb, lt-ltb, le-ltb, cases_order, both_ways, not-true, and_parts, and_from, or_cases, common_steps, option_or, le32, here, first_fault, Cause, BadLength, BadPageType, PfnOutside, BadContext, ParamIndex, Missing, TooManyFrames, Kind, Pv, Hvm, count_rows, fault_of_count, fault_of_words, fault_of_data, fault_of_head, EntriesTo, EntryHas, MarkerHas, HeaderHas, DomainHas, GuestHas, FrontHas, WordsHas, LengthHas, PageHas, ContextHas, ParamsHas, IsTriedBefore, StreamPart, Stands, Marker, HeaderRest, Domain, Head, WholeGuest, PagesFront, PagesWords, PagesLength, Page, InfoBody, P2mBody, VcpuBody, ContextBody, ParamsBody, fault_of_page}
+use Rattle.mig_refused.proofs.Common.{◌≡◌, ◌⊎◌, inl, inr, ℕ, zero, suc, drop, ltb-false, ◌+◌, ◌*◌, ◌<◌, ◌≤◌, List, [], ◌∷◌, length, Bool, true, false, nat_le, nat_lt, nat_eq, not, is_none, Option, Some, None, Result, Ok, Err, slice_index, refl, sym, ap, subst, ◌∙◌, arith, leb-true, ltb-true, eqb-true, eq-eqb, le-leb, lt-ltb, le-ltb, cases_order, both_ways, not-true, and_parts, and_from, or_cases, common_steps, option_or, le32, here, first_fault, Cause, BadLength, BadPageType, PfnOutside, BadContext, ParamIndex, Missing, TooManyFrames, Kind, Pv, Hvm, count_rows, fault_of_count, fault_of_words, fault_of_data, fault_of_head, EntriesTo, EntryHas, MarkerHas, HeaderHas, DomainHas, GuestHas, FrontHas, WordsHas, LengthHas, PageHas, ContextHas, ParamsHas, IsTriedBefore, StreamPart, StandsInStream, Marker, HeaderRest, Domain, Head, WholeGuest, PagesFront, PagesWords, PagesLength, Page, InfoBody, P2mBody, VcpuBody, ContextBody, ParamsBody, OtherBody, Padding, stream_size, fault_of_page}
 use Rattle.std.specs.FinMap as maps
 use Rattle.std.specs.List.{list_any}
 use Rattle.std.proofs.lemmas.List.{drop-drop}
@@ -39,50 +39,49 @@ use Rattle.mig_refused.specs.Refusal.DomainHas.{bad_page_shift, bad_kind}
 use Rattle.mig_refused.specs.Refusal.GuestHas.{too_many_frames, missing, of_pv}
 use Rattle.mig_refused.specs.Refusal.WordsHas.{outside, reserved}
 use Rattle.mig_refused.specs.Refusal.ContextHas.{bad_context}
-use Rattle.mig_refused.proofs.Least.{Least, RowHas, rows_least, into, turned, both_least, join, named}
+use Rattle.mig_headers.proofs.FirstCauses.{join}
+use Rattle.mig_refused.proofs.Least.{Least, Tries, nothing_tried, RowHas, Alone, alone_least, turned, both_least, named}
 use Rattle.mig_refused.proofs.Entries.{chain_reached, reached_chain, found_has, has_found}
 use Rattle.mig_refused.proofs.Heads.{head_least}
 use Rattle.mig_refused.proofs.PvTables.{differs, test_differs, table_least, info_least, p2m_least, vcpu_least}
+use Rattle.mig_refused.proofs.PvGuests.{is_missing}
 use Rattle.mig_refused.proofs.PvWhole.{pv_guest_least}
 
 -- ---- headers
 
-marker_least : (bytes : List ℕ) → Least (MarkerHas bytes) (fault_of_marker bytes)
+pub marker_least : (bytes : List ℕ) → Least (MarkerHas bytes) (fault_of_marker bytes)
 marker_least bytes = named (MarkerHas bytes) (marker_rows bytes) refl ((λ h. not_stream (differs _ _ h)), tt) from
   where
     from : (k : ℕ) (c : Cause) → MarkerHas bytes k c → RowHas (marker_rows bytes) k c
-    from _ _ (not_stream h) = inl (test_differs _ _ h, refl, refl)
+    from _ _ (not_stream h) = (refl, inl (test_differs _ _ h, refl))
 
-header_least : (bytes : List ℕ) → Least (HeaderHas bytes) (fault_of_image bytes)
+pub header_least : (bytes : List ℕ) → Least (HeaderHas bytes) (fault_of_image bytes)
 header_least bytes = named (HeaderHas bytes) (image_rows bytes) refl ((λ h. bad_id (differs _ _ h)), ((λ h. let b = and_parts _ _ h in bad_version (differs _ _ b.0) (differs _ _ b.1)), ((λ h. big_endian (eqb-true _ _ h)), tt))) from
   where
     from : (k : ℕ) (c : Cause) → HeaderHas bytes k c → RowHas (image_rows bytes) k c
-    from _ _ (big_endian h) = inr (inr (inl (eq-eqb _ _ h, refl, refl)))
-    from _ _ (bad_version h e) = inr (inl (and_from _ _ (test_differs _ _ h) (test_differs _ _ e), refl, refl))
-    from _ _ (bad_id h) = inl (test_differs _ _ h, refl, refl)
+    from _ _ (big_endian h) = (refl, inr (inr (inl (eq-eqb _ _ h, refl))))
+    from _ _ (bad_version h e) = (refl, inr (inl (and_from _ _ (test_differs _ _ h) (test_differs _ _ e), refl)))
+    from _ _ (bad_id h) = (refl, inl (test_differs _ _ h, refl))
 
-domain_least : (bytes : List ℕ) → Least (DomainHas bytes) (fault_of_domain bytes)
+pub domain_least : (bytes : List ℕ) → Least (DomainHas bytes) (fault_of_domain bytes)
 domain_least bytes = named (DomainHas bytes) (domain_rows bytes) refl ((λ h. let b = and_parts _ _ h in bad_kind (differs _ _ b.0) (differs _ _ b.1)), ((λ h. bad_page_shift (differs _ _ h)), tt)) from
   where
     from : (k : ℕ) (c : Cause) → DomainHas bytes k c → RowHas (domain_rows bytes) k c
-    from _ _ (bad_page_shift h) = inr (inl (test_differs _ _ h, refl, refl))
-    from _ _ (bad_kind h e) = inl (and_from _ _ (test_differs _ _ h) (test_differs _ _ e), refl, refl)
+    from _ _ (bad_page_shift h) = (refl, inr (inl (test_differs _ _ h, refl)))
+    from _ _ (bad_kind h e) = (refl, inl (and_from _ _ (test_differs _ _ h) (test_differs _ _ e), refl))
 
 -- ---- the whole guest
-
-is_there : {X : Type 0} (x : Option X) → is_none x ≡ true → x ≡ None
-is_there x h = grind (arith, common_steps, h)
 
 -- what is tried in the whole guest, where it is an HVM guest
 abbrev guest_rows : GuestOf → List (Bool × Cause)
 guest_rows g = (is_none (maps.get g.parts context_key), Missing 9) ∷ (nat_lt most_frames (length (maps.entries g.frames)), TooManyFrames) ∷ []
 
-guest_least : (g : GuestOf) → Least (GuestHas g) (fault_of_guest g)
+pub guest_least : (g : GuestOf) → Least (GuestHas g) (fault_of_guest g)
 guest_least g = by g.kind refl
   where
     from_hvm : g.kind ≡ Hvm → (k : ℕ) (c : Cause) → GuestHas g k c → RowHas (guest_rows g) k c
-    from_hvm hvm _ _ (too_many_frames is h) = inr (inl (lt-ltb _ _ h, refl, refl))
-    from_hvm hvm _ _ (missing is h) = inl (ap is_none h, refl, refl)
+    from_hvm hvm _ _ (too_many_frames is h) = (refl, inr (inl (lt-ltb _ _ h, refl)))
+    from_hvm hvm _ _ (missing is h) = (refl, inl (ap is_none h, refl))
     from_hvm hvm k c (of_pv _ _ is h) = let no : Hvm ≡ Pv = sym hvm ∙ is in cc
 
     from_pv : g.kind ≡ Pv → (k : ℕ) (c : Cause) → GuestHas g k c → PvGuestHas g k c
@@ -91,23 +90,23 @@ guest_least g = by g.kind refl
     from_pv pv k c (of_pv _ _ is h) = h
 
     by : (kind : Kind) → g.kind ≡ kind → Least (GuestHas g) (fault_of_guest g)
-    by Hvm is = subst (Least (GuestHas g)) (sym (hvm_fault g is)) (named (GuestHas g) (guest_rows g) refl ((λ h. missing is (is_there _ h)), ((λ h. too_many_frames is (ltb-true _ _ h)), tt)) (from_hvm is))
+    by Hvm is = subst (Least (GuestHas g)) (sym (hvm_fault g is)) (named (GuestHas g) (guest_rows g) refl ((λ h. missing is (is_missing _ h)), ((λ h. too_many_frames is (ltb-true _ _ h)), tt)) (from_hvm is))
     by Pv is = turned (PvGuestHas g) (GuestHas g) (fault_of_guest g) (pv_guest_least g is) (λ k c h. of_pv k c is h) (from_pv is)
 
 -- ---- PAGE_DATA
 
-front_least : (len count : ℕ) → Least (FrontHas len count) (fault_of_count len count)
+pub front_least : (len count : ℕ) → Least (FrontHas len count) (fault_of_count len count)
 front_least len count = named (FrontHas len count) (count_rows len count) refl ((λ h. fronts.bad_length (ltb-true _ _ h)), ((λ h. fronts.no_pages (eqb-true _ _ h)), tt)) from
   where
     from : (k : ℕ) (c : Cause) → FrontHas len count k c → RowHas (count_rows len count) k c
-    from _ _ (fronts.no_pages h) = inr (inl (eq-eqb _ _ h, refl, refl))
-    from _ _ (fronts.bad_length h) = inl (lt-ltb _ _ h, refl, refl)
+    from _ _ (fronts.no_pages h) = (refl, inr (inl (eq-eqb _ _ h, refl)))
+    from _ _ (fronts.bad_length h) = (refl, inl (lt-ltb _ _ h, refl))
 
-length_least : (len : ℕ) (ws : List ℕ) → Least (LengthHas len ws) (fault_of_data len ws)
+pub length_least : (len : ℕ) (ws : List ℕ) → Least (LengthHas len ws) (fault_of_data len ws)
 length_least len ws = named (LengthHas len ws) ((not (nat_eq len (data_len_of ws)), BadLength len) ∷ []) refl ((λ h. lengths.bad_length (differs _ _ h)), tt) from
   where
     from : (k : ℕ) (c : Cause) → LengthHas len ws k c → RowHas ((not (nat_eq len (data_len_of ws)), BadLength len) ∷ []) k c
-    from _ _ (lengths.bad_length h) = inl (test_differs _ _ h, refl, refl)
+    from _ _ (lengths.bad_length h) = (refl, inl (test_differs _ _ h, refl))
 
 -- ---- the elements of a list that pass a test
 
@@ -161,7 +160,7 @@ module _ (kind : Kind) (top : ℕ) (ws : List ℕ) where
   abbrev Outside : ℕ → Cause → Type 0
   Outside = Placed (names_outside kind top) ws frame_outside
 
-  words_least : Least (WordsHas kind top ws) (fault_of_words kind top ws)
+  pub words_least : Least (WordsHas kind top ws) (fault_of_words kind top ws)
   words_least = subst (Least (WordsHas kind top ws)) (join (row_of has_reserved_type page_type ∷ []) (row_of (names_outside kind top) frame_outside ∷ []))
       (both_least Reserved Outside (WordsHas kind top ws) _ _ (λ j k c d h g. inl (omega (arith, ap number_of_cause h.2, ap number_of_cause g.2))) to from
       (placed_least has_reserved_type ws page_type (λ j k v w. refl)) (placed_least (names_outside kind top) ws frame_outside (λ j k v w. refl)))
@@ -179,7 +178,7 @@ module _ (kind : Kind) (top : ℕ) (ws : List ℕ) where
 
 -- ---- pages
 
-page_least : (kind : Kind) (top place word : ℕ) (page : List ℕ) → Least (PageHas kind top place word page) (fault_of_page kind top (place, word) page)
+pub page_least : (kind : Kind) (top place word : ℕ) (page : List ℕ) → Least (PageHas kind top place word page) (fault_of_page kind top (place, word) page)
 page_least kind top place word page = by (level_of (meant_type kind (type_in_word word))) refl
   where
     by : (o : Option ℕ) → level_of (meant_type kind (type_in_word word)) ≡ o → Least (PageHas kind top place word page) (fault_of_level top place o page)
@@ -208,7 +207,7 @@ module _ (body : List ℕ) where
       found : (o : ℕ) (x : Option ContextFault) → scan_at o x ≡ Err fault → x ≡ Some fault
       found o x h = grind (arith, common_steps, h)
 
-  context_by : (r : Result ℕ ContextFault) → scan body ≡ r → Least (ContextHas body) (fault_of_scan r)
+  pub context_by : (r : Result ℕ ContextFault) → scan body ≡ r → Least (ContextHas body) (fault_of_scan r)
   context_by (Ok o) is = record { holds = none }
     where
       none : (k : ℕ) (c : Cause) → ContextHas body k c → ⊥
@@ -256,8 +255,8 @@ module _ (body : List ℕ) where
   abbrev count : ℕ
   count = le32 body 0
 
-  abbrev length_rows : List (Bool × Cause)
-  length_rows = (not (nat_eq (length body) (8 + 16 * count)), BadLength (length body)) ∷ []
+  abbrev Misfits : ℕ → Cause → Type 0
+  Misfits = Alone (length body ≡ 8 + 16 * count → ⊥) 0 (BadLength (length body))
 
   abbrev Large : ℕ → Cause → Type 0
   Large = Placed is_large (indices count (drop 8 body)) no_parameter
@@ -266,58 +265,38 @@ module _ (body : List ℕ) where
   unfolding le64
   pair_at k less = ap (little_number 8) (sym (drop-drop (16 * k) 8 body)) ∙ index_at count (drop 8 body) k less
 
-  params_least : Least (ParamsHas body) (fault_of_body HvmParam body)
-  params_least = subst (λ f. Least (ParamsHas body) (option_or (first_fault length_rows) f)) (first_index count (drop 8 body))
-      (both_least (RowHas length_rows) Large (ParamsHas body) _ _ before to from (rows_least length_rows refl) (placed_least is_large (indices count (drop 8 body)) no_parameter (λ j k v w. refl)))
+  pub params_least : Least (ParamsHas body) (fault_of_body HvmParam body)
+  params_least = subst (λ f. Least (ParamsHas body) (option_or (first_fault ((not (nat_eq (length body) (8 + 16 * count)), BadLength (length body)) ∷ [])) f)) (first_index count (drop 8 body))
+      (both_least Misfits Large (ParamsHas body) _ _ (λ j k c d h g. inl (omega (arith, ap number_of_cause h.2, ap number_of_cause g.2))) to from
+      (alone_least _ 0 (BadLength (length body)) (not (nat_eq (length body) (8 + 16 * count))) (differs _ _) (test_differs _ _)) (placed_least is_large (indices count (drop 8 body)) no_parameter (λ j k v w. refl)))
     where
-      before : (j k : ℕ) (c d : Cause) → RowHas length_rows j c → Large k d → IsTriedBefore j c k d
-      before j k c d (inl h) g = inl (omega (arith, ap number_of_cause h.2, ap number_of_cause g.2))
-      before j k c d (inr h) g = absurd h
-
-      to : (k : ℕ) (c : Cause) → RowHas length_rows k c ⊎ Large k c → ParamsHas body k c
-      to k c (inl h) = into (ParamsHas body) length_rows ((λ other. of_params.bad_length (differs _ _ other)), tt) k c h
+      to : (k : ℕ) (c : Cause) → Misfits k c ⊎ Large k c → ParamsHas body k c
+      to k c (inl (other, at, is)) = subst (λ i. ParamsHas body i c) (sym at) (subst (ParamsHas body 0) (sym is) (of_params.bad_length other))
       to k c (inr h) =
           let less : k < count = omega (arith, h.0, how_many count (drop 8 body)) in
           let is = pair_at k less in
           subst (ParamsHas body k) (ap ParamIndex is ∙ sym h.2) (of_params.param_index k less (subst (λ n. 4096 ≤ n) (sym is) (ltb-false _ _ (not-true _ h.1))))
 
-      from : (k : ℕ) (c : Cause) → ParamsHas body k c → RowHas length_rows k c ⊎ Large k c
-      from _ _ (of_params.bad_length h) = inl (inl (test_differs _ _ h, refl, refl))
+      from : (k : ℕ) (c : Cause) → ParamsHas body k c → Misfits k c ⊎ Large k c
+      from _ _ (of_params.bad_length h) = inl (h, refl, refl)
       from _ _ (of_params.param_index k less h) = let is = pair_at k less in inr (omega (arith, less, how_many count (drop 8 body)), ap not (le-ltb _ _ (subst (λ n. 4096 ≤ n) is h)), ap ParamIndex is)
 
 -- ---- all parts
 
--- what judging tries in a part
-abbrev pub fault_in : StreamPart → List ℕ → Option Cause
-fault_in Marker bytes = fault_of_marker bytes
-fault_in HeaderRest bytes = fault_of_image bytes
-fault_in Domain bytes = fault_of_domain bytes
-fault_in (Head b) bytes = fault_of_head b bytes
-fault_in (WholeGuest g) bytes = fault_of_guest g
-fault_in (PagesFront len) bytes = fault_of_count len (le32 bytes 0)
-fault_in (PagesWords kind top n) bytes = fault_of_words kind top (words n bytes)
-fault_in (PagesLength len ws) bytes = fault_of_data len ws
-fault_in (Page kind top place word) bytes = fault_of_page kind top (place, word) bytes
-fault_in (InfoBody len) bytes = fault_of_pv_info bytes
-fault_in (P2mBody len) bytes = fault_of_p2m bytes
-fault_in (VcpuBody code len) bytes = fault_of_vcpu code bytes
-fault_in (ContextBody len) bytes = fault_of_body HvmContext bytes
-fault_in (ParamsBody len) bytes = fault_of_body HvmParam bytes
-fault_in _ bytes = None
-
-pub part_least : (part : StreamPart) (bytes : List ℕ) → Least (Stands part bytes) (fault_in part bytes)
-part_least Marker bytes = marker_least bytes
-part_least HeaderRest bytes = header_least bytes
-part_least Domain bytes = domain_least bytes
-part_least (Head b) bytes = head_least b (le32 bytes 4) (le32 bytes 0)
-part_least (WholeGuest g) bytes = guest_least g
-part_least (PagesFront len) bytes = front_least len (le32 bytes 0)
-part_least (PagesWords kind top n) bytes = words_least kind top (words n bytes)
-part_least (PagesLength len ws) bytes = length_least len ws
-part_least (Page kind top place word) bytes = page_least kind top place word bytes
-part_least (InfoBody len) bytes = info_least bytes
-part_least (P2mBody len) bytes = p2m_least bytes
-part_least (VcpuBody code len) bytes = vcpu_least code bytes
-part_least (ContextBody len) bytes = context_by bytes (scan bytes) refl
-part_least (ParamsBody len) bytes = params_least bytes
-part_least _ bytes = record { holds = λ k c h. h }
+abbrev pub tries : (part : StreamPart) → Tries (stream_size part) (StandsInStream part)
+tries Marker = record { fault = fault_of_marker; least = marker_least }
+tries HeaderRest = record { fault = fault_of_image; least = header_least }
+tries Domain = record { fault = fault_of_domain; least = domain_least }
+tries (Head b) = record { fault = fault_of_head b; least = λ bytes. head_least b (le32 bytes 4) (le32 bytes 0) }
+tries (WholeGuest g) = record { fault = λ _. fault_of_guest g; least = λ _. guest_least g }
+tries (PagesFront len) = record { fault = λ bytes. fault_of_count len (le32 bytes 0); least = λ bytes. front_least len (le32 bytes 0) }
+tries (PagesWords kind top n) = record { fault = λ bytes. fault_of_words kind top (words n bytes); least = λ bytes. words_least kind top (words n bytes) }
+tries (PagesLength len ws) = record { fault = λ _. fault_of_data len ws; least = λ _. length_least len ws }
+tries (Page kind top place word) = record { fault = fault_of_page kind top (place, word); least = page_least kind top place word }
+tries (InfoBody len) = record { fault = fault_of_pv_info; least = info_least }
+tries (P2mBody len) = record { fault = fault_of_p2m; least = p2m_least }
+tries (VcpuBody code len) = record { fault = fault_of_vcpu code; least = vcpu_least code }
+tries (ContextBody len) = record { fault = fault_of_body HvmContext; least = λ bytes. context_by bytes (scan bytes) refl }
+tries (ParamsBody len) = record { fault = fault_of_body HvmParam; least = params_least }
+tries (OtherBody len) = nothing_tried
+tries (Padding n) = nothing_tried

@@ -1,16 +1,19 @@
 -- An input is refused as the format's words say exactly where judging refuses it.
-use Rattle.mig_refused.proofs.Common.{◌≡◌, inl, inr, ℕ, List, [], ◌++◌, length, Bool, true, false, cond, Option, refl, sym, ap, subst, ◌∙◌, append_assoc, le32, be32, here, Judged, ◌>>=◌, placed, Passes, Faulty, then_passes, placed_passes, Cause, Opening, before, next_at, spelled_reached, marker_goes, image_header_goes, headers_go, StreamPart, IsOpen, Behind, Refused, Marker, HeaderRest, Domain}
-use Rattle.mig_bytes.proofs.Walks.{walk_end_reached}
-use Rattle.mig_headers.specs.Headers.{fault_of_marker, fault_of_image, fault_of_domain, kind_of_number}
+use Rattle.mig_refused.proofs.Common.{◌≡◌, inl, inr, ℕ, List, [], ◌++◌, length, refl, sym, ap, subst, ◌∙◌, append_assoc, le32, be32, ◌>>=◌, placed, Passes, Faulty, then_passes, placed_passes, then_faulty, bind_cases, passes_not, only_first, placed_faulty, Cause, Truncated, Opening, before, next_at, marker_goes, image_header_goes, headers_go, StreamPart, IsOpen, Behind, Refused, PartFails, Marker, HeaderRest, Domain}
+use Rattle.mig_bytes.proofs.Said.{said_passes}
+use Rattle.mig_bytes.proofs.Sequences.{refused_stops, spelled_refused}
+use Rattle.mig_bytes.specs.Sequences.{sequence_at}
+use Rattle.mig_headers.specs.Headers.{fault_of_marker, fault_of_image, kind_of_number}
 use Rattle.mig_headers.specs.declared.fault.Place.{Place}
 use Rattle.mig_headers.specs.declared.fault.Place.TheVariants.{ImageHeader, DomainHeader, Record}
 use Rattle.mig_restore.specs.Record.{StreamRecord, is_ended}
-use Rattle.mig_restore.specs.Spelled.{Spells}
-use Rattle.mig_restore.specs.Stream.{Front, one_more, at_start, front_of, image_of, ended_at, records_at, opening_at, image_at, marker_at, version_at, kind_at, IsRefused}
-use Rattle.mig_restore.proofs.Laws.{ends_at, stops_refused, rejected, front_spelled, image_header, behind_marker, behind_version, behind_kind, opened}
-use Rattle.mig_restore.proofs.Parts.{header_passes}
+use Rattle.mig_restore.specs.Spelled.{Follows}
+use Rattle.mig_restore.specs.Stream.{image_of, placed_next, records_at, opening_at, image_at, marker_at, version_at, kind_at, IsRefused}
+use Rattle.mig_restore.proofs.Converse.{goes, going}
+use Rattle.mig_restore.proofs.Laws.{finds, image_header, behind_marker, behind_version, behind_kind, opened}
 use Rattle.mig_refused.specs.Refusal.Behind.{at_marker, at_header, at_domain, in_record, at_guest}
-use Rattle.mig_refused.proofs.Single.{trial, one_part, stage, stage_faulty, stage_cases, then_faulty, bind_cases, passes_not, same_faulty, only_first, fails_is, is_fails, fine, faultless}
+use Rattle.mig_refused.proofs.Tables.{tries}
+use Rattle.mig_refused.proofs.Single.{stage_fails, said_fails, fine, faultless}
 use Rattle.mig_refused.proofs.Records.{down, next_down, guest_down, next_up}
 
 -- ---- what is refused in words is refused
@@ -22,24 +25,24 @@ opening_refused input rest at h = then_faulty (opening_at input) (λ opening. re
 next_refused : (front left : List ℕ) (o : Opening) (records : List StreamRecord) (c : Cause) (rest : List ℕ) → IsOpen front o records → next_at o records left ≡ Faulty c rest → image_at (front ++ left) ≡ Faulty (Record (length records), c) rest
 unfolding image_at
 next_refused front left o records c rest is_open h =
-    let f : Front = record { records = records; rest = left } in
     let behind = is_open.bytes ++ left in
     let whole : front ++ left ≡ is_open.image_header ++ (is_open.domain_header ++ behind) =
     ap (λ l. l ++ left) is_open.whole ∙ append_assoc is_open.image_header (is_open.domain_header ++ is_open.bytes) left ∙ ap (λ l. is_open.image_header ++ l) (append_assoc is_open.domain_header is_open.bytes left) in
     ap image_at whole
     ∙ then_passes (opening_at (is_open.image_header ++ (is_open.domain_header ++ behind))) (λ opening. records_at opening.0 opening.1) o behind _
     (headers_go o is_open.image_header is_open.domain_header behind is_open.major is_open.minor is_open.is_image_header is_open.is_domain_header)
-    (ap (ended_at o) (ends_at o behind f (spelled_reached o is_open.bytes records left is_open.spelled) (stops_refused o f c rest is_open.not_ended h)) ∙ rejected o f c rest is_open.not_ended h)
+    (then_faulty (sequence_at is_ended (placed_next o) behind) (λ rs. Passes (image_of o rs.0) rs.1) (Record (length records), c) rest
+    (spelled_refused is_ended (placed_next o) (Follows o) (finds o) (goes o) (going o) is_open.bytes left records (Record (length records), c) rest is_open.spelled is_open.not_ended (ap (placed (Record (length records))) h)))
 
-behind_refused : (front : List ℕ) (place : Place) (p : StreamPart) (left : List ℕ) (c : Cause) (rest : List ℕ) → Behind front place p → one_part p left ≡ Faulty c rest → image_at (front ++ left) ≡ Faulty (place, c) rest
+behind_refused : (front : List ℕ) (place : Place) (p : StreamPart) (left : List ℕ) (c : Cause) (rest : List ℕ) → Behind front place p → PartFails p left c rest → image_at (front ++ left) ≡ Faulty (place, c) rest
 unfolding opening_at
-behind_refused _ _ _ left c rest at_marker h = opening_refused left rest (ImageHeader, c) (ap (λ j. placed ImageHeader j >>= behind_marker) (stage_faulty 8 fault_of_marker (λ m r. Passes m r) left c rest h))
+behind_refused _ _ _ left c rest at_marker h = opening_refused left rest (ImageHeader, c) (ap (λ j. placed ImageHeader j >>= behind_marker) (stage_fails (tries Marker) (λ m r. Passes m r) left c rest h))
 behind_refused _ _ _ left c rest (at_header first f) h =
     opening_refused (first ++ left) rest (ImageHeader, c)
-    (marker_goes first left f.size (fine Marker first f) ∙ ap (λ j. placed ImageHeader j >>= behind_version) (stage_faulty 16 fault_of_image (λ l r. Passes (be32 l 4) r) left c rest h))
+    (marker_goes first left f.size (fine (tries Marker) first f) ∙ ap (λ j. placed ImageHeader j >>= behind_version) (stage_fails (tries HeaderRest) (λ l r. Passes (be32 l 4) r) left c rest h))
 behind_refused _ _ _ left c rest (at_domain header version is) h =
     opening_refused (header ++ left) rest (DomainHeader, c)
-    (image_header_goes header left version is ∙ ap (λ j. placed DomainHeader j >>= behind_kind version) (stage_faulty 16 fault_of_domain (λ l r. Passes (kind_of_number (le32 l 0)) r) left c rest h))
+    (image_header_goes header left version is ∙ ap (λ j. placed DomainHeader j >>= behind_kind version) (stage_fails (tries Domain) (λ l r. Passes (kind_of_number (le32 l 0)) r) left c rest h))
 behind_refused _ _ _ left c rest (in_record front before_it o records p is_open within) h =
     ap image_at (append_assoc front before_it left)
     ∙ next_refused front (before_it ++ left) o records c rest is_open (next_down o records (before_it ++ left) c rest (down (before o records) before_it p left c rest within h))
@@ -47,69 +50,35 @@ behind_refused _ _ _ left c rest (at_guest front head o records is_open f zero) 
     ap image_at (append_assoc front head left) ∙ next_refused front (head ++ left) o records c rest is_open (guest_down o records head left c rest f zero h)
 
 pub refused_is : (input : List ℕ) (place : Place) (c : Cause) (rest : List ℕ) → Refused input place c rest → IsRefused input place c rest
-refused_is input place c rest r = ap image_at r.whole ∙ behind_refused r.front place r.part r.left c rest r.behind (fails_is r.part r.left c rest r.fails)
+refused_is input place c rest r = ap image_at r.whole ∙ behind_refused r.front place r.part r.left c rest r.behind r.fails
 
 -- ---- what is refused is refused in words
 
-placed_faulty : {X : Type 0} (at place : Place) (j : Judged Cause X) (c : Cause) (rest : List ℕ) → placed at j ≡ Faulty (place, c) rest → (j ≡ Faulty c rest) × (at ≡ place)
-placed_faulty at place (Passes x mid) c rest h = passes_not x mid (place, c) rest h
-placed_faulty at place (Faulty d mid) c rest h = let e = same_faulty (at, d) (place, c) mid rest h in (ap (λ (p : Place × Cause). Faulty p.1 mid) e.0 ∙ ap (Faulty c) e.1, ap (λ (p : Place × Cause). p.0) e.0)
-
-header_faulty : {X : Type 0} (n : ℕ) (f : List ℕ → Option Cause) (value : List ℕ → X) (i : List ℕ) (c : Cause) (rest : List ℕ) → stage n f (λ l r. Passes (value l) r) i ≡ Faulty c rest → trial n f i ≡ Faulty c rest
-header_faulty n f value i c rest h = elim (stage_cases n f (λ l r. Passes (value l) r) i c rest h) [ inl e ↦ e | inr a ↦ passes_not (value a.bytes) a.mid c rest a.after ]
-
--- where records are refused: those before, and that the next one is
-record Stops (o : Opening) (i : List ℕ) (place : Place) (c : Cause) (rest : List ℕ) : Type 0 where
-  bytes : List ℕ
-  left : List ℕ
-  records : List StreamRecord
-  whole : i ≡ bytes ++ left
-  spelled : Spells o bytes records
-  going : is_ended records ≡ false
-  fails : next_at o records left ≡ Faulty c rest
-  place_is : Record (length records) ≡ place
-
-module _ (o : Opening) (i : List ℕ) (place : Place) (c : Cause) (rest : List ℕ) where
-  stops_by : (f : Front) (bytes : List ℕ) (b : Bool) → i ≡ bytes ++ f.rest → Spells o bytes f.records → is_ended f.records ≡ b
-      → cond b (Passes (image_of o f.records) f.rest) (placed (Record (length f.records)) (next_at o f.records f.rest) >>= λ next. Passes (image_of o f.records) next.1) ≡ Faulty (place, c) rest → Stops o i place c rest
-  stops_by f bytes true whole spelled over h = passes_not (image_of o f.records) f.rest (place, c) rest h
-  stops_by f bytes false whole spelled going h =
-      let e = only_first (λ _. image_of o f.records) (placed (Record (length f.records)) (next_at o f.records f.rest)) (place, c) rest h in
-      let p = placed_faulty (Record (length f.records)) place (next_at o f.records f.rest) c rest e in
-      record { bytes = bytes; left = f.rest; records = f.records; whole = whole; spelled = spelled; going = going; fails = p.0; place_is = p.1 }
-
-  stops : records_at o i ≡ Faulty (place, c) rest → Stops o i place c rest
-  unfolding ended_at front_of
-  stops h =
-      let f = front_of o i in
-      let s = front_spelled o i f (walk_end_reached (one_more o) (length i) (at_start i) (at_start i) here) in
-      stops_by f s.bytes (is_ended f.records) s.whole s.spelled refl h
-
 module _ (input : List ℕ) (place : Place) (c : Cause) (rest : List ℕ) where
-  fails_at : (at : Place) (front left : List ℕ) (p : StreamPart) → at ≡ place → input ≡ front ++ left → Behind front at p → one_part p left ≡ Faulty c rest → Refused input place c rest
-  fails_at at front left p same whole behind h = record { front = front; left = left; part = p; whole = whole; behind = subst (λ q. Behind front q p) same behind; fails = is_fails p left c rest h }
+  fails_at : (at : Place) (front left : List ℕ) (p : StreamPart) → at ≡ place → input ≡ front ++ left → Behind front at p → PartFails p left c rest → Refused input place c rest
+  fails_at at front left p same whole behind h = record { front = front; left = left; part = p; whole = whole; behind = subst (λ q. Behind front q p) same behind; fails = h }
 
   opening_fails : opening_at input ≡ Faulty (place, c) rest → Refused input place c rest
   unfolding opening_at
   opening_fails h = elim (bind_cases (placed ImageHeader (marker_at input)) behind_marker (place, c) rest h) [
     | inl e ↦
         let a = placed_faulty ImageHeader place (marker_at input) c rest e in
-        fails_at ImageHeader [] input Marker a.1 refl at_marker (header_faulty 8 fault_of_marker (λ l. l) input c rest a.0)
+        fails_at ImageHeader [] input Marker a.1 refl at_marker (said_fails (tries Marker) (λ l. l) input c rest a.0)
     | inr a ↦
         let i = a.1 in
-        let m = header_passes 8 fault_of_marker (λ l. l) input a.0 i (placed_passes ImageHeader (marker_at input) a.0 i a.2) in
+        let m = said_passes Truncated fault_of_marker (λ l. l) 8 input a.0 i (placed_passes ImageHeader (marker_at input) a.0 i a.2) in
         elim (bind_cases (placed ImageHeader (version_at i)) behind_version (place, c) rest a.3) [
           | inl e ↦
               let b = placed_faulty ImageHeader place (version_at i) c rest e in
-              fails_at ImageHeader m.bytes i HeaderRest b.1 m.whole (at_header m.bytes (faultless Marker m.bytes m.size m.fine)) (header_faulty 16 fault_of_image (λ l. be32 l 4) i c rest b.0)
+              fails_at ImageHeader m.bytes i HeaderRest b.1 m.whole (at_header m.bytes (faultless (tries Marker) m.bytes m.size m.fine)) (said_fails (tries HeaderRest) (λ l. be32 l 4) i c rest b.0)
           | inr b ↦
               let j = b.1 in
-              let g = header_passes 16 fault_of_image (λ l. be32 l 4) i b.0 j (placed_passes ImageHeader (version_at i) b.0 j b.2) in
+              let g = said_passes Truncated fault_of_image (λ l. be32 l 4) 16 i b.0 j (placed_passes ImageHeader (version_at i) b.0 j b.2) in
               elim (bind_cases (placed DomainHeader (kind_at j)) (behind_kind b.0) (place, c) rest b.3) [
                 | inl e ↦
                     let d = placed_faulty DomainHeader place (kind_at j) c rest e in
                     fails_at DomainHeader (m.bytes ++ g.bytes) j Domain d.1 (m.whole ∙ ap (λ l. m.bytes ++ l) g.whole ∙ sym (append_assoc m.bytes g.bytes j))
-                    (at_domain (m.bytes ++ g.bytes) b.0 (image_header m.bytes g.bytes b.0 m.size g.size m.fine g.fine g.value)) (header_faulty 16 fault_of_domain (λ l. kind_of_number (le32 l 0)) j c rest d.0)
+                    (at_domain (m.bytes ++ g.bytes) b.0 (image_header m.bytes g.bytes b.0 m.size g.size m.fine g.fine g.value)) (said_fails (tries Domain) (λ l. kind_of_number (le32 l 0)) j c rest d.0)
                 | inr d ↦ passes_not _ d.1 (place, c) rest d.3
               ]
         ]
@@ -118,9 +87,10 @@ module _ (input : List ℕ) (place : Place) (c : Cause) (rest : List ℕ) where
   records_fail : (o : Opening) (i : List ℕ) → opening_at input ≡ Passes o i → records_at o i ≡ Faulty (place, c) rest → Refused input place c rest
   records_fail o i opens h =
       let w = opened input o i opens in
-      let s = stops o i place c rest h in
+      let s = refused_stops is_ended (placed_next o) (Follows o) (finds o) i (place, c) rest (only_first (image_of o) (sequence_at is_ended (placed_next o) i) (place, c) rest h) in
+      let n = placed_faulty (Record (length s.parts)) place (next_at o s.parts s.left) c rest s.fails in
       let front = w.image_header ++ (w.domain_header ++ s.bytes) in
-      let is_open : IsOpen front o s.records = record {
+      let is_open : IsOpen front o s.parts = record {
         image_header = w.image_header;
         domain_header = w.domain_header;
         major = w.major;
@@ -134,11 +104,11 @@ module _ (input : List ℕ) (place : Place) (c : Cause) (rest : List ℕ) where
       } in
       let whole : input ≡ front ++ s.left =
       w.whole ∙ ap (λ l. w.image_header ++ l) (ap (λ l. w.domain_header ++ l) s.whole ∙ sym (append_assoc w.domain_header s.bytes s.left)) ∙ sym (append_assoc w.image_header (w.domain_header ++ s.bytes) s.left) in
-      elim (next_up o s.records s.left c rest s.fails) [
-        | inl u ↦ fails_at (Record (length s.records)) (front ++ u.front) u.left u.part_is s.place_is (whole ∙ ap (λ l. front ++ l) u.whole ∙ sym (append_assoc front u.front u.left))
-            (in_record front u.front o s.records u.part_is is_open u.behind) u.fails
-        | inr u ↦ fails_at (Record (length s.records)) (front ++ u.head) u.left _ s.place_is (whole ∙ ap (λ l. front ++ l) u.whole ∙ sym (append_assoc front u.head u.left))
-            (at_guest front u.head o s.records is_open u.faultless_head u.zero) u.fails
+      elim (next_up o s.parts s.left c rest n.0) [
+        | inl u ↦ fails_at (Record (length s.parts)) (front ++ u.front) u.left u.part_is n.1 (whole ∙ ap (λ l. front ++ l) u.whole ∙ sym (append_assoc front u.front u.left))
+            (in_record front u.front o s.parts u.part_is is_open u.behind) u.fails
+        | inr (r, left, end, fails) ↦ fails_at (Record (length s.parts)) (front ++ end.head) left _ n.1 (whole ∙ ap (λ l. front ++ l) end.whole ∙ sym (append_assoc front end.head left))
+            (at_guest front end.head o s.parts is_open end.faultless_head end.zero) fails
       ]
 
   pub is_refused : IsRefused input place c rest → Refused input place c rest

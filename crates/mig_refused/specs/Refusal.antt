@@ -3,6 +3,8 @@
 use Rattle.std.specs.Prelude.{◌≡◌, ◌⊎◌, ℕ, ◌+◌, ◌*◌, ◌^◌, ◌%◌, ◌<◌, ◌≤◌, List, [], ◌∷◌, ◌++◌, length, Some, None, IsTrue, IsFalse, false, count_by, slice_index, if◌then◌else◌}
 use Rattle.std.specs.FinMap as maps
 use Rattle.mig_bytes.specs.Bytes.{IsLeastPadding}
+use Rattle.mig_bytes.specs.Failing.{IsFaultless, Fails}
+use Rattle.mig_bytes.specs.Sequences.{Spells}
 use Rattle.mig_bytes.specs.Fields.{le16, le32, le64, be16, be32, be64}
 use Rattle.mig_headers.specs.Headers.{marker as all_ones, image_id, page_shift, IsImageHeader, IsDomainHeader}
 use Rattle.mig_headers.specs.RecordTypes.{record_row_of, type_number, type_of_number}
@@ -30,7 +32,7 @@ use Rattle.mig_restore.specs.Judging.{Opening, Before, before, most_records, typ
 use Rattle.mig_restore.specs.Mean.{sent, meant_type}
 use Rattle.mig_restore.specs.Record.{StreamRecord, Content, is_ended}
 use Rattle.mig_restore.specs.Record.Content.{Nothing}
-use Rattle.mig_restore.specs.Spelled.{HasContent, Spells}
+use Rattle.mig_restore.specs.Spelled.{HasContent, Follows}
 use Rattle.mig_refused.specs.PvRefusal.{TableHas, InfoHas, P2mHas, VcpuHas, PvGuestHas}
 
 -- ---- where each cause stands, a line for each; causes that have places stand at several, all others at place 0
@@ -142,42 +144,42 @@ pub data StreamPart : Type 0 where
   WholeGuest : GuestOf → StreamPart
 
 -- how many bytes a part has
-abbrev pub size_of : StreamPart → ℕ
-size_of Marker = 8
-size_of HeaderRest = 16
-size_of Domain = 16
-size_of (Head b) = 8
-size_of (PagesFront len) = 8
-size_of (PagesWords kind top n) = 8 * n
-size_of (PagesLength len ws) = 0
-size_of (Page kind top place word) = if word_has_data word then 4096 else 0
-size_of (InfoBody len) = len
-size_of (P2mBody len) = len
-size_of (VcpuBody code len) = len
-size_of (ContextBody len) = len
-size_of (ParamsBody len) = len
-size_of (OtherBody len) = len
-size_of (Padding n) = n
-size_of (WholeGuest g) = 0
+abbrev pub stream_size : StreamPart → ℕ
+stream_size Marker = 8
+stream_size HeaderRest = 16
+stream_size Domain = 16
+stream_size (Head b) = 8
+stream_size (PagesFront len) = 8
+stream_size (PagesWords kind top n) = 8 * n
+stream_size (PagesLength len ws) = 0
+stream_size (Page kind top place word) = if word_has_data word then 4096 else 0
+stream_size (InfoBody len) = len
+stream_size (P2mBody len) = len
+stream_size (VcpuBody code len) = len
+stream_size (ContextBody len) = len
+stream_size (ParamsBody len) = len
+stream_size (OtherBody len) = len
+stream_size (Padding n) = n
+stream_size (WholeGuest g) = 0
 
 -- the causes that stand in a part
-abbrev pub Stands : StreamPart → List ℕ → ℕ → Cause → Type 0
-Stands Marker bytes place cause = MarkerHas bytes place cause
-Stands HeaderRest bytes place cause = HeaderHas bytes place cause
-Stands Domain bytes place cause = DomainHas bytes place cause
-Stands (Head b) bytes place cause = HeadHas b (le32 bytes 0) (le32 bytes 4) place cause
-Stands (PagesFront len) bytes place cause = FrontHas len (le32 bytes 0) place cause
-Stands (PagesWords kind top n) bytes place cause = WordsHas kind top (words n bytes) place cause
-Stands (PagesLength len ws) bytes place cause = LengthHas len ws place cause
-Stands (Page kind top at word) bytes place cause = PageHas kind top at word bytes place cause
-Stands (InfoBody len) bytes place cause = InfoHas bytes place cause
-Stands (P2mBody len) bytes place cause = P2mHas bytes place cause
-Stands (VcpuBody code len) bytes place cause = VcpuHas code bytes place cause
-Stands (ContextBody len) bytes place cause = ContextHas bytes place cause
-Stands (ParamsBody len) bytes place cause = ParamsHas bytes place cause
-Stands (OtherBody len) bytes place cause = ⊥
-Stands (Padding n) bytes place cause = ⊥
-Stands (WholeGuest g) bytes place cause = GuestHas g place cause
+abbrev pub StandsInStream : StreamPart → List ℕ → ℕ → Cause → Type 0
+StandsInStream Marker bytes place cause = MarkerHas bytes place cause
+StandsInStream HeaderRest bytes place cause = HeaderHas bytes place cause
+StandsInStream Domain bytes place cause = DomainHas bytes place cause
+StandsInStream (Head b) bytes place cause = HeadHas b (le32 bytes 0) (le32 bytes 4) place cause
+StandsInStream (PagesFront len) bytes place cause = FrontHas len (le32 bytes 0) place cause
+StandsInStream (PagesWords kind top n) bytes place cause = WordsHas kind top (words n bytes) place cause
+StandsInStream (PagesLength len ws) bytes place cause = LengthHas len ws place cause
+StandsInStream (Page kind top at word) bytes place cause = PageHas kind top at word bytes place cause
+StandsInStream (InfoBody len) bytes place cause = InfoHas bytes place cause
+StandsInStream (P2mBody len) bytes place cause = P2mHas bytes place cause
+StandsInStream (VcpuBody code len) bytes place cause = VcpuHas code bytes place cause
+StandsInStream (ContextBody len) bytes place cause = ContextHas bytes place cause
+StandsInStream (ParamsBody len) bytes place cause = ParamsHas bytes place cause
+StandsInStream (OtherBody len) bytes place cause = ⊥
+StandsInStream (Padding n) bytes place cause = ⊥
+StandsInStream (WholeGuest g) bytes place cause = GuestHas g place cause
 
 -- causes are tried in the order of their numbers, and one cause in the order of its places
 abbrev pub IsTriedBefore : ℕ → Cause → ℕ → Cause → Type 0
@@ -188,29 +190,27 @@ abbrev pub IsFirstCause : (ℕ → Cause → Type 0) → Cause → Type 0
 IsFirstCause Has cause = (place : ℕ) × Has place cause × ((other_place : ℕ) (other : Cause) → Has other_place other → IsTriedBefore place cause other_place other ⊎ (other ≡ cause))
 
 -- a part that is whole and without a cause
-pub record IsFaultless (part : StreamPart) (bytes : List ℕ) : Type 0 where
-  pub size : length bytes ≡ size_of part
-  pub none : (place : ℕ) (cause : Cause) → Stands part bytes place cause → ⊥
+abbrev pub IsFaultlessPart : StreamPart → List ℕ → Type 0
+IsFaultlessPart part bytes = IsFaultless (stream_size part) (λ read (at : ℕ × Cause). StandsInStream part read at.0 at.1) bytes
 
 -- a part isn't whole in what is left, of which nothing remains; or it is, and this cause is named, and rest follows it
-pub data Fails (part : StreamPart) (left : List ℕ) : Cause → List ℕ → Type 0 where
-  short : length left < size_of part → Fails part left Truncated []
-  faulty : (bytes rest : List ℕ) (cause : Cause) → left ≡ bytes ++ rest → length bytes ≡ size_of part → IsFirstCause (Stands part bytes) cause → Fails part left cause rest
+abbrev pub PartFails : StreamPart → List ℕ → Cause → List ℕ → Type 0
+PartFails part left cause rest = Fails Truncated (stream_size part) (λ bytes. IsFirstCause (StandsInStream part bytes)) left cause rest
 
 -- ---- faultless fronts, and the part that comes next
 
 -- the pages of the first of these words, of which the first stands at this place, and the place and the word whose page comes next; the page of a word whose type has no data is empty
 pub data PagesTo (kind : Kind) (top : ℕ) : ℕ → List ℕ → List ℕ → ℕ → ℕ → Type 0 where
   next_page : (place word : ℕ) (others : List ℕ) → PagesTo kind top place (word ∷ others) [] place word
-  one_page : (place first : ℕ) (others page pages : List ℕ) (next word : ℕ) → IsFaultless (Page kind top place first) page → PagesTo kind top (place + 1) others pages next word
+  one_page : (place first : ℕ) (others page pages : List ℕ) (next word : ℕ) → IsFaultlessPart (Page kind top place first) page → PagesTo kind top (place + 1) others pages next word
       → PagesTo kind top place (first ∷ others) (page ++ pages) next word
 
 -- the first parts of a PAGE_DATA body of this length
 pub data InPages (kind : Kind) (top len : ℕ) : List ℕ → StreamPart → Type 0 where
   at_front : InPages kind top len [] (PagesFront len)
-  at_words : (front : List ℕ) → IsFaultless (PagesFront len) front → InPages kind top len front (PagesWords kind top (le32 front 0))
-  at_length : (front ws : List ℕ) → IsFaultless (PagesFront len) front → IsFaultless (PagesWords kind top (le32 front 0)) ws → InPages kind top len (front ++ ws) (PagesLength len (words (le32 front 0) ws))
-  at_page : (front ws pages : List ℕ) (next word : ℕ) → IsFaultless (PagesFront len) front → IsFaultless (PagesWords kind top (le32 front 0)) ws → IsFaultless (PagesLength len (words (le32 front 0) ws)) []
+  at_words : (front : List ℕ) → IsFaultlessPart (PagesFront len) front → InPages kind top len front (PagesWords kind top (le32 front 0))
+  at_length : (front ws : List ℕ) → IsFaultlessPart (PagesFront len) front → IsFaultlessPart (PagesWords kind top (le32 front 0)) ws → InPages kind top len (front ++ ws) (PagesLength len (words (le32 front 0) ws))
+  at_page : (front ws pages : List ℕ) (next word : ℕ) → IsFaultlessPart (PagesFront len) front → IsFaultlessPart (PagesWords kind top (le32 front 0)) ws → IsFaultlessPart (PagesLength len (words (le32 front 0) ws)) []
       → PagesTo kind top 0 (words (le32 front 0) ws) pages next word → InPages kind top len (front ++ (ws ++ pages)) (Page kind top next word)
 
 -- a body of a record that sets parts of this code: a vCPU's parts, a context and parameters have causes of their own
@@ -234,8 +234,8 @@ pub data InBody (kind : Kind) (top len : ℕ) : ℕ → List ℕ → StreamPart 
 -- the first parts of a record
 pub data Within (b : Before) : List ℕ → StreamPart → Type 0 where
   at_head : Within b [] (Head b)
-  in_body : (head before : List ℕ) (part : StreamPart) → IsFaultless (Head b) head → InBody b.opening.kind b.top (le32 head 4) (le32 head 0) before part → Within b (head ++ before) part
-  at_padding : (head body : List ℕ) (content : Content) (n : ℕ) → IsFaultless (Head b) head → length body ≡ le32 head 4 → HasContent b.opening.kind b.top (le32 head 0) body content
+  in_body : (head before : List ℕ) (part : StreamPart) → IsFaultlessPart (Head b) head → InBody b.opening.kind b.top (le32 head 4) (le32 head 0) before part → Within b (head ++ before) part
+  at_padding : (head body : List ℕ) (content : Content) (n : ℕ) → IsFaultlessPart (Head b) head → length body ≡ le32 head 4 → HasContent b.opening.kind b.top (le32 head 0) body content
       → IsLeastPadding (le32 head 4) n → Within b (head ++ body) (Padding n)
 
 -- both headers, and behind them these records, of which none is END
@@ -248,7 +248,7 @@ pub record IsOpen (front : List ℕ) (o : Opening) (records : List StreamRecord)
   pub whole : front ≡ image_header ++ (domain_header ++ bytes)
   pub is_image_header : IsImageHeader image_header o.version
   pub is_domain_header : IsDomainHeader domain_header o.kind major minor
-  pub spelled : Spells o bytes records
+  pub spelled : Spells (Follows o) bytes records
   pub not_ended : is_ended records ≡ false
 
 abbrev pub end_record : StreamRecord
@@ -257,10 +257,10 @@ end_record = record { type = 0; content = Nothing }
 -- a faultless front of an input, and the place and the part that come next; END is no more than its head, and the whole guest comes behind it
 pub data Behind : List ℕ → Place → StreamPart → Type 0 where
   at_marker : Behind [] places.ImageHeader Marker
-  at_header : (marker : List ℕ) → IsFaultless Marker marker → Behind marker places.ImageHeader HeaderRest
+  at_header : (marker : List ℕ) → IsFaultlessPart Marker marker → Behind marker places.ImageHeader HeaderRest
   at_domain : (header : List ℕ) (version : ℕ) → IsImageHeader header version → Behind header places.DomainHeader Domain
   in_record : (front before_it : List ℕ) (o : Opening) (records : List StreamRecord) (part : StreamPart) → IsOpen front o records → Within (before o records) before_it part → Behind (front ++ before_it) (places.Record (length records)) part
-  at_guest : (front head : List ℕ) (o : Opening) (records : List StreamRecord) → IsOpen front o records → IsFaultless (Head (before o records)) head → le32 head 0 ≡ 0
+  at_guest : (front head : List ℕ) (o : Opening) (records : List StreamRecord) → IsOpen front o records → IsFaultlessPart (Head (before o records)) head → le32 head 0 ≡ 0
       → Behind (front ++ head) (places.Record (length records)) (WholeGuest (sent o.kind (records ++ end_record ∷ [])))
 
 -- the input is refused at this place, for this cause, and rest follows the faulty part
@@ -270,4 +270,4 @@ pub record Refused (input : List ℕ) (place : Place) (cause : Cause) (rest : Li
   pub part : StreamPart
   pub whole : input ≡ front ++ left
   pub behind : Behind front place part
-  pub fails : Fails part left cause rest
+  pub fails : PartFails part left cause rest

@@ -1,5 +1,5 @@
 -- An accepted guest is whole: each content that is spelled keeps it well formed, and its END asks for the rest.
-use Rattle.mig_restore.proofs.Common.{◌≡◌, ℕ, zero, suc, ◌^◌, ◌<◌, ◌≤◌, Bool, true, false, List, [], ◌∷◌, ◌++◌, length, Option, Some, is_some, refl, sym, ap, subst, ◌∙◌, arith, eqb-true, none-some, same_Some, All, common_steps, AreBytes, le32, record_row_of, type_number, type_of_number, Kind, Pv, Hvm, RecordType, numbers_are_inverse, pfn_limit, word_pfn, word_has_data, type_has_data, PageType, IsInside, HasNoEmulators, GuestOf, words, IsInOrder, shape_of, bodies_are_spelled, is_shaped, Opening, meant_type, put_entry, put_entries, put_content, IsBegun, Grows, FrameEntry, Content, StreamRecord, types_of, is_ended, Sets, Lists, IsPage, IsEntry, AreEntries, IsGoodWord, HasContent, IsComplete, Spells, Accepted}
+use Rattle.mig_restore.proofs.Common.{◌≡◌, ℕ, zero, suc, ◌^◌, ◌<◌, ◌≤◌, Bool, true, false, List, [], ◌∷◌, ◌++◌, length, Option, Some, is_some, refl, sym, ap, subst, ◌∙◌, arith, eqb-true, none-some, same_Some, All, common_steps, AreBytes, le32, record_row_of, type_number, type_of_number, Kind, Pv, Hvm, RecordType, numbers_are_inverse, pfn_limit, word_pfn, word_has_data, type_has_data, PageType, IsInside, HasNoEmulators, GuestOf, words, IsInOrder, shape_of, bodies_are_spelled, is_shaped, Opening, meant_type, put_entry, put_entries, put_content, IsBegun, Grows, FrameEntry, Content, StreamRecord, types_of, is_ended, Sets, Lists, IsPage, IsEntry, AreEntries, IsGoodWord, HasContent, IsComplete, Follows, Accepted, Spells}
 use Rattle.std.proofs.lemmas.List.Elements.{All-head, All-tail}
 use Rattle.mig_headers.specs.declared.record_type.RecordType.TheVariants.{X86PvP2mFrames}
 use Rattle.mig_pagetypes.specs.declared.page_type.PageType.TheVariants.{Notab}
@@ -14,7 +14,7 @@ use Rattle.mig_pvtables.proofs.BlankBytesKept.{blank_bytes}
 use Rattle.mig_pvtables.proofs.BlankWhole.{whole_blank, blank_plain}
 use Rattle.mig_restore.specs.Mean.{sent}
 use Rattle.mig_restore.specs.Spelled.HasContent.{optional, ends, pages, sets, info, p2m_frames, static_end}
-use Rattle.mig_restore.specs.Spelled.Spells.{none, one_more}
+use Rattle.mig_bytes.specs.Sequences.Spells.{no_part, one_more}
 use Rattle.mig_restore.proofs.Arrivals.{ended_more}
 use Rattle.mig_restore.proofs.Bodies.{no_type}
 use Rattle.mig_restore.proofs.Growth.{empty_begun, grows_not, grows_on, word_inside, grows_frame, grows_sets, grows_list, has_length, same_kinds, sets_no_emulator}
@@ -105,9 +105,9 @@ content_grows g kind top type body c k t bytes short of_kind (sets this code b p
 
 -- ---- records
 
-spelled_begun : (o : Opening) (bytes : List ℕ) (records : List StreamRecord) → AreBytes bytes → Spells o bytes records → IsBegun (sent o.kind records)
+spelled_begun : (o : Opening) (bytes : List ℕ) (records : List StreamRecord) → AreBytes bytes → Spells (Follows o) bytes records → IsBegun (sent o.kind records)
 unfolding sent
-spelled_begun o bytes records all none = empty_begun o.kind
+spelled_begun o bytes records all no_part = empty_begun o.kind
 spelled_begun o bytes records all (one_more front rs r text before f) =
     let was = spelled_begun o front rs (bytes_front front text all) before in
     let g = sent o.kind rs in
@@ -119,8 +119,8 @@ spelled_begun o bytes records all (one_more front rs r text before f) =
     subst IsBegun (sym (one_more_record o.kind rs r)) (grown.kept was)
 
 -- the last record ends the image
-spelled_ended : (o : Opening) (bytes : List ℕ) (records : List StreamRecord) → is_ended records ≡ true → Spells o bytes records → IsComplete o.kind (sent o.kind records)
-spelled_ended o bytes records ended none = let no : false ≡ true = ended in cc
+spelled_ended : (o : Opening) (bytes : List ℕ) (records : List StreamRecord) → is_ended records ≡ true → Spells (Follows o) bytes records → IsComplete o.kind (sent o.kind records)
+spelled_ended o bytes records ended no_part = let no : false ≡ true = ended in cc
 spelled_ended o bytes records ended (one_more front rs r text before f) = f.complete (eqb-true r.type 0 (sym (ended_more rs r f.not_ended) ∙ ended))
 
 pub accepted_whole : (input : List ℕ) (guest : GuestOf) (rest : List ℕ) → AreBytes input → Accepted input guest rest → IsWhole guest × (blank guest ≡ guest) × IsOfBytes guest × HasNoEmulators guest.parts

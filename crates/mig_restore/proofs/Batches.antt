@@ -160,13 +160,13 @@ counted w ws = grind (arith, common_steps)
 -- ---- judging passes
 
 -- the pages of these words
-record Pages (kind : Kind) (top : ℕ) (ws i : List ℕ) (es : List FrameEntry) (rest : List ℕ) : Type 0 where
-  bytes : List ℕ
-  whole : i ≡ bytes ++ rest
-  size : length bytes ≡ 4096 * count_by word_has_data ws
-  entries : AreEntries kind top ws bytes es
+pub record Pages (kind : Kind) (top : ℕ) (ws i : List ℕ) (es : List FrameEntry) (rest : List ℕ) : Type 0 where
+  pub bytes : List ℕ
+  pub whole : i ≡ bytes ++ rest
+  pub size : length bytes ≡ 4096 * count_by word_has_data ws
+  pub entries : AreEntries kind top ws bytes es
 
-is_page : (b : Bool) (bytes : List ℕ) → length bytes ≡ cond b 4096 0 → IsPage b bytes (cond b (Some bytes) None)
+pub is_page : (b : Bool) (bytes : List ℕ) → length bytes ≡ cond b 4096 0 → IsPage b bytes (cond b (Some bytes) None)
 is_page true bytes size = (size, refl)
 is_page false [] size = (refl, refl)
 is_page false (x ∷ xs) size = absurd (omega (arith, size))
@@ -174,7 +174,7 @@ is_page false (x ∷ xs) size = absurd (omega (arith, size))
 page_len : (b : Bool) (bytes : List ℕ) (page : Option (List ℕ)) → IsPage b bytes page → length bytes ≡ 4096 * cond b 1 0
 page_len b bytes page h = grind (arith, common_steps, h)
 
-each_entries : (kind : Kind) (top place : ℕ) (ws i : List ℕ) (es : List FrameEntry) (rest : List ℕ) → entries_in_place kind top place ws i ≡ Passes es rest → Pages kind top ws i es rest
+pub each_entries : (kind : Kind) (top place : ℕ) (ws i : List ℕ) (es : List FrameEntry) (rest : List ℕ) → entries_in_place kind top place ws i ≡ Passes es rest → Pages kind top ws i es rest
 unfolding each
 each_entries kind top place [] i es rest h = let e = same_passes _ _ _ _ h in record { bytes = []; whole = e.1; size = refl; entries = (refl, sym e.0) }
 each_entries kind top place (w ∷ ws) i es rest h =
@@ -235,7 +235,7 @@ batch_passes kind top len i es rest h =
 
 -- ---- what is spelled passes
 
-of_page : (b : Bool) (bytes : List ℕ) (page : Option (List ℕ)) → IsPage b bytes page → (length bytes ≡ cond b 4096 0) × (cond b (Some bytes) None ≡ page)
+pub of_page : (b : Bool) (bytes : List ℕ) (page : Option (List ℕ)) → IsPage b bytes page → (length bytes ≡ cond b 4096 0) × (cond b (Some bytes) None ≡ page)
 of_page b bytes page h = (grind (arith, common_steps, h), grind (arith, common_steps, h))
 
 module _ (kind : Kind) (top : ℕ) where
@@ -248,7 +248,7 @@ module _ (kind : Kind) (top : ℕ) where
   entry_fine place w bytes e is =
       within_page kind top place w bytes (subst (λ (x : FrameEntry). EachEntry (IsWithin top) (record { type = meant_type kind x.type; page = x.page })) (sym (same_entry w bytes e is)) is.within)
 
-  entries_go : (place : ℕ) (ws bytes rest : List ℕ) (es : List FrameEntry) → AreEntries kind top ws bytes es → entries_in_place kind top place ws (bytes ++ rest) ≡ Passes es rest
+  pub entries_go : (place : ℕ) (ws bytes rest : List ℕ) (es : List FrameEntry) → AreEntries kind top ws bytes es → entries_in_place kind top place ws (bytes ++ rest) ≡ Passes es rest
   unfolding each
   entries_go place [] bytes rest es (a, b) = rw (a, b) refl
   entries_go place (w ∷ ws) bytes rest es (page, more, e, others, whole, is, one, entries) =

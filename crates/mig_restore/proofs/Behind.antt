@@ -1,5 +1,5 @@
 -- What stands behind a right marker.
-use Rattle.mig_restore.proofs.Common.{◌≡◌, ℕ, List, ◌++◌, refl, ap, ◌∙◌, Judged, ◌>>=◌, Passes, placed, Truncated, Cause, Place, ImageHeader, Opening, ImageOf, records_at, marker_at}
+use Rattle.mig_restore.proofs.Common.{◌≡◌, ℕ, List, ◌++◌, refl, Judged, ◌>>=◌, Passes, Truncated, Cause, Place, Opening, ImageOf, records_at, marker_at}
 use Rattle.byteorder.specs.Endian.{big_bytes}
 use Rattle.mig_bytes.specs.Fields.{be64}
 use Rattle.mig_bytes.proofs.Joins.{part_whole}

@@ -1,13 +1,12 @@
 -- The body of a record, type by type: what judging lets pass is spelled as the format says; what is spelled so passes,
 -- and its length is one that its type allows.
-use Rattle.mig_restore.proofs.Common.{◌≡◌, ◌≢◌, ℕ, ◌≤◌, ◌^◌, List, [], ◌++◌, length, drop, length-append, Bool, true, false, Option, Some, None, refl, sym, ap, subst, ◌∙◌, arith, eqb-true, eq-eqb, le-leb, slice_get_past, le32, Judged, part, Passes, both_pass, part_passes, same_passes, part_whole, then_passes, tried_none, record_row_of, type_number, type_of_number, record_types, is_optional, Cause, Truncated, Kind, RecordType, numbers_are_inverse, type_allows, IsInOrder, optional, ordered, PartCode, shape_of, has_shape, fault_of_body, parts_of_body, IsBody, bodies_are_spelled, is_shaped, fault_of_pv_info, fault_of_p2m, IsP2m, info_is_spelled, p2m_is_spelled, Part, FrameEntry, Content, Nothing, Frames, Sets, Lists, said_at, sets_at, info_at, p2m_at, lists_of, plain_at, entries_at, pages_at, code_of_type, coded_at, typed_at, body_at, HasContent, IsBatch}
+use Rattle.mig_restore.proofs.Common.{◌≡◌, ◌≢◌, ℕ, ◌≤◌, ◌^◌, List, [], ◌++◌, length, drop, length-append, Bool, true, false, Option, Some, None, refl, sym, ap, subst, ◌∙◌, arith, eqb-true, eq-eqb, le-leb, slice_get_past, le32, Judged, part, Passes, both_pass, part_passes, same_passes, part_whole, then_passes, record_row_of, type_number, type_of_number, record_types, is_optional, Cause, Truncated, Kind, RecordType, numbers_are_inverse, type_allows, IsInOrder, optional, ordered, PartCode, shape_of, has_shape, fault_of_body, parts_of_body, IsBody, bodies_are_spelled, is_shaped, fault_of_pv_info, fault_of_p2m, IsP2m, info_is_spelled, p2m_is_spelled, Part, FrameEntry, Content, Nothing, Frames, Sets, Lists, said_at, sets_at, info_at, p2m_at, lists_of, plain_at, entries_at, pages_at, code_of_type, coded_at, typed_at, body_at, HasContent, IsBatch, said_goes, said_passes}
 use Rattle.std.proofs.lemmas.Bool.{leb-true}
 use Rattle.mig_bodies.proofs.PvLaws.{list_is}
 use Rattle.mig_guest.specs.declared.part_code.PartCode.TheVariants.{P2mFrames}
 use Rattle.mig_headers.specs.declared.record_type.RecordType.TheVariants.{End, PageData, X86PvInfo, X86PvP2mFrames, StaticDataEnd}
 use Rattle.mig_restore.specs.Spelled.HasContent.{optional as has_optional, ends as has_ends, pages as has_pages, sets as has_sets, info as has_info, p2m_frames as has_lists, static_end as has_static_end}
 use Rattle.mig_restore.proofs.Batches.{batch_passes, batch_goes}
-use Rattle.mig_restore.proofs.Parts.{header_passes}
 
 has_shape_in : Option PartCode → Bool
 has_shape_in None = false
@@ -23,7 +22,7 @@ pub record Says (kind : Kind) (top : ℕ) (type len : ℕ) (i : List ℕ) (c : C
   pub says : HasContent kind top type body c
 
 plain_says : (kind : Kind) (top : ℕ) (type len : ℕ) (i : List ℕ) (c : Content) (rest : List ℕ) (f : List ℕ → Content) → ((body : List ℕ) → length body ≡ len → HasContent kind top type body (f body))
-    → plain_at f len i ≡ Passes c rest → Says kind top type len i c rest
+    → plain_at Truncated f len i ≡ Passes c rest → Says kind top type len i c rest
 plain_says kind top type len i c rest f has_it h =
     let a = both_pass (part Truncated len i) _ c rest h in
     let p = part_passes Truncated len i a.x a.mid a.first in
@@ -37,9 +36,9 @@ nothing_says kind top type len i c rest has_it none h =
 
 -- a whole body in which no cause stands
 said_says : (kind : Kind) (top : ℕ) (type len : ℕ) (i : List ℕ) (c : Content) (rest : List ℕ) (fault : List ℕ → Option Cause) (says : List ℕ → Content)
-    → ((body : List ℕ) → length body ≡ len → fault body ≡ None → HasContent kind top type body (says body)) → said_at fault says len i ≡ Passes c rest → Says kind top type len i c rest
+    → ((body : List ℕ) → length body ≡ len → fault body ≡ None → HasContent kind top type body (says body)) → said_at Truncated fault says len i ≡ Passes c rest → Says kind top type len i c rest
 said_says kind top type len i c rest fault says has_it h =
-    let p = header_passes len fault says i c rest h in
+    let p = said_passes Truncated fault says len i c rest h in
     record { body = p.bytes; whole = p.whole; body_len = p.size; says = subst (HasContent kind top type p.bytes) p.value (has_it p.bytes p.size p.fine) }
 
 sets_say : (kind : Kind) (top : ℕ) (this : RecordType) (code : PartCode) (len : ℕ) (i : List ℕ) (c : Content) (rest : List ℕ) → code_of_type this ≡ Some code → has_shape (shape_of code) ≡ true → (record_row_of this).allows len ≡ true
@@ -112,7 +111,7 @@ mandatory End = refl
 mandatory _ = refl
 
 -- the body of an optional record, and of a type of the table
-pub optional_at : (kind : Kind) (top : ℕ) (type len : ℕ) (i : List ℕ) → 2 ^ 31 ≤ type → body_at kind top type len i ≡ plain_at (λ _. Nothing) len i
+pub optional_at : (kind : Kind) (top : ℕ) (type len : ℕ) (i : List ℕ) → 2 ^ 31 ≤ type → body_at kind top type len i ≡ plain_at Truncated (λ _. Nothing) len i
 optional_at kind top type len i above = let e : is_optional type ≡ true = grind arith in rw e refl
 
 pub type_at : (kind : Kind) (top : ℕ) (this : RecordType) (len : ℕ) (i : List ℕ) → body_at kind top (type_number this) len i ≡ typed_at kind top (Some this) len i
@@ -130,34 +129,30 @@ body_says version kind top types type len i c rest (ordered this is s k keeps) a
 
 -- ---- what is spelled passes
 
-plain_goes : (f : List ℕ → Content) (c : Content) (len : ℕ) (body rest : List ℕ) → length body ≡ len → f body ≡ c → plain_at f len (body ++ rest) ≡ Passes c rest
+plain_goes : (f : List ℕ → Content) (c : Content) (len : ℕ) (body rest : List ℕ) → length body ≡ len → f body ≡ c → plain_at Truncated f len (body ++ rest) ≡ Passes c rest
 plain_goes f c len body rest size is = then_passes (part Truncated len (body ++ rest)) _ body rest _ (part_whole Truncated len body rest size) (ap (λ d. Passes d rest) is)
 
 pages_go : (kind : Kind) (top : ℕ) (len : ℕ) (body rest : List ℕ) (es : List FrameEntry) → IsBatch kind top body es → length body ≡ len → pages_at kind top len (body ++ rest) ≡ Passes (Frames es) rest
 pages_go kind top len body rest es b size = then_passes (entries_at kind top len (body ++ rest)) _ es rest _ (batch_goes kind top len body rest es b size) refl
 
-said_goes : (fault : List ℕ → Option Cause) (says : List ℕ → Content) (len : ℕ) (body rest : List ℕ) (c : Content) → length body ≡ len → fault body ≡ None → says body ≡ c → said_at fault says len (body ++ rest) ≡ Passes c rest
-said_goes fault says len body rest c size fine is =
-    then_passes (part Truncated len (body ++ rest)) _ body rest _ (part_whole Truncated len body rest size) (tried_none (fault body) rest _ fine ∙ ap (λ d. Passes d rest) is)
-
 list_goes : (last : ℕ) (frames body rest : List ℕ) (len : ℕ) → IsP2m last frames body → length body ≡ len → p2m_at len (body ++ rest) ≡ Passes (Lists last frames) rest
 list_goes last frames body rest len is size =
     let (long, last_is, frames_are) = list_is last frames body is in
-    said_goes fault_of_p2m lists_of len body rest (Lists last frames) size
+    said_goes Truncated fault_of_p2m lists_of len body rest size
     ((p2m_is_spelled body long).1 (subst (λ n. IsP2m n (drop 8 body) body) (sym last_is) (subst (λ l. IsP2m last l body) (sym frames_are) is)))
-    (ap (λ n. Lists n (drop 8 body)) last_is ∙ ap (Lists last) frames_are)
+    ∙ ap (λ c. Passes c rest) (ap (λ n. Lists n (drop 8 body)) last_is ∙ ap (Lists last) frames_are)
 
 sets_go : (code : PartCode) (len : ℕ) (body rest : List ℕ) (ps : List Part) → IsBody code body ps → length body ≡ len → sets_at code len (body ++ rest) ≡ Passes (Sets code ps) rest
 sets_go code len body rest ps is size =
     let s = (bodies_are_spelled code body ps (is_shaped code body ps (shape_of code) is)).1 is in
-    said_goes (fault_of_body code) (λ b. Sets code (parts_of_body code b)) len body rest (Sets code ps) size s.0 (ap (Sets code) s.1)
+    said_goes Truncated (fault_of_body code) (λ b. Sets code (parts_of_body code b)) len body rest size s.0 ∙ ap (λ l. Passes (Sets code l) rest) s.1
 
 pub body_goes : (kind : Kind) (top : ℕ) (type len : ℕ) (body rest : List ℕ) (c : Content) → HasContent kind top type body c → length body ≡ len → body_at kind top type len (body ++ rest) ≡ Passes c rest
 body_goes kind top _ len body rest _ (has_optional type _ above) size = optional_at kind top type len (body ++ rest) above ∙ plain_goes (λ _. Nothing) Nothing len body rest size refl
 body_goes kind top _ len _ rest _ has_ends size = refl
 body_goes kind top _ len body rest _ (has_pages _ es b) size = pages_go kind top len body rest es b size
 body_goes kind top _ len body rest _ (has_sets this code _ ps is allowed says) size = type_at kind top this len (body ++ rest) ∙ coded_is kind top this code len (body ++ rest) is (is_shaped code body ps (shape_of code) says) ∙ sets_go code len body rest ps says size
-body_goes kind top _ len body rest _ (has_info _ eight says) size = said_goes fault_of_pv_info (λ _. Nothing) len body rest Nothing size ((info_is_spelled body eight).1 says) refl
+body_goes kind top _ len body rest _ (has_info _ eight says) size = said_goes Truncated fault_of_pv_info (λ _. Nothing) len body rest size ((info_is_spelled body eight).1 says)
 body_goes kind top _ len body rest _ (has_lists last frames _ says) size = list_goes last frames body rest len says size
 body_goes kind top _ len _ rest _ has_static_end size = refl
 

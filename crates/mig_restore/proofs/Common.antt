@@ -11,12 +11,12 @@ pub use Rattle.mig_bodies.proofs.Spelled.{bodies_are_spelled, is_shaped}
 pub use Rattle.mig_bodies.specs.PvBodies.{IsP2m, IsPvInfo, fault_of_p2m, fault_of_pv_info, set_p2m}
 pub use Rattle.mig_bodies.specs.Shapes.{HasBodyLength, IsBody, fault_of_body, has_shape, parts_of_body, set_parts, shape_of}
 pub use Rattle.mig_bytes.proofs.Joins.{both_pass, done, each_ends, each_step, mapped, part_passes, part_whole, placed_passes, refused, same_passes, stopped, then_passes, then_reads, tried_none, tried_passes}
+pub use Rattle.mig_bytes.proofs.Said.{Said, said_goes, said_passes}
 pub use Rattle.mig_bytes.specs.Bytes.{AreBytes, padding_len}
 pub use Rattle.mig_bytes.specs.Fields.{be32, le32, le64}
-pub use Rattle.mig_bytes.specs.Judged.{Gives, Judged, Matches, part, placed, stop_at, tried, ◌>>=◌}
+pub use Rattle.mig_bytes.specs.Judged.{Gives, Judged, Matches, part, placed, plain_at, said_at, stop_at, tried, ◌>>=◌}
 pub use Rattle.mig_bytes.specs.Judged.Judged.{Faulty, Passes}
-pub use Rattle.mig_bytes.specs.Walk.{Reaches}
-pub use Rattle.mig_bytes.specs.Walk.Reaches.{here, next}
+pub use Rattle.mig_bytes.specs.Sequences.{Spells, sequence_at}
 pub use Rattle.mig_bytes.specs.declared.part.Stop.{Stop}
 pub use Rattle.mig_guest.proofs.Kept.{empty_formed, frames_keep}
 pub use Rattle.mig_guest.specs.Formed.{AreParts, HasNoEmulators, IsFormed, IsGuestFrame, IsInside, is_emulator_code, width_of}
@@ -50,11 +50,11 @@ pub use Rattle.mig_pvtables.proofs.Within.{table_within}
 pub use Rattle.mig_pvtables.specs.Faults.{fault_of_guest}
 pub use Rattle.mig_records.specs.Faults.{count_rows, fault_of_count, fault_of_length, fault_of_long, fault_of_words, length_rows, long_rows, type_allows}
 pub use Rattle.mig_records.specs.Words.{data_len_of, words}
-pub use Rattle.mig_restore.specs.Judging.{Before, Opening, before, body_at, code_of_type, coded_at, entries_at, entry_at, fault_at_end, fault_of_data, fault_of_head, fault_of_level, fault_of_number, fault_of_page, head_at, info_at, lists_of, opening_of, p2m_at, pages_at, plain_at, said_at, sets_at, type_in_word, typed_at, with_places, words_at}
+pub use Rattle.mig_restore.specs.Judging.{Before, Opening, before, body_at, code_of_type, coded_at, entries_at, entry_at, fault_at_end, fault_of_data, fault_of_head, fault_of_level, fault_of_number, fault_of_page, head_at, info_at, lists_of, opening_of, p2m_at, pages_at, sets_at, type_in_word, typed_at, with_places, words_at}
 pub use Rattle.mig_restore.specs.Mean.{Grows, IsBegun, empty_guest, ends_in, ends_of, entries_in, entries_of, frame_in, last_bytes, last_entry, last_listed, last_said, lists_at, meant_type, parts_say_of_part, policy_says_of_part, put_content, put_entries, put_entry, put_record, same_key, says_of_part}
 pub use Rattle.mig_restore.specs.Record.{Content, FrameEntry, StreamRecord, is_ended, types_of}
 pub use Rattle.mig_restore.specs.Record.Content.{Frames, Lists, Nothing, Sets}
 pub use Rattle.mig_restore.specs.Seen.{IsSeen}
-pub use Rattle.mig_restore.specs.Spelled.{Accepted, AreEntries, Follows, HasContent, IsBatch, IsComplete, IsEntry, IsGoodWord, IsImage, IsPage, Spells}
-pub use Rattle.mig_restore.specs.Stream.{Front, ImageOf, IsReading, IsRefused, at_start, front_with, image_of, kind_at, marker_at, records_at, version_at}
+pub use Rattle.mig_restore.specs.Spelled.{Accepted, AreEntries, Follows, HasContent, IsBatch, IsComplete, IsEntry, IsGoodWord, IsImage, IsPage}
+pub use Rattle.mig_restore.specs.Stream.{ImageOf, IsReading, IsRefused, image_of, kind_at, marker_at, records_at, version_at}
 pub use Rattle.mig_restore.specs.declared.head.Seen.{Seen}

@@ -1,6 +1,7 @@
 -- What is spelled as the format says is accepted.
-use Rattle.mig_restore.proofs.Common.{◌≡◌, ℕ, ◌≤◌, ◌<◌, ◌^◌, List, [], ◌∷◌, ◌++◌, length, true, nat_le, not, Option, Some, None, Result, Ok, Err, refl, sym, ap, subst, ◌∙◌, arith, append_assoc, take, drop, take-append-drop, length-take-le, length-drop, ◌⊎◌, inl, inr, common_steps, le-ltb, lt-leb, length-map, padding_len, le32, be32, Reaches, here, next, Judged, ◌>>=◌, part, tried, placed, Passes, Faulty, part_whole, same_passes, fault_of_marker, fault_of_image, fault_of_domain, kind_of_number, unless_faulty, IsImageHeader, IsDomainHeader, type_of_number, Cause, TooManyRecords, Truncated, Place, Kind, GuestOf, long_rows, length_rows, type_allows, fault_of_long, fault_of_length, IsInOrder, fault_of_type, fault_of_guest, StreamRecord, is_ended, Opening, Before, opening_of, before, fault_of_head, head_at, fault_at_end, body_at, Follows, Spells, IsImage, Accepted, Front, at_start, ImageOf, image_of, records_at, IsRefused, then_passes, tried_none, no_fault, neither_some}
-use Rattle.mig_headers.proofs.HeaderLaws.{image_is_spelled, domain_is_spelled}
+use Rattle.mig_restore.proofs.Common.{◌≡◌, ℕ, ◌≤◌, ◌<◌, ◌^◌, List, [], ◌∷◌, ◌++◌, length, true, false, nat_le, not, Option, Some, None, Result, Ok, Err, refl, sym, ap, subst, ◌∙◌, arith, append_assoc, take, drop, take-append-drop, length-take-le, length-drop, ◌⊎◌, inl, inr, common_steps, le-ltb, lt-leb, length-map, padding_len, le32, be32, Judged, ◌>>=◌, part, placed, Passes, Faulty, part_whole, same_passes, fault_of_marker, fault_of_image, fault_of_domain, kind_of_number, unless_faulty, IsImageHeader, IsDomainHeader, type_of_number, Cause, TooManyRecords, Truncated, Place, Kind, GuestOf, long_rows, length_rows, type_allows, fault_of_long, fault_of_length, IsInOrder, fault_of_type, fault_of_guest, StreamRecord, is_ended, Opening, Before, opening_of, before, fault_of_head, head_at, fault_at_end, body_at, Follows, IsImage, Accepted, ImageOf, image_of, records_at, IsRefused, then_passes, tried_none, no_fault, neither_some, said_at, said_goes, Spells}
+use Rattle.mig_bytes.proofs.Sequences as fronts
+use Rattle.mig_headers.proofs.HeaderLaws.{image_is_spelled, domain_is_spelled, unless_ok}
 use Rattle.mig_headers.specs.declared.fault.Place.TheVariants as places
 use Rattle.mig_headers.specs.declared.header.ImageHeader.{ImageHeader}
 use Rattle.mig_headers.specs.declared.header.DomainHeader.{DomainHeader}
@@ -8,12 +9,10 @@ use Rattle.mig_order.proofs.OrderLaw.{faultless_is_in_order}
 use Rattle.mig_restore.proofs.Meaning.{sent_kind}
 use Rattle.mig_restore.specs.Judging.{fault_of_fields, record_at, next_at}
 use Rattle.mig_restore.specs.Mean.{sent, mean}
-use Rattle.mig_restore.specs.Spelled.Spells.{none, one_more}
-use Rattle.mig_restore.specs.Stream as stream
-use Rattle.mig_restore.specs.Stream.{ended_at, opening_at, image_at}
+use Rattle.mig_restore.specs.Stream.{opening_at, image_at, placed_next}
 use Rattle.mig_restore.proofs.Parts.{begins, behind_head, behind_body, asks, behind_record}
 use Rattle.mig_restore.proofs.Bodies.{body_goes, length_fits}
-use Rattle.mig_restore.proofs.Laws.{complete_faultless, goes_on, ends_at, accepted, stops_ended, accepted_is_image, behind_marker, behind_version, behind_kind}
+use Rattle.mig_restore.proofs.Laws.{complete_faultless, finds, accepted_is_image, behind_marker, behind_version, behind_kind}
 
 -- ---- a record
 
@@ -57,49 +56,20 @@ next_goes o records r text rest f =
 
 -- ---- a front, and the whole image
 
-pub spelled_reached : (o : Opening) (bytes : List ℕ) (records : List StreamRecord) (rest : List ℕ) → Spells o bytes records → Reaches (stream.one_more o) (at_start (bytes ++ rest)) (record { records = records; rest = rest })
-spelled_reached o _ _ rest none = here
-spelled_reached o _ _ rest (one_more bytes records r text before f) =
-    next (record { records = records; rest = text ++ rest }) _
-    (subst (λ l. Reaches (stream.one_more o) (at_start l) (record { records = records; rest = text ++ rest })) (sym (append_assoc bytes text rest)) (spelled_reached o bytes records (text ++ rest) before))
-    (goes_on o (record { records = records; rest = text ++ rest }) r rest f.not_ended (next_goes o records r text rest f))
+pub goes : (o : Opening) (records : List StreamRecord) (r : StreamRecord) (text rest : List ℕ) → Follows o records r text → placed_next o records (text ++ rest) ≡ Passes r rest
+goes o records r text rest f = ap (placed (places.Record (length records))) (next_goes o records r text rest f)
 
-spelled_accepted : (o : Opening) (bytes : List ℕ) (records : List StreamRecord) (rest : List ℕ) → Spells o bytes records → is_ended records ≡ true → records_at o (bytes ++ rest) ≡ Passes (image_of o records) rest
+pub going : (o : Opening) (records : List StreamRecord) (r : StreamRecord) (text : List ℕ) → Follows o records r text → is_ended records ≡ false
+going o records r text f = f.not_ended
+
+spelled_accepted : (o : Opening) (bytes : List ℕ) (records : List StreamRecord) (rest : List ℕ) → Spells (Follows o) bytes records → is_ended records ≡ true → records_at o (bytes ++ rest) ≡ Passes (image_of o records) rest
 spelled_accepted o bytes records rest spelled ended =
-    let f : Front = record { records = records; rest = rest } in
-    ap (ended_at o) (ends_at o (bytes ++ rest) f (spelled_reached o bytes records rest spelled) (stops_ended o f ended)) ∙ accepted o f ended
+    ap (λ (j : Judged (Place × Cause) (List StreamRecord)). j >>= λ rs. Passes (image_of o rs.0) rs.1) (fronts.spelled_accepted is_ended (placed_next o) (Follows o) (finds o) (goes o) (going o) bytes records rest spelled ended)
 
 -- ---- the headers
 
-part_is : {Y Z : Type 0} (place : Place) (n : ℕ) (f : List ℕ → Option Cause) (y : List ℕ → Y) (x rest : List ℕ) (k : Y × List ℕ → Judged (Place × Cause) Z) → length x ≡ n → f x ≡ None
-    → (placed place (part Truncated n (x ++ rest) >>= λ p. tried (f p.0) p.1 >>= λ _. Passes (y p.0) p.1) >>= k) ≡ k (y x, rest)
-part_is place n f y x rest k size fine = ap (λ j. placed place j >>= k) (then_passes (part Truncated n (x ++ rest)) _ x rest _ (part_whole Truncated n x rest size) (tried_none (f x) rest _ fine))
-
-unless_ok : {H : Type 0} (f : Option Cause) (h x : H) → unless_faulty f h ≡ Ok x → (f ≡ None) × (h ≡ x)
-unless_ok None h x e = (refl, cc)
-unless_ok {H} (Some c) h x e = let no : ◌≡◌ {A = Result H Cause} (Err c) (Ok x) = e in (cc, cc)
-
--- the two parts of an image header
-record ImageParts (header : List ℕ) (version : ℕ) : Type 0 where
-  first : List ℕ
-  more : List ℕ
-  whole : header ≡ first ++ more
-  first_len : length first ≡ 8
-  more_len : length more ≡ 16
-  marker : fault_of_marker first ≡ None
-  fine : fault_of_image more ≡ None
-  version_is : be32 more 4 ≡ version
-
-image_parts : (header : List ℕ) (version : ℕ) → IsImageHeader header version → ImageParts header version
-image_parts header version is =
-    let first = take 8 header in
-    let more = drop 8 header in
-    let whole : header ≡ first ++ more = sym (take-append-drop 8 header) in
-    let first_len : length first ≡ 8 = length-take-le 8 header (omega (arith, is.size)) in
-    let more_len : length more ≡ 16 = omega (arith, length-drop 8 header, is.size) in
-    let read = (image_is_spelled first more version first_len more_len).1 (subst (λ l. IsImageHeader l version) whole is) in
-    let o = unless_ok (fault_of_image more) (record { version = be32 more 4 }) (record { version = version }) read.1 in
-    record { first = first; more = more; whole = whole; first_len = first_len; more_len = more_len; marker = read.0; fine = o.0; version_is = ap (λ (h : ImageHeader). h.version) o.1 }
+part_is : {Y Z : Type 0} (place : Place) (n : ℕ) (f : List ℕ → Option Cause) (y : List ℕ → Y) (x rest : List ℕ) (k : Y × List ℕ → Judged (Place × Cause) Z) → length x ≡ n → f x ≡ None → (placed place (said_at Truncated f y n (x ++ rest)) >>= k) ≡ k (y x, rest)
+part_is place n f y x rest k size fine = ap (λ j. placed place j >>= k) (said_goes Truncated f y n x rest size fine)
 
 domain_fine : (header : List ℕ) (kind : Kind) (major minor : ℕ) → IsDomainHeader header kind major minor → (fault_of_domain header ≡ None) × (kind_of_number (le32 header 0) ≡ kind)
 domain_fine header kind major minor is =
@@ -114,9 +84,15 @@ marker_goes first rest size fine = part_is places.ImageHeader 8 fault_of_marker 
 
 pub image_header_goes : (header rest : List ℕ) (version : ℕ) → IsImageHeader header version → opening_at (header ++ rest) ≡ behind_version (version, rest)
 image_header_goes header rest version is =
-    let p = image_parts header version is in
-    ap opening_at (ap (λ l. l ++ rest) p.whole ∙ append_assoc p.first p.more rest) ∙ marker_goes p.first (p.more ++ rest) p.first_len p.marker
-    ∙ part_is places.ImageHeader 16 fault_of_image (λ l. be32 l 4) p.more rest behind_version p.more_len p.fine ∙ ap (λ v. behind_version (v, rest)) p.version_is
+    let first = take 8 header in
+    let more = drop 8 header in
+    let whole : header ≡ first ++ more = sym (take-append-drop 8 header) in
+    let size : length first ≡ 8 = length-take-le 8 header (omega (arith, is.size)) in
+    let more_len : length more ≡ 16 = omega (arith, length-drop 8 header, is.size) in
+    let read = (image_is_spelled first more version size more_len).1 (subst (λ l. IsImageHeader l version) whole is) in
+    let o = unless_ok (fault_of_image more) (record { version = be32 more 4 }) (record { version = version }) read.1 in
+    ap opening_at (ap (λ l. l ++ rest) whole ∙ append_assoc first more rest) ∙ marker_goes first (more ++ rest) size read.0
+    ∙ part_is places.ImageHeader 16 fault_of_image (λ l. be32 l 4) more rest behind_version more_len o.0 ∙ ap (λ (h : ImageHeader). behind_version (h.version, rest)) o.1
 
 pub headers_go : (o : Opening) (first second rest : List ℕ) (major minor : ℕ) → IsImageHeader first o.version → IsDomainHeader second o.kind major minor → opening_at (first ++ (second ++ rest)) ≡ Passes o rest
 headers_go o first second rest major minor is_first is_second =

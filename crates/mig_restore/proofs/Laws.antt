@@ -1,13 +1,13 @@
 -- What judging accepts is spelled as the format says.
-use Rattle.mig_restore.proofs.Common.{◌≡◌, ℕ, ◌≤◌, ◌<◌, ◌^◌, List, [], ◌∷◌, ◌++◌, length, Bool, true, false, cond, nat_le, Option, Some, None, refl, sym, ap, subst, ◌∙◌, append_assoc, ltb-false, leb-false, Ok, arith, length-append, le_refl, not-false, none-some, length-map, padding_len, le32, be32, Reaches, here, next, Judged, ◌>>=◌, part, tried, placed, Passes, Faulty, both_pass, part_passes, tried_passes, same_passes, placed_passes, fault_of_marker, fault_of_image, fault_of_domain, kind_of_number, unless_faulty, IsImageHeader, IsDomainHeader, type_of_number, Cause, TooManyRecords, Truncated, Place, Record, ImageHeader, DomainHeader, Kind, Pv, Hvm, GuestOf, long_rows, length_rows, type_allows, fault_of_long, fault_of_length, IsInOrder, fault_of_type, fault_of_guest, hvm_complete, hvm_faultless, pv_complete, pv_faultless, StreamRecord, is_ended, Opening, Before, opening_of, before, fault_of_number, fault_of_head, fault_at_end, body_at, IsComplete, Follows, Spells, IsImage, Front, at_start, front_with, ImageOf, image_of, records_at, marker_at, version_at, kind_at, rows_fine, both_none}
-use Rattle.mig_bytes.proofs.Walks.{walk_end_is, walk_end_ends, walk_end_reached}
+use Rattle.mig_restore.proofs.Common.{◌≡◌, ℕ, ◌≤◌, ◌<◌, ◌^◌, List, [], ◌∷◌, ◌++◌, length, true, false, nat_le, Option, None, refl, sym, ap, subst, ◌∙◌, append_assoc, ltb-false, leb-false, Ok, arith, length-append, not-false, length-map, padding_len, le32, be32, Judged, ◌>>=◌, part, tried, placed, Passes, both_pass, part_passes, tried_passes, same_passes, placed_passes, fault_of_marker, fault_of_image, fault_of_domain, kind_of_number, unless_faulty, IsImageHeader, IsDomainHeader, type_of_number, Cause, TooManyRecords, Truncated, Place, Record, ImageHeader, DomainHeader, Kind, Pv, Hvm, GuestOf, long_rows, length_rows, type_allows, fault_of_long, fault_of_length, IsInOrder, fault_of_type, fault_of_guest, hvm_complete, hvm_faultless, pv_complete, pv_faultless, StreamRecord, is_ended, Opening, Before, opening_of, before, fault_of_number, fault_of_head, fault_at_end, body_at, IsComplete, Follows, IsImage, ImageOf, image_of, records_at, marker_at, version_at, kind_at, rows_fine, both_none, said_passes, Spells, sequence_at}
+use Rattle.mig_bytes.proofs.Sequences.{Found}
+use Rattle.mig_bytes.proofs.Sequences as fronts
 use Rattle.mig_headers.proofs.HeaderLaws.{image_is_spelled, domain_is_spelled}
 use Rattle.mig_order.proofs.OrderLaw.{faultless_is_in_order}
 use Rattle.mig_restore.specs.Judging.{fault_of_fields, record_at, next_at}
 use Rattle.mig_restore.specs.Mean.{sent}
-use Rattle.mig_restore.specs.Spelled.{Spells as spells}
-use Rattle.mig_restore.specs.Stream.{one_more, front_of, ended_at, image_at, opening_at}
-use Rattle.mig_restore.proofs.Parts.{behind_head, behind_body, head_stage, asks, behind_record, taken, header_passes}
+use Rattle.mig_restore.specs.Stream.{image_at, opening_at, placed_next}
+use Rattle.mig_restore.proofs.Parts.{behind_head, behind_body, head_stage, asks, behind_record, taken}
 use Rattle.mig_restore.proofs.Meaning.{sent_kind}
 use Rattle.mig_restore.proofs.Bodies.{body_says}
 
@@ -51,19 +51,13 @@ complete_at_end o records type fine is =
 
 -- ---- a whole record
 
--- a record that stands whole and without fault
-record Found (o : Opening) (records : List StreamRecord) (i : List ℕ) (r : StreamRecord) (rest : List ℕ) : Type 0 where
-  text : List ℕ
-  whole : i ≡ text ++ rest
-  follows : Follows o records r text
-
 regroup : (i h m b c p d rest : List ℕ) → i ≡ h ++ m → m ≡ b ++ c → c ≡ p ++ d → d ≡ rest → i ≡ (h ++ (b ++ p)) ++ rest
 regroup i h m b c p d rest e1 e2 e3 e4 = e1 ∙ ap (λ l. h ++ l) (e2 ∙ ap (λ l. b ++ l) (e3 ∙ ap (λ l. p ++ l) e4) ∙ sym (append_assoc b p rest)) ∙ sym (append_assoc h (b ++ p) rest)
 
-found_same : (o : Opening) (records : List StreamRecord) (i rest : List ℕ) (r q : StreamRecord) → r ≡ q → Found o records i r rest → Found o records i q rest
-found_same o records i rest r q is f = subst (λ (x : StreamRecord). Found o records i x rest) is f
+found_same : (o : Opening) (records : List StreamRecord) (i rest : List ℕ) (r q : StreamRecord) → r ≡ q → Found (Follows o) records i r rest → Found (Follows o) records i q rest
+found_same o records i rest r q is f = subst (λ (x : StreamRecord). Found (Follows o) records i x rest) is f
 
-found : (o : Opening) (records : List StreamRecord) (i : List ℕ) (r : StreamRecord) (rest : List ℕ) → is_ended records ≡ false → next_at o records i ≡ Passes r rest → Found o records i r rest
+found : (o : Opening) (records : List StreamRecord) (i : List ℕ) (r : StreamRecord) (rest : List ℕ) → is_ended records ≡ false → next_at o records i ≡ Passes r rest → Found (Follows o) records i r rest
 unfolding behind_record behind_head behind_body
 found o records i r rest going h =
     let b = before o records in
@@ -85,6 +79,7 @@ found o records i r rest going h =
     found_same o records i rest (record { type = type; content = c.x }) r (is_record ∙ same.0) (record {
       text = head ++ (s.body ++ d.x);
       whole = regroup i head a.mid s.body c.mid d.x d.mid rest a.whole s.whole q.0 (f.1 ∙ same.1);
+      some = omega (arith, length-append head (s.body ++ d.x), a.size);
       follows = record {
         body = s.body;
         is = record { head = head; padding = d.x; whole = refl {a = head ++ (s.body ++ d.x)}; head_len = a.size; type_is = refl {a = type}; len_is = sym s.body_len; padded = q.1 ∙ ap padding_len (sym s.body_len) };
@@ -101,90 +96,18 @@ found o records i r rest going h =
 -- ---- a whole front
 
 module _ (o : Opening) where
-  record Step (f t : Front) : Type 0 where
-    r : StreamRecord
-    rest : List ℕ
-    going : is_ended f.records ≡ false
-    judged : next_at o f.records f.rest ≡ Passes r rest
-    is : t ≡ record { records = f.records ++ r ∷ []; rest = rest }
-
-  step_at : (f t : Front) (b : Bool) (j : Judged Cause StreamRecord) → is_ended f.records ≡ b → next_at o f.records f.rest ≡ j → cond b None (front_with f.records j) ≡ Some t → Step f t
-  step_at f t true j g e h = absurd (none-some t h)
-  step_at f t false (Faulty c after) g e h = absurd (none-some t h)
-  step_at f t false (Passes r after) g e h = record { r = r; rest = after; going = g; judged = e; is = cc }
-
-  step_of : (f t : Front) → one_more o f ≡ Some t → Step f t
-  unfolding one_more
-  step_of f t h = step_at f t (is_ended f.records) (next_at o f.records f.rest) refl refl h
-
-  falls : (f t : Front) → one_more o f ≡ Some t → length t.rest < length f.rest
-  falls f t h =
-      let s = step_of f t h in
-      let g = found o f.records f.rest s.r s.rest s.going s.judged in
-      let is = g.follows.is in
-      omega (arith, ap (λ (x : Front). length x.rest) s.is, ap length g.whole, length-append g.text s.rest, ap length is.whole, length-append is.head (g.follows.body ++ is.padding), is.head_len)
-
-  pub ends_at : (rest : List ℕ) (f : Front) → Reaches (one_more o) (at_start rest) f → one_more o f ≡ None → front_of o rest ≡ f
-  unfolding front_of
-  ends_at rest f reached stops = walk_end_is (one_more o) (λ (g : Front). length g.rest) falls (length rest) (at_start rest) f (le_refl _) reached stops
-
-  pub front_stops : (rest : List ℕ) → one_more o (front_of o rest) ≡ None
-  unfolding front_of
-  front_stops rest = walk_end_ends (one_more o) (λ (g : Front). length g.rest) falls (length rest) (at_start rest) (le_refl _)
-
-  pub goes_on : (f : Front) (r : StreamRecord) (rest : List ℕ) → is_ended f.records ≡ false → next_at o f.records f.rest ≡ Passes r rest → one_more o f ≡ Some (record { records = f.records ++ r ∷ []; rest = rest })
-  unfolding one_more
-  goes_on f r rest going is = rw (going, is) refl
-
-  pub stops_ended : (f : Front) → is_ended f.records ≡ true → one_more o f ≡ None
-  unfolding one_more
-  stops_ended f over1 = rw over1 refl
-
-  pub stops_refused : (f : Front) (c : Cause) (rest : List ℕ) → is_ended f.records ≡ false → next_at o f.records f.rest ≡ Faulty c rest → one_more o f ≡ None
-  unfolding one_more
-  stops_refused f c rest going is = rw (going, is) refl
-
-  pub accepted : (f : Front) → is_ended f.records ≡ true → ended_at o f ≡ Passes (image_of o f.records) f.rest
-  unfolding ended_at
-  accepted f over1 = rw over1 refl
-
-  pub rejected : (f : Front) (c : Cause) (rest : List ℕ) → is_ended f.records ≡ false → next_at o f.records f.rest ≡ Faulty c rest → ended_at o f ≡ Faulty (Record (length f.records), c) rest
-  unfolding ended_at
-  rejected f c rest going is = rw (going, is) refl
-
-  pub record Split (rest : List ℕ) (f : Front) : Type 0 where
-    pub bytes : List ℕ
-    pub whole : rest ≡ bytes ++ f.rest
-    pub spelled : Spells o bytes f.records
-
-  split_more : (rest : List ℕ) (u t : Front) → Split rest u → Step u t → Split rest t
-  split_more rest u t s step =
-      let g = found o u.records u.rest step.r step.rest step.going step.judged in
-      let more : Split rest (record { records = u.records ++ step.r ∷ []; rest = step.rest }) = record {
-        bytes = s.bytes ++ g.text;
-        whole = s.whole ∙ ap (λ l. s.bytes ++ l) g.whole ∙ sym (append_assoc s.bytes g.text step.rest);
-        spelled = spells.one_more s.bytes u.records step.r g.text s.spelled g.follows;
-      } in subst (Split rest) (sym step.is) more
-
-  pub front_spelled : (rest : List ℕ) (f : Front) → Reaches (one_more o) (at_start rest) f → Split rest f
-  front_spelled rest _ here = record { bytes = []; whole = refl; spelled = spells.none }
-  front_spelled rest _ (next u t reached goes) = split_more rest u t (front_spelled rest u reached) (step_of u t goes)
-
-  accepts_at : (f : Front) (b : Bool) (j : Judged Cause StreamRecord) (p : Opening) (records : List StreamRecord) (rest : List ℕ) → is_ended f.records ≡ b → one_more o f ≡ None → next_at o f.records f.rest ≡ j
-      → cond b (Passes (image_of o f.records) f.rest) (placed (Record (length f.records)) j >>= λ next. Passes (image_of o f.records) next.1) ≡ Passes (image_of p records) rest → (o ≡ p) × (f.records ≡ records) × (f.rest ≡ rest) × (b ≡ true)
-  accepts_at f true j p records rest g stops is h = let e = same_passes {C = Place × Cause} (image_of o f.records) (image_of p records) f.rest rest h in (ap (λ (im : ImageOf). im.opening) e.0, ap (λ (im : ImageOf). im.records) e.0, e.1, refl)
-  accepts_at f false (Passes r after) p records rest g stops is h = let no : ◌≡◌ {A = Option Front} (Some (record { records = f.records ++ r ∷ []; rest = after })) None = sym (goes_on f r after g is) ∙ stops in cc
-  accepts_at f false (Faulty c after) p records rest g stops is h = let no : ◌≡◌ {A = Judged (Place × Cause) ImageOf} (Faulty (Record (length f.records), c) after) (Passes (image_of p records) rest) = h in (cc, cc, cc, cc)
+  pub finds : (records : List StreamRecord) (i : List ℕ) (r : StreamRecord) (rest : List ℕ) → is_ended records ≡ false → placed_next o records i ≡ Passes r rest → Found (Follows o) records i r rest
+  finds records i r rest going h = found o records i r rest going (placed_passes (Record (length records)) (next_at o records i) r rest h)
 
   -- what stands behind the headers of an accepted image is spelled as the format says
   accepted_spelled : (i : List ℕ) (p : Opening) (records : List StreamRecord) (rest : List ℕ) → records_at o i ≡ Passes (image_of p records) rest
-      → (o ≡ p) × (bytes : List ℕ) × (i ≡ bytes ++ rest) × Spells o bytes records × (is_ended records ≡ true)
-  unfolding ended_at front_of
+      → (o ≡ p) × (bytes : List ℕ) × (i ≡ bytes ++ rest) × Spells (Follows o) bytes records × (is_ended records ≡ true)
   accepted_spelled i p records rest h =
-      let f = front_of o i in
-      let s = front_spelled i f (walk_end_reached (one_more o) (length i) (at_start i) (at_start i) here) in
-      let e = accepts_at f (is_ended f.records) (next_at o f.records f.rest) p records rest refl (front_stops i) refl h in
-      (e.0, s.bytes, s.whole ∙ ap (λ l. s.bytes ++ l) e.2, subst (Spells o s.bytes) e.1 s.spelled, ap is_ended (sym e.1) ∙ e.3)
+      let b = both_pass (sequence_at is_ended (placed_next o) i) (λ rs. Passes (image_of o rs.0) rs.1) (image_of p records) rest h in
+      let e = same_passes _ _ _ _ b.second in
+      let same : b.x ≡ records = ap (λ (im : ImageOf). im.records) e.0 in
+      let (bytes, whole, spelled, ended) = fronts.accepted_spelled is_ended (placed_next o) (Follows o) finds i b.x b.mid b.first in
+      (ap (λ (im : ImageOf). im.opening) e.0, bytes, whole ∙ ap (λ l. bytes ++ l) e.1, subst (Spells (Follows o) bytes) same spelled, ap is_ended (sym same) ∙ ended)
 
 -- ---- the headers
 
@@ -227,9 +150,9 @@ opened input o rest h =
     let b = both_pass (placed ImageHeader (version_at a.mid)) behind_version o rest a.second in
     let c = both_pass (placed DomainHeader (kind_at b.mid)) (behind_kind b.x) o rest b.second in
     let e = same_passes _ _ _ _ c.second in
-    let m = header_passes 8 fault_of_marker (λ l. l) input a.x a.mid (placed_passes ImageHeader (marker_at input) a.x a.mid a.first) in
-    let g = header_passes 16 fault_of_image (λ l. be32 l 4) a.mid b.x b.mid (placed_passes ImageHeader (version_at a.mid) b.x b.mid b.first) in
-    let d = header_passes 16 fault_of_domain (λ l. kind_of_number (le32 l 0)) b.mid c.x c.mid (placed_passes DomainHeader (kind_at b.mid) c.x c.mid c.first) in
+    let m = said_passes Truncated fault_of_marker (λ l. l) 8 input a.x a.mid (placed_passes ImageHeader (marker_at input) a.x a.mid a.first) in
+    let g = said_passes Truncated fault_of_image (λ l. be32 l 4) 16 a.mid b.x b.mid (placed_passes ImageHeader (version_at a.mid) b.x b.mid b.first) in
+    let d = said_passes Truncated fault_of_domain (λ l. kind_of_number (le32 l 0)) 16 b.mid c.x c.mid (placed_passes DomainHeader (kind_at b.mid) c.x c.mid c.first) in
     let found : Opened input (opening_of b.x c.x) rest = record {
       image_header = m.bytes ++ g.bytes;
       domain_header = d.bytes;

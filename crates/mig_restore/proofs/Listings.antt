@@ -1,5 +1,5 @@
 -- Of each index of the list of P2M frames the last record that lists it decides.
-use Rattle.mig_restore.proofs.Common.{◌≡◌, ℕ, suc, ◌+◌, ◌-◌, ◌*◌, ◌<◌, ◌≤◌, common_steps, unwrap_or, List, [], ◌∷◌, ◌++◌, length, drop, Bool, true, false, cond, nat_eq, Option, Some, None, refl, sym, ap, subst, ◌∙◌, inl, inr, arith, length-append, length-drop, le-ltb, AllByRecursion, Kind, GuestOf, p2m_key, Part, PartCode, code_number, shape_of, has_shape, is_shaped, IsBody, Opening, Content, StreamRecord, Sets, put_content, last_bytes, parts_say_of_part, policy_says_of_part, says_of_part, lists_at, last_listed, HasContent, Spells, IsImage, part_cmp}
+use Rattle.mig_restore.proofs.Common.{◌≡◌, ℕ, suc, ◌+◌, ◌-◌, ◌*◌, ◌<◌, ◌≤◌, common_steps, unwrap_or, List, [], ◌∷◌, ◌++◌, length, drop, Bool, true, false, cond, nat_eq, Option, Some, None, refl, sym, ap, subst, ◌∙◌, inl, inr, arith, length-append, length-drop, le-ltb, AllByRecursion, Kind, GuestOf, p2m_key, Part, PartCode, code_number, shape_of, has_shape, is_shaped, IsBody, Opening, Content, StreamRecord, Sets, put_content, last_bytes, parts_say_of_part, policy_says_of_part, says_of_part, lists_at, last_listed, HasContent, Follows, IsImage, part_cmp, Spells}
 use Rattle.std.proofs.lemmas.Bool.{cases_lt, lt-ltb}
 use Rattle.std.proofs.lemmas.List.{drop-append-le}
 use Rattle.std.proofs.lemmas.Slice.{drop-append-drop}
@@ -23,7 +23,7 @@ use Rattle.mig_guest.specs.declared.part_key.PartKey.{PartKey}
 use Rattle.mig_pvtables.specs.P2mFrames.{listed, listed_in}
 use Rattle.mig_restore.specs.Mean.{sent}
 use Rattle.mig_restore.specs.Spelled.HasContent.{optional, ends, pages, sets, info, p2m_frames, static_end}
-use Rattle.mig_restore.specs.Spelled.Spells.{none, one_more}
+use Rattle.mig_bytes.specs.Sequences.Spells.{no_part, one_more}
 use Rattle.mig_restore.proofs.Meaning.{one_more_record, said}
 
 -- ---- a list joined with the one before
@@ -147,9 +147,9 @@ last_more k (x ∷ xs) r = ap (λ o. option_or o (lists_at k x.content)) (last_m
     assoc None b c = refl
     assoc (Some x) b c = refl
 
-spelled_listed : (o : Opening) (bytes : List ℕ) (records : List StreamRecord) (k : ℕ) → Spells o bytes records → listed (sent o.kind records).parts k ≡ last_listed k records
+spelled_listed : (o : Opening) (bytes : List ℕ) (records : List StreamRecord) (k : ℕ) → Spells (Follows o) bytes records → listed (sent o.kind records).parts k ≡ last_listed k records
 unfolding sent
-spelled_listed o bytes records k none = ap (λ l. listed_in l k) (fin.get-empty part_cmp p2m_key)
+spelled_listed o bytes records k no_part = ap (λ l. listed_in l k) (fin.get-empty part_cmp p2m_key)
 spelled_listed o bytes records k (one_more front rs r text before f) =
     ap (λ (g : GuestOf). listed g.parts k) (one_more_record o.kind rs r)
     ∙ content_listed (sent o.kind rs) k o.kind (sent o.kind rs).top r.type f.body r.content f.says

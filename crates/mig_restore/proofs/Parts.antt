@@ -1,5 +1,5 @@
 -- A record behind its head and behind its body, and the whole guest behind the last record.
-use Rattle.mig_restore.proofs.Common.{◌≡◌, ℕ, List, [], ◌∷◌, ◌++◌, false, nat_eq, Option, Some, None, length, refl, sym, ap, ◌∙◌, arith, common_steps, padding_len, le32, Judged, ◌>>=◌, part, tried, Passes, Faulty, both_pass, part_passes, tried_passes, same_passes, Cause, Truncated, Kind, fault_of_guest, StreamRecord, Content, Opening, Before, before, head_at, body_at, fault_of_head, fault_at_end, said_at, Gives, Ok}
+use Rattle.mig_restore.proofs.Common.{◌≡◌, ℕ, List, [], ◌∷◌, ◌++◌, false, nat_eq, Option, Some, None, length, refl, sym, ap, ◌∙◌, arith, common_steps, padding_len, le32, Judged, ◌>>=◌, part, tried, Passes, Faulty, both_pass, part_passes, tried_passes, Cause, Truncated, Kind, fault_of_guest, StreamRecord, Content, Opening, Before, before, head_at, body_at, fault_of_head, fault_at_end, said_at, Gives, Ok}
 use Rattle.mig_records.specs.declared.head.RecordHead.{RecordHead}
 use Rattle.mig_records.specs.Heads.{head_in}
 use Rattle.mig_restore.specs.Mean.{sent}
@@ -75,28 +75,3 @@ taken n f next i x rest h =
     let p = part_passes Truncated n i b.x b.mid b.first in
     let t = both_pass (tried (f b.x) b.mid) (λ _. next b.x b.mid) x rest b.second in
     record { bytes = b.x; mid = b.mid; whole = p.0; size = p.1; fine = (tried_passes (f b.x) b.mid t.mid t.x t.first).0; after = t.second }
-
--- the same where it says a value
-pub record HeaderPart {Y : Type 0} (n : ℕ) (f : List ℕ → Option Cause) (y : List ℕ → Y) (i : List ℕ) (x : Y) (rest : List ℕ) : Type 0 where
-  pub bytes : List ℕ
-  pub whole : i ≡ bytes ++ rest
-  pub size : length bytes ≡ n
-  pub fine : f bytes ≡ None
-  pub value : y bytes ≡ x
-
-pub header_passes : {Y : Type 0} (n : ℕ) (f : List ℕ → Option Cause) (y : List ℕ → Y) (i : List ℕ) (x : Y) (rest : List ℕ) → (part Truncated n i >>= λ p. tried (f p.0) p.1 >>= λ _. Passes (y p.0) p.1) ≡ Passes x rest → HeaderPart n f y i x rest
-header_passes n f y i x rest h =
-    let t = taken n f (λ l m. Passes (y l) m) i x rest h in
-    let e = same_passes _ _ _ _ t.after in
-    record { bytes = t.bytes; whole = t.whole ∙ ap (λ l. t.bytes ++ l) e.1; size = t.size; fine = t.fine; value = e.0 }
-
--- ---- a reader of a whole body
-
--- what a body says in which no cause stands
-pub tried_said : {X V : Type 0} (R : X → List ℕ → Type 0) (Q : V → Content → Type 0) (a b : Option (List ℕ)) (n : ℕ) (fault : List ℕ → Option Cause) (says : List ℕ → Content) (x : X) (v : V) → Gives R a b (part Truncated n) (Ok x)
-    → ((bytes : List ℕ) → R x bytes → (fault bytes ≡ None) × Q v (says bytes))
-    → Gives Q a b (said_at fault says n) (Ok v)
-tried_said R Q None b n fault says x v h turn = tt
-tried_said R Q (Some i) b n fault says x v (bytes, rest, is, left, r) turn =
-    let (none, q) = turn bytes r in
-    (says bytes, rest, rw (is, none) refl, left, q)

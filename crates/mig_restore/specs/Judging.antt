@@ -3,7 +3,7 @@ use Rattle.std.specs.Prelude.{ℕ, ◌+◌, ◌*◌, ◌^◌, List, [], ◌∷�
 use Rattle.std.specs.Option.{option_or}
 use Rattle.mig_bytes.specs.Bytes.{padding_len}
 use Rattle.mig_bytes.specs.Fields.{le32}
-use Rattle.mig_bytes.specs.Judged.{Judged, ◌>>=◌, part, tried, each}
+use Rattle.mig_bytes.specs.Judged.{Judged, ◌>>=◌, part, tried, said_at, plain_at, each}
 use Rattle.mig_bytes.specs.Judged.Judged.{Passes}
 use Rattle.mig_headers.specs.RecordTypes.{type_number, type_of_number, is_optional}
 use Rattle.mig_headers.specs.Rows.{first_fault}
@@ -67,40 +67,24 @@ abbrev pub fault_of_head : Before → List ℕ → Option Cause
 fault_of_head b head = fault_of_fields b (le32 head 0) (le32 head 4)
 
 abbrev pub head_at : Before → List ℕ → Judged Cause (List ℕ)
-head_at b input = do
-  head ← part Truncated 8 input
-  _ ← tried (fault_of_head b head.0) head.1
-  Passes head.0 head.1
+head_at b input = said_at Truncated (fault_of_head b) (λ head. head) 8 input
 
 -- ---- bodies
 
--- a whole body, the cause that stands in it, and what it says
-abbrev pub said_at : (List ℕ → Option Cause) → (List ℕ → Content) → ℕ → List ℕ → Judged Cause Content
-said_at fault says len input = do
-  body ← part Truncated len input
-  _ ← tried (fault body.0) body.1
-  Passes (says body.0) body.1
-
 -- a body that sets parts of this code
 abbrev pub sets_at : PartCode → ℕ → List ℕ → Judged Cause Content
-sets_at code len input = said_at (fault_of_body code) (λ body. Sets code (parts_of_body code body)) len input
+sets_at code len input = said_at Truncated (fault_of_body code) (λ body. Sets code (parts_of_body code body)) len input
 
 -- the body of an X86_PV_INFO, of which nothing is kept
 abbrev pub info_at : ℕ → List ℕ → Judged Cause Content
-info_at len input = said_at fault_of_pv_info (λ _. Nothing) len input
+info_at len input = said_at Truncated fault_of_pv_info (λ _. Nothing) len input
 
 -- the body of an X86_PV_P2M_FRAMES: its last frame number, and the PFNs of the P2M frames
 abbrev pub lists_of : List ℕ → Content
 lists_of body = Lists (le32 body 4) (drop 8 body)
 
 abbrev pub p2m_at : ℕ → List ℕ → Judged Cause Content
-p2m_at len input = said_at fault_of_p2m lists_of len input
-
--- a body without a cause, of which this is said
-abbrev pub plain_at : (List ℕ → Content) → ℕ → List ℕ → Judged Cause Content
-plain_at says len input = do
-  body ← part Truncated len input
-  Passes (says body.0) body.1
+p2m_at len input = said_at Truncated fault_of_p2m lists_of len input
 
 -- ---- the body of a PAGE_DATA record
 
@@ -112,9 +96,7 @@ abbrev pub fault_of_data : ℕ → List ℕ → Option Cause
 fault_of_data len ws = first_fault ((not (len == data_len_of ws), BadLength len) ∷ [])
 
 abbrev pub words_at : ℕ → List ℕ → Judged Cause (List ℕ)
-words_at n input = do
-  bytes ← part Truncated (8 * n) input
-  Passes (words n bytes.0) bytes.1
+words_at n input = plain_at Truncated (words n) (8 * n) input
 
 -- the words, each with its place in the record, from this one on
 abbrev pub with_places : ℕ → List ℕ → List (ℕ × ℕ)
@@ -176,7 +158,7 @@ typed_at kind top (Some this) len input = coded_at (code_of_type this) len input
 
 -- an optional record says nothing, whatever its body
 abbrev pub body_at : Kind → ℕ → ℕ → ℕ → List ℕ → Judged Cause Content
-body_at kind top type len input = if is_optional type then plain_at (λ _. Nothing) len input else typed_at kind top (type_of_number type) len input
+body_at kind top type len input = if is_optional type then plain_at Truncated (λ _. Nothing) len input else typed_at kind top (type_of_number type) len input
 
 -- a record: its head, its body, its padding
 unfoldable pub record_at : Before → List ℕ → Judged Cause StreamRecord

@@ -3,6 +3,7 @@ use Rattle.std.specs.Prelude.{◌≡◌, ℕ, ◌*◌, ◌≤◌, ◌<◌, ◌^�
 use Rattle.std.specs.List.{All}
 use Rattle.std.specs.FinMap as maps
 use Rattle.mig_bytes.specs.Fields.{le32}
+use Rattle.mig_bytes.specs.Sequences.{Spells}
 use Rattle.mig_headers.specs.Headers.{IsImageHeader, IsDomainHeader}
 use Rattle.mig_headers.specs.declared.kind.Kind.{Kind}
 use Rattle.mig_headers.specs.declared.kind.Kind.TheVariants.{Pv, Hvm}
@@ -90,11 +91,6 @@ pub record Follows (o : Opening) (records : List StreamRecord) (r : StreamRecord
   pub not_ended : is_ended records ≡ false
   pub complete : r.type ≡ 0 → IsComplete o.kind (sent o.kind (records ++ r ∷ []))
 
--- these records, one after another, each in its place
-pub data Spells (o : Opening) : List ℕ → List StreamRecord → Type 0 where
-  none : Spells o [] []
-  one_more : (bytes : List ℕ) (records : List StreamRecord) (r : StreamRecord) (text : List ℕ) → Spells o bytes records → Follows o records r text → Spells o (bytes ++ text) (records ++ r ∷ [])
-
 -- an image without a fault: its headers, records of which the last is END, and then what follows
 pub record IsImage (input : List ℕ) (o : Opening) (records : List StreamRecord) (rest : List ℕ) : Type 0 where
   pub image_header : List ℕ
@@ -105,7 +101,7 @@ pub record IsImage (input : List ℕ) (o : Opening) (records : List StreamRecord
   pub whole : input ≡ image_header ++ (domain_header ++ (bytes ++ rest))
   pub is_image_header : IsImageHeader image_header o.version
   pub is_domain_header : IsDomainHeader domain_header o.kind major minor
-  pub spelled : Spells o bytes records
+  pub spelled : Spells (Follows o) bytes records
   pub ended : is_ended records ≡ true
 
 -- a front of the input is an accepted stream with this guest, and rest follows it

@@ -1,9 +1,9 @@
 -- Judging an image: two headers, and records up to the one that ends it.
-use Rattle.std.specs.Prelude.{◌≡◌, ℕ, List, [], ◌∷◌, ◌++◌, length, Option, Some, None, Result, Ok, Err, if◌then◌else◌}
+use Rattle.std.specs.Prelude.{◌≡◌, ℕ, List, length, Option, Result, Ok, Err}
 use Rattle.mig_bytes.specs.Fields.{le32, be32}
-use Rattle.mig_bytes.specs.Walk.{walk_end}
-use Rattle.mig_bytes.specs.Judged.{Judged, ◌>>=◌, part, tried, placed, Gives}
+use Rattle.mig_bytes.specs.Judged.{Judged, ◌>>=◌, placed, said_at, Gives}
 use Rattle.mig_bytes.specs.Judged.Judged.{Passes, Faulty}
+use Rattle.mig_bytes.specs.Sequences.{sequence_at}
 use Rattle.mig_bytes.specs.declared.part.Stop.{Stop}
 use Rattle.mig_bytes.specs.declared.part.Stop.TheVariants as stops
 use Rattle.mig_headers.specs.Headers.{fault_of_marker, fault_of_image, fault_of_domain, kind_of_number, behind_marker}
@@ -22,24 +22,15 @@ use Rattle.mig_restore.specs.declared.read.Reading.{Reading}
 -- ---- the headers
 
 abbrev pub marker_at : List ℕ → Judged Cause (List ℕ)
-marker_at input = do
-  marker ← part Truncated 8 input
-  _ ← tried (fault_of_marker marker.0) marker.1
-  Passes marker.0 marker.1
+marker_at input = said_at Truncated fault_of_marker (λ marker. marker) 8 input
 
 -- the image header behind its marker: the version
 abbrev pub version_at : List ℕ → Judged Cause ℕ
-version_at input = do
-  header ← part Truncated 16 input
-  _ ← tried (fault_of_image header.0) header.1
-  Passes (be32 header.0 4) header.1
+version_at input = said_at Truncated fault_of_image (λ header. be32 header 4) 16 input
 
 -- the domain header: the kind of guest
 abbrev pub kind_at : List ℕ → Judged Cause Kind
-kind_at input = do
-  header ← part Truncated 16 input
-  _ ← tried (fault_of_domain header.0) header.1
-  Passes (kind_of_number (le32 header.0 0)) header.1
+kind_at input = said_at Truncated fault_of_domain (λ header. kind_of_number (le32 header 0)) 16 input
 
 -- both headers behind the marker
 abbrev pub opening_behind : List ℕ → Judged (Place × Cause) Opening
@@ -53,28 +44,6 @@ opening_at input = do
   marker ← placed ImageHeader (marker_at input)
   opening_behind marker.1
 
--- ---- the records
-
--- records that stand whole and without fault, and the bytes behind them
-pub record Front : Type 0 where
-  pub records : List StreamRecord
-  pub rest : List ℕ
-
-abbrev pub front_with : List StreamRecord → Judged Cause StreamRecord → Option Front
-front_with records (Passes r rest) = Some (record { records = records ++ r ∷ []; rest = rest })
-front_with records (Faulty c rest) = None
-
--- one record more, up to the one that ends the image
-unfoldable pub one_more : Opening → Front → Option Front
-one_more o f = if is_ended f.records then None else front_with f.records (next_at o f.records f.rest)
-
-abbrev pub at_start : List ℕ → Front
-at_start rest = record { records = []; rest = rest }
-
--- as many records as stand whole and without fault
-unfoldable pub front_of : Opening → List ℕ → Front
-front_of o rest = walk_end (one_more o) (length rest) (at_start rest)
-
 -- ---- the image
 
 -- what an image says: its headers, and its records
@@ -85,14 +54,15 @@ pub record ImageOf : Type 0 where
 abbrev pub image_of : Opening → List StreamRecord → ImageOf
 image_of o records = record { opening = o; records = records }
 
--- a front that ends is an image; behind one that doesn't, the next record is faulty
-unfoldable pub ended_at : Opening → Front → Judged (Place × Cause) ImageOf
-ended_at o f = if is_ended f.records then Passes (image_of o f.records) f.rest else (do
-  next ← placed (Record (length f.records)) (next_at o f.records f.rest)
-  Passes (image_of o f.records) next.1)
+-- a record behind these records, at its place
+abbrev pub placed_next : Opening → List StreamRecord → List ℕ → Judged (Place × Cause) StreamRecord
+placed_next o records input = placed (Record (length records)) (next_at o records input)
 
+-- records up to the one that ends the image
 abbrev pub records_at : Opening → List ℕ → Judged (Place × Cause) ImageOf
-records_at o rest = ended_at o (front_of o rest)
+records_at o input = do
+  records ← sequence_at is_ended (placed_next o) input
+  Passes (image_of o records.0) records.1
 
 unfoldable pub image_at : List ℕ → Judged (Place × Cause) ImageOf
 image_at input = do

@@ -2,7 +2,8 @@ ghost use Rattle.std.specs.Prelude.{◌≡◌, ◌≤◌, ◌^◌, ◌*◌, IfOk
 ghost use Rattle.std.specs.List.{All, AllByRecursion};
 ghost use Rattle.mig_bytes.specs.Bytes.{AreBytes};
 ghost use Rattle.mig_bytes.specs.Faults.{RisesOnReadFault};
-ghost use Rattle.mig_bytes.specs.Judged.{Gives, each};
+ghost use Rattle.mig_bytes.specs.Judged.{Gives, each, plain_at};
+ghost use Rattle.mig_headers.specs.declared.fault.Cause.TheVariants.{Truncated};
 ghost use Rattle.mig_bytes.specs.declared.part.Stop.TheVariants.{Memory};
 ghost use Rattle.mig_headers.specs.RecordTypes.{record_row_of, type_of_number};
 ghost use Rattle.mig_headers.specs.declared.record_type.RecordType.{RecordType};
@@ -16,7 +17,7 @@ ghost use Rattle.mig_headers.specs.declared.kind.Kind.TheVariants.{Pv};
 ghost use Rattle.mig_pagetypes.specs.FrameWords.{word_pfn};
 ghost use Rattle.mig_pagetypes.specs.PageTypes.{level_of};
 ghost use Rattle.mig_restore.specs.Mean.{meant_type, put_entry, put_entries, put_content, Grows};
-ghost use Rattle.mig_restore.specs.Judging.{sets_at, info_at, p2m_at, plain_at, words_at, type_in_word, fault_of_level, with_places, entry_at, pages_at, typed_at, body_at};
+ghost use Rattle.mig_restore.specs.Judging.{sets_at, info_at, p2m_at, words_at, type_in_word, fault_of_level, with_places, entry_at, pages_at, typed_at, body_at};
 ghost use Rattle.mig_restore.specs.Record.Content.{Nothing};
 ghost use Rattle.mig_restore.specs.Spelled.{IsGoodWord};
 
@@ -131,7 +132,7 @@ fn take_p2m<S: Source>(
 
 /// Takes the body of an optional record, and keeps nothing of it.
 fn skip_body<S: Source>(src: &mut S, len: u32) -> Result<(), Stop<Cause>>
-    ensures read { Gives (λ _ c. c ≡ Nothing) (S.left src.old) (S.left src.new) (plain_at (λ _. Nothing) len) result }
+    ensures read { Gives (λ _ c. c ≡ Nothing) (S.left src.old) (S.left src.new) (plain_at Truncated (λ _. Nothing) len) result }
     ensures faults { RisesOnReadFault (S.faults src.old) (S.faults src.new) result }
     ensures takes_no_memory { ¬ IsErrOf result Memory }
 {

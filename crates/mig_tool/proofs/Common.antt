@@ -7,7 +7,7 @@ pub use Rattle.mig_guest.specs.Guests.{GuestOf}
 pub use Rattle.mig_headers.specs.declared.kind.Kind.{Kind}
 pub use Rattle.mig_headers.specs.declared.kind.Kind.TheVariants.{Hvm, Pv}
 pub use Rattle.mig_restore.proofs.Meaning.{mean_kind}
-pub use Rattle.mig_libxl.specs.Spelled.{Accepted}
+pub use Rattle.mig_libxl.specs.Spelled.{AcceptedStream}
 pub use Rattle.mig_tool.specs.Answers.{AcceptedIn, Comes, ComesOf, Done, DonePart, Form, InputRises, IsLine, LeavesOut, PutsOwnLine, RefusedIn, Says, SaysOf, WriteRose, Written, form_of, restored_text, summary_of}
 pub use Rattle.mig_tool.specs.Answers.Form.{Legacy, Modern}
 pub use Rattle.mig_libxl.specs.Bare.{IsCarried}

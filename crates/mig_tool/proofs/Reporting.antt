@@ -1,12 +1,12 @@
 -- What the program answers, and what the line on the report comes to.
-use Rattle.mig_tool.proofs.Common.{◌⊎◌, ◌≡◌, ℕ, ◌++◌, List, [], length, arith, Option, Some, None, Result, Ok, Err, refl, sym, ap, subst, ◌∙◌, GuestOf, Accepted, AcceptedIn, RefusedIn, Form, Legacy, Modern, form_of, Refusal, Kind, Hvm, Pv, IsCarried, IsFew, IsBase, restored_text, Written, Done, DonePart, Comes, ComesOf, Says, SaysOf, InputRises, IsLine, summary_of, Command, Convert, Normalise, Restore, Verify, mean_kind, status_of, line_of, outcome_of, outcome_of_legacy}
+use Rattle.mig_tool.proofs.Common.{◌⊎◌, ◌≡◌, ℕ, ◌++◌, List, [], length, arith, Option, Some, None, Result, Ok, Err, refl, sym, ap, subst, ◌∙◌, GuestOf, AcceptedStream, AcceptedIn, RefusedIn, Form, Legacy, Modern, form_of, Refusal, Kind, Hvm, Pv, IsCarried, IsFew, IsBase, restored_text, Written, Done, DonePart, Comes, ComesOf, Says, SaysOf, InputRises, IsLine, summary_of, Command, Convert, Normalise, Restore, Verify, mean_kind, status_of, line_of, outcome_of, outcome_of_legacy}
 use mathlib.Core.Logic.{inl, inr}
 use Rattle.std.specs.Io.KnownBytes.{Appends}
 use Rattle.mig_bytes.specs.Bytes.{Puts}
 use Rattle.mig_bytes.specs.Faults.{Rose, HasCause}
 use Rattle.mig_bytes.specs.declared.failure.WriteFailed.{WriteFailed}
 use Rattle.mig_libxl.specs.Canon.{canon_any}
-use Rattle.mig_libxl.specs.Stream.{StreamOf, IsReading, ReadsStream, stream_at}
+use Rattle.mig_libxl.specs.Stream.{StreamOf, IsStreamReading, ReadsStream, stream_at}
 use Rattle.mig_libxl.proofs.Laws.{accepted_is_stream}
 use Rattle.mig_libxl.proofs.Laws.{never_both as never_both_modern}
 use Rattle.mig_legacy.proofs.Laws.{accepted_is_legacy}
@@ -144,7 +144,7 @@ input_rose status before now h is = let r = subst (λ s. InputRises s before now
 
 -- ---- what a reading and a writing come to
 
-accepted_front : (input rest : List ℕ) (stream : StreamOf) (reading : Reading) → stream_at input ≡ Passes stream rest → IsReading reading stream → Accepted input reading.guest rest
+accepted_front : (input rest : List ℕ) (stream : StreamOf) (reading : Reading) → stream_at input ≡ Passes stream rest → IsStreamReading reading stream → AcceptedStream input reading.guest rest
 accepted_front input rest stream reading accepts is = record { stream = stream; image = is.image; spelled = accepted_is_stream input stream rest accepts; image_is = is.is; means = is.guest }
 
 accepted_legacy : (input rest : List ℕ) (stream : LegacyStream) (guest : GuestOf) → legacy_at input ≡ Passes stream rest → guest ≡ mean_legacy stream → AcceptedLegacy input guest rest
@@ -244,7 +244,7 @@ reported (Ok u) = statuses.Done
 reported (Err e) = statuses.WriteFault
 
 -- the summary is that of the stream
-summed : (input rest : List ℕ) (stream : StreamOf) (reading : Reading) (is : IsReading reading stream) (a : Accepted input reading.guest rest) (s : Summary) → a.image ≡ is.image
+summed : (input rest : List ℕ) (stream : StreamOf) (reading : Reading) (is : IsStreamReading reading stream) (a : AcceptedStream input reading.guest rest) (s : Summary) → a.image ≡ is.image
     → s.version ≡ reading.version → s.kind ≡ reading.guest.kind → s.frames ≡ length (maps.entries reading.guest.frames) → s.records ≡ reading.records → s ≡ summary_of a
 summed input rest stream reading is a s same v k f n =
     let kind : reading.guest.kind ≡ is.image.opening.kind = ap (λ (x : GuestOf). x.kind) is.guest ∙ mean_kind is.image.opening.kind is.image.records in

@@ -14,10 +14,10 @@ use Rattle.mig_pvtables.specs.Sound.{IsSound}
 use Rattle.mig_pvtables.specs.View.{view}
 use Rattle.mig_libxl.specs.Bare.{IsCarried}
 use Rattle.mig_libxl.specs.Canon.{canon_any}
-use Rattle.mig_libxl.specs.Spelled.{Accepted}
-use Rattle.mig_libxl.specs.Stream.{IsRefused}
+use Rattle.mig_libxl.specs.Spelled.{AcceptedStream}
+use Rattle.mig_libxl.specs.Stream.{IsStreamRefused}
 use Rattle.mig_legacy.specs.Spelled.{AcceptedLegacy}
-use Rattle.mig_legacy.specs.Stream.{IsRefused as IsLegacyRefused}
+use Rattle.mig_legacy.specs.Stream.{IsLegacyRefused}
 use Rattle.mig_tool.specs.declared.command.Command.{Command}
 use Rattle.mig_tool.specs.declared.command.Command.TheVariants.{Normalise, Restore, Verify, Convert}
 use Rattle.mig_tool.specs.declared.outcome.Outcome.{Outcome}
@@ -45,12 +45,12 @@ form_of Convert = Legacy
 
 -- a front of the input is accepted with this guest, and rest follows it
 abbrev pub AcceptedIn : Form → List ℕ → GuestOf → List ℕ → Type 0
-AcceptedIn Modern input guest rest = Accepted input guest rest
+AcceptedIn Modern input guest rest = AcceptedStream input guest rest
 AcceptedIn Legacy input guest rest = AcceptedLegacy input guest rest
 
 -- the input has this refusal, and rest follows the faulty part
 abbrev pub RefusedIn : Form → List ℕ → Refusal → List ℕ → Type 0
-RefusedIn Modern input (refusals.Stream place cause) rest = IsRefused input place cause rest
+RefusedIn Modern input (refusals.Stream place cause) rest = IsStreamRefused input place cause rest
 RefusedIn Legacy input (refusals.Legacy place cause) rest = IsLegacyRefused input place cause rest
 RefusedIn _ input _ rest = ⊥
 
@@ -65,7 +65,7 @@ pub record Normalised (form : Form) (input : List ℕ) (left old new : Option (L
   pub left_is : left ≡ Some rest
   pub wrote : Appends old new (canon_any guest)
   pub carried : IsCarried guest
-  pub kept : (more : List ℕ) → Accepted (canon_any guest ++ more) guest more
+  pub kept : (more : List ℕ) → AcceptedStream (canon_any guest ++ more) guest more
   pub alone : (other : GuestOf) → IsCarried other → (canon_any other ≡ canon_any guest) ↔ (other ≡ guest)
 
 -- the image of the guest, restored with machine frames from the base on
@@ -77,7 +77,7 @@ restored_text base guest = image (hosted guest base)
 pub record Restored (base : ℕ) (input : List ℕ) (left old new : Option (List ℕ)) : Type 0 where
   pub guest : GuestOf
   pub rest : List ℕ
-  pub accepted : Accepted input guest rest
+  pub accepted : AcceptedStream input guest rest
   pub left_is : left ≡ Some rest
   pub wrote : Appends old new (restored_text base guest)
   pub carried : IsCarried guest
@@ -96,7 +96,7 @@ pub record PartWritten (form : Form) (text : GuestOf → List ℕ) (input : List
 
 -- what is said of an accepted stream: the version and kind of its image, its guest's number of frames, and the image's
 -- number of records
-abbrev pub summary_of : {input : List ℕ} {guest : GuestOf} {rest : List ℕ} → Accepted input guest rest → Summary
+abbrev pub summary_of : {input : List ℕ} {guest : GuestOf} {rest : List ℕ} → AcceptedStream input guest rest → Summary
 summary_of {input} {guest} {rest} a =
     record { version = a.image.opening.version; kind = a.image.opening.kind; frames = length (maps.entries guest.frames); records = length a.image.records }
 
@@ -104,7 +104,7 @@ summary_of {input} {guest} {rest} a =
 pub record Verified (Reported : List ℕ → Type 0) (input : List ℕ) (left : Option (List ℕ)) : Type 0 where
   pub guest : GuestOf
   pub rest : List ℕ
-  pub accepted : Accepted input guest rest
+  pub accepted : AcceptedStream input guest rest
   pub left_is : left ≡ Some rest
   pub reported : Reported (ok_line (summary_of accepted))
 

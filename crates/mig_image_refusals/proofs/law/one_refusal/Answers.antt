@@ -1,5 +1,4 @@
-use Rattle.mig_image_refusals.proofs.Common.{sym, ap, ◌∙◌, ImageCause, ImagePlace}
-use Rattle.mig_image_refusals.proofs.Single.{same_faulty}
+use Rattle.mig_image_refusals.proofs.Common.{sym, ap, ◌∙◌, same_faulty, ImageCause, ImagePlace}
 use Rattle.mig_image_refusals.proofs.Verdicts.{refused_is}
 use Rattle.mig_image_refusals.proofs.law.one_refusal.Goals as goal
 

@@ -1,4 +1,4 @@
-use Rattle.std.proofs.Common.{sym, ◌∙◌}
+use Rattle.mig_legacy.proofs.Common.{sym, ◌∙◌}
 use Rattle.mig_legacy.proofs.BatchFaults.{reserved_said, high_said, none_said}
 use Rattle.mig_legacy.proofs.batch.batch_fault.Goals as goal
 

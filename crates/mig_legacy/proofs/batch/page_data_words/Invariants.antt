@@ -1,6 +1,4 @@
-use Rattle.std.proofs.Common.{◌≡◌, take}
-use Rattle.std.specs.List.{flat_map}
-use Rattle.mig_legacy.specs.Batches.{page_data_words_of}
+use Rattle.mig_legacy.proofs.Common.{◌≡◌, take, flat_map, page_data_words_of}
 use Rattle.mig_legacy.proofs.batch.page_data_words.Given as goal
 
 abbrev pub invariant-loop-word : goal.invariant-loop-word

@@ -1,4 +1,4 @@
-use Rattle.std.proofs.Common.{rules}
+use Rattle.mig_legacy.proofs.Common.{rules}
 use Rattle.mig_legacy.proofs.Taking.{clock_joined}
 use Rattle.mig_legacy.proofs.body.clock_of.Goals as goal
 

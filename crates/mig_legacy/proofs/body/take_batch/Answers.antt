@@ -1,7 +1,4 @@
-use Rattle.std.proofs.Common.{◌≡◌, length, rules, sym, ap, subst, arith}
-use Rattle.std.specs.List.{All}
-use Rattle.mig_restore.specs.Spelled.{IsGoodWord}
-use Rattle.mig_legacy.specs.Batches.{page_data_words}
+use Rattle.mig_legacy.proofs.Common.{◌≡◌, length, rules, sym, ap, subst, arith, All, IsGoodWord, page_data_words}
 use Rattle.mig_legacy.proofs.BatchFrames.{good_words, few_words, batch_read}
 use Rattle.mig_legacy.proofs.body.take_batch.Goals as goal
 

@@ -1,14 +1,4 @@
-use Rattle.std.proofs.Common.{◌≡◌, ◌^◌, None, rules, refl, sym, ap, subst, ◌∙◌}
-use Rattle.mig_bytes.specs.Bytes.{AreBytes}
-use Rattle.mig_bytes.proofs.Joins.{then_reads}
-use Rattle.mig_libxl.proofs.Begun.{store_small, pairs_kept}
-use Rattle.mig_legacy.specs.Judged.{toolstack, toolstack_fault}
-use Rattle.mig_legacy.specs.Judging.{length_at, toolstack_at, said_at, fault_of_toolstack, pairs_of_toolstack}
-use Rattle.mig_legacy.specs.Legacy.{store_key}
-use Rattle.mig_legacy.specs.Legacy.Content.{Pairs}
-use Rattle.mig_legacy.specs.Seen.{put_in_emulators}
-use Rattle.mig_legacy.specs.Texts.{text_of_physmaps}
-use Rattle.mig_legacy.proofs.Taking.{said_read, said_refused}
+use Rattle.mig_legacy.proofs.Common.{said_at, said_read, said_refused, Truncated, ◌≡◌, ◌^◌, None, rules, refl, sym, ap, subst, ◌∙◌, AreBytes, then_reads, store_small, pairs_kept, toolstack, toolstack_fault, length_at, toolstack_at, fault_of_toolstack, pairs_of_toolstack, store_key, Pairs, put_in_emulators, text_of_physmaps}
 use Rattle.mig_legacy.proofs.ToolstackPairs.{text_faultless, toolstack_fits, toolstack_over, toolstack_put}
 use Rattle.mig_legacy.proofs.body.take_toolstack.Goals as goal
 
@@ -28,8 +18,8 @@ returns-in-Ok-add_pairs-clause-read g c =
     let body = c.in_ok-body.body.items in
     let none : toolstack_fault body ≡ None = search rules in
     let is : c.deref-4.result.now ≡ text_of_physmaps (toolstack body) = search rules in
-    then_reads _ _ _ _ _ (length_at (2 ^ 27)) (toolstack_at e) (λ len. said_at (fault_of_toolstack e) (λ b. Pairs (pairs_of_toolstack b)) len.0 len.1) c.in_ok-len.len _ (λ i. refl) c.in_ok-len.ensures.read
-    (λ n same. said_read _ _ c.in_ok-len.len n (sym same) (λ b. Pairs (pairs_of_toolstack b)) c.in_ok-body.body (fault_of_toolstack e) _ _ tt c.in_ok-body.ensures.read
+    then_reads _ _ _ _ _ (length_at (2 ^ 27)) (toolstack_at e) (λ len. said_at Truncated (fault_of_toolstack e) (λ b. Pairs (pairs_of_toolstack b)) len.0 len.1) c.in_ok-len.len _ (λ i. refl) c.in_ok-len.ensures.read
+    (λ n same. said_read Truncated _ _ c.in_ok-len.len n (sym same) (λ b. Pairs (pairs_of_toolstack b)) c.in_ok-body.body (fault_of_toolstack e) _ _ tt c.in_ok-body.ensures.read
     (λ bytes at. (
       ap (fault_of_toolstack e) at ∙ toolstack_fits e body _ none is c.in-Ok-add_pairs.ensures.fits,
       toolstack_put e body _ none is _ c.in-Ok-add_pairs.ensures.ok ∙ ap (λ b. put_in_emulators e (Pairs (pairs_of_toolstack b))) (sym at),
@@ -50,6 +40,6 @@ returns-in-Err-TooMany-clause-read g c =
     let body = c.in_ok-body.body.items in
     let none : toolstack_fault body ≡ None = search rules in
     let is : c.deref-4.result.now ≡ text_of_physmaps (toolstack body) = search rules in
-    then_reads _ _ _ _ _ (length_at (2 ^ 27)) (toolstack_at e) (λ len. said_at (fault_of_toolstack e) (λ b. Pairs (pairs_of_toolstack b)) len.0 len.1) c.in_ok-len.len _ (λ i. refl) c.in_ok-len.ensures.read
-    (λ n same. said_refused _ _ c.in_ok-len.len n (sym same) (λ b. Pairs (pairs_of_toolstack b)) c.in_ok-body.body (fault_of_toolstack e) _ _ _ c.in_ok-body.ensures.read
+    then_reads _ _ _ _ _ (length_at (2 ^ 27)) (toolstack_at e) (λ len. said_at Truncated (fault_of_toolstack e) (λ b. Pairs (pairs_of_toolstack b)) len.0 len.1) c.in_ok-len.len _ (λ i. refl) c.in_ok-len.ensures.read
+    (λ n same. said_refused Truncated _ _ c.in_ok-len.len n (sym same) (λ b. Pairs (pairs_of_toolstack b)) c.in_ok-body.body (fault_of_toolstack e) _ _ _ c.in_ok-body.ensures.read
     (λ bytes at. ap (fault_of_toolstack e) at ∙ toolstack_over e body _ none is (search rules)))

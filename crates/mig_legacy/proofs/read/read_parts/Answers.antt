@@ -1,12 +1,5 @@
-use Rattle.std.proofs.Common.{refl, rules, subst, ◌≤◌, ◌^◌}
+use Rattle.mig_legacy.proofs.Common.{refl, rules, subst, ◌≤◌, ◌^◌, ◌>>=◌, placed, Passes, judged_so, mapped, stopped, then_reads, placed_then, placed_ends, placed_fine, Start, Tail, Device, start_at, tail_at, device_at, chunks_at, legacy_at}
 use Rattle.std.specs.FinMap as maps
-use Rattle.mig_bytes.specs.Judged.{◌>>=◌, placed}
-use Rattle.mig_bytes.specs.Judged.Judged.{Passes}
-use Rattle.mig_bytes.proofs.Joins.{judged_so, mapped, stopped, then_reads}
-use Rattle.mig_bytes.proofs.Placed.{placed_then, placed_ends, placed_fine}
-use Rattle.mig_headers.specs.declared.legacy_fault.LegacyPlace.TheVariants.{Start, Tail, Device}
-use Rattle.mig_legacy.specs.Judging.{start_at, tail_at, device_at}
-use Rattle.mig_legacy.specs.Stream.{chunks_at, legacy_at}
 use Rattle.mig_legacy.proofs.Streams.{stream_of, behind_start, behind_chunks, behind_tail, stream_is, guest_meant}
 use Rattle.mig_legacy.proofs.read.read_parts.Goals as goal
 

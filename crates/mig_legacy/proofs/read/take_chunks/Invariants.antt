@@ -1,12 +1,11 @@
-use Rattle.std.proofs.Common.{◌≡◌, ◌≤◌, ◌-◌, ◌^◌}
-use Rattle.mig_legacy.specs.Seen.{IsBegun}
+use Rattle.mig_legacy.proofs.Common.{◌≡◌, ◌≤◌, ◌-◌, ◌^◌, IsLegacyBegun}
 use Rattle.mig_legacy.proofs.Arrivals.{Arrived}
 use Rattle.mig_legacy.proofs.read.take_chunks.Given as goal
 
 abbrev pub invariant-chunks : goal.invariant-chunks
 invariant-chunks g l = record {
   arrived : Arrived (g.S.Source.left l.fn.src) (g.S.Source.left l.src) l.seen;
-  begun : IsBegun l.seen;
+  begun : IsLegacyBegun l.seen;
   few : l.seen.chunks ≤ 2 ^ 28;
   quiet : g.S.Source.faults l.src ≡ g.S.Source.faults l.fn.src;
 }

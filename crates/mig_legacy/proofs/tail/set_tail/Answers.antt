@@ -1,5 +1,4 @@
-use Rattle.std.proofs.Common.{Result, Ok, Err, rules}
-use Rattle.std.specs.Prelude.{OnOk}
+use Rattle.mig_legacy.proofs.Common.{Result, Ok, Err, rules, OnOk}
 use Rattle.mig_legacy.proofs.Tails.{tail_set}
 use Rattle.mig_legacy.proofs.tail.set_tail.Goals as goal
 

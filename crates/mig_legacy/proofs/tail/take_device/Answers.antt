@@ -1,9 +1,6 @@
-use Rattle.std.proofs.Common.{◌≡◌, ◌∷◌, length, Some, rules, refl, sym, ap, subst, ◌∙◌}
-use Rattle.mig_bytes.specs.Bytes.{AreBytes}
-use Rattle.mig_libxl.proofs.Begun.{context_kept}
-use Rattle.mig_legacy.specs.Judging.{record_at}
-use Rattle.mig_legacy.specs.Seen.{put_device}
-use Rattle.mig_legacy.proofs.Devices.{no_device, some_device, kept_so, stops_so}
+use Rattle.mig_bytes.proofs.Joins.{weakened}
+use Rattle.mig_legacy.proofs.Common.{◌≡◌, ◌∷◌, length, Some, rules, refl, sym, ap, subst, ◌∙◌, AreBytes, context_kept, device_record_at, put_device}
+use Rattle.mig_legacy.proofs.Devices.{no_device, some_device, stops_so}
 use Rattle.mig_legacy.proofs.tail.take_device.Goals as goal
 
 pub returns-in-Err-Refused-clause-read : goal.returns-in-Err-Refused-clause-read
@@ -16,7 +13,7 @@ returns-in_err-content-clause-read g c =
     let buf = c.take_part.new.buf in
     let one : length buf ≡ 1 = search rules in
     some_device _ _ one buf _ _ _ _ c.from_residual.result refl c.in-Ok.ensures.read
-    (stops_so _ _ (λ rest. record_at (_ ∷ rest)) _ _ c.in_err-content.field-0.0 c.from_residual.result (search rules) c.in_err-content.ensures.read)
+    (stops_so _ _ (λ rest. device_record_at (_ ∷ rest)) _ _ c.in_err-content.field-0.0 c.from_residual.result (search rules) c.in_err-content.ensures.read)
 
 pub returns-in-Ok-set_context-clause-read : goal.returns-in-Ok-set_context-clause-read
 returns-in-Ok-set_context-clause-read g c =
@@ -25,8 +22,8 @@ returns-in-Ok-set_context-clause-read g c =
     let one : length buf ≡ 1 = search rules in
     let same : c.deref-2.result.now ≡ c.in_ok-content.content.items = search rules in
     some_device _ _ one buf _ _ _ _ _ refl c.in-Ok.ensures.read
-    (kept_so _ _ (λ rest. record_at (_ ∷ rest)) _ _ c.in_ok-content.content tt c.in_ok-content.ensures.read
-    (λ device is. c.in-Ok-set_context.ensures.ok ∙ ap (put_device e) (ap Some same ∙ sym is)))
+    (weakened _ _ _ _ (λ rest. device_record_at (_ ∷ rest)) c.in_ok-content.content tt
+    (λ device is. c.in-Ok-set_context.ensures.ok ∙ ap (put_device e) (ap Some same ∙ sym is)) c.in_ok-content.ensures.read)
 
 pub returns-in-Ok-set_context-clause-begun : goal.returns-in-Ok-set_context-clause-begun
 returns-in-Ok-set_context-clause-begun g c =

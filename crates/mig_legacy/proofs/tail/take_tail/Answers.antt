@@ -1,13 +1,4 @@
-use Rattle.std.proofs.Common.{◌≡◌, ◌^◌, length, Ok, Err, rules, refl, sym, ap, subst, ◌∙◌}
-use Rattle.mig_bytes.specs.Bytes.{AreBytes}
-use Rattle.mig_bytes.specs.Judged.{◌>>=◌, part, tried}
-use Rattle.mig_bytes.specs.Judged.Judged.{Passes}
-use Rattle.mig_bytes.proofs.Joins.{stopped}
-use Rattle.mig_headers.specs.Contexts.{scan}
-use Rattle.mig_headers.specs.declared.legacy_fault.LegacyCause.TheVariants.{Truncated, BadContext}
-use Rattle.mig_legacy.specs.Judging.{length_at, context_fault, tail_of, tail_at}
-use Rattle.mig_legacy.specs.Seen.{put_tail}
-use Rattle.mig_legacy.proofs.Taking.{said_read, said_refused}
+use Rattle.mig_legacy.proofs.Common.{said_read, said_refused, ◌≡◌, ◌^◌, length, Ok, Err, rules, refl, sym, ap, subst, ◌∙◌, AreBytes, ◌>>=◌, part, tried, Passes, stopped, scan, Truncated, BadContext, length_at, context_fault, tail_of, tail_at, put_tail}
 use Rattle.mig_legacy.proofs.Tails.{behind_frames, context_at, tail_parts, framed, counted, tail_plain}
 use Rattle.mig_legacy.proofs.tail.take_tail.Goals as goal
 
@@ -36,7 +27,7 @@ returns-in-Err-clause-read g c =
     let len : length buf ≡ 24 = search rules in
     let bad : scan c.in_ok-context.context.items ≡ Err c.in-Err.fault = search rules in
     counted _ _ len buf _ _ c.in_ok-take_part.ensures.read _ _ c.in_ok-len.len _ c.in_ok-len.ensures.read
-    (said_refused _ _ c.in_ok-len.len c.in_ok-len.len refl (tail_of buf) c.in_ok-context.context (λ l. context_fault (scan l)) _ _ (BadContext c.in-Err.fault) c.in_ok-context.ensures.read
+    (said_refused Truncated _ _ c.in_ok-len.len c.in_ok-len.len refl (tail_of buf) c.in_ok-context.context (λ l. context_fault (scan l)) _ _ (BadContext c.in-Err.fault) c.in_ok-context.ensures.read
     (λ bytes is. ap (λ l. context_fault (scan l)) is ∙ ap context_fault bad))
 
 pub returns-in-Ok-clause-read : goal.returns-in-Ok-clause-read
@@ -46,7 +37,7 @@ returns-in-Ok-clause-read g c =
     let good : scan c.in_ok-context.context.items ≡ Ok c.in_default.field-0 = search rules in
     let same : c.deref-3.result.now ≡ c.in_ok-context.context.items = search rules in
     counted _ _ len buf _ _ c.in_ok-take_part.ensures.read _ _ c.in_ok-len.len _ c.in_ok-len.ensures.read
-    (said_read _ _ c.in_ok-len.len c.in_ok-len.len refl (tail_of buf) c.in_ok-context.context (λ l. context_fault (scan l)) _ _ tt c.in_ok-context.ensures.read
+    (said_read Truncated _ _ c.in_ok-len.len c.in_ok-len.len refl (tail_of buf) c.in_ok-context.context (λ l. context_fault (scan l)) _ _ tt c.in_ok-context.ensures.read
     (λ bytes is. (ap (λ l. context_fault (scan l)) is ∙ ap context_fault good, c.in-Ok.ensures.ok ∙ ap (λ l. put_tail c.args.guest.now (tail_of buf l)) (same ∙ sym is))))
 
 pub returns-in-Ok-clause-plain : goal.returns-in-Ok-clause-plain

@@ -1,5 +1,4 @@
-use Rattle.std.proofs.Common.{◌≡◌, ◌≤◌, length, drop, ◌-◌}
-use Rattle.mig_legacy.specs.Judged.{entries_fault}
+use Rattle.mig_legacy.proofs.Common.{◌≡◌, ◌≤◌, length, drop, ◌-◌, entries_fault}
 use Rattle.mig_legacy.proofs.toolstack.entries_place.Given as goal
 
 abbrev pub invariant-loop : goal.invariant-loop

@@ -1,9 +1,6 @@
-use Rattle.std.proofs.Common.{◌++◌, sym, ◌∙◌}
-use Rattle.mig_bytes.specs.Judged.Judged.{Passes}
-use Rattle.mig_bytes.proofs.Joins.{mapped, refused, stopped}
+use Rattle.mig_libxl.proofs.Common.{◌++◌, sym, ◌∙◌, Passes, mapped, stopped, bare_at, Bare}
+use Rattle.mig_bytes.proofs.Joins.{refused}
 use Rattle.mig_restore.specs.Stream.{image_behind, stop_of}
-use Rattle.mig_libxl.specs.Stream.{bare_at}
-use Rattle.mig_libxl.specs.Stream.StreamOf.{Bare}
 use Rattle.mig_libxl.proofs.Forms.{bare_is, bare_refused, bare_reading}
 use Rattle.mig_libxl.proofs.read.read_bare.Goals as goal
 

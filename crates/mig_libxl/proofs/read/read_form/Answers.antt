@@ -1,5 +1,5 @@
-use Rattle.std.proofs.Common.{◌++◌, rules, sym, ◌∙◌}
-use Rattle.mig_libxl.specs.Stream.{wrapped_at, bare_at}
+use Rattle.mig_libxl.proofs.Common.{◌++◌, rules, sym, ◌∙◌, bare_at}
+use Rattle.mig_libxl.specs.Stream.{wrapped_at}
 use Rattle.mig_libxl.proofs.Forms.{form_reads, form_stops, form_wrapped, form_bare}
 use Rattle.mig_libxl.proofs.read.read_form.Goals as goal
 

@@ -1,12 +1,12 @@
 use Rattle.std.proofs.Common.{◌≡◌, ◌≤◌, ◌-◌, ◌^◌}
-use Rattle.mig_libxl.specs.Seen.{IsBegun}
+use Rattle.mig_libxl.specs.Seen.{IsLibxlBegun}
 use Rattle.mig_libxl.proofs.Arrivals.{Arrived}
 use Rattle.mig_libxl.proofs.read.take_records.Given as goal
 
 abbrev pub invariant-loop-seen : goal.invariant-loop-seen
 invariant-loop-seen g l = record {
   arrived : Arrived (g.S.Source.left l.fn.src) (g.S.Source.left l.src) l.seen;
-  begun : IsBegun l.seen;
+  begun : IsLibxlBegun l.seen;
   few : l.seen.records ≤ 2 ^ 28;
   quiet : g.S.Source.faults l.src ≡ g.S.Source.faults l.fn.src;
 }

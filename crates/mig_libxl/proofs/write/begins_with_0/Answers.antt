@@ -1,4 +1,4 @@
-use Rattle.std.proofs.Common.{sym}
+use Rattle.mig_libxl.proofs.Common.{sym}
 use Rattle.std.specs.FinMap as maps
 use Rattle.mig_libxl.proofs.FirstParts.{zero_of_first, zero_of_none}
 use Rattle.mig_libxl.proofs.write.begins_with_0.Goals as goal

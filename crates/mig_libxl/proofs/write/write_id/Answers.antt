@@ -1,4 +1,4 @@
-use Rattle.std.proofs.Common.{refl}
+use Rattle.mig_libxl.proofs.Common.{refl}
 use Rattle.mig_libxl.proofs.EmulatorTexts.{emulator_stop}
 use Rattle.mig_libxl.proofs.write.write_id.Goals as goal
 

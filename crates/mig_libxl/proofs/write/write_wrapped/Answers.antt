@@ -1,4 +1,4 @@
-use Rattle.mig_bytes.proofs.Texts.{puts_then, puts_stop, puts_same}
+use Rattle.mig_libxl.proofs.Common.{puts_then, puts_stop, puts_same}
 use Rattle.mig_libxl.proofs.EmulatorTexts.{wrapped_is}
 use Rattle.mig_libxl.proofs.write.write_wrapped.Goals as goal
 

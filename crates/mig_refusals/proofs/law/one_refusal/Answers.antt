@@ -1,6 +1,5 @@
-use Rattle.mig_refused.proofs.Common.{sym, ap, ◌∙◌, Cause}
+use Rattle.mig_refused.proofs.Common.{sym, ap, ◌∙◌, same_faulty, Cause}
 use Rattle.mig_headers.specs.declared.fault.Place.{Place}
-use Rattle.mig_refused.proofs.Single.{same_faulty}
 use Rattle.mig_refusals.proofs.Verdicts.{refused_is}
 use Rattle.mig_refusals.proofs.law.one_refusal.Goals as goal
 

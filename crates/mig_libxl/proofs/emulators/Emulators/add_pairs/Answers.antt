@@ -1,27 +1,16 @@
-use Rattle.std.proofs.Common.{◌≡◌, ◌<◌, ◌≤◌, length, Some, None, List, [], ◌∷◌, ℕ, sym, ap, subst, refl, ◌∙◌, arith, is_some, nat_eq, false, cond}
-use Rattle.std.specs.Prelude.{◌^◌, Result, Ok, Err, OnOk, IsErrAnd, IsErrOf}
+use Rattle.mig_libxl.proofs.Common.{◌≡◌, ◌<◌, ◌≤◌, length, Some, None, List, [], ℕ, sym, ap, subst, ◌∙◌, arith, is_some, nat_eq, false, cond, ◌^◌, Result, Ok, Err, common_steps, eqb-true, pairs_fault, PairMap, put_pairs, text_of_map, some_bytes_are_some_pairs, part_cmp, PartKey, add_pairs, store_at, nil_from_length}
+use Rattle.std.specs.Prelude.{OnOk, IsErrAnd, IsErrOf}
 use Rattle.std.specs.FinMap as maps
 use Rattle.std.specs.BTreeMap.{is_at}
 use Rattle.std.specs.declared.alloc.Global.{Global}
 use Rattle.std.specs.declared.collections.btree_map.BTreeMap.{BTreeMap}
 use Rattle.std.specs.Option.{option_copied_mut}
-use Rattle.std.proofs.lemmas.Grind.{common_steps}
-use Rattle.std.proofs.lemmas.Bool.{eqb-true}
 use Rattle.std.proofs.lemmas.Result.{on_ok_weaker}
-use Rattle.mig_policy.specs.PairFaults.{pairs_fault}
-use Rattle.mig_policy.specs.PairMaps.{PairMap, pairs_in, put_pairs, text_of_map}
-use Rattle.mig_policy.proofs.PairMapLaws.{some_bytes_are_some_pairs}
+use Rattle.mig_policy.specs.PairMaps.{pairs_in}
 use Rattle.mig_policy.proofs.PairTrees.{empty_len}
 use Rattle.mig_policy.specs.declared.pair_map.PairsAnswer.TheVariants.{TooMany}
-use Rattle.mig_guest.specs.Order.{part_cmp}
-use Rattle.mig_guest.specs.declared.part_key.PartKey.{PartKey}
-use Rattle.mig_libxl.specs.Emulators.{add_pairs, store_at}
 use Rattle.mig_libxl.proofs.Stores.{no_pairs, store_in, store_found, store_set}
 use Rattle.mig_libxl.proofs.emulators.Emulators.add_pairs.Goals as goal
-
-none_of : (l : List ℕ) → length l ≡ 0 → l ≡ []
-none_of [] e = refl
-none_of (x ∷ xs) e = absurd (omega (arith, e))
 
 some_pairs : (bytes : List ℕ) → pairs_fault bytes ≡ None → nat_eq (length bytes) 0 ≡ false → 0 < length (pairs_in bytes)
 some_pairs bytes none some = some_bytes_are_some_pairs.some bytes none (positive (length bytes) some)
@@ -39,12 +28,12 @@ fits_too (Err e) m all is fits = tt
 
 pub returns-then-is_empty-clause-ok : goal.returns-then-is_empty-clause-ok
 returns-then-is_empty-clause-ok c =
-    let empty : c.args.bytes.now ≡ [] = none_of c.args.bytes.now (eqb-true (length c.args.bytes.now) 0 (sym c.is_empty.ensures ∙ c.if-is_empty.true)) in
+    let empty : c.args.bytes.now ≡ [] = nil_from_length c.args.bytes.now (eqb-true (length c.args.bytes.now) 0 (sym c.is_empty.ensures ∙ c.if-is_empty.true)) in
     sym (ap (add_pairs c.args.self.now c.args.key) (ap pairs_in empty ∙ no_pairs))
 
 pub returns-then-is_empty-clause-fits : goal.returns-then-is_empty-clause-fits
 returns-then-is_empty-clause-fits c =
-    let empty : c.args.bytes.now ≡ [] = none_of c.args.bytes.now (eqb-true (length c.args.bytes.now) 0 (sym c.is_empty.ensures ∙ c.if-is_empty.true)) in
+    let empty : c.args.bytes.now ≡ [] = nil_from_length c.args.bytes.now (eqb-true (length c.args.bytes.now) 0 (sym c.is_empty.ensures ∙ c.if-is_empty.true)) in
     let store = store_at c.args.self.now.stores c.args.key in
     let same : put_pairs store (pairs_in c.args.bytes.now) ≡ store = ap (put_pairs store) (ap pairs_in empty ∙ no_pairs) in
     rw same c.requires.small

@@ -1,6 +1,4 @@
-use Rattle.std.proofs.Common.{List, map, ap, ◌∙◌}
-use Rattle.mig_guest.specs.Parts.{put_parts}
-use Rattle.mig_libxl.specs.Emulators.{store_part}
+use Rattle.mig_libxl.proofs.Common.{List, map, ap, ◌∙◌, put_parts, store_part}
 use Rattle.mig_libxl.proofs.Stores.{Entry, stores_listed}
 use Rattle.mig_libxl.proofs.emulators.Emulators.put_stores.Goals as goal
 

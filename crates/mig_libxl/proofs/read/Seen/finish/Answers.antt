@@ -1,14 +1,10 @@
-use Rattle.std.proofs.Common.{◌≡◌, Option, Some, subst, false}
+use Rattle.mig_libxl.proofs.Common.{◌≡◌, Option, Some, subst, false, Pv, Reading, with_emulators, IsPlain, Seen}
 use Rattle.std.specs.Prelude.{IfSome}
-use Rattle.mig_headers.specs.declared.kind.Kind.TheVariants.{Pv}
-use Rattle.mig_restore.specs.declared.read.Reading.{Reading}
-use Rattle.mig_libxl.specs.Emulators.{with_emulators}
-use Rattle.mig_libxl.specs.Seen.{IsPlain, IsBegun, IsClosed}
-use Rattle.mig_libxl.specs.declared.read.Seen.{Seen}
+use Rattle.mig_libxl.specs.Seen.{IsLibxlBegun, IsClosed}
 use Rattle.mig_libxl.proofs.EmulatorGuests.{IsDone, guest_done}
 use Rattle.mig_libxl.proofs.read.Seen.finish.Goals as goal
 
-done : (seen : Seen) (reading : Reading) → IsBegun seen → IsClosed seen → seen.image ≡ Some reading → IsDone (with_emulators reading.guest seen.emulators)
+done : (seen : Seen) (reading : Reading) → IsLibxlBegun seen → IsClosed seen → seen.image ≡ Some reading → IsDone (with_emulators reading.guest seen.emulators)
 done seen reading begun closed is =
     guest_done reading.guest seen.emulators (subst (λ (o : Option Reading). IfSome o (λ r. IsPlain r.guest)) is begun.guest) begun.emulators
     (λ pv. begun.none (subst (λ (o : Option Reading). IfSome o (λ r. r.guest.kind ≡ Pv → seen.emulated ≡ false)) is closed.alone pv))

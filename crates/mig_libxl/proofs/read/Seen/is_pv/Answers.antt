@@ -1,5 +1,4 @@
-use Rattle.std.proofs.Common.{◌≡◌, rules, sym, ◌∙◌}
-use Rattle.mig_libxl.specs.Content.{image_among}
+use Rattle.mig_libxl.proofs.Common.{◌≡◌, rules, sym, ◌∙◌, image_among}
 use Rattle.mig_libxl.specs.Judging.{is_pv_kind}
 use Rattle.mig_libxl.proofs.Heads.{held_kind}
 use Rattle.mig_libxl.proofs.read.Seen.is_pv.Goals as goal

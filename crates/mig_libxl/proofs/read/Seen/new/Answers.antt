@@ -1,5 +1,4 @@
-use Rattle.std.proofs.Common.{sym, subst}
-use Rattle.mig_libxl.specs.Seen.{AreEmulators}
+use Rattle.mig_libxl.proofs.Common.{sym, subst, AreEmulators}
 use Rattle.mig_libxl.proofs.Taking.{none_yet}
 use Rattle.mig_libxl.proofs.read.Seen.new.Goals as goal
 

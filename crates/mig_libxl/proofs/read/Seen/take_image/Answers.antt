@@ -1,4 +1,4 @@
-use Rattle.std.proofs.Common.{refl, rules}
+use Rattle.mig_libxl.proofs.Common.{refl, rules}
 use Rattle.mig_libxl.proofs.Taking.{image_read}
 use Rattle.mig_libxl.proofs.read.Seen.take_image.Goals as goal
 

@@ -1,35 +1,24 @@
-use Rattle.std.proofs.Common.{◌≡◌, ◌<◌, drop, rules, refl, sym, ap, subst, ◌∙◌}
-use Rattle.std.proofs.lemmas.List.Elements.{All-drop}
-use Rattle.mig_bytes.specs.Bytes.{AreBytes}
-use Rattle.mig_bytes.specs.Fields.{le32}
+use Rattle.mig_libxl.proofs.Common.{◌≡◌, ◌<◌, drop, rules, refl, sym, subst, ◌∙◌, All-drop, AreBytes, Pairs, emulator_key, Truncated}
 use Rattle.mig_policy.specs.PairMaps.{pairs_in}
-use Rattle.mig_libxl.specs.Content.Content.{Pairs}
-use Rattle.mig_libxl.specs.Judging.{key_in, fault_of_pairs}
+use Rattle.mig_libxl.specs.Judging.{fault_of_pairs}
 use Rattle.mig_libxl.proofs.Begun.{store_small, pairs_begun}
-use Rattle.mig_libxl.proofs.Taking.{IsRead, body_said, body_refused, pairs_bad, pairs_bad_id, pairs_too_many, pairs_bad_index, pairs_fine, pairs_put, takes_of, behind_front}
+use Rattle.mig_bytes.proofs.Said.{said_read, said_refused}
+use Rattle.mig_libxl.proofs.Taking.{are_read, read_in, pairs_bad, pairs_bad_id, pairs_too_many, pairs_bad_index, pairs_fine, pairs_put, takes_of, behind_front}
 use Rattle.mig_libxl.proofs.read.Seen.take_pairs.Goals as goal
 
 pub returns-in-Some-clause-read : goal.returns-in-Some-clause-read
 returns-in-Some-clause-read g c =
-    let same : c.deref-2.result.now ≡ c.in_ok-body.body.items = search rules in
-    let alike : c.deref-3.result.now ≡ c.in_ok-body.body.items = search rules in
-    let again : c.deref-4.result.now ≡ c.in_ok-body.body.items = search rules in
+    let read = are_read c.in_ok-body.body.items c.deref-2.result.now c.deref-3.result.now c.deref-4.result.now _ c.u32_le-id.result c.u32_le-index.result (search rules) (search rules) (search rules) c.u32_le-id.ensures c.u32_le-index.ensures refl in
     let e = c.args.self.now.emulators in
-    body_refused _ _ c.args.len (fault_of_pairs e) (λ b. Pairs (key_in 258 b) (pairs_in (drop 8 b))) c.in_ok-body.body _ _ _ c.in_ok-body.ensures.read
-    (λ bytes is.
-    let read : IsRead bytes _ c.u32_le-id.result c.u32_le-index.result = record { slice_is = behind_front c.deref-4.result.now bytes _ (again ∙ sym is) refl; id_is = c.u32_le-id.ensures ∙ ap (λ l. le32 l 0) (same ∙ sym is); index_is = c.u32_le-index.ensures ∙ ap (λ l. le32 l 4) (alike ∙ sym is) } in
-    pairs_bad e bytes _ c.u32_le-id.result c.u32_le-index.result read c.in-Some.cause (sym c.pairs_fault.ensures.value ∙ c.in-Some.is))
+    said_refused Truncated _ _ c.args.len _ refl (λ b. Pairs (emulator_key 258 b) (pairs_in (drop 8 b))) c.in_ok-body.body (fault_of_pairs e) _ _ _ c.in_ok-body.ensures.read
+    (λ bytes is. pairs_bad e bytes _ _ _ (read_in bytes read is) c.in-Some.cause (sym c.pairs_fault.ensures.value ∙ c.in-Some.is))
 
 pub returns-then-id-ge-EMULATORS-clause-read : goal.returns-then-id-ge-EMULATORS-clause-read
 returns-then-id-ge-EMULATORS-clause-read g c =
-    let same : c.deref-2.result.now ≡ c.in_ok-body.body.items = search rules in
-    let alike : c.deref-3.result.now ≡ c.in_ok-body.body.items = search rules in
-    let again : c.deref-4.result.now ≡ c.in_ok-body.body.items = search rules in
+    let read = are_read c.in_ok-body.body.items c.deref-2.result.now c.deref-3.result.now c.deref-4.result.now _ c.u32_le-id.result c.u32_le-index.result (search rules) (search rules) (search rules) c.u32_le-id.ensures c.u32_le-index.ensures refl in
     let e = c.args.self.now.emulators in
-    body_refused _ _ c.args.len (fault_of_pairs e) (λ b. Pairs (key_in 258 b) (pairs_in (drop 8 b))) c.in_ok-body.body _ _ _ c.in_ok-body.ensures.read
-    (λ bytes is.
-    let read : IsRead bytes _ c.u32_le-id.result c.u32_le-index.result = record { slice_is = behind_front c.deref-4.result.now bytes _ (again ∙ sym is) refl; id_is = c.u32_le-id.ensures ∙ ap (λ l. le32 l 0) (same ∙ sym is); index_is = c.u32_le-index.ensures ∙ ap (λ l. le32 l 4) (alike ∙ sym is) } in
-    pairs_bad_id e bytes _ c.u32_le-id.result c.u32_le-index.result read _ (sym c.pairs_fault.ensures.value ∙ c.in_default.is) c.from.ensures c.if-id-ge-EMULATORS.true)
+    said_refused Truncated _ _ c.args.len _ refl (λ b. Pairs (emulator_key 258 b) (pairs_in (drop 8 b))) c.in_ok-body.body (fault_of_pairs e) _ _ _ c.in_ok-body.ensures.read
+    (λ bytes is. pairs_bad_id e bytes _ _ _ (read_in bytes read is) _ (sym c.pairs_fault.ensures.value ∙ c.in_default.is) c.from.ensures c.if-id-ge-EMULATORS.true)
 
 pub add_pairs-requires-clause-small : goal.add_pairs-requires-clause-small
 add_pairs-requires-clause-small g c =
@@ -37,37 +26,26 @@ add_pairs-requires-clause-small g c =
 
 pub returns-in-Err-TooMany-clause-read : goal.returns-in-Err-TooMany-clause-read
 returns-in-Err-TooMany-clause-read g c =
-    let same : c.deref-2.result.now ≡ c.in_ok-body.body.items = search rules in
-    let alike : c.deref-3.result.now ≡ c.in_ok-body.body.items = search rules in
-    let again : c.deref-4.result.now ≡ c.in_ok-body.body.items = search rules in
+    let read = are_read c.in_ok-body.body.items c.deref-2.result.now c.deref-3.result.now c.deref-4.result.now _ c.u32_le-id.result c.u32_le-index.result (search rules) (search rules) (search rules) c.u32_le-id.ensures c.u32_le-index.ensures refl in
     let e = c.args.self.now.emulators in
-    body_refused _ _ c.args.len (fault_of_pairs e) (λ b. Pairs (key_in 258 b) (pairs_in (drop 8 b))) c.in_ok-body.body _ _ _ c.in_ok-body.ensures.read
-    (λ bytes is.
-    let read : IsRead bytes _ c.u32_le-id.result c.u32_le-index.result = record { slice_is = behind_front c.deref-4.result.now bytes _ (again ∙ sym is) refl; id_is = c.u32_le-id.ensures ∙ ap (λ l. le32 l 0) (same ∙ sym is); index_is = c.u32_le-index.ensures ∙ ap (λ l. le32 l 4) (alike ∙ sym is) } in
-    pairs_too_many e bytes _ c.u32_le-id.result c.u32_le-index.result read (sym c.pairs_fault.ensures.value ∙ c.in_default.is) c.if-id-ge-EMULATORS.false (search rules))
+    said_refused Truncated _ _ c.args.len _ refl (λ b. Pairs (emulator_key 258 b) (pairs_in (drop 8 b))) c.in_ok-body.body (fault_of_pairs e) _ _ _ c.in_ok-body.ensures.read
+    (λ bytes is. pairs_too_many e bytes _ _ _ (read_in bytes read is) (sym c.pairs_fault.ensures.value ∙ c.in_default.is) c.if-id-ge-EMULATORS.false (search rules))
 
 pub returns-then-index-ge-INDICES-clause-read : goal.returns-then-index-ge-INDICES-clause-read
 returns-then-index-ge-INDICES-clause-read g c =
-    let same : c.deref-2.result.now ≡ c.in_ok-body.body.items = search rules in
-    let alike : c.deref-3.result.now ≡ c.in_ok-body.body.items = search rules in
-    let again : c.deref-4.result.now ≡ c.in_ok-body.body.items = search rules in
+    let read = are_read c.in_ok-body.body.items c.deref-2.result.now c.deref-3.result.now c.deref-4.result.now _ c.u32_le-id.result c.u32_le-index.result (search rules) (search rules) (search rules) c.u32_le-id.ensures c.u32_le-index.ensures refl in
     let e = c.args.self.now.emulators in
-    body_refused _ _ c.args.len (fault_of_pairs e) (λ b. Pairs (key_in 258 b) (pairs_in (drop 8 b))) c.in_ok-body.body _ _ _ c.in_ok-body.ensures.read
-    (λ bytes is.
-    let read : IsRead bytes _ c.u32_le-id.result c.u32_le-index.result = record { slice_is = behind_front c.deref-4.result.now bytes _ (again ∙ sym is) refl; id_is = c.u32_le-id.ensures ∙ ap (λ l. le32 l 0) (same ∙ sym is); index_is = c.u32_le-index.ensures ∙ ap (λ l. le32 l 4) (alike ∙ sym is) } in
-    pairs_bad_index e bytes _ c.u32_le-id.result c.u32_le-index.result read _ (sym c.pairs_fault.ensures.value ∙ c.in_default.is) c.if-id-ge-EMULATORS.false c.in-Ok.ensures.fits c.from-then-index-ge-INDICES.ensures c.if-index-ge-INDICES.true)
+    said_refused Truncated _ _ c.args.len _ refl (λ b. Pairs (emulator_key 258 b) (pairs_in (drop 8 b))) c.in_ok-body.body (fault_of_pairs e) _ _ _ c.in_ok-body.ensures.read
+    (λ bytes is. pairs_bad_index e bytes _ _ _ (read_in bytes read is) _ (sym c.pairs_fault.ensures.value ∙ c.in_default.is) c.if-id-ge-EMULATORS.false c.in-Ok.ensures.fits c.from-then-index-ge-INDICES.ensures c.if-index-ge-INDICES.true)
 
 pub returns-clause-read : goal.returns-clause-read
 returns-clause-read g c =
-    let same : c.deref-2.result.now ≡ c.in_ok-body.body.items = search rules in
-    let alike : c.deref-3.result.now ≡ c.in_ok-body.body.items = search rules in
-    let again : c.deref-4.result.now ≡ c.in_ok-body.body.items = search rules in
+    let read = are_read c.in_ok-body.body.items c.deref-2.result.now c.deref-3.result.now c.deref-4.result.now _ c.u32_le-id.result c.u32_le-index.result (search rules) (search rules) (search rules) c.u32_le-id.ensures c.u32_le-index.ensures refl in
     let e = c.args.self.now.emulators in
-    body_said _ _ c.args.len (fault_of_pairs e) (λ b. Pairs (key_in 258 b) (pairs_in (drop 8 b))) c.in_ok-body.body _ _ tt c.in_ok-body.ensures.read
-    (λ bytes is.
-    let read : IsRead bytes _ c.u32_le-id.result c.u32_le-index.result = record { slice_is = behind_front c.deref-4.result.now bytes _ (again ∙ sym is) refl; id_is = c.u32_le-id.ensures ∙ ap (λ l. le32 l 0) (same ∙ sym is); index_is = c.u32_le-index.ensures ∙ ap (λ l. le32 l 4) (alike ∙ sym is) } in (
-      pairs_fine e bytes _ c.u32_le-id.result c.u32_le-index.result read (sym c.pairs_fault.ensures.value ∙ c.in_default.is) c.if-id-ge-EMULATORS.false c.in-Ok.ensures.fits c.if-index-ge-INDICES.false,
-      takes_of c.args.self.now _ 2 (Pairs (key_in 258 bytes) (pairs_in (drop 8 bytes))) refl refl (c.in-Ok.ensures.ok ∙ pairs_put e bytes _ c.u32_le-id.result c.u32_le-index.result read) refl refl refl,
+    said_read Truncated _ _ c.args.len _ refl (λ b. Pairs (emulator_key 258 b) (pairs_in (drop 8 b))) c.in_ok-body.body (fault_of_pairs e) _ _ tt c.in_ok-body.ensures.read
+    (λ bytes is. (
+      pairs_fine e bytes _ _ _ (read_in bytes read is) (sym c.pairs_fault.ensures.value ∙ c.in_default.is) c.if-id-ge-EMULATORS.false c.in-Ok.ensures.fits c.if-index-ge-INDICES.false,
+      takes_of c.args.self.now _ 2 (Pairs (emulator_key 258 bytes) (pairs_in (drop 8 bytes))) refl refl (c.in-Ok.ensures.ok ∙ pairs_put e bytes _ _ _ (read_in bytes read is)) refl refl refl,
     ))
 
 pub returns-clause-begun : goal.returns-clause-begun
