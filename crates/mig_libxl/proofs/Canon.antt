@@ -1,11 +1,10 @@
 -- The image in a canonical stream: it says the guest without the parts of its emulators.
-use Rattle.mig_libxl.proofs.Common.{◌≡◌, ℕ, Bool, true, false, cond, not, List, [], ◌∷◌, ◌++◌, map, Option, Some, None, refl, sym, ap, subst, ◌∙◌, ◌↔◌, ◌≤◌, length, is_none, if◌then◌else◌, flat_map, list_any, range_with_len, eq_by_cmp, find, Kind, Pv, Hvm, IsFormed, HasNoEmulators, is_emulator_code, is_policy, GuestOf, part_cmp, row_of, code_number, p2m_key, Part, PartMap, parts_of, PartCode, VcpuBasic, VcpuExtended, VcpuXsave, Tsc, VcpuMsrs, EmulatorPairs, PartKey, all_found, tied, part_total, part_exact, IsWhole, bodies_of, frame_bodies, frames_in, batches, headers, info_records, key_of, last_records, p2m_record, p2m_records, part_record, records_of, records_of_vcpu, static_bodies, text_of, vcpu_record, vcpus_below, has_emulators, bare_guest, IsPlain, arith}
+use Rattle.mig_libxl.proofs.Common.{and_parts, list_all, records_in_order, static_codes, last_codes, pv_last_codes, vcpu_codes, ◌≡◌, ℕ, Bool, true, false, cond, not, List, [], ◌∷◌, ◌++◌, map, Option, Some, None, refl, sym, ap, subst, ◌∙◌, ◌↔◌, ◌≤◌, length, is_none, if◌then◌else◌, flat_map, list_any, range_with_len, eq_by_cmp, find, Kind, Pv, Hvm, IsFormed, HasNoEmulators, is_emulator_code, is_policy, GuestOf, part_cmp, row_of, code_number, p2m_key, Part, PartMap, parts_of, PartCode, EmulatorPairs, PartKey, all_found, tied, part_total, part_exact, IsWhole, bodies_of, frame_bodies, frames_in, batches, headers, info_records, key_of, last_records, p2m_record, p2m_records, part_record, records_of, records_of_vcpu, static_bodies, text_of, vcpu_record, vcpus_below, has_emulators, bare_guest, IsPlain, arith}
 use Rattle.std.specs.FinMap as maps
-use Rattle.std.proofs.lemmas.Bool.{or_parts}
+use Rattle.std.proofs.lemmas.Bool.{or_parts, not-true}
 use Rattle.std.proofs.lemmas.List.Folds.{list_any_none}
 use Rattle.mig_headers.specs.declared.fault.Cause.TheVariants.{Missing}
 use Rattle.mig_guest.specs.PartKeys.{context_key}
-use Rattle.mig_guest.specs.declared.part_code.PartCode.TheVariants.{SharedInfo, HvmContext, HvmParam, CpuidLeaf, Msr}
 use Rattle.mig_guest.proofs.Counts.{same_parts}
 use Rattle.mig_canon.proofs.Common.{bodies_by_shape, shape_of}
 use Rattle.mig_pvtables.specs.Blank.{blank, blank_of, IsOfBytes}
@@ -91,27 +90,33 @@ module _ (g : GuestOf) where
   vcpu_same : (id : ℕ) (code : PartCode) → is_emulator_code (code_number code) ≡ false → vcpu_record bare id code ≡ vcpu_record g id code
   vcpu_same id code plain = ap (part_record code (key_of code id)) (get_same (key_of code id) plain)
 
-  vcpus_same : (id : ℕ) → records_of_vcpu bare id ≡ records_of_vcpu g id
-  vcpus_same id i = vcpu_same id VcpuBasic refl i ++ (vcpu_same id VcpuExtended refl i ++ (vcpu_same id VcpuXsave refl i ++ (vcpu_same id VcpuMsrs refl i ++ [])))
+  -- of the parts of these codes, of which no emulator has one
+  vcpus_same : (id : ℕ) (codes : List PartCode) → list_all (λ code. not (is_emulator_code (code_number code))) codes ≡ true → flat_map (vcpu_record bare id) codes ≡ flat_map (vcpu_record g id) codes
+  vcpus_same id [] plain = refl
+  vcpus_same id (code ∷ codes) plain = let (first, others) = and_parts _ _ plain in (λ i. vcpu_same id code (not-true _ first) i ++ vcpus_same id codes others i)
+
+  codes_same : (codes : List PartCode) → list_all (λ code. not (is_emulator_code (code_number code))) codes ≡ true → records_in_order codes bare ≡ records_in_order codes g
+  codes_same [] plain = refl
+  codes_same (code ∷ codes) plain = let (first, others) = and_parts _ _ plain in (λ i. records_same code (not-true _ first) i ++ codes_same codes others i)
 
   below_same : (ids : List ℕ) → flat_map (records_of_vcpu bare) ids ≡ flat_map (records_of_vcpu g) ids
   below_same [] = refl
-  below_same (id ∷ ids) = (λ i. vcpus_same id i ++ below_same ids i)
+  below_same (id ∷ ids) = (λ i. vcpus_same id vcpu_codes refl i ++ below_same ids i)
 
   all_same : (n : ℕ) → 4096 ≡ n → all_vcpus bare ≡ all_vcpus g
   unfolding all_vcpus
   all_same n is = ap (vcpus_below bare) is ∙ below_same (range_with_len 0 n) ∙ sym (ap (vcpus_below g) is)
 
   static_same : static_bodies bare ≡ static_bodies g
-  static_same i = (records_same CpuidLeaf refl i ++ (records_same Msr refl i ++ [])) ++ (0x10, []) ∷ []
+  static_same i = codes_same static_codes refl i ++ (0x10, []) ∷ []
 
   p2m_same : (kind : Kind) → p2m_records kind bare ≡ p2m_records kind g
   p2m_same Pv = ap (p2m_record g.top) (get_same p2m_key refl)
   p2m_same Hvm = refl
 
   last_same : (kind : Kind) → last_records kind bare ≡ last_records kind g
-  last_same Pv i = (records_same Tsc refl i ++ (records_same SharedInfo refl i ++ [])) ++ all_same 4096 refl i
-  last_same Hvm i = records_same Tsc refl i ++ (records_same HvmParam refl i ++ (records_same HvmContext refl i ++ []))
+  last_same Pv i = codes_same pv_last_codes refl i ++ all_same 4096 refl i
+  last_same Hvm i = codes_same last_codes refl i
 
   bodies_same : (kind : Kind) → bodies_of kind bare ≡ bodies_of kind g
   bodies_same kind i = info_records kind ++ (static_same i ++ (p2m_same kind i ++ (frame_bodies (frames_in g) (batches (frames_in g)) ++ (last_same kind i ++ (0, []) ∷ []))))
