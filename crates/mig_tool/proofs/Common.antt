@@ -11,9 +11,10 @@ pub use Rattle.mig_libxl.specs.Spelled.{AcceptedStream}
 pub use Rattle.mig_tool.specs.Answers.{AcceptedIn, Comes, ComesOf, Done, DonePart, Form, InputRises, IsLine, LeavesOut, PutsOwnLine, RefusedIn, Says, SaysOf, WriteRose, Written, form_of, restored_text, summary_of}
 pub use Rattle.mig_tool.specs.Answers.Form.{Legacy, Modern}
 pub use Rattle.mig_libxl.specs.Bare.{IsCarried}
-pub use Rattle.mig_tool.specs.Outcome.{line_of, outcome_of, outcome_of_legacy, status_of}
-pub use Rattle.mig_tool.specs.Words.{IsBase, Names}
-pub use Rattle.mig_tool.specs.declared.command.Command.{Command}
-pub use Rattle.mig_tool.specs.declared.command.Command.TheVariants.{Convert, Normalise, Restore, Verify}
-pub use Rattle.mig_tool.specs.declared.outcome.Refusal.{Refusal}
-pub use Rattle.mig_tool.specs.declared.outcome.Refusal.TheVariants as refusals
+pub use Rattle.mig_report.specs.Outcome.{line_of, status_of}
+pub use Rattle.mig_tool.specs.Outcomes.{outcome_of, outcome_of_legacy}
+pub use Rattle.mig_report.specs.Words.{IsBase, Names}
+pub use Rattle.mig_report.specs.declared.command.Command.{Command}
+pub use Rattle.mig_report.specs.declared.command.Command.TheVariants.{Convert, Normalise, Restore, Verify}
+pub use Rattle.mig_report.specs.declared.outcome.Refusal.{Refusal}
+pub use Rattle.mig_report.specs.declared.outcome.Refusal.TheVariants as refusals

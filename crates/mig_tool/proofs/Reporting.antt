@@ -21,11 +21,11 @@ use Rattle.mig_pvtables.specs.Blank.{IsOfBytes}
 use Rattle.mig_bytes.specs.Judged.Judged.{Passes}
 use Rattle.mig_restore.specs.Stream.{ImageOf}
 use Rattle.mig_restore.specs.declared.read.Reading.{Reading}
-use Rattle.mig_tool.specs.declared.outcome.Outcome.{Outcome}
-use Rattle.mig_tool.specs.declared.outcome.Outcome.TheVariants as outcomes
-use Rattle.mig_tool.specs.declared.outcome.Refusal.TheVariants as refusals
-use Rattle.mig_tool.specs.declared.status.Status.{Status}
-use Rattle.mig_tool.specs.declared.status.Status.TheVariants as statuses
+use Rattle.mig_report.specs.declared.outcome.Outcome.{Outcome}
+use Rattle.mig_report.specs.declared.outcome.Outcome.TheVariants as outcomes
+use Rattle.mig_report.specs.declared.outcome.Refusal.TheVariants as refusals
+use Rattle.mig_report.specs.declared.status.Status.{Status}
+use Rattle.mig_report.specs.declared.status.Status.TheVariants as statuses
 use Rattle.mig_image.specs.Hosted.{hosted, IsBaseOutside}
 use Rattle.mig_image.proofs.ImageReads.{image_reads}
 use Rattle.mig_pvtables.specs.Whole.{IsWhole}
@@ -33,24 +33,15 @@ use Rattle.mig_pvtables.proofs.HvmGuests.{hvm_complete}
 use Rattle.mig_pvtables.proofs.PvGuests.{pv_complete}
 use Rattle.mig_image.proofs.HostedGuests.{whole_valid, whole_sound, whole_seen}
 use Rattle.mig_bytes.specs.Bytes.{AppendsPart}
-use Rattle.mig_tool.specs.declared.outcome.Summary.{Summary}
+use Rattle.mig_report.specs.declared.outcome.Summary.{Summary}
 use Rattle.mig_restore.specs.declared.answer.StreamAnswer.{StreamAnswer}
 use Rattle.mig_restore.specs.declared.answer.StreamAnswer.TheVariants as answers
 use Rattle.std.specs.FinMap as maps
 use Rattle.mig_tool.specs.Answers.{Normalised, PartWritten}
-use Rattle.mig_tool.specs.Report.{ok_line}
-use Rattle.mig_tool.specs.Report.{Reports}
+use Rattle.mig_report.specs.Report.{ok_line}
+use Rattle.mig_report.specs.Report.{Reports}
 
 -- ---- the line
-
-pub reports : (line : List ℕ) (old new : Option (List ℕ)) (before now : ℕ) (r : Result (Unit {0}) WriteFailed) → Puts line old new r → HasCause before now r → Reports line old new before now
-reports line old new before now (Ok u) put cause = inl (cause.quiet, put)
-reports line old new before now (Err e) put cause = inr (cause.later, cause.failed, put)
-
--- a write of nothing doesn't fail
-pub nothing_fails : (line : List ℕ) (old new : Option (List ℕ)) (before now : ℕ) → Reports line old new before now → line ≡ [] → now ≡ before
-nothing_fails line old new before now (inl whole) none = whole.0
-nothing_fails line old new before now (inr (later, rose, part)) none = absurd (omega (arith, part.1, ap length none))
 
 -- the line of an outcome is that of its status
 line_is : (command : Command) (told left : Option (List ℕ)) (w : Written) (outcome : Outcome) → ComesOf command told left w outcome → IsLine (form_of command) told (status_of outcome) (line_of outcome)

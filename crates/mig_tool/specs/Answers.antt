@@ -18,16 +18,16 @@ use Rattle.mig_libxl.specs.Spelled.{AcceptedStream}
 use Rattle.mig_libxl.specs.Stream.{IsStreamRefused}
 use Rattle.mig_legacy.specs.Spelled.{AcceptedLegacy}
 use Rattle.mig_legacy.specs.Stream.{IsLegacyRefused}
-use Rattle.mig_tool.specs.declared.command.Command.{Command}
-use Rattle.mig_tool.specs.declared.command.Command.TheVariants.{Normalise, Restore, Verify, Convert}
-use Rattle.mig_tool.specs.declared.outcome.Outcome.{Outcome}
-use Rattle.mig_tool.specs.declared.outcome.Outcome.TheVariants as outcomes
-use Rattle.mig_tool.specs.declared.outcome.Refusal.{Refusal}
-use Rattle.mig_tool.specs.declared.outcome.Refusal.TheVariants as refusals
-use Rattle.mig_tool.specs.declared.outcome.Summary.{Summary}
-use Rattle.mig_tool.specs.declared.status.Status.{Status}
-use Rattle.mig_tool.specs.declared.status.Status.TheVariants as statuses
-use Rattle.mig_tool.specs.Report.{refusal_line, usage_line, read_fault_line, write_fault_line, memory_line, ok_line}
+use Rattle.mig_report.specs.declared.command.Command.{Command}
+use Rattle.mig_report.specs.declared.command.Command.TheVariants.{Normalise, Restore, Verify, Convert}
+use Rattle.mig_report.specs.declared.outcome.Outcome.{Outcome}
+use Rattle.mig_report.specs.declared.outcome.Outcome.TheVariants as outcomes
+use Rattle.mig_report.specs.declared.outcome.Refusal.{Refusal}
+use Rattle.mig_report.specs.declared.outcome.Refusal.TheVariants as refusals
+use Rattle.mig_report.specs.declared.outcome.Summary.{Summary}
+use Rattle.mig_report.specs.declared.status.Status.{Status}
+use Rattle.mig_report.specs.declared.status.Status.TheVariants as statuses
+use Rattle.mig_report.specs.Report.{refusal_line, usage_line, read_fault_line, write_fault_line, memory_line, ok_line}
 
 -- ---- the forms of input
 

@@ -1,4 +1,5 @@
-pub mod Words
-pub mod Report
-pub mod Outcome
+pub mod Outcomes
 pub mod Answers
+pub use Rattle.mig_report.specs.Words
+pub use Rattle.mig_report.specs.Report
+pub use Rattle.mig_report.specs.Outcome

@@ -4,18 +4,14 @@
 //! `run` is the program but for its standard streams; its clauses say what is answered, taken, written and reported.
 #![tactic(auto)]
 
-mod command;
 mod commands;
-mod outcome;
 mod run;
-mod status;
 #[cfg(test)]
 mod tests;
 
-use crate::outcome::{Outcome, put_line};
 use crate::run::run;
-use crate::status::Status;
 use mig_bytes::{InSource, OutSink};
+use mig_report::{Outcome, Status, put_line};
 use std::alloc::Global;
 use std::io::{BufReader, ErrorKind};
 use std::process::ExitCode;

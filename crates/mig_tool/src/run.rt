@@ -2,17 +2,15 @@ ghost use Rattle.std.specs.Prelude.{◌≡◌, ◌≢◌, ◌≤◌, ◌<◌, �
 ghost use Rattle.mig_bytes.specs.Faults.{Rose};
 ghost use Rattle.mig_guest.specs.Guests.{GuestOf};
 ghost use Rattle.mig_tool.specs.Answers.{form_of, AcceptedIn, RefusedIn, Written, SaysOf, WriteRose, InputRises, IsLine, HasOwnLine, PutsOwnLine, LeavesOut};
-ghost use Rattle.mig_tool.specs.Report.{Reports, usage_line};
-ghost use Rattle.mig_tool.specs.Words.{texts_of, Names};
-ghost use Rattle.mig_tool.specs.declared.command.Command.{Command};
-ghost use Rattle.mig_tool.specs.declared.outcome.Refusal.{Refusal};
-ghost use Rattle.mig_tool.specs.declared.status.Status.TheVariants as statuses;
+ghost use Rattle.mig_report.specs.Report.{Reports, usage_line};
+ghost use Rattle.mig_report.specs.Words.{texts_of, Names};
+ghost use Rattle.mig_report.specs.declared.command.Command.{Command};
+ghost use Rattle.mig_report.specs.declared.outcome.Refusal.{Refusal};
+ghost use Rattle.mig_report.specs.declared.status.Status.TheVariants as statuses;
 
-use crate::command::command_in;
 use crate::commands::carry_out;
-use crate::outcome::{Outcome, finish};
-use crate::status::Status;
 use mig_bytes::{Sink, Source};
+use mig_report::{Outcome, Status, command_in, finish};
 use std::alloc::Global;
 
 /// Does what the words say: reads `input`, writes on `out`, and puts the line of the status on `report`.

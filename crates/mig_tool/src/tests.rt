@@ -1,6 +1,6 @@
 use crate::run::run;
-use crate::status::Status;
 use mig_bytes::{MemSink, MemSource};
+use mig_report::Status;
 use std::alloc::Global;
 use std::test::Fail;
 

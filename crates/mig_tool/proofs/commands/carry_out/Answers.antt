@@ -1,5 +1,5 @@
 use Rattle.mig_tool.proofs.Common.{Written}
-use Rattle.mig_tool.specs.declared.command.Command.TheVariants as commands
+use Rattle.mig_report.specs.declared.command.Command.TheVariants as commands
 use Rattle.mig_tool.proofs.Reporting.{said_of, line_of_this}
 use Rattle.mig_tool.proofs.commands.carry_out.Goals as goal
 

@@ -1,6 +1,6 @@
 use Rattle.mig_tool.proofs.Common.{subst, sym, Written, SaysOf, WriteRose, PutsOwnLine, LeavesOut, AcceptedIn, RefusedIn, form_of, Command}
 use Rattle.mig_tool.specs.Answers.{HasOwnLine, IsLine}
-use Rattle.mig_tool.proofs.Naming.{same_command}
+use Rattle.mig_report.proofs.Naming.{same_command}
 use Rattle.mig_tool.proofs.Reporting.{accepted_done, refused_refused, input_rose}
 use Rattle.mig_tool.proofs.run.run.Goals as goal
 

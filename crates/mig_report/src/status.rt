@@ -18,7 +18,7 @@ pub enum Status {
 }
 
 impl Status {
-    ghost use Rattle.mig_tool.specs.Outcome.{exit_code};
+    ghost use Rattle.mig_report.specs.Outcome.{exit_code};
 
     /// The exit code of the program: 0 to 5 in the order of the variants.
     pub fn code(self) -> u8

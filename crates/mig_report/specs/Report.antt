@@ -7,9 +7,9 @@ use Rattle.mig_headers.specs.declared.kind.Kind.{Kind}
 use Rattle.mig_headers.specs.declared.kind.Kind.TheVariants.{Pv, Hvm}
 use Rattle.mig_headers.specs.LegacyTexts.{text_of_legacy_place, text_of_legacy_cause}
 use Rattle.mig_headers.specs.Texts.{text_of_place, text_of_cause}
-use Rattle.mig_tool.specs.declared.outcome.Refusal.{Refusal}
-use Rattle.mig_tool.specs.declared.outcome.Refusal.TheVariants.{Stream, Legacy}
-use Rattle.mig_tool.specs.declared.outcome.Summary.{Summary}
+use Rattle.mig_report.specs.declared.outcome.Refusal.{Refusal}
+use Rattle.mig_report.specs.declared.outcome.Refusal.TheVariants.{Stream, Legacy}
+use Rattle.mig_report.specs.declared.outcome.Summary.{Summary}
 
 -- `PLACE: NUMBER NAME`, and the cause's arguments
 abbrev pub refusal_text : Refusal → List ℕ

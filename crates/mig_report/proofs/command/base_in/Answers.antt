@@ -1,6 +1,6 @@
-use Rattle.mig_tool.proofs.Common.{◌≡◌, ℕ, Result, Ok, Err, sym, ap, subst, ◌∙◌, arith, rules, decimal, IsBase}
+use Rattle.mig_report.proofs.Common.{◌≡◌, ℕ, Result, Ok, Err, sym, ap, subst, ◌∙◌, arith, rules, decimal, IsBase}
 use Rattle.std.proofs.lemmas.Fmt.{parse-decimal}
-use Rattle.mig_tool.proofs.command.base_in.Goals as goal
+use Rattle.mig_report.proofs.command.base_in.Goals as goal
 
 apart : {E : Type 0} (e : E) (n : ℕ) → ◌≡◌ {A = Result ℕ E} (Err e) (Ok n) → ⊥
 apart e n h = cc

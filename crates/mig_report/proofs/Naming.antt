@@ -1,6 +1,6 @@
 -- Words name one command at most.
 use mathlib.Core.Logic.{inl, inr}
-use Rattle.mig_tool.proofs.Common.{◌≡◌, ℕ, ◌<◌, ◌^◌, List, [], length, get_or, sym, ap, ◌∙◌, refl, arith, IsBase, Names, Command, Convert, Normalise, Restore, Verify}
+use Rattle.mig_report.proofs.Common.{◌≡◌, ℕ, ◌<◌, ◌^◌, List, [], length, get_or, sym, ap, ◌∙◌, refl, arith, IsBase, Names, Command, Convert, Normalise, Restore, Verify}
 use Rattle.std.proofs.lemmas.Fmt.{decimal_injective}
 
 -- the first letter of the first word

@@ -1,5 +1,5 @@
-use Rattle.mig_tool.proofs.Common.{puts_then, puts_stop}
-use Rattle.mig_tool.proofs.outcome.put_stream_refusal.Goals as goal
+use Rattle.mig_report.proofs.Common.{puts_then, puts_stop}
+use Rattle.mig_report.proofs.outcome.put_stream_refusal.Goals as goal
 
 pub returns-in_err-put_all-clause-bytes : goal.returns-in_err-put_all-clause-bytes
 returns-in_err-put_all-clause-bytes g c =

@@ -1,5 +1,5 @@
-use Rattle.mig_tool.proofs.Common.{ap, puts_same, line_of}
-use Rattle.mig_tool.proofs.outcome.put_line.Goals as goal
+use Rattle.mig_report.proofs.Common.{ap, puts_same, line_of}
+use Rattle.mig_report.proofs.outcome.put_line.Goals as goal
 
 pub returns-in-Usage-clause-bytes : goal.returns-in-Usage-clause-bytes
 returns-in-Usage-clause-bytes g c = puts_same _ _ _ _ c.put_all-in-Usage.result (ap line_of c.in-Usage.is) c.put_all-in-Usage.ensures.bytes

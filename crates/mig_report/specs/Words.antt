@@ -1,8 +1,8 @@
 -- The words of a command line, and the commands that they name.
 use Rattle.std.specs.Prelude.{◌≡◌, ◌⊎◌, ◌<◌, ◌≤◌, ℕ, List, [], ◌∷◌, map, codes, decimal, string_bytes}
 use Rattle.std.specs.declared.string.String.{String}
-use Rattle.mig_tool.specs.declared.command.Command.{Command}
-use Rattle.mig_tool.specs.declared.command.Command.TheVariants.{Normalise, Restore, Verify, Convert}
+use Rattle.mig_report.specs.declared.command.Command.{Command}
+use Rattle.mig_report.specs.declared.command.Command.TheVariants.{Normalise, Restore, Verify, Convert}
 
 abbrev pub texts_of : {Z : Type 0} → List (String Z) → List (List ℕ)
 texts_of words = map string_bytes words

@@ -1,6 +1,6 @@
 ghost use Rattle.std.specs.Prelude.{◌≡◌, ◌↔◌, ◌∷◌, [], ℕ, IfSome, IfNone, IsTrue, decimal};
-ghost use Rattle.mig_tool.specs.Words.{texts_of, IsBase, Names};
-ghost use Rattle.mig_tool.specs.declared.command.Command.{Command};
+ghost use Rattle.mig_report.specs.Words.{texts_of, IsBase, Names};
+ghost use Rattle.mig_report.specs.declared.command.Command.{Command};
 
 use itoa::Buffer;
 
@@ -12,7 +12,7 @@ const MAX_BASE: u64 = (1 << 40) - (1 << 24);
 
 /// What the program is to do.
 #[derive(Clone, Copy, Debug, PartialEq, Eq)]
-pub(crate) enum Command {
+pub enum Command {
     /// Write the stream in its canonical form.
     Normalise,
     /// Write the image of the restored guest, machine frames counted up from this base.
@@ -88,7 +88,7 @@ fn with_base(word: &str, base: &str) -> Option<Command>
 }
 
 /// The command that the words name.
-pub(crate) fn command_in(words: &[String]) -> Option<Command>
+pub fn command_in(words: &[String]) -> Option<Command>
     ensures some { IfSome result (Names (texts_of words.now)) }
     ensures none { IfNone result ((command : Command) → Names (texts_of words.now) command → ⊥) }
 {

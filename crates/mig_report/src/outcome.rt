@@ -1,10 +1,10 @@
 ghost use Rattle.std.specs.Prelude.{◌≡◌, ◌≤◌, ◌++◌, decimal};
 ghost use Rattle.mig_bytes.specs.Bytes.{Puts};
 ghost use Rattle.mig_bytes.specs.Faults.{HasCause};
-ghost use Rattle.mig_tool.specs.Outcome.{status_of, line_of};
-ghost use Rattle.mig_tool.specs.Report.{Reports, refusal_line, refusal_text, kind_name, ok_line};
-ghost use Rattle.mig_tool.specs.declared.outcome.Outcome.TheVariants as outcomes;
-ghost use Rattle.mig_tool.specs.declared.outcome.Refusal.TheVariants as refusals;
+ghost use Rattle.mig_report.specs.Outcome.{status_of, line_of};
+ghost use Rattle.mig_report.specs.Report.{Reports, refusal_line, refusal_text, kind_name, ok_line};
+ghost use Rattle.mig_report.specs.declared.outcome.Outcome.TheVariants as outcomes;
+ghost use Rattle.mig_report.specs.declared.outcome.Refusal.TheVariants as refusals;
 
 use crate::status::Status;
 use mig_bytes::{Sink, WriteFailed, put_all};
@@ -15,14 +15,14 @@ use mig_headers::{
 
 /// The place and the cause of a refusal: of a stream, or of a legacy stream.
 #[derive(Clone, Copy, Debug, PartialEq, Eq)]
-pub(crate) enum Refusal {
+pub enum Refusal {
     Stream(Place, Cause),
     Legacy(LegacyPlace, LegacyCause),
 }
 
 /// What a command came to: its status, and what its line says.
 #[derive(Clone, Copy, Debug, PartialEq, Eq)]
-pub(crate) enum Outcome {
+pub enum Outcome {
     Done,
     Refused(Refusal),
     Usage,
@@ -33,13 +33,13 @@ pub(crate) enum Outcome {
 
 /// What is said of an accepted stream.
 #[derive(Clone, Copy, Debug, PartialEq, Eq)]
-pub(crate) struct Summary {
-    pub(crate) version: u64,
-    pub(crate) kind: Kind,
+pub struct Summary {
+    pub version: u64,
+    pub kind: Kind,
     /// The frames of its guest.
-    pub(crate) frames: u64,
+    pub frames: u64,
     /// Its records, with END and the optional ones.
-    pub(crate) records: u64,
+    pub records: u64,
 }
 
 /// The status of an outcome.
@@ -106,7 +106,7 @@ fn put_refusal<R: Sink>(report: &mut R, refusal: Refusal) -> Result<(), WriteFai
 }
 
 /// Puts the line of an outcome on the report. It takes no memory.
-pub(crate) fn put_line<R: Sink>(report: &mut R, outcome: Outcome) -> Result<(), WriteFailed>
+pub fn put_line<R: Sink>(report: &mut R, outcome: Outcome) -> Result<(), WriteFailed>
     ensures bytes { Puts (line_of outcome) (R.written report.old) (R.written report.new) result }
     ensures cause { HasCause (R.faults report.old) (R.faults report.new) result }
 {
@@ -124,7 +124,7 @@ pub(crate) fn put_line<R: Sink>(report: &mut R, outcome: Outcome) -> Result<(), 
 }
 
 /// Puts the line of an outcome on the report, and answers its status: a report that fails changes none.
-pub(crate) fn finish<R: Sink>(report: &mut R, outcome: Outcome) -> Status
+pub fn finish<R: Sink>(report: &mut R, outcome: Outcome) -> Status
     ensures status { result ≡ status_of outcome }
     ensures line { Reports (line_of outcome) (R.written report.old) (R.written report.new) (R.faults report.old) (R.faults report.new) }
     ensures quiet { outcome ≡ outcomes.Done → R.faults report.new ≡ R.faults report.old }
@@ -155,7 +155,7 @@ fn put_field<R: Sink>(report: &mut R, text: &[u8], number: u64) -> Result<(), Wr
 }
 
 /// Puts what an accepted stream is on the report.
-pub(crate) fn put_ok<R: Sink>(report: &mut R, summary: Summary) -> Result<(), WriteFailed>
+pub fn put_ok<R: Sink>(report: &mut R, summary: Summary) -> Result<(), WriteFailed>
     ensures bytes { Puts (ok_line summary) (R.written report.old) (R.written report.new) result }
     ensures cause { HasCause (R.faults report.old) (R.faults report.new) result }
 {

@@ -1,0 +1,17 @@
+//! What the program is told and what it tells: the words of its command line, its statuses, and the lines of its report.
+//!
+//! Responsible for: which command the words name, which status and which line an outcome has, and putting that line, or
+//! the line of `verify`, on a sink. Left to others: what a command does (mig_tool), and how a place or a cause is printed
+//! (mig_headers).
+//!
+//! What the layers above rely on: a command is found exactly where the words name one, and words name one at most; of a
+//! line exactly its bytes are put, or some first bytes where a write failed.
+#![tactic(auto)]
+
+mod command;
+mod outcome;
+mod status;
+
+pub use command::{Command, command_in};
+pub use outcome::{Outcome, Refusal, Summary, finish, put_line, put_ok};
+pub use status::Status;
