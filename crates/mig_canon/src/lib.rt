@@ -6,7 +6,7 @@
 //!
 //! What the layers above rely on: for a whole guest the bytes that are appended are exactly `canon` of specs/Canon,
 //! and after a failed write a part of them that isn't all; a failure is answered only where the count of the sink rose.
-//! It takes no memory.
+//! It takes no memory. `write_headers` appends the headers alone.
 #![tactic(auto)]
 
 mod frames;
@@ -14,4 +14,4 @@ mod parts;
 mod pv;
 mod writer;
 
-pub use writer::write_canon;
+pub use writer::{write_canon, write_headers};

@@ -19,9 +19,9 @@ const END: u32 = 0;
 /// The type of STATIC_DATA_END.
 const STATIC_DATA_END: u32 = 0x10;
 
-/// Appends the headers.
+/// Appends the headers of a canonical image.
 #[tactic(auto, using(mig_bytes::proofs::Texts::puts_then))]
-fn write_headers<K: Sink>(sink: &mut K, guest: &Guest) -> Result<(), WriteFailed>
+pub fn write_headers<K: Sink>(sink: &mut K, guest: &Guest) -> Result<(), WriteFailed>
     ensures bytes { Puts (headers guest.now.kind) (K.written sink.old) (K.written sink.new) result }
     ensures cause { HasCause (K.faults sink.old) (K.faults sink.new) result }
 {

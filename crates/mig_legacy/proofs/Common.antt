@@ -48,12 +48,11 @@ pub use Rattle.mig_legacy.specs.Toolstack.{Physmap, IsName, ArePhysmaps, IsTools
 pub use Rattle.mig_legacy.specs.declared.chunk.ChunkKind.{ChunkKind}
 pub use Rattle.mig_legacy.specs.declared.chunk.ChunkKind.TheVariants.{End, Batch, VcpuMap, Tsc, LastCheckpoint, Toolstack, Param}
 pub use Rattle.mig_legacy.specs.declared.read.Seen.{Seen}
-pub use Rattle.mig_libxl.proofs.Begun.{store_small, pairs_kept, context_kept}
-pub use Rattle.mig_libxl.proofs.EmulatorGuests.{part_there, IsDone, guest_done}
-unfoldable pub use Rattle.mig_libxl.specs.Emulators.{emulators_of}
-pub use Rattle.mig_libxl.specs.Emulators.{EmulatorsOf, put_libxl_content, no_emulators, with_emulators, store_at, add_pairs, last_context}
-pub use Rattle.mig_libxl.specs.Judging.{most_pairs, spelled_with}
-pub use Rattle.mig_libxl.specs.Seen.{IsPlain, AreEmulators}
+pub use Rattle.mig_emulators.proofs.Formed.{store_small, pairs_kept, context_kept}
+pub use Rattle.mig_emulators.proofs.EmulatorGuests.{part_there, IsDone, guest_done}
+unfoldable pub use Rattle.mig_emulators.specs.Emulators.{emulators_of}
+pub use Rattle.mig_emulators.specs.Emulators.{EmulatorsOf, put_libxl_content, no_emulators, with_emulators, store_at, add_pairs, last_context, most_pairs, spelled_with}
+pub use Rattle.mig_emulators.specs.Formed.{IsPlain, AreEmulators}
 pub use Rattle.mig_pagetypes.specs.FrameWords.{word_pfn, word_has_data, word_type}
 pub use Rattle.mig_pagetypes.specs.LegacyWords.{legacy_type, legacy_pfn, placeholder}
 pub use Rattle.mig_policy.specs.PairFaults.{SpellPairs, pairs_fault}

@@ -19,8 +19,7 @@ use Rattle.mig_pagetypes.specs.Limits.{most_frames}
 use Rattle.mig_records.specs.Words.{words}
 use Rattle.mig_restore.specs.Judging.{entry_at, with_places}
 use Rattle.mig_restore.specs.Mean.{sent}
-use Rattle.mig_libxl.specs.Emulators.{EmulatorsOf, emulators_of}
-use Rattle.mig_libxl.specs.Judging.{most_pairs, spelled_with}
+use Rattle.mig_emulators.specs.Emulators.{EmulatorsOf, emulators_of, most_pairs, spelled_with}
 use Rattle.mig_legacy.specs.declared.chunk.ChunkKind.{ChunkKind}
 use Rattle.mig_legacy.specs.declared.chunk.ChunkKind.TheVariants.{End, Batch, VcpuMap, Tsc, LastCheckpoint, Toolstack, Param}
 use Rattle.mig_legacy.specs.Batches.{fault_of_batch, page_data_words}

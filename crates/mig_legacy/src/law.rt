@@ -10,7 +10,7 @@ ghost use Rattle.mig_guest.specs.Guests.{GuestOf};
 ghost use Rattle.mig_guest.specs.declared.part_key.PartKey.{PartKey};
 ghost use Rattle.mig_policy.specs.PairMaps.{text_of_map};
 ghost use Rattle.mig_restore.specs.Mean.{frame_in, last_bytes, last_entry};
-ghost use Rattle.mig_libxl.specs.Emulators.{last_pair_value as last_pair};
+ghost use Rattle.mig_emulators.specs.Emulators.{last_pair_value as last_pair};
 ghost use Rattle.mig_legacy.specs.Chunks.{NumbersHaveKinds};
 ghost use Rattle.mig_legacy.specs.Judged.{ToolstackIsSpelled};
 ghost use Rattle.mig_legacy.specs.Legacy.{LegacyStream, device_key, mean_legacy, param_key, store_key};

@@ -10,8 +10,8 @@ ghost use Rattle.mig_guest.specs.Frames.{IsFew};
 ghost use Rattle.mig_pagetypes.specs.Limits.{most_frames};
 ghost use Rattle.mig_pvtables.specs.Blank.{blank, IsOfBytes};
 ghost use Rattle.mig_pvtables.specs.Whole.{IsWhole};
-ghost use Rattle.mig_libxl.specs.Emulators.{with_emulators};
-ghost use Rattle.mig_libxl.specs.Seen.{IsPlain, AreEmulators};
+ghost use Rattle.mig_emulators.specs.Emulators.{with_emulators};
+ghost use Rattle.mig_emulators.specs.Formed.{IsPlain, AreEmulators};
 ghost use Rattle.mig_legacy.specs.declared.chunk.ChunkKind.TheVariants as kinds;
 ghost use Rattle.mig_legacy.specs.Judging.{most_chunks, fault_of_kind, fault_of_start, chunk_kind_at, chunk_content_at, chunk_at, start_at, tail_at, device_at};
 ghost use Rattle.mig_legacy.specs.Legacy.{LegacyChunk, device_records, is_end, is_value_of, mean_legacy};
@@ -22,9 +22,9 @@ use crate::body::{take_batch, take_clock, take_toolstack, take_value, take_vcpus
 use crate::chunk::{ChunkKind, chunk_kind};
 use crate::tail::{take_device, take_tail};
 use mig_bytes::{Memory, Source, Stop, take_part, u32_le};
+use mig_emulators::Emulators;
 use mig_guest::Guest;
 use mig_headers::{ImageHeader, Kind, LegacyCause, LegacyPlace, LibxlHeader};
-use mig_libxl::Emulators;
 use std::alloc::Global;
 
 /// The most chunks of a stream.

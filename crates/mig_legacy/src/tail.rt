@@ -5,16 +5,16 @@ ghost use Rattle.mig_headers.specs.Contexts.{scan};
 ghost use Rattle.mig_headers.specs.declared.kind.Kind.TheVariants.{Hvm};
 ghost use Rattle.mig_guest.specs.Frames.{IsFew};
 ghost use Rattle.mig_restore.specs.Mean.{IsBegun};
-ghost use Rattle.mig_libxl.specs.Seen.{IsPlain, AreEmulators};
+ghost use Rattle.mig_emulators.specs.Formed.{IsPlain, AreEmulators};
 ghost use Rattle.mig_legacy.specs.Judging.{tail_of, tail_at, device_at, device_record_at};
 ghost use Rattle.mig_legacy.specs.Seen.{put_tail, put_device};
 
 use crate::body::{MAX_BODY, are_bytes, param_key, take_length};
 use mig_bytes::{Memory, Source, Stop, take_long, take_part};
+use mig_emulators::Emulators;
 use mig_guest::{Guest, PartKey};
 use mig_headers::LegacyCause;
 use mig_hvm::{read_context, scan_context};
-use mig_libxl::Emulators;
 use std::alloc::Global;
 
 /// The HVM parameters that are the frames of I/O requests, of buffered ones and of the store.

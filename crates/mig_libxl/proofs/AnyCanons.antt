@@ -10,20 +10,20 @@ use Rattle.mig_restore.proofs.Meaning.{mean_kind}
 use Rattle.mig_restore.specs.Mean.{mean}
 use Rattle.mig_restore.specs.Spelled.{Accepted as ImageAccepted}
 use Rattle.mig_restore.specs.Stream.{image_of}
-use Rattle.mig_libxl.specs.Bare.{IsCarried}
+use Rattle.mig_libxl.specs.Carried.{IsCarried}
 use Rattle.mig_libxl.specs.Canon.{canon_any, emulators_in_order, parts_of_id}
-use Rattle.mig_libxl.specs.Content.LibxlContent.{Nothing}
-use Rattle.mig_libxl.specs.Emulators.{emulators_of}
+use Rattle.mig_emulators.specs.Content.LibxlContent.{Nothing}
+use Rattle.mig_emulators.specs.Emulators.{emulators_of}
 use Rattle.mig_libxl.specs.Spelled.{AcceptedStream}
 use Rattle.mig_libxl.specs.Spelled.HasLibxlContent.{ends}
 use Rattle.mig_libxl.specs.Spelled.IsLibxlRecord.{image as an_image, body as a_body}
 use Rattle.mig_libxl.proofs.Among.{emulators_more, among_more, ended_more}
 use Rattle.mig_libxl.proofs.Canon.{bare_plain, bare_whole, canon_any_bare, canon_any_wrapped, canon_bare, plain_is, pv_plain}
-use Rattle.mig_libxl.proofs.Canons.{canon_is_accepted as image_is_accepted}
-use Rattle.mig_libxl.proofs.EmulatorGuests.{none_set}
+use Rattle.mig_canon_laws.proofs.Batched.{canon_is_accepted as image_is_accepted}
+use Rattle.mig_emulators.proofs.EmulatorGuests.{none_set}
 use Rattle.mig_libxl.proofs.EmulatorParts.{in_order_differ, in_order_holds}
 use Rattle.mig_libxl.proofs.EmulatorRecords.{record_of_part}
-use Rattle.mig_libxl.proofs.CanonParts.{is_record}
+use Rattle.mig_canon_laws.proofs.CanonParts.{is_record}
 use Rattle.mig_libxl.proofs.EmulatorMaps.{said_of, said_is, guest_again}
 use Rattle.mig_libxl.proofs.EmulatorTexts.{wrapped_is}
 use Rattle.mig_libxl.proofs.Laws.{one_front}

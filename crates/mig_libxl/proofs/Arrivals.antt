@@ -1,5 +1,5 @@
 -- The front of a libxl stream that the reader has behind it.
-use Rattle.mig_libxl.proofs.Common.{ℕ, Bool, List, Option, nat_eq, LibxlRecord, is_libxl_ended, IsLibxlSeen, Seen}
+use Rattle.mig_libxl.proofs.Common.{ℕ, Bool, List, Option, nat_eq, LibxlRecord, is_libxl_ended, IsLibxlSeen, WrapperSeen}
 use Rattle.mig_bytes.proofs.Arrivals as fronts
 use Rattle.mig_libxl.specs.Judging.{libxl_record_at}
 
@@ -7,5 +7,5 @@ abbrev pub is_last : LibxlRecord → Bool
 is_last r = nat_eq r.type 0
 
 -- what the reader knows between two records
-abbrev pub Arrived : Option (List ℕ) → Option (List ℕ) → Seen → Type 0
+abbrev pub Arrived : Option (List ℕ) → Option (List ℕ) → WrapperSeen → Type 0
 Arrived first now seen = fronts.Arrived is_libxl_ended libxl_record_at IsLibxlSeen first now seen

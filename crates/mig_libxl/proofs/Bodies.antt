@@ -10,9 +10,9 @@ use Rattle.mig_headers.proofs.FirstFaults.{both_none, neither_some, no_fault, ro
 use Rattle.mig_headers.specs.RecordTypes.{is_optional}
 use Rattle.mig_headers.specs.declared.fault.Cause.TheVariants.{BadEmulator, TooManyPairs, EmulatorIndex}
 use Rattle.mig_policy.specs.PairMaps.{pairs_in}
-use Rattle.mig_libxl.specs.Content.LibxlContent.{Nothing}
-use Rattle.mig_libxl.specs.Emulators.{emulators_of}
-use Rattle.mig_libxl.specs.Judging.{allows_length, field_rows, fault_of_libxl_fields, most_pairs, spelled_with, fault_of_pairs, fault_of_context, pairs_at, context_at, skipped_at}
+use Rattle.mig_emulators.specs.Content.LibxlContent.{Nothing}
+use Rattle.mig_emulators.specs.Emulators.{emulators_of, most_pairs, spelled_with}
+use Rattle.mig_libxl.specs.Judging.{allows_length, field_rows, fault_of_libxl_fields, fault_of_pairs, fault_of_context, pairs_at, context_at, skipped_at}
 use Rattle.mig_libxl.specs.Spelled.{IsFront}
 use Rattle.mig_libxl.specs.Spelled.HasLibxlContent.{optional, ends, pairs, context}
 

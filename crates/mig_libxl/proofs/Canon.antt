@@ -1,17 +1,16 @@
 -- The image in a canonical stream: it says the guest without the parts of its emulators.
-use Rattle.mig_libxl.proofs.Common.{and_parts, list_all, records_in_order, static_codes, last_codes, pv_last_codes, vcpu_codes, ◌≡◌, ℕ, Bool, true, false, cond, not, List, [], ◌∷◌, ◌++◌, map, Option, Some, None, refl, sym, ap, subst, ◌∙◌, ◌↔◌, ◌≤◌, length, is_none, if◌then◌else◌, flat_map, list_any, range_with_len, eq_by_cmp, find, Kind, Pv, Hvm, IsFormed, HasNoEmulators, is_emulator_code, is_policy, GuestOf, part_cmp, row_of, code_number, p2m_key, Part, PartMap, parts_of, PartCode, EmulatorPairs, PartKey, all_found, tied, part_total, part_exact, IsWhole, bodies_of, frame_bodies, frames_in, batches, headers, info_records, key_of, last_records, p2m_record, p2m_records, part_record, records_of, records_of_vcpu, static_bodies, text_of, vcpu_record, vcpus_below, has_emulators, bare_guest, IsPlain, arith}
+use Rattle.mig_libxl.proofs.Common.{and_parts, list_all, records_in_order, static_codes, last_codes, pv_last_codes, vcpu_codes, ◌≡◌, ℕ, Bool, true, false, cond, not, List, [], ◌∷◌, ◌++◌, map, Option, Some, None, refl, sym, ap, subst, ◌∙◌, ◌↔◌, ◌≤◌, length, flat_map, list_any, range_with_len, eq_by_cmp, find, Kind, Pv, Hvm, IsFormed, HasNoEmulators, is_emulator_code, GuestOf, part_cmp, row_of, code_number, p2m_key, Part, PartMap, parts_of, PartCode, EmulatorPairs, PartKey, all_found, tied, part_total, part_exact, IsWhole, bodies_of, frame_bodies, frames_in, batches, headers, info_records, key_of, last_records, p2m_record, p2m_records, part_record, records_of, records_of_vcpu, static_bodies, text_of, vcpu_record, vcpus_below, has_emulators, bare_guest, IsPlain}
 use Rattle.std.specs.FinMap as maps
 use Rattle.std.proofs.lemmas.Bool.{or_parts, not-true}
 use Rattle.std.proofs.lemmas.List.Folds.{list_any_none}
-use Rattle.mig_headers.specs.declared.fault.Cause.TheVariants.{Missing}
 use Rattle.mig_guest.specs.PartKeys.{context_key}
 use Rattle.mig_guest.proofs.Counts.{same_parts}
 use Rattle.mig_canon.proofs.Common.{bodies_by_shape, shape_of}
 use Rattle.mig_pvtables.specs.Blank.{blank, blank_of, IsOfBytes}
-use Rattle.mig_pvtables.specs.Faults.{fault_of_guest, faults_for, first_cause, too_many}
 use Rattle.mig_canon.specs.Canon.{all_vcpus, canon}
 use Rattle.mig_libxl.specs.Canon.{wrapped_canon, canon_any}
-use Rattle.mig_libxl.proofs.CanonMaps.{nothing}
+use Rattle.mig_canon_laws.proofs.CanonMaps.{nothing}
+use Rattle.mig_emulators.proofs.EmulatorGuests.{plain_policy, hvm_faultless}
 
 -- ---- guests with and without emulators
 
@@ -41,17 +40,6 @@ plain_is parts = (
 )
 
 -- ---- the parts that stay
-
--- no policy is an emulator's
-pub plain_policy : (code : ℕ) → is_policy code ≡ true → is_emulator_code code ≡ false
-plain_policy code is = grind (arith, is)
-
--- with other parts an HVM guest has no fault where it has the same context
-pub hvm_faultless : (g : GuestOf) (parts : PartMap) → g.kind ≡ Hvm → maps.get parts context_key ≡ maps.get g.parts context_key → fault_of_guest g ≡ None → fault_of_guest (record g { parts = parts }) ≡ None
-hvm_faultless g parts hvm same faultless =
-    ap (λ k. first_cause (faults_for k (record g { parts = parts }))) hvm
-    ∙ ap (λ (o : Option (List ℕ)). first_cause ((if is_none o then Some (Missing 9) else None) ∷ too_many g.frames ∷ [])) same
-    ∙ sym (ap (λ k. first_cause (faults_for k g)) hvm) ∙ faultless
 
 module _ (g : GuestOf) where
   abbrev pub bare : GuestOf

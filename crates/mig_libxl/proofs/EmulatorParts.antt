@@ -6,6 +6,8 @@ use Rattle.std.proofs.lemmas.Bool.{eqb-false, ltb-true}
 use Rattle.std.proofs.lemmas.List.Elements.{All-append}
 use Rattle.mig_libxl.specs.Canon.{parts_below, parts_of_id, emulators_in_order}
 use Rattle.std.proofs.lemmas.Grind.{common_steps}
+use Rattle.mig_restore.proofs.PartsInOrder.{or_none}
+use Rattle.mig_canon_laws.proofs.CanonMaps.{found_holds}
 
 -- ---- lists of parts
 
@@ -14,21 +16,9 @@ abbrev pub KeysDiffer : List Part → Type 0
 KeysDiffer [] = ⊤
 KeysDiffer (p ∷ ps) = (find part_cmp p.0 ps ≡ None) × KeysDiffer ps
 
-pub or_none : {X : Type 0} (o : Option X) → option_or o None ≡ o
-or_none None = refl
-or_none (Some x) = refl
-
 pub find_join : (q : PartKey) (xs ys : List Part) → find part_cmp q (xs ++ ys) ≡ option_or (find part_cmp q xs) (find part_cmp q ys)
 find_join q [] ys = refl
 find_join q (x ∷ xs) ys = grind (arith, common_steps, find_join q xs ys)
-
--- what holds of all parts holds of one that is found
-pub found_holds : (P : Part → Type 0) (q : PartKey) (bytes : List ℕ) (ps : List Part) → All P ps → find part_cmp q ps ≡ Some bytes → P (q, bytes)
-found_holds P q bytes [] all is = absurd (cc)
-found_holds P q bytes (p ∷ ps) all is = elim (eq_by_cmp part_cmp q p.0) as (λ b. eq_by_cmp part_cmp q p.0 ≡ b → cond b (Some p.1) (find part_cmp q ps) ≡ Some bytes → P (q, bytes)) [
-  | true ↦ λ t at. let content : p.1 ≡ bytes = cc in subst (λ k. P (k, bytes)) (sym (part_exact q p.0 (tied _ t))) (subst (λ b. P (p.0, b)) content (All-head P p ps all))
-  | false ↦ λ t at. found_holds P q bytes ps (All-tail P p ps all) at
-] refl is
 
 pub differ_join : (xs ys : List Part) → KeysDiffer xs → KeysDiffer ys → All (λ p. find part_cmp p.0 ys ≡ None) xs → KeysDiffer (xs ++ ys)
 differ_join [] ys one two apart = two

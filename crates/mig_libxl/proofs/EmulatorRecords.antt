@@ -13,7 +13,7 @@ use Rattle.mig_libxl.specs.Spelled.HasLibxlContent.{pairs as says_pairs, context
 use Rattle.mig_libxl.specs.Spelled.IsLibxlRecord.{body as a_body}
 use Rattle.mig_libxl.proofs.EmulatorParts.{IsEmulatorPart, pairs_of_emulator, context_of_emulator}
 use Rattle.mig_libxl.proofs.EmulatorTexts.{key_front}
-use Rattle.mig_libxl.proofs.CanonParts.{is_record}
+use Rattle.mig_canon_laws.proofs.CanonParts.{is_record}
 
 -- ---- what a part's record says
 

@@ -1,5 +1,5 @@
 -- How the records of emulators are spelled, one after another.
-use Rattle.mig_libxl.proofs.Common.{◌≡◌, ℕ, ◌+◌, ◌<◌, ◌≤◌, ◌^◌, true, List, [], ◌∷◌, ◌++◌, length, take, drop, replicate, Option, Some, Result, inl, inr, refl, sym, ap, subst, ◌∙◌, arith, append_assoc, append-nil, take-append-drop, ◌-◌, ◌==◌, nat_le, flat_map, range_with_len, and_parts, eqb-true, leb-true, or_cases, flat_map-append, map-range_with_len_more, little_bytes, padding_len, puts_then, puts_stop, puts_same, is_emulator_code, width_of, GuestOf, Part, PartMap, EmulatorPairs, EmulatorContext, PartKey, IsOf, of_part, IsWhole, part_with, parts_of_emulator, text_of_emulators, is_of_converter}
+use Rattle.mig_libxl.proofs.Common.{◌≡◌, ℕ, ◌+◌, ◌<◌, ◌≤◌, ◌^◌, true, List, [], ◌∷◌, ◌++◌, length, take, drop, replicate, Option, Some, Result, inl, inr, refl, sym, ap, subst, ◌∙◌, arith, append_assoc, append-nil, take-append-drop, ◌-◌, ◌==◌, nat_le, flat_map, range_with_len, and_parts, eqb-true, leb-true, or_cases, flat_map-append, little_bytes, padding_len, puts_then, puts_stop, puts_same, is_emulator_code, width_of, GuestOf, Part, PartMap, EmulatorPairs, EmulatorContext, PartKey, IsOf, of_part, IsWhole, part_with, parts_of_emulator, text_of_emulators, is_of_converter}
 use Rattle.std.specs.Result.{IsErrAnd}
 use Rattle.std.specs.FinMap as maps
 use Rattle.std.proofs.KnownBytes.{Appends-trans}
@@ -12,6 +12,7 @@ use Rattle.mig_records.specs.Records.{head_of, spelled}
 use Rattle.mig_canon.specs.Canon.{canon}
 use Rattle.mig_canon.proofs.Spelling.{record_text}
 use Rattle.mig_libxl.specs.Canon.{emulator_body, emulator_record, parts_below, parts_of_id, emulators_in_order, parts_of_ids, opening_text, wrapped_canon}
+use Rattle.mig_canon_laws.proofs.PvMaps.{counted_more}
 
 -- ---- one record
 
@@ -52,13 +53,6 @@ text_of_one parts id index =
 
 range_front : (i n : ℕ) → i ≤ n → take i (range_with_len 0 n) ≡ range_with_len 0 i
 range_front i n le = ap (take i) (sym (map-id (range_with_len 0 n))) ∙ take-map-range_with_len (λ k. k) 0 n i le ∙ map-id (range_with_len 0 i)
-
-range_more : (i : ℕ) → range_with_len 0 (i + 1) ≡ range_with_len 0 i ++ i ∷ []
-range_more i = sym (map-id (range_with_len 0 (i + 1))) ∙ map-range_with_len_more (λ k. k) 0 i i (omega arith) ∙ ap (λ l. l ++ i ∷ []) (map-id (range_with_len 0 i))
-
--- what the numbers below one number more give
-pub counted_more : {X : Type 0} (F : ℕ → List X) (i : ℕ) → flat_map F (range_with_len 0 (i + 1)) ≡ flat_map F (range_with_len 0 i) ++ F i
-counted_more F i = ap (flat_map F) (range_more i) ∙ flat_map-append F (range_with_len 0 i) (i ∷ []) ∙ ap (λ l. flat_map F (range_with_len 0 i) ++ l) (append-nil (F i))
 
 module _ (F : ℕ → List Part) (i : ℕ) where
   -- the parts of the numbers below n

@@ -14,7 +14,7 @@ use Rattle.mig_restore.proofs.Behind.{behind_is}
 use Rattle.mig_restore.specs.Stream.{image_at, image_behind, marker_at, opening_at}
 use Rattle.mig_restore.specs.Stream.{IsReading as IsImageReading}
 use Rattle.mig_libxl.specs.Stream.{StreamOf, wrapped_at, stream_at, IsStreamReading}
-use Rattle.mig_libxl.proofs.EmulatorGuests.{none_set}
+use Rattle.mig_emulators.proofs.EmulatorGuests.{none_set}
 
 -- ---- a libxl stream behind its ident
 

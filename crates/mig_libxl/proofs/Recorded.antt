@@ -1,10 +1,10 @@
 -- A record behind its head and behind its content, and what the reader has seen once it was read.
-use Rattle.mig_libxl.proofs.Common.{◌≡◌, ℕ, ◌+◌, false, List, [], ◌∷◌, ◌++◌, length, nat_eq, Option, Some, None, refl, sym, ap, subst, ◌∙◌, arith, length-append, ◌||◌, padding_len, ◌>>=◌, part, placed, Passes, Truncated, ImageOf, Reading, LibxlRecord, LibxlContent, image_in, image_among, EmulatorsOf, put_libxl_content, libxl_head_at, body_of_type, libxl_content_at, Holds, IsLibxlSeen, Seen}
+use Rattle.mig_libxl.proofs.Common.{◌≡◌, ℕ, ◌+◌, false, List, [], ◌∷◌, ◌++◌, length, nat_eq, Option, Some, None, refl, sym, ap, subst, ◌∙◌, arith, length-append, ◌||◌, padding_len, ◌>>=◌, part, placed, Passes, Truncated, ImageOf, Reading, LibxlRecord, LibxlContent, image_in, image_among, EmulatorsOf, put_libxl_content, libxl_head_at, body_of_type, libxl_content_at, Holds, IsLibxlSeen, WrapperSeen}
 use Rattle.mig_bytes.specs.Fields.{le32}
 use Rattle.mig_headers.specs.declared.fault.Place.TheVariants.{LibxlRecord as AtRecord}
 use Rattle.mig_records.specs.declared.head.RecordHead.{RecordHead}
 use Rattle.mig_records.specs.Heads.{head_in}
-use Rattle.mig_libxl.specs.Emulators.{emulators_of}
+use Rattle.mig_emulators.specs.Emulators.{emulators_of}
 use Rattle.mig_libxl.specs.Judging.{libxl_record_at}
 use Rattle.mig_libxl.specs.Seen.{TakesLibxl}
 use Rattle.mig_libxl.proofs.Among.{emulators_more, emulator_more, among_more, among_first}
@@ -40,7 +40,7 @@ kept_image : (records : List LibxlRecord) (r : LibxlRecord) (found : Option Imag
 kept_image records r None is none = among_first records r is ∙ none ∙ sym is
 kept_image records r (Some image) is none = among_more records (r ∷ []) image is ∙ sym is
 
-module _ (old mid : Seen) (records : List LibxlRecord) (type : ℕ) (c : LibxlContent) (seen : IsLibxlSeen old records) (takes : TakesLibxl old mid type c) where
+module _ (old mid : WrapperSeen) (records : List LibxlRecord) (type : ℕ) (c : LibxlContent) (seen : IsLibxlSeen old records) (takes : TakesLibxl old mid type c) where
   abbrev r : LibxlRecord
   r = record { type = type; content = c }
 

@@ -10,8 +10,8 @@ use Rattle.mig_headers.specs.declared.fault.Place.TheVariants.{LibxlRecord as At
 use Rattle.mig_restore.specs.Stream.{image_at}
 use Rattle.mig_restore.proofs.Laws.{accepted_is_image}
 use Rattle.mig_restore.proofs.Converse.{image_is_accepted}
-use Rattle.mig_libxl.specs.Content.{has_emulator}
-use Rattle.mig_libxl.specs.Emulators.{emulators_of}
+use Rattle.mig_libxl.specs.Among.{has_emulator}
+use Rattle.mig_emulators.specs.Emulators.{emulators_of}
 use Rattle.mig_libxl.specs.Judging.{is_pv, order_rows, fault_of_libxl_fields, fault_of_order, fault_of_libxl_head, inner_at, libxl_record_at}
 use Rattle.mig_libxl.specs.Spelled.{IsLibxlRecord, IsLibxlComplete}
 use Rattle.mig_libxl.specs.Spelled.IsLibxlRecord.{image as an_image, body as a_body}

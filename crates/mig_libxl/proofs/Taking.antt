@@ -1,5 +1,5 @@
 -- What the reader keeps of a record's content.
-use Rattle.mig_libxl.proofs.Common.{◌≡◌, ℕ, ◌-◌, ◌≤◌, ◌<◌, ◌^◌, true, false, List, length, take, drop, nat_eq, nat_le, nat_lt, Option, Some, None, Ok, refl, sym, ap, subst, ◌∙◌, arith, ◌||◌, le-leb, lt-leb, le-ltb, common_steps, ◌>>=◌, Passes, Cause, pairs_fault, Reading, LibxlContent, image_in, Image, Pairs, Context, EmulatorsOf, no_emulators, add_pairs, put_libxl_content, emulator_key, AreEmulators, Holds, Seen}
+use Rattle.mig_libxl.proofs.Common.{◌≡◌, ℕ, ◌-◌, ◌≤◌, ◌<◌, ◌^◌, true, false, List, length, take, drop, nat_eq, nat_le, nat_lt, Option, Some, None, Ok, refl, sym, ap, subst, ◌∙◌, arith, ◌||◌, le-leb, lt-leb, le-ltb, common_steps, ◌>>=◌, Passes, Cause, pairs_fault, Reading, LibxlContent, image_in, Image, Pairs, Context, EmulatorsOf, add_pairs, put_libxl_content, emulator_key, Holds, WrapperSeen}
 use Rattle.std.proofs.Common.{length-drop}
 use Rattle.std.specs.FinMap as maps
 use Rattle.std.proofs.lemmas.Bool.{lt-ltb}
@@ -11,7 +11,8 @@ use Rattle.mig_headers.specs.declared.fault.Cause.TheVariants.{BadEmulator, TooM
 use Rattle.mig_policy.specs.PairMaps.{pairs_in}
 use Rattle.mig_restore.specs.Stream.{image_at}
 use Rattle.mig_restore.specs.Stream.{IsReading as IsImageReading}
-use Rattle.mig_libxl.specs.Judging.{most_pairs, spelled_with, fault_of_pairs, fault_of_context, inner_at}
+use Rattle.mig_emulators.specs.Emulators.{most_pairs, spelled_with}
+use Rattle.mig_libxl.specs.Judging.{fault_of_pairs, fault_of_context, inner_at}
 use Rattle.mig_libxl.specs.Seen.{TakesLibxl}
 use Rattle.mig_libxl.proofs.Bodies.{fine_pairs}
 
@@ -106,7 +107,7 @@ module _ (e : EmulatorsOf) (body slice : List ℕ) (id index : ℕ) (r : IsRead 
 
 -- ---- what is kept
 
-pub takes_of : (old new : Seen) (type : ℕ) (c : LibxlContent) → image_in c ≡ None → (nat_eq type 2 || nat_eq type 3) ≡ true → new.emulators ≡ put_libxl_content old.emulators c → new.emulated ≡ true → new.image ≡ old.image → new.records ≡ old.records → TakesLibxl old new type c
+pub takes_of : (old new : WrapperSeen) (type : ℕ) (c : LibxlContent) → image_in c ≡ None → (nat_eq type 2 || nat_eq type 3) ≡ true → new.emulators ≡ put_libxl_content old.emulators c → new.emulated ≡ true → new.image ≡ old.image → new.records ≡ old.records → TakesLibxl old new type c
 takes_of old new type c none of_emulator emulators emulated image records = record {
   emulators = emulators;
   emulated = emulated ∙ grind (arith, common_steps, of_emulator);
@@ -116,17 +117,9 @@ takes_of old new type c none of_emulator emulators emulated image records = reco
   records = records;
 }
 
--- ---- before any record
-
-pub none_yet : AreEmulators no_emulators
-none_yet = record {
-  stores = λ key m is. absurd (none-some m (sym (maps.get-empty _ key) ∙ is));
-  contexts = λ key bytes is. absurd (none-some bytes (sym (maps.get-empty _ key) ∙ is));
-}
-
 -- ---- the image
 
-pub image_read : (old new : Seen) (a b : Option (List ℕ)) (reading : Reading) → old.image ≡ None → new.emulators ≡ old.emulators → new.emulated ≡ old.emulated → new.image ≡ Some reading → new.records ≡ old.records
+pub image_read : (old new : WrapperSeen) (a b : Option (List ℕ)) (reading : Reading) → old.image ≡ None → new.emulators ≡ old.emulators → new.emulated ≡ old.emulated → new.image ≡ Some reading → new.records ≡ old.records
     → Gives IsImageReading a b image_at (Ok reading) → Gives {X = Unit {0}} (λ _ c. TakesLibxl old new 1 c) a b inner_at (Ok tt)
 image_read old new None b reading none emulators emulated image records h = tt
 image_read old new (Some i) b reading none emulators emulated image records (im, rest, is, left, read) = (

@@ -6,7 +6,7 @@ use Rattle.mig_guest.proofs.KeyedMaps.{insert_leaves}
 use Rattle.mig_policy.specs.PairMaps.{pairs_in}
 use Rattle.mig_policy.proofs.PairMapLaws.{texts_are_canonical}
 use Rattle.mig_libxl.specs.Canon.{emulator_record}
-use Rattle.mig_libxl.specs.Emulators.{emulators_of}
+use Rattle.mig_emulators.specs.Emulators.{emulators_of}
 use Rattle.mig_libxl.proofs.Among.{emulators_more, among_more, ended_more}
 use Rattle.mig_libxl.proofs.EmulatorParts.{IsEmulatorPart, KeysDiffer}
 use Rattle.mig_libxl.proofs.EmulatorRecords.{content_of, record_of_part, some_pairs, emulator_is_spelled}

@@ -6,7 +6,6 @@ use Rattle.mig_bytes.specs.Bytes.{padding_len}
 use Rattle.mig_bytes.specs.Fields.{le32}
 use Rattle.mig_bytes.specs.Judged.{Judged, ◌>>=◌, part, placed, said_at, plain_at}
 use Rattle.mig_bytes.specs.Judged.Judged.{Passes}
-use Rattle.mig_headers.specs.Pairs.{Pair}
 use Rattle.mig_headers.specs.RecordTypes.{is_optional}
 use Rattle.mig_headers.specs.Rows.{first_fault}
 use Rattle.mig_headers.specs.declared.kind.Kind.{Kind}
@@ -17,12 +16,13 @@ use Rattle.mig_headers.specs.declared.fault.Place.{Place}
 use Rattle.mig_headers.specs.declared.fault.Place.TheVariants.{LibxlRecord as AtRecord}
 use Rattle.mig_guest.specs.declared.part_key.PartKey.{PartKey}
 use Rattle.mig_policy.specs.PairFaults.{pairs_fault}
-use Rattle.mig_policy.specs.PairMaps.{pairs_in, put_pairs, text_of_map}
+use Rattle.mig_policy.specs.PairMaps.{pairs_in}
 use Rattle.mig_restore.specs.Judging.{most_records}
 use Rattle.mig_restore.specs.Stream.{ImageOf, image_at}
-use Rattle.mig_libxl.specs.Content.{LibxlRecord, LibxlContent, has_emulator, image_among}
-use Rattle.mig_libxl.specs.Content.LibxlContent.{Nothing, Image, Pairs, Context}
-use Rattle.mig_libxl.specs.Emulators.{EmulatorsOf, store_at, emulators_of}
+use Rattle.mig_emulators.specs.Content.{LibxlRecord, LibxlContent}
+use Rattle.mig_libxl.specs.Among.{has_emulator, image_among}
+use Rattle.mig_emulators.specs.Content.LibxlContent.{Nothing, Image, Pairs, Context}
+use Rattle.mig_emulators.specs.Emulators.{EmulatorsOf, emulators_of, most_pairs, spelled_with}
 
 -- ---- the head
 
@@ -81,14 +81,6 @@ libxl_head_at records input = said_at Truncated (λ head. fault_of_libxl_head re
 -- the key of the part of this code that a body names, by the emulator's id and its index
 abbrev pub emulator_key : ℕ → List ℕ → PartKey
 emulator_key code body = record { code = code; key1 = le32 body 0; key2 = le32 body 4 }
-
--- the most bytes that the pairs of an emulator spell
-abbrev pub most_pairs : ℕ
-most_pairs = 2 ^ 24
-
--- how many bytes the pairs of the emulator with this key spell once these are added
-abbrev pub spelled_with : EmulatorsOf → PartKey → List Pair → ℕ
-spelled_with e key ps = length (text_of_map (put_pairs (store_at e.stores key) ps))
 
 unfoldable pub fault_of_pairs : EmulatorsOf → List ℕ → Option Cause
 fault_of_pairs e body =

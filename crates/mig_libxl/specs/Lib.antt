@@ -1,8 +1,7 @@
-pub mod Content
-pub mod Emulators
+pub mod Among
 pub mod Judging
 pub mod Canon
-pub mod Bare
+pub mod Carried
 pub mod Spelled
 pub mod Stream
 pub mod Seen

@@ -12,10 +12,10 @@ use Rattle.mig_records.specs.Records.{IsRecord}
 use Rattle.mig_restore.specs.Judging.{most_records}
 use Rattle.mig_restore.specs.Spelled.{IsImage}
 use Rattle.mig_restore.specs.Stream.{ImageOf}
-use Rattle.mig_libxl.specs.Content.{LibxlRecord, LibxlContent, is_libxl_ended, has_emulator, image_among}
-use Rattle.mig_libxl.specs.Content.LibxlContent.{Nothing, Image, Pairs, Context}
-use Rattle.mig_libxl.specs.Emulators.{emulators_of}
-use Rattle.mig_libxl.specs.Judging.{most_pairs, spelled_with}
+use Rattle.mig_emulators.specs.Content.{LibxlRecord, LibxlContent}
+use Rattle.mig_libxl.specs.Among.{is_libxl_ended, has_emulator, image_among}
+use Rattle.mig_emulators.specs.Content.LibxlContent.{Nothing, Image, Pairs, Context}
+use Rattle.mig_emulators.specs.Emulators.{emulators_of, most_pairs, spelled_with}
 use Rattle.mig_libxl.specs.Stream.{StreamOf, guest_of, image_of_stream}
 use Rattle.mig_libxl.specs.Stream.StreamOf.{Bare, Wrapped}
 

@@ -15,8 +15,9 @@ use Rattle.mig_restore.specs.Mean.{mean}
 use Rattle.mig_restore.specs.Stream.{ImageOf, image_at, or_stop}
 use Rattle.mig_restore.specs.declared.answer.StreamAnswer.{StreamAnswer}
 use Rattle.mig_restore.specs.declared.read.Reading.{Reading}
-use Rattle.mig_libxl.specs.Content.{LibxlRecord, is_libxl_ended, image_among}
-use Rattle.mig_libxl.specs.Emulators.{EmulatorsOf, no_emulators, emulators_of, with_emulators}
+use Rattle.mig_emulators.specs.Content.{LibxlRecord}
+use Rattle.mig_libxl.specs.Among.{is_libxl_ended, image_among}
+use Rattle.mig_emulators.specs.Emulators.{EmulatorsOf, no_emulators, emulators_of, with_emulators}
 use Rattle.mig_libxl.specs.Judging.{libxl_record_at}
 
 -- records up to the one that ends the stream

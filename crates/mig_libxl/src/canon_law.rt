@@ -1,6 +1,6 @@
 ghost use Rattle.std.specs.Prelude.{◌≡◌, ◌↔◌, ℕ, List, [], ◌++◌};
 ghost use Rattle.mig_guest.specs.Guests.{GuestOf};
-ghost use Rattle.mig_libxl.specs.Bare.{IsCarried};
+ghost use Rattle.mig_libxl.specs.Carried.{IsCarried};
 ghost use Rattle.mig_libxl.specs.Canon.{canon_any};
 ghost use Rattle.mig_libxl.specs.Spelled.{AcceptedStream};
 

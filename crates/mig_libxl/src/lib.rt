@@ -1,8 +1,8 @@
 //! Reads and writes streams of either form: a bare image, or an image inside a libxl stream (libxl migration stream).
 //!
-//! Responsible for: the libxl header, the records around an image and their order, what the records of emulators mean, and
-//! a guest written inside a libxl stream where it has emulators. Left to others: images (mig_restore, mig_canon), pairs of
-//! texts (mig_policy), headers, causes and record heads (mig_headers, mig_records).
+//! Responsible for: the libxl header, the records around an image and their order, and a guest written inside a libxl
+//! stream where it has emulators. Left to others: images (mig_restore, mig_canon, mig_canon_laws), what the records of
+//! emulators mean (mig_emulators), pairs of texts (mig_policy), headers, causes and record heads (mig_headers, mig_records).
 //!
 //! What the layers above rely on: `read_any` answers the guest that the accepted front of the input means, or the first
 //! fault with its place, and has taken just the accepted front, or all up to the end of the faulty part; `write_any` appends
@@ -10,15 +10,13 @@
 #![tactic(auto)]
 
 mod canon_law;
-mod emulator_law;
-mod emulators;
 mod law;
+mod numbers;
 mod read;
 mod write;
 
 pub use canon_law::{canon_is_accepted, canon_is_one_to_one, twice_is_once};
-pub use emulator_law::{last_context_decides, last_value_decides};
-pub use emulators::Emulators;
 pub use law::{accepted_is_stream, accepted_or_refused, never_both, one_front, stream_is_accepted};
+pub use mig_emulators::{Emulators, last_context_decides, last_value_decides};
 pub use read::read_any;
 pub use write::{close_wrapper, open_wrapper, write_any, write_emulator};

@@ -9,49 +9,27 @@ ghost use Rattle.mig_pvtables.specs.Whole.{IsWhole};
 ghost use Rattle.mig_records.specs.Heads.{head_in};
 ghost use Rattle.mig_restore.specs.Judging.{most_records};
 ghost use Rattle.mig_restore.specs.Stream.{stop_of, or_stop};
-ghost use Rattle.mig_libxl.specs.Content.{LibxlRecord, image_among};
-ghost use Rattle.mig_libxl.specs.Content.LibxlContent.{Nothing};
+ghost use Rattle.mig_emulators.specs.Content.{LibxlRecord};
+ghost use Rattle.mig_libxl.specs.Among.{image_among};
+ghost use Rattle.mig_emulators.specs.Content.LibxlContent.{Nothing};
 ghost use Rattle.mig_libxl.specs.Judging.{is_pv, is_pv_kind, fault_of_libxl_fields, fault_of_libxl_head, libxl_head_at, pairs_at, context_at, skipped_at, inner_at, body_of_type, libxl_content_at, libxl_record_at, allows_length as length_allowed};
 ghost use Rattle.mig_libxl.specs.Seen.{IsLibxlSeen, IsLibxlBegun, IsClosed};
 ghost use Rattle.mig_libxl.specs.Stream.StreamOf.{Wrapped};
 ghost use Rattle.mig_headers.specs.declared.kind.Kind.TheVariants.{Pv};
 ghost use Rattle.mig_libxl.specs.Stream.{header_at, libxl_records_at, wrapped_at, bare_at, stream_at, IsStreamReading, ReadsStream};
 
-use crate::emulators::Emulators;
+use crate::numbers::{
+    CHECKPOINT_END, CHECKPOINT_STATE, CONTEXT, EMULATOR_CONTEXT, EMULATOR_XENSTORE_DATA, EMULATORS,
+    END, INDICES, LIBXC_CONTEXT, MAX_RECORDS, PAIRS,
+};
 use mig_bytes::{Memory, ReadFailed, Source, Stop, pad_len, skip, take_long, take_part, u32_le};
+use mig_emulators::Emulators;
 use mig_guest::PartKey;
 use mig_headers::{Cause, ImageHeader, Kind, LibxlHeader, Place, is_optional};
 use mig_policy::{PairsAnswer, pairs_fault};
 use mig_records::{RecordHead, long_fault};
 use mig_restore::{Reading, StreamAnswer, read_image, read_image_rest};
 use std::alloc::Global;
-
-/// The types of the records of a libxl stream.
-const END: u32 = 0;
-
-const LIBXC_CONTEXT: u32 = 1;
-
-const EMULATOR_XENSTORE_DATA: u32 = 2;
-
-const EMULATOR_CONTEXT: u32 = 3;
-
-const CHECKPOINT_END: u32 = 4;
-
-const CHECKPOINT_STATE: u32 = 5;
-
-/// The codes of the parts that are an emulator's pairs, and its context.
-const PAIRS: u32 = 258;
-
-const CONTEXT: u32 = 259;
-
-/// The most records of a stream.
-const MAX_RECORDS: u32 = 1 << 28;
-
-/// Emulator ids are below this.
-const EMULATORS: u32 = 3;
-
-/// Indices of an emulator are below this.
-const INDICES: u32 = 256;
 
 /// Does nothing. That bytes are below 256 is what makes a guest that they are set in one of bytes.
 fn are_bytes(bytes: &[u8])
@@ -105,7 +83,7 @@ fn take_padding<S: Source>(src: &mut S, len: u32) -> Result<(), Stop<Cause>>
 
 /// What the reader keeps of the records before.
 #[derive(Drop)]
-pub(crate) struct Seen {
+pub(crate) struct WrapperSeen {
     pub(crate) emulators: Emulators,
     /// What was read of the image.
     pub(crate) image: Option<Reading>,
@@ -147,16 +125,16 @@ fn lone_fault(head: RecordHead) -> Option<Cause>
     None
 }
 
-impl Seen {
+impl WrapperSeen {
     ghost use Rattle.mig_libxl.specs.Seen.{IsLibxlSeen, IsLibxlBegun, IsClosed, TakesLibxl};
 
     /// Before the first record.
-    #[tactic(auto, unfolding(crate::specs::Emulators::emulators_of))]
-    fn new(alloc: Global) -> Seen
+    #[tactic(auto, unfolding(mig_emulators::specs::Emulators::emulators_of))]
+    fn new(alloc: Global) -> WrapperSeen
         ensures seen { IsLibxlSeen result [] }
         ensures begun { IsLibxlBegun result }
     {
-        Seen {
+        WrapperSeen {
             emulators: Emulators::new(alloc),
             image: None,
             emulated: false,
@@ -419,7 +397,7 @@ impl Seen {
         ensures blank { IfOk result (λ reading. blank reading.guest ≡ reading.guest) }
         ensures bytes { IfOk result (λ reading. IsOfBytes reading.guest) }
     {
-        let Seen {
+        let WrapperSeen {
             emulators,
             image,
             ..
@@ -433,13 +411,13 @@ impl Seen {
 }
 
 /// Takes records up to the one that ends the stream.
-fn take_records<S: Source>(alloc: Global, src: &mut S) -> Result<Seen, Stop<(Place, Cause)>>
+fn take_records<S: Source>(alloc: Global, src: &mut S) -> Result<WrapperSeen, Stop<(Place, Cause)>>
     ensures read { Gives IsLibxlSeen (S.left src.old) (S.left src.new) libxl_records_at result }
     ensures begun { IfOk result (λ seen. IsLibxlBegun seen) }
     ensures closed { IfOk result (λ seen. IsClosed seen) }
     ensures faults { RisesOnReadFault (S.faults src.old) (S.faults src.new) result }
 {
-    let mut seen = Seen::new(alloc);
+    let mut seen = WrapperSeen::new(alloc);
     while !seen.take_record(alloc, src)? {}
     Ok(seen)
 }

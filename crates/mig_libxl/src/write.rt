@@ -9,27 +9,12 @@ ghost use Rattle.mig_pvtables.specs.Whole.{IsWhole};
 ghost use Rattle.mig_records.specs.Records.{spelled};
 ghost use Rattle.mig_libxl.specs.Canon.{has_emulators as some_emulators, is_of_converter as from_converter, emulator_record, part_with, parts_of_emulator, parts_of_id, emulators_in_order, text_of_emulators, opening_text, wrapped_canon, canon_any};
 
+use crate::numbers::{CONTEXT, EMULATORS, END, INDICES, LIBXC_CONTEXT, PAIRS};
 use mig_bytes::{Sink, WriteFailed, put_all, put_u32_le};
 use mig_canon::write_canon;
 use mig_guest::{Guest, PartKey};
 use mig_headers::LibxlHeader;
 use mig_records::{write_head, write_padding, write_record};
-
-/// The types of END and LIBXC_CONTEXT.
-const END: u32 = 0;
-
-const LIBXC_CONTEXT: u32 = 1;
-
-/// The codes of the parts that are an emulator's pairs, and its context.
-const PAIRS: u32 = 258;
-
-const CONTEXT: u32 = 259;
-
-/// Emulator ids are below this.
-const EMULATORS: u32 = 3;
-
-/// Indices of an emulator are below this.
-const INDICES: u32 = 256;
 
 /// Appends the header of a libxl stream, and the record that an image follows. `legacy` says that the stream is made from
 /// a legacy one.

@@ -10,3 +10,4 @@ pub mod Listings
 pub mod Meaning
 pub mod Parts
 pub mod AcceptedWhole
+pub mod PartsInOrder

@@ -10,7 +10,7 @@ pub use Rattle.mig_restore.proofs.Meaning.{mean_kind}
 pub use Rattle.mig_libxl.specs.Spelled.{AcceptedStream}
 pub use Rattle.mig_tool.specs.Answers.{AcceptedIn, Comes, ComesOf, Done, DonePart, Form, InputRises, IsLine, LeavesOut, PutsOwnLine, RefusedIn, Says, SaysOf, WriteRose, Written, form_of, restored_text, summary_of}
 pub use Rattle.mig_tool.specs.Answers.Form.{Legacy, Modern}
-pub use Rattle.mig_libxl.specs.Bare.{IsCarried}
+pub use Rattle.mig_libxl.specs.Carried.{IsCarried}
 pub use Rattle.mig_report.specs.Outcome.{line_of, status_of}
 pub use Rattle.mig_tool.specs.Outcomes.{outcome_of, outcome_of_legacy}
 pub use Rattle.mig_report.specs.Words.{IsBase, Names}

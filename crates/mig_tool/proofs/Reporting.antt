@@ -7,8 +7,7 @@ use Rattle.mig_bytes.specs.Faults.{Rose, HasCause}
 use Rattle.mig_bytes.specs.declared.failure.WriteFailed.{WriteFailed}
 use Rattle.mig_libxl.specs.Canon.{canon_any}
 use Rattle.mig_libxl.specs.Stream.{StreamOf, IsStreamReading, ReadsStream, stream_at}
-use Rattle.mig_libxl.proofs.Laws.{accepted_is_stream}
-use Rattle.mig_libxl.proofs.Laws.{never_both as never_both_modern}
+use Rattle.mig_libxl.proofs.Laws.{accepted_is_stream, never_both as never_both_modern}
 use Rattle.mig_legacy.proofs.Laws.{accepted_is_legacy}
 use Rattle.mig_legacy.proofs.Laws.{never_both as never_both_legacy}
 use Rattle.mig_legacy.specs.Legacy.{LegacyStream, mean_legacy}

@@ -12,7 +12,7 @@ use Rattle.mig_image.specs.Image.{image}
 use Rattle.mig_image.specs.ImageParts.{host_at}
 use Rattle.mig_pvtables.specs.Sound.{IsSound}
 use Rattle.mig_pvtables.specs.View.{view}
-use Rattle.mig_libxl.specs.Bare.{IsCarried}
+use Rattle.mig_libxl.specs.Carried.{IsCarried}
 use Rattle.mig_libxl.specs.Canon.{canon_any}
 use Rattle.mig_libxl.specs.Spelled.{AcceptedStream}
 use Rattle.mig_libxl.specs.Stream.{IsStreamRefused}

@@ -1,0 +1,11 @@
+pub mod Common
+pub mod CanonMaps
+pub mod CanonParts
+pub mod CanonOnce
+pub mod PvSays
+pub mod PvMaps
+pub mod CanonFrames
+pub mod CanonSteps
+pub mod CanonStages
+pub mod Canons
+pub mod Batched

@@ -1,0 +1,5 @@
+pub mod Common
+pub mod Stores
+pub mod EmulatorGuests
+pub mod EmulatorMeaning
+pub mod Formed

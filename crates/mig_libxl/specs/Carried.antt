@@ -1,0 +1,10 @@
+-- Guests that a stream carries.
+use Rattle.std.specs.Prelude.{◌≡◌}
+use Rattle.mig_guest.specs.Guests.{GuestOf}
+use Rattle.mig_pvtables.specs.Blank.{blank}
+use Rattle.mig_pvtables.specs.Whole.{IsWhole}
+
+-- a whole guest in its blank form
+pub record IsCarried (g : GuestOf) : Type 0 where
+  pub whole : IsWhole g
+  pub blank : blank g ≡ g
