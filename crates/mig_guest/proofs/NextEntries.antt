@@ -1,5 +1,5 @@
 -- The first entry from a number on, told by what the map has at each number.
-use Rattle.mig_guest.proofs.Common.{◌≡◌, ℕ, ◌+◌, ◌<◌, ◌≤◌, List, [], ◌∷◌, nat_le, Option, Some, None, IfSome, IfNone, refl, sym, ap, ◌∙◌, arith, le-leb, nat_cmp, is_le, is_lt, option_map, Less, FinMap, nat_cmp-IsAntisymmetric, leb-true, common_steps, filter_agree, entries_from, NextEntry}
+use Rattle.mig_guest.proofs.Common.{◌≡◌, ℕ, ◌+◌, ◌<◌, ◌≤◌, cond, List, [], ◌∷◌, nat_le, Option, Some, None, IfSome, IfNone, refl, sym, ap, ◌∙◌, arith, le-leb, nat_cmp, is_le, is_lt, option_map, Less, FinMap, nat_cmp-IsAntisymmetric, leb-true, common_steps, filter_agree, entries_from, NextEntry}
 use Rattle.std.specs.List.{filter}
 use Rattle.std.specs.Cmp.{nat_cmp_total}
 use Rattle.std.specs.declared.ops.Bound.TheVariants.{Included}
@@ -16,6 +16,11 @@ is_behind p q = grind (arith, common_steps)
 
 less : (k q : ℕ) → k < q → nat_cmp k q ≡ Less
 less k q lt = grind (arith, common_steps)
+
+-- all numbers are 0 or more
+pub from_zero : {X : Type 0} (es : List (ℕ × X)) → entries_from 0 es ≡ es
+from_zero [] = refl
+from_zero (e ∷ es) = ap (λ b. cond b (e ∷ entries_from 0 es) (entries_from 0 es)) (le-leb 0 e.0 (omega arith)) ∙ ap (λ l. e ∷ l) (from_zero es)
 
 module _ {X : Type 0} (m : FinMap nat_cmp X) (from : ℕ) where
   abbrev es : List (ℕ × X)

@@ -1,5 +1,6 @@
 -- What a host is: a guest as it stands in a machine, where each frame number has a machine frame.
-use Rattle.std.specs.Prelude.{◌≡◌, ℕ, ◌≤◌, ◌<◌, ◌^◌, true, List, length, Option, Some, is_some, refl}
+use Rattle.std.specs.Prelude.{◌≡◌, ℕ, ◌≤◌, ◌<◌, ◌^◌, true, List, length, Option, Some, is_some, refl, ◌==◌, find}
+use Rattle.std.specs.Option.{option_map}
 use Rattle.std.specs.Ordering.{nat_cmp}
 use Rattle.std.specs.FinMap as maps
 use Rattle.std.specs.Coded.{Coded, code_by, coded×, coded_ℕ, coded_list, coded_option}
@@ -23,6 +24,10 @@ pub record HostFrame : Type 0 where
 -- frames by PFN
 abbrev pub HostFrames : Type 0
 HostFrames = maps.FinMap nat_cmp HostFrame
+
+-- the PFN that has a machine frame
+abbrev pub pfn_in : HostFrames → ℕ → Option ℕ
+pfn_in frames mfn = option_map (λ e. e.0) (find (λ e. e.1.machine == mfn) (maps.entries frames))
 
 -- every PFN is below the width; the parts are raw, as they stand in the machine
 pub record HostOf : Type 0 where

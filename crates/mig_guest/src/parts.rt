@@ -37,7 +37,7 @@ impl Model for Parts {
     ghost view = { λ p. parts_seen p.parts.entries };
 }
 
-// Writes `bytes` over those from `at` on.
+/// Writes `bytes` over those from `at` on.
 fn write_over(part: &mut [u8], at: usize, bytes: &[u8])
     requires { at + length bytes.now ≤ length part.old }
     ensures { part.new ≡ spliced part.old at bytes.now }
@@ -45,7 +45,7 @@ fn write_over(part: &mut [u8], at: usize, bytes: &[u8])
     part[at..at + bytes.len()].copy_from_slice(bytes);
 }
 
-// Lends the bytes, which keep their number.
+/// Lends the bytes, which keep their number.
 pub(crate) fn bytes_mut(part: &mut Vec<u8>) -> &mut [u8]
     ensures* writes_back { sem 𝓛 (LendsBytes part.entry result) }
     ensures value { result.now ≡ part.old.items }
@@ -124,8 +124,8 @@ impl Parts {
         self.parts.get_mut(&key)
     }
 
-    // Writes `bytes` over those of one part from its byte `at` on.
-    pub(crate) fn write(&mut self, key: PartKey, at: usize, bytes: &[u8])
+    /// Writes `bytes` over those of one part from its byte `at` on.
+    pub fn write(&mut self, key: PartKey, at: usize, bytes: &[u8])
         requires range { IfSome (maps.get self.old key) (λ part. at + length bytes.now ≤ length part) }
         requires there { IsSome (maps.get self.old key) }
         ensures { IfSome (maps.get self.old key) (λ part. self.new ≡ maps.insert self.old key (spliced part at bytes.now)) }

@@ -3,8 +3,8 @@
 use Rattle.mig_image.proofs.Common.{◌≡◌, ℕ, zero, suc, ◌+◌, false, List, [], ◌∷◌, ◌++◌, length, refl, sym, ap, subst, ◌∙◌, append_assoc, append-nil, T, flat_map, IsTotalOrder, Ordering, FinMap, is_sorted, Judged, placed, Passes, both_pass, same_passes, placed_passes, then_passes, Bytes, bytes_back}
 use Rattle.std.specs.FinMap as maps
 use Rattle.mig_bytes.specs.Judged.{steps}
+use Rattle.mig_host.proofs.InOrder.{has_from, entries_behind, front_below, no_entries}
 use Rattle.mig_image.proofs.FieldBytes.{regroup}
-use Rattle.mig_image.proofs.InOrder.{has_from, entries_behind, front_below, no_entries}
 
 module _ {K X : Type 0} {R : K → K → Ordering} where
   abbrev pub put_all : FinMap R X → List (K × X) → FinMap R X

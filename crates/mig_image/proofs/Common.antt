@@ -1,36 +1,36 @@
 -- Names that many proofs of this crate use.
-pub use Rattle.std.proofs.Common.{Bool, Err, IfNone, IfSome, IsSome, List, None, Ok, OnErr, OnOk, Option, Result, Some, [], ap, append-nil, append_assoc, arith, codes, cond, drop, drop-drop, false, filter, inl, inr, is_some, length, length-append, length-drop, map, max, nat_eq, nat_le, nat_lt, not, option_and_then, refl, replicate, rules, subst, suc, sym, take, take-append-drop, true, zero, ℕ, ◌%◌, ◌*◌, ◌++◌, ◌+◌, ◌-◌, ◌/◌, ◌<◌, ◌^◌, ◌∙◌, ◌∷◌, ◌≡◌, ◌≢◌, ◌≤◌, ◌⊎◌}
-pub use Rattle.std.proofs.lemmas.Bool.{and_from, and_left, and_parts, and_right, cases_eq, cases_lt, cases_order, eq-eqb, eqb-false, eqb-true, false_from_ne_true, le-leb, le-ltb, leb-false, leb-true, lt-leb, lt-ltb, ltb-false, ne_eqb, not-false, or_from, or_left, or_parts, or_right, true≢false}
+pub use Rattle.std.proofs.Common.{Bool, Err, IfNone, IfSome, IsSome, List, None, Ok, OnOk, Option, Result, Some, [], ap, append-nil, append_assoc, arith, codes, cond, drop, drop-drop, false, is_some, length, length-append, length-drop, nat_eq, nat_le, nat_lt, not, refl, replicate, rules, subst, suc, sym, take, take-append-drop, true, zero, ℕ, ◌%◌, ◌*◌, ◌++◌, ◌+◌, ◌-◌, ◌/◌, ◌<◌, ◌^◌, ◌∙◌, ◌∷◌, ◌≡◌, ◌≤◌}
+pub use Rattle.std.proofs.lemmas.Bool.{and_from, and_left, and_parts, and_right, eq-eqb, eqb-false, eqb-true, false_from_ne_true, le-leb, le-ltb, leb-false, leb-true, lt-leb, ltb-false, ne_eqb, not-false, or_from, or_parts, true≢false}
 pub use Rattle.std.proofs.lemmas.Grind.{common_steps, flat_map-append}
-pub use Rattle.std.proofs.lemmas.List.{append_cancel_right, length-map, length-replicate, take-replicate, take_all}
-pub use Rattle.std.proofs.lemmas.List.Elements.{All-drop, All-from_recursion, All-head, All-weaker, filter-append, recursion_from_All}
+pub use Rattle.std.proofs.lemmas.List.{append_cancel_right, length-replicate, take-replicate, take_all}
+pub use Rattle.std.proofs.lemmas.List.Elements.{All-drop, All-from_recursion, All-head, filter-append, recursion_from_All}
 pub use Rattle.std.proofs.lemmas.Option.{none-some, same_Some}
-pub use Rattle.std.specs.Cmp.{IsTotalOrder, nat_cmp_total, unsigned_tied}
-pub use Rattle.std.specs.FinMap.{FinMap, IsAntisymmetric, empty_of_len, entries_sorted, find, get-empty, get-entries, get-insert, get-remove, is_sorted, len-empty, len-entries, len-insert, nat_cmp-IsAntisymmetric, put, same_map}
-pub use Rattle.std.specs.FinMap.Entries.{below_all, by_order, is_sorted-where_key, where_key}
+pub use Rattle.std.specs.Cmp.{IsTotalOrder, nat_cmp_total}
+pub use Rattle.std.specs.FinMap.{FinMap, IsAntisymmetric, is_sorted, len-entries, len-insert, nat_cmp-IsAntisymmetric}
+pub use Rattle.std.specs.FinMap.Entries.{is_sorted-where_key, where_key}
 pub use Rattle.std.specs.Io.KnownBytes.{Appends, Consumes}
 pub use Rattle.std.specs.List.{All, AllByRecursion, flat_map, list_all, list_any}
-pub use Rattle.std.specs.Option.{option_copied, option_map}
-pub use Rattle.std.specs.Ordering.{eq_by_cmp, is_eq, is_lt, nat_cmp, ordering_reverse, ordering_then}
-pub use Rattle.std.specs.Prelude.{T, if◌then◌else◌, unwrap_or, ◌&&◌, ◌==◌, ◌||◌}
-pub use Rattle.std.specs.Result.{IsErrAnd, IsOk}
+pub use Rattle.std.specs.Option.{option_copied}
+pub use Rattle.std.specs.Ordering.{is_lt, nat_cmp, ordering_reverse, ordering_then}
+pub use Rattle.std.specs.Prelude.{T, if◌then◌else◌, ◌&&◌, ◌==◌, ◌||◌}
+pub use Rattle.std.specs.Result.{IsErrAnd}
 pub use Rattle.std.specs.declared.cmp.Ordering.{Ordering}
 pub use Rattle.std.specs.declared.cmp.Ordering.TheVariants.{Equal, Greater, Less}
 pub use Rattle.byteorder.specs.Endian.{big_number, little_bytes}
 pub use Rattle.byteorder.specs.Numbers.{big_from-take, little_number-reads_back}
 pub use Rattle.mig_bytes.proofs.ByteLists.{Bytes, bytes_back, bytes_front, field_below, field_size, long_back, word_back, word_below}
-pub use Rattle.mig_bytes.proofs.Joins.{both_pass, done, mapped, part_passes, part_whole, placed_passes, same_passes, seq, stopped, then_passes, tried_none, tried_passes}
+pub use Rattle.mig_bytes.proofs.Joins.{both_pass, done, mapped, part_passes, part_whole, placed_passes, same_passes, seq, stopped, then_passes}
 pub use Rattle.mig_bytes.proofs.Placed.{one_more, one_stops, placed_ends, placed_fine, placed_then, told}
 pub use Rattle.mig_bytes.proofs.Taking.{takes_more, takes_none}
 pub use Rattle.mig_bytes.proofs.Texts.{all_parted, flat_more, puts_same, puts_stop, puts_then}
 pub use Rattle.mig_bytes.specs.Bytes.{AppendsPart, AreBytes, Puts, TakesBytes, padding_len}
-pub use Rattle.mig_bytes.specs.Judged.{Gives, Judged, part, placed, tried, ◌>>=◌}
+pub use Rattle.mig_bytes.specs.Judged.{Gives, Judged, part, placed, ◌>>=◌}
 pub use Rattle.mig_bytes.specs.Judged.Judged.{Passes}
 pub use Rattle.mig_guest.proofs.PartOrder.{part_exact, part_total}
-pub use Rattle.mig_guest.proofs.PartRows.{host_part, number_found, numbered, of_part, one_code}
-pub use Rattle.mig_guest.specs.Formed.{IsPart, IsRawContent, IsTop, width_of}
-pub use Rattle.mig_guest.specs.Frames.{FrameMap, FrameOf, entries_from, is_type_of}
-pub use Rattle.mig_guest.specs.Hosts.{HostFrame, HostFrames, HostOf, IsHostFrame, IsHostPart, IsOneToOne, IsValid}
+pub use Rattle.mig_guest.proofs.PartRows.{number_found, numbered, one_code}
+pub use Rattle.mig_guest.specs.Formed.{IsRawContent}
+pub use Rattle.mig_guest.specs.Frames.{entries_from, is_type_of}
+pub use Rattle.mig_guest.specs.Hosts.{HostFrame, HostFrames, HostOf, IsHostFrame, IsHostPart, IsValid}
 pub use Rattle.mig_guest.specs.Order.{IsAbove, part_cmp}
 pub use Rattle.mig_guest.specs.Parts.{FitsPolicy, PartMap, parts_behind, parts_of}
 pub use Rattle.mig_guest.specs.declared.part_key.PartKey.{PartKey}
@@ -43,10 +43,9 @@ pub use Rattle.mig_headers.specs.declared.image_fault.ImagePlace.TheVariants.{Fr
 pub use Rattle.mig_headers.specs.declared.kind.Kind.{Kind}
 pub use Rattle.mig_headers.specs.declared.kind.Kind.TheVariants.{Hvm, Pv}
 pub use Rattle.mig_image.specs.Answer.{BeginsWithImage, IsHost}
-pub use Rattle.mig_image.specs.HostView.{AreInverse, AreMatched, HostAndSpare, IsMade, MachineMap, MachinesAndSpare, host_seen, machine_in, with_machine, with_machines}
-pub use Rattle.mig_image.specs.Hosted.{IsBaseOutside, hosted, least_width, rank_in}
+pub use Rattle.mig_host.specs.HostView.{HostAndSpare, has_machine, put_frame, put_part_in}
 pub use Rattle.mig_image.specs.Image.{IsHostImage, frame_text, host_word, part_text}
-pub use Rattle.mig_image.specs.ImageParts.{behind_head, bytes_at, code_allows, code_fits, count_at, fault_of_bytes, fault_of_frame, fault_of_host_head, fault_of_name, fault_of_padding, fault_of_part, fault_of_sizes, frame_head_at, frame_rows, frame_said, frames_at, has_frame_from, has_machine, has_part_from, head_key, head_pfn, head_type, head_type_number, host_frame_at, host_head_at, host_page_at, host_parts_at, is_full, is_wide, name_rows, opened, padding_at, part_at, part_head_at, part_rows, put_frame, put_part_in, size_rows}
+pub use Rattle.mig_image.specs.ImageParts.{behind_head, bytes_at, code_allows, code_fits, count_at, fault_of_bytes, fault_of_frame, fault_of_host_head, fault_of_name, fault_of_padding, fault_of_part, fault_of_sizes, frame_head_at, frame_rows, frame_said, frames_at, has_frame_from, has_part_from, head_key, head_pfn, head_type, head_type_number, host_frame_at, host_head_at, host_page_at, host_parts_at, is_full, is_wide, name_rows, opened, padding_at, part_at, part_head_at, part_rows, size_rows}
 pub use Rattle.mig_image.specs.PartCounts.{Counts}
 pub use Rattle.mig_pagetypes.specs.PageTypes.{all_types, number_of, type_has_data, type_of, type_or_none}
 pub use Rattle.mig_pagetypes.specs.declared.page_type.PageType.{PageType}

@@ -7,10 +7,10 @@ use Rattle.mig_pagetypes.specs.declared.page_type.PageType.TheVariants.{Xtab}
 use Rattle.mig_pagetypes.proofs.Numbers.{number_small, type_back}
 use Rattle.mig_image.specs.Image.{frame_head_of}
 use Rattle.mig_bytes.proofs.Said.{bytes_pass, said_goes}
+use Rattle.mig_host.proofs.InOrder.{has_from, get_at, get_front, each_entry, no_entry, none_passes, few_ranks, entries_behind, found_passes, nat_rises}
+use Rattle.mig_host.proofs.HostsMade.{valid_frame}
 use Rattle.mig_image.proofs.FieldBytes.{word_then, long_last, regroup}
 use Rattle.mig_image.proofs.Chains.{Chain, put_all, chain_of, chain_same, Found, AllFound, chain_back, chain_entries, chain_keeps}
-use Rattle.mig_image.proofs.InOrder.{has_from, get_at, get_front, each_entry, no_entry, none_passes, few_ranks, entries_behind, found_passes, nat_rises}
-use Rattle.mig_image.proofs.HostsMade.{valid_frame}
 
 -- a frame that may stand behind these
 pub record FrameFits (kind : Kind) (width : ℕ) (m : HostFrames) (e : ℕ × HostFrame) : Type 0 where

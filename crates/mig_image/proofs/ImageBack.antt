@@ -6,10 +6,10 @@ use Rattle.mig_headers.specs.RecordTypes.{pv}
 use Rattle.mig_image.specs.Image.{host_head, image}
 use Rattle.mig_image.specs.ImageParts.{host_at}
 use Rattle.mig_bytes.proofs.Said.{bytes_pass}
+use Rattle.mig_host.proofs.HostsMade.{valid_empty}
 use Rattle.mig_image.proofs.FieldBytes.{name_then, word_then, long_then, long_last, regroup}
 use Rattle.mig_image.proofs.Chains.{Chain, put_all}
 use Rattle.mig_image.proofs.Frames.{FrameFits, with_frames, frames_back, frame_entries, frames_valid}
-use Rattle.mig_image.proofs.HostsMade.{valid_empty}
 use Rattle.mig_image.proofs.Parts.{PartFits, with_parts, parts_back, part_entries, parts_valid}
 
 -- ---- the head

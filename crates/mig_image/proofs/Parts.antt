@@ -9,11 +9,11 @@ use Rattle.mig_guest.specs.declared.part_code.PartCode.TheVariants.{EmulatorPair
 use Rattle.mig_guest.specs.PartCodes.{code_number, code_of_number, row_of}
 use Rattle.mig_image.specs.Image.{part_head_of}
 use Rattle.mig_bytes.proofs.Said.{bytes_pass, said_goes}
+use Rattle.mig_host.proofs.InOrder.{entries_behind, no_entries, has_from, get_at, each_entry, few_ranks, nat_rises}
+use Rattle.mig_host.proofs.HostsMade.{valid_part}
 use Rattle.mig_image.proofs.FieldBytes.{word_then, word_last, regroup}
 use Rattle.mig_image.specs.declared.read_part.Entries.{Entries}
-use Rattle.mig_image.proofs.InOrder.{entries_behind, no_entries, has_from, get_at, each_entry, few_ranks, nat_rises}
 use Rattle.mig_image.proofs.Chains.{Chain, put_all, chain_of, chain_same, Found, AllFound, chain_back, chain_entries, chain_keeps}
-use Rattle.mig_image.proofs.HostsMade.{valid_part}
 
 -- a part that may stand behind these
 pub record PartFits (kind : Kind) (width : ℕ) (m : PartMap) (e : PartKey × List ℕ) : Type 0 where

@@ -3,9 +3,9 @@ use Rattle.mig_image.proofs.Common.{IsErrAnd, ◌≡◌, ℕ, List, Option, Resu
 use Rattle.std.specs.FinMap as maps
 use Rattle.mig_bytes.specs.declared.part.Stop.{Stop}
 use Rattle.mig_bytes.specs.Fields.{le32, le64}
+use Rattle.mig_host.proofs.InOrder.{none_passes}
 use Rattle.mig_image.proofs.Parts.{behind_bytes, behind_part_head}
 use Rattle.mig_image.proofs.Frames.{frame_fits, page_if, behind_frame_head}
-use Rattle.mig_image.proofs.InOrder.{none_passes}
 use Rattle.mig_image.proofs.KeyTests.{frame_absent}
 
 module _ {C V X Y Z : Type 0} (val : V → X) (Q : Y → Z → Type 0) where

@@ -1,21 +1,13 @@
 -- The pieces of an image, as they are put together and written one behind the other.
-use Rattle.mig_image.proofs.Common.{◌≡◌, ℕ, ◌+◌, ◌<◌, ◌≤◌, cond, true, nat_le, List, [], ◌∷◌, ◌++◌, length, take, drop, Option, Result, refl, sym, ap, subst, ◌∙◌, arith, take-append-drop, drop-drop, append-nil, ◌^◌, codes, length-drop, flat_map-append, common_steps, take_all, All-head, All-drop, All-from_recursion, All, AllByRecursion, flat_map, IsErrAnd, Appends, little_bytes, AppendsPart, Puts, puts_then, puts_stop, puts_same, kind_number, Kind, entries_from, PartKey, HostOf, IsHostPart, IsValid, part_total, part_exact, frame_text, part_text}
+use Rattle.mig_image.proofs.Common.{◌≡◌, ℕ, ◌+◌, ◌<◌, ◌≤◌, List, [], ◌∷◌, ◌++◌, length, take, drop, Option, Result, refl, sym, ap, subst, ◌∙◌, arith, take-append-drop, drop-drop, append-nil, ◌^◌, codes, length-drop, flat_map-append, take_all, All-head, All-drop, All-from_recursion, All, AllByRecursion, flat_map, IsErrAnd, Appends, little_bytes, AppendsPart, Puts, puts_then, puts_stop, puts_same, kind_number, Kind, PartKey, HostOf, IsHostPart, IsValid, part_total, part_exact, frame_text, part_text}
 use Rattle.std.proofs.lemmas.List.{length-drop}
 use Rattle.std.proofs.Math.Seq.{take-add}
 use Rattle.std.proofs.KnownBytes.{Appends-trans}
 use Rattle.std.specs.FinMap as maps
 use Rattle.mig_bytes.specs.declared.failure.WriteFailed.{WriteFailed}
+use Rattle.mig_host.proofs.InOrder.{each_entry}
 use Rattle.mig_image.specs.Image.{host_head, image}
-use Rattle.mig_image.proofs.InOrder.{each_entry}
 use Rattle.mig_image.proofs.Parts.{len_small}
-
--- all numbers are 0 or more
-pub from_zero : {X : Type 0} (es : List (ℕ × X)) → entries_from 0 es ≡ es
-from_zero [] = refl
-from_zero (e ∷ es) = ap (λ b. cond b (e ∷ entries_from 0 es) (entries_from 0 es)) (zero_le e.0) ∙ ap (λ l. e ∷ l) (from_zero es)
-  where
-    zero_le : (n : ℕ) → nat_le 0 n ≡ true
-    zero_le n = grind (arith, common_steps)
 
 module _ {X : Type 0} where
   pub drop_next : (i : ℕ) (xs rest : List X) (x : X) → drop i xs ≡ x ∷ rest → drop (i + 1) xs ≡ rest

@@ -6,7 +6,7 @@ use Rattle.mig_bytes.specs.declared.part.Stop.TheVariants as stops
 use Rattle.mig_headers.specs.declared.image_fault.ImageCause.{ImageCause}
 use Rattle.mig_headers.specs.declared.image_fault.ImagePlace.{ImagePlace}
 use Rattle.mig_guest.specs.Hosts.{HostOf}
-use Rattle.mig_image.specs.HostView.{HostAndSpare}
+use Rattle.mig_host.specs.HostView.{HostAndSpare}
 use Rattle.mig_image.specs.Image.{IsHostImage}
 use Rattle.mig_image.specs.ImageParts.{host_at}
 use Rattle.mig_image.specs.declared.read.ImageAnswer.{ImageAnswer}

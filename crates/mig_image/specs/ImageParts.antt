@@ -28,6 +28,7 @@ use Rattle.mig_guest.specs.Hosts.{HostOf, HostFrame, most_width, machine_limit}
 use Rattle.mig_guest.specs.Order.{part_cmp}
 use Rattle.mig_guest.specs.PartCodes.{code_of_number, row_of}
 use Rattle.mig_guest.specs.Parts.{PartMap, parts_of}
+use Rattle.mig_host.specs.HostView.{has_machine, put_frame, put_part_in}
 use Rattle.mig_image.specs.Image.{pfn_bits}
 
 -- ---- the head, 32 bytes
@@ -83,10 +84,6 @@ head_type_number head = le32 head 0 / 2 ^ pfn_bits
 abbrev pub head_type : List ℕ → PageType
 head_type head = type_or_none (type_of (head_type_number head))
 
--- some frame of the host has this machine frame
-abbrev pub has_machine : HostOf → ℕ → Bool
-has_machine h machine = list_any (λ e. e.1.machine == machine) (maps.entries h.frames)
-
 -- some frame of the host has this PFN or a greater one
 abbrev pub has_frame_from : HostOf → ℕ → Bool
 has_frame_from h pfn = list_any (λ e. nat_le pfn e.0) (maps.entries h.frames)
@@ -119,9 +116,6 @@ host_page_at type input = if type_has_data type then (do
 -- the frame that a head and a page say
 abbrev pub frame_said : List ℕ → Option (List ℕ) → HostFrame
 frame_said head page = record { type = head_type head; machine = le64 head 8; page = page }
-
-abbrev pub put_frame : HostOf → ℕ → HostFrame → HostOf
-put_frame h pfn frame = record h { frames = maps.insert h.frames pfn frame }
 
 abbrev pub host_frame_at : HostOf → List ℕ → Judged ImageCause HostOf
 host_frame_at h input = do
@@ -167,9 +161,6 @@ fault_of_bytes code bytes = first_fault (((code == 258) && not (are_canonical_pa
 
 abbrev pub fault_of_padding : List ℕ → Option ImageCause
 fault_of_padding padding = first_fault ((not (list_all (λ b. b == 0) padding), PartPadding) ∷ [])
-
-abbrev pub put_part_in : HostOf → PartKey → List ℕ → HostOf
-put_part_in h key bytes = record h { parts = maps.insert h.parts key bytes }
 
 -- the head of a part behind those of the host
 abbrev pub part_head_at : HostOf → List ℕ → Judged ImageCause (List ℕ)

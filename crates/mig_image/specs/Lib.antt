@@ -1,5 +1,3 @@
-pub mod HostView
-pub mod Hosted
 pub mod Image
 pub mod ImageParts
 pub mod Answer

@@ -10,11 +10,10 @@ ghost use Rattle.mig_image.specs.Answer.{IsHost, ReadsHost, BeginsWithImage, ima
 ghost use Rattle.mig_image.specs.ImageParts.{fault_of_host_head, fault_of_frame, has_frame_from, frame_head_at, host_frame_at, frames_at, count_at, head_type, head_pfn, behind_head, host_at};
 
 use crate::head::{kind_in, read_head};
-use crate::host::Host;
-use crate::machine_frames::MACHINE_LIMIT;
 use crate::read_part::read_parts;
 use mig_bytes::{Source, Stop, take_part, u32_le, u64_le};
 use mig_headers::{ImageCause, ImagePlace, Kind};
+use mig_host::{Host, MACHINE_LIMIT};
 use mig_pagetypes::PageType;
 use std::alloc::Global;
 
@@ -174,7 +173,7 @@ fn read_count<S: Source>(src: &mut S) -> Result<u64, Stop<ImageCause>>
 }
 
 /// Takes the frames and parts behind a head.
-#[tactic(auto, using(crate::proofs::InOrder::no_entries))]
+#[tactic(auto, using(mig_host::proofs::InOrder::no_entries))]
 fn read_behind<S: Source>(
     alloc: Global,
     src: &mut S,

@@ -12,10 +12,10 @@ ghost use Rattle.mig_guest.specs.Parts.{PartMap};
 ghost use Rattle.mig_image.specs.ImageParts.{fault_of_part, fault_of_bytes, head_key, code_fits, code_allows, has_part_from, is_full, part_head_at, bytes_at, padding_at, part_at, host_parts_at};
 ghost use Rattle.mig_image.specs.PartCounts.{Counts};
 
-use crate::host::Host;
 use mig_bytes::{Source, Stop, pad_len, take_long, take_part, u32_le};
 use mig_guest::{PartCode, PartKey};
 use mig_headers::{ImageCause, ImagePlace, Kind};
+use mig_host::Host;
 use mig_policy::canonical_pairs;
 use std::alloc::Global;
 

@@ -13,10 +13,10 @@ ghost use Rattle.mig_guest.specs.Frames.{entries_from};
 ghost use Rattle.mig_image.specs.Image.{frame_head_of, frame_text, part_head_of, part_text, image};
 
 use crate::head::IMAGE_NAME;
-use crate::host::Host;
 use mig_bytes::{Sink, WriteFailed, pad_len, put_all, put_u32_le, put_u64_be, put_u64_le};
 use mig_guest::PartKey;
 use mig_headers::Kind;
+use mig_host::Host;
 use mig_pagetypes::PageType;
 
 /// The number of a kind of guest.

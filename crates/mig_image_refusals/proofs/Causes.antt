@@ -16,8 +16,9 @@ use Rattle.mig_guest.specs.declared.part_code.PartCode.{PartCode}
 use Rattle.mig_pagetypes.specs.Limits.{most_frames}
 use Rattle.mig_pagetypes.specs.PageTypes.{all_types, number_of, type_of, type_or_none}
 use Rattle.mig_pagetypes.specs.declared.page_type.PageType.TheVariants.{Notab, L1Tab, L2Tab, L3Tab, L4Tab, L1Pinned, L2Pinned, L3Pinned, L4Pinned, Broken, Xalloc, Xtab}
-use Rattle.mig_image.proofs.InOrder.{found_passes}
-use Rattle.mig_image.specs.ImageParts.{code_fits, fault_of_bytes, fault_of_frame, fault_of_host_head, fault_of_padding, fault_of_part, frame_rows, has_frame_from, has_machine, has_part_from, head_key, head_pfn, head_type, head_type_number, is_full, is_wide, name_rows, size_rows}
+use Rattle.mig_host.proofs.InOrder.{found_passes}
+use Rattle.mig_host.specs.HostView.{has_machine}
+use Rattle.mig_image.specs.ImageParts.{code_fits, fault_of_bytes, fault_of_frame, fault_of_host_head, fault_of_padding, fault_of_part, frame_rows, has_frame_from, has_part_from, head_key, head_pfn, head_type, head_type_number, is_full, is_wide, name_rows, size_rows}
 use Rattle.mig_image_refusals.specs.Refusal.{ImageHeadHas, FrameHas, PartHas, BytesHave, PaddingHas}
 use Rattle.mig_image_refusals.specs.Refusal.{ImageHeadHas as heads, FrameHas as frames, PartHas as parts}
 use Rattle.mig_image_refusals.specs.Refusal.BytesHave.{other_than_pairs}

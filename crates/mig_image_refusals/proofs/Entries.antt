@@ -12,8 +12,9 @@ use Rattle.std.proofs.lemmas.List.Folds.{list_all_at}
 use Rattle.mig_guest.proofs.PartOrder.{part_exact, part_total}
 use Rattle.mig_guest.specs.Order.{IsAbove, part_cmp}
 use Rattle.mig_guest.specs.Parts.{PartMap}
-use Rattle.mig_image.specs.ImageParts.{has_frame_from, has_machine, has_part_from}
-use Rattle.mig_image.proofs.InOrder.{all_there, some_entry}
+use Rattle.mig_host.specs.HostView.{has_machine}
+use Rattle.mig_image.specs.ImageParts.{has_frame_from, has_part_from}
+use Rattle.mig_host.proofs.InOrder.{all_there, some_entry}
 use Rattle.mig_image.proofs.KeyTests.{part_there}
 
 value_of : {X : Type 0} (o : Option X) → IsSome o → (v : X) × (o ≡ Some v)

@@ -8,7 +8,8 @@ use Rattle.mig_pagetypes.specs.PageTypes.{number_of, type_has_data, type_of, typ
 use Rattle.mig_pagetypes.proofs.Numbers.{type_back}
 use Rattle.mig_image.proofs.FieldBytes.{regroup}
 use Rattle.mig_image.proofs.Frames.{behind_frame_head, page_if}
-use Rattle.mig_image.specs.ImageParts.{frame_head_at, frame_said, head_pfn, head_type, head_type_number, host_frame_at, host_page_at, opened, put_frame}
+use Rattle.mig_host.specs.HostView.{put_frame}
+use Rattle.mig_image.specs.ImageParts.{frame_head_at, frame_said, head_pfn, head_type, head_type_number, host_frame_at, host_page_at, opened}
 use Rattle.mig_image_refusals.specs.Refusal.{FramesTo, Opens, SpellsFrame}
 use Rattle.mig_image_refusals.specs.Refusal.FramesTo.{at_first, one_more}
 use Rattle.mig_image_refusals.specs.Refusal.ImagePart.{Head, FrameHead, Page}

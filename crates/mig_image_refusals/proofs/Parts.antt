@@ -4,7 +4,8 @@ use Rattle.mig_bytes.specs.Bytes.{padding_len}
 use Rattle.mig_headers.specs.declared.image_fault.ImagePlace.TheVariants as places
 use Rattle.mig_image.proofs.FieldBytes.{regroup}
 use Rattle.mig_image.proofs.Parts.{behind_bytes, behind_part_head}
-use Rattle.mig_image.specs.ImageParts.{count_at, head_key, part_at, put_part_in}
+use Rattle.mig_host.specs.HostView.{put_part_in}
+use Rattle.mig_image.specs.ImageParts.{count_at, head_key, part_at}
 use Rattle.mig_image_refusals.specs.Refusal.{FramesTo, PartsTo, SpellsPart}
 use Rattle.mig_image_refusals.specs.Refusal.PartsTo.{at_first, one_more}
 use Rattle.mig_image_refusals.specs.Refusal.ImagePart.{Number, PartHead, Bytes, Padding}

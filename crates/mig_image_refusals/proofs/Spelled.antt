@@ -17,9 +17,9 @@ use Rattle.mig_guest.specs.Parts.{PartMap}
 use Rattle.mig_image.proofs.Chains.{put_all}
 use Rattle.mig_image.proofs.Frames.{frame_entries, frames_valid}
 use Rattle.mig_image.proofs.Frames.{frames_back as frames_said}
-use Rattle.mig_image.proofs.HostsMade.{valid_empty}
+use Rattle.mig_host.proofs.HostsMade.{valid_empty}
 use Rattle.mig_image.proofs.ImageBack.{image_back}
-use Rattle.mig_image.proofs.InOrder.{no_entries}
+use Rattle.mig_host.proofs.InOrder.{no_entries}
 use Rattle.mig_image.proofs.Parts.{part_entries, parts_valid, with_parts}
 use Rattle.mig_image.proofs.Parts.{parts_back as parts_said}
 use Rattle.mig_image.specs.Image.{frame_text, host_head, image, part_text}

@@ -5,7 +5,8 @@ use Rattle.mig_bytes.proofs.Failing.{fails_is, is_fails}
 use Rattle.mig_headers.specs.Headers.{kind_number, kind_of_number}
 use Rattle.mig_headers.specs.declared.image_fault.ImagePlace.TheVariants as places
 use Rattle.mig_image.proofs.Parts.{behind_bytes, behind_part_head}
-use Rattle.mig_image.specs.ImageParts.{behind_head, count_at, frame_said, frames_at, head_key, head_pfn, head_type, host_at, host_frame_at, host_head_at, host_parts_at, opened, part_at, put_frame, put_part_in}
+use Rattle.mig_host.specs.HostView.{put_frame, put_part_in}
+use Rattle.mig_image.specs.ImageParts.{behind_head, count_at, frame_said, frames_at, head_key, head_pfn, head_type, host_at, host_frame_at, host_head_at, host_parts_at, opened, part_at}
 use Rattle.mig_image_refusals.specs.Refusal.{BehindImage, FramesTo, Opens, PartsTo, RefusedImage}
 use Rattle.mig_image_refusals.specs.Refusal.BehindImage.{at_head, at_frame, at_page, at_number, at_part, at_bytes, at_padding}
 use Rattle.mig_image_refusals.specs.Refusal.ImageHeadHas.{bad_kind}

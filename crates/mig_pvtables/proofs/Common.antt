@@ -6,7 +6,7 @@ pub use Rattle.std.specs.Cmp.{IsTotalOrder, nat_cmp_total}
 pub use Rattle.std.specs.FinMap.{FinMap, IsAntisymmetric, entries_sorted, get-entries, get-from_entries, get-insert, nat_cmp-IsAntisymmetric, same_map}
 pub use Rattle.std.specs.List.{All, list_any, range_with_len}
 pub use Rattle.std.specs.Option.{option_map, option_or}
-pub use Rattle.std.specs.Ordering.{eq_by_cmp, is_eq, is_lt, nat_cmp, ordering_reverse}
+pub use Rattle.std.specs.Ordering.{eq_by_cmp, is_lt, nat_cmp, ordering_reverse}
 pub use Rattle.std.specs.Prelude.{find, nat_le, option_and_then, replicate, ⊤, ◌&&◌, ◌==◌, ◌||◌}
 pub use Rattle.std.specs.declared.cmp.Ordering.{Ordering}
 pub use Rattle.mig_guest.proofs.Found.{all_found, first_passes, insert_holds, none_passes}

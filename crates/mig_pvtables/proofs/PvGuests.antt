@@ -6,7 +6,7 @@ use Rattle.std.specs.FinMap as maps
 use Rattle.std.proofs.lemmas.Option.{cond_some}
 use Rattle.mig_pagetypes.specs.declared.page_type.PageType.TheVariants.{Notab}
 use Rattle.mig_pvtables.specs.Faults.{slots, field_numbers, find_in_contexts}
-use Rattle.mig_pvtables.specs.RenamedContexts.{Usage}
+use Rattle.mig_pvtables.specs.VcpuContexts.{Usage}
 use Rattle.mig_pvtables.specs.WholePv.{IsEmptyRange, AreP2mFrames, IsCompletePv, IsWholePv}
 use Rattle.mig_pvtables.proofs.Searches.{none_of, any_in_range, find_in_range, first_found, all_none, none_mapped, is_there, are_few}
 

@@ -54,25 +54,25 @@ names_anew {f = f} {level = level} = record { name = λ slot e x is apart. renam
 abbrev pub normalised_long : (ℕ → Option ℕ) → ℕ → ℕ → ℕ → ℕ
 normalised_long f level slot e = renamed_long f level slot (blanked_entry level slot e)
 
-blanked_zero : (level slot e : ℕ) → is_blank_slot level slot ≡ true → blanked_entry level slot e ≡ 0
+pub blanked_zero : (level slot e : ℕ) → is_blank_slot level slot ≡ true → blanked_entry level slot e ≡ 0
 unfolding blanked_entry
 blanked_zero level slot e is = ap (λ b. cond b 0 e) is
 
-blanked_stays : (level slot e : ℕ) → is_blank_slot level slot ≡ false → blanked_entry level slot e ≡ e
+pub blanked_stays : (level slot e : ℕ) → is_blank_slot level slot ≡ false → blanked_entry level slot e ≡ e
 unfolding blanked_entry
 blanked_stays level slot e is = ap (λ b. cond b 0 e) is
 
-blank_case : (b p l : Bool) (n : ℕ) → says b p l n ≡ Blank → b ≡ true
+pub blank_case : (b p l : Bool) (n : ℕ) → says b p l n ≡ Blank → b ≡ true
 blank_case true p l n is = refl
 blank_case false false l n is = let absent : NotPresent ≡ Blank = is in cc
 blank_case false true true n is = let absent : Superpage ≡ Blank = is in cc
 blank_case false true false n is = let absent : Frame n ≡ Blank = is in cc
 
-blank_slot : (level slot e : ℕ) → entry_of level slot e ≡ Blank → is_blank_slot level slot ≡ true
+pub blank_slot : (level slot e : ℕ) → entry_of level slot e ≡ Blank → is_blank_slot level slot ≡ true
 unfolding entry_of
 blank_slot level slot e is = blank_case (is_blank_slot level slot) (is_present e) (nat_le 2 level && is_large e) (named_frame e) is
 
-not_blank : (level slot e : ℕ) → (entry_of level slot e ≡ Blank → ⊥) → is_blank_slot level slot ≡ false
+pub not_blank : (level slot e : ℕ) → (entry_of level slot e ≡ Blank → ⊥) → is_blank_slot level slot ≡ false
 not_blank level slot e apart = by_case (is_blank_slot level slot) refl
   where
     by_case : (b : Bool) → is_blank_slot level slot ≡ b → is_blank_slot level slot ≡ false

@@ -1,15 +1,23 @@
 -- Walks along the entries of a map, up to the first that gives an answer.
-use Rattle.mig_pvtables.proofs.Common.{◌≡◌, ℕ, ◌+◌, ◌<◌, ◌≤◌, Bool, true, false, cond, not, List, [], ◌∷◌, length, Option, Some, None, is_some, is_none, refl, sym, ap, inl, inr, cases_eq, ◌∙◌, arith, ◌&&◌, ◌==◌, le-leb, find, option_map, option_or, nat_lt, Entry, FrameOf, FrameMap, PartKey, PartMap, Part, parts_after, part_total, part_exact, PageType, level_of, first_passes, first_some, find_slot, find_entry, type_at, fits_field, gdt_ents, field_value, frame_of_field}
+use Rattle.mig_pvtables.proofs.Common.{◌≡◌, ◌≢◌, ℕ, ◌+◌, ◌<◌, ◌≤◌, Bool, true, false, cond, not, List, [], ◌∷◌, length, Option, Some, None, is_some, is_none, refl, sym, ap, subst, inl, inr, cases_eq, ◌∙◌, arith, ◌&&◌, ◌==◌, find, option_map, option_or, nat_lt, Entry, FrameOf, FrameMap, PartKey, PartMap, Part, parts_after, part_total, part_exact, PageType, level_of, first_passes, first_some, find_slot, find_entry, type_at, fits_field, gdt_ents, field_value, frame_of_field}
+use Rattle.std.proofs.Common.{Bor}
+use Rattle.std.specs.Array.{IsWholeChunk}
 use Rattle.std.specs.FinMap as maps
+use Rattle.std.specs.Option.{MatchOption}
 use Rattle.std.proofs.lemmas.Option.{cond_some}
 use Rattle.mig_guest.specs.Frames.{entries_from}
 use Rattle.mig_guest.specs.Parts.{parts_of}
+use Rattle.mig_guest.proofs.NextEntries.{from_zero}
 use Rattle.mig_pvtables.specs.Faults.{field_numbers}
-use Rattle.mig_pvtables.specs.RenamedContexts.{Usage}
+use Rattle.mig_pvtables.specs.VcpuContexts.{Usage}
 use Rattle.mig_pvtables.proofs.BlankCodes.{is_next, by_test, next_parts}
 use Rattle.mig_pvtables.proofs.PvGuests.{misses}
 use Rattle.mig_pvtables.proofs.Searches.{cond_none}
 use Rattle.mig_pvtables.proofs.Slots.{first_field, no_field}
+
+-- a part that is taken as an array of n bytes is that array
+pub taken : (part : List ℕ) (n : ℕ) {o : Option (Bor (List ℕ))} {array : Bor (List ℕ)} → o ≡ Some array → MatchOption o (length part ≢ n) (λ y. IsWholeChunk part y.now n) → array.now ≡ part
+taken part n is cases = (subst (λ (o : Option (Bor (List ℕ))). MatchOption o (length part ≢ n) (λ y. IsWholeChunk part y.now n)) is cases).same
 
 -- ---- an answer that those behind give, too
 
@@ -27,10 +35,6 @@ module _ {A C : Type 0} (f : A → Option C) (now rest : List A) (answer : Optio
 
 pub frames_counted : (frames : FrameMap) → maps.len frames ≡ length (maps.entries frames)
 frames_counted frames = maps.len-entries frames
-
-from_first : {X : Type 0} (es : List (ℕ × X)) → entries_from 0 es ≡ es
-from_first [] = refl
-from_first (e ∷ es) = ap (λ b. cond b (e ∷ entries_from 0 es) (entries_from 0 es)) (le-leb 0 e.0 (omega arith)) ∙ ap (λ l. e ∷ l) (from_first es)
 
 -- a frame that isn't there
 pub not_there : (frames : FrameMap) (pfn : ℕ) (type : Option PageType) → type ≡ type_at frames pfn → is_some type ≡ false → is_none (maps.get frames pfn) ≡ true
@@ -50,7 +54,7 @@ module _ (bad : Entry → Bool) (frames : FrameMap) where
   IsSoFrom from = first_some in_frame (entries_from from (maps.entries frames)) ≡ find_entry bad frames
 
   pub frames_start : IsSoFrom 0
-  frames_start = ap (first_some in_frame) (from_first (maps.entries frames))
+  frames_start = ap (first_some in_frame) (from_zero (maps.entries frames))
 
   module _ (from : ℕ) (so : IsSoFrom from) where
     pub frames_end : entries_from from (maps.entries frames) ≡ [] → None ≡ find_entry bad frames

@@ -4,17 +4,10 @@ pub mod Blank
 pub mod Faults
 pub mod Tables
 pub mod Renaming
-pub mod RenamedContexts
 pub mod P2mPages
 pub mod BadEntries
 pub mod Whole
 pub mod WholePv
-pub mod Localised
-pub mod Normalised
-pub mod View
-pub mod Sound
 pub mod BlankSteps
-pub mod LocaliseSteps
-pub mod NormaliseSteps
 pub mod P2mMarks
 pub mod WorkedGuest

@@ -21,8 +21,12 @@ field_value context field = long_at context (field_place field)
 abbrev pub is_marked : ℕ → Bool
 is_marked v = v % 2 == 1
 
--- whether vCPU id uses the field, which has the value v, where its GDT has so many descriptors: each of the GDT's frames
--- holds 512
+-- which fields are used: whether vCPU id uses the field, which has the value v, where its GDT has so many descriptors. In
+-- a stream is_used says it, in a host is_used_somewhere.
+abbrev pub Usage : Type 0
+Usage = (id ents field v : ℕ) → Bool
+
+-- whether vCPU id uses the field in a stream: each of the GDT's frames holds 512 descriptors
 abbrev pub is_used : ℕ → ℕ → ℕ → ℕ → Bool
 is_used id ents field v = if field == 0 then id == 0 else if nat_le field 16 then nat_lt ((field - 1) * 512) ents else if field == 17 then true else is_marked v
 

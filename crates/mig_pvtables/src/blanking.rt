@@ -83,7 +83,7 @@ fn zero_page(guest: &mut Guest, pfn: u64)
 }
 
 /// The pages of the P2M frames become zeros.
-pub(crate) fn zero_p2m_frames(guest: &mut Guest)
+pub fn zero_p2m_frames(guest: &mut Guest)
     ensures { guest.new ≡ record guest.old { frames = each_value (where_listed guest.old.parts with_zero_page) guest.old.frames } }
 {
     let mut index = 0;
@@ -138,7 +138,7 @@ fn blank_vcpu(guest: &mut Guest, key: PartKey)
 }
 
 /// Brings each vCPU's context to its blank form.
-pub(crate) fn blank_vcpus(guest: &mut Guest)
+pub fn blank_vcpus(guest: &mut Guest)
     requires { (key : PartKey) (context : List ℕ) → maps.get guest.old.parts key ≡ Some context → key.code ≡ 4 → length context ≡ 5168 }
     ensures { guest.new ≡ record guest.old { parts = each_value (blanked_code 4 (λ _. blanked_context)) guest.old.parts } }
 {
@@ -150,7 +150,7 @@ pub(crate) fn blank_vcpus(guest: &mut Guest)
 }
 
 /// Bytes 3096 to 3103 of SHARED_INFO become 0.
-pub(crate) fn blank_shared_info(guest: &mut Guest)
+pub fn blank_shared_info(guest: &mut Guest)
     requires { IfSome (maps.get guest.old.parts page_key) (λ page. length page ≡ 4096) }
     ensures { guest.new ≡ record guest.old { parts = each_value (only part_cmp page_key blanked_shared) guest.old.parts } }
 {

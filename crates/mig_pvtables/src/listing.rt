@@ -19,7 +19,7 @@ const EMPTY: u64 = 1;
 const NEEDED: u64 = 2;
 
 /// The key of the only part of its code.
-pub(crate) fn sole_key(code: PartCode) -> PartKey
+pub fn sole_key(code: PartCode) -> PartKey
     ensures { result ≡ record { code = code_number code; key1 = 0; key2 = 0 } }
 {
     PartKey {
@@ -30,24 +30,14 @@ pub(crate) fn sole_key(code: PartCode) -> PartKey
 }
 
 /// Whether the only part of its code isn't there.
-pub(crate) fn lacks(parts: &Parts, code: PartCode) -> bool
+pub fn lacks(parts: &Parts, code: PartCode) -> bool
     ensures { result ≡ is_none (maps.get parts.now (record { code = code_number code; key1 = 0; key2 = 0 })) }
 {
     parts.get(sole_key(code)).is_none()
 }
 
-/// How many P2M frames are listed.
-pub(crate) fn listed_count(parts: &Parts) -> usize
-    ensures { result ≡ count_in (maps.get parts.now p2m_key) }
-{
-    match parts.get(sole_key(PartCode::P2mFrames)) {
-        Some(list) => list.len() / 8,
-        None => 0,
-    }
-}
-
 /// The PFN of P2M frame `index`, where there are so many.
-pub(crate) fn listed_pfn(parts: &Parts, index: usize) -> Option<u64>
+pub fn listed_pfn(parts: &Parts, index: usize) -> Option<u64>
     ensures value { result ≡ listed parts.now index }
     ensures small { IfSome result (λ _. index < 2 ^ 61) }
     ensures counted { IfSome result (λ _. index < count_in (maps.get parts.now p2m_key)) }
@@ -95,7 +85,7 @@ fn mark_for(needed: bool) -> u64
 }
 
 /// The type of a frame.
-pub(crate) fn frame_type(frames: &FrameStore, pfn: u64) -> Option<PageType>
+pub fn frame_type(frames: &FrameStore, pfn: u64) -> Option<PageType>
     ensures value { result ≡ type_at frames.now.frames pfn }
     ensures small { IsSome result → pfn < pfn_limit }
 {
@@ -107,7 +97,7 @@ pub(crate) fn frame_type(frames: &FrameStore, pfn: u64) -> Option<PageType>
 
 /// The first place at which the list of the P2M frames is wrong. A mark is kept of each PFN that is a frame of its own, so
 /// that memory is taken for frames that were sent, and not for what the list names.
-pub(crate) fn misplaced_frame(
+pub fn misplaced_frame(
     alloc: Global,
     frames: &FrameStore,
     parts: &Parts,

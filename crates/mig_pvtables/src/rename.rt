@@ -45,7 +45,7 @@ pub struct BadEntry {
 
 /// The first slot whose entry names a machine frame that has no frame number.
 #[tactic(auto, using(crate::proofs::Slots::no_slot))]
-pub(crate) fn unknown_slot<F: Frames>(page: &[u8; 4096], level: u8, frames: &F) -> Option<usize>
+pub fn unknown_slot<F: Frames>(page: &[u8; 4096], level: u8, frames: &F) -> Option<usize>
     requires least { 1 ≤ level }
     requires most { level ≤ 4 }
     ensures value { result ≡ first_unknown (F.pfns frames.now) level page.now }
@@ -63,7 +63,7 @@ pub(crate) fn unknown_slot<F: Frames>(page: &[u8; 4096], level: u8, frames: &F) 
 }
 
 /// Sets blank slots to 0, and puts the frame number of each machine frame that an entry names in its place.
-pub(crate) fn rename_back<F: Frames>(page: &mut [u8; 4096], level: u8, frames: &F)
+pub fn rename_back<F: Frames>(page: &mut [u8; 4096], level: u8, frames: &F)
     requires least { 1 ≤ level }
     requires most { level ≤ 4 }
     requires small { (slot n pfn : ℕ) → slot < 512 → what_is_said level page.old slot ≡ Frame n → F.pfns frames.now n ≡ Some pfn → pfn < 2 ^ 40 }

@@ -47,7 +47,7 @@ pub fn put_entry(page: &mut [u8; 4096], slot: usize, frame: u64)
 
 /// The first slot with a superpage.
 #[tactic(auto, using(crate::proofs::Slots::no_slot))]
-pub(crate) fn superpage_slot(page: &[u8; 4096], level: u8) -> Option<usize>
+pub fn superpage_slot(page: &[u8; 4096], level: u8) -> Option<usize>
     requires least { 1 ≤ level }
     requires most { level ≤ 4 }
     ensures value { result ≡ first_superpage level page.now }

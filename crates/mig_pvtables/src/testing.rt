@@ -97,7 +97,7 @@ fn absent_target(guest: &Guest) -> Option<(u64, usize)>
 }
 
 /// Whether a field of a vCPU's context may say a frame of this type.
-pub(crate) fn fits(field: u8, kind: Option<PageType>) -> bool
+pub fn is_type_of_field(field: u8, kind: Option<PageType>) -> bool
     ensures { result ≡ fits_field field kind }
 {
     if field <= 16 {
@@ -113,7 +113,7 @@ fn misfit(guest: &Guest, context: &[u8; 5168], id: u32) -> Option<u8>
 {
     for field in 0..FIELDS {
         if let Some(pfn) = vcpu_frame(context, id, field) {
-            if !fits(field, guest.frame(pfn)) {
+            if !is_type_of_field(field, guest.frame(pfn)) {
                 return Some(field);
             }
         }

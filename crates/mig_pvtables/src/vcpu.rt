@@ -7,16 +7,16 @@ ghost use Rattle.mig_pvtables.specs.VcpuContexts.{field_place, field_value, fiel
 use mig_bytes::{put_u64_le, u64_le};
 
 /// The code of the parts that are contexts of vCPUs.
-pub(crate) const VCPU_BASIC: u32 = 4;
+pub const VCPU_BASIC: u32 = 4;
 
 /// How many fields of a context hold a frame.
-pub(crate) const FIELDS: u8 = 19;
+pub const FIELDS: u8 = 19;
 
 /// Where the number of the GDT's descriptors stands.
 const GDT_ENTS: usize = 4960;
 
 /// How many descriptors a vCPU's GDT has.
-pub(crate) fn gdt_ents(context: &[u8; 5168]) -> u64
+pub fn gdt_ents(context: &[u8; 5168]) -> u64
     ensures { result ≡ ents_in context.now }
 {
     u64_le(context, GDT_ENTS)
@@ -60,7 +60,7 @@ pub fn vcpu_frame(context: &[u8; 5168], id: u32, field: u8) -> Option<u64>
 }
 
 /// The frame that a field of a vCPU's context says in a host: there ctrlreg[1] is used where it isn't 0.
-pub(crate) fn host_frame(context: &[u8; 5168], id: u32, field: u8) -> Option<u64>
+pub fn host_frame(context: &[u8; 5168], id: u32, field: u8) -> Option<u64>
     requires { field ≤ 18 }
     ensures { result ≡ field_says_somewhere id context.now field }
 {

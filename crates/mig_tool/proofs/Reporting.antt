@@ -25,12 +25,12 @@ use Rattle.mig_report.specs.declared.outcome.Outcome.TheVariants as outcomes
 use Rattle.mig_report.specs.declared.outcome.Refusal.TheVariants as refusals
 use Rattle.mig_report.specs.declared.status.Status.{Status}
 use Rattle.mig_report.specs.declared.status.Status.TheVariants as statuses
-use Rattle.mig_image.specs.Hosted.{hosted, IsBaseOutside}
+use Rattle.mig_host.specs.Hosted.{hosted, IsBaseOutside}
 use Rattle.mig_image.proofs.ImageReads.{image_reads}
 use Rattle.mig_pvtables.specs.Whole.{IsWhole}
 use Rattle.mig_pvtables.proofs.HvmGuests.{hvm_complete}
 use Rattle.mig_pvtables.proofs.PvGuests.{pv_complete}
-use Rattle.mig_image.proofs.HostedGuests.{whole_valid, whole_sound, whole_seen}
+use Rattle.mig_host.proofs.HostedGuests.{whole_valid, whole_sound, whole_seen}
 use Rattle.mig_bytes.specs.Bytes.{AppendsPart}
 use Rattle.mig_report.specs.declared.outcome.Summary.{Summary}
 use Rattle.mig_restore.specs.declared.answer.StreamAnswer.{StreamAnswer}

@@ -7,11 +7,11 @@ use Rattle.mig_bytes.specs.Faults.{Rose}
 use Rattle.mig_bytes.specs.Judged.Judged.{Passes}
 use Rattle.mig_guest.specs.Guests.{GuestOf}
 use Rattle.mig_guest.specs.Hosts.{IsValid}
-use Rattle.mig_image.specs.Hosted.{hosted}
+use Rattle.mig_host.specs.Hosted.{hosted}
 use Rattle.mig_image.specs.Image.{image}
 use Rattle.mig_image.specs.ImageParts.{host_at}
-use Rattle.mig_pvtables.specs.Sound.{IsSound}
-use Rattle.mig_pvtables.specs.View.{view}
+use Rattle.mig_hosted.specs.Sound.{IsSound}
+use Rattle.mig_hosted.specs.View.{view}
 use Rattle.mig_libxl.specs.Carried.{IsCarried}
 use Rattle.mig_libxl.specs.Canon.{canon_any}
 use Rattle.mig_libxl.specs.Spelled.{AcceptedStream}

@@ -1,17 +1,17 @@
 use Rattle.mig_pvtables.proofs.Common.{arith}
 use Rattle.mig_pvtables.proofs.Walks.{misses_start, misses_end, field_unused, field_fits, field_misses}
 use Rattle.mig_pvtables.proofs.testing.misfit.Goals as goal
-use Rattle.mig_pvtables.proofs.testing.misfit.Goals.{in-Some+else-not-fits, in_default}
+use Rattle.mig_pvtables.proofs.testing.misfit.Goals.{in-Some+else-not-is_type_of_field, in_default}
 
 pub loop-field-init : goal.loop-field-init
 loop-field-init c = misses_start
 
-pub returns-then-not-fits : goal.returns-then-not-fits
-returns-then-not-fits c = record { value = field_misses c.loop-field.invariant c.in-Some.ensures c.frame.ensures c.fits.ensures c.loop-field-test.true c.if-not-fits.true }
+pub returns-then-not-is_type_of_field : goal.returns-then-not-is_type_of_field
+returns-then-not-is_type_of_field c = record { value = field_misses c.loop-field.invariant c.in-Some.ensures c.frame.ensures c.is_type_of_field.ensures c.loop-field-test.true c.if-not-is_type_of_field.true }
 
 pub loop-field-preserved : goal.loop-field-preserved
 loop-field-preserved c = elim c.match-vcpu_frame.branch [
-  | in-Some+else-not-fits w ↦ field_fits c.loop-field.invariant w.in-Some.ensures w.frame.ensures w.fits.ensures w.if-not-fits.false
+  | in-Some+else-not-is_type_of_field w ↦ field_fits c.loop-field.invariant w.in-Some.ensures w.frame.ensures w.is_type_of_field.ensures w.if-not-is_type_of_field.false
   | in_default w ↦ field_unused c.loop-field.invariant w.in_default.ensures
 ]
 

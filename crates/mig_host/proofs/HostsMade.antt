@@ -1,0 +1,145 @@
+-- A host stays valid where a frame or a part is added, and stays what its guest and its machine frames make.
+use Rattle.mig_host.proofs.Common.{◌≡◌, ℕ, ◌<◌, ◌≤◌, ◌^◌, Bool, true, false, cond, length, List, Option, Some, None, is_some, refl, sym, ap, subst, ◌∙◌, ◌⊎◌, inl, inr, arith, unwrap_or, option_map, nat_cmp, eq_by_cmp, nat_cmp_total, nat_cmp-IsAntisymmetric, same_map, get-empty, len-empty, len-entries, empty_of_len, none-some, same_Some, Kind, Pv, PartKey, FrameOf, FrameMap, HostOf, HostFrame, HostFrames, IsHostFrame, IsHostPart, IsOneToOne, IsValid, part_cmp, PartMap, FitsPolicy, parts_of, part_total, part_exact, MachineMap, with_machine, machine_in, host_seen, AreMatched, IsMade, put_frame, put_part_in}
+use Rattle.std.specs.FinMap as maps
+use Rattle.mig_guest.proofs.Found.{insert_holds}
+use Rattle.mig_guest.proofs.KeyedMaps.{insert_len}
+use Rattle.mig_host.proofs.HostMaps.{joined, get_with_machines, count_with_machines, machine_joined}
+use Rattle.mig_host.proofs.InOrder.{found_more, no_entries}
+
+-- ---- a frame more
+
+module _ (h : HostOf) (pfn : ℕ) (frame : HostFrame) (valid : IsValid h) (fine : IsHostFrame h.kind h.width pfn frame)
+    (unused : (other : ℕ) (f : HostFrame) → maps.get h.frames other ≡ Some f → f.machine ≡ frame.machine → ⊥) where
+  abbrev more : HostFrames
+  more = maps.insert h.frames pfn frame
+
+  one_more : IsOneToOne more
+  one_more p q f g has gets alike = by (found_more nat_cmp_total nat_cmp-IsAntisymmetric h.frames pfn frame p f has) (found_more nat_cmp_total nat_cmp-IsAntisymmetric h.frames pfn frame q g gets)
+    where
+      by : ((p ≡ pfn) × (frame ≡ f)) ⊎ (maps.get h.frames p ≡ Some f) → ((q ≡ pfn) × (frame ≡ g)) ⊎ (maps.get h.frames q ≡ Some g) → p ≡ q
+      by (inl (a, b)) (inl (c, d)) = a ∙ sym c
+      by (inl (a, b)) (inr d) = absurd (unused q g d (sym alike ∙ ap (λ (x : HostFrame). x.machine) (sym b)))
+      by (inr b) (inl (c, d)) = absurd (unused p f b (alike ∙ ap (λ (x : HostFrame). x.machine) (sym d)))
+      by (inr b) (inr d) = valid.one_to_one p q f g b d alike
+
+  few_more : length (maps.entries h.frames) < 2 ^ 24 → length (maps.entries more) ≤ 2 ^ 24
+  few_more few = omega (arith, few, insert_len nat_cmp_total h.frames pfn frame, len-entries more, len-entries h.frames)
+
+  pub valid_frame : length (maps.entries h.frames) < 2 ^ 24 → IsValid (put_frame h pfn frame)
+  valid_frame few = record {
+    width = valid.width;
+    some_width = valid.some_width;
+    frames = insert_holds nat_cmp_total nat_cmp-IsAntisymmetric (IsHostFrame h.kind h.width) h.frames pfn frame valid.frames fine;
+    one_to_one = one_more;
+    few = few_more few;
+    parts = valid.parts;
+    leaves = valid.leaves;
+    msrs = valid.msrs;
+  }
+
+-- ---- a part more, or in place of another
+
+module _ (h : HostOf) (key : PartKey) (bytes : List ℕ) (valid : IsValid h) (fine : IsHostPart h.kind h.width key bytes) where
+  pub valid_part : FitsPolicy 17 (maps.insert h.parts key bytes) → FitsPolicy 18 (maps.insert h.parts key bytes) → IsValid (put_part_in h key bytes)
+  valid_part leaves msrs = record {
+    width = valid.width;
+    some_width = valid.some_width;
+    frames = valid.frames;
+    one_to_one = valid.one_to_one;
+    few = valid.few;
+    parts = insert_holds part_total part_exact (IsHostPart h.kind h.width) h.parts key bytes valid.parts fine;
+    leaves = leaves;
+    msrs = msrs;
+  }
+
+-- ---- what a guest and its machine frames make
+
+pub joined_empty : joined maps.empty maps.empty ≡ maps.empty
+joined_empty =
+    empty_of_len (joined maps.empty maps.empty)
+    (len-entries (joined maps.empty maps.empty) ∙ count_with_machines maps.empty (machine_in maps.empty) ∙ sym (len-entries {R = nat_cmp} (maps.empty {X = FrameOf})) ∙ len-empty nat_cmp FrameOf)
+
+-- a host without frames and parts
+pub valid_empty : (kind : Kind) (width : ℕ) → width ≤ 2 ^ 28 → (kind ≡ Pv → 0 < width) → IsValid (record { kind = kind; width = width; frames = maps.empty; parts = maps.empty })
+valid_empty kind width small some = record {
+  width = small;
+  some_width = some;
+  frames = λ pfn f has. absurd (none-some f (sym (get-empty nat_cmp pfn) ∙ has));
+  one_to_one = λ p q f g has gets alike. absurd (none-some f (sym (get-empty nat_cmp p) ∙ has));
+  few = subst (λ (es : List (ℕ × HostFrame)). length es ≤ 2 ^ 24) (sym (no_entries nat_cmp HostFrame)) (omega arith);
+  parts = λ k b has. absurd (none-some b (sym (get-empty part_cmp k) ∙ has));
+  leaves = none_of 17;
+  msrs = none_of 18;
+}
+  where
+    none_of : (code : ℕ) → FitsPolicy code maps.empty
+    none_of code = subst (λ (es : List (PartKey × List ℕ)). length (parts_of code es) ≤ 65536) (sym (no_entries part_cmp (List ℕ))) (omega arith)
+
+-- nothing makes such a host
+pub made_empty : (kind : Kind) (width : ℕ) → width ≤ 2 ^ 28 → (kind ≡ Pv → 0 < width) → IsMade kind width maps.empty maps.empty maps.empty
+made_empty kind width small some = record {
+  matched = λ pfn. ap is_some (get-empty {X = ℕ} nat_cmp pfn) ∙ sym (ap is_some (get-empty {X = FrameOf} nat_cmp pfn));
+  valid = subst (λ (m : HostFrames). IsValid (record { kind = kind; width = width; frames = m; parts = maps.empty })) (sym joined_empty) (valid_empty kind width small some);
+}
+
+module _ (frames : FrameMap) (machines : MachineMap) (pfn : ℕ) (f : FrameOf) (machine : ℕ) where
+  abbrev frames_more : FrameMap
+  frames_more = maps.insert frames pfn f
+
+  abbrev machines_more : MachineMap
+  machines_more = maps.insert machines pfn machine
+
+  -- a frame and its machine frame put
+  pub joined_put : joined frames_more machines_more ≡ maps.insert (joined frames machines) pfn (with_machine f machine)
+  joined_put = same_map nat_cmp_total nat_cmp-IsAntisymmetric _ _ (λ q.
+      get_with_machines frames_more (machine_in machines_more) q
+      ∙ ap (λ (o : Option FrameOf). option_map (λ (x : FrameOf). with_machine x (machine_in machines_more q)) o) (maps.get-insert nat_cmp_total frames pfn f q)
+      ∙ ap (λ (o : Option ℕ). option_map (λ (x : FrameOf). with_machine x (unwrap_or o 0)) (cond (eq_by_cmp nat_cmp q pfn) (Some f) (maps.get frames q))) (maps.get-insert nat_cmp_total machines pfn machine q)
+      ∙ by (eq_by_cmp nat_cmp q pfn) (maps.get frames q) (maps.get machines q)
+      ∙ ap (cond (eq_by_cmp nat_cmp q pfn) (Some (with_machine f machine))) (sym (get_with_machines frames (machine_in machines) q))
+      ∙ sym (maps.get-insert nat_cmp_total (joined frames machines) pfn (with_machine f machine) q))
+    where
+      by : (b : Bool) (o : Option FrameOf) (m : Option ℕ) → option_map (λ (x : FrameOf). with_machine x (unwrap_or (cond b (Some machine) m) 0)) (cond b (Some f) o) ≡ cond b (Some (with_machine f machine)) (option_map (λ (x : FrameOf). with_machine x (unwrap_or m 0)) o)
+      by true o m = refl
+      by false o m = refl
+
+  matched_put : AreMatched frames machines → AreMatched frames_more machines_more
+  matched_put matched q = ap is_some (maps.get-insert nat_cmp_total machines pfn machine q) ∙ by (eq_by_cmp nat_cmp q pfn) ∙ sym (ap is_some (maps.get-insert nat_cmp_total frames pfn f q))
+    where
+      by : (b : Bool) → is_some (cond b (Some machine) (maps.get machines q)) ≡ is_some (cond b (Some f) (maps.get frames q))
+      by true = refl
+      by false = matched q
+
+module _ (frames : FrameMap) (machines : MachineMap) (matched : AreMatched frames machines) where
+  -- a number without a frame has no machine frame
+  pub no_machine : (pfn : ℕ) → maps.get (joined frames machines) pfn ≡ None → maps.get machines pfn ≡ None
+  no_machine pfn is = machine_joined frames machines matched pfn ∙ ap (option_map (λ (x : HostFrame). x.machine)) is
+
+  unused_case : (machine : ℕ) (q : ℕ) → maps.get machines q ≡ Some machine → (o : Option HostFrame) → maps.get (joined frames machines) q ≡ o → ((x : HostFrame) → o ≡ Some x → x.machine ≡ machine → ⊥) → ⊥
+  unused_case machine q has None is unused = let no : Some machine ≡ None = sym has ∙ no_machine q is in cc
+  unused_case machine q has (Some x) is unused =
+      unused x refl (same_Some x.machine machine (sym (sym has ∙ machine_joined frames machines matched q ∙ ap (option_map (λ (x : HostFrame). x.machine)) is)))
+
+  -- a machine frame that no frame has belongs to no number
+  pub machine_unused : (machine : ℕ) → ((other : ℕ) (x : HostFrame) → maps.get (joined frames machines) other ≡ Some x → x.machine ≡ machine → ⊥) → (q : ℕ) → maps.get machines q ≡ Some machine → ⊥
+  machine_unused machine unused q has = unused_case machine q has (maps.get (joined frames machines) q) refl (unused q)
+
+module _ (kind : Kind) (width : ℕ) (frames : FrameMap) (machines : MachineMap) (parts : PartMap) where
+  abbrev seen : HostOf
+  seen = host_seen kind width frames machines parts
+
+  module _ (pfn : ℕ) (f : FrameOf) (machine : ℕ) where
+    pub seen_frame : host_seen kind width (maps.insert frames pfn f) (maps.insert machines pfn machine) parts ≡ put_frame seen pfn (with_machine f machine)
+    seen_frame = ap (λ (m : HostFrames). record { kind = kind; width = width; frames = m; parts = parts }) (joined_put frames machines pfn f machine)
+
+    pub made_frame : IsMade kind width frames machines parts → IsHostFrame kind width pfn (with_machine f machine)
+        → ((other : ℕ) (x : HostFrame) → maps.get (joined frames machines) other ≡ Some x → x.machine ≡ machine → ⊥) → length (maps.entries (joined frames machines)) < 2 ^ 24
+        → IsMade kind width (maps.insert frames pfn f) (maps.insert machines pfn machine) parts
+    made_frame made fine unused few = record {
+      matched = matched_put frames machines pfn f machine made.matched;
+      valid = subst IsValid (sym seen_frame) (valid_frame seen pfn (with_machine f machine) made.valid fine unused few);
+    }
+
+  pub made_part : (key : PartKey) (bytes : List ℕ) → IsMade kind width frames machines parts → IsHostPart kind width key bytes → FitsPolicy 17 (maps.insert parts key bytes) → FitsPolicy 18 (maps.insert parts key bytes)
+      → IsMade kind width frames machines (maps.insert parts key bytes)
+  made_part key bytes made fine leaves msrs = record { matched = made.matched; valid = valid_part seen key bytes made.valid fine leaves msrs }

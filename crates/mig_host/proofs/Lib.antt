@@ -1,0 +1,15 @@
+pub mod Common
+pub mod Copies
+pub mod HostLookups
+pub mod HostMaps
+pub mod HostViews
+pub mod HostedGuests
+pub mod HostedPages
+pub mod HostsMade
+pub mod InOrder
+pub mod MachineMaps
+pub mod Machines
+pub mod Ranks
+pub mod RestoredHosts
+pub mod SeenGuests
+pub mod SoundHosts

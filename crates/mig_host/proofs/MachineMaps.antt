@@ -1,0 +1,97 @@
+-- Maps from numbers to numbers, and a map with a function that is its inverse.
+use Rattle.mig_host.proofs.Common.{◌≡◌, ℕ, ◌<◌, IfSome, true, false, nat_eq, Option, Some, None, Result, Ok, Err, refl, sym, ap, ◌∙◌, inl, inr, IsOk, nat_cmp, nat_cmp_total, FinMap, nat_cmp-IsAntisymmetric, get-empty, ne_eqb, cases_eq, none-some, same_Some, MachineMap, AreInverse}
+use Rattle.mig_host.specs.HostView.{pfn_of_machine_in, AreBelowLimit}
+use Rattle.std.specs.Result.{OnOk}
+use Rattle.std.specs.FinMap as maps
+use Rattle.mig_guest.proofs.Found.{insert_holds, remove_holds}
+use Rattle.mig_guest.specs.Hosts.{machine_limit}
+use Rattle.mig_bytes.proofs.NumberMaps.{inserted, inserted_other, removed, removed_other, is_removed}
+use Rattle.mig_host.proofs.Machines.{only_pfn, no_pfn}
+
+-- ---- what a call did, where it is known whether it failed
+
+pub on_taken : {T E P : Type 0} (r : Result T E) → IsOk r → OnOk r P → P
+on_taken (Ok x) e h = h
+on_taken (Err y) e h = let no : false ≡ true = e in cc
+
+-- what isn't there, taken
+pub taken_none : {X : Type 0} (m : FinMap nat_cmp X) (k : ℕ) → maps.get m k ≡ None → maps.remove m k ≡ m
+taken_none m k none = sym (is_removed m m k none (λ q ne. refl))
+
+-- ---- a map and its inverse
+
+pub inverse_empty : AreInverse maps.empty (λ _. None)
+inverse_empty = (λ p m is. absurd (none-some m (sym (get-empty nat_cmp p) ∙ is)), λ m p is. absurd (none-some p is))
+
+module _ (there : MachineMap) (back after : ℕ → Option ℕ) (p m : ℕ) (inverse : AreInverse there back) where
+  -- a pair more, of two numbers that had none
+  module _ (absent : maps.get there p ≡ None) (unused : (q : ℕ) → maps.get there q ≡ Some m → ⊥) (same : after m ≡ Some p) (others : (n : ℕ) → nat_eq m n ≡ false → after n ≡ back n) where
+    put_there : (q n : ℕ) → maps.get (maps.insert there p m) q ≡ Some n → after n ≡ Some q
+    put_there q n is = elim (cases_eq q p) [
+      | inl e ↦
+          let value = same_Some m n (sym (inserted there p q m e) ∙ is) in
+          ap after (sym value) ∙ same ∙ ap Some (sym e)
+      | inr ne ↦
+          let was = sym (inserted_other there p q m ne) ∙ is in
+          others n (ne_eqb m n (λ e. unused q (was ∙ ap Some (sym e)))) ∙ inverse.0 q n was
+    ]
+
+    put_back : (n q : ℕ) → after n ≡ Some q → maps.get (maps.insert there p m) q ≡ Some n
+    put_back n q is = elim (cases_eq m n) [
+      | inl e ↦
+          let value = same_Some p q (sym same ∙ ap after e ∙ is) in
+          inserted there p q m (sym value) ∙ ap Some e
+      | inr ne ↦
+          let was = inverse.1 n q (sym (others n (ne_eqb m n ne)) ∙ is) in
+          inserted_other there p q m (λ e. none-some n (sym absent ∙ ap (maps.get there) (sym e) ∙ was)) ∙ was
+    ]
+
+    pub inverse_put : AreInverse (maps.insert there p m) after
+    inverse_put = (put_there, put_back)
+
+  -- a pair less
+  module _ (has : maps.get there p ≡ Some m) (same : after m ≡ None) (others : (n : ℕ) → nat_eq m n ≡ false → after n ≡ back n) where
+    taken_there : (q n : ℕ) → maps.get (maps.remove there p) q ≡ Some n → after n ≡ Some q
+    taken_there q n is = elim (cases_eq q p) [
+      | inl e ↦ absurd (none-some n (sym (removed there p q e) ∙ is))
+      | inr ne ↦
+          let was = sym (removed_other there p q ne) ∙ is in
+          others n (ne_eqb m n (λ e. ne (same_Some q p (sym (inverse.0 q n was) ∙ ap back (sym e) ∙ inverse.0 p m has)))) ∙ inverse.0 q n was
+    ]
+
+    taken_back : (n q : ℕ) → after n ≡ Some q → maps.get (maps.remove there p) q ≡ Some n
+    taken_back n q is = elim (cases_eq m n) [
+      | inl e ↦ absurd (none-some q (sym same ∙ ap after e ∙ is))
+      | inr ne ↦
+          let was = inverse.1 n q (sym (others n (ne_eqb m n ne)) ∙ is) in
+          removed_other there p q (λ e. ne (same_Some m n (sym has ∙ ap (maps.get there) (sym e) ∙ was))) ∙ was
+    ]
+
+    pub inverse_taken : AreInverse (maps.remove there p) after
+    inverse_taken = (taken_there, taken_back)
+
+-- ---- the PFN that has a machine frame
+
+module _ (there : MachineMap) (back : ℕ → Option ℕ) (inverse : AreInverse there back) where
+  goes_back : (pfn machine : ℕ) → maps.get there pfn ≡ Some machine → pfn_of_machine_in there machine ≡ Some pfn
+  goes_back pfn machine is =
+      only_pfn (λ (m : ℕ). m) machine there pfn machine is refl (λ q m at same. same_Some q pfn (sym (inverse.0 q m at) ∙ ap back same ∙ inverse.0 pfn machine is))
+
+  pub machine_back : (pfn : ℕ) (r : Option ℕ) → r ≡ maps.get there pfn → IfSome r (λ machine. pfn_of_machine_in there machine ≡ Some pfn)
+  machine_back pfn None is = tt
+  machine_back pfn (Some machine) is = goes_back pfn machine (sym is)
+
+  pub pfn_looked_up : (machine : ℕ) (r : Option ℕ) → r ≡ back machine → r ≡ pfn_of_machine_in there machine
+  pfn_looked_up machine (Some pfn) is = sym (goes_back pfn machine (inverse.1 machine pfn (sym is)))
+  pfn_looked_up machine None is = sym (no_pfn (λ (m : ℕ). m) machine there (λ q m at same. none-some q (is ∙ ap back (sym same) ∙ inverse.0 q m at)))
+
+-- ---- machine frames below the limit
+
+pub below_empty : AreBelowLimit maps.empty
+below_empty p m is = absurd (none-some m (sym (get-empty nat_cmp p) ∙ is))
+
+pub below_put : (there : MachineMap) (pfn machine : ℕ) → AreBelowLimit there → machine < machine_limit → AreBelowLimit (maps.insert there pfn machine)
+below_put there pfn machine below small = insert_holds nat_cmp_total nat_cmp-IsAntisymmetric (λ p m. m < machine_limit) there pfn machine below small
+
+pub below_taken : (there : MachineMap) (pfn : ℕ) → AreBelowLimit there → AreBelowLimit (maps.remove there pfn)
+below_taken there pfn below = remove_holds nat_cmp_total nat_cmp-IsAntisymmetric (λ p m. m < machine_limit) there pfn below

@@ -1,0 +1,7 @@
+pub mod RenamedContexts
+pub mod Localised
+pub mod Normalised
+pub mod View
+pub mod Sound
+pub mod LocaliseSteps
+pub mod NormaliseSteps

@@ -1,5 +1,0 @@
-use Rattle.mig_image.proofs.HostedGuests.{whole_sound, whole_faultless}
-use Rattle.mig_image.proofs.law.hosted_is_sound.Goals as goal
-
-pub returns : goal.returns
-returns c = record { sound = whole_sound; faultless = whole_faultless }

@@ -1,5 +1,0 @@
-use Rattle.mig_image.proofs.RestoredHosts.{AreCounted}
-use Rattle.mig_image.proofs.restore.count_up.Given as goal
-
-abbrev pub invariant-loop-i : goal.invariant-loop-i
-invariant-loop-i l = AreCounted l.guest.frames l.base l.from l.i l.machines.machines
