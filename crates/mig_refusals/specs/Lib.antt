@@ -1,1 +1,7 @@
-pub mod Wrapper
+pub mod LibxcPv
+pub mod Libxc
+pub mod Stream
+pub mod LegacyToolstack
+pub mod Legacy
+pub mod ImageFile
+pub mod ImageFileFronts

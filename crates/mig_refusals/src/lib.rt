@@ -1,10 +1,27 @@
-//! Refusals of streams of either form in the words of the format.
+//! Refusals of each form of input in the words of the form.
 //!
-//! Responsible for: the relation of an input with the place and the cause for which it is refused, and what is left, where
-//! the input may be a bare image or an image inside a libxl stream; and the laws that join it with the judging of
-//! mig_libxl. It has no code of its own. Refusals of images are those of mig_refused.
+//! Responsible for: the relations of an input with the place and the cause for which it is refused, and what is left:
+//! as a libxc image (`libxc`), as a stream that is a bare image or an image inside a libxl stream (`stream`), as a legacy
+//! stream (`legacy`), and as the image file of a host (`image_file`); and the laws that join each with the judging of
+//! mig_restore, mig_libxl, mig_legacy and mig_image. It has no code of its own. An image is a part of a stream; an image
+//! file is none.
 #![tactic(auto)]
 
-mod law;
+mod image_file;
+mod legacy;
+mod libxc;
+mod stream;
 
-pub use law::{accepted_or_refused, never_both, one_refusal, refusals_agree};
+pub use image_file::{
+    image_file_accepted_or_refused, image_file_front_is_spelled, image_file_never_both,
+    image_file_one_refusal, image_file_refusals_agree,
+};
+pub use legacy::{
+    legacy_accepted_or_refused, legacy_never_both, legacy_one_refusal, legacy_refusals_agree,
+};
+pub use libxc::{
+    libxc_accepted_or_refused, libxc_never_both, libxc_one_refusal, libxc_refusals_agree,
+};
+pub use stream::{
+    stream_accepted_or_refused, stream_never_both, stream_one_refusal, stream_refusals_agree,
+};

@@ -1,9 +1,0 @@
-pub mod Common
-pub mod Causes
-pub mod Entries
-pub mod Frames
-pub mod Parts
-pub mod Single
-pub mod Verdicts
-pub mod Images
-pub mod Spelled

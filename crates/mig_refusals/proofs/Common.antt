@@ -1,0 +1,198 @@
+-- Names that the proofs of this crate use of other crates, and its own definitions.
+pub use Rattle.std.proofs.Common.{Bool, Err, IsSome, List, None, Ok, Option, Result, Some, [], ap, append-nil, append_assoc, arith, cond, drop, drop-drop, false, inl, inr, is_none, is_some, le_refl, length, length-append, length-drop, length-take-le, ltb-false, nat_eq, nat_le, nat_lt, not, refl, slice_index, subst, suc, sym, take, take-append-drop, true, zero, ℕ, ◌*◌, ◌++◌, ◌+◌, ◌-◌, ◌/◌, ◌<◌, ◌^◌, ◌∙◌, ◌∷◌, ◌≡◌, ◌≤◌, ◌⊎◌}
+pub use Rattle.std.proofs.Math.Seq.{drop-append_seam, take-append_seam}
+pub use Rattle.std.proofs.lemmas.Bool.{agree_below_at, and_from, and_left, and_parts, and_right, both_ways, cases_eq, cases_lt, cases_order, eq-eqb, eqb-false, eqb-true, false≢true, le-leb, le-ltb, leb-false, leb-true, lt-leb, lt-ltb, ltb-true, ne_eqb, not-false, not-true, not_from_false, or_cases, or_left, or_right}
+pub use Rattle.std.proofs.lemmas.Grind.{common_steps}
+pub use Rattle.std.proofs.lemmas.List.{append_cancel_right, nil_from_length}
+pub use Rattle.std.proofs.lemmas.List.Elements.{All-append, All-from_recursion, All-head, All-tail, recursion_from_All}
+pub use Rattle.std.proofs.lemmas.List.Folds.{list_all_at, list_any_at}
+pub use Rattle.std.proofs.lemmas.List.FromFn.{get_or-range_with_len, length-range_with_len}
+pub use Rattle.std.proofs.lemmas.Option.{none-some, same_Some}
+pub use Rattle.std.proofs.lemmas.Slice.Eq.{bytes_eq-Decides}
+pub use Rattle.std.specs.Cmp.{IsTotalOrder, nat_cmp_total, ranked}
+pub use Rattle.std.specs.FinMap.{FinMap, IsAntisymmetric, nat_cmp-IsAntisymmetric}
+pub use Rattle.std.specs.FinMap.Entries.{below_all, is_sorted}
+pub use Rattle.std.specs.List.{All, flat_map, list_all, list_any, range_with_len}
+pub use Rattle.std.specs.Option.{option_map, option_or}
+pub use Rattle.std.specs.Ordering.{eq_by_cmp, is_lt, ordering_reverse}
+pub use Rattle.std.specs.Prelude.{T, filter, find, unwrap_or, ◌&&◌, ◌==◌, ◌||◌}
+pub use Rattle.std.specs.Result.{is_err}
+pub use Rattle.std.specs.Str.{bytes_eq}
+pub use Rattle.std.specs.declared.cmp.Ordering.{Ordering}
+pub use Rattle.std.specs.declared.cmp.Ordering.TheVariants.{Equal, Greater, Less}
+pub use Rattle.byteorder.specs.Endian.{little_bytes, little_number}
+pub use Rattle.mig_bytes.proofs.ByteLists.{bytes_back, bytes_front}
+pub use Rattle.mig_bytes.proofs.Failing.{Names, fails_is, is_fails}
+pub use Rattle.mig_bytes.proofs.Joins.{bind_cases, both_pass, only_first, part_passes, part_whole, passes_not, placed_faulty, placed_passes, same_faulty, same_passes, then_faulty, then_passes, tried_none, tried_passes}
+pub use Rattle.mig_bytes.proofs.Said.{bytes_pass, said_goes, said_passes}
+pub use Rattle.mig_bytes.proofs.Sequences.{accepted_spelled, refused_stops, spelled_accepted, spelled_refused}
+pub use Rattle.mig_bytes.proofs.Steps.{steps_more, steps_stop}
+pub use Rattle.mig_bytes.proofs.Walks.{walk_end_reached}
+pub use Rattle.mig_bytes.specs.Bytes.{AreBytes, IsLeastPadding, padding_len}
+pub use Rattle.mig_bytes.specs.Failing.{Fails, IsFaultless}
+pub use Rattle.mig_bytes.specs.Failing.Fails.{faulty, short}
+unfoldable pub use Rattle.mig_bytes.specs.Fields.{le64}
+pub use Rattle.mig_bytes.specs.Fields.{be32, be64, le16, le32}
+unfoldable pub use Rattle.mig_bytes.specs.Judged.{each, steps}
+pub use Rattle.mig_bytes.specs.Judged.{Judged, part, placed, plain_at, said_at, tried, ◌>>=◌}
+pub use Rattle.mig_bytes.specs.Judged.Judged.{Faulty, Passes}
+pub use Rattle.mig_bytes.specs.Sequences.{Spells, sequence_at}
+pub use Rattle.mig_bytes.specs.Walk.{walk_end}
+pub use Rattle.mig_bytes.specs.Walk.Reaches.{here}
+pub use Rattle.mig_headers.proofs.Chains.{chain_more, gone, none_of, not_last, scan_is}
+pub use Rattle.mig_headers.proofs.ContextTexts.{in32}
+pub use Rattle.mig_headers.proofs.FirstCauses.{ascends, is_named, join, none_is, rows_name}
+pub use Rattle.mig_headers.proofs.FirstFaults.{both_none, neither_some, rows_fine}
+pub use Rattle.mig_headers.proofs.KindNumbers.{kind_back}
+pub use Rattle.mig_headers.proofs.PairTexts.{canonical_pairs_are_computed}
+pub use Rattle.mig_headers.proofs.RecordNumbers.{numbers_are_inverse}
+unfoldable pub use Rattle.mig_headers.specs.Contexts.{after_entry, fault_at, scan}
+pub use Rattle.mig_headers.specs.Contexts.{ChainTo, Scanned, entry_end, is_last, scan_at}
+pub use Rattle.mig_headers.specs.FirstCauses.{IsEarlier, IsTriedFirst}
+pub use Rattle.mig_headers.specs.Headers.{domain_rows, fault_of_domain, fault_of_image, fault_of_libxl, fault_of_marker, image_rows, is_from_legacy, kind_number, kind_of_number, libxl_ident, libxl_rows, marker_rows}
+pub use Rattle.mig_headers.specs.ImageTexts.{number_of_image_cause}
+pub use Rattle.mig_headers.specs.LegacyTexts.{number_of_legacy_cause}
+pub use Rattle.mig_headers.specs.Pairs.{AreCanonicalPairs, are_canonical_pairs}
+pub use Rattle.mig_headers.specs.RecordTypes.{is_optional, pv, record_row_of, type_number, type_of_number}
+pub use Rattle.mig_headers.specs.Rows.{first_fault}
+pub use Rattle.mig_headers.specs.Texts.{number_of_cause}
+pub use Rattle.mig_headers.specs.declared.fault.Cause.{Cause}
+pub use Rattle.mig_headers.specs.declared.fault.Cause.TheVariants.{BadEmulator, BadKey, BadLength, BadPairs, BadPvInfo, ContextCount, EmulatorForPv, EmulatorIndex, GdtEnts, Missing, OutOfOrder, P2mFrame, P2mRange, P2mStart, ParamIndex, PfnOutside, Pv32, TargetAbsent, TooManyRecords, UnknownMandatory, Unsupported, VcpuFrame, VcpuId, WrongKind}
+pub use Rattle.mig_headers.specs.declared.fault.ContextFault.{ContextFault}
+pub use Rattle.mig_headers.specs.declared.fault.ContextFault.TheVariants.{HeaderSize, NoEnd, NoHeader, ShortEntry}
+pub use Rattle.mig_headers.specs.declared.fault.Place.{Place}
+pub use Rattle.mig_headers.specs.declared.fault.Place.TheVariants.{DomainHeader, ImageHeader, LibxlHeader, Record}
+pub use Rattle.mig_headers.specs.declared.image_fault.ImageCause.{ImageCause}
+pub use Rattle.mig_headers.specs.declared.image_fault.ImageCause.TheVariants.{PartBytes, PartLength, PartMany, PartOrder, PartPadding}
+pub use Rattle.mig_headers.specs.declared.image_fault.ImagePlace.{ImagePlace}
+pub use Rattle.mig_headers.specs.declared.kind.Kind.{Kind}
+pub use Rattle.mig_headers.specs.declared.kind.Kind.TheVariants.{Hvm, Pv}
+pub use Rattle.mig_headers.specs.declared.legacy_fault.LegacyCause.{LegacyCause}
+pub use Rattle.mig_headers.specs.declared.legacy_fault.LegacyCause.TheVariants.{BadSignature, BadToolstack, BadVcpuMax, BatchTooLarge, Compressed, Modern, Tmem, Tools32, UnknownChunk, UnpairedIoreq, VerifyOrPv, WordHigh}
+pub use Rattle.mig_headers.specs.declared.legacy_fault.LegacyPlace.{LegacyPlace}
+pub use Rattle.mig_headers.specs.declared.record_type.RecordType.{RecordType}
+pub use Rattle.mig_headers.specs.declared.record_type.RecordType.TheVariants.{PageData, StaticDataEnd, X86PvInfo, X86PvP2mFrames}
+pub use Rattle.mig_pagetypes.proofs.Numbers.{type_back}
+pub use Rattle.mig_pagetypes.specs.FrameWords.{word_has_data, word_pfn, word_type}
+pub use Rattle.mig_pagetypes.specs.LegacyWords.{legacy_type}
+pub use Rattle.mig_pagetypes.specs.Limits.{most_frames, pfn_limit}
+pub use Rattle.mig_pagetypes.specs.PageTypes.{all_types, level_of, number_of, type_has_data, type_of, type_or_none}
+pub use Rattle.mig_pagetypes.specs.declared.page_type.PageType.{PageType}
+pub use Rattle.mig_pagetypes.specs.declared.page_type.PageType.TheVariants.{Broken, L1Pinned, L1Tab, L2Pinned, L2Tab, L3Pinned, L3Tab, L4Pinned, L4Tab, Notab, Xalloc, Xtab}
+pub use Rattle.mig_guest.proofs.Found.{all_found}
+pub use Rattle.mig_guest.proofs.KeyedMaps.{tied}
+pub use Rattle.mig_guest.proofs.PartCursor.{both_of, less, true_of}
+pub use Rattle.mig_guest.proofs.PartOrder.{part_exact, part_total}
+pub use Rattle.mig_guest.specs.Formed.{gdt_ents}
+pub use Rattle.mig_guest.specs.Frames.{FrameMap, FrameOf, is_type_of}
+pub use Rattle.mig_guest.specs.Guests.{GuestOf}
+pub use Rattle.mig_guest.specs.Hosts.{HostFrame, HostOf, IsValid, machine_limit}
+pub use Rattle.mig_guest.specs.Longs.{long_at}
+pub use Rattle.mig_guest.specs.Order.{IsAbove, part_cmp}
+pub use Rattle.mig_guest.specs.PartCodes.{code_number, code_of_number, row_of}
+pub use Rattle.mig_guest.specs.PartKeys.{context_key, p2m_key, shared_key, vcpu_key}
+pub use Rattle.mig_guest.specs.Parts.{PartMap}
+pub use Rattle.mig_guest.specs.Tables.{entry, named_frame}
+pub use Rattle.mig_guest.specs.declared.part_code.PartCode.{PartCode}
+pub use Rattle.mig_guest.specs.declared.part_code.PartCode.TheVariants.{HvmContext, HvmParam, VcpuBasic, VcpuExtended, VcpuMsrs, VcpuXsave}
+pub use Rattle.mig_guest.specs.declared.part_key.PartKey.{PartKey}
+pub use Rattle.mig_guest.specs.declared.table.Entry.{Entry}
+pub use Rattle.mig_guest.specs.declared.table.Entry.TheVariants.{Frame, Superpage}
+pub use Rattle.mig_records.proofs.Places.{none_pass, place_is_first}
+pub use Rattle.mig_records.specs.Faults.{count_rows, fault_of_count, fault_of_long, fault_of_words, type_allows}
+pub use Rattle.mig_records.specs.Words.{data_len_of, first_place, first_word, has_reserved_type, is_outside, names_outside, words}
+pub use Rattle.mig_order.specs.Order.{IsInOrder, broken_rules, content_records, earlier_in, fault_of_type, is_of, late_static, static_records}
+pub use Rattle.mig_bodies.proofs.PvLaws.{vcpu_rows}
+pub use Rattle.mig_bodies.proofs.TableSpelled.{length_passes}
+pub use Rattle.mig_bodies.specs.Layouts.{entry_count, entry_width, fault_of_entries, fault_of_key, front_width, layout}
+pub use Rattle.mig_bodies.specs.PvBodies.{fault_of_p2m, fault_of_pv_info, fault_of_vcpu, is_vcpu, p2m_count}
+pub use Rattle.mig_bodies.specs.Shapes.{fault_by_shape, fault_of_body, fault_of_scan, has_shape, parts_of_body, shape_of}
+pub use Rattle.mig_bodies.specs.declared.layout.Layout.{Layout}
+pub use Rattle.mig_bodies.specs.declared.shape.Shape.{Shape}
+pub use Rattle.mig_bodies.specs.declared.shape.Shape.TheVariants.{Other, Single, Table}
+pub use Rattle.mig_policy.proofs.KeyLaws.{first_fault_is_computed}
+pub use Rattle.mig_policy.specs.PairFaults.{IsBadKeyAt, IsFirstFault, IsTornAt, pairs_fault}
+pub use Rattle.mig_policy.specs.PairMaps.{pairs_in}
+pub use Rattle.mig_pvtables.proofs.HvmGuests.{hvm_fault}
+pub use Rattle.mig_pvtables.proofs.PvGuests.{counted}
+pub use Rattle.mig_pvtables.proofs.Searches.{find_in_range}
+pub use Rattle.mig_pvtables.proofs.Slots.{found_in_range}
+unfoldable pub use Rattle.mig_pvtables.specs.Faults.{field_numbers, slots}
+pub use Rattle.mig_pvtables.specs.Faults.{fault_of_guest, faults_for, find_entry, find_field, find_p2m, find_slot, first_cause, first_some, is_absent, is_misplaced, is_needed, is_notab, is_this, misfits}
+pub use Rattle.mig_pvtables.specs.P2mFrames.{count_in, listed}
+pub use Rattle.mig_pvtables.specs.Tables.{fault_of_page_table, is_superpage, names_above}
+pub use Rattle.mig_pvtables.specs.VcpuContexts.{field_value, is_used}
+pub use Rattle.mig_restore.proofs.Batches.{behind_good, each_stage, entries_in_place, is_page, of_page, other_entries, page_size, words_stage}
+pub use Rattle.mig_restore.proofs.Bodies.{coded_is, optional_at, shaped_code}
+pub use Rattle.mig_restore.proofs.Converse.{going, headers_go, image_header_goes, marker_goes}
+pub use Rattle.mig_restore.proofs.Laws.{behind_marker, behind_version, image_header}
+unfoldable pub use Rattle.mig_restore.proofs.Parts.{behind_body, behind_record}
+pub use Rattle.mig_restore.proofs.Parts.{asks, head_stage, taken}
+unfoldable pub use Rattle.mig_restore.specs.Judging.{fault_of_fields}
+pub use Rattle.mig_restore.specs.Judging.{Before, Opening, before, body_at, code_of_type, coded_at, entries_at, fault_of_data, fault_of_head, fault_of_level, fault_of_number, fault_of_page, lists_of, most_records, next_at, record_at, type_in_word, typed_at, words_at}
+pub use Rattle.mig_restore.specs.Mean.{meant_type, sent}
+pub use Rattle.mig_restore.specs.Record.{Content, FrameEntry, StreamRecord, is_ended}
+pub use Rattle.mig_restore.specs.Record.Content.{Sets}
+pub use Rattle.mig_restore.specs.Spelled.{AreEntries, Follows, IsEntry}
+unfoldable pub use Rattle.mig_restore.specs.Stream.{image_at, opening_at}
+pub use Rattle.mig_restore.specs.Stream.{ImageOf, IsRefused, image_of, kind_at, marker_at, placed_next, records_at, version_at}
+pub use Rattle.mig_libxl.proofs.Bodies.{FineFields, has_no_image}
+pub use Rattle.mig_libxl.proofs.Forms.{behind_header}
+pub use Rattle.mig_libxl.proofs.Laws.{Ident, header_goes, ident_of, is_header, libxl_goes}
+pub use Rattle.mig_libxl.proofs.Records.{behind_content, found, record_goes}
+pub use Rattle.mig_libxl.specs.Content.{LibxlContent, LibxlRecord, has_emulator, image_among, is_libxl_ended}
+pub use Rattle.mig_libxl.specs.Content.LibxlContent.{Image}
+pub use Rattle.mig_libxl.specs.Emulators.{EmulatorsOf, emulators_of}
+unfoldable pub use Rattle.mig_libxl.specs.Judging.{fault_of_context, fault_of_libxl_fields, fault_of_order, fault_of_pairs, libxl_record_at}
+pub use Rattle.mig_libxl.specs.Judging.{allows_length, body_of_type, emulator_key, fault_of_libxl_head, field_rows, inner_at, is_miscounted, is_pv, is_pv_kind, libxl_content_at, libxl_head_at, most_pairs, order_rows, skipped_at, spelled_with}
+pub use Rattle.mig_libxl.specs.Spelled.{FollowsLibxl}
+unfoldable pub use Rattle.mig_libxl.specs.Stream.{stream_at, wrapped_at}
+pub use Rattle.mig_libxl.specs.Stream.{IsStreamRefused, bare_at, header_at, libxl_records_at}
+pub use Rattle.mig_libxl.specs.Stream.StreamOf.{Bare, Wrapped}
+pub use Rattle.mig_legacy.proofs.Batches.{no_table, page_fine}
+pub use Rattle.mig_legacy.proofs.ChunkNumbers.{numbers_have_kinds}
+pub use Rattle.mig_legacy.proofs.ChunkTexts.{stand_fine}
+pub use Rattle.mig_legacy.proofs.Entries.{faultless_first, faulty_first, nothing_left}
+pub use Rattle.mig_legacy.proofs.Fields.{first32}
+pub use Rattle.mig_legacy.proofs.KindNumbers.{kinds_have_numbers}
+pub use Rattle.mig_legacy.proofs.NameForms.{name_passes, name_spelled}
+pub use Rattle.mig_legacy.proofs.Parts.{counted_at}
+pub use Rattle.mig_legacy.proofs.Spelling.{behind_all, fault_of, len_is, toolstack_spelled}
+pub use Rattle.mig_legacy.proofs.Streams.{behind_chunks, behind_start, behind_tail, stream_of}
+pub use Rattle.mig_legacy.proofs.TailTexts.{fault_of_tail, some_device, start_goes, start_passes, tail_goes, tail_passes}
+pub use Rattle.mig_legacy.specs.Batches.{fault_of_batch, is_high, is_reserved, page_data_words}
+unfoldable pub use Rattle.mig_legacy.specs.Chunks.{kind_of}
+pub use Rattle.mig_legacy.specs.Chunks.{IsNumberOf, negative, negative_kind}
+unfoldable pub use Rattle.mig_legacy.specs.Judged.{entry_fault, toolstack_fault}
+pub use Rattle.mig_legacy.specs.Judged.{entries_fault, entry_len, is_name, name_at, name_in, name_len, toolstack}
+unfoldable pub use Rattle.mig_legacy.specs.Judging.{chunk_at, device_at, fault_of_kind, tail_at}
+pub use Rattle.mig_legacy.specs.Judging.{allowed, batch_at, chunk_content_at, chunk_kind_at, clock_of, context_fault, device_record_at, fault_of_counted, fault_of_max, fault_of_signature, fault_of_start, fault_of_toolstack, frames_sent, is_modern, is_unpaired, kind_rows, legacy_words_at, length_at, or_truncated, pairs_of_toolstack, signature, start_at, tail_of, vcpus_at}
+pub use Rattle.mig_legacy.specs.Legacy.{LegacyChunk, LegacyContent, LegacyStream, LegacyTail, has_value, image_records, is_end, is_legacy_ended, store_key, store_records}
+pub use Rattle.mig_legacy.specs.Legacy.LegacyContent.{Clock, Pairs, Value}
+pub use Rattle.mig_legacy.specs.Spelled.{AcceptedLegacy, FollowsLegacy, IsStart}
+unfoldable pub use Rattle.mig_legacy.specs.Stream.{legacy_at}
+pub use Rattle.mig_legacy.specs.Stream.{IsLegacyRefused, chunks_at, placed_chunk}
+pub use Rattle.mig_legacy.specs.Texts.{pairs_of_physmap}
+pub use Rattle.mig_legacy.specs.Toolstack.{IsName, IsPhysmapHead, Physmap, name_bytes}
+pub use Rattle.mig_legacy.specs.declared.chunk.ChunkKind.{ChunkKind}
+pub use Rattle.mig_legacy.specs.declared.chunk.ChunkKind.TheVariants.{Batch}
+pub use Rattle.mig_image.proofs.Chains.{put_all}
+pub use Rattle.mig_image.proofs.FieldBytes.{regroup}
+pub use Rattle.mig_image.proofs.Frames.{behind_frame_head, frame_entries, frames_valid, page_if}
+pub use Rattle.mig_image.proofs.HostsMade.{valid_empty}
+pub use Rattle.mig_image.proofs.ImageBack.{image_back}
+pub use Rattle.mig_image.proofs.ImageReads.{image_reads}
+pub use Rattle.mig_image.proofs.InOrder.{all_there, found_passes, no_entries, some_entry}
+pub use Rattle.mig_image.proofs.KeyTests.{part_there}
+pub use Rattle.mig_image.proofs.Parts.{behind_bytes, behind_part_head, part_entries, parts_valid, with_parts}
+unfoldable pub use Rattle.mig_image.specs.Image.{host_head, image}
+pub use Rattle.mig_image.specs.Image.{IsHostImage, frame_text, part_text}
+unfoldable pub use Rattle.mig_image.specs.ImageParts.{host_at}
+pub use Rattle.mig_image.specs.ImageParts.{code_fits, count_at, fault_of_bytes, fault_of_frame, fault_of_host_head, fault_of_padding, fault_of_part, frame_head_at, frame_rows, frame_said, frames_at, has_frame_from, has_machine, has_part_from, head_key, head_pfn, head_type, head_type_number, host_frame_at, host_head_at, host_page_at, host_parts_at, is_full, is_wide, name_rows, part_at, put_frame, put_part_in, size_rows}
+pub use Rattle.mig_refusals.specs.ImageFile.{BehindImageFile, BytesHave, FrameHas, FramesTo, ImageFileHeadHas, ImageFilePart, IsFaultlessImageFilePart, Opens, PaddingHas, PartHas, PartsTo, RefusedImageFile, SpellsFrame, SpellsPart, StandsInImageFile, image_file_size}
+pub use Rattle.mig_refusals.specs.ImageFileFronts.{EndsInFrames, EndsInParts}
+pub use Rattle.mig_refusals.specs.Legacy.{BehindLegacy, InChunk, InChunkBody, InDevice, InTail, IsFaultlessLegacyPart, LegacyContextHas, LegacyLengthHas, LegacyPart, LegacyPartFails, MaxHas, NumberHas, RefusedLegacy, SignatureHas, StandsInLegacy, StartHas, ToolstackHas, TypeHas, WordsHave, legacy_size, word_place}
+pub use Rattle.mig_refusals.specs.LegacyToolstack.{EntryWrong, FieldWrong, PhysmapsTo}
+pub use Rattle.mig_refusals.specs.Libxc.{BehindLibxc, Breaks, ContextHas, DomainHas, EntriesTo, EntryHas, FrontHas, GuestHas, HeadHas, HeaderHas, InBody, InPages, IsFaultlessLibxcPart, IsFirstCause, IsOpen, IsTriedBefore, LengthHas, LibxcPart, LibxcPartFails, MarkerHas, PageHas, PagesTo, ParamsHas, RefusedLibxc, StandsInLibxc, Within, WordsHas, body_part, end_record, libxc_size}
+pub use Rattle.mig_refusals.specs.LibxcPv.{InfoHas, P2mHas, PvGuestHas, TableHas, VcpuHas, rank_of}
+pub use Rattle.mig_refusals.specs.Stream.{BeginsAsLibxl, BehindWrapper, EmulatorContextHas, HasBody, IsFaultlessWrapperPart, IsOpenWrapper, LibxlHeadHas, LibxlHeaderHas, PairsHas, RefusedStream, StandsInWrapper, WithinWrapper, WrapperPart, WrapperPartFails, wrapper_size}

@@ -1,0 +1,305 @@
+-- The causes that stand in each part of an image.
+use Rattle.mig_refusals.proofs.Common.{◌≡◌, ◌⊎◌, inl, inr, ℕ, ◌≤◌, List, [], ◌∷◌, ◌++◌, Bool, true, false, cond, not, nat_eq, nat_le, nat_lt, Option, Some, None, refl, sym, ap, subst, ◌∙◌, arith, and_from, and_left, and_parts, and_right, cases_lt, eq-eqb, eqb-false, eqb-true, false≢true, le-leb, leb-true, lt-ltb, ltb-true, ne_eqb, not-true, not_from_false, or_cases, or_left, or_right, none-some, ◌&&◌, ◌||◌, list_all, le32, le64, first_fault, ImageCause, number_of_image_cause, Kind, Hvm, Pv, HostOf, PageType, ImageFilePart, StandsInImageFile, join, canonical_pairs_are_computed, kind_of_number, AreCanonicalPairs, are_canonical_pairs, pv, PartOrder, PartMany, PartLength, PartBytes, PartPadding, is_type_of, machine_limit, row_of, code_number, code_of_number, PartCode, most_frames, all_types, number_of, type_of, type_or_none, Notab, L1Tab, L2Tab, L3Tab, L4Tab, L1Pinned, L2Pinned, L3Pinned, L4Pinned, Broken, Xalloc, Xtab, found_passes, code_fits, fault_of_bytes, fault_of_frame, fault_of_host_head, fault_of_padding, fault_of_part, frame_rows, has_frame_from, has_machine, has_part_from, head_key, head_pfn, head_type, head_type_number, is_full, is_wide, name_rows, size_rows, ImageFileHeadHas, FrameHas, PartHas, BytesHave, PaddingHas}
+use Rattle.mig_headers.specs.declared.image_fault.ImageCause.TheVariants.{BadPageType}
+use Rattle.mig_headers.proofs.FirstCauses as first
+use Rattle.mig_headers.specs.declared.image_fault.ImageCause.TheVariants as causes
+use Rattle.mig_guest.proofs.PartRows.{number_found, numbered}
+use Rattle.mig_refusals.specs.ImageFile.{ImageFileHeadHas as heads, FrameHas as frames, PartHas as parts}
+use Rattle.mig_refusals.specs.ImageFile.BytesHave.{other_than_pairs}
+use Rattle.mig_refusals.specs.ImageFile.PaddingHas.{not_zero}
+use Rattle.mig_refusals.specs.ImageFile.ImageFilePart.{Head, FrameHead, PartHead, Bytes, Padding}
+use Rattle.mig_refusals.proofs.ImageFileEntries.{frame_from, from_frame, machine_of, of_machine, part_from, from_part, some_byte, byte_some}
+
+-- what a computed fault is of the causes that stand
+abbrev pub Named : (ImageCause → Type 0) → Option ImageCause → Type 0
+Named = first.Named number_of_image_cause (λ _. 0)
+
+abbrev RowHas : List (Bool × ImageCause) → ImageCause → Type 0
+RowHas = first.RowHas number_of_image_cause (λ _. 0)
+
+abbrev To : (ImageCause → Type 0) → List (Bool × ImageCause) → Type 0
+To = first.To number_of_image_cause (λ _. 0)
+
+differs : (n m : ℕ) → not (nat_eq n m) ≡ true → n ≡ m → ⊥
+differs n m h = eqb-false n m (not-true _ h)
+
+test_differs : (n m : ℕ) → (n ≡ m → ⊥) → not (nat_eq n m) ≡ true
+test_differs n m h = ap not (ne_eqb n m h)
+
+-- ---- the image's head
+
+module _ (head : List ℕ) where
+  abbrev kind : Kind
+  kind = kind_of_number (le32 head 8)
+
+  abbrev head_rows : List (Bool × ImageCause)
+  head_rows = name_rows head ++ size_rows kind (le64 head 16) (le64 head 24)
+
+  pub of_pv : (n : ℕ) → pv (kind_of_number n) ≡ true → n ≡ 1
+  of_pv n h = by (nat_eq n 1) refl h
+    where
+      by : (b : Bool) → nat_eq n 1 ≡ b → pv (cond b Pv Hvm) ≡ true → n ≡ 1
+      by true is h = eqb-true n 1 is
+      by false is h = absurd (false≢true h)
+
+  width_of : is_wide kind (le64 head 16) ≡ true → ImageFileHeadHas head (causes.Width (le64 head 16))
+  width_of h = elim (or_cases _ _ h) [
+    | inl wide ↦ heads.too_wide (ltb-true _ _ wide)
+    | inr none ↦ let b = and_parts (pv kind) _ none in heads.pv_without_width (of_pv _ b.0) (eqb-true _ _ b.1)
+  ]
+
+  count_of : (nat_lt most_frames (le64 head 24) || nat_lt (le64 head 16) (le64 head 24)) ≡ true → ImageFileHeadHas head (causes.FrameCount (le64 head 24))
+  count_of h = elim (or_cases _ _ h) [ inl many ↦ heads.too_many (ltb-true _ _ many) | inr above ↦ heads.above_width (ltb-true _ _ above) ]
+
+  head_to : To (ImageFileHeadHas head) head_rows
+  head_to = (
+    (λ h. heads.not_image (differs _ _ h)),
+    ((λ h. let b = and_parts _ _ h in heads.bad_kind (differs _ _ b.0) (differs _ _ b.1)), ((λ h. heads.not_zero (differs _ _ h)), (width_of, (count_of, tt)))),
+  )
+
+  head_from : (c : ImageCause) → ImageFileHeadHas head c → RowHas head_rows c
+  head_from _ (heads.not_image h) = inl (test_differs _ _ h, refl)
+  head_from _ (heads.bad_kind h e) = inr (inl (and_from _ _ (test_differs _ _ h) (test_differs _ _ e), refl))
+  head_from _ (heads.not_zero h) = inr (inr (inl (test_differs _ _ h, refl)))
+  head_from _ (heads.too_wide h) = inr (inr (inr (inl (or_left _ _ (lt-ltb _ _ h), refl))))
+  head_from _ (heads.pv_without_width one zero) = inr (inr (inr (inl (or_right _ _ (and_from _ _ (ap (λ n. pv (kind_of_number n)) one) (eq-eqb _ _ zero)), refl))))
+  head_from _ (heads.too_many h) = inr (inr (inr (inr (inl (or_left _ _ (lt-ltb _ _ h), refl)))))
+  head_from _ (heads.above_width h) = inr (inr (inr (inr (inl (or_right _ _ (lt-ltb _ _ h), refl)))))
+
+  head_named : Named (ImageFileHeadHas head) (fault_of_host_head head)
+  head_named = subst (Named (ImageFileHeadHas head)) (sym (join (name_rows head) (size_rows kind (le64 head 16) (le64 head 24)))) (first.rows_name _ _ (ImageFileHeadHas head) head_rows refl head_to head_from)
+
+-- ---- a frame's head
+
+-- the numbers of types that no frame of a guest of this kind has
+abbrev IsOther : Kind → ℕ → Type 0
+IsOther kind n = ((5 ≤ n) × (n ≤ 8)) ⊎ ((15 ≤ n) ⊎ ((kind ≡ Hvm) × (n ≡ 0 → ⊥) × (n ≡ 13 → ⊥) × (n ≡ 14 → ⊥)))
+
+other_some : (kind : Kind) (t : PageType) (n : ℕ) → is_type_of kind t ≡ false → number_of t ≡ n → IsOther kind n
+other_some Pv Xtab n fails is = inr (inl (omega (arith, is)))
+other_some Pv _ n fails is = absurd (false≢true (sym fails))
+other_some Hvm Notab n fails is = absurd (false≢true (sym fails))
+other_some Hvm Broken n fails is = absurd (false≢true (sym fails))
+other_some Hvm Xalloc n fails is = absurd (false≢true (sym fails))
+other_some Hvm _ n fails is = inr (inr (refl, (λ e. omega (arith, is, e)), (λ e. omega (arith, is, e)), (λ e. omega (arith, is, e))))
+
+-- the numbers of the types that an HVM guest's frames have
+no_hvm : (n : ℕ) → (n ≡ 0) ⊎ ((n ≡ 13) ⊎ (n ≡ 14)) → IsOther Hvm n → ⊥
+no_hvm n is (inl (a, b)) = grind (arith, is, a, b)
+no_hvm n is (inr (inl a)) = grind (arith, is, a)
+no_hvm n is (inr (inr (_, a, b, c))) = elim is [ inl e ↦ a e | inr other ↦ elim other [ inl e ↦ b e | inr e ↦ c e ] ]
+
+some_other : (kind : Kind) (t : PageType) → IsOther kind (number_of t) → is_type_of kind t ≡ false
+some_other Pv Xtab h = refl
+some_other Pv _ (inl (a, b)) = absurd (omega (arith, a, b))
+some_other Pv _ (inr (inl a)) = absurd (omega (arith, a))
+some_other Pv _ (inr (inr (hvm, _, _, _))) = (let no : Pv ≡ Hvm = hvm in cc)
+some_other Hvm Notab h = absurd (no_hvm 0 (inl refl) h)
+some_other Hvm Broken h = absurd (no_hvm 13 (inr (inl refl)) h)
+some_other Hvm Xalloc h = absurd (no_hvm 14 (inr (inr refl)) h)
+some_other Hvm _ h = refl
+
+module _ (kind : Kind) (n : ℕ) where
+  unnamed : type_of n ≡ None → IsOther kind n
+  unnamed none = elim (cases_lt n 15) [
+    | inr above ↦ inr (inl above)
+    | inl less ↦ inl (
+      (let a = not_of 0 Notab refl in let b = not_of 1 L1Tab refl in let c = not_of 2 L2Tab refl in let d = not_of 3 L3Tab refl in let e = not_of 4 L4Tab refl in grind (arith, a, b, c, d, e)),
+      (let a = not_of 9 L1Pinned refl in let b = not_of 10 L2Pinned refl in let c = not_of 11 L3Pinned refl in let d = not_of 12 L4Pinned refl in let e = not_of 13 Broken refl in let f = not_of 14 Xalloc refl in grind (arith, less, a, b, c, d, e, f)),
+    )
+  ]
+    where
+      not_of : (k : ℕ) (t : PageType) → type_of k ≡ Some t → n ≡ k → ⊥
+      not_of k t is e = none-some t (sym none ∙ ap type_of e ∙ is)
+
+  number_is : (t : PageType) → type_of n ≡ Some t → number_of t ≡ n
+  number_is t is = eqb-true (number_of t) n (found_passes (λ t. nat_eq (number_of t) n) all_types t is)
+
+  other_type : is_type_of kind (type_or_none (type_of n)) ≡ false → IsOther kind n
+  other_type fails = by (type_of n) refl fails
+    where
+      by : (o : Option PageType) → type_of n ≡ o → is_type_of kind (type_or_none o) ≡ false → IsOther kind n
+      by None none fails = unnamed none
+      by (Some t) is fails = other_some kind t n fails (number_is t is)
+
+  type_other : IsOther kind n → is_type_of kind (type_or_none (type_of n)) ≡ false
+  type_other other = by (type_of n) refl
+    where
+      by : (o : Option PageType) → type_of n ≡ o → is_type_of kind (type_or_none o) ≡ false
+      by None none = some_other kind Xtab (inr (inl (omega arith)))
+      by (Some t) is = some_other kind t (subst (IsOther kind) (sym (number_is t is)) other)
+
+module _ (h : HostOf) (head : List ℕ) where
+  abbrev Has : ImageCause → Type 0
+  Has = FrameHas h head
+
+  to_type : IsOther h.kind (head_type_number head) → Has (BadPageType (head_type_number head))
+  to_type (inl (low, high)) = frames.reserved_type low high
+  to_type (inr (inl high)) = frames.absent_type high
+  to_type (inr (inr (hvm, a, b, c))) = frames.not_of_hvm hvm a b c
+
+  to_order : has_frame_from h (head_pfn head) ≡ true → Has (causes.FrameOrder (head_pfn head))
+  to_order any = let (q, some, le) = frame_from h (head_pfn head) any in frames.not_above q some le
+
+  to_machine : (nat_eq (le64 head 8) 0 || nat_le machine_limit (le64 head 8)) ≡ true → Has (causes.MachineFrame (le64 head 8))
+  to_machine bad = elim (or_cases _ _ bad) [ inl none ↦ frames.no_machine (eqb-true _ _ none) | inr high ↦ frames.high_machine (leb-true _ _ high) ]
+
+  to_twice : has_machine h (le64 head 8) ≡ true → Has (causes.MachineTwice (le64 head 8))
+  to_twice any = let (q, frame, at, is) = machine_of h (le64 head 8) any in frames.machine_twice q frame at is
+
+  frame_to : To Has (frame_rows h head)
+  frame_to = (
+    (λ r. frames.not_zero (differs _ _ r)),
+    ((λ r. to_type (other_type h.kind (head_type_number head) (not-true _ r))), (to_order, ((λ r. frames.outside (leb-true _ _ r)), (to_machine, (to_twice, tt))))),
+  )
+
+  bad_type : IsOther h.kind (head_type_number head) → RowHas (frame_rows h head) (BadPageType (head_type_number head))
+  bad_type other = inr (inl (not_from_false _ (type_other h.kind (head_type_number head) other), refl))
+
+  frame_has : (c : ImageCause) → Has c → RowHas (frame_rows h head) c
+  frame_has _ (frames.not_zero r) = inl (test_differs _ _ r, refl)
+  frame_has _ (frames.reserved_type low high) = bad_type (inl (low, high))
+  frame_has _ (frames.absent_type high) = bad_type (inr (inl high))
+  frame_has _ (frames.not_of_hvm hvm a b c) = bad_type (inr (inr (hvm, a, b, c)))
+  frame_has _ (frames.not_above q some le) = inr (inr (inl (from_frame h (head_pfn head) q some le, refl)))
+  frame_has _ (frames.outside le) = inr (inr (inr (inl (le-leb _ _ le, refl))))
+  frame_has _ (frames.no_machine none) = inr (inr (inr (inr (inl (or_left _ _ (eq-eqb _ _ none), refl)))))
+  frame_has _ (frames.high_machine high) = inr (inr (inr (inr (inl (or_right _ _ (le-leb _ _ high), refl)))))
+  frame_has _ (frames.machine_twice q frame at is) = inr (inr (inr (inr (inr (inl (of_machine h (le64 head 8) q frame at is, refl))))))
+
+  frame_named : Named Has (fault_of_frame h head)
+  frame_named = first.rows_name _ _ Has (frame_rows h head) refl frame_to frame_has
+
+-- a head in which no cause stands names a type
+pub type_named : (h : HostOf) (head : List ℕ) → ((c : ImageCause) → FrameHas h head c → ⊥) → head_type_number head ≡ number_of (head_type head)
+type_named h head never = by (type_of (head_type_number head)) refl
+  where
+    by : (o : Option PageType) → type_of (head_type_number head) ≡ o → head_type_number head ≡ number_of (type_or_none o)
+    by None none = absurd (never _ (to_type h head (unnamed h.kind (head_type_number head) none)))
+    by (Some t) is = sym (number_is h.kind (head_type_number head) t is)
+
+-- ---- a part's head
+
+module _ (h : HostOf) (head : List ℕ) where
+  abbrev code_said : ℕ
+  code_said = le32 head 0
+
+  abbrev len_said : ℕ
+  len_said = le32 head 12
+
+  abbrev PartOf : ImageCause → Type 0
+  PartOf = PartHas h head
+
+  abbrev fits : PartCode → Bool
+  fits code = (row_of code).of_kind h.kind && (row_of code).keys (le32 head 4) (le32 head 8)
+
+  -- a length is tried only where the table of parts has the code
+  abbrev length_rows : Option PartCode → List (Bool × ImageCause)
+  length_rows None = []
+  length_rows (Some code) = (not ((row_of code).allows h.width len_said), PartLength len_said) ∷ []
+
+  abbrev rows : Option PartCode → List (Bool × ImageCause)
+  rows found = (not (code_fits found h.kind (head_key head)), causes.PartKey code_said) ∷ (has_part_from h.parts (head_key head), PartOrder code_said) ∷ (is_full h.parts code_said, PartMany code_said) ∷ length_rows found
+
+  rows_are : (found : Option PartCode) → code_of_number code_said ≡ found → fault_of_part h head ≡ first_fault (rows found)
+  rows_are None none = rw none refl
+  rows_are (Some code) is = rw is refl
+
+  to_fits : (code : PartCode) → code_said ≡ code_number code → not (fits code) ≡ true → PartOf (causes.PartKey code_said)
+  to_fits code is r = by ((row_of code).of_kind h.kind) ((row_of code).keys (le32 head 4) (le32 head 8)) refl refl (not-true _ r)
+    where
+      by : (a b : Bool) → (row_of code).of_kind h.kind ≡ a → (row_of code).keys (le32 head 4) (le32 head 8) ≡ b → (a && b) ≡ false → PartOf (causes.PartKey code_said)
+      by false b p q fails = parts.other_kind code is p
+      by true false p q fails = parts.other_keys code is q
+      by true true p q fails = absurd (false≢true (sym fails))
+
+  to_above : has_part_from h.parts (head_key head) ≡ true → PartOf (PartOrder code_said)
+  to_above any = let (q, some, above) = part_from h.parts (head_key head) any in parts.not_above q some above
+
+  to_many : is_full h.parts code_said ≡ true → PartOf (PartMany code_said)
+  to_many full =
+      let b = and_parts (nat_eq code_said 17 || nat_eq code_said 18) _ full in
+      parts.too_many (elim (or_cases _ _ b.0) [ inl e ↦ inl (eqb-true _ _ e) | inr e ↦ inr (eqb-true _ _ e) ]) (leb-true _ _ b.1)
+
+  is_policy : (code_said ≡ 17) ⊎ (code_said ≡ 18) → (nat_eq code_said 17 || nat_eq code_said 18) ≡ true
+  is_policy (inl e) = or_left _ _ (eq-eqb _ _ e)
+  is_policy (inr e) = or_right _ _ (eq-eqb _ _ e)
+
+  part_to : (found : Option PartCode) → code_of_number code_said ≡ found → To PartOf (rows found)
+  part_to None none = ((λ _. parts.no_code (λ code is. none-some code (sym none ∙ numbered code_said code is))), (to_above, (to_many, tt)))
+  part_to (Some code) found =
+      let is = number_found code_said code found in
+      (to_fits code is, (to_above, (to_many, ((λ r. parts.other_length code is (not-true _ r)), tt))))
+
+  module _ (found : Option PartCode) (found_is : code_of_number code_said ≡ found) where
+    -- a code that has this number is the one that was found
+    known : (code : PartCode) → code_said ≡ code_number code → found ≡ Some code
+    known code is = sym found_is ∙ numbered code_said code is
+
+    misfits : (code : PartCode) → code_said ≡ code_number code → fits code ≡ false → RowHas (rows found) (causes.PartKey code_said)
+    misfits code is fails = subst (λ o. RowHas (rows o) (causes.PartKey code_said)) (sym (known code is)) (inl (not_from_false _ fails, refl))
+
+    part_has : (c : ImageCause) → PartOf c → RowHas (rows found) c
+    part_has _ (parts.no_code none) = by found found_is
+      where
+        by : (o : Option PartCode) → code_of_number code_said ≡ o → RowHas (rows o) (causes.PartKey code_said)
+        by None is = inl (refl, refl)
+        by (Some code) is = absurd (none code (number_found code_said code is))
+    part_has _ (parts.other_kind code is fails) = misfits code is (and_left _ _ fails)
+    part_has _ (parts.other_keys code is fails) = misfits code is (and_right _ _ fails)
+    part_has _ (parts.not_above q some above) = inr (inl (from_part h.parts (head_key head) q some above, refl))
+    part_has _ (parts.too_many policy many) = inr (inr (inl (and_from _ _ (is_policy policy) (le-leb _ _ many), refl)))
+    part_has _ (parts.other_length code is fails) = subst (λ o. RowHas (rows o) (PartLength len_said)) (sym (known code is)) (inr (inr (inr (inl (not_from_false _ fails, refl)))))
+
+  part_named : Named PartOf (fault_of_part h head)
+  part_named = by (code_of_number code_said) refl
+    where
+      in_order : (found : Option PartCode) → first.ascends number_of_image_cause (λ _. 0) (rows found) ≡ true
+      in_order None = refl
+      in_order (Some code) = refl
+
+      by : (found : Option PartCode) → code_of_number code_said ≡ found → Named PartOf (fault_of_part h head)
+      by found is = subst (Named PartOf) (sym (rows_are found is)) (first.rows_name _ _ PartOf (rows found) (in_order found) (part_to found is) (part_has found is))
+
+-- ---- what stands behind it
+
+bytes_named : (code : ℕ) (bytes : List ℕ) → Named (BytesHave code bytes) (fault_of_bytes code bytes)
+bytes_named code bytes = first.rows_name _ _ (BytesHave code bytes) bytes_rows refl ((λ r. let b = and_parts (nat_eq code 258) _ r in other_than_pairs (eqb-true _ _ b.0) (λ pairs. false≢true (sym (not-true _ b.1) ∙ (canonical_pairs_are_computed bytes).1 pairs))), tt) from
+  where
+    bytes_rows : List (Bool × ImageCause)
+    bytes_rows = (nat_eq code 258 && not (are_canonical_pairs bytes), PartBytes) ∷ []
+
+    unlike : (b : Bool) → are_canonical_pairs bytes ≡ b → (AreCanonicalPairs bytes → ⊥) → b ≡ false
+    unlike true is other = absurd (other ((canonical_pairs_are_computed bytes).0 is))
+    unlike false is other = refl
+
+    from : (c : ImageCause) → BytesHave code bytes c → RowHas bytes_rows c
+    from _ (other_than_pairs is other) = inl (and_from _ _ (eq-eqb _ _ is) (not_from_false _ (unlike (are_canonical_pairs bytes) refl other)), refl)
+
+padding_named : (padding : List ℕ) → Named (PaddingHas padding) (fault_of_padding padding)
+padding_named padding = first.rows_name _ _ (PaddingHas padding) padding_rows refl ((λ r. let (place, within, some) = some_byte padding (not-true _ r) in not_zero place within some), tt) from
+  where
+    padding_rows : List (Bool × ImageCause)
+    padding_rows = (not (list_all (λ b. nat_eq b 0) padding), PartPadding) ∷ []
+
+    from : (c : ImageCause) → PaddingHas padding c → RowHas padding_rows c
+    from _ (not_zero place within some) = inl (not_from_false _ (byte_some padding place within some), refl)
+
+-- ---- all parts
+
+-- what judging tries in a part
+abbrev pub fault_in : ImageFilePart → List ℕ → Option ImageCause
+fault_in Head bytes = fault_of_host_head bytes
+fault_in (FrameHead h) bytes = fault_of_frame h bytes
+fault_in (PartHead h) bytes = fault_of_part h bytes
+fault_in (Bytes code len) bytes = fault_of_bytes code bytes
+fault_in (Padding n) bytes = fault_of_padding bytes
+fault_in _ bytes = None
+
+pub part_is_named : (part : ImageFilePart) (bytes : List ℕ) → Named (StandsInImageFile part bytes) (fault_in part bytes)
+part_is_named Head bytes = head_named bytes
+part_is_named (FrameHead h) bytes = frame_named h bytes
+part_is_named (PartHead h) bytes = part_named h bytes
+part_is_named (Bytes code len) bytes = bytes_named code bytes
+part_is_named (Padding n) bytes = padding_named bytes
+part_is_named _ bytes = record { holds = λ c h. h }

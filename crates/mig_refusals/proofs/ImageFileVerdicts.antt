@@ -1,0 +1,171 @@
+-- An image is refused in words exactly where judging refuses it.
+use Rattle.mig_refusals.proofs.Common.{◌≡◌, inl, inr, ℕ, ◌<◌, List, [], ◌++◌, Bool, true, false, nat_eq, refl, sym, ap, subst, ◌∙◌, append_assoc, le_refl, eqb-true, eqb-false, le32, le64, Judged, ◌>>=◌, placed, Passes, Faulty, placed_passes, placed_faulty, then_passes, then_faulty, bind_cases, both_pass, same_passes, only_first, ImageCause, ImagePlace, HostOf, ImageFilePart, IsFaultlessImageFilePart, regroup, fails_is, is_fails, kind_number, kind_of_number, behind_bytes, behind_part_head, count_at, frame_said, frames_at, head_key, head_pfn, head_type, host_at, host_frame_at, host_head_at, host_parts_at, part_at, put_frame, put_part_in, BehindImageFile, FramesTo, Opens, PartsTo, RefusedImageFile}
+use Rattle.mig_headers.specs.declared.image_fault.ImageCause.TheVariants.{Truncated}
+use Rattle.mig_headers.specs.declared.image_fault.ImagePlace.TheVariants as places
+use Rattle.mig_image.specs.ImageParts.{behind_head, opened}
+use Rattle.mig_refusals.specs.ImageFile.BehindImageFile.{at_head, at_frame, at_page, at_number, at_part, at_bytes, at_padding}
+use Rattle.mig_refusals.specs.ImageFile.ImageFileHeadHas.{bad_kind}
+use Rattle.mig_refusals.specs.ImageFile.ImageFilePart.{Head, FrameHead, Page, Number, PartHead}
+use Rattle.mig_refusals.proofs.ImageFileCauses.{type_named}
+use Rattle.mig_refusals.proofs.ImageFileFrames.{frame_is, frame_step, frames_go, page_behind, page_said, takes_frame, type_is}
+use Rattle.mig_refusals.proofs.ImageFileParts.{BytesOf, PaddingOf, count_is, part_step, parts_go, put_behind, takes_part}
+use Rattle.mig_refusals.proofs.ImageFileSteps.{names, one_part, part_back, part_goes, steps_back, steps_cases, steps_fail}
+
+-- ---- what is refused in words is refused
+
+abbrev pub behind_number : HostOf → ℕ × List ℕ → Judged (ImagePlace × ImageCause) HostOf
+behind_number framed count = host_parts_at count.0 framed count.1
+
+abbrev pub behind_frames : HostOf × List ℕ → Judged (ImagePlace × ImageCause) HostOf
+behind_frames framed = placed places.Parts (count_at framed.1) >>= behind_number framed.0
+
+module _ (front : List ℕ) (count n : ℕ) (h : HostOf) (to : FramesTo front count n h) (left : List ℕ) where
+  -- behind a faultless head
+  front_passes : let f = frames_go front count n h to in host_at (front ++ left) ≡ (frames_at count f.base (f.texts ++ left) >>= behind_frames)
+  unfolding host_at
+  front_passes =
+      let f = frames_go front count n h to in
+      let in_frames = f.texts ++ left in
+      let (is, count_is, opens) = f.first in
+      ap host_at (ap (λ l. l ++ left) f.whole ∙ append_assoc f.start f.texts left)
+      ∙ then_passes (placed places.Head (host_head_at (f.start ++ in_frames))) (λ head. behind_head head.0 head.1) f.start in_frames _ (ap (placed places.Head) (part_goes Head f.start in_frames is))
+      (λ i. frames_at (sym count_is i) (sym opens i) in_frames >>= behind_frames)
+
+  frame_refused : (c : ImageCause) (rest : List ℕ) → n < count → (one_part (FrameHead h) left >>= page_behind h) ≡ Faulty c rest → host_at (front ++ left) ≡ Faulty (places.Frame n, c) rest
+  frame_refused c rest less fails =
+      let f = frames_go front count n h to in
+      front_passes
+      ∙ then_faulty (frames_at count f.base (f.texts ++ left)) behind_frames (places.Frame n, c) rest (steps_fail frame_step _ front count n h f less left (places.Frame n, c) rest (ap (placed (places.Frame n)) (frame_is h left ∙ fails)))
+
+  pub frames_pass : n ≡ count → host_at (front ++ left) ≡ behind_frames (h, left)
+  frames_pass all =
+      let f = frames_go front count n h to in
+      front_passes
+      ∙ then_passes (frames_at count f.base (f.texts ++ left)) behind_frames h left _ (ap (λ m. frames_at m f.base (f.texts ++ left)) (sym all) ∙ f.goes left) refl
+
+part_refused : (front : List ℕ) (count n : ℕ) (h : HostOf) (left : List ℕ) (c : ImageCause) (rest : List ℕ) → PartsTo front count n h → n < count → part_at h left ≡ Faulty c rest → host_at (front ++ left) ≡ Faulty (places.Part n, c) rest
+part_refused front count n h left c rest to less fails =
+    let p = parts_go front count n h to in
+    let s = p.first in
+    let in_parts = p.texts ++ left in
+    ap host_at (ap (λ l. l ++ left) (p.whole ∙ ap (λ l. l ++ p.texts) s.whole ∙ append_assoc s.before s.number p.texts) ∙ append_assoc s.before (s.number ++ p.texts) left ∙ ap (λ l. s.before ++ l) (append_assoc s.number p.texts left))
+    ∙ frames_pass s.before s.frames s.frames p.base s.to (s.number ++ in_parts) refl
+    ∙ then_passes (placed places.Parts (count_at (s.number ++ in_parts))) (behind_number p.base) count in_parts _
+    (ap (placed places.Parts) (count_is (s.number ++ in_parts) ∙ then_passes (one_part Number (s.number ++ in_parts)) (λ a. Passes (le64 a.0 0) a.1) s.number in_parts _ (part_goes Number s.number in_parts s.is) (ap (λ n. Passes n in_parts) (sym s.count_is))))
+    (steps_fail part_step _ front count n h p less left (places.Part n, c) rest (ap (placed (places.Part n)) fails))
+
+behind_refused : (front : List ℕ) (place : ImagePlace) (p : ImageFilePart) (left : List ℕ) (c : ImageCause) (rest : List ℕ) → BehindImageFile front place p → one_part p left ≡ Faulty c rest → host_at (front ++ left) ≡ Faulty (place, c) rest
+unfolding host_at
+behind_refused _ _ _ left c rest at_head h = then_faulty (placed places.Head (host_head_at left)) (λ head. behind_head head.0 head.1) (places.Head, c) rest (ap (placed places.Head) h)
+behind_refused _ _ _ left c rest (at_frame front count n h to less) fails = frame_refused front count n h to left c rest less (then_faulty (one_part (FrameHead h) left) (page_behind h) c rest fails)
+behind_refused _ _ _ left c rest (at_page front head count n h type to less is names) fails =
+    ap host_at (append_assoc front head left)
+    ∙ frame_refused front count n h to (head ++ left) c rest less
+    (then_passes (one_part (FrameHead h) (head ++ left)) (page_behind h) head left _ (part_goes (FrameHead h) head left is)
+    (then_faulty (one_part (Page (head_type head)) left) _ c rest (ap (λ t. one_part (Page t) left) (type_is head type names) ∙ fails)))
+behind_refused _ _ _ left c rest (at_number front count h to) fails =
+    frames_pass front count count h to left refl ∙ then_faulty (placed places.Parts (count_at left)) (behind_number h) (places.Parts, c) rest (ap (placed places.Parts) (count_is left ∙ then_faulty (one_part Number left) _ c rest fails))
+behind_refused _ _ _ left c rest (at_part front count n h to less) fails = part_refused front count n h left c rest to less (then_faulty (one_part (PartHead h) left) (behind_part_head h) c rest fails)
+behind_refused _ _ _ left c rest (at_bytes front head count n h to less is) fails =
+    ap host_at (append_assoc front head left)
+    ∙ part_refused front count n h (head ++ left) c rest to less
+    (then_passes (one_part (PartHead h) (head ++ left)) (behind_part_head h) head left _ (part_goes (PartHead h) head left is) (then_faulty (one_part (BytesOf head) left) (behind_bytes h head) c rest fails))
+behind_refused _ _ _ left c rest (at_padding front head content count n h to less is said) fails =
+    let behind = content ++ left in
+    ap host_at (append_assoc front (head ++ content) left ∙ ap (λ l. front ++ l) (append_assoc head content left))
+    ∙ part_refused front count n h (head ++ behind) c rest to less
+    (then_passes (one_part (PartHead h) (head ++ behind)) (behind_part_head h) head behind _ (part_goes (PartHead h) head behind is)
+    (then_passes (one_part (BytesOf head) behind) (behind_bytes h head) content left _ (part_goes (BytesOf head) content left said)
+    (then_faulty (one_part (PaddingOf head) left) (put_behind h head content) c rest fails)))
+
+pub refused_is : (input : List ℕ) (place : ImagePlace) (c : ImageCause) (rest : List ℕ) → RefusedImageFile input place c rest → host_at input ≡ Faulty (place, c) rest
+refused_is input place c rest r =
+    ap host_at r.whole ∙ behind_refused r.front place r.part r.left c rest r.behind (fails_is Truncated _ _ _ (names r.part) (λ l. l) r.left c rest r.fails)
+
+-- ---- what is refused is refused in words
+
+-- a faultless head says a host
+opens : (head : List ℕ) → IsFaultlessImageFilePart Head head → Opens head (opened head)
+opens head is = record { faultless = is; kind = by (nat_eq (le32 head 8) 1) (nat_eq (le32 head 8) 2) refl refl; width = refl; no_frames = refl; no_parts = refl }
+  where
+    by : (a b : Bool) → nat_eq (le32 head 8) 1 ≡ a → nat_eq (le32 head 8) 2 ≡ b → le32 head 8 ≡ kind_number (kind_of_number (le32 head 8))
+    by true b p q = let one = eqb-true (le32 head 8) 1 p in one ∙ ap (λ n. kind_number (kind_of_number n)) (sym one)
+    by false true p q = let two = eqb-true (le32 head 8) 2 q in two ∙ ap (λ n. kind_number (kind_of_number n)) (sym two)
+    by false false p q = absurd (is.none _ (bad_kind (eqb-false (le32 head 8) 1 p) (eqb-false (le32 head 8) 2 q)))
+
+module _ (input : List ℕ) (place : ImagePlace) (c : ImageCause) (rest : List ℕ) where
+  fails_at : (at : ImagePlace) (front left : List ℕ) (p : ImageFilePart) → at ≡ place → input ≡ front ++ left → BehindImageFile front at p → one_part p left ≡ Faulty c rest → RefusedImageFile input place c rest
+  fails_at at front left p same whole behind h =
+      record { front = front; left = left; part = p; whole = whole; behind = subst (λ q. BehindImageFile front q p) same behind; fails = is_fails Truncated _ _ _ (names p) (λ l. l) left c rest h }
+
+  -- a part that passes belongs to the front
+  further : (front left bytes mid : List ℕ) → input ≡ front ++ left → left ≡ bytes ++ mid → input ≡ (front ++ bytes) ++ mid
+  further front left bytes mid whole is = whole ∙ ap (λ l. front ++ l) is ∙ sym (append_assoc front bytes mid)
+
+  -- behind a front one frame more is refused, in its head or its page
+  frame_fails : (front left : List ℕ) (count n : ℕ) (h : HostOf) → input ≡ front ++ left → FramesTo front count n h → n < count → places.Frame n ≡ place → host_frame_at h left ≡ Faulty c rest → RefusedImageFile input place c rest
+  frame_fails front left count n h whole to less same fails = elim (bind_cases (one_part (FrameHead h) left) (page_behind h) c rest (sym (frame_is h left) ∙ fails)) [
+    | inl e ↦ fails_at (places.Frame n) front left (FrameHead h) same whole (at_frame front count n h to less) e
+    | inr a ↦
+        let (head, mid, passes, stops) = a in
+        let t = head_type head in
+        let p = part_back (FrameHead h) left head mid passes in
+        fails_at (places.Frame n) (front ++ head) mid (Page t) same (further front left head mid whole p.0) (at_page front head count n h t to less p.1 (type_named h head p.1.none))
+        (only_first (λ l. put_frame h (head_pfn head) (frame_said head (page_said t l))) (one_part (Page t) mid) c rest stops)
+  ]
+
+  -- and one part more, in its head, its bytes or its padding
+  part_fails : (front left : List ℕ) (count n : ℕ) (h : HostOf) → input ≡ front ++ left → PartsTo front count n h → n < count → places.Part n ≡ place → part_at h left ≡ Faulty c rest → RefusedImageFile input place c rest
+  part_fails front left count n h whole to less same fails = elim (bind_cases (one_part (PartHead h) left) (behind_part_head h) c rest fails) [
+    | inl e ↦ fails_at (places.Part n) front left (PartHead h) same whole (at_part front count n h to less) e
+    | inr a ↦
+        let (head, mid, passes, stops) = a in
+        let p = part_back (PartHead h) left head mid passes in
+        elim (bind_cases (one_part (BytesOf head) mid) (behind_bytes h head) c rest stops) [
+          | inl e ↦ fails_at (places.Part n) (front ++ head) mid (BytesOf head) same (further front left head mid whole p.0) (at_bytes front head count n h to less p.1) e
+          | inr b ↦
+              let q = part_back (BytesOf head) mid b.0 b.1 b.2 in
+              fails_at (places.Part n) (front ++ (head ++ b.0)) b.1 (PaddingOf head) same (further front left (head ++ b.0) b.1 whole (regroup left mid b.1 head b.0 p.0 q.0)) (at_padding front head b.0 count n h to less p.1 q.1)
+              (only_first (λ _. put_part_in h (head_key head) b.0) (one_part (PaddingOf head) b.1) c rest b.3)
+        ]
+  ]
+
+  number_refused : (front left : List ℕ) (count : ℕ) (h : HostOf) → input ≡ front ++ left → FramesTo front count count h → behind_frames (h, left) ≡ Faulty (place, c) rest → RefusedImageFile input place c rest
+  number_refused front left count h whole to fails = elim (bind_cases (placed places.Parts (count_at left)) (behind_number h) (place, c) rest fails) [
+    | inl e ↦
+        let p = placed_faulty places.Parts place (count_at left) c rest e in
+        fails_at places.Parts front left Number p.1 whole (at_number front count h to) (only_first (λ l. le64 l 0) (one_part Number left) c rest (sym (count_is left) ∙ p.0))
+    | inr a ↦
+        let b = both_pass (one_part Number left) (λ a. Passes (le64 a.0 0) a.1) a.0 a.1 (sym (count_is left) ∙ placed_passes places.Parts (count_at left) a.0 a.1 a.2) in
+        let p = part_back Number left b.x b.mid b.first in
+        let e = same_passes (le64 b.x 0) a.0 b.mid a.1 b.second in
+        let first = subst (λ m. PartsTo (front ++ b.x) m 0 h) e.0 (PartsTo.at_first front b.x count h to p.1) in
+        let (n, less, g, mid, after, same, more, stops) = steps_cases part_step a.0 (λ l m g. PartsTo l a.0 m g) (takes_part a.0) (front ++ b.x) h first a.1 a.0 (place, c) rest (le_refl a.0) a.3 in
+        let s = placed_faulty (places.Part n) place (part_at g mid) c rest stops in
+        part_fails after mid a.0 n g (further front left b.x a.1 whole (p.0 ∙ ap (λ l. b.x ++ l) e.1) ∙ same) more less s.1 s.0
+  ]
+
+  behind_fails : (head left : List ℕ) → input ≡ head ++ left → IsFaultlessImageFilePart Head head → behind_head head left ≡ Faulty (place, c) rest → RefusedImageFile input place c rest
+  behind_fails head left whole is fails =
+      let count = le64 head 24 in
+      let first = FramesTo.at_first head (opened head) (opens head is) in
+      elim (bind_cases (frames_at count (opened head) left) behind_frames (place, c) rest fails) [
+        | inl e ↦
+            let (n, less, h, mid, after, same, to, stops) = steps_cases frame_step count (λ l m g. FramesTo l count m g) (takes_frame count) head (opened head) first left count (place, c) rest (le_refl count) e in
+            let s = placed_faulty (places.Frame n) place (host_frame_at h mid) c rest stops in
+            frame_fails after mid count n h (whole ∙ same) to less s.1 s.0
+        | inr a ↦
+            let (after, same, to) = steps_back frame_step count (λ l m g. FramesTo l count m g) (takes_frame count) head (opened head) first left count a.0 a.1 (le_refl count) a.2 in
+            number_refused after a.1 count a.0 (whole ∙ same) to a.3
+      ]
+
+  pub is_refused : host_at input ≡ Faulty (place, c) rest → RefusedImageFile input place c rest
+  unfolding host_at
+  is_refused fails = elim (bind_cases (placed places.Head (host_head_at input)) (λ head. behind_head head.0 head.1) (place, c) rest fails) [
+    | inl e ↦
+        let p = placed_faulty places.Head place (host_head_at input) c rest e in
+        fails_at places.Head [] input Head p.1 refl at_head p.0
+    | inr a ↦
+        let p = part_back Head input a.0 a.1 (placed_passes places.Head (host_head_at input) a.0 a.1 a.2) in
+        behind_fails a.0 a.1 p.0 p.1 a.3
+  ]

@@ -1,0 +1,94 @@
+-- An input of either form is refused as the format's words say exactly where judging refuses it.
+use Rattle.mig_refusals.proofs.Common.{then_faulty, bind_cases, only_first, placed_faulty, ◌≡◌, inl, inr, ℕ, List, ◌++◌, length, drop, Bool, true, false, cond, nat_eq, nat_le, None, refl, sym, ap, subst, ◌∙◌, append_assoc, be32, false≢true, placed, Passes, Faulty, placed_passes, Cause, ◌&&◌, be64, fault_of_libxl, is_from_legacy, libxl_ident, Place, LibxlHeader, said_passes, refused_stops, image_at, LibxlRecord, is_libxl_ended, FollowsLibxl, found, libxl_record_at, header_at, libxl_records_at, wrapped_at, bare_at, stream_at, IsStreamRefused, Bare, Wrapped, WrapperPart, WrapperPartFails, BeginsAsLibxl, IsOpenWrapper, BehindWrapper, RefusedStream, behind_header, Ident, ident_of, libxl_goes, is_header}
+use Rattle.mig_headers.specs.declared.fault.Cause.TheVariants.{Truncated}
+use Rattle.mig_headers.specs.declared.fault.Place.TheVariants.{LibxlRecord as AtRecord}
+use Rattle.mig_refusals.proofs.Parts.{stage_fails, said_fails}
+use Rattle.mig_refusals.proofs.LibxcVerdicts.{refused_is as image_refused_is, is_refused as image_is_refused}
+use Rattle.mig_refusals.specs.Stream.WrapperPart.{Header}
+use Rattle.mig_refusals.specs.Stream.BehindWrapper.{at_header, in_record}
+use Rattle.mig_refusals.specs.Stream.RefusedStream.{bare, in_wrapper, in_image}
+use Rattle.mig_refusals.proofs.StreamCauses.{tries}
+use Rattle.mig_refusals.proofs.StreamRecords.{down, image_down, up}
+use Rattle.mig_refusals.proofs.StreamFronts.{next_refused, begins, has_begun}
+
+-- ---- what is refused in words is refused
+
+header_refused : (left : List ℕ) (c : Cause) (rest : List ℕ) → WrapperPartFails Header left c rest → wrapped_at left ≡ Faulty (LibxlHeader, c) rest
+unfolding wrapped_at
+header_refused left c rest h = then_faulty (placed LibxlHeader (header_at left)) behind_header (LibxlHeader, c) rest (ap (placed LibxlHeader) (stage_fails (tries Header) (λ header r. Passes header r) left c rest h))
+
+behind_refused : (front : List ℕ) (place : Place) (p : WrapperPart) (left : List ℕ) (c : Cause) (rest : List ℕ) → BehindWrapper front place p → WrapperPartFails p left c rest → stream_at (front ++ left) ≡ Faulty (place, c) rest
+behind_refused _ _ _ left c rest (at_header ident size is) h = libxl_goes ident left size is ∙ header_refused left c rest h
+behind_refused _ _ _ left c rest (in_record front before_it records p o within) h =
+    ap stream_at (append_assoc front before_it left) ∙ next_refused front (before_it ++ left) records (AtRecord (length records), c) rest o (down records before_it p left c rest within h)
+
+-- a bare image
+bare_refused : (input : List ℕ) (at : Place × Cause) (rest : List ℕ) → (BeginsAsLibxl input → ⊥) → image_at input ≡ Faulty at rest → stream_at input ≡ Faulty at rest
+unfolding stream_at
+bare_refused input at rest other h = by (nat_le 8 (length input) && nat_eq (be64 input 0) libxl_ident) refl
+  where
+    by : (b : Bool) → (nat_le 8 (length input) && nat_eq (be64 input 0) libxl_ident) ≡ b → cond b (wrapped_at (drop 8 input)) (bare_at input) ≡ Faulty at rest
+    by true is = absurd (other (begins input is))
+    by false is = then_faulty (image_at input) (λ image. Passes (Bare image.0) image.1) at rest h
+
+pub refused_is : (input : List ℕ) (place : Place) (c : Cause) (rest : List ℕ) → RefusedStream input place c rest → IsStreamRefused input place c rest
+refused_is input place c rest (bare other r) = bare_refused input (place, c) rest other (image_refused_is input place c rest r)
+refused_is input place c rest (in_wrapper w) = ap stream_at w.whole ∙ behind_refused w.front place w.part w.left c rest w.behind w.fails
+refused_is input place c rest (in_image r) =
+    ap stream_at r.whole ∙ next_refused r.front (r.head ++ r.left) r.records (place, c) rest r.is_open (image_down r.records r.head r.left (place, c) rest r.faultless r.is_context (image_refused_is r.left place c rest r.refused))
+
+-- ---- what is refused is refused in words
+
+module _ (input : List ℕ) (place : Place) (c : Cause) (rest : List ℕ) where
+  fails_at : (at : Place) (front left : List ℕ) (p : WrapperPart) → at ≡ place → input ≡ front ++ left → BehindWrapper front at p → WrapperPartFails p left c rest → RefusedStream input place c rest
+  fails_at at front left p same whole behind h = in_wrapper (record { front = front; left = left; part = p; whole = whole; behind = subst (λ q. BehindWrapper front q p) same behind; fails = h })
+
+  -- behind an open front the next record is refused
+  record_fails : (front left : List ℕ) (records : List LibxlRecord) → input ≡ front ++ left → IsOpenWrapper front records → libxl_record_at records left ≡ Faulty (place, c) rest → RefusedStream input place c rest
+  record_fails front left records whole o h = elim (up records left place c rest h) [
+    | inl u ↦ let f = u.0 in fails_at (AtRecord (length records)) (front ++ f.front) f.left f.part_is u.1 (whole ∙ ap (λ l. front ++ l) f.whole ∙ sym (append_assoc front f.front f.left)) (in_record front f.front records f.part_is o f.behind) f.fails
+    | inr u ↦ in_image (record {
+      front = front;
+      head = u.head;
+      left = u.left;
+      records = records;
+      whole = whole ∙ ap (λ l. front ++ l) u.whole;
+      is_open = o;
+      faultless = u.faultless_head;
+      is_context = u.is_context;
+      refused = image_is_refused u.left place c rest u.refused;
+    })
+  ]
+
+  records_fail : (f : Ident input) (more left : List ℕ) → f.behind ≡ more ++ left → length more ≡ 8 → fault_of_libxl more ≡ None → libxl_records_at left ≡ Faulty (place, c) rest → RefusedStream input place c rest
+  records_fail f more left whole size fine h =
+      let s = refused_stops is_libxl_ended libxl_record_at FollowsLibxl found left (place, c) rest h in
+      let header = f.ident ++ more in
+      let o : IsOpenWrapper (header ++ s.bytes) s.parts =
+      record { header = header; legacy = is_from_legacy (be32 more 4); bytes = s.bytes; whole = refl; is_header = is_header f.ident more f.size f.is size fine; spelled = s.spelled; not_ended = s.going } in
+      let all : input ≡ (header ++ s.bytes) ++ s.left =
+      f.whole ∙ ap (λ l. f.ident ++ l) whole ∙ sym (append_assoc f.ident more left) ∙ ap (λ l. header ++ l) s.whole ∙ sym (append_assoc header s.bytes s.left) in
+      record_fails (header ++ s.bytes) s.left s.parts all o s.fails
+
+  wrapped_fails : (f : Ident input) → wrapped_at f.behind ≡ Faulty (place, c) rest → RefusedStream input place c rest
+  unfolding wrapped_at
+  wrapped_fails f h = elim (bind_cases (placed LibxlHeader (header_at f.behind)) behind_header (place, c) rest h) [
+    | inl e ↦
+        let p = placed_faulty LibxlHeader place (header_at f.behind) c rest e in
+        fails_at LibxlHeader f.ident f.behind Header p.1 f.whole (at_header f.ident f.size f.is) (said_fails (tries Header) (λ header. header) f.behind c rest p.0)
+    | inr a ↦
+        let s = said_passes Truncated fault_of_libxl (λ header. header) 8 f.behind a.0 a.1 (placed_passes LibxlHeader (header_at f.behind) a.0 a.1 a.2) in
+        records_fail f s.bytes a.1 s.whole s.size s.fine (only_first Wrapped (libxl_records_at a.1) (place, c) rest a.3)
+  ]
+
+  pub is_refused : IsStreamRefused input place c rest → RefusedStream input place c rest
+  unfolding stream_at
+  is_refused h = by (nat_le 8 (length input) && nat_eq (be64 input 0) libxl_ident) refl h
+    where
+      other : (nat_le 8 (length input) && nat_eq (be64 input 0) libxl_ident) ≡ false → BeginsAsLibxl input → ⊥
+      other is b = false≢true (sym is ∙ has_begun input b)
+
+      by : (b : Bool) → (nat_le 8 (length input) && nat_eq (be64 input 0) libxl_ident) ≡ b → cond b (wrapped_at (drop 8 input)) (bare_at input) ≡ Faulty (place, c) rest → RefusedStream input place c rest
+      by false is g = bare (other is) (image_is_refused input place c rest (only_first Bare (image_at input) (place, c) rest g))
+      by true is g =
+          let f = ident_of input is in wrapped_fails f (sym (libxl_goes f.ident f.behind f.size f.is) ∙ ap stream_at (sym f.whole) ∙ h)

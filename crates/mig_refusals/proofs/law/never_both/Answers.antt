@@ -1,6 +1,0 @@
-use Rattle.mig_libxl.proofs.Laws.{never_both}
-use Rattle.mig_refusals.proofs.Verdicts.{refused_is}
-use Rattle.mig_refusals.proofs.law.never_both.Goals as goal
-
-pub returns : goal.returns
-returns c = λ input guest rest place cause more a r. never_both input guest rest place cause more a (refused_is input place cause more r)
