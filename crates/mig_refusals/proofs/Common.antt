@@ -189,10 +189,11 @@ unfoldable pub use Rattle.mig_image.specs.Image.{host_head, image}
 pub use Rattle.mig_image.specs.Image.{IsHostImage, frame_text, part_text}
 unfoldable pub use Rattle.mig_image.specs.ImageParts.{host_at}
 pub use Rattle.mig_image.specs.ImageParts.{code_fits, count_at, fault_of_bytes, fault_of_frame, fault_of_host_head, fault_of_padding, fault_of_part, frame_head_at, frame_rows, frame_said, frames_at, has_frame_from, has_machine, has_part_from, head_key, head_pfn, head_type, head_type_number, host_frame_at, host_head_at, host_page_at, host_parts_at, is_full, is_wide, name_rows, part_at, put_frame, put_part_in, size_rows}
-pub use Rattle.mig_refusals.specs.ImageFile.{BehindImageFile, BytesHave, FrameHas, FramesTo, ImageFileHeadHas, ImageFilePart, IsFaultlessImageFilePart, Opens, PaddingHas, PartHas, PartsTo, RefusedImageFile, SpellsFrame, SpellsPart, StandsInImageFile, image_file_size}
+pub use Rattle.mig_refusals.specs.ImageFile.{BehindImageFile, BytesHave, FrameHas, FramesTo, ImageFileHeadHas, ImageFilePart, ImageFilePartFails, IsFaultlessImageFilePart, Opens, PaddingHas, PartHas, PartsTo, RefusedImageFile, SpellsFrame, SpellsPart, StandsInImageFile, image_file_size}
 pub use Rattle.mig_refusals.specs.ImageFileFronts.{EndsInFrames, EndsInParts}
-pub use Rattle.mig_refusals.specs.Legacy.{BehindLegacy, InChunk, InChunkBody, InDevice, InTail, IsFaultlessLegacyPart, LegacyContextHas, LegacyLengthHas, LegacyPart, LegacyPartFails, MaxHas, NumberHas, RefusedLegacy, SignatureHas, StandsInLegacy, StartHas, ToolstackHas, TypeHas, WordsHave, legacy_size, word_place}
+pub use Rattle.mig_refusals.specs.Legacy.{BehindLegacy, InChunk, InChunkBody, InDevice, InTail, IsFaultlessLegacyPart, LegacyContextHas, LegacyLengthHas, LegacyPart, LegacyPartFails, LegacyPartStops, MaxHas, NumberHas, RefusedLegacy, SignatureHas, StandsInLegacy, StartHas, ToolstackHas, TypeHas, WordsHave, legacy_size, word_place}
 pub use Rattle.mig_refusals.specs.LegacyToolstack.{EntryWrong, FieldWrong, PhysmapsTo}
 pub use Rattle.mig_refusals.specs.Libxc.{BehindLibxc, Breaks, ContextHas, DomainHas, EntriesTo, EntryHas, FrontHas, GuestHas, HeadHas, HeaderHas, InBody, InPages, IsFaultlessLibxcPart, IsFirstCause, IsOpen, IsTriedBefore, LengthHas, LibxcPart, LibxcPartFails, MarkerHas, PageHas, PagesTo, ParamsHas, RefusedLibxc, StandsInLibxc, Within, WordsHas, body_part, end_record, libxc_size}
 pub use Rattle.mig_refusals.specs.LibxcPv.{InfoHas, P2mHas, PvGuestHas, TableHas, VcpuHas, rank_of}
+pub use Rattle.mig_refusals.specs.Refusals.{AreJudged, FailsBehind, HasOneRefusal, IsAcceptedOrRefused, IsNeverBoth}
 pub use Rattle.mig_refusals.specs.Stream.{BeginsAsLibxl, BehindWrapper, EmulatorContextHas, HasBody, IsFaultlessWrapperPart, IsOpenWrapper, LibxlHeadHas, LibxlHeaderHas, PairsHas, RefusedStream, StandsInWrapper, WithinWrapper, WrapperPart, WrapperPartFails, wrapper_size}

@@ -1,24 +1,20 @@
 -- One part, and steps one after another: how judging goes on behind them, and what fails in them.
-use Rattle.mig_refusals.proofs.Common.{◌≡◌, inl, inr, ℕ, zero, suc, ◌+◌, ◌<◌, ◌≤◌, List, [], ◌++◌, refl, sym, ap, subst, ◌∙◌, arith, append-nil, append_assoc, Judged, ◌>>=◌, said_at, Passes, Faulty, both_pass, same_passes, then_passes, passes_not, bind_cases, ImageCause, number_of_image_cause, ImageFilePart, StandsInImageFile, image_file_size, IsFaultlessImageFilePart, steps, Names, said_goes, bytes_pass, steps_more, steps_stop, IsTriedFirst, none_is, is_named}
+use Rattle.mig_refusals.proofs.Common.{◌≡◌, inl, inr, ℕ, zero, suc, ◌+◌, ◌<◌, ◌≤◌, List, [], ◌++◌, refl, sym, ap, subst, ◌∙◌, arith, append-nil, append_assoc, Judged, ◌>>=◌, said_at, Passes, Faulty, both_pass, same_passes, then_passes, passes_not, bind_cases, ImageCause, ImageFilePart, image_file_size, IsFaultlessImageFilePart, steps, bytes_pass, steps_more, steps_stop}
 use Rattle.mig_headers.specs.declared.image_fault.ImageCause.TheVariants.{Truncated}
-use Rattle.mig_refusals.proofs.ImageFileCauses.{Named, fault_in, part_is_named}
+use Rattle.mig_refusals.proofs.ImageFileCauses.{tries}
+use Rattle.mig_refusals.proofs.Parts.{faultless, part_goes as said_part_goes}
 
 -- ---- one part
 
 abbrev pub one_part : ImageFilePart → List ℕ → Judged ImageCause (List ℕ)
-one_part p input = said_at Truncated (fault_in p) (λ bytes. bytes) (image_file_size p) input
-
-pub names : (p : ImageFilePart) → Names (λ bytes. IsTriedFirst number_of_image_cause (λ _. 0) (StandsInImageFile p bytes)) (fault_in p)
-names p = is_named number_of_image_cause (λ _. 0) (StandsInImageFile p) (fault_in p) (part_is_named p)
+one_part p input = said_at Truncated (tries p).fault (λ bytes. bytes) (image_file_size p) input
 
 -- a faultless part passes, and a part that passes is faultless
 pub part_goes : (p : ImageFilePart) (bytes rest : List ℕ) → IsFaultlessImageFilePart p bytes → one_part p (bytes ++ rest) ≡ Passes bytes rest
-part_goes p bytes rest is = said_goes Truncated (fault_in p) (λ l. l) (image_file_size p) bytes rest is.size (none_is number_of_image_cause (λ _. 0) (StandsInImageFile p bytes) (fault_in p bytes) (part_is_named p bytes) is.none)
+part_goes p bytes rest is = said_part_goes (tries p) (λ l. l) bytes rest is
 
 pub part_back : (p : ImageFilePart) (left bytes rest : List ℕ) → one_part p left ≡ Passes bytes rest → (left ≡ bytes ++ rest) × IsFaultlessImageFilePart p bytes
-part_back p left bytes rest h =
-    let (whole, size, none) = bytes_pass Truncated (fault_in p) (image_file_size p) left bytes rest h in
-    (whole, record { size = size; none = (subst (Named (StandsInImageFile p bytes)) none (part_is_named p bytes)).holds })
+part_back p left bytes rest h = let (whole, size, none) = bytes_pass Truncated (tries p).fault (image_file_size p) left bytes rest h in (whole, faultless (tries p) bytes size none)
 
 -- what is said of a part, and then more of that
 pub said_then : {C X Y Z : Type 0} (says : X → Y) (j : Judged C X) (k : Y × List ℕ → Judged C Z) → ((j >>= λ a. Passes (says a.0) a.1) >>= k) ≡ (j >>= λ a. k (says a.0, a.1))

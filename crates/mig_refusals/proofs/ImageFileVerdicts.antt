@@ -1,15 +1,15 @@
 -- An image is refused in words exactly where judging refuses it.
-use Rattle.mig_refusals.proofs.Common.{◌≡◌, inl, inr, ℕ, ◌<◌, List, [], ◌++◌, Bool, true, false, nat_eq, refl, sym, ap, subst, ◌∙◌, append_assoc, le_refl, eqb-true, eqb-false, le32, le64, Judged, ◌>>=◌, placed, Passes, Faulty, placed_passes, placed_faulty, then_passes, then_faulty, bind_cases, both_pass, same_passes, only_first, ImageCause, ImagePlace, HostOf, ImageFilePart, IsFaultlessImageFilePart, regroup, fails_is, is_fails, kind_number, kind_of_number, behind_bytes, behind_part_head, count_at, frame_said, frames_at, head_key, head_pfn, head_type, host_at, host_frame_at, host_head_at, host_parts_at, part_at, put_frame, put_part_in, BehindImageFile, FramesTo, Opens, PartsTo, RefusedImageFile}
-use Rattle.mig_headers.specs.declared.image_fault.ImageCause.TheVariants.{Truncated}
+use Rattle.mig_refusals.proofs.Common.{◌≡◌, inl, inr, ℕ, ◌<◌, List, [], ◌++◌, Bool, true, false, nat_eq, refl, sym, ap, subst, ◌∙◌, append_assoc, le_refl, eqb-true, eqb-false, le32, le64, Judged, ◌>>=◌, placed, Passes, Faulty, placed_passes, placed_faulty, then_passes, then_faulty, bind_cases, both_pass, same_passes, only_first, ImageCause, ImagePlace, HostOf, ImageFilePart, IsFaultlessImageFilePart, regroup, kind_number, kind_of_number, behind_bytes, behind_part_head, count_at, frame_said, frames_at, head_key, head_pfn, head_type, host_at, host_frame_at, host_head_at, host_parts_at, part_at, put_frame, put_part_in, BehindImageFile, FramesTo, Opens, PartsTo, RefusedImageFile, AreJudged, IsAcceptedOrRefused, IsNeverBoth, AreBytes, IsHostImage, image_back, image_reads, passes_not, ImageFilePartFails}
 use Rattle.mig_headers.specs.declared.image_fault.ImagePlace.TheVariants as places
 use Rattle.mig_image.specs.ImageParts.{behind_head, opened}
 use Rattle.mig_refusals.specs.ImageFile.BehindImageFile.{at_head, at_frame, at_page, at_number, at_part, at_bytes, at_padding}
 use Rattle.mig_refusals.specs.ImageFile.ImageFileHeadHas.{bad_kind}
 use Rattle.mig_refusals.specs.ImageFile.ImageFilePart.{Head, FrameHead, Page, Number, PartHead}
-use Rattle.mig_refusals.proofs.ImageFileCauses.{type_named}
+use Rattle.mig_refusals.proofs.ImageFileCauses.{tries, type_named}
 use Rattle.mig_refusals.proofs.ImageFileFrames.{frame_is, frame_step, frames_go, page_behind, page_said, takes_frame, type_is}
 use Rattle.mig_refusals.proofs.ImageFileParts.{BytesOf, PaddingOf, count_is, part_step, parts_go, put_behind, takes_part}
-use Rattle.mig_refusals.proofs.ImageFileSteps.{names, one_part, part_back, part_goes, steps_back, steps_cases, steps_fail}
+use Rattle.mig_refusals.proofs.ImageFileSteps.{one_part, part_back, part_goes, steps_back, steps_cases, steps_fail}
+use Rattle.mig_refusals.proofs.Parts.{fails_said, found_placed, placed_cases, said_cases, said_fails}
 
 -- ---- what is refused in words is refused
 
@@ -80,7 +80,7 @@ behind_refused _ _ _ left c rest (at_padding front head content count n h to les
 
 pub refused_is : (input : List ℕ) (place : ImagePlace) (c : ImageCause) (rest : List ℕ) → RefusedImageFile input place c rest → host_at input ≡ Faulty (place, c) rest
 refused_is input place c rest r =
-    ap host_at r.whole ∙ behind_refused r.front place r.part r.left c rest r.behind (fails_is Truncated _ _ _ (names r.part) (λ l. l) r.left c rest r.fails)
+    ap host_at r.whole ∙ behind_refused r.front place r.part r.left c rest r.behind (fails_said (tries r.part) (λ l. l) r.left c rest r.fails)
 
 -- ---- what is refused is refused in words
 
@@ -94,9 +94,8 @@ opens head is = record { faultless = is; kind = by (nat_eq (le32 head 8) 1) (nat
     by false false p q = absurd (is.none _ (bad_kind (eqb-false (le32 head 8) 1 p) (eqb-false (le32 head 8) 2 q)))
 
 module _ (input : List ℕ) (place : ImagePlace) (c : ImageCause) (rest : List ℕ) where
-  fails_at : (at : ImagePlace) (front left : List ℕ) (p : ImageFilePart) → at ≡ place → input ≡ front ++ left → BehindImageFile front at p → one_part p left ≡ Faulty c rest → RefusedImageFile input place c rest
-  fails_at at front left p same whole behind h =
-      record { front = front; left = left; part = p; whole = whole; behind = subst (λ q. BehindImageFile front q p) same behind; fails = is_fails Truncated _ _ _ (names p) (λ l. l) left c rest h }
+  at_place : (at : ImagePlace) (front left : List ℕ) (p : ImageFilePart) → at ≡ place → input ≡ front ++ left → BehindImageFile front at p → ImageFilePartFails p left c rest → RefusedImageFile input place c rest
+  at_place at front left p same whole behind fails = found_placed BehindImageFile at place p front left input c rest whole behind (fails, same)
 
   -- a part that passes belongs to the front
   further : (front left bytes mid : List ℕ) → input ≡ front ++ left → left ≡ bytes ++ mid → input ≡ (front ++ bytes) ++ mid
@@ -104,29 +103,25 @@ module _ (input : List ℕ) (place : ImagePlace) (c : ImageCause) (rest : List �
 
   -- behind a front one frame more is refused, in its head or its page
   frame_fails : (front left : List ℕ) (count n : ℕ) (h : HostOf) → input ≡ front ++ left → FramesTo front count n h → n < count → places.Frame n ≡ place → host_frame_at h left ≡ Faulty c rest → RefusedImageFile input place c rest
-  frame_fails front left count n h whole to less same fails = elim (bind_cases (one_part (FrameHead h) left) (page_behind h) c rest (sym (frame_is h left) ∙ fails)) [
-    | inl e ↦ fails_at (places.Frame n) front left (FrameHead h) same whole (at_frame front count n h to less) e
+  frame_fails front left count n h whole to less same fails = elim (said_cases (tries (FrameHead h)) (λ l. l) (page_behind h) left c rest (sym (frame_is h left) ∙ fails)) [
+    | inl e ↦ at_place (places.Frame n) front left (FrameHead h) same whole (at_frame front count n h to less) e
     | inr a ↦
-        let (head, mid, passes, stops) = a in
-        let t = head_type head in
-        let p = part_back (FrameHead h) left head mid passes in
-        fails_at (places.Frame n) (front ++ head) mid (Page t) same (further front left head mid whole p.0) (at_page front head count n h t to less p.1 (type_named h head p.1.none))
-        (only_first (λ l. put_frame h (head_pfn head) (frame_said head (page_said t l))) (one_part (Page t) mid) c rest stops)
+        let t = head_type a.bytes in
+        at_place (places.Frame n) (front ++ a.bytes) a.mid (Page t) same (further front left a.bytes a.mid whole a.whole) (at_page front a.bytes count n h t to less a.is_faultless (type_named h a.bytes a.is_faultless.none))
+        (said_fails (tries (Page t)) (λ l. l) a.mid c rest (only_first (λ l. put_frame h (head_pfn a.bytes) (frame_said a.bytes (page_said t l))) (one_part (Page t) a.mid) c rest a.after))
   ]
 
   -- and one part more, in its head, its bytes or its padding
   part_fails : (front left : List ℕ) (count n : ℕ) (h : HostOf) → input ≡ front ++ left → PartsTo front count n h → n < count → places.Part n ≡ place → part_at h left ≡ Faulty c rest → RefusedImageFile input place c rest
-  part_fails front left count n h whole to less same fails = elim (bind_cases (one_part (PartHead h) left) (behind_part_head h) c rest fails) [
-    | inl e ↦ fails_at (places.Part n) front left (PartHead h) same whole (at_part front count n h to less) e
+  part_fails front left count n h whole to less same fails = elim (said_cases (tries (PartHead h)) (λ l. l) (behind_part_head h) left c rest fails) [
+    | inl e ↦ at_place (places.Part n) front left (PartHead h) same whole (at_part front count n h to less) e
     | inr a ↦
-        let (head, mid, passes, stops) = a in
-        let p = part_back (PartHead h) left head mid passes in
-        elim (bind_cases (one_part (BytesOf head) mid) (behind_bytes h head) c rest stops) [
-          | inl e ↦ fails_at (places.Part n) (front ++ head) mid (BytesOf head) same (further front left head mid whole p.0) (at_bytes front head count n h to less p.1) e
+        let head = a.bytes in
+        elim (said_cases (tries (BytesOf head)) (λ l. l) (behind_bytes h head) a.mid c rest a.after) [
+          | inl e ↦ at_place (places.Part n) (front ++ head) a.mid (BytesOf head) same (further front left head a.mid whole a.whole) (at_bytes front head count n h to less a.is_faultless) e
           | inr b ↦
-              let q = part_back (BytesOf head) mid b.0 b.1 b.2 in
-              fails_at (places.Part n) (front ++ (head ++ b.0)) b.1 (PaddingOf head) same (further front left (head ++ b.0) b.1 whole (regroup left mid b.1 head b.0 p.0 q.0)) (at_padding front head b.0 count n h to less p.1 q.1)
-              (only_first (λ _. put_part_in h (head_key head) b.0) (one_part (PaddingOf head) b.1) c rest b.3)
+              at_place (places.Part n) (front ++ (head ++ b.bytes)) b.mid (PaddingOf head) same (further front left (head ++ b.bytes) b.mid whole (regroup left a.mid b.mid head b.bytes a.whole b.whole))
+              (at_padding front head b.bytes count n h to less a.is_faultless b.is_faultless) (said_fails (tries (PaddingOf head)) (λ l. l) b.mid c rest (only_first (λ _. put_part_in h (head_key head) b.bytes) (one_part (PaddingOf head) b.mid) c rest b.after))
         ]
   ]
 
@@ -134,7 +129,7 @@ module _ (input : List ℕ) (place : ImagePlace) (c : ImageCause) (rest : List �
   number_refused front left count h whole to fails = elim (bind_cases (placed places.Parts (count_at left)) (behind_number h) (place, c) rest fails) [
     | inl e ↦
         let p = placed_faulty places.Parts place (count_at left) c rest e in
-        fails_at places.Parts front left Number p.1 whole (at_number front count h to) (only_first (λ l. le64 l 0) (one_part Number left) c rest (sym (count_is left) ∙ p.0))
+        at_place places.Parts front left Number p.1 whole (at_number front count h to) (said_fails (tries Number) (λ l. l) left c rest (only_first (λ l. le64 l 0) (one_part Number left) c rest (sym (count_is left) ∙ p.0)))
     | inr a ↦
         let b = both_pass (one_part Number left) (λ a. Passes (le64 a.0 0) a.1) a.0 a.1 (sym (count_is left) ∙ placed_passes places.Parts (count_at left) a.0 a.1 a.2) in
         let p = part_back Number left b.x b.mid b.first in
@@ -161,11 +156,22 @@ module _ (input : List ℕ) (place : ImagePlace) (c : ImageCause) (rest : List �
 
   pub is_refused : host_at input ≡ Faulty (place, c) rest → RefusedImageFile input place c rest
   unfolding host_at
-  is_refused fails = elim (bind_cases (placed places.Head (host_head_at input)) (λ head. behind_head head.0 head.1) (place, c) rest fails) [
-    | inl e ↦
-        let p = placed_faulty places.Head place (host_head_at input) c rest e in
-        fails_at places.Head [] input Head p.1 refl at_head p.0
-    | inr a ↦
-        let p = part_back Head input a.0 a.1 (placed_passes places.Head (host_head_at input) a.0 a.1 a.2) in
-        behind_fails a.0 a.1 p.0 p.1 a.3
+  is_refused fails = elim (placed_cases (tries Head) (λ l. l) places.Head (λ head. behind_head head.0 head.1) input place c rest fails) [
+    | inl e ↦ at_place places.Head [] input Head e.1 refl at_head e.0
+    | inr a ↦ behind_fails a.bytes a.mid a.whole a.is_faultless a.after
   ]
+
+pub agree : AreJudged RefusedImageFile (λ input place cause rest. host_at input ≡ Faulty (place, cause) rest)
+agree input place c rest = (is_refused input place c rest, refused_is input place c rest)
+
+-- ---- an image of a host, or judging is faulty
+
+pub judged : (input : List ℕ) → AreBytes input → IsAcceptedOrRefused (λ input place cause rest. host_at input ≡ Faulty (place, cause) rest) IsHostImage input
+judged input bytes = by (host_at input) refl
+  where
+    by : (j : Judged (ImagePlace × ImageCause) HostOf) → host_at input ≡ j → IsAcceptedOrRefused (λ input place cause rest. host_at input ≡ Faulty (place, cause) rest) IsHostImage input
+    by (Passes h rest) is = inl (h, rest, image_back input h rest bytes is)
+    by (Faulty (place, c) rest) is = inr (place, c, rest, is)
+
+pub never_judged : IsNeverBoth (λ input place cause rest. host_at input ≡ Faulty (place, cause) rest) IsHostImage
+never_judged input h rest place c more image fails = passes_not h rest (place, c) more (sym (image_reads input h rest image) ∙ fails)

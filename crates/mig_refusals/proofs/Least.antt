@@ -1,7 +1,9 @@
 -- The cause that is named: of a table the first row whose test holds, and of several tables the first that names one.
-use Rattle.mig_refusals.proofs.Common.{◌≡◌, ◌⊎◌, inl, inr, ℕ, List, Bool, true, false, cond, refl, false≢true, Option, Some, None, sym, subst, option_or, first_fault, Cause, OutOfOrder, IsTriedBefore, IsFirstCause, number_of_cause, ascends, rows_name}
+use Rattle.mig_refusals.proofs.Common.{◌≡◌, ◌⊎◌, inl, inr, ℕ, List, Bool, true, false, cond, refl, false≢true, Option, Some, None, sym, ap, subst, arith, option_or, first_fault, Cause, OutOfOrder, IsTriedBefore, IsFirstCause, number_of_cause, ascends, rows_name}
 use Rattle.mig_headers.proofs.FirstCauses.{Named}
 use Rattle.mig_headers.proofs.FirstCauses as firsts
+use Rattle.mig_headers.specs.declared.fault.Cause.TheVariants.{Truncated}
+use Rattle.mig_refusals.proofs.Parts.{Tries}
 
 abbrev pub LeastOf : (ℕ → Cause → Type 0) → Option Cause → Type 0
 LeastOf Has None = (k : ℕ) (c : Cause) → Has k c → ⊥
@@ -11,13 +13,36 @@ LeastOf Has (Some c) = IsFirstCause Has c
 pub record Least (Has : ℕ → Cause → Type 0) (f : Option Cause) : Type 0 where
   pub holds : LeastOf Has f
 
--- what is tried in a part of so many bytes: the least of the causes that stand in it
-pub record Tries (n : ℕ) (Has : List ℕ → ℕ → Cause → Type 0) : Type 0 where
+-- what is tried in a part: the least of the causes that stand in it
+pub record LeastTried (Has : List ℕ → ℕ → Cause → Type 0) : Type 0 where
   pub fault : List ℕ → Option Cause
   pub least : (bytes : List ℕ) → Least (Has bytes) (fault bytes)
 
-abbrev pub nothing_tried : {n : ℕ} → Tries n (λ _ k c. ⊥)
+abbrev pub nothing_tried : LeastTried (λ _ k c. ⊥)
 nothing_tried = record { fault = λ _. None; least = λ _. record { holds = λ k c h. h } }
+
+-- what is named is what is computed
+pub named_is : (Has : ℕ → Cause → Type 0) (f : Option Cause) (c : Cause) → Least Has f → IsFirstCause Has c → f ≡ Some c
+named_is Has None c p n = absurd (p.holds n.0 c n.1)
+named_is Has (Some d) c p n = elim (p.holds.2 n.0 c n.1) [
+  | inr e ↦ ap Some (sym e)
+  | inl before ↦ elim (n.2 p.holds.0 d p.holds.1) [ inr e ↦ ap Some e | inl after ↦ absurd (grind (arith, before, after)) ]
+]
+
+pub none_is : (Has : ℕ → Cause → Type 0) (f : Option Cause) → Least Has f → ((at : ℕ × Cause) → Has at.0 at.1 → ⊥) → f ≡ None
+none_is Has None p never = refl
+none_is Has (Some d) p never = absurd (never (p.holds.0, d) p.holds.1)
+
+abbrev pub TriesLeast : ℕ → (List ℕ → ℕ → Cause → Type 0) → Type 0
+TriesLeast n Has = Tries Truncated n (λ bytes (at : ℕ × Cause). Has bytes at.0 at.1) (λ bytes. IsFirstCause (Has bytes))
+
+abbrev pub tries_least : (n : ℕ) (Has : List ℕ → ℕ → Cause → Type 0) → LeastTried Has → TriesLeast n Has
+tries_least n Has t = record {
+  fault = t.fault;
+  names = record { computed = λ bytes c is. (subst (Least (Has bytes)) is (t.least bytes)).holds; named = λ bytes c first. named_is (Has bytes) (t.fault bytes) c (t.least bytes) first };
+  none_named = λ bytes never. none_is (Has bytes) (t.fault bytes) (t.least bytes) never;
+  none_stands = λ bytes none at h. (subst (Least (Has bytes)) none (t.least bytes)).holds at.0 at.1 h;
+}
 
 -- a cause that stands at one place
 abbrev pub Alone : Type 0 → ℕ → Cause → ℕ → Cause → Type 0

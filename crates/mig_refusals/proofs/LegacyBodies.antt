@@ -1,5 +1,5 @@
 -- The parts of a chunk: judging is faulty in one of them exactly where it fails.
-use Rattle.mig_refusals.proofs.Common.{◌≡◌, ◌⊎◌, inl, inr, ℕ, ◌+◌, ◌*◌, ◌/◌, ◌<◌, ◌^◌, List, [], ◌++◌, length, drop, Option, Result, Ok, Err, refl, sym, ap, subst, ◌∙◌, append_assoc, Judged, ◌>>=◌, part, plain_at, said_at, tried, Passes, Faulty, bind_cases, only_first, passes_not, then_faulty, then_passes, le32, LegacyCause, ChunkKind, LegacyChunk, LegacyPart, IsFaultlessLegacyPart, LegacyPartFails, fails_is, is_fails, Hvm, emulators_of, words, entries_in_place, page_data_words, kind_of, length_at, fault_of_max, fault_of_toolstack, allowed, chunk_kind_at, legacy_words_at, batch_at, vcpus_at, clock_of, pairs_of_toolstack, or_truncated, chunk_content_at, chunk_at, LegacyContent, store_records, Value, Clock, Pairs, numbers_have_kinds, stand_fine, counted_at, InChunkBody, InChunk}
+use Rattle.mig_refusals.proofs.Common.{◌≡◌, inl, inr, ℕ, ◌+◌, ◌*◌, ◌/◌, ◌^◌, List, [], ◌++◌, drop, Option, Result, Ok, Err, refl, sym, ap, subst, ◌∙◌, append_assoc, Judged, ◌>>=◌, part, plain_at, said_at, tried, Passes, Faulty, bind_cases, only_first, passes_not, then_faulty, then_passes, le32, LegacyCause, ChunkKind, LegacyChunk, LegacyPart, IsFaultlessLegacyPart, LegacyPartFails, LegacyPartStops, FailsBehind, Hvm, emulators_of, words, entries_in_place, page_data_words, kind_of, length_at, fault_of_max, fault_of_toolstack, allowed, chunk_kind_at, legacy_words_at, batch_at, vcpus_at, clock_of, pairs_of_toolstack, or_truncated, chunk_content_at, chunk_at, LegacyContent, store_records, Value, Clock, Pairs, numbers_have_kinds, stand_fine, counted_at, InChunkBody, InChunk}
 use Rattle.mig_headers.specs.declared.legacy_fault.LegacyCause.TheVariants.{Truncated}
 use Rattle.mig_legacy.specs.Legacy.LegacyContent.{Nothing, Frames}
 use Rattle.mig_legacy.proofs.Batches.{behind_words}
@@ -10,32 +10,29 @@ use Rattle.mig_refusals.specs.Legacy.InChunkBody.{at_words, at_page, at_max, at_
 use Rattle.mig_refusals.specs.Legacy.InChunk.{at_type, in_body}
 use Rattle.mig_refusals.specs.Legacy.LegacyPart.{ChunkType, Words, Page, VcpuMax, Length, Signature, Plain}
 use Rattle.mig_refusals.specs.Legacy.{LegacyPart as parts}
-use Rattle.mig_refusals.proofs.LegacyCauses.{fault_in, faultless, names, part_back, part_goes, type_fault}
+use Rattle.mig_refusals.proofs.LegacyCauses.{tries, type_fault}
+use Rattle.mig_refusals.proofs.Parts.{faultless, fails_said, found_behind, found_next, part_goes, said_cases, said_fails}
 use Rattle.mig_refusals.proofs.LegacyPages.{page_short, pages_fail, pages_refused, truncated_is}
 
--- a front, and the part behind it, which fails; a signature fails only where any byte is left
+-- a front, and the part behind it, which fails
 abbrev pub FailsIn : (List ℕ → LegacyPart → Type 0) → List ℕ → LegacyCause → List ℕ → Type 0
-FailsIn Within i c rest = (before : List ℕ) × (left : List ℕ) × (p : LegacyPart) × (i ≡ before ++ left) × Within before p × (p ≡ Signature → 0 < length left) × LegacyPartFails p left c rest
+FailsIn Within i c rest = FailsBehind Within LegacyPartStops i c rest
+
+-- a part fails behind some first bytes, and isn't a signature
+pub stops_next : (Within : List ℕ → LegacyPart → Type 0) (p : LegacyPart) (x i j : List ℕ) (c : LegacyCause) (rest : List ℕ) → (p ≡ Signature → ⊥) → j ≡ x ++ i → Within x p → LegacyPartFails p i c rest → FailsIn Within j c rest
+stops_next Within p x i j c rest other whole within fails = found_next Within p x i j c rest whole within (record { begun = λ s. absurd (other s); fails = fails })
 
 -- ---- a length, and as many bytes
 
 module _ {X : Type 0} (most : ℕ) (fault : List ℕ → Option LegacyCause) (says : List ℕ → X) where
-  abbrev behind_length : ℕ × List ℕ → Judged LegacyCause X
+  abbrev pub behind_length : ℕ × List ℕ → Judged LegacyCause X
   behind_length len = said_at Truncated fault says len.0 len.1
 
-  -- the length fails, or what it counts does
-  pub counted_cases : (i : List ℕ) (c : LegacyCause) (rest : List ℕ) → counted_at most fault says i ≡ Faulty c rest
-      → LegacyPartFails (Length most) i c rest ⊎ ((len : List ℕ) × (mid : List ℕ) × (i ≡ len ++ mid) × IsFaultlessLegacyPart (Length most) len × (said_at Truncated fault says (le32 len 0) mid ≡ Faulty c rest))
-  counted_cases i c rest h = elim (bind_cases (length_at most i) behind_length c rest h) [
-    | inl e ↦ inl (is_fails Truncated _ _ _ (names (Length most)) (λ l. le32 l 0) i c rest e)
-    | inr a ↦ let (len, whole, is, value) = part_back (Length most) (λ l. le32 l 0) i a.0 a.1 a.2 in inr (len, a.1, whole, is, ap (λ n. said_at Truncated fault says n a.1) value ∙ a.3)
-  ]
-
   pub length_refused : (i : List ℕ) (c : LegacyCause) (rest : List ℕ) → LegacyPartFails (Length most) i c rest → counted_at most fault says i ≡ Faulty c rest
-  length_refused i c rest h = then_faulty (length_at most i) behind_length c rest (fails_is Truncated _ _ _ (names (Length most)) (λ l. le32 l 0) i c rest h)
+  length_refused i c rest h = then_faulty (length_at most i) behind_length c rest (fails_said (tries (Length most)) (λ l. le32 l 0) i c rest h)
 
   pub content_refused : (len mid : List ℕ) (c : LegacyCause) (rest : List ℕ) → IsFaultlessLegacyPart (Length most) len → said_at Truncated fault says (le32 len 0) mid ≡ Faulty c rest → counted_at most fault says (len ++ mid) ≡ Faulty c rest
-  content_refused len mid c rest is h = then_passes (length_at most (len ++ mid)) behind_length (le32 len 0) mid _ (part_goes (Length most) (λ l. le32 l 0) len mid is) h
+  content_refused len mid c rest is h = then_passes (length_at most (len ++ mid)) behind_length (le32 len 0) mid _ (part_goes (tries (Length most)) (λ l. le32 l 0) len mid is) h
 
 -- ---- a body
 
@@ -51,51 +48,48 @@ module _ (chunks : List LegacyChunk) (c : LegacyCause) (rest : List ℕ) where
   BodyFails kind i = FailsIn (InChunkBody chunks kind) i c rest
 
   batch_fails : (n : ℕ) (i : List ℕ) → batch_at n i ≡ Faulty c rest → BodyFails (kinds.Batch n) i
-  batch_fails n i h = elim (bind_cases (legacy_words_at n i) behind_words c rest h) [
-    | inl e ↦ ([], i, Words n, refl, at_words n, (λ s. absurd (cc)), is_fails Truncated _ _ _ (names (Words n)) (words n) i c rest e)
+  batch_fails n i h = elim (said_cases (tries (Words n)) (words n) behind_words i c rest h) [
+    | inl e ↦ stops_next _ (Words n) [] i i c rest (λ s. cc) refl (at_words n) e
     | inr a ↦
-        let (ws, whole, is, value) = part_back (Words n) (words n) i a.0 a.1 a.2 in
-        let those = entries_in_place Hvm 0 0 (page_data_words a.0) a.1 in
-        let (same, (d, e)) = truncated_is those c rest (only_first Frames (or_truncated those) c rest a.3) in
-        let (first, word, others, pages, left, es, are, inner, entries, fails) = pages_fail 0 (page_data_words a.0) a.1 d rest e in
-        let front = whole ∙ ap (λ l. ws ++ l) inner ∙ sym (append_assoc ws pages left) in
-        let at = at_page n ws pages first word others es is (ap page_data_words value ∙ are) entries in
-        (ws ++ pages, left, Page word, front, at, (λ s. absurd (cc)), subst (λ (x : LegacyCause). LegacyPartFails (Page word) left x rest) same fails)
+        let those = entries_in_place Hvm 0 0 (page_data_words (words n a.bytes)) a.mid in
+        let (same, (d, e)) = truncated_is those c rest (only_first Frames (or_truncated those) c rest a.after) in
+        let (first, word, others, pages, left, es, are, inner, entries, fails) = pages_fail 0 (page_data_words (words n a.bytes)) a.mid d rest e in
+        let whole = a.whole ∙ ap (λ l. a.bytes ++ l) inner ∙ sym (append_assoc a.bytes pages left) in
+        stops_next _ (Page word) (a.bytes ++ pages) left i c rest (λ s. cc) whole (at_page n a.bytes pages first word others es a.is_faultless are entries) (subst (λ (x : LegacyCause). LegacyPartFails (Page word) left x rest) same fails)
   ]
 
   vcpus_fail : (i : List ℕ) → vcpus_at i ≡ Faulty c rest → BodyFails kinds.VcpuMap i
-  vcpus_fail i h = elim (bind_cases (max_at i) bits_at c rest h) [
-    | inl e ↦ ([], i, VcpuMax, refl, at_max, (λ s. absurd (cc)), is_fails Truncated _ _ _ (names VcpuMax) (λ l. le32 l 0) i c rest e)
+  vcpus_fail i h = elim (said_cases (tries VcpuMax) (λ l. le32 l 0) bits_at i c rest h) [
+    | inl e ↦ stops_next _ VcpuMax [] i i c rest (λ s. cc) refl at_max e
     | inr a ↦
-        let (max, whole, is, value) = part_back VcpuMax (λ l. le32 l 0) i a.0 a.1 a.2 in
-        let bits = Plain (8 * (le32 max 0 / 64 + 1)) in
-        (max, a.1, bits, whole, at_bits max is, (λ s. absurd (cc)), is_fails Truncated _ _ _ (names bits) (λ _. Nothing) a.1 c rest (ap (λ m. bits_at (m, a.1)) value ∙ a.3))
+        let bits = Plain (8 * (le32 a.bytes 0 / 64 + 1)) in
+        stops_next _ bits a.bytes a.mid i c rest (λ s. cc) a.whole (at_bits a.bytes a.is_faultless) (said_fails (tries bits) (λ _. Nothing) a.mid c rest a.after)
   ]
 
   toolstack_fails : (i : List ℕ) → chunk_content_at chunks kinds.Toolstack i ≡ Faulty c rest → BodyFails kinds.Toolstack i
   toolstack_fails i h =
       let says : List ℕ → LegacyContent = λ body. Pairs (pairs_of_toolstack body) in
-      elim (counted_cases (2 ^ 27) (fault_of_toolstack (emulators_of (store_records chunks))) says i c rest h) [
-        | inl fails ↦ ([], i, Length (2 ^ 27), refl, at_length, (λ s. absurd (cc)), fails)
-        | inr (len, mid, whole, is, e) ↦
-            let entries = parts.Toolstack chunks (le32 len 0) in
-            (len, mid, entries, whole, at_entries len is, (λ s. absurd (cc)), is_fails Truncated _ _ _ (names entries) says mid c rest e)
+      elim (said_cases (tries (Length (2 ^ 27))) (λ l. le32 l 0) (behind_length (2 ^ 27) (fault_of_toolstack (emulators_of (store_records chunks))) says) i c rest h) [
+        | inl e ↦ stops_next _ (Length (2 ^ 27)) [] i i c rest (λ s. cc) refl at_length e
+        | inr a ↦
+            let entries = parts.Toolstack chunks (le32 a.bytes 0) in
+            stops_next _ entries a.bytes a.mid i c rest (λ s. cc) a.whole (at_entries a.bytes a.is_faultless) (said_fails (tries entries) says a.mid c rest a.after)
       ]
 
   body_fails : (kind : ChunkKind) (i : List ℕ) → chunk_content_at chunks kind i ≡ Faulty c rest → BodyFails kind i
   body_fails kinds.End i h = passes_not Nothing i c rest h
   body_fails (kinds.Batch n) i h = batch_fails n i h
   body_fails kinds.VcpuMap i h = vcpus_fail i h
-  body_fails kinds.Tsc i h = ([], i, Plain 20, refl, at_clock, (λ s. absurd (cc)), is_fails Truncated _ _ _ (names (Plain 20)) (λ bytes. Clock (clock_of bytes)) i c rest h)
+  body_fails kinds.Tsc i h = stops_next _ (Plain 20) [] i i c rest (λ s. cc) refl at_clock (said_fails (tries (Plain 20)) (λ bytes. Clock (clock_of bytes)) i c rest h)
   body_fails kinds.LastCheckpoint i h = passes_not Nothing i c rest h
   body_fails kinds.Toolstack i h = toolstack_fails i h
-  body_fails (kinds.Param index) i h = ([], i, Plain 12, refl, at_value index, (λ s. absurd (cc)), is_fails Truncated _ _ _ (names (Plain 12)) (λ bytes. Value index (drop 4 bytes)) i c rest h)
+  body_fails (kinds.Param index) i h = stops_next _ (Plain 12) [] i i c rest (λ s. cc) refl (at_value index) (said_fails (tries (Plain 12)) (λ bytes. Value index (drop 4 bytes)) i c rest h)
 
   body_refused : (kind : ChunkKind) (before : List ℕ) (p : LegacyPart) (left : List ℕ) → InChunkBody chunks kind before p → LegacyPartFails p left c rest → chunk_content_at chunks kind (before ++ left) ≡ Faulty c rest
-  body_refused _ _ _ left (at_words n) fails = then_faulty (legacy_words_at n left) behind_words c rest (fails_is Truncated _ _ _ (names (Words n)) (words n) left c rest fails)
+  body_refused _ _ _ left (at_words n) fails = then_faulty (legacy_words_at n left) behind_words c rest (fails_said (tries (Words n)) (words n) left c rest fails)
   body_refused _ _ _ left (at_page n ws pages before word others es is are entries) fails =
       ap (batch_at n) (append_assoc ws pages left)
-      ∙ then_passes (legacy_words_at n (ws ++ (pages ++ left))) behind_words (words n ws) (pages ++ left) _ (part_goes (Words n) (words n) ws (pages ++ left) is)
+      ∙ then_passes (legacy_words_at n (ws ++ (pages ++ left))) behind_words (words n ws) (pages ++ left) _ (part_goes (tries (Words n)) (words n) ws (pages ++ left) is)
       (
       let (less, same, nothing) = page_short word left c rest fails in
       ap (λ l. or_truncated (entries_in_place Hvm 0 0 l (pages ++ left)) >>= λ entries. Passes (Frames entries.0) entries.1) are
@@ -103,15 +97,15 @@ module _ (chunks : List LegacyChunk) (c : LegacyCause) (rest : List ℕ) where
       ∙ ap (λ x. Faulty x []) same
       ∙ ap (Faulty c) nothing
       )
-  body_refused _ _ _ left at_max fails = then_faulty (max_at left) bits_at c rest (fails_is Truncated _ _ _ (names VcpuMax) (λ l. le32 l 0) left c rest fails)
+  body_refused _ _ _ left at_max fails = then_faulty (max_at left) bits_at c rest (fails_said (tries VcpuMax) (λ l. le32 l 0) left c rest fails)
   body_refused _ _ _ left (at_bits max is) fails =
-      then_passes (max_at (max ++ left)) bits_at (le32 max 0) left _ (part_goes VcpuMax (λ l. le32 l 0) max left is) (fails_is Truncated _ _ _ (names (Plain (8 * (le32 max 0 / 64 + 1)))) (λ _. Nothing) left c rest fails)
-  body_refused _ _ _ left at_clock fails = fails_is Truncated _ _ _ (names (Plain 20)) (λ bytes. Clock (clock_of bytes)) left c rest fails
-  body_refused _ _ _ left (at_value index) fails = fails_is Truncated _ _ _ (names (Plain 12)) (λ bytes. Value index (drop 4 bytes)) left c rest fails
+      then_passes (max_at (max ++ left)) bits_at (le32 max 0) left _ (part_goes (tries VcpuMax) (λ l. le32 l 0) max left is) (fails_said (tries (Plain (8 * (le32 max 0 / 64 + 1)))) (λ _. Nothing) left c rest fails)
+  body_refused _ _ _ left at_clock fails = fails_said (tries (Plain 20)) (λ bytes. Clock (clock_of bytes)) left c rest fails
+  body_refused _ _ _ left (at_value index) fails = fails_said (tries (Plain 12)) (λ bytes. Value index (drop 4 bytes)) left c rest fails
   body_refused _ _ _ left at_length fails = length_refused (2 ^ 27) (fault_of_toolstack (emulators_of (store_records chunks))) (λ body. Pairs (pairs_of_toolstack body)) left c rest fails
   body_refused _ _ _ left (at_entries len is) fails =
       content_refused (2 ^ 27) (fault_of_toolstack (emulators_of (store_records chunks))) (λ body. Pairs (pairs_of_toolstack body)) len left c rest is
-      (fails_is Truncated _ _ _ (names (parts.Toolstack chunks (le32 len 0))) (λ body. Pairs (pairs_of_toolstack body)) left c rest fails)
+      (fails_said (tries (parts.Toolstack chunks (le32 len 0))) (λ body. Pairs (pairs_of_toolstack body)) left c rest fails)
 
 -- ---- a chunk
 
@@ -125,7 +119,7 @@ kind_said bytes = kind_or_end (kind_of (le32 bytes 0))
 
 module _ (chunks : List LegacyChunk) where
   -- a type is judged as a part that says its chunk
-  type_said : (i : List ℕ) → chunk_kind_at chunks i ≡ said_at Truncated (fault_in (ChunkType chunks)) kind_said 4 i
+  type_said : (i : List ℕ) → chunk_kind_at chunks i ≡ said_at Truncated (tries (ChunkType chunks)).fault kind_said 4 i
   type_said i = by (part Truncated 4 i)
     where
       by_answer : (o : Result ChunkKind LegacyCause) (mid : List ℕ) → allowed chunks o mid ≡ (tried (type_fault chunks o) mid >>= λ _. Passes (kind_or_end o) mid)
@@ -140,19 +134,19 @@ module _ (chunks : List LegacyChunk) where
     pub chunk_fails : (i : List ℕ) → chunk_at chunks i ≡ Faulty c rest → FailsIn (InChunk chunks) i c rest
     unfolding chunk_at
     chunk_fails i h = elim (bind_cases (chunk_kind_at chunks i) (behind_kind chunks) c rest h) [
-      | inl e ↦ ([], i, ChunkType chunks, refl, at_type, (λ s. absurd (cc)), is_fails Truncated _ _ _ (names (ChunkType chunks)) kind_said i c rest (sym (type_said i) ∙ e))
+      | inl e ↦ stops_next _ (ChunkType chunks) [] i i c rest (λ s. cc) refl at_type (said_fails (tries (ChunkType chunks)) kind_said i c rest (sym (type_said i) ∙ e))
       | inr (kind, mid, passes, stops) ↦
           let n = numbered chunks i kind mid passes in
           let none = ap (type_fault chunks) (numbers_have_kinds kind (le32 n.number 0) n.is) ∙ stand_fine chunks kind n.stands in
-          let (before, left, p, whole, inside, begun, fails) = body_fails chunks c rest kind mid (only_first (λ content. record { kind = kind; content = content }) (chunk_content_at chunks kind mid) c rest stops) in
-          (n.number ++ before, left, p, n.whole ∙ ap (λ l. n.number ++ l) whole ∙ sym (append_assoc n.number before left), in_body n.number before kind p (faultless (ChunkType chunks) n.number n.size none) n.is inside, begun, fails)
+          found_behind (InChunkBody chunks kind) (InChunk chunks) n.number mid i c rest n.whole (λ before p inside. in_body n.number before kind p (faultless (tries (ChunkType chunks)) n.number n.size none) n.is inside)
+          (body_fails chunks c rest kind mid (only_first (λ content. record { kind = kind; content = content }) (chunk_content_at chunks kind mid) c rest stops))
     ]
 
     pub chunk_refused : (before : List ℕ) (p : LegacyPart) (left : List ℕ) → InChunk chunks before p → LegacyPartFails p left c rest → chunk_at chunks (before ++ left) ≡ Faulty c rest
     unfolding chunk_at
-    chunk_refused _ _ left at_type fails = then_faulty (chunk_kind_at chunks left) (behind_kind chunks) c rest (type_said left ∙ fails_is Truncated _ _ _ (names (ChunkType chunks)) kind_said left c rest fails)
+    chunk_refused _ _ left at_type fails = then_faulty (chunk_kind_at chunks left) (behind_kind chunks) c rest (type_said left ∙ fails_said (tries (ChunkType chunks)) kind_said left c rest fails)
     chunk_refused _ _ left (in_body number before kind p is has inside) fails =
         ap (chunk_at chunks) (append_assoc number before left)
         ∙ then_passes (chunk_kind_at chunks (number ++ (before ++ left))) (behind_kind chunks) kind (before ++ left) _
-        (type_said (number ++ (before ++ left)) ∙ part_goes (ChunkType chunks) kind_said number (before ++ left) is ∙ ap (λ o. Passes (kind_or_end o) (before ++ left)) (numbers_have_kinds kind (le32 number 0) has))
+        (type_said (number ++ (before ++ left)) ∙ part_goes (tries (ChunkType chunks)) kind_said number (before ++ left) is ∙ ap (λ o. Passes (kind_or_end o) (before ++ left)) (numbers_have_kinds kind (le32 number 0) has))
         (then_faulty (chunk_content_at chunks kind (before ++ left)) (λ content. Passes (record { kind = kind; content = content.0 }) content.1) c rest (body_refused chunks c rest kind before p left inside fails))

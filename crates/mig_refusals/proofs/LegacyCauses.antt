@@ -1,5 +1,5 @@
 -- The causes that stand in each part of a legacy stream, and parts without one.
-use Rattle.mig_refusals.proofs.Common.{◌≡◌, ◌⊎◌, inl, inr, ℕ, ◌<◌, ◌≤◌, List, [], ◌∷◌, Bool, true, false, cond, not, nat_eq, nat_lt, nat_le, Option, Some, None, Result, Ok, Err, refl, sym, ap, subst, ◌∙◌, arith, common_steps, and_from, and_parts, both_ways, cases_order, eq-eqb, eqb-false, eqb-true, false≢true, le-leb, leb-true, lt-ltb, ltb-true, ne_eqb, not-true, none-some, same_Some, or_cases, or_left, or_right, slice_index, ◌&&◌, list_any, le32, first_fault, LegacyCause, ChunkKind, LegacyChunk, number_of_legacy_cause, word_place, LegacyPart, StandsInLegacy, legacy_size, IsFaultlessLegacyPart, ◌++◌, length, said_at, Passes, flat_map, option_map, option_or, bytes_eq, bytes_eq-Decides, Names, said_goes, said_passes, IsEarlier, IsTriedFirst, scan, ContextFault, Hvm, Modern, Tools32, WordHigh, BadVcpuMax, BadToolstack, UnpairedIoreq, BadSignature, most_frames, legacy_type, words, first_place, first_word, none_pass, place_is_first, sent, emulators_of, most_pairs, spelled_with, is_reserved, is_high, fault_of_batch, kind_of, IsNumberOf, toolstack, toolstack_fault, is_modern, is_unpaired, frames_sent, kind_rows, fault_of_kind, fault_of_start, fault_of_counted, fault_of_max, fault_of_toolstack, fault_of_signature, context_fault, signature, has_value, image_records, is_end, store_key, store_records, pairs_of_physmap, Physmap, numbers_have_kinds, kinds_have_numbers, toolstack_spelled, StartHas, NumberHas, TypeHas, WordsHave, MaxHas, LegacyLengthHas, ToolstackHas, LegacyContextHas, SignatureHas}
+use Rattle.mig_refusals.proofs.Common.{◌≡◌, ◌⊎◌, inl, inr, ℕ, ◌<◌, ◌≤◌, List, [], ◌∷◌, Bool, true, false, cond, not, nat_eq, nat_lt, nat_le, Option, Some, None, Result, Ok, Err, refl, sym, ap, subst, ◌∙◌, arith, common_steps, and_from, and_parts, both_ways, cases_order, eq-eqb, eqb-false, eqb-true, false≢true, le-leb, leb-true, lt-ltb, ltb-true, ne_eqb, not-true, none-some, same_Some, or_cases, or_left, or_right, slice_index, ◌&&◌, list_any, le32, first_fault, LegacyCause, ChunkKind, LegacyChunk, number_of_legacy_cause, word_place, LegacyPart, StandsInLegacy, legacy_size, flat_map, option_map, option_or, bytes_eq, bytes_eq-Decides, IsEarlier, IsTriedFirst, scan, ContextFault, Hvm, Modern, Tools32, WordHigh, BadVcpuMax, BadToolstack, UnpairedIoreq, BadSignature, most_frames, legacy_type, words, first_place, first_word, none_pass, place_is_first, sent, emulators_of, most_pairs, spelled_with, is_reserved, is_high, fault_of_batch, kind_of, IsNumberOf, toolstack, toolstack_fault, is_modern, is_unpaired, frames_sent, kind_rows, fault_of_kind, fault_of_start, fault_of_counted, fault_of_max, fault_of_toolstack, fault_of_signature, context_fault, signature, has_value, image_records, is_end, store_key, store_records, pairs_of_physmap, Physmap, numbers_have_kinds, kinds_have_numbers, toolstack_spelled, StartHas, NumberHas, TypeHas, WordsHave, MaxHas, LegacyLengthHas, ToolstackHas, LegacyContextHas, SignatureHas}
 use Rattle.std.specs.FinMap as maps
 use Rattle.mig_headers.specs.declared.legacy_fault.LegacyCause.TheVariants.{Truncated, BadPageType, BadContext, TooManyFrames, BodyTooLong, TooManyPairs}
 use Rattle.mig_headers.proofs.FirstCauses as first
@@ -14,6 +14,7 @@ use Rattle.mig_refusals.specs.Legacy.ToolstackHas.{wrong_field, too_many_pairs}
 use Rattle.mig_refusals.specs.Legacy.LegacyContextHas.{wrong_entry}
 use Rattle.mig_refusals.specs.Legacy.SignatureHas.{other_bytes}
 use Rattle.mig_refusals.specs.Legacy.LegacyPart.{Start, ChunkType, Words, Page, VcpuMax, Length, Context, Signature, Plain}
+use Rattle.mig_refusals.proofs.Parts.{Tries, tries_first}
 use Rattle.mig_refusals.proofs.LegacyToolstacks.{field_found, found_field}
 use Rattle.mig_refusals.proofs.LegacyNumbers.{decided, low_cause, number_found}
 
@@ -217,7 +218,7 @@ module _ (body : List ℕ) where
 -- ---- all parts
 
 -- what is wrong in a part
-abbrev pub fault_in : LegacyPart → List ℕ → Option LegacyCause
+abbrev fault_in : LegacyPart → List ℕ → Option LegacyCause
 fault_in Start bytes = fault_of_start bytes
 fault_in (ChunkType chunks) bytes = type_fault chunks (kind_of (le32 bytes 0))
 fault_in (Words n) bytes = fault_of_batch (words n bytes)
@@ -241,21 +242,5 @@ part_is_named (Context len) bytes = context_by bytes (scan bytes) refl
 part_is_named Signature bytes = signature_named bytes
 part_is_named (Plain n) bytes = record { holds = λ c h. h }
 
--- ---- one part
-
-pub names : (p : LegacyPart) → Names (λ bytes. IsTriedFirst number_of_legacy_cause word_place (StandsInLegacy p bytes)) (fault_in p)
-names p = first.is_named _ _ (StandsInLegacy p) (fault_in p) (part_is_named p)
-
-pub fine : (p : LegacyPart) (bytes : List ℕ) → IsFaultlessLegacyPart p bytes → fault_in p bytes ≡ None
-fine p bytes is = first.none_is _ _ (StandsInLegacy p bytes) (fault_in p bytes) (part_is_named p bytes) is.none
-
-pub faultless : (p : LegacyPart) (bytes : List ℕ) → length bytes ≡ legacy_size p → fault_in p bytes ≡ None → IsFaultlessLegacyPart p bytes
-faultless p bytes size none = record { size = size; none = (subst (Named (StandsInLegacy p bytes)) none (part_is_named p bytes)).holds }
-
--- a faultless part passes, and a part that passes is faultless
-module _ {X : Type 0} (p : LegacyPart) (says : List ℕ → X) where
-  pub part_goes : (bytes rest : List ℕ) → IsFaultlessLegacyPart p bytes → said_at Truncated (fault_in p) says (legacy_size p) (bytes ++ rest) ≡ Passes (says bytes) rest
-  part_goes bytes rest is = said_goes Truncated (fault_in p) says (legacy_size p) bytes rest is.size (fine p bytes is)
-
-  pub part_back : (i : List ℕ) (x : X) (rest : List ℕ) → said_at Truncated (fault_in p) says (legacy_size p) i ≡ Passes x rest → (bytes : List ℕ) × (i ≡ bytes ++ rest) × IsFaultlessLegacyPart p bytes × (says bytes ≡ x)
-  part_back i x rest h = let s = said_passes Truncated (fault_in p) says (legacy_size p) i x rest h in (s.bytes, s.whole, faultless p s.bytes s.size s.fine, s.value)
+abbrev pub tries : (p : LegacyPart) → Tries Truncated (legacy_size p) (StandsInLegacy p) (λ bytes. IsTriedFirst number_of_legacy_cause word_place (StandsInLegacy p bytes))
+tries p = tries_first number_of_legacy_cause word_place Truncated (legacy_size p) (StandsInLegacy p) (fault_in p) (part_is_named p)

@@ -1,16 +1,16 @@
 -- A legacy stream is refused in words exactly where judging refuses it.
-use Rattle.mig_refusals.proofs.Common.{◌≡◌, ◌⊎◌, inl, inr, ℕ, ◌^◌, ◌-◌, ◌<◌, List, [], ◌∷◌, ◌++◌, length, true, Option, None, refl, sym, ap, subst, ◌∙◌, arith, append_assoc, length-append, not, not-false, Some, Judged, placed, plain_at, said_at, Passes, Faulty, bind_cases, only_first, passes_not, placed_faulty, placed_passes, same_faulty, then_faulty, then_passes, le32, LegacyCause, LegacyPlace, LegacyChunk, LegacyPart, IsFaultlessLegacyPart, LegacyPartFails, bytes_eq, bytes_eq-Decides, Spells, fails_is, is_fails, accepted_spelled, refused_stops, spelled_accepted, spelled_refused, rows_fine, BadSignature, GuestOf, start_at, chunk_at, signature, fault_of_signature, device_record_at, tail_at, tail_of, device_at, LegacyTail, LegacyStream, is_legacy_ended, AcceptedLegacy, FollowsLegacy, IsStart, chunks_at, legacy_at, placed_chunk, IsLegacyRefused, counted_at, behind_chunks, behind_start, behind_tail, stream_of, fault_of_tail, some_device, start_passes, start_goes, tail_passes, tail_goes, BehindLegacy, InDevice, InTail, RefusedLegacy, SignatureHas}
+use Rattle.mig_refusals.proofs.Common.{◌≡◌, inl, inr, ℕ, ◌^◌, ◌-◌, ◌<◌, List, [], ◌∷◌, ◌++◌, length, true, Option, None, refl, sym, ap, ◌∙◌, arith, append_assoc, length-append, not, not-false, Some, Judged, placed, plain_at, said_at, Passes, Faulty, bind_cases, only_first, passes_not, placed_faulty, placed_passes, then_faulty, then_passes, le32, LegacyCause, LegacyPlace, LegacyChunk, LegacyPart, IsFaultlessLegacyPart, LegacyPartFails, bytes_eq, bytes_eq-Decides, Spells, AreJudged, accepted_spelled, refused_stops, spelled_accepted, spelled_refused, rows_fine, BadSignature, start_at, chunk_at, signature, fault_of_signature, device_record_at, tail_at, tail_of, device_at, LegacyTail, is_legacy_ended, FollowsLegacy, IsStart, chunks_at, legacy_at, placed_chunk, IsLegacyRefused, counted_at, behind_chunks, behind_start, behind_tail, stream_of, fault_of_tail, some_device, start_passes, start_goes, tail_passes, tail_goes, BehindLegacy, InDevice, InTail, RefusedLegacy, SignatureHas}
 use Rattle.mig_headers.specs.declared.legacy_fault.LegacyCause.TheVariants.{Truncated}
 use Rattle.mig_headers.specs.declared.legacy_fault.LegacyPlace.TheVariants as places
 use Rattle.mig_legacy.proofs.ChunkTexts.{finds, goes, not_ended}
-use Rattle.mig_legacy.proofs.Laws.{accepted_or_refused as judged_or_refused, never_both as not_both}
 use Rattle.mig_refusals.specs.Legacy.SignatureHas.{other_bytes}
 use Rattle.mig_refusals.specs.Legacy.BehindLegacy.{at_start, in_chunk, in_tail, in_device}
 use Rattle.mig_refusals.specs.Legacy.InTail.{at_frames, at_length, at_context}
 use Rattle.mig_refusals.specs.Legacy.{InDevice as devices}
 use Rattle.mig_refusals.specs.Legacy.LegacyPart.{Start, Length, Context, Signature, Plain}
-use Rattle.mig_refusals.proofs.LegacyBodies.{FailsIn, chunk_fails, chunk_refused, counted_cases, content_refused, length_refused}
-use Rattle.mig_refusals.proofs.LegacyCauses.{faultless, fine, names, part_back, part_goes}
+use Rattle.mig_refusals.proofs.LegacyBodies.{FailsIn, behind_length, chunk_fails, chunk_refused, content_refused, length_refused, stops_next}
+use Rattle.mig_refusals.proofs.LegacyCauses.{tries}
+use Rattle.mig_refusals.proofs.Parts.{fails_said, faultless, fine, found_next, found_placed, part_goes, said_cases, said_fails}
 
 -- ---- the tail, and the device model's record
 
@@ -28,7 +28,7 @@ behind_signature first = counted_at (2 ^ 27 - 8) (λ _. None) Some first.1
 
 -- a signature without a cause is the signature
 is_signature : (bytes : List ℕ) → IsFaultlessLegacyPart Signature bytes → bytes ≡ signature
-is_signature bytes is = (bytes_eq-Decides bytes signature).0 (not-false _ (rows_fine ((not (bytes_eq bytes signature), BadSignature) ∷ []) (fine Signature bytes is)).0)
+is_signature bytes is = (bytes_eq-Decides bytes signature).0 (not-false _ (rows_fine ((not (bytes_eq bytes signature), BadSignature) ∷ []) (fine (tries Signature) bytes is)).0)
 
 same_signature : IsFaultlessLegacyPart Signature signature
 same_signature = record { size = refl; none = never }
@@ -45,42 +45,41 @@ joined a b c d = ap (λ l. a ++ l) (sym (append_assoc b c d)) ∙ sym (append_as
 module _ (c : LegacyCause) (rest : List ℕ) where
   tail_fails : (i : List ℕ) → tail_at i ≡ Faulty c rest → FailsIn InTail i c rest
   unfolding tail_at
-  tail_fails i h = elim (bind_cases (frames_at i) behind_frames c rest h) [
-    | inl e ↦ ([], i, Plain 24, refl, at_frames, (λ s. absurd (cc)), is_fails Truncated _ _ _ (names (Plain 24)) (λ l. l) i c rest e)
-    | inr (said, mid, passes, stops) ↦
-        let (frames, whole, is, value) = part_back (Plain 24) (λ l. l) i said mid passes in
-        elim (counted_cases (2 ^ 27) fault_of_tail (tail_of said) mid c rest stops) [
-          | inl fails ↦ (frames, mid, Length (2 ^ 27), whole, at_length frames is.size, (λ s. absurd (cc)), fails)
-          | inr (len, left, same, few, e) ↦
-              let context = Context (le32 len 0) in
-              (frames ++ len, left, context, whole ∙ ap (λ l. frames ++ l) same ∙ sym (append_assoc frames len left), at_context frames len is.size few, (λ s. absurd (cc)), is_fails Truncated _ _ _ (names context) (tail_of said) left c rest e)
-        ]
+  tail_fails i h = elim (said_cases (tries (Plain 24)) (λ l. l) behind_frames i c rest h) [
+    | inl e ↦ stops_next _ (Plain 24) [] i i c rest (λ s. cc) refl at_frames e
+    | inr a ↦ elim (said_cases (tries (Length (2 ^ 27))) (λ l. le32 l 0) (behind_length (2 ^ 27) fault_of_tail (tail_of a.bytes)) a.mid c rest a.after) [
+      | inl e ↦ stops_next _ (Length (2 ^ 27)) a.bytes a.mid i c rest (λ s. cc) a.whole (at_length a.bytes a.is_faultless.size) e
+      | inr b ↦
+          let context = Context (le32 b.bytes 0) in
+          stops_next _ context (a.bytes ++ b.bytes) b.mid i c rest (λ s. cc) (a.whole ∙ ap (λ l. a.bytes ++ l) b.whole ∙ sym (append_assoc a.bytes b.bytes b.mid)) (at_context a.bytes b.bytes a.is_faultless.size b.is_faultless)
+          (said_fails (tries context) (tail_of a.bytes) b.mid c rest b.after)
+    ]
   ]
 
   frames_go : (frames left : List ℕ) → length frames ≡ 24 → tail_at (frames ++ left) ≡ behind_frames (frames, left)
   unfolding tail_at
-  frames_go frames left size = then_passes (frames_at (frames ++ left)) behind_frames frames left _ (part_goes (Plain 24) (λ l. l) frames left (faultless (Plain 24) frames size refl)) refl
+  frames_go frames left size = then_passes (frames_at (frames ++ left)) behind_frames frames left _ (part_goes (tries (Plain 24)) (λ l. l) frames left (faultless (tries (Plain 24)) frames size refl)) refl
 
   tail_refused : (before : List ℕ) (p : LegacyPart) (left : List ℕ) → InTail before p → LegacyPartFails p left c rest → tail_at (before ++ left) ≡ Faulty c rest
   unfolding tail_at
-  tail_refused _ _ left at_frames fails = then_faulty (frames_at left) behind_frames c rest (fails_is Truncated _ _ _ (names (Plain 24)) (λ l. l) left c rest fails)
+  tail_refused _ _ left at_frames fails = then_faulty (frames_at left) behind_frames c rest (fails_said (tries (Plain 24)) (λ l. l) left c rest fails)
   tail_refused _ _ left (at_length frames size) fails = frames_go frames left size ∙ length_refused (2 ^ 27) fault_of_tail (tail_of frames) left c rest fails
   tail_refused _ _ left (at_context frames len size is) fails =
       ap tail_at (append_assoc frames len left)
       ∙ frames_go frames (len ++ left) size
-      ∙ content_refused (2 ^ 27) fault_of_tail (tail_of frames) len left c rest is (fails_is Truncated _ _ _ (names (Context (le32 len 0))) (tail_of frames) left c rest fails)
+      ∙ content_refused (2 ^ 27) fault_of_tail (tail_of frames) len left c rest is (fails_said (tries (Context (le32 len 0))) (tail_of frames) left c rest fails)
 
   record_fails : (i : List ℕ) → 0 < length i → device_record_at i ≡ Faulty c rest → FailsIn InDevice i c rest
-  record_fails i some h = elim (bind_cases (signature_at i) behind_signature c rest h) [
-    | inl e ↦ ([], i, Signature, refl, devices.at_signature, (λ _. some), is_fails Truncated _ _ _ (names Signature) (λ l. l) i c rest e)
-    | inr (said, mid, passes, stops) ↦
-        let (bytes, is_whole, is, value) = part_back Signature (λ l. l) i said mid passes in
-        let whole : i ≡ signature ++ mid = is_whole ∙ ap (λ l. l ++ mid) (is_signature bytes is) in
-        elim (counted_cases (2 ^ 27 - 8) (λ _. None) Some mid c rest stops) [
-          | inl fails ↦ (signature, mid, Length (2 ^ 27 - 8), whole, devices.at_length, (λ s. absurd (cc)), fails)
-          | inr (len, left, same, few, e) ↦
-              let content = Plain (le32 len 0) in
-              (signature ++ len, left, content, whole ∙ ap (λ l. signature ++ l) same ∙ sym (append_assoc signature len left), devices.at_content len few, (λ s. absurd (cc)), is_fails Truncated _ _ _ (names content) Some left c rest e)
+  record_fails i some h = elim (said_cases (tries Signature) (λ l. l) behind_signature i c rest h) [
+    | inl e ↦ found_next InDevice Signature [] i i c rest refl devices.at_signature (record { begun = λ _. some; fails = e })
+    | inr a ↦
+        let whole : i ≡ signature ++ a.mid = a.whole ∙ ap (λ l. l ++ a.mid) (is_signature a.bytes a.is_faultless) in
+        elim (said_cases (tries (Length (2 ^ 27 - 8))) (λ l. le32 l 0) (behind_length (2 ^ 27 - 8) (λ _. None) Some) a.mid c rest a.after) [
+          | inl e ↦ stops_next _ (Length (2 ^ 27 - 8)) signature a.mid i c rest (λ s. cc) whole devices.at_length e
+          | inr b ↦
+              let content = Plain (le32 b.bytes 0) in
+              stops_next _ content (signature ++ b.bytes) b.mid i c rest (λ s. cc) (whole ∙ ap (λ l. signature ++ l) b.whole ∙ sym (append_assoc signature b.bytes b.mid)) (devices.at_content b.bytes b.is_faultless)
+              (said_fails (tries content) Some b.mid c rest b.after)
         ]
   ]
 
@@ -92,15 +91,15 @@ module _ (c : LegacyCause) (rest : List ℕ) where
   signature_goes : (left : List ℕ) → device_at (signature ++ left) ≡ behind_signature (signature, left)
   signature_goes left =
       some_device (signature ++ left) (omega (arith, length-append signature left, signature_len))
-      ∙ then_passes (signature_at (signature ++ left)) behind_signature signature left _ (part_goes Signature (λ l. l) signature left same_signature) refl
+      ∙ then_passes (signature_at (signature ++ left)) behind_signature signature left _ (part_goes (tries Signature) (λ l. l) signature left same_signature) refl
 
   device_refused : (before : List ℕ) (p : LegacyPart) (left : List ℕ) → InDevice before p → (p ≡ Signature → 0 < length left) → LegacyPartFails p left c rest → device_at (before ++ left) ≡ Faulty c rest
-  device_refused _ _ left devices.at_signature begun fails = some_device left (begun refl) ∙ then_faulty (signature_at left) behind_signature c rest (fails_is Truncated _ _ _ (names Signature) (λ l. l) left c rest fails)
+  device_refused _ _ left devices.at_signature begun fails = some_device left (begun refl) ∙ then_faulty (signature_at left) behind_signature c rest (fails_said (tries Signature) (λ l. l) left c rest fails)
   device_refused _ _ left devices.at_length begun fails = signature_goes left ∙ length_refused (2 ^ 27 - 8) (λ _. None) Some left c rest fails
   device_refused _ _ left (devices.at_content len is) begun fails =
       ap device_at (append_assoc signature len left)
       ∙ signature_goes (len ++ left)
-      ∙ content_refused (2 ^ 27 - 8) (λ _. None) Some len left c rest is (fails_is Truncated _ _ _ (names (Plain (le32 len 0))) Some left c rest fails)
+      ∙ content_refused (2 ^ 27 - 8) (λ _. None) Some len left c rest is (fails_said (tries (Plain (le32 len 0))) Some left c rest fails)
 
 -- ---- what is refused is refused in words
 
@@ -108,15 +107,7 @@ module _ (input : List ℕ) (place : LegacyPlace) (c : LegacyCause) (rest : List
   -- what fails behind a front
   refusal : {Within : List ℕ → LegacyPart → Type 0} (front : List ℕ → List ℕ) (at : LegacyPlace) (i : List ℕ) → input ≡ front i → ((l m : List ℕ) → front (l ++ m) ≡ front l ++ m) → at ≡ place
       → ((before : List ℕ) (p : LegacyPart) → Within before p → BehindLegacy (front before) at p) → FailsIn Within i c rest → RefusedLegacy input place c rest
-  refusal front at i whole joins same behind (before, left, p, inner, is, begun, fails) = record {
-    front = front before;
-    left = left;
-    part = p;
-    whole = whole ∙ ap front inner ∙ joins before left;
-    behind = subst (λ q. BehindLegacy (front before) q p) same (behind before p is);
-    begun = begun;
-    fails = fails;
-  }
+  refusal front at i whole joins same behind f = found_placed BehindLegacy at place f.part (front f.front) f.left input c rest (whole ∙ ap front f.whole ∙ joins f.front f.left) (behind f.front f.part f.behind) (f.fails, same)
 
   tail_refusal : (start bytes left : List ℕ) (chunks : List LegacyChunk) → IsStart start → Spells FollowsLegacy bytes chunks → is_legacy_ended chunks ≡ true → input ≡ start ++ (bytes ++ left) → behind_chunks (chunks, left) ≡ Faulty (place, c) rest → RefusedLegacy input place c rest
   tail_refusal start bytes left chunks is spelled ended whole h = elim (bind_cases (placed places.Tail (tail_at left)) (behind_tail chunks) (place, c) rest h) [
@@ -148,7 +139,7 @@ module _ (input : List ℕ) (place : LegacyPlace) (c : LegacyCause) (rest : List
   is_refused h = elim (bind_cases (placed places.Start (start_at input)) behind_start (place, c) rest h) [
     | inl e ↦
         let p = placed_faulty places.Start place (start_at input) c rest e in
-        record { front = []; left = input; part = Start; whole = refl; behind = subst (λ at. BehindLegacy [] at Start) p.1 at_start; begun = λ e. absurd (cc); fails = is_fails Truncated _ _ _ (names Start) (λ l. l) input c rest p.0 }
+        found_placed BehindLegacy places.Start place Start [] input input c rest refl at_start (record { begun = λ e. absurd (cc); fails = said_fails (tries Start) (λ l. l) input c rest p.0 }, p.1)
     | inr a ↦ let s = start_passes input a.0 a.1 (placed_passes places.Start (start_at input) a.0 a.1 a.2) in chunks_refusal a.0 a.1 s.1 s.0 a.3
   ]
 
@@ -164,7 +155,7 @@ chunks_go start bytes i chunks is spelled ended =
 
 behind_refused : (front : List ℕ) (place : LegacyPlace) (p : LegacyPart) (left : List ℕ) (c : LegacyCause) (rest : List ℕ) → BehindLegacy front place p → (p ≡ Signature → 0 < length left) → LegacyPartFails p left c rest → legacy_at (front ++ left) ≡ Faulty (place, c) rest
 unfolding legacy_at
-behind_refused _ _ _ left c rest at_start begun fails = then_faulty (placed places.Start (start_at left)) behind_start (places.Start, c) rest (ap (placed places.Start) (fails_is Truncated _ _ _ (names Start) (λ l. l) left c rest fails))
+behind_refused _ _ _ left c rest at_start begun fails = then_faulty (placed places.Start (start_at left)) behind_start (places.Start, c) rest (ap (placed places.Start) (fails_said (tries Start) (λ l. l) left c rest fails))
 behind_refused _ _ _ left c rest (in_chunk start bytes before chunks p is spelled going inside) begun fails =
     let place = places.Chunk (length chunks) in
     ap legacy_at (sym (joined start bytes before left))
@@ -183,17 +174,7 @@ behind_refused _ _ _ left c rest (in_device start bytes tail before chunks t p i
     (then_faulty (placed places.Device (device_at device)) (λ d. Passes (stream_of chunks t d.0) d.1) (places.Device, c) rest (ap (placed places.Device) (device_refused c rest before p left inside begun fails)))
 
 pub refused_is : (input : List ℕ) (place : LegacyPlace) (c : LegacyCause) (rest : List ℕ) → RefusedLegacy input place c rest → IsLegacyRefused input place c rest
-refused_is input place c rest r = ap legacy_at r.whole ∙ behind_refused r.front place r.part r.left c rest r.behind r.begun r.fails
+refused_is input place c rest r = let f = r.fails in ap legacy_at r.whole ∙ behind_refused r.front place r.part r.left c rest r.behind f.begun f.fails
 
--- ---- the laws
-
-pub either : (input : List ℕ) → ((guest : GuestOf) × (rest : List ℕ) × AcceptedLegacy input guest rest) ⊎ ((place : LegacyPlace) × (c : LegacyCause) × (rest : List ℕ) × RefusedLegacy input place c rest)
-either input = elim (judged_or_refused input) [ inl a ↦ inl a | inr r ↦ inr (r.0, r.1, r.2, is_refused input r.0 r.1 r.2 r.3) ]
-
-pub one_refusal : (input : List ℕ) (place other_place : LegacyPlace) (c d : LegacyCause) (rest more : List ℕ) → RefusedLegacy input place c rest → RefusedLegacy input other_place d more → (place ≡ other_place) × (c ≡ d) × (rest ≡ more)
-one_refusal input place other_place c d rest more a b =
-    let e = same_faulty {C = (LegacyPlace × LegacyCause)} {X = LegacyStream} (place, c) (other_place, d) rest more (sym (refused_is input place c rest a) ∙ refused_is input other_place d more b) in
-    (ap (λ (x : LegacyPlace × LegacyCause). x.0) e.0, ap (λ (x : LegacyPlace × LegacyCause). x.1) e.0, e.1)
-
-pub never_both : (input : List ℕ) (guest : GuestOf) (rest : List ℕ) (place : LegacyPlace) (c : LegacyCause) (more : List ℕ) → AcceptedLegacy input guest rest → RefusedLegacy input place c more → ⊥
-never_both input guest rest place c more a r = not_both input guest rest place c more a (refused_is input place c more r)
+pub agree : AreJudged RefusedLegacy IsLegacyRefused
+agree input place c rest = (is_refused input place c rest, refused_is input place c rest)

@@ -1,6 +1,7 @@
 pub mod Common
 pub mod ContextEntries
 pub mod Firsts
+pub mod Laws
 pub mod Least
 pub mod Parts
 pub mod Ranks
@@ -24,7 +25,6 @@ pub mod LegacyVerdicts
 pub mod ImageFileCauses
 pub mod ImageFileEntries
 pub mod ImageFileFrames
-pub mod ImageFileImages
 pub mod ImageFileParts
 pub mod ImageFileSpelled
 pub mod ImageFileSteps

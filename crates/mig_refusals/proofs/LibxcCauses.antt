@@ -11,7 +11,7 @@ use Rattle.mig_refusals.specs.Libxc.DomainHas.{bad_page_shift, bad_kind}
 use Rattle.mig_refusals.specs.Libxc.GuestHas.{too_many_frames, missing, of_pv}
 use Rattle.mig_refusals.specs.Libxc.WordsHas.{outside, reserved}
 use Rattle.mig_refusals.specs.Libxc.ContextHas.{bad_context}
-use Rattle.mig_refusals.proofs.Least.{Least, Tries, nothing_tried, RowHas, Alone, alone_least, turned, both_least, named}
+use Rattle.mig_refusals.proofs.Least.{Least, LeastTried, TriesLeast, nothing_tried, tries_least, RowHas, Alone, alone_least, turned, both_least, named}
 use Rattle.mig_refusals.proofs.ContextEntries.{chain_reached, reached_chain, found_has, has_found}
 use Rattle.mig_refusals.proofs.LibxcHeads.{head_least}
 use Rattle.mig_refusals.proofs.PvTables.{differs, test_differs, table_least, info_least, p2m_least, vcpu_least}
@@ -254,20 +254,23 @@ module _ (body : List ℕ) where
 
 -- ---- all parts
 
-abbrev pub tries : (part : LibxcPart) → Tries (libxc_size part) (StandsInLibxc part)
-tries Marker = record { fault = fault_of_marker; least = marker_least }
-tries HeaderRest = record { fault = fault_of_image; least = header_least }
-tries Domain = record { fault = fault_of_domain; least = domain_least }
-tries (Head b) = record { fault = fault_of_head b; least = λ bytes. head_least b (le32 bytes 4) (le32 bytes 0) }
-tries (WholeGuest g) = record { fault = λ _. fault_of_guest g; least = λ _. guest_least g }
-tries (PagesFront len) = record { fault = λ bytes. fault_of_count len (le32 bytes 0); least = λ bytes. front_least len (le32 bytes 0) }
-tries (PagesWords kind top n) = record { fault = λ bytes. fault_of_words kind top (words n bytes); least = λ bytes. words_least kind top (words n bytes) }
-tries (PagesLength len ws) = record { fault = λ _. fault_of_data len ws; least = λ _. length_least len ws }
-tries (Page kind top place word) = record { fault = fault_of_page kind top (place, word); least = page_least kind top place word }
-tries (InfoBody len) = record { fault = fault_of_pv_info; least = info_least }
-tries (P2mBody len) = record { fault = fault_of_p2m; least = p2m_least }
-tries (VcpuBody code len) = record { fault = fault_of_vcpu code; least = vcpu_least code }
-tries (ContextBody len) = record { fault = fault_of_body HvmContext; least = λ bytes. context_by bytes (scan bytes) refl }
-tries (ParamsBody len) = record { fault = fault_of_body HvmParam; least = params_least }
-tries (OtherBody len) = nothing_tried
-tries (Padding n) = nothing_tried
+abbrev least_in : (part : LibxcPart) → LeastTried (StandsInLibxc part)
+least_in Marker = record { fault = fault_of_marker; least = marker_least }
+least_in HeaderRest = record { fault = fault_of_image; least = header_least }
+least_in Domain = record { fault = fault_of_domain; least = domain_least }
+least_in (Head b) = record { fault = fault_of_head b; least = λ bytes. head_least b (le32 bytes 4) (le32 bytes 0) }
+least_in (WholeGuest g) = record { fault = λ _. fault_of_guest g; least = λ _. guest_least g }
+least_in (PagesFront len) = record { fault = λ bytes. fault_of_count len (le32 bytes 0); least = λ bytes. front_least len (le32 bytes 0) }
+least_in (PagesWords kind top n) = record { fault = λ bytes. fault_of_words kind top (words n bytes); least = λ bytes. words_least kind top (words n bytes) }
+least_in (PagesLength len ws) = record { fault = λ _. fault_of_data len ws; least = λ _. length_least len ws }
+least_in (Page kind top place word) = record { fault = fault_of_page kind top (place, word); least = page_least kind top place word }
+least_in (InfoBody len) = record { fault = fault_of_pv_info; least = info_least }
+least_in (P2mBody len) = record { fault = fault_of_p2m; least = p2m_least }
+least_in (VcpuBody code len) = record { fault = fault_of_vcpu code; least = vcpu_least code }
+least_in (ContextBody len) = record { fault = fault_of_body HvmContext; least = λ bytes. context_by bytes (scan bytes) refl }
+least_in (ParamsBody len) = record { fault = fault_of_body HvmParam; least = params_least }
+least_in (OtherBody len) = nothing_tried
+least_in (Padding n) = nothing_tried
+
+abbrev pub tries : (part : LibxcPart) → TriesLeast (libxc_size part) (StandsInLibxc part)
+tries part = tries_least (libxc_size part) (StandsInLibxc part) (least_in part)

@@ -1,5 +1,5 @@
 -- A record that fails: the part in which it fails, and the parts before it.
-use Rattle.mig_refusals.proofs.Common.{◌≡◌, ◌⊎◌, inl, inr, ℕ, ◌+◌, ◌*◌, ◌/◌, List, [], ◌∷◌, ◌++◌, Bool, true, false, not, nat_eq, zero, suc, drop, length, Option, Some, None, refl, sym, ap, subst, ◌∙◌, arith, append_assoc, eqb-true, not-true, false≢true, le32, Judged, ◌>>=◌, part, tried, Passes, Faulty, part_whole, then_passes, both_pass, part_passes, tried_passes, same_passes, Cause, Kind, common_steps, type_allows, Opening, Before, before, record_at, next_at, body_at, typed_at, coded_at, code_of_type, said_at, entries_at, words_at, fault_of_head, fault_of_data, LibxcPart, PagesTo, IsFaultlessLibxcPart, LibxcPartFails, then_faulty, bind_cases, passes_not, only_first, InPages, body_part, libxc_size, InBody, Within, end_record, padding_len, IsLeastPadding, each, record_row_of, type_number, type_of_number, RecordType, PageData, X86PvInfo, X86PvP2mFrames, GuestOf, PartCode, VcpuBasic, VcpuExtended, VcpuXsave, HvmContext, HvmParam, VcpuMsrs, code_number, is_vcpu, fault_of_vcpu, vcpu_rows, Layout, Shape, Table, Single, Other, entry_width, front_width, fault_of_key, fault_of_entries, entry_count, shape_of, has_shape, fault_by_shape, fault_of_body, parts_of_body, length_passes, neither_some, IsInOrder, words, fault_of_guest, lists_of, sent, StreamRecord, FrameEntry, Content, Sets, behind_body, head_stage, asks, behind_record, taken, behind_good, words_stage, entries_in_place, other_entries, each_stage, coded_is, shaped_code, optional_at}
+use Rattle.mig_refusals.proofs.Common.{◌≡◌, ◌⊎◌, inl, inr, ℕ, ◌+◌, ◌*◌, ◌/◌, List, [], ◌∷◌, ◌++◌, Bool, true, false, not, nat_eq, zero, suc, drop, length, Option, Some, None, refl, sym, ap, subst, ◌∙◌, arith, append_assoc, eqb-true, not-true, false≢true, le32, Judged, ◌>>=◌, part, tried, Passes, Faulty, part_whole, then_passes, both_pass, part_passes, tried_passes, same_passes, Cause, Kind, common_steps, type_allows, Opening, Before, before, record_at, next_at, body_at, typed_at, coded_at, code_of_type, said_at, entries_at, words_at, fault_of_head, fault_of_data, LibxcPart, PagesTo, IsFaultlessLibxcPart, LibxcPartFails, then_faulty, bind_cases, passes_not, only_first, InPages, body_part, libxc_size, InBody, Within, end_record, padding_len, IsLeastPadding, each, record_row_of, type_number, type_of_number, RecordType, PageData, X86PvInfo, X86PvP2mFrames, GuestOf, PartCode, VcpuBasic, VcpuExtended, VcpuXsave, HvmContext, HvmParam, VcpuMsrs, code_number, is_vcpu, fault_of_vcpu, vcpu_rows, Layout, Shape, Table, Single, Other, entry_width, front_width, fault_of_key, fault_of_entries, entry_count, shape_of, has_shape, fault_by_shape, fault_of_body, parts_of_body, length_passes, neither_some, IsInOrder, words, fault_of_guest, lists_of, sent, StreamRecord, FrameEntry, Content, Sets, behind_body, head_stage, asks, behind_record, taken, behind_good, words_stage, entries_in_place, other_entries, each_stage, coded_is, shaped_code, optional_at, FailsBehind}
 use Rattle.mig_headers.specs.declared.fault.Cause.TheVariants.{Truncated}
 use Rattle.mig_guest.proofs.PartRows.{number_found}
 use Rattle.mig_order.specs.Order.{IsInOrder as order}
@@ -14,31 +14,7 @@ use Rattle.mig_refusals.specs.Libxc.InPages.{at_front, at_words, at_length, at_p
 use Rattle.mig_refusals.specs.Libxc.InBody.{in_pages, at_info, at_p2m_frames, of_code, optional}
 use Rattle.mig_refusals.specs.Libxc.Within.{at_head, in_body, at_padding}
 use Rattle.mig_refusals.proofs.LibxcCauses.{tries}
-use Rattle.mig_refusals.proofs.Parts.{stage, stage_fails, stage_passes, stage_cases, said_fails, empty_stage, fine, faultless}
-
--- a part that fails in an input, and the parts before it
-pub record Found {P : Type 0} (Fails : P → List ℕ → Cause → List ℕ → Type 0) (Before_it : List ℕ → P → Type 0) (i : List ℕ) (c : Cause) (rest : List ℕ) : Type 0 where
-  pub front : List ℕ
-  pub left : List ℕ
-  pub part_is : P
-  pub whole : i ≡ front ++ left
-  pub behind : Before_it front part_is
-  pub fails : Fails part_is left c rest
-
--- the part that comes first
-pub found_here : {P : Type 0} {Fails : P → List ℕ → Cause → List ℕ → Type 0} (Before_it : List ℕ → P → Type 0) (part_is : P) (i : List ℕ) (c : Cause) (rest : List ℕ) → Before_it [] part_is → Fails part_is i c rest → Found Fails Before_it i c rest
-found_here Before_it part_is i c rest behind fails = record { front = []; left = i; part_is = part_is; whole = refl; behind = behind; fails = fails }
-
--- the same behind some first bytes
-found_behind : (P Q : List ℕ → LibxcPart → Type 0) (x i j : List ℕ) (c : Cause) (rest : List ℕ) → j ≡ x ++ i → ((b : List ℕ) (p : LibxcPart) → P b p → Q (x ++ b) p) → Found LibxcPartFails P i c rest → Found LibxcPartFails Q j c rest
-found_behind P Q x i j c rest whole turn f = record {
-  front = x ++ f.front;
-  left = f.left;
-  part_is = f.part_is;
-  whole = whole ∙ ap (λ l. x ++ l) f.whole ∙ sym (append_assoc x f.front f.left);
-  behind = turn f.front f.part_is f.behind;
-  fails = f.fails;
-}
+use Rattle.mig_refusals.proofs.Parts.{stage, stage_fails, stage_passes, stage_cases, said_fails, empty_stage, fine, faultless, found_here, found_next, found_behind}
 
 -- ---- pages
 
@@ -56,7 +32,7 @@ module _ (kind : Kind) (top : ℕ) where
   abbrev NextPage : ℕ → List ℕ → List ℕ → LibxcPart → Type 0
   NextPage place ws pages p = (at : ℕ) × (word : ℕ) × PagesTo kind top place ws pages at word × (p ≡ Page kind top at word)
 
-  pages_up : (place : ℕ) (ws i : List ℕ) (c : Cause) (rest : List ℕ) → entries_in_place kind top place ws i ≡ Faulty c rest → Found LibxcPartFails (NextPage place ws) i c rest
+  pages_up : (place : ℕ) (ws i : List ℕ) (c : Cause) (rest : List ℕ) → entries_in_place kind top place ws i ≡ Faulty c rest → FailsBehind (NextPage place ws) LibxcPartFails i c rest
   unfolding each
   pages_up place [] i c rest h = passes_not [] i c rest h
   pages_up place (w ∷ ws) i c rest h = elim (stage_cases (tries (Page kind top place w)) (other_entries kind top place w ws) i c rest (sym (each_stage kind top place w ws i) ∙ h)) [
@@ -85,7 +61,7 @@ module _ (kind : Kind) (top len : ℕ) where
   words_go : (front ws mid : List ℕ) → IsFaultlessLibxcPart (PagesFront len) front → IsFaultlessLibxcPart (PagesWords kind top (le32 front 0)) ws → entries_at kind top len (front ++ (ws ++ mid)) ≡ stage (tries (PagesLength len (words (le32 front 0) ws))) (behind_length (words (le32 front 0) ws)) mid
   words_go front ws mid f w =
       let l = words (le32 front 0) ws in
-      front_goes front (ws ++ mid) f ∙ stage_passes (tries (PagesWords kind top (le32 front 0))) (behind_bytes (le32 front 0)) ws mid w ∙ sym (empty_stage (fault_of_data len l) (behind_length l) mid)
+      front_goes front (ws ++ mid) f ∙ stage_passes (tries (PagesWords kind top (le32 front 0))) (behind_bytes (le32 front 0)) ws mid w ∙ sym (empty_stage Truncated (fault_of_data len l) (behind_length l) mid)
 
   entries_down : (front : List ℕ) (p : LibxcPart) (left : List ℕ) (c : Cause) (rest : List ℕ) → InPages kind top len front p → LibxcPartFails p left c rest → entries_at kind top len (front ++ left) ≡ Faulty c rest
   entries_down _ _ left c rest at_front h = stage_fails (tries (PagesFront len)) behind_count left c rest h
@@ -98,25 +74,19 @@ module _ (kind : Kind) (top len : ℕ) where
       ap (entries_at kind top len) (append_assoc front (ws ++ pages) left ∙ ap (λ k. front ++ k) (append_assoc ws pages left)) ∙ words_go front ws (pages ++ left) a w
       ∙ stage_passes (tries (PagesLength len ws_are)) (behind_length ws_are) [] (pages ++ left) l ∙ pages_down kind top 0 ws_are pages at word left c rest to h
 
-  entries_up : (i : List ℕ) (c : Cause) (rest : List ℕ) → entries_at kind top len i ≡ Faulty c rest → Found LibxcPartFails (InPages kind top len) i c rest
+  entries_up : (i : List ℕ) (c : Cause) (rest : List ℕ) → entries_at kind top len i ≡ Faulty c rest → FailsBehind (InPages kind top len) LibxcPartFails i c rest
   entries_up i c rest h = elim (stage_cases (tries (PagesFront len)) behind_count i c rest h) [
     | inl e ↦ found_here (InPages kind top len) (PagesFront len) i c rest at_front e
     | inr a ↦
         let n = le32 a.bytes 0 in
         elim (stage_cases (tries (PagesWords kind top n)) (behind_bytes n) a.mid c rest (sym (words_stage kind top len n a.mid) ∙ a.after)) [
-          | inl e ↦ record { front = a.bytes; left = a.mid; part_is = PagesWords kind top n; whole = a.whole; behind = at_words a.bytes a.is_faultless; fails = e }
+          | inl e ↦ found_next (InPages kind top len) (PagesWords kind top n) a.bytes a.mid i c rest a.whole (at_words a.bytes a.is_faultless) e
           | inr b ↦
               let ws = words n b.bytes in
               let all : i ≡ (a.bytes ++ b.bytes) ++ b.mid = a.whole ∙ ap (λ l. a.bytes ++ l) b.whole ∙ sym (append_assoc a.bytes b.bytes b.mid) in
               elim (bind_cases (tried (fault_of_data len ws) b.mid) (λ _. entries_in_place kind top 0 ws b.mid) c rest b.after) [
-                | inl e ↦ record {
-                  front = a.bytes ++ b.bytes;
-                  left = b.mid;
-                  part_is = PagesLength len ws;
-                  whole = all;
-                  behind = at_length a.bytes b.bytes a.is_faultless b.is_faultless;
-                  fails = said_fails (tries (PagesLength len ws)) (λ l. l) b.mid c rest (empty_stage (fault_of_data len ws) (λ l r. Passes l r) b.mid ∙ then_faulty (tried (fault_of_data len ws) b.mid) (λ _. Passes [] b.mid) c rest e);
-                }
+                | inl e ↦ found_next (InPages kind top len) (PagesLength len ws) (a.bytes ++ b.bytes) b.mid i c rest all (at_length a.bytes b.bytes a.is_faultless b.is_faultless)
+                    (said_fails (tries (PagesLength len ws)) (λ l. l) b.mid c rest (empty_stage Truncated (fault_of_data len ws) (λ l r. Passes l r) b.mid ∙ then_faulty (tried (fault_of_data len ws) b.mid) (λ _. Passes [] b.mid) c rest e))
                 | inr e ↦
                     let none = (tried_passes (fault_of_data len ws) b.mid e.1 e.0 e.2).0 in
                     found_behind (NextPage kind top 0 ws) (InPages kind top len) (a.bytes ++ b.bytes) b.mid i c rest all
@@ -208,7 +178,7 @@ module _ (kind : Kind) (top len : ℕ) where
   body_down _ _ _ left c rest allowed (optional type above) h = optional_at kind top type len left above ∙ stage_fails (tries (OtherBody len)) (λ b r. Passes Nothing r) left c rest h
 
   abbrev Fault : ℕ → List ℕ → Cause → List ℕ → Type 0
-  Fault type i c rest = Found LibxcPartFails (InBody kind top len type) i c rest
+  Fault type i c rest = FailsBehind (InBody kind top len type) LibxcPartFails i c rest
 
   module _ (i : List ℕ) (c : Cause) (rest : List ℕ) where
     -- a body that is one part
@@ -269,7 +239,7 @@ module _ (b : Before) where
       (stage_fails (tries (Padding (padding_len (le32 head 4)))) (λ _ r. Passes (record { type = le32 head 0; content = content }) r) left c rest (subst (λ m. LibxcPartFails (Padding m) left c rest) (padding_is (le32 head 4) n pads) h))
 
   -- a record fails: one of its parts does, and none before it
-  pub up : (i : List ℕ) (c : Cause) (rest : List ℕ) → record_at b i ≡ Faulty c rest → Found LibxcPartFails (Within b) i c rest
+  pub up : (i : List ℕ) (c : Cause) (rest : List ℕ) → record_at b i ≡ Faulty c rest → FailsBehind (Within b) LibxcPartFails i c rest
   unfolding behind_head behind_body
   up i c rest h = elim (stage_cases (tries (Head b)) behind_it i c rest (sym (head_stage b i) ∙ h)) [
     | inl e ↦ found_here (Within b) (Head b) i c rest at_head e
@@ -284,14 +254,8 @@ module _ (b : Before) where
               (body_up kind b.top len a.mid c rest b.opening.version b.types type fields.ordered fields.allowed e)
           | inr e ↦
               let s = body_says b.opening.version kind b.top b.types type len a.mid e.0 e.1 fields.ordered fields.allowed e.2 in
-              record {
-                front = head ++ s.body;
-                left = e.1;
-                part_is = Padding (padding_len len);
-                whole = a.whole ∙ ap (λ l. head ++ l) s.whole ∙ sym (append_assoc head s.body e.1);
-                behind = at_padding head s.body e.0 (padding_len len) f s.body_len s.says (is_padding len);
-                fails = said_fails (tries (Padding (padding_len len))) (λ _. record { type = type; content = e.0 }) e.1 c rest e.3;
-              }
+              found_next (Within b) (Padding (padding_len len)) (head ++ s.body) e.1 i c rest (a.whole ∙ ap (λ l. head ++ l) s.whole ∙ sym (append_assoc head s.body e.1))
+              (at_padding head s.body e.0 (padding_len len) f s.body_len s.says (is_padding len)) (said_fails (tries (Padding (padding_len len))) (λ _. record { type = type; content = e.0 }) e.1 c rest e.3)
         ]
   ]
 
@@ -341,7 +305,7 @@ module _ (o : Opening) (records : List StreamRecord) where
   guest_down head left c rest f is_end h =
       asks o records (head ++ left)
       ∙ then_passes (record_at (before o records) (head ++ left)) (behind_record o records) end_record left _ (end_passes (before o records) head left f is_end)
-      (sym (empty_stage (fault_of_guest guest) (λ _ r. Passes end_record r) left) ∙ stage_fails (tries (WholeGuest guest)) (λ _ r. Passes end_record r) left c rest h)
+      (sym (empty_stage Truncated (fault_of_guest guest) (λ _ r. Passes end_record r) left) ∙ stage_fails (tries (WholeGuest guest)) (λ _ r. Passes end_record r) left c rest h)
 
   -- where a record that passes is END, and the guest is faulty
   abbrev pub GuestFault : List ℕ → Cause → List ℕ → Type 0
@@ -354,8 +318,8 @@ module _ (o : Opening) (records : List StreamRecord) where
       by : (b : Bool) → nat_eq r.type 0 ≡ b → GuestFault i c rest
       by true last =
           let e = ended (before o records) i r mid is (eqb-true r.type 0 last) in
-          (r, mid, e, said_fails (tries (WholeGuest guest)) (λ _. end_record) mid c rest (empty_stage (fault_of_guest guest) (λ _ r. Passes end_record r) mid ∙ subst (λ (q : StreamRecord). behind_record o records (q, mid) ≡ Faulty c rest) e.is h))
+          (r, mid, e, said_fails (tries (WholeGuest guest)) (λ _. end_record) mid c rest (empty_stage Truncated (fault_of_guest guest) (λ _ r. Passes end_record r) mid ∙ subst (λ (q : StreamRecord). behind_record o records (q, mid) ≡ Faulty c rest) e.is h))
       by false more = passes_not r mid c rest (rw more at h)
 
-  pub next_up : (i : List ℕ) (c : Cause) (rest : List ℕ) → next_at o records i ≡ Faulty c rest → Found LibxcPartFails (Within (before o records)) i c rest ⊎ GuestFault i c rest
+  pub next_up : (i : List ℕ) (c : Cause) (rest : List ℕ) → next_at o records i ≡ Faulty c rest → FailsBehind (Within (before o records)) LibxcPartFails i c rest ⊎ GuestFault i c rest
   next_up i c rest h = elim (bind_cases (record_at (before o records) i) (behind_record o records) c rest (sym (asks o records i) ∙ h)) [ inl e ↦ inl (up (before o records) i c rest e) | inr a ↦ inr (guest_up i c rest a.0 a.1 a.2 a.3) ]

@@ -1,12 +1,11 @@
 -- An input is refused as the format's words say exactly where judging refuses it.
-use Rattle.mig_refusals.proofs.Common.{◌≡◌, inl, inr, ℕ, List, [], ◌++◌, length, refl, sym, ap, subst, ◌∙◌, append_assoc, le32, be32, ◌>>=◌, placed, Passes, Faulty, then_passes, placed_passes, then_faulty, bind_cases, passes_not, only_first, placed_faulty, Cause, Opening, before, next_at, marker_goes, image_header_goes, headers_go, LibxcPart, IsOpen, BehindLibxc, RefusedLibxc, LibxcPartFails, said_passes, refused_stops, spelled_refused, sequence_at, fault_of_marker, fault_of_image, kind_of_number, Place, ImageHeader, DomainHeader, Record, StreamRecord, is_ended, Follows, image_of, placed_next, records_at, opening_at, image_at, marker_at, version_at, kind_at, IsRefused, going, image_header, behind_marker, behind_version}
-use Rattle.mig_headers.specs.declared.fault.Cause.TheVariants.{Truncated}
+use Rattle.mig_refusals.proofs.Common.{◌≡◌, inl, inr, ℕ, List, [], ◌++◌, length, refl, sym, ap, ◌∙◌, append_assoc, le32, be32, ◌>>=◌, placed, Passes, Faulty, then_passes, then_faulty, bind_cases, passes_not, only_first, placed_faulty, Cause, Opening, before, next_at, marker_goes, image_header_goes, headers_go, LibxcPart, IsOpen, BehindLibxc, RefusedLibxc, LibxcPartFails, Within, AreJudged, refused_stops, spelled_refused, sequence_at, kind_of_number, Place, ImageHeader, DomainHeader, Record, StreamRecord, is_ended, Follows, image_of, placed_next, records_at, opening_at, image_at, IsRefused, going, image_header, behind_marker, behind_version}
 use Rattle.mig_restore.proofs.Converse.{goes}
 use Rattle.mig_restore.proofs.Laws.{finds, behind_kind, opened}
 use Rattle.mig_refusals.specs.Libxc.LibxcPart.{Marker, HeaderRest, Domain}
 use Rattle.mig_refusals.specs.Libxc.BehindLibxc.{at_marker, at_header, at_domain, in_record, at_guest}
 use Rattle.mig_refusals.proofs.LibxcCauses.{tries}
-use Rattle.mig_refusals.proofs.Parts.{stage_fails, said_fails, fine, faultless}
+use Rattle.mig_refusals.proofs.Parts.{stage_fails, fine, found_at, found_behind, found_next, found_placed, placed_cases}
 use Rattle.mig_refusals.proofs.LibxcRecords.{down, next_down, guest_down, next_up}
 
 -- ---- what is refused in words is refused
@@ -48,40 +47,28 @@ refused_is input place c rest r = ap image_at r.whole ∙ behind_refused r.front
 -- ---- what is refused is refused in words
 
 module _ (input : List ℕ) (place : Place) (c : Cause) (rest : List ℕ) where
-  fails_at : (at : Place) (front left : List ℕ) (p : LibxcPart) → at ≡ place → input ≡ front ++ left → BehindLibxc front at p → LibxcPartFails p left c rest → RefusedLibxc input place c rest
-  fails_at at front left p same whole behind h = record { front = front; left = left; part = p; whole = whole; behind = subst (λ q. BehindLibxc front q p) same behind; fails = h }
-
   opening_fails : opening_at input ≡ Faulty (place, c) rest → RefusedLibxc input place c rest
   unfolding opening_at
-  opening_fails h = elim (bind_cases (placed ImageHeader (marker_at input)) behind_marker (place, c) rest h) [
-    | inl e ↦
-        let a = placed_faulty ImageHeader place (marker_at input) c rest e in
-        fails_at ImageHeader [] input Marker a.1 refl at_marker (said_fails (tries Marker) (λ l. l) input c rest a.0)
-    | inr a ↦
-        let i = a.1 in
-        let m = said_passes Truncated fault_of_marker (λ l. l) 8 input a.0 i (placed_passes ImageHeader (marker_at input) a.0 i a.2) in
-        elim (bind_cases (placed ImageHeader (version_at i)) behind_version (place, c) rest a.3) [
-          | inl e ↦
-              let b = placed_faulty ImageHeader place (version_at i) c rest e in
-              fails_at ImageHeader m.bytes i HeaderRest b.1 m.whole (at_header m.bytes (faultless (tries Marker) m.bytes m.size m.fine)) (said_fails (tries HeaderRest) (λ l. be32 l 4) i c rest b.0)
-          | inr b ↦
-              let j = b.1 in
-              let g = said_passes Truncated fault_of_image (λ l. be32 l 4) 16 i b.0 j (placed_passes ImageHeader (version_at i) b.0 j b.2) in
-              elim (bind_cases (placed DomainHeader (kind_at j)) (behind_kind b.0) (place, c) rest b.3) [
-                | inl e ↦
-                    let d = placed_faulty DomainHeader place (kind_at j) c rest e in
-                    fails_at DomainHeader (m.bytes ++ g.bytes) j Domain d.1 (m.whole ∙ ap (λ l. m.bytes ++ l) g.whole ∙ sym (append_assoc m.bytes g.bytes j))
-                    (at_domain (m.bytes ++ g.bytes) b.0 (image_header m.bytes g.bytes b.0 m.size g.size m.fine g.fine g.value)) (said_fails (tries Domain) (λ l. kind_of_number (le32 l 0)) j c rest d.0)
-                | inr d ↦ passes_not _ d.1 (place, c) rest d.3
-              ]
-        ]
+  opening_fails h = elim (placed_cases (tries Marker) (λ l. l) ImageHeader behind_marker input place c rest h) [
+    | inl e ↦ found_placed BehindLibxc ImageHeader place Marker [] input input c rest refl at_marker e
+    | inr m ↦ elim (placed_cases (tries HeaderRest) (λ l. be32 l 4) ImageHeader behind_version m.mid place c rest m.after) [
+      | inl e ↦ found_placed BehindLibxc ImageHeader place HeaderRest m.bytes m.mid input c rest m.whole (at_header m.bytes m.is_faultless) e
+      | inr g ↦
+          let version = be32 g.bytes 4 in
+          let header = image_header m.bytes g.bytes version m.is_faultless.size g.is_faultless.size (fine (tries Marker) m.bytes m.is_faultless) (fine (tries HeaderRest) g.bytes g.is_faultless) refl in
+          elim (placed_cases (tries Domain) (λ l. kind_of_number (le32 l 0)) DomainHeader (behind_kind version) g.mid place c rest g.after) [
+            | inl e ↦ found_placed BehindLibxc DomainHeader place Domain (m.bytes ++ g.bytes) g.mid input c rest (m.whole ∙ ap (λ l. m.bytes ++ l) g.whole ∙ sym (append_assoc m.bytes g.bytes g.mid)) (at_domain (m.bytes ++ g.bytes) version header) e
+            | inr d ↦ passes_not _ d.mid (place, c) rest d.after
+          ]
+    ]
   ]
 
   records_fail : (o : Opening) (i : List ℕ) → opening_at input ≡ Passes o i → records_at o i ≡ Faulty (place, c) rest → RefusedLibxc input place c rest
   records_fail o i opens h =
       let w = opened input o i opens in
       let s = refused_stops is_ended (placed_next o) (Follows o) (finds o) i (place, c) rest (only_first (image_of o) (sequence_at is_ended (placed_next o) i) (place, c) rest h) in
-      let n = placed_faulty (Record (length s.parts)) place (next_at o s.parts s.left) c rest s.fails in
+      let at = Record (length s.parts) in
+      let n = placed_faulty at place (next_at o s.parts s.left) c rest s.fails in
       let front = w.image_header ++ (w.domain_header ++ s.bytes) in
       let is_open : IsOpen front o s.parts = record {
         image_header = w.image_header;
@@ -97,13 +84,14 @@ module _ (input : List ℕ) (place : Place) (c : Cause) (rest : List ℕ) where
       } in
       let whole : input ≡ front ++ s.left =
       w.whole ∙ ap (λ l. w.image_header ++ l) (ap (λ l. w.domain_header ++ l) s.whole ∙ sym (append_assoc w.domain_header s.bytes s.left)) ∙ sym (append_assoc w.image_header (w.domain_header ++ s.bytes) s.left) in
-      elim (next_up o s.parts s.left c rest n.0) [
-        | inl u ↦ fails_at (Record (length s.parts)) (front ++ u.front) u.left u.part_is n.1 (whole ∙ ap (λ l. front ++ l) u.whole ∙ sym (append_assoc front u.front u.left))
-            (in_record front u.front o s.parts u.part_is is_open u.behind) u.fails
-        | inr (r, left, end, fails) ↦ fails_at (Record (length s.parts)) (front ++ end.head) left _ n.1 (whole ∙ ap (λ l. front ++ l) end.whole ∙ sym (append_assoc front end.head left))
-            (at_guest front end.head o s.parts is_open end.faultless_head end.zero) fails
-      ]
+      found_at BehindLibxc at place input c rest n.1 (elim (next_up o s.parts s.left c rest n.0) [
+        | inl u ↦ found_behind (Within (before o s.parts)) (λ b p. BehindLibxc b at p) front s.left input c rest whole (λ b p within. in_record front b o s.parts p is_open within) u
+        | inr (r, left, end, fails) ↦ found_next (λ b p. BehindLibxc b at p) _ (front ++ end.head) left input c rest (whole ∙ ap (λ l. front ++ l) end.whole ∙ sym (append_assoc front end.head left)) (at_guest front end.head o s.parts is_open end.faultless_head end.zero) fails
+      ])
 
   pub is_refused : IsRefused input place c rest → RefusedLibxc input place c rest
   unfolding image_at
   is_refused h = elim (bind_cases (opening_at input) (λ opening. records_at opening.0 opening.1) (place, c) rest h) [ inl e ↦ opening_fails e | inr a ↦ records_fail a.0 a.1 a.2 a.3 ]
+
+pub agree : AreJudged RefusedLibxc IsRefused
+agree input place c rest = (is_refused input place c rest, refused_is input place c rest)

@@ -1,7 +1,7 @@
 -- The causes that stand in each part of a libxl stream around its image.
 use Rattle.mig_refusals.proofs.Common.{◌≡◌, ◌⊎◌, inl, inr, ℕ, ◌^◌, ◌≤◌, List, [], ◌∷◌, ◌++◌, drop, Bool, true, false, cond, nat_eq, nat_le, nat_lt, not, is_none, Option, Some, None, refl, sym, ap, subst, ◌∙◌, arith, leb-true, leb-false, ltb-true, eqb-true, eqb-false, eq-eqb, le-leb, lt-leb, lt-ltb, false≢true, not-true, and_parts, and_from, not_from_false, or_left, or_right, or_cases, le32, first_fault, Cause, BadLength, Kind, Pv, Hvm, IsTriedBefore, ◌&&◌, ◌||◌, none-some, same_Some, libxl_rows, fault_of_libxl, number_of_cause, BadPairs, BadKey, BadEmulator, EmulatorForPv, ContextCount, EmulatorIndex, IsTornAt, IsBadKeyAt, IsFirstFault, pairs_fault, first_fault_is_computed, ImageOf, LibxlRecord, has_emulator, image_among, EmulatorsOf, pairs_in, emulator_key, is_pv, is_pv_kind, is_miscounted, allows_length, field_rows, order_rows, fault_of_libxl_fields, fault_of_order, fault_of_libxl_head, most_pairs, spelled_with, fault_of_pairs, fault_of_context, join, LibxlHeaderHas, LibxlHeadHas, PairsHas, EmulatorContextHas, WrapperPart, StandsInWrapper, wrapper_size}
 use Rattle.mig_headers.specs.declared.fault.Cause.TheVariants.{TooManyPairs}
-use Rattle.mig_refusals.proofs.Least.{Least, Tries, nothing_tried, RowHas, To, named, both_least}
+use Rattle.mig_refusals.proofs.Least.{Least, LeastTried, TriesLeast, nothing_tried, tries_least, RowHas, To, named, both_least}
 use Rattle.mig_refusals.proofs.PvGuests.{is_missing}
 use Rattle.mig_refusals.proofs.PvTables.{differs, test_differs}
 use Rattle.mig_refusals.specs.Stream.WrapperPart.{Header, Head, PairsBody, ContextBody, OtherBody, Padding}
@@ -193,10 +193,13 @@ context_least body = named (EmulatorContextHas body) rows refl ((λ h. of_contex
 
 -- ---- all parts
 
-abbrev pub tries : (part : WrapperPart) → Tries (wrapper_size part) (StandsInWrapper part)
-tries Header = record { fault = fault_of_libxl; least = header_least }
-tries (Head records) = record { fault = λ bytes. fault_of_libxl_head records (le32 bytes 0) (le32 bytes 4); least = λ bytes. head_least records (le32 bytes 0) (le32 bytes 4) }
-tries (PairsBody e len) = record { fault = fault_of_pairs e; least = pairs_least e }
-tries (ContextBody len) = record { fault = fault_of_context; least = context_least }
-tries (OtherBody len) = nothing_tried
-tries (Padding n) = nothing_tried
+abbrev least_in : (part : WrapperPart) → LeastTried (StandsInWrapper part)
+least_in Header = record { fault = fault_of_libxl; least = header_least }
+least_in (Head records) = record { fault = λ bytes. fault_of_libxl_head records (le32 bytes 0) (le32 bytes 4); least = λ bytes. head_least records (le32 bytes 0) (le32 bytes 4) }
+least_in (PairsBody e len) = record { fault = fault_of_pairs e; least = pairs_least e }
+least_in (ContextBody len) = record { fault = fault_of_context; least = context_least }
+least_in (OtherBody len) = nothing_tried
+least_in (Padding n) = nothing_tried
+
+abbrev pub tries : (part : WrapperPart) → TriesLeast (wrapper_size part) (StandsInWrapper part)
+tries part = tries_least (wrapper_size part) (StandsInWrapper part) (least_in part)

@@ -1,12 +1,12 @@
 -- A record that fails: one of its parts does, or the image that follows its head is refused.
-use Rattle.mig_refusals.proofs.Common.{then_faulty, bind_cases, passes_not, only_first, placed_faulty, ◌≡◌, ◌⊎◌, inl, inr, ℕ, List, [], ◌++◌, Bool, true, false, cond, nat_eq, length, Option, refl, sym, ap, subst, ◌∙◌, arith, append_assoc, eqb-true, eq-eqb, le32, part, placed, Passes, Faulty, part_whole, then_passes, placed_passes, common_steps, Cause, padding_len, both_none, Place, said_goes, said_passes, image_at, LibxlRecord, LibxlContent, Image, EmulatorsOf, emulators_of, allows_length, fault_of_libxl_fields, fault_of_order, fault_of_libxl_head, libxl_head_at, skipped_at, inner_at, body_of_type, libxl_content_at, libxl_record_at, FineFields, has_no_image, behind_content, WrapperPart, IsFaultlessWrapperPart, WrapperPartFails, HasBody, WithinWrapper}
+use Rattle.mig_refusals.proofs.Common.{then_faulty, bind_cases, passes_not, only_first, placed_faulty, ◌≡◌, ◌⊎◌, inl, inr, ℕ, List, [], ◌++◌, Bool, true, false, cond, nat_eq, length, refl, sym, ap, subst, ◌∙◌, arith, append_assoc, eqb-true, eq-eqb, le32, part, placed, Passes, Faulty, part_whole, then_passes, placed_passes, common_steps, Cause, padding_len, both_none, Place, FailsBehind, image_at, LibxlRecord, LibxlContent, Image, EmulatorsOf, emulators_of, allows_length, fault_of_libxl_fields, fault_of_order, libxl_head_at, skipped_at, inner_at, body_of_type, libxl_content_at, libxl_record_at, FineFields, has_no_image, behind_content, WrapperPart, IsFaultlessWrapperPart, WrapperPartFails, HasBody, WithinWrapper}
 use Rattle.mig_headers.specs.declared.fault.Cause.TheVariants.{Truncated}
 use Rattle.mig_headers.specs.declared.fault.Place.TheVariants.{LibxlRecord as AtRecord}
 use Rattle.mig_libxl.specs.Content.LibxlContent.{Nothing}
 use Rattle.mig_libxl.proofs.Bodies.{fields_fine, body_says, body_goes}
 use Rattle.mig_libxl.proofs.Records.{behind_head}
-use Rattle.mig_refusals.proofs.LibxcRecords.{Found, found_here, is_padding, padding_is}
-use Rattle.mig_refusals.proofs.Parts.{stage_fails, said_fails, fine, faultless}
+use Rattle.mig_refusals.proofs.LibxcRecords.{is_padding, padding_is}
+use Rattle.mig_refusals.proofs.Parts.{stage_fails, said_fails, part_goes, fine, found_here, found_next, placed_cases}
 use Rattle.mig_refusals.specs.Stream.WrapperPart.{Head, PairsBody, ContextBody, OtherBody, Padding}
 use Rattle.mig_refusals.specs.Stream.HasBody.{pairs, context, ends, optional}
 use Rattle.mig_refusals.specs.Stream.WithinWrapper.{at_head, in_body, at_padding}
@@ -66,9 +66,6 @@ module _ (records : List LibxlRecord) where
 
   -- ---- a record
 
-  abbrev head_fault : List ℕ → Option Cause
-  head_fault head = fault_of_libxl_head records (le32 head 0) (le32 head 4)
-
   fields_of : (head : List ℕ) → IsFaultlessWrapperPart (Head records) head → FineFields (le32 head 0) (le32 head 4)
   fields_of head f = fields_fine (le32 head 0) (le32 head 4) (both_none (fault_of_libxl_fields (le32 head 0) (le32 head 4)) (fault_of_order records (le32 head 0)) (fine (tries (Head records)) head f)).0
 
@@ -80,7 +77,7 @@ module _ (records : List LibxlRecord) where
   unfolding libxl_record_at
   head_goes head mid f =
       then_passes (placed place (libxl_head_at records (head ++ mid))) (behind_head records) head mid _
-      (ap (placed place) (said_goes Truncated head_fault (λ l. l) 8 head mid f.size (fine (tries (Head records)) head f))) refl
+      (ap (placed place) (part_goes (tries (Head records)) (λ l. l) head mid f)) refl
 
   -- a part fails behind others: so does the record
   pub down : (front : List ℕ) (p : WrapperPart) (left : List ℕ) (c : Cause) (rest : List ℕ) → WithinWrapper records front p → WrapperPartFails p left c rest → libxl_record_at records (front ++ left) ≡ Faulty (place, c) rest
@@ -123,7 +120,7 @@ module _ (records : List LibxlRecord) where
   module _ (i : List ℕ) (at : Place) (c : Cause) (rest : List ℕ) where
     -- a part of it fails, behind others, or that image
     abbrev Stops : Type 0
-    Stops = (Found WrapperPartFails (WithinWrapper records) i c rest × (place ≡ at)) ⊎ ImageStops i at c rest
+    Stops = (FailsBehind (WithinWrapper records) WrapperPartFails i c rest × (place ≡ at)) ⊎ ImageStops i at c rest
 
     module _ (head mid : List ℕ) (whole : i ≡ head ++ mid) (f : IsFaultlessWrapperPart (Head records) head) where
       abbrev type : ℕ
@@ -138,7 +135,7 @@ module _ (records : List LibxlRecord) where
       content_up false one h =
           let p = placed_faulty place at (body_of_type emulators type len mid) c rest h in
           let b = body_up len mid c rest type (fields_of head f) one p.0 in
-          inl (record { front = head; left = mid; part_is = b.0; whole = whole; behind = in_body head b.0 f b.1; fails = b.2 }, p.1)
+          inl (found_next (WithinWrapper records) b.0 head mid i c rest whole (in_body head b.0 f b.1) b.2, p.1)
 
       -- in its padding, of which an image has none
       padding_up : (content : LibxlContent) (left : List ℕ) (b : Bool) → nat_eq type 1 ≡ b → cond b (inner_at mid) (placed place (body_of_type emulators type len mid)) ≡ Passes content left → place ≡ at → part Truncated (padding_len len) left ≡ Faulty c rest → Stops
@@ -146,14 +143,9 @@ module _ (records : List LibxlRecord) where
       padding_up content left false one h same fails =
           let s = body_says records type len mid content left (fields_of head f) one (placed_passes place (body_of_type emulators type len mid) content left h) in
           inl (
-            record {
-              front = head ++ s.body;
-              left = left;
-              part_is = Padding (padding_len len);
-              whole = whole ∙ ap (λ l. head ++ l) s.whole ∙ sym (append_assoc head s.body left);
-              behind = at_padding head s.body content (padding_len len) f s.body_len s.says s.fits (is_padding len);
-              fails = said_fails (tries (Padding (padding_len len))) (λ l. l) left c rest (then_faulty (part Truncated (padding_len len) left) (λ l. Passes l.0 l.1) c rest fails);
-            },
+            found_next (WithinWrapper records) (Padding (padding_len len)) (head ++ s.body) left i c rest (whole ∙ ap (λ l. head ++ l) s.whole ∙ sym (append_assoc head s.body left))
+                (at_padding head s.body content (padding_len len) f s.body_len s.says s.fits (is_padding len))
+                (said_fails (tries (Padding (padding_len len))) (λ l. l) left c rest (then_faulty (part Truncated (padding_len len) left) (λ l. Passes l.0 l.1) c rest fails)),
             same,
           )
 
@@ -168,11 +160,7 @@ module _ (records : List LibxlRecord) where
 
     pub up : libxl_record_at records i ≡ Faulty (at, c) rest → Stops
     unfolding libxl_record_at
-    up h = elim (bind_cases (placed place (libxl_head_at records i)) (behind_head records) (at, c) rest h) [
-      | inl e ↦
-          let p = placed_faulty place at (libxl_head_at records i) c rest e in
-          inl (found_here (WithinWrapper records) (Head records) i c rest at_head (said_fails (tries (Head records)) (λ head. head) i c rest p.0), p.1)
-      | inr a ↦
-          let s = said_passes Truncated head_fault (λ head. head) 8 i a.0 a.1 (placed_passes place (libxl_head_at records i) a.0 a.1 a.2) in
-          behind_up s.bytes a.1 s.whole (faultless (tries (Head records)) s.bytes s.size s.fine) (ap (λ head. behind_head records (head, a.1)) s.value ∙ a.3)
+    up h = elim (placed_cases (tries (Head records)) (λ head. head) place (behind_head records) i at c rest h) [
+      | inl e ↦ inl (found_here (WithinWrapper records) (Head records) i c rest at_head e.0, e.1)
+      | inr a ↦ behind_up a.bytes a.mid a.whole a.is_faultless a.after
     ]

@@ -1,8 +1,7 @@
 -- An input of either form is refused as the format's words say exactly where judging refuses it.
-use Rattle.mig_refusals.proofs.Common.{then_faulty, bind_cases, only_first, placed_faulty, ◌≡◌, inl, inr, ℕ, List, ◌++◌, length, drop, Bool, true, false, cond, nat_eq, nat_le, None, refl, sym, ap, subst, ◌∙◌, append_assoc, be32, false≢true, placed, Passes, Faulty, placed_passes, Cause, ◌&&◌, be64, fault_of_libxl, is_from_legacy, libxl_ident, Place, LibxlHeader, said_passes, refused_stops, image_at, LibxlRecord, is_libxl_ended, FollowsLibxl, found, libxl_record_at, header_at, libxl_records_at, wrapped_at, bare_at, stream_at, IsStreamRefused, Bare, Wrapped, WrapperPart, WrapperPartFails, BeginsAsLibxl, IsOpenWrapper, BehindWrapper, RefusedStream, behind_header, Ident, ident_of, libxl_goes, is_header}
-use Rattle.mig_headers.specs.declared.fault.Cause.TheVariants.{Truncated}
+use Rattle.mig_refusals.proofs.Common.{then_faulty, only_first, ◌≡◌, inl, inr, ℕ, List, ◌++◌, length, drop, Bool, true, false, cond, nat_eq, nat_le, None, refl, sym, ap, ◌∙◌, append_assoc, be32, false≢true, placed, Passes, Faulty, Cause, ◌&&◌, be64, fault_of_libxl, is_from_legacy, libxl_ident, Place, LibxlHeader, refused_stops, AreJudged, WithinWrapper, image_at, LibxlRecord, is_libxl_ended, FollowsLibxl, found, libxl_record_at, header_at, libxl_records_at, wrapped_at, bare_at, stream_at, IsStreamRefused, Bare, Wrapped, WrapperPart, WrapperPartFails, BeginsAsLibxl, IsOpenWrapper, BehindWrapper, RefusedStream, behind_header, Ident, ident_of, libxl_goes, is_header}
 use Rattle.mig_headers.specs.declared.fault.Place.TheVariants.{LibxlRecord as AtRecord}
-use Rattle.mig_refusals.proofs.Parts.{stage_fails, said_fails}
+use Rattle.mig_refusals.proofs.Parts.{stage_fails, fine, found_at, found_behind, found_placed, placed_cases}
 use Rattle.mig_refusals.proofs.LibxcVerdicts.{refused_is as image_refused_is, is_refused as image_is_refused}
 use Rattle.mig_refusals.specs.Stream.WrapperPart.{Header}
 use Rattle.mig_refusals.specs.Stream.BehindWrapper.{at_header, in_record}
@@ -40,13 +39,10 @@ refused_is input place c rest (in_image r) =
 -- ---- what is refused is refused in words
 
 module _ (input : List ℕ) (place : Place) (c : Cause) (rest : List ℕ) where
-  fails_at : (at : Place) (front left : List ℕ) (p : WrapperPart) → at ≡ place → input ≡ front ++ left → BehindWrapper front at p → WrapperPartFails p left c rest → RefusedStream input place c rest
-  fails_at at front left p same whole behind h = in_wrapper (record { front = front; left = left; part = p; whole = whole; behind = subst (λ q. BehindWrapper front q p) same behind; fails = h })
-
   -- behind an open front the next record is refused
   record_fails : (front left : List ℕ) (records : List LibxlRecord) → input ≡ front ++ left → IsOpenWrapper front records → libxl_record_at records left ≡ Faulty (place, c) rest → RefusedStream input place c rest
   record_fails front left records whole o h = elim (up records left place c rest h) [
-    | inl u ↦ let f = u.0 in fails_at (AtRecord (length records)) (front ++ f.front) f.left f.part_is u.1 (whole ∙ ap (λ l. front ++ l) f.whole ∙ sym (append_assoc front f.front f.left)) (in_record front f.front records f.part_is o f.behind) f.fails
+    | inl u ↦ in_wrapper (found_at BehindWrapper (AtRecord (length records)) place input c rest u.1 (found_behind (WithinWrapper records) (λ b p. BehindWrapper b (AtRecord (length records)) p) front left input c rest whole (λ b p within. in_record front b records p o within) u.0))
     | inr u ↦ in_image (record {
       front = front;
       head = u.head;
@@ -72,13 +68,9 @@ module _ (input : List ℕ) (place : Place) (c : Cause) (rest : List ℕ) where
 
   wrapped_fails : (f : Ident input) → wrapped_at f.behind ≡ Faulty (place, c) rest → RefusedStream input place c rest
   unfolding wrapped_at
-  wrapped_fails f h = elim (bind_cases (placed LibxlHeader (header_at f.behind)) behind_header (place, c) rest h) [
-    | inl e ↦
-        let p = placed_faulty LibxlHeader place (header_at f.behind) c rest e in
-        fails_at LibxlHeader f.ident f.behind Header p.1 f.whole (at_header f.ident f.size f.is) (said_fails (tries Header) (λ header. header) f.behind c rest p.0)
-    | inr a ↦
-        let s = said_passes Truncated fault_of_libxl (λ header. header) 8 f.behind a.0 a.1 (placed_passes LibxlHeader (header_at f.behind) a.0 a.1 a.2) in
-        records_fail f s.bytes a.1 s.whole s.size s.fine (only_first Wrapped (libxl_records_at a.1) (place, c) rest a.3)
+  wrapped_fails f h = elim (placed_cases (tries Header) (λ header. header) LibxlHeader behind_header f.behind place c rest h) [
+    | inl e ↦ in_wrapper (found_placed BehindWrapper LibxlHeader place Header f.ident f.behind input c rest f.whole (at_header f.ident f.size f.is) e)
+    | inr a ↦ records_fail f a.bytes a.mid a.whole a.is_faultless.size (fine (tries Header) a.bytes a.is_faultless) (only_first Wrapped (libxl_records_at a.mid) (place, c) rest a.after)
   ]
 
   pub is_refused : IsStreamRefused input place c rest → RefusedStream input place c rest
@@ -92,3 +84,6 @@ module _ (input : List ℕ) (place : Place) (c : Cause) (rest : List ℕ) where
       by false is g = bare (other is) (image_is_refused input place c rest (only_first Bare (image_at input) (place, c) rest g))
       by true is g =
           let f = ident_of input is in wrapped_fails f (sym (libxl_goes f.ident f.behind f.size f.is) ∙ ap stream_at (sym f.whole) ∙ h)
+
+pub agree : AreJudged RefusedStream IsStreamRefused
+agree input place c rest = (is_refused input place c rest, refused_is input place c rest)

@@ -24,8 +24,8 @@ use Rattle.mig_guest.specs.PartCodes.{row_of, code_number}
 use Rattle.mig_guest.specs.Parts.{parts_of}
 use Rattle.mig_guest.specs.declared.part_code.PartCode.{PartCode}
 use Rattle.mig_guest.specs.declared.part_key.PartKey.{PartKey}
-use Rattle.mig_host.specs.HostView.{put_frame, put_part_in}
-use Rattle.mig_image.specs.ImageParts.{image_name, head_pfn, head_type_number, head_key}
+use Rattle.mig_image.specs.ImageParts.{image_name, head_pfn, head_type_number, head_key, put_frame, put_part_in}
+use Rattle.mig_refusals.specs.Refusals.{FailsBehind}
 
 -- ---- where each cause stands, a line for each
 
@@ -164,10 +164,5 @@ pub data BehindImageFile : List ℕ → ImagePlace → ImageFilePart → Type 0 
       → BehindImageFile (front ++ (head ++ content)) (places.Part n) (Padding (padding_len (le32 head 12)))
 
 -- the input is refused as an image at this place, for this cause, and rest follows the faulty part
-pub record RefusedImageFile (input : List ℕ) (place : ImagePlace) (cause : ImageCause) (rest : List ℕ) : Type 0 where
-  pub front : List ℕ
-  pub left : List ℕ
-  pub part : ImageFilePart
-  pub whole : input ≡ front ++ left
-  pub behind : BehindImageFile front place part
-  pub fails : ImageFilePartFails part left cause rest
+abbrev pub RefusedImageFile : List ℕ → ImagePlace → ImageCause → List ℕ → Type 0
+RefusedImageFile input place cause rest = FailsBehind (λ front part. BehindImageFile front place part) ImageFilePartFails input cause rest

@@ -34,6 +34,7 @@ use Rattle.mig_legacy.specs.Legacy.{LegacyChunk, LegacyTail, has_value, is_legac
 use Rattle.mig_legacy.specs.Spelled.{IsStart, IsTail, FollowsLegacy}
 use Rattle.mig_legacy.specs.Texts.{pairs_of_physmap}
 use Rattle.mig_legacy.specs.Toolstack.{Physmap, IsToolstack}
+use Rattle.mig_refusals.specs.Refusals.{FailsBehind}
 use Rattle.mig_refusals.specs.LegacyToolstack.{FieldWrong}
 
 -- ---- where each cause stands, a line for each
@@ -183,13 +184,11 @@ pub data BehindLegacy : List ℕ → LegacyPlace → LegacyPart → Type 0 where
   in_device : (start bytes tail before : List ℕ) (chunks : List LegacyChunk) (t : LegacyTail) (part : LegacyPart) → IsStart start → Spells FollowsLegacy bytes chunks → is_legacy_ended chunks ≡ true → IsTail tail t → InDevice before part
       → BehindLegacy (start ++ (bytes ++ (tail ++ before))) places.Device part
 
--- the input is refused at this place, for this cause, and rest follows the faulty part; a device model's record has to
--- follow only where any byte does
-pub record RefusedLegacy (input : List ℕ) (place : LegacyPlace) (cause : LegacyCause) (rest : List ℕ) : Type 0 where
-  pub front : List ℕ
-  pub left : List ℕ
-  pub part : LegacyPart
-  pub whole : input ≡ front ++ left
-  pub behind : BehindLegacy front place part
+-- a part fails; a device model's record has to follow only where any byte does
+pub record LegacyPartStops (part : LegacyPart) (left : List ℕ) (cause : LegacyCause) (rest : List ℕ) : Type 0 where
   pub begun : part ≡ Signature → 0 < length left
   pub fails : LegacyPartFails part left cause rest
+
+-- the input is refused at this place, for this cause, and rest follows the faulty part
+abbrev pub RefusedLegacy : List ℕ → LegacyPlace → LegacyCause → List ℕ → Type 0
+RefusedLegacy input place cause rest = FailsBehind (λ front part. BehindLegacy front place part) LegacyPartStops input cause rest

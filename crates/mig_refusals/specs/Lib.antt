@@ -1,3 +1,4 @@
+pub mod Refusals
 pub mod LibxcPv
 pub mod Libxc
 pub mod Stream

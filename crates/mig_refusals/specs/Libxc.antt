@@ -33,6 +33,7 @@ use Rattle.mig_restore.specs.Mean.{sent, meant_type}
 use Rattle.mig_restore.specs.Record.{StreamRecord, Content, is_ended}
 use Rattle.mig_restore.specs.Record.Content.{Nothing}
 use Rattle.mig_restore.specs.Spelled.{HasContent, Follows}
+use Rattle.mig_refusals.specs.Refusals.{FailsBehind}
 use Rattle.mig_refusals.specs.LibxcPv.{TableHas, InfoHas, P2mHas, VcpuHas, PvGuestHas}
 
 -- ---- where each cause stands, a line for each; causes that have places stand at several, all others at place 0
@@ -264,10 +265,5 @@ pub data BehindLibxc : List ℕ → Place → LibxcPart → Type 0 where
       → BehindLibxc (front ++ head) (places.Record (length records)) (WholeGuest (sent o.kind (records ++ end_record ∷ [])))
 
 -- the input is refused at this place, for this cause, and rest follows the faulty part
-pub record RefusedLibxc (input : List ℕ) (place : Place) (cause : Cause) (rest : List ℕ) : Type 0 where
-  pub front : List ℕ
-  pub left : List ℕ
-  pub part : LibxcPart
-  pub whole : input ≡ front ++ left
-  pub behind : BehindLibxc front place part
-  pub fails : LibxcPartFails part left cause rest
+abbrev pub RefusedLibxc : List ℕ → Place → Cause → List ℕ → Type 0
+RefusedLibxc input place cause rest = FailsBehind (λ front part. BehindLibxc front place part) LibxcPartFails input cause rest

@@ -15,8 +15,8 @@ use Rattle.mig_policy.specs.PairFaults.{IsTornAt, IsBadKeyAt}
 use Rattle.mig_policy.specs.PairMaps.{pairs_in}
 use Rattle.mig_restore.specs.Judging.{most_records}
 use Rattle.mig_restore.specs.Stream.{ImageOf}
-use Rattle.mig_refusals.specs.Libxc.{IsFirstCause}
-use Rattle.mig_refusals.specs.Libxc.{RefusedLibxc}
+use Rattle.mig_refusals.specs.Refusals.{FailsBehind}
+use Rattle.mig_refusals.specs.Libxc.{IsFirstCause, RefusedLibxc}
 use Rattle.mig_libxl.specs.Content.{LibxlRecord, LibxlContent, is_libxl_ended, has_emulator, image_among}
 use Rattle.mig_libxl.specs.Emulators.{EmulatorsOf, emulators_of}
 use Rattle.mig_libxl.specs.Judging.{most_pairs, emulator_key, spelled_with}
@@ -135,15 +135,6 @@ pub record ImageFails (input : List ℕ) (place : Place) (cause : Cause) (rest :
   pub is_context : le32 head 0 ≡ 1
   pub refused : RefusedLibxc left place cause rest
 
--- a part of the wrapper fails
-pub record WrapperFails (input : List ℕ) (place : Place) (cause : Cause) (rest : List ℕ) : Type 0 where
-  pub front : List ℕ
-  pub left : List ℕ
-  pub part : WrapperPart
-  pub whole : input ≡ front ++ left
-  pub behind : BehindWrapper front place part
-  pub fails : WrapperPartFails part left cause rest
-
 -- an input of 8 bytes and more that begins as a libxl stream
 pub record BeginsAsLibxl (input : List ℕ) : Type 0 where
   pub long : 8 ≤ length input
@@ -153,5 +144,5 @@ pub record BeginsAsLibxl (input : List ℕ) : Type 0 where
 -- in its image, and any other input as an image
 pub data RefusedStream (input : List ℕ) (place : Place) (cause : Cause) (rest : List ℕ) : Type 0 where
   bare : (BeginsAsLibxl input → ⊥) → RefusedLibxc input place cause rest → RefusedStream input place cause rest
-  in_wrapper : WrapperFails input place cause rest → RefusedStream input place cause rest
+  in_wrapper : FailsBehind (λ front part. BehindWrapper front place part) WrapperPartFails input cause rest → RefusedStream input place cause rest
   in_image : ImageFails input place cause rest → RefusedStream input place cause rest
