@@ -195,5 +195,5 @@ pub use Rattle.mig_refusals.specs.Legacy.{BehindLegacy, InChunk, InChunkBody, In
 pub use Rattle.mig_refusals.specs.LegacyToolstack.{EntryWrong, FieldWrong, PhysmapsTo}
 pub use Rattle.mig_refusals.specs.Libxc.{BehindLibxc, Breaks, ContextHas, DomainHas, EntriesTo, EntryHas, FrontHas, GuestHas, HeadHas, HeaderHas, InBody, InPages, IsFaultlessLibxcPart, IsFirstCause, IsOpen, IsTriedBefore, LengthHas, LibxcPart, LibxcPartFails, MarkerHas, PageHas, PagesTo, ParamsHas, RefusedLibxc, StandsInLibxc, Within, WordsHas, body_part, end_record, libxc_size}
 pub use Rattle.mig_refusals.specs.LibxcPv.{InfoHas, P2mHas, PvGuestHas, TableHas, VcpuHas, rank_of}
-pub use Rattle.mig_refusals.specs.Refusals.{AreJudged, FailsBehind, HasOneRefusal, IsAcceptedOrRefused, IsNeverBoth}
+pub use Rattle.mig_refusals.specs.Refusals.{AreAllAcceptedOrRefused, AreJudged, FailsBehind, HasOneRefusal, IsAcceptedOrRefused, IsNeverBoth}
 pub use Rattle.mig_refusals.specs.Stream.{BeginsAsLibxl, BehindWrapper, EmulatorContextHas, HasBody, IsFaultlessWrapperPart, IsOpenWrapper, LibxlHeadHas, LibxlHeaderHas, PairsHas, RefusedStream, StandsInWrapper, WithinWrapper, WrapperPart, WrapperPartFails, wrapper_size}

@@ -1,7 +1,9 @@
 -- An image is refused in words exactly where judging refuses it.
-use Rattle.mig_refusals.proofs.Common.{◌≡◌, inl, inr, ℕ, ◌<◌, List, [], ◌++◌, Bool, true, false, nat_eq, refl, sym, ap, subst, ◌∙◌, append_assoc, le_refl, eqb-true, eqb-false, le32, le64, Judged, ◌>>=◌, placed, Passes, Faulty, placed_passes, placed_faulty, then_passes, then_faulty, bind_cases, both_pass, same_passes, only_first, ImageCause, ImagePlace, HostOf, ImageFilePart, IsFaultlessImageFilePart, regroup, kind_number, kind_of_number, behind_bytes, behind_part_head, count_at, frame_said, frames_at, head_key, head_pfn, head_type, host_at, host_frame_at, host_head_at, host_parts_at, part_at, put_frame, put_part_in, BehindImageFile, FramesTo, Opens, PartsTo, RefusedImageFile, AreJudged, IsAcceptedOrRefused, IsNeverBoth, AreBytes, IsHostImage, image_back, image_reads, passes_not, ImageFilePartFails}
+use Rattle.mig_refusals.proofs.Common.{◌≡◌, inl, inr, ℕ, ◌<◌, List, [], ◌++◌, Bool, true, false, nat_eq, refl, sym, ap, subst, ◌∙◌, append_assoc, le_refl, eqb-true, eqb-false, le32, le64, Judged, ◌>>=◌, placed, Passes, Faulty, placed_passes, placed_faulty, then_passes, then_faulty, bind_cases, both_pass, same_passes, only_first, ImageCause, ImagePlace, HostOf, ImageFilePart, IsFaultlessImageFilePart, regroup, kind_number, kind_of_number, behind_bytes, behind_part_head, count_at, frame_said, frames_at, head_key, head_pfn, head_type, host_at, host_frame_at, host_head_at, host_parts_at, part_at, put_frame, put_part_in, BehindImageFile, FramesTo, Opens, PartsTo, RefusedImageFile, AreJudged, HasOneRefusal, IsAcceptedOrRefused, IsNeverBoth, AreBytes, IsHostImage, image_back, image_reads, passes_not, ImageFilePartFails}
 use Rattle.mig_headers.specs.declared.image_fault.ImagePlace.TheVariants as places
 use Rattle.mig_image.specs.ImageParts.{behind_head, opened}
+use Rattle.mig_refusals.specs.Refusals.IsAcceptedOrRefused.{accepted, refused}
+use Rattle.mig_refusals.proofs.Laws.{one_refusal}
 use Rattle.mig_refusals.specs.ImageFile.BehindImageFile.{at_head, at_frame, at_page, at_number, at_part, at_bytes, at_padding}
 use Rattle.mig_refusals.specs.ImageFile.ImageFileHeadHas.{bad_kind}
 use Rattle.mig_refusals.specs.ImageFile.ImageFilePart.{Head, FrameHead, Page, Number, PartHead}
@@ -162,16 +164,17 @@ module _ (input : List ℕ) (place : ImagePlace) (c : ImageCause) (rest : List �
   ]
 
 pub agree : AreJudged RefusedImageFile (λ input place cause rest. host_at input ≡ Faulty (place, cause) rest)
-agree input place c rest = (is_refused input place c rest, refused_is input place c rest)
+agree = record { agree = λ input place c rest. (is_refused input place c rest, refused_is input place c rest) }
 
--- ---- an image of a host, or judging is faulty
+pub one : HasOneRefusal RefusedImageFile
+one = one_refusal host_at RefusedImageFile agree
 
-pub judged : (input : List ℕ) → AreBytes input → IsAcceptedOrRefused (λ input place cause rest. host_at input ≡ Faulty (place, cause) rest) IsHostImage input
-judged input bytes = by (host_at input) refl
+pub either : (input : List ℕ) → AreBytes input → IsAcceptedOrRefused RefusedImageFile IsHostImage input
+either input bytes = by (host_at input) refl
   where
-    by : (j : Judged (ImagePlace × ImageCause) HostOf) → host_at input ≡ j → IsAcceptedOrRefused (λ input place cause rest. host_at input ≡ Faulty (place, cause) rest) IsHostImage input
-    by (Passes h rest) is = inl (h, rest, image_back input h rest bytes is)
-    by (Faulty (place, c) rest) is = inr (place, c, rest, is)
+    by : (j : Judged (ImagePlace × ImageCause) HostOf) → host_at input ≡ j → IsAcceptedOrRefused RefusedImageFile IsHostImage input
+    by (Passes h rest) is = accepted h rest (image_back input h rest bytes is)
+    by (Faulty (place, c) rest) is = refused place c rest (is_refused input place c rest is)
 
-pub never_judged : IsNeverBoth (λ input place cause rest. host_at input ≡ Faulty (place, cause) rest) IsHostImage
-never_judged input h rest place c more image fails = passes_not h rest (place, c) more (sym (image_reads input h rest image) ∙ fails)
+pub never : IsNeverBoth RefusedImageFile IsHostImage
+never = record { never = λ input h rest place c more image r. passes_not h rest (place, c) more (sym (image_reads input h rest image) ∙ refused_is input place c more r) }

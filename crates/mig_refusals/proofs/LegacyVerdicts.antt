@@ -1,8 +1,11 @@
 -- A legacy stream is refused in words exactly where judging refuses it.
-use Rattle.mig_refusals.proofs.Common.{◌≡◌, inl, inr, ℕ, ◌^◌, ◌-◌, ◌<◌, List, [], ◌∷◌, ◌++◌, length, true, Option, None, refl, sym, ap, ◌∙◌, arith, append_assoc, length-append, not, not-false, Some, Judged, placed, plain_at, said_at, Passes, Faulty, bind_cases, only_first, passes_not, placed_faulty, placed_passes, then_faulty, then_passes, le32, LegacyCause, LegacyPlace, LegacyChunk, LegacyPart, IsFaultlessLegacyPart, LegacyPartFails, bytes_eq, bytes_eq-Decides, Spells, AreJudged, accepted_spelled, refused_stops, spelled_accepted, spelled_refused, rows_fine, BadSignature, start_at, chunk_at, signature, fault_of_signature, device_record_at, tail_at, tail_of, device_at, LegacyTail, is_legacy_ended, FollowsLegacy, IsStart, chunks_at, legacy_at, placed_chunk, IsLegacyRefused, counted_at, behind_chunks, behind_start, behind_tail, stream_of, fault_of_tail, some_device, start_passes, start_goes, tail_passes, tail_goes, BehindLegacy, InDevice, InTail, RefusedLegacy, SignatureHas}
+use Rattle.mig_refusals.proofs.Common.{◌≡◌, inl, inr, ℕ, ◌^◌, ◌-◌, ◌<◌, List, [], ◌∷◌, ◌++◌, length, true, Option, None, refl, sym, ap, ◌∙◌, arith, append_assoc, length-append, not, not-false, Some, Judged, placed, plain_at, said_at, Passes, Faulty, bind_cases, only_first, passes_not, placed_faulty, placed_passes, then_faulty, then_passes, le32, LegacyCause, LegacyPlace, LegacyChunk, LegacyPart, IsFaultlessLegacyPart, LegacyPartFails, bytes_eq, bytes_eq-Decides, Spells, AreJudged, HasOneRefusal, AreAllAcceptedOrRefused, IsNeverBoth, accepted_spelled, refused_stops, spelled_accepted, spelled_refused, rows_fine, BadSignature, start_at, chunk_at, signature, fault_of_signature, device_record_at, tail_at, tail_of, device_at, LegacyTail, is_legacy_ended, FollowsLegacy, IsStart, chunks_at, legacy_at, placed_chunk, IsLegacyRefused, counted_at, behind_chunks, behind_start, behind_tail, stream_of, fault_of_tail, some_device, start_passes, start_goes, tail_passes, tail_goes, BehindLegacy, InDevice, InTail, RefusedLegacy, SignatureHas}
 use Rattle.mig_headers.specs.declared.legacy_fault.LegacyCause.TheVariants.{Truncated}
 use Rattle.mig_headers.specs.declared.legacy_fault.LegacyPlace.TheVariants as places
 use Rattle.mig_legacy.proofs.ChunkTexts.{finds, goes, not_ended}
+use Rattle.mig_legacy.specs.Spelled.{AcceptedLegacy}
+use Rattle.mig_legacy.proofs.Laws.{accepted_or_refused as judged, never_both as never_judged}
+use Rattle.mig_refusals.proofs.Laws.{accepted_or_refused, never_both, one_refusal}
 use Rattle.mig_refusals.specs.Legacy.SignatureHas.{other_bytes}
 use Rattle.mig_refusals.specs.Legacy.BehindLegacy.{at_start, in_chunk, in_tail, in_device}
 use Rattle.mig_refusals.specs.Legacy.InTail.{at_frames, at_length, at_context}
@@ -177,4 +180,13 @@ pub refused_is : (input : List ℕ) (place : LegacyPlace) (c : LegacyCause) (res
 refused_is input place c rest r = let f = r.fails in ap legacy_at r.whole ∙ behind_refused r.front place r.part r.left c rest r.behind f.begun f.fails
 
 pub agree : AreJudged RefusedLegacy IsLegacyRefused
-agree input place c rest = (is_refused input place c rest, refused_is input place c rest)
+agree = record { agree = λ input place c rest. (is_refused input place c rest, refused_is input place c rest) }
+
+pub one : HasOneRefusal RefusedLegacy
+one = one_refusal legacy_at RefusedLegacy agree
+
+pub either : AreAllAcceptedOrRefused RefusedLegacy AcceptedLegacy
+either = accepted_or_refused legacy_at RefusedLegacy agree AcceptedLegacy judged
+
+pub never : IsNeverBoth RefusedLegacy AcceptedLegacy
+never = never_both legacy_at RefusedLegacy agree AcceptedLegacy never_judged

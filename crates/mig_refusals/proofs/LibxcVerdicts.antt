@@ -1,7 +1,10 @@
 -- An input is refused as the format's words say exactly where judging refuses it.
-use Rattle.mig_refusals.proofs.Common.{◌≡◌, inl, inr, ℕ, List, [], ◌++◌, length, refl, sym, ap, ◌∙◌, append_assoc, le32, be32, ◌>>=◌, placed, Passes, Faulty, then_passes, then_faulty, bind_cases, passes_not, only_first, placed_faulty, Cause, Opening, before, next_at, marker_goes, image_header_goes, headers_go, LibxcPart, IsOpen, BehindLibxc, RefusedLibxc, LibxcPartFails, Within, AreJudged, refused_stops, spelled_refused, sequence_at, kind_of_number, Place, ImageHeader, DomainHeader, Record, StreamRecord, is_ended, Follows, image_of, placed_next, records_at, opening_at, image_at, IsRefused, going, image_header, behind_marker, behind_version}
+use Rattle.mig_refusals.proofs.Common.{◌≡◌, inl, inr, ℕ, List, [], ◌++◌, length, refl, sym, ap, ◌∙◌, append_assoc, le32, be32, ◌>>=◌, placed, Passes, Faulty, then_passes, then_faulty, bind_cases, passes_not, only_first, placed_faulty, Cause, Opening, before, next_at, marker_goes, image_header_goes, headers_go, LibxcPart, IsOpen, BehindLibxc, RefusedLibxc, LibxcPartFails, Within, AreJudged, HasOneRefusal, AreAllAcceptedOrRefused, IsNeverBoth, refused_stops, spelled_refused, sequence_at, kind_of_number, Place, ImageHeader, DomainHeader, Record, StreamRecord, is_ended, Follows, image_of, placed_next, records_at, opening_at, image_at, IsRefused, going, image_header, behind_marker, behind_version}
 use Rattle.mig_restore.proofs.Converse.{goes}
 use Rattle.mig_restore.proofs.Laws.{finds, behind_kind, opened}
+use Rattle.mig_restore.specs.Spelled.{Accepted}
+use Rattle.mig_restore.proofs.Converse.{accepted_or_refused as judged, never_both as never_judged}
+use Rattle.mig_refusals.proofs.Laws.{accepted_or_refused, never_both, one_refusal}
 use Rattle.mig_refusals.specs.Libxc.LibxcPart.{Marker, HeaderRest, Domain}
 use Rattle.mig_refusals.specs.Libxc.BehindLibxc.{at_marker, at_header, at_domain, in_record, at_guest}
 use Rattle.mig_refusals.proofs.LibxcCauses.{tries}
@@ -94,4 +97,13 @@ module _ (input : List ℕ) (place : Place) (c : Cause) (rest : List ℕ) where
   is_refused h = elim (bind_cases (opening_at input) (λ opening. records_at opening.0 opening.1) (place, c) rest h) [ inl e ↦ opening_fails e | inr a ↦ records_fail a.0 a.1 a.2 a.3 ]
 
 pub agree : AreJudged RefusedLibxc IsRefused
-agree input place c rest = (is_refused input place c rest, refused_is input place c rest)
+agree = record { agree = λ input place c rest. (is_refused input place c rest, refused_is input place c rest) }
+
+pub one : HasOneRefusal RefusedLibxc
+one = one_refusal image_at RefusedLibxc agree
+
+pub either : AreAllAcceptedOrRefused RefusedLibxc Accepted
+either = accepted_or_refused image_at RefusedLibxc agree Accepted judged
+
+pub never : IsNeverBoth RefusedLibxc Accepted
+never = never_both image_at RefusedLibxc agree Accepted never_judged

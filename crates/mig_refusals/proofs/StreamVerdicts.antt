@@ -1,6 +1,9 @@
 -- An input of either form is refused as the format's words say exactly where judging refuses it.
-use Rattle.mig_refusals.proofs.Common.{then_faulty, only_first, ◌≡◌, inl, inr, ℕ, List, ◌++◌, length, drop, Bool, true, false, cond, nat_eq, nat_le, None, refl, sym, ap, ◌∙◌, append_assoc, be32, false≢true, placed, Passes, Faulty, Cause, ◌&&◌, be64, fault_of_libxl, is_from_legacy, libxl_ident, Place, LibxlHeader, refused_stops, AreJudged, WithinWrapper, image_at, LibxlRecord, is_libxl_ended, FollowsLibxl, found, libxl_record_at, header_at, libxl_records_at, wrapped_at, bare_at, stream_at, IsStreamRefused, Bare, Wrapped, WrapperPart, WrapperPartFails, BeginsAsLibxl, IsOpenWrapper, BehindWrapper, RefusedStream, behind_header, Ident, ident_of, libxl_goes, is_header}
+use Rattle.mig_refusals.proofs.Common.{then_faulty, only_first, ◌≡◌, inl, inr, ℕ, List, ◌++◌, length, drop, Bool, true, false, cond, nat_eq, nat_le, None, refl, sym, ap, ◌∙◌, append_assoc, be32, false≢true, placed, Passes, Faulty, Cause, ◌&&◌, be64, fault_of_libxl, is_from_legacy, libxl_ident, Place, LibxlHeader, refused_stops, AreJudged, HasOneRefusal, AreAllAcceptedOrRefused, IsNeverBoth, WithinWrapper, image_at, LibxlRecord, is_libxl_ended, FollowsLibxl, found, libxl_record_at, header_at, libxl_records_at, wrapped_at, bare_at, stream_at, IsStreamRefused, Bare, Wrapped, WrapperPart, WrapperPartFails, BeginsAsLibxl, IsOpenWrapper, BehindWrapper, RefusedStream, behind_header, Ident, ident_of, libxl_goes, is_header}
 use Rattle.mig_headers.specs.declared.fault.Place.TheVariants.{LibxlRecord as AtRecord}
+use Rattle.mig_libxl.specs.Spelled.{AcceptedStream}
+use Rattle.mig_libxl.proofs.Laws.{accepted_or_refused as judged, never_both as never_judged}
+use Rattle.mig_refusals.proofs.Laws.{accepted_or_refused, never_both, one_refusal}
 use Rattle.mig_refusals.proofs.Parts.{stage_fails, fine, found_at, found_behind, found_placed, placed_cases}
 use Rattle.mig_refusals.proofs.LibxcVerdicts.{refused_is as image_refused_is, is_refused as image_is_refused}
 use Rattle.mig_refusals.specs.Stream.WrapperPart.{Header}
@@ -86,4 +89,13 @@ module _ (input : List ℕ) (place : Place) (c : Cause) (rest : List ℕ) where
           let f = ident_of input is in wrapped_fails f (sym (libxl_goes f.ident f.behind f.size f.is) ∙ ap stream_at (sym f.whole) ∙ h)
 
 pub agree : AreJudged RefusedStream IsStreamRefused
-agree input place c rest = (is_refused input place c rest, refused_is input place c rest)
+agree = record { agree = λ input place c rest. (is_refused input place c rest, refused_is input place c rest) }
+
+pub one : HasOneRefusal RefusedStream
+one = one_refusal stream_at RefusedStream agree
+
+pub either : AreAllAcceptedOrRefused RefusedStream AcceptedStream
+either = accepted_or_refused stream_at RefusedStream agree AcceptedStream judged
+
+pub never : IsNeverBoth RefusedStream AcceptedStream
+never = never_both stream_at RefusedStream agree AcceptedStream never_judged

@@ -11,11 +11,13 @@ ghost use Rattle.mig_refusals.specs.ImageFile.{FramesTo, PartsTo, RefusedImageFi
 /// Judging refuses an input as an image file for a cause at a place exactly where a faultless front is followed by a part
 /// that isn't whole, or that is whole and in which this cause is named: of several causes that of the least number. What is
 /// left is what follows that part.
+#[tactic(auto, using(crate::proofs::ImageFileVerdicts::agree))]
 pub fn image_file_refusals_agree()
     ensures { AreJudged RefusedImageFile (λ input place cause rest. host_at input ≡ Faulty (place, cause) rest) }
 {}
 
 /// An input has at most one refusal as an image file.
+#[tactic(auto, using(crate::proofs::ImageFileVerdicts::one))]
 pub fn image_file_one_refusal()
     ensures { HasOneRefusal RefusedImageFile }
 {}
@@ -26,6 +28,7 @@ pub fn image_file_accepted_or_refused()
 {}
 
 /// An input that begins with the image of a host has no refusal.
+#[tactic(auto, using(crate::proofs::ImageFileVerdicts::never))]
 pub fn image_file_never_both()
     ensures { IsNeverBoth RefusedImageFile IsHostImage }
 {}
