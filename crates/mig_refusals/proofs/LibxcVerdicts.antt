@@ -1,9 +1,8 @@
 -- An input is refused as the format's words say exactly where judging refuses it.
 use Rattle.mig_refusals.proofs.Common.{◌≡◌, inl, inr, ℕ, List, [], ◌++◌, length, refl, sym, ap, ◌∙◌, append_assoc, le32, be32, ◌>>=◌, placed, Passes, Faulty, then_passes, then_faulty, bind_cases, passes_not, only_first, placed_faulty, Cause, Opening, before, next_at, marker_goes, image_header_goes, headers_go, LibxcPart, IsOpen, BehindLibxc, RefusedLibxc, LibxcPartFails, Within, AreJudged, HasOneRefusal, AreAllAcceptedOrRefused, IsNeverBoth, refused_stops, spelled_refused, sequence_at, kind_of_number, Place, ImageHeader, DomainHeader, Record, StreamRecord, is_ended, Follows, image_of, placed_next, records_at, opening_at, image_at, IsRefused, going, image_header, behind_marker, behind_version}
-use Rattle.mig_restore.proofs.Converse.{goes}
+use Rattle.mig_restore.proofs.Converse.{goes, accepted_or_refused as judged, never_both as never_judged}
 use Rattle.mig_restore.proofs.Laws.{finds, behind_kind, opened}
 use Rattle.mig_restore.specs.Spelled.{Accepted}
-use Rattle.mig_restore.proofs.Converse.{accepted_or_refused as judged, never_both as never_judged}
 use Rattle.mig_refusals.proofs.Laws.{accepted_or_refused, never_both, one_refusal}
 use Rattle.mig_refusals.specs.Libxc.LibxcPart.{Marker, HeaderRest, Domain}
 use Rattle.mig_refusals.specs.Libxc.BehindLibxc.{at_marker, at_header, at_domain, in_record, at_guest}

@@ -2,7 +2,7 @@
 use Rattle.mig_refusals.proofs.Common.{then_faulty, bind_cases, passes_not, only_first, placed_faulty, ◌≡◌, ◌⊎◌, inl, inr, ℕ, List, [], ◌++◌, Bool, true, false, cond, nat_eq, length, refl, sym, ap, subst, ◌∙◌, arith, append_assoc, eqb-true, eq-eqb, le32, part, placed, Passes, Faulty, part_whole, then_passes, placed_passes, common_steps, Cause, padding_len, both_none, Place, FailsBehind, image_at, LibxlRecord, LibxlContent, Image, EmulatorsOf, emulators_of, allows_length, fault_of_libxl_fields, fault_of_order, libxl_head_at, skipped_at, inner_at, body_of_type, libxl_content_at, libxl_record_at, FineFields, has_no_image, behind_content, WrapperPart, IsFaultlessWrapperPart, WrapperPartFails, HasBody, WithinWrapper}
 use Rattle.mig_headers.specs.declared.fault.Cause.TheVariants.{Truncated}
 use Rattle.mig_headers.specs.declared.fault.Place.TheVariants.{LibxlRecord as AtRecord}
-use Rattle.mig_libxl.specs.Content.LibxlContent.{Nothing}
+use Rattle.mig_emulators.specs.Content.LibxlContent.{Nothing}
 use Rattle.mig_libxl.proofs.Bodies.{fields_fine, body_says, body_goes}
 use Rattle.mig_libxl.proofs.Records.{behind_head}
 use Rattle.mig_refusals.proofs.LibxcRecords.{is_padding, padding_is}

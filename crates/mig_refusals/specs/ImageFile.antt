@@ -24,7 +24,8 @@ use Rattle.mig_guest.specs.PartCodes.{row_of, code_number}
 use Rattle.mig_guest.specs.Parts.{parts_of}
 use Rattle.mig_guest.specs.declared.part_code.PartCode.{PartCode}
 use Rattle.mig_guest.specs.declared.part_key.PartKey.{PartKey}
-use Rattle.mig_image.specs.ImageParts.{image_name, head_pfn, head_type_number, head_key, put_frame, put_part_in}
+use Rattle.mig_image.specs.ImageParts.{image_name, head_pfn, head_type_number, head_key}
+use Rattle.mig_host.specs.HostView.{put_frame, put_part_in}
 use Rattle.mig_refusals.specs.Refusals.{FailsBehind}
 
 -- ---- where each cause stands, a line for each

@@ -22,8 +22,7 @@ use Rattle.mig_records.specs.Words.{words}
 use Rattle.mig_restore.specs.Mean.{sent}
 use Rattle.mig_restore.specs.Record.{FrameEntry}
 use Rattle.mig_restore.specs.Spelled.{AreEntries}
-use Rattle.mig_libxl.specs.Emulators.{emulators_of}
-use Rattle.mig_libxl.specs.Judging.{most_pairs, spelled_with}
+use Rattle.mig_emulators.specs.Emulators.{emulators_of, most_pairs, spelled_with}
 use Rattle.mig_refusals.specs.Libxc.{EntriesTo, EntryHas}
 use Rattle.mig_legacy.specs.declared.chunk.ChunkKind.{ChunkKind}
 use Rattle.mig_legacy.specs.declared.chunk.ChunkKind.TheVariants as kinds

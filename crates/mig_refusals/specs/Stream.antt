@@ -17,9 +17,10 @@ use Rattle.mig_restore.specs.Judging.{most_records}
 use Rattle.mig_restore.specs.Stream.{ImageOf}
 use Rattle.mig_refusals.specs.Refusals.{FailsBehind}
 use Rattle.mig_refusals.specs.Libxc.{IsFirstCause, RefusedLibxc}
-use Rattle.mig_libxl.specs.Content.{LibxlRecord, LibxlContent, is_libxl_ended, has_emulator, image_among}
-use Rattle.mig_libxl.specs.Emulators.{EmulatorsOf, emulators_of}
-use Rattle.mig_libxl.specs.Judging.{most_pairs, emulator_key, spelled_with}
+use Rattle.mig_emulators.specs.Content.{LibxlRecord, LibxlContent}
+use Rattle.mig_libxl.specs.Among.{is_libxl_ended, has_emulator, image_among}
+use Rattle.mig_emulators.specs.Emulators.{EmulatorsOf, emulators_of, most_pairs, spelled_with}
+use Rattle.mig_libxl.specs.Judging.{emulator_key}
 use Rattle.mig_libxl.specs.Spelled.{HasLibxlContent, EmulatorsFit, FollowsLibxl}
 
 -- ---- where each cause stands, a line for each; causes that have places stand at several, all others at place 0
