@@ -10,7 +10,7 @@ use std::process::Abort;
 use std::test::Fail;
 
 // A page of this byte, of which a proof is to know nothing.
-pub fn page(byte: u8) -> [u8; 4096] {
+fn page(byte: u8) -> [u8; 4096] {
     [byte; 4096]
 }
 

@@ -1,4 +1,3 @@
-use crate::guest::page;
 use mig_bytes::{MemSink, MemSource, WriteFailed, put_all, skip};
 use mig_guest::PartKey;
 use mig_headers::{Kind, put_image_cause, put_image_place};
@@ -7,6 +6,11 @@ use mig_pagetypes::PageType;
 use std::alloc::Global;
 use std::process::Abort;
 use std::test::Fail;
+
+// A page of this byte, of which a proof is to know nothing.
+fn page(byte: u8) -> [u8; 4096] {
+    [byte; 4096]
+}
 
 // An image: a head, three frames, the last of which has a page; the number of parts, the TSC, the context, two
 // parameters, two leaves and an MSR.
