@@ -38,7 +38,7 @@ pub use Rattle.mig_bytes.specs.Judged.{Judged, part, placed, plain_at, said_at, 
 pub use Rattle.mig_bytes.specs.Judged.Judged.{Faulty, Passes}
 pub use Rattle.mig_bytes.specs.Sequences.{Spells, sequence_at}
 pub use Rattle.mig_bytes.specs.Walk.{walk_end}
-pub use Rattle.mig_bytes.specs.Walk.Reaches.{here}
+pub use Rattle.mig_bytes.specs.Walk.Reaches.{here, next as next_reached}
 pub use Rattle.mig_headers.proofs.Chains.{chain_more, gone, none_of, not_last, scan_is}
 pub use Rattle.mig_headers.proofs.ContextTexts.{in32}
 pub use Rattle.mig_headers.proofs.FirstCauses.{ascends, is_named, join, none_is, rows_name}
@@ -57,21 +57,21 @@ pub use Rattle.mig_headers.specs.RecordTypes.{is_optional, pv, record_row_of, ty
 pub use Rattle.mig_headers.specs.Rows.{first_fault}
 pub use Rattle.mig_headers.specs.Texts.{number_of_cause}
 pub use Rattle.mig_headers.specs.declared.fault.Cause.{Cause}
-pub use Rattle.mig_headers.specs.declared.fault.Cause.TheVariants.{BadEmulator, BadKey, BadLength, BadPairs, BadPvInfo, ContextCount, EmulatorForPv, EmulatorIndex, GdtEnts, Missing, OutOfOrder, P2mFrame, P2mRange, P2mStart, ParamIndex, PfnOutside, Pv32, TargetAbsent, TooManyRecords, UnknownMandatory, Unsupported, VcpuFrame, VcpuId, WrongKind}
+pub use Rattle.mig_headers.specs.declared.fault.Cause.TheVariants.{BadContext, BadEmulator, BadKey, BadLength, BadPageType, BadPairs, BadPvInfo, BodyTooLong, ContextCount, EmulatorForPv, EmulatorIndex, GdtEnts, Missing, OutOfOrder, P2mFrame, P2mRange, P2mStart, ParamIndex, PfnOutside, Pv32, TargetAbsent, TooManyFrames, TooManyPairs, TooManyRecords, Truncated, UnknownMandatory, Unsupported, VcpuFrame, VcpuId, WrongKind}
 pub use Rattle.mig_headers.specs.declared.fault.ContextFault.{ContextFault}
 pub use Rattle.mig_headers.specs.declared.fault.ContextFault.TheVariants.{HeaderSize, NoEnd, NoHeader, ShortEntry}
 pub use Rattle.mig_headers.specs.declared.fault.Place.{Place}
-pub use Rattle.mig_headers.specs.declared.fault.Place.TheVariants.{DomainHeader, ImageHeader, LibxlHeader, Record}
+pub use Rattle.mig_headers.specs.declared.fault.Place.TheVariants.{DomainHeader, ImageHeader, LibxlHeader, LibxlRecord as AtRecord, Record}
 pub use Rattle.mig_headers.specs.declared.image_fault.ImageCause.{ImageCause}
-pub use Rattle.mig_headers.specs.declared.image_fault.ImageCause.TheVariants.{PartBytes, PartLength, PartMany, PartOrder, PartPadding}
+pub use Rattle.mig_headers.specs.declared.image_fault.ImageCause.TheVariants.{BadPageType as ImageBadPageType, PartBytes, PartLength, PartMany, PartOrder, PartPadding, Truncated as ImageTruncated}
 pub use Rattle.mig_headers.specs.declared.image_fault.ImagePlace.{ImagePlace}
 pub use Rattle.mig_headers.specs.declared.kind.Kind.{Kind}
 pub use Rattle.mig_headers.specs.declared.kind.Kind.TheVariants.{Hvm, Pv}
 pub use Rattle.mig_headers.specs.declared.legacy_fault.LegacyCause.{LegacyCause}
-pub use Rattle.mig_headers.specs.declared.legacy_fault.LegacyCause.TheVariants.{BadSignature, BadToolstack, BadVcpuMax, BatchTooLarge, Compressed, Modern, Tmem, Tools32, UnknownChunk, UnpairedIoreq, VerifyOrPv, WordHigh}
+pub use Rattle.mig_headers.specs.declared.legacy_fault.LegacyCause.TheVariants.{BadContext as LegacyBadContext, BadPageType as LegacyBadPageType, BadSignature, BadToolstack, BadVcpuMax, BatchTooLarge, BodyTooLong as LegacyBodyTooLong, Compressed, Modern, Tmem, TooManyFrames as LegacyTooManyFrames, TooManyPairs as LegacyTooManyPairs, Tools32, Truncated as LegacyTruncated, UnknownChunk, UnpairedIoreq, VerifyOrPv, WordHigh}
 pub use Rattle.mig_headers.specs.declared.legacy_fault.LegacyPlace.{LegacyPlace}
 pub use Rattle.mig_headers.specs.declared.record_type.RecordType.{RecordType}
-pub use Rattle.mig_headers.specs.declared.record_type.RecordType.TheVariants.{PageData, StaticDataEnd, X86PvInfo, X86PvP2mFrames}
+pub use Rattle.mig_headers.specs.declared.record_type.RecordType.TheVariants.{End, PageData, StaticDataEnd, X86PvInfo, X86PvP2mFrames}
 pub use Rattle.mig_pagetypes.proofs.Numbers.{type_back}
 pub use Rattle.mig_pagetypes.specs.FrameWords.{word_has_data, word_pfn, word_type}
 pub use Rattle.mig_pagetypes.specs.LegacyWords.{legacy_type}
@@ -93,6 +93,7 @@ pub use Rattle.mig_guest.specs.Order.{IsAbove, part_cmp}
 pub use Rattle.mig_guest.specs.PartCodes.{code_number, code_of_number, row_of}
 pub use Rattle.mig_guest.specs.PartKeys.{context_key, p2m_key, shared_key, vcpu_key}
 pub use Rattle.mig_guest.specs.Parts.{PartMap}
+unfoldable pub use Rattle.mig_guest.specs.Tables.{entry_of as table_entry_of}
 pub use Rattle.mig_guest.specs.Tables.{entry, named_frame}
 pub use Rattle.mig_guest.specs.declared.part_code.PartCode.{PartCode}
 pub use Rattle.mig_guest.specs.declared.part_code.PartCode.TheVariants.{HvmContext, HvmParam, VcpuBasic, VcpuExtended, VcpuMsrs, VcpuXsave}
@@ -119,47 +120,47 @@ pub use Rattle.mig_pvtables.proofs.PvGuests.{counted}
 pub use Rattle.mig_pvtables.proofs.Searches.{find_in_range}
 pub use Rattle.mig_pvtables.proofs.Slots.{found_in_range}
 unfoldable pub use Rattle.mig_pvtables.specs.Faults.{field_numbers, slots}
-pub use Rattle.mig_pvtables.specs.Faults.{fault_of_guest, faults_for, find_entry, find_field, find_p2m, find_slot, first_cause, first_some, is_absent, is_misplaced, is_needed, is_notab, is_this, misfits}
+pub use Rattle.mig_pvtables.specs.Faults.{fault_of_guest, faults_for, find_entry, find_field, find_p2m, find_slot, first_cause, first_some, is_absent, is_misplaced, is_needed, is_notab, is_this, misfits, type_at}
 pub use Rattle.mig_pvtables.specs.P2mFrames.{count_in, listed}
 pub use Rattle.mig_pvtables.specs.Tables.{fault_of_page_table, is_superpage, names_above}
 pub use Rattle.mig_pvtables.specs.VcpuContexts.{field_value, is_used}
-pub use Rattle.mig_restore.proofs.Batches.{behind_good, each_stage, entries_in_place, is_page, of_page, other_entries, page_size, words_stage}
-pub use Rattle.mig_restore.proofs.Bodies.{coded_is, optional_at, shaped_code}
-pub use Rattle.mig_restore.proofs.Converse.{going, headers_go, image_header_goes, marker_goes}
-pub use Rattle.mig_restore.proofs.Laws.{behind_marker, behind_version, image_header}
-unfoldable pub use Rattle.mig_restore.proofs.Parts.{behind_body, behind_record}
+pub use Rattle.mig_restore.proofs.Batches.{behind_good, behind_words, each_stage, entries_in_place, entry_of, is_page, of_page, other_entries, page_size, words_stage}
+pub use Rattle.mig_restore.proofs.Bodies.{body_goes, body_says, coded_is, optional_at, shaped_code, type_at as body_type_at}
+pub use Rattle.mig_restore.proofs.Converse.{goes, going, headers_go, image_header_goes, marker_goes}
+pub use Rattle.mig_restore.proofs.Laws.{behind_kind, behind_marker, behind_version, fields_fine, finds, image_header, opened as stream_opened}
+unfoldable pub use Rattle.mig_restore.proofs.Parts.{behind_body, behind_head, behind_record}
 pub use Rattle.mig_restore.proofs.Parts.{asks, head_stage, taken}
 unfoldable pub use Rattle.mig_restore.specs.Judging.{fault_of_fields}
 pub use Rattle.mig_restore.specs.Judging.{Before, Opening, before, body_at, code_of_type, coded_at, entries_at, fault_of_data, fault_of_head, fault_of_level, fault_of_number, fault_of_page, lists_of, most_records, next_at, record_at, type_in_word, typed_at, words_at}
 pub use Rattle.mig_restore.specs.Mean.{meant_type, sent}
 pub use Rattle.mig_restore.specs.Record.{Content, FrameEntry, StreamRecord, is_ended}
-pub use Rattle.mig_restore.specs.Record.Content.{Sets}
-pub use Rattle.mig_restore.specs.Spelled.{AreEntries, Follows, IsEntry}
+pub use Rattle.mig_restore.specs.Record.Content.{Frames, Nothing, Sets}
+pub use Rattle.mig_restore.specs.Spelled.{Accepted, AreEntries, Follows, IsEntry}
 unfoldable pub use Rattle.mig_restore.specs.Stream.{image_at, opening_at}
 pub use Rattle.mig_restore.specs.Stream.{ImageOf, IsRefused, image_of, kind_at, marker_at, placed_next, records_at, version_at}
-pub use Rattle.mig_libxl.proofs.Bodies.{FineFields, has_no_image}
+pub use Rattle.mig_libxl.proofs.Bodies.{FineFields, body_goes as libxl_body_goes, body_says as libxl_body_says, fields_fine as libxl_fields_fine, has_no_image}
 pub use Rattle.mig_libxl.proofs.Forms.{behind_header}
 pub use Rattle.mig_libxl.proofs.Laws.{Ident, header_goes, ident_of, is_header, libxl_goes}
-pub use Rattle.mig_libxl.proofs.Records.{behind_content, found, record_goes}
-pub use Rattle.mig_emulators.specs.Content.{LibxlContent, LibxlRecord}
-pub use Rattle.mig_libxl.specs.Among.{has_emulator, image_among, is_libxl_ended}
-pub use Rattle.mig_emulators.specs.Content.LibxlContent.{Image}
-pub use Rattle.mig_emulators.specs.Emulators.{EmulatorsOf, emulators_of, most_pairs, spelled_with}
+pub use Rattle.mig_libxl.proofs.Records.{behind_content, behind_head as libxl_behind_head, found, not_ended as libxl_not_ended, record_goes}
+pub use Rattle.mig_libxl.specs.Content.{LibxlContent, LibxlRecord, has_emulator, image_among, is_libxl_ended}
+pub use Rattle.mig_libxl.specs.Content.LibxlContent.{Image, Nothing as LibxlNothing}
+pub use Rattle.mig_libxl.specs.Emulators.{EmulatorsOf, emulators_of}
 unfoldable pub use Rattle.mig_libxl.specs.Judging.{fault_of_context, fault_of_libxl_fields, fault_of_order, fault_of_pairs, libxl_record_at}
-pub use Rattle.mig_libxl.specs.Judging.{allows_length, body_of_type, emulator_key, fault_of_libxl_head, field_rows, inner_at, is_miscounted, is_pv, is_pv_kind, libxl_content_at, libxl_head_at, order_rows, skipped_at}
-pub use Rattle.mig_libxl.specs.Spelled.{FollowsLibxl}
+pub use Rattle.mig_libxl.specs.Judging.{allows_length, body_of_type, emulator_key, fault_of_libxl_head, field_rows, inner_at, is_miscounted, is_pv, is_pv_kind, libxl_content_at, libxl_head_at, most_pairs, order_rows, skipped_at, spelled_with}
+pub use Rattle.mig_libxl.specs.Spelled.{AcceptedStream, FollowsLibxl}
 unfoldable pub use Rattle.mig_libxl.specs.Stream.{stream_at, wrapped_at}
 pub use Rattle.mig_libxl.specs.Stream.{IsStreamRefused, bare_at, header_at, libxl_records_at}
 pub use Rattle.mig_libxl.specs.Stream.StreamOf.{Bare, Wrapped}
-pub use Rattle.mig_legacy.proofs.Batches.{no_table, page_fine}
+pub use Rattle.mig_legacy.proofs.Batches.{behind_words as legacy_behind_words, no_table, page_fine}
 pub use Rattle.mig_legacy.proofs.ChunkNumbers.{numbers_have_kinds}
-pub use Rattle.mig_legacy.proofs.ChunkTexts.{stand_fine}
+pub use Rattle.mig_legacy.proofs.ChunkTexts.{finds as legacy_finds, goes as legacy_goes, not_ended as legacy_not_ended, numbered as legacy_numbered, stand_fine}
+pub use Rattle.mig_legacy.proofs.Chunked.{behind_kind as legacy_behind_kind}
 pub use Rattle.mig_legacy.proofs.Entries.{faultless_first, faulty_first, nothing_left}
 pub use Rattle.mig_legacy.proofs.Fields.{first32}
 pub use Rattle.mig_legacy.proofs.KindNumbers.{kinds_have_numbers}
 pub use Rattle.mig_legacy.proofs.NameForms.{name_passes, name_spelled}
 pub use Rattle.mig_legacy.proofs.Parts.{counted_at}
-pub use Rattle.mig_legacy.proofs.Spelling.{behind_all, fault_of, len_is, toolstack_spelled}
+pub use Rattle.mig_legacy.proofs.Spelling.{behind_all, fault_of, fine as fine_entry, len_is, toolstack_spelled}
 pub use Rattle.mig_legacy.proofs.Streams.{behind_chunks, behind_start, behind_tail, stream_of}
 pub use Rattle.mig_legacy.proofs.TailTexts.{fault_of_tail, some_device, start_goes, start_passes, tail_goes, tail_passes}
 pub use Rattle.mig_legacy.specs.Batches.{fault_of_batch, is_high, is_reserved, page_data_words}
@@ -170,28 +171,27 @@ pub use Rattle.mig_legacy.specs.Judged.{entries_fault, entry_len, is_name, name_
 unfoldable pub use Rattle.mig_legacy.specs.Judging.{chunk_at, device_at, fault_of_kind, tail_at}
 pub use Rattle.mig_legacy.specs.Judging.{allowed, batch_at, chunk_content_at, chunk_kind_at, clock_of, context_fault, device_record_at, fault_of_counted, fault_of_max, fault_of_signature, fault_of_start, fault_of_toolstack, frames_sent, is_modern, is_unpaired, kind_rows, legacy_words_at, length_at, or_truncated, pairs_of_toolstack, signature, start_at, tail_of, vcpus_at}
 pub use Rattle.mig_legacy.specs.Legacy.{LegacyChunk, LegacyContent, LegacyStream, LegacyTail, has_value, image_records, is_end, is_legacy_ended, store_key, store_records}
-pub use Rattle.mig_legacy.specs.Legacy.LegacyContent.{Clock, Pairs, Value}
+pub use Rattle.mig_legacy.specs.Legacy.LegacyContent.{Clock, Frames as LegacyFrames, Nothing as LegacyNothing, Pairs, Value}
 pub use Rattle.mig_legacy.specs.Spelled.{AcceptedLegacy, FollowsLegacy, IsStart}
 unfoldable pub use Rattle.mig_legacy.specs.Stream.{legacy_at}
 pub use Rattle.mig_legacy.specs.Stream.{IsLegacyRefused, chunks_at, placed_chunk}
 pub use Rattle.mig_legacy.specs.Texts.{pairs_of_physmap}
 pub use Rattle.mig_legacy.specs.Toolstack.{IsName, IsPhysmapHead, Physmap, name_bytes}
 pub use Rattle.mig_legacy.specs.declared.chunk.ChunkKind.{ChunkKind}
-pub use Rattle.mig_legacy.specs.declared.chunk.ChunkKind.TheVariants.{Batch}
+pub use Rattle.mig_legacy.specs.declared.chunk.ChunkKind.TheVariants.{Batch, End as LastChunk}
 pub use Rattle.mig_image.proofs.Chains.{put_all}
 pub use Rattle.mig_image.proofs.FieldBytes.{regroup}
-pub use Rattle.mig_image.proofs.Frames.{behind_frame_head, frame_entries, frames_valid, page_if}
-pub use Rattle.mig_host.proofs.HostsMade.{valid_empty}
+pub use Rattle.mig_image.proofs.Frames.{behind_frame_head, frame_entries, frames_back as frames_said, frames_valid, page_if}
+pub use Rattle.mig_image.proofs.HostsMade.{valid_empty}
 pub use Rattle.mig_image.proofs.ImageBack.{image_back}
 pub use Rattle.mig_image.proofs.ImageReads.{image_reads}
 pub use Rattle.mig_host.proofs.InOrder.{all_there, found_passes, no_entries, some_entry}
 pub use Rattle.mig_image.proofs.KeyTests.{part_there}
-pub use Rattle.mig_image.proofs.Parts.{behind_bytes, behind_part_head, part_entries, parts_valid, with_parts}
+pub use Rattle.mig_image.proofs.Parts.{behind_bytes, behind_part_head, part_entries, parts_back as parts_said, parts_valid, with_parts}
 unfoldable pub use Rattle.mig_image.specs.Image.{host_head, image}
 pub use Rattle.mig_image.specs.Image.{IsHostImage, frame_text, part_text}
 unfoldable pub use Rattle.mig_image.specs.ImageParts.{host_at}
-pub use Rattle.mig_image.specs.ImageParts.{code_fits, count_at, fault_of_bytes, fault_of_frame, fault_of_host_head, fault_of_padding, fault_of_part, frame_head_at, frame_rows, frame_said, frames_at, has_frame_from, has_part_from, head_key, head_pfn, head_type, head_type_number, host_frame_at, host_head_at, host_page_at, host_parts_at, is_full, is_wide, name_rows, part_at, size_rows}
-pub use Rattle.mig_host.specs.HostView.{has_machine, put_frame, put_part_in}
+pub use Rattle.mig_image.specs.ImageParts.{behind_head as image_behind_head, code_fits, count_at, fault_of_bytes, fault_of_frame, fault_of_host_head, fault_of_padding, fault_of_part, frame_head_at, frame_rows, frame_said, frames_at, has_frame_from, has_machine, has_part_from, head_key, head_pfn, head_type, head_type_number, host_frame_at, host_head_at, host_page_at, host_parts_at, is_full, is_wide, name_rows, opened, part_at, put_frame, put_part_in, size_rows}
 pub use Rattle.mig_refusals.specs.ImageFile.{BehindImageFile, BytesHave, FrameHas, FramesTo, ImageFileHeadHas, ImageFilePart, ImageFilePartFails, IsFaultlessImageFilePart, Opens, PaddingHas, PartHas, PartsTo, RefusedImageFile, SpellsFrame, SpellsPart, StandsInImageFile, image_file_size}
 pub use Rattle.mig_refusals.specs.ImageFileFronts.{EndsInFrames, EndsInParts}
 pub use Rattle.mig_refusals.specs.Legacy.{BehindLegacy, InChunk, InChunkBody, InDevice, InTail, IsFaultlessLegacyPart, LegacyContextHas, LegacyLengthHas, LegacyPart, LegacyPartFails, LegacyPartStops, MaxHas, NumberHas, RefusedLegacy, SignatureHas, StandsInLegacy, StartHas, ToolstackHas, TypeHas, WordsHave, legacy_size, word_place}

@@ -1,6 +1,5 @@
 -- What is wrong with an entry of an HVM context, and the entries before it.
-use Rattle.mig_refusals.proofs.Common.{◌≡◌, ◌⊎◌, inl, inr, ℕ, ◌+◌, ◌≤◌, List, length, is_some, Some, None, refl, sym, subst, ◌∙◌, arith, cases_eq, cases_lt, eqb-false, ne_eqb, common_steps, le16, le32, here, EntriesTo, EntryHas, none-some, same_Some, ChainTo, fault_at, after_entry, entry_end, is_last, chain_more, gone, none_of, not_last, ContextFault, NoHeader, HeaderSize, ShortEntry, NoEnd}
-use Rattle.mig_bytes.specs.Walk.Reaches.{next as goes}
+use Rattle.mig_refusals.proofs.Common.{◌≡◌, ◌⊎◌, inl, inr, ℕ, ◌+◌, ◌≤◌, List, length, is_some, Some, None, refl, sym, subst, ◌∙◌, arith, cases_eq, cases_lt, eqb-false, ne_eqb, common_steps, le16, le32, here, EntriesTo, EntryHas, none-some, same_Some, ChainTo, fault_at, after_entry, entry_end, is_last, chain_more, gone, none_of, not_last, ContextFault, NoHeader, HeaderSize, ShortEntry, NoEnd, next_reached}
 use Rattle.mig_refusals.specs.Libxc.EntriesTo.{start, next}
 use Rattle.mig_refusals.specs.Libxc.EntryHas.{nothing_at_all, nothing_more, short_front, other_first, header_size, short_data}
 
@@ -74,4 +73,4 @@ module _ (bytes : List ℕ) where
 
   pub reached_chain : (o : ℕ) → ChainTo bytes o → EntriesTo bytes o
   reached_chain _ here = start
-  reached_chain _ (goes s t reached h) = step_is s t h (reached_chain s reached)
+  reached_chain _ (next_reached s t reached h) = step_is s t h (reached_chain s reached)

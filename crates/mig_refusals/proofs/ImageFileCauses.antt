@@ -1,31 +1,25 @@
 -- The causes that stand in each part of an image.
-use Rattle.mig_refusals.proofs.Common.{◌≡◌, ◌⊎◌, inl, inr, ℕ, ◌≤◌, List, [], ◌∷◌, ◌++◌, Bool, true, false, cond, not, nat_eq, nat_le, nat_lt, Option, Some, None, refl, sym, ap, subst, ◌∙◌, arith, and_from, and_left, and_parts, and_right, cases_lt, eq-eqb, eqb-false, eqb-true, false≢true, le-leb, leb-true, lt-ltb, ltb-true, ne_eqb, not-true, not_from_false, or_cases, or_left, or_right, none-some, ◌&&◌, ◌||◌, list_all, le32, le64, first_fault, ImageCause, number_of_image_cause, Kind, Hvm, Pv, HostOf, PageType, ImageFilePart, StandsInImageFile, image_file_size, IsTriedFirst, join, canonical_pairs_are_computed, kind_of_number, AreCanonicalPairs, are_canonical_pairs, pv, PartOrder, PartMany, PartLength, PartBytes, PartPadding, is_type_of, machine_limit, row_of, code_number, code_of_number, PartCode, most_frames, all_types, number_of, type_of, type_or_none, Notab, L1Tab, L2Tab, L3Tab, L4Tab, L1Pinned, L2Pinned, L3Pinned, L4Pinned, Broken, Xalloc, Xtab, found_passes, code_fits, fault_of_bytes, fault_of_frame, fault_of_host_head, fault_of_padding, fault_of_part, frame_rows, has_frame_from, has_machine, has_part_from, head_key, head_pfn, head_type, head_type_number, is_full, is_wide, name_rows, size_rows, ImageFileHeadHas, FrameHas, PartHas, BytesHave, PaddingHas}
-use Rattle.mig_headers.specs.declared.image_fault.ImageCause.TheVariants.{BadPageType, Truncated}
-use Rattle.mig_headers.proofs.FirstCauses as first
+use Rattle.mig_refusals.proofs.Common.{◌≡◌, ◌⊎◌, inl, inr, ℕ, ◌≤◌, List, [], ◌∷◌, ◌++◌, Bool, true, false, cond, not, nat_eq, nat_le, nat_lt, Option, Some, None, refl, sym, ap, subst, ◌∙◌, arith, and_from, and_left, and_parts, and_right, cases_lt, eq-eqb, eqb-true, false≢true, le-leb, leb-true, lt-ltb, ltb-true, not-true, not_from_false, or_cases, or_left, or_right, none-some, ◌&&◌, ◌||◌, list_all, le32, le64, first_fault, ImageCause, number_of_image_cause, Kind, Hvm, Pv, HostOf, PageType, ImageFilePart, StandsInImageFile, image_file_size, IsTriedFirst, join, canonical_pairs_are_computed, kind_of_number, AreCanonicalPairs, are_canonical_pairs, pv, PartOrder, PartMany, PartLength, PartBytes, PartPadding, is_type_of, machine_limit, row_of, code_number, code_of_number, PartCode, most_frames, all_types, number_of, type_of, type_or_none, Notab, L1Tab, L2Tab, L3Tab, L4Tab, L1Pinned, L2Pinned, L3Pinned, L4Pinned, Broken, Xalloc, Xtab, found_passes, code_fits, fault_of_bytes, fault_of_frame, fault_of_host_head, fault_of_padding, fault_of_part, frame_rows, has_frame_from, has_machine, has_part_from, head_key, head_pfn, head_type, head_type_number, is_full, is_wide, name_rows, size_rows, ImageFileHeadHas, FrameHas, PartHas, BytesHave, PaddingHas, ImageBadPageType, ImageTruncated}
+use Rattle.mig_headers.proofs.FirstCauses as firsts
 use Rattle.mig_headers.specs.declared.image_fault.ImageCause.TheVariants as causes
 use Rattle.mig_guest.proofs.PartRows.{number_found, numbered}
 use Rattle.mig_refusals.specs.ImageFile.{ImageFileHeadHas as heads, FrameHas as frames, PartHas as parts}
 use Rattle.mig_refusals.specs.ImageFile.BytesHave.{other_than_pairs}
 use Rattle.mig_refusals.specs.ImageFile.PaddingHas.{not_zero}
 use Rattle.mig_refusals.specs.ImageFile.ImageFilePart.{Head, FrameHead, PartHead, Bytes, Padding}
+use Rattle.mig_refusals.proofs.Tests.{differs, is_one, one_of, test_differs}
 use Rattle.mig_refusals.proofs.Parts.{Tries, tries_first}
 use Rattle.mig_refusals.proofs.ImageFileEntries.{frame_from, from_frame, machine_of, of_machine, part_from, from_part, some_byte, byte_some}
 
 -- what a computed fault is of the causes that stand
 abbrev Named : (ImageCause → Type 0) → Option ImageCause → Type 0
-Named = first.Named number_of_image_cause (λ _. 0)
+Named = firsts.Named number_of_image_cause (λ _. 0)
 
 abbrev RowHas : List (Bool × ImageCause) → ImageCause → Type 0
-RowHas = first.RowHas number_of_image_cause (λ _. 0)
+RowHas = firsts.RowHas number_of_image_cause (λ _. 0)
 
 abbrev To : (ImageCause → Type 0) → List (Bool × ImageCause) → Type 0
-To = first.To number_of_image_cause (λ _. 0)
-
-differs : (n m : ℕ) → not (nat_eq n m) ≡ true → n ≡ m → ⊥
-differs n m h = eqb-false n m (not-true _ h)
-
-test_differs : (n m : ℕ) → (n ≡ m → ⊥) → not (nat_eq n m) ≡ true
-test_differs n m h = ap not (ne_eqb n m h)
+To = firsts.To number_of_image_cause (λ _. 0)
 
 -- ---- the image's head
 
@@ -68,7 +62,7 @@ module _ (head : List ℕ) where
   head_from _ (heads.above_width h) = inr (inr (inr (inr (inl (or_right _ _ (lt-ltb _ _ h), refl)))))
 
   head_named : Named (ImageFileHeadHas head) (fault_of_host_head head)
-  head_named = subst (Named (ImageFileHeadHas head)) (sym (join (name_rows head) (size_rows kind (le64 head 16) (le64 head 24)))) (first.rows_name _ _ (ImageFileHeadHas head) head_rows refl head_to head_from)
+  head_named = subst (Named (ImageFileHeadHas head)) (sym (join (name_rows head) (size_rows kind (le64 head 16) (le64 head 24)))) (firsts.rows_name _ _ (ImageFileHeadHas head) head_rows refl head_to head_from)
 
 -- ---- a frame's head
 
@@ -134,7 +128,7 @@ module _ (h : HostOf) (head : List ℕ) where
   abbrev Has : ImageCause → Type 0
   Has = FrameHas h head
 
-  to_type : IsOther h.kind (head_type_number head) → Has (BadPageType (head_type_number head))
+  to_type : IsOther h.kind (head_type_number head) → Has (ImageBadPageType (head_type_number head))
   to_type (inl (low, high)) = frames.reserved_type low high
   to_type (inr (inl high)) = frames.absent_type high
   to_type (inr (inr (hvm, a, b, c))) = frames.not_of_hvm hvm a b c
@@ -154,7 +148,7 @@ module _ (h : HostOf) (head : List ℕ) where
     ((λ r. to_type (other_type h.kind (head_type_number head) (not-true _ r))), (to_order, ((λ r. frames.outside (leb-true _ _ r)), (to_machine, (to_twice, tt))))),
   )
 
-  bad_type : IsOther h.kind (head_type_number head) → RowHas (frame_rows h head) (BadPageType (head_type_number head))
+  bad_type : IsOther h.kind (head_type_number head) → RowHas (frame_rows h head) (ImageBadPageType (head_type_number head))
   bad_type other = inr (inl (not_from_false _ (type_other h.kind (head_type_number head) other), refl))
 
   frame_has : (c : ImageCause) → Has c → RowHas (frame_rows h head) c
@@ -169,7 +163,7 @@ module _ (h : HostOf) (head : List ℕ) where
   frame_has _ (frames.machine_twice q frame at is) = inr (inr (inr (inr (inr (inl (of_machine h (le64 head 8) q frame at is, refl))))))
 
   frame_named : Named Has (fault_of_frame h head)
-  frame_named = first.rows_name _ _ Has (frame_rows h head) refl frame_to frame_has
+  frame_named = firsts.rows_name _ _ Has (frame_rows h head) refl frame_to frame_has
 
 -- a head in which no cause stands names a type
 pub type_named : (h : HostOf) (head : List ℕ) → ((c : ImageCause) → FrameHas h head c → ⊥) → head_type_number head ≡ number_of (head_type head)
@@ -220,11 +214,7 @@ module _ (h : HostOf) (head : List ℕ) where
   to_many : is_full h.parts code_said ≡ true → PartOf (PartMany code_said)
   to_many full =
       let b = and_parts (nat_eq code_said 17 || nat_eq code_said 18) _ full in
-      parts.too_many (elim (or_cases _ _ b.0) [ inl e ↦ inl (eqb-true _ _ e) | inr e ↦ inr (eqb-true _ _ e) ]) (leb-true _ _ b.1)
-
-  is_policy : (code_said ≡ 17) ⊎ (code_said ≡ 18) → (nat_eq code_said 17 || nat_eq code_said 18) ≡ true
-  is_policy (inl e) = or_left _ _ (eq-eqb _ _ e)
-  is_policy (inr e) = or_right _ _ (eq-eqb _ _ e)
+      parts.too_many (one_of _ _ _ b.0) (leb-true _ _ b.1)
 
   part_to : (found : Option PartCode) → code_of_number code_said ≡ found → To PartOf (rows found)
   part_to None none = ((λ _. parts.no_code (λ code is. none-some code (sym none ∙ numbered code_said code is))), (to_above, (to_many, tt)))
@@ -249,23 +239,23 @@ module _ (h : HostOf) (head : List ℕ) where
     part_has _ (parts.other_kind code is fails) = misfits code is (and_left _ _ fails)
     part_has _ (parts.other_keys code is fails) = misfits code is (and_right _ _ fails)
     part_has _ (parts.not_above q some above) = inr (inl (from_part h.parts (head_key head) q some above, refl))
-    part_has _ (parts.too_many policy many) = inr (inr (inl (and_from _ _ (is_policy policy) (le-leb _ _ many), refl)))
+    part_has _ (parts.too_many policy many) = inr (inr (inl (and_from _ _ (is_one _ _ _ policy) (le-leb _ _ many), refl)))
     part_has _ (parts.other_length code is fails) = subst (λ o. RowHas (rows o) (PartLength len_said)) (sym (known code is)) (inr (inr (inr (inl (not_from_false _ fails, refl)))))
 
   part_named : Named PartOf (fault_of_part h head)
   part_named = by (code_of_number code_said) refl
     where
-      in_order : (found : Option PartCode) → first.ascends number_of_image_cause (λ _. 0) (rows found) ≡ true
+      in_order : (found : Option PartCode) → firsts.ascends number_of_image_cause (λ _. 0) (rows found) ≡ true
       in_order None = refl
       in_order (Some code) = refl
 
       by : (found : Option PartCode) → code_of_number code_said ≡ found → Named PartOf (fault_of_part h head)
-      by found is = subst (Named PartOf) (sym (rows_are found is)) (first.rows_name _ _ PartOf (rows found) (in_order found) (part_to found is) (part_has found is))
+      by found is = subst (Named PartOf) (sym (rows_are found is)) (firsts.rows_name _ _ PartOf (rows found) (in_order found) (part_to found is) (part_has found is))
 
 -- ---- what stands behind it
 
 bytes_named : (code : ℕ) (bytes : List ℕ) → Named (BytesHave code bytes) (fault_of_bytes code bytes)
-bytes_named code bytes = first.rows_name _ _ (BytesHave code bytes) bytes_rows refl ((λ r. let b = and_parts (nat_eq code 258) _ r in other_than_pairs (eqb-true _ _ b.0) (λ pairs. false≢true (sym (not-true _ b.1) ∙ (canonical_pairs_are_computed bytes).1 pairs))), tt) from
+bytes_named code bytes = firsts.rows_name _ _ (BytesHave code bytes) bytes_rows refl ((λ r. let b = and_parts (nat_eq code 258) _ r in other_than_pairs (eqb-true _ _ b.0) (λ pairs. false≢true (sym (not-true _ b.1) ∙ (canonical_pairs_are_computed bytes).1 pairs))), tt) from
   where
     bytes_rows : List (Bool × ImageCause)
     bytes_rows = (nat_eq code 258 && not (are_canonical_pairs bytes), PartBytes) ∷ []
@@ -278,7 +268,7 @@ bytes_named code bytes = first.rows_name _ _ (BytesHave code bytes) bytes_rows r
     from _ (other_than_pairs is other) = inl (and_from _ _ (eq-eqb _ _ is) (not_from_false _ (unlike (are_canonical_pairs bytes) refl other)), refl)
 
 padding_named : (padding : List ℕ) → Named (PaddingHas padding) (fault_of_padding padding)
-padding_named padding = first.rows_name _ _ (PaddingHas padding) padding_rows refl ((λ r. let (place, within, some) = some_byte padding (not-true _ r) in not_zero place within some), tt) from
+padding_named padding = firsts.rows_name _ _ (PaddingHas padding) padding_rows refl ((λ r. let (place, within, some) = some_byte padding (not-true _ r) in not_zero place within some), tt) from
   where
     padding_rows : List (Bool × ImageCause)
     padding_rows = (not (list_all (λ b. nat_eq b 0) padding), PartPadding) ∷ []
@@ -305,5 +295,5 @@ part_is_named (Bytes code len) bytes = bytes_named code bytes
 part_is_named (Padding n) bytes = padding_named bytes
 part_is_named _ bytes = record { holds = λ c h. h }
 
-abbrev pub tries : (part : ImageFilePart) → Tries Truncated (image_file_size part) (StandsInImageFile part) (λ bytes. IsTriedFirst number_of_image_cause (λ _. 0) (StandsInImageFile part bytes))
-tries part = tries_first number_of_image_cause (λ _. 0) Truncated (image_file_size part) (StandsInImageFile part) (fault_in part) (part_is_named part)
+abbrev pub tries : (part : ImageFilePart) → Tries ImageTruncated (image_file_size part) (StandsInImageFile part) (λ bytes. IsTriedFirst number_of_image_cause (λ _. 0) (StandsInImageFile part bytes))
+tries part = tries_first number_of_image_cause (λ _. 0) ImageTruncated (image_file_size part) (StandsInImageFile part) (fault_in part) (part_is_named part)

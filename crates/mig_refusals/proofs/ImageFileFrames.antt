@@ -1,8 +1,6 @@
 -- The frames of a front: judging passes them, and what it passes are such frames.
-use Rattle.mig_refusals.proofs.Common.{◌≡◌, ℕ, ◌+◌, ◌<◌, List, [], ◌++◌, length, Bool, true, false, cond, Option, Some, None, is_some, refl, sym, ap, subst, ◌∙◌, append_assoc, unwrap_or, le32, le64, Judged, ◌>>=◌, part, placed, Passes, Faulty, both_pass, part_whole, placed_passes, same_passes, then_passes, ImageCause, ImagePlace, HostOf, HostFrame, PageType, IsFaultlessImageFilePart, nil_from_length, kind_of_number, kind_back, number_of, type_has_data, type_of, type_or_none, type_back, regroup, behind_frame_head, page_if, frame_head_at, frame_said, head_pfn, head_type, head_type_number, host_frame_at, host_page_at, put_frame, FramesTo, Opens, SpellsFrame}
-use Rattle.mig_headers.specs.declared.image_fault.ImageCause.TheVariants.{Truncated}
+use Rattle.mig_refusals.proofs.Common.{◌≡◌, ℕ, ◌+◌, ◌<◌, List, [], ◌++◌, length, Bool, true, false, cond, Option, Some, None, is_some, refl, sym, ap, subst, ◌∙◌, append_assoc, unwrap_or, le32, le64, Judged, ◌>>=◌, part, placed, Passes, Faulty, both_pass, part_whole, placed_passes, same_passes, then_passes, ImageCause, ImagePlace, HostOf, HostFrame, PageType, IsFaultlessImageFilePart, nil_from_length, kind_of_number, kind_back, number_of, type_has_data, type_of, type_or_none, type_back, regroup, behind_frame_head, page_if, frame_head_at, frame_said, head_pfn, head_type, head_type_number, host_frame_at, host_page_at, put_frame, FramesTo, Opens, SpellsFrame, ImageTruncated, opened}
 use Rattle.mig_headers.specs.declared.image_fault.ImagePlace.TheVariants as places
-use Rattle.mig_image.specs.ImageParts.{opened}
 use Rattle.mig_refusals.specs.ImageFile.FramesTo.{at_first, one_more}
 use Rattle.mig_refusals.specs.ImageFile.ImageFilePart.{Head, FrameHead, Page}
 use Rattle.mig_refusals.proofs.ImageFileCauses.{type_named}
@@ -20,9 +18,9 @@ page_said t bytes = cond (type_has_data t) (Some bytes) None
 page_is : (t : PageType) (i : List ℕ) → host_page_at t i ≡ (one_part (Page t) i >>= λ a. Passes (page_said t a.0) a.1)
 page_is t i = by (type_has_data t)
   where
-    by : (b : Bool) → page_if b i ≡ ((part Truncated (cond b 4096 0) i >>= λ a. Passes a.0 a.1) >>= λ a. Passes (cond b (Some a.0) None) a.1)
-    by true = sym (said_then (λ l. l) (part Truncated 4096 i) (λ a. Passes (Some a.0) a.1))
-    by false = ap (λ j. (j >>= λ a. Passes a.0 a.1) >>= λ a. Passes None a.1) (sym (part_whole Truncated 0 [] i refl))
+    by : (b : Bool) → page_if b i ≡ ((part ImageTruncated (cond b 4096 0) i >>= λ a. Passes a.0 a.1) >>= λ a. Passes (cond b (Some a.0) None) a.1)
+    by true = sym (said_then (λ l. l) (part ImageTruncated 4096 i) (λ a. Passes (Some a.0) a.1))
+    by false = ap (λ j. (j >>= λ a. Passes a.0 a.1) >>= λ a. Passes None a.1) (sym (part_whole ImageTruncated 0 [] i refl))
 
 said_page : (t : PageType) (page : Option (List ℕ)) → is_some page ≡ type_has_data t → page_said t (unwrap_or page []) ≡ page
 said_page t None step = ap (λ b. cond b (Some []) None) (sym step)

@@ -1,6 +1,5 @@
 -- The parts of a front: judging passes them, and what it passes are such parts.
-use Rattle.mig_refusals.proofs.Common.{◌≡◌, ℕ, ◌+◌, ◌<◌, List, ◌++◌, refl, sym, ap, subst, ◌∙◌, append_assoc, le32, le64, Judged, ◌>>=◌, part, placed, Passes, both_pass, placed_passes, same_passes, then_passes, ImageCause, ImagePlace, HostOf, PartKey, ImageFilePart, IsFaultlessImageFilePart, padding_len, regroup, behind_bytes, behind_part_head, count_at, head_key, part_at, put_part_in, FramesTo, PartsTo, SpellsPart}
-use Rattle.mig_headers.specs.declared.image_fault.ImageCause.TheVariants.{Truncated}
+use Rattle.mig_refusals.proofs.Common.{◌≡◌, ℕ, ◌+◌, ◌<◌, List, ◌++◌, refl, sym, ap, subst, ◌∙◌, append_assoc, le32, le64, Judged, ◌>>=◌, part, placed, Passes, both_pass, placed_passes, same_passes, then_passes, ImageCause, ImagePlace, HostOf, PartKey, ImageFilePart, IsFaultlessImageFilePart, padding_len, regroup, behind_bytes, behind_part_head, count_at, head_key, part_at, put_part_in, FramesTo, PartsTo, SpellsPart, ImageTruncated}
 use Rattle.mig_headers.specs.declared.image_fault.ImagePlace.TheVariants as places
 use Rattle.mig_refusals.specs.ImageFile.PartsTo.{at_first, one_more}
 use Rattle.mig_refusals.specs.ImageFile.ImageFilePart.{Number, PartHead, Bytes, Padding}
@@ -65,4 +64,4 @@ takes_part count front n h i g rest to less passes =
 
 -- the number of parts
 pub count_is : (i : List ℕ) → count_at i ≡ (one_part Number i >>= λ a. Passes (le64 a.0 0) a.1)
-count_is i = sym (said_then (λ l. l) (part Truncated 8 i) (λ a. Passes (le64 a.0 0) a.1))
+count_is i = sym (said_then (λ l. l) (part ImageTruncated 8 i) (λ a. Passes (le64 a.0 0) a.1))

@@ -1,10 +1,7 @@
 -- Fronts of bytes are spelled as an image spells the frames and parts of a valid host.
-use Rattle.mig_refusals.proofs.Common.{◌≡◌, inl, inr, ℕ, ◌^◌, ◌<◌, ◌≤◌, List, [], ◌++◌, length, refl, sym, ap, subst, ◌∙◌, arith, append-nil, append_assoc, cases_eq, cases_lt, le32, Passes, Pv, HostOf, PartKey, IsFaultlessImageFilePart, flat_map, append_cancel_right, All-append, All-from_recursion, little_bytes, bytes_back, bytes_front, AreBytes, le64, steps, kind_of_number, pv, IsValid, part_cmp, PartMap, put_all, frame_entries, frames_valid, valid_empty, image_back, no_entries, part_entries, parts_valid, with_parts, frame_text, host_head, image, part_text, frames_at, host_parts_at, EndsInFrames, EndsInParts, FramesTo, PartsTo}
+use Rattle.mig_refusals.proofs.Common.{◌≡◌, inl, inr, ℕ, ◌^◌, ◌<◌, ◌≤◌, List, [], ◌++◌, length, refl, sym, ap, subst, ◌∙◌, arith, append-nil, append_assoc, cases_eq, cases_lt, le32, Passes, Pv, HostOf, PartKey, IsFaultlessImageFilePart, flat_map, append_cancel_right, All-append, All-from_recursion, little_bytes, bytes_back, bytes_front, AreBytes, le64, steps, kind_of_number, pv, IsValid, part_cmp, PartMap, put_all, frame_entries, frames_valid, valid_empty, image_back, no_entries, part_entries, parts_valid, with_parts, frame_text, host_head, image, part_text, frames_at, host_parts_at, EndsInFrames, EndsInParts, FramesTo, PartsTo, frames_said, parts_said, opened}
 use Rattle.std.specs.FinMap as maps
 use Rattle.mig_bytes.proofs.ByteLists.{Bytes}
-use Rattle.mig_image.proofs.Frames.{frames_back as frames_said}
-use Rattle.mig_image.proofs.Parts.{parts_back as parts_said}
-use Rattle.mig_image.specs.ImageParts.{opened}
 use Rattle.mig_refusals.specs.ImageFile.ImageFileHeadHas.{pv_without_width, too_many, too_wide}
 use Rattle.mig_refusals.specs.ImageFile.ImageFilePart.{Head}
 use Rattle.mig_refusals.proofs.ImageFileCauses.{of_pv}

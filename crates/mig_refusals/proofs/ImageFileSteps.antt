@@ -1,20 +1,19 @@
 -- One part, and steps one after another: how judging goes on behind them, and what fails in them.
-use Rattle.mig_refusals.proofs.Common.{◌≡◌, inl, inr, ℕ, zero, suc, ◌+◌, ◌<◌, ◌≤◌, List, [], ◌++◌, refl, sym, ap, subst, ◌∙◌, arith, append-nil, append_assoc, Judged, ◌>>=◌, said_at, Passes, Faulty, both_pass, same_passes, then_passes, passes_not, bind_cases, ImageCause, ImageFilePart, image_file_size, IsFaultlessImageFilePart, steps, bytes_pass, steps_more, steps_stop}
-use Rattle.mig_headers.specs.declared.image_fault.ImageCause.TheVariants.{Truncated}
+use Rattle.mig_refusals.proofs.Common.{◌≡◌, inl, inr, ℕ, zero, suc, ◌+◌, ◌<◌, ◌≤◌, List, [], ◌++◌, refl, sym, ap, subst, ◌∙◌, arith, append-nil, append_assoc, Judged, ◌>>=◌, said_at, Passes, Faulty, both_pass, same_passes, then_passes, passes_not, bind_cases, ImageCause, ImageFilePart, image_file_size, IsFaultlessImageFilePart, steps, bytes_pass, steps_more, steps_stop, ImageTruncated}
 use Rattle.mig_refusals.proofs.ImageFileCauses.{tries}
 use Rattle.mig_refusals.proofs.Parts.{faultless, part_goes as said_part_goes}
 
 -- ---- one part
 
 abbrev pub one_part : ImageFilePart → List ℕ → Judged ImageCause (List ℕ)
-one_part p input = said_at Truncated (tries p).fault (λ bytes. bytes) (image_file_size p) input
+one_part p input = said_at ImageTruncated (tries p).fault (λ bytes. bytes) (image_file_size p) input
 
 -- a faultless part passes, and a part that passes is faultless
 pub part_goes : (p : ImageFilePart) (bytes rest : List ℕ) → IsFaultlessImageFilePart p bytes → one_part p (bytes ++ rest) ≡ Passes bytes rest
 part_goes p bytes rest is = said_part_goes (tries p) (λ l. l) bytes rest is
 
 pub part_back : (p : ImageFilePart) (left bytes rest : List ℕ) → one_part p left ≡ Passes bytes rest → (left ≡ bytes ++ rest) × IsFaultlessImageFilePart p bytes
-part_back p left bytes rest h = let (whole, size, none) = bytes_pass Truncated (tries p).fault (image_file_size p) left bytes rest h in (whole, faultless (tries p) bytes size none)
+part_back p left bytes rest h = let (whole, size, none) = bytes_pass ImageTruncated (tries p).fault (image_file_size p) left bytes rest h in (whole, faultless (tries p) bytes size none)
 
 -- what is said of a part, and then more of that
 pub said_then : {C X Y Z : Type 0} (says : X → Y) (j : Judged C X) (k : Y × List ℕ → Judged C Z) → ((j >>= λ a. Passes (says a.0) a.1) >>= k) ≡ (j >>= λ a. k (says a.0, a.1))

@@ -1,7 +1,6 @@
 -- An image is refused in words exactly where judging refuses it.
-use Rattle.mig_refusals.proofs.Common.{◌≡◌, inl, inr, ℕ, ◌<◌, List, [], ◌++◌, Bool, true, false, nat_eq, refl, sym, ap, subst, ◌∙◌, append_assoc, le_refl, eqb-true, eqb-false, le32, le64, Judged, ◌>>=◌, placed, Passes, Faulty, placed_passes, placed_faulty, then_passes, then_faulty, bind_cases, both_pass, same_passes, only_first, ImageCause, ImagePlace, HostOf, ImageFilePart, IsFaultlessImageFilePart, regroup, kind_number, kind_of_number, behind_bytes, behind_part_head, count_at, frame_said, frames_at, head_key, head_pfn, head_type, host_at, host_frame_at, host_head_at, host_parts_at, part_at, put_frame, put_part_in, BehindImageFile, FramesTo, Opens, PartsTo, RefusedImageFile, AreJudged, HasOneRefusal, IsAcceptedOrRefused, IsNeverBoth, AreBytes, IsHostImage, image_back, image_reads, passes_not, ImageFilePartFails}
+use Rattle.mig_refusals.proofs.Common.{◌≡◌, inl, inr, ℕ, ◌<◌, List, [], ◌++◌, Bool, true, false, nat_eq, refl, sym, ap, subst, ◌∙◌, append_assoc, le_refl, eqb-true, eqb-false, le32, le64, Judged, ◌>>=◌, placed, Passes, Faulty, placed_passes, placed_faulty, then_passes, then_faulty, bind_cases, both_pass, same_passes, only_first, ImageCause, ImagePlace, HostOf, ImageFilePart, IsFaultlessImageFilePart, regroup, kind_number, kind_of_number, behind_bytes, behind_part_head, count_at, frame_said, frames_at, head_key, head_pfn, head_type, host_at, host_frame_at, host_head_at, host_parts_at, part_at, put_frame, put_part_in, BehindImageFile, FramesTo, Opens, PartsTo, RefusedImageFile, AreJudged, HasOneRefusal, IsAcceptedOrRefused, IsNeverBoth, AreBytes, IsHostImage, image_back, image_reads, passes_not, ImageFilePartFails, image_behind_head, opened}
 use Rattle.mig_headers.specs.declared.image_fault.ImagePlace.TheVariants as places
-use Rattle.mig_image.specs.ImageParts.{behind_head, opened}
 use Rattle.mig_refusals.specs.Refusals.IsAcceptedOrRefused.{accepted, refused}
 use Rattle.mig_refusals.proofs.Laws.{one_refusal}
 use Rattle.mig_refusals.specs.ImageFile.BehindImageFile.{at_head, at_frame, at_page, at_number, at_part, at_bytes, at_padding}
@@ -30,7 +29,7 @@ module _ (front : List ℕ) (count n : ℕ) (h : HostOf) (to : FramesTo front co
       let in_frames = f.texts ++ left in
       let (is, count_is, opens) = f.first in
       ap host_at (ap (λ l. l ++ left) f.whole ∙ append_assoc f.start f.texts left)
-      ∙ then_passes (placed places.Head (host_head_at (f.start ++ in_frames))) (λ head. behind_head head.0 head.1) f.start in_frames _ (ap (placed places.Head) (part_goes Head f.start in_frames is))
+      ∙ then_passes (placed places.Head (host_head_at (f.start ++ in_frames))) (λ head. image_behind_head head.0 head.1) f.start in_frames _ (ap (placed places.Head) (part_goes Head f.start in_frames is))
       (λ i. frames_at (sym count_is i) (sym opens i) in_frames >>= behind_frames)
 
   frame_refused : (c : ImageCause) (rest : List ℕ) → n < count → (one_part (FrameHead h) left >>= page_behind h) ≡ Faulty c rest → host_at (front ++ left) ≡ Faulty (places.Frame n, c) rest
@@ -58,7 +57,7 @@ part_refused front count n h left c rest to less fails =
 
 behind_refused : (front : List ℕ) (place : ImagePlace) (p : ImageFilePart) (left : List ℕ) (c : ImageCause) (rest : List ℕ) → BehindImageFile front place p → one_part p left ≡ Faulty c rest → host_at (front ++ left) ≡ Faulty (place, c) rest
 unfolding host_at
-behind_refused _ _ _ left c rest at_head h = then_faulty (placed places.Head (host_head_at left)) (λ head. behind_head head.0 head.1) (places.Head, c) rest (ap (placed places.Head) h)
+behind_refused _ _ _ left c rest at_head h = then_faulty (placed places.Head (host_head_at left)) (λ head. image_behind_head head.0 head.1) (places.Head, c) rest (ap (placed places.Head) h)
 behind_refused _ _ _ left c rest (at_frame front count n h to less) fails = frame_refused front count n h to left c rest less (then_faulty (one_part (FrameHead h) left) (page_behind h) c rest fails)
 behind_refused _ _ _ left c rest (at_page front head count n h type to less is names) fails =
     ap host_at (append_assoc front head left)
@@ -142,7 +141,7 @@ module _ (input : List ℕ) (place : ImagePlace) (c : ImageCause) (rest : List �
         part_fails after mid a.0 n g (further front left b.x a.1 whole (p.0 ∙ ap (λ l. b.x ++ l) e.1) ∙ same) more less s.1 s.0
   ]
 
-  behind_fails : (head left : List ℕ) → input ≡ head ++ left → IsFaultlessImageFilePart Head head → behind_head head left ≡ Faulty (place, c) rest → RefusedImageFile input place c rest
+  behind_fails : (head left : List ℕ) → input ≡ head ++ left → IsFaultlessImageFilePart Head head → image_behind_head head left ≡ Faulty (place, c) rest → RefusedImageFile input place c rest
   behind_fails head left whole is fails =
       let count = le64 head 24 in
       let first = FramesTo.at_first head (opened head) (opens head is) in
@@ -158,7 +157,7 @@ module _ (input : List ℕ) (place : ImagePlace) (c : ImageCause) (rest : List �
 
   pub is_refused : host_at input ≡ Faulty (place, c) rest → RefusedImageFile input place c rest
   unfolding host_at
-  is_refused fails = elim (placed_cases (tries Head) (λ l. l) places.Head (λ head. behind_head head.0 head.1) input place c rest fails) [
+  is_refused fails = elim (placed_cases (tries Head) (λ l. l) places.Head (λ head. image_behind_head head.0 head.1) input place c rest fails) [
     | inl e ↦ at_place places.Head [] input Head e.1 refl at_head e.0
     | inr a ↦ behind_fails a.bytes a.mid a.whole a.is_faultless a.after
   ]

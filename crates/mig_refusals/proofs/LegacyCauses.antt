@@ -1,9 +1,7 @@
 -- The causes that stand in each part of a legacy stream, and parts without one.
-use Rattle.mig_refusals.proofs.Common.{◌≡◌, ◌⊎◌, inl, inr, ℕ, ◌<◌, ◌≤◌, List, [], ◌∷◌, Bool, true, false, cond, not, nat_eq, nat_lt, nat_le, Option, Some, None, Result, Ok, Err, refl, sym, ap, subst, ◌∙◌, arith, common_steps, and_from, and_parts, both_ways, cases_order, eq-eqb, eqb-false, eqb-true, false≢true, le-leb, leb-true, lt-ltb, ltb-true, ne_eqb, not-true, none-some, same_Some, or_cases, or_left, or_right, slice_index, ◌&&◌, list_any, le32, first_fault, LegacyCause, ChunkKind, LegacyChunk, number_of_legacy_cause, word_place, LegacyPart, StandsInLegacy, legacy_size, flat_map, option_map, option_or, bytes_eq, bytes_eq-Decides, IsEarlier, IsTriedFirst, scan, ContextFault, Hvm, Modern, Tools32, WordHigh, BadVcpuMax, BadToolstack, UnpairedIoreq, BadSignature, most_frames, legacy_type, words, first_place, first_word, none_pass, place_is_first, sent, emulators_of, most_pairs, spelled_with, is_reserved, is_high, fault_of_batch, kind_of, IsNumberOf, toolstack, toolstack_fault, is_modern, is_unpaired, frames_sent, kind_rows, fault_of_kind, fault_of_start, fault_of_counted, fault_of_max, fault_of_toolstack, fault_of_signature, context_fault, signature, has_value, image_records, is_end, store_key, store_records, pairs_of_physmap, Physmap, numbers_have_kinds, kinds_have_numbers, toolstack_spelled, StartHas, NumberHas, TypeHas, WordsHave, MaxHas, LegacyLengthHas, ToolstackHas, LegacyContextHas, SignatureHas}
+use Rattle.mig_refusals.proofs.Common.{◌≡◌, ◌⊎◌, inl, inr, ℕ, ◌<◌, ◌≤◌, List, [], ◌∷◌, Bool, true, false, cond, not, nat_eq, nat_lt, nat_le, Option, Some, None, Result, Ok, Err, refl, sym, ap, subst, ◌∙◌, arith, common_steps, and_from, and_parts, both_ways, cases_order, eq-eqb, eqb-false, eqb-true, false≢true, le-leb, leb-true, lt-ltb, ltb-true, ne_eqb, not-true, none-some, same_Some, or_cases, or_left, or_right, slice_index, ◌&&◌, list_any, le32, first_fault, LegacyCause, ChunkKind, LegacyChunk, number_of_legacy_cause, word_place, LegacyPart, StandsInLegacy, legacy_size, flat_map, option_map, option_or, bytes_eq, bytes_eq-Decides, IsEarlier, IsTriedFirst, scan, ContextFault, Hvm, Modern, Tools32, WordHigh, BadVcpuMax, BadToolstack, UnpairedIoreq, BadSignature, most_frames, legacy_type, words, first_place, first_word, none_pass, place_is_first, sent, emulators_of, most_pairs, spelled_with, is_reserved, is_high, fault_of_batch, kind_of, IsNumberOf, toolstack, toolstack_fault, is_modern, is_unpaired, frames_sent, kind_rows, fault_of_kind, fault_of_start, fault_of_counted, fault_of_max, fault_of_toolstack, fault_of_signature, context_fault, signature, has_value, image_records, is_end, store_key, store_records, pairs_of_physmap, Physmap, numbers_have_kinds, kinds_have_numbers, toolstack_spelled, StartHas, NumberHas, TypeHas, WordsHave, MaxHas, LegacyLengthHas, ToolstackHas, LegacyContextHas, SignatureHas, LegacyTruncated, LegacyBadPageType, LegacyBadContext, LegacyTooManyFrames, LegacyBodyTooLong, LegacyTooManyPairs, LastChunk}
 use Rattle.std.specs.FinMap as maps
-use Rattle.mig_headers.specs.declared.legacy_fault.LegacyCause.TheVariants.{Truncated, BadPageType, BadContext, TooManyFrames, BodyTooLong, TooManyPairs}
-use Rattle.mig_headers.proofs.FirstCauses as first
-use Rattle.mig_legacy.specs.declared.chunk.ChunkKind.TheVariants.{End}
+use Rattle.mig_headers.proofs.FirstCauses as firsts
 use Rattle.mig_refusals.proofs.ContextEntries.{found_has, reached_chain}
 use Rattle.mig_refusals.proofs.LibxcCauses.{scan_finds, scanned}
 use Rattle.mig_refusals.specs.Legacy.{StartHas as starts, TypeHas as types, LegacyPart as parts}
@@ -20,10 +18,10 @@ use Rattle.mig_refusals.proofs.LegacyNumbers.{decided, low_cause, number_found}
 
 -- what a computed fault is of the causes that stand
 abbrev pub Named : (LegacyCause → Type 0) → Option LegacyCause → Type 0
-Named = first.Named number_of_legacy_cause word_place
+Named = firsts.Named number_of_legacy_cause word_place
 
 abbrev RowHas : List (Bool × LegacyCause) → LegacyCause → Type 0
-RowHas = first.RowHas number_of_legacy_cause word_place
+RowHas = firsts.RowHas number_of_legacy_cause word_place
 
 -- a cause that is tried before another, or is that one
 abbrev Leads : LegacyCause → LegacyCause → Type 0
@@ -44,7 +42,7 @@ module _ (bytes : List ℕ) where
   start_from _ (starts.narrow_tools h) = inr (inl (ap not (ne_eqb _ _ h), refl))
 
   start_named : Named (StartHas bytes) (fault_of_start bytes)
-  start_named = first.rows_name _ _ (StartHas bytes) start_rows refl (modern, ((λ h. starts.narrow_tools (eqb-false _ _ (not-true _ h))), tt)) start_from
+  start_named = firsts.rows_name _ _ (StartHas bytes) start_rows refl (modern, ((λ h. starts.narrow_tools (eqb-false _ _ (not-true _ h))), tt)) start_from
 
 -- ---- the type of a chunk
 
@@ -62,8 +60,8 @@ abbrev pub type_fault : List LegacyChunk → Result ChunkKind LegacyCause → Op
 type_fault chunks (Err c) = Some c
 type_fault chunks (Ok kind) = fault_of_kind chunks kind
 
-end_is : (kind : ChunkKind) → is_end kind ≡ true → kind ≡ End
-end_is End h = refl
+end_is : (kind : ChunkKind) → is_end kind ≡ true → kind ≡ LastChunk
+end_is LastChunk h = refl
 end_is _ h = absurd (false≢true h)
 
 differing : (b d : Bool) → (b ≡ d → ⊥) → cond b (not d) d ≡ true
@@ -91,12 +89,12 @@ module _ (chunks : List LegacyChunk) (n : ℕ) where
     at_end h = subst (λ k. IsNumberOf k n) (end_is kind h) (kinds_have_numbers n kind is)
 
     ends : n ≡ 0 → is_end kind ≡ true
-    ends zero = ap is_end (same_ok kind End (sym is ∙ numbers_have_kinds End n zero))
+    ends zero = ap is_end (same_ok kind LastChunk (sym is ∙ numbers_have_kinds LastChunk n zero))
 
     to_unpaired : (is_end kind && is_unpaired chunks) ≡ true → Has UnpairedIoreq
     to_unpaired h = let b = and_parts _ _ h in types.unpaired (at_end b.0) (unlike (has_value 32 chunks) (has_value 33 chunks) b.1)
 
-    to_many : (is_end kind && nat_lt most_frames (frames_sent chunks)) ≡ true → Has TooManyFrames
+    to_many : (is_end kind && nat_lt most_frames (frames_sent chunks)) ≡ true → Has LegacyTooManyFrames
     to_many h = let b = and_parts _ _ h in types.too_many_frames (at_end b.0) (subst (λ m. most_frames < m) (maps.len-entries (sent Hvm (image_records chunks)).frames) (ltb-true _ _ b.1))
 
     kind_from : (c : LegacyCause) → Has c → RowHas (kind_rows chunks kind) c
@@ -107,7 +105,7 @@ module _ (chunks : List LegacyChunk) (n : ℕ) where
 
     of_ok : Named Has (fault_of_kind chunks kind)
     unfolding fault_of_kind
-    of_ok = first.rows_name _ _ Has (kind_rows chunks kind) refl (to_unpaired, ((λ h. types.too_many_chunks (leb-true _ _ h)), (to_many, tt))) kind_from
+    of_ok = firsts.rows_name _ _ Has (kind_rows chunks kind) refl (to_unpaired, ((λ h. types.too_many_chunks (leb-true _ _ h)), (to_many, tt))) kind_from
 
   type_named : Named Has (type_fault chunks (kind_of n))
   type_named = elim (decided n) [
@@ -129,16 +127,16 @@ module _ (ws : List ℕ) where
   least say k place before never = elim (cases_order k place) [ inl e ↦ inr (ap say (sym e)) | inr other ↦ elim other [ inl below ↦ inl (before below) | inr above ↦ absurd (never above) ] ]
 
   words_by : (a b : Bool) → list_any is_reserved ws ≡ a → list_any is_high ws ≡ b
-      → Named (WordsHave ws) (first_fault ((a, BadPageType (first_place is_reserved ws) (legacy_type (first_word is_reserved ws))) ∷ (b, WordHigh (first_place is_high ws)) ∷ []))
+      → Named (WordsHave ws) (first_fault ((a, LegacyBadPageType (first_place is_reserved ws) (legacy_type (first_word is_reserved ws))) ∷ (b, WordHigh (first_place is_high ws)) ∷ []))
   words_by true b any some =
       let f = place_is_first is_reserved ws any in
       let t = and_parts _ _ f.passes in
       record { holds = (reserved_type (first_place is_reserved ws) f.within (leb-true _ _ t.0) (leb-true _ _ t.1), others) }
     where
-      others : (d : LegacyCause) → WordsHave ws d → Leads (BadPageType (first_place is_reserved ws) (type_at (first_place is_reserved ws))) d
+      others : (d : LegacyCause) → WordsHave ws d → Leads (LegacyBadPageType (first_place is_reserved ws) (type_at (first_place is_reserved ws))) d
       others _ (not_zero place less high) = inl (inl (omega arith))
       others _ (reserved_type place less low high) =
-          least (λ k. BadPageType k (type_at k)) (first_place is_reserved ws) place (λ below. inr (refl, below)) (λ above. both_ways _ ((place_is_first is_reserved ws any).none_before place above) (reserved_passes place low high))
+          least (λ k. LegacyBadPageType k (type_at k)) (first_place is_reserved ws) place (λ below. inr (refl, below)) (λ above. both_ways _ ((place_is_first is_reserved ws any).none_before place above) (reserved_passes place low high))
   words_by false true none any = let f = place_is_first is_high ws any in record { holds = (not_zero (first_place is_high ws) f.within (leb-true _ _ f.passes), others) }
     where
       others : (d : LegacyCause) → WordsHave ws d → Leads (WordHigh (first_place is_high ws)) d
@@ -156,19 +154,19 @@ module _ (ws : List ℕ) where
 -- ---- lengths, the greatest vCPU id, and the signature
 
 max_named : (bytes : List ℕ) → Named (MaxHas bytes) (fault_of_max bytes)
-max_named bytes = first.rows_name _ _ (MaxHas bytes) ((nat_le 4096 (le32 bytes 0), BadVcpuMax (le32 bytes 0)) ∷ []) refl ((λ h. too_great (leb-true _ _ h)), tt) from
+max_named bytes = firsts.rows_name _ _ (MaxHas bytes) ((nat_le 4096 (le32 bytes 0), BadVcpuMax (le32 bytes 0)) ∷ []) refl ((λ h. too_great (leb-true _ _ h)), tt) from
   where
     from : (c : LegacyCause) → MaxHas bytes c → RowHas ((nat_le 4096 (le32 bytes 0), BadVcpuMax (le32 bytes 0)) ∷ []) c
     from _ (too_great h) = inl (le-leb _ _ h, refl)
 
 length_named : (most : ℕ) (bytes : List ℕ) → Named (LegacyLengthHas most bytes) (fault_of_counted most bytes)
-length_named most bytes = first.rows_name _ _ (LegacyLengthHas most bytes) ((nat_lt most (le32 bytes 0), BodyTooLong (le32 bytes 0)) ∷ []) refl ((λ h. too_long (ltb-true _ _ h)), tt) from
+length_named most bytes = firsts.rows_name _ _ (LegacyLengthHas most bytes) ((nat_lt most (le32 bytes 0), LegacyBodyTooLong (le32 bytes 0)) ∷ []) refl ((λ h. too_long (ltb-true _ _ h)), tt) from
   where
-    from : (c : LegacyCause) → LegacyLengthHas most bytes c → RowHas ((nat_lt most (le32 bytes 0), BodyTooLong (le32 bytes 0)) ∷ []) c
+    from : (c : LegacyCause) → LegacyLengthHas most bytes c → RowHas ((nat_lt most (le32 bytes 0), LegacyBodyTooLong (le32 bytes 0)) ∷ []) c
     from _ (too_long h) = inl (lt-ltb _ _ h, refl)
 
 signature_named : (bytes : List ℕ) → Named (SignatureHas bytes) (fault_of_signature bytes)
-signature_named bytes = first.rows_name _ _ (SignatureHas bytes) ((not (bytes_eq bytes signature), BadSignature) ∷ []) refl ((λ h. other_bytes (other h)), tt) from
+signature_named bytes = firsts.rows_name _ _ (SignatureHas bytes) ((not (bytes_eq bytes signature), BadSignature) ∷ []) refl ((λ h. other_bytes (other h)), tt) from
   where
     other : not (bytes_eq bytes signature) ≡ true → bytes ≡ signature → ⊥
     other h e = both_ways _ (not-true _ h) ((bytes_eq-Decides bytes signature).1 e)
@@ -186,16 +184,16 @@ module _ (chunks : List LegacyChunk) (body : List ℕ) where
   abbrev size_with : List Physmap → ℕ
   size_with es = spelled_with (emulators_of (store_records chunks)) store_key (flat_map pairs_of_physmap es)
 
-  toolstack_by : (f : Option ℕ) → toolstack_fault body ≡ f → Named (ToolstackHas chunks body) (option_or (option_map BadToolstack f) (first_fault ((nat_lt most_pairs (size_with (toolstack body)), TooManyPairs) ∷ [])))
+  toolstack_by : (f : Option ℕ) → toolstack_fault body ≡ f → Named (ToolstackHas chunks body) (option_or (option_map BadToolstack f) (first_fault ((nat_lt most_pairs (size_with (toolstack body)), LegacyTooManyPairs) ∷ [])))
   toolstack_by (Some offset) is = record { holds = (wrong_field offset (found_field body offset is), others) }
     where
       others : (d : LegacyCause) → ToolstackHas chunks body d → Leads (BadToolstack offset) d
       others _ (wrong_field other also) = inr (ap BadToolstack (same_Some other offset (sym (field_found body other also) ∙ is)))
       others _ (too_many_pairs es spelled more) = inl (inl (omega arith))
   toolstack_by None is =
-      first.rows_name _ _ (ToolstackHas chunks body) ((nat_lt most_pairs (size_with (toolstack body)), TooManyPairs) ∷ []) refl ((λ long. too_many_pairs (toolstack body) ((toolstack_spelled body).faultless is) (ltb-true _ _ long)), tt) from
+      firsts.rows_name _ _ (ToolstackHas chunks body) ((nat_lt most_pairs (size_with (toolstack body)), LegacyTooManyPairs) ∷ []) refl ((λ long. too_many_pairs (toolstack body) ((toolstack_spelled body).faultless is) (ltb-true _ _ long)), tt) from
     where
-      from : (d : LegacyCause) → ToolstackHas chunks body d → RowHas ((nat_lt most_pairs (size_with (toolstack body)), TooManyPairs) ∷ []) d
+      from : (d : LegacyCause) → ToolstackHas chunks body d → RowHas ((nat_lt most_pairs (size_with (toolstack body)), LegacyTooManyPairs) ∷ []) d
       from _ (wrong_field other also) = absurd (none-some other (sym is ∙ field_found body other also))
       from _ (too_many_pairs es spelled more) = inl (lt-ltb _ _ (subst (λ ps. most_pairs < size_with ps) (sym ((toolstack_spelled body).spelled es spelled).1) more), refl)
 
@@ -212,7 +210,7 @@ module _ (body : List ℕ) where
       never _ (wrong_entry p other chain h) = let no : ◌≡◌ {A = Result ℕ ContextFault} (Err other) (Ok end) = scan_finds body p other chain h ∙ is in cc
   context_by (Err fault) is = let s = scanned body fault is in record { holds = (wrong_entry s.0 fault (reached_chain body s.0 s.1) (found_has body s.0 fault s.2), others) }
     where
-      others : (d : LegacyCause) → LegacyContextHas body d → Leads (BadContext fault) d
+      others : (d : LegacyCause) → LegacyContextHas body d → Leads (LegacyBadContext fault) d
       others _ (wrong_entry p other chain h) = let same : ◌≡◌ {A = Result ℕ ContextFault} (Err other) (Err fault) = scan_finds body p other chain h ∙ is in inr (cc)
 
 -- ---- all parts
@@ -242,5 +240,5 @@ part_is_named (Context len) bytes = context_by bytes (scan bytes) refl
 part_is_named Signature bytes = signature_named bytes
 part_is_named (Plain n) bytes = record { holds = λ c h. h }
 
-abbrev pub tries : (p : LegacyPart) → Tries Truncated (legacy_size p) (StandsInLegacy p) (λ bytes. IsTriedFirst number_of_legacy_cause word_place (StandsInLegacy p bytes))
-tries p = tries_first number_of_legacy_cause word_place Truncated (legacy_size p) (StandsInLegacy p) (fault_in p) (part_is_named p)
+abbrev pub tries : (p : LegacyPart) → Tries LegacyTruncated (legacy_size p) (StandsInLegacy p) (λ bytes. IsTriedFirst number_of_legacy_cause word_place (StandsInLegacy p bytes))
+tries p = tries_first number_of_legacy_cause word_place LegacyTruncated (legacy_size p) (StandsInLegacy p) (fault_in p) (part_is_named p)

@@ -1,6 +1,5 @@
 -- The causes that stand in the number of a chunk's type.
-use Rattle.mig_refusals.proofs.Common.{◌≡◌, ◌⊎◌, inl, inr, ℕ, ◌<◌, ◌≤◌, ◌^◌, Bool, true, false, nat_eq, nat_le, nat_lt, Result, Ok, Err, refl, sym, ap, and_parts, leb-true, ◌&&◌, ◌||◌, ◌∙◌, arith, common_steps, cases_eq, cases_lt, ne_eqb, LegacyCause, ChunkKind, number_of_legacy_cause, agree_below_at, is_err, VerifyOrPv, Tmem, Compressed, UnknownChunk, BatchTooLarge, negative, negative_kind, kind_of, Batch, numbers_have_kinds, NumberHas}
-use Rattle.mig_legacy.specs.declared.chunk.ChunkKind.TheVariants.{End}
+use Rattle.mig_refusals.proofs.Common.{◌≡◌, ◌⊎◌, inl, inr, ℕ, ◌<◌, ◌≤◌, ◌^◌, Bool, true, false, nat_eq, nat_le, nat_lt, Result, Ok, Err, refl, sym, ap, and_parts, leb-true, ◌&&◌, ◌||◌, ◌∙◌, arith, common_steps, cases_eq, cases_lt, ne_eqb, LegacyCause, ChunkKind, number_of_legacy_cause, agree_below_at, is_err, VerifyOrPv, Tmem, Compressed, UnknownChunk, BatchTooLarge, negative, negative_kind, kind_of, Batch, numbers_have_kinds, NumberHas, LastChunk}
 use Rattle.mig_refusals.specs.Legacy.NumberHas.{verify_or_pv, tmem, compressed, unknown, too_large}
 
 -- a number is that of a chunk, or a cause stands in it, which is the answer
@@ -72,7 +71,7 @@ pub decided : (n : ℕ) → Decided n
 decided n = elim (cases_lt n (2 ^ 31)) [
   | inr high ↦ decided_by n high (negative_kind (negative n)) refl
   | inl low ↦ elim (cases_eq n 0) [
-    | inl zero ↦ inl (End, numbers_have_kinds End n zero)
+    | inl zero ↦ inl (LastChunk, numbers_have_kinds LastChunk n zero)
     | inr some ↦ elim (cases_lt 1024 n) [ inl above ↦ inr (BatchTooLarge n, too_large above low, large n above low) | inr few ↦ inl (Batch n, numbers_have_kinds (Batch n) n (refl, grind (arith, some), few)) ]
   ]
 ]

@@ -1,9 +1,6 @@
 -- A legacy stream is refused in words exactly where judging refuses it.
-use Rattle.mig_refusals.proofs.Common.{◌≡◌, inl, inr, ℕ, ◌^◌, ◌-◌, ◌<◌, List, [], ◌∷◌, ◌++◌, length, true, Option, None, refl, sym, ap, ◌∙◌, arith, append_assoc, length-append, not, not-false, Some, Judged, placed, plain_at, said_at, Passes, Faulty, bind_cases, only_first, passes_not, placed_faulty, placed_passes, then_faulty, then_passes, le32, LegacyCause, LegacyPlace, LegacyChunk, LegacyPart, IsFaultlessLegacyPart, LegacyPartFails, bytes_eq, bytes_eq-Decides, Spells, AreJudged, HasOneRefusal, AreAllAcceptedOrRefused, IsNeverBoth, accepted_spelled, refused_stops, spelled_accepted, spelled_refused, rows_fine, BadSignature, start_at, chunk_at, signature, fault_of_signature, device_record_at, tail_at, tail_of, device_at, LegacyTail, is_legacy_ended, FollowsLegacy, IsStart, chunks_at, legacy_at, placed_chunk, IsLegacyRefused, counted_at, behind_chunks, behind_start, behind_tail, stream_of, fault_of_tail, some_device, start_passes, start_goes, tail_passes, tail_goes, BehindLegacy, InDevice, InTail, RefusedLegacy, SignatureHas}
-use Rattle.mig_headers.specs.declared.legacy_fault.LegacyCause.TheVariants.{Truncated}
+use Rattle.mig_refusals.proofs.Common.{◌≡◌, inl, inr, ℕ, ◌^◌, ◌-◌, ◌<◌, List, [], ◌∷◌, ◌++◌, length, true, Option, None, refl, sym, ap, ◌∙◌, arith, append_assoc, length-append, not, not-false, Some, Judged, placed, plain_at, said_at, Passes, Faulty, bind_cases, only_first, passes_not, placed_faulty, placed_passes, then_faulty, then_passes, le32, LegacyCause, LegacyPlace, LegacyChunk, LegacyPart, IsFaultlessLegacyPart, LegacyPartFails, bytes_eq, bytes_eq-Decides, Spells, AreJudged, HasOneRefusal, AreAllAcceptedOrRefused, IsNeverBoth, accepted_spelled, refused_stops, spelled_accepted, spelled_refused, rows_fine, BadSignature, start_at, chunk_at, signature, fault_of_signature, device_record_at, tail_at, tail_of, device_at, LegacyTail, is_legacy_ended, FollowsLegacy, IsStart, chunks_at, legacy_at, placed_chunk, IsLegacyRefused, counted_at, behind_chunks, behind_start, behind_tail, stream_of, fault_of_tail, some_device, start_passes, start_goes, tail_passes, tail_goes, BehindLegacy, InDevice, InTail, RefusedLegacy, SignatureHas, LegacyTruncated, legacy_finds, legacy_goes, legacy_not_ended, AcceptedLegacy}
 use Rattle.mig_headers.specs.declared.legacy_fault.LegacyPlace.TheVariants as places
-use Rattle.mig_legacy.proofs.ChunkTexts.{finds, goes, not_ended}
-use Rattle.mig_legacy.specs.Spelled.{AcceptedLegacy}
 use Rattle.mig_legacy.proofs.Laws.{accepted_or_refused as judged, never_both as never_judged}
 use Rattle.mig_refusals.proofs.Laws.{accepted_or_refused, never_both, one_refusal}
 use Rattle.mig_refusals.specs.Legacy.SignatureHas.{other_bytes}
@@ -18,13 +15,13 @@ use Rattle.mig_refusals.proofs.Parts.{fails_said, faultless, fine, found_next, f
 -- ---- the tail, and the device model's record
 
 abbrev frames_at : List ℕ → Judged LegacyCause (List ℕ)
-frames_at i = plain_at Truncated (λ bytes. bytes) 24 i
+frames_at i = plain_at LegacyTruncated (λ bytes. bytes) 24 i
 
 abbrev behind_frames : List ℕ × List ℕ → Judged LegacyCause LegacyTail
 behind_frames frames = counted_at (2 ^ 27) fault_of_tail (tail_of frames.0) frames.1
 
 abbrev signature_at : List ℕ → Judged LegacyCause (List ℕ)
-signature_at i = said_at Truncated fault_of_signature (λ bytes. bytes) (length signature) i
+signature_at i = said_at LegacyTruncated fault_of_signature (λ bytes. bytes) (length signature) i
 
 abbrev behind_signature : List ℕ × List ℕ → Judged LegacyCause (Option (List ℕ))
 behind_signature first = counted_at (2 ^ 27 - 8) (λ _. None) Some first.1
@@ -128,12 +125,12 @@ module _ (input : List ℕ) (place : LegacyPlace) (c : LegacyCause) (rest : List
   chunks_refusal : (start left : List ℕ) → IsStart start → input ≡ start ++ left → behind_start (start, left) ≡ Faulty (place, c) rest → RefusedLegacy input place c rest
   chunks_refusal start left is whole h = elim (bind_cases (chunks_at left) behind_chunks (place, c) rest h) [
     | inl e ↦
-        let s = refused_stops is_legacy_ended placed_chunk FollowsLegacy finds left (place, c) rest e in
+        let s = refused_stops is_legacy_ended placed_chunk FollowsLegacy legacy_finds left (place, c) rest e in
         let p = placed_faulty (places.Chunk (length s.parts)) place (chunk_at s.parts s.left) c rest s.fails in
         refusal (λ l. start ++ (s.bytes ++ l)) (places.Chunk (length s.parts)) s.left (whole ∙ ap (λ l. start ++ l) s.whole) (joined start s.bytes) p.1
         (λ before part inside. in_chunk start s.bytes before s.parts part is s.spelled s.going inside) (chunk_fails s.parts c rest s.left p.0)
     | inr a ↦
-        let (bytes, all, spelled, ended) = accepted_spelled is_legacy_ended placed_chunk FollowsLegacy finds left a.0 a.1 a.2 in
+        let (bytes, all, spelled, ended) = accepted_spelled is_legacy_ended placed_chunk FollowsLegacy legacy_finds left a.0 a.1 a.2 in
         tail_refusal start bytes a.1 a.0 is spelled ended (whole ∙ ap (λ l. start ++ l) all) a.3
   ]
 
@@ -154,7 +151,7 @@ starts start i is = then_passes (placed places.Start (start_at (start ++ i))) be
 
 chunks_go : (start bytes i : List ℕ) (chunks : List LegacyChunk) → IsStart start → Spells FollowsLegacy bytes chunks → is_legacy_ended chunks ≡ true → legacy_at (start ++ (bytes ++ i)) ≡ behind_chunks (chunks, i)
 chunks_go start bytes i chunks is spelled ended =
-    starts start (bytes ++ i) is ∙ then_passes (chunks_at (bytes ++ i)) behind_chunks chunks i _ (spelled_accepted is_legacy_ended placed_chunk FollowsLegacy finds goes not_ended bytes chunks i spelled ended) refl
+    starts start (bytes ++ i) is ∙ then_passes (chunks_at (bytes ++ i)) behind_chunks chunks i _ (spelled_accepted is_legacy_ended placed_chunk FollowsLegacy legacy_finds legacy_goes legacy_not_ended bytes chunks i spelled ended) refl
 
 behind_refused : (front : List ℕ) (place : LegacyPlace) (p : LegacyPart) (left : List ℕ) (c : LegacyCause) (rest : List ℕ) → BehindLegacy front place p → (p ≡ Signature → 0 < length left) → LegacyPartFails p left c rest → legacy_at (front ++ left) ≡ Faulty (place, c) rest
 unfolding legacy_at
@@ -164,7 +161,7 @@ behind_refused _ _ _ left c rest (in_chunk start bytes before chunks p is spelle
     ap legacy_at (sym (joined start bytes before left))
     ∙ starts start (bytes ++ (before ++ left)) is
     ∙ then_faulty (chunks_at (bytes ++ (before ++ left))) behind_chunks (place, c) rest
-    (spelled_refused is_legacy_ended placed_chunk FollowsLegacy finds goes not_ended bytes (before ++ left) chunks (place, c) rest spelled going (ap (placed place) (chunk_refused chunks c rest before p left inside fails)))
+    (spelled_refused is_legacy_ended placed_chunk FollowsLegacy legacy_finds legacy_goes legacy_not_ended bytes (before ++ left) chunks (place, c) rest spelled going (ap (placed place) (chunk_refused chunks c rest before p left inside fails)))
 behind_refused _ _ _ left c rest (in_tail start bytes before chunks p is spelled ended inside) begun fails =
     ap legacy_at (sym (joined start bytes before left))
     ∙ chunks_go start bytes (before ++ left) chunks is spelled ended

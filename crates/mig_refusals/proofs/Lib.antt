@@ -5,6 +5,7 @@ pub mod Laws
 pub mod Least
 pub mod Parts
 pub mod Ranks
+pub mod Tests
 pub mod LibxcCauses
 pub mod LibxcHeads
 pub mod LibxcRecords
@@ -13,7 +14,6 @@ pub mod PvGuests
 pub mod PvTables
 pub mod PvWhole
 pub mod StreamCauses
-pub mod StreamFronts
 pub mod StreamRecords
 pub mod StreamVerdicts
 pub mod LegacyBodies

@@ -1,13 +1,7 @@
 -- A record that fails: the part in which it fails, and the parts before it.
-use Rattle.mig_refusals.proofs.Common.{◌≡◌, ◌⊎◌, inl, inr, ℕ, ◌+◌, ◌*◌, ◌/◌, List, [], ◌∷◌, ◌++◌, Bool, true, false, not, nat_eq, zero, suc, drop, length, Option, Some, None, refl, sym, ap, subst, ◌∙◌, arith, append_assoc, eqb-true, not-true, false≢true, le32, Judged, ◌>>=◌, part, tried, Passes, Faulty, part_whole, then_passes, both_pass, part_passes, tried_passes, same_passes, Cause, Kind, common_steps, type_allows, Opening, Before, before, record_at, next_at, body_at, typed_at, coded_at, code_of_type, said_at, entries_at, words_at, fault_of_head, fault_of_data, LibxcPart, PagesTo, IsFaultlessLibxcPart, LibxcPartFails, then_faulty, bind_cases, passes_not, only_first, InPages, body_part, libxc_size, InBody, Within, end_record, padding_len, IsLeastPadding, each, record_row_of, type_number, type_of_number, RecordType, PageData, X86PvInfo, X86PvP2mFrames, GuestOf, PartCode, VcpuBasic, VcpuExtended, VcpuXsave, HvmContext, HvmParam, VcpuMsrs, code_number, is_vcpu, fault_of_vcpu, vcpu_rows, Layout, Shape, Table, Single, Other, entry_width, front_width, fault_of_key, fault_of_entries, entry_count, shape_of, has_shape, fault_by_shape, fault_of_body, parts_of_body, length_passes, neither_some, IsInOrder, words, fault_of_guest, lists_of, sent, StreamRecord, FrameEntry, Content, Sets, behind_body, head_stage, asks, behind_record, taken, behind_good, words_stage, entries_in_place, other_entries, each_stage, coded_is, shaped_code, optional_at, FailsBehind}
-use Rattle.mig_headers.specs.declared.fault.Cause.TheVariants.{Truncated}
+use Rattle.mig_refusals.proofs.Common.{◌≡◌, ◌⊎◌, inl, inr, ℕ, ◌+◌, ◌*◌, ◌/◌, List, [], ◌∷◌, ◌++◌, Bool, true, false, not, nat_eq, zero, suc, drop, length, Option, Some, None, refl, sym, ap, subst, ◌∙◌, arith, append_assoc, eqb-true, not-true, false≢true, le32, Judged, ◌>>=◌, part, tried, Passes, Faulty, part_whole, then_passes, both_pass, part_passes, tried_passes, same_passes, Cause, Kind, common_steps, type_allows, Opening, Before, before, record_at, next_at, body_at, typed_at, coded_at, code_of_type, said_at, entries_at, words_at, fault_of_head, fault_of_data, LibxcPart, PagesTo, IsFaultlessLibxcPart, LibxcPartFails, then_faulty, bind_cases, passes_not, only_first, InPages, body_part, libxc_size, InBody, Within, end_record, padding_len, IsLeastPadding, each, record_row_of, type_number, type_of_number, RecordType, PageData, X86PvInfo, X86PvP2mFrames, GuestOf, PartCode, VcpuBasic, VcpuExtended, VcpuXsave, HvmContext, HvmParam, VcpuMsrs, code_number, is_vcpu, fault_of_vcpu, vcpu_rows, Layout, Shape, Table, Single, Other, entry_width, front_width, fault_of_key, fault_of_entries, entry_count, shape_of, has_shape, fault_by_shape, fault_of_body, parts_of_body, length_passes, neither_some, IsInOrder, words, fault_of_guest, lists_of, sent, StreamRecord, FrameEntry, Content, Sets, behind_body, head_stage, asks, behind_record, taken, behind_good, words_stage, entries_in_place, other_entries, each_stage, coded_is, shaped_code, optional_at, FailsBehind, Truncated, Nothing, Frames, behind_head, behind_words, entry_of, body_says, body_goes, body_type_at, fields_fine}
 use Rattle.mig_guest.proofs.PartRows.{number_found}
 use Rattle.mig_order.specs.Order.{IsInOrder as order}
-use Rattle.mig_restore.specs.Record.Content.{Nothing, Frames}
-use Rattle.mig_restore.proofs.Parts.{behind_head}
-use Rattle.mig_restore.proofs.Batches.{behind_words, entry_of}
-use Rattle.mig_restore.proofs.Bodies.{body_says, body_goes, type_at}
-use Rattle.mig_restore.proofs.Laws.{fields_fine}
 use Rattle.mig_refusals.specs.Libxc.LibxcPart.{Head, PagesFront, PagesWords, PagesLength, Page, InfoBody, P2mBody, OtherBody, Padding, WholeGuest}
 use Rattle.mig_refusals.specs.Libxc.PagesTo.{next_page, one_page}
 use Rattle.mig_refusals.specs.Libxc.InPages.{at_front, at_words, at_length, at_page}
@@ -173,7 +167,7 @@ module _ (kind : Kind) (top len : ℕ) where
   body_down _ _ _ left c rest allowed at_p2m_frames h = stage_fails (tries (P2mBody len)) (λ b r. Passes (lists_of b) r) left c rest h
   body_down _ _ _ left c rest allowed (of_code this code is other) h =
       let shaped = shaped_code this code is other in
-      type_at kind top this len left ∙ coded_is kind top this code len left is shaped
+      body_type_at kind top this len left ∙ coded_is kind top this code len left is shaped
       ∙ sym (code_part (says_parts code) len left code shaped (of_this_length this code is allowed)) ∙ stage_fails (tries (body_part code len)) (λ b r. Passes (says_parts code b) r) left c rest h
   body_down _ _ _ left c rest allowed (optional type above) h = optional_at kind top type len left above ∙ stage_fails (tries (OtherBody len)) (λ b r. Passes Nothing r) left c rest h
 
@@ -202,7 +196,7 @@ module _ (kind : Kind) (top len : ℕ) where
         said_up type (OtherBody len) (λ _. Nothing) (optional type above) (sym (optional_at kind top type len i above) ∙ h)
     body_up version types type (order.ordered this is s k keeps) allowed h =
         subst (λ t. Fault t i c rest) (sym is)
-        (this_up this (subst (λ t. type_allows (type_of_number t) len ≡ true) is allowed) (sym (type_at kind top this len i) ∙ subst (λ t. body_at kind top t len i ≡ Faulty c rest) is h))
+        (this_up this (subst (λ t. type_allows (type_of_number t) len ≡ true) is allowed) (sym (body_type_at kind top this len i) ∙ subst (λ t. body_at kind top t len i ≡ Faulty c rest) is h))
 
 -- ---- a record
 

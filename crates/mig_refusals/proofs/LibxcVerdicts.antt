@@ -1,8 +1,6 @@
 -- An input is refused as the format's words say exactly where judging refuses it.
-use Rattle.mig_refusals.proofs.Common.{◌≡◌, inl, inr, ℕ, List, [], ◌++◌, length, refl, sym, ap, ◌∙◌, append_assoc, le32, be32, ◌>>=◌, placed, Passes, Faulty, then_passes, then_faulty, bind_cases, passes_not, only_first, placed_faulty, Cause, Opening, before, next_at, marker_goes, image_header_goes, headers_go, LibxcPart, IsOpen, BehindLibxc, RefusedLibxc, LibxcPartFails, Within, AreJudged, HasOneRefusal, AreAllAcceptedOrRefused, IsNeverBoth, refused_stops, spelled_refused, sequence_at, kind_of_number, Place, ImageHeader, DomainHeader, Record, StreamRecord, is_ended, Follows, image_of, placed_next, records_at, opening_at, image_at, IsRefused, going, image_header, behind_marker, behind_version}
-use Rattle.mig_restore.proofs.Converse.{goes, accepted_or_refused as judged, never_both as never_judged}
-use Rattle.mig_restore.proofs.Laws.{finds, behind_kind, opened}
-use Rattle.mig_restore.specs.Spelled.{Accepted}
+use Rattle.mig_refusals.proofs.Common.{◌≡◌, inl, inr, ℕ, List, [], ◌++◌, length, refl, sym, ap, ◌∙◌, append_assoc, le32, be32, ◌>>=◌, placed, Passes, Faulty, then_passes, then_faulty, bind_cases, passes_not, only_first, placed_faulty, Cause, Opening, before, next_at, marker_goes, image_header_goes, headers_go, LibxcPart, IsOpen, BehindLibxc, RefusedLibxc, LibxcPartFails, Within, AreJudged, HasOneRefusal, AreAllAcceptedOrRefused, IsNeverBoth, refused_stops, spelled_refused, sequence_at, kind_of_number, Place, ImageHeader, DomainHeader, Record, StreamRecord, is_ended, Follows, image_of, placed_next, records_at, opening_at, image_at, IsRefused, going, image_header, behind_marker, behind_version, goes, finds, behind_kind, stream_opened, Accepted}
+use Rattle.mig_restore.proofs.Converse.{accepted_or_refused as judged, never_both as never_judged}
 use Rattle.mig_refusals.proofs.Laws.{accepted_or_refused, never_both, one_refusal}
 use Rattle.mig_refusals.specs.Libxc.LibxcPart.{Marker, HeaderRest, Domain}
 use Rattle.mig_refusals.specs.Libxc.BehindLibxc.{at_marker, at_header, at_domain, in_record, at_guest}
@@ -67,7 +65,7 @@ module _ (input : List ℕ) (place : Place) (c : Cause) (rest : List ℕ) where
 
   records_fail : (o : Opening) (i : List ℕ) → opening_at input ≡ Passes o i → records_at o i ≡ Faulty (place, c) rest → RefusedLibxc input place c rest
   records_fail o i opens h =
-      let w = opened input o i opens in
+      let w = stream_opened input o i opens in
       let s = refused_stops is_ended (placed_next o) (Follows o) (finds o) i (place, c) rest (only_first (image_of o) (sequence_at is_ended (placed_next o) i) (place, c) rest h) in
       let at = Record (length s.parts) in
       let n = placed_faulty at place (next_at o s.parts s.left) c rest s.fails in

@@ -1,18 +1,13 @@
 -- The causes that stand in a whole PV guest.
-use Rattle.mig_refusals.proofs.Common.{◌≡◌, ◌⊎◌, inl, inr, ℕ, ◌+◌, ◌*◌, ◌<◌, List, length, Bool, true, false, cond, not, nat_lt, is_none, is_some, Option, Some, None, refl, sym, ap, subst, ◌∙◌, arith, ltb-true, lt-ltb, false≢true, eqb-true, eq-eqb, and_parts, and_from, or_cases, or_left, or_right, Cause, ◌==◌, ◌&&◌, ◌||◌, IsSome, find, nat_cmp_total, ranked, nat_cmp-IsAntisymmetric, list_any, range_with_len, option_map, Less, number_of_cause, Missing, P2mFrame, TargetAbsent, VcpuFrame, most_frames, level_of, PageType, Notab, FrameOf, FrameMap, GuestOf, p2m_key, PartMap, entry, PartKey, part_exact, part_total, slots, field_numbers, is_notab, is_needed, is_this, is_misplaced, find_p2m, find_slot, find_entry, is_absent, misfits, find_field, count_in, listed, counted, PvGuestHas, rank_of}
+use Rattle.mig_refusals.proofs.Common.{◌≡◌, ◌⊎◌, inl, inr, ℕ, ◌+◌, ◌*◌, ◌<◌, List, length, Bool, true, false, cond, not, nat_lt, is_none, is_some, Option, Some, None, refl, sym, ap, subst, ◌∙◌, arith, ltb-true, lt-ltb, false≢true, eqb-true, eq-eqb, and_parts, and_from, or_cases, or_left, or_right, Cause, ◌==◌, ◌&&◌, ◌||◌, IsSome, find, nat_cmp_total, ranked, nat_cmp-IsAntisymmetric, list_any, range_with_len, option_map, Less, number_of_cause, Missing, P2mFrame, TargetAbsent, VcpuFrame, most_frames, level_of, PageType, Notab, FrameOf, FrameMap, GuestOf, p2m_key, PartMap, entry, PartKey, part_exact, part_total, slots, field_numbers, is_notab, is_needed, is_this, is_misplaced, find_p2m, find_slot, find_entry, is_absent, misfits, find_field, count_in, listed, counted, PvGuestHas, rank_of, TooManyFrames, type_at}
 use Rattle.std.specs.FinMap as maps
-use Rattle.mig_headers.specs.declared.fault.Cause.TheVariants.{TooManyFrames}
-use Rattle.mig_pvtables.specs.Faults.{type_at}
 use Rattle.mig_refusals.specs.LibxcPv.PvGuestHas.{other_type, listed_twice}
 use Rattle.mig_refusals.proofs.Least.{Least, Alone, alone_least, turned}
+use Rattle.mig_refusals.proofs.Tests.{is_missing}
 use Rattle.mig_refusals.proofs.Ranks.{rank_lt}
 use Rattle.mig_refusals.proofs.Firsts.{Sought, sought_least, slot_least, field_least, InEntries, Rises, entries_least, some_passes, passes_some, twice_mapped, first_mapped}
 
 -- ---- causes that stand at one place
-
-pub is_missing : {X : Type 0} (o : Option X) → is_none o ≡ true → o ≡ None
-is_missing None h = refl
-is_missing (Some x) h = cc
 
 pub missing_least : (parts : PartMap) (key : PartKey) (place : ℕ) → Least (Alone (maps.get parts key ≡ None) place (Missing key.code)) (cond (is_none (maps.get parts key)) (Some (Missing key.code)) None)
 missing_least parts key place = alone_least _ place (Missing key.code) (is_none (maps.get parts key)) (is_missing (maps.get parts key)) (λ h. ap is_none h)

@@ -1,21 +1,13 @@
 -- The causes that stand in the page tables of a PV guest, and in the bodies of the records that only it has.
-use Rattle.mig_refusals.proofs.Common.{◌≡◌, ◌⊎◌, inl, inr, ℕ, ◌+◌, ◌*◌, ◌<◌, List, [], ◌∷◌, length, drop, Bool, true, false, nat_le, nat_lt, nat_eq, not, slice_index, refl, sym, ap, subst, ◌∙◌, arith, leb-true, ltb-true, eqb-true, eqb-false, ne_eqb, eq-eqb, le-leb, lt-ltb, not-true, and_parts, and_from, common_steps, le32, first_fault, Cause, ◌&&◌, number_of_cause, BadLength, Pv32, BadPvInfo, P2mStart, P2mRange, VcpuId, GdtEnts, pfn_limit, gdt_ents, PartCode, VcpuBasic, fault_of_pv_info, p2m_count, fault_of_p2m, fault_of_vcpu, long_at, entry, named_frame, Entry, Superpage, Frame, fault_of_page_table, is_superpage, names_above, TableHas, InfoHas, P2mHas, VcpuHas}
+use Rattle.mig_refusals.proofs.Common.{◌≡◌, ◌⊎◌, inl, inr, ℕ, ◌+◌, ◌*◌, ◌<◌, List, [], ◌∷◌, length, drop, Bool, true, false, nat_le, nat_lt, nat_eq, not, slice_index, refl, sym, ap, subst, ◌∙◌, arith, leb-true, ltb-true, eqb-true, eqb-false, ne_eqb, eq-eqb, le-leb, lt-ltb, and_parts, and_from, common_steps, le32, first_fault, Cause, ◌&&◌, number_of_cause, BadLength, Pv32, BadPvInfo, P2mStart, P2mRange, VcpuId, GdtEnts, pfn_limit, gdt_ents, PartCode, VcpuBasic, fault_of_pv_info, p2m_count, fault_of_p2m, fault_of_vcpu, long_at, entry, named_frame, Entry, Superpage, Frame, fault_of_page_table, is_superpage, names_above, TableHas, InfoHas, P2mHas, VcpuHas, table_entry_of}
 use Rattle.mig_headers.specs.declared.fault.Cause.TheVariants as causes
-use Rattle.mig_guest.specs.Tables.{entry_of}
 use Rattle.mig_refusals.specs.LibxcPv.TableHas.{superpage, outside}
 use Rattle.mig_refusals.specs.LibxcPv.InfoHas.{width_4, other_width, other_levels}
 use Rattle.mig_refusals.specs.LibxcPv.P2mHas.{bad_length, late_start, far_end}
 use Rattle.mig_refusals.specs.LibxcPv.VcpuHas.{vcpu_id, descriptors}
 use Rattle.mig_refusals.proofs.Least.{Least, RowHas, named, both_least}
+use Rattle.mig_refusals.proofs.Tests.{differs, test_differs}
 use Rattle.mig_refusals.proofs.Firsts.{Sought, slot_least}
-
--- ---- tests of numbers
-
-pub differs : (n m : ℕ) → not (nat_eq n m) ≡ true → n ≡ m → ⊥
-differs n m h = eqb-false n m (not-true _ h)
-
-pub test_differs : (n m : ℕ) → (n ≡ m → ⊥) → not (nat_eq n m) ≡ true
-test_differs n m h = ap not (ne_eqb n m h)
 
 -- ---- tables
 
@@ -24,8 +16,8 @@ large Superpage is = refl
 large _ is = cc
 
 -- the frame that an entry names
-framed : (level slot e n : ℕ) → entry_of level slot e ≡ Frame n → n ≡ named_frame e
-unfolding entry_of
+framed : (level slot e n : ℕ) → table_entry_of level slot e ≡ Frame n → n ≡ named_frame e
+unfolding table_entry_of
 framed level slot e n is = grind (arith, common_steps, is)
 
 above : (top : ℕ) (e : Entry) → names_above top e ≡ true → (n : ℕ) × (e ≡ Frame n) × (top < n)

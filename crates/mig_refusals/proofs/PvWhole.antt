@@ -1,11 +1,11 @@
 -- The judging of a whole PV guest names the least of the causes that stand in it.
-use Rattle.mig_refusals.proofs.Common.{◌≡◌, ◌⊎◌, inl, inr, ℕ, ◌+◌, ◌*◌, ◌<◌, length, true, not, Option, Some, None, refl, sym, ap, subst, ◌∙◌, arith, not-true, and_parts, and_from, option_or, Cause, IsTriedBefore, is_none, nat_cmp_total, nat_cmp-IsAntisymmetric, number_of_cause, Missing, Pv, most_frames, gdt_ents, FrameMap, GuestOf, p2m_key, vcpu_key, shared_key, entry, Entry, Frame, part_exact, part_total, first_cause, is_absent, faults_for, fault_of_guest, field_value, is_used, PvGuestHas, rank_of}
+use Rattle.mig_refusals.proofs.Common.{◌≡◌, ◌⊎◌, inl, inr, ℕ, ◌+◌, ◌*◌, ◌<◌, length, true, not, Option, Some, None, refl, sym, ap, subst, ◌∙◌, arith, not-true, and_parts, and_from, option_or, Cause, IsTriedBefore, is_none, nat_cmp_total, nat_cmp-IsAntisymmetric, number_of_cause, Missing, Pv, most_frames, gdt_ents, FrameMap, GuestOf, p2m_key, vcpu_key, shared_key, entry, Entry, Frame, part_exact, part_total, first_cause, is_absent, faults_for, fault_of_guest, field_value, is_used, PvGuestHas, rank_of, TooManyFrames}
 use Rattle.std.specs.FinMap as maps
-use Rattle.mig_headers.specs.declared.fault.Cause.TheVariants.{TooManyFrames}
 use Rattle.mig_refusals.specs.LibxcPv.PvGuestHas.{no_p2m, no_shared, no_vcpu, other_type, listed_twice, absent, field_misfits, many_frames}
 use Rattle.mig_refusals.proofs.Least.{Least, Alone, both_least, turned}
 use Rattle.mig_refusals.proofs.Firsts.{InEntries}
-use Rattle.mig_refusals.proofs.PvGuests.{is_missing, missing_least, many_least, AbsentAt, entries_are, MisfitAt, fields_are, P2mAt, p2m_are, misplaced_has, type_placed, twice_placed}
+use Rattle.mig_refusals.proofs.Tests.{is_missing}
+use Rattle.mig_refusals.proofs.PvGuests.{missing_least, many_least, AbsentAt, entries_are, MisfitAt, fields_are, P2mAt, p2m_are, misplaced_has, type_placed, twice_placed}
 
 -- ---- causes in a row
 

@@ -1,9 +1,7 @@
 -- The causes that stand in each part of a libxl stream around its image.
-use Rattle.mig_refusals.proofs.Common.{◌≡◌, ◌⊎◌, inl, inr, ℕ, ◌^◌, ◌≤◌, List, [], ◌∷◌, ◌++◌, drop, Bool, true, false, cond, nat_eq, nat_le, nat_lt, not, is_none, Option, Some, None, refl, sym, ap, subst, ◌∙◌, arith, leb-true, leb-false, ltb-true, eqb-true, eqb-false, eq-eqb, le-leb, lt-leb, lt-ltb, false≢true, not-true, and_parts, and_from, not_from_false, or_left, or_right, or_cases, le32, first_fault, Cause, BadLength, Kind, Pv, Hvm, IsTriedBefore, ◌&&◌, ◌||◌, none-some, same_Some, libxl_rows, fault_of_libxl, number_of_cause, BadPairs, BadKey, BadEmulator, EmulatorForPv, ContextCount, EmulatorIndex, IsTornAt, IsBadKeyAt, IsFirstFault, pairs_fault, first_fault_is_computed, ImageOf, LibxlRecord, has_emulator, image_among, EmulatorsOf, pairs_in, emulator_key, is_pv, is_pv_kind, is_miscounted, allows_length, field_rows, order_rows, fault_of_libxl_fields, fault_of_order, fault_of_libxl_head, most_pairs, spelled_with, fault_of_pairs, fault_of_context, join, LibxlHeaderHas, LibxlHeadHas, PairsHas, EmulatorContextHas, WrapperPart, StandsInWrapper, wrapper_size}
-use Rattle.mig_headers.specs.declared.fault.Cause.TheVariants.{TooManyPairs}
+use Rattle.mig_refusals.proofs.Common.{◌≡◌, ◌⊎◌, inl, inr, ℕ, ◌^◌, ◌≤◌, List, [], ◌∷◌, ◌++◌, drop, Bool, true, false, cond, nat_eq, nat_le, nat_lt, not, is_none, Option, Some, None, refl, sym, ap, subst, ◌∙◌, arith, leb-true, leb-false, ltb-true, eqb-true, eqb-false, eq-eqb, le-leb, lt-leb, lt-ltb, false≢true, not-true, and_parts, and_from, not_from_false, or_left, or_right, or_cases, le32, first_fault, Cause, BadLength, Kind, Pv, Hvm, IsTriedBefore, ◌&&◌, ◌||◌, none-some, same_Some, libxl_rows, fault_of_libxl, number_of_cause, BadPairs, BadKey, BadEmulator, EmulatorForPv, ContextCount, EmulatorIndex, IsTornAt, IsBadKeyAt, IsFirstFault, pairs_fault, first_fault_is_computed, ImageOf, LibxlRecord, has_emulator, image_among, EmulatorsOf, pairs_in, emulator_key, is_pv, is_pv_kind, is_miscounted, allows_length, field_rows, order_rows, fault_of_libxl_fields, fault_of_order, fault_of_libxl_head, most_pairs, spelled_with, fault_of_pairs, fault_of_context, join, LibxlHeaderHas, LibxlHeadHas, PairsHas, EmulatorContextHas, WrapperPart, StandsInWrapper, wrapper_size, TooManyPairs}
 use Rattle.mig_refusals.proofs.Least.{Least, LeastTried, TriesLeast, nothing_tried, tries_least, RowHas, To, named, both_least}
-use Rattle.mig_refusals.proofs.PvGuests.{is_missing}
-use Rattle.mig_refusals.proofs.PvTables.{differs, test_differs}
+use Rattle.mig_refusals.proofs.Tests.{differs, is_missing, is_one, one_of, test_differs}
 use Rattle.mig_refusals.specs.Stream.WrapperPart.{Header, Head, PairsBody, ContextBody, OtherBody, Padding}
 use Rattle.mig_refusals.specs.Stream.LibxlHeaderHas.{big_endian, bad_version}
 use Rattle.mig_refusals.specs.Stream.{LibxlHeadHas as heads, PairsHas as of_pairs, EmulatorContextHas as of_context}
@@ -18,13 +16,6 @@ header_least bytes = named (LibxlHeaderHas bytes) (libxl_rows bytes) refl ((λ h
     from _ _ (bad_version h) = (refl, inl (test_differs _ _ h, refl))
 
 -- ---- a record's head
-
-one_of : (n a b : ℕ) → (nat_eq n a || nat_eq n b) ≡ true → (n ≡ a) ⊎ (n ≡ b)
-one_of n a b h = elim (or_cases _ _ h) [ inl e ↦ inl (eqb-true _ _ e) | inr e ↦ inr (eqb-true _ _ e) ]
-
-is_one : (n a b : ℕ) → (n ≡ a) ⊎ (n ≡ b) → (nat_eq n a || nat_eq n b) ≡ true
-is_one n a b (inl e) = or_left _ _ (eq-eqb _ _ e)
-is_one n a b (inr e) = or_right _ _ (eq-eqb _ _ e)
 
 of_pv : (kind : Kind) → is_pv_kind kind ≡ true → kind ≡ Pv
 of_pv Pv is = refl

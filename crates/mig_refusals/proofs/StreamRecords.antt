@@ -1,10 +1,5 @@
 -- A record that fails: one of its parts does, or the image that follows its head is refused.
-use Rattle.mig_refusals.proofs.Common.{then_faulty, bind_cases, passes_not, only_first, placed_faulty, ◌≡◌, ◌⊎◌, inl, inr, ℕ, List, [], ◌++◌, Bool, true, false, cond, nat_eq, length, refl, sym, ap, subst, ◌∙◌, arith, append_assoc, eqb-true, eq-eqb, le32, part, placed, Passes, Faulty, part_whole, then_passes, placed_passes, common_steps, Cause, padding_len, both_none, Place, FailsBehind, image_at, LibxlRecord, LibxlContent, Image, EmulatorsOf, emulators_of, allows_length, fault_of_libxl_fields, fault_of_order, libxl_head_at, skipped_at, inner_at, body_of_type, libxl_content_at, libxl_record_at, FineFields, has_no_image, behind_content, WrapperPart, IsFaultlessWrapperPart, WrapperPartFails, HasBody, WithinWrapper}
-use Rattle.mig_headers.specs.declared.fault.Cause.TheVariants.{Truncated}
-use Rattle.mig_headers.specs.declared.fault.Place.TheVariants.{LibxlRecord as AtRecord}
-use Rattle.mig_emulators.specs.Content.LibxlContent.{Nothing}
-use Rattle.mig_libxl.proofs.Bodies.{fields_fine, body_says, body_goes}
-use Rattle.mig_libxl.proofs.Records.{behind_head}
+use Rattle.mig_refusals.proofs.Common.{then_faulty, bind_cases, passes_not, only_first, placed_faulty, ◌≡◌, ◌⊎◌, inl, inr, ℕ, List, [], ◌++◌, Bool, true, false, cond, nat_eq, length, refl, sym, ap, subst, ◌∙◌, arith, append_assoc, eqb-true, eq-eqb, le32, part, placed, Passes, Faulty, part_whole, then_passes, placed_passes, common_steps, Cause, padding_len, both_none, Place, FailsBehind, image_at, LibxlRecord, LibxlContent, Image, EmulatorsOf, emulators_of, allows_length, fault_of_libxl_fields, fault_of_order, libxl_head_at, skipped_at, inner_at, body_of_type, libxl_content_at, libxl_record_at, FineFields, has_no_image, behind_content, WrapperPart, IsFaultlessWrapperPart, WrapperPartFails, HasBody, WithinWrapper, Truncated, AtRecord, LibxlNothing, libxl_fields_fine, libxl_body_says, libxl_body_goes, libxl_behind_head}
 use Rattle.mig_refusals.proofs.LibxcRecords.{is_padding, padding_is}
 use Rattle.mig_refusals.proofs.Parts.{stage_fails, said_fails, part_goes, fine, found_here, found_next, placed_cases}
 use Rattle.mig_refusals.specs.Stream.WrapperPart.{Head, PairsBody, ContextBody, OtherBody, Padding}
@@ -50,7 +45,7 @@ module _ (records : List LibxlRecord) where
     other_up type f one two three h = by (nat_eq type 0) refl
       where
         fails : WrapperPartFails (OtherBody len) i c rest
-        fails = said_fails (tries (OtherBody len)) (λ _. Nothing) i c rest h
+        fails = said_fails (tries (OtherBody len)) (λ _. LibxlNothing) i c rest h
 
         by : (b : Bool) → nat_eq type 0 ≡ b → BodyFails type len i c rest
         by true zero = subst (λ t. BodyFails t len i c rest) (sym (eqb-true type 0 zero)) (OtherBody len, ends, fails)
@@ -67,23 +62,23 @@ module _ (records : List LibxlRecord) where
   -- ---- a record
 
   fields_of : (head : List ℕ) → IsFaultlessWrapperPart (Head records) head → FineFields (le32 head 0) (le32 head 4)
-  fields_of head f = fields_fine (le32 head 0) (le32 head 4) (both_none (fault_of_libxl_fields (le32 head 0) (le32 head 4)) (fault_of_order records (le32 head 0)) (fine (tries (Head records)) head f)).0
+  fields_of head f = libxl_fields_fine (le32 head 0) (le32 head 4) (both_none (fault_of_libxl_fields (le32 head 0) (le32 head 4)) (fault_of_order records (le32 head 0)) (fine (tries (Head records)) head f)).0
 
   -- LIBXC_CONTEXT has no body
   no_body : (type len : ℕ) → FineFields type len → type ≡ 1 → len ≡ 0
   no_body type len f one = eqb-true len 0 (subst (λ t. allows_length t len ≡ true) one f.allowed)
 
-  head_goes : (head mid : List ℕ) → IsFaultlessWrapperPart (Head records) head → libxl_record_at records (head ++ mid) ≡ behind_head records (head, mid)
+  head_goes : (head mid : List ℕ) → IsFaultlessWrapperPart (Head records) head → libxl_record_at records (head ++ mid) ≡ libxl_behind_head records (head, mid)
   unfolding libxl_record_at
   head_goes head mid f =
-      then_passes (placed place (libxl_head_at records (head ++ mid))) (behind_head records) head mid _
+      then_passes (placed place (libxl_head_at records (head ++ mid))) (libxl_behind_head records) head mid _
       (ap (placed place) (part_goes (tries (Head records)) (λ l. l) head mid f)) refl
 
   -- a part fails behind others: so does the record
   pub down : (front : List ℕ) (p : WrapperPart) (left : List ℕ) (c : Cause) (rest : List ℕ) → WithinWrapper records front p → WrapperPartFails p left c rest → libxl_record_at records (front ++ left) ≡ Faulty (place, c) rest
   unfolding libxl_record_at
   down _ _ left c rest at_head h =
-      then_faulty (placed place (libxl_head_at records left)) (behind_head records) (place, c) rest (ap (placed place) (stage_fails (tries (Head records)) (λ head r. Passes head r) left c rest h))
+      then_faulty (placed place (libxl_head_at records left)) (libxl_behind_head records) (place, c) rest (ap (placed place) (stage_fails (tries (Head records)) (λ head r. Passes head r) left c rest h))
   down _ _ left c rest (in_body head p f b) h =
       let one = not_image (le32 head 0) (le32 head 4) p b in
       let fails = body_down (le32 head 0) (le32 head 4) p left c rest b h in
@@ -92,7 +87,7 @@ module _ (records : List LibxlRecord) where
       (ap (λ t. cond t (inner_at left) (placed place (body_of_type emulators (le32 head 0) (le32 head 4) left))) one ∙ ap (placed place) fails)
   down _ _ left c rest (at_padding head body content n f size says fits pads) h =
       let one = has_no_image (le32 head 0) body content says in
-      let goes = subst (λ m. body_of_type emulators (le32 head 0) m (body ++ left) ≡ Passes content left) size (body_goes records (le32 head 0) body content left says fits one) in
+      let goes = subst (λ m. body_of_type emulators (le32 head 0) m (body ++ left) ≡ Passes content left) size (libxl_body_goes records (le32 head 0) body content left says fits one) in
       ap (libxl_record_at records) (append_assoc head body left) ∙ head_goes head (body ++ left) f
       ∙ then_passes (libxl_content_at records (le32 head 0) (le32 head 4) (body ++ left)) (behind_content records head) content left _
       (ap (λ t. cond t (inner_at (body ++ left)) (placed place (body_of_type emulators (le32 head 0) (le32 head 4) (body ++ left)))) one ∙ ap (placed place) goes)
@@ -141,7 +136,7 @@ module _ (records : List LibxlRecord) where
       padding_up : (content : LibxlContent) (left : List ℕ) (b : Bool) → nat_eq type 1 ≡ b → cond b (inner_at mid) (placed place (body_of_type emulators type len mid)) ≡ Passes content left → place ≡ at → part Truncated (padding_len len) left ≡ Faulty c rest → Stops
       padding_up content left true one h same fails = no_bytes left c rest (subst (λ n. part Truncated n left ≡ Faulty c rest) (ap padding_len (no_body type len (fields_of head f) (eqb-true type 1 one))) fails)
       padding_up content left false one h same fails =
-          let s = body_says records type len mid content left (fields_of head f) one (placed_passes place (body_of_type emulators type len mid) content left h) in
+          let s = libxl_body_says records type len mid content left (fields_of head f) one (placed_passes place (body_of_type emulators type len mid) content left h) in
           inl (
             found_next (WithinWrapper records) (Padding (padding_len len)) (head ++ s.body) left i c rest (whole ∙ ap (λ l. head ++ l) s.whole ∙ sym (append_assoc head s.body left))
                 (at_padding head s.body content (padding_len len) f s.body_len s.says s.fits (is_padding len))
@@ -149,7 +144,7 @@ module _ (records : List LibxlRecord) where
             same,
           )
 
-      behind_up : behind_head records (head, mid) ≡ Faulty (at, c) rest → Stops
+      behind_up : libxl_behind_head records (head, mid) ≡ Faulty (at, c) rest → Stops
       behind_up h = elim (bind_cases (libxl_content_at records type len mid) (behind_content records head) (at, c) rest h) [
         | inl e ↦ content_up (nat_eq type 1) refl e
         | inr a ↦
@@ -160,7 +155,7 @@ module _ (records : List LibxlRecord) where
 
     pub up : libxl_record_at records i ≡ Faulty (at, c) rest → Stops
     unfolding libxl_record_at
-    up h = elim (placed_cases (tries (Head records)) (λ head. head) place (behind_head records) i at c rest h) [
+    up h = elim (placed_cases (tries (Head records)) (λ head. head) place (libxl_behind_head records) i at c rest h) [
       | inl e ↦ inl (found_here (WithinWrapper records) (Head records) i c rest at_head e.0, e.1)
       | inr a ↦ behind_up a.bytes a.mid a.whole a.is_faultless a.after
     ]

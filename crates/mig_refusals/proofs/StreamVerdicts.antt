@@ -1,7 +1,5 @@
 -- An input of either form is refused as the format's words say exactly where judging refuses it.
-use Rattle.mig_refusals.proofs.Common.{then_faulty, only_first, ◌≡◌, inl, inr, ℕ, List, ◌++◌, length, drop, Bool, true, false, cond, nat_eq, nat_le, None, refl, sym, ap, ◌∙◌, append_assoc, be32, false≢true, placed, Passes, Faulty, Cause, ◌&&◌, be64, fault_of_libxl, is_from_legacy, libxl_ident, Place, LibxlHeader, refused_stops, AreJudged, HasOneRefusal, AreAllAcceptedOrRefused, IsNeverBoth, WithinWrapper, image_at, LibxlRecord, is_libxl_ended, FollowsLibxl, found, libxl_record_at, header_at, libxl_records_at, wrapped_at, bare_at, stream_at, IsStreamRefused, Bare, Wrapped, WrapperPart, WrapperPartFails, BeginsAsLibxl, IsOpenWrapper, BehindWrapper, RefusedStream, behind_header, Ident, ident_of, libxl_goes, is_header}
-use Rattle.mig_headers.specs.declared.fault.Place.TheVariants.{LibxlRecord as AtRecord}
-use Rattle.mig_libxl.specs.Spelled.{AcceptedStream}
+use Rattle.mig_refusals.proofs.Common.{then_faulty, only_first, ◌≡◌, inl, inr, ℕ, List, ◌++◌, length, drop, Bool, true, false, cond, nat_eq, nat_le, None, refl, sym, ap, ◌∙◌, append_assoc, be32, false≢true, placed, Passes, Faulty, Cause, ◌&&◌, be64, fault_of_libxl, is_from_legacy, libxl_ident, Place, LibxlHeader, refused_stops, AreJudged, HasOneRefusal, AreAllAcceptedOrRefused, IsNeverBoth, WithinWrapper, image_at, LibxlRecord, is_libxl_ended, FollowsLibxl, found, libxl_record_at, header_at, libxl_records_at, wrapped_at, bare_at, stream_at, IsStreamRefused, Bare, Wrapped, WrapperPart, WrapperPartFails, BeginsAsLibxl, IsOpenWrapper, BehindWrapper, RefusedStream, behind_header, Ident, ident_of, libxl_goes, is_header, AtRecord, AcceptedStream, le-leb, leb-true, eq-eqb, eqb-true, and_parts, spelled_refused, header_goes, record_goes, libxl_not_ended}
 use Rattle.mig_libxl.proofs.Laws.{accepted_or_refused as judged, never_both as never_judged}
 use Rattle.mig_refusals.proofs.Laws.{accepted_or_refused, never_both, one_refusal}
 use Rattle.mig_refusals.proofs.Parts.{stage_fails, fine, found_at, found_behind, found_placed, placed_cases}
@@ -11,9 +9,23 @@ use Rattle.mig_refusals.specs.Stream.BehindWrapper.{at_header, in_record}
 use Rattle.mig_refusals.specs.Stream.RefusedStream.{bare, in_wrapper, in_image}
 use Rattle.mig_refusals.proofs.StreamCauses.{tries}
 use Rattle.mig_refusals.proofs.StreamRecords.{down, image_down, up}
-use Rattle.mig_refusals.proofs.StreamFronts.{next_refused, begins, has_begun}
+
+-- ---- which form an input has
+
+begins : (input : List ℕ) → (nat_le 8 (length input) && nat_eq (be64 input 0) libxl_ident) ≡ true → BeginsAsLibxl input
+begins input h = let b = and_parts (nat_le 8 (length input)) _ h in record { long = leb-true 8 (length input) b.0; ident = eqb-true (be64 input 0) libxl_ident b.1 }
+
+has_begun : (input : List ℕ) → BeginsAsLibxl input → (nat_le 8 (length input) && nat_eq (be64 input 0) libxl_ident) ≡ true
+has_begun input b = ap (λ t. t && nat_eq (be64 input 0) libxl_ident) (le-leb 8 (length input) b.long) ∙ eq-eqb (be64 input 0) libxl_ident b.ident
 
 -- ---- what is refused in words is refused
+
+-- behind an open front the next record is refused: so is the stream
+next_refused : (front left : List ℕ) (records : List LibxlRecord) (at : Place × Cause) (rest : List ℕ) → IsOpenWrapper front records → libxl_record_at records left ≡ Faulty at rest → stream_at (front ++ left) ≡ Faulty at rest
+next_refused front left records at rest o h =
+    let behind = o.bytes ++ left in
+    ap stream_at (ap (λ l. l ++ left) o.whole ∙ append_assoc o.header o.bytes left) ∙ header_goes o.header behind o.legacy o.is_header
+    ∙ then_faulty (libxl_records_at behind) (λ records. Passes (Wrapped records.0) records.1) at rest (spelled_refused is_libxl_ended libxl_record_at FollowsLibxl found record_goes libxl_not_ended o.bytes left records at rest o.spelled o.not_ended h)
 
 header_refused : (left : List ℕ) (c : Cause) (rest : List ℕ) → WrapperPartFails Header left c rest → wrapped_at left ≡ Faulty (LibxlHeader, c) rest
 unfolding wrapped_at
