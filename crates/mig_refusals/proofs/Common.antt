@@ -142,11 +142,12 @@ pub use Rattle.mig_libxl.proofs.Bodies.{FineFields, body_goes as libxl_body_goes
 pub use Rattle.mig_libxl.proofs.Forms.{behind_header}
 pub use Rattle.mig_libxl.proofs.Laws.{Ident, header_goes, ident_of, is_header, libxl_goes}
 pub use Rattle.mig_libxl.proofs.Records.{behind_content, behind_head as libxl_behind_head, found, not_ended as libxl_not_ended, record_goes}
-pub use Rattle.mig_libxl.specs.Content.{LibxlContent, LibxlRecord, has_emulator, image_among, is_libxl_ended}
-pub use Rattle.mig_libxl.specs.Content.LibxlContent.{Image, Nothing as LibxlNothing}
-pub use Rattle.mig_libxl.specs.Emulators.{EmulatorsOf, emulators_of}
+pub use Rattle.mig_emulators.specs.Content.{LibxlContent, LibxlRecord}
+pub use Rattle.mig_libxl.specs.Among.{has_emulator, image_among, is_libxl_ended}
+pub use Rattle.mig_emulators.specs.Content.LibxlContent.{Image, Nothing as LibxlNothing}
+pub use Rattle.mig_emulators.specs.Emulators.{EmulatorsOf, emulators_of, most_pairs, spelled_with}
 unfoldable pub use Rattle.mig_libxl.specs.Judging.{fault_of_context, fault_of_libxl_fields, fault_of_order, fault_of_pairs, libxl_record_at}
-pub use Rattle.mig_libxl.specs.Judging.{allows_length, body_of_type, emulator_key, fault_of_libxl_head, field_rows, inner_at, is_miscounted, is_pv, is_pv_kind, libxl_content_at, libxl_head_at, most_pairs, order_rows, skipped_at, spelled_with}
+pub use Rattle.mig_libxl.specs.Judging.{allows_length, body_of_type, emulator_key, fault_of_libxl_head, field_rows, inner_at, is_miscounted, is_pv, is_pv_kind, libxl_content_at, libxl_head_at, order_rows, skipped_at}
 pub use Rattle.mig_libxl.specs.Spelled.{AcceptedStream, FollowsLibxl}
 unfoldable pub use Rattle.mig_libxl.specs.Stream.{stream_at, wrapped_at}
 pub use Rattle.mig_libxl.specs.Stream.{IsStreamRefused, bare_at, header_at, libxl_records_at}
@@ -182,7 +183,7 @@ pub use Rattle.mig_legacy.specs.declared.chunk.ChunkKind.TheVariants.{Batch, End
 pub use Rattle.mig_image.proofs.Chains.{put_all}
 pub use Rattle.mig_image.proofs.FieldBytes.{regroup}
 pub use Rattle.mig_image.proofs.Frames.{behind_frame_head, frame_entries, frames_back as frames_said, frames_valid, page_if}
-pub use Rattle.mig_image.proofs.HostsMade.{valid_empty}
+pub use Rattle.mig_host.proofs.HostsMade.{valid_empty}
 pub use Rattle.mig_image.proofs.ImageBack.{image_back}
 pub use Rattle.mig_image.proofs.ImageReads.{image_reads}
 pub use Rattle.mig_host.proofs.InOrder.{all_there, found_passes, no_entries, some_entry}
@@ -191,7 +192,8 @@ pub use Rattle.mig_image.proofs.Parts.{behind_bytes, behind_part_head, part_entr
 unfoldable pub use Rattle.mig_image.specs.Image.{host_head, image}
 pub use Rattle.mig_image.specs.Image.{IsHostImage, frame_text, part_text}
 unfoldable pub use Rattle.mig_image.specs.ImageParts.{host_at}
-pub use Rattle.mig_image.specs.ImageParts.{behind_head as image_behind_head, code_fits, count_at, fault_of_bytes, fault_of_frame, fault_of_host_head, fault_of_padding, fault_of_part, frame_head_at, frame_rows, frame_said, frames_at, has_frame_from, has_machine, has_part_from, head_key, head_pfn, head_type, head_type_number, host_frame_at, host_head_at, host_page_at, host_parts_at, is_full, is_wide, name_rows, opened, part_at, put_frame, put_part_in, size_rows}
+pub use Rattle.mig_image.specs.ImageParts.{behind_head as image_behind_head, code_fits, count_at, fault_of_bytes, fault_of_frame, fault_of_host_head, fault_of_padding, fault_of_part, frame_head_at, frame_rows, frame_said, frames_at, has_frame_from, has_part_from, head_key, head_pfn, head_type, head_type_number, host_frame_at, host_head_at, host_page_at, host_parts_at, is_full, is_wide, name_rows, opened, part_at, size_rows}
+pub use Rattle.mig_host.specs.HostView.{has_machine, put_frame, put_part_in}
 pub use Rattle.mig_refusals.specs.ImageFile.{BehindImageFile, BytesHave, FrameHas, FramesTo, ImageFileHeadHas, ImageFilePart, ImageFilePartFails, IsFaultlessImageFilePart, Opens, PaddingHas, PartHas, PartsTo, RefusedImageFile, SpellsFrame, SpellsPart, StandsInImageFile, image_file_size}
 pub use Rattle.mig_refusals.specs.ImageFileFronts.{EndsInFrames, EndsInParts}
 pub use Rattle.mig_refusals.specs.Legacy.{BehindLegacy, InChunk, InChunkBody, InDevice, InTail, IsFaultlessLegacyPart, LegacyContextHas, LegacyLengthHas, LegacyPart, LegacyPartFails, LegacyPartStops, MaxHas, NumberHas, RefusedLegacy, SignatureHas, StandsInLegacy, StartHas, ToolstackHas, TypeHas, WordsHave, legacy_size, word_place}
