@@ -6,7 +6,7 @@ use Rattle.std.proofs.Math.Seq.{drop-cons}
 use Rattle.std.proofs.Common.{◌≡◌, ◌⊎◌, inl, inr, ℕ, suc, ◌+◌, ◌<◌, length, take, drop, get_or, take-append-drop, List, [], ◌∷◌, ◌++◌, Bool, true, false, cond, nat_lt, Option, Some, None, Result, Ok, Err, refl, sym, ap, subst, ◌∙◌, length-append, arith, length-take-le, ltb-false}
 use Rattle.mig_bytes.specs.declared.part.Stop.{Stop}
 use Rattle.mig_bytes.specs.declared.part.Stop.TheVariants.{Refused, ReadFault, Memory}
-use Rattle.mig_bytes.specs.Judged.{Judged, ◌>>=◌, part, tried, each, placed, Matches, Gives}
+use Rattle.mig_bytes.specs.Judged.{Judged, ◌>>=◌, part, tried, said_at, plain_at, each, placed, Matches, Gives}
 use Rattle.mig_bytes.specs.Judged.Judged.{Passes, Faulty}
 
 module _ {C X Y : Type 0} (R : X → Y → Type 0) where
@@ -226,3 +226,34 @@ only_first says (Faulty d mid) c rest h = let e = same_faulty d c mid rest h in 
 pub placed_faulty : {P C X : Type 0} (at place : P) (j : Judged C X) (c : C) (rest : List ℕ) → placed at j ≡ Faulty (place, c) rest → (j ≡ Faulty c rest) × (at ≡ place)
 placed_faulty at place (Passes x mid) c rest h = passes_not x mid (place, c) rest h
 placed_faulty {P} {C} at place (Faulty d mid) c rest h = let e = same_faulty (at, d) (place, c) mid rest h in (ap (λ (p : P × C). Faulty p.1 mid) e.0 ∙ ap (Faulty c) e.1, ap (λ (p : P × C). p.0) e.0)
+
+-- ---- judgements in a row, regrouped
+
+pub bind_assoc : {C X Y Z : Type 0} (j : Judged C X) (f : X × List ℕ → Judged C Y) (k : Y × List ℕ → Judged C Z) → ((j >>= f) >>= k) ≡ (j >>= λ a. f a >>= k)
+bind_assoc (Passes x rest) f k = refl
+bind_assoc (Faulty c rest) f k = refl
+
+pub placed_bind : {P C X Y Z : Type 0} (place : P) (j : Judged C X) (f : X × List ℕ → Judged C Y) (k : Y × List ℕ → Judged (P × C) Z) → (placed place (j >>= f) >>= k) ≡ (placed place j >>= λ a. placed place (f a) >>= k)
+placed_bind place (Passes x rest) f k = refl
+placed_bind place (Faulty c rest) f k = refl
+
+module _ {P C X Z : Type 0} (place : P) (truncated : C) (says : List ℕ → X) (k : X × List ℕ → Judged (P × C) Z) where
+  said_by : (fault : List ℕ → Option C) (j : Judged C (List ℕ))
+      → (placed place (j >>= λ b. tried (fault b.0) b.1 >>= λ _. Passes (says b.0) b.1) >>= k) ≡ (placed place (j >>= λ b. tried (fault b.0) b.1 >>= λ _. Passes b.0 b.1) >>= λ b. k (says b.0, b.1))
+  said_by fault (Faulty c rest) = refl
+  said_by fault (Passes b rest) =
+      elim (fault b) as (λ g. (placed place (tried g rest >>= λ _. Passes (says b) rest) >>= k) ≡ (placed place (tried g rest >>= λ _. Passes b rest) >>= λ b. k (says b.0, b.1))) [ None ↦ refl | Some c ↦ refl ]
+
+  -- a part with its causes, and what follows what it says
+  pub said_part : (fault : List ℕ → Option C) (n : ℕ) (i : List ℕ) → (placed place (said_at truncated fault says n i) >>= k) ≡ (placed place (said_at truncated fault (λ b. b) n i) >>= λ b. k (says b.0, b.1))
+  said_part fault n i = said_by fault (part truncated n i)
+
+  plain_by : (j : Judged C (List ℕ)) → (placed place (j >>= λ b. Passes (says b.0) b.1) >>= k) ≡ (placed place (j >>= λ b. tried None b.1 >>= λ _. Passes b.0 b.1) >>= λ b. k (says b.0, b.1))
+  plain_by (Faulty c rest) = refl
+  plain_by (Passes b rest) = refl
+
+  pub plain_part : (n : ℕ) (i : List ℕ) → (placed place (plain_at truncated says n i) >>= k) ≡ (placed place (said_at truncated (λ _. None) (λ b. b) n i) >>= λ b. k (says b.0, b.1))
+  plain_part n i = plain_by (part truncated n i)
+
+pub no_bytes : {C : Type 0} (truncated : C) (i : List ℕ) → part truncated 0 i ≡ Passes [] i
+no_bytes truncated i = part_whole truncated 0 [] i refl

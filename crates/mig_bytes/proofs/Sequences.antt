@@ -4,12 +4,12 @@ use Rattle.std.proofs.Common.{◌≡◌, ℕ, ◌<◌, Bool, true, false, cond, 
 use Rattle.std.proofs.lemmas.Option.{none-some}
 use Rattle.mig_bytes.specs.Judged.{Judged, ◌>>=◌}
 use Rattle.mig_bytes.specs.Judged.Judged.{Passes, Faulty}
-use Rattle.mig_bytes.specs.Sequences.{Spells, Front, at_start, front_with, grown, front_of, ended_at, sequence_at}
+use Rattle.mig_bytes.specs.Sequences.{Spells, Front, at_start, front_with, grown, front_of, ended_at, sequence_at, onward}
 use Rattle.mig_bytes.specs.Sequences.Spells.{no_part, one_more}
-use Rattle.mig_bytes.specs.Walk.{Reaches}
+use Rattle.mig_bytes.specs.Walk.{Reaches, walk_end}
 use Rattle.mig_bytes.specs.Walk.Reaches.{here, next}
 use Rattle.mig_bytes.proofs.Joins.{passes_not, same_passes, only_first}
-use Rattle.mig_bytes.proofs.Walks.{walk_end_is, walk_end_ends, walk_end_reached}
+use Rattle.mig_bytes.proofs.Walks.{reached_from, walk_stops, walk_end_is, walk_end_ends, walk_end_reached}
 
 -- a part that passes: its text, which isn't empty, and that it may follow
 pub record Found {E : Type 0} (Follows : List E → E → List ℕ → Type 0) (parts : List E) (i : List ℕ) (e : E) (rest : List ℕ) : Type 0 where
@@ -150,3 +150,43 @@ module _ {C E : Type 0} (is_ended : List E → Bool) (part_at : List E → List 
 
         pub spelled_refused : (bytes left : List ℕ) (parts : List E) (c : C) (rest : List ℕ) → Spells Follows bytes parts → is_ended parts ≡ false → part_at parts left ≡ Faulty c rest → sequence_at is_ended part_at (bytes ++ left) ≡ Faulty c rest
         spelled_refused bytes left parts c rest spelled over is = next_refused (bytes ++ left) (record { parts = parts; rest = left }) c rest (spelled_reached bytes parts left spelled) over is
+
+  -- ---- parts behind some that stand already: one more, or none
+
+  pub starts : (i : List ℕ) → sequence_at is_ended part_at i ≡ onward is_ended part_at [] i
+  unfolding onward front_of
+  starts i = refl
+
+  stopped : (f : Front E) → grown is_ended part_at f ≡ None → onward is_ended part_at f.parts f.rest ≡ ended_at is_ended part_at f
+  unfolding onward
+  stopped f none = ap (ended_at is_ended part_at) (walk_stops (grown is_ended part_at) (length f.rest) f none)
+
+  pub over : (parts : List E) (i : List ℕ) → is_ended parts ≡ true → onward is_ended part_at parts i ≡ Passes parts i
+  over parts i ended = let f : Front E = record { parts = parts; rest = i } in stopped f (stops_ended f ended) ∙ accepted f ended
+
+  module _ (shrinks : (parts : List E) (i : List ℕ) (e : E) (rest : List ℕ) → is_ended parts ≡ false → part_at parts i ≡ Passes e rest → length rest < length i) where
+    shorter : (f t : Front E) → grown is_ended part_at f ≡ Some t → length t.rest < length f.rest
+    shorter f t h =
+        let s = step_of f t h in
+        omega (arith, ap (λ (x : Front E). length x.rest) s.is, shrinks f.parts f.rest s.e s.rest s.going s.judged)
+
+    one_on : (parts : List E) (i : List ℕ) (e : E) (rest : List ℕ) → is_ended parts ≡ false → part_at parts i ≡ Passes e rest → onward is_ended part_at parts i ≡ onward is_ended part_at (parts ++ e ∷ []) rest
+    unfolding onward
+    one_on parts i e rest going is =
+        let step = grown is_ended part_at in
+        let size : Front E → ℕ = λ g. length g.rest in
+        let f : Front E = record { parts = parts; rest = i } in
+        let t : Front E = record { parts = parts ++ e ∷ []; rest = rest } in
+        ap (ended_at is_ended part_at)
+        (walk_end_is step size shorter (length i) f (walk_end step (length rest) t) (le_refl _)
+        (reached_from step f t _ (grows f e rest going is) (walk_end_reached step (length rest) t t here))
+        (walk_end_ends step size shorter (length rest) t (le_refl _)))
+
+    on_by : (parts : List E) (i : List ℕ) (j : Judged C E) → is_ended parts ≡ false → part_at parts i ≡ j → onward is_ended part_at parts i ≡ (j >>= λ e. onward is_ended part_at (parts ++ e.0 ∷ []) e.1)
+    on_by parts i (Passes e rest) going is = one_on parts i e rest going is
+    on_by parts i (Faulty c rest) going is =
+        let f : Front E = record { parts = parts; rest = i } in stopped f (stops_refused f c rest going is) ∙ rejected f c rest going is
+
+    -- behind parts of which none ends them stands one more, and then others
+    pub goes_on : (parts : List E) (i : List ℕ) → is_ended parts ≡ false → onward is_ended part_at parts i ≡ (part_at parts i >>= λ e. onward is_ended part_at (parts ++ e.0 ∷ []) e.1)
+    goes_on parts i going = on_by parts i (part_at parts i) going refl

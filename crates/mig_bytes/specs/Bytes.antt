@@ -39,6 +39,12 @@ pub record TakesBytes (old new : Option (List ℕ)) : Type 0 where
   pub bytes : AreBytes taken
   pub gone : Consumes old new taken
 
+-- at most so many first elements of what was left are gone
+pub record TakesFew (n : ℕ) (old new : Option (List ℕ)) : Type 0 where
+  pub taken : List ℕ
+  pub few : length taken ≤ n
+  pub gone : Consumes old new taken
+
 -- the vector grew by the next n bytes; or by all that was left, fewer than n
 abbrev pub Grown : Option (List ℕ) → Option (List ℕ) → List ℕ → List ℕ → ℕ → Got → Type 0
 Grown old new before after n Whole = (bytes : List ℕ) × (length bytes ≡ n) × (after ≡ before ++ bytes) × Consumes old new bytes

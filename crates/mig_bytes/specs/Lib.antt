@@ -5,5 +5,6 @@ pub mod Memory
 pub mod Outside
 pub mod Walk
 pub mod Judged
+pub mod Answers
 pub mod Sequences
 pub mod Failing

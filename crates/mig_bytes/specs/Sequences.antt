@@ -41,3 +41,7 @@ module _ {C E : Type 0} (is_ended : List E → Bool) (part_at : List E → List 
 
   abbrev pub sequence_at : List ℕ → Judged C (List E)
   sequence_at input = ended_at (front_of input)
+
+  -- parts one after another behind these, up to the one that ends them
+  unfoldable pub onward : List E → List ℕ → Judged C (List E)
+  onward parts input = ended_at (walk_end grown (length input) (record { parts = parts; rest = input }))

@@ -10,6 +10,7 @@
 //! says what a file or a socket gives or takes.
 #![tactic(auto)]
 
+mod answer;
 mod failure;
 mod fields;
 mod memory;
@@ -20,6 +21,7 @@ mod sink;
 mod source;
 mod take;
 
+pub use answer::{Answer, answer_for, stop_for};
 pub use failure::{Failed, Memory, ReadFailed, WriteFailed};
 pub use fields::{
     pad_len, padding_is_least, put_u16_le, put_u32_be, put_u32_le, put_u64_be, put_u64_le, u16_be,

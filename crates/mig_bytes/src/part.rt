@@ -1,5 +1,5 @@
 ghost use Rattle.std.specs.Prelude.{◌≡◌, length, IfOk, IsErrOf, vec_len};
-ghost use Rattle.mig_bytes.specs.Bytes.{TakesBytes};
+ghost use Rattle.mig_bytes.specs.Bytes.{TakesBytes, TakesFew};
 ghost use Rattle.mig_bytes.specs.Faults.{RisesOnReadFault};
 ghost use Rattle.mig_bytes.specs.Judged.{Gives, part, stop_at};
 ghost use Rattle.mig_bytes.specs.declared.part.Stop.TheVariants.{Memory};
@@ -28,7 +28,7 @@ impl<C: Copy> Stop<C> {
     }
 }
 
-/// Takes a part that fills the buffer; `truncated` is the cause where the source ends before.
+/// Takes a part that fills the buffer, and no byte more; `truncated` is the cause where the source ends before.
 pub fn take_part<S: Source, C: Copy>(
     src: &mut S,
     buf: &mut [u8],
@@ -36,6 +36,7 @@ pub fn take_part<S: Source, C: Copy>(
 ) -> Result<(), Stop<C>>
     ensures read { Gives (λ _ part. part ≡ buf.new) (S.left src.old) (S.left src.new) (part truncated (length buf.new)) result }
     ensures taken { TakesBytes (S.left src.old) (S.left src.new) }
+    ensures few { TakesFew (length buf.new) (S.left src.old) (S.left src.new) }
     ensures faults { RisesOnReadFault (S.faults src.old) (S.faults src.new) result }
     ensures takes_no_memory { ¬ IsErrOf result Memory }
 {
@@ -46,7 +47,7 @@ pub fn take_part<S: Source, C: Copy>(
     }
 }
 
-/// Takes a part of any length; `truncated` is the cause where the source ends before.
+/// Takes a part of any length, and no byte more; `truncated` is the cause where the source ends before.
 pub fn take_long<S: Source, C: Copy>(
     alloc: Global,
     src: &mut S,
@@ -55,6 +56,7 @@ pub fn take_long<S: Source, C: Copy>(
 ) -> Result<Vec<u8>, Stop<C>>
     ensures read { Gives (λ v part. part ≡ v.items) (S.left src.old) (S.left src.new) (part truncated len) result }
     ensures taken { TakesBytes (S.left src.old) (S.left src.new) }
+    ensures few { TakesFew len (S.left src.old) (S.left src.new) }
     ensures len { IfOk result (λ v. vec_len v ≡ len) }
     ensures faults { RisesOnReadFault (S.faults src.old) (S.faults src.new) result }
 {

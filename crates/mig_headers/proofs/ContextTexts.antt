@@ -14,18 +14,18 @@ use Rattle.mig_headers.proofs.Chains.{Sound, sound_of, fine_of, chain_more, scan
 
 -- ---- fields of bytes that stand between others
 
-past16 : (front xs : List ℕ) (k : ℕ) → le16 (front ++ xs) (length front + k) ≡ le16 xs k
+pub past16 : (front xs : List ℕ) (k : ℕ) → le16 (front ++ xs) (length front + k) ≡ le16 xs k
 unfolding le16
 past16 front xs k = ap (little_number 2) (drop-append-add front xs k)
 
-past32 : (front xs : List ℕ) (k : ℕ) → le32 (front ++ xs) (length front + k) ≡ le32 xs k
+pub past32 : (front xs : List ℕ) (k : ℕ) → le32 (front ++ xs) (length front + k) ≡ le32 xs k
 unfolding le32
 past32 front xs k = ap (little_number 4) (drop-append-add front xs k)
 
 pub byte_in : (head xs : List ℕ) (k i : ℕ) → k + i < length head → get_or (drop k (head ++ xs)) i 0 ≡ get_or (drop k head) i 0
 byte_in head xs k i less = get_or-drop k (head ++ xs) i 0 ∙ get_or-append head xs 0 (k + i) less ∙ sym (get_or-drop k head i 0)
 
-in16 : (head xs : List ℕ) (k : ℕ) → k + 2 ≤ length head → le16 (head ++ xs) k ≡ le16 head k
+pub in16 : (head xs : List ℕ) (k : ℕ) → k + 2 ≤ length head → le16 (head ++ xs) k ≡ le16 head k
 unfolding le16
 in16 head xs k less = rw (byte_in head xs k 0 (omega arith), byte_in head xs k 1 (omega arith)) refl
 

@@ -1,5 +1,4 @@
-use Rattle.std.proofs.Common.{ℕ, ◌≡◌, ◌+◌, ◌*◌, ◌/◌, arith}
-use Rattle.mig_bytes.specs.Bytes.{padding_len, IsLeastPadding}
+use Rattle.std.proofs.Common.{◌+◌, ◌/◌, arith}
 use Rattle.mig_bytes.proofs.fields.padding_is_least.Goals as goal
 
 pub returns : goal.returns

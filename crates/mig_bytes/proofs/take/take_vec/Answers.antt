@@ -1,7 +1,7 @@
 use Rattle.std.proofs.Common.{◌++◌, length, rules, arith, length-append, append_assoc, ap, subst, ◌∙◌}
 use Rattle.std.proofs.KnownBytes.{Consumes-trans}
 use Rattle.mig_bytes.specs.Bytes.{Grown}
-use Rattle.mig_bytes.proofs.Taking.{takes_more}
+use Rattle.mig_bytes.proofs.Taking.{takes_more, few_more}
 use Rattle.mig_bytes.proofs.Vectors.{kept_first}
 use Rattle.mig_bytes.proofs.take.take_vec.Goals as goal
 
@@ -27,3 +27,13 @@ returns-in-Ok-Short-clause-taken g c = takes_more _ _ _ c.loop-left.invariant.ta
 
 pub returns-in-Err-clause-taken : goal.returns-in-Err-clause-taken
 returns-in-Err-clause-taken g c = takes_more _ _ _ c.loop-left.invariant.taken c.in-Err.ensures.taken
+
+pub returns-in-Ok-Short-clause-few : goal.returns-in-Ok-Short-clause-few
+returns-in-Ok-Short-clause-few g c =
+    let (gone, count, grown, before) = c.loop-left.invariant.bytes in
+    few_more _ _ _ gone _ _ _ count (search rules) before c.in-Ok-Short.ensures.few
+
+pub returns-in-Err-clause-few : goal.returns-in-Err-clause-few
+returns-in-Err-clause-few g c =
+    let (gone, count, grown, before) = c.loop-left.invariant.bytes in
+    few_more _ _ _ gone _ _ _ count (search rules) before c.in-Err.ensures.few
