@@ -1,40 +1,25 @@
 ghost use Rattle.std.specs.Prelude.{◌≡◌, ◌≤◌, ◌<◌, ◌+◌, OnOk, IfOk, IsErrOf, length, None};
 ghost use Rattle.std.specs.FinMap as maps;
+ghost use Rattle.mig_bytes.specs.Answers.{or_stop};
 ghost use Rattle.mig_bytes.specs.Bytes.{TakesBytes};
 ghost use Rattle.mig_bytes.specs.Faults.{RisesOnReadFault};
 ghost use Rattle.mig_bytes.specs.Judged.{Gives};
 ghost use Rattle.mig_bytes.specs.declared.part.Stop.TheVariants.{Memory};
 ghost use Rattle.mig_pagetypes.specs.Limits.{pfn_limit, most_frames};
 ghost use Rattle.mig_guest.specs.Frames.{is_type_of};
-ghost use Rattle.mig_image.specs.Answer.{IsHost, ReadsHost, BeginsWithImage, image_stop_of, or_image_stop};
+ghost use Rattle.mig_image.specs.Answer.{IsHost, ReadsHost, BeginsWithImage};
 ghost use Rattle.mig_image.specs.ImageParts.{fault_of_host_head, fault_of_frame, has_frame_from, frame_head_at, host_frame_at, frames_at, count_at, head_type, head_pfn, behind_head, host_at};
 
 use crate::head::{kind_in, read_head};
 use crate::read_part::read_parts;
-use mig_bytes::{Source, Stop, take_part, u32_le, u64_le};
+use mig_bytes::{Answer, Source, Stop, answer_for, take_part, u32_le, u64_le};
 use mig_headers::{ImageCause, ImagePlace, Kind};
 use mig_host::{Host, MACHINE_LIMIT};
 use mig_pagetypes::PageType;
 use std::alloc::Global;
 
 /// Why an image isn't read.
-#[derive(Clone, Copy, Debug, PartialEq, Eq)]
-pub enum ImageAnswer {
-    Refused(ImagePlace, ImageCause),
-    ReadFault,
-    Memory,
-}
-
-/// The answer for what stopped the reading.
-fn answer(stop: Stop<(ImagePlace, ImageCause)>) -> ImageAnswer
-    ensures { image_stop_of result ≡ stop }
-{
-    match stop {
-        Stop::Refused((place, cause)) => ImageAnswer::Refused(place, cause),
-        Stop::ReadFault => ImageAnswer::ReadFault,
-        Stop::Memory => ImageAnswer::Memory,
-    }
-}
+pub type ImageAnswer = Answer<ImagePlace, ImageCause>;
 
 /// The type in a frame's head; a reserved one is as if it were no frame's.
 fn kind_of(head: &[u8; 16]) -> PageType
@@ -213,10 +198,10 @@ fn read_whole<S: Source>(alloc: Global, src: &mut S) -> Result<Host, Stop<(Image
 pub fn read_host<S: Source>(alloc: Global, src: &mut S) -> Result<Host, ImageAnswer>
     ensures read { ReadsHost (S.left src.old) (S.left src.new) result }
     ensures spelled { BeginsWithImage (S.left src.old) (S.left src.new) result }
-    ensures faults { RisesOnReadFault (S.faults src.old) (S.faults src.new) (or_image_stop result) }
+    ensures faults { RisesOnReadFault (S.faults src.old) (S.faults src.new) (or_stop result) }
 {
     match read_whole(alloc, src) {
         Ok(host) => Ok(host),
-        Err(stop) => Err(answer(stop)),
+        Err(stop) => Err(answer_for(stop)),
     }
 }

@@ -1,19 +1,17 @@
 -- Judging a legacy stream as a whole: the start, chunks up to the one that ends them, the tail, and the device model's
 -- record if there is one.
-use Rattle.std.specs.Prelude.{◌≡◌, ℕ, List, length, Option, Result, Ok, Err}
+use Rattle.std.specs.Prelude.{◌≡◌, ℕ, List, length, Option, Result}
+use Rattle.mig_bytes.specs.Answers.{or_stop}
 use Rattle.mig_bytes.specs.Judged.{Judged, ◌>>=◌, placed, Gives}
 use Rattle.mig_bytes.specs.Judged.Judged.{Passes, Faulty}
 use Rattle.mig_bytes.specs.Sequences.{sequence_at}
-use Rattle.mig_bytes.specs.declared.part.Stop.{Stop}
-use Rattle.mig_bytes.specs.declared.part.Stop.TheVariants as stops
+use Rattle.mig_bytes.specs.declared.answer.Answer.{Answer}
 use Rattle.mig_headers.specs.declared.legacy_fault.LegacyCause.{LegacyCause}
 use Rattle.mig_headers.specs.declared.legacy_fault.LegacyPlace.{LegacyPlace}
 use Rattle.mig_headers.specs.declared.legacy_fault.LegacyPlace.TheVariants.{Start, Chunk, Tail, Device}
 use Rattle.mig_guest.specs.Guests.{GuestOf}
 use Rattle.mig_legacy.specs.Judging.{chunk_at, start_at, tail_at, device_at}
 use Rattle.mig_legacy.specs.Legacy.{LegacyChunk, LegacyStream, is_legacy_ended, mean_legacy}
-use Rattle.mig_legacy.specs.declared.read.LegacyAnswer.{LegacyAnswer}
-use Rattle.mig_legacy.specs.declared.read.LegacyAnswer.TheVariants.{Refused, ReadFault, Memory}
 
 -- ---- the chunks
 
@@ -41,16 +39,6 @@ IsLegacyRefused input place cause rest = legacy_at input ≡ Faulty (place, caus
 
 -- ---- what the reader of legacy streams answers
 
--- the place and the cause of a refusal, as one
-abbrev pub legacy_stop_of : LegacyAnswer → Stop (LegacyPlace × LegacyCause)
-legacy_stop_of (Refused place cause) = stops.Refused (place, cause)
-legacy_stop_of ReadFault = stops.ReadFault
-legacy_stop_of Memory = stops.Memory
-
-abbrev pub or_legacy_stop : {X : Type 0} → Result X LegacyAnswer → Result X (Stop (LegacyPlace × LegacyCause))
-or_legacy_stop (Ok x) = Ok x
-or_legacy_stop (Err answer) = Err (legacy_stop_of answer)
-
 -- what the reader answered, and what it left in the source, is what judging gives: the guest that the stream means
-abbrev pub ReadsLegacy : Option (List ℕ) → Option (List ℕ) → Result GuestOf LegacyAnswer → Type 0
-ReadsLegacy old new result = Gives (λ guest s. guest ≡ mean_legacy s) old new legacy_at (or_legacy_stop result)
+abbrev pub ReadsLegacy : Option (List ℕ) → Option (List ℕ) → Result GuestOf (Answer LegacyPlace LegacyCause) → Type 0
+ReadsLegacy old new result = Gives (λ guest s. guest ≡ mean_legacy s) old new legacy_at (or_stop result)

@@ -1,6 +1,7 @@
 ghost use Rattle.std.specs.Prelude.{◌≡◌, ◌≤◌, ◌+◌, ◌*◌, ◌||◌, ◌<◌, ◌^◌, ◌∷◌, [], ◌++◌, ⊤, ℕ, List, true, IfNone, IfOk, OnOk, IsErrOf, length, Some, None};
 ghost use Rattle.std.specs.Option.{option_copied};
 ghost use Rattle.std.specs.FinMap as maps;
+ghost use Rattle.mig_bytes.specs.Answers.{or_stop};
 ghost use Rattle.mig_bytes.specs.Bytes.{AreBytes};
 ghost use Rattle.mig_bytes.specs.Faults.{RisesOnReadFault};
 ghost use Rattle.mig_bytes.specs.Judged.{Gives};
@@ -16,12 +17,12 @@ ghost use Rattle.mig_legacy.specs.declared.chunk.ChunkKind.TheVariants as kinds;
 ghost use Rattle.mig_legacy.specs.Judging.{most_chunks, fault_of_kind, fault_of_start, chunk_kind_at, chunk_content_at, chunk_at, start_at, tail_at, device_at};
 ghost use Rattle.mig_legacy.specs.Legacy.{LegacyChunk, device_records, is_end, is_value_of, mean_legacy};
 ghost use Rattle.mig_legacy.specs.Seen.{IsLegacySeen, IsLegacyBegun, IsWithinLimits, TakesLegacy, put_tail};
-ghost use Rattle.mig_legacy.specs.Stream.{chunks_at, legacy_at, legacy_stop_of, or_legacy_stop, ReadsLegacy};
+ghost use Rattle.mig_legacy.specs.Stream.{chunks_at, legacy_at, ReadsLegacy};
 
 use crate::body::{take_batch, take_clock, take_toolstack, take_value, take_vcpus};
 use crate::chunk::{ChunkKind, chunk_kind};
 use crate::tail::{take_device, take_tail};
-use mig_bytes::{Memory, Source, Stop, take_part, u32_le};
+use mig_bytes::{Answer, Memory, Source, Stop, answer_for, take_part, u32_le};
 use mig_emulators::Emulators;
 use mig_guest::Guest;
 use mig_headers::{ImageHeader, Kind, LegacyCause, LegacyPlace, LibxlHeader};
@@ -33,24 +34,8 @@ const MAX_CHUNKS: u32 = 1 << 28;
 /// The most frames of a guest.
 const MAX_FRAMES: u64 = 1 << 24;
 
-/// Why a legacy stream isn't read: it is refused at a place for a cause, a read failed, or there is no memory.
-#[derive(Clone, Copy, Debug, PartialEq, Eq)]
-pub enum LegacyAnswer {
-    Refused(LegacyPlace, LegacyCause),
-    ReadFault,
-    Memory,
-}
-
-// The answer for what stopped the reading.
-fn answer(stop: Stop<(LegacyPlace, LegacyCause)>) -> LegacyAnswer
-    ensures { legacy_stop_of result ≡ stop }
-{
-    match stop {
-        Stop::Refused((place, cause)) => LegacyAnswer::Refused(place, cause),
-        Stop::ReadFault => LegacyAnswer::ReadFault,
-        Stop::Memory => LegacyAnswer::Memory,
-    }
-}
+/// Why a legacy stream isn't read.
+pub type LegacyAnswer = Answer<LegacyPlace, LegacyCause>;
 
 // What is wrong with the first 8 bytes.
 fn start_fault(width: &[u8; 8]) -> Option<LegacyCause>
@@ -296,10 +281,10 @@ pub fn read_legacy<S: Source>(alloc: Global, src: &mut S) -> Result<Guest, Legac
     ensures whole { IfOk result (λ guest. IsWhole guest) }
     ensures blank { IfOk result (λ guest. blank guest ≡ guest) }
     ensures bytes { IfOk result (λ guest. IsOfBytes guest) }
-    ensures faults { RisesOnReadFault (S.faults src.old) (S.faults src.new) (or_legacy_stop result) }
+    ensures faults { RisesOnReadFault (S.faults src.old) (S.faults src.new) (or_stop result) }
 {
     match read_parts(alloc, src) {
         Ok(guest) => Ok(guest),
-        Err(stop) => Err(answer(stop)),
+        Err(stop) => Err(answer_for(stop)),
     }
 }

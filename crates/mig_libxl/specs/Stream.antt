@@ -1,10 +1,12 @@
 -- Judging a stream of either form: a bare image, or an image inside a libxl stream (libxl migration stream, "Header" and
 -- "Records").
 use Rattle.std.specs.Prelude.{◌≡◌, ℕ, ◌&&◌, ◌==◌, List, length, drop, nat_le, Option, Some, Result, if◌then◌else◌}
+use Rattle.mig_bytes.specs.Answers.{or_stop}
 use Rattle.mig_bytes.specs.Fields.{be64}
 use Rattle.mig_bytes.specs.Judged.{Judged, ◌>>=◌, placed, said_at, Gives}
 use Rattle.mig_bytes.specs.Judged.Judged.{Passes, Faulty}
 use Rattle.mig_bytes.specs.Sequences.{sequence_at}
+use Rattle.mig_bytes.specs.declared.answer.Answer.{Answer}
 use Rattle.mig_headers.specs.Headers.{libxl_ident, fault_of_libxl}
 use Rattle.mig_headers.specs.declared.fault.Cause.{Cause}
 use Rattle.mig_headers.specs.declared.fault.Cause.TheVariants.{Truncated}
@@ -12,8 +14,7 @@ use Rattle.mig_headers.specs.declared.fault.Place.{Place}
 use Rattle.mig_headers.specs.declared.fault.Place.TheVariants.{LibxlHeader}
 use Rattle.mig_guest.specs.Guests.{GuestOf}
 use Rattle.mig_restore.specs.Mean.{mean}
-use Rattle.mig_restore.specs.Stream.{ImageOf, image_at, or_stop}
-use Rattle.mig_restore.specs.declared.answer.StreamAnswer.{StreamAnswer}
+use Rattle.mig_restore.specs.Stream.{ImageOf, image_at}
 use Rattle.mig_restore.specs.declared.read.Reading.{Reading}
 use Rattle.mig_emulators.specs.Content.{LibxlRecord}
 use Rattle.mig_libxl.specs.Among.{is_libxl_ended, image_among}
@@ -81,5 +82,5 @@ pub record IsStreamReading (reading : Reading) (s : StreamOf) : Type 0 where
   pub records : reading.records ≡ length image.records
 
 -- what a reader of streams answered, and what it left in the source, is what judging gives
-abbrev pub ReadsStream : Option (List ℕ) → Option (List ℕ) → Result Reading StreamAnswer → Type 0
+abbrev pub ReadsStream : Option (List ℕ) → Option (List ℕ) → Result Reading (Answer Place Cause) → Type 0
 ReadsStream old new result = Gives IsStreamReading old new stream_at (or_stop result)

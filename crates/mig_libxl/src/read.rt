@@ -1,4 +1,5 @@
 ghost use Rattle.std.specs.Prelude.{◌≡◌, ◌≤◌, ◌+◌, ◌^◌, ◌==◌, ◌∷◌, [], ◌++◌, ⊤, ◌≢◌, ◌<◌, List, ℕ, true, false, None, length, IfOk, IfNone, IfSome, IsSome, OnOk, IsErrOf};
+ghost use Rattle.mig_bytes.specs.Answers.{or_stop};
 ghost use Rattle.mig_bytes.specs.Bytes.{AreBytes, padding_len};
 ghost use Rattle.mig_bytes.specs.Faults.{RisesOnReadFault};
 ghost use Rattle.mig_bytes.specs.Judged.{Gives, part};
@@ -8,7 +9,6 @@ ghost use Rattle.mig_pvtables.specs.Blank.{blank, IsOfBytes};
 ghost use Rattle.mig_pvtables.specs.Whole.{IsWhole};
 ghost use Rattle.mig_records.specs.Heads.{head_in};
 ghost use Rattle.mig_restore.specs.Judging.{most_records};
-ghost use Rattle.mig_restore.specs.Stream.{stop_of, or_stop};
 ghost use Rattle.mig_emulators.specs.Content.{LibxlRecord};
 ghost use Rattle.mig_libxl.specs.Among.{image_among};
 ghost use Rattle.mig_emulators.specs.Content.LibxlContent.{Nothing};
@@ -22,7 +22,10 @@ use crate::numbers::{
     CHECKPOINT_END, CHECKPOINT_STATE, CONTEXT, EMULATOR_CONTEXT, EMULATOR_XENSTORE_DATA, EMULATORS,
     END, INDICES, LIBXC_CONTEXT, MAX_RECORDS, PAIRS,
 };
-use mig_bytes::{Memory, ReadFailed, Source, Stop, pad_len, skip, take_long, take_part, u32_le};
+use mig_bytes::{
+    Memory, ReadFailed, Source, Stop, answer_for, pad_len, skip, stop_for, take_long, take_part,
+    u32_le,
+};
 use mig_emulators::Emulators;
 use mig_guest::PartKey;
 use mig_headers::{Cause, ImageHeader, Kind, LibxlHeader, Place, is_optional};
@@ -35,28 +38,6 @@ use std::alloc::Global;
 fn are_bytes(bytes: &[u8])
     ensures { AreBytes bytes.now }
 {}
-
-/// The stop for an answer of the reader of images.
-fn stop_for(answer: StreamAnswer) -> Stop<(Place, Cause)>
-    ensures { result ≡ stop_of answer }
-{
-    match answer {
-        StreamAnswer::Refused(place, cause) => Stop::Refused((place, cause)),
-        StreamAnswer::ReadFault => Stop::ReadFault,
-        StreamAnswer::Memory => Stop::Memory,
-    }
-}
-
-/// The answer for what stopped the reading.
-fn answer_for(stop: Stop<(Place, Cause)>) -> StreamAnswer
-    ensures { stop_of result ≡ stop }
-{
-    match stop {
-        Stop::Refused((place, cause)) => StreamAnswer::Refused(place, cause),
-        Stop::ReadFault => StreamAnswer::ReadFault,
-        Stop::Memory => StreamAnswer::Memory,
-    }
-}
 
 /// Takes a body of which nothing is kept.
 fn skip_body<S: Source>(src: &mut S, len: u32) -> Result<(), Stop<Cause>>

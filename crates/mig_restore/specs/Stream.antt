@@ -1,11 +1,11 @@
 -- Judging an image: two headers, and records up to the one that ends it.
-use Rattle.std.specs.Prelude.{◌≡◌, ℕ, List, length, Option, Result, Ok, Err}
+use Rattle.std.specs.Prelude.{◌≡◌, ℕ, List, length, Option, Result}
+use Rattle.mig_bytes.specs.Answers.{or_stop}
 use Rattle.mig_bytes.specs.Fields.{le32, be32}
 use Rattle.mig_bytes.specs.Judged.{Judged, ◌>>=◌, placed, said_at, Gives}
 use Rattle.mig_bytes.specs.Judged.Judged.{Passes, Faulty}
 use Rattle.mig_bytes.specs.Sequences.{sequence_at}
-use Rattle.mig_bytes.specs.declared.part.Stop.{Stop}
-use Rattle.mig_bytes.specs.declared.part.Stop.TheVariants as stops
+use Rattle.mig_bytes.specs.declared.answer.Answer.{Answer}
 use Rattle.mig_headers.specs.Headers.{fault_of_marker, fault_of_image, fault_of_domain, kind_of_number, behind_marker}
 use Rattle.mig_headers.specs.declared.kind.Kind.{Kind}
 use Rattle.mig_headers.specs.declared.fault.Cause.{Cause}
@@ -15,8 +15,6 @@ use Rattle.mig_headers.specs.declared.fault.Place.TheVariants.{ImageHeader, Doma
 use Rattle.mig_restore.specs.Record.{StreamRecord, is_ended}
 use Rattle.mig_restore.specs.Judging.{Opening, opening_of, next_at}
 use Rattle.mig_restore.specs.Mean.{mean}
-use Rattle.mig_restore.specs.declared.answer.StreamAnswer.{StreamAnswer}
-use Rattle.mig_restore.specs.declared.answer.StreamAnswer.TheVariants.{Refused, ReadFault, Memory}
 use Rattle.mig_restore.specs.declared.read.Reading.{Reading}
 
 -- ---- the headers
@@ -79,16 +77,6 @@ IsRefused input place cause rest = image_at input ≡ Faulty (place, cause) rest
 
 -- ---- what a reader of images answers
 
--- the place and the cause of a refusal, as one
-abbrev pub stop_of : StreamAnswer → Stop (Place × Cause)
-stop_of (Refused place cause) = stops.Refused (place, cause)
-stop_of ReadFault = stops.ReadFault
-stop_of Memory = stops.Memory
-
-abbrev pub or_stop : {X : Type 0} → Result X StreamAnswer → Result X (Stop (Place × Cause))
-or_stop (Ok x) = Ok x
-or_stop (Err answer) = Err (stop_of answer)
-
 -- a reading of an image: the guest that its records mean, its version, and the number of its records
 pub record IsReading (reading : Reading) (image : ImageOf) : Type 0 where
   pub guest : reading.guest ≡ mean image.opening.kind image.records
@@ -96,9 +84,9 @@ pub record IsReading (reading : Reading) (image : ImageOf) : Type 0 where
   pub records : reading.records ≡ length image.records
 
 -- what a reader of images answered, and what it left in the source, is what judging gives
-abbrev pub ReadsImage : Option (List ℕ) → Option (List ℕ) → Result Reading StreamAnswer → Type 0
+abbrev pub ReadsImage : Option (List ℕ) → Option (List ℕ) → Result Reading (Answer Place Cause) → Type 0
 ReadsImage old new result = Gives IsReading old new image_at (or_stop result)
 
 -- the same where the marker was taken before
-abbrev pub ReadsRest : Option (List ℕ) → Option (List ℕ) → Result Reading StreamAnswer → Type 0
+abbrev pub ReadsRest : Option (List ℕ) → Option (List ℕ) → Result Reading (Answer Place Cause) → Type 0
 ReadsRest old new result = Gives IsReading old new image_behind (or_stop result)

@@ -1,4 +1,5 @@
 ghost use Rattle.std.specs.Prelude.{◌≡◌, ℕ, ◌<◌, ◌+◌, ◌^◌, ◌==◌, ◌∷◌, [], ◌++◌, List, ⊤, true, None, IfOk, IfNone, OnOk, IsErrOf};
+ghost use Rattle.mig_bytes.specs.Answers.{or_stop};
 ghost use Rattle.mig_bytes.specs.Bytes.{padding_len};
 ghost use Rattle.mig_bytes.specs.Faults.{RisesOnReadFault};
 ghost use Rattle.mig_bytes.specs.Judged.{Gives, part};
@@ -12,12 +13,12 @@ ghost use Rattle.mig_restore.specs.Mean.{sent, put_record, IsBegun, Grows};
 ghost use Rattle.mig_restore.specs.Record.{StreamRecord, types_of};
 ghost use Rattle.mig_restore.specs.Judging.{Opening, Before, most_records, opening_of, record_at, next_at};
 ghost use Rattle.mig_restore.specs.Seen.{IsSeen};
-ghost use Rattle.mig_restore.specs.Stream.{or_stop, ReadsImage, ReadsRest, IsReading, image_at, image_behind, records_at, opening_at, opening_behind, marker_at, version_at, kind_at};
+ghost use Rattle.mig_restore.specs.Stream.{ReadsImage, ReadsRest, IsReading, image_at, image_behind, records_at, opening_at, opening_behind, marker_at, version_at, kind_at};
 
-use crate::answer::{StreamAnswer, answer};
+use crate::answer::StreamAnswer;
 use crate::body::take_body;
 use crate::head::Seen;
-use mig_bytes::{Source, Stop, pad_len, take_part};
+use mig_bytes::{Source, Stop, answer_for, pad_len, take_part};
 use mig_guest::Guest;
 use mig_headers::{Cause, DomainHeader, ImageHeader, Kind, Place};
 use mig_pvtables::{WholeAnswer, blank, whole};
@@ -241,7 +242,7 @@ pub fn read_image<S: Source>(alloc: Global, src: &mut S) -> Result<Reading, Stre
 {
     match read_parts(alloc, src) {
         Ok(reading) => Ok(reading),
-        Err(stop) => Err(answer(stop)),
+        Err(stop) => Err(answer_for(stop)),
     }
 }
 
@@ -256,6 +257,6 @@ pub fn read_image_rest<S: Source>(alloc: Global, src: &mut S) -> Result<Reading,
 {
     match read_rest(alloc, src) {
         Ok(reading) => Ok(reading),
-        Err(stop) => Err(answer(stop)),
+        Err(stop) => Err(answer_for(stop)),
     }
 }

@@ -12,7 +12,7 @@ pub use Rattle.mig_tool.specs.Answers.{AcceptedIn, Comes, ComesOf, Done, DonePar
 pub use Rattle.mig_tool.specs.Answers.Form.{Legacy, Modern}
 pub use Rattle.mig_libxl.specs.Carried.{IsCarried}
 pub use Rattle.mig_report.specs.Outcome.{line_of, status_of}
-pub use Rattle.mig_tool.specs.Outcomes.{outcome_of, outcome_of_legacy}
+pub use Rattle.mig_tool.specs.Outcomes.{outcome_of}
 pub use Rattle.mig_report.specs.Words.{IsBase, Names}
 pub use Rattle.mig_report.specs.declared.command.Command.{Command}
 pub use Rattle.mig_report.specs.declared.command.Command.TheVariants.{Convert, Normalise, Restore, Verify}

@@ -1,5 +1,5 @@
 -- What the program answers, and what the line on the report comes to.
-use Rattle.mig_tool.proofs.Common.{◌⊎◌, ◌≡◌, ℕ, ◌++◌, List, [], length, arith, Option, Some, None, Result, Ok, Err, refl, sym, ap, subst, ◌∙◌, GuestOf, AcceptedStream, AcceptedIn, RefusedIn, Form, Legacy, Modern, form_of, Refusal, Kind, Hvm, Pv, IsCarried, IsFew, IsBase, restored_text, Written, Done, DonePart, Comes, ComesOf, Says, SaysOf, InputRises, IsLine, summary_of, Command, Convert, Normalise, Restore, Verify, mean_kind, status_of, line_of, outcome_of, outcome_of_legacy}
+use Rattle.mig_tool.proofs.Common.{◌⊎◌, ◌≡◌, ℕ, ◌++◌, List, [], length, arith, Option, Some, None, Result, Ok, Err, refl, sym, ap, subst, ◌∙◌, GuestOf, AcceptedStream, AcceptedIn, RefusedIn, Form, Legacy, Modern, form_of, Refusal, Kind, Hvm, Pv, IsCarried, IsFew, IsBase, restored_text, Written, Done, DonePart, Comes, ComesOf, Says, SaysOf, InputRises, IsLine, summary_of, Command, Convert, Normalise, Restore, Verify, mean_kind, status_of, line_of, outcome_of}
 use mathlib.Core.Logic.{inl, inr}
 use Rattle.std.specs.Io.KnownBytes.{Appends}
 use Rattle.mig_bytes.specs.Bytes.{Puts}
@@ -13,8 +13,6 @@ use Rattle.mig_legacy.proofs.Laws.{never_both as never_both_legacy}
 use Rattle.mig_legacy.specs.Legacy.{LegacyStream, mean_legacy}
 use Rattle.mig_legacy.specs.Spelled.{AcceptedLegacy}
 use Rattle.mig_legacy.specs.Stream.{ReadsLegacy, legacy_at}
-use Rattle.mig_legacy.specs.declared.read.LegacyAnswer.{LegacyAnswer}
-use Rattle.mig_legacy.specs.declared.read.LegacyAnswer.TheVariants as legacy
 use Rattle.mig_libxl.proofs.AnyCanons.{canon_is_accepted, canon_is_one_to_one}
 use Rattle.mig_pvtables.specs.Blank.{IsOfBytes}
 use Rattle.mig_bytes.specs.Judged.Judged.{Passes}
@@ -33,8 +31,12 @@ use Rattle.mig_pvtables.proofs.PvGuests.{pv_complete}
 use Rattle.mig_host.proofs.HostedGuests.{whole_valid, whole_sound, whole_seen}
 use Rattle.mig_bytes.specs.Bytes.{AppendsPart}
 use Rattle.mig_report.specs.declared.outcome.Summary.{Summary}
-use Rattle.mig_restore.specs.declared.answer.StreamAnswer.{StreamAnswer}
-use Rattle.mig_restore.specs.declared.answer.StreamAnswer.TheVariants as answers
+use Rattle.mig_bytes.specs.declared.answer.Answer.{Answer}
+use Rattle.mig_bytes.specs.declared.answer.Answer.TheVariants as answers
+use Rattle.mig_headers.specs.declared.fault.Cause.{Cause}
+use Rattle.mig_headers.specs.declared.fault.Place.{Place}
+use Rattle.mig_headers.specs.declared.legacy_fault.LegacyCause.{LegacyCause}
+use Rattle.mig_headers.specs.declared.legacy_fault.LegacyPlace.{LegacyPlace}
 use Rattle.std.specs.FinMap as maps
 use Rattle.mig_tool.specs.Answers.{Normalised, PartWritten}
 use Rattle.mig_report.specs.Report.{ok_line}
@@ -212,21 +214,21 @@ restored (Some input) left w reading base outcome (stream, rest, accepts, left_i
 restored (Some input) left w reading base outcome h carried bytes range done part (inr (inr is)) = subst (Comes (Restore base) input left w) (sym is) tt
 
 -- no stream was read
-pub not_read : (command : Command) (told left : Option (List ℕ)) (w : Written) (answer : StreamAnswer) (outcome : Outcome) → form_of command ≡ Modern → ReadsStream told left (Err answer) → outcome ≡ outcome_of answer → ComesOf command told left w outcome
+pub not_read : (command : Command) (told left : Option (List ℕ)) (w : Written) (answer : Answer Place Cause) (outcome : Outcome) → form_of command ≡ Modern → ReadsStream told left (Err answer) → outcome ≡ outcome_of refusals.Stream answer → ComesOf command told left w outcome
 not_read command told left w answer outcome modern h is = subst (ComesOf command told left w) (sym is) (by told answer h)
   where
-    by : (told : Option (List ℕ)) (answer : StreamAnswer) → ReadsStream told left (Err answer) → ComesOf command told left w (outcome_of answer)
+    by : (told : Option (List ℕ)) (answer : Answer Place Cause) → ReadsStream told left (Err answer) → ComesOf command told left w (outcome_of refusals.Stream answer)
     by None answer h = tt
     by (Some input) (answers.Refused place cause) (rest, refused, is) = (rest, subst (λ f. RefusedIn f input (refusals.Stream place cause) rest) (sym modern) refused, is)
     by (Some input) _ h = tt
 
 -- no legacy stream was read
-pub not_converted : (told left : Option (List ℕ)) (w : Written) (answer : LegacyAnswer) (outcome : Outcome) → ReadsLegacy told left (Err answer) → outcome ≡ outcome_of_legacy answer → ComesOf Convert told left w outcome
+pub not_converted : (told left : Option (List ℕ)) (w : Written) (answer : Answer LegacyPlace LegacyCause) (outcome : Outcome) → ReadsLegacy told left (Err answer) → outcome ≡ outcome_of refusals.Legacy answer → ComesOf Convert told left w outcome
 not_converted told left w answer outcome h is = subst (ComesOf Convert told left w) (sym is) (by told answer h)
   where
-    by : (told : Option (List ℕ)) (answer : LegacyAnswer) → ReadsLegacy told left (Err answer) → ComesOf Convert told left w (outcome_of_legacy answer)
+    by : (told : Option (List ℕ)) (answer : Answer LegacyPlace LegacyCause) → ReadsLegacy told left (Err answer) → ComesOf Convert told left w (outcome_of refusals.Legacy answer)
     by None answer h = tt
-    by (Some input) (legacy.Refused place cause) (rest, refused, is) = (rest, refused, is)
+    by (Some input) (answers.Refused place cause) (rest, refused, is) = (rest, refused, is)
     by (Some input) _ h = tt
 
 abbrev pub reported : Result (Unit {0}) WriteFailed → Status

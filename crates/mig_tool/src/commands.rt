@@ -6,11 +6,12 @@ ghost use Rattle.mig_pvtables.specs.Whole.{IsWhole};
 ghost use Rattle.mig_libxl.specs.Canon.{canon_any};
 ghost use Rattle.mig_tool.specs.Answers.{form_of, SaysOf, ComesOf, WriteRose, InputRises, OutputRises, IsLine, HasOwnLine, PutsOwnLine, LeavesOut, restored_text};
 ghost use Rattle.mig_report.specs.Outcome.{status_of};
-ghost use Rattle.mig_tool.specs.Outcomes.{outcome_of, outcome_of_legacy};
+ghost use Rattle.mig_tool.specs.Outcomes.{outcome_of};
 ghost use Rattle.mig_report.specs.Report.{Reports};
 ghost use Rattle.mig_report.specs.Words.{IsBase};
 ghost use Rattle.mig_report.specs.declared.command.Command.TheVariants as commands;
 ghost use Rattle.mig_report.specs.declared.outcome.Outcome.TheVariants as outcomes;
+ghost use Rattle.mig_report.specs.declared.outcome.Refusal.TheVariants as refusals;
 ghost use Rattle.mig_report.specs.declared.status.Status.TheVariants as statuses;
 
 use mig_bytes::{Sink, Source};
@@ -24,7 +25,7 @@ use std::alloc::Global;
 
 /// The outcome where no stream is read.
 fn unread(answer: StreamAnswer) -> Outcome
-    ensures { result ≡ outcome_of answer }
+    ensures { result ≡ outcome_of refusals.Stream answer }
 {
     match answer {
         StreamAnswer::Refused(place, cause) => Outcome::Refused(Refusal::Stream(place, cause)),
@@ -35,7 +36,7 @@ fn unread(answer: StreamAnswer) -> Outcome
 
 /// The outcome where no legacy stream is read.
 fn unconverted(answer: LegacyAnswer) -> Outcome
-    ensures { result ≡ outcome_of_legacy answer }
+    ensures { result ≡ outcome_of refusals.Legacy answer }
 {
     match answer {
         LegacyAnswer::Refused(place, cause) => Outcome::Refused(Refusal::Legacy(place, cause)),
