@@ -1,6 +1,5 @@
 pub mod HeaderLaws
 pub mod RecordNumbers
-pub mod Writing
 pub mod Chains
 pub mod PairTexts
 pub mod FirstFaults

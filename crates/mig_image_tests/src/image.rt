@@ -1,8 +1,9 @@
 use mig_bytes::{MemSink, MemSource, WriteFailed, put_all, skip};
 use mig_guest::PartKey;
-use mig_headers::{Kind, put_image_cause, put_image_place};
+use mig_headers::Kind;
 use mig_image::{Host, ImageAnswer, read_host, write_host};
 use mig_pagetypes::PageType;
+use mig_texts::{put_image_cause, put_image_place};
 use std::alloc::Global;
 use std::process::Abort;
 use std::test::Fail;

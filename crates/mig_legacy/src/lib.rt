@@ -5,7 +5,7 @@
 //! pieces: which number a chunk's type has, what is wrong with the words of a batch, which words of a PAGE_DATA name the
 //! same frames, and which pairs the data of a toolstack make. Left to others: what a single word says (mig_pagetypes),
 //! the pages of a batch (mig_restore), what pairs of texts mean (mig_policy), the device model (mig_emulators), contexts
-//! (mig_hvm), and the lines of refusals (mig_headers).
+//! (mig_hvm), and the printed texts of refusals (mig_texts).
 //!
 //! What the layers above rely on: `read_legacy` answers the guest that the accepted front of the input means, or the
 //! first fault with its place, and has taken just the accepted front, or all up to the end of the faulty part.

@@ -50,12 +50,10 @@ unfoldable pub use Rattle.mig_headers.specs.Contexts.{after_entry, fault_at, sca
 pub use Rattle.mig_headers.specs.Contexts.{ChainTo, Scanned, entry_end, is_last, scan_at}
 pub use Rattle.mig_headers.specs.FirstCauses.{IsEarlier, IsTriedFirst}
 pub use Rattle.mig_headers.specs.Headers.{domain_rows, fault_of_domain, fault_of_image, fault_of_libxl, fault_of_marker, image_rows, is_from_legacy, kind_number, kind_of_number, libxl_ident, libxl_rows, marker_rows}
-pub use Rattle.mig_headers.specs.ImageTexts.{number_of_image_cause}
-pub use Rattle.mig_headers.specs.LegacyTexts.{number_of_legacy_cause}
+pub use Rattle.mig_headers.specs.CauseNumbers.{number_of_cause, number_of_image_cause, number_of_legacy_cause}
 pub use Rattle.mig_headers.specs.Pairs.{AreCanonicalPairs, are_canonical_pairs}
 pub use Rattle.mig_headers.specs.RecordTypes.{is_optional, pv, record_row_of, type_number, type_of_number}
 pub use Rattle.mig_headers.specs.Rows.{first_fault}
-pub use Rattle.mig_headers.specs.Texts.{number_of_cause}
 pub use Rattle.mig_headers.specs.declared.fault.Cause.{Cause}
 pub use Rattle.mig_headers.specs.declared.fault.Cause.TheVariants.{BadContext, BadEmulator, BadKey, BadLength, BadPageType, BadPairs, BadPvInfo, BodyTooLong, ContextCount, EmulatorForPv, EmulatorIndex, GdtEnts, Missing, OutOfOrder, P2mFrame, P2mRange, P2mStart, ParamIndex, PfnOutside, Pv32, TargetAbsent, TooManyFrames, TooManyPairs, TooManyRecords, Truncated, UnknownMandatory, Unsupported, VcpuFrame, VcpuId, WrongKind}
 pub use Rattle.mig_headers.specs.declared.fault.ContextFault.{ContextFault}

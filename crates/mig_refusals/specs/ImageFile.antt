@@ -7,7 +7,7 @@ use Rattle.mig_bytes.specs.Failing.{IsFaultless, Fails}
 use Rattle.mig_bytes.specs.Fields.{le32, le64, be64}
 use Rattle.mig_headers.specs.FirstCauses.{IsTriedFirst}
 use Rattle.mig_headers.specs.Headers.{kind_number}
-use Rattle.mig_headers.specs.ImageTexts.{number_of_image_cause}
+use Rattle.mig_headers.specs.CauseNumbers.{number_of_image_cause}
 use Rattle.mig_headers.specs.Pairs.{AreCanonicalPairs}
 use Rattle.mig_headers.specs.declared.image_fault.ImageCause.{ImageCause}
 use Rattle.mig_headers.specs.declared.image_fault.ImageCause.TheVariants.{Truncated, NotImage, BadKind, Reserved, Width, FrameCount, BadPageType, FrameOrder, FrameOutside, MachineFrame, MachineTwice, PartOrder, PartMany, PartLength, PartBytes, PartPadding}

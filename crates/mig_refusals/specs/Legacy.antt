@@ -8,7 +8,7 @@ use Rattle.mig_bytes.specs.Fields.{le32, be64}
 use Rattle.mig_bytes.specs.Sequences.{Spells}
 use Rattle.mig_headers.specs.FirstCauses.{IsTriedFirst}
 use Rattle.mig_headers.specs.Headers.{marker, libxl_ident}
-use Rattle.mig_headers.specs.LegacyTexts.{number_of_legacy_cause}
+use Rattle.mig_headers.specs.CauseNumbers.{number_of_legacy_cause}
 use Rattle.mig_headers.specs.declared.fault.ContextFault.{ContextFault}
 use Rattle.mig_headers.specs.declared.kind.Kind.TheVariants.{Hvm}
 use Rattle.mig_headers.specs.declared.legacy_fault.LegacyCause.{LegacyCause}

@@ -8,7 +8,7 @@ use Rattle.mig_bytes.specs.Sequences.{Spells}
 use Rattle.mig_bytes.specs.Fields.{le16, le32, le64, be16, be32, be64}
 use Rattle.mig_headers.specs.Headers.{marker as all_ones, image_id, page_shift, IsImageHeader, IsDomainHeader}
 use Rattle.mig_headers.specs.RecordTypes.{record_row_of, type_number, type_of_number}
-use Rattle.mig_headers.specs.Texts.{number_of_cause}
+use Rattle.mig_headers.specs.CauseNumbers.{number_of_cause}
 use Rattle.mig_headers.specs.declared.fault.Cause.{Cause}
 use Rattle.mig_headers.specs.declared.fault.Cause.TheVariants.{Truncated, NotStream, BadId, BadVersion, BigEndian, BadKind, BadPageShift, BodyTooLong, Unsupported, UnknownMandatory, WrongKind, OutOfOrder, BadLength, NoPages, BadPageType, PfnOutside, BadContext, ParamIndex, Missing, TooManyRecords, TooManyFrames}
 use Rattle.mig_headers.specs.declared.fault.ContextFault.{ContextFault}

@@ -5,8 +5,8 @@ use Rattle.mig_bytes.specs.Bytes.{AppendsPart}
 use Rattle.mig_bytes.specs.Faults.{Rose}
 use Rattle.mig_headers.specs.declared.kind.Kind.{Kind}
 use Rattle.mig_headers.specs.declared.kind.Kind.TheVariants.{Pv, Hvm}
-use Rattle.mig_headers.specs.LegacyTexts.{text_of_legacy_place, text_of_legacy_cause}
-use Rattle.mig_headers.specs.Texts.{text_of_place, text_of_cause}
+use Rattle.mig_texts.specs.LegacyTexts.{text_of_legacy_place, text_of_legacy_cause}
+use Rattle.mig_texts.specs.Texts.{text_of_place, text_of_cause}
 use Rattle.mig_report.specs.declared.outcome.Refusal.{Refusal}
 use Rattle.mig_report.specs.declared.outcome.Refusal.TheVariants.{Stream, Legacy}
 use Rattle.mig_report.specs.declared.outcome.Summary.{Summary}

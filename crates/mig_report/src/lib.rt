@@ -2,7 +2,7 @@
 //!
 //! Responsible for: which command the words name, which status and which line an outcome has, and putting that line, or
 //! the line of `verify`, on a sink. Left to others: what a command does (mig_tool), and how a place or a cause is printed
-//! (mig_headers).
+//! (mig_texts).
 //!
 //! What the layers above rely on: a command is found exactly where the words name one, and words name one at most; of a
 //! line exactly its bytes are put, or some first bytes where a write failed.

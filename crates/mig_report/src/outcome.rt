@@ -8,10 +8,8 @@ ghost use Rattle.mig_report.specs.declared.outcome.Refusal.TheVariants as refusa
 
 use crate::status::Status;
 use mig_bytes::{Sink, WriteFailed, put_all};
-use mig_headers::{
-    Cause, Kind, LegacyCause, LegacyPlace, Place, put_cause, put_legacy_cause, put_legacy_place,
-    put_number, put_place,
-};
+use mig_headers::{Cause, Kind, LegacyCause, LegacyPlace, Place};
+use mig_texts::{put_cause, put_legacy_cause, put_legacy_place, put_number, put_place};
 
 /// The place and the cause of a refusal: of a stream, or of a legacy stream.
 #[derive(Clone, Copy, Debug, PartialEq, Eq)]

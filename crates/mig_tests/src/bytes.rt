@@ -2,8 +2,9 @@ use mig_bytes::{
     Got, InSource, MemSink, MemSource, OutSink, ReadFailed, TakeFault, WriteFailed, put_all, skip,
     take_exact, take_vec,
 };
-use mig_headers::{Cause, put_cause};
+use mig_headers::Cause;
 use mig_records::write_record;
+use mig_texts::put_cause;
 use std::io;
 use std::io::{Read, Write};
 use std::test::Fail;

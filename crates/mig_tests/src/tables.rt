@@ -1,10 +1,10 @@
 use mig_bytes::{MemSink, put_all};
 use mig_headers::{
     Cause, ContextFault, Kind, LegacyCause, LegacyPlace, RecordType, Unsound, is_optional,
-    put_cause, put_legacy_cause, put_legacy_place, put_unsound,
 };
 use mig_pagetypes::{FrameWord, LegacyWord, PageType, decode_legacy_word};
 use mig_policy::canonical_pairs;
+use mig_texts::{put_cause, put_legacy_cause, put_legacy_place, put_unsound};
 use std::test::Fail;
 
 // Number, whether the type is supported, whether it stands in PV and in HVM guests, a length that it may have, and one

@@ -1,10 +1,10 @@
 -- Texts that are written a part at a time.
-use Rattle.std.proofs.Common.{List, ℕ, [], ◌∷◌, ◌++◌, codes, Option, Result, ap, sym, append-nil}
+use Rattle.std.proofs.Common.{List, ℕ, [], ◌∷◌, ◌++◌, codes, Option, Result, ap, append-nil}
 use Rattle.std.specs.Io.KnownBytes.{Appends}
 use Rattle.mig_bytes.specs.declared.failure.WriteFailed.{WriteFailed}
 use Rattle.mig_bytes.specs.Bytes.{Puts}
 use Rattle.mig_bytes.proofs.Texts.{puts_then, puts_same}
-use Rattle.mig_headers.specs.Texts.{spaced}
+use Rattle.mig_texts.specs.Texts.{spaced}
 
 -- a word, and a last one
 pub two_words : {X : Type 0} (first second : List ℕ) (a b c : Option (List ℕ)) (r : Result X WriteFailed) → Appends a b (codes " " ++ first) → Puts (codes " " ++ second) b c r

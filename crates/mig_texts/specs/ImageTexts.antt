@@ -1,30 +1,11 @@
 -- The printed texts of the places and causes of a guest image's refusal: number, name and argument, parted by one space.
 use Rattle.std.specs.Prelude.{ℕ, List, [], ◌∷◌, ◌++◌, codes, decimal}
+use Rattle.mig_headers.specs.CauseNumbers.{number_of_image_cause}
 use Rattle.mig_headers.specs.declared.image_fault.ImagePlace.{ImagePlace}
 use Rattle.mig_headers.specs.declared.image_fault.ImagePlace.TheVariants.{Head, Frame, Parts, Part}
 use Rattle.mig_headers.specs.declared.image_fault.ImageCause.{ImageCause}
 use Rattle.mig_headers.specs.declared.image_fault.ImageCause.TheVariants.{Truncated, NotImage, BadKind, Reserved, Width, FrameCount, BadPageType, FrameOrder, FrameOutside, MachineFrame, MachineTwice, PartKey, PartOrder, PartMany, PartLength, PartBytes, PartPadding}
-use Rattle.mig_headers.specs.Texts.{spaced}
-
--- the number of a cause
-abbrev pub number_of_image_cause : ImageCause → ℕ
-number_of_image_cause Truncated = 1
-number_of_image_cause NotImage = 2
-number_of_image_cause (BadKind _) = 3
-number_of_image_cause Reserved = 4
-number_of_image_cause (Width _) = 5
-number_of_image_cause (FrameCount _) = 6
-number_of_image_cause (BadPageType _) = 7
-number_of_image_cause (FrameOrder _) = 8
-number_of_image_cause (FrameOutside _) = 9
-number_of_image_cause (MachineFrame _) = 10
-number_of_image_cause (MachineTwice _) = 11
-number_of_image_cause (PartKey _) = 12
-number_of_image_cause (PartOrder _) = 13
-number_of_image_cause (PartMany _) = 14
-number_of_image_cause (PartLength _) = 15
-number_of_image_cause PartBytes = 16
-number_of_image_cause PartPadding = 17
+use Rattle.mig_texts.specs.Texts.{spaced}
 
 -- the name of a cause
 abbrev pub name_of_image_cause : ImageCause → List ℕ

@@ -1,32 +1,11 @@
 -- The printed texts of the places and causes of a legacy stream's refusal: number, name and arguments, parted by one space.
 use Rattle.std.specs.Prelude.{ℕ, List, [], ◌∷◌, ◌++◌, codes, decimal}
+use Rattle.mig_headers.specs.CauseNumbers.{number_of_legacy_cause}
 use Rattle.mig_headers.specs.declared.legacy_fault.LegacyPlace.{LegacyPlace}
 use Rattle.mig_headers.specs.declared.legacy_fault.LegacyPlace.TheVariants.{Start, Chunk, Tail, Device}
 use Rattle.mig_headers.specs.declared.legacy_fault.LegacyCause.{LegacyCause}
 use Rattle.mig_headers.specs.declared.legacy_fault.LegacyCause.TheVariants.{Truncated, Modern, Tools32, VerifyOrPv, Tmem, Compressed, UnknownChunk, BatchTooLarge, BadPageType, WordHigh, BadVcpuMax, BadToolstack, UnpairedIoreq, BadContext, BadSignature, TooManyChunks, TooManyFrames, BodyTooLong, TooManyPairs}
-use Rattle.mig_headers.specs.Texts.{spaced, words_of_context}
-
--- the number of a cause
-abbrev pub number_of_legacy_cause : LegacyCause → ℕ
-number_of_legacy_cause Truncated = 1
-number_of_legacy_cause Modern = 2
-number_of_legacy_cause Tools32 = 3
-number_of_legacy_cause VerifyOrPv = 4
-number_of_legacy_cause Tmem = 5
-number_of_legacy_cause Compressed = 6
-number_of_legacy_cause (UnknownChunk _) = 7
-number_of_legacy_cause (BatchTooLarge _) = 8
-number_of_legacy_cause (BadPageType _ _) = 9
-number_of_legacy_cause (WordHigh _) = 10
-number_of_legacy_cause (BadVcpuMax _) = 11
-number_of_legacy_cause (BadToolstack _) = 12
-number_of_legacy_cause UnpairedIoreq = 13
-number_of_legacy_cause (BadContext _) = 14
-number_of_legacy_cause BadSignature = 15
-number_of_legacy_cause TooManyChunks = 16
-number_of_legacy_cause TooManyFrames = 17
-number_of_legacy_cause (BodyTooLong _) = 18
-number_of_legacy_cause TooManyPairs = 19
+use Rattle.mig_texts.specs.Texts.{spaced, words_of_context}
 
 -- the name of a cause
 abbrev pub name_of_legacy_cause : LegacyCause → List ℕ
