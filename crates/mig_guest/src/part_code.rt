@@ -17,6 +17,12 @@ const P2M_SLOTS: u64 = 512;
 /// The most bytes of an emulator's pairs.
 const MAX_PAIRS: u32 = 1 << 24;
 
+/// The number of the parts that are an emulator's pairs.
+pub const EMULATOR_PAIRS: u32 = 258;
+
+/// The number of the parts that are an emulator's context.
+pub const EMULATOR_CONTEXT: u32 = 259;
+
 /// What a part is. The number of each is the type of the record that sets it, and for the parts of an emulator 256 more
 /// than the type of the libxl record.
 #[derive(Clone, Copy, Debug, PartialEq, Eq)]
@@ -57,8 +63,8 @@ impl PartCode {
             12 => Some(PartCode::VcpuMsrs),
             17 => Some(PartCode::CpuidLeaf),
             18 => Some(PartCode::Msr),
-            258 => Some(PartCode::EmulatorPairs),
-            259 => Some(PartCode::EmulatorContext),
+            EMULATOR_PAIRS => Some(PartCode::EmulatorPairs),
+            EMULATOR_CONTEXT => Some(PartCode::EmulatorContext),
             _ => None,
         }
     }
@@ -79,8 +85,8 @@ impl PartCode {
             PartCode::VcpuMsrs => 12,
             PartCode::CpuidLeaf => 17,
             PartCode::Msr => 18,
-            PartCode::EmulatorPairs => 258,
-            PartCode::EmulatorContext => 259,
+            PartCode::EmulatorPairs => EMULATOR_PAIRS,
+            PartCode::EmulatorContext => EMULATOR_CONTEXT,
         }
     }
 

@@ -1,6 +1,6 @@
 -- A chunk as the reader takes it: its type, its body, and what was kept once it is counted.
 use Rattle.std.proofs.Math.Bool.{or-false}
-use Rattle.mig_legacy.proofs.Common.{◌≡◌, ℕ, ◌+◌, List, [], ◌∷◌, ◌++◌, refl, sym, ap, ◌∙◌, length-append, ◌||◌, flat_map-append, list_any-append, fold-append, Judged, ◌>>=◌, Passes, Hvm, LegacyCause, sent, put_record, empty_guest, put_libxl_content, no_emulators, emulators_of, chunk_kind_at, chunk_content_at, chunk_at, LegacyContent, LegacyChunk, is_value_of, has_value, records_in, pair_records, image_records, store_records, IsLegacySeen, TakesLegacy, ChunkKind, Seen}
+use Rattle.mig_legacy.proofs.Common.{◌≡◌, ℕ, ◌+◌, List, [], ◌∷◌, ◌++◌, refl, sym, ap, ◌∙◌, length-append, ◌||◌, flat_map-append, list_any-append, fold-append, Judged, ◌>>=◌, Passes, Hvm, LegacyCause, sent, put_record, empty_guest, put_libxl_content, no_emulators, emulators_of, chunk_kind_at, chunk_content_at, chunk_at, LegacyContent, LegacyChunk, is_value_of, has_value, records_in, pair_records, image_records, store_records, IsLegacySeen, TakesLegacy, ChunkKind, ChunksSeen}
 use Rattle.std.proofs.Common.{fold, append-nil}
 
 abbrev pub chunk_of : ChunkKind → LegacyContent → LegacyChunk
@@ -30,14 +30,14 @@ value_more : (index : ℕ) (chunks : List LegacyChunk) (c : LegacyChunk) → has
 value_more index chunks c = list_any-append (λ (x : LegacyChunk). is_value_of index x.kind) chunks (c ∷ []) ∙ ap (λ b. has_value index chunks || b) (or-false (is_value_of index c.kind))
 
 -- what was kept, once the chunk is counted
-pub record Counts (mid new : Seen) (kind : ChunkKind) : Type 0 where
+pub record Counts (mid new : ChunksSeen) (kind : ChunkKind) : Type 0 where
   pub guest : new.guest ≡ mid.guest
   pub emulators : new.emulators ≡ mid.emulators
   pub chunks : new.chunks ≡ mid.chunks + 1
   pub requests : new.requests ≡ (mid.requests || is_value_of 32 kind)
   pub buffered : new.buffered ≡ (mid.buffered || is_value_of 33 kind)
 
-pub seen_more : (old mid new : Seen) (chunks : List LegacyChunk) (kind : ChunkKind) (content : LegacyContent) → IsLegacySeen old chunks → TakesLegacy old mid content → Counts mid new kind → IsLegacySeen new (chunks ++ chunk_of kind content ∷ [])
+pub seen_more : (old mid new : ChunksSeen) (chunks : List LegacyChunk) (kind : ChunkKind) (content : LegacyContent) → IsLegacySeen old chunks → TakesLegacy old mid content → Counts mid new kind → IsLegacySeen new (chunks ++ chunk_of kind content ∷ [])
 unfolding sent emulators_of
 seen_more old mid new chunks kind content seen takes counts =
     let c = chunk_of kind content in

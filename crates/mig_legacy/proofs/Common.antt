@@ -47,7 +47,7 @@ pub use Rattle.mig_legacy.specs.Texts.{without_zeros, physmap_pair, name_pairs, 
 pub use Rattle.mig_legacy.specs.Toolstack.{Physmap, IsName, ArePhysmaps, IsToolstack, name_bytes, IsPhysmapHead}
 pub use Rattle.mig_legacy.specs.declared.chunk.ChunkKind.{ChunkKind}
 pub use Rattle.mig_legacy.specs.declared.chunk.ChunkKind.TheVariants.{End, Batch, VcpuMap, Tsc, LastCheckpoint, Toolstack, Param}
-pub use Rattle.mig_legacy.specs.declared.read.Seen.{Seen}
+pub use Rattle.mig_legacy.specs.declared.read.ChunksSeen.{ChunksSeen}
 pub use Rattle.mig_emulators.proofs.Formed.{store_small, pairs_kept, context_kept}
 pub use Rattle.mig_emulators.proofs.EmulatorGuests.{part_there, IsDone, guest_done}
 unfoldable pub use Rattle.mig_emulators.specs.Emulators.{emulators_of}

@@ -14,10 +14,10 @@ use Rattle.mig_emulators.specs.Formed.{AreEmulators}
 use Rattle.mig_legacy.specs.Legacy.{LegacyContent, LegacyChunk, LegacyTail, has_value, records_in, pair_records, tail_records, device_records, image_records, store_records}
 use Rattle.mig_legacy.specs.declared.chunk.ChunkKind.{ChunkKind}
 use Rattle.mig_legacy.specs.declared.chunk.ChunkKind.TheVariants.{Batch, Param}
-use Rattle.mig_legacy.specs.declared.read.Seen.{Seen}
+use Rattle.mig_legacy.specs.declared.read.ChunksSeen.{ChunksSeen}
 
 -- the reader has these chunks behind it
-pub record IsLegacySeen (seen : Seen) (chunks : List LegacyChunk) : Type 0 where
+pub record IsLegacySeen (seen : ChunksSeen) (chunks : List LegacyChunk) : Type 0 where
   pub count : seen.chunks ≡ length chunks
   pub guest : seen.guest ≡ sent Hvm (image_records chunks)
   pub emulators : seen.emulators ≡ emulators_of (store_records chunks)
@@ -26,7 +26,7 @@ pub record IsLegacySeen (seen : Seen) (chunks : List LegacyChunk) : Type 0 where
 
 -- ---- what reading keeps, whatever chunks come
 
-pub record IsLegacyBegun (seen : Seen) : Type 0 where
+pub record IsLegacyBegun (seen : ChunksSeen) : Type 0 where
   pub hvm : seen.guest.kind ≡ Hvm
   pub guest : IsGuestBegun seen.guest
   pub emulators : AreEmulators seen.emulators
@@ -59,7 +59,7 @@ cut_short ReadFault = ReadFault
 cut_short Memory = Memory
 
 -- what the content of a chunk makes of what was kept
-pub record TakesLegacy (old new : Seen) (c : LegacyContent) : Type 0 where
+pub record TakesLegacy (old new : ChunksSeen) (c : LegacyContent) : Type 0 where
   pub guest : new.guest ≡ put_in_guest old.guest c
   pub emulators : new.emulators ≡ put_in_emulators old.emulators c
   pub chunks : new.chunks ≡ old.chunks

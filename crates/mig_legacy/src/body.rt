@@ -17,7 +17,7 @@ use crate::text::put;
 use crate::toolstack::{physmap_pairs, toolstack_fault};
 use mig_bytes::{Memory, ReadFailed, Source, Stop, skip, take_long, take_part, u32_le};
 use mig_emulators::Emulators;
-use mig_guest::{Guest, PartKey};
+use mig_guest::{EMULATOR_PAIRS, Guest, PartKey};
 use mig_headers::{Cause, LegacyCause};
 use mig_policy::PairsAnswer;
 use mig_restore::{take_entries, words_of};
@@ -38,7 +38,7 @@ const TSC: PartKey = PartKey {
 
 /// The store of the device model.
 const STORE: PartKey = PartKey {
-    code: 258,
+    code: EMULATOR_PAIRS,
     key1: 0,
     key2: 0,
 };

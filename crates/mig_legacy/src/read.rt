@@ -26,13 +26,11 @@ use mig_bytes::{Answer, Memory, Source, Stop, answer_for, take_part, u32_le};
 use mig_emulators::Emulators;
 use mig_guest::Guest;
 use mig_headers::{ImageHeader, Kind, LegacyCause, LegacyPlace, LibxlHeader};
+use mig_pagetypes::MAX_FRAMES;
 use std::alloc::Global;
 
 /// The most chunks of a stream.
 const MAX_CHUNKS: u32 = 1 << 28;
-
-/// The most frames of a guest.
-const MAX_FRAMES: u64 = 1 << 24;
 
 /// Why a legacy stream isn't read.
 pub type LegacyAnswer = Answer<LegacyPlace, LegacyCause>;
@@ -76,7 +74,7 @@ fn ends_chunks(kind: ChunkKind) -> bool
 
 /// What the reader keeps of the chunks before.
 #[derive(Drop)]
-pub(crate) struct Seen {
+pub(crate) struct ChunksSeen {
     pub(crate) guest: Guest,
     pub(crate) emulators: Emulators,
     pub(crate) chunks: u32,
@@ -85,13 +83,13 @@ pub(crate) struct Seen {
     pub(crate) buffered: bool,
 }
 
-impl Seen {
+impl ChunksSeen {
     // Before the first chunk.
-    fn new(alloc: Global) -> Seen
+    fn new(alloc: Global) -> ChunksSeen
         ensures seen { IsLegacySeen result [] }
         ensures begun { IsLegacyBegun result }
     {
-        Seen {
+        ChunksSeen {
             guest: Guest::new(alloc, Kind::Hvm),
             emulators: Emulators::new(alloc),
             chunks: 0,
@@ -214,7 +212,7 @@ impl Seen {
         ensures blank { IfOk result (λ guest. blank guest ≡ guest) }
         ensures bytes { IfOk result (λ guest. IsOfBytes guest) }
     {
-        let Seen {
+        let ChunksSeen {
             mut guest,
             emulators,
             ..
@@ -228,13 +226,13 @@ impl Seen {
 fn take_chunks<S: Source>(
     alloc: Global,
     src: &mut S,
-) -> Result<Seen, Stop<(LegacyPlace, LegacyCause)>>
+) -> Result<ChunksSeen, Stop<(LegacyPlace, LegacyCause)>>
     ensures read { Gives IsLegacySeen (S.left src.old) (S.left src.new) chunks_at result }
     ensures begun { IfOk result (λ seen. IsLegacyBegun seen) }
     ensures few { IfOk result (λ seen. maps.len seen.guest.frames ≤ most_frames) }
     ensures faults { RisesOnReadFault (S.faults src.old) (S.faults src.new) result }
 {
-    let mut seen = Seen::new(alloc);
+    let mut seen = ChunksSeen::new(alloc);
     'chunks: loop {
         let number = seen.chunks;
         match seen.take_chunk(alloc, src) {

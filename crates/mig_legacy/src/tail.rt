@@ -12,7 +12,7 @@ ghost use Rattle.mig_legacy.specs.Seen.{put_tail, put_device};
 use crate::body::{MAX_BODY, are_bytes, param_key, take_length};
 use mig_bytes::{Memory, Source, Stop, take_long, take_part};
 use mig_emulators::Emulators;
-use mig_guest::{Guest, PartKey};
+use mig_guest::{EMULATOR_CONTEXT, Guest, PartKey};
 use mig_headers::LegacyCause;
 use mig_hvm::{read_context, scan_context};
 use std::alloc::Global;
@@ -26,7 +26,7 @@ const STORE: u32 = 1;
 
 /// The context of the device model.
 const DEVICE: PartKey = PartKey {
-    code: 259,
+    code: EMULATOR_CONTEXT,
     key1: 0,
     key2: 0,
 };

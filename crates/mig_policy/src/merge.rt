@@ -6,7 +6,7 @@ ghost use Rattle.mig_policy.specs.declared.pair_map.PairsAnswer.TheVariants.{Too
 
 use crate::pair_map::{PairMap, PairsAnswer};
 use mig_bytes::Memory;
-use mig_guest::{Guest, PartKey};
+use mig_guest::{EMULATOR_PAIRS, Guest, PartKey};
 use std::alloc::Global;
 
 // The pairs of a part and those added to it.
@@ -63,7 +63,7 @@ pub fn merge_pairs(
     ensures err { OnErr result (guest.new ≡ guest.old) }
 {
     let key = PartKey {
-        code: 258,
+        code: EMULATOR_PAIRS,
         key1: id,
         key2: index,
     };

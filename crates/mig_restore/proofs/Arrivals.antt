@@ -1,5 +1,5 @@
 -- The front of a stream that the reader has behind it.
-use Rattle.mig_restore.proofs.Common.{arith, ◌≡◌, ℕ, List, [], ◌∷◌, ◌++◌, length, Bool, true, false, nat_eq, Option, Result, Ok, Err, refl, sym, ap, ◌∙◌, ◌||◌, list_any, map-append, length-map, common_steps, Stop, stop_at, Gives, Passes, Cause, Record, GuestOf, Seen, put_record, empty_guest, StreamRecord, types_of, is_ended, Opening, IsSeen, image_of, records_at, IsReading, Follows}
+use Rattle.mig_restore.proofs.Common.{arith, ◌≡◌, ℕ, List, [], ◌∷◌, ◌++◌, length, Bool, true, false, nat_eq, Option, Result, Ok, Err, refl, sym, ap, ◌∙◌, ◌||◌, list_any, map-append, length-map, common_steps, Stop, stop_at, Gives, Passes, Cause, Record, GuestOf, RecordsSeen, put_record, empty_guest, StreamRecord, types_of, is_ended, Opening, IsSeen, image_of, records_at, IsReading, Follows}
 use Rattle.std.proofs.lemmas.List.Folds.{list_any-append}
 use Rattle.mig_bytes.proofs.Arrivals as fronts
 use Rattle.mig_bytes.proofs.Joins.{any_stop, mapped, stop, weakened}
@@ -24,42 +24,42 @@ is_last r = nat_eq r.type 0
 -- ---- what the reader knows between two records
 
 module _ (o : Opening) where
-  abbrev pub Keeps : Seen × GuestOf → List StreamRecord → Type 0
+  abbrev pub Keeps : RecordsSeen × GuestOf → List StreamRecord → Type 0
   Keeps s records = IsSeen s.0 o (types_of records) × (s.1 ≡ sent o.kind records)
 
-  abbrev pub Arrived : Option (List ℕ) → Option (List ℕ) → Seen → GuestOf → Type 0
+  abbrev pub Arrived : Option (List ℕ) → Option (List ℕ) → RecordsSeen → GuestOf → Type 0
   Arrived first now seen guest = fronts.Arrived is_ended (placed_next o) Keeps first now (seen, guest)
 
   -- what a record that was read says of the guest, and whether it ends the image
-  abbrev pub Told : GuestOf → GuestOf → Seen → List StreamRecord → Bool → StreamRecord → Type 0
+  abbrev pub Told : GuestOf → GuestOf → RecordsSeen → List StreamRecord → Bool → StreamRecord → Type 0
   Told old new seen records over r = (new ≡ put_record old r) × IsSeen seen o (types_of (records ++ r ∷ [])) × (over ≡ nat_eq r.type 0)
 
   -- the clause of the reader of a record
-  abbrev pub Tells : GuestOf → GuestOf → Seen → Seen → Option (List ℕ) → Option (List ℕ) → Result Bool (Stop Cause) → Type 0
+  abbrev pub Tells : GuestOf → GuestOf → RecordsSeen → RecordsSeen → Option (List ℕ) → Option (List ℕ) → Result Bool (Stop Cause) → Type 0
   Tells guest guest' seen seen' b c r = (records : List StreamRecord) → IsSeen seen o (types_of records) → guest ≡ sent o.kind records → Gives (Told guest guest' seen' records) b c (next_at o records) r
 
-  tells_on : (b c : Option (List ℕ)) (seen seen' : Seen) (guest guest' : GuestOf) (over : Bool) → Tells guest guest' seen seen' b c (Ok over) → fronts.Tells is_ended (placed_next o) Keeps is_last (seen, guest) (seen', guest') b c (Ok over)
+  tells_on : (b c : Option (List ℕ)) (seen seen' : RecordsSeen) (guest guest' : GuestOf) (over : Bool) → Tells guest guest' seen seen' b c (Ok over) → fronts.Tells is_ended (placed_next o) Keeps is_last (seen, guest) (seen', guest') b c (Ok over)
   tells_on b c seen seen' guest guest' over told records keeps =
       placed_fine _ (Record (length records)) b c (next_at o records) over
       (weakened (Told guest guest' seen' records) (λ over r. Keeps (seen', guest') (records ++ r ∷ []) × (over ≡ is_last r)) b c (next_at o records) over over
       (λ r t. ((t.1, t.0 ∙ ap (λ w. put_record w r) keeps.1 ∙ sym (one_more_record o.kind records r)), t.2)) (told records keeps.0 keeps.1))
 
-  pub arrived_first : (a : Option (List ℕ)) (seen : Seen) (guest : GuestOf) → IsSeen seen o [] → guest ≡ empty_guest o.kind → Arrived a a seen guest
+  pub arrived_first : (a : Option (List ℕ)) (seen : RecordsSeen) (guest : GuestOf) → IsSeen seen o [] → guest ≡ empty_guest o.kind → Arrived a a seen guest
   unfolding sent
   arrived_first a seen guest s g = fronts.arrived_first is_ended (placed_next o) Keeps a (seen, guest) (s, g) refl
 
-  pub arrived_next : (a b c : Option (List ℕ)) (seen seen' : Seen) (guest guest' : GuestOf) (over : Bool) → over ≡ false → Arrived a b seen guest → Tells guest guest' seen seen' b c (Ok over) → Arrived a c seen' guest'
+  pub arrived_next : (a b c : Option (List ℕ)) (seen seen' : RecordsSeen) (guest guest' : GuestOf) (over : Bool) → over ≡ false → Arrived a b seen guest → Tells guest guest' seen seen' b c (Ok over) → Arrived a c seen' guest'
   arrived_next a b c seen seen' guest guest' over still h told =
       fronts.arrived_next is_ended (placed_next o) Keeps is_last ended_more a b c (seen, guest) (seen', guest') over still h (tells_on b c seen seen' guest guest' over told)
 
-  pub arrived_end : (a b c : Option (List ℕ)) (seen seen' : Seen) (guest guest' : GuestOf) (reading : Reading) (over : Bool) → over ≡ true → reading.guest ≡ blank guest' → reading.version ≡ o.version → reading.records ≡ seen'.records → Arrived a b seen guest
+  pub arrived_end : (a b c : Option (List ℕ)) (seen seen' : RecordsSeen) (guest guest' : GuestOf) (reading : Reading) (over : Bool) → over ≡ true → reading.guest ≡ blank guest' → reading.version ≡ o.version → reading.records ≡ seen'.records → Arrived a b seen guest
       → Tells guest guest' seen seen' b c (Ok over) → Gives IsReading a c (records_at o) (Ok reading)
   arrived_end a b c seen seen' guest guest' reading over is_over rg rv rs h told =
       mapped Keeps IsReading a c (sequence_at is_ended (placed_next o)) (records_at o) (image_of o) (seen', guest') reading (λ i. refl)
       (fronts.arrived_end is_ended (placed_next o) Keeps is_last ended_more (Follows o) (finds o) a b c (seen, guest) (seen', guest') over is_over h (tells_on b c seen seen' guest guest' over told))
       (λ records keeps. record { guest = rg ∙ meant_as_sent guest' o.kind records keeps.1; version = rv; records = rs ∙ keeps.0.count ∙ length-map records (λ (x : StreamRecord). x.type) })
 
-  pub arrived_stopped : (a b c : Option (List ℕ)) (seen seen' : Seen) (guest guest' : GuestOf) (e : Stop Cause) (n : ℕ) → n ≡ seen.records → Arrived a b seen guest → Tells guest guest' seen seen' b c (Err e) → Gives {X = Reading} IsReading a c (records_at o) (Err (stop_at (Record n) e))
+  pub arrived_stopped : (a b c : Option (List ℕ)) (seen seen' : RecordsSeen) (guest guest' : GuestOf) (e : Stop Cause) (n : ℕ) → n ≡ seen.records → Arrived a b seen guest → Tells guest guest' seen seen' b c (Err e) → Gives {X = Reading} IsReading a c (records_at o) (Err (stop_at (Record n) e))
   arrived_stopped a b c seen seen' guest guest' e n count h told =
       stop Keeps IsReading a c (sequence_at is_ended (placed_next o)) (λ rs. Passes (image_of o rs.0) rs.1) (stop_at (Record n) e)
       (fronts.arrived_stopped is_ended (placed_next o) Keeps is_last ended_more (Follows o) (finds o) a b c (seen, guest) (seen', guest') (stop_at (Record n) e) h

@@ -57,4 +57,4 @@ pub use Rattle.mig_restore.specs.Record.Content.{Frames, Lists, Nothing, Sets}
 pub use Rattle.mig_restore.specs.Seen.{IsSeen}
 pub use Rattle.mig_restore.specs.Spelled.{Accepted, AreEntries, Follows, HasContent, IsBatch, IsComplete, IsEntry, IsGoodWord, IsImage, IsPage}
 pub use Rattle.mig_restore.specs.Stream.{ImageOf, IsReading, IsRefused, image_of, kind_at, marker_at, records_at, version_at}
-pub use Rattle.mig_restore.specs.declared.head.Seen.{Seen}
+pub use Rattle.mig_restore.specs.declared.head.RecordsSeen.{RecordsSeen}

@@ -173,7 +173,7 @@ fn take_words<S: Source>(alloc: Global, src: &mut S, count: u32) -> Result<Vec<u
 }
 
 /// The type in a word; one whose type is reserved has no page.
-fn type_in(word: u64) -> PageType
+pub fn type_in(word: u64) -> PageType
     ensures { result ≡ type_in_word word }
 {
     match decode_word(word) {
@@ -190,7 +190,7 @@ fn pfn_in(word: u64) -> u64
 }
 
 /// The type that a frame has in a guest of this kind.
-fn meant(kind: Kind, in_stream: PageType) -> PageType
+pub fn meant(kind: Kind, in_stream: PageType) -> PageType
     ensures { result ≡ meant_type kind in_stream }
 {
     match kind {
@@ -206,7 +206,7 @@ fn meant(kind: Kind, in_stream: PageType) -> PageType
 }
 
 /// What is wrong with a page at this place of its record, where its type is a table's.
-fn page_fault(kind: PageType, page: &[u8; 4096], place: u32, top: u64) -> Option<Cause>
+pub fn page_fault(kind: PageType, page: &[u8; 4096], place: u32, top: u64) -> Option<Cause>
     ensures { result ≡ fault_of_level top place (level_of kind) page.now }
 {
     let level = kind.table_level()?;

@@ -17,24 +17,27 @@ use mig_records::{RecordHead, length_fault, long_fault};
 /// The most records of an image.
 const MAX_RECORDS: u32 = 1 << 28;
 
-/// What the reader keeps of the records before: how many they are, and their order.
+/// What a reader of images keeps of the records before.
 #[derive(Drop)]
-pub(crate) struct Seen {
-    pub(crate) records: u32,
-    pub(crate) kind: Kind,
-    pub(crate) gate: Gate,
+pub struct RecordsSeen {
+    /// How many they are.
+    pub records: u32,
+    /// The kind in the domain header.
+    pub kind: Kind,
+    /// Which type may stand next.
+    pub gate: Gate,
     ghost same_kind: { gate.kind ≡ kind },
 }
 
-impl Seen {
+impl RecordsSeen {
     ghost use Rattle.mig_restore.specs.Seen.{IsSeen};
 
     /// Before the first record.
-    pub(crate) fn new(version: u32, kind: Kind) -> Seen
+    pub fn new(version: u32, kind: Kind) -> RecordsSeen
         ensures seen { IsSeen result (opening_of version kind) [] }
         ensures count { result.records ≡ 0 }
     {
-        Seen {
+        RecordsSeen {
             records: 0,
             kind,
             gate: Gate::new(version, kind),
@@ -54,7 +57,7 @@ impl Seen {
 
     /// Judges the next record's head, and counts the record where nothing is wrong with it.
     #[tactic(auto, unfolding(crate::specs::Judging::fault_of_fields))]
-    fn judge(&mut self, head: RecordHead) -> Result<(), Cause>
+    pub fn judge(&mut self, head: RecordHead) -> Result<(), Cause>
         ensures judged { (b : Before) → IsSeen self.old b.opening b.types → result ≡ unless_faulty (fault_of_fields b head.kind head.len) tt }
         ensures seen { OnOk result ((o : Opening) (types : List ℕ) → IsSeen self.old o types → IsSeen self.new o (types ++ head.kind ∷ [])) }
         ensures len { OnOk result (head.len ≤ 2 ^ 27) }

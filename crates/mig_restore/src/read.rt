@@ -17,7 +17,7 @@ ghost use Rattle.mig_restore.specs.Stream.{ReadsImage, ReadsRest, IsReading, ima
 
 use crate::answer::StreamAnswer;
 use crate::body::take_body;
-use crate::head::Seen;
+use crate::head::RecordsSeen;
 use mig_bytes::{Source, Stop, answer_for, pad_len, take_part};
 use mig_guest::Guest;
 use mig_headers::{Cause, DomainHeader, ImageHeader, Kind, Place};
@@ -52,7 +52,7 @@ fn read_padding<S: Source>(src: &mut S, len: u32) -> Result<(), Stop<Cause>>
 fn take_record<S: Source>(
     alloc: Global,
     src: &mut S,
-    seen: &mut Seen,
+    seen: &mut RecordsSeen,
     guest: &mut Guest,
 ) -> Result<u32, Stop<Cause>>
     requires { seen.old.kind ≡ guest.old.kind }
@@ -74,7 +74,7 @@ fn take_record<S: Source>(
 pub(crate) fn read_next<S: Source>(
     alloc: Global,
     src: &mut S,
-    seen: &mut Seen,
+    seen: &mut RecordsSeen,
     guest: &mut Guest,
 ) -> Result<bool, Stop<Cause>>
     requires kind { seen.old.kind ≡ guest.old.kind }
@@ -112,7 +112,7 @@ fn read_records<S: Source>(
     ensures plain { IfOk result (λ reading. HasNoEmulators reading.guest.parts) }
     ensures faults { RisesOnReadFault (S.faults src.old) (S.faults src.new) result }
 {
-    let mut seen = Seen::new(version, kind);
+    let mut seen = RecordsSeen::new(version, kind);
     let mut guest = Guest::new(alloc, kind);
     'records: loop {
         let number = seen.records;

@@ -1,6 +1,6 @@
 use Rattle.mig_legacy.proofs.Common.{rules, subst, sym, ◌<◌, ◌^◌, Passes, mapped, stopped, then_reads, chunk_kind_at, chunk_content_at, chunk_at}
 use Rattle.mig_legacy.proofs.Chunked.{chunk_of, behind_kind, begins, goes_behind, seen_more}
-use Rattle.mig_legacy.proofs.read.Seen.take_chunk.Goals as goal
+use Rattle.mig_legacy.proofs.read.ChunksSeen.take_chunk.Goals as goal
 
 pub returns-in_err-kind-clause-read : goal.returns-in_err-kind-clause-read
 returns-in_err-kind-clause-read g c = λ chunks seen.

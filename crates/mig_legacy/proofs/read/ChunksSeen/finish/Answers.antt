@@ -1,6 +1,6 @@
 use Rattle.mig_legacy.proofs.Common.{◌≡◌, sym, subst, ◌∙◌, Pv, Hvm, GuestOf, IsOfBytes, EmulatorsOf, with_emulators, IsPlain, AreEmulators, IsDone, guest_done}
 use Rattle.mig_pvtables.specs.Whole.{IsWhole}
-use Rattle.mig_legacy.proofs.read.Seen.finish.Goals as goal
+use Rattle.mig_legacy.proofs.read.ChunksSeen.finish.Goals as goal
 
 done : (g : GuestOf) (e : EmulatorsOf) → IsPlain g → g.kind ≡ Hvm → AreEmulators e → IsDone (with_emulators g e)
 done g e plain hvm are = guest_done g e plain are (λ pv. let no : Hvm ≡ Pv = sym hvm ∙ pv in absurd (cc))

@@ -2,7 +2,7 @@ use Rattle.mig_legacy.proofs.Common.{refl, sym, ap, subst, Hvm, GuestOf, sent, e
 use Rattle.mig_restore.specs.Mean.{IsBegun as IsGuestBegun}
 use Rattle.mig_restore.proofs.Growth.{empty_begun}
 use Rattle.mig_emulators.proofs.Formed.{none_yet}
-use Rattle.mig_legacy.proofs.read.Seen.new.Goals as goal
+use Rattle.mig_legacy.proofs.read.ChunksSeen.new.Goals as goal
 
 pub returns-clause-seen : goal.returns-clause-seen
 unfolding sent emulators_of

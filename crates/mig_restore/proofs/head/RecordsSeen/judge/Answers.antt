@@ -1,7 +1,7 @@
-use Rattle.mig_restore.proofs.Common.{rules, ◌≡◌, ℕ, Option, Some, None, Result, Ok, Err, sym, ap, ◌∙◌, unless_faulty, Cause, fault_of_type, fault_of_long, fault_of_length, Seen, Before, fault_of_number, IsSeen}
+use Rattle.mig_restore.proofs.Common.{rules, ◌≡◌, ℕ, Option, Some, None, Result, Ok, Err, sym, ap, ◌∙◌, unless_faulty, Cause, fault_of_type, fault_of_long, fault_of_length, RecordsSeen, Before, fault_of_number, IsSeen}
 use Rattle.std.specs.Option.{option_or}
 use Rattle.mig_restore.specs.Judging.{fault_of_fields}
-use Rattle.mig_restore.proofs.head.Seen.judge.Goals as goal
+use Rattle.mig_restore.proofs.head.RecordsSeen.judge.Goals as goal
 
 abbrev Verdict : Type 0
 Verdict = Result (Unit {0}) Cause
@@ -11,7 +11,7 @@ second a None c d cause p is = let no : ◌≡◌ {A = Verdict} (Err cause) (Ok 
 second a (Some x) c d cause p is = rw p is
 
 -- the order is broken
-order_broken : (seen : Seen) (b : Before) (type len : ℕ) (cause : Cause) → IsSeen seen b.opening b.types → fault_of_long len ≡ None
+order_broken : (seen : RecordsSeen) (b : Before) (type len : ℕ) (cause : Cause) → IsSeen seen b.opening b.types → fault_of_long len ≡ None
     → ◌≡◌ {A = Verdict} (Err cause) (unless_faulty (fault_of_type seen.gate.version seen.gate.kind b.types type) tt) → ◌≡◌ {A = Verdict} (Err cause) (unless_faulty (fault_of_fields b type len) tt)
 unfolding fault_of_fields
 order_broken seen b type len cause s short is =
@@ -23,7 +23,7 @@ third a None c d cause p q is = sym (ap (λ o. unless_faulty (option_or o (optio
 third a (Some x) c d cause p q is = let no : ◌≡◌ {A = Verdict} (Ok tt) (Err x) = q in cc
 
 -- the length isn't one of the type
-length_bad : (seen : Seen) (b : Before) (type len : ℕ) (cause : Cause) → IsSeen seen b.opening b.types → fault_of_long len ≡ None
+length_bad : (seen : RecordsSeen) (b : Before) (type len : ℕ) (cause : Cause) → IsSeen seen b.opening b.types → fault_of_long len ≡ None
     → ◌≡◌ {A = Verdict} (Ok tt) (unless_faulty (fault_of_type seen.gate.version seen.gate.kind b.types type) tt) → fault_of_length type len ≡ Some cause → ◌≡◌ {A = Verdict} (Err cause) (unless_faulty (fault_of_fields b type len) tt)
 unfolding fault_of_fields
 length_bad seen b type len cause s short step is =
