@@ -17,6 +17,7 @@ pub struct Layout {
 impl Layout {
     ghost use Rattle.mig_bodies.specs.Layouts.{AreWidths, layout, entry_width, front_width};
 
+    /// A layout of these widths; one that is counted has the number of its entries before them.
     pub fn new(counted: bool, key1_width: usize, key2_width: usize, value_width: usize) -> Layout
         ensures { result ≡ layout counted key1_width key2_width value_width }
     {

@@ -133,6 +133,7 @@ fn set_entries(
     Ok(())
 }
 
+/// Whether the code's parts are a policy's entries.
 fn is_policy(code: PartCode) -> bool
     ensures { result ≡ is_policy (code_number code) }
 {

@@ -55,6 +55,7 @@ impl Guest {
         }
     }
 
+    /// The kind of guest.
     pub fn kind(&self) -> Kind
         ensures { result ≡ self.now.kind }
     {
@@ -68,6 +69,7 @@ impl Guest {
         self.top
     }
 
+    /// Sets the greatest frame number that a PV guest may use.
     pub fn set_top(&mut self, top: u64)
         ensures { self.new ≡ record self.old { top = top } }
     {
@@ -173,7 +175,7 @@ impl Guest {
         self.parts.get(key)
     }
 
-    // Lends a part as it is kept.
+    /// Lends a part as it is kept.
     fn lend_part(&mut self, key: PartKey) -> Option<&mut Vec<u8>>
         ensures* writes_back { sem 𝓛 (LendsGuestPart self.entry key result) }
         ensures value { option_map (λ v. v.items) (option_copied_mut result) ≡ maps.get self.old.parts key }

@@ -53,7 +53,7 @@ pub(crate) fn bytes_mut(part: &mut Vec<u8>) -> &mut [u8]
     part.as_mut_slice()
 }
 
-// Where the parts of a code begin: behind this key, or at the least key of the code.
+/// Where the parts of a code begin: behind this key, or at the least key of the code.
 fn start_of(code: u32, after: Option<PartKey>) -> Bound<PartKey>
     ensures behind { IfSome after (λ k. result ≡ Excluded k) }
     ensures least { IfNone after (result ≡ Included (record { code = code; key1 = 0; key2 = 0 })) }
@@ -68,7 +68,7 @@ fn start_of(code: u32, after: Option<PartKey>) -> Bound<PartKey>
     }
 }
 
-// Behind this key, or everywhere.
+/// Behind this key, or everywhere.
 fn behind(after: Option<PartKey>) -> Bound<PartKey>
     ensures some { IfSome after (λ k. result ≡ Excluded k) }
     ensures none { IfNone after (result ≡ Unbounded) }
@@ -116,7 +116,7 @@ impl Parts {
         }
     }
 
-    // Lends the bytes of a part as they are kept.
+    /// Lends the bytes of a part as they are kept.
     pub(crate) fn lend(&mut self, key: PartKey) -> Option<&mut Vec<u8>>
         ensures* writes_back { sem 𝓛 (LendsPart self.entry key result) }
         ensures value { option_map (λ v. v.items) (option_copied_mut result) ≡ maps.get self.old key }
@@ -174,6 +174,7 @@ impl Parts {
         }
     }
 
+    /// Takes all parts of a code away.
     pub(crate) fn clear_code(&mut self, code: u32)
         ensures { self.new ≡ maps.retain_keys self.old (λ k. not (k.code == code)) }
     {

@@ -66,6 +66,7 @@ impl ImageHeader {
         ImageHeader::read_fields(rest)
     }
 
+    /// The header in these bytes, or its first fault.
     fn read_fields(rest: &[u8; 16]) -> Result<ImageHeader, Cause>
         ensures { result ≡ image_header_in rest.now }
     {
@@ -156,6 +157,7 @@ impl LibxlHeader {
         LibxlHeader::read_fields(rest)
     }
 
+    /// The header in these bytes, or its first fault.
     fn read_fields(rest: &[u8; 8]) -> Result<LibxlHeader, Cause>
         ensures { result ≡ libxl_header_in rest.now }
     {

@@ -13,7 +13,7 @@ ghost use Rattle.mig_image.specs.ImageParts.{fault_of_part, fault_of_bytes, head
 ghost use Rattle.mig_image.specs.PartCounts.{Counts};
 
 use mig_bytes::{Source, Stop, pad_len, take_long, take_part, u32_le};
-use mig_guest::{PartCode, PartKey};
+use mig_guest::{EMULATOR_PAIRS, PartCode, PartKey};
 use mig_headers::{ImageCause, ImagePlace, Kind};
 use mig_host::Host;
 use mig_policy::canonical_pairs;
@@ -26,9 +26,6 @@ const MAX_ENTRIES: u64 = 65536;
 const CPUID_LEAF: u32 = 17;
 
 const MSR: u32 = 18;
-
-/// The code of an emulator's pairs.
-const EMULATOR_PAIRS: u32 = 258;
 
 /// How many entries of each policy were read.
 #[derive(Clone, Copy)]

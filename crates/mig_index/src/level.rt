@@ -15,6 +15,7 @@ pub(crate) struct Level {
 }
 
 impl Level {
+    /// What stands at a place of a node; 0 where there is no node.
     pub(crate) fn get(&self, node: u64, place: usize) -> u64
         requires sound { IsLevel self.now.cells.items self.now.used }
         requires node { node ≤ self.now.used }
@@ -27,6 +28,7 @@ impl Level {
         self.cells[(node as usize - 1) * PLACES + place]
     }
 
+    /// Puts a value at a place of a node.
     pub(crate) fn set(&mut self, node: u64, place: usize, value: u64)
         requires sound { IsLevel self.old.cells.items self.old.used }
         requires node { (0 < node) × (node ≤ self.old.used) }
@@ -49,6 +51,7 @@ impl Level {
         self.used as u64
     }
 
+    /// No nodes.
     pub(crate) fn new(alloc: Global) -> Level
         ensures sound { IsLevel result.cells.items result.used }
         ensures unused { result.used ≡ 0 }

@@ -42,6 +42,7 @@ impl Tree {
         self.leaves.get(middle, (number % 512) as usize)
     }
 
+    /// The node of the last level for these numbers, and 0 where there is none.
     fn leaf_of(&self, number: u64) -> u64
         requires sound { IsTreeOf self.now }
         requires small { number < 2 ^ 19 }

@@ -9,12 +9,14 @@ use std::alloc::Global;
 // The word that stands for no frame.
 const PLACEHOLDER: u64 = 0xF000_0000;
 
+/// The number of the type in a word.
 fn type_number(word: u64) -> u64
     ensures { result ≡ legacy_type word }
 {
     word / (1 << 28) % 16
 }
 
+/// Whether the type in a word is reserved.
 fn is_reserved(word: u64) -> bool
     ensures { result ≡ reserved word }
 {
@@ -22,18 +24,21 @@ fn is_reserved(word: u64) -> bool
     5 <= number && number <= 8
 }
 
+/// Whether bits 63 to 32 of a word aren't all 0.
 fn is_high(word: u64) -> bool
     ensures { result ≡ high word }
 {
     word >= 1 << 32
 }
 
+/// Where the first word with a reserved type stands.
 fn first_reserved(words: &[u64]) -> Option<usize>
     ensures { result ≡ position reserved words.now }
 {
     words.iter().position(|word| is_reserved(*word))
 }
 
+/// Where the first word with high bits stands.
 fn first_high(words: &[u64]) -> Option<usize>
     ensures { result ≡ position high words.now }
 {
@@ -56,7 +61,7 @@ pub fn batch_fault(words: &[u64]) -> Option<LegacyCause>
     None
 }
 
-// Puts the word of a PAGE_DATA at the end that says what this word says; for a placeholder none.
+/// Puts the word of a PAGE_DATA at the end that says what this word says; for a placeholder none.
 fn put_word(list: &mut Vec<u64>, word: u64) -> Result<(), Memory>
     ensures ok { OnOk result (list.new.items ≡ list.old.items ++ page_data_words_of word) }
 {

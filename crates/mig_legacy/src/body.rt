@@ -54,7 +54,7 @@ pub(crate) fn param_key(index: u32) -> PartKey
     }
 }
 
-// Does nothing. That bytes are below 256 is what makes a guest that they are set in one of bytes.
+/// Does nothing. That bytes are below 256 is what makes a guest that they are set in one of bytes.
 pub(crate) fn are_bytes(bytes: &[u8])
     ensures { AreBytes bytes.now }
 {}
@@ -77,7 +77,7 @@ pub(crate) fn take_length<S: Source>(src: &mut S, most: u32) -> Result<u32, Stop
 
 // ---- frames
 
-// The stop where the page of a word isn't whole, which is all that can be wrong with it.
+/// The stop where the page of a word isn't whole, which is all that can be wrong with it.
 fn truncated(stop: Stop<Cause>) -> Stop<LegacyCause>
     ensures { result ≡ cut_short stop }
 {
@@ -88,7 +88,7 @@ fn truncated(stop: Stop<Cause>) -> Stop<LegacyCause>
     }
 }
 
-// Takes so many words.
+/// Takes so many words.
 fn take_words<S: Source>(
     alloc: Global,
     src: &mut S,
@@ -155,7 +155,7 @@ pub(crate) fn take_vcpus<S: Source>(src: &mut S) -> Result<(), Stop<LegacyCause>
     }
 }
 
-// The bytes of an X86_TSC_INFO that say the same.
+/// The bytes of an X86_TSC_INFO that say the same.
 fn clock_of(alloc: Global, bytes: &[u8; 20]) -> Result<Vec<u8>, Memory>
     ensures { IfOk result (λ clock. clock.items ≡ clock_in bytes.now) }
 {

@@ -24,7 +24,7 @@ pub enum ChunkKind {
 /// The most words of a batch.
 const MAX_BATCH: u32 = 1024;
 
-// What the chunk −n is.
+/// What the chunk −n is.
 fn negative_kind(n: u64) -> Result<ChunkKind, LegacyCause>
     ensures value { result ≡ kind_below n }
     ensures said { IfOk result (λ kind. IsNumberOf kind (negative n)) }

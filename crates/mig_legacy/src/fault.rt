@@ -4,13 +4,14 @@ ghost use Rattle.mig_legacy.specs.Judged.{is_name as name_is, entry_fault as fau
 
 use mig_bytes::u32_le;
 
+/// Where the first zero stands.
 fn first_zero(bytes: &[u8]) -> Option<usize>
     ensures { result ≡ position (λ b. b == 0) bytes.now }
 {
     bytes.iter().position(|byte| *byte == 0)
 }
 
-// Whether these are no bytes, or a name with its zero behind it.
+/// Whether these are no bytes, or a name with its zero behind it.
 #[tactic(auto, using(crate::proofs::Names::name_ends, crate::proofs::Names::no_name_ends))]
 fn is_name(bytes: &[u8]) -> bool
     ensures { result ≡ name_is bytes.now }
@@ -21,7 +22,7 @@ fn is_name(bytes: &[u8]) -> bool
     }
 }
 
-// How long the entry at the front is.
+/// How long the entry at the front is.
 pub(crate) fn entry_len(bytes: &[u8]) -> usize
     requires { 28 ≤ length bytes.now }
     ensures { result ≡ len_of bytes.now }
@@ -29,7 +30,7 @@ pub(crate) fn entry_len(bytes: &[u8]) -> usize
     32 + u32_le(bytes, 24) as usize
 }
 
-// Where the first field of the entry at the front stands that is wrong.
+/// Where the first field of the entry at the front stands that is wrong.
 #[tactic(auto, unfolding(crate::specs::Judged::entry_fault))]
 pub(crate) fn entry_fault(bytes: &[u8]) -> Option<usize>
     ensures value { result ≡ fault_of bytes.now }

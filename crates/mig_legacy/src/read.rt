@@ -35,7 +35,7 @@ const MAX_CHUNKS: u32 = 1 << 28;
 /// Why a legacy stream isn't read.
 pub type LegacyAnswer = Answer<LegacyPlace, LegacyCause>;
 
-// What is wrong with the first 8 bytes.
+/// What is wrong with the first 8 bytes.
 fn start_fault(width: &[u8; 8]) -> Option<LegacyCause>
     ensures { result ≡ fault_of_start width.now }
 {
@@ -48,7 +48,7 @@ fn start_fault(width: &[u8; 8]) -> Option<LegacyCause>
     None
 }
 
-// Takes the width of the P2M, of which nothing is kept.
+/// Takes the width of the P2M, of which nothing is kept.
 fn take_start<S: Source>(src: &mut S) -> Result<(), Stop<LegacyCause>>
     ensures read { Gives (λ _ _. ⊤) (S.left src.old) (S.left src.new) start_at result }
     ensures faults { RisesOnReadFault (S.faults src.old) (S.faults src.new) result }
@@ -62,7 +62,7 @@ fn take_start<S: Source>(src: &mut S) -> Result<(), Stop<LegacyCause>>
     }
 }
 
-// Whether a chunk that is this is the last.
+/// Whether a chunk that is this is the last.
 fn ends_chunks(kind: ChunkKind) -> bool
     ensures { result ≡ is_end kind }
 {
@@ -84,7 +84,7 @@ pub(crate) struct ChunksSeen {
 }
 
 impl ChunksSeen {
-    // Before the first chunk.
+    /// Before the first chunk.
     fn new(alloc: Global) -> ChunksSeen
         ensures seen { IsLegacySeen result [] }
         ensures begun { IsLegacyBegun result }
@@ -98,7 +98,7 @@ impl ChunksSeen {
         }
     }
 
-    // What is wrong with a chunk that is this, behind those before.
+    /// What is wrong with a chunk that is this, behind those before.
     #[tactic(auto, unfolding(crate::specs::Judging::fault_of_kind))]
     fn kind_fault(&self, kind: ChunkKind) -> Option<LegacyCause>
         ensures fault { (chunks : List LegacyChunk) → IsLegacySeen self.now chunks → result ≡ fault_of_kind chunks kind }
@@ -118,7 +118,7 @@ impl ChunksSeen {
         None
     }
 
-    // Takes the type of the next chunk.
+    /// Takes the type of the next chunk.
     #[tactic(auto, using(crate::proofs::ChunkNumbers::sound_kind))]
     fn take_kind<S: Source>(&self, src: &mut S) -> Result<ChunkKind, Stop<LegacyCause>>
         ensures read { (chunks : List LegacyChunk) → IsLegacySeen self.now chunks → Gives (λ kind k. k ≡ kind) (S.left src.old) (S.left src.new) (chunk_kind_at chunks) result }
@@ -140,7 +140,7 @@ impl ChunksSeen {
         }
     }
 
-    // Takes the body of a chunk that is this, and keeps what it says.
+    /// Takes the body of a chunk that is this, and keeps what it says.
     fn take_content<S: Source>(
         &mut self,
         alloc: Global,
@@ -165,7 +165,7 @@ impl ChunksSeen {
         }
     }
 
-    // Counts a chunk that was taken.
+    /// Counts a chunk that was taken.
     fn count(&mut self, kind: ChunkKind)
         requires room { self.old.chunks < most_chunks }
         ensures guest { self.new.guest ≡ self.old.guest }
@@ -182,7 +182,7 @@ impl ChunksSeen {
         }
     }
 
-    // Takes the next chunk, and keeps what it says. Says whether it is the last.
+    /// Takes the next chunk, and keeps what it says. Says whether it is the last.
     fn take_chunk<S: Source>(
         &mut self,
         alloc: Global,
@@ -202,7 +202,7 @@ impl ChunksSeen {
         Ok(ends_chunks(kind))
     }
 
-    // The guest, with the device model put into it.
+    /// The guest, with the device model put into it.
     fn finish(self) -> Result<Guest, Memory>
         requires plain { IsPlain self.guest }
         requires hvm { self.guest.kind ≡ Hvm }
@@ -222,7 +222,7 @@ impl ChunksSeen {
     }
 }
 
-// Takes chunks up to the last.
+/// Takes chunks up to the last.
 fn take_chunks<S: Source>(
     alloc: Global,
     src: &mut S,
@@ -243,7 +243,7 @@ fn take_chunks<S: Source>(
     }
 }
 
-// Takes a whole stream, part after part.
+/// Takes a whole stream, part after part.
 fn read_parts<S: Source>(
     alloc: Global,
     src: &mut S,

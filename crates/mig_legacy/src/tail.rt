@@ -34,7 +34,7 @@ const DEVICE: PartKey = PartKey {
 /// What a device model's record begins with.
 const SIGNATURE: [u8; 21] = *b"DeviceModelRecord0002";
 
-// Sets the three frame numbers, and the context.
+/// Sets the three frame numbers, and the context.
 fn set_tail(guest: &mut Guest, frames: &[u8; 24], context: &[u8]) -> Result<(), Memory>
     requires chain { IsOk (scan context.now) }
     ensures ok { OnOk result (guest.new ≡ put_tail guest.old (tail_of frames.now context.now)) }
@@ -74,7 +74,7 @@ pub(crate) fn take_tail<S: Source>(
     }
 }
 
-// Takes a device model's record behind its first byte.
+/// Takes a device model's record behind its first byte.
 fn take_record<S: Source>(
     alloc: Global,
     src: &mut S,

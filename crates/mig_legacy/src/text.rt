@@ -6,7 +6,7 @@ ghost use Rattle.mig_legacy.specs.Texts.{hexadecimal, physmap_pair, name_pairs, 
 
 use mig_bytes::{Memory, u32_le, u64_le};
 
-// Puts bytes at the end.
+/// Puts bytes at the end.
 pub(crate) fn put(text: &mut Vec<u8>, bytes: &[u8]) -> Result<(), Memory>
     ensures ok { OnOk result (text.new.items ≡ text.old.items ++ bytes.now) }
 {
@@ -16,13 +16,14 @@ pub(crate) fn put(text: &mut Vec<u8>, bytes: &[u8]) -> Result<(), Memory>
     Ok(())
 }
 
+/// Where the first digit stands that isn't 0.
 fn first_but_zero(digits: &[u8]) -> Option<usize>
     ensures { result ≡ position (λ d. not (d == 48)) digits.now }
 {
     digits.iter().position(|digit| *digit != b'0')
 }
 
-// The digits without the zeros at their front; the last stays.
+/// The digits without the zeros at their front; the last stays.
 #[tactic(auto, using(crate::proofs::Names::from_first, crate::proofs::Names::from_last))]
 fn strip_zeros(digits: &[u8]) -> &[u8]
     requires { 0 < length digits.now }
@@ -34,7 +35,7 @@ fn strip_zeros(digits: &[u8]) -> &[u8]
     }
 }
 
-// Puts a number in lower-case hexadecimal digits at the end.
+/// Puts a number in lower-case hexadecimal digits at the end.
 #[tactic(auto, unfolding(crate::specs::Texts::hexadecimal))]
 fn put_hexadecimal(text: &mut Vec<u8>, number: u64) -> Result<(), Memory>
     ensures ok { OnOk result (text.new.items ≡ text.old.items ++ hexadecimal number) }
@@ -46,7 +47,7 @@ fn put_hexadecimal(text: &mut Vec<u8>, number: u64) -> Result<(), Memory>
     put(text, strip_zeros(&digits))
 }
 
-// Puts the key of a field at the end, and its zero.
+/// Puts the key of a field at the end, and its zero.
 fn put_key(text: &mut Vec<u8>, phys: u64, field: &[u8]) -> Result<(), Memory>
     ensures ok { OnOk result (text.new.items ≡ text.old.items ++ ((codes "physmap/" ++ (hexadecimal phys ++ (codes "/" ++ field.now))) ++ 0 ∷ [])) }
 {
@@ -57,7 +58,7 @@ fn put_key(text: &mut Vec<u8>, phys: u64, field: &[u8]) -> Result<(), Memory>
     put(text, &[0])
 }
 
-// Puts a pair at the end whose value is a number.
+/// Puts a pair at the end whose value is a number.
 fn put_number(text: &mut Vec<u8>, phys: u64, field: &[u8], number: u64) -> Result<(), Memory>
     ensures ok { OnOk result (text.new.items ≡ text.old.items ++ text_of_pair (physmap_pair phys field.now (hexadecimal number))) }
 {
@@ -66,7 +67,7 @@ fn put_number(text: &mut Vec<u8>, phys: u64, field: &[u8], number: u64) -> Resul
     put(text, &[0])
 }
 
-// Puts the pair of the name whose bytes these are at the end, where there is a name.
+/// Puts the pair of the name whose bytes these are at the end, where there is a name.
 fn put_name(text: &mut Vec<u8>, phys: u64, bytes: &[u8]) -> Result<(), Memory>
     ensures ok { OnOk result (text.new.items ≡ text.old.items ++ flat_map text_of_pair (name_pairs phys (name_in bytes.now))) }
 {
@@ -78,7 +79,7 @@ fn put_name(text: &mut Vec<u8>, phys: u64, bytes: &[u8]) -> Result<(), Memory>
     put(text, &[0])
 }
 
-// Puts the pairs of the entry at the front of these bytes at the end.
+/// Puts the pairs of the entry at the front of these bytes at the end.
 pub(crate) fn put_physmap(text: &mut Vec<u8>, bytes: &[u8]) -> Result<(), Memory>
     requires { entry_len bytes.now ≤ length bytes.now }
     ensures ok { OnOk result (text.new.items ≡ text.old.items ++ flat_map text_of_pair (pairs_of_physmap (entry_in bytes.now))) }

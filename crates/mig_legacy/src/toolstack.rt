@@ -7,7 +7,7 @@ use crate::text::put_physmap;
 use mig_bytes::{Memory, u32_le};
 use std::alloc::Global;
 
-// Where the first field stands that is wrong in so many entries behind the first 8 bytes, or what follows the last.
+/// Where the first field stands that is wrong in so many entries behind the first 8 bytes, or what follows the last.
 #[tactic(auto, using(crate::proofs::Entries::entries_step, crate::proofs::Entries::entries_stop, crate::proofs::Entries::entries_end))]
 fn entries_place(body: &[u8], count: u32) -> Option<u64>
     requires { 8 ≤ length body.now }
@@ -42,7 +42,7 @@ pub fn toolstack_fault(body: &[u8]) -> Option<u64>
     entries_place(body, u32_le(body, 4))
 }
 
-// Puts the pairs of so many entries behind the first 8 bytes at the end.
+/// Puts the pairs of so many entries behind the first 8 bytes at the end.
 #[tactic(auto, using(crate::proofs::Names::whole_entry, crate::proofs::Entries::entries_step, crate::proofs::Entries::faultless_next, crate::proofs::Entries::texts_step, crate::proofs::Entries::texts_end))]
 fn put_entries(text: &mut Vec<u8>, body: &[u8], count: u32) -> Result<(), Memory>
     requires head { 8 ≤ length body.now }

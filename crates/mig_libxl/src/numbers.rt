@@ -12,9 +12,9 @@ pub(crate) const CHECKPOINT_END: u32 = 4;
 pub(crate) const CHECKPOINT_STATE: u32 = 5;
 
 /// The codes of the parts that are an emulator's pairs, and its context.
-pub(crate) const PAIRS: u32 = 258;
+pub(crate) const PAIRS: u32 = mig_guest::EMULATOR_PAIRS;
 
-pub(crate) const CONTEXT: u32 = 259;
+pub(crate) const CONTEXT: u32 = mig_guest::EMULATOR_CONTEXT;
 
 /// The most records of a stream.
 pub(crate) const MAX_RECORDS: u32 = 1 << 28;

@@ -65,6 +65,7 @@ impl Gate {
         }
     }
 
+    /// Why a record of the type with this number may not follow those before.
     fn fault(&self, number: u32) -> Option<Cause>
         ensures { result ≡ fault_after self.now.version self.now.kind self.now.earlier number }
     {
@@ -77,6 +78,7 @@ impl Gate {
         }
     }
 
+    /// The same of a type that is known.
     fn fault_of_known(&self, this: RecordType) -> Option<Cause>
         ensures { result ≡ first_fault (causes self.now.version self.now.kind self.now.earlier this) }
     {
@@ -89,6 +91,7 @@ impl Gate {
         self.broken_rule(this)
     }
 
+    /// The first rule of order that a record of this type would break.
     fn broken_rule(&self, this: RecordType) -> Option<Cause>
         ensures { result ≡ first_fault (broken_rules self.now.version self.now.kind self.now.earlier this) }
     {
@@ -116,12 +119,14 @@ impl Gate {
         None
     }
 
+    /// Rule 1: a second STATIC_DATA_END.
     fn is_second_end(&self, this: RecordType) -> bool
         ensures { result ≡ second_end self.now.earlier this }
     {
         is_same(this, RecordType::StaticDataEnd) && self.static_data_end
     }
 
+    /// Rule 2: static data behind STATIC_DATA_END, or either behind content.
     fn is_late_static(&self, this: RecordType) -> bool
         ensures { result ≡ late_static self.now.earlier this }
     {
@@ -129,36 +134,42 @@ impl Gate {
             || (is_same(this, RecordType::StaticDataEnd) || is_static(this)) && self.content
     }
 
+    /// Rule 3: content before STATIC_DATA_END, which version 3 has.
     fn is_early_content(&self, this: RecordType) -> bool
         ensures { result ≡ early_content self.now.version self.now.earlier this }
     {
         self.version == 3 && is_content(this) && !self.static_data_end
     }
 
+    /// Rule 4: a second X86_PV_INFO.
     fn is_second_pv_info(&self, this: RecordType) -> bool
         ensures { result ≡ second_pv_info self.now.earlier this }
     {
         is_same(this, RecordType::X86PvInfo) && self.pv_info
     }
 
+    /// Rule 5: X86_PV_P2M_FRAMES before X86_PV_INFO.
     fn is_early_p2m_frames(&self, this: RecordType) -> bool
         ensures { result ≡ early_p2m_frames self.now.earlier this }
     {
         is_same(this, RecordType::X86PvP2mFrames) && !self.pv_info
     }
 
+    /// Rule 6: pages of a PV guest before X86_PV_P2M_FRAMES.
     fn is_early_pages(&self, this: RecordType) -> bool
         ensures { result ≡ early_pages self.now.kind self.now.earlier this }
     {
         self.kind == Kind::Pv && is_same(this, RecordType::PageData) && !self.p2m_frames
     }
 
+    /// Rule 7: pages behind the record of a vCPU.
     fn is_late_pages(&self, this: RecordType) -> bool
         ensures { result ≡ late_pages self.now.earlier this }
     {
         is_same(this, RecordType::PageData) && self.vcpu
     }
 
+    /// A record of the type with this number follows those before.
     fn pass(&mut self, number: u32)
         ensures { self.new ≡ record self.old { earlier = then_type self.old.earlier number } }
     {
@@ -167,6 +178,7 @@ impl Gate {
         }
     }
 
+    /// The same of a type that is known.
     fn pass_known(&mut self, this: RecordType)
         ensures { self.new ≡ record self.old { earlier = then_type self.old.earlier (type_number this) } }
     {

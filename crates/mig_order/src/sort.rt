@@ -4,12 +4,14 @@ ghost use Rattle.mig_order.specs.Order.{among, static_records, content_records, 
 
 use mig_headers::RecordType;
 
+/// Whether both are the same type.
 pub fn is_same(this: RecordType, other: RecordType) -> bool
     ensures { result ≡ among (other ∷ []) (type_number this) }
 {
     this.number() == other.number()
 }
 
+/// Whether the type is static data.
 pub fn is_static(this: RecordType) -> bool
     ensures { result ≡ among static_records (type_number this) }
 {
@@ -19,6 +21,7 @@ pub fn is_static(this: RecordType) -> bool
     )
 }
 
+/// Whether the type is content.
 pub fn is_content(this: RecordType) -> bool
     ensures { result ≡ among content_records (type_number this) }
 {
@@ -37,6 +40,7 @@ pub fn is_content(this: RecordType) -> bool
     )
 }
 
+/// Whether the type is a vCPU's.
 pub fn is_vcpu(this: RecordType) -> bool
     ensures { result ≡ among vcpu_records (type_number this) }
 {

@@ -43,6 +43,7 @@ fn add(slabs: &mut Vec<Slab>, slab: Slab) -> Result<(), AllocError>
 impl Arena {
     ghost use Rattle.mig_pagestore.specs.ArenaLends.{lends_page};
 
+    /// No pages.
     #[tactic(auto, using(crate::proofs::Packing::arena_none, crate::proofs::Packing::pages_none))]
     pub(crate) fn new(alloc: Global) -> Arena
         ensures pages { result.pages ≡ [] }
@@ -54,6 +55,7 @@ impl Arena {
         }
     }
 
+    /// How many pages there are.
     #[tactic(auto, using(crate::proofs::Packing::arena_len))]
     pub(crate) fn len(&self) -> usize
         ensures { result ≡ length self.now.pages }

@@ -7,13 +7,14 @@ use crate::pairs::may_be_in_key;
 use crate::texts::split_text;
 use mig_headers::Cause;
 
+/// Where the first byte stands that no key may have.
 fn first_not_allowed(key: &[u8]) -> Option<usize>
     ensures { result ≡ position (λ b. not (is_key_byte b)) key.now }
 {
     key.iter().position(|byte| !may_be_in_key(*byte))
 }
 
-// How many bytes stand before the first that no key may have.
+/// How many bytes stand before the first that no key may have.
 fn allowed_len(key: &[u8]) -> usize
     ensures { result ≡ fine_len key.now }
 {
@@ -23,14 +24,14 @@ fn allowed_len(key: &[u8]) -> usize
     }
 }
 
-// Whether a key with so many allowed bytes at its front has another, or none at all.
+/// Whether a key with so many allowed bytes at its front has another, or none at all.
 fn is_bad(key: &[u8], allowed: usize) -> bool
     ensures { result ≡ ((length key.now == 0) || nat_lt allowed (length key.now)) }
 {
     key.is_empty() || allowed < key.len()
 }
 
-// Where a text begins that no zero ends, or a value should begin that isn't there.
+/// Where a text begins that no zero ends, or a value should begin that isn't there.
 fn torn_place(bytes: &[u8]) -> Option<u64>
     ensures { result ≡ torn_at false 0 (texts_in bytes.now) }
 {
@@ -47,7 +48,7 @@ fn torn_place(bytes: &[u8]) -> Option<u64>
     }
 }
 
-// Where the first byte of a key stands that isn't allowed, or the zero of an empty key.
+/// Where the first byte of a key stands that isn't allowed, or the zero of an empty key.
 fn bad_key_place(bytes: &[u8]) -> Option<u64>
     ensures { result ≡ bad_key_at 0 (texts_in bytes.now) }
 {
@@ -65,6 +66,7 @@ fn bad_key_place(bytes: &[u8]) -> Option<u64>
     None
 }
 
+/// The first fault of bytes that are to be pairs of texts.
 #[tactic(auto, unfolding(crate::specs::PairFaults::pairs_fault))]
 fn first_fault(bytes: &[u8]) -> Option<Cause>
     ensures { result ≡ fault_of bytes.now }

@@ -9,7 +9,7 @@ use mig_bytes::Memory;
 use mig_guest::{EMULATOR_PAIRS, Guest, PartKey};
 use std::alloc::Global;
 
-// The pairs of a part and those added to it.
+/// The pairs of a part and those added to it.
 fn merged_map(alloc: Global, part: &[u8], bytes: &[u8]) -> Result<PairMap, Memory>
     ensures { IfOk result (λ map. map ≡ merged part.now bytes.now) }
 {
@@ -19,7 +19,7 @@ fn merged_map(alloc: Global, part: &[u8], bytes: &[u8]) -> Result<PairMap, Memor
     Ok(map)
 }
 
-// The text of the pairs of a part and of those added to it.
+/// The text of the pairs of a part and of those added to it.
 fn merged_text(alloc: Global, part: &[u8], bytes: &[u8]) -> Result<Vec<u8>, PairsAnswer>
     ensures ok { IfOk result (λ text. text.items ≡ text_of_map (merged part.now bytes.now)) }
     ensures fits { IfOk result (λ text. length (text_of_map (merged part.now bytes.now)) ≤ 2 ^ 24) }
@@ -37,7 +37,7 @@ fn merged_text(alloc: Global, part: &[u8], bytes: &[u8]) -> Result<Vec<u8>, Pair
     }
 }
 
-// The bytes of a part; none where it isn't there.
+/// The bytes of a part; none where it isn't there.
 fn bytes_of(guest: &Guest, key: PartKey) -> &[u8]
     ensures { result.now ≡ part_bytes (maps.get guest.now.parts key) }
 {

@@ -49,7 +49,7 @@ impl Model for PairMap {
     ghost invariant = { λ p. T (is_sorted (slice_cmp nat_cmp) (map pair_maps.shown p.pairs.entries)) × (p.len ≡ length (pair_maps.text_of_map (pair_maps.pairs_seen p.pairs.entries))) };
 }
 
-// Puts the text of one pair at the end.
+/// Puts the text of one pair at the end.
 fn put_text(text: &mut Vec<u8>, key: &[u8], value: &[u8]) -> Result<(), Memory>
     ensures ok { OnOk result (text.new.items ≡ text.old.items ++ text_of_entry (key.now, value.now)) }
 {
@@ -75,7 +75,7 @@ impl PairMap {
         }
     }
 
-    // Sets one pair, in place of the one of its key.
+    /// Sets one pair, in place of the one of its key.
     fn set(&mut self, key: &[u8], value: &[u8]) -> Result<(), Memory>
         requires { length (text_of_map self.old) + length key.now + length value.now + 2 < 2 ^ 64 }
         ensures ok { OnOk result (self.new ≡ maps.insert self.old key.now value.now) }
@@ -100,7 +100,7 @@ impl PairMap {
         }
     }
 
-    // Adds the pairs of these bytes, however long their text becomes.
+    /// Adds the pairs of these bytes, however long their text becomes.
     pub(crate) fn add_all(&mut self, bytes: &[u8]) -> Result<(), Memory>
         requires { length (text_of_map self.old) + length bytes.now < 2 ^ 64 }
         ensures ok { OnOk result (self.new ≡ put_pairs self.old (pairs_in bytes.now)) }
@@ -114,7 +114,7 @@ impl PairMap {
         Ok(())
     }
 
-    // Whether the text is no longer than an emulator's pairs may be.
+    /// Whether the text is no longer than an emulator's pairs may be.
     pub(crate) fn fits(&self) -> bool
         ensures fits { result ≡ true → length (text_of_map self.now) ≤ 2 ^ 24 }
         ensures too_many { result ≡ false → 2 ^ 24 < length (text_of_map self.now) }

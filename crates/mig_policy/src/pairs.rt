@@ -4,19 +4,21 @@ ghost use Rattle.mig_headers.specs.Pairs.{AreCanonicalPairs, is_key_byte, is_nex
 
 use crate::texts::split_text;
 
+/// Whether a key may have this byte.
 pub(crate) fn may_be_in_key(byte: u8) -> bool
     ensures { result ≡ is_key_byte byte }
 {
     matches!(byte, b'0'..=b'9' | b'A'..=b'Z' | b'a'..=b'z' | b'-' | b'/' | b'_' | b'@')
 }
 
+/// Whether a key may have all these bytes.
 fn is_key(bytes: &[u8]) -> bool
     ensures { result ≡ list_all is_key_byte bytes.now }
 {
     bytes.iter().all(|byte| may_be_in_key(*byte))
 }
 
-// A key that may stand behind this last one.
+/// A key that may stand behind this last one.
 #[tactic(auto, using(crate::proofs::PairSteps::next_key))]
 fn may_follow(last: &[u8], key: &[u8]) -> bool
     ensures { result ≡ is_next_key last.now key.now }
@@ -24,7 +26,7 @@ fn may_follow(last: &[u8], key: &[u8]) -> bool
     is_key(key) && last < key
 }
 
-// The key of the first pair, where it may stand behind this last key, and what stands behind the pair.
+/// The key of the first pair, where it may stand behind this last key, and what stands behind the pair.
 #[tactic(auto, using(crate::proofs::TextSteps::if_none, crate::proofs::PairSteps::no_value, crate::proofs::PairSteps::after_pair))]
 fn split_pair<'a>(last: &[u8], bytes: &'a [u8]) -> Option<(&'a [u8], &'a [u8])>
     requires { 0 < length bytes.now }

@@ -3,13 +3,14 @@ ghost use Rattle.std.specs.List.{position};
 ghost use Rattle.mig_headers.specs.Pairs.{texts_in};
 ghost use Rattle.mig_policy.specs.PairMaps.{pairs_in};
 
+/// Where the first zero stands.
 fn first_zero(bytes: &[u8]) -> Option<usize>
     ensures { result ≡ position (λ b. b == 0) bytes.now }
 {
     bytes.iter().position(|byte| *byte == 0)
 }
 
-// What stands before the first zero, and what stands behind it.
+/// What stands before the first zero, and what stands behind it.
 pub(crate) fn split_text(bytes: &[u8]) -> Option<(&[u8], &[u8])>
     ensures none { IfNone result (texts_in bytes.now ≡ bytes.now ∷ []) }
     ensures some { IfSome result (λ r. texts_in bytes.now ≡ r.0.now ∷ texts_in r.1.now) }
@@ -20,7 +21,7 @@ pub(crate) fn split_text(bytes: &[u8]) -> Option<(&[u8], &[u8])>
     Some((&bytes[..end], &bytes[end + 1..]))
 }
 
-// The key and the value of the first pair, and what stands behind it.
+/// The key and the value of the first pair, and what stands behind it.
 pub(crate) fn split_pair(bytes: &[u8]) -> Option<(&[u8], &[u8], &[u8])>
     ensures none { IfNone result (pairs_in bytes.now ≡ []) }
     ensures some { IfSome result (λ r. pairs_in bytes.now ≡ record { key = r.0.now; value = r.1.now } ∷ pairs_in r.2.now) }

@@ -6,18 +6,21 @@ ghost use Rattle.mig_records.specs.Faults.{fault_of_words};
 use mig_headers::{Cause, Kind};
 use mig_pagetypes::{PFN_LIMIT, decode_word};
 
+/// The number of the type in a word.
 fn type_number(word: u64) -> u64
     ensures { result ≡ word_type word }
 {
     word / (1 << 60)
 }
 
+/// The frame number in a word.
 fn pfn(word: u64) -> u64
     ensures { result ≡ word_pfn word }
 {
     word % (1 << 52)
 }
 
+/// Whether the type in a word is reserved.
 fn is_reserved(word: u64) -> bool
     ensures { result ≡ has_reserved_type word }
 {
@@ -25,6 +28,7 @@ fn is_reserved(word: u64) -> bool
     5 <= number && number <= 8
 }
 
+/// Whether a word names a frame outside the guest.
 fn is_outside(kind: Kind, top: u64, word: u64) -> bool
     ensures { result ≡ names_outside kind top word }
 {
@@ -35,6 +39,7 @@ fn is_outside(kind: Kind, top: u64, word: u64) -> bool
     }
 }
 
+/// Whether the type in a word has data.
 fn has_page(word: u64) -> bool
     ensures { result ≡ word_has_data word }
 {
@@ -44,12 +49,14 @@ fn has_page(word: u64) -> bool
     }
 }
 
+/// Where the first word with a reserved type stands.
 fn first_reserved(words: &[u64]) -> Option<usize>
     ensures { result ≡ position has_reserved_type words.now }
 {
     words.iter().position(|word| is_reserved(*word))
 }
 
+/// Where the first word that names a frame outside the guest stands.
 fn first_outside(kind: Kind, top: u64, words: &[u64]) -> Option<usize>
     ensures { result ≡ position (names_outside kind top) words.now }
 {
@@ -71,6 +78,7 @@ pub fn words_fault(kind: Kind, top: u64, words: &[u64]) -> Option<Cause>
     None
 }
 
+/// How many of the words have data.
 fn pages(words: &[u64]) -> usize
     ensures count { result ≡ count_by word_has_data words.now }
     ensures bound { result ≤ length words.now }

@@ -41,6 +41,7 @@ impl<A: Allocator> Model for Deed<A> {
     ghost also_owns = { λ d. deed_owns (A.dealloc_token d.alloc) d.at };
 }
 
+/// Raw memory for a slab, of which no page is written yet.
 pub(crate) fn allocate<A: Allocator>(alloc: &A) -> Result<(Base, Cells, Deed<A>), AllocError>
     ensures { IfOk result (λ r. (r.1.at ≡ r.0.ptr) × (r.1.pages ≡ []) × (r.2.at ≡ r.0.ptr) × (r.2.alloc ≡ alloc.now)) }
 {
@@ -57,6 +58,7 @@ pub(crate) fn allocate<A: Allocator>(alloc: &A) -> Result<(Base, Cells, Deed<A>)
     }
 }
 
+/// Gives back the memory of a slab.
 pub(crate) fn deallocate<A: Allocator>(alloc: &A, base: Base, cells: Cells, deed: Deed<A>)
     requires { (cells.at ≡ base.ptr) × (length cells.pages ≤ 64) × (deed.at ≡ base.ptr) × (deed.alloc ≡ alloc.now) }
 {
@@ -70,6 +72,7 @@ pub(crate) fn deallocate<A: Allocator>(alloc: &A, base: Base, cells: Cells, deed
 impl Cells {
     ghost use Rattle.mig_slab.specs.Lends.{lends_cell};
 
+    /// Writes a page behind the `len` that are there.
     pub(crate) fn push(&mut self, base: Base, len: usize, page: [u8; 4096])
         requires { (base.ptr ≡ self.old.at) × (len ≡ length self.old.pages) × (len < 64) }
         ensures { (self.new.at ≡ self.old.at) × (self.new.pages ≡ self.old.pages ++ page ∷ []) }
@@ -85,6 +88,7 @@ impl Cells {
         unsafe { base.ptr.add(len).read() }
     }
 
+    /// The pages, of which there are `len`.
     pub(crate) fn pages(&self, base: Base, len: usize) -> &[[u8; 4096]]
         requires { (base.ptr ≡ self.now.at) × (len ≡ length self.now.pages) × (len ≤ 64) }
         ensures { result.now ≡ self.now.pages }
@@ -92,6 +96,7 @@ impl Cells {
         unsafe { slice::from_raw_parts(base.ptr, len) }
     }
 
+    /// Lends a page.
     pub(crate) fn page_mut(&mut self, base: Base, at: usize) -> &mut [u8; 4096]
         requires { (base.ptr ≡ self.old.at) × (at < length self.old.pages) × (length self.old.pages ≤ 64) }
         ensures* writes_back { sem 𝓛 (lends_cell self.entry at result) }
