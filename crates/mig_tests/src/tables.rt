@@ -1,10 +1,7 @@
-use mig_bytes::{MemSink, put_all};
-use mig_headers::{
-    Cause, ContextFault, Kind, LegacyCause, LegacyPlace, RecordType, Unsound, is_optional,
-};
-use mig_pagetypes::{FrameWord, LegacyWord, PageType, decode_legacy_word};
+use mig_bytes::MemSink;
+use mig_headers::{Cause, ContextFault, Kind, LegacyCause, RecordType, Unsound, is_optional};
 use mig_policy::canonical_pairs;
-use mig_texts::{put_cause, put_legacy_cause, put_legacy_place, put_unsound};
+use mig_texts::{put_cause, put_legacy_cause, put_unsound};
 use std::test::Fail;
 
 // Number, whether the type is supported, whether it stands in PV and in HVM guests, a length that it may have, and one
@@ -89,181 +86,18 @@ fn prints_why_a_host_is_not_sound(rt: HostRuntime) {
     }
 }
 
-// No command prints them.
-const LEGACY: [(LegacyPlace, LegacyCause, &str); 19] = [
-    (
-        LegacyPlace::Device,
-        LegacyCause::Truncated,
-        "Device: 1 Truncated",
-    ),
-    (LegacyPlace::Start, LegacyCause::Modern, "Start: 2 Modern"),
-    (LegacyPlace::Start, LegacyCause::Tools32, "Start: 3 Tools32"),
-    (
-        LegacyPlace::Chunk(0),
-        LegacyCause::VerifyOrPv,
-        "Chunk 0: 4 VerifyOrPv",
-    ),
-    (LegacyPlace::Chunk(1), LegacyCause::Tmem, "Chunk 1: 5 Tmem"),
-    (
-        LegacyPlace::Chunk(2),
-        LegacyCause::Compressed,
-        "Chunk 2: 6 Compressed",
-    ),
-    (
-        LegacyPlace::Chunk(3),
-        LegacyCause::UnknownChunk(21),
-        "Chunk 3: 7 UnknownChunk 21",
-    ),
-    (
-        LegacyPlace::Chunk(4),
-        LegacyCause::BatchTooLarge(1025),
-        "Chunk 4: 8 BatchTooLarge 1025",
-    ),
-    (
-        LegacyPlace::Chunk(5),
-        LegacyCause::BadPageType(2, 8),
-        "Chunk 5: 9 BadPageType 2 8",
-    ),
-    (
-        LegacyPlace::Chunk(6),
-        LegacyCause::WordHigh(7),
-        "Chunk 6: 10 WordHigh 7",
-    ),
-    (
-        LegacyPlace::Chunk(7),
-        LegacyCause::BadVcpuMax(4096),
-        "Chunk 7: 11 BadVcpuMax 4096",
-    ),
-    (
-        LegacyPlace::Chunk(8),
-        LegacyCause::BadToolstack(4),
-        "Chunk 8: 12 BadToolstack 4",
-    ),
-    (
-        LegacyPlace::Chunk(9),
-        LegacyCause::UnpairedIoreq,
-        "Chunk 9: 13 UnpairedIoreq",
-    ),
-    (
-        LegacyPlace::Tail,
-        LegacyCause::BadContext(ContextFault::ShortEntry(32)),
-        "Tail: 14 BadContext ShortEntry 32",
-    ),
-    (
-        LegacyPlace::Device,
-        LegacyCause::BadSignature,
-        "Device: 15 BadSignature",
-    ),
-    (
-        LegacyPlace::Chunk(268_435_456),
-        LegacyCause::TooManyChunks,
-        "Chunk 268435456: 16 TooManyChunks",
-    ),
-    (
-        LegacyPlace::Chunk(10),
-        LegacyCause::TooManyFrames,
-        "Chunk 10: 17 TooManyFrames",
-    ),
-    (
-        LegacyPlace::Tail,
-        LegacyCause::BodyTooLong(134_217_729),
-        "Tail: 18 BodyTooLong 134217729",
-    ),
-    (
-        LegacyPlace::Chunk(11),
-        LegacyCause::TooManyPairs,
-        "Chunk 11: 19 TooManyPairs",
-    ),
+// Those that only a legacy stream of gigabytes has.
+const LEGACY_CAUSES: [(LegacyCause, &str); 2] = [
+    (LegacyCause::TooManyChunks, "16 TooManyChunks"),
+    (LegacyCause::TooManyFrames, "17 TooManyFrames"),
 ];
 
 #[test]
-fn prints_refusals_of_legacy_streams(rt: HostRuntime) -> Result<(), Fail> {
-    for (place, cause, want) in LEGACY {
+fn prints_causes_of_legacy_streams(rt: HostRuntime) {
+    for (cause, want) in LEGACY_CAUSES {
         let mut sink = MemSink::new(rt.alloc(), Vec::new(rt.alloc()));
-        put_legacy_place(&mut sink, place)?;
-        put_all(&mut sink, b": ")?;
-        put_legacy_cause(&mut sink, cause)?;
+        assert_eq!(rt; put_legacy_cause(&mut sink, cause), Ok(()));
         assert_eq!(rt; sink.bytes(), want.as_bytes());
-    }
-    Ok(())
-}
-
-// A word of a legacy batch, and what it says.
-const LEGACY_WORDS: [(u64, LegacyWord); 10] = [
-    (0xF000_0000, LegacyWord::Placeholder),
-    (
-        0xF000_0001,
-        LegacyWord::Word(FrameWord {
-            pfn: 1,
-            kind: PageType::Xtab,
-        }),
-    ),
-    (
-        0,
-        LegacyWord::Word(FrameWord {
-            pfn: 0,
-            kind: PageType::Notab,
-        }),
-    ),
-    (
-        0x0FFF_FFFF,
-        LegacyWord::Word(FrameWord {
-            pfn: 0x0FFF_FFFF,
-            kind: PageType::Notab,
-        }),
-    ),
-    (
-        0xC000_0007,
-        LegacyWord::Word(FrameWord {
-            pfn: 7,
-            kind: PageType::L4Pinned,
-        }),
-    ),
-    (0x5000_0000, LegacyWord::BadType(5)),
-    (0x8FFF_FFFF, LegacyWord::BadType(8)),
-    (0x1_0000_0000, LegacyWord::High),
-    (0x1_F000_0000, LegacyWord::High),
-    (0x1_5000_0000, LegacyWord::BadType(5)),
-];
-
-#[test]
-fn knows_legacy_words(rt: HostRuntime) {
-    for (word, want) in LEGACY_WORDS {
-        assert_eq!(rt; decode_legacy_word(word), want, "{word}");
-    }
-}
-
-// Number, the type, whether a page comes with it, and its level as a table.
-const PAGE_TYPES: [(u8, Option<PageType>, bool, Option<u8>); 18] = [
-    (0, Some(PageType::Notab), true, None),
-    (1, Some(PageType::L1Tab), true, Some(1)),
-    (2, Some(PageType::L2Tab), true, Some(2)),
-    (3, Some(PageType::L3Tab), true, Some(3)),
-    (4, Some(PageType::L4Tab), true, Some(4)),
-    (5, None, false, None),
-    (6, None, false, None),
-    (7, None, false, None),
-    (8, None, false, None),
-    (9, Some(PageType::L1Pinned), true, Some(1)),
-    (10, Some(PageType::L2Pinned), true, Some(2)),
-    (11, Some(PageType::L3Pinned), true, Some(3)),
-    (12, Some(PageType::L4Pinned), true, Some(4)),
-    (13, Some(PageType::Broken), false, None),
-    (14, Some(PageType::Xalloc), false, None),
-    (15, Some(PageType::Xtab), false, None),
-    (16, None, false, None),
-    (255, None, false, None),
-];
-
-#[test]
-fn knows_page_types(rt: HostRuntime) {
-    for (number, kind, data, level) in PAGE_TYPES {
-        assert_eq!(rt; PageType::from_nibble(number), kind, "type {number}");
-        if let Some(known) = kind {
-            assert_eq!(rt; known.nibble(), number);
-            assert_eq!(rt; known.has_data(), data, "data of {number}");
-            assert_eq!(rt; known.table_level(), level, "level of {number}");
-        }
     }
 }
 
