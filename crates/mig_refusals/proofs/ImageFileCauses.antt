@@ -1,4 +1,4 @@
--- The causes that stand in each part of an image.
+-- The causes that stand in each part of an image file.
 use Rattle.mig_refusals.proofs.Common.{◌≡◌, ◌⊎◌, inl, inr, ℕ, ◌≤◌, List, [], ◌∷◌, ◌++◌, Bool, true, false, cond, not, nat_eq, nat_le, nat_lt, Option, Some, None, refl, sym, ap, subst, ◌∙◌, arith, and_from, and_left, and_parts, and_right, cases_lt, eq-eqb, eqb-true, false≢true, le-leb, leb-true, lt-ltb, ltb-true, not-true, not_from_false, or_cases, or_left, or_right, none-some, ◌&&◌, ◌||◌, list_all, le32, le64, first_fault, ImageCause, number_of_image_cause, Kind, Hvm, Pv, HostOf, PageType, ImageFilePart, StandsInImageFile, image_file_size, IsTriedFirst, join, canonical_pairs_are_computed, kind_of_number, AreCanonicalPairs, are_canonical_pairs, pv, PartOrder, PartMany, PartLength, PartBytes, PartPadding, is_type_of, machine_limit, row_of, code_number, code_of_number, PartCode, most_frames, all_types, number_of, type_of, type_or_none, Notab, L1Tab, L2Tab, L3Tab, L4Tab, L1Pinned, L2Pinned, L3Pinned, L4Pinned, Broken, Xalloc, Xtab, found_passes, code_fits, fault_of_bytes, fault_of_frame, fault_of_host_head, fault_of_padding, fault_of_part, frame_rows, has_frame_from, has_machine, has_part_from, head_key, head_pfn, head_type, head_type_number, is_full, is_wide, name_rows, size_rows, ImageFileHeadHas, FrameHas, PartHas, BytesHave, PaddingHas, ImageBadPageType, ImageTruncated}
 use Rattle.mig_headers.proofs.FirstCauses as firsts
 use Rattle.mig_headers.specs.declared.image_fault.ImageCause.TheVariants as causes

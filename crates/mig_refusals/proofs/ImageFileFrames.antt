@@ -1,4 +1,4 @@
--- The frames of a front: judging passes them, and what it passes are such frames.
+-- The frames of a front of an image file: judging passes them, and what it passes are such frames.
 use Rattle.mig_refusals.proofs.Common.{◌≡◌, ℕ, ◌+◌, ◌<◌, List, [], ◌++◌, length, Bool, true, false, cond, Option, Some, None, is_some, refl, sym, ap, subst, ◌∙◌, append_assoc, unwrap_or, le32, le64, Judged, ◌>>=◌, part, placed, Passes, Faulty, both_pass, part_whole, placed_passes, same_passes, then_passes, ImageCause, ImagePlace, HostOf, HostFrame, PageType, IsFaultlessImageFilePart, nil_from_length, kind_of_number, kind_back, number_of, type_has_data, type_of, type_or_none, type_back, regroup, behind_frame_head, page_if, frame_head_at, frame_said, head_pfn, head_type, head_type_number, host_frame_at, host_page_at, put_frame, FramesTo, Opens, SpellsFrame, ImageTruncated, opened}
 use Rattle.mig_headers.specs.declared.image_fault.ImagePlace.TheVariants as places
 use Rattle.mig_refusals.specs.ImageFile.FramesTo.{at_first, one_more}

@@ -1,4 +1,4 @@
--- The parts of a front: judging passes them, and what it passes are such parts.
+-- The host's parts in a front of an image file: judging passes them, and what it passes are such parts.
 use Rattle.mig_refusals.proofs.Common.{◌≡◌, ℕ, ◌+◌, ◌<◌, List, ◌++◌, refl, sym, ap, subst, ◌∙◌, append_assoc, le32, le64, Judged, ◌>>=◌, part, placed, Passes, both_pass, placed_passes, same_passes, then_passes, ImageCause, ImagePlace, HostOf, PartKey, ImageFilePart, IsFaultlessImageFilePart, padding_len, regroup, behind_bytes, behind_part_head, count_at, head_key, part_at, put_part_in, FramesTo, PartsTo, SpellsPart, ImageTruncated}
 use Rattle.mig_headers.specs.declared.image_fault.ImagePlace.TheVariants as places
 use Rattle.mig_refusals.specs.ImageFile.PartsTo.{at_first, one_more}

@@ -1,4 +1,4 @@
--- An image is refused in words exactly where judging refuses it.
+-- An image file is refused in words exactly where judging refuses it.
 use Rattle.mig_refusals.proofs.Common.{◌≡◌, inl, inr, ℕ, ◌<◌, List, [], ◌++◌, Bool, true, false, nat_eq, refl, sym, ap, subst, ◌∙◌, append_assoc, le_refl, eqb-true, eqb-false, le32, le64, Judged, ◌>>=◌, placed, Passes, Faulty, placed_passes, placed_faulty, then_passes, then_faulty, bind_cases, both_pass, same_passes, only_first, ImageCause, ImagePlace, HostOf, ImageFilePart, IsFaultlessImageFilePart, regroup, kind_number, kind_of_number, behind_bytes, behind_part_head, count_at, frame_said, frames_at, head_key, head_pfn, head_type, host_at, host_frame_at, host_head_at, host_parts_at, part_at, put_frame, put_part_in, BehindImageFile, FramesTo, Opens, PartsTo, RefusedImageFile, AreJudged, HasOneRefusal, IsAcceptedOrRefused, IsNeverBoth, AreBytes, IsHostImage, image_back, image_reads, passes_not, ImageFilePartFails, image_behind_head, opened}
 use Rattle.mig_headers.specs.declared.image_fault.ImagePlace.TheVariants as places
 use Rattle.mig_refusals.specs.Refusals.IsAcceptedOrRefused.{accepted, refused}

@@ -1,4 +1,4 @@
--- A record that fails: the part in which it fails, and the parts before it.
+-- A record of an image that fails: the part in which it fails, and the parts before it.
 use Rattle.mig_refusals.proofs.Common.{◌≡◌, ◌⊎◌, inl, inr, ℕ, ◌+◌, ◌*◌, ◌/◌, List, [], ◌∷◌, ◌++◌, Bool, true, false, not, nat_eq, zero, suc, drop, length, Option, Some, None, refl, sym, ap, subst, ◌∙◌, arith, append_assoc, eqb-true, not-true, false≢true, le32, Judged, ◌>>=◌, part, tried, Passes, Faulty, part_whole, then_passes, both_pass, part_passes, tried_passes, same_passes, Cause, Kind, common_steps, type_allows, Opening, Before, before, record_at, next_at, body_at, typed_at, coded_at, code_of_type, said_at, entries_at, words_at, fault_of_head, fault_of_data, LibxcPart, PagesTo, IsFaultlessLibxcPart, LibxcPartFails, then_faulty, bind_cases, passes_not, only_first, InPages, body_part, libxc_size, InBody, Within, end_record, padding_len, IsLeastPadding, each, record_row_of, type_number, type_of_number, RecordType, PageData, X86PvInfo, X86PvP2mFrames, GuestOf, PartCode, VcpuBasic, VcpuExtended, VcpuXsave, HvmContext, HvmParam, VcpuMsrs, code_number, is_vcpu, fault_of_vcpu, vcpu_rows, Layout, Shape, Table, Single, Other, entry_width, front_width, fault_of_key, fault_of_entries, entry_count, shape_of, has_shape, fault_by_shape, fault_of_body, parts_of_body, length_passes, neither_some, IsInOrder, words, fault_of_guest, lists_of, sent, StreamRecord, FrameEntry, Content, Sets, behind_body, head_stage, asks, behind_record, taken, behind_good, words_stage, entries_in_place, other_entries, each_stage, coded_is, shaped_code, optional_at, FailsBehind, Truncated, Nothing, Frames, behind_head, behind_words, entry_of, body_says, body_goes, body_type_at, fields_fine}
 use Rattle.mig_guest.proofs.PartRows.{number_found}
 use Rattle.mig_order.specs.Order.{IsInOrder as order}

@@ -1,4 +1,4 @@
--- An input is refused as the format's words say exactly where judging refuses it.
+-- An input is refused as an image in the format's words exactly where judging refuses it.
 use Rattle.mig_refusals.proofs.Common.{◌≡◌, inl, inr, ℕ, List, [], ◌++◌, length, refl, sym, ap, ◌∙◌, append_assoc, le32, be32, ◌>>=◌, placed, Passes, Faulty, then_passes, then_faulty, bind_cases, passes_not, only_first, placed_faulty, Cause, Opening, before, next_at, marker_goes, image_header_goes, headers_go, LibxcPart, IsOpen, BehindLibxc, RefusedLibxc, LibxcPartFails, Within, AreJudged, HasOneRefusal, AreAllAcceptedOrRefused, IsNeverBoth, refused_stops, spelled_refused, sequence_at, kind_of_number, Place, ImageHeader, DomainHeader, Record, StreamRecord, is_ended, Follows, image_of, placed_next, records_at, opening_at, image_at, IsRefused, going, image_header, behind_marker, behind_version, goes, finds, behind_kind, stream_opened, Accepted}
 use Rattle.mig_restore.proofs.Converse.{accepted_or_refused as judged, never_both as never_judged}
 use Rattle.mig_refusals.proofs.Laws.{accepted_or_refused, never_both, one_refusal}

@@ -1,4 +1,4 @@
--- A record that fails: one of its parts does, or the image that follows its head is refused.
+-- A record of a libxl stream that fails: one of its parts does, or the image that follows its head is refused.
 use Rattle.mig_refusals.proofs.Common.{then_faulty, bind_cases, passes_not, only_first, placed_faulty, ◌≡◌, ◌⊎◌, inl, inr, ℕ, List, [], ◌++◌, Bool, true, false, cond, nat_eq, length, refl, sym, ap, subst, ◌∙◌, arith, append_assoc, eqb-true, eq-eqb, le32, part, placed, Passes, Faulty, part_whole, then_passes, placed_passes, common_steps, Cause, padding_len, both_none, Place, FailsBehind, image_at, LibxlRecord, LibxlContent, Image, EmulatorsOf, emulators_of, allows_length, fault_of_libxl_fields, fault_of_order, libxl_head_at, skipped_at, inner_at, body_of_type, libxl_content_at, libxl_record_at, FineFields, has_no_image, behind_content, WrapperPart, IsFaultlessWrapperPart, WrapperPartFails, HasBody, WithinWrapper, Truncated, AtRecord, LibxlNothing, libxl_fields_fine, libxl_body_says, libxl_body_goes, libxl_behind_head}
 use Rattle.mig_refusals.proofs.LibxcRecords.{is_padding, padding_is}
 use Rattle.mig_refusals.proofs.Parts.{stage_fails, said_fails, part_goes, fine, found_here, found_next, placed_cases}

@@ -30,7 +30,7 @@ use Rattle.mig_refusals.specs.Refusals.{FailsBehind}
 
 -- ---- where each cause stands, a line for each
 
--- the image's head: its name, the kind, 0, the width and the number of frames
+-- the file's head: its name, the kind, 0, the width and the number of frames
 pub data ImageFileHeadHas (head : List ℕ) : ImageCause → Type 0 where
   not_image : (be64 head 0 ≡ image_name → ⊥) → ImageFileHeadHas head NotImage
   bad_kind : (le32 head 8 ≡ 1 → ⊥) → (le32 head 8 ≡ 2 → ⊥) → ImageFileHeadHas head (BadKind (le32 head 8))
@@ -69,7 +69,7 @@ pub data BytesHave (code : ℕ) (bytes : List ℕ) : ImageCause → Type 0 where
 pub data PaddingHas (padding : List ℕ) : ImageCause → Type 0 where
   not_zero : (place : ℕ) → place < length padding → (slice_index padding place ≡ 0 → ⊥) → PaddingHas padding PartPadding
 
--- ---- the parts of an image
+-- ---- the parts of an image file
 
 -- the head; behind the frames of a host the head of one more, and the page of a frame of this type; how many parts the host
 -- has, 8 bytes; behind the parts of a host the head of one more, its bytes, by its code and its length, and so much padding
@@ -107,7 +107,7 @@ abbrev pub IsFaultlessImageFilePart : ImageFilePart → List ℕ → Type 0
 IsFaultlessImageFilePart part bytes = IsFaultless (image_file_size part) (StandsInImageFile part) bytes
 
 -- a part isn't whole in what is left, of which nothing remains; or it is, and this cause is named, and rest follows it; no
--- cause of an image stands at several places
+-- cause of an image file stands at several places
 abbrev pub ImageFilePartFails : ImageFilePart → List ℕ → ImageCause → List ℕ → Type 0
 ImageFilePartFails part left cause rest = Fails Truncated (image_file_size part) (λ bytes. IsTriedFirst number_of_image_cause (λ _. 0) (StandsInImageFile part bytes)) left cause rest
 
@@ -152,7 +152,7 @@ pub data PartsTo : List ℕ → ℕ → ℕ → HostOf → Type 0 where
   at_first : (front number : List ℕ) (count : ℕ) (h : HostOf) → FramesTo front count count h → IsFaultlessImageFilePart Number number → PartsTo (front ++ number) (le64 number 0) 0 h
   one_more : (front bytes : List ℕ) (count n : ℕ) (h : HostOf) (key : PartKey) (content : List ℕ) → PartsTo front count n h → n < count → SpellsPart h bytes key content → PartsTo (front ++ bytes) count (n + 1) (put_part_in h key content)
 
--- a faultless front of an image, and the place and the part that come next
+-- a faultless front of an image file, and the place and the part that come next
 pub data BehindImageFile : List ℕ → ImagePlace → ImageFilePart → Type 0 where
   at_head : BehindImageFile [] places.Head Head
   at_frame : (front : List ℕ) (count n : ℕ) (h : HostOf) → FramesTo front count n h → n < count → BehindImageFile front (places.Frame n) (FrameHead h)
@@ -164,6 +164,6 @@ pub data BehindImageFile : List ℕ → ImagePlace → ImageFilePart → Type 0 
   at_padding : (front head content : List ℕ) (count n : ℕ) (h : HostOf) → PartsTo front count n h → n < count → IsFaultlessImageFilePart (PartHead h) head → IsFaultlessImageFilePart (Bytes (le32 head 0) (le32 head 12)) content
       → BehindImageFile (front ++ (head ++ content)) (places.Part n) (Padding (padding_len (le32 head 12)))
 
--- the input is refused as an image at this place, for this cause, and rest follows the faulty part
+-- the input is refused as an image file at this place, for this cause, and rest follows the faulty part
 abbrev pub RefusedImageFile : List ℕ → ImagePlace → ImageCause → List ℕ → Type 0
 RefusedImageFile input place cause rest = FailsBehind (λ front part. BehindImageFile front place part) ImageFilePartFails input cause rest

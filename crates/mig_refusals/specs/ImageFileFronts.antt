@@ -1,4 +1,4 @@
--- Fronts as an image spells them.
+-- Fronts as an image file spells them.
 use Rattle.std.specs.Prelude.{◌≡◌, ℕ, List, ◌++◌, length}
 use Rattle.std.specs.FinMap as maps
 use Rattle.std.specs.List.{flat_map}

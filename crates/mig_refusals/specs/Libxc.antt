@@ -1,5 +1,5 @@
--- Refusals in the words of the format (libxc migration stream): a faultless front, and behind it a part that isn't whole
--- or in which a cause stands.
+-- Refusals of images, each a stream of its own or a part of a libxl stream, in the words of the format (libxc migration
+-- stream): a faultless front, and behind it a part that isn't whole or in which a cause stands.
 use Rattle.std.specs.Prelude.{◌≡◌, ◌⊎◌, ℕ, ◌+◌, ◌*◌, ◌^◌, ◌%◌, ◌<◌, ◌≤◌, List, [], ◌∷◌, ◌++◌, length, Some, None, IsTrue, IsFalse, false, count_by, slice_index, if◌then◌else◌}
 use Rattle.std.specs.FinMap as maps
 use Rattle.mig_bytes.specs.Bytes.{IsLeastPadding}
@@ -264,6 +264,6 @@ pub data BehindLibxc : List ℕ → Place → LibxcPart → Type 0 where
   at_guest : (front head : List ℕ) (o : Opening) (records : List StreamRecord) → IsOpen front o records → IsFaultlessLibxcPart (Head (before o records)) head → le32 head 0 ≡ 0
       → BehindLibxc (front ++ head) (places.Record (length records)) (WholeGuest (sent o.kind (records ++ end_record ∷ [])))
 
--- the input is refused at this place, for this cause, and rest follows the faulty part
+-- the input is refused as an image at this place, for this cause, and rest follows the faulty part
 abbrev pub RefusedLibxc : List ℕ → Place → Cause → List ℕ → Type 0
 RefusedLibxc input place cause rest = FailsBehind (λ front part. BehindLibxc front place part) LibxcPartFails input cause rest
