@@ -4,7 +4,7 @@ use Rattle.mig_headers.specs.Rows.{first_fault}
 use Rattle.mig_legacy.specs.Spelled.HasLegacyContent.{ends, batch, vcpus, clock, last_checkpoint, toolstack as a_toolstack, value}
 use Rattle.mig_legacy.proofs.Batches.{batch_passes, batch_goes}
 use Rattle.mig_legacy.proofs.Parts.{counted_passes, counted_goes}
-use Rattle.mig_legacy.proofs.Spelling.{toolstack_spelled}
+use Rattle.mig_chunks.proofs.Spelling.{toolstack_spelled}
 
 -- ---- what a body that passes says
 

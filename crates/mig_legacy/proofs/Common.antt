@@ -4,7 +4,7 @@ pub use Rattle.mig_bytes.proofs.Placed.{placed_fine, placed_stops, placed_then, 
 pub use Rattle.mig_bytes.proofs.Said.{said_goes, said_passes, said_read, said_refused, plain_read}
 pub use Rattle.mig_bytes.proofs.Sequences.{accepted_spelled, spelled_accepted, Found}
 pub use Rattle.mig_bytes.specs.Bytes.{AreBytes}
-unfoldable pub use Rattle.mig_bytes.specs.Fields.{le32, le64}
+unfoldable pub use Rattle.mig_bytes.specs.Fields.{le32}
 pub use Rattle.mig_bytes.specs.Fields.{be64}
 unfoldable pub use Rattle.mig_bytes.specs.Judged.{each}
 pub use Rattle.mig_bytes.specs.Judged.{Judged, ◌>>=◌, part, Matches, Gives, plain_at, said_at, placed, stop_at, tried}
@@ -16,65 +16,62 @@ pub use Rattle.mig_guest.specs.Guests.{GuestOf}
 pub use Rattle.mig_guest.specs.Order.{part_cmp}
 pub use Rattle.mig_guest.specs.PartKeys.{context_key, p2m_key}
 pub use Rattle.mig_guest.specs.declared.part_key.PartKey.{PartKey}
-pub use Rattle.mig_headers.proofs.ContextTexts.{scan_cut, contexts_are_spelled}
+pub use Rattle.mig_headers.proofs.ContextTexts.{contexts_are_spelled}
 pub use Rattle.mig_headers.proofs.FirstFaults.{no_fault, rows_fine, both_none, neither_some}
 pub use Rattle.mig_headers.specs.Contexts.{scan, cut_at}
-pub use Rattle.mig_headers.specs.Pairs.{Pair, IsPair, is_key_byte, text_of_pair}
+pub use Rattle.mig_headers.specs.Pairs.{Pair}
 pub use Rattle.mig_headers.specs.declared.fault.ContextFault.{ContextFault}
 pub use Rattle.mig_headers.specs.declared.kind.Kind.{Kind}
 pub use Rattle.mig_headers.specs.declared.kind.Kind.TheVariants.{Hvm, Pv}
 pub use Rattle.mig_headers.specs.declared.legacy_fault.LegacyCause.{LegacyCause}
-pub use Rattle.mig_headers.specs.declared.legacy_fault.LegacyCause.TheVariants.{Truncated, BadPageType, WordHigh, BodyTooLong, VerifyOrPv, Tmem, Compressed, BatchTooLarge, Modern, Tools32, BadContext, BadSignature, TooManyPairs, BadVcpuMax, BadToolstack}
+pub use Rattle.mig_headers.specs.declared.legacy_fault.LegacyCause.TheVariants.{Truncated, BodyTooLong, Modern, Tools32, BadContext, BadSignature, TooManyPairs, BadVcpuMax, BadToolstack}
 pub use Rattle.mig_headers.specs.declared.legacy_fault.LegacyPlace.{LegacyPlace}
 pub use Rattle.mig_headers.specs.declared.legacy_fault.LegacyPlace.TheVariants.{Start, Tail, Device, Chunk}
-pub use Rattle.mig_legacy.specs.Batches.{is_reserved, is_high, fault_of_batch, IsBatchFault, batch_rows, page_data_words, page_data_word, page_data_words_of}
-unfoldable pub use Rattle.mig_legacy.specs.Chunks.{kind_of}
-pub use Rattle.mig_legacy.specs.Chunks.{negative, param_chunks, second_of, IsParamChunk, IsNumberOf, NumbersHaveKinds, negative_kind}
-unfoldable pub use Rattle.mig_legacy.specs.Judged.{entry_fault, toolstack, toolstack_fault, entries_fault, physmaps_in}
-pub use Rattle.mig_legacy.specs.Judged.{is_name, entry_len, entry_in, fault_or, name_in, name_len, name_at, entry_rows, ToolstackIsSpelled}
+pub use Rattle.mig_chunks.specs.Batches.{is_reserved, is_high, fault_of_batch, batch_rows, page_data_words, page_data_word, page_data_words_of}
+unfoldable pub use Rattle.mig_chunks.specs.Chunks.{kind_of}
+pub use Rattle.mig_chunks.specs.Chunks.{IsNumberOf}
+unfoldable pub use Rattle.mig_chunks.specs.Judged.{toolstack, toolstack_fault}
 unfoldable pub use Rattle.mig_legacy.specs.Judging.{device_at, tail_at, chunk_at, fault_of_kind}
 pub use Rattle.mig_legacy.specs.Judging.{length_at, fault_of_signature, device_record_at, fault_of_counted, or_truncated, legacy_words_at, batch_at, context_fault, cut_context, tail_of, start_at, clock_of, is_modern, fault_of_start, signature, pairs_of_toolstack, fault_of_toolstack, chunk_kind_at, chunk_content_at, most_chunks, is_unpaired, frames_sent, kind_rows, allowed, fault_of_max, vcpus_at, clock_at, value_at, toolstack_at}
 unfoldable pub use Rattle.mig_legacy.specs.Legacy.{mean_legacy}
 pub use Rattle.mig_legacy.specs.Legacy.{LegacyContent, LegacyChunk, LegacyTail, LegacyStream, param_key, records_in, tail_records, image_records, guest_without, tsc_key, device_records, store_records, is_end, is_legacy_ended, store_key, device_key, pair_records, device_model, is_value_of, has_value}
 pub use Rattle.mig_legacy.specs.Legacy.LegacyContent.{Nothing, Frames, Value, Clock, Pairs}
 pub use Rattle.mig_legacy.specs.Meaning.{batch_entries, entries_of_chunks, parts_in, parts_of_chunks, parts_of_tail, parts_told, tail_value, value_in, last_value, toolstack_pairs, pairs_of_chunks, store_of}
-pub use Rattle.mig_legacy.specs.Seen.{IsWithinLimits, put_in_guest, put_tail, IsLegacySeen, put_device, put_in_emulators, TakesLegacy, IsLegacyBegun}
+pub use Rattle.mig_legacy.specs.Seen.{put_in_guest, put_tail, IsLegacySeen, put_device, put_in_emulators, TakesLegacy, IsLegacyBegun}
 pub use Rattle.mig_legacy.specs.Spelled.{IsCounted, IsLegacyWord, IsLegacyBatch, FollowsLegacy, IsLegacy, AcceptedLegacy, IsStart, IsTail, IsDevice, IsLegacyComplete, HasLegacyContent, StoreFits}
 unfoldable pub use Rattle.mig_legacy.specs.Stream.{legacy_at}
 pub use Rattle.mig_legacy.specs.Stream.{chunks_at, placed_chunk, IsLegacyRefused}
-unfoldable pub use Rattle.mig_legacy.specs.Texts.{hexadecimal}
-pub use Rattle.mig_legacy.specs.Texts.{without_zeros, physmap_pair, name_pairs, pairs_of_physmap, text_of_physmaps}
-pub use Rattle.mig_legacy.specs.Toolstack.{Physmap, IsName, ArePhysmaps, IsToolstack, name_bytes, IsPhysmapHead}
-pub use Rattle.mig_legacy.specs.declared.chunk.ChunkKind.{ChunkKind}
-pub use Rattle.mig_legacy.specs.declared.chunk.ChunkKind.TheVariants.{End, Batch, VcpuMap, Tsc, LastCheckpoint, Toolstack, Param}
+pub use Rattle.mig_chunks.specs.Texts.{pairs_of_physmap, text_of_physmaps}
+pub use Rattle.mig_chunks.specs.Toolstack.{Physmap, IsToolstack}
+pub use Rattle.mig_chunks.specs.declared.chunk.ChunkKind.{ChunkKind}
+pub use Rattle.mig_chunks.specs.declared.chunk.ChunkKind.TheVariants.{End, Batch, VcpuMap, Tsc, LastCheckpoint, Toolstack, Param}
 pub use Rattle.mig_legacy.specs.declared.read.ChunksSeen.{ChunksSeen}
 pub use Rattle.mig_emulators.proofs.Formed.{store_small, pairs_kept, context_kept}
 pub use Rattle.mig_emulators.proofs.EmulatorGuests.{part_there, IsDone, guest_done}
 unfoldable pub use Rattle.mig_emulators.specs.Emulators.{emulators_of}
 pub use Rattle.mig_emulators.specs.Emulators.{EmulatorsOf, put_libxl_content, no_emulators, with_emulators, store_at, add_pairs, last_context, most_pairs, spelled_with}
 pub use Rattle.mig_emulators.specs.Formed.{IsPlain, AreEmulators}
-pub use Rattle.mig_pagetypes.specs.FrameWords.{word_pfn, word_has_data, word_type}
+pub use Rattle.mig_pagetypes.specs.FrameWords.{word_pfn, word_type}
 pub use Rattle.mig_pagetypes.specs.LegacyWords.{legacy_type, legacy_pfn, placeholder}
-pub use Rattle.mig_policy.specs.PairFaults.{SpellPairs, pairs_fault}
+pub use Rattle.mig_policy.specs.PairFaults.{pairs_fault}
 pub use Rattle.mig_policy.specs.PairMaps.{PairMap, put_pair, put_pairs, text_of_map, pairs_in}
 pub use Rattle.mig_pvtables.specs.Blank.{blank_of, blank, IsOfBytes}
-pub use Rattle.mig_records.proofs.Places.{position_some, position_none, place_is_first, none_pass}
-pub use Rattle.mig_records.specs.Words.{IsFirst, words}
+pub use Rattle.mig_records.proofs.Places.{none_pass}
+pub use Rattle.mig_records.specs.Words.{words}
 pub use Rattle.mig_restore.proofs.Meaning.{last_entry_is, parts_got, sent_kind, part_ties}
 pub use Rattle.mig_restore.specs.Judging.{type_in_word, fault_of_level, fault_of_page, entry_at, with_places}
 unfoldable pub use Rattle.mig_restore.specs.Mean.{sent, mean}
 pub use Rattle.mig_restore.specs.Mean.{put_record, empty_guest, entries_of, last_entry, frame_in, same_key, last_bytes, meant_type, put_entries, Grows, IsBegun}
 pub use Rattle.mig_restore.specs.Record.{StreamRecord, FrameEntry}
-pub use Rattle.mig_restore.specs.Spelled.{IsPage, IsEntry, AreEntries, IsGoodWord}
-pub use Rattle.std.proofs.Common.{◌≡◌, ℕ, cond, List, [], ◌∷◌, ◌++◌, Option, Some, None, refl, sym, ap, ◌∙◌, arith, append_assoc, ◌+◌, ◌-◌, ◌<◌, ◌≤◌, Bool, not, length, drop, min, nat_eq, nat_lt, suc, ◌^◌, true, false, take, get_or, Result, Ok, Err, subst, slice_index, ◌/◌, ◌%◌, length-append, zero, nat_le, eqb-true, ltb-false, ◌*◌, ◌≢◌, length-take-le, length-drop, ◌⊎◌, inl, inr, take-append-drop, drop-drop, eq-eqb, leb-false, rules}
-pub use Rattle.std.proofs.Math.Seq.{take-append_seam, drop-append_seam}
+pub use Rattle.mig_restore.specs.Spelled.{AreEntries, IsGoodWord}
+pub use Rattle.std.proofs.Common.{◌≡◌, ℕ, cond, List, [], ◌∷◌, ◌++◌, Option, Some, None, refl, sym, ap, ◌∙◌, arith, append_assoc, ◌+◌, ◌-◌, ◌<◌, ◌≤◌, Bool, not, length, drop, nat_eq, nat_lt, suc, ◌^◌, true, false, take, get_or, Result, Ok, Err, subst, ◌/◌, length-append, nat_le, eqb-true, ltb-false, ◌*◌, ◌≢◌, length-take-le, length-drop, ◌⊎◌, inl, inr, take-append-drop, drop-drop, eq-eqb, leb-false, rules}
 pub use Rattle.std.proofs.lemmas.Bool.{le-ltb, lt-leb, le-leb, lt-ltb, and_from, false≢true, eqb-false, ne_eqb, not-false}
 pub use Rattle.std.proofs.lemmas.Grind.{common_steps, flat_map-append}
-pub use Rattle.std.proofs.lemmas.List.{append-nil, take_at, take_all, drop_at, get_or-drop}
-pub use Rattle.std.proofs.lemmas.List.Elements.{All-from_recursion, recursion_from_All, All-get_or, All-drop, All-nil, All-cons, All-append, All-head, All-tail, All-take, All-replicate}
+pub use Rattle.std.proofs.lemmas.List.{append-nil, take_at, take_all, drop_at}
+pub use Rattle.std.proofs.lemmas.List.Elements.{All-drop, All-nil, All-cons, All-append, All-head, All-tail, All-take, All-replicate}
 pub use Rattle.std.proofs.lemmas.List.Folds.{list_any_none, list_any-append}
-pub use Rattle.std.proofs.lemmas.List.Sums.{fold-append, prefix_len-le-length}
+pub use Rattle.std.proofs.lemmas.List.Sums.{fold-append}
 pub use Rattle.std.proofs.lemmas.Option.{none-some}
-pub use Rattle.std.specs.List.{position, position_or_len, AllByRecursion, flat_map, All, prefix_len}
+pub use Rattle.std.specs.List.{flat_map, All}
 pub use Rattle.std.specs.Option.{option_or, option_map}
-pub use Rattle.std.specs.Prelude.{fold, option_and_then, ◌||◌, codes, ◌&&◌, ◌==◌, IsOk, IfOk, IsSome, replicate, if◌then◌else◌, unwrap_or, OnOk}
+pub use Rattle.std.specs.Prelude.{fold, option_and_then, ◌||◌, ◌&&◌, ◌==◌, IsOk, IfOk, IsSome, replicate, unwrap_or, OnOk}

@@ -1,17 +1,8 @@
 pub mod Common
-pub mod Names
-pub mod Entries
-pub mod Fields
-pub mod NameForms
-pub mod Spelling
-pub mod BatchFaults
-pub mod ChunkNumbers
-pub mod PhysmapPairs
 pub mod Growth
 pub mod Chunked
 pub mod Parts
 pub mod Batches
-pub mod KindNumbers
 pub mod Bodies
 pub mod ChunkTexts
 pub mod Arrivals

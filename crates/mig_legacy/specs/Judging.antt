@@ -20,14 +20,14 @@ use Rattle.mig_records.specs.Words.{words}
 use Rattle.mig_restore.specs.Judging.{entry_at, with_places}
 use Rattle.mig_restore.specs.Mean.{sent}
 use Rattle.mig_emulators.specs.Emulators.{EmulatorsOf, emulators_of, most_pairs, spelled_with}
-use Rattle.mig_legacy.specs.declared.chunk.ChunkKind.{ChunkKind}
-use Rattle.mig_legacy.specs.declared.chunk.ChunkKind.TheVariants.{End, Batch, VcpuMap, Tsc, LastCheckpoint, Toolstack, Param}
-use Rattle.mig_legacy.specs.Batches.{fault_of_batch, page_data_words}
-use Rattle.mig_legacy.specs.Chunks.{kind_of}
-use Rattle.mig_legacy.specs.Judged.{toolstack, toolstack_fault}
+use Rattle.mig_chunks.specs.declared.chunk.ChunkKind.{ChunkKind}
+use Rattle.mig_chunks.specs.declared.chunk.ChunkKind.TheVariants.{End, Batch, VcpuMap, Tsc, LastCheckpoint, Toolstack, Param}
+use Rattle.mig_chunks.specs.Batches.{fault_of_batch, page_data_words}
+use Rattle.mig_chunks.specs.Chunks.{kind_of}
+use Rattle.mig_chunks.specs.Judged.{toolstack, toolstack_fault}
 use Rattle.mig_legacy.specs.Legacy.{LegacyContent, LegacyChunk, LegacyTail, is_end, has_value, store_key, image_records, store_records}
 use Rattle.mig_legacy.specs.Legacy.LegacyContent.{Nothing, Frames, Value, Clock, Pairs}
-use Rattle.mig_legacy.specs.Texts.{pairs_of_physmap}
+use Rattle.mig_chunks.specs.Texts.{pairs_of_physmap}
 
 -- ---- parts
 

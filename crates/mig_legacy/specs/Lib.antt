@@ -1,8 +1,3 @@
-pub mod Chunks
-pub mod Batches
-pub mod Toolstack
-pub mod Judged
-pub mod Texts
 pub mod Legacy
 pub mod Judging
 pub mod Stream

@@ -12,8 +12,8 @@ use Rattle.mig_restore.specs.Mean.{IsBegun as IsGuestBegun}
 use Rattle.mig_emulators.specs.Emulators.{EmulatorsOf, put_libxl_content, emulators_of}
 use Rattle.mig_emulators.specs.Formed.{AreEmulators}
 use Rattle.mig_legacy.specs.Legacy.{LegacyContent, LegacyChunk, LegacyTail, has_value, records_in, pair_records, tail_records, device_records, image_records, store_records}
-use Rattle.mig_legacy.specs.declared.chunk.ChunkKind.{ChunkKind}
-use Rattle.mig_legacy.specs.declared.chunk.ChunkKind.TheVariants.{Batch, Param}
+use Rattle.mig_chunks.specs.declared.chunk.ChunkKind.{ChunkKind}
+use Rattle.mig_chunks.specs.declared.chunk.ChunkKind.TheVariants.{Batch, Param}
 use Rattle.mig_legacy.specs.declared.read.ChunksSeen.{ChunksSeen}
 
 -- the reader has these chunks behind it
@@ -30,12 +30,6 @@ pub record IsLegacyBegun (seen : ChunksSeen) : Type 0 where
   pub hvm : seen.guest.kind ≡ Hvm
   pub guest : IsGuestBegun seen.guest
   pub emulators : AreEmulators seen.emulators
-
--- what the type of a chunk limits
-abbrev pub IsWithinLimits : ChunkKind → Type 0
-IsWithinLimits (Batch n) = n ≤ 1024
-IsWithinLimits (Param index) = index < 4096
-IsWithinLimits _ = ⊤
 
 -- the guest, and the emulators, once a chunk has said this
 abbrev pub put_in_guest : GuestOf → LegacyContent → GuestOf

@@ -6,16 +6,14 @@ ghost use Rattle.mig_bytes.specs.declared.part.Stop.TheVariants.{Memory as NoMem
 ghost use Rattle.mig_headers.specs.declared.kind.Kind.TheVariants.{Hvm};
 ghost use Rattle.mig_restore.specs.Mean.{Grows};
 ghost use Rattle.mig_emulators.specs.Formed.{AreEmulators};
-ghost use Rattle.mig_legacy.specs.Batches.{fault_of_batch};
+ghost use Rattle.mig_chunks.specs.Batches.{fault_of_batch};
 ghost use Rattle.mig_legacy.specs.Judging.{length_at, legacy_words_at, batch_at, clock_of as clock_in, vcpus_at, clock_at, value_at, toolstack_at};
 ghost use Rattle.mig_legacy.specs.Legacy.{LegacyContent, param_key as key_of_param};
 ghost use Rattle.mig_legacy.specs.Legacy.LegacyContent.{Nothing};
 ghost use Rattle.mig_legacy.specs.Seen.{cut_short, put_in_guest, put_in_emulators};
 
-use crate::batch::{batch_fault, page_data_words};
-use crate::text::put;
-use crate::toolstack::{physmap_pairs, toolstack_fault};
 use mig_bytes::{Memory, ReadFailed, Source, Stop, skip, take_long, take_part, u32_le};
+use mig_chunks::{batch_fault, page_data_words, physmap_pairs, put, toolstack_fault};
 use mig_emulators::Emulators;
 use mig_guest::{EMULATOR_PAIRS, Guest, PartKey};
 use mig_headers::{Cause, LegacyCause};

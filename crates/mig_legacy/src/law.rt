@@ -11,25 +11,10 @@ ghost use Rattle.mig_guest.specs.declared.part_key.PartKey.{PartKey};
 ghost use Rattle.mig_policy.specs.PairMaps.{text_of_map};
 ghost use Rattle.mig_restore.specs.Mean.{frame_in, last_bytes, last_entry};
 ghost use Rattle.mig_emulators.specs.Emulators.{last_pair_value as last_pair};
-ghost use Rattle.mig_legacy.specs.Chunks.{NumbersHaveKinds};
-ghost use Rattle.mig_legacy.specs.Judged.{ToolstackIsSpelled};
 ghost use Rattle.mig_legacy.specs.Legacy.{LegacyStream, device_key, mean_legacy, param_key, store_key};
 ghost use Rattle.mig_legacy.specs.Meaning.{entries_of_chunks, last_value, pairs_of_chunks, parts_told, store_of, tail_value};
 ghost use Rattle.mig_legacy.specs.Spelled.{IsLegacy, AcceptedLegacy};
 ghost use Rattle.mig_legacy.specs.Stream.{legacy_at, IsLegacyRefused};
-
-/// Each chunk is that of its number.
-#[tactic(auto, using(crate::proofs::ChunkNumbers::numbers_have_kinds))]
-pub fn numbers_have_kinds()
-    ensures { NumbersHaveKinds }
-{}
-
-/// The data of a toolstack have no wrong field exactly where they are spelled as entries, and these are the entries
-/// that they are judged to be.
-#[tactic(auto, using(crate::proofs::Spelling::toolstack_spelled))]
-pub fn toolstack_is_spelled()
-    ensures { (body : List ℕ) → ToolstackIsSpelled body }
-{}
 
 /// What judging accepts is spelled as the format says.
 #[tactic(auto, using(crate::proofs::Laws::accepted_is_legacy))]

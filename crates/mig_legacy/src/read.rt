@@ -13,16 +13,17 @@ ghost use Rattle.mig_pvtables.specs.Blank.{blank, IsOfBytes};
 ghost use Rattle.mig_pvtables.specs.Whole.{IsWhole};
 ghost use Rattle.mig_emulators.specs.Emulators.{with_emulators};
 ghost use Rattle.mig_emulators.specs.Formed.{IsPlain, AreEmulators};
-ghost use Rattle.mig_legacy.specs.declared.chunk.ChunkKind.TheVariants as kinds;
+ghost use Rattle.mig_chunks.specs.declared.chunk.ChunkKind.TheVariants as kinds;
 ghost use Rattle.mig_legacy.specs.Judging.{most_chunks, fault_of_kind, fault_of_start, chunk_kind_at, chunk_content_at, chunk_at, start_at, tail_at, device_at};
 ghost use Rattle.mig_legacy.specs.Legacy.{LegacyChunk, device_records, is_end, is_value_of, mean_legacy};
-ghost use Rattle.mig_legacy.specs.Seen.{IsLegacySeen, IsLegacyBegun, IsWithinLimits, TakesLegacy, put_tail};
+ghost use Rattle.mig_legacy.specs.Seen.{IsLegacySeen, IsLegacyBegun, TakesLegacy, put_tail};
+ghost use Rattle.mig_chunks.specs.Chunks.{IsWithinLimits};
 ghost use Rattle.mig_legacy.specs.Stream.{chunks_at, legacy_at, ReadsLegacy};
 
 use crate::body::{take_batch, take_clock, take_toolstack, take_value, take_vcpus};
-use crate::chunk::{ChunkKind, chunk_kind};
 use crate::tail::{take_device, take_tail};
 use mig_bytes::{Answer, Memory, Source, Stop, answer_for, take_part, u32_le};
+use mig_chunks::{ChunkKind, chunk_kind};
 use mig_emulators::Emulators;
 use mig_guest::Guest;
 use mig_headers::{ImageHeader, Kind, LegacyCause, LegacyPlace, LibxlHeader};
@@ -119,7 +120,7 @@ impl ChunksSeen {
     }
 
     /// Takes the type of the next chunk.
-    #[tactic(auto, using(crate::proofs::ChunkNumbers::sound_kind))]
+    #[tactic(auto, using(mig_chunks::proofs::ChunkNumbers::sound_kind))]
     fn take_kind<S: Source>(&self, src: &mut S) -> Result<ChunkKind, Stop<LegacyCause>>
         ensures read { (chunks : List LegacyChunk) → IsLegacySeen self.now chunks → Gives (λ kind k. k ≡ kind) (S.left src.old) (S.left src.new) (chunk_kind_at chunks) result }
         ensures sound { IfOk result (λ kind. IsWithinLimits kind) }

@@ -83,7 +83,7 @@ pub use Rattle.mig_guest.proofs.PartCursor.{both_of, less, true_of}
 pub use Rattle.mig_guest.proofs.PartOrder.{part_exact, part_total}
 pub use Rattle.mig_guest.specs.Formed.{gdt_ents}
 pub use Rattle.mig_guest.specs.Frames.{is_type_of}
-pub use Rattle.mig_pagestore.specs.Frames.{FrameMap, FrameOf}
+pub use Rattle.mig_guest.specs.Frames.{FrameMap, FrameOf}
 pub use Rattle.mig_guest.specs.Guests.{GuestOf}
 pub use Rattle.mig_guest.specs.Hosts.{HostFrame, HostOf, IsValid, machine_limit}
 pub use Rattle.mig_guest.specs.Longs.{long_at}
@@ -151,22 +151,22 @@ unfoldable pub use Rattle.mig_libxl.specs.Stream.{stream_at, wrapped_at}
 pub use Rattle.mig_libxl.specs.Stream.{IsStreamRefused, bare_at, header_at, libxl_records_at}
 pub use Rattle.mig_libxl.specs.Stream.StreamOf.{Bare, Wrapped}
 pub use Rattle.mig_legacy.proofs.Batches.{behind_words as legacy_behind_words, no_table, page_fine}
-pub use Rattle.mig_legacy.proofs.ChunkNumbers.{numbers_have_kinds}
+pub use Rattle.mig_chunks.proofs.ChunkNumbers.{numbers_have_kinds}
 pub use Rattle.mig_legacy.proofs.ChunkTexts.{finds as legacy_finds, goes as legacy_goes, not_ended as legacy_not_ended, numbered as legacy_numbered, stand_fine}
 pub use Rattle.mig_legacy.proofs.Chunked.{behind_kind as legacy_behind_kind}
-pub use Rattle.mig_legacy.proofs.Entries.{faultless_first, faulty_first, nothing_left}
-pub use Rattle.mig_legacy.proofs.Fields.{first32}
-pub use Rattle.mig_legacy.proofs.KindNumbers.{kinds_have_numbers}
-pub use Rattle.mig_legacy.proofs.NameForms.{name_passes, name_spelled}
+pub use Rattle.mig_chunks.proofs.Entries.{faultless_first, faulty_first, nothing_left}
+pub use Rattle.mig_chunks.proofs.Fields.{first32}
+pub use Rattle.mig_chunks.proofs.KindNumbers.{kinds_have_numbers}
+pub use Rattle.mig_chunks.proofs.NameForms.{name_passes, name_spelled}
 pub use Rattle.mig_legacy.proofs.Parts.{counted_at}
-pub use Rattle.mig_legacy.proofs.Spelling.{behind_all, fault_of, fine as fine_entry, len_is, toolstack_spelled}
+pub use Rattle.mig_chunks.proofs.Spelling.{behind_all, fault_of, fine as fine_entry, len_is, toolstack_spelled}
 pub use Rattle.mig_legacy.proofs.Streams.{behind_chunks, behind_start, behind_tail, stream_of}
 pub use Rattle.mig_legacy.proofs.TailTexts.{fault_of_tail, some_device, start_goes, start_passes, tail_goes, tail_passes}
-pub use Rattle.mig_legacy.specs.Batches.{fault_of_batch, is_high, is_reserved, page_data_words}
-unfoldable pub use Rattle.mig_legacy.specs.Chunks.{kind_of}
-pub use Rattle.mig_legacy.specs.Chunks.{IsNumberOf, negative, negative_kind}
-unfoldable pub use Rattle.mig_legacy.specs.Judged.{entry_fault, toolstack_fault}
-pub use Rattle.mig_legacy.specs.Judged.{entries_fault, entry_len, is_name, name_at, name_in, name_len, toolstack}
+pub use Rattle.mig_chunks.specs.Batches.{fault_of_batch, is_high, is_reserved, page_data_words}
+unfoldable pub use Rattle.mig_chunks.specs.Chunks.{kind_of}
+pub use Rattle.mig_chunks.specs.Chunks.{IsNumberOf, negative, negative_kind}
+unfoldable pub use Rattle.mig_chunks.specs.Judged.{entry_fault, toolstack_fault}
+pub use Rattle.mig_chunks.specs.Judged.{entries_fault, entry_len, is_name, name_at, name_in, name_len, toolstack}
 unfoldable pub use Rattle.mig_legacy.specs.Judging.{chunk_at, device_at, fault_of_kind, tail_at}
 pub use Rattle.mig_legacy.specs.Judging.{allowed, batch_at, chunk_content_at, chunk_kind_at, clock_of, context_fault, device_record_at, fault_of_counted, fault_of_max, fault_of_signature, fault_of_start, fault_of_toolstack, frames_sent, is_modern, is_unpaired, kind_rows, legacy_words_at, length_at, or_truncated, pairs_of_toolstack, signature, start_at, tail_of, vcpus_at}
 pub use Rattle.mig_legacy.specs.Legacy.{LegacyChunk, LegacyContent, LegacyStream, LegacyTail, has_value, image_records, is_end, is_legacy_ended, store_key, store_records}
@@ -174,10 +174,10 @@ pub use Rattle.mig_legacy.specs.Legacy.LegacyContent.{Clock, Frames as LegacyFra
 pub use Rattle.mig_legacy.specs.Spelled.{AcceptedLegacy, FollowsLegacy, IsStart}
 unfoldable pub use Rattle.mig_legacy.specs.Stream.{legacy_at}
 pub use Rattle.mig_legacy.specs.Stream.{IsLegacyRefused, chunks_at, placed_chunk}
-pub use Rattle.mig_legacy.specs.Texts.{pairs_of_physmap}
-pub use Rattle.mig_legacy.specs.Toolstack.{IsName, IsPhysmapHead, Physmap, name_bytes}
-pub use Rattle.mig_legacy.specs.declared.chunk.ChunkKind.{ChunkKind}
-pub use Rattle.mig_legacy.specs.declared.chunk.ChunkKind.TheVariants.{Batch, End as LastChunk}
+pub use Rattle.mig_chunks.specs.Texts.{pairs_of_physmap}
+pub use Rattle.mig_chunks.specs.Toolstack.{IsName, IsPhysmapHead, Physmap, name_bytes}
+pub use Rattle.mig_chunks.specs.declared.chunk.ChunkKind.{ChunkKind}
+pub use Rattle.mig_chunks.specs.declared.chunk.ChunkKind.TheVariants.{Batch, End as LastChunk}
 pub use Rattle.mig_image.proofs.Chains.{put_all}
 pub use Rattle.mig_image.proofs.FieldBytes.{regroup}
 pub use Rattle.mig_image.proofs.Frames.{behind_frame_head, frame_entries, frames_back as frames_said, frames_valid, page_if}

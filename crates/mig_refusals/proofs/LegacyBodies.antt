@@ -1,6 +1,6 @@
 -- The parts of a chunk: judging is faulty in one of them exactly where it fails.
 use Rattle.mig_refusals.proofs.Common.{◌≡◌, inl, inr, ℕ, ◌+◌, ◌*◌, ◌/◌, ◌^◌, List, [], ◌++◌, drop, Option, Result, Ok, Err, refl, sym, ap, subst, ◌∙◌, append_assoc, Judged, ◌>>=◌, part, plain_at, said_at, tried, Passes, Faulty, bind_cases, only_first, passes_not, then_faulty, then_passes, le32, LegacyCause, ChunkKind, LegacyChunk, LegacyPart, IsFaultlessLegacyPart, LegacyPartFails, LegacyPartStops, FailsBehind, Hvm, emulators_of, words, entries_in_place, page_data_words, kind_of, length_at, fault_of_max, fault_of_toolstack, allowed, chunk_kind_at, legacy_words_at, batch_at, vcpus_at, clock_of, pairs_of_toolstack, or_truncated, chunk_content_at, chunk_at, LegacyContent, store_records, Value, Clock, Pairs, numbers_have_kinds, stand_fine, counted_at, InChunkBody, InChunk, LegacyTruncated, LegacyNothing, LegacyFrames, legacy_behind_words, legacy_behind_kind, legacy_numbered}
-use Rattle.mig_legacy.specs.declared.chunk.ChunkKind.TheVariants as kinds
+use Rattle.mig_chunks.specs.declared.chunk.ChunkKind.TheVariants as kinds
 use Rattle.mig_refusals.specs.Legacy.InChunkBody.{at_words, at_page, at_max, at_bits, at_clock, at_value, at_length, at_entries}
 use Rattle.mig_refusals.specs.Legacy.InChunk.{at_type, in_body}
 use Rattle.mig_refusals.specs.Legacy.LegacyPart.{ChunkType, Words, Page, VcpuMax, Length, Signature, Plain}

@@ -24,15 +24,15 @@ use Rattle.mig_restore.specs.Record.{FrameEntry}
 use Rattle.mig_restore.specs.Spelled.{AreEntries}
 use Rattle.mig_emulators.specs.Emulators.{emulators_of, most_pairs, spelled_with}
 use Rattle.mig_refusals.specs.Libxc.{EntriesTo, EntryHas}
-use Rattle.mig_legacy.specs.declared.chunk.ChunkKind.{ChunkKind}
-use Rattle.mig_legacy.specs.declared.chunk.ChunkKind.TheVariants as kinds
-use Rattle.mig_legacy.specs.Batches.{page_data_words}
-use Rattle.mig_legacy.specs.Chunks.{negative, IsNumberOf}
+use Rattle.mig_chunks.specs.declared.chunk.ChunkKind.{ChunkKind}
+use Rattle.mig_chunks.specs.declared.chunk.ChunkKind.TheVariants as kinds
+use Rattle.mig_chunks.specs.Batches.{page_data_words}
+use Rattle.mig_chunks.specs.Chunks.{negative, IsNumberOf}
 use Rattle.mig_legacy.specs.Judging.{most_chunks, signature}
 use Rattle.mig_legacy.specs.Legacy.{LegacyChunk, LegacyTail, has_value, is_legacy_ended, image_records, store_key, store_records}
 use Rattle.mig_legacy.specs.Spelled.{IsStart, IsTail, FollowsLegacy}
-use Rattle.mig_legacy.specs.Texts.{pairs_of_physmap}
-use Rattle.mig_legacy.specs.Toolstack.{Physmap, IsToolstack}
+use Rattle.mig_chunks.specs.Texts.{pairs_of_physmap}
+use Rattle.mig_chunks.specs.Toolstack.{Physmap, IsToolstack}
 use Rattle.mig_refusals.specs.Refusals.{FailsBehind}
 use Rattle.mig_refusals.specs.LegacyToolstack.{FieldWrong}
 

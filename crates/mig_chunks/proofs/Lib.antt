@@ -1,0 +1,10 @@
+pub mod Common
+pub mod BatchFaults
+pub mod ChunkNumbers
+pub mod Entries
+pub mod Fields
+pub mod KindNumbers
+pub mod NameForms
+pub mod Names
+pub mod PhysmapPairs
+pub mod Spelling

@@ -1,0 +1,5 @@
+pub mod Chunks
+pub mod Batches
+pub mod Toolstack
+pub mod Judged
+pub mod Texts
