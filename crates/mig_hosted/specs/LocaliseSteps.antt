@@ -1,5 +1,5 @@
 -- The steps by which a guest comes to the form in which it stands in a machine: one frame or part after another.
-use Rattle.std.specs.Prelude.{ℕ, ◌-◌, ◌/◌, List, length, Bool, false, Option, Some, None, ◌==◌, nat_lt, find, if◌then◌else◌}
+use Rattle.std.specs.Prelude.{ℕ, ◌-◌, ◌/◌, List, length, Bool, false, Option, Some, None, ◌==◌, nat_lt, find}
 use Rattle.std.specs.List.{range_with_len}
 use Rattle.std.specs.Option.{option_map}
 use Rattle.std.specs.FinMap as maps
@@ -9,7 +9,6 @@ use Rattle.mig_guest.specs.Parts.{PartMap}
 use Rattle.mig_guest.specs.PartKeys.{p2m_key}
 use Rattle.mig_pvtables.specs.P2mFrames.{place_of}
 use Rattle.mig_pvtables.specs.P2mPages.{p2m_page}
-use Rattle.mig_pvtables.specs.VcpuContexts.{field_at}
 
 -- a frame whose page is that of P2M frame k, where it has one
 abbrev pub with_p2m_page : (ℕ → Option ℕ) → ℕ → FrameOf → FrameOf
