@@ -1,7 +1,6 @@
 -- What the reader keeps of a record's content.
 use Rattle.mig_libxl.proofs.Common.{◌≡◌, ℕ, ◌-◌, ◌≤◌, ◌<◌, ◌^◌, true, false, List, length, take, drop, nat_eq, nat_le, nat_lt, Option, Some, None, Ok, refl, sym, ap, subst, ◌∙◌, arith, ◌||◌, le-leb, lt-leb, le-ltb, common_steps, ◌>>=◌, Passes, Cause, pairs_fault, Reading, LibxlContent, image_in, Image, Pairs, Context, EmulatorsOf, add_pairs, put_libxl_content, emulator_key, Holds, WrapperSeen}
 use Rattle.std.proofs.Common.{length-drop}
-use Rattle.std.specs.FinMap as maps
 use Rattle.std.proofs.lemmas.Bool.{lt-ltb}
 use Rattle.std.proofs.lemmas.List.{take_all}
 use Rattle.std.proofs.lemmas.Option.{none-some, same_Some}

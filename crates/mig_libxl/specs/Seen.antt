@@ -1,6 +1,5 @@
 -- What the reader of a libxl stream keeps of the records before.
 use Rattle.std.specs.Prelude.{◌≡◌, ◌==◌, ◌||◌, ℕ, ⊤, false, List, length, Option, Some, None, IfSome, IsSome}
-use Rattle.std.specs.FinMap as maps
 use Rattle.mig_headers.specs.declared.kind.Kind.TheVariants.{Pv}
 use Rattle.mig_restore.specs.Stream.{ImageOf}
 use Rattle.mig_restore.specs.Stream.{IsReading as IsImageReading}
