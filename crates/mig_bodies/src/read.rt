@@ -33,12 +33,14 @@ pub fn read_single(guest: &mut Guest, code: PartCode, len: usize, body: &[u8]) -
 
 // ---- named parts
 
-/// The bytes of a vCPU's basic context, where in them it says how many GDT entries there are, and the most of these.
+/// The bytes of a vCPU's basic context.
 const VCPU_CONTEXT: usize = 5168;
 
-const GDT_ENTS: usize = 4960;
+/// Where in a vCPU's basic context the number of its GDT entries stands.
+pub const GDT_ENTS: usize = 4960;
 
-const MAX_GDT_ENTS: u64 = 7168;
+/// The most GDT entries of a vCPU.
+pub const MAX_GDT_ENTS: u64 = 7168;
 
 /// What is refused of a part's bytes.
 fn content_fault(code: PartCode, bytes: &[u8]) -> Option<Cause>

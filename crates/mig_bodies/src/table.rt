@@ -15,7 +15,7 @@ use mig_guest::{Guest, PartCode, PartKey};
 use mig_headers::Cause;
 
 /// The least number that no vCPU and no parameter has.
-const SMALL_NUMBERS: u64 = 4096;
+pub const SMALL_NUMBERS: u64 = 4096;
 
 /// What is refused of a key.
 pub(crate) fn key_fault(code: PartCode, key1: u64, key2: u64) -> Option<Cause>

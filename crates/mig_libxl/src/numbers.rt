@@ -17,7 +17,7 @@ pub(crate) const PAIRS: u32 = mig_guest::EMULATOR_PAIRS;
 pub(crate) const CONTEXT: u32 = mig_guest::EMULATOR_CONTEXT;
 
 /// The most records of a stream.
-pub(crate) const MAX_RECORDS: u32 = 1 << 28;
+pub(crate) const MAX_RECORDS: u32 = mig_restore::MAX_RECORDS;
 
 /// Emulator ids are below this.
 pub(crate) const EMULATORS: u32 = 3;

@@ -1,8 +1,8 @@
 ghost use Rattle.std.specs.Prelude.{◌≡◌, ◌≤◌, ◌+◌, ◌^◌, ◌==◌, ◌∷◌, [], ◌++◌, ⊤, ◌≢◌, ◌<◌, List, ℕ, true, false, None, length, IfOk, IfNone, IfSome, IsSome, OnOk, IsErrOf};
 ghost use Rattle.mig_bytes.specs.Answers.{or_stop};
-ghost use Rattle.mig_bytes.specs.Bytes.{AreBytes, padding_len};
+ghost use Rattle.mig_bytes.specs.Bytes.{AreBytes};
 ghost use Rattle.mig_bytes.specs.Faults.{RisesOnReadFault};
-ghost use Rattle.mig_bytes.specs.Judged.{Gives, part};
+ghost use Rattle.mig_bytes.specs.Judged.{Gives};
 ghost use Rattle.mig_bytes.specs.declared.part.Stop.TheVariants.{Memory as NoMemory};
 ghost use Rattle.mig_headers.specs.declared.fault.Cause.TheVariants.{Truncated};
 ghost use Rattle.mig_pvtables.specs.Blank.{blank, IsOfBytes};
@@ -23,14 +23,13 @@ use crate::numbers::{
     END, INDICES, LIBXC_CONTEXT, MAX_RECORDS, PAIRS,
 };
 use mig_bytes::{
-    Memory, ReadFailed, Source, Stop, answer_for, pad_len, skip, stop_for, take_long, take_part,
-    u32_le,
+    Memory, ReadFailed, Source, Stop, answer_for, skip, stop_for, take_long, take_part, u32_le,
 };
 use mig_emulators::Emulators;
 use mig_guest::PartKey;
 use mig_headers::{Cause, ImageHeader, Kind, LibxlHeader, Place, is_optional};
 use mig_policy::{PairsAnswer, pairs_fault};
-use mig_records::{RecordHead, long_fault};
+use mig_records::{RecordHead, long_fault, take_head, take_padding};
 use mig_restore::{Reading, StreamAnswer, read_image, read_image_rest};
 use std::alloc::Global;
 
@@ -50,16 +49,6 @@ fn skip_body<S: Source>(src: &mut S, len: u32) -> Result<(), Stop<Cause>>
         Ok(false) => Err(Stop::Refused(Cause::Truncated)),
         Err(ReadFailed) => Err(Stop::ReadFault),
     }
-}
-
-/// Takes the bytes behind a body that make its length a multiple of 8.
-fn take_padding<S: Source>(src: &mut S, len: u32) -> Result<(), Stop<Cause>>
-    ensures read { Gives (λ _ _. ⊤) (S.left src.old) (S.left src.new) (part Truncated (padding_len len)) result }
-    ensures faults { RisesOnReadFault (S.faults src.old) (S.faults src.new) result }
-    ensures takes_no_memory { ¬ IsErrOf result NoMemory }
-{
-    let mut padding = [0; 8];
-    take_part(src, &mut padding[..pad_len(len)], Cause::Truncated)
 }
 
 /// What the reader keeps of the records before.
@@ -177,9 +166,7 @@ impl WrapperSeen {
         ensures faults { RisesOnReadFault (S.faults src.old) (S.faults src.new) result }
         ensures takes_no_memory { ¬ IsErrOf result NoMemory }
     {
-        let mut bytes = [0; 8];
-        take_part(src, &mut bytes, Cause::Truncated)?;
-        let head = RecordHead::decode(&bytes);
+        let head = take_head(src)?;
         match self.head_fault(head) {
             Some(cause) => Err(Stop::Refused(cause)),
             None => Ok(head),

@@ -24,6 +24,6 @@ pub use faults::pairs_fault;
 pub use laws::pairs_laws;
 pub use merge::merge_pairs;
 pub use pair_map::{PairMap, PairsAnswer};
-pub use pairs::canonical_pairs;
+pub use pairs::{canonical_pairs, may_be_in_key};
 pub use policies::{read_cpuid, read_msr};
 pub use tsc::read_tsc;

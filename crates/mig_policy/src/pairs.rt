@@ -5,7 +5,7 @@ ghost use Rattle.mig_headers.specs.Pairs.{AreCanonicalPairs, is_key_byte, is_nex
 use crate::texts::split_text;
 
 /// Whether a key may have this byte.
-pub(crate) fn may_be_in_key(byte: u8) -> bool
+pub fn may_be_in_key(byte: u8) -> bool
     ensures { result ≡ is_key_byte byte }
 {
     matches!(byte, b'0'..=b'9' | b'A'..=b'Z' | b'a'..=b'z' | b'-' | b'/' | b'_' | b'@')

@@ -10,12 +10,14 @@
 #![tactic(auto)]
 
 mod count;
+mod framing;
 mod head;
 mod laws;
 mod words;
 mod write;
 
 pub use count::count_fault;
+pub use framing::{take_head, take_padding};
 pub use head::{RecordHead, length_fault, long_fault};
 pub use laws::{
     faultless_words, heads_are_read_back, outside_place_is_first, pieces_spell_a_record,

@@ -9,13 +9,13 @@ ghost use Rattle.mig_records.specs.Faults.{fault_of_length};
 ghost use Rattle.mig_records.specs.Heads.{head_in};
 ghost use Rattle.mig_restore.specs.Judging.{Opening, Before, most_records, opening_of, fault_of_number, fault_of_fields, head_at};
 
-use mig_bytes::{Source, Stop, take_part};
+use mig_bytes::{Source, Stop};
 use mig_headers::{Cause, Kind};
 use mig_order::Gate;
-use mig_records::{RecordHead, length_fault, long_fault};
+use mig_records::{RecordHead, length_fault, long_fault, take_head};
 
-/// The most records of an image.
-const MAX_RECORDS: u32 = 1 << 28;
+/// The most records of an image, and of a libxl stream.
+pub const MAX_RECORDS: u32 = 1 << 28;
 
 /// What a reader of images keeps of the records before.
 #[derive(Drop)]
@@ -95,9 +95,7 @@ impl RecordsSeen {
         ensures faults { RisesOnReadFault (S.faults src.old) (S.faults src.new) result }
         ensures takes_no_memory { ¬ IsErrOf result Memory }
     {
-        let mut bytes = [0; 8];
-        take_part(src, &mut bytes, Cause::Truncated)?;
-        let head = RecordHead::decode(&bytes);
+        let head = take_head(src)?;
         match self.judge(head) {
             Ok(()) => Ok(head),
             Err(cause) => Err(Stop::Refused(cause)),

@@ -19,7 +19,7 @@ mod read;
 
 pub use answer::StreamAnswer;
 pub use body::{meant, page_fault, take_entries, type_in, words_of};
-pub use head::RecordsSeen;
+pub use head::{MAX_RECORDS, RecordsSeen};
 pub use law::{
     accepted_is_image, accepted_is_whole, accepted_or_refused, greatest_end_decides,
     image_is_accepted, last_content_decides, last_entry_decides, last_listing_decides, never_both,

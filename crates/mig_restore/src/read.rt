@@ -1,10 +1,8 @@
 ghost use Rattle.std.specs.Prelude.{◌≡◌, ℕ, ◌<◌, ◌+◌, ◌^◌, ◌==◌, ◌∷◌, [], ◌++◌, List, ⊤, true, None, IfOk, IfNone, OnOk, IsErrOf};
 ghost use Rattle.mig_bytes.specs.Answers.{or_stop};
-ghost use Rattle.mig_bytes.specs.Bytes.{padding_len};
 ghost use Rattle.mig_bytes.specs.Faults.{RisesOnReadFault};
-ghost use Rattle.mig_bytes.specs.Judged.{Gives, part};
+ghost use Rattle.mig_bytes.specs.Judged.{Gives};
 ghost use Rattle.mig_bytes.specs.declared.part.Stop.TheVariants.{Memory};
-ghost use Rattle.mig_headers.specs.declared.fault.Cause.TheVariants.{Truncated};
 ghost use Rattle.mig_guest.specs.Formed.{HasNoEmulators};
 ghost use Rattle.mig_pvtables.specs.Blank.{blank as blank_form, IsOfBytes};
 ghost use Rattle.mig_pvtables.specs.Faults.{fault_of_guest};
@@ -18,10 +16,11 @@ ghost use Rattle.mig_restore.specs.Stream.{ReadsImage, ReadsRest, IsReading, ima
 use crate::answer::StreamAnswer;
 use crate::body::take_body;
 use crate::head::RecordsSeen;
-use mig_bytes::{Source, Stop, answer_for, pad_len, take_part};
+use mig_bytes::{Source, Stop, answer_for, take_part};
 use mig_guest::Guest;
 use mig_headers::{Cause, DomainHeader, ImageHeader, Kind, Place};
 use mig_pvtables::{WholeAnswer, blank, whole};
+use mig_records::take_padding;
 use std::alloc::Global;
 
 /// The type of the record that ends an image.
@@ -36,16 +35,6 @@ pub struct Reading {
     pub version: u32,
     /// How many records the image has, with END and optional ones.
     pub records: u32,
-}
-
-/// Takes the bytes behind a body that make its length a multiple of 8.
-fn read_padding<S: Source>(src: &mut S, len: u32) -> Result<(), Stop<Cause>>
-    ensures read { Gives (λ _ _. ⊤) (S.left src.old) (S.left src.new) (part Truncated (padding_len len)) result }
-    ensures faults { RisesOnReadFault (S.faults src.old) (S.faults src.new) result }
-    ensures takes_no_memory { ¬ IsErrOf result Memory }
-{
-    let mut padding = [0; 8];
-    take_part(src, &mut padding[..pad_len(len)], Cause::Truncated)
 }
 
 /// Takes a record, and keeps what it says. Answers its type.
@@ -66,7 +55,7 @@ fn take_record<S: Source>(
 {
     let head = seen.read_head(src)?;
     take_body(alloc, src, head, guest)?;
-    read_padding(src, head.len)?;
+    take_padding(src, head.len)?;
     Ok(head.kind)
 }
 

@@ -13,13 +13,13 @@ returns-in_err-take_body-clause-read g c = λ b seen kind top.
     (λ head is. stopped _ _ _ _ (body_at c.args.guest.now.kind c.args.guest.now.top c.in_ok-head.head.kind c.in_ok-head.head.len) (λ i. behind_head b.opening.kind b.top (head, i)) (behind_body head) c.in_err-take_body.field-0.0 c.from_residual-in_err-take_body.result
     (goes_on head c.in_ok-head.head b.opening.kind c.args.guest.now.kind b.top c.args.guest.now.top is kind top) (search rules) c.in_err-take_body.ensures.read)
 
-pub returns-in_err-read_padding-clause-read : goal.returns-in_err-read_padding-clause-read
-returns-in_err-read_padding-clause-read g c = λ b seen kind top.
-    then_reads _ _ _ _ _ (head_at b) (record_at b) (behind_head b.opening.kind b.top) c.in_ok-head.head c.from_residual-in_err-read_padding.result (begins b) (c.in_ok-head.ensures.read b seen)
-    (λ head is. then_reads _ _ _ _ _ (body_at c.args.guest.now.kind c.args.guest.now.top c.in_ok-head.head.kind c.in_ok-head.head.len) (λ i. behind_head b.opening.kind b.top (head, i)) (behind_body head) _ c.from_residual-in_err-read_padding.result
+pub returns-in_err-take_padding-clause-read : goal.returns-in_err-take_padding-clause-read
+returns-in_err-take_padding-clause-read g c = λ b seen kind top.
+    then_reads _ _ _ _ _ (head_at b) (record_at b) (behind_head b.opening.kind b.top) c.in_ok-head.head c.from_residual-in_err-take_padding.result (begins b) (c.in_ok-head.ensures.read b seen)
+    (λ head is. then_reads _ _ _ _ _ (body_at c.args.guest.now.kind c.args.guest.now.top c.in_ok-head.head.kind c.in_ok-head.head.len) (λ i. behind_head b.opening.kind b.top (head, i)) (behind_body head) _ c.from_residual-in_err-take_padding.result
     (goes_on head c.in_ok-head.head b.opening.kind c.args.guest.now.kind b.top c.args.guest.now.top is kind top) c.in_ok-take_body.ensures.read
-    (λ r _. stopped _ _ _ _ (part Truncated (padding_len c.in_ok-head.head.len)) (λ i. behind_body head (r, i)) (λ padding. Passes (record { type = c.in_ok-head.head.kind; content = r }) padding.1) c.in_err-read_padding.field-0.0 c.from_residual-in_err-read_padding.result
-    (padded head c.in_ok-head.head r is) (search rules) c.in_err-read_padding.ensures.read))
+    (λ r _. stopped _ _ _ _ (part Truncated (padding_len c.in_ok-head.head.len)) (λ i. behind_body head (r, i)) (λ padding. Passes (record { type = c.in_ok-head.head.kind; content = r }) padding.1) c.in_err-take_padding.field-0.0 c.from_residual-in_err-take_padding.result
+    (padded head c.in_ok-head.head r is) (search rules) c.in_err-take_padding.ensures.read))
 
 pub returns-clause-read : goal.returns-clause-read
 returns-clause-read g c = λ b seen kind top.
@@ -27,4 +27,4 @@ returns-clause-read g c = λ b seen kind top.
     (λ head is. then_reads _ _ _ _ _ (body_at c.args.guest.now.kind c.args.guest.now.top c.in_ok-head.head.kind c.in_ok-head.head.len) (λ i. behind_head b.opening.kind b.top (head, i)) (behind_body head) _ _
     (goes_on head c.in_ok-head.head b.opening.kind c.args.guest.now.kind b.top c.args.guest.now.top is kind top) c.in_ok-take_body.ensures.read
     (λ r told. mapped _ _ _ _ (part Truncated (padding_len c.in_ok-head.head.len)) (λ i. behind_body head (r, i)) (λ _. record { type = c.in_ok-head.head.kind; content = r }) _ _
-    (padded head c.in_ok-head.head r is) c.in_ok-read_padding.ensures.read (λ _ _. (told, refl))))
+    (padded head c.in_ok-head.head r is) c.in_ok-take_padding.ensures.read (λ _ _. (told, refl))))
