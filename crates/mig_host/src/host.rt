@@ -88,6 +88,7 @@ impl Host {
         }
     }
 
+    /// Which kind of guest it is.
     pub fn kind(&self) -> Kind
         ensures { result ≡ self.now.host.kind }
     {

@@ -3,7 +3,7 @@
 //! Responsible for: judging an image part by part, in byte order, and the guest that its records mean; the laws that
 //! join the judging with the spelling of the format. For HVM and PV guests, in version 2 and 3 of the format.
 //! Left to others: bytes and fields (mig_bytes), headers, causes and the table of record types (mig_headers), record
-//! heads and PAGE_DATA words (mig_records), the order of records (mig_order), what bodies say (mig_hvm, mig_policy),
+//! heads and PAGE_DATA words (mig_records), the order of records (mig_order), what bodies say (mig_bodies, mig_hvm),
 //! frames and parts (mig_guest), page tables, whole guests and blank forms (mig_pvtables).
 //!
 //! What the layers above rely on: `read_image` answers the guest that the accepted front of the input means, or the
