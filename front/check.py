@@ -1,0 +1,153 @@
+"""`mig check`: files, folders and standard input, one line each, and a count at the end."""
+import os
+import sys
+import threading
+
+from front import program, sources, verdict
+from front.text import shown
+
+BESIDE = 64 << 20                                    # what the program takes beside a guest's pages
+KEPT_FREE = 10                                       # of this many parts of the memory, one is kept free
+COUNTED = verdict.OK, verdict.REFUSED, verdict.NO_SAVE, verdict.NOT_JUDGED, verdict.FAULT
+
+
+def files_below(folder):
+    """All files below a folder, in the order of their names; a folder that can't be read is answered as itself."""
+    def failed(fault):
+        unreadable.append(fault.filename)
+    unreadable = []
+    for place, folders, files in os.walk(folder, onerror=failed):
+        folders.sort()
+        yield from (os.path.join(place, name) for name in sorted(files))
+    yield from unreadable
+
+
+def files_of(paths):
+    for path in paths:
+        if path != '-' and os.path.isdir(path):
+            yield from files_below(path)
+        else:
+            yield path
+
+
+def memory_there():
+    """How much memory is available, in bytes; all of it is taken for available where the system doesn't tell."""
+    try:
+        with open('/proc/meminfo', encoding='ascii') as told:
+            lines = dict(line.split(':', 1) for line in told)
+        return int(lines['MemAvailable'].split()[0]) << 10
+    except (OSError, KeyError, ValueError):
+        return sys.maxsize
+
+
+def need_of(name):
+    """How much memory a file may take, told by its size."""
+    try:
+        source = sources.source_of(name)
+    except sources.Unreadable:
+        return 0
+    try:
+        return source.need + source.need // 50 + BESIDE
+    finally:
+        source.close()
+
+
+class Memory:
+    """Shares the memory out: a file waits until what it may take is free, but never where it would be alone."""
+
+    def __init__(self):
+        there = memory_there()
+        self.free, self.running, self.changed = there - there // KEPT_FREE, 0, threading.Condition()
+
+    def take(self, need):
+        """Answers whether another file is being checked at this time."""
+        with self.changed:
+            self.changed.wait_for(lambda: self.running == 0 or need <= self.free)
+            self.free, self.running = self.free - need, self.running + 1
+            return self.running > 1
+
+    def give_back(self, need):
+        with self.changed:
+            self.free, self.running = self.free + need, self.running - 1
+            self.changed.notify_all()
+
+    def check(self, name, path):
+        """The verdict of a file; where memory was short and other files were being checked, it is checked again alone."""
+        need = need_of(name) if name != '-' else 0
+        self.take(need)
+        try:
+            found = verdict.of_file(name, path)
+        finally:
+            self.give_back(need)
+        if found.status != program.NO_MEMORY or name == '-':
+            return found
+        with self.changed:
+            self.changed.wait_for(lambda: self.running == 0)
+            return verdict.of_file(name, path)
+
+
+class Progress:
+    """A line on the terminal that says what is being checked; nowhere else."""
+
+    def __init__(self):
+        self.shown = sys.stderr.isatty()
+
+    def tell(self, done, name):
+        if self.shown:
+            line = '%d done, checking %s' % (done, shown(name))
+            print('\r\x1b[K' + line[:os.get_terminal_size(2).columns - 1], end='', file=sys.stderr, flush=True)
+
+    def clear(self):
+        if self.shown:
+            print('\r\x1b[K', end='', file=sys.stderr, flush=True)
+
+
+def verdicts(names, path, at_once):
+    """The verdict of each file, in the order of the names."""
+    memory, progress = Memory(), Progress()
+    if at_once == 1:
+        for done, name in enumerate(names):
+            progress.tell(done, name)
+            found = memory.check(name, path)
+            progress.clear()
+            yield found
+        return
+    from concurrent.futures import ThreadPoolExecutor
+    with ThreadPoolExecutor(at_once) as pool:
+        started = []
+        for name in names:
+            started.append((name, pool.submit(memory.check, name, path)))
+            while len(started) > 4 * at_once:
+                yield started.pop(0)[1].result()
+        for done, (name, check) in enumerate(started):
+            progress.tell(done, name)
+            found = check.result()
+            progress.clear()
+            yield found
+
+
+def count_of(counts):
+    told = ['%d %s' % (counts[result], result) for result in COUNTED if counts[result] or result == verdict.OK]
+    total = sum(counts.values())
+    return '%d %s: %s' % (total, 'file' if total == 1 else 'files', ', '.join(told))
+
+
+def status_of(statuses):
+    """Of all files' statuses that which says most of this machine; else whether one was refused."""
+    return max(statuses, default=program.OK)
+
+
+def check(words):
+    path = program.find()
+    counts, statuses = dict.fromkeys(COUNTED, 0), set()
+    for found in verdicts(files_of(words.paths), path, words.jobs):
+        counts[found.result] += 1
+        statuses.add(found.status)
+        if words.json:
+            import json
+            print(json.dumps(found.facts()), flush=True)
+        else:
+            print(*found.lines(), sep='\n', flush=True)
+    if not words.json:
+        print(count_of(counts))
+    return status_of(statuses)

@@ -1,0 +1,163 @@
+"""`mig compare`: whether two saves are of the same guest state, told by their canonical streams as they come. Nothing is
+written to a disk."""
+import os.path
+import struct
+import subprocess
+import sys
+
+from front import forms, places, program, sources, verdict
+from front.text import shown
+
+PAGE_DATA = 1
+RECORDS = {0: 'END', PAGE_DATA: 'PAGE_DATA', 2: 'X86_PV_INFO', 3: 'X86_PV_P2M_FRAMES', 4: 'X86_PV_VCPU_BASIC',
+           5: 'X86_PV_VCPU_EXTENDED', 6: 'X86_PV_VCPU_XSAVE', 7: 'SHARED_INFO', 8: 'X86_TSC_INFO', 9: 'HVM_CONTEXT',
+           10: 'HVM_PARAMS', 12: 'X86_PV_VCPU_MSRS', 16: 'STATIC_DATA_END', 17: 'X86_CPUID_POLICY',
+           18: 'X86_MSR_POLICY'}
+LIBXL_RECORDS = {0: 'END', places.LIBXC_CONTEXT: 'LIBXC_CONTEXT', 2: 'EMULATOR_XENSTORE_DATA', 3: 'EMULATOR_CONTEXT'}
+
+
+class Side:
+    """One of the two saves: the program at work on it, and what it has written so far."""
+
+    def __init__(self, name, path):
+        self.name, self.place, self.process = name, 0, None
+        self.source = sources.source_of(name)
+        self.form = forms.form_of(self.source)
+        self.found = verdict.without_program(name, self.form)
+        if not self.found:
+            self.command = 'convert' if self.form.kind == forms.LEGACY else 'normalise'
+            self.process = program.start(path, [self.command], self.source, self.form.begins, subprocess.PIPE)
+
+    def read(self, count):
+        data = sources.read_upto(self.process.stdout.fileno(), count)
+        self.place += len(data)
+        return data
+
+    def end(self, whole):
+        """The verdict of this save, once all that it writes was read; None where it's stopped before."""
+        if self.process:
+            if not whole:
+                self.process.kill()
+            self.process.stdout.close()
+            said = program.answer_of(self.process)
+            fault = self.source.ended(whole and said.status == program.OK)
+            if whole:
+                said = program.Answer(program.READ_FAULT, 'fault: read: ' + fault) if fault else said
+                self.found = verdict.of_answer(self.name, self.source, self.form, self.command, said)
+            self.process = None
+        self.source.close()
+        return self.found
+
+
+class Difference(Exception):
+    """How two canonical streams differ, in words."""
+
+
+def both(one, two, count, what):
+    """The next bytes of both, which have to be the same."""
+    begins = one.place
+    a, b = one.read(count), two.read(count)
+    if a != b:
+        raise Difference('they differ first at byte %d of the canonical streams, in %s'
+                         % (begins + len(os.path.commonprefix([a, b])), what))
+    return a
+
+
+def next_record(one, two, names, what):
+    """The type and the length of the next record of both, which have to be the same."""
+    (a, length), (b, other) = (struct.unpack('<II', side.read(places.HEAD)) for side in (one, two))
+    if a != b:
+        raise Difference('they differ first in %s, which is %s in one and %s in the other'
+                         % (what, *(names.get(kind, 'type %d' % kind) for kind in (a, b))))
+    what += ', ' + names.get(a, 'type %d' % a)
+    if length != other:
+        raise Difference('they differ first in %s, which has %d bytes in one and %d in the other' % (what, length, other))
+    return a, length, what
+
+
+def page_data(one, two, length, what):
+    """A PAGE_DATA record, so that a page can be named by its frame."""
+    count, = struct.unpack('<I4x', both(one, two, 8, what))
+    words = struct.unpack('<%dQ' % count, both(one, two, 8 * count, what + ', with other frames, or of other types'))
+    left = length - 8 - 8 * count
+    for word in words:
+        if word >> 60 in places.WITH_A_PAGE:
+            left -= len(both(one, two, 4096, 'the page of frame %d' % (word & (1 << 52) - 1)))
+    both(one, two, left + -length % 8, what)
+
+
+def body(one, two, length, what):
+    left = length + -length % 8
+    while left:
+        left -= len(both(one, two, min(left, sources.BLOCK), what))
+
+
+def records(one, two, names, layer):
+    """The records of both streams from here on, up to END. The image behind LIBXC_CONTEXT is one of them."""
+    index, kind = 0, None
+    while kind != places.END:
+        kind, length, what = next_record(one, two, names, 'record %d of the %s' % (index, layer))
+        if kind == places.LIBXC_CONTEXT and names is LIBXL_RECORDS:
+            both(one, two, places.IMAGE_HEADERS, 'the headers')
+            records(one, two, RECORDS, 'image')
+        elif kind == PAGE_DATA:
+            page_data(one, two, length, what)
+        else:
+            body(one, two, length, what)
+        index += 1
+
+
+def walk(one, two):
+    """Compares two canonical streams."""
+    a, b = one.read(places.HEAD), two.read(places.HEAD)
+    if a != b:
+        raise Difference('one has a device model, the other none' if a and b else '')
+    if a == forms.LIBXL_MAGIC:
+        both(one, two, places.LIBXL_HEADER - places.HEAD, 'the headers')
+        records(one, two, LIBXL_RECORDS, 'libxl stream')
+    else:
+        both(one, two, places.IMAGE_HEADERS - places.HEAD, 'the headers')
+        records(one, two, RECORDS, 'image')
+
+
+def first_difference(one, two):
+    """How two saves differ, in words; None where both are the same, or nothing more was written of one of them."""
+    try:
+        walk(one, two)
+    except Difference as difference:
+        return str(difference) or None
+    except struct.error:                             # one of them ended
+        pass
+    return None
+
+
+def tell_ends(sides, whole):
+    """Ends both sides, and says what the program said of one that wasn't accepted. Answers their statuses."""
+    ends = [side.end(whole) for side in sides]
+    for found in ends:
+        if found and found.status != program.OK:
+            print(*found.lines(), sep='\n', file=sys.stderr)
+    return [found.status if found else program.OK for found in ends]
+
+
+def compare(words):
+    path = program.find()
+    sides = []
+    try:
+        for name in words.one, words.two:
+            sides.append(Side(name, path))
+    except sources.Unreadable as unreadable:
+        tell_ends(sides, False)
+        print('%s: fault: read: %s' % (shown(name), unreadable), file=sys.stderr)
+        return program.READ_FAULT
+    if any(side.process is None for side in sides):
+        tell_ends(sides, False)
+        return program.NOT_COMPARED
+    difference = first_difference(*sides)
+    wrote = all(side.place for side in sides)
+    statuses = tell_ends(sides, not (difference and wrote))
+    if any(statuses):
+        worst = max(statuses)
+        return program.NOT_COMPARED if worst == program.REFUSED else worst
+    print('another guest state: %s' % difference if difference else 'the same guest state')
+    return program.REFUSED if difference else program.OK

@@ -1,0 +1,117 @@
+"""Which form a file has, told by its first bytes."""
+import struct
+from typing import NamedTuple, Union
+
+from front import headers
+
+STREAM, LEGACY, IMAGE, BROKEN, NONE = 'stream', 'legacy', 'image', 'broken', 'none'
+LIBXL_MAGIC, LIBXC_MAGIC, IMAGE_MAGIC = b'LibxlFmt', b'\xff' * 8, b'XGIMAGE1'
+LOOK = 512                                           # so many first bytes are looked at
+MOST_CONFIGURATION = 64 << 20
+
+# What packs a file, by its first bytes, and the program that unpacks it to standard output.
+PACKERS = {b'\x1f\x8b': 'gzip', b'\x28\xb5\x2f\xfd': 'zstd', b'\xfd7zXZ\0': 'xz'}
+
+# Other files, by their first bytes.
+OTHERS = (
+    *((magic, name + ', which is to be unpacked first') for magic, name in PACKERS.items()),
+    (b'\x7fELF', 'ELF, a program or a library'),
+    (b'QFI\xfb', 'qcow2, a disk image'),
+    (b'PK\3\4', 'zip, an archive'),
+    (b'BZh', 'bzip2, which is to be unpacked first'),
+    (b'\x04\x22\x4d\x18', 'lz4, which is to be unpacked first'),
+    (b'XenSavedDom', "XAPI's header: the stream is to be cut out by hand"),
+    (b'LinuxGuestRecord', 'a save of Xen 2 or 3.0, which is not read'),
+)
+
+
+class Form(NamedTuple):
+    """What a file is: its kind, that in words, and where the stream in it begins."""
+    kind: str
+    words: str
+    begins: int = 0
+    header: Union[headers.XlHeader, headers.LibvirtHeader, None] = None
+    why: str = ''
+
+
+def packer_of(front):
+    """The program that packed a file with these first bytes, or None."""
+    return next((name for magic, name in PACKERS.items() if front.startswith(magic)), None)
+
+
+def starts_like(front, magic):
+    """Whether these are the first bytes of something that begins so; at least half of the magic has to be there."""
+    return front.startswith(magic) or len(front) >= len(magic) // 2 and magic.startswith(front)
+
+
+def is_like_legacy(front):
+    """Whether a file may be a legacy stream, whose form has no magic: a number of frame numbers of 8 bytes that is above
+    0 and below 2^32, and a chunk's type."""
+    if len(front) < 12:
+        return False
+    count, chunk = struct.unpack('<Qi', front[:12])
+    return 0 < count < 1 << 32 and -20 <= chunk <= 1024
+
+
+def is_text(front):
+    try:
+        text = front.decode('utf-8', 'strict' if len(front) < LOOK else 'ignore')
+    except UnicodeDecodeError:
+        return False
+    return all(letter.isprintable() or letter in '\t\n\r\f' for letter in text)
+
+
+def looks_like(front):
+    """In words, what a file is that is no save."""
+    if not front:
+        return 'empty'
+    for magic, words in OTHERS:
+        if front.startswith(magic):
+            return 'begins with ' + words
+    if front[257:262] == b'ustar':
+        return 'begins with tar, an archive'
+    if not any(front):
+        return 'begins with %d zero bytes' % len(front)
+    if is_text(front):
+        return 'begins with text: %s' % ascii(front.decode('utf-8', 'ignore').strip().partition('\n')[0].rstrip()[:24])
+    return 'begins with the bytes %s' % front[:8].hex(' ')
+
+
+def bare_form(front, begins, before=''):
+    """The form of what begins with these bytes, behind a header or by itself."""
+    if starts_like(front, LIBXL_MAGIC):
+        return Form(STREAM, before + 'libxl stream', begins)
+    if starts_like(front, LIBXC_MAGIC):
+        return Form(STREAM, before + 'libxc image', begins)
+    return None
+
+
+def headed_form(name, header, source):
+    """The form of a file with a toolstack's header: what stands behind the header is that which it says."""
+    there = source.at(header.stream_begins, 8)
+    if not there and source.length_to(header.stream_begins) < header.stream_begins:
+        length = source.length_to(header.stream_begins) - (header.stream_begins - header.length)
+        raise headers.configuration_cut(length, header.length)
+    if header.is_legacy:
+        return Form(LEGACY, name + ' of Xen 4.5 or older, legacy stream', header.stream_begins, header)
+    found = bare_form(there, header.stream_begins, name + ', ') or Form(STREAM, name + ', unknown stream', header.stream_begins)
+    return found._replace(header=header)
+
+
+HEADERS = ((headers.XL_MAGIC, 'xl save', headers.xl_header), (headers.LIBVIRT_MAGIC, 'libvirt save', headers.libvirt_header))
+
+
+def form_of(source):
+    """Which form a source has. It gives its bytes by `at(offset, count)`, fewer where it ends before."""
+    front = source.at(0, LOOK)
+    for magic, words, read in HEADERS:
+        if starts_like(front, magic):
+            try:
+                return headed_form(words, read(front), source)
+            except headers.BadHeader as bad:
+                return Form(BROKEN, words, why=str(bad))
+    if starts_like(front, IMAGE_MAGIC):
+        return Form(IMAGE, 'guest image')
+    if is_like_legacy(front):
+        return Form(LEGACY, 'legacy stream')
+    return bare_form(front, 0) or Form(NONE, 'no save', why=looks_like(front))

@@ -1,0 +1,90 @@
+"""The headers that toolstacks put before a stream: what they say, and what is wrong with one.
+
+xl's header (tools/xl/xl.h and xl_vmcontrol.c of Xen): 32 bytes of magic; four numbers of 4 bytes, little-endian: the byte
+order 0x01020304, mandatory flags, optional flags and a length; then so many bytes with the domain's configuration.
+Mandatory flags: bit 0, the configuration is JSON; bit 1, the stream is of version 2, which Xen 4.6 brought. Optional
+flags are ignored, as xl does.
+
+libvirt's header (src/libxl/libxl_conf.h of libvirt): 16 bytes of magic; a version and the length of an XML text, numbers
+of 4 bytes, little-endian on x86; 40 unused bytes; then the text. Version 1 stands before a legacy stream, version 2
+before a libxl stream.
+"""
+import struct
+from typing import NamedTuple
+
+XL_MAGIC = b'Xen saved domain, xl format\n \0 \r'
+XL_NUMBERS = struct.Struct('<IIII')
+XL_LENGTH = len(XL_MAGIC) + XL_NUMBERS.size
+BYTE_ORDER, OTHER_ORDER = 0x01020304, 0x04030201
+JSON, STREAM_V2 = 1 << 0, 1 << 1
+
+LIBVIRT_MAGIC = b'libvirt-xml\n \0 \r'
+LIBVIRT_NUMBERS = struct.Struct('<II40x')
+LIBVIRT_LENGTH = len(LIBVIRT_MAGIC) + LIBVIRT_NUMBERS.size
+
+
+class BadHeader(Exception):
+    """What is wrong with a header, in one line."""
+
+
+class XlHeader(NamedTuple):
+    """What xl's header says, without the configuration itself."""
+    mandatory: int
+    optional: int
+    length: int
+
+    @property
+    def stream_begins(self):
+        return XL_LENGTH + self.length
+
+    @property
+    def is_legacy(self):
+        return not self.mandatory & STREAM_V2
+
+
+def refuse_if(test, why):
+    if test:
+        raise BadHeader(why)
+
+
+def xl_header(front):
+    """What the first bytes of a file say as xl's header."""
+    refuse_if(len(front) < XL_LENGTH, "xl's header is cut short: the input has %d bytes" % len(front))
+    byte_order, mandatory, optional, length = XL_NUMBERS.unpack_from(front, len(XL_MAGIC))
+    refuse_if(byte_order == OTHER_ORDER, "xl's header is big-endian")
+    refuse_if(byte_order != BYTE_ORDER, "xl's header has the byte order 0x%08x, which is unknown" % byte_order)
+    unknown = mandatory & ~(JSON | STREAM_V2)
+    refuse_if(unknown, "xl's header has mandatory flags that are unknown: 0x%x" % unknown)
+    return XlHeader(mandatory, optional, length)
+
+
+def configuration_cut(there, length):
+    return BadHeader("the domain's configuration is cut short: it has %d of %d bytes" % (there, length))
+
+
+def xl_header_before_v2(header, configuration):
+    """The bytes of xl's header before a stream of version 2, with this configuration."""
+    numbers = XL_NUMBERS.pack(BYTE_ORDER, header.mandatory | STREAM_V2, header.optional, len(configuration))
+    return XL_MAGIC + numbers + configuration
+
+
+class LibvirtHeader(NamedTuple):
+    """What libvirt's header says, without the XML text."""
+    version: int
+    length: int
+
+    @property
+    def stream_begins(self):
+        return LIBVIRT_LENGTH + self.length
+
+    @property
+    def is_legacy(self):
+        return self.version == 1
+
+
+def libvirt_header(front):
+    """What the first bytes of a file say as libvirt's header."""
+    refuse_if(len(front) < LIBVIRT_LENGTH, "libvirt's header is cut short: the input has %d bytes" % len(front))
+    header = LibvirtHeader(*LIBVIRT_NUMBERS.unpack_from(front, len(LIBVIRT_MAGIC)))
+    refuse_if(header.version not in (1, 2), "libvirt's header has the version %d, which is unknown" % header.version)
+    return header

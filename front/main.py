@@ -1,0 +1,142 @@
+"""The words of `mig`, and which verb does what."""
+import argparse
+import os
+import signal
+import subprocess
+import sys
+
+from front import program
+from front.text import tell
+
+STATUSES = """\
+exit status:
+  0    each file was accepted; `compare`: the same guest state
+  1    a file was refused, is no save, or isn't judged; `compare`: another guest state
+  2    the words make no command, OUT is there already, or it is a terminal
+  3    a file couldn't be read
+  4    OUT couldn't be written
+  5    no memory was found, or the program was ended from outside
+  6    `compare`: a file was refused, so nothing was compared
+  125  the program isn't there and couldn't be built
+
+Answers are explained in docs/refusals.md. An `ok` says that the stream is well formed and holds a whole guest: a bit
+that was flipped inside a page can't be seen by any reader of this format."""
+INPUT = """\
+IN is a file or `-`: a file of `xl save` or of libvirt's libxl driver, a libxl stream, the image of a libxc stream, or
+a stream of Xen 4.5 or older, also packed by gzip, zstd or xz."""
+
+
+def number(least):
+    def parse(text):
+        if not text.isdecimal() or int(text) < least:
+            raise argparse.ArgumentTypeError('a number from %d on is wanted' % least)
+        return int(text)
+    return parse
+
+
+class Version(argparse.Action):
+    """Says which sources and which kit the program is of."""
+
+    def __call__(self, parser, *_):
+        print('mig, revision %s, %s' % (revision(), kit()))
+        parser.exit()
+
+
+def output_of(*words):
+    try:
+        ended = subprocess.run(words, stdout=subprocess.PIPE, stderr=subprocess.DEVNULL, check=True)
+        return ended.stdout.decode().strip()
+    except (OSError, subprocess.CalledProcessError):
+        return ''
+
+
+def revision():
+    git = 'git', '-C', program.TOP
+    told = output_of(*git, 'log', '-1', '--format=%h of %cs')
+    changed = output_of(*git, 'status', '--porcelain', '--untracked-files=no')
+    return (told or 'unknown') + (', with changes' if changed else '')
+
+
+def kit():
+    return output_of('rt', 'version') or 'kit unknown'
+
+
+def verb(verbs, name, says, more=''):
+    return verbs.add_parser(name, help=says, description='%s%s.' % (says[0].upper(), says[1:]),
+                            epilog='\n\n'.join(filter(None, (more, STATUSES))),
+                            formatter_class=argparse.RawDescriptionHelpFormatter)
+
+
+def writing_verb(verbs, name, says, with_xl=True):
+    words = verb(verbs, name, says, INPUT + '\n\nOUT is written beside its place and renamed when all is well; `-` is '
+                                            'standard output.')
+    words.add_argument('input', metavar='IN')
+    words.add_argument('output', metavar='OUT')
+    words.add_argument('--force', action='store_true', help='write over OUT where it is there')
+    if with_xl:
+        words.add_argument('--xl', action='store_true',
+                           help="put xl's header back in front, so that `xl restore` takes OUT")
+    return words
+
+
+def check(words):
+    from front.check import check as run
+    return run(words)
+
+
+def write(words):
+    from front.write import Refused, write as run
+    try:
+        return run(words)
+    except Refused as refused:
+        tell(str(refused))
+        return refused.status
+
+
+def compare(words):
+    from front.compare import compare as run
+    return run(words)
+
+
+def parser():
+    words = argparse.ArgumentParser(prog='mig', description='Checks, normalises, converts, restores and compares saves '
+                                    'of Xen guests, by the proved program mig_tool.',
+                                    epilog='`mig VERB --help` tells more of each.\n\n' + STATUSES,
+                                    formatter_class=argparse.RawDescriptionHelpFormatter)
+    words.add_argument('--version', action=Version, nargs=0, help='print revision, date and kit')
+    verbs = words.add_subparsers(dest='verb', metavar='VERB', required=True)
+    one = verb(verbs, 'check', 'say of each file whether it is a whole, well formed save',
+               'Files and folders, with all files below, and `-` for standard input.\n' + INPUT)
+    one.add_argument('paths', metavar='PATH', nargs='+')
+    one.add_argument('-j', dest='jobs', metavar='N', type=number(1), default=1,
+                     help='check up to N files at once, as far as memory allows')
+    one.add_argument('--json', action='store_true', help='print one JSON object for each file, and no count')
+    one.set_defaults(run=check)
+    says = 'write the canonical stream of %s: two saves of the same guest state become the same bytes'
+    writing_verb(verbs, 'normalise', says % 'a guest').set_defaults(run=write)
+    writing_verb(verbs, 'convert', 'write the canonical stream of an old save, of Xen 4.5 or older').set_defaults(run=write)
+    restore = writing_verb(verbs, 'restore', 'write the image of a guest as it stands in a machine', with_xl=False)
+    restore.add_argument('--base', metavar='N', help='the first machine frame, from 1 to 1099494850560 (1048576)')
+    restore.set_defaults(run=write)
+    two = verb(verbs, 'compare', 'say whether two saves are of the same guest state', INPUT)
+    two.add_argument('one', metavar='A')
+    two.add_argument('two', metavar='B')
+    two.set_defaults(run=compare)
+    return words
+
+
+def main(arguments):
+    words = parser().parse_args(arguments)
+    for number in signal.SIGINT, signal.SIGTERM, signal.SIGHUP:
+        signal.signal(number, program.RUNNING.stop)
+    sys.stdout.reconfigure(errors='backslashreplace')
+    try:
+        return words.run(words)
+    except program.NoProgram as missing:
+        tell(str(missing))
+        return program.NO_PROGRAM
+    except BrokenPipeError:                          # who reads the lines is gone
+        os.dup2(os.open(os.devnull, os.O_WRONLY), 1)
+        return program.WRITE_FAULT
+    except program.Stopped as stopped:
+        return stopped.status

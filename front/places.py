@@ -1,0 +1,199 @@
+"""Where a part of an input lies in its bytes: the heads of records, or of chunks, are walked, and nothing is judged."""
+import struct
+
+from front import forms
+
+LIBXC_CONTEXT, END = 1, 0
+MOST_PARTS = 1 << 22                                 # no place is told behind so many
+IMAGE_HEADERS, LIBXL_HEADER, HEAD = 40, 16, 8
+SIGNATURE = b'DeviceModelRecord0002'
+PARAMETERS = -3, -4, -8, -10, -11, -14, -15, -16, -17, -19, -20
+WITH_A_PAGE = 0, 1, 2, 3, 4, 9, 10, 11, 12
+
+
+class Lost(Exception):
+    """The walk can't go on: the input ends, or has a part that isn't known."""
+
+
+def number_at(cursor, kind):
+    data = cursor.read(struct.calcsize(kind))
+    if len(data) < struct.calcsize(kind):
+        raise Lost
+    return struct.unpack(kind, data)[0]
+
+
+# ---- records of an image and of a libxl stream
+
+def records(cursor):
+    """Of each record from here on: where its head begins, and its type. It ends behind END's."""
+    for _ in range(MOST_PARTS):
+        begins = cursor.place
+        head = cursor.read(HEAD)
+        if len(head) < HEAD:
+            yield begins, None
+            return
+        kind, length = struct.unpack('<II', head)
+        yield begins, kind
+        if kind == END:
+            return
+        if cursor.place == begins + HEAD:            # no image was walked meanwhile
+            cursor.skip(length + -length % 8)
+
+
+def nth(parts, number):
+    """Where part n begins, or None."""
+    for index, (begins, _) in enumerate(parts):
+        if index == number:
+            return begins
+    return None
+
+
+def is_libxl(source, begins):
+    return source.at(begins, len(forms.LIBXL_MAGIC)) == forms.LIBXL_MAGIC
+
+
+def image_begins(source, begins):
+    """Where the image of a stream of either form begins."""
+    if not is_libxl(source, begins):
+        return begins
+    cursor = source.cursor(begins)
+    cursor.skip(LIBXL_HEADER)
+    for _, kind in records(cursor):
+        if kind == LIBXC_CONTEXT:
+            return cursor.place
+    raise Lost
+
+
+def libxl_records(cursor):
+    """Of each record of a libxl stream, its place; the image behind LIBXC_CONTEXT is walked over."""
+    cursor.skip(LIBXL_HEADER)
+    for begins, kind in records(cursor):
+        yield begins, kind
+        if kind == LIBXC_CONTEXT:
+            cursor.skip(IMAGE_HEADERS)
+            for _, inner in records(cursor):
+                if inner is None:
+                    return
+
+
+def stream_place(source, begins, words):
+    if words[0] == 'LibxlHeader':
+        return begins
+    if words[0] == 'LibxlRecord':
+        return nth(libxl_records(source.cursor(begins)), int(words[1]))
+    image = image_begins(source, begins)
+    if words[0] == 'ImageHeader':
+        return image
+    if words[0] == 'DomainHeader':
+        return image + 24
+    cursor = source.cursor(image)
+    cursor.skip(IMAGE_HEADERS)
+    return nth(records(cursor), int(words[1]))
+
+
+# ---- the chunks and the tail of a legacy stream
+
+def skip_chunk(cursor, kind):
+    """Goes to the next chunk, behind the type of one."""
+    if 1 <= kind <= 1024:
+        words = struct.unpack('<%dQ' % kind, cursor.read(8 * kind).ljust(8 * kind, b'\0'))
+        cursor.skip(4096 * sum((word >> 28 & 15) in WITH_A_PAGE for word in words))
+    elif kind in PARAMETERS:
+        cursor.skip(12)
+    elif kind == -2:
+        cursor.skip(8 * (number_at(cursor, '<I') // 64 + 1))
+    elif kind == -7:
+        cursor.skip(20)
+    elif kind == -18:
+        cursor.skip(number_at(cursor, '<I'))
+    elif kind != -9:
+        raise Lost
+
+
+def chunks(cursor):
+    """Of each chunk from here on: where it begins, and its type. It ends behind the type 0."""
+    for _ in range(MOST_PARTS):
+        begins = cursor.place
+        data = cursor.read(4)
+        if len(data) < 4:
+            yield begins, None
+            return
+        kind = int.from_bytes(data, 'little', signed=True)
+        yield begins, kind
+        if not kind:
+            return
+        skip_chunk(cursor, kind)
+
+
+def tail_begins(cursor):
+    """Goes on from the first chunk to the tail."""
+    kind = None
+    for _, kind in chunks(cursor):
+        pass
+    if kind != END:
+        raise Lost
+    return cursor.place
+
+
+def context_end(cursor):
+    """Goes on from the tail to the end of its context."""
+    cursor.skip(24)
+    cursor.skip(number_at(cursor, '<I'))
+    return cursor.place
+
+
+def legacy_place(source, begins, words):
+    if words[0] == 'Start':
+        return begins
+    cursor = source.cursor(begins)
+    cursor.skip(8)
+    if words[0] == 'Chunk':
+        return nth(chunks(cursor), int(words[1]))
+    tail = tail_begins(cursor)
+    return tail if words[0] == 'Tail' else context_end(cursor)
+
+
+# ---- what others ask
+
+def place_of(source, begins, legacy, place):
+    """The byte where a place of a refusal begins, counted from the begin of the file; None where it can't be told."""
+    if not source.is_walkable:
+        return None
+    try:
+        find = legacy_place if legacy else stream_place
+        return find(source, begins, place.split())
+    except Lost:
+        return None
+
+
+def end_of(source, form):
+    """Where the accepted stream of a plain file ends; None where it can't be told without unpacking it once more."""
+    if source.packed or not source.is_walkable:
+        return None
+    try:
+        return legacy_end(source.cursor(form.begins)) if form.kind == forms.LEGACY else stream_end(source, form.begins)
+    except Lost:
+        return None
+
+
+def stream_end(source, begins):
+    cursor = source.cursor(begins)
+    if is_libxl(source, begins):
+        parts = libxl_records(cursor)
+    else:
+        cursor.skip(IMAGE_HEADERS)
+        parts = records(cursor)
+    kind = None
+    for _, kind in parts:
+        pass
+    return cursor.place if kind == END else None
+
+
+def legacy_end(cursor):
+    cursor.skip(8)
+    tail_begins(cursor)
+    context = context_end(cursor)
+    if cursor.read(len(SIGNATURE)) != SIGNATURE:
+        return context
+    cursor.skip(number_at(cursor, '<I'))
+    return cursor.place

@@ -1,0 +1,103 @@
+"""The proved program: where it is, and what it answers of an input."""
+import os
+import subprocess
+from typing import NamedTuple
+
+TOP = os.path.dirname(os.path.dirname(os.path.realpath(__file__)))
+BUILT = os.path.join(TOP, 'crates', 'mig_tool', 'out', 'mig_tool')
+BUILDER = os.path.join(TOP, 'bin', 'mig_tool')
+EXAMPLE = os.path.join(TOP, 'examples', 'smallest-hvm.stream')
+OK, REFUSED, USAGE, READ_FAULT, WRITE_FAULT, NO_MEMORY, NOT_COMPARED, NO_PROGRAM = 0, 1, 2, 3, 4, 5, 6, 125
+
+
+class NoProgram(Exception):
+    """The program isn't there and couldn't be built; why stands on standard error already, or here."""
+
+
+class Stopped(BaseException):
+    """A signal asks for an end. No program is started any more."""
+
+    def __init__(self, number):
+        super().__init__()
+        self.status = 128 + number
+
+
+class Running:
+    """The programs at work, which are ended where a signal ends the front."""
+
+    def __init__(self):
+        self.processes, self.stopped = set(), None
+
+    def stop(self, number, _):
+        self.stopped = Stopped(number)
+        for process in list(self.processes):
+            process.kill()
+        raise self.stopped
+
+    def start(self, words, **streams):
+        if self.stopped:
+            raise self.stopped
+        process = subprocess.Popen(words, **streams)
+        self.processes.add(process)
+        return process
+
+
+RUNNING = Running()
+
+
+class Answer(NamedTuple):
+    """A status of the program, or NO_MEMORY where it was killed, and its line."""
+    status: int
+    line: str
+
+
+def is_current():
+    """Whether the program is built and no source is newer."""
+    try:
+        built = os.stat(BUILT).st_mtime_ns
+    except OSError:
+        return False
+    places = [os.path.join(TOP, 'crates.txt')]
+    for crate in os.scandir(os.path.join(TOP, 'crates')):
+        for part in 'src', 'specs', 'proofs':
+            for folder, _, files in os.walk(os.path.join(crate.path, part)):
+                places += [folder] + [os.path.join(folder, name) for name in files]
+    return all(os.stat(place).st_mtime_ns <= built for place in places)
+
+
+def find():
+    """The path of the program: that which MIG_TOOL names, or the built one, which bin/mig_tool builds first where it has
+    to be."""
+    named = os.environ.get('MIG_TOOL')
+    if named:
+        if not os.access(named, os.X_OK):
+            raise NoProgram('MIG_TOOL names %s, which is no program' % named)
+        return named
+    if not is_current():
+        with open(EXAMPLE, 'rb') as example:
+            if subprocess.run([BUILDER, 'verify'], stdin=example, stdout=2).returncode:
+                raise NoProgram('the program could not be built')
+    return BUILT
+
+
+def answer_of(process):
+    """What a started program answers in the end. Its standard error is a pipe."""
+    said = process.stderr.read().decode('utf-8', 'replace')
+    process.stderr.close()
+    status = process.wait()
+    RUNNING.processes.discard(process)
+    if status < 0:
+        return Answer(NO_MEMORY, 'the program was ended by signal %d; most often no memory was left' % -status)
+    return Answer(status, said.removesuffix('\n'))
+
+
+def start(path, words, source, begins, out):
+    """Starts the program on a source from a place on, with this standard output."""
+    return RUNNING.start([path, *words], stdin=source.input_from(begins), stdout=out, stderr=subprocess.PIPE)
+
+
+def run(path, words, source, begins, out=subprocess.DEVNULL):
+    """What the program answers of a source from a place on; READ_FAULT where the source itself failed."""
+    answer = answer_of(start(path, words, source, begins, out))
+    fault = source.ended(answer.status == OK)
+    return Answer(READ_FAULT, 'fault: read: ' + fault) if fault else answer

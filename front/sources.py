@@ -1,0 +1,260 @@
+"""Where the bytes of a save come from: a plain file, a packed one, or a pipe. Each gives its first bytes to be looked at,
+and is then handed to the program as its standard input, from a place on. Of a plain file no byte is copied here."""
+import os
+import stat
+import subprocess
+import threading
+
+from front import forms
+
+BLOCK = 1 << 20
+
+
+class Unreadable(Exception):
+    """A file that can't be read, and why, in one line."""
+
+
+def why(fault):
+    return fault.strerror or str(fault)
+
+
+def read_some(fd, count):
+    try:
+        return os.read(fd, count)
+    except OSError as fault:
+        raise Unreadable(why(fault)) from None
+
+
+def read_upto(fd, count):
+    """So many bytes of a file or pipe, or all that are left where there are fewer."""
+    data = b''
+    while len(data) < count:
+        more = read_some(fd, count - len(data))
+        if not more:
+            break
+        data += more
+    return data
+
+
+def pass_over(fd, count):
+    """Reads so many bytes, or all that are left, and answers how many there were."""
+    left = count
+    while left:
+        more = len(read_some(fd, min(left, BLOCK)))
+        if not more:
+            break
+        left -= more
+    return count - left
+
+
+def write_all(fd, data):
+    left = memoryview(data)
+    while left:
+        left = left[os.write(fd, left):]
+
+
+def drain(fd):
+    while read_some(fd, BLOCK):
+        pass
+
+
+class Cursor:
+    """A place in the bytes of a source that goes forward, to walk its records."""
+
+    def __init__(self, read, skip, place):
+        self.read_bytes, self.skip_bytes, self.place = read, skip, place
+
+    def read(self, count):
+        data = self.read_bytes(self.place, count)
+        self.place += len(data)
+        return data
+
+    def skip(self, count):
+        self.skip_bytes(count)
+        self.place += count
+
+
+class Plain:
+    """A regular file, from the place on where it is open."""
+    packed, is_walkable = None, True
+
+    def __init__(self, fd, size):
+        self.fd, self.base = fd, os.lseek(fd, 0, os.SEEK_CUR)
+        self.size = max(size - self.base, 0)
+        self.need = self.size
+
+    def at(self, offset, count):
+        data = b''
+        while len(data) < count:
+            try:
+                more = os.pread(self.fd, count - len(data), self.base + offset + len(data))
+            except OSError as fault:
+                raise Unreadable(why(fault)) from None
+            if not more:
+                break
+            data += more
+        return data
+
+    def length_to(self, offset):
+        return min(self.size, offset)
+
+    def cursor(self, offset):
+        return Cursor(self.at, lambda count: None, offset)
+
+    def input_from(self, offset):
+        """The file descriptor that the program gets as its standard input."""
+        os.lseek(self.fd, self.base + offset, os.SEEK_SET)
+        return self.fd
+
+    def ended(self, accepted):
+        """To be called when the program has ended. Answers what is wrong with the source itself, or None."""
+
+    def close(self):
+        os.close(self.fd)
+
+
+class Packed:
+    """A file that another program packed. It is unpacked anew for each look, and once for the program."""
+    TIMES = 16                                       # what is taken for the unpacked size, to share memory out
+    is_walkable = True
+
+    def __init__(self, fd, size, packer):
+        self.fd, self.packed, self.running = fd, packer, None
+        self.need = size * self.TIMES
+        self.front = self.look(0, forms.LOOK)
+
+    def unpack(self):
+        os.lseek(self.fd, 0, os.SEEK_SET)
+        try:
+            return subprocess.Popen([self.packed, '-dc'], stdin=self.fd, stdout=subprocess.PIPE, stderr=subprocess.PIPE)
+        except FileNotFoundError:
+            raise Unreadable('it is packed, and the program %s is not installed' % self.packed) from None
+
+    def look(self, offset, count):
+        """Some bytes of what is packed; fewer where it ends before."""
+        self.running = self.unpack()
+        out = self.running.stdout.fileno()
+        data = read_upto(out, count) if pass_over(out, offset) == offset else b''
+        said = self.stop() if len(data) < count else self.kill()
+        if said:
+            raise Unreadable('the packed file is damaged: %s' % said)
+        return data
+
+    def at(self, offset, count):
+        if offset + count <= len(self.front):
+            return self.front[offset:offset + count]
+        return self.look(offset, count)
+
+    def length_to(self, offset):
+        self.running = self.unpack()
+        length = pass_over(self.running.stdout.fileno(), offset)
+        self.kill()
+        return length
+
+    def cursor(self, offset):
+        self.kill()
+        self.running = self.unpack()
+        fd = self.running.stdout.fileno()
+        pass_over(fd, offset)
+        return Cursor(lambda _, count: read_upto(fd, count), lambda count: pass_over(fd, count), offset)
+
+    def input_from(self, offset):
+        self.running = self.unpack()
+        pass_over(self.running.stdout.fileno(), offset)
+        return self.running.stdout.fileno()
+
+    def ended(self, accepted):
+        """Where the program accepted the stream, all is unpacked, so that the packer's own checksum is looked at."""
+        if accepted:
+            drain(self.running.stdout.fileno())
+        said = self.stop()
+        return 'the packed file is damaged: %s' % said if said else None
+
+    def stop(self):
+        """Ends the unpacker, and answers what it said where it failed by itself."""
+        unpacker, self.running = self.running, None
+        unpacker.stdout.close()
+        said = unpacker.stderr.read().decode(errors='replace').strip().splitlines()
+        unpacker.stderr.close()
+        return (said or ['%s failed' % self.packed])[-1] if unpacker.wait() > 0 else None
+
+    def kill(self):
+        if self.running:
+            self.running.kill()
+            self.stop()
+
+    def close(self):
+        self.kill()
+        os.close(self.fd)
+
+
+class Piped:
+    """A pipe, a device or a socket: what was looked at is kept, and goes to the program first."""
+    packed, size, need, is_walkable = None, None, 0, False
+
+    def __init__(self, fd):
+        self.fd, self.kept, self.feeder, self.fault = fd, b'', None, None
+
+    def at(self, offset, count):
+        missing = offset + count - len(self.kept)
+        if missing > 0 and len(self.kept) + missing <= forms.MOST_CONFIGURATION:
+            self.kept += read_upto(self.fd, missing)
+        return self.kept[offset:offset + count]
+
+    def length_to(self, offset):
+        return min(len(self.kept), offset)
+
+    def input_from(self, offset):
+        out, into = os.pipe()
+        self.feeder = threading.Thread(target=self.feed, args=(into, self.kept[offset:]), daemon=True)
+        self.feeder.start()
+        self.out = out
+        return out
+
+    def feed(self, into, front):
+        """Writes all to the program; that it ended before is no fault."""
+        try:
+            write_all(into, front)
+            for block in iter(lambda: os.read(self.fd, BLOCK), b''):
+                write_all(into, block)
+        except BrokenPipeError:
+            pass
+        except OSError as fault:
+            self.fault = why(fault)
+        finally:
+            os.close(into)
+
+    def ended(self, accepted):
+        """Where the program accepted the stream, what follows it is read too, so that who writes it isn't stopped."""
+        os.close(self.out)
+        if accepted:
+            self.feeder.join()
+            if not self.fault:
+                drain(self.fd)
+        return self.fault
+
+    def close(self):
+        if self.fd:
+            os.close(self.fd)
+
+
+def unpacked(fd, size):
+    """The source of a regular file."""
+    plain = Plain(fd, size)
+    packer = forms.packer_of(plain.at(0, 8))
+    return Packed(fd, size, packer) if packer else plain
+
+
+def source_of(name):
+    """The source of a file with this name; `-` is standard input."""
+    try:
+        fd = 0 if name == '-' else os.open(name, os.O_RDONLY | os.O_CLOEXEC)
+    except OSError as fault:
+        raise Unreadable(why(fault)) from None
+    status = os.fstat(fd)
+    if stat.S_ISREG(status.st_mode):
+        return unpacked(fd, status.st_size)
+    if stat.S_ISDIR(status.st_mode):
+        os.close(fd)
+        raise Unreadable('Is a directory')
+    return Piped(fd)

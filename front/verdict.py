@@ -1,0 +1,106 @@
+"""What is to be said of one file: the program's answer, and around it what the front knows."""
+import re
+from typing import NamedTuple, Optional
+
+from front import advice, forms, places, program, sources
+from front.text import shown
+
+OK, REFUSED, NO_SAVE, NOT_JUDGED, FAULT = 'ok', 'refused', 'no save', 'not judged', 'fault'
+REFUSAL = re.compile(r'refused: (\w+(?: \d+)?): (\d+) \w+')
+FACTS = re.compile(r'ok version (\d+) kind (\w+) frames (\d+) records (\d+)')
+
+
+class Verdict(NamedTuple):
+    """Of one file: a result, the status that goes with it, the form that was found, the line, and what explains it."""
+    name: str
+    result: str
+    status: int
+    line: str
+    form: Optional[str] = None
+    begins: Optional[int] = None
+    offset: Optional[int] = None
+    packed: Optional[str] = None
+    means: Optional[str] = None
+    do: Optional[str] = None
+    follows: Optional[int] = None
+
+    def lines(self):
+        """What is printed of it."""
+        parts = [shown(self.name)] + [self.form] * (self.form is not None and self.result != NO_SAVE)
+        yield ': '.join(parts + [self.line])
+        if self.means:
+            yield '    %s%s; %s' % (self.where(), self.means, self.do)
+        if self.follows:
+            yield '    %d bytes follow the end of the stream; they were not judged' % self.follows
+
+    def where(self):
+        if self.offset is None:
+            return ''
+        return 'at byte %d of %s: ' % (self.offset, 'what %s unpacks' % self.packed if self.packed else 'the file')
+
+    def facts(self):
+        """It as one object, for JSON: what isn't there is left out."""
+        found = {'file': self.name, 'result': self.result, 'status': self.status}
+        names = 'form', 'begins', 'line', 'offset', 'packed', 'means', 'do', 'follows'
+        found.update((name, getattr(self, name)) for name in names if getattr(self, name) is not None)
+        said = FACTS.fullmatch(self.line)
+        if said:
+            found.update(version=int(said[1]), kind=said[2], frames=int(said[3]), records=int(said[4]))
+        return found
+
+
+def fault(name, why):
+    return Verdict(name, FAULT, program.READ_FAULT, 'fault: read: ' + why)
+
+
+def without_program(name, form):
+    """The verdict of a file that no command takes; None where one does."""
+    if form.kind == forms.NONE:
+        return Verdict(name, NO_SAVE, program.REFUSED, 'no save: ' + form.why)
+    if form.kind == forms.BROKEN:
+        return Verdict(name, REFUSED, program.REFUSED, 'refused: ' + form.why, form.words, means='no stream was reached',
+                       do=advice.COPY)
+    if form.kind == forms.IMAGE:
+        return Verdict(name, NOT_JUDGED, program.REFUSED, 'not judged: no command reads guest images yet', form.words)
+    return None
+
+
+def of_answer(name, source, form, command, answer):
+    """The verdict of a file of which the program answered this to a command."""
+    words = form.words if not source.packed else '%s, %s' % (source.packed, form.words)
+    found = Verdict(name, FAULT, answer.status, answer.line, words, form.begins, packed=source.packed)
+    if answer.status == program.OK:
+        end, size = places.end_of(source, form), getattr(source, 'size', None)
+        follows = size - end if end is not None and size is not None else None
+        return found._replace(result=OK, line=answer.line or 'ok', follows=follows or None)
+    refusal = REFUSAL.match(answer.line)
+    if answer.status != program.REFUSED or not refusal:
+        return found
+    legacy = command == 'convert'
+    said = advice.of_refusal(legacy, int(refusal[2]))
+    return found._replace(result=REFUSED, offset=places.place_of(source, form.begins, legacy, refusal[1]),
+                          means=said and said.means, do=said and said.do)
+
+
+def judged(name, path, source):
+    """What `verify`, or for an old save `convert`, says of a source."""
+    form = forms.form_of(source)
+    early = without_program(name, form)
+    if early:
+        return early
+    command = 'convert' if form.kind == forms.LEGACY else 'verify'
+    answer = program.run(path, [command], source, form.begins)
+    return of_answer(name, source, form, command, answer)
+
+
+def of_file(name, path):
+    """The verdict of a file with this name."""
+    source = None
+    try:
+        source = sources.source_of(name)
+        return judged(name, path, source)
+    except sources.Unreadable as unreadable:
+        return fault(name, str(unreadable))
+    finally:
+        if source:
+            source.close()

@@ -1,0 +1,172 @@
+"""`mig normalise`, `mig convert`, `mig restore`: one file in, one out. OUT is written beside its place and renamed when
+all is well, so that it's never there half written."""
+import os
+import sys
+
+from front import forms, headers, program, sources, verdict
+from front.text import shown, tell
+
+LIBXL_FRONT = bytes.fromhex('4c6962786c466d74 00000002 00000000 01000000 00000000')
+LIBXL_END = bytes(8)
+
+
+class Refused(Exception):
+    """What can't be done, with its status."""
+
+    def __init__(self, status, line):
+        super().__init__(line)
+        self.status = status
+
+
+class Output:
+    """A file that gets its name when all is well; `-` is standard output, which gets the bytes as they come."""
+
+    def __init__(self, name, force, mode):
+        self.name, self.force, self.part = name, force, None
+        if name == '-':
+            self.fd = self.standard()
+            return
+        if os.path.lexists(name) and not (force and os.path.isfile(name)):
+            raise Refused(program.USAGE, '%s is there already; --force writes over a file' % shown(name))
+        folder, base = os.path.split(os.path.abspath(name))
+        self.part = os.path.join(folder, '.%s.%d.part' % (base[:200], os.getpid()))
+        try:
+            self.fd = os.open(self.part, os.O_RDWR | os.O_CREAT | os.O_EXCL | os.O_CLOEXEC, mode)
+        except OSError as fault:
+            self.part = None
+            raise Refused(program.WRITE_FAULT, '%s: %s' % (shown(name), sources.why(fault))) from None
+
+    @staticmethod
+    def standard():
+        if sys.stdout.isatty():
+            raise Refused(program.USAGE, 'a stream is no text: give it another place than a terminal')
+        return 1
+
+    def place(self):
+        """Gives the written file its name. Nothing of that name is written over without --force."""
+        if not self.part:
+            return
+        try:
+            os.fsync(self.fd)
+            if self.force:
+                os.replace(self.part, self.name)
+            else:
+                os.link(self.part, self.name)
+                os.unlink(self.part)
+        except FileExistsError:
+            raise Refused(program.USAGE, '%s is there meanwhile; --force writes over it' % shown(self.name)) from None
+        except OSError as fault:
+            raise Refused(program.WRITE_FAULT, '%s: %s' % (shown(self.name), sources.why(fault))) from None
+        self.part = None
+
+    def close(self):
+        """Takes away what isn't whole."""
+        if self.fd != 1:
+            os.close(self.fd)
+        if self.part:
+            os.unlink(self.part)
+
+
+def put(fd, data):
+    try:
+        sources.write_all(fd, data)
+    except OSError as fault:
+        raise Refused(program.WRITE_FAULT, 'fault: write: ' + sources.why(fault)) from None
+
+
+def configuration(source, form):
+    """The configuration that stands in xl's header."""
+    header = form.header
+    if not isinstance(header, headers.XlHeader):
+        raise Refused(program.USAGE, "--xl: there is no xl header to put back; IN is a %s" % form.words)
+    if header.length > forms.MOST_CONFIGURATION:
+        raise Refused(program.USAGE, "--xl: the configuration in xl's header has more than 64 MiB")
+    return source.at(headers.XL_LENGTH, header.length)
+
+
+def copy(pipe, out):
+    """Passes on all that comes."""
+    for block in iter(lambda: os.read(pipe, sources.BLOCK), b''):
+        put(out, block)
+
+
+def for_xl(process, out, front):
+    """Passes on what the program writes, with xl's header in front, and with a libxl stream around a bare image."""
+    pipe = process.stdout.fileno()
+    first = sources.read_upto(pipe, len(forms.LIBXL_MAGIC))
+    if not first:
+        return
+    bare = first != forms.LIBXL_MAGIC
+    put(out, front + LIBXL_FRONT * bare + first)
+    copy(pipe, out)
+    put(out, LIBXL_END * bare)
+
+
+def answer(words, path, command, source, form, out):
+    """What the program answers, while its output goes to a file descriptor."""
+    if not words.xl:
+        return program.run(path, command, source, form.begins, out)
+    front = headers.xl_header_before_v2(form.header, configuration(source, form))
+    process = program.start(path, command, source, form.begins, program.subprocess.PIPE)
+    try:
+        for_xl(process, out, front)
+    except Refused:
+        process.kill()
+        raise
+    finally:
+        process.stdout.close()
+        said = program.answer_of(process)
+        fault = source.ended(said.status == program.OK)
+    return program.Answer(program.READ_FAULT, 'fault: read: ' + fault) if fault else said
+
+
+def command_of(words):
+    base = getattr(words, 'base', None)
+    return [words.verb] + ([base] if base is not None else [])
+
+
+def written(words, path, source, output):
+    """The verdict of a file of which the program writes what was asked for."""
+    form = forms.form_of(source)
+    early = verdict.without_program(words.input, form)
+    if early:
+        return early
+    if words.xl:
+        configuration(source, form)
+    said = answer(words, path, command_of(words), source, form, output.fd)
+    if said.status == program.USAGE:
+        raise Refused(program.USAGE, '--base has to be from 1 to 1099494850560')
+    return verdict.of_answer(words.input, source, form, words.verb, said)
+
+
+def mode_of(source):
+    """Who may read the input may read the output."""
+    mode = os.fstat(source.fd).st_mode & 0o666
+    return mode if source.need else 0o600
+
+
+def write(words):
+    words.xl = getattr(words, 'xl', False)
+    try:
+        source = sources.source_of(words.input)
+    except sources.Unreadable as unreadable:
+        tell('%s: fault: read: %s' % (shown(words.input), unreadable))
+        return program.READ_FAULT
+    try:
+        output = Output(words.output, words.force, mode_of(source))
+        try:
+            found = written(words, program.find(), source, output)
+            if found.status == program.OK:
+                output.place()
+        finally:
+            output.close()
+    except sources.Unreadable as unreadable:
+        tell('%s: fault: read: %s' % (shown(words.input), unreadable))
+        return program.READ_FAULT
+    finally:
+        source.close()
+    if found.status or found.follows:
+        lines = list(found.lines())
+        for line in lines[bool(found.status == program.OK):]:
+            print(line, file=sys.stderr)
+    return found.status
