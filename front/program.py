@@ -75,8 +75,9 @@ def find():
         return named
     if not is_current():
         with open(EXAMPLE, 'rb') as example:
-            if subprocess.run([BUILDER, 'verify'], stdin=example, stdout=2).returncode:
-                raise NoProgram('the program could not be built')
+            built = subprocess.run([BUILDER, 'verify'], stdin=example, stdout=subprocess.DEVNULL).returncode
+        if built == NO_PROGRAM or not os.access(BUILT, os.X_OK):
+            raise NoProgram('the program could not be built')
     return BUILT
 
 
