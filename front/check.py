@@ -1,14 +1,20 @@
 """`mig check`: files, folders and standard input, one line each, and a count at the end."""
+import collections
 import os
 import sys
 import threading
 
-from front import program, sources, verdict
+from front import forms, program, sources, verdict
 from front.text import shown
 
 BESIDE = 64 << 20                                    # what the program takes beside a guest's pages
 KEPT_FREE = 10                                       # of this many parts of the memory, one is kept free
 COUNTED = verdict.OK, verdict.REFUSED, verdict.NO_SAVE, verdict.NOT_JUDGED, verdict.FAULT
+
+
+def is_special(path):
+    """Whether this is a pipe, a socket or a device: one in a folder is no save, and opening it might never end."""
+    return os.path.exists(path) and not os.path.isfile(path)
 
 
 def files_below(folder):
@@ -18,7 +24,8 @@ def files_below(folder):
     unreadable = []
     for place, folders, files in os.walk(folder, onerror=failed):
         folders.sort()
-        yield from (os.path.join(place, name) for name in sorted(files))
+        paths = (os.path.join(place, name) for name in sorted(files))
+        yield from (path for path in paths if not is_special(path))
     yield from unreadable
 
 
@@ -42,14 +49,15 @@ def memory_there():
 
 def need_of(name):
     """How much memory a file may take, told by its size."""
-    try:
-        source = sources.source_of(name)
-    except sources.Unreadable:
+    if not os.path.isfile(name):
         return 0
     try:
-        return source.need + source.need // 50 + BESIDE
-    finally:
-        source.close()
+        with open(name, 'rb') as file:
+            size, front = os.fstat(file.fileno()).st_size, file.read(8)
+    except OSError:
+        return 0
+    need = size * sources.Packed.TIMES if forms.packer_of(front) else size
+    return need + need // 50 + BESIDE
 
 
 class Memory:
@@ -73,7 +81,7 @@ class Memory:
 
     def check(self, name, path):
         """The verdict of a file; where memory was short and other files were being checked, it is checked again alone."""
-        need = need_of(name) if name != '-' else 0
+        need = need_of(name)
         self.take(need)
         try:
             found = verdict.of_file(name, path)
@@ -104,26 +112,27 @@ class Progress:
 
 def verdicts(names, path, at_once):
     """The verdict of each file, in the order of the names."""
-    memory, progress = Memory(), Progress()
+    progress = Progress()
+    for done, (name, check) in enumerate(checks(names, path, at_once)):
+        progress.tell(done, name)
+        found = check()
+        progress.clear()
+        yield found
+
+
+def checks(names, path, at_once):
+    """Each name with a function that answers its verdict. Where several are checked at once, a few more are begun."""
     if at_once == 1:
-        for done, name in enumerate(names):
-            progress.tell(done, name)
-            found = memory.check(name, path)
-            progress.clear()
-            yield found
+        yield from ((name, lambda name=name: verdict.of_file(name, path)) for name in names)
         return
     from concurrent.futures import ThreadPoolExecutor
+    memory, begun = Memory(), collections.deque()
     with ThreadPoolExecutor(at_once) as pool:
-        started = []
         for name in names:
-            started.append((name, pool.submit(memory.check, name, path)))
-            while len(started) > 4 * at_once:
-                yield started.pop(0)[1].result()
-        for done, (name, check) in enumerate(started):
-            progress.tell(done, name)
-            found = check.result()
-            progress.clear()
-            yield found
+            begun.append((name, pool.submit(memory.check, name, path).result))
+            if len(begun) > 4 * at_once:
+                yield begun.popleft()
+        yield from begun
 
 
 def count_of(counts):

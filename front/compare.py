@@ -16,6 +16,10 @@ RECORDS = {0: 'END', PAGE_DATA: 'PAGE_DATA', 2: 'X86_PV_INFO', 3: 'X86_PV_P2M_FR
 LIBXL_RECORDS = {0: 'END', places.LIBXC_CONTEXT: 'LIBXC_CONTEXT', 2: 'EMULATOR_XENSTORE_DATA', 3: 'EMULATOR_CONTEXT'}
 
 
+class Ended(Exception):
+    """The program ended before it wrote a whole canonical stream of this save."""
+
+
 class Side:
     """One of the two saves: the program at work on it, and what it has written so far."""
 
@@ -30,21 +34,24 @@ class Side:
 
     def read(self, count):
         data = sources.read_upto(self.process.stdout.fileno(), count)
-        self.place += len(data)
+        if len(data) < count:
+            raise Ended(self)
+        self.place += count
         return data
 
-    def end(self, whole):
-        """The verdict of this save, once all that it writes was read; None where it's stopped before."""
-        if self.process:
-            if not whole:
-                self.process.kill()
-            self.process.stdout.close()
-            said = program.answer_of(self.process)
-            fault = self.source.ended(whole and said.status == program.OK)
-            if whole:
-                said = program.Answer(program.READ_FAULT, 'fault: read: ' + fault) if fault else said
-                self.found = verdict.of_answer(self.name, self.source, self.form, self.command, said)
-            self.process = None
+    def end(self, by_itself):
+        """Its verdict where the program ends by itself; where it is stopped, None."""
+        if not self.process:
+            self.source.close()
+            return self.found
+        if not by_itself:
+            self.process.kill()
+        self.process.stdout.close()
+        said = program.answer_of(self.process)
+        fault = self.source.ended(by_itself and said.status == program.OK)
+        if by_itself:
+            said = program.Answer(program.READ_FAULT, 'fault: read: ' + fault) if fault else said
+            self.found = verdict.of_answer(self.name, self.source, self.form, self.command, said)
         self.source.close()
         return self.found
 
@@ -111,7 +118,7 @@ def walk(one, two):
     """Compares two canonical streams."""
     a, b = one.read(places.HEAD), two.read(places.HEAD)
     if a != b:
-        raise Difference('one has a device model, the other none' if a and b else '')
+        raise Difference('one has a device model, the other none')
     if a == forms.LIBXL_MAGIC:
         both(one, two, places.LIBXL_HEADER - places.HEAD, 'the headers')
         records(one, two, LIBXL_RECORDS, 'libxl stream')
@@ -120,24 +127,18 @@ def walk(one, two):
         records(one, two, RECORDS, 'image')
 
 
-def first_difference(one, two):
-    """How two saves differ, in words; None where both are the same, or nothing more was written of one of them."""
-    try:
-        walk(one, two)
-    except Difference as difference:
-        return str(difference) or None
-    except struct.error:                             # one of them ended
-        pass
-    return None
+def tell_ends(sides, by_themselves=()):
+    """Ends all sides, and says what the program said of one that wasn't accepted. Answers the greatest status."""
+    found = [side.end(side in by_themselves) for side in sides]
+    refused = [one for one in found if one and one.status != program.OK]
+    for one in refused:
+        print(*one.lines(), sep='\n', file=sys.stderr)
+    return max((one.status for one in refused), default=program.OK)
 
 
-def tell_ends(sides, whole):
-    """Ends both sides, and says what the program said of one that wasn't accepted. Answers their statuses."""
-    ends = [side.end(whole) for side in sides]
-    for found in ends:
-        if found and found.status != program.OK:
-            print(*found.lines(), sep='\n', file=sys.stderr)
-    return [found.status if found else program.OK for found in ends]
+def not_compared(status):
+    """What is answered where one of the saves has no canonical stream."""
+    return program.NOT_COMPARED if status in (program.OK, program.REFUSED) else status
 
 
 def compare(words):
@@ -147,17 +148,20 @@ def compare(words):
         for name in words.one, words.two:
             sides.append(Side(name, path))
     except sources.Unreadable as unreadable:
-        tell_ends(sides, False)
+        tell_ends(sides)
         print('%s: fault: read: %s' % (shown(name), unreadable), file=sys.stderr)
         return program.READ_FAULT
     if any(side.process is None for side in sides):
-        tell_ends(sides, False)
-        return program.NOT_COMPARED
-    difference = first_difference(*sides)
-    wrote = all(side.place for side in sides)
-    statuses = tell_ends(sides, not (difference and wrote))
-    if any(statuses):
-        worst = max(statuses)
-        return program.NOT_COMPARED if worst == program.REFUSED else worst
-    print('another guest state: %s' % difference if difference else 'the same guest state')
-    return program.REFUSED if difference else program.OK
+        return not_compared(tell_ends(sides))
+    try:
+        walk(*sides)
+    except Difference as difference:
+        tell_ends(sides)
+        print('another guest state: %s' % difference)
+        return program.REFUSED
+    except Ended as ended:
+        return not_compared(tell_ends(sides, ended.args))
+    status = tell_ends(sides, sides)
+    if status == program.OK:
+        print('the same guest state')
+    return status

@@ -101,7 +101,8 @@ def compare(words):
 def parser():
     words = argparse.ArgumentParser(prog='mig', description='Checks, normalises, converts, restores and compares saves '
                                     'of Xen guests, by the proved program mig_tool.',
-                                    epilog='`mig VERB --help` tells more of each.\n\n' + STATUSES,
+                                    epilog='`mig VERB --help` tells more of each. `save` and `exercise`, which the '
+                                    'usage line of mig_tool\nnames too, are not built yet.\n\n' + STATUSES,
                                     formatter_class=argparse.RawDescriptionHelpFormatter)
     words.add_argument('--version', action=Version, nargs=0, help='print revision, date and kit')
     verbs = words.add_subparsers(dest='verb', metavar='VERB', required=True)

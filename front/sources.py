@@ -81,7 +81,6 @@ class Plain:
     def __init__(self, fd, size):
         self.fd, self.base = fd, os.lseek(fd, 0, os.SEEK_CUR)
         self.size = max(size - self.base, 0)
-        self.need = self.size
 
     def at(self, offset, count):
         data = b''
@@ -115,12 +114,12 @@ class Plain:
 
 class Packed:
     """A file that another program packed. It is unpacked anew for each look, and once for the program."""
+    size = None
     TIMES = 16                                       # what is taken for the unpacked size, to share memory out
     is_walkable = True
 
-    def __init__(self, fd, size, packer):
+    def __init__(self, fd, packer):
         self.fd, self.packed, self.running = fd, packer, None
-        self.need = size * self.TIMES
         self.front = self.look(0, forms.LOOK)
 
     def unpack(self):
@@ -190,7 +189,7 @@ class Packed:
 
 class Piped:
     """A pipe, a device or a socket: what was looked at is kept, and goes to the program first."""
-    packed, size, need, is_walkable = None, None, 0, False
+    packed, size, is_walkable = None, None, False
 
     def __init__(self, fd):
         self.fd, self.kept, self.feeder, self.fault = fd, b'', None, None
@@ -242,7 +241,7 @@ def unpacked(fd, size):
     """The source of a regular file."""
     plain = Plain(fd, size)
     packer = forms.packer_of(plain.at(0, 8))
-    return Packed(fd, size, packer) if packer else plain
+    return Packed(fd, packer) if packer else plain
 
 
 def source_of(name):

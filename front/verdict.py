@@ -70,8 +70,8 @@ def of_answer(name, source, form, command, answer):
     words = form.words if not source.packed else '%s, %s' % (source.packed, form.words)
     found = Verdict(name, FAULT, answer.status, answer.line, words, form.begins, packed=source.packed)
     if answer.status == program.OK:
-        end, size = places.end_of(source, form), getattr(source, 'size', None)
-        follows = size - end if end is not None and size is not None else None
+        end = places.end_of(source, form)
+        follows = source.size - end if end is not None else 0
         return found._replace(result=OK, line=answer.line or 'ok', follows=follows or None)
     refusal = REFUSAL.match(answer.line)
     if answer.status != program.REFUSED or not refusal:

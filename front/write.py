@@ -1,6 +1,7 @@
 """`mig normalise`, `mig convert`, `mig restore`: one file in, one out. OUT is written beside its place and renamed when
 all is well, so that it's never there half written."""
 import os
+import stat
 import sys
 
 from front import forms, headers, program, sources, verdict
@@ -141,8 +142,8 @@ def written(words, path, source, output):
 
 def mode_of(source):
     """Who may read the input may read the output."""
-    mode = os.fstat(source.fd).st_mode & 0o666
-    return mode if source.need else 0o600
+    status = os.fstat(source.fd)
+    return status.st_mode & 0o666 if stat.S_ISREG(status.st_mode) else 0o600
 
 
 def write(words):
