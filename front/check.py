@@ -68,11 +68,9 @@ class Memory:
         self.free, self.running, self.changed = there - there // KEPT_FREE, 0, threading.Condition()
 
     def take(self, need):
-        """Answers whether another file is being checked at this time."""
         with self.changed:
             self.changed.wait_for(lambda: self.running == 0 or need <= self.free)
             self.free, self.running = self.free - need, self.running + 1
-            return self.running > 1
 
     def give_back(self, need):
         with self.changed:
@@ -80,7 +78,7 @@ class Memory:
             self.changed.notify_all()
 
     def check(self, name, path):
-        """The verdict of a file; where memory was short and other files were being checked, it is checked again alone."""
+        """The verdict of a file; where memory was short, it is checked once more when no other is."""
         need = need_of(name)
         self.take(need)
         try:

@@ -7,7 +7,6 @@ from front import headers
 STREAM, LEGACY, IMAGE, BROKEN, NONE = 'stream', 'legacy', 'image', 'broken', 'none'
 LIBXL_MAGIC, LIBXC_MAGIC, IMAGE_MAGIC = b'LibxlFmt', b'\xff' * 8, b'XGIMAGE1'
 LOOK = 512                                           # so many first bytes are looked at
-MOST_CONFIGURATION = 64 << 20
 
 # What packs a file, by its first bytes, and the program that unpacks it to standard output.
 PACKERS = {b'\x1f\x8b': 'gzip', b'\x28\xb5\x2f\xfd': 'zstd', b'\xfd7zXZ\0': 'xz'}

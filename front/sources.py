@@ -8,6 +8,7 @@ import threading
 from front import forms
 
 BLOCK = 1 << 20
+MOST_KEPT = 64 << 20                                 # so much of a pipe is kept, to be looked at
 
 
 class Unreadable(Exception):
@@ -27,13 +28,13 @@ def read_some(fd, count):
 
 def read_upto(fd, count):
     """So many bytes of a file or pipe, or all that are left where there are fewer."""
-    data = b''
+    data = bytearray()
     while len(data) < count:
         more = read_some(fd, count - len(data))
         if not more:
             break
         data += more
-    return data
+    return bytes(data)
 
 
 def pass_over(fd, count):
@@ -83,7 +84,7 @@ class Plain:
         self.size = max(size - self.base, 0)
 
     def at(self, offset, count):
-        data = b''
+        data = bytearray()
         while len(data) < count:
             try:
                 more = os.pread(self.fd, count - len(data), self.base + offset + len(data))
@@ -92,7 +93,7 @@ class Plain:
             if not more:
                 break
             data += more
-        return data
+        return bytes(data)
 
     def length_to(self, offset):
         return min(self.size, offset)
@@ -195,9 +196,9 @@ class Piped:
         self.fd, self.kept, self.feeder, self.fault = fd, b'', None, None
 
     def at(self, offset, count):
-        missing = offset + count - len(self.kept)
-        if missing > 0 and len(self.kept) + missing <= forms.MOST_CONFIGURATION:
-            self.kept += read_upto(self.fd, missing)
+        if offset + count > MOST_KEPT:
+            raise Unreadable('what stands before the stream is more than is taken from a pipe: give the file by its name')
+        self.kept += read_upto(self.fd, max(offset + count - len(self.kept), 0))
         return self.kept[offset:offset + count]
 
     def length_to(self, offset):

@@ -80,7 +80,7 @@ def configuration(source, form):
     header = form.header
     if not isinstance(header, headers.XlHeader):
         raise Refused(program.USAGE, "--xl: there is no xl header to put back; IN is a %s" % form.words)
-    if header.length > forms.MOST_CONFIGURATION:
+    if header.length > sources.MOST_KEPT:
         raise Refused(program.USAGE, "--xl: the configuration in xl's header has more than 64 MiB")
     return source.at(headers.XL_LENGTH, header.length)
 
