@@ -1,6 +1,6 @@
 -- The body of each record that sets parts of one code: its shape, a row for each code, and what a body of each shape says
 -- (libxc migration stream, "Records").
-use Rattle.std.specs.Prelude.{◌≡◌, ◌≤◌, ℕ, ◌+◌, ◌^◌, ◌&&◌, Bool, true, false, List, [], ◌∷◌, ◌++◌, length, take, drop, replicate, map, Option, Some, None, Result, Ok, Err, ◌==◌, not, nat_lt, if◌then◌else◌, ◌↔◌, ⊤}
+use Rattle.std.specs.Prelude.{◌≡◌, ◌≤◌, ℕ, ◌+◌, ◌&&◌, Bool, true, false, List, [], ◌∷◌, ◌++◌, length, take, drop, replicate, map, Option, Some, None, Result, Ok, Err, ◌==◌, not, nat_lt, if◌then◌else◌, ◌↔◌, ⊤}
 use Rattle.std.specs.List.{AllByRecursion}
 use Rattle.std.specs.Option.{option_or}
 use Rattle.std.specs.FinMap as maps
@@ -10,7 +10,7 @@ use Rattle.mig_headers.specs.declared.fault.Cause.{Cause}
 use Rattle.mig_headers.specs.declared.fault.Cause.TheVariants.{BadLength, GdtEnts, BadContext}
 use Rattle.mig_headers.specs.declared.fault.ContextFault.{ContextFault}
 use Rattle.mig_headers.specs.Contexts.{ContextEntry, IsContext, scan, cut_at}
-use Rattle.mig_headers.specs.RecordTypes.{record_row_of, type_of_number}
+use Rattle.mig_headers.specs.RecordTypes.{record_row_of, type_of_number, most_body}
 use Rattle.mig_headers.specs.Rows.{first_fault}
 use Rattle.mig_headers.specs.declared.kind.Kind.{Kind}
 use Rattle.mig_headers.specs.declared.record_type.RecordType.{RecordType}
@@ -181,7 +181,7 @@ parts_of_body code body = parts_by_shape (shape_of code) code body
 -- widths that can be read, and only a table replaces all parts of its code
 abbrev pub IsRow : PartCode → Shape → Type 0
 IsRow code (Table l) = IsLayout code l
-IsRow code (Single len ignored) = (len + ignored ≤ 2 ^ 27) × (is_policy (code_number code) ≡ false)
+IsRow code (Single len ignored) = (len + ignored ≤ most_body) × (is_policy (code_number code) ≡ false)
 IsRow code (Named second ignored skips) = (second ≤ 4) × (ignored ≤ 4) × (is_policy (code_number code) ≡ false)
 IsRow code _ = Unit {0}
 
@@ -202,7 +202,7 @@ HasBodyLength code len = (type : RecordType) → type_of_number (code_number cod
 pub record IsRecordBody (code : PartCode) (body : List ℕ) (ps : List Part) : Type 0 where
   pub says : IsBody code body ps
   pub has : HasBodyLength code (length body)
-  pub short : length body ≤ 2 ^ 27
+  pub short : length body ≤ most_body
 
 -- these bodies say these lists of parts
 abbrev pub SayAll : PartCode → List (List ℕ) → List (List Part) → Type 0
@@ -224,7 +224,7 @@ BodiesSayOne = (code : PartCode) (body : List ℕ) (ps qs : List Part) → IsBod
 
 -- a body of a record of this kind says parts that a guest of this kind may have
 abbrev pub BodiesSayParts : Type 0
-BodiesSayParts = (code : PartCode) (kind : Kind) (width : ℕ) (body : List ℕ) (ps : List Part) → (row_of code).of_kind kind ≡ true → HasBodyLength code (length body) → length body ≤ 2 ^ 27
+BodiesSayParts = (code : PartCode) (kind : Kind) (width : ℕ) (body : List ℕ) (ps : List Part) → (row_of code).of_kind kind ≡ true → HasBodyLength code (length body) → length body ≤ most_body
     → IsBody code body ps → AllByRecursion (λ p. IsSmallKey p.0) ps → AreParts kind width (code_number code) ps
 
 -- the parts that a body of bytes says are of bytes
@@ -233,7 +233,7 @@ BodiesSayBytes = (code : PartCode) (body : List ℕ) (ps : List Part) → IsBody
 
 -- a guest that is well formed stays so, whatever body of a record of its kind is read
 abbrev pub BodiesKeepFormed : Type 0
-BodiesKeepFormed = (code : PartCode) (g : GuestOf) (body : List ℕ) (ps : List Part) → (row_of code).of_kind g.kind ≡ true → HasBodyLength code (length body) → length body ≤ 2 ^ 27
+BodiesKeepFormed = (code : PartCode) (g : GuestOf) (body : List ℕ) (ps : List Part) → (row_of code).of_kind g.kind ≡ true → HasBodyLength code (length body) → length body ≤ most_body
     → IsBody code body ps → AllByRecursion (λ p. IsSmallKey p.0) ps → IsFormed g → IsFormed (record g { parts = set_parts code g.parts ps })
 
 -- the canonical bodies of the parts of a code that a well formed guest has say these parts

@@ -1,5 +1,6 @@
 -- How parts of one code are written, one after another: each an entry of their table, or a record.
-use Rattle.std.specs.Prelude.{◌≤◌, ℕ, ◌^◌, List, [], length, ⊤}
+use Rattle.std.specs.Prelude.{◌≤◌, ℕ, List, [], length, ⊤}
+use Rattle.mig_headers.specs.RecordTypes.{most_body}
 use Rattle.mig_guest.specs.Parts.{Part}
 use Rattle.mig_bodies.specs.declared.shape.Shape.{Shape}
 use Rattle.mig_bodies.specs.declared.shape.Shape.TheVariants.{Table, Other}
@@ -15,4 +16,4 @@ piece shape type p = spelled type (part_body shape p)
 -- a part whose record isn't too long
 abbrev pub IsShortPart : Shape → Part → Type 0
 IsShortPart (Table l) p = ⊤
-IsShortPart shape p = length (part_body shape p) ≤ 2 ^ 27
+IsShortPart shape p = length (part_body shape p) ≤ most_body

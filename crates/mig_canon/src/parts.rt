@@ -3,6 +3,7 @@ ghost use Rattle.std.specs.List.{flat_map};
 ghost use Rattle.byteorder.specs.Endian.{little_bytes};
 ghost use Rattle.mig_bytes.specs.Bytes.{Puts};
 ghost use Rattle.mig_bytes.specs.Faults.{HasCause};
+ghost use Rattle.mig_headers.specs.RecordTypes.{most_body};
 ghost use Rattle.mig_pvtables.specs.Whole.{IsWhole};
 ghost use Rattle.mig_records.specs.Records.{spelled};
 ghost use Rattle.mig_guest.specs.PartCodes.{code_number};
@@ -95,7 +96,7 @@ fn write_single<K: Sink>(
     ignored: usize,
     value: &[u8],
 ) -> Result<(), WriteFailed>
-    requires { length value.now + ignored ≤ 2 ^ 27 }
+    requires { length value.now + ignored ≤ most_body }
     ensures bytes { Puts (spelled number (value.now ++ replicate ignored 0)) (K.written sink.old) (K.written sink.new) result }
     ensures cause { HasCause (K.faults sink.old) (K.faults sink.new) result }
 {
@@ -116,7 +117,7 @@ fn write_named<K: Sink>(
     value: &[u8],
 ) -> Result<(), WriteFailed>
     requires narrow { second ≤ 4 }
-    requires short { 4 + second + ignored + length value.now ≤ 2 ^ 27 }
+    requires short { 4 + second + ignored + length value.now ≤ most_body }
     ensures bytes { Puts (spelled number (little_bytes 4 key.key1 ++ (little_bytes second key.key2 ++ (replicate ignored 0 ++ value.now)))) (K.written sink.old) (K.written sink.new) result }
     ensures cause { HasCause (K.faults sink.old) (K.faults sink.new) result }
 {

@@ -2,6 +2,7 @@
 use Rattle.std.specs.Prelude.{◌≡◌, ◌≤◌, ◌<◌, ◌+◌, ◌^◌, ℕ, List, length, Some}
 use Rattle.std.specs.FinMap as maps
 use Rattle.mig_bytes.specs.Bytes.{AreBytes}
+use Rattle.mig_headers.specs.RecordTypes.{most_body}
 use Rattle.mig_guest.specs.declared.part_key.PartKey.{PartKey}
 use Rattle.mig_guest.specs.Formed.{HasNoEmulators}
 use Rattle.mig_guest.specs.Guests.{GuestOf}
@@ -25,7 +26,7 @@ pub record IsStore (m : PairMap) : Type 0 where
 
 pub record AreEmulators (e : EmulatorsOf) : Type 0 where
   pub stores : (key : PartKey) (m : PairMap) → maps.get e.stores key ≡ Some m → IsEmulatorKey 258 key × IsStore m
-  pub contexts : (key : PartKey) (bytes : List ℕ) → maps.get e.contexts key ≡ Some bytes → IsEmulatorKey 259 key × (length bytes + 8 ≤ 2 ^ 27) × AreBytes bytes
+  pub contexts : (key : PartKey) (bytes : List ℕ) → maps.get e.contexts key ≡ Some bytes → IsEmulatorKey 259 key × (length bytes + 8 ≤ most_body) × AreBytes bytes
 
 -- a whole guest in its blank form, of bytes and without emulators
 pub record IsPlain (g : GuestOf) : Type 0 where

@@ -2,7 +2,7 @@
 -- the lengths of their bytes (libxc migration stream, "Records", and libxl migration stream, the emulator records).
 use Rattle.std.specs.Prelude.{ℕ, ◌+◌, ◌-◌, ◌*◌, ◌/◌, ◌^◌, ◌%◌, Bool, true, List, [], ◌∷◌, Option, ◌==◌, ◌&&◌, nat_le, nat_lt, find}
 use Rattle.mig_headers.specs.declared.kind.Kind.{Kind}
-use Rattle.mig_headers.specs.RecordTypes.{both, pv, hvm, exactly}
+use Rattle.mig_headers.specs.RecordTypes.{both, pv, hvm, exactly, most_body}
 use Rattle.mig_guest.specs.declared.part_code.PartCode.{PartCode}
 use Rattle.mig_guest.specs.declared.part_code.PartCode.TheVariants.{P2mFrames, VcpuBasic, VcpuExtended, VcpuXsave, SharedInfo, Tsc, HvmContext, HvmParam, VcpuMsrs, CpuidLeaf, Msr, EmulatorPairs, EmulatorContext}
 
@@ -46,7 +46,7 @@ for_each_p2m_frame width len = len == 8 * ((width - 1) / 512 + 1)
 
 -- entries of 16 bytes, of which there are some
 abbrev pub some_msrs : ℕ → Bool
-some_msrs len = (len % 16 == 0) && (nat_le 16 len && nat_le len (2 ^ 27 - 16))
+some_msrs len = (len % 16 == 0) && (nat_le 16 len && nat_le len (most_body - 16))
 
 abbrev pub row : ℕ → (Kind → Bool) → (ℕ → ℕ → Bool) → (ℕ → ℕ → Bool) → PartRow
 row number of_kind keys allows = record { number = number; of_kind = of_kind; keys = keys; allows = allows }
@@ -54,17 +54,17 @@ row number of_kind keys allows = record { number = number; of_kind = of_kind; ke
 abbrev pub row_of : PartCode → PartRow
 row_of P2mFrames = row 3 pv no_keys for_each_p2m_frame
 row_of VcpuBasic = row 4 pv small_number (always (exactly 5168))
-row_of VcpuExtended = row 5 pv small_number (always (from_to 1 (2 ^ 27 - 8)))
-row_of VcpuXsave = row 6 pv small_number (always (from_to 1 (2 ^ 27 - 8)))
+row_of VcpuExtended = row 5 pv small_number (always (from_to 1 (most_body - 8)))
+row_of VcpuXsave = row 6 pv small_number (always (from_to 1 (most_body - 8)))
 row_of SharedInfo = row 7 pv no_keys (always (exactly 4096))
 row_of Tsc = row 8 both no_keys (always (exactly 20))
-row_of HvmContext = row 9 hvm no_keys (always (at_most (2 ^ 27)))
+row_of HvmContext = row 9 hvm no_keys (always (at_most most_body))
 row_of HvmParam = row 10 hvm small_number (always (exactly 8))
 row_of VcpuMsrs = row 12 pv small_number (always some_msrs)
 row_of CpuidLeaf = row 17 both any_keys (always (exactly 16))
 row_of Msr = row 18 both one_key (always (exactly 12))
 row_of EmulatorPairs = row 258 hvm emulator (always (from_to 1 (2 ^ 24)))
-row_of EmulatorContext = row 259 hvm emulator (always (at_most (2 ^ 27 - 8)))
+row_of EmulatorContext = row 259 hvm emulator (always (at_most (most_body - 8)))
 
 abbrev pub code_number : PartCode → ℕ
 code_number code = (row_of code).number

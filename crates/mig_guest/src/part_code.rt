@@ -1,10 +1,7 @@
 ghost use Rattle.std.specs.Prelude.{◌≡◌, ◌≤◌};
 ghost use Rattle.mig_guest.specs.declared.part_code.PartCode.TheVariants.{P2mFrames};
 
-use mig_headers::Kind;
-
-/// The most bytes of a record's body.
-const MAX_BODY: u32 = 1 << 27;
+use mig_headers::{Kind, MOST_BODY};
 
 /// The bytes of a vCPU's basic context and of an MSR of a vCPU.
 const VCPU_CONTEXT: u32 = 5168;
@@ -127,18 +124,18 @@ impl PartCode {
         match self {
             PartCode::P2mFrames => u64::from(len) == 8 * ((width - 1) / P2M_SLOTS + 1),
             PartCode::VcpuBasic => len == VCPU_CONTEXT,
-            PartCode::VcpuExtended | PartCode::VcpuXsave => 1 <= len && len <= MAX_BODY - 8,
+            PartCode::VcpuExtended | PartCode::VcpuXsave => 1 <= len && len <= MOST_BODY - 8,
             PartCode::SharedInfo => len == 4096,
             PartCode::Tsc => len == 20,
-            PartCode::HvmContext => len <= MAX_BODY,
+            PartCode::HvmContext => len <= MOST_BODY,
             PartCode::HvmParam => len == 8,
             PartCode::VcpuMsrs => {
-                len % VCPU_MSR == 0 && VCPU_MSR <= len && len <= MAX_BODY - VCPU_MSR
+                len % VCPU_MSR == 0 && VCPU_MSR <= len && len <= MOST_BODY - VCPU_MSR
             }
             PartCode::CpuidLeaf => len == 16,
             PartCode::Msr => len == 12,
             PartCode::EmulatorPairs => 1 <= len && len <= MAX_PAIRS,
-            PartCode::EmulatorContext => len <= MAX_BODY - 8,
+            PartCode::EmulatorContext => len <= MOST_BODY - 8,
         }
     }
 }

@@ -5,6 +5,10 @@ use Rattle.mig_headers.specs.declared.kind.Kind.TheVariants.{Pv, Hvm}
 use Rattle.mig_headers.specs.declared.record_type.RecordType.{RecordType}
 use Rattle.mig_headers.specs.declared.record_type.RecordType.TheVariants.{End, PageData, X86PvInfo, X86PvP2mFrames, X86PvVcpuBasic, X86PvVcpuExtended, X86PvVcpuXsave, SharedInfo, X86TscInfo, HvmContext, HvmParams, Toolstack, X86PvVcpuMsrs, Verify, Checkpoint, CheckpointDirtyPfnList, StaticDataEnd, X86CpuidPolicy, X86MsrPolicy}
 
+-- the most bytes that the body of a record may have, as in Xen's reader
+abbrev pub most_body : ℕ
+most_body = 2 ^ 27
+
 -- a row of the table: the type's number, whether it is supported, the kinds of guest that have it, and the body lengths that it may have
 pub record Row : Type 0 where
   pub number : ℕ

@@ -30,5 +30,5 @@ pub use laws::{
     record_number_law,
 };
 pub use legacy_fault::{LegacyCause, LegacyPlace};
-pub use record_type::{RecordType, is_optional};
+pub use record_type::{MOST_BODY, RecordType, is_optional};
 pub use unsound::Unsound;

@@ -3,6 +3,9 @@ ghost use Rattle.mig_headers.specs.RecordTypes.{is_optional};
 
 use crate::Kind;
 
+/// The most bytes that the body of a record may have, as in Xen's reader.
+pub const MOST_BODY: u32 = 1 << 27;
+
 /// The bytes of a vCPU's basic context, of an MSR and of a CPUID leaf.
 const VCPU_CONTEXT: u32 = 5168;
 

@@ -10,6 +10,7 @@ use Rattle.mig_bytes.specs.Judged.Judged.{Passes, Faulty}
 use Rattle.mig_headers.specs.Contexts.{scan, cut_at}
 use Rattle.mig_headers.specs.Headers.{marker, libxl_ident}
 use Rattle.mig_headers.specs.Pairs.{Pair}
+use Rattle.mig_headers.specs.RecordTypes.{most_body}
 use Rattle.mig_headers.specs.Rows.{first_fault}
 use Rattle.mig_headers.specs.declared.fault.ContextFault.{ContextFault}
 use Rattle.mig_headers.specs.declared.kind.Kind.TheVariants.{Hvm}
@@ -140,7 +141,7 @@ fault_of_toolstack e body =
 -- a length, and so many bytes
 abbrev pub toolstack_at : EmulatorsOf → List ℕ → Judged LegacyCause LegacyContent
 toolstack_at e input = do
-  len ← length_at (2 ^ 27) input
+  len ← length_at most_body input
   said_at Truncated (fault_of_toolstack e) (λ body. Pairs (pairs_of_toolstack body)) len.0 len.1
 
 -- the body of a chunk that is this, behind these chunks
@@ -178,7 +179,7 @@ tail_of frames context = record { requests = take 8 frames; buffered = take 8 (d
 unfoldable pub tail_at : List ℕ → Judged LegacyCause LegacyTail
 tail_at input = do
   frames ← plain_at Truncated (λ bytes. bytes) 24 input
-  len ← length_at (2 ^ 27) frames.1
+  len ← length_at most_body frames.1
   said_at Truncated (λ context. context_fault (scan context)) (tail_of frames.0) len.0 len.1
 
 -- the first bytes of a device model's record
@@ -192,7 +193,7 @@ fault_of_signature bytes = first_fault ((not (bytes_eq bytes signature), BadSign
 abbrev pub device_record_at : List ℕ → Judged LegacyCause (Option (List ℕ))
 device_record_at input = do
   first ← said_at Truncated fault_of_signature (λ bytes. bytes) (length signature) input
-  len ← length_at (2 ^ 27 - 8) first.1
+  len ← length_at (most_body - 8) first.1
   plain_at Truncated Some len.0 len.1
 
 -- the record, or the end of the input

@@ -1,9 +1,10 @@
 -- The spelling of a legacy stream, in the words of the format: its start, its chunks one after the other, its tail, and the
 -- device model's record or the end of the input (Xen's xg_save_restore.h; libxl's save file up to Xen 4.5).
-use Rattle.std.specs.Prelude.{◌≡◌, ◌≢◌, ◌≤◌, ◌<◌, ℕ, ◌+◌, ◌*◌, ◌/◌, ◌-◌, ◌^◌, ⊤, true, false, List, [], ◌++◌, length, Option, Some, None}
+use Rattle.std.specs.Prelude.{◌≡◌, ◌≢◌, ◌≤◌, ◌<◌, ℕ, ◌+◌, ◌*◌, ◌/◌, ◌-◌, ⊤, true, false, List, [], ◌++◌, length, Option, Some, None}
 use Rattle.std.specs.List.{All, flat_map}
 use Rattle.mig_bytes.specs.Fields.{le32, be64}
 use Rattle.mig_bytes.specs.Sequences.{Spells}
+use Rattle.mig_headers.specs.RecordTypes.{most_body}
 use Rattle.mig_guest.specs.Frames.{IsFew}
 use Rattle.mig_guest.specs.Guests.{GuestOf}
 use Rattle.mig_headers.specs.Contexts.{ContextEntry, IsContext, cut_at}
@@ -55,7 +56,7 @@ pub data HasLegacyContent : ChunkKind → List ℕ → LegacyContent → Type 0 
   clock : (mode nanoseconds frequency incarnation : List ℕ) → length mode ≡ 4 → length nanoseconds ≡ 8 → length frequency ≡ 4 → length incarnation ≡ 4
       → HasLegacyContent Tsc (mode ++ (nanoseconds ++ (frequency ++ incarnation))) (Clock (mode ++ (frequency ++ (nanoseconds ++ incarnation))))
   last_checkpoint : HasLegacyContent LastCheckpoint [] Nothing
-  toolstack : (text body : List ℕ) (es : List Physmap) → IsCounted (2 ^ 27) text body → IsToolstack body es → HasLegacyContent Toolstack text (Pairs (flat_map pairs_of_physmap es))
+  toolstack : (text body : List ℕ) (es : List Physmap) → IsCounted most_body text body → IsToolstack body es → HasLegacyContent Toolstack text (Pairs (flat_map pairs_of_physmap es))
   value : (index : ℕ) (pad value : List ℕ) → length pad ≡ 4 → length value ≡ 8 → HasLegacyContent (Param index) (pad ++ value) (Value index value)
 
 -- a chunk: the number of its type, and its body
@@ -103,14 +104,14 @@ pub record IsTail (bytes : List ℕ) (t : LegacyTail) : Type 0 where
   pub requests_len : length t.requests ≡ 8
   pub buffered_len : length t.buffered ≡ 8
   pub store_len : length t.store ≡ 8
-  pub counted : IsCounted (2 ^ 27) text context
+  pub counted : IsCounted most_body text context
   pub is_context : IsContext context entries
   pub cut : t.context ≡ cut_at context (length is_context.before)
 
 -- the device model's record; without one the input ends here
 abbrev pub IsDevice : List ℕ → Option (List ℕ) → List ℕ → Type 0
 IsDevice bytes None rest = (bytes ≡ []) × (rest ≡ [])
-IsDevice bytes (Some content) rest = (text : List ℕ) × (bytes ≡ signature ++ text) × IsCounted (2 ^ 27 - 8) text content
+IsDevice bytes (Some content) rest = (text : List ℕ) × (bytes ≡ signature ++ text) × IsCounted (most_body - 8) text content
 
 -- ---- the stream
 

@@ -16,13 +16,10 @@ use mig_bytes::{Memory, ReadFailed, Source, Stop, skip, take_long, take_part, u3
 use mig_chunks::{batch_fault, page_data_words, physmap_pairs, put, toolstack_fault};
 use mig_emulators::Emulators;
 use mig_guest::{EMULATOR_PAIRS, Guest, PartKey};
-use mig_headers::{Cause, LegacyCause};
+use mig_headers::{Cause, LegacyCause, MOST_BODY};
 use mig_policy::PairsAnswer;
 use mig_restore::{take_entries, words_of};
 use std::alloc::Global;
-
-/// The most bytes of a body.
-pub(crate) const MAX_BODY: u32 = 1 << 27;
 
 /// Ids of vCPUs are below this.
 const VCPUS: u32 = 4096;
@@ -222,7 +219,7 @@ pub(crate) fn take_toolstack<S: Source>(
     ensures begun { OnOk result (AreEmulators emulators.new) }
     ensures faults { RisesOnReadFault (S.faults src.old) (S.faults src.new) result }
 {
-    let len = take_length(src, MAX_BODY)?;
+    let len = take_length(src, MOST_BODY)?;
     let body = take_long(alloc, src, len, LegacyCause::Truncated)?;
     if let Some(offset) = toolstack_fault(&body) {
         return Err(Stop::Refused(LegacyCause::BadToolstack(offset)));

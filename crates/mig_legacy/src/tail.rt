@@ -1,6 +1,7 @@
-ghost use Rattle.std.specs.Prelude.{◌≡◌, ◌≤◌, ◌+◌, ◌^◌, ◌∷◌, List, Some, length, IsOk, IfOk, OnOk};
+ghost use Rattle.std.specs.Prelude.{◌≡◌, ◌≤◌, ◌+◌, ◌∷◌, List, Some, length, IsOk, IfOk, OnOk};
 ghost use Rattle.mig_bytes.specs.Faults.{RisesOnReadFault};
 ghost use Rattle.mig_bytes.specs.Judged.{Gives};
+ghost use Rattle.mig_headers.specs.RecordTypes.{most_body};
 ghost use Rattle.mig_headers.specs.Contexts.{scan};
 ghost use Rattle.mig_headers.specs.declared.kind.Kind.TheVariants.{Hvm};
 ghost use Rattle.mig_guest.specs.Frames.{IsFew};
@@ -9,11 +10,11 @@ ghost use Rattle.mig_emulators.specs.Formed.{IsPlain, AreEmulators};
 ghost use Rattle.mig_legacy.specs.Judging.{tail_of, tail_at, device_at, device_record_at};
 ghost use Rattle.mig_legacy.specs.Seen.{put_tail, put_device};
 
-use crate::body::{MAX_BODY, are_bytes, param_key, take_length};
+use crate::body::{are_bytes, param_key, take_length};
 use mig_bytes::{Memory, Source, Stop, take_long, take_part};
 use mig_emulators::Emulators;
 use mig_guest::{EMULATOR_CONTEXT, Guest, PartKey};
-use mig_headers::LegacyCause;
+use mig_headers::{LegacyCause, MOST_BODY};
 use mig_hvm::{read_context, scan_context};
 use std::alloc::Global;
 
@@ -61,7 +62,7 @@ pub(crate) fn take_tail<S: Source>(
 {
     let mut frames = [0; 24];
     take_part(src, &mut frames, LegacyCause::Truncated)?;
-    let len = take_length(src, MAX_BODY)?;
+    let len = take_length(src, MOST_BODY)?;
     let context = take_long(alloc, src, len, LegacyCause::Truncated)?;
     if let Err(fault) = scan_context(&context) {
         return Err(Stop::Refused(LegacyCause::BadContext(fault)));
@@ -81,7 +82,7 @@ fn take_record<S: Source>(
     first: u8,
 ) -> Result<Vec<u8>, Stop<LegacyCause>>
     ensures read { Gives (λ content device. device ≡ Some content.items) (S.left src.old) (S.left src.new) (λ rest. device_record_at (first ∷ rest)) result }
-    ensures small { IfOk result (λ content. length content.items + 8 ≤ 2 ^ 27) }
+    ensures small { IfOk result (λ content. length content.items + 8 ≤ most_body) }
     ensures faults { RisesOnReadFault (S.faults src.old) (S.faults src.new) result }
 {
     let mut bytes = [first; 21];
@@ -89,7 +90,7 @@ fn take_record<S: Source>(
     if bytes != SIGNATURE {
         return Err(Stop::Refused(LegacyCause::BadSignature));
     }
-    let len = take_length(src, MAX_BODY - 8)?;
+    let len = take_length(src, MOST_BODY - 8)?;
     take_long(alloc, src, len, LegacyCause::Truncated)
 }
 

@@ -1,12 +1,12 @@
 -- Judging a record of a libxl stream: its parts in their order, and the causes that are tried in each, in the order of
 -- their numbers.
-use Rattle.std.specs.Prelude.{ℕ, ◌^◌, Bool, true, false, List, [], ◌∷◌, length, drop, Option, Some, None, is_some, is_none, ◌==◌, ◌&&◌, ◌||◌, not, nat_le, nat_lt, if◌then◌else◌}
+use Rattle.std.specs.Prelude.{ℕ, Bool, true, false, List, [], ◌∷◌, length, drop, Option, Some, None, is_some, is_none, ◌==◌, ◌&&◌, ◌||◌, not, nat_le, nat_lt, if◌then◌else◌}
 use Rattle.std.specs.Option.{option_or}
 use Rattle.mig_bytes.specs.Bytes.{padding_len}
 use Rattle.mig_bytes.specs.Fields.{le32}
 use Rattle.mig_bytes.specs.Judged.{Judged, ◌>>=◌, part, placed, said_at, plain_at}
 use Rattle.mig_bytes.specs.Judged.Judged.{Passes}
-use Rattle.mig_headers.specs.RecordTypes.{is_optional}
+use Rattle.mig_headers.specs.RecordTypes.{is_optional, most_body}
 use Rattle.mig_headers.specs.Rows.{first_fault}
 use Rattle.mig_headers.specs.declared.kind.Kind.{Kind}
 use Rattle.mig_headers.specs.declared.kind.Kind.TheVariants.{Pv, Hvm}
@@ -50,7 +50,7 @@ is_miscounted type image = ((type == 1) && is_some image) || ((type == 0) && is_
 -- the causes of a head of this type and length, whatever stands before it
 abbrev pub field_rows : ℕ → ℕ → List (Bool × Cause)
 field_rows type len =
-    (nat_lt (2 ^ 27) len, BodyTooLong len)
+    (nat_lt most_body len, BodyTooLong len)
     ∷ (is_unsupported type, Unsupported type)
     ∷ (nat_lt 5 type && not (is_optional type), UnknownMandatory type)
     ∷ (not (allows_length type len), BadLength len)

@@ -2,6 +2,7 @@
 use Rattle.std.specs.Prelude.{◌≡◌, ◌≤◌, ◌<◌, ◌^◌, ℕ, ⊤, true, false, Bool, List, [], ◌++◌, length, Some, None}
 use Rattle.mig_bytes.specs.Fields.{le32}
 use Rattle.mig_bytes.specs.Sequences.{Spells}
+use Rattle.mig_headers.specs.RecordTypes.{most_body}
 use Rattle.mig_headers.specs.Headers.{IsLibxlHeader}
 use Rattle.mig_headers.specs.Pairs.{Pair}
 use Rattle.mig_headers.specs.declared.kind.Kind.TheVariants.{Pv}
@@ -38,7 +39,7 @@ pub data HasLibxlContent : ℕ → List ℕ → LibxlContent → Type 0 where
 -- the bytes of a record: LIBXC_CONTEXT has no body, and an image follows it; of any other, its head, body and padding
 pub data IsLibxlRecord : LibxlRecord → List ℕ → Type 0 where
   image : (head text : List ℕ) (i : ImageOf) → IsRecord 1 [] head → IsImage text i.opening i.records [] → IsLibxlRecord (record { type = 1; content = Image i }) (head ++ text)
-  body : (type : ℕ) (body bytes : List ℕ) (c : LibxlContent) → IsRecord type body bytes → length body ≤ 2 ^ 27 → HasLibxlContent type body c → IsLibxlRecord (record { type = type; content = c }) bytes
+  body : (type : ℕ) (body bytes : List ℕ) (c : LibxlContent) → IsRecord type body bytes → length body ≤ most_body → HasLibxlContent type body c → IsLibxlRecord (record { type = type; content = c }) bytes
 
 -- no emulator has more pairs than it may have, once these are added
 abbrev pub EmulatorsFit : List LibxlRecord → LibxlContent → Type 0

@@ -1,9 +1,10 @@
-ghost use Rattle.std.specs.Prelude.{◌≡◌, ◌≤◌, ◌+◌, ◌^◌, ◌==◌, ◌∷◌, [], ◌++◌, ⊤, ◌≢◌, ◌<◌, List, ℕ, true, false, None, length, IfOk, IfNone, IfSome, IsSome, OnOk, IsErrOf};
+ghost use Rattle.std.specs.Prelude.{◌≡◌, ◌≤◌, ◌+◌, ◌==◌, ◌∷◌, [], ◌++◌, ⊤, ◌≢◌, ◌<◌, List, ℕ, true, false, None, length, IfOk, IfNone, IfSome, IsSome, OnOk, IsErrOf};
 ghost use Rattle.mig_bytes.specs.Answers.{or_stop};
 ghost use Rattle.mig_bytes.specs.Bytes.{AreBytes};
 ghost use Rattle.mig_bytes.specs.Faults.{RisesOnReadFault};
 ghost use Rattle.mig_bytes.specs.Judged.{Gives};
 ghost use Rattle.mig_bytes.specs.declared.part.Stop.TheVariants.{Memory as NoMemory};
+ghost use Rattle.mig_headers.specs.RecordTypes.{most_body};
 ghost use Rattle.mig_headers.specs.declared.fault.Cause.TheVariants.{Truncated};
 ghost use Rattle.mig_pvtables.specs.Blank.{blank, IsOfBytes};
 ghost use Rattle.mig_pvtables.specs.Whole.{IsWhole};
@@ -77,7 +78,7 @@ fn allows_length(kind: u32, len: u32) -> bool
 #[tactic(auto, unfolding(crate::specs::Judging::fault_of_libxl_fields))]
 fn lone_fault(head: RecordHead) -> Option<Cause>
     ensures fault { result ≡ fault_of_libxl_fields head.kind head.len }
-    ensures small { IfNone result (head.len ≤ 2 ^ 27) }
+    ensures small { IfNone result (head.len ≤ most_body) }
     ensures allowed { IfNone result (length_allowed head.kind head.len ≡ true) }
 {
     if let Some(cause) = long_fault(head) {
@@ -127,7 +128,7 @@ impl WrapperSeen {
     #[tactic(auto, unfolding(crate::specs::Judging::fault_of_order))]
     fn head_fault(&self, head: RecordHead) -> Option<Cause>
         ensures fault { (records : List LibxlRecord) → IsLibxlSeen self.now records → result ≡ fault_of_libxl_head records head.kind head.len }
-        ensures small { IfNone result (head.len ≤ 2 ^ 27) }
+        ensures small { IfNone result (head.len ≤ most_body) }
         ensures allowed { IfNone result (length_allowed head.kind head.len ≡ true) }
         ensures room { IfNone result (self.now.records < most_records) }
         ensures first { IfNone result (head.kind ≡ 1 → self.now.image ≡ None) }
@@ -157,7 +158,7 @@ impl WrapperSeen {
     /// Takes the next record's head.
     fn take_head<S: Source>(&self, src: &mut S) -> Result<RecordHead, Stop<Cause>>
         ensures read { (records : List LibxlRecord) → IsLibxlSeen self.now records → Gives (λ h head. h ≡ head_in head) (S.left src.old) (S.left src.new) (libxl_head_at records) result }
-        ensures small { IfOk result (λ h. h.len ≤ 2 ^ 27) }
+        ensures small { IfOk result (λ h. h.len ≤ most_body) }
         ensures allowed { IfOk result (λ h. length_allowed h.kind h.len ≡ true) }
         ensures room { OnOk result (self.now.records < most_records) }
         ensures first { IfOk result (λ h. h.kind ≡ 1 → self.now.image ≡ None) }
@@ -181,7 +182,7 @@ impl WrapperSeen {
         len: u32,
     ) -> Result<(), Stop<Cause>>
         requires front { 8 ≤ len }
-        requires small { len ≤ 2 ^ 27 }
+        requires small { len ≤ most_body }
         requires begun { IsLibxlBegun self.old }
         ensures read { Gives (λ _ c. TakesLibxl self.old self.new 2 c) (S.left src.old) (S.left src.new) (pairs_at self.old.emulators len) result }
         ensures begun { OnOk result (IsLibxlBegun self.new) }
@@ -224,7 +225,7 @@ impl WrapperSeen {
         len: u32,
     ) -> Result<(), Stop<Cause>>
         requires front { 8 ≤ len }
-        requires small { len ≤ 2 ^ 27 }
+        requires small { len ≤ most_body }
         requires begun { IsLibxlBegun self.old }
         ensures read { Gives (λ _ c. TakesLibxl self.old self.new 3 c) (S.left src.old) (S.left src.new) (context_at len) result }
         ensures begun { OnOk result (IsLibxlBegun self.new) }
@@ -284,7 +285,7 @@ impl WrapperSeen {
         src: &mut S,
         head: RecordHead,
     ) -> Result<(), Stop<Cause>>
-        requires small { head.len ≤ 2 ^ 27 }
+        requires small { head.len ≤ most_body }
         requires allowed { length_allowed head.kind head.len ≡ true }
         requires no_image { head.kind ≢ 1 }
         requires begun { IsLibxlBegun self.old }
@@ -308,7 +309,7 @@ impl WrapperSeen {
         src: &mut S,
         head: RecordHead,
     ) -> Result<(), Stop<(Place, Cause)>>
-        requires small { head.len ≤ 2 ^ 27 }
+        requires small { head.len ≤ most_body }
         requires allowed { length_allowed head.kind head.len ≡ true }
         requires first { head.kind ≡ 1 → self.old.image ≡ None }
         requires begun { IsLibxlBegun self.old }

@@ -3,10 +3,7 @@ ghost use Rattle.mig_records.specs.Faults.{fault_of_long, fault_of_length};
 ghost use Rattle.mig_records.specs.Records.{head_of};
 
 use mig_bytes::{put_u32_le, u32_le};
-use mig_headers::{Cause, RecordType};
-
-/// The greatest length of a body.
-const MOST_BODY: u32 = 1 << 27;
+use mig_headers::{Cause, MOST_BODY, RecordType};
 
 /// The head of a record (libxc migration stream, "Records").
 #[derive(Clone, Copy, Debug, PartialEq, Eq)]
@@ -42,7 +39,7 @@ impl RecordHead {
     }
 }
 
-/// BodyTooLong where the body has more than 2^27 bytes.
+/// BodyTooLong where the body has more than MOST_BODY bytes.
 pub fn long_fault(head: RecordHead) -> Option<Cause>
     ensures fault { result ≡ fault_of_long head.len }
 {

@@ -1,8 +1,9 @@
 #![tactic(auto, using(mig_bytes::proofs::Texts::puts_then, mig_bytes::proofs::Texts::puts_part), unfolding(crate::specs::Records::spelled))]
 
-ghost use Rattle.std.specs.Prelude.{◌≡◌, ◌≤◌, ◌^◌, length, replicate};
+ghost use Rattle.std.specs.Prelude.{◌≡◌, ◌≤◌, length, replicate};
 ghost use Rattle.mig_bytes.specs.Bytes.{Puts, padding_len};
 ghost use Rattle.mig_bytes.specs.Faults.{HasCause};
+ghost use Rattle.mig_headers.specs.RecordTypes.{most_body};
 ghost use Rattle.mig_records.specs.Records.{head_of, spelled};
 
 use crate::RecordHead;
@@ -27,7 +28,7 @@ pub fn write_padding<K: Sink>(sink: &mut K, len: u32) -> Result<(), WriteFailed>
 
 /// Appends a record: head, body and padding in zeros.
 pub fn write_record<K: Sink>(sink: &mut K, kind: u32, body: &[u8]) -> Result<(), WriteFailed>
-    requires { length body.now ≤ 2 ^ 27 }
+    requires { length body.now ≤ most_body }
     ensures bytes { Puts (spelled kind body.now) (K.written sink.old) (K.written sink.new) result }
     ensures cause { HasCause (K.faults sink.old) (K.faults sink.new) result }
 {

@@ -6,6 +6,7 @@ use Rattle.std.specs.List.{flat_map}
 use Rattle.mig_bytes.specs.Failing.{IsFaultless, Fails}
 use Rattle.mig_bytes.specs.Fields.{le32, be64}
 use Rattle.mig_bytes.specs.Sequences.{Spells}
+use Rattle.mig_headers.specs.RecordTypes.{most_body}
 use Rattle.mig_headers.specs.FirstCauses.{IsTriedFirst}
 use Rattle.mig_headers.specs.Headers.{marker, libxl_ident}
 use Rattle.mig_headers.specs.CauseNumbers.{number_of_legacy_cause}
@@ -154,8 +155,8 @@ pub data InChunkBody (chunks : List LegacyChunk) : ChunkKind → List ℕ → Le
   at_bits : (max : List ℕ) → IsFaultlessLegacyPart VcpuMax max → InChunkBody chunks kinds.VcpuMap max (Plain (8 * (le32 max 0 / 64 + 1)))
   at_clock : InChunkBody chunks kinds.Tsc [] (Plain 20)
   at_value : (index : ℕ) → InChunkBody chunks (kinds.Param index) [] (Plain 12)
-  at_length : InChunkBody chunks kinds.Toolstack [] (Length (2 ^ 27))
-  at_entries : (len : List ℕ) → IsFaultlessLegacyPart (Length (2 ^ 27)) len → InChunkBody chunks kinds.Toolstack len (Toolstack chunks (le32 len 0))
+  at_length : InChunkBody chunks kinds.Toolstack [] (Length most_body)
+  at_entries : (len : List ℕ) → IsFaultlessLegacyPart (Length most_body) len → InChunkBody chunks kinds.Toolstack len (Toolstack chunks (le32 len 0))
 
 -- the first parts of a chunk behind these chunks
 pub data InChunk (chunks : List LegacyChunk) : List ℕ → LegacyPart → Type 0 where
@@ -165,14 +166,14 @@ pub data InChunk (chunks : List LegacyChunk) : List ℕ → LegacyPart → Type 
 -- the first parts of a tail: three frame numbers, and a length and as many bytes of a context
 pub data InTail : List ℕ → LegacyPart → Type 0 where
   at_frames : InTail [] (Plain 24)
-  at_length : (frames : List ℕ) → length frames ≡ 24 → InTail frames (Length (2 ^ 27))
-  at_context : (frames len : List ℕ) → length frames ≡ 24 → IsFaultlessLegacyPart (Length (2 ^ 27)) len → InTail (frames ++ len) (Context (le32 len 0))
+  at_length : (frames : List ℕ) → length frames ≡ 24 → InTail frames (Length most_body)
+  at_context : (frames len : List ℕ) → length frames ≡ 24 → IsFaultlessLegacyPart (Length most_body) len → InTail (frames ++ len) (Context (le32 len 0))
 
 -- the first parts of a device model's record: its signature, and a length and as many bytes
 pub data InDevice : List ℕ → LegacyPart → Type 0 where
   at_signature : InDevice [] Signature
-  at_length : InDevice signature (Length (2 ^ 27 - 8))
-  at_content : (len : List ℕ) → IsFaultlessLegacyPart (Length (2 ^ 27 - 8)) len → InDevice (signature ++ len) (Plain (le32 len 0))
+  at_length : InDevice signature (Length (most_body - 8))
+  at_content : (len : List ℕ) → IsFaultlessLegacyPart (Length (most_body - 8)) len → InDevice (signature ++ len) (Plain (le32 len 0))
 
 -- a faultless front of a legacy stream, and the place and the part that come next
 pub data BehindLegacy : List ℕ → LegacyPlace → LegacyPart → Type 0 where

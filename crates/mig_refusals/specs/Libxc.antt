@@ -7,7 +7,7 @@ use Rattle.mig_bytes.specs.Failing.{IsFaultless, Fails}
 use Rattle.mig_bytes.specs.Sequences.{Spells}
 use Rattle.mig_bytes.specs.Fields.{le16, le32, le64, be16, be32, be64}
 use Rattle.mig_headers.specs.Headers.{marker as all_ones, image_id, page_shift, IsImageHeader, IsDomainHeader}
-use Rattle.mig_headers.specs.RecordTypes.{record_row_of, type_number, type_of_number}
+use Rattle.mig_headers.specs.RecordTypes.{record_row_of, type_number, type_of_number, most_body}
 use Rattle.mig_headers.specs.CauseNumbers.{number_of_cause}
 use Rattle.mig_headers.specs.declared.fault.Cause.{Cause}
 use Rattle.mig_headers.specs.declared.fault.Cause.TheVariants.{Truncated, NotStream, BadId, BadVersion, BigEndian, BadKind, BadPageShift, BodyTooLong, Unsupported, UnknownMandatory, WrongKind, OutOfOrder, BadLength, NoPages, BadPageType, PfnOutside, BadContext, ParamIndex, Missing, TooManyRecords, TooManyFrames}
@@ -72,7 +72,7 @@ pub data HeadHas (b : Before) (type len : ℕ) : ℕ → Cause → Type 0 where
   wrong_kind : (this : RecordType) → type ≡ type_number this → IsFalse ((record_row_of this).of_kind b.opening.kind) → HeadHas b type len 0 (WrongKind type)
   unknown : type < 2 ^ 31 → type_of_number type ≡ None → HeadHas b type len 0 (UnknownMandatory type)
   unsupported : (this : RecordType) → type ≡ type_number this → IsFalse (record_row_of this).supported → HeadHas b type len 0 (Unsupported type)
-  too_long : 2 ^ 27 < len → HeadHas b type len 0 (BodyTooLong len)
+  too_long : most_body < len → HeadHas b type len 0 (BodyTooLong len)
 
 -- the first 8 bytes of a body of this length, with this count ("PAGE_DATA")
 pub data FrontHas (len count : ℕ) : ℕ → Cause → Type 0 where

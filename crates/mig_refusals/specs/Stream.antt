@@ -5,6 +5,7 @@ use Rattle.mig_bytes.specs.Bytes.{IsLeastPadding}
 use Rattle.mig_bytes.specs.Failing.{IsFaultless, Fails}
 use Rattle.mig_bytes.specs.Fields.{le32, be32, be64}
 use Rattle.mig_bytes.specs.Sequences.{Spells}
+use Rattle.mig_headers.specs.RecordTypes.{most_body}
 use Rattle.mig_headers.specs.Headers.{libxl_ident, IsLibxlHeader}
 use Rattle.mig_headers.specs.declared.fault.Cause.{Cause}
 use Rattle.mig_headers.specs.declared.fault.Cause.TheVariants.{Truncated, BadVersion, BigEndian, BodyTooLong, Unsupported, UnknownMandatory, BadLength, TooManyRecords, BadPairs, BadKey, BadEmulator, EmulatorForPv, ContextCount, TooManyPairs, EmulatorIndex}
@@ -40,7 +41,7 @@ pub data LibxlHeadHas (records : List LibxlRecord) (type len : ℕ) : ℕ → Ca
   short_body : (type ≡ 2) ⊎ (type ≡ 3) → len < 8 → LibxlHeadHas records type len 0 (BadLength len)
   unknown : 5 < type → type < 2 ^ 31 → LibxlHeadHas records type len 0 (UnknownMandatory type)
   unsupported : (type ≡ 4) ⊎ (type ≡ 5) → LibxlHeadHas records type len 0 (Unsupported type)
-  too_long : 2 ^ 27 < len → LibxlHeadHas records type len 0 (BodyTooLong len)
+  too_long : most_body < len → LibxlHeadHas records type len 0 (BodyTooLong len)
 
 -- a body with pairs for an emulator, behind these emulators; the place of a text counts from the first pair
 -- ("EMULATOR_XENSTORE_DATA")

@@ -13,7 +13,7 @@ use Rattle.mig_guest.specs.PartKeys.{context_key}
 use Rattle.mig_records.specs.Records.{IsRecord}
 use Rattle.mig_records.specs.Words.{words, has_reserved_type, names_outside}
 use Rattle.mig_order.specs.Order.{IsInOrder}
-use Rattle.mig_headers.specs.RecordTypes.{record_row_of, type_number}
+use Rattle.mig_headers.specs.RecordTypes.{record_row_of, type_number, most_body}
 use Rattle.mig_headers.specs.declared.record_type.RecordType.{RecordType}
 use Rattle.mig_guest.specs.declared.part_code.PartCode.{PartCode}
 use Rattle.mig_bodies.specs.PvBodies.{IsPvInfo, IsP2m}
@@ -85,7 +85,7 @@ pub record Follows (o : Opening) (records : List StreamRecord) (r : StreamRecord
   pub body : List ℕ
   pub is : IsRecord r.type body bytes
   pub says : HasContent o.kind (sent o.kind records).top r.type body r.content
-  pub small : length body ≤ 2 ^ 27
+  pub small : length body ≤ most_body
   pub ordered : IsInOrder o.version o.kind (types_of records) r.type
   pub few : length records < most_records
   pub not_ended : is_ended records ≡ false

@@ -5,7 +5,7 @@ ghost use Rattle.mig_bytes.specs.Faults.{RisesOnReadFault};
 ghost use Rattle.mig_bytes.specs.Judged.{Gives, each, plain_at};
 ghost use Rattle.mig_headers.specs.declared.fault.Cause.TheVariants.{Truncated};
 ghost use Rattle.mig_bytes.specs.declared.part.Stop.TheVariants.{Memory};
-ghost use Rattle.mig_headers.specs.RecordTypes.{record_row_of, type_of_number};
+ghost use Rattle.mig_headers.specs.RecordTypes.{record_row_of, type_of_number, most_body};
 ghost use Rattle.mig_headers.specs.declared.record_type.RecordType.{RecordType};
 ghost use Rattle.mig_guest.specs.PartCodes.{row_of, code_number};
 ghost use Rattle.mig_guest.specs.Formed.{is_emulator_code};
@@ -71,7 +71,7 @@ fn take_sets<S: Source>(
     len: u32,
     guest: &mut Guest,
 ) -> Result<(), Stop<Cause>>
-    requires small { len ≤ 2 ^ 27 }
+    requires small { len ≤ most_body }
     requires allowed { HasBodyLength code len }
     requires of_kind { (row_of code).of_kind guest.old.kind ≡ true }
     requires no_emulator { is_emulator_code (code_number code) ≡ false }
@@ -112,7 +112,7 @@ fn take_p2m<S: Source>(
     len: u32,
     guest: &mut Guest,
 ) -> Result<(), Stop<Cause>>
-    requires small { len ≤ 2 ^ 27 }
+    requires small { len ≤ most_body }
     requires front { 8 ≤ len }
     requires kind { guest.old.kind ≡ Pv }
     ensures read { Gives (λ _ c. guest.new ≡ put_content guest.old c) (S.left src.old) (S.left src.new) (p2m_at len) result }
@@ -160,7 +160,7 @@ pub fn words_of(alloc: Global, bytes: &[u8], count: usize) -> Result<Vec<u64>, A
 
 /// Takes so many words.
 fn take_words<S: Source>(alloc: Global, src: &mut S, count: u32) -> Result<Vec<u64>, Stop<Cause>>
-    requires { 8 * count ≤ 2 ^ 27 }
+    requires { 8 * count ≤ most_body }
     ensures read { Gives (λ v list. list ≡ v.items) (S.left src.old) (S.left src.new) (words_at count) result }
     ensures len { IfOk result (λ v. vec_len v ≡ count) }
     ensures faults { RisesOnReadFault (S.faults src.old) (S.faults src.new) result }
@@ -275,7 +275,7 @@ fn take_pages<S: Source>(
     len: u32,
     guest: &mut Guest,
 ) -> Result<(), Stop<Cause>>
-    requires { len ≤ 2 ^ 27 }
+    requires { len ≤ most_body }
     ensures read { Gives (λ _ c. guest.new ≡ put_content guest.old c) (S.left src.old) (S.left src.new) (pages_at guest.old.kind guest.old.top len) result }
     ensures grown { OnOk result (Grows guest.old guest.new) }
     ensures faults { RisesOnReadFault (S.faults src.old) (S.faults src.new) result }
@@ -306,7 +306,7 @@ fn take_typed<S: Source>(
     len: u32,
     guest: &mut Guest,
 ) -> Result<(), Stop<Cause>>
-    requires small { len ≤ 2 ^ 27 }
+    requires small { len ≤ most_body }
     requires allowed { (record_row_of this).allows len ≡ true }
     requires of_kind { (record_row_of this).of_kind guest.old.kind ≡ true }
     ensures read { Gives (λ _ c. guest.new ≡ put_content guest.old c) (S.left src.old) (S.left src.new) (typed_at guest.old.kind guest.old.top (Some this) len) result }
@@ -331,7 +331,7 @@ pub(crate) fn take_body<S: Source>(
     head: RecordHead,
     guest: &mut Guest,
 ) -> Result<(), Stop<Cause>>
-    requires small { head.len ≤ 2 ^ 27 }
+    requires small { head.len ≤ most_body }
     requires allowed { fault_of_length head.kind head.len ≡ None }
     requires of_kind { (this : RecordType) → type_of_number head.kind ≡ Some this → (record_row_of this).of_kind guest.old.kind ≡ true }
     ensures read { Gives (λ _ c. guest.new ≡ put_content guest.old c) (S.left src.old) (S.left src.new) (body_at guest.old.kind guest.old.top head.kind head.len) result }

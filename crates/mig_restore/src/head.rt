@@ -1,9 +1,9 @@
-ghost use Rattle.std.specs.Prelude.{◌≡◌, ◌≤◌, ◌<◌, ◌^◌, ◌∷◌, [], ◌++◌, List, ℕ, ◌+◌, length, true, IfOk, OnOk, IfNone as OnNone, None, Some, IsErrOf};
+ghost use Rattle.std.specs.Prelude.{◌≡◌, ◌≤◌, ◌<◌, ◌∷◌, [], ◌++◌, List, ℕ, ◌+◌, length, true, IfOk, OnOk, IfNone as OnNone, None, Some, IsErrOf};
 ghost use Rattle.mig_bytes.specs.Faults.{RisesOnReadFault};
 ghost use Rattle.mig_bytes.specs.Judged.{Gives};
 ghost use Rattle.mig_bytes.specs.declared.part.Stop.TheVariants.{Memory};
 ghost use Rattle.mig_headers.specs.Headers.{unless_faulty};
-ghost use Rattle.mig_headers.specs.RecordTypes.{record_row_of, type_of_number};
+ghost use Rattle.mig_headers.specs.RecordTypes.{record_row_of, type_of_number, most_body};
 ghost use Rattle.mig_headers.specs.declared.record_type.RecordType.{RecordType};
 ghost use Rattle.mig_records.specs.Faults.{fault_of_length};
 ghost use Rattle.mig_records.specs.Heads.{head_in};
@@ -60,7 +60,7 @@ impl RecordsSeen {
     pub fn judge(&mut self, head: RecordHead) -> Result<(), Cause>
         ensures judged { (b : Before) → IsSeen self.old b.opening b.types → result ≡ unless_faulty (fault_of_fields b head.kind head.len) tt }
         ensures seen { OnOk result ((o : Opening) (types : List ℕ) → IsSeen self.old o types → IsSeen self.new o (types ++ head.kind ∷ [])) }
-        ensures len { OnOk result (head.len ≤ 2 ^ 27) }
+        ensures len { OnOk result (head.len ≤ most_body) }
         ensures allowed { OnOk result (fault_of_length head.kind head.len ≡ None) }
         ensures count { OnOk result ((self.new.records ≡ self.old.records + 1) × (self.old.records < most_records)) }
         ensures of_kind { OnOk result ((this : RecordType) → type_of_number head.kind ≡ Some this → (record_row_of this).of_kind self.old.kind ≡ true) }
@@ -87,7 +87,7 @@ impl RecordsSeen {
         ensures read { (b : Before) → IsSeen self.old b.opening b.types →
             Gives (λ h head. h ≡ head_in head) (S.left src.old) (S.left src.new) (head_at b) result }
         ensures seen { IfOk result (λ h. (o : Opening) (types : List ℕ) → IsSeen self.old o types → IsSeen self.new o (types ++ h.kind ∷ [])) }
-        ensures len { IfOk result (λ h. h.len ≤ 2 ^ 27) }
+        ensures len { IfOk result (λ h. h.len ≤ most_body) }
         ensures allowed { IfOk result (λ h. fault_of_length h.kind h.len ≡ None) }
         ensures count { OnOk result ((self.new.records ≡ self.old.records + 1) × (self.old.records < most_records)) }
         ensures of_kind { IfOk result (λ h. (this : RecordType) → type_of_number h.kind ≡ Some this → (record_row_of this).of_kind self.old.kind ≡ true) }
