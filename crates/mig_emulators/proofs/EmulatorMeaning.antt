@@ -1,15 +1,14 @@
 -- Of each emulator the last context decides, and of each key of its store the last pair.
-use Rattle.mig_emulators.proofs.Common.{◌≡◌, ℕ, Bool, true, false, cond, List, [], ◌∷◌, ◌++◌, Option, Some, None, refl, sym, ap, ◌∙◌, fold, unwrap_or, if◌then◌else◌, option_or, nat_cmp, eq_by_cmp, eq_by_cmp_equiv, Pair, part_cmp, PartMap, PartKey, tied, part_total, part_exact, PairMap, put_pairs, LibxlRecord, LibxlContent, Image, Pairs, Context, EmulatorsOf, no_emulators, store_at, add_pairs, put_libxl_content, common_steps, arith}
+use Rattle.mig_emulators.proofs.Common.{◌≡◌, ℕ, Bool, true, false, cond, List, [], ◌∷◌, ◌++◌, Option, Some, None, refl, sym, ap, ◌∙◌, fold, unwrap_or, option_or, nat_cmp, eq_by_cmp, Pair, part_cmp, PartMap, PartKey, tied, part_total, part_exact, PairMap, put_pairs, LibxlRecord, LibxlContent, Image, Pairs, Context, EmulatorsOf, no_emulators, store_at, add_pairs, put_libxl_content, common_steps, arith}
 use Rattle.std.specs.Prelude.{option_and_then}
-use Rattle.std.specs.Cmp.Lexicographic.{slice_cmp, nat_list_cmp_total}
+use Rattle.std.specs.Cmp.Lexicographic.{slice_cmp}
 use Rattle.std.specs.FinMap as maps
-use Rattle.std.specs.Str.{bytes_eq}
-use Rattle.std.proofs.lemmas.Map.Text.{is_eq-slice_cmp}
-use Rattle.mig_policy.specs.PairMaps.{put_pair}
+use Rattle.mig_policy.proofs.LastValues.{values_put}
+use Rattle.mig_policy.specs.PairMaps.{last_pair_value}
 use Rattle.mig_restore.specs.Mean.{same_key}
 use Rattle.mig_restore.proofs.Meaning.{part_ties}
 use Rattle.mig_emulators.specs.Content.LibxlContent.{Nothing}
-use Rattle.mig_emulators.specs.Emulators.{emulators_of, context_in, last_context, pairs_for, pairs_said, last_pair_value, value_in_store}
+use Rattle.mig_emulators.specs.Emulators.{emulators_of, context_in, last_context, pairs_for, pairs_said, value_in_store}
 use Rattle.mig_restore.proofs.PartsInOrder.{or_none}
 
 pub either_of : (a b c : Option (List ℕ)) → option_or a (option_or b c) ≡ option_or (option_or a b) c
@@ -46,16 +45,6 @@ last_context_is records key =
 abbrev value_of : List ℕ → Option PairMap → Option (List ℕ)
 value_of k o = option_and_then (λ (m : PairMap). maps.get m k) o
 
-pair_put : (m : PairMap) (p : Pair) (k : List ℕ) → maps.get (put_pair m p) k ≡ option_or (if bytes_eq p.key k then Some p.value else None) (maps.get m k)
-pair_put m p k = grind (arith, common_steps, maps.get-insert nat_list_cmp_total m p.key p.value k, is_eq-slice_cmp k p.key ∙ turned k p.key)
-  where
-    turned : (xs ys : List ℕ) → bytes_eq xs ys ≡ bytes_eq ys xs
-    turned xs ys = sym (is_eq-slice_cmp xs ys) ∙ (eq_by_cmp_equiv nat_list_cmp_total).symm xs ys ∙ is_eq-slice_cmp ys xs
-
-pairs_put : (m : PairMap) (ps : List Pair) (k : List ℕ) → maps.get (put_pairs m ps) k ≡ option_or (last_pair_value k ps) (maps.get m k)
-pairs_put m [] k = refl
-pairs_put m (p ∷ ps) k = grind (arith, common_steps, pairs_put (put_pair m p) ps k, pair_put m p k)
-
 -- of some pairs and then others, the others decide
 value_behind : (ps qs : List Pair) (k : List ℕ) → last_pair_value k (ps ++ qs) ≡ option_or (last_pair_value k qs) (last_pair_value k ps)
 value_behind [] qs k = sym (or_none (last_pair_value k qs))
@@ -70,7 +59,7 @@ added : (e : EmulatorsOf) (key q : PartKey) (k : List ℕ) (p : Pair) (ps : List
     → value_of k (cond b (Some (put_pairs (store_at e.stores q) (p ∷ ps))) (maps.get e.stores key)) ≡ option_or (last_pair_value k (cond b (p ∷ ps) [])) (value_in_store e key k)
 added e key q k p ps false is = refl
 added e key q k p ps true is =
-    pairs_put (store_at e.stores q) (p ∷ ps) k
+    values_put (store_at e.stores q) (p ∷ ps) k
     ∙ ap (option_or (last_pair_value k (p ∷ ps))) (ap (λ z. maps.get (store_at e.stores z) k) (sym (part_exact key q (tied (part_cmp key q) is))) ∙ in_store (maps.get e.stores key) k)
 
 pairs_added : (e : EmulatorsOf) (key q : PartKey) (k : List ℕ) (ps : List Pair) → value_in_store (add_pairs e q ps) key k ≡ option_or (last_pair_value k (cond (same_key q key) ps [])) (value_in_store e key k)
@@ -85,13 +74,13 @@ value_said e key k (Image image) = refl
 value_said e key k (Pairs q ps) = pairs_added e key q k ps
 value_said e key k (Context q bytes) = refl
 
-values_put : (e : EmulatorsOf) (key : PartKey) (k : List ℕ) (rs : List LibxlRecord) → value_in_store (all_put e rs) key k ≡ option_or (last_pair_value k (pairs_said key rs)) (value_in_store e key k)
-values_put e key k [] = refl
-values_put e key k (r ∷ rs) =
-    grind (arith, common_steps, values_put (put_libxl_content e r.content) key k rs, value_said e key k r.content, value_behind (pairs_for key r.content) (pairs_said key rs) k)
+store_put : (e : EmulatorsOf) (key : PartKey) (k : List ℕ) (rs : List LibxlRecord) → value_in_store (all_put e rs) key k ≡ option_or (last_pair_value k (pairs_said key rs)) (value_in_store e key k)
+store_put e key k [] = refl
+store_put e key k (r ∷ rs) =
+    grind (arith, common_steps, store_put (put_libxl_content e r.content) key k rs, value_said e key k r.content, value_behind (pairs_for key r.content) (pairs_said key rs) k)
 
 pub last_value_is : (records : List LibxlRecord) (key : PartKey) (k : List ℕ) → value_in_store (emulators_of records) key k ≡ last_pair_value k (pairs_said key records)
 unfolding emulators_of
 last_value_is records key k =
-    values_put no_emulators key k records
+    store_put no_emulators key k records
     ∙ ap (λ o. option_or (last_pair_value k (pairs_said key records)) (value_of k o)) (maps.get-empty part_cmp key) ∙ or_none (last_pair_value k (pairs_said key records))

@@ -3,3 +3,4 @@ pub mod Stores
 pub mod EmulatorGuests
 pub mod EmulatorMeaning
 pub mod Formed
+pub mod Begun

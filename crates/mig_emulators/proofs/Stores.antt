@@ -1,5 +1,5 @@
 -- The stores as their tree lists them, and pairs added to one.
-use Rattle.mig_emulators.proofs.Common.{◌≡◌, ℕ, ◌<◌, List, [], ◌∷◌, length, map, cond, Option, Some, None, refl, sym, ap, ◌∙◌, arith, unwrap_or, option_map, Pair, PartKey, part_cmp, PartMap, part_total, part_exact, PairMap, put_pairs, EmulatorsOf, store_at, add_pairs}
+use Rattle.mig_emulators.proofs.Common.{◌≡◌, ◌<◌, List, [], ◌∷◌, length, map, cond, Option, Some, None, refl, sym, ap, ◌∙◌, arith, unwrap_or, option_map, Pair, PartKey, part_cmp, PartMap, part_total, part_exact, PairMap, put_pairs, EmulatorsOf, store_at, add_pairs}
 use Rattle.std.specs.BTreeMap.{is_at}
 use Rattle.std.specs.FinMap as maps
 use Rattle.std.specs.List.Sorted.{IsStrictlySortedBy}
@@ -48,13 +48,13 @@ module _ (es : List Entry) (contexts : PartMap) (e : EmulatorsOf) (view : record
   pub store_found : (o : Option PairMap) → store_in es key ≡ o → store_at e.stores key ≡ unwrap_or o maps.empty
   store_found o is = ap (λ (x : EmulatorsOf). store_at x.stores key) (sym view) ∙ ap (λ o. unwrap_or o maps.empty) (got_store es key ∙ is)
 
-  pub store_set : (fs : List Entry) (old new : PairMap) (bytes : List ℕ) → ((q : PartKey) → store_in fs q ≡ cond (is_at (part_cmp key) q) (Some new) (store_in es q)) → store_at e.stores key ≡ old → new ≡ put_pairs old (pairs_in bytes)
-      → 0 < length (pairs_in bytes) → record { stores = stores_seen fs; contexts = contexts } ≡ add_pairs e key (pairs_in bytes)
-  store_set fs old new bytes updates here is some =
+  pub store_set : (fs : List Entry) (old new : PairMap) (ps : List Pair) → ((q : PartKey) → store_in fs q ≡ cond (is_at (part_cmp key) q) (Some new) (store_in es q)) → store_at e.stores key ≡ old → new ≡ put_pairs old ps
+      → 0 < length ps → record { stores = stores_seen fs; contexts = contexts } ≡ add_pairs e key ps
+  store_set fs old new ps updates here is some =
       ap (λ s. record { stores = s; contexts = contexts }) (put_store es fs key new updates)
       ∙ ap (λ (x : EmulatorsOf). record x { stores = maps.insert x.stores key new }) view
-      ∙ ap (λ m. record e { stores = maps.insert e.stores key m }) (is ∙ ap (λ m. put_pairs m (pairs_in bytes)) (sym here))
-      ∙ sym (some_added e key (pairs_in bytes) some)
+      ∙ ap (λ m. record e { stores = maps.insert e.stores key m }) (is ∙ ap (λ m. put_pairs m ps) (sym here))
+      ∙ sym (some_added e key ps some)
 
 -- ---- the stores one after another
 

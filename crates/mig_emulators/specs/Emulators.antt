@@ -1,8 +1,7 @@
 -- What the records of emulators mean: of each key of an emulator's store the last value, and of each emulator the last
 -- context (libxl migration stream, "EMULATOR_XENSTORE_DATA" and "EMULATOR_CONTEXT").
-use Rattle.std.specs.Prelude.{ℕ, List, [], ◌∷◌, ◌++◌, fold, map, Option, Some, None, option_and_then, unwrap_or, if◌then◌else◌, refl, length, ◌^◌}
+use Rattle.std.specs.Prelude.{◌≡◌, ℕ, List, [], ◌∷◌, ◌++◌, fold, map, Option, Some, None, option_and_then, unwrap_or, if◌then◌else◌, refl, length, ◌^◌}
 use Rattle.std.specs.Option.{option_or}
-use Rattle.std.specs.Str.{bytes_eq}
 use Rattle.std.specs.Coded.{Coded, code_by, coded×}
 use Rattle.std.specs.FinMap as maps
 use Rattle.mig_headers.specs.Pairs.{Pair}
@@ -43,6 +42,15 @@ put_libxl_content e (Context key bytes) = record e { contexts = maps.insert e.co
 unfoldable pub emulators_of : List LibxlRecord → EmulatorsOf
 emulators_of records = fold (λ e r. put_libxl_content e r.content) no_emulators records
 
+-- ---- emulators after an error
+
+-- of these pairs some are in the store of this key, from the first on, and no others; all else is as it was
+pub record ArePairsBegun (before after : EmulatorsOf) (key : PartKey) (all : List Pair) : Type 0 where
+  pub done : List Pair
+  pub rest : List Pair
+  pub whole : done ++ rest ≡ all
+  pub added : after ≡ add_pairs before key done
+
 -- ---- emulators in the words of the format
 
 -- the context that a content says for a key
@@ -64,11 +72,6 @@ pairs_for key _ = []
 abbrev pub pairs_said : PartKey → List LibxlRecord → List Pair
 pairs_said key [] = []
 pairs_said key (r ∷ rs) = pairs_for key r.content ++ pairs_said key rs
-
--- the value of the last pair with this key
-abbrev pub last_pair_value : List ℕ → List Pair → Option (List ℕ)
-last_pair_value k [] = None
-last_pair_value k (p ∷ ps) = option_or (last_pair_value k ps) (if bytes_eq p.key k then Some p.value else None)
 
 -- the value of a key in the store of an emulator, if it has a store
 abbrev pub value_in_store : EmulatorsOf → PartKey → List ℕ → Option (List ℕ)
@@ -96,6 +99,16 @@ emulator_parts e = map store_part (maps.entries e.stores) ++ maps.entries e.cont
 
 abbrev pub with_emulators : GuestOf → EmulatorsOf → GuestOf
 with_emulators g e = record g { parts = put_parts g.parts (emulator_parts e) }
+
+-- of all these parts the rest isn't set yet
+pub record ArePartsBefore (before after : GuestOf) (rest all : List Part) : Type 0 where
+  pub done : List Part
+  pub whole : done ++ rest ≡ all
+  pub set : after ≡ record before { parts = put_parts before.parts done }
+
+-- of these parts some are set, from the first on, and no others; all else is as it was
+abbrev pub ArePartsBegun : GuestOf → GuestOf → List Part → Type 0
+ArePartsBegun before after all = (rest : List Part) × ArePartsBefore before after rest all
 
 -- the stores that a list of keys and stores shows
 abbrev pub stores_seen : List (PartKey × PairMap) → maps.FinMap part_cmp PairMap

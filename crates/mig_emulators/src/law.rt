@@ -1,8 +1,9 @@
 ghost use Rattle.std.specs.Prelude.{◌≡◌, ℕ, List};
 ghost use Rattle.std.specs.FinMap as maps;
 ghost use Rattle.mig_guest.specs.declared.part_key.PartKey.{PartKey};
+ghost use Rattle.mig_policy.specs.PairMaps.{last_pair_value};
 ghost use Rattle.mig_emulators.specs.Content.{LibxlRecord};
-ghost use Rattle.mig_emulators.specs.Emulators.{emulators_of, last_context, last_pair_value, pairs_said, value_in_store};
+ghost use Rattle.mig_emulators.specs.Emulators.{emulators_of, last_context, pairs_said, value_in_store};
 
 /// An emulator's context is that of the last record that says one.
 #[tactic(auto, using(crate::proofs::EmulatorMeaning::last_context_is))]

@@ -5,7 +5,7 @@ use Rattle.std.specs.FinMap as maps
 use Rattle.mig_guest.proofs.KeyedMaps.{tied, insert_gives}
 use Rattle.mig_emulators.specs.Content.{LibxlRecord}
 use Rattle.mig_emulators.specs.Content.LibxlContent.{Pairs as StorePairs}
-use Rattle.mig_emulators.specs.Emulators.{last_pair_value as last_pair}
+use Rattle.mig_policy.specs.PairMaps.{last_pair_value as last_pair}
 use Rattle.mig_emulators.proofs.EmulatorMeaning.{last_context_is, last_value_is}
 use Rattle.mig_legacy.proofs.Meaning.{without_part, last_join, tail_said, values_said}
 

@@ -5,3 +5,4 @@ pub mod FaultLaws
 pub mod KeyLaws
 pub mod PairTrees
 pub mod PairMapLaws
+pub mod LastValues

@@ -1,5 +1,5 @@
 -- A tree of keys and values, seen as a map of pairs, and how many bytes spell it.
-use Rattle.std.proofs.Common.{Global, ◌≡◌, ℕ, ◌+◌, ◌≤◌, List, [], ◌∷◌, cond, drop, length, map, Option, Some, None, refl, sym, ap, subst, ◌∙◌, arith}
+use Rattle.std.proofs.Common.{Global, ◌≡◌, ℕ, ◌+◌, ◌≤◌, List, [], ◌∷◌, ◌++◌, append_assoc, cond, drop, length, map, Option, Some, None, refl, sym, ap, subst, ◌∙◌, arith}
 use Rattle.std.specs.Prelude.{T}
 use Rattle.std.specs.List.{flat_map}
 use Rattle.std.specs.declared.cmp.Ordering.{Ordering}
@@ -13,7 +13,9 @@ use Rattle.std.specs.FinMap as maps
 use Rattle.std.specs.FinMap.{entries-insert, entries-from_sorted, same_entries_map, len-entries, len-empty}
 use Rattle.std.specs.FinMap.Entries.{put, is_sorted, is_sorted-put}
 use Rattle.std.proofs.lemmas.Grind.{common_steps}
-use Rattle.mig_policy.specs.PairMaps.{PairMap, put_pairs, pairs_in, shown, pairs_seen, text_of_entry, text_of_map}
+use Rattle.std.proofs.lemmas.List.Sums.{fold-append}
+use Rattle.mig_headers.specs.Pairs.{Pair}
+use Rattle.mig_policy.specs.PairMaps.{PairMap, AreSetBefore, put_pair, put_pairs, pairs_in, shown, pairs_seen, text_of_entry, text_of_map}
 
 abbrev pub Key : Type 0
 Key = Vec ℕ Global
@@ -149,6 +151,18 @@ seen_text es m order view = sym (ap (flat_map text_of_entry) (seen_entries es or
 -- one more pair
 pub one_more : (m n all : PairMap) (key value rest behind : List ℕ) → pairs_in rest ≡ record { key = key; value = value } ∷ pairs_in behind → n ≡ maps.insert m key value → put_pairs m (pairs_in rest) ≡ all → put_pairs n (pairs_in behind) ≡ all
 one_more m n all key value rest behind first is same = ap (λ o. put_pairs o (pairs_in behind)) is ∙ sym (ap (put_pairs m) first) ∙ same
+
+pub none_set : (m : PairMap) (all : List Pair) → AreSetBefore m m all all
+none_set m all = record { done = []; whole = refl; set = refl }
+
+pub one_more_set : (before m n : PairMap) (key value rest behind : List ℕ) (all : List Pair) → pairs_in rest ≡ record { key = key; value = value } ∷ pairs_in behind → n ≡ maps.insert m key value → AreSetBefore before m (pairs_in rest) all → AreSetBefore before n (pairs_in behind) all
+one_more_set before m n key value rest behind all first is h =
+    let p : Pair = record { key = key; value = value } in
+    record {
+      done = h.done ++ p ∷ [];
+      whole = append_assoc h.done (p ∷ []) (pairs_in behind) ∙ ap (λ ps. h.done ++ ps) (sym first) ∙ h.whole;
+      set = is ∙ ap (λ (o : PairMap). maps.insert o key value) h.set ∙ sym (fold-append put_pair before h.done (p ∷ []));
+    }
 
 pub empty_len : (m : PairMap) → m ≡ maps.empty → length (text_of_map m) ≡ 0
 empty_len m is = ap (λ (n : PairMap). length (text_of_map n)) is ∙ ap (λ es. length (flat_map text_of_entry es)) no_entries

@@ -1,9 +1,11 @@
 -- What pairs of texts say: a finite map from keys to values.
-use Rattle.std.specs.Prelude.{◌≡◌, ◌<◌, ℕ, List, [], ◌∷◌, length, fold, map, Option, Some, None, ◌↔◌}
+use Rattle.std.specs.Prelude.{◌≡◌, ◌<◌, ℕ, List, [], ◌∷◌, ◌++◌, length, fold, map, Option, Some, None, ◌↔◌, if◌then◌else◌}
 use Rattle.std.specs.List.{All, flat_map}
 use Rattle.std.specs.Cmp.Lexicographic.{slice_cmp}
+use Rattle.std.specs.Option.{option_or}
 use Rattle.std.specs.Ordering.{nat_cmp}
 use Rattle.std.specs.FinMap as maps
+use Rattle.std.specs.Str.{bytes_eq}
 use Rattle.std.specs.Coded.{Coded, coded_ℕ, coded_list}
 use Rattle.std.specs.declared.vec.Vec.{Vec}
 use Rattle.mig_headers.specs.Pairs.{Pair, IsPair, AreCanonicalPairs, text_of_pair, texts_in}
@@ -25,6 +27,16 @@ put_pair m p = maps.insert m p.key p.value
 -- pairs set one after another: of each key the last decides
 abbrev pub put_pairs : PairMap → List Pair → PairMap
 put_pairs m pairs = fold put_pair m pairs
+
+-- of all these pairs the rest isn't set yet
+pub record AreSetBefore (before after : PairMap) (rest all : List Pair) : Type 0 where
+  pub done : List Pair
+  pub whole : done ++ rest ≡ all
+  pub set : after ≡ put_pairs before done
+
+-- of these pairs some are set, from the first on, and no others
+abbrev pub AreBegun : PairMap → PairMap → List Pair → Type 0
+AreBegun before after all = (rest : List Pair) × AreSetBefore before after rest all
 
 abbrev pub pair_of : List ℕ × List ℕ → Pair
 pair_of e = record { key = e.0; value = e.1 }
@@ -92,7 +104,25 @@ abbrev pub with_pairs : PartMap → PartKey → List ℕ → PartMap
 with_pairs parts key [] = parts
 with_pairs parts key (b ∷ bytes) = maps.insert parts key (text_of_map (merged_at parts key (b ∷ bytes)))
 
+-- ---- values in the words of the format
+
+-- the value of the last pair with this key
+abbrev pub last_pair_value : List ℕ → List Pair → Option (List ℕ)
+last_pair_value k [] = None
+last_pair_value k (p ∷ ps) = option_or (last_pair_value k ps) (if bytes_eq p.key k then Some p.value else None)
+
+-- the value of a key in a part that has pairs
+abbrev pub value_in_part : PartMap → PartKey → List ℕ → Option (List ℕ)
+value_in_part parts key k = last_pair_value k (pairs_in (part_bytes (maps.get parts key)))
+
 -- ---- laws
+
+-- where pairs are added, a key has the value of the last of them that has this key, or else the one that it had
+pub record AddedPairsDecide : Type 0 where
+  pub map : (m : PairMap) (pairs : List Pair) (k : List ℕ) → maps.get (put_pairs m pairs) k ≡ option_or (last_pair_value k pairs) (maps.get m k)
+  pub part : (parts : PartMap) (key : PartKey) (bytes : List ℕ) (pairs : List Pair) (k : List ℕ) → AreCanonicalPairs (part_bytes (maps.get parts key)) → SpellPairs bytes pairs
+      → value_in_part (with_pairs parts key bytes) key k ≡ option_or (last_pair_value k pairs) (value_in_part parts key k)
+  pub others : (parts : PartMap) (key other : PartKey) (bytes : List ℕ) → (other ≡ key → ⊥) → maps.get (with_pairs parts key bytes) other ≡ maps.get parts other
 
 -- canonical pairs are exactly the texts of the maps of pairs, and such a text says its map
 pub record TextsAreCanonical : Type 0 where

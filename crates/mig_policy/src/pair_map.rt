@@ -1,6 +1,6 @@
-ghost use Rattle.std.specs.Prelude.{◌≡◌, ◌≤◌, ◌<◌, ◌^◌, ◌+◌, ◌++◌, true, false, length, OnOk, IfOk, IsErrOf};
+ghost use Rattle.std.specs.Prelude.{◌≡◌, ◌≤◌, ◌<◌, ◌^◌, ◌+◌, ◌++◌, true, false, length, OnOk, OnErr, IfOk, IsErrOf};
 ghost use Rattle.std.specs.FinMap as maps;
-ghost use Rattle.mig_policy.specs.PairMaps.{put_pairs, pairs_in, text_of_map, text_of_entry};
+ghost use Rattle.mig_policy.specs.PairMaps.{AreBegun, put_pairs, pairs_in, text_of_map, text_of_entry};
 ghost use Rattle.mig_policy.specs.declared.pair_map.PairsAnswer.TheVariants.{TooMany};
 
 use crate::texts::split_pair;
@@ -75,11 +75,12 @@ impl PairMap {
         }
     }
 
-    /// Sets one pair, in place of the one of its key.
+    /// Sets one pair, in place of the one of its key. Where no memory is found, the pairs stay.
     fn set(&mut self, key: &[u8], value: &[u8]) -> Result<(), Memory>
         requires { length (text_of_map self.old) + length key.now + length value.now + 2 < 2 ^ 64 }
         ensures ok { OnOk result (self.new ≡ maps.insert self.old key.now value.now) }
         ensures longer { OnOk result (length (text_of_map self.new) ≤ length (text_of_map self.old) + length key.now + length value.now + 2) }
+        ensures err { OnErr result (self.new ≡ self.old) }
     {
         let Ok(own_key) = key.to_vec(self.alloc) else {
             return Err(Memory);
@@ -100,11 +101,13 @@ impl PairMap {
         }
     }
 
-    /// Adds the pairs of these bytes, however long their text becomes.
+    /// Adds the pairs of these bytes, however long their text becomes. Where no memory is found, the first of them are
+    /// there.
     pub(crate) fn add_all(&mut self, bytes: &[u8]) -> Result<(), Memory>
         requires { length (text_of_map self.old) + length bytes.now < 2 ^ 64 }
         ensures ok { OnOk result (self.new ≡ put_pairs self.old (pairs_in bytes.now)) }
         ensures longer { OnOk result (length (text_of_map self.new) ≤ length (text_of_map self.old) + length bytes.now) }
+        ensures err { OnErr result (AreBegun self.old self.new (pairs_in bytes.now)) }
     {
         let mut rest = bytes;
         while let Some((key, value, behind)) = split_pair(rest) {
@@ -122,12 +125,15 @@ impl PairMap {
         self.len <= MAX_TEXT
     }
 
-    /// Adds the pairs of these bytes. After an error some of them may be there.
+    /// Adds the pairs of these bytes. After an error some of them are there, from the first on: all where they are too
+    /// many.
     pub fn add(&mut self, bytes: &[u8]) -> Result<(), PairsAnswer>
         requires small { length (text_of_map self.old) ≤ 2 ^ 24 }
         ensures ok { OnOk result (self.new ≡ put_pairs self.old (pairs_in bytes.now)) }
         ensures fits { OnOk result (length (text_of_map self.new) ≤ 2 ^ 24) }
         ensures too_many { IsErrOf result TooMany → 2 ^ 24 < length (text_of_map (put_pairs self.old (pairs_in bytes.now))) }
+        ensures all { IsErrOf result TooMany → self.new ≡ put_pairs self.old (pairs_in bytes.now) }
+        ensures err { OnErr result (AreBegun self.old self.new (pairs_in bytes.now)) }
     {
         let Ok(()) = self.add_all(bytes) else {
             return Err(PairsAnswer::Memory);

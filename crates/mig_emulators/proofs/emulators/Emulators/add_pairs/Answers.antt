@@ -5,10 +5,12 @@ use Rattle.std.specs.BTreeMap.{is_at}
 use Rattle.std.specs.declared.alloc.Global.{Global}
 use Rattle.std.specs.declared.collections.btree_map.BTreeMap.{BTreeMap}
 use Rattle.std.specs.Option.{option_copied_mut}
-use Rattle.std.proofs.lemmas.Result.{on_ok_weaker}
+use Rattle.std.proofs.lemmas.Result.{on_err_weaker, on_ok_weaker}
 use Rattle.mig_policy.specs.PairMaps.{pairs_in}
 use Rattle.mig_policy.proofs.PairTrees.{empty_len}
 use Rattle.mig_policy.specs.declared.pair_map.PairsAnswer.TheVariants.{TooMany}
+use Rattle.mig_emulators.specs.Emulators.{stores_seen}
+use Rattle.mig_emulators.proofs.Begun.{after_error, none_added, store_begun}
 use Rattle.mig_emulators.proofs.Stores.{no_pairs, store_in, store_found, store_set}
 use Rattle.mig_emulators.proofs.emulators.Emulators.add_pairs.Goals as goal
 
@@ -49,7 +51,7 @@ returns-in-Some-clause-ok c =
     let at_key = sym c.get_mut.ensures.value ∙ ap option_copied_mut c.in-Some.is in
     let here = store_found es c.self.inside.contexts c.args.self.now c.self.view_is c.args.key _ at_key in
     let new = c.add.new.self in
-    on_ok_weaker c.add.result (λ is. store_set es c.self.inside.contexts c.args.self.now c.self.view_is c.args.key (c.get_mut.follows.lender new).entries c.in-Some.store.now new c.args.bytes.now ((c.get_mut.follows.holds new).3 (ap is_some at_key)).0 here is
+    on_ok_weaker c.add.result (λ is. store_set es c.self.inside.contexts c.args.self.now c.self.view_is c.args.key (c.get_mut.follows.lender new).entries c.in-Some.store.now new (pairs_in c.args.bytes.now) ((c.get_mut.follows.holds new).3 (ap is_some at_key)).0 here is
     (some_pairs c.args.bytes.now c.requires.faultless (sym c.is_empty.ensures ∙ c.if-is_empty.false))) c.add.ensures.ok
 
 pub returns-in-Some-clause-fits : goal.returns-in-Some-clause-fits
@@ -78,7 +80,7 @@ returns-in-Ok-clause-ok c =
     let es = c.self.inside.stores.entries in
     let at_key = sym c.get_mut.ensures.value ∙ ap option_copied_mut c.in_default.is in
     let here = store_found es c.self.inside.contexts c.args.self.now c.self.view_is c.args.key _ at_key in
-    store_set es c.self.inside.contexts c.args.self.now c.self.view_is c.args.key c.insert.new.self.entries maps.empty c.add-2.new.self c.args.bytes.now (λ q. c.in-Ok.ensures.updates.0 q ∙ ap (λ (m : BTreeMap PartKey PairMap Global). cond (is_at (part_cmp c.args.key) q) (Some c.add-2.new.self) (store_in m.entries q)) c.get_mut.follows.holds-at-none) here
+    store_set es c.self.inside.contexts c.args.self.now c.self.view_is c.args.key c.insert.new.self.entries maps.empty c.add-2.new.self (pairs_in c.args.bytes.now) (λ q. c.in-Ok.ensures.updates.0 q ∙ ap (λ (m : BTreeMap PartKey PairMap Global). cond (is_at (part_cmp c.args.key) q) (Some c.add-2.new.self) (store_in m.entries q)) c.get_mut.follows.holds-at-none) here
     (c.in_ok-add.ensures.ok ∙ ap (λ (m : PairMap). put_pairs m (pairs_in c.args.bytes.now)) c.new-store.ensures)
     (some_pairs c.args.bytes.now c.requires.faultless (sym c.is_empty.ensures ∙ c.if-is_empty.false))
 
@@ -90,3 +92,15 @@ returns-in-Ok-clause-fits c =
     let is = c.in_ok-add.ensures.ok in
     let fits = c.in_ok-add.ensures.fits in
     rw here (subst (λ (m : PairMap). length (text_of_map m) ≤ 16777216) (is ∙ ap (λ (m : PairMap). put_pairs m (pairs_in c.args.bytes.now)) c.new-store.ensures) fits)
+
+pub returns-in-Some-clause-err : goal.returns-in-Some-clause-err
+returns-in-Some-clause-err c =
+    let es = c.self.inside.stores.entries in
+    let at_key = sym c.get_mut.ensures.value ∙ ap option_copied_mut c.in-Some.is in
+    let new = c.add.new.self in
+    on_err_weaker c.add.result (store_begun es c.self.inside.contexts c.args.self.now c.self.view_is c.args.key (c.get_mut.follows.lender new).entries c.in-Some.store.now new (pairs_in c.args.bytes.now) ((c.get_mut.follows.holds new).3 (ap is_some at_key)).0 at_key) c.add.ensures.err
+
+pub returns-in_err-add-clause-err : goal.returns-in_err-add-clause-err
+returns-in_err-add-clause-err c =
+    let unchanged = ap (λ (m : BTreeMap PartKey PairMap Global). record { stores = stores_seen m.entries; contexts = c.self.inside.contexts }) c.get_mut.follows.holds-at-none ∙ c.self.view_is in
+    after_error c.from_residual.result (none_added c.args.self.now _ c.args.key (pairs_in c.args.bytes.now) unchanged)
