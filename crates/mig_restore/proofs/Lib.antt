@@ -11,3 +11,4 @@ pub mod Meaning
 pub mod Parts
 pub mod AcceptedWhole
 pub mod PartsInOrder
+pub mod Begun

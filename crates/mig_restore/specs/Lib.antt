@@ -1,3 +1,4 @@
+pub mod Begun
 pub mod Judging
 pub mod Mean
 pub mod Record

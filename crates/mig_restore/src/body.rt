@@ -1,4 +1,4 @@
-ghost use Rattle.std.specs.Prelude.{◌≡◌, ◌≤◌, ◌^◌, ◌*◌, IfOk, OnOk, IsErrOf, length, vec_len, true, false, None, Some};
+ghost use Rattle.std.specs.Prelude.{◌≡◌, ◌≤◌, ◌^◌, ◌*◌, IfOk, OnOk, OnErr, [], ◌∷◌, IsErrOf, length, vec_len, true, false, None, Some};
 ghost use Rattle.std.specs.List.{All, AllByRecursion};
 ghost use Rattle.mig_bytes.specs.Bytes.{AreBytes};
 ghost use Rattle.mig_bytes.specs.Faults.{RisesOnReadFault};
@@ -16,6 +16,7 @@ ghost use Rattle.mig_records.specs.Words.{words as words_in};
 ghost use Rattle.mig_headers.specs.declared.kind.Kind.TheVariants.{Pv};
 ghost use Rattle.mig_pagetypes.specs.FrameWords.{word_pfn};
 ghost use Rattle.mig_pagetypes.specs.PageTypes.{level_of};
+ghost use Rattle.mig_restore.specs.Begun.{AreEntriesBegun, AreEntriesSet};
 ghost use Rattle.mig_restore.specs.Mean.{meant_type, put_entry, put_entries, put_content, Grows};
 ghost use Rattle.mig_restore.specs.Judging.{sets_at, info_at, p2m_at, words_at, type_in_word, fault_of_level, with_places, entry_at, pages_at, typed_at, body_at};
 ghost use Rattle.mig_restore.specs.Record.Content.{Nothing};
@@ -227,6 +228,8 @@ fn take_entry<S: Source>(
     ensures grown { OnOk result (Grows guest.old guest.new) }
     ensures top { OnOk result (guest.new.top ≡ guest.old.top) }
     ensures faults { RisesOnReadFault (S.faults src.old) (S.faults src.new) result }
+    ensures set { OnOk result (AreEntriesSet guest.old guest.new (word ∷ [])) }
+    ensures err { OnErr result (guest.new ≡ guest.old) }
 {
     let in_stream = type_in(word);
     let kind = meant(guest.kind(), in_stream);
@@ -249,7 +252,8 @@ fn take_entry<S: Source>(
 }
 
 /// Takes the pages of a PAGE_DATA whose words these are, one for each word of a type with data, and sets the frame of each
-/// word as its page comes. A table of a PV guest is judged before it is set. What was set before a fault stays.
+/// word as its page comes. A table of a PV guest is judged before it is set. Behind an error the frames of the first words
+/// are set, and all else is as it was.
 pub fn take_entries<S: Source>(
     src: &mut S,
     list: &[u64],
@@ -261,6 +265,7 @@ pub fn take_entries<S: Source>(
         (S.left src.old) (S.left src.new) (each (entry_at guest.old.kind guest.old.top) (with_places 0 list.now)) result }
     ensures grown { OnOk result (Grows guest.old guest.new) }
     ensures faults { RisesOnReadFault (S.faults src.old) (S.faults src.new) result }
+    ensures err { OnErr result (AreEntriesBegun guest.old guest.new list.now) }
 {
     for place in 0..list.len() {
         take_entry(src, place as u32, list[place], guest)?;

@@ -2,6 +2,7 @@ use Rattle.mig_restore.proofs.Common.{◌≡◌, ◌+◌, ◌<◌, ◌≤◌, �
 use Rattle.std.proofs.lemmas.List.Elements.{All-get_or}
 use Rattle.std.proofs.lemmas.List.{take_all}
 use Rattle.mig_bytes.specs.Judged.{each}
+use Rattle.mig_restore.proofs.Begun.{none_set, one_more_set, set_so_far}
 use Rattle.mig_restore.proofs.Growth.{grows_not, grows_on}
 use Rattle.mig_restore.proofs.Meaning.{one_more_entry}
 use Rattle.mig_restore.proofs.Batches.{places_len, place_at}
@@ -22,7 +23,7 @@ within place list lt = subst (λ n. place < n) (sym (places_len 0 list)) lt
 
 pub loop-place-init : goal.loop-place-init
 unfolding each
-loop-place-init g c = record { read = done _ _ _ tt [] (λ i. refl) refl; grown = grows_not c.args.guest.now; top = refl; quiet = search rules }
+loop-place-init g c = record { read = done _ _ _ tt [] (λ i. refl) refl; set = none_set c.args.guest.now; grown = grows_not c.args.guest.now; top = refl; quiet = search rules }
 
 pub take_entry-requires : goal.take_entry-requires
 take_entry-requires g c =
@@ -35,11 +36,15 @@ returns-in_err-take_entry-clause-read g c =
     each_ends (entry_at c.args.guest.now.kind c.args.guest.now.top) _ _ _ _ _ _ (with_places 0 c.args.list.now) c.loop-place.place (0, 0) tt c.in_err-take_entry.field-0.0 c.from_residual.result (within c.loop-place.place c.args.list.now c.loop-place-test.true) c.loop-place.invariant.read
     (entry_here _ _ _ _ c.args.guest.now.kind _ c.args.guest.now.top _ c.loop-place.place c.args.list.now c.loop-place.invariant.grown.kind c.loop-place.invariant.top c.loop-place-test.true c.in_err-take_entry.ensures.read) (search rules)
 
+pub returns-in_err-take_entry-clause-err : goal.returns-in_err-take_entry-clause-err
+returns-in_err-take_entry-clause-err g c = set_so_far c.from_residual.result c.args.guest.now c.loop-place.guest _ c.args.list.now c.loop-place.place c.loop-place.invariant.set c.in_err-take_entry.ensures.err
+
 pub loop-place-preserved : goal.loop-place-preserved
 loop-place-preserved g c = record {
   read = each_step (entry_at c.args.guest.now.kind c.args.guest.now.top) _ _ _ _ _ _ (with_places 0 c.args.list.now) c.loop-place.place (0, 0) tt _ tt (within c.loop-place.place c.args.list.now c.loop-place-test.true) c.loop-place.invariant.read
       (entry_here _ _ _ _ c.args.guest.now.kind _ c.args.guest.now.top _ c.loop-place.place c.args.list.now c.loop-place.invariant.grown.kind c.loop-place.invariant.top c.loop-place-test.true c.in_ok-take_entry.ensures.read)
       (λ es e r q. one_more_entry _ _ _ es e r q);
+  set = one_more_set c.args.guest.now _ _ c.args.list.now c.loop-place.place c.loop-place-test.true c.loop-place.invariant.set c.in_ok-take_entry.ensures.set;
   grown = grows_on c.args.guest.now _ _ c.loop-place.invariant.grown c.in_ok-take_entry.ensures.grown;
   top = search rules;
   quiet = search rules;

@@ -1,5 +1,6 @@
 use Rattle.mig_restore.proofs.Common.{◌≡◌, ◌<◌, ℕ, pfn_limit, IsInside, IsWithin, entry, List, Option, Some, None, Err, Ok, true, false, length, refl, ap, sym, subst, ◌∙◌, rules, AreBytes, none-some, same_Some, part, Gives, Passes, done, Cause, Truncated, Kind, GuestOf, PageType, level_of, word_pfn, word_has_data, FrameEntry, type_in_word, fault_of_level, fault_of_page, meant_type, entry_at}
 use Rattle.mig_bytes.specs.declared.part.Stop.TheVariants.{Refused}
+use Rattle.mig_restore.proofs.Begun.{one_set}
 use Rattle.mig_restore.proofs.Growth.{word_inside, grows_frame}
 use Rattle.mig_restore.proofs.Meaning.{entry_set}
 use Rattle.mig_restore.proofs.Batches.{carries, level_within}
@@ -70,3 +71,9 @@ returns-in-Ok-set_frame-clause-grown g c =
       all = λ bytes e. subst AreBytes (same_Some page bytes e) c.are_bytes.ensures;
       entries = λ level bytes lev has slot lt. subst (λ b. IsWithin c.args.guest.now.top (entry level b slot)) (same_Some page bytes has) ((level_within c.args.guest.now.top c.args.place (level_of c.meant-kind.result) page).0 fine level lev slot lt);
     }) c.in-Ok-set_frame.ensures.ok
+
+pub returns-in-Ok-clause-set : goal.returns-in-Ok-clause-set
+returns-in-Ok-clause-set g c = one_set c.args.guest.now _ c.args.word None (entry_set c.args.guest.now _ c.args.word _ _ _ c.pfn_in.ensures (search rules) c.in-Ok.ensures.ok)
+
+pub returns-in-Ok-set_frame-clause-set : goal.returns-in-Ok-set_frame-clause-set
+returns-in-Ok-set_frame-clause-set g c = one_set c.args.guest.now _ c.args.word (Some c.take_part.new.buf) (entry_set c.args.guest.now _ c.args.word _ _ _ c.pfn_in-2.ensures (search rules) c.in-Ok-set_frame.ensures.ok)
