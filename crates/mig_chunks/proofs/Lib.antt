@@ -1,6 +1,8 @@
 pub mod Common
 pub mod BatchFaults
+pub mod BatchLaws
 pub mod ChunkNumbers
+pub mod Digits
 pub mod Entries
 pub mod Fields
 pub mod KindNumbers

@@ -1,5 +1,5 @@
 -- The words of a batch of pages in a legacy stream (Xen's xg_save_restore.h), and what is wrong with them.
-use Rattle.std.specs.Prelude.{◌≡◌, ℕ, ◌^◌, Bool, false, List, [], ◌∷◌, Option, Some, None, ◌&&◌, ◌==◌, ◌+◌, ◌*◌, nat_le, slice_index, if◌then◌else◌}
+use Rattle.std.specs.Prelude.{◌≡◌, ◌≤◌, ◌<◌, ◌↔◌, ◌⊎◌, ℕ, ◌^◌, Bool, false, List, [], ◌∷◌, length, Option, Some, None, ◌&&◌, ◌==◌, ◌+◌, ◌*◌, nat_le, slice_index, if◌then◌else◌}
 use Rattle.std.specs.List.{All, list_any, flat_map}
 use Rattle.mig_headers.specs.Rows.{first_fault}
 use Rattle.mig_headers.specs.declared.legacy_fault.LegacyCause.{LegacyCause}
@@ -31,6 +31,24 @@ IsBatchFault ws None = All (λ w. (is_reserved w ≡ false) × (is_high w ≡ fa
 IsBatchFault ws (Some (BadPageType entry n)) = IsFirst is_reserved ws entry × (n ≡ legacy_type (slice_index ws entry))
 IsBatchFault ws (Some (WordHigh entry)) = IsFirst is_high ws entry × All (λ w. is_reserved w ≡ false) ws
 IsBatchFault ws (Some _) = ⊥
+
+-- ---- a batch in numbers
+
+-- no page type has the numbers from 5 to 8
+abbrev pub IsTyped : ℕ → Type 0
+IsTyped w = (legacy_type w < 5) ⊎ (8 < legacy_type w)
+
+-- the first word of 2^32 or more stands here
+pub record IsFirstHigh (ws : List ℕ) (entry : ℕ) : Type 0 where
+  pub within : entry < length ws
+  pub high : 2 ^ 32 ≤ slice_index ws entry
+  pub before : (k : ℕ) → k < entry → slice_index ws k < 2 ^ 32
+
+-- a batch has no fault exactly where each of its words has a type and is below 2^32; and a word is told to be high exactly
+-- where it is the first of 2^32 or more, and each word has a type
+pub record BatchesAreJudged (ws : List ℕ) : Type 0 where
+  pub faultless : (fault_of_batch ws ≡ None) ↔ All (λ w. IsTyped w × (w < 2 ^ 32)) ws
+  pub high : (entry : ℕ) → (fault_of_batch ws ≡ Some (WordHigh entry)) ↔ (All IsTyped ws × IsFirstHigh ws entry)
 
 -- ---- the frames of a batch
 
