@@ -103,7 +103,7 @@ module _ (frames : FrameMap) (machines : MachineMap) (pfn : ℕ) (f : FrameOf) (
       by true o m = refl
       by false o m = refl
 
-  matched_put : AreMatched frames machines → AreMatched frames_more machines_more
+  pub matched_put : AreMatched frames machines → AreMatched frames_more machines_more
   matched_put matched q = ap is_some (maps.get-insert nat_cmp_total machines pfn machine q) ∙ by (eq_by_cmp nat_cmp q pfn) ∙ sym (ap is_some (maps.get-insert nat_cmp_total frames pfn f q))
     where
       by : (b : Bool) → is_some (cond b (Some machine) (maps.get machines q)) ≡ is_some (cond b (Some f) (maps.get frames q))

@@ -13,3 +13,4 @@ pub mod Ranks
 pub mod RestoredHosts
 pub mod SeenGuests
 pub mod SoundHosts
+pub mod HostChanges

@@ -28,9 +28,9 @@ use std::marker::Model;
 pub struct Host {
     kind: Kind,
     width: u64,
-    frames: FrameStore,
-    machines: MachineFrames,
-    parts: Parts,
+    pub(crate) frames: FrameStore,
+    pub(crate) machines: MachineFrames,
+    pub(crate) parts: Parts,
 }
 
 impl Model for Host {

@@ -1,4 +1,4 @@
-ghost use Rattle.std.specs.Prelude.{◌≡◌, ℕ, ◌+◌, ◌≤◌, ◌<◌, IsOk, OnOk, OnErr, IfOk, IfSome, IfNone, Some, None};
+ghost use Rattle.std.specs.Prelude.{◌≡◌, ℕ, ◌+◌, ◌≤◌, ◌<◌, IsOk, IsSome, OnOk, OnErr, IfOk, IfSome, IfNone, Some, None};
 ghost use Rattle.std.specs.FinMap as maps;
 ghost use Rattle.mig_pagetypes.specs.Limits.{pfn_limit};
 ghost use Rattle.mig_guest.specs.Hosts.{machine_limit};
@@ -6,9 +6,9 @@ ghost use Rattle.mig_host.specs.HostView.{pfn_of_machine_in};
 
 use mig_bytes::Memory;
 use mig_index::Index;
+use mig_m2p::M2p;
 use mig_pvtables::Frames;
-use std::alloc::{AllocError, Global};
-use std::collections::HashMap;
+use std::alloc::Global;
 use std::marker::Model;
 
 /// Machine frames are below this.
@@ -20,13 +20,13 @@ pub(crate) struct MachineFrames {
     /// The machine frame of each PFN.
     there: Index,
     /// The PFN of each machine frame.
-    back: HashMap<u64, u64>,
+    back: M2p,
     spare: usize,
 }
 
 impl Model for MachineFrames {
-    ghost use Rattle.std.specs.Prelude.{ℕ, ◌≤◌, nat_eq};
-    ghost use Rattle.std.specs.HashMap as hash;
+    ghost use Rattle.std.specs.Prelude.{◌≤◌};
+    ghost use Rattle.std.specs.FinMap as maps;
     ghost use Rattle.mig_host.specs.HostView.{MachinesAndSpare, machines_code, AreInverse, AreBelowLimit};
 
     ghost Value = { MachinesAndSpare };
@@ -35,32 +35,28 @@ impl Model for MachineFrames {
 
     ghost view = { λ f. record { machines = f.there.values; spare = f.spare } };
 
-    ghost invariant = { λ f. AreInverse f.there.values (hash.get nat_eq f.back) × (f.spare ≤ f.there.spare) × (f.spare ≤ hash.spare f.back) × AreBelowLimit f.there.values };
+    ghost invariant = { λ f. AreInverse f.there.values (maps.get f.back.values) × (f.spare ≤ f.there.spare) × (f.spare ≤ f.back.spare) × AreBelowLimit f.there.values };
 }
 
 impl MachineFrames {
     /// No machine frames; it has taken no memory.
-    #[tactic(auto, using(crate::proofs::MachineMaps::inverse_empty, crate::proofs::MachineMaps::below_empty))]
     pub(crate) fn new(alloc: Global) -> MachineFrames
         ensures machines { result.machines ≡ maps.empty }
         ensures spare { result.spare ≡ 0 }
     {
         MachineFrames {
             there: Index::new(alloc),
-            back: HashMap::new(alloc),
+            back: M2p::new(alloc),
             spare: 0,
         }
     }
 
     /// No machine frames yet. Where the map back is made for as many as will come, it isn't copied as it grows.
-    #[tactic(auto, using(crate::proofs::MachineMaps::inverse_empty, crate::proofs::MachineMaps::below_empty))]
     pub(crate) fn with_capacity(alloc: Global, frames: usize) -> Result<MachineFrames, Memory>
         ensures machines { IfOk result (λ f. f.machines ≡ maps.empty) }
         ensures spare { IfOk result (λ f. f.spare ≡ 0) }
     {
-        let Ok(back) = HashMap::with_capacity(alloc, frames) else {
-            return Err(Memory);
-        };
+        let back = M2p::with_capacity(alloc, frames)?;
         Ok(MachineFrames {
             there: Index::new(alloc),
             back,
@@ -83,7 +79,7 @@ impl MachineFrames {
         ensures some { IfSome result (λ pfn. maps.get self.now.machines pfn ≡ Some machine) }
         ensures none { IfNone result ((pfn : ℕ) → maps.get self.now.machines pfn ≡ Some machine → ⊥) }
     {
-        self.back.get(&machine).copied()
+        self.back.get(machine)
     }
 
     /// Makes ready room for at least `more` machine frames, those included that are spare already.
@@ -97,13 +93,9 @@ impl MachineFrames {
             return Ok(());
         }
         self.there.reserve(more)?;
-        match self.back.reserve(more) {
-            Ok(()) => {
-                self.spare = more;
-                Ok(())
-            }
-            Err(AllocError) => Err(Memory),
-        }
+        self.back.reserve(more)?;
+        self.spare = more;
+        Ok(())
     }
 
     /// Gives a PFN a machine frame that no other has, and takes no memory.
@@ -118,7 +110,7 @@ impl MachineFrames {
         ensures taken { self.old.spare ≤ self.new.spare + 1 }
     {
         self.there.put_spare(pfn, machine);
-        let _ = self.back.insert(machine, pfn);
+        self.back.put_spare(machine, pfn);
         self.spare -= 1;
     }
 
@@ -138,6 +130,22 @@ impl MachineFrames {
         Ok(())
     }
 
+    /// Gives a PFN that has a machine frame another one, which no other has, and takes no memory.
+    pub(crate) fn replace(&mut self, pfn: u64, machine: u64)
+        requires there { IsSome (maps.get self.old.machines pfn) }
+        requires some { 0 < machine }
+        requires below { machine < machine_limit }
+        requires unused { (other : ℕ) → maps.get self.old.machines other ≡ Some machine → ⊥ }
+        ensures machines { self.new.machines ≡ maps.insert self.old.machines pfn machine }
+        ensures spare { self.old.spare ≤ self.new.spare }
+    {
+        if let Some(old) = self.there.get(pfn) {
+            self.back.remove(old);
+            self.back.put_spare(machine, pfn);
+            self.there.put_spare(pfn, machine);
+        }
+    }
+
     /// Takes the machine frame of this PFN away, where it has one.
     pub(crate) fn remove(&mut self, pfn: u64)
         ensures machines { self.new.machines ≡ maps.remove self.old.machines pfn }
@@ -145,7 +153,7 @@ impl MachineFrames {
     {
         if let Some(machine) = self.there.get(pfn) {
             self.there.remove(pfn);
-            self.back.remove(&machine);
+            self.back.remove(machine);
         }
     }
 }
