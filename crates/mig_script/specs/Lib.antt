@@ -1,0 +1,4 @@
+pub mod ScriptLines
+pub mod ScriptFields
+pub mod Scripts
+pub mod ScriptAnswers

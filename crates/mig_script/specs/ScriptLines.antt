@@ -1,0 +1,73 @@
+-- The lines of a script: what each says, and how it is written. Numbers are written in decimal digits without leading zeros,
+-- bytes in hexadecimal digits of either case, and one space stands between two fields.
+use Rattle.std.specs.Prelude.{◌≡◌, ℕ, ◌<◌, ◌≤◌, ◌^◌, ◌==◌, List, [], ◌∷◌, length, codes, decimal, Ok}
+use Rattle.std.specs.List.{slice_split}
+use Rattle.hex.specs.Hex.{decode_of}
+use Rattle.mig_script.specs.declared.script.Line.{Line}
+use Rattle.mig_script.specs.declared.script.Line.TheVariants as lines
+
+-- what a line says
+pub data LineOf : Type 0 where
+  Write : ℕ → ℕ → List ℕ → LineOf  -- a frame number, an offset in its page, and bytes
+  Retype : ℕ → ℕ → LineOf  -- a frame number, and the number of a type
+  Add : ℕ → ℕ → LineOf  -- a frame number and a machine frame
+  Remove : ℕ → LineOf  -- a frame number
+  Exchange : ℕ → ℕ → LineOf  -- a frame number and a machine frame
+  Put : ℕ → ℕ → ℕ → List ℕ → LineOf  -- the code and the two keys of a part, and bytes
+  Dot : LineOf  -- a group ends here
+
+-- what a line that was read says
+abbrev pub line_said : Line → LineOf
+line_said (lines.Write pfn at bytes) = Write pfn at bytes.items
+line_said (lines.Retype pfn kind) = Retype pfn kind
+line_said (lines.Add pfn mfn) = Add pfn mfn
+line_said (lines.Remove pfn) = Remove pfn
+line_said (lines.Exchange pfn mfn) = Exchange pfn mfn
+line_said (lines.Put code first second bytes) = Put code first second bytes.items
+line_said lines.Dot = Dot
+
+-- the fields of a text, between its spaces
+abbrev pub fields_in : List ℕ → List (List ℕ)
+fields_in text = slice_split (λ b. b == 32) text
+
+-- what stands in front of its arguments
+abbrev pub letter_of : LineOf → List ℕ
+letter_of (Write pfn at bytes) = codes "w"
+letter_of (Retype pfn type) = codes "t"
+letter_of (Add pfn mfn) = codes "a"
+letter_of (Remove pfn) = codes "r"
+letter_of (Exchange pfn mfn) = codes "x"
+letter_of (Put code first second bytes) = codes "p"
+letter_of Dot = codes "."
+
+-- a field is this number, which has 64 bits
+pub record IsNumber (field : List ℕ) (n : ℕ) : Type 0 where
+  pub small : n < 2 ^ 64
+  pub digits : field ≡ decimal n
+
+-- a field is these bytes, of which there is one at least, two hexadecimal digits each
+pub record IsHex (field bytes : List ℕ) : Type 0 where
+  pub some : 2 ≤ length field
+  pub digits : decode_of field ≡ Ok bytes
+
+-- fields are these numbers, and then these fields
+abbrev pub AreNumbers : List (List ℕ) → List ℕ → List (List ℕ) → Type 0
+AreNumbers fields [] others = fields ≡ others
+AreNumbers [] (n ∷ ns) others = ⊥
+AreNumbers (field ∷ fields) (n ∷ ns) others = IsNumber field n × AreNumbers fields ns others
+
+-- fields are the arguments of the line
+abbrev pub AreArguments : List (List ℕ) → LineOf → Type 0
+AreArguments fields (Write pfn at bytes) = (hex : List ℕ) × AreNumbers fields (pfn ∷ at ∷ []) (hex ∷ []) × IsHex hex bytes
+AreArguments fields (Retype pfn type) = AreNumbers fields (pfn ∷ type ∷ []) []
+AreArguments fields (Add pfn mfn) = AreNumbers fields (pfn ∷ mfn ∷ []) []
+AreArguments fields (Remove pfn) = AreNumbers fields (pfn ∷ []) []
+AreArguments fields (Exchange pfn mfn) = AreNumbers fields (pfn ∷ mfn ∷ []) []
+AreArguments fields (Put code first second bytes) = (hex : List ℕ) × AreNumbers fields (code ∷ first ∷ second ∷ []) (hex ∷ []) × IsHex hex bytes
+AreArguments fields Dot = fields ≡ []
+
+-- a text is this line: its name, and its arguments
+pub record IsScriptLine (text : List ℕ) (line : LineOf) : Type 0 where
+  pub arguments : List (List ℕ)
+  pub fields : fields_in text ≡ letter_of line ∷ arguments
+  pub are : AreArguments arguments line
