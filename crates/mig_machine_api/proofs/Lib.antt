@@ -1,2 +1,3 @@
 mod Members
+mod Prints
 mod RoundsRead

@@ -1,16 +1,13 @@
 -- A standing machine's states are valid, and its log is empty.
-use Rattle.std.proofs.Common.{◌≡◌, ℕ, ◌<◌, ◌/◌, ◌%◌, List, [], ◌∷◌, ◌++◌, get_or, Option, Some, None, refl, sym, ap, subst, ◌∙◌, nat_eq, false}
-use mathlib.Core.Path.{fun_ext}
+use Rattle.std.proofs.Common.{◌≡◌, ℕ, ◌<◌, List, [], ◌∷◌, ◌++◌, Option, Some, None, refl, sym, ap, subst, ◌∙◌}
 use Rattle.std.specs.Prelude.{IfSome}
 use Rattle.std.specs.Option.{option_map}
 use Rattle.std.specs.FinMap as maps
-use Rattle.std.specs.Int.{bit_at}
 use Rattle.std.proofs.lemmas.List.Sums.{fold-append}
-use Rattle.std.proofs.lemmas.Nat.Bits.{bit_at-zero}
 use Rattle.mig_guest.specs.Hosts.{HostOf, HostFrame, IsValid}
 use Rattle.mig_machine_api.specs.MachineCalls.{LogTaken}
 use Rattle.mig_machine_api.specs.MachineStates.{IsValidState}
-use Rattle.mig_machine_api.specs.Pfns.{Pfns, no_pfns, pfns_of_words}
+use Rattle.mig_machine_api.specs.Pfns.{Pfns, no_pfns}
 use Rattle.mig_machine_tests.specs.Standing.{Asked, and_then, asked, nothing_yet, standing}
 use Rattle.mig_machine_tests.specs.declared.standing.Call.{Call}
 use Rattle.mig_machine_tests.specs.declared.standing.Call.TheVariants as calls
@@ -52,9 +49,3 @@ pub took : (log : Pfns) (g h : HostOf) (cs ds : List Call) → log ≡ no_pfns �
 took log g h cs ds empty e f =
     subst (λ (l : Pfns). LogTaken l (standing g (asked cs)) (standing h (asked ds))) (sym empty)
     (took_so g h (asked cs) (asked ds) e (ap asked f ∙ fold-append and_then nothing_yet cs (calls.Log ∷ [])))
-
-no_bit : (word i : ℕ) → word ≡ 0 → nat_eq (bit_at word i) 1 ≡ false
-no_bit word i e = ap (λ (w : ℕ). nat_eq (bit_at w i) 1) e ∙ ap (λ (b : ℕ). nat_eq b 1) (bit_at-zero i)
-
-pub cleared : (words : List ℕ) → ((k : ℕ) → get_or words k 0 ≡ 0) → pfns_of_words words ≡ no_pfns
-cleared words each = fun_ext (λ p. no_bit (get_or words (p / 64) 0) (p % 64) (each (p / 64)))

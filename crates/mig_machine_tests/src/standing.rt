@@ -39,7 +39,6 @@ fn is_fixed(code: u32) -> bool
 }
 
 /// No number is in the log.
-#[tactic(auto, using(crate::proofs::StandingStates::cleared))]
 fn clear(bits: &mut [u64])
     ensures { pfns_of_words bits.new ≡ no_pfns }
 {
