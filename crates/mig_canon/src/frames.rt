@@ -29,7 +29,7 @@ fn one_page(page: &[u8; 4096]) -> u32
 }
 
 /// How many pages come with a frame: 1 or 0.
-fn pages_with(page: Option<&[u8; 4096]>) -> u32
+pub fn pages_with(page: Option<&[u8; 4096]>) -> u32
     ensures len { length (unwrap_or (option_copied page.entry) []) ≡ 4096 * result }
     ensures most { result ≤ 1 }
 {
@@ -40,7 +40,7 @@ fn pages_with(page: Option<&[u8; 4096]>) -> u32
 }
 
 /// Puts the page, if there is one, behind so many pages; answers how many came: 1 or 0.
-fn put_page(buffer: &mut [u8], pages: u32, page: Option<&[u8; 4096]>) -> u32
+pub fn put_page(buffer: &mut [u8], pages: u32, page: Option<&[u8; 4096]>) -> u32
     requires room { 4096 * (pages + 1) ≤ length buffer.old }
     ensures bytes { take (4096 * (pages + result)) buffer.new ≡ take (4096 * pages) buffer.old ++ unwrap_or (option_copied page.entry) [] }
     ensures room { length buffer.new ≡ length buffer.old }
@@ -57,7 +57,7 @@ fn put_page(buffer: &mut [u8], pages: u32, page: Option<&[u8; 4096]>) -> u32
 }
 
 /// Room for the words of a batch.
-fn no_words() -> [u8; 8192] {
+pub fn no_words() -> [u8; 8192] {
     [0; 8192]
 }
 
@@ -86,7 +86,7 @@ fn fill_words(words: &mut [u8], guest: &Guest, start: u64, count: u32) -> u32
 }
 
 /// Room for the pages of one write.
-fn no_pages() -> [u8; 16384] {
+pub fn no_pages() -> [u8; 16384] {
     [0; 16384]
 }
 

@@ -50,7 +50,7 @@ fn write_zeros<K: Sink>(sink: &mut K, count: usize) -> Result<(), WriteFailed>
 }
 
 /// Appends a count, and 4 zero bytes.
-pub(crate) fn write_count<K: Sink>(sink: &mut K, count: u32) -> Result<(), WriteFailed>
+pub fn write_count<K: Sink>(sink: &mut K, count: u32) -> Result<(), WriteFailed>
     ensures bytes { Puts (little_bytes 4 count ++ replicate 4 0) (K.written sink.old) (K.written sink.new) result }
     ensures cause { HasCause (K.faults sink.old) (K.faults sink.new) result }
 {

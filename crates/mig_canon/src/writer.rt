@@ -19,19 +19,27 @@ const END: u32 = 0;
 /// The type of STATIC_DATA_END.
 const STATIC_DATA_END: u32 = 0x10;
 
-/// Appends the headers of a canonical image.
+/// Appends the headers of a canonical image of a guest of this kind.
 #[tactic(auto, using(mig_bytes::proofs::Texts::puts_then))]
-pub fn write_headers<K: Sink>(sink: &mut K, guest: &Guest) -> Result<(), WriteFailed>
-    ensures bytes { Puts (headers guest.now.kind) (K.written sink.old) (K.written sink.new) result }
+pub fn write_headers<K: Sink>(sink: &mut K, kind: Kind) -> Result<(), WriteFailed>
+    ensures bytes { Puts (headers kind) (K.written sink.old) (K.written sink.new) result }
     ensures cause { HasCause (K.faults sink.old) (K.faults sink.new) result }
 {
     let domain = DomainHeader {
-        kind: guest.kind(),
+        kind,
         major: 0,
         minor: 1,
     };
     put_all(sink, &ImageHeader { version: 3 }.encode())?;
     put_all(sink, &domain.encode())
+}
+
+/// Appends the headers of the guest's canonical image.
+fn write_opening<K: Sink>(sink: &mut K, guest: &Guest) -> Result<(), WriteFailed>
+    ensures bytes { Puts (headers guest.now.kind) (K.written sink.old) (K.written sink.new) result }
+    ensures cause { HasCause (K.faults sink.old) (K.faults sink.new) result }
+{
+    write_headers(sink, guest.kind())
 }
 
 /// Appends the records of the parts of these codes, one code after another.
@@ -85,7 +93,7 @@ pub fn write_canon<K: Sink>(sink: &mut K, guest: &Guest) -> Result<(), WriteFail
     ensures bytes { Puts (canon guest.now) (K.written sink.old) (K.written sink.new) result }
     ensures cause { HasCause (K.faults sink.old) (K.faults sink.new) result }
 {
-    write_headers(sink, guest)?;
+    write_opening(sink, guest)?;
     write_info(sink, guest)?;
     write_static(sink, guest)?;
     write_p2m_frames(sink, guest)?;
