@@ -1,0 +1,5 @@
+use Rattle.mig_pagesink.proofs.Joins.{behind_anyway}
+use Rattle.mig_pagesink.proofs.law.sent_entries_are_little_behind.Goals as goal
+
+pub returns-clause-behind : goal.returns-clause-behind
+returns-clause-behind c = behind_anyway
