@@ -1,0 +1,4 @@
+mod Fronts
+mod Images
+pub mod Libxl
+pub mod Written
