@@ -1,5 +1,5 @@
 -- Records that were written join, and so does a part of one more.
-use Rattle.std.proofs.Common.{◌≡◌, ℕ, List, [], ◌∷◌, ◌++◌, take, Option, Result, Ok, Err, sym, ap, subst, ◌∙◌, arith, append_assoc, append-nil}
+use Rattle.std.proofs.Common.{◌≡◌, ℕ, List, [], ◌∷◌, ◌++◌, take, Option, Result, Ok, Err, OnErr, sym, ap, subst, ◌∙◌, arith, append_assoc, append-nil}
 use Rattle.std.proofs.lemmas.Grind.{flat_map-append}
 use Rattle.std.specs.Io.KnownBytes.{Appends}
 use Rattle.std.proofs.KnownBytes.{Appends-trans, Appends-nil}
@@ -7,7 +7,7 @@ use Rattle.mig_bytes.specs.declared.failure.WriteFailed.{WriteFailed}
 use Rattle.mig_bytes.specs.Bytes.{AppendsPart, Puts}
 use Rattle.mig_records.specs.Records.{head_of, spelled}
 use Rattle.mig_canon.specs.Canon.{Record, text_of}
-use Rattle.mig_pagesink.specs.Written.{IsShortRecord, IsRecordWithin, AreRecordsWithin, WroteAll, WroteSome, JoinsRecords, LeavesUnended}
+use Rattle.mig_pagesink.specs.Written.{IsShortRecord, IsRecordWithin, AreRecordsWithin, WroteAll, WroteSome, JoinsRecords, LeavesPart}
 
 -- ---- one record more
 
@@ -41,7 +41,7 @@ record_joins r old new (Err e) is p = λ start rs w. record_fails r start old ne
 end_short : IsShortRecord (0, [])
 end_short = record { type = omega arith; len = omega arith }
 
-pub end_fails : {X : Type 0} (old new : Option (List ℕ)) (result : Result X WriteFailed) → Puts (spelled 0 []) old new result → LeavesUnended old new result
+pub end_fails : {X : Type 0} (old new : Option (List ℕ)) (result : Result X WriteFailed) → Puts (spelled 0 []) old new result → OnErr result (LeavesPart old new)
 end_fails old new (Ok x) p = tt
 end_fails old new (Err e) p = λ start rs w. record_fails (0, []) start old new rs end_short w p
 

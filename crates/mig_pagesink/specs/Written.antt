@@ -34,12 +34,11 @@ pub record WroteSome (start now : Option (List ℕ)) (rs : List Record) : Type 0
   pub appended : Appends start now (text_of rs ++ take n (spelled next.0 next.1))
   pub within : AreRecordsWithin rs
 
+-- behind whatever records were written before there is now a part of one more
+abbrev pub LeavesPart : Option (List ℕ) → Option (List ℕ) → Type 0
+LeavesPart old new = (start : Option (List ℕ)) (rs : List Record) → WroteAll start old rs → WroteSome start new rs
+
 -- a record that was written joins those before it; where the write failed, a part of it is behind them
 abbrev pub JoinsRecords : {X : Type 0} → Record → Option (List ℕ) → Option (List ℕ) → Result X WriteFailed → Type 0
 JoinsRecords r old new (Ok x) = (start : Option (List ℕ)) (rs : List Record) → WroteAll start old rs → WroteAll start new (rs ++ r ∷ [])
-JoinsRecords r old new (Err e) = (start : Option (List ℕ)) (rs : List Record) → WroteAll start old rs → WroteSome start new rs
-
--- END that wasn't written whole: a part of it is behind the records
-abbrev pub LeavesUnended : {X : Type 0} → Option (List ℕ) → Option (List ℕ) → Result X WriteFailed → Type 0
-LeavesUnended old new (Ok x) = Unit {0}
-LeavesUnended old new (Err e) = (start : Option (List ℕ)) (rs : List Record) → WroteAll start old rs → WroteSome start new rs
+JoinsRecords r old new (Err e) = LeavesPart old new

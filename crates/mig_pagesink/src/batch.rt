@@ -1,8 +1,7 @@
-ghost use Rattle.std.specs.Prelude.{◌≡◌, ℕ, ◌+◌, ◌<◌, [], ◌∷◌, ◌++◌, List, length, OnOk, OnErr, IfOk};
-ghost use Rattle.std.specs.declared.option.Option.{Option};
+ghost use Rattle.std.specs.Prelude.{◌≡◌, ◌<◌, [], length, OnOk, OnErr, IfOk};
 ghost use Rattle.mig_bytes.specs.Faults.{HasCause};
-ghost use Rattle.mig_pagesink.specs.Told.{FrameTold, told_of, told_held, HasPfn};
-ghost use Rattle.mig_pagesink.specs.Batches.{IsSent, IsBehind};
+ghost use Rattle.mig_pagesink.specs.Told.{told_of, HasPfn};
+ghost use Rattle.mig_pagesink.specs.Batches.{SendsOn, Flushes, FallsBehind};
 
 use crate::HeldFrame;
 use crate::pages::write_batch;
@@ -43,8 +42,8 @@ impl Batch {
     /// held.
     pub fn send<K: Sink>(&mut self, sink: &mut K, entry: HeldFrame) -> Result<(), WriteFailed>
         requires { HasPfn entry }
-        ensures sent { OnOk result ((start : Option (List ℕ)) (flushes : ℕ) (sent : List FrameTold) → IsSent start (K.written sink.old) flushes self.old sent → IsSent start (K.written sink.new) flushes self.new (sent ++ told_of entry ∷ [])) }
-        ensures behind { OnErr result ((start : Option (List ℕ)) (flushes : ℕ) (sent : List FrameTold) → IsSent start (K.written sink.old) flushes self.old sent → IsBehind start (K.written sink.new) (length sent + 1)) }
+        ensures sent { OnOk result (SendsOn (told_of entry) (K.written sink.old) (K.written sink.new) self.old self.new) }
+        ensures behind { OnErr result (FallsBehind 1 (K.written sink.old) (K.written sink.new) self.old) }
         ensures empty { OnErr result (self.new ≡ []) }
         ensures few { length self.new < 1024 }
         ensures cause { HasCause (K.faults sink.old) (K.faults sink.new) result }
@@ -60,8 +59,8 @@ impl Batch {
 
     /// Writes what is held as one record, if anything is held. After `WriteFailed` too nothing is held.
     pub fn flush<K: Sink>(&mut self, sink: &mut K) -> Result<(), WriteFailed>
-        ensures sent { OnOk result ((start : Option (List ℕ)) (flushes : ℕ) (sent : List FrameTold) → IsSent start (K.written sink.old) flushes self.old sent → IsSent start (K.written sink.new) (flushes + 1) [] sent) }
-        ensures behind { OnErr result ((start : Option (List ℕ)) (flushes : ℕ) (sent : List FrameTold) → IsSent start (K.written sink.old) flushes self.old sent → IsBehind start (K.written sink.new) (length sent)) }
+        ensures sent { OnOk result (Flushes (K.written sink.old) (K.written sink.new) self.old) }
+        ensures behind { OnErr result (FallsBehind 0 (K.written sink.old) (K.written sink.new) self.old) }
         ensures empty { self.new ≡ [] }
         ensures cause { HasCause (K.faults sink.old) (K.faults sink.new) result }
     {

@@ -1,8 +1,8 @@
-ghost use Rattle.std.specs.Prelude.{◌≢◌, ◌≤◌, ◌^◌, [], length};
+ghost use Rattle.std.specs.Prelude.{◌≢◌, ◌≤◌, ◌^◌, [], length, OnErr};
 ghost use Rattle.mig_bytes.specs.Bytes.{Puts};
 ghost use Rattle.mig_bytes.specs.Faults.{HasCause};
 ghost use Rattle.mig_records.specs.Records.{spelled};
-ghost use Rattle.mig_pagesink.specs.Written.{JoinsRecords, LeavesUnended};
+ghost use Rattle.mig_pagesink.specs.Written.{JoinsRecords, LeavesPart};
 
 use mig_bytes::{Sink, WriteFailed};
 use mig_records::write_record;
@@ -25,7 +25,7 @@ pub fn write_plain<K: Sink>(sink: &mut K, kind: u32, body: &[u8]) -> Result<(), 
 #[tactic(auto, using(crate::proofs::Written::end_fails))]
 pub fn write_end<K: Sink>(sink: &mut K) -> Result<(), WriteFailed>
     ensures bytes { Puts (spelled 0 []) (K.written sink.old) (K.written sink.new) result }
-    ensures unended { LeavesUnended (K.written sink.old) (K.written sink.new) result }
+    ensures unended { OnErr result (LeavesPart (K.written sink.old) (K.written sink.new)) }
     ensures cause { HasCause (K.faults sink.old) (K.faults sink.new) result }
 {
     write_record(sink, END, &[])
