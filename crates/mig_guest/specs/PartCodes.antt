@@ -1,6 +1,6 @@
 -- What parts there are, a row each: the number of the code, the kinds of guest that have such parts, their keys, and
 -- the lengths of their bytes (libxc migration stream, "Records", and libxl migration stream, the emulator records).
-use Rattle.std.specs.Prelude.{ℕ, ◌+◌, ◌-◌, ◌*◌, ◌/◌, ◌^◌, ◌%◌, Bool, true, List, [], ◌∷◌, Option, ◌==◌, ◌&&◌, nat_le, nat_lt, find}
+use Rattle.std.specs.Prelude.{ℕ, ◌+◌, ◌-◌, ◌*◌, ◌/◌, ◌^◌, ◌%◌, Bool, true, List, [], ◌∷◌, Option, ◌==◌, ◌&&◌, ◌||◌, nat_le, nat_lt, find}
 use Rattle.mig_headers.specs.declared.kind.Kind.{Kind}
 use Rattle.mig_headers.specs.RecordTypes.{both, pv, hvm, exactly, most_body}
 use Rattle.mig_guest.specs.declared.part_code.PartCode.{PartCode}
@@ -76,3 +76,8 @@ part_codes = P2mFrames ∷ VcpuBasic ∷ VcpuExtended ∷ VcpuXsave ∷ SharedIn
 -- the code that has this number
 abbrev pub code_of_number : ℕ → Option PartCode
 code_of_number number = find (λ code. code_number code == number) part_codes
+
+-- the codes of the parts whose bytes never change while a guest runs: P2M frames, CPUID leaves, MSRs of the policy, an
+-- emulator's pairs
+abbrev pub is_fixed : ℕ → Bool
+is_fixed code = (code == 3) || ((code == 17) || ((code == 18) || (code == 258)))

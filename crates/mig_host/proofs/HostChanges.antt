@@ -8,7 +8,7 @@ use Rattle.std.proofs.lemmas.List.{drop_all, length-replicate}
 use Rattle.std.specs.FinMap.{len-insert}
 use Rattle.mig_pagestore.specs.Pages.{spliced}
 use Rattle.mig_guest.specs.Formed.{IsRawContent}
-use Rattle.mig_guest.specs.PartCodes.{row_of, code_number}
+use Rattle.mig_guest.specs.PartCodes.{row_of, code_number, is_fixed}
 use Rattle.mig_guest.specs.declared.part_code.PartCode.{PartCode}
 use Rattle.mig_guest.specs.declared.part_code.PartCode.TheVariants.{EmulatorPairs}
 use Rattle.mig_guest.proofs.KeyedMaps.{tied}
@@ -17,7 +17,7 @@ use Rattle.mig_pvtables.proofs.EachValue.{get_each, count_each}
 use Rattle.std.specs.FinMap.{len-remove}
 use Rattle.mig_bytes.proofs.NumberMaps.{is_inserted}
 use Rattle.mig_guest.proofs.Found.{insert_holds, remove_holds}
-use Rattle.mig_host.specs.Changes.{raw_page_at, put_or_stay, retyped, exchanged, without_frame, is_fixed}
+use Rattle.mig_host.specs.Changes.{raw_page_at, put_or_stay, retyped, exchanged, without_frame}
 use Rattle.mig_host.proofs.HostMaps.{joined, get_with_machines, machine_joined, there_joined}
 use Rattle.mig_host.proofs.HostsMade.{joined_put, matched_put, made_part}
 use Rattle.mig_host.proofs.InOrder.{found_more}

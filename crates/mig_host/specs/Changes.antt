@@ -1,5 +1,5 @@
 -- A host with one of its frames, or one of its parts, changed.
-use Rattle.std.specs.Prelude.{ℕ, Bool, List, Option, Some, None, option_and_then, replicate, if◌then◌else◌, ◌==◌, ◌||◌}
+use Rattle.std.specs.Prelude.{ℕ, List, Option, Some, None, option_and_then, replicate, if◌then◌else◌}
 use Rattle.std.specs.Option.{option_map, unwrap_or}
 use Rattle.std.specs.FinMap as maps
 use Rattle.mig_pagetypes.specs.declared.page_type.PageType.{PageType}
@@ -44,7 +44,3 @@ exchanged h pfn mfn = changed_at h pfn (λ f. record f { machine = mfn })
 -- without this frame
 abbrev pub without_frame : HostOf → ℕ → HostOf
 without_frame h pfn = record h { frames = maps.remove h.frames pfn }
-
--- the codes of parts that no change of a running host replaces
-abbrev pub is_fixed : ℕ → Bool
-is_fixed code = (code == 3) || ((code == 17) || ((code == 18) || (code == 258)))

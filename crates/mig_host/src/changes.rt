@@ -7,7 +7,8 @@ ghost use Rattle.mig_pagetypes.specs.Limits.{most_frames};
 ghost use Rattle.mig_guest.specs.Frames.{is_type_of};
 ghost use Rattle.mig_guest.specs.Hosts.{HostFrame, IsValid, machine_limit};
 ghost use Rattle.mig_host.specs.HostView.{put_frame, put_part_in};
-ghost use Rattle.mig_host.specs.Changes.{raw_page_at, retyped, page_written, typed, exchanged, without_frame, is_fixed};
+ghost use Rattle.mig_host.specs.Changes.{raw_page_at, retyped, page_written, typed, exchanged, without_frame};
+ghost use Rattle.mig_guest.specs.PartCodes.{is_fixed};
 
 use crate::host::Host;
 use mig_guest::PartKey;

@@ -1,5 +1,5 @@
 -- What of a frame must be logged where it changes while the guest runs, and which parts of a host never change.
-use Rattle.std.specs.Prelude.{ℕ, ◌==◌, ◌||◌, Bool, List, Option, Some, None, option_and_then}
+use Rattle.std.specs.Prelude.{ℕ, List, Option, Some, None, option_and_then}
 use Rattle.std.specs.Option.{option_map}
 use Rattle.std.specs.FinMap as maps
 use Rattle.mig_pagetypes.specs.declared.page_type.PageType.{PageType}
@@ -9,10 +9,6 @@ use Rattle.mig_guest.specs.declared.table.Entry.TheVariants.{Blank, NotPresent, 
 use Rattle.mig_guest.specs.Hosts.{HostFrame, HostFrames, pfn_in}
 use Rattle.mig_guest.specs.Longs.{long_at}
 use Rattle.mig_guest.specs.Tables.{entry, named_frame}
-
--- the codes of the parts whose bytes never change: P2M frames, CPUID leaves, MSRs, an emulator's pairs
-abbrev pub is_fixed : ℕ → Bool
-is_fixed code = (code == 3) || ((code == 17) || ((code == 18) || (code == 258)))
 
 -- the machine frame that a present entry outside the blank slots names, where e is the number in its slot; a superpage
 -- names its first one

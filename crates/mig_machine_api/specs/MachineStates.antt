@@ -6,7 +6,8 @@ use Rattle.mig_guest.specs.declared.part_key.PartKey.{PartKey}
 use Rattle.mig_guest.specs.Hosts as hosts
 use Rattle.mig_guest.specs.Hosts.{HostOf}
 use Rattle.mig_machine_api.specs.Pfns.{Pfns}
-use Rattle.mig_machine_api.specs.Footprints.{footprint, is_fixed}
+use Rattle.mig_guest.specs.PartCodes.{is_fixed}
+use Rattle.mig_machine_api.specs.Footprints.{footprint}
 use Rattle.mig_machine_api.specs.History.{History}
 
 pub record MachineState : Type 0 where

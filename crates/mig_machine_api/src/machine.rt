@@ -6,7 +6,7 @@ ghost use Rattle.mig_bytes.specs.Faults.{HasCause};
 ghost use Rattle.mig_guest.specs.declared.part_key.PartKey.{PartKey};
 ghost use Rattle.mig_guest.specs.Hosts.{most_width, pfn_in};
 ghost use Rattle.mig_guest.specs.Order.{part_cmp, IsAbove};
-ghost use Rattle.mig_machine_api.specs.Footprints.{is_fixed};
+ghost use Rattle.mig_guest.specs.PartCodes.{is_fixed};
 ghost use Rattle.mig_machine_api.specs.MachineCalls.{seen_at, page_peeked, Peeked, LookedUp, LogTaken, Paused};
 ghost use Rattle.mig_machine_api.specs.MachineStates.{MachineState, IsValidState, Stays};
 ghost use Rattle.mig_machine_api.specs.Pfns.{pfns_of_words};
