@@ -11,6 +11,8 @@ mod bytes;
 #[cfg(test)]
 mod guest;
 #[cfg(test)]
+mod pages;
+#[cfg(test)]
 mod renaming;
 #[cfg(test)]
 mod tables;
