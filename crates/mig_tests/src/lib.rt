@@ -11,6 +11,8 @@ mod bytes;
 #[cfg(test)]
 mod guest;
 #[cfg(test)]
+mod m2p;
+#[cfg(test)]
 mod pages;
 #[cfg(test)]
 mod renaming;
