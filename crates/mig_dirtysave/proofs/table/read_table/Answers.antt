@@ -1,0 +1,9 @@
+use Rattle.std.proofs.Common.{sym, subst, ◌∙◌}
+use Rattle.mig_dirtysave.proofs.Tables.{judged_whole}
+use Rattle.mig_dirtysave.specs.Step.{IsRenamed}
+use Rattle.mig_dirtysave.proofs.table.read_table.Goals as goal
+
+pub returns-in-Ok-None-clause-right : goal.returns-in-Ok-None-clause-right
+returns-in-Ok-None-clause-right g c =
+    judged_whole _ _ _ _ _ _ c.requires.level c.in-Ok-None.ensures.raw (sym c.superpage_slot.ensures.value ∙ c.in-None.is)
+    (subst (IsRenamed (g.M.Machine.state c.rename.new.machine) c.args.pfn c.args.level c.args.page.now c.rename.new.page) c.in-Ok-None.field-0-is c.in-Ok-None.ensures.page)
