@@ -1,0 +1,77 @@
+-- How many members sets have.
+use Rattle.std.proofs.Common.{arith, ◌≡◌, ℕ, zero, suc, ◌+◌, ◌-◌, ◌≤◌, ◌<◌, [], ◌∷◌, length, Bool, true, false, cond, refl, sym, ap, ◌∙◌, length-append}
+use Rattle.std.specs.Prelude.{◌&&◌}
+use Rattle.std.specs.List.{range_with_len}
+use Rattle.std.proofs.lemmas.Bool.Decides.{nat_tests}
+use Rattle.std.proofs.lemmas.List.Sums.{length-filter, count_by-le-length}
+use Rattle.std.proofs.lemmas.List.FromFn.{length-range_with_len}
+use Rattle.mig_machine_api.specs.Pfns.{Pfns, members, size}
+use Rattle.mig_dirtysave.specs.Flags.{front}
+use Rattle.mig_dirtysave.proofs.Parts.{members_yes, members_no}
+
+pub size-le : (set : Pfns) (i : ℕ) → size i set ≤ i
+size-le set i = omega (arith, length-filter set (range_with_len 0 i), count_by-le-length set (range_with_len 0 i), length-range_with_len 0 i)
+
+pub size_more : (set : Pfns) (i : ℕ) → set i ≡ true → size (i + 1) set ≡ size i set + 1
+size_more set i inside = ap length (members_yes set i inside) ∙ length-append (members i set) (i ∷ [])
+
+pub size_stays : (set : Pfns) (i : ℕ) → set i ≡ false → size (i + 1) set ≡ size i set
+size_stays set i outside = ap length (members_no set i outside)
+
+next : (set : Pfns) (n : ℕ) → size (suc n) set ≡ size (n + 1) set
+next set n = ap (λ k. size k set) (let e : suc n ≡ n + 1 = omega arith in e)
+
+same_more : (a b : Pfns) (n : ℕ) (x : Bool) → a n ≡ x → b n ≡ x → size n a ≡ size n b → size (suc n) a ≡ size (suc n) b
+same_more a b n true e f h = next a n ∙ size_more a n e ∙ ap (λ k. k + 1) h ∙ sym (size_more b n f) ∙ sym (next b n)
+same_more a b n false e f h = next a n ∙ size_stays a n e ∙ h ∙ sym (size_stays b n f) ∙ sym (next b n)
+
+pub same_size : (a b : Pfns) (n : ℕ) → ((q : ℕ) → q < n → a q ≡ b q) → size n a ≡ size n b
+same_size a b zero same = refl
+same_size a b (suc n) same = same_more a b n (b n) (same n (omega arith)) refl (same_size a b n (λ q less. same q (omega arith)))
+
+front_below : (set : Pfns) (i q : ℕ) → q < i → front i set q ≡ set q
+front_below set i q less = grind (arith, nat_tests)
+
+front_beyond : (set : Pfns) (i q : ℕ) → i ≤ q → front i set q ≡ false
+front_beyond set i q past = grind (arith, nat_tests)
+
+front_wide : (set : Pfns) (i d : ℕ) → size (i + d) (front i set) ≡ size i set
+front_wide set i zero = ap (λ k. size k (front i set)) (let e : i + zero ≡ i = omega arith in e) ∙ same_size (front i set) set i (front_below set i)
+front_wide set i (suc d) =
+    ap (λ k. size k (front i set)) (let e : i + suc d ≡ i + d + 1 = omega arith in e) ∙ size_stays (front i set) (i + d) (front_beyond set i (i + d) (omega arith)) ∙ front_wide set i d
+
+pub size_front : (set : Pfns) (i width : ℕ) → i ≤ width → size width (front i set) ≡ size i set
+size_front set i width le = ap (λ k. size k (front i set)) (let e : width ≡ i + (width - i) = omega arith in e) ∙ front_wide set i (width - i)
+
+-- one number more at most
+module _ (a b : Pfns) (p : ℕ) (only : (q : ℕ) → a q ≡ false → b q ≡ true → q ≡ p) where
+  none_step : (n : ℕ) (x y : Bool) → a n ≡ x → b n ≡ y → n < p → size n b ≤ size n a → size (suc n) b ≤ size (suc n) a
+  none_step n x false e f less h = omega (arith, next a n, next b n, size_stays b n f, at_least a n)
+    where
+      at_least : (s : Pfns) (k : ℕ) → size k s ≤ size (k + 1) s
+      at_least s k = go (s k) refl
+        where
+          go : (z : Bool) → s k ≡ z → size k s ≤ size (k + 1) s
+          go true z = omega (arith, size_more s k z)
+          go false z = omega (arith, size_stays s k z)
+  none_step n true true e f less h = omega (arith, next a n, next b n, size_more a n e, size_more b n f)
+  none_step n false true e f less h = absurd (let is : n ≡ p = only n e f in omega arith)
+
+  none_more : (n : ℕ) → n ≤ p → size n b ≤ size n a
+  none_more zero le = omega arith
+  none_more (suc n) le = none_step n (a n) (b n) refl refl (omega arith) (none_more n (omega arith))
+
+  grows : (n : ℕ) (x : Bool) → a n ≡ x → size n a ≤ size (n + 1) a
+  grows n true e = omega (arith, size_more a n e)
+  grows n false e = omega (arith, size_stays a n e)
+
+  one_step : (n : ℕ) (x y : Bool) → a n ≡ x → b n ≡ y → size n b ≤ size n a + 1 → size (suc n) b ≤ size (suc n) a + 1
+  one_step n x false e f h = omega (arith, next a n, next b n, size_stays b n f, grows n x e)
+  one_step n true true e f h = omega (arith, next a n, next b n, size_more a n e, size_more b n f)
+  one_step n false true e f h =
+      let is : n ≡ p = only n e f in
+      omega (arith, next a n, next b n, size_stays a n e, size_more b n f, none_more n (omega arith))
+
+  pub one_more_at_most : (n : ℕ) → size n b ≤ size n a + 1
+  one_more_at_most zero = omega arith
+  one_more_at_most (suc n) = one_step n (a n) (b n) refl refl (one_more_at_most n)

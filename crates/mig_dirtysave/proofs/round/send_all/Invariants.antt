@@ -1,0 +1,25 @@
+use Rattle.std.proofs.Common.{ℕ, Option, ◌≡◌, List, [], ◌≤◌, ◌<◌, length, true}
+use Rattle.mig_pagesink.specs.Told.{FrameTold}
+use Rattle.mig_pagesink.specs.Batches.{IsSent}
+use Rattle.mig_dirtysave.specs.Flags.{pfns_of_flags}
+use Rattle.mig_dirtysave.specs.Current.{notes_of}
+use Rattle.mig_dirtysave.specs.Sends.{ReadsFront, SendsFront, IsWorst}
+use Rattle.mig_dirtysave.proofs.round.send_all.Given as goal
+
+abbrev pub invariant-loop-pfn : goal.invariant-loop-pfn
+invariant-loop-pfn g l =
+    let s = g.M.Machine.state l.fn.machine in
+    let t = g.M.Machine.state l.machine in
+    let set = pfns_of_flags l.set in
+    record {
+      reads : ReadsFront l.pfn set s t;
+      sends : (start : Option (List ℕ)) (n : ℕ) (before : List FrameTold) → IsSent start (g.K.Sink.written l.fn.sink) n [] before → (mid : List FrameTold) × IsSent start (g.K.Sink.written l.sink) n l.batch mid
+          × SendsFront l.pfn set s t before mid (notes_of l.fn.deferred l.fn.types) (notes_of l.deferred l.types);
+      worst : s.paused ≡ true → IsWorst l.pfn set t.host.frames l.worst;
+      wide : length l.deferred ≡ length l.set;
+      long : length l.types ≡ length l.set;
+      few : length l.batch < 1024;
+      later : g.M.Machine.Later l.fn.machine l.machine;
+      machine_count : g.M.Machine.faults l.fn.machine ≤ g.M.Machine.faults l.machine;
+      sink_count : g.K.Sink.faults l.fn.sink ≤ g.K.Sink.faults l.sink;
+    }

@@ -1,0 +1,25 @@
+-- Sets of frame numbers (PFN) as flags, parts of a set, and how much was read.
+use Rattle.std.specs.Prelude.{ℕ, ◌+◌, List, [], ◌∷◌, Bool, false, get_or, nat_lt, nat_le, ◌&&◌}
+use Rattle.mig_machine_api.specs.Pfns.{Pfns, size}
+use Rattle.mig_machine_api.specs.History.{LogTook, History}
+
+-- flag number p tells of p
+abbrev pub pfns_of_flags : List Bool → Pfns
+pfns_of_flags flags p = get_or flags p false
+
+-- those of a set below i
+abbrev pub front : ℕ → Pfns → Pfns
+front i set p = nat_lt p i && set p
+
+-- and those from i on
+abbrev pub rest : ℕ → Pfns → Pfns
+rest i set p = nat_le i p && set p
+
+-- how many PFNs were read before these logs, each log's counted apart
+abbrev pub total_taken : ℕ → List LogTook → ℕ
+total_taken width [] = 0
+total_taken width (last ∷ before) = total_taken width before + size width last.asked.read
+
+-- and with those read since the last log
+abbrev pub total : ℕ → History → ℕ
+total width h = total_taken width h.taken + size width h.since.read

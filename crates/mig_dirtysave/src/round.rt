@@ -1,0 +1,59 @@
+ghost use Rattle.std.specs.Prelude.{◌≡◌, ◌≤◌, [], length, true, OnOk, OnErr, IfOk, IsErrOf};
+ghost use Rattle.mig_bytes.specs.Faults.{Rose};
+ghost use Rattle.mig_guest.specs.Hosts.{most_width};
+ghost use Rattle.mig_machine_api.specs.History.{nothing_asked};
+ghost use Rattle.mig_dirtysave.specs.Flags.{pfns_of_flags};
+ghost use Rattle.mig_dirtysave.specs.Current.{notes_of};
+ghost use Rattle.mig_dirtysave.specs.Sends.{ReadsFront, SendsSet, SetLeavesBehind, IsWorst};
+ghost use Rattle.mig_dirtysave.specs.declared.found.Fault.TheVariants.{MachineFault, WriteFault};
+
+use crate::found::{Fault, Worst};
+use crate::send::send_one;
+use mig_bytes::{Sink, WriteFailed};
+use mig_machine_api::Machine;
+use mig_pagesink::Batch;
+use mig_pagetypes::PageType;
+
+/// Reads and sends each member of a set, ascending, and writes what is held then.
+pub(crate) fn send_all<M: Machine, K: Sink>(
+    machine: &mut M,
+    sink: &mut K,
+    batch: &mut Batch,
+    set: &[bool],
+    deferred: &mut [bool],
+    types: &mut [Option<PageType>],
+    page: &mut [u8; 4096],
+) -> Result<Worst, Fault>
+    requires width { length set.now ≡ (M.state machine.old).host.width }
+    requires narrow { length set.now ≤ most_width }
+    requires wide { length deferred.old ≡ length set.now }
+    requires long { length types.old ≡ length set.now }
+    requires fresh { (M.state machine.old).history.since ≡ nothing_asked }
+    requires empty { batch.old ≡ [] }
+    ensures reads { OnOk result (ReadsFront (length set.now) (pfns_of_flags set.now) (M.state machine.old) (M.state machine.new)) }
+    ensures sends { OnOk result (SendsSet (length set.now) (pfns_of_flags set.now) (M.state machine.old) (M.state machine.new) (K.written sink.old) (K.written sink.new)
+        (notes_of deferred.old types.old) (notes_of deferred.new types.new)) }
+    ensures worst { IfOk result (λ worst. (M.state machine.old).paused ≡ true → IsWorst (length set.now) (pfns_of_flags set.now) (M.state machine.new).host.frames worst) }
+    ensures empty { OnOk result (batch.new ≡ []) }
+    ensures behind { OnErr result (SetLeavesBehind (M.state machine.old) (M.state machine.new) (K.written sink.old) (K.written sink.new)) }
+    ensures later { M.Later machine.old machine.new }
+    ensures machine_count { M.faults machine.old ≤ M.faults machine.new }
+    ensures sink_count { K.faults sink.old ≤ K.faults sink.new }
+    ensures machine_fault { IsErrOf result MachineFault → Rose (M.faults machine.old) (M.faults machine.new) }
+    ensures write_fault { IsErrOf result WriteFault → Rose (K.faults sink.old) (K.faults sink.new) }
+{
+    let mut worst = Worst {
+        superpage: None,
+        lost: None,
+    };
+    for (pfn, wanted) in set.iter().enumerate() {
+        if *wanted {
+            let found = send_one(machine, sink, batch, deferred, types, pfn as u64, page)?;
+            worst = worst.with(pfn as u64, found);
+        }
+    }
+    match batch.flush(sink) {
+        Ok(()) => Ok(worst),
+        Err(WriteFailed) => Err(Fault::WriteFault),
+    }
+}
