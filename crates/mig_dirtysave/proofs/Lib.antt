@@ -5,3 +5,7 @@ pub mod Strays
 pub mod Parts
 pub mod Sizes
 pub mod Steps
+pub mod Saves
+pub mod Firsts
+pub mod Ends
+pub mod Totals

@@ -1,6 +1,6 @@
 -- What is read of one number.
-use Rattle.std.proofs.Common.{arith, ◌≡◌, ◌≢◌, ℕ, ◌+◌, ◌≤◌, ◌<◌, ◌^◌, List, length, Bool, true, false, cond, Option, Some, None, Result, Ok, Err, refl, sym, ap, subst, ◌∙◌, inl, inr}
-use Rattle.std.specs.Prelude.{◌⊎◌, ◌||◌, unwrap_or, is_some, IfOk}
+use Rattle.std.proofs.Common.{arith, ◌≡◌, ℕ, ◌≤◌, List, length, Bool, true, false, cond, Option, Some, None, Result, Ok, Err, refl, sym, ap, subst, ◌∙◌}
+use Rattle.std.specs.Prelude.{unwrap_or, is_some, IfOk}
 use Rattle.std.specs.Option.{option_map}
 use Rattle.std.specs.FinMap as maps
 use Rattle.mig_headers.specs.declared.kind.Kind.{Kind}
@@ -12,17 +12,16 @@ use Rattle.mig_guest.specs.Frames.{FrameOf, is_type_of}
 use Rattle.mig_guest.specs.Hosts.{HostFrame, HostFrames, HostOf, IsHostFrame}
 use Rattle.mig_machine_api.specs.declared.machine.Seen.{Seen}
 use Rattle.mig_machine_api.specs.declared.machine.Seen.TheVariants as seen
-use Rattle.mig_machine_api.specs.Pfns.{Pfns, with_pfn}
-use Rattle.mig_machine_api.specs.History.{History, one_more, after_peek}
-use Rattle.mig_machine_api.specs.MachineStates.{MachineState, Ran, IsValidState}
+use Rattle.mig_machine_api.specs.History.{History}
+use Rattle.mig_machine_api.specs.MachineStates.{MachineState, IsValidState}
 use Rattle.mig_machine_api.specs.MachineCalls.{Peeked, seen_of, seen_at, page_of, page_peeked}
-use Rattle.mig_machine_api.specs.Footprints.{Footprint, footprint, footprint_of, table_in, names_in}
+use Rattle.mig_machine_api.specs.Footprints.{footprint, footprint_of, table_in, names_in}
 use Rattle.mig_dirtysave.specs.Forms.{superpage_in, lost_in, form_page}
 use Rattle.mig_dirtysave.specs.Findings.{Finding, judge, judged, found_as, frame_sent, IsToldFrame, CanBeTold, ShowsOnly}
 use Rattle.mig_dirtysave.specs.declared.found.Found as finds
 use Rattle.mig_dirtysave.specs.declared.found.Found.TheVariants as find
 use Rattle.mig_dirtysave.specs.Findings.Finding.{Gone, Shows}
-use Rattle.mig_dirtysave.specs.Step.{Settled, Looks, raw_print, IsRaw, IsRight, Asks, ReadsOne, most_calls}
+use Rattle.mig_dirtysave.specs.Step.{Looks, IsRaw, IsRight, ReadsOne, most_calls}
 use Rattle.mig_dirtysave.proofs.Tables.{print_here, ran_on, data_of}
 
 -- what is known of a frame that is there

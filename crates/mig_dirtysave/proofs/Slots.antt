@@ -1,11 +1,9 @@
 -- A raw table brought to its form in a stream, slot by slot, with a name for each slot.
 use Rattle.std.proofs.Common.{◌≡◌, ℕ, ◌+◌, ◌*◌, ◌<◌, Bool, true, false, cond, List, Option, Some, None, refl, sym, ap, ◌∙◌}
-use Rattle.byteorder.specs.Endian.{little_bytes}
-use Rattle.mig_bytes.specs.Fields.{with_field}
 use Rattle.mig_bytes.proofs.ByteLists.{long_below}
 use Rattle.mig_guest.specs.declared.table.Entry.{Entry}
 use Rattle.mig_guest.specs.declared.table.Entry.TheVariants.{Blank, NotPresent, Superpage, Frame}
-use Rattle.mig_guest.specs.Longs.{long_at, each_long}
+use Rattle.mig_guest.specs.Longs.{long_at}
 use Rattle.mig_guest.specs.Tables.{entry, entry_of, is_blank_slot, blanked_entry, blanked_table}
 use Rattle.mig_pvtables.specs.Tables.{with_frame}
 use Rattle.mig_pvtables.specs.Renaming.{with_name, named_anew, renamed_entry, renamed_by}

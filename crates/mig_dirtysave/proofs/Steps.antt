@@ -1,7 +1,6 @@
 -- What one more number does to the saver's invariant, and to a round.
-use Rattle.std.proofs.Common.{arith, ◌≡◌, ◌≢◌, ℕ, suc, ◌+◌, ◌*◌, ◌-◌, ◌^◌, ◌≤◌, ◌<◌, min, List, [], ◌∷◌, ◌++◌, length, map, Bool, true, false, cond, Option, Some, None, Result, Ok, Err, refl, sym, ap, subst, ◌∙◌, inl, inr, ⊎_elim, length-append, append_assoc, append-nil}
+use Rattle.std.proofs.Common.{arith, ◌≡◌, ℕ, suc, ◌+◌, ◌*◌, ◌^◌, ◌≤◌, ◌<◌, List, [], ◌∷◌, ◌++◌, length, map, Bool, true, false, cond, Option, Some, None, Result, Ok, Err, refl, sym, ap, subst, ◌∙◌, inl, inr, ⊎_elim, length-append, append_assoc, append-nil}
 use Rattle.std.specs.Prelude.{◌||◌, ◌==◌, ◌⊎◌, OnErr}
-use Rattle.std.specs.Ordering.{nat_cmp}
 use Rattle.std.specs.Cmp.{nat_cmp_total, unsigned_tied}
 use Rattle.std.specs.FinMap as fin
 use Rattle.std.proofs.lemmas.Bool.{eqb-true}
@@ -14,22 +13,21 @@ use Rattle.mig_guest.specs.Frames.{FrameOf, FrameMap}
 use Rattle.mig_guest.specs.Hosts.{HostOf, HostFrames}
 use Rattle.mig_machine_api.specs.Pfns.{Pfns, no_pfns, members, size, with_pfn}
 use Rattle.mig_machine_api.specs.Footprints.{Footprint, footprint}
-use Rattle.mig_machine_api.specs.History.{History, Since, LogTook, nothing_asked, one_more}
-use Rattle.mig_machine_api.specs.MachineStates.{MachineState, Ran, IsSameShape}
-use Rattle.mig_pagetypes.specs.declared.page_type.PageType.{PageType}
+use Rattle.mig_machine_api.specs.History.{History, Since, nothing_asked}
+use Rattle.mig_machine_api.specs.MachineStates.{MachineState, Ran}
 use Rattle.mig_dirtysave.specs.Forms.{table_of, superpage_in, lost_in, form_of_print, type_of_print}
 use Rattle.mig_dirtysave.specs.declared.found.Found.{Found}
 use Rattle.mig_dirtysave.specs.declared.found.Found.TheVariants as found
 use Rattle.mig_dirtysave.specs.declared.found.Worst.{Worst}
 use Rattle.mig_dirtysave.specs.Findings.{Finding, judge, judged, found_as, frame_sent, is_deferred, type_found, CanBeTold}
-use Rattle.mig_dirtysave.specs.Step.{Settled, ReadsOne, Strays, most_calls}
-use Rattle.mig_dirtysave.specs.Flags.{front, rest, total, total_taken}
-use Rattle.mig_dirtysave.specs.Entries.{entry_for, put_at, put_told, meant, pfns_sent, AreTold, IsToldEntry}
-use Rattle.mig_pagesink.specs.Batches.{IsBehind}
+use Rattle.mig_dirtysave.specs.Step.{ReadsOne, Strays, most_calls}
+use Rattle.mig_dirtysave.specs.Flags.{rest, total, total_taken}
+use Rattle.mig_dirtysave.specs.Entries.{entry_for, put_at, put_told, meant, AreTold, IsToldEntry}
+use Rattle.mig_pagesink.specs.Batches.{IsBehind, FallsBehind}
 use Rattle.mig_pagesink.specs.Told.{FrameTold}
 use Rattle.mig_dirtysave.specs.Current.{Notes, Current, noted}
 use Rattle.mig_pagesink.proofs.Joins.{behind_anyway}
-use Rattle.mig_dirtysave.specs.Sends.{LeavesBehind, ReadsFront, SendsFront, IsWorst, first_pfn, or_first, within_set, place, found_super, found_lost, super_of, lost_of}
+use Rattle.mig_dirtysave.specs.Sends.{ReadsFront, SendsFront, IsWorst, first_pfn, or_first, within_set, place, found_super, found_lost, super_of, lost_of}
 use Rattle.mig_dirtysave.proofs.Parts.{nothing_before, front_more, front_skip, not_itself, rest_more, rest_skip, rest_all, members_yes, members_no}
 use Rattle.mig_dirtysave.proofs.Sizes.{size-le, size_more, size_stays, size_front, one_more_at_most}
 
@@ -286,7 +284,7 @@ pub behind_less : (start now : Option (List ℕ)) (n m : ℕ) → m ≤ n → Is
 behind_less start now n m le b = record { batches = b.batches; cut = b.cut; few = omega (arith, b.few) }
 
 -- one entry more, which isn't sent yet
-pub behind_anyhow : (now : Option (List ℕ)) (held : List FrameTold) → length held < 1024 → LeavesBehind now now held
+pub behind_anyhow : (now : Option (List ℕ)) (held : List FrameTold) → length held < 1024 → FallsBehind 1 now now held
 behind_anyhow now held few = λ start flushes sent s. behind_anyway start now flushes held sent few s
 
 pub on_err : {T E P : Type 0} (r : Result T E) → P → OnErr r P

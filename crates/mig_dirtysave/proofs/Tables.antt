@@ -1,18 +1,17 @@
 -- A table that is settled has kept its footprint, so names looked up at different moments belong together.
-use Rattle.std.proofs.Common.{arith, ◌≡◌, ◌≢◌, ℕ, ◌+◌, ◌≤◌, ◌<◌, List, length, Bool, true, false, Option, Some, None, cond, refl, sym, ap, subst, ◌∙◌, inl, inr}
-use Rattle.std.specs.Prelude.{◌⊎◌, unwrap_or, option_and_then}
+use Rattle.std.proofs.Common.{arith, ◌≡◌, ℕ, ◌+◌, ◌≤◌, ◌<◌, List, length, Bool, true, false, Option, Some, None, cond, refl, sym, ap, subst, ◌∙◌, inl, inr}
+use Rattle.std.specs.Prelude.{option_and_then}
 use Rattle.std.specs.Option.{option_map}
 use Rattle.std.specs.FinMap as maps
 use Rattle.mig_pagetypes.specs.declared.page_type.PageType.{PageType}
 use Rattle.mig_pagetypes.specs.declared.page_type.PageType.TheVariants.{Notab, L1Tab, L2Tab, L3Tab, L4Tab, L1Pinned, L2Pinned, L3Pinned, L4Pinned, Broken, Xalloc, Xtab}
 use Rattle.mig_pagetypes.specs.PageTypes.{level_of, type_has_data}
 use Rattle.mig_guest.specs.Hosts.{HostFrame, HostFrames, pfn_in}
-use Rattle.mig_machine_api.specs.MachineStates.{MachineState, Ran, IsSameShape}
-use Rattle.std.specs.Prelude.{get_or, find, is_none}
+use Rattle.mig_machine_api.specs.MachineStates.{MachineState, Ran}
+use Rattle.std.specs.Prelude.{get_or}
 use Rattle.std.proofs.lemmas.Bool.{cases_eq}
 use Rattle.mig_guest.specs.Longs.{long_at}
 use Rattle.mig_guest.specs.Tables.{entry, entry_of, blanked_table}
-use Rattle.mig_pvtables.specs.Faults.{slots}
 use Rattle.mig_pvtables.specs.Renaming.{renamed_by}
 use Rattle.mig_pvtables.specs.Tables.{first_superpage}
 use Rattle.mig_pvtables.proofs.LongSteps.{ChangedBelow, walk_start}
@@ -20,8 +19,8 @@ use Rattle.mig_pvtables.proofs.Slots.{no_slot}
 use Rattle.mig_pvtables.proofs.Slots as searches
 use Rattle.mig_machine_api.specs.Footprints.{Footprint, footprint, footprint_of, names_in, named_by, table_in}
 use Rattle.mig_dirtysave.specs.Forms.{lost_at, is_lost, superpage_in, lost_in, form_page, form_of_print}
-use Rattle.mig_dirtysave.specs.Findings.{judge, judged, Finding, found_as}
-use Rattle.mig_dirtysave.specs.Findings.Finding.{Shows, HasSuperpage, LacksFrame}
+use Rattle.mig_dirtysave.specs.Findings.{judge, judged, found_as}
+use Rattle.mig_dirtysave.specs.Findings.Finding.{Shows}
 use Rattle.mig_dirtysave.specs.declared.found.Found.TheVariants as found
 use Rattle.mig_dirtysave.specs.Step.{Settled, Looks, raw_print, IsRaw, IsRenamed, IsRight}
 use Rattle.mig_dirtysave.specs.Step.{put_slot}

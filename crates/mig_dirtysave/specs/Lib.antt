@@ -5,3 +5,4 @@ pub mod Flags
 pub mod Entries
 pub mod Current
 pub mod Sends
+pub mod Live

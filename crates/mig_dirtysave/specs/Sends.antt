@@ -1,5 +1,5 @@
 -- What reading and sending one PFN does, and what a set of them does.
-use Rattle.std.specs.Prelude.{◌≡◌, ℕ, zero, suc, ◌+◌, ◌*◌, ◌≤◌, List, [], ◌∷◌, ◌++◌, length, true, false, Option, Some, None, if◌then◌else◌}
+use Rattle.std.specs.Prelude.{◌≡◌, ℕ, zero, suc, ◌+◌, ◌*◌, ◌≤◌, List, [], ◌++◌, length, true, false, Option, Some, None, if◌then◌else◌}
 use Rattle.std.specs.Option.{option_map}
 use Rattle.mig_guest.specs.Hosts.{HostFrames}
 use Rattle.mig_pagesink.specs.Told.{FrameTold}
@@ -16,17 +16,6 @@ use Rattle.mig_dirtysave.specs.Step.{most_calls}
 use Rattle.mig_dirtysave.specs.Flags.{front, rest, total, total_taken}
 use Rattle.mig_dirtysave.specs.Entries.{pfns_sent, AreTold}
 use Rattle.mig_dirtysave.specs.Current.{Notes, Current}
-
--- ---- one entry
-
--- whatever was sent before, with so many flushes, this entry was sent behind it; `held` and `back` are the batch before and
--- after
-abbrev pub SendsEntry : FrameTold → Option (List ℕ) → Option (List ℕ) → List FrameTold → List FrameTold → Type 0
-SendsEntry t old new held back = (start : Option (List ℕ)) (flushes : ℕ) (sent : List FrameTold) → IsSent start old flushes held sent → IsSent start new flushes back (sent ++ t ∷ [])
-
--- of what was sent before, and one entry more, at most 1024 stand in no whole record
-abbrev pub LeavesBehind : Option (List ℕ) → Option (List ℕ) → List FrameTold → Type 0
-LeavesBehind old new held = (start : Option (List ℕ)) (flushes : ℕ) (sent : List FrameTold) → IsSent start old flushes held sent → IsBehind start new (length sent + 1)
 
 -- ---- the first tables that no stream can have
 

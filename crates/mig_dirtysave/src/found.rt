@@ -1,4 +1,16 @@
+use mig_headers::Unsound;
 use mig_pagetypes::PageType;
+
+/// Why a save ended early.
+#[derive(Clone, Copy, Debug, PartialEq, Eq)]
+pub enum SaveAnswer {
+    /// The paused host can't be seen as a guest.
+    Unsound(Unsound),
+    /// The machine failed.
+    MachineFault,
+    /// The sink failed.
+    WriteFault,
+}
 
 /// The machine or the sink failed.
 #[derive(Clone, Copy, Debug, PartialEq, Eq)]

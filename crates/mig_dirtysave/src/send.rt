@@ -3,11 +3,11 @@ ghost use Rattle.std.specs.Option.{option_map};
 ghost use Rattle.mig_bytes.specs.Faults.{Rose};
 ghost use Rattle.mig_pagetypes.specs.Limits.{pfn_limit};
 ghost use Rattle.mig_pagetypes.specs.PageTypes.{type_has_data};
+ghost use Rattle.mig_pagesink.specs.Batches.{SendsOn, FallsBehind};
 ghost use Rattle.mig_dirtysave.specs.Findings.{found_as, frame_sent, is_deferred, type_found};
 ghost use Rattle.mig_dirtysave.specs.Step.{ReadsOne, Strays};
 ghost use Rattle.mig_dirtysave.specs.Entries.{entry_for};
 ghost use Rattle.mig_dirtysave.specs.Current.{notes_of, noted};
-ghost use Rattle.mig_dirtysave.specs.Sends.{SendsEntry, LeavesBehind};
 ghost use Rattle.mig_dirtysave.specs.declared.found.Fault.TheVariants.{MachineFault, WriteFault};
 
 use crate::found::{Fault, Found};
@@ -63,8 +63,8 @@ fn send_found<K: Sink>(
     page: &[u8; 4096],
 ) -> Result<(), Fault>
     requires { pfn < pfn_limit }
-    ensures sent { OnOk result (SendsEntry (entry_for pfn (found_as found page.now)) (K.written sink.old) (K.written sink.new) batch.old batch.new) }
-    ensures behind { OnErr result (LeavesBehind (K.written sink.old) (K.written sink.new) batch.old) }
+    ensures sent { OnOk result (SendsOn (entry_for pfn (found_as found page.now)) (K.written sink.old) (K.written sink.new) batch.old batch.new) }
+    ensures behind { OnErr result (FallsBehind 1 (K.written sink.old) (K.written sink.new) batch.old) }
     ensures few { length batch.new < 1024 }
     ensures count { K.faults sink.old ≤ K.faults sink.new }
     ensures fault { OnErr result (Rose (K.faults sink.old) (K.faults sink.new)) }
@@ -97,11 +97,11 @@ pub(crate) fn send_one<M: Machine, K: Sink>(
     requires long { length types.old ≡ (M.state machine.old).host.width }
     requires few { length batch.old < 1024 }
     ensures reads { IfOk result (λ found. ReadsOne pfn (M.state machine.old) (M.state machine.new) (found_as found page.new)) }
-    ensures sent { IfOk result (λ found. SendsEntry (entry_for pfn (found_as found page.new)) (K.written sink.old) (K.written sink.new) batch.old batch.new) }
+    ensures sent { IfOk result (λ found. SendsOn (entry_for pfn (found_as found page.new)) (K.written sink.old) (K.written sink.new) batch.old batch.new) }
     ensures notes { IfOk result (λ found. notes_of deferred.new types.new ≡ noted pfn (found_as found page.new) (notes_of deferred.old types.old)) }
     ensures few { length batch.new < 1024 }
     ensures asked { Strays pfn (M.state machine.old).history (M.state machine.new).history }
-    ensures behind { OnErr result (LeavesBehind (K.written sink.old) (K.written sink.new) batch.old) }
+    ensures behind { OnErr result (FallsBehind 1 (K.written sink.old) (K.written sink.new) batch.old) }
     ensures later { M.Later machine.old machine.new }
     ensures machine_count { M.faults machine.old ≤ M.faults machine.new }
     ensures sink_count { K.faults sink.old ≤ K.faults sink.new }

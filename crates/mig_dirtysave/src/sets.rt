@@ -9,6 +9,7 @@ ghost use Rattle.mig_dirtysave.specs.declared.found.Fault.TheVariants.{WriteFaul
 use crate::found::Fault;
 use mig_machine_api::Machine;
 
+/// Whether the words name a frame number.
 fn is_named(words: &[u64], pfn: usize) -> bool
     requires { pfn / 64 < length words.now }
     ensures { result ≡ pfns_of_words words.now pfn }
@@ -49,6 +50,23 @@ pub(crate) fn count(set: &[bool]) -> usize
     members
 }
 
+/// Takes the log as words.
+fn take_words<M: Machine>(machine: &mut M, words: &mut [u64]) -> Result<(), Fault>
+    requires words { length words.old ≡ ((M.state machine.old).host.width + 63) / 64 }
+    requires few { length (M.state machine.old).history.taken < 8 }
+    ensures ok { OnOk result (LogTaken (pfns_of_words words.new) (M.state machine.old) (M.state machine.new)) }
+    ensures later { M.Later machine.old machine.new }
+    ensures count { M.faults machine.old ≤ M.faults machine.new }
+    ensures fault { OnErr result (Rose (M.faults machine.old) (M.faults machine.new)) }
+    ensures stays { OnErr result (Stays (M.state machine.old) (M.state machine.new)) }
+    ensures which { ¬ IsErrOf result WriteFault }
+{
+    match machine.take_log(words) {
+        Ok(()) => Ok(()),
+        Err(_) => Err(Fault::MachineFault),
+    }
+}
+
 /// Takes the log as the new set.
 pub(crate) fn take_set<M: Machine>(
     machine: &mut M,
@@ -65,13 +83,9 @@ pub(crate) fn take_set<M: Machine>(
     ensures stays { OnErr result (Stays (M.state machine.old) (M.state machine.new)) }
     ensures which { ¬ IsErrOf result WriteFault }
 {
-    match machine.take_log(words) {
-        Ok(()) => {
-            replace(set, words);
-            Ok(())
-        }
-        Err(_) => Err(Fault::MachineFault),
-    }
+    take_words(machine, words)?;
+    replace(set, words);
+    Ok(())
 }
 
 /// Takes the log, and adds it to the set.
@@ -91,13 +105,9 @@ pub(crate) fn take_more<M: Machine>(
     ensures stays { OnErr result (Stays (M.state machine.old) (M.state machine.new)) }
     ensures which { ¬ IsErrOf result WriteFault }
 {
-    match machine.take_log(words) {
-        Ok(()) => {
-            add(set, words);
-            Ok(())
-        }
-        Err(_) => Err(Fault::MachineFault),
-    }
+    take_words(machine, words)?;
+    add(set, words);
+    Ok(())
 }
 
 /// The members of the other set come into the set.

@@ -1,4 +1,4 @@
-use Rattle.std.proofs.Common.{arith, ◌≡◌, ℕ, ap, refl}
+use Rattle.std.proofs.Common.{arith, ap}
 use Rattle.mig_machine_api.specs.MachineCalls.{LookedUp}
 use Rattle.mig_machine_api.specs.MachineStates.{MachineState}
 use Rattle.mig_dirtysave.specs.Step.{Looks}

@@ -1,0 +1,69 @@
+use Rattle.std.proofs.Common.{rules, ◌≡◌, length, ap, subst, ◌∙◌}
+use Rattle.mig_pagesink.specs.Batches.{IsBehind}
+use Rattle.mig_machine_api.specs.Pfns.{Pfns, joined, pfns_of_words}
+use Rattle.mig_machine_api.specs.History.{History, Since}
+use Rattle.mig_dirtysave.specs.Current.{notes_of}
+use Rattle.mig_dirtysave.specs.Flags.{pfns_of_flags, total}
+use Rattle.mig_dirtysave.proofs.Steps.{on_err}
+use Rattle.mig_dirtysave.proofs.Saves.{behind_unread, on_ok, if_both, if_three, err_on}
+use Rattle.mig_dirtysave.proofs.Firsts.{named}
+use Rattle.mig_dirtysave.proofs.Ends.{saved, saved_sent, counted_last, even_last}
+use Rattle.mig_dirtysave.proofs.save.finish.Goals as goal
+
+pub returns-in_err-stop-clause-behind : goal.returns-in_err-stop-clause-behind
+returns-in_err-stop-clause-behind g c =
+    let stays = c.in_err-stop.ensures.stays.history in
+    on_err c.from_residual.result (λ start before out sent.
+    behind_unread _ _ _ _ (g.M.Machine.state c.stop.new.machine).history _ _ _ sent (ap (λ (h : History). h.taken) stays)
+    (ap (λ (h : History). h.since.read) stays ∙ ap (λ (a : Since). a.read) c.requires.ended.live.since) out)
+
+pub returns-in_err-take_more-clause-behind : goal.returns-in_err-take_more-clause-behind
+returns-in_err-take_more-clause-behind g c =
+    let stays = c.in_err-take_more.ensures.stays.history ∙ c.in_ok-stop.ensures.ok.history in
+    on_err c.from_residual-in_err-take_more.result (λ start before out sent.
+    behind_unread _ _ _ _ (g.M.Machine.state c.take_more.new.machine).history _ _ _ sent (ap (λ (h : History). h.taken) stays)
+    (ap (λ (h : History). h.since.read) stays ∙ ap (λ (a : Since). a.read) c.requires.ended.live.since) out)
+
+pub returns-clause-saved : goal.returns-clause-saved
+returns-clause-saved g c =
+    let notes = notes_of c.args.deferred.now c.args.types.now in
+    let are : pfns_of_flags c.join.new.set ≡ joined (joined (pfns_of_flags c.args.set.now) (pfns_of_words c.take_more.new.words)) notes.deferred
+    = c.join.ensures ∙ ap (λ (x : Pfns). joined x notes.deferred) c.in_ok-take_more.ensures.set in
+    let wide : length c.join.new.set ≡ (g.M.Machine.state c.args.machine.now).host.width = search rules ∙ c.requires.width in
+    on_ok c.send_all.result (λ reads. saved _ _ _ _ _ _ _ notes _ c.requires.ended
+    (record { paused = c.in_ok-stop.ensures.ok; took = c.in_ok-take_more.ensures.ok; are = are; wide = wide; reads = reads })) c.send_all.ensures.reads
+
+pub returns-clause-read : goal.returns-clause-read
+returns-clause-read g c =
+    let notes = notes_of c.args.deferred.now c.args.types.now in
+    let are : pfns_of_flags c.join.new.set ≡ joined (joined (pfns_of_flags c.args.set.now) (pfns_of_words c.take_more.new.words)) notes.deferred
+    = c.join.ensures ∙ ap (λ (x : Pfns). joined x notes.deferred) c.in_ok-take_more.ensures.set in
+    let wide : length c.join.new.set ≡ (g.M.Machine.state c.args.machine.now).host.width = search rules ∙ c.requires.width in
+    on_ok c.send_all.result (λ reads. counted_last _ _ _ _ _ _ _ notes _ c.requires.ended
+    (record { paused = c.in_ok-stop.ensures.ok; took = c.in_ok-take_more.ensures.ok; are = are; wide = wide; reads = reads })) c.send_all.ensures.reads
+
+pub returns-clause-sent : goal.returns-clause-sent
+returns-clause-sent g c =
+    let notes = notes_of c.args.deferred.now c.args.types.now in
+    let are : pfns_of_flags c.join.new.set ≡ joined (joined (pfns_of_flags c.args.set.now) (pfns_of_words c.take_more.new.words)) notes.deferred
+    = c.join.ensures ∙ ap (λ (x : Pfns). joined x notes.deferred) c.in_ok-take_more.ensures.set in
+    let wide : length c.join.new.set ≡ (g.M.Machine.state c.args.machine.now).host.width = search rules ∙ c.requires.width in
+    if_three c.send_all.result (λ worst reads sends bad. λ start before out sent.
+    let (after, then, front) = sends start c.args.rounds before out in (
+      after,
+      then,
+      saved_sent _ _ _ _ _ _ _ notes _ c.requires.ended
+          (record { paused = c.in_ok-stop.ensures.ok; took = c.in_ok-take_more.ensures.ok; are = are; wide = wide; reads = reads }) before after _ worst sent front
+          (bad (c.in_ok-take_more.ensures.ok.paused ∙ c.in_ok-stop.ensures.ok.paused)),
+    )) c.send_all.ensures.reads c.send_all.ensures.sends c.send_all.ensures.worst
+
+pub returns-clause-named : goal.returns-clause-named
+returns-clause-named g c =
+    if_both c.send_all.result (λ worst reads bad. λ u is. named _ _ _ worst u (bad (c.in_ok-take_more.ensures.ok.paused ∙ c.in_ok-stop.ensures.ok.paused)) is) c.send_all.ensures.reads c.send_all.ensures.worst
+
+pub returns-clause-behind : goal.returns-clause-behind
+returns-clause-behind g c =
+    let width = c.in_ok-take_more.ensures.ok.ran.shape.width ∙ c.in_ok-stop.ensures.ok.ran.shape.width in
+    err_on c.send_all.result (λ behind. λ start before out sent.
+    subst (λ w. IsBehind start (g.K.Sink.written c.send_all.new.sink) (total w (g.M.Machine.state c.send_all.new.machine).history)) width
+    (behind start c.args.rounds before out (even_last _ _ _ _ _ _ _ c.requires.ended.live.since c.in_ok-stop.ensures.ok c.in_ok-take_more.ensures.ok sent))) c.send_all.ensures.behind

@@ -1,0 +1,90 @@
+use Rattle.std.proofs.Common.{rules, arith, ◌≡◌, ◌+◌, ◌<◌, ◌≤◌, ◌^◌, length, ap, sym, subst, ◌∙◌}
+use Rattle.mig_pagesink.specs.Batches.{IsBehind}
+use Rattle.mig_machine_api.specs.Pfns.{size}
+use Rattle.mig_dirtysave.specs.Flags.{pfns_of_flags, total}
+use Rattle.mig_dirtysave.proofs.Steps.{on_err}
+use Rattle.mig_dirtysave.proofs.Saves.{live_round, sent_round, longer, counted_more, goes_on, round_keeps, even, behind_taken}
+use Rattle.mig_dirtysave.proofs.save.run_rounds.Goals as goal
+use Rattle.mig_dirtysave.proofs.save.run_rounds.Goals.{then-rounds-eq-MOST_ROUNDS-via-then-rounds-eq-MOST_ROUNDS, then-rounds-eq-MOST_ROUNDS-via-else-rounds-eq-MOST_ROUNDS+then-count-lt-FEW}
+
+pub returns-in_err-send_all-clause-behind : goal.returns-in_err-send_all-clause-behind
+returns-in_err-send_all-clause-behind g c =
+    let i = c.loop-machine.invariant in
+    on_err c.from_residual.result (λ start before out sent.
+    let (mid, now, live) = i.sent start before out sent in
+    subst (λ w. IsBehind start (g.K.Sink.written c.send_all.new.sink) (total w (g.M.Machine.state c.send_all.new.machine).history)) i.kept.width
+    (c.in_err-send_all.ensures.behind start c.loop-machine.rounds mid now (even _ _ _ _ live)))
+
+pub returns-in_err-take_set-clause-behind : goal.returns-in_err-take_set-clause-behind
+returns-in_err-take_set-clause-behind g c =
+    let i = c.loop-machine.invariant in
+    on_err c.from_residual-in_err-take_set.result (λ start before out sent.
+    let (mid, now, live) = i.sent start before out sent in
+    let (after, then, sends) = c.in_ok-send_all.ensures.sends start c.loop-machine.rounds mid now in
+    subst (λ w. IsBehind start (g.K.Sink.written c.send_all.new.sink) (total w (g.M.Machine.state c.take_set.new.machine).history)) i.kept.width
+    (behind_taken _ _ _ _ _ _ _ _ _ _ _ i.width live c.in_ok-send_all.ensures.reads sends c.in_err-take_set.ensures.stays.history then))
+
+pub returns-then-rounds-eq-MOST_ROUNDS-clause-ended : goal.returns-then-rounds-eq-MOST_ROUNDS-clause-ended
+returns-then-rounds-eq-MOST_ROUNDS-clause-ended g c =
+    let i = c.loop-machine.invariant in
+    let small : length c.loop-machine.set ≤ 2 ^ 28 = omega (arith, c.requires.narrow, i.sized) in
+    let live = live_round _ _ _ _ _ small i.width i.on i.live c.in_ok-send_all.ensures.reads c.in_ok-take_set.ensures.ok in
+    let more = longer _ _ _ _ _ _ c.in_ok-send_all.ensures.reads c.in_ok-take_set.ensures.ok in
+    let kept = round_keeps _ _ _ _ _ _ c.in_ok-send_all.ensures.reads c.in_ok-take_set.ensures.ok in
+    let width : length c.take_set.new.set ≡ (g.M.Machine.state c.take_set.new.machine).host.width = search rules ∙ i.width ∙ sym kept.width in
+    let few : c.loop-machine.rounds + 1 < 5 → size (g.M.Machine.state c.take_set.new.machine).host.width (pfns_of_flags c.take_set.new.set) < 50 =
+    elim c.then-rounds-eq-MOST_ROUNDS.branch [
+      | then-rounds-eq-MOST_ROUNDS-via-then-rounds-eq-MOST_ROUNDS w ↦ λ h. absurd (let e = w.if-rounds-eq-MOST_ROUNDS.true in omega arith)
+      | then-rounds-eq-MOST_ROUNDS-via-else-rounds-eq-MOST_ROUNDS+then-count-lt-FEW w ↦ λ h.
+          let e = w.if-count-lt-FEW.true in let s = w.count.ensures in omega (arith, ap (λ n. size n (pfns_of_flags c.take_set.new.set)) width)
+    ] in
+    record { live = live; number = omega arith; some = omega arith; most = omega arith; few = few }
+
+pub overflow_add-entries : goal.overflow_add-entries
+overflow_add-entries g c = let i = c.loop-machine.invariant in omega (arith, i.small, i.few, i.sized, c.entries_of-entries.ensures.most, c.requires.narrow)
+
+pub returns-then-rounds-eq-MOST_ROUNDS-clause-entries : goal.returns-then-rounds-eq-MOST_ROUNDS-clause-entries
+returns-then-rounds-eq-MOST_ROUNDS-clause-entries g c =
+    let i = c.loop-machine.invariant in
+    omega (arith, i.counted, c.entries_of-entries.ensures.value, counted_more _ _ _ _ _ i.width c.in_ok-send_all.ensures.reads c.in_ok-take_set.ensures.ok)
+
+pub returns-then-rounds-eq-MOST_ROUNDS-clause-few : goal.returns-then-rounds-eq-MOST_ROUNDS-clause-few
+returns-then-rounds-eq-MOST_ROUNDS-clause-few g c = let i = c.loop-machine.invariant in omega (arith, i.small, i.few, i.sized, c.entries_of-entries.ensures.most, c.requires.narrow)
+
+pub returns-then-rounds-eq-MOST_ROUNDS-clause-sent : goal.returns-then-rounds-eq-MOST_ROUNDS-clause-sent
+returns-then-rounds-eq-MOST_ROUNDS-clause-sent g c = λ start before out sent.
+    let i = c.loop-machine.invariant in
+    let (mid, now, live) = i.sent start before out sent in
+    let (after, then, sends) = c.in_ok-send_all.ensures.sends start c.loop-machine.rounds mid now in
+    (after, then, sent_round _ _ _ _ _ _ _ _ _ i.width c.in_ok-send_all.ensures.reads c.in_ok-take_set.ensures.ok live sends)
+
+pub loop-machine-preserved : goal.loop-machine-preserved
+loop-machine-preserved g c =
+    let i = c.loop-machine.invariant in
+    let small : length c.loop-machine.set ≤ 2 ^ 28 = omega (arith, c.requires.narrow, i.sized) in
+    let live = live_round _ _ _ _ _ small i.width i.on i.live c.in_ok-send_all.ensures.reads c.in_ok-take_set.ensures.ok in
+    let more = longer _ _ _ _ _ _ c.in_ok-send_all.ensures.reads c.in_ok-take_set.ensures.ok in
+    let kept = round_keeps _ _ _ _ _ _ c.in_ok-send_all.ensures.reads c.in_ok-take_set.ensures.ok in
+    let width : length c.take_set.new.set ≡ (g.M.Machine.state c.take_set.new.machine).host.width = search rules ∙ i.width ∙ sym kept.width in
+    record {
+      live = live;
+      sent = λ start before out sent.
+          let (mid, now, was) = i.sent start before out sent in
+          let (after, then, sends) = c.in_ok-send_all.ensures.sends start c.loop-machine.rounds mid now in
+          (after, then, sent_round _ _ _ _ _ _ _ _ _ i.width c.in_ok-send_all.ensures.reads c.in_ok-take_set.ensures.ok was sends);
+      on = goes_on _ _ live (omega (arith, ap (λ w. size w (pfns_of_flags c.take_set.new.set)) width));
+      number = omega arith;
+      counted = omega (arith, i.counted, c.entries_of-entries.ensures.value, counted_more _ _ _ _ _ i.width c.in_ok-send_all.ensures.reads c.in_ok-take_set.ensures.ok);
+      small = omega (arith, i.small, i.sized, c.entries_of-entries.ensures.most, c.requires.narrow);
+      few = omega arith;
+      kept = record { kind = kept.kind ∙ i.kept.kind; width = kept.width ∙ i.kept.width; honest = kept.honest ∙ i.kept.honest };
+      width = width;
+      wide = search rules;
+      long = search rules;
+      words = search rules;
+      sized = search rules;
+      empty = c.in_ok-send_all.ensures.empty;
+      later = g.met.M.Machine.later_on _ _ _ (g.met.M.Machine.later_on _ _ _ i.later c.send_all.ensures.later) c.take_set.ensures.later;
+      machine_count = omega (arith, c.send_all.ensures.machine_count, c.take_set.ensures.count);
+      sink_count = omega (arith, c.send_all.ensures.sink_count);
+    }

@@ -1,0 +1,33 @@
+use Rattle.std.proofs.Common.{◌≡◌, ◌≤◌, ◌<◌, ◌-◌, ◌+◌, ◌*◌, ◌/◌, ◌^◌, [], length}
+use Rattle.mig_machine_api.specs.Rounds.{GoesOn}
+use Rattle.mig_dirtysave.specs.Flags.{pfns_of_flags, total_taken}
+use Rattle.mig_dirtysave.specs.Current.{notes_of}
+use Rattle.mig_dirtysave.specs.Live.{Live, SendsRounds, StaysSame}
+use Rattle.mig_dirtysave.proofs.save.run_rounds.Given as goal
+
+abbrev pub invariant-loop-machine : goal.invariant-loop-machine
+invariant-loop-machine g l =
+    let first = g.M.Machine.state l.fn.machine in
+    let s = g.M.Machine.state l.machine in
+    record {
+      live : Live s (pfns_of_flags l.set);
+      sent : SendsRounds l.rounds first s (pfns_of_flags l.fn.set) (pfns_of_flags l.set) (g.K.Sink.written l.fn.sink) (g.K.Sink.written l.sink) (notes_of l.fn.deferred l.fn.types) (notes_of l.deferred l.types);
+      on : GoesOn s.host.width s.history.taken;
+      number : l.rounds ≡ length s.history.taken;
+      counted : l.entries ≡ total_taken s.host.width s.history.taken;
+      small : l.entries ≤ 2 ^ 28 * l.rounds;
+      few : l.rounds < 5;
+      kept : StaysSame first s;
+      width : length l.set ≡ s.host.width;
+      wide : length l.deferred ≡ length l.set;
+      long : length l.types ≡ length l.set;
+      words : length l.words ≡ (length l.set + 63) / 64;
+      sized : length l.set ≡ length l.fn.set;
+      empty : l.batch ≡ [];
+      later : g.M.Machine.Later l.fn.machine l.machine;
+      machine_count : g.M.Machine.faults l.fn.machine ≤ g.M.Machine.faults l.machine;
+      sink_count : g.K.Sink.faults l.fn.sink ≤ g.K.Sink.faults l.sink;
+    }
+
+abbrev pub decreases-loop-machine : goal.decreases-loop-machine
+decreases-loop-machine g l = 5 - l.rounds
