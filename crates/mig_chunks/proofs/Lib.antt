@@ -10,3 +10,4 @@ pub mod NameForms
 pub mod Names
 pub mod PhysmapPairs
 pub mod Spelling
+pub mod WordLaws

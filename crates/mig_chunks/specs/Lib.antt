@@ -3,3 +3,4 @@ pub mod Batches
 pub mod Toolstack
 pub mod Judged
 pub mod Texts
+pub mod WordsSaid

@@ -3,6 +3,7 @@ ghost use Rattle.mig_chunks.specs.Batches.{BatchesAreJudged};
 ghost use Rattle.mig_chunks.specs.Chunks.{NumbersHaveKinds};
 ghost use Rattle.mig_chunks.specs.Judged.{ToolstackIsSpelled};
 ghost use Rattle.mig_chunks.specs.Texts.{DigitsSpellNumbers};
+ghost use Rattle.mig_chunks.specs.WordsSaid.{WordsSayFrames};
 
 /// Each chunk is that of its number.
 #[tactic(auto, using(crate::proofs::ChunkNumbers::numbers_have_kinds))]
@@ -14,6 +15,13 @@ pub fn numbers_have_kinds()
 /// where it is the first of 2^32 or more, and each word has a type.
 pub fn batches_are_judged()
     ensures { (ws : List ℕ) → BatchesAreJudged ws }
+{}
+
+/// A batch has no fault exactly where each word says a frame, or that there is none; and the words of a PAGE_DATA say the
+/// same frames.
+#[tactic(auto, using(crate::proofs::WordLaws::words_say))]
+pub fn words_say_frames()
+    ensures { WordsSayFrames }
 {}
 
 /// The digits of a number in a key or a value spell it, the most significant first, without zeros at their front.

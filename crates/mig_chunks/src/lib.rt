@@ -18,6 +18,9 @@ mod toolstack;
 
 pub use batch::{batch_fault, page_data_words};
 pub use chunk::{ChunkKind, chunk_kind};
-pub use law::{batches_are_judged, digits_spell_numbers, numbers_have_kinds, toolstack_is_spelled};
+pub use law::{
+    batches_are_judged, digits_spell_numbers, numbers_have_kinds, toolstack_is_spelled,
+    words_say_frames,
+};
 pub use text::put;
 pub use toolstack::{physmap_pairs, toolstack_fault};
