@@ -14,3 +14,4 @@ pub mod RestoredHosts
 pub mod SeenGuests
 pub mod SoundHosts
 pub mod HostChanges
+pub mod Callers
