@@ -84,3 +84,8 @@ unfolding emulators_of
 last_value_is records key k =
     store_put no_emulators key k records
     ∙ ap (λ o. option_or (last_pair_value k (pairs_said key records)) (value_of k o)) (maps.get-empty part_cmp key) ∙ or_none (last_pair_value k (pairs_said key records))
+
+-- a store with more pairs has of each key the value of the last of all pairs
+pub last_value_with : (records : List LibxlRecord) (key : PartKey) (ps : List Pair) (k : List ℕ) → maps.get (put_pairs (store_at (emulators_of records).stores key) ps) k ≡ last_pair_value k (pairs_said key records ++ ps)
+last_value_with records key ps k =
+    values_put (store_at (emulators_of records).stores key) ps k ∙ ap (option_or (last_pair_value k ps)) (in_store (maps.get (emulators_of records).stores key) k ∙ last_value_is records key k) ∙ sym (value_behind (pairs_said key records) ps k)

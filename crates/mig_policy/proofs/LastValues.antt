@@ -5,9 +5,11 @@ use Rattle.std.proofs.lemmas.Grind.{common_steps}
 use Rattle.std.proofs.lemmas.Map.Text.{is_eq-slice_cmp}
 use Rattle.std.specs.Cmp.Lexicographic.{slice_cmp, nat_list_cmp_total}
 use Rattle.std.specs.FinMap as maps
+use Rattle.std.specs.FinMap.{entries_sorted, nat_cmp-IsAntisymmetric, same_entries_map, slice_cmp-IsAntisymmetric}
+use Rattle.std.specs.List.{flat_map}
 use Rattle.std.specs.Option.{option_or}
 use Rattle.std.specs.Ordering.{eq_by_cmp, nat_cmp}
-use Rattle.std.specs.Prelude.{if◌then◌else◌}
+use Rattle.std.specs.Prelude.{if◌then◌else◌, map}
 use Rattle.std.specs.Str.{bytes_eq}
 use Rattle.mig_guest.proofs.KeyedMaps.{tied}
 use Rattle.mig_guest.proofs.PartOrder.{part_exact, part_total}
@@ -15,11 +17,11 @@ use Rattle.mig_guest.proofs.PartSets.{put_there}
 use Rattle.mig_guest.specs.Order.{part_cmp}
 use Rattle.mig_guest.specs.Parts.{PartMap}
 use Rattle.mig_guest.specs.declared.part_key.PartKey.{PartKey}
-use Rattle.mig_headers.specs.Pairs.{Pair, AreCanonicalPairs}
+use Rattle.mig_headers.specs.Pairs.{Pair, AreCanonicalPairs, AreRising, text_of_pair}
 use Rattle.mig_policy.specs.PairFaults.{SpellPairs}
-use Rattle.mig_policy.specs.PairMaps.{PairMap, IsOfPairs, put_pair, put_pairs, text_of_map, pairs_in, map_of, part_bytes, merged, with_pairs, last_pair_value, value_in_part, AddedPairsDecide}
+use Rattle.mig_policy.specs.PairMaps.{PairMap, IsOfPairs, put_pair, put_pairs, pair_of, text_of_entry, text_of_map, pairs_in, map_of, part_bytes, merged, with_pairs, last_pair_value, value_in_part, AddedPairsDecide}
 use Rattle.mig_policy.proofs.KeyLaws.{spelled_read}
-use Rattle.mig_policy.proofs.PairMapLaws.{maps_are_of_pairs, texts_are_canonical}
+use Rattle.mig_policy.proofs.PairMapLaws.{map_entries, maps_are_of_pairs, rises, same_entries_again, text_entries, text_pairs, texts_are_canonical}
 
 or_none : (o : Option (List ℕ)) → option_or o None ≡ o
 or_none None = refl
@@ -77,3 +79,35 @@ other_part parts key other (b ∷ bs) ne =
 
 pub added_pairs_decide : AddedPairsDecide
 added_pairs_decide = record { map = values_put; part = in_part; others = other_part }
+
+-- ---- pairs of a map, in ascending order
+
+module _ (m : PairMap) where
+  as_map : (pairs : List Pair) → maps.entries (put_pairs maps.empty pairs) ≡ maps.entries m → (k : List ℕ) → last_pair_value k pairs ≡ maps.get m k
+  as_map pairs same k =
+      sym (or_none (last_pair_value k pairs)) ∙ ap (option_or (last_pair_value k pairs)) (sym (maps.get-empty (slice_cmp nat_cmp) k)) ∙ sym (values_put maps.empty pairs k)
+      ∙ ap (λ (n : PairMap). maps.get n k) (same_entries_map (put_pairs maps.empty pairs) m same)
+
+  -- pairs in ascending order that have the values of a map spell its text
+  pub one_text : (pairs : List Pair) → AreRising pairs → ((k : List ℕ) → last_pair_value k pairs ≡ maps.get m k) → flat_map text_of_pair pairs ≡ text_of_map m
+  one_text pairs rising values =
+      let same : put_pairs maps.empty pairs ≡ m =
+      maps.same_map nat_list_cmp_total (slice_cmp-IsAntisymmetric nat_cmp-IsAntisymmetric) (put_pairs maps.empty pairs) m
+      (λ k. values_put maps.empty pairs k ∙ ap (option_or (last_pair_value k pairs)) (maps.get-empty (slice_cmp nat_cmp) k) ∙ or_none (last_pair_value k pairs) ∙ values k) in
+      sym (text_entries pairs) ∙ ap (flat_map text_of_entry) (sym (map_entries pairs rising)) ∙ ap text_of_map same
+
+  -- and a map has such pairs
+  pub map_pairs : List Pair
+  map_pairs = map pair_of (maps.entries m)
+
+  pub map_pairs_rise : AreRising map_pairs
+  unfolding map_pairs
+  map_pairs_rise = rises (maps.entries m) (entries_sorted m)
+
+  pub map_pairs_values : (k : List ℕ) → last_pair_value k map_pairs ≡ maps.get m k
+  unfolding map_pairs
+  map_pairs_values k = as_map (map pair_of (maps.entries m)) (map_entries (map pair_of (maps.entries m)) (rises (maps.entries m) (entries_sorted m)) ∙ same_entries_again (maps.entries m)) k
+
+  pub map_pairs_text : flat_map text_of_pair map_pairs ≡ text_of_map m
+  unfolding map_pairs
+  map_pairs_text = text_pairs (maps.entries m)

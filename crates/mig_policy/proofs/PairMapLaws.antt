@@ -18,7 +18,7 @@ use Rattle.mig_policy.specs.PairMaps.{PairMap, IsOfPairs, put_pairs, pair_of, te
 use Rattle.mig_policy.proofs.PairTrees.{no_entries}
 use Rattle.mig_policy.proofs.KeyLaws.{spelled_read, pairs_are_read}
 
-abbrev Entry : Type 0
+abbrev pub Entry : Type 0
 Entry = List ℕ × List ℕ
 
 abbrev key_cmp : List ℕ → List ℕ → Ordering
@@ -75,7 +75,7 @@ unfolding IsStrictlySortedBy
 rises [] h = tt
 rises (e ∷ es) h = let (a, b) = both_of (below_all key_cmp e.0 es) (is_sorted key_cmp es) h in (below e.0 es a, rises es b)
 
-text_pairs : (es : List Entry) → flat_map text_of_pair (map pair_of es) ≡ flat_map text_of_entry es
+pub text_pairs : (es : List Entry) → flat_map text_of_pair (map pair_of es) ≡ flat_map text_of_entry es
 text_pairs [] = refl
 text_pairs (e ∷ es) = ap (λ t. text_of_entry e ++ t) (text_pairs es)
 
@@ -89,7 +89,7 @@ canonical_text m each = record {
 
 -- ---- rising pairs are the entries of their map
 
-abbrev entry_of : Pair → Entry
+abbrev pub entry_of : Pair → Entry
 entry_of p = (p.key, p.value)
 
 abbrev IsBelow : List Pair → Entry → Type 0
@@ -118,7 +118,7 @@ risen (p ∷ ps) es h rising =
 pub map_entries : (ps : List Pair) → AreRising ps → maps.entries (put_pairs maps.empty ps) ≡ map entry_of ps
 map_entries ps rising = puts_entries maps.empty ps ∙ ap (λ es. fold put_entry es ps) no_entries ∙ risen ps [] tt rising
 
-text_entries : (ps : List Pair) → flat_map text_of_entry (map entry_of ps) ≡ flat_map text_of_pair ps
+pub text_entries : (ps : List Pair) → flat_map text_of_entry (map entry_of ps) ≡ flat_map text_of_pair ps
 text_entries [] = refl
 text_entries (p ∷ ps) = ap (λ t. text_of_pair p ++ t) (text_entries ps)
 

@@ -1,10 +1,17 @@
 -- The causes that stand in each part of a libxl stream around its image.
 use Rattle.mig_refusals.proofs.Common.{◌≡◌, ◌⊎◌, inl, inr, ℕ, ◌^◌, ◌≤◌, List, [], ◌∷◌, ◌++◌, drop, Bool, true, false, cond, nat_eq, nat_le, nat_lt, not, is_none, Option, Some, None, refl, sym, ap, subst, ◌∙◌, arith, leb-true, leb-false, ltb-true, eqb-true, eqb-false, eq-eqb, le-leb, lt-leb, lt-ltb, false≢true, not-true, and_parts, and_from, not_from_false, or_left, or_right, or_cases, le32, first_fault, Cause, BadLength, Kind, Pv, Hvm, IsTriedBefore, ◌&&◌, ◌||◌, none-some, same_Some, libxl_rows, fault_of_libxl, number_of_cause, BadPairs, BadKey, BadEmulator, EmulatorForPv, ContextCount, EmulatorIndex, IsTornAt, IsBadKeyAt, IsFirstFault, pairs_fault, first_fault_is_computed, ImageOf, LibxlRecord, has_emulator, image_among, EmulatorsOf, pairs_in, emulator_key, is_pv, is_pv_kind, is_miscounted, allows_length, field_rows, order_rows, fault_of_libxl_fields, fault_of_order, fault_of_libxl_head, most_pairs, spelled_with, fault_of_pairs, fault_of_context, join, LibxlHeaderHas, LibxlHeadHas, PairsHas, EmulatorContextHas, WrapperPart, StandsInWrapper, wrapper_size, TooManyPairs}
+use Rattle.std.proofs.Common.{length, ◌<◌}
+use Rattle.std.specs.List.{flat_map}
+use Rattle.mig_headers.specs.Pairs.{Pair, text_of_pair}
+use Rattle.mig_policy.specs.PairMaps.{PairMap, put_pairs, text_of_map}
+use Rattle.mig_policy.proofs.LastValues.{map_pairs, map_pairs_rise, map_pairs_text, map_pairs_values, one_text}
+use Rattle.mig_emulators.specs.Emulators.{emulators_of, store_at}
+use Rattle.mig_emulators.proofs.EmulatorMeaning.{last_value_with}
 use Rattle.mig_refusals.proofs.Least.{Least, LeastTried, TriesLeast, nothing_tried, tries_least, RowHas, To, named, both_least}
 use Rattle.mig_refusals.proofs.Tests.{differs, is_missing, is_one, one_of, test_differs}
 use Rattle.mig_refusals.specs.Stream.WrapperPart.{Header, Head, PairsBody, ContextBody, OtherBody, Padding}
 use Rattle.mig_refusals.specs.Stream.LibxlHeaderHas.{big_endian, bad_version}
-use Rattle.mig_refusals.specs.Stream.{LibxlHeadHas as heads, PairsHas as of_pairs, EmulatorContextHas as of_context}
+use Rattle.mig_refusals.specs.Stream.{AreMerged, pairs_with, LibxlHeadHas as heads, PairsHas as of_pairs, EmulatorContextHas as of_context}
 
 -- ---- the header
 
@@ -128,7 +135,20 @@ module _ (text : List ℕ) where
   text_least : Least TextHas (pairs_fault text)
   text_least = text_by (pairs_fault text) refl ((first_fault_is_computed text (pairs_fault text)).0 refl)
 
-module _ (e : EmulatorsOf) (body : List ℕ) where
+module _ (records : List LibxlRecord) (body : List ℕ) where
+  abbrev e : EmulatorsOf
+  e = emulators_of records
+
+  -- the store that the body names, with its pairs
+  abbrev store : PairMap
+  store = put_pairs (store_at e.stores (emulator_key 258 body)) (pairs_in (drop 8 body))
+
+  merged_pairs : AreMerged (pairs_with records body) (map_pairs store)
+  merged_pairs = record { rising = map_pairs_rise store; values = λ k. map_pairs_values store k ∙ last_value_with records (emulator_key 258 body) (pairs_in (drop 8 body)) k }
+
+  one_length : (pairs : List Pair) → AreMerged (pairs_with records body) pairs → length (flat_map text_of_pair pairs) ≡ length (text_of_map store)
+  one_length pairs are = ap length (one_text store pairs are.rising (λ k. are.values k ∙ sym (last_value_with records (emulator_key 258 body) (pairs_in (drop 8 body)) k)))
+
   abbrev pairs_rows : List (Bool × Cause)
   pairs_rows = (nat_le 3 (le32 body 0), BadEmulator (le32 body 0)) ∷ (nat_lt most_pairs (spelled_with e (emulator_key 258 body) (pairs_in (drop 8 body))), TooManyPairs) ∷ (nat_le 256 (le32 body 4), EmulatorIndex (le32 body 4)) ∷ []
 
@@ -137,37 +157,37 @@ module _ (e : EmulatorsOf) (body : List ℕ) where
 
   -- what stands in front of the text, which is tried behind it
   abbrev InFront : ℕ → Cause → Type 0
-  InFront k c = PairsHas e body k c × (35 ≤ number_of_cause c)
+  InFront k c = PairsHas records body k c × (35 ≤ number_of_cause c)
 
   in_text : (k : ℕ) (c : Cause) → InText k c → number_of_cause c ≤ 34
   in_text k c (inl (t, is)) = omega (arith, ap number_of_cause is)
   in_text k c (inr (b, is)) = omega (arith, ap number_of_cause is)
 
   rows_to : To InFront pairs_rows
-  rows_to = ((λ h. (of_pairs.bad_emulator (leb-true _ _ h), omega arith)), ((λ h. (of_pairs.too_many (ltb-true _ _ h), omega arith)), ((λ h. (of_pairs.index (leb-true _ _ h), omega arith)), tt)))
+  rows_to = ((λ h. (of_pairs.bad_emulator (leb-true _ _ h), omega arith)), ((λ h. (of_pairs.too_many (map_pairs store) merged_pairs (subst (λ n. most_pairs < n) (sym (ap length (map_pairs_text store))) (ltb-true _ _ h)), omega arith)), ((λ h. (of_pairs.index (leb-true _ _ h), omega arith)), tt)))
 
   rows_from : (k : ℕ) (c : Cause) → InFront k c → RowHas pairs_rows k c
   rows_from _ _ (of_pairs.index h, behind) = (refl, inr (inr (inl (le-leb _ _ h, refl))))
-  rows_from _ _ (of_pairs.too_many h, behind) = (refl, inr (inl (lt-ltb _ _ h, refl)))
+  rows_from _ _ (of_pairs.too_many pairs are h, behind) = (refl, inr (inl (lt-ltb _ _ (subst (λ n. most_pairs < n) (one_length pairs are) h), refl)))
   rows_from _ _ (of_pairs.bad_emulator h, behind) = (refl, inl (le-leb _ _ h, refl))
   rows_from _ _ (of_pairs.bad_key k b, behind) = absurd (omega (arith, behind))
   rows_from _ _ (of_pairs.torn k t, behind) = absurd (omega (arith, behind))
 
-  pairs_to : (k : ℕ) (c : Cause) → InText k c ⊎ InFront k c → PairsHas e body k c
-  pairs_to k c (inl (inl (t, is))) = subst (PairsHas e body k) (sym is) (of_pairs.torn k t)
-  pairs_to k c (inl (inr (b, is))) = subst (PairsHas e body k) (sym is) (of_pairs.bad_key k b)
+  pairs_to : (k : ℕ) (c : Cause) → InText k c ⊎ InFront k c → PairsHas records body k c
+  pairs_to k c (inl (inl (t, is))) = subst (PairsHas records body k) (sym is) (of_pairs.torn k t)
+  pairs_to k c (inl (inr (b, is))) = subst (PairsHas records body k) (sym is) (of_pairs.bad_key k b)
   pairs_to k c (inr h) = h.0
 
-  pairs_from : (k : ℕ) (c : Cause) → PairsHas e body k c → InText k c ⊎ InFront k c
+  pairs_from : (k : ℕ) (c : Cause) → PairsHas records body k c → InText k c ⊎ InFront k c
   pairs_from _ _ (of_pairs.index h) = inr (of_pairs.index h, omega arith)
-  pairs_from _ _ (of_pairs.too_many h) = inr (of_pairs.too_many h, omega arith)
+  pairs_from _ _ (of_pairs.too_many pairs are h) = inr (of_pairs.too_many pairs are h, omega arith)
   pairs_from _ _ (of_pairs.bad_emulator h) = inr (of_pairs.bad_emulator h, omega arith)
   pairs_from _ _ (of_pairs.bad_key k b) = inl (inr (b, refl))
   pairs_from _ _ (of_pairs.torn k t) = inl (inl (t, refl))
 
-  pub pairs_least : Least (PairsHas e body) (fault_of_pairs e body)
+  pub pairs_least : Least (PairsHas records body) (fault_of_pairs e body)
   unfolding fault_of_pairs
-  pairs_least = both_least InText InFront (PairsHas e body) (pairs_fault (drop 8 body)) (first_fault pairs_rows) (λ j k c d h g. inl (omega (arith, in_text j c h, g.1))) pairs_to pairs_from (text_least (drop 8 body)) (named InFront pairs_rows refl rows_to rows_from)
+  pairs_least = both_least InText InFront (PairsHas records body) (pairs_fault (drop 8 body)) (first_fault pairs_rows) (λ j k c d h g. inl (omega (arith, in_text j c h, g.1))) pairs_to pairs_from (text_least (drop 8 body)) (named InFront pairs_rows refl rows_to rows_from)
 
 -- ---- an emulator's context
 
@@ -187,7 +207,7 @@ context_least body = named (EmulatorContextHas body) rows refl ((λ h. of_contex
 abbrev least_in : (part : WrapperPart) → LeastTried (StandsInWrapper part)
 least_in Header = record { fault = fault_of_libxl; least = header_least }
 least_in (Head records) = record { fault = λ bytes. fault_of_libxl_head records (le32 bytes 0) (le32 bytes 4); least = λ bytes. head_least records (le32 bytes 0) (le32 bytes 4) }
-least_in (PairsBody e len) = record { fault = fault_of_pairs e; least = pairs_least e }
+least_in (PairsBody records len) = record { fault = fault_of_pairs (emulators_of records); least = pairs_least records }
 least_in (ContextBody len) = record { fault = fault_of_context; least = context_least }
 least_in (OtherBody len) = nothing_tried
 least_in (Padding n) = nothing_tried

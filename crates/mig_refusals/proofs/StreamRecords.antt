@@ -31,7 +31,7 @@ module _ (records : List LibxlRecord) where
   skipped_as type len i two three = rw (two, three) refl
 
   body_down : (type len : ℕ) (p : WrapperPart) (left : List ℕ) (c : Cause) (rest : List ℕ) → HasBody records len type p → WrapperPartFails p left c rest → body_of_type emulators type len left ≡ Faulty c rest
-  body_down _ len _ left c rest pairs h = stage_fails (tries (PairsBody emulators len)) _ left c rest h
+  body_down _ len _ left c rest pairs h = stage_fails (tries (PairsBody records len)) _ left c rest h
   body_down _ len _ left c rest context h = stage_fails (tries (ContextBody len)) _ left c rest h
   body_down _ len _ left c rest ends h = stage_fails (tries (OtherBody len)) _ left c rest h
   body_down _ len _ left c rest (optional type above) h = skipped_as type len left (grind (arith, common_steps, above)) (grind (arith, common_steps, above)) ∙ stage_fails (tries (OtherBody len)) _ left c rest h
@@ -55,7 +55,7 @@ module _ (records : List LibxlRecord) where
     body_up type f one h = by (nat_eq type 2) (nat_eq type 3) refl refl h
       where
         by : (b d : Bool) → nat_eq type 2 ≡ b → nat_eq type 3 ≡ d → cond b (body_of_type emulators 2 len i) (cond d (body_of_type emulators 3 len i) (skipped_at len i)) ≡ Faulty c rest → BodyFails type len i c rest
-        by true d two three g = subst (λ t. BodyFails t len i c rest) (sym (eqb-true type 2 two)) (PairsBody emulators len, pairs, said_fails (tries (PairsBody emulators len)) _ i c rest g)
+        by true d two three g = subst (λ t. BodyFails t len i c rest) (sym (eqb-true type 2 two)) (PairsBody records len, pairs, said_fails (tries (PairsBody records len)) _ i c rest g)
         by false true two three g = subst (λ t. BodyFails t len i c rest) (sym (eqb-true type 3 three)) (ContextBody len, context, said_fails (tries (ContextBody len)) _ i c rest g)
         by false false two three g = other_up type f one two three g
 

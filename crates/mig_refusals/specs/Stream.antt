@@ -1,26 +1,28 @@
 -- Refusals of streams of either form in the words of the format (libxl migration stream): a faultless front, and behind it a
 -- part that isn't whole or in which a cause stands.
 use Rattle.std.specs.Prelude.{◌≡◌, ◌⊎◌, ◌≤◌, ◌<◌, ◌%◌, ◌^◌, ℕ, true, false, Bool, List, [], ◌++◌, length, drop, Some, None, IsSome}
+use Rattle.std.specs.List.{flat_map}
 use Rattle.mig_bytes.specs.Bytes.{IsLeastPadding}
 use Rattle.mig_bytes.specs.Failing.{IsFaultless, Fails}
 use Rattle.mig_bytes.specs.Fields.{le32, be32, be64}
 use Rattle.mig_bytes.specs.Sequences.{Spells}
 use Rattle.mig_headers.specs.RecordTypes.{most_body}
 use Rattle.mig_headers.specs.Headers.{libxl_ident, IsLibxlHeader}
+use Rattle.mig_headers.specs.Pairs.{Pair, AreRising, text_of_pair}
 use Rattle.mig_headers.specs.declared.fault.Cause.{Cause}
 use Rattle.mig_headers.specs.declared.fault.Cause.TheVariants.{Truncated, BadVersion, BigEndian, BodyTooLong, Unsupported, UnknownMandatory, BadLength, TooManyRecords, BadPairs, BadKey, BadEmulator, EmulatorForPv, ContextCount, TooManyPairs, EmulatorIndex}
 use Rattle.mig_headers.specs.declared.fault.Place.{Place}
 use Rattle.mig_headers.specs.declared.fault.Place.TheVariants as places
 use Rattle.mig_headers.specs.declared.kind.Kind.TheVariants.{Pv}
 use Rattle.mig_policy.specs.PairFaults.{IsTornAt, IsBadKeyAt}
-use Rattle.mig_policy.specs.PairMaps.{pairs_in}
+use Rattle.mig_policy.specs.PairMaps.{last_pair_value, pairs_in}
 use Rattle.mig_restore.specs.Judging.{most_records}
 use Rattle.mig_restore.specs.Stream.{ImageOf}
 use Rattle.mig_refusals.specs.Refusals.{FailsBehind}
 use Rattle.mig_refusals.specs.Libxc.{IsFirstCause, RefusedLibxc}
 use Rattle.mig_emulators.specs.Content.{LibxlRecord, LibxlContent}
 use Rattle.mig_libxl.specs.Among.{is_libxl_ended, has_emulator, image_among}
-use Rattle.mig_emulators.specs.Emulators.{EmulatorsOf, emulators_of, most_pairs, spelled_with}
+use Rattle.mig_emulators.specs.Emulators.{most_pairs, pairs_said}
 use Rattle.mig_libxl.specs.Judging.{emulator_key}
 use Rattle.mig_libxl.specs.Spelled.{HasLibxlContent, EmulatorsFit, FollowsLibxl}
 
@@ -43,14 +45,23 @@ pub data LibxlHeadHas (records : List LibxlRecord) (type len : ℕ) : ℕ → Ca
   unsupported : (type ≡ 4) ⊎ (type ≡ 5) → LibxlHeadHas records type len 0 (Unsupported type)
   too_long : most_body < len → LibxlHeadHas records type len 0 (BodyTooLong len)
 
--- a body with pairs for an emulator, behind these emulators; the place of a text counts from the first pair
+-- what all these pairs come to: their keys in ascending order, each once, with the value of the last pair that has it
+pub record AreMerged (all pairs : List Pair) : Type 0 where
+  pub rising : AreRising pairs
+  pub values : (k : List ℕ) → last_pair_value k pairs ≡ last_pair_value k all
+
+-- all pairs for the emulator that a body names: those that these records say, and those of the body behind them
+abbrev pub pairs_with : List LibxlRecord → List ℕ → List Pair
+pairs_with records body = pairs_said (emulator_key 258 body) records ++ pairs_in (drop 8 body)
+
+-- a body with pairs for an emulator, behind these records; the place of a text counts from the first pair
 -- ("EMULATOR_XENSTORE_DATA")
-pub data PairsHas (e : EmulatorsOf) (body : List ℕ) : ℕ → Cause → Type 0 where
-  index : 256 ≤ le32 body 4 → PairsHas e body 0 (EmulatorIndex (le32 body 4))
-  too_many : most_pairs < spelled_with e (emulator_key 258 body) (pairs_in (drop 8 body)) → PairsHas e body 0 TooManyPairs
-  bad_emulator : 3 ≤ le32 body 0 → PairsHas e body 0 (BadEmulator (le32 body 0))
-  bad_key : (place : ℕ) → IsBadKeyAt (drop 8 body) place → PairsHas e body place (BadKey place)
-  torn : (place : ℕ) → IsTornAt (drop 8 body) place → PairsHas e body place (BadPairs place)
+pub data PairsHas (records : List LibxlRecord) (body : List ℕ) : ℕ → Cause → Type 0 where
+  index : 256 ≤ le32 body 4 → PairsHas records body 0 (EmulatorIndex (le32 body 4))
+  too_many : (pairs : List Pair) → AreMerged (pairs_with records body) pairs → most_pairs < length (flat_map text_of_pair pairs) → PairsHas records body 0 TooManyPairs
+  bad_emulator : 3 ≤ le32 body 0 → PairsHas records body 0 (BadEmulator (le32 body 0))
+  bad_key : (place : ℕ) → IsBadKeyAt (drop 8 body) place → PairsHas records body place (BadKey place)
+  torn : (place : ℕ) → IsTornAt (drop 8 body) place → PairsHas records body place (BadPairs place)
 
 -- a body with an emulator's context ("EMULATOR_CONTEXT")
 pub data EmulatorContextHas (body : List ℕ) : ℕ → Cause → Type 0 where
@@ -63,7 +74,7 @@ pub data EmulatorContextHas (body : List ℕ) : ℕ → Cause → Type 0 where
 pub data WrapperPart : Type 0 where
   Header : WrapperPart
   Head : List LibxlRecord → WrapperPart
-  PairsBody : EmulatorsOf → ℕ → WrapperPart
+  PairsBody : List LibxlRecord → ℕ → WrapperPart
   ContextBody : ℕ → WrapperPart
   OtherBody : ℕ → WrapperPart
   Padding : ℕ → WrapperPart
@@ -72,7 +83,7 @@ pub data WrapperPart : Type 0 where
 abbrev pub wrapper_size : WrapperPart → ℕ
 wrapper_size Header = 8
 wrapper_size (Head records) = 8
-wrapper_size (PairsBody e len) = len
+wrapper_size (PairsBody records len) = len
 wrapper_size (ContextBody len) = len
 wrapper_size (OtherBody len) = len
 wrapper_size (Padding n) = n
@@ -81,7 +92,7 @@ wrapper_size (Padding n) = n
 abbrev pub StandsInWrapper : WrapperPart → List ℕ → ℕ → Cause → Type 0
 StandsInWrapper Header bytes place cause = LibxlHeaderHas bytes place cause
 StandsInWrapper (Head records) bytes place cause = LibxlHeadHas records (le32 bytes 0) (le32 bytes 4) place cause
-StandsInWrapper (PairsBody e len) bytes place cause = PairsHas e bytes place cause
+StandsInWrapper (PairsBody records len) bytes place cause = PairsHas records bytes place cause
 StandsInWrapper (ContextBody len) bytes place cause = EmulatorContextHas bytes place cause
 StandsInWrapper (OtherBody len) bytes place cause = ⊥
 StandsInWrapper (Padding n) bytes place cause = ⊥
@@ -98,7 +109,7 @@ WrapperPartFails part left cause rest = Fails Truncated (wrapper_size part) (λ 
 
 -- the body of a record of this type and length, which isn't LIBXC_CONTEXT
 pub data HasBody (records : List LibxlRecord) (len : ℕ) : ℕ → WrapperPart → Type 0 where
-  pairs : HasBody records len 2 (PairsBody (emulators_of records) len)
+  pairs : HasBody records len 2 (PairsBody records len)
   context : HasBody records len 3 (ContextBody len)
   ends : HasBody records len 0 (OtherBody len)
   optional : (type : ℕ) → 2 ^ 31 ≤ type → HasBody records len type (OtherBody len)
