@@ -1,0 +1,2 @@
+pub mod HostLines
+pub mod Groups
