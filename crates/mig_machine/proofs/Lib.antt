@@ -1,1 +1,6 @@
 pub mod LinesLogged
+pub mod LinesApplied
+pub mod Marks
+pub mod GroupsRun
+pub mod LogsKept
+pub mod CoursesRun

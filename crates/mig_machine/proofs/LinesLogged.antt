@@ -199,7 +199,7 @@ change_differs h pfn change (Some f) t is there keeps = let was = t.frames pfn f
 
 -- ---- each line
 
-both_true : (x y : Bool) → (x && y) ≡ true → (x ≡ true) × (y ≡ true)
+pub both_true : (x y : Bool) → (x && y) ≡ true → (x ≡ true) × (y ≡ true)
 both_true true y e = (refl, e)
 both_true false y e = cc
 

@@ -1,19 +1,22 @@
 -- The groups of a script: a dot ends each, and the calls of a machine run one after another.
-use Rattle.std.specs.Prelude.{ℕ, zero, suc, ◌+◌, List, [], ◌∷◌, ◌++◌, length, take, drop}
+use Rattle.std.specs.Prelude.{ℕ, zero, suc, ◌+◌, Bool, true, false, if◌then◌else◌, List, [], ◌∷◌, ◌++◌, length, take, drop}
 use Rattle.mig_script.specs.ScriptLines.{LineOf}
 use Rattle.mig_script.specs.ScriptLines.LineOf.{Dot}
+
+-- a group ends at this line
+abbrev pub ends_group : LineOf → Bool
+ends_group Dot = true
+ends_group _ = false
 
 -- the lines before the first dot; all where there is none
 abbrev pub first_group : List LineOf → List LineOf
 first_group [] = []
-first_group (Dot ∷ lines) = []
-first_group (line ∷ lines) = line ∷ first_group lines
+first_group (line ∷ lines) = if ends_group line then [] else line ∷ first_group lines
 
 -- how many lines these are, the dot included
 abbrev pub first_length : List LineOf → ℕ
 first_length [] = 0
-first_length (Dot ∷ lines) = 1
-first_length (line ∷ lines) = first_length lines + 1
+first_length (line ∷ lines) = if ends_group line then 1 else first_length lines + 1
 
 -- how many lines there are up to the c-th dot, the dot included; all where there are fewer dots
 abbrev pub place : List LineOf → ℕ → ℕ

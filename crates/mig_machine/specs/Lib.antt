@@ -1,2 +1,4 @@
 pub mod HostLines
 pub mod Groups
+pub mod Noted
+pub mod Courses

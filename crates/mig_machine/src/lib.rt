@@ -7,6 +7,12 @@
 //! What the layers above rely on: by a law lines change no more of an HVM host's footprints than they put into the log.
 #![tactic(auto)]
 
+mod bits;
+mod change;
+mod group;
 mod law;
+mod machine;
+mod notes;
 
 pub use law::lines_log_what_they_change;
+pub use machine::ScriptMachine;

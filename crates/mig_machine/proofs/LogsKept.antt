@@ -1,0 +1,42 @@
+-- Logs that are kept in places that were made beforehand.
+use Rattle.std.proofs.Common.{zero, suc, [], ◌∷◌, ◌++◌, take, drop, le_refl, Some, arith, ◌≡◌, ℕ, ◌+◌, ◌≤◌, ◌<◌, List, length, slice_set, false, refl, ap, ◌∙◌}
+use Rattle.std.specs.Prelude.{slice_get}
+use Rattle.std.proofs.lemmas.Grind.{common_steps}
+use Rattle.mig_machine_api.specs.History.{Since, nothing_asked}
+use Rattle.mig_machine_api.specs.Pfns.{pfns_of_words, no_pfns}
+use Rattle.mig_machine.specs.declared.notes.KeptLog.{KeptLog}
+use Rattle.mig_machine.specs.Noted.{took_of, took_before}
+
+got_same : (logs : List KeptLog) (n : ℕ) (x : KeptLog) → n < length logs → slice_get (slice_set logs n x) n ≡ Some x
+got_same [] n x within = absurd (omega arith)
+got_same (y ∷ ys) zero x within = refl
+got_same (y ∷ ys) (suc n) x within = got_same ys n x (omega arith)
+
+got_other : (logs : List KeptLog) (n m : ℕ) (x : KeptLog) → m < n → slice_get (slice_set logs n x) m ≡ slice_get logs m
+got_other [] n m x below = refl
+got_other (y ∷ ys) zero m x below = absurd (omega arith)
+got_other (y ∷ ys) (suc n) zero x below = refl
+got_other (y ∷ ys) (suc n) (suc m) x below = got_other ys n m x (omega arith)
+
+still : (logs : List KeptLog) (n m : ℕ) (x : KeptLog) → m ≤ n → took_before (slice_set logs n x) m ≡ took_before logs m
+still logs n zero x h = refl
+still logs n (suc m) x h = ap (λ o. took_of o ∷ took_before (slice_set logs n x) m) (got_other logs n m x (omega arith)) ∙ ap (λ l. took_of (slice_get logs m) ∷ l) (still logs n m x (omega arith))
+
+pub logged : (logs : List KeptLog) (n : ℕ) (x : KeptLog) → n < length logs → took_before (slice_set logs n x) (n + 1) ≡ took_of (Some x) ∷ took_before logs n
+logged logs n x within =
+    ap (took_before (slice_set logs n x)) (let e : n + 1 ≡ suc n = omega arith in e)
+    ∙ ap (λ o. took_of o ∷ took_before (slice_set logs n x) n) (got_same logs n x within) ∙ ap (λ l. took_of (Some x) ∷ l) (still logs n n x (le_refl n))
+
+pub refilled : (n : ℕ) (ws items : List ℕ) → length ws ≡ n → take n (ws ++ drop (length ws) items) ≡ ws
+refilled n ws items e = grind (arith, common_steps)
+
+pub how_many : (logs : List KeptLog) (n : ℕ) → length (took_before logs n) ≡ n
+how_many logs zero = refl
+how_many logs (suc n) = let h = how_many logs n in omega arith
+
+same_since : (a b : Since) → a.read ≡ b.read → a.twice ≡ b.twice → a.calls ≡ b.calls → a ≡ b
+same_since a b p q r = λ i. record { read = p i; twice = q i; calls = r i }
+
+pub nothing : (n : ℕ) (ws items : List ℕ) → length ws ≡ n → pfns_of_words ws ≡ no_pfns
+    → ◌≡◌ {A = Since} (record { read = pfns_of_words (take n (ws ++ drop (length ws) items)); twice = false; calls = 0 }) nothing_asked
+nothing n ws items e none = same_since _ _ (ap pfns_of_words (refilled n ws items e) ∙ none) refl refl
