@@ -1,6 +1,2 @@
-pub mod LinesLogged
-pub mod LinesApplied
-pub mod Marks
-pub mod GroupsRun
 pub mod LogsKept
-pub mod CoursesRun
+pub mod Insides

@@ -1,4 +1,2 @@
-pub mod HostLines
-pub mod Groups
 pub mod Noted
-pub mod Courses
+pub mod MachineCourses

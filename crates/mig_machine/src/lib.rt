@@ -1,18 +1,17 @@
 //! A machine in memory whose guest is a host and a script of guest writes.
 //!
-//! Responsible for: where each line of a script applies, what it does to a host, and which frame number it puts into the log;
-//! the groups that dots end. Left to others: how a line is written (mig_script), the changes of a host themselves (mig_host),
-//! and what a saver may ask of a machine (mig_machine_api).
+//! Responsible for: `ScriptMachine`, which is honest and meets the trait `Machine` for hosts of HVM guests: until it is paused,
+//! each call runs the lines up to the next dot before it answers. It never fails, and takes all its memory as it is made. Left
+//! to others: what a line does (mig_lines), what a saver may ask of a machine (mig_machine_api), and the saver.
 //!
-//! What the layers above rely on: by a law lines change no more of an HVM host's footprints than they put into the log.
+//! What the layers above rely on: its host is what the lines run so far make of the first one, and no line runs behind the
+//! pause.
 #![tactic(auto)]
 
-mod bits;
-mod change;
-mod group;
+mod answers;
 mod law;
 mod machine;
 mod notes;
 
-pub use law::lines_log_what_they_change;
+pub use law::script_machine_is_at;
 pub use machine::ScriptMachine;

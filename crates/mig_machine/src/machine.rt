@@ -2,14 +2,13 @@ ghost use Rattle.std.specs.Prelude.{◌≡◌, ℕ, ◌+◌, ◌/◌, ◌≤◌,
 ghost use Rattle.mig_headers.specs.declared.kind.Kind.TheVariants.{Hvm};
 ghost use Rattle.mig_machine_api.specs.Pfns.{pfns_of_words};
 ghost use Rattle.mig_script.specs.Scripts.{lines_of};
-ghost use Rattle.mig_machine.specs.Groups.{place};
-ghost use Rattle.mig_machine.specs.HostLines.{room_for};
+ghost use Rattle.mig_lines.specs.Groups.{lines_to_dot};
+ghost use Rattle.mig_lines.specs.HostLines.{room_for};
 
-use crate::bits::no_bits;
-use crate::group::{room_in, run_logged};
 use crate::notes::Notes;
 use mig_bytes::Memory;
 use mig_host::Host;
+use mig_lines::{no_bits, room_in, run_logged};
 use mig_script::Script;
 use std::alloc::Global;
 
@@ -32,7 +31,7 @@ pub struct ScriptMachine {
     ghost log_size: { length log.items ≡ (host.host.width + 63) / 64 },
     ghost log_below: { (pfn : ℕ) → host.host.width ≤ pfn → pfns_of_words log.items pfn ≡ false },
     ghost notes_size: { length notes.read.items ≡ (host.host.width + 63) / 64 },
-    ghost left: { at ≡ place (lines_of script) runs },
+    ghost left: { at ≡ lines_to_dot (lines_of script) runs },
     ghost room: { room_for (drop at (lines_of script)) ≤ host.spare },
     ghost running: { paused ≡ false → runs ≡ calls },
     ghost counted: { runs ≤ calls },
@@ -45,7 +44,8 @@ impl ScriptMachine {
     ghost use Rattle.mig_machine_api.specs.History.{no_history};
     ghost use Rattle.mig_machine_api.specs.Pfns.{no_pfns};
     ghost use Rattle.mig_machine.specs.Noted.{history_of};
-    ghost use Rattle.mig_machine.specs.Courses.{course_of, IsLaterCourse, GuestRan};
+    ghost use Rattle.mig_lines.specs.Courses.{IsLaterCourse, GuestRan};
+    ghost use Rattle.mig_machine.specs.MachineCourses.{course_of};
 
     /// A machine at this host, of which nothing was asked yet. It takes all memory that later calls need.
     pub fn new(alloc: Global, host: Host, script: Script) -> Result<ScriptMachine, Memory>

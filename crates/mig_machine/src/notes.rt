@@ -1,8 +1,8 @@
 ghost use Rattle.std.specs.Prelude.{◌≡◌, ℕ, ◌≤◌, ◌<◌, length, IfOk};
 ghost use Rattle.std.specs.List.{All};
 
-use crate::bits::{clear, is_marked, mark, no_bits};
 use mig_bytes::Memory;
+use mig_lines::{clear, is_marked, mark, no_bits};
 use std::alloc::Global;
 
 /// How many logs can be taken.

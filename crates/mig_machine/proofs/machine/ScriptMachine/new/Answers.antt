@@ -2,7 +2,7 @@ use Rattle.std.proofs.Common.{rules, arith, ◌≡◌, ◌≤◌, ◌+◌, ◌/�
 use Rattle.mig_guest.specs.Hosts.{HostOf}
 use Rattle.mig_machine_api.specs.Pfns.{Pfns}
 use Rattle.mig_script.specs.Scripts.{lines_of}
-use Rattle.mig_machine.specs.HostLines.{room_for}
+use Rattle.mig_lines.specs.HostLines.{room_for}
 use Rattle.mig_machine.proofs.machine.ScriptMachine.new.Goals as goal
 
 pub invariant_of-result : goal.invariant_of-result

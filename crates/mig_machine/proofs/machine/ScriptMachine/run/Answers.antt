@@ -1,11 +1,11 @@
 use Rattle.std.proofs.Common.{rules, arith, ◌≤◌, ◌-◌, ◌^◌, min, ◌+◌, ◌/◌, length, drop, refl, sym, ap, ◌∙◌}
 use Rattle.mig_machine_api.specs.Pfns.{pfns_of_words}
 use Rattle.mig_script.specs.Scripts.{lines_of}
-use Rattle.mig_machine.specs.Courses.{course_of}
-use Rattle.mig_machine.specs.Groups.{first_group, first_length}
-use Rattle.mig_machine.specs.HostLines.{after}
-use Rattle.mig_machine.proofs.CoursesRun.{next_place, later_now, group_ran, guest_ran}
-use Rattle.mig_machine.proofs.LinesLogged.{tame}
+use Rattle.mig_machine.specs.MachineCourses.{course_of}
+use Rattle.mig_lines.specs.Groups.{first_group, first_length}
+use Rattle.mig_lines.specs.HostLines.{after}
+use Rattle.mig_lines.proofs.CoursesRun.{next_place, later_now, group_ran, guest_ran}
+use Rattle.mig_lines.proofs.LinesLogged.{tame}
 use Rattle.mig_machine.proofs.machine.ScriptMachine.run.Goals as goal
 
 pub returns-clause-guest : goal.returns-clause-guest

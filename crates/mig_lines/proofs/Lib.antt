@@ -1,0 +1,5 @@
+pub mod LinesLogged
+pub mod LinesApplied
+pub mod Marks
+pub mod GroupsRun
+pub mod CoursesRun

@@ -1,0 +1,3 @@
+pub mod HostLines
+pub mod Groups
+pub mod Courses

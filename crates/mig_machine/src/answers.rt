@@ -1,0 +1,110 @@
+ghost use Rattle.std.specs.Prelude.{◌≡◌, ℕ, ◌+◌, ◌/◌, ◌≤◌, length, true};
+ghost use Rattle.mig_guest.specs.PartCodes.{is_fixed as is_fixed_code};
+ghost use Rattle.mig_machine_api.specs.MachineCalls.{seen_at, page_peeked};
+ghost use Rattle.mig_machine_api.specs.Pfns.{pfns_of_words, no_pfns};
+ghost use Rattle.mig_lines.specs.Courses.{IsLaterCourse};
+ghost use Rattle.mig_machine.specs.MachineCourses.{course_of};
+ghost use Rattle.mig_machine.specs.Noted.{history_of};
+ghost use Rattle.mig_lines.proofs.CoursesRun.{later_itself, later_still};
+
+use crate::machine::ScriptMachine;
+use mig_bytes::Failed;
+use mig_guest::PartKey;
+use mig_headers::Kind;
+use mig_host::Host;
+use mig_lines::{clear, is_fixed};
+use mig_machine_api::{Machine, Seen};
+use mig_pvtables::Frames;
+
+/// What the host has at a frame number; the raw page is copied, where there is one.
+fn look(host: &Host, pfn: u64, page: &mut [u8; 4096]) -> Seen
+    ensures seen { result ≡ seen_at host.now.host.frames pfn }
+    ensures page { page.new ≡ page_peeked host.now.host.frames pfn page.old }
+{
+    let Some(kind) = host.frame(pfn) else {
+        return Seen::Absent;
+    };
+    if let Some(raw) = host.page(pfn) {
+        *page = *raw;
+    }
+    Seen::Frame(kind)
+}
+
+/// The words of a log go to the bits, and then nothing is in it.
+fn hand_over(log: &mut Vec<u64>, bits: &mut [u64])
+    requires { length bits.old ≡ length log.old.items }
+    ensures bits { bits.new ≡ log.old.items }
+    ensures empty { pfns_of_words log.new.items ≡ no_pfns }
+    ensures size { length log.new.items ≡ length log.old.items }
+{
+    bits.copy_from_slice(log);
+    clear(log);
+}
+
+impl Machine for ScriptMachine {
+    ghost state = { λ m. record {
+      host = m.host.host;
+      log = pfns_of_words m.log.items;
+      paused = m.paused;
+      honest = true;
+      history = history_of m.notes;
+    } };
+
+    ghost faults = { λ m. 0 };
+
+    ghost Later = { λ a b. IsLaterCourse (course_of a) (course_of b) };
+
+    fn kind(&self) -> Kind {
+        self.host.kind()
+    }
+
+    fn width(&self) -> u64 {
+        self.host.width()
+    }
+
+    fn next_key(&self, after: Option<PartKey>) -> Option<PartKey> {
+        self.host.next_part(after)
+    }
+
+    fn fixed_part(&self, key: PartKey) -> Option<&[u8]> {
+        if is_fixed(key.code) {
+            self.host.part(key)
+        } else {
+            None
+        }
+    }
+
+    fn part(&self, key: PartKey) -> Option<&[u8]> {
+        self.host.part(key)
+    }
+
+    fn peek(&mut self, pfn: u64, page: &mut [u8; 4096]) -> Result<Seen, Failed> {
+        self.run();
+        self.notes.note_read(pfn);
+        Ok(look(&self.host, pfn, page))
+    }
+
+    fn pfn_of(&mut self, mfn: u64) -> Result<Option<u64>, Failed> {
+        self.run();
+        self.notes.note_call();
+        Ok(self.host.pfn_of(mfn))
+    }
+
+    fn take_log(&mut self, bits: &mut [u64]) -> Result<(), Failed> {
+        self.run();
+        self.notes.note_log(&self.log, self.paused);
+        hand_over(&mut self.log, bits);
+        Ok(())
+    }
+
+    fn pause(&mut self) -> Result<(), Failed> {
+        self.run();
+        self.notes.note_call();
+        self.paused = true;
+        Ok(())
+    }
+
+    ghost later_self = { λ m. later_itself (course_of m) };
+
+    ghost later_on = { λ a b c p q. later_still (course_of a) (course_of b) (course_of c) p q };
+}
