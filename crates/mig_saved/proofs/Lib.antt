@@ -1,0 +1,3 @@
+mod Told
+pub mod Viewed
+pub mod Written
