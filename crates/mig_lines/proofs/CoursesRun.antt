@@ -7,7 +7,7 @@ use Rattle.mig_machine_api.specs.Pfns.{Pfns}
 use Rattle.mig_script.specs.ScriptLines.{LineOf}
 use Rattle.mig_script.specs.ScriptLines.LineOf.{Write, Retype, Add, Remove, Exchange, Put, Dot}
 use Rattle.mig_lines.specs.Courses.{Course, IsLaterCourse, GuestRan}
-use Rattle.mig_lines.specs.Groups.{ends_group, first_group, first_length, lines_to_dot, ran, ran_between}
+use Rattle.mig_lines.specs.Groups.{ends_group, first_group, first_length, lines_up_to, ran, ran_between}
 use Rattle.mig_lines.specs.HostLines.{after, after_line, logged_after}
 use Rattle.mig_lines.proofs.LinesLogged.{IsTame, LinesRan, lines_ran}
 
@@ -47,7 +47,7 @@ ends_by (line ∷ lines) = go (ends_group line) refl (ends_by lines)
 -- ---- one call more
 
 abbrev pub group_at : List LineOf → ℕ → List LineOf
-group_at lines c = first_group (drop (lines_to_dot lines c) lines)
+group_at lines c = first_group (drop (lines_up_to lines c) lines)
 
 regroup : (a b d x : List LineOf) → (a ++ (b ++ d)) ++ x ≡ (a ++ b) ++ (d ++ x)
 regroup a b d x = simp append_assoc
@@ -60,8 +60,8 @@ record RanMore (lines : List LineOf) (c : ℕ) : Type 0 where
 ran_more : (lines : List LineOf) (c : ℕ) → RanMore lines c
 ran_more lines zero = record { dots = []; is = ap (ran lines) (let e : zero + 1 ≡ suc zero = omega arith in e); stays = λ h. refl }
 ran_more lines (suc k) =
-    let p = lines_to_dot lines k in
-    let rest = drop (lines_to_dot lines k) lines in
+    let p = lines_up_to lines k in
+    let rest = drop (lines_up_to lines k) lines in
     let e = ends_by rest in
     record {
       dots = e.dots;
@@ -119,30 +119,30 @@ some_first : (lines : List LineOf) → 0 < length lines → 1 ≤ first_length l
 some_first [] some = absurd (omega arith)
 some_first (line ∷ lines) some = elim (ends_group line) as (λ b. 1 ≤ cond b 1 (first_length lines + 1)) [ true ↦ omega arith | false ↦ omega arith ]
 
-far_enough : (lines : List LineOf) (c : ℕ) → (length lines ≤ lines_to_dot lines c) ⊎ (c ≤ lines_to_dot lines c)
+far_enough : (lines : List LineOf) (c : ℕ) → (length lines ≤ lines_up_to lines c) ⊎ (c ≤ lines_up_to lines c)
 far_enough lines zero = inr (omega arith)
 far_enough lines (suc c) = elim (far_enough lines c) [
   | inl all ↦ inl (omega (arith, all))
-  | inr many ↦ elim (cases_lt (lines_to_dot lines c) (length lines)) [
-    | inl less ↦ let one : 1 ≤ first_length (drop (lines_to_dot lines c) lines) = some_first (drop (lines_to_dot lines c) lines) (let n = length-drop (lines_to_dot lines c) lines in omega (arith, n, less)) in inr (omega (arith, one, many))
+  | inr many ↦ elim (cases_lt (lines_up_to lines c) (length lines)) [
+    | inl less ↦ let one : 1 ≤ first_length (drop (lines_up_to lines c) lines) = some_first (drop (lines_up_to lines c) lines) (let n = length-drop (lines_up_to lines c) lines in omega (arith, n, less)) in inr (omega (arith, one, many))
     | inr over ↦ inl (omega (arith, over))
   ]
 ]
 
-none_left : (lines : List LineOf) (c : ℕ) → length lines ≤ c → drop (lines_to_dot lines c) lines ≡ []
+none_left : (lines : List LineOf) (c : ℕ) → length lines ≤ c → drop (lines_up_to lines c) lines ≡ []
 none_left lines c few = drop_of_length-le lines (elim (far_enough lines c) [ inl all ↦ all | inr many ↦ omega (arith, many, few) ])
 
 pub record IsNextCount (c d : ℕ) : Type 0 where
   pub is : d ≡ min (c + 1) (2 ^ 64 - 1)
   pub fits : c ≤ 2 ^ 64 - 1
 
-pub next_place : (lines : List LineOf) (c d : ℕ) → IsNextCount c d → length lines ≤ 2 ^ 64 - 1 → lines_to_dot lines c + first_length (drop (lines_to_dot lines c) lines) ≡ lines_to_dot lines d
+pub next_place : (lines : List LineOf) (c d : ℕ) → IsNextCount c d → length lines ≤ 2 ^ 64 - 1 → lines_up_to lines c + first_length (drop (lines_up_to lines c) lines) ≡ lines_up_to lines d
 next_place lines c d next few = elim (cases_lt c (2 ^ 64 - 1)) [
-  | inl less ↦ let is = next.is in ap (lines_to_dot lines) (let e : suc c ≡ d = omega (arith, is, less) in e)
+  | inl less ↦ let is = next.is in ap (lines_up_to lines) (let e : suc c ≡ d = omega (arith, is, less) in e)
   | inr last ↦
       let is = next.is in let fits = next.fits in
-      let none : first_length (drop (lines_to_dot lines c) lines) ≡ 0 = ap first_length (none_left lines c (omega (arith, last, few))) in
-      let same : lines_to_dot lines c ≡ lines_to_dot lines d = ap (lines_to_dot lines) (let e : c ≡ d = omega (arith, is, fits, last) in e) in omega (arith, none, same)
+      let none : first_length (drop (lines_up_to lines c) lines) ≡ 0 = ap first_length (none_left lines c (omega (arith, last, few))) in
+      let same : lines_up_to lines c ≡ lines_up_to lines d = ap (lines_up_to lines) (let e : c ≡ d = omega (arith, is, fits, last) in e) in omega (arith, none, same)
 ]
 
 pub next_after : (lines : List LineOf) (h : HostOf) (c d : ℕ) → IsNextCount c d → length lines ≤ 2 ^ 64 - 1 → after h (group_at lines c) ≡ after h (ran_between lines c d)

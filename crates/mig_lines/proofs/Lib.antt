@@ -3,3 +3,4 @@ pub mod LinesApplied
 pub mod Marks
 pub mod GroupsRun
 pub mod CoursesRun
+pub mod DotsCounted

@@ -2,7 +2,7 @@ ghost use Rattle.std.specs.Prelude.{◌≡◌, ℕ, ◌+◌, ◌/◌, ◌≤◌,
 ghost use Rattle.mig_headers.specs.declared.kind.Kind.TheVariants.{Hvm};
 ghost use Rattle.mig_machine_api.specs.Pfns.{pfns_of_words};
 ghost use Rattle.mig_script.specs.Scripts.{lines_of};
-ghost use Rattle.mig_lines.specs.Groups.{lines_to_dot};
+ghost use Rattle.mig_lines.specs.Groups.{lines_up_to};
 ghost use Rattle.mig_lines.specs.HostLines.{room_for};
 
 use crate::notes::Notes;
@@ -31,7 +31,7 @@ pub struct ScriptMachine {
     ghost log_size: { length log.items ≡ (host.host.width + 63) / 64 },
     ghost log_below: { (pfn : ℕ) → host.host.width ≤ pfn → pfns_of_words log.items pfn ≡ false },
     ghost notes_size: { length notes.read.items ≡ (host.host.width + 63) / 64 },
-    ghost left: { at ≡ lines_to_dot (lines_of script) runs },
+    ghost left: { at ≡ lines_up_to (lines_of script) runs },
     ghost room: { room_for (drop at (lines_of script)) ≤ host.spare },
     ghost running: { paused ≡ false → runs ≡ calls },
     ghost counted: { runs ≤ calls },
