@@ -1,6 +1,6 @@
 """What a refusal means and what can be done, in half a sentence each: the short form of docs/refusals.md, which has a row
 for each of these, and tests/mig compares the names."""
-from typing import NamedTuple
+from collections import namedtuple
 
 COPY = 'copy the file again and compare its size with the origin'
 DAMAGED = 'copy the file again, else save the guest again'
@@ -8,10 +8,7 @@ PAUSED = 'save the guest again, while it is paused'
 NOT_TAKEN = 'such guests are not taken'
 
 
-class Advice(NamedTuple):
-    name: str
-    means: str
-    do: str
+Advice = namedtuple('Advice', 'name means do')
 
 
 STREAM = {

@@ -1,6 +1,6 @@
 """Which form a file has, told by its first bytes."""
 import struct
-from typing import NamedTuple, Union
+from collections import namedtuple
 
 from front import headers
 
@@ -24,13 +24,9 @@ OTHERS = (
 )
 
 
-class Form(NamedTuple):
-    """What a file is: its kind, that in words, and where the stream in it begins."""
-    kind: str
-    words: str
-    begins: int = 0
-    header: Union[headers.XlHeader, headers.LibvirtHeader, None] = None
-    why: str = ''
+# What a file is: its kind, that in words, where the stream in it begins, the header of a toolstack before it, and of a file
+# that no command takes why.
+Form = namedtuple('Form', 'kind words begins header why', defaults=(0, None, ''))
 
 
 def packer_of(front):

@@ -10,7 +10,7 @@ of 4 bytes, little-endian on x86; 40 unused bytes; then the text. Version 1 stan
 before a libxl stream.
 """
 import struct
-from typing import NamedTuple
+from collections import namedtuple
 
 XL_MAGIC = b'Xen saved domain, xl format\n \0 \r'
 XL_NUMBERS = struct.Struct('<IIII')
@@ -27,11 +27,8 @@ class BadHeader(Exception):
     """What is wrong with a header, in one line."""
 
 
-class XlHeader(NamedTuple):
+class XlHeader(namedtuple('XlHeader', 'mandatory optional length')):
     """What xl's header says, without the configuration itself."""
-    mandatory: int
-    optional: int
-    length: int
 
     @property
     def stream_begins(self):
@@ -68,10 +65,8 @@ def xl_header_before_v2(header, configuration):
     return XL_MAGIC + numbers + configuration
 
 
-class LibvirtHeader(NamedTuple):
+class LibvirtHeader(namedtuple('LibvirtHeader', 'version length')):
     """What libvirt's header says, without the XML text."""
-    version: int
-    length: int
 
     @property
     def stream_begins(self):

@@ -1,7 +1,7 @@
 """The proved program: where it is, and what it answers of an input."""
 import os
 import subprocess
-from typing import NamedTuple
+from collections import namedtuple
 
 TOP = os.path.dirname(os.path.dirname(os.path.realpath(__file__)))
 BUILT = os.path.join(TOP, 'crates', 'mig_tool', 'out', 'mig_tool')
@@ -45,10 +45,16 @@ class Running:
 RUNNING = Running()
 
 
-class Answer(NamedTuple):
-    """A status of the program, or NO_MEMORY where it was killed, and its line."""
-    status: int
-    line: str
+# A status of the program, or NO_MEMORY where it was killed, and its line.
+Answer = namedtuple('Answer', 'status line')
+
+
+def is_older(place, time):
+    """Whether a folder, and all below it, was changed at this time or before."""
+    if os.stat(place).st_mtime_ns > time:
+        return False
+    with os.scandir(place) as entries:
+        return all(is_older(entry.path, time) if entry.is_dir() else entry.stat().st_mtime_ns <= time for entry in entries)
 
 
 def is_current():
@@ -57,12 +63,10 @@ def is_current():
         built = os.stat(BUILT).st_mtime_ns
     except OSError:
         return False
-    places = [os.path.join(TOP, 'crates.txt')]
-    for crate in os.scandir(os.path.join(TOP, 'crates')):
-        for part in 'src', 'specs', 'proofs':
-            for folder, _, files in os.walk(os.path.join(crate.path, part)):
-                places += [folder] + [os.path.join(folder, name) for name in files]
-    return all(os.stat(place).st_mtime_ns <= built for place in places)
+    crates = [crate.path for crate in os.scandir(os.path.join(TOP, 'crates'))]
+    parts = [os.path.join(crate, part) for crate in crates for part in ('src', 'specs', 'proofs')]
+    return (os.stat(os.path.join(TOP, 'crates.txt')).st_mtime_ns <= built
+            and all(is_older(part, built) for part in parts if os.path.isdir(part)))
 
 
 def find():

@@ -1,6 +1,6 @@
 """What is to be said of one file: the program's answer, and around it what the front knows."""
 import re
-from typing import NamedTuple, Optional
+from collections import namedtuple
 
 from front import advice, forms, places, program, sources
 from front.text import shown
@@ -10,19 +10,12 @@ REFUSAL = re.compile(r'refused: (\w+(?: \d+)?): (\d+) \w+')
 FACTS = re.compile(r'ok version (\d+) kind (\w+) frames (\d+) records (\d+)')
 
 
-class Verdict(NamedTuple):
-    """Of one file: a result, the status that goes with it, the form that was found, the line, and what explains it."""
-    name: str
-    result: str
-    status: int
-    line: str
-    form: Optional[str] = None
-    begins: Optional[int] = None
-    offset: Optional[int] = None
-    packed: Optional[str] = None
-    means: Optional[str] = None
-    do: Optional[str] = None
-    follows: Optional[int] = None
+FIELDS = 'name result status line form begins offset packed means do follows'
+
+
+class Verdict(namedtuple('Verdict', FIELDS, defaults=(None,) * 7)):
+    """Of one file: a result, the status that goes with it, the program's line, the form that was found, and what explains
+    it; None where that says nothing of the file."""
 
     def lines(self):
         """What is printed of it."""
