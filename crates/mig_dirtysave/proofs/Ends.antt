@@ -261,15 +261,6 @@ module _ (rounds : ℕ) (s t u v : MachineState) (set log : Pfns) (notes : Notes
 
 -- ---- the start
 
-pub live_start : (s : MachineState) (set : Pfns) → s.paused ≡ false → s.history ≡ no_history → set ≡ all_below s.host.width → Live s set
-live_start s set unpaused unread all = record {
-  paused = unpaused;
-  since = ap (λ (h : History). h.since) unread;
-  rounds = subst (AreRounds s.host.kind s.host.width) (sym (ap (λ (h : History). h.taken) unread)) (record { reads = tt; sizes = tt; calls = tt; once = tt });
-  number = ap (λ (h : History). h.live) unread ∙ ap length (sym (ap (λ (h : History). h.taken) unread));
-  unread = all ∙ ap (to_read s.host.width) (sym (ap (λ (h : History). h.taken) unread));
-}
-
 past : (width q : ℕ) → all_below width q ≡ false → width ≤ q
 past width q h = grind (arith, nat_tests)
 

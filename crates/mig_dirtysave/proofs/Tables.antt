@@ -186,12 +186,6 @@ front_whole s t p kind level before page f = record {
 
 -- ---- what was found
 
-pub judged_super : (t : MachineState) (p : ℕ) (kind : PageType) (level : ℕ) (before page : List ℕ) (slot : ℕ) → level_of kind ≡ Some level → IsRaw t p kind level before
-    → Some slot ≡ first_superpage level before → IsRight t p (found_as (found.Superpage kind slot) page)
-judged_super t p kind level before page slot is r at = λ settled.
-    let print = raw_print t.host.frames kind level before in
-    ap (λ s. judge s (lost_in (table_in (level_of kind) (Some before)) print.names) (form_of_print print)) (at ∙ sym (ap (λ l. superpage_in (table_in l (Some before))) is)) ∙ sym (ap judged (r.print settled))
-
 judged_table : (t : MachineState) (p : ℕ) (kind : PageType) (level : ℕ) (before : List ℕ) → level_of kind ≡ Some level → IsRaw t p kind level before
     → first_superpage level before ≡ None → Settled t p
     → judged (footprint t.host.frames p)
@@ -202,12 +196,6 @@ judged_table t p kind level before is r none settled =
     ap judged (r.print settled)
     ∙ ap (λ l. judge (superpage_in (table_in l (Some before))) (lost_in (table_in l (Some before)) names) (record { type = kind; page = form_page (table_in l (Some before)) names (Some before) })) is
     ∙ ap (λ s. judge s (lost_in (Some (level, before)) names) (record { type = kind; page = Some (renamed_by names level (blanked_table level before)) })) none
-
-pub judged_lost : (t : MachineState) (p : ℕ) (kind : PageType) (level : ℕ) (before page : List ℕ) (slot : ℕ) → level_of kind ≡ Some level → IsRaw t p kind level before
-    → first_superpage level before ≡ None → IsRenamed t p level before page (Some slot) → IsRight t p (found_as (found.NoFrame kind slot) page)
-judged_lost t p kind level before page slot is r none renamed = λ settled.
-    let names = names_in t.host.frames (Some (level, before)) in
-    ap (λ s. judge None s (record { type = kind; page = Some (renamed_by names level (blanked_table level before)) })) (renamed.first settled) ∙ sym (judged_table t p kind level before is r none settled)
 
 no_level : (kind : PageType) (level : ℕ) → level_of kind ≡ Some level → type_has_data kind ≡ false → ⊥
 no_level Notab level is e = let no : ◌≡◌ {A = Option ℕ} None (Some level) = is in cc
