@@ -16,7 +16,7 @@ use Rattle.byteorder.specs.Endian.{little_bytes}
 use Rattle.mig_bytes.specs.declared.failure.WriteFailed.{WriteFailed}
 use Rattle.mig_headers.specs.declared.kind.Kind.TheVariants.{Pv}
 use Rattle.mig_guest.specs.Guests.{GuestOf}
-use Rattle.mig_guest.specs.Formed.{IsTop, width_of}
+use Rattle.mig_guest.specs.Formed.{IsFormed, IsTop, width_of}
 use Rattle.mig_guest.specs.Order.{part_cmp}
 use Rattle.mig_guest.specs.PartCodes.{row_of}
 use Rattle.mig_guest.specs.PartKeys.{p2m_key}
@@ -27,7 +27,6 @@ use Rattle.mig_guest.proofs.KeyedMaps.{tied}
 use Rattle.mig_guest.proofs.PartOrder.{part_exact}
 use Rattle.mig_guest.proofs.PartRows.{numbered}
 use Rattle.mig_bodies.specs.Shapes.{of_vcpu}
-use Rattle.mig_pvtables.specs.Whole.{IsWhole}
 use Rattle.mig_records.specs.Records.{spelled}
 use Rattle.mig_canon.specs.Canon.{vcpu_codes, all_vcpus}
 use Rattle.mig_canon.proofs.Spelling.{text_one, text_join, texts_of, record_text}
@@ -99,7 +98,7 @@ found_holds P q bytes (e ∷ es) all is = elim (eq_by_cmp part_cmp q e.0) as (λ
   | false ↦ λ t at. found_holds P q bytes es (All-tail P e es all) at
 ] refl is
 
-module _ (g : GuestOf) (whole : IsWhole g) where
+module _ (g : GuestOf) (formed : IsFormed g) where
   -- a part that is there is among those of its code
   among_code : (q : PartKey) (bytes : List ℕ) (n : ℕ) → q.code ≡ n → maps.get g.parts q ≡ Some bytes → find part_cmp q (parts_of n (maps.entries g.parts)) ≡ Some bytes
   among_code q bytes n is there =
@@ -108,17 +107,17 @@ module _ (g : GuestOf) (whole : IsWhole g) where
       ∙ ap (λ b. cond b (find part_cmp q (maps.entries g.parts)) None) (eq-eqb q.code n is) ∙ sym (maps.get-entries g.parts q) ∙ there
 
   pub short_part : (code : PartCode) (id : ℕ) (bytes : List ℕ) → maps.get g.parts (key_of code id) ≡ Some bytes → IsShortPart (shape_of code) (key_of code id, bytes)
-  short_part code id bytes there = found_holds (IsShortPart (shape_of code)) (key_of code id) bytes (parts_at code g) (short_parts code g whole) (among_code (key_of code id) bytes (code_number code) refl there)
+  short_part code id bytes there = found_holds (IsShortPart (shape_of code)) (key_of code id) bytes (parts_at code g) (short_parts code g formed) (among_code (key_of code id) bytes (code_number code) refl there)
 
   -- ---- the P2M frames of a PV guest
 
   module _ (pv : g.kind ≡ Pv) where
     pub top_small : g.top < 2 ^ 28
-    top_small = subst (λ kind. IsTop kind g.top) pv whole.formed.top
+    top_small = subst (λ kind. IsTop kind g.top) pv formed.top
 
     pub p2m_short : (bytes : List ℕ) → maps.get g.parts p2m_key ≡ Some bytes → length bytes ≤ 2 ^ 22
     p2m_short bytes there =
-        let part = whole.formed.parts p2m_key bytes there in
+        let part = formed.parts p2m_key bytes there in
         let named : Some P2mFrames ≡ Some part.code = numbered 3 part.code part.number in let code : P2mFrames ≡ part.code = cc in
         let len = eqb-true (length bytes) _ (subst (λ c. (row_of c).allows (width_of g) (length bytes) ≡ true) (sym code) part.len) in
         omega (arith, len, top_small)

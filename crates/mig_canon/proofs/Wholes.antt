@@ -1,4 +1,4 @@
--- What a whole guest says of its parts, code by code.
+-- What a well formed guest says of its parts, code by code.
 use Rattle.mig_canon.proofs.Common.{◌≡◌, ℕ, zero, suc, ◌+◌, ◌*◌, ◌<◌, ◌≤◌, ◌^◌, List, [], ◌∷◌, length, map, true, Option, Some, None, refl, sym, ap, subst, ◌∙◌, arith, All, Part, parts_of, parts_after, shape_of, parts_at, part_body, bodies_by_shape, contents_by_shape, IsRow, IsShaped, SayAll, IsShortPart}
 use Rattle.std.specs.Prelude.{◌==◌}
 use Rattle.std.proofs.lemmas.Bool.{eqb-true}
@@ -15,7 +15,7 @@ use Rattle.mig_bodies.specs.Layouts.{AreWidths, entry_width, front_width, table_
 use Rattle.mig_bodies.proofs.Canonical.{canonical_bodies_say}
 use Rattle.mig_bodies.proofs.Rows.{all_rows}
 use Rattle.mig_bodies.proofs.TableSpelled.{table_len}
-use Rattle.mig_pvtables.specs.Whole.{IsWhole}
+use Rattle.mig_guest.specs.Formed.{IsFormed}
 
 -- ---- a walk over a code
 
@@ -51,8 +51,8 @@ short_by_shape code (Named second ignored skips) ps h = short_alone code (part_b
 short_by_shape code Chain ps h = short_alone code (part_body Chain) ps h
 short_by_shape code Other ps h = all_true (IsShortPart Other) (λ p. omega arith) ps
 
-pub short_parts : (code : PartCode) (g : GuestOf) → IsWhole g → All (IsShortPart (shape_of code)) (parts_at code g)
-short_parts code g whole = short_by_shape code (shape_of code) (parts_at code g) (canonical_bodies_say code g whole.formed)
+pub short_parts : (code : PartCode) (g : GuestOf) → IsFormed g → All (IsShortPart (shape_of code)) (parts_at code g)
+short_parts code g formed = short_by_shape code (shape_of code) (parts_at code g) (canonical_bodies_say code g formed)
 
 -- ---- tables
 
@@ -80,12 +80,12 @@ table_fits code l (p ∷ ps) is some h =
     let len = table_len code l w body (p ∷ ps) (subst (λ s. IsShaped s code body (p ∷ ps)) is h.0.says) in
     record { len = len; short = h.0.short; few = at_most (entry_width l) (front_width l) (length (p ∷ ps)) (omega (arith, w.some)) (omega (arith, len, h.0.short)) }
 
-module _ (code : PartCode) (l : Layout) (g : GuestOf) (is : shape_of code ≡ Table l) (whole : IsWhole g) where
+module _ (code : PartCode) (l : Layout) (g : GuestOf) (is : shape_of code ≡ Table l) (formed : IsFormed g) where
   pub widths : AreWidths l
   widths = widths_by_shape code l is
 
   pub fits : (length (parts_at code g) ≡ 0 → ⊥) → Fits l (parts_at code g)
-  fits some = let ps = parts_at code g in table_fits code l ps is some (subst (λ s. SayAll code (bodies_by_shape s ps) (contents_by_shape s ps)) is (canonical_bodies_say code g whole.formed))
+  fits some = let ps = parts_at code g in table_fits code l ps is some (subst (λ s. SayAll code (bodies_by_shape s ps) (contents_by_shape s ps)) is (canonical_bodies_say code g formed))
 
   pub few_rows : length (parts_at code g) < 2 ^ 32
   few_rows = by (length (parts_at code g)) refl

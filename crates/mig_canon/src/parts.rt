@@ -4,7 +4,7 @@ ghost use Rattle.byteorder.specs.Endian.{little_bytes};
 ghost use Rattle.mig_bytes.specs.Bytes.{Puts};
 ghost use Rattle.mig_bytes.specs.Faults.{HasCause};
 ghost use Rattle.mig_headers.specs.RecordTypes.{most_body};
-ghost use Rattle.mig_pvtables.specs.Whole.{IsWhole};
+ghost use Rattle.mig_guest.specs.Formed.{IsFormed};
 ghost use Rattle.mig_records.specs.Records.{spelled};
 ghost use Rattle.mig_guest.specs.PartCodes.{code_number};
 ghost use Rattle.mig_bodies.specs.declared.shape.Shape.TheVariants as shapes;
@@ -159,7 +159,7 @@ pub(crate) fn write_piece<K: Sink>(
 
 /// Appends all parts of the code, one after another.
 fn write_pieces<K: Sink>(sink: &mut K, guest: &Guest, code: PartCode) -> Result<(), WriteFailed>
-    requires { IsWhole guest.now }
+    requires { IsFormed guest.now }
     ensures bytes { Puts (flat_map (piece (shape_of code) (code_number code)) (parts_at code guest.now)) (K.written sink.old) (K.written sink.new) result }
     ensures cause { HasCause (K.faults sink.old) (K.faults sink.new) result }
 {
@@ -194,7 +194,7 @@ fn write_table<K: Sink>(
     code: PartCode,
     layout: Layout,
 ) -> Result<(), WriteFailed>
-    requires whole { IsWhole guest.now }
+    requires formed { IsFormed guest.now }
     requires shape { shape_of code ≡ shapes.Table layout }
     ensures bytes { Puts (text_of (records_of code guest.now)) (K.written sink.old) (K.written sink.new) result }
     ensures cause { HasCause (K.faults sink.old) (K.faults sink.new) result }
@@ -217,7 +217,7 @@ pub(crate) fn write_parts<K: Sink>(
     guest: &Guest,
     code: PartCode,
 ) -> Result<(), WriteFailed>
-    requires { IsWhole guest.now }
+    requires { IsFormed guest.now }
     ensures bytes { Puts (text_of (records_of code guest.now)) (K.written sink.old) (K.written sink.new) result }
     ensures cause { HasCause (K.faults sink.old) (K.faults sink.new) result }
 {

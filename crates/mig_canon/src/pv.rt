@@ -2,7 +2,7 @@ ghost use Rattle.std.specs.Prelude.{◌≡◌, ◌+◌, ◌≤◌, ◌^◌, leng
 ghost use Rattle.mig_bytes.specs.Bytes.{Puts};
 ghost use Rattle.mig_bytes.specs.Faults.{HasCause};
 ghost use Rattle.mig_bodies.specs.Shapes.{shape_of, of_vcpu};
-ghost use Rattle.mig_pvtables.specs.Whole.{IsWhole};
+ghost use Rattle.mig_guest.specs.Formed.{IsFormed};
 ghost use Rattle.mig_records.specs.Records.{spelled};
 ghost use Rattle.mig_canon.specs.Canon.{info_records, p2m_body, p2m_records, vcpu_record, records_of_vcpu, all_vcpus, text_of};
 
@@ -55,7 +55,7 @@ fn write_p2m_list<K: Sink>(sink: &mut K, top: u32, frames: &[u8]) -> Result<(), 
 /// Appends the record of a PV guest's P2M frames; nothing for HVM.
 #[tactic(auto, using(mig_bytes::proofs::Texts::puts_same, crate::proofs::Spelling::text_one, crate::proofs::PvRecords::top_small, crate::proofs::PvRecords::p2m_short))]
 pub(crate) fn write_p2m_frames<K: Sink>(sink: &mut K, guest: &Guest) -> Result<(), WriteFailed>
-    requires { IsWhole guest.now }
+    requires { IsFormed guest.now }
     ensures bytes { Puts (text_of (p2m_records guest.now.kind guest.now)) (K.written sink.old) (K.written sink.new) result }
     ensures cause { HasCause (K.faults sink.old) (K.faults sink.new) result }
 {
@@ -76,7 +76,7 @@ fn write_vcpu_part<K: Sink>(
     id: u32,
     code: PartCode,
 ) -> Result<(), WriteFailed>
-    requires whole { IsWhole guest.now }
+    requires formed { IsFormed guest.now }
     requires shape { shape_of code ≡ of_vcpu }
     ensures bytes { Puts (text_of (vcpu_record guest.now id code)) (K.written sink.old) (K.written sink.new) result }
     ensures cause { HasCause (K.faults sink.old) (K.faults sink.new) result }
@@ -95,7 +95,7 @@ fn write_vcpu_part<K: Sink>(
 /// Appends the records of the parts of a vCPU.
 #[tactic(auto, using(mig_bytes::proofs::Texts::puts_then, mig_bytes::proofs::Texts::puts_stop, mig_bytes::proofs::Texts::puts_same, crate::proofs::PvRecords::vcpu_text))]
 fn write_vcpu<K: Sink>(sink: &mut K, guest: &Guest, id: u32) -> Result<(), WriteFailed>
-    requires { IsWhole guest.now }
+    requires { IsFormed guest.now }
     ensures bytes { Puts (text_of (records_of_vcpu guest.now id)) (K.written sink.old) (K.written sink.new) result }
     ensures cause { HasCause (K.faults sink.old) (K.faults sink.new) result }
 {
@@ -108,7 +108,7 @@ fn write_vcpu<K: Sink>(sink: &mut K, guest: &Guest, id: u32) -> Result<(), Write
 /// Appends the records of all vCPUs, by ascending id.
 #[tactic(auto, using(mig_bytes::proofs::Texts::puts_same, crate::proofs::PvRecords::vcpu_next, crate::proofs::PvRecords::vcpu_stop, crate::proofs::PvRecords::vcpus_end))]
 pub(crate) fn write_vcpus<K: Sink>(sink: &mut K, guest: &Guest) -> Result<(), WriteFailed>
-    requires { IsWhole guest.now }
+    requires { IsFormed guest.now }
     ensures bytes { Puts (text_of (all_vcpus guest.now)) (K.written sink.old) (K.written sink.new) result }
     ensures cause { HasCause (K.faults sink.old) (K.faults sink.new) result }
 {

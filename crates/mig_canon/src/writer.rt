@@ -1,6 +1,7 @@
 ghost use Rattle.std.specs.Prelude.{◌≡◌, ◌++◌};
 ghost use Rattle.mig_bytes.specs.Bytes.{Puts};
 ghost use Rattle.mig_bytes.specs.Faults.{HasCause};
+ghost use Rattle.mig_guest.specs.Formed.{IsFormed};
 ghost use Rattle.mig_pvtables.specs.Whole.{IsWhole};
 ghost use Rattle.std.specs.List.{flat_map};
 ghost use Rattle.mig_canon.specs.Canon.{headers, records_of, static_bodies, last_records, text_of, canon};
@@ -43,8 +44,12 @@ fn write_opening<K: Sink>(sink: &mut K, guest: &Guest) -> Result<(), WriteFailed
 }
 
 /// Appends the records of the parts of these codes, one code after another.
-fn write_codes<K: Sink>(sink: &mut K, guest: &Guest, codes: &[PartCode]) -> Result<(), WriteFailed>
-    requires { IsWhole guest.now }
+pub fn write_codes<K: Sink>(
+    sink: &mut K,
+    guest: &Guest,
+    codes: &[PartCode],
+) -> Result<(), WriteFailed>
+    requires { IsFormed guest.now }
     ensures bytes { Puts (flat_map (λ code. text_of (records_of code guest.now)) codes.now) (K.written sink.old) (K.written sink.new) result }
     ensures cause { HasCause (K.faults sink.old) (K.faults sink.new) result }
 {
@@ -57,7 +62,7 @@ fn write_codes<K: Sink>(sink: &mut K, guest: &Guest, codes: &[PartCode]) -> Resu
 /// Appends the policies, where they have entries, and STATIC_DATA_END.
 #[tactic(auto, using(mig_bytes::proofs::Texts::puts_then, mig_bytes::proofs::Texts::puts_stop, mig_bytes::proofs::Texts::puts_same, crate::proofs::Spelling::codes_text))]
 fn write_static<K: Sink>(sink: &mut K, guest: &Guest) -> Result<(), WriteFailed>
-    requires { IsWhole guest.now }
+    requires { IsFormed guest.now }
     ensures bytes { Puts (text_of (static_bodies guest.now)) (K.written sink.old) (K.written sink.new) result }
     ensures cause { HasCause (K.faults sink.old) (K.faults sink.new) result }
 {
@@ -68,7 +73,7 @@ fn write_static<K: Sink>(sink: &mut K, guest: &Guest) -> Result<(), WriteFailed>
 /// Appends the records behind the frames, up to END.
 #[tactic(auto, using(mig_bytes::proofs::Texts::puts_then, mig_bytes::proofs::Texts::puts_stop, mig_bytes::proofs::Texts::puts_same, crate::proofs::Spelling::codes_alone, crate::proofs::Spelling::pv_last_text))]
 fn write_last<K: Sink>(sink: &mut K, guest: &Guest) -> Result<(), WriteFailed>
-    requires { IsWhole guest.now }
+    requires { IsFormed guest.now }
     ensures bytes { Puts (text_of (last_records guest.now.kind guest.now)) (K.written sink.old) (K.written sink.new) result }
     ensures cause { HasCause (K.faults sink.old) (K.faults sink.new) result }
 {
