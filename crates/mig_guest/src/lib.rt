@@ -22,7 +22,7 @@ pub use law::{
     setting_policies_keeps_formed,
 };
 pub use mig_pagestore::FrameStore;
-pub use part_code::{EMULATOR_CONTEXT, EMULATOR_PAIRS, PartCode};
+pub use part_code::{EMULATOR_CONTEXT, EMULATOR_PAIRS, PartCode, is_fixed};
 pub use part_key::PartKey;
 pub use parts::Parts;
 pub use table::Entry;

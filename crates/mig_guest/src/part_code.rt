@@ -1,4 +1,5 @@
 ghost use Rattle.std.specs.Prelude.{◌≡◌, ◌≤◌};
+ghost use Rattle.mig_guest.specs.PartCodes.{is_fixed as is_fixed_code};
 ghost use Rattle.mig_guest.specs.declared.part_code.PartCode.TheVariants.{P2mFrames};
 
 use mig_headers::{Kind, MOST_BODY};
@@ -138,4 +139,12 @@ impl PartCode {
             PartCode::EmulatorContext => len <= MOST_BODY - 8,
         }
     }
+}
+
+/// Whether parts of the code of this number never change while a guest runs: P2M frames, CPUID leaves, MSRs of the policy, and
+/// an emulator's pairs.
+pub fn is_fixed(code: u32) -> bool
+    ensures { result ≡ is_fixed_code code }
+{
+    code == 3 || code == 17 || code == 18 || code == EMULATOR_PAIRS
 }

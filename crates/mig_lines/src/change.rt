@@ -5,12 +5,11 @@ ghost use Rattle.mig_pagetypes.specs.PageTypes.{type_of};
 ghost use Rattle.mig_guest.specs.Frames.{is_type_of as is_type_of_kind};
 ghost use Rattle.mig_guest.specs.Hosts.{machine_limit};
 ghost use Rattle.mig_host.specs.HostView.{has_machine};
-ghost use Rattle.mig_guest.specs.PartCodes.{is_fixed as is_fixed_code};
 ghost use Rattle.mig_script.specs.ScriptLines.{line_said};
 ghost use Rattle.mig_script.specs.ScriptLines.LineOf.{Write as Writes, Retype as Retypes, Add as Adds, Remove as Removes, Exchange as Exchanges, Put as Puts};
 ghost use Rattle.mig_lines.specs.HostLines.{applies, after_line, logs, room_of, may_come, may_go, is_allowed, is_key, has_length, key_of_numbers};
 
-use mig_guest::PartKey;
+use mig_guest::{PartKey, is_fixed};
 use mig_headers::Kind;
 use mig_host::{Host, MACHINE_LIMIT};
 use mig_pagetypes::{MAX_FRAMES, PageType};
@@ -196,13 +195,6 @@ fn key_with(code: u64, first: u64, second: u64) -> Option<PartKey>
         key1: first as u32,
         key2: second as u32,
     })
-}
-
-/// Whether parts of this code never change.
-pub fn is_fixed(code: u32) -> bool
-    ensures { result ≡ is_fixed_code code }
-{
-    code == 3 || code == 17 || code == 18 || code == 258
 }
 
 /// Whether a part is there and has so many bytes.

@@ -14,6 +14,5 @@ mod group;
 mod law;
 
 pub use bits::{clear, is_marked, mark, no_bits};
-pub use change::is_fixed;
 pub use group::{room_in, run_logged};
 pub use law::{lines_log_what_they_change, ran_laws};

@@ -1,5 +1,4 @@
 ghost use Rattle.std.specs.Prelude.{◌≡◌, ℕ, ◌+◌, ◌/◌, ◌≤◌, length, true};
-ghost use Rattle.mig_guest.specs.PartCodes.{is_fixed as is_fixed_code};
 ghost use Rattle.mig_machine_api.specs.MachineCalls.{seen_at, page_peeked};
 ghost use Rattle.mig_machine_api.specs.Pfns.{pfns_of_words, no_pfns};
 ghost use Rattle.mig_lines.specs.Courses.{IsLaterCourse};
@@ -9,10 +8,10 @@ ghost use Rattle.mig_lines.proofs.CoursesRun.{later_itself, later_still};
 
 use crate::machine::ScriptMachine;
 use mig_bytes::Failed;
-use mig_guest::PartKey;
+use mig_guest::{PartKey, is_fixed};
 use mig_headers::Kind;
 use mig_host::Host;
-use mig_lines::{clear, is_fixed};
+use mig_lines::clear;
 use mig_machine_api::{Machine, Seen};
 use mig_pvtables::Frames;
 

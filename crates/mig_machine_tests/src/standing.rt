@@ -2,12 +2,11 @@ ghost use Rattle.std.specs.Prelude.{refl, ◌≡◌, [], ◌∷◌, ◌++◌, �
 ghost use Rattle.std.proofs.Common.{◌∙◌};
 ghost use Rattle.mig_bytes.specs.Faults.{HasCause};
 ghost use Rattle.mig_guest.specs.Hosts.{IsValid};
-ghost use Rattle.mig_guest.specs.PartCodes.{is_fixed as is_fixed_code};
 ghost use Rattle.mig_machine_api.specs.Pfns.{pfns_of_words, no_pfns};
 ghost use Rattle.mig_machine_tests.specs.Standing.{asked, standing};
 
 use mig_bytes::Failed;
-use mig_guest::PartKey;
+use mig_guest::{PartKey, is_fixed};
 use mig_headers::Kind;
 use mig_host::Host;
 use mig_machine_api::{Machine, Seen};
@@ -29,13 +28,6 @@ pub struct StandingMachine {
     host: Host,
     calls: Vec<Call>,
     faults: u64,
-}
-
-/// Whether parts of this code never change.
-fn is_fixed(code: u32) -> bool
-    ensures { result ≡ is_fixed_code code }
-{
-    code == 3 || code == 17 || code == 18 || code == 258
 }
 
 /// No number is in the log.
