@@ -19,17 +19,17 @@ use Rattle.mig_machine_api.specs.History.{Since, History, nothing_asked, no_hist
 use Rattle.mig_machine_api.specs.MachineStates.{MachineState, IsValidState}
 use Rattle.mig_machine_api.specs.MachineCalls.{LogTaken, Paused}
 use Rattle.mig_machine_api.specs.Rounds.{Rounds, Tight, to_read, rounds_read, all_read}
-use Rattle.mig_dirtysave.specs.declared.found.Worst.{Worst}
-use Rattle.mig_dirtysave.specs.Forms.{form_of_print, type_of_print, superpage_slot, lost_slot}
-use Rattle.mig_dirtysave.specs.Findings.{judged, frame_sent, is_deferred}
-use Rattle.mig_dirtysave.specs.Flags.{pfns_of_flags, rest, total, total_taken}
-use Rattle.mig_dirtysave.specs.Entries.{AreTold, meant}
-use Rattle.mig_dirtysave.specs.Current.{Notes, no_notes, Current}
-use Rattle.mig_dirtysave.specs.Sends.{ReadsFront, SendsFront, IsWorst, first_pfn, within_set, super_of, lost_of}
-use Rattle.mig_dirtysave.specs.Live.{AreRounds, Live, LiveSent, Ended, Saved, SavedSent, forms, type_in, table_fault, worst_fault, tables_unsound}
-use Rattle.mig_dirtysave.proofs.Firsts.{first_none, first_same, super_is, lost_is, good_when, good_super, good_lost, good_form, no_fault, same_fault}
-use Rattle.mig_dirtysave.proofs.Steps.{current_on}
-use Rattle.mig_dirtysave.proofs.Saves.{front_all, rest_gone, taken_after, even, no_members, size_none}
+use Rattle.mig_rounds.specs.declared.found.Worst.{Worst}
+use Rattle.mig_rounds.specs.Forms.{form_of_print, type_of_print, superpage_slot, lost_slot}
+use Rattle.mig_rounds.specs.Findings.{judged, frame_sent, is_deferred}
+use Rattle.mig_rounds.specs.Flags.{pfns_of_flags, rest, total, total_taken}
+use Rattle.mig_rounds.specs.Entries.{AreTold, meant}
+use Rattle.mig_rounds.specs.Current.{Notes, no_notes, Current}
+use Rattle.mig_rounds.specs.Sends.{ReadsFront, SendsFront, IsWorst, first_pfn, within_set, super_of, lost_of}
+use Rattle.mig_rounds.specs.Live.{AreRounds, Live, LiveSent, Ended, Saved, SavedSent, forms, type_in, table_fault, worst_fault, tables_unsound}
+use Rattle.mig_rounds.proofs.Firsts.{first_none, first_same, super_is, lost_is, good_when, good_super, good_lost, good_form, no_fault, same_fault}
+use Rattle.mig_rounds.proofs.Steps.{current_on}
+use Rattle.mig_rounds.proofs.Saves.{front_all, rest_gone, taken_after, even, no_members, size_none}
 
 differ : false ≡ true → ⊥
 differ e = cc

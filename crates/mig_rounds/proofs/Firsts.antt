@@ -9,11 +9,11 @@ use Rattle.mig_guest.specs.Frames.{FrameOf}
 use Rattle.mig_guest.specs.Hosts.{HostFrames}
 use Rattle.mig_machine_api.specs.Pfns.{Pfns}
 use Rattle.mig_machine_api.specs.Footprints.{Footprint, footprint}
-use Rattle.mig_dirtysave.specs.declared.found.Worst.{Worst}
-use Rattle.mig_dirtysave.specs.Forms.{table_of, superpage_in, superpage_slot, lost_in, lost_slot, form_of_print}
-use Rattle.mig_dirtysave.specs.Findings.{Finding, judge, judged, frame_sent, is_deferred}
-use Rattle.mig_dirtysave.specs.Sends.{IsWorst, first_pfn, or_first, place, within_set, super_of, lost_of}
-use Rattle.mig_dirtysave.specs.Live.{table_fault, worst_fault, IsUnsound}
+use Rattle.mig_rounds.specs.declared.found.Worst.{Worst}
+use Rattle.mig_rounds.specs.Forms.{table_of, superpage_in, superpage_slot, lost_in, lost_slot, form_of_print}
+use Rattle.mig_rounds.specs.Findings.{Finding, judge, judged, frame_sent, is_deferred}
+use Rattle.mig_rounds.specs.Sends.{IsWorst, first_pfn, or_first, place, within_set, super_of, lost_of}
+use Rattle.mig_rounds.specs.Live.{table_fault, worst_fault, IsUnsound}
 
 not_none : {A : Type 0} (x : A) → ◌≡◌ {A = Option A} None (Some x) → ⊥
 not_none x e = cc

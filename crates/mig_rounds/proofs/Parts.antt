@@ -8,7 +8,7 @@ use Rattle.std.proofs.lemmas.List.FromFn.{filter_of_map_range_with_len_more}
 use Rattle.std.proofs.lemmas.List.{map-id}
 use Rattle.std.proofs.Math.Path.{fun_ext}
 use Rattle.mig_machine_api.specs.Pfns.{Pfns, no_pfns, joined, members, with_pfn}
-use Rattle.mig_dirtysave.specs.Flags.{pfns_of_flags, front, rest}
+use Rattle.mig_rounds.specs.Flags.{pfns_of_flags, front, rest}
 
 -- ---- flags
 

@@ -16,13 +16,13 @@ use Rattle.mig_machine_api.specs.History.{History}
 use Rattle.mig_machine_api.specs.MachineStates.{MachineState, IsValidState}
 use Rattle.mig_machine_api.specs.MachineCalls.{Peeked, seen_of, seen_at, page_of, page_peeked}
 use Rattle.mig_machine_api.specs.Footprints.{footprint, footprint_of, table_in, names_in}
-use Rattle.mig_dirtysave.specs.Forms.{superpage_in, lost_in, form_page}
-use Rattle.mig_dirtysave.specs.Findings.{Finding, judge, judged, found_as, frame_sent, IsToldFrame, CanBeTold, ShowsOnly}
-use Rattle.mig_dirtysave.specs.declared.found.Found as finds
-use Rattle.mig_dirtysave.specs.declared.found.Found.TheVariants as find
-use Rattle.mig_dirtysave.specs.Findings.Finding.{Gone, Shows}
-use Rattle.mig_dirtysave.specs.Step.{Looks, IsRaw, IsRight, ReadsOne, most_calls}
-use Rattle.mig_dirtysave.proofs.Tables.{print_here, ran_on, data_of}
+use Rattle.mig_rounds.specs.Forms.{superpage_in, lost_in, form_page}
+use Rattle.mig_rounds.specs.Findings.{Finding, judge, judged, found_as, frame_sent, IsToldFrame, CanBeTold, ShowsOnly}
+use Rattle.mig_rounds.specs.declared.found.Found as finds
+use Rattle.mig_rounds.specs.declared.found.Found.TheVariants as find
+use Rattle.mig_rounds.specs.Findings.Finding.{Gone, Shows}
+use Rattle.mig_rounds.specs.Step.{Looks, IsRaw, IsRight, ReadsOne, most_calls}
+use Rattle.mig_rounds.proofs.Tables.{print_here, ran_on, data_of}
 
 -- what is known of a frame that is there
 record Held (kind : PageType) (page : List ℕ) (held : HostFrame) : Type 0 where

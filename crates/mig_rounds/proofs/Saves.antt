@@ -15,15 +15,15 @@ use Rattle.mig_machine_api.specs.History.{LogTook, History, one_more, and_call}
 use Rattle.mig_machine_api.specs.MachineStates.{MachineState}
 use Rattle.mig_machine_api.specs.MachineCalls.{LogTaken}
 use Rattle.mig_machine_api.specs.Rounds.{GoesOn, AreCalls, to_read, rounds_read}
-use Rattle.mig_dirtysave.specs.Step.{most_calls}
-use Rattle.mig_dirtysave.specs.Flags.{pfns_of_flags, front, rest, total, total_taken}
-use Rattle.mig_dirtysave.specs.Entries.{AreTold}
-use Rattle.mig_dirtysave.specs.Current.{Notes}
-use Rattle.mig_dirtysave.specs.Sends.{ReadsFront, SendsFront}
-use Rattle.mig_dirtysave.specs.Live.{StaysSame, AreRounds, Live, LiveSent}
-use Rattle.mig_dirtysave.proofs.Parts.{beyond}
-use Rattle.mig_dirtysave.proofs.Sizes.{size-le}
-use Rattle.mig_dirtysave.proofs.Steps.{current_on, total_even, behind_less}
+use Rattle.mig_rounds.specs.Step.{most_calls}
+use Rattle.mig_rounds.specs.Flags.{pfns_of_flags, front, rest, total, total_taken}
+use Rattle.mig_rounds.specs.Entries.{AreTold}
+use Rattle.mig_rounds.specs.Current.{Notes}
+use Rattle.mig_rounds.specs.Sends.{ReadsFront, SendsFront}
+use Rattle.mig_rounds.specs.Live.{StaysSame, AreRounds, Live, LiveSent}
+use Rattle.mig_rounds.proofs.Parts.{beyond}
+use Rattle.mig_rounds.proofs.Sizes.{size-le}
+use Rattle.mig_rounds.proofs.Steps.{current_on, total_even, behind_less}
 
 -- ---- sets of flags
 

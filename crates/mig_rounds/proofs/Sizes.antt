@@ -5,8 +5,8 @@ use Rattle.std.proofs.lemmas.Bool.Decides.{nat_tests}
 use Rattle.std.proofs.lemmas.List.Sums.{length-filter, count_by-le-length}
 use Rattle.std.proofs.lemmas.List.FromFn.{length-range_with_len}
 use Rattle.mig_machine_api.specs.Pfns.{Pfns, members, size}
-use Rattle.mig_dirtysave.specs.Flags.{front}
-use Rattle.mig_dirtysave.proofs.Parts.{members_yes, members_no}
+use Rattle.mig_rounds.specs.Flags.{front}
+use Rattle.mig_rounds.proofs.Parts.{members_yes, members_no}
 
 pub size-le : (set : Pfns) (i : ℕ) → size i set ≤ i
 size-le set i = omega (arith, length-filter set (range_with_len 0 i), count_by-le-length set (range_with_len 0 i), length-range_with_len 0 i)

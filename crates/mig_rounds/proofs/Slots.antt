@@ -11,7 +11,7 @@ use Rattle.mig_pvtables.proofs.BlankSays.{blank_says}
 use Rattle.mig_pvtables.proofs.LongSteps.{each_twice, ChangedBelow, next_below, still, one_changed, one_stays, walk_end}
 use Rattle.mig_pvtables.proofs.Renamed.{blanked_small}
 use Rattle.mig_pvtables.proofs.RenameSteps.{blank_slot}
-use Rattle.mig_dirtysave.specs.Step.{put_slot}
+use Rattle.mig_rounds.specs.Step.{put_slot}
 
 -- ---- one number
 

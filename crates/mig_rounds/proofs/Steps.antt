@@ -15,21 +15,21 @@ use Rattle.mig_machine_api.specs.Pfns.{Pfns, no_pfns, members, size, with_pfn}
 use Rattle.mig_machine_api.specs.Footprints.{Footprint, footprint}
 use Rattle.mig_machine_api.specs.History.{History, Since, nothing_asked}
 use Rattle.mig_machine_api.specs.MachineStates.{MachineState, Ran}
-use Rattle.mig_dirtysave.specs.Forms.{table_of, superpage_in, lost_in, form_of_print, type_of_print}
-use Rattle.mig_dirtysave.specs.declared.found.Found.{Found}
-use Rattle.mig_dirtysave.specs.declared.found.Found.TheVariants as found
-use Rattle.mig_dirtysave.specs.declared.found.Worst.{Worst}
-use Rattle.mig_dirtysave.specs.Findings.{Finding, judge, judged, found_as, frame_sent, is_deferred, type_found, CanBeTold}
-use Rattle.mig_dirtysave.specs.Step.{ReadsOne, Strays, most_calls}
-use Rattle.mig_dirtysave.specs.Flags.{rest, total, total_taken}
-use Rattle.mig_dirtysave.specs.Entries.{entry_for, put_at, put_told, meant, AreTold, IsToldEntry}
+use Rattle.mig_rounds.specs.Forms.{table_of, superpage_in, lost_in, form_of_print, type_of_print}
+use Rattle.mig_rounds.specs.declared.found.Found.{Found}
+use Rattle.mig_rounds.specs.declared.found.Found.TheVariants as found
+use Rattle.mig_rounds.specs.declared.found.Worst.{Worst}
+use Rattle.mig_rounds.specs.Findings.{Finding, judge, judged, found_as, frame_sent, is_deferred, type_found, CanBeTold}
+use Rattle.mig_rounds.specs.Step.{ReadsOne, Strays, most_calls}
+use Rattle.mig_rounds.specs.Flags.{rest, total, total_taken}
+use Rattle.mig_rounds.specs.Entries.{entry_for, put_at, put_told, meant, AreTold, IsToldEntry}
 use Rattle.mig_pagesink.specs.Batches.{IsBehind, FallsBehind}
 use Rattle.mig_pagesink.specs.Told.{FrameTold}
-use Rattle.mig_dirtysave.specs.Current.{Notes, Current, noted}
+use Rattle.mig_rounds.specs.Current.{Notes, Current, noted}
 use Rattle.mig_pagesink.proofs.Joins.{behind_anyway}
-use Rattle.mig_dirtysave.specs.Sends.{ReadsFront, SendsFront, IsWorst, first_pfn, or_first, within_set, place, found_super, found_lost, super_of, lost_of}
-use Rattle.mig_dirtysave.proofs.Parts.{nothing_before, front_more, front_skip, not_itself, rest_more, rest_skip, rest_all, members_yes, members_no}
-use Rattle.mig_dirtysave.proofs.Sizes.{size-le, size_more, size_stays, size_front, one_more_at_most}
+use Rattle.mig_rounds.specs.Sends.{ReadsFront, SendsFront, IsWorst, first_pfn, or_first, within_set, place, found_super, found_lost, super_of, lost_of}
+use Rattle.mig_rounds.proofs.Parts.{nothing_before, front_more, front_skip, not_itself, rest_more, rest_skip, rest_all, members_yes, members_no}
+use Rattle.mig_rounds.proofs.Sizes.{size-le, size_more, size_stays, size_front, one_more_at_most}
 
 -- ---- what a list of entries means
 

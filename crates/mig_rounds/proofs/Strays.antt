@@ -5,7 +5,7 @@ use Rattle.mig_machine_api.specs.Pfns.{Pfns, with_pfn}
 use Rattle.mig_machine_api.specs.History.{History}
 use Rattle.mig_machine_api.specs.MachineStates.{MachineState}
 use Rattle.mig_machine_api.specs.MachineCalls.{Peeked}
-use Rattle.mig_dirtysave.specs.Step.{Looks, Strays}
+use Rattle.mig_rounds.specs.Step.{Looks, Strays}
 
 both : (a b : Bool) → a ≡ false → b ≡ true → a ≡ b → ⊥
 both a b f t e = let no : false ≡ true = sym f ∙ e ∙ t in cc

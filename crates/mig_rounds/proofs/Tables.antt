@@ -18,13 +18,13 @@ use Rattle.mig_pvtables.proofs.LongSteps.{ChangedBelow, walk_start}
 use Rattle.mig_pvtables.proofs.Slots.{no_slot}
 use Rattle.mig_pvtables.proofs.Slots as searches
 use Rattle.mig_machine_api.specs.Footprints.{Footprint, footprint, footprint_of, names_in, named_by, table_in}
-use Rattle.mig_dirtysave.specs.Forms.{lost_at, is_lost, superpage_in, lost_in, form_page, form_of_print}
-use Rattle.mig_dirtysave.specs.Findings.{judge, judged, found_as}
-use Rattle.mig_dirtysave.specs.Findings.Finding.{Shows}
-use Rattle.mig_dirtysave.specs.declared.found.Found.TheVariants as found
-use Rattle.mig_dirtysave.specs.Step.{Settled, Looks, raw_print, IsRaw, IsRenamed, IsRight}
-use Rattle.mig_dirtysave.specs.Step.{put_slot}
-use Rattle.mig_dirtysave.proofs.Slots.{formed_long, same_long, put_step, table_formed}
+use Rattle.mig_rounds.specs.Forms.{lost_at, is_lost, superpage_in, lost_in, form_page, form_of_print}
+use Rattle.mig_rounds.specs.Findings.{judge, judged, found_as}
+use Rattle.mig_rounds.specs.Findings.Finding.{Shows}
+use Rattle.mig_rounds.specs.declared.found.Found.TheVariants as found
+use Rattle.mig_rounds.specs.Step.{Settled, Looks, raw_print, IsRaw, IsRenamed, IsRight}
+use Rattle.mig_rounds.specs.Step.{put_slot}
+use Rattle.mig_rounds.proofs.Slots.{formed_long, same_long, put_step, table_formed}
 
 -- ---- what is settled at the end was so before
 

@@ -10,13 +10,13 @@ use Rattle.mig_machine_api.specs.Pfns.{Pfns, size, members}
 use Rattle.mig_machine_api.specs.History.{History, LogTook}
 use Rattle.mig_machine_api.specs.MachineStates.{MachineState}
 use Rattle.mig_machine_api.specs.Rounds.{Rounds, rounds_read, all_read}
-use Rattle.mig_dirtysave.specs.declared.found.Worst.{Worst}
-use Rattle.mig_dirtysave.specs.Flags.{total, total_taken}
-use Rattle.mig_dirtysave.specs.Entries.{AreTold, meant, pfns_sent}
-use Rattle.mig_dirtysave.specs.Current.{Notes}
-use Rattle.mig_dirtysave.specs.Live.{SavedSent, worst_fault, FramesSaved}
-use Rattle.mig_dirtysave.proofs.Sizes.{size-le}
-use Rattle.mig_dirtysave.proofs.Saves.{length_rounds, size_none}
+use Rattle.mig_rounds.specs.declared.found.Worst.{Worst}
+use Rattle.mig_rounds.specs.Flags.{total, total_taken}
+use Rattle.mig_rounds.specs.Entries.{AreTold, meant, pfns_sent}
+use Rattle.mig_rounds.specs.Current.{Notes}
+use Rattle.mig_rounds.specs.Live.{SavedSent, worst_fault, FramesSaved}
+use Rattle.mig_rounds.proofs.Sizes.{size-le}
+use Rattle.mig_rounds.proofs.Saves.{length_rounds, size_none}
 
 taken_small : (width : ℕ) (l : List LogTook) → total_taken width l ≤ length l * width
 taken_small width [] = omega arith

@@ -6,10 +6,10 @@ use Rattle.mig_guest.specs.Hosts.{HostFrames}
 use Rattle.mig_pagesink.specs.Told.{FrameTold}
 use Rattle.mig_machine_api.specs.Pfns.{Pfns}
 use Rattle.mig_machine_api.specs.Footprints.{footprint}
-use Rattle.mig_dirtysave.specs.Forms.{type_of_print}
-use Rattle.mig_dirtysave.specs.Findings.{Finding, judged, frame_sent, is_deferred, type_found}
-use Rattle.mig_dirtysave.specs.Entries.{meant}
-use Rattle.mig_dirtysave.specs.Flags.{pfns_of_flags}
+use Rattle.mig_rounds.specs.Forms.{type_of_print}
+use Rattle.mig_rounds.specs.Findings.{Finding, judged, frame_sent, is_deferred, type_found}
+use Rattle.mig_rounds.specs.Entries.{meant}
+use Rattle.mig_rounds.specs.Flags.{pfns_of_flags}
 
 -- what is kept in mind of each PFN: whether its table is deferred, and the type that was seen last
 pub record Notes : Type 0 where

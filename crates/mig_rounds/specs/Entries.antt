@@ -6,7 +6,7 @@ use Rattle.mig_headers.specs.declared.kind.Kind.{Kind}
 use Rattle.mig_pagetypes.specs.Limits.{pfn_limit}
 use Rattle.mig_guest.specs.Frames.{FrameOf, FrameMap}
 use Rattle.mig_pagesink.specs.Told.{FrameTold}
-use Rattle.mig_dirtysave.specs.Findings.{Finding, frame_sent, CanBeTold}
+use Rattle.mig_rounds.specs.Findings.{Finding, frame_sent, CanBeTold}
 
 -- the entry of a PFN at which this was found
 abbrev pub entry_for : ℕ → Finding → FrameTold

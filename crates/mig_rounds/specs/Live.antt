@@ -16,16 +16,16 @@ use Rattle.mig_machine_api.specs.Footprints.{footprint, footprint_of}
 use Rattle.mig_machine_api.specs.History.{LogTook, nothing_asked}
 use Rattle.mig_machine_api.specs.MachineStates.{MachineState}
 use Rattle.mig_machine_api.specs.Rounds.{OfEachLog, GoesOn, AreCalls, Rounds, Tight, to_read, rounds_read, all_read}
-use Rattle.mig_dirtysave.specs.declared.found.Fault.{Fault}
-use Rattle.mig_dirtysave.specs.declared.found.Fault.TheVariants as faults
-use Rattle.mig_dirtysave.specs.declared.found.SaveAnswer.{SaveAnswer}
-use Rattle.mig_dirtysave.specs.declared.found.SaveAnswer.TheVariants as answers
-use Rattle.mig_dirtysave.specs.declared.found.Worst.{Worst}
-use Rattle.mig_dirtysave.specs.Forms.{form_of_print, superpage_slot, lost_slot}
-use Rattle.mig_dirtysave.specs.Flags.{total}
-use Rattle.mig_dirtysave.specs.Entries.{meant, pfns_sent, AreTold}
-use Rattle.mig_dirtysave.specs.Current.{Notes, Current}
-use Rattle.mig_dirtysave.specs.Sends.{first_pfn}
+use Rattle.mig_rounds.specs.declared.found.Fault.{Fault}
+use Rattle.mig_rounds.specs.declared.found.Fault.TheVariants as faults
+use Rattle.mig_rounds.specs.declared.found.SaveAnswer.{SaveAnswer}
+use Rattle.mig_rounds.specs.declared.found.SaveAnswer.TheVariants as answers
+use Rattle.mig_rounds.specs.declared.found.Worst.{Worst}
+use Rattle.mig_rounds.specs.Forms.{form_of_print, superpage_slot, lost_slot}
+use Rattle.mig_rounds.specs.Flags.{total}
+use Rattle.mig_rounds.specs.Entries.{meant, pfns_sent, AreTold}
+use Rattle.mig_rounds.specs.Current.{Notes, Current}
+use Rattle.mig_rounds.specs.Sends.{first_pfn}
 
 -- what of a machine is the same at both times
 pub record StaysSame (s t : MachineState) : Type 0 where

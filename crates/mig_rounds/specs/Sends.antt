@@ -7,15 +7,15 @@ use Rattle.mig_pagesink.specs.Batches.{IsSent, IsBehind}
 use Rattle.mig_machine_api.specs.Pfns.{Pfns, no_pfns, members, size}
 use Rattle.mig_machine_api.specs.Footprints.{footprint}
 use Rattle.mig_machine_api.specs.MachineStates.{MachineState, IsSameShape}
-use Rattle.mig_dirtysave.specs.declared.found.Found.{Found}
-use Rattle.mig_dirtysave.specs.declared.found.Found.TheVariants as found
-use Rattle.mig_dirtysave.specs.declared.found.Worst.{Worst}
-use Rattle.mig_dirtysave.specs.Findings.{Finding, judged}
-use Rattle.mig_dirtysave.specs.Findings.Finding.{Gone, Shows, HasSuperpage, LacksFrame}
-use Rattle.mig_dirtysave.specs.Step.{most_calls}
-use Rattle.mig_dirtysave.specs.Flags.{front, rest, total, total_taken}
-use Rattle.mig_dirtysave.specs.Entries.{pfns_sent, AreTold}
-use Rattle.mig_dirtysave.specs.Current.{Notes, Current}
+use Rattle.mig_rounds.specs.declared.found.Found.{Found}
+use Rattle.mig_rounds.specs.declared.found.Found.TheVariants as found
+use Rattle.mig_rounds.specs.declared.found.Worst.{Worst}
+use Rattle.mig_rounds.specs.Findings.{Finding, judged}
+use Rattle.mig_rounds.specs.Findings.Finding.{Gone, Shows, HasSuperpage, LacksFrame}
+use Rattle.mig_rounds.specs.Step.{most_calls}
+use Rattle.mig_rounds.specs.Flags.{front, rest, total, total_taken}
+use Rattle.mig_rounds.specs.Entries.{pfns_sent, AreTold}
+use Rattle.mig_rounds.specs.Current.{Notes, Current}
 
 -- ---- the first tables that no stream can have
 

@@ -16,8 +16,8 @@ use Rattle.mig_machine_api.specs.Pfns.{with_pfn}
 use Rattle.mig_machine_api.specs.Footprints.{Footprint, footprint, names_in}
 use Rattle.mig_machine_api.specs.History.{History, one_more}
 use Rattle.mig_machine_api.specs.MachineStates.{MachineState, Ran}
-use Rattle.mig_dirtysave.specs.Forms.{lost_in}
-use Rattle.mig_dirtysave.specs.Findings.{Finding, judged, frame_sent, CanBeTold}
+use Rattle.mig_rounds.specs.Forms.{lost_in}
+use Rattle.mig_rounds.specs.Findings.{Finding, judged, frame_sent, CanBeTold}
 
 -- What was read of a PFN is what it has now: the machine is honest and the PFN isn't in the log, or the machine is paused.
 abbrev pub Settled : MachineState → ℕ → Type 0

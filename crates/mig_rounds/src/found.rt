@@ -41,7 +41,7 @@ pub(crate) struct Worst {
 
 impl Worst {
     ghost use Rattle.std.specs.Prelude.{◌≡◌};
-    ghost use Rattle.mig_dirtysave.specs.Sends.{or_first, place, found_super, found_lost};
+    ghost use Rattle.mig_rounds.specs.Sends.{or_first, place, found_super, found_lost};
 
     /// With what was found at one frame number more.
     pub(crate) fn with(self, pfn: u64, found: Found) -> Worst
@@ -63,7 +63,7 @@ impl Worst {
 }
 
 ghost use Rattle.std.specs.Prelude.{◌≡◌, Some};
-ghost use Rattle.mig_dirtysave.specs.Sends.{or_first, place};
+ghost use Rattle.mig_rounds.specs.Sends.{or_first, place};
 
 /// What was found before, or else this place.
 fn first_of(before: Option<(u64, usize)>, pfn: u64, slot: usize) -> Option<(u64, usize)>

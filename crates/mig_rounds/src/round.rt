@@ -2,10 +2,10 @@ ghost use Rattle.std.specs.Prelude.{◌≡◌, ◌≤◌, [], length, true, OnOk
 ghost use Rattle.mig_bytes.specs.Faults.{Rose};
 ghost use Rattle.mig_guest.specs.Hosts.{most_width};
 ghost use Rattle.mig_machine_api.specs.History.{nothing_asked};
-ghost use Rattle.mig_dirtysave.specs.Flags.{pfns_of_flags};
-ghost use Rattle.mig_dirtysave.specs.Current.{notes_of};
-ghost use Rattle.mig_dirtysave.specs.Sends.{ReadsFront, SendsSet, SetLeavesBehind, IsWorst};
-ghost use Rattle.mig_dirtysave.specs.declared.found.Fault.TheVariants.{MachineFault, WriteFault};
+ghost use Rattle.mig_rounds.specs.Flags.{pfns_of_flags};
+ghost use Rattle.mig_rounds.specs.Current.{notes_of};
+ghost use Rattle.mig_rounds.specs.Sends.{ReadsFront, SendsSet, SetLeavesBehind, IsWorst};
+ghost use Rattle.mig_rounds.specs.declared.found.Fault.TheVariants.{MachineFault, WriteFault};
 
 use crate::found::{Fault, Worst};
 use crate::send::send_one;

@@ -7,11 +7,11 @@ ghost use Rattle.mig_machine_api.specs.Pfns.{all_below, size};
 ghost use Rattle.mig_machine_api.specs.History.{no_history};
 ghost use Rattle.mig_machine_api.specs.MachineCalls.{Paused};
 ghost use Rattle.mig_machine_api.specs.MachineStates.{IsValidState, Stays};
-ghost use Rattle.mig_dirtysave.specs.Flags.{pfns_of_flags, total, total_taken};
-ghost use Rattle.mig_dirtysave.specs.Current.{notes_of, no_notes};
-ghost use Rattle.mig_dirtysave.specs.Live.{StaysSame, Live, Ended, SendsRounds, RoundsLeaveBehind, Saved, SendsLast, worst_fault, IsUnsound, AnswersTables, HasRounds, IsTight, FramesSaved, SawTypes, OnEnd, IfUnsound, answer_for};
-ghost use Rattle.mig_dirtysave.specs.declared.found.SaveAnswer.TheVariants as Failures;
-ghost use Rattle.mig_dirtysave.specs.declared.found.Fault.TheVariants.{MachineFault, WriteFault};
+ghost use Rattle.mig_rounds.specs.Flags.{pfns_of_flags, total, total_taken};
+ghost use Rattle.mig_rounds.specs.Current.{notes_of, no_notes};
+ghost use Rattle.mig_rounds.specs.Live.{StaysSame, Live, Ended, SendsRounds, RoundsLeaveBehind, Saved, SendsLast, worst_fault, IsUnsound, AnswersTables, HasRounds, IsTight, FramesSaved, SawTypes, OnEnd, IfUnsound, answer_for};
+ghost use Rattle.mig_rounds.specs.declared.found.SaveAnswer.TheVariants as Failures;
+ghost use Rattle.mig_rounds.specs.declared.found.Fault.TheVariants.{MachineFault, WriteFault};
 
 use crate::found::{Fault, SaveAnswer, Worst};
 use crate::round::send_all;

@@ -4,11 +4,11 @@ ghost use Rattle.mig_bytes.specs.Faults.{Rose};
 ghost use Rattle.mig_pagetypes.specs.Limits.{pfn_limit};
 ghost use Rattle.mig_pagetypes.specs.PageTypes.{type_has_data};
 ghost use Rattle.mig_pagesink.specs.Batches.{SendsOn, FallsBehind};
-ghost use Rattle.mig_dirtysave.specs.Findings.{found_as, frame_sent, is_deferred, type_found};
-ghost use Rattle.mig_dirtysave.specs.Step.{ReadsOne, Strays};
-ghost use Rattle.mig_dirtysave.specs.Entries.{entry_for};
-ghost use Rattle.mig_dirtysave.specs.Current.{notes_of, noted};
-ghost use Rattle.mig_dirtysave.specs.declared.found.Fault.TheVariants.{MachineFault, WriteFault};
+ghost use Rattle.mig_rounds.specs.Findings.{found_as, frame_sent, is_deferred, type_found};
+ghost use Rattle.mig_rounds.specs.Step.{ReadsOne, Strays};
+ghost use Rattle.mig_rounds.specs.Entries.{entry_for};
+ghost use Rattle.mig_rounds.specs.Current.{notes_of, noted};
+ghost use Rattle.mig_rounds.specs.declared.found.Fault.TheVariants.{MachineFault, WriteFault};
 
 use crate::found::{Fault, Found};
 use crate::step::read_one;

@@ -1,10 +1,10 @@
 ghost use Rattle.std.specs.Prelude.{◌≡◌, ℕ, ◌+◌, ◌/◌, ◌<◌, ◌≤◌, ◌||◌, length, get_or, false, OnOk, OnErr, IsErrOf};
 ghost use Rattle.mig_bytes.specs.Faults.{Rose};
 ghost use Rattle.mig_machine_api.specs.Pfns.{pfns_of_words, joined, size};
-ghost use Rattle.mig_dirtysave.specs.Flags.{pfns_of_flags};
+ghost use Rattle.mig_rounds.specs.Flags.{pfns_of_flags};
 ghost use Rattle.mig_machine_api.specs.MachineCalls.{LogTaken};
 ghost use Rattle.mig_machine_api.specs.MachineStates.{Stays};
-ghost use Rattle.mig_dirtysave.specs.declared.found.Fault.TheVariants.{WriteFault};
+ghost use Rattle.mig_rounds.specs.declared.found.Fault.TheVariants.{WriteFault};
 
 use crate::found::Fault;
 use mig_machine_api::Machine;

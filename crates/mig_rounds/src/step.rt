@@ -1,8 +1,8 @@
 ghost use Rattle.std.specs.Prelude.{◌<◌, ◌≤◌, OnErr, IfOk, IsErrOf};
 ghost use Rattle.mig_bytes.specs.Faults.{Rose};
-ghost use Rattle.mig_dirtysave.specs.Findings.{found_as};
-ghost use Rattle.mig_dirtysave.specs.Step.{ReadsOne, Strays};
-ghost use Rattle.mig_dirtysave.specs.declared.found.Fault.TheVariants.{WriteFault};
+ghost use Rattle.mig_rounds.specs.Findings.{found_as};
+ghost use Rattle.mig_rounds.specs.Step.{ReadsOne, Strays};
+ghost use Rattle.mig_rounds.specs.declared.found.Fault.TheVariants.{WriteFault};
 
 use crate::found::{Fault, Found};
 use crate::table::read_table;

@@ -3,10 +3,10 @@ ghost use Rattle.mig_bytes.specs.Faults.{Rose};
 ghost use Rattle.mig_pagetypes.specs.PageTypes.{level_of};
 ghost use Rattle.mig_guest.specs.Tables.{entry as what_is_said};
 ghost use Rattle.mig_machine_api.specs.Footprints.{names_in};
-ghost use Rattle.mig_dirtysave.specs.Forms.{lost_at};
-ghost use Rattle.mig_dirtysave.specs.Findings.{found_as, ShowsOnly};
-ghost use Rattle.mig_dirtysave.specs.Step.{Looks, IsRaw, IsRenamed, IsRight, put_slot};
-ghost use Rattle.mig_dirtysave.specs.declared.found.Fault.TheVariants.{WriteFault};
+ghost use Rattle.mig_rounds.specs.Forms.{lost_at};
+ghost use Rattle.mig_rounds.specs.Findings.{found_as, ShowsOnly};
+ghost use Rattle.mig_rounds.specs.Step.{Looks, IsRaw, IsRenamed, IsRight, put_slot};
+ghost use Rattle.mig_rounds.specs.declared.found.Fault.TheVariants.{WriteFault};
 
 use crate::found::{Fault, Found};
 use mig_bytes::put_u64_le;

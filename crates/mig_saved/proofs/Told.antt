@@ -16,7 +16,7 @@ use Rattle.mig_restore.specs.Mean.{meant_type, put_entry, put_entries}
 use Rattle.mig_canon_laws.specs.Batched.{IsSendable, IsSendableBatch, told, frames_told}
 use Rattle.mig_pagesink.specs.Told.{FrameTold, frame_or_xtab, telling_frame, telling_frames, all_told}
 use Rattle.mig_pagesink.specs.Batches.{AreSized}
-use Rattle.mig_dirtysave.specs.Entries.{IsToldEntry, AreTold, put_at, put_told, meant}
+use Rattle.mig_rounds.specs.Entries.{IsToldEntry, AreTold, put_at, put_told, meant}
 
 -- ---- a type of an HVM host
 

@@ -25,9 +25,9 @@ use Rattle.mig_canon_laws.proofs.Batched.{batched_is_accepted}
 use Rattle.mig_machine_api.specs.Footprints.{footprint_of, names_in, table_in}
 use Rattle.mig_pagesink.specs.Told.{FrameTold, telling_frames, all_told}
 use Rattle.mig_pagesink.specs.Batches.{AreSized}
-use Rattle.mig_dirtysave.specs.Entries.{AreTold, meant}
-use Rattle.mig_dirtysave.specs.Forms.{form_page, form_of_print}
-use Rattle.mig_dirtysave.specs.Live.{forms}
+use Rattle.mig_rounds.specs.Entries.{AreTold, meant}
+use Rattle.mig_rounds.specs.Forms.{form_page, form_of_print}
+use Rattle.mig_rounds.specs.Live.{forms}
 use Rattle.mig_saved.proofs.Told.{no_level, batches_sendable, told_is_meant}
 
 module _ (h : HostOf) (valid : IsValid h) (hvm : h.kind ≡ Hvm) where

@@ -16,8 +16,8 @@ use Rattle.mig_restore.specs.Spelled.{Accepted}
 use Rattle.mig_canon_laws.specs.Batched.{batch_records, batched}
 use Rattle.mig_machine_api.specs.MachineStates.{MachineState}
 use Rattle.mig_pagesink.specs.Told.{FrameTold, telling_frames, telling_record, all_told}
-use Rattle.mig_dirtysave.specs.Entries.{AreTold}
-use Rattle.mig_dirtysave.specs.Live.{FramesSaved}
+use Rattle.mig_rounds.specs.Entries.{AreTold}
+use Rattle.mig_rounds.specs.Live.{FramesSaved}
 use Rattle.mig_saved.specs.Around.{text_before, text_behind, WroteImageOf}
 use Rattle.mig_saved.proofs.Viewed.{saved_is_viewed}
 

@@ -11,8 +11,8 @@ ghost use Rattle.mig_canon_laws.specs.Batched.{batched};
 ghost use Rattle.mig_pagesink.specs.Told.{FrameTold, telling_frames, all_told};
 ghost use Rattle.mig_pagesink.specs.Batches.{AreSized};
 ghost use Rattle.mig_machine_api.specs.MachineStates.{MachineState};
-ghost use Rattle.mig_dirtysave.specs.Entries.{meant, AreTold};
-ghost use Rattle.mig_dirtysave.specs.Live.{forms, FramesSaved};
+ghost use Rattle.mig_rounds.specs.Entries.{meant, AreTold};
+ghost use Rattle.mig_rounds.specs.Live.{forms, FramesSaved};
 ghost use Rattle.mig_saved.specs.Around.{text_before, text_behind, WroteImageOf};
 
 /// Where the entries that a saver sent mean the frames of a valid and sound HVM host without emulators, the canonical image

@@ -1,12 +1,12 @@
 use Rattle.std.proofs.Common.{rules, arith, ◌≡◌, ◌<◌, ◌^◌, length, List, sym, ap, subst}
 use Rattle.mig_pagesink.specs.Told.{FrameTold}
 use Rattle.mig_pagesink.specs.Batches.{IsSent}
-use Rattle.mig_dirtysave.specs.Flags.{pfns_of_flags}
-use Rattle.mig_dirtysave.specs.Current.{notes_of}
-use Rattle.mig_dirtysave.specs.Sends.{SendsFront}
-use Rattle.mig_dirtysave.proofs.Steps.{reads_start, reads_skip, reads_more, sends_start, sends_skip, sends_more, worst_none, worst_skips, worst_step, total_even, total_strays, behind_less, on_err}
-use Rattle.mig_dirtysave.proofs.round.send_all.Goals as goal
-use Rattle.mig_dirtysave.proofs.round.send_all.Goals.{then-wanted+in_ok-found, else-wanted}
+use Rattle.mig_rounds.specs.Flags.{pfns_of_flags}
+use Rattle.mig_rounds.specs.Current.{notes_of}
+use Rattle.mig_rounds.specs.Sends.{SendsFront}
+use Rattle.mig_rounds.proofs.Steps.{reads_start, reads_skip, reads_more, sends_start, sends_skip, sends_more, worst_none, worst_skips, worst_step, total_even, total_strays, behind_less, on_err}
+use Rattle.mig_rounds.proofs.round.send_all.Goals as goal
+use Rattle.mig_rounds.proofs.round.send_all.Goals.{then-wanted+in_ok-found, else-wanted}
 
 pub loop-pfn-init : goal.loop-pfn-init
 loop-pfn-init g c = record {

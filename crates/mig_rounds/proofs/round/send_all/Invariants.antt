@@ -1,10 +1,10 @@
 use Rattle.std.proofs.Common.{ℕ, Option, ◌≡◌, List, [], ◌≤◌, ◌<◌, length, true}
 use Rattle.mig_pagesink.specs.Told.{FrameTold}
 use Rattle.mig_pagesink.specs.Batches.{IsSent}
-use Rattle.mig_dirtysave.specs.Flags.{pfns_of_flags}
-use Rattle.mig_dirtysave.specs.Current.{notes_of}
-use Rattle.mig_dirtysave.specs.Sends.{ReadsFront, SendsFront, IsWorst}
-use Rattle.mig_dirtysave.proofs.round.send_all.Given as goal
+use Rattle.mig_rounds.specs.Flags.{pfns_of_flags}
+use Rattle.mig_rounds.specs.Current.{notes_of}
+use Rattle.mig_rounds.specs.Sends.{ReadsFront, SendsFront, IsWorst}
+use Rattle.mig_rounds.proofs.round.send_all.Given as goal
 
 abbrev pub invariant-loop-pfn : goal.invariant-loop-pfn
 invariant-loop-pfn g l =

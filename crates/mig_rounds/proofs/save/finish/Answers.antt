@@ -2,13 +2,13 @@ use Rattle.std.proofs.Common.{rules, ◌≡◌, length, ap, subst, ◌∙◌}
 use Rattle.mig_pagesink.specs.Batches.{IsBehind}
 use Rattle.mig_machine_api.specs.Pfns.{Pfns, joined, pfns_of_words}
 use Rattle.mig_machine_api.specs.History.{History, Since}
-use Rattle.mig_dirtysave.specs.Current.{notes_of}
-use Rattle.mig_dirtysave.specs.Flags.{pfns_of_flags, total}
-use Rattle.mig_dirtysave.proofs.Steps.{on_err}
-use Rattle.mig_dirtysave.proofs.Saves.{behind_unread, on_ok, if_both, if_three, err_on}
-use Rattle.mig_dirtysave.proofs.Firsts.{named}
-use Rattle.mig_dirtysave.proofs.Ends.{saved, saved_sent, counted_last, even_last}
-use Rattle.mig_dirtysave.proofs.save.finish.Goals as goal
+use Rattle.mig_rounds.specs.Current.{notes_of}
+use Rattle.mig_rounds.specs.Flags.{pfns_of_flags, total}
+use Rattle.mig_rounds.proofs.Steps.{on_err}
+use Rattle.mig_rounds.proofs.Saves.{behind_unread, on_ok, if_both, if_three, err_on}
+use Rattle.mig_rounds.proofs.Firsts.{named}
+use Rattle.mig_rounds.proofs.Ends.{saved, saved_sent, counted_last, even_last}
+use Rattle.mig_rounds.proofs.save.finish.Goals as goal
 
 pub returns-in_err-stop-clause-behind : goal.returns-in_err-stop-clause-behind
 returns-in_err-stop-clause-behind g c =

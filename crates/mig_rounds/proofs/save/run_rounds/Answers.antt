@@ -1,11 +1,11 @@
 use Rattle.std.proofs.Common.{rules, arith, ◌≡◌, ◌+◌, ◌<◌, ◌≤◌, ◌^◌, length, ap, sym, subst, ◌∙◌}
 use Rattle.mig_pagesink.specs.Batches.{IsBehind}
 use Rattle.mig_machine_api.specs.Pfns.{size}
-use Rattle.mig_dirtysave.specs.Flags.{pfns_of_flags, total}
-use Rattle.mig_dirtysave.proofs.Steps.{on_err}
-use Rattle.mig_dirtysave.proofs.Saves.{live_round, sent_round, longer, counted_more, goes_on, round_keeps, even, behind_taken}
-use Rattle.mig_dirtysave.proofs.save.run_rounds.Goals as goal
-use Rattle.mig_dirtysave.proofs.save.run_rounds.Goals.{then-rounds-eq-MOST_ROUNDS-via-then-rounds-eq-MOST_ROUNDS, then-rounds-eq-MOST_ROUNDS-via-else-rounds-eq-MOST_ROUNDS+then-count-lt-FEW}
+use Rattle.mig_rounds.specs.Flags.{pfns_of_flags, total}
+use Rattle.mig_rounds.proofs.Steps.{on_err}
+use Rattle.mig_rounds.proofs.Saves.{live_round, sent_round, longer, counted_more, goes_on, round_keeps, even, behind_taken}
+use Rattle.mig_rounds.proofs.save.run_rounds.Goals as goal
+use Rattle.mig_rounds.proofs.save.run_rounds.Goals.{then-rounds-eq-MOST_ROUNDS-via-then-rounds-eq-MOST_ROUNDS, then-rounds-eq-MOST_ROUNDS-via-else-rounds-eq-MOST_ROUNDS+then-count-lt-FEW}
 
 pub returns-in_err-send_all-clause-behind : goal.returns-in_err-send_all-clause-behind
 returns-in_err-send_all-clause-behind g c =

@@ -1,9 +1,9 @@
 use Rattle.std.proofs.Common.{◌≡◌, ◌≤◌, ◌<◌, ◌-◌, ◌+◌, ◌*◌, ◌/◌, ◌^◌, [], length}
 use Rattle.mig_machine_api.specs.Rounds.{GoesOn}
-use Rattle.mig_dirtysave.specs.Flags.{pfns_of_flags, total_taken}
-use Rattle.mig_dirtysave.specs.Current.{notes_of}
-use Rattle.mig_dirtysave.specs.Live.{Live, SendsRounds, StaysSame}
-use Rattle.mig_dirtysave.proofs.save.run_rounds.Given as goal
+use Rattle.mig_rounds.specs.Flags.{pfns_of_flags, total_taken}
+use Rattle.mig_rounds.specs.Current.{notes_of}
+use Rattle.mig_rounds.specs.Live.{Live, SendsRounds, StaysSame}
+use Rattle.mig_rounds.proofs.save.run_rounds.Given as goal
 
 abbrev pub invariant-loop-machine : goal.invariant-loop-machine
 invariant-loop-machine g l =

@@ -1,11 +1,11 @@
 use Rattle.std.proofs.Common.{arith, ◌≤◌, ◌^◌, [], sym, subst, ◌∙◌}
 use Rattle.mig_pagesink.specs.Batches.{IsBehind}
 use Rattle.mig_pagesink.proofs.Joins.{nothing_sent}
-use Rattle.mig_dirtysave.specs.Flags.{total}
-use Rattle.mig_dirtysave.proofs.Ends.{sent_start}
-use Rattle.mig_dirtysave.proofs.Saves.{behind_now}
-use Rattle.mig_dirtysave.proofs.Totals.{all_read_is, frames_saved}
-use Rattle.mig_dirtysave.proofs.save.send_frames.Goals as goal
+use Rattle.mig_rounds.specs.Flags.{total}
+use Rattle.mig_rounds.proofs.Ends.{sent_start}
+use Rattle.mig_rounds.proofs.Saves.{behind_now}
+use Rattle.mig_rounds.proofs.Totals.{all_read_is, frames_saved}
+use Rattle.mig_rounds.proofs.save.send_frames.Goals as goal
 
 pub returns-in-Err-clause-behind : goal.returns-in-Err-clause-behind
 returns-in-Err-clause-behind g c = c.in-Err.ensures.behind (g.K.Sink.written c.args.sink.now) [] (nothing_sent _) (sent_start _ _ _ c.requires.valid c.requires.unread c.requires.all c.requires.none)

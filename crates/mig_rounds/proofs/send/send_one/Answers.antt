@@ -1,5 +1,5 @@
-use Rattle.mig_dirtysave.proofs.Steps.{on_err, behind_anyhow}
-use Rattle.mig_dirtysave.proofs.send.send_one.Goals as goal
+use Rattle.mig_rounds.proofs.Steps.{on_err, behind_anyhow}
+use Rattle.mig_rounds.proofs.send.send_one.Goals as goal
 
 pub returns-in_err-found-clause-behind : goal.returns-in_err-found-clause-behind
 returns-in_err-found-clause-behind g c = on_err c.from_residual.result (behind_anyhow _ _ c.requires.few)

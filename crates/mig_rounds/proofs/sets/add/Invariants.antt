@@ -1,7 +1,7 @@
 use Rattle.std.proofs.Common.{◌≡◌, ℕ, ◌<◌, ◌≤◌, get_or, false}
 use Rattle.std.specs.Prelude.{◌||◌}
 use Rattle.mig_machine_api.specs.Pfns.{pfns_of_words}
-use Rattle.mig_dirtysave.proofs.sets.add.Given as goal
+use Rattle.mig_rounds.proofs.sets.add.Given as goal
 
 abbrev pub invariant-loop-pfn : goal.invariant-loop-pfn
 invariant-loop-pfn l = record {

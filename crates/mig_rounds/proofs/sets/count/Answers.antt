@@ -1,8 +1,8 @@
 use Rattle.std.proofs.Common.{rules, ◌+◌, sym, ap, ◌∙◌}
-use Rattle.mig_dirtysave.specs.Flags.{pfns_of_flags}
-use Rattle.mig_dirtysave.proofs.Sizes.{size-le, size_more, size_stays}
-use Rattle.mig_dirtysave.proofs.sets.count.Goals as goal
-use Rattle.mig_dirtysave.proofs.sets.count.Goals.{then-set-pfn, else-set-pfn}
+use Rattle.mig_rounds.specs.Flags.{pfns_of_flags}
+use Rattle.mig_rounds.proofs.Sizes.{size-le, size_more, size_stays}
+use Rattle.mig_rounds.proofs.sets.count.Goals as goal
+use Rattle.mig_rounds.proofs.sets.count.Goals.{then-set-pfn, else-set-pfn}
 
 pub overflow_add-members : goal.overflow_add-members
 overflow_add-members c = let small = size-le (pfns_of_flags c.args.set.now) c.loop-pfn.pfn in search rules

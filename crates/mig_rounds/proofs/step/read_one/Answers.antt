@@ -1,8 +1,8 @@
 use Rattle.std.proofs.Common.{sym, ◌∙◌, refl}
-use Rattle.mig_dirtysave.specs.declared.found.Found.TheVariants as Found
-use Rattle.mig_dirtysave.proofs.Peeks.{raw_there, shown_there, gone_there, can_be_told, no_frame_told, type_there, many_calls, reads_peek, reads_table, if_ok_two}
-use Rattle.mig_dirtysave.proofs.Strays.{strays_none, strays_peek, strays_looks}
-use Rattle.mig_dirtysave.proofs.step.read_one.Goals as goal
+use Rattle.mig_rounds.specs.declared.found.Found.TheVariants as Found
+use Rattle.mig_rounds.proofs.Peeks.{raw_there, shown_there, gone_there, can_be_told, no_frame_told, type_there, many_calls, reads_peek, reads_table, if_ok_two}
+use Rattle.mig_rounds.proofs.Strays.{strays_none, strays_peek, strays_looks}
+use Rattle.mig_rounds.proofs.step.read_one.Goals as goal
 
 pub read_table-requires-clause-raw : goal.read_table-requires-clause-raw
 read_table-requires-clause-raw g c =

@@ -1,7 +1,7 @@
 use Rattle.std.proofs.Common.{sym, subst, ◌∙◌}
-use Rattle.mig_dirtysave.proofs.Tables.{judged_whole}
-use Rattle.mig_dirtysave.specs.Step.{IsRenamed}
-use Rattle.mig_dirtysave.proofs.table.read_table.Goals as goal
+use Rattle.mig_rounds.proofs.Tables.{judged_whole}
+use Rattle.mig_rounds.specs.Step.{IsRenamed}
+use Rattle.mig_rounds.proofs.table.read_table.Goals as goal
 
 pub returns-in-Ok-None-clause-right : goal.returns-in-Ok-None-clause-right
 returns-in-Ok-None-clause-right g c =

@@ -1,8 +1,8 @@
 use Rattle.std.proofs.Common.{arith, ap}
 use Rattle.mig_machine_api.specs.MachineCalls.{LookedUp}
 use Rattle.mig_machine_api.specs.MachineStates.{MachineState}
-use Rattle.mig_dirtysave.specs.Step.{Looks}
-use Rattle.mig_dirtysave.proofs.table.rename_slot.Goals as goal
+use Rattle.mig_rounds.specs.Step.{Looks}
+use Rattle.mig_rounds.proofs.table.rename_slot.Goals as goal
 
 looked : (s t : MachineState) → LookedUp s t → Looks 1 s t
 looked s t l = record {
