@@ -1,0 +1,11 @@
+pub mod KeyRanks
+pub mod NamedFirst
+pub mod Rows
+pub mod Instances
+pub mod AtEnd
+pub mod Fields
+pub mod FieldLaws
+pub mod NamedAnew
+pub mod SeenContexts
+pub mod Savers
+pub mod WorkedUserRoot

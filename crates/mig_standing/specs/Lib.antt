@@ -1,0 +1,7 @@
+pub mod Fields
+pub mod NamedAnew
+pub mod NamedFirst
+pub mod Standing
+pub mod Unsoundness
+pub mod FirstRow
+pub mod WorkedUserRoot

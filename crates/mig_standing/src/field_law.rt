@@ -1,0 +1,64 @@
+ghost use Rattle.std.specs.Prelude.{◌≡◌, ◌≤◌, ◌<◌, ◌*◌, ◌^◌, ℕ, List, length, Option, Some, true, false};
+ghost use Rattle.std.specs.FinMap as maps;
+ghost use Rattle.mig_bytes.specs.Bytes.{AreBytes};
+ghost use Rattle.mig_headers.specs.declared.kind.Kind.TheVariants.{Pv};
+ghost use Rattle.mig_guest.specs.declared.part_key.PartKey.{PartKey};
+ghost use Rattle.mig_guest.specs.Hosts.{HostOf, IsValid};
+ghost use Rattle.mig_guest.specs.Longs.{long_at};
+ghost use Rattle.mig_hosted.specs.RenamedContexts.{renamed_context};
+ghost use Rattle.mig_hosted.specs.Sound.{IsSound};
+ghost use Rattle.mig_pvtables.specs.VcpuContexts.{frame_of_field, is_used, is_used_somewhere};
+ghost use Rattle.mig_guest.specs.Hosts.{pfn_in};
+ghost use Rattle.mig_hosted.specs.View.{view};
+ghost use Rattle.mig_standing.specs.Fields.{Field, field_row, IsField, said_by, with_frame_in};
+ghost use Rattle.mig_standing.specs.NamedAnew.{AreNamesSmall, SaysAnew, IsSeenAs};
+ghost use Rattle.mig_standing.specs.WorkedUserRoot.{user_root_seen};
+
+/// A value that says a frame says it, and is in blank form; one that a stream uses has as its blank form the value that
+/// says its frame; one that a host doesn't use is in blank form; and no two fields stand at one place.
+#[tactic(auto, using(crate::proofs::Fields::frame_of_value, crate::proofs::Fields::written_blanked, crate::proofs::Fields::value_of_frame, crate::proofs::Fields::unused_blanked, crate::proofs::Fields::one_place))]
+pub fn fields_say_values()
+    ensures back { (field : Field) (frame : ℕ) → (field_row field).frame ((field_row field).value frame) ≡ frame }
+    ensures written { (field : Field) (frame : ℕ) → (field_row field).blanked ((field_row field).value frame) ≡ (field_row field).value frame }
+    ensures used { (field : Field) (id ents v : ℕ) → (field_row field).in_stream id ents v ≡ true → (field_row field).value ((field_row field).frame v) ≡ (field_row field).blanked v }
+    ensures unused { (field : Field) (id ents v : ℕ) → (field_row field).in_host id ents v ≡ false → (field_row field).blanked v ≡ v }
+    ensures places { (field other : Field) → IsField field → IsField other → (field_row field).place ≡ (field_row other).place → field ≡ other }
+{}
+
+/// A field of a context says the frame that was put into it, of two the last; to put in what it says in written form
+/// changes nothing; and all other fields stay.
+#[tactic(auto, using(crate::proofs::FieldLaws::back, crate::proofs::FieldLaws::same, crate::proofs::FieldLaws::twice, crate::proofs::FieldLaws::others))]
+pub fn field_keeps_what_is_put()
+    ensures back { (field : Field) (context : List ℕ) (frame : ℕ) → IsField field → AreBytes context → length context ≡ 5168 → frame < 2 ^ 52 → said_by field (with_frame_in field frame context) ≡ frame }
+    ensures same { (field : Field) (context : List ℕ) → IsField field → AreBytes context → length context ≡ 5168
+        → (field_row field).value (said_by field context) ≡ long_at context (field_row field).place → with_frame_in field (said_by field context) context ≡ context }
+    ensures twice { (field : Field) (context : List ℕ) (frame last : ℕ) → IsField field → AreBytes context → length context ≡ 5168 → with_frame_in field last (with_frame_in field frame context) ≡ with_frame_in field last context }
+    ensures others { (field other : Field) (context : List ℕ) (frame : ℕ) → IsField field → IsField other → (other ≡ field → ⊥) → AreBytes context → length context ≡ 5168 → said_by other (with_frame_in field frame context) ≡ said_by other context }
+{}
+
+/// In a renamed context each field that is used says the name of the frame that it said, in written form, where it has one;
+/// all other numbers stay. In a stream and in a host other fields are used.
+pub fn renamed_context_says_names()
+    ensures stream { (names : ℕ → Option ℕ) (id : ℕ) (context : List ℕ) → AreNamesSmall names → AreBytes context → SaysAnew (λ row. row.in_stream) names id context (renamed_context is_used names id context) }
+    ensures host { (names : ℕ → Option ℕ) (id : ℕ) (context : List ℕ) → AreNamesSmall names → AreBytes context → SaysAnew (λ row. row.in_host) names id context (renamed_context is_used_somewhere names id context) }
+{}
+
+/// In the view of a sound PV host, each context is the host's with the PFN of each machine frame that a used field says.
+#[tactic(auto, using(crate::proofs::SeenContexts::context_seen))]
+pub fn context_is_seen()
+    ensures { (h : HostOf) → h.kind ≡ Pv → IsValid h → IsSound h → (key : PartKey) (context : List ℕ) → maps.get h.parts key ≡ Some context → key.code ≡ 4 → AreBytes context
+        → (new : List ℕ) × (maps.get (view h).parts key ≡ Some new) × IsSeenAs (pfn_in h.frames) key.key1 context new }
+{}
+
+/// ctrlreg[1], field 18, of a host is used where it isn't 0, whatever its bit 0: 0x138e000 says machine frame 5006, which
+/// PFN 7 has in the worked host, so that this is seen as 0x7001; and 0 is seen as 0. In a stream bit 0 alone says that
+/// the field is used.
+#[tactic(auto, using(crate::proofs::WorkedUserRoot::unmarked_seen, crate::proofs::WorkedUserRoot::marked_seen, crate::proofs::WorkedUserRoot::zero_seen))]
+pub fn worked_user_root()
+    ensures unmarked { user_root_seen 0x138e000 ≡ Some 0x7001 }
+    ensures marked { user_root_seen 0x138e001 ≡ Some 0x7001 }
+    ensures zero { user_root_seen 0 ≡ Some 0 }
+    ensures frame { frame_of_field 18 0x138e000 ≡ 5006 }
+    ensures host { (id ents : ℕ) → (is_used_somewhere id ents 18 0x138e000 ≡ true) × (is_used_somewhere id ents 18 0 ≡ false) }
+    ensures stream { (id ents : ℕ) → (is_used id ents 18 0x138e000 ≡ false) × (is_used id ents 18 0x138e001 ≡ true) }
+{}
