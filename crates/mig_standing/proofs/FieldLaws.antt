@@ -1,16 +1,16 @@
 -- The laws, as they stand on public functions.
-use Rattle.mig_pvtables.proofs.Common.{◌≡◌, ℕ, ◌^◌, ◌<◌, List, length, Option, arith, long_at, is_used}
 use Rattle.std.proofs.lemmas.List.Elements.{recursion_from_All}
 use Rattle.mig_bytes.specs.Bytes.{AreBytes}
-use Rattle.mig_texts.specs.UnsoundTexts.{number_of_unsound}
 use Rattle.mig_headers.specs.declared.unsound.Unsound.{Unsound}
-use Rattle.mig_hosted.specs.RenamedContexts.{renamed_context}
+use Rattle.mig_texts.specs.UnsoundTexts.{number_of_unsound}
+use Rattle.mig_pvtables.proofs.Common.{◌≡◌, ℕ, ◌^◌, ◌<◌, ◌≤◌, List, length, Option, Some, arith, field_at, long_at, is_used}
 use Rattle.mig_pvtables.specs.VcpuContexts.{is_used_somewhere}
-use Rattle.mig_standing.specs.Fields.{Field, field_row, IsField, said_by, with_frame_in}
+use Rattle.mig_hosted.specs.RenamedContexts.{renamed_context}
+use Rattle.mig_standing.specs.Fields.{Field, field_row, IsField, field_numbered, said_by, with_frame_in}
 use Rattle.mig_standing.specs.NamedAnew.{AreNamesSmall, SaysAnew}
 use Rattle.mig_standing.specs.Standing.{Standing}
 use Rattle.mig_standing.specs.Unsoundness.{IsWrong, NamesFirstRow}
-use Rattle.mig_standing.proofs.Fields.{AreLongs, said_back, written_stays, put_twice, others_stay}
+use Rattle.mig_standing.proofs.Fields.{AreLongs, at_its_place, number_small, numbered, said_back, written_stays, put_twice, others_stay}
 use Rattle.mig_standing.proofs.NamedAnew.{stream_use, host_use, says_anew}
 use Rattle.mig_standing.proofs.NamedFirst.{one_named}
 
@@ -38,3 +38,6 @@ in_host_anew names id context small bytes = says_anew is_used_somewhere (λ row.
 
 pub named_once : (s : Standing) (f g : Option Unsound) → NamesFirstRow s f → NamesFirstRow s g → f ≡ g
 named_once s f g p q = one_named number_of_unsound (IsWrong s) f g p q
+
+pub has_number : (field : Field) → IsField field → ((field_row field).number ≤ 18) × (field_numbered (field_row field).number ≡ field) × (field_at (field_row field).place ≡ Some (field_row field).number)
+has_number field is = (number_small field is, numbered field is, at_its_place field is)

@@ -1,14 +1,16 @@
 -- A renamed context, in words: and what a host's context says in the guest that the host is seen as.
-use Rattle.mig_pvtables.proofs.Common.{◌≡◌, ℕ, ◌*◌, ◌%◌, ◌^◌, ◌<◌, ◌≤◌, true, false, cond, List, Option, Some, None, refl, sym, ap, subst, ◌∙◌, arith, gdt_ents, long_at, length_longs, field_at, is_used}
+use Rattle.std.proofs.lemmas.Bool.{both_ways}
+use Rattle.std.proofs.lemmas.List.Elements.{recursion_from_All}
+use Rattle.mig_bytes.specs.Bytes.{AreBytes}
 use Rattle.mig_bytes.proofs.ByteLists.{Bytes, long_below}
-use Rattle.mig_pvtables.specs.VcpuContexts.{Usage}
-use Rattle.mig_hosted.specs.RenamedContexts.{field_named, value_renamed, renamed_value, renamed_context}
-use Rattle.mig_pvtables.specs.VcpuContexts.{is_used_somewhere}
+use Rattle.mig_pvtables.proofs.Common.{◌≡◌, ℕ, ◌*◌, ◌%◌, ◌^◌, ◌<◌, ◌≤◌, Bool, true, false, cond, List, length, Option, Some, None, refl, sym, ap, subst, ◌∙◌, arith, gdt_ents, long_at, length_longs, field_at, is_used}
+use Rattle.mig_pvtables.specs.VcpuContexts.{Usage, is_used_somewhere}
 use Rattle.mig_pvtables.proofs.BlankSays.{place_field}
 use Rattle.mig_pvtables.proofs.Moduli.{long_of_each}
+use Rattle.mig_hosted.specs.RenamedContexts.{field_named, value_renamed, renamed_value, renamed_context}
 use Rattle.mig_standing.specs.Fields.{Field, FieldRow, UsedWhere, field_row, IsField, field_numbered, said_by}
-use Rattle.mig_standing.specs.NamedAnew.{Uses, AreNamesSmall, SaysAnew}
-use Rattle.mig_standing.proofs.Fields.{agrees, at_its_place, place_inside, value_small, longs_bytes, number_small, numbered}
+use Rattle.mig_standing.specs.NamedAnew.{Uses, AreNamesSmall, SaysAnew, IsSeenAs}
+use Rattle.mig_standing.proofs.Fields.{AreLongs, agrees, at_its_place, place_inside, one_place, numbers_tell, value_small, longs_bytes, number_small, numbered}
 
 -- a use that is told by numbers is that of a row
 abbrev pub IsUseOf : Usage → (FieldRow → UsedWhere) → Type 0
@@ -103,3 +105,41 @@ module _ (usage : Usage) (used : FieldRow → UsedWhere) (same : IsUseOf usage u
       said = field_says;
       others = λ i lt none. place_stays (field_at i) i lt refl none;
     }
+
+-- ---- what is said pins the context down
+
+-- two contexts that say the same of each field that is used, and the same at all other places, are one
+module _ (used : FieldRow → UsedWhere) (id : ℕ) (context a b : List ℕ) (first : AreLongs 646 a) (second : AreLongs 646 b)
+    (fields : (f : Field) → IsField f → Uses used id context f → long_at a (field_row f).place ≡ long_at b (field_row f).place)
+    (others : (i : ℕ) → i < 646 → ((f : Field) → IsField f → (field_row f).place ≡ i → Uses used id context f → ⊥) → long_at a i ≡ long_at b i) where
+  at_field : (f : Field) → IsField f → (u : Bool) → used (field_row f) id (gdt_ents context) (long_at context (field_row f).place) ≡ u → long_at a (field_row f).place ≡ long_at b (field_row f).place
+  at_field f is true uses = fields f is uses
+  at_field f is false un =
+      others (field_row f).place (place_inside f is) (λ g also at uses. both_ways _ un (subst (λ h. Uses used id context h) (one_place g f also is at) uses))
+
+  at_place : (i : ℕ) → i < 646 → (o : Option ℕ) → field_at i ≡ o → long_at a i ≡ long_at b i
+  at_place i lt None at =
+      others i lt (λ g also place uses. let no : None ≡ Some (field_row g).number = sym at ∙ ap field_at (sym place) ∙ at_its_place g also in cc)
+  at_place i lt (Some n) at =
+      let (most, place) = place_field i n at in
+      let m = agrees n most in
+      let f : Field = field_numbered n in
+      let stands : (field_row f).place ≡ i = sym m.place ∙ place in
+      subst (λ p. long_at a p ≡ long_at b p) stands (at_field f m.is (used (field_row f) id (gdt_ents context) (long_at context (field_row f).place)) refl)
+
+  pub one_context : a ≡ b
+  one_context = numbers_tell 646 a b first second (λ i lt. at_place i lt (field_at i) refl)
+
+longs_of : (c : List ℕ) → AreBytes c → length c ≡ 5168 → AreLongs 646 c
+longs_of c bytes size = record { all = recursion_from_All (λ b. b < 256) c bytes; size = omega (arith, size) }
+
+pub seen_once : (pfn_of : ℕ → Option ℕ) (id : ℕ) (context a b : List ℕ) → IsSeenAs pfn_of id context a → IsSeenAs pfn_of id context b → a ≡ b
+seen_once pfn_of id context a b first second =
+    one_context (λ row. row.in_host) id context a b (longs_of a first.bytes first.size) (longs_of b second.bytes second.size)
+    (λ f is uses.
+    let (n, has, says) = first.said f is uses in
+    let (m, also, tells) = second.said f is uses in
+    let some : Some n ≡ Some m = sym has ∙ also in
+    let same : n ≡ m = cc in
+    says ∙ ap (field_row f).value same ∙ sym tells)
+    (λ i lt none. first.others i lt none ∙ sym (second.others i lt none))

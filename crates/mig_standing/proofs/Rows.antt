@@ -1,5 +1,4 @@
 -- Each row names the first of what its line says, and the rows together the first of all that is wrong.
-use Rattle.mig_pvtables.proofs.Common.{◌≡◌, inl, inr, ℕ, zero, suc, ◌+◌, ◌*◌, ◌<◌, ◌≤◌, List, [], ◌∷◌, Bool, true, false, cond, not, nat_lt, is_none, is_some, Option, Some, None, IsSome, refl, sym, ap, subst, ◌∙◌, arith, ltb-true, lt-ltb, eqb-true, eq-eqb, cases_lt, nat_cmp, and_parts, and_from, ◌==◌, ◌&&◌, ◌||◌, find, list_any, range_with_len, option_map, option_or, option_and_then, nat_cmp_total, nat_cmp-IsAntisymmetric, PageType, level_of, gdt_ents, FrameOf, FrameMap, PartKey, part_cmp, p2m_key, vcpu_key, shared_key, context_key, Entry, Superpage, Frame, NotPresent, entry, Pv, Hvm, part_total, part_exact, first_cause, first_some, is_notab, is_this, find_slot, find_entry, is_superpage, count_in, listed, field_value}
 use Rattle.std.proofs.Common.{◌⊎◌}
 use Rattle.std.proofs.lemmas.Bool.{false≢true, not-true, or_cases, or_left, or_right}
 use Rattle.std.proofs.lemmas.List.Folds.{list_any_at}
@@ -8,18 +7,19 @@ use Rattle.std.specs.Prelude.{Result, Ok, Err}
 use Rattle.std.specs.Cmp.{ranked}
 use Rattle.std.specs.FinMap as maps
 use Rattle.std.specs.declared.cmp.Ordering.TheVariants.{Less}
+use Rattle.std.proofs.lemmas.Option.{cond_some}
 use Rattle.mig_headers.specs.Contexts.{scan}
-use Rattle.mig_texts.specs.UnsoundTexts.{number_of_unsound}
 use Rattle.mig_headers.specs.declared.fault.ContextFault.{ContextFault}
 use Rattle.mig_headers.specs.declared.kind.Kind.{Kind}
 use Rattle.mig_headers.specs.declared.unsound.Unsound.{Unsound}
 use Rattle.mig_headers.specs.declared.unsound.Unsound.TheVariants as causes
+use Rattle.mig_texts.specs.UnsoundTexts.{number_of_unsound}
 use Rattle.mig_pagetypes.specs.declared.page_type.PageType.TheVariants.{Notab}
+use Rattle.mig_pvtables.proofs.Common.{◌≡◌, inl, inr, ℕ, zero, suc, ◌+◌, ◌*◌, ◌<◌, ◌≤◌, List, [], ◌∷◌, Bool, true, false, cond, not, nat_lt, is_none, is_some, Option, Some, None, IsSome, refl, sym, ap, subst, ◌∙◌, arith, ltb-true, lt-ltb, eqb-true, eq-eqb, cases_lt, nat_cmp, and_parts, and_from, ◌==◌, ◌&&◌, ◌||◌, find, list_any, range_with_len, option_map, option_or, option_and_then, nat_cmp_total, nat_cmp-IsAntisymmetric, PageType, level_of, gdt_ents, FrameOf, FrameMap, PartKey, part_cmp, p2m_key, vcpu_key, shared_key, context_key, Entry, Superpage, Frame, NotPresent, entry, Pv, Hvm, part_total, part_exact, first_cause, first_some, is_notab, is_this, find_slot, find_entry, is_superpage, count_in, listed, field_value}
 use Rattle.mig_pvtables.specs.BadEntries.{is_unknown}
 use Rattle.mig_pvtables.specs.Faults.{slots, field_numbers}
-use Rattle.mig_hosted.specs.Sound.{needed_keys, absent, fault_in}
-use Rattle.std.proofs.lemmas.Option.{cond_some}
 use Rattle.mig_pvtables.specs.P2mFrames.{listed_in}
+use Rattle.mig_hosted.specs.Sound.{needed_keys, absent, fault_in}
 use Rattle.mig_standing.specs.NamedFirst.{NamesFirst}
 use Rattle.mig_standing.specs.Standing.{Standing, said_in, said_of, says_in}
 use Rattle.mig_standing.specs.FirstRow.{has_some, is_ill_listed, find_said, names_ill, row_1, row_2, row_3, row_4, row_5, row_6, row_7, first_row, IsWide}

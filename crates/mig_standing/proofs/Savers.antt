@@ -1,8 +1,8 @@
 -- What a saver finds with types that it saw last.
-use Rattle.mig_pvtables.proofs.Common.{◌≡◌, ℕ, true, Option, subst, sym, ◌∙◌, PageType, type_at}
 use Rattle.mig_headers.specs.declared.unsound.Unsound.{Unsound}
 use Rattle.mig_texts.specs.UnsoundTexts.{number_of_unsound}
 use Rattle.mig_guest.specs.Hosts.{HostOf}
+use Rattle.mig_pvtables.proofs.Common.{◌≡◌, ℕ, true, Option, subst, sym, ◌∙◌, ◌↔◌, PageType, type_at}
 use Rattle.mig_hosted.specs.Sound.{unsoundness}
 use Rattle.mig_hosted.specs.View.{guest_in}
 use Rattle.mig_standing.specs.Standing.{Standing, in_host, before_saver, is_of_no_type}
@@ -26,8 +26,8 @@ untyped s seen _ _ of (many_descriptors key c is code many) = many_descriptors k
 untyped s seen _ _ of (field_ill key c field is code most uses other) = cc
 untyped s seen _ _ of (bad_context bytes fault is fails) = bad_context bytes fault is fails
 
-pub row_stands : (h : HostOf) (seen : ℕ → Option PageType) (k : ℕ) (c : Unsound) → is_of_no_type c ≡ true → IsWrong (before_saver h seen) k c → UnsoundHas h k c
-row_stands h seen k c of wrong = untyped (before_saver h seen) (in_host h).types k c of wrong
+pub row_stands : (h : HostOf) (seen : ℕ → Option PageType) (k : ℕ) (c : Unsound) → is_of_no_type c ≡ true → IsWrong (before_saver h seen) k c ↔ UnsoundHas h k c
+row_stands h seen k c of = (untyped (before_saver h seen) (in_host h).types k c of, untyped (in_host h) seen k c of)
 
 -- where the types are those of the host, what is named first before a saver is named first in the host
 pub saver_names : (h : HostOf) (seen : ℕ → Option PageType) (found : Option Unsound) → ((pfn : ℕ) → seen pfn ≡ type_at (guest_in h).frames pfn) → NamesFirstRow (before_saver h seen) found → found ≡ unsoundness h

@@ -1,21 +1,20 @@
 -- What the contexts of a sound host say in the guest that it is seen as.
-use Rattle.mig_pvtables.proofs.Common.{◌≡◌, ℕ, ◌<◌, ◌≤◌, Bool, true, false, cond, List, Option, Some, None, refl, sym, ap, subst, ◌∙◌, arith, option_and_then, gdt_ents, long_at, each_stays, field_at, field_value, frame_of_field, blanked_context, value_blanked, fits_field, PartKey, Pv, blanked_shared, eq-eqb, ◌==◌, part_total, part_exact, blanked_part, each_value}
 use Rattle.std.specs.FinMap as maps
 use Rattle.std.proofs.lemmas.Bool.{both_ways}
 use Rattle.std.proofs.lemmas.List.Elements.{recursion_from_All}
 use Rattle.mig_bytes.specs.Bytes.{AreBytes}
 use Rattle.mig_pagetypes.specs.declared.page_type.PageType.{PageType}
-use Rattle.mig_guest.specs.Hosts.{HostOf, IsValid}
+use Rattle.mig_guest.specs.Hosts.{HostOf, IsValid, pfn_in}
+use Rattle.mig_pvtables.proofs.Common.{◌≡◌, ℕ, ◌<◌, ◌≤◌, Bool, true, false, cond, List, Option, Some, None, refl, sym, ap, subst, ◌∙◌, arith, option_and_then, gdt_ents, long_at, each_stays, field_at, field_value, frame_of_field, blanked_context, value_blanked, fits_field, PartKey, Pv, blanked_shared, eq-eqb, ◌==◌, part_total, part_exact, blanked_part, each_value}
+use Rattle.mig_pvtables.specs.VcpuContexts.{blanked_value, is_used_somewhere}
+use Rattle.mig_pvtables.proofs.BlankSays.{place_field}
+use Rattle.mig_pvtables.proofs.BlankWhole.{unfit}
+use Rattle.mig_pvtables.proofs.EachValue.{to_each}
 use Rattle.mig_hosted.specs.Localised.{renamed_part}
 use Rattle.mig_hosted.specs.Normalised.{normalised_of}
 use Rattle.mig_hosted.specs.RenamedContexts.{renamed_context}
 use Rattle.mig_hosted.specs.Sound.{IsSound}
-use Rattle.mig_pvtables.specs.VcpuContexts.{blanked_value, is_used_somewhere}
-use Rattle.mig_guest.specs.Hosts.{pfn_in}
 use Rattle.mig_hosted.specs.View.{guest_in, view}
-use Rattle.mig_pvtables.proofs.BlankSays.{place_field}
-use Rattle.mig_pvtables.proofs.BlankWhole.{unfit}
-use Rattle.mig_pvtables.proofs.EachValue.{to_each}
 use Rattle.mig_hosted.proofs.ViewedSays.{pfn_found}
 use Rattle.mig_standing.specs.Fields.{Field, field_row, IsField, field_numbered, said_by}
 use Rattle.mig_standing.specs.NamedAnew.{Uses, AreNamesSmall, SaysAnew, IsSeenAs}

@@ -1,7 +1,7 @@
 -- What the worked host's ctrlreg[1] is seen as.
-use Rattle.mig_pvtables.proofs.Common.{◌≡◌, ℕ, ◌%◌, ◌^◌, ◌<◌, Bool, true, false, cond, List, [], ◌∷◌, Option, Some, None, refl, ap, ◌∙◌, arith, ◌==◌, find, option_map, long_at, long_of_longs, gdt_ents, vcpu_key, part_cmp, part_total, part_exact, nat_cmp, blanked_part, blanked_context, each_value, value_blanked}
 use Rattle.std.specs.FinMap as maps
 use Rattle.mig_guest.specs.Hosts.{HostFrame, pfn_in}
+use Rattle.mig_pvtables.proofs.Common.{◌≡◌, ℕ, ◌%◌, ◌^◌, ◌<◌, Bool, true, false, cond, List, [], ◌∷◌, Option, Some, None, refl, ap, ◌∙◌, arith, ◌==◌, find, option_map, long_at, long_of_longs, gdt_ents, vcpu_key, part_cmp, part_total, part_exact, nat_cmp, blanked_part, blanked_context, each_value, value_blanked}
 use Rattle.mig_pvtables.specs.VcpuContexts.{blanked_value, is_used_somewhere}
 use Rattle.mig_pvtables.proofs.EachValue.{to_each}
 use Rattle.mig_pvtables.proofs.Moduli.{long_of_each}

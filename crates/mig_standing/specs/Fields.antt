@@ -1,11 +1,12 @@
 -- The nineteen fields of a vCPU's context that hold a frame (Xen public/arch-x86/xen.h, vcpu_guest_context), a row each. A
 -- context is 646 numbers of 8 bytes; what a row says of values is said of such a number.
-use Rattle.std.specs.Prelude.{◌<◌, ⊤, ℕ, ◌+◌, ◌-◌, ◌*◌, ◌/◌, ◌%◌, Bool, true, List, Option, ◌==◌, not, nat_le, nat_lt, if◌then◌else◌}
+use Rattle.std.specs.Prelude.{◌≡◌, ◌<◌, ⊤, ℕ, ◌+◌, ◌-◌, ◌*◌, ◌/◌, ◌%◌, Bool, true, List, Option, Some, ◌==◌, not, nat_le, nat_lt, if◌then◌else◌}
 use Rattle.byteorder.specs.Endian.{little_bytes}
 use Rattle.mig_bytes.specs.Fields.{with_field}
 use Rattle.mig_pagetypes.specs.declared.page_type.PageType.{PageType}
 use Rattle.mig_guest.specs.Longs.{long_at}
-use Rattle.mig_pvtables.specs.Faults.{is_notab, is_root}
+use Rattle.mig_pvtables.specs.Faults.{is_notab, is_root, fits_field}
+use Rattle.mig_pvtables.specs.VcpuContexts.{field_place, frame_of_field, field_of_frame, is_used, is_used_somewhere, value_blanked}
 
 -- rdx; the GDT's frames, from 0 on; ctrlreg[3], the root; ctrlreg[1], the root of user space
 pub data Field : Type 0 where
@@ -18,15 +19,18 @@ pub data Field : Type 0 where
 abbrev pub UsedWhere : Type 0
 UsedWhere = (id ents v : ℕ) → Bool
 
+-- what there is to say of a field
 pub record FieldRow : Type 0 where
   -- the number of the field, and the place at which it stands
   pub number : ℕ
   pub place : ℕ
+  -- whether a stream uses it, and whether a host does
   pub in_stream : UsedWhere
   pub in_host : UsedWhere
   -- the frame that a value says, and the value that says a frame
   pub frame : ℕ → ℕ
   pub value : ℕ → ℕ
+  -- the blank form of a value
   pub blanked : ℕ → ℕ
   -- whether a frame of a type may be said
   pub fits : Option PageType → Bool
@@ -35,6 +39,7 @@ pub record FieldRow : Type 0 where
 abbrev pub plain_field : ℕ → ℕ → UsedWhere → FieldRow
 plain_field number place used = record { number = number; place = place; in_stream = used; in_host = used; frame = λ v. v; value = λ n. n; blanked = λ v. v; fits = is_notab }
 
+-- the rows
 abbrev pub field_row : Field → FieldRow
 field_row Rdx = plain_field 0 77 (λ id ents v. id == 0)
 field_row (GdtFrame g) = plain_field (1 + g) (604 + g) (λ id ents v. nat_lt (g * 512) ents)
@@ -67,6 +72,18 @@ IsField _ = ⊤
 -- the field that has a number of at most 18
 abbrev pub field_numbered : ℕ → Field
 field_numbered n = if n == 0 then Rdx else if nat_le n 16 then GdtFrame (n - 1) else if n == 17 then Root else UserRoot
+
+-- what is said of the fields by their numbers is what the row of this field says
+pub record IsNumbered (n : ℕ) (field : Field) : Type 0 where
+  pub is : IsField field
+  pub number : (field_row field).number ≡ n
+  pub place : field_place n ≡ (field_row field).place
+  pub stream : (id ents v : ℕ) → is_used id ents n v ≡ (field_row field).in_stream id ents v
+  pub host : (id ents v : ℕ) → is_used_somewhere id ents n v ≡ (field_row field).in_host id ents v
+  pub frame : (v : ℕ) → frame_of_field n v ≡ (field_row field).frame v
+  pub value : (name : ℕ) → field_of_frame n name ≡ (field_row field).value name
+  pub blanked : (v : ℕ) → value_blanked (Some n) v ≡ (field_row field).blanked v
+  pub fits : (type : Option PageType) → fits_field n type ≡ (field_row field).fits type
 
 -- ---- a field of a context
 

@@ -15,5 +15,6 @@ module _ {C : Type 0} (number : C → ℕ) where
   NamesOne Has None = (place : ℕ) (cause : C) → Has place cause → ⊥
   NamesOne Has (Some cause) = IsLeast Has cause
 
+  -- what is found is what is named; a record, so that proofs needn't look inside
   pub record NamesFirst (Has : ℕ → C → Type 0) (found : Option C) : Type 0 where
     pub holds : NamesOne Has found

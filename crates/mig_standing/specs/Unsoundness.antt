@@ -3,13 +3,13 @@ use Rattle.std.specs.Prelude.{◌≡◌, ◌⊎◌, Bool, true, false, ℕ, ◌+
 use Rattle.std.specs.Ordering.{is_lt}
 use Rattle.std.specs.FinMap as maps
 use Rattle.mig_headers.specs.Contexts.{scan}
-use Rattle.mig_texts.specs.UnsoundTexts.{number_of_unsound}
 use Rattle.mig_headers.specs.declared.fault.ContextFault.{ContextFault}
 use Rattle.mig_headers.specs.declared.fault.Cause.{Cause}
 use Rattle.mig_headers.specs.declared.fault.Cause.TheVariants as faults
 use Rattle.mig_headers.specs.declared.kind.Kind.TheVariants.{Pv, Hvm}
 use Rattle.mig_headers.specs.declared.unsound.Unsound.{Unsound}
 use Rattle.mig_headers.specs.declared.unsound.Unsound.TheVariants as causes
+use Rattle.mig_texts.specs.UnsoundTexts.{number_of_unsound}
 use Rattle.mig_pagetypes.specs.Limits.{most_frames}
 use Rattle.mig_pagetypes.specs.declared.page_type.PageType.TheVariants.{Notab}
 use Rattle.mig_guest.specs.declared.part_key.PartKey.{PartKey}
@@ -30,10 +30,11 @@ use Rattle.mig_standing.specs.Standing.{Standing, type_named, in_stream, in_host
 abbrev pub key_rank : PartMap → PartKey → ℕ
 key_rank parts key = length (filter (λ e. is_lt (part_cmp e.0 key)) (maps.entries parts))
 
--- What is in the way, a line for each thing that a row says, with its place. Of the parts that are missing, the P2M frames are tried first, then the shared page, then the context of vCPU 0. An entry has
--- the place 512 * pfn + slot, with a slot below 512: the tables are tried by their frame numbers, and one by its slots. The
--- contexts are tried in the order of their keys, and so of the vCPUs' ids; a field has the place 32 * rank + field, with a field
--- of at most 18.
+-- What is in the way, a line for each thing that a row says, with its place. Of the parts that are missing, the P2M frames are
+-- tried first, then the shared page, then the context of vCPU 0. A P2M frame has its index as its place. An entry has the place
+-- 512 * pfn + slot, with a slot below 512: the tables are tried by their frame numbers, and one by its slots. The contexts are
+-- tried in the order of their keys, and so of the vCPUs' ids; a field has the place 32 * rank + field, with a field of at most
+-- 18.
 pub data IsWrong (s : Standing) : ℕ → Unsound → Type 0 where
   no_context : s.kind ≡ Hvm → maps.get s.parts context_key ≡ None → IsWrong s 0 (causes.Missing 9)
   no_p2m : s.kind ≡ Pv → maps.get s.parts p2m_key ≡ None → IsWrong s 0 (causes.Missing 3)

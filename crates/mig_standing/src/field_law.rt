@@ -3,14 +3,13 @@ ghost use Rattle.std.specs.FinMap as maps;
 ghost use Rattle.mig_bytes.specs.Bytes.{AreBytes};
 ghost use Rattle.mig_headers.specs.declared.kind.Kind.TheVariants.{Pv};
 ghost use Rattle.mig_guest.specs.declared.part_key.PartKey.{PartKey};
-ghost use Rattle.mig_guest.specs.Hosts.{HostOf, IsValid};
+ghost use Rattle.mig_guest.specs.Hosts.{HostOf, IsValid, pfn_in};
 ghost use Rattle.mig_guest.specs.Longs.{long_at};
+ghost use Rattle.mig_pvtables.specs.VcpuContexts.{field_at, frame_of_field, is_used, is_used_somewhere};
 ghost use Rattle.mig_hosted.specs.RenamedContexts.{renamed_context};
 ghost use Rattle.mig_hosted.specs.Sound.{IsSound};
-ghost use Rattle.mig_pvtables.specs.VcpuContexts.{frame_of_field, is_used, is_used_somewhere};
-ghost use Rattle.mig_guest.specs.Hosts.{pfn_in};
 ghost use Rattle.mig_hosted.specs.View.{view};
-ghost use Rattle.mig_standing.specs.Fields.{Field, field_row, IsField, said_by, with_frame_in};
+ghost use Rattle.mig_standing.specs.Fields.{Field, field_row, IsField, IsNumbered, field_numbered, said_by, with_frame_in};
 ghost use Rattle.mig_standing.specs.NamedAnew.{AreNamesSmall, SaysAnew, IsSeenAs};
 ghost use Rattle.mig_standing.specs.WorkedUserRoot.{user_root_seen};
 
@@ -23,6 +22,14 @@ pub fn fields_say_values()
     ensures used { (field : Field) (id ents v : ℕ) → (field_row field).in_stream id ents v ≡ true → (field_row field).value ((field_row field).frame v) ≡ (field_row field).blanked v }
     ensures unused { (field : Field) (id ents v : ℕ) → (field_row field).in_host id ents v ≡ false → (field_row field).blanked v ≡ v }
     ensures places { (field other : Field) → IsField field → IsField other → (field_row field).place ≡ (field_row other).place → field ≡ other }
+{}
+
+/// What is said of fields by their numbers, 0 to 18, is what the rows of these fields say; and each field has a number, by
+/// which it is found, and which is found at its place.
+#[tactic(auto, using(crate::proofs::Fields::agrees, crate::proofs::FieldLaws::has_number))]
+pub fn fields_have_numbers()
+    ensures rows { (n : ℕ) → n ≤ 18 → IsNumbered n (field_numbered n) }
+    ensures each { (field : Field) → IsField field → ((field_row field).number ≤ 18) × (field_numbered (field_row field).number ≡ field) × (field_at (field_row field).place ≡ Some (field_row field).number) }
 {}
 
 /// A field of a context says the frame that was put into it, of two the last; to put in what it says in written form
@@ -43,11 +50,13 @@ pub fn renamed_context_says_names()
     ensures host { (names : ℕ → Option ℕ) (id : ℕ) (context : List ℕ) → AreNamesSmall names → AreBytes context → SaysAnew (λ row. row.in_host) names id context (renamed_context is_used_somewhere names id context) }
 {}
 
-/// In the view of a sound PV host, each context is the host's with the PFN of each machine frame that a used field says.
+/// In the view of a sound PV host, each context is the host's with the PFN of each machine frame that a used field says. What is
+/// said of it is said of one context alone.
 #[tactic(auto, using(crate::proofs::SeenContexts::context_seen))]
 pub fn context_is_seen()
-    ensures { (h : HostOf) → h.kind ≡ Pv → IsValid h → IsSound h → (key : PartKey) (context : List ℕ) → maps.get h.parts key ≡ Some context → key.code ≡ 4 → AreBytes context
+    ensures seen { (h : HostOf) → h.kind ≡ Pv → IsValid h → IsSound h → (key : PartKey) (context : List ℕ) → maps.get h.parts key ≡ Some context → key.code ≡ 4 → AreBytes context
         → (new : List ℕ) × (maps.get (view h).parts key ≡ Some new) × IsSeenAs (pfn_in h.frames) key.key1 context new }
+    ensures one { (pfn_of : ℕ → Option ℕ) (id : ℕ) (context new other : List ℕ) → IsSeenAs pfn_of id context new → IsSeenAs pfn_of id context other → new ≡ other }
 {}
 
 /// ctrlreg[1], field 18, of a host is used where it isn't 0, whatever its bit 0: 0x138e000 says machine frame 5006, which

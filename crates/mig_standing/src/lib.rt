@@ -13,8 +13,8 @@ mod saver_law;
 mod standing_law;
 
 pub use field_law::{
-    context_is_seen, field_keeps_what_is_put, fields_say_values, renamed_context_says_names,
-    worked_user_root,
+    context_is_seen, field_keeps_what_is_put, fields_have_numbers, fields_say_values,
+    renamed_context_says_names, worked_user_root,
 };
 pub use saver_law::saver_finds_unsoundness;
 pub use standing_law::{
