@@ -1,21 +1,13 @@
--- The laws, as they stand on public functions.
+-- The laws of fields, as they stand on public functions.
 use Rattle.std.proofs.lemmas.List.Elements.{recursion_from_All}
 use Rattle.mig_bytes.specs.Bytes.{AreBytes}
-use Rattle.mig_headers.specs.declared.unsound.Unsound.{Unsound}
-use Rattle.mig_texts.specs.UnsoundTexts.{number_of_unsound}
-use Rattle.mig_pvtables.proofs.Common.{◌≡◌, ℕ, ◌^◌, ◌<◌, ◌≤◌, List, length, Option, Some, arith, field_at, long_at, is_used}
+use Rattle.mig_pvtables.proofs.Common.{◌≡◌, ℕ, ◌^◌, ◌<◌, ◌≤◌, List, length, Option, Some, field_at, long_at, is_used}
 use Rattle.mig_pvtables.specs.VcpuContexts.{is_used_somewhere}
 use Rattle.mig_hosted.specs.RenamedContexts.{renamed_context}
 use Rattle.mig_standing.specs.Fields.{Field, field_row, IsField, field_numbered, said_by, with_frame_in}
 use Rattle.mig_standing.specs.NamedAnew.{AreNamesSmall, SaysAnew}
-use Rattle.mig_standing.specs.Standing.{Standing}
-use Rattle.mig_standing.specs.Unsoundness.{IsWrong, NamesFirstRow}
-use Rattle.mig_standing.proofs.Fields.{AreLongs, at_its_place, number_small, numbered, said_back, written_stays, put_twice, others_stay}
+use Rattle.mig_standing.proofs.Fields.{are_longs, at_its_place, number_small, numbered, said_back, written_stays, put_twice, others_stay}
 use Rattle.mig_standing.proofs.NamedAnew.{stream_use, host_use, says_anew}
-use Rattle.mig_standing.proofs.NamedFirst.{one_named}
-
-are_longs : (context : List ℕ) → AreBytes context → length context ≡ 5168 → AreLongs 646 context
-are_longs context bytes size = record { all = recursion_from_All (λ b. b < 256) context bytes; size = omega (arith, size) }
 
 pub back : (field : Field) (context : List ℕ) (frame : ℕ) → IsField field → AreBytes context → length context ≡ 5168 → frame < 2 ^ 52 → said_by field (with_frame_in field frame context) ≡ frame
 back field context frame is bytes size small = said_back field is context (are_longs context bytes size) frame small
@@ -35,9 +27,6 @@ in_stream_anew names id context small bytes = says_anew is_used (λ row. row.in_
 
 pub in_host_anew : (names : ℕ → Option ℕ) (id : ℕ) (context : List ℕ) → AreNamesSmall names → AreBytes context → SaysAnew (λ row. row.in_host) names id context (renamed_context is_used_somewhere names id context)
 in_host_anew names id context small bytes = says_anew is_used_somewhere (λ row. row.in_host) host_use names id context small (recursion_from_All (λ b. b < 256) context bytes)
-
-pub named_once : (s : Standing) (f g : Option Unsound) → NamesFirstRow s f → NamesFirstRow s g → f ≡ g
-named_once s f g p q = one_named number_of_unsound (IsWrong s) f g p q
 
 pub has_number : (field : Field) → IsField field → ((field_row field).number ≤ 18) × (field_numbered (field_row field).number ≡ field) × (field_at (field_row field).place ≡ Some (field_row field).number)
 has_number field is = (number_small field is, numbered field is, at_its_place field is)

@@ -1,16 +1,14 @@
 -- A renamed context, in words: and what a host's context says in the guest that the host is seen as.
 use Rattle.std.proofs.lemmas.Bool.{both_ways}
-use Rattle.std.proofs.lemmas.List.Elements.{recursion_from_All}
-use Rattle.mig_bytes.specs.Bytes.{AreBytes}
 use Rattle.mig_bytes.proofs.ByteLists.{Bytes, long_below}
-use Rattle.mig_pvtables.proofs.Common.{◌≡◌, ℕ, ◌*◌, ◌%◌, ◌^◌, ◌<◌, ◌≤◌, Bool, true, false, cond, List, length, Option, Some, None, refl, sym, ap, subst, ◌∙◌, arith, gdt_ents, long_at, length_longs, field_at, is_used}
+use Rattle.mig_pvtables.proofs.Common.{◌≡◌, ℕ, ◌*◌, ◌%◌, ◌^◌, ◌<◌, ◌≤◌, Bool, true, false, cond, List, Option, Some, None, refl, sym, ap, subst, ◌∙◌, arith, gdt_ents, long_at, length_longs, field_at, is_used}
 use Rattle.mig_pvtables.specs.VcpuContexts.{Usage, is_used_somewhere}
 use Rattle.mig_pvtables.proofs.BlankSays.{place_field}
 use Rattle.mig_pvtables.proofs.Moduli.{long_of_each}
 use Rattle.mig_hosted.specs.RenamedContexts.{field_named, value_renamed, renamed_value, renamed_context}
 use Rattle.mig_standing.specs.Fields.{Field, FieldRow, UsedWhere, field_row, IsField, field_numbered, said_by}
 use Rattle.mig_standing.specs.NamedAnew.{Uses, AreNamesSmall, SaysAnew, IsSeenAs}
-use Rattle.mig_standing.proofs.Fields.{AreLongs, agrees, at_its_place, place_inside, one_place, numbers_tell, value_small, longs_bytes, number_small, numbered}
+use Rattle.mig_standing.proofs.Fields.{AreLongs, are_longs, agrees, at_its_place, place_inside, one_place, numbers_tell, value_small, longs_bytes, number_small, numbered}
 
 -- a use that is told by numbers is that of a row
 abbrev pub IsUseOf : Usage → (FieldRow → UsedWhere) → Type 0
@@ -130,12 +128,9 @@ module _ (used : FieldRow → UsedWhere) (id : ℕ) (context a b : List ℕ) (fi
   pub one_context : a ≡ b
   one_context = numbers_tell 646 a b first second (λ i lt. at_place i lt (field_at i) refl)
 
-longs_of : (c : List ℕ) → AreBytes c → length c ≡ 5168 → AreLongs 646 c
-longs_of c bytes size = record { all = recursion_from_All (λ b. b < 256) c bytes; size = omega (arith, size) }
-
 pub seen_once : (pfn_of : ℕ → Option ℕ) (id : ℕ) (context a b : List ℕ) → IsSeenAs pfn_of id context a → IsSeenAs pfn_of id context b → a ≡ b
 seen_once pfn_of id context a b first second =
-    one_context (λ row. row.in_host) id context a b (longs_of a first.bytes first.size) (longs_of b second.bytes second.size)
+    one_context (λ row. row.in_host) id context a b (are_longs a first.bytes first.size) (are_longs b second.bytes second.size)
     (λ f is uses.
     let (n, has, says) = first.said f is uses in
     let (m, also, tells) = second.said f is uses in

@@ -32,6 +32,10 @@ use Rattle.mig_standing.proofs.NamedFirst.{found_first, told_first, told_twice}
 abbrev Found : (ℕ → Unsound → Type 0) → Option Unsound → Type 0
 Found Has f = NamesFirst number_of_unsound Has f
 
+-- no two rows are named
+pub one_row : (s : Standing) (f g : Option Unsound) → NamesFirstRow s f → NamesFirstRow s g → f ≡ g
+one_row s = firsts.one_named number_of_unsound (IsWrong s)
+
 abbrev Alone : Type 0 → ℕ → Unsound → ℕ → Unsound → Type 0
 Alone = firsts.Alone number_of_unsound
 

@@ -13,7 +13,7 @@ ghost use Rattle.mig_standing.specs.Standing.{Standing, in_host};
 ghost use Rattle.mig_standing.specs.Unsoundness.{UnsoundHas, NamesFirstRow, IsWrongAtEnd};
 
 /// Of all that is wrong with a guest where it stands, one cause is named first, or none.
-#[tactic(auto, using(crate::proofs::FieldLaws::named_once))]
+#[tactic(auto, using(crate::proofs::Rows::one_row))]
 pub fn one_row_is_named()
     ensures { (s : Standing) (f g : Option Unsound) → NamesFirstRow s f → NamesFirstRow s g → f ≡ g }
 {}
