@@ -3,6 +3,7 @@ pub mod NamedFirst
 pub mod Rows
 pub mod Instances
 pub mod AtEnd
+pub mod Nothing
 pub mod Fields
 pub mod FieldLaws
 pub mod NamedAnew

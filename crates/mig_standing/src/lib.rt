@@ -18,5 +18,6 @@ pub use field_law::{
 };
 pub use saver_law::saver_finds_unsoundness;
 pub use standing_law::{
-    first_row_is_least, guest_fault_is_least, one_row_is_named, unsoundness_is_least,
+    first_row_is_least, guest_fault_is_least, nothing_is_wrong, one_row_is_named,
+    unsoundness_is_least,
 };

@@ -1,12 +1,15 @@
-ghost use Rattle.std.specs.Prelude.{◌≡◌, ℕ, Option};
+ghost use Rattle.std.specs.Prelude.{◌≡◌, ◌↔◌, ℕ, Option};
 ghost use Rattle.mig_headers.specs.CauseNumbers.{number_of_cause};
+ghost use Rattle.mig_headers.specs.declared.fault.Cause.{Cause};
 ghost use Rattle.mig_headers.specs.declared.kind.Kind.TheVariants.{Pv};
 ghost use Rattle.mig_headers.specs.declared.unsound.Unsound.{Unsound};
 ghost use Rattle.mig_texts.specs.UnsoundTexts.{number_of_unsound};
+ghost use Rattle.mig_guest.specs.Formed.{IsFormed};
 ghost use Rattle.mig_guest.specs.Guests.{GuestOf};
 ghost use Rattle.mig_guest.specs.Hosts.{HostOf, IsValid};
 ghost use Rattle.mig_pvtables.specs.Faults.{fault_of_guest};
-ghost use Rattle.mig_hosted.specs.Sound.{unsoundness};
+ghost use Rattle.mig_pvtables.specs.Whole.{IsWhole};
+ghost use Rattle.mig_hosted.specs.Sound.{IsSound, unsoundness};
 ghost use Rattle.mig_standing.specs.FirstRow.{first_row, IsWide};
 ghost use Rattle.mig_standing.specs.NamedFirst.{NamesFirst};
 ghost use Rattle.mig_standing.specs.Standing.{Standing, in_host};
@@ -27,6 +30,14 @@ pub fn unsoundness_is_least()
 /// The fault of a PV guest at the end of its stream is the first, at its least place, of what is wrong with it there.
 pub fn guest_fault_is_least()
     ensures { (g : GuestOf) → g.kind ≡ Pv → NamesFirst number_of_cause (IsWrongAtEnd g) (fault_of_guest g) }
+{}
+
+/// A host is sound exactly where nothing is wrong with it, and a PV guest is whole exactly where it is well formed and nothing
+/// is wrong with it at the end of its stream.
+#[tactic(auto, using(crate::proofs::Nothing::nothing_at_end))]
+pub fn nothing_is_wrong()
+    ensures host { (h : HostOf) → IsSound h ↔ ((place : ℕ) (cause : Unsound) → UnsoundHas h place cause → ⊥) }
+    ensures guest { (g : GuestOf) → g.kind ≡ Pv → IsWhole g ↔ (IsFormed g × ((place : ℕ) (cause : Cause) → IsWrongAtEnd g place cause → ⊥)) }
 {}
 
 /// What is found row by row, with tables looked through below a width beyond which there are none, is the row of least
