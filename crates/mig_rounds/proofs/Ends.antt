@@ -26,7 +26,7 @@ use Rattle.mig_rounds.specs.Flags.{pfns_of_flags, rest, total, total_taken}
 use Rattle.mig_rounds.specs.Entries.{AreTold, meant}
 use Rattle.mig_rounds.specs.Current.{Notes, no_notes, Current}
 use Rattle.mig_rounds.specs.Sends.{ReadsFront, SendsFront, IsWorst, first_pfn, within_set, super_of, lost_of}
-use Rattle.mig_rounds.specs.Live.{AreRounds, Live, LiveSent, Ended, Saved, SavedSent, forms, type_in, table_fault, worst_fault, tables_unsound}
+use Rattle.mig_rounds.specs.Live.{LiveSent, Ended, Saved, SavedSent, forms, type_in, table_fault, worst_fault, tables_unsound}
 use Rattle.mig_rounds.proofs.Firsts.{first_none, first_same, super_is, lost_is, good_when, good_super, good_lost, good_form, no_fault, same_fault}
 use Rattle.mig_rounds.proofs.Steps.{current_on}
 use Rattle.mig_rounds.proofs.Saves.{front_all, rest_gone, taken_after, even, no_members, size_none}

@@ -5,7 +5,9 @@ pub mod Strays
 pub mod Parts
 pub mod Sizes
 pub mod Steps
+pub mod Shapes
 pub mod Saves
 pub mod Firsts
 pub mod Ends
 pub mod Totals
+pub mod Ready

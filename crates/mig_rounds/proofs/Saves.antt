@@ -23,6 +23,7 @@ use Rattle.mig_rounds.specs.Sends.{ReadsFront, SendsFront}
 use Rattle.mig_rounds.specs.Live.{StaysSame, AreRounds, Live, LiveSent}
 use Rattle.mig_rounds.proofs.Parts.{beyond}
 use Rattle.mig_rounds.proofs.Sizes.{size-le}
+use Rattle.mig_rounds.proofs.Shapes.{stays_on, ran_stays, reads_stay}
 use Rattle.mig_rounds.proofs.Steps.{current_on, total_even, behind_less}
 
 -- ---- sets of flags
@@ -118,11 +119,7 @@ sent_round s t u flags log before after notes now is reads took sent sends = rec
     taken = ap (λ (h : History). h.taken) took.history ∙ ap (λ l. taken_after t log ∷ l) reads.taken
 
 pub round_keeps : (s t u : MachineState) (i : ℕ) (set log : Pfns) → ReadsFront i set s t → LogTaken log t u → StaysSame s u
-round_keeps s t u i set log reads took = record {
-  kind = took.ran.shape.kind ∙ reads.shape.kind;
-  width = took.ran.shape.width ∙ reads.shape.width;
-  honest = took.ran.honest ∙ reads.honest;
-}
+round_keeps s t u i set log reads took = stays_on s t u (reads_stay i set s t reads) (ran_stays t u log took.ran)
 
 pub longer : (s t u : MachineState) (i : ℕ) (set log : Pfns) → ReadsFront i set s t → LogTaken log t u → length u.history.taken ≡ length s.history.taken + 1
 longer s t u i set log reads took = ap (λ (h : History). length h.taken) took.history ∙ ap (λ l. length (taken_after t log ∷ l)) reads.taken ∙ one

@@ -18,7 +18,7 @@ use Rattle.mig_pvtables.proofs.LongSteps.{ChangedBelow, walk_start}
 use Rattle.mig_pvtables.proofs.Slots.{no_slot}
 use Rattle.mig_pvtables.proofs.Slots as searches
 use Rattle.mig_machine_api.specs.Footprints.{Footprint, footprint, footprint_of, names_in, named_by, table_in}
-use Rattle.mig_rounds.specs.Forms.{lost_at, is_lost, superpage_in, lost_in, form_page, form_of_print}
+use Rattle.mig_rounds.specs.Forms.{lost_at, is_lost, superpage_in, lost_in, form_page}
 use Rattle.mig_rounds.specs.Findings.{judge, judged, found_as}
 use Rattle.mig_rounds.specs.Findings.Finding.{Shows}
 use Rattle.mig_rounds.specs.declared.found.Found.TheVariants as found

@@ -1,20 +1,23 @@
 -- How much is read in all, and how many records that makes.
-use Rattle.std.proofs.Common.{arith, ◌≡◌, ℕ, zero, suc, ◌+◌, ◌*◌, ◌≤◌, ◌^◌, List, [], ◌∷◌, length, Option, None, sym, ap, subst, ◌∙◌, append-nil, length-append}
+use Rattle.std.proofs.Common.{arith, ◌≡◌, ℕ, zero, suc, ◌+◌, ◌*◌, ◌≤◌, ◌^◌, List, [], ◌∷◌, length, Bool, Option, sym, ap, subst, ◌∙◌, append-nil, length-append}
 use Rattle.std.proofs.Math.Nat.{suc-mul}
 use Rattle.std.proofs.lemmas.List.{length-map}
 use Rattle.mig_headers.specs.declared.kind.Kind.{Kind}
+use Rattle.mig_pagetypes.specs.declared.page_type.PageType.{PageType}
 use Rattle.mig_pagesink.specs.Told.{FrameTold, all_told}
 use Rattle.mig_pagesink.specs.Batches.{IsSent, AreSized, AreFull}
-use Rattle.mig_pagesink.proofs.Joins.{few_batches}
-use Rattle.mig_machine_api.specs.Pfns.{Pfns, size, members}
-use Rattle.mig_machine_api.specs.History.{History, LogTook}
-use Rattle.mig_machine_api.specs.MachineStates.{MachineState}
+use Rattle.mig_pagesink.proofs.Joins.{few_batches, nothing_sent}
+use Rattle.mig_machine_api.specs.Pfns.{Pfns, size, members, all_below}
+use Rattle.mig_machine_api.specs.History.{History, LogTook, no_history}
+use Rattle.mig_machine_api.specs.MachineStates.{MachineState, IsValidState}
 use Rattle.mig_machine_api.specs.Rounds.{Rounds, rounds_read, all_read}
 use Rattle.mig_rounds.specs.declared.found.Worst.{Worst}
-use Rattle.mig_rounds.specs.Flags.{total, total_taken}
+use Rattle.mig_rounds.specs.Flags.{pfns_of_flags, total, total_taken}
 use Rattle.mig_rounds.specs.Entries.{AreTold, meant, pfns_sent}
-use Rattle.mig_rounds.specs.Current.{Notes}
-use Rattle.mig_rounds.specs.Live.{SavedSent, worst_fault, FramesSaved}
+use Rattle.mig_rounds.specs.Current.{Notes, notes_of}
+use Rattle.mig_rounds.specs.Live.{LiveSent, SendsRounds, SavedSent, worst_fault, FramesSaved}
+use Rattle.mig_rounds.specs.Unused.{IsUnused}
+use Rattle.mig_rounds.proofs.Ends.{sent_start}
 use Rattle.mig_rounds.proofs.Sizes.{size-le}
 use Rattle.mig_rounds.proofs.Saves.{length_rounds, size_none}
 
@@ -44,10 +47,32 @@ batches_few : (kind : Kind) (width n : ℕ) (h : History) (batches : List (List 
     → length batches ≤ 6 * 2 ^ 18 + 6
 batches_few kind width n h batches r wide rounds order sized full = omega (arith, few_batches n batches sized full, rounds, wide, total_small kind width h r, all_read_is width h (all_told batches) order)
 
--- what was sent in all, with nothing held, where nothing is wrong
+-- ---- from the start to the end
+
+same_notes : (noted deferred : List Bool) (seen types : List (Option PageType)) → noted ≡ deferred → seen ≡ types → notes_of noted seen ≡ notes_of deferred types
+same_notes noted deferred seen types a b = ap (λ d. notes_of d seen) a ∙ ap (notes_of deferred) b
+
+-- with unused room the invariant holds, and nothing was sent
+pub unused_start : (s : MachineState) (batch : List FrameTold) (flags set noted deferred : List Bool) (seen types : List (Option PageType)) (log : List ℕ) → IsValidState s → s.history ≡ no_history
+    → length set ≡ s.host.width → flags ≡ set → noted ≡ deferred → seen ≡ types → IsUnused batch set deferred types log → LiveSent s (pfns_of_flags flags) [] (notes_of noted seen)
+unused_start s batch flags set noted deferred seen types log valid unread wide a b c unused =
+    sent_start s (pfns_of_flags flags) (notes_of noted seen) valid unread (ap pfns_of_flags a ∙ unused.all ∙ ap all_below wide) (same_notes noted deferred seen types b c ∙ unused.none)
+
+-- what was sent in the rounds
+pub sent_before : (rounds : ℕ) (s t : MachineState) (set : Pfns) (flags next noted deferred : List Bool) (seen types : List (Option PageType)) (old mid : Option (List ℕ)) (notes : Notes)
+    → flags ≡ next → noted ≡ deferred → seen ≡ types → LiveSent s set [] notes → SendsRounds rounds s t set (pfns_of_flags next) old mid notes (notes_of deferred types)
+    → (between : List FrameTold) × IsSent old mid rounds [] between × LiveSent t (pfns_of_flags flags) between (notes_of noted seen)
+sent_before rounds s t set flags next noted deferred seen types old mid notes a b c start sends =
+    let (between, out, live) = sends old [] (nothing_sent old) start in (
+      between,
+      out,
+      subst (λ (p : Pfns). LiveSent t p between (notes_of noted seen)) (sym (ap pfns_of_flags a)) (subst (LiveSent t (pfns_of_flags next) between) (sym (same_notes noted deferred seen types b c)) live),
+    )
+
+-- what was sent in all, with nothing held
 pub frames_saved : (start now : Option (List ℕ)) (flushes : ℕ) (v : MachineState) (worst : Worst) (notes : Notes) (sent : List FrameTold) → Rounds v.host.kind v.host.width v.history → v.host.width ≤ 2 ^ 28 → flushes ≤ 6
-    → worst_fault worst ≡ None → IsSent start now flushes [] sent → SavedSent v sent worst notes → FramesSaved start now v
-frames_saved start now flushes v worst notes sent r wide few none s saved = record {
+    → IsSent start now flushes [] sent → SavedSent v sent worst notes → FramesSaved start now v (worst_fault worst)
+frames_saved start now flushes v worst notes sent r wide few s saved = record {
   batches = s.batches;
   written = s.written;
   sized = s.sized;
@@ -55,7 +80,7 @@ frames_saved start now flushes v worst notes sent r wide few none s saved = reco
   count = all_read_is v.host.width v.history (all_told s.batches) order;
   order = order;
   told = subst (AreTold v.host.kind) is saved.told;
-  means = λ h. ap meant (sym is) ∙ saved.means h none;
+  means = λ h none. ap meant (sym is) ∙ saved.means h none;
 }
   where
     is : sent ≡ all_told s.batches

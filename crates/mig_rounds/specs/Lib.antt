@@ -6,3 +6,4 @@ pub mod Entries
 pub mod Current
 pub mod Sends
 pub mod Live
+pub mod Unused

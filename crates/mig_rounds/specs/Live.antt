@@ -1,5 +1,5 @@
 -- Where a save stands: while the guest runs, when the rounds are over, and in the end.
-use Rattle.std.specs.Prelude.{◌≡◌, ℕ, ◌+◌, ◌*◌, ◌^◌, ◌<◌, ◌≤◌, List, [], length, true, false, Option, Some, None, get_or, Result, Ok, Err}
+use Rattle.std.specs.Prelude.{◌≡◌, ℕ, ◌+◌, ◌*◌, ◌^◌, ◌<◌, ◌≤◌, List, [], length, true, false, Option, Some, None, get_or}
 use Rattle.std.specs.Option.{option_map}
 use Rattle.std.specs.FinMap as maps
 use Rattle.mig_headers.specs.declared.kind.Kind.{Kind}
@@ -14,12 +14,8 @@ use Rattle.mig_pagesink.specs.Batches.{BatchesWritten, AreSized, IsSent, IsBehin
 use Rattle.mig_machine_api.specs.Pfns.{Pfns, size}
 use Rattle.mig_machine_api.specs.Footprints.{footprint, footprint_of}
 use Rattle.mig_machine_api.specs.History.{LogTook, nothing_asked}
-use Rattle.mig_machine_api.specs.MachineStates.{MachineState}
+use Rattle.mig_machine_api.specs.MachineStates.{MachineState, IsSameShape}
 use Rattle.mig_machine_api.specs.Rounds.{OfEachLog, GoesOn, AreCalls, Rounds, Tight, to_read, rounds_read, all_read}
-use Rattle.mig_rounds.specs.declared.found.Fault.{Fault}
-use Rattle.mig_rounds.specs.declared.found.Fault.TheVariants as faults
-use Rattle.mig_rounds.specs.declared.found.SaveAnswer.{SaveAnswer}
-use Rattle.mig_rounds.specs.declared.found.SaveAnswer.TheVariants as answers
 use Rattle.mig_rounds.specs.declared.found.Worst.{Worst}
 use Rattle.mig_rounds.specs.Forms.{form_of_print, superpage_slot, lost_slot}
 use Rattle.mig_rounds.specs.Flags.{total}
@@ -29,8 +25,7 @@ use Rattle.mig_rounds.specs.Sends.{first_pfn}
 
 -- what of a machine is the same at both times
 pub record StaysSame (s t : MachineState) : Type 0 where
-  pub kind : t.host.kind ≡ s.host.kind
-  pub width : t.host.width ≡ s.host.width
+  pub shape : IsSameShape s.host t.host
   pub honest : t.honest ≡ s.honest
 
 -- ---- while the guest runs
@@ -136,8 +131,9 @@ abbrev pub SendsLast : ℕ → MachineState → MachineState → Pfns → Option
 SendsLast rounds s t set old new notes later worst = (start : Option (List ℕ)) (before : List FrameTold) → IsSent start old rounds [] before → LiveSent s set before notes
     → (after : List FrameTold) × IsSent start new (rounds + 1) [] after × SavedSent t after worst later
 
--- batches were written that name all that was read, in that order; over an honest machine they mean the frames of its host
-pub record FramesSaved (old new : Option (List ℕ)) (t : MachineState) : Type 0 where
+-- Batches were written that name all that was read, in that order. Over an honest machine where nothing is wrong with the
+-- tables they mean the frames of its host.
+pub record FramesSaved (old new : Option (List ℕ)) (t : MachineState) (unsound : Option Unsound) : Type 0 where
   pub batches : List (List FrameTold)
   pub written : BatchesWritten old new batches
   pub sized : AreSized batches
@@ -145,27 +141,8 @@ pub record FramesSaved (old new : Option (List ℕ)) (t : MachineState) : Type 0
   pub count : length (all_told batches) ≡ total t.host.width t.history
   pub order : pfns_sent (all_told batches) ≡ all_read t.host.width t.history
   pub told : AreTold t.host.kind (all_told batches)
-  pub means : t.honest ≡ true → meant (all_told batches) ≡ forms t.host.frames
+  pub means : t.honest ≡ true → unsound ≡ None → meant (all_told batches) ≡ forms t.host.frames
 
 -- over an honest machine each type that was kept in mind is the type of the frame
 abbrev pub SawTypes : List (Option PageType) → MachineState → Type 0
 SawTypes types t = t.honest ≡ true → (p : ℕ) → get_or types p None ≡ type_in t.host.frames p
-
--- ---- answers
-
--- the machine was paused, and its tables were judged
-abbrev pub OnEnd : {X : Type 0} → Result X SaveAnswer → Type 0 → Type 0
-OnEnd (Ok x) P = P
-OnEnd (Err (answers.Unsound u)) P = P
-OnEnd (Err answers.MachineFault) P = Unit {0}
-OnEnd (Err answers.WriteFault) P = Unit {0}
-
-abbrev pub IfUnsound : {X : Type 0} → Result X SaveAnswer → (Unsound → Type 0) → Type 0
-IfUnsound (Ok x) P = Unit {0}
-IfUnsound (Err (answers.Unsound u)) P = P u
-IfUnsound (Err answers.MachineFault) P = Unit {0}
-IfUnsound (Err answers.WriteFault) P = Unit {0}
-
-abbrev pub answer_for : Fault → SaveAnswer
-answer_for faults.MachineFault = answers.MachineFault
-answer_for faults.WriteFault = answers.WriteFault

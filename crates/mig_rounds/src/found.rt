@@ -1,21 +1,11 @@
-use mig_headers::Unsound;
 use mig_pagetypes::PageType;
-
-/// Why a save ended early.
-#[derive(Clone, Copy, Debug, PartialEq, Eq)]
-pub enum SaveAnswer {
-    /// The paused host can't be seen as a guest.
-    Unsound(Unsound),
-    /// The machine failed.
-    MachineFault,
-    /// The sink failed.
-    WriteFault,
-}
 
 /// The machine or the sink failed.
 #[derive(Clone, Copy, Debug, PartialEq, Eq)]
-pub(crate) enum Fault {
+pub enum SendFault {
+    /// The machine failed.
     MachineFault,
+    /// The sink failed.
     WriteFault,
 }
 

@@ -7,13 +7,14 @@
 //!
 //! What the layers above rely on: in an honest machine, and in one that is paused, what the step answers is what the frame
 //! number's footprint says when the step ends, wherever the frame number isn't in the log then. So over an honest machine
-//! the entries that were sent mean the frames of the paused host, the types that were seen last are those of its frames, and
-//! where a table can't be in a stream the first such place is answered. Over any machine the rounds are those of the
-//! definition, the entries name what was read in that order, and after every answer but `Ok` at most 1024 frame numbers that
-//! were read have no whole record.
+//! the types that were seen last are those of the paused host's frames, the first table that can't be in a stream is
+//! answered, and where there is none the entries that were sent mean the frames. Over any machine the rounds are those of
+//! the definition, the entries name what was read in that order, the host's kind and width, the keys and lengths of its
+//! parts and the bytes of fixed parts stay, and after a fault at most 1024 frame numbers that were read have no whole record.
 #![tactic(auto)]
 
 mod found;
+mod room;
 mod round;
 mod save;
 mod send;
@@ -21,5 +22,6 @@ mod sets;
 mod step;
 mod table;
 
-pub use found::SaveAnswer;
-pub use save::{SaveReport, send_frames};
+pub use found::SendFault;
+pub use room::Room;
+pub use save::{Sent, send_frames};

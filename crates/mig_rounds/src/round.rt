@@ -5,9 +5,10 @@ ghost use Rattle.mig_machine_api.specs.History.{nothing_asked};
 ghost use Rattle.mig_rounds.specs.Flags.{pfns_of_flags};
 ghost use Rattle.mig_rounds.specs.Current.{notes_of};
 ghost use Rattle.mig_rounds.specs.Sends.{ReadsFront, SendsSet, SetLeavesBehind, IsWorst};
-ghost use Rattle.mig_rounds.specs.declared.found.Fault.TheVariants.{MachineFault, WriteFault};
+ghost use Rattle.mig_rounds.specs.Live.{StaysSame};
+ghost use Rattle.mig_rounds.specs.declared.found.SendFault.TheVariants.{MachineFault, WriteFault};
 
-use crate::found::{Fault, Worst};
+use crate::found::{SendFault, Worst};
 use crate::send::send_one;
 use mig_bytes::{Sink, WriteFailed};
 use mig_machine_api::Machine;
@@ -23,7 +24,7 @@ pub(crate) fn send_all<M: Machine, K: Sink>(
     deferred: &mut [bool],
     types: &mut [Option<PageType>],
     page: &mut [u8; 4096],
-) -> Result<Worst, Fault>
+) -> Result<Worst, SendFault>
     requires width { length set.now ≡ (M.state machine.old).host.width }
     requires narrow { length set.now ≤ most_width }
     requires wide { length deferred.old ≡ length set.now }
@@ -36,6 +37,7 @@ pub(crate) fn send_all<M: Machine, K: Sink>(
     ensures worst { IfOk result (λ worst. (M.state machine.old).paused ≡ true → IsWorst (length set.now) (pfns_of_flags set.now) (M.state machine.new).host.frames worst) }
     ensures empty { OnOk result (batch.new ≡ []) }
     ensures behind { OnErr result (SetLeavesBehind (M.state machine.old) (M.state machine.new) (K.written sink.old) (K.written sink.new)) }
+    ensures kept { StaysSame (M.state machine.old) (M.state machine.new) }
     ensures later { M.Later machine.old machine.new }
     ensures machine_count { M.faults machine.old ≤ M.faults machine.new }
     ensures sink_count { K.faults sink.old ≤ K.faults sink.new }
@@ -54,6 +56,6 @@ pub(crate) fn send_all<M: Machine, K: Sink>(
     }
     match batch.flush(sink) {
         Ok(()) => Ok(worst),
-        Err(WriteFailed) => Err(Fault::WriteFault),
+        Err(WriteFailed) => Err(SendFault::WriteFault),
     }
 }

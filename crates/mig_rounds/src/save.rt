@@ -3,17 +3,17 @@ ghost use Rattle.mig_bytes.specs.Faults.{Rose};
 ghost use Rattle.mig_guest.specs.Hosts.{most_width};
 ghost use Rattle.mig_headers.specs.declared.unsound.Unsound.{Unsound};
 ghost use Rattle.mig_pagesink.specs.Batches.{IsBehind};
-ghost use Rattle.mig_machine_api.specs.Pfns.{all_below, size};
+ghost use Rattle.mig_machine_api.specs.Pfns.{size};
 ghost use Rattle.mig_machine_api.specs.History.{no_history};
 ghost use Rattle.mig_machine_api.specs.MachineCalls.{Paused};
 ghost use Rattle.mig_machine_api.specs.MachineStates.{IsValidState, Stays};
 ghost use Rattle.mig_rounds.specs.Flags.{pfns_of_flags, total, total_taken};
-ghost use Rattle.mig_rounds.specs.Current.{notes_of, no_notes};
-ghost use Rattle.mig_rounds.specs.Live.{StaysSame, Live, Ended, SendsRounds, RoundsLeaveBehind, Saved, SendsLast, worst_fault, IsUnsound, AnswersTables, HasRounds, IsTight, FramesSaved, SawTypes, OnEnd, IfUnsound, answer_for};
-ghost use Rattle.mig_rounds.specs.declared.found.SaveAnswer.TheVariants as Failures;
-ghost use Rattle.mig_rounds.specs.declared.found.Fault.TheVariants.{MachineFault, WriteFault};
+ghost use Rattle.mig_rounds.specs.Current.{notes_of};
+ghost use Rattle.mig_rounds.specs.Live.{StaysSame, Live, Ended, SendsRounds, RoundsLeaveBehind, Saved, SendsLast, worst_fault, IsUnsound, AnswersTables, HasRounds, IsTight, FramesSaved, SawTypes};
+ghost use Rattle.mig_rounds.specs.declared.found.SendFault.TheVariants.{MachineFault, WriteFault};
 
-use crate::found::{Fault, SaveAnswer, Worst};
+use crate::found::{SendFault, Worst};
+use crate::room::Room;
 use crate::round::send_all;
 use crate::sets::{count, join, take_more, take_set};
 use mig_bytes::Sink;
@@ -28,13 +28,26 @@ const MOST_ROUNDS: u32 = 5;
 /// No further round comes where the log has fewer frame numbers.
 const FEW: usize = 50;
 
-/// What a save took.
+/// What the rounds before the pause came to.
 #[derive(Clone, Copy, Debug, PartialEq, Eq)]
-pub struct SaveReport {
+struct RoundsSent {
+    /// The logs that were taken.
+    rounds: u32,
+    /// The entries that were sent.
+    entries: u64,
+}
+
+/// What sending the frames of a machine came to.
+#[derive(Drop)]
+pub struct Sent {
     /// The logs that were taken before the pause.
     pub rounds: u32,
     /// The entries that were sent.
     pub entries: u64,
+    /// The first thing that is wrong with the tables of the paused host.
+    pub unsound: Option<Unsound>,
+    /// The type that was seen last of each frame number.
+    pub types: Vec<Option<PageType>>,
 }
 
 /// How many entries the reading of a set sends.
@@ -55,7 +68,7 @@ fn run_rounds<M: Machine, K: Sink>(
     types: &mut [Option<PageType>],
     words: &mut [u64],
     page: &mut [u8; 4096],
-) -> Result<SaveReport, Fault>
+) -> Result<RoundsSent, SendFault>
     requires width { length set.old ≡ (M.state machine.old).host.width }
     requires narrow { length set.old ≤ most_width }
     requires wide { length deferred.old ≡ length set.old }
@@ -64,13 +77,13 @@ fn run_rounds<M: Machine, K: Sink>(
     requires empty { batch.old ≡ [] }
     requires live { Live (M.state machine.old) (pfns_of_flags set.old) }
     requires first { (M.state machine.old).history ≡ no_history }
-    ensures ended { IfOk result (λ report. Ended report.rounds (M.state machine.new) (pfns_of_flags set.new)) }
-    ensures entries { IfOk result (λ report. report.entries ≡ total_taken (M.state machine.new).host.width (M.state machine.new).history.taken) }
-    ensures few { IfOk result (λ report. report.entries ≤ 5 * 2 ^ 28) }
-    ensures sent { IfOk result (λ report. SendsRounds report.rounds (M.state machine.old) (M.state machine.new) (pfns_of_flags set.old) (pfns_of_flags set.new) (K.written sink.old) (K.written sink.new)
+    ensures ended { IfOk result (λ sent. Ended sent.rounds (M.state machine.new) (pfns_of_flags set.new)) }
+    ensures entries { IfOk result (λ sent. sent.entries ≡ total_taken (M.state machine.new).host.width (M.state machine.new).history.taken) }
+    ensures few { IfOk result (λ sent. sent.entries ≤ 5 * 2 ^ 28) }
+    ensures sent { IfOk result (λ sent. SendsRounds sent.rounds (M.state machine.old) (M.state machine.new) (pfns_of_flags set.old) (pfns_of_flags set.new) (K.written sink.old) (K.written sink.new)
         (notes_of deferred.old types.old) (notes_of deferred.new types.new)) }
     ensures behind { OnErr result (RoundsLeaveBehind 0 (M.state machine.old) (M.state machine.new) (pfns_of_flags set.old) (K.written sink.old) (K.written sink.new) (notes_of deferred.old types.old)) }
-    ensures kept { OnOk result (StaysSame (M.state machine.old) (M.state machine.new)) }
+    ensures kept { StaysSame (M.state machine.old) (M.state machine.new) }
     ensures sized { length set.new ≡ length set.old }
     ensures empty { OnOk result (batch.new ≡ []) }
     ensures later { M.Later machine.old machine.new }
@@ -87,13 +100,13 @@ fn run_rounds<M: Machine, K: Sink>(
         take_set(machine, words, set)?;
         rounds += 1;
         if rounds == MOST_ROUNDS || count(set) < FEW {
-            return Ok(SaveReport { rounds, entries });
+            return Ok(RoundsSent { rounds, entries });
         }
     }
 }
 
 /// Stops the guest.
-fn stop<M: Machine>(machine: &mut M) -> Result<(), Fault>
+fn stop<M: Machine>(machine: &mut M) -> Result<(), SendFault>
     ensures ok { OnOk result (Paused (M.state machine.old) (M.state machine.new)) }
     ensures later { M.Later machine.old machine.new }
     ensures count { M.faults machine.old ≤ M.faults machine.new }
@@ -103,7 +116,7 @@ fn stop<M: Machine>(machine: &mut M) -> Result<(), Fault>
 {
     match machine.pause() {
         Ok(()) => Ok(()),
-        Err(_) => Err(Fault::MachineFault),
+        Err(_) => Err(SendFault::MachineFault),
     }
 }
 
@@ -118,7 +131,7 @@ fn finish<M: Machine, K: Sink>(
     words: &mut [u64],
     page: &mut [u8; 4096],
     rounds: u32,
-) -> Result<Worst, Fault>
+) -> Result<Worst, SendFault>
     requires width { length set.old ≡ (M.state machine.old).host.width }
     requires narrow { length set.old ≤ most_width }
     requires wide { length deferred.old ≡ length set.old }
@@ -133,7 +146,7 @@ fn finish<M: Machine, K: Sink>(
         (notes_of deferred.old types.old) (notes_of deferred.new types.new)) }
     ensures named { IfOk result (λ worst. (u : Unsound) → worst_fault worst ≡ Some u → IsUnsound (M.state machine.new).host.frames u) }
     ensures behind { OnErr result (RoundsLeaveBehind rounds (M.state machine.old) (M.state machine.new) (pfns_of_flags set.old) (K.written sink.old) (K.written sink.new) (notes_of deferred.old types.old)) }
-    ensures kept { OnOk result (StaysSame (M.state machine.old) (M.state machine.new)) }
+    ensures kept { StaysSame (M.state machine.old) (M.state machine.new) }
     ensures later { M.Later machine.old machine.new }
     ensures machine_count { M.faults machine.old ≤ M.faults machine.new }
     ensures sink_count { K.faults sink.old ≤ K.faults sink.new }
@@ -159,78 +172,68 @@ fn unsound_of(worst: Worst) -> Option<Unsound>
     }
 }
 
-/// The answer of a save that failed.
-fn answer_of(fault: Fault) -> SaveAnswer
-    ensures { result ≡ answer_for fault }
-{
-    match fault {
-        Fault::MachineFault => SaveAnswer::MachineFault,
-        Fault::WriteFault => SaveAnswer::WriteFault,
-    }
-}
-
-/// Sends the frames of a machine while its guest runs, and pauses it; with sets and a batch that were made beforehand, so
-/// that it takes no memory.
+/// Sends the frames of a machine while its guest runs, and pauses it. The room was made beforehand for the machine's width,
+/// so this takes no memory. A table that no stream can have ends nothing: the first one is answered in `unsound`. The error
+/// is which of the two failed.
 pub fn send_frames<M: Machine, K: Sink>(
     machine: &mut M,
     sink: &mut K,
-    batch: &mut Batch,
-    set: &mut [bool],
-    deferred: &mut [bool],
-    types: &mut [Option<PageType>],
-    words: &mut [u64],
-    page: &mut [u8; 4096],
-) -> Result<SaveReport, SaveAnswer>
+    room: Room,
+) -> Result<Sent, SendFault>
     requires valid { IsValidState (M.state machine.old) }
-    requires width { length set.old ≡ (M.state machine.old).host.width }
-    requires wide { length deferred.old ≡ length set.old }
-    requires long { length types.old ≡ length set.old }
-    requires words { length words.old ≡ (length set.old + 63) / 64 }
-    requires empty { batch.old ≡ [] }
-    requires all { pfns_of_flags set.old ≡ all_below (M.state machine.old).host.width }
-    requires none { notes_of deferred.old types.old ≡ no_notes }
+    requires width { room ≡ (M.state machine.old).host.width }
     requires unpaused { (M.state machine.old).paused ≡ false }
     requires unread { (M.state machine.old).history ≡ no_history }
-    ensures paused { OnEnd result ((M.state machine.new).paused ≡ true) }
-    ensures rounds { OnEnd result (HasRounds (M.state machine.new)) }
-    ensures tight { OnOk result (IsTight (M.state machine.new)) }
-    ensures report { IfOk result (λ report. report.rounds ≡ (M.state machine.new).history.live) }
-    ensures entries { IfOk result (λ report. report.entries ≡ total (M.state machine.new).host.width (M.state machine.new).history) }
-    ensures means { OnOk result (FramesSaved (K.written sink.old) (K.written sink.new) (M.state machine.new)) }
-    ensures types { OnEnd result (SawTypes types.new (M.state machine.new)) }
-    ensures sound { OnOk result (AnswersTables (M.state machine.new) None) }
-    ensures first { IfUnsound result (λ u. AnswersTables (M.state machine.new) (Some u)) }
-    ensures named { IfUnsound result (IsUnsound (M.state machine.new).host.frames) }
+    ensures paused { OnOk result ((M.state machine.new).paused ≡ true) }
+    ensures rounds { OnOk result (HasRounds (M.state machine.new)) }
+    ensures tight { IfOk result (λ sent. sent.unsound ≡ None → IsTight (M.state machine.new)) }
+    ensures report { IfOk result (λ sent. sent.rounds ≡ (M.state machine.new).history.live) }
+    ensures entries { IfOk result (λ sent. sent.entries ≡ total (M.state machine.new).host.width (M.state machine.new).history) }
+    ensures frames { IfOk result (λ sent. FramesSaved (K.written sink.old) (K.written sink.new) (M.state machine.new) sent.unsound) }
+    ensures types { IfOk result (λ sent. SawTypes sent.types.items (M.state machine.new)) }
+    ensures first { IfOk result (λ sent. AnswersTables (M.state machine.new) sent.unsound) }
+    ensures named { IfOk result (λ sent. (u : Unsound) → sent.unsound ≡ Some u → IsUnsound (M.state machine.new).host.frames u) }
     ensures behind { OnErr result (IsBehind (K.written sink.old) (K.written sink.new) (total (M.state machine.old).host.width (M.state machine.new).history)) }
-    ensures kept { OnOk result (StaysSame (M.state machine.old) (M.state machine.new)) }
+    ensures kept { StaysSame (M.state machine.old) (M.state machine.new) }
     ensures later { M.Later machine.old machine.new }
     ensures machine_count { M.faults machine.old ≤ M.faults machine.new }
     ensures sink_count { K.faults sink.old ≤ K.faults sink.new }
-    ensures machine_fault { IsErrOf result Failures.MachineFault → Rose (M.faults machine.old) (M.faults machine.new) }
-    ensures write_fault { IsErrOf result Failures.WriteFault → Rose (K.faults sink.old) (K.faults sink.new) }
+    ensures machine_fault { IsErrOf result MachineFault → Rose (M.faults machine.old) (M.faults machine.new) }
+    ensures write_fault { IsErrOf result WriteFault → Rose (K.faults sink.old) (K.faults sink.new) }
 {
-    let before = match run_rounds(machine, sink, batch, set, deferred, types, words, page) {
-        Ok(report) => report,
-        Err(fault) => return Err(answer_of(fault)),
-    };
-    match finish(
+    let Room {
+        mut batch,
+        mut set,
+        mut deferred,
+        mut types,
+        mut words,
+    } = room;
+    let mut page = [0; 4096];
+    let before = run_rounds(
         machine,
         sink,
-        batch,
-        set,
-        deferred,
-        types,
-        words,
-        page,
+        &mut batch,
+        &mut set,
+        &mut deferred,
+        &mut types,
+        &mut words,
+        &mut page,
+    )?;
+    let worst = finish(
+        machine,
+        sink,
+        &mut batch,
+        &mut set,
+        &mut deferred,
+        &mut types,
+        &mut words,
+        &mut page,
         before.rounds,
-    ) {
-        Ok(worst) => match unsound_of(worst) {
-            Some(unsound) => Err(SaveAnswer::Unsound(unsound)),
-            None => Ok(SaveReport {
-                rounds: before.rounds,
-                entries: before.entries + entries_of(set),
-            }),
-        },
-        Err(fault) => Err(answer_of(fault)),
-    }
+    )?;
+    Ok(Sent {
+        rounds: before.rounds,
+        entries: before.entries + entries_of(&set),
+        unsound: unsound_of(worst),
+        types,
+    })
 }

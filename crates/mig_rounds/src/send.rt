@@ -8,9 +8,10 @@ ghost use Rattle.mig_rounds.specs.Findings.{found_as, frame_sent, is_deferred, t
 ghost use Rattle.mig_rounds.specs.Step.{ReadsOne, Strays};
 ghost use Rattle.mig_rounds.specs.Entries.{entry_for};
 ghost use Rattle.mig_rounds.specs.Current.{notes_of, noted};
-ghost use Rattle.mig_rounds.specs.declared.found.Fault.TheVariants.{MachineFault, WriteFault};
+ghost use Rattle.mig_rounds.specs.Live.{StaysSame};
+ghost use Rattle.mig_rounds.specs.declared.found.SendFault.TheVariants.{MachineFault, WriteFault};
 
-use crate::found::{Fault, Found};
+use crate::found::{Found, SendFault};
 use crate::step::read_one;
 use mig_bytes::{Sink, WriteFailed};
 use mig_machine_api::Machine;
@@ -61,7 +62,7 @@ fn send_found<K: Sink>(
     pfn: u64,
     found: Found,
     page: &[u8; 4096],
-) -> Result<(), Fault>
+) -> Result<(), SendFault>
     requires { pfn < pfn_limit }
     ensures sent { OnOk result (SendsOn (entry_for pfn (found_as found page.now)) (K.written sink.old) (K.written sink.new) batch.old batch.new) }
     ensures behind { OnErr result (FallsBehind 1 (K.written sink.old) (K.written sink.new) batch.old) }
@@ -77,7 +78,7 @@ fn send_found<K: Sink>(
     };
     match batch.send(sink, entry) {
         Ok(()) => Ok(()),
-        Err(WriteFailed) => Err(Fault::WriteFault),
+        Err(WriteFailed) => Err(SendFault::WriteFault),
     }
 }
 
@@ -90,7 +91,7 @@ pub(crate) fn send_one<M: Machine, K: Sink>(
     types: &mut [Option<PageType>],
     pfn: u64,
     page: &mut [u8; 4096],
-) -> Result<Found, Fault>
+) -> Result<Found, SendFault>
     requires inside { pfn < (M.state machine.old).host.width }
     requires small { pfn < pfn_limit }
     requires wide { length deferred.old ≡ (M.state machine.old).host.width }
@@ -102,6 +103,7 @@ pub(crate) fn send_one<M: Machine, K: Sink>(
     ensures few { length batch.new < 1024 }
     ensures asked { Strays pfn (M.state machine.old).history (M.state machine.new).history }
     ensures behind { OnErr result (FallsBehind 1 (K.written sink.old) (K.written sink.new) batch.old) }
+    ensures kept { StaysSame (M.state machine.old) (M.state machine.new) }
     ensures later { M.Later machine.old machine.new }
     ensures machine_count { M.faults machine.old ≤ M.faults machine.new }
     ensures sink_count { K.faults sink.old ≤ K.faults sink.new }

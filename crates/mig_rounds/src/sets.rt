@@ -4,9 +4,9 @@ ghost use Rattle.mig_machine_api.specs.Pfns.{pfns_of_words, joined, size};
 ghost use Rattle.mig_rounds.specs.Flags.{pfns_of_flags};
 ghost use Rattle.mig_machine_api.specs.MachineCalls.{LogTaken};
 ghost use Rattle.mig_machine_api.specs.MachineStates.{Stays};
-ghost use Rattle.mig_rounds.specs.declared.found.Fault.TheVariants.{WriteFault};
+ghost use Rattle.mig_rounds.specs.declared.found.SendFault.TheVariants.{WriteFault};
 
-use crate::found::Fault;
+use crate::found::SendFault;
 use mig_machine_api::Machine;
 
 /// Whether the words name a frame number.
@@ -51,7 +51,7 @@ pub(crate) fn count(set: &[bool]) -> usize
 }
 
 /// Takes the log as words.
-fn take_words<M: Machine>(machine: &mut M, words: &mut [u64]) -> Result<(), Fault>
+fn take_words<M: Machine>(machine: &mut M, words: &mut [u64]) -> Result<(), SendFault>
     requires words { length words.old ≡ ((M.state machine.old).host.width + 63) / 64 }
     requires few { length (M.state machine.old).history.taken < 8 }
     ensures ok { OnOk result (LogTaken (pfns_of_words words.new) (M.state machine.old) (M.state machine.new)) }
@@ -63,7 +63,7 @@ fn take_words<M: Machine>(machine: &mut M, words: &mut [u64]) -> Result<(), Faul
 {
     match machine.take_log(words) {
         Ok(()) => Ok(()),
-        Err(_) => Err(Fault::MachineFault),
+        Err(_) => Err(SendFault::MachineFault),
     }
 }
 
@@ -72,7 +72,7 @@ pub(crate) fn take_set<M: Machine>(
     machine: &mut M,
     words: &mut [u64],
     set: &mut [bool],
-) -> Result<(), Fault>
+) -> Result<(), SendFault>
     requires width { length set.old ≡ (M.state machine.old).host.width }
     requires words { length words.old ≡ (length set.old + 63) / 64 }
     requires few { length (M.state machine.old).history.taken < 8 }
@@ -93,7 +93,7 @@ pub(crate) fn take_more<M: Machine>(
     machine: &mut M,
     words: &mut [u64],
     set: &mut [bool],
-) -> Result<(), Fault>
+) -> Result<(), SendFault>
     requires width { length set.old ≡ (M.state machine.old).host.width }
     requires words { length words.old ≡ (length set.old + 63) / 64 }
     requires few { length (M.state machine.old).history.taken < 8 }

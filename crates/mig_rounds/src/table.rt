@@ -6,9 +6,9 @@ ghost use Rattle.mig_machine_api.specs.Footprints.{names_in};
 ghost use Rattle.mig_rounds.specs.Forms.{lost_at};
 ghost use Rattle.mig_rounds.specs.Findings.{found_as, ShowsOnly};
 ghost use Rattle.mig_rounds.specs.Step.{Looks, IsRaw, IsRenamed, IsRight, put_slot};
-ghost use Rattle.mig_rounds.specs.declared.found.Fault.TheVariants.{WriteFault};
+ghost use Rattle.mig_rounds.specs.declared.found.SendFault.TheVariants.{WriteFault};
 
-use crate::found::{Fault, Found};
+use crate::found::{Found, SendFault};
 use mig_bytes::put_u64_le;
 use mig_guest::Entry;
 use mig_machine_api::Machine;
@@ -21,7 +21,7 @@ fn rename_slot<M: Machine>(
     level: u8,
     slot: usize,
     page: &mut [u8; 4096],
-) -> Result<bool, Fault>
+) -> Result<bool, SendFault>
     requires least { 1 ≤ level }
     requires most { level ≤ 4 }
     requires slot { slot < 512 }
@@ -46,7 +46,7 @@ fn rename_slot<M: Machine>(
                 Ok(false)
             }
             Ok(None) => Ok(true),
-            Err(_) => Err(Fault::MachineFault),
+            Err(_) => Err(SendFault::MachineFault),
         },
     }
 }
@@ -58,7 +58,7 @@ fn rename<M: Machine>(
     kind: PageType,
     level: u8,
     page: &mut [u8; 4096],
-) -> Result<Option<usize>, Fault>
+) -> Result<Option<usize>, SendFault>
     requires least { 1 ≤ level }
     requires most { level ≤ 4 }
     requires level { level_of kind ≡ Some level }
@@ -86,7 +86,7 @@ pub(crate) fn read_table<M: Machine>(
     kind: PageType,
     level: u8,
     page: &mut [u8; 4096],
-) -> Result<Found, Fault>
+) -> Result<Found, SendFault>
     requires least { 1 ≤ level }
     requires most { level ≤ 4 }
     requires level { level_of kind ≡ Some level }

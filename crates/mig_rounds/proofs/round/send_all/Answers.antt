@@ -4,6 +4,7 @@ use Rattle.mig_pagesink.specs.Batches.{IsSent}
 use Rattle.mig_rounds.specs.Flags.{pfns_of_flags}
 use Rattle.mig_rounds.specs.Current.{notes_of}
 use Rattle.mig_rounds.specs.Sends.{SendsFront}
+use Rattle.mig_rounds.proofs.Shapes.{stays_on, reads_stay}
 use Rattle.mig_rounds.proofs.Steps.{reads_start, reads_skip, reads_more, sends_start, sends_skip, sends_more, worst_none, worst_skips, worst_step, total_even, total_strays, behind_less, on_err}
 use Rattle.mig_rounds.proofs.round.send_all.Goals as goal
 use Rattle.mig_rounds.proofs.round.send_all.Goals.{then-wanted+in_ok-found, else-wanted}
@@ -43,6 +44,15 @@ returns-in-Ok-clause-sends g c = λ start n before out.
       c.in-Ok.ensures.sent start n mid now,
       subst (λ n. SendsFront n (pfns_of_flags c.args.set.now) (g.M.Machine.state c.args.machine.now) (g.M.Machine.state c.loop-pfn.machine) before mid (notes_of c.args.deferred.now c.args.types.now) (notes_of c.loop-pfn.deferred c.loop-pfn.types)) at front,
     )
+
+pub returns-in_err-found-clause-kept : goal.returns-in_err-found-clause-kept
+returns-in_err-found-clause-kept g c = stays_on _ _ _ (reads_stay _ _ _ _ c.loop-pfn.invariant.reads) c.send_one.ensures.kept
+
+pub returns-in-Err-clause-kept : goal.returns-in-Err-clause-kept
+returns-in-Err-clause-kept g c = reads_stay _ _ _ _ c.loop-pfn.invariant.reads
+
+pub returns-in-Ok-clause-kept : goal.returns-in-Ok-clause-kept
+returns-in-Ok-clause-kept g c = reads_stay _ _ _ _ c.loop-pfn.invariant.reads
 
 pub loop-pfn-preserved : goal.loop-pfn-preserved
 loop-pfn-preserved g c =

@@ -4,6 +4,7 @@ use Rattle.mig_machine_api.specs.Pfns.{Pfns, joined, pfns_of_words}
 use Rattle.mig_machine_api.specs.History.{History, Since}
 use Rattle.mig_rounds.specs.Current.{notes_of}
 use Rattle.mig_rounds.specs.Flags.{pfns_of_flags, total}
+use Rattle.mig_rounds.proofs.Shapes.{stays_on, ran_stays}
 use Rattle.mig_rounds.proofs.Steps.{on_err}
 use Rattle.mig_rounds.proofs.Saves.{behind_unread, on_ok, if_both, if_three, err_on}
 use Rattle.mig_rounds.proofs.Firsts.{named}
@@ -67,3 +68,13 @@ returns-clause-behind g c =
     err_on c.send_all.result (λ behind. λ start before out sent.
     subst (λ w. IsBehind start (g.K.Sink.written c.send_all.new.sink) (total w (g.M.Machine.state c.send_all.new.machine).history)) width
     (behind start c.args.rounds before out (even_last _ _ _ _ _ _ _ c.requires.ended.live.since c.in_ok-stop.ensures.ok c.in_ok-take_more.ensures.ok sent))) c.send_all.ensures.behind
+
+pub returns-in_err-stop-clause-kept : goal.returns-in_err-stop-clause-kept
+returns-in_err-stop-clause-kept g c = ran_stays _ _ _ c.in_err-stop.ensures.stays.ran
+
+pub returns-in_err-take_more-clause-kept : goal.returns-in_err-take_more-clause-kept
+returns-in_err-take_more-clause-kept g c = stays_on _ _ _ (ran_stays _ _ _ c.in_ok-stop.ensures.ok.ran) (ran_stays _ _ _ c.in_err-take_more.ensures.stays.ran)
+
+pub returns-clause-kept : goal.returns-clause-kept
+returns-clause-kept g c =
+    stays_on _ _ _ (ran_stays _ _ _ c.in_ok-stop.ensures.ok.ran) (stays_on _ _ _ (ran_stays _ _ _ c.in_ok-take_more.ensures.ok.ran) c.send_all.ensures.kept)

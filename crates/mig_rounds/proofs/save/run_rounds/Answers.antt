@@ -2,6 +2,7 @@ use Rattle.std.proofs.Common.{rules, arith, ◌≡◌, ◌+◌, ◌<◌, ◌≤�
 use Rattle.mig_pagesink.specs.Batches.{IsBehind}
 use Rattle.mig_machine_api.specs.Pfns.{size}
 use Rattle.mig_rounds.specs.Flags.{pfns_of_flags, total}
+use Rattle.mig_rounds.proofs.Shapes.{stays_on, ran_stays}
 use Rattle.mig_rounds.proofs.Steps.{on_err}
 use Rattle.mig_rounds.proofs.Saves.{live_round, sent_round, longer, counted_more, goes_on, round_keeps, even, behind_taken}
 use Rattle.mig_rounds.proofs.save.run_rounds.Goals as goal
@@ -12,7 +13,7 @@ returns-in_err-send_all-clause-behind g c =
     let i = c.loop-machine.invariant in
     on_err c.from_residual.result (λ start before out sent.
     let (mid, now, live) = i.sent start before out sent in
-    subst (λ w. IsBehind start (g.K.Sink.written c.send_all.new.sink) (total w (g.M.Machine.state c.send_all.new.machine).history)) i.kept.width
+    subst (λ w. IsBehind start (g.K.Sink.written c.send_all.new.sink) (total w (g.M.Machine.state c.send_all.new.machine).history)) i.kept.shape.width
     (c.in_err-send_all.ensures.behind start c.loop-machine.rounds mid now (even _ _ _ _ live)))
 
 pub returns-in_err-take_set-clause-behind : goal.returns-in_err-take_set-clause-behind
@@ -21,7 +22,7 @@ returns-in_err-take_set-clause-behind g c =
     on_err c.from_residual-in_err-take_set.result (λ start before out sent.
     let (mid, now, live) = i.sent start before out sent in
     let (after, then, sends) = c.in_ok-send_all.ensures.sends start c.loop-machine.rounds mid now in
-    subst (λ w. IsBehind start (g.K.Sink.written c.send_all.new.sink) (total w (g.M.Machine.state c.take_set.new.machine).history)) i.kept.width
+    subst (λ w. IsBehind start (g.K.Sink.written c.send_all.new.sink) (total w (g.M.Machine.state c.take_set.new.machine).history)) i.kept.shape.width
     (behind_taken _ _ _ _ _ _ _ _ _ _ _ i.width live c.in_ok-send_all.ensures.reads sends c.in_err-take_set.ensures.stays.history then))
 
 pub returns-then-rounds-eq-MOST_ROUNDS-clause-ended : goal.returns-then-rounds-eq-MOST_ROUNDS-clause-ended
@@ -31,7 +32,7 @@ returns-then-rounds-eq-MOST_ROUNDS-clause-ended g c =
     let live = live_round _ _ _ _ _ small i.width i.on i.live c.in_ok-send_all.ensures.reads c.in_ok-take_set.ensures.ok in
     let more = longer _ _ _ _ _ _ c.in_ok-send_all.ensures.reads c.in_ok-take_set.ensures.ok in
     let kept = round_keeps _ _ _ _ _ _ c.in_ok-send_all.ensures.reads c.in_ok-take_set.ensures.ok in
-    let width : length c.take_set.new.set ≡ (g.M.Machine.state c.take_set.new.machine).host.width = search rules ∙ i.width ∙ sym kept.width in
+    let width : length c.take_set.new.set ≡ (g.M.Machine.state c.take_set.new.machine).host.width = search rules ∙ i.width ∙ sym kept.shape.width in
     let few : c.loop-machine.rounds + 1 < 5 → size (g.M.Machine.state c.take_set.new.machine).host.width (pfns_of_flags c.take_set.new.set) < 50 =
     elim c.then-rounds-eq-MOST_ROUNDS.branch [
       | then-rounds-eq-MOST_ROUNDS-via-then-rounds-eq-MOST_ROUNDS w ↦ λ h. absurd (let e = w.if-rounds-eq-MOST_ROUNDS.true in omega arith)
@@ -39,6 +40,17 @@ returns-then-rounds-eq-MOST_ROUNDS-clause-ended g c =
           let e = w.if-count-lt-FEW.true in let s = w.count.ensures in omega (arith, ap (λ n. size n (pfns_of_flags c.take_set.new.set)) width)
     ] in
     record { live = live; number = omega arith; some = omega arith; most = omega arith; few = few }
+
+pub returns-in_err-send_all-clause-kept : goal.returns-in_err-send_all-clause-kept
+returns-in_err-send_all-clause-kept g c = stays_on _ _ _ c.loop-machine.invariant.kept c.send_all.ensures.kept
+
+pub returns-in_err-take_set-clause-kept : goal.returns-in_err-take_set-clause-kept
+returns-in_err-take_set-clause-kept g c =
+    stays_on _ _ _ c.loop-machine.invariant.kept (stays_on _ _ _ c.send_all.ensures.kept (ran_stays _ _ _ c.in_err-take_set.ensures.stays.ran))
+
+pub returns-then-rounds-eq-MOST_ROUNDS-clause-kept : goal.returns-then-rounds-eq-MOST_ROUNDS-clause-kept
+returns-then-rounds-eq-MOST_ROUNDS-clause-kept g c =
+    stays_on _ _ _ c.loop-machine.invariant.kept (stays_on _ _ _ c.send_all.ensures.kept (ran_stays _ _ _ c.in_ok-take_set.ensures.ok.ran))
 
 pub overflow_add-entries : goal.overflow_add-entries
 overflow_add-entries g c = let i = c.loop-machine.invariant in omega (arith, i.small, i.few, i.sized, c.entries_of-entries.ensures.most, c.requires.narrow)
@@ -65,7 +77,7 @@ loop-machine-preserved g c =
     let live = live_round _ _ _ _ _ small i.width i.on i.live c.in_ok-send_all.ensures.reads c.in_ok-take_set.ensures.ok in
     let more = longer _ _ _ _ _ _ c.in_ok-send_all.ensures.reads c.in_ok-take_set.ensures.ok in
     let kept = round_keeps _ _ _ _ _ _ c.in_ok-send_all.ensures.reads c.in_ok-take_set.ensures.ok in
-    let width : length c.take_set.new.set ≡ (g.M.Machine.state c.take_set.new.machine).host.width = search rules ∙ i.width ∙ sym kept.width in
+    let width : length c.take_set.new.set ≡ (g.M.Machine.state c.take_set.new.machine).host.width = search rules ∙ i.width ∙ sym kept.shape.width in
     record {
       live = live;
       sent = λ start before out sent.
@@ -77,7 +89,7 @@ loop-machine-preserved g c =
       counted = omega (arith, i.counted, c.entries_of-entries.ensures.value, counted_more _ _ _ _ _ i.width c.in_ok-send_all.ensures.reads c.in_ok-take_set.ensures.ok);
       small = omega (arith, i.small, i.sized, c.entries_of-entries.ensures.most, c.requires.narrow);
       few = omega arith;
-      kept = record { kind = kept.kind ∙ i.kept.kind; width = kept.width ∙ i.kept.width; honest = kept.honest ∙ i.kept.honest };
+      kept = stays_on _ _ _ i.kept kept;
       width = width;
       wide = search rules;
       long = search rules;

@@ -1,72 +1,63 @@
-use Rattle.std.proofs.Common.{arith, ◌≤◌, ◌^◌, [], sym, subst, ◌∙◌}
-use Rattle.mig_pagesink.specs.Batches.{IsBehind}
+use Rattle.std.proofs.Common.{arith, ◌≡◌, ◌+◌, ◌≤◌, ◌^◌, List, [], None, get_or, sym, ap, subst, ◌∙◌}
+use Rattle.std.specs.Vec.{with_items}
+use Rattle.std.proofs.lemmas.List.{with_items_is}
+use Rattle.mig_pagesink.specs.Told.{FrameTold}
+use Rattle.mig_pagesink.specs.Batches.{IsSent, IsBehind}
 use Rattle.mig_pagesink.proofs.Joins.{nothing_sent}
 use Rattle.mig_rounds.specs.Flags.{total}
-use Rattle.mig_rounds.proofs.Ends.{sent_start}
-use Rattle.mig_rounds.proofs.Saves.{behind_now}
-use Rattle.mig_rounds.proofs.Totals.{all_read_is, frames_saved}
+use Rattle.mig_rounds.specs.Current.{notes_of}
+use Rattle.mig_rounds.specs.Live.{FramesSaved, SavedSent}
+use Rattle.mig_rounds.proofs.Steps.{on_err}
+use Rattle.mig_rounds.proofs.Totals.{unused_start, sent_before, frames_saved}
+use Rattle.mig_rounds.proofs.save.send_frames.Given as given
 use Rattle.mig_rounds.proofs.save.send_frames.Goals as goal
 
-pub returns-in-Err-clause-behind : goal.returns-in-Err-clause-behind
-returns-in-Err-clause-behind g c = c.in-Err.ensures.behind (g.K.Sink.written c.args.sink.now) [] (nothing_sent _) (sent_start _ _ _ c.requires.valid c.requires.unread c.requires.all c.requires.none)
+pub returns-in_err-before-clause-behind : goal.returns-in_err-before-clause-behind
+returns-in_err-before-clause-behind g c =
+    let start = unused_start _ _ _ _ _ _ _ _ _ c.requires.valid c.requires.unread (c.room.view_is ∙ c.requires.width) c.deref_mut.ensures.value c.deref_mut-2.ensures.value c.deref_mut-3.ensures.value c.room.invariant in
+    on_err c.from_residual.result (c.in_err-before.ensures.behind (g.K.Sink.written c.args.sink.now) [] (nothing_sent _) start)
 
-pub returns-in-Err-finish-clause-behind : goal.returns-in-Err-finish-clause-behind
-returns-in-Err-finish-clause-behind g c =
-    let (mid, out, live) = c.in-Ok.ensures.sent (g.K.Sink.written c.args.sink.now) [] (nothing_sent _) (sent_start _ _ _ c.requires.valid c.requires.unread c.requires.all c.requires.none) in
-    subst (λ w. IsBehind (g.K.Sink.written c.args.sink.now) (g.K.Sink.written c.finish.new.sink) (total w (g.M.Machine.state c.finish.new.machine).history)) c.in-Ok.ensures.kept.width
-    (c.in-Err-finish.ensures.behind (g.K.Sink.written c.args.sink.now) mid out live)
+pub returns-in_err-worst-clause-behind : goal.returns-in_err-worst-clause-behind
+returns-in_err-worst-clause-behind g c =
+    let start = unused_start _ _ _ _ _ _ _ _ _ c.requires.valid c.requires.unread (c.room.view_is ∙ c.requires.width) c.deref_mut.ensures.value c.deref_mut-2.ensures.value c.deref_mut-3.ensures.value c.room.invariant in
+    let set : c.deref_mut-5.result.now ≡ c.run_rounds.new.set = c.deref_mut-5.ensures.value ∙ with_items_is c.room.inside.set c.run_rounds.new.set (omega (arith, c.deref_mut.ensures.len)) in
+    let deferred : c.deref_mut-6.result.now ≡ c.run_rounds.new.deferred = c.deref_mut-6.ensures.value ∙ with_items_is c.room.inside.deferred c.run_rounds.new.deferred (omega (arith, c.deref_mut-2.ensures.len)) in
+    let types : c.deref_mut-7.result.now ≡ c.run_rounds.new.types = c.deref_mut-7.ensures.value ∙ with_items_is c.room.inside.types c.run_rounds.new.types (omega (arith, c.deref_mut-3.ensures.len)) in
+    let (between, out, live) = sent_before _ _ _ _ _ _ _ _ _ _ _ _ _ set deferred types start c.in_ok-before.ensures.sent in
+    on_err c.from_residual-in_err-worst.result
+    (subst (λ w. IsBehind (g.K.Sink.written c.args.sink.now) (g.K.Sink.written c.finish.new.sink) (total w (g.M.Machine.state c.finish.new.machine).history)) c.run_rounds.ensures.kept.shape.width
+    (c.in_err-worst.ensures.behind (g.K.Sink.written c.args.sink.now) between out live))
 
-pub returns-in-Some-clause-behind : goal.returns-in-Some-clause-behind
-returns-in-Some-clause-behind g c =
-    let (mid, out, live) = c.in-Ok.ensures.sent (g.K.Sink.written c.args.sink.now) [] (nothing_sent _) (sent_start _ _ _ c.requires.valid c.requires.unread c.requires.all c.requires.none) in
-    let (after, then, saved) = c.in-Ok-finish.ensures.sent (g.K.Sink.written c.args.sink.now) mid out live in
-    let end = g.M.Machine.state c.finish.new.machine in
-    subst (λ w. IsBehind (g.K.Sink.written c.args.sink.now) (g.K.Sink.written c.finish.new.sink) (total w end.history)) (c.in-Ok-finish.ensures.kept.width ∙ c.in-Ok.ensures.kept.width)
-    (behind_now _ _ _ (total end.host.width end.history) after (omega (arith, all_read_is end.host.width end.history after saved.order)) then)
+-- what was sent in all
+all_sent : (g : given.Over) (c : goal.After-drop-batch-inside-2 g) → (after : List FrameTold) × IsSent (g.K.Sink.written c.args.sink.now) (g.K.Sink.written c.finish.new.sink) (c.in_ok-before.before.rounds + 1) [] after
+    × SavedSent (g.M.Machine.state c.finish.new.machine) after c.in_ok-worst.worst (notes_of c.finish.new.deferred c.finish.new.types)
+all_sent g c =
+    let start = unused_start _ _ _ _ _ _ _ _ _ c.requires.valid c.requires.unread (c.room.view_is ∙ c.requires.width) c.deref_mut.ensures.value c.deref_mut-2.ensures.value c.deref_mut-3.ensures.value c.room.invariant in
+    let set : c.deref_mut-5.result.now ≡ c.run_rounds.new.set = c.deref_mut-5.ensures.value ∙ with_items_is c.room.inside.set c.run_rounds.new.set (omega (arith, c.deref_mut.ensures.len)) in
+    let deferred : c.deref_mut-6.result.now ≡ c.run_rounds.new.deferred = c.deref_mut-6.ensures.value ∙ with_items_is c.room.inside.deferred c.run_rounds.new.deferred (omega (arith, c.deref_mut-2.ensures.len)) in
+    let types : c.deref_mut-7.result.now ≡ c.run_rounds.new.types = c.deref_mut-7.ensures.value ∙ with_items_is c.room.inside.types c.run_rounds.new.types (omega (arith, c.deref_mut-3.ensures.len)) in
+    let (between, out, live) = sent_before _ _ _ _ _ _ _ _ _ _ _ _ _ set deferred types start c.in_ok-before.ensures.sent in
+    c.in_ok-worst.ensures.sent (g.K.Sink.written c.args.sink.now) between out live
 
-pub returns-in-Some-clause-first : goal.returns-in-Some-clause-first
-returns-in-Some-clause-first g c =
-    let (mid, out, live) = c.in-Ok.ensures.sent (g.K.Sink.written c.args.sink.now) [] (nothing_sent _) (sent_start _ _ _ c.requires.valid c.requires.unread c.requires.all c.requires.none) in
-    let (after, then, saved) = c.in-Ok-finish.ensures.sent (g.K.Sink.written c.args.sink.now) mid out live in
-    λ h. sym (saved.first h) ∙ sym c.unsound_of.ensures ∙ c.in-Some.is
+pub returns-clause-tight : goal.returns-clause-tight
+returns-clause-tight g c = let (after, then, saved) = all_sent g c in λ none h. saved.tight h (sym c.unsound_of.ensures ∙ none)
 
-pub returns-in-Some-clause-types : goal.returns-in-Some-clause-types
-returns-in-Some-clause-types g c =
-    let (mid, out, live) = c.in-Ok.ensures.sent (g.K.Sink.written c.args.sink.now) [] (nothing_sent _) (sent_start _ _ _ c.requires.valid c.requires.unread c.requires.all c.requires.none) in
-    let (after, then, saved) = c.in-Ok-finish.ensures.sent (g.K.Sink.written c.args.sink.now) mid out live in
-    saved.types
+pub returns-clause-first : goal.returns-clause-first
+returns-clause-first g c = let (after, then, saved) = all_sent g c in λ h. sym (saved.first h) ∙ sym c.unsound_of.ensures
 
-pub returns-in-None-clause-types : goal.returns-in-None-clause-types
-returns-in-None-clause-types g c =
-    let (mid, out, live) = c.in-Ok.ensures.sent (g.K.Sink.written c.args.sink.now) [] (nothing_sent _) (sent_start _ _ _ c.requires.valid c.requires.unread c.requires.all c.requires.none) in
-    let (after, then, saved) = c.in-Ok-finish.ensures.sent (g.K.Sink.written c.args.sink.now) mid out live in
-    saved.types
+pub returns-clause-types : goal.returns-clause-types
+returns-clause-types g c =
+    let (after, then, saved) = all_sent g c in
+    let seen = with_items_is (with_items c.room.inside.types c.run_rounds.new.types) c.finish.new.types (omega (arith, c.deref_mut-7.ensures.len)) in
+    λ h p. ap (λ types. get_or types p None) seen ∙ saved.types h p
 
-pub returns-in-None-clause-entries : goal.returns-in-None-clause-entries
-returns-in-None-clause-entries g c = omega (arith, c.in-Ok.ensures.entries, c.entries_of.ensures.value, c.in-Ok-finish.ensures.read)
-
-pub returns-in-None-clause-sound : goal.returns-in-None-clause-sound
-returns-in-None-clause-sound g c =
-    let (mid, out, live) = c.in-Ok.ensures.sent (g.K.Sink.written c.args.sink.now) [] (nothing_sent _) (sent_start _ _ _ c.requires.valid c.requires.unread c.requires.all c.requires.none) in
-    let (after, then, saved) = c.in-Ok-finish.ensures.sent (g.K.Sink.written c.args.sink.now) mid out live in
-    λ h. sym (saved.first h) ∙ sym c.unsound_of.ensures ∙ c.in-None.is
-
-pub returns-in-None-clause-tight : goal.returns-in-None-clause-tight
-returns-in-None-clause-tight g c =
-    let (mid, out, live) = c.in-Ok.ensures.sent (g.K.Sink.written c.args.sink.now) [] (nothing_sent _) (sent_start _ _ _ c.requires.valid c.requires.unread c.requires.all c.requires.none) in
-    let (after, then, saved) = c.in-Ok-finish.ensures.sent (g.K.Sink.written c.args.sink.now) mid out live in
-    λ h. saved.tight h (sym c.unsound_of.ensures ∙ c.in-None.is)
-
-pub returns-in-None-clause-means : goal.returns-in-None-clause-means
-returns-in-None-clause-means g c =
-    let (mid, out, live) = c.in-Ok.ensures.sent (g.K.Sink.written c.args.sink.now) [] (nothing_sent _) (sent_start _ _ _ c.requires.valid c.requires.unread c.requires.all c.requires.none) in
-    let (after, then, saved) = c.in-Ok-finish.ensures.sent (g.K.Sink.written c.args.sink.now) mid out live in
-    let same = c.in-Ok-finish.ensures.kept.width ∙ c.in-Ok.ensures.kept.width in
+pub returns-clause-frames : goal.returns-clause-frames
+returns-clause-frames g c =
+    let (after, then, saved) = all_sent g c in
+    let same = c.finish.ensures.kept.shape.width ∙ c.run_rounds.ensures.kept.shape.width in
     let wide : (g.M.Machine.state c.finish.new.machine).host.width ≤ 2 ^ 28 = omega (arith, same, c.requires.valid.host.width) in
-    frames_saved _ _ _ _ _ _ _ c.in-Ok-finish.ensures.saved.are wide (omega (arith, c.in-Ok.ensures.ended.most)) (sym c.unsound_of.ensures ∙ c.in-None.is) then saved
+    subst (FramesSaved (g.K.Sink.written c.args.sink.now) (g.K.Sink.written c.finish.new.sink) (g.M.Machine.state c.finish.new.machine)) (sym c.unsound_of.ensures)
+    (frames_saved _ _ _ _ _ _ _ c.in_ok-worst.ensures.saved.are wide (omega (arith, c.in_ok-before.ensures.ended.most)) then saved)
 
-pub returns-in-None-clause-kept : goal.returns-in-None-clause-kept
-returns-in-None-clause-kept g c =
-    let a = c.in-Ok.ensures.kept in
-    let b = c.in-Ok-finish.ensures.kept in
-    record { kind = b.kind ∙ a.kind; width = b.width ∙ a.width; honest = b.honest ∙ a.honest }
+pub returns-clause-later : goal.returns-clause-later
+returns-clause-later g c = g.met.M.Machine.later_on _ _ _ c.run_rounds.ensures.later c.finish.ensures.later

@@ -1,6 +1,7 @@
 use Rattle.std.proofs.Common.{sym, ◌∙◌, refl}
 use Rattle.mig_rounds.specs.declared.found.Found.TheVariants as Found
 use Rattle.mig_rounds.proofs.Peeks.{raw_there, shown_there, gone_there, can_be_told, no_frame_told, type_there, many_calls, reads_peek, reads_table, if_ok_two}
+use Rattle.mig_rounds.proofs.Shapes.{stays_on, ran_stays}
 use Rattle.mig_rounds.proofs.Strays.{strays_none, strays_peek, strays_looks}
 use Rattle.mig_rounds.proofs.step.read_one.Goals as goal
 
@@ -38,3 +39,15 @@ returns-in-None-clause-asked g c = strays_peek _ _ _ c.in-Ok-Frame.ensures.ok
 
 pub returns-in-Some-clause-asked : goal.returns-in-Some-clause-asked
 returns-in-Some-clause-asked g c = strays_looks _ _ _ _ _ (strays_peek _ _ _ c.in-Ok-Frame.ensures.ok) c.read_table.ensures.looks
+
+pub returns-in-Err-clause-kept : goal.returns-in-Err-clause-kept
+returns-in-Err-clause-kept g c = ran_stays _ _ _ c.in-Err.ensures.err.ran
+
+pub returns-in-Ok-Absent-clause-kept : goal.returns-in-Ok-Absent-clause-kept
+returns-in-Ok-Absent-clause-kept g c = ran_stays _ _ _ c.in-Ok-Absent.ensures.ok.ran
+
+pub returns-in-None-clause-kept : goal.returns-in-None-clause-kept
+returns-in-None-clause-kept g c = ran_stays _ _ _ c.in-Ok-Frame.ensures.ok.ran
+
+pub returns-in-Some-clause-kept : goal.returns-in-Some-clause-kept
+returns-in-Some-clause-kept g c = stays_on _ _ _ (ran_stays _ _ _ c.in-Ok-Frame.ensures.ok.ran) (ran_stays _ _ _ c.read_table.ensures.looks.ran)

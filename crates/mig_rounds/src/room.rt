@@ -1,0 +1,66 @@
+ghost use Rattle.std.specs.Prelude.{◌≡◌, ℕ, ◌<◌, ◌≤◌, length, slice_index_or, IfOk, None};
+ghost use Rattle.mig_guest.specs.Hosts.{most_width};
+
+use mig_bytes::Memory;
+use mig_pagesink::Batch;
+use mig_pagetypes::PageType;
+use std::alloc::{AllocError, Global};
+use std::marker::Model;
+
+/// What the rounds of a save keep in mind, made beforehand: for each frame number whether it is to be read, whether its table
+/// is deferred, and the type seen last; a log, and a batch of entries.
+#[derive(Drop)]
+pub struct Room {
+    pub(crate) batch: Batch,
+    pub(crate) set: Vec<bool>,
+    pub(crate) deferred: Vec<bool>,
+    pub(crate) types: Vec<Option<PageType>>,
+    pub(crate) words: Vec<u64>,
+}
+
+impl Model for Room {
+    ghost use Rattle.std.specs.Prelude.{ℕ, length};
+
+    ghost Value = { ℕ };
+
+    ghost use Rattle.mig_rounds.specs.Unused.{IsUnused};
+
+    ghost view = { λ r. length r.set.items };
+
+    ghost invariant = { λ r. IsUnused r.batch r.set.items r.deferred.items r.types.items r.words.items };
+}
+
+impl Room {
+    /// Room for a machine with so many frame numbers; `Memory` where there is none left.
+    pub fn new(alloc: Global, width: u64) -> Result<Room, Memory>
+        requires { width ≤ most_width }
+        ensures { IfOk result (λ room. room ≡ width) }
+    {
+        match make_room(alloc, width as usize) {
+            Ok(room) => Ok(room),
+            Err(_) => Err(Memory),
+        }
+    }
+}
+
+/// For each number that no type was seen.
+fn no_types(alloc: Global, width: usize) -> Result<Vec<Option<PageType>>, AllocError>
+    ensures size { IfOk result (λ types. length types.items ≡ width) }
+    ensures none { IfOk result (λ types. (p : ℕ) → p < length types.items → slice_index_or types.items p None ≡ None) }
+{
+    vec![in alloc; None; width]
+}
+
+/// Every number is to be read, and nothing is noted.
+fn make_room(alloc: Global, width: usize) -> Result<Room, AllocError>
+    requires { width ≤ most_width }
+    ensures { IfOk result (λ room. room ≡ width) }
+{
+    Ok(Room {
+        batch: Batch::new(alloc)?,
+        set: vec![in alloc; true; width]?,
+        deferred: vec![in alloc; false; width]?,
+        types: no_types(alloc, width)?,
+        words: vec![in alloc; 0; (width + 63) / 64]?,
+    })
+}
