@@ -1,5 +1,5 @@
 -- The saver's records, written between the other records of a canonical image.
-use Rattle.std.proofs.Common.{◌≡◌, ℕ, List, [], ◌∷◌, ◌++◌, map, true, Option, refl, sym, ap, subst, ◌∙◌, arith, append_assoc}
+use Rattle.std.proofs.Common.{◌≡◌, ℕ, List, [], ◌∷◌, ◌++◌, map, true, Option, None, refl, sym, ap, subst, ◌∙◌, arith, append_assoc}
 use Rattle.std.proofs.lemmas.Grind.{flat_map-append}
 use Rattle.std.specs.Io.KnownBytes.{Appends}
 use Rattle.std.proofs.KnownBytes.{Appends-trans}
@@ -48,10 +48,10 @@ module _ (g : GuestOf) (batches : List (List FrameTold)) where
       ∙ ap text_of (sym (regroup (info_records g.kind) (static_bodies g) (p2m_records g.kind g) (batch_records (map telling_frames batches)) last)))
 
 pub saved_is_written : (start old new now : Option (List ℕ)) (t : MachineState) → IsValid t.host → t.honest ≡ true → t.host.kind ≡ Hvm → IsSound t.host → HasNoEmulators t.host.parts
-    → Appends start old (text_before (view t.host)) → FramesSaved old new t → Appends new now (text_behind (view t.host)) → WroteImageOf start now (view t.host)
+    → Appends start old (text_before (view t.host)) → FramesSaved old new t None → Appends new now (text_behind (view t.host)) → WroteImageOf start now (view t.host)
 saved_is_written start old new now t valid honest hvm sound none before s behind = record {
   text = text_before (view t.host) ++ (text_of (map telling_record s.batches) ++ text_behind (view t.host));
   appended = Appends-trans start old now _ _ before (Appends-trans old new now _ _ s.written.wrote.appended behind);
   accepted = λ rest. subst (λ l. Accepted (l ++ rest) (view t.host) rest) (sym (written_is_batched (view t.host) s.batches))
-      (saved_is_viewed t.host s.batches rest valid hvm sound none s.sized (subst (λ (k : Kind). AreTold k (all_told s.batches)) hvm s.told) (omega (arith, s.few)) (s.means honest));
+      (saved_is_viewed t.host s.batches rest valid hvm sound none s.sized (subst (λ (k : Kind). AreTold k (all_told s.batches)) hvm s.told) (omega (arith, s.few)) (s.means honest refl));
 }

@@ -1,4 +1,4 @@
-ghost use Rattle.std.specs.Prelude.{◌≡◌, ◌≤◌, ◌^◌, ℕ, List, ◌++◌, length, map, true};
+ghost use Rattle.std.specs.Prelude.{◌≡◌, ◌≤◌, ◌^◌, ℕ, List, ◌++◌, length, map, true, None};
 ghost use Rattle.std.specs.declared.option.Option.{Option};
 ghost use Rattle.std.specs.Io.KnownBytes.{Appends};
 ghost use Rattle.mig_headers.specs.declared.kind.Kind.TheVariants.{Hvm};
@@ -25,10 +25,10 @@ pub fn saved_hvm_host_is_viewed()
         → Accepted (batched (view h) (map telling_frames batches) ++ rest) (view h) rest }
 {}
 
-/// What a saver wrote of an honest HVM machine whose host, as it is in the end, is valid, sound and without emulators,
-/// between what the canonical image of the host's view has before the frames and what it has behind them, makes an image
-/// that is accepted, whatever follows it, and its guest is the view.
+/// What a saver wrote of an honest HVM machine whose host, as it is in the end, is valid, sound and without emulators, where
+/// it found nothing wrong with the tables, between what the canonical image of the host's view has before the frames and
+/// what it has behind them, makes an image that is accepted, whatever follows it, and its guest is the view.
 pub fn saved_frames_make_an_image()
     ensures { (start old new now : Option (List ℕ)) (t : MachineState) → IsValid t.host → t.honest ≡ true → t.host.kind ≡ Hvm → IsSound t.host → HasNoEmulators t.host.parts
-        → Appends start old (text_before (view t.host)) → FramesSaved old new t → Appends new now (text_behind (view t.host)) → WroteImageOf start now (view t.host) }
+        → Appends start old (text_before (view t.host)) → FramesSaved old new t None → Appends new now (text_behind (view t.host)) → WroteImageOf start now (view t.host) }
 {}
