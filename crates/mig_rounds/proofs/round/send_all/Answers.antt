@@ -34,7 +34,7 @@ returns-in-Err-clause-behind g c = λ start n before out even.
     let i = c.loop-pfn.invariant in
     let (mid, now, front) = i.sends start n before out in
     let same = total_even _ _ _ _ _ _ _ _ _ (omega (arith, c.requires.width)) i.reads front even in
-    behind_less _ _ _ _ (omega (arith, same)) (c.in-Err.ensures.behind start n mid now)
+    behind_less _ (g.K.Sink.written c.flush.new.sink) _ _ (omega (arith, same)) (c.in-Err.ensures.behind start n mid now)
 
 pub returns-in-Ok-clause-sends : goal.returns-in-Ok-clause-sends
 returns-in-Ok-clause-sends g c = λ start n before out.
@@ -64,7 +64,7 @@ loop-pfn-preserved g c =
             reads = reads_more _ _ _ _ _ _ w.if-wanted.true small i.reads w.in_ok-found.ensures.reads;
             sends = λ start n before out.
                 let (mid, now, front) = i.sends start n before out in
-                (_, w.in_ok-found.ensures.sent start n mid now, sends_more _ _ _ _ _ _ _ _ _ _ _ w.if-wanted.true small i.reads front w.in_ok-found.ensures.reads w.in_ok-found.ensures.notes);
+                (_, w.in_ok-found.ensures.sent start n mid now, sends_more _ _ _ _ _ _ _ _ _ (notes_of w.send_one.new.deferred w.send_one.new.types) _ w.if-wanted.true small i.reads front w.in_ok-found.ensures.reads w.in_ok-found.ensures.notes);
             worst = λ p. worst_step _ _ _ _ _ _ _ _ _ p w.if-wanted.true i.reads w.in_ok-found.ensures.reads w.with-worst.ensures.superpage w.with-worst.ensures.lost (i.worst p);
             wide = search rules;
             long = search rules;

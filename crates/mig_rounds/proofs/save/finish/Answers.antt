@@ -4,6 +4,7 @@ use Rattle.mig_machine_api.specs.Pfns.{Pfns, joined, pfns_of_words}
 use Rattle.mig_machine_api.specs.History.{History, Since}
 use Rattle.mig_rounds.specs.Current.{notes_of}
 use Rattle.mig_rounds.specs.Flags.{pfns_of_flags, total}
+use Rattle.mig_rounds.specs.Live.{SendsLast}
 use Rattle.mig_rounds.proofs.Shapes.{stays_on, ran_stays}
 use Rattle.mig_rounds.proofs.Steps.{on_err}
 use Rattle.mig_rounds.proofs.Saves.{behind_unread, on_ok, if_both, if_three, err_on}
@@ -49,7 +50,9 @@ returns-clause-sent g c =
     let are : pfns_of_flags c.join.new.set ≡ joined (joined (pfns_of_flags c.args.set.now) (pfns_of_words c.take_more.new.words)) notes.deferred
     = c.join.ensures ∙ ap (λ (x : Pfns). joined x notes.deferred) c.in_ok-take_more.ensures.set in
     let wide : length c.join.new.set ≡ (g.M.Machine.state c.args.machine.now).host.width = search rules ∙ c.requires.width in
-    if_three c.send_all.result (λ worst reads sends bad. λ start before out sent.
+    let later = notes_of c.send_all.new.deferred c.send_all.new.types in
+    let sent = SendsLast c.args.rounds (g.M.Machine.state c.args.machine.now) (g.M.Machine.state c.send_all.new.machine) (pfns_of_flags c.args.set.now) (g.K.Sink.written c.args.sink.now) (g.K.Sink.written c.send_all.new.sink) notes later in
+    if_three {R = sent} c.send_all.result (λ worst reads sends bad. λ start before out sent.
     let (after, then, front) = sends start c.args.rounds before out in (
       after,
       then,

@@ -1,6 +1,7 @@
 use Rattle.std.proofs.Common.{rules, arith, ◌≡◌, ◌+◌, ◌<◌, ◌≤◌, ◌^◌, length, ap, sym, subst, ◌∙◌}
 use Rattle.mig_pagesink.specs.Batches.{IsBehind}
 use Rattle.mig_machine_api.specs.Pfns.{size}
+use Rattle.mig_rounds.specs.Current.{notes_of}
 use Rattle.mig_rounds.specs.Flags.{pfns_of_flags, total}
 use Rattle.mig_rounds.proofs.Shapes.{stays_on, ran_stays}
 use Rattle.mig_rounds.proofs.Steps.{on_err}
@@ -23,7 +24,7 @@ returns-in_err-take_set-clause-behind g c =
     let (mid, now, live) = i.sent start before out sent in
     let (after, then, sends) = c.in_ok-send_all.ensures.sends start c.loop-machine.rounds mid now in
     subst (λ w. IsBehind start (g.K.Sink.written c.send_all.new.sink) (total w (g.M.Machine.state c.take_set.new.machine).history)) i.kept.shape.width
-    (behind_taken _ _ _ _ _ _ _ _ _ _ _ i.width live c.in_ok-send_all.ensures.reads sends c.in_err-take_set.ensures.stays.history then))
+    (behind_taken _ _ _ _ _ _ _ _ _ _ (notes_of c.send_all.new.deferred c.send_all.new.types) i.width live c.in_ok-send_all.ensures.reads sends c.in_err-take_set.ensures.stays.history then))
 
 pub returns-then-rounds-eq-MOST_ROUNDS-clause-ended : goal.returns-then-rounds-eq-MOST_ROUNDS-clause-ended
 returns-then-rounds-eq-MOST_ROUNDS-clause-ended g c =
@@ -68,7 +69,7 @@ returns-then-rounds-eq-MOST_ROUNDS-clause-sent g c = λ start before out sent.
     let i = c.loop-machine.invariant in
     let (mid, now, live) = i.sent start before out sent in
     let (after, then, sends) = c.in_ok-send_all.ensures.sends start c.loop-machine.rounds mid now in
-    (after, then, sent_round _ _ _ _ _ _ _ _ _ i.width c.in_ok-send_all.ensures.reads c.in_ok-take_set.ensures.ok live sends)
+    (after, then, sent_round _ _ _ _ _ _ _ _ (notes_of c.send_all.new.deferred c.send_all.new.types) i.width c.in_ok-send_all.ensures.reads c.in_ok-take_set.ensures.ok live sends)
 
 pub loop-machine-preserved : goal.loop-machine-preserved
 loop-machine-preserved g c =
@@ -83,7 +84,7 @@ loop-machine-preserved g c =
       sent = λ start before out sent.
           let (mid, now, was) = i.sent start before out sent in
           let (after, then, sends) = c.in_ok-send_all.ensures.sends start c.loop-machine.rounds mid now in
-          (after, then, sent_round _ _ _ _ _ _ _ _ _ i.width c.in_ok-send_all.ensures.reads c.in_ok-take_set.ensures.ok was sends);
+          (after, then, sent_round _ _ _ _ _ _ _ _ (notes_of c.send_all.new.deferred c.send_all.new.types) i.width c.in_ok-send_all.ensures.reads c.in_ok-take_set.ensures.ok was sends);
       on = goes_on _ _ live (omega (arith, ap (λ w. size w (pfns_of_flags c.take_set.new.set)) width));
       number = omega arith;
       counted = omega (arith, i.counted, c.entries_of-entries.ensures.value, counted_more _ _ _ _ _ i.width c.in_ok-send_all.ensures.reads c.in_ok-take_set.ensures.ok);
