@@ -156,12 +156,21 @@ next_after lines h c d next few = elim (cases_lt c (2 ^ 64 - 1)) [
 
 -- ---- what is later
 
-pub later_now : (a b : Course) → b.lines ≡ a.lines → IsNextCount a.calls b.calls → IsNextCount a.runs b.runs → length a.lines ≤ 2 ^ 64 - 1 → b.host ≡ after a.host (group_at a.lines a.runs) → IsLaterCourse a b
+pub later_now : (a b : Course) → b.lines ≡ a.lines → a.calls ≤ b.calls → IsNextCount a.runs b.runs → length a.lines ≤ 2 ^ 64 - 1 → b.host ≡ after a.host (group_at a.lines a.runs) → IsLaterCourse a b
 later_now a b same calls runs few host = record {
   script = same;
-  calls = let is = calls.is in let fits = calls.fits in omega (arith, is, fits);
+  calls = calls;
   runs = let is = runs.is in let fits = runs.fits in omega (arith, is, fits);
   host = host ∙ next_after a.lines a.host a.runs b.runs runs few;
+}
+
+-- no line ran
+pub later_idle : (a b : Course) → b.lines ≡ a.lines → a.calls ≤ b.calls → b.runs ≡ a.runs → b.host ≡ a.host → IsLaterCourse a b
+later_idle a b same calls runs host = record {
+  script = same;
+  calls = calls;
+  runs = omega (arith, runs);
+  host = host ∙ sym (ap (λ (l : List LineOf). after a.host l) (ap (ran_between a.lines a.runs) runs ∙ between_same a.lines a.runs));
 }
 
 pub later_itself : (a : Course) → IsLaterCourse a a

@@ -14,14 +14,8 @@ use Rattle.mig_host.specs.HostView.{has_machine}
 use Rattle.mig_machine_api.specs.Footprints.{table_in}
 use Rattle.mig_script.specs.ScriptLines.{LineOf}
 use Rattle.mig_script.specs.ScriptLines.LineOf.{Add, Exchange}
-use Rattle.mig_lines.specs.HostLines.{applies, changed_by, after_line, table_names, names_machine, may_come, is_unnamed}
+use Rattle.mig_lines.specs.HostLines.{applies, table_names, names_machine, may_come, is_unnamed}
 use Rattle.mig_lines.proofs.LinesLogged.{IsTame, no_level, both_true}
-
-pub line_applied : (h : HostOf) (line : LineOf) → applies h line ≡ true → after_line h line ≡ changed_by h line
-line_applied h line is = ap (λ b. cond b (changed_by h line) h) is
-
-pub line_kept : (h : HostOf) (line : LineOf) → applies h line ≡ false → after_line h line ≡ h
-line_kept h line is = ap (λ b. cond b (changed_by h line) h) is
 
 no_table : (mfn : ℕ) (page : Option (List ℕ)) (level : Option ℕ) → level ≡ None → table_names mfn (table_in level page) ≡ false
 unfolding table_names

@@ -2,7 +2,6 @@ ghost use Rattle.std.specs.Prelude.{◌≡◌, ℕ, ◌+◌, ◌/◌, ◌<◌, �
 ghost use Rattle.mig_headers.specs.declared.kind.Kind.TheVariants.{Hvm};
 ghost use Rattle.mig_machine_api.specs.Pfns.{pfns_of_words};
 ghost use Rattle.mig_script.specs.ScriptLines.{line_said};
-ghost use Rattle.mig_script.specs.Scripts.{lines_of};
 ghost use Rattle.mig_lines.specs.Groups.{ends_group, first_group, first_length};
 ghost use Rattle.mig_lines.specs.HostLines.{after, after_line, logs, with_logged, logged_after, room_of, room_for};
 
@@ -39,11 +38,11 @@ fn is_dot(line: &Line) -> bool
 fn run_group(host: &mut Host, script: &Script, from: usize, log: &mut [u64]) -> usize
     requires hvm { host.old.host.kind ≡ Hvm }
     requires words { length log.old ≡ (host.old.host.width + 63) / 64 }
-    requires room { room_for (drop from (lines_of script.now)) ≤ host.old.spare }
-    ensures host { host.new.host ≡ after host.old.host (first_group (drop from (lines_of script.now))) }
-    ensures log { pfns_of_words log.new ≡ logged_after host.old.host (first_group (drop from (lines_of script.now))) (pfns_of_words log.old) }
-    ensures place { result ≡ from + first_length (drop from (lines_of script.now)) }
-    ensures room { room_for (drop result (lines_of script.now)) ≤ host.new.spare }
+    requires room { room_for (drop from script.now) ≤ host.old.spare }
+    ensures host { host.new.host ≡ after host.old.host (first_group (drop from script.now)) }
+    ensures log { pfns_of_words log.new ≡ logged_after host.old.host (first_group (drop from script.now)) (pfns_of_words log.old) }
+    ensures place { result ≡ from + first_length (drop from script.now) }
+    ensures room { room_for (drop result script.now) ≤ host.new.spare }
 {
     let count = script.len();
     let mut at = from;
@@ -64,11 +63,11 @@ fn run_group(host: &mut Host, script: &Script, from: usize, log: &mut [u64]) -> 
 pub fn run_logged(host: &mut Host, script: &Script, from: usize, log: &mut Vec<u64>) -> usize
     requires hvm { host.old.host.kind ≡ Hvm }
     requires words { length log.old.items ≡ (host.old.host.width + 63) / 64 }
-    requires room { room_for (drop from (lines_of script.now)) ≤ host.old.spare }
-    ensures host { host.new.host ≡ after host.old.host (first_group (drop from (lines_of script.now))) }
-    ensures log { pfns_of_words log.new.items ≡ logged_after host.old.host (first_group (drop from (lines_of script.now))) (pfns_of_words log.old.items) }
-    ensures place { result ≡ from + first_length (drop from (lines_of script.now)) }
-    ensures room { room_for (drop result (lines_of script.now)) ≤ host.new.spare }
+    requires room { room_for (drop from script.now) ≤ host.old.spare }
+    ensures host { host.new.host ≡ after host.old.host (first_group (drop from script.now)) }
+    ensures log { pfns_of_words log.new.items ≡ logged_after host.old.host (first_group (drop from script.now)) (pfns_of_words log.old.items) }
+    ensures place { result ≡ from + first_length (drop from script.now) }
+    ensures room { room_for (drop result script.now) ≤ host.new.spare }
     ensures size { length log.new.items ≡ length log.old.items }
 {
     run_group(host, script, from, log)
@@ -86,7 +85,7 @@ fn room_of_line(line: &Line) -> usize
 
 /// How many spare frames the lines of a script may take.
 pub fn room_in(script: &Script) -> usize
-    ensures { result ≡ room_for (lines_of script.now) }
+    ensures { result ≡ room_for script.now }
 {
     let count = script.len();
     let mut room = 0;

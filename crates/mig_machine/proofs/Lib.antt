@@ -1,2 +1,3 @@
 pub mod LogsKept
 pub mod Insides
+pub mod MachinesRun

@@ -1,11 +1,18 @@
 -- Logs that are kept in places that were made beforehand.
-use Rattle.std.proofs.Common.{zero, suc, [], ◌∷◌, ◌++◌, take, drop, le_refl, Some, arith, ◌≡◌, ℕ, ◌+◌, ◌≤◌, ◌<◌, List, length, slice_set, false, refl, ap, ◌∙◌}
+use Rattle.std.proofs.Common.{zero, suc, [], ◌∷◌, ◌++◌, take, drop, le_refl, map, Option, Some, arith, ◌≡◌, ℕ, ◌+◌, ◌≤◌, ◌<◌, List, length, slice_set, false, refl, ap, ◌∙◌}
 use Rattle.std.specs.Prelude.{slice_get}
 use Rattle.std.proofs.lemmas.Grind.{common_steps}
-use Rattle.mig_machine_api.specs.History.{Since, nothing_asked}
+use Rattle.mig_machine_api.specs.History.{Since, LogTook, nothing_asked}
 use Rattle.mig_machine_api.specs.Pfns.{pfns_of_words, no_pfns}
 use Rattle.mig_machine.specs.declared.notes.KeptLog.{KeptLog}
-use Rattle.mig_machine.specs.Noted.{took_of, took_before}
+use Rattle.mig_machine.specs.MachineSeen.{log_told}
+use Rattle.mig_machine.specs.Noted.{log_noted, logs_before}
+
+abbrev pub took_of : Option KeptLog → LogTook
+took_of o = log_told (log_noted o)
+
+abbrev pub took_before : List KeptLog → ℕ → List LogTook
+took_before logs n = map log_told (logs_before logs n)
 
 got_same : (logs : List KeptLog) (n : ℕ) (x : KeptLog) → n < length logs → slice_get (slice_set logs n x) n ≡ Some x
 got_same [] n x within = absurd (omega arith)

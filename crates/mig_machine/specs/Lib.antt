@@ -1,2 +1,3 @@
+pub mod MachineSeen
 pub mod Noted
-pub mod MachineCourses
+pub mod MachineFields

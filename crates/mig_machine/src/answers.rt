@@ -1,9 +1,7 @@
 ghost use Rattle.std.specs.Prelude.{◌≡◌, ℕ, ◌+◌, ◌/◌, ◌≤◌, length, true};
 ghost use Rattle.mig_machine_api.specs.MachineCalls.{seen_at, page_peeked};
 ghost use Rattle.mig_machine_api.specs.Pfns.{pfns_of_words, no_pfns};
-ghost use Rattle.mig_lines.specs.Courses.{IsLaterCourse};
-ghost use Rattle.mig_machine.specs.MachineCourses.{course_of};
-ghost use Rattle.mig_machine.specs.Noted.{history_of};
+ghost use Rattle.mig_machine.specs.MachineSeen.{machine_state, course_of, IsLaterMachine};
 ghost use Rattle.mig_lines.proofs.CoursesRun.{later_itself, later_still};
 
 use crate::machine::ScriptMachine;
@@ -41,17 +39,11 @@ fn hand_over(log: &mut Vec<u64>, bits: &mut [u64])
 }
 
 impl Machine for ScriptMachine {
-    ghost state = { λ m. record {
-      host = m.host.host;
-      log = pfns_of_words m.log.items;
-      paused = m.paused;
-      honest = true;
-      history = history_of m.notes;
-    } };
+    ghost state = { machine_state };
 
     ghost faults = { λ m. 0 };
 
-    ghost Later = { λ a b. IsLaterCourse (course_of a) (course_of b) };
+    ghost Later = { IsLaterMachine };
 
     fn kind(&self) -> Kind {
         self.host.kind()
@@ -91,7 +83,7 @@ impl Machine for ScriptMachine {
 
     fn take_log(&mut self, bits: &mut [u64]) -> Result<(), Failed> {
         self.run();
-        self.notes.note_log(&self.log, self.paused);
+        self.notes.note_log(&self.log, self.behind.is_some());
         hand_over(&mut self.log, bits);
         Ok(())
     }
@@ -99,7 +91,7 @@ impl Machine for ScriptMachine {
     fn pause(&mut self) -> Result<(), Failed> {
         self.run();
         self.notes.note_call();
-        self.paused = true;
+        self.behind = Some(self.behind.unwrap_or(0));
         Ok(())
     }
 

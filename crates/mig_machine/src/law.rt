@@ -1,15 +1,13 @@
 ghost use Rattle.std.specs.Prelude.{◌≡◌, ◌≤◌, false};
-ghost use Rattle.mig_script.specs.Scripts.{lines_of};
-ghost use Rattle.mig_lines.specs.Courses.{IsLaterCourse};
 ghost use Rattle.mig_lines.specs.Groups.{ran};
 ghost use Rattle.mig_lines.specs.HostLines.{after};
-ghost use Rattle.mig_machine.specs.MachineCourses.{course_of};
-ghost use Rattle.mig_machine.specs.declared.machine.ScriptMachine.{ScriptMachine};
+ghost use Rattle.mig_machine.specs.MachineSeen.{MachineSeen, calls_of, is_paused, IsLaterMachine};
 
-/// The host of a machine is what the lines run by the calls so far, or by those up to the pause, make of the host at which no
-/// call was made yet.
+/// Of a machine that is later than one of which nothing was asked, the script is the same, and the host is what the lines run
+/// by the calls up to the pause make of the first host. These are all calls, unless it is paused.
 pub fn script_machine_is_at()
-    ensures host { (first now : ScriptMachine) → first.calls ≡ 0 → IsLaterCourse (course_of first) (course_of now) → now.host.host ≡ after first.host.host (ran (lines_of first.script) now.runs) }
-    ensures running { (now : ScriptMachine) → now.paused ≡ false → now.runs ≡ now.calls }
-    ensures counted { (now : ScriptMachine) → now.runs ≤ now.calls }
+    ensures host { (first now : MachineSeen) → calls_of first ≡ 0 → IsLaterMachine first now → now.host ≡ after first.host (ran first.lines now.runs) }
+    ensures lines { (first now : MachineSeen) → IsLaterMachine first now → now.lines ≡ first.lines }
+    ensures running { (now : MachineSeen) → is_paused now ≡ false → now.runs ≡ calls_of now }
+    ensures counted { (now : MachineSeen) → now.runs ≤ calls_of now }
 {}

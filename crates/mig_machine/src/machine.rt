@@ -1,9 +1,10 @@
-ghost use Rattle.std.specs.Prelude.{◌≡◌, ℕ, ◌+◌, ◌/◌, ◌≤◌, length, drop, false};
+ghost use Rattle.std.specs.Prelude.{◌≡◌, ◌≤◌, false, IfOk};
 ghost use Rattle.mig_headers.specs.declared.kind.Kind.TheVariants.{Hvm};
-ghost use Rattle.mig_machine_api.specs.Pfns.{pfns_of_words};
-ghost use Rattle.mig_script.specs.Scripts.{lines_of};
-ghost use Rattle.mig_lines.specs.Groups.{lines_up_to};
-ghost use Rattle.mig_lines.specs.HostLines.{room_for};
+ghost use Rattle.mig_guest.specs.Formed.{HasNoEmulators};
+ghost use Rattle.mig_machine_api.specs.History.{no_history};
+ghost use Rattle.mig_machine_api.specs.MachineStates.{Ran, IsValidState};
+ghost use Rattle.mig_machine_api.specs.Pfns.{no_pfns};
+ghost use Rattle.mig_machine.specs.MachineSeen.{calls_of, is_paused, log_of, history_of, machine_state, IsLaterMachine};
 
 use crate::notes::Notes;
 use mig_bytes::Memory;
@@ -11,6 +12,7 @@ use mig_host::Host;
 use mig_lines::{no_bits, room_in, run_logged};
 use mig_script::Script;
 use std::alloc::Global;
+use std::marker::Model;
 
 /// A machine whose guest is a host and the lines of a script: until it is paused, each call lets it run the lines up to the
 /// next dot.
@@ -20,43 +22,39 @@ pub struct ScriptMachine {
     pub(crate) script: Script,
     /// Where the lines that are left begin.
     pub(crate) at: usize,
-    pub(crate) paused: bool,
-    /// How many calls were made.
-    pub(crate) calls: u64,
-    /// How many were made up to the pause.
+    /// How many calls were made up to the pause.
     pub(crate) runs: u64,
+    /// How many calls were made behind it; none while it isn't paused.
+    pub(crate) behind: Option<u64>,
     pub(crate) log: Vec<u64>,
     pub(crate) notes: Notes,
-    ghost hvm: { host.host.kind ≡ Hvm },
-    ghost log_size: { length log.items ≡ (host.host.width + 63) / 64 },
-    ghost log_below: { (pfn : ℕ) → host.host.width ≤ pfn → pfns_of_words log.items pfn ≡ false },
-    ghost notes_size: { length notes.read.items ≡ (host.host.width + 63) / 64 },
-    ghost left: { at ≡ lines_up_to (lines_of script) runs },
-    ghost room: { room_for (drop at (lines_of script)) ≤ host.spare },
-    ghost running: { paused ≡ false → runs ≡ calls },
-    ghost counted: { runs ≤ calls },
+}
+
+impl Model for ScriptMachine {
+    ghost use Rattle.mig_machine.specs.MachineSeen.{MachineSeen, machine_code};
+
+    ghost Value = { MachineSeen };
+
+    ghost coded = { machine_code };
+
+    ghost use Rattle.mig_machine.specs.MachineFields.{machine_seen, IsMachine};
+
+    ghost view = { machine_seen };
+
+    ghost invariant = { IsMachine };
 }
 
 impl ScriptMachine {
-    ghost use Rattle.std.specs.Prelude.{IfOk, true};
-    ghost use Rattle.mig_guest.specs.Formed.{HasNoEmulators};
-    ghost use Rattle.mig_guest.specs.Hosts.{IsValid};
-    ghost use Rattle.mig_machine_api.specs.History.{no_history};
-    ghost use Rattle.mig_machine_api.specs.Pfns.{no_pfns};
-    ghost use Rattle.mig_machine.specs.Noted.{history_of};
-    ghost use Rattle.mig_lines.specs.Courses.{IsLaterCourse, GuestRan};
-    ghost use Rattle.mig_machine.specs.MachineCourses.{course_of};
-
     /// A machine at this host, of which nothing was asked yet. It takes all memory that later calls need.
     pub fn new(alloc: Global, host: Host, script: Script) -> Result<ScriptMachine, Memory>
         requires hvm { host.host.kind ≡ Hvm }
         requires plain { HasNoEmulators host.host.parts }
-        ensures host { IfOk result (λ m. m.host.host ≡ host.host) }
-        ensures script { IfOk result (λ m. m.script ≡ script) }
-        ensures calls { IfOk result (λ m. (m.calls ≡ 0) × (m.runs ≡ 0)) }
-        ensures unpaused { IfOk result (λ m. m.paused ≡ false) }
-        ensures log { IfOk result (λ m. pfns_of_words m.log.items ≡ no_pfns) }
-        ensures history { IfOk result (λ m. history_of m.notes ≡ no_history) }
+        ensures host { IfOk result (λ m. m.host ≡ host.host) }
+        ensures lines { IfOk result (λ m. m.lines ≡ script) }
+        ensures calls { IfOk result (λ m. calls_of m ≡ 0) }
+        ensures unpaused { IfOk result (λ m. is_paused m ≡ false) }
+        ensures log { IfOk result (λ m. log_of m ≡ no_pfns) }
+        ensures history { IfOk result (λ m. history_of m ≡ no_history) }
     {
         let mut host = host;
         let words = ((host.width() + 63) / 64) as usize;
@@ -67,9 +65,8 @@ impl ScriptMachine {
             host,
             script,
             at: 0,
-            paused: false,
-            calls: 0,
             runs: 0,
+            behind: None,
             log,
             notes,
         })
@@ -77,24 +74,23 @@ impl ScriptMachine {
 
     /// The host as it is now.
     pub fn host(&self) -> &Host
-        ensures { result.now ≡ self.now.host }
+        ensures { result.now.host ≡ self.now.host }
     {
         &self.host
     }
 
     /// Counts a call, and lets the guest run the lines of this call, unless it is paused.
     pub(crate) fn run(&mut self)
-        ensures guest { GuestRan self.old.host.host self.new.host.host (pfns_of_words self.old.log.items) (pfns_of_words self.new.log.items) }
-        ensures stopped { self.old.paused ≡ true → self.new.host.host ≡ self.old.host.host }
-        ensures later { IsLaterCourse (course_of self.old) (course_of self.new) }
-        ensures valid { IsValid self.new.host.host }
-        ensures paused { self.new.paused ≡ self.old.paused }
-        ensures notes { self.new.notes ≡ self.old.notes }
+        ensures ran { Ran (machine_state self.old) (machine_state self.new) (log_of self.new) }
+        ensures later { IsLaterMachine self.old self.new }
+        ensures valid { IsValidState (machine_state self.new) }
+        ensures paused { is_paused self.new ≡ is_paused self.old }
+        ensures noted { self.new.noted ≡ self.old.noted }
     {
         let _width = self.host.width();
         let _lines = self.script.len();
-        self.calls = self.calls.saturating_add(1);
-        if self.paused {
+        if let Some(behind) = self.behind {
+            self.behind = Some(behind.saturating_add(1));
             return;
         }
         self.runs = self.runs.saturating_add(1);

@@ -18,10 +18,9 @@ pub(crate) struct KeptLog {
 }
 
 impl KeptLog {
-    ghost use Rattle.std.specs.Prelude.{Some};
     ghost use Rattle.mig_machine_api.specs.History.{and_call};
     ghost use Rattle.mig_machine_api.specs.Pfns.{pfns_of_words};
-    ghost use Rattle.mig_machine.specs.Noted.{took_of};
+    ghost use Rattle.mig_machine.specs.Noted.{log_in};
 
     /// Room for a log of so many words.
     fn new(alloc: Global, words: usize) -> Result<KeptLog, Memory>
@@ -40,7 +39,7 @@ impl KeptLog {
     fn keep(&mut self, read: &[u64], log: &[u64], twice: bool, calls: u64)
         requires read { length read.now ≡ length self.old.read.items }
         requires log { length log.now ≡ length self.old.log.items }
-        ensures took { took_of (Some self.new) ≡ record { asked = and_call (record { read = pfns_of_words read.now; twice = twice; calls = calls }); log = pfns_of_words log.now } }
+        ensures took { log_in self.new ≡ record { asked = and_call (record { read = pfns_of_words read.now; twice = twice; calls = calls }); log = pfns_of_words log.now } }
         ensures read { length self.new.read.items ≡ length self.old.read.items }
         ensures log { length self.new.log.items ≡ length self.old.log.items }
     {
@@ -87,11 +86,11 @@ impl Notes {
     ghost use Rattle.std.specs.Prelude.{◌/◌};
     ghost use Rattle.mig_machine_api.specs.History.{no_history, after_peek, after_call, after_log};
     ghost use Rattle.mig_machine_api.specs.Pfns.{pfns_of_words};
-    ghost use Rattle.mig_machine.specs.Noted.{history_of};
+    ghost use Rattle.mig_machine.specs.Noted.{history_in};
 
     /// Nothing was asked yet.
     pub(crate) fn new(alloc: Global, words: usize) -> Result<Notes, Memory>
-        ensures history { IfOk result (λ n. history_of n ≡ no_history) }
+        ensures history { IfOk result (λ n. history_in n ≡ no_history) }
         ensures size { IfOk result (λ n. length n.read.items ≡ words) }
     {
         let read = no_bits(alloc, words)?;
@@ -109,7 +108,7 @@ impl Notes {
     /// A frame number was peeked.
     pub(crate) fn note_read(&mut self, pfn: u64)
         requires { pfn / 64 < length self.old.read.items }
-        ensures history { history_of self.new ≡ after_peek pfn (history_of self.old) }
+        ensures history { history_in self.new ≡ after_peek pfn (history_in self.old) }
         ensures size { length self.new.read.items ≡ length self.old.read.items }
     {
         self.twice = self.twice || is_marked(&self.read, pfn);
@@ -119,7 +118,7 @@ impl Notes {
 
     /// A call was made that peeks nothing and takes no log.
     pub(crate) fn note_call(&mut self)
-        ensures history { history_of self.new ≡ after_call (history_of self.old) }
+        ensures history { history_in self.new ≡ after_call (history_in self.old) }
         ensures size { length self.new.read.items ≡ length self.old.read.items }
     {
         self.calls = self.calls.saturating_add(1);
@@ -128,8 +127,8 @@ impl Notes {
     /// A log was taken.
     pub(crate) fn note_log(&mut self, log: &[u64], paused: bool)
         requires size { length log.now ≡ length self.old.read.items }
-        requires few { length (history_of self.old).taken < 8 }
-        ensures history { history_of self.new ≡ after_log paused (pfns_of_words log.now) (history_of self.old) }
+        requires few { length (history_in self.old).taken < 8 }
+        ensures history { history_in self.new ≡ after_log paused (pfns_of_words log.now) (history_in self.old) }
         ensures size { length self.new.read.items ≡ length self.old.read.items }
     {
         self.logs[self.taken].keep(&self.read, log, self.twice, self.calls);

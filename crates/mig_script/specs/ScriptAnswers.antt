@@ -4,11 +4,11 @@ use Rattle.mig_bytes.specs.Faults.{Rose}
 use Rattle.mig_script.specs.declared.script.Script.{Script}
 use Rattle.mig_script.specs.declared.script.ScriptAnswer.{ScriptAnswer}
 use Rattle.mig_script.specs.declared.script.ScriptAnswer.TheVariants.{BadLine, TooLong, ReadFault, Memory}
-use Rattle.mig_script.specs.Scripts.{lines_of, IsScript, IsBadLine, most_script_bytes}
+use Rattle.mig_script.specs.Scripts.{IsScript, IsBadLine, most_script_bytes}
 
 -- what is answered of an input, and what of it is left
 abbrev pub AnswersInput : List ℕ → Option (List ℕ) → Result Script ScriptAnswer → Type 0
-AnswersInput input left (Ok script) = (left ≡ Some []) × (length input ≤ most_script_bytes) × IsScript input (lines_of script)
+AnswersInput input left (Ok script) = (left ≡ Some []) × (length input ≤ most_script_bytes) × IsScript input script
 AnswersInput input left (Err (BadLine number)) = (left ≡ Some []) × (length input ≤ most_script_bytes) × IsBadLine input number
 AnswersInput input left (Err TooLong) = (most_script_bytes < length input) × (left ≡ Some (drop (most_script_bytes + 1) input))
 AnswersInput input left (Err ReadFault) = ⊤

@@ -1,7 +1,8 @@
 -- The lines of a script: what each says, and how it is written. Numbers are written in decimal digits without leading zeros,
 -- bytes in hexadecimal digits of either case, and one space stands between two fields.
-use Rattle.std.specs.Prelude.{◌≡◌, ℕ, ◌<◌, ◌≤◌, ◌^◌, ◌==◌, List, [], ◌∷◌, length, codes, decimal, Ok}
+use Rattle.std.specs.Prelude.{◌≡◌, ℕ, zero, suc, ◌<◌, ◌≤◌, ◌^◌, ◌==◌, List, [], ◌∷◌, length, codes, decimal, Ok, refl}
 use Rattle.std.specs.List.{slice_split}
+use Rattle.std.specs.Coded.{Coded, code_by, coded_ℕ, coded_list}
 use Rattle.hex.specs.Hex.{decode_of}
 use Rattle.mig_script.specs.declared.script.Line.{Line}
 use Rattle.mig_script.specs.declared.script.Line.TheVariants as lines
@@ -71,3 +72,35 @@ pub record IsScriptLine (text : List ℕ) (line : LineOf) : Type 0 where
   pub arguments : List (List ℕ)
   pub fields : fields_in text ≡ letter_of line ∷ arguments
   pub are : AreArguments arguments line
+
+-- ---- how a line is stored: the number of its kind, and then its numbers
+
+abbrev pub line_numbers : LineOf → List ℕ
+line_numbers (Write pfn at bytes) = 0 ∷ pfn ∷ at ∷ bytes
+line_numbers (Retype pfn type) = 1 ∷ pfn ∷ type ∷ []
+line_numbers (Add pfn mfn) = 2 ∷ pfn ∷ mfn ∷ []
+line_numbers (Remove pfn) = 3 ∷ pfn ∷ []
+line_numbers (Exchange pfn mfn) = 4 ∷ pfn ∷ mfn ∷ []
+line_numbers (Put code first second bytes) = 5 ∷ code ∷ first ∷ second ∷ bytes
+line_numbers Dot = []
+
+abbrev pub line_of_numbers : List ℕ → LineOf
+line_of_numbers (zero ∷ pfn ∷ at ∷ bytes) = Write pfn at bytes
+line_of_numbers (suc zero ∷ pfn ∷ type ∷ _) = Retype pfn type
+line_of_numbers (suc (suc zero) ∷ pfn ∷ mfn ∷ _) = Add pfn mfn
+line_of_numbers (suc (suc (suc zero)) ∷ pfn ∷ _) = Remove pfn
+line_of_numbers (suc (suc (suc (suc zero))) ∷ pfn ∷ mfn ∷ _) = Exchange pfn mfn
+line_of_numbers (suc (suc (suc (suc (suc zero)))) ∷ code ∷ first ∷ second ∷ bytes) = Put code first second bytes
+line_of_numbers _ = Dot
+
+pub line_again : (line : LineOf) → line_of_numbers (line_numbers line) ≡ line
+line_again (Write pfn at bytes) = refl
+line_again (Retype pfn type) = refl
+line_again (Add pfn mfn) = refl
+line_again (Remove pfn) = refl
+line_again (Exchange pfn mfn) = refl
+line_again (Put code first second bytes) = refl
+line_again Dot = refl
+
+abbrev pub line_code : Coded LineOf
+line_code = code_by (List ℕ) (coded_list coded_ℕ) line_numbers line_of_numbers line_again

@@ -1,12 +1,7 @@
 -- A script: lines ended by LF, of which the last may lack it.
-use Rattle.std.specs.Prelude.{◌≡◌, ◌≢◌, ◌⊎◌, ◌<◌, ℕ, ◌+◌, List, [], ◌∷◌, ◌++◌, length, map}
+use Rattle.std.specs.Prelude.{◌≡◌, ◌≢◌, ◌⊎◌, ◌<◌, ℕ, ◌+◌, List, [], ◌∷◌, ◌++◌, length}
 use Rattle.std.specs.List.{All}
-use Rattle.mig_script.specs.declared.script.Script.{Script}
-use Rattle.mig_script.specs.ScriptLines.{LineOf, IsScriptLine, line_said}
-
--- the lines of a script that was read
-abbrev pub lines_of : Script → List LineOf
-lines_of script = map line_said script.lines.items
+use Rattle.mig_script.specs.ScriptLines.{LineOf, IsScriptLine}
 
 -- Bytes begin with this text, and the others follow it: the text has no LF, and one ends it; or it is all there is, and it
 -- isn't empty.

@@ -5,12 +5,13 @@ ghost use Rattle.mig_bytes.specs.Bytes.{TakesBytes, TakesFew};
 ghost use Rattle.mig_bytes.specs.Faults.{Rose};
 ghost use Rattle.mig_script.specs.ScriptAnswers.{AnswersInput, ReadsScript, RisesOnScriptFault, IsJudgedScript};
 ghost use Rattle.mig_script.specs.ScriptLines.{line_said};
-ghost use Rattle.mig_script.specs.Scripts.{lines_of, most_script_bytes, BeginsWithText};
+ghost use Rattle.mig_script.specs.Scripts.{most_script_bytes, BeginsWithText};
 ghost use Rattle.mig_script.specs.declared.script.ScriptAnswer.TheVariants as answers;
 
 use crate::line::line_in;
 use mig_bytes::{Got, Memory, Source, TakeFault, take_vec};
 use std::alloc::Global;
+use std::marker::Model;
 
 /// The most bytes that a script may have.
 const MOST_BYTES: usize = 16777216;
@@ -58,6 +59,19 @@ pub enum Line {
 #[derive(Drop)]
 pub struct Script {
     lines: Vec<Line>,
+}
+
+/// Its lines, and what each says.
+impl Model for Script {
+    ghost use Rattle.std.specs.Prelude.{List, map};
+    ghost use Rattle.std.specs.Coded.{coded_list};
+    ghost use Rattle.mig_script.specs.ScriptLines.{LineOf, line_code, line_said};
+
+    ghost Value = { List LineOf };
+
+    ghost coded = { coded_list line_code };
+
+    ghost view = { λ s. map line_said s.lines.items };
 }
 
 /// Why a script isn't read.
@@ -138,14 +152,14 @@ impl Script {
 
     /// How many lines it has.
     pub fn len(&self) -> usize
-        ensures { result ≡ length (lines_of self.now) }
+        ensures { result ≡ length self.now }
     {
         self.lines.len()
     }
 
     /// The line with this number, counted from 0.
     pub fn line(&self, number: usize) -> Option<&Line>
-        ensures { option_map (λ line. line_said line.now) result ≡ slice_get (lines_of self.now) number }
+        ensures { option_map (λ line. line_said line.now) result ≡ slice_get self.now number }
     {
         self.lines.get(number)
     }

@@ -1,7 +1,6 @@
-use Rattle.std.proofs.Common.{rules, arith, ◌≡◌, ◌≤◌, ◌+◌, ◌/◌, length, refl, sym, ap, ◌∙◌}
+use Rattle.std.proofs.Common.{rules, ◌≡◌, ◌≤◌, ◌+◌, ◌/◌, length, refl, sym, ap, ◌∙◌}
 use Rattle.mig_guest.specs.Hosts.{HostOf}
 use Rattle.mig_machine_api.specs.Pfns.{Pfns}
-use Rattle.mig_script.specs.Scripts.{lines_of}
 use Rattle.mig_lines.specs.HostLines.{room_for}
 use Rattle.mig_machine.proofs.machine.ScriptMachine.new.Goals as goal
 
@@ -9,14 +8,12 @@ pub invariant_of-result : goal.invariant_of-result
 invariant_of-result c =
     let words : length c.in_ok-log.log.items ≡ (c.args.host.host.width + 63) / 64 = search rules in
     let noted : length c.in_ok-notes.notes.read.items ≡ (c.args.host.host.width + 63) / 64 = search rules in
-    let ready : room_for (lines_of c.args.script) ≤ c.reserve.new.self.spare = search rules in
+    let ready : room_for c.args.script ≤ c.reserve.new.self.spare = search rules in
     record {
       hvm = ap (λ (h : HostOf). h.kind) c.reserve.ensures.host ∙ c.requires.hvm;
       log_size = words ∙ ap (λ (h : HostOf). (h.width + 63) / 64) (sym c.reserve.ensures.host);
-      log_below = λ pfn high. ap (λ (s : Pfns). s pfn) c.in_ok-log.ensures.empty;
       notes_size = noted ∙ ap (λ (h : HostOf). (h.width + 63) / 64) (sym c.reserve.ensures.host);
+      log_below = λ pfn high. ap (λ (s : Pfns). s pfn) c.in_ok-log.ensures.empty;
       left = refl;
       room = ready;
-      running = λ is. refl;
-      counted = omega arith;
     }

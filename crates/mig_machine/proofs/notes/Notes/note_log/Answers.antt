@@ -1,8 +1,7 @@
 use Rattle.std.proofs.Common.{rules, arith, ◌≡◌, ◌+◌, ◌<◌, ℕ, List, ◌∷◌, length, ap, ◌∙◌, cond, slice_set}
 use Rattle.mig_machine_api.specs.Pfns.{pfns_of_words}
 use Rattle.mig_machine_api.specs.History.{and_call}
-use Rattle.mig_machine.specs.Noted.{took_before}
-use Rattle.mig_machine.proofs.LogsKept.{logged, nothing, how_many}
+use Rattle.mig_machine.proofs.LogsKept.{took_before, logged, nothing, how_many}
 use Rattle.mig_machine.proofs.notes.Notes.note_log.Goals as goal
 
 pub returns-then-not-paused-clause-history : goal.returns-then-not-paused-clause-history
