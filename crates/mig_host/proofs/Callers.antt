@@ -1,34 +1,8 @@
 -- What the answers of a host tell a caller who changes it: that it has what the change asks for.
-use Rattle.mig_host.proofs.Common.{◌≡◌, ℕ, ◌<◌, ◌^◌, Bool, true, false, length, List, Option, Some, None, IsSome, is_some, refl, sym, ap, ◌∙◌, arith, ◌==◌, eq-eqb, list_any, option_map, option_and_then, nat_cmp, nat_cmp_total, nat_cmp-IsAntisymmetric, len-entries, HostOf, HostFrame, PartKey, PageType}
+use Rattle.mig_host.proofs.Common.{◌≡◌, ℕ, ◌<◌, ◌^◌, true, false, length, List, Some, sym, ap, ◌∙◌, arith, ◌==◌, eq-eqb, list_any, option_map, nat_cmp_total, nat_cmp-IsAntisymmetric, len-entries, HostOf, HostFrame, PartKey}
 use Rattle.std.specs.FinMap as maps
 use Rattle.mig_host.specs.HostView.{has_machine}
-use Rattle.mig_host.specs.Changes.{raw_page_at}
 use Rattle.mig_host.proofs.InOrder.{some_entry}
-
-types_of : (o : Option HostFrame) → is_some (option_map (λ (f : HostFrame). f.type) o) ≡ is_some o
-types_of None = refl
-types_of (Some f) = refl
-
-none_of : {X : Type 0} (o : Option X) → is_some o ≡ false → o ≡ None
-none_of None e = refl
-none_of (Some x) e = let wrong : true ≡ false = e in cc
-
-pages_of : (o : Option HostFrame) → is_some (option_and_then (λ (f : HostFrame). f.page) o) ≡ true → is_some o ≡ true
-pages_of None e = e
-pages_of (Some f) e = refl
-
-module _ (h : HostOf) (pfn : ℕ) where
-  -- the answer of `frame`
-  module _ (r : Option PageType) (is : r ≡ option_map (λ (f : HostFrame). f.type) (maps.get h.frames pfn)) where
-    pub there_told : is_some r ≡ true → is_some (maps.get h.frames pfn) ≡ true
-    there_told some = sym (ap is_some is ∙ types_of (maps.get h.frames pfn)) ∙ some
-
-    pub absent_told : is_some r ≡ false → maps.get h.frames pfn ≡ None
-    absent_told none = none_of (maps.get h.frames pfn) (sym (ap is_some is ∙ types_of (maps.get h.frames pfn)) ∙ none)
-
-  -- a frame with a page is there
-  pub paged_there : is_some (raw_page_at h.frames pfn) ≡ true → is_some (maps.get h.frames pfn) ≡ true
-  paged_there some = pages_of (maps.get h.frames pfn) some
 
 -- the answer of `uses_machine`
 pub unused_told : (h : HostOf) (machine : ℕ) → has_machine h machine ≡ false → (other : ℕ) (frame : HostFrame) → maps.get h.frames other ≡ Some frame → frame.machine ≡ machine → ⊥

@@ -1,18 +1,11 @@
 -- Maps from numbers to numbers, and a map with a function that is its inverse.
-use Rattle.mig_host.proofs.Common.{subst, ◌≢◌, ◌≡◌, ℕ, ◌<◌, IfSome, true, false, Option, Some, None, Result, Ok, Err, refl, sym, ap, ◌∙◌, inl, inr, IsOk, nat_cmp, nat_cmp_total, FinMap, nat_cmp-IsAntisymmetric, get-empty, cases_eq, none-some, same_Some, MachineMap, AreInverse}
+use Rattle.mig_host.proofs.Common.{subst, ◌≢◌, ◌≡◌, ℕ, ◌<◌, IfSome, Option, Some, None, refl, sym, ap, ◌∙◌, inl, inr, nat_cmp, nat_cmp_total, FinMap, nat_cmp-IsAntisymmetric, get-empty, cases_eq, none-some, same_Some, MachineMap, AreInverse}
 use Rattle.mig_host.specs.HostView.{pfn_of_machine_in, AreBelowLimit}
-use Rattle.std.specs.Result.{OnOk}
 use Rattle.std.specs.FinMap as maps
 use Rattle.mig_guest.proofs.Found.{insert_holds, remove_holds}
 use Rattle.mig_guest.specs.Hosts.{machine_limit}
 use Rattle.mig_bytes.proofs.NumberMaps.{inserted, inserted_other, removed, removed_other, is_inserted, is_removed}
 use Rattle.mig_host.proofs.Machines.{only_pfn, no_pfn}
-
--- ---- what a call did, where it is known whether it failed
-
-pub on_taken : {T E P : Type 0} (r : Result T E) → IsOk r → OnOk r P → P
-on_taken (Ok x) e h = h
-on_taken (Err y) e h = let no : false ≡ true = e in cc
 
 -- what isn't there, taken
 pub taken_none : {X : Type 0} (m : FinMap nat_cmp X) (k : ℕ) → maps.get m k ≡ None → maps.remove m k ≡ m

@@ -6,7 +6,7 @@ use Rattle.mig_guest.specs.Hosts.{HostOf}
 use Rattle.mig_machine_api.specs.Pfns.{Pfns}
 use Rattle.mig_script.specs.ScriptLines.{LineOf}
 use Rattle.mig_script.specs.ScriptLines.LineOf.{Write, Retype, Add, Remove, Exchange, Put, Dot}
-use Rattle.mig_lines.specs.Courses.{Course, IsLaterCourse, GuestRan}
+use Rattle.mig_lines.specs.Courses.{Course, IsLaterCourse}
 use Rattle.mig_lines.specs.Groups.{ends_group, first_group, first_length, lines_up_to, ran, ran_between}
 use Rattle.mig_lines.specs.HostLines.{after, after_line, logged_after}
 use Rattle.mig_lines.proofs.LinesLogged.{IsTame, LinesRan, lines_ran}
@@ -193,6 +193,3 @@ from_start a b none least later = later.host ∙ ap (λ (n : ℕ). after a.host 
 pub group_ran : (g h : HostOf) (lines : List LineOf) (log now : Pfns) → IsTame g → h ≡ after g lines → now ≡ logged_after g lines log → LinesRan g h log now
 group_ran g h lines log now t is logged =
     subst (λ (s : Pfns). LinesRan g h log s) (sym logged) (subst (λ (k : HostOf). LinesRan g k log (logged_after g lines log)) (sym is) (lines_ran g lines log t))
-
-pub guest_ran : (g h : HostOf) (log now : Pfns) → LinesRan g h log now → GuestRan g h log now
-guest_ran g h log now r = record { shape = r.shape; grown = r.grown; quiet = r.quiet }

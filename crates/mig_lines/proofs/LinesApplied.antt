@@ -1,5 +1,5 @@
 -- What a line does where it applies, and where it doesn't; and no table of an HVM host names a machine frame.
-use Rattle.std.proofs.Common.{◌≡◌, ℕ, ◌<◌, Bool, true, false, cond, not, List, length, Option, Some, None, is_some, refl, sym, ap, subst}
+use Rattle.std.proofs.Common.{◌≡◌, ℕ, ◌<◌, Bool, true, false, not, List, length, Option, Some, None, is_some, refl, sym, ap, subst}
 use Rattle.std.specs.Prelude.{◌==◌, ◌&&◌}
 use Rattle.std.specs.Option.{option_map}
 use Rattle.std.specs.Cmp.{nat_cmp_total}
@@ -12,7 +12,6 @@ use Rattle.mig_pagetypes.specs.Limits.{most_frames}
 use Rattle.mig_host.proofs.InOrder.{no_entry, none_passes}
 use Rattle.mig_host.specs.HostView.{has_machine}
 use Rattle.mig_machine_api.specs.Footprints.{table_in}
-use Rattle.mig_script.specs.ScriptLines.{LineOf}
 use Rattle.mig_script.specs.ScriptLines.LineOf.{Add, Exchange}
 use Rattle.mig_lines.specs.HostLines.{applies, table_names, names_machine, may_come, is_unnamed}
 use Rattle.mig_lines.proofs.LinesLogged.{IsTame, no_level, both_true}

@@ -1,9 +1,6 @@
 -- How far the guest of a machine has run a script, and what it is to be later.
-use Rattle.std.specs.Prelude.{◌≡◌, ℕ, ◌≤◌, false, List}
+use Rattle.std.specs.Prelude.{◌≡◌, ℕ, ◌≤◌, List}
 use Rattle.mig_guest.specs.Hosts.{HostOf}
-use Rattle.mig_machine_api.specs.Footprints.{footprint}
-use Rattle.mig_machine_api.specs.MachineStates.{IsSameShape}
-use Rattle.mig_machine_api.specs.Pfns.{Pfns}
 use Rattle.mig_script.specs.ScriptLines.{LineOf}
 use Rattle.mig_lines.specs.Groups.{ran_between}
 use Rattle.mig_lines.specs.HostLines.{after}
@@ -23,9 +20,3 @@ pub record IsLaterCourse (a b : Course) : Type 0 where
   pub runs : a.runs ≤ b.runs
   -- the host is what the lines run between make of the earlier one
   pub host : b.host ≡ after a.host (ran_between a.lines a.runs b.runs)
-
--- a guest may have run from g to h, while the log became `now`
-pub record GuestRan (g h : HostOf) (log now : Pfns) : Type 0 where
-  pub shape : IsSameShape g h
-  pub grown : (p : ℕ) → now p ≡ false → log p ≡ false
-  pub quiet : (p : ℕ) → now p ≡ false → footprint h.frames p ≡ footprint g.frames p
