@@ -182,13 +182,14 @@ def machine_records(guest):
     return (params if pairs else []) + [record(CONTEXT, guest['context'])]
 
 
-def canonical_image(guest):
+def canonical_image(guest, pages=None):
+    """The canonical image of a guest; or, where there are records of pages, the image with these in place of its own."""
     is_pv = guest['kind'] == PV
     out = [MARKER, b'XENF', struct.pack('>IHHI', 3, 0, 0, 0), struct.pack('<IHHII', guest['kind'], 12, 0, 0, 1)]
     out += [pv.info_record()] if is_pv else []
     out += policy_records(guest) + [record(STATIC_DATA_END)]
     out += [pv.p2m_record(guest)] if is_pv else []
-    out += page_records(guest)
+    out += page_records(guest) if pages is None else pages
     out += [record(TSC_INFO, guest['tsc'], bytes(4))] if 'tsc' in guest else []
     out += (pv.machine_records if is_pv else machine_records)(guest)
     return b''.join(out + [record(END)])

@@ -1,0 +1,112 @@
+"""The part of the second reader that reads image files, and brings the host in one to the guest that it is seen as.
+
+A host has a kind, a width, frames (type, machine frame and page by frame number) and parts (bytes by code and two keys).
+Of PV hosts the image alone is judged here.
+"""
+import struct
+
+import libxl
+import reader
+from form import *
+
+NAME = b'XGIMAGE1'
+MOST_WIDTH, MACHINE_LIMIT, MOST_POLICY = 1 << 28, 1 << 40, 65536
+XALLOC, PAIRS, EMULATOR = 14, 258, 259
+
+# code: the kinds of guest that have it, whether these are its keys, and whether this is a length of it in a host so wide
+PARTS = {
+    P2M_FRAMES: ((PV,), lambda one, two: one == two == 0, lambda n, width: n == 8 * ((width - 1) // 512 + 1)),
+    BASIC: ((PV,), lambda one, two: one < 4096 and two == 0, lambda n, _: n == 5168),
+    EXTENDED: ((PV,), lambda one, two: one < 4096 and two == 0, lambda n, _: 1 <= n <= MOST_BODY - 8),
+    XSAVE: ((PV,), lambda one, two: one < 4096 and two == 0, lambda n, _: 1 <= n <= MOST_BODY - 8),
+    SHARED_INFO: ((PV,), lambda one, two: one == two == 0, lambda n, _: n == PAGE),
+    TSC_INFO: ((PV, HVM), lambda one, two: one == two == 0, lambda n, _: n == 20),
+    CONTEXT: ((HVM,), lambda one, two: one == two == 0, lambda n, _: n <= MOST_BODY),
+    PARAMS: ((HVM,), lambda one, two: one < 4096 and two == 0, lambda n, _: n == 8),
+    VCPU_MSRS: ((PV,), lambda one, two: one < 4096 and two == 0, lambda n, _: n % 16 == 0 and 16 <= n <= MOST_BODY - 16),
+    CPUID_POLICY: ((PV, HVM), lambda one, two: True, lambda n, _: n == 16),
+    MSR_POLICY: ((PV, HVM), lambda one, two: two == 0, lambda n, _: n == 12),
+    PAIRS: ((HVM,), lambda one, two: one < 3 and two < 256, lambda n, _: 1 <= n <= libxl.MOST_PAIRS),
+    EMULATOR: ((HVM,), lambda one, two: one < 3 and two < 256, lambda n, _: n <= MOST_BODY - 8),
+}
+
+
+def types_of(kind):
+    """The numbers of the page types that frames of such a host may have."""
+    return (NOTAB, BROKEN, XALLOC) if kind == HVM else (0, 1, 2, 3, 4, 9, 10, 11, 12, BROKEN, XALLOC)
+
+
+def read_head(source):
+    name, kind, zero, width, count = struct.unpack('<8sIIQQ', source.take(32))
+    refuse_if(name != NAME, '2 NotImage')
+    refuse_if(kind not in (PV, HVM), '3 BadKind %d' % kind)
+    refuse_if(zero, '4 Reserved')
+    refuse_if(width > MOST_WIDTH or kind == PV and not width, '5 Width %d' % width)
+    refuse_if(count > MOST_FRAMES or count > width, '6 FrameCount %d' % count)
+    return {'kind': kind, 'width': width, 'frames': {}, 'parts': {}}, count
+
+
+def read_frame(source, host, machine):
+    word, zero, mfn = struct.unpack('<IIQ', source.take(16))
+    kind, pfn = word >> 28, word % (1 << 28)
+    refuse_if(zero, '4 Reserved')
+    refuse_if(kind not in types_of(host['kind']), '7 BadPageType %d' % kind)
+    refuse_if(host['frames'] and pfn <= next(reversed(host['frames'])), '8 FrameOrder %d' % pfn)
+    refuse_if(pfn >= host['width'], '9 FrameOutside %d' % pfn)
+    refuse_if(not 0 < mfn < MACHINE_LIMIT, '10 MachineFrame %d' % mfn)
+    refuse_if(mfn in machine, '11 MachineTwice %d' % mfn)
+    machine.add(mfn)
+    host['frames'][pfn] = kind, mfn, source.take(PAGE) if has_page(kind) else b''
+
+
+def are_canonical_pairs(text):
+    try:
+        return libxl.spelled(libxl.read_pairs(text)) == text
+    except Refused:
+        return False
+
+
+def read_part(source, host):
+    code, one, two, length = struct.unpack('<IIII', source.take(16))
+    kinds, keys, allows = PARTS.get(code, ((), None, None))
+    refuse_if(host['kind'] not in kinds or not keys(one, two), '12 PartKey %d' % code)
+    refuse_if(host['parts'] and (code, one, two) <= next(reversed(host['parts'])), '13 PartOrder %d' % code)
+    many = sum(key[0] == code for key in host['parts']) >= MOST_POLICY
+    refuse_if(many and code in (CPUID_POLICY, MSR_POLICY), '14 PartMany %d' % code)
+    refuse_if(not allows(length, host['width']), '15 PartLength %d' % length)
+    data = source.take(length)
+    refuse_if(code == PAIRS and not are_canonical_pairs(data), '16 PartBytes')
+    refuse_if(any(source.take(-length % 8)), '17 PartPadding')
+    host['parts'][code, one, two] = data
+
+
+def read_host(source):
+    """The host in the image that the input begins with."""
+    source.place = 'Head'
+    host, count = read_head(source)
+    machine = set()
+    for number in range(count):
+        source.place = 'Frame %d' % number
+        read_frame(source, host, machine)
+    source.place = 'Parts'
+    count, = struct.unpack('<Q', source.take(8))
+    for number in range(count):
+        source.place = 'Part %d' % number
+        read_part(source, host)
+    return host
+
+
+def guest_of(host):
+    """The guest that an HVM host is seen as; a host that isn't sound is refused."""
+    parts = host['parts']
+    refuse_if((CONTEXT, 0, 0) not in parts, '1 Missing 9')
+    context = parts[CONTEXT, 0, 0]
+    guest = reader.empty_guest(HVM)
+    guest['context'] = context[:reader.end_of_chain(context, '7 BadContext')] + bytes(8)
+    guest['frames'] = {pfn: (kind, page) for pfn, (kind, _, page) in host['frames'].items()}
+    guest['params'] = {key[1]: struct.unpack('<Q', data)[0] for key, data in parts.items() if key[0] == PARAMS}
+    guest['cpuid'] = {key[1:]: data for key, data in parts.items() if key[0] == CPUID_POLICY}
+    guest['msrs'] = {key[1]: data for key, data in parts.items() if key[0] == MSR_POLICY}
+    if (TSC_INFO, 0, 0) in parts:
+        guest['tsc'] = parts[TSC_INFO, 0, 0]
+    return guest

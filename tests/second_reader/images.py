@@ -1,0 +1,87 @@
+"""Images of HVM hosts that are made at random, a few of them of other hosts or faulty, with scripts behind them."""
+import struct
+
+import streams
+
+LINES = 'wwwwttarxxp..'
+
+
+def frame(dice, pfn, mfn):
+    kind, zero = dice.choice((0, 0, 0, 0, 13, 14)), 0
+    if dice.random() < 0.003:
+        kind, zero, mfn = dice.choice(((1, 0, mfn), (4, 0, mfn), (5, 0, mfn), (15, 0, mfn), (0, 7, mfn), (0, 0, 0), (0, 0, 1 << 40)))
+    head = struct.pack('<IIQ', kind << 28 | pfn, zero, mfn)
+    return head + (dice.randbytes(8) * 512 if kind < 13 else b'')
+
+
+def part(code, one, two, data):
+    return struct.pack('<IIII', code, one, two, len(data)) + data + bytes(-len(data) % 8)
+
+
+def parts(dice):
+    found = {(8, 0, 0): dice.randbytes(20)} if dice.random() < 0.3 else {}
+    if dice.random() < 0.95:
+        found[9, 0, 0] = streams.chain(dice)
+    for _ in range(dice.randrange(3)):
+        found[10, streams.rarely(dice, dice.choice((0, 1, 9, 4095)), 4096), 0] = streams.rarely(dice, dice.randbytes(8), bytes(7))
+        found[17, dice.randrange(3), dice.randrange(3)] = dice.randbytes(16)
+        found[18, dice.randrange(3), 0] = dice.randbytes(12)
+    if dice.random() < 0.03:
+        found[259, dice.randrange(4), 0] = dice.randbytes(5)
+    if dice.random() < 0.03:
+        found[258, 2, 0] = dice.choice((b'a\0b\0', b'b\0c\0a\0d\0', b'a'))
+    return found
+
+
+def image(dice):
+    """The pieces of an image, and its width and parts."""
+    width = dice.choice((0, 1, 3, 9, 9, 60, 60, 130))
+    pfns = sorted(dice.sample(range(width), dice.choice((width, width // 2, width // 2))))
+    mfns, found = dice.sample(range(1, 400), len(pfns)), parts(dice)
+    kind, zero = streams.rarely(dice, 2, dice.choice((1, 3))), streams.rarely(dice, 0, 5)
+    head = b'XGIMAGE1' + struct.pack('<IIQQ', kind, zero, streams.rarely(dice, width, 1 << 28 | 1), len(pfns))
+    frames = [frame(dice, pfn, mfn) for pfn, mfn in zip(pfns, mfns)]
+    last = [part(*key, data) for key, data in sorted(found.items())]
+    return [head, *frames, struct.pack('<Q', len(last)), *last], width, found
+
+
+def line(dice, width, found):
+    letter, pfn = dice.choice(LINES), dice.randrange(width + 1)
+    if letter == 'w':
+        data = dice.randbytes(dice.choice((1, 2, 8)))
+        return 'w %d %d %s' % (pfn, dice.choice((0, 7, 4095, 4088)), dice.choice((data.hex(), data.hex().upper())))
+    if letter == 't':
+        return 't %d %d' % (pfn, dice.choice((0, 13, 14, 1, 15, 99)))
+    if letter in 'ax':
+        return '%s %d %d' % (letter, pfn, dice.choice((dice.randrange(400), dice.randrange(400), 1 << 40, 400)))
+    if letter == 'r':
+        return 'r %d' % pfn
+    if letter == 'p' and found:
+        key = dice.choice(list(found))
+        data = streams.chain(dice) if key[0] == 9 and dice.random() < 0.5 else dice.randbytes(len(found[key]))
+        return 'p %d %d %d %s' % (*key, data.hex() or '00')
+    return '.'
+
+
+def bad_line(dice):
+    return dice.choice(('', ' .', '. ', 'w 1', 'w 01 0 ff', 'w 1 0 f', 'w 1 0 ', 'w 1 0 gg', 'w  1 0 ff', 't 1 18446744073709551616',
+                        'r -1', 'r 1 2', 'W 1 0 ff', 'r 1\r', 'x 1\t2', 'p 9 0 00', '..', 'r +1'))
+
+
+def script(dice, width, found):
+    lines = []
+    for _ in range(dice.choice((0, 1, 5, 30, 200))):
+        lines += [line(dice, width, found)] * dice.choice((1, 1, 1, 3)) if dice.random() < 0.9 else ['.'] * dice.randrange(60)
+    if dice.random() < 0.8:                          # a burst of writes, so that there are further rounds
+        first = [dice.choice(('w %d 0 %02x', 'w %d 4000 %02x')) % (pfn, dice.randrange(256)) for pfn in range(width)]
+        lines += (['.'] * dice.randrange(width + 2) + first) * dice.randrange(4)
+    if dice.random() < 0.1:
+        lines.insert(dice.randrange(len(lines) + 1), bad_line(dice))
+    text = '\n'.join(lines).encode()
+    return text + b'\n' if text and dice.random() < 0.8 else text
+
+
+def image_and_script(dice):
+    """The pieces of an image, and a script."""
+    pieces, width, found = image(dice)
+    return pieces, script(dice, width, found)
