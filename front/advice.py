@@ -6,6 +6,8 @@ COPY = 'copy the file again and compare its size with the origin'
 DAMAGED = 'copy the file again, else save the guest again'
 PAUSED = 'save the guest again, while it is paused'
 NOT_TAKEN = 'such guests are not taken'
+AGAIN = 'write the image again, by `mig restore`'
+MEND = 'mend the script, or the image, so that the host is sound when it is paused'
 
 
 Advice = namedtuple('Advice', 'name means do')
@@ -76,6 +78,49 @@ LEGACY = {
 }
 
 
-def of_refusal(legacy, number):
-    """The advice for a cause of this number, of a legacy stream or another; None where there is none."""
-    return (LEGACY if legacy else STREAM).get(number)
+IMAGE = {
+    0: Advice('NotBuilt', 'a host that is not saved yet: 1, of a PV guest; 2, with the state of a device model',
+              'take the image of another host'),
+    1: Advice('Truncated', 'the file ends within this part', COPY),
+    2: Advice('NotImage', 'no guest image begins here', 'look whether the right file was named: `mig restore` writes guest images'),
+    3: Advice('BadKind', 'neither a PV nor an HVM guest', AGAIN),
+    4: Advice('Reserved', 'a field that has to be 0 is not', AGAIN),
+    5: Advice('Width', 'a width that no host has', 'guests above 1 TiB are not taken; else ' + AGAIN),
+    6: Advice('FrameCount', 'more frames than a host may have, or than its width', AGAIN),
+    7: Advice('BadPageType', 'a page type that no frame of this kind of guest has', AGAIN),
+    8: Advice('FrameOrder', 'the frame numbers do not ascend', AGAIN),
+    9: Advice('FrameOutside', 'a frame number that is not below the width', AGAIN),
+    10: Advice('MachineFrame', 'a machine frame that does not exist', AGAIN),
+    11: Advice('MachineTwice', 'two frames have one machine frame', AGAIN),
+    12: Advice('PartKey', 'a part that this kind of guest does not have', AGAIN),
+    13: Advice('PartOrder', 'the parts do not ascend', AGAIN),
+    14: Advice('PartMany', 'more than 65536 entries of a policy', NOT_TAKEN),
+    15: Advice('PartLength', 'a length that this part cannot have', AGAIN),
+    16: Advice('PartBytes', "the device model's store is not in its canonical form", AGAIN),
+    17: Advice('PartPadding', 'padding that is not zero', AGAIN),
+}
+
+SCRIPT = {
+    1: Advice('BadLine', 'no line that a script may have', 'docs/operators.md, "A live save, tried on a file", tells all lines'),
+    2: Advice('TooLong', 'the script has more than 16777216 bytes', 'write a shorter one'),
+}
+
+PAUSE = {
+    1: Advice('Missing', 'a host without a part that each guest has: 9, the context of an HVM guest', AGAIN),
+    2: Advice('P2mFrame', 'a P2M frame is missing or of another type', MEND),
+    3: Advice('Superpage', 'a page table with a large page in it', MEND),
+    4: Advice('NoFrame', 'a page table that names a machine frame which no frame has', MEND),
+    5: Advice('GdtEnts', 'a vCPU whose GDT is too long', MEND),
+    6: Advice('VcpuFrame', 'a vCPU names a frame that is missing or of another type', MEND),
+    7: Advice('BadContext', 'the context of the guest is damaged', MEND),
+}
+
+# The parts of a live save's input, by the first word of a place; all others are those of its image.
+OF_SAVE = {'Script': SCRIPT, 'Pause': PAUSE}
+
+
+def of_refusal(command, place, number):
+    """The advice for a cause of this number, at this place of what a command was given; None where there is none."""
+    if command == 'save':
+        return OF_SAVE.get(place.split()[0], IMAGE).get(number)
+    return (LEGACY if command == 'convert' else STREAM).get(number)

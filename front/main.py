@@ -11,7 +11,8 @@ from front.text import tell
 STATUSES = """\
 exit status:
   0    each file was accepted; `compare`: the same guest state
-  1    a file was refused, is no save, or isn't judged; `compare`: another guest state
+  1    a file was refused, is no save, or isn't judged; `compare`: another guest state; `save`: the image, the script or
+       the paused host was refused
   2    the words make no command, OUT is there already, or it is a terminal
   3    a file couldn't be read
   4    OUT couldn't be written
@@ -24,6 +25,22 @@ that was flipped inside a page can't be seen by any reader of this format."""
 INPUT = """\
 IN is a file or `-`: a file of `xl save` or of libvirt's libxl driver, a libxl stream, the image of a libxc stream, or
 a stream of Xen 4.5 or older, also packed by gzip, zstd or xz."""
+
+SCRIPT = """\
+IMAGE is a guest image, as `mig restore` writes it, of an HVM guest without the state of a device model; it may be packed
+by gzip, zstd or xz. SCRIPT has a line for each thing that the guest does meanwhile:
+  w PFN OFFSET HEX         writes bytes in a frame's page
+  t PFN TYPE               gives a frame another type: 0 NOTAB, 13 BROKEN, 14 XALLOC
+  a PFN MFN                adds a frame with a zero page and this machine frame
+  r PFN                    removes a frame
+  x PFN MFN                gives a frame another machine frame
+  p CODE KEY1 KEY2 HEX     replaces a part of the host by one of the same length
+  .                        ends a group
+Each call that the saver makes of the host first runs the next group: the first call what stands before the first dot.
+What the saver has not reached by its pause never runs. A line that does not apply does nothing.
+
+One of IMAGE and SCRIPT may be `-`, standard input. OUT is written beside its place and renamed when all is well; `-` is
+standard output, and what is told stands on standard error then."""
 
 
 def number(least):
@@ -93,6 +110,16 @@ def write(words):
         return refused.status
 
 
+def save(words):
+    from front.save import save as run
+    from front.write import Refused
+    try:
+        return run(words)
+    except Refused as refused:
+        tell(str(refused))
+        return refused.status
+
+
 def compare(words):
     from front.compare import compare as run
     return run(words)
@@ -101,8 +128,8 @@ def compare(words):
 def parser():
     words = argparse.ArgumentParser(prog='mig', description='Checks, normalises, converts, restores and compares saves '
                                     'of Xen guests, by the proved program mig_tool.',
-                                    epilog='`mig VERB --help` tells more of each. `save` and `exercise`, which the '
-                                    'usage line of mig_tool\nnames too, are not built yet.\n\n' + STATUSES,
+                                    epilog='`mig help VERB` tells more of each. `exercise`, which the usage line of '
+                                    'mig_tool names too,\nis not built yet.\n\n' + STATUSES,
                                     formatter_class=argparse.RawDescriptionHelpFormatter)
     words.add_argument('--version', action=Version, nargs=0, help='print revision, date and kit')
     verbs = words.add_subparsers(dest='verb', metavar='VERB', required=True)
@@ -119,6 +146,13 @@ def parser():
     restore = writing_verb(verbs, 'restore', 'write the image of a guest as it stands in a machine', with_xl=False)
     restore.add_argument('--base', metavar='N', help='the first machine frame, from 1 to 1099494850560 (1048576)')
     restore.set_defaults(run=write)
+    live = verb(verbs, 'save', 'save the host in a guest image live, while a script changes it', SCRIPT)
+    live.add_argument('image', metavar='IMAGE')
+    live.add_argument('script', metavar='SCRIPT')
+    live.add_argument('output', metavar='OUT')
+    live.add_argument('--force', action='store_true', help='write over OUT where it is there')
+    live.add_argument('--json', action='store_true', help='print one JSON object')
+    live.set_defaults(run=save)
     two = verb(verbs, 'compare', 'say whether two saves are of the same guest state', INPUT)
     two.add_argument('one', metavar='A')
     two.add_argument('two', metavar='B')
@@ -127,6 +161,8 @@ def parser():
 
 
 def main(arguments):
+    if arguments[:1] == ['help']:
+        arguments = [*arguments[1:], '--help']
     words = parser().parse_args(arguments)
     for number in signal.SIGINT, signal.SIGTERM, signal.SIGHUP:
         signal.signal(number, program.RUNNING.stop)

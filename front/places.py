@@ -4,11 +4,12 @@ import struct
 from front import forms
 
 LIBXC_CONTEXT, END = 1, 0
-MOST_PARTS = 1 << 22                                 # no place is told behind so many
+MOST_PARTS, MOST_FRAMES = 1 << 22, 1 << 24           # no place is told behind so many
 IMAGE_HEADERS, LIBXL_HEADER, HEAD = 40, 16, 8
 SIGNATURE = b'DeviceModelRecord0002'
 PARAMETERS = -3, -4, -8, -10, -11, -14, -15, -16, -17, -19, -20
 WITH_A_PAGE = 0, 1, 2, 3, 4, 9, 10, 11, 12
+FILE_HEAD, PART_HEAD, PAGE = 32, 16, 4096            # of a guest image: its head, that of a frame or a part, a page
 
 
 class Lost(Exception):
@@ -153,15 +154,49 @@ def legacy_place(source, begins, words):
     return tail if words[0] == 'Tail' else context_end(cursor)
 
 
+# ---- the frames and the parts of a guest image
+
+def file_frames(cursor):
+    """Of each frame of a guest image, where it begins. It ends where the parts begin."""
+    cursor.skip(FILE_HEAD - 8)
+    for _ in range(min(number_at(cursor, '<Q'), MOST_FRAMES)):
+        yield cursor.place, None
+        word = number_at(cursor, '<I')
+        cursor.skip(PART_HEAD - 4 + PAGE * (word >> 28 in WITH_A_PAGE))
+
+
+def file_parts(cursor):
+    """Of each part behind the frames, where it begins."""
+    for _ in range(min(number_at(cursor, '<Q'), MOST_PARTS)):
+        yield cursor.place, None
+        cursor.skip(PART_HEAD - 4)
+        length = number_at(cursor, '<I')
+        cursor.skip(length + -length % 8)
+
+
+def image_file_place(source, begins, words):
+    if words[0] == 'Head':
+        return begins
+    cursor = source.cursor(begins)
+    if words[0] == 'Frame':
+        return nth(file_frames(cursor), int(words[1]))
+    for _ in file_frames(cursor):
+        pass
+    return cursor.place if words[0] == 'Parts' else nth(file_parts(cursor), int(words[1]))
+
+
 # ---- what others ask
 
-def place_of(source, begins, legacy, place):
+OF_COMMAND = {'convert': legacy_place, 'save': image_file_place}
+NO_PLACES = 'Script', 'Pause'                        # what refuses a save and is no place in its image
+
+
+def place_of(source, begins, command, place):
     """The byte where a place of a refusal begins, counted from the begin of the file; None where it can't be told."""
-    if not source.is_walkable:
+    if not source.is_walkable or place.split()[0] in NO_PLACES:
         return None
     try:
-        find = legacy_place if legacy else stream_place
-        return find(source, begins, place.split())
+        return OF_COMMAND.get(command, stream_place)(source, begins, place.split())
     except Lost:
         return None
 

@@ -8,14 +8,15 @@ from front.text import shown
 OK, REFUSED, NO_SAVE, NOT_JUDGED, FAULT = 'ok', 'refused', 'no save', 'not judged', 'fault'
 REFUSAL = re.compile(r'refused: (\w+(?: \d+)?): (\d+) \w+')
 FACTS = re.compile(r'ok version (\d+) kind (\w+) frames (\d+) records (\d+)')
+SAVED = re.compile(r'ok rounds (\d+) entries (\d+)')
 
 
-FIELDS = 'name result status line form begins offset packed means do follows'
+FIELDS = 'name result status line form begins offset packed means do follows text size'
 
 
-class Verdict(namedtuple('Verdict', FIELDS, defaults=(None,) * 7)):
+class Verdict(namedtuple('Verdict', FIELDS, defaults=(None,) * 9)):
     """Of one file: a result, the status that goes with it, the program's line, the form that was found, and what explains
-    it; None where that says nothing of the file."""
+    it, with the text of a script's bad line and the size of a stream that was saved; None where that says nothing of it."""
 
     def lines(self):
         """What is printed of it."""
@@ -23,10 +24,22 @@ class Verdict(namedtuple('Verdict', FIELDS, defaults=(None,) * 7)):
         yield ': '.join(parts + [self.line])
         if self.means:
             yield '    %s%s; %s' % (self.where(), self.means, self.do)
+        if SAVED.fullmatch(self.line):
+            yield '    ' + self.saved()
         if self.follows:
             yield '    %d bytes follow the end of the stream; they were not judged' % self.follows
 
+    def saved(self):
+        """What a live save took."""
+        rounds, entries = map(int, SAVED.fullmatch(self.line).groups())
+        told = '%d round%s while the guest ran, then the pause; %d frame numbers sent' % (rounds, 's' * (rounds > 1), entries)
+        if self.size is None:
+            return told
+        return told + (', %d bytes' % self.size if self.size < 1e6 else ', %.1f MB' % (self.size / 1e6))
+
     def where(self):
+        if self.text is not None:
+            return '%s is ' % self.text
         if self.offset is None:
             return ''
         return 'at byte %d of %s: ' % (self.offset, 'what %s unpacks' % self.packed if self.packed else 'the file')
@@ -34,11 +47,14 @@ class Verdict(namedtuple('Verdict', FIELDS, defaults=(None,) * 7)):
     def facts(self):
         """It as one object, for JSON: what isn't there is left out."""
         found = {'file': self.name, 'result': self.result, 'status': self.status}
-        names = 'form', 'begins', 'line', 'offset', 'packed', 'means', 'do', 'follows'
+        names = 'form', 'begins', 'line', 'offset', 'packed', 'means', 'do', 'follows', 'text', 'size'
         found.update((name, getattr(self, name)) for name in names if getattr(self, name) is not None)
         said = FACTS.fullmatch(self.line)
         if said:
             found.update(version=int(said[1]), kind=said[2], frames=int(said[3]), records=int(said[4]))
+        said = SAVED.fullmatch(self.line)
+        if said:
+            found.update(rounds=int(said[1]), entries=int(said[2]))
         return found
 
 
@@ -54,24 +70,23 @@ def without_program(name, form):
         return Verdict(name, REFUSED, program.REFUSED, 'refused: ' + form.why, form.words, means='no stream was reached',
                        do=advice.COPY)
     if form.kind == forms.IMAGE:
-        return Verdict(name, NOT_JUDGED, program.REFUSED, 'not judged: no command reads guest images yet', form.words)
+        return Verdict(name, NOT_JUDGED, program.REFUSED, 'not judged: `mig save` alone reads guest images', form.words)
     return None
 
 
 def of_answer(name, source, form, command, answer):
     """The verdict of a file of which the program answered this to a command."""
-    words = form.words if not source.packed else '%s, %s' % (source.packed, form.words)
+    words = ', '.join(filter(None, (source.packed, form.words))) or None
     found = Verdict(name, FAULT, answer.status, answer.line, words, form.begins, packed=source.packed)
     if answer.status == program.OK:
-        end = places.end_of(source, form)
+        end = places.end_of(source, form) if command != 'save' else None
         follows = source.size - end if end is not None else 0
         return found._replace(result=OK, line=answer.line or 'ok', follows=follows or None)
     refusal = REFUSAL.match(answer.line)
     if answer.status != program.REFUSED or not refusal:
         return found
-    legacy = command == 'convert'
-    said = advice.of_refusal(legacy, int(refusal[2]))
-    return found._replace(result=REFUSED, offset=places.place_of(source, form.begins, legacy, refusal[1]),
+    said = advice.of_refusal(command, refusal[1], int(refusal[2]))
+    return found._replace(result=REFUSED, offset=places.place_of(source, form.begins, command, refusal[1]),
                           means=said and said.means, do=said and said.do)
 
 
