@@ -7,7 +7,7 @@ LINES = 'wwwwttarxxp..'
 
 
 def frame(dice, pfn, mfn):
-    kind, zero = dice.choice((0, 0, 0, 0, 13, 14)), 0
+    kind, zero = dice.choice((0,) * 14 + (13, 14)), 0
     if dice.random() < 0.003:
         kind, zero, mfn = dice.choice(((1, 0, mfn), (4, 0, mfn), (5, 0, mfn), (15, 0, mfn), (0, 7, mfn), (0, 0, 0), (0, 0, 1 << 40)))
     head = struct.pack('<IIQ', kind << 28 | pfn, zero, mfn)
@@ -35,8 +35,8 @@ def parts(dice):
 
 def image(dice):
     """The pieces of an image, and its width and parts."""
-    width = dice.choice((0, 1, 3, 9, 9, 60, 60, 130))
-    pfns = sorted(dice.sample(range(width), dice.choice((width, width // 2, width // 2))))
+    width = dice.choice((0, 1, 3, 9, 9, 64, 64, 130))
+    pfns = sorted(dice.sample(range(width), dice.choice((width, width - width // 9, width // 2))))
     mfns, found = dice.sample(range(1, 400), len(pfns)), parts(dice)
     kind, zero = streams.rarely(dice, 2, dice.choice((1, 3))), streams.rarely(dice, 0, 5)
     head = b'XGIMAGE1' + struct.pack('<IIQQ', kind, zero, streams.rarely(dice, width, 1 << 28 | 1), len(pfns))
