@@ -1,5 +1,6 @@
 pub mod Common
 pub mod Among
+pub mod AcceptedWhole
 pub mod Arrivals
 pub mod Begun
 pub mod Bodies

@@ -1,8 +1,12 @@
 ghost use Rattle.std.specs.Prelude.{◌≡◌, ◌⊎◌, ℕ, List};
+ghost use Rattle.mig_bytes.specs.Bytes.{AreBytes};
 ghost use Rattle.mig_bytes.specs.Judged.Judged.{Passes};
 ghost use Rattle.mig_headers.specs.declared.fault.Cause.{Cause};
 ghost use Rattle.mig_headers.specs.declared.fault.Place.{Place};
 ghost use Rattle.mig_guest.specs.Guests.{GuestOf};
+ghost use Rattle.mig_pvtables.specs.Blank.{blank, IsOfBytes};
+ghost use Rattle.mig_pvtables.specs.Whole.{IsWhole};
+ghost use Rattle.mig_libxl.specs.Carried.{IsCarried};
 ghost use Rattle.mig_libxl.specs.Spelled.{IsStream, AcceptedStream};
 ghost use Rattle.mig_libxl.specs.Stream.{StreamOf, stream_at, IsStreamRefused};
 
@@ -34,4 +38,12 @@ pub fn never_both()
 pub fn one_front()
     ensures { (input : List ℕ) (g h : GuestOf) (rest more : List ℕ) → AcceptedStream input g rest → AcceptedStream input h more
         → (g ≡ h) × (rest ≡ more) }
+{}
+
+/// An accepted guest of an input of bytes is whole, in its blank form and of bytes, with the parts of its emulators. So the laws
+/// of canonical streams hold of it.
+pub fn accepted_stream_is_whole()
+    ensures whole { (input : List ℕ) (guest : GuestOf) (rest : List ℕ) → AreBytes input → AcceptedStream input guest rest
+        → IsWhole guest × (blank guest ≡ guest) × IsOfBytes guest }
+    ensures carried { (input : List ℕ) (guest : GuestOf) (rest : List ℕ) → AreBytes input → AcceptedStream input guest rest → IsCarried guest }
 {}

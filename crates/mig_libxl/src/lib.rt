@@ -16,7 +16,10 @@ mod read;
 mod write;
 
 pub use canon_law::{canon_is_accepted, canon_is_one_to_one, twice_is_once};
-pub use law::{accepted_is_stream, accepted_or_refused, never_both, one_front, stream_is_accepted};
+pub use law::{
+    accepted_is_stream, accepted_or_refused, accepted_stream_is_whole, never_both, one_front,
+    stream_is_accepted,
+};
 pub use mig_emulators::{last_context_decides, last_value_decides};
 pub use read::read_any;
 pub use write::{close_wrapper, open_wrapper, write_any, write_emulator};
