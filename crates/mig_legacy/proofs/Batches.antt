@@ -16,8 +16,8 @@ no_level _ = refl
 pub page_fine : (place w : ℕ) (bytes : List ℕ) → fault_of_page Hvm 0 (place, w) bytes ≡ None
 page_fine place w bytes = ap (λ o. fault_of_level 0 place o bytes) (no_level (type_in_word w))
 
-pub no_table : (t : PageType) (page : Option (List ℕ)) → EachEntry (IsWithin 0) (record { type = meant_type Hvm t; page = page })
-no_table t page level bytes lev has slot lt = absurd (none-some level (sym (no_level t) ∙ lev))
+pub no_table : (top : ℕ) (t : PageType) (page : Option (List ℕ)) → EachEntry (IsWithin top) (record { type = meant_type Hvm t; page = page })
+no_table top t page level bytes lev has slot lt = absurd (none-some level (sym (no_level t) ∙ lev))
 
 -- ---- the words
 

@@ -1,6 +1,6 @@
 -- A chunk as the reader takes it: its type, its body, and what was kept once it is counted.
 use Rattle.std.proofs.Math.Bool.{or-false}
-use Rattle.mig_legacy.proofs.Common.{◌≡◌, ℕ, ◌+◌, List, [], ◌∷◌, ◌++◌, refl, sym, ap, ◌∙◌, length-append, ◌||◌, flat_map-append, list_any-append, fold-append, Judged, ◌>>=◌, Passes, Hvm, LegacyCause, sent, put_record, empty_guest, put_libxl_content, no_emulators, emulators_of, chunk_kind_at, chunk_content_at, chunk_at, LegacyContent, LegacyChunk, is_value_of, has_value, records_in, pair_records, image_records, store_records, IsLegacySeen, TakesLegacy, ChunkKind, ChunksSeen}
+use Rattle.mig_legacy.proofs.Common.{◌≡◌, ℕ, ◌+◌, List, [], ◌∷◌, ◌++◌, refl, sym, ap, ◌∙◌, length-append, ◌||◌, flat_map-append, list_any-append, fold-append, Judged, ◌>>=◌, Passes, Hvm, LegacyCause, sent, put_record, empty_guest, put_libxl_content, no_emulators, emulators_of, chunk_kind_at, chunk_content_at, chunk_at, LegacyContent, LegacyChunk, is_value_of, has_value, records_in, pair_records, image_records, store_records, put_in_guest, put_in_emulators, IsLegacySeen, TakesLegacy, ChunkKind, ChunksSeen}
 use Rattle.std.proofs.Common.{fold, append-nil}
 
 abbrev pub chunk_of : ChunkKind → LegacyContent → LegacyChunk
@@ -26,6 +26,16 @@ image_more chunks c = flat_map-append (λ (x : LegacyChunk). records_in x.conten
 store_more : (chunks : List LegacyChunk) (c : LegacyChunk) → store_records (chunks ++ c ∷ []) ≡ store_records chunks ++ pair_records c.content
 store_more chunks c = flat_map-append (λ (x : LegacyChunk). pair_records x.content) chunks (c ∷ []) ∙ ap (λ l. store_records chunks ++ l) (append-nil (pair_records c.content))
 
+-- the guest that the chunks send, and the emulators that they tell
+pub sent_more : (chunks : List LegacyChunk) (c : LegacyChunk) → sent Hvm (image_records (chunks ++ c ∷ [])) ≡ put_in_guest (sent Hvm (image_records chunks)) c.content
+unfolding sent
+sent_more chunks c = ap (fold put_record (empty_guest Hvm)) (image_more chunks c) ∙ fold-append put_record (empty_guest Hvm) (image_records chunks) (records_in c.content)
+
+pub told_more : (chunks : List LegacyChunk) (c : LegacyChunk) → emulators_of (store_records (chunks ++ c ∷ [])) ≡ put_in_emulators (emulators_of (store_records chunks)) c.content
+unfolding emulators_of
+told_more chunks c =
+    ap (fold (λ x r. put_libxl_content x r.content) no_emulators) (store_more chunks c) ∙ fold-append (λ x r. put_libxl_content x r.content) no_emulators (store_records chunks) (pair_records c.content)
+
 value_more : (index : ℕ) (chunks : List LegacyChunk) (c : LegacyChunk) → has_value index (chunks ++ c ∷ []) ≡ (has_value index chunks || is_value_of index c.kind)
 value_more index chunks c = list_any-append (λ (x : LegacyChunk). is_value_of index x.kind) chunks (c ∷ []) ∙ ap (λ b. has_value index chunks || b) (or-false (is_value_of index c.kind))
 
@@ -38,15 +48,12 @@ pub record Counts (mid new : ChunksSeen) (kind : ChunkKind) : Type 0 where
   pub buffered : new.buffered ≡ (mid.buffered || is_value_of 33 kind)
 
 pub seen_more : (old mid new : ChunksSeen) (chunks : List LegacyChunk) (kind : ChunkKind) (content : LegacyContent) → IsLegacySeen old chunks → TakesLegacy old mid content → Counts mid new kind → IsLegacySeen new (chunks ++ chunk_of kind content ∷ [])
-unfolding sent emulators_of
 seen_more old mid new chunks kind content seen takes counts =
     let c = chunk_of kind content in
     record {
       count = counts.chunks ∙ ap (λ n. n + 1) (takes.chunks ∙ seen.count) ∙ sym (length-append chunks (c ∷ []));
-      guest = counts.guest ∙ takes.guest ∙ ap (λ g. fold put_record g (records_in content)) seen.guest
-          ∙ sym (fold-append put_record (empty_guest Hvm) (image_records chunks) (records_in content)) ∙ ap (fold put_record (empty_guest Hvm)) (sym (image_more chunks c));
-      emulators = counts.emulators ∙ takes.emulators ∙ ap (λ e. fold (λ x r. put_libxl_content x r.content) e (pair_records content)) seen.emulators
-          ∙ sym (fold-append (λ x r. put_libxl_content x r.content) no_emulators (store_records chunks) (pair_records content)) ∙ ap (fold (λ x r. put_libxl_content x r.content) no_emulators) (sym (store_more chunks c));
+      guest = counts.guest ∙ takes.guest ∙ ap (λ g. put_in_guest g content) seen.guest ∙ sym (sent_more chunks c);
+      emulators = counts.emulators ∙ takes.emulators ∙ ap (λ e. put_in_emulators e content) seen.emulators ∙ sym (told_more chunks c);
       requests = counts.requests ∙ ap (λ b. b || is_value_of 32 kind) (takes.requests ∙ seen.requests) ∙ sym (value_more 32 chunks c);
       buffered = counts.buffered ∙ ap (λ b. b || is_value_of 33 kind) (takes.buffered ∙ seen.buffered) ∙ sym (value_more 33 chunks c);
     }

@@ -16,3 +16,6 @@ pub mod Laws
 pub mod TailTexts
 pub mod Meaning
 pub mod DeviceMeaning
+pub mod KeptFrames
+pub mod KeptStores
+pub mod AcceptedWhole

@@ -8,7 +8,7 @@ use Rattle.mig_pvtables.proofs.HvmGuests.{hvm_blank}
 use Rattle.mig_restore.specs.Mean.{entries_in as sent_entries}
 
 -- an HVM guest is its own blank form
-without_is : (s : LegacyStream) → guest_without s ≡ sent Hvm (image_records s.chunks ++ tail_records s.tail)
+pub without_is : (s : LegacyStream) → guest_without s ≡ sent Hvm (image_records s.chunks ++ tail_records s.tail)
 unfolding mean
 without_is s = hvm_blank (sent Hvm (image_records s.chunks ++ tail_records s.tail)) (sent_kind Hvm (image_records s.chunks ++ tail_records s.tail))
 

@@ -75,16 +75,16 @@ tail_passes i t rest h =
 
 -- the tail that these frame numbers and this context make
 module _ (bytes : List ℕ) (t : LegacyTail) (is : IsTail bytes t) where
-  abbrev frames : List ℕ
+  abbrev pub frames : List ℕ
   frames = t.requests ++ (t.buffered ++ t.store)
 
   behind_requests : drop 8 frames ≡ t.buffered ++ t.store
   behind_requests = drop_at t.requests (t.buffered ++ t.store) 8 is.requests_len
 
-  ends : scan is.context ≡ Ok (length is.is_context.before)
+  pub ends : scan is.context ≡ Ok (length is.is_context.before)
   ends = (contexts_are_spelled is.context (length is.is_context.before)).1 (is.entries, is.is_context, refl)
 
-  tail_is : tail_of frames is.context ≡ t
+  pub tail_is : tail_of frames is.context ≡ t
   tail_is =
       let requests : take 8 frames ≡ t.requests = take_at t.requests (t.buffered ++ t.store) 8 is.requests_len in
       let buffered : take 8 (drop 8 frames) ≡ t.buffered = ap (take 8) behind_requests ∙ take_at t.buffered t.store 8 is.buffered_len in

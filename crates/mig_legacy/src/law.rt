@@ -1,6 +1,7 @@
 ghost use Rattle.std.specs.Prelude.{◌≡◌, ◌≢◌, ◌⊎◌, ℕ, List, option_and_then};
 ghost use Rattle.std.specs.FinMap as maps;
 ghost use Rattle.std.specs.Option.{option_map, option_or};
+ghost use Rattle.mig_bytes.specs.Bytes.{AreBytes};
 ghost use Rattle.mig_bytes.specs.Judged.Judged.{Passes};
 ghost use Rattle.mig_headers.specs.Pairs.{Pair};
 ghost use Rattle.mig_headers.specs.declared.kind.Kind.TheVariants.{Hvm};
@@ -9,6 +10,8 @@ ghost use Rattle.mig_headers.specs.declared.legacy_fault.LegacyPlace.{LegacyPlac
 ghost use Rattle.mig_guest.specs.Guests.{GuestOf};
 ghost use Rattle.mig_guest.specs.declared.part_key.PartKey.{PartKey};
 ghost use Rattle.mig_policy.specs.PairMaps.{text_of_map};
+ghost use Rattle.mig_pvtables.specs.Blank.{blank, IsOfBytes};
+ghost use Rattle.mig_pvtables.specs.Whole.{IsWhole};
 ghost use Rattle.mig_restore.specs.Mean.{frame_in, last_bytes, last_entry};
 ghost use Rattle.mig_policy.specs.PairMaps.{last_pair_value as last_pair};
 ghost use Rattle.mig_legacy.specs.Legacy.{LegacyStream, device_key, mean_legacy, param_key, store_key};
@@ -43,6 +46,12 @@ pub fn never_both()
 pub fn one_front()
     ensures { (input : List ℕ) (g h : GuestOf) (rest more : List ℕ) → AcceptedLegacy input g rest → AcceptedLegacy input h more
         → (g ≡ h) × (rest ≡ more) }
+{}
+
+/// An accepted guest of an input of bytes is whole, in its blank form and of bytes, with the parts of its device model.
+pub fn accepted_legacy_is_whole()
+    ensures { (input : List ℕ) (guest : GuestOf) (rest : List ℕ) → AreBytes input → AcceptedLegacy input guest rest
+        → IsWhole guest × (blank guest ≡ guest) × IsOfBytes guest }
 {}
 
 /// The guest that a stream means is an HVM guest, and no list of P2M frames gives it a greatest frame number.

@@ -16,8 +16,8 @@ mod read;
 mod tail;
 
 pub use law::{
-    accepted_is_legacy, accepted_or_refused, device_record_decides, guest_is_hvm,
-    last_entry_decides, last_pair_decides, last_part_decides, last_value_decides,
+    accepted_is_legacy, accepted_legacy_is_whole, accepted_or_refused, device_record_decides,
+    guest_is_hvm, last_entry_decides, last_pair_decides, last_part_decides, last_value_decides,
     legacy_is_accepted, never_both, one_front,
 };
 pub use read::{LegacyAnswer, read_legacy};
