@@ -118,10 +118,10 @@ pub use Rattle.mig_pvtables.proofs.PvGuests.{counted}
 pub use Rattle.mig_pvtables.proofs.Searches.{find_in_range}
 pub use Rattle.mig_pvtables.proofs.Slots.{found_in_range}
 unfoldable pub use Rattle.mig_pvtables.specs.Faults.{field_numbers, slots}
-pub use Rattle.mig_pvtables.specs.Faults.{fault_of_guest, faults_for, find_entry, find_field, find_p2m, find_slot, first_cause, first_some, is_absent, is_misplaced, is_needed, is_notab, is_this, misfits, type_at}
+pub use Rattle.mig_pvtables.specs.Faults.{fault_of_guest, faults_for, find_entry, find_field, find_p2m, find_slot, first_cause, first_some, fits_field, is_absent, is_misplaced, is_needed, is_notab, is_root, is_this, misfits, type_at}
 pub use Rattle.mig_pvtables.specs.P2mFrames.{count_in, listed}
 pub use Rattle.mig_pvtables.specs.Tables.{fault_of_page_table, is_superpage, names_above}
-pub use Rattle.mig_pvtables.specs.VcpuContexts.{field_value, is_used}
+pub use Rattle.mig_pvtables.specs.VcpuContexts.{field_value, frame_of_field, is_marked, is_used}
 pub use Rattle.mig_restore.proofs.Batches.{behind_good, behind_words, each_stage, entries_in_place, entry_of, is_page, of_page, other_entries, page_size, words_stage}
 pub use Rattle.mig_restore.proofs.Bodies.{body_goes, body_says, coded_is, optional_at, shaped_code, type_at as body_type_at}
 pub use Rattle.mig_restore.proofs.Converse.{goes, going, headers_go, image_header_goes, marker_goes}
@@ -196,7 +196,7 @@ pub use Rattle.mig_refusals.specs.ImageFile.{BehindImageFile, BytesHave, FrameHa
 pub use Rattle.mig_refusals.specs.ImageFileFronts.{EndsInFrames, EndsInParts}
 pub use Rattle.mig_refusals.specs.Legacy.{BehindLegacy, InChunk, InChunkBody, InDevice, InTail, IsFaultlessLegacyPart, LegacyContextHas, LegacyLengthHas, LegacyPart, LegacyPartFails, LegacyPartStops, MaxHas, NumberHas, RefusedLegacy, SignatureHas, StandsInLegacy, StartHas, ToolstackHas, TypeHas, WordsHave, legacy_size, word_place}
 pub use Rattle.mig_refusals.specs.LegacyToolstack.{EntryWrong, FieldWrong, PhysmapsTo}
-pub use Rattle.mig_refusals.specs.Libxc.{BehindLibxc, Breaks, ContextHas, DomainHas, EntriesTo, EntryHas, FrontHas, GuestHas, HeadHas, HeaderHas, InBody, InPages, IsFaultlessLibxcPart, IsFirstCause, IsOpen, IsTriedBefore, LengthHas, LibxcPart, LibxcPartFails, MarkerHas, PageHas, PagesTo, ParamsHas, RefusedLibxc, StandsInLibxc, Within, WordsHas, body_part, end_record, libxc_size}
-pub use Rattle.mig_refusals.specs.LibxcPv.{InfoHas, P2mHas, PvGuestHas, TableHas, VcpuHas, rank_of}
+pub use Rattle.mig_refusals.specs.Libxc.{AnswersFirstCause, BehindLibxc, Breaks, ContextHas, DomainHas, EntriesTo, EntryHas, FrontHas, GuestHas, HeadHas, HeaderHas, InBody, InPages, IsFaultlessLibxcPart, IsFirstCause, IsOpen, IsTriedBefore, LengthHas, LibxcPart, LibxcPartFails, MarkerHas, PageHas, PagesTo, ParamsHas, RefusedLibxc, StandsInLibxc, Within, WordsHas, body_part, end_record, libxc_size}
+pub use Rattle.mig_refusals.specs.LibxcPv.{InfoHas, IsUsedField, P2mHas, PvGuestHas, TableHas, TakesType, VcpuHas, rank_of}
 pub use Rattle.mig_refusals.specs.Refusals.{AreAllAcceptedOrRefused, AreJudged, FailsBehind, HasOneRefusal, IsAcceptedOrRefused, IsNeverBoth}
 pub use Rattle.mig_refusals.specs.Stream.{BeginsAsLibxl, BehindWrapper, EmulatorContextHas, HasBody, IsFaultlessWrapperPart, IsOpenWrapper, LibxlHeadHas, LibxlHeaderHas, PairsHas, RefusedStream, StandsInWrapper, WithinWrapper, WrapperPart, WrapperPartFails, wrapper_size}

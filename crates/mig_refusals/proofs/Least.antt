@@ -1,5 +1,5 @@
 -- The cause that is named: of a table the first row whose test holds, and of several tables the first that names one.
-use Rattle.mig_refusals.proofs.Common.{◌≡◌, ◌⊎◌, inl, inr, ℕ, List, Bool, true, false, cond, refl, false≢true, Option, Some, None, sym, ap, subst, arith, option_or, first_fault, Cause, OutOfOrder, IsTriedBefore, IsFirstCause, number_of_cause, ascends, rows_name, Truncated}
+use Rattle.mig_refusals.proofs.Common.{◌≡◌, ◌⊎◌, inl, inr, ℕ, List, Bool, true, false, cond, refl, false≢true, Option, Some, None, sym, ap, subst, arith, option_or, first_fault, Cause, OutOfOrder, IsTriedBefore, IsFirstCause, AnswersFirstCause, number_of_cause, ascends, rows_name, Truncated}
 use Rattle.mig_headers.proofs.FirstCauses as firsts
 use Rattle.mig_headers.proofs.FirstCauses.{Named}
 use Rattle.mig_refusals.proofs.Parts.{Tries}
@@ -31,6 +31,12 @@ named_is Has (Some d) c p n = elim (p.holds.2 n.0 c n.1) [
 pub none_is : (Has : ℕ → Cause → Type 0) (f : Option Cause) → Least Has f → ((at : ℕ × Cause) → Has at.0 at.1 → ⊥) → f ≡ None
 none_is Has None p never = refl
 none_is Has (Some d) p never = absurd (never (p.holds.0, d) p.holds.1)
+
+pub answers_first : (Has : ℕ → Cause → Type 0) (f : Option Cause) → Least Has f → AnswersFirstCause Has f
+answers_first Has f p = record {
+  first = λ c. ((λ is. (subst (Least Has) is p).holds), (λ first. named_is Has f c p first));
+  none = ((λ is. (subst (Least Has) is p).holds), (λ never. none_is Has f p (λ at h. never at.0 at.1 h)));
+}
 
 abbrev pub TriesLeast : ℕ → (List ℕ → ℕ → Cause → Type 0) → Type 0
 TriesLeast n Has = Tries Truncated n (λ bytes (at : ℕ × Cause). Has bytes at.0 at.1) (λ bytes. IsFirstCause (Has bytes))

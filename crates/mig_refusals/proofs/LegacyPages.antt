@@ -27,7 +27,7 @@ pages_fail place (w ∷ ws) i d rest h = elim (bind_cases (part Truncated (page_
       let p = part_passes Truncated (page_size w) i page mid passes in
       let e = only_first (λ others. entry_of w page ∷ others) (entries (place + 1) ws mid) d rest (ap (λ o. tried o mid >>= λ _. other_entries Hvm 0 place w ws page mid) (sym (page_fine place w page)) ∙ stops) in
       let (first, word, others, pages, left, es, are, whole, those, fails) = pages_fail (place + 1) ws mid d rest e in
-      let one : IsEntry Hvm 0 w page (entry_of w page) = record { pfn = refl; type = refl; page = is_page (word_has_data w) page p.1; within = no_table (type_in_word w) (entry_of w page).page } in
+      let one : IsEntry Hvm 0 w page (entry_of w page) = record { pfn = refl; type = refl; page = is_page (word_has_data w) page p.1; within = no_table 0 (type_in_word w) (entry_of w page).page } in
       (w ∷ first, word, others, page ++ pages, left, entry_of w page ∷ es, ap (λ l. w ∷ l) are, p.0 ∙ ap (λ l. page ++ l) whole ∙ sym (append_assoc page pages left), (page, pages, entry_of w page, es, refl, refl, one, those), fails)
 ]
 

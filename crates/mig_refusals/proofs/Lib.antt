@@ -1,5 +1,6 @@
 pub mod Common
 pub mod ContextEntries
+pub mod FirstAnswers
 pub mod Firsts
 pub mod Laws
 pub mod Least
@@ -13,6 +14,7 @@ pub mod LibxcVerdicts
 pub mod PvGuests
 pub mod PvTables
 pub mod PvWhole
+pub mod UsedFields
 pub mod StreamCauses
 pub mod StreamRecords
 pub mod StreamVerdicts

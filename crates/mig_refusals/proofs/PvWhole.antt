@@ -1,10 +1,11 @@
 -- The judging of a whole PV guest names the least of the causes that stand in it.
-use Rattle.mig_refusals.proofs.Common.{◌≡◌, ◌⊎◌, inl, inr, ℕ, ◌+◌, ◌*◌, ◌<◌, length, true, not, Option, Some, None, refl, sym, ap, subst, ◌∙◌, arith, not-true, and_parts, and_from, option_or, Cause, IsTriedBefore, is_none, nat_cmp_total, nat_cmp-IsAntisymmetric, number_of_cause, Missing, Pv, most_frames, gdt_ents, FrameMap, GuestOf, p2m_key, vcpu_key, shared_key, entry, Entry, Frame, part_exact, part_total, first_cause, is_absent, faults_for, fault_of_guest, field_value, is_used, PvGuestHas, rank_of, TooManyFrames}
+use Rattle.mig_refusals.proofs.Common.{◌≡◌, ◌⊎◌, inl, inr, ℕ, ◌+◌, ◌*◌, ◌<◌, length, true, not, Option, Some, None, refl, sym, ap, subst, ◌∙◌, arith, not-true, and_parts, and_from, option_or, Cause, IsTriedBefore, is_none, nat_cmp_total, nat_cmp-IsAntisymmetric, number_of_cause, Missing, Pv, most_frames, gdt_ents, FrameMap, GuestOf, p2m_key, vcpu_key, shared_key, entry, Entry, Frame, part_exact, part_total, first_cause, is_absent, faults_for, fault_of_guest, field_value, frame_of_field, is_used, fits_field, type_at, PvGuestHas, rank_of, TooManyFrames}
 use Rattle.std.specs.FinMap as maps
 use Rattle.mig_refusals.specs.LibxcPv.PvGuestHas.{no_p2m, no_shared, no_vcpu, other_type, listed_twice, absent, field_misfits, many_frames}
 use Rattle.mig_refusals.proofs.Least.{Least, Alone, both_least, turned}
 use Rattle.mig_refusals.proofs.Firsts.{InEntries}
 use Rattle.mig_refusals.proofs.Tests.{is_missing}
+use Rattle.mig_refusals.proofs.UsedFields.{used_is, used_at, misfit_is, is_misfit}
 use Rattle.mig_refusals.proofs.PvGuests.{missing_least, many_least, AbsentAt, entries_are, MisfitAt, fields_are, P2mAt, p2m_are, misplaced_has, type_placed, twice_placed}
 
 -- ---- causes in a row
@@ -106,7 +107,10 @@ module _ (g : GuestOf) where
   misfit_has : (k : ℕ) (c : Cause) → Misfit k c → PvGuestHas g k c
   misfit_has k c (key, context, at, (code, (field, lt, is, place, named))) =
       let (used, other) = and_parts (is_used key.key1 (gdt_ents context) field (field_value context field)) _ is in
-      subst (λ i. PvGuestHas g i c) (sym place) (subst (PvGuestHas g (32 * rank_of g.parts key + field)) (sym named) (field_misfits key field context at code (omega (arith, lt)) used (not-true _ other)))
+      let frame = frame_of_field field (field_value context field) in
+      subst (λ i. PvGuestHas g i c) (sym place) (subst (PvGuestHas g (32 * rank_of g.parts key + field)) (sym named)
+      (field_misfits key field frame context at code (used_is key.key1 context field (omega (arith, lt)) used)
+      (misfit_is field (type_at g.frames frame) (not-true _ other))))
 
   p2m_has : (k : ℕ) (c : Cause) → P2mAt g k c → PvGuestHas g k c
   p2m_has k c (i, lt, is, place, named) = subst (λ j. PvGuestHas g j c) (sym place) (subst (PvGuestHas g i) (sym named) (misplaced_has g i _ refl is))
@@ -128,8 +132,10 @@ module _ (g : GuestOf) where
   has_all _ _ (listed_twice j k pfn slot less before at lt some) = inr (inr (inr (inl (twice_placed g j k pfn slot less before at lt some))))
   has_all _ _ (absent pfn slot level n frame page at is has lt says none) =
       inr (inr (inr (inr (inl (pfn, frame, at, (level, page, is, has, (slot, lt, ap (is_absent g.frames) says ∙ ap is_none none, refl, refl)))))))
-  has_all _ _ (field_misfits key field context at code le used other) =
-      inr (inr (inr (inr (inr (inl (key, context, at, (code, (field, omega (arith, le), and_from _ _ used (ap not other), refl, refl))))))))
+  has_all _ _ (field_misfits key field frame context at code uses other) =
+      let taken = used_at key.key1 context field frame uses in
+      let misfit = ap (λ f. not (fits_field field (type_at g.frames f))) taken.frame_is ∙ ap not (is_misfit field (type_at g.frames frame) other) in
+      inr (inr (inr (inr (inr (inl (key, context, at, (code, (field, omega (arith, taken.most), and_from _ _ taken.used misfit, refl, refl))))))))
   has_all _ _ (many_frames many) = inr (inr (inr (inr (inr (inr (many, refl, refl))))))
 
   -- of the causes that stand in a whole PV guest the least is named

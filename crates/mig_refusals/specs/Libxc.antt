@@ -1,6 +1,6 @@
 -- Refusals of images, each a stream of its own or a part of a libxl stream, in the words of the format (libxc migration
 -- stream): a faultless front, and behind it a part that isn't whole or in which a cause stands.
-use Rattle.std.specs.Prelude.{◌≡◌, ◌⊎◌, ℕ, ◌+◌, ◌*◌, ◌^◌, ◌%◌, ◌<◌, ◌≤◌, List, [], ◌∷◌, ◌++◌, length, Some, None, IsTrue, IsFalse, false, count_by, slice_index, if◌then◌else◌}
+use Rattle.std.specs.Prelude.{◌≡◌, ◌↔◌, ◌⊎◌, ℕ, ◌+◌, ◌*◌, ◌^◌, ◌%◌, ◌<◌, ◌≤◌, List, [], ◌∷◌, ◌++◌, length, Option, Some, None, IsTrue, IsFalse, false, count_by, slice_index, if◌then◌else◌}
 use Rattle.std.specs.FinMap as maps
 use Rattle.mig_bytes.specs.Bytes.{IsLeastPadding}
 use Rattle.mig_bytes.specs.Failing.{IsFaultless, Fails}
@@ -189,6 +189,11 @@ IsTriedBefore place cause other_place other = (number_of_cause cause < number_of
 -- the cause stands, and every other that stands is tried later
 abbrev pub IsFirstCause : (ℕ → Cause → Type 0) → Cause → Type 0
 IsFirstCause Has cause = (place : ℕ) × Has place cause × ((other_place : ℕ) (other : Cause) → Has other_place other → IsTriedBefore place cause other_place other ⊎ (other ≡ cause))
+
+-- the answer is the cause that is tried first of those that stand, and there is none exactly where none stands
+pub record AnswersFirstCause (Has : ℕ → Cause → Type 0) (answer : Option Cause) : Type 0 where
+  pub first : (cause : Cause) → (answer ≡ Some cause) ↔ IsFirstCause Has cause
+  pub none : (answer ≡ None) ↔ ((place : ℕ) (cause : Cause) → Has place cause → ⊥)
 
 -- a part that is whole and without a cause
 abbrev pub IsFaultlessLibxcPart : LibxcPart → List ℕ → Type 0

@@ -1,14 +1,15 @@
 -- Refusals of what only PV guests have, in the words of the format (libxc migration stream): where each cause stands, a line
 -- for each; causes that have places stand at several, all others at place 0.
-use Rattle.std.specs.Prelude.{◌≡◌, ◌⊎◌, ℕ, ◌+◌, ◌*◌, ◌<◌, ◌≤◌, List, length, drop, filter, Some, None, IsSome, IsTrue, IsFalse, slice_index}
+use Rattle.std.specs.Prelude.{◌≡◌, ◌⊎◌, ℕ, ◌+◌, ◌*◌, ◌/◌, ◌%◌, ◌<◌, ◌≤◌, List, length, drop, filter, Option, Some, None, IsSome, slice_index}
 use Rattle.std.specs.FinMap as maps
 use Rattle.std.specs.Ordering.{is_lt}
-use Rattle.mig_bytes.specs.Fields.{le32}
+use Rattle.mig_bytes.specs.Fields.{le32, le64}
 use Rattle.mig_headers.specs.declared.fault.Cause.{Cause}
 use Rattle.mig_headers.specs.declared.fault.Cause.TheVariants as causes
 use Rattle.mig_pagetypes.specs.Limits.{pfn_limit, most_frames}
 use Rattle.mig_pagetypes.specs.PageTypes.{level_of}
-use Rattle.mig_pagetypes.specs.declared.page_type.PageType.TheVariants.{Notab}
+use Rattle.mig_pagetypes.specs.declared.page_type.PageType.{PageType}
+use Rattle.mig_pagetypes.specs.declared.page_type.PageType.TheVariants.{Notab, L4Tab, L4Pinned}
 use Rattle.mig_guest.specs.Formed.{gdt_ents}
 use Rattle.mig_guest.specs.Frames.{FrameOf}
 use Rattle.mig_guest.specs.Guests.{GuestOf}
@@ -21,9 +22,8 @@ use Rattle.mig_guest.specs.declared.part_code.PartCode.TheVariants.{VcpuBasic}
 use Rattle.mig_guest.specs.declared.part_key.PartKey.{PartKey}
 use Rattle.mig_guest.specs.declared.table.Entry.TheVariants.{Superpage, Frame}
 use Rattle.mig_bodies.specs.PvBodies.{p2m_count}
-use Rattle.mig_pvtables.specs.Faults.{type_at, fits_field}
+use Rattle.mig_pvtables.specs.Faults.{type_at}
 use Rattle.mig_pvtables.specs.P2mFrames.{listed}
-use Rattle.mig_pvtables.specs.VcpuContexts.{field_value, is_used, frame_of_field}
 
 -- the page of a table of this level, which stands at this place of its record: at each slot ("PAGE_DATA")
 pub data TableHas (top place level : ℕ) (page : List ℕ) : ℕ → Cause → Type 0 where
@@ -51,6 +51,23 @@ pub data VcpuHas (code : PartCode) (body : List ℕ) : ℕ → Cause → Type 0 
 abbrev pub rank_of : PartMap → PartKey → ℕ
 rank_of parts key = length (filter (λ e. is_lt (part_cmp e.0 key)) (maps.entries parts))
 
+-- the context of vCPU id uses this field, which says this frame: rdx is field 0, and only vCPU 0 uses it; gdt_frames[i] is
+-- field i + 1, used where the GDT has more than 512 * i descriptors, since a frame holds 512; ctrlreg[3] is field 17, always
+-- used; and ctrlreg[1] is field 18, used where its lowest bit is 1. Both control registers hold a frame number from bit 12 on
+-- (Xen public/arch-x86/xen.h, vcpu_guest_context; "X86_PV_VCPU_BASIC")
+pub data IsUsedField (id : ℕ) (context : List ℕ) : ℕ → ℕ → Type 0 where
+  start_info : id ≡ 0 → IsUsedField id context 0 (le64 context 616)
+  descriptors : (i : ℕ) → i < 16 → 512 * i < gdt_ents context → IsUsedField id context (i + 1) (le64 context (4832 + 8 * i))
+  tables : IsUsedField id context 17 (le64 context 5008 / 4096)
+  user_tables : le64 context 4992 % 2 ≡ 1 → IsUsedField id context 18 (le64 context 4992 / 4096)
+
+-- a frame of this type is one that the field may say: a control register says the root of page tables, a level 4 table, pinned
+-- or not, and any other field a NOTAB frame ("X86_PV_VCPU_BASIC")
+pub data TakesType (field : ℕ) : Option PageType → Type 0 where
+  plain : field ≤ 16 → TakesType field (Some Notab)
+  root : 17 ≤ field → TakesType field (Some L4Tab)
+  pinned_root : 17 ≤ field → TakesType field (Some L4Pinned)
+
 -- the whole PV guest at END ("END"). Of the parts that are missing, the P2M frames are tried first, then the shared page, then
 -- the context of vCPU 0. An entry of a table has the place 512 * pfn + slot, with a slot below 512: the tables are tried by
 -- their frame numbers, and one by its slots. A field of a vCPU has the place 32 * rank + field, with a field of at most 18: the
@@ -64,7 +81,6 @@ pub data PvGuestHas (g : GuestOf) : ℕ → Cause → Type 0 where
       → slot < 512 → IsSome (maps.get g.frames (512 * j + slot)) ⊎ IsSome (maps.get g.frames (512 * k + slot)) → PvGuestHas g k (causes.P2mFrame k)
   absent : (pfn slot level n : ℕ) (frame : FrameOf) (page : List ℕ) → maps.get g.frames pfn ≡ Some frame → level_of frame.type ≡ Some level → frame.page ≡ Some page
       → slot < 512 → entry level page slot ≡ Frame n → maps.get g.frames n ≡ None → PvGuestHas g (512 * pfn + slot) (causes.TargetAbsent pfn slot)
-  field_misfits : (key : PartKey) (field : ℕ) (context : List ℕ) → maps.get g.parts key ≡ Some context → key.code ≡ 4
-      → field ≤ 18 → IsTrue (is_used key.key1 (gdt_ents context) field (field_value context field))
-      → IsFalse (fits_field field (type_at g.frames (frame_of_field field (field_value context field)))) → PvGuestHas g (32 * rank_of g.parts key + field) (causes.VcpuFrame key.key1 field)
+  field_misfits : (key : PartKey) (field frame : ℕ) (context : List ℕ) → maps.get g.parts key ≡ Some context → key.code ≡ 4
+      → IsUsedField key.key1 context field frame → (TakesType field (type_at g.frames frame) → ⊥) → PvGuestHas g (32 * rank_of g.parts key + field) (causes.VcpuFrame key.key1 field)
   many_frames : most_frames < length (maps.entries g.frames) → PvGuestHas g 0 causes.TooManyFrames

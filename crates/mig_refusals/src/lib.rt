@@ -3,8 +3,8 @@
 //! Responsible for: the relations of an input with the place and the cause for which it is refused, and what is left:
 //! as a libxc image (`libxc`), as a stream that is a bare image or an image inside a libxl stream (`stream`), as a legacy
 //! stream (`legacy`), and as the image file of a host (`image_file`); and the laws that join each with the judging of
-//! mig_restore, mig_libxl, mig_legacy and mig_image. It has no code of its own. An image is a part of a stream; an image
-//! file is none.
+//! mig_restore, mig_libxl, mig_legacy and mig_image, and the causes of a whole guest and of a page with what mig_pvtables
+//! answers. It has no code of its own. An image is a part of a stream; an image file is none.
 #![tactic(auto)]
 
 mod image_file;
@@ -21,6 +21,7 @@ pub use legacy::{
 };
 pub use libxc::{
     libxc_accepted_or_refused, libxc_never_both, libxc_one_refusal, libxc_refusals_agree,
+    page_answers_the_least_fault, whole_answers_the_least_fault,
 };
 pub use stream::{
     stream_accepted_or_refused, stream_never_both, stream_one_refusal, stream_refusals_agree,

@@ -1,7 +1,14 @@
+ghost use Rattle.std.specs.Prelude.{ℕ, List};
+ghost use Rattle.mig_headers.specs.declared.kind.Kind.{Kind};
+ghost use Rattle.mig_guest.specs.Guests.{GuestOf};
+ghost use Rattle.mig_pvtables.specs.Faults.{fault_of_guest};
+ghost use Rattle.mig_pvtables.specs.Tables.{fault_of_page_table};
+ghost use Rattle.mig_restore.specs.Judging.{fault_of_page};
 ghost use Rattle.mig_restore.specs.Spelled.{Accepted};
 ghost use Rattle.mig_restore.specs.Stream.{IsRefused};
 ghost use Rattle.mig_refusals.specs.Refusals.{AreAllAcceptedOrRefused, AreJudged, HasOneRefusal, IsNeverBoth};
-ghost use Rattle.mig_refusals.specs.Libxc.{RefusedLibxc};
+ghost use Rattle.mig_refusals.specs.Libxc.{AnswersFirstCause, GuestHas, PageHas, RefusedLibxc};
+ghost use Rattle.mig_refusals.specs.LibxcPv.{TableHas};
 
 /// Judging refuses an input as an image for a cause at a place exactly where a faultless front is followed by a part that
 /// isn't whole, or that is whole and in which this cause is named: of several causes that of the least number, and of one
@@ -27,4 +34,19 @@ pub fn libxc_accepted_or_refused()
 #[tactic(auto, using(crate::proofs::LibxcVerdicts::never))]
 pub fn libxc_never_both()
     ensures { IsNeverBoth RefusedLibxc Accepted }
+{}
+
+/// What is answered of a guest at its END, and by `whole` of mig_pvtables, is of the causes that stand in the guest that of the
+/// least number, and of one cause that at its least place; and there is no answer exactly where none stands.
+#[tactic(auto, using(crate::proofs::FirstAnswers::guest_answers))]
+pub fn whole_answers_the_least_fault()
+    ensures { (guest : GuestOf) → AnswersFirstCause (GuestHas guest) (fault_of_guest guest) }
+{}
+
+/// The same of the page behind a word of a PAGE_DATA, in a stream of this kind with frame numbers up to `top`, and of a table
+/// of a level by itself, as `check_table` of mig_pvtables answers. `place` is the word's place in its record.
+#[tactic(auto, using(crate::proofs::FirstAnswers::page_answers, crate::proofs::FirstAnswers::table_answers))]
+pub fn page_answers_the_least_fault()
+    ensures page { (kind : Kind) (top place word : ℕ) (page : List ℕ) → AnswersFirstCause (PageHas kind top place word page) (fault_of_page kind top (place, word) page) }
+    ensures table { (top place level : ℕ) (page : List ℕ) → AnswersFirstCause (TableHas top place level page) (fault_of_page_table place top level page) }
 {}
