@@ -9,7 +9,7 @@ use Rattle.mig_script.specs.ScriptLines.LineOf.{Write, Retype, Add, Remove, Exch
 use Rattle.mig_lines.specs.Courses.{Course, IsLaterCourse}
 use Rattle.mig_lines.specs.Groups.{ends_group, first_group, first_length, lines_up_to, ran, ran_between}
 use Rattle.mig_lines.specs.HostLines.{after, after_line, logged_after}
-use Rattle.mig_lines.proofs.LinesLogged.{IsTame, LinesRan, lines_ran}
+use Rattle.mig_lines.proofs.LinesLogged.{IsRegular, LinesRan, lines_ran}
 
 -- ---- a group, and the dot that ends it
 
@@ -190,6 +190,6 @@ from_start a b none least later = later.host ∙ ap (λ (n : ℕ). after a.host 
 
 -- ---- one group
 
-pub group_ran : (g h : HostOf) (lines : List LineOf) (log now : Pfns) → IsTame g → h ≡ after g lines → now ≡ logged_after g lines log → LinesRan g h log now
+pub group_ran : (g h : HostOf) (lines : List LineOf) (log now : Pfns) → IsRegular g → h ≡ after g lines → now ≡ logged_after g lines log → LinesRan g h log now
 group_ran g h lines log now t is logged =
     subst (λ (s : Pfns). LinesRan g h log s) (sym logged) (subst (λ (k : HostOf). LinesRan g k log (logged_after g lines log)) (sym is) (lines_ran g lines log t))

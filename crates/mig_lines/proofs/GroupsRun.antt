@@ -8,9 +8,9 @@ use Rattle.mig_script.specs.ScriptLines.{LineOf}
 use Rattle.mig_script.specs.ScriptLines.LineOf.{Write, Retype, Add, Remove, Exchange, Put, Dot}
 use Rattle.mig_lines.specs.Groups.{ends_group, first_group, first_length}
 use Rattle.mig_lines.specs.HostLines.{logs, with_logged, room_of}
-use Rattle.mig_lines.proofs.LinesLogged.{IsTame, line_ran}
+use Rattle.mig_lines.proofs.LinesLogged.{IsRegular, line_ran}
 
-pub logs_inside : (h : HostOf) (line : LineOf) (pfn : ℕ) → IsTame h → logs h line ≡ Some pfn → pfn < h.width
+pub logs_inside : (h : HostOf) (line : LineOf) (pfn : ℕ) → IsRegular h → logs h line ≡ Some pfn → pfn < h.width
 logs_inside h line pfn t is = elim (cases_lt pfn h.width) [
   | inl less ↦ less
   | inr high ↦

@@ -1,3 +1,4 @@
+pub mod NamedMachines
 pub mod LinesLogged
 pub mod LinesApplied
 pub mod Marks

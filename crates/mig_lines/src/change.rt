@@ -1,6 +1,5 @@
 ghost use Rattle.std.specs.Prelude.{◌≡◌, ◌+◌, ◌≤◌, ◌&&◌, ℕ, true, false, not, is_some, nat_le, nat_lt, if◌then◌else◌, Some, None, IfSome, IfNone};
 ghost use Rattle.std.specs.FinMap as maps;
-ghost use Rattle.mig_headers.specs.declared.kind.Kind.TheVariants.{Hvm};
 ghost use Rattle.mig_pagetypes.specs.PageTypes.{type_of};
 ghost use Rattle.mig_guest.specs.Frames.{is_type_of as is_type_of_kind};
 ghost use Rattle.mig_guest.specs.Hosts.{machine_limit};
@@ -9,10 +8,12 @@ ghost use Rattle.mig_script.specs.ScriptLines.{line_said};
 ghost use Rattle.mig_script.specs.ScriptLines.LineOf.{Write as Writes, Retype as Retypes, Add as Adds, Remove as Removes, Exchange as Exchanges, Put as Puts};
 ghost use Rattle.mig_lines.specs.HostLines.{applies, after_line, logs, room_of, may_come, may_go, is_allowed, is_key, has_length, key_of_numbers};
 
+use crate::named::is_named;
 use mig_guest::{PartKey, is_fixed};
 use mig_headers::Kind;
 use mig_host::{Host, MACHINE_LIMIT};
 use mig_pagetypes::{MAX_FRAMES, PageType};
+use mig_pvtables::Frames;
 use mig_script::Line;
 
 /// The last number of a type.
@@ -101,38 +102,35 @@ fn is_free(host: &Host, mfn: u64) -> bool
     0 < mfn && mfn < MACHINE_LIMIT && !host.uses_machine(mfn)
 }
 
-/// Whether a machine frame can come to a frame number of an HVM host, of which no table names one.
+/// Whether a machine frame can come to a frame number: no frame has it, and no table names it.
 fn can_come(host: &Host, mfn: u64) -> bool
-    requires hvm { host.now.host.kind ≡ Hvm }
     ensures { result ≡ may_come host.now.host mfn }
 {
-    let _width = host.width();
-    is_free(host, mfn)
+    is_free(host, mfn) && !is_named(host, mfn)
 }
 
-/// Whether a frame is there, whose machine frame no table of an HVM host names.
+/// Whether a frame is there whose machine frame no table names.
 fn can_go(host: &Host, pfn: u64) -> bool
-    requires hvm { host.now.host.kind ≡ Hvm }
     ensures { result ≡ may_go host.now.host pfn }
 {
-    let _width = host.width();
-    host.frame(pfn).is_some()
+    match host.mfn_of(pfn) {
+        Some(own) => !is_named(host, own),
+        None => false,
+    }
 }
 
-/// Whether a frame can be added.
+/// Whether a frame can be added. Tables are looked at last.
 fn can_add(host: &Host, pfn: u64, mfn: u64) -> bool
-    requires hvm { host.now.host.kind ≡ Hvm }
     ensures { result ≡ applies host.now.host (Adds pfn mfn) }
 {
     pfn < host.width()
         && host.frame(pfn).is_none()
-        && can_come(host, mfn)
         && host.frames() < MAX_FRAMES
+        && can_come(host, mfn)
 }
 
 /// Adds a frame, where it can be added.
 fn add(host: &mut Host, pfn: u64, mfn: u64) -> bool
-    requires hvm { host.old.host.kind ≡ Hvm }
     requires room { 1 ≤ host.old.spare }
     ensures applied { result ≡ applies host.old.host (Adds pfn mfn) }
     ensures host { host.new.host ≡ after_line host.old.host (Adds pfn mfn) }
@@ -147,7 +145,6 @@ fn add(host: &mut Host, pfn: u64, mfn: u64) -> bool
 
 /// Removes a frame, where it can go.
 fn remove(host: &mut Host, pfn: u64) -> bool
-    requires hvm { host.old.host.kind ≡ Hvm }
     ensures applied { result ≡ applies host.old.host (Removes pfn) }
     ensures host { host.new.host ≡ after_line host.old.host (Removes pfn) }
     ensures spare { host.old.spare ≤ host.new.spare }
@@ -159,17 +156,15 @@ fn remove(host: &mut Host, pfn: u64) -> bool
     true
 }
 
-/// Whether a frame can have this machine frame in place of its own.
+/// Whether a frame can have this machine frame in place of its own. Tables are looked at last.
 fn can_exchange(host: &Host, pfn: u64, mfn: u64) -> bool
-    requires hvm { host.now.host.kind ≡ Hvm }
     ensures { result ≡ applies host.now.host (Exchanges pfn mfn) }
 {
-    can_go(host, pfn) && can_come(host, mfn)
+    is_free(host, mfn) && can_go(host, pfn) && !is_named(host, mfn)
 }
 
 /// Gives a frame another machine frame, where the one can go and the other can come.
 fn exchange(host: &mut Host, pfn: u64, mfn: u64) -> bool
-    requires hvm { host.old.host.kind ≡ Hvm }
     ensures applied { result ≡ applies host.old.host (Exchanges pfn mfn) }
     ensures host { host.new.host ≡ after_line host.old.host (Exchanges pfn mfn) }
     ensures spare { host.old.spare ≤ host.new.spare }
@@ -230,7 +225,6 @@ fn logged(applied: bool, pfn: u64) -> Option<u64>
 
 /// Applies a line to a host, where it applies, and takes no memory. The answer is the frame number that is to be logged.
 pub(crate) fn apply(host: &mut Host, line: &Line) -> Option<u64>
-    requires hvm { host.old.host.kind ≡ Hvm }
     requires room { room_of (line_said line.now) ≤ host.old.spare }
     ensures host { host.new.host ≡ after_line host.old.host (line_said line.now) }
     ensures logged { result ≡ logs host.old.host (line_said line.now) }

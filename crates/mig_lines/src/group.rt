@@ -1,5 +1,4 @@
 ghost use Rattle.std.specs.Prelude.{◌≡◌, ℕ, ◌+◌, ◌/◌, ◌<◌, ◌≤◌, length, drop, get_or, slice_get, Some};
-ghost use Rattle.mig_headers.specs.declared.kind.Kind.TheVariants.{Hvm};
 ghost use Rattle.mig_machine_api.specs.Pfns.{pfns_of_words};
 ghost use Rattle.mig_script.specs.ScriptLines.{line_said};
 ghost use Rattle.mig_lines.specs.Groups.{ends_group, first_group, first_length};
@@ -12,7 +11,6 @@ use mig_script::{Line, Script};
 
 /// Applies a line, and logs the frame number that it changed.
 fn run_line(host: &mut Host, line: &Line, log: &mut [u64])
-    requires hvm { host.old.host.kind ≡ Hvm }
     requires words { length log.old ≡ (host.old.host.width + 63) / 64 }
     requires room { room_of (line_said line.now) ≤ host.old.spare }
     ensures host { host.new.host ≡ after_line host.old.host (line_said line.now) }
@@ -36,7 +34,6 @@ fn is_dot(line: &Line) -> bool
 
 /// Runs the lines of a script from this one on up to the next dot. The answer is where the lines behind it begin.
 fn run_group(host: &mut Host, script: &Script, from: usize, log: &mut [u64]) -> usize
-    requires hvm { host.old.host.kind ≡ Hvm }
     requires words { length log.old ≡ (host.old.host.width + 63) / 64 }
     requires room { room_for (drop from script.now) ≤ host.old.spare }
     ensures host { host.new.host ≡ after host.old.host (first_group (drop from script.now)) }
@@ -61,7 +58,6 @@ fn run_group(host: &mut Host, script: &Script, from: usize, log: &mut [u64]) -> 
 
 /// The same, where the log is kept in a vector.
 pub fn run_logged(host: &mut Host, script: &Script, from: usize, log: &mut Vec<u64>) -> usize
-    requires hvm { host.old.host.kind ≡ Hvm }
     requires words { length log.old.items ≡ (host.old.host.width + 63) / 64 }
     requires room { room_for (drop from script.now) ≤ host.old.spare }
     ensures host { host.new.host ≡ after host.old.host (first_group (drop from script.now)) }

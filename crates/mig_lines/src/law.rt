@@ -1,5 +1,4 @@
 ghost use Rattle.std.specs.Prelude.{◌≡◌, ◌≤◌, ◌⊎◌, ◌+◌, ◌∷◌, ◌++◌, ℕ, List, [], false};
-ghost use Rattle.mig_headers.specs.declared.kind.Kind.TheVariants.{Hvm};
 ghost use Rattle.mig_guest.specs.Hosts.{HostOf, IsValid};
 ghost use Rattle.mig_machine_api.specs.Footprints.{footprint};
 ghost use Rattle.mig_machine_api.specs.MachineStates.{IsSameShape};
@@ -9,13 +8,13 @@ ghost use Rattle.mig_script.specs.ScriptLines.LineOf.{Dot};
 ghost use Rattle.mig_lines.specs.Groups.{ran, dots_in};
 ghost use Rattle.mig_lines.specs.HostLines.{after, logged_after};
 
-/// Lines change no more of an HVM host's footprints than they put into the log; what was in the log stays there; they log
-/// frame numbers below the width alone; and kind, width, keys and lengths of parts, and the bytes of fixed parts, stay.
+/// Lines change no more of a host's footprints than they put into the log; what was in the log stays there; they log frame
+/// numbers below the width alone; and kind, width, keys and lengths of parts, and the bytes of fixed parts, stay.
 pub fn lines_log_what_they_change()
-    ensures changed { (h : HostOf) (lines : List LineOf) (log : Pfns) (pfn : ℕ) → IsValid h → h.kind ≡ Hvm → logged_after h lines log pfn ≡ false → footprint (after h lines).frames pfn ≡ footprint h.frames pfn }
-    ensures kept { (h : HostOf) (lines : List LineOf) (log : Pfns) (pfn : ℕ) → IsValid h → h.kind ≡ Hvm → logged_after h lines log pfn ≡ false → log pfn ≡ false }
-    ensures inside { (h : HostOf) (lines : List LineOf) (log : Pfns) → IsValid h → h.kind ≡ Hvm → ((pfn : ℕ) → h.width ≤ pfn → log pfn ≡ false) → (pfn : ℕ) → h.width ≤ pfn → logged_after h lines log pfn ≡ false }
-    ensures shape { (h : HostOf) (lines : List LineOf) → IsValid h → h.kind ≡ Hvm → IsSameShape h (after h lines) }
+    ensures changed { (h : HostOf) (lines : List LineOf) (log : Pfns) (pfn : ℕ) → IsValid h → logged_after h lines log pfn ≡ false → footprint (after h lines).frames pfn ≡ footprint h.frames pfn }
+    ensures kept { (h : HostOf) (lines : List LineOf) (log : Pfns) (pfn : ℕ) → IsValid h → logged_after h lines log pfn ≡ false → log pfn ≡ false }
+    ensures inside { (h : HostOf) (lines : List LineOf) (log : Pfns) → IsValid h → ((pfn : ℕ) → h.width ≤ pfn → log pfn ≡ false) → (pfn : ℕ) → h.width ≤ pfn → logged_after h lines log pfn ≡ false }
+    ensures shape { (h : HostOf) (lines : List LineOf) → IsValid h → IsSameShape h (after h lines) }
 {}
 
 /// The lines before a dot, counting dots from 1: so many dots but one are among them and one follows, or they are all lines,

@@ -46,7 +46,6 @@ loop-at-preserved c =
     let room = ap room_for e in
     let long = ap first_length e ∙ length_on line rest on in
     record {
-      hvm = ran.kind ∙ i.hvm;
       words = same ∙ i.words ∙ ap (λ w. (w + 63) / 64) (sym ran.width);
       room = let was = i.room in let spare = ran.spare in omega (arith, room, was, spare);
       host = ap (λ h. after h (first_group rest)) ran.host ∙ sym (ap (λ (g : List LineOf). after c.loop-at.host.host g) (ap first_group e ∙ group_on line rest on)) ∙ i.host;

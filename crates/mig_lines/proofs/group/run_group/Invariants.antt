@@ -1,5 +1,4 @@
 use Rattle.std.proofs.Common.{◌≡◌, ◌+◌, ◌/◌, ◌≤◌, ◌-◌, length, drop}
-use Rattle.mig_headers.specs.declared.kind.Kind.TheVariants.{Hvm}
 use Rattle.mig_machine_api.specs.Pfns.{pfns_of_words}
 use Rattle.mig_lines.specs.Groups.{first_group, first_length}
 use Rattle.mig_lines.specs.HostLines.{after, logged_after, room_for}
@@ -7,7 +6,6 @@ use Rattle.mig_lines.proofs.group.run_group.Given as goal
 
 abbrev pub invariant-loop-at : goal.invariant-loop-at
 invariant-loop-at l = record {
-  hvm : l.host.host.kind ≡ Hvm;
   words : length l.log ≡ (l.host.host.width + 63) / 64;
   room : room_for (drop l.at l.script) ≤ l.host.spare;
   host : after l.host.host (first_group (drop l.at l.script)) ≡ after l.fn.host.host (first_group (drop l.fn.from l.script));
