@@ -1,6 +1,4 @@
 ghost use Rattle.std.specs.Prelude.{◌≡◌, ◌≤◌, false, IfOk};
-ghost use Rattle.mig_headers.specs.declared.kind.Kind.TheVariants.{Hvm};
-ghost use Rattle.mig_guest.specs.Formed.{HasNoEmulators};
 ghost use Rattle.mig_machine_api.specs.History.{no_history};
 ghost use Rattle.mig_machine_api.specs.MachineStates.{Ran, IsValidState};
 ghost use Rattle.mig_machine_api.specs.Pfns.{no_pfns};
@@ -47,8 +45,6 @@ impl Model for ScriptMachine {
 impl ScriptMachine {
     /// A machine at this host, of which nothing was asked yet. It takes all memory that later calls need.
     pub fn new(alloc: Global, host: Host, script: Script) -> Result<ScriptMachine, Memory>
-        requires hvm { host.host.kind ≡ Hvm }
-        requires plain { HasNoEmulators host.host.parts }
         ensures host { IfOk result (λ m. m.host ≡ host.host) }
         ensures lines { IfOk result (λ m. m.lines ≡ script) }
         ensures calls { IfOk result (λ m. calls_of m ≡ 0) }

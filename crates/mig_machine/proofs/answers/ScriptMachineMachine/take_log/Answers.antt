@@ -8,7 +8,6 @@ pub invariant_of-self : goal.invariant_of-self
 invariant_of-self c =
     let was = c.self.invariant in
     record {
-      hvm = was.hvm;
       log_size = c.hand_over.ensures.size ∙ was.log_size;
       notes_size = c.note_log.ensures.size ∙ was.notes_size;
       log_below = λ pfn high. ap (λ (s : Pfns). s pfn) c.hand_over.ensures.empty;

@@ -10,7 +10,6 @@ invariant_of-result c =
     let noted : length c.in_ok-notes.notes.read.items ≡ (c.args.host.host.width + 63) / 64 = search rules in
     let ready : room_for c.args.script ≤ c.reserve.new.self.spare = search rules in
     record {
-      hvm = ap (λ (h : HostOf). h.kind) c.reserve.ensures.host ∙ c.requires.hvm;
       log_size = words ∙ ap (λ (h : HostOf). (h.width + 63) / 64) (sym c.reserve.ensures.host);
       notes_size = noted ∙ ap (λ (h : HostOf). (h.width + 63) / 64) (sym c.reserve.ensures.host);
       log_below = λ pfn high. ap (λ (s : Pfns). s pfn) c.in_ok-log.ensures.empty;

@@ -4,7 +4,7 @@ use Rattle.mig_machine_api.specs.Pfns.{pfns_of_words}
 use Rattle.mig_lines.specs.Groups.{first_group, first_length}
 use Rattle.mig_lines.specs.HostLines.{after}
 use Rattle.mig_lines.proofs.CoursesRun.{next_place, later_now, group_ran}
-use Rattle.mig_lines.proofs.LinesLogged.{tame}
+use Rattle.mig_lines.proofs.LinesLogged.{regular}
 use Rattle.mig_machine.specs.MachineSeen.{MachineSeen, log_of, machine_state, course_of, IsLaterMachine}
 use Rattle.mig_machine.specs.MachineFields.{machine_seen}
 use Rattle.mig_machine.proofs.MachinesRun.{ran_lines}
@@ -16,9 +16,8 @@ invariant_of-self-2 c =
     let e = c.run_logged-self-inside.ensures in
     let few : length c.self.inside.script ≤ 2 ^ 64 - 1 = search rules in
     let fits : c.self.inside.runs ≤ 2 ^ 64 - 1 = search rules in
-    let r = group_ran m.host.host c.run_logged-self-inside.new.host.host (first_group (drop m.at m.script)) (pfns_of_words m.log.items) (pfns_of_words c.run_logged-self-inside.new.log.items) (tame m.host.host c.width-width.ensures.valid was.hvm) e.host e.log in
+    let r = group_ran m.host.host c.run_logged-self-inside.new.host.host (first_group (drop m.at m.script)) (pfns_of_words m.log.items) (pfns_of_words c.run_logged-self-inside.new.log.items) (regular m.host.host c.width-width.ensures.valid) e.host e.log in
     record {
-      hvm = r.tame.kind;
       log_size = e.size ∙ was.log_size ∙ ap (λ w. (w + 63) / 64) (sym r.shape.width);
       notes_size = was.notes_size ∙ ap (λ w. (w + 63) / 64) (sym r.shape.width);
       log_below = r.below was.log_below;
@@ -30,7 +29,7 @@ pub returns-clause-ran : goal.returns-clause-ran
 returns-clause-ran c =
     let m = c.self.inside in let e = c.run_logged-self-inside.ensures in
     let now = machine_seen (record m { host = c.run_logged-self-inside.new.host; at = c.run_logged-self-inside.result; runs = c.saturating_add-self-inside.result; log = c.run_logged-self-inside.new.log }) in
-    let r = group_ran m.host.host c.run_logged-self-inside.new.host.host (first_group (drop m.at m.script)) (pfns_of_words m.log.items) (pfns_of_words c.run_logged-self-inside.new.log.items) (tame m.host.host c.width-width.ensures.valid c.self.invariant.hvm) e.host e.log in
+    let r = group_ran m.host.host c.run_logged-self-inside.new.host.host (first_group (drop m.at m.script)) (pfns_of_words m.log.items) (pfns_of_words c.run_logged-self-inside.new.log.items) (regular m.host.host c.width-width.ensures.valid) e.host e.log in
     let live : is_some c.self.inside.behind ≡ false = search rules in
     subst (λ (x : MachineSeen). Ran (machine_state x) (machine_state now) (log_of now)) c.self.view_is (ran_lines (machine_seen m) now r live)
 
@@ -48,5 +47,5 @@ returns-clause-later c =
 pub returns-clause-valid : goal.returns-clause-valid
 returns-clause-valid c =
     let m = c.self.inside in let e = c.run_logged-self-inside.ensures in
-    let r = group_ran m.host.host c.run_logged-self-inside.new.host.host (first_group (drop m.at m.script)) (pfns_of_words m.log.items) (pfns_of_words c.run_logged-self-inside.new.log.items) (tame m.host.host c.width-width.ensures.valid c.self.invariant.hvm) e.host e.log in
+    let r = group_ran m.host.host c.run_logged-self-inside.new.host.host (first_group (drop m.at m.script)) (pfns_of_words m.log.items) (pfns_of_words c.run_logged-self-inside.new.log.items) (regular m.host.host c.width-width.ensures.valid) e.host e.log in
     record { host = c.width-now.ensures.valid; logged = r.below c.self.invariant.log_below }
