@@ -1,0 +1,2 @@
+pub mod Saver
+pub mod SaveTexts

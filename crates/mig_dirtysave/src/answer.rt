@@ -1,0 +1,25 @@
+use mig_headers::Unsound;
+use thiserror::Error;
+
+/// What a save took.
+#[derive(Clone, Copy, Debug, PartialEq, Eq)]
+pub struct SaveReport {
+    /// The logs that were taken before the pause.
+    pub rounds: u32,
+    /// The entries that were sent.
+    pub entries: u64,
+}
+
+/// Why a save ended early.
+#[derive(Clone, Copy, Debug, PartialEq, Eq, Error)]
+pub enum SaveAnswer {
+    /// The paused host can't be seen as a guest: the first cause in it, at its least place.
+    #[error("the host can't be seen as a guest")]
+    Unsound(Unsound),
+    /// The machine failed.
+    #[error("the machine failed")]
+    MachineFault,
+    /// The sink failed.
+    #[error("the sink failed")]
+    WriteFault,
+}

@@ -1,0 +1,73 @@
+ghost use Rattle.std.specs.Prelude.{◌≡◌, ◌+◌, ◌≤◌, length, [], ◌∷◌, ◌++◌, OnOk, OnErr};
+ghost use Rattle.std.specs.Io.KnownBytes.{Appends};
+ghost use Rattle.mig_bytes.specs.Bytes.{Puts};
+ghost use Rattle.mig_bytes.specs.Faults.{HasCause};
+ghost use Rattle.mig_headers.specs.RecordTypes.{most_body};
+ghost use Rattle.mig_guest.specs.Formed.{IsFormed};
+ghost use Rattle.mig_records.specs.Records.{spelled};
+ghost use Rattle.mig_canon.specs.Canon.{text_of};
+ghost use Rattle.mig_dirtysave.specs.SaveTexts.{save_opening, context_record, closing_records, StopsBehind};
+
+use mig_bytes::{Sink, WriteFailed, put_all};
+use mig_canon::{write_codes, write_headers};
+use mig_guest::{Guest, PartCode};
+use mig_headers::Kind;
+use mig_pagesink::write_end;
+use mig_records::{write_head, write_padding, write_record};
+
+/// The type of STATIC_DATA_END.
+const STATIC_DATA_END: u32 = 0x10;
+
+/// The type of HVM_CONTEXT.
+const HVM_CONTEXT: u32 = 9;
+
+/// Appends the headers, the policies and STATIC_DATA_END.
+pub(crate) fn write_before<K: Sink>(sink: &mut K, policies: &Guest) -> Result<(), WriteFailed>
+    requires { IsFormed policies.now }
+    ensures bytes { Puts (save_opening policies.now) (K.written sink.old) (K.written sink.new) result }
+    ensures cause { HasCause (K.faults sink.old) (K.faults sink.new) result }
+{
+    write_headers(sink, Kind::Hvm)?;
+    write_codes(sink, policies, &[PartCode::CpuidLeaf, PartCode::Msr])?;
+    write_record(sink, STATIC_DATA_END, &[])
+}
+
+/// Appends the record of a context: its entries before END, and an END of zeros.
+fn write_context<K: Sink>(sink: &mut K, front: &[u8]) -> Result<(), WriteFailed>
+    requires { length front.now + 8 ≤ most_body }
+    ensures bytes { Puts (spelled 9 (context_record front.now).1) (K.written sink.old) (K.written sink.new) result }
+    ensures cause { HasCause (K.faults sink.old) (K.faults sink.new) result }
+{
+    let len = front.len() as u32 + 8;
+    write_head(sink, HVM_CONTEXT, len)?;
+    put_all(sink, front)?;
+    put_all(sink, &[0; 8])?;
+    write_padding(sink, len)
+}
+
+/// Appends the settings and the context.
+fn write_behind<K: Sink>(sink: &mut K, settings: &Guest, front: &[u8]) -> Result<(), WriteFailed>
+    requires formed { IsFormed settings.now }
+    requires short { length front.now + 8 ≤ most_body }
+    ensures bytes { Puts (text_of (closing_records settings.now front.now)) (K.written sink.old) (K.written sink.new) result }
+    ensures cause { HasCause (K.faults sink.old) (K.faults sink.new) result }
+{
+    write_codes(sink, settings, &[PartCode::Tsc, PartCode::HvmParam])?;
+    write_context(sink, front)
+}
+
+/// Appends the settings, the context and END.
+pub(crate) fn write_last<K: Sink>(
+    sink: &mut K,
+    settings: &Guest,
+    front: &[u8],
+) -> Result<(), WriteFailed>
+    requires formed { IsFormed settings.now }
+    requires short { length front.now + 8 ≤ most_body }
+    ensures closed { OnOk result (Appends (K.written sink.old) (K.written sink.new) (text_of (closing_records settings.now front.now ++ (0, []) ∷ []))) }
+    ensures stops { OnErr result (StopsBehind (K.written sink.old) (K.written sink.new)) }
+    ensures cause { HasCause (K.faults sink.old) (K.faults sink.new) result }
+{
+    write_behind(sink, settings, front)?;
+    write_end(sink)
+}
