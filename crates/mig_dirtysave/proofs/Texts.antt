@@ -14,7 +14,7 @@ use Rattle.mig_records.specs.Records.{spelled}
 use Rattle.mig_canon.specs.Canon.{Record, records_of, records_in_order, text_of}
 use Rattle.mig_canon.proofs.Spelling.{text_join, text_one, codes_alone}
 use Rattle.mig_pagesink.specs.Written.{IsShortRecord, AreRecordsWithin, WroteAll, WroteSome, LeavesPart}
-use Rattle.mig_pagesink.proofs.Written.{all_behind, some_behind}
+use Rattle.mig_pagesink.proofs.Written.{all_behind, some_behind, none_of_next}
 use Rattle.mig_dirtysave.specs.SaveTexts.{StopsBehind, context_record, setting_codes, closing_records}
 
 -- a text that is some whole records, none of them END, and a part of one more
@@ -59,6 +59,10 @@ some_records start now rs p (n, less, a) =
 -- a part of records stops behind whatever was written before
 pub part_stops : (old new : Option (List ℕ)) (rs : List Record) → AreRecordsWithin rs → AppendsPart old new (text_of rs) → StopsBehind old new
 part_stops old new rs within p = λ start before w. let (front, some) = some_records old new rs within p in (front, some_behind start old new before front w some)
+
+-- nothing was written
+pub nothing_stops : (old : Option (List ℕ)) → StopsBehind old old
+nothing_stops old = λ start rs w. ([], subst (WroteSome start old) (sym (append-nil rs)) (none_of_next start old rs w))
 
 -- ---- a text in two
 

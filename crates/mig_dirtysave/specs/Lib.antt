@@ -1,2 +1,3 @@
 pub mod Saver
 pub mod SaveTexts
+pub mod SaveAnswers

@@ -1,18 +1,25 @@
 -- What a saver keeps of the host that it was made for.
-use Rattle.std.specs.Prelude.{◌≡◌, ℕ, Bool, true, List, length, Option, Some, ◌==◌, ◌||◌}
+use Rattle.std.specs.Prelude.{◌≡◌, ℕ, Bool, true, List, length, Option, Some, refl, ◌==◌, ◌||◌}
 use Rattle.std.specs.Option.{option_map}
 use Rattle.std.specs.FinMap as maps
+use Rattle.std.specs.Coded.{Coded, code_by, coded×, coded_ℕ}
 use Rattle.mig_headers.specs.declared.kind.Kind.TheVariants.{Hvm}
 use Rattle.mig_guest.specs.declared.part_key.PartKey.{PartKey}
 use Rattle.mig_guest.specs.Formed.{IsFormed, is_policy}
 use Rattle.mig_guest.specs.Guests.{GuestOf}
 use Rattle.mig_guest.specs.Hosts.{HostOf}
-use Rattle.mig_guest.specs.Parts.{PartMap}
+use Rattle.mig_guest.specs.Parts.{PartMap, parts_code}
 
 pub record SaverOf : Type 0 where
   pub width : ℕ
   pub policies : PartMap
   pub settings : PartMap
+
+-- a saver is stored as its fields
+abbrev pub saver_code : Coded SaverOf
+saver_code =
+    code_by (ℕ × (PartMap × PartMap)) (coded× coded_ℕ (coded× parts_code parts_code))
+    (λ s. (s.width, (s.policies, s.settings))) (λ p. record { width = p.0; policies = p.1.0; settings = p.1.1 }) (λ _. refl)
 
 -- one of two codes
 abbrev pub is_one_of : ℕ → ℕ → ℕ → Bool

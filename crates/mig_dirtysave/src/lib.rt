@@ -14,7 +14,10 @@
 mod answer;
 mod judge;
 mod prepare;
+mod saver;
 mod settings;
+mod steps;
 mod write;
 
 pub use answer::{SaveAnswer, SaveReport};
+pub use saver::Saver;

@@ -1,0 +1,112 @@
+ghost use Rattle.std.specs.Prelude.{◌≡◌, ◌≤◌, length, true, false, None, Some, OnOk, OnErr, IfOk, IsErrOf};
+ghost use Rattle.mig_bytes.specs.Faults.{Rose};
+ghost use Rattle.mig_headers.specs.declared.kind.Kind.TheVariants.{Hvm};
+ghost use Rattle.mig_guest.specs.Formed.{HasNoEmulators};
+ghost use Rattle.mig_hosted.specs.Sound.{unsoundness};
+ghost use Rattle.mig_machine_api.specs.History.{no_history};
+ghost use Rattle.mig_machine_api.specs.Rounds.{all_read};
+ghost use Rattle.mig_unended.specs.Unread.{WroteNoStream};
+ghost use Rattle.mig_rounds.specs.Flags.{total};
+ghost use Rattle.mig_rounds.specs.Live.{StaysSame, HasRounds, IsTight};
+ghost use Rattle.mig_dirtysave.specs.Saver.{IsFor};
+ghost use Rattle.mig_dirtysave.specs.SaveAnswers.{OnEnd, IfUnsound, SaveWritten, IsLittleBehind};
+ghost use Rattle.mig_dirtysave.specs.declared.answer.SaveAnswer.TheVariants.{MachineFault, WriteFault};
+
+use crate::answer::{SaveAnswer, SaveReport};
+use crate::prepare::copy_codes;
+use crate::settings::{HVM_PARAM, TSC};
+use crate::steps::{close, open, send};
+use mig_bytes::{Memory, Sink};
+use mig_guest::Guest;
+use mig_machine_api::Machine;
+use mig_rounds::Room;
+use std::alloc::Global;
+use std::marker::Model;
+
+/// The numbers of the parts that never change while a guest runs: CPUID leaves and MSRs of the policy.
+const CPUID_LEAF: u32 = 17;
+
+const MSR: u32 = 18;
+
+/// What a save of an HVM machine needs, made while there may still be no memory: its policies, room for its settings, and
+/// room for the rounds.
+#[derive(Drop)]
+pub struct Saver {
+    policies: Guest,
+    settings: Guest,
+    room: Room,
+}
+
+impl Model for Saver {
+    ghost use Rattle.mig_guest.specs.Formed.{is_policy};
+    ghost use Rattle.mig_dirtysave.specs.Saver.{SaverOf, HoldsParts, is_setting, saver_code};
+
+    ghost Value = { SaverOf };
+
+    ghost coded = { saver_code };
+
+    ghost view = { λ s. record { width = s.room; policies = s.policies.parts; settings = s.settings.parts } };
+
+    ghost invariant = { λ s. HoldsParts is_policy s.policies × HoldsParts is_setting s.settings };
+}
+
+impl Saver {
+    /// Makes all that `run` needs, for a machine as it is now.
+    pub fn prepare<M: Machine>(alloc: Global, machine: &M) -> Result<Saver, Memory>
+        requires hvm { (M.state machine.now).host.kind ≡ Hvm }
+        requires plain { HasNoEmulators (M.state machine.now).host.parts }
+        ensures { IfOk result (λ saver. IsFor saver (M.state machine.now).host) }
+    {
+        let room = Room::new(alloc, machine.width())?;
+        let policies = copy_codes(alloc, machine, CPUID_LEAF, MSR)?;
+        let settings = copy_codes(alloc, machine, TSC, HVM_PARAM)?;
+        Ok(Saver {
+            policies,
+            settings,
+            room,
+        })
+    }
+
+    /// Saves the machine: sends its frames while its guest runs, pauses it, judges its host, and ends the stream where
+    /// nothing is wrong with it. It takes no memory.
+    pub fn run<M: Machine, K: Sink>(
+        self,
+        machine: &mut M,
+        sink: &mut K,
+    ) -> Result<SaveReport, SaveAnswer>
+        requires made { IsFor self (M.state machine.old).host }
+        requires hvm { (M.state machine.old).host.kind ≡ Hvm }
+        requires plain { HasNoEmulators (M.state machine.old).host.parts }
+        requires unpaused { (M.state machine.old).paused ≡ false }
+        requires unread { (M.state machine.old).history ≡ no_history }
+        ensures paused { OnEnd result ((M.state machine.new).paused ≡ true) }
+        ensures rounds { OnEnd result (HasRounds (M.state machine.new)) }
+        ensures tight { OnOk result (IsTight (M.state machine.new)) }
+        ensures kept { OnEnd result (StaysSame (M.state machine.old) (M.state machine.new)) }
+        ensures report { IfOk result (λ report. report.rounds ≡ (M.state machine.new).history.live) }
+        ensures entries { IfOk result (λ report. report.entries ≡ length (all_read (M.state machine.new).host.width (M.state machine.new).history)) }
+        ensures stream { OnOk result (SaveWritten (K.written sink.old) (K.written sink.new) (M.state machine.new)) }
+        ensures sound { OnOk result (unsoundness (M.state machine.new).host ≡ None) }
+        ensures first { IfUnsound result (λ u. unsoundness (M.state machine.new).host ≡ Some u) }
+        ensures no_stream { OnErr result (WroteNoStream (K.written sink.old) (K.written sink.new)) }
+        ensures behind { OnErr result (IsLittleBehind (K.written sink.old) (K.written sink.new) (total (M.state machine.old).host.width (M.state machine.new).history)) }
+        ensures later { M.Later machine.old machine.new }
+        ensures machine_count { M.faults machine.old ≤ M.faults machine.new }
+        ensures sink_count { K.faults sink.old ≤ K.faults sink.new }
+        ensures machine_fault { IsErrOf result MachineFault → Rose (M.faults machine.old) (M.faults machine.new) }
+        ensures write_fault { IsErrOf result WriteFault → Rose (K.faults sink.old) (K.faults sink.new) }
+    {
+        let Saver {
+            policies,
+            settings,
+            room,
+        } = self;
+        open(sink, &policies)?;
+        let sent = send(machine, sink, room)?;
+        close(machine, sink, settings, sent.unsound)?;
+        Ok(SaveReport {
+            rounds: sent.rounds,
+            entries: sent.entries,
+        })
+    }
+}
