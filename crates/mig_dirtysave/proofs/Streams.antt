@@ -1,13 +1,16 @@
 -- What a save wrote is a stream, and over an honest machine the stream of the host's view.
-use Rattle.std.proofs.Common.{◌≡◌, ℕ, ◌≤◌, List, [], ◌∷◌, ◌++◌, length, map, replicate, true, Option, None, refl, sym, ap, subst, ◌∙◌, arith, append_assoc, length-append}
+use Rattle.std.proofs.Common.{◌≡◌, ℕ, ◌≤◌, List, [], ◌∷◌, ◌++◌, length, map, replicate, true, false, Option, Some, None, refl, sym, ap, subst, ◌∙◌, arith, append_assoc, length-append}
 use Rattle.std.specs.List.{AllByRecursion}
+use Rattle.std.specs.Option.{option_map}
 use Rattle.std.specs.Io.KnownBytes.{Appends}
 use Rattle.std.proofs.KnownBytes.{Appends-trans}
 use Rattle.mig_headers.specs.declared.kind.Kind.{Kind}
 use Rattle.mig_headers.specs.declared.kind.Kind.TheVariants.{Hvm}
-use Rattle.mig_guest.specs.Formed.{IsFormed, HasNoEmulators, is_policy}
+use Rattle.mig_guest.specs.Formed.{IsFormed, HasNoEmulators, is_emulator_code, is_policy}
 use Rattle.mig_guest.specs.Guests.{GuestOf}
-use Rattle.mig_guest.specs.Hosts.{HostOf, IsValid}
+use Rattle.mig_guest.specs.Hosts.{IsValid}
+use Rattle.mig_guest.specs.PartCodes.{is_fixed}
+use Rattle.mig_guest.specs.Parts.{PartMap}
 use Rattle.mig_guest.specs.declared.part_key.PartKey.{PartKey}
 use Rattle.std.specs.FinMap as maps
 use Rattle.mig_canon.specs.Canon.{Record, headers, static_bodies, text_of}
@@ -18,6 +21,7 @@ use Rattle.mig_hosted.specs.Sound.{unsoundness}
 use Rattle.mig_hosted.specs.View.{view, hvm_view}
 use Rattle.mig_hosted.proofs.HostViews.{hvm_viewed}
 use Rattle.mig_hosted.proofs.SoundRows.{sound_is_faultless}
+use Rattle.mig_hosted.proofs.ViewedFrames.{each_policy}
 use Rattle.mig_libxl.specs.Spelled.{AcceptedStream}
 use Rattle.mig_libxl.specs.Stream.StreamOf.{Bare}
 use Rattle.mig_machine_api.specs.MachineStates.{MachineState}
@@ -26,9 +30,9 @@ use Rattle.mig_restore.specs.Mean.{mean}
 use Rattle.mig_restore.specs.Spelled.{Accepted}
 use Rattle.mig_restore.specs.Stream.{image_of}
 use Rattle.mig_rounds.specs.Entries.{AreTold}
-use Rattle.mig_rounds.specs.Live.{FramesSaved}
+use Rattle.mig_rounds.specs.Live.{StaysSame, FramesSaved}
 use Rattle.mig_saved.proofs.Viewed.{saved_is_viewed}
-use Rattle.mig_dirtysave.specs.Saver.{is_setting, kept_parts, parts_alone}
+use Rattle.mig_dirtysave.specs.Saver.{SaverOf, IsFor, is_setting, kept_parts, parts_alone}
 use Rattle.mig_dirtysave.specs.SaveTexts.{save_opening, closing_records, ClosesStream}
 use Rattle.mig_dirtysave.specs.SaveAnswers.{IsOtherRecord, SaveWritten}
 use Rattle.mig_dirtysave.proofs.Codes.{IsOther, both_all, front_short, policies_seen, last_seen, static_within, closing_within, kept_formed}
@@ -50,6 +54,28 @@ records_are (b ∷ batches) = ap (λ (l : List Record). telling_record b ∷ l) 
 others_are : (rs : List Record) → AllByRecursion IsOther rs → AllByRecursion IsOtherRecord rs
 others_are [] p = tt
 others_are (r ∷ rs) p = (record { no_pages = p.0.1; no_end = p.0.0.no_end }, others_are rs p.1)
+
+-- ---- what stays of a machine
+
+policy_fixed : (code : ℕ) → is_policy code ≡ true → is_fixed code ≡ true
+policy_fixed code one = each_policy (λ c. is_fixed c ≡ true) refl refl code one
+
+-- its policies are those that the saver holds
+pub policies_stay : (s t : MachineState) (saver : SaverOf) (g : GuestOf) → StaysSame s t → IsFor saver s.host → g.parts ≡ saver.policies
+    → (key : PartKey) → is_policy key.code ≡ true → maps.get t.host.parts key ≡ maps.get g.parts key
+policies_stay s t saver g same made is key one = same.shape.fixed key (policy_fixed key.code one) ∙ made.policies key one ∙ ap (λ (m : PartMap). maps.get m key) (sym is)
+
+-- and it gets no emulators
+pub plain_stays : (s t : MachineState) → StaysSame s t → HasNoEmulators s.host.parts → HasNoEmulators t.host.parts
+plain_stays s t same plain key bytes is = by (maps.get s.host.parts key) refl
+  where
+    by : (o : Option (List ℕ)) → maps.get s.host.parts key ≡ o → is_emulator_code key.code ≡ false
+    by None at =
+        let lengths = same.shape.lengths key in
+        let no : ◌≡◌ {A = Option ℕ} (Some (length bytes)) None = sym (ap (option_map (λ (l : List ℕ). length l)) is) ∙ lengths ∙ ap (option_map (λ (l : List ℕ). length l)) at in cc
+    by (Some x) at = plain key x at
+
+-- ---- the stream
 
 module _ (t : MachineState) (valid : IsValid t.host) (hvm : t.host.kind ≡ Hvm) (plain : HasNoEmulators t.host.parts) (faultless : unsoundness t.host ≡ None) (policies : GuestOf) (formed : IsFormed policies)
     (alike : (key : PartKey) → is_policy key.code ≡ true → maps.get t.host.parts key ≡ maps.get policies.parts key) (old mid sent new : Option (List ℕ)) (opened : Appends old mid (save_opening policies))

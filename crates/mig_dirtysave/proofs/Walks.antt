@@ -128,6 +128,10 @@ put_apart g key q bytes is = get-insert part_total g key bytes q ∙ ap (λ b. c
 pub kept_at : (codes : ℕ → Bool) (m : PartMap) (q : PartKey) → maps.get (kept_parts codes m) q ≡ cond (codes q.code) (maps.get m q) None
 kept_at codes m q = get-retain_keys m (λ (key : PartKey). codes key.code) q (λ x e. ap (λ (key : PartKey). codes key.code) (sym (part_exact q x e)))
 
+-- a guest that has the parts of these codes has them as the map has them
+pub kept_same : (codes : ℕ → Bool) (m : PartMap) (g : GuestOf) → g ≡ parts_alone (kept_parts codes m) → (key : PartKey) → codes key.code ≡ true → maps.get m key ≡ maps.get g.parts key
+kept_same codes m g is key of = sym (ap (λ (k : GuestOf). maps.get k.parts key) is ∙ kept_at codes m key ∙ ap (λ b. cond b (maps.get m key) None) of)
+
 -- of the keys that were passed the parts of these codes are copied, and of those ahead none is
 pub record Copied (codes : ℕ → Bool) (m : PartMap) (after : Option PartKey) (g : PartMap) : Type 0 where
   pub ahead : (q : PartKey) → is_above after q ≡ true → maps.get g q ≡ None
