@@ -1,15 +1,14 @@
 -- The parts of some codes of an HVM host: they make a well formed guest, and their records are those of the host's view.
-use Rattle.mig_hosted.proofs.Common.{◌≡◌, ℕ, ◌+◌, ◌<◌, ◌≤◌, ◌^◌, ◌++◌, Bool, true, false, cond, List, [], ◌∷◌, length, take, replicate, Option, Some, None, option_map, refl, sym, ap, subst, ◌∙◌, arith, ◌==◌, append-nil, and_parts, eqb-true, eq-eqb, ne_eqb, length-append, length-take-le, part_total, part_exact, Hvm, PartKey, GuestOf, IsFormed, IsPart, width_of, context_key, each_value, part_cmp}
-use Rattle.std.specs.Prelude.{Ok, map, ◌≢◌}
+use Rattle.mig_hosted.proofs.Common.{◌≡◌, ℕ, ◌+◌, ◌<◌, ◌≤◌, ◌^◌, ◌++◌, Bool, true, false, cond, List, [], ◌∷◌, length, replicate, Option, Some, None, option_map, refl, sym, ap, subst, ◌∙◌, arith, ◌==◌, append-nil, and_parts, eqb-true, ne_eqb, length-append, length-take-le, part_total, part_exact, Hvm, PartKey, GuestOf, IsFormed, IsPart, context_key, part_cmp}
+use Rattle.std.specs.Prelude.{map, ◌≢◌}
 use Rattle.std.specs.List.{AllByRecursion}
-use Rattle.std.specs.Ordering.{eq_by_cmp, is_eq}
+use Rattle.std.specs.Ordering.{eq_by_cmp}
 use Rattle.std.proofs.lemmas.Cmp.{eq_by_cmp_equiv}
 use Rattle.std.proofs.Common.{append_assoc}
 use Rattle.std.proofs.lemmas.Bool.{leb-true}
 use Rattle.std.proofs.lemmas.List.{length-replicate}
 use Rattle.std.specs.FinMap as maps
-use Rattle.std.specs.FinMap.{find}
-use Rattle.mig_headers.specs.Contexts.{scan, cut_at}
+use Rattle.mig_headers.specs.Contexts.{scan}
 use Rattle.mig_headers.specs.declared.kind.Kind.{Kind}
 use Rattle.mig_guest.specs.declared.part_code.PartCode.{PartCode}
 use Rattle.mig_guest.specs.declared.part_code.PartCode.TheVariants.{Tsc, HvmContext, HvmParam, CpuidLeaf, Msr}
@@ -31,7 +30,7 @@ use Rattle.mig_hosted.specs.View.{hvm_view}
 use Rattle.mig_hosted.proofs.ViewedParts.{hvm_part}
 use Rattle.mig_hosted.proofs.ViewedFrames.{each_policy}
 use Rattle.mig_dirtysave.specs.Saver.{is_setting, kept_parts, parts_alone, HoldsParts}
-use Rattle.mig_dirtysave.specs.SaveTexts.{IsContextFront, context_record, setting_codes, closing_records}
+use Rattle.mig_dirtysave.specs.SaveTexts.{IsContextFront, context_record, closing_records}
 use Rattle.mig_dirtysave.proofs.Walks.{kept_at}
 
 -- ---- the parts of some codes

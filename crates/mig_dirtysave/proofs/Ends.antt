@@ -1,5 +1,5 @@
 -- What a save has written where it stopped early.
-use Rattle.std.proofs.Common.{◌≡◌, ℕ, ◌+◌, ◌≤◌, List, [], ◌∷◌, ◌++◌, length, map, Option, refl, sym, ap, subst, ◌∙◌, arith, append_assoc, append-nil}
+use Rattle.std.proofs.Common.{◌≡◌, ℕ, ◌≤◌, List, [], ◌++◌, map, Option, sym, ap, subst, arith, append_assoc, append-nil}
 use Rattle.std.proofs.Common.{◌⊎◌, inl, inr}
 use Rattle.std.specs.Io.KnownBytes.{Appends, append_known}
 use Rattle.mig_bytes.specs.Bytes.{AppendsPart}
@@ -50,12 +50,14 @@ module _ (old mid : Option (List ℕ)) (policies : GuestOf) (formed : IsFormed p
 
   -- in what stands before the frames
   pub stopped_first : (n : ℕ) → n ≤ 1024 → AppendsPart old mid (save_opening policies) → Stopped old mid n
-  stopped_first n few p = record { case = elim (part_behind old mid (headers Hvm) first p) [
-    | inl part ↦ inl (part, few)
-    | inr (heads, part) ↦
-        let (front, some) = some_records opened mid first (are_within first (static_within policies formed)) part in
-        inr (record { kind = Hvm; opened = opened; before = front; batches = []; behind = []; heads = heads; wrote = subst (WroteSome opened mid) (sym (append-nil front)) some; few = omega (arith, few) })
-  ] }
+  stopped_first n few p = record {
+    case = elim (part_behind old mid (headers Hvm) first p) [
+      | inl part ↦ inl (part, few)
+      | inr (heads, part) ↦
+          let (front, some) = some_records opened mid first (are_within first (static_within policies formed)) part in
+          inr (record { kind = Hvm; opened = opened; before = front; batches = []; behind = []; heads = heads; wrote = subst (WroteSome opened mid) (sym (append-nil front)) some; few = omega (arith, few) })
+    ];
+  }
 
   module _ (a : Appends old mid (save_opening policies)) where
     heads : Appends old opened (headers Hvm)
@@ -68,29 +70,33 @@ module _ (old mid : Option (List ℕ)) (policies : GuestOf) (formed : IsFormed p
     pub stopped_frames : (new : Option (List ℕ)) (n : ℕ) → IsBehind mid new n → Stopped old new n
     stopped_frames new n b =
         let batches = map telling_record b.batches in
-        record { case = inr (record {
-          kind = Hvm;
-          opened = opened;
-          before = first;
-          batches = b.batches;
-          behind = [];
-          heads = heads;
-          wrote = subst (WroteSome opened new) (ap (λ (l : List Record). first ++ l) (sym (append-nil batches))) (some_behind opened mid new first batches whole b.cut.wrote);
-          few = b.few;
-        }) }
+        record {
+          case = inr (record {
+            kind = Hvm;
+            opened = opened;
+            before = first;
+            batches = b.batches;
+            behind = [];
+            heads = heads;
+            wrote = subst (WroteSome opened new) (ap (λ (l : List Record). first ++ l) (sym (append-nil batches))) (some_behind opened mid new first batches whole b.cut.wrote);
+            few = b.few;
+          });
+        }
 
     -- behind them
     pub stopped_last : (sent new : Option (List ℕ)) (t : MachineState) (u : Option Unsound) (n : ℕ) → n ≡ total t.host.width t.history → FramesSaved mid sent t u → StopsBehind sent new → Stopped old new n
     stopped_last sent new t u n is s stops =
         let batches = map telling_record s.batches in
         let (more, some) = stops opened (first ++ batches) (all_behind opened mid sent first batches whole s.written.wrote) in
-        record { case = inr (record {
-          kind = Hvm;
-          opened = opened;
-          before = first;
-          batches = s.batches;
-          behind = more;
-          heads = heads;
-          wrote = subst (WroteSome opened new) (append_assoc first batches more) some;
-          few = omega (arith, is, s.count);
-        }) }
+        record {
+          case = inr (record {
+            kind = Hvm;
+            opened = opened;
+            before = first;
+            batches = s.batches;
+            behind = more;
+            heads = heads;
+            wrote = subst (WroteSome opened new) (append_assoc first batches more) some;
+            few = omega (arith, is, s.count);
+          });
+        }

@@ -6,7 +6,7 @@ use Rattle.mig_headers.specs.declared.unsound.Unsound.{Unsound}
 use Rattle.mig_headers.specs.declared.unsound.Unsound.TheVariants as unsounds
 use Rattle.mig_guest.specs.declared.part_code.PartCode.{PartCode}
 use Rattle.mig_guest.specs.declared.part_code.PartCode.TheVariants.{P2mFrames, VcpuBasic}
-use Rattle.mig_guest.specs.Hosts.{HostOf, HostFrame, HostFrames, IsValid, pfn_in}
+use Rattle.mig_guest.specs.Hosts.{HostOf, HostFrame, IsValid, pfn_in}
 use Rattle.mig_guest.specs.PartCodes.{row_of, code_number}
 use Rattle.mig_guest.proofs.PartRows.{one_code, no_entries}
 use Rattle.mig_pvtables.specs.BadEntries.{is_unknown}
@@ -82,14 +82,14 @@ module _ (h : HostOf) (valid : IsValid h) (hvm : h.kind ≡ Hvm) where
   hvm_rows =
       ap (λ (k : Kind). first_cause (unsound_rows k frames h.parts (pfn_in h.frames))) hvm
       ∙ (λ i. first_cause (
-          option_or (absent h.parts context_key) None
-          ∷ option_map (λ k. unsounds.P2mFrame k) (no_p2m i)
-          ∷ option_map (λ (at : ℕ × ℕ). unsounds.Superpage at.0 at.1) (no_slot is_superpage i)
-          ∷ option_map (λ (at : ℕ × ℕ). unsounds.NoFrame at.0 at.1) (no_slot (is_unknown (pfn_in h.frames)) i)
-          ∷ option_map (λ (at : ℕ × ℕ). unsounds.GdtEnts at.0 at.1) (no_gdt i)
-          ∷ option_map (λ (at : ℕ × ℕ). unsounds.VcpuFrame at.0 at.1) (no_field i)
-          ∷ option_map (λ fault. unsounds.BadContext fault) (find_context_fault h.parts)
-          ∷ []))
+      option_or (absent h.parts context_key) None
+      ∷ option_map (λ k. unsounds.P2mFrame k) (no_p2m i)
+      ∷ option_map (λ (at : ℕ × ℕ). unsounds.Superpage at.0 at.1) (no_slot is_superpage i)
+      ∷ option_map (λ (at : ℕ × ℕ). unsounds.NoFrame at.0 at.1) (no_slot (is_unknown (pfn_in h.frames)) i)
+      ∷ option_map (λ (at : ℕ × ℕ). unsounds.GdtEnts at.0 at.1) (no_gdt i)
+      ∷ option_map (λ (at : ℕ × ℕ). unsounds.VcpuFrame at.0 at.1) (no_field i)
+      ∷ option_map (λ fault. unsounds.BadContext fault) (find_context_fault h.parts)
+      ∷ []))
       ∙ first_of_parts (absent h.parts context_key) (option_map (λ fault. unsounds.BadContext fault) (find_context_fault h.parts))
 
   pub hvm_judged : (tables : Option Unsound) → tables ≡ None → unsoundness h ≡ judged_with tables h.parts

@@ -1,5 +1,5 @@
 -- Parts of what a save writes: of the headers and records, of records, and of records before END.
-use Rattle.std.proofs.Common.{◌≡◌, ℕ, ◌+◌, ◌-◌, ◌<◌, ◌≤◌, List, [], ◌∷◌, ◌++◌, length, take, Option, Some, None, Result, Ok, Err, OnOk, OnErr, refl, sym, ap, subst, ◌∙◌, arith, append_assoc, append-nil, length-append}
+use Rattle.std.proofs.Common.{◌≡◌, ℕ, ◌+◌, ◌-◌, ◌<◌, List, [], ◌∷◌, ◌++◌, length, take, Option, Some, None, Result, Ok, Err, OnOk, OnErr, refl, sym, ap, subst, ◌∙◌, arith, append_assoc, append-nil, length-append}
 use Rattle.std.proofs.Common.{◌⊎◌, inl, inr}
 use Rattle.std.proofs.lemmas.Bool.{cases_lt}
 use Rattle.std.proofs.Math.Seq.{take-append-add}
@@ -13,7 +13,7 @@ use Rattle.mig_guest.specs.Guests.{GuestOf}
 use Rattle.mig_records.specs.Records.{spelled}
 use Rattle.mig_canon.specs.Canon.{Record, records_of, records_in_order, text_of}
 use Rattle.mig_canon.proofs.Spelling.{text_join, text_one, codes_alone}
-use Rattle.mig_pagesink.specs.Written.{IsShortRecord, AreRecordsWithin, WroteAll, WroteSome, LeavesPart}
+use Rattle.mig_pagesink.specs.Written.{IsShortRecord, AreRecordsWithin, WroteSome, LeavesPart}
 use Rattle.mig_pagesink.proofs.Written.{all_behind, some_behind, none_of_next}
 use Rattle.mig_dirtysave.specs.SaveTexts.{StopsBehind, context_record, setting_codes, closing_records}
 

@@ -1,5 +1,5 @@
 -- A walk over the keys of a machine's parts, in their order: what was passed, and what is left.
-use Rattle.mig_guest.proofs.Common.{◌≡◌, ℕ, ◌+◌, ◌<◌, ◌≤◌, List, [], ◌∷◌, length, filter, Bool, true, false, cond, Option, Some, None, IsSome, IfSome, refl, sym, ap, subst, ◌∙◌, arith, find, eq_by_cmp, is_eq, is_lt, Ordering, Less, Equal, Greater, tied_itself, get-insert, get-retain_keys, same_map, eq_by_cmp_equiv, option_map, part_cmp, IsAbove, Part, PartMap}
+use Rattle.mig_guest.proofs.Common.{◌≡◌, ℕ, ◌<◌, ◌≤◌, List, [], ◌∷◌, length, filter, Bool, true, false, cond, Option, Some, None, IsSome, IfSome, refl, sym, ap, subst, ◌∙◌, arith, find, eq_by_cmp, is_eq, is_lt, Ordering, Less, Equal, Greater, get-insert, get-retain_keys, same_map, eq_by_cmp_equiv, option_map, part_cmp, IsAbove, Part, PartMap}
 use Rattle.std.specs.Prelude.{◌==◌, ◌||◌}
 use Rattle.std.proofs.lemmas.Bool.{eq-eqb, ne_eqb}
 use Rattle.std.specs.Ordering.{ordering_reverse}
@@ -206,13 +206,6 @@ no_len (Some bytes) is = let no : ◌≡◌ {A = Option ℕ} None (Some (length 
 -- a setting that isn't there isn't held
 not_held : (m g : PartMap) (q : PartKey) → SameSettings m g → is_setting q.code ≡ true → maps.get m q ≡ None → maps.get g q ≡ None
 not_held m g q same of none = no_len (maps.get g q) (sym (ap (option_map (λ (bytes : List ℕ). length bytes)) none) ∙ same q of)
-
-pub refreshed_none : (m g : PartMap) → ((key : PartKey) (bytes : List ℕ) → maps.get g key ≡ Some bytes → is_setting key.code ≡ true) → SameSettings m g → Refreshed m None g
-refreshed_none m g alone same = record { done = λ q h of. cc; others = λ q other. by q (maps.get g q) refl other; same = same }
-  where
-    by : (q : PartKey) (o : Option (List ℕ)) → maps.get g q ≡ o → is_setting q.code ≡ false → o ≡ None
-    by q None is other = refl
-    by q (Some bytes) is other = let both : true ≡ false = sym (alone q bytes is) ∙ other in cc
 
 module _ (m : PartMap) (after : Option PartKey) (key : PartKey) (next : IsNextKey m after key) (g : PartMap) (before_it : Refreshed m after g) where
   pub refreshed_one : (bytes : List ℕ) → is_setting key.code ≡ true → maps.get m key ≡ Some bytes → Refreshed m (Some key) (maps.insert g key bytes)

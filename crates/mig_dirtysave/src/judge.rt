@@ -1,14 +1,13 @@
 ghost use Rattle.std.specs.Prelude.{◌≡◌, IfOk};
 ghost use Rattle.mig_dirtysave.specs.SaveTexts.{IsContextFront, unsound_in, judged_with};
 
+use crate::write::HVM_CONTEXT;
 use mig_guest::PartKey;
 use mig_headers::Unsound;
 use mig_hvm::scan_context;
 use mig_machine_api::Machine;
 
-/// The number of the context, and its key.
-const HVM_CONTEXT: u32 = 9;
-
+/// The key of the context.
 const CONTEXT: PartKey = PartKey {
     code: HVM_CONTEXT,
     key1: 0,

@@ -18,8 +18,8 @@ use mig_records::{write_head, write_padding, write_record};
 /// The type of STATIC_DATA_END.
 const STATIC_DATA_END: u32 = 0x10;
 
-/// The type of HVM_CONTEXT.
-const HVM_CONTEXT: u32 = 9;
+/// The type of HVM_CONTEXT, which is the number of its part too.
+pub(crate) const HVM_CONTEXT: u32 = 9;
 
 /// Appends the headers, the policies and STATIC_DATA_END.
 pub(crate) fn write_before<K: Sink>(sink: &mut K, policies: &Guest) -> Result<(), WriteFailed>
