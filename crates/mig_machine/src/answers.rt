@@ -1,4 +1,4 @@
-ghost use Rattle.std.specs.Prelude.{◌≡◌, ℕ, ◌+◌, ◌/◌, ◌≤◌, length, true};
+ghost use Rattle.std.specs.Prelude.{◌≡◌, ℕ, ◌+◌, ◌/◌, ◌≤◌, length};
 ghost use Rattle.mig_machine_api.specs.MachineCalls.{seen_at, page_peeked};
 ghost use Rattle.mig_machine_api.specs.Pfns.{pfns_of_words, no_pfns};
 ghost use Rattle.mig_machine.specs.MachineSeen.{machine_state, course_of, IsLaterMachine};
