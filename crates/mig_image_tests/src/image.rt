@@ -114,7 +114,7 @@ fn append(bytes: &mut Vec<u8>, alloc: Global, text: &str) -> Result<(), Fail> {
     Ok(())
 }
 
-fn sample(alloc: Global) -> Result<Vec<u8>, Fail> {
+pub(crate) fn sample(alloc: Global) -> Result<Vec<u8>, Fail> {
     let mut bytes = Vec::new(alloc);
     for text in texts() {
         append(&mut bytes, alloc, text)?;
