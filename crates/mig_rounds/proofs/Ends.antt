@@ -23,12 +23,12 @@ use Rattle.mig_rounds.specs.declared.found.Worst.{Worst}
 use Rattle.mig_rounds.specs.Forms.{form_of_print, type_of_print, superpage_slot, lost_slot}
 use Rattle.mig_rounds.specs.Findings.{judged, frame_sent, is_deferred}
 use Rattle.mig_rounds.specs.Flags.{pfns_of_flags, rest, total, total_taken}
-use Rattle.mig_rounds.specs.Entries.{AreTold, meant}
+use Rattle.mig_rounds.specs.Entries.{meant}
 use Rattle.mig_rounds.specs.Current.{Notes, no_notes, Current}
 use Rattle.mig_rounds.specs.Sends.{ReadsFront, SendsFront, IsWorst, first_pfn, within_set, super_of, lost_of}
 use Rattle.mig_rounds.specs.Live.{LiveSent, Ended, Saved, SavedSent, forms, type_in, table_fault, worst_fault, tables_unsound}
 use Rattle.mig_rounds.proofs.Firsts.{first_none, first_same, super_is, lost_is, good_when, good_super, good_lost, good_form, no_fault, same_fault}
-use Rattle.mig_rounds.proofs.Steps.{current_on}
+use Rattle.mig_rounds.proofs.Steps.{current_on, told_alike}
 use Rattle.mig_rounds.proofs.Saves.{front_all, rest_gone, taken_after, even, no_members, size_none}
 
 differ : false ≡ true → ⊥
@@ -251,7 +251,8 @@ module _ (rounds : ℕ) (s t u v : MachineState) (set log : Pfns) (notes : Notes
     saved_sent = record {
       order = sends.names ∙ ap (λ l. l ++ members (length both) (pfns_of_flags both)) (sent.order ∙ earlier) ∙ ap (λ w. rounds_read s.host.width v.history.taken ++ members w (pfns_of_flags both)) l.wide
           ∙ ap (λ (r : Pfns). rounds_read s.host.width v.history.taken ++ members s.host.width r) (sym (l.reads.read ∙ front_all both)) ∙ ap (λ w. all_read w v.history) (sym last_width);
-      told = subst (λ k. AreTold k after) (sym l.reads.shape.kind) (sends.told (subst (λ k. AreTold k before) (sym (l.took.ran.shape.kind ∙ l.paused.ran.shape.kind)) sent.told));
+      told = told_alike after (sym l.reads.shape.kind) (sym l.reads.shape.width)
+          (sends.told (told_alike before (sym (l.took.ran.shape.kind ∙ l.paused.ran.shape.kind)) (sym (l.took.ran.shape.width ∙ l.paused.ran.shape.width)) sent.told));
       first = first;
       types = types;
       tight = λ h none.

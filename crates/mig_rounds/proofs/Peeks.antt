@@ -1,5 +1,5 @@
 -- What is read of one number.
-use Rattle.std.proofs.Common.{arith, ◌≡◌, ℕ, ◌≤◌, List, length, Bool, true, false, cond, Option, Some, None, Result, Ok, Err, refl, sym, ap, subst, ◌∙◌}
+use Rattle.std.proofs.Common.{arith, ◌≡◌, ℕ, ◌-◌, ◌≤◌, List, length, Bool, true, false, cond, Option, Some, None, Result, Ok, Err, refl, sym, ap, subst, ◌∙◌}
 use Rattle.std.specs.Prelude.{unwrap_or, is_some, IfOk}
 use Rattle.std.specs.Option.{option_map}
 use Rattle.std.specs.FinMap as maps
@@ -10,6 +10,7 @@ use Rattle.mig_pagetypes.specs.declared.page_type.PageType.TheVariants.{Notab, L
 use Rattle.mig_pagetypes.specs.PageTypes.{level_of, type_has_data}
 use Rattle.mig_guest.specs.Frames.{FrameOf, is_type_of}
 use Rattle.mig_guest.specs.Hosts.{HostFrame, HostFrames, HostOf, IsHostFrame}
+use Rattle.mig_guest.specs.Tables.{EachEntry, IsWithin}
 use Rattle.mig_machine_api.specs.declared.machine.Seen.{Seen}
 use Rattle.mig_machine_api.specs.declared.machine.Seen.TheVariants as seen
 use Rattle.mig_machine_api.specs.History.{History}
@@ -17,7 +18,7 @@ use Rattle.mig_machine_api.specs.MachineStates.{MachineState, IsValidState}
 use Rattle.mig_machine_api.specs.MachineCalls.{Peeked, seen_of, seen_at, page_of, page_peeked}
 use Rattle.mig_machine_api.specs.Footprints.{footprint, footprint_of, table_in, names_in}
 use Rattle.mig_rounds.specs.Forms.{superpage_in, lost_in, form_page}
-use Rattle.mig_rounds.specs.Findings.{Finding, judge, judged, found_as, frame_sent, IsToldFrame, CanBeTold, ShowsOnly}
+use Rattle.mig_rounds.specs.Findings.{Finding, judge, judged, found_as, frame_sent, NamesWithin, IsToldFrame, CanBeTold, ShowsOnly}
 use Rattle.mig_rounds.specs.declared.found.Found as finds
 use Rattle.mig_rounds.specs.declared.found.Found.TheVariants as find
 use Rattle.mig_rounds.specs.Findings.Finding.{Gone, Shows}
@@ -112,23 +113,35 @@ at_least_one Hvm = omega arith
 no_frame : (x : FrameOf) → ◌≡◌ {A = Option FrameOf} None (Some x) → ⊥
 no_frame x e = cc
 
-shown_frame : (kind : Kind) (type : PageType) (page : List ℕ) → is_type_of kind type ≡ true → length page ≡ 4096 → (b : Bool) → type_has_data type ≡ b → IsToldFrame kind (record { type = type; page = cond b (Some page) None })
-shown_frame kind type page of size true has = record { type = of; in_step = sym has; whole = λ other e. subst (λ l. length l ≡ 4096) (some_page e) size }
+shown_frame : (kind : Kind) (width : ℕ) (type : PageType) (page : List ℕ) → is_type_of kind type ≡ true → length page ≡ 4096 → (b : Bool) → type_has_data type ≡ b
+    → EachEntry (IsWithin (width - 1)) (record { type = type; page = cond b (Some page) None }) → IsToldFrame kind width (record { type = type; page = cond b (Some page) None })
+shown_frame kind width type page of size true has within = record { type = of; in_step = sym has; whole = λ other e. subst (λ l. length l ≡ 4096) (some_page e) size; entries = within }
   where
     some_page : {other : List ℕ} → ◌≡◌ {A = Option (List ℕ)} (Some page) (Some other) → page ≡ other
     some_page e = cc
-shown_frame kind type page of size false has = record { type = of; in_step = sym has; whole = λ other e. absurd (let no : ◌≡◌ {A = Option (List ℕ)} None (Some other) = e in cc) }
+shown_frame kind width type page of size false has within = record { type = of; in_step = sym has; whole = λ other e. absurd (let no : ◌≡◌ {A = Option (List ℕ)} None (Some other) = e in cc); entries = within }
 
-pub no_frame_told : {kind : Kind} → CanBeTold kind None
+pub no_frame_told : {kind : Kind} {width : ℕ} → CanBeTold kind width None
 no_frame_told = λ x e. absurd (no_frame x e)
 
+pub no_frame_within : (width : ℕ) → NamesWithin width None
+no_frame_within width = λ x e. absurd (no_frame x e)
+
+-- what is no table names nothing
+pub plain_within : (width : ℕ) (type : PageType) (page : List ℕ) → level_of type ≡ None → NamesWithin width (frame_sent (found_as (find.Shows type) page))
+plain_within width type page none = λ x e level shown is. absurd (no_level (sym none ∙ ap (λ (o : Option FrameOf). unwrap_or (option_map (λ (f : FrameOf). level_of f.type) o) None) e ∙ is))
+  where
+    no_level : {level : ℕ} → ◌≡◌ {A = Option ℕ} None (Some level) → ⊥
+    no_level e = cc
+
 -- what was found, where it shows only a type of the kind
-pub can_be_told : (kind : Kind) (type : PageType) (f : finds.Found) (page : List ℕ) → length page ≡ 4096 → is_type_of kind type ≡ true → ShowsOnly type f → CanBeTold kind (frame_sent (found_as f page))
-can_be_told kind type find.Gone page size of only = λ x e. absurd (no_frame x e)
-can_be_told kind type (find.Superpage other slot) page size of only = λ x e. absurd (no_frame x e)
-can_be_told kind type (find.NoFrame other slot) page size of only = λ x e. absurd (no_frame x e)
-can_be_told kind type (find.Shows other) page size of only = λ x e.
-    subst (IsToldFrame kind) (some_frame e) (shown_frame kind other page (subst (λ t. is_type_of kind t ≡ true) (sym only) of) size (type_has_data other) refl)
+pub can_be_told : (kind : Kind) (width : ℕ) (type : PageType) (f : finds.Found) (page : List ℕ) → length page ≡ 4096 → is_type_of kind type ≡ true → ShowsOnly type f → NamesWithin width (frame_sent (found_as f page))
+    → CanBeTold kind width (frame_sent (found_as f page))
+can_be_told kind width type find.Gone page size of only within = λ x e. absurd (no_frame x e)
+can_be_told kind width type (find.Superpage other slot) page size of only within = λ x e. absurd (no_frame x e)
+can_be_told kind width type (find.NoFrame other slot) page size of only within = λ x e. absurd (no_frame x e)
+can_be_told kind width type (find.Shows other) page size of only within = λ x e.
+    subst (IsToldFrame kind width) (some_frame e) (shown_frame kind width other page (subst (λ t. is_type_of kind t ≡ true) (sym only) of) size (type_has_data other) refl (within _ refl))
   where
     some_frame : {a x : FrameOf} → ◌≡◌ {A = Option FrameOf} (Some a) (Some x) → a ≡ x
     some_frame e = cc
@@ -148,7 +161,7 @@ gone_there frames p is = go (maps.get frames p) refl is
     go None e is = sym (ap (λ o. judged (option_map (footprint_of frames) o)) e)
     go (Some h) e is = absurd (let no : ◌≡◌ {A = Seen} seen.Absent (seen.Frame h.type) = is in cc)
 
-pub reads_peek : (p : ℕ) (s t : MachineState) (f : Finding) → Peeked p s t → CanBeTold s.host.kind (frame_sent f) → f ≡ judged (footprint t.host.frames p) → ReadsOne p s t f
+pub reads_peek : (p : ℕ) (s t : MachineState) (f : Finding) → Peeked p s t → CanBeTold s.host.kind s.host.width (frame_sent f) → f ≡ judged (footprint t.host.frames p) → ReadsOne p s t f
 reads_peek p s t f peeked told is = record {
   told = told;
   ran = peeked.ran;
@@ -164,7 +177,7 @@ reads_peek p s t f peeked told is = record {
   right = λ settled. is;
 }
 
-pub reads_table : (p : ℕ) (s t u : MachineState) (f : Finding) → Peeked p s t → Looks 512 t u → most_calls t.host.kind ≡ 513 → CanBeTold s.host.kind (frame_sent f) → IsRight u p f → ReadsOne p s u f
+pub reads_table : (p : ℕ) (s t u : MachineState) (f : Finding) → Peeked p s t → Looks 512 t u → most_calls t.host.kind ≡ 513 → CanBeTold s.host.kind s.host.width (frame_sent f) → IsRight u p f → ReadsOne p s u f
 reads_table p s t u f peeked looks many told right = record {
   told = told;
   ran = ran_on s t u peeked.ran peeked.paused looks.ran;
@@ -180,6 +193,6 @@ reads_table p s t u f peeked looks many told right = record {
   right = right;
 }
 
-pub if_ok_two : {T E : Type 0} {P Q R : T → Type 0} (r : Result T E) → ((x : T) → P x → Q x → R x) → IfOk r P → IfOk r Q → IfOk r R
-if_ok_two (Ok x) f h k = f x h k
-if_ok_two (Err e) f h k = tt
+pub if_ok_three : {T E : Type 0} {P Q R S : T → Type 0} (r : Result T E) → ((x : T) → P x → Q x → R x → S x) → IfOk r P → IfOk r Q → IfOk r R → IfOk r S
+if_ok_three (Ok x) f h k l = f x h k l
+if_ok_three (Err e) f h k l = tt

@@ -17,14 +17,13 @@ use Rattle.mig_machine_api.specs.MachineCalls.{LogTaken}
 use Rattle.mig_machine_api.specs.Rounds.{GoesOn, AreCalls, to_read, rounds_read}
 use Rattle.mig_rounds.specs.Step.{most_calls}
 use Rattle.mig_rounds.specs.Flags.{pfns_of_flags, front, rest, total, total_taken}
-use Rattle.mig_rounds.specs.Entries.{AreTold}
 use Rattle.mig_rounds.specs.Current.{Notes}
 use Rattle.mig_rounds.specs.Sends.{ReadsFront, SendsFront}
 use Rattle.mig_rounds.specs.Live.{StaysSame, AreRounds, Live, LiveSent}
 use Rattle.mig_rounds.proofs.Parts.{beyond}
 use Rattle.mig_rounds.proofs.Sizes.{size-le}
 use Rattle.mig_rounds.proofs.Shapes.{stays_on, ran_stays, reads_stay}
-use Rattle.mig_rounds.proofs.Steps.{current_on, total_even, behind_less}
+use Rattle.mig_rounds.proofs.Steps.{current_on, told_alike, total_even, behind_less}
 
 -- ---- sets of flags
 
@@ -103,7 +102,7 @@ sent_round s t u flags log before after notes now is reads took sent sends = rec
       ∙ ap (λ w. rounds_read s.host.width s.history.taken ++ members w (pfns_of_flags flags)) is
       ∙ ap (λ (r : Pfns). rounds_read s.host.width s.history.taken ++ members s.host.width r) (sym (reads.read ∙ front_all flags))
       ∙ ap (rounds_read s.host.width) (sym taken) ∙ ap (λ w. rounds_read w u.history.taken) (sym width);
-  told = subst (λ k. AreTold k after) (sym (took.ran.shape.kind ∙ reads.shape.kind)) (sends.told sent.told);
+  told = told_alike after (sym (took.ran.shape.kind ∙ reads.shape.kind)) (sym width) (sends.told sent.told);
   current = λ h.
       current_on (rest (length flags) (pfns_of_flags flags)) log t.log u.log now t.host.frames u.host.frames after
       (λ q r l. (ap (λ (x : Pfns). x q) (rest_gone flags), took.ran.grown q r, took.ran.quiet (reads.honest ∙ was h) q r)) (sends.live (was h) (sent.current (was h)));

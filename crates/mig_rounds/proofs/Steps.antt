@@ -222,9 +222,13 @@ reads_more set i s t u j inside small f one = record {
 
 -- ---- and what was sent
 
-one_told : (kind : Kind) (es : List FrameTold) (e : FrameTold) → AreTold kind es → IsToldEntry kind e → AreTold kind (es ++ e ∷ [])
-one_told kind [] e all one = (one, tt)
-one_told kind (x ∷ es) e all one = (all.0, one_told kind es e all.1 one)
+one_told : (kind : Kind) (width : ℕ) (es : List FrameTold) (e : FrameTold) → AreTold kind width es → IsToldEntry kind width e → AreTold kind width (es ++ e ∷ [])
+one_told kind width [] e all one = (one, tt)
+one_told kind width (x ∷ es) e all one = (all.0, one_told kind width es e all.1 one)
+
+-- of the same kind and width
+pub told_alike : (es : List FrameTold) {kind other : Kind} {width same : ℕ} → kind ≡ other → width ≡ same → AreTold kind width es → AreTold other same es
+told_alike es k w h = subst (λ (p : Kind × ℕ). AreTold p.0 p.1 es) (λ i. (k i, w i)) h
 
 pub sends_start : (set : Pfns) (s : MachineState) (es : List FrameTold) (notes : Notes) → SendsFront 0 set s s es es notes notes
 sends_start set s es notes = record {
@@ -242,10 +246,11 @@ sends_skip set i s t before mid notes now outside f = record {
   still = λ h c. current_on (rest i set) (rest (i + 1) set) no_pfns no_pfns now t.host.frames t.host.frames mid (λ q r l. (rest_skip set i q outside r, l, refl)) (f.still h c);
 }
 
-pub sends_more : (set : Pfns) (i : ℕ) (s t u : MachineState) (before mid : List FrameTold) (notes now new : Notes) (j : Finding) → set i ≡ true → i < 2 ^ 28 → ReadsFront i set s t → SendsFront i set s t before mid notes now
+pub sends_more : (set : Pfns) (i : ℕ) (s t u : MachineState) (before mid : List FrameTold) (notes now new : Notes) (j : Finding) → set i ≡ true → i < s.host.width → ReadsFront i set s t → SendsFront i set s t before mid notes now
     → ReadsOne i t u j → new ≡ noted i j now → SendsFront (i + 1) set s u before (mid ++ entry_for i j ∷ []) notes new
-sends_more set i s t u before mid notes now new j inside small r f one is = record {
-  told = λ h. one_told s.host.kind mid (entry_for i j) (f.told h) (record { low = small; frame = subst (λ k. CanBeTold k (frame_sent j)) r.shape.kind one.told });
+sends_more set i s t u before mid notes now new j inside below r f one is = record {
+  told = λ h. one_told s.host.kind s.host.width mid (entry_for i j) (f.told h)
+      (record { inside = below; frame = subst (λ (p : Kind × ℕ). CanBeTold p.0 p.1 (frame_sent j)) (λ i. (r.shape.kind i, r.shape.width i)) one.told });
   names = map-append (λ (e : FrameTold). e.pfn) mid (entry_for i j ∷ []) ∙ ap (λ l. l ++ i ∷ []) f.names
       ∙ append_assoc (map (λ (e : FrameTold). e.pfn) before) (members i set) (i ∷ []) ∙ ap (λ l. map (λ (e : FrameTold). e.pfn) before ++ l) (sym (members_yes set i inside));
   live = λ h c. subst (Current (rest (i + 1) set) u.log u.host.frames (mid ++ entry_for i j ∷ [])) (sym is)

@@ -1,5 +1,5 @@
 -- A table that is settled has kept its footprint, so names looked up at different moments belong together.
-use Rattle.std.proofs.Common.{arith, ◌≡◌, ℕ, ◌+◌, ◌≤◌, ◌<◌, List, length, Bool, true, false, Option, Some, None, cond, refl, sym, ap, subst, ◌∙◌, inl, inr}
+use Rattle.std.proofs.Common.{arith, ◌≡◌, ℕ, ◌+◌, ◌-◌, ◌≤◌, ◌<◌, ◌==◌, List, length, Bool, true, false, Option, Some, None, cond, refl, sym, ap, subst, ◌∙◌, inl, inr, eq-eqb, ne_eqb, below_more}
 use Rattle.std.specs.Prelude.{option_and_then}
 use Rattle.std.specs.Option.{option_map}
 use Rattle.std.specs.FinMap as maps
@@ -9,9 +9,10 @@ use Rattle.mig_pagetypes.specs.PageTypes.{level_of, type_has_data}
 use Rattle.mig_guest.specs.Hosts.{HostFrame, HostFrames, pfn_in}
 use Rattle.mig_machine_api.specs.MachineStates.{MachineState, Ran}
 use Rattle.std.specs.Prelude.{get_or}
-use Rattle.std.proofs.lemmas.Bool.{cases_eq}
+use Rattle.mig_guest.specs.declared.table.Entry.TheVariants.{Frame}
+use Rattle.mig_guest.specs.Frames.{FrameOf}
 use Rattle.mig_guest.specs.Longs.{long_at}
-use Rattle.mig_guest.specs.Tables.{entry, entry_of, blanked_table}
+use Rattle.mig_guest.specs.Tables.{entry, entry_of, blanked_table, EachEntry, IsWithin}
 use Rattle.mig_pvtables.specs.Renaming.{renamed_by}
 use Rattle.mig_pvtables.specs.Tables.{first_superpage}
 use Rattle.mig_pvtables.proofs.LongSteps.{ChangedBelow, walk_start}
@@ -19,12 +20,11 @@ use Rattle.mig_pvtables.proofs.Slots.{no_slot}
 use Rattle.mig_pvtables.proofs.Slots as searches
 use Rattle.mig_machine_api.specs.Footprints.{Footprint, footprint, footprint_of, names_in, named_by, table_in}
 use Rattle.mig_rounds.specs.Forms.{lost_at, is_lost, superpage_in, lost_in, form_page}
-use Rattle.mig_rounds.specs.Findings.{judge, judged, found_as}
+use Rattle.mig_rounds.specs.Findings.{judge, judged, found_as, frame_sent, NamesWithin}
 use Rattle.mig_rounds.specs.Findings.Finding.{Shows}
 use Rattle.mig_rounds.specs.declared.found.Found.TheVariants as found
-use Rattle.mig_rounds.specs.Step.{Settled, Looks, raw_print, IsRaw, IsRenamed, IsRight}
-use Rattle.mig_rounds.specs.Step.{put_slot}
-use Rattle.mig_rounds.proofs.Slots.{formed_long, same_long, put_step, table_formed}
+use Rattle.mig_rounds.specs.Step.{Settled, Looks, raw_print, IsRaw, IsRenamed, IsRight, NameIsInside, put_slot}
+use Rattle.mig_rounds.proofs.Slots.{formed_long, same_long, names_alike, same_names, put_step, table_formed, entries_within}
 
 -- ---- what is settled at the end was so before
 
@@ -120,18 +120,25 @@ names_stay u v p kind level raw is r ran stays settled =
 
 -- ---- the loop over slots
 
+-- `names` are the PFNs that were found for the slots below k, each when it was looked up
 pub record Front (s t : MachineState) (p : ℕ) (kind : PageType) (level : ℕ) (before : List ℕ) (k : ℕ) (page : List ℕ) : Type 0 where
   pub looks : Looks k s t
   pub raw : IsRaw t p kind level before
-  pub formed : Settled t p → ChangedBelow 512 (formed_long (names_in t.host.frames (Some (level, before))) level) before k page
-  pub found : Settled t p → (j : ℕ) → j < k → lost_at level before (names_in t.host.frames (Some (level, before))) j ≡ false
+  pub names : ℕ → Option ℕ
+  pub formed : ChangedBelow 512 (formed_long names level) before k page
+  pub found : (j : ℕ) → j < k → lost_at level before names j ≡ false
+  pub inside : (j mfn pfn : ℕ) → j < k → entry level before j ≡ Frame mfn → names j ≡ Some pfn → pfn < t.host.width
+  pub right : Settled t p → (j : ℕ) → j < k → names j ≡ names_in t.host.frames (Some (level, before)) j
 
 pub front_none : (s : MachineState) (p : ℕ) (kind : PageType) (level : ℕ) (before : List ℕ) → IsRaw s p kind level before → ((i : ℕ) → get_or before i 0 < 256) → length before ≡ 4096 → Front s s p kind level before 0 before
 front_none s p kind level before raw fits size = record {
   looks = looks_none s;
   raw = raw;
-  formed = λ settled. walk_start fits size;
-  found = λ settled j less. absurd (omega (arith, less));
+  names = λ _. None;
+  formed = walk_start fits size;
+  found = λ j less. absurd (omega (arith, less));
+  inside = λ j mfn pfn less said has. absurd (omega (arith, less));
+  right = λ settled j less. absurd (omega (arith, less));
 }
 
 -- the name that goes with a slot's entry, in the page as it stands and in the raw one
@@ -143,45 +150,61 @@ same_lost : (frames : HostFrames) (level k : ℕ) (page before : List ℕ) → l
 same_lost frames level k page before e = ap (λ w. is_lost (entry_of level k w) (option_and_then (pfn_in frames) (named_by (entry_of level k w) w))) e
 
 module _ (s u v : MachineState) (p : ℕ) (kind : PageType) (level : ℕ) (before : List ℕ) (k : ℕ) (page next : List ℕ) (is : level_of kind ≡ Some level) (f : Front s u p kind level before k page)
-    (look : Looks 1 u v) (put : next ≡ put_slot page k (entry level page k) (names_in v.host.frames (Some (level, page)) k)) (below : k < 512) where
+    (look : Looks 1 u v) (inside : NameIsInside v level page k) (put : next ≡ put_slot page k (entry level page k) (names_in v.host.frames (Some (level, page)) k)) (below : k < 512) where
   abbrev names_now : ℕ → Option ℕ
   names_now = names_in v.host.frames (Some (level, before))
 
-  -- all of it is said of the host now
-  found_now : Settled v p → (j : ℕ) → j < k → lost_at level before names_now j ≡ false
-  found_now settled =
-      subst (λ names. (j : ℕ) → j < k → lost_at level before names j ≡ false) (names_stay u v p kind level before is f.raw look.ran look.paused settled)
-      (f.found (settled_before u v p look.ran look.paused settled))
+  -- the slot's own name, and those of the slots before it
+  abbrev name : Option ℕ
+  name = names_in v.host.frames (Some (level, page)) k
 
-  formed_now : Settled v p → ChangedBelow 512 (formed_long names_now level) before k page
-  formed_now settled =
-      subst (λ names. ChangedBelow 512 (formed_long names level) before k page) (names_stay u v p kind level before is f.raw look.ran look.paused settled)
-      (f.formed (settled_before u v p look.ran look.paused settled))
+  abbrev names : ℕ → Option ℕ
+  names j = cond (j == k) name (f.names j)
 
-  lost_here : Settled v p → lost_at level page (names_in v.host.frames (Some (level, page))) k ≡ lost_at level before names_now k
-  lost_here settled = same_lost v.host.frames level k page before (same_long _ _ k below (formed_now settled))
+  here : names k ≡ name
+  here = ap (λ b. cond b name (f.names k)) (eq-eqb k k refl)
+
+  earlier : (j : ℕ) → j < k → names j ≡ f.names j
+  earlier j less = ap (λ b. cond b name (f.names j)) (ne_eqb j k (λ e. omega (arith, e, less)))
+
+  same : long_at page k ≡ long_at before k
+  same = same_long f.names level k below f.formed
+
+  -- the earlier names are said of the host now
+  right_now : Settled v p → (j : ℕ) → j < k → f.names j ≡ names_now j
+  right_now settled j less = f.right (settled_before u v p look.ran look.paused settled) j less ∙ ap (λ n. n j) (names_stay u v p kind level before is f.raw look.ran look.paused settled)
+
+  inside_here : (mfn pfn : ℕ) → entry level before k ≡ Frame mfn → names k ≡ Some pfn → pfn < v.host.width
+  inside_here mfn pfn said has =
+      let said_here : entry level page k ≡ Frame mfn = ap (entry_of level k) same ∙ said in
+      inside mfn pfn said_here (sym (ap (λ x. option_and_then (pfn_in v.host.frames) (named_by x (long_at page k))) said_here) ∙ sym here ∙ has)
 
   pub front_more : false ≡ lost_at level page (names_in v.host.frames (Some (level, page))) k → Front s v p kind level before (k + 1) next
   front_more there = record {
     looks = looks_on k 1 s u v f.looks look;
     raw = raw_on u v p kind level before is f.raw look.ran look.paused;
-    formed = λ settled. put_step _ _ k below (formed_now settled) (put ∙ ap (put_slot page k (entry level page k)) (same_name v.host.frames level k page before (same_long _ _ k below (formed_now settled))));
-    found = λ settled j less. elim (cases_eq j k) [
-      | inl e ↦ ap (lost_at level before names_now) e ∙ sym (lost_here settled) ∙ sym there
-      | inr ne ↦ found_now settled j (omega (arith, less, ne))
-    ];
+    names = names;
+    formed = put_step names level k below (names_alike f.names names level k earlier f.formed) (put ∙ ap (put_slot page k (entry level page k)) (sym here));
+    found = below_more (λ j. lost_at level before names j ≡ false) k (λ j less. ap (is_lost (entry level before j)) (earlier j less) ∙ f.found j less)
+        (ap (is_lost (entry level before k)) here ∙ ap (λ w. is_lost (entry_of level k w) name) (sym same) ∙ sym there);
+    inside = λ j mfn pfn less. below_more (λ i. entry level before i ≡ Frame mfn → names i ≡ Some pfn → pfn < v.host.width) k
+        (λ i lt said has. let in_u = f.inside i mfn pfn lt said (sym (earlier i lt) ∙ has) in omega (arith, in_u, look.ran.shape.width)) (inside_here mfn pfn) j less;
+    right = λ settled. below_more (λ j. names j ≡ names_now j) k (λ j less. earlier j less ∙ right_now settled j less) (here ∙ same_name v.host.frames level k page before same);
   }
 
   pub front_lost : true ≡ lost_at level page (names_in v.host.frames (Some (level, page))) k → IsRenamed v p level before next (Some k)
   front_lost gone = record {
-    first = λ settled. searches.first_slot (lost_at level before names_now) k below (sym (lost_here settled) ∙ sym gone) (found_now settled);
+    first = λ settled. searches.first_slot (lost_at level before names_now) k below (sym (same_lost v.host.frames level k page before same) ∙ sym gone)
+        (λ j less. ap (is_lost (entry level before j)) (sym (right_now settled j less)) ∙ f.found j less);
     whole = λ settled e. absurd (let no : ◌≡◌ {A = Option ℕ} (Some k) None = e in cc);
+    within = λ none e. absurd (let no : ◌≡◌ {A = Option ℕ} (Some k) None = e in cc);
   }
 
 pub front_whole : (s t : MachineState) (p : ℕ) (kind : PageType) (level : ℕ) (before page : List ℕ) → Front s t p kind level before 512 page → IsRenamed t p level before page None
 front_whole s t p kind level before page f = record {
-  first = λ settled. sym ((no_slot (lost_at level before (names_in t.host.frames (Some (level, before))))).1 (f.found settled));
-  whole = λ settled e. table_formed (names_in t.host.frames (Some (level, before))) level before page (f.formed settled);
+  first = λ settled. sym ((no_slot (lost_at level before (names_in t.host.frames (Some (level, before))))).1 (λ j less. ap (is_lost (entry level before j)) (sym (f.right settled j less)) ∙ f.found j less));
+  whole = λ settled e. table_formed f.names level before page f.formed ∙ same_names f.names (names_in t.host.frames (Some (level, before))) level (blanked_table level before) (f.right settled);
+  within = λ none e. entries_within f.names level t.host.width f.formed none f.found f.inside;
 }
 
 -- ---- what was found
@@ -226,3 +249,21 @@ judged_whole t p kind level before page is r none renamed = λ settled.
     ∙ ap (λ l. Shows (record { type = kind; page = Some l })) (renamed.whole settled refl)
     ∙ ap (λ s. judge None s (record { type = kind; page = Some (renamed_by names level (blanked_table level before)) })) (renamed.first settled)
     ∙ sym (judged_table t p kind level before is r none settled)
+
+-- a table that is shown names only PFNs below the width
+pub table_within : (t : MachineState) (p : ℕ) (kind : PageType) (level : ℕ) (before page : List ℕ) → level_of kind ≡ Some level → first_superpage level before ≡ None → IsRenamed t p level before page None
+    → NamesWithin t.host.width (frame_sent (found_as (found.Shows kind) page))
+table_within t p kind level before page is none renamed = λ frame at.
+    subst (EachEntry (IsWithin (t.host.width - 1))) (some_frame at) (λ other shown level_is page_is slot lt.
+    let same_level : level ≡ other = some_level (sym is ∙ level_is) in
+    let same_page : page ≡ shown = some_page (ap (λ b. cond b (Some page) None) (sym (data_of kind level is)) ∙ page_is) in
+    subst (λ l. IsWithin (t.host.width - 1) (entry l shown slot)) same_level (subst (λ q. IsWithin (t.host.width - 1) (entry level q slot)) same_page (renamed.within none refl slot lt)))
+  where
+    some_frame : {x y : FrameOf} → ◌≡◌ {A = Option FrameOf} (Some x) (Some y) → x ≡ y
+    some_frame e = cc
+
+    some_level : {x y : ℕ} → ◌≡◌ {A = Option ℕ} (Some x) (Some y) → x ≡ y
+    some_level e = cc
+
+    some_page : {x y : List ℕ} → ◌≡◌ {A = Option (List ℕ)} (Some x) (Some y) → x ≡ y
+    some_page e = cc

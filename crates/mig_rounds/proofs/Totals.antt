@@ -79,7 +79,7 @@ frames_saved start now flushes v worst notes sent r wide few s saved = record {
   few = batches_few v.host.kind v.host.width flushes v.history s.batches r wide few order s.sized s.full;
   count = all_read_is v.host.width v.history (all_told s.batches) order;
   order = order;
-  told = subst (AreTold v.host.kind) is saved.told;
+  told = subst (AreTold v.host.kind v.host.width) is saved.told;
   means = λ h none. ap meant (sym is) ∙ saved.means h none;
 }
   where

@@ -3,7 +3,6 @@ use Rattle.std.specs.Prelude.{◌<◌, ℕ, List, Option, Some, None, fold, map}
 use Rattle.std.specs.List.{AllByRecursion}
 use Rattle.std.specs.FinMap as maps
 use Rattle.mig_headers.specs.declared.kind.Kind.{Kind}
-use Rattle.mig_pagetypes.specs.Limits.{pfn_limit}
 use Rattle.mig_guest.specs.Frames.{FrameOf, FrameMap}
 use Rattle.mig_pagesink.specs.Told.{FrameTold}
 use Rattle.mig_rounds.specs.Findings.{Finding, frame_sent, CanBeTold}
@@ -12,13 +11,13 @@ use Rattle.mig_rounds.specs.Findings.{Finding, frame_sent, CanBeTold}
 abbrev pub entry_for : ℕ → Finding → FrameTold
 entry_for p found = record { pfn = p; frame = frame_sent found }
 
--- an entry that a stream of this kind can have
-pub record IsToldEntry (kind : Kind) (t : FrameTold) : Type 0 where
-  pub low : t.pfn < pfn_limit
-  pub frame : CanBeTold kind t.frame
+-- an entry that a stream of this kind, with so many PFNs, can have
+pub record IsToldEntry (kind : Kind) (width : ℕ) (t : FrameTold) : Type 0 where
+  pub inside : t.pfn < width
+  pub frame : CanBeTold kind width t.frame
 
-abbrev pub AreTold : Kind → List FrameTold → Type 0
-AreTold kind ts = AllByRecursion (IsToldEntry kind) ts
+abbrev pub AreTold : Kind → ℕ → List FrameTold → Type 0
+AreTold kind width ts = AllByRecursion (IsToldEntry kind width) ts
 
 -- the frames with this one at p, or with none there
 abbrev pub put_at : FrameMap → ℕ → Option FrameOf → FrameMap

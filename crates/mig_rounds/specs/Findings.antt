@@ -1,9 +1,10 @@
 -- What a saver finds at a frame number (PFN), and what of it stands in the stream.
-use Rattle.std.specs.Prelude.{◌≡◌, ℕ, Bool, true, false, List, length, Option, Some, None, is_some, if◌then◌else◌}
+use Rattle.std.specs.Prelude.{◌≡◌, ℕ, ◌-◌, Bool, true, false, List, length, Option, Some, None, is_some, if◌then◌else◌}
 use Rattle.mig_headers.specs.declared.kind.Kind.{Kind}
 use Rattle.mig_pagetypes.specs.declared.page_type.PageType.{PageType}
 use Rattle.mig_pagetypes.specs.PageTypes.{type_has_data}
 use Rattle.mig_guest.specs.Frames.{FrameOf, is_type_of}
+use Rattle.mig_guest.specs.Tables.{EachEntry, IsWithin}
 use Rattle.mig_machine_api.specs.Footprints.{Footprint}
 use Rattle.mig_rounds.specs.Forms.{table_of, superpage_in, lost_in, form_of_print}
 use Rattle.mig_rounds.specs.declared.found.Found.{Found}
@@ -58,15 +59,21 @@ type_found (Shows frame) = Some frame.type
 type_found (HasSuperpage type slot) = Some type
 type_found (LacksFrame type slot) = Some type
 
--- a frame that a stream of this kind can tell: its type, whether there is a page, and the size of the page
-pub record IsToldFrame (kind : Kind) (frame : FrameOf) : Type 0 where
+-- where there is a frame that is a table, it has no superpage, and names only PFNs below the width
+abbrev pub NamesWithin : ℕ → Option FrameOf → Type 0
+NamesWithin width frame = (f : FrameOf) → frame ≡ Some f → EachEntry (IsWithin (width - 1)) f
+
+-- a frame that a stream of this kind, with so many PFNs, can tell: its type, whether there is a page, the size of the page,
+-- and what a table names
+pub record IsToldFrame (kind : Kind) (width : ℕ) (frame : FrameOf) : Type 0 where
   pub type : is_type_of kind frame.type ≡ true
   pub in_step : is_some frame.page ≡ type_has_data frame.type
   pub whole : (page : List ℕ) → frame.page ≡ Some page → length page ≡ 4096
+  pub entries : EachEntry (IsWithin (width - 1)) frame
 
--- where there is a frame, a stream of this kind can tell it
-abbrev pub CanBeTold : Kind → Option FrameOf → Type 0
-CanBeTold kind frame = (f : FrameOf) → frame ≡ Some f → IsToldFrame kind f
+-- where there is a frame, a stream of this kind, with so many PFNs, can tell it
+abbrev pub CanBeTold : Kind → ℕ → Option FrameOf → Type 0
+CanBeTold kind width frame = (f : FrameOf) → frame ≡ Some f → IsToldFrame kind width f
 
 -- where a frame is shown, it has this type
 abbrev pub ShowsOnly : PageType → Found → Type 0

@@ -48,7 +48,7 @@ pub record Live (s : MachineState) (set : Pfns) : Type 0 where
 -- what was sent in them: an entry for each PFN that was read, in that order, and the invariant holds
 pub record LiveSent (s : MachineState) (set : Pfns) (sent : List FrameTold) (notes : Notes) : Type 0 where
   pub order : pfns_sent sent ≡ rounds_read s.host.width s.history.taken
-  pub told : AreTold s.host.kind sent
+  pub told : AreTold s.host.kind s.host.width sent
   pub current : s.honest ≡ true → Current set s.log s.host.frames sent notes
 
 -- so many rounds are over, and no further one comes
@@ -120,7 +120,7 @@ pub record Saved (rounds : ℕ) (t : MachineState) : Type 0 where
 -- nothing is wrong nothing was read after the pause but what the logs name, and the entries mean the frames.
 pub record SavedSent (t : MachineState) (sent : List FrameTold) (worst : Worst) (notes : Notes) : Type 0 where
   pub order : pfns_sent sent ≡ all_read t.host.width t.history
-  pub told : AreTold t.host.kind sent
+  pub told : AreTold t.host.kind t.host.width sent
   pub first : t.honest ≡ true → worst_fault worst ≡ tables_unsound t.host.frames t.host.width
   pub types : t.honest ≡ true → (p : ℕ) → notes.types p ≡ type_in t.host.frames p
   pub tight : t.honest ≡ true → worst_fault worst ≡ None → Tight t.host.kind t.host.width t.history
@@ -140,7 +140,7 @@ pub record FramesSaved (old new : Option (List ℕ)) (t : MachineState) (unsound
   pub few : length batches ≤ 6 * 2 ^ 18 + 6
   pub count : length (all_told batches) ≡ total t.host.width t.history
   pub order : pfns_sent (all_told batches) ≡ all_read t.host.width t.history
-  pub told : AreTold t.host.kind (all_told batches)
+  pub told : AreTold t.host.kind t.host.width (all_told batches)
   pub means : t.honest ≡ true → unsound ≡ None → meant (all_told batches) ≡ forms t.host.frames
 
 -- over an honest machine each type that was kept in mind is the type of the frame

@@ -87,7 +87,7 @@ pub record ReadsFront (i : ℕ) (set : Pfns) (s t : MachineState) : Type 0 where
 -- over one that is paused, as if its log were empty.
 pub record SendsFront (i : ℕ) (set : Pfns) (s t : MachineState) (before after : List FrameTold) (notes later : Notes) : Type 0 where
   pub names : pfns_sent after ≡ pfns_sent before ++ members i set
-  pub told : AreTold s.host.kind before → AreTold s.host.kind after
+  pub told : AreTold s.host.kind s.host.width before → AreTold s.host.kind s.host.width after
   pub live : s.honest ≡ true → Current set s.log s.host.frames before notes → Current (rest i set) t.log t.host.frames after later
   pub still : s.paused ≡ true → Current set no_pfns s.host.frames before notes → Current (rest i set) no_pfns t.host.frames after later
 

@@ -1,16 +1,16 @@
 -- The step that reads one frame number (PFN), of which the machine may let its guest run on.
-use Rattle.std.specs.Prelude.{◌≡◌, ℕ, ◌+◌, ◌*◌, ◌^◌, ◌-◌, ◌≤◌, min, ◌||◌, ◌⊎◌, List, true, false, Option, Some, None}
+use Rattle.std.specs.Prelude.{◌≡◌, ℕ, ◌+◌, ◌*◌, ◌^◌, ◌-◌, ◌<◌, ◌≤◌, min, ◌||◌, ◌⊎◌, List, true, false, Option, Some, None}
 use Rattle.byteorder.specs.Endian.{little_bytes}
 use Rattle.mig_bytes.specs.Fields.{with_field}
 use Rattle.mig_headers.specs.declared.kind.Kind.{Kind}
 use Rattle.mig_headers.specs.declared.kind.Kind.TheVariants.{Pv, Hvm}
 use Rattle.mig_pagetypes.specs.declared.page_type.PageType.{PageType}
-use Rattle.mig_guest.specs.Hosts.{HostFrames}
+use Rattle.mig_guest.specs.Hosts.{HostFrames, pfn_in}
 use Rattle.mig_guest.specs.declared.table.Entry.{Entry}
 use Rattle.mig_guest.specs.declared.table.Entry.TheVariants.{Blank, NotPresent, Superpage, Frame}
 use Rattle.mig_guest.specs.Longs.{long_at}
-use Rattle.mig_guest.specs.Tables.{blanked_table}
-use Rattle.mig_pvtables.specs.Tables.{with_frame}
+use Rattle.mig_guest.specs.Tables.{entry, blanked_table, IsWithin}
+use Rattle.mig_pvtables.specs.Tables.{first_superpage, with_frame}
 use Rattle.mig_pvtables.specs.Renaming.{renamed_by}
 use Rattle.mig_machine_api.specs.Pfns.{with_pfn}
 use Rattle.mig_machine_api.specs.Footprints.{Footprint, footprint, names_in}
@@ -48,15 +48,21 @@ put_slot page slot Superpage name = page
 put_slot page slot (Frame mfn) None = page
 put_slot page slot (Frame mfn) (Some pfn) = with_field page (8 * slot) (little_bytes 8 (with_frame (long_at page slot) pfn))
 
+-- where the entry of a slot names a machine frame, the PFN that has it is below the width
+abbrev pub NameIsInside : MachineState → ℕ → List ℕ → ℕ → Type 0
+NameIsInside t level page slot = (mfn pfn : ℕ) → entry level page slot ≡ Frame mfn → pfn_in t.host.frames mfn ≡ Some pfn → pfn < t.host.width
+
 -- where the PFN is settled, it has a table of this type with this raw page
 pub record IsRaw (t : MachineState) (p : ℕ) (kind : PageType) (level : ℕ) (raw : List ℕ) : Type 0 where
   pub print : Settled t p → footprint t.host.frames p ≡ Some (raw_print t.host.frames kind level raw)
 
--- where the PFN is settled, `lost` is the first slot whose machine frame has no PFN, and without one the page has the form
--- that the raw page has in a stream
+-- Where the PFN is settled, `lost` is the first slot whose machine frame has no PFN, and without one the page has the form
+-- that the raw page has in a stream. Settled or not, without one, and without a superpage in the raw page, each slot of the
+-- page names a PFN below the width, or none.
 pub record IsRenamed (t : MachineState) (p level : ℕ) (raw page : List ℕ) (lost : Option ℕ) : Type 0 where
   pub first : Settled t p → lost ≡ lost_in (Some (level, raw)) (names_in t.host.frames (Some (level, raw)))
   pub whole : Settled t p → lost ≡ None → page ≡ renamed_by (names_in t.host.frames (Some (level, raw))) level (blanked_table level raw)
+  pub within : first_superpage level raw ≡ None → lost ≡ None → (slot : ℕ) → slot < 512 → IsWithin (t.host.width - 1) (entry level page slot)
 
 -- ---- the step
 
@@ -90,4 +96,4 @@ pub record ReadsOne (p : ℕ) (s t : MachineState) (found : Finding) : Type 0 wh
   pub paused : t.paused ≡ s.paused
   pub asks : Asks s.host.kind p s.history t.history
   pub right : IsRight t p found
-  pub told : CanBeTold s.host.kind (frame_sent found)
+  pub told : CanBeTold s.host.kind s.host.width (frame_sent found)

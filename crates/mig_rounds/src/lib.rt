@@ -9,8 +9,9 @@
 //! number's footprint says when the step ends, wherever the frame number isn't in the log then. So over an honest machine
 //! the types that were seen last are those of the paused host's frames, the first table that can't be in a stream is
 //! answered, and where there is none the entries that were sent mean the frames. Over any machine the rounds are those of
-//! the definition, the entries name what was read in that order, the host's kind and width, the keys and lengths of its
-//! parts and the bytes of fixed parts stay, and after a fault at most 1024 frame numbers that were read have no whole record.
+//! the definition, the entries name what was read in that order, they and the tables in them name only frame numbers below
+//! the width, the host's kind and width, the keys and lengths of its parts and the bytes of fixed parts stay, and after a
+//! fault at most 1024 frame numbers that were read have no whole record.
 #![tactic(auto)]
 
 mod found;

@@ -4,8 +4,8 @@ ghost use Rattle.mig_pagetypes.specs.PageTypes.{level_of};
 ghost use Rattle.mig_guest.specs.Tables.{entry as what_is_said};
 ghost use Rattle.mig_machine_api.specs.Footprints.{names_in};
 ghost use Rattle.mig_rounds.specs.Forms.{lost_at};
-ghost use Rattle.mig_rounds.specs.Findings.{found_as, ShowsOnly};
-ghost use Rattle.mig_rounds.specs.Step.{Looks, IsRaw, IsRenamed, IsRight, put_slot};
+ghost use Rattle.mig_rounds.specs.Findings.{found_as, frame_sent, NamesWithin, ShowsOnly};
+ghost use Rattle.mig_rounds.specs.Step.{Looks, IsRaw, IsRenamed, IsRight, NameIsInside, put_slot};
 ghost use Rattle.mig_rounds.specs.declared.found.SendFault.TheVariants.{WriteFault};
 
 use crate::found::{Found, SendFault};
@@ -29,6 +29,7 @@ fn rename_slot<M: Machine>(
     ensures page { OnOk result (page.new ≡ put_slot page.old slot (what_is_said level page.old slot)
         (names_in (M.state machine.new).host.frames (Some (level, page.old)) slot)) }
     ensures lost { IfOk result (λ lost. lost ≡ lost_at level page.old (names_in (M.state machine.new).host.frames (Some (level, page.old))) slot) }
+    ensures inside { OnOk result (NameIsInside (M.state machine.new) level page.old slot) }
     ensures later { M.Later machine.old machine.new }
     ensures count { M.faults machine.old ≤ M.faults machine.new }
     ensures fault { OnErr result (Rose (M.faults machine.old) (M.faults machine.new)) }
@@ -94,6 +95,7 @@ pub(crate) fn read_table<M: Machine>(
     ensures looks { Looks 512 (M.state machine.old) (M.state machine.new) }
     ensures right { IfOk result (λ found. IsRight (M.state machine.new) pfn (found_as found page.new)) }
     ensures shows { IfOk result (ShowsOnly kind) }
+    ensures within { IfOk result (λ found. NamesWithin (M.state machine.new).host.width (frame_sent (found_as found page.new))) }
     ensures later { M.Later machine.old machine.new }
     ensures count { M.faults machine.old ≤ M.faults machine.new }
     ensures fault { OnErr result (Rose (M.faults machine.old) (M.faults machine.new)) }

@@ -60,11 +60,12 @@ loop-pfn-preserved g c =
     elim c.if-wanted.branch [
       | then-wanted+in_ok-found w ↦
           let small : c.loop-pfn.pfn < 2 ^ 28 = omega (arith, c.requires.narrow) in
+          let below : c.loop-pfn.pfn < (g.M.Machine.state c.args.machine.now).host.width = omega (arith, c.requires.width) in
           rw (w.machine-is, w.sink-is, w.batch-is, w.deferred-is, w.types-is, w.worst-is) (record {
             reads = reads_more _ _ _ _ _ _ w.if-wanted.true small i.reads w.in_ok-found.ensures.reads;
             sends = λ start n before out.
                 let (mid, now, front) = i.sends start n before out in
-                (_, w.in_ok-found.ensures.sent start n mid now, sends_more _ _ _ _ _ _ _ _ _ (notes_of w.send_one.new.deferred w.send_one.new.types) _ w.if-wanted.true small i.reads front w.in_ok-found.ensures.reads w.in_ok-found.ensures.notes);
+                (_, w.in_ok-found.ensures.sent start n mid now, sends_more _ _ _ _ _ _ _ _ _ (notes_of w.send_one.new.deferred w.send_one.new.types) _ w.if-wanted.true below i.reads front w.in_ok-found.ensures.reads w.in_ok-found.ensures.notes);
             worst = λ p. worst_step _ _ _ _ _ _ _ _ _ p w.if-wanted.true i.reads w.in_ok-found.ensures.reads w.with-worst.ensures.superpage w.with-worst.ensures.lost (i.worst p);
             wide = search rules;
             long = search rules;

@@ -1,6 +1,7 @@
-use Rattle.std.proofs.Common.{sym, ◌∙◌, refl}
+use Rattle.std.proofs.Common.{sym, ◌∙◌, refl, subst}
+use Rattle.mig_rounds.specs.Findings.{found_as, frame_sent, NamesWithin}
 use Rattle.mig_rounds.specs.declared.found.Found.TheVariants as Found
-use Rattle.mig_rounds.proofs.Peeks.{raw_there, shown_there, gone_there, can_be_told, no_frame_told, type_there, many_calls, reads_peek, reads_table, if_ok_two}
+use Rattle.mig_rounds.proofs.Peeks.{raw_there, shown_there, gone_there, can_be_told, no_frame_told, plain_within, type_there, many_calls, reads_peek, reads_table, if_ok_three}
 use Rattle.mig_rounds.proofs.Shapes.{stays_on, ran_stays}
 use Rattle.mig_rounds.proofs.Strays.{strays_none, strays_peek, strays_looks}
 use Rattle.mig_rounds.proofs.step.read_one.Goals as goal
@@ -16,7 +17,7 @@ pub returns-in-None-clause-reads : goal.returns-in-None-clause-reads
 returns-in-None-clause-reads g c =
     let seen = sym c.in-Ok-Frame.field-0-is ∙ c.in-Ok-Frame.ensures.seen in
     let of = type_there _ _ _ _ _ _ c.peek.ensures.valid c.in-Ok-Frame.ensures.ok.ran.shape.kind seen c.in-Ok-Frame.ensures.page in
-    reads_peek _ _ _ _ c.in-Ok-Frame.ensures.ok (can_be_told _ _ (Found.Shows c.in-Ok-Frame.kind) c.peek.new.page c.peek.array_long of refl)
+    reads_peek _ _ _ _ c.in-Ok-Frame.ensures.ok (can_be_told _ _ _ (Found.Shows c.in-Ok-Frame.kind) c.peek.new.page c.peek.array_long of refl (plain_within _ _ _ (sym c.table_level.ensures ∙ c.in-None.is)))
     (shown_there _ _ _ _ _ c.peek.ensures.valid (sym c.table_level.ensures ∙ c.in-None.is) seen c.in-Ok-Frame.ensures.page)
 
 pub returns-in-Some-clause-reads : goal.returns-in-Some-clause-reads
@@ -24,9 +25,11 @@ returns-in-Some-clause-reads g c =
     let seen = sym c.in-Ok-Frame.field-0-is ∙ c.in-Ok-Frame.ensures.seen in
     let of = type_there _ _ _ _ _ _ c.peek.ensures.valid c.in-Ok-Frame.ensures.ok.ran.shape.kind seen c.in-Ok-Frame.ensures.page in
     let many = many_calls _ _ _ _ _ _ c.peek.ensures.valid (sym c.table_level.ensures ∙ c.in-Some.is) seen c.in-Ok-Frame.ensures.page in
-    if_ok_two c.read_table.result
-    (λ found right shows. reads_table _ _ _ _ _ c.in-Ok-Frame.ensures.ok c.read_table.ensures.looks many (can_be_told _ _ found c.read_table.new.page c.read_table.array_long of shows) right)
-    c.read_table.ensures.right c.read_table.ensures.shows
+    let width = c.read_table.ensures.looks.ran.shape.width ∙ c.in-Ok-Frame.ensures.ok.ran.shape.width in
+    if_ok_three c.read_table.result
+    (λ found right shows within. reads_table _ _ _ _ _ c.in-Ok-Frame.ensures.ok c.read_table.ensures.looks many
+    (can_be_told _ _ _ found c.read_table.new.page c.read_table.array_long of shows (subst (λ w. NamesWithin w (frame_sent (found_as found c.read_table.new.page))) width within)) right)
+    c.read_table.ensures.right c.read_table.ensures.shows c.read_table.ensures.within
 
 pub returns-in-Err-clause-asked : goal.returns-in-Err-clause-asked
 returns-in-Err-clause-asked g c = strays_none _ _ _ c.in-Err.ensures.err.history
