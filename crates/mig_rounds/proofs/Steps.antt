@@ -33,7 +33,7 @@ use Rattle.mig_rounds.proofs.Sizes.{size-le, size_more, size_stays, size_front, 
 
 -- ---- what a list of entries means
 
-got : (m : FrameMap) (p : ℕ) (f : Option FrameOf) (q : ℕ) → fin.get (put_at m p f) q ≡ cond (q == p) f (fin.get m q)
+pub got : (m : FrameMap) (p : ℕ) (f : Option FrameOf) (q : ℕ) → fin.get (put_at m p f) q ≡ cond (q == p) f (fin.get m q)
 got m p None q = fin.get-remove nat_cmp_total m p q ∙ ap (λ b. cond b None (fin.get m q)) (unsigned_tied q p)
 got m p (Some f) q = fin.get-insert nat_cmp_total m p f q ∙ ap (λ b. cond b (Some f) (fin.get m q)) (unsigned_tied q p)
 

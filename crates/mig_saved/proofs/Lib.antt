@@ -1,3 +1,7 @@
-mod Told
+pub mod Told
+mod Tables
+mod Reframed
+mod PvHosts
+mod HvmHosts
 pub mod Viewed
 pub mod Written

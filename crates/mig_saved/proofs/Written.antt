@@ -3,8 +3,6 @@ use Rattle.std.proofs.Common.{◌≡◌, ℕ, List, [], ◌∷◌, ◌++◌, map
 use Rattle.std.proofs.lemmas.Grind.{flat_map-append}
 use Rattle.std.specs.Io.KnownBytes.{Appends}
 use Rattle.std.proofs.KnownBytes.{Appends-trans}
-use Rattle.mig_headers.specs.declared.kind.Kind.{Kind}
-use Rattle.mig_headers.specs.declared.kind.Kind.TheVariants.{Hvm}
 use Rattle.mig_guest.specs.Formed.{HasNoEmulators}
 use Rattle.mig_guest.specs.Guests.{GuestOf}
 use Rattle.mig_guest.specs.Hosts.{IsValid}
@@ -15,8 +13,7 @@ use Rattle.mig_canon.specs.Canon.{Record, headers, info_records, static_bodies, 
 use Rattle.mig_restore.specs.Spelled.{Accepted}
 use Rattle.mig_canon_laws.specs.Batched.{batch_records, batched}
 use Rattle.mig_machine_api.specs.MachineStates.{MachineState}
-use Rattle.mig_pagesink.specs.Told.{FrameTold, telling_frames, telling_record, all_told}
-use Rattle.mig_rounds.specs.Entries.{AreTold}
+use Rattle.mig_pagesink.specs.Told.{FrameTold, telling_frames, telling_record}
 use Rattle.mig_rounds.specs.Live.{FramesSaved}
 use Rattle.mig_saved.specs.Around.{text_before, text_behind, WroteImageOf}
 use Rattle.mig_saved.proofs.Viewed.{saved_is_viewed}
@@ -47,11 +44,11 @@ module _ (g : GuestOf) (batches : List (List FrameTold)) where
       ∙ sym (text_join first (batch_records (map telling_frames batches) ++ last))
       ∙ ap text_of (sym (regroup (info_records g.kind) (static_bodies g) (p2m_records g.kind g) (batch_records (map telling_frames batches)) last)))
 
-pub saved_is_written : (start old new now : Option (List ℕ)) (t : MachineState) → IsValid t.host → t.honest ≡ true → t.host.kind ≡ Hvm → IsSound t.host → HasNoEmulators t.host.parts
+pub saved_is_written : (start old new now : Option (List ℕ)) (t : MachineState) → IsValid t.host → t.honest ≡ true → IsSound t.host → HasNoEmulators t.host.parts
     → Appends start old (text_before (view t.host)) → FramesSaved old new t None → Appends new now (text_behind (view t.host)) → WroteImageOf start now (view t.host)
-saved_is_written start old new now t valid honest hvm sound none before s behind = record {
+saved_is_written start old new now t valid honest sound none before s behind = record {
   text = text_before (view t.host) ++ (text_of (map telling_record s.batches) ++ text_behind (view t.host));
   appended = Appends-trans start old now _ _ before (Appends-trans old new now _ _ s.written.wrote.appended behind);
   accepted = λ rest. subst (λ l. Accepted (l ++ rest) (view t.host) rest) (sym (written_is_batched (view t.host) s.batches))
-      (saved_is_viewed t.host s.batches rest valid hvm sound none s.sized (subst (λ (k : Kind). AreTold k (all_told s.batches)) hvm s.told) (omega (arith, s.few)) (s.means honest refl));
+      (saved_is_viewed t.host s.batches rest valid sound none s.sized s.told (omega (arith, s.few)) (s.means honest refl));
 }

@@ -3,13 +3,14 @@
 //! Responsible for: that the records of frames which a saver sent, between the other records of a canonical image, make an
 //! image that is accepted, and that its guest is what the host is seen as. It has no code of its own. Left to others: the
 //! saver and what it sends (mig_rounds), what a host is seen as (mig_hosted), that frames may come in any records
-//! (mig_canon_laws), and who writes the records around the frames. Of PV hosts it says nothing.
+//! (mig_canon_laws), and who writes the records around the frames.
 //!
-//! What the layers above rely on: over an honest HVM machine whose host is valid, sound and without emulators in the end,
-//! what `send_frames` wrote, between the other records of the canonical image of the host's view, makes an image whose
-//! guest is this view.
+//! What the layers above rely on: over an honest machine whose host is valid, sound and without emulators in the end, what
+//! `send_frames` wrote, between the other records of the canonical image of the host's view, makes an image whose guest is
+//! this view. Of a PV host the frames are sent with the hypervisor's own lists in its P2M frames, and the view is the blank
+//! form of what is sent.
 #![tactic(auto)]
 
 mod law;
 
-pub use law::{saved_frames_make_an_image, saved_hvm_host_is_viewed};
+pub use law::{saved_frames_make_an_image, saved_host_is_viewed};
