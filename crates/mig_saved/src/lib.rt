@@ -7,8 +7,8 @@
 //!
 //! What the layers above rely on: over an honest machine whose host is valid, sound and without emulators in the end, what
 //! `send_frames` wrote, between the other records of the canonical image of the host's view, makes an image whose guest is
-//! this view. Of a PV host the frames are sent with the hypervisor's own lists in its P2M frames, and the view is the blank
-//! form of what is sent.
+//! this view. Of a PV host the P2M frames are sent as they stand in the machine, and the view is the blank form of what is
+//! sent.
 #![tactic(auto)]
 
 mod law;
