@@ -120,7 +120,7 @@ module _ (t : MachineState) (valid : IsValid t.host) (hvm : t.host.kind ≡ Hvm)
   image_accepted : t.honest ≡ true → (rest : List ℕ) → Accepted (text ++ rest) (view t.host) rest
   image_accepted honest rest =
       subst (λ l. Accepted (l ++ rest) (view t.host) rest) image_is
-      (saved_is_viewed t.host s.batches rest valid hvm ((sound_is_faultless t.host).1 faultless) plain s.sized (subst (λ (k : Kind). AreTold k (all_told s.batches)) hvm s.told) (omega (arith, s.few)) (s.means honest refl))
+      (saved_is_viewed t.host s.batches rest valid ((sound_is_faultless t.host).1 faultless) plain s.sized s.told (omega (arith, s.few)) (s.means honest refl))
 
   pub save_is_stream : SaveWritten old new t
   save_is_stream = record {
