@@ -25,11 +25,10 @@ use Rattle.mig_hosted.proofs.ViewedFrames.{each_policy}
 use Rattle.mig_libxl.specs.Spelled.{AcceptedStream}
 use Rattle.mig_libxl.specs.Stream.StreamOf.{Bare}
 use Rattle.mig_machine_api.specs.MachineStates.{MachineState}
-use Rattle.mig_pagesink.specs.Told.{FrameTold, telling_frames, telling_record, all_told}
+use Rattle.mig_pagesink.specs.Told.{FrameTold, telling_frames, telling_record}
 use Rattle.mig_restore.specs.Mean.{mean}
 use Rattle.mig_restore.specs.Spelled.{Accepted}
 use Rattle.mig_restore.specs.Stream.{image_of}
-use Rattle.mig_rounds.specs.Entries.{AreTold}
 use Rattle.mig_rounds.specs.Live.{StaysSame, FramesSaved}
 use Rattle.mig_saved.proofs.Viewed.{saved_is_viewed}
 use Rattle.mig_dirtysave.specs.Saver.{SaverOf, IsFor, is_setting, kept_parts, parts_alone}
