@@ -66,10 +66,13 @@ none_behind : (level slot : ℕ) (page : List ℕ) → length page ≡ 4096 → 
 none_behind level slot page long high = ap (λ (n : ℕ). named_by (entry_of level slot n) n) (zero_behind page (8 * slot) (omega (arith, long, high))) ∙ zero_names_none level slot
 
 -- the table names the machine frame that one of its slots names
-slot_in_table : (mfn : ℕ) (t : ℕ × List ℕ) (slot : ℕ) → length t.1 ≡ 4096 → machine_named t.0 t.1 slot ≡ Some mfn → table_names mfn (Some t) ≡ true
+pub slot_names : (mfn level slot : ℕ) (page : List ℕ) → slot < 512 → is_machine mfn (machine_named level page slot) ≡ true → table_names mfn (Some (level, page)) ≡ true
 unfolding table_names
+slot_names mfn level slot page less is = some_in_range (λ k. is_machine mfn (machine_named level page k)) 512 slot less is
+
+slot_in_table : (mfn : ℕ) (t : ℕ × List ℕ) (slot : ℕ) → length t.1 ≡ 4096 → machine_named t.0 t.1 slot ≡ Some mfn → table_names mfn (Some t) ≡ true
 slot_in_table mfn t slot long is = elim (cases_lt slot 512) [
-  | inl less ↦ some_in_range (λ k. is_machine mfn (machine_named t.0 t.1 k)) 512 slot less (ap (is_machine mfn) is ∙ eq-eqb mfn mfn refl)
+  | inl less ↦ slot_names mfn t.0 slot t.1 less (ap (is_machine mfn) is ∙ eq-eqb mfn mfn refl)
   | inr high ↦ absurd (none-some mfn (sym (none_behind t.0 slot t.1 long high) ∙ is))
 ]
 
@@ -77,10 +80,6 @@ slot_in_table mfn t slot long is = elim (cases_lt slot 512) [
 pub no_slot_names : (mfn level : ℕ) (page : List ℕ) → ((k : ℕ) → k < 512 → is_machine mfn (machine_named level page k) ≡ false) → table_names mfn (Some (level, page)) ≡ false
 unfolding table_names
 no_slot_names mfn level page none = none_in_range (λ k. is_machine mfn (machine_named level page k)) 0 512 (λ k low high. none k (omega (arith, high)))
-
-pub slot_names : (mfn level slot : ℕ) (page : List ℕ) → slot < 512 → is_machine mfn (machine_named level page slot) ≡ true → table_names mfn (Some (level, page)) ≡ true
-unfolding table_names
-slot_names mfn level slot page less is = some_in_range (λ k. is_machine mfn (machine_named level page k)) 512 slot less is
 
 -- a frame that is no table
 pub no_table_names : (mfn : ℕ) (page : Option (List ℕ)) (level : Option ℕ) → level ≡ None → table_names mfn (table_in level page) ≡ false
