@@ -8,6 +8,7 @@ use Rattle.mig_guest.specs.declared.part_code.PartCode.{PartCode}
 use Rattle.mig_guest.specs.declared.part_code.PartCode.TheVariants.{P2mFrames, VcpuBasic, HvmContext}
 use Rattle.mig_guest.specs.PartCodes.{row_of, code_number}
 use Rattle.mig_guest.proofs.PartRows.{one_code, of_part, no_entries}
+use Rattle.mig_pvtables.specs.BadEntries.{NamesKnown}
 use Rattle.mig_pvtables.specs.Renaming.{name_for, renamed_table, entry_named, NamesFit, GoesBack}
 use Rattle.mig_pvtables.specs.VcpuContexts.{is_used_somewhere}
 use Rattle.mig_pvtables.specs.WholePv.{IsCompletePv}
@@ -20,7 +21,7 @@ use Rattle.mig_pvtables.proofs.PvGuests.{pv_complete}
 use Rattle.mig_pvtables.proofs.Renamed.{EntryGoesBack, TableGoesBack, fits_back, said_anew}
 use Rattle.mig_hosted.specs.Localised.{renamed_part, localised_page, localised_frame, localised_of, localised}
 use Rattle.mig_hosted.specs.RenamedContexts.{value_renamed, renamed_value, renamed_context}
-use Rattle.mig_hosted.specs.Sound.{needed_keys, AreThere, NamesKnown, machine_type, CanBeSeen}
+use Rattle.mig_hosted.specs.Sound.{needed_keys, AreThere, machine_type, CanBeSeen}
 use Rattle.mig_hosted.proofs.GuestsBack.{table_goes, context_goes, blank_context}
 use Rattle.mig_hosted.proofs.LocalisedGuests.{localised_type, renamed_there, renamed_listed, from_context}
 use Rattle.mig_hosted.proofs.RenamedContexts.{there_at, same_ents}

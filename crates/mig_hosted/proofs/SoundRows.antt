@@ -1,5 +1,5 @@
 -- The rows of unsoundness find nothing exactly where a host can be seen.
-use Rattle.mig_hosted.proofs.Common.{◌≡◌, ℕ, ◌≤◌, Bool, true, false, cond, List, [], ◌∷◌, Option, Some, None, refl, sym, ap, ◌∙◌, ◌↔◌, ◌==◌, ◌&&◌, nat_lt, option_and_then, option_or, eqb-true, eq-eqb, ltb-false, le-ltb, PartKey, Entry, Blank, NotPresent, Superpage, Frame, gdt_ents, FrameOf, FrameMap, GuestOf, PartMap, context_key, entry, EachEntry, part_total, part_exact, first_cause, first_some, find_entry, find_p2m, is_superpage}
+use Rattle.mig_hosted.proofs.Common.{◌≡◌, ℕ, ◌≤◌, Bool, true, false, cond, List, [], ◌∷◌, Option, Some, None, refl, sym, ap, ◌∙◌, ◌↔◌, ◌==◌, ◌&&◌, nat_lt, option_and_then, option_or, eqb-true, eq-eqb, ltb-false, le-ltb, PartKey, gdt_ents, FrameOf, FrameMap, GuestOf, PartMap, context_key, entry, EachEntry, part_total, part_exact, first_cause, first_some, find_entry, find_p2m, is_superpage}
 use Rattle.std.specs.FinMap as maps
 use Rattle.std.specs.Prelude.{Result, Ok, Err}
 use Rattle.mig_headers.proofs.FirstFaults.{both_none}
@@ -7,12 +7,13 @@ use Rattle.mig_headers.specs.Contexts.{scan}
 use Rattle.mig_headers.specs.declared.fault.ContextFault.{ContextFault}
 use Rattle.mig_headers.specs.declared.unsound.Unsound.TheVariants.{Missing}
 use Rattle.mig_guest.specs.Hosts.{HostOf, pfn_in}
-use Rattle.mig_pvtables.specs.BadEntries.{is_unknown}
+use Rattle.mig_pvtables.specs.BadEntries.{is_unknown, NamesKnown}
 use Rattle.mig_pvtables.specs.Faults.{find_in_contexts}
 use Rattle.mig_pvtables.specs.VcpuContexts.{is_used_somewhere}
-use Rattle.mig_pvtables.proofs.PvGuests.{some_is, no_entry, none_misses, no_p2m}
+use Rattle.mig_pvtables.proofs.BadSlots.{named}
+use Rattle.mig_pvtables.proofs.PvGuests.{no_entry, none_misses, no_p2m}
 use Rattle.mig_pvtables.proofs.Searches.{first_found, all_none, none_mapped, is_there}
-use Rattle.mig_hosted.specs.Sound.{needed_keys, AreThere, NamesKnown, machine_type, CanBeSeen, IsSound, absent, misnames, find_gdt, fault_in, unsound_rows, unsoundness}
+use Rattle.mig_hosted.specs.Sound.{needed_keys, AreThere, machine_type, CanBeSeen, IsSound, absent, misnames, find_gdt, fault_in, unsound_rows, unsoundness}
 use Rattle.mig_hosted.specs.View.{guest_in}
 
 -- ---- parts
@@ -28,22 +29,16 @@ are_there parts (key ∷ keys) =
 -- ---- entries
 
 module _ (pfn_of : ℕ → Option ℕ) where
-  named : (e : Entry) → ((is_superpage e ≡ false) × (is_unknown pfn_of e ≡ false)) ↔ NamesKnown pfn_of e
-  named Blank = (λ h. tt, λ h. (refl, refl))
-  named NotPresent = (λ h. tt, λ h. (refl, refl))
-  named Superpage = (λ h. let no : true ≡ false = h.0 in cc, λ h. absurd h)
-  named (Frame mfn) = (λ h. (some_is (pfn_of mfn)).0 h.1, λ h. (refl, (some_is (pfn_of mfn)).1 h))
-
   abbrev AreNamed : FrameMap → Type 0
   AreNamed frames = (pfn : ℕ) (frame : FrameOf) → maps.get frames pfn ≡ Some frame → EachEntry (NamesKnown pfn_of) frame
 
   are_named : (frames : FrameMap) → ((find_entry is_superpage frames ≡ None) × (find_entry (is_unknown pfn_of) frames ≡ None)) ↔ AreNamed frames
   are_named frames =
       let large = no_entry is_superpage frames in let unknown = no_entry (is_unknown pfn_of) frames in (
-        (λ none pfn x is l p lev has slot lt. (named (entry l p slot)).0 (large.0 none.0 pfn x is l p lev has slot lt, unknown.0 none.1 pfn x is l p lev has slot lt)),
+        (λ none pfn x is l p lev has slot lt. (named pfn_of (entry l p slot)).0 (large.0 none.0 pfn x is l p lev has slot lt, unknown.0 none.1 pfn x is l p lev has slot lt)),
         (λ all. (
-          large.1 (λ pfn x is l p lev has slot lt. ((named (entry l p slot)).1 (all pfn x is l p lev has slot lt)).0),
-          unknown.1 (λ pfn x is l p lev has slot lt. ((named (entry l p slot)).1 (all pfn x is l p lev has slot lt)).1),
+          large.1 (λ pfn x is l p lev has slot lt. ((named pfn_of (entry l p slot)).1 (all pfn x is l p lev has slot lt)).0),
+          unknown.1 (λ pfn x is l p lev has slot lt. ((named pfn_of (entry l p slot)).1 (all pfn x is l p lev has slot lt)).1),
         )),
       )
 

@@ -4,6 +4,7 @@ use Rattle.std.specs.FinMap as maps
 use Rattle.mig_headers.specs.declared.kind.Kind.{Kind}
 use Rattle.mig_guest.specs.Hosts.{HostOf, IsHostPart, IsValid, pfn_in}
 use Rattle.mig_guest.specs.Parts.{FitsPolicy}
+use Rattle.mig_pvtables.specs.BadEntries.{NamesKnown}
 use Rattle.mig_pvtables.specs.Renaming.{renamed_table}
 use Rattle.mig_pvtables.specs.VcpuContexts.{is_used_somewhere}
 use Rattle.mig_pvtables.specs.WholePv.{IsCompletePv}
@@ -14,7 +15,7 @@ use Rattle.mig_pvtables.proofs.SameShape.{types_kept, entries_changed, kept_p2m}
 use Rattle.mig_hosted.specs.Localised.{renamed_page, renamed_frame, renamed_part, renamed}
 use Rattle.mig_hosted.specs.Normalised.{normalised_of}
 use Rattle.mig_hosted.specs.RenamedContexts.{renamed_context}
-use Rattle.mig_hosted.specs.Sound.{needed_keys, AreThere, NamesKnown, IsSound}
+use Rattle.mig_hosted.specs.Sound.{needed_keys, AreThere, IsSound}
 use Rattle.mig_hosted.specs.View.{top_of, guest_in, view}
 use Rattle.mig_hosted.proofs.LocalisedGuests.{localised_is_frame, renamed_there, renamed_listed, from_context}
 use Rattle.mig_hosted.proofs.ViewedParts.{pv_part}

@@ -4,6 +4,7 @@ use Rattle.std.specs.FinMap as maps
 use Rattle.std.proofs.lemmas.List.Elements.{All-head, All-tail}
 use Rattle.mig_guest.specs.Hosts.{HostFrame, HostFrames, pfn_in}
 use Rattle.mig_guest.specs.Tables.{entry_of}
+use Rattle.mig_pvtables.specs.BadEntries.{NamesKnown}
 use Rattle.mig_pvtables.specs.Renaming.{name_for, renamed_table, entry_named}
 use Rattle.mig_pvtables.specs.VcpuContexts.{field_of_frame, is_used_somewhere}
 use Rattle.mig_pvtables.proofs.BlankSays.{low_says, field_there}
@@ -11,7 +12,6 @@ use Rattle.mig_pvtables.proofs.BlankWhole.{unfit}
 use Rattle.mig_pvtables.proofs.Moduli.{long_of_each}
 use Rattle.mig_pvtables.proofs.Renamed.{renamed_long, by_frames, renamed_says}
 use Rattle.mig_hosted.specs.RenamedContexts.{value_renamed, renamed_value, renamed_context, field_named}
-use Rattle.mig_hosted.specs.Sound.{NamesKnown}
 use Rattle.mig_hosted.proofs.RenamedFields.{frame_there, field_small}
 
 -- ---- the PFN of a machine frame has a frame

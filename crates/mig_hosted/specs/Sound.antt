@@ -10,8 +10,6 @@ use Rattle.mig_headers.specs.declared.unsound.Unsound.{Unsound}
 use Rattle.mig_headers.specs.declared.unsound.Unsound.TheVariants.{Missing, P2mFrame, Superpage, NoFrame, GdtEnts, VcpuFrame, BadContext}
 use Rattle.mig_pagetypes.specs.declared.page_type.PageType.{PageType}
 use Rattle.mig_guest.specs.declared.part_key.PartKey.{PartKey}
-use Rattle.mig_guest.specs.declared.table.Entry.{Entry}
-use Rattle.mig_guest.specs.declared.table.Entry.TheVariants as entries
 use Rattle.mig_guest.specs.Formed.{gdt_ents}
 use Rattle.mig_guest.specs.Frames.{FrameOf, FrameMap}
 use Rattle.mig_guest.specs.Guests.{GuestOf}
@@ -19,7 +17,7 @@ use Rattle.mig_guest.specs.Hosts.{HostOf, pfn_in}
 use Rattle.mig_guest.specs.Parts.{PartMap}
 use Rattle.mig_guest.specs.PartKeys.{p2m_key, vcpu_key, shared_key, context_key}
 use Rattle.mig_guest.specs.Tables.{EachEntry}
-use Rattle.mig_pvtables.specs.BadEntries.{is_unknown}
+use Rattle.mig_pvtables.specs.BadEntries.{is_unknown, NamesKnown}
 use Rattle.mig_pvtables.specs.Faults.{first_some, first_cause, type_at, fits_field, find_p2m, find_entry, find_in_contexts}
 use Rattle.mig_pvtables.specs.Tables.{is_superpage}
 use Rattle.mig_pvtables.specs.VcpuContexts.{field_value, is_used_somewhere, frame_of_field}
@@ -36,13 +34,6 @@ needed_keys Pv = p2m_key ∷ shared_key ∷ vcpu_key 0 ∷ []
 abbrev pub AreThere : PartMap → List PartKey → Type 0
 AreThere parts [] = ⊤
 AreThere parts (key ∷ keys) = IsSome (maps.get parts key) × AreThere parts keys
-
--- no superpage, and no machine frame for which pfn_of gives nothing
-abbrev pub NamesKnown : (ℕ → Option ℕ) → Entry → Type 0
-NamesKnown pfn_of entries.Blank = ⊤
-NamesKnown pfn_of entries.NotPresent = ⊤
-NamesKnown pfn_of entries.Superpage = ⊥
-NamesKnown pfn_of (entries.Frame mfn) = IsSome (pfn_of mfn)
 
 -- the type of the frame that has a machine frame
 abbrev pub machine_type : FrameMap → (ℕ → Option ℕ) → ℕ → Option PageType

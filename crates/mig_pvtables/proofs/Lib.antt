@@ -26,3 +26,4 @@ pub mod Renamed
 pub mod RenameSteps
 pub mod Walks
 pub mod P2mWalks
+pub mod BadSlots

@@ -20,6 +20,22 @@ module _ (p : ℕ → Bool) where
     | false ↦ λ t at. let (lt, passes) = found_in_range (a + 1) n k at in (omega (arith, lt), passes)
   ] refl is
 
+  -- and before it stands nothing that passes
+  none_before : (a n k : ℕ) → find p (range_with_len a n) ≡ Some k → (j : ℕ) → a ≤ j → j < k → p j ≡ false
+  none_before a zero k is j le lt = cc
+  none_before a (suc n) k is j le lt = elim (p a) as (λ b. p a ≡ b → cond b (Some a) (find p (range_with_len (a + 1) n)) ≡ Some k → p j ≡ false) [
+    | true ↦ λ t at. let same : a ≡ k = cc in absurd (omega (arith, same, le, lt))
+    | false ↦ λ t at. elim (cases_eq a j) [
+      | inl e ↦ ap p (sym e) ∙ t
+      | inr ne ↦ none_before (a + 1) n k at j (omega (arith, le, ne)) lt
+    ]
+  ] refl is
+
+  -- the slot that is found
+  pub slot_found : (k : ℕ) → find p slots ≡ Some k → (k < 512) × (p k ≡ true) × ((j : ℕ) → j < k → p j ≡ false)
+  unfolding slots
+  slot_found k is = let (lt, passes) = found_in_range 0 512 k is in (omega (arith, lt), passes, λ j under. none_before 0 512 k is j (omega arith) under)
+
   pub first_slot : (k : ℕ) → k < 512 → p k ≡ true → ((j : ℕ) → j < k → p j ≡ false) → Some k ≡ find p slots
   unfolding slots
   first_slot k lt here before = sym (first_in_range 0 512 k (omega arith) (omega (arith, lt)) here (λ j _ under. before j under))

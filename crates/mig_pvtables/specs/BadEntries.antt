@@ -1,8 +1,9 @@
 -- The entry of a machine's table that has no form in a stream.
-use Rattle.std.specs.Prelude.{ℕ, Bool, false, List, Option, is_none, find}
+use Rattle.std.specs.Prelude.{◌≡◌, ◌<◌, ℕ, ⊤, Bool, false, List, Option, None, IsSome, is_none, find}
 use Rattle.std.specs.Option.{option_map, option_or}
 use Rattle.mig_guest.specs.declared.table.Entry.{Entry}
 use Rattle.mig_guest.specs.declared.table.Entry.TheVariants.{Frame}
+use Rattle.mig_guest.specs.declared.table.Entry.TheVariants as entries
 use Rattle.mig_guest.specs.Tables.{entry}
 use Rattle.mig_pvtables.specs.Faults.{slots}
 use Rattle.mig_pvtables.specs.Tables.{first_superpage}
@@ -23,3 +24,26 @@ abbrev pub bad_entry : (ℕ → Option ℕ) → ℕ → List ℕ → Option BadE
 bad_entry pfn_of level page =
     option_or (option_map (λ slot. record { slot = slot; why = Superpage }) (first_superpage level page))
     (option_map (λ slot. record { slot = slot; why = NoFrame }) (first_unknown pfn_of level page))
+
+-- ---- where one stands
+
+-- no superpage, and no machine frame for which pfn_of gives nothing
+abbrev pub NamesKnown : (ℕ → Option ℕ) → Entry → Type 0
+NamesKnown pfn_of entries.Blank = ⊤
+NamesKnown pfn_of entries.NotPresent = ⊤
+NamesKnown pfn_of entries.Superpage = ⊥
+NamesKnown pfn_of (entries.Frame mfn) = IsSome (pfn_of mfn)
+
+-- this slot of a table of this level holds a superpage
+abbrev pub HasSuperpage : ℕ → List ℕ → ℕ → Type 0
+HasSuperpage level page slot = entry level page slot ≡ entries.Superpage
+
+-- this slot names a machine frame for which pfn_of gives nothing
+abbrev pub HasUnknown : (ℕ → Option ℕ) → ℕ → List ℕ → ℕ → Type 0
+HasUnknown pfn_of level page slot = (mfn : ℕ) × (entry level page slot ≡ entries.Frame mfn) × (pfn_of mfn ≡ None)
+
+-- P holds of this slot of a table, and of no slot below
+pub record IsFirstSlot (P : ℕ → Type 0) (slot : ℕ) : Type 0 where
+  pub inside : slot < 512
+  pub here : P slot
+  pub below : (other : ℕ) → other < slot → P other → ⊥

@@ -31,7 +31,9 @@ pub use law::{
 pub use listing::{frame_type, lacks, listed_pfn, misplaced_frame, sole_key};
 pub use p2m::p2m_page;
 pub use rename::{BadEntry, Why, localise_table, normalise_table, rename_back, unknown_slot};
-pub use renaming_law::{localised_table_comes_back, renamed_table_says_the_same};
+pub use renaming_law::{
+    localised_table_comes_back, normalise_table_refuses_the_first, renamed_table_says_the_same,
+};
 pub use table::{check_table, entry, put_entry, superpage_slot};
 pub use testing::{WholeAnswer, is_type_of_field, whole};
 pub use vcpu::{FIELDS, VCPU_BASIC, gdt_ents, host_frame, put_vcpu_frame, vcpu_frame};

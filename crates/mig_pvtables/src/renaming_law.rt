@@ -1,8 +1,10 @@
-ghost use Rattle.std.specs.Prelude.{◌≡◌, ◌<◌, ◌/◌, ◌%◌, ◌^◌, ℕ, List, Option};
+ghost use Rattle.std.specs.Prelude.{◌≡◌, ◌↔◌, ◌<◌, ◌/◌, ◌%◌, ◌^◌, ℕ, List, Option, Some, None};
 ghost use Rattle.mig_bytes.specs.Bytes.{AreBytes};
 ghost use Rattle.mig_guest.specs.declared.table.Entry.TheVariants.{Frame};
 ghost use Rattle.mig_guest.specs.Longs.{long_at};
 ghost use Rattle.mig_guest.specs.Tables.{entry, blanked_table, is_present, is_large};
+ghost use Rattle.mig_pvtables.specs.BadEntries.{bad_entry, IsFirstSlot, HasSuperpage, HasUnknown, NamesKnown};
+ghost use Rattle.mig_pvtables.specs.declared.rename.Why.TheVariants as causes;
 ghost use Rattle.mig_pvtables.specs.Renaming.{renamed_by, renamed_table, normalised_table, entry_named, NamesFit, GoesBack};
 
 /// A table that is localised and then normalised is the table with 0 in its blank slots, where each frame that its
@@ -22,4 +24,16 @@ pub fn renamed_table_says_the_same()
         → (is_present (long_at (renamed_by names level page) slot) ≡ is_present (long_at page slot)) × (is_large (long_at (renamed_by names level page) slot) ≡ is_large (long_at page slot)) }
     ensures bits { (names : ℕ → Option ℕ) (level : ℕ) (page : List ℕ) → AreBytes page → NamesFit names level page → (slot : ℕ) → slot < 512
         → (long_at (renamed_by names level page) slot % 2 ^ 12 ≡ long_at page slot % 2 ^ 12) × (long_at (renamed_by names level page) slot / 2 ^ 52 ≡ long_at page slot / 2 ^ 52) }
+{}
+
+/// What normalising a table refuses: the least slot that holds a superpage, where there is one; else the least slot that
+/// names a machine frame without a frame number; and nothing exactly where each entry outside the blank slots isn't
+/// present, or names a machine frame that has a frame number.
+pub fn normalise_table_refuses_the_first()
+    ensures superpage { (pfn_of : ℕ → Option ℕ) (level : ℕ) (page : List ℕ) (slot : ℕ)
+        → (bad_entry pfn_of level page ≡ Some (record { slot = slot; why = causes.Superpage })) ↔ IsFirstSlot (HasSuperpage level page) slot }
+    ensures no_frame { (pfn_of : ℕ → Option ℕ) (level : ℕ) (page : List ℕ) (slot : ℕ)
+        → (bad_entry pfn_of level page ≡ Some (record { slot = slot; why = causes.NoFrame })) ↔ (((other : ℕ) → other < 512 → HasSuperpage level page other → ⊥) × IsFirstSlot (HasUnknown pfn_of level page) slot) }
+    ensures nothing { (pfn_of : ℕ → Option ℕ) (level : ℕ) (page : List ℕ)
+        → (bad_entry pfn_of level page ≡ None) ↔ ((slot : ℕ) → slot < 512 → NamesKnown pfn_of (entry level page slot)) }
 {}
