@@ -1,5 +1,5 @@
 -- Tables whose entries name other frames: what they say then, and that they come back.
-use Rattle.mig_pvtables.proofs.Common.{◌≡◌, ℕ, ◌*◌, ◌/◌, ◌%◌, ◌^◌, ◌<◌, Bool, true, false, cond, not, nat_le, ◌==◌, ◌&&◌, List, length, Option, Some, None, refl, sym, ap, subst, ◌∙◌, arith, long_at, each_long, Entry, Blank, NotPresent, Superpage, Frame, entry, is_blank_slot, blanked_table}
+use Rattle.mig_pvtables.proofs.Common.{◌≡◌, ◌≢◌, ℕ, ◌*◌, ◌/◌, ◌%◌, ◌^◌, ◌<◌, Bool, true, false, cond, not, nat_le, ◌==◌, ◌&&◌, List, length, Option, Some, None, refl, sym, ap, subst, ◌∙◌, arith, long_at, each_long, Entry, Blank, NotPresent, Superpage, Frame, entry, is_blank_slot, blanked_table}
 use Rattle.std.proofs.lemmas.List.Elements.{recursion_from_All}
 use Rattle.mig_bytes.specs.Bytes.{AreBytes}
 use Rattle.mig_bytes.proofs.ByteLists.{long_below}
@@ -115,6 +115,18 @@ module _ (names : ℕ → Option ℕ) (level slot e : ℕ) (fits : Fits (names s
   pub renamed_small : e < 2 ^ 64 → renamed_entry names level slot e < 2 ^ 64
   renamed_small = is_anew.small
 
+no_frame_stays : (o : Option ℕ) (x : Entry) (e : ℕ) → ((n : ℕ) → x ≢ Frame n) → named_anew o e x ≡ e
+no_frame_stays o Blank e none = refl
+no_frame_stays o NotPresent e none = refl
+no_frame_stays o Superpage e none = refl
+no_frame_stays o (Frame n) e none = absurd (none n refl)
+
+no_name_stays : (e : ℕ) (x : Entry) → named_anew None e x ≡ e
+no_name_stays e Blank = refl
+no_name_stays e NotPresent = refl
+no_name_stays e Superpage = refl
+no_name_stays e (Frame n) = refl
+
 -- ---- a table renamed by its slots
 
 module _ (names : ℕ → Option ℕ) (level : ℕ) (page : List ℕ) (all : AreBytes page) (fit : NamesFit names level page) where
@@ -134,6 +146,15 @@ module _ (names : ℕ → Option ℕ) (level : ℕ) (page : List ℕ) (all : Are
   -- the bits that stay
   pub kept_at : (slot : ℕ) → slot < 512 → Kept (long_at (renamed_by names level page) slot) (long_at page slot)
   kept_at slot lt = subst (λ n. Kept n (long_at page slot)) (sym (renamed_at slot lt)) (is_anew names level slot (long_at page slot) (fits_at slot lt)).kept
+
+  -- an entry that names no frame, or for which there is no name, stays as it is
+  pub frameless_stays : (slot : ℕ) → slot < 512 → ((n : ℕ) → entry level page slot ≢ Frame n) → long_at (renamed_by names level page) slot ≡ long_at page slot
+  unfolding renamed_entry
+  frameless_stays slot lt none = renamed_at slot lt ∙ no_frame_stays (names slot) (entry level page slot) (long_at page slot) none
+
+  pub nameless_stays : (slot : ℕ) → slot < 512 → names slot ≡ None → long_at (renamed_by names level page) slot ≡ long_at page slot
+  unfolding renamed_entry
+  nameless_stays slot lt none = renamed_at slot lt ∙ ap (λ o. named_anew o (long_at page slot) (entry level page slot)) none ∙ no_name_stays (long_at page slot) (entry level page slot)
 
   pub same_kind : (slot : ℕ) → slot < 512 → (is_present (long_at (renamed_by names level page) slot) ≡ is_present (long_at page slot)) × (is_large (long_at (renamed_by names level page) slot) ≡ is_large (long_at page slot))
   same_kind slot lt = let low = (kept_at slot lt).0 in (same_present _ _ low, same_large _ _ low)

@@ -1,4 +1,4 @@
-ghost use Rattle.std.specs.Prelude.{◌≡◌, ◌↔◌, ◌<◌, ◌/◌, ◌%◌, ◌^◌, ℕ, List, Option, Some, None};
+ghost use Rattle.std.specs.Prelude.{◌≡◌, ◌≢◌, ◌↔◌, ◌<◌, ◌/◌, ◌%◌, ◌^◌, ℕ, List, Option, Some, None};
 ghost use Rattle.mig_bytes.specs.Bytes.{AreBytes};
 ghost use Rattle.mig_guest.specs.declared.table.Entry.TheVariants.{Frame};
 ghost use Rattle.mig_guest.specs.Longs.{long_at};
@@ -16,7 +16,8 @@ pub fn localised_table_comes_back()
 {}
 
 /// A table whose entries name other frames says the same in each slot, but for the frames. Entries are present, and
-/// superpages, as they were; bits 0 to 11 and 52 to 63 stay.
+/// superpages, as they were; bits 0 to 11 and 52 to 63 stay. An entry that names no frame (blank, not present or a
+/// superpage), and one for whose slot there is no name, stays as it was, bits 12 to 51 too.
 pub fn renamed_table_says_the_same()
     ensures said { (names : ℕ → Option ℕ) (level : ℕ) (page : List ℕ) → AreBytes page → NamesFit names level page → (slot : ℕ) → slot < 512
         → entry level (renamed_by names level page) slot ≡ entry_named (names slot) (entry level page slot) }
@@ -24,6 +25,10 @@ pub fn renamed_table_says_the_same()
         → (is_present (long_at (renamed_by names level page) slot) ≡ is_present (long_at page slot)) × (is_large (long_at (renamed_by names level page) slot) ≡ is_large (long_at page slot)) }
     ensures bits { (names : ℕ → Option ℕ) (level : ℕ) (page : List ℕ) → AreBytes page → NamesFit names level page → (slot : ℕ) → slot < 512
         → (long_at (renamed_by names level page) slot % 2 ^ 12 ≡ long_at page slot % 2 ^ 12) × (long_at (renamed_by names level page) slot / 2 ^ 52 ≡ long_at page slot / 2 ^ 52) }
+    ensures frameless { (names : ℕ → Option ℕ) (level : ℕ) (page : List ℕ) → AreBytes page → NamesFit names level page → (slot : ℕ) → slot < 512
+        → ((n : ℕ) → entry level page slot ≢ Frame n) → long_at (renamed_by names level page) slot ≡ long_at page slot }
+    ensures nameless { (names : ℕ → Option ℕ) (level : ℕ) (page : List ℕ) → AreBytes page → NamesFit names level page → (slot : ℕ) → slot < 512
+        → names slot ≡ None → long_at (renamed_by names level page) slot ≡ long_at page slot }
 {}
 
 /// What normalising a table refuses: the least slot that holds a superpage, where there is one; else the least slot that
