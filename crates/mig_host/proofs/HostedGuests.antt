@@ -5,7 +5,7 @@ use Rattle.mig_guest.specs.Formed.{IsInside}
 use Rattle.mig_guest.specs.Frames.{IsFrame, IsFew}
 use Rattle.mig_guest.specs.Guests.{GuestOf}
 use Rattle.mig_guest.specs.Hosts.{pfn_in}
-use Rattle.mig_pvtables.specs.Blank.{IsOfBytes, blank}
+use Rattle.mig_pvtables.specs.Blank.{blank}
 use Rattle.mig_pvtables.specs.Renaming.{GoesBack}
 use Rattle.mig_pvtables.specs.VcpuContexts.{is_used}
 use Rattle.mig_pvtables.specs.Whole.{IsWhole}
@@ -111,14 +111,14 @@ module _ (g : GuestOf) (base : ℕ) where
         let kind = same_kind g.kind in let top = same_top g.kind refl in let frames = without_machines there.frames machine_of in
         λ i. record { kind = kind i; top = top i; frames = frames i; parts = there.parts }
 
-    module _ (range : IsBaseInside g base) (bytes : IsOfBytes g) (blanked : blank g ≡ g) where
+    module _ (range : IsBaseInside g base) (blanked : blank g ≡ g) where
       seen_again : view (hosted g base) ≡ g
-      seen_again = ap (normalised (pfn_in (frames_of g.kind))) guest_there ∙ guest_back g whole bytes blanked mfn_of (pfn_in (frames_of g.kind)) (goes_back range g.kind)
+      seen_again = ap (normalised (pfn_in (frames_of g.kind))) guest_there ∙ guest_back g whole blanked mfn_of (pfn_in (frames_of g.kind)) (goes_back range g.kind)
 
       sound : IsSound (hosted g base)
       sound =
           subst (λ (x : GuestOf). CanBeSeen x (pfn_in (frames_of g.kind))) (sym guest_there)
-          (localised_seen g whole bytes blanked mfn_of (pfn_in (frames_of g.kind)) (goes_back range g.kind))
+          (localised_seen g whole blanked mfn_of (pfn_in (frames_of g.kind)) (goes_back range g.kind))
 
     -- ---- validity
 
@@ -176,11 +176,11 @@ module _ (g : GuestOf) (base : ℕ) where
 pub whole_valid : (guest : GuestOf) (base : ℕ) → IsWhole guest → (IsBaseOutside guest base → ⊥) → IsValid (hosted guest base)
 whole_valid g base whole inside = valid_inside g base whole (base_inside g base inside)
 
-pub whole_sound : (guest : GuestOf) (base : ℕ) → IsWhole guest → IsOfBytes guest → blank guest ≡ guest → (IsBaseOutside guest base → ⊥) → IsSound (hosted guest base)
-whole_sound g base whole bytes blanked inside = sound g base whole (base_inside g base inside) bytes blanked
+pub whole_sound : (guest : GuestOf) (base : ℕ) → IsWhole guest → blank guest ≡ guest → (IsBaseOutside guest base → ⊥) → IsSound (hosted guest base)
+whole_sound g base whole blanked inside = sound g base whole (base_inside g base inside) blanked
 
-pub whole_faultless : (guest : GuestOf) (base : ℕ) → IsWhole guest → IsOfBytes guest → blank guest ≡ guest → (IsBaseOutside guest base → ⊥) → unsoundness (hosted guest base) ≡ None
-whole_faultless g base whole bytes blanked inside = (sound_is_faultless (hosted g base)).0 (whole_sound g base whole bytes blanked inside)
+pub whole_faultless : (guest : GuestOf) (base : ℕ) → IsWhole guest → blank guest ≡ guest → (IsBaseOutside guest base → ⊥) → unsoundness (hosted guest base) ≡ None
+whole_faultless g base whole blanked inside = (sound_is_faultless (hosted g base)).0 (whole_sound g base whole blanked inside)
 
-pub whole_seen : (guest : GuestOf) (base : ℕ) → IsWhole guest → IsOfBytes guest → blank guest ≡ guest → (IsBaseOutside guest base → ⊥) → view (hosted guest base) ≡ guest
-whole_seen g base whole bytes blanked inside = seen_again g base whole (base_inside g base inside) bytes blanked
+pub whole_seen : (guest : GuestOf) (base : ℕ) → IsWhole guest → blank guest ≡ guest → (IsBaseOutside guest base → ⊥) → view (hosted guest base) ≡ guest
+whole_seen g base whole blanked inside = seen_again g base whole (base_inside g base inside) blanked

@@ -3,7 +3,7 @@ ghost use Rattle.std.specs.FinMap as maps;
 ghost use Rattle.mig_headers.specs.declared.kind.Kind.TheVariants.{Pv, Hvm};
 ghost use Rattle.mig_guest.specs.Guests.{GuestOf};
 ghost use Rattle.mig_guest.specs.Hosts.{HostFrame, IsValid};
-ghost use Rattle.mig_pvtables.specs.Blank.{blank, IsOfBytes};
+ghost use Rattle.mig_pvtables.specs.Blank.{blank};
 ghost use Rattle.mig_pvtables.specs.P2mFrames.{listed};
 ghost use Rattle.mig_pvtables.specs.P2mPages.{p2m_page};
 ghost use Rattle.mig_pvtables.specs.Whole.{IsWhole};
@@ -17,16 +17,16 @@ pub fn hosted_is_valid()
     ensures { (guest : GuestOf) (base : ℕ) → IsWhole guest → (IsBaseOutside guest base → ⊥) → IsValid (hosted guest base) }
 {}
 
-/// What a whole guest of bytes in blank form becomes is a sound host: nothing is in the way of seeing it.
+/// What a whole guest in blank form becomes is a sound host: nothing is in the way of seeing it.
 pub fn hosted_is_sound()
-    ensures sound { (guest : GuestOf) (base : ℕ) → IsWhole guest → IsOfBytes guest → blank guest ≡ guest → (IsBaseOutside guest base → ⊥) → IsSound (hosted guest base) }
-    ensures faultless { (guest : GuestOf) (base : ℕ) → IsWhole guest → IsOfBytes guest → blank guest ≡ guest → (IsBaseOutside guest base → ⊥) → unsoundness (hosted guest base) ≡ None }
+    ensures sound { (guest : GuestOf) (base : ℕ) → IsWhole guest → blank guest ≡ guest → (IsBaseOutside guest base → ⊥) → IsSound (hosted guest base) }
+    ensures faultless { (guest : GuestOf) (base : ℕ) → IsWhole guest → blank guest ≡ guest → (IsBaseOutside guest base → ⊥) → unsoundness (hosted guest base) ≡ None }
 {}
 
-/// The host that a whole guest of bytes in blank form becomes is seen as this guest.
+/// The host that a whole guest in blank form becomes is seen as this guest.
 #[tactic(auto, using(crate::proofs::HostedGuests::whole_seen))]
 pub fn hosted_is_seen()
-    ensures { (guest : GuestOf) (base : ℕ) → IsWhole guest → IsOfBytes guest → blank guest ≡ guest → (IsBaseOutside guest base → ⊥) → view (hosted guest base) ≡ guest }
+    ensures { (guest : GuestOf) (base : ℕ) → IsWhole guest → blank guest ≡ guest → (IsBaseOutside guest base → ⊥) → view (hosted guest base) ≡ guest }
 {}
 
 /// Each P2M frame that a whole PV guest lists holds the machine frames of its range, at whatever place it is listed.

@@ -1,5 +1,5 @@
 -- A whole, blank guest that is localised, and normalised again, is the guest.
-use Rattle.mig_hosted.proofs.Common.{◌≡◌, ℕ, ◌<◌, Bool, true, false, cond, ◌==◌, List, length, Option, Some, None, IsSome, is_some, refl, sym, ap, ◌∙◌, nat_cmp_total, nat_cmp-IsAntisymmetric, eqb-true, eq-eqb, Pv, Hvm, level_of, PartKey, FrameOf, FrameMap, GuestOf, PartMap, IsPart, width_of, p2m_key, part_total, part_exact, each_value, blank, blank_of, blanked_page, blanked_frame, blanked_part, place_of, IsOfBytes, field_value, frame_of_field, is_used, blanked_context, blanked_shared, IsWhole}
+use Rattle.mig_hosted.proofs.Common.{◌≡◌, ℕ, ◌<◌, Bool, true, false, cond, ◌==◌, List, length, Option, Some, None, IsSome, is_some, refl, sym, ap, ◌∙◌, nat_cmp_total, nat_cmp-IsAntisymmetric, eqb-true, eq-eqb, Pv, Hvm, level_of, PartKey, FrameOf, FrameMap, GuestOf, PartMap, IsPart, width_of, p2m_key, part_total, part_exact, each_value, blank, blank_of, blanked_page, blanked_frame, blanked_part, place_of, field_value, frame_of_field, is_used, blanked_context, blanked_shared, IsWhole}
 use Rattle.std.specs.FinMap as maps
 use Rattle.std.proofs.lemmas.List.Elements.{recursion_from_All}
 use Rattle.mig_bytes.specs.Bytes.{AreBytes}
@@ -11,6 +11,7 @@ use Rattle.mig_pvtables.specs.P2mFrames.{place_in}
 use Rattle.mig_pvtables.specs.Renaming.{GoesBack}
 use Rattle.mig_pvtables.specs.VcpuContexts.{is_used_somewhere}
 use Rattle.mig_pvtables.specs.WholePv.{IsCompletePv}
+use Rattle.mig_pvtables.proofs.BlankBytesKept.{table_of_bytes, context_of_bytes}
 use Rattle.mig_pvtables.proofs.BlankWhole.{fit_there}
 use Rattle.mig_pvtables.proofs.EachValue.{stays_each, to_each, each_each, same_each, each_same}
 use Rattle.mig_pvtables.proofs.PvGuests.{pv_complete}
@@ -35,12 +36,37 @@ module _ (f back : ℕ → Option ℕ) where
   page_back None (Some l) None table = refl
   page_back None (Some l) (Some p) table = let (all, size, goes) = table l p refl refl in ap (λ (q : List ℕ). blanked_page None (Some l) (Some q)) (table_back f back l p all size goes)
 
+-- ---- a blank guest: its tables and contexts are of bytes
+
+module _ (g : GuestOf) (blanked : blank_of Pv g ≡ g) where
+  blank_frame : (pfn : ℕ) (x : FrameOf) → maps.get g.frames pfn ≡ Some x → blanked_frame g.parts pfn x ≡ x
+  blank_frame pfn x is =
+      let same : Some (blanked_frame g.parts pfn x) ≡ Some x = sym (to_each nat_cmp_total nat_cmp-IsAntisymmetric (blanked_frame g.parts) g.frames pfn x is) ∙ ap (λ (y : GuestOf). maps.get y.frames pfn) blanked ∙ is in cc
+
+  table_bytes : (pfn : ℕ) (x : FrameOf) → maps.get g.frames pfn ≡ Some x → (l : ℕ) (p : List ℕ) → level_of x.type ≡ Some l → x.page ≡ Some p → AreBytes p
+  table_bytes pfn x is l p lev has =
+      let place = place_of g.parts pfn in
+      table_of_bytes place l p ((λ i. blanked_page place (sym lev i) (sym has i)) ∙ ap (λ (y : FrameOf). y.page) (blank_frame pfn x is) ∙ has)
+
+  blank_part : (key : PartKey) (part : List ℕ) → maps.get g.parts key ≡ Some part → blanked_part key part ≡ part
+  blank_part key part is =
+      let same : Some (blanked_part key part) ≡ Some part = sym (to_each part_total part_exact blanked_part g.parts key part is) ∙ ap (λ (x : GuestOf). maps.get x.parts key) blanked ∙ is in cc
+
+  same_context : (key : PartKey) (context : List ℕ) → maps.get g.parts key ≡ Some context → key.code ≡ 4 → blanked_context context ≡ context
+  same_context key context is code = sym (ap (λ b. cond b (blanked_context context) (cond (key.code == 7) (blanked_shared context) context)) (eq-eqb key.code 4 code)) ∙ blank_part key context is
+
+  pub context_bytes : (key : PartKey) (context : List ℕ) → maps.get g.parts key ≡ Some context → key.code ≡ 4 → AreBytes context
+  context_bytes key context is code = context_of_bytes context (same_context key context is code)
+
+  pub blank_context : (key : PartKey) (context : List ℕ) → maps.get g.parts key ≡ Some context → key.code ≡ 4 → IsBlankContext context
+  blank_context key context is code = blank_value context (same_context key context is code)
+
 -- ---- what the tables and contexts of a complete guest name is there
 
-module _ (g : GuestOf) (whole : IsWhole g) (complete : IsCompletePv g) (bytes : IsOfBytes g) (f back : ℕ → Option ℕ) (goes : (n : ℕ) → IsSome (maps.get g.frames n) → GoesBack f back n) where
+module _ (g : GuestOf) (whole : IsWhole g) (complete : IsCompletePv g) (blanked : blank_of Pv g ≡ g) (f back : ℕ → Option ℕ) (goes : (n : ℕ) → IsSome (maps.get g.frames n) → GoesBack f back n) where
   pub table_goes : (pfn : ℕ) (x : FrameOf) → maps.get g.frames pfn ≡ Some x → (l : ℕ) (p : List ℕ) → level_of x.type ≡ Some l → x.page ≡ Some p → AreBytes p × (length p ≡ 4096) × TableGoesBack f back l p
   table_goes pfn x is l p lev has = (
-    bytes.pages pfn x p is has,
+    table_bytes g blanked pfn x is l p lev has,
     (whole.formed.frames pfn x is).is.whole p has,
     λ slot n lt says. goes n (complete.targets pfn x is l p lev has slot lt n says),
   )
@@ -50,20 +76,9 @@ module _ (g : GuestOf) (whole : IsWhole g) (complete : IsCompletePv g) (bytes : 
       fields_go f back key.key1 context (λ field most used.
       let (x, there) = fit_there g.frames field (frame_of_field field (field_value context field)) (complete.fields key context is code field most used) in goes (frame_of_field field (field_value context field)) (ap is_some there))
 
--- ---- a blank guest
-
-module _ (g : GuestOf) (blanked : blank_of Pv g ≡ g) where
-  blank_part : (key : PartKey) (part : List ℕ) → maps.get g.parts key ≡ Some part → blanked_part key part ≡ part
-  blank_part key part is =
-      let same : Some (blanked_part key part) ≡ Some part = sym (to_each part_total part_exact blanked_part g.parts key part is) ∙ ap (λ (x : GuestOf). maps.get x.parts key) blanked ∙ is in cc
-
-  pub blank_context : (key : PartKey) (context : List ℕ) → maps.get g.parts key ≡ Some context → key.code ≡ 4 → IsBlankContext context
-  blank_context key context is code =
-      blank_value context (sym (ap (λ b. cond b (blanked_context context) (cond (key.code == 7) (blanked_shared context) context)) (eq-eqb key.code 4 code)) ∙ blank_part key context is)
-
 -- ---- a PV guest
 
-module _ (g : GuestOf) (whole : IsWhole g) (complete : IsCompletePv g) (bytes : IsOfBytes g) (blanked : blank_of Pv g ≡ g) (f back : ℕ → Option ℕ) (goes : (n : ℕ) → IsSome (maps.get g.frames n) → GoesBack f back n) where
+module _ (g : GuestOf) (whole : IsWhole g) (complete : IsCompletePv g) (blanked : blank_of Pv g ≡ g) (f back : ℕ → Option ℕ) (goes : (n : ℕ) → IsSome (maps.get g.frames n) → GoesBack f back n) where
   -- by whether the part is a context
   part_case : (b : Bool) (key : PartKey) (part : List ℕ) → (b ≡ true → blanked_context (renamed_context is_used_somewhere back key.key1 (renamed_context is_used f key.key1 part)) ≡ blanked_context part)
       → cond b (blanked_context (cond b (renamed_context is_used_somewhere back key.key1 (cond b (renamed_context is_used f key.key1 part) part)) (cond b (renamed_context is_used f key.key1 part) part)))
@@ -76,7 +91,7 @@ module _ (g : GuestOf) (whole : IsWhole g) (complete : IsCompletePv g) (bytes : 
   part_back : (key : PartKey) (part : List ℕ) → maps.get g.parts key ≡ Some part → blanked_part key (renamed_part is_used_somewhere back key (renamed_part is_used f key part)) ≡ blanked_part key part
   part_back key part is = part_case (key.code == 4) key part (λ e.
       let code = eqb-true key.code 4 e in
-      context_back f back key.key1 part (recursion_from_All (λ b. b < 256) part (bytes.parts key part is)) (context_goes g whole complete bytes f back goes key part is code) (blank_context g blanked key part is code))
+      context_back f back key.key1 part (recursion_from_All (λ b. b < 256) part (context_bytes g blanked key part is code)) (context_goes g whole complete blanked f back goes key part is code) (blank_context g blanked key part is code))
 
   abbrev parts_there : PartMap
   parts_there = each_value (renamed_part is_used_somewhere back) (each_value (renamed_part is_used f) g.parts)
@@ -94,7 +109,7 @@ module _ (g : GuestOf) (whole : IsWhole g) (complete : IsCompletePv g) (bytes : 
   frame_back : (pfn : ℕ) (x : FrameOf) → maps.get g.frames pfn ≡ Some x → blanked_frame parts_there pfn (renamed_frame back (localised_frame g.parts f pfn x)) ≡ blanked_frame g.parts pfn x
   frame_back pfn x is =
       ap (λ (o : Option (List ℕ)). record { type = x.type; page = blanked_page (place_in o pfn) (level_of x.type) (renamed_page back (level_of x.type) (localised_page (place_of g.parts pfn) f (level_of x.type) x.page)) }) same_list
-      ∙ ap (λ (p : Option (List ℕ)). record { type = x.type; page = p }) (page_back f back (place_of g.parts pfn) (level_of x.type) x.page (table_goes g whole complete bytes f back goes pfn x is))
+      ∙ ap (λ (p : Option (List ℕ)). record { type = x.type; page = p }) (page_back f back (place_of g.parts pfn) (level_of x.type) x.page (table_goes g whole complete blanked f back goes pfn x is))
 
   frames_back : each_value (blanked_frame parts_there) (each_value (λ pfn x. renamed_frame back x) (each_value (localised_frame g.parts f) g.frames)) ≡ each_value (blanked_frame g.parts) g.frames
   frames_back =
@@ -122,9 +137,9 @@ parts_stay g whole = each_same part_total part_exact part_seen g.parts (λ key p
 
 -- ---- either kind
 
-module _ (g : GuestOf) (whole : IsWhole g) (bytes : IsOfBytes g) (blanked : blank g ≡ g) (f back : ℕ → Option ℕ) (goes : (n : ℕ) → IsSome (maps.get g.frames n) → GoesBack f back n) where
+module _ (g : GuestOf) (whole : IsWhole g) (blanked : blank g ≡ g) (f back : ℕ → Option ℕ) (goes : (n : ℕ) → IsSome (maps.get g.frames n) → GoesBack f back n) where
   kind_case : (k : Kind) → g.kind ≡ k → normalised_of k back (localised_of k f g) ≡ g
-  kind_case Pv is = pv_back g whole (pv_complete g is whole.faultless) bytes (sym (ap (λ k. blank_of k g) is) ∙ blanked) f back goes
+  kind_case Pv is = pv_back g whole (pv_complete g is whole.faultless) (sym (ap (λ k. blank_of k g) is) ∙ blanked) f back goes
   kind_case Hvm is = ap (λ (m : PartMap). record g { parts = m }) (parts_stay g whole)
 
   same_kind : (k : Kind) → (localised_of k f g).kind ≡ g.kind

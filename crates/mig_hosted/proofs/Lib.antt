@@ -18,3 +18,4 @@ pub mod LocaliseContexts
 pub mod LocaliseGuests
 pub mod NormaliseFrames
 pub mod NormaliseGuests
+pub mod ViewedBytes

@@ -1,11 +1,11 @@
 -- A context whose fields say other frames, and say them back.
 use Rattle.mig_hosted.proofs.Common.{◌≡◌, ℕ, ◌+◌, ◌*◌, ◌/◌, ◌%◌, ◌^◌, ◌<◌, ◌≤◌, true, cond, List, Option, Some, refl, sym, ap, subst, ◌∙◌, arith, gdt_ents, long_at, each_long, field_at, field_value, frame_of_field, is_used, blanked_context}
 use Rattle.std.proofs.lemmas.List.Elements.{recursion_from_All}
-use Rattle.mig_bytes.specs.Bytes.{AreBytes}
 use Rattle.mig_bytes.proofs.ByteLists.{Bytes, long_below}
 use Rattle.mig_guest.proofs.Longs.{same_longs}
 use Rattle.mig_pvtables.specs.Renaming.{GoesBack}
 use Rattle.mig_pvtables.specs.VcpuContexts.{blanked_value, is_used_somewhere}
+use Rattle.mig_pvtables.proofs.BlankBytesKept.{context_of_bytes}
 use Rattle.mig_pvtables.proofs.BlankSays.{blanked_at, at_field, place_field}
 use Rattle.mig_pvtables.proofs.LongSteps.{long_of_each, each_twice}
 use Rattle.mig_hosted.specs.RenamedContexts.{renamed_value, renamed_context}
@@ -69,8 +69,8 @@ blank_value context is i lt field at plain root unused =
     ∙ ap (λ n. n % 2 ^ 64) (at_field context i v field at ∙ (λ j. cond (plain j) v (cond (root j) (v / 4096 * 4096) (cond (unused j) (v / 4096 * 4096 + 1) 0))))
 
 -- a context in its blank form comes back
-pub context_returns : (f back : ℕ → Option ℕ) (id : ℕ) (context : List ℕ) → AreBytes context → blanked_context context ≡ context
+pub context_returns : (f back : ℕ → Option ℕ) (id : ℕ) (context : List ℕ) → blanked_context context ≡ context
     → ((field : ℕ) → field ≤ 18 → is_used id (gdt_ents context) field (field_value context field) ≡ true → GoesBack f back (frame_of_field field (field_value context field)))
     → blanked_context (renamed_context is_used_somewhere back id (renamed_context is_used f id context)) ≡ context
-context_returns f back id context all blank goes =
-    context_back f back id context (recursion_from_All (λ b. b < 256) context all) (fields_go f back id context goes) (blank_value context blank) ∙ blank
+context_returns f back id context blank goes =
+    context_back f back id context (recursion_from_All (λ b. b < 256) context (context_of_bytes context blank)) (fields_go f back id context goes) (blank_value context blank) ∙ blank

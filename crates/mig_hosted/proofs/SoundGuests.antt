@@ -1,5 +1,5 @@
 -- A whole, blank guest that is localised can be seen.
-use Rattle.mig_hosted.proofs.Common.{◌≡◌, ℕ, ◌<◌, ◌≤◌, Bool, true, false, List, Option, Some, None, is_some, IsSome, refl, sym, ap, subst, ◌∙◌, arith, option_and_then, nat_cmp_total, nat_cmp-IsAntisymmetric, Pv, Hvm, PageType, level_of, PartKey, Entry, Blank, NotPresent, Superpage, Frame, FrameOf, FrameMap, GuestOf, PartMap, IsPart, width_of, p2m_key, context_key, place_of, gdt_ents, entry, EachEntry, IsWithin, is_type_of, part_total, part_exact, blank, blank_of, IsOfBytes, type_at, fits_field, field_at, field_place, field_value, frame_of_field, is_used, listed, listed_in, IsWhole}
+use Rattle.mig_hosted.proofs.Common.{◌≡◌, ℕ, ◌<◌, ◌≤◌, Bool, true, false, List, Option, Some, None, is_some, IsSome, refl, sym, ap, subst, ◌∙◌, arith, option_and_then, nat_cmp_total, nat_cmp-IsAntisymmetric, Pv, Hvm, PageType, level_of, PartKey, Entry, Blank, NotPresent, Superpage, Frame, FrameOf, FrameMap, GuestOf, PartMap, IsPart, width_of, p2m_key, context_key, place_of, gdt_ents, entry, EachEntry, IsWithin, is_type_of, part_total, part_exact, blank, blank_of, type_at, fits_field, field_at, field_place, field_value, frame_of_field, is_used, listed, listed_in, IsWhole}
 use Rattle.std.specs.FinMap as maps
 use Rattle.std.proofs.lemmas.List.Elements.{recursion_from_All}
 use Rattle.mig_bytes.specs.Bytes.{AreBytes}
@@ -22,7 +22,7 @@ use Rattle.mig_pvtables.proofs.Renamed.{EntryGoesBack, TableGoesBack, fits_back,
 use Rattle.mig_hosted.specs.Localised.{renamed_part, localised_page, localised_frame, localised_of, localised}
 use Rattle.mig_hosted.specs.RenamedContexts.{value_renamed, renamed_value, renamed_context}
 use Rattle.mig_hosted.specs.Sound.{needed_keys, AreThere, machine_type, CanBeSeen}
-use Rattle.mig_hosted.proofs.GuestsBack.{table_goes, context_goes, blank_context}
+use Rattle.mig_hosted.proofs.GuestsBack.{table_goes, context_goes, context_bytes, blank_context}
 use Rattle.mig_hosted.proofs.LocalisedGuests.{localised_type, renamed_there, renamed_listed, from_context}
 use Rattle.mig_hosted.proofs.RenamedContexts.{there_at, same_ents}
 use Rattle.mig_hosted.proofs.RenamedFields.{FieldGoesBack, IsBlankField, frame_there, unused_stays, first, unused, used}
@@ -70,7 +70,7 @@ of_this_kind code kind width key part is number = subst (λ c. (row_of c).of_kin
 
 -- ---- a PV guest
 
-module _ (g : GuestOf) (pv : g.kind ≡ Pv) (whole : IsWhole g) (bytes : IsOfBytes g) (blanked : blank_of Pv g ≡ g) (f back : ℕ → Option ℕ) (goes : (n : ℕ) → IsSome (maps.get g.frames n) → GoesBack f back n) where
+module _ (g : GuestOf) (pv : g.kind ≡ Pv) (whole : IsWhole g) (blanked : blank_of Pv g ≡ g) (f back : ℕ → Option ℕ) (goes : (n : ℕ) → IsSome (maps.get g.frames n) → GoesBack f back n) where
   complete : IsCompletePv g
   complete = pv_complete g pv whole.faultless
 
@@ -83,7 +83,7 @@ module _ (g : GuestOf) (pv : g.kind ≡ Pv) (whole : IsWhole g) (bytes : IsOfByt
   frame_named : (pfn : ℕ) (x : FrameOf) → maps.get g.frames pfn ≡ Some x → EachEntry (NamesKnown back) (localised_frame g.parts f pfn x)
   frame_named pfn x found = entries_changed (IsWithin g.top) (NamesKnown back) (renamed_table f) x (localised_page (place_of g.parts pfn) f (level_of x.type) x.page)
       (λ level lev i. localised_page (table_unlisted g.frames g.parts complete.p2m pfn x found level lev i) f (lev i) x.page)
-      (λ level p lev has slot lt. let (all, size, back_there) = table_goes g whole complete bytes f back goes pfn x found level p lev has in table_named f back level p g.top all back_there slot lt)
+      (λ level p lev has slot lt. let (all, size, back_there) = table_goes g whole complete blanked f back goes pfn x found level p lev has in table_named f back level p g.top all back_there slot lt)
       (whole.formed.frames pfn x found).entries
 
   entries_there : (pfn : ℕ) (y : FrameOf) → maps.get frames_there pfn ≡ Some y → EachEntry (NamesKnown back) y
@@ -96,15 +96,15 @@ module _ (g : GuestOf) (pv : g.kind ≡ Pv) (whole : IsWhole g) (bytes : IsOfByt
     there = renamed_context is_used f key.key1 context
 
     ents : gdt_ents there ≡ gdt_ents context
-    ents = same_ents f back key.key1 context (recursion_from_All (λ b. b < 256) context (bytes.parts key context found)) (context_goes g whole complete bytes f back goes key context found code)
+    ents = same_ents f back key.key1 context (recursion_from_All (λ b. b < 256) context (context_bytes g blanked key context found code)) (context_goes g whole complete blanked f back goes key context found code)
 
     few_ents : gdt_ents there ≤ 7168
     few_ents = let few : gdt_ents context ≤ 7168 = (of_part VcpuBasic g.kind (width_of g) (key, context) (whole.formed.parts key context found) code).content in omega (arith, few, ents)
 
     field_named_there : (field : ℕ) → field ≤ 18 → is_used_somewhere key.key1 (gdt_ents there) field (field_value there field) ≡ true → fits_field field (machine_type frames_there back (frame_of_field field (field_value there field))) ≡ true
     field_named_there field most host =
-        let ctx = context_goes g whole complete bytes f back goes key context found code in
-        let all = recursion_from_All (λ b. b < 256) context (bytes.parts key context found) in
+        let ctx = context_goes g whole complete blanked f back goes key context found code in
+        let all = recursion_from_All (λ b. b < 256) context (context_bytes g blanked key context found code) in
         let (at, lt) = field_there field most in
         let value = there_at f back key.key1 context all ctx (field_place field) lt ∙ value_there f key.key1 (gdt_ents context) (field_place field) (field_value context field) field at in
         subst (λ w. fits_field field (machine_type frames_there back (frame_of_field field w)) ≡ true) (sym value)
@@ -164,9 +164,9 @@ module _ (g : GuestOf) (hvm : g.kind ≡ Hvm) (whole : IsWhole g) (back : ℕ �
 
 -- ---- either kind
 
-module _ (g : GuestOf) (whole : IsWhole g) (bytes : IsOfBytes g) (blanked : blank g ≡ g) (f back : ℕ → Option ℕ) (goes : (n : ℕ) → IsSome (maps.get g.frames n) → GoesBack f back n) where
+module _ (g : GuestOf) (whole : IsWhole g) (blanked : blank g ≡ g) (f back : ℕ → Option ℕ) (goes : (n : ℕ) → IsSome (maps.get g.frames n) → GoesBack f back n) where
   kind_case : (k : Kind) → g.kind ≡ k → CanBeSeen (localised_of k f g) back
-  kind_case Pv is = pv_seen g is whole bytes (sym (ap (λ k. blank_of k g) is) ∙ blanked) f back goes
+  kind_case Pv is = pv_seen g is whole (sym (ap (λ k. blank_of k g) is) ∙ blanked) f back goes
   kind_case Hvm is = hvm_seen g is whole back
 
   pub localised_seen : CanBeSeen (localised f g) back

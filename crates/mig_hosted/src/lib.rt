@@ -19,5 +19,5 @@ pub use soundness::unsoundness;
 pub use view_law::{
     hvm_host_is_viewed, localised_guest_can_be_seen, localised_guest_comes_back,
     localised_p2m_frames_are_filled, renamed_context_comes_back, sound_host_has_no_unsoundness,
-    view_is_whole,
+    view_is_of_bytes, view_is_whole,
 };

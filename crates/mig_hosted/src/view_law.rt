@@ -1,6 +1,5 @@
 ghost use Rattle.std.specs.Prelude.{◌≡◌, ◌≤◌, ◌↔◌, ℕ, List, Option, Some, None, true, IsSome};
 ghost use Rattle.std.specs.FinMap as maps;
-ghost use Rattle.mig_bytes.specs.Bytes.{AreBytes};
 ghost use Rattle.mig_headers.specs.declared.kind.Kind.TheVariants.{Pv, Hvm};
 ghost use Rattle.mig_guest.specs.Formed.{gdt_ents};
 ghost use Rattle.mig_guest.specs.Frames.{FrameOf};
@@ -16,27 +15,27 @@ ghost use Rattle.mig_hosted.specs.Localised.{localised};
 ghost use Rattle.mig_hosted.specs.Normalised.{normalised};
 ghost use Rattle.mig_hosted.specs.RenamedContexts.{renamed_context};
 ghost use Rattle.mig_hosted.specs.Sound.{CanBeSeen, IsSound, unsoundness};
-ghost use Rattle.mig_hosted.specs.View.{view, hvm_view};
+ghost use Rattle.mig_hosted.specs.View.{guest_in, view, hvm_view};
 
 /// A context in its blank form that is localised and then renamed back comes back, in its blank form, where each frame
 /// that a field which a stream uses says goes back.
 #[tactic(auto, using(crate::proofs::RenamedContexts::context_returns))]
 pub fn renamed_context_comes_back()
-    ensures { (mfn_of pfn_of : ℕ → Option ℕ) (id : ℕ) (context : List ℕ) → AreBytes context → blanked_context context ≡ context
+    ensures { (mfn_of pfn_of : ℕ → Option ℕ) (id : ℕ) (context : List ℕ) → blanked_context context ≡ context
         → ((field : ℕ) → field ≤ 18 → is_used id (gdt_ents context) field (field_value context field) ≡ true → GoesBack mfn_of pfn_of (frame_of_field field (field_value context field)))
         → blanked_context (renamed_context is_used_somewhere pfn_of id (renamed_context is_used mfn_of id context)) ≡ context }
 {}
 
-/// A whole guest of bytes in blank form that is localised, and then normalised, is the guest, where each frame goes back.
+/// A whole guest in blank form that is localised, and then normalised, is the guest, where each frame goes back.
 #[tactic(auto, using(crate::proofs::GuestsBack::guest_back))]
 pub fn localised_guest_comes_back()
-    ensures { (g : GuestOf) → IsWhole g → IsOfBytes g → blank g ≡ g → (mfn_of pfn_of : ℕ → Option ℕ)
+    ensures { (g : GuestOf) → IsWhole g → blank g ≡ g → (mfn_of pfn_of : ℕ → Option ℕ)
         → ((n : ℕ) → IsSome (maps.get g.frames n) → GoesBack mfn_of pfn_of n) → normalised pfn_of (localised mfn_of g) ≡ g }
 {}
 
 /// Nothing is in the way of seeing such a guest where it stands.
 pub fn localised_guest_can_be_seen()
-    ensures { (g : GuestOf) → IsWhole g → IsOfBytes g → blank g ≡ g → (mfn_of pfn_of : ℕ → Option ℕ)
+    ensures { (g : GuestOf) → IsWhole g → blank g ≡ g → (mfn_of pfn_of : ℕ → Option ℕ)
         → ((n : ℕ) → IsSome (maps.get g.frames n) → GoesBack mfn_of pfn_of n) → CanBeSeen (localised mfn_of g) pfn_of }
 {}
 
@@ -64,4 +63,10 @@ pub fn hvm_host_is_viewed()
 pub fn view_is_whole()
     ensures whole { (h : HostOf) → IsValid h → IsSound h → IsWhole (view h) }
     ensures form { (h : HostOf) → IsValid h → IsSound h → blank (view h) ≡ view h }
+{}
+
+/// A host of bytes is seen as a guest of bytes.
+#[tactic(auto, using(crate::proofs::ViewedBytes::view_bytes))]
+pub fn view_is_of_bytes()
+    ensures { (h : HostOf) → IsOfBytes (guest_in h) → IsOfBytes (view h) }
 {}

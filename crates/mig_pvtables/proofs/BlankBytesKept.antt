@@ -1,4 +1,4 @@
--- The blank form of a guest of bytes is of bytes.
+-- The blank form of a guest of bytes is of bytes, and what the blank form writes as numbers is of bytes whatever it was.
 use Rattle.mig_pvtables.proofs.Common.{◌≡◌, ℕ, zero, suc, ◌%◌, ◌<◌, Bool, true, false, cond, List, Option, Some, None, ap, subst, ◌∙◌, arith, ◌==◌, nat_cmp_total, nat_cmp-IsAntisymmetric, Pv, Hvm, level_of, FrameOf, GuestOf, blanked_table, part_total, part_exact, blanked_page, blanked_frame, blanked_part, blank_of, blank, IsOfBytes, place_of, blanked_context, blanked_shared}
 use Rattle.std.proofs.lemmas.List.Elements.{All-nil, All-cons, All-append, All-replicate}
 use Rattle.std.specs.Int.{bytes_low_first, byte_at}
@@ -25,12 +25,12 @@ number_bytes : (i n x : ℕ) → AreBytes (bytes_low_first i n x)
 number_bytes i zero x = All-nil IsByte
 number_bytes i (suc n) x = All-cons IsByte (byte_at i x) (bytes_low_first (suc i) n x) (small_byte i x) (number_bytes (suc i) n x)
 
-longs_bytes : (n : ℕ) (f : ℕ → ℕ) → AreBytes (longs n f)
+pub longs_bytes : (n : ℕ) (f : ℕ → ℕ) → AreBytes (longs n f)
 unfolding longs
 longs_bytes zero f = All-nil IsByte
 longs_bytes (suc n) f = All-append IsByte (longs n f) (little_bytes 8 (f n)) (longs_bytes n f) (number_bytes 0 8 (f n))
 
-zero_bytes : AreBytes zero_page
+pub zero_bytes : AreBytes zero_page
 unfolding zero_page
 zero_bytes = All-replicate IsByte 4096 0 (omega arith)
 
@@ -44,7 +44,7 @@ part_bytes true shared part all = longs_bytes 646 _
 part_bytes false true part all = longs_bytes 512 _
 part_bytes false false part all = all
 
-kind_bytes : (kind : Kind) (g : GuestOf) → IsOfBytes g → IsOfBytes (blank_of kind g)
+pub kind_bytes : (kind : Kind) (g : GuestOf) → IsOfBytes g → IsOfBytes (blank_of kind g)
 kind_bytes Hvm g all = all
 kind_bytes Pv g all = record {
   pages = λ pfn y page got has.
@@ -57,3 +57,12 @@ kind_bytes Pv g all = record {
 
 pub blank_bytes : (g : GuestOf) → IsOfBytes g → IsOfBytes (blank g)
 blank_bytes g all = kind_bytes g.kind g all
+
+-- ---- tables and contexts that are their own blank form
+
+pub table_of_bytes : (place : Option ℕ) (level : ℕ) (page : List ℕ) → blanked_page place (Some level) (Some page) ≡ Some page → AreBytes page
+table_of_bytes (Some k) level page is = let same : zero_page ≡ page = cc in subst AreBytes same zero_bytes
+table_of_bytes None level page is = let same : blanked_table level page ≡ page = cc in subst AreBytes same (longs_bytes 512 _)
+
+pub context_of_bytes : (context : List ℕ) → blanked_context context ≡ context → AreBytes context
+context_of_bytes context is = subst AreBytes is (longs_bytes 646 _)

@@ -14,7 +14,6 @@ use Rattle.mig_legacy.specs.Legacy.{LegacyStream, mean_legacy}
 use Rattle.mig_legacy.specs.Spelled.{AcceptedLegacy}
 use Rattle.mig_legacy.specs.Stream.{ReadsLegacy, legacy_at}
 use Rattle.mig_libxl.proofs.AnyCanons.{canon_is_accepted, canon_is_one_to_one}
-use Rattle.mig_pvtables.specs.Blank.{IsOfBytes}
 use Rattle.mig_bytes.specs.Judged.Judged.{Passes}
 use Rattle.mig_restore.specs.Stream.{ImageOf}
 use Rattle.mig_restore.specs.declared.read.Reading.{Reading}
@@ -189,11 +188,11 @@ pub base_fits : (guest : GuestOf) (base : ℕ) → IsFew guest.frames → IsBase
 base_fits guest base few range (inl zero) = omega (arith, zero, range.0)
 base_fits guest base few range (inr above) = omega (arith, above, range.1, few)
 
-pub restored : (told left : Option (List ℕ)) (w : Written) (reading : Reading) (base : ℕ) (outcome : Outcome) → ReadsStream told left (Ok reading) → IsCarried reading.guest → IsOfBytes reading.guest → IsBase base
+pub restored : (told left : Option (List ℕ)) (w : Written) (reading : Reading) (base : ℕ) (outcome : Outcome) → ReadsStream told left (Ok reading) → IsCarried reading.guest → IsBase base
     → (outcome ≡ outcomes.Done → Appends w.out_old w.out_new (restored_text base reading.guest)) → (outcome ≡ outcomes.WriteFault → AppendsPart w.out_old w.out_new (restored_text base reading.guest))
     → (outcome ≡ outcomes.Done) ⊎ ((outcome ≡ outcomes.WriteFault) ⊎ (outcome ≡ outcomes.Memory)) → ComesOf (Restore base) told left w outcome
-restored None left w reading base outcome h carried bytes range done part answers = tt
-restored (Some input) left w reading base outcome (stream, rest, accepts, left_is, is_read) carried bytes range done part (inl is) =
+restored None left w reading base outcome h carried range done part answers = tt
+restored (Some input) left w reading base outcome (stream, rest, accepts, left_is, is_read) carried range done part (inl is) =
     let fits = base_fits reading.guest base (whole_few reading.guest carried.whole) range in
     let valid = whole_valid reading.guest base carried.whole fits in
     subst (Comes (Restore base) input left w) (sym is)
@@ -205,13 +204,13 @@ restored (Some input) left w reading base outcome (stream, rest, accepts, left_i
       wrote = done is;
       carried = carried;
       valid = valid;
-      sound = whole_sound reading.guest base carried.whole bytes carried.blank fits;
-      seen = whole_seen reading.guest base carried.whole bytes carried.blank fits;
+      sound = whole_sound reading.guest base carried.whole carried.blank fits;
+      seen = whole_seen reading.guest base carried.whole carried.blank fits;
       kept = λ more. image_reads (restored_text base reading.guest ++ more) (hosted reading.guest base) more (record { valid = valid; spelled = refl });
     })
-restored (Some input) left w reading base outcome (stream, rest, accepts, left_is, is_read) carried bytes range done part (inr (inl is)) =
+restored (Some input) left w reading base outcome (stream, rest, accepts, left_is, is_read) carried range done part (inr (inl is)) =
     subst (Comes (Restore base) input left w) (sym is) (record { guest = reading.guest; rest = rest; accepted = accepted_front input rest stream reading accepts is_read; left_is = left_is; wrote = part is })
-restored (Some input) left w reading base outcome h carried bytes range done part (inr (inr is)) = subst (Comes (Restore base) input left w) (sym is) tt
+restored (Some input) left w reading base outcome h carried range done part (inr (inr is)) = subst (Comes (Restore base) input left w) (sym is) tt
 
 -- no stream was read
 pub not_read : (command : Command) (told left : Option (List ℕ)) (w : Written) (answer : Answer Place Cause) (outcome : Outcome) → form_of command ≡ Modern → ReadsStream told left (Err answer) → outcome ≡ outcome_of refusals.Stream answer → ComesOf command told left w outcome
