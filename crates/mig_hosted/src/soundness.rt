@@ -142,7 +142,7 @@ fn next_context(parts: &Parts, after: Option<PartKey>) -> Option<(PartKey, &[u8;
 }
 
 /// The first vCPU whose GDT has too many descriptors: its id, and how many.
-fn large_gdt(parts: &Parts) -> Option<(u32, u64)>
+pub fn large_gdt(parts: &Parts) -> Option<(u32, u64)>
     requires { (key : PartKey) (context : List ℕ) → maps.get parts.now key ≡ Some context → key.code ≡ 4 → length context ≡ 5168 }
     ensures { result ≡ find_gdt parts.now }
 {
