@@ -28,7 +28,7 @@ const VCPU_LIMIT: u32 = 4096;
 
 /// Appends the X86_PV_INFO of a PV guest; nothing for HVM.
 #[tactic(auto, using(mig_bytes::proofs::Texts::puts_same, crate::proofs::Spelling::text_one))]
-pub(crate) fn write_info<K: Sink>(sink: &mut K, guest: &Guest) -> Result<(), WriteFailed>
+pub fn write_info<K: Sink>(sink: &mut K, guest: &Guest) -> Result<(), WriteFailed>
     ensures bytes { Puts (text_of (info_records guest.now.kind)) (K.written sink.old) (K.written sink.new) result }
     ensures cause { HasCause (K.faults sink.old) (K.faults sink.new) result }
 {
@@ -54,7 +54,7 @@ fn write_p2m_list<K: Sink>(sink: &mut K, top: u32, frames: &[u8]) -> Result<(), 
 
 /// Appends the record of a PV guest's P2M frames; nothing for HVM.
 #[tactic(auto, using(mig_bytes::proofs::Texts::puts_same, crate::proofs::Spelling::text_one, crate::proofs::PvRecords::top_small, crate::proofs::PvRecords::p2m_short))]
-pub(crate) fn write_p2m_frames<K: Sink>(sink: &mut K, guest: &Guest) -> Result<(), WriteFailed>
+pub fn write_p2m_frames<K: Sink>(sink: &mut K, guest: &Guest) -> Result<(), WriteFailed>
     requires { IsFormed guest.now }
     ensures bytes { Puts (text_of (p2m_records guest.now.kind guest.now)) (K.written sink.old) (K.written sink.new) result }
     ensures cause { HasCause (K.faults sink.old) (K.faults sink.new) result }
@@ -107,7 +107,7 @@ fn write_vcpu<K: Sink>(sink: &mut K, guest: &Guest, id: u32) -> Result<(), Write
 
 /// Appends the records of all vCPUs, by ascending id.
 #[tactic(auto, using(mig_bytes::proofs::Texts::puts_same, crate::proofs::PvRecords::vcpu_next, crate::proofs::PvRecords::vcpu_stop, crate::proofs::PvRecords::vcpus_end))]
-pub(crate) fn write_vcpus<K: Sink>(sink: &mut K, guest: &Guest) -> Result<(), WriteFailed>
+pub fn write_vcpus<K: Sink>(sink: &mut K, guest: &Guest) -> Result<(), WriteFailed>
     requires { IsFormed guest.now }
     ensures bytes { Puts (text_of (all_vcpus guest.now)) (K.written sink.old) (K.written sink.new) result }
     ensures cause { HasCause (K.faults sink.old) (K.faults sink.new) result }
