@@ -29,6 +29,7 @@ pub use law::{
     whole_as_its_blank_form, worked_pv_guest_is_whole,
 };
 pub use listing::{frame_type, lacks, listed_pfn, misplaced_frame, sole_key};
+pub use mig_guest::Entry;
 pub use p2m::p2m_page;
 pub use rename::{BadEntry, Why, localise_table, normalise_table, rename_back, unknown_slot};
 pub use renaming_law::{
