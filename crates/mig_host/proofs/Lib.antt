@@ -15,3 +15,4 @@ pub mod SeenGuests
 pub mod SoundHosts
 pub mod HostChanges
 pub mod Callers
+pub mod SeenBytes

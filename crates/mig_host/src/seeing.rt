@@ -1,12 +1,14 @@
-ghost use Rattle.std.specs.Prelude.{◌≡◌, ◌<◌, Some, Err, OnOk, IfOk};
+ghost use Rattle.std.specs.Prelude.{◌≡◌, ◌<◌, Some, Err, OnOk, IfOk, IfSome};
+ghost use Rattle.std.specs.Option.{option_copied};
 ghost use Rattle.std.specs.Result.{IsOk};
 ghost use Rattle.std.specs.FinMap as maps;
+ghost use Rattle.mig_bytes.specs.Bytes.{AreBytes};
 ghost use Rattle.mig_headers.specs.Contexts.{scan};
 ghost use Rattle.mig_headers.specs.declared.kind.Kind.TheVariants.{Pv};
 ghost use Rattle.mig_guest.specs.Hosts.{IsValid};
 ghost use Rattle.mig_guest.specs.PartKeys.{context_key};
 ghost use Rattle.mig_headers.specs.declared.unsound.Unsound.{Unsound as Cause};
-ghost use Rattle.mig_pvtables.specs.Blank.{blank, each_value};
+ghost use Rattle.mig_pvtables.specs.Blank.{blank, each_value, IsOfBytes};
 ghost use Rattle.mig_pvtables.specs.Whole.{IsWhole};
 ghost use Rattle.mig_hosted.specs.Normalised.{part_seen};
 ghost use Rattle.mig_hosted.specs.Sound.{IsSound, unsoundness};
@@ -33,14 +35,31 @@ fn top_for(kind: Kind, width: u64) -> u64
     }
 }
 
+/// Does nothing. That bytes are below 256 is what makes the guest that they are set in one of bytes.
+fn are_bytes(bytes: &[u8])
+    ensures { AreBytes bytes.now }
+{}
+
+/// Does nothing. It says the same of a page, where there is one.
+fn page_is_of_bytes(page: Option<&[u8; 4096]>)
+    ensures { IfSome (option_copied page.entry) (λ page. AreBytes page) }
+{
+    if let Some(bytes) = page {
+        are_bytes(bytes);
+    }
+}
+
 /// Sets the frames of a host, without their machine frames. Where no memory is found, some may be set.
 fn copy_frames(guest: &mut Guest, host: &Host) -> Result<(), Memory>
     requires none { guest.old.frames ≡ maps.empty }
     requires valid { IsValid host.now.host }
-    ensures { OnOk result (guest.new ≡ record guest.old { frames = each_value (λ _ frame. without_machine frame) host.now.host.frames }) }
+    requires bytes { IsOfBytes guest.old }
+    ensures bytes { OnOk result (IsOfBytes guest.new) }
+    ensures frames { OnOk result (guest.new ≡ record guest.old { frames = each_value (λ _ frame. without_machine frame) host.now.host.frames }) }
 {
     let mut from = 0;
     while let Some((pfn, kind, _, page)) = host.next_entry(from) {
+        page_is_of_bytes(page);
         guest.set_frame(pfn, kind, page)?;
         from = pfn + 1;
     }
@@ -65,10 +84,13 @@ fn copy_parts(guest: &mut Guest, host: &Host) -> Result<(), Memory>
     requires none { guest.old.parts ≡ maps.empty }
     requires valid { IsValid host.now.host }
     requires sound { IsSound host.now.host }
-    ensures { OnOk result (guest.new ≡ record guest.old { parts = each_value part_seen host.now.host.parts }) }
+    requires bytes { IsOfBytes guest.old }
+    ensures bytes { OnOk result (IsOfBytes guest.new) }
+    ensures parts { OnOk result (guest.new ≡ record guest.old { parts = each_value part_seen host.now.host.parts }) }
 {
     let mut after = None;
     while let Some((key, bytes)) = host.next_behind(after) {
+        are_bytes(bytes);
         copy_part(guest, key, bytes)?;
         after = Some(key);
     }
@@ -78,6 +100,7 @@ fn copy_parts(guest: &mut Guest, host: &Host) -> Result<(), Memory>
 /// A copy of the guest that stands in a sound host, as it stands there but for the context, which is cut behind its END.
 fn copy_guest(alloc: Global, host: &Host) -> Result<Guest, Memory>
     requires { IsSound host.now.host }
+    ensures bytes { IfOk result (λ guest. IsOfBytes guest) }
     ensures guest { IfOk result (λ guest. guest ≡ record (guest_in host.now.host) { parts = each_value part_seen host.now.host.parts }) }
     ensures valid { IsValid host.now.host }
 {
@@ -94,6 +117,7 @@ fn copy_guest(alloc: Global, host: &Host) -> Result<Guest, Memory>
 fn guest_seen(alloc: Global, host: &Host) -> Result<Guest, Memory>
     requires { IsSound host.now.host }
     ensures guest { IfOk result (λ guest. guest ≡ view host.now.host) }
+    ensures bytes { IfOk result (λ guest. IsOfBytes guest) }
     ensures valid { OnOk result (IsValid host.now.host) }
 {
     let mut guest = copy_guest(alloc, host)?;
@@ -104,12 +128,13 @@ fn guest_seen(alloc: Global, host: &Host) -> Result<Guest, Memory>
     Ok(guest)
 }
 
-/// The guest that a host is seen as: a whole one, in its blank form. A host that isn't sound is answered with its first
+/// The guest that a host is seen as: a whole one, in its blank form, and of bytes. A host that isn't sound is answered with its first
 /// cause, and no guest is made.
 pub fn guest_of(alloc: Global, host: &Host) -> Result<Guest, SoundAnswer>
     ensures guest { IfOk result (λ guest. guest ≡ view host.now.host) }
     ensures whole { IfOk result (λ guest. IsWhole guest) }
     ensures blank { IfOk result (λ guest. blank guest ≡ guest) }
+    ensures bytes { IfOk result (λ guest. IsOfBytes guest) }
     ensures sound { OnOk result (IsSound host.now.host) }
     ensures unsound { (u : Cause) → result ≡ Err (answers.Unsound u) → unsoundness host.now.host ≡ Some u }
 {

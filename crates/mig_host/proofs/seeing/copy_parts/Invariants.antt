@@ -1,5 +1,6 @@
 use Rattle.mig_host.proofs.Common.{◌≡◌, length, parts_behind}
 use Rattle.std.specs.FinMap as maps
+use Rattle.mig_pvtables.specs.Blank.{IsOfBytes}
 use Rattle.mig_hosted.specs.Normalised.{part_seen}
 use Rattle.mig_host.proofs.Copies.{IsCopied}
 use Rattle.mig_host.proofs.seeing.copy_parts.Given as goal
@@ -8,6 +9,7 @@ abbrev pub invariant-loop-key : goal.invariant-loop-key
 invariant-loop-key l = record {
   others : l.guest ≡ record l.fn.guest { parts = l.guest.parts };
   copied : IsCopied part_seen l.host.host.parts l.guest.parts (parts_behind l.after (maps.entries l.host.host.parts));
+  bytes : IsOfBytes l.guest;
 }
 
 abbrev pub decreases-loop-key : goal.decreases-loop-key

@@ -1,4 +1,8 @@
-use Rattle.mig_host.proofs.Common.{sym, ◌∙◌}
+use Rattle.mig_host.proofs.Common.{sym, subst, ◌∙◌}
+use Rattle.mig_guest.specs.Guests.{GuestOf}
+use Rattle.mig_guest.specs.Hosts.{pfn_in}
+use Rattle.mig_pvtables.specs.Blank.{IsOfBytes}
+use Rattle.mig_hosted.proofs.ViewedBytes.{normalised_bytes}
 use Rattle.mig_host.proofs.SeenGuests.{contexts_long, page_long, page_sole, pfns_fit, hvm_seen, pv_seen}
 use Rattle.mig_host.proofs.seeing.guest_seen.Goals as goal
 use Rattle.mig_host.proofs.seeing.guest_seen.Goals.{in-Pv, in-Hvm}
@@ -19,4 +23,10 @@ pub returns-clause-guest : goal.returns-clause-guest
 returns-clause-guest c = elim c.match-kind.branch [
   | in-Pv w ↦ w.guest-is ∙ pv_seen c.args.host.now.host c.in_ok-guest.guest c.in_ok-guest.ensures.guest c.in_ok-guest.ensures.valid (sym w.in-Pv.ensures) w.normalise_guest.new.guest w.normalise_guest.ensures
   | in-Hvm w ↦ w.guest-is ∙ hvm_seen c.args.host.now.host c.in_ok-guest.guest c.in_ok-guest.ensures.guest (sym w.in-Hvm.ensures)
+]
+
+pub returns-clause-bytes : goal.returns-clause-bytes
+returns-clause-bytes c = elim c.match-kind.branch [
+  | in-Pv w ↦ subst (λ (g : GuestOf). IsOfBytes g) (sym (w.guest-is ∙ w.normalise_guest.ensures)) (normalised_bytes (pfn_in c.args.host.now.host.frames) c.in_ok-guest.guest c.in_ok-guest.ensures.bytes)
+  | in-Hvm w ↦ subst (λ (g : GuestOf). IsOfBytes g) (sym w.guest-is) c.in_ok-guest.ensures.bytes
 ]
