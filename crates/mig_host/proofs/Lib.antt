@@ -16,3 +16,4 @@ pub mod SoundHosts
 pub mod HostChanges
 pub mod Callers
 pub mod SeenBytes
+pub mod OneToOne

@@ -301,4 +301,8 @@ impl Frames for Host {
     fn mfn_of(&self, pfn: u64) -> Option<u64> {
         self.machine(pfn)
     }
+
+    fn one_to_one(&self) {
+        self.width();
+    }
 }

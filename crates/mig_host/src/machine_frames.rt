@@ -82,6 +82,15 @@ impl MachineFrames {
         self.back.get(machine)
     }
 
+    /// Does nothing. The machine frames of the PFNs are one to one.
+    fn all_one_to_one(&self)
+        ensures there { (machine pfn : ℕ) → pfn_of_machine_in self.now.machines machine ≡ Some pfn → maps.get self.now.machines pfn ≡ Some machine }
+        ensures back { (machine pfn : ℕ) → maps.get self.now.machines pfn ≡ Some machine → pfn_of_machine_in self.now.machines machine ≡ Some pfn }
+        ensures small { (machine pfn : ℕ) → maps.get self.now.machines pfn ≡ Some machine → machine < machine_limit }
+    {
+        let _ = &self.spare;
+    }
+
     /// Makes ready room for at least `more` machine frames, those included that are spare already.
     pub(crate) fn reserve(&mut self, more: usize) -> Result<(), Memory>
         ensures machines { self.new.machines ≡ self.old.machines }
@@ -169,5 +178,9 @@ impl Frames for MachineFrames {
 
     fn mfn_of(&self, pfn: u64) -> Option<u64> {
         self.machine(pfn)
+    }
+
+    fn one_to_one(&self) {
+        self.all_one_to_one();
     }
 }

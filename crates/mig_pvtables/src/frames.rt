@@ -18,4 +18,10 @@ pub trait Frames {
         ensures value { result ≡ mfns self.now pfn }
         ensures back { IfSome result (λ mfn. pfns self.now mfn ≡ Some pfn) }
         ensures small { IfSome result (λ mfn. mfn < 2 ^ 40) };
+
+    /// Does nothing. Frame numbers and machine frames are one to one, whether or not they were looked up.
+    fn one_to_one(&self)
+        ensures there { (mfn pfn : ℕ) → pfns self.now mfn ≡ Some pfn → mfns self.now pfn ≡ Some mfn }
+        ensures back { (mfn pfn : ℕ) → mfns self.now pfn ≡ Some mfn → pfns self.now mfn ≡ Some pfn }
+        ensures small { (mfn pfn : ℕ) → mfns self.now pfn ≡ Some mfn → mfn < 2 ^ 40 };
 }

@@ -26,6 +26,8 @@ impl Frames for Shifted {
             None
         }
     }
+
+    fn one_to_one(&self) {}
 }
 
 /// An entry that is present and names a frame, with a bit of each kind around it.
