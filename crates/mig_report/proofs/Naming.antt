@@ -1,6 +1,6 @@
 -- Words name one command at most.
 use mathlib.Core.Logic.{inl, inr}
-use Rattle.mig_report.proofs.Common.{◌≡◌, ℕ, ◌<◌, ◌^◌, List, [], length, get_or, sym, ap, ◌∙◌, refl, arith, IsBase, Names, Command, Convert, Normalise, Restore, Verify}
+use Rattle.mig_report.proofs.Common.{◌≡◌, ℕ, ◌<◌, ◌^◌, List, [], length, get_or, sym, ap, ◌∙◌, refl, arith, IsBase, Names, Command, Convert, Normalise, Restore, Save, Verify}
 use Rattle.std.proofs.lemmas.Fmt.{decimal_injective}
 
 -- the first letter of the first word
@@ -11,12 +11,14 @@ abbrev named : Command → ℕ
 named Normalise = 110
 named Verify = 118
 named Convert = 99
+named Save = 115
 named (Restore base) = 114
 
 begins : (words : List (List ℕ)) (command : Command) → Names words command → initial words ≡ named command
 begins words Normalise h = ap initial h
 begins words Verify h = ap initial h
 begins words Convert h = ap initial h
+begins words Save h = ap initial h
 begins words (Restore base) (inl (h, e)) = ap initial h
 begins words (Restore base) (inr (h, e)) = ap initial h
 
@@ -37,5 +39,6 @@ pub same_command : (words : List (List ℕ)) (c d : Command) → Names words c �
 same_command words Normalise Normalise h k = refl
 same_command words Verify Verify h k = refl
 same_command words Convert Convert h k = refl
+same_command words Save Save h k = refl
 same_command words (Restore a) (Restore b) h k = ap (λ (n : ℕ). Restore n) (same_base words a b h k)
 same_command words c d h k = absurd (omega (arith, sym (begins words c h) ∙ begins words d k))

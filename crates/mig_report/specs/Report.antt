@@ -5,16 +5,24 @@ use Rattle.mig_bytes.specs.Bytes.{AppendsPart}
 use Rattle.mig_bytes.specs.Faults.{Rose}
 use Rattle.mig_headers.specs.declared.kind.Kind.{Kind}
 use Rattle.mig_headers.specs.declared.kind.Kind.TheVariants.{Pv, Hvm}
+use Rattle.mig_texts.specs.ImageTexts.{text_of_image_place, text_of_image_cause}
 use Rattle.mig_texts.specs.LegacyTexts.{text_of_legacy_place, text_of_legacy_cause}
 use Rattle.mig_texts.specs.Texts.{text_of_place, text_of_cause}
+use Rattle.mig_texts.specs.UnsoundTexts.{text_of_unsound}
 use Rattle.mig_report.specs.declared.outcome.Refusal.{Refusal}
-use Rattle.mig_report.specs.declared.outcome.Refusal.TheVariants.{Stream, Legacy}
+use Rattle.mig_report.specs.declared.outcome.Refusal.TheVariants.{Stream, Legacy, Image, NotBuilt, BadLine, TooLong, Pause}
+use Rattle.mig_report.specs.declared.outcome.SaveSummary.{SaveSummary}
 use Rattle.mig_report.specs.declared.outcome.Summary.{Summary}
 
 -- `PLACE: NUMBER NAME`, and the cause's arguments
 abbrev pub refusal_text : Refusal → List ℕ
 refusal_text (Stream place cause) = text_of_place place ++ (codes ": " ++ text_of_cause cause)
 refusal_text (Legacy place cause) = text_of_legacy_place place ++ (codes ": " ++ text_of_legacy_cause cause)
+refusal_text (Image place cause) = text_of_image_place place ++ (codes ": " ++ text_of_image_cause cause)
+refusal_text (NotBuilt what) = codes "Head: 0 NotBuilt " ++ decimal what
+refusal_text (BadLine line) = (codes "Script " ++ decimal line) ++ codes ": 1 BadLine"
+refusal_text TooLong = codes "Script: 2 TooLong"
+refusal_text (Pause unsound) = codes "Pause: " ++ text_of_unsound unsound
 
 abbrev pub refusal_line : Refusal → List ℕ
 refusal_line refusal = codes "refused: " ++ (refusal_text refusal ++ codes "\n")
@@ -40,6 +48,10 @@ abbrev pub ok_line : Summary → List ℕ
 ok_line s =
     (codes "ok version " ++ decimal s.version) ++ (codes " kind " ++ (kind_name s.kind
     ++ ((codes " frames " ++ decimal s.frames) ++ ((codes " records " ++ decimal s.records) ++ codes "\n"))))
+
+-- `ok rounds R entries N`
+abbrev pub saved_line : SaveSummary → List ℕ
+saved_line s = (codes "ok rounds " ++ decimal s.rounds) ++ ((codes " entries " ++ decimal s.entries) ++ codes "\n")
 
 -- the report got the line, and its count stands as it was; or a write failed, and it got some first bytes, but not all
 abbrev pub Reports : List ℕ → Option (List ℕ) → Option (List ℕ) → ℕ → ℕ → Type 0

@@ -2,7 +2,7 @@
 use Rattle.std.specs.Prelude.{◌≡◌, ◌⊎◌, ◌<◌, ◌≤◌, ℕ, List, [], ◌∷◌, map, codes, decimal, string_bytes}
 use Rattle.std.specs.declared.string.String.{String}
 use Rattle.mig_report.specs.declared.command.Command.{Command}
-use Rattle.mig_report.specs.declared.command.Command.TheVariants.{Normalise, Restore, Verify, Convert}
+use Rattle.mig_report.specs.declared.command.Command.TheVariants.{Normalise, Restore, Verify, Convert, Save}
 
 abbrev pub texts_of : {Z : Type 0} → List (String Z) → List (List ℕ)
 texts_of words = map string_bytes words
@@ -20,4 +20,5 @@ abbrev pub Names : List (List ℕ) → Command → Type 0
 Names words Normalise = words ≡ codes "normalise" ∷ []
 Names words Verify = words ≡ codes "verify" ∷ []
 Names words Convert = words ≡ codes "convert" ∷ []
+Names words Save = words ≡ codes "save" ∷ []
 Names words (Restore base) = ((words ≡ codes "restore" ∷ []) × (base ≡ usual_base)) ⊎ ((words ≡ codes "restore" ∷ decimal base ∷ []) × IsBase base)

@@ -21,6 +21,8 @@ pub enum Command {
     Verify,
     /// Write the guest of the legacy stream as a canonical stream.
     Convert,
+    /// Save a host live, while the lines of a script run on it, and write it as a stream.
+    Save,
 }
 
 /// Whether the word is this one.
@@ -71,6 +73,9 @@ fn plain(word: &str) -> Option<Command>
     }
     if is_word(word, "convert") {
         return Some(Command::Convert);
+    }
+    if is_word(word, "save") {
+        return Some(Command::Save);
     }
     None
 }

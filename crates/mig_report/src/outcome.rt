@@ -2,20 +2,35 @@ ghost use Rattle.std.specs.Prelude.{◌≡◌, ◌≤◌, ◌++◌, decimal};
 ghost use Rattle.mig_bytes.specs.Bytes.{Puts};
 ghost use Rattle.mig_bytes.specs.Faults.{HasCause};
 ghost use Rattle.mig_report.specs.Outcome.{status_of, line_of};
-ghost use Rattle.mig_report.specs.Report.{Reports, refusal_line, refusal_text, kind_name, ok_line};
+ghost use Rattle.mig_report.specs.Report.{Reports, refusal_line, refusal_text, kind_name, ok_line, saved_line};
 ghost use Rattle.mig_report.specs.declared.outcome.Outcome.TheVariants as outcomes;
 ghost use Rattle.mig_report.specs.declared.outcome.Refusal.TheVariants as refusals;
 
 use crate::status::Status;
 use mig_bytes::{Sink, WriteFailed, put_all};
-use mig_headers::{Cause, Kind, LegacyCause, LegacyPlace, Place};
-use mig_texts::{put_cause, put_legacy_cause, put_legacy_place, put_number, put_place};
+use mig_headers::{Cause, ImageCause, ImagePlace, Kind, LegacyCause, LegacyPlace, Place, Unsound};
+use mig_texts::{
+    put_cause, put_image_cause, put_image_place, put_legacy_cause, put_legacy_place, put_number,
+    put_place, put_unsound,
+};
 
-/// The place and the cause of a refusal: of a stream, or of a legacy stream.
+/// The place and the cause of a refusal.
 #[derive(Clone, Copy, Debug, PartialEq, Eq)]
 pub enum Refusal {
+    /// Of a stream.
     Stream(Place, Cause),
+    /// Of a legacy stream.
     Legacy(LegacyPlace, LegacyCause),
+    /// Of the image of a host.
+    Image(ImagePlace, ImageCause),
+    /// Of a host that can't be saved yet: 1, a PV guest's; 2, one with a part of an emulator.
+    NotBuilt(u64),
+    /// This line of a script, counted from 1, is the first that is none.
+    BadLine(u64),
+    /// A script has too many bytes.
+    TooLong,
+    /// A host can't be seen as a guest as it stands at the pause.
+    Pause(Unsound),
 }
 
 /// What a command came to: its status, and what its line says.
@@ -40,6 +55,15 @@ pub struct Summary {
     pub records: u64,
 }
 
+/// What is said of a host that was saved live.
+#[derive(Clone, Copy, Debug, PartialEq, Eq)]
+pub struct SaveSummary {
+    /// The rounds before the pause.
+    pub rounds: u64,
+    /// The entries of all PAGE_DATA records.
+    pub entries: u64,
+}
+
 /// The status of an outcome.
 fn status(outcome: Outcome) -> Status
     ensures { result ≡ status_of outcome }
@@ -52,6 +76,15 @@ fn status(outcome: Outcome) -> Status
         Outcome::WriteFault => Status::WriteFault,
         Outcome::Memory => Status::Memory,
     }
+}
+
+/// Puts a text and a number behind it.
+fn put_field<R: Sink>(report: &mut R, text: &[u8], number: u64) -> Result<(), WriteFailed>
+    ensures bytes { Puts (text.now ++ decimal number) (R.written report.old) (R.written report.new) result }
+    ensures cause { HasCause (R.faults report.old) (R.faults report.new) result }
+{
+    put_all(report, text)?;
+    put_number(report, number)
 }
 
 /// Puts the place and the cause of a stream's refusal.
@@ -82,6 +115,38 @@ fn put_legacy_refusal<R: Sink>(
     put_legacy_cause(report, cause)
 }
 
+/// Puts the place and the cause of an image's refusal.
+fn put_image_refusal<R: Sink>(
+    report: &mut R,
+    place: ImagePlace,
+    cause: ImageCause,
+) -> Result<(), WriteFailed>
+    ensures bytes { Puts (refusal_text (refusals.Image place cause)) (R.written report.old) (R.written report.new) result }
+    ensures cause { HasCause (R.faults report.old) (R.faults report.new) result }
+{
+    put_image_place(report, place)?;
+    put_all(report, b": ")?;
+    put_image_cause(report, cause)
+}
+
+/// Puts the line of a script that is none.
+fn put_bad_line<R: Sink>(report: &mut R, line: u64) -> Result<(), WriteFailed>
+    ensures bytes { Puts (refusal_text (refusals.BadLine line)) (R.written report.old) (R.written report.new) result }
+    ensures cause { HasCause (R.faults report.old) (R.faults report.new) result }
+{
+    put_field(report, b"Script ", line)?;
+    put_all(report, b": 1 BadLine")
+}
+
+/// Puts what is in the way of seeing the host at the pause.
+fn put_pause_refusal<R: Sink>(report: &mut R, unsound: Unsound) -> Result<(), WriteFailed>
+    ensures bytes { Puts (refusal_text (refusals.Pause unsound)) (R.written report.old) (R.written report.new) result }
+    ensures cause { HasCause (R.faults report.old) (R.faults report.new) result }
+{
+    put_all(report, b"Pause: ")?;
+    put_unsound(report, unsound)
+}
+
 /// Puts the place and the cause of a refusal.
 fn put_place_and_cause<R: Sink>(report: &mut R, refusal: Refusal) -> Result<(), WriteFailed>
     ensures bytes { Puts (refusal_text refusal) (R.written report.old) (R.written report.new) result }
@@ -90,6 +155,11 @@ fn put_place_and_cause<R: Sink>(report: &mut R, refusal: Refusal) -> Result<(), 
     match refusal {
         Refusal::Stream(place, cause) => put_stream_refusal(report, place, cause),
         Refusal::Legacy(place, cause) => put_legacy_refusal(report, place, cause),
+        Refusal::Image(place, cause) => put_image_refusal(report, place, cause),
+        Refusal::NotBuilt(what) => put_field(report, b"Head: 0 NotBuilt ", what),
+        Refusal::BadLine(line) => put_bad_line(report, line),
+        Refusal::TooLong => put_all(report, b"Script: 2 TooLong"),
+        Refusal::Pause(unsound) => put_pause_refusal(report, unsound),
     }
 }
 
@@ -143,15 +213,6 @@ fn put_kind<R: Sink>(report: &mut R, kind: Kind) -> Result<(), WriteFailed>
     }
 }
 
-/// Puts a text and a number behind it.
-fn put_field<R: Sink>(report: &mut R, text: &[u8], number: u64) -> Result<(), WriteFailed>
-    ensures bytes { Puts (text.now ++ decimal number) (R.written report.old) (R.written report.new) result }
-    ensures cause { HasCause (R.faults report.old) (R.faults report.new) result }
-{
-    put_all(report, text)?;
-    put_number(report, number)
-}
-
 /// Puts what an accepted stream is on the report.
 pub fn put_ok<R: Sink>(report: &mut R, summary: Summary) -> Result<(), WriteFailed>
     ensures bytes { Puts (ok_line summary) (R.written report.old) (R.written report.new) result }
@@ -162,5 +223,15 @@ pub fn put_ok<R: Sink>(report: &mut R, summary: Summary) -> Result<(), WriteFail
     put_kind(report, summary.kind)?;
     put_field(report, b" frames ", summary.frames)?;
     put_field(report, b" records ", summary.records)?;
+    put_all(report, b"\n")
+}
+
+/// Puts how a host was saved on the report.
+pub fn put_saved<R: Sink>(report: &mut R, summary: SaveSummary) -> Result<(), WriteFailed>
+    ensures bytes { Puts (saved_line summary) (R.written report.old) (R.written report.new) result }
+    ensures cause { HasCause (R.faults report.old) (R.faults report.new) result }
+{
+    put_field(report, b"ok rounds ", summary.rounds)?;
+    put_field(report, b" entries ", summary.entries)?;
     put_all(report, b"\n")
 }
