@@ -2,5 +2,5 @@ pub mod Cutting
 pub mod FieldsSaid
 pub mod Growing
 mod OneLine
-mod OneScript
+pub mod OneScript
 mod Judging
