@@ -1,5 +1,5 @@
 -- What the program answers, and what the line on the report comes to.
-use Rattle.mig_tool.proofs.Common.{◌⊎◌, ◌≡◌, ℕ, ◌++◌, List, [], length, arith, Option, Some, None, Result, Ok, Err, refl, sym, ap, subst, ◌∙◌, GuestOf, AcceptedStream, AcceptedIn, RefusedIn, Form, Legacy, Modern, form_of, Refusal, Kind, Hvm, Pv, IsCarried, IsFew, IsBase, restored_text, Written, Done, DonePart, Comes, ComesOf, Says, SaysOf, InputRises, IsLine, summary_of, Command, Convert, Normalise, Restore, Verify, mean_kind, status_of, line_of, outcome_of}
+use Rattle.mig_tool.proofs.Common.{◌⊎◌, ◌≡◌, ℕ, ◌++◌, List, [], length, arith, Option, Some, None, Result, Ok, Err, refl, sym, ap, subst, ◌∙◌, GuestOf, AcceptedStream, AcceptedIn, RefusedIn, Form, ImageAndScript, Legacy, Modern, form_of, Refusal, Kind, Hvm, Pv, IsCarried, IsFew, IsBase, restored_text, Written, Done, DonePart, Comes, ComesOf, Says, SaysOf, InputRises, IsLine, summary_of, Command, Convert, Normalise, Restore, Save, Verify, mean_kind, status_of, line_of, outcome_of}
 use mathlib.Core.Logic.{inl, inr}
 use Rattle.std.specs.Io.KnownBytes.{Appends}
 use Rattle.mig_bytes.specs.Bytes.{Puts}
@@ -37,7 +37,12 @@ use Rattle.mig_headers.specs.declared.fault.Place.{Place}
 use Rattle.mig_headers.specs.declared.legacy_fault.LegacyCause.{LegacyCause}
 use Rattle.mig_headers.specs.declared.legacy_fault.LegacyPlace.{LegacyPlace}
 use Rattle.std.specs.FinMap as maps
-use Rattle.mig_tool.specs.Answers.{Normalised, PartWritten}
+use Rattle.mig_tool.specs.Answers.{IsOfInput, Normalised, PartWritten}
+use Rattle.mig_guest.specs.Hosts.{HostOf}
+use Rattle.mig_script.specs.ScriptLines.{LineOf}
+use Rattle.mig_tool.specs.LiveSaves.{HasHostAndScript}
+use Rattle.mig_tool.specs.Answers.{IsSavedOrPaused}
+use Rattle.mig_tool.proofs.SaveInputs.{not_refused, paused}
 use Rattle.mig_report.specs.Report.{ok_line}
 use Rattle.mig_report.specs.Report.{Reports}
 
@@ -83,22 +88,26 @@ said_of command this told left w outcome status same is h =
 -- an input of either form isn't both accepted and refused
 never_both : (form : Form) (input : List ℕ) (guest : GuestOf) (rest more : List ℕ) (refusal : Refusal) → AcceptedIn form input guest rest → RefusedIn form input refusal more → ⊥
 never_both Modern input guest rest more (refusals.Stream place cause) accepted refused = never_both_modern input guest rest place cause more accepted refused
-never_both Modern input guest rest more (refusals.Legacy place cause) accepted refused = refused
-never_both Legacy input guest rest more (refusals.Stream place cause) accepted refused = refused
+never_both Modern input guest rest more _ accepted refused = refused
 never_both Legacy input guest rest more (refusals.Legacy place cause) accepted refused = never_both_legacy input guest rest place cause more accepted refused
+never_both Legacy input guest rest more _ accepted refused = refused
+never_both ImageAndScript input guest rest more refusal accepted refused = accepted
 
 -- a refused input isn't done
-done_refused : (command : Command) (input : List ℕ) (left : Option (List ℕ)) (w : Written) (refusal : Refusal) (rest : List ℕ) → Done command input left w → RefusedIn (form_of command) input refusal rest → ⊥
-done_refused Normalise input left w refusal rest h refused = never_both Modern input h.guest h.rest rest refusal h.accepted refused
-done_refused Convert input left w refusal rest h refused = never_both Legacy input h.guest h.rest rest refusal h.accepted refused
-done_refused (Restore base) input left w refusal rest h refused = never_both Modern input h.guest h.rest rest refusal h.accepted refused
-done_refused Verify input left w refusal rest h refused = never_both Modern input h.guest h.rest rest refusal h.accepted refused
+done_refused : (command : Command) (input : List ℕ) (left : Option (List ℕ)) (w : Written) (refusal : Refusal) (rest : List ℕ) → Done command input left w → RefusedIn (form_of command) input refusal rest → IsOfInput refusal → ⊥
+done_refused Normalise input left w refusal rest h refused it = never_both Modern input h.guest h.rest rest refusal h.accepted refused
+done_refused Convert input left w refusal rest h refused it = never_both Legacy input h.guest h.rest rest refusal h.accepted refused
+done_refused (Restore base) input left w refusal rest h refused it = never_both Modern input h.guest h.rest rest refusal h.accepted refused
+done_refused Verify input left w refusal rest h refused it = never_both Modern input h.guest h.rest rest refusal h.accepted refused
+done_refused Save input left w refusal rest h refused it = not_refused input h.host h.lines refusal rest h.read refused it
 
-part_refused : (command : Command) (input : List ℕ) (left : Option (List ℕ)) (w : Written) (refusal : Refusal) (rest : List ℕ) → DonePart command input left w → RefusedIn (form_of command) input refusal rest → ⊥
-part_refused Normalise input left w refusal rest h refused = never_both Modern input h.guest h.rest rest refusal h.accepted refused
-part_refused Convert input left w refusal rest h refused = never_both Legacy input h.guest h.rest rest refusal h.accepted refused
-part_refused (Restore base) input left w refusal rest h refused = never_both Modern input h.guest h.rest rest refusal h.accepted refused
-part_refused Verify input left w refusal rest h refused = never_both Modern input h.guest h.rest rest refusal h.accepted refused
+part_refused : (command : Command) (input : List ℕ) (left : Option (List ℕ)) (w : Written) (refusal : Refusal) (rest : List ℕ) → DonePart command input left w → RefusedIn (form_of command) input refusal rest → IsOfInput refusal → ⊥
+part_refused Normalise input left w refusal rest h refused it = never_both Modern input h.guest h.rest rest refusal h.accepted refused
+part_refused Convert input left w refusal rest h refused it = never_both Legacy input h.guest h.rest rest refusal h.accepted refused
+part_refused (Restore base) input left w refusal rest h refused it = never_both Modern input h.guest h.rest rest refusal h.accepted refused
+part_refused Verify input left w refusal rest h refused it = never_both Modern input h.guest h.rest rest refusal h.accepted refused
+part_refused Save input left w refusal rest (inl h) refused it = not_refused input h.host h.lines refusal rest h.read refused it
+part_refused Save input left w refusal rest (inr h) refused it = not_refused input h.host h.lines refusal rest h.read refused it
 
 -- an accepted stream is done, but for memory, where nothing failed
 done_or : (command : Command) (input : List ℕ) (left : Option (List ℕ)) (w : Written) (status : Status) (guest : GuestOf) (rest : List ℕ) → Says command input left w status → AcceptedIn (form_of command) input guest rest
@@ -115,19 +124,34 @@ pub accepted_done : (command : Command) (told left : Option (List ℕ)) (w : Wri
 accepted_done command told left w status input guest rest h is accepted reads writes =
     done_or command input left w status guest rest (subst (λ t. SaysOf command t left w status) is h) accepted reads writes
 
-refused_or : (command : Command) (input : List ℕ) (left : Option (List ℕ)) (w : Written) (status : Status) (refusal : Refusal) (rest : List ℕ) → Says command input left w status → RefusedIn (form_of command) input refusal rest
+refused_or : (command : Command) (input : List ℕ) (left : Option (List ℕ)) (w : Written) (status : Status) (refusal : Refusal) (rest : List ℕ) → Says command input left w status → RefusedIn (form_of command) input refusal rest → IsOfInput refusal
     → (status ≡ statuses.ReadFault → ⊥) → (status ≡ statuses.Refused) ⊎ (status ≡ statuses.Memory)
-refused_or command input left w statuses.Done refusal rest h refused reads = absurd (done_refused command input left w refusal rest h refused)
-refused_or command input left w statuses.Refused refusal rest h refused reads = inl refl
-refused_or command input left w statuses.Usage refusal rest h refused reads = absurd h
-refused_or command input left w statuses.ReadFault refusal rest h refused reads = absurd (reads refl)
-refused_or command input left w statuses.WriteFault refusal rest h refused reads = absurd (part_refused command input left w refusal rest h refused)
-refused_or command input left w statuses.Memory refusal rest h refused reads = inr refl
+refused_or command input left w statuses.Done refusal rest h refused it reads = absurd (done_refused command input left w refusal rest h refused it)
+refused_or command input left w statuses.Refused refusal rest h refused it reads = inl refl
+refused_or command input left w statuses.Usage refusal rest h refused it reads = absurd h
+refused_or command input left w statuses.ReadFault refusal rest h refused it reads = absurd (reads refl)
+refused_or command input left w statuses.WriteFault refusal rest h refused it reads = absurd (part_refused command input left w refusal rest h refused it)
+refused_or command input left w statuses.Memory refusal rest h refused it reads = inr refl
 
-pub refused_refused : (command : Command) (told left : Option (List ℕ)) (w : Written) (status : Status) (input : List ℕ) (refusal : Refusal) (rest : List ℕ) → SaysOf command told left w status → told ≡ Some input → RefusedIn (form_of command) input refusal rest
+pub refused_refused : (command : Command) (told left : Option (List ℕ)) (w : Written) (status : Status) (input : List ℕ) (refusal : Refusal) (rest : List ℕ) → SaysOf command told left w status → told ≡ Some input → RefusedIn (form_of command) input refusal rest → IsOfInput refusal
     → (status ≡ statuses.ReadFault → ⊥) → (status ≡ statuses.Refused) ⊎ (status ≡ statuses.Memory)
-refused_refused command told left w status input refusal rest h is refused reads =
-    refused_or command input left w status refusal rest (subst (λ t. SaysOf command t left w status) is h) refused reads
+refused_refused command told left w status input refusal rest h is refused it reads =
+    refused_or command input left w status refusal rest (subst (λ t. SaysOf command t left w status) is h) refused it reads
+
+-- a host and a script are saved, or refused at the pause, but for memory, where nothing failed
+saved_or : (input : List ℕ) (left : Option (List ℕ)) (w : Written) (status : Status) (host : HostOf) (lines : List LineOf) → Says Save input left w status → HasHostAndScript input host lines
+    → (status ≡ statuses.ReadFault → ⊥) → (status ≡ statuses.WriteFault → ⊥) → IsSavedOrPaused input status
+saved_or input left w statuses.Done host lines h read reads writes = inl refl
+saved_or input left w statuses.Refused host lines h read reads writes = let pause = paused input host lines h.refusal h.rest read h.refused in inr (inl (refl, pause.0, pause.1))
+saved_or input left w statuses.Usage host lines h read reads writes = absurd h
+saved_or input left w statuses.ReadFault host lines h read reads writes = absurd (reads refl)
+saved_or input left w statuses.WriteFault host lines h read reads writes = absurd (writes refl)
+saved_or input left w statuses.Memory host lines h read reads writes = inr (inr refl)
+
+pub saved_done : (told left : Option (List ℕ)) (w : Written) (status : Status) (input : List ℕ) (host : HostOf) (lines : List LineOf) → SaysOf Save told left w status → told ≡ Some input → HasHostAndScript input host lines
+    → (status ≡ statuses.ReadFault → ⊥) → (status ≡ statuses.WriteFault → ⊥) → IsSavedOrPaused input status
+saved_done told left w status input host lines h is read reads writes =
+    saved_or input left w status host lines (subst (λ t. SaysOf Save t left w status) is h) read reads writes
 
 -- a read fault comes with a risen count
 pub input_rose : (status : Status) (before now : ℕ) → InputRises status before now → status ≡ statuses.ReadFault → Rose before now

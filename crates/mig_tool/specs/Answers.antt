@@ -1,12 +1,13 @@
 -- What the program answers, takes and writes.
-use Rattle.std.specs.Prelude.{◌≡◌, ◌↔◌, ◌≤◌, ℕ, List, [], ◌++◌, length, ⊤, Some, None, Option}
+use Rattle.std.specs.Prelude.{◌≡◌, ◌↔◌, ◌≤◌, ◌⊎◌, ℕ, List, [], ◌++◌, length, ⊤, Some, None, Option}
 use Rattle.std.specs.FinMap as maps
 use Rattle.std.specs.Io.KnownBytes.{Appends}
 use Rattle.mig_bytes.specs.Bytes.{AppendsPart}
 use Rattle.mig_bytes.specs.Faults.{Rose}
-use Rattle.mig_bytes.specs.Judged.Judged.{Passes}
+use Rattle.mig_bytes.specs.Judged.Judged.{Passes, Faulty}
+use Rattle.mig_headers.specs.declared.unsound.Unsound.{Unsound}
 use Rattle.mig_guest.specs.Guests.{GuestOf}
-use Rattle.mig_guest.specs.Hosts.{IsValid}
+use Rattle.mig_guest.specs.Hosts.{HostOf, IsValid}
 use Rattle.mig_host.specs.Hosted.{hosted}
 use Rattle.mig_image.specs.Image.{image}
 use Rattle.mig_image.specs.ImageParts.{host_at}
@@ -19,22 +20,27 @@ use Rattle.mig_libxl.specs.Stream.{IsStreamRefused}
 use Rattle.mig_legacy.specs.Spelled.{AcceptedLegacy}
 use Rattle.mig_legacy.specs.Stream.{IsLegacyRefused}
 use Rattle.mig_report.specs.declared.command.Command.{Command}
-use Rattle.mig_report.specs.declared.command.Command.TheVariants.{Normalise, Restore, Verify, Convert}
+use Rattle.mig_report.specs.declared.command.Command.TheVariants.{Normalise, Restore, Verify, Convert, Save}
 use Rattle.mig_report.specs.declared.outcome.Outcome.{Outcome}
 use Rattle.mig_report.specs.declared.outcome.Outcome.TheVariants as outcomes
 use Rattle.mig_report.specs.declared.outcome.Refusal.{Refusal}
 use Rattle.mig_report.specs.declared.outcome.Refusal.TheVariants as refusals
+use Rattle.mig_report.specs.declared.outcome.SaveSummary.{SaveSummary}
 use Rattle.mig_report.specs.declared.outcome.Summary.{Summary}
 use Rattle.mig_report.specs.declared.status.Status.{Status}
 use Rattle.mig_report.specs.declared.status.Status.TheVariants as statuses
-use Rattle.mig_report.specs.Report.{refusal_line, usage_line, read_fault_line, write_fault_line, memory_line, ok_line}
+use Rattle.mig_report.specs.Report.{Reports, refusal_line, usage_line, read_fault_line, write_fault_line, memory_line, ok_line, saved_line}
+use Rattle.mig_script.specs.ScriptLines.{LineOf}
+use Rattle.mig_unended.specs.Unread.{WroteNoStream}
+use Rattle.mig_tool.specs.LiveSaves.{IsNotBuilt, HasHostAndScript, HasBadLine, HasLongScript, HasUnsoundPause, WroteLive}
 
 -- ---- the forms of input
 
--- a stream, bare or inside a libxl stream; or a legacy stream
+-- a stream, bare or inside a libxl stream; a legacy stream; or the image of a host, and behind it a script to the end
 pub data Form : Type 0 where
   Modern : Form
   Legacy : Form
+  ImageAndScript : Form
 
 -- which of them a command reads
 abbrev pub form_of : Command → Form
@@ -42,17 +48,29 @@ form_of Normalise = Modern
 form_of (Restore base) = Modern
 form_of Verify = Modern
 form_of Convert = Legacy
+form_of Save = ImageAndScript
 
--- a front of the input is accepted with this guest, and rest follows it
+-- a front of the input is an accepted stream of this form, with this guest, and rest follows it
 abbrev pub AcceptedIn : Form → List ℕ → GuestOf → List ℕ → Type 0
 AcceptedIn Modern input guest rest = AcceptedStream input guest rest
 AcceptedIn Legacy input guest rest = AcceptedLegacy input guest rest
+AcceptedIn ImageAndScript input guest rest = ⊥
 
 -- the input has this refusal, and rest follows the faulty part
 abbrev pub RefusedIn : Form → List ℕ → Refusal → List ℕ → Type 0
 RefusedIn Modern input (refusals.Stream place cause) rest = IsStreamRefused input place cause rest
 RefusedIn Legacy input (refusals.Legacy place cause) rest = IsLegacyRefused input place cause rest
+RefusedIn ImageAndScript input (refusals.Image place cause) rest = host_at input ≡ Faulty (place, cause) rest
+RefusedIn ImageAndScript input (refusals.NotBuilt what) rest = (host : HostOf) × (host_at input ≡ Passes host rest) × IsNotBuilt what host
+RefusedIn ImageAndScript input (refusals.BadLine line) rest = HasBadLine input line × (rest ≡ [])
+RefusedIn ImageAndScript input refusals.TooLong rest = HasLongScript input rest
+RefusedIn ImageAndScript input (refusals.Pause unsound) rest = HasUnsoundPause input unsound × (rest ≡ [])
 RefusedIn _ input _ rest = ⊥
+
+-- the input alone decides about it; that of a pause hangs on when the pause comes too
+abbrev pub IsOfInput : Refusal → Type 0
+IsOfInput (refusals.Pause unsound) = ⊥
+IsOfInput _ = ⊤
 
 -- ---- an accepted front of the input, and what was written of its guest
 
@@ -115,6 +133,25 @@ pub record Rejected (form : Form) (input : List ℕ) (left : Option (List ℕ)) 
   pub refused : RefusedIn form input refusal rest
   pub left_is : left ≡ Some rest
 
+-- the input is a host and a script, all of it is taken, what a saver has to write of the host was written, and its line was
+-- reported
+pub record LiveSaved (Reported : List ℕ → Type 0) (input : List ℕ) (left old new : Option (List ℕ)) : Type 0 where
+  pub host : HostOf
+  pub lines : List LineOf
+  pub read : HasHostAndScript input host lines
+  pub left_is : left ≡ Some []
+  pub summary : SaveSummary
+  pub wrote : WroteLive host lines old new summary
+  pub reported : Reported (saved_line summary)
+
+-- the same input, but a write failed: no front of what was written is an accepted stream
+pub record LiveBroken (input : List ℕ) (left old new : Option (List ℕ)) : Type 0 where
+  pub host : HostOf
+  pub lines : List LineOf
+  pub read : HasHostAndScript input host lines
+  pub left_is : left ≡ Some []
+  pub no_stream : WroteNoStream old new
+
 -- ---- what a status of a command says: of the input, of what is left of it, of what was written, and of the report
 
 -- what stands on the output and on the report, before the call and after it
@@ -129,12 +166,14 @@ Done Normalise input left w = Normalised Modern input left w.out_old w.out_new
 Done Convert input left w = Normalised Legacy input left w.out_old w.out_new
 Done (Restore base) input left w = Restored base input left w.out_old w.out_new
 Done Verify input left w = Verified (Appends w.report_old w.report_new) input left
+Done Save input left w = LiveSaved (Appends w.report_old w.report_new) input left w.out_old w.out_new
 
 abbrev pub DonePart : Command → List ℕ → Option (List ℕ) → Written → Type 0
 DonePart Convert input left w = PartWritten Legacy canon_any input left w.out_old w.out_new
 DonePart Normalise input left w = PartWritten Modern canon_any input left w.out_old w.out_new
 DonePart (Restore base) input left w = PartWritten Modern (restored_text base) input left w.out_old w.out_new
 DonePart Verify input left w = Verified (AppendsPart w.report_old w.report_new) input left
+DonePart Save input left w = LiveBroken input left w.out_old w.out_new ⊎ LiveSaved (AppendsPart w.report_old w.report_new) input left w.out_old w.out_new
 
 abbrev pub Says : Command → List ℕ → Option (List ℕ) → Written → Status → Type 0
 Says command input left w statuses.Done = Done command input left w
@@ -144,17 +183,22 @@ Says command input left w statuses.ReadFault = ⊤
 Says command input left w statuses.WriteFault = DonePart command input left w
 Says command input left w statuses.Memory = ⊤
 
+-- what comes of a host and a script where nothing fails: it is saved, or refused at the pause, or there is no memory
+abbrev pub IsSavedOrPaused : List ℕ → Status → Type 0
+IsSavedOrPaused input status = (status ≡ statuses.Done) ⊎ (((status ≡ statuses.Refused) × (unsound : Unsound) × HasUnsoundPause input unsound) ⊎ (status ≡ statuses.Memory))
+
 -- where the input tells its bytes
 abbrev pub SaysOf : Command → Option (List ℕ) → Option (List ℕ) → Written → Status → Type 0
 SaysOf command None left w status = ⊤
 SaysOf command (Some input) left w status = Says command input left w status
 
--- a write fault is one of the sink that the command writes on: `verify` writes its line on the report
+-- a write fault is one of a sink that the command writes on: `verify` and `save` write their line on the report
 abbrev pub WriteRose : Command → ℕ → ℕ → ℕ → ℕ → Type 0
 WriteRose Verify out out_now report report_now = Rose report report_now
 WriteRose Normalise out out_now report report_now = Rose out out_now
 WriteRose Convert out out_now report report_now = Rose out out_now
 WriteRose (Restore base) out out_now report report_now = Rose out out_now
+WriteRose Save out out_now report report_now = Rose out out_now ⊎ Rose report report_now
 
 -- the count of the input rises with a read fault, and with every other status it stands as it was
 abbrev pub InputRises : Status → ℕ → ℕ → Type 0
@@ -173,6 +217,14 @@ abbrev pub NamesRefusal : Form → Option (List ℕ) → Refusal → Type 0
 NamesRefusal form None refusal = ⊤
 NamesRefusal form (Some input) refusal = (rest : List ℕ) × RefusedIn form input refusal rest
 
+-- the host at the pause is refused, and the report got the line of that, or a part of it where its count rose
+abbrev pub RefusesPause : Option (List ℕ) → Option (List ℕ) → Option (List ℕ) → ℕ → ℕ → Type 0
+RefusesPause told old new before now = (unsound : Unsound) × NamesRefusal ImageAndScript told (refusals.Pause unsound) × Reports (refusal_line (refusals.Pause unsound)) old new before now
+
+-- a write of the output failed, and no front of what was written is an accepted stream; or one of the report failed
+abbrev pub BreaksOff : Option (List ℕ) → Option (List ℕ) → ℕ → ℕ → ℕ → ℕ → Type 0
+BreaksOff old new out out_now report report_now = (Rose out out_now × WroteNoStream old new) ⊎ Rose report report_now
+
 -- status 0 of `normalise`, `restore` and `convert` has none
 abbrev pub IsLine : Form → Option (List ℕ) → Status → List ℕ → Type 0
 IsLine form told statuses.Done line = line ≡ []
@@ -182,7 +234,7 @@ IsLine form told statuses.ReadFault line = line ≡ read_fault_line
 IsLine form told statuses.WriteFault line = line ≡ write_fault_line
 IsLine form told statuses.Memory line = line ≡ memory_line
 
--- a command has put a line of its own, or a part of it: `verify` alone does
+-- a command may have put a line of its own, or a part of it: `verify` and `save` do
 abbrev pub HasOwnLine : Command → Status → Type 0
 HasOwnLine Normalise status = ⊥
 HasOwnLine Convert status = ⊥
@@ -190,8 +242,16 @@ HasOwnLine (Restore base) status = ⊥
 HasOwnLine Verify statuses.Done = ⊤
 HasOwnLine Verify statuses.WriteFault = ⊤
 HasOwnLine Verify status = ⊥
+HasOwnLine Save statuses.Done = ⊤
+HasOwnLine Save statuses.WriteFault = ⊤
+HasOwnLine Save status = ⊥
 
--- which line that is: that of some stream, whole with status 0, and a part of it with status 4
+-- all of the line was put, or a part of it
+abbrev pub PutsSome : List ℕ → Option (List ℕ) → Option (List ℕ) → Type 0
+PutsSome line old new = Appends old new line ⊎ AppendsPart old new line
+
+-- which line that is: that of some stream or some save, whole with status 0, and a part of it with status 4; of a save whose
+-- stream wasn't written, that a write failed
 abbrev pub PutsOwnLine : Command → Option (List ℕ) → Option (List ℕ) → Status → Type 0
 PutsOwnLine Normalise old new status = ⊤
 PutsOwnLine Convert old new status = ⊤
@@ -199,6 +259,9 @@ PutsOwnLine (Restore base) old new status = ⊤
 PutsOwnLine Verify old new statuses.Done = (s : Summary) × Appends old new (ok_line s)
 PutsOwnLine Verify old new statuses.WriteFault = (s : Summary) × AppendsPart old new (ok_line s)
 PutsOwnLine Verify old new status = ⊤
+PutsOwnLine Save old new statuses.Done = (s : SaveSummary) × Appends old new (saved_line s)
+PutsOwnLine Save old new statuses.WriteFault = ((s : SaveSummary) × AppendsPart old new (saved_line s)) ⊎ PutsSome write_fault_line old new
+PutsOwnLine Save old new status = ⊤
 
 -- the output isn't touched by this command, whatever its status
 abbrev pub LeavesOut : Command → Type 0
@@ -206,6 +269,7 @@ LeavesOut Normalise = ⊥
 LeavesOut Convert = ⊥
 LeavesOut (Restore base) = ⊥
 LeavesOut Verify = ⊤
+LeavesOut Save = ⊥
 
 -- ---- the same of an outcome, which has the refusal
 

@@ -1,5 +1,7 @@
 pub mod Outcomes
+pub mod LiveSaves
 pub mod Answers
+pub mod SaveSteps
 pub use Rattle.mig_report.specs.Words
 pub use Rattle.mig_report.specs.Report
 pub use Rattle.mig_report.specs.Outcome

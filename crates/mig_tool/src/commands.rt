@@ -4,7 +4,7 @@ ghost use Rattle.mig_bytes.specs.Bytes.{AppendsPart};
 ghost use Rattle.mig_bytes.specs.Faults.{Rose};
 ghost use Rattle.mig_pvtables.specs.Whole.{IsWhole};
 ghost use Rattle.mig_libxl.specs.Canon.{canon_any};
-ghost use Rattle.mig_tool.specs.Answers.{form_of, SaysOf, ComesOf, WriteRose, InputRises, OutputRises, IsLine, HasOwnLine, PutsOwnLine, LeavesOut, restored_text};
+ghost use Rattle.mig_tool.specs.Answers.{form_of, SaysOf, ComesOf, WriteRose, InputRises, OutputRises, IsLine, HasOwnLine, PutsOwnLine, LeavesOut, RefusesPause, BreaksOff, restored_text};
 ghost use Rattle.mig_report.specs.Outcome.{status_of};
 ghost use Rattle.mig_tool.specs.Outcomes.{outcome_of};
 ghost use Rattle.mig_report.specs.Report.{Reports};
@@ -13,7 +13,9 @@ ghost use Rattle.mig_report.specs.declared.command.Command.TheVariants as comman
 ghost use Rattle.mig_report.specs.declared.outcome.Outcome.TheVariants as outcomes;
 ghost use Rattle.mig_report.specs.declared.outcome.Refusal.TheVariants as refusals;
 ghost use Rattle.mig_report.specs.declared.status.Status.TheVariants as statuses;
+ghost use Rattle.mig_unended.specs.Unread.{WroteNoStream};
 
+use crate::save::save;
 use mig_bytes::{Sink, Source};
 use mig_guest::Guest;
 use mig_image::{HostAnswer, host_of, write_host};
@@ -162,14 +164,17 @@ pub(crate) fn carry_out<S: Source, K: Sink, R: Sink>(
     requires { (base : ℕ) → command ≡ commands.Restore base → IsBase base }
     ensures said { SaysOf command (S.left input.old) (S.left input.new) (record { out_old = K.written out.old; out_new = K.written out.new; report_old = R.written report.old; report_new = R.written report.new }) result }
     ensures known { result ≢ statuses.Usage }
-    ensures kept { result ≢ statuses.Done → result ≢ statuses.WriteFault → out.new ≡ out.old }
+    ensures kept { result ≢ statuses.Done → result ≢ statuses.WriteFault → (command ≡ commands.Save → result ≢ statuses.Refused) → out.new ≡ out.old }
+    ensures kept_refused { command ≡ commands.Save → result ≡ statuses.Refused → (out.new ≡ out.old) ⊎ RefusesPause (S.left input.old) (R.written report.old) (R.written report.new) (R.faults report.old) (R.faults report.new) }
+    ensures no_stream { command ≡ commands.Save → result ≡ statuses.Refused → WroteNoStream (K.written out.old) (K.written out.new) }
+    ensures breaks { command ≡ commands.Save → result ≡ statuses.WriteFault → BreaksOff (K.written out.old) (K.written out.new) (K.faults out.old) (K.faults out.new) (R.faults report.old) (R.faults report.new) }
     ensures untouched { LeavesOut command → out.new ≡ out.old }
     ensures read { InputRises result (S.faults input.old) (S.faults input.new) }
     ensures write { result ≡ statuses.WriteFault → WriteRose command (K.faults out.old) (K.faults out.new) (R.faults report.old) (R.faults report.new) }
     ensures line { (HasOwnLine command result → ⊥)
         → (line : List ℕ) × IsLine (form_of command) (S.left input.old) result line × Reports line (R.written report.old) (R.written report.new) (R.faults report.old) (R.faults report.new) }
     ensures own_line { PutsOwnLine command (R.written report.old) (R.written report.new) result }
-    ensures out_quiet { result ≡ statuses.Done → K.faults out.new ≡ K.faults out.old }
+    ensures out_quiet { (command ≡ commands.Save → ⊥) → result ≡ statuses.Done → K.faults out.new ≡ K.faults out.old }
     ensures report_quiet { result ≡ statuses.Done → R.faults report.new ≡ R.faults report.old }
     ensures out_later { K.faults out.old ≤ K.faults out.new }
     ensures report_later { R.faults report.old ≤ R.faults report.new }
@@ -188,5 +193,6 @@ pub(crate) fn carry_out<S: Source, K: Sink, R: Sink>(
             finish(report, outcome)
         }
         Command::Verify => verify(alloc, input, report),
+        Command::Save => save(alloc, input, out, report),
     }
 }

@@ -1,10 +1,15 @@
 ghost use Rattle.std.specs.Prelude.{◌≡◌, ◌≢◌, ◌≤◌, ◌<◌, ◌⊎◌, ℕ, List, Option, Some};
 ghost use Rattle.mig_bytes.specs.Faults.{Rose};
 ghost use Rattle.mig_guest.specs.Guests.{GuestOf};
-ghost use Rattle.mig_tool.specs.Answers.{form_of, AcceptedIn, RefusedIn, Written, SaysOf, WriteRose, InputRises, IsLine, HasOwnLine, PutsOwnLine, LeavesOut};
+ghost use Rattle.mig_guest.specs.Hosts.{HostOf};
+ghost use Rattle.mig_script.specs.ScriptLines.{LineOf};
+ghost use Rattle.mig_unended.specs.Unread.{WroteNoStream};
+ghost use Rattle.mig_tool.specs.Answers.{form_of, AcceptedIn, RefusedIn, IsOfInput, Written, SaysOf, IsSavedOrPaused, WriteRose, InputRises, IsLine, HasOwnLine, PutsOwnLine, RefusesPause, BreaksOff, LeavesOut};
+ghost use Rattle.mig_tool.specs.LiveSaves.{HasHostAndScript};
 ghost use Rattle.mig_report.specs.Report.{Reports, usage_line};
 ghost use Rattle.mig_report.specs.Words.{texts_of, Names};
 ghost use Rattle.mig_report.specs.declared.command.Command.{Command};
+ghost use Rattle.mig_report.specs.declared.command.Command.TheVariants as commands;
 ghost use Rattle.mig_report.specs.declared.outcome.Refusal.{Refusal};
 ghost use Rattle.mig_report.specs.declared.status.Status.TheVariants as statuses;
 
@@ -17,7 +22,8 @@ use std::alloc::Global;
 ///
 /// `normalise` takes a stream and writes it in its canonical form. `convert` takes a legacy stream and writes the canonical
 /// stream of its guest. `restore` takes a stream and writes the image of its
-/// guest, with machine frames counted up from the base. `verify` takes a stream and says on `report` what it is. Each
+/// guest, with machine frames counted up from the base. `verify` takes a stream and says on `report` what it is. `save` takes
+/// the image of a host and a script, writes the host as a stream while the script runs, and says on `report` how. Each
 /// status says what it says however the input is cut, and whatever failed before; want of memory may come at any time.
 pub fn run<S: Source, K: Sink, R: Sink>(
     alloc: Global,
@@ -31,35 +37,52 @@ pub fn run<S: Source, K: Sink, R: Sink>(
     ensures known { (command : Command) → Names (texts_of words.now) command → result ≢ statuses.Usage }
     ensures unread { result ≡ statuses.Usage → input.new ≡ input.old }
 
-    // `convert` reads legacy streams, and all others streams. Status 0: an accepted front was taken, and the text of its
-    // guest was written, or its line reported. Status 1: the input was taken up to the end of the refused part. Status
-    // 4: as 0, but a part of the text or line was written.
+    // `convert` reads legacy streams, `save` an image and a script, and all others streams. Status 0: an accepted front was
+    // taken, and the text of its guest was written, or its line reported; or an image and a script were taken, what was
+    // written is accepted with the guest that the host is seen as at the pause, and its line was reported. Status 1: the
+    // input was taken up to the end of the refused part. Status 4: as 0, but a part of the text or line was written; of
+    // `save`, a part of the line, or what is no stream.
     ensures done { (command : Command) → Names (texts_of words.now) command
         → SaysOf command (S.left input.old) (S.left input.new) (record { out_old = K.written out.old; out_new = K.written out.new; report_old = R.written report.old; report_new = R.written report.new }) result }
 
-    // An accepted stream is done and a refused one refused, but for memory, where nothing failed.
+    // An accepted stream is done and what is refused by itself is refused, but for memory, where nothing failed. An image
+    // and a script are saved, or refused at the pause.
     ensures accepted { (command : Command) (bytes : List ℕ) (guest : GuestOf) (rest : List ℕ) → Names (texts_of words.now) command → S.left input.old ≡ Some bytes → AcceptedIn (form_of command) bytes guest rest
         → (Rose (S.faults input.old) (S.faults input.new) → ⊥) → (WriteRose command (K.faults out.old) (K.faults out.new) (R.faults report.old) (R.faults report.new) → ⊥)
         → (result ≡ statuses.Done) ⊎ (result ≡ statuses.Memory) }
-    ensures refused { (command : Command) (bytes : List ℕ) (refusal : Refusal) (rest : List ℕ) → Names (texts_of words.now) command → S.left input.old ≡ Some bytes → RefusedIn (form_of command) bytes refusal rest
+    ensures refused { (command : Command) (bytes : List ℕ) (refusal : Refusal) (rest : List ℕ) → Names (texts_of words.now) command → S.left input.old ≡ Some bytes → RefusedIn (form_of command) bytes refusal rest → IsOfInput refusal
         → (Rose (S.faults input.old) (S.faults input.new) → ⊥) → (result ≡ statuses.Refused) ⊎ (result ≡ statuses.Memory) }
 
-    // `out` is touched for an accepted stream alone, and never by `verify`. A fault is answered only where a count rose,
-    // and that of the input rises with no other status. With status 0 no count rose.
-    ensures kept { result ≢ statuses.Done → result ≢ statuses.WriteFault → out.new ≡ out.old }
+    ensures saved { (bytes : List ℕ) (host : HostOf) (lines : List LineOf) → Names (texts_of words.now) commands.Save → S.left input.old ≡ Some bytes → HasHostAndScript bytes host lines
+        → (Rose (S.faults input.old) (S.faults input.new) → ⊥) → (WriteRose commands.Save (K.faults out.old) (K.faults out.new) (R.faults report.old) (R.faults report.new) → ⊥) → IsSavedOrPaused bytes result }
+
+    // `out` is touched for an accepted stream alone, or by `save` once its input was read, and never by `verify`: where `save`
+    // is refused, `out` is as it was, or the pause is refused.
+    ensures kept { result ≢ statuses.Done → result ≢ statuses.WriteFault → (Names (texts_of words.now) commands.Save → result ≢ statuses.Refused) → out.new ≡ out.old }
+    ensures kept_refused { Names (texts_of words.now) commands.Save → result ≡ statuses.Refused
+        → (out.new ≡ out.old) ⊎ RefusesPause (S.left input.old) (R.written report.old) (R.written report.new) (R.faults report.old) (R.faults report.new) }
     ensures untouched { (command : Command) → Names (texts_of words.now) command → LeavesOut command → out.new ≡ out.old }
+
+    // Where `save` is refused, no front of what was written is an accepted stream. Nor is one where a write of `out` failed;
+    // else, with status 4, one of the report failed.
+    ensures no_stream { Names (texts_of words.now) commands.Save → result ≡ statuses.Refused → WroteNoStream (K.written out.old) (K.written out.new) }
+    ensures breaks { Names (texts_of words.now) commands.Save → result ≡ statuses.WriteFault
+        → BreaksOff (K.written out.old) (K.written out.new) (K.faults out.old) (K.faults out.new) (R.faults report.old) (R.faults report.new) }
+
+    // A fault is answered only where a count rose, and that of the input rises with no other status. With status 0 no count
+    // rose.
     ensures read { InputRises result (S.faults input.old) (S.faults input.new) }
     ensures write { (command : Command) → Names (texts_of words.now) command → result ≡ statuses.WriteFault
         → WriteRose command (K.faults out.old) (K.faults out.new) (R.faults report.old) (R.faults report.new) }
 
     // The report got the line of the status, or a part of it where its count rose; that changes no status but that of
-    // `verify` at its own line, which is whole with status 0, and a part with status 4.
+    // `verify` and `save` at their own line, which is whole with status 0, and a part with status 4.
     ensures line { (command : Command) → Names (texts_of words.now) command → (HasOwnLine command result → ⊥)
         → (line : List ℕ) × IsLine (form_of command) (S.left input.old) result line × Reports line (R.written report.old) (R.written report.new) (R.faults report.old) (R.faults report.new) }
     ensures usage_line { result ≡ statuses.Usage → Reports usage_line (R.written report.old) (R.written report.new) (R.faults report.old) (R.faults report.new) }
     ensures own_line { (command : Command) → Names (texts_of words.now) command → PutsOwnLine command (R.written report.old) (R.written report.new) result }
 
-    ensures out_quiet { result ≡ statuses.Done → K.faults out.new ≡ K.faults out.old }
+    ensures out_quiet { (Names (texts_of words.now) commands.Save → ⊥) → result ≡ statuses.Done → K.faults out.new ≡ K.faults out.old }
     ensures report_quiet { result ≡ statuses.Done → R.faults report.new ≡ R.faults report.old }
     ensures out_later { K.faults out.old ≤ K.faults out.new }
     ensures report_later { R.faults report.old ≤ R.faults report.new }

@@ -1,7 +1,8 @@
-use Rattle.mig_tool.proofs.Common.{subst, sym, Written, SaysOf, WriteRose, PutsOwnLine, LeavesOut, AcceptedIn, RefusedIn, form_of, Command}
+use Rattle.mig_tool.proofs.Common.{subst, sym, Written, SaysOf, WriteRose, PutsOwnLine, LeavesOut, AcceptedIn, RefusedIn, form_of, Command, Save, Names}
 use Rattle.mig_tool.specs.Answers.{HasOwnLine, IsLine}
+use Rattle.mig_report.specs.Words.{texts_of}
 use Rattle.mig_report.proofs.Naming.{same_command}
-use Rattle.mig_tool.proofs.Reporting.{accepted_done, refused_refused, input_rose}
+use Rattle.mig_tool.proofs.Reporting.{accepted_done, refused_refused, saved_done, input_rose}
 use Rattle.mig_tool.proofs.run.run.Goals as goal
 
 pub returns-in-Some-clause-done : goal.returns-in-Some-clause-done
@@ -33,11 +34,33 @@ returns-in-Some-clause-accepted g c = λ command bytes guest rest is told accept
     (λ e. reads (input_rose _ _ _ c.carry_out.ensures.read e)) (λ e. writes (subst (λ (d : Command). WriteRose d (g.K.Sink.faults c.args.out.now) (g.K.Sink.faults c.carry_out.new.out) (g.R.Sink.faults c.args.report.now) (g.R.Sink.faults c.carry_out.new.report)) same (c.carry_out.ensures.write e)))
 
 pub returns-in-Some-clause-refused : goal.returns-in-Some-clause-refused
-returns-in-Some-clause-refused g c = λ command bytes refusal rest is told refused reads.
+returns-in-Some-clause-refused g c = λ command bytes refusal rest is told refused it reads.
     let w : Written = record { out_old = g.K.Sink.written c.args.out.now; out_new = g.K.Sink.written c.carry_out.new.out; report_old = g.R.Sink.written c.args.report.now; report_new = g.R.Sink.written c.carry_out.new.report } in
     let same = same_command _ c.in-Some.command command c.in-Some.ensures.some is in
-    refused_refused c.in-Some.command (g.S.Source.left c.args.input.now) (g.S.Source.left c.carry_out.new.input) w c.carry_out.result bytes refusal rest c.carry_out.ensures.said told (subst (λ (d : Command). RefusedIn (form_of d) bytes refusal rest) (sym same) refused)
+    refused_refused c.in-Some.command (g.S.Source.left c.args.input.now) (g.S.Source.left c.carry_out.new.input) w c.carry_out.result bytes refusal rest c.carry_out.ensures.said told (subst (λ (d : Command). RefusedIn (form_of d) bytes refusal rest) (sym same) refused) it
     (λ e. reads (input_rose _ _ _ c.carry_out.ensures.read e))
+
+pub returns-in-Some-clause-saved : goal.returns-in-Some-clause-saved
+returns-in-Some-clause-saved g c = λ bytes host lines is told read reads writes.
+    let w : Written = record { out_old = g.K.Sink.written c.args.out.now; out_new = g.K.Sink.written c.carry_out.new.out; report_old = g.R.Sink.written c.args.report.now; report_new = g.R.Sink.written c.carry_out.new.report } in
+    let same = same_command _ c.in-Some.command Save c.in-Some.ensures.some is in
+    saved_done (g.S.Source.left c.args.input.now) (g.S.Source.left c.carry_out.new.input) w c.carry_out.result bytes host lines (subst (λ (d : Command). SaysOf d (g.S.Source.left c.args.input.now) (g.S.Source.left c.carry_out.new.input) w c.carry_out.result) same c.carry_out.ensures.said) told read
+    (λ e. reads (input_rose _ _ _ c.carry_out.ensures.read e)) (λ e. writes (subst (λ (d : Command). WriteRose d (g.K.Sink.faults c.args.out.now) (g.K.Sink.faults c.carry_out.new.out) (g.R.Sink.faults c.args.report.now) (g.R.Sink.faults c.carry_out.new.report)) same (c.carry_out.ensures.write e)))
+
+pub returns-in-Some-clause-kept : goal.returns-in-Some-clause-kept
+returns-in-Some-clause-kept g c = λ undone unfailed other. c.carry_out.ensures.kept undone unfailed (λ is. other (subst (λ (d : Command). Names (texts_of c.args.words.now) d) is c.in-Some.ensures.some))
+
+pub returns-in-Some-clause-kept_refused : goal.returns-in-Some-clause-kept_refused
+returns-in-Some-clause-kept_refused g c = λ is. c.carry_out.ensures.kept_refused (same_command _ c.in-Some.command Save c.in-Some.ensures.some is)
+
+pub returns-in-Some-clause-no_stream : goal.returns-in-Some-clause-no_stream
+returns-in-Some-clause-no_stream g c = λ is. c.carry_out.ensures.no_stream (same_command _ c.in-Some.command Save c.in-Some.ensures.some is)
+
+pub returns-in-Some-clause-breaks : goal.returns-in-Some-clause-breaks
+returns-in-Some-clause-breaks g c = λ is. c.carry_out.ensures.breaks (same_command _ c.in-Some.command Save c.in-Some.ensures.some is)
+
+pub returns-in-Some-clause-out_quiet : goal.returns-in-Some-clause-out_quiet
+returns-in-Some-clause-out_quiet g c = λ other. c.carry_out.ensures.out_quiet (λ is. other (subst (λ (d : Command). Names (texts_of c.args.words.now) d) is c.in-Some.ensures.some))
 
 pub returns-in-None-clause-done : goal.returns-in-None-clause-done
 returns-in-None-clause-done g c = λ command is. absurd (c.in-None.ensures.none command is)
@@ -50,3 +73,6 @@ returns-in-None-clause-own_line g c = λ command is. absurd (c.in-None.ensures.n
 
 pub returns-in-None-clause-line : goal.returns-in-None-clause-line
 returns-in-None-clause-line g c = λ command is none. absurd (c.in-None.ensures.none command is)
+
+pub returns-in-None-clause-saved : goal.returns-in-None-clause-saved
+returns-in-None-clause-saved g c = λ bytes host lines is told read reads writes. absurd (c.in-None.ensures.none Save is)

@@ -1,0 +1,112 @@
+-- A host that is saved live: what it is read from, when it isn't saved, and what is written of it.
+use Rattle.std.specs.Prelude.{◌≡◌, ◌⊎◌, ◌<◌, ◌≤◌, ◌+◌, ℕ, true, List, [], ◌∷◌, ◌++◌, length, map, drop, Option, Some, None}
+use Rattle.std.specs.List.{AllByRecursion, range_with_len}
+use Rattle.std.specs.FinMap as maps
+use Rattle.std.specs.Io.KnownBytes.{Appends}
+use Rattle.mig_bytes.specs.Judged.Judged.{Passes}
+use Rattle.mig_headers.specs.declared.kind.Kind.TheVariants.{Pv, Hvm}
+use Rattle.mig_headers.specs.declared.unsound.Unsound.{Unsound}
+use Rattle.mig_guest.specs.declared.part_key.PartKey.{PartKey}
+use Rattle.mig_guest.specs.Formed.{HasNoEmulators, is_emulator_code}
+use Rattle.mig_guest.specs.Hosts.{HostOf}
+use Rattle.mig_guest.specs.Parts.{PartMap}
+use Rattle.mig_canon.specs.Canon.{Record, headers, text_of}
+use Rattle.mig_pagesink.specs.Told.{FrameTold, telling_record, all_told}
+use Rattle.mig_hosted.specs.Sound.{unsoundness}
+use Rattle.mig_hosted.specs.View.{view}
+use Rattle.mig_image.specs.ImageParts.{host_at}
+use Rattle.mig_libxl.specs.Spelled.{AcceptedStream}
+use Rattle.mig_rounds.specs.Entries.{pfns_sent}
+use Rattle.mig_dirtysave.specs.SaveAnswers.{IsOtherRecord}
+use Rattle.mig_script.specs.ScriptLines.{LineOf}
+use Rattle.mig_script.specs.Scripts.{IsScript, IsBadLine, most_script_bytes}
+use Rattle.mig_lines.specs.Groups.{ran}
+use Rattle.mig_lines.specs.HostLines.{after}
+use Rattle.mig_report.specs.declared.outcome.SaveSummary.{SaveSummary}
+
+-- ---- what is read
+
+-- what can be saved so far: a host of an HVM guest, without parts of emulators
+pub record CanBeSaved (host : HostOf) : Type 0 where
+  pub hvm : host.kind ≡ Hvm
+  pub plain : HasNoEmulators host.parts
+
+-- a part of an emulator is there
+pub record HasEmulators (parts : PartMap) : Type 0 where
+  pub key : PartKey
+  pub bytes : List ℕ
+  pub there : maps.get parts key ≡ Some bytes
+  pub is : is_emulator_code key.code ≡ true
+
+-- why a host can't be saved yet: 1, it is of a PV guest; 2, a part of an emulator is there
+abbrev pub IsNotBuilt : ℕ → HostOf → Type 0
+IsNotBuilt what host = ((what ≡ 1) × (host.kind ≡ Pv)) ⊎ ((what ≡ 2) × (host.kind ≡ Hvm) × HasEmulators host.parts)
+
+-- the input begins with the image of a host that can be saved, and this text is what follows
+pub record HasHostAndText (input : List ℕ) (host : HostOf) (text : List ℕ) : Type 0 where
+  pub image : host_at input ≡ Passes host text
+  pub can : CanBeSaved host
+
+-- and what follows is a script of these lines, which isn't too long
+pub record HasHostAndScript (input : List ℕ) (host : HostOf) (lines : List LineOf) : Type 0 where
+  pub text : List ℕ
+  pub is : HasHostAndText input host text
+  pub few : length text ≤ most_script_bytes
+  pub script : IsScript text lines
+
+-- the host at the pause, where so many calls let its guest run: the lines before the dot of this number ran, counting from 1
+abbrev pub paused_host : HostOf → List LineOf → ℕ → HostOf
+paused_host host lines calls = after host (ran lines calls)
+
+-- ---- when a host isn't saved
+
+-- what follows the image has this first bad line
+pub record HasBadLine (input : List ℕ) (line : ℕ) : Type 0 where
+  pub host : HostOf
+  pub text : List ℕ
+  pub is : HasHostAndText input host text
+  pub few : length text ≤ most_script_bytes
+  pub bad : IsBadLine text line
+
+-- what follows the image is too long for a script; of it, this is left
+pub record HasLongScript (input rest : List ℕ) : Type 0 where
+  pub host : HostOf
+  pub text : List ℕ
+  pub is : HasHostAndText input host text
+  pub many : most_script_bytes < length text
+  pub left : rest ≡ drop (most_script_bytes + 1) text
+
+-- the host at the pause can't be seen as a guest: this is the first thing in the way
+pub record HasUnsoundPause (input : List ℕ) (unsound : Unsound) : Type 0 where
+  pub host : HostOf
+  pub lines : List LineOf
+  pub is : HasHostAndScript input host lines
+  pub calls : ℕ
+  pub first : unsoundness (paused_host host lines calls) ≡ Some unsound
+
+-- ---- what is written
+
+-- an image of an HVM guest, whose PAGE_DATA records have entries of these frame numbers, in this order
+pub record TellsPfns (text pfns : List ℕ) : Type 0 where
+  pub before : List Record
+  pub batches : List (List FrameTold)
+  pub behind : List Record
+  pub is : text ≡ headers Hvm ++ text_of (before ++ (map telling_record batches ++ (behind ++ (0, []) ∷ [])))
+  pub others : AllByRecursion IsOtherRecord (before ++ behind)
+  pub order : pfns_sent (all_told batches) ≡ pfns
+
+-- What was written of a host while a script of these lines ran: a stream that is accepted, whatever follows it, with exactly
+-- the guest that the host is seen as at the pause. Its entries name every frame number below the width first. There were one
+-- to five rounds before the pause.
+pub record WroteLive (host : HostOf) (lines : List LineOf) (old new : Option (List ℕ)) (summary : SaveSummary) : Type 0 where
+  pub calls : ℕ
+  pub sound : unsoundness (paused_host host lines calls) ≡ None
+  pub text : List ℕ
+  pub wrote : Appends old new text
+  pub means : (rest : List ℕ) → AcceptedStream (text ++ rest) (view (paused_host host lines calls)) rest
+  pub pfns : List ℕ
+  pub entries : TellsPfns text pfns
+  pub others : List ℕ
+  pub first : pfns ≡ range_with_len 0 host.width ++ others
+  pub counted : summary.entries ≡ length pfns
+  pub rounds : (1 ≤ summary.rounds) × (summary.rounds ≤ 5)

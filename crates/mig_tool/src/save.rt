@@ -1,0 +1,218 @@
+ghost use Rattle.std.specs.Prelude.{◌≡◌, ◌≢◌, ◌≤◌, ◌⊎◌, ℕ, List, IfOk, IfErr, OnErr, IsErrOf, IfNone, IfSome, true, false};
+ghost use Rattle.std.specs.Io.KnownBytes.{Appends};
+ghost use Rattle.mig_bytes.specs.Bytes.{AppendsPart};
+ghost use Rattle.mig_bytes.specs.Faults.{Rose, RisesOnReadFault};
+ghost use Rattle.mig_headers.specs.declared.unsound.Unsound.{Unsound};
+ghost use Rattle.mig_guest.specs.Formed.{HasNoEmulators};
+ghost use Rattle.mig_dirtysave.specs.declared.answer.SaveAnswer.TheVariants as answers;
+ghost use Rattle.mig_report.specs.Report.{Reports, saved_line};
+ghost use Rattle.mig_report.specs.declared.command.Command.TheVariants as commands;
+ghost use Rattle.mig_report.specs.declared.outcome.Outcome.TheVariants as outcomes;
+ghost use Rattle.mig_report.specs.declared.outcome.Refusal.TheVariants as refusals;
+ghost use Rattle.mig_report.specs.declared.status.Status.TheVariants as statuses;
+ghost use Rattle.mig_unended.specs.Unread.{WroteNoStream};
+ghost use Rattle.mig_tool.specs.Answers.{form_of, SaysOf, InputRises, IsLine, HasOwnLine, PutsOwnLine, RefusesPause, BreaksOff};
+ghost use Rattle.mig_tool.specs.LiveSaves.{CanBeSaved, HasEmulators, WroteLive};
+ghost use Rattle.mig_tool.specs.SaveSteps.{IsNotBuiltAs, ReadsHostToSave, ReadsHostAndScript, stop_of_image, stop_of_script, outcome_of_stop, ComesToNone};
+
+use mig_bytes::{Sink, Source, Stop};
+use mig_dirtysave::{SaveAnswer, Saver};
+use mig_headers::Kind;
+use mig_image::{Host, ImageAnswer, read_host};
+use mig_machine::ScriptMachine;
+use mig_machine_api::rounds_laws;
+use mig_report::{Outcome, Refusal, SaveSummary, Status, finish, put_saved};
+use mig_script::{Script, ScriptAnswer};
+use std::alloc::Global;
+
+/// A host, and the script that is to run on it while it is saved.
+#[derive(Drop)]
+struct HostAndScript {
+    host: Host,
+    script: Script,
+}
+
+/// The numbers of the parts of emulators.
+const EMULATOR_PAIRS: u32 = 258;
+
+const EMULATOR_CONTEXT: u32 = 259;
+
+/// Why the image of a host isn't read.
+fn image_stop(answer: ImageAnswer) -> Stop<Refusal>
+    ensures { result ≡ stop_of_image answer }
+{
+    match answer {
+        ImageAnswer::Refused(place, cause) => Stop::Refused(Refusal::Image(place, cause)),
+        ImageAnswer::ReadFault => Stop::ReadFault,
+        ImageAnswer::Memory => Stop::Memory,
+    }
+}
+
+/// Why a script isn't read.
+fn script_stop(answer: ScriptAnswer) -> Stop<Refusal>
+    ensures { result ≡ stop_of_script answer }
+{
+    match answer {
+        ScriptAnswer::BadLine(line) => Stop::Refused(Refusal::BadLine(line)),
+        ScriptAnswer::TooLong => Stop::Refused(Refusal::TooLong),
+        ScriptAnswer::ReadFault => Stop::ReadFault,
+        ScriptAnswer::Memory => Stop::Memory,
+    }
+}
+
+/// Whether the host has a part of an emulator.
+fn has_emulators(host: &Host) -> bool
+    ensures some { result ≡ true → HasEmulators host.now.host.parts }
+    ensures none { result ≡ false → HasNoEmulators host.now.host.parts }
+{
+    let mut after = None;
+    while let Some(key) = host.next_part(after) {
+        if key.code == EMULATOR_PAIRS || key.code == EMULATOR_CONTEXT {
+            return true;
+        }
+        after = Some(key);
+    }
+    false
+}
+
+/// Why the host can't be saved yet.
+fn not_built(host: &Host) -> Option<Refusal>
+    ensures some { IfSome result (IsNotBuiltAs host.now.host) }
+    ensures none { IfNone result (CanBeSaved host.now.host) }
+{
+    match host.kind() {
+        Kind::Pv => Some(Refusal::NotBuilt(1)),
+        Kind::Hvm if has_emulators(host) => Some(Refusal::NotBuilt(2)),
+        Kind::Hvm => None,
+    }
+}
+
+/// Reads the image of a host that can be saved, and leaves unread what follows it.
+fn host_to_save<S: Source>(alloc: Global, input: &mut S) -> Result<Host, Stop<Refusal>>
+    ensures can { IfOk result (λ host. CanBeSaved host.host) }
+    ensures read { ReadsHostToSave (S.left input.old) (S.left input.new) result }
+    ensures faults { RisesOnReadFault (S.faults input.old) (S.faults input.new) result }
+{
+    let host = match read_host(alloc, input) {
+        Ok(host) => host,
+        Err(answer) => return Err(image_stop(answer)),
+    };
+    match not_built(&host) {
+        Some(refusal) => Err(Stop::Refused(refusal)),
+        None => Ok(host),
+    }
+}
+
+/// Reads the image of a host that can be saved, and a script to the end of the input.
+fn host_and_script<S: Source>(alloc: Global, input: &mut S) -> Result<HostAndScript, Stop<Refusal>>
+    ensures can { IfOk result (λ read. CanBeSaved read.host.host) }
+    ensures read { ReadsHostAndScript (S.left input.old) (S.left input.new) result }
+    ensures faults { RisesOnReadFault (S.faults input.old) (S.faults input.new) result }
+{
+    let host = host_to_save(alloc, input)?;
+    match Script::read(alloc, input) {
+        Ok(script) => Ok(HostAndScript { host, script }),
+        Err(answer) => Err(script_stop(answer)),
+    }
+}
+
+/// The outcome where no host and script were read.
+fn stopped(stop: Stop<Refusal>) -> Outcome
+    ensures { result ≡ outcome_of_stop stop }
+{
+    match stop {
+        Stop::Refused(refusal) => Outcome::Refused(refusal),
+        Stop::ReadFault => Outcome::ReadFault,
+        Stop::Memory => Outcome::Memory,
+    }
+}
+
+/// The outcome of a machine that never fails, where it came to no stream.
+fn unsaved(answer: SaveAnswer) -> Outcome
+    requires { answer ≡ answers.MachineFault → ⊥ }
+    ensures unsound { (unsound : Unsound) → answer ≡ answers.Unsound unsound → result ≡ outcomes.Refused (refusals.Pause unsound) }
+    ensures write { answer ≡ answers.WriteFault → result ≡ outcomes.WriteFault }
+{
+    match answer {
+        SaveAnswer::Unsound(unsound) => Outcome::Refused(Refusal::Pause(unsound)),
+        SaveAnswer::WriteFault => Outcome::WriteFault,
+        SaveAnswer::MachineFault => unreachable!(),
+    }
+}
+
+/// Saves a host live, while its script runs.
+fn save_live<K: Sink>(
+    alloc: Global,
+    read: HostAndScript,
+    out: &mut K,
+) -> Result<SaveSummary, Outcome>
+    requires { CanBeSaved read.host.host }
+    ensures wrote { IfOk result (WroteLive read.host.host (read.script) (K.written out.old) (K.written out.new)) }
+    ensures none { IfErr result (ComesToNone read.host.host (read.script)) }
+    ensures no_stream { OnErr result (WroteNoStream (K.written out.old) (K.written out.new)) }
+    ensures kept { IsErrOf result outcomes.Memory → out.new ≡ out.old }
+    ensures write { IsErrOf result outcomes.WriteFault → Rose (K.faults out.old) (K.faults out.new) }
+    ensures later { K.faults out.old ≤ K.faults out.new }
+{
+    let Ok(mut machine) = ScriptMachine::new(alloc, read.host, read.script) else {
+        return Err(Outcome::Memory);
+    };
+    let Ok(saver) = Saver::prepare(alloc, &machine) else {
+        return Err(Outcome::Memory);
+    };
+    // A law: one to five rounds, of which the first reads each frame number below the width.
+    rounds_laws();
+    match saver.run(&mut machine, out) {
+        Ok(report) => Ok(SaveSummary {
+            rounds: u64::from(report.rounds),
+            entries: report.entries,
+        }),
+        Err(answer) => Err(unsaved(answer)),
+    }
+}
+
+/// Puts the line of a host that was saved.
+fn told<R: Sink>(report: &mut R, summary: SaveSummary) -> Status
+    ensures done { result ≡ statuses.Done → Appends (R.written report.old) (R.written report.new) (saved_line summary) }
+    ensures part { result ≡ statuses.WriteFault → AppendsPart (R.written report.old) (R.written report.new) (saved_line summary) }
+    ensures answers { (result ≡ statuses.Done) ⊎ (result ≡ statuses.WriteFault) }
+    ensures quiet { result ≡ statuses.Done → R.faults report.new ≡ R.faults report.old }
+    ensures rose { result ≡ statuses.WriteFault → Rose (R.faults report.old) (R.faults report.new) }
+    ensures later { R.faults report.old ≤ R.faults report.new }
+{
+    match put_saved(report, summary) {
+        Ok(()) => Status::Done,
+        Err(_) => Status::WriteFault,
+    }
+}
+
+/// Reads the image of a host and a script, and saves the host live, while the script runs.
+pub(crate) fn save<S: Source, K: Sink, R: Sink>(
+    alloc: Global,
+    input: &mut S,
+    out: &mut K,
+    report: &mut R,
+) -> Status
+    ensures said { SaysOf commands.Save (S.left input.old) (S.left input.new) (record { out_old = K.written out.old; out_new = K.written out.new; report_old = R.written report.old; report_new = R.written report.new }) result }
+    ensures known { result ≢ statuses.Usage }
+    ensures kept { result ≢ statuses.Done → result ≢ statuses.WriteFault → result ≢ statuses.Refused → out.new ≡ out.old }
+    ensures kept_refused { result ≡ statuses.Refused → (out.new ≡ out.old) ⊎ RefusesPause (S.left input.old) (R.written report.old) (R.written report.new) (R.faults report.old) (R.faults report.new) }
+    ensures no_stream { result ≡ statuses.Refused → WroteNoStream (K.written out.old) (K.written out.new) }
+    ensures breaks { result ≡ statuses.WriteFault → BreaksOff (K.written out.old) (K.written out.new) (K.faults out.old) (K.faults out.new) (R.faults report.old) (R.faults report.new) }
+    ensures read { InputRises result (S.faults input.old) (S.faults input.new) }
+    ensures line { (HasOwnLine commands.Save result → ⊥)
+        → (line : List ℕ) × IsLine (form_of commands.Save) (S.left input.old) result line × Reports line (R.written report.old) (R.written report.new) (R.faults report.old) (R.faults report.new) }
+    ensures own_line { PutsOwnLine commands.Save (R.written report.old) (R.written report.new) result }
+    ensures quiet { result ≡ statuses.Done → R.faults report.new ≡ R.faults report.old }
+    ensures out_later { K.faults out.old ≤ K.faults out.new }
+    ensures report_later { R.faults report.old ≤ R.faults report.new }
+{
+    let read = match host_and_script(alloc, input) {
+        Ok(read) => read,
+        Err(stop) => return finish(report, stopped(stop)),
+    };
+    match save_live(alloc, read, out) {
+        Ok(summary) => told(report, summary),
+        Err(outcome) => finish(report, outcome),
+    }
+}
