@@ -14,8 +14,6 @@ use Rattle.mig_libxl.specs.Spelled.{AcceptedStream}
 use Rattle.mig_machine_api.specs.Rounds.{all_read}
 use Rattle.mig_rounds.specs.Live.{StaysSame}
 use Rattle.mig_script.specs.ScriptLines.{LineOf}
-use Rattle.mig_lines.specs.Groups.{ran}
-use Rattle.mig_lines.specs.HostLines.{after}
 use Rattle.mig_machine.specs.MachineSeen.{MachineSeen, calls_of, history_of, machine_state, IsLaterMachine}
 use Rattle.mig_machine.proofs.MachinesRun.{from_first}
 use Rattle.mig_dirtysave.specs.SaveAnswers.{IfUnsound, SaveWritten}

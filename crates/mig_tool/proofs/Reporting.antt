@@ -1,9 +1,9 @@
 -- What the program answers, and what the line on the report comes to.
-use Rattle.mig_tool.proofs.Common.{◌⊎◌, ◌≡◌, ℕ, ◌++◌, List, [], length, arith, Option, Some, None, Result, Ok, Err, refl, sym, ap, subst, ◌∙◌, GuestOf, AcceptedStream, AcceptedIn, RefusedIn, Form, ImageAndScript, Legacy, Modern, form_of, Refusal, Kind, Hvm, Pv, IsCarried, IsFew, IsBase, restored_text, Written, Done, DonePart, Comes, ComesOf, Says, SaysOf, InputRises, IsLine, summary_of, Command, Convert, Normalise, Restore, Save, Verify, mean_kind, status_of, line_of, outcome_of}
+use Rattle.mig_tool.proofs.Common.{◌⊎◌, ◌≡◌, ℕ, ◌++◌, List, length, arith, Option, Some, None, Result, Ok, Err, refl, sym, ap, subst, ◌∙◌, GuestOf, AcceptedStream, AcceptedIn, RefusedIn, Form, ImageAndScript, Legacy, Modern, form_of, Refusal, Kind, Hvm, Pv, IsCarried, IsFew, IsBase, restored_text, Written, Done, DonePart, Comes, ComesOf, Says, SaysOf, InputRises, IsLine, summary_of, Command, Convert, Normalise, Restore, Save, Verify, mean_kind, status_of, line_of, outcome_of}
 use mathlib.Core.Logic.{inl, inr}
 use Rattle.std.specs.Io.KnownBytes.{Appends}
 use Rattle.mig_bytes.specs.Bytes.{Puts}
-use Rattle.mig_bytes.specs.Faults.{Rose, HasCause}
+use Rattle.mig_bytes.specs.Faults.{Rose}
 use Rattle.mig_bytes.specs.declared.failure.WriteFailed.{WriteFailed}
 use Rattle.mig_libxl.specs.Canon.{canon_any}
 use Rattle.mig_libxl.specs.Stream.{StreamOf, IsStreamReading, ReadsStream, stream_at}

@@ -1,12 +1,11 @@
 -- An input that is a host and a script isn't refused.
-use Rattle.mig_tool.proofs.Common.{◌≡◌, ◌⊎◌, ℕ, List, length, sym, ap, subst, ◌∙◌, arith, Refusal, RefusedIn, Hvm, Pv}
+use Rattle.mig_tool.proofs.Common.{◌≡◌, ℕ, List, length, sym, ap, subst, ◌∙◌, arith, Refusal, RefusedIn, Hvm, Pv}
 use Rattle.mig_report.specs.declared.outcome.Refusal.TheVariants as refusals
 use mathlib.Core.Logic.{inl, inr}
 use Rattle.mig_bytes.specs.Judged.{Judged}
 use Rattle.mig_bytes.specs.Judged.Judged.{Passes, Faulty}
 use Rattle.mig_headers.specs.declared.image_fault.ImageCause.{ImageCause}
 use Rattle.mig_headers.specs.declared.image_fault.ImagePlace.{ImagePlace}
-use Rattle.mig_headers.specs.declared.kind.Kind.{Kind}
 use Rattle.mig_headers.specs.declared.unsound.Unsound.{Unsound}
 use Rattle.mig_guest.specs.Hosts.{HostOf}
 use Rattle.mig_image.specs.ImageParts.{host_at}
@@ -15,7 +14,7 @@ use Rattle.mig_script.specs.Scripts.{IsBadLine}
 use Rattle.mig_script.proofs.OneScript.{never_both}
 use Rattle.mig_tool.specs.Answers.{IsOfInput}
 use Rattle.mig_tool.specs.Answers.Form.{ImageAndScript}
-use Rattle.mig_tool.specs.LiveSaves.{CanBeSaved, IsNotBuilt, HasHostAndText, HasHostAndScript, HasUnsoundPause}
+use Rattle.mig_tool.specs.LiveSaves.{CanBeSaved, IsNotBuilt, HasHostAndScript, HasUnsoundPause}
 
 abbrev HostJudged : Type 0
 HostJudged = Judged (ImagePlace × ImageCause) HostOf

@@ -1,6 +1,6 @@
 -- What a live save comes to, says and reports.
 use Rattle.std.specs.Prelude.{◌+◌, drop}
-use Rattle.mig_tool.proofs.Common.{◌⊎◌, ◌≡◌, ℕ, ◌<◌, ◌++◌, List, [], length, arith, Option, Some, None, Result, Ok, Err, refl, sym, ap, subst, ◌∙◌, Hvm, Refusal, RefusedIn, Written, Comes, ComesOf, Says, SaysOf, Save, status_of, line_of}
+use Rattle.mig_tool.proofs.Common.{◌⊎◌, ◌≡◌, ℕ, List, [], length, arith, Option, Some, None, Ok, Err, refl, sym, ap, subst, ◌∙◌, Hvm, Refusal, Written, Comes, ComesOf, Says, SaysOf, Save, status_of, line_of}
 use Rattle.mig_report.specs.declared.outcome.Refusal.TheVariants as refusals
 use mathlib.Core.Logic.{inl, inr}
 use mathlib.Core.List.{append-nil}

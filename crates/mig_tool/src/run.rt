@@ -52,7 +52,6 @@ pub fn run<S: Source, K: Sink, R: Sink>(
         → (result ≡ statuses.Done) ⊎ (result ≡ statuses.Memory) }
     ensures refused { (command : Command) (bytes : List ℕ) (refusal : Refusal) (rest : List ℕ) → Names (texts_of words.now) command → S.left input.old ≡ Some bytes → RefusedIn (form_of command) bytes refusal rest → IsOfInput refusal
         → (Rose (S.faults input.old) (S.faults input.new) → ⊥) → (result ≡ statuses.Refused) ⊎ (result ≡ statuses.Memory) }
-
     ensures saved { (bytes : List ℕ) (host : HostOf) (lines : List LineOf) → Names (texts_of words.now) commands.Save → S.left input.old ≡ Some bytes → HasHostAndScript bytes host lines
         → (Rose (S.faults input.old) (S.faults input.new) → ⊥) → (WriteRose commands.Save (K.faults out.old) (K.faults out.new) (R.faults report.old) (R.faults report.new) → ⊥) → IsSavedOrPaused bytes result }
 
@@ -70,7 +69,7 @@ pub fn run<S: Source, K: Sink, R: Sink>(
         → BreaksOff (K.written out.old) (K.written out.new) (K.faults out.old) (K.faults out.new) (R.faults report.old) (R.faults report.new) }
 
     // A fault is answered only where a count rose, and that of the input rises with no other status. With status 0 no count
-    // rose.
+    // rose, but perhaps that of `out` by `save`.
     ensures read { InputRises result (S.faults input.old) (S.faults input.new) }
     ensures write { (command : Command) → Names (texts_of words.now) command → result ≡ statuses.WriteFault
         → WriteRose command (K.faults out.old) (K.faults out.new) (R.faults report.old) (R.faults report.new) }
