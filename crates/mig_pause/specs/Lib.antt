@@ -1,1 +1,2 @@
 pub mod Paused
+pub mod Marks

@@ -2,6 +2,7 @@
 use Rattle.std.specs.Prelude.{◌≡◌, ℕ, List, Option, None, get_or}
 use Rattle.mig_pagetypes.specs.declared.page_type.PageType.{PageType}
 use Rattle.mig_guest.specs.Hosts.{HostOf}
+use Rattle.mig_guest.specs.Parts.{PartMap}
 use Rattle.mig_machine_api.specs.MachineStates.{MachineState, Ran}
 use Rattle.mig_standing.specs.Standing.{Standing, before_saver}
 
@@ -12,6 +13,10 @@ types_seen types pfn = get_or types pfn None
 -- the host as a saver has it that saw these types
 abbrev pub standing_seen : HostOf → List (Option PageType) → Standing
 standing_seen h types = before_saver h (types_seen types)
+
+-- the same with the parts that the saver holds
+abbrev pub standing_with : HostOf → List (Option PageType) → PartMap → Standing
+standing_with h types parts = record (standing_seen h types) { parts = parts }
 
 -- from s to t machine frames were looked up of a paused machine, and nothing else was asked: the host stays
 pub record OnlyLooksUp (s t : MachineState) : Type 0 where

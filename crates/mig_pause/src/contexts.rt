@@ -1,19 +1,17 @@
 ghost use Rattle.std.specs.Prelude.{◌≡◌, ◌≤◌, ◌<◌, ℕ, List, length, true, Ok, Some, None, OnErr, IfOk, IfSome, find};
-ghost use Rattle.std.specs.Option.{option_map};
 ghost use Rattle.std.specs.FinMap as maps;
 ghost use Rattle.mig_bytes.specs.Faults.{Rose};
-ghost use Rattle.mig_headers.specs.declared.unsound.Unsound.TheVariants.{VcpuFrame};
 ghost use Rattle.mig_guest.specs.declared.part_key.PartKey.{PartKey};
 ghost use Rattle.mig_guest.specs.Hosts.{pfn_in};
 ghost use Rattle.mig_guest.specs.Order.{part_cmp};
 ghost use Rattle.mig_pvtables.specs.Blank.{each_value};
 ghost use Rattle.mig_pvtables.specs.BlankSteps.{only};
-ghost use Rattle.mig_pvtables.specs.Faults.{field_numbers, find_in_contexts};
+ghost use Rattle.mig_pvtables.specs.Faults.{field_numbers};
 ghost use Rattle.mig_pvtables.specs.VcpuContexts.{is_used_somewhere};
 ghost use Rattle.mig_hosted.specs.Localised.{renamed_part};
 ghost use Rattle.mig_hosted.specs.RenamedContexts.{renamed_context};
-ghost use Rattle.mig_standing.specs.FirstRow.{names_ill};
-ghost use Rattle.mig_pause.specs.Paused.{standing_seen, OnlyLooksUp};
+ghost use Rattle.mig_standing.specs.FirstRow.{names_ill, row_6};
+ghost use Rattle.mig_pause.specs.Paused.{standing_seen, standing_with, OnlyLooksUp};
 
 use crate::lookup::pfn_for_field;
 use mig_bytes::Failed;
@@ -88,7 +86,7 @@ pub fn rename_contexts<M: Machine>(
 ) -> Result<Option<Unsound>, Failed>
     requires paused { (M.state machine.old).paused ≡ true }
     requires contexts { (key : PartKey) (context : List ℕ) → maps.get guest.old.parts key ≡ Some context → key.code ≡ 4 → length context ≡ 5168 }
-    ensures found { IfOk result (λ found. found ≡ option_map (λ at. VcpuFrame at.0 at.1) (find_in_contexts (names_ill (standing_seen (M.state machine.old).host types.now)) guest.old.parts)) }
+    ensures found { IfOk result (λ found. found ≡ row_6 (standing_with (M.state machine.old).host types.now guest.old.parts)) }
     ensures renamed { IfOk result (λ found. found ≡ None → guest.new ≡ record guest.old { parts = each_value (renamed_part is_used_somewhere (pfn_in (M.state machine.old).host.frames)) guest.old.parts }) }
     ensures looks { OnlyLooksUp (M.state machine.old) (M.state machine.new) }
     ensures later { M.Later machine.old machine.new }

@@ -9,6 +9,8 @@
 #![tactic(auto)]
 
 mod contexts;
+mod listing;
 mod lookup;
 
 pub use contexts::rename_contexts;
+pub use listing::misplaced_by_type;

@@ -1,4 +1,4 @@
-ghost use Rattle.std.specs.Prelude.{◌≡◌, ◌<◌, ◌≤◌, ◌^◌, true, Some, None, OnErr, IfOk, IfSome, is_some, option_and_then, get_or};
+ghost use Rattle.std.specs.Prelude.{◌≡◌, ◌<◌, ◌≤◌, ◌^◌, true, Some, None, OnErr, IfOk, IfSome, IsSome, is_some, option_and_then, length};
 ghost use Rattle.mig_bytes.specs.Faults.{Rose};
 ghost use Rattle.mig_guest.specs.Hosts.{pfn_in};
 ghost use Rattle.mig_pvtables.specs.Faults.{fits_field};
@@ -12,6 +12,7 @@ use mig_pvtables::is_type_of_field;
 /// The type that was seen last at a frame number; none beyond those that were looked at.
 pub(crate) fn type_seen(types: &[Option<PageType>], pfn: u64) -> Option<PageType>
     ensures value { result ≡ types_seen types.now pfn }
+    ensures inside { IsSome result → pfn < length types.now }
 {
     if pfn < types.len() as u64 {
         types[pfn as usize]
