@@ -1,3 +1,4 @@
 pub mod Looks
 pub mod ContextSteps
 pub mod ListSteps
+pub mod SeenRows

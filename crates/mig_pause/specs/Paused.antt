@@ -1,9 +1,18 @@
 -- A paused machine as a saver judges it: by the types that it saw last, with names that are looked up one at a time.
-use Rattle.std.specs.Prelude.{◌≡◌, ℕ, List, Option, None, get_or}
+use Rattle.std.specs.Prelude.{◌≡◌, ℕ, List, [], ◌∷◌, Option, None, get_or}
+use Rattle.std.specs.Option.{option_map}
+use Rattle.std.specs.FinMap as maps
+use Rattle.mig_headers.specs.declared.unsound.Unsound.{Unsound}
 use Rattle.mig_pagetypes.specs.declared.page_type.PageType.{PageType}
-use Rattle.mig_guest.specs.Hosts.{HostOf}
+use Rattle.mig_guest.specs.Guests.{GuestOf}
+use Rattle.mig_guest.specs.Hosts.{HostOf, HostFrame, pfn_in}
 use Rattle.mig_guest.specs.Parts.{PartMap}
 use Rattle.mig_machine_api.specs.MachineStates.{MachineState, Ran}
+use Rattle.mig_pvtables.specs.Blank.{each_value}
+use Rattle.mig_pvtables.specs.Faults.{first_cause}
+use Rattle.mig_pvtables.specs.VcpuContexts.{is_used_somewhere}
+use Rattle.mig_hosted.specs.Localised.{renamed_part}
+use Rattle.mig_standing.specs.FirstRow.{row_1, row_2, row_5, row_6}
 use Rattle.mig_standing.specs.Standing.{Standing, before_saver}
 
 -- the type that was seen last at each frame number
@@ -27,3 +36,15 @@ pub record OnlyLooksUp (s t : MachineState) : Type 0 where
   pub live : t.history.live ≡ s.history.live
   pub read : t.history.since.read ≡ s.history.since.read
   pub twice : t.history.since.twice ≡ s.history.since.twice
+
+-- the types that were seen are those of the host's frames
+abbrev pub HasTypes : HostOf → List (Option PageType) → Type 0
+HasTypes h types = (pfn : ℕ) → types_seen types pfn ≡ option_map (λ (f : HostFrame). f.type) (maps.get h.frames pfn)
+
+-- the first row that stands, where `tables` is what was found in the tables, and where no context is an HVM guest's
+abbrev pub first_around : Option Unsound → Standing → Option Unsound
+first_around tables s = first_cause (row_1 s ∷ row_2 s ∷ tables ∷ row_5 s ∷ row_6 s ∷ [])
+
+-- the guest with PFNs in the contexts that it holds, in place of the machine frames of a host
+abbrev pub with_names : HostOf → GuestOf → GuestOf
+with_names h g = record g { parts = each_value (renamed_part is_used_somewhere (pfn_in h.frames)) g.parts }

@@ -8,10 +8,9 @@ ghost use Rattle.mig_pvtables.specs.Blank.{each_value};
 ghost use Rattle.mig_pvtables.specs.BlankSteps.{only};
 ghost use Rattle.mig_pvtables.specs.Faults.{field_numbers};
 ghost use Rattle.mig_pvtables.specs.VcpuContexts.{is_used_somewhere};
-ghost use Rattle.mig_hosted.specs.Localised.{renamed_part};
 ghost use Rattle.mig_hosted.specs.RenamedContexts.{renamed_context};
 ghost use Rattle.mig_standing.specs.FirstRow.{names_ill, row_6};
-ghost use Rattle.mig_pause.specs.Paused.{standing_seen, standing_with, OnlyLooksUp};
+ghost use Rattle.mig_pause.specs.Paused.{standing_seen, standing_with, with_names, OnlyLooksUp};
 
 use crate::lookup::pfn_for_field;
 use mig_bytes::Failed;
@@ -87,7 +86,7 @@ pub fn rename_contexts<M: Machine>(
     requires paused { (M.state machine.old).paused ≡ true }
     requires contexts { (key : PartKey) (context : List ℕ) → maps.get guest.old.parts key ≡ Some context → key.code ≡ 4 → length context ≡ 5168 }
     ensures found { IfOk result (λ found. found ≡ row_6 (standing_with (M.state machine.old).host types.now guest.old.parts)) }
-    ensures renamed { IfOk result (λ found. found ≡ None → guest.new ≡ record guest.old { parts = each_value (renamed_part is_used_somewhere (pfn_in (M.state machine.old).host.frames)) guest.old.parts }) }
+    ensures renamed { IfOk result (λ found. found ≡ None → guest.new ≡ with_names (M.state machine.old).host guest.old) }
     ensures looks { OnlyLooksUp (M.state machine.old) (M.state machine.new) }
     ensures later { M.Later machine.old machine.new }
     ensures count { M.faults machine.old ≤ M.faults machine.new }

@@ -9,8 +9,10 @@
 #![tactic(auto)]
 
 mod contexts;
+mod judging;
 mod listing;
 mod lookup;
 
 pub use contexts::rename_contexts;
+pub use judging::judge;
 pub use listing::misplaced_by_type;
