@@ -2,3 +2,4 @@ pub mod Looks
 pub mod ContextSteps
 pub mod ListSteps
 pub mod SeenRows
+pub mod HeldParts

@@ -1,9 +1,10 @@
 -- A paused machine as a saver judges it: by the types that it saw last, with names that are looked up one at a time.
-use Rattle.std.specs.Prelude.{◌≡◌, ℕ, List, [], ◌∷◌, Option, None, get_or}
+use Rattle.std.specs.Prelude.{◌≡◌, ℕ, List, [], ◌∷◌, Option, Some, None, is_some, get_or}
 use Rattle.std.specs.Option.{option_map}
 use Rattle.std.specs.FinMap as maps
 use Rattle.mig_headers.specs.declared.unsound.Unsound.{Unsound}
 use Rattle.mig_pagetypes.specs.declared.page_type.PageType.{PageType}
+use Rattle.mig_guest.specs.declared.part_key.PartKey.{PartKey}
 use Rattle.mig_guest.specs.Guests.{GuestOf}
 use Rattle.mig_guest.specs.Hosts.{HostOf, HostFrame, pfn_in}
 use Rattle.mig_guest.specs.Parts.{PartMap}
@@ -12,6 +13,7 @@ use Rattle.mig_pvtables.specs.Blank.{each_value}
 use Rattle.mig_pvtables.specs.Faults.{first_cause}
 use Rattle.mig_pvtables.specs.VcpuContexts.{is_used_somewhere}
 use Rattle.mig_hosted.specs.Localised.{renamed_part}
+use Rattle.mig_hosted.specs.View.{view}
 use Rattle.mig_standing.specs.FirstRow.{row_1, row_2, row_5, row_6}
 use Rattle.mig_standing.specs.Standing.{Standing, before_saver}
 
@@ -48,3 +50,12 @@ first_around tables s = first_cause (row_1 s ∷ row_2 s ∷ tables ∷ row_5 s 
 -- the guest with PFNs in the contexts that it holds, in place of the machine frames of a host
 abbrev pub with_names : HostOf → GuestOf → GuestOf
 with_names h g = record g { parts = each_value (renamed_part is_used_somewhere (pfn_in h.frames)) g.parts }
+
+-- each part that the guest holds is the host's, and it holds all contexts of vCPUs
+pub record HoldsOf (h : HostOf) (g : GuestOf) : Type 0 where
+  pub same : (key : PartKey) (bytes : List ℕ) → maps.get g.parts key ≡ Some bytes → maps.get h.parts key ≡ Some bytes
+  pub contexts : (key : PartKey) → key.code ≡ 4 → maps.get g.parts key ≡ maps.get h.parts key
+
+-- the guest with the parts of the guest that the host is seen as, of those whose keys it holds
+abbrev pub with_view : HostOf → GuestOf → GuestOf
+with_view h g = record g { parts = maps.retain_keys (view h).parts (λ key. is_some (maps.get g.parts key)) }

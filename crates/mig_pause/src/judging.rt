@@ -21,7 +21,7 @@ use mig_pagetypes::PageType;
 use mig_pvtables::sole_key;
 
 /// The host of a machine is valid at every moment.
-fn host_is_valid<M: Machine>(machine: &M)
+pub(crate) fn host_is_valid<M: Machine>(machine: &M)
     ensures { IsValidState (M.state machine.now) }
 {
     let _width = machine.width();

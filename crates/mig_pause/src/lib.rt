@@ -12,7 +12,9 @@ mod contexts;
 mod judging;
 mod listing;
 mod lookup;
+mod viewing;
 
 pub use contexts::rename_contexts;
 pub use judging::judge;
 pub use listing::misplaced_by_type;
+pub use viewing::view_parts;
