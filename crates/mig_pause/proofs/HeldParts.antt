@@ -1,5 +1,5 @@
 -- The parts that a guest holds of a host, brought to those of the guest that the host is seen as.
-use Rattle.std.proofs.Common.{◌≡◌, ℕ, List, length, true, false, cond, Option, Some, None, refl, sym, ap, subst, ◌∙◌}
+use Rattle.std.proofs.Common.{◌≡◌, ℕ, List, length, Bool, true, false, cond, Option, Some, None, refl, sym, ap, subst, ◌∙◌}
 use Rattle.std.specs.Prelude.{◌==◌, IsSome, IfSome, is_some}
 use Rattle.std.specs.Option.{option_map}
 use Rattle.std.specs.FinMap as maps
@@ -105,3 +105,39 @@ module _ (h : HostOf) (valid : IsValid h) (g : GuestOf) (holds : HoldsOf h g) wh
           three ∙ ap (λ (s : GuestOf). record s { parts = each_value (only part_cmp shared_key blanked_shared) s.parts }) two
           ∙ ap (λ (s : GuestOf). record s { parts = each_value (only part_cmp shared_key blanked_shared) (each_value (blanked_code 4 (λ _. blanked_context)) s.parts) }) one
           ∙ ap (λ m. record g { parts = m }) (parts_blanked turned sole_page ∙ kept_parts pv)
+
+-- ---- parts of some codes
+
+module _ (h : HostOf) (g : GuestOf) (codes : ℕ → Bool) (kept : g.parts ≡ maps.retain_keys h.parts (λ key. codes key.code)) where
+  kept_at : (q : PartKey) → maps.get g.parts q ≡ cond (codes q.code) (maps.get h.parts q) None
+  kept_at q = ap (λ m. maps.get m q) kept ∙ maps.get-retain_keys h.parts (λ (key : PartKey). codes key.code) q (λ x e. ap (λ (key : PartKey). codes key.code) (sym (part_exact q x e)))
+
+  pub kept_are_held : codes 4 ≡ true → HoldsOf h g
+  kept_are_held contexts = record {
+    same = λ key bytes is. by_case key bytes (codes key.code) (sym (kept_at key) ∙ is);
+    contexts = λ key code. kept_at key ∙ ap (λ b. cond b (maps.get h.parts key) None) (ap codes code ∙ contexts);
+  }
+    where
+      by_case : (key : PartKey) (bytes : List ℕ) (b : Bool) → cond b (maps.get h.parts key) None ≡ Some bytes → maps.get h.parts key ≡ Some bytes
+      by_case key bytes true is = is
+      by_case key bytes false is = cc
+
+  pub kept_are_seen : h.kind ≡ Pv → (with_view h g).parts ≡ maps.retain_keys (view h).parts (λ key. codes key.code)
+  kept_are_seen pv = maps.same_map part_total part_exact _ _ (λ q.
+      maps.get-retain_keys (view h).parts (λ key. is_some (maps.get g.parts key)) q (λ x e. ap (λ key. is_some (maps.get g.parts key)) (sym (part_exact q x e)))
+      ∙ ap (λ o. cond (is_some o) (maps.get (view h).parts q) None) (kept_at q)
+      ∙ by_case (codes q.code) (maps.get h.parts q) (maps.get (view h).parts q) (seen_there q)
+      ∙ sym (maps.get-retain_keys (view h).parts (λ (key : PartKey). codes key.code) q (λ x e. ap (λ (key : PartKey). codes key.code) (sym (part_exact q x e)))))
+    where
+      -- the view has the parts that the host has
+      seen_there : (q : PartKey) → is_some (maps.get (view h).parts q) ≡ is_some (maps.get h.parts q)
+      seen_there q =
+          ap (λ (k : Kind). is_some (maps.get (normalised_of k (pfn_in h.frames) (guest_in h)).parts q)) pv
+          ∙ some_each part_total part_exact blanked_part (each_value (renamed_part is_used_somewhere (pfn_in h.frames)) h.parts) q
+          ∙ some_each part_total part_exact (renamed_part is_used_somewhere (pfn_in h.frames)) h.parts q
+
+      by_case : (b : Bool) (o seen : Option (List ℕ)) → is_some seen ≡ is_some o → cond (is_some (cond b o None)) seen None ≡ cond b seen None
+      by_case false o seen same = refl
+      by_case true (Some x) seen same = refl
+      by_case true None None same = refl
+      by_case true None (Some x) same = let no : true ≡ false = same in cc

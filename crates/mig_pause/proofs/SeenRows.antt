@@ -9,14 +9,14 @@ use Rattle.std.proofs.lemmas.Bool.{eqb-true}
 use Rattle.mig_headers.specs.declared.kind.Kind.{Kind}
 use Rattle.mig_headers.specs.declared.kind.Kind.TheVariants.{Pv}
 use Rattle.mig_headers.specs.declared.unsound.Unsound.{Unsound}
-use Rattle.mig_headers.specs.declared.unsound.Unsound.TheVariants.{BadContext}
+use Rattle.mig_headers.specs.declared.unsound.Unsound.TheVariants.{P2mFrame, BadContext}
 use Rattle.mig_pagetypes.specs.declared.page_type.PageType.{PageType}
 use Rattle.mig_guest.specs.declared.part_key.PartKey.{PartKey}
 use Rattle.mig_guest.specs.declared.part_code.PartCode.TheVariants.{VcpuBasic, HvmContext}
 use Rattle.mig_guest.specs.Formed.{gdt_ents}
 use Rattle.mig_guest.specs.Hosts.{HostOf, HostFrame, IsValid}
 use Rattle.mig_guest.specs.PartCodes.{row_of}
-use Rattle.mig_guest.specs.PartKeys.{context_key}
+use Rattle.mig_guest.specs.PartKeys.{context_key, p2m_key}
 use Rattle.mig_guest.specs.Parts.{Part, PartMap}
 use Rattle.mig_guest.proofs.Counts.{same_parts}
 use Rattle.mig_guest.proofs.PartRows.{one_code}
@@ -26,7 +26,7 @@ use Rattle.mig_pvtables.proofs.Walks.{in_fields, in_contexts, large_in, contexts
 use Rattle.mig_hosted.specs.Sound.{find_gdt, fault_in, unsoundness}
 use Rattle.mig_hosted.specs.View.{guest_in, without_machine}
 use Rattle.mig_headers.specs.Contexts.{scan}
-use Rattle.mig_standing.specs.FirstRow.{row_1, row_2, row_3, row_4, row_5, row_6, row_7}
+use Rattle.mig_standing.specs.FirstRow.{find_ill_listed, row_1, row_2, row_3, row_4, row_5, row_6, row_7}
 use Rattle.mig_standing.specs.Standing.{Standing}
 use Rattle.mig_standing.proofs.Instances.{host_wide}
 use Rattle.mig_standing.proofs.Savers.{saver_finds}
@@ -145,3 +145,10 @@ module _ (a b t d : Option Unsound) where
 
     pub in_fields_alone : None ≡ first_cause (a ∷ b ∷ t ∷ d ∷ []) → e ≡ first_cause (a ∷ b ∷ t ∷ d ∷ e ∷ [])
     in_fields_alone is = ap (λ o. option_or o e) is ∙ sym all_then
+
+-- ---- the list
+
+-- what of row 2 is found with the list of the host
+module _ (s : Standing) (key : PartKey) (list : List ℕ) (is : Some list ≡ maps.get s.parts key) (same : key ≡ p2m_key) where
+  pub row_of_list : (found : Option ℕ) → ((o : Standing) → o.types ≡ s.types → maps.get o.parts p2m_key ≡ Some list → found ≡ find_ill_listed o) → option_map (λ k. P2mFrame k) found ≡ row_2 s
+  row_of_list found all = ap (option_map (λ k. P2mFrame k)) (all s refl (ap (maps.get s.parts) (sym same) ∙ sym is))

@@ -10,11 +10,13 @@
 
 mod contexts;
 mod judging;
+mod law;
 mod listing;
 mod lookup;
 mod viewing;
 
 pub use contexts::rename_contexts;
 pub use judging::judge;
+pub use law::parts_of_codes_are_held;
 pub use listing::misplaced_by_type;
 pub use viewing::view_parts;

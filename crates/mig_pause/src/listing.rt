@@ -15,6 +15,7 @@ use mig_pagetypes::PageType;
 fn has_frame(types: &[Option<PageType>], index: usize) -> bool
     ensures { result ≡ has_some (types_seen types.now) index }
 {
+    // Beyond the types there is no frame, and 512 * index could be too great.
     if index > types.len() / 512 {
         return false;
     }

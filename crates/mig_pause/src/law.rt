@@ -1,0 +1,15 @@
+ghost use Rattle.std.specs.Prelude.{◌≡◌, ℕ, Bool, true};
+ghost use Rattle.std.specs.FinMap as maps;
+ghost use Rattle.mig_headers.specs.declared.kind.Kind.TheVariants.{Pv};
+ghost use Rattle.mig_guest.specs.Guests.{GuestOf};
+ghost use Rattle.mig_guest.specs.Hosts.{HostOf};
+ghost use Rattle.mig_hosted.specs.View.{view};
+ghost use Rattle.mig_pause.specs.Paused.{HoldsOf, with_view};
+
+/// The parts of some codes, contexts of vCPUs among them, are held of a host; and the guest that holds them gets the parts of
+/// these codes of the guest that a PV host is seen as.
+pub fn parts_of_codes_are_held()
+    ensures held { (h : HostOf) (g : GuestOf) (codes : ℕ → Bool) → codes 4 ≡ true → g.parts ≡ maps.retain_keys h.parts (λ key. codes key.code) → HoldsOf h g }
+    ensures seen { (h : HostOf) (g : GuestOf) (codes : ℕ → Bool) → h.kind ≡ Pv → g.parts ≡ maps.retain_keys h.parts (λ key. codes key.code)
+        → (with_view h g).parts ≡ maps.retain_keys (view h).parts (λ key. codes key.code) }
+{}
