@@ -30,7 +30,7 @@ use Rattle.mig_standing.specs.FirstRow.{find_ill_listed, row_1, row_2, row_3, ro
 use Rattle.mig_standing.specs.Standing.{Standing}
 use Rattle.mig_standing.proofs.Instances.{host_wide}
 use Rattle.mig_standing.proofs.Savers.{saver_finds}
-use Rattle.mig_pause.specs.Paused.{types_seen, standing_seen, HasTypes, first_around}
+use Rattle.mig_pause.specs.Paused.{types_seen, standing_seen, HasTypes, first_in_tables, first_around}
 
 -- ---- parts that are alike at the contexts
 
@@ -96,7 +96,7 @@ types_there h pfn = by_case (maps.get h.frames pfn) ∙ ap (option_map (λ f. f.
 
 -- where the types are the host's, the first row around what was found in the tables is what is in the way of seeing it
 pub first_is_unsoundness : (h : HostOf) → IsValid h → h.kind ≡ Pv → (types : List (Option PageType)) (tables : Option Unsound) → HasTypes h types
-    → tables ≡ first_cause (row_3 h.width (standing_seen h types) ∷ row_4 h.width (standing_seen h types) ∷ []) → first_around tables (standing_seen h types) ≡ unsoundness h
+    → tables ≡ first_in_tables h → first_around tables (standing_seen h types) ≡ unsoundness h
 first_is_unsoundness h valid pv types tables has is =
     let s : Standing = standing_seen h types in
     ap (λ t. first_around t s) is

@@ -14,8 +14,8 @@ use Rattle.mig_pvtables.specs.Faults.{first_cause}
 use Rattle.mig_pvtables.specs.VcpuContexts.{is_used_somewhere}
 use Rattle.mig_hosted.specs.Localised.{renamed_part}
 use Rattle.mig_hosted.specs.View.{view}
-use Rattle.mig_standing.specs.FirstRow.{row_1, row_2, row_5, row_6}
-use Rattle.mig_standing.specs.Standing.{Standing, before_saver}
+use Rattle.mig_standing.specs.FirstRow.{row_1, row_2, row_3, row_4, row_5, row_6}
+use Rattle.mig_standing.specs.Standing.{Standing, in_host, before_saver}
 
 -- the type that was seen last at each frame number
 abbrev pub types_seen : List (Option PageType) → ℕ → Option PageType
@@ -42,6 +42,10 @@ pub record OnlyLooksUp (s t : MachineState) : Type 0 where
 -- the types that were seen are those of the host's frames
 abbrev pub HasTypes : HostOf → List (Option PageType) → Type 0
 HasTypes h types = (pfn : ℕ) → types_seen types pfn ≡ option_map (λ (f : HostFrame). f.type) (maps.get h.frames pfn)
+
+-- the first of the rows that speak of tables, in all of a host's tables
+abbrev pub first_in_tables : HostOf → Option Unsound
+first_in_tables h = first_cause (row_3 h.width (in_host h) ∷ row_4 h.width (in_host h) ∷ [])
 
 -- the first row that stands, where `tables` is what was found in the tables, and where no context is an HVM guest's
 abbrev pub first_around : Option Unsound → Standing → Option Unsound

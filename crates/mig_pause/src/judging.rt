@@ -7,8 +7,8 @@ ghost use Rattle.mig_guest.specs.PartCodes.{code_number};
 ghost use Rattle.mig_machine_api.specs.MachineStates.{IsValidState};
 ghost use Rattle.mig_pvtables.specs.Faults.{first_cause, first_some};
 ghost use Rattle.mig_hosted.specs.Sound.{absent, needed_keys, unsoundness};
-ghost use Rattle.mig_standing.specs.FirstRow.{row_1, row_2, row_3, row_4, row_5};
-ghost use Rattle.mig_pause.specs.Paused.{standing_seen, HasTypes, first_around, with_names, OnlyLooksUp};
+ghost use Rattle.mig_standing.specs.FirstRow.{row_1, row_2, row_5};
+ghost use Rattle.mig_pause.specs.Paused.{standing_seen, HasTypes, first_in_tables, first_around, with_names, OnlyLooksUp};
 
 use crate::contexts::rename_contexts;
 use crate::listing::misplaced_by_type;
@@ -120,9 +120,7 @@ pub fn judge<M: Machine>(
     requires marks { length marks.old ≡ length types.now }
     requires contexts { (key : PartKey) → key.code ≡ 4 → maps.get guest.old.parts key ≡ maps.get (M.state machine.old).host.parts key }
     ensures first { IfOk result (λ found. found ≡ first_around tables (standing_seen (M.state machine.old).host types.now)) }
-    ensures unsoundness { IfOk result (λ found. HasTypes (M.state machine.old).host types.now
-        → tables ≡ first_cause (row_3 (M.state machine.old).host.width (standing_seen (M.state machine.old).host types.now) ∷ row_4 (M.state machine.old).host.width (standing_seen (M.state machine.old).host types.now) ∷ [])
-        → found ≡ unsoundness (M.state machine.old).host) }
+    ensures unsoundness { IfOk result (λ found. HasTypes (M.state machine.old).host types.now → tables ≡ first_in_tables (M.state machine.old).host → found ≡ unsoundness (M.state machine.old).host) }
     ensures renamed { IfOk result (λ found. found ≡ None → guest.new ≡ with_names (M.state machine.old).host guest.old) }
     ensures looks { OnlyLooksUp (M.state machine.old) (M.state machine.new) }
     ensures later { M.Later machine.old machine.new }

@@ -1,11 +1,9 @@
-ghost use Rattle.std.specs.Prelude.{◌≡◌, ◌≤◌, [], ◌∷◌, length, true, None, OnErr, IfOk};
+ghost use Rattle.std.specs.Prelude.{◌≡◌, ◌≤◌, length, true, None, OnErr, IfOk};
 ghost use Rattle.mig_bytes.specs.Faults.{Rose};
 ghost use Rattle.mig_headers.specs.declared.kind.Kind.TheVariants.{Pv};
 ghost use Rattle.mig_machine_api.specs.MachineStates.{IsValidState};
-ghost use Rattle.mig_pvtables.specs.Faults.{first_cause};
 ghost use Rattle.mig_hosted.specs.Sound.{unsoundness};
-ghost use Rattle.mig_standing.specs.FirstRow.{row_3, row_4};
-ghost use Rattle.mig_pause.specs.Paused.{standing_seen, HasTypes, HoldsOf, first_around, with_view, OnlyLooksUp};
+ghost use Rattle.mig_pause.specs.Paused.{standing_seen, HasTypes, first_in_tables, HoldsOf, first_around, with_view, OnlyLooksUp};
 
 use crate::judging::{host_is_valid, judge};
 use mig_bytes::Failed;
@@ -29,9 +27,7 @@ pub fn view_parts<M: Machine>(
     requires marks { length marks.old ≡ length types.now }
     requires held { HoldsOf (M.state machine.old).host guest.old }
     ensures first { IfOk result (λ found. found ≡ first_around tables (standing_seen (M.state machine.old).host types.now)) }
-    ensures unsoundness { IfOk result (λ found. HasTypes (M.state machine.old).host types.now
-        → tables ≡ first_cause (row_3 (M.state machine.old).host.width (standing_seen (M.state machine.old).host types.now) ∷ row_4 (M.state machine.old).host.width (standing_seen (M.state machine.old).host types.now) ∷ [])
-        → found ≡ unsoundness (M.state machine.old).host) }
+    ensures unsoundness { IfOk result (λ found. HasTypes (M.state machine.old).host types.now → tables ≡ first_in_tables (M.state machine.old).host → found ≡ unsoundness (M.state machine.old).host) }
     ensures seen { IfOk result (λ found. found ≡ None → guest.new ≡ with_view (M.state machine.old).host guest.old) }
     ensures looks { OnlyLooksUp (M.state machine.old) (M.state machine.new) }
     ensures later { M.Later machine.old machine.new }
