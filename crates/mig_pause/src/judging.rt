@@ -54,7 +54,7 @@ fn misplaced<M: Machine>(
     types: &[Option<PageType>],
     marks: &mut [Option<bool>],
 ) -> Option<Unsound>
-    requires { length marks.old ≡ length types.now }
+    requires { length types.now ≤ length marks.old }
     ensures { result ≡ row_2 (standing_seen (M.state machine.now).host types.now) }
 {
     let list = machine.part(sole_key(PartCode::P2mFrames))?;
@@ -68,7 +68,7 @@ fn cause_before_tables<M: Machine>(
     types: &[Option<PageType>],
     marks: &mut [Option<bool>],
 ) -> Option<Unsound>
-    requires marks { length marks.old ≡ length types.now }
+    requires marks { length types.now ≤ length marks.old }
     requires pv { (M.state machine.now).host.kind ≡ Pv }
     ensures { result ≡ first_cause (row_1 (standing_seen (M.state machine.now).host types.now) ∷ row_2 (standing_seen (M.state machine.now).host types.now) ∷ []) }
 {
@@ -87,7 +87,7 @@ fn cause_before_fields<M: Machine>(
     marks: &mut [Option<bool>],
     tables: Option<Unsound>,
 ) -> Option<Unsound>
-    requires marks { length marks.old ≡ length types.now }
+    requires marks { length types.now ≤ length marks.old }
     requires pv { (M.state machine.now).host.kind ≡ Pv }
     requires long { (key : PartKey) (context : List ℕ) → maps.get guest.now.parts key ≡ Some context → key.code ≡ 4 → length context ≡ 5168 }
     requires contexts { (key : PartKey) → key.code ≡ 4 → maps.get guest.now.parts key ≡ maps.get (M.state machine.now).host.parts key }
@@ -117,7 +117,7 @@ pub fn judge<M: Machine>(
 ) -> Result<Option<Unsound>, Failed>
     requires paused { (M.state machine.old).paused ≡ true }
     requires pv { (M.state machine.old).host.kind ≡ Pv }
-    requires marks { length marks.old ≡ length types.now }
+    requires marks { length types.now ≤ length marks.old }
     requires contexts { (key : PartKey) → key.code ≡ 4 → maps.get guest.old.parts key ≡ maps.get (M.state machine.old).host.parts key }
     ensures first { IfOk result (λ found. found ≡ first_around tables (standing_seen (M.state machine.old).host types.now)) }
     ensures unsoundness { IfOk result (λ found. HasTypes (M.state machine.old).host types.now → tables ≡ first_in_tables (M.state machine.old).host → found ≡ unsoundness (M.state machine.old).host) }

@@ -1,4 +1,4 @@
-ghost use Rattle.std.specs.Prelude.{◌≡◌, ◌≤◌, ◌<◌, ℕ, length, get_or, Some, None, not, ◌||◌};
+ghost use Rattle.std.specs.Prelude.{◌≡◌, ◌≤◌, ℕ, length, get_or, Some, None, not, ◌||◌};
 ghost use Rattle.std.specs.FinMap as maps;
 ghost use Rattle.mig_guest.specs.PartKeys.{p2m_key};
 ghost use Rattle.mig_pvtables.specs.Faults.{is_notab};
@@ -69,7 +69,7 @@ pub fn misplaced_by_type(
     types: &[Option<PageType>],
     marks: &mut [Option<bool>],
 ) -> Option<usize>
-    requires { length marks.old ≡ length types.now }
+    requires { length types.now ≤ length marks.old }
     ensures { (s : Standing) → s.types ≡ types_seen types.now → maps.get s.parts p2m_key ≡ Some list.now → result ≡ find_ill_listed s }
 {
     clear(marks);

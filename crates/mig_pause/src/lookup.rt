@@ -1,4 +1,4 @@
-ghost use Rattle.std.specs.Prelude.{◌≡◌, ◌<◌, ◌≤◌, ◌^◌, true, Some, None, OnErr, IfOk, IfSome, IsSome, is_some, option_and_then, length};
+ghost use Rattle.std.specs.Prelude.{◌≡◌, ◌<◌, ◌≤◌, ◌^◌, true, Some, OnErr, IfOk, IfSome, IsSome, is_some, option_and_then, length};
 ghost use Rattle.mig_bytes.specs.Faults.{Rose};
 ghost use Rattle.mig_guest.specs.Hosts.{pfn_in};
 ghost use Rattle.mig_pvtables.specs.Faults.{fits_field};

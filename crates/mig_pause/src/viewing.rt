@@ -1,7 +1,6 @@
 ghost use Rattle.std.specs.Prelude.{◌≡◌, ◌≤◌, length, true, None, OnErr, IfOk};
 ghost use Rattle.mig_bytes.specs.Faults.{Rose};
 ghost use Rattle.mig_headers.specs.declared.kind.Kind.TheVariants.{Pv};
-ghost use Rattle.mig_machine_api.specs.MachineStates.{IsValidState};
 ghost use Rattle.mig_hosted.specs.Sound.{unsoundness};
 ghost use Rattle.mig_pause.specs.Paused.{standing_seen, HasTypes, first_in_tables, HoldsOf, first_around, with_view, OnlyLooksUp};
 
@@ -24,7 +23,7 @@ pub fn view_parts<M: Machine>(
 ) -> Result<Option<Unsound>, Failed>
     requires paused { (M.state machine.old).paused ≡ true }
     requires pv { (M.state machine.old).host.kind ≡ Pv }
-    requires marks { length marks.old ≡ length types.now }
+    requires marks { length types.now ≤ length marks.old }
     requires held { HoldsOf (M.state machine.old).host guest.old }
     ensures first { IfOk result (λ found. found ≡ first_around tables (standing_seen (M.state machine.old).host types.now)) }
     ensures unsoundness { IfOk result (λ found. HasTypes (M.state machine.old).host types.now → tables ≡ first_in_tables (M.state machine.old).host → found ≡ unsoundness (M.state machine.old).host) }
