@@ -3,3 +3,4 @@ pub mod ContextSteps
 pub mod ListSteps
 pub mod SeenRows
 pub mod HeldParts
+pub mod TableRows

@@ -18,6 +18,6 @@ mod viewing;
 
 pub use contexts::rename_contexts;
 pub use judging::judge;
-pub use law::parts_of_codes_are_held;
+pub use law::{parts_of_codes_are_held, rounds_judge_tables};
 pub use listing::misplaced_by_type;
 pub use viewing::view_parts;
