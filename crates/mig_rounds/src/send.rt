@@ -68,6 +68,7 @@ fn send_found<K: Sink>(
     ensures behind { OnErr result (FallsBehind 1 (K.written sink.old) (K.written sink.new) batch.old) }
     ensures few { length batch.new < 1024 }
     ensures count { K.faults sink.old ≤ K.faults sink.new }
+    ensures sink_quiet { OnOk result (K.faults sink.new ≡ K.faults sink.old) }
     ensures fault { OnErr result (Rose (K.faults sink.old) (K.faults sink.new)) }
     ensures which { ¬ IsErrOf result MachineFault }
 {
@@ -107,6 +108,7 @@ pub(crate) fn send_one<M: Machine, K: Sink>(
     ensures later { M.Later machine.old machine.new }
     ensures machine_count { M.faults machine.old ≤ M.faults machine.new }
     ensures sink_count { K.faults sink.old ≤ K.faults sink.new }
+    ensures sink_quiet { OnOk result (K.faults sink.new ≡ K.faults sink.old) }
     ensures machine_fault { IsErrOf result MachineFault → Rose (M.faults machine.old) (M.faults machine.new) }
     ensures write_fault { IsErrOf result WriteFault → Rose (K.faults sink.old) (K.faults sink.new) }
 {

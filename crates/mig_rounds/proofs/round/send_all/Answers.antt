@@ -1,4 +1,4 @@
-use Rattle.std.proofs.Common.{rules, arith, ◌≡◌, ◌<◌, ◌^◌, length, List, sym, ap, subst}
+use Rattle.std.proofs.Common.{rules, arith, ◌≡◌, ◌<◌, ◌^◌, length, List, refl, sym, ap, subst, ◌∙◌}
 use Rattle.mig_pagesink.specs.Told.{FrameTold}
 use Rattle.mig_pagesink.specs.Batches.{IsSent}
 use Rattle.mig_rounds.specs.Flags.{pfns_of_flags}
@@ -20,6 +20,7 @@ loop-pfn-init g c = record {
   later = g.met.M.Machine.later_self _;
   machine_count = omega arith;
   sink_count = omega arith;
+  sink_quiet = refl;
 }
 
 pub returns-in_err-found-clause-behind : goal.returns-in_err-found-clause-behind
@@ -73,6 +74,7 @@ loop-pfn-preserved g c =
             later = g.met.M.Machine.later_on _ _ _ i.later w.send_one.ensures.later;
             machine_count = omega (arith, w.send_one.ensures.machine_count);
             sink_count = omega (arith, w.send_one.ensures.sink_count);
+            sink_quiet = w.in_ok-found.ensures.sink_quiet ∙ i.sink_quiet;
           })
       | else-wanted w ↦ rw (w.machine-is, w.sink-is, w.batch-is, w.deferred-is, w.types-is, w.worst-is) (record {
         reads = reads_skip _ _ _ _ w.if-wanted.false i.reads;
@@ -84,5 +86,6 @@ loop-pfn-preserved g c =
         later = i.later;
         machine_count = i.machine_count;
         sink_count = i.sink_count;
+        sink_quiet = i.sink_quiet;
       })
     ]

@@ -22,4 +22,5 @@ invariant-loop-pfn g l =
       later : g.M.Machine.Later l.fn.machine l.machine;
       machine_count : g.M.Machine.faults l.fn.machine ≤ g.M.Machine.faults l.machine;
       sink_count : g.K.Sink.faults l.fn.sink ≤ g.K.Sink.faults l.sink;
+      sink_quiet : g.K.Sink.faults l.sink ≡ g.K.Sink.faults l.fn.sink;
     }

@@ -100,4 +100,5 @@ loop-machine-preserved g c =
       later = g.met.M.Machine.later_on _ _ _ (g.met.M.Machine.later_on _ _ _ i.later c.send_all.ensures.later) c.take_set.ensures.later;
       machine_count = omega (arith, c.send_all.ensures.machine_count, c.take_set.ensures.count);
       sink_count = omega (arith, c.send_all.ensures.sink_count);
+      sink_quiet = c.in_ok-send_all.ensures.sink_quiet ∙ i.sink_quiet;
     }
