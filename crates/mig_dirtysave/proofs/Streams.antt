@@ -1,27 +1,27 @@
 -- What a save wrote is a stream, and over an honest machine the stream of the host's view.
-use Rattle.std.proofs.Common.{◌≡◌, ℕ, List, [], ◌∷◌, ◌++◌, length, map, true, false, Option, Some, None, refl, sym, ap, subst, ◌∙◌, arith, append_assoc}
+use Rattle.std.proofs.Common.{◌≡◌, ℕ, Bool, List, [], ◌∷◌, ◌++◌, length, map, true, false, Option, Some, None, refl, sym, ap, subst, ◌∙◌, arith, append_assoc}
 use Rattle.std.specs.List.{AllByRecursion}
 use Rattle.std.specs.Option.{option_map}
 use Rattle.std.specs.Io.KnownBytes.{Appends}
 use Rattle.std.proofs.KnownBytes.{Appends-trans}
 use Rattle.mig_headers.specs.declared.kind.Kind.{Kind}
 use Rattle.mig_headers.specs.declared.kind.Kind.TheVariants.{Hvm}
-use Rattle.mig_guest.specs.Formed.{IsFormed, HasNoEmulators, is_emulator_code, is_policy}
+use Rattle.mig_headers.specs.declared.unsound.Unsound.{Unsound}
+use Rattle.mig_guest.specs.Formed.{IsFormed, HasNoEmulators, is_emulator_code}
 use Rattle.mig_guest.specs.Guests.{GuestOf}
-use Rattle.mig_guest.specs.Hosts.{IsValid}
+use Rattle.mig_guest.specs.Hosts.{HostOf, IsValid}
 use Rattle.mig_guest.specs.PartCodes.{is_fixed}
 use Rattle.mig_guest.specs.Parts.{PartMap}
 use Rattle.mig_guest.specs.declared.part_key.PartKey.{PartKey}
 use Rattle.std.specs.FinMap as maps
-use Rattle.mig_canon.specs.Canon.{Record, headers, static_bodies, text_of}
+use Rattle.mig_canon.specs.Canon.{Record, headers, info_records, static_bodies, p2m_records, last_records, text_of}
 use Rattle.mig_canon.proofs.Spelling.{text_join}
-use Rattle.mig_canon_laws.specs.Batched.{batch_records, batched, batched_bodies}
+use Rattle.mig_canon_laws.specs.Batched.{batch_records, batched}
 use Rattle.mig_emulators.proofs.EmulatorGuests.{none_set}
 use Rattle.mig_hosted.specs.Sound.{unsoundness}
-use Rattle.mig_hosted.specs.View.{view, hvm_view}
+use Rattle.mig_hosted.specs.View.{view, top_of}
 use Rattle.mig_hosted.proofs.HostViews.{hvm_viewed}
 use Rattle.mig_hosted.proofs.SoundRows.{sound_is_faultless}
-use Rattle.mig_hosted.proofs.ViewedFrames.{each_policy}
 use Rattle.mig_libxl.specs.Spelled.{AcceptedStream}
 use Rattle.mig_libxl.specs.Stream.StreamOf.{Bare}
 use Rattle.mig_machine_api.specs.MachineStates.{MachineState}
@@ -31,10 +31,11 @@ use Rattle.mig_restore.specs.Spelled.{Accepted}
 use Rattle.mig_restore.specs.Stream.{image_of}
 use Rattle.mig_rounds.specs.Live.{StaysSame, FramesSaved}
 use Rattle.mig_saved.proofs.Viewed.{saved_is_viewed}
-use Rattle.mig_dirtysave.specs.Saver.{SaverOf, IsFor, is_setting, kept_parts, parts_alone}
-use Rattle.mig_dirtysave.specs.SaveTexts.{save_opening, closing_records, ClosesStream}
+use Rattle.mig_saved.specs.Around.{text_before}
+use Rattle.mig_dirtysave.specs.Saver.{SaverOf, IsFor, HoldsParts, is_setting, kept_parts, parts_alone}
+use Rattle.mig_dirtysave.specs.SaveTexts.{IsContextFront, closing_records, ClosesStream}
 use Rattle.mig_dirtysave.specs.SaveAnswers.{IsOtherRecord, SaveWritten}
-use Rattle.mig_dirtysave.proofs.Codes.{IsOther, both_all, front_short, policies_seen, last_seen, static_within, closing_within, kept_formed}
+use Rattle.mig_dirtysave.proofs.Codes.{IsOther, both_all, closing_within, first_records, first_seen, first_within, front_short, kept_formed, last_seen, no_pv, viewed_kind}
 
 -- an image by itself is a stream
 bare_stream : (input : List ℕ) (g : GuestOf) (rest : List ℕ) → Accepted input g rest → AcceptedStream input g rest
@@ -50,19 +51,23 @@ records_are : (batches : List (List FrameTold)) → batch_records (map telling_f
 records_are [] = refl
 records_are (b ∷ batches) = ap (λ (l : List Record). telling_record b ∷ l) (records_are batches)
 
-others_are : (rs : List Record) → AllByRecursion IsOther rs → AllByRecursion IsOtherRecord rs
+pub others_are : (rs : List Record) → AllByRecursion IsOther rs → AllByRecursion IsOtherRecord rs
 others_are [] p = tt
 others_are (r ∷ rs) p = (record { no_pages = p.0.1; no_end = p.0.0.no_end }, others_are rs p.1)
 
 -- ---- what stays of a machine
 
-policy_fixed : (code : ℕ) → is_policy code ≡ true → is_fixed code ≡ true
-policy_fixed code one = each_policy (λ c. is_fixed c ≡ true) refl refl code one
+-- its kind and its width are those of the saver
+pub kind_stays : (s t : MachineState) (saver : SaverOf) (g : GuestOf) → StaysSame s t → IsFor saver s.host → g.kind ≡ saver.kind → g.kind ≡ t.host.kind
+kind_stays s t saver g same made is = is ∙ sym made.kind ∙ sym same.shape.kind
 
--- its policies are those that the saver holds
-pub policies_stay : (s t : MachineState) (saver : SaverOf) (g : GuestOf) → StaysSame s t → IsFor saver s.host → g.parts ≡ saver.policies
-    → (key : PartKey) → is_policy key.code ≡ true → maps.get t.host.parts key ≡ maps.get g.parts key
-policies_stay s t saver g same made is key one = same.shape.fixed key (policy_fixed key.code one) ∙ made.policies key one ∙ ap (λ (m : PartMap). maps.get m key) (sym is)
+pub width_stays : (s t : MachineState) (saver : SaverOf) (room : ℕ) → StaysSame s t → IsFor saver s.host → room ≡ saver.width → room ≡ t.host.width
+width_stays s t saver room same made is = is ∙ sym made.width ∙ sym same.shape.width
+
+-- its fixed parts are those that the saver holds
+pub fixed_stays : (s t : MachineState) (saver : SaverOf) (g : GuestOf) → StaysSame s t → IsFor saver s.host → g.parts ≡ saver.fixed
+    → (key : PartKey) → is_fixed key.code ≡ true → maps.get t.host.parts key ≡ maps.get g.parts key
+fixed_stays s t saver g same made is key one = same.shape.fixed key one ∙ made.fixed key one ∙ ap (λ (m : PartMap). maps.get m key) (sym is)
 
 -- and it gets no emulators
 pub plain_stays : (s t : MachineState) → StaysSame s t → HasNoEmulators s.host.parts → HasNoEmulators t.host.parts
@@ -74,62 +79,85 @@ plain_stays s t same plain key bytes is = by (maps.get s.host.parts key) refl
         let no : ◌≡◌ {A = Option ℕ} (Some (length bytes)) None = sym (ap (option_map (λ (l : List ℕ). length l)) is) ∙ lengths ∙ ap (option_map (λ (l : List ℕ). length l)) at in cc
     by (Some x) at = plain key x at
 
+-- a guest that holds parts of a host of this kind and width, and its greatest frame number
+pub held_there : (codes : ℕ → Bool) (k l : Kind) (v w : ℕ) (g : GuestOf) → k ≡ l → v ≡ w → HoldsParts codes k v g → HoldsParts codes l w g
+held_there codes k l v w g kind width held = subst (λ (k : Kind). HoldsParts codes k w g) kind (subst (λ (n : ℕ). HoldsParts codes k n g) width held)
+
+pub top_held : (codes : ℕ → Bool) (k : Kind) (w : ℕ) (g : GuestOf) → HoldsParts codes k w g → g.top ≡ top_of k w
+top_held codes k w g held = ap (λ (x : GuestOf). x.top) held.bare
+
+-- ---- behind the frames of an HVM host
+
+module _ (h : HostOf) (valid : IsValid h) (hvm : h.kind ≡ Hvm) (front : List ℕ) (f : IsContextFront h.parts front) where
+  abbrev settings : GuestOf
+  settings = parts_alone h.kind h.width (kept_parts is_setting h.parts)
+
+  formed : IsFormed settings
+  formed = kept_formed h valid is_setting refl (no_pv h is_setting hvm)
+
+  pub hvm_closes : (g : GuestOf) (old new : Option (List ℕ)) → g ≡ settings → Appends old new (text_of (closing_records g front ++ (0, []) ∷ [])) → ClosesStream h old new
+  hvm_closes g old new is a = record {
+    behind = closing_records settings front;
+    others = others_are (closing_records settings front) (closing_within settings formed front (front_short h valid front f));
+    seen = λ _. sym ((λ i. last_records (hvm i) (hvm_viewed h hvm i)) ∙ last_seen h valid front f);
+    appended = subst (λ (k : GuestOf). Appends old new (text_of (closing_records k front ++ (0, []) ∷ []))) is a;
+  }
+
 -- ---- the stream
 
-module _ (t : MachineState) (valid : IsValid t.host) (hvm : t.host.kind ≡ Hvm) (plain : HasNoEmulators t.host.parts) (faultless : unsoundness t.host ≡ None) (policies : GuestOf) (formed : IsFormed policies)
-    (alike : (key : PartKey) → is_policy key.code ≡ true → maps.get t.host.parts key ≡ maps.get policies.parts key) (old mid sent new : Option (List ℕ)) (opened : Appends old mid (save_opening policies))
-    (s : FramesSaved mid sent t None) (closed : ClosesStream t.host sent new) where
-  abbrev settings : GuestOf
-  settings = parts_alone (kept_parts is_setting t.host.parts)
+regroup : (a b c d e : List Record) → (a ++ (b ++ c)) ++ (d ++ e) ≡ a ++ (b ++ (c ++ (d ++ e)))
+regroup a b c d e = append_assoc a (b ++ c) (d ++ e) ∙ ap (λ l. a ++ l) (append_assoc b c (d ++ e))
 
+module _ (t : MachineState) (valid : IsValid t.host) (plain : HasNoEmulators t.host.parts) (tables : Option Unsound) (none : tables ≡ None) (sound : t.honest ≡ true → unsoundness t.host ≡ None)
+    (fixed : GuestOf) (formed : IsFormed fixed) (kind : fixed.kind ≡ t.host.kind) (top : fixed.top ≡ top_of t.host.kind t.host.width)
+    (alike : (key : PartKey) → is_fixed key.code ≡ true → maps.get t.host.parts key ≡ maps.get fixed.parts key) (old mid sent new : Option (List ℕ)) (opened : Appends old mid (text_before fixed))
+    (s : FramesSaved mid sent t tables) (closed : ClosesStream t.host sent new) where
   abbrev before : List Record
-  before = static_bodies policies
+  before = first_records fixed
 
   abbrev pages : List Record
   pages = map telling_record s.batches
 
-  abbrev behind : List Record
-  behind = closing_records settings closed.front
-
   abbrev last : List Record
-  last = behind ++ (0, []) ∷ []
+  last = closed.behind ++ (0, []) ∷ []
 
   abbrev text : List ℕ
   text = headers t.host.kind ++ text_of (before ++ (pages ++ last))
 
-  text_is : save_opening policies ++ (text_of pages ++ text_of last) ≡ text
+  text_is : text_before fixed ++ (text_of pages ++ text_of last) ≡ text
   text_is =
-      append_assoc (headers Hvm) (text_of before) (text_of pages ++ text_of last)
-      ∙ ap (λ (k : Kind). headers k ++ (text_of before ++ (text_of pages ++ text_of last))) (sym hvm)
+      append_assoc (headers fixed.kind) (text_of before) (text_of pages ++ text_of last)
+      ∙ ap (λ (k : Kind). headers k ++ (text_of before ++ (text_of pages ++ text_of last))) kind
       ∙ ap (λ l. headers t.host.kind ++ l) (ap (λ l. text_of before ++ l) (sym (text_join pages last)) ∙ sym (text_join before (pages ++ last)))
 
   was_appended : Appends old new text
   was_appended = subst (Appends old new) text_is (Appends-trans old mid new _ _ opened (Appends-trans mid sent new _ _ s.written.wrote.appended closed.appended))
 
-  image_is : batched (view t.host) (map telling_frames s.batches) ≡ text
-  image_is =
-      let v = hvm_view t.host in
-      let static = policies_seen t.host policies alike in
-      let closing = last_seen t.host valid closed.front closed.is in
-      let told = records_are s.batches in
-      ap (λ (g : GuestOf). batched g (map telling_frames s.batches)) (hvm_viewed t.host hvm)
-      ∙ ap (λ (k : Kind). headers t.host.kind ++ text_of (batched_bodies k v (map telling_frames s.batches))) hvm
-      ∙ (λ i. headers t.host.kind ++ text_of (static i ++ (told i ++ (closing i ++ (0, []) ∷ []))))
+  -- the records of its view, with those of the frames in place of its own
+  image_is : unsoundness t.host ≡ None → batched (view t.host) (map telling_frames s.batches) ≡ text
+  image_is faultless =
+      let v = view t.host in let told = records_are s.batches in let first = first_seen t.host fixed top alike kind in
+      let closing = ap (λ (k : Kind). last_records k v) (viewed_kind t.host) ∙ sym (closed.seen faultless) in
+      (λ i. headers v.kind ++ text_of (info_records v.kind ++ (static_bodies v ++ (p2m_records v.kind v ++ (told i ++ (closing i ++ (0, []) ∷ []))))))
+      ∙ ap (λ rs. headers v.kind ++ text_of rs) (sym (regroup (info_records v.kind) (static_bodies v) (p2m_records v.kind v) pages last))
+      ∙ ap (λ rs. headers v.kind ++ text_of (rs ++ (pages ++ last))) first
+      ∙ ap (λ (k : Kind). headers k ++ text_of (before ++ (pages ++ last))) (viewed_kind t.host)
 
   image_accepted : t.honest ≡ true → (rest : List ℕ) → Accepted (text ++ rest) (view t.host) rest
   image_accepted honest rest =
-      subst (λ l. Accepted (l ++ rest) (view t.host) rest) image_is
-      (saved_is_viewed t.host s.batches rest valid ((sound_is_faultless t.host).1 faultless) plain s.sized s.told (omega (arith, s.few)) (s.means honest refl))
+      let faultless = sound honest in
+      subst (λ l. Accepted (l ++ rest) (view t.host) rest) (image_is faultless)
+      (saved_is_viewed t.host s.batches rest valid ((sound_is_faultless t.host).1 faultless) plain s.sized s.told (omega (arith, s.few)) (s.means honest none))
 
   pub save_is_stream : SaveWritten old new t
   save_is_stream = record {
     before = before;
     batches = s.batches;
-    behind = behind;
+    behind = closed.behind;
     text = text;
     is = refl;
     appended = was_appended;
-    others = others_are (before ++ behind) (both_all IsOther before behind (static_within policies formed) (closing_within settings (kept_formed t.host valid hvm is_setting refl) closed.front (front_short t.host valid closed.front closed.is)));
+    others = both_all IsOtherRecord before closed.behind (others_are before (first_within fixed formed)) closed.others;
     order = s.order;
     means = λ honest rest. bare_stream (text ++ rest) (view t.host) rest (image_accepted honest rest);
   }

@@ -9,9 +9,11 @@ use Rattle.std.specs.Io.KnownBytes.{Appends, append_known}
 use Rattle.std.proofs.KnownBytes.{Appends-trans}
 use Rattle.mig_bytes.specs.declared.failure.WriteFailed.{WriteFailed}
 use Rattle.mig_bytes.specs.Bytes.{AppendsPart, Puts}
+use Rattle.mig_headers.specs.declared.kind.Kind.{Kind}
 use Rattle.mig_guest.specs.Guests.{GuestOf}
 use Rattle.mig_records.specs.Records.{spelled}
-use Rattle.mig_canon.specs.Canon.{Record, records_of, records_in_order, text_of}
+use Rattle.mig_canon.specs.Canon.{Record, headers, info_records, static_bodies, p2m_records, records_of, records_in_order, text_of}
+use Rattle.mig_saved.specs.Around.{text_before}
 use Rattle.mig_canon.proofs.Spelling.{text_join, text_one, codes_alone}
 use Rattle.mig_pagesink.specs.Written.{IsShortRecord, AreRecordsWithin, WroteSome, LeavesPart}
 use Rattle.mig_pagesink.proofs.Written.{all_behind, some_behind, none_of_next}
@@ -80,6 +82,14 @@ part_behind start now text rs (n, less, a) = elim (either n (length text)) [
       let both = appends_first start now text (take k (text_of rs)) (subst (Appends start now) (ap (λ m. take m (text ++ text_of rs)) is ∙ take-append-add text (text_of rs) k) a) in
       inr (both.0, (k, omega (arith, less, is, length-append text (text_of rs)), both.1))
 ]
+
+-- ---- what stands before the frames
+
+pub before_text : (g : GuestOf) (k : Kind) → k ≡ g.kind → text_before g ≡ headers k ++ (text_of (info_records g.kind) ++ (text_of (static_bodies g) ++ text_of (p2m_records g.kind g)))
+before_text g k is =
+    let behind = static_bodies g ++ p2m_records g.kind g in
+    ap (λ l. headers g.kind ++ l) (text_join (info_records g.kind) behind ∙ ap (λ l. text_of (info_records g.kind) ++ l) (text_join (static_bodies g) (p2m_records g.kind g)))
+    ∙ ap (λ (k : Kind). headers k ++ (text_of (info_records g.kind) ++ (text_of (static_bodies g) ++ text_of (p2m_records g.kind g)))) (sym is)
 
 -- ---- what stands behind the frames
 

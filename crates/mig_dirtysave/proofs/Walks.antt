@@ -1,7 +1,5 @@
 -- A walk over the keys of a machine's parts, in their order: what was passed, and what is left.
 use Rattle.mig_guest.proofs.Common.{◌≡◌, ℕ, ◌<◌, ◌≤◌, List, [], ◌∷◌, length, filter, Bool, true, false, cond, Option, Some, None, IsSome, IfSome, refl, sym, ap, subst, ◌∙◌, arith, find, eq_by_cmp, is_eq, is_lt, Ordering, Less, Equal, Greater, get-insert, get-retain_keys, same_map, eq_by_cmp_equiv, option_map, part_cmp, IsAbove, Part, PartMap}
-use Rattle.std.specs.Prelude.{◌==◌, ◌||◌}
-use Rattle.std.proofs.lemmas.Bool.{eq-eqb, ne_eqb}
 use Rattle.std.specs.Ordering.{ordering_reverse}
 use Rattle.std.specs.FinMap as maps
 use Rattle.mig_guest.specs.declared.part_key.PartKey.{PartKey}
@@ -9,7 +7,8 @@ use Rattle.mig_guest.proofs.KeyedMaps.{tied}
 use Rattle.mig_guest.proofs.PartCursor.{less, not_itself}
 use Rattle.mig_guest.proofs.PartOrder.{part_total, part_exact}
 use Rattle.mig_guest.specs.Guests.{GuestOf}
-use Rattle.mig_dirtysave.specs.Saver.{is_one_of, is_setting, kept_parts, parts_alone, part_len, SameSettings}
+use Rattle.mig_headers.specs.declared.kind.Kind.{Kind}
+use Rattle.mig_dirtysave.specs.Saver.{is_setting, kept_parts, parts_alone, part_len, SameSettings}
 
 -- the key is still ahead
 abbrev pub is_above : Option PartKey → PartKey → Bool
@@ -129,8 +128,8 @@ pub kept_at : (codes : ℕ → Bool) (m : PartMap) (q : PartKey) → maps.get (k
 kept_at codes m q = get-retain_keys m (λ (key : PartKey). codes key.code) q (λ x e. ap (λ (key : PartKey). codes key.code) (sym (part_exact q x e)))
 
 -- a guest that has the parts of these codes has them as the map has them
-pub kept_same : (codes : ℕ → Bool) (m : PartMap) (g : GuestOf) → g ≡ parts_alone (kept_parts codes m) → (key : PartKey) → codes key.code ≡ true → maps.get m key ≡ maps.get g.parts key
-kept_same codes m g is key of = sym (ap (λ (k : GuestOf). maps.get k.parts key) is ∙ kept_at codes m key ∙ ap (λ b. cond b (maps.get m key) None) of)
+pub kept_same : (codes : ℕ → Bool) (kind : Kind) (width : ℕ) (m : PartMap) (g : GuestOf) → g ≡ parts_alone kind width (kept_parts codes m) → (key : PartKey) → codes key.code ≡ true → maps.get m key ≡ maps.get g.parts key
+kept_same codes kind width m g is key of = sym (ap (λ (k : GuestOf). maps.get k.parts key) is ∙ kept_at codes m key ∙ ap (λ b. cond b (maps.get m key) None) of)
 
 -- of the keys that were passed the parts of these codes are copied, and of those ahead none is
 pub record Copied (codes : ℕ → Bool) (m : PartMap) (after : Option PartKey) (g : PartMap) : Type 0 where
@@ -247,44 +246,29 @@ refreshed_all m after g none r = same_map part_total part_exact g (kept_parts is
 
 -- ---- the guest that is walked for
 
-pub bare_from : (g : GuestOf) (m : PartMap) → g ≡ parts_alone m → g ≡ parts_alone g.parts
-bare_from g m is = is ∙ ap parts_alone (sym (ap (λ (k : GuestOf). k.parts) is))
+pub bare_from : (kind : Kind) (width : ℕ) (g : GuestOf) (m : PartMap) → g ≡ parts_alone kind width m → g ≡ parts_alone kind width g.parts
+bare_from kind width g m is = is ∙ ap (parts_alone kind width) (sym (ap (λ (k : GuestOf). k.parts) is))
 
 -- a part that is set in such a guest
-set_in : (g k : GuestOf) (key : PartKey) (bytes : List ℕ) → g ≡ parts_alone g.parts → k ≡ record g { parts = maps.insert g.parts key bytes } → k ≡ parts_alone (maps.insert g.parts key bytes)
-set_in g k key bytes bare is = is ∙ ap (λ (x : GuestOf). record x { parts = maps.insert g.parts key bytes }) bare
+set_in : (kind : Kind) (width : ℕ) (g k : GuestOf) (key : PartKey) (bytes : List ℕ) → g ≡ parts_alone kind width g.parts → k ≡ record g { parts = maps.insert g.parts key bytes } → k ≡ parts_alone kind width (maps.insert g.parts key bytes)
+set_in kind width g k key bytes bare is = is ∙ ap (λ (x : GuestOf). record x { parts = maps.insert g.parts key bytes }) bare
 
-module _ (m : PartMap) (after : Option PartKey) (key : PartKey) (next : IsNextKey m after key) (there : IsSome (maps.get m key)) (g k : GuestOf) (bare : g ≡ parts_alone g.parts)
+module _ (m : PartMap) (after : Option PartKey) (key : PartKey) (next : IsNextKey m after key) (there : IsSome (maps.get m key)) (kind : Kind) (width : ℕ) (g k : GuestOf) (bare : g ≡ parts_alone kind width g.parts)
     (set : IfSome (maps.get m key) (λ bytes. k ≡ record g { parts = maps.insert g.parts key bytes })) where
-  pub copies_one : (codes : ℕ → Bool) → codes key.code ≡ true → Copied codes m after g.parts → (k ≡ parts_alone k.parts) × Copied codes m (Some key) k.parts
+  pub copies_one : (codes : ℕ → Bool) → codes key.code ≡ true → Copied codes m after g.parts → (k ≡ parts_alone kind width k.parts) × Copied codes m (Some key) k.parts
   copies_one codes of copied = by (maps.get m key) refl there set
     where
-      by : (o : Option (List ℕ)) → maps.get m key ≡ o → IsSome o → IfSome o (λ bytes. k ≡ record g { parts = maps.insert g.parts key bytes }) → (k ≡ parts_alone k.parts) × Copied codes m (Some key) k.parts
+      by : (o : Option (List ℕ)) → maps.get m key ≡ o → IsSome o → IfSome o (λ bytes. k ≡ record g { parts = maps.insert g.parts key bytes }) → (k ≡ parts_alone kind width k.parts) × Copied codes m (Some key) k.parts
       by None at some is = absurd (cc)
       by (Some bytes) at some is =
-          let whole = set_in g k key bytes bare is in
-          (bare_from k _ whole, subst (Copied codes m (Some key)) (sym (ap (λ (x : GuestOf). x.parts) is)) (copied_one codes m after key next g.parts copied bytes of at))
+          let whole = set_in kind width g k key bytes bare is in
+          (bare_from kind width k _ whole, subst (Copied codes m (Some key)) (sym (ap (λ (x : GuestOf). x.parts) is)) (copied_one codes m after key next g.parts copied bytes of at))
 
-  pub refreshes_one : is_setting key.code ≡ true → Refreshed m after g.parts → (k ≡ parts_alone k.parts) × Refreshed m (Some key) k.parts
+  pub refreshes_one : is_setting key.code ≡ true → Refreshed m after g.parts → (k ≡ parts_alone kind width k.parts) × Refreshed m (Some key) k.parts
   refreshes_one of refreshed = by (maps.get m key) refl there set
     where
-      by : (o : Option (List ℕ)) → maps.get m key ≡ o → IsSome o → IfSome o (λ bytes. k ≡ record g { parts = maps.insert g.parts key bytes }) → (k ≡ parts_alone k.parts) × Refreshed m (Some key) k.parts
+      by : (o : Option (List ℕ)) → maps.get m key ≡ o → IsSome o → IfSome o (λ bytes. k ≡ record g { parts = maps.insert g.parts key bytes }) → (k ≡ parts_alone kind width k.parts) × Refreshed m (Some key) k.parts
       by None at some is = absurd (cc)
       by (Some bytes) at some is =
-          let whole = set_in g k key bytes bare is in
-          (bare_from k _ whole, subst (Refreshed m (Some key)) (sym (ap (λ (x : GuestOf). x.parts) is)) (refreshed_one m after key next g.parts refreshed bytes of at))
-
--- ---- one of two codes
-
-pub of_first : (first second code : ℕ) → code ≡ first → is_one_of first second code ≡ true
-of_first first second code is = ap (λ b. b || (code == second)) (eq-eqb code first is)
-
-pub of_second : (first second code : ℕ) → code ≡ second → is_one_of first second code ≡ true
-of_second first second code is = ap (λ b. (code == first) || b) (eq-eqb code second is) ∙ or_true (code == first)
-  where
-    or_true : (b : Bool) → (b || true) ≡ true
-    or_true true = refl
-    or_true false = refl
-
-pub of_none : (first second code : ℕ) → (code ≡ first → ⊥) → (code ≡ second → ⊥) → is_one_of first second code ≡ false
-of_none first second code one two = ap (λ b. b || (code == second)) (ne_eqb code first one) ∙ ne_eqb code second two
+          let whole = set_in kind width g k key bytes bare is in
+          (bare_from kind width k _ whole, subst (Refreshed m (Some key)) (sym (ap (λ (x : GuestOf). x.parts) is)) (refreshed_one m after key next g.parts refreshed bytes of at))

@@ -1,10 +1,10 @@
 -- What a save writes around the frames.
 use Rattle.std.specs.Prelude.{◌≡◌, ℕ, ◌+◌, ◌≤◌, List, [], ◌∷◌, ◌++◌, length, take, replicate, Option, Some, None, Result, Ok, Err}
+use Rattle.std.specs.List.{AllByRecursion}
 use Rattle.std.specs.Option.{option_map}
 use Rattle.std.specs.FinMap as maps
 use Rattle.std.specs.Io.KnownBytes.{Appends}
 use Rattle.mig_headers.specs.Contexts.{scan}
-use Rattle.mig_headers.specs.declared.kind.Kind.TheVariants.{Hvm}
 use Rattle.mig_headers.specs.declared.unsound.Unsound.{Unsound}
 use Rattle.mig_headers.specs.declared.unsound.Unsound.TheVariants as unsounds
 use Rattle.mig_guest.specs.declared.part_code.PartCode.{PartCode}
@@ -13,17 +13,14 @@ use Rattle.mig_guest.specs.Guests.{GuestOf}
 use Rattle.mig_guest.specs.Hosts.{HostOf}
 use Rattle.mig_guest.specs.Parts.{PartMap}
 use Rattle.mig_guest.specs.PartKeys.{context_key}
-use Rattle.mig_canon.specs.Canon.{Record, headers, static_bodies, records_in_order, text_of}
+use Rattle.mig_canon.specs.Canon.{Record, records_in_order, last_records, text_of}
 use Rattle.mig_pagesink.specs.Written.{WroteAll, WroteSome}
 use Rattle.mig_pvtables.specs.Faults.{first_cause}
-use Rattle.mig_hosted.specs.Sound.{absent, find_context_fault}
-use Rattle.mig_dirtysave.specs.Saver.{is_setting, kept_parts, parts_alone}
+use Rattle.mig_hosted.specs.Sound.{absent, find_context_fault, unsoundness}
+use Rattle.mig_hosted.specs.View.{view}
+use Rattle.mig_dirtysave.specs.SaveAnswers.{IsOtherRecord}
 
--- the headers, the policies and STATIC_DATA_END
-abbrev pub save_opening : GuestOf → List ℕ
-save_opening policies = headers Hvm ++ text_of (static_bodies policies)
-
--- the TSC and the parameters
+-- of an HVM guest the TSC and the parameters
 abbrev pub setting_codes : List PartCode
 setting_codes = Tsc ∷ HvmParam ∷ []
 
@@ -31,7 +28,7 @@ setting_codes = Tsc ∷ HvmParam ∷ []
 abbrev pub context_record : List ℕ → Record
 context_record front = (9, front ++ replicate 8 0)
 
--- the settings and the context
+-- of an HVM guest the settings and the context
 abbrev pub closing_records : GuestOf → List ℕ → List Record
 closing_records settings front = records_in_order setting_codes settings ++ context_record front ∷ []
 
@@ -57,8 +54,10 @@ judged_with tables parts = first_cause (absent parts context_key ∷ tables ∷ 
 abbrev pub StopsBehind : Option (List ℕ) → Option (List ℕ) → Type 0
 StopsBehind old new = (start : Option (List ℕ)) (rs : List Record) → WroteAll start old rs → (more : List Record) × WroteSome start new (rs ++ more)
 
--- what stands behind the frames of this host was written, END the last
+-- Records were written that are neither END nor have frames, and END behind them. Where nothing is in the way of seeing the
+-- host as a guest, they are those that the canonical image of this guest has behind its frames.
 pub record ClosesStream (h : HostOf) (old new : Option (List ℕ)) : Type 0 where
-  pub front : List ℕ
-  pub is : IsContextFront h.parts front
-  pub appended : Appends old new (text_of (closing_records (parts_alone (kept_parts is_setting h.parts)) front ++ (0, []) ∷ []))
+  pub behind : List Record
+  pub others : AllByRecursion IsOtherRecord behind
+  pub seen : unsoundness h ≡ None → behind ≡ last_records h.kind (view h)
+  pub appended : Appends old new (text_of (behind ++ (0, []) ∷ []))

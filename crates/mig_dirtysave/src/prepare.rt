@@ -1,9 +1,11 @@
 ghost use Rattle.std.specs.Prelude.{◌≡◌, OnOk, IfOk, IfSome};
 ghost use Rattle.std.specs.FinMap as maps;
-ghost use Rattle.mig_dirtysave.specs.Saver.{is_one_of, kept_parts, parts_alone};
+ghost use Rattle.mig_guest.specs.PartCodes.{is_fixed as is_fixed_code};
+ghost use Rattle.mig_dirtysave.specs.Saver.{is_setting as is_setting_code, kept_parts, parts_alone};
 
+use crate::settings::is_setting;
 use mig_bytes::Memory;
-use mig_guest::{Guest, PartKey};
+use mig_guest::{Guest, PartKey, is_fixed};
 use mig_headers::Kind;
 use mig_machine_api::Machine;
 use std::alloc::Global;
@@ -18,22 +20,36 @@ fn copy_part<M: Machine>(guest: &mut Guest, machine: &M, key: PartKey) -> Result
     }
 }
 
-/// A guest with all parts of two codes that the machine's host has.
-pub(crate) fn copy_codes<M: Machine>(
-    alloc: Global,
-    machine: &M,
-    first: u32,
-    second: u32,
-) -> Result<Guest, Memory>
-    ensures { IfOk result (λ guest. guest ≡ parts_alone (kept_parts (is_one_of first second) (M.state machine.now).host.parts)) }
+/// A guest of the machine's kind and width that has neither frames nor parts.
+fn bare_guest<M: Machine>(alloc: Global, machine: &M) -> Guest
+    ensures { result ≡ parts_alone (M.state machine.now).host.kind (M.state machine.now).host.width maps.empty }
 {
-    let mut guest = Guest::new(alloc, Kind::Hvm);
+    let mut guest = Guest::new(alloc, machine.kind());
+    let width = machine.width();
+    match machine.kind() {
+        Kind::Pv => {
+            guest.set_top(width - 1);
+            guest
+        }
+        Kind::Hvm => guest,
+    }
+}
+
+/// Two guests: one has the parts of the machine's host that never change, the other those that may, without the context.
+pub(crate) fn copy_parts<M: Machine>(alloc: Global, machine: &M) -> Result<(Guest, Guest), Memory>
+    ensures fixed { IfOk result (λ copied. copied.0 ≡ parts_alone (M.state machine.now).host.kind (M.state machine.now).host.width (kept_parts is_fixed_code (M.state machine.now).host.parts)) }
+    ensures settings { IfOk result (λ copied. copied.1 ≡ parts_alone (M.state machine.now).host.kind (M.state machine.now).host.width (kept_parts is_setting_code (M.state machine.now).host.parts)) }
+{
+    let mut fixed = bare_guest(alloc, machine);
+    let mut settings = bare_guest(alloc, machine);
     let mut after = None;
     while let Some(key) = machine.next_key(after) {
-        if key.code == first || key.code == second {
-            copy_part(&mut guest, machine, key)?;
+        if is_fixed(key.code) {
+            copy_part(&mut fixed, machine, key)?;
+        } else if is_setting(key.code) {
+            copy_part(&mut settings, machine, key)?;
         }
         after = Some(key);
     }
-    Ok(guest)
+    Ok((fixed, settings))
 }

@@ -13,8 +13,7 @@ ghost use Rattle.mig_dirtysave.specs.SaveAnswers.{OnEnd, IfUnsound, SaveWritten,
 ghost use Rattle.mig_dirtysave.specs.declared.answer.SaveAnswer.TheVariants.{MachineFault, WriteFault};
 
 use crate::answer::{SaveAnswer, SaveReport};
-use crate::prepare::copy_codes;
-use crate::settings::{HVM_PARAM, TSC};
+use crate::prepare::copy_parts;
 use crate::steps::{close, open, send};
 use mig_bytes::{Memory, Sink};
 use mig_guest::Guest;
@@ -23,45 +22,39 @@ use mig_rounds::Room;
 use std::alloc::Global;
 use std::marker::Model;
 
-/// The numbers of the parts that never change while a guest runs: CPUID leaves and MSRs of the policy.
-const CPUID_LEAF: u32 = 17;
-
-const MSR: u32 = 18;
-
-/// What a save of an HVM machine needs, made while there may still be no memory: its policies, room for its settings, and
-/// room for the rounds.
+/// What a save needs, made while there may still be no memory: the parts of the machine's host that never change, room for
+/// those that may, and room for the rounds.
 #[derive(Drop)]
 pub struct Saver {
-    policies: Guest,
+    fixed: Guest,
     settings: Guest,
     room: Room,
 }
 
 impl Model for Saver {
-    ghost use Rattle.mig_guest.specs.Formed.{is_policy};
+    ghost use Rattle.mig_guest.specs.Formed.{IsFormed};
+    ghost use Rattle.mig_guest.specs.PartCodes.{is_fixed};
     ghost use Rattle.mig_dirtysave.specs.Saver.{SaverOf, HoldsParts, is_setting, saver_code};
 
     ghost Value = { SaverOf };
 
     ghost coded = { saver_code };
 
-    ghost view = { λ s. record { width = s.room; policies = s.policies.parts; settings = s.settings.parts } };
+    ghost view = { λ s. record { kind = s.fixed.kind; width = s.room; fixed = s.fixed.parts; settings = s.settings.parts } };
 
-    ghost invariant = { λ s. HoldsParts is_policy s.policies × HoldsParts is_setting s.settings };
+    ghost invariant = { λ s. IsFormed s.fixed × HoldsParts is_fixed s.fixed.kind s.room s.fixed × HoldsParts is_setting s.fixed.kind s.room s.settings };
 }
 
 impl Saver {
     /// Makes all that `run` needs, for a machine as it is now.
     pub fn prepare<M: Machine>(alloc: Global, machine: &M) -> Result<Saver, Memory>
-        requires hvm { (M.state machine.now).host.kind ≡ Hvm }
-        requires plain { HasNoEmulators (M.state machine.now).host.parts }
+        requires { HasNoEmulators (M.state machine.now).host.parts }
         ensures { IfOk result (λ saver. IsFor saver (M.state machine.now).host) }
     {
         let room = Room::new(alloc, machine.width())?;
-        let policies = copy_codes(alloc, machine, CPUID_LEAF, MSR)?;
-        let settings = copy_codes(alloc, machine, TSC, HVM_PARAM)?;
+        let (fixed, settings) = copy_parts(alloc, machine)?;
         Ok(Saver {
-            policies,
+            fixed,
             settings,
             room,
         })
@@ -97,11 +90,11 @@ impl Saver {
         ensures write_fault { IsErrOf result WriteFault → Rose (K.faults sink.old) (K.faults sink.new) }
     {
         let Saver {
-            policies,
+            fixed,
             settings,
             room,
         } = self;
-        open(sink, &policies)?;
+        open(sink, &fixed)?;
         let sent = send(machine, sink, room)?;
         close(machine, sink, settings, sent.unsound)?;
         Ok(SaveReport {

@@ -1,19 +1,20 @@
-ghost use Rattle.std.specs.Prelude.{◌≡◌, ◌≤◌, [], ◌∷◌, ◌++◌, ℕ, List, true, false, None, Some, OnOk, OnErr, IfOk, IsErrOf};
+ghost use Rattle.std.specs.Prelude.{◌≡◌, ◌≤◌, true, false, None, Some, OnOk, OnErr, IfOk, IsErrOf};
 ghost use Rattle.std.specs.Io.KnownBytes.{Appends};
 ghost use Rattle.mig_bytes.specs.Bytes.{AppendsPart};
 ghost use Rattle.mig_bytes.specs.Faults.{Rose};
 ghost use Rattle.mig_headers.specs.declared.kind.Kind.TheVariants.{Hvm};
+ghost use Rattle.mig_headers.specs.declared.unsound.Unsound.{Unsound as UnsoundCause};
 ghost use Rattle.mig_guest.specs.Formed.{IsFormed};
 ghost use Rattle.mig_guest.specs.Hosts.{IsValid};
 ghost use Rattle.mig_hosted.specs.Sound.{unsoundness};
-ghost use Rattle.mig_canon.specs.Canon.{text_of};
 ghost use Rattle.mig_pagesink.specs.Batches.{IsBehind};
 ghost use Rattle.mig_machine_api.specs.History.{no_history};
 ghost use Rattle.mig_machine_api.specs.MachineStates.{IsValidState};
 ghost use Rattle.mig_rounds.specs.Flags.{total};
-ghost use Rattle.mig_rounds.specs.Live.{StaysSame, HasRounds, IsTight, FramesSaved};
+ghost use Rattle.mig_rounds.specs.Live.{StaysSame, HasRounds, IsTight, FramesSaved, SawTypes, AnswersTables, IsUnsound};
+ghost use Rattle.mig_saved.specs.Around.{text_before};
 ghost use Rattle.mig_dirtysave.specs.Saver.{HoldsParts, SameSettings, is_setting};
-ghost use Rattle.mig_dirtysave.specs.SaveTexts.{save_opening, StopsBehind, ClosesStream};
+ghost use Rattle.mig_dirtysave.specs.SaveTexts.{StopsBehind, ClosesStream};
 ghost use Rattle.mig_dirtysave.specs.SaveAnswers.{IfUnsound};
 ghost use Rattle.mig_dirtysave.specs.declared.answer.SaveAnswer.TheVariants.{MachineFault, WriteFault};
 
@@ -28,14 +29,14 @@ use mig_machine_api::Machine;
 use mig_rounds::{Room, SendFault, Sent, send_frames};
 
 /// Writes what stands before the frames.
-pub(crate) fn open<K: Sink>(sink: &mut K, policies: &Guest) -> Result<(), SaveAnswer>
-    requires { IsFormed policies.now }
-    ensures opened { OnOk result (Appends (K.written sink.old) (K.written sink.new) (save_opening policies.now)) }
-    ensures part { OnErr result (AppendsPart (K.written sink.old) (K.written sink.new) (save_opening policies.now)) }
+pub(crate) fn open<K: Sink>(sink: &mut K, fixed: &Guest) -> Result<(), SaveAnswer>
+    requires { IsFormed fixed.now }
+    ensures opened { OnOk result (Appends (K.written sink.old) (K.written sink.new) (text_before fixed.now)) }
+    ensures part { OnErr result (AppendsPart (K.written sink.old) (K.written sink.new) (text_before fixed.now)) }
     ensures sink_count { K.faults sink.old ≤ K.faults sink.new }
     ensures write_fault { OnErr result (IsErrOf result WriteFault × Rose (K.faults sink.old) (K.faults sink.new)) }
 {
-    match write_before(sink, policies) {
+    match write_before(sink, fixed) {
         Ok(()) => Ok(()),
         Err(_) => Err(SaveAnswer::WriteFault),
     }
@@ -48,24 +49,25 @@ fn host_is_valid<M: Machine>(machine: &M)
     let _width = machine.width();
 }
 
-/// Sends the frames and pauses the machine. Nothing is found wrong with the tables of an HVM host, which has none.
+/// Sends the frames and pauses the machine.
 pub(crate) fn send<M: Machine, K: Sink>(
     machine: &mut M,
     sink: &mut K,
     room: Room,
 ) -> Result<Sent, SaveAnswer>
     requires width { room ≡ (M.state machine.old).host.width }
-    requires hvm { (M.state machine.old).host.kind ≡ Hvm }
     requires unpaused { (M.state machine.old).paused ≡ false }
     requires unread { (M.state machine.old).history ≡ no_history }
     ensures valid { IsValid (M.state machine.new).host }
     ensures paused { OnOk result ((M.state machine.new).paused ≡ true) }
     ensures rounds { OnOk result (HasRounds (M.state machine.new)) }
-    ensures tight { OnOk result (IsTight (M.state machine.new)) }
+    ensures tight { IfOk result (λ sent. sent.unsound ≡ None → IsTight (M.state machine.new)) }
     ensures report { IfOk result (λ sent. sent.rounds ≡ (M.state machine.new).history.live) }
     ensures entries { IfOk result (λ sent. sent.entries ≡ total (M.state machine.new).host.width (M.state machine.new).history) }
-    ensures frames { OnOk result (FramesSaved (K.written sink.old) (K.written sink.new) (M.state machine.new) None) }
-    ensures sound { IfOk result (λ sent. sent.unsound ≡ None) }
+    ensures frames { IfOk result (λ sent. FramesSaved (K.written sink.old) (K.written sink.new) (M.state machine.new) sent.unsound) }
+    ensures types { IfOk result (λ sent. SawTypes sent.types.items (M.state machine.new)) }
+    ensures first { IfOk result (λ sent. AnswersTables (M.state machine.new) sent.unsound) }
+    ensures named { IfOk result (λ sent. (u : UnsoundCause) → sent.unsound ≡ Some u → IsUnsound (M.state machine.new).host.frames u) }
     ensures behind { OnErr result (IsBehind (K.written sink.old) (K.written sink.new) (total (M.state machine.old).host.width (M.state machine.new).history)) }
     ensures kept { StaysSame (M.state machine.old) (M.state machine.new) }
     ensures later { M.Later machine.old machine.new }
@@ -85,18 +87,20 @@ pub(crate) fn send<M: Machine, K: Sink>(
     }
 }
 
-/// Judges the host of the paused machine, and writes what stands behind the frames, END the last.
+/// Judges the host of a paused HVM machine, and writes what stands behind the frames, END the last. `tables` is what was
+/// found wrong with its tables.
 pub(crate) fn close<M: Machine, K: Sink>(
     machine: &M,
     sink: &mut K,
     mut settings: Guest,
     tables: Option<Unsound>,
 ) -> Result<(), SaveAnswer>
-    requires held { HoldsParts is_setting settings }
+    requires held { HoldsParts is_setting (M.state machine.now).host.kind (M.state machine.now).host.width settings }
     requires same { SameSettings (M.state machine.now).host.parts settings.parts }
     requires valid { IsValid (M.state machine.now).host }
     requires hvm { (M.state machine.now).host.kind ≡ Hvm }
-    requires sound { tables ≡ None }
+    requires named { (u : UnsoundCause) → tables ≡ Some u → IsUnsound (M.state machine.now).host.frames u }
+    ensures none { OnOk result (tables ≡ None) }
     ensures closed { OnOk result (ClosesStream (M.state machine.now).host (K.written sink.old) (K.written sink.new)) }
     ensures sound { OnOk result (unsoundness (M.state machine.now).host ≡ None) }
     ensures first { IfUnsound result (λ u. unsoundness (M.state machine.now).host ≡ Some u) }

@@ -5,13 +5,13 @@ ghost use Rattle.mig_bytes.specs.Faults.{HasCause};
 ghost use Rattle.mig_headers.specs.RecordTypes.{most_body};
 ghost use Rattle.mig_guest.specs.Formed.{IsFormed};
 ghost use Rattle.mig_records.specs.Records.{spelled};
-ghost use Rattle.mig_canon.specs.Canon.{text_of};
-ghost use Rattle.mig_dirtysave.specs.SaveTexts.{save_opening, context_record, closing_records, StopsBehind};
+ghost use Rattle.mig_canon.specs.Canon.{static_bodies, text_of};
+ghost use Rattle.mig_saved.specs.Around.{text_before};
+ghost use Rattle.mig_dirtysave.specs.SaveTexts.{context_record, closing_records, StopsBehind};
 
 use mig_bytes::{Sink, WriteFailed, put_all};
-use mig_canon::{write_codes, write_headers};
+use mig_canon::{write_codes, write_headers, write_info, write_p2m_frames};
 use mig_guest::{Guest, PartCode};
-use mig_headers::Kind;
 use mig_pagesink::write_end;
 use mig_records::{write_head, write_padding, write_record};
 
@@ -21,15 +21,26 @@ const STATIC_DATA_END: u32 = 0x10;
 /// The type of HVM_CONTEXT, which is the number of its part too.
 pub(crate) const HVM_CONTEXT: u32 = 9;
 
-/// Appends the headers, the policies and STATIC_DATA_END.
-pub(crate) fn write_before<K: Sink>(sink: &mut K, policies: &Guest) -> Result<(), WriteFailed>
-    requires { IsFormed policies.now }
-    ensures bytes { Puts (save_opening policies.now) (K.written sink.old) (K.written sink.new) result }
+/// Appends the policies and STATIC_DATA_END.
+fn write_policies<K: Sink>(sink: &mut K, fixed: &Guest) -> Result<(), WriteFailed>
+    requires { IsFormed fixed.now }
+    ensures bytes { Puts (text_of (static_bodies fixed.now)) (K.written sink.old) (K.written sink.new) result }
     ensures cause { HasCause (K.faults sink.old) (K.faults sink.new) result }
 {
-    write_headers(sink, Kind::Hvm)?;
-    write_codes(sink, policies, &[PartCode::CpuidLeaf, PartCode::Msr])?;
+    write_codes(sink, fixed, &[PartCode::CpuidLeaf, PartCode::Msr])?;
     write_record(sink, STATIC_DATA_END, &[])
+}
+
+/// Appends what stands before the frames: the headers, the policies, and of a PV guest its P2M frames.
+pub(crate) fn write_before<K: Sink>(sink: &mut K, fixed: &Guest) -> Result<(), WriteFailed>
+    requires { IsFormed fixed.now }
+    ensures bytes { Puts (text_before fixed.now) (K.written sink.old) (K.written sink.new) result }
+    ensures cause { HasCause (K.faults sink.old) (K.faults sink.new) result }
+{
+    write_headers(sink, fixed.kind())?;
+    write_info(sink, fixed)?;
+    write_policies(sink, fixed)?;
+    write_p2m_frames(sink, fixed)
 }
 
 /// Appends the record of a context: its entries before END, and an END of zeros.
@@ -45,7 +56,7 @@ fn write_context<K: Sink>(sink: &mut K, front: &[u8]) -> Result<(), WriteFailed>
     write_padding(sink, len)
 }
 
-/// Appends the settings and the context.
+/// Appends the settings and the context of an HVM guest.
 fn write_behind<K: Sink>(sink: &mut K, settings: &Guest, front: &[u8]) -> Result<(), WriteFailed>
     requires formed { IsFormed settings.now }
     requires short { length front.now + 8 ≤ most_body }
@@ -56,7 +67,7 @@ fn write_behind<K: Sink>(sink: &mut K, settings: &Guest, front: &[u8]) -> Result
     write_context(sink, front)
 }
 
-/// Appends the settings, the context and END.
+/// Appends the settings and the context of an HVM guest, and END.
 pub(crate) fn write_last<K: Sink>(
     sink: &mut K,
     settings: &Guest,

@@ -5,7 +5,7 @@ use Rattle.mig_dirtysave.proofs.settings.refresh.Given as goal
 
 abbrev pub invariant-loop-key : goal.invariant-loop-key
 invariant-loop-key g l = record {
-  bare : l.settings ≡ parts_alone l.settings.parts;
+  bare : l.settings ≡ parts_alone (g.M.Machine.state l.machine).host.kind (g.M.Machine.state l.machine).host.width l.settings.parts;
   refreshed : Refreshed (g.M.Machine.state l.machine).host.parts l.after l.settings.parts;
 }
 

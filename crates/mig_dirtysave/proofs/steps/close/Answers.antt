@@ -1,19 +1,34 @@
 use Rattle.std.proofs.Common.{refl, sym, subst, ◌∙◌}
 use Rattle.mig_guest.specs.Formed.{IsFormed}
+use Rattle.mig_guest.specs.Hosts.{HostOf}
 use Rattle.mig_dirtysave.specs.Saver.{is_setting}
-use Rattle.mig_dirtysave.proofs.Codes.{kept_formed}
-use Rattle.mig_dirtysave.proofs.Rows.{hvm_judged}
+use Rattle.mig_dirtysave.proofs.Codes.{kept_formed, no_pv}
+use Rattle.mig_dirtysave.proofs.Rows.{hvm_judged, no_table_fault}
+use Rattle.mig_dirtysave.proofs.Streams.{hvm_closes}
 use Rattle.mig_dirtysave.proofs.Texts.{nothing_stops}
 use Rattle.mig_dirtysave.proofs.steps.close.Goals as goal
 
 pub returns-in-Err-clause-first : goal.returns-in-Err-clause-first
-returns-in-Err-clause-first g c = hvm_judged (g.M.Machine.state c.args.machine.now).host c.requires.valid c.requires.hvm c.args.tables c.requires.sound ∙ sym c.in-Err.ensures.first
+returns-in-Err-clause-first g c =
+    let h = (g.M.Machine.state c.args.machine.now).host in
+    hvm_judged h c.requires.valid c.requires.hvm c.args.tables (no_table_fault h c.requires.valid c.requires.hvm c.args.tables c.requires.named) ∙ sym c.in-Err.ensures.first
 
 pub returns-in-Err-clause-stops : goal.returns-in-Err-clause-stops
 returns-in-Err-clause-stops g c = nothing_stops (g.K.Sink.written c.args.sink.now)
 
 pub write_last-requires-clause-formed : goal.write_last-requires-clause-formed
-write_last-requires-clause-formed g c = subst IsFormed (sym c.refresh.ensures) (kept_formed (g.M.Machine.state c.args.machine.now).host c.requires.valid c.requires.hvm is_setting refl)
+write_last-requires-clause-formed g c =
+    let h = (g.M.Machine.state c.args.machine.now).host in
+    subst IsFormed (sym c.refresh.ensures) (kept_formed h c.requires.valid is_setting refl (no_pv h is_setting c.requires.hvm))
+
+pub returns-in-Ok-write_last-clause-none : goal.returns-in-Ok-write_last-clause-none
+returns-in-Ok-write_last-clause-none g c = no_table_fault (g.M.Machine.state c.args.machine.now).host c.requires.valid c.requires.hvm c.args.tables c.requires.named
+
+pub returns-in-Ok-write_last-clause-closed : goal.returns-in-Ok-write_last-clause-closed
+returns-in-Ok-write_last-clause-closed g c =
+    hvm_closes (g.M.Machine.state c.args.machine.now).host c.requires.valid c.requires.hvm c.in-Ok.front.now c.in-Ok.ensures.front c.refresh.new.settings _ _ c.refresh.ensures c.in-Ok-write_last.ensures.closed
 
 pub returns-in-Ok-write_last-clause-sound : goal.returns-in-Ok-write_last-clause-sound
-returns-in-Ok-write_last-clause-sound g c = hvm_judged (g.M.Machine.state c.args.machine.now).host c.requires.valid c.requires.hvm c.args.tables c.requires.sound ∙ sym c.in-Ok.ensures.first
+returns-in-Ok-write_last-clause-sound g c =
+    let h = (g.M.Machine.state c.args.machine.now).host in
+    hvm_judged h c.requires.valid c.requires.hvm c.args.tables (no_table_fault h c.requires.valid c.requires.hvm c.args.tables c.requires.named) ∙ sym c.in-Ok.ensures.first
