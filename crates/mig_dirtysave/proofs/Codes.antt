@@ -47,7 +47,7 @@ from_cond : (b : Bool) (o : Option (List ℕ)) (bytes : List ℕ) → cond b o N
 from_cond true o bytes is = (refl, is)
 from_cond false o bytes is = let no : ◌≡◌ {A = Option (List ℕ)} None (Some bytes) = is in cc
 
-from_kept : (codes : ℕ → Bool) (m : PartMap) (key : PartKey) (bytes : List ℕ) → maps.get (kept_parts codes m) key ≡ Some bytes → (codes key.code ≡ true) × (maps.get m key ≡ Some bytes)
+pub from_kept : (codes : ℕ → Bool) (m : PartMap) (key : PartKey) (bytes : List ℕ) → maps.get (kept_parts codes m) key ≡ Some bytes → (codes key.code ≡ true) × (maps.get m key ≡ Some bytes)
 from_kept codes m key bytes is = from_cond (codes key.code) (maps.get m key) bytes (sym (kept_at codes m key) ∙ is)
 
 -- an HVM host is no PV host
@@ -106,12 +106,12 @@ abbrev pub first_records : GuestOf → List Record
 first_records g = info_records g.kind ++ (static_bodies g ++ p2m_records g.kind g)
 
 -- guests that are alike at the keys of a code have the same records of it
-same_records : (code : PartCode) (g k : GuestOf) → ((q : PartKey) → q.code ≡ code_number code → maps.get g.parts q ≡ maps.get k.parts q) → records_of code g ≡ records_of code k
+pub same_records : (code : PartCode) (g k : GuestOf) → ((q : PartKey) → q.code ≡ code_number code → maps.get g.parts q ≡ maps.get k.parts q) → records_of code g ≡ records_of code k
 same_records code g k alike = ap (λ (ps : List Part). map (λ (body : List ℕ). (code_number code, body)) (canonical_bodies code ps)) (same_parts (code_number code) g.parts k.parts alike)
 
 module _ (h : HostOf) where
   -- the host's view, by its kind
-  abbrev seen_as : Kind → GuestOf
+  abbrev pub seen_as : Kind → GuestOf
   seen_as k = normalised_of k (pfn_in h.frames) (guest_in h)
 
   -- its parts stay, but for contexts and the shared page
@@ -233,7 +233,7 @@ p2m_by Hvm top o = []
 p2m_by Pv top o = p2m_record top o
 
 module _ (g : GuestOf) (formed : IsFormed g) where
-  code_within : (code : PartCode) → code_number code < 2 ^ 32 → code_number code ≢ 0 → code_number code ≢ 1 → AllByRecursion IsOther (records_of code g)
+  pub code_within : (code : PartCode) → code_number code < 2 ^ 32 → code_number code ≢ 0 → code_number code ≢ 1 → AllByRecursion IsOther (records_of code g)
   code_within code small no_end no_page = bodies_within code small no_end no_page (canonical_bodies code (parts_at code g)) (contents_by_shape (shape_of code) (parts_at code g)) (canonical_bodies_say code g formed)
 
   two_within : (a b : PartCode) (last : Record) → AllByRecursion IsOther (records_of a g) → AllByRecursion IsOther (records_of b g) → IsOther last → AllByRecursion IsOther (records_in_order (a ∷ b ∷ []) g ++ last ∷ [])

@@ -4,3 +4,6 @@ pub mod Codes
 pub mod Texts
 pub mod Ends
 pub mod Streams
+pub mod PvSettings
+pub mod PvRows
+pub mod Looked

@@ -5,7 +5,7 @@ use Rattle.std.specs.Option.{option_map}
 use Rattle.std.specs.Io.KnownBytes.{Appends}
 use Rattle.std.proofs.KnownBytes.{Appends-trans}
 use Rattle.mig_headers.specs.declared.kind.Kind.{Kind}
-use Rattle.mig_headers.specs.declared.kind.Kind.TheVariants.{Hvm}
+use Rattle.mig_headers.specs.declared.kind.Kind.TheVariants.{Pv, Hvm}
 use Rattle.mig_headers.specs.declared.unsound.Unsound.{Unsound}
 use Rattle.mig_guest.specs.Formed.{IsFormed, HasNoEmulators, is_emulator_code}
 use Rattle.mig_guest.specs.Guests.{GuestOf}
@@ -33,8 +33,9 @@ use Rattle.mig_rounds.specs.Live.{StaysSame, FramesSaved}
 use Rattle.mig_saved.proofs.Viewed.{saved_is_viewed}
 use Rattle.mig_saved.specs.Around.{text_before}
 use Rattle.mig_dirtysave.specs.Saver.{SaverOf, IsFor, HoldsParts, is_setting, kept_parts, parts_alone}
-use Rattle.mig_dirtysave.specs.SaveTexts.{IsContextFront, closing_records, ClosesStream}
+use Rattle.mig_dirtysave.specs.SaveTexts.{IsContextFront, closing_records, settings_seen, ClosesStream}
 use Rattle.mig_dirtysave.specs.SaveAnswers.{IsOtherRecord, SaveWritten}
+use Rattle.mig_dirtysave.proofs.PvSettings.{pv_last_seen, pv_last_within}
 use Rattle.mig_dirtysave.proofs.Codes.{IsOther, both_all, closing_within, first_records, first_seen, first_within, front_short, kept_formed, last_seen, no_pv, viewed_kind}
 
 -- an image by itself is a stream
@@ -102,6 +103,16 @@ module _ (h : HostOf) (valid : IsValid h) (hvm : h.kind ≡ Hvm) (front : List �
     seen = λ _. sym ((λ i. last_records (hvm i) (hvm_viewed h hvm i)) ∙ last_seen h valid front f);
     appended = subst (λ (k : GuestOf). Appends old new (text_of (closing_records k front ++ (0, []) ∷ []))) is a;
   }
+
+-- ---- behind the frames of a PV host
+
+pub pv_closes : (h : HostOf) → h.kind ≡ Pv → (g : GuestOf) (old new : Option (List ℕ)) → IsFormed g → g ≡ settings_seen h → Appends old new (text_of (last_records Pv g ++ (0, []) ∷ [])) → ClosesStream h old new
+pv_closes h pv g old new formed is a = record {
+  behind = last_records Pv g;
+  others = others_are (last_records Pv g) (pv_last_within g formed);
+  seen = λ _. ap (last_records Pv) is ∙ pv_last_seen h pv;
+  appended = a;
+}
 
 -- ---- the stream
 

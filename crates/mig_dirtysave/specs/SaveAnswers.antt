@@ -3,6 +3,7 @@ use Rattle.std.specs.Prelude.{◌≡◌, ◌≢◌, ◌⊎◌, ℕ, ◌+◌, ◌
 use Rattle.std.specs.List.{AllByRecursion}
 use Rattle.std.specs.Io.KnownBytes.{Appends}
 use Rattle.mig_headers.specs.declared.kind.Kind.{Kind}
+use Rattle.mig_headers.specs.declared.kind.Kind.TheVariants.{Hvm}
 use Rattle.mig_headers.specs.declared.unsound.Unsound.{Unsound}
 use Rattle.mig_canon.specs.Canon.{Record, headers, text_of}
 use Rattle.mig_pagesink.specs.Told.{FrameTold, telling_record, all_told}
@@ -27,6 +28,10 @@ IfUnsound (Ok x) P = Unit {0}
 IfUnsound (Err (answers.Unsound u)) P = P u
 IfUnsound (Err answers.MachineFault) P = Unit {0}
 IfUnsound (Err answers.WriteFault) P = Unit {0}
+
+-- the types that a saver saw last are those of the host's frames: the machine is honest, or no type is asked of an HVM host
+abbrev pub IsTrusted : MachineState → Type 0
+IsTrusted t = (t.honest ≡ true) ⊎ (t.host.kind ≡ Hvm)
 
 -- a record that is neither PAGE_DATA nor END
 pub record IsOtherRecord (r : Record) : Type 0 where

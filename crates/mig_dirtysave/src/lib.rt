@@ -1,17 +1,20 @@
-//! Saves an HVM machine whose guest runs on.
+//! Saves a machine whose guest runs on.
 //!
 //! Responsible for: what a save needs, made before it begins; what it writes before the frames and behind them, from the
-//! parts of the machine's host; judging the host once the machine is paused; and which answer comes where the machine or
-//! the sink fails. Left to others: the machine (mig_machine_api), the frames and the rounds in which they are sent
-//! (mig_rounds), the records of parts (mig_canon), and what a stream is (mig_libxl).
+//! parts of the machine's host; judging the host once the machine is paused, of an HVM machine here; and which answer comes
+//! where the machine or the sink fails. Left to others: the machine (mig_machine_api), the frames and the rounds in which
+//! they are sent (mig_rounds), judging a PV host and bringing its contexts to their form in a stream (mig_pause), the
+//! records of parts (mig_canon), and what a stream is (mig_libxl).
 //!
 //! What the layers above rely on: over an honest machine what `run` wrote is accepted, whatever follows it, and its guest is
-//! what the paused host is seen as. Over any machine the host is judged as it is in the end, and the rounds are those of the
+//! what the paused host is seen as. An HVM host is judged as it is in the end, over any machine; a PV host over an honest
+//! one, and over any machine what is answered and doesn't speak of types stands in it. The rounds are those of the
 //! definition. After every answer but `Ok` no front of what was written is an accepted stream, and at most 1024 of the frame
 //! numbers that were read have no whole record. `run` takes no memory.
 #![tactic(auto)]
 
 mod answer;
+mod closing;
 mod judge;
 mod prepare;
 mod saver;

@@ -1,5 +1,6 @@
-ghost use Rattle.std.specs.Prelude.{◌≡◌, OnOk, IfOk, IfSome};
+ghost use Rattle.std.specs.Prelude.{◌≡◌, length, OnOk, IfOk, IfSome};
 ghost use Rattle.std.specs.FinMap as maps;
+ghost use Rattle.mig_headers.specs.declared.kind.Kind.TheVariants.{Pv};
 ghost use Rattle.mig_guest.specs.PartCodes.{is_fixed as is_fixed_code};
 ghost use Rattle.mig_dirtysave.specs.Saver.{is_setting as is_setting_code, kept_parts, parts_alone};
 
@@ -8,7 +9,7 @@ use mig_bytes::Memory;
 use mig_guest::{Guest, PartKey, is_fixed};
 use mig_headers::Kind;
 use mig_machine_api::Machine;
-use std::alloc::Global;
+use std::alloc::{AllocError, Global};
 
 /// Sets a part of the machine's host in a guest.
 fn copy_part<M: Machine>(guest: &mut Guest, machine: &M, key: PartKey) -> Result<(), Memory>
@@ -52,4 +53,29 @@ pub(crate) fn copy_parts<M: Machine>(alloc: Global, machine: &M) -> Result<(Gues
         after = Some(key);
     }
     Ok((fixed, settings))
+}
+
+/// So many marks, none of which is set.
+fn no_marks(alloc: Global, count: usize) -> Result<Vec<Option<bool>>, AllocError>
+    ensures { IfOk result (λ marks. length marks.items ≡ count) }
+{
+    vec![in alloc; None; count]
+}
+
+/// Marks for judging the P2M frames of a PV machine: one for each frame number.
+pub(crate) fn make_marks<M: Machine>(
+    alloc: Global,
+    machine: &M,
+) -> Result<Vec<Option<bool>>, Memory>
+    ensures { IfOk result (λ marks. (M.state machine.now).host.kind ≡ Pv → length marks.items ≡ (M.state machine.now).host.width) }
+{
+    let width = machine.width() as usize;
+    let count = match machine.kind() {
+        Kind::Pv => width,
+        Kind::Hvm => 0,
+    };
+    match no_marks(alloc, count) {
+        Ok(marks) => Ok(marks),
+        Err(_) => Err(Memory),
+    }
 }

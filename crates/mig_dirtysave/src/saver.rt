@@ -1,20 +1,22 @@
-ghost use Rattle.std.specs.Prelude.{◌≡◌, ◌≤◌, length, true, false, None, Some, OnOk, OnErr, IfOk, IsErrOf};
+ghost use Rattle.std.specs.Prelude.{◌≡◌, ◌≤◌, length, true, false, None, Some, OnOk, OnErr, IfOk, IsErrOf, ℕ};
 ghost use Rattle.mig_bytes.specs.Faults.{Rose};
-ghost use Rattle.mig_headers.specs.declared.kind.Kind.TheVariants.{Hvm};
 ghost use Rattle.mig_guest.specs.Formed.{HasNoEmulators};
 ghost use Rattle.mig_hosted.specs.Sound.{unsoundness};
 ghost use Rattle.mig_machine_api.specs.History.{no_history};
 ghost use Rattle.mig_machine_api.specs.Rounds.{all_read};
+ghost use Rattle.mig_standing.specs.Standing.{is_of_no_type};
+ghost use Rattle.mig_standing.specs.Unsoundness.{UnsoundHas};
 ghost use Rattle.mig_unended.specs.Unread.{WroteNoStream};
 ghost use Rattle.mig_rounds.specs.Flags.{total};
 ghost use Rattle.mig_rounds.specs.Live.{StaysSame, HasRounds, IsTight};
 ghost use Rattle.mig_dirtysave.specs.Saver.{IsFor};
-ghost use Rattle.mig_dirtysave.specs.SaveAnswers.{OnEnd, IfUnsound, SaveWritten, IsLittleBehind};
+ghost use Rattle.mig_dirtysave.specs.SaveAnswers.{OnEnd, IfUnsound, IsTrusted, SaveWritten, IsLittleBehind};
 ghost use Rattle.mig_dirtysave.specs.declared.answer.SaveAnswer.TheVariants.{MachineFault, WriteFault};
 
 use crate::answer::{SaveAnswer, SaveReport};
-use crate::prepare::copy_parts;
-use crate::steps::{close, open, send};
+use crate::closing::close;
+use crate::prepare::{copy_parts, make_marks};
+use crate::steps::{open, send};
 use mig_bytes::{Memory, Sink};
 use mig_guest::Guest;
 use mig_machine_api::Machine;
@@ -23,15 +25,18 @@ use std::alloc::Global;
 use std::marker::Model;
 
 /// What a save needs, made while there may still be no memory: the parts of the machine's host that never change, room for
-/// those that may, and room for the rounds.
+/// those that may, marks for judging P2M frames, and room for the rounds.
 #[derive(Drop)]
 pub struct Saver {
     fixed: Guest,
     settings: Guest,
+    marks: Vec<Option<bool>>,
     room: Room,
 }
 
 impl Model for Saver {
+    ghost use Rattle.std.specs.Prelude.{◌≡◌, length};
+    ghost use Rattle.mig_headers.specs.declared.kind.Kind.TheVariants.{Pv};
     ghost use Rattle.mig_guest.specs.Formed.{IsFormed};
     ghost use Rattle.mig_guest.specs.PartCodes.{is_fixed};
     ghost use Rattle.mig_dirtysave.specs.Saver.{SaverOf, HoldsParts, is_setting, saver_code};
@@ -42,7 +47,7 @@ impl Model for Saver {
 
     ghost view = { λ s. record { kind = s.fixed.kind; width = s.room; fixed = s.fixed.parts; settings = s.settings.parts } };
 
-    ghost invariant = { λ s. IsFormed s.fixed × HoldsParts is_fixed s.fixed.kind s.room s.fixed × HoldsParts is_setting s.fixed.kind s.room s.settings };
+    ghost invariant = { λ s. IsFormed s.fixed × HoldsParts is_fixed s.fixed.kind s.room s.fixed × HoldsParts is_setting s.fixed.kind s.room s.settings × (s.fixed.kind ≡ Pv → length s.marks.items ≡ s.room) };
 }
 
 impl Saver {
@@ -53,9 +58,11 @@ impl Saver {
     {
         let room = Room::new(alloc, machine.width())?;
         let (fixed, settings) = copy_parts(alloc, machine)?;
+        let marks = make_marks(alloc, machine)?;
         Ok(Saver {
             fixed,
             settings,
+            marks,
             room,
         })
     }
@@ -68,7 +75,6 @@ impl Saver {
         sink: &mut K,
     ) -> Result<SaveReport, SaveAnswer>
         requires made { IsFor self (M.state machine.old).host }
-        requires hvm { (M.state machine.old).host.kind ≡ Hvm }
         requires plain { HasNoEmulators (M.state machine.old).host.parts }
         requires unpaused { (M.state machine.old).paused ≡ false }
         requires unread { (M.state machine.old).history ≡ no_history }
@@ -79,8 +85,9 @@ impl Saver {
         ensures report { IfOk result (λ report. report.rounds ≡ (M.state machine.new).history.live) }
         ensures entries { IfOk result (λ report. report.entries ≡ length (all_read (M.state machine.new).host.width (M.state machine.new).history)) }
         ensures stream { OnOk result (SaveWritten (K.written sink.old) (K.written sink.new) (M.state machine.new)) }
-        ensures sound { OnOk result (unsoundness (M.state machine.new).host ≡ None) }
-        ensures first { IfUnsound result (λ u. unsoundness (M.state machine.new).host ≡ Some u) }
+        ensures sound { OnOk result (IsTrusted (M.state machine.new) → unsoundness (M.state machine.new).host ≡ None) }
+        ensures first { IfUnsound result (λ u. IsTrusted (M.state machine.new) → unsoundness (M.state machine.new).host ≡ Some u) }
+        ensures named { IfUnsound result (λ u. is_of_no_type u ≡ true → (place : ℕ) × UnsoundHas (M.state machine.new).host place u) }
         ensures no_stream { OnErr result (WroteNoStream (K.written sink.old) (K.written sink.new)) }
         ensures behind { OnErr result (IsLittleBehind (K.written sink.old) (K.written sink.new) (total (M.state machine.old).host.width (M.state machine.new).history)) }
         ensures later { M.Later machine.old machine.new }
@@ -92,11 +99,12 @@ impl Saver {
         let Saver {
             fixed,
             settings,
+            mut marks,
             room,
         } = self;
         open(sink, &fixed)?;
         let sent = send(machine, sink, room)?;
-        close(machine, sink, settings, sent.unsound)?;
+        close(machine, sink, settings, &mut marks, &sent)?;
         Ok(SaveReport {
             rounds: sent.rounds,
             entries: sent.entries,

@@ -86,36 +86,3 @@ pub(crate) fn send<M: Machine, K: Sink>(
         Err(SendFault::WriteFault) => Err(SaveAnswer::WriteFault),
     }
 }
-
-/// Judges the host of a paused HVM machine, and writes what stands behind the frames, END the last. `tables` is what was
-/// found wrong with its tables.
-pub(crate) fn close<M: Machine, K: Sink>(
-    machine: &M,
-    sink: &mut K,
-    mut settings: Guest,
-    tables: Option<Unsound>,
-) -> Result<(), SaveAnswer>
-    requires held { HoldsParts is_setting (M.state machine.now).host.kind (M.state machine.now).host.width settings }
-    requires same { SameSettings (M.state machine.now).host.parts settings.parts }
-    requires valid { IsValid (M.state machine.now).host }
-    requires hvm { (M.state machine.now).host.kind ≡ Hvm }
-    requires named { (u : UnsoundCause) → tables ≡ Some u → IsUnsound (M.state machine.now).host.frames u }
-    ensures none { OnOk result (tables ≡ None) }
-    ensures closed { OnOk result (ClosesStream (M.state machine.now).host (K.written sink.old) (K.written sink.new)) }
-    ensures sound { OnOk result (unsoundness (M.state machine.now).host ≡ None) }
-    ensures first { IfUnsound result (λ u. unsoundness (M.state machine.now).host ≡ Some u) }
-    ensures stops { OnErr result (StopsBehind (K.written sink.old) (K.written sink.new)) }
-    ensures sink_count { K.faults sink.old ≤ K.faults sink.new }
-    ensures write_fault { IsErrOf result WriteFault → Rose (K.faults sink.old) (K.faults sink.new) }
-    ensures no_call { ¬ IsErrOf result MachineFault }
-{
-    let front = match judge(machine, tables) {
-        Ok(front) => front,
-        Err(unsound) => return Err(SaveAnswer::Unsound(unsound)),
-    };
-    refresh(&mut settings, machine);
-    match write_last(sink, &settings, front) {
-        Ok(()) => Ok(()),
-        Err(_) => Err(SaveAnswer::WriteFault),
-    }
-}

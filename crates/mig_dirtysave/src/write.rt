@@ -5,12 +5,13 @@ ghost use Rattle.mig_bytes.specs.Faults.{HasCause};
 ghost use Rattle.mig_headers.specs.RecordTypes.{most_body};
 ghost use Rattle.mig_guest.specs.Formed.{IsFormed};
 ghost use Rattle.mig_records.specs.Records.{spelled};
-ghost use Rattle.mig_canon.specs.Canon.{static_bodies, text_of};
+ghost use Rattle.mig_headers.specs.declared.kind.Kind.TheVariants.{Pv};
+ghost use Rattle.mig_canon.specs.Canon.{static_bodies, last_records, text_of};
 ghost use Rattle.mig_saved.specs.Around.{text_before};
 ghost use Rattle.mig_dirtysave.specs.SaveTexts.{context_record, closing_records, StopsBehind};
 
 use mig_bytes::{Sink, WriteFailed, put_all};
-use mig_canon::{write_codes, write_headers, write_info, write_p2m_frames};
+use mig_canon::{write_codes, write_headers, write_info, write_p2m_frames, write_vcpus};
 use mig_guest::{Guest, PartCode};
 use mig_pagesink::write_end;
 use mig_records::{write_head, write_padding, write_record};
@@ -80,5 +81,26 @@ pub(crate) fn write_last<K: Sink>(
     ensures cause { HasCause (K.faults sink.old) (K.faults sink.new) result }
 {
     write_behind(sink, settings, front)?;
+    write_end(sink)
+}
+
+/// Appends the settings of a PV guest: the TSC, the shared page, and the parts of its vCPUs.
+fn write_settings<K: Sink>(sink: &mut K, settings: &Guest) -> Result<(), WriteFailed>
+    requires { IsFormed settings.now }
+    ensures bytes { Puts (text_of (last_records Pv settings.now)) (K.written sink.old) (K.written sink.new) result }
+    ensures cause { HasCause (K.faults sink.old) (K.faults sink.new) result }
+{
+    write_codes(sink, settings, &[PartCode::Tsc, PartCode::SharedInfo])?;
+    write_vcpus(sink, settings)
+}
+
+/// Appends the settings of a PV guest, and END.
+pub(crate) fn write_pv_last<K: Sink>(sink: &mut K, settings: &Guest) -> Result<(), WriteFailed>
+    requires { IsFormed settings.now }
+    ensures closed { OnOk result (Appends (K.written sink.old) (K.written sink.new) (text_of (last_records Pv settings.now ++ (0, []) ∷ []))) }
+    ensures stops { OnErr result (StopsBehind (K.written sink.old) (K.written sink.new)) }
+    ensures cause { HasCause (K.faults sink.old) (K.faults sink.new) result }
+{
+    write_settings(sink, settings)?;
     write_end(sink)
 }

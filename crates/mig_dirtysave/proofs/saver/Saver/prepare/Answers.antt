@@ -19,6 +19,7 @@ invariant_of-result g c =
       subst IsFormed (sym fixed) (kept_formed h c.width.ensures.valid.host is_fixed refl (λ _. refl)),
       held_there is_fixed _ _ _ _ _ kind width (subst (HoldsParts is_fixed h.kind h.width) (sym fixed) (holds_kept h is_fixed)),
       held_there is_setting _ _ _ _ _ kind width (subst (HoldsParts is_setting h.kind h.width) (sym settings) (holds_kept h is_setting)),
+      λ pv. c.in_ok-marks.ensures (kind ∙ pv) ∙ width,
     )
 
 pub returns : goal.returns

@@ -1,7 +1,13 @@
-use Rattle.std.proofs.Common.{ℕ, arith, sym, ap}
+use Rattle.std.proofs.Common.{◌≡◌, ℕ, arith, true, Some, inl, sym, ap, subst, ◌∙◌}
+use Rattle.mig_hosted.specs.Sound.{unsoundness}
 use Rattle.mig_rounds.specs.Flags.{total}
+use Rattle.mig_guest.specs.Hosts.{HostOf}
 use Rattle.mig_guest.specs.PartCodes.{is_fixed}
 use Rattle.mig_dirtysave.specs.Saver.{SaverOf, is_setting}
+use Rattle.mig_standing.specs.Standing.{is_of_no_type}
+use Rattle.mig_standing.specs.Unsoundness.{UnsoundHas}
+use Rattle.mig_dirtysave.specs.SaveAnswers.{IsLittleBehind, IsTrusted}
+use Rattle.mig_dirtysave.proofs.Looked.{stream_stays, tight_stay, total_stays, trust_stays, unsound_on}
 use Rattle.mig_dirtysave.proofs.Ends.{nothing_read, stopped_no_stream, stopped_behind, stopped_first, stopped_frames, stopped_last}
 use Rattle.mig_dirtysave.proofs.Streams.{fixed_stays, held_there, kind_stays, plain_stays, save_is_stream, top_held, width_stays}
 use Rattle.mig_dirtysave.proofs.Texts.{on_err}
@@ -37,6 +43,31 @@ returns-in_err-sent-clause-behind g c =
     (stopped_behind (g.K.Sink.written c.args.sink.now) (g.K.Sink.written c.send.new.sink) n
     (stopped_frames (g.K.Sink.written c.args.sink.now) (g.K.Sink.written c.open.new.sink) c.self.inside.fixed c.self.invariant.0 c.in_ok-open.ensures.opened (g.K.Sink.written c.send.new.sink) n c.in_err-sent.ensures.behind))
 
+pub returns-in_err-close-clause-first : goal.returns-in_err-close-clause-first
+returns-in_err-close-clause-first g c =
+    let t = g.M.Machine.state c.send.new.machine in
+    let now = g.M.Machine.state c.close.new.machine in
+    unsound_on {P = λ u. IsTrusted t → unsoundness t.host ≡ Some u} c.from_residual-in_err-close.result _ c.from_residual-in_err-close.ensures.1
+    (λ u is trusted. ap unsoundness c.close.ensures.looks.host ∙ is (trust_stays t now c.close.ensures.looks trusted)) c.in_err-close.ensures.first
+
+pub returns-in_err-close-clause-named : goal.returns-in_err-close-clause-named
+returns-in_err-close-clause-named g c =
+    let t = g.M.Machine.state c.send.new.machine in
+    unsound_on {P = λ u. is_of_no_type u ≡ true → (place : ℕ) × UnsoundHas t.host place u} c.from_residual-in_err-close.result _ c.from_residual-in_err-close.ensures.1
+    (λ u is of. subst (λ (h : HostOf). (place : ℕ) × UnsoundHas h place u) (sym c.close.ensures.looks.host) (is of)) c.in_err-close.ensures.stands
+
+pub returns-in_err-close-clause-later : goal.returns-in_err-close-clause-later
+returns-in_err-close-clause-later g c = g.met.M.Machine.later_on _ _ _ c.send.ensures.later c.close.ensures.later
+
+pub returns-clause-later : goal.returns-clause-later
+returns-clause-later g c = g.met.M.Machine.later_on _ _ _ c.send.ensures.later c.close.ensures.later
+
+pub returns-clause-sound : goal.returns-clause-sound
+returns-clause-sound g c =
+    let t = g.M.Machine.state c.send.new.machine in
+    let u = g.M.Machine.state c.close.new.machine in
+    λ trusted. ap unsoundness c.close.ensures.looks.host ∙ c.in_ok-close.ensures.sound (trust_stays t u c.close.ensures.looks trusted)
+
 pub returns-in_err-close-clause-no_stream : goal.returns-in_err-close-clause-no_stream
 returns-in_err-close-clause-no_stream g c =
     let t = g.M.Machine.state c.send.new.machine in
@@ -49,21 +80,17 @@ returns-in_err-close-clause-no_stream g c =
 pub returns-in_err-close-clause-behind : goal.returns-in_err-close-clause-behind
 returns-in_err-close-clause-behind g c =
     let t = g.M.Machine.state c.send.new.machine in
-    let n = total (g.M.Machine.state c.args.machine.now).host.width t.history in
+    let u = g.M.Machine.state c.close.new.machine in
+    let w = (g.M.Machine.state c.args.machine.now).host.width in
     on_err _ c.from_residual-in_err-close.result
-    (stopped_behind (g.K.Sink.written c.args.sink.now) (g.K.Sink.written c.close.new.sink) n
+    (subst (IsLittleBehind (g.K.Sink.written c.args.sink.now) (g.K.Sink.written c.close.new.sink)) (sym (total_stays t u c.close.ensures.looks w))
+    (stopped_behind (g.K.Sink.written c.args.sink.now) (g.K.Sink.written c.close.new.sink) (total w t.history)
     (stopped_last (g.K.Sink.written c.args.sink.now) (g.K.Sink.written c.open.new.sink) c.self.inside.fixed c.self.invariant.0 c.in_ok-open.ensures.opened (g.K.Sink.written c.send.new.sink) (g.K.Sink.written c.close.new.sink)
-    t c.in_ok-sent.sent.unsound n (ap (λ (w : ℕ). total w t.history) (sym c.send.ensures.kept.shape.width)) c.in_ok-sent.ensures.frames c.in_err-close.ensures.stops))
-
-pub close-requires-clause-held : goal.close-requires-clause-held
-close-requires-clause-held g c =
-    let s = g.M.Machine.state c.args.machine.now in
-    let t = g.M.Machine.state c.send.new.machine in
-    held_there is_setting _ _ _ _ _ (kind_stays s t c.args.self c.self.inside.fixed c.send.ensures.kept c.requires.made (ap (λ (x : SaverOf). x.kind) c.self.view_is))
-    (width_stays s t c.args.self c.self.inside.room c.send.ensures.kept c.requires.made (ap (λ (x : SaverOf). x.width) c.self.view_is)) c.self.invariant.2
+    t c.in_ok-sent.sent.unsound (total w t.history) (ap (λ (w : ℕ). total w t.history) (sym c.send.ensures.kept.shape.width)) c.in_ok-sent.ensures.frames c.in_err-close.ensures.stops)))
 
 pub returns-clause-tight : goal.returns-clause-tight
-returns-clause-tight g c = c.in_ok-sent.ensures.tight c.in_ok-close.ensures.none
+returns-clause-tight g c =
+    tight_stay (g.M.Machine.state c.send.new.machine) (g.M.Machine.state c.close.new.machine) c.close.ensures.looks (c.in_ok-sent.ensures.tight c.in_ok-close.ensures.none)
 
 pub returns-clause-stream : goal.returns-clause-stream
 returns-clause-stream g c =
@@ -72,7 +99,8 @@ returns-clause-stream g c =
     let fixed = c.self.inside.fixed in
     let kind = kind_stays s t c.args.self fixed c.send.ensures.kept c.requires.made (ap (λ (x : SaverOf). x.kind) c.self.view_is) in
     let width = width_stays s t c.args.self c.self.inside.room c.send.ensures.kept c.requires.made (ap (λ (x : SaverOf). x.width) c.self.view_is) in
-    save_is_stream t c.send.ensures.valid (plain_stays s t c.send.ensures.kept c.requires.plain) c.in_ok-sent.sent.unsound c.in_ok-close.ensures.none (λ _. c.in_ok-close.ensures.sound)
+    stream_stays t (g.M.Machine.state c.close.new.machine) c.close.ensures.looks (g.K.Sink.written c.args.sink.now) (g.K.Sink.written c.close.new.sink)
+    (save_is_stream t c.send.ensures.valid (plain_stays s t c.send.ensures.kept c.requires.plain) c.in_ok-sent.sent.unsound c.in_ok-close.ensures.none (λ honest. c.in_ok-close.ensures.sound (inl honest))
     fixed c.self.invariant.0 kind (top_held is_fixed _ _ fixed (held_there is_fixed _ _ _ _ _ kind width c.self.invariant.1))
     (fixed_stays s t c.args.self fixed c.send.ensures.kept c.requires.made (ap (λ (x : SaverOf). x.fixed) c.self.view_is))
-    (g.K.Sink.written c.args.sink.now) (g.K.Sink.written c.open.new.sink) (g.K.Sink.written c.send.new.sink) (g.K.Sink.written c.close.new.sink) c.in_ok-open.ensures.opened c.in_ok-sent.ensures.frames c.in_ok-close.ensures.closed
+    (g.K.Sink.written c.args.sink.now) (g.K.Sink.written c.open.new.sink) (g.K.Sink.written c.send.new.sink) (g.K.Sink.written c.close.new.sink) c.in_ok-open.ensures.opened c.in_ok-sent.ensures.frames c.in_ok-close.ensures.closed)

@@ -6,7 +6,7 @@ use Rattle.mig_dirtysave.proofs.Codes.{kept_formed, no_pv}
 use Rattle.mig_dirtysave.proofs.Rows.{hvm_judged, no_table_fault}
 use Rattle.mig_dirtysave.proofs.Streams.{hvm_closes}
 use Rattle.mig_dirtysave.proofs.Texts.{nothing_stops}
-use Rattle.mig_dirtysave.proofs.steps.close.Goals as goal
+use Rattle.mig_dirtysave.proofs.closing.close_hvm.Goals as goal
 
 pub returns-in-Err-clause-first : goal.returns-in-Err-clause-first
 returns-in-Err-clause-first g c =

@@ -1,0 +1,151 @@
+-- What stays of a paused machine while machine frames are looked up: its host, and what a history says of rounds and reads.
+use Rattle.std.proofs.Common.{◌≡◌, ℕ, ◌+◌, ◌<◌, ◌≤◌, Bool, true, false, List, [], ◌∷◌, ◌++◌, length, take, get_or, Option, Some, None, map, min, refl, sym, ap, subst, ◌∙◌, arith}
+use Rattle.std.specs.Prelude.{Result, Ok, Err, IsErrAnd}
+use Rattle.std.proofs.lemmas.Bool.{cases_lt}
+use Rattle.std.proofs.lemmas.List.{get_or-take, get_or_past, length-take}
+use Rattle.std.proofs.Common.{◌⊎◌, inl, inr}
+use Rattle.std.specs.Option.{option_map}
+use Rattle.std.specs.FinMap as maps
+use Rattle.mig_headers.specs.declared.kind.Kind.{Kind}
+use Rattle.mig_headers.specs.declared.kind.Kind.TheVariants.{Pv, Hvm}
+use Rattle.mig_pagetypes.specs.declared.page_type.PageType.{PageType}
+use Rattle.mig_guest.specs.Hosts.{HostOf, HostFrame, IsValid}
+use Rattle.mig_canon.specs.Canon.{headers, text_of}
+use Rattle.mig_pagesink.specs.Told.{telling_record}
+use Rattle.mig_hosted.specs.View.{view}
+use Rattle.mig_libxl.specs.Spelled.{AcceptedStream}
+use Rattle.mig_machine_api.specs.History.{History}
+use Rattle.mig_machine_api.specs.MachineStates.{MachineState, Ran}
+use Rattle.mig_machine_api.specs.Pfns.{Pfns, members, size}
+use Rattle.mig_machine_api.specs.Rounds.{Rounds, Tight, all_read, rounds_read}
+use Rattle.mig_rounds.specs.Flags.{total, total_taken}
+use Rattle.mig_rounds.specs.Live.{StaysSame, HasRounds, IsTight, type_in}
+use Rattle.mig_pause.specs.Paused.{OnlyLooksUp, HasTypes}
+use Rattle.mig_headers.specs.declared.unsound.Unsound.{Unsound}
+use Rattle.mig_dirtysave.specs.SaveAnswers.{SaveWritten, IsTrusted, IfUnsound}
+use Rattle.mig_dirtysave.specs.declared.answer.SaveAnswer.{SaveAnswer}
+use Rattle.mig_dirtysave.specs.declared.answer.SaveAnswer.TheVariants as answers
+
+-- ---- histories
+
+module _ (kind : Kind) (width : ℕ) (h k : History) (taken : k.taken ≡ h.taken) (live : k.live ≡ h.live) (read : k.since.read ≡ h.since.read) (twice : k.since.twice ≡ h.since.twice) where
+  rounds_kept : Rounds kind width h → Rounds kind width k
+  rounds_kept r = record {
+    live = r.live;
+    last = r.last;
+    logs = taken ∙ r.logs;
+    before_pause = r.before_pause ∙ sym live;
+    number = r.number;
+    reads = r.reads;
+    sizes = r.sizes;
+    calls = r.calls;
+    stopped = r.stopped;
+    rest = λ p named. ap (λ (s : Pfns). s p) read ∙ r.rest p named;
+    once = (r.once.0, twice ∙ r.once.1);
+  }
+
+  tight_kept : Tight kind width h → Tight kind width k
+  unfolding rounds_kept
+  tight_kept t = record { rounds = rounds_kept t.rounds; exact = read ∙ t.exact }
+
+-- ---- machines
+
+-- nothing was asked
+pub looks_none : (t : MachineState) → OnlyLooksUp t t
+looks_none t = record {
+  ran = record {
+    shape = record { kind = refl; width = refl; lengths = λ key. refl; fixed = λ key is. refl };
+    honest = refl;
+    grown = λ p out. out;
+    quiet = λ honest p out. refl;
+    stopped = λ paused. refl;
+  };
+  host = refl;
+  paused = refl;
+  taken = refl;
+  live = refl;
+  read = refl;
+  twice = refl;
+}
+
+module _ (t u : MachineState) (looks : OnlyLooksUp t u) where
+  pub rounds_stay : HasRounds t → HasRounds u
+  rounds_stay r =
+      subst (λ (h : HostOf). Rounds h.kind h.width u.history) (sym looks.host) (rounds_kept t.host.kind t.host.width t.history u.history looks.taken looks.live looks.read looks.twice r)
+
+  pub tight_stay : IsTight t → IsTight u
+  tight_stay r = λ honest.
+      subst (λ (h : HostOf). Tight h.kind h.width u.history) (sym looks.host)
+      (tight_kept t.host.kind t.host.width t.history u.history looks.taken looks.live looks.read looks.twice (r (sym looks.ran.honest ∙ honest)))
+
+  pub same_stay : (s : MachineState) → StaysSame s t → StaysSame s u
+  same_stay s same = record {
+    shape = record {
+      kind = ap (λ (h : HostOf). h.kind) looks.host ∙ same.shape.kind;
+      width = ap (λ (h : HostOf). h.width) looks.host ∙ same.shape.width;
+      lengths = λ key. ap (λ (h : HostOf). option_map (λ (bytes : List ℕ). length bytes) (maps.get h.parts key)) looks.host ∙ same.shape.lengths key;
+      fixed = λ key is. ap (λ (h : HostOf). maps.get h.parts key) looks.host ∙ same.shape.fixed key is;
+    };
+    honest = looks.ran.honest ∙ same.honest;
+  }
+
+  pub read_stays : all_read t.host.width t.history ≡ all_read u.host.width u.history
+  read_stays = let taken = sym looks.taken in let read = sym looks.read in let host = sym looks.host in λ i. rounds_read (host i).width (taken i) ++ members (host i).width (read i)
+
+  pub total_stays : (width : ℕ) → total width u.history ≡ total width t.history
+  total_stays width = let taken = looks.taken in let read = looks.read in λ i. total_taken width (taken i) + size width (read i)
+
+  pub trust_stays : IsTrusted u → IsTrusted t
+  trust_stays (inl honest) = inl (sym looks.ran.honest ∙ honest)
+  trust_stays (inr hvm) = inr (sym (ap (λ (h : HostOf). h.kind) looks.host) ∙ hvm)
+
+  pub stream_stays : (old new : Option (List ℕ)) → SaveWritten old new t → SaveWritten old new u
+  stream_stays old new w = record {
+    before = w.before;
+    batches = w.batches;
+    behind = w.behind;
+    text = w.text;
+    is = w.is ∙ ap (λ (h : HostOf). headers h.kind ++ text_of (w.before ++ (map telling_record w.batches ++ (w.behind ++ (0, []) ∷ [])))) (sym looks.host);
+    appended = w.appended;
+    others = w.others;
+    order = w.order ∙ read_stays;
+    means = λ honest rest. subst (λ (h : HostOf). AcceptedStream (w.text ++ rest) (view h) rest) (sym looks.host) (w.means (sym looks.ran.honest ∙ honest) rest);
+  }
+
+-- ---- the types that are looked at
+
+-- over an honest machine those below a number that is no less than the width, or than the types, are the host's
+pub types_below : (h : HostOf) → IsValid h → (types : List (Option PageType)) (count : ℕ) → (length types ≤ count) ⊎ (h.width ≤ count) → ((p : ℕ) → get_or types p None ≡ type_in h.frames p) → HasTypes h (take count types)
+types_below h valid types count enough saw p = elim (cases_lt p count) [
+  | inl lt ↦ get_or-take count types p None lt ∙ saw p
+  | inr ge ↦ get_or_past (take count types) p None (omega (arith, ge, length-take {A = Option PageType})) ∙ sym (elim enough [
+    | inl all ↦ sym (saw p) ∙ get_or_past types p None (omega (arith, all, ge))
+    | inr wide ↦ by (maps.get h.frames p) refl (omega (arith, wide, ge))
+  ])
+]
+  where
+    by : (o : Option HostFrame) → maps.get h.frames p ≡ o → h.width ≤ p → option_map (λ (f : HostFrame). f.type) o ≡ None
+    by None is past = refl
+    by (Some f) is past = let inside = (valid.frames p f is).inside in absurd (omega (arith, inside, past))
+
+-- the lesser of two numbers is one of them
+pub min_reaches : (a b w m : ℕ) → b ≡ w → m ≡ min a b → (a ≤ m) ⊎ (w ≤ m)
+min_reaches a b w m same is = elim (cases_lt a b) [
+  | inl lt ↦ inl (omega (arith, lt, is))
+  | inr ge ↦ inr (omega (arith, ge, is, same))
+]
+
+-- ---- answers
+
+pub unsound_then : {X : Type 0} {P Q : Unsound → Type 0} (r : Result X SaveAnswer) → ((u : Unsound) → P u → Q u) → IfUnsound r P → IfUnsound r Q
+unsound_then (Ok x) go is = tt
+unsound_then (Err (answers.Unsound u)) go is = go u is
+unsound_then (Err answers.MachineFault) go is = tt
+unsound_then (Err answers.WriteFault) go is = tt
+
+-- the same of an answer that is passed on
+pub unsound_on : {Y : Type 0} {P Q : Unsound → Type 0} (r : Result Y SaveAnswer) (e : SaveAnswer) → IsErrAnd r (λ x. x ≡ e) → ((u : Unsound) → P u → Q u) → IfUnsound {X = Unit {0}} (Err e) P → IfUnsound r Q
+unsound_on (Ok y) e same go is = tt
+unsound_on {P = P} (Err (answers.Unsound u)) e same go is = go u (subst (λ (x : SaveAnswer). IfUnsound {X = Unit {0}} (Err x) P) (sym same) is)
+unsound_on (Err answers.MachineFault) e same go is = tt
+unsound_on (Err answers.WriteFault) e same go is = tt

@@ -1,0 +1,16 @@
+use Rattle.mig_dirtysave.proofs.Looked.{min_reaches, types_below}
+use Rattle.mig_dirtysave.proofs.Streams.{pv_closes}
+use Rattle.mig_dirtysave.proofs.Texts.{nothing_stops, on_err}
+use Rattle.mig_dirtysave.proofs.closing.close_pv.Goals as goal
+
+pub settle-requires-clause-types : goal.settle-requires-clause-types
+settle-requires-clause-types g c =
+    let h = (g.M.Machine.state c.args.machine.now).host in
+    λ honest. types_below h c.requires.valid c.args.types.now c.min-count.result (min_reaches _ _ h.width c.min-count.result c.requires.marks c.min-count.ensures) (c.requires.types honest)
+
+pub returns-in_err-settle-clause-stops : goal.returns-in_err-settle-clause-stops
+returns-in_err-settle-clause-stops g c = on_err _ c.from_residual.result (nothing_stops (g.K.Sink.written c.args.sink.now))
+
+pub returns-in-Ok-clause-closed : goal.returns-in-Ok-clause-closed
+returns-in-Ok-clause-closed g c =
+    pv_closes (g.M.Machine.state c.args.machine.now).host c.requires.pv c.settle.new.settings _ _ c.in_ok-settle.ensures.formed c.in_ok-settle.ensures.seen c.in-Ok.ensures.closed

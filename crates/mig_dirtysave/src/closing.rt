@@ -1,0 +1,184 @@
+ghost use Rattle.std.specs.Prelude.{◌≡◌, ◌≤◌, ◌⊎◌, ℕ, length, true, None, Some, OnOk, OnErr, IfOk, IsErrOf};
+ghost use Rattle.mig_bytes.specs.Faults.{Rose};
+ghost use Rattle.mig_headers.specs.declared.kind.Kind.TheVariants.{Hvm, Pv};
+ghost use Rattle.mig_headers.specs.declared.unsound.Unsound.{Unsound as UnsoundCause};
+ghost use Rattle.mig_guest.specs.Formed.{IsFormed};
+ghost use Rattle.mig_guest.specs.Hosts.{IsValid};
+ghost use Rattle.mig_hosted.specs.Sound.{unsoundness};
+ghost use Rattle.mig_rounds.specs.Live.{AnswersTables, IsUnsound, SawTypes};
+ghost use Rattle.mig_standing.specs.Standing.{is_of_no_type};
+ghost use Rattle.mig_standing.specs.Unsoundness.{UnsoundHas};
+ghost use Rattle.mig_pause.specs.Paused.{HasTypes, OnlyLooksUp};
+ghost use Rattle.mig_dirtysave.specs.Saver.{HoldsParts, SameSettings, is_setting};
+ghost use Rattle.mig_dirtysave.specs.SaveTexts.{settings_seen, StopsBehind, ClosesStream};
+ghost use Rattle.mig_dirtysave.specs.SaveAnswers.{IfUnsound, IsTrusted};
+ghost use Rattle.mig_dirtysave.specs.declared.answer.SaveAnswer.TheVariants.{MachineFault, WriteFault};
+
+use crate::answer::SaveAnswer;
+use crate::judge::judge;
+use crate::settings::refresh;
+use crate::write::{write_last, write_pv_last};
+use mig_bytes::Sink;
+use mig_guest::Guest;
+use mig_headers::{Kind, Unsound};
+use mig_machine_api::Machine;
+use mig_pagetypes::PageType;
+use mig_pvtables::{blank_shared_info, blank_vcpus};
+use mig_rounds::Sent;
+
+/// Judges the host of a paused HVM machine, and writes what stands behind the frames, END the last. `tables` is what was
+/// found wrong with its tables.
+fn close_hvm<M: Machine, K: Sink>(
+    machine: &M,
+    sink: &mut K,
+    mut settings: Guest,
+    tables: Option<Unsound>,
+) -> Result<(), SaveAnswer>
+    requires held { HoldsParts is_setting (M.state machine.now).host.kind (M.state machine.now).host.width settings }
+    requires same { SameSettings (M.state machine.now).host.parts settings.parts }
+    requires valid { IsValid (M.state machine.now).host }
+    requires hvm { (M.state machine.now).host.kind ≡ Hvm }
+    requires named { (u : UnsoundCause) → tables ≡ Some u → IsUnsound (M.state machine.now).host.frames u }
+    ensures none { OnOk result (tables ≡ None) }
+    ensures closed { OnOk result (ClosesStream (M.state machine.now).host (K.written sink.old) (K.written sink.new)) }
+    ensures sound { OnOk result (unsoundness (M.state machine.now).host ≡ None) }
+    ensures first { IfUnsound result (λ u. unsoundness (M.state machine.now).host ≡ Some u) }
+    ensures stops { OnErr result (StopsBehind (K.written sink.old) (K.written sink.new)) }
+    ensures sink_count { K.faults sink.old ≤ K.faults sink.new }
+    ensures write_fault { IsErrOf result WriteFault → Rose (K.faults sink.old) (K.faults sink.new) }
+    ensures no_call { ¬ IsErrOf result MachineFault }
+{
+    let front = match judge(machine, tables) {
+        Ok(front) => front,
+        Err(unsound) => return Err(SaveAnswer::Unsound(unsound)),
+    };
+    refresh(&mut settings, machine);
+    match write_last(sink, &settings, front) {
+        Ok(()) => Ok(()),
+        Err(_) => Err(SaveAnswer::WriteFault),
+    }
+}
+
+/// Judges the host of a paused PV machine by the types that were seen last and what was found wrong with its tables, and
+/// brings its settings to the form that they have in a stream. There is a mark for each type.
+fn settle<M: Machine>(
+    machine: &mut M,
+    settings: &mut Guest,
+    marks: &mut [Option<bool>],
+    types: &[Option<PageType>],
+    tables: Option<Unsound>,
+) -> Result<(), SaveAnswer>
+    requires paused { (M.state machine.old).paused ≡ true }
+    requires held { HoldsParts is_setting (M.state machine.old).host.kind (M.state machine.old).host.width settings.old }
+    requires same { SameSettings (M.state machine.old).host.parts settings.old.parts }
+    requires valid { IsValid (M.state machine.old).host }
+    requires pv { (M.state machine.old).host.kind ≡ Pv }
+    requires marks { length marks.old ≡ length types.now }
+    requires types { (M.state machine.old).honest ≡ true → HasTypes (M.state machine.old).host types.now }
+    requires tables { AnswersTables (M.state machine.old) tables }
+    requires named { (u : UnsoundCause) → tables ≡ Some u → IsUnsound (M.state machine.old).host.frames u }
+    ensures none { OnOk result (tables ≡ None) }
+    ensures seen { OnOk result (settings.new ≡ settings_seen (M.state machine.old).host) }
+    ensures formed { OnOk result (IsFormed settings.new) }
+    ensures sound { OnOk result ((M.state machine.old).honest ≡ true → unsoundness (M.state machine.old).host ≡ None) }
+    ensures first { IfUnsound result (λ u. (M.state machine.old).honest ≡ true → unsoundness (M.state machine.old).host ≡ Some u) }
+    ensures stands { IfUnsound result (λ u. is_of_no_type u ≡ true → (place : ℕ) × UnsoundHas (M.state machine.old).host place u) }
+    ensures looks { OnlyLooksUp (M.state machine.old) (M.state machine.new) }
+    ensures later { M.Later machine.old machine.new }
+    ensures machine_count { M.faults machine.old ≤ M.faults machine.new }
+    ensures machine_fault { IsErrOf result MachineFault → Rose (M.faults machine.old) (M.faults machine.new) }
+    ensures no_write { ¬ IsErrOf result WriteFault }
+{
+    refresh(settings, machine);
+    match mig_pause::judge(machine, settings, types, marks, tables) {
+        Ok(None) => {
+            blank_vcpus(settings);
+            blank_shared_info(settings);
+            Ok(())
+        }
+        Ok(Some(unsound)) => Err(SaveAnswer::Unsound(unsound)),
+        Err(_) => Err(SaveAnswer::MachineFault),
+    }
+}
+
+/// Judges the host of a paused PV machine, and writes what stands behind the frames, END the last. There is a mark for each
+/// frame number, whatever it was before.
+fn close_pv<M: Machine, K: Sink>(
+    machine: &mut M,
+    sink: &mut K,
+    mut settings: Guest,
+    marks: &mut [Option<bool>],
+    types: &[Option<PageType>],
+    tables: Option<Unsound>,
+) -> Result<(), SaveAnswer>
+    requires paused { (M.state machine.old).paused ≡ true }
+    requires held { HoldsParts is_setting (M.state machine.old).host.kind (M.state machine.old).host.width settings }
+    requires same { SameSettings (M.state machine.old).host.parts settings.parts }
+    requires valid { IsValid (M.state machine.old).host }
+    requires pv { (M.state machine.old).host.kind ≡ Pv }
+    requires marks { length marks.old ≡ (M.state machine.old).host.width }
+    requires types { SawTypes types.now (M.state machine.old) }
+    requires tables { AnswersTables (M.state machine.old) tables }
+    requires named { (u : UnsoundCause) → tables ≡ Some u → IsUnsound (M.state machine.old).host.frames u }
+    ensures none { OnOk result (tables ≡ None) }
+    ensures closed { OnOk result (ClosesStream (M.state machine.old).host (K.written sink.old) (K.written sink.new)) }
+    ensures sound { OnOk result ((M.state machine.old).honest ≡ true → unsoundness (M.state machine.old).host ≡ None) }
+    ensures first { IfUnsound result (λ u. (M.state machine.old).honest ≡ true → unsoundness (M.state machine.old).host ≡ Some u) }
+    ensures stands { IfUnsound result (λ u. is_of_no_type u ≡ true → (place : ℕ) × UnsoundHas (M.state machine.old).host place u) }
+    ensures stops { OnErr result (StopsBehind (K.written sink.old) (K.written sink.new)) }
+    ensures looks { OnlyLooksUp (M.state machine.old) (M.state machine.new) }
+    ensures later { M.Later machine.old machine.new }
+    ensures machine_count { M.faults machine.old ≤ M.faults machine.new }
+    ensures sink_count { K.faults sink.old ≤ K.faults sink.new }
+    ensures machine_fault { IsErrOf result MachineFault → Rose (M.faults machine.old) (M.faults machine.new) }
+    ensures write_fault { IsErrOf result WriteFault → Rose (K.faults sink.old) (K.faults sink.new) }
+{
+    let count = types.len().min(marks.len());
+    settle(
+        machine,
+        &mut settings,
+        &mut marks[..count],
+        &types[..count],
+        tables,
+    )?;
+    match write_pv_last(sink, &settings) {
+        Ok(()) => Ok(()),
+        Err(_) => Err(SaveAnswer::WriteFault),
+    }
+}
+
+/// Judges the host of a paused machine, and writes what stands behind the frames, END the last. Of a PV machine there is a
+/// mark for each frame number.
+pub(crate) fn close<M: Machine, K: Sink>(
+    machine: &mut M,
+    sink: &mut K,
+    settings: Guest,
+    marks: &mut [Option<bool>],
+    sent: &Sent,
+) -> Result<(), SaveAnswer>
+    requires paused { (M.state machine.old).paused ≡ true }
+    requires held { HoldsParts is_setting (M.state machine.old).host.kind (M.state machine.old).host.width settings }
+    requires same { SameSettings (M.state machine.old).host.parts settings.parts }
+    requires valid { IsValid (M.state machine.old).host }
+    requires marks { (M.state machine.old).host.kind ≡ Pv → length marks.old ≡ (M.state machine.old).host.width }
+    requires types { SawTypes sent.now.types.items (M.state machine.old) }
+    requires tables { AnswersTables (M.state machine.old) sent.now.unsound }
+    requires named { (u : UnsoundCause) → sent.now.unsound ≡ Some u → IsUnsound (M.state machine.old).host.frames u }
+    ensures none { OnOk result (sent.now.unsound ≡ None) }
+    ensures closed { OnOk result (ClosesStream (M.state machine.old).host (K.written sink.old) (K.written sink.new)) }
+    ensures sound { OnOk result (IsTrusted (M.state machine.old) → unsoundness (M.state machine.old).host ≡ None) }
+    ensures first { IfUnsound result (λ u. IsTrusted (M.state machine.old) → unsoundness (M.state machine.old).host ≡ Some u) }
+    ensures stands { IfUnsound result (λ u. is_of_no_type u ≡ true → (place : ℕ) × UnsoundHas (M.state machine.old).host place u) }
+    ensures stops { OnErr result (StopsBehind (K.written sink.old) (K.written sink.new)) }
+    ensures looks { OnlyLooksUp (M.state machine.old) (M.state machine.new) }
+    ensures later { M.Later machine.old machine.new }
+    ensures machine_count { M.faults machine.old ≤ M.faults machine.new }
+    ensures sink_count { K.faults sink.old ≤ K.faults sink.new }
+    ensures machine_fault { IsErrOf result MachineFault → Rose (M.faults machine.old) (M.faults machine.new) }
+    ensures write_fault { IsErrOf result WriteFault → Rose (K.faults sink.old) (K.faults sink.new) }
+{
+    match machine.kind() {
+        Kind::Hvm => close_hvm(machine, sink, settings, sent.unsound),
+        Kind::Pv => close_pv(machine, sink, settings, marks, &sent.types, sent.unsound),
+    }
+}
