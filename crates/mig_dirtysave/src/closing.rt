@@ -45,6 +45,7 @@ fn close_hvm<M: Machine, K: Sink>(
     ensures first { IfUnsound result (λ u. unsoundness (M.state machine.now).host ≡ Some u) }
     ensures stops { OnErr result (StopsBehind (K.written sink.old) (K.written sink.new)) }
     ensures sink_count { K.faults sink.old ≤ K.faults sink.new }
+    ensures sink_quiet { OnOk result (K.faults sink.new ≡ K.faults sink.old) }
     ensures write_fault { IsErrOf result WriteFault → Rose (K.faults sink.old) (K.faults sink.new) }
     ensures no_call { ¬ IsErrOf result MachineFault }
 {
@@ -130,6 +131,7 @@ fn close_pv<M: Machine, K: Sink>(
     ensures later { M.Later machine.old machine.new }
     ensures machine_count { M.faults machine.old ≤ M.faults machine.new }
     ensures sink_count { K.faults sink.old ≤ K.faults sink.new }
+    ensures sink_quiet { OnOk result (K.faults sink.new ≡ K.faults sink.old) }
     ensures machine_fault { IsErrOf result MachineFault → Rose (M.faults machine.old) (M.faults machine.new) }
     ensures write_fault { IsErrOf result WriteFault → Rose (K.faults sink.old) (K.faults sink.new) }
 {
@@ -174,6 +176,7 @@ pub(crate) fn close<M: Machine, K: Sink>(
     ensures later { M.Later machine.old machine.new }
     ensures machine_count { M.faults machine.old ≤ M.faults machine.new }
     ensures sink_count { K.faults sink.old ≤ K.faults sink.new }
+    ensures sink_quiet { OnOk result (K.faults sink.new ≡ K.faults sink.old) }
     ensures machine_fault { IsErrOf result MachineFault → Rose (M.faults machine.old) (M.faults machine.new) }
     ensures write_fault { IsErrOf result WriteFault → Rose (K.faults sink.old) (K.faults sink.new) }
 {

@@ -93,6 +93,7 @@ impl Saver {
         ensures later { M.Later machine.old machine.new }
         ensures machine_count { M.faults machine.old ≤ M.faults machine.new }
         ensures sink_count { K.faults sink.old ≤ K.faults sink.new }
+        ensures sink_quiet { OnOk result (K.faults sink.new ≡ K.faults sink.old) }
         ensures machine_fault { IsErrOf result MachineFault → Rose (M.faults machine.old) (M.faults machine.new) }
         ensures write_fault { IsErrOf result WriteFault → Rose (K.faults sink.old) (K.faults sink.new) }
     {

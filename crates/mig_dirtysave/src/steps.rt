@@ -34,6 +34,7 @@ pub(crate) fn open<K: Sink>(sink: &mut K, fixed: &Guest) -> Result<(), SaveAnswe
     ensures opened { OnOk result (Appends (K.written sink.old) (K.written sink.new) (text_before fixed.now)) }
     ensures part { OnErr result (AppendsPart (K.written sink.old) (K.written sink.new) (text_before fixed.now)) }
     ensures sink_count { K.faults sink.old ≤ K.faults sink.new }
+    ensures sink_quiet { OnOk result (K.faults sink.new ≡ K.faults sink.old) }
     ensures write_fault { OnErr result (IsErrOf result WriteFault × Rose (K.faults sink.old) (K.faults sink.new)) }
 {
     match write_before(sink, fixed) {
@@ -73,6 +74,7 @@ pub(crate) fn send<M: Machine, K: Sink>(
     ensures later { M.Later machine.old machine.new }
     ensures machine_count { M.faults machine.old ≤ M.faults machine.new }
     ensures sink_count { K.faults sink.old ≤ K.faults sink.new }
+    ensures sink_quiet { OnOk result (K.faults sink.new ≡ K.faults sink.old) }
     ensures machine_fault { IsErrOf result MachineFault → Rose (M.faults machine.old) (M.faults machine.new) }
     ensures write_fault { IsErrOf result WriteFault → Rose (K.faults sink.old) (K.faults sink.new) }
     ensures unjudged { IfUnsound result (λ u. ⊥) }
