@@ -1,5 +1,4 @@
--- What is found in a PV host at the pause: what the rounds answered of its tables is what stands in the rows of its entries, and
--- what doesn't speak of types stands in the host.
+-- What is found in a PV host at the pause and doesn't speak of types stands in the host, over any machine.
 use Rattle.mig_pvtables.proofs.Common.{◌≡◌, ℕ, zero, suc, ◌+◌, ◌*◌, ◌<◌, ◌≤◌, List, [], ◌∷◌, length, Bool, true, false, cond, Option, Some, None, is_none, refl, sym, ap, subst, ◌∙◌, arith, ◌==◌, ◌&&◌, find, range_with_len, option_map, option_or, option_and_then, nat_lt, nat_cmp_total, nat_cmp-IsAntisymmetric, eq-eqb, part_total, part_exact, PageType, level_of, gdt_ents, FrameOf, PartKey, Entry, Blank, NotPresent, Superpage, Frame, entry, Pv, context_key, first_cause, first_some, is_superpage}
 use Rattle.std.proofs.Common.{◌⊎◌, inl, inr, take, get_or}
 use Rattle.std.proofs.lemmas.Bool.{ltb-false}
@@ -100,45 +99,6 @@ module _ (h : HostOf) where
 
   lost_is : (pfn : ℕ) → lost_slot (footprint h.frames pfn) ≡ lost_at pfn
   lost_is pfn = lost_frame (maps.get h.frames pfn) ∙ ap (λ (s : ℕ → Entry). find (λ slot. is_unknown (pfn_in h.frames) (s slot)) slots) (sym (said_there pfn (maps.get h.frames pfn) refl))
-
--- ---- the first of all frame numbers
-
-module _ (f : ℕ → Option ℕ) where
-  first_snoc : (g : ℕ → Option (ℕ × ℕ)) (a n : ℕ) → first_some g (range_with_len a (suc n)) ≡ or_first (first_some g (range_with_len a n)) (g (a + n))
-  first_snoc g a zero = by (g a) ∙ ap (λ k. or_first None (g k)) (let e : a ≡ a + zero = omega arith in e)
-    where
-      by : (o : Option (ℕ × ℕ)) → option_or o None ≡ o
-      by None = refl
-      by (Some x) = refl
-  first_snoc g a (suc n) =
-      ap (λ o. option_or (g a) o) (first_snoc g (a + 1) n ∙ ap (λ k. or_first (first_some g (range_with_len (a + 1) n)) (g k)) (let e : a + 1 + n ≡ a + suc n = omega arith in e))
-      ∙ by (g a) (first_some g (range_with_len (a + 1) n)) (g (a + suc n))
-    where
-      by : (x y z : Option (ℕ × ℕ)) → option_or x (or_first y z) ≡ or_first (option_or x y) z
-      by (Some v) y z = refl
-      by None y z = refl
-
-  first_is : (n : ℕ) → first_pfn f n ≡ first_some (λ pfn. option_map (λ slot. (pfn, slot)) (f pfn)) (range_with_len 0 n)
-  unfolding first_pfn
-  first_is zero = refl
-  first_is (suc n) =
-      ap (λ o. or_first o (place n (f n))) (first_is n)
-      ∙ ap (λ k. or_first (first_some (λ pfn. option_map (λ slot. (pfn, slot)) (f pfn)) (range_with_len 0 n)) (option_map (λ slot. (k, slot)) (f k))) (let e : n ≡ 0 + n = omega arith in e)
-      ∙ sym (first_snoc (λ pfn. option_map (λ slot. (pfn, slot)) (f pfn)) 0 n)
-
--- what the rounds answer of the tables is what stands first in the rows of entries
-pub tables_are_rows : (h : HostOf) (types : List (Option PageType)) → tables_unsound h.frames h.width ≡ first_cause (row_3 h.width (standing_seen h types) ∷ row_4 h.width (standing_seen h types) ∷ [])
-tables_are_rows h types =
-    let supers : (λ q. superpage_slot (footprint h.frames q)) ≡ super_at h = λ i q. super_is h q i in
-    let losts : (λ q. lost_slot (footprint h.frames q)) ≡ lost_at h = λ i q. lost_is h q i in
-    (λ i. table_fault (first_pfn (supers i) h.width) (first_pfn (losts i) h.width))
-    ∙ (λ i. table_fault (first_is (super_at h) h.width i) (first_is (lost_at h) h.width i))
-    ∙ by (find_said h.width is_superpage (says h)) (find_said h.width (is_unknown (pfn_in h.frames)) (says h))
-  where
-    by : (a b : Option (ℕ × ℕ)) → table_fault a b ≡ first_cause (option_map (λ (at : ℕ × ℕ). causes.Superpage at.0 at.1) a ∷ option_map (λ (at : ℕ × ℕ). causes.NoFrame at.0 at.1) b ∷ [])
-    by (Some at) b = refl
-    by None (Some at) = refl
-    by None None = refl
 
 -- ---- what is found stands in the host
 

@@ -1,4 +1,4 @@
--- The settings of a PV host, renamed and in blank form: a well formed guest, whose records are those of the host's view.
+-- The settings of the guest that a PV host is seen as: they make a well formed guest, whose records are those of the view.
 use Rattle.mig_hosted.proofs.Common.{◌≡◌, ℕ, ◌+◌, ◌-◌, ◌<◌, ◌≤◌, ◌^◌, ◌%◌, ◌++◌, Bool, true, false, cond, List, [], ◌∷◌, length, Option, Some, None, IfSome, IsSome, is_some, option_map, refl, sym, ap, subst, ◌∙◌, arith, ◌==◌, nat_cmp, and_parts, eqb-true, eq-eqb, part_total, part_exact, part_cmp, Pv, Hvm, PartKey, PartMap, FrameOf, GuestOf, IsFormed, IsPart, gdt_ents, shared_key, each_value, blanked_part, blanked_code, only, length_longs}
 use Rattle.std.specs.Prelude.{◌≢◌, map}
 use Rattle.std.specs.List.{AllByRecursion, flat_map, range_with_len}
@@ -18,122 +18,64 @@ use Rattle.mig_canon.specs.Canon.{Record, records_of, records_in_order, last_rec
 use Rattle.mig_canon.proofs.PvRecords.{short_part}
 use Rattle.mig_pagesink.specs.Written.{IsRecordWithin}
 use Rattle.mig_pvtables.specs.VcpuContexts.{blanked_context, blanked_shared, is_used_somewhere}
-use Rattle.mig_pvtables.proofs.BlankGuests.{HasLongPage, HasSolePage, page_still, parts_blanked}
 use Rattle.mig_pvtables.proofs.BlankSays.{blanked_ents}
-use Rattle.mig_pvtables.proofs.EachValue.{get_each, from_each, some_each, stays_each}
+use Rattle.mig_pvtables.proofs.EachValue.{from_each}
 use Rattle.mig_pvtables.proofs.SameShape.{to_guest}
 use Rattle.mig_hosted.specs.Localised.{renamed_part}
 use Rattle.mig_hosted.specs.RenamedContexts.{renamed_context}
-use Rattle.mig_hosted.specs.Sound.{unsoundness}
 use Rattle.mig_hosted.specs.View.{view, top_of}
 use Rattle.mig_hosted.proofs.ViewedFrames.{each_policy, top_is}
 use Rattle.mig_hosted.proofs.ViewedParts.{pv_part}
 use Rattle.mig_hosted.proofs.ViewedSays.{ents_there}
-use Rattle.mig_pause.specs.Paused.{with_names}
+use Rattle.mig_pause.specs.Paused.{with_view}
+use Rattle.mig_pause.proofs.HeldParts.{kept_are_seen}
 use Rattle.mig_dirtysave.specs.Saver.{is_setting, kept_parts, parts_alone}
 use Rattle.mig_dirtysave.specs.SaveTexts.{settings_seen}
 use Rattle.mig_dirtysave.proofs.Codes.{IsOther, both_all, code_within, from_kept, same_records, seen_as}
 use Rattle.mig_dirtysave.proofs.Walks.{kept_at}
 
 module _ (h : HostOf) where
-  abbrev kept : PartMap
-  kept = kept_parts is_setting h.parts
-
-  abbrev rename : PartKey → List ℕ → List ℕ
-  rename = renamed_part is_used_somewhere (pfn_in h.frames)
-
-  abbrev named : PartMap
-  named = each_value rename kept
-
   -- a setting is as the view has it
-  setting_at : (q : PartKey) → is_setting q.code ≡ true → maps.get (settings_seen h).parts q ≡ maps.get (seen_as h Pv).parts q
-  setting_at q of =
-      get_each part_total part_exact blanked_part named q
-      ∙ ap (option_map (blanked_part q)) (get_each part_total part_exact rename kept q
-      ∙ ap (option_map (rename q)) (kept_at is_setting h.parts q ∙ ap (λ b. cond b (maps.get h.parts q) None) of)
-      ∙ sym (get_each part_total part_exact rename h.parts q))
-      ∙ sym (get_each part_total part_exact blanked_part (each_value rename h.parts) q)
+  setting_at : (q : PartKey) → is_setting q.code ≡ true → maps.get (settings_seen h).parts q ≡ maps.get (view h).parts q
+  setting_at q of = kept_at is_setting (view h).parts q ∙ ap (λ b. cond b (maps.get (view h).parts q) None) of
 
   -- nothing else is held
   other_at : (q : PartKey) → is_setting q.code ≡ false → maps.get (settings_seen h).parts q ≡ None
-  other_at q isnt =
-      get_each part_total part_exact blanked_part named q
-      ∙ ap (option_map (blanked_part q)) (get_each part_total part_exact rename kept q ∙ ap (option_map (rename q)) (kept_at is_setting h.parts q ∙ ap (λ b. cond b (maps.get h.parts q) None) isnt))
+  other_at q isnt = kept_at is_setting (view h).parts q ∙ ap (λ b. cond b (maps.get (view h).parts q) None) isnt
 
   -- ---- its records
 
-  code_seen : (code : PartCode) → is_setting (code_number code) ≡ true → records_of code (seen_as h Pv) ≡ records_of code (settings_seen h)
-  code_seen code of = sym (same_records code (settings_seen h) (seen_as h Pv) (λ q is. setting_at q (ap is_setting is ∙ of)))
+  code_seen : (code : PartCode) → is_setting (code_number code) ≡ true → records_of code (settings_seen h) ≡ records_of code (view h)
+  code_seen code of = same_records code (settings_seen h) (view h) (λ q is. setting_at q (ap is_setting is ∙ of))
 
-  vcpu_seen : (id : ℕ) → records_of_vcpu (seen_as h Pv) id ≡ records_of_vcpu (settings_seen h) id
+  vcpu_seen : (id : ℕ) → records_of_vcpu (settings_seen h) id ≡ records_of_vcpu (view h) id
   vcpu_seen id =
-      let basic = sym (setting_at (key_of VcpuBasic id) refl) in let extended = sym (setting_at (key_of VcpuExtended id) refl) in
-      let xsave = sym (setting_at (key_of VcpuXsave id) refl) in let msrs = sym (setting_at (key_of VcpuMsrs id) refl) in
+      let basic = setting_at (key_of VcpuBasic id) refl in let extended = setting_at (key_of VcpuExtended id) refl in
+      let xsave = setting_at (key_of VcpuXsave id) refl in let msrs = setting_at (key_of VcpuMsrs id) refl in
       λ i. part_record VcpuBasic (key_of VcpuBasic id) (basic i) ++ (part_record VcpuExtended (key_of VcpuExtended id) (extended i)
-      ++ (part_record VcpuXsave (key_of VcpuXsave id) (xsave i) ++ (part_record VcpuMsrs (key_of VcpuMsrs id) (msrs i) ++ [])))
+          ++ (part_record VcpuXsave (key_of VcpuXsave id) (xsave i) ++ (part_record VcpuMsrs (key_of VcpuMsrs id) (msrs i) ++ [])))
 
-  below_seen : (n : ℕ) → vcpus_below (seen_as h Pv) n ≡ vcpus_below (settings_seen h) n
+  below_seen : (n : ℕ) → vcpus_below (settings_seen h) n ≡ vcpus_below (view h) n
   below_seen n = λ i. flat_map (λ id. vcpu_seen id i) (range_with_len 0 n)
 
-  vcpus_seen : all_vcpus (seen_as h Pv) ≡ all_vcpus (settings_seen h)
+  vcpus_seen : all_vcpus (settings_seen h) ≡ all_vcpus (view h)
   unfolding all_vcpus
   vcpus_seen = below_seen 4096
 
   pub pv_last_seen : h.kind ≡ Pv → last_records Pv (settings_seen h) ≡ last_records h.kind (view h)
   pv_last_seen pv =
       let tsc = code_seen Tsc refl in let shared = code_seen SharedInfo refl in let vcpus = vcpus_seen in
-      sym ((λ i. last_records (pv i) (seen_as h (pv i))) ∙ (λ i. (tsc i ++ (shared i ++ [])) ++ vcpus i))
-
-  -- ---- how it comes about
+      (λ i. (tsc i ++ (shared i ++ [])) ++ vcpus i) ∙ ap (λ (k : Kind). last_records k (view h)) (sym pv)
 
   module _ (valid : IsValid h) (pv : h.kind ≡ Pv) where
     host_part : (key : PartKey) (bytes : List ℕ) → maps.get h.parts key ≡ Some bytes → IsHostPart Pv h.width key bytes
     host_part key bytes there = subst (λ (k : Kind). IsHostPart k h.width key bytes) pv (valid.parts key bytes there)
 
-    -- what is renamed was kept
-    was_kept : (key : PartKey) (bytes : List ℕ) → maps.get named key ≡ Some bytes → (x : List ℕ) × (maps.get h.parts key ≡ Some x) × (rename key x ≡ bytes)
-    was_kept key bytes is = let (x, was, same) = from_each part_total part_exact rename kept key bytes is in (x, (from_kept is_setting h.parts key x was).1, same)
-
-    pub contexts_long : (g : GuestOf) → g ≡ record (parts_alone h.kind h.width kept) { parts = named } → (key : PartKey) (context : List ℕ) → maps.get g.parts key ≡ Some context → key.code ≡ 4 → length context ≡ 5168
-    contexts_long g is key context found code =
-        let (x, was, same) = was_kept key context (sym (ap (λ (k : GuestOf). maps.get k.parts key) is) ∙ found) in
-        sym (ap length same) ∙ ap (λ b. length (cond b (renamed_context is_used_somewhere (pfn_in h.frames) key.key1 x) x)) (eq-eqb key.code 4 code) ∙ length_longs 646 _
-
-    page_kept : maps.get named shared_key ≡ maps.get h.parts shared_key
-    page_kept = stays_each part_total part_exact rename shared_key (λ _. refl) kept ∙ kept_at is_setting h.parts shared_key
-
-    long_page : HasLongPage named
-    long_page = subst (λ o. IfSome o (λ (page : List ℕ). length page ≡ 4096)) (sym page_kept) (by (maps.get h.parts shared_key) refl)
-      where
-        by : (o : Option (List ℕ)) → maps.get h.parts shared_key ≡ o → IfSome o (λ (page : List ℕ). length page ≡ 4096)
-        by None at = tt
-        by (Some page) at =
-            let is = host_part shared_key page at in
-            eqb-true (length page) 4096 (subst (λ c. (row_of c).allows h.width (length page) ≡ true) (one_code is.code SharedInfo (sym is.number)) is.len)
-
-    pub page_long : (g : GuestOf) → g ≡ record (parts_alone h.kind h.width kept) { parts = each_value (blanked_code 4 (λ _. blanked_context)) named } → IfSome (maps.get g.parts shared_key) (λ (page : List ℕ). length page ≡ 4096)
-    page_long g is = subst (λ (k : GuestOf). HasLongPage k.parts) (sym is) (page_still named long_page)
-
-    sole_page : HasSolePage named
-    sole_page key there code = by (maps.get named key) refl there
-      where
-        by : (o : Option (List ℕ)) → maps.get named key ≡ o → IsSome o → key ≡ shared_key
-        by None at some = absurd (cc)
-        by (Some bytes) at some =
-            let (x, was, same) = was_kept key bytes at in
-            let is = host_part key x was in
-            let keys = subst (λ c. (row_of c).keys key.key1 key.key2 ≡ true) (one_code is.code SharedInfo (sym is.number ∙ code)) is.keys in
-            let (a, b) = and_parts (key.key1 == 0) (key.key2 == 0) keys in let one = eqb-true key.key1 0 a in let two = eqb-true key.key2 0 b in
-            λ i. record { code = code i; key1 = one i; key2 = two i }
-
-    -- the settings are refreshed, renamed, and brought to blank form
-    pub settings_are : (a b c d : GuestOf) → a ≡ parts_alone h.kind h.width kept → b ≡ with_names h a → c ≡ record b { parts = each_value (blanked_code 4 (λ _. blanked_context)) b.parts }
-        → d ≡ record c { parts = each_value (only part_cmp shared_key blanked_shared) c.parts } → d ≡ settings_seen h
-    settings_are a b c d fresh renamed contexts page =
-        page
-        ∙ ap (λ (k : GuestOf). record k { parts = each_value (only part_cmp shared_key blanked_shared) k.parts })
-        (contexts ∙ ap (λ (k : GuestOf). record k { parts = each_value (blanked_code 4 (λ _. blanked_context)) k.parts }) (renamed ∙ ap (with_names h) fresh))
-        ∙ ap (parts_alone h.kind h.width) (parts_blanked named sole_page)
+    -- the settings are refreshed, and those of the host become those of its view
+    pub settings_are : (g k : GuestOf) → g ≡ parts_alone h.kind h.width (kept_parts is_setting h.parts) → k ≡ with_view h g → k ≡ settings_seen h
+    settings_are g k fresh seen =
+        seen ∙ ap (λ (s : GuestOf). record s { parts = (with_view h g).parts }) fresh
+        ∙ ap (parts_alone h.kind h.width) (kept_are_seen h g is_setting (ap (λ (s : GuestOf). s.parts) fresh) pv)
 
     -- ---- it is well formed
 
@@ -155,8 +97,10 @@ module _ (h : HostOf) where
 
       final_part : (key : PartKey) (bytes : List ℕ) → maps.get (settings_seen h).parts key ≡ Some bytes → IsPart Pv h.width key bytes
       final_part key bytes is =
-          let (y, was, same) = from_each part_total part_exact blanked_part named key bytes is in
-          let (x, there, before) = was_kept key y was in
+          let rename = renamed_part is_used_somewhere (pfn_in h.frames) in
+          let viewed = sym (ap (λ (k : Kind). maps.get (seen_as h k).parts key) pv) ∙ (from_kept is_setting (view h).parts key bytes is).1 in
+          let (y, was, same) = from_each part_total part_exact blanked_part (each_value rename h.parts) key bytes viewed in
+          let (x, there, before) = from_each part_total part_exact rename h.parts key y was in
           subst (IsPart Pv h.width key) same
           (subst (λ (z : List ℕ). IsPart Pv h.width key (blanked_part key z)) before
           (final_case key x there (key.code == 4) (key.code == 7) refl refl (pv_part (pfn_in h.frames) h.width key x (host_part key x there) (few key x there))))

@@ -10,15 +10,12 @@ use Rattle.mig_headers.specs.declared.unsound.Unsound.TheVariants as unsounds
 use Rattle.mig_guest.specs.declared.part_code.PartCode.{PartCode}
 use Rattle.mig_guest.specs.declared.part_code.PartCode.TheVariants.{Tsc, HvmParam}
 use Rattle.mig_guest.specs.Guests.{GuestOf}
-use Rattle.mig_guest.specs.Hosts.{HostOf, pfn_in}
+use Rattle.mig_guest.specs.Hosts.{HostOf}
 use Rattle.mig_guest.specs.Parts.{PartMap}
 use Rattle.mig_guest.specs.PartKeys.{context_key}
 use Rattle.mig_canon.specs.Canon.{Record, records_in_order, last_records, text_of}
 use Rattle.mig_pagesink.specs.Written.{WroteAll, WroteSome}
-use Rattle.mig_pvtables.specs.Blank.{each_value, blanked_part}
 use Rattle.mig_pvtables.specs.Faults.{first_cause}
-use Rattle.mig_pvtables.specs.VcpuContexts.{is_used_somewhere}
-use Rattle.mig_hosted.specs.Localised.{renamed_part}
 use Rattle.mig_hosted.specs.Sound.{absent, find_context_fault, unsoundness}
 use Rattle.mig_hosted.specs.View.{view}
 use Rattle.mig_dirtysave.specs.Saver.{is_setting, kept_parts, parts_alone}
@@ -36,9 +33,9 @@ context_record front = (9, front ++ replicate 8 0)
 abbrev pub closing_records : GuestOf → List ℕ → List Record
 closing_records settings front = records_in_order setting_codes settings ++ context_record front ∷ []
 
--- the settings of a PV host in the form that they have in a stream: with PFNs for machine frames, and in blank form
+-- the settings of the guest that a host is seen as
 abbrev pub settings_seen : HostOf → GuestOf
-settings_seen h = parts_alone h.kind h.width (each_value blanked_part (each_value (renamed_part is_used_somewhere (pfn_in h.frames)) (kept_parts is_setting h.parts)))
+settings_seen h = parts_alone h.kind h.width (kept_parts is_setting (view h).parts)
 
 -- what stands before the END of a context that is there
 pub record IsContextFront (parts : PartMap) (front : List ℕ) : Type 0 where

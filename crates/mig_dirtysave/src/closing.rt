@@ -23,7 +23,7 @@ use mig_guest::Guest;
 use mig_headers::{Kind, Unsound};
 use mig_machine_api::Machine;
 use mig_pagetypes::PageType;
-use mig_pvtables::{blank_shared_info, blank_vcpus};
+use mig_pause::view_parts;
 use mig_rounds::Sent;
 
 /// Judges the host of a paused HVM machine, and writes what stands behind the frames, END the last. `tables` is what was
@@ -61,7 +61,7 @@ fn close_hvm<M: Machine, K: Sink>(
 }
 
 /// Judges the host of a paused PV machine by the types that were seen last and what was found wrong with its tables, and
-/// brings its settings to the form that they have in a stream. There is a mark for each type.
+/// makes the settings those of the guest that it is seen as. There is a mark for each type at least.
 fn settle<M: Machine>(
     machine: &mut M,
     settings: &mut Guest,
@@ -74,7 +74,7 @@ fn settle<M: Machine>(
     requires same { SameSettings (M.state machine.old).host.parts settings.old.parts }
     requires valid { IsValid (M.state machine.old).host }
     requires pv { (M.state machine.old).host.kind ≡ Pv }
-    requires marks { length marks.old ≡ length types.now }
+    requires marks { length types.now ≤ length marks.old }
     requires types { (M.state machine.old).honest ≡ true → HasTypes (M.state machine.old).host types.now }
     requires tables { AnswersTables (M.state machine.old) tables }
     requires named { (u : UnsoundCause) → tables ≡ Some u → IsUnsound (M.state machine.old).host.frames u }
@@ -91,12 +91,8 @@ fn settle<M: Machine>(
     ensures no_write { ¬ IsErrOf result WriteFault }
 {
     refresh(settings, machine);
-    match mig_pause::judge(machine, settings, types, marks, tables) {
-        Ok(None) => {
-            blank_vcpus(settings);
-            blank_shared_info(settings);
-            Ok(())
-        }
+    match view_parts(machine, settings, types, marks, tables) {
+        Ok(None) => Ok(()),
         Ok(Some(unsound)) => Err(SaveAnswer::Unsound(unsound)),
         Err(_) => Err(SaveAnswer::MachineFault),
     }
