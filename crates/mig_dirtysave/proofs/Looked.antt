@@ -1,5 +1,5 @@
 -- What stays of a paused machine while machine frames are looked up: its host, and what a history says of rounds and reads.
-use Rattle.std.proofs.Common.{◌≡◌, ℕ, ◌+◌, ◌<◌, ◌≤◌, Bool, true, false, List, [], ◌∷◌, ◌++◌, length, take, get_or, Option, Some, None, map, min, refl, sym, ap, subst, ◌∙◌, arith}
+use Rattle.std.proofs.Common.{◌≡◌, ℕ, ◌+◌, ◌≤◌, List, [], ◌∷◌, ◌++◌, length, take, get_or, Option, Some, None, map, min, refl, sym, ap, subst, ◌∙◌, arith}
 use Rattle.std.specs.Prelude.{Result, Ok, Err, IsErrAnd}
 use Rattle.std.proofs.lemmas.Bool.{cases_lt}
 use Rattle.std.proofs.lemmas.List.{get_or-take, get_or_past, length-take}
@@ -7,7 +7,6 @@ use Rattle.std.proofs.Common.{◌⊎◌, inl, inr}
 use Rattle.std.specs.Option.{option_map}
 use Rattle.std.specs.FinMap as maps
 use Rattle.mig_headers.specs.declared.kind.Kind.{Kind}
-use Rattle.mig_headers.specs.declared.kind.Kind.TheVariants.{Pv, Hvm}
 use Rattle.mig_pagetypes.specs.declared.page_type.PageType.{PageType}
 use Rattle.mig_guest.specs.Hosts.{HostOf, HostFrame, IsValid}
 use Rattle.mig_canon.specs.Canon.{headers, text_of}
@@ -15,11 +14,11 @@ use Rattle.mig_pagesink.specs.Told.{telling_record}
 use Rattle.mig_hosted.specs.View.{view}
 use Rattle.mig_libxl.specs.Spelled.{AcceptedStream}
 use Rattle.mig_machine_api.specs.History.{History}
-use Rattle.mig_machine_api.specs.MachineStates.{MachineState, Ran}
+use Rattle.mig_machine_api.specs.MachineStates.{MachineState}
 use Rattle.mig_machine_api.specs.Pfns.{Pfns, members, size}
 use Rattle.mig_machine_api.specs.Rounds.{Rounds, Tight, all_read, rounds_read}
 use Rattle.mig_rounds.specs.Flags.{total, total_taken}
-use Rattle.mig_rounds.specs.Live.{StaysSame, HasRounds, IsTight, type_in}
+use Rattle.mig_rounds.specs.Live.{IsTight, type_in}
 use Rattle.mig_pause.specs.Paused.{OnlyLooksUp, HasTypes}
 use Rattle.mig_headers.specs.declared.unsound.Unsound.{Unsound}
 use Rattle.mig_dirtysave.specs.SaveAnswers.{SaveWritten, IsTrusted, IfUnsound}
@@ -50,46 +49,13 @@ module _ (kind : Kind) (width : ℕ) (h k : History) (taken : k.taken ≡ h.take
 
 -- ---- machines
 
--- nothing was asked
-pub looks_none : (t : MachineState) → OnlyLooksUp t t
-looks_none t = record {
-  ran = record {
-    shape = record { kind = refl; width = refl; lengths = λ key. refl; fixed = λ key is. refl };
-    honest = refl;
-    grown = λ p out. out;
-    quiet = λ honest p out. refl;
-    stopped = λ paused. refl;
-  };
-  host = refl;
-  paused = refl;
-  taken = refl;
-  live = refl;
-  read = refl;
-  twice = refl;
-}
-
 module _ (t u : MachineState) (looks : OnlyLooksUp t u) where
-  pub rounds_stay : HasRounds t → HasRounds u
-  rounds_stay r =
-      subst (λ (h : HostOf). Rounds h.kind h.width u.history) (sym looks.host) (rounds_kept t.host.kind t.host.width t.history u.history looks.taken looks.live looks.read looks.twice r)
-
   pub tight_stay : IsTight t → IsTight u
   tight_stay r = λ honest.
       subst (λ (h : HostOf). Tight h.kind h.width u.history) (sym looks.host)
       (tight_kept t.host.kind t.host.width t.history u.history looks.taken looks.live looks.read looks.twice (r (sym looks.ran.honest ∙ honest)))
 
-  pub same_stay : (s : MachineState) → StaysSame s t → StaysSame s u
-  same_stay s same = record {
-    shape = record {
-      kind = ap (λ (h : HostOf). h.kind) looks.host ∙ same.shape.kind;
-      width = ap (λ (h : HostOf). h.width) looks.host ∙ same.shape.width;
-      lengths = λ key. ap (λ (h : HostOf). option_map (λ (bytes : List ℕ). length bytes) (maps.get h.parts key)) looks.host ∙ same.shape.lengths key;
-      fixed = λ key is. ap (λ (h : HostOf). maps.get h.parts key) looks.host ∙ same.shape.fixed key is;
-    };
-    honest = looks.ran.honest ∙ same.honest;
-  }
-
-  pub read_stays : all_read t.host.width t.history ≡ all_read u.host.width u.history
+  read_stays : all_read t.host.width t.history ≡ all_read u.host.width u.history
   read_stays = let taken = sym looks.taken in let read = sym looks.read in let host = sym looks.host in λ i. rounds_read (host i).width (taken i) ++ members (host i).width (read i)
 
   pub total_stays : (width : ℕ) → total width u.history ≡ total width t.history

@@ -1,8 +1,7 @@
 -- What is found in a PV host at the pause and doesn't speak of types stands in the host, over any machine.
-use Rattle.mig_pvtables.proofs.Common.{◌≡◌, ℕ, zero, suc, ◌+◌, ◌*◌, ◌<◌, ◌≤◌, List, [], ◌∷◌, length, Bool, true, false, cond, Option, Some, None, is_none, refl, sym, ap, subst, ◌∙◌, arith, ◌==◌, ◌&&◌, find, range_with_len, option_map, option_or, option_and_then, nat_lt, nat_cmp_total, nat_cmp-IsAntisymmetric, eq-eqb, part_total, part_exact, PageType, level_of, gdt_ents, FrameOf, PartKey, Entry, Blank, NotPresent, Superpage, Frame, entry, Pv, context_key, first_cause, first_some, is_superpage}
-use Rattle.std.proofs.Common.{◌⊎◌, inl, inr, take, get_or}
+use Rattle.mig_pvtables.proofs.Common.{◌≡◌, ℕ, zero, suc, ◌+◌, ◌*◌, ◌<◌, ◌≤◌, List, [], ◌∷◌, Bool, true, false, cond, Option, Some, None, is_none, refl, sym, ap, subst, ◌∙◌, arith, ◌==◌, ◌&&◌, find, range_with_len, option_map, option_or, option_and_then, nat_lt, nat_cmp_total, nat_cmp-IsAntisymmetric, eq-eqb, part_total, part_exact, PageType, level_of, gdt_ents, PartKey, Entry, Blank, NotPresent, Superpage, Frame, entry, Pv, context_key, first_cause, is_superpage}
+use Rattle.std.proofs.Common.{◌⊎◌, inl, inr, get_or}
 use Rattle.std.proofs.lemmas.Bool.{ltb-false}
-use Rattle.std.specs.Prelude.{Result, Ok, Err}
 use Rattle.std.specs.FinMap as maps
 use Rattle.mig_headers.specs.Contexts.{scan}
 use Rattle.mig_headers.specs.declared.unsound.Unsound.{Unsound}
@@ -18,13 +17,12 @@ use Rattle.mig_pvtables.specs.Faults.{slots}
 use Rattle.mig_pvtables.proofs.EachValue.{get_each}
 use Rattle.mig_pvtables.proofs.Searches.{first_found}
 use Rattle.mig_hosted.specs.Sound.{fault_in, find_gdt, unsoundness}
-use Rattle.mig_hosted.specs.View.{guest_in, without_machine}
+use Rattle.mig_hosted.specs.View.{without_machine}
 use Rattle.mig_machine_api.specs.Footprints.{footprint, footprint_of, table_in, names_in, named_by}
 use Rattle.mig_rounds.specs.Forms.{superpage_in, superpage_slot, is_lost, lost_in, lost_slot}
-use Rattle.mig_rounds.specs.Live.{IsUnsound, table_fault, tables_unsound}
-use Rattle.mig_rounds.specs.Sends.{first_pfn, or_first, place}
-use Rattle.mig_standing.specs.Standing.{Standing, before_saver, in_host, is_of_no_type, said_in, said_of}
-use Rattle.mig_standing.specs.FirstRow.{find_said, row_1, row_2, row_3, row_4, row_5, row_6, row_7, first_row}
+use Rattle.mig_rounds.specs.Live.{IsUnsound}
+use Rattle.mig_standing.specs.Standing.{Standing, in_host, is_of_no_type, said_in, said_of}
+use Rattle.mig_standing.specs.FirstRow.{row_1, row_2, row_5, row_6, row_7, first_row}
 use Rattle.mig_standing.specs.Unsoundness.{IsWrong, UnsoundHas, NamesFirstRow}
 use Rattle.mig_standing.specs.Unsoundness.IsWrong.{no_context, no_p2m, no_shared, no_vcpu, other_type, listed_twice, large, nameless, many_descriptors, field_ill, bad_context}
 use Rattle.mig_standing.proofs.Instances.{unsoundness_named}

@@ -1,22 +1,20 @@
 -- The settings of the guest that a PV host is seen as: they make a well formed guest, whose records are those of the view.
-use Rattle.mig_hosted.proofs.Common.{◌≡◌, ℕ, ◌+◌, ◌-◌, ◌<◌, ◌≤◌, ◌^◌, ◌%◌, ◌++◌, Bool, true, false, cond, List, [], ◌∷◌, length, Option, Some, None, IfSome, IsSome, is_some, option_map, refl, sym, ap, subst, ◌∙◌, arith, ◌==◌, nat_cmp, and_parts, eqb-true, eq-eqb, part_total, part_exact, part_cmp, Pv, Hvm, PartKey, PartMap, FrameOf, GuestOf, IsFormed, IsPart, gdt_ents, shared_key, each_value, blanked_part, blanked_code, only, length_longs}
-use Rattle.std.specs.Prelude.{◌≢◌, map}
+use Rattle.mig_hosted.proofs.Common.{◌≡◌, ℕ, ◌+◌, ◌-◌, ◌<◌, ◌≤◌, ◌^◌, ◌++◌, Bool, true, false, cond, List, [], ◌∷◌, length, Option, Some, None, refl, sym, ap, subst, ◌∙◌, arith, ◌==◌, nat_cmp, eqb-true, eq-eqb, part_total, part_exact, part_cmp, Pv, Hvm, PartKey, FrameOf, GuestOf, IsFormed, IsPart, gdt_ents, each_value, blanked_part, length_longs}
+use Rattle.std.specs.Prelude.{◌≢◌}
 use Rattle.std.specs.List.{AllByRecursion, flat_map, range_with_len}
 use Rattle.std.specs.FinMap as maps
 use Rattle.mig_headers.specs.declared.kind.Kind.{Kind}
 use Rattle.mig_bodies.specs.Shapes.{part_body, shape_of}
 use Rattle.mig_guest.specs.declared.part_code.PartCode.{PartCode}
 use Rattle.mig_guest.specs.declared.part_code.PartCode.TheVariants.{VcpuBasic, VcpuExtended, VcpuXsave, SharedInfo, Tsc, VcpuMsrs}
-use Rattle.mig_guest.specs.Formed.{IsRowPart, is_policy}
+use Rattle.mig_guest.specs.Formed.{is_policy}
 use Rattle.mig_guest.specs.Hosts.{HostOf, IsHostPart, IsValid, pfn_in}
-use Rattle.mig_guest.specs.PartCodes.{row_of, code_number}
+use Rattle.mig_guest.specs.PartCodes.{code_number}
 use Rattle.mig_guest.specs.Parts.{Part, FitsPolicy}
 use Rattle.mig_guest.proofs.Counts.{same_parts}
 use Rattle.mig_guest.proofs.Kept.{empty_formed}
-use Rattle.mig_guest.proofs.PartRows.{one_code}
-use Rattle.mig_canon.specs.Canon.{Record, records_of, records_in_order, last_records, all_vcpus, key_of, part_record, pv_last_codes, records_of_vcpu, vcpu_codes, vcpu_record, vcpus_below}
+use Rattle.mig_canon.specs.Canon.{records_of, records_in_order, last_records, all_vcpus, key_of, part_record, pv_last_codes, records_of_vcpu, vcpu_record, vcpus_below}
 use Rattle.mig_canon.proofs.PvRecords.{short_part}
-use Rattle.mig_pagesink.specs.Written.{IsRecordWithin}
 use Rattle.mig_pvtables.specs.VcpuContexts.{blanked_context, blanked_shared, is_used_somewhere}
 use Rattle.mig_pvtables.proofs.BlankSays.{blanked_ents}
 use Rattle.mig_pvtables.proofs.EachValue.{from_each}
@@ -53,7 +51,7 @@ module _ (h : HostOf) where
       let basic = setting_at (key_of VcpuBasic id) refl in let extended = setting_at (key_of VcpuExtended id) refl in
       let xsave = setting_at (key_of VcpuXsave id) refl in let msrs = setting_at (key_of VcpuMsrs id) refl in
       λ i. part_record VcpuBasic (key_of VcpuBasic id) (basic i) ++ (part_record VcpuExtended (key_of VcpuExtended id) (extended i)
-          ++ (part_record VcpuXsave (key_of VcpuXsave id) (xsave i) ++ (part_record VcpuMsrs (key_of VcpuMsrs id) (msrs i) ++ [])))
+      ++ (part_record VcpuXsave (key_of VcpuXsave id) (xsave i) ++ (part_record VcpuMsrs (key_of VcpuMsrs id) (msrs i) ++ [])))
 
   below_seen : (n : ℕ) → vcpus_below (settings_seen h) n ≡ vcpus_below (view h) n
   below_seen n = λ i. flat_map (λ id. vcpu_seen id i) (range_with_len 0 n)

@@ -1,4 +1,4 @@
-ghost use Rattle.std.specs.Prelude.{◌≡◌, ◌≤◌, ◌⊎◌, ℕ, length, true, None, Some, OnOk, OnErr, IfOk, IsErrOf};
+ghost use Rattle.std.specs.Prelude.{◌≡◌, ◌≤◌, ℕ, length, true, None, Some, OnOk, OnErr, IsErrOf};
 ghost use Rattle.mig_bytes.specs.Faults.{Rose};
 ghost use Rattle.mig_headers.specs.declared.kind.Kind.TheVariants.{Hvm, Pv};
 ghost use Rattle.mig_headers.specs.declared.unsound.Unsound.{Unsound as UnsoundCause};

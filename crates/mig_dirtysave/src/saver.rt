@@ -53,7 +53,7 @@ impl Model for Saver {
 impl Saver {
     /// Makes all that `run` needs, for a machine as it is now.
     pub fn prepare<M: Machine>(alloc: Global, machine: &M) -> Result<Saver, Memory>
-        requires { HasNoEmulators (M.state machine.now).host.parts }
+        requires plain { HasNoEmulators (M.state machine.now).host.parts }
         ensures { IfOk result (λ saver. IsFor saver (M.state machine.now).host) }
     {
         let room = Room::new(alloc, machine.width())?;

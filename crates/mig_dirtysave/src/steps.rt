@@ -2,26 +2,20 @@ ghost use Rattle.std.specs.Prelude.{◌≡◌, ◌≤◌, true, false, None, Som
 ghost use Rattle.std.specs.Io.KnownBytes.{Appends};
 ghost use Rattle.mig_bytes.specs.Bytes.{AppendsPart};
 ghost use Rattle.mig_bytes.specs.Faults.{Rose};
-ghost use Rattle.mig_headers.specs.declared.kind.Kind.TheVariants.{Hvm};
 ghost use Rattle.mig_headers.specs.declared.unsound.Unsound.{Unsound as UnsoundCause};
 ghost use Rattle.mig_guest.specs.Formed.{IsFormed};
 ghost use Rattle.mig_guest.specs.Hosts.{IsValid};
-ghost use Rattle.mig_hosted.specs.Sound.{unsoundness};
 ghost use Rattle.mig_pagesink.specs.Batches.{IsBehind};
 ghost use Rattle.mig_machine_api.specs.History.{no_history};
 ghost use Rattle.mig_machine_api.specs.MachineStates.{IsValidState};
 ghost use Rattle.mig_rounds.specs.Flags.{total};
 ghost use Rattle.mig_rounds.specs.Live.{StaysSame, HasRounds, IsTight, FramesSaved, SawTypes, AnswersTables, IsUnsound};
 ghost use Rattle.mig_saved.specs.Around.{text_before};
-ghost use Rattle.mig_dirtysave.specs.Saver.{HoldsParts, SameSettings, is_setting};
-ghost use Rattle.mig_dirtysave.specs.SaveTexts.{StopsBehind, ClosesStream};
 ghost use Rattle.mig_dirtysave.specs.SaveAnswers.{IfUnsound};
 ghost use Rattle.mig_dirtysave.specs.declared.answer.SaveAnswer.TheVariants.{MachineFault, WriteFault};
 
 use crate::answer::SaveAnswer;
-use crate::judge::judge;
-use crate::settings::refresh;
-use crate::write::{write_before, write_last};
+use crate::write::write_before;
 use mig_bytes::Sink;
 use mig_guest::Guest;
 use mig_headers::Unsound;

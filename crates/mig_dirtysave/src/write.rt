@@ -1,4 +1,4 @@
-ghost use Rattle.std.specs.Prelude.{◌≡◌, ◌+◌, ◌≤◌, length, [], ◌∷◌, ◌++◌, OnOk, OnErr};
+ghost use Rattle.std.specs.Prelude.{◌+◌, ◌≤◌, length, [], ◌∷◌, ◌++◌, OnOk, OnErr};
 ghost use Rattle.std.specs.Io.KnownBytes.{Appends};
 ghost use Rattle.mig_bytes.specs.Bytes.{Puts};
 ghost use Rattle.mig_bytes.specs.Faults.{HasCause};

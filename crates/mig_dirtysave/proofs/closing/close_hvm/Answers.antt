@@ -1,6 +1,5 @@
 use Rattle.std.proofs.Common.{refl, sym, subst, ◌∙◌}
 use Rattle.mig_guest.specs.Formed.{IsFormed}
-use Rattle.mig_guest.specs.Hosts.{HostOf}
 use Rattle.mig_dirtysave.specs.Saver.{is_setting}
 use Rattle.mig_dirtysave.proofs.Codes.{kept_formed, no_pv}
 use Rattle.mig_dirtysave.proofs.Rows.{hvm_judged, no_table_fault}

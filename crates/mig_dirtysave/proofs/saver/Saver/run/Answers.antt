@@ -3,7 +3,7 @@ use Rattle.mig_hosted.specs.Sound.{unsoundness}
 use Rattle.mig_rounds.specs.Flags.{total}
 use Rattle.mig_guest.specs.Hosts.{HostOf}
 use Rattle.mig_guest.specs.PartCodes.{is_fixed}
-use Rattle.mig_dirtysave.specs.Saver.{SaverOf, is_setting}
+use Rattle.mig_dirtysave.specs.Saver.{SaverOf}
 use Rattle.mig_standing.specs.Standing.{is_of_no_type}
 use Rattle.mig_standing.specs.Unsoundness.{UnsoundHas}
 use Rattle.mig_dirtysave.specs.SaveAnswers.{IsLittleBehind, IsTrusted}
