@@ -200,9 +200,6 @@ module _ (tables : Option Unsound) (s : Standing) (none : first_around tables s 
   all_none None (Some u) t d e is = let no : ◌≡◌ {A = Option Unsound} (Some u) None = is in cc
   all_none (Some u) b t d e is = let no : ◌≡◌ {A = Option Unsound} (Some u) None = is in cc
 
-  pub no_table_found : tables ≡ None
-  no_table_found = (all_none (row_1 s) (row_2 s) tables (row_5 s) (row_6 s) none).0
-
   untold : (o : Option (ℕ × ℕ)) → option_map (λ (at : ℕ × ℕ). causes.GdtEnts at.0 at.1) o ≡ None → o ≡ None
   untold None is = refl
   untold (Some x) is = let no : ◌≡◌ {A = Option Unsound} (Some (causes.GdtEnts x.0 x.1)) None = is in cc

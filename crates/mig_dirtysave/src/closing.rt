@@ -131,6 +131,7 @@ fn close_pv<M: Machine, K: Sink>(
     ensures machine_fault { IsErrOf result MachineFault → Rose (M.faults machine.old) (M.faults machine.new) }
     ensures write_fault { IsErrOf result WriteFault → Rose (K.faults sink.old) (K.faults sink.new) }
 {
+    // What is beyond the marks is no frame number of the machine.
     let count = types.len().min(marks.len());
     settle(
         machine,

@@ -14,7 +14,7 @@ const CONTEXT: PartKey = PartKey {
     key2: 0,
 };
 
-/// What stands in the context of the machine's host before its END, or the first thing that is wrong with the host, where
+/// What stands in the context of an HVM machine's host before its END, or the first thing that is wrong with the host, where
 /// `tables` is the first that is wrong with its tables.
 pub(crate) fn judge<M: Machine>(machine: &M, tables: Option<Unsound>) -> Result<&[u8], Unsound>
     ensures front { IfOk result (λ front. IsContextFront (M.state machine.now).host.parts front.now) }
