@@ -23,7 +23,7 @@ pub enum Refusal {
     Legacy(LegacyPlace, LegacyCause),
     /// Of the image of a host.
     Image(ImagePlace, ImageCause),
-    /// Of a host that can't be saved yet: 1, a PV guest's; 2, one with a part of an emulator.
+    /// Of a host that can't be saved yet: 2, one with a part of an emulator.
     NotBuilt(u64),
     /// This line of a script, counted from 1, is the first that is none.
     BadLine(u64),

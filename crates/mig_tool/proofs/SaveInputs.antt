@@ -1,7 +1,6 @@
 -- An input that is a host and a script isn't refused.
-use Rattle.mig_tool.proofs.Common.{◌≡◌, ℕ, List, length, sym, ap, subst, ◌∙◌, arith, Refusal, RefusedIn, Hvm, Pv}
+use Rattle.mig_tool.proofs.Common.{◌≡◌, ℕ, List, length, sym, ap, subst, ◌∙◌, arith, Refusal, RefusedIn}
 use Rattle.mig_report.specs.declared.outcome.Refusal.TheVariants as refusals
-use mathlib.Core.Logic.{inl, inr}
 use Rattle.mig_bytes.specs.Judged.{Judged}
 use Rattle.mig_bytes.specs.Judged.Judged.{Passes, Faulty}
 use Rattle.mig_headers.specs.declared.image_fault.ImageCause.{ImageCause}
@@ -29,8 +28,7 @@ no_fault : (input : List ℕ) (h : HostOf) (t rest : List ℕ) (fault : ImagePla
 no_fault input h t rest fault p q = let e : ◌≡◌ {A = HostJudged} (Passes h t) (Faulty fault rest) = sym p ∙ q in cc
 
 built : (what : ℕ) (host : HostOf) → CanBeSaved host → IsNotBuilt what host → ⊥
-built what host can (inl (e, pv)) = let k : Hvm ≡ Pv = sym can.hvm ∙ pv in cc
-built what host can (inr (e, hvm, there)) = let no = can.plain there.key there.bytes there.there in let yes = there.is in cc
+built what host can (e, there) = let no = can.plain there.key there.bytes there.there in let yes = there.is in cc
 
 pub not_refused : (input : List ℕ) (host : HostOf) (lines : List LineOf) (refusal : Refusal) (rest : List ℕ) → HasHostAndScript input host lines → RefusedIn ImageAndScript input refusal rest → IsOfInput refusal → ⊥
 not_refused input host lines (refusals.Image place cause) rest h refused it = no_fault input host h.text rest (place, cause) h.is.image refused

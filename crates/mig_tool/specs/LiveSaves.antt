@@ -1,10 +1,10 @@
 -- A host that is saved live: what it is read from, when it isn't saved, and what is written of it.
-use Rattle.std.specs.Prelude.{◌≡◌, ◌⊎◌, ◌<◌, ◌≤◌, ◌+◌, ℕ, true, List, [], ◌∷◌, ◌++◌, length, map, drop, Option, Some, None}
+use Rattle.std.specs.Prelude.{◌≡◌, ◌<◌, ◌≤◌, ◌+◌, ℕ, true, List, [], ◌∷◌, ◌++◌, length, map, drop, Option, Some, None}
 use Rattle.std.specs.List.{AllByRecursion, range_with_len}
 use Rattle.std.specs.FinMap as maps
 use Rattle.std.specs.Io.KnownBytes.{Appends}
 use Rattle.mig_bytes.specs.Judged.Judged.{Passes}
-use Rattle.mig_headers.specs.declared.kind.Kind.TheVariants.{Pv, Hvm}
+use Rattle.mig_headers.specs.declared.kind.Kind.{Kind}
 use Rattle.mig_headers.specs.declared.unsound.Unsound.{Unsound}
 use Rattle.mig_guest.specs.declared.part_key.PartKey.{PartKey}
 use Rattle.mig_guest.specs.Formed.{HasNoEmulators, is_emulator_code}
@@ -26,9 +26,8 @@ use Rattle.mig_report.specs.declared.outcome.SaveSummary.{SaveSummary}
 
 -- ---- what is read
 
--- what can be saved so far: a host of an HVM guest, without parts of emulators
+-- what can be saved so far: a host without parts of emulators
 pub record CanBeSaved (host : HostOf) : Type 0 where
-  pub hvm : host.kind ≡ Hvm
   pub plain : HasNoEmulators host.parts
 
 -- a part of an emulator is there
@@ -38,9 +37,9 @@ pub record HasEmulators (parts : PartMap) : Type 0 where
   pub there : maps.get parts key ≡ Some bytes
   pub is : is_emulator_code key.code ≡ true
 
--- why a host can't be saved yet: 1, it is of a PV guest; 2, a part of an emulator is there
+-- why a host can't be saved yet: 2, a part of an emulator is there
 abbrev pub IsNotBuilt : ℕ → HostOf → Type 0
-IsNotBuilt what host = ((what ≡ 1) × (host.kind ≡ Pv)) ⊎ ((what ≡ 2) × (host.kind ≡ Hvm) × HasEmulators host.parts)
+IsNotBuilt what host = (what ≡ 2) × HasEmulators host.parts
 
 -- the input begins with the image of a host that can be saved, and this text is what follows
 pub record HasHostAndText (input : List ℕ) (host : HostOf) (text : List ℕ) : Type 0 where
@@ -86,12 +85,12 @@ pub record HasUnsoundPause (input : List ℕ) (unsound : Unsound) : Type 0 where
 
 -- ---- what is written
 
--- an image of an HVM guest, whose PAGE_DATA records have entries of these frame numbers, in this order
-pub record TellsPfns (text pfns : List ℕ) : Type 0 where
+-- an image of a guest of this kind, whose PAGE_DATA records have entries of these frame numbers, in this order
+pub record TellsPfns (kind : Kind) (text pfns : List ℕ) : Type 0 where
   pub before : List Record
   pub batches : List (List FrameTold)
   pub behind : List Record
-  pub is : text ≡ headers Hvm ++ text_of (before ++ (map telling_record batches ++ (behind ++ (0, []) ∷ [])))
+  pub is : text ≡ headers kind ++ text_of (before ++ (map telling_record batches ++ (behind ++ (0, []) ∷ [])))
   pub others : AllByRecursion IsOtherRecord (before ++ behind)
   pub order : pfns_sent (all_told batches) ≡ pfns
 
@@ -105,7 +104,7 @@ pub record WroteLive (host : HostOf) (lines : List LineOf) (old new : Option (Li
   pub wrote : Appends old new text
   pub means : (rest : List ℕ) → AcceptedStream (text ++ rest) (view (paused_host host lines calls)) rest
   pub pfns : List ℕ
-  pub entries : TellsPfns text pfns
+  pub entries : TellsPfns host.kind text pfns
   pub others : List ℕ
   pub first : pfns ≡ range_with_len 0 host.width ++ others
   pub counted : summary.entries ≡ length pfns

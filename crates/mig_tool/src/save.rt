@@ -17,7 +17,6 @@ ghost use Rattle.mig_tool.specs.SaveSteps.{IsNotBuiltAs, ReadsHostToSave, ReadsH
 
 use mig_bytes::{Sink, Source, Stop};
 use mig_dirtysave::{SaveAnswer, Saver};
-use mig_headers::Kind;
 use mig_image::{Host, ImageAnswer, read_host};
 use mig_machine::ScriptMachine;
 use mig_machine_api::rounds_laws;
@@ -80,10 +79,10 @@ fn not_built(host: &Host) -> Option<Refusal>
     ensures some { IfSome result (IsNotBuiltAs host.now.host) }
     ensures none { IfNone result (CanBeSaved host.now.host) }
 {
-    match host.kind() {
-        Kind::Pv => Some(Refusal::NotBuilt(1)),
-        Kind::Hvm if has_emulators(host) => Some(Refusal::NotBuilt(2)),
-        Kind::Hvm => None,
+    if has_emulators(host) {
+        Some(Refusal::NotBuilt(2))
+    } else {
+        None
     }
 }
 

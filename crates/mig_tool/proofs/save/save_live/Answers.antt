@@ -1,22 +1,23 @@
-use Rattle.mig_tool.proofs.Common.{◌≡◌, List, sym, ap, subst, ◌∙◌, rules}
+use Rattle.mig_tool.proofs.Common.{◌≡◌, List, sym, subst, rules}
 use Rattle.mig_guest.specs.Formed.{HasNoEmulators}
 use Rattle.mig_guest.specs.Hosts.{HostOf}
 use Rattle.mig_script.specs.ScriptLines.{LineOf}
-use Rattle.mig_machine.specs.MachineSeen.{history_of}
+use Rattle.mig_machine.specs.MachineSeen.{history_of, machine_state}
+use Rattle.mig_dirtysave.specs.SaveAnswers.{IsTrusted}
 use Rattle.mig_dirtysave.specs.declared.answer.SaveReport.{SaveReport}
 use Rattle.mig_report.specs.declared.outcome.Outcome.TheVariants as outcomes
 use Rattle.mig_report.specs.declared.outcome.SaveSummary.{SaveSummary}
 use Rattle.mig_tool.specs.LiveSaves.{WroteLive}
 use Rattle.mig_tool.specs.SaveSteps.{ComesToNone}
 use Rattle.mig_tool.proofs.Saving.{unwritten}
-use Rattle.mig_tool.proofs.Lives.{wrote_live, at_pause, never_fails, ends, had_memory}
+use Rattle.mig_tool.proofs.Lives.{wrote_live, honest, at_pause, never_fails, ends, had_memory}
 use Rattle.mig_tool.proofs.save.save_live.Goals as goal
 
 pub returns-in_default-clause-no_stream : goal.returns-in_default-clause-no_stream
 returns-in_default-clause-no_stream g c = unwritten _
 
-pub prepare-requires-clause-plain : goal.prepare-requires-clause-plain
-prepare-requires-clause-plain g c = subst (λ (h : HostOf). HasNoEmulators h.parts) (sym c.in-Ok.ensures.host) c.requires.plain
+pub prepare-requires : goal.prepare-requires
+prepare-requires g c = subst (λ (h : HostOf). HasNoEmulators h.parts) (sym c.in-Ok.ensures.host) c.requires.plain
 
 pub returns-in_default-prepare-clause-no_stream : goal.returns-in_default-prepare-clause-no_stream
 returns-in_default-prepare-clause-no_stream g c = unwritten _
@@ -29,7 +30,7 @@ returns-in-Ok-run-clause-wrote g c =
     let e = c.in-Ok-run.ensures in
     let now = c.run.new.machine in
     let s : SaveSummary = record { rounds = c.from.result; entries = c.in-Ok-run.report.entries } in
-    let wrote = wrote_live c.in-Ok.machine now (g.K.Sink.written c.args.out.now) (g.K.Sink.written c.run.new.sink) s c.in-Ok.ensures.calls e.later (ap (λ (h : HostOf). h.kind) c.in-Ok.ensures.host ∙ c.requires.hvm) e.kept
+    let wrote = wrote_live c.in-Ok.machine now (g.K.Sink.written c.args.out.now) (g.K.Sink.written c.run.new.sink) s c.in-Ok.ensures.calls e.later e.kept
     e.stream e.sound (c.rounds_laws.ensures.begins now.host.kind now.host.width (history_of now) e.rounds) (c.rounds_laws.ensures.number now.host.kind now.host.width (history_of now) e.rounds) (search rules) e.entries in
     subst (λ (lines : List LineOf). WroteLive c.args.read.host.host lines (g.K.Sink.written c.args.out.now) (g.K.Sink.written c.run.new.sink) s) c.in-Ok.ensures.lines
     (subst (λ (host : HostOf). WroteLive host c.in-Ok.machine.lines (g.K.Sink.written c.args.out.now) (g.K.Sink.written c.run.new.sink) s) c.in-Ok.ensures.host wrote)
@@ -37,8 +38,8 @@ returns-in-Ok-run-clause-wrote g c =
 pub returns-clause-none : goal.returns-clause-none
 returns-clause-none g c =
     let e = c.in-Err.ensures in
-    let none = ends c.in-Err.answer c.unsaved.result (never_fails SaveReport c.in-Err.answer e.machine_fault) c.unsaved.ensures.unsound c.unsaved.ensures.write SaveReport c.in-Ok.machine.host c.run.new.machine.host c.in-Ok.machine.lines c.run.new.machine.runs
-    (at_pause c.in-Ok.machine c.run.new.machine c.in-Ok.ensures.calls e.later) e.first in
+    let none = ends c.in-Err.answer c.unsaved.result (never_fails SaveReport c.in-Err.answer e.machine_fault) c.unsaved.ensures.unsound c.unsaved.ensures.write SaveReport (IsTrusted (machine_state c.run.new.machine)) c.in-Ok.machine.host c.run.new.machine.host c.in-Ok.machine.lines c.run.new.machine.runs
+    (at_pause c.in-Ok.machine c.run.new.machine c.in-Ok.ensures.calls e.later) (honest c.run.new.machine) e.first in
     subst (λ (lines : List LineOf). ComesToNone c.args.read.host.host lines c.unsaved.result) c.in-Ok.ensures.lines
     (subst (λ (host : HostOf). ComesToNone host c.in-Ok.machine.lines c.unsaved.result) c.in-Ok.ensures.host none)
 
