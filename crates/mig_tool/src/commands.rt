@@ -174,7 +174,7 @@ pub(crate) fn carry_out<S: Source, K: Sink, R: Sink>(
     ensures line { (HasOwnLine command result → ⊥)
         → (line : List ℕ) × IsLine (form_of command) (S.left input.old) result line × Reports line (R.written report.old) (R.written report.new) (R.faults report.old) (R.faults report.new) }
     ensures own_line { PutsOwnLine command (R.written report.old) (R.written report.new) result }
-    ensures out_quiet { (command ≡ commands.Save → ⊥) → result ≡ statuses.Done → K.faults out.new ≡ K.faults out.old }
+    ensures out_quiet { result ≡ statuses.Done → K.faults out.new ≡ K.faults out.old }
     ensures report_quiet { result ≡ statuses.Done → R.faults report.new ≡ R.faults report.old }
     ensures out_later { K.faults out.old ≤ K.faults out.new }
     ensures report_later { R.faults report.old ≤ R.faults report.new }

@@ -69,7 +69,7 @@ pub fn run<S: Source, K: Sink, R: Sink>(
         → BreaksOff (K.written out.old) (K.written out.new) (K.faults out.old) (K.faults out.new) (R.faults report.old) (R.faults report.new) }
 
     // A fault is answered only where a count rose, and that of the input rises with no other status. With status 0 no count
-    // rose, but perhaps that of `out` by `save`.
+    // rose.
     ensures read { InputRises result (S.faults input.old) (S.faults input.new) }
     ensures write { (command : Command) → Names (texts_of words.now) command → result ≡ statuses.WriteFault
         → WriteRose command (K.faults out.old) (K.faults out.new) (R.faults report.old) (R.faults report.new) }
@@ -81,7 +81,7 @@ pub fn run<S: Source, K: Sink, R: Sink>(
     ensures usage_line { result ≡ statuses.Usage → Reports usage_line (R.written report.old) (R.written report.new) (R.faults report.old) (R.faults report.new) }
     ensures own_line { (command : Command) → Names (texts_of words.now) command → PutsOwnLine command (R.written report.old) (R.written report.new) result }
 
-    ensures out_quiet { (Names (texts_of words.now) commands.Save → ⊥) → result ≡ statuses.Done → K.faults out.new ≡ K.faults out.old }
+    ensures out_quiet { result ≡ statuses.Done → K.faults out.new ≡ K.faults out.old }
     ensures report_quiet { result ≡ statuses.Done → R.faults report.new ≡ R.faults report.old }
     ensures out_later { K.faults out.old ≤ K.faults out.new }
     ensures report_later { R.faults report.old ≤ R.faults report.new }

@@ -1,4 +1,4 @@
-ghost use Rattle.std.specs.Prelude.{◌≡◌, ◌≢◌, ◌≤◌, ◌⊎◌, ℕ, List, IfOk, IfErr, OnErr, IsErrOf, IfNone, IfSome, true, false};
+ghost use Rattle.std.specs.Prelude.{◌≡◌, ◌≢◌, ◌≤◌, ◌⊎◌, ℕ, List, IfOk, IfErr, OnOk, OnErr, IsErrOf, IfNone, IfSome, true, false};
 ghost use Rattle.std.specs.Io.KnownBytes.{Appends};
 ghost use Rattle.mig_bytes.specs.Bytes.{AppendsPart};
 ghost use Rattle.mig_bytes.specs.Faults.{Rose, RisesOnReadFault};
@@ -151,6 +151,7 @@ fn save_live<K: Sink>(
     ensures no_stream { OnErr result (WroteNoStream (K.written out.old) (K.written out.new)) }
     ensures kept { IsErrOf result outcomes.Memory → out.new ≡ out.old }
     ensures write { IsErrOf result outcomes.WriteFault → Rose (K.faults out.old) (K.faults out.new) }
+    ensures quiet { OnOk result (K.faults out.new ≡ K.faults out.old) }
     ensures later { K.faults out.old ≤ K.faults out.new }
 {
     let Ok(mut machine) = ScriptMachine::new(alloc, read.host, read.script) else {
@@ -202,6 +203,7 @@ pub(crate) fn save<S: Source, K: Sink, R: Sink>(
     ensures line { (HasOwnLine commands.Save result → ⊥)
         → (line : List ℕ) × IsLine (form_of commands.Save) (S.left input.old) result line × Reports line (R.written report.old) (R.written report.new) (R.faults report.old) (R.faults report.new) }
     ensures own_line { PutsOwnLine commands.Save (R.written report.old) (R.written report.new) result }
+    ensures out_quiet { result ≡ statuses.Done → K.faults out.new ≡ K.faults out.old }
     ensures quiet { result ≡ statuses.Done → R.faults report.new ≡ R.faults report.old }
     ensures out_later { K.faults out.old ≤ K.faults out.new }
     ensures report_later { R.faults report.old ≤ R.faults report.new }

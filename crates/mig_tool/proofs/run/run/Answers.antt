@@ -59,9 +59,6 @@ returns-in-Some-clause-no_stream g c = λ is. c.carry_out.ensures.no_stream (sam
 pub returns-in-Some-clause-breaks : goal.returns-in-Some-clause-breaks
 returns-in-Some-clause-breaks g c = λ is. c.carry_out.ensures.breaks (same_command _ c.in-Some.command Save c.in-Some.ensures.some is)
 
-pub returns-in-Some-clause-out_quiet : goal.returns-in-Some-clause-out_quiet
-returns-in-Some-clause-out_quiet g c = λ other. c.carry_out.ensures.out_quiet (λ is. other (subst (λ (d : Command). Names (texts_of c.args.words.now) d) is c.in-Some.ensures.some))
-
 pub returns-in-None-clause-done : goal.returns-in-None-clause-done
 returns-in-None-clause-done g c = λ command is. absurd (c.in-None.ensures.none command is)
 
