@@ -1,11 +1,11 @@
 """The part of the second reader that reads image files, and brings the host in one to the guest that it is seen as.
 
 A host has a kind, a width, frames (type, machine frame and page by frame number) and parts (bytes by code and two keys).
-Of PV hosts the image alone is judged here.
 """
 import struct
 
 import libxl
+import pv
 import reader
 from form import *
 
@@ -96,17 +96,65 @@ def read_host(source):
     return host
 
 
-def guest_of(host):
-    """The guest that an HVM host is seen as; a host that isn't sound is refused."""
-    parts = host['parts']
-    refuse_if((CONTEXT, 0, 0) not in parts, '1 Missing 9')
-    context = parts[CONTEXT, 0, 0]
-    guest = reader.empty_guest(HVM)
-    guest['context'] = context[:reader.end_of_chain(context, '7 BadContext')] + bytes(8)
-    guest['frames'] = {pfn: (kind, page) for pfn, (kind, _, page) in host['frames'].items()}
-    guest['params'] = {key[1]: struct.unpack('<Q', data)[0] for key, data in parts.items() if key[0] == PARAMS}
+# ---- the guest that a host is seen as
+
+def with_parts_of_both(host):
+    """A guest with the host's policies and X86_TSC_INFO."""
+    guest, parts = reader.empty_guest(host['kind']), host['parts']
     guest['cpuid'] = {key[1:]: data for key, data in parts.items() if key[0] == CPUID_POLICY}
     guest['msrs'] = {key[1]: data for key, data in parts.items() if key[0] == MSR_POLICY}
     if (TSC_INFO, 0, 0) in parts:
         guest['tsc'] = parts[TSC_INFO, 0, 0]
     return guest
+
+
+def hvm_guest_of(host):
+    parts = host['parts']
+    refuse_if((CONTEXT, 0, 0) not in parts, '1 Missing 9')
+    context = parts[CONTEXT, 0, 0]
+    guest = with_parts_of_both(host)
+    guest['context'] = context[:reader.end_of_chain(context, '7 BadContext')] + bytes(8)
+    guest['frames'] = {pfn: (kind, page) for pfn, (kind, _, page) in host['frames'].items()}
+    guest['params'] = {key[1]: struct.unpack('<Q', data)[0] for key, data in parts.items() if key[0] == PARAMS}
+    return guest
+
+
+def judge_tables(frames, pfns):
+    """`pfns` has the frame number of each machine frame that has one."""
+    entries = [(pfn, slot, kind, entry) for pfn, (kind, page) in sorted(frames.items()) for slot, entry in pv.entries_in(kind, page)]
+    for pfn, slot, kind, entry in entries:
+        refuse_if(pv.is_superpage(kind, entry), '3 Superpage %d %d' % (pfn, slot))
+    for pfn, slot, _, entry in entries:
+        refuse_if(pv.frame_in(entry) not in pfns, '4 NoFrame %d %d' % (pfn, slot))
+
+
+def judge_contexts(contexts, frames, pfns):
+    """The contexts of the vCPUs by their numbers."""
+    for vcpu, context in sorted(contexts.items()):
+        count = pv.number_at(context, pv.GDT_ENTS)
+        refuse_if(count > pv.MOST_GDT_ENTS, '5 GdtEnts %d %d' % (vcpu, count))
+    for vcpu, context in sorted(contexts.items()):
+        for field, mfn, kinds in pv.fields_of(vcpu, context):
+            refuse_if(frames.get(pfns.get(mfn), (None,))[0] not in kinds, '6 VcpuFrame %d %d' % (vcpu, field))
+
+
+def pv_guest_of(host):
+    parts, guest = host['parts'], with_parts_of_both(host)
+    for code in (P2M_FRAMES, SHARED_INFO, BASIC):
+        refuse_if((code, 0, 0) not in parts, '1 Missing %d' % code)
+    guest['top'], guest['shared'] = host['width'] - 1, parts[SHARED_INFO, 0, 0]
+    guest['p2m'] = [pfn for pfn, in struct.iter_unpack('<Q', parts[P2M_FRAMES, 0, 0])]
+    frames = guest['frames'] = {pfn: (kind, page) for pfn, (kind, _, page) in host['frames'].items()}
+    pv.judge_p2m(guest, '2 P2mFrame')
+    pfns = {mfn: pfn for pfn, (_, mfn, _) in host['frames'].items()}
+    judge_tables(frames, pfns)
+    judge_contexts({key[1]: data for key, data in parts.items() if key[0] == BASIC}, frames, pfns)
+    guest['frames'] = {pfn: (kind, pv.renamed_table(kind, page, pfns)) for pfn, (kind, page) in frames.items()}
+    guest['vcpus'] = {(vcpu, code): pv.renamed_context(vcpu, data, pfns) if code == BASIC else data
+                      for (code, vcpu, _), data in parts.items() if code in VCPU}
+    return pv.blank(guest)
+
+
+def guest_of(host):
+    """The guest that a host is seen as; a host that isn't sound is refused."""
+    return (pv_guest_of if host['kind'] == PV else hvm_guest_of)(host)

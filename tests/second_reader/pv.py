@@ -46,11 +46,20 @@ def present_entries(level, page):
             yield slot, entry
 
 
+def entries_in(kind, page):
+    """The entries that count in a frame of this type, with their slots; none where it is no table."""
+    return list(present_entries(level_of(kind), page)) if level_of(kind) else []
+
+
+def is_superpage(kind, entry):
+    return level_of(kind) > 1 and entry >> 7 & 1
+
+
 def judge_table(place, kind, page, top):
     """A page that was sent for the word of this place."""
-    present = list(present_entries(level_of(kind), page)) if level_of(kind) else []
+    present = entries_in(kind, page)
     for slot, entry in present:
-        refuse_if(level_of(kind) > 1 and entry >> 7 & 1, '17 Superpage %d %d' % (place, slot))
+        refuse_if(is_superpage(kind, entry), '17 Superpage %d %d' % (place, slot))
     for slot, entry in present:
         refuse_if(frame_in(entry) > top, '18 EntryOutside %d %d %d' % (place, slot, frame_in(entry)))
 
@@ -101,19 +110,19 @@ def judge_parts(guest):
     refuse_if((0, BASIC) not in guest['vcpus'], '27 Missing %d' % BASIC)
 
 
-def judge_p2m(guest):
+def judge_p2m(guest, cause='28 P2mFrame'):
     in_use = {pfn // 512 for pfn in guest['frames']}      # the indices whose 512 PFNs aren't all absent
     seen = {}                                             # the PFNs listed so far: is one of their indices in use
     for index, pfn in enumerate(guest['p2m']):
         wrong = pfn > guest['top'] or guest['frames'].get(pfn, (None,))[0] != NOTAB
         again = pfn in seen and (seen[pfn] or index in in_use)
-        refuse_if(wrong or again, '28 P2mFrame %d' % index)
+        refuse_if(wrong or again, cause + ' %d' % index)
         seen[pfn] = seen.get(pfn, False) or index in in_use
 
 
 def judge_targets(frames):
     for pfn, (kind, page) in sorted(frames.items()):
-        for slot, entry in present_entries(level_of(kind), page) if level_of(kind) else ():
+        for slot, entry in entries_in(kind, page):
             refuse_if(frame_in(entry) not in frames, '29 TargetAbsent %d %d' % (pfn, slot))
 
 
@@ -179,12 +188,23 @@ def machine_records(guest):
     return [record(SHARED_INFO, guest['shared']), *vcpus]
 
 
-# ---- what a guest in blank form becomes on restore; `machine` has the machine frame of each PFN that has a frame
+# ---- frames that get other names, from PFNs to machine frames or back; `names` has the new one of each
 
-def restored_table(level, page, machine):
-    for slot, entry in present_entries(level, page):
-        page = with_number(page, 8 * slot, with_frame(entry, machine[frame_in(entry)]))
+def renamed_table(kind, page, names):
+    for slot, entry in entries_in(kind, page):
+        page = with_number(page, 8 * slot, with_frame(entry, names[frame_in(entry)]))
     return page
+
+
+def renamed_context(vcpu, context, names):
+    for field, old, _ in fields_of(vcpu, context):
+        new = names[old]
+        places = {0: (RDX, new), 17: (CTRLREG3, new * 4096), 18: (CTRLREG1, new * 4096 + 1)}
+        context = with_number(context, *places.get(field, (GDT_FRAMES + 8 * (field - 1), new)))
+    return context
+
+
+# ---- what a guest in blank form becomes on restore; `machine` has the machine frame of each PFN that has a frame
 
 
 def restored_p2m(index, machine):
@@ -195,23 +215,14 @@ def restored_p2m(index, machine):
 def restored_frames(guest, machine):
     frames, listed = dict(guest['frames']), collections.Counter(guest['p2m'])
     for pfn, (kind, page) in frames.items():
-        if level_of(kind):
-            frames[pfn] = kind, restored_table(level_of(kind), page, machine)
+        frames[pfn] = kind, renamed_table(kind, page, machine)
     for index, pfn in enumerate(guest['p2m']):
         frames[pfn] = NOTAB, restored_p2m(index, machine) if listed[pfn] == 1 else b'\xff' * PAGE
     return frames
 
 
-def restored_context(vcpu, context, machine):
-    for field, pfn, _ in fields_of(vcpu, context):
-        frame = machine[pfn]
-        places = {0: (RDX, frame), 17: (CTRLREG3, frame * 4096), 18: (CTRLREG1, frame * 4096 + 1)}
-        context = with_number(context, *places.get(field, (GDT_FRAMES + 8 * (field - 1), frame)))
-    return context
-
-
 def restored(guest, machine):
-    vcpus = {(vcpu, kind): restored_context(vcpu, context, machine) if kind == BASIC else context
+    vcpus = {(vcpu, kind): renamed_context(vcpu, context, machine) if kind == BASIC else context
              for (vcpu, kind), context in guest['vcpus'].items()}
     return {**guest, 'frames': restored_frames(guest, machine), 'vcpus': vcpus}
 

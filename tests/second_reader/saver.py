@@ -1,4 +1,4 @@
-"""The part of the second reader that has `save` of HVM hosts: a script, the machine that runs it, and the live save.
+"""The part of the second reader that has `save`: a script, the machine that runs it, and the live save.
 
 `save(bytes)` answers what the program has to write and to report of an image with a script behind it. What a save writes
 whose paused host is refused isn't told, but that it is no stream: its output is None.
@@ -7,6 +7,7 @@ import re
 import struct
 
 import hosts
+import pv
 import reader
 from form import *
 
@@ -52,8 +53,19 @@ def read_script(text):
 
 # ---- what a line does to a host, and which frame number it logs
 
+def is_named(host, mfn):
+    """Whether a page table names this machine frame."""
+    entries = (entry for kind, _, page in host['frames'].values() for _, entry in pv.entries_in(kind, page))
+    return any(pv.frame_in(entry) == mfn for entry in entries)
+
+
 def may_come(host, mfn):
-    return 0 < mfn < hosts.MACHINE_LIMIT and all(mfn != machine for _, machine, _ in host['frames'].values())
+    is_free = 0 < mfn < hosts.MACHINE_LIMIT and all(mfn != machine for _, machine, _ in host['frames'].values())
+    return is_free and not is_named(host, mfn)
+
+
+def may_go(host, pfn):
+    return pfn in host['frames'] and not is_named(host, host['frames'][pfn][1])
 
 
 def write(host, pfn, at, data):
@@ -65,7 +77,7 @@ def write(host, pfn, at, data):
 
 
 def retype(host, pfn, kind):
-    if pfn not in host['frames'] or kind not in hosts.types_of(HVM):
+    if pfn not in host['frames'] or kind not in hosts.types_of(host['kind']):
         return None
     _, mfn, page = host['frames'][pfn]
     host['frames'][pfn] = kind, mfn, (page or bytes(PAGE)) if has_page(kind) else b''
@@ -80,11 +92,14 @@ def add(host, pfn, mfn):
 
 
 def remove(host, pfn):
-    return pfn if host['frames'].pop(pfn, None) else None
+    if not may_go(host, pfn):
+        return None
+    del host['frames'][pfn]
+    return pfn
 
 
 def exchange(host, pfn, mfn):
-    if pfn not in host['frames'] or not may_come(host, mfn):
+    if not may_go(host, pfn) or not may_come(host, mfn):
         return None
     kind, _, page = host['frames'][pfn]
     host['frames'][pfn] = kind, mfn, page
@@ -115,6 +130,10 @@ class Machine:
         self.run()
         return self.host['frames'].get(pfn, (XTAB, 0, b''))
 
+    def pfn_of(self, mfn):
+        self.run()
+        return next((pfn for pfn, (_, machine, _) in self.host['frames'].items() if machine == mfn), None)
+
     def take_log(self):
         self.run()
         log, self.log = self.log, set()
@@ -127,25 +146,55 @@ class Machine:
 
 # ---- the live save
 
-def send(machine, pfns, out):
-    """Reads these frames, and writes them as records of at most 1024 entries."""
-    pfns = sorted(pfns)
-    for at in range(0, len(pfns), BATCH):
-        batch = [(pfn, *machine.peek(pfn)) for pfn in pfns[at:at + BATCH]]
-        words = [struct.pack('<Q', kind << 60 | pfn) for pfn, kind, _, _ in batch]
-        out.append(record(PAGE_DATA, struct.pack('<II', len(batch), 0), *words, *(page for _, _, _, page in batch)))
-    return len(pfns)
+def looked_up(machine, kind, page):
+    """A page as a stream has it; None of a table that none can have. Where it has a superpage, nothing is looked up."""
+    entries = pv.entries_in(kind, page)
+    if any(pv.is_superpage(kind, entry) for _, entry in entries):
+        return None
+    _, page = pv.blank_frame(kind, page)
+    for slot, entry in entries:
+        pfn = machine.pfn_of(pv.frame_in(entry))
+        if pfn is None:
+            return None
+        page = pv.with_number(page, 8 * slot, pv.with_frame(entry, pfn))
+    return page
 
 
-def save_frames(machine, out):
-    """How many rounds there were, and how many entries were sent."""
-    rounds, entries, log = 0, 0, range(machine.host['width'])
-    while not rounds or rounds < MOST_ROUNDS and len(log) >= FEW:
-        entries += send(machine, log, out)
-        log = machine.take_log()
-        rounds += 1
-    machine.pause()
-    return rounds, entries + send(machine, log | machine.take_log(), out)
+class Saver:
+    """A machine that is saved, the records of its pages so far, the number of entries in them, and the deferred tables."""
+
+    def __init__(self, machine):
+        self.machine, self.records, self.entries, self.deferred = machine, [], 0, set()
+
+    def entry(self, pfn):
+        """Reads a frame; a table that no stream can have is told as no frame, and deferred."""
+        kind, _, page = self.machine.peek(pfn)
+        page = looked_up(self.machine, kind, page)
+        self.deferred.discard(pfn)
+        if page is None:
+            self.deferred.add(pfn)
+            kind, page = XTAB, b''
+        return struct.pack('<Q', kind << 60 | pfn), page
+
+    def send(self, pfns):
+        """Reads these frames, and writes them as records of at most 1024 entries."""
+        pfns = sorted(pfns)
+        for at in range(0, len(pfns), BATCH):
+            batch = [self.entry(pfn) for pfn in pfns[at:at + BATCH]]
+            words, pages = zip(*batch)
+            self.records.append(record(PAGE_DATA, struct.pack('<II', len(batch), 0), *words, *pages))
+        self.entries += len(pfns)
+
+    def save_frames(self):
+        """Sends all frames; answers how many rounds there were."""
+        rounds, log = 0, range(self.machine.host['width'])
+        while not rounds or rounds < MOST_ROUNDS and len(log) >= FEW:
+            self.send(log)
+            log = self.machine.take_log()
+            rounds += 1
+        self.machine.pause()
+        self.send(log | self.machine.take_log() | self.deferred)
+        return rounds
 
 
 def save(data):
@@ -154,16 +203,16 @@ def save(data):
     try:
         host = hosts.read_host(source)
         source.place = 'Head'
-        refuse_if(host['kind'] == PV, '0 NotBuilt 1')
         refuse_if(any(key[0] in (hosts.PAIRS, hosts.EMULATOR) for key in host['parts']), '0 NotBuilt 2')
     except Refused as cause:
         return 1, b'', ('refused: %s: %s\n' % (source.place, cause)).encode()
     try:
-        machine, frames = Machine(host, read_script(data[source.at:])), []
+        saver = Saver(Machine(host, read_script(data[source.at:])))
     except Refused as cause:
         return 1, b'', ('refused: %s\n' % cause).encode()
-    rounds, entries = save_frames(machine, frames)
+    rounds = saver.save_frames()
     try:
-        return 0, reader.canonical_image(hosts.guest_of(host), frames), b'ok rounds %d entries %d\n' % (rounds, entries)
+        report = b'ok rounds %d entries %d\n' % (rounds, saver.entries)
+        return 0, reader.canonical_image(hosts.guest_of(host), saver.records), report
     except Refused as cause:
         return 1, None, ('refused: Pause: %s\n' % cause).encode()
