@@ -79,7 +79,7 @@ LEGACY = {
 
 
 IMAGE = {
-    0: Advice('NotBuilt', 'a host that is not saved yet: 1, of a PV guest; 2, with the state of a device model',
+    0: Advice('NotBuilt', 'a host that is not saved yet, since it has the state of a device model',
               'take the image of another host'),
     1: Advice('Truncated', 'the file ends within this part', COPY),
     2: Advice('NotImage', 'no guest image begins here', 'look whether the right file was named: `mig restore` writes guest images'),
@@ -106,8 +106,8 @@ SCRIPT = {
 }
 
 PAUSE = {
-    1: Advice('Missing', 'a host without a part that each guest has: 9, the context of an HVM guest', AGAIN),
-    2: Advice('P2mFrame', 'a P2M frame is missing or of another type', MEND),
+    1: Advice('Missing', 'a host without a part that each guest has: HVM 9; PV 3, 7, and 4 of vCPU 0', AGAIN),
+    2: Advice('P2mFrame', 'a P2M frame is missing, of another type, or listed twice', MEND),
     3: Advice('Superpage', 'a page table with a large page in it', MEND),
     4: Advice('NoFrame', 'a page table that names a machine frame which no frame has', MEND),
     5: Advice('GdtEnts', 'a vCPU whose GDT is too long', MEND),
