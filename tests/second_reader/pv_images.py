@@ -19,7 +19,8 @@ def host_at_random(dice):
     found[3, 0, 0] = struct.pack('<%dQ' % len(guest.p2m), *guest.p2m)
     found[7, 0, 0] = dice.randbytes(8) * 512
     if dice.random() < 0.3:
-        found.update({(8, 0, 0): dice.randbytes(20), (17, 1, dice.randrange(3)): dice.randbytes(16), (18, 2, 0): dice.randbytes(12)})
+        found[8, 0, 0], found[18, 2, 0] = dice.randbytes(20), dice.randbytes(12)
+        found[17, 1, dice.randrange(3)] = dice.randbytes(16)
     if dice.random() < 0.05:
         del found[dice.choice(list(found))]
     frames = {pfn: (kind, machine[pfn], page) for pfn, (kind, page) in sorted(raw['frames'].items())}
@@ -28,7 +29,8 @@ def host_at_random(dice):
 
 def some_mfn(dice, host):
     """Most often the machine frame of a frame."""
-    return dice.choice((*[dice.choice([mfn for _, mfn, _ in host['frames'].values()] or [1])] * 9, dice.randrange(4000), (1 << 40) - 1))
+    there = dice.choice([mfn for _, mfn, _ in host['frames'].values()] or [1])
+    return dice.choice((*[there] * 9, dice.randrange(4000), (1 << 40) - 1))
 
 
 def some_entry(dice, host):
@@ -48,7 +50,8 @@ def line(dice, host):
     letter, pfn = dice.choice('wwwwwwtaarxxp'), dice.choice((*host['frames'], dice.randrange(host['width'] + 1)))
     kind = host['frames'].get(pfn, (0,))[0]
     if letter == 'w' and pv.level_of(kind):
-        return 'w %d %d %s' % (pfn, 8 * dice.choice((*pv_streams.SLOTS, dice.randrange(512))), struct.pack('<Q', some_entry(dice, host)).hex())
+        slot = dice.choice((*pv_streams.SLOTS, dice.randrange(512)))
+        return 'w %d %d %s' % (pfn, 8 * slot, struct.pack('<Q', some_entry(dice, host)).hex())
     if letter == 'w':
         return 'w %d %d %s' % (pfn, dice.choice((0, 7, 4088)), dice.randbytes(dice.choice((1, 8))).hex())
     if letter == 't':
@@ -60,8 +63,8 @@ def line(dice, host):
         return 'r %d' % pfn
     key = dice.choice(list(host['parts']))
     data = host['parts'][key]
-    data = changed_context(dice, host, data) if key[0] == 4 else dice.randbytes(len(data) // 8 or 1) * 9
-    return 'p %d %d %d %s' % (*key, data[:len(host['parts'][key])].hex())
+    data = changed_context(dice, host, data) if key[0] == 4 else dice.randbytes(len(data))
+    return 'p %d %d %d %s' % (*key, data.hex())
 
 
 def script(dice, host):
