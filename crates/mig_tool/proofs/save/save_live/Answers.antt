@@ -17,7 +17,7 @@ pub returns-in_default-clause-no_stream : goal.returns-in_default-clause-no_stre
 returns-in_default-clause-no_stream g c = unwritten _
 
 pub prepare-requires : goal.prepare-requires
-prepare-requires g c = subst (λ (h : HostOf). HasNoEmulators h.parts) (sym c.in-Ok.ensures.host) c.requires.plain
+prepare-requires g c = record { plain = subst (λ (h : HostOf). HasNoEmulators h.parts) (sym c.in-Ok.ensures.host) c.requires.plain }
 
 pub returns-in_default-prepare-clause-no_stream : goal.returns-in_default-prepare-clause-no_stream
 returns-in_default-prepare-clause-no_stream g c = unwritten _
