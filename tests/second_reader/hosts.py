@@ -134,7 +134,7 @@ def judge_contexts(contexts, frames, pfns):
         count = pv.number_at(context, pv.GDT_ENTS)
         refuse_if(count > pv.MOST_GDT_ENTS, '5 GdtEnts %d %d' % (vcpu, count))
     for vcpu, context in sorted(contexts.items()):
-        for field, mfn, kinds in pv.fields_of(vcpu, context):
+        for field, mfn, kinds in pv.fields_of(vcpu, context, in_host=True):
             refuse_if(frames.get(pfns.get(mfn), (None,))[0] not in kinds, '6 VcpuFrame %d %d' % (vcpu, field))
 
 
@@ -150,7 +150,7 @@ def pv_guest_of(host):
     judge_tables(frames, pfns)
     judge_contexts({key[1]: data for key, data in parts.items() if key[0] == BASIC}, frames, pfns)
     guest['frames'] = {pfn: (kind, pv.renamed_table(kind, page, pfns)) for pfn, (kind, page) in frames.items()}
-    guest['vcpus'] = {(vcpu, code): pv.renamed_context(vcpu, data, pfns) if code == BASIC else data
+    guest['vcpus'] = {(vcpu, code): pv.renamed_context(vcpu, data, pfns, in_host=True) if code == BASIC else data
                       for (code, vcpu, _), data in parts.items() if code in VCPU}
     return pv.blank(guest)
 

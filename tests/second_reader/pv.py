@@ -126,15 +126,17 @@ def judge_targets(frames):
             refuse_if(frame_in(entry) not in frames, '29 TargetAbsent %d %d' % (pfn, slot))
 
 
-def fields_of(vcpu, context):
-    """Each field that is used, the PFN in it, and the page types that the PFN may have."""
+def fields_of(vcpu, context, in_host=False):
+    """Each field that is used, the PFN in it, and the page types that the PFN may have; in a host machine frames stand in
+    place of PFNs, and ctrlreg[1] counts wherever it isn't 0."""
     if vcpu == 0:
         yield 0, number_at(context, RDX), (NOTAB,)
     for slot in range(-(-number_at(context, GDT_ENTS) // 512)):
         yield 1 + slot, number_at(context, GDT_FRAMES + 8 * slot), (NOTAB,)
     yield 17, number_at(context, CTRLREG3) // 4096, L4_TABLES
-    if number_at(context, CTRLREG1) & 1:
-        yield 18, number_at(context, CTRLREG1) // 4096, L4_TABLES
+    user = number_at(context, CTRLREG1)
+    if user if in_host else user & 1:
+        yield 18, user // 4096, L4_TABLES
 
 
 def judge_vcpus(guest):
@@ -196,8 +198,8 @@ def renamed_table(kind, page, names):
     return page
 
 
-def renamed_context(vcpu, context, names):
-    for field, old, _ in fields_of(vcpu, context):
+def renamed_context(vcpu, context, names, in_host=False):
+    for field, old, _ in fields_of(vcpu, context, in_host):
         new = names[old]
         places = {0: (RDX, new), 17: (CTRLREG3, new * 4096), 18: (CTRLREG1, new * 4096 + 1)}
         context = with_number(context, *places.get(field, (GDT_FRAMES + 8 * (field - 1), new)))
