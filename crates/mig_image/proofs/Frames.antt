@@ -1,10 +1,11 @@
 -- The frames of an image: what they spell is read, what is read they spell, and both are the frames of a valid host.
-use Rattle.mig_image.proofs.Common.{◌≡◌, ℕ, ◌+◌, ◌*◌, ◌/◌, ◌%◌, ◌^◌, ◌<◌, ◌≤◌, Bool, false, cond, not, nat_eq, nat_le, List, [], ◌++◌, length, Option, Some, None, is_some, refl, sym, ap, ◌∙◌, arith, append_assoc, ◌∷◌, true, subst, length-append, ◌||◌, ◌==◌, list_any, not-false, or_parts, or_from, leb-false, lt-leb, ne_eqb, eqb-true, eqb-false, common_steps, nat_cmp_total, nat_cmp, is_lt, nat_cmp-IsAntisymmetric, none-some, same_Some, little_bytes, little_number-reads_back, Judged, ◌>>=◌, part, Passes, part_whole, then_passes, both_pass, part_passes, same_passes, ImageCause, Truncated, Kind, no_fault, rows_fine, Frame, Pv, Hvm, PageType, number_of, type_of, type_or_none, type_has_data, all_types, is_type_of, HostOf, HostFrame, HostFrames, IsHostFrame, IsValid, host_word, frame_text, head_pfn, head_type, has_machine, has_frame_from, frame_rows, fault_of_frame, frame_head_at, host_page_at, frame_said, put_frame, host_frame_at, head_type_number, frames_at, Bytes, bytes_front}
+use Rattle.mig_image.proofs.Common.{◌≡◌, ℕ, ◌+◌, ◌*◌, ◌/◌, ◌%◌, ◌^◌, ◌<◌, ◌≤◌, Bool, false, cond, not, nat_eq, nat_le, nat_lt, List, [], ◌++◌, length, Option, Some, None, is_some, refl, sym, ap, ◌∙◌, arith, append_assoc, ◌∷◌, true, subst, length-append, ◌||◌, ◌==◌, list_any, not-false, or_parts, or_from, leb-false, lt-leb, ne_eqb, eqb-true, eqb-false, common_steps, nat_cmp_total, nat_cmp, is_lt, nat_cmp-IsAntisymmetric, none-some, same_Some, little_bytes, little_number-reads_back, Judged, ◌>>=◌, part, Passes, part_whole, then_passes, both_pass, part_passes, same_passes, ImageCause, Truncated, Kind, no_fault, rows_fine, Frame, Pv, Hvm, PageType, number_of, type_of, type_or_none, type_has_data, all_types, is_type_of, HostOf, HostFrame, HostFrames, IsHostFrame, IsValid, host_word, frame_text, head_pfn, head_type, has_machine, has_frame_from, frame_rows, fault_of_frame, frame_head_at, host_page_at, frame_said, put_frame, host_frame_at, head_type_number, frames_at, Bytes, bytes_front}
 use Rattle.std.proofs.Common.{unwrap_or}
 use Rattle.std.specs.FinMap as maps
 use Rattle.mig_bytes.specs.Fields.{le32, le64}
 use Rattle.mig_pagetypes.specs.declared.page_type.PageType.TheVariants.{Xtab}
 use Rattle.mig_pagetypes.proofs.Numbers.{number_small, type_back}
+use Rattle.mig_image.specs.FrameEnds.{EndsAt}
 use Rattle.mig_image.specs.Image.{frame_head_of}
 use Rattle.mig_bytes.proofs.Said.{bytes_pass, said_goes}
 use Rattle.mig_host.proofs.InOrder.{has_from, get_at, get_front, each_entry, no_entry, none_passes, few_ranks, entries_behind, found_passes, nat_rises}
@@ -131,6 +132,29 @@ from_is k (e ∷ es) = rw (test_is k e.0, from_is k es) refl
 
 pub behind : (m : HostFrames) (e : ℕ × HostFrame) → list_any (λ x. nat_le e.0 x.0) (maps.entries m) ≡ false → has_from nat_cmp_total (maps.entries m) e.0 ≡ false
 behind m e is = sym (from_is e.0 (maps.entries m)) ∙ is
+
+-- a last entry behind entries of smaller numbers
+last_ends : (es : List (ℕ × HostFrame)) (k : ℕ) (f : HostFrame) (q : ℕ) → list_any (λ x. nat_le k x.0) es ≡ false → list_any (λ x. nat_le q x.0) (es ++ (k, f) ∷ []) ≡ nat_lt q (k + 1)
+last_ends [] k f q h = grind (arith, common_steps)
+last_ends (e ∷ es) k f q h =
+    let p = or_parts (nat_le k e.0) (list_any (λ x. nat_le k x.0) es) h in
+    ap (λ b. nat_le q e.0 || b) (last_ends es k f q p.1) ∙ below q e.0 (leb-false k e.0 p.0)
+  where
+    below : (q n : ℕ) → n < k → (nat_le q n || nat_lt q (k + 1)) ≡ nat_lt q (k + 1)
+    below q n h = grind (arith, common_steps)
+
+-- where no frame is at this number or above it, the frames end behind it once it has one
+pub ends_behind : (h : HostOf) (pfn : ℕ) (f : HostFrame) → has_frame_from h pfn ≡ false → EndsAt (put_frame h pfn f) (pfn + 1)
+ends_behind h pfn f none q =
+    ap (list_any (λ x. nat_le q x.0)) (entries_behind nat_cmp_total h.frames pfn f (behind h.frames (pfn, f) none)) ∙ last_ends (maps.entries h.frames) pfn f q none
+
+-- without a frame they end at 0
+pub ends_at_none : (h : HostOf) → length (maps.entries h.frames) ≡ 0 → EndsAt h 0
+ends_at_none h none q = by (maps.entries h.frames) none
+  where
+    by : (es : List (ℕ × HostFrame)) → length es ≡ 0 → list_any (λ x. nat_le q x.0) es ≡ nat_lt q 0
+    by [] h = grind (arith, common_steps)
+    by (e ∷ es) h = absurd (omega (arith, h))
 
 module _ (g : HostOf) (valid : IsValid g) where
   fits : (m : HostFrames) (e : ℕ × HostFrame) (more : List (ℕ × HostFrame)) → maps.entries g.frames ≡ maps.entries m ++ e ∷ more → has_from nat_cmp_total (maps.entries m) e.0 ≡ false → FrameFits g.kind g.width m e

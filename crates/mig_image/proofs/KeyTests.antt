@@ -1,5 +1,5 @@
 -- Whether a host has a frame or a part from a key on.
-use Rattle.mig_image.proofs.Common.{◌≡◌, ℕ, ◌≤◌, ◌<◌, Bool, true, false, not, nat_le, Option, Some, None, is_some, IsSome, IfSome, IfNone, refl, sym, ap, ◌∙◌, arith, list_any, leb-true, le-leb, true≢false, false_from_ne_true, none-some, IsTotalOrder, nat_cmp_total, is_lt, ordering_reverse, Ordering, Less, Equal, Greater, FinMap, IsAntisymmetric, nat_cmp-IsAntisymmetric, PartKey, part_cmp, IsAbove, HostFrames, PartMap, part_total, part_exact, has_part_from}
+use Rattle.mig_image.proofs.Common.{◌≡◌, ℕ, Bool, true, false, not, nat_le, Option, Some, None, is_some, IsSome, IfSome, IfNone, refl, sym, ap, ◌∙◌, arith, list_any, le-leb, true≢false, false_from_ne_true, none-some, IsTotalOrder, nat_cmp_total, is_lt, ordering_reverse, Ordering, Less, Equal, Greater, FinMap, IsAntisymmetric, nat_cmp-IsAntisymmetric, PartKey, part_cmp, IsAbove, HostFrames, PartMap, part_total, part_exact, has_part_from}
 use Rattle.std.specs.FinMap as maps
 use Rattle.mig_host.proofs.InOrder.{some_entry, no_entry, none_passes}
 
@@ -27,13 +27,6 @@ module _ {K X : Type 0} {R : K → K → Ordering} (total : IsTotalOrder R) (exa
 -- without a frame from this number on there is none of this number
 pub frame_absent : (frames : HostFrames) (pfn : ℕ) → list_any (λ e. nat_le pfn e.0) (maps.entries frames) ≡ false → maps.get frames pfn ≡ None
 frame_absent frames pfn none = not_there nat_cmp_total nat_cmp-IsAntisymmetric (nat_le pfn) frames pfn (le-leb pfn pfn (omega arith)) none
-
--- a frame from this number on
-pub frames_from : (frames : HostFrames) (from : ℕ) (r : Option ℕ)
-    → IfNone r ((k : ℕ) → from ≤ k → maps.get frames k ≡ None) → IfSome r (λ q. IsSome (maps.get frames q)) → IfSome r (λ q. (from ≤ q) × ((k : ℕ) → from ≤ k → k < q → maps.get frames k ≡ None))
-    → is_some r ≡ list_any (λ e. nat_le from e.0) (maps.entries frames)
-frames_from frames from None none there least = sym (no_key nat_cmp_total nat_cmp-IsAntisymmetric (nat_le from) frames (λ k passes. none k (leb-true from k passes)))
-frames_from frames from (Some q) none there least = sym (some_key nat_cmp_total nat_cmp-IsAntisymmetric (nat_le from) frames q (le-leb from q least.0) there)
 
 -- ---- a part of this key or of a greater one
 

@@ -1,11 +1,12 @@
 -- How what the readers of an image give joins, and what a head without a fault says.
-use Rattle.mig_image.proofs.Common.{IsErrAnd, ◌≡◌, ℕ, List, Option, Result, Ok, Err, refl, sym, subst, ◌+◌, true, false, cond, length, Some, None, is_some, ap, ◌∙◌, ◌==◌, eqb-false, same_Some, nat_cmp_total, nat_cmp-IsAntisymmetric, len-insert, len-entries, Judged, ◌>>=◌, Gives, part, placed, Passes, seq, mapped, stopped, done, placed_fine, ImageCause, Truncated, rows_fine, ImagePlace, Parts, PageType, type_has_data, HostOf, HostFrame, HostFrames, IsHostFrame, head_key, put_part_in, part_head_at, bytes_at, padding_at, part_at, head_pfn, head_type, frame_rows, fault_of_frame, frame_head_at, host_page_at, frame_said, put_frame, host_frame_at, opened, frames_at, count_at, host_parts_at, behind_head, HostAndSpare, IsHost}
+use Rattle.mig_image.proofs.Common.{IsErrAnd, ◌≡◌, ℕ, List, Option, Result, Ok, Err, refl, sym, subst, ◌+◌, true, false, cond, length, Some, None, is_some, ap, ◌∙◌, ◌==◌, eqb-false, same_Some, nat_cmp_total, nat_cmp-IsAntisymmetric, len-insert, len-entries, Judged, ◌>>=◌, Gives, part, placed, Passes, seq, mapped, stopped, done, placed_fine, ImageCause, Truncated, rows_fine, ImagePlace, Parts, PageType, type_has_data, HostOf, HostFrame, HostFrames, IsHostFrame, head_key, put_part_in, part_head_at, bytes_at, padding_at, part_at, head_pfn, head_type, has_frame_from, frame_rows, fault_of_frame, frame_head_at, host_page_at, frame_said, put_frame, host_frame_at, opened, frames_at, count_at, host_parts_at, behind_head, HostAndSpare, IsHost}
 use Rattle.std.specs.FinMap as maps
 use Rattle.mig_bytes.specs.declared.part.Stop.{Stop}
 use Rattle.mig_bytes.specs.Fields.{le32, le64}
 use Rattle.mig_host.proofs.InOrder.{none_passes}
+use Rattle.mig_image.specs.FrameEnds.{EndsAt}
 use Rattle.mig_image.proofs.Parts.{behind_bytes, behind_part_head}
-use Rattle.mig_image.proofs.Frames.{frame_fits, page_if, behind_frame_head}
+use Rattle.mig_image.proofs.Frames.{frame_fits, page_if, behind_frame_head, ends_behind}
 use Rattle.mig_image.proofs.KeyTests.{frame_absent}
 
 module _ {C V X Y Z : Type 0} (val : V → X) (Q : Y → Z → Type 0) where
@@ -91,6 +92,12 @@ module _ (h : HostOf) (head : List ℕ) (fine : fault_of_frame h head ≡ None) 
   is_absent pfn is =
       let (zero, (type, (order, others))) = rows_fine (frame_rows h head) fine in
       ap (maps.get h.frames) is ∙ frame_absent h.frames (head_pfn head) order
+
+  -- with its frame the frames end behind its number
+  pub ends_more : (frame : HostFrame) (pfn : ℕ) → pfn ≡ head_pfn head → EndsAt (put_frame h pfn frame) (pfn + 1)
+  ends_more frame pfn is =
+      let (zero, (type, (order, others))) = rows_fine (frame_rows h head) fine in
+      ends_behind h pfn frame (ap (has_frame_from h) is ∙ order)
 
   -- no frame has its machine frame
   pub is_unused : (machine : ℕ) → machine ≡ le64 head 8 → (other : ℕ) (frame : HostFrame) → maps.get h.frames other ≡ Some frame → frame.machine ≡ machine → ⊥

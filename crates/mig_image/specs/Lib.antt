@@ -2,3 +2,4 @@ pub mod Image
 pub mod ImageParts
 pub mod Answer
 pub mod PartCounts
+pub mod FrameEnds

@@ -8,7 +8,8 @@ ghost use Rattle.mig_bytes.specs.declared.part.Stop.TheVariants.{Memory};
 ghost use Rattle.mig_pagetypes.specs.Limits.{pfn_limit, most_frames};
 ghost use Rattle.mig_guest.specs.Frames.{is_type_of};
 ghost use Rattle.mig_image.specs.Answer.{IsHost, ReadsHost, BeginsWithImage};
-ghost use Rattle.mig_image.specs.ImageParts.{fault_of_host_head, fault_of_frame, has_frame_from, frame_head_at, host_frame_at, frames_at, count_at, head_type, head_pfn, behind_head, host_at};
+ghost use Rattle.mig_image.specs.FrameEnds.{EndsAt};
+ghost use Rattle.mig_image.specs.ImageParts.{fault_of_host_head, fault_of_frame, frame_head_at, host_frame_at, frames_at, count_at, head_type, head_pfn, behind_head, host_at};
 
 use crate::head::{kind_in, read_head};
 use crate::read_part::read_parts;
@@ -46,16 +47,9 @@ fn is_type_of(kind: Kind, this: PageType) -> bool
     }
 }
 
-/// Whether the host has a frame of this number or of a greater one.
-#[tactic(auto, using(crate::proofs::KeyTests::frames_from))]
-fn has_from(host: &Host, pfn: u64) -> bool
-    ensures { result ≡ has_frame_from host.now.host pfn }
-{
-    host.next_frame(pfn).is_some()
-}
-
-/// What is wrong with the head of a frame behind those of the host.
-fn frame_fault(host: &Host, head: &[u8; 16]) -> Option<ImageCause>
+/// What is wrong with the head of a frame behind those of the host, which end at `next`.
+fn frame_fault(host: &Host, next: u64, head: &[u8; 16]) -> Option<ImageCause>
+    requires { EndsAt host.now.host next }
     ensures { result ≡ fault_of_frame host.now.host head.now }
 {
     let pfn = pfn_of(head);
@@ -66,7 +60,7 @@ fn frame_fault(host: &Host, head: &[u8; 16]) -> Option<ImageCause>
     if !is_type_of(host.kind(), kind_of(head)) {
         return Some(ImageCause::BadPageType(u64::from(u32_le(head, 0) >> 28)));
     }
-    if has_from(host, pfn) {
+    if pfn < next {
         return Some(ImageCause::FrameOrder(pfn));
     }
     if pfn >= host.width() {
@@ -81,8 +75,13 @@ fn frame_fault(host: &Host, head: &[u8; 16]) -> Option<ImageCause>
     None
 }
 
-/// Takes the head of a frame that stands behind those of the host.
-fn read_frame_head<S: Source>(src: &mut S, host: &Host) -> Result<[u8; 16], Stop<ImageCause>>
+/// Takes the head of a frame that stands behind those of the host, which end at `next`.
+fn read_frame_head<S: Source>(
+    src: &mut S,
+    host: &Host,
+    next: u64,
+) -> Result<[u8; 16], Stop<ImageCause>>
+    requires { EndsAt host.now.host next }
     ensures read { Gives (λ v head. head ≡ v) (S.left src.old) (S.left src.new) (frame_head_at host.now.host) result }
     ensures fine { IfOk result (λ head. fault_of_frame host.now.host head ≡ None) }
     ensures taken { OnOk result (TakesBytes (S.left src.old) (S.left src.new)) }
@@ -91,35 +90,37 @@ fn read_frame_head<S: Source>(src: &mut S, host: &Host) -> Result<[u8; 16], Stop
 {
     let mut head = [0; 16];
     take_part(src, &mut head, ImageCause::Truncated)?;
-    match frame_fault(host, &head) {
+    match frame_fault(host, next, &head) {
         Some(cause) => Err(Stop::Refused(cause)),
         None => Ok(head),
     }
 }
 
-/// Takes a frame that stands behind those of the host, and keeps it.
+/// Takes a frame that stands behind those of the host, which end at `next`, and keeps it. Answers where they end now.
 #[tactic(auto, using(crate::proofs::Readers::frames_more, crate::proofs::Readers::is_absent))]
-fn read_frame<S: Source>(src: &mut S, host: &mut Host) -> Result<(), Stop<ImageCause>>
-    requires { length (maps.entries host.old.host.frames) < most_frames }
+fn read_frame<S: Source>(src: &mut S, host: &mut Host, next: u64) -> Result<u64, Stop<ImageCause>>
+    requires ends { EndsAt host.old.host next }
+    requires few { length (maps.entries host.old.host.frames) < most_frames }
     ensures read { Gives (λ _ h. host.new.host ≡ h) (S.left src.old) (S.left src.new) (host_frame_at host.old.host) result }
+    ensures ends { IfOk result (λ behind. EndsAt host.new.host behind) }
     ensures counted { OnOk result (length (maps.entries host.new.host.frames) ≡ length (maps.entries host.old.host.frames) + 1) }
     ensures parts { OnOk result (host.new.host.parts ≡ host.old.host.parts) }
     ensures taken { OnOk result (TakesBytes (S.left src.old) (S.left src.new)) }
     ensures faults { RisesOnReadFault (S.faults src.old) (S.faults src.new) result }
 {
-    let head = read_frame_head(src, host)?;
+    let head = read_frame_head(src, host, next)?;
     let kind = kind_of(&head);
     let (pfn, machine) = (pfn_of(&head), u64_le(&head, 8));
     if !kind.has_data() {
         return match host.add_frame(pfn, kind, machine, None) {
-            Ok(()) => Ok(()),
+            Ok(()) => Ok(pfn + 1),
             Err(_) => Err(Stop::Memory),
         };
     }
     let mut page = [0; 4096];
     take_part(src, &mut page, ImageCause::Truncated)?;
     match host.add_frame(pfn, kind, machine, Some(&page)) {
-        Ok(()) => Ok(()),
+        Ok(()) => Ok(pfn + 1),
         Err(_) => Err(Stop::Memory),
     }
 }
@@ -137,10 +138,12 @@ fn read_frames<S: Source>(
     ensures taken { OnOk result (TakesBytes (S.left src.old) (S.left src.new)) }
     ensures faults { RisesOnReadFault (S.faults src.old) (S.faults src.new) result }
 {
+    let mut next = 0;
     for i in 0..count {
-        if let Err(stop) = read_frame(src, host) {
-            return Err(stop.at(ImagePlace::Frame(i)));
-        }
+        next = match read_frame(src, host, next) {
+            Ok(behind) => behind,
+            Err(stop) => return Err(stop.at(ImagePlace::Frame(i))),
+        };
     }
     Ok(())
 }

@@ -1,11 +1,14 @@
 use Rattle.mig_image.proofs.Common.{◌≡◌, ◌∙◌, ◌+◌, ap, subst, rules, refl, Ok, Gives, takes_none, takes_more, told, one_more, one_stops, Frame, HostOf, host_frame_at, frames_at}
+use Rattle.mig_bytes.proofs.Placed.{known}
 use Rattle.mig_bytes.proofs.Steps.{begins}
+use Rattle.mig_image.proofs.Frames.{ends_at_none}
 use Rattle.mig_image.proofs.read.read_frames.Goals as goal
 
 pub loop-i-init : goal.loop-i-init
 loop-i-init g c = record {
   read = begins (λ (v h : HostOf). v ≡ h) _ c.args.host.now.host c.args.host.now.host _ refl;
   counted = c.requires.none;
+  ends = ends_at_none c.args.host.now.host c.requires.none;
   parts = refl;
   taken = takes_none _;
   quiet = search rules;
@@ -17,10 +20,11 @@ returns-in-Err-clause-read g c =
 
 pub loop-i-preserved : goal.loop-i-preserved
 loop-i-preserved g c = record {
-  read = one_more Frame host_frame_at _ _ _ c.loop-i.i c.args.host.now.host c.loop-i.host.host c.read_frame.new.host.host _ c.loop-i.invariant.read c.in_default.ensures.read;
-  counted = c.in_default.ensures.counted ∙ ap (λ n. n + 1) c.loop-i.invariant.counted;
-  parts = c.in_default.ensures.parts ∙ c.loop-i.invariant.parts;
-  taken = takes_more _ _ _ c.loop-i.invariant.taken c.in_default.ensures.taken;
+  read = one_more Frame host_frame_at _ _ _ c.loop-i.i c.args.host.now.host c.loop-i.host.host c.read_frame.new.host.host _ c.loop-i.invariant.read (told _ _ _ _ tt (known _ _ _ _ _ c.in-Ok.ensures.read));
+  ends = c.in-Ok.ensures.ends;
+  counted = c.in-Ok.ensures.counted ∙ ap (λ n. n + 1) c.loop-i.invariant.counted;
+  parts = c.in-Ok.ensures.parts ∙ c.loop-i.invariant.parts;
+  taken = takes_more _ _ _ c.loop-i.invariant.taken c.in-Ok.ensures.taken;
   quiet = search rules;
 }
 
