@@ -1,8 +1,8 @@
 -- Judging that passes looks at nothing behind what it takes.
-use Rattle.std.proofs.Common.{◌≡◌, ℕ, zero, suc, ◌+◌, List, [], ◌∷◌, ◌++◌, Option, Some, None, sym, ap, ◌∙◌, append_assoc}
-use Rattle.mig_bytes.specs.Judged.{Judged, ◌>>=◌, part, tried, said_at, plain_at, each, steps, placed}
+use Rattle.std.proofs.Common.{◌≡◌, ℕ, zero, suc, ◌+◌, List, [], ◌∷◌, ◌++◌, Option, sym, ap, ◌∙◌, append_assoc}
+use Rattle.mig_bytes.specs.Judged.{Judged, ◌>>=◌, part, said_at, each, steps, placed}
 use Rattle.mig_bytes.specs.Judged.Judged.{Passes}
-use Rattle.mig_bytes.proofs.Joins.{both_pass, part_passes, part_whole, passes_not, same_passes, then_passes, placed_passes}
+use Rattle.mig_bytes.proofs.Joins.{both_pass, part_passes, part_whole, same_passes, then_passes, placed_passes}
 use Rattle.mig_bytes.proofs.Said.{said_passes, said_goes}
 
 -- a front was taken, and it passes as well whatever follows it
@@ -48,14 +48,6 @@ pub front_placed : {P C X : Type 0} (place : P) (f : List ℕ → Judged C X) �
 front_placed place f first input x rest is =
     let p = first input x rest (placed_passes place (f input) x rest is) in
     record { front = p.front; whole = p.whole; again = λ more. ap (placed place) (p.again more) }
-
--- a cause is tried in no bytes, and then judged on
-pub front_checked : {C X : Type 0} (f : Option C) (g : List ℕ → Judged C X) → TakesFronts g → TakesFronts (λ i. tried f i >>= λ _. g i)
-front_checked None g fronts = fronts
-front_checked (Some c) g fronts = λ i x rest h. passes_not x rest c i (sym h)
-
-pub front_plain : {C X : Type 0} (truncated : C) (says : List ℕ → X) (n : ℕ) → TakesFronts (plain_at truncated says n)
-front_plain truncated says n = front_then (part truncated n) (λ b. Passes (says b.0) b.1) (front_part truncated n) (λ b. front_pass (says b))
 
 pub front_each : {C W X : Type 0} (f : W → List ℕ → Judged C X) → ((w : W) → TakesFronts (f w)) → (ws : List W) → TakesFronts (each f ws)
 unfolding each

@@ -229,14 +229,6 @@ placed_faulty {P} {C} at place (Faulty d mid) c rest h = let e = same_faulty (at
 
 -- ---- judgements in a row, regrouped
 
-pub bind_assoc : {C X Y Z : Type 0} (j : Judged C X) (f : X × List ℕ → Judged C Y) (k : Y × List ℕ → Judged C Z) → ((j >>= f) >>= k) ≡ (j >>= λ a. f a >>= k)
-bind_assoc (Passes x rest) f k = refl
-bind_assoc (Faulty c rest) f k = refl
-
-pub placed_bind : {P C X Y Z : Type 0} (place : P) (j : Judged C X) (f : X × List ℕ → Judged C Y) (k : Y × List ℕ → Judged (P × C) Z) → (placed place (j >>= f) >>= k) ≡ (placed place j >>= λ a. placed place (f a) >>= k)
-placed_bind place (Passes x rest) f k = refl
-placed_bind place (Faulty c rest) f k = refl
-
 module _ {P C X Z : Type 0} (place : P) (truncated : C) (says : List ℕ → X) (k : X × List ℕ → Judged (P × C) Z) where
   said_by : (fault : List ℕ → Option C) (j : Judged C (List ℕ))
       → (placed place (j >>= λ b. tried (fault b.0) b.1 >>= λ _. Passes (says b.0) b.1) >>= k) ≡ (placed place (j >>= λ b. tried (fault b.0) b.1 >>= λ _. Passes b.0 b.1) >>= λ b. k (says b.0, b.1))

@@ -1,5 +1,5 @@
 -- What the answers of a host tell a caller who changes it: that it has what the change asks for.
-use Rattle.mig_host.proofs.Common.{◌≡◌, ℕ, ◌<◌, ◌^◌, true, false, length, List, Some, sym, ap, ◌∙◌, arith, ◌==◌, eq-eqb, list_any, option_map, nat_cmp_total, nat_cmp-IsAntisymmetric, len-entries, HostOf, HostFrame, PartKey}
+use Rattle.mig_host.proofs.Common.{◌≡◌, ℕ, ◌<◌, ◌^◌, true, false, length, Some, sym, ◌∙◌, arith, ◌==◌, eq-eqb, list_any, nat_cmp_total, nat_cmp-IsAntisymmetric, len-entries, HostOf, HostFrame}
 use Rattle.std.specs.FinMap as maps
 use Rattle.mig_host.specs.HostView.{has_machine}
 use Rattle.mig_host.proofs.InOrder.{some_entry}
@@ -14,7 +14,3 @@ unused_told h machine none other frame found same =
 -- the answer of `frames`
 pub few_told : (h : HostOf) (n : ℕ) → n ≡ maps.len h.frames → n < 2 ^ 24 → length (maps.entries h.frames) < 2 ^ 24
 few_told h n is lt = omega (arith, is, lt, len-entries h.frames)
-
--- the answer of `part`
-pub part_told : (h : HostOf) (key : PartKey) (bytes : List ℕ) → Some bytes ≡ maps.get h.parts key → option_map (λ (part : List ℕ). length part) (maps.get h.parts key) ≡ Some (length bytes)
-part_told h key bytes is = ap (option_map (λ (part : List ℕ). length part)) (sym is)

@@ -164,15 +164,6 @@ later_now a b same calls runs few host = record {
   host = host ∙ next_after a.lines a.host a.runs b.runs runs few;
 }
 
--- no line ran
-pub later_idle : (a b : Course) → b.lines ≡ a.lines → a.calls ≤ b.calls → b.runs ≡ a.runs → b.host ≡ a.host → IsLaterCourse a b
-later_idle a b same calls runs host = record {
-  script = same;
-  calls = calls;
-  runs = omega (arith, runs);
-  host = host ∙ sym (ap (λ (l : List LineOf). after a.host l) (ap (ran_between a.lines a.runs) runs ∙ between_same a.lines a.runs));
-}
-
 pub later_itself : (a : Course) → IsLaterCourse a a
 later_itself a = record { script = refl; calls = omega arith; runs = omega arith; host = sym (ap (λ (l : List LineOf). after a.host l) (between_same a.lines a.runs)) }
 

@@ -1,5 +1,5 @@
 -- What a line needs where it applies, and the order in which it is tested.
-use Rattle.std.proofs.Common.{◌≡◌, ℕ, ◌<◌, Bool, true, false, not, length, Option, Some, None, refl, subst}
+use Rattle.std.proofs.Common.{◌≡◌, ℕ, ◌<◌, Bool, true, not, length, Option, Some, None, subst}
 use Rattle.std.specs.Option.{option_map}
 use Rattle.std.specs.FinMap as maps
 use Rattle.std.specs.FinMap.{len-entries}
@@ -23,7 +23,3 @@ exchange_unused h pfn mfn is = unused h mfn (both_true _ _ is).1
 pub own_unnamed : (frames : HostFrames) (o : Option HostFrame) (own : ℕ) (named : Bool) → Some own ≡ option_map (λ (f : HostFrame). f.machine) o → named ≡ names_machine frames own → not named ≡ is_unnamed frames o
 own_unnamed frames None own named is same = cc
 own_unnamed frames (Some f) own named is same = cc
-
-pub none_goes : (frames : HostFrames) (o : Option HostFrame) → None ≡ option_map (λ (f : HostFrame). f.machine) o → false ≡ is_unnamed frames o
-none_goes frames None is = refl
-none_goes frames (Some f) is = cc

@@ -34,7 +34,7 @@ pub record Rounds (kind : Kind) (width : ℕ) (h : History) : Type 0 where
   pub before_pause : length live ≡ h.live
   -- n is from 1 to 5
   pub number : (1 ≤ length live) × (length live ≤ 5)
-  -- R1 is all PFNs below the width, and each further Ri is the log before it
+  -- the first round reads all PFNs below the width, and each further one those that the log before it names
   pub reads : OfEachLog (λ before log. log.asked.read ≡ to_read width before) live
   -- each log before Ln names 50 PFNs or more; Ln names fewer, or n is 5
   pub sizes : OfEachLog (λ before log. GoesOn width before) live × ((size width (to_read width live) < 50) ⊎ (length live ≡ 5))

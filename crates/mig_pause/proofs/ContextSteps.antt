@@ -70,9 +70,6 @@ next_found f {rest = rest} c is so here = ap (λ o. option_or o (first_some f re
 pub next_fine : {C : Type 0} (f : Part → Option C) {now rest : List Part} {e : Part} {answer : Option C} → now ≡ e ∷ rest → first_some f now ≡ answer → f e ≡ None → first_some f rest ≡ answer
 next_fine f {rest = rest} is so nothing = ap (λ o. option_or o (first_some f rest)) (sym nothing) ∙ ap (first_some f) (sym is) ∙ so
 
-pub none_next : {C : Type 0} (f : Part → Option C) {now : List Part} {answer : Option C} → now ≡ [] → first_some f now ≡ answer → None ≡ answer
-none_next f is so = ap (first_some f) (sym is) ∙ so
-
 -- what is found in the context that stands next
 module _ (bad : ℕ → List ℕ → ℕ → Bool) (parts : PartMap) (after : Option PartKey) (e : Part) (next : parts_after 4 after (maps.entries parts) ≡ e ∷ parts_after 4 (Some e.0) (maps.entries parts)) where
   pub found_in_next : (found : Option ℕ) → IfSome (maps.get parts e.0) (λ context. found ≡ find (bad e.0.key1 context) field_numbers) → in_fields bad e ≡ option_map (λ (field : ℕ). (e.0.key1, field)) found

@@ -1,5 +1,5 @@
 -- What stays the same of a machine, from call to call.
-use Rattle.std.proofs.Common.{refl, ◌∙◌, ℕ}
+use Rattle.std.proofs.Common.{◌∙◌, ℕ}
 use Rattle.mig_guest.specs.Hosts.{HostOf}
 use Rattle.mig_machine_api.specs.Pfns.{Pfns}
 use Rattle.mig_machine_api.specs.MachineStates.{MachineState, IsSameShape, Ran}
@@ -13,9 +13,6 @@ shape_on g h k a b = record {
   lengths = λ key. b.lengths key ∙ a.lengths key;
   fixed = λ key is. b.fixed key is ∙ a.fixed key is;
 }
-
-pub stays_self : (s : MachineState) → StaysSame s s
-stays_self s = record { shape = record { kind = refl; width = refl; lengths = λ key. refl; fixed = λ key is. refl }; honest = refl }
 
 pub stays_on : (s t u : MachineState) → StaysSame s t → StaysSame t u → StaysSame s u
 stays_on s t u a b = record { shape = shape_on s.host t.host u.host a.shape b.shape; honest = b.honest ∙ a.honest }

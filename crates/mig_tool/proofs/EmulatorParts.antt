@@ -1,13 +1,11 @@
 -- A walk over the keys of a host's parts finds those of emulators.
-use Rattle.mig_tool.proofs.Common.{◌≡◌, ℕ, List, Option, Some, None, refl, sym, ap, ◌∙◌}
-use Rattle.std.specs.Prelude.{Bool, true, false, ◌==◌, ◌||◌}
+use Rattle.mig_tool.proofs.Common.{◌≡◌, ℕ, List, Option, Some, None, sym, ap, ◌∙◌}
+use Rattle.std.specs.Prelude.{Bool, false, ◌==◌, ◌||◌}
 use Rattle.std.proofs.lemmas.Bool.{ne_eqb}
 use Rattle.std.specs.FinMap as maps
 use Rattle.mig_guest.specs.declared.part_key.PartKey.{PartKey}
-use Rattle.mig_guest.specs.Formed.{HasNoEmulators, is_emulator_code}
-use Rattle.mig_guest.specs.Order.{IsAbove}
+use Rattle.mig_guest.specs.Formed.{is_emulator_code}
 use Rattle.mig_guest.specs.Parts.{PartMap}
-use Rattle.mig_guest.proofs.PartCursor.{less}
 use Rattle.mig_dirtysave.proofs.Walks.{IsNextKey, Passes, is_above, passes}
 use Rattle.mig_dirtysave.proofs.Walks.Passes.{it, before, absent}
 
@@ -25,17 +23,6 @@ at_next parts after key q none other (absent apart gone) bytes at = let no : ◌
 
 pub none_here : (parts : PartMap) (after : Option PartKey) (key : PartKey) → IsNextKey parts after key → is_emulator_code key.code ≡ false → NoneBefore parts after → NoneBefore parts (Some key)
 none_here parts after key next other none q passed bytes at = at_next parts after key q none other (passes parts after key next q passed) bytes at
-
-ahead : (after : Option PartKey) (q : PartKey) → is_above after q ≡ true → IsAbove after q
-ahead None q h = tt
-ahead (Some a) q h = less _ h
-
-pub none_at_all : (parts : PartMap) (after : Option PartKey) → ((q : PartKey) → IsAbove after q → maps.get parts q ≡ None) → NoneBefore parts after → HasNoEmulators parts
-none_at_all parts after over none q bytes at = by (is_above after q) refl
-  where
-    by : (b : Bool) → is_above after q ≡ b → is_emulator_code q.code ≡ false
-    by true h = let no : ◌≡◌ {A = Option (List ℕ)} None (Some bytes) = sym (over q (ahead after q h)) ∙ at in absurd cc
-    by false h = none q h bytes at
 
 pub of_neither : (code : ℕ) → (code ≡ 258 → ⊥) → (code ≡ 259 → ⊥) → is_emulator_code code ≡ false
 of_neither code e f = ap (λ (b : Bool). b || (code == 259)) (ne_eqb code 258 e) ∙ ne_eqb code 259 f

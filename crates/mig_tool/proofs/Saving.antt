@@ -32,7 +32,7 @@ use Rattle.mig_report.specs.declared.status.Status.TheVariants as statuses
 use Rattle.mig_tool.specs.Answers.{NamesRefusal, RefusesPause}
 use Rattle.mig_tool.specs.Answers.Form.{ImageAndScript}
 use Rattle.mig_tool.specs.LiveSaves.{HasHostAndText, HasHostAndScript, WroteLive}
-use Rattle.mig_tool.specs.SaveSteps.{StopsAt, IsNotBuiltAs, ReadsHostToSave, ReadsHostAndScript, stop_of_script, outcome_of_stop, ComesToNone}
+use Rattle.mig_tool.specs.SaveSteps.{StopsAt, IsNotBuiltAs, ReadsHostToSave, ReadsHostAndScript, stop_of_script, ComesToNone}
 use Rattle.mig_tool.specs.declared.save.HostAndScript.{HostAndScript}
 
 -- ---- nothing was written
@@ -48,16 +48,6 @@ headers_len = refl
 -- no bytes are no stream
 pub unwritten : (old : Option (List ℕ)) → WroteNoStream old old
 unwritten old = bare_headers old old Hvm (0, omega (arith, headers_len), appends_nothing old)
-
-stop_comes : (input : List ℕ) (left : Option (List ℕ)) (w : Written) (stop : Stop Refusal) → StopsAt input left stop → Comes Save input left w (outcome_of_stop stop)
-stop_comes input left w (stops.Refused refusal) (rest, refused, it, is) = (rest, refused, is)
-stop_comes input left w stops.ReadFault h = tt
-stop_comes input left w stops.Memory h = tt
-
--- no host and script were read
-pub stopped_comes : (told left : Option (List ℕ)) (w : Written) (stop : Stop Refusal) (outcome : Outcome) → ReadsHostAndScript told left (Err stop) → outcome ≡ outcome_of_stop stop → ComesOf Save told left w outcome
-stopped_comes None left w stop outcome h is = tt
-stopped_comes (Some input) left w stop outcome h is = subst (Comes Save input left w) (sym is) (stop_comes input left w stop h)
 
 -- ---- why no host and script were read
 
