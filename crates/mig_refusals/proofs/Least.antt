@@ -1,16 +1,13 @@
 -- The cause that is named: of a table the first row whose test holds, and of several tables the first that names one.
 use Rattle.mig_refusals.proofs.Common.{◌≡◌, ◌⊎◌, inl, inr, ℕ, List, Bool, true, false, cond, refl, false≢true, Option, Some, None, sym, ap, subst, arith, option_or, first_fault, Cause, OutOfOrder, IsTriedBefore, IsFirstCause, AnswersFirstCause, number_of_cause, ascends, rows_name, Truncated}
+use Rattle.mig_standing.specs.NamedFirst.{NamesFirst}
 use Rattle.mig_headers.proofs.FirstCauses as firsts
 use Rattle.mig_headers.proofs.FirstCauses.{Named}
 use Rattle.mig_refusals.proofs.Parts.{Tries}
 
-abbrev pub LeastOf : (ℕ → Cause → Type 0) → Option Cause → Type 0
-LeastOf Has None = (k : ℕ) (c : Cause) → Has k c → ⊥
-LeastOf Has (Some c) = IsFirstCause Has c
-
 -- what a computed fault is of the causes that stand
-pub record Least (Has : ℕ → Cause → Type 0) (f : Option Cause) : Type 0 where
-  pub holds : LeastOf Has f
+abbrev pub Least : (ℕ → Cause → Type 0) → Option Cause → Type 0
+Least Has f = NamesFirst number_of_cause Has f
 
 -- what is tried in a part: the least of the causes that stand in it
 pub record LeastTried (Has : List ℕ → ℕ → Cause → Type 0) : Type 0 where

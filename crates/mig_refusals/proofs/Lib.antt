@@ -5,7 +5,6 @@ pub mod Firsts
 pub mod Laws
 pub mod Least
 pub mod Parts
-pub mod Ranks
 pub mod Tests
 pub mod LibxcCauses
 pub mod LibxcHeads

@@ -4,8 +4,9 @@ use Rattle.std.specs.FinMap as maps
 use Rattle.mig_refusals.specs.LibxcPv.PvGuestHas.{other_type, listed_twice}
 use Rattle.mig_refusals.proofs.Least.{Least, Alone, alone_least, turned}
 use Rattle.mig_refusals.proofs.Tests.{is_missing}
-use Rattle.mig_refusals.proofs.Ranks.{rank_lt}
-use Rattle.mig_refusals.proofs.Firsts.{Sought, sought_least, slot_least, field_least, InEntries, Rises, entries_least, some_passes, passes_some, twice_mapped, first_mapped}
+use Rattle.mig_standing.proofs.KeyRanks.{rank_lt}
+use Rattle.mig_standing.proofs.NamedFirst.{told_first, told_twice}
+use Rattle.mig_refusals.proofs.Firsts.{Sought, sought_least, slot_least, field_least, InEntries, Rises, entries_least, some_passes, passes_some}
 
 -- ---- causes that stand at one place
 
@@ -45,9 +46,9 @@ module _ (frames : FrameMap) where
   entries_are =
       let seen = λ (e : ℕ × FrameOf). option_map (λ (at : ℕ × ℕ). TargetAbsent at.0 at.1) (option_map (λ (slot : ℕ). (e.0, slot)) (find_slot (is_absent frames) (level_of e.1.type) e.1.page)) in
       subst (Least (InEntries nat_cmp_total nat_cmp-IsAntisymmetric AbsentAt frames))
-      (sym (first_mapped (λ (at : ℕ × ℕ). TargetAbsent at.0 at.1) (λ (e : ℕ × FrameOf). option_map (λ (slot : ℕ). (e.0, slot)) (find_slot (is_absent frames) (level_of e.1.type) e.1.page)) (maps.entries frames)))
+      (sym (told_first (λ (at : ℕ × ℕ). TargetAbsent at.0 at.1) (λ (e : ℕ × FrameOf). option_map (λ (slot : ℕ). (e.0, slot)) (find_slot (is_absent frames) (level_of e.1.type) e.1.page)) (maps.entries frames)))
       (entries_least nat_cmp_total nat_cmp-IsAntisymmetric AbsentAt frames frames_rise seen (λ pfn x is.
-      subst (Least (AbsentAt (pfn, x))) (twice_mapped (λ (at : ℕ × ℕ). TargetAbsent at.0 at.1) (λ (slot : ℕ). (pfn, slot)) (find_slot (is_absent frames) (level_of x.type) x.page)) (absent_in pfn (level_of x.type) x.page)))
+      subst (Least (AbsentAt (pfn, x))) (sym (told_twice (λ (at : ℕ × ℕ). TargetAbsent at.0 at.1) (λ (slot : ℕ). (pfn, slot)) (find_slot (is_absent frames) (level_of x.type) x.page))) (absent_in pfn (level_of x.type) x.page)))
 
 -- ---- fields of vCPUs
 
@@ -65,7 +66,7 @@ module _ (frames : FrameMap) (parts : PartMap) where
   misfit_in : (key : PartKey) (context : List ℕ) (b : Bool) → (key.code == 4) ≡ b
       → Least (MisfitAt (key, context)) (option_map field_cause (cond b (option_map (λ (field : ℕ). (key.key1, field)) (find (misfits frames key.key1 context) field_numbers)) None))
   misfit_in key context true is =
-      subst (Least (MisfitAt (key, context))) (twice_mapped field_cause (λ (field : ℕ). (key.key1, field)) (find (misfits frames key.key1 context) field_numbers))
+      subst (Least (MisfitAt (key, context))) (sym (told_twice field_cause (λ (field : ℕ). (key.key1, field)) (find (misfits frames key.key1 context) field_numbers)))
       (turned _ (MisfitAt (key, context)) _
       (field_least (misfits frames key.key1 context) (λ field. 32 * rank_of parts key + field) (λ field. VcpuFrame key.key1 field) (λ i j. refl) (λ i j less. omega (arith, less)))
       (λ k c h. (eqb-true key.code 4 is, h)) (λ k c h. h.1))
@@ -77,7 +78,7 @@ module _ (frames : FrameMap) (parts : PartMap) where
 
   pub fields_are : Least (InEntries part_total part_exact MisfitAt parts) (option_map field_cause (find_field frames parts))
   fields_are =
-      subst (Least (InEntries part_total part_exact MisfitAt parts)) (sym (first_mapped field_cause look (maps.entries parts)))
+      subst (Least (InEntries part_total part_exact MisfitAt parts)) (sym (told_first field_cause look (maps.entries parts)))
       (entries_least part_total part_exact MisfitAt parts parts_rise (λ e. option_map field_cause (look e)) (λ key context is. misfit_in key context (key.code == 4) refl))
 
 -- ---- P2M frames
