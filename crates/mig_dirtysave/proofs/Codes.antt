@@ -7,16 +7,17 @@ use Rattle.byteorder.specs.Endian.{little_bytes}
 use Rattle.byteorder.specs.Numbers.{length-bytes_low_first}
 use Rattle.std.proofs.lemmas.Cmp.{eq_by_cmp_equiv}
 use Rattle.std.proofs.Common.{append_assoc}
-use Rattle.std.proofs.lemmas.Bool.{leb-true}
+use Rattle.std.proofs.Common.{inl, inr}
+use Rattle.std.proofs.lemmas.Bool.{leb-true, or_cases}
 use Rattle.std.proofs.lemmas.List.{length-replicate}
 use Rattle.std.specs.FinMap as maps
 use Rattle.mig_headers.specs.Contexts.{scan}
 use Rattle.mig_headers.specs.declared.kind.Kind.{Kind}
 use Rattle.mig_guest.specs.declared.part_code.PartCode.{PartCode}
 use Rattle.mig_guest.specs.declared.part_code.PartCode.TheVariants.{Tsc, HvmContext, HvmParam, CpuidLeaf, Msr}
-use Rattle.mig_guest.specs.Formed.{is_policy}
+use Rattle.mig_guest.specs.Formed.{is_emulator_code, is_policy}
 use Rattle.mig_guest.specs.Hosts.{HostOf, IsHostPart, IsValid, pfn_in}
-use Rattle.mig_guest.specs.PartCodes.{row_of, code_number, is_fixed}
+use Rattle.mig_guest.specs.PartCodes.{row_of, code_number}
 use Rattle.mig_guest.specs.PartKeys.{p2m_key}
 use Rattle.mig_guest.specs.Parts.{PartMap, Part, FitsPolicy, parts_of}
 use Rattle.mig_guest.proofs.Counts.{same_parts}
@@ -37,7 +38,7 @@ use Rattle.mig_hosted.specs.RenamedContexts.{renamed_context}
 use Rattle.mig_hosted.specs.View.{view, hvm_view, guest_in, top_of}
 use Rattle.mig_hosted.proofs.ViewedParts.{hvm_part, pv_part}
 use Rattle.mig_hosted.proofs.ViewedFrames.{each_policy, top_is}
-use Rattle.mig_dirtysave.specs.Saver.{is_setting, kept_parts, parts_alone, HoldsParts}
+use Rattle.mig_dirtysave.specs.Saver.{is_early, is_setting, kept_parts, parts_alone, HoldsParts}
 use Rattle.mig_dirtysave.specs.SaveTexts.{IsContextFront, context_record, closing_records}
 use Rattle.mig_dirtysave.proofs.Walks.{kept_at}
 
@@ -49,6 +50,13 @@ from_cond false o bytes is = let no : ◌≡◌ {A = Option (List ℕ)} None (So
 
 pub from_kept : (codes : ℕ → Bool) (m : PartMap) (key : PartKey) (bytes : List ℕ) → maps.get (kept_parts codes m) key ≡ Some bytes → (codes key.code ≡ true) × (maps.get m key ≡ Some bytes)
 from_kept codes m key bytes is = from_cond (codes key.code) (maps.get m key) bytes (sym (kept_at codes m key) ∙ is)
+
+-- the parts of emulators are among the settings
+pub emulator_setting : (code : ℕ) → is_emulator_code code ≡ true → is_setting code ≡ true
+emulator_setting code is = elim (or_cases (code == 258) (code == 259) is) [ inl a ↦ ap is_setting (eqb-true code 258 a) | inr b ↦ ap is_setting (eqb-true code 259 b) ]
+
+pub emulators_kept : (m : PartMap) (q : PartKey) → is_emulator_code q.code ≡ true → maps.get m q ≡ maps.get (kept_parts is_setting m) q
+emulators_kept m q is = sym (kept_at is_setting m q ∙ ap (λ b. cond b (maps.get m q) None) (emulator_setting q.code is))
 
 -- an HVM host is no PV host
 pub no_pv : (h : HostOf) (codes : ℕ → Bool) → h.kind ≡ Hvm → h.kind ≡ Pv → codes 4 ≡ false
@@ -121,6 +129,13 @@ module _ (h : HostOf) where
       stays_each part_total part_exact blanked_part q (λ x. ap (λ b. cond b (blanked_context x) (cond (q.code == 7) (blanked_shared x) x)) (ap (λ m. m == 4) of ∙ four) ∙ ap (λ b. cond b (blanked_shared x) x) (ap (λ m. m == 7) of ∙ seven)) (renamed is_used_somewhere (pfn_in h.frames) (guest_in h)).parts
       ∙ stays_each part_total part_exact (renamed_part is_used_somewhere (pfn_in h.frames)) q (λ x. ap (λ b. cond b (renamed_context is_used_somewhere (pfn_in h.frames) q.key1 x) x) (ap (λ m. m == 4) of ∙ four)) h.parts
 
+  -- those of emulators among them
+  pub emulators_seen : (q : PartKey) → is_emulator_code q.code ≡ true → maps.get (view h).parts q ≡ maps.get h.parts q
+  emulators_seen q code = elim (or_cases (q.code == 258) (q.code == 259) code) [
+    | inl a ↦ seen_at h.kind q 258 (eqb-true q.code 258 a) refl refl refl
+    | inr b ↦ seen_at h.kind q 259 (eqb-true q.code 259 b) refl refl refl
+  ]
+
   kind_seen : (k : Kind) → (seen_as k).kind ≡ h.kind
   kind_seen Hvm = refl
   kind_seen Pv = refl
@@ -133,11 +148,11 @@ module _ (h : HostOf) where
   abbrev first_of : Kind → GuestOf → List Record
   first_of k g = info_records k ++ (static_bodies g ++ p2m_records k g)
 
-  module _ (g : GuestOf) (top : g.top ≡ top_of h.kind h.width) (alike : (key : PartKey) → is_fixed key.code ≡ true → maps.get h.parts key ≡ maps.get g.parts key) where
+  module _ (g : GuestOf) (top : g.top ≡ top_of h.kind h.width) (alike : (key : PartKey) → is_early key.code ≡ true → maps.get h.parts key ≡ maps.get g.parts key) where
     static_seen : (k : Kind) → static_bodies (seen_as k) ≡ static_bodies g
     static_seen k =
-        let leaves = same_records CpuidLeaf (seen_as k) g (λ q of. seen_at k q 17 of refl refl refl ∙ alike q (ap is_fixed of)) in
-        let msrs = same_records Msr (seen_as k) g (λ q of. seen_at k q 18 of refl refl refl ∙ alike q (ap is_fixed of)) in
+        let leaves = same_records CpuidLeaf (seen_as k) g (λ q of. seen_at k q 17 of refl refl refl ∙ alike q (ap is_early of)) in
+        let msrs = same_records Msr (seen_as k) g (λ q of. seen_at k q 18 of refl refl refl ∙ alike q (ap is_early of)) in
         λ i. (leaves i ++ (msrs i ++ [])) ++ (0x10, []) ∷ []
 
     first_by : (k : Kind) → first_of k (seen_as k) ≡ first_of k g

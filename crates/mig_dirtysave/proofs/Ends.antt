@@ -1,14 +1,20 @@
 -- What a save has written where it stopped early.
-use Rattle.std.proofs.Common.{◌≡◌, ℕ, ◌≤◌, List, [], ◌++◌, map, Option, sym, ap, subst, arith, append_assoc, append-nil}
-use Rattle.std.proofs.Common.{◌⊎◌, inl, inr}
+use Rattle.std.proofs.Common.{◌≡◌, ℕ, ◌+◌, ◌≤◌, Bool, true, false, List, [], ◌∷◌, ◌++◌, length, take, map, Option, refl, sym, ap, subst, ◌∙◌, arith, append_assoc, append-nil}
+use Rattle.std.proofs.Common.{inl, inr}
 use Rattle.std.specs.Io.KnownBytes.{Appends, append_known}
+use Rattle.std.proofs.KnownBytes.{Appends-trans}
 use Rattle.mig_bytes.specs.Bytes.{AppendsPart}
 use Rattle.mig_headers.specs.declared.kind.Kind.{Kind}
 use Rattle.mig_headers.specs.declared.unsound.Unsound.{Unsound}
 use Rattle.mig_guest.specs.Formed.{IsFormed}
 use Rattle.mig_guest.specs.Guests.{GuestOf}
+use Rattle.mig_guest.specs.Parts.{PartMap}
+use Rattle.mig_records.specs.Records.{spelled}
 use Rattle.mig_canon.specs.Canon.{Record, headers, text_of}
-use Rattle.mig_pagesink.specs.Told.{telling_record}
+use Rattle.mig_canon.proofs.Spelling.{text_join, text_one}
+use Rattle.mig_libxl.specs.Canon.{has_emulators, is_of_converter, opening_text, wrapper_opening, wrapper_closing}
+use Rattle.mig_libxl.proofs.Around.{opening_none, opening_some}
+use Rattle.mig_pagesink.specs.Told.{FrameTold, telling_record, all_told}
 use Rattle.mig_pagesink.specs.Written.{WroteAll, WroteSome}
 use Rattle.mig_pagesink.specs.Batches.{IsBehind}
 use Rattle.mig_pagesink.proofs.Written.{all_behind, some_behind}
@@ -19,89 +25,195 @@ use Rattle.mig_rounds.specs.Live.{FramesSaved}
 use Rattle.mig_rounds.proofs.Saves.{size_none}
 use Rattle.mig_saved.specs.Around.{text_before}
 use Rattle.mig_unended.specs.Unread.{WroteNoStream}
-use Rattle.mig_unended.proofs.Written.{bare_headers, bare_some}
-use Rattle.mig_dirtysave.specs.SaveTexts.{StopsBehind}
+use Rattle.mig_unended.proofs.Written.{bare_headers, bare_some, wrapped_behind, wrapped_headers, wrapped_opening, wrapped_some}
+use Rattle.mig_dirtysave.specs.SaveTexts.{StopsBehind, ClosesStream}
 use Rattle.mig_dirtysave.specs.SaveAnswers.{WroteMost, IsLittleBehind}
 use Rattle.mig_dirtysave.proofs.Codes.{first_records, first_within, are_within}
 use Rattle.mig_dirtysave.proofs.Texts.{some_records, appends_first, part_behind}
+use Rattle.mig_dirtysave.proofs.Wrappers.{closing_cut}
 
--- a part of the headers was written where n is small, or they and a part of the records
-pub record Stopped (old new : Option (List ℕ)) (n : ℕ) : Type 0 where
+-- the headers of an image were written, records, some of which are those of batches, and a part of one more, perhaps none; of
+-- n entries at most 1024 stand in none of them
+pub record CutImage (start new : Option (List ℕ)) (n : ℕ) : Type 0 where
   pub kind : Kind
-  pub case : (AppendsPart old new (headers kind) × (n ≤ 1024)) ⊎ WroteMost old new n
+  pub opened : Option (List ℕ)
+  pub before : List Record
+  pub batches : List (List FrameTold)
+  pub behind : List Record
+  pub heads : Appends start opened (headers kind)
+  pub wrote : WroteSome opened new (before ++ (map telling_record batches ++ behind))
+  pub few : n ≤ length (all_told batches) + 1024
 
-pub stopped_no_stream : (old new : Option (List ℕ)) (n : ℕ) → Stopped old new n → WroteNoStream old new
-stopped_no_stream old new n s = elim s.case [
-  | inl p ↦ bare_headers old new s.kind p.0
-  | inr w ↦ bare_some old w.opened new w.kind (w.before ++ (map telling_record w.batches ++ w.behind)) w.heads w.wrote
-]
+-- the same with END behind them
+pub record WholeImage (start ended : Option (List ℕ)) (n : ℕ) : Type 0 where
+  pub kind : Kind
+  pub opened : Option (List ℕ)
+  pub full : Option (List ℕ)
+  pub before : List Record
+  pub batches : List (List FrameTold)
+  pub behind : List Record
+  pub heads : Appends start opened (headers kind)
+  pub wrote : WroteAll opened full (before ++ (map telling_record batches ++ behind))
+  pub last : Appends full ended (spelled 0 [])
+  pub few : n ≤ length (all_told batches) + 1024
 
-pub stopped_behind : (old new : Option (List ℕ)) (n : ℕ) → Stopped old new n → IsLittleBehind old new n
-stopped_behind old new n s = elim s.case [ inl p ↦ inl p.1 | inr w ↦ inr w ]
+-- Where a save stopped: in what stands before the image, in the headers, among the image's records, or behind the image.
+pub data Stopped (old new : Option (List ℕ)) (parts : PartMap) (n : ℕ) : Type 0 where
+  before_image : AppendsPart old new (wrapper_opening parts) → n ≤ 1024 → Stopped old new parts n
+  in_headers : (start : Option (List ℕ)) (kind : Kind) → Appends old start (wrapper_opening parts) → AppendsPart start new (headers kind) → n ≤ 1024 → Stopped old new parts n
+  in_image : (start : Option (List ℕ)) → Appends old start (wrapper_opening parts) → CutImage start new n → Stopped old new parts n
+  behind_image : (start ended : Option (List ℕ)) (rs : List Record) → Appends old start (wrapper_opening parts) → has_emulators parts ≡ true → WholeImage start ended n → WroteSome ended new rs → Stopped old new parts n
+
+-- ---- it's no stream
+
+module _ (old new : Option (List ℕ)) (parts : PartMap) where
+  bare_start : (start : Option (List ℕ)) → has_emulators parts ≡ false → Appends old start (wrapper_opening parts) → Appends old start []
+  bare_start start none a = subst (Appends old start) (opening_none parts none) a
+
+  some_start : (start : Option (List ℕ)) → has_emulators parts ≡ true → Appends old start (wrapper_opening parts) → Appends old start (opening_text (is_of_converter parts))
+  some_start start some a = subst (Appends old start) (opening_some parts some) a
+
+  in_opening : (b : Bool) → has_emulators parts ≡ b → AppendsPart old new (wrapper_opening parts) → WroteNoStream old new
+  in_opening true some p = wrapped_opening old new (is_of_converter parts) (subst (AppendsPart old new) (opening_some parts some) p)
+  in_opening false none p = let (n, less, a) = subst (AppendsPart old new) (opening_none parts none) p in absurd (omega (arith, less))
+
+  in_heads : (start : Option (List ℕ)) (kind : Kind) (b : Bool) → has_emulators parts ≡ b → Appends old start (wrapper_opening parts) → AppendsPart start new (headers kind) → WroteNoStream old new
+  in_heads start kind true some a p = wrapped_headers old start new (is_of_converter parts) kind (some_start start some a) p
+  in_heads start kind false none a (n, less, part) = bare_headers old new kind (n, less, Appends-trans old start new [] (take n (headers kind)) (bare_start start none a) part)
+
+  among : (start opened : Option (List ℕ)) (kind : Kind) (rs : List Record) (b : Bool) → has_emulators parts ≡ b → Appends old start (wrapper_opening parts) → Appends start opened (headers kind) → WroteSome opened new rs → WroteNoStream old new
+  among start opened kind rs true some a heads wrote = wrapped_some old start opened new (is_of_converter parts) kind rs (some_start start some a) heads wrote
+  among start opened kind rs false none a heads wrote = bare_some old opened new kind rs (Appends-trans old start opened [] (headers kind) (bare_start start none a) heads) wrote
+
+  pub stopped_no_stream : (n : ℕ) → Stopped old new parts n → WroteNoStream old new
+  stopped_no_stream n (before_image p few) = in_opening (has_emulators parts) refl p
+  stopped_no_stream n (in_headers start kind a p few) = in_heads start kind (has_emulators parts) refl a p
+  stopped_no_stream n (in_image start a w) = among start w.opened w.kind (w.before ++ (map telling_record w.batches ++ w.behind)) (has_emulators parts) refl a w.heads w.wrote
+  stopped_no_stream n (behind_image start ended rs a some w p) =
+      wrapped_behind old start ended new (is_of_converter parts) rs (some_start start some a)
+      (record { kind = w.kind; opened = w.opened; ended = w.full; records = w.before ++ (map telling_record w.batches ++ w.behind); heads = w.heads; wrote = w.wrote; last = w.last })
+      p
+
+-- ---- little is left out of it
+
+split : (before pages behind : List Record) (more : List ℕ) → text_of (before ++ (pages ++ behind)) ++ more ≡ text_of (before ++ pages) ++ (text_of behind ++ more)
+split before pages behind more =
+    ap (λ rs. text_of rs ++ more) (sym (append_assoc before pages behind)) ∙ ap (λ l. l ++ more) (text_join (before ++ pages) behind)
+    ∙ append_assoc (text_of (before ++ pages)) (text_of behind) more
+
+module _ (old new : Option (List ℕ)) (parts : PartMap) (start opened : Option (List ℕ)) (kind : Kind) (before : List Record) (batches : List (List FrameTold)) (behind : List Record) where
+  abbrev pages : List Record
+  pages = map telling_record batches
+
+  most : (n : ℕ) (more : List ℕ) → Appends old start (wrapper_opening parts) → Appends start opened (headers kind) → Appends opened new (text_of (before ++ (pages ++ behind)) ++ more)
+      → n ≤ length (all_told batches) + 1024 → WroteMost old new parts n
+  most n more a heads wrote few = record {
+    kind = kind;
+    before = before;
+    batches = batches;
+    rest = text_of behind ++ more;
+    appended = subst (λ l. Appends old new (wrapper_opening parts ++ (headers kind ++ l))) (split before pages behind more) (Appends-trans old start new _ _ a (Appends-trans start opened new _ _ heads wrote));
+    few = few;
+  }
+
+pub stopped_behind : (old new : Option (List ℕ)) (parts : PartMap) (n : ℕ) → Stopped old new parts n → IsLittleBehind old new parts n
+stopped_behind old new parts n (before_image p few) = inl few
+stopped_behind old new parts n (in_headers start kind a p few) = inl few
+stopped_behind old new parts n (in_image start a w) = inr (most old new parts start w.opened w.kind w.before w.batches w.behind n _ a w.heads w.wrote.appended w.few)
+stopped_behind old new parts n (behind_image start ended rs a some w p) =
+    inr (most old new parts start w.opened w.kind w.before w.batches w.behind n _ a w.heads (Appends-trans w.opened w.full new _ _ w.wrote.appended (Appends-trans w.full ended new _ _ w.last p.appended)) w.few)
 
 -- nothing was read yet
 pub nothing_read : (width : ℕ) (h : History) → h ≡ no_history → total width h ≡ 0
 nothing_read width h is = omega (arith, ap (total width) is, size_none width)
 
-module _ (old mid : Option (List ℕ)) (fixed : GuestOf) (formed : IsFormed fixed) where
+-- nothing was written but a part of what stands before the image
+pub stopped_opening : (old new : Option (List ℕ)) (parts held : PartMap) (n : ℕ) → wrapper_opening held ≡ wrapper_opening parts → n ≤ 1024 → AppendsPart old new (wrapper_opening held) → Stopped old new parts n
+stopped_opening old new parts held n same few p = before_image (subst (AppendsPart old new) same p) few
+
+module _ (old start mid : Option (List ℕ)) (parts : PartMap) (begun : Appends old start (wrapper_opening parts)) (early : GuestOf) (formed : IsFormed early) where
   abbrev first : List Record
-  first = first_records fixed
+  first = first_records early
 
   abbrev opened : Option (List ℕ)
-  opened = append_known old (headers fixed.kind)
+  opened = append_known start (headers early.kind)
 
   -- in what stands before the frames
-  pub stopped_first : (n : ℕ) → n ≤ 1024 → AppendsPart old mid (text_before fixed) → Stopped old mid n
-  stopped_first n few p = record {
-    kind = fixed.kind;
-    case = elim (part_behind old mid (headers fixed.kind) first p) [
-      | inl part ↦ inl (part, few)
-      | inr (heads, part) ↦
-          let (front, some) = some_records opened mid first (are_within first (first_within fixed formed)) part in
-          inr (record { kind = fixed.kind; opened = opened; before = front; batches = []; behind = []; heads = heads; wrote = subst (WroteSome opened mid) (sym (append-nil front)) some; few = omega (arith, few) })
-    ];
-  }
+  pub stopped_first : (n : ℕ) → n ≤ 1024 → AppendsPart start mid (text_before early) → Stopped old mid parts n
+  stopped_first n few p = elim (part_behind start mid (headers early.kind) first p) [
+    | inl part ↦ in_headers start early.kind begun part few
+    | inr (heads, part) ↦
+        let (front, some) = some_records opened mid first (are_within first (first_within early formed)) part in
+        in_image start begun (record { kind = early.kind; opened = opened; before = front; batches = []; behind = []; heads = heads; wrote = subst (WroteSome opened mid) (sym (append-nil front)) some; few = omega (arith, few) })
+  ]
 
-  module _ (a : Appends old mid (text_before fixed)) where
-    heads : Appends old opened (headers fixed.kind)
-    heads = (appends_first old mid (headers fixed.kind) (text_of first) a).0
+  module _ (a : Appends start mid (text_before early)) where
+    heads : Appends start opened (headers early.kind)
+    heads = (appends_first start mid (headers early.kind) (text_of first) a).0
 
     whole : WroteAll opened mid first
-    whole = record { appended = (appends_first old mid (headers fixed.kind) (text_of first) a).1; within = are_within first (first_within fixed formed) }
+    whole = record { appended = (appends_first start mid (headers early.kind) (text_of first) a).1; within = are_within first (first_within early formed) }
 
     -- among the frames
-    pub stopped_frames : (new : Option (List ℕ)) (n : ℕ) → IsBehind mid new n → Stopped old new n
+    pub stopped_frames : (new : Option (List ℕ)) (n : ℕ) → IsBehind mid new n → Stopped old new parts n
     stopped_frames new n b =
         let batches = map telling_record b.batches in
-        record {
-          kind = fixed.kind;
-          case = inr (record {
-            kind = fixed.kind;
-            opened = opened;
-            before = first;
-            batches = b.batches;
-            behind = [];
-            heads = heads;
-            wrote = subst (WroteSome opened new) (ap (λ (l : List Record). first ++ l) (sym (append-nil batches))) (some_behind opened mid new first batches whole b.cut.wrote);
-            few = b.few;
-          });
-        }
+        in_image start begun (record {
+          kind = early.kind;
+          opened = opened;
+          before = first;
+          batches = b.batches;
+          behind = [];
+          heads = heads;
+          wrote = subst (WroteSome opened new) (ap (λ (l : List Record). first ++ l) (sym (append-nil batches))) (some_behind opened mid new first batches whole b.cut.wrote);
+          few = b.few;
+        })
 
-    -- behind them
-    pub stopped_last : (sent new : Option (List ℕ)) (t : MachineState) (u : Option Unsound) (n : ℕ) → n ≡ total t.host.width t.history → FramesSaved mid sent t u → StopsBehind sent new → Stopped old new n
-    stopped_last sent new t u n is s stops =
-        let batches = map telling_record s.batches in
-        let (more, some) = stops opened (first ++ batches) (all_behind opened mid sent first batches whole s.written.wrote) in
-        record {
-          kind = fixed.kind;
-          case = inr (record {
-            kind = fixed.kind;
+    module _ (sent : Option (List ℕ)) (t : MachineState) (u : Option Unsound) (n : ℕ) (is : n ≡ total t.host.width t.history) (s : FramesSaved mid sent t u) where
+      abbrev batched : List Record
+      batched = map telling_record s.batches
+
+      so_far : WroteAll opened sent (first ++ batched)
+      so_far = all_behind opened mid sent first batched whole s.written.wrote
+
+      -- behind them
+      pub stopped_last : (new : Option (List ℕ)) → StopsBehind sent new → Stopped old new parts n
+      stopped_last new stops =
+          let (more, some) = stops opened (first ++ batched) so_far in
+          in_image start begun (record {
+            kind = early.kind;
             opened = opened;
             before = first;
             batches = s.batches;
             behind = more;
             heads = heads;
-            wrote = subst (WroteSome opened new) (append_assoc first batches more) some;
+            wrote = subst (WroteSome opened new) (append_assoc first batched more) some;
             few = omega (arith, is, s.count);
-          });
-        }
+          })
+
+      -- behind the image
+      module _ (ended : Option (List ℕ)) (closed : ClosesStream t.host sent ended) where
+        abbrev full : Option (List ℕ)
+        full = append_known sent (text_of closed.behind)
+
+        both : Appends sent full (text_of closed.behind) × Appends full ended (spelled 0 [])
+        both = appends_first sent ended (text_of closed.behind) (spelled 0 [])
+            (subst (Appends sent ended) (text_join closed.behind ((0, []) ∷ []) ∙ ap (λ l. text_of closed.behind ++ l) (text_one 0 [])) closed.appended)
+
+        pub stopped_closing : (new : Option (List ℕ)) (held : GuestOf) → IsFormed held → has_emulators held.parts ≡ has_emulators parts → AppendsPart ended new (wrapper_closing held.parts) → Stopped old new parts n
+        stopped_closing new held shape same p =
+            let (some, (rs, cut)) = closing_cut held shape ended new p in
+            behind_image start ended rs begun (sym same ∙ some)
+            (record {
+              kind = early.kind;
+              opened = opened;
+              full = full;
+              before = first;
+              batches = s.batches;
+              behind = closed.behind;
+              heads = heads;
+              wrote = subst (WroteAll opened full) (append_assoc first batched closed.behind) (all_behind opened sent full (first ++ batched) closed.behind so_far (record { appended = both.0; within = closed.within }));
+              last = both.1;
+              few = omega (arith, is, s.count);
+            })
+            cut

@@ -2,6 +2,7 @@ pub mod Walks
 pub mod Rows
 pub mod Codes
 pub mod Texts
+pub mod Wrappers
 pub mod Ends
 pub mod Streams
 pub mod PvSettings

@@ -12,6 +12,7 @@ use Rattle.mig_guest.specs.Hosts.{HostOf, HostFrame, IsValid}
 use Rattle.mig_canon.specs.Canon.{headers, text_of}
 use Rattle.mig_pagesink.specs.Told.{telling_record}
 use Rattle.mig_hosted.specs.View.{view}
+use Rattle.mig_libxl.specs.Canon.{wrapper_opening, wrapper_closing}
 use Rattle.mig_libxl.specs.Spelled.{AcceptedStream}
 use Rattle.mig_machine_api.specs.History.{History}
 use Rattle.mig_machine_api.specs.MachineStates.{MachineState}
@@ -71,7 +72,9 @@ module _ (t u : MachineState) (looks : OnlyLooksUp t u) where
     batches = w.batches;
     behind = w.behind;
     text = w.text;
-    is = w.is ∙ ap (λ (h : HostOf). headers h.kind ++ text_of (w.before ++ (map telling_record w.batches ++ (w.behind ++ (0, []) ∷ [])))) (sym looks.host);
+    image = w.image;
+    image_is = w.image_is ∙ ap (λ (h : HostOf). headers h.kind ++ text_of (w.before ++ (map telling_record w.batches ++ (w.behind ++ (0, []) ∷ [])))) (sym looks.host);
+    is = w.is ∙ ap (λ (h : HostOf). wrapper_opening h.parts ++ (w.image ++ wrapper_closing h.parts)) (sym looks.host);
     appended = w.appended;
     others = w.others;
     order = w.order ∙ read_stays;

@@ -1,13 +1,14 @@
 -- What a save wrote is a stream, and over an honest machine the stream of the host's view.
-use Rattle.std.proofs.Common.{◌≡◌, ℕ, Bool, List, [], ◌∷◌, ◌++◌, length, map, true, false, Option, Some, None, refl, sym, ap, subst, ◌∙◌, arith, append_assoc}
+use Rattle.std.specs.Prelude.{◌==◌, not, is_some}
+use Rattle.std.proofs.lemmas.Bool.{and_parts}
+use Rattle.std.proofs.Common.{◌≡◌, ℕ, Bool, List, [], ◌∷◌, ◌++◌, map, true, Option, None, refl, sym, ap, subst, ◌∙◌, arith, append_assoc}
 use Rattle.std.specs.List.{AllByRecursion}
-use Rattle.std.specs.Option.{option_map}
 use Rattle.std.specs.Io.KnownBytes.{Appends}
 use Rattle.std.proofs.KnownBytes.{Appends-trans}
 use Rattle.mig_headers.specs.declared.kind.Kind.{Kind}
 use Rattle.mig_headers.specs.declared.kind.Kind.TheVariants.{Pv, Hvm}
 use Rattle.mig_headers.specs.declared.unsound.Unsound.{Unsound}
-use Rattle.mig_guest.specs.Formed.{IsFormed, HasNoEmulators, is_emulator_code}
+use Rattle.mig_guest.specs.Formed.{IsFormed}
 use Rattle.mig_guest.specs.Guests.{GuestOf}
 use Rattle.mig_guest.specs.Hosts.{HostOf, IsValid}
 use Rattle.mig_guest.specs.PartCodes.{is_fixed}
@@ -17,36 +18,26 @@ use Rattle.std.specs.FinMap as maps
 use Rattle.mig_canon.specs.Canon.{Record, headers, info_records, static_bodies, p2m_records, last_records, text_of}
 use Rattle.mig_canon.proofs.Spelling.{text_join}
 use Rattle.mig_canon_laws.specs.Batched.{batch_records, batched}
-use Rattle.mig_emulators.proofs.EmulatorGuests.{none_set}
 use Rattle.mig_hosted.specs.Sound.{unsoundness}
 use Rattle.mig_hosted.specs.View.{view, top_of}
 use Rattle.mig_hosted.proofs.HostViews.{hvm_viewed}
 use Rattle.mig_hosted.proofs.SoundRows.{sound_is_faultless}
+use Rattle.mig_hosted.proofs.ViewedGuests.{viewed_whole}
+use Rattle.mig_libxl.specs.Canon.{bare_guest, wrapper_opening, wrapper_closing}
 use Rattle.mig_libxl.specs.Spelled.{AcceptedStream}
-use Rattle.mig_libxl.specs.Stream.StreamOf.{Bare}
+use Rattle.mig_libxl.proofs.Alike.{opening_alike, closing_alike}
+use Rattle.mig_libxl.proofs.AnyCanons.{around_is_accepted}
 use Rattle.mig_machine_api.specs.MachineStates.{MachineState}
 use Rattle.mig_pagesink.specs.Told.{FrameTold, telling_frames, telling_record}
-use Rattle.mig_restore.specs.Mean.{mean}
 use Rattle.mig_restore.specs.Spelled.{Accepted}
-use Rattle.mig_restore.specs.Stream.{image_of}
 use Rattle.mig_rounds.specs.Live.{StaysSame, FramesSaved}
 use Rattle.mig_saved.proofs.Viewed.{saved_is_viewed}
 use Rattle.mig_saved.specs.Around.{text_before}
-use Rattle.mig_dirtysave.specs.Saver.{SaverOf, IsFor, HoldsParts, is_setting, kept_parts, parts_alone}
+use Rattle.mig_dirtysave.specs.Saver.{SaverOf, IsFor, HoldsParts, is_early, is_setting, kept_parts, parts_alone}
 use Rattle.mig_dirtysave.specs.SaveTexts.{IsContextFront, closing_records, settings_seen, ClosesStream}
 use Rattle.mig_dirtysave.specs.SaveAnswers.{IsOtherRecord, SaveWritten}
 use Rattle.mig_dirtysave.proofs.PvSettings.{pv_last_seen, pv_last_within}
-use Rattle.mig_dirtysave.proofs.Codes.{IsOther, both_all, closing_within, first_records, first_seen, first_within, front_short, kept_formed, last_seen, no_pv, viewed_kind}
-
--- an image by itself is a stream
-bare_stream : (input : List ℕ) (g : GuestOf) (rest : List ℕ) → Accepted input g rest → AcceptedStream input g rest
-bare_stream input g rest a = record {
-  stream = Bare (image_of a.opening a.records);
-  image = image_of a.opening a.records;
-  spelled = a.image;
-  image_is = refl;
-  means = a.means ∙ sym (none_set (mean a.opening.kind a.records));
-}
+use Rattle.mig_dirtysave.proofs.Codes.{IsOther, are_within, both_all, closing_within, emulators_seen, first_records, first_seen, first_within, front_short, kept_formed, last_seen, no_pv, viewed_kind}
 
 records_are : (batches : List (List FrameTold)) → batch_records (map telling_frames batches) ≡ map telling_record batches
 records_are [] = refl
@@ -65,20 +56,11 @@ kind_stays s t saver g same made is = is ∙ sym made.kind ∙ sym same.shape.ki
 pub width_stays : (s t : MachineState) (saver : SaverOf) (room : ℕ) → StaysSame s t → IsFor saver s.host → room ≡ saver.width → room ≡ t.host.width
 width_stays s t saver room same made is = is ∙ sym made.width ∙ sym same.shape.width
 
--- its fixed parts are those that the saver holds
-pub fixed_stays : (s t : MachineState) (saver : SaverOf) (g : GuestOf) → StaysSame s t → IsFor saver s.host → g.parts ≡ saver.fixed
-    → (key : PartKey) → is_fixed key.code ≡ true → maps.get t.host.parts key ≡ maps.get g.parts key
-fixed_stays s t saver g same made is key one = same.shape.fixed key one ∙ made.fixed key one ∙ ap (λ (m : PartMap). maps.get m key) (sym is)
-
--- and it gets no emulators
-pub plain_stays : (s t : MachineState) → StaysSame s t → HasNoEmulators s.host.parts → HasNoEmulators t.host.parts
-plain_stays s t same plain key bytes is = by (maps.get s.host.parts key) refl
-  where
-    by : (o : Option (List ℕ)) → maps.get s.host.parts key ≡ o → is_emulator_code key.code ≡ false
-    by None at =
-        let lengths = same.shape.lengths key in
-        let no : ◌≡◌ {A = Option ℕ} (Some (length bytes)) None = sym (ap (option_map (λ (l : List ℕ). length l)) is) ∙ lengths ∙ ap (option_map (λ (l : List ℕ). length l)) at in cc
-    by (Some x) at = plain key x at
+-- its early parts are those that the saver holds
+pub early_stays : (s t : MachineState) (saver : SaverOf) (g : GuestOf) → StaysSame s t → IsFor saver s.host → g.parts ≡ saver.early
+    → (key : PartKey) → is_early key.code ≡ true → maps.get t.host.parts key ≡ maps.get g.parts key
+early_stays s t saver g same made is key one =
+    same.shape.fixed key (and_parts (is_fixed key.code) (not (key.code == 258)) one).0 ∙ made.early key one ∙ ap (λ (m : PartMap). maps.get m key) (sym is)
 
 -- a guest that holds parts of a host of this kind and width, and its greatest frame number
 pub held_there : (codes : ℕ → Bool) (k l : Kind) (v w : ℕ) (g : GuestOf) → k ≡ l → v ≡ w → HoldsParts codes k v g → HoldsParts codes l w g
@@ -100,6 +82,7 @@ module _ (h : HostOf) (valid : IsValid h) (hvm : h.kind ≡ Hvm) (front : List �
   hvm_closes g old new is a = record {
     behind = closing_records settings front;
     others = others_are (closing_records settings front) (closing_within settings formed front (front_short h valid front f));
+    within = are_within (closing_records settings front) (closing_within settings formed front (front_short h valid front f));
     seen = λ _. sym ((λ i. last_records (hvm i) (hvm_viewed h hvm i)) ∙ last_seen h valid front f);
     appended = subst (λ (k : GuestOf). Appends old new (text_of (closing_records k front ++ (0, []) ∷ []))) is a;
   }
@@ -110,6 +93,7 @@ pub pv_closes : (h : HostOf) → h.kind ≡ Pv → (g : GuestOf) (old new : Opti
 pv_closes h pv g old new formed is a = record {
   behind = last_records Pv g;
   others = others_are (last_records Pv g) (pv_last_within g formed);
+  within = are_within (last_records Pv g) (pv_last_within g formed);
   seen = λ _. ap (last_records Pv) is ∙ pv_last_seen h pv;
   appended = a;
 }
@@ -119,12 +103,12 @@ pv_closes h pv g old new formed is a = record {
 regroup : (a b c d e : List Record) → (a ++ (b ++ c)) ++ (d ++ e) ≡ a ++ (b ++ (c ++ (d ++ e)))
 regroup a b c d e = append_assoc a (b ++ c) (d ++ e) ∙ ap (λ l. a ++ l) (append_assoc b c (d ++ e))
 
-module _ (t : MachineState) (valid : IsValid t.host) (plain : HasNoEmulators t.host.parts) (tables : Option Unsound) (none : tables ≡ None) (sound : t.honest ≡ true → unsoundness t.host ≡ None)
-    (fixed : GuestOf) (formed : IsFormed fixed) (kind : fixed.kind ≡ t.host.kind) (top : fixed.top ≡ top_of t.host.kind t.host.width)
-    (alike : (key : PartKey) → is_fixed key.code ≡ true → maps.get t.host.parts key ≡ maps.get fixed.parts key) (old mid sent new : Option (List ℕ)) (opened : Appends old mid (text_before fixed))
-    (s : FramesSaved mid sent t tables) (closed : ClosesStream t.host sent new) where
+module _ (t : MachineState) (valid : IsValid t.host) (tables : Option Unsound) (none : tables ≡ None) (sound : t.honest ≡ true → unsoundness t.host ≡ None)
+    (early : GuestOf) (formed : IsFormed early) (kind : early.kind ≡ t.host.kind) (top : early.top ≡ top_of t.host.kind t.host.width)
+    (alike : (key : PartKey) → is_early key.code ≡ true → maps.get t.host.parts key ≡ maps.get early.parts key) (start mid sent ended : Option (List ℕ)) (opened : Appends start mid (text_before early))
+    (s : FramesSaved mid sent t tables) (closed : ClosesStream t.host sent ended) where
   abbrev before : List Record
-  before = first_records fixed
+  before = first_records early
 
   abbrev pages : List Record
   pages = map telling_record s.batches
@@ -132,43 +116,61 @@ module _ (t : MachineState) (valid : IsValid t.host) (plain : HasNoEmulators t.h
   abbrev last : List Record
   last = closed.behind ++ (0, []) ∷ []
 
-  abbrev text : List ℕ
-  text = headers t.host.kind ++ text_of (before ++ (pages ++ last))
+  abbrev image : List ℕ
+  image = headers t.host.kind ++ text_of (before ++ (pages ++ last))
 
-  text_is : text_before fixed ++ (text_of pages ++ text_of last) ≡ text
+  text_is : text_before early ++ (text_of pages ++ text_of last) ≡ image
   text_is =
-      append_assoc (headers fixed.kind) (text_of before) (text_of pages ++ text_of last)
+      append_assoc (headers early.kind) (text_of before) (text_of pages ++ text_of last)
       ∙ ap (λ (k : Kind). headers k ++ (text_of before ++ (text_of pages ++ text_of last))) kind
       ∙ ap (λ l. headers t.host.kind ++ l) (ap (λ l. text_of before ++ l) (sym (text_join pages last)) ∙ sym (text_join before (pages ++ last)))
 
-  was_appended : Appends old new text
-  was_appended = subst (Appends old new) text_is (Appends-trans old mid new _ _ opened (Appends-trans mid sent new _ _ s.written.wrote.appended closed.appended))
+  image_appended : Appends start ended image
+  image_appended = subst (Appends start ended) text_is (Appends-trans start mid ended _ _ opened (Appends-trans mid sent ended _ _ s.written.wrote.appended closed.appended))
 
   -- the records of its view, with those of the frames in place of its own
-  image_is : unsoundness t.host ≡ None → batched (view t.host) (map telling_frames s.batches) ≡ text
+  image_is : unsoundness t.host ≡ None → batched (view t.host) (map telling_frames s.batches) ≡ image
   image_is faultless =
-      let v = view t.host in let told = records_are s.batches in let first = first_seen t.host fixed top alike kind in
+      let v = view t.host in let told = records_are s.batches in let first = first_seen t.host early top alike kind in
       let closing = ap (λ (k : Kind). last_records k v) (viewed_kind t.host) ∙ sym (closed.seen faultless) in
       (λ i. headers v.kind ++ text_of (info_records v.kind ++ (static_bodies v ++ (p2m_records v.kind v ++ (told i ++ (closing i ++ (0, []) ∷ []))))))
       ∙ ap (λ rs. headers v.kind ++ text_of rs) (sym (regroup (info_records v.kind) (static_bodies v) (p2m_records v.kind v) pages last))
       ∙ ap (λ rs. headers v.kind ++ text_of (rs ++ (pages ++ last))) first
       ∙ ap (λ (k : Kind). headers k ++ text_of (before ++ (pages ++ last))) (viewed_kind t.host)
 
-  image_accepted : t.honest ≡ true → (rest : List ℕ) → Accepted (text ++ rest) (view t.host) rest
+  image_accepted : t.honest ≡ true → (rest : List ℕ) → Accepted (image ++ rest) (bare_guest (view t.host)) rest
   image_accepted honest rest =
       let faultless = sound honest in
-      subst (λ l. Accepted (l ++ rest) (view t.host) rest) (image_is faultless)
-      (saved_is_viewed t.host s.batches rest valid ((sound_is_faultless t.host).1 faultless) plain s.sized s.told (omega (arith, s.few)) (s.means honest none))
+      subst (λ l. Accepted (l ++ rest) (bare_guest (view t.host)) rest) (image_is faultless)
+      (saved_is_viewed t.host s.batches rest valid ((sound_is_faultless t.host).1 faultless) s.sized s.told (omega (arith, s.few)) (s.means honest none))
 
-  pub save_is_stream : SaveWritten old new t
-  save_is_stream = record {
-    before = before;
-    batches = s.batches;
-    behind = closed.behind;
-    text = text;
-    is = refl;
-    appended = was_appended;
-    others = both_all IsOtherRecord before closed.behind (others_are before (first_within fixed formed)) closed.others;
-    order = s.order;
-    means = λ honest rest. bare_stream (text ++ rest) (view t.host) rest (image_accepted honest rest);
-  }
+  module _ (old new : Option (List ℕ)) (begun : Appends old start (wrapper_opening t.host.parts)) (finished : Appends ended new (wrapper_closing t.host.parts)) where
+    abbrev text : List ℕ
+    text = wrapper_opening t.host.parts ++ (image ++ wrapper_closing t.host.parts)
+
+    -- around the image stands what does around that of the view
+    around_is : wrapper_opening (view t.host).parts ++ (image ++ wrapper_closing (view t.host).parts) ≡ text
+    around_is =
+        let opens = opening_alike (view t.host).parts t.host.parts (λ q code. ap (λ (o : Option (List ℕ)). is_some o) (emulators_seen t.host q code)) in
+        let closes = closing_alike (view t.host).parts t.host.parts (emulators_seen t.host) in
+        λ i. opens i ++ (image ++ closes i)
+
+    stream_accepted : t.honest ≡ true → (rest : List ℕ) → AcceptedStream (text ++ rest) (view t.host) rest
+    stream_accepted honest rest =
+        subst (λ l. AcceptedStream (l ++ rest) (view t.host) rest) around_is
+        (around_is_accepted (view t.host) image rest (viewed_whole t.host valid ((sound_is_faultless t.host).1 (sound honest))).formed (image_accepted honest))
+
+    pub save_is_stream : SaveWritten old new t
+    save_is_stream = record {
+      before = before;
+      batches = s.batches;
+      behind = closed.behind;
+      text = text;
+      image = image;
+      image_is = refl;
+      is = refl;
+      appended = Appends-trans old start new _ _ begun (Appends-trans start ended new _ _ image_appended finished);
+      others = both_all IsOtherRecord before closed.behind (others_are before (first_within early formed)) closed.others;
+      order = s.order;
+      means = stream_accepted;
+    }

@@ -5,10 +5,11 @@ use Rattle.std.specs.Io.KnownBytes.{Appends}
 use Rattle.mig_headers.specs.declared.kind.Kind.{Kind}
 use Rattle.mig_headers.specs.declared.kind.Kind.TheVariants.{Hvm}
 use Rattle.mig_headers.specs.declared.unsound.Unsound.{Unsound}
+use Rattle.mig_guest.specs.Parts.{PartMap}
 use Rattle.mig_canon.specs.Canon.{Record, headers, text_of}
 use Rattle.mig_pagesink.specs.Told.{FrameTold, telling_record, all_told}
-use Rattle.mig_pagesink.specs.Written.{WroteSome}
 use Rattle.mig_hosted.specs.View.{view}
+use Rattle.mig_libxl.specs.Canon.{wrapper_opening, wrapper_closing}
 use Rattle.mig_libxl.specs.Spelled.{AcceptedStream}
 use Rattle.mig_machine_api.specs.MachineStates.{MachineState}
 use Rattle.mig_machine_api.specs.Rounds.{all_read}
@@ -38,32 +39,32 @@ pub record IsOtherRecord (r : Record) : Type 0 where
   pub no_pages : r.0 ≢ 1
   pub no_end : r.0 ≢ 0
 
--- From old to new a stream was written: headers, PAGE_DATA records between others, and END. Its entries name what was read
--- of the machine, in that order. Over an honest machine it is accepted, whatever follows it, and its guest is what the
--- machine's host is seen as.
+-- From old to new a stream was written: headers, PAGE_DATA records between others, and END, inside a libxl stream with the
+-- emulators behind the image where the host has parts of some. Its entries name what was read of the machine, in that
+-- order. Over an honest machine it is accepted, whatever follows it, and its guest is what the machine's host is seen as.
 pub record SaveWritten (old new : Option (List ℕ)) (t : MachineState) : Type 0 where
   pub before : List Record
   pub batches : List (List FrameTold)
   pub behind : List Record
   pub text : List ℕ
-  pub is : text ≡ headers t.host.kind ++ text_of (before ++ (map telling_record batches ++ (behind ++ (0, []) ∷ [])))
+  pub image : List ℕ
+  pub image_is : image ≡ headers t.host.kind ++ text_of (before ++ (map telling_record batches ++ (behind ++ (0, []) ∷ [])))
+  pub is : text ≡ wrapper_opening t.host.parts ++ (image ++ wrapper_closing t.host.parts)
   pub appended : Appends old new text
   pub others : AllByRecursion IsOtherRecord (before ++ behind)
   pub order : pfns_sent (all_told batches) ≡ all_read t.host.width t.history
   pub means : t.honest ≡ true → (rest : List ℕ) → AcceptedStream (text ++ rest) (view t.host) rest
 
--- From old to new the headers were written, then records, some of which are those of batches, and a part of one more,
--- perhaps none. Of n entries at most 1024 stand in none of them.
-pub record WroteMost (old new : Option (List ℕ)) (n : ℕ) : Type 0 where
+-- What was written from old to new of a host with these parts begins, behind what stands before the image, with headers and
+-- whole records, some of which are those of batches. Of n entries at most 1024 stand in none of them.
+pub record WroteMost (old new : Option (List ℕ)) (parts : PartMap) (n : ℕ) : Type 0 where
   pub kind : Kind
-  pub opened : Option (List ℕ)
   pub before : List Record
   pub batches : List (List FrameTold)
-  pub behind : List Record
-  pub heads : Appends old opened (headers kind)
-  pub wrote : WroteSome opened new (before ++ (map telling_record batches ++ behind))
+  pub rest : List ℕ
+  pub appended : Appends old new (wrapper_opening parts ++ (headers kind ++ (text_of (before ++ map telling_record batches) ++ rest)))
   pub few : n ≤ length (all_told batches) + 1024
 
 -- of n entries at most 1024 stand in no record that was written from old to new
-abbrev pub IsLittleBehind : Option (List ℕ) → Option (List ℕ) → ℕ → Type 0
-IsLittleBehind old new n = (n ≤ 1024) ⊎ WroteMost old new n
+abbrev pub IsLittleBehind : Option (List ℕ) → Option (List ℕ) → PartMap → ℕ → Type 0
+IsLittleBehind old new parts n = (n ≤ 1024) ⊎ WroteMost old new parts n

@@ -14,7 +14,7 @@ use Rattle.mig_guest.specs.Hosts.{HostOf}
 use Rattle.mig_guest.specs.Parts.{PartMap}
 use Rattle.mig_guest.specs.PartKeys.{context_key}
 use Rattle.mig_canon.specs.Canon.{Record, records_in_order, last_records, text_of}
-use Rattle.mig_pagesink.specs.Written.{WroteAll, WroteSome}
+use Rattle.mig_pagesink.specs.Written.{AreRecordsWithin, WroteAll, WroteSome}
 use Rattle.mig_pvtables.specs.Faults.{first_cause}
 use Rattle.mig_hosted.specs.Sound.{absent, find_context_fault, unsoundness}
 use Rattle.mig_hosted.specs.View.{view}
@@ -64,5 +64,6 @@ StopsBehind old new = (start : Option (List ℕ)) (rs : List Record) → WroteAl
 pub record ClosesStream (h : HostOf) (old new : Option (List ℕ)) : Type 0 where
   pub behind : List Record
   pub others : AllByRecursion IsOtherRecord behind
+  pub within : AreRecordsWithin behind
   pub seen : unsoundness h ≡ None → behind ≡ last_records h.kind (view h)
   pub appended : Appends old new (text_of (behind ++ (0, []) ∷ []))

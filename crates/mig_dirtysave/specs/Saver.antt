@@ -6,6 +6,7 @@ use Rattle.std.specs.Coded.{Coded, code_by, coded×, coded_ℕ}
 use Rattle.mig_headers.specs.declared.kind.Kind.{Kind}
 use Rattle.mig_headers.specs.contracts.kind.Kind as kind
 use Rattle.mig_guest.specs.declared.part_key.PartKey.{PartKey}
+use Rattle.mig_guest.specs.Formed.{is_emulator_code}
 use Rattle.mig_guest.specs.Guests.{GuestOf}
 use Rattle.mig_guest.specs.Hosts.{HostOf}
 use Rattle.mig_guest.specs.PartCodes.{is_fixed}
@@ -15,18 +16,23 @@ use Rattle.mig_hosted.specs.View.{top_of}
 pub record SaverOf : Type 0 where
   pub kind : Kind
   pub width : ℕ
-  pub fixed : PartMap
+  pub early : PartMap
   pub settings : PartMap
 
 -- a saver is stored as its fields
 abbrev pub saver_code : Coded SaverOf
 saver_code =
     code_by (Kind × (ℕ × (PartMap × PartMap))) (coded× kind.the_row.coded (coded× coded_ℕ (coded× parts_code parts_code)))
-    (λ s. (s.kind, (s.width, (s.fixed, s.settings)))) (λ p. record { kind = p.0; width = p.1.0; fixed = p.1.1.0; settings = p.1.1.1 }) (λ _. refl)
+    (λ s. (s.kind, (s.width, (s.early, s.settings)))) (λ p. record { kind = p.0; width = p.1.0; early = p.1.1.0; settings = p.1.1.1 }) (λ _. refl)
 
--- the codes of the parts whose bytes may change while a guest runs, without the context, which is written where it stands
+-- the codes of the parts that stand before the frames, which never change while a guest runs; an emulator's pairs don't
+-- either, and stand behind the image
+abbrev pub is_early : ℕ → Bool
+is_early code = is_fixed code && not (code == 258)
+
+-- the codes of the parts that stand behind the frames, without the context, which is written where it stands
 abbrev pub is_setting : ℕ → Bool
-is_setting code = not (is_fixed code) && not (code == 9)
+is_setting code = not (is_early code) && not (code == 9)
 
 -- the parts of some codes
 abbrev pub kept_parts : (ℕ → Bool) → PartMap → PartMap
@@ -49,9 +55,13 @@ part_len parts key = option_map (λ (bytes : List ℕ). length bytes) (maps.get 
 abbrev pub SameSettings : PartMap → PartMap → Type 0
 SameSettings parts settings = (key : PartKey) → is_setting key.code ≡ true → part_len parts key ≡ part_len settings key
 
--- the saver is for a host of its kind and width, its fixed parts, and settings with these keys and lengths
+-- each part of an emulator is in both with the same bytes, or in neither
+abbrev pub SameEmulators : PartMap → PartMap → Type 0
+SameEmulators parts settings = (key : PartKey) → is_emulator_code key.code ≡ true → maps.get parts key ≡ maps.get settings key
+
+-- the saver is for a host of its kind and width, its early parts, and settings with these keys and lengths
 pub record IsFor (s : SaverOf) (h : HostOf) : Type 0 where
   pub kind : h.kind ≡ s.kind
   pub width : h.width ≡ s.width
-  pub fixed : (key : PartKey) → is_fixed key.code ≡ true → maps.get h.parts key ≡ maps.get s.fixed key
+  pub early : (key : PartKey) → is_early key.code ≡ true → maps.get h.parts key ≡ maps.get s.early key
   pub settings : SameSettings h.parts s.settings

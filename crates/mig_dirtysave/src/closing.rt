@@ -9,7 +9,7 @@ ghost use Rattle.mig_rounds.specs.Live.{AnswersTables, IsUnsound, SawTypes};
 ghost use Rattle.mig_standing.specs.Standing.{is_of_no_type};
 ghost use Rattle.mig_standing.specs.Unsoundness.{UnsoundHas};
 ghost use Rattle.mig_pause.specs.Paused.{HasTypes, OnlyLooksUp};
-ghost use Rattle.mig_dirtysave.specs.Saver.{HoldsParts, SameSettings, is_setting};
+ghost use Rattle.mig_dirtysave.specs.Saver.{HoldsParts, SameEmulators, SameSettings, is_setting};
 ghost use Rattle.mig_dirtysave.specs.SaveTexts.{settings_seen, StopsBehind, ClosesStream};
 ghost use Rattle.mig_dirtysave.specs.SaveAnswers.{IfUnsound, IsTrusted};
 ghost use Rattle.mig_dirtysave.specs.declared.answer.SaveAnswer.TheVariants.{MachineFault, WriteFault};
@@ -27,20 +27,22 @@ use mig_pause::view_parts;
 use mig_rounds::Sent;
 
 /// Judges the host of a paused HVM machine, and writes what stands behind the frames, END the last. `tables` is what was
-/// found wrong with its tables.
+/// found wrong with its tables. The settings are those of the host then.
 fn close_hvm<M: Machine, K: Sink>(
     machine: &M,
     sink: &mut K,
-    mut settings: Guest,
+    settings: &mut Guest,
     tables: Option<Unsound>,
 ) -> Result<(), SaveAnswer>
-    requires held { HoldsParts is_setting (M.state machine.now).host.kind (M.state machine.now).host.width settings }
-    requires same { SameSettings (M.state machine.now).host.parts settings.parts }
+    requires held { HoldsParts is_setting (M.state machine.now).host.kind (M.state machine.now).host.width settings.old }
+    requires same { SameSettings (M.state machine.now).host.parts settings.old.parts }
     requires valid { IsValid (M.state machine.now).host }
     requires hvm { (M.state machine.now).host.kind ≡ Hvm }
     requires named { (u : UnsoundCause) → tables ≡ Some u → IsUnsound (M.state machine.now).host.frames u }
     ensures none { OnOk result (tables ≡ None) }
     ensures closed { OnOk result (ClosesStream (M.state machine.now).host (K.written sink.old) (K.written sink.new)) }
+    ensures formed { OnOk result (IsFormed settings.new) }
+    ensures emulators { OnOk result (SameEmulators (M.state machine.now).host.parts settings.new.parts) }
     ensures sound { OnOk result (unsoundness (M.state machine.now).host ≡ None) }
     ensures first { IfUnsound result (λ u. unsoundness (M.state machine.now).host ≡ Some u) }
     ensures stops { OnErr result (StopsBehind (K.written sink.old) (K.written sink.new)) }
@@ -53,8 +55,8 @@ fn close_hvm<M: Machine, K: Sink>(
         Ok(front) => front,
         Err(unsound) => return Err(SaveAnswer::Unsound(unsound)),
     };
-    refresh(&mut settings, machine);
-    match write_last(sink, &settings, front) {
+    refresh(settings, machine);
+    match write_last(sink, settings, front) {
         Ok(()) => Ok(()),
         Err(_) => Err(SaveAnswer::WriteFault),
     }
@@ -103,14 +105,14 @@ fn settle<M: Machine>(
 fn close_pv<M: Machine, K: Sink>(
     machine: &mut M,
     sink: &mut K,
-    mut settings: Guest,
+    settings: &mut Guest,
     marks: &mut [Option<bool>],
     types: &[Option<PageType>],
     tables: Option<Unsound>,
 ) -> Result<(), SaveAnswer>
     requires paused { (M.state machine.old).paused ≡ true }
-    requires held { HoldsParts is_setting (M.state machine.old).host.kind (M.state machine.old).host.width settings }
-    requires same { SameSettings (M.state machine.old).host.parts settings.parts }
+    requires held { HoldsParts is_setting (M.state machine.old).host.kind (M.state machine.old).host.width settings.old }
+    requires same { SameSettings (M.state machine.old).host.parts settings.old.parts }
     requires valid { IsValid (M.state machine.old).host }
     requires pv { (M.state machine.old).host.kind ≡ Pv }
     requires marks { length marks.old ≡ (M.state machine.old).host.width }
@@ -119,6 +121,8 @@ fn close_pv<M: Machine, K: Sink>(
     requires named { (u : UnsoundCause) → tables ≡ Some u → IsUnsound (M.state machine.old).host.frames u }
     ensures none { OnOk result (tables ≡ None) }
     ensures closed { OnOk result (ClosesStream (M.state machine.old).host (K.written sink.old) (K.written sink.new)) }
+    ensures formed { OnOk result (IsFormed settings.new) }
+    ensures emulators { OnOk result (SameEmulators (M.state machine.old).host.parts settings.new.parts) }
     ensures sound { OnOk result ((M.state machine.old).honest ≡ true → unsoundness (M.state machine.old).host ≡ None) }
     ensures first { IfUnsound result (λ u. (M.state machine.old).honest ≡ true → unsoundness (M.state machine.old).host ≡ Some u) }
     ensures stands { IfUnsound result (λ u. is_of_no_type u ≡ true → (place : ℕ) × UnsoundHas (M.state machine.old).host place u) }
@@ -135,12 +139,12 @@ fn close_pv<M: Machine, K: Sink>(
     let count = types.len().min(marks.len());
     settle(
         machine,
-        &mut settings,
+        settings,
         &mut marks[..count],
         &types[..count],
         tables,
     )?;
-    match write_pv_last(sink, &settings) {
+    match write_pv_last(sink, settings) {
         Ok(()) => Ok(()),
         Err(_) => Err(SaveAnswer::WriteFault),
     }
@@ -151,13 +155,13 @@ fn close_pv<M: Machine, K: Sink>(
 pub(crate) fn close<M: Machine, K: Sink>(
     machine: &mut M,
     sink: &mut K,
-    settings: Guest,
+    settings: &mut Guest,
     marks: &mut [Option<bool>],
     sent: &Sent,
 ) -> Result<(), SaveAnswer>
     requires paused { (M.state machine.old).paused ≡ true }
-    requires held { HoldsParts is_setting (M.state machine.old).host.kind (M.state machine.old).host.width settings }
-    requires same { SameSettings (M.state machine.old).host.parts settings.parts }
+    requires held { HoldsParts is_setting (M.state machine.old).host.kind (M.state machine.old).host.width settings.old }
+    requires same { SameSettings (M.state machine.old).host.parts settings.old.parts }
     requires valid { IsValid (M.state machine.old).host }
     requires marks { (M.state machine.old).host.kind ≡ Pv → length marks.old ≡ (M.state machine.old).host.width }
     requires types { SawTypes sent.now.types.items (M.state machine.old) }
@@ -165,6 +169,8 @@ pub(crate) fn close<M: Machine, K: Sink>(
     requires named { (u : UnsoundCause) → sent.now.unsound ≡ Some u → IsUnsound (M.state machine.old).host.frames u }
     ensures none { OnOk result (sent.now.unsound ≡ None) }
     ensures closed { OnOk result (ClosesStream (M.state machine.old).host (K.written sink.old) (K.written sink.new)) }
+    ensures formed { OnOk result (IsFormed settings.new) }
+    ensures emulators { OnOk result (SameEmulators (M.state machine.old).host.parts settings.new.parts) }
     ensures sound { OnOk result (IsTrusted (M.state machine.old) → unsoundness (M.state machine.old).host ≡ None) }
     ensures first { IfUnsound result (λ u. IsTrusted (M.state machine.old) → unsoundness (M.state machine.old).host ≡ Some u) }
     ensures stands { IfUnsound result (λ u. is_of_no_type u ≡ true → (place : ℕ) × UnsoundHas (M.state machine.old).host place u) }

@@ -4,7 +4,7 @@
 //! parts of the machine's host; judging the host once the machine is paused, of an HVM machine here; and which answer comes
 //! where the machine or the sink fails. Left to others: the machine (mig_machine_api), the frames and the rounds in which
 //! they are sent (mig_rounds), judging a PV host and bringing its contexts to their form in a stream (mig_pause), the
-//! records of parts (mig_canon), and what a stream is (mig_libxl).
+//! records of parts (mig_canon), and what a stream is and what stands around its image (mig_libxl).
 //!
 //! What the layers above rely on: over an honest machine what `run` wrote is accepted, whatever follows it, and its guest is
 //! what the paused host is seen as. An HVM host is judged as it is in the end, over any machine; a PV host over an honest

@@ -1,12 +1,11 @@
 ghost use Rattle.std.specs.Prelude.{◌≡◌, length, OnOk, IfOk, IfSome};
 ghost use Rattle.std.specs.FinMap as maps;
 ghost use Rattle.mig_headers.specs.declared.kind.Kind.TheVariants.{Pv};
-ghost use Rattle.mig_guest.specs.PartCodes.{is_fixed as is_fixed_code};
-ghost use Rattle.mig_dirtysave.specs.Saver.{is_setting as is_setting_code, kept_parts, parts_alone};
+ghost use Rattle.mig_dirtysave.specs.Saver.{is_early as is_early_code, is_setting as is_setting_code, kept_parts, parts_alone};
 
-use crate::settings::is_setting;
+use crate::settings::{is_early, is_setting};
 use mig_bytes::Memory;
-use mig_guest::{Guest, PartKey, is_fixed};
+use mig_guest::{Guest, PartKey};
 use mig_headers::Kind;
 use mig_machine_api::Machine;
 use std::alloc::{AllocError, Global};
@@ -36,23 +35,24 @@ fn bare_guest<M: Machine>(alloc: Global, machine: &M) -> Guest
     }
 }
 
-/// Two guests: one has the parts of the machine's host that never change, the other those that may, without the context.
+/// Two guests: one has the parts of the machine's host that stand before the frames, the other those behind them, without the
+/// context.
 pub(crate) fn copy_parts<M: Machine>(alloc: Global, machine: &M) -> Result<(Guest, Guest), Memory>
-    ensures fixed { IfOk result (λ copied. copied.0 ≡ parts_alone (M.state machine.now).host.kind (M.state machine.now).host.width (kept_parts is_fixed_code (M.state machine.now).host.parts)) }
+    ensures early { IfOk result (λ copied. copied.0 ≡ parts_alone (M.state machine.now).host.kind (M.state machine.now).host.width (kept_parts is_early_code (M.state machine.now).host.parts)) }
     ensures settings { IfOk result (λ copied. copied.1 ≡ parts_alone (M.state machine.now).host.kind (M.state machine.now).host.width (kept_parts is_setting_code (M.state machine.now).host.parts)) }
 {
-    let mut fixed = bare_guest(alloc, machine);
+    let mut early = bare_guest(alloc, machine);
     let mut settings = bare_guest(alloc, machine);
     let mut after = None;
     while let Some(key) = machine.next_key(after) {
-        if is_fixed(key.code) {
-            copy_part(&mut fixed, machine, key)?;
+        if is_early(key.code) {
+            copy_part(&mut early, machine, key)?;
         } else if is_setting(key.code) {
             copy_part(&mut settings, machine, key)?;
         }
         after = Some(key);
     }
-    Ok((fixed, settings))
+    Ok((early, settings))
 }
 
 /// So many marks, none of which is set.

@@ -1,6 +1,5 @@
 ghost use Rattle.std.specs.Prelude.{◌≡◌, ◌≤◌, length, true, false, None, Some, OnOk, OnErr, IfOk, IsErrOf, ℕ};
 ghost use Rattle.mig_bytes.specs.Faults.{Rose};
-ghost use Rattle.mig_guest.specs.Formed.{HasNoEmulators};
 ghost use Rattle.mig_hosted.specs.Sound.{unsoundness};
 ghost use Rattle.mig_machine_api.specs.History.{no_history};
 ghost use Rattle.mig_machine_api.specs.Rounds.{all_read};
@@ -16,7 +15,7 @@ ghost use Rattle.mig_dirtysave.specs.declared.answer.SaveAnswer.TheVariants.{Mac
 use crate::answer::{SaveAnswer, SaveReport};
 use crate::closing::close;
 use crate::prepare::{copy_parts, make_marks};
-use crate::steps::{open, send};
+use crate::steps::{begin, end, open, send};
 use mig_bytes::{Memory, Sink};
 use mig_guest::Guest;
 use mig_machine_api::Machine;
@@ -24,11 +23,11 @@ use mig_rounds::Room;
 use std::alloc::Global;
 use std::marker::Model;
 
-/// What a save needs, made while there may still be no memory: the parts of the machine's host that never change, room for
-/// those that may, marks for judging P2M frames, and room for the rounds.
+/// What a save needs, made while there may still be no memory: the parts of the machine's host that stand before the frames,
+/// room for those behind them, marks for judging P2M frames, and room for the rounds.
 #[derive(Drop)]
 pub struct Saver {
-    fixed: Guest,
+    early: Guest,
     settings: Guest,
     marks: Vec<Option<bool>>,
     room: Room,
@@ -38,29 +37,27 @@ impl Model for Saver {
     ghost use Rattle.std.specs.Prelude.{◌≡◌, length};
     ghost use Rattle.mig_headers.specs.declared.kind.Kind.TheVariants.{Pv};
     ghost use Rattle.mig_guest.specs.Formed.{IsFormed};
-    ghost use Rattle.mig_guest.specs.PartCodes.{is_fixed};
-    ghost use Rattle.mig_dirtysave.specs.Saver.{SaverOf, HoldsParts, is_setting, saver_code};
+    ghost use Rattle.mig_dirtysave.specs.Saver.{SaverOf, HoldsParts, is_early, is_setting, saver_code};
 
     ghost Value = { SaverOf };
 
     ghost coded = { saver_code };
 
-    ghost view = { λ s. record { kind = s.fixed.kind; width = s.room; fixed = s.fixed.parts; settings = s.settings.parts } };
+    ghost view = { λ s. record { kind = s.early.kind; width = s.room; early = s.early.parts; settings = s.settings.parts } };
 
-    ghost invariant = { λ s. IsFormed s.fixed × HoldsParts is_fixed s.fixed.kind s.room s.fixed × HoldsParts is_setting s.fixed.kind s.room s.settings × (s.fixed.kind ≡ Pv → length s.marks.items ≡ s.room) };
+    ghost invariant = { λ s. IsFormed s.early × HoldsParts is_early s.early.kind s.room s.early × HoldsParts is_setting s.early.kind s.room s.settings × (s.early.kind ≡ Pv → length s.marks.items ≡ s.room) };
 }
 
 impl Saver {
     /// Makes all that `run` needs, for a machine as it is now.
     pub fn prepare<M: Machine>(alloc: Global, machine: &M) -> Result<Saver, Memory>
-        requires plain { HasNoEmulators (M.state machine.now).host.parts }
         ensures { IfOk result (λ saver. IsFor saver (M.state machine.now).host) }
     {
         let room = Room::new(alloc, machine.width())?;
-        let (fixed, settings) = copy_parts(alloc, machine)?;
+        let (early, settings) = copy_parts(alloc, machine)?;
         let marks = make_marks(alloc, machine)?;
         Ok(Saver {
-            fixed,
+            early,
             settings,
             marks,
             room,
@@ -75,7 +72,6 @@ impl Saver {
         sink: &mut K,
     ) -> Result<SaveReport, SaveAnswer>
         requires made { IsFor self (M.state machine.old).host }
-        requires plain { HasNoEmulators (M.state machine.old).host.parts }
         requires unpaused { (M.state machine.old).paused ≡ false }
         requires unread { (M.state machine.old).history ≡ no_history }
         ensures paused { OnEnd result ((M.state machine.new).paused ≡ true) }
@@ -89,7 +85,7 @@ impl Saver {
         ensures first { IfUnsound result (λ u. IsTrusted (M.state machine.new) → unsoundness (M.state machine.new).host ≡ Some u) }
         ensures named { IfUnsound result (λ u. is_of_no_type u ≡ true → (place : ℕ) × UnsoundHas (M.state machine.new).host place u) }
         ensures no_stream { OnErr result (WroteNoStream (K.written sink.old) (K.written sink.new)) }
-        ensures behind { OnErr result (IsLittleBehind (K.written sink.old) (K.written sink.new) (total (M.state machine.old).host.width (M.state machine.new).history)) }
+        ensures behind { OnErr result (IsLittleBehind (K.written sink.old) (K.written sink.new) (M.state machine.old).host.parts (total (M.state machine.old).host.width (M.state machine.new).history)) }
         ensures later { M.Later machine.old machine.new }
         ensures machine_count { M.faults machine.old ≤ M.faults machine.new }
         ensures sink_count { K.faults sink.old ≤ K.faults sink.new }
@@ -98,14 +94,16 @@ impl Saver {
         ensures write_fault { IsErrOf result WriteFault → Rose (K.faults sink.old) (K.faults sink.new) }
     {
         let Saver {
-            fixed,
-            settings,
+            early,
+            mut settings,
             mut marks,
             room,
         } = self;
-        open(sink, &fixed)?;
+        begin(sink, &settings)?;
+        open(sink, &early)?;
         let sent = send(machine, sink, room)?;
-        close(machine, sink, settings, &mut marks, &sent)?;
+        close(machine, sink, &mut settings, &mut marks, &sent)?;
+        end(sink, &settings)?;
         Ok(SaveReport {
             rounds: sent.rounds,
             entries: sent.entries,

@@ -1,17 +1,26 @@
 ghost use Rattle.std.specs.Prelude.{◌≡◌, IfSome};
 ghost use Rattle.std.specs.FinMap as maps;
-ghost use Rattle.mig_dirtysave.specs.Saver.{is_setting as is_setting_code, kept_parts, parts_alone, part_len, HoldsParts, SameSettings};
+ghost use Rattle.mig_dirtysave.specs.Saver.{is_early as is_early_code, is_setting as is_setting_code, kept_parts, parts_alone, part_len, HoldsParts, SameSettings};
 
 use crate::write::HVM_CONTEXT;
 use mig_guest::{Guest, PartKey, is_fixed};
 use mig_machine_api::Machine;
 
-/// Whether the bytes of a part of this code may change while a guest runs. The context isn't among them, which is written
-/// where it stands.
+/// The number of the pairs of an emulator.
+const EMULATOR_PAIRS: u32 = 258;
+
+/// Whether a part of this code stands before the frames. Its bytes never change while a guest runs.
+pub(crate) fn is_early(code: u32) -> bool
+    ensures { result ≡ is_early_code code }
+{
+    is_fixed(code) && code != EMULATOR_PAIRS
+}
+
+/// Whether a part of this code stands behind the frames. The context isn't among them, which is written where it stands.
 pub(crate) fn is_setting(code: u32) -> bool
     ensures { result ≡ is_setting_code code }
 {
-    !is_fixed(code) && code != HVM_CONTEXT
+    !is_early(code) && code != HVM_CONTEXT
 }
 
 /// Writes the bytes that a part has in the machine over those that it has in a guest.

@@ -10,6 +10,7 @@ ghost use Rattle.mig_machine_api.specs.History.{no_history};
 ghost use Rattle.mig_machine_api.specs.MachineStates.{IsValidState};
 ghost use Rattle.mig_rounds.specs.Flags.{total};
 ghost use Rattle.mig_rounds.specs.Live.{StaysSame, HasRounds, IsTight, FramesSaved, SawTypes, AnswersTables, IsUnsound};
+ghost use Rattle.mig_libxl.specs.Canon.{wrapper_opening, wrapper_closing};
 ghost use Rattle.mig_saved.specs.Around.{text_before};
 ghost use Rattle.mig_dirtysave.specs.SaveAnswers.{IfUnsound};
 ghost use Rattle.mig_dirtysave.specs.declared.answer.SaveAnswer.TheVariants.{MachineFault, WriteFault};
@@ -19,19 +20,49 @@ use crate::write::write_before;
 use mig_bytes::Sink;
 use mig_guest::Guest;
 use mig_headers::Unsound;
+use mig_libxl::{write_closing, write_opening};
 use mig_machine_api::Machine;
 use mig_rounds::{Room, SendFault, Sent, send_frames};
 
 /// Writes what stands before the frames.
-pub(crate) fn open<K: Sink>(sink: &mut K, fixed: &Guest) -> Result<(), SaveAnswer>
-    requires { IsFormed fixed.now }
-    ensures opened { OnOk result (Appends (K.written sink.old) (K.written sink.new) (text_before fixed.now)) }
-    ensures part { OnErr result (AppendsPart (K.written sink.old) (K.written sink.new) (text_before fixed.now)) }
+pub(crate) fn open<K: Sink>(sink: &mut K, early: &Guest) -> Result<(), SaveAnswer>
+    requires { IsFormed early.now }
+    ensures opened { OnOk result (Appends (K.written sink.old) (K.written sink.new) (text_before early.now)) }
+    ensures part { OnErr result (AppendsPart (K.written sink.old) (K.written sink.new) (text_before early.now)) }
     ensures sink_count { K.faults sink.old ≤ K.faults sink.new }
     ensures sink_quiet { OnOk result (K.faults sink.new ≡ K.faults sink.old) }
     ensures write_fault { OnErr result (IsErrOf result WriteFault × Rose (K.faults sink.old) (K.faults sink.new)) }
 {
-    match write_before(sink, fixed) {
+    match write_before(sink, early) {
+        Ok(()) => Ok(()),
+        Err(_) => Err(SaveAnswer::WriteFault),
+    }
+}
+
+/// Writes what stands before the image of a guest with these settings.
+pub(crate) fn begin<K: Sink>(sink: &mut K, settings: &Guest) -> Result<(), SaveAnswer>
+    ensures begun { OnOk result (Appends (K.written sink.old) (K.written sink.new) (wrapper_opening settings.now.parts)) }
+    ensures part { OnErr result (AppendsPart (K.written sink.old) (K.written sink.new) (wrapper_opening settings.now.parts)) }
+    ensures sink_count { K.faults sink.old ≤ K.faults sink.new }
+    ensures sink_quiet { OnOk result (K.faults sink.new ≡ K.faults sink.old) }
+    ensures write_fault { OnErr result (IsErrOf result WriteFault × Rose (K.faults sink.old) (K.faults sink.new)) }
+{
+    match write_opening(sink, settings) {
+        Ok(()) => Ok(()),
+        Err(_) => Err(SaveAnswer::WriteFault),
+    }
+}
+
+/// Writes what stands behind the image of a guest with these settings.
+pub(crate) fn end<K: Sink>(sink: &mut K, settings: &Guest) -> Result<(), SaveAnswer>
+    requires { IsFormed settings.now }
+    ensures ended { OnOk result (Appends (K.written sink.old) (K.written sink.new) (wrapper_closing settings.now.parts)) }
+    ensures part { OnErr result (AppendsPart (K.written sink.old) (K.written sink.new) (wrapper_closing settings.now.parts)) }
+    ensures sink_count { K.faults sink.old ≤ K.faults sink.new }
+    ensures sink_quiet { OnOk result (K.faults sink.new ≡ K.faults sink.old) }
+    ensures write_fault { OnErr result (IsErrOf result WriteFault × Rose (K.faults sink.old) (K.faults sink.new)) }
+{
+    match write_closing(sink, settings) {
         Ok(()) => Ok(()),
         Err(_) => Err(SaveAnswer::WriteFault),
     }

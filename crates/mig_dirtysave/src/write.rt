@@ -23,25 +23,25 @@ const STATIC_DATA_END: u32 = 0x10;
 pub(crate) const HVM_CONTEXT: u32 = 9;
 
 /// Appends the policies and STATIC_DATA_END.
-fn write_policies<K: Sink>(sink: &mut K, fixed: &Guest) -> Result<(), WriteFailed>
-    requires { IsFormed fixed.now }
-    ensures bytes { Puts (text_of (static_bodies fixed.now)) (K.written sink.old) (K.written sink.new) result }
+fn write_policies<K: Sink>(sink: &mut K, early: &Guest) -> Result<(), WriteFailed>
+    requires { IsFormed early.now }
+    ensures bytes { Puts (text_of (static_bodies early.now)) (K.written sink.old) (K.written sink.new) result }
     ensures cause { HasCause (K.faults sink.old) (K.faults sink.new) result }
 {
-    write_codes(sink, fixed, &[PartCode::CpuidLeaf, PartCode::Msr])?;
+    write_codes(sink, early, &[PartCode::CpuidLeaf, PartCode::Msr])?;
     write_record(sink, STATIC_DATA_END, &[])
 }
 
 /// Appends what stands before the frames: the headers, the policies, and of a PV guest its P2M frames.
-pub(crate) fn write_before<K: Sink>(sink: &mut K, fixed: &Guest) -> Result<(), WriteFailed>
-    requires { IsFormed fixed.now }
-    ensures bytes { Puts (text_before fixed.now) (K.written sink.old) (K.written sink.new) result }
+pub(crate) fn write_before<K: Sink>(sink: &mut K, early: &Guest) -> Result<(), WriteFailed>
+    requires { IsFormed early.now }
+    ensures bytes { Puts (text_before early.now) (K.written sink.old) (K.written sink.new) result }
     ensures cause { HasCause (K.faults sink.old) (K.faults sink.new) result }
 {
-    write_headers(sink, fixed.kind())?;
-    write_info(sink, fixed)?;
-    write_policies(sink, fixed)?;
-    write_p2m_frames(sink, fixed)
+    write_headers(sink, early.kind())?;
+    write_info(sink, early)?;
+    write_policies(sink, early)?;
+    write_p2m_frames(sink, early)
 }
 
 /// Appends the record of a context: its entries before END, and an END of zeros.

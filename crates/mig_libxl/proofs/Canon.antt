@@ -7,20 +7,10 @@ use Rattle.mig_guest.specs.PartKeys.{context_key}
 use Rattle.mig_guest.proofs.Counts.{same_parts}
 use Rattle.mig_canon.proofs.Common.{bodies_by_shape, shape_of}
 use Rattle.mig_pvtables.specs.Blank.{blank, blank_of, IsOfBytes}
-use Rattle.mig_canon.specs.Canon.{all_vcpus, canon}
-use Rattle.mig_libxl.specs.Canon.{wrapped_canon, canon_any}
+use Rattle.mig_canon.specs.Canon.{Frame, all_vcpus, canon}
+use Rattle.mig_canon_laws.specs.Batched.{batch_records, batched}
 use Rattle.mig_canon_laws.proofs.CanonMaps.{nothing}
 use Rattle.mig_emulators.proofs.EmulatorGuests.{plain_policy, hvm_faultless}
-
--- ---- guests with and without emulators
-
-pub canon_any_bare : (g : GuestOf) → has_emulators g.parts ≡ false → canon_any g ≡ canon g
-unfolding canon_any
-canon_any_bare g none = ap (λ b. cond b (wrapped_canon g) (canon g)) none
-
-pub canon_any_wrapped : (g : GuestOf) → has_emulators g.parts ≡ true → canon_any g ≡ wrapped_canon g
-unfolding canon_any
-canon_any_wrapped g some = ap (λ b. cond b (wrapped_canon g) (canon g)) some
 
 -- what is false of all entries is false of one that is found
 none_found : (test : PartKey → Bool) (q : PartKey) (bytes : List ℕ) (es : List Part) → list_any (λ e. test e.0) es ≡ false → find part_cmp q es ≡ Some bytes → test q ≡ false
@@ -32,12 +22,16 @@ none_found test q bytes (e ∷ es) none is =
       | false ↦ λ t at. none_found test q bytes es others at
     ] refl is
 
-pub plain_is : (parts : PartMap) → (has_emulators parts ≡ false) ↔ HasNoEmulators parts
-plain_is parts = (
-  λ none key bytes got. none_found (λ k. is_emulator_code k.code) key bytes (maps.entries parts) none (sym (maps.get-entries parts key) ∙ got),
-  λ plain. list_any_none (λ (e : Part). is_emulator_code e.0.code) (maps.entries parts)
-      (all_found part_total part_exact (λ (e : Part). is_emulator_code e.0.code ≡ false) (maps.entries parts) (maps.entries_sorted parts) (λ q v is. plain q v (maps.get-entries parts q ∙ is))),
+-- a test fails of all keys of a map exactly where it fails of all that are found
+pub none_is : (test : PartKey → Bool) (parts : PartMap) → (list_any (λ e. test e.0) (maps.entries parts) ≡ false) ↔ ((key : PartKey) (bytes : List ℕ) → maps.get parts key ≡ Some bytes → test key ≡ false)
+none_is test parts = (
+  λ none key bytes got. none_found test key bytes (maps.entries parts) none (sym (maps.get-entries parts key) ∙ got),
+  λ none. list_any_none (λ (e : Part). test e.0) (maps.entries parts)
+      (all_found part_total part_exact (λ (e : Part). test e.0 ≡ false) (maps.entries parts) (maps.entries_sorted parts) (λ q v is. none q v (maps.get-entries parts q ∙ is))),
 )
+
+pub plain_is : (parts : PartMap) → (has_emulators parts ≡ false) ↔ HasNoEmulators parts
+plain_is parts = none_is (λ k. is_emulator_code k.code) parts
 
 -- ---- the parts that stay
 
@@ -113,6 +107,10 @@ module _ (g : GuestOf) where
   pub canon_bare : canon g ≡ canon bare
   unfolding canon
   canon_bare = ap (λ bodies. headers g.kind ++ text_of bodies) (sym (bodies_same g.kind))
+
+  -- nor with other records of its frames
+  pub batched_bare : (batches : List (List Frame)) → batched bare batches ≡ batched g batches
+  batched_bare batches i = headers g.kind ++ text_of (info_records g.kind ++ (static_same i ++ (p2m_same g.kind i ++ (batch_records batches ++ (last_same g.kind i ++ (0, []) ∷ [])))))
 
   -- ---- the guest that it says
 

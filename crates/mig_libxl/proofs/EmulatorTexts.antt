@@ -1,5 +1,5 @@
 -- How the records of emulators are spelled, one after another.
-use Rattle.mig_libxl.proofs.Common.{◌≡◌, ℕ, ◌+◌, ◌<◌, ◌≤◌, ◌^◌, true, List, [], ◌∷◌, ◌++◌, length, take, drop, replicate, Option, Some, Result, inl, inr, refl, sym, ap, subst, ◌∙◌, arith, append_assoc, append-nil, take-append-drop, ◌-◌, ◌==◌, nat_le, flat_map, range_with_len, and_parts, eqb-true, leb-true, or_cases, flat_map-append, little_bytes, padding_len, puts_then, puts_stop, puts_same, is_emulator_code, width_of, GuestOf, Part, PartMap, EmulatorPairs, EmulatorContext, PartKey, IsOf, of_part, IsWhole, part_with, parts_of_emulator, text_of_emulators, is_of_converter}
+use Rattle.mig_libxl.proofs.Common.{◌≡◌, ℕ, ◌+◌, ◌<◌, ◌≤◌, ◌^◌, true, List, [], ◌∷◌, ◌++◌, length, take, drop, replicate, Option, Some, Result, inl, inr, sym, ap, subst, ◌∙◌, arith, append_assoc, append-nil, take-append-drop, ◌-◌, ◌==◌, nat_le, flat_map, range_with_len, and_parts, eqb-true, leb-true, or_cases, flat_map-append, little_bytes, padding_len, puts_then, puts_stop, puts_same, is_emulator_code, width_of, GuestOf, IsFormed, Part, PartMap, EmulatorPairs, EmulatorContext, PartKey, IsOf, of_part, part_with, parts_of_emulator, text_of_emulators}
 use Rattle.std.specs.Result.{IsErrAnd}
 use Rattle.std.specs.FinMap as maps
 use Rattle.std.proofs.KnownBytes.{Appends-trans}
@@ -8,10 +8,9 @@ use Rattle.std.proofs.lemmas.List.FromFn.{take-map-range_with_len}
 use Rattle.std.specs.Io.KnownBytes.{Appends}
 use Rattle.mig_bytes.specs.Bytes.{AppendsPart, Puts}
 use Rattle.mig_bytes.specs.declared.failure.WriteFailed.{WriteFailed}
-use Rattle.mig_records.specs.Records.{head_of, spelled}
-use Rattle.mig_canon.specs.Canon.{canon}
+use Rattle.mig_records.specs.Records.{head_of}
 use Rattle.mig_canon.proofs.Spelling.{record_text}
-use Rattle.mig_libxl.specs.Canon.{emulator_body, emulator_record, parts_below, parts_of_id, emulators_in_order, parts_of_ids, opening_text, wrapped_canon}
+use Rattle.mig_libxl.specs.Canon.{emulator_body, emulator_record, parts_below, parts_of_id, emulators_in_order, parts_of_ids}
 use Rattle.mig_canon_laws.proofs.PvMaps.{counted_more}
 
 -- ---- one record
@@ -26,11 +25,11 @@ unfolding emulator_record
 emulator_text key bytes n is = record_text (key.code - 256) n (emulator_body (key, bytes)) (omega (arith, is))
 
 -- a part of an emulator isn't longer than a record can say
-pub short_emulator : (g : GuestOf) (key : PartKey) (bytes : List ℕ) → IsWhole g → is_emulator_code key.code ≡ true → maps.get g.parts key ≡ Some bytes → length bytes + 8 ≤ 2 ^ 27
-short_emulator g key bytes whole code there = elim (or_cases (key.code == 258) (key.code == 259) code) [
-  | inl a ↦ let one : IsOf EmulatorPairs (width_of g) (key, bytes) = of_part EmulatorPairs g.kind (width_of g) (key, bytes) (whole.formed.parts key bytes there) (eqb-true key.code 258 a) in
+pub short_emulator : (g : GuestOf) (key : PartKey) (bytes : List ℕ) → IsFormed g → is_emulator_code key.code ≡ true → maps.get g.parts key ≡ Some bytes → length bytes + 8 ≤ 2 ^ 27
+short_emulator g key bytes formed code there = elim (or_cases (key.code == 258) (key.code == 259) code) [
+  | inl a ↦ let one : IsOf EmulatorPairs (width_of g) (key, bytes) = of_part EmulatorPairs g.kind (width_of g) (key, bytes) (formed.parts key bytes there) (eqb-true key.code 258 a) in
       omega (arith, leb-true (length bytes) _ (and_parts (nat_le 1 (length bytes)) (nat_le (length bytes) (2 ^ 24)) one.len).1)
-  | inr b ↦ let one : IsOf EmulatorContext (width_of g) (key, bytes) = of_part EmulatorContext g.kind (width_of g) (key, bytes) (whole.formed.parts key bytes there) (eqb-true key.code 259 b) in
+  | inr b ↦ let one : IsOf EmulatorContext (width_of g) (key, bytes) = of_part EmulatorContext g.kind (width_of g) (key, bytes) (formed.parts key bytes there) (eqb-true key.code 259 b) in
       omega (arith, leb-true (length bytes) _ one.len)
 ]
 
@@ -108,9 +107,3 @@ module _ (parts : PartMap) where
   pub ids_end : (i : ℕ) → i ≡ 3 → text_of_emulators (emulators_in_order parts) ≡ text_of_emulators (parts_of_ids parts i)
   unfolding emulators_in_order
   ids_end i all = ap (λ m. text_of_emulators (parts_of_ids parts m)) (sym all)
-
--- ---- the stream
-
-pub wrapped_is : (g : GuestOf) → wrapped_canon g ≡ opening_text (is_of_converter g.parts) ++ (canon g ++ (text_of_emulators (emulators_in_order g.parts) ++ spelled 0 []))
-unfolding wrapped_canon
-wrapped_is g = refl

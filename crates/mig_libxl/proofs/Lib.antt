@@ -8,6 +8,8 @@ pub mod Forms
 pub mod Heads
 pub mod Laws
 pub mod WrappedCanons
+pub mod Around
+pub mod Alike
 pub mod AnyCanons
 pub mod Recorded
 pub mod Records

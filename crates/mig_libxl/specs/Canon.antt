@@ -66,13 +66,17 @@ text_of_emulators ps = flat_map emulator_record ps
 abbrev pub opening_text : Bool → List ℕ
 opening_text legacy = libxl_header_of legacy ++ spelled 1 []
 
--- the image, and the emulators behind it
-unfoldable pub wrapped_canon : GuestOf → List ℕ
-wrapped_canon g = opening_text (is_of_converter g.parts) ++ (canon g ++ (text_of_emulators (emulators_in_order g.parts) ++ spelled 0 []))
+-- what stands before the image of a guest with these parts: nothing, where it has no emulators
+unfoldable pub wrapper_opening : PartMap → List ℕ
+wrapper_opening parts = if has_emulators parts then opening_text (is_of_converter parts) else []
+
+-- what stands behind it: the emulators and END
+unfoldable pub wrapper_closing : PartMap → List ℕ
+wrapper_closing parts = if has_emulators parts then text_of_emulators (emulators_in_order parts) ++ spelled 0 [] else []
 
 -- the guest that the image of its stream says: without the parts of emulators
 abbrev pub bare_guest : GuestOf → GuestOf
 bare_guest g = record g { parts = maps.retain_keys g.parts (λ k. not (is_emulator_code k.code)) }
 
 unfoldable pub canon_any : GuestOf → List ℕ
-canon_any g = if has_emulators g.parts then wrapped_canon g else canon g
+canon_any g = wrapper_opening g.parts ++ (canon g ++ wrapper_closing g.parts)

@@ -22,4 +22,6 @@ pub use law::{
 };
 pub use mig_emulators::{last_context_decides, last_value_decides};
 pub use read::read_any;
-pub use write::{close_wrapper, open_wrapper, write_any, write_emulator};
+pub use write::{
+    close_wrapper, open_wrapper, write_any, write_closing, write_emulator, write_opening,
+};

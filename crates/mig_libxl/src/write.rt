@@ -5,10 +5,10 @@ ghost use Rattle.byteorder.specs.Endian.{little_bytes};
 ghost use Rattle.mig_bytes.specs.Bytes.{Puts};
 ghost use Rattle.mig_bytes.specs.Faults.{HasCause};
 ghost use Rattle.mig_headers.specs.RecordTypes.{most_body};
-ghost use Rattle.mig_guest.specs.Formed.{is_emulator_code};
+ghost use Rattle.mig_guest.specs.Formed.{IsFormed, is_emulator_code};
 ghost use Rattle.mig_pvtables.specs.Whole.{IsWhole};
 ghost use Rattle.mig_records.specs.Records.{spelled};
-ghost use Rattle.mig_libxl.specs.Canon.{has_emulators as some_emulators, is_of_converter as from_converter, emulator_record, part_with, parts_of_emulator, parts_of_id, emulators_in_order, text_of_emulators, opening_text, wrapped_canon, canon_any};
+ghost use Rattle.mig_libxl.specs.Canon.{has_emulators as some_emulators, is_of_converter as from_converter, emulator_record, part_with, parts_of_emulator, parts_of_id, emulators_in_order, text_of_emulators, opening_text, wrapper_opening, wrapper_closing, canon_any};
 
 use crate::numbers::{CONTEXT, EMULATORS, END, INDICES, LIBXC_CONTEXT, PAIRS};
 use mig_bytes::{Sink, WriteFailed, put_all, put_u32_le};
@@ -64,7 +64,7 @@ pub fn close_wrapper<K: Sink>(sink: &mut K) -> Result<(), WriteFailed>
 /// Appends the record of the part of this key, where the guest has it.
 #[tactic(auto, using(mig_bytes::proofs::Texts::puts_same, crate::proofs::EmulatorTexts::text_alone, crate::proofs::EmulatorTexts::short_emulator))]
 fn write_part<K: Sink>(sink: &mut K, guest: &Guest, key: PartKey) -> Result<(), WriteFailed>
-    requires whole { IsWhole guest.now }
+    requires formed { IsFormed guest.now }
     requires code { is_emulator_code key.code ≡ true }
     ensures bytes { Puts (text_of_emulators (part_with key (maps.get guest.now.parts key))) (K.written sink.old) (K.written sink.new) result }
     ensures cause { HasCause (K.faults sink.old) (K.faults sink.new) result }
@@ -78,7 +78,7 @@ fn write_part<K: Sink>(sink: &mut K, guest: &Guest, key: PartKey) -> Result<(), 
 /// Appends the records of the emulator of this id and index.
 #[tactic(auto, using(mig_bytes::proofs::Texts::puts_then, mig_bytes::proofs::Texts::puts_stop, mig_bytes::proofs::Texts::puts_same, crate::proofs::EmulatorTexts::text_of_one))]
 fn write_one<K: Sink>(sink: &mut K, guest: &Guest, id: u32, index: u32) -> Result<(), WriteFailed>
-    requires whole { IsWhole guest.now }
+    requires formed { IsFormed guest.now }
     ensures bytes { Puts (text_of_emulators (parts_of_emulator guest.now.parts id index)) (K.written sink.old) (K.written sink.new) result }
     ensures cause { HasCause (K.faults sink.old) (K.faults sink.new) result }
 {
@@ -99,7 +99,7 @@ fn write_one<K: Sink>(sink: &mut K, guest: &Guest, id: u32, index: u32) -> Resul
 /// Appends the records of the emulators of this id, indices ascending.
 #[tactic(auto, using(mig_bytes::proofs::Texts::puts_same, crate::proofs::EmulatorTexts::emulator_next, crate::proofs::EmulatorTexts::emulators_end))]
 fn write_id<K: Sink>(sink: &mut K, guest: &Guest, id: u32) -> Result<(), WriteFailed>
-    requires whole { IsWhole guest.now }
+    requires formed { IsFormed guest.now }
     ensures bytes { Puts (text_of_emulators (parts_of_id guest.now.parts id)) (K.written sink.old) (K.written sink.new) result }
     ensures cause { HasCause (K.faults sink.old) (K.faults sink.new) result }
 {
@@ -112,7 +112,7 @@ fn write_id<K: Sink>(sink: &mut K, guest: &Guest, id: u32) -> Result<(), WriteFa
 /// Appends the records of all emulators, ids ascending.
 #[tactic(auto, using(mig_bytes::proofs::Texts::puts_same, crate::proofs::EmulatorTexts::id_next, crate::proofs::EmulatorTexts::ids_end))]
 fn write_emulators<K: Sink>(sink: &mut K, guest: &Guest) -> Result<(), WriteFailed>
-    requires whole { IsWhole guest.now }
+    requires formed { IsFormed guest.now }
     ensures bytes { Puts (text_of_emulators (emulators_in_order guest.now.parts)) (K.written sink.old) (K.written sink.new) result }
     ensures cause { HasCause (K.faults sink.old) (K.faults sink.new) result }
 {
@@ -157,30 +157,55 @@ fn is_of_converter(guest: &Guest) -> bool
     begins_with_0(guest, PAIRS) || begins_with_0(guest, CONTEXT)
 }
 
-/// Appends the canonical stream of a guest that has emulators.
-#[tactic(auto, using(mig_bytes::proofs::Texts::puts_then, mig_bytes::proofs::Texts::puts_stop, mig_bytes::proofs::Texts::puts_same, crate::proofs::EmulatorTexts::wrapped_is))]
-fn write_wrapped<K: Sink>(sink: &mut K, guest: &Guest) -> Result<(), WriteFailed>
-    requires whole { IsWhole guest.now }
-    ensures bytes { Puts (wrapped_canon guest.now) (K.written sink.old) (K.written sink.new) result }
+/// Appends the records of a guest's emulators, and the record that ends a libxl stream.
+#[tactic(auto, using(mig_bytes::proofs::Texts::puts_then, mig_bytes::proofs::Texts::puts_stop))]
+fn write_behind<K: Sink>(sink: &mut K, guest: &Guest) -> Result<(), WriteFailed>
+    requires formed { IsFormed guest.now }
+    ensures bytes { Puts (text_of_emulators (emulators_in_order guest.now.parts) ++ spelled 0 []) (K.written sink.old) (K.written sink.new) result }
     ensures cause { HasCause (K.faults sink.old) (K.faults sink.new) result }
 {
-    open_wrapper(sink, is_of_converter(guest))?;
-    write_canon(sink, guest)?;
     write_emulators(sink, guest)?;
     close_wrapper(sink)
 }
 
+/// Appends what stands before the image of a guest with these parts: the header of a libxl stream and the record that an
+/// image follows, where the guest has a part of an emulator; else nothing.
+#[tactic(auto, using(mig_bytes::proofs::Texts::puts_same, crate::proofs::Around::opening_some, crate::proofs::Around::opening_none))]
+pub fn write_opening<K: Sink>(sink: &mut K, guest: &Guest) -> Result<(), WriteFailed>
+    ensures bytes { Puts (wrapper_opening guest.now.parts) (K.written sink.old) (K.written sink.new) result }
+    ensures cause { HasCause (K.faults sink.old) (K.faults sink.new) result }
+{
+    if has_emulators(guest) {
+        open_wrapper(sink, is_of_converter(guest))
+    } else {
+        Ok(())
+    }
+}
+
+/// Appends what stands behind the image of a guest with these parts: the records of its emulators and the record that ends
+/// a libxl stream, where it has a part of an emulator; else nothing.
+#[tactic(auto, using(mig_bytes::proofs::Texts::puts_same, crate::proofs::Around::closing_some, crate::proofs::Around::closing_none))]
+pub fn write_closing<K: Sink>(sink: &mut K, guest: &Guest) -> Result<(), WriteFailed>
+    requires { IsFormed guest.now }
+    ensures bytes { Puts (wrapper_closing guest.now.parts) (K.written sink.old) (K.written sink.new) result }
+    ensures cause { HasCause (K.faults sink.old) (K.faults sink.new) result }
+{
+    if has_emulators(guest) {
+        write_behind(sink, guest)
+    } else {
+        Ok(())
+    }
+}
+
 /// Appends the canonical stream of a whole guest in its blank form: its image, inside a libxl stream exactly where the
 /// guest has a part of an emulator. After `WriteFailed` some first bytes of it are appended, but not all. Takes no memory.
-#[tactic(auto, unfolding(crate::specs::Canon::canon_any))]
+#[tactic(auto, using(mig_bytes::proofs::Texts::puts_then, mig_bytes::proofs::Texts::puts_stop, mig_bytes::proofs::Texts::puts_same, crate::proofs::Around::canon_any_is))]
 pub fn write_any<K: Sink>(sink: &mut K, guest: &Guest) -> Result<(), WriteFailed>
     requires { IsWhole guest.now }
     ensures bytes { Puts (canon_any guest.now) (K.written sink.old) (K.written sink.new) result }
     ensures cause { HasCause (K.faults sink.old) (K.faults sink.new) result }
 {
-    if has_emulators(guest) {
-        write_wrapped(sink, guest)
-    } else {
-        write_canon(sink, guest)
-    }
+    write_opening(sink, guest)?;
+    write_canon(sink, guest)?;
+    write_closing(sink, guest)
 }

@@ -10,7 +10,7 @@ use Rattle.mig_texts.specs.LegacyTexts.{text_of_legacy_place, text_of_legacy_cau
 use Rattle.mig_texts.specs.Texts.{text_of_place, text_of_cause}
 use Rattle.mig_texts.specs.UnsoundTexts.{text_of_unsound}
 use Rattle.mig_report.specs.declared.outcome.Refusal.{Refusal}
-use Rattle.mig_report.specs.declared.outcome.Refusal.TheVariants.{Stream, Legacy, Image, NotBuilt, BadLine, TooLong, Pause}
+use Rattle.mig_report.specs.declared.outcome.Refusal.TheVariants.{Stream, Legacy, Image, BadLine, TooLong, Pause}
 use Rattle.mig_report.specs.declared.outcome.SaveSummary.{SaveSummary}
 use Rattle.mig_report.specs.declared.outcome.Summary.{Summary}
 
@@ -19,7 +19,6 @@ abbrev pub refusal_text : Refusal → List ℕ
 refusal_text (Stream place cause) = text_of_place place ++ (codes ": " ++ text_of_cause cause)
 refusal_text (Legacy place cause) = text_of_legacy_place place ++ (codes ": " ++ text_of_legacy_cause cause)
 refusal_text (Image place cause) = text_of_image_place place ++ (codes ": " ++ text_of_image_cause cause)
-refusal_text (NotBuilt what) = codes "Head: 0 NotBuilt " ++ decimal what
 refusal_text (BadLine line) = (codes "Script " ++ decimal line) ++ codes ": 1 BadLine"
 refusal_text TooLong = codes "Script: 2 TooLong"
 refusal_text (Pause unsound) = codes "Pause: " ++ text_of_unsound unsound

@@ -23,8 +23,6 @@ pub enum Refusal {
     Legacy(LegacyPlace, LegacyCause),
     /// Of the image of a host.
     Image(ImagePlace, ImageCause),
-    /// Of a host that can't be saved yet: 2, one with a part of an emulator.
-    NotBuilt(u64),
     /// This line of a script, counted from 1, is the first that is none.
     BadLine(u64),
     /// A script has too many bytes.
@@ -156,7 +154,6 @@ fn put_place_and_cause<R: Sink>(report: &mut R, refusal: Refusal) -> Result<(), 
         Refusal::Stream(place, cause) => put_stream_refusal(report, place, cause),
         Refusal::Legacy(place, cause) => put_legacy_refusal(report, place, cause),
         Refusal::Image(place, cause) => put_image_refusal(report, place, cause),
-        Refusal::NotBuilt(what) => put_field(report, b"Head: 0 NotBuilt ", what),
         Refusal::BadLine(line) => put_bad_line(report, line),
         Refusal::TooLong => put_all(report, b"Script: 2 TooLong"),
         Refusal::Pause(unsound) => put_pause_refusal(report, unsound),

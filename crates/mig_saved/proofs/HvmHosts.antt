@@ -4,12 +4,9 @@ use Rattle.std.specs.Cmp.{nat_cmp_total}
 use Rattle.std.specs.FinMap.{nat_cmp-IsAntisymmetric}
 use Rattle.mig_headers.specs.declared.kind.Kind.TheVariants.{Hvm}
 use Rattle.mig_pagetypes.specs.PageTypes.{level_of}
-use Rattle.mig_guest.proofs.PartOrder.{part_exact, part_total}
-use Rattle.mig_guest.specs.Formed.{HasNoEmulators}
 use Rattle.mig_guest.specs.Frames.{FrameOf, is_type_of}
 use Rattle.mig_guest.specs.Hosts.{HostOf, HostFrame, IsValid}
-use Rattle.mig_pvtables.proofs.EachValue.{from_each, same_each}
-use Rattle.mig_hosted.specs.Normalised.{part_seen}
+use Rattle.mig_pvtables.proofs.EachValue.{same_each}
 use Rattle.mig_hosted.specs.View.{hvm_view, without_machine}
 use Rattle.mig_machine_api.specs.Footprints.{footprint_of, names_in, table_in}
 use Rattle.mig_rounds.specs.Forms.{form_page, form_of_print}
@@ -23,6 +20,3 @@ module _ (h : HostOf) (valid : IsValid h) (hvm : h.kind ≡ Hvm) where
   pub forms_are : forms h.frames ≡ (hvm_view h).frames
   forms_are = same_each nat_cmp_total nat_cmp-IsAntisymmetric (λ _ frame. form_of_print (footprint_of h.frames frame)) (λ _ frame. without_machine frame) h.frames (λ pfn frame is.
       plain frame (no_level frame.type (subst (λ k. is_type_of k frame.type ≡ true) hvm (valid.frames pfn frame is).type)))
-
-  pub view_plain : HasNoEmulators h.parts → HasNoEmulators (hvm_view h).parts
-  view_plain none key bytes is = let (x, was, _) = from_each part_total part_exact part_seen h.parts key bytes is in none key x was

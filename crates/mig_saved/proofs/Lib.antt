@@ -4,4 +4,3 @@ mod Reframed
 mod PvHosts
 mod HvmHosts
 pub mod Viewed
-pub mod Written

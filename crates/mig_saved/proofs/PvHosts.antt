@@ -23,14 +23,15 @@ use Rattle.mig_pvtables.specs.VcpuContexts.{is_used_somewhere, field_value, fram
 use Rattle.mig_pvtables.specs.Whole.{IsWhole}
 use Rattle.mig_pvtables.specs.WholePv.{AreP2mFrames, IsCompletePv}
 use Rattle.mig_pvtables.proofs.BlankShape.{table_unlisted, entries_back, type_there, frame_there}
-use Rattle.mig_pvtables.proofs.EachValue.{from_each, to_each, len_each, each_each, same_each, stays_each}
+use Rattle.mig_pvtables.proofs.EachValue.{to_each, len_each, each_each, same_each, stays_each}
 use Rattle.mig_pvtables.proofs.PvGuests.{pv_complete}
 use Rattle.mig_pvtables.proofs.SameShape.{kept_p2m}
-use Rattle.mig_hosted.specs.Localised.{renamed, renamed_frame, renamed_part}
+use Rattle.mig_hosted.specs.Localised.{renamed, renamed_frame}
 use Rattle.mig_hosted.specs.Normalised.{normalised_of}
 use Rattle.mig_hosted.specs.Sound.{IsSound}
 use Rattle.mig_hosted.specs.View.{view, guest_in, top_of, without_machine}
 use Rattle.mig_hosted.proofs.ViewedGuests.{viewed_whole, viewed_blank}
+use Rattle.mig_libxl.proofs.Canon.{pv_plain}
 use Rattle.mig_machine_api.specs.Footprints.{footprint_of}
 use Rattle.mig_rounds.specs.Forms.{form_of_print}
 use Rattle.mig_rounds.specs.Live.{forms}
@@ -71,20 +72,16 @@ module _ (h : HostOf) where
   there : (n : ℕ) → is_some (maps.get pv_sent.frames n) ≡ is_some (maps.get pv_view.frames n)
   there n = sym (frame_there pv_sent n) ∙ ap (λ (m : FrameMap). is_some (maps.get m n)) same_frames
 
-  -- ---- no emulator part is made
-
-  pub pv_plain : HasNoEmulators h.parts → HasNoEmulators pv_view.parts
-  pv_plain none key bytes is =
-      let (x, was, _) = from_each part_total part_exact blanked_part renamed_host.parts key bytes is in
-      let (y, before, _) = from_each part_total part_exact (renamed_part is_used_somewhere (pfn_in h.frames)) h.parts key x was in
-      none key y before
-
   module _ (valid : IsValid h) (sound : IsSound h) (pv : h.kind ≡ Pv) where
     pub pv_seen : view h ≡ pv_view
     pv_seen = ap (λ k. normalised_of k (pfn_in h.frames) (guest_in h)) pv
 
     whole : IsWhole pv_view
     whole = subst IsWhole pv_seen (viewed_whole h valid sound)
+
+    -- it has no parts of emulators
+    pub plain : HasNoEmulators pv_view.parts
+    plain = pv_plain pv_view whole.formed pv
 
     -- ---- its blank form
 

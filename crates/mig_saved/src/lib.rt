@@ -5,12 +5,12 @@
 //! saver and what it sends (mig_rounds), what a host is seen as (mig_hosted), that frames may come in any records
 //! (mig_canon_laws), and who writes the records around the frames.
 //!
-//! What the layers above rely on: over an honest machine whose host is valid, sound and without emulators in the end, what
-//! `send_frames` wrote, between the other records of the canonical image of the host's view, makes an image whose guest is
-//! this view. Of a PV host the P2M frames are sent as they stand in the machine, and the view is the blank form of what is
-//! sent.
+//! What the layers above rely on: where the host is valid and sound, and the entries sent mean its frames, the records sent,
+//! between the other records of the canonical image of the host's view, make an image whose guest is this view without the
+//! parts of emulators, which stand around an image. Of a PV host the P2M frames are sent as they stand in the machine, and
+//! the view is the blank form of what is sent.
 #![tactic(auto)]
 
 mod law;
 
-pub use law::{saved_frames_make_an_image, saved_host_is_viewed};
+pub use law::saved_host_is_viewed;

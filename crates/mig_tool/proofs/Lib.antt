@@ -1,6 +1,5 @@
 pub mod Common
 pub mod SaveInputs
-pub mod EmulatorParts
 pub mod Reporting
 pub mod Saving
 pub mod Lives

@@ -1,5 +1,5 @@
 -- A machine that was saved, and what was written of it.
-use Rattle.mig_tool.proofs.Common.{◌≡◌, ℕ, ◌++◌, List, [], length, Option, Some, None, Result, Err, refl, sym, ap, subst, ◌∙◌, arith, Kind}
+use Rattle.mig_tool.proofs.Common.{◌≡◌, ℕ, ◌++◌, List, [], length, Option, Some, None, Result, Err, refl, sym, ap, subst, ◌∙◌, arith}
 use Rattle.mig_report.specs.declared.outcome.Refusal.TheVariants as refusals
 use mathlib.Core.Logic.{inl}
 use Rattle.std.specs.Prelude.{◌≤◌, ◌∷◌, map}
@@ -11,6 +11,7 @@ use Rattle.mig_canon.specs.Canon.{headers, text_of}
 use Rattle.mig_pagesink.specs.Told.{telling_record}
 use Rattle.mig_hosted.specs.Sound.{unsoundness}
 use Rattle.mig_hosted.specs.View.{view}
+use Rattle.mig_libxl.specs.Canon.{wrapper_opening, wrapper_closing}
 use Rattle.mig_libxl.specs.Spelled.{AcceptedStream}
 use Rattle.mig_machine_api.specs.Rounds.{all_read}
 use Rattle.mig_rounds.specs.Live.{StaysSame}
@@ -57,7 +58,9 @@ wrote_live first now old new s none later stays w sound (others, begins) number 
         before = w.before;
         batches = w.batches;
         behind = w.behind;
-        is = w.is ∙ ap (λ (k : Kind). headers k ++ text_of (w.before ++ (map telling_record w.batches ++ (w.behind ++ (0, []) ∷ [])))) stays.shape.kind;
+        image = w.image;
+        image_is = w.image_is ∙ ap (λ (h : HostOf). headers h.kind ++ text_of (w.before ++ (map telling_record w.batches ++ (w.behind ++ (0, []) ∷ [])))) at;
+        is = w.is ∙ ap (λ (h : HostOf). wrapper_opening h.parts ++ (w.image ++ wrapper_closing h.parts)) at;
         others = w.others;
         order = w.order;
       };

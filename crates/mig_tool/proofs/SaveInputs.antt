@@ -13,13 +13,10 @@ use Rattle.mig_script.specs.Scripts.{IsBadLine}
 use Rattle.mig_script.proofs.OneScript.{never_both}
 use Rattle.mig_tool.specs.Answers.{IsOfInput}
 use Rattle.mig_tool.specs.Answers.Form.{ImageAndScript}
-use Rattle.mig_tool.specs.LiveSaves.{CanBeSaved, IsNotBuilt, HasHostAndScript, HasUnsoundPause}
+use Rattle.mig_tool.specs.LiveSaves.{HasHostAndScript, HasUnsoundPause}
 
 abbrev HostJudged : Type 0
 HostJudged = Judged (ImagePlace × ImageCause) HostOf
-
-same_host : (input : List ℕ) (g h : HostOf) (s t : List ℕ) → host_at input ≡ Passes g s → host_at input ≡ Passes h t → g ≡ h
-same_host input g h s t p q = let e : ◌≡◌ {A = HostJudged} (Passes g s) (Passes h t) = sym p ∙ q in cc
 
 same_text : (input : List ℕ) (g h : HostOf) (s t : List ℕ) → host_at input ≡ Passes g s → host_at input ≡ Passes h t → s ≡ t
 same_text input g h s t p q = let e : ◌≡◌ {A = HostJudged} (Passes g s) (Passes h t) = sym p ∙ q in cc
@@ -27,18 +24,13 @@ same_text input g h s t p q = let e : ◌≡◌ {A = HostJudged} (Passes g s) (P
 no_fault : (input : List ℕ) (h : HostOf) (t rest : List ℕ) (fault : ImagePlace × ImageCause) → host_at input ≡ Passes h t → host_at input ≡ Faulty fault rest → ⊥
 no_fault input h t rest fault p q = let e : ◌≡◌ {A = HostJudged} (Passes h t) (Faulty fault rest) = sym p ∙ q in cc
 
-built : (what : ℕ) (host : HostOf) → CanBeSaved host → IsNotBuilt what host → ⊥
-built what host can (e, there) = let no = can.plain there.key there.bytes there.there in let yes = there.is in cc
-
 pub not_refused : (input : List ℕ) (host : HostOf) (lines : List LineOf) (refusal : Refusal) (rest : List ℕ) → HasHostAndScript input host lines → RefusedIn ImageAndScript input refusal rest → IsOfInput refusal → ⊥
-not_refused input host lines (refusals.Image place cause) rest h refused it = no_fault input host h.text rest (place, cause) h.is.image refused
-not_refused input host lines (refusals.NotBuilt what) rest h (other, image, why) it =
-    built what host h.is.can (subst (IsNotBuilt what) (same_host input other host rest h.text image h.is.image) why)
+not_refused input host lines (refusals.Image place cause) rest h refused it = no_fault input host h.text rest (place, cause) h.image refused
 not_refused input host lines (refusals.BadLine line) rest h (bad, is) it =
-    let same = same_text input bad.host host bad.text h.text bad.is.image h.is.image in
+    let same = same_text input bad.host host bad.text h.text bad.image h.image in
     never_both h.text lines line h.script (subst (λ t. IsBadLine t line) same bad.bad)
 not_refused input host lines refusals.TooLong rest h long it =
-    let same = same_text input long.host host long.text h.text long.is.image h.is.image in
+    let same = same_text input long.host host long.text h.text long.image h.image in
     let n : length long.text ≡ length h.text = ap (λ (t : List ℕ). length t) same in
     let many = long.many in
     let few = h.few in
@@ -50,7 +42,6 @@ not_refused input host lines _ rest h refused it = refused
 pub paused : (input : List ℕ) (host : HostOf) (lines : List LineOf) (refusal : Refusal) (rest : List ℕ) → HasHostAndScript input host lines → RefusedIn ImageAndScript input refusal rest → (unsound : Unsound) × HasUnsoundPause input unsound
 paused input host lines (refusals.Pause unsound) rest h (pause, is) = (unsound, pause)
 paused input host lines (refusals.Image place cause) rest h refused = absurd (not_refused input host lines (refusals.Image place cause) rest h refused tt)
-paused input host lines (refusals.NotBuilt what) rest h refused = absurd (not_refused input host lines (refusals.NotBuilt what) rest h refused tt)
 paused input host lines (refusals.BadLine line) rest h refused = absurd (not_refused input host lines (refusals.BadLine line) rest h refused tt)
 paused input host lines refusals.TooLong rest h refused = absurd (not_refused input host lines refusals.TooLong rest h refused tt)
 paused input host lines _ rest h refused = absurd refused

@@ -31,8 +31,8 @@ use Rattle.mig_report.specs.declared.status.Status.{Status}
 use Rattle.mig_report.specs.declared.status.Status.TheVariants as statuses
 use Rattle.mig_tool.specs.Answers.{NamesRefusal, RefusesPause}
 use Rattle.mig_tool.specs.Answers.Form.{ImageAndScript}
-use Rattle.mig_tool.specs.LiveSaves.{HasHostAndText, HasHostAndScript, WroteLive}
-use Rattle.mig_tool.specs.SaveSteps.{StopsAt, IsNotBuiltAs, ReadsHostToSave, ReadsHostAndScript, stop_of_script, ComesToNone}
+use Rattle.mig_tool.specs.LiveSaves.{HasHostAndScript, WroteLive}
+use Rattle.mig_tool.specs.SaveSteps.{StopsAt, ReadsHostToSave, ReadsHostAndScript, stop_of_script, outcome_of_stop, ComesToNone}
 use Rattle.mig_tool.specs.declared.save.HostAndScript.{HostAndScript}
 
 -- ---- nothing was written
@@ -51,17 +51,22 @@ unwritten old = bare_headers old old Hvm (0, omega (arith, headers_len), appends
 
 -- ---- why no host and script were read
 
-not_built : (input rest : List ℕ) (left : Option (List ℕ)) (host : HostOf) (refusal : Refusal) → host_at input ≡ Passes host rest → left ≡ Some rest → IsNotBuiltAs host refusal → StopsAt input left (stops.Refused refusal)
-not_built input rest left host (refusals.NotBuilt what) image is why = (rest, (host, image, why), tt, is)
-not_built input rest left host _ image is why = absurd why
+stop_comes : (input : List ℕ) (left : Option (List ℕ)) (w : Written) (stop : Stop Refusal) → StopsAt input left stop → Comes Save input left w (outcome_of_stop stop)
+stop_comes input left w (stops.Refused refusal) (rest, refused, it, is) = (rest, refused, is)
+stop_comes input left w stops.ReadFault h = tt
+stop_comes input left w stops.Memory h = tt
 
-pub not_built_read : (told left : Option (List ℕ)) (host : HostAndSpare) (refusal : Refusal) → ReadsHost told left (Ok host) → IsNotBuiltAs host.host refusal → ReadsHostToSave told left (Err (stops.Refused refusal))
-not_built_read None left host refusal h why = tt
-not_built_read (Some input) left host refusal (judged, rest, image, is, same) why = not_built input rest left host.host refusal (image ∙ ap (λ (j : HostOf). Passes j rest) (sym same)) is why
+pub stopped_comes : (told left : Option (List ℕ)) (w : Written) (stop : Stop Refusal) (outcome : Outcome) → ReadsHostAndScript told left (Err stop) → outcome ≡ outcome_of_stop stop → ComesOf Save told left w outcome
+stopped_comes None left w stop outcome h is = tt
+stopped_comes (Some input) left w stop outcome h is = subst (Comes Save input left w) (sym is) (stop_comes input left w stop h)
 
-bad_script : (input text : List ℕ) (left : Option (List ℕ)) (host : HostOf) (answer : ScriptAnswer) → HasHostAndText input host text → ReadsScript (Some text) left (Err answer) → StopsAt input left (stop_of_script answer)
-bad_script input text left host (scripts.BadLine line) has (is, few, bad) = ([], (record { host = host; text = text; is = has; few = few; bad = bad }, refl), tt, is)
-bad_script input text left host scripts.TooLong has (many, is) = (drop (most_script_bytes + 1) text, record { host = host; text = text; is = has; many = many; left = refl }, tt, is)
+pub host_read : (told left : Option (List ℕ)) (host : HostAndSpare) → ReadsHost told left (Ok host) → ReadsHostToSave told left (Ok host)
+host_read None left host h = tt
+host_read (Some input) left host (judged, rest, image, is, same) = (rest, image ∙ ap (λ (j : HostOf). Passes j rest) (sym same), is)
+
+bad_script : (input text : List ℕ) (left : Option (List ℕ)) (host : HostOf) (answer : ScriptAnswer) → host_at input ≡ Passes host text → ReadsScript (Some text) left (Err answer) → StopsAt input left (stop_of_script answer)
+bad_script input text left host (scripts.BadLine line) has (is, few, bad) = ([], (record { host = host; text = text; image = has; few = few; bad = bad }, refl), tt, is)
+bad_script input text left host scripts.TooLong has (many, is) = (drop (most_script_bytes + 1) text, record { host = host; text = text; image = has; many = many; left = refl }, tt, is)
 bad_script input text left host scripts.ReadFault has h = tt
 bad_script input text left host scripts.Memory has h = tt
 

@@ -32,7 +32,7 @@ use Rattle.mig_report.specs.declared.status.Status.TheVariants as statuses
 use Rattle.mig_report.specs.Report.{Reports, refusal_line, usage_line, read_fault_line, write_fault_line, memory_line, ok_line, saved_line}
 use Rattle.mig_script.specs.ScriptLines.{LineOf}
 use Rattle.mig_unended.specs.Unread.{WroteNoStream}
-use Rattle.mig_tool.specs.LiveSaves.{IsNotBuilt, HasHostAndScript, HasBadLine, HasLongScript, HasUnsoundPause, WroteLive}
+use Rattle.mig_tool.specs.LiveSaves.{HasHostAndScript, HasBadLine, HasLongScript, HasUnsoundPause, WroteLive}
 
 -- ---- the forms of input
 
@@ -61,7 +61,6 @@ abbrev pub RefusedIn : Form → List ℕ → Refusal → List ℕ → Type 0
 RefusedIn Modern input (refusals.Stream place cause) rest = IsStreamRefused input place cause rest
 RefusedIn Legacy input (refusals.Legacy place cause) rest = IsLegacyRefused input place cause rest
 RefusedIn ImageAndScript input (refusals.Image place cause) rest = host_at input ≡ Faulty (place, cause) rest
-RefusedIn ImageAndScript input (refusals.NotBuilt what) rest = (host : HostOf) × (host_at input ≡ Passes host rest) × IsNotBuilt what host
 RefusedIn ImageAndScript input (refusals.BadLine line) rest = HasBadLine input line × (rest ≡ [])
 RefusedIn ImageAndScript input refusals.TooLong rest = HasLongScript input rest
 RefusedIn ImageAndScript input (refusals.Pause unsound) rest = HasUnsoundPause input unsound × (rest ≡ [])

@@ -1,20 +1,16 @@
 -- A host that is saved live: what it is read from, when it isn't saved, and what is written of it.
-use Rattle.std.specs.Prelude.{◌≡◌, ◌<◌, ◌≤◌, ◌+◌, ℕ, true, List, [], ◌∷◌, ◌++◌, length, map, drop, Option, Some, None}
+use Rattle.std.specs.Prelude.{◌≡◌, ◌<◌, ◌≤◌, ◌+◌, ℕ, List, [], ◌∷◌, ◌++◌, length, map, drop, Option, Some, None}
 use Rattle.std.specs.List.{AllByRecursion, range_with_len}
-use Rattle.std.specs.FinMap as maps
 use Rattle.std.specs.Io.KnownBytes.{Appends}
 use Rattle.mig_bytes.specs.Judged.Judged.{Passes}
-use Rattle.mig_headers.specs.declared.kind.Kind.{Kind}
 use Rattle.mig_headers.specs.declared.unsound.Unsound.{Unsound}
-use Rattle.mig_guest.specs.declared.part_key.PartKey.{PartKey}
-use Rattle.mig_guest.specs.Formed.{HasNoEmulators, is_emulator_code}
 use Rattle.mig_guest.specs.Hosts.{HostOf}
-use Rattle.mig_guest.specs.Parts.{PartMap}
 use Rattle.mig_canon.specs.Canon.{Record, headers, text_of}
 use Rattle.mig_pagesink.specs.Told.{FrameTold, telling_record, all_told}
 use Rattle.mig_hosted.specs.Sound.{unsoundness}
 use Rattle.mig_hosted.specs.View.{view}
 use Rattle.mig_image.specs.ImageParts.{host_at}
+use Rattle.mig_libxl.specs.Canon.{wrapper_opening, wrapper_closing}
 use Rattle.mig_libxl.specs.Spelled.{AcceptedStream}
 use Rattle.mig_rounds.specs.Entries.{pfns_sent}
 use Rattle.mig_dirtysave.specs.SaveAnswers.{IsOtherRecord}
@@ -26,30 +22,10 @@ use Rattle.mig_report.specs.declared.outcome.SaveSummary.{SaveSummary}
 
 -- ---- what is read
 
--- what can be saved so far: a host without parts of emulators
-pub record CanBeSaved (host : HostOf) : Type 0 where
-  pub plain : HasNoEmulators host.parts
-
--- a part of an emulator is there
-pub record HasEmulators (parts : PartMap) : Type 0 where
-  pub key : PartKey
-  pub bytes : List ℕ
-  pub there : maps.get parts key ≡ Some bytes
-  pub is : is_emulator_code key.code ≡ true
-
--- why a host can't be saved yet: 2, a part of an emulator is there
-abbrev pub IsNotBuilt : ℕ → HostOf → Type 0
-IsNotBuilt what host = (what ≡ 2) × HasEmulators host.parts
-
--- the input begins with the image of a host that can be saved, and this text is what follows
-pub record HasHostAndText (input : List ℕ) (host : HostOf) (text : List ℕ) : Type 0 where
-  pub image : host_at input ≡ Passes host text
-  pub can : CanBeSaved host
-
--- and what follows is a script of these lines, which isn't too long
+-- the input begins with the image of a host, and what follows is a script of these lines, which isn't too long
 pub record HasHostAndScript (input : List ℕ) (host : HostOf) (lines : List LineOf) : Type 0 where
   pub text : List ℕ
-  pub is : HasHostAndText input host text
+  pub image : host_at input ≡ Passes host text
   pub few : length text ≤ most_script_bytes
   pub script : IsScript text lines
 
@@ -63,7 +39,7 @@ paused_host host lines calls = after host (ran lines calls)
 pub record HasBadLine (input : List ℕ) (line : ℕ) : Type 0 where
   pub host : HostOf
   pub text : List ℕ
-  pub is : HasHostAndText input host text
+  pub image : host_at input ≡ Passes host text
   pub few : length text ≤ most_script_bytes
   pub bad : IsBadLine text line
 
@@ -71,7 +47,7 @@ pub record HasBadLine (input : List ℕ) (line : ℕ) : Type 0 where
 pub record HasLongScript (input rest : List ℕ) : Type 0 where
   pub host : HostOf
   pub text : List ℕ
-  pub is : HasHostAndText input host text
+  pub image : host_at input ≡ Passes host text
   pub many : most_script_bytes < length text
   pub left : rest ≡ drop (most_script_bytes + 1) text
 
@@ -85,12 +61,15 @@ pub record HasUnsoundPause (input : List ℕ) (unsound : Unsound) : Type 0 where
 
 -- ---- what is written
 
--- an image of a guest of this kind, whose PAGE_DATA records have entries of these frame numbers, in this order
-pub record TellsPfns (kind : Kind) (text pfns : List ℕ) : Type 0 where
+-- an image whose PAGE_DATA records have entries of these frame numbers, in this order, inside a libxl stream where the host
+-- has parts of emulators
+pub record TellsPfns (host : HostOf) (text pfns : List ℕ) : Type 0 where
   pub before : List Record
   pub batches : List (List FrameTold)
   pub behind : List Record
-  pub is : text ≡ headers kind ++ text_of (before ++ (map telling_record batches ++ (behind ++ (0, []) ∷ [])))
+  pub image : List ℕ
+  pub image_is : image ≡ headers host.kind ++ text_of (before ++ (map telling_record batches ++ (behind ++ (0, []) ∷ [])))
+  pub is : text ≡ wrapper_opening host.parts ++ (image ++ wrapper_closing host.parts)
   pub others : AllByRecursion IsOtherRecord (before ++ behind)
   pub order : pfns_sent (all_told batches) ≡ pfns
 
@@ -104,7 +83,7 @@ pub record WroteLive (host : HostOf) (lines : List LineOf) (old new : Option (Li
   pub wrote : Appends old new text
   pub means : (rest : List ℕ) → AcceptedStream (text ++ rest) (view (paused_host host lines calls)) rest
   pub pfns : List ℕ
-  pub entries : TellsPfns host.kind text pfns
+  pub entries : TellsPfns (paused_host host lines calls) text pfns
   pub others : List ℕ
   pub first : pfns ≡ range_with_len 0 host.width ++ others
   pub counted : summary.entries ≡ length pfns

@@ -8,6 +8,8 @@ use Rattle.mig_headers.specs.declared.image_fault.ImageCause.{ImageCause}
 use Rattle.mig_headers.specs.declared.image_fault.ImagePlace.{ImagePlace}
 use Rattle.mig_guest.specs.Hosts.{HostOf}
 use Rattle.mig_host.specs.HostView.{HostAndSpare}
+use Rattle.mig_bytes.specs.Judged.Judged.{Passes}
+use Rattle.mig_image.specs.ImageParts.{host_at}
 use Rattle.mig_hosted.specs.Sound.{unsoundness}
 use Rattle.mig_report.specs.declared.outcome.Outcome.{Outcome}
 use Rattle.mig_report.specs.declared.outcome.Outcome.TheVariants as outcomes
@@ -18,7 +20,7 @@ use Rattle.mig_script.specs.declared.script.ScriptAnswer.{ScriptAnswer}
 use Rattle.mig_script.specs.declared.script.ScriptAnswer.TheVariants as scripts
 use Rattle.mig_tool.specs.Answers.{RefusedIn, IsOfInput}
 use Rattle.mig_tool.specs.Answers.Form.{ImageAndScript}
-use Rattle.mig_tool.specs.LiveSaves.{IsNotBuilt, HasHostAndText, HasHostAndScript, paused_host}
+use Rattle.mig_tool.specs.LiveSaves.{HasHostAndScript, paused_host}
 use Rattle.mig_tool.specs.declared.save.HostAndScript.{HostAndScript}
 
 abbrev pub stop_of_image : Answer ImagePlace ImageCause → Stop Refusal
@@ -32,11 +34,6 @@ stop_of_script scripts.TooLong = stops.Refused refusals.TooLong
 stop_of_script scripts.ReadFault = stops.ReadFault
 stop_of_script scripts.Memory = stops.Memory
 
--- it says why the host can't be saved yet
-abbrev pub IsNotBuiltAs : HostOf → Refusal → Type 0
-IsNotBuiltAs host (refusals.NotBuilt what) = IsNotBuilt what host
-IsNotBuiltAs host _ = ⊥
-
 -- the input is refused, by itself, and so much of it is left
 abbrev pub StopsAt : List ℕ → Option (List ℕ) → Stop Refusal → Type 0
 StopsAt input left (stops.Refused refusal) = (rest : List ℕ) × RefusedIn ImageAndScript input refusal rest × IsOfInput refusal × (left ≡ Some rest)
@@ -46,7 +43,7 @@ StopsAt input left stops.Memory = ⊤
 -- the host of the input, and what is left behind its image; or why it isn't read
 abbrev pub ReadsHostToSave : Option (List ℕ) → Option (List ℕ) → Result HostAndSpare (Stop Refusal) → Type 0
 ReadsHostToSave None left result = ⊤
-ReadsHostToSave (Some input) left (Ok host) = (text : List ℕ) × HasHostAndText input host.host text × (left ≡ Some text)
+ReadsHostToSave (Some input) left (Ok host) = (text : List ℕ) × (host_at input ≡ Passes host.host text) × (left ≡ Some text)
 ReadsHostToSave (Some input) left (Err stop) = StopsAt input left stop
 
 -- the host and the script of the input, of which nothing is left; or why they aren't read

@@ -1,9 +1,8 @@
-ghost use Rattle.std.specs.Prelude.{◌≡◌, ◌≢◌, ◌≤◌, ◌⊎◌, ℕ, List, IfOk, IfErr, OnOk, OnErr, IsErrOf, IfNone, IfSome, true, false};
+ghost use Rattle.std.specs.Prelude.{◌≡◌, ◌≢◌, ◌≤◌, ◌⊎◌, ℕ, List, IfOk, IfErr, OnOk, OnErr, IsErrOf};
 ghost use Rattle.std.specs.Io.KnownBytes.{Appends};
 ghost use Rattle.mig_bytes.specs.Bytes.{AppendsPart};
 ghost use Rattle.mig_bytes.specs.Faults.{Rose, RisesOnReadFault};
 ghost use Rattle.mig_headers.specs.declared.unsound.Unsound.{Unsound};
-ghost use Rattle.mig_guest.specs.Formed.{HasNoEmulators};
 ghost use Rattle.mig_dirtysave.specs.declared.answer.SaveAnswer.TheVariants as answers;
 ghost use Rattle.mig_report.specs.Report.{Reports, saved_line};
 ghost use Rattle.mig_report.specs.declared.command.Command.TheVariants as commands;
@@ -12,8 +11,8 @@ ghost use Rattle.mig_report.specs.declared.outcome.Refusal.TheVariants as refusa
 ghost use Rattle.mig_report.specs.declared.status.Status.TheVariants as statuses;
 ghost use Rattle.mig_unended.specs.Unread.{WroteNoStream};
 ghost use Rattle.mig_tool.specs.Answers.{form_of, SaysOf, InputRises, IsLine, HasOwnLine, PutsOwnLine, RefusesPause, BreaksOff};
-ghost use Rattle.mig_tool.specs.LiveSaves.{CanBeSaved, HasEmulators, WroteLive};
-ghost use Rattle.mig_tool.specs.SaveSteps.{IsNotBuiltAs, ReadsHostToSave, ReadsHostAndScript, stop_of_image, stop_of_script, outcome_of_stop, ComesToNone};
+ghost use Rattle.mig_tool.specs.LiveSaves.{WroteLive};
+ghost use Rattle.mig_tool.specs.SaveSteps.{ReadsHostToSave, ReadsHostAndScript, stop_of_image, stop_of_script, outcome_of_stop, ComesToNone};
 
 use mig_bytes::{Sink, Source, Stop};
 use mig_dirtysave::{SaveAnswer, Saver};
@@ -30,11 +29,6 @@ struct HostAndScript {
     host: Host,
     script: Script,
 }
-
-/// The numbers of the parts of emulators.
-const EMULATOR_PAIRS: u32 = 258;
-
-const EMULATOR_CONTEXT: u32 = 259;
 
 /// Why the image of a host isn't read.
 fn image_stop(answer: ImageAnswer) -> Stop<Refusal>
@@ -59,52 +53,19 @@ fn script_stop(answer: ScriptAnswer) -> Stop<Refusal>
     }
 }
 
-/// Whether the host has a part of an emulator.
-fn has_emulators(host: &Host) -> bool
-    ensures some { result ≡ true → HasEmulators host.now.host.parts }
-    ensures none { result ≡ false → HasNoEmulators host.now.host.parts }
-{
-    let mut after = None;
-    while let Some(key) = host.next_part(after) {
-        if key.code == EMULATOR_PAIRS || key.code == EMULATOR_CONTEXT {
-            return true;
-        }
-        after = Some(key);
-    }
-    false
-}
-
-/// Why the host can't be saved yet.
-fn not_built(host: &Host) -> Option<Refusal>
-    ensures some { IfSome result (IsNotBuiltAs host.now.host) }
-    ensures none { IfNone result (CanBeSaved host.now.host) }
-{
-    if has_emulators(host) {
-        Some(Refusal::NotBuilt(2))
-    } else {
-        None
-    }
-}
-
-/// Reads the image of a host that can be saved, and leaves unread what follows it.
+/// Reads the image of a host, and leaves unread what follows it.
 fn host_to_save<S: Source>(alloc: Global, input: &mut S) -> Result<Host, Stop<Refusal>>
-    ensures can { IfOk result (λ host. CanBeSaved host.host) }
     ensures read { ReadsHostToSave (S.left input.old) (S.left input.new) result }
     ensures faults { RisesOnReadFault (S.faults input.old) (S.faults input.new) result }
 {
-    let host = match read_host(alloc, input) {
-        Ok(host) => host,
-        Err(answer) => return Err(image_stop(answer)),
-    };
-    match not_built(&host) {
-        Some(refusal) => Err(Stop::Refused(refusal)),
-        None => Ok(host),
+    match read_host(alloc, input) {
+        Ok(host) => Ok(host),
+        Err(answer) => Err(image_stop(answer)),
     }
 }
 
-/// Reads the image of a host that can be saved, and a script to the end of the input.
+/// Reads the image of a host, and a script to the end of the input.
 fn host_and_script<S: Source>(alloc: Global, input: &mut S) -> Result<HostAndScript, Stop<Refusal>>
-    ensures can { IfOk result (λ read. CanBeSaved read.host.host) }
     ensures read { ReadsHostAndScript (S.left input.old) (S.left input.new) result }
     ensures faults { RisesOnReadFault (S.faults input.old) (S.faults input.new) result }
 {
@@ -145,7 +106,6 @@ fn save_live<K: Sink>(
     read: HostAndScript,
     out: &mut K,
 ) -> Result<SaveSummary, Outcome>
-    requires { CanBeSaved read.host.host }
     ensures wrote { IfOk result (WroteLive read.host.host (read.script) (K.written out.old) (K.written out.new)) }
     ensures none { IfErr result (ComesToNone read.host.host (read.script)) }
     ensures no_stream { OnErr result (WroteNoStream (K.written out.old) (K.written out.new)) }

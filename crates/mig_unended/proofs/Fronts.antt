@@ -3,7 +3,8 @@ use Rattle.std.proofs.Common.{◌≡◌, ◌≢◌, ℕ, ◌+◌, List, [], ◌�
 use Rattle.std.proofs.lemmas.List.{length-take, length-drop, drop-append-le}
 use Rattle.std.proofs.Math.Seq.{take-append_seam, drop-append_seam}
 use Rattle.std.proofs.lemmas.Grind.{common_steps}
-use Rattle.std.specs.List.{list_any}
+use Rattle.std.specs.List.{AllByRecursion, list_any}
+use Rattle.std.proofs.lemmas.Bool.{eqb-false, or_parts}
 use Rattle.byteorder.specs.Endian.{little_number}
 use Rattle.byteorder.specs.Numbers.{little_from-append}
 use Rattle.mig_bytes.specs.Bytes.{padding_len}
@@ -94,3 +95,31 @@ no_end_in_front (t ∷ ts) texts rest (r ∷ rs) all part are ended whole none p
     let other : (t == 0) ≡ false = is_zero t (λ e. none.0 (sym same.same_type ∙ e)) in
     let goes_on : list_any (λ t. t == 0) ts ≡ true = rw other at ended in
     no_end_in_front ts are.2 rest rs whole.1 part are.5 goes_on whole.4 none.1 p same.same_rest
+
+-- ---- END for the first time
+
+-- none of them is END's
+abbrev pub HaveNoZero : List ℕ → Type 0
+HaveNoZero ts = AllByRecursion (λ (t : ℕ). t ≢ 0) ts
+
+pub no_zero : (ts : List ℕ) → list_any (λ t. t == 0) ts ≡ false → HaveNoZero ts
+no_zero [] none = tt
+no_zero (t ∷ ts) none = let (first, others) = or_parts (t == 0) (list_any (λ t. t == 0) ts) none in (λ e. eqb-false t 0 first e, no_zero ts others)
+
+-- records up to their first END, told in two ways, end at one place
+pub ends_together : (ts : List ℕ) (texts last rest : List ℕ) (rs : List Record) (all that after body that_body : List ℕ) → AreTyped ts texts → HaveNoZero ts → IsRecord 0 body last
+    → AreRecords rs all → HaveNoEnd rs → IsRecord 0 that_body that → texts ++ (last ++ rest) ≡ all ++ (that ++ after) → rest ≡ after
+ends_together [] texts last rest [] all that after body that_body are none is whole plain is_that same =
+    (same_record 0 0 body that_body last that rest after is is_that (ap (λ l. l ++ (last ++ rest)) (sym are) ∙ same ∙ ap (λ l. l ++ (that ++ after)) whole)).same_rest
+ends_together [] texts last rest (r ∷ rs) all that after body that_body are none is whole plain is_that same =
+    let one = same_record 0 r.0 body r.1 last whole.0 rest (whole.1 ++ (that ++ after)) is whole.3
+    (ap (λ l. l ++ (last ++ rest)) (sym are) ∙ same ∙ ap (λ l. l ++ (that ++ after)) whole.2 ∙ append_assoc whole.0 whole.1 (that ++ after)) in
+    absurd (plain.0 (sym one.same_type))
+ends_together (t ∷ ts) texts last rest [] all that after body that_body are none is whole plain is_that same =
+    let one = same_record t 0 are.0 that_body are.1 that (are.2 ++ (last ++ rest)) after are.4 is_that
+    (sym (append_assoc are.1 are.2 (last ++ rest)) ∙ ap (λ l. l ++ (last ++ rest)) (sym are.3) ∙ same ∙ ap (λ l. l ++ (that ++ after)) whole) in
+    absurd (none.0 one.same_type)
+ends_together (t ∷ ts) texts last rest (r ∷ rs) all that after body that_body are none is whole plain is_that same =
+    let one = same_record t r.0 are.0 r.1 are.1 whole.0 (are.2 ++ (last ++ rest)) (whole.1 ++ (that ++ after)) are.4 whole.3
+    (sym (append_assoc are.1 are.2 (last ++ rest)) ∙ ap (λ l. l ++ (last ++ rest)) (sym are.3) ∙ same ∙ ap (λ l. l ++ (that ++ after)) whole.2 ∙ append_assoc whole.0 whole.1 (that ++ after)) in
+    ends_together ts are.2 last rest rs whole.1 that after body that_body are.5 none.1 is whole.4 plain.1 is_that one.same_rest

@@ -12,7 +12,6 @@ use Rattle.mig_headers.specs.Headers.{marker, libxl_ident}
 use Rattle.mig_records.specs.Records.{IsRecord}
 use Rattle.mig_restore.specs.Spelled.{IsImage}
 use Rattle.mig_restore.specs.Stream.{ImageOf}
-use Rattle.mig_restore.proofs.Converse.{one_image}
 use Rattle.mig_emulators.specs.Content.{LibxlRecord}
 use Rattle.mig_libxl.specs.Among.{is_libxl_ended, image_in, image_among}
 use Rattle.mig_libxl.specs.Spelled.{IsLibxlRecord, FollowsLibxl, IsWrapped, IsStream}
@@ -23,7 +22,7 @@ use Rattle.mig_libxl.proofs.Bodies.{has_no_image}
 use Rattle.mig_unended.specs.Unended.{IsUnendedImage, IsUnclosedImage, IsCutLibxl, IsUnended}
 use Rattle.mig_unended.specs.Unread.{HasNoStream}
 use Rattle.mig_unended.proofs.Fronts.{AreTyped, typed_more, no_end_in_front, same_cut, same_record, record_len}
-use Rattle.mig_unended.proofs.Images.{first_number, image_len, image_marked, no_image, longer}
+use Rattle.mig_unended.proofs.Images.{first_number, image_len, image_marked, no_image, longer, same_behind}
 
 -- ---- one record of a libxl stream
 
@@ -104,8 +103,7 @@ ended_behind : (inside more rest : List ℕ) (i : ImageOf) (others : List LibxlR
     → IsUnclosedImage inside → ⊥
 ended_behind inside more rest i others im typed ended u =
     let c = u.cut_off in
-    let same = one_image inside i.opening u.image.opening i.records u.image.records (more ++ rest) u.behind im u.is_image in
-    no_end_in_front (libxl_types others) more rest c.records c.texts c.part typed (sym (ended_types others) ∙ ended) c.are c.no_end c.cut (same.2 ∙ c.whole)
+    no_end_in_front (libxl_types others) more rest c.records c.texts c.part typed (sym (ended_types others) ∙ ended) c.are c.no_end c.cut (same_behind inside i.opening i.records (more ++ rest) im u ∙ c.whole)
 
 -- the first record, and those behind it that end
 ended_first : (first : LibxlRecord) (others : List LibxlRecord) (text more rest context inside : List ℕ) → IsLibxlRecord first text → (first.type ≡ 1 → AreTyped (libxl_types others) more)

@@ -17,8 +17,8 @@ use Rattle.mig_pagesink.specs.Written.{IsShortRecord, AreRecordsWithin, WroteAll
 use Rattle.mig_pagesink.proofs.Written.{none_of_next}
 use Rattle.mig_libxl.specs.Canon.{opening_text}
 use Rattle.mig_unended.specs.Unended.{AreRecords, HaveNoEnd, AreCutOff, IsUnendedImage, IsUnclosedImage, IsUnended}
-use Rattle.mig_unended.specs.Unread.{HasNoStream, WroteNoStream, ImageWritten}
-use Rattle.mig_unended.proofs.Images.{first_number, longer}
+use Rattle.mig_unended.specs.Unread.{HasNoStream, WroteNoStream, EndedImage}
+use Rattle.mig_unended.proofs.Images.{first_number}
 use Rattle.mig_unended.proofs.Libxl.{unended_has_no_stream}
 
 -- ---- canonical records are records
@@ -146,14 +146,28 @@ wrapped_some start wrapped opened now legacy kind rs o h p =
     inside_it start wrapped now legacy (headers kind ++ some_text opened now rs p) o (Appends-trans wrapped opened now _ _ h p.appended)
     (inl (headers_then kind (some_text opened now rs p) (cut_off opened now rs p)))
 
-pub wrapped_behind : (start wrapped closed now : Option (List ℕ)) (legacy : Bool) (rs : List Record) → Appends start wrapped (opening_text legacy) → ImageWritten wrapped closed → WroteSome closed now rs → WroteNoStream start now
+pub wrapped_behind : (start wrapped closed now : Option (List ℕ)) (legacy : Bool) (rs : List Record) → Appends start wrapped (opening_text legacy) → EndedImage wrapped closed → WroteSome closed now rs → WroteNoStream start now
 wrapped_behind start wrapped closed now legacy rs o i p =
-    let rest : List ℕ = some_text closed now rs p in
-    inside_it start wrapped now legacy (i.text ++ rest) o (Appends-trans wrapped closed now _ _ i.appended p.appended)
-    (inr (record { image = i.image; behind = rest; is_image = longer i.text i.image.opening i.image.records [] i.is_image rest; cut_off = cut_off closed now rs p }))
+    let texts : List ℕ = text_of i.records in
+    let behind : List ℕ = some_text closed now rs p in
+    let a = Appends-trans wrapped i.opened now _ _ i.heads (Appends-trans i.opened i.ended now _ _ i.wrote.appended (Appends-trans i.ended closed now _ _ i.last p.appended)) in
+    inside_it start wrapped now legacy (headers i.kind ++ (texts ++ (spelled 0 [] ++ behind))) o a
+    (inr (record {
+      headers = headers i.kind;
+      records = i.records;
+      texts = texts;
+      last = spelled 0 [];
+      behind = behind;
+      whole = refl {a = headers i.kind ++ (texts ++ (spelled 0 [] ++ behind))};
+      size = headers_len i.kind;
+      are = text_are i.records i.wrote.within;
+      no_end = no_ends i.records i.wrote.within;
+      is_end = short_record (0, []) (record { type = omega arith; len = omega arith });
+      cut_off = cut_off closed now rs p;
+    }))
 
 pub wrapped_all : (start wrapped opened now : Option (List ℕ)) (legacy : Bool) (kind : Kind) (rs : List Record) → Appends start wrapped (opening_text legacy) → Appends wrapped opened (headers kind) → WroteAll opened now rs → WroteNoStream start now
 wrapped_all start wrapped opened now legacy kind rs o h w = wrapped_some start wrapped opened now legacy kind rs o h (none_of_next opened now rs w)
 
-pub wrapped_all_behind : (start wrapped closed now : Option (List ℕ)) (legacy : Bool) (rs : List Record) → Appends start wrapped (opening_text legacy) → ImageWritten wrapped closed → WroteAll closed now rs → WroteNoStream start now
+pub wrapped_all_behind : (start wrapped closed now : Option (List ℕ)) (legacy : Bool) (rs : List Record) → Appends start wrapped (opening_text legacy) → EndedImage wrapped closed → WroteAll closed now rs → WroteNoStream start now
 wrapped_all_behind start wrapped closed now legacy rs o i w = wrapped_behind start wrapped closed now legacy rs o i (none_of_next closed now rs w)

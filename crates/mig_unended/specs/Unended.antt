@@ -6,8 +6,6 @@ use Rattle.mig_bytes.specs.Fields.{be64}
 use Rattle.mig_headers.specs.Headers.{marker, IsLibxlHeader}
 use Rattle.mig_records.specs.Records.{IsRecord}
 use Rattle.mig_canon.specs.Canon.{Record}
-use Rattle.mig_restore.specs.Spelled.{IsImage}
-use Rattle.mig_restore.specs.Stream.{ImageOf}
 
 -- ---- records that are cut off
 
@@ -61,15 +59,22 @@ pub record IsUnendedBare (bytes : List ℕ) : Type 0 where
 
 -- ---- a libxl stream
 
--- a whole image, and records behind it that are cut off
+-- headers of an image, records up to its END, and records behind it that are cut off
 pub record IsUnclosedImage (bytes : List ℕ) : Type 0 where
-  pub image : ImageOf
+  pub headers : List ℕ
+  pub records : List Record
+  pub texts : List ℕ
+  pub last : List ℕ
   pub behind : List ℕ
-  pub is_image : IsImage bytes image.opening image.records behind
+  pub whole : bytes ≡ headers ++ (texts ++ (last ++ behind))
+  pub size : length headers ≡ 40
+  pub are : AreRecords records texts
+  pub no_end : HaveNoEnd records
+  pub is_end : IsRecord 0 [] last
   pub cut_off : AreCutOff behind
 
--- the header, LIBXC_CONTEXT right behind it, and an image without its END, or a whole one with records behind it that are
--- cut off
+-- the header, LIBXC_CONTEXT right behind it, and an image without its END, or one that is ended, with records behind it
+-- that are cut off
 pub record IsCutLibxl (bytes : List ℕ) : Type 0 where
   pub header : List ℕ
   pub legacy : Bool

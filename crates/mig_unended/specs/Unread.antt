@@ -2,8 +2,10 @@
 use Rattle.std.specs.Prelude.{◌≡◌, ℕ, List, [], ◌++◌, Option, Some, None, ⊤}
 use Rattle.std.specs.Io.KnownBytes.{Appends}
 use Rattle.mig_guest.specs.Guests.{GuestOf}
-use Rattle.mig_restore.specs.Spelled.{IsImage}
-use Rattle.mig_restore.specs.Stream.{ImageOf}
+use Rattle.mig_headers.specs.declared.kind.Kind.{Kind}
+use Rattle.mig_records.specs.Records.{spelled}
+use Rattle.mig_canon.specs.Canon.{Record, headers}
+use Rattle.mig_pagesink.specs.Written.{WroteAll}
 use Rattle.mig_libxl.specs.Spelled.{AcceptedStream}
 
 -- the bytes are no accepted stream, and begin with none
@@ -16,9 +18,12 @@ WroteNoStream None now = ⊤
 WroteNoStream (Some before) None = ⊤
 WroteNoStream (Some before) (Some now) = (text : List ℕ) → now ≡ before ++ text → HasNoStream text
 
--- a whole image was written since the start
-pub record ImageWritten (start now : Option (List ℕ)) : Type 0 where
-  pub text : List ℕ
-  pub image : ImageOf
-  pub is_image : IsImage text image.opening image.records []
-  pub appended : Appends start now text
+-- the headers of an image, records and END were written since the start
+pub record EndedImage (start now : Option (List ℕ)) : Type 0 where
+  pub kind : Kind
+  pub opened : Option (List ℕ)
+  pub ended : Option (List ℕ)
+  pub records : List Record
+  pub heads : Appends start opened (headers kind)
+  pub wrote : WroteAll opened ended records
+  pub last : Appends ended now (spelled 0 [])

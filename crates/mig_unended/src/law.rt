@@ -7,7 +7,7 @@ ghost use Rattle.mig_canon.specs.Canon.{Record, headers};
 ghost use Rattle.mig_pagesink.specs.Written.{WroteAll, WroteSome};
 ghost use Rattle.mig_libxl.specs.Canon.{opening_text};
 ghost use Rattle.mig_unended.specs.Unended.{IsUnended};
-ghost use Rattle.mig_unended.specs.Unread.{HasNoStream, WroteNoStream, ImageWritten};
+ghost use Rattle.mig_unended.specs.Unread.{HasNoStream, WroteNoStream, EndedImage};
 
 /// Bytes of a stream whose outermost END isn't whole are no accepted stream, and begin with none.
 pub fn unended_has_no_stream()
@@ -30,9 +30,9 @@ pub fn unended_wrapped_image_is_no_stream()
     ensures some { (start wrapped opened now : Option (List ℕ)) (legacy : Bool) (kind : Kind) (rs : List Record) → Appends start wrapped (opening_text legacy) → Appends wrapped opened (headers kind) → WroteSome opened now rs → WroteNoStream start now }
 {}
 
-/// A whole image inside a libxl stream that isn't ended: no front of what was written is an accepted stream, however many
-/// records stand behind the image, and with a part of one more, END too.
+/// An image that is ended, inside a libxl stream that isn't: no front of what was written is an accepted stream, however
+/// many records stand behind the image, and with a part of one more, END too. The image need not be accepted itself.
 pub fn unended_libxl_stream_is_no_stream()
-    ensures all { (start wrapped closed now : Option (List ℕ)) (legacy : Bool) (rs : List Record) → Appends start wrapped (opening_text legacy) → ImageWritten wrapped closed → WroteAll closed now rs → WroteNoStream start now }
-    ensures some { (start wrapped closed now : Option (List ℕ)) (legacy : Bool) (rs : List Record) → Appends start wrapped (opening_text legacy) → ImageWritten wrapped closed → WroteSome closed now rs → WroteNoStream start now }
+    ensures all { (start wrapped closed now : Option (List ℕ)) (legacy : Bool) (rs : List Record) → Appends start wrapped (opening_text legacy) → EndedImage wrapped closed → WroteAll closed now rs → WroteNoStream start now }
+    ensures some { (start wrapped closed now : Option (List ℕ)) (legacy : Bool) (rs : List Record) → Appends start wrapped (opening_text legacy) → EndedImage wrapped closed → WroteSome closed now rs → WroteNoStream start now }
 {}

@@ -1,7 +1,9 @@
-use Rattle.std.proofs.Common.{refl, sym, subst, ◌∙◌}
+use Rattle.std.proofs.Common.{refl, sym, ap, subst, ◌∙◌}
+use Rattle.std.specs.FinMap as maps
+use Rattle.mig_guest.specs.Guests.{GuestOf}
 use Rattle.mig_guest.specs.Formed.{IsFormed}
 use Rattle.mig_dirtysave.specs.Saver.{is_setting}
-use Rattle.mig_dirtysave.proofs.Codes.{kept_formed, no_pv}
+use Rattle.mig_dirtysave.proofs.Codes.{emulators_kept, kept_formed, no_pv}
 use Rattle.mig_dirtysave.proofs.Rows.{hvm_judged, no_table_fault}
 use Rattle.mig_dirtysave.proofs.Streams.{hvm_closes}
 use Rattle.mig_dirtysave.proofs.Texts.{nothing_stops}
@@ -31,3 +33,13 @@ pub returns-in-Ok-write_last-clause-sound : goal.returns-in-Ok-write_last-clause
 returns-in-Ok-write_last-clause-sound g c =
     let h = (g.M.Machine.state c.args.machine.now).host in
     hvm_judged h c.requires.valid c.requires.hvm c.args.tables (no_table_fault h c.requires.valid c.requires.hvm c.args.tables c.requires.named) ∙ sym c.in-Ok.ensures.first
+
+pub returns-in-Ok-write_last-clause-formed : goal.returns-in-Ok-write_last-clause-formed
+returns-in-Ok-write_last-clause-formed g c =
+    let h = (g.M.Machine.state c.args.machine.now).host in
+    subst IsFormed (sym c.refresh.ensures) (kept_formed h c.requires.valid is_setting refl (no_pv h is_setting c.requires.hvm))
+
+pub returns-in-Ok-write_last-clause-emulators : goal.returns-in-Ok-write_last-clause-emulators
+returns-in-Ok-write_last-clause-emulators g c =
+    let h = (g.M.Machine.state c.args.machine.now).host in
+    λ key code. emulators_kept h.parts key code ∙ ap (λ (k : GuestOf). maps.get k.parts key) (sym c.refresh.ensures)

@@ -1,3 +1,8 @@
+use Rattle.std.proofs.Common.{sym, ap, ◌∙◌}
+use Rattle.std.specs.FinMap as maps
+use Rattle.mig_guest.specs.Guests.{GuestOf}
+use Rattle.mig_hosted.specs.View.{view}
+use Rattle.mig_dirtysave.proofs.Codes.{emulators_kept, emulators_seen}
 use Rattle.mig_dirtysave.proofs.Looked.{min_reaches, types_below}
 use Rattle.mig_dirtysave.proofs.Streams.{pv_closes}
 use Rattle.mig_dirtysave.proofs.Texts.{nothing_stops, on_err}
@@ -14,3 +19,8 @@ returns-in_err-settle-clause-stops g c = on_err _ c.from_residual.result (nothin
 pub returns-in-Ok-clause-closed : goal.returns-in-Ok-clause-closed
 returns-in-Ok-clause-closed g c =
     pv_closes (g.M.Machine.state c.args.machine.now).host c.requires.pv c.settle.new.settings _ _ c.in_ok-settle.ensures.formed c.in_ok-settle.ensures.seen c.in-Ok.ensures.closed
+
+pub returns-in-Ok-clause-emulators : goal.returns-in-Ok-clause-emulators
+returns-in-Ok-clause-emulators g c =
+    let h = (g.M.Machine.state c.args.machine.now).host in
+    λ key code. sym (emulators_seen h key code) ∙ emulators_kept (view h).parts key code ∙ ap (λ (k : GuestOf). maps.get k.parts key) (sym c.in_ok-settle.ensures.seen)

@@ -1,14 +1,13 @@
 use Rattle.std.proofs.Common.{◌≡◌}
-use Rattle.mig_guest.specs.PartCodes.{is_fixed}
-use Rattle.mig_dirtysave.specs.Saver.{is_setting, parts_alone}
+use Rattle.mig_dirtysave.specs.Saver.{is_early, is_setting, parts_alone}
 use Rattle.mig_dirtysave.proofs.Walks.{remaining, Copied}
 use Rattle.mig_dirtysave.proofs.prepare.copy_parts.Given as goal
 
 abbrev pub invariant-loop-key : goal.invariant-loop-key
 invariant-loop-key g l = record {
-  fixed : l.fixed ≡ parts_alone (g.M.Machine.state l.machine).host.kind (g.M.Machine.state l.machine).host.width l.fixed.parts;
+  early : l.early ≡ parts_alone (g.M.Machine.state l.machine).host.kind (g.M.Machine.state l.machine).host.width l.early.parts;
   settings : l.settings ≡ parts_alone (g.M.Machine.state l.machine).host.kind (g.M.Machine.state l.machine).host.width l.settings.parts;
-  kept : Copied is_fixed (g.M.Machine.state l.machine).host.parts l.after l.fixed.parts;
+  kept : Copied is_early (g.M.Machine.state l.machine).host.parts l.after l.early.parts;
   changing : Copied is_setting (g.M.Machine.state l.machine).host.parts l.after l.settings.parts;
 }
 

@@ -5,8 +5,8 @@ use Rattle.mig_dirtysave.proofs.write.write_policies.Goals as goal
 pub returns-in_err-write_codes-clause-bytes : goal.returns-in_err-write_codes-clause-bytes
 returns-in_err-write_codes-clause-bytes g c =
     let r = c.from_residual.result in
-    puts_same _ _ _ _ r (codes_text static_codes c.args.fixed.now 0x10) (puts_stop _ _ _ _ _ _ r c.from_residual.ensures.1 c.in_err-write_codes.ensures.bytes)
+    puts_same _ _ _ _ r (codes_text static_codes c.args.early.now 0x10) (puts_stop _ _ _ _ _ _ r c.from_residual.ensures.1 c.in_err-write_codes.ensures.bytes)
 
 pub returns-clause-bytes : goal.returns-clause-bytes
 returns-clause-bytes g c =
-    let r = c.write_record.result in puts_same _ _ _ _ r (codes_text static_codes c.args.fixed.now 0x10) (puts_then _ _ _ _ _ r c.in_ok-write_codes.ensures.bytes c.write_record.ensures.bytes)
+    let r = c.write_record.result in puts_same _ _ _ _ r (codes_text static_codes c.args.early.now 0x10) (puts_then _ _ _ _ _ r c.in_ok-write_codes.ensures.bytes c.write_record.ensures.bytes)

@@ -2,8 +2,5 @@ use Rattle.mig_report.proofs.Common.{ap, puts_same}
 use Rattle.mig_report.specs.Report.{refusal_text}
 use Rattle.mig_report.proofs.outcome.put_place_and_cause.Goals as goal
 
-pub returns-in-NotBuilt-clause-bytes : goal.returns-in-NotBuilt-clause-bytes
-returns-in-NotBuilt-clause-bytes g c = puts_same _ _ _ _ c.put_field.result (ap refusal_text c.in-NotBuilt.is) c.put_field.ensures.bytes
-
 pub returns-in-TooLong-clause-bytes : goal.returns-in-TooLong-clause-bytes
 returns-in-TooLong-clause-bytes g c = puts_same _ _ _ _ c.put_all.result (ap refusal_text c.in-TooLong.is) c.put_all.ensures.bytes

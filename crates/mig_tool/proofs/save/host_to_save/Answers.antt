@@ -1,5 +1,5 @@
-use Rattle.mig_tool.proofs.Saving.{not_built_read}
+use Rattle.mig_tool.proofs.Saving.{host_read}
 use Rattle.mig_tool.proofs.save.host_to_save.Goals as goal
 
-pub returns-in-Some-clause-read : goal.returns-in-Some-clause-read
-returns-in-Some-clause-read g c = not_built_read _ _ c.in-Ok.host c.in-Some.refusal c.in-Ok.ensures.read c.in-Some.ensures.some
+pub returns-in-Ok-clause-read : goal.returns-in-Ok-clause-read
+returns-in-Ok-clause-read g c = host_read _ _ c.in-Ok.host c.in-Ok.ensures.read

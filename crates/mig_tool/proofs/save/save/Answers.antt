@@ -1,8 +1,14 @@
 use Rattle.mig_tool.proofs.Common.{sym, subst, SaysOf, Save, Written}
 use mathlib.Core.Logic.{inr}
 use Rattle.mig_tool.proofs.Reporting.{says_of, line_reported}
-use Rattle.mig_tool.proofs.Saving.{unwritten, unsaved_comes, refuses_pause, saved_said}
+use Rattle.mig_tool.proofs.Saving.{stopped_comes, unwritten, unsaved_comes, refuses_pause, saved_said}
 use Rattle.mig_tool.proofs.save.save.Goals as goal
+
+pub returns-in-Err-clause-said : goal.returns-in-Err-clause-said
+returns-in-Err-clause-said g c =
+    let w : Written = record { out_old = g.K.Sink.written c.args.out.now; out_new = g.K.Sink.written c.args.out.now; report_old = g.R.Sink.written c.args.report.now; report_new = g.R.Sink.written c.finish.new.report } in
+    subst (SaysOf Save (g.S.Source.left c.args.input.now) (g.S.Source.left c.host_and_script.new.input) w) (sym c.finish.ensures.status)
+    (says_of Save (g.S.Source.left c.args.input.now) (g.S.Source.left c.host_and_script.new.input) w c.stopped.result (stopped_comes _ _ w c.in-Err.stop c.stopped.result c.in-Err.ensures.read c.stopped.ensures))
 
 pub returns-in-Err-clause-no_stream : goal.returns-in-Err-clause-no_stream
 returns-in-Err-clause-no_stream g c = λ _. unwritten _

@@ -1,5 +1,4 @@
-use Rattle.mig_tool.proofs.Common.{◌≡◌, List, sym, subst, rules}
-use Rattle.mig_guest.specs.Formed.{HasNoEmulators}
+use Rattle.mig_tool.proofs.Common.{◌≡◌, List, subst, rules}
 use Rattle.mig_guest.specs.Hosts.{HostOf}
 use Rattle.mig_script.specs.ScriptLines.{LineOf}
 use Rattle.mig_machine.specs.MachineSeen.{history_of, machine_state}
@@ -16,14 +15,8 @@ use Rattle.mig_tool.proofs.save.save_live.Goals as goal
 pub returns-in_default-clause-no_stream : goal.returns-in_default-clause-no_stream
 returns-in_default-clause-no_stream g c = unwritten _
 
-pub prepare-requires : goal.prepare-requires
-prepare-requires g c = record { plain = subst (λ (h : HostOf). HasNoEmulators h.parts) (sym c.in-Ok.ensures.host) c.requires.plain }
-
 pub returns-in_default-prepare-clause-no_stream : goal.returns-in_default-prepare-clause-no_stream
 returns-in_default-prepare-clause-no_stream g c = unwritten _
-
-pub run-requires-clause-plain : goal.run-requires-clause-plain
-run-requires-clause-plain g c = subst (λ (h : HostOf). HasNoEmulators h.parts) (sym c.in-Ok.ensures.host) c.requires.plain
 
 pub returns-in-Ok-run-clause-wrote : goal.returns-in-Ok-run-clause-wrote
 returns-in-Ok-run-clause-wrote g c =
