@@ -10,3 +10,4 @@ pub mod NamedAnew
 pub mod SeenContexts
 pub mod Savers
 pub mod WorkedUserRoot
+pub mod WorkedDescriptors

@@ -5,3 +5,4 @@ pub mod Standing
 pub mod Unsoundness
 pub mod FirstRow
 pub mod WorkedUserRoot
+pub mod WorkedDescriptors

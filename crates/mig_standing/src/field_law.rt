@@ -1,8 +1,10 @@
-ghost use Rattle.std.specs.Prelude.{◌≡◌, ◌≤◌, ◌<◌, ◌*◌, ◌^◌, ℕ, List, length, Option, Some, true, false};
+ghost use Rattle.std.specs.Prelude.{◌≡◌, ◌≤◌, ◌<◌, ◌^◌, ℕ, List, [], ◌∷◌, length, Option, Some, true, false};
+ghost use Rattle.std.specs.List.{range_with_len};
 ghost use Rattle.std.specs.FinMap as maps;
 ghost use Rattle.mig_bytes.specs.Bytes.{AreBytes};
 ghost use Rattle.mig_headers.specs.declared.kind.Kind.TheVariants.{Pv};
 ghost use Rattle.mig_guest.specs.declared.part_key.PartKey.{PartKey};
+ghost use Rattle.mig_guest.specs.Formed.{gdt_ents};
 ghost use Rattle.mig_guest.specs.Hosts.{HostOf, IsValid, pfn_in};
 ghost use Rattle.mig_guest.specs.Longs.{long_at};
 ghost use Rattle.mig_pvtables.specs.VcpuContexts.{field_at, frame_of_field, is_used, is_used_somewhere};
@@ -11,6 +13,7 @@ ghost use Rattle.mig_hosted.specs.Sound.{IsSound};
 ghost use Rattle.mig_hosted.specs.View.{view};
 ghost use Rattle.mig_standing.specs.Fields.{Field, field_row, IsField, IsNumbered, field_numbered, said_by, with_frame_in};
 ghost use Rattle.mig_standing.specs.NamedAnew.{AreNamesSmall, SaysAnew, IsSeenAs};
+ghost use Rattle.mig_standing.specs.WorkedDescriptors.{descriptors_context, AreUsedFor};
 ghost use Rattle.mig_standing.specs.WorkedUserRoot.{user_root_seen};
 
 /// A value that says a frame says it, and is in blank form; one that a stream uses has as its blank form the value that
@@ -70,4 +73,17 @@ pub fn worked_user_root()
     ensures frame { frame_of_field 18 0x138e000 ≡ 5006 }
     ensures host { (id ents : ℕ) → (is_used_somewhere id ents 18 0x138e000 ≡ true) × (is_used_somewhere id ents 18 0 ≡ false) }
     ensures stream { (id ents : ℕ) → (is_used id ents 18 0x138e000 ≡ false) × (is_used id ents 18 0x138e001 ≡ true) }
+{}
+
+/// A frame of the GDT holds 512 descriptors. A context that counts none of them, at byte 4960, uses none of the GDT's frames;
+/// one that counts 1 or 512 the first, field 1; one that counts 513 fields 1 and 2; and one that counts 7168, the most that
+/// there are, 14 frames: in a stream and in a host, and whatever vCPU it is.
+#[tactic(auto, using(crate::proofs::WorkedDescriptors::are_counted, crate::proofs::WorkedDescriptors::for_none, crate::proofs::WorkedDescriptors::for_one, crate::proofs::WorkedDescriptors::for_one_frame, crate::proofs::WorkedDescriptors::for_one_more, crate::proofs::WorkedDescriptors::for_most))]
+pub fn worked_descriptors()
+    ensures counted { (n : ℕ) → n < 2 ^ 64 → gdt_ents (descriptors_context n) ≡ n }
+    ensures none { AreUsedFor 0 [] }
+    ensures one { AreUsedFor 1 (1 ∷ []) }
+    ensures one_frame { AreUsedFor 512 (1 ∷ []) }
+    ensures one_more { AreUsedFor 513 (1 ∷ 2 ∷ []) }
+    ensures most { AreUsedFor 7168 (range_with_len 1 14) }
 {}

@@ -14,7 +14,7 @@ mod standing_law;
 
 pub use field_law::{
     context_is_seen, field_keeps_what_is_put, fields_have_numbers, fields_say_values,
-    renamed_context_says_names, worked_user_root,
+    renamed_context_says_names, worked_descriptors, worked_user_root,
 };
 pub use saver_law::saver_finds_unsoundness;
 pub use standing_law::{
