@@ -11,3 +11,5 @@ pub mod SeenContexts
 pub mod Savers
 pub mod WorkedUserRoot
 pub mod WorkedDescriptors
+pub mod WorkedEntries
+pub mod ListedNumbers
