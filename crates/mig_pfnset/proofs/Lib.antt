@@ -1,0 +1,5 @@
+pub mod Sizes
+pub mod Counts
+pub mod Scans
+pub mod Changed
+pub mod Fills
