@@ -20,7 +20,7 @@ use Rattle.mig_pagesink.specs.Batches.{IsBehind}
 use Rattle.mig_pagesink.proofs.Written.{all_behind, some_behind}
 use Rattle.mig_machine_api.specs.History.{History, no_history}
 use Rattle.mig_machine_api.specs.MachineStates.{MachineState}
-use Rattle.mig_rounds.specs.Flags.{total}
+use Rattle.mig_rounds.specs.Parts.{total}
 use Rattle.mig_rounds.specs.Live.{FramesSaved}
 use Rattle.mig_rounds.proofs.Saves.{size_none}
 use Rattle.mig_saved.specs.Around.{text_before}

@@ -18,7 +18,7 @@ use Rattle.mig_machine_api.specs.History.{History}
 use Rattle.mig_machine_api.specs.MachineStates.{MachineState}
 use Rattle.mig_machine_api.specs.Pfns.{Pfns, members, size}
 use Rattle.mig_machine_api.specs.Rounds.{Rounds, Tight, all_read, rounds_read}
-use Rattle.mig_rounds.specs.Flags.{total, total_taken}
+use Rattle.mig_rounds.specs.Parts.{total, total_taken}
 use Rattle.mig_rounds.specs.Live.{IsTight, type_in}
 use Rattle.mig_pause.specs.Paused.{OnlyLooksUp, HasTypes}
 use Rattle.mig_headers.specs.declared.unsound.Unsound.{Unsound}

@@ -6,7 +6,7 @@ ghost use Rattle.mig_machine_api.specs.Rounds.{all_read};
 ghost use Rattle.mig_standing.specs.Standing.{is_of_no_type};
 ghost use Rattle.mig_standing.specs.Unsoundness.{UnsoundHas};
 ghost use Rattle.mig_unended.specs.Unread.{WroteNoStream};
-ghost use Rattle.mig_rounds.specs.Flags.{total};
+ghost use Rattle.mig_rounds.specs.Parts.{total};
 ghost use Rattle.mig_rounds.specs.Live.{StaysSame, HasRounds, IsTight};
 ghost use Rattle.mig_dirtysave.specs.Saver.{IsFor};
 ghost use Rattle.mig_dirtysave.specs.SaveAnswers.{OnEnd, IfUnsound, IsTrusted, SaveWritten, IsLittleBehind};

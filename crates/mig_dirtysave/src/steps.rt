@@ -8,7 +8,7 @@ ghost use Rattle.mig_guest.specs.Hosts.{IsValid};
 ghost use Rattle.mig_pagesink.specs.Batches.{IsBehind};
 ghost use Rattle.mig_machine_api.specs.History.{no_history};
 ghost use Rattle.mig_machine_api.specs.MachineStates.{IsValidState};
-ghost use Rattle.mig_rounds.specs.Flags.{total};
+ghost use Rattle.mig_rounds.specs.Parts.{total};
 ghost use Rattle.mig_rounds.specs.Live.{StaysSame, HasRounds, IsTight, FramesSaved, SawTypes, AnswersTables, IsUnsound};
 ghost use Rattle.mig_libxl.specs.Canon.{wrapper_opening, wrapper_closing};
 ghost use Rattle.mig_saved.specs.Around.{text_before};

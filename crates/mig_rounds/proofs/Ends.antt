@@ -1,5 +1,5 @@
 -- From the pause to the end, and the start.
-use Rattle.std.proofs.Common.{arith, ◌≡◌, ℕ, zero, suc, ◌+◌, ◌<◌, ◌≤◌, List, [], ◌∷◌, ◌++◌, length, Bool, true, false, cond, Option, Some, None, refl, sym, ap, subst, ◌∙◌, inl, inr, append-nil}
+use Rattle.std.proofs.Common.{arith, ◌≡◌, ℕ, ◌+◌, ◌<◌, ◌≤◌, List, [], ◌∷◌, ◌++◌, length, Bool, true, false, cond, Option, Some, None, refl, sym, ap, subst, ◌∙◌, inl, inr, append-nil}
 use Rattle.std.specs.Prelude.{◌||◌, ◌⊎◌}
 use Rattle.std.specs.Ordering.{nat_cmp}
 use Rattle.std.specs.Option.{option_map}
@@ -22,12 +22,14 @@ use Rattle.mig_machine_api.specs.Rounds.{Rounds, Tight, to_read, rounds_read, al
 use Rattle.mig_rounds.specs.declared.found.Worst.{Worst}
 use Rattle.mig_rounds.specs.Forms.{form_of_print, type_of_print, superpage_slot, lost_slot}
 use Rattle.mig_rounds.specs.Findings.{judged, frame_sent, is_deferred}
-use Rattle.mig_rounds.specs.Flags.{pfns_of_flags, rest, total, total_taken}
+use Rattle.mig_pfnset.specs.Changes.{IsBelow}
+use Rattle.mig_rounds.specs.Parts.{rest, total, total_taken}
 use Rattle.mig_rounds.specs.Entries.{meant}
 use Rattle.mig_rounds.specs.Current.{Notes, no_notes, Current}
 use Rattle.mig_rounds.specs.Sends.{ReadsFront, SendsFront, IsWorst, first_pfn, within_set, super_of, lost_of}
 use Rattle.mig_rounds.specs.Live.{LiveSent, Ended, Saved, SavedSent, forms, type_in, table_fault, worst_fault, tables_unsound}
 use Rattle.mig_rounds.proofs.Firsts.{first_none, first_same, super_is, lost_is, good_when, good_super, good_lost, good_form, no_fault, same_fault}
+use Rattle.mig_rounds.proofs.Parts.{members_below, joined_below}
 use Rattle.mig_rounds.proofs.Steps.{current_on, told_alike}
 use Rattle.mig_rounds.proofs.Saves.{front_all, rest_gone, taken_after, even, no_members, size_none}
 
@@ -52,11 +54,6 @@ neither : (a b : Bool) → (a || b) ≡ false → (a ≡ false) × (b ≡ false)
 neither true b h = (h, absurd (differ (sym h)))
 neither false b h = (refl, h)
 
-is_within : (flags : List Bool) (q : ℕ) → pfns_of_flags flags q ≡ true → q < length flags
-is_within [] q h = absurd (differ h)
-is_within (b ∷ flags) zero h = omega arith
-is_within (b ∷ flags) (suc q) h = omega (arith, is_within flags q h)
-
 -- how many PFNs were read before the last ones
 pub even_last : (s t u : MachineState) (set log : Pfns) (sent : List FrameTold) (notes : Notes) → s.history.since ≡ nothing_asked → Paused s t → LogTaken log t u → LiveSent s set sent notes
     → length sent ≡ total_taken u.host.width u.history.taken
@@ -72,14 +69,20 @@ even_last s t u set log sent notes fresh paused took live =
     )
 
 -- the pause, the last log, and the PFNs that are read after it
-pub record Last (s t u v : MachineState) (set log deferred : Pfns) (both : List Bool) : Type 0 where
+pub record Last (s t u v : MachineState) (set log deferred both : Pfns) : Type 0 where
   pub paused : Paused s t
   pub took : LogTaken log t u
-  pub are : pfns_of_flags both ≡ joined (joined set log) deferred
-  pub wide : length both ≡ s.host.width
-  pub reads : ReadsFront (length both) (pfns_of_flags both) u v
+  pub are : both ≡ joined (joined set log) deferred
+  pub below : IsBelow s.host.width both
+  pub reads : ReadsFront s.host.width both u v
 
-module _ (rounds : ℕ) (s t u v : MachineState) (set log : Pfns) (notes : Notes) (both : List Bool) (ended : Ended rounds s set) (l : Last s t u v set log notes.deferred both) where
+pub both_below : (s t u : MachineState) (set log deferred both : Pfns) → Paused s t → LogTaken log t u → both ≡ joined (joined set log) deferred → IsBelow s.host.width set → IsBelow s.host.width deferred
+    → IsBelow s.host.width both
+both_below s t u set log deferred both paused took are in_set in_deferred =
+    let in_log : IsBelow s.host.width log = let P : ℕ → Type 0 = λ n. IsBelow n log in subst P paused.ran.shape.width took.below in
+    subst (λ (x : Pfns). IsBelow s.host.width x) (sym are) (joined_below s.host.width (joined set log) deferred (joined_below s.host.width set log in_set in_log) in_deferred)
+
+module _ (rounds : ℕ) (s t u v : MachineState) (set log : Pfns) (notes : Notes) (both : Pfns) (ended : Ended rounds s set) (l : Last s t u v set log notes.deferred both) where
   kind : v.host.kind ≡ s.host.kind
   kind = l.reads.shape.kind ∙ l.took.ran.shape.kind ∙ l.paused.ran.shape.kind
 
@@ -99,7 +102,7 @@ module _ (rounds : ℕ) (s t u v : MachineState) (set log : Pfns) (notes : Notes
   asked = ap (λ (h : History). h.since) l.paused.history ∙ ap and_call ended.live.since
 
   read : v.history.since.read ≡ joined (joined (to_read s.host.width s.history.taken) log) notes.deferred
-  read = l.reads.read ∙ front_all both ∙ l.are ∙ ap (λ r. joined (joined r log) notes.deferred) ended.live.unread
+  read = l.reads.read ∙ front_all s.host.width both l.below ∙ l.are ∙ ap (λ r. joined (joined r log) notes.deferred) ended.live.unread
 
   within : (q : ℕ) → joined (to_read s.host.width s.history.taken) log q ≡ true → v.history.since.read q ≡ true
   within q h = ap (λ (r : Pfns). r q) read ∙ ap (λ b. b || notes.deferred q) h
@@ -133,7 +136,7 @@ module _ (rounds : ℕ) (s t u v : MachineState) (set log : Pfns) (notes : Notes
   }
 
   -- how many PFNs were read in all
-  pub counted_last : total v.host.width v.history ≡ total_taken s.host.width s.history.taken + size (length both) (pfns_of_flags both)
+  pub counted_last : total v.host.width v.history ≡ total_taken s.host.width s.history.taken + size v.host.width both
   counted_last =
       ap (λ w. total w v.history) last_width
       ∙ omega (
@@ -141,16 +144,16 @@ module _ (rounds : ℕ) (s t u v : MachineState) (set log : Pfns) (notes : Notes
         ap (total_taken s.host.width) taken,
         ap (λ (a : Since). size s.host.width a.read) asked,
         size_none s.host.width,
-        ap (λ (r : Pfns). size s.host.width r) (l.reads.read ∙ front_all both),
-        ap (λ n. size n (pfns_of_flags both)) l.wide,
+        ap (λ (r : Pfns). size s.host.width r) (l.reads.read ∙ front_all s.host.width both l.below),
       )
+      ∙ ap (λ n. total_taken s.host.width s.history.taken + size n both) (sym last_width)
 
   earlier : rounds_read s.host.width s.history.taken ≡ rounds_read s.host.width v.history.taken
   earlier = sym (ap (rounds_read s.host.width) taken ∙ ap (λ (r : Pfns). rounds_read s.host.width s.history.taken ++ members s.host.width r) (ap (λ (a : Since). a.read) asked)
       ∙ ap (λ l. rounds_read s.host.width s.history.taken ++ l) (no_members s.host.width) ∙ append-nil (rounds_read s.host.width s.history.taken))
 
   module _ (before after : List FrameTold) (now : Notes) (worst : Worst) (sent : LiveSent s set before notes)
-      (sends : SendsFront (length both) (pfns_of_flags both) u v before after notes now) (bad : IsWorst (length both) (pfns_of_flags both) v.host.frames worst) where
+      (sends : SendsFront s.host.width both u v before after notes now) (bad : IsWorst s.host.width both v.host.frames worst) where
     was : v.honest ≡ true → s.honest ≡ true
     was h = sym (l.reads.honest ∙ l.took.ran.honest ∙ l.paused.ran.honest) ∙ h
 
@@ -163,9 +166,9 @@ module _ (rounds : ℕ) (s t u v : MachineState) (set log : Pfns) (notes : Notes
         let calm : t.log q ≡ false = l.took.ran.grown q b in
         (a, l.paused.ran.grown q calm, l.took.ran.quiet live q b ∙ l.paused.ran.quiet (was h) q calm)) (sent.current (was h))
 
-    fewer : v.honest ≡ true → Current (pfns_of_flags both) no_pfns u.host.frames before notes
+    fewer : v.honest ≡ true → Current both no_pfns u.host.frames before notes
     fewer h =
-        current_on (joined set log) (pfns_of_flags both) no_pfns no_pfns notes u.host.frames u.host.frames before
+        current_on (joined set log) both no_pfns no_pfns notes u.host.frames u.host.frames before
         (λ q r c. ((neither (joined set log q) (notes.deferred q) (sym (ap (λ (p : Pfns). p q) l.are) ∙ r)).0, refl, refl)) (current h)
 
     same_host : v.host ≡ u.host
@@ -173,29 +176,29 @@ module _ (rounds : ℕ) (s t u v : MachineState) (set log : Pfns) (notes : Notes
 
     in_the_end : v.honest ≡ true → Current no_pfns no_pfns v.host.frames after now
     in_the_end h =
-        current_on (rest (length both) (pfns_of_flags both)) no_pfns no_pfns no_pfns now v.host.frames v.host.frames after
-        (λ q r c. (ap (λ (x : Pfns). x q) (rest_gone both), refl, refl)) (sends.still last_paused (fewer h))
+        current_on (rest s.host.width both) no_pfns no_pfns no_pfns now v.host.frames v.host.frames after
+        (λ q r c. (ap (λ (x : Pfns). x q) (rest_gone s.host.width both l.below), refl, refl)) (sends.still last_paused (fewer h))
 
     -- what isn't read after the pause a stream can have
     unread_good : v.honest ≡ true → (q : ℕ) → joined set log q ≡ false → notes.deferred q ≡ false → is_deferred (judged (footprint v.host.frames q)) ≡ false
     unread_good h q out calm = ap (λ (x : HostOf). is_deferred (judged (footprint x.frames q))) same_host ∙ sym ((current h).kept q out refl) ∙ calm
 
-    outside_good : v.honest ≡ true → (q : ℕ) → pfns_of_flags both q ≡ false → is_deferred (judged (footprint v.host.frames q)) ≡ false
+    outside_good : v.honest ≡ true → (q : ℕ) → both q ≡ false → is_deferred (judged (footprint v.host.frames q)) ≡ false
     outside_good h q out = let (a, b) = neither (joined set log q) (notes.deferred q) (sym (ap (λ (p : Pfns). p q) l.are) ∙ out) in unread_good h q a b
 
-    inside_good : worst_fault worst ≡ None → (q : ℕ) → pfns_of_flags both q ≡ true → is_deferred (judged (footprint v.host.frames q)) ≡ false
+    inside_good : worst_fault worst ≡ None → (q : ℕ) → both q ≡ true → is_deferred (judged (footprint v.host.frames q)) ≡ false
     inside_good none q inside =
         let f = footprint v.host.frames q in
         let (no_super, no_lost) = no_fault worst.superpage worst.lost none in
-        let less : q < length both = is_within both q inside in
+        let less : q < s.host.width = members_below s.host.width both q l.below inside in
         good_when (judged f)
-        (ap (λ b. cond b (super_of (judged f)) None) (sym inside) ∙ first_none (within_set (pfns_of_flags both) (λ p. super_of (judged (footprint v.host.frames p)))) (length both) (sym bad.superpage ∙ no_super) q less)
-        (ap (λ b. cond b (lost_of (judged f)) None) (sym inside) ∙ first_none (within_set (pfns_of_flags both) (λ p. lost_of (judged (footprint v.host.frames p)))) (length both) (sym bad.lost ∙ no_lost) q less)
+        (ap (λ b. cond b (super_of (judged f)) None) (sym inside) ∙ first_none (within_set both (λ p. super_of (judged (footprint v.host.frames p)))) s.host.width (sym bad.superpage ∙ no_super) q less)
+        (ap (λ b. cond b (lost_of (judged f)) None) (sym inside) ∙ first_none (within_set both (λ p. lost_of (judged (footprint v.host.frames p)))) s.host.width (sym bad.lost ∙ no_lost) q less)
 
     all_good : v.honest ≡ true → worst_fault worst ≡ None → (q : ℕ) → is_deferred (judged (footprint v.host.frames q)) ≡ false
-    all_good h none q = go (pfns_of_flags both q) refl
+    all_good h none q = go (both q) refl
       where
-        go : (b : Bool) → pfns_of_flags both q ≡ b → is_deferred (judged (footprint v.host.frames q)) ≡ false
+        go : (b : Bool) → both q ≡ b → is_deferred (judged (footprint v.host.frames q)) ≡ false
         go true e = inside_good none q e
         go false e = outside_good h q e
 
@@ -216,41 +219,41 @@ module _ (rounds : ℕ) (s t u v : MachineState) (set log : Pfns) (notes : Notes
             let out : joined set log q ≡ false = ap (λ (r : Pfns). joined r log q) ended.live.unread ∙ e in
             ap (λ b. b || notes.deferred q) e ∙ (current h).kept q out refl ∙ ap (λ (x : HostOf). is_deferred (judged (footprint x.frames q))) (sym same_host) ∙ all_good h none q ∙ sym e
 
-    supers : v.honest ≡ true → (q : ℕ) → within_set (pfns_of_flags both) (λ p. super_of (judged (footprint v.host.frames p))) q ≡ superpage_slot (footprint v.host.frames q)
-    supers h q = go (pfns_of_flags both q) refl
+    supers : v.honest ≡ true → (q : ℕ) → within_set both (λ p. super_of (judged (footprint v.host.frames p))) q ≡ superpage_slot (footprint v.host.frames q)
+    supers h q = go (both q) refl
       where
-        go : (b : Bool) → pfns_of_flags both q ≡ b → cond (pfns_of_flags both q) (super_of (judged (footprint v.host.frames q))) None ≡ superpage_slot (footprint v.host.frames q)
+        go : (b : Bool) → both q ≡ b → cond (both q) (super_of (judged (footprint v.host.frames q))) None ≡ superpage_slot (footprint v.host.frames q)
         go true e = let f = footprint v.host.frames q in ap (λ b. cond b (super_of (judged f)) None) e ∙ super_is f
         go false e = let f = footprint v.host.frames q in ap (λ b. cond b (super_of (judged f)) None) e ∙ sym (good_super f (outside_good h q e))
 
-    losts : v.honest ≡ true → (q : ℕ) → superpage_slot (footprint v.host.frames q) ≡ None → within_set (pfns_of_flags both) (λ p. lost_of (judged (footprint v.host.frames p))) q ≡ lost_slot (footprint v.host.frames q)
-    losts h q none = go (pfns_of_flags both q) refl
+    losts : v.honest ≡ true → (q : ℕ) → superpage_slot (footprint v.host.frames q) ≡ None → within_set both (λ p. lost_of (judged (footprint v.host.frames p))) q ≡ lost_slot (footprint v.host.frames q)
+    losts h q none = go (both q) refl
       where
-        go : (b : Bool) → pfns_of_flags both q ≡ b → cond (pfns_of_flags both q) (lost_of (judged (footprint v.host.frames q))) None ≡ lost_slot (footprint v.host.frames q)
+        go : (b : Bool) → both q ≡ b → cond (both q) (lost_of (judged (footprint v.host.frames q))) None ≡ lost_slot (footprint v.host.frames q)
         go true e = let f = footprint v.host.frames q in ap (λ b. cond b (lost_of (judged f)) None) e ∙ lost_is f none
         go false e = let f = footprint v.host.frames q in ap (λ b. cond b (lost_of (judged f)) None) e ∙ sym (good_lost f (outside_good h q e))
 
-    wide_end : length both ≡ v.host.width
-    wide_end = l.wide ∙ sym last_width
+    wide_end : s.host.width ≡ v.host.width
+    wide_end = sym last_width
 
     first : v.honest ≡ true → worst_fault worst ≡ tables_unsound v.host.frames v.host.width
     first h =
         ap (λ x. table_fault x worst.lost) super_row
         ∙ same_fault (first_pfn (λ q. superpage_slot (footprint v.host.frames q)) v.host.width) worst.lost (first_pfn (λ q. lost_slot (footprint v.host.frames q)) v.host.width) (λ none.
-        bad.lost ∙ ap (first_pfn (within_set (pfns_of_flags both) (λ p. lost_of (judged (footprint v.host.frames p))))) wide_end
-        ∙ first_same (within_set (pfns_of_flags both) (λ p. lost_of (judged (footprint v.host.frames p)))) (λ q. lost_slot (footprint v.host.frames q)) v.host.width
+        bad.lost ∙ ap (first_pfn (within_set both (λ p. lost_of (judged (footprint v.host.frames p))))) wide_end
+        ∙ first_same (within_set both (λ p. lost_of (judged (footprint v.host.frames p)))) (λ q. lost_slot (footprint v.host.frames q)) v.host.width
         (λ q less. losts h q (first_none (λ p. superpage_slot (footprint v.host.frames p)) v.host.width none q less)))
       where
         super_row : worst.superpage ≡ first_pfn (λ q. superpage_slot (footprint v.host.frames q)) v.host.width
         super_row =
-            bad.superpage ∙ ap (first_pfn (within_set (pfns_of_flags both) (λ p. super_of (judged (footprint v.host.frames p))))) wide_end
-            ∙ first_same (within_set (pfns_of_flags both) (λ p. super_of (judged (footprint v.host.frames p)))) (λ q. superpage_slot (footprint v.host.frames q)) v.host.width (λ q less. supers h q)
+            bad.superpage ∙ ap (first_pfn (within_set both (λ p. super_of (judged (footprint v.host.frames p))))) wide_end
+            ∙ first_same (within_set both (λ p. super_of (judged (footprint v.host.frames p)))) (λ q. superpage_slot (footprint v.host.frames q)) v.host.width (λ q less. supers h q)
 
     pub saved_sent : SavedSent v after worst now
     unfolding rounds_are
     saved_sent = record {
-      order = sends.names ∙ ap (λ l. l ++ members (length both) (pfns_of_flags both)) (sent.order ∙ earlier) ∙ ap (λ w. rounds_read s.host.width v.history.taken ++ members w (pfns_of_flags both)) l.wide
-          ∙ ap (λ (r : Pfns). rounds_read s.host.width v.history.taken ++ members s.host.width r) (sym (l.reads.read ∙ front_all both)) ∙ ap (λ w. all_read w v.history) (sym last_width);
+      order = sends.names ∙ ap (λ l. l ++ members s.host.width both) (sent.order ∙ earlier)
+          ∙ ap (λ (r : Pfns). rounds_read s.host.width v.history.taken ++ members s.host.width r) (sym (l.reads.read ∙ front_all s.host.width both l.below)) ∙ ap (λ w. all_read w v.history) (sym last_width);
       told = told_alike after (sym l.reads.shape.kind) (sym l.reads.shape.width)
           (sends.told (told_alike before (sym (l.took.ran.shape.kind ∙ l.paused.ran.shape.kind)) (sym (l.took.ran.shape.width ∙ l.paused.ran.shape.width)) sent.told));
       first = first;

@@ -3,6 +3,7 @@ pub mod Tables
 pub mod Peeks
 pub mod Strays
 pub mod Parts
+pub mod Noted
 pub mod Sizes
 pub mod Steps
 pub mod Shapes

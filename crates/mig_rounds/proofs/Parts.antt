@@ -1,28 +1,12 @@
 -- Parts of a set.
-use Rattle.std.proofs.Common.{arith, ◌≡◌, ℕ, zero, suc, ◌+◌, ◌<◌, ◌≤◌, List, [], ◌∷◌, ◌++◌, length, filter, get_or, Bool, true, false, cond, nat_lt, refl, sym, ap, ◌∙◌, inl, inr, append-nil}
-use Rattle.std.specs.Prelude.{◌&&◌, ◌||◌, ◌⊎◌}
+use Rattle.std.proofs.Common.{arith, ◌≡◌, ℕ, zero, suc, ◌+◌, ◌-◌, ◌<◌, ◌≤◌, Bool, true, false, cond, nat_lt, sym, ap, subst, ◌∙◌, inl, inr}
+use Rattle.std.specs.Prelude.{◌&&◌, ◌||◌, ◌==◌, ◌⊎◌}
 use Rattle.std.proofs.lemmas.Bool.{cases_lt}
-use Rattle.std.specs.List.{range_with_len}
 use Rattle.std.proofs.lemmas.Bool.Decides.{nat_tests}
-use Rattle.std.proofs.lemmas.List.FromFn.{filter_of_map_range_with_len_more}
-use Rattle.std.proofs.lemmas.List.{map-id}
 use Rattle.std.proofs.Math.Path.{fun_ext}
-use Rattle.mig_machine_api.specs.Pfns.{Pfns, no_pfns, joined, members, with_pfn}
-use Rattle.mig_rounds.specs.Flags.{pfns_of_flags, front, rest}
-
--- ---- flags
-
-pub beyond : (flags : List Bool) (q : ℕ) → length flags ≤ q → get_or flags q false ≡ false
-beyond [] q le = refl
-beyond (b ∷ flags) zero le = absurd (omega arith)
-beyond (b ∷ flags) (suc q) le = beyond flags q (omega arith)
-
-pub joined_flags : (old new : List Bool) (log : Pfns) {width : ℕ} → length new ≡ length old → length old ≡ width → ((p : ℕ) → p < length old → get_or new p false ≡ (get_or old p false || log p))
-    → ((p : ℕ) → width ≤ p → log p ≡ false) → pfns_of_flags new ≡ joined (pfns_of_flags old) log
-joined_flags old new log same is done out = fun_ext (λ p. elim (cases_lt p (length old)) [
-  | inl less ↦ done p less
-  | inr past ↦ beyond new p (omega (arith, same, past)) ∙ sym (ap (λ b. b || log p) (beyond old p past) ∙ out p (omega (arith, is, past)))
-])
+use Rattle.mig_machine_api.specs.Pfns.{Pfns, no_pfns, joined, with_pfn}
+use Rattle.mig_pfnset.specs.Changes.{IsBelow, put_pfn}
+use Rattle.mig_rounds.specs.Parts.{front, rest}
 
 -- ---- those below a number, and those from it on
 
@@ -54,12 +38,30 @@ rest_skip set i q is h = grind (arith, nat_tests)
 pub rest_all : (set : Pfns) (q : ℕ) → rest 0 set q ≡ set q
 rest_all set q = grind (arith, nat_tests)
 
-members_more : (set : Pfns) (i : ℕ) → members (i + 1) set ≡ members i set ++ cond (set i) (i ∷ []) []
-members_more set i =
-    ap (filter set) (sym (map-id (range_with_len 0 (i + 1)))) ∙ filter_of_map_range_with_len_more set (λ x. x) 0 i i (omega arith) ∙ ap (λ l. filter set l ++ cond (set i) (i ∷ []) []) (map-id (range_with_len 0 i))
+-- ---- past numbers that aren't in the set
 
-pub members_yes : (set : Pfns) (i : ℕ) → set i ≡ true → members (i + 1) set ≡ members i set ++ i ∷ []
-members_yes set i is = members_more set i ∙ ap (λ b. members i set ++ cond b (i ∷ []) []) is
+skip_on : (P : ℕ → Type 0) (set : Pfns) → ((k : ℕ) → set k ≡ false → P k → P (k + 1)) → (i d : ℕ) → ((q : ℕ) → i ≤ q → q < i + d → set q ≡ false) → P i → P (i + d)
+skip_on P set step i zero out h = subst P (let e : i ≡ i + zero = omega arith in e) h
+skip_on P set step i (suc d) out h =
+    subst P (let e : i + d + 1 ≡ i + suc d = omega arith in e) (step (i + d) (out (i + d) (omega arith) (omega arith)) (skip_on P set step i d (λ q low high. out q low (omega arith)) h))
 
-pub members_no : (set : Pfns) (i : ℕ) → set i ≡ false → members (i + 1) set ≡ members i set
-members_no set i is = members_more set i ∙ ap (λ b. members i set ++ cond b (i ∷ []) []) is ∙ append-nil (members i set)
+-- what is so of i, and goes on past a number that isn't in the set, is so of j
+pub skip_to : (P : ℕ → Type 0) (set : Pfns) → ((k : ℕ) → set k ≡ false → P k → P (k + 1)) → (i j : ℕ) → i ≤ j → ((q : ℕ) → i ≤ q → q < j → set q ≡ false) → P i → P j
+skip_to P set step i j le out h =
+    subst P (let e : i + (j - i) ≡ j = omega arith in e) (skip_on P set step i (j - i) (λ q low high. out q low (omega arith)) h)
+
+-- ---- sets below a width
+
+pub members_below : (width : ℕ) (set : Pfns) (p : ℕ) → IsBelow width set → set p ≡ true → p < width
+members_below width set p below inside = elim (cases_lt p width) [
+  | inl less ↦ less
+  | inr past ↦ absurd (let no : false ≡ true = sym (below p past) ∙ inside in cc)
+]
+
+pub joined_below : (width : ℕ) (a b : Pfns) → IsBelow width a → IsBelow width b → IsBelow width (joined a b)
+joined_below width a b in_a in_b = λ p past. ap (λ x. x || b p) (in_a p past) ∙ in_b p past
+
+-- where a number below the width is put
+pub put_below : (width p : ℕ) (inside : Bool) (set : Pfns) → p < width → IsBelow width set → IsBelow width (put_pfn p inside set)
+put_below width p inside set less below = λ q past.
+    let other : (q == p) ≡ false = grind (arith, nat_tests) in ap (λ t. cond t inside (set q)) other ∙ below q past

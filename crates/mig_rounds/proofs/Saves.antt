@@ -16,30 +16,30 @@ use Rattle.mig_machine_api.specs.MachineStates.{MachineState}
 use Rattle.mig_machine_api.specs.MachineCalls.{LogTaken}
 use Rattle.mig_machine_api.specs.Rounds.{GoesOn, AreCalls, to_read, rounds_read}
 use Rattle.mig_rounds.specs.Step.{most_calls}
-use Rattle.mig_rounds.specs.Flags.{pfns_of_flags, front, rest, total, total_taken}
+use Rattle.mig_pfnset.specs.Changes.{IsBelow}
+use Rattle.mig_rounds.specs.Parts.{front, rest, total, total_taken}
 use Rattle.mig_rounds.specs.Current.{Notes}
 use Rattle.mig_rounds.specs.Sends.{ReadsFront, SendsFront}
 use Rattle.mig_rounds.specs.Live.{StaysSame, AreRounds, Live, LiveSent}
-use Rattle.mig_rounds.proofs.Parts.{beyond}
-use Rattle.mig_rounds.proofs.Sizes.{size-le}
+use Rattle.mig_pfnset.proofs.Sizes.{size-le}
 use Rattle.mig_rounds.proofs.Shapes.{stays_on, ran_stays, reads_stay}
 use Rattle.mig_rounds.proofs.Steps.{current_on, told_alike, total_even, behind_less}
 
--- ---- sets of flags
+-- ---- sets below a width
 
-pub front_all : (flags : List Bool) → front (length flags) (pfns_of_flags flags) ≡ pfns_of_flags flags
-front_all flags = fun_ext (λ q. at q (nat_lt q (length flags)) refl)
+pub front_all : (n : ℕ) (set : Pfns) → IsBelow n set → front n set ≡ set
+front_all n set below = fun_ext (λ q. at q (nat_lt q n) refl)
   where
-    at : (q : ℕ) (b : Bool) → nat_lt q (length flags) ≡ b → front (length flags) (pfns_of_flags flags) q ≡ pfns_of_flags flags q
-    at q true e = ap (λ b. b && pfns_of_flags flags q) e
-    at q false e = ap (λ b. b && pfns_of_flags flags q) e ∙ sym (beyond flags q (let le : length flags ≤ q = grind (arith, nat_tests) in le))
+    at : (q : ℕ) (b : Bool) → nat_lt q n ≡ b → front n set q ≡ set q
+    at q true e = ap (λ b. b && set q) e
+    at q false e = ap (λ b. b && set q) e ∙ sym (below q (let le : n ≤ q = grind (arith, nat_tests) in le))
 
-pub rest_gone : (flags : List Bool) → rest (length flags) (pfns_of_flags flags) ≡ no_pfns
-rest_gone flags = fun_ext (λ q. at q (nat_lt q (length flags)) refl)
+pub rest_gone : (n : ℕ) (set : Pfns) → IsBelow n set → rest n set ≡ no_pfns
+rest_gone n set below = fun_ext (λ q. at q (nat_lt q n) refl)
   where
-    at : (q : ℕ) (b : Bool) → nat_lt q (length flags) ≡ b → rest (length flags) (pfns_of_flags flags) q ≡ no_pfns q
+    at : (q : ℕ) (b : Bool) → nat_lt q n ≡ b → rest n set q ≡ no_pfns q
     at q true e = grind (arith, nat_tests)
-    at q false e = let out = beyond flags q (let le : length flags ≤ q = grind (arith, nat_tests) in le) in grind (arith, nat_tests)
+    at q false e = let out = below q (let le : n ≤ q = grind (arith, nat_tests) in le) in grind (arith, nat_tests)
 
 -- ---- a round, and the log that ends it
 
@@ -51,32 +51,32 @@ calls_are : (kind : Kind) (n c : ℕ) → n ≤ 2 ^ 28 → n ≤ c → c ≤ mos
 calls_are Pv n c small least most = (omega arith, omega arith)
 calls_are Hvm n c small least most = omega arith
 
-pub rounds_more : (s t : MachineState) (flags : List Bool) (log : Pfns) → length flags ≤ 2 ^ 28 → length flags ≡ s.host.width → GoesOn s.host.width s.history.taken
-    → Live s (pfns_of_flags flags) → ReadsFront (length flags) (pfns_of_flags flags) s t → AreRounds s.host.kind s.host.width (taken_after t log ∷ s.history.taken)
-rounds_more s t flags log small is on live reads = record {
+pub rounds_more : (s t : MachineState) (set log : Pfns) → s.host.width ≤ 2 ^ 28 → IsBelow s.host.width set → GoesOn s.host.width s.history.taken
+    → Live s set → ReadsFront s.host.width set s t → AreRounds s.host.kind s.host.width (taken_after t log ∷ s.history.taken)
+rounds_more s t set log small below on live reads = record {
   reads = (live.rounds.reads, read ∙ live.unread);
   sizes = (live.rounds.sizes, on);
   calls = (
     live.rounds.calls,
     subst (λ n. AreCalls s.host.kind n (one_more t.history.since.calls)) (sym sizes)
-        (calls_are s.host.kind (size (length flags) (pfns_of_flags flags)) t.history.since.calls (omega (arith, size-le (pfns_of_flags flags) (length flags))) reads.least reads.most),
+        (calls_are s.host.kind (size s.host.width set) t.history.since.calls (omega (arith, size-le set s.host.width)) reads.least reads.most),
   );
   once = (live.rounds.once, reads.once);
 }
   where
-    read : t.history.since.read ≡ pfns_of_flags flags
-    read = reads.read ∙ front_all flags
+    read : t.history.since.read ≡ set
+    read = reads.read ∙ front_all s.host.width set below
 
-    sizes : size s.host.width t.history.since.read ≡ size (length flags) (pfns_of_flags flags)
-    sizes = ap (λ (r : Pfns). size s.host.width r) read ∙ ap (λ n. size n (pfns_of_flags flags)) (sym is)
+    sizes : size s.host.width t.history.since.read ≡ size s.host.width set
+    sizes = ap (λ (r : Pfns). size s.host.width r) read
 
-pub live_round : (s t u : MachineState) (flags : List Bool) (log : Pfns) → length flags ≤ 2 ^ 28 → length flags ≡ s.host.width → GoesOn s.host.width s.history.taken
-    → Live s (pfns_of_flags flags) → ReadsFront (length flags) (pfns_of_flags flags) s t → LogTaken log t u → Live u log
-live_round s t u flags log small is on live reads took = record {
+pub live_round : (s t u : MachineState) (set log : Pfns) → s.host.width ≤ 2 ^ 28 → IsBelow s.host.width set → GoesOn s.host.width s.history.taken
+    → Live s set → ReadsFront s.host.width set s t → LogTaken log t u → Live u log
+live_round s t u set log small below on live reads took = record {
   paused = took.paused ∙ reads.paused ∙ live.paused;
   since = ap (λ (h : History). h.since) took.history;
   rounds = subst (λ k. AreRounds k u.host.width u.history.taken) (sym kind) (subst (λ w. AreRounds s.host.kind w u.history.taken) (sym width)
-      (subst (AreRounds s.host.kind s.host.width) (sym taken) (rounds_more s t flags log small is on live reads)));
+      (subst (AreRounds s.host.kind s.host.width) (sym taken) (rounds_more s t set log small below on live reads)));
   number = ap (λ (h : History). h.live) took.history ∙ ap (λ b. cond b t.history.live (t.history.live + 1)) (reads.paused ∙ live.paused)
       ∙ ap (λ n. n + 1) (reads.count ∙ live.number) ∙ more ∙ ap length (sym taken);
   unread = sym (ap (to_read u.host.width) taken);
@@ -94,18 +94,17 @@ live_round s t u flags log small is on live reads took = record {
     more : length s.history.taken + 1 ≡ length (taken_after t log ∷ s.history.taken)
     more = omega arith
 
-pub sent_round : (s t u : MachineState) (flags : List Bool) (log : Pfns) (before after : List FrameTold) (notes now : Notes) → length flags ≡ s.host.width
-    → ReadsFront (length flags) (pfns_of_flags flags) s t → LogTaken log t u → LiveSent s (pfns_of_flags flags) before notes
-    → SendsFront (length flags) (pfns_of_flags flags) s t before after notes now → LiveSent u log after now
-sent_round s t u flags log before after notes now is reads took sent sends = record {
-  order = sends.names ∙ ap (λ l. l ++ members (length flags) (pfns_of_flags flags)) sent.order
-      ∙ ap (λ w. rounds_read s.host.width s.history.taken ++ members w (pfns_of_flags flags)) is
-      ∙ ap (λ (r : Pfns). rounds_read s.host.width s.history.taken ++ members s.host.width r) (sym (reads.read ∙ front_all flags))
+pub sent_round : (s t u : MachineState) (set log : Pfns) (before after : List FrameTold) (notes now : Notes) → IsBelow s.host.width set
+    → ReadsFront s.host.width set s t → LogTaken log t u → LiveSent s set before notes
+    → SendsFront s.host.width set s t before after notes now → LiveSent u log after now
+sent_round s t u set log before after notes now below reads took sent sends = record {
+  order = sends.names ∙ ap (λ l. l ++ members s.host.width set) sent.order
+      ∙ ap (λ (r : Pfns). rounds_read s.host.width s.history.taken ++ members s.host.width r) (sym (reads.read ∙ front_all s.host.width set below))
       ∙ ap (rounds_read s.host.width) (sym taken) ∙ ap (λ w. rounds_read w u.history.taken) (sym width);
   told = told_alike after (sym (took.ran.shape.kind ∙ reads.shape.kind)) (sym width) (sends.told sent.told);
   current = λ h.
-      current_on (rest (length flags) (pfns_of_flags flags)) log t.log u.log now t.host.frames u.host.frames after
-      (λ q r l. (ap (λ (x : Pfns). x q) (rest_gone flags), took.ran.grown q r, took.ran.quiet (reads.honest ∙ was h) q r)) (sends.live (was h) (sent.current (was h)));
+      current_on (rest s.host.width set) log t.log u.log now t.host.frames u.host.frames after
+      (λ q r l. (ap (λ (x : Pfns). x q) (rest_gone s.host.width set below), took.ran.grown q r, took.ran.quiet (reads.honest ∙ was h) q r)) (sends.live (was h) (sent.current (was h)));
 }
   where
     width : u.host.width ≡ s.host.width
@@ -127,13 +126,12 @@ longer s t u i set log reads took = ap (λ (h : History). length h.taken) took.h
     one = omega arith
 
 -- and so many PFNs more were read
-pub counted_more : (s t u : MachineState) (flags : List Bool) (log : Pfns) → length flags ≡ s.host.width → ReadsFront (length flags) (pfns_of_flags flags) s t → LogTaken log t u
-    → total_taken u.host.width u.history.taken ≡ total_taken s.host.width s.history.taken + size (length flags) (pfns_of_flags flags)
-counted_more s t u flags log is reads took =
+pub counted_more : (s t u : MachineState) (set log : Pfns) → IsBelow s.host.width set → ReadsFront s.host.width set s t → LogTaken log t u
+    → total_taken u.host.width u.history.taken ≡ total_taken s.host.width s.history.taken + size s.host.width set
+counted_more s t u set log below reads took =
     ap (λ w. total_taken w u.history.taken) (took.ran.shape.width ∙ reads.shape.width)
     ∙ ap (total_taken s.host.width) (ap (λ (h : History). h.taken) took.history ∙ ap (λ l. taken_after t log ∷ l) reads.taken)
-    ∙ ap (λ (r : Pfns). total_taken s.host.width s.history.taken + size s.host.width r) (reads.read ∙ front_all flags)
-    ∙ ap (λ w. total_taken s.host.width s.history.taken + size w (pfns_of_flags flags)) (sym is)
+    ∙ ap (λ (r : Pfns). total_taken s.host.width s.history.taken + size s.host.width r) (reads.read ∙ front_all s.host.width set below)
 
 pub goes_on : (u : MachineState) (set : Pfns) → Live u set → 50 ≤ size u.host.width set → GoesOn u.host.width u.history.taken
 goes_on u set live many = go u.history.taken refl
@@ -155,12 +153,12 @@ pub behind_now : (start now : Option (List ℕ)) (flushes n : ℕ) (sent : List 
 behind_now start now flushes n sent le s =
     let none : length {A = FrameTold} [] < 1024 = omega arith in behind_less start now (length sent + 1) n le (behind_anyway start now flushes [] sent none s)
 
-pub behind_taken : (start now : Option (List ℕ)) (flushes : ℕ) (s t : MachineState) (k : History) (flags : List Bool) (before after : List FrameTold) (notes later : Notes)
-    → length flags ≡ s.host.width → LiveSent s (pfns_of_flags flags) before notes → ReadsFront (length flags) (pfns_of_flags flags) s t
-    → SendsFront (length flags) (pfns_of_flags flags) s t before after notes later → k ≡ t.history → IsSent start now flushes [] after → IsBehind start now (total s.host.width k)
-behind_taken start now flushes s t k flags before after notes later is sent reads sends stays out =
+pub behind_taken : (start now : Option (List ℕ)) (flushes : ℕ) (s t : MachineState) (k : History) (set : Pfns) (before after : List FrameTold) (notes later : Notes)
+    → IsBelow s.host.width set → LiveSent s set before notes → ReadsFront s.host.width set s t
+    → SendsFront s.host.width set s t before after notes later → k ≡ t.history → IsSent start now flushes [] after → IsBehind start now (total s.host.width k)
+behind_taken start now flushes s t k set before after notes later below sent reads sends stays out =
     behind_now start now flushes (total s.host.width k) after
-    (omega (arith, ap (total s.host.width) stays, total_even (length flags) s.host.width (pfns_of_flags flags) s t before after notes later (omega arith) reads sends (even s (pfns_of_flags flags) before notes sent))) out
+    (omega (arith, ap (total s.host.width) stays, total_even s.host.width s.host.width set s t before after notes later (omega arith) reads sends (even s set before notes sent))) out
 
 none_pass : (xs : List ℕ) → filter no_pfns xs ≡ []
 none_pass [] = refl

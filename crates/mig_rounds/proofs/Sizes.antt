@@ -1,32 +1,9 @@
--- How many members sets have.
-use Rattle.std.proofs.Common.{arith, ◌≡◌, ℕ, zero, suc, ◌+◌, ◌-◌, ◌≤◌, ◌<◌, [], ◌∷◌, length, Bool, true, false, refl, sym, ap, ◌∙◌, length-append}
-use Rattle.std.specs.List.{range_with_len}
+-- How many members parts of sets have.
+use Rattle.std.proofs.Common.{arith, ◌≡◌, ℕ, zero, suc, ◌+◌, ◌-◌, ◌≤◌, ◌<◌, Bool, true, false, refl, ap, ◌∙◌}
 use Rattle.std.proofs.lemmas.Bool.Decides.{nat_tests}
-use Rattle.std.proofs.lemmas.List.Sums.{length-filter, count_by-le-length}
-use Rattle.std.proofs.lemmas.List.FromFn.{length-range_with_len}
-use Rattle.mig_machine_api.specs.Pfns.{Pfns, members, size}
-use Rattle.mig_rounds.specs.Flags.{front}
-use Rattle.mig_rounds.proofs.Parts.{members_yes, members_no}
-
-pub size-le : (set : Pfns) (i : ℕ) → size i set ≤ i
-size-le set i = omega (arith, length-filter set (range_with_len 0 i), count_by-le-length set (range_with_len 0 i), length-range_with_len 0 i)
-
-pub size_more : (set : Pfns) (i : ℕ) → set i ≡ true → size (i + 1) set ≡ size i set + 1
-size_more set i inside = ap length (members_yes set i inside) ∙ length-append (members i set) (i ∷ [])
-
-pub size_stays : (set : Pfns) (i : ℕ) → set i ≡ false → size (i + 1) set ≡ size i set
-size_stays set i outside = ap length (members_no set i outside)
-
-next : (set : Pfns) (n : ℕ) → size (suc n) set ≡ size (n + 1) set
-next set n = ap (λ k. size k set) (let e : suc n ≡ n + 1 = omega arith in e)
-
-same_more : (a b : Pfns) (n : ℕ) (x : Bool) → a n ≡ x → b n ≡ x → size n a ≡ size n b → size (suc n) a ≡ size (suc n) b
-same_more a b n true e f h = next a n ∙ size_more a n e ∙ ap (λ k. k + 1) h ∙ sym (size_more b n f) ∙ sym (next b n)
-same_more a b n false e f h = next a n ∙ size_stays a n e ∙ h ∙ sym (size_stays b n f) ∙ sym (next b n)
-
-pub same_size : (a b : Pfns) (n : ℕ) → ((q : ℕ) → q < n → a q ≡ b q) → size n a ≡ size n b
-same_size a b zero same = refl
-same_size a b (suc n) same = same_more a b n (b n) (same n (omega arith)) refl (same_size a b n (λ q less. same q (omega arith)))
+use Rattle.mig_machine_api.specs.Pfns.{Pfns, size}
+use Rattle.mig_pfnset.proofs.Sizes.{next, size_more, size_stays, same_size}
+use Rattle.mig_rounds.specs.Parts.{front}
 
 front_below : (set : Pfns) (i q : ℕ) → q < i → front i set q ≡ set q
 front_below set i q less = grind (arith, nat_tests)

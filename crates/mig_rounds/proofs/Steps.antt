@@ -21,15 +21,16 @@ use Rattle.mig_rounds.specs.declared.found.Found.TheVariants as found
 use Rattle.mig_rounds.specs.declared.found.Worst.{Worst}
 use Rattle.mig_rounds.specs.Findings.{Finding, judge, judged, found_as, frame_sent, is_deferred, type_found, CanBeTold}
 use Rattle.mig_rounds.specs.Step.{ReadsOne, Strays, most_calls}
-use Rattle.mig_rounds.specs.Flags.{rest, total, total_taken}
+use Rattle.mig_rounds.specs.Parts.{rest, total, total_taken}
 use Rattle.mig_rounds.specs.Entries.{entry_for, put_at, put_told, meant, AreTold, IsToldEntry}
 use Rattle.mig_pagesink.specs.Batches.{IsBehind, FallsBehind}
 use Rattle.mig_pagesink.specs.Told.{FrameTold}
 use Rattle.mig_rounds.specs.Current.{Notes, Current, noted}
 use Rattle.mig_pagesink.proofs.Joins.{behind_anyway}
 use Rattle.mig_rounds.specs.Sends.{ReadsFront, SendsFront, IsWorst, first_pfn, or_first, within_set, place, found_super, found_lost, super_of, lost_of}
-use Rattle.mig_rounds.proofs.Parts.{nothing_before, front_more, front_skip, not_itself, rest_more, rest_skip, rest_all, members_yes, members_no}
-use Rattle.mig_rounds.proofs.Sizes.{size-le, size_more, size_stays, size_front, one_more_at_most}
+use Rattle.mig_rounds.proofs.Parts.{nothing_before, front_more, front_skip, not_itself, rest_more, rest_skip, rest_all, skip_to}
+use Rattle.mig_pfnset.proofs.Sizes.{size-le, size_more, size_stays, members_yes, members_no}
+use Rattle.mig_rounds.proofs.Sizes.{size_front, one_more_at_most}
 
 -- ---- what a list of entries means
 
@@ -295,3 +296,15 @@ behind_anyhow now held few = λ start flushes sent s. behind_anyway start now fl
 pub on_err : {T E P : Type 0} (r : Result T E) → P → OnErr r P
 on_err (Ok x) h = tt
 on_err (Err e) h = h
+
+-- ---- past numbers that aren't in the set
+
+pub reads_jump : (set : Pfns) (i j : ℕ) (s t : MachineState) → i ≤ j → ((q : ℕ) → i ≤ q → q < j → set q ≡ false) → ReadsFront i set s t → ReadsFront j set s t
+reads_jump set i j s t le out f = skip_to (λ k. ReadsFront k set s t) set (λ k outside h. reads_skip set k s t outside h) i j le out f
+
+pub sends_jump : (set : Pfns) (i j : ℕ) (s t : MachineState) (before mid : List FrameTold) (notes now : Notes) → i ≤ j → ((q : ℕ) → i ≤ q → q < j → set q ≡ false) → SendsFront i set s t before mid notes now
+    → SendsFront j set s t before mid notes now
+sends_jump set i j s t before mid notes now le out f = skip_to (λ k. SendsFront k set s t before mid notes now) set (λ k outside h. sends_skip set k s t before mid notes now outside h) i j le out f
+
+pub worst_jump : (set : Pfns) (i j : ℕ) (frames : HostFrames) (w : Worst) → i ≤ j → ((q : ℕ) → i ≤ q → q < j → set q ≡ false) → IsWorst i set frames w → IsWorst j set frames w
+worst_jump set i j frames w le out h = skip_to (λ k. IsWorst k set frames w) set (λ k outside x. worst_skips k set frames w outside x) i j le out h

@@ -1,24 +1,26 @@
 -- How much is read in all, and how many records that makes.
-use Rattle.std.proofs.Common.{arith, ◌≡◌, ℕ, zero, suc, ◌+◌, ◌*◌, ◌≤◌, ◌^◌, List, [], ◌∷◌, length, Bool, Option, sym, ap, subst, ◌∙◌, append-nil, length-append}
+use Rattle.std.proofs.Common.{arith, ◌≡◌, ℕ, zero, suc, ◌+◌, ◌*◌, ◌≤◌, ◌^◌, List, [], ◌∷◌, length, Option, false, sym, ap, subst, ◌∙◌, append-nil, length-append}
 use Rattle.std.proofs.Math.Nat.{suc-mul}
+use Rattle.std.proofs.lemmas.Bool.Decides.{nat_tests}
 use Rattle.std.proofs.lemmas.List.{length-map}
 use Rattle.mig_headers.specs.declared.kind.Kind.{Kind}
 use Rattle.mig_pagetypes.specs.declared.page_type.PageType.{PageType}
 use Rattle.mig_pagesink.specs.Told.{FrameTold, all_told}
 use Rattle.mig_pagesink.specs.Batches.{IsSent, AreSized, AreFull}
 use Rattle.mig_pagesink.proofs.Joins.{few_batches, nothing_sent}
-use Rattle.mig_machine_api.specs.Pfns.{Pfns, size, members, all_below}
+use Rattle.mig_machine_api.specs.Pfns.{Pfns, size, members, all_below, pfns_of_words}
 use Rattle.mig_machine_api.specs.History.{History, LogTook, no_history}
 use Rattle.mig_machine_api.specs.MachineStates.{MachineState, IsValidState}
 use Rattle.mig_machine_api.specs.Rounds.{Rounds, rounds_read, all_read}
 use Rattle.mig_rounds.specs.declared.found.Worst.{Worst}
-use Rattle.mig_rounds.specs.Flags.{pfns_of_flags, total, total_taken}
+use Rattle.mig_pfnset.specs.Changes.{IsBelow}
+use Rattle.mig_rounds.specs.Parts.{total, total_taken}
 use Rattle.mig_rounds.specs.Entries.{AreTold, meant, pfns_sent}
 use Rattle.mig_rounds.specs.Current.{Notes, notes_of}
 use Rattle.mig_rounds.specs.Live.{LiveSent, SendsRounds, SavedSent, worst_fault, FramesSaved}
 use Rattle.mig_rounds.specs.Unused.{IsUnused}
 use Rattle.mig_rounds.proofs.Ends.{sent_start}
-use Rattle.mig_rounds.proofs.Sizes.{size-le}
+use Rattle.mig_pfnset.proofs.Sizes.{size-le}
 use Rattle.mig_rounds.proofs.Saves.{length_rounds, size_none}
 
 taken_small : (width : ℕ) (l : List LogTook) → total_taken width l ≤ length l * width
@@ -49,24 +51,36 @@ batches_few kind width n h batches r wide rounds order sized full = omega (arith
 
 -- ---- from the start to the end
 
-same_notes : (noted deferred : List Bool) (seen types : List (Option PageType)) → noted ≡ deferred → seen ≡ types → notes_of noted seen ≡ notes_of deferred types
+same_notes : (noted deferred : List ℕ) (seen types : List (Option PageType)) → noted ≡ deferred → seen ≡ types → notes_of noted seen ≡ notes_of deferred types
 same_notes noted deferred seen types a b = ap (λ d. notes_of d seen) a ∙ ap (notes_of deferred) b
 
 -- with unused room the invariant holds, and nothing was sent
-pub unused_start : (s : MachineState) (batch : List FrameTold) (flags set noted deferred : List Bool) (seen types : List (Option PageType)) (log : List ℕ) → IsValidState s → s.history ≡ no_history
-    → length set ≡ s.host.width → flags ≡ set → noted ≡ deferred → seen ≡ types → IsUnused batch set deferred types log → LiveSent s (pfns_of_flags flags) [] (notes_of noted seen)
-unused_start s batch flags set noted deferred seen types log valid unread wide a b c unused =
-    sent_start s (pfns_of_flags flags) (notes_of noted seen) valid unread (ap pfns_of_flags a ∙ unused.all ∙ ap all_below wide) (same_notes noted deferred seen types b c ∙ unused.none)
+pub unused_start : (s : MachineState) (batch : List FrameTold) (words set noted deferred : List ℕ) (seen types : List (Option PageType)) (log : List ℕ) → IsValidState s → s.history ≡ no_history
+    → length types ≡ s.host.width → words ≡ set → noted ≡ deferred → seen ≡ types → IsUnused batch set deferred types log → LiveSent s (pfns_of_words words) [] (notes_of noted seen)
+unused_start s batch words set noted deferred seen types log valid unread wide a b c unused =
+    sent_start s (pfns_of_words words) (notes_of noted seen) valid unread (ap pfns_of_words a ∙ unused.all ∙ ap all_below wide) (same_notes noted deferred seen types b c ∙ unused.none)
+
+past : (width p : ℕ) → width ≤ p → all_below width p ≡ false
+past width p le = grind (arith, nat_tests)
+
+-- with unused room every PFN of the set is below the width, and none is deferred
+pub unused_below : (n : ℕ) (batch : List FrameTold) (words set deferred : List ℕ) (types : List (Option PageType)) (log : List ℕ) → length types ≡ n → words ≡ set → IsUnused batch set deferred types log
+    → IsBelow n (pfns_of_words words)
+unused_below n batch words set deferred types log wide same unused = λ p le. ap (λ (w : List ℕ). pfns_of_words w p) same ∙ ap (λ (x : Pfns). x p) unused.all ∙ past (length types) p (omega (arith, wide, le))
+
+pub unused_noted : (n : ℕ) (batch : List FrameTold) (noted set deferred : List ℕ) (types : List (Option PageType)) (log : List ℕ) → noted ≡ deferred → IsUnused batch set deferred types log
+    → IsBelow n (pfns_of_words noted)
+unused_noted n batch noted set deferred types log same unused = λ p le. ap (λ (w : List ℕ). pfns_of_words w p) same ∙ ap (λ (x : Notes). x.deferred p) unused.none
 
 -- what was sent in the rounds
-pub sent_before : (rounds : ℕ) (s t : MachineState) (set : Pfns) (flags next noted deferred : List Bool) (seen types : List (Option PageType)) (old mid : Option (List ℕ)) (notes : Notes)
-    → flags ≡ next → noted ≡ deferred → seen ≡ types → LiveSent s set [] notes → SendsRounds rounds s t set (pfns_of_flags next) old mid notes (notes_of deferred types)
-    → (between : List FrameTold) × IsSent old mid rounds [] between × LiveSent t (pfns_of_flags flags) between (notes_of noted seen)
-sent_before rounds s t set flags next noted deferred seen types old mid notes a b c start sends =
+pub sent_before : (rounds : ℕ) (s t : MachineState) (set : Pfns) (words next noted deferred : List ℕ) (seen types : List (Option PageType)) (old mid : Option (List ℕ)) (notes : Notes)
+    → words ≡ next → noted ≡ deferred → seen ≡ types → LiveSent s set [] notes → SendsRounds rounds s t set (pfns_of_words next) old mid notes (notes_of deferred types)
+    → (between : List FrameTold) × IsSent old mid rounds [] between × LiveSent t (pfns_of_words words) between (notes_of noted seen)
+sent_before rounds s t set words next noted deferred seen types old mid notes a b c start sends =
     let (between, out, live) = sends old [] (nothing_sent old) start in (
       between,
       out,
-      subst (λ (p : Pfns). LiveSent t p between (notes_of noted seen)) (sym (ap pfns_of_flags a)) (subst (LiveSent t (pfns_of_flags next) between) (sym (same_notes noted deferred seen types b c)) live),
+      subst (λ (p : Pfns). LiveSent t p between (notes_of noted seen)) (sym (ap pfns_of_words a)) (subst (LiveSent t (pfns_of_words next) between) (sym (same_notes noted deferred seen types b c)) live),
     )
 
 -- what was sent in all, with nothing held

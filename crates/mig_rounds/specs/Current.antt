@@ -1,24 +1,23 @@
 -- The saver's invariant.
-use Rattle.std.specs.Prelude.{◌≡◌, ℕ, List, Bool, false, get_or, ◌==◌, Option, None, if◌then◌else◌}
+use Rattle.std.specs.Prelude.{◌≡◌, ℕ, List, false, get_or, ◌==◌, Option, None, if◌then◌else◌}
 use Rattle.std.specs.FinMap as maps
 use Rattle.mig_pagetypes.specs.declared.page_type.PageType.{PageType}
 use Rattle.mig_guest.specs.Hosts.{HostFrames}
 use Rattle.mig_pagesink.specs.Told.{FrameTold}
-use Rattle.mig_machine_api.specs.Pfns.{Pfns}
+use Rattle.mig_machine_api.specs.Pfns.{Pfns, pfns_of_words}
 use Rattle.mig_machine_api.specs.Footprints.{footprint}
 use Rattle.mig_rounds.specs.Forms.{type_of_print}
 use Rattle.mig_rounds.specs.Findings.{Finding, judged, frame_sent, is_deferred, type_found}
 use Rattle.mig_rounds.specs.Entries.{meant}
-use Rattle.mig_rounds.specs.Flags.{pfns_of_flags}
 
 -- what is kept in mind of each PFN: whether its table is deferred, and the type that was seen last
 pub record Notes : Type 0 where
   pub deferred : Pfns
   pub types : ℕ → Option PageType
 
--- as the saver keeps them: a flag and a type for each PFN
-abbrev pub notes_of : List Bool → List (Option PageType) → Notes
-notes_of deferred types = record { deferred = pfns_of_flags deferred; types = λ p. get_or types p None }
+-- as the saver keeps them: a bit and a type for each PFN
+abbrev pub notes_of : List ℕ → List (Option PageType) → Notes
+notes_of deferred types = record { deferred = pfns_of_words deferred; types = λ p. get_or types p None }
 
 -- nothing is deferred, and no type was seen
 abbrev pub no_notes : Notes

@@ -1,7 +1,7 @@
 pub mod Forms
 pub mod Findings
 pub mod Step
-pub mod Flags
+pub mod Parts
 pub mod Entries
 pub mod Current
 pub mod Sends

@@ -18,7 +18,7 @@ use Rattle.mig_machine_api.specs.MachineStates.{MachineState, IsSameShape}
 use Rattle.mig_machine_api.specs.Rounds.{OfEachLog, GoesOn, AreCalls, Rounds, Tight, to_read, rounds_read, all_read}
 use Rattle.mig_rounds.specs.declared.found.Worst.{Worst}
 use Rattle.mig_rounds.specs.Forms.{form_of_print, superpage_slot, lost_slot}
-use Rattle.mig_rounds.specs.Flags.{total}
+use Rattle.mig_rounds.specs.Parts.{total}
 use Rattle.mig_rounds.specs.Entries.{meant, pfns_sent, AreTold}
 use Rattle.mig_rounds.specs.Current.{Notes, Current}
 use Rattle.mig_rounds.specs.Sends.{first_pfn}

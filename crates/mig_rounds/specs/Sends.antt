@@ -13,7 +13,7 @@ use Rattle.mig_rounds.specs.declared.found.Worst.{Worst}
 use Rattle.mig_rounds.specs.Findings.{Finding, judged}
 use Rattle.mig_rounds.specs.Findings.Finding.{Gone, Shows, HasSuperpage, LacksFrame}
 use Rattle.mig_rounds.specs.Step.{most_calls}
-use Rattle.mig_rounds.specs.Flags.{front, rest, total, total_taken}
+use Rattle.mig_rounds.specs.Parts.{front, rest, total, total_taken}
 use Rattle.mig_rounds.specs.Entries.{pfns_sent, AreTold}
 use Rattle.mig_rounds.specs.Current.{Notes, Current}
 

@@ -7,15 +7,15 @@ use mig_pagetypes::PageType;
 use std::alloc::{AllocError, Global};
 use std::marker::Model;
 
-/// What the rounds of a save keep in mind, made beforehand: for each frame number whether it is to be read, whether its table
-/// is deferred, and the type seen last; a log, and a batch of entries.
+/// What the rounds of a save keep in mind, made beforehand: which frame numbers are to be read, and of which the table is
+/// deferred; the type seen last of each; a log, and a batch of entries.
 #[derive(Drop)]
 pub struct Room {
     pub(crate) batch: Batch,
-    pub(crate) set: Vec<bool>,
-    pub(crate) deferred: Vec<bool>,
+    pub(crate) set: Vec<u64>,
+    pub(crate) deferred: Vec<u64>,
     pub(crate) types: Vec<Option<PageType>>,
-    pub(crate) words: Vec<u64>,
+    pub(crate) log: Vec<u64>,
 }
 
 impl Model for Room {
@@ -25,9 +25,9 @@ impl Model for Room {
 
     ghost use Rattle.mig_rounds.specs.Unused.{IsUnused};
 
-    ghost view = { λ r. length r.set.items };
+    ghost view = { λ r. length r.types.items };
 
-    ghost invariant = { λ r. IsUnused r.batch r.set.items r.deferred.items r.types.items r.words.items };
+    ghost invariant = { λ r. IsUnused r.batch r.set.items r.deferred.items r.types.items r.log.items };
 }
 
 impl Room {
@@ -36,7 +36,7 @@ impl Room {
         requires { width ≤ most_width }
         ensures { IfOk result (λ room. room ≡ width) }
     {
-        match make_room(alloc, width as usize) {
+        match make_room(alloc, width) {
             Ok(room) => Ok(room),
             Err(_) => Err(Memory),
         }
@@ -52,15 +52,15 @@ fn no_types(alloc: Global, width: usize) -> Result<Vec<Option<PageType>>, AllocE
 }
 
 /// Every number is to be read, and nothing is noted.
-fn make_room(alloc: Global, width: usize) -> Result<Room, AllocError>
+fn make_room(alloc: Global, width: u64) -> Result<Room, AllocError>
     requires { width ≤ most_width }
     ensures { IfOk result (λ room. room ≡ width) }
 {
     Ok(Room {
         batch: Batch::new(alloc)?,
-        set: vec![in alloc; true; width]?,
-        deferred: vec![in alloc; false; width]?,
-        types: no_types(alloc, width)?,
-        words: vec![in alloc; 0; (width + 63) / 64]?,
+        set: mig_pfnset::all(alloc, width)?,
+        deferred: mig_pfnset::none(alloc, width)?,
+        types: no_types(alloc, width as usize)?,
+        log: mig_pfnset::none(alloc, width)?,
     })
 }

@@ -1,8 +1,9 @@
-ghost use Rattle.std.specs.Prelude.{◌≡◌, ◌≤◌, [], length, true, OnOk, OnErr, IfOk, IsErrOf};
+ghost use Rattle.std.specs.Prelude.{◌≡◌, ◌+◌, ◌/◌, ◌≤◌, [], length, true, OnOk, OnErr, IfOk, IsErrOf};
 ghost use Rattle.mig_bytes.specs.Faults.{Rose};
 ghost use Rattle.mig_guest.specs.Hosts.{most_width};
+ghost use Rattle.mig_machine_api.specs.Pfns.{pfns_of_words};
 ghost use Rattle.mig_machine_api.specs.History.{nothing_asked};
-ghost use Rattle.mig_rounds.specs.Flags.{pfns_of_flags};
+ghost use Rattle.mig_pfnset.specs.Changes.{IsBelow};
 ghost use Rattle.mig_rounds.specs.Current.{notes_of};
 ghost use Rattle.mig_rounds.specs.Sends.{ReadsFront, SendsSet, SetLeavesBehind, IsWorst};
 ghost use Rattle.mig_rounds.specs.Live.{StaysSame};
@@ -14,27 +15,31 @@ use mig_bytes::{Sink, WriteFailed};
 use mig_machine_api::Machine;
 use mig_pagesink::Batch;
 use mig_pagetypes::PageType;
+use mig_pfnset::next_from;
 
 /// Reads and sends each member of a set, ascending, and writes what is held then.
 pub(crate) fn send_all<M: Machine, K: Sink>(
     machine: &mut M,
     sink: &mut K,
     batch: &mut Batch,
-    set: &[bool],
-    deferred: &mut [bool],
+    set: &[u64],
+    deferred: &mut [u64],
     types: &mut [Option<PageType>],
     page: &mut [u8; 4096],
 ) -> Result<Worst, SendFault>
-    requires width { length set.now ≡ (M.state machine.old).host.width }
-    requires narrow { length set.now ≤ most_width }
+    requires narrow { (M.state machine.old).host.width ≤ most_width }
+    requires words { length set.now ≡ ((M.state machine.old).host.width + 63) / 64 }
     requires wide { length deferred.old ≡ length set.now }
-    requires long { length types.old ≡ length set.now }
+    requires long { length types.old ≡ (M.state machine.old).host.width }
+    requires below { IsBelow (M.state machine.old).host.width (pfns_of_words set.now) }
+    requires noted { IsBelow (M.state machine.old).host.width (pfns_of_words deferred.old) }
     requires fresh { (M.state machine.old).history.since ≡ nothing_asked }
     requires empty { batch.old ≡ [] }
-    ensures reads { OnOk result (ReadsFront (length set.now) (pfns_of_flags set.now) (M.state machine.old) (M.state machine.new)) }
-    ensures sends { OnOk result (SendsSet (length set.now) (pfns_of_flags set.now) (M.state machine.old) (M.state machine.new) (K.written sink.old) (K.written sink.new)
+    ensures reads { OnOk result (ReadsFront (M.state machine.old).host.width (pfns_of_words set.now) (M.state machine.old) (M.state machine.new)) }
+    ensures sends { OnOk result (SendsSet (M.state machine.old).host.width (pfns_of_words set.now) (M.state machine.old) (M.state machine.new) (K.written sink.old) (K.written sink.new)
         (notes_of deferred.old types.old) (notes_of deferred.new types.new)) }
-    ensures worst { IfOk result (λ worst. (M.state machine.old).paused ≡ true → IsWorst (length set.now) (pfns_of_flags set.now) (M.state machine.new).host.frames worst) }
+    ensures worst { IfOk result (λ worst. (M.state machine.old).paused ≡ true → IsWorst (M.state machine.old).host.width (pfns_of_words set.now) (M.state machine.new).host.frames worst) }
+    ensures noted { OnOk result (IsBelow (M.state machine.old).host.width (pfns_of_words deferred.new)) }
     ensures empty { OnOk result (batch.new ≡ []) }
     ensures behind { OnErr result (SetLeavesBehind (M.state machine.old) (M.state machine.new) (K.written sink.old) (K.written sink.new)) }
     ensures kept { StaysSame (M.state machine.old) (M.state machine.new) }
@@ -49,11 +54,11 @@ pub(crate) fn send_all<M: Machine, K: Sink>(
         superpage: None,
         lost: None,
     };
-    for (pfn, wanted) in set.iter().enumerate() {
-        if *wanted {
-            let found = send_one(machine, sink, batch, deferred, types, pfn as u64, page)?;
-            worst = worst.with(pfn as u64, found);
-        }
+    let mut from = 0;
+    'members: while let Some(pfn) = next_from(set, from) {
+        let found = send_one(machine, sink, batch, deferred, types, pfn, page)?;
+        worst = worst.with(pfn, found);
+        from = pfn + 1;
     }
     match batch.flush(sink) {
         Ok(()) => Ok(worst),

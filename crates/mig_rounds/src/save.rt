@@ -1,13 +1,14 @@
-ghost use Rattle.std.specs.Prelude.{◌≡◌, ◌+◌, ◌*◌, ◌/◌, ◌^◌, ◌≤◌, [], length, true, false, OnOk, OnErr, IfOk, IsErrOf, ℕ, Some, None};
+ghost use Rattle.std.specs.Prelude.{◌≡◌, ◌+◌, ◌*◌, ◌/◌, ◌^◌, ◌≤◌, [], length, true, false, OnOk, OnErr, IfOk, IsErrOf, Some, None};
 ghost use Rattle.mig_bytes.specs.Faults.{Rose};
 ghost use Rattle.mig_guest.specs.Hosts.{most_width};
 ghost use Rattle.mig_headers.specs.declared.unsound.Unsound.{Unsound};
 ghost use Rattle.mig_pagesink.specs.Batches.{IsBehind};
-ghost use Rattle.mig_machine_api.specs.Pfns.{size};
+ghost use Rattle.mig_machine_api.specs.Pfns.{pfns_of_words, size};
 ghost use Rattle.mig_machine_api.specs.History.{no_history};
 ghost use Rattle.mig_machine_api.specs.MachineCalls.{Paused};
 ghost use Rattle.mig_machine_api.specs.MachineStates.{IsValidState, Stays};
-ghost use Rattle.mig_rounds.specs.Flags.{pfns_of_flags, total, total_taken};
+ghost use Rattle.mig_pfnset.specs.Changes.{IsBelow};
+ghost use Rattle.mig_rounds.specs.Parts.{total, total_taken};
 ghost use Rattle.mig_rounds.specs.Current.{notes_of};
 ghost use Rattle.mig_rounds.specs.Live.{StaysSame, Live, Ended, SendsRounds, RoundsLeaveBehind, Saved, SendsLast, worst_fault, IsUnsound, AnswersTables, HasRounds, IsTight, FramesSaved, SawTypes};
 ghost use Rattle.mig_rounds.specs.declared.found.SendFault.TheVariants.{MachineFault, WriteFault};
@@ -15,18 +16,19 @@ ghost use Rattle.mig_rounds.specs.declared.found.SendFault.TheVariants.{MachineF
 use crate::found::{SendFault, Worst};
 use crate::room::Room;
 use crate::round::send_all;
-use crate::sets::{count, join, take_more, take_set};
+use crate::sets::{take_more, take_set};
 use mig_bytes::Sink;
 use mig_headers::Unsound;
 use mig_machine_api::Machine;
 use mig_pagesink::Batch;
 use mig_pagetypes::PageType;
+use mig_pfnset::{count, join};
 
 /// The most rounds before the pause.
 const MOST_ROUNDS: u32 = 5;
 
 /// No further round comes where the log has fewer frame numbers.
-const FEW: usize = 50;
+const FEW: u64 = 50;
 
 /// What the rounds before the pause came to.
 #[derive(Clone, Copy, Debug, PartialEq, Eq)]
@@ -50,40 +52,34 @@ pub struct Sent {
     pub types: Vec<Option<PageType>>,
 }
 
-/// How many entries the reading of a set sends.
-fn entries_of(set: &[bool]) -> u64
-    ensures value { result ≡ size (length set.now) (pfns_of_flags set.now) }
-    ensures most { result ≤ length set.now }
-{
-    count(set) as u64
-}
-
 /// Rounds, while the logs are long, and fewer than five: each reads and sends the set, and takes the log as the next set.
 fn run_rounds<M: Machine, K: Sink>(
     machine: &mut M,
     sink: &mut K,
     batch: &mut Batch,
-    set: &mut [bool],
-    deferred: &mut [bool],
+    set: &mut [u64],
+    deferred: &mut [u64],
     types: &mut [Option<PageType>],
-    words: &mut [u64],
     page: &mut [u8; 4096],
 ) -> Result<RoundsSent, SendFault>
-    requires width { length set.old ≡ (M.state machine.old).host.width }
-    requires narrow { length set.old ≤ most_width }
+    requires narrow { (M.state machine.old).host.width ≤ most_width }
+    requires words { length set.old ≡ ((M.state machine.old).host.width + 63) / 64 }
     requires wide { length deferred.old ≡ length set.old }
-    requires long { length types.old ≡ length set.old }
-    requires words { length words.old ≡ (length set.old + 63) / 64 }
+    requires long { length types.old ≡ (M.state machine.old).host.width }
+    requires below { IsBelow (M.state machine.old).host.width (pfns_of_words set.old) }
+    requires noted { IsBelow (M.state machine.old).host.width (pfns_of_words deferred.old) }
     requires empty { batch.old ≡ [] }
-    requires live { Live (M.state machine.old) (pfns_of_flags set.old) }
+    requires live { Live (M.state machine.old) (pfns_of_words set.old) }
     requires first { (M.state machine.old).history ≡ no_history }
-    ensures ended { IfOk result (λ sent. Ended sent.rounds (M.state machine.new) (pfns_of_flags set.new)) }
+    ensures ended { IfOk result (λ sent. Ended sent.rounds (M.state machine.new) (pfns_of_words set.new)) }
     ensures entries { IfOk result (λ sent. sent.entries ≡ total_taken (M.state machine.new).host.width (M.state machine.new).history.taken) }
     ensures few { IfOk result (λ sent. sent.entries ≤ 5 * 2 ^ 28) }
-    ensures sent { IfOk result (λ sent. SendsRounds sent.rounds (M.state machine.old) (M.state machine.new) (pfns_of_flags set.old) (pfns_of_flags set.new) (K.written sink.old) (K.written sink.new)
+    ensures sent { IfOk result (λ sent. SendsRounds sent.rounds (M.state machine.old) (M.state machine.new) (pfns_of_words set.old) (pfns_of_words set.new) (K.written sink.old) (K.written sink.new)
         (notes_of deferred.old types.old) (notes_of deferred.new types.new)) }
-    ensures behind { OnErr result (RoundsLeaveBehind 0 (M.state machine.old) (M.state machine.new) (pfns_of_flags set.old) (K.written sink.old) (K.written sink.new) (notes_of deferred.old types.old)) }
+    ensures behind { OnErr result (RoundsLeaveBehind 0 (M.state machine.old) (M.state machine.new) (pfns_of_words set.old) (K.written sink.old) (K.written sink.new) (notes_of deferred.old types.old)) }
     ensures kept { StaysSame (M.state machine.old) (M.state machine.new) }
+    ensures below { OnOk result (IsBelow (M.state machine.new).host.width (pfns_of_words set.new)) }
+    ensures noted { OnOk result (IsBelow (M.state machine.new).host.width (pfns_of_words deferred.new)) }
     ensures sized { length set.new ≡ length set.old }
     ensures empty { OnOk result (batch.new ≡ []) }
     ensures later { M.Later machine.old machine.new }
@@ -96,9 +92,9 @@ fn run_rounds<M: Machine, K: Sink>(
     let mut rounds = 0;
     let mut entries = 0;
     loop {
-        entries += entries_of(set);
+        entries += count(set);
         send_all(machine, sink, batch, set, deferred, types, page)?;
-        take_set(machine, words, set)?;
+        take_set(machine, set)?;
         rounds += 1;
         if rounds == MOST_ROUNDS || count(set) < FEW {
             return Ok(RoundsSent { rounds, entries });
@@ -126,27 +122,30 @@ fn finish<M: Machine, K: Sink>(
     machine: &mut M,
     sink: &mut K,
     batch: &mut Batch,
-    set: &mut [bool],
-    deferred: &mut [bool],
+    set: &mut [u64],
+    deferred: &mut [u64],
     types: &mut [Option<PageType>],
-    words: &mut [u64],
+    log: &mut [u64],
     page: &mut [u8; 4096],
     rounds: u32,
 ) -> Result<Worst, SendFault>
-    requires width { length set.old ≡ (M.state machine.old).host.width }
-    requires narrow { length set.old ≤ most_width }
+    requires narrow { (M.state machine.old).host.width ≤ most_width }
+    requires words { length set.old ≡ ((M.state machine.old).host.width + 63) / 64 }
     requires wide { length deferred.old ≡ length set.old }
-    requires long { length types.old ≡ length set.old }
-    requires words { length words.old ≡ (length set.old + 63) / 64 }
+    requires long { length types.old ≡ (M.state machine.old).host.width }
+    requires below { IsBelow (M.state machine.old).host.width (pfns_of_words set.old) }
+    requires noted { IsBelow (M.state machine.old).host.width (pfns_of_words deferred.old) }
+    requires log { length log.old ≡ length set.old }
     requires empty { batch.old ≡ [] }
-    requires ended { Ended rounds (M.state machine.old) (pfns_of_flags set.old) }
+    requires ended { Ended rounds (M.state machine.old) (pfns_of_words set.old) }
     ensures saved { OnOk result (Saved rounds (M.state machine.new)) }
-    ensures read { OnOk result (total (M.state machine.new).host.width (M.state machine.new).history ≡ total_taken (M.state machine.old).host.width (M.state machine.old).history.taken + size (length set.new) (pfns_of_flags set.new)) }
+    ensures read { OnOk result (total (M.state machine.new).host.width (M.state machine.new).history ≡ total_taken (M.state machine.old).host.width (M.state machine.old).history.taken + size (M.state machine.new).host.width (pfns_of_words set.new)) }
+    ensures below { OnOk result (IsBelow (M.state machine.new).host.width (pfns_of_words set.new)) }
     ensures sized { length set.new ≡ length set.old }
-    ensures sent { IfOk result (SendsLast rounds (M.state machine.old) (M.state machine.new) (pfns_of_flags set.old) (K.written sink.old) (K.written sink.new)
+    ensures sent { IfOk result (SendsLast rounds (M.state machine.old) (M.state machine.new) (pfns_of_words set.old) (K.written sink.old) (K.written sink.new)
         (notes_of deferred.old types.old) (notes_of deferred.new types.new)) }
     ensures named { IfOk result (λ worst. (u : Unsound) → worst_fault worst ≡ Some u → IsUnsound (M.state machine.new).host.frames u) }
-    ensures behind { OnErr result (RoundsLeaveBehind rounds (M.state machine.old) (M.state machine.new) (pfns_of_flags set.old) (K.written sink.old) (K.written sink.new) (notes_of deferred.old types.old)) }
+    ensures behind { OnErr result (RoundsLeaveBehind rounds (M.state machine.old) (M.state machine.new) (pfns_of_words set.old) (K.written sink.old) (K.written sink.new) (notes_of deferred.old types.old)) }
     ensures kept { StaysSame (M.state machine.old) (M.state machine.new) }
     ensures later { M.Later machine.old machine.new }
     ensures machine_count { M.faults machine.old ≤ M.faults machine.new }
@@ -156,7 +155,7 @@ fn finish<M: Machine, K: Sink>(
     ensures write_fault { IsErrOf result WriteFault → Rose (K.faults sink.old) (K.faults sink.new) }
 {
     stop(machine)?;
-    take_more(machine, words, set)?;
+    take_more(machine, log, set)?;
     join(set, deferred);
     send_all(machine, sink, batch, set, deferred, types, page)
 }
@@ -193,6 +192,7 @@ pub fn send_frames<M: Machine, K: Sink>(
     ensures entries { IfOk result (λ sent. sent.entries ≡ total (M.state machine.new).host.width (M.state machine.new).history) }
     ensures frames { IfOk result (λ sent. FramesSaved (K.written sink.old) (K.written sink.new) (M.state machine.new) sent.unsound) }
     ensures types { IfOk result (λ sent. SawTypes sent.types.items (M.state machine.new)) }
+    ensures whole { IfOk result (λ sent. length sent.types.items ≡ (M.state machine.new).host.width) }
     ensures first { IfOk result (λ sent. AnswersTables (M.state machine.new) sent.unsound) }
     ensures named { IfOk result (λ sent. (u : Unsound) → sent.unsound ≡ Some u → IsUnsound (M.state machine.new).host.frames u) }
     ensures behind { OnErr result (IsBehind (K.written sink.old) (K.written sink.new) (total (M.state machine.old).host.width (M.state machine.new).history)) }
@@ -209,7 +209,7 @@ pub fn send_frames<M: Machine, K: Sink>(
         mut set,
         mut deferred,
         mut types,
-        mut words,
+        mut log,
     } = room;
     let mut page = [0; 4096];
     let before = run_rounds(
@@ -219,7 +219,6 @@ pub fn send_frames<M: Machine, K: Sink>(
         &mut set,
         &mut deferred,
         &mut types,
-        &mut words,
         &mut page,
     )?;
     let worst = finish(
@@ -229,13 +228,13 @@ pub fn send_frames<M: Machine, K: Sink>(
         &mut set,
         &mut deferred,
         &mut types,
-        &mut words,
+        &mut log,
         &mut page,
         before.rounds,
     )?;
     Ok(Sent {
         rounds: before.rounds,
-        entries: before.entries + entries_of(&set),
+        entries: before.entries + count(&set),
         unsound: unsound_of(worst),
         types,
     })

@@ -1,4 +1,4 @@
-ghost use Rattle.std.specs.Prelude.{◌≡◌, ℕ, ◌+◌, ◌<◌, ◌≤◌, List, length, Option, Some, None, OnOk, OnErr, IfOk, IsErrOf, if◌then◌else◌};
+ghost use Rattle.std.specs.Prelude.{◌≡◌, ℕ, ◌+◌, ◌/◌, ◌<◌, ◌≤◌, List, length, Option, Some, None, OnOk, OnErr, IfOk, IsErrOf, if◌then◌else◌};
 ghost use Rattle.std.specs.Option.{option_map};
 ghost use Rattle.mig_bytes.specs.Faults.{Rose};
 ghost use Rattle.mig_pagetypes.specs.Limits.{pfn_limit};
@@ -17,6 +17,7 @@ use mig_bytes::{Sink, WriteFailed};
 use mig_machine_api::Machine;
 use mig_pagesink::{Batch, HeldFrame};
 use mig_pagetypes::PageType;
+use mig_pfnset::put;
 
 /// The type that the entry tells.
 fn kind_sent(found: Found) -> Option<PageType>
@@ -46,12 +47,12 @@ fn is_left_out(found: Found) -> bool
 }
 
 /// Notes what was found at a frame number.
-fn note(deferred: &mut [bool], types: &mut [Option<PageType>], pfn: u64, found: Found)
-    requires flag { pfn < length deferred.old }
+fn note(deferred: &mut [u64], types: &mut [Option<PageType>], pfn: u64, found: Found)
+    requires room { pfn / 64 < length deferred.old }
     requires place { pfn < length types.old }
     ensures { (page : List ℕ) → notes_of deferred.new types.new ≡ noted pfn (found_as found page) (notes_of deferred.old types.old) }
 {
-    deferred[pfn as usize] = is_left_out(found);
+    put(deferred, pfn, is_left_out(found));
     types[pfn as usize] = kind_found(found);
 }
 
@@ -88,14 +89,14 @@ pub(crate) fn send_one<M: Machine, K: Sink>(
     machine: &mut M,
     sink: &mut K,
     batch: &mut Batch,
-    deferred: &mut [bool],
+    deferred: &mut [u64],
     types: &mut [Option<PageType>],
     pfn: u64,
     page: &mut [u8; 4096],
 ) -> Result<Found, SendFault>
     requires inside { pfn < (M.state machine.old).host.width }
     requires small { pfn < pfn_limit }
-    requires wide { length deferred.old ≡ (M.state machine.old).host.width }
+    requires wide { length deferred.old ≡ ((M.state machine.old).host.width + 63) / 64 }
     requires long { length types.old ≡ (M.state machine.old).host.width }
     requires few { length batch.old < 1024 }
     ensures reads { IfOk result (λ found. ReadsOne pfn (M.state machine.old) (M.state machine.new) (found_as found page.new)) }

@@ -1,6 +1,8 @@
 use Rattle.std.proofs.Common.{◌≡◌, ◌≤◌, ◌<◌, ◌-◌, ◌+◌, ◌*◌, ◌/◌, ◌^◌, [], length}
+use Rattle.mig_machine_api.specs.Pfns.{pfns_of_words}
 use Rattle.mig_machine_api.specs.Rounds.{GoesOn}
-use Rattle.mig_rounds.specs.Flags.{pfns_of_flags, total_taken}
+use Rattle.mig_pfnset.specs.Changes.{IsBelow}
+use Rattle.mig_rounds.specs.Parts.{total_taken}
 use Rattle.mig_rounds.specs.Current.{notes_of}
 use Rattle.mig_rounds.specs.Live.{Live, SendsRounds, StaysSame}
 use Rattle.mig_rounds.proofs.save.run_rounds.Given as goal
@@ -10,18 +12,19 @@ invariant-loop-machine g l =
     let first = g.M.Machine.state l.fn.machine in
     let s = g.M.Machine.state l.machine in
     record {
-      live : Live s (pfns_of_flags l.set);
-      sent : SendsRounds l.rounds first s (pfns_of_flags l.fn.set) (pfns_of_flags l.set) (g.K.Sink.written l.fn.sink) (g.K.Sink.written l.sink) (notes_of l.fn.deferred l.fn.types) (notes_of l.deferred l.types);
+      live : Live s (pfns_of_words l.set);
+      sent : SendsRounds l.rounds first s (pfns_of_words l.fn.set) (pfns_of_words l.set) (g.K.Sink.written l.fn.sink) (g.K.Sink.written l.sink) (notes_of l.fn.deferred l.fn.types) (notes_of l.deferred l.types);
       on : GoesOn s.host.width s.history.taken;
       number : l.rounds ≡ length s.history.taken;
       counted : l.entries ≡ total_taken s.host.width s.history.taken;
       small : l.entries ≤ 2 ^ 28 * l.rounds;
       few : l.rounds < 5;
       kept : StaysSame first s;
-      width : length l.set ≡ s.host.width;
+      words : length l.set ≡ (s.host.width + 63) / 64;
       wide : length l.deferred ≡ length l.set;
-      long : length l.types ≡ length l.set;
-      words : length l.words ≡ (length l.set + 63) / 64;
+      long : length l.types ≡ s.host.width;
+      below : IsBelow s.host.width (pfns_of_words l.set);
+      noted : IsBelow s.host.width (pfns_of_words l.deferred);
       sized : length l.set ≡ length l.fn.set;
       empty : l.batch ≡ [];
       later : g.M.Machine.Later l.fn.machine l.machine;

@@ -1,11 +1,7 @@
--- Sets of frame numbers (PFN) as flags, parts of a set, and how much was read.
-use Rattle.std.specs.Prelude.{ℕ, ◌+◌, List, [], ◌∷◌, Bool, false, get_or, nat_lt, nat_le, ◌&&◌}
+-- Parts of a set of frame numbers (PFN), and how much was read.
+use Rattle.std.specs.Prelude.{ℕ, ◌+◌, List, [], ◌∷◌, nat_lt, nat_le, ◌&&◌}
 use Rattle.mig_machine_api.specs.Pfns.{Pfns, size}
 use Rattle.mig_machine_api.specs.History.{LogTook, History}
-
--- flag number p tells of p
-abbrev pub pfns_of_flags : List Bool → Pfns
-pfns_of_flags flags p = get_or flags p false
 
 -- those of a set below i
 abbrev pub front : ℕ → Pfns → Pfns
