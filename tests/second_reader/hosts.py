@@ -116,6 +116,7 @@ def hvm_guest_of(host):
     guest['context'] = context[:reader.end_of_chain(context, '7 BadContext')] + bytes(8)
     guest['frames'] = {pfn: (kind, page) for pfn, (kind, _, page) in host['frames'].items()}
     guest['params'] = {key[1]: struct.unpack('<Q', data)[0] for key, data in parts.items() if key[0] == PARAMS}
+    guest['emulators'] = {(one, two, code - 256): data for (code, one, two), data in parts.items() if code in (PAIRS, EMULATOR)}
     return guest
 
 

@@ -1,6 +1,7 @@
 """Images of HVM hosts that are made at random, a few of them of other hosts or faulty, with scripts behind them."""
 import struct
 
+import libxl
 import streams
 
 LINES = 'wwwwttarxxp..'
@@ -18,6 +19,20 @@ def part(code, one, two, data):
     return struct.pack('<IIII', code, one, two, len(data)) + data + bytes(-len(data) % 8)
 
 
+def emulator_parts(dice):
+    """Pairs and contexts of one or a few emulators; rarely of none that there is, or pairs that aren't in canonical form."""
+    found = {}
+    for _ in range(dice.choice((1, 1, 2, 3, 9))):
+        keys = streams.rarely(dice, dice.choice((0, 1, 1, 2, 2)), 3), streams.rarely(dice, dice.choice((0, 0, 1, 9, 255)), 256)
+        if dice.random() < 0.7:
+            values = dice.sample(((b'a', b'1'), (b'b', b''), (b'physmap/1f/name', b'\xff\x01'), (b'Z', b'2=3')), dice.randrange(1, 5))
+            spelled = libxl.spelled(dict(values))
+            found[(258, *keys)] = streams.rarely(dice, spelled, dice.choice((spelled[:-1], b'b\0c\0a\0d\0', b'a,\0\0', b'')))
+        if dice.random() < 0.7:
+            found[(259, *keys)] = dice.randbytes(dice.choice((0, 1, 5, 8, 24)))
+    return found
+
+
 def parts(dice):
     found = {(8, 0, 0): dice.randbytes(20)} if dice.random() < 0.3 else {}
     if dice.random() < 0.95:
@@ -26,10 +41,8 @@ def parts(dice):
         found[10, streams.rarely(dice, dice.choice((0, 1, 9, 4095)), 4096), 0] = streams.rarely(dice, dice.randbytes(8), bytes(7))
         found[17, dice.randrange(3), dice.randrange(3)] = dice.randbytes(16)
         found[18, dice.randrange(3), 0] = dice.randbytes(12)
-    if dice.random() < 0.03:
-        found[259, dice.randrange(4), 0] = dice.randbytes(5)
-    if dice.random() < 0.03:
-        found[258, 2, 0] = dice.choice((b'a\0b\0', b'b\0c\0a\0d\0', b'a'))
+    if dice.random() < 0.4:
+        found.update(emulator_parts(dice))
     return found
 
 

@@ -195,9 +195,10 @@ def canonical_image(guest, pages=None):
     return b''.join(out + [record(END)])
 
 
-def canonical(guest):
-    bare = canonical_image(guest)
-    return libxl.wrapped(guest['emulators'], bare) if guest['emulators'] else bare
+def canonical(guest, pages=None):
+    """The same for the stream of a guest."""
+    image = canonical_image(guest, pages)
+    return libxl.wrapped(guest['emulators'], image) if guest['emulators'] else image
 
 
 def part(key, data):

@@ -202,8 +202,6 @@ def save(data):
     source = Input(data)
     try:
         host = hosts.read_host(source)
-        source.place = 'Head'
-        refuse_if(any(key[0] in (hosts.PAIRS, hosts.EMULATOR) for key in host['parts']), '0 NotBuilt 2')
     except Refused as cause:
         return 1, b'', ('refused: %s: %s\n' % (source.place, cause)).encode()
     try:
@@ -213,6 +211,6 @@ def save(data):
     rounds = saver.save_frames()
     try:
         report = b'ok rounds %d entries %d\n' % (rounds, saver.entries)
-        return 0, reader.canonical_image(hosts.guest_of(host), saver.records), report
+        return 0, reader.canonical(hosts.guest_of(host), saver.records), report
     except Refused as cause:
         return 1, None, ('refused: Pause: %s\n' % cause).encode()
