@@ -79,8 +79,6 @@ LEGACY = {
 
 
 IMAGE = {
-    0: Advice('NotBuilt', 'a host that is not saved yet, since it has the state of a device model',
-              'take the image of another host'),
     1: Advice('Truncated', 'the file ends within this part', COPY),
     2: Advice('NotImage', 'no guest image begins here', 'look whether the right file was named: `mig restore` writes guest images'),
     3: Advice('BadKind', 'neither a PV nor an HVM guest', AGAIN),

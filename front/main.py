@@ -27,8 +27,7 @@ IN is a file or `-`: a file of `xl save` or of libvirt's libxl driver, a libxl s
 a stream of Xen 4.5 or older, also packed by gzip, zstd or xz."""
 
 SCRIPT = """\
-IMAGE is a guest image, as `mig restore` writes it, of a guest without the state of a device model; it may be packed by
-gzip, zstd or xz. SCRIPT has a line for each thing that the guest does meanwhile:
+IMAGE is a guest image, as `mig restore` writes it; it may be packed by gzip, zstd or xz. SCRIPT has a line for each thing that the guest does meanwhile:
   w PFN OFFSET HEX         writes bytes in a frame's page
   t PFN TYPE               gives a frame another type: 0 NOTAB, 13 BROKEN, 14 XALLOC; of a PV guest also 1 to 4 and 9 to 12,
                            page tables
