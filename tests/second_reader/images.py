@@ -58,6 +58,12 @@ def image(dice):
     return [head, *frames, struct.pack('<Q', len(last)), *last], width, found
 
 
+def put(dice, key, found):
+    """A line that replaces a part, by bytes of its length most often."""
+    data = streams.chain(dice) if key[0] == 9 and dice.random() < 0.5 else dice.randbytes(len(found[key]))
+    return 'p %d %d %d %s' % (*key, data.hex() or '00')
+
+
 def line(dice, width, found):
     letter, pfn = dice.choice(LINES), dice.randrange(width + 1)
     if letter == 'w':
@@ -70,9 +76,7 @@ def line(dice, width, found):
     if letter == 'r':
         return 'r %d' % pfn
     if letter == 'p' and found:
-        key = dice.choice(list(found))
-        data = streams.chain(dice) if key[0] == 9 and dice.random() < 0.5 else dice.randbytes(len(found[key]))
-        return 'p %d %d %d %s' % (*key, data.hex() or '00')
+        return put(dice, dice.choice(list(found)), found)
     return '.'
 
 
@@ -88,6 +92,9 @@ def script(dice, width, found):
     if dice.random() < 0.8:                          # a burst of writes, so that there are further rounds
         first = [dice.choice(('w %d 0 %02x', 'w %d 4000 %02x')) % (pfn, dice.randrange(256)) for pfn in range(width)]
         lines += (['.'] * dice.randrange(width + 2) + first) * dice.randrange(4)
+    for key in found:
+        if key[0] == 259 and dice.random() < 0.6:    # an emulator's context, up to the pause or behind it
+            lines.insert(dice.choice((0, len(lines) // 2, len(lines))), put(dice, key, found))
     if dice.random() < 0.1:
         lines.insert(dice.randrange(len(lines) + 1), bad_line(dice))
     text = '\n'.join(lines).encode()
