@@ -1,5 +1,5 @@
 -- The least member from a frame number on.
-use Rattle.std.proofs.Common.{arith, ◌≡◌, ℕ, ◌+◌, ◌-◌, ◌*◌, ◌/◌, ◌%◌, ◌^◌, ◌≤◌, ◌<◌, List, length, get_or, true, false, w64, refl, sym, ap, ◌∙◌, inl, inr}
+use Rattle.std.proofs.Common.{arith, ◌≡◌, ℕ, ◌+◌, ◌-◌, ◌*◌, ◌/◌, ◌%◌, ◌^◌, ◌≤◌, ◌<◌, List, length, get_or, false, w64, refl, sym, ap, ◌∙◌, inl, inr}
 use Rattle.std.specs.Prelude.{◌==◌}
 use Rattle.std.specs.Int.{bit_at, trailing_zeros}
 use Rattle.std.proofs.lemmas.Bool.{cases_lt}
@@ -49,24 +49,3 @@ NoneBetween words p end = (q : ℕ) → p ≤ q → q < end → pfns_of_words wo
 
 pub none_yet : (words : List ℕ) (p end : ℕ) → end ≤ p → NoneBetween words p end
 none_yet words p end le q low high = absurd (omega arith)
-
--- up to a bit of a word
-pub none_before : (words : List ℕ) (p index low bit : ℕ) → NoneBetween words p (64 * index + low) → bit ≤ 64 → ((i : ℕ) → low ≤ i → i < bit → bit_at (get_or words index 0) i ≡ 0) → NoneBetween words p (64 * index + bit)
-none_before words p index low bit done small out q le less = elim (cases_lt q (64 * index + low)) [
-  | inl before ↦ done q le before
-  | inr past ↦ in_set words index q 0 (omega arith) (out (q % 64) (omega arith) (omega arith))
-]
-
--- up to the next word
-pub none_in_word : (words : List ℕ) (p index low : ℕ) → NoneBetween words p (64 * index + low) → ((i : ℕ) → low ≤ i → bit_at (get_or words index 0) i ≡ 0) → NoneBetween words p (64 * (index + 1) + 0)
-none_in_word words p index low done out q le less = none_before words p index low 64 done (omega arith) (λ i a b. out i a) q le (omega arith)
-
-pub none_at_all : (words : List ℕ) (p index low : ℕ) → NoneBetween words p (64 * index + low) → length words ≤ index → (q : ℕ) → p ≤ q → pfns_of_words words q ≡ false
-none_at_all words p index low done end q le = elim (cases_lt q (64 * index + low)) [
-  | inl before ↦ done q le before
-  | inr past ↦ words_below words q (omega arith)
-]
-
-pub is_member : (words : List ℕ) (index bit : ℕ) → bit < 64 → bit_at (get_or words index 0) bit ≡ 1 → pfns_of_words words (64 * index + bit) ≡ true
-is_member words index bit small set =
-    in_set words index (64 * index + bit) 1 (omega arith) (ap (bit_at (get_or words index 0)) (let e : (64 * index + bit) % 64 ≡ bit = omega arith in e) ∙ set)
