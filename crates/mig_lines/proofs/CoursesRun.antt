@@ -3,13 +3,20 @@ use Rattle.std.proofs.Common.{◌≡◌, ℕ, zero, suc, ◌+◌, ◌-◌, ◌<�
 use Rattle.std.proofs.lemmas.Bool.{cases_lt}
 use Rattle.std.proofs.lemmas.List.Sums.{fold-append}
 use Rattle.mig_guest.specs.Hosts.{HostOf}
-use Rattle.mig_machine_api.specs.Pfns.{Pfns}
+use Rattle.mig_machine_api.specs.Pfns.{Pfns, no_pfns}
 use Rattle.mig_script.specs.ScriptLines.{LineOf}
 use Rattle.mig_script.specs.ScriptLines.LineOf.{Write, Retype, Add, Remove, Exchange, Put, Dot}
 use Rattle.mig_lines.specs.Courses.{Course, IsLaterCourse}
 use Rattle.mig_lines.specs.Groups.{ends_group, first_group, first_length, lines_up_to, ran, ran_between}
-use Rattle.mig_lines.specs.HostLines.{after, after_line, logged_after}
+use Rattle.mig_lines.specs.HostLines.{after, after_line, logs, with_logged, logged_after}
+use Rattle.mig_lines.specs.Touched.{touched}
 use Rattle.mig_lines.proofs.LinesLogged.{IsRegular, LinesRan, lines_ran}
+
+-- ---- lines that log
+
+pub logged_append : (h : HostOf) (xs ys : List LineOf) (log : Pfns) → logged_after h (xs ++ ys) log ≡ logged_after (after h xs) ys (logged_after h xs log)
+logged_append h [] ys log = refl
+logged_append h (x ∷ xs) ys log = logged_append (after_line h x) xs ys (with_logged (logs h x) log)
 
 -- ---- a group, and the dot that ends it
 
@@ -22,13 +29,23 @@ dot_stays h (Exchange pfn mfn) e = cc
 dot_stays h (Put code first second bytes) e = cc
 dot_stays h Dot e = refl
 
+dot_unlogged : (h : HostOf) (line : LineOf) (log : Pfns) → ends_group line ≡ true → logged_after h (line ∷ []) log ≡ log
+dot_unlogged h (Write pfn at bytes) log e = cc
+dot_unlogged h (Retype pfn type) log e = cc
+dot_unlogged h (Add pfn mfn) log e = cc
+dot_unlogged h (Remove pfn) log e = cc
+dot_unlogged h (Exchange pfn mfn) log e = cc
+dot_unlogged h (Put code first second bytes) log e = cc
+dot_unlogged h Dot log e = refl
+
 record EndsBy (lines : List LineOf) : Type 0 where
   pub dots : List LineOf
   pub is : take (first_length lines) lines ≡ first_group lines ++ dots
   pub stays : (h : HostOf) → after h dots ≡ h
+  pub unlogged : (h : HostOf) (log : Pfns) → logged_after h dots log ≡ log
 
 ends_by : (lines : List LineOf) → EndsBy lines
-ends_by [] = record { dots = []; is = refl; stays = λ h. refl }
+ends_by [] = record { dots = []; is = refl; stays = λ h. refl; unlogged = λ h log. refl }
 ends_by (line ∷ lines) = go (ends_group line) refl (ends_by lines)
   where
     go : (b : Bool) → ends_group line ≡ b → EndsBy lines → EndsBy (line ∷ lines)
@@ -36,12 +53,14 @@ ends_by (line ∷ lines) = go (ends_group line) refl (ends_by lines)
       dots = line ∷ [];
       is = ap (λ b. take (cond b 1 (first_length lines + 1)) (line ∷ lines)) e ∙ sym (ap (λ b. cond b [] (line ∷ first_group lines) ++ line ∷ []) e);
       stays = λ h. dot_stays h line e;
+      unlogged = λ h log. dot_unlogged h line log e;
     }
     go false e others = record {
       dots = others.dots;
       is = ap (λ b. take (cond b 1 (first_length lines + 1)) (line ∷ lines)) e ∙ ap (λ n. take n (line ∷ lines)) (let s : first_length lines + 1 ≡ suc (first_length lines) = omega arith in s) ∙ ap (λ l. line ∷ l) others.is
           ∙ sym (ap (λ b. cond b [] (line ∷ first_group lines) ++ others.dots) e);
       stays = others.stays;
+      unlogged = others.unlogged;
     }
 
 -- ---- one call more
@@ -56,9 +75,10 @@ record RanMore (lines : List LineOf) (c : ℕ) : Type 0 where
   pub dots : List LineOf
   pub is : ran lines (c + 1) ≡ ran lines c ++ (dots ++ group_at lines c)
   pub stays : (h : HostOf) → after h dots ≡ h
+  pub unlogged : (h : HostOf) (log : Pfns) → logged_after h dots log ≡ log
 
 ran_more : (lines : List LineOf) (c : ℕ) → RanMore lines c
-ran_more lines zero = record { dots = []; is = ap (ran lines) (let e : zero + 1 ≡ suc zero = omega arith in e); stays = λ h. refl }
+ran_more lines zero = record { dots = []; is = ap (ran lines) (let e : zero + 1 ≡ suc zero = omega arith in e); stays = λ h. refl; unlogged = λ h log. refl }
 ran_more lines (suc k) =
     let p = lines_up_to lines k in
     let rest = drop (lines_up_to lines k) lines in
@@ -69,6 +89,7 @@ ran_more lines (suc k) =
           ∙ ap (λ l. l ++ group_at lines (suc k)) (take-add p (first_length rest) lines ∙ ap (λ l. take p lines ++ l) e.is)
           ∙ regroup (take p lines) (first_group rest) e.dots (group_at lines (suc k));
       stays = e.stays;
+      unlogged = e.unlogged;
     }
 
 -- ---- lines run between two calls
@@ -105,13 +126,18 @@ between_on lines a b c low high =
     between_is lines a c (p.rest ++ q.rest) (q.is ∙ ap (λ l. l ++ q.rest) p.is ∙ append_assoc (ran lines a) p.rest q.rest)
     ∙ sym (λ i. between_is lines a b p.rest p.is i ++ between_is lines b c q.rest q.is i)
 
-between_same : (lines : List LineOf) (c : ℕ) → ran_between lines c c ≡ []
+pub between_same : (lines : List LineOf) (c : ℕ) → ran_between lines c c ≡ []
 between_same lines c = between_is lines c c [] (sym (append-nil (ran lines c)))
 
 between_next : (lines : List LineOf) (h : HostOf) (c : ℕ) → after h (ran_between lines c (c + 1)) ≡ after h (group_at lines c)
 between_next lines h c =
     let m = ran_more lines c in
     ap (λ (l : List LineOf). after h l) (between_is lines c (c + 1) (m.dots ++ group_at lines c) m.is) ∙ fold-append after_line h m.dots (group_at lines c) ∙ ap (λ (k : HostOf). after k (group_at lines c)) (m.stays h)
+
+next_logged : (lines : List LineOf) (h : HostOf) (c : ℕ) (log : Pfns) → logged_after h (ran_between lines c (c + 1)) log ≡ logged_after h (group_at lines c) log
+next_logged lines h c log =
+    let m = ran_more lines c in
+    ap (λ (l : List LineOf). logged_after h l log) (between_is lines c (c + 1) (m.dots ++ group_at lines c) m.is) ∙ logged_append h m.dots (group_at lines c) log ∙ (λ i. logged_after (m.stays h i) (group_at lines c) (m.unlogged h log i))
 
 -- ---- a counter that stays at its last value
 
@@ -153,6 +179,31 @@ next_after lines h c d next few = elim (cases_lt c (2 ^ 64 - 1)) [
       ap (λ (l : List LineOf). after h (first_group l)) (none_left lines c (omega (arith, last, few)))
       ∙ sym (ap (λ (l : List LineOf). after h l) (ap (ran_between lines c) (let e : d ≡ c = omega (arith, is, fits, last) in e) ∙ between_same lines c))
 ]
+
+pub logged_next : (lines : List LineOf) (h : HostOf) (log : Pfns) (c d : ℕ) → IsNextCount c d → length lines ≤ 2 ^ 64 - 1 → logged_after h (group_at lines c) log ≡ logged_after h (ran_between lines c d) log
+logged_next lines h log c d next few = elim (cases_lt c (2 ^ 64 - 1)) [
+  | inl less ↦ let is = next.is in sym (next_logged lines h c log) ∙ ap (λ (n : ℕ). logged_after h (ran_between lines c n) log) (let e : c + 1 ≡ d = omega (arith, is, less) in e)
+  | inr last ↦
+      let is = next.is in let fits = next.fits in
+      ap (λ (l : List LineOf). logged_after h (first_group l) log) (none_left lines c (omega (arith, last, few)))
+      ∙ sym (ap (λ (l : List LineOf). logged_after h l log) (ap (ran_between lines c) (let e : d ≡ c = omega (arith, is, fits, last) in e) ∙ between_same lines c))
+]
+
+-- ---- what is touched
+
+pub after_between : (h : HostOf) (lines : List LineOf) (a b : ℕ) → a ≤ b → after (after h (ran lines a)) (ran_between lines a b) ≡ after h (ran lines b)
+after_between h lines a b le =
+    let p = begins lines a b le in
+    ap (λ (l : List LineOf). after (after h (ran lines a)) l) (between_is lines a b p.rest p.is) ∙ sym (fold-append after_line h (ran lines a) p.rest) ∙ sym (ap (λ (l : List LineOf). after h l) p.is)
+
+-- what is touched up to a later call
+pub touched_on : (h : HostOf) (lines : List LineOf) (a b c : ℕ) → a ≤ b → b ≤ c → touched h lines a c ≡ logged_after (after h (ran lines b)) (ran_between lines b c) (touched h lines a b)
+touched_on h lines a b c low high =
+    ap (λ (l : List LineOf). logged_after (after h (ran lines a)) l no_pfns) (between_on lines a b c low high) ∙ logged_append (after h (ran lines a)) (ran_between lines a b) (ran_between lines b c) no_pfns
+    ∙ ap (λ (k : HostOf). logged_after k (ran_between lines b c) (touched h lines a b)) (after_between h lines a b low)
+
+pub touched_same : (h : HostOf) (lines : List LineOf) (a : ℕ) → touched h lines a a ≡ no_pfns
+touched_same h lines a = ap (λ (l : List LineOf). logged_after (after h (ran lines a)) l no_pfns) (between_same lines a)
 
 -- ---- what is later
 

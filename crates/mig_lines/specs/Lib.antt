@@ -1,3 +1,4 @@
 pub mod HostLines
 pub mod Groups
 pub mod Courses
+pub mod Touched
