@@ -5,7 +5,8 @@ use Rattle.mig_lines.specs.Groups.{ran}
 use Rattle.mig_lines.specs.HostLines.{after}
 use Rattle.mig_lines.proofs.LinesLogged.{LinesRan}
 use Rattle.mig_lines.proofs.CoursesRun.{from_start}
-use Rattle.mig_machine.specs.MachineSeen.{MachineSeen, calls_of, is_paused, log_of, machine_state, course_of, IsLaterMachine}
+use Rattle.mig_machine.specs.MachineSeen.{MachineSeen, calls_of, is_paused, log_of, machine_state, course_of}
+use Rattle.mig_machine.specs.Exact.{IsLaterMachine}
 
 -- lines ran
 pub ran_lines : (a b : MachineSeen) → LinesRan a.host b.host (log_of a) (log_of b) → is_paused a ≡ false → Ran (machine_state a) (machine_state b) (log_of b)
@@ -21,4 +22,4 @@ ran_lines a b r live = record {
 
 -- the host of a machine that is later than one of which nothing was asked
 pub from_first : (first now : MachineSeen) → calls_of first ≡ 0 → IsLaterMachine first now → now.host ≡ after first.host (ran first.lines now.runs)
-from_first first now none later = from_start (course_of first) (course_of now) none (omega arith) later
+from_first first now none later = from_start (course_of first) (course_of now) none (omega arith) later.course

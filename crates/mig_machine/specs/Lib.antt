@@ -1,3 +1,4 @@
 pub mod MachineSeen
 pub mod Noted
 pub mod MachineFields
+pub mod Exact

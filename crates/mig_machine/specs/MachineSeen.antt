@@ -7,7 +7,7 @@ use Rattle.mig_machine_api.specs.History.{History, LogTook, Since}
 use Rattle.mig_machine_api.specs.MachineStates.{MachineState}
 use Rattle.mig_machine_api.specs.Pfns.{Pfns, pfns_of_words}
 use Rattle.mig_script.specs.ScriptLines.{LineOf, line_code}
-use Rattle.mig_lines.specs.Courses.{Course, IsLaterCourse}
+use Rattle.mig_lines.specs.Courses.{Course}
 
 -- what was asked since a log was taken, or from the start on
 pub record SinceNoted : Type 0 where
@@ -61,16 +61,9 @@ history_of m = history_told m.noted
 abbrev pub machine_state : MachineSeen → MachineState
 machine_state m = record { host = m.host; log = log_of m; paused = is_paused m; honest = true; history = history_of m }
 
--- ---- a machine and what it is later
-
 -- how far its guest has run its script
 abbrev pub course_of : MachineSeen → Course
 course_of m = record { lines = m.lines; calls = calls_of m; runs = m.runs; host = m.host }
-
--- The second is the first one later on: it has the same script, no fewer calls were made, and its host is what the lines run
--- between make of the host of the first.
-abbrev pub IsLaterMachine : MachineSeen → MachineSeen → Type 0
-IsLaterMachine a b = IsLaterCourse (course_of a) (course_of b)
 
 -- ---- the code of a machine, by which proofs tell its values apart
 

@@ -1,7 +1,8 @@
 ghost use Rattle.std.specs.Prelude.{◌≡◌, ℕ, ◌+◌, ◌/◌, ◌≤◌, length};
 ghost use Rattle.mig_machine_api.specs.MachineCalls.{seen_at, page_peeked};
 ghost use Rattle.mig_machine_api.specs.Pfns.{pfns_of_words, no_pfns};
-ghost use Rattle.mig_machine.specs.MachineSeen.{machine_state, course_of, IsLaterMachine};
+ghost use Rattle.mig_machine.specs.MachineSeen.{machine_state, course_of};
+ghost use Rattle.mig_machine.specs.Exact.{IsLaterMachine};
 ghost use Rattle.mig_lines.proofs.CoursesRun.{later_itself, later_still};
 
 use crate::machine::ScriptMachine;
@@ -95,7 +96,7 @@ impl Machine for ScriptMachine {
         Ok(())
     }
 
-    ghost later_self = { λ m. later_itself (course_of m) };
+    ghost later_self = { λ m. record { course = later_itself (course_of m); exact = λ h e. e } };
 
-    ghost later_on = { λ a b c p q. later_still (course_of a) (course_of b) (course_of c) p q };
+    ghost later_on = { λ a b c p q. record { course = later_still (course_of a) (course_of b) (course_of c) p.course q.course; exact = λ h e. q.exact h (p.exact h e) } };
 }

@@ -2,7 +2,8 @@ ghost use Rattle.std.specs.Prelude.{◌≡◌, false, IfOk};
 ghost use Rattle.mig_machine_api.specs.History.{no_history};
 ghost use Rattle.mig_machine_api.specs.MachineStates.{Ran, IsValidState};
 ghost use Rattle.mig_machine_api.specs.Pfns.{no_pfns};
-ghost use Rattle.mig_machine.specs.MachineSeen.{calls_of, is_paused, log_of, history_of, machine_state, IsLaterMachine};
+ghost use Rattle.mig_machine.specs.MachineSeen.{calls_of, is_paused, log_of, history_of, machine_state};
+ghost use Rattle.mig_machine.specs.Exact.{RunsOn};
 
 use crate::notes::Notes;
 use mig_bytes::Memory;
@@ -78,7 +79,7 @@ impl ScriptMachine {
     /// Counts a call, and lets the guest run the lines of this call, unless it is paused.
     pub(crate) fn run(&mut self)
         ensures ran { Ran (machine_state self.old) (machine_state self.new) (log_of self.new) }
-        ensures later { IsLaterMachine self.old self.new }
+        ensures later { RunsOn self.old self.new }
         ensures valid { IsValidState (machine_state self.new) }
         ensures paused { is_paused self.new ≡ is_paused self.old }
         ensures noted { self.new.noted ≡ self.old.noted }

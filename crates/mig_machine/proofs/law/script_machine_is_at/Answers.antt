@@ -1,5 +1,9 @@
 use Rattle.mig_machine.proofs.MachinesRun.{from_first}
+use Rattle.mig_machine.proofs.Exactly.{exact_from}
 use Rattle.mig_machine.proofs.law.script_machine_is_at.Goals as goal
 
 pub returns-clause-host : goal.returns-clause-host
 returns-clause-host c = from_first
+
+pub returns-clause-exact : goal.returns-clause-exact
+returns-clause-exact c = exact_from

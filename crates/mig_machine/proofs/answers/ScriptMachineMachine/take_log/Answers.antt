@@ -1,7 +1,12 @@
-use Rattle.std.proofs.Common.{ap, subst, sym, ◌∙◌}
+use Rattle.std.proofs.Common.{◌≡◌, ap, subst, sym, ◌∙◌}
+use Rattle.mig_machine_api.specs.History.{after_log}
 use Rattle.mig_guest.specs.Hosts.{IsValid}
-use Rattle.mig_machine_api.specs.Pfns.{Pfns}
-use Rattle.mig_machine.specs.MachineSeen.{MachineSeen}
+use Rattle.mig_machine_api.specs.Pfns.{Pfns, pfns_of_words}
+use Rattle.mig_machine.specs.MachineSeen.{MachineSeen, history_told}
+use Rattle.mig_machine.specs.MachineFields.{machine_seen}
+use Rattle.mig_machine.specs.Noted.{noted_in}
+use Rattle.mig_machine.specs.Exact.{RunsOn}
+use Rattle.mig_machine.proofs.Exactly.{later_by_log}
 use Rattle.mig_machine.proofs.answers.ScriptMachineMachine.take_log.Goals as goal
 
 pub invariant_of-self : goal.invariant_of-self
@@ -20,3 +25,11 @@ returns-clause-valid c = record {
   host = subst IsValid (sym (ap (λ (m : MachineSeen). m.host) c.self.view_is)) c.run.ensures.valid.host;
   logged = λ pfn high. ap (λ (s : Pfns). s pfn) c.hand_over.ensures.empty;
 }
+
+pub returns-clause-later : goal.returns-clause-later
+returns-clause-later c =
+    let m = c.self.inside in
+    let ran = subst (λ (x : MachineSeen). RunsOn c.args.self.now x) (sym c.self.view_is) c.run.ensures.later in
+    let was : noted_in c.self.inside.notes ≡ c.args.self.now.noted = ap (λ (x : MachineSeen). x.noted) c.self.view_is ∙ c.run.ensures.noted in
+    later_by_log c.args.self.now (machine_seen m) c.hand_over.new.log.items (noted_in c.note_log.new.self) ran c.hand_over.ensures.empty
+    (c.note_log.ensures.history ∙ (λ i. after_log (c.is_some.ensures i) (pfns_of_words (c.deref.ensures.value i)) (history_told (was i))))

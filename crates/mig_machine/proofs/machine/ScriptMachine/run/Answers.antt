@@ -2,12 +2,14 @@ use Rattle.std.proofs.Common.{rules, arith, ◌≡◌, ◌≤◌, ◌-◌, ◌^�
 use Rattle.mig_machine_api.specs.MachineStates.{Ran}
 use Rattle.mig_machine_api.specs.Pfns.{pfns_of_words}
 use Rattle.mig_lines.specs.Groups.{first_group, first_length}
-use Rattle.mig_lines.specs.HostLines.{after}
-use Rattle.mig_lines.proofs.CoursesRun.{next_place, later_now, group_ran}
+use Rattle.mig_lines.specs.HostLines.{after, logged_after}
+use Rattle.mig_lines.proofs.CoursesRun.{IsNextCount, next_place, later_now, logged_next, group_ran}
 use Rattle.mig_lines.proofs.LinesLogged.{regular}
-use Rattle.mig_machine.specs.MachineSeen.{MachineSeen, log_of, machine_state, course_of, IsLaterMachine}
+use Rattle.mig_machine.specs.MachineSeen.{MachineSeen, log_of, machine_state, course_of}
+use Rattle.mig_machine.specs.Exact.{RunsOn}
 use Rattle.mig_machine.specs.MachineFields.{machine_seen}
 use Rattle.mig_machine.proofs.MachinesRun.{ran_lines}
+use Rattle.mig_machine.proofs.Exactly.{runs_group}
 use Rattle.mig_machine.proofs.machine.ScriptMachine.run.Goals as goal
 
 pub invariant_of-self-2 : goal.invariant_of-self-2
@@ -35,14 +37,16 @@ returns-clause-ran c =
 
 pub returns-clause-later : goal.returns-clause-later
 returns-clause-later c =
-    let m = c.self.inside in
+    let m = c.self.inside in let e = c.run_logged-self-inside.ensures in
     let now = machine_seen (record m { host = c.run_logged-self-inside.new.host; at = c.run_logged-self-inside.result; runs = c.saturating_add-self-inside.result; log = c.run_logged-self-inside.new.log }) in
     let few : length c.self.inside.script ≤ 2 ^ 64 - 1 = search rules in
     let fits : c.self.inside.runs ≤ 2 ^ 64 - 1 = search rules in
+    let live : is_some c.self.inside.behind ≡ false = search rules in
     let is = c.saturating_add-self-inside.ensures in
-    subst (λ (x : MachineSeen). IsLaterMachine x now) c.self.view_is
-    (later_now (course_of (machine_seen m)) (course_of now) refl (omega (arith, is, fits)) (record { is = is; fits = fits }) few
-    (c.run_logged-self-inside.ensures.host ∙ ap (λ n. after m.host.host (first_group (drop n m.script))) c.self.invariant.left))
+    let next : IsNextCount m.runs c.saturating_add-self-inside.result = record { is = is; fits = fits } in
+    subst (λ (x : MachineSeen). RunsOn x now) c.self.view_is
+    (runs_group (machine_seen m) now (later_now (course_of (machine_seen m)) (course_of now) refl (omega (arith, is, fits)) next few (e.host ∙ ap (λ n. after m.host.host (first_group (drop n m.script))) c.self.invariant.left)) live refl is
+    (e.log ∙ ap (λ n. logged_after m.host.host (first_group (drop n m.script)) (pfns_of_words m.log.items)) c.self.invariant.left ∙ logged_next m.script m.host.host (pfns_of_words m.log.items) m.runs c.saturating_add-self-inside.result next few))
 
 pub returns-clause-valid : goal.returns-clause-valid
 returns-clause-valid c =
