@@ -78,7 +78,7 @@ script_not_read (Some input) mid left host answer stop (text, has, at) read is =
 -- ---- a host and a script were read, and came to no stream
 
 none_comes : (input : List ℕ) (left : Option (List ℕ)) (w : Written) (host : HostOf) (lines : List LineOf) (outcome : Outcome) → HasHostAndScript input host lines → left ≡ Some [] → WroteNoStream w.out_old w.out_new → ComesToNone host lines outcome → Comes Save input left w outcome
-none_comes input left w host lines (outcomes.Refused (refusals.Pause unsound)) read is none (calls, first) = ([], (record { host = host; lines = lines; is = read; calls = calls; first = first }, refl), is)
+none_comes input left w host lines (outcomes.Refused (refusals.Pause unsound)) read is none why = ([], (record { host = host; lines = lines; is = read; pause = why }, refl), is)
 none_comes input left w host lines outcomes.WriteFault read is none h = inl (record { host = host; lines = lines; read = read; left_is = is; no_stream = none })
 none_comes input left w host lines outcomes.Memory read is none h = tt
 none_comes input left w host lines _ read is none h = absurd h
@@ -89,7 +89,7 @@ unsaved_comes (Some input) left w read outcome h none why = none_comes input lef
 
 pause_named : (told left : Option (List ℕ)) (read : HostAndScript) (unsound : Unsound) → ReadsHostAndScript told left (Ok read) → ComesToNone read.host.host (read.script) (outcomes.Refused (refusals.Pause unsound)) → NamesRefusal ImageAndScript told (refusals.Pause unsound)
 pause_named None left read unsound h why = tt
-pause_named (Some input) left read unsound h (calls, first) = ([], (record { host = read.host.host; lines = read.script; is = h.0; calls = calls; first = first }, refl))
+pause_named (Some input) left read unsound h why = ([], (record { host = read.host.host; lines = read.script; is = h.0; pause = why }, refl))
 
 pub refuses_pause : (told left : Option (List ℕ)) (read : HostAndScript) (outcome : Outcome) (status : Status) (old new : Option (List ℕ)) (before now : ℕ) → ReadsHostAndScript told left (Ok read) → ComesToNone read.host.host (read.script) outcome
     → status ≡ status_of outcome → Reports (line_of outcome) old new before now → status ≡ statuses.Refused → RefusesPause told old new before now

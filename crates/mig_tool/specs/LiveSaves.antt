@@ -1,6 +1,6 @@
 -- A host that is saved live: what it is read from, when it isn't saved, and what is written of it.
 use Rattle.std.specs.Prelude.{◌≡◌, ◌<◌, ◌≤◌, ◌+◌, ℕ, List, [], ◌∷◌, ◌++◌, length, map, drop, Option, Some, None}
-use Rattle.std.specs.List.{AllByRecursion, range_with_len}
+use Rattle.std.specs.List.{AllByRecursion}
 use Rattle.std.specs.Io.KnownBytes.{Appends}
 use Rattle.mig_bytes.specs.Judged.Judged.{Passes}
 use Rattle.mig_headers.specs.declared.unsound.Unsound.{Unsound}
@@ -18,6 +18,7 @@ use Rattle.mig_script.specs.ScriptLines.{LineOf}
 use Rattle.mig_script.specs.Scripts.{IsScript, IsBadLine, most_script_bytes}
 use Rattle.mig_lines.specs.Groups.{ran}
 use Rattle.mig_lines.specs.HostLines.{after}
+use Rattle.mig_paced.specs.Paced.{Paced, pfns_paced}
 use Rattle.mig_report.specs.declared.outcome.SaveSummary.{SaveSummary}
 
 -- ---- what is read
@@ -35,6 +36,15 @@ paused_host host lines calls = after host (ran lines calls)
 
 -- ---- when a host isn't saved
 
+-- A save of this host while a script of these lines runs, with its rounds and its pause: the host at the pause can't be seen
+-- as a guest, and this is the first thing in the way.
+pub record PausesUnsound (host : HostOf) (lines : List LineOf) (unsound : Unsound) : Type 0 where
+  pub rounds : ℕ
+  pub calls : ℕ
+  pub again : ℕ
+  pub paced : Paced host lines rounds calls again
+  pub first : unsoundness (paused_host host lines calls) ≡ Some unsound
+
 -- what follows the image has this first bad line
 pub record HasBadLine (input : List ℕ) (line : ℕ) : Type 0 where
   pub host : HostOf
@@ -51,13 +61,12 @@ pub record HasLongScript (input rest : List ℕ) : Type 0 where
   pub many : most_script_bytes < length text
   pub left : rest ≡ drop (most_script_bytes + 1) text
 
--- the host at the pause can't be seen as a guest: this is the first thing in the way
+-- the input has a host and a script, and the host at the pause can't be seen as a guest: this is the first thing in the way
 pub record HasUnsoundPause (input : List ℕ) (unsound : Unsound) : Type 0 where
   pub host : HostOf
   pub lines : List LineOf
   pub is : HasHostAndScript input host lines
-  pub calls : ℕ
-  pub first : unsoundness (paused_host host lines calls) ≡ Some unsound
+  pub pause : PausesUnsound host lines unsound
 
 -- ---- what is written
 
@@ -74,17 +83,16 @@ pub record TellsPfns (host : HostOf) (text pfns : List ℕ) : Type 0 where
   pub order : pfns_sent (all_told batches) ≡ pfns
 
 -- What was written of a host while a script of these lines ran: a stream that is accepted, whatever follows it, with exactly
--- the guest that the host is seen as at the pause. Its entries name every frame number below the width first. There were one
--- to five rounds before the pause.
+-- the guest that the host is seen as at the pause. The host and the script tell how many rounds there were, at which call the
+-- pause came, and what the entries name in which order: every frame number below the width first, then again what the log
+-- behind each round names, and last what the lines touched up to the pause.
 pub record WroteLive (host : HostOf) (lines : List LineOf) (old new : Option (List ℕ)) (summary : SaveSummary) : Type 0 where
   pub calls : ℕ
+  pub again : ℕ
+  pub paced : Paced host lines summary.rounds calls again
   pub sound : unsoundness (paused_host host lines calls) ≡ None
   pub text : List ℕ
   pub wrote : Appends old new text
   pub means : (rest : List ℕ) → AcceptedStream (text ++ rest) (view (paused_host host lines calls)) rest
-  pub pfns : List ℕ
-  pub entries : TellsPfns (paused_host host lines calls) text pfns
-  pub others : List ℕ
-  pub first : pfns ≡ range_with_len 0 host.width ++ others
-  pub counted : summary.entries ≡ length pfns
-  pub rounds : (1 ≤ summary.rounds) × (summary.rounds ≤ 5)
+  pub entries : TellsPfns (paused_host host lines calls) text (pfns_paced paced)
+  pub counted : summary.entries ≡ again + host.width

@@ -10,7 +10,6 @@ use Rattle.mig_guest.specs.Hosts.{HostOf}
 use Rattle.mig_host.specs.HostView.{HostAndSpare}
 use Rattle.mig_bytes.specs.Judged.Judged.{Passes}
 use Rattle.mig_image.specs.ImageParts.{host_at}
-use Rattle.mig_hosted.specs.Sound.{unsoundness}
 use Rattle.mig_report.specs.declared.outcome.Outcome.{Outcome}
 use Rattle.mig_report.specs.declared.outcome.Outcome.TheVariants as outcomes
 use Rattle.mig_report.specs.declared.outcome.Refusal.{Refusal}
@@ -20,7 +19,7 @@ use Rattle.mig_script.specs.declared.script.ScriptAnswer.{ScriptAnswer}
 use Rattle.mig_script.specs.declared.script.ScriptAnswer.TheVariants as scripts
 use Rattle.mig_tool.specs.Answers.{RefusedIn, IsOfInput}
 use Rattle.mig_tool.specs.Answers.Form.{ImageAndScript}
-use Rattle.mig_tool.specs.LiveSaves.{HasHostAndScript, paused_host}
+use Rattle.mig_tool.specs.LiveSaves.{HasHostAndScript, PausesUnsound}
 use Rattle.mig_tool.specs.declared.save.HostAndScript.{HostAndScript}
 
 abbrev pub stop_of_image : Answer ImagePlace ImageCause → Stop Refusal
@@ -61,7 +60,7 @@ outcome_of_stop stops.Memory = outcomes.Memory
 -- why a host and its script came to no stream: the host at the pause can't be seen as a guest, a write failed, or there was no
 -- memory
 abbrev pub ComesToNone : HostOf → List LineOf → Outcome → Type 0
-ComesToNone host lines (outcomes.Refused (refusals.Pause unsound)) = (calls : ℕ) × (unsoundness (paused_host host lines calls) ≡ Some unsound)
+ComesToNone host lines (outcomes.Refused (refusals.Pause unsound)) = PausesUnsound host lines unsound
 ComesToNone host lines outcomes.WriteFault = ⊤
 ComesToNone host lines outcomes.Memory = ⊤
 ComesToNone host lines _ = ⊥

@@ -39,9 +39,9 @@ pub fn run<S: Source, K: Sink, R: Sink>(
 
     // `convert` reads legacy streams, `save` an image and a script, and all others streams. Status 0: an accepted front was
     // taken, and the text of its guest was written, or its line reported; or an image and a script were taken, what was
-    // written is accepted with the guest that the host is seen as at the pause, and its line was reported. Status 1: the
-    // input was taken up to the end of the refused part. Status 4: as 0, but a part of the text or line was written; of
-    // `save`, a part of the line, or what is no stream.
+    // written is accepted with the guest that the host is seen as at the pause, in the rounds and up to the pause that the
+    // host and the script tell, and its line was reported. Status 1: the input was taken up to the end of the refused part.
+    // Status 4: as 0, but a part of the text or line was written; of `save`, a part of the line, or what is no stream.
     ensures done { (command : Command) → Names (texts_of words.now) command
         → SaysOf command (S.left input.old) (S.left input.new) (record { out_old = K.written out.old; out_new = K.written out.new; report_old = R.written report.old; report_new = R.written report.new }) result }
 

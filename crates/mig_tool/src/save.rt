@@ -17,8 +17,9 @@ ghost use Rattle.mig_tool.specs.SaveSteps.{ReadsHostToSave, ReadsHostAndScript, 
 use mig_bytes::{Sink, Source, Stop};
 use mig_dirtysave::{SaveAnswer, Saver};
 use mig_image::{Host, ImageAnswer, read_host};
-use mig_machine::ScriptMachine;
-use mig_machine_api::rounds_laws;
+use mig_machine::{ScriptMachine, script_machine_is_at};
+use mig_machine_api::Machine;
+use mig_paced::rounds_are_paced;
 use mig_report::{Outcome, Refusal, SaveSummary, Status, finish, put_saved};
 use mig_script::{Script, ScriptAnswer};
 use std::alloc::Global;
@@ -120,8 +121,10 @@ fn save_live<K: Sink>(
     let Ok(saver) = Saver::prepare(alloc, &machine) else {
         return Err(Outcome::Memory);
     };
-    // A law: one to five rounds, of which the first reads each frame number below the width.
-    rounds_laws();
+    let _width = machine.width();
+    // Laws: the machine's logs are exact, and so its rounds are those that the host and the script tell.
+    script_machine_is_at();
+    rounds_are_paced();
     match saver.run(&mut machine, out) {
         Ok(report) => Ok(SaveSummary {
             rounds: u64::from(report.rounds),
