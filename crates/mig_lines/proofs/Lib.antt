@@ -1,7 +1,6 @@
 pub mod NamedMachines
 pub mod LinesLogged
 pub mod LinesApplied
-pub mod Marks
 pub mod GroupsRun
 pub mod CoursesRun
 pub mod DotsCounted

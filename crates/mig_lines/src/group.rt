@@ -4,9 +4,9 @@ ghost use Rattle.mig_script.specs.ScriptLines.{line_said};
 ghost use Rattle.mig_lines.specs.Groups.{ends_group, first_group, first_length};
 ghost use Rattle.mig_lines.specs.HostLines.{after, after_line, logs, with_logged, logged_after, room_of, room_for};
 
-use crate::bits::mark;
 use crate::change::apply;
 use mig_host::Host;
+use mig_pfnset::insert;
 use mig_script::{Line, Script};
 
 /// Applies a line, and logs the frame number that it changed.
@@ -21,7 +21,7 @@ fn run_line(host: &mut Host, line: &Line, log: &mut [u64])
 {
     let _width = host.width();
     if let Some(pfn) = apply(host, line) {
-        mark(log, pfn);
+        insert(log, pfn);
     }
 }
 

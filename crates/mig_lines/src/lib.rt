@@ -9,12 +9,10 @@
 //! more of a host's footprints than they put into the log, since a machine frame that a table names neither comes nor goes.
 #![tactic(auto)]
 
-mod bits;
 mod change;
 mod group;
 mod law;
 mod named;
 
-pub use bits::{clear, is_marked, mark, no_bits};
 pub use group::{room_in, run_logged};
 pub use law::{lines_log_what_they_change, ran_laws};

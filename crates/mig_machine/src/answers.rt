@@ -10,8 +10,8 @@ use mig_bytes::Failed;
 use mig_guest::{PartKey, is_fixed};
 use mig_headers::Kind;
 use mig_host::Host;
-use mig_lines::clear;
 use mig_machine_api::{Machine, Seen};
+use mig_pfnset::clear;
 use mig_pvtables::Frames;
 
 /// What the host has at a frame number; the raw page is copied, where there is one.

@@ -5,10 +5,10 @@ ghost use Rattle.mig_machine_api.specs.Pfns.{no_pfns};
 ghost use Rattle.mig_machine.specs.MachineSeen.{calls_of, is_paused, log_of, history_of, machine_state};
 ghost use Rattle.mig_machine.specs.Exact.{RunsOn};
 
-use crate::notes::Notes;
+use crate::notes::{Notes, no_members};
 use mig_bytes::Memory;
 use mig_host::Host;
-use mig_lines::{no_bits, room_in, run_logged};
+use mig_lines::{room_in, run_logged};
 use mig_script::Script;
 use std::alloc::Global;
 use std::marker::Model;
@@ -54,10 +54,10 @@ impl ScriptMachine {
         ensures history { IfOk result (λ m. history_of m ≡ no_history) }
     {
         let mut host = host;
-        let words = ((host.width() + 63) / 64) as usize;
+        let width = host.width();
         host.reserve(room_in(&script))?;
-        let log = no_bits(alloc, words)?;
-        let notes = Notes::new(alloc, words)?;
+        let log = no_members(alloc, width)?;
+        let notes = Notes::new(alloc, width)?;
         Ok(ScriptMachine {
             host,
             script,

@@ -1,12 +1,25 @@
-ghost use Rattle.std.specs.Prelude.{◌≡◌, ℕ, ◌≤◌, ◌<◌, length, IfOk};
+ghost use Rattle.std.specs.Prelude.{◌≡◌, ℕ, ◌+◌, ◌/◌, ◌^◌, ◌≤◌, ◌<◌, length, IfOk};
+ghost use Rattle.mig_machine_api.specs.Pfns.{pfns_of_words, no_pfns};
 ghost use Rattle.std.specs.List.{All};
 
 use mig_bytes::Memory;
-use mig_lines::{clear, is_marked, mark, no_bits};
+use mig_pfnset::{clear, contains, insert, none};
 use std::alloc::Global;
 
 /// How many logs can be taken.
 const MOST_LOGS: usize = 8;
+
+/// A set without members, with room for frame numbers below the width.
+pub(crate) fn no_members(alloc: Global, width: u64) -> Result<Vec<u64>, Memory>
+    requires { width < 2 ^ 63 }
+    ensures empty { IfOk result (λ words. pfns_of_words words.items ≡ no_pfns) }
+    ensures size { IfOk result (λ words. length words.items ≡ (width + 63) / 64) }
+{
+    match none(alloc, width) {
+        Ok(words) => Ok(words),
+        Err(_) => Err(Memory),
+    }
+}
 
 /// A log that was taken, and what was asked since the one before it.
 #[derive(Drop)]
@@ -19,19 +32,19 @@ pub(crate) struct KeptLog {
 
 impl KeptLog {
     ghost use Rattle.mig_machine_api.specs.History.{and_call};
-    ghost use Rattle.mig_machine_api.specs.Pfns.{pfns_of_words};
     ghost use Rattle.mig_machine.specs.Noted.{log_in};
 
-    /// Room for a log of so many words.
-    fn new(alloc: Global, words: usize) -> Result<KeptLog, Memory>
-        ensures read { IfOk result (λ l. length l.read.items ≡ words) }
-        ensures log { IfOk result (λ l. length l.log.items ≡ words) }
+    /// Room for a log of frame numbers below the width.
+    fn new(alloc: Global, width: u64) -> Result<KeptLog, Memory>
+        requires { width < 2 ^ 63 }
+        ensures read { IfOk result (λ l. length l.read.items ≡ (width + 63) / 64) }
+        ensures log { IfOk result (λ l. length l.log.items ≡ (width + 63) / 64) }
     {
         Ok(KeptLog {
-            read: no_bits(alloc, words)?,
+            read: no_members(alloc, width)?,
             twice: false,
             calls: 0,
-            log: no_bits(alloc, words)?,
+            log: no_members(alloc, width)?,
         })
     }
 
@@ -50,16 +63,17 @@ impl KeptLog {
     }
 }
 
-/// Room for as many logs as can be taken, of so many words each.
-fn kept_logs(alloc: Global, words: usize) -> Result<Vec<KeptLog>, Memory>
+/// Room for as many logs as can be taken, each of frame numbers below the width.
+fn kept_logs(alloc: Global, width: u64) -> Result<Vec<KeptLog>, Memory>
+    requires { width < 2 ^ 63 }
     ensures number { IfOk result (λ logs. length logs.items ≡ 8) }
-    ensures sizes { IfOk result (λ logs. All (λ l. (length l.read.items ≡ words) × (length l.log.items ≡ words)) logs.items) }
+    ensures sizes { IfOk result (λ logs. All (λ l. (length l.read.items ≡ (width + 63) / 64) × (length l.log.items ≡ (width + 63) / 64)) logs.items) }
 {
     let Ok(mut logs) = Vec::with_capacity(alloc, MOST_LOGS) else {
         return Err(Memory);
     };
     for _place in 0..MOST_LOGS {
-        let log = KeptLog::new(alloc, words)?;
+        let log = KeptLog::new(alloc, width)?;
         if logs.push(log).is_err() {
             return Err(Memory);
         }
@@ -83,18 +97,17 @@ pub(crate) struct Notes {
 }
 
 impl Notes {
-    ghost use Rattle.std.specs.Prelude.{◌/◌};
     ghost use Rattle.mig_machine_api.specs.History.{no_history, after_peek, after_call, after_log};
-    ghost use Rattle.mig_machine_api.specs.Pfns.{pfns_of_words};
     ghost use Rattle.mig_machine.specs.Noted.{history_in};
 
-    /// Nothing was asked yet.
-    pub(crate) fn new(alloc: Global, words: usize) -> Result<Notes, Memory>
+    /// Nothing was asked yet of a machine of this width.
+    pub(crate) fn new(alloc: Global, width: u64) -> Result<Notes, Memory>
+        requires { width < 2 ^ 63 }
         ensures history { IfOk result (λ n. history_in n ≡ no_history) }
-        ensures size { IfOk result (λ n. length n.read.items ≡ words) }
+        ensures size { IfOk result (λ n. length n.read.items ≡ (width + 63) / 64) }
     {
-        let read = no_bits(alloc, words)?;
-        let logs = kept_logs(alloc, words)?;
+        let read = no_members(alloc, width)?;
+        let logs = kept_logs(alloc, width)?;
         Ok(Notes {
             read,
             twice: false,
@@ -111,8 +124,8 @@ impl Notes {
         ensures history { history_in self.new ≡ after_peek pfn (history_in self.old) }
         ensures size { length self.new.read.items ≡ length self.old.read.items }
     {
-        self.twice = self.twice || is_marked(&self.read, pfn);
-        mark(&mut self.read, pfn);
+        self.twice = self.twice || contains(&self.read, pfn);
+        insert(&mut self.read, pfn);
         self.calls = self.calls.saturating_add(1);
     }
 

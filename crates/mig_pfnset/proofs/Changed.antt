@@ -8,7 +8,7 @@ use Rattle.std.proofs.lemmas.List.{get_or_past}
 use Rattle.std.proofs.lemmas.Nat.Bits.{bit_at_set_same, bit_at_set_other, bit_at_clear_same, bit_at_clear_other, bit_at_or, bit_at-lt, bit_at-zero}
 use Rattle.std.proofs.lemmas.Grind.{common_steps}
 use Rattle.std.proofs.Math.Path.{fun_ext}
-use Rattle.mig_machine_api.specs.Pfns.{Pfns, pfns_of_words, with_pfn, joined}
+use Rattle.mig_machine_api.specs.Pfns.{Pfns, pfns_of_words, no_pfns, with_pfn, joined}
 use Rattle.mig_pfnset.specs.Changes.{put_pfn, without_pfn}
 
 -- ---- one number
@@ -88,3 +88,11 @@ both_joined old new other same wide done = fun_ext (λ q. elim (cases_lt (q / 64
   | inr past ↦ past_at (get_or new (q / 64) 0) (get_or old (q / 64) 0) (get_or other (q / 64) 0) (q % 64)
       (get_or_past new (q / 64) 0 (omega arith)) (get_or_past old (q / 64) 0 past) (get_or_past other (q / 64) 0 (omega arith))
 ])
+
+-- ---- no number
+
+no_bit : (word i : ℕ) → word ≡ 0 → nat_eq (bit_at word i) 1 ≡ false
+no_bit word i e = ap (λ (w : ℕ). nat_eq (bit_at w i) 1) e ∙ ap (λ (b : ℕ). nat_eq b 1) (bit_at-zero i)
+
+pub cleared : (words : List ℕ) → ((k : ℕ) → get_or words k 0 ≡ 0) → pfns_of_words words ≡ no_pfns
+cleared words each = fun_ext (λ p. no_bit (get_or words (p / 64) 0) (p % 64) (each (p / 64)))

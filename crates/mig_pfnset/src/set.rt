@@ -1,5 +1,5 @@
 ghost use Rattle.std.specs.Prelude.{◌≡◌, ◌/◌, ◌<◌, length};
-ghost use Rattle.mig_machine_api.specs.Pfns.{pfns_of_words, with_pfn, joined};
+ghost use Rattle.mig_machine_api.specs.Pfns.{pfns_of_words, no_pfns, with_pfn, joined};
 ghost use Rattle.mig_pfnset.specs.Changes.{put_pfn, without_pfn};
 
 /// Whether a frame number is a member.
@@ -24,6 +24,14 @@ pub fn remove(words: &mut [u64], pfn: u64)
     ensures { pfns_of_words words.new ≡ without_pfn pfn (pfns_of_words words.old) }
 {
     words[(pfn / 64) as usize] &= !(1 << (pfn % 64));
+}
+
+/// No frame number is a member any more.
+#[tactic(auto, using(crate::proofs::Changed::cleared))]
+pub fn clear(words: &mut [u64])
+    ensures { pfns_of_words words.new ≡ no_pfns }
+{
+    words.fill(0);
 }
 
 /// A frame number becomes a member, or is no longer one.

@@ -35,5 +35,7 @@ fn all_are_those_below_the_width(rt: HostRuntime) -> Result<(), Fail> {
     let mut set = [0, 4, 0];
     join(&mut set, &[1, 1, 0]);
     assert_eq!(rt; set, [1, 5, 0]);
+    clear(&mut set);
+    assert_eq!(rt; set, [0, 0, 0]);
     Ok(())
 }

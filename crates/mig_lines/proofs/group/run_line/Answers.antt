@@ -4,7 +4,7 @@ use Rattle.mig_lines.proofs.GroupsRun.{logs_inside, word_inside}
 use Rattle.mig_lines.proofs.LinesLogged.{regular}
 use Rattle.mig_lines.proofs.group.run_line.Goals as goal
 
-pub mark-requires : goal.mark-requires
-mark-requires c =
+pub insert-requires : goal.insert-requires
+insert-requires c =
     let h = c.args.host.now.host in
     word_inside c.in-Some.pfn h.width (length c.args.log.now) (logs_inside h (line_said c.args.line.now) c.in-Some.pfn (regular h c.width-width.ensures.valid) (sym c.in-Some.ensures.logged)) c.requires.words
