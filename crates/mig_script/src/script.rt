@@ -1,4 +1,4 @@
-ghost use Rattle.std.specs.Prelude.{◌≡◌, ◌==◌, ◌+◌, ◌<◌, ◌≤◌, [], IfOk, IsErrOf, length, slice_get, Some};
+ghost use Rattle.std.specs.Prelude.{◌≡◌, ◌==◌, ◌+◌, ◌<◌, ◌≤◌, [], IfOk, IsErrOf, length, map, slice_get, Some};
 ghost use Rattle.std.specs.List.{position};
 ghost use Rattle.std.specs.Option.{option_map};
 ghost use Rattle.mig_bytes.specs.Bytes.{TakesBytes, TakesFew};
@@ -132,6 +132,13 @@ fn script_in(alloc: Global, bytes: &[u8]) -> Result<Script, ScriptAnswer>
 }
 
 impl Script {
+    /// The script of these lines.
+    pub fn new(lines: Vec<Line>) -> Script
+        ensures { result ≡ map line_said lines.items }
+    {
+        Script { lines }
+    }
+
     /// Reads a script, to the end of the source, or, where it is too long, one byte past the limit. That it is too long is
     /// judged first, then the first bad line.
     pub fn read<S: Source>(alloc: Global, src: &mut S) -> Result<Script, ScriptAnswer>
