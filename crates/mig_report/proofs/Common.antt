@@ -3,6 +3,6 @@ pub use Rattle.std.proofs.Common.{Err, List, Ok, Option, Result, [], ap, arith, 
 pub use Rattle.std.specs.Prelude.{decimal}
 pub use Rattle.mig_bytes.proofs.Texts.{puts_same, puts_stop, puts_then}
 pub use Rattle.mig_report.specs.Outcome.{line_of}
-pub use Rattle.mig_report.specs.Words.{IsBase, Names}
+pub use Rattle.mig_report.specs.Words.{IsBase, IsFrameNumber, Names}
 pub use Rattle.mig_report.specs.declared.command.Command.{Command}
-pub use Rattle.mig_report.specs.declared.command.Command.TheVariants.{Convert, Normalise, Restore, Save, Verify}
+pub use Rattle.mig_report.specs.declared.command.Command.TheVariants.{Convert, Exercise, Normalise, Restore, Save, Verify}

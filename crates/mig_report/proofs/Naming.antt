@@ -1,6 +1,6 @@
 -- Words name one command at most.
 use mathlib.Core.Logic.{inl, inr}
-use Rattle.mig_report.proofs.Common.{◌≡◌, ℕ, ◌<◌, ◌^◌, List, [], length, get_or, sym, ap, ◌∙◌, refl, arith, IsBase, Names, Command, Convert, Normalise, Restore, Save, Verify}
+use Rattle.mig_report.proofs.Common.{◌≡◌, ℕ, ◌<◌, ◌^◌, List, [], length, get_or, sym, ap, ◌∙◌, refl, arith, IsBase, IsFrameNumber, Names, Command, Convert, Exercise, Normalise, Restore, Save, Verify}
 use Rattle.std.proofs.lemmas.Fmt.{decimal_injective}
 
 -- the first letter of the first word
@@ -13,6 +13,7 @@ named Verify = 118
 named Convert = 99
 named Save = 115
 named (Restore base) = 114
+named (Exercise seed frames) = 101
 
 begins : (words : List (List ℕ)) (command : Command) → Names words command → initial words ≡ named command
 begins words Normalise h = ap initial h
@@ -21,6 +22,7 @@ begins words Convert h = ap initial h
 begins words Save h = ap initial h
 begins words (Restore base) (inl (h, e)) = ap initial h
 begins words (Restore base) (inr (h, e)) = ap initial h
+begins words (Exercise seed frames) h = ap initial h.0
 
 small : (base : ℕ) → IsBase base → base < 2 ^ 64
 small base h = omega (arith, h.1)
@@ -35,10 +37,21 @@ same_base words a b (inl (h, e)) (inr (k, f)) = let lengths : 1 ≡ 2 = ap lengt
 same_base words a b (inr (h, e)) (inl (k, f)) = let lengths : 2 ≡ 1 = ap length (sym h ∙ k) in absurd (omega (arith, lengths))
 same_base words a b (inr (h, e)) (inr (k, f)) = decimal_injective a b (small a e) (small b f) (ap second (sym h ∙ k))
 
+third : List (List ℕ) → List ℕ
+third words = get_or words 2 []
+
+same_numbers : (words : List (List ℕ)) (a b n m : ℕ) → Names words (Exercise a n) → Names words (Exercise b m) → (a ≡ b) × (n ≡ m)
+unfolding second third
+same_numbers words a b n m h k =
+    let fits : (x : ℕ) → IsFrameNumber x → x < 2 ^ 64 = λ x is. omega (arith, is.1) in
+    let same = sym h.0 ∙ k.0 in
+    (decimal_injective a b h.1 k.1 (ap second same), decimal_injective n m (fits n h.2) (fits m k.2) (ap third same))
+
 pub same_command : (words : List (List ℕ)) (c d : Command) → Names words c → Names words d → c ≡ d
 same_command words Normalise Normalise h k = refl
 same_command words Verify Verify h k = refl
 same_command words Convert Convert h k = refl
 same_command words Save Save h k = refl
 same_command words (Restore a) (Restore b) h k = ap (λ (n : ℕ). Restore n) (same_base words a b h k)
+same_command words (Exercise a n) (Exercise b m) h k = let (e, f) = same_numbers words a b n m h k in ap (λ (x : ℕ). Exercise x n) e ∙ ap (λ (y : ℕ). Exercise b y) f
 same_command words c d h k = absurd (omega (arith, sym (begins words c h) ∙ begins words d k))

@@ -9,6 +9,7 @@ use Rattle.mig_texts.specs.ImageTexts.{text_of_image_place, text_of_image_cause}
 use Rattle.mig_texts.specs.LegacyTexts.{text_of_legacy_place, text_of_legacy_cause}
 use Rattle.mig_texts.specs.Texts.{text_of_place, text_of_cause}
 use Rattle.mig_texts.specs.UnsoundTexts.{text_of_unsound}
+use Rattle.mig_report.specs.declared.outcome.ExerciseSummary.{ExerciseSummary}
 use Rattle.mig_report.specs.declared.outcome.Refusal.{Refusal}
 use Rattle.mig_report.specs.declared.outcome.Refusal.TheVariants.{Stream, Legacy, Image, BadLine, TooLong, Pause}
 use Rattle.mig_report.specs.declared.outcome.SaveSummary.{SaveSummary}
@@ -51,6 +52,11 @@ ok_line s =
 -- `ok rounds R entries N`
 abbrev pub saved_line : SaveSummary → List ℕ
 saved_line s = (codes "ok rounds " ++ decimal s.rounds) ++ ((codes " entries " ++ decimal s.entries) ++ codes "\n")
+
+-- `ok frames N rounds R entries E canon B`
+abbrev pub exercised_line : ExerciseSummary → List ℕ
+exercised_line s =
+    (codes "ok frames " ++ decimal s.frames) ++ ((codes " rounds " ++ decimal s.rounds) ++ ((codes " entries " ++ decimal s.entries) ++ ((codes " canon " ++ decimal s.canon) ++ codes "\n")))
 
 -- the report got the line, and its count stands as it was; or a write failed, and it got some first bytes, but not all
 abbrev pub Reports : List ℕ → Option (List ℕ) → Option (List ℕ) → ℕ → ℕ → Type 0

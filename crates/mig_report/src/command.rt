@@ -1,5 +1,5 @@
-ghost use Rattle.std.specs.Prelude.{◌≡◌, ◌↔◌, ◌∷◌, [], ℕ, IfSome, IfNone, IsTrue, decimal};
-ghost use Rattle.mig_report.specs.Words.{texts_of, IsBase, Names};
+ghost use Rattle.std.specs.Prelude.{◌≡◌, ◌↔◌, ◌<◌, ◌^◌, ◌∷◌, [], ℕ, IfSome, IfNone, IsTrue, decimal};
+ghost use Rattle.mig_report.specs.Words.{texts_of, IsBase, IsFrameNumber, Names};
 ghost use Rattle.mig_report.specs.declared.command.Command.{Command};
 
 use itoa::Buffer;
@@ -9,6 +9,11 @@ const USUAL_BASE: u64 = 1 << 20;
 
 /// The greatest base: all frames that a guest may have lie below machine frame 2^40.
 const MAX_BASE: u64 = (1 << 40) - (1 << 24);
+
+/// How few and how many frames the host of `exercise` may have.
+const LEAST_FRAMES: u64 = 8;
+
+const MOST_FRAMES: u64 = 65536;
 
 /// What the program is to do.
 #[derive(Clone, Copy, Debug, PartialEq, Eq)]
@@ -23,6 +28,8 @@ pub enum Command {
     Convert,
     /// Save a host live, while the lines of a script run on it, and write it as a stream.
     Save,
+    /// Save a host of so many frames live, whose contents and script follow from the seed, and say how.
+    Exercise { seed: u64, frames: u64 },
 }
 
 /// Whether the word is this one.
@@ -39,22 +46,48 @@ fn is_base(base: u64) -> bool
     0 < base && base <= MAX_BASE
 }
 
+/// Whether the host of `exercise` may have so many frames.
+fn is_frame_number(frames: u64) -> bool
+    ensures { IsTrue result ↔ IsFrameNumber frames }
+{
+    LEAST_FRAMES <= frames && frames <= MOST_FRAMES
+}
+
+/// The number that a word spells.
+fn number_in(word: &str) -> Option<u64>
+    ensures some { IfSome result (λ n. (word.now ≡ decimal n) × (n < 2 ^ 64)) }
+    ensures none { IfNone result ((n : ℕ) → word.now ≡ decimal n → n < 2 ^ 64 → ⊥) }
+{
+    let Ok(number) = word.parse::<u64>() else {
+        return None;
+    };
+    let mut digits = Buffer::new();
+    if !is_word(word, digits.format(number)) {
+        return None;
+    }
+    Some(number)
+}
+
 /// The base that a word spells.
 fn base_in(word: &str) -> Option<u64>
     ensures some { IfSome result (λ base. (word.now ≡ decimal base) × IsBase base) }
     ensures none { IfNone result ((base : ℕ) → word.now ≡ decimal base → IsBase base → ⊥) }
 {
-    let Ok(base) = word.parse::<u64>() else {
-        return None;
-    };
-    let mut digits = Buffer::new();
-    if !is_word(word, digits.format(base)) {
-        return None;
+    let base = number_in(word)?;
+    if is_base(base) { Some(base) } else { None }
+}
+
+/// The number of frames that a word spells.
+fn frames_in(word: &str) -> Option<u64>
+    ensures some { IfSome result (λ frames. (word.now ≡ decimal frames) × IsFrameNumber frames) }
+    ensures none { IfNone result ((frames : ℕ) → word.now ≡ decimal frames → IsFrameNumber frames → ⊥) }
+{
+    let frames = number_in(word)?;
+    if is_frame_number(frames) {
+        Some(frames)
+    } else {
+        None
     }
-    if !is_base(base) {
-        return None;
-    }
-    Some(base)
 }
 
 /// The command of one word.
@@ -92,6 +125,19 @@ fn with_base(word: &str, base: &str) -> Option<Command>
     Some(Command::Restore(base))
 }
 
+/// The command of a word, a seed and a number of frames.
+fn with_seed(word: &str, seed: &str, frames: &str) -> Option<Command>
+    ensures some { IfSome result (Names (word.now ∷ seed.now ∷ frames.now ∷ [])) }
+    ensures none { IfNone result ((command : Command) → Names (word.now ∷ seed.now ∷ frames.now ∷ []) command → ⊥) }
+{
+    if !is_word(word, "exercise") {
+        return None;
+    }
+    let seed = number_in(seed)?;
+    let frames = frames_in(frames)?;
+    Some(Command::Exercise { seed, frames })
+}
+
 /// The command that the words name.
 pub fn command_in(words: &[String]) -> Option<Command>
     ensures some { IfSome result (Names (texts_of words.now)) }
@@ -100,6 +146,7 @@ pub fn command_in(words: &[String]) -> Option<Command>
     match words {
         [word] => plain(word.as_str()),
         [word, base] => with_base(word.as_str(), base.as_str()),
+        [word, seed, frames] => with_seed(word.as_str(), seed.as_str(), frames.as_str()),
         _ => None,
     }
 }

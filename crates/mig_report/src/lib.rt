@@ -1,8 +1,8 @@
 //! What the program is told and what it tells: the words of its command line, its statuses, and the lines of its report.
 //!
 //! Responsible for: which command the words name, which status and which line an outcome has, and putting that line, or
-//! the line of `verify` or `save`, on a sink. Left to others: what a command does (mig_tool), and how a place or a cause is printed
-//! (mig_texts).
+//! the line of `verify`, `save` or `exercise`, on a sink. Left to others: what a command does (mig_tool), and how a place or a
+//! cause is printed (mig_texts).
 //!
 //! What the layers above rely on: a command is found exactly where the words name one, and words name one at most; of a
 //! line exactly its bytes are put, or some first bytes where a write failed.
@@ -13,5 +13,8 @@ mod outcome;
 mod status;
 
 pub use command::{Command, command_in};
-pub use outcome::{Outcome, Refusal, SaveSummary, Summary, finish, put_line, put_ok, put_saved};
+pub use outcome::{
+    ExerciseSummary, Outcome, Refusal, SaveSummary, Summary, finish, put_exercised, put_line,
+    put_ok, put_saved,
+};
 pub use status::Status;

@@ -2,7 +2,7 @@ ghost use Rattle.std.specs.Prelude.{◌≡◌, ◌≤◌, ◌++◌, decimal};
 ghost use Rattle.mig_bytes.specs.Bytes.{Puts};
 ghost use Rattle.mig_bytes.specs.Faults.{HasCause};
 ghost use Rattle.mig_report.specs.Outcome.{status_of, line_of};
-ghost use Rattle.mig_report.specs.Report.{Reports, refusal_line, refusal_text, kind_name, ok_line, saved_line};
+ghost use Rattle.mig_report.specs.Report.{Reports, refusal_line, refusal_text, kind_name, ok_line, saved_line, exercised_line};
 ghost use Rattle.mig_report.specs.declared.outcome.Outcome.TheVariants as outcomes;
 ghost use Rattle.mig_report.specs.declared.outcome.Refusal.TheVariants as refusals;
 
@@ -60,6 +60,19 @@ pub struct SaveSummary {
     pub rounds: u64,
     /// The entries of all PAGE_DATA records.
     pub entries: u64,
+}
+
+/// What is said of the host of `exercise`, which was saved live.
+#[derive(Clone, Copy, Debug, PartialEq, Eq)]
+pub struct ExerciseSummary {
+    /// The frames of its guest.
+    pub frames: u64,
+    /// The rounds before the pause.
+    pub rounds: u64,
+    /// The entries of all PAGE_DATA records.
+    pub entries: u64,
+    /// The bytes of the guest's canonical stream.
+    pub canon: u64,
 }
 
 /// The status of an outcome.
@@ -230,5 +243,17 @@ pub fn put_saved<R: Sink>(report: &mut R, summary: SaveSummary) -> Result<(), Wr
 {
     put_field(report, b"ok rounds ", summary.rounds)?;
     put_field(report, b" entries ", summary.entries)?;
+    put_all(report, b"\n")
+}
+
+/// Puts how the host of `exercise` was saved on the report.
+pub fn put_exercised<R: Sink>(report: &mut R, summary: ExerciseSummary) -> Result<(), WriteFailed>
+    ensures bytes { Puts (exercised_line summary) (R.written report.old) (R.written report.new) result }
+    ensures cause { HasCause (R.faults report.old) (R.faults report.new) result }
+{
+    put_field(report, b"ok frames ", summary.frames)?;
+    put_field(report, b" rounds ", summary.rounds)?;
+    put_field(report, b" entries ", summary.entries)?;
+    put_field(report, b" canon ", summary.canon)?;
     put_all(report, b"\n")
 }
