@@ -1,0 +1,6 @@
+use Rattle.std.proofs.Common.{◌≡◌, ℕ, List}
+use Rattle.mig_exercise.specs.ExerciseSteps.{host_begun}
+use Rattle.mig_exercise.proofs.host.add_first.Given as goal
+
+abbrev pub invariant-loop-pfn : goal.invariant-loop-pfn
+invariant-loop-pfn l = (contents : ℕ → List ℕ) → l.host.host ≡ host_begun l.frames contents l.pfn

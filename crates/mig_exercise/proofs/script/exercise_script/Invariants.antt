@@ -1,0 +1,12 @@
+use Rattle.std.proofs.Common.{◌≡◌, ◌+◌, ◌*◌, map}
+use Rattle.mig_script.specs.ScriptLines.{line_said}
+use Rattle.mig_exercise.specs.Numbers.{number, next_number}
+use Rattle.mig_exercise.specs.ExerciseHosts.{data_count}
+use Rattle.mig_exercise.specs.ExerciseScripts.{writes_up_to}
+use Rattle.mig_exercise.proofs.script.exercise_script.Given as goal
+
+abbrev pub invariant-loop-i : goal.invariant-loop-i
+invariant-loop-i l = record {
+  last : next_number l.number ≡ number l.seed (data_count l.frames + 2 * l.i);
+  lines : map line_said l.lines.items ≡ writes_up_to l.seed l.frames l.i;
+}

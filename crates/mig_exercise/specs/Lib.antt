@@ -1,0 +1,4 @@
+pub mod Numbers
+pub mod ExerciseHosts
+pub mod ExerciseScripts
+pub mod ExerciseSteps
