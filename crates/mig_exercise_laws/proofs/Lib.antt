@@ -1,0 +1,6 @@
+pub mod CanonSizes
+pub mod CanonLength
+pub mod DataWrites
+pub mod DataTouched
+pub mod ExerciseEntries
+pub mod SoundExercise

@@ -1,0 +1,23 @@
+use Rattle.std.proofs.Common.{◌≡◌, ℕ, length, None, ap, ◌∙◌}
+use Rattle.mig_guest.specs.Hosts.{HostOf}
+use Rattle.mig_hosted.specs.Sound.{unsoundness}
+use Rattle.mig_hosted.specs.View.{view}
+use Rattle.mig_libxl.specs.Canon.{canon_any}
+use Rattle.mig_exercise_laws.proofs.CanonLength.{exercise_canon_length}
+use Rattle.mig_exercise_laws.proofs.DataTouched.{few_again}
+use Rattle.mig_exercise_laws.proofs.DataWrites.{exercise_stays}
+use Rattle.mig_exercise_laws.proofs.SoundExercise.{exercise_faultless}
+use Rattle.mig_exercise_laws.proofs.law.exercise_is_saved.Goals as goal
+
+pub returns-clause-sound : goal.returns-clause-sound
+returns-clause-sound c = λ seed n calls size.
+    let (now, pages, same) = exercise_stays seed n calls size in
+    ap (λ (h : HostOf). unsoundness h) same ∙ exercise_faultless n size now pages
+
+pub returns-clause-canon : goal.returns-clause-canon
+returns-clause-canon c = λ seed n calls size.
+    let (now, pages, same) = exercise_stays seed n calls size in
+    ap (λ (h : HostOf). length (canon_any (view h))) same ∙ exercise_canon_length n size now pages
+
+pub returns-clause-entries : goal.returns-clause-entries
+returns-clause-entries c = few_again
