@@ -3,3 +3,4 @@ pub mod SaveInputs
 pub mod Reporting
 pub mod Saving
 pub mod Lives
+pub mod Exercising

@@ -24,7 +24,7 @@ use Rattle.mig_dirtysave.specs.declared.answer.SaveAnswer.{SaveAnswer}
 use Rattle.mig_dirtysave.specs.declared.answer.SaveAnswer.TheVariants as answers
 use Rattle.mig_report.specs.declared.outcome.Outcome.{Outcome}
 use Rattle.mig_report.specs.declared.outcome.Outcome.TheVariants as outcomes
-use Rattle.mig_tool.specs.LiveSaves.{WroteLive, paused_host}
+use Rattle.mig_tool.specs.LiveSaves.{WroteLive, WroteLiveTo, paused_host}
 use Rattle.mig_tool.specs.SaveSteps.{ComesToNone}
 
 -- the machine shows the types as they are
@@ -42,30 +42,41 @@ rounds_of h now shape r =
 
 pub wrote_live : (h : HostOf) (now : MachineSeen) (old new : Option (List ℕ)) (entries : ℕ) → IsExactFrom h now → IsSameShape h now.host → SaveWritten old new (machine_state now) → (IsTrusted (machine_state now) → unsoundness now.host ≡ None)
     → (t : Tight h.kind h.width (history_of now)) (p : HasPaces h now t.rounds) → all_read h.width (history_of now) ≡ pfns_paced p.paced → length (pfns_paced p.paced) ≡ p.entries + h.width
-    → entries ≡ length (all_read now.host.width (history_of now)) → WroteLive h now.lines old new (record { rounds = (history_of now).live; entries = entries })
+    → entries ≡ length (all_read now.host.width (history_of now)) → (w : WroteLive h now.lines old new (record { rounds = (history_of now).live; entries = entries })) × (w.calls ≡ now.runs)
 wrote_live h now old new entries exact shape w sound t p order counted n =
     let at : now.host ≡ paused_host h now.lines now.runs = exact.host in
-    let read : all_read now.host.width (history_of now) ≡ pfns_paced p.paced = ap (λ (width : ℕ). all_read width (history_of now)) shape.width ∙ order in
-    record {
-      calls = now.runs;
-      again = p.entries;
-      paced = p.paced;
-      sound = subst (λ h. unsoundness h ≡ None) at (sound (honest now));
-      text = w.text;
-      wrote = w.appended;
-      means = λ rest. subst (λ h. AcceptedStream (w.text ++ rest) (view h) rest) at (w.means refl rest);
-      entries = record {
-        before = w.before;
-        batches = w.batches;
-        behind = w.behind;
-        image = w.image;
-        image_is = w.image_is ∙ ap (λ (h : HostOf). headers h.kind ++ text_of (w.before ++ (map telling_record w.batches ++ (w.behind ++ (0, []) ∷ [])))) at;
-        is = w.is ∙ ap (λ (h : HostOf). wrapper_opening h.parts ++ (w.image ++ wrapper_closing h.parts)) at;
-        others = w.others;
-        order = w.order ∙ read;
-      };
-      counted = n ∙ ap (λ (l : List ℕ). length l) read ∙ counted;
-    }
+    let read : all_read now.host.width (history_of now) ≡ pfns_paced p.paced = ap (λ (width : ℕ). all_read width (history_of now)) shape.width ∙ order in (
+      record {
+        calls = now.runs;
+        again = p.entries;
+        paced = p.paced;
+        sound = subst (λ h. unsoundness h ≡ None) at (sound (honest now));
+        text = w.text;
+        wrote = w.appended;
+        means = λ rest. subst (λ h. AcceptedStream (w.text ++ rest) (view h) rest) at (w.means refl rest);
+        entries = record {
+          before = w.before;
+          batches = w.batches;
+          behind = w.behind;
+          image = w.image;
+          image_is = w.image_is ∙ ap (λ (h : HostOf). headers h.kind ++ text_of (w.before ++ (map telling_record w.batches ++ (w.behind ++ (0, []) ∷ [])))) at;
+          is = w.is ∙ ap (λ (h : HostOf). wrapper_opening h.parts ++ (w.image ++ wrapper_closing h.parts)) at;
+          others = w.others;
+          order = w.order ∙ read;
+        };
+        counted = n ∙ ap (λ (l : List ℕ). length l) read ∙ counted;
+      },
+      refl,
+    )
+
+-- and the machine stands at the host at the pause, with the script and the rounds that it is known by
+pub wrote_live_to : (h : HostOf) (lines : List LineOf) (now : MachineSeen) (rounds entries : ℕ) (old new : Option (List ℕ)) → now.lines ≡ lines → rounds ≡ (history_of now).live → IsExactFrom h now
+    → (w : WroteLive h now.lines old new (record { rounds = (history_of now).live; entries = entries })) → w.calls ≡ now.runs
+    → WroteLiveTo h lines now.host old new (record { rounds = rounds; entries = entries })
+wrote_live_to h lines now rounds entries old new script live exact w calls =
+    subst (λ (n : ℕ). WroteLiveTo h lines now.host old new (record { rounds = n; entries = entries })) (sym live)
+    (subst (λ (ls : List LineOf). WroteLiveTo h ls now.host old new (record { rounds = (history_of now).live; entries = entries })) script
+    (record { wrote = w; at_pause = exact.host ∙ ap (λ (n : ℕ). paused_host h now.lines n) (sym calls) }))
 
 -- ---- where no stream was written
 

@@ -1,5 +1,5 @@
 -- What the program answers, and what the line on the report comes to.
-use Rattle.mig_tool.proofs.Common.{◌⊎◌, ◌≡◌, ℕ, ◌++◌, List, length, arith, Option, Some, None, Result, Ok, Err, refl, sym, ap, subst, ◌∙◌, GuestOf, AcceptedStream, AcceptedIn, RefusedIn, Form, ImageAndScript, Legacy, Modern, form_of, Refusal, Kind, Hvm, Pv, IsCarried, IsFew, IsBase, restored_text, Written, Done, DonePart, Comes, ComesOf, Says, SaysOf, InputRises, IsLine, summary_of, Command, Convert, Normalise, Restore, Save, Verify, mean_kind, status_of, line_of, outcome_of}
+use Rattle.mig_tool.proofs.Common.{◌⊎◌, ◌≡◌, ℕ, ◌++◌, List, length, arith, Option, Some, None, Result, Ok, Err, refl, sym, ap, subst, ◌∙◌, GuestOf, AcceptedStream, AcceptedIn, RefusedIn, Form, ImageAndScript, Legacy, Modern, NoInput, form_of, Refusal, Kind, Hvm, Pv, IsCarried, IsFew, IsBase, restored_text, Written, Done, DonePart, Comes, ComesOf, Says, SaysOf, InputRises, IsLine, summary_of, Command, Convert, Exercise, Normalise, Restore, Save, Verify, mean_kind, status_of, line_of, outcome_of}
 use mathlib.Core.Logic.{inl, inr}
 use Rattle.std.specs.Io.KnownBytes.{Appends}
 use Rattle.mig_bytes.specs.Bytes.{Puts}
@@ -92,6 +92,7 @@ never_both Modern input guest rest more _ accepted refused = refused
 never_both Legacy input guest rest more (refusals.Legacy place cause) accepted refused = never_both_legacy input guest rest place cause more accepted refused
 never_both Legacy input guest rest more _ accepted refused = refused
 never_both ImageAndScript input guest rest more refusal accepted refused = accepted
+never_both NoInput input guest rest more refusal accepted refused = accepted
 
 -- a refused input isn't done
 done_refused : (command : Command) (input : List ℕ) (left : Option (List ℕ)) (w : Written) (refusal : Refusal) (rest : List ℕ) → Done command input left w → RefusedIn (form_of command) input refusal rest → IsOfInput refusal → ⊥
@@ -99,6 +100,7 @@ done_refused Normalise input left w refusal rest h refused it = never_both Moder
 done_refused Convert input left w refusal rest h refused it = never_both Legacy input h.guest h.rest rest refusal h.accepted refused
 done_refused (Restore base) input left w refusal rest h refused it = never_both Modern input h.guest h.rest rest refusal h.accepted refused
 done_refused Verify input left w refusal rest h refused it = never_both Modern input h.guest h.rest rest refusal h.accepted refused
+done_refused (Exercise seed n) input left w refusal rest h refused it = refused
 done_refused Save input left w refusal rest h refused it = not_refused input h.host h.lines refusal rest h.read refused it
 
 part_refused : (command : Command) (input : List ℕ) (left : Option (List ℕ)) (w : Written) (refusal : Refusal) (rest : List ℕ) → DonePart command input left w → RefusedIn (form_of command) input refusal rest → IsOfInput refusal → ⊥
@@ -106,6 +108,7 @@ part_refused Normalise input left w refusal rest h refused it = never_both Moder
 part_refused Convert input left w refusal rest h refused it = never_both Legacy input h.guest h.rest rest refusal h.accepted refused
 part_refused (Restore base) input left w refusal rest h refused it = never_both Modern input h.guest h.rest rest refusal h.accepted refused
 part_refused Verify input left w refusal rest h refused it = never_both Modern input h.guest h.rest rest refusal h.accepted refused
+part_refused (Exercise seed n) input left w refusal rest h refused it = refused
 part_refused Save input left w refusal rest (inl h) refused it = not_refused input h.host h.lines refusal rest h.read refused it
 part_refused Save input left w refusal rest (inr h) refused it = not_refused input h.host h.lines refusal rest h.read refused it
 
@@ -159,7 +162,7 @@ input_rose status before now h is = let r = subst (λ s. InputRises s before now
 
 -- ---- what a reading and a writing come to
 
-accepted_front : (input rest : List ℕ) (stream : StreamOf) (reading : Reading) → stream_at input ≡ Passes stream rest → IsStreamReading reading stream → AcceptedStream input reading.guest rest
+pub accepted_front : (input rest : List ℕ) (stream : StreamOf) (reading : Reading) → stream_at input ≡ Passes stream rest → IsStreamReading reading stream → AcceptedStream input reading.guest rest
 accepted_front input rest stream reading accepts is = record { stream = stream; image = is.image; spelled = accepted_is_stream input stream rest accepts; image_is = is.is; means = is.guest }
 
 accepted_legacy : (input rest : List ℕ) (stream : LegacyStream) (guest : GuestOf) → legacy_at input ≡ Passes stream rest → guest ≡ mean_legacy stream → AcceptedLegacy input guest rest

@@ -20,27 +20,31 @@ use Rattle.mig_libxl.specs.Stream.{IsStreamRefused}
 use Rattle.mig_legacy.specs.Spelled.{AcceptedLegacy}
 use Rattle.mig_legacy.specs.Stream.{IsLegacyRefused}
 use Rattle.mig_report.specs.declared.command.Command.{Command}
-use Rattle.mig_report.specs.declared.command.Command.TheVariants.{Normalise, Restore, Verify, Convert, Save}
+use Rattle.mig_report.specs.declared.command.Command.TheVariants.{Normalise, Restore, Verify, Convert, Save, Exercise}
 use Rattle.mig_report.specs.declared.outcome.Outcome.{Outcome}
 use Rattle.mig_report.specs.declared.outcome.Outcome.TheVariants as outcomes
 use Rattle.mig_report.specs.declared.outcome.Refusal.{Refusal}
 use Rattle.mig_report.specs.declared.outcome.Refusal.TheVariants as refusals
+use Rattle.mig_report.specs.declared.outcome.ExerciseSummary.{ExerciseSummary}
 use Rattle.mig_report.specs.declared.outcome.SaveSummary.{SaveSummary}
 use Rattle.mig_report.specs.declared.outcome.Summary.{Summary}
 use Rattle.mig_report.specs.declared.status.Status.{Status}
 use Rattle.mig_report.specs.declared.status.Status.TheVariants as statuses
-use Rattle.mig_report.specs.Report.{Reports, refusal_line, usage_line, read_fault_line, write_fault_line, memory_line, ok_line, saved_line}
+use Rattle.mig_report.specs.Report.{Reports, refusal_line, usage_line, read_fault_line, write_fault_line, memory_line, ok_line, saved_line, exercised_line}
 use Rattle.mig_script.specs.ScriptLines.{LineOf}
 use Rattle.mig_unended.specs.Unread.{WroteNoStream}
+use Rattle.mig_tool.specs.Exercises.{ExerciseReported}
 use Rattle.mig_tool.specs.LiveSaves.{HasHostAndScript, HasBadLine, HasLongScript, HasUnsoundPause, WroteLive}
 
 -- ---- the forms of input
 
--- a stream, bare or inside a libxl stream; a legacy stream; or the image of a host, and behind it a script to the end
+-- a stream, bare or inside a libxl stream; a legacy stream; the image of a host, and behind it a script to the end; or none,
+-- where nothing is read
 pub data Form : Type 0 where
   Modern : Form
   Legacy : Form
   ImageAndScript : Form
+  NoInput : Form
 
 -- which of them a command reads
 abbrev pub form_of : Command → Form
@@ -49,12 +53,14 @@ form_of (Restore base) = Modern
 form_of Verify = Modern
 form_of Convert = Legacy
 form_of Save = ImageAndScript
+form_of (Exercise seed n) = NoInput
 
 -- a front of the input is an accepted stream of this form, with this guest, and rest follows it
 abbrev pub AcceptedIn : Form → List ℕ → GuestOf → List ℕ → Type 0
 AcceptedIn Modern input guest rest = AcceptedStream input guest rest
 AcceptedIn Legacy input guest rest = AcceptedLegacy input guest rest
 AcceptedIn ImageAndScript input guest rest = ⊥
+AcceptedIn NoInput input guest rest = ⊥
 
 -- the input has this refusal, and rest follows the faulty part
 abbrev pub RefusedIn : Form → List ℕ → Refusal → List ℕ → Type 0
@@ -165,6 +171,7 @@ Done Normalise input left w = Normalised Modern input left w.out_old w.out_new
 Done Convert input left w = Normalised Legacy input left w.out_old w.out_new
 Done (Restore base) input left w = Restored base input left w.out_old w.out_new
 Done Verify input left w = Verified (Appends w.report_old w.report_new) input left
+Done (Exercise seed n) input left w = ExerciseReported (Appends w.report_old w.report_new) seed n
 Done Save input left w = LiveSaved (Appends w.report_old w.report_new) input left w.out_old w.out_new
 
 abbrev pub DonePart : Command → List ℕ → Option (List ℕ) → Written → Type 0
@@ -172,6 +179,7 @@ DonePart Convert input left w = PartWritten Legacy canon_any input left w.out_ol
 DonePart Normalise input left w = PartWritten Modern canon_any input left w.out_old w.out_new
 DonePart (Restore base) input left w = PartWritten Modern (restored_text base) input left w.out_old w.out_new
 DonePart Verify input left w = Verified (AppendsPart w.report_old w.report_new) input left
+DonePart (Exercise seed n) input left w = ExerciseReported (AppendsPart w.report_old w.report_new) seed n
 DonePart Save input left w = LiveBroken input left w.out_old w.out_new ⊎ LiveSaved (AppendsPart w.report_old w.report_new) input left w.out_old w.out_new
 
 abbrev pub Says : Command → List ℕ → Option (List ℕ) → Written → Status → Type 0
@@ -191,12 +199,13 @@ abbrev pub SaysOf : Command → Option (List ℕ) → Option (List ℕ) → Writ
 SaysOf command None left w status = ⊤
 SaysOf command (Some input) left w status = Says command input left w status
 
--- a write fault is one of a sink that the command writes on: `verify` and `save` write their line on the report
+-- a write fault is one of a sink that the command writes on: `verify`, `save` and `exercise` write their line on the report
 abbrev pub WriteRose : Command → ℕ → ℕ → ℕ → ℕ → Type 0
 WriteRose Verify out out_now report report_now = Rose report report_now
 WriteRose Normalise out out_now report report_now = Rose out out_now
 WriteRose Convert out out_now report report_now = Rose out out_now
 WriteRose (Restore base) out out_now report report_now = Rose out out_now
+WriteRose (Exercise seed n) out out_now report report_now = Rose report report_now
 WriteRose Save out out_now report report_now = Rose out out_now ⊎ Rose report report_now
 
 -- the count of the input rises with a read fault, and with every other status it stands as it was
@@ -233,7 +242,7 @@ IsLine form told statuses.ReadFault line = line ≡ read_fault_line
 IsLine form told statuses.WriteFault line = line ≡ write_fault_line
 IsLine form told statuses.Memory line = line ≡ memory_line
 
--- a command may have put a line of its own, or a part of it: `verify` and `save` do
+-- a command may have put a line of its own, or a part of it: `verify`, `save` and `exercise` do
 abbrev pub HasOwnLine : Command → Status → Type 0
 HasOwnLine Normalise status = ⊥
 HasOwnLine Convert status = ⊥
@@ -241,6 +250,9 @@ HasOwnLine (Restore base) status = ⊥
 HasOwnLine Verify statuses.Done = ⊤
 HasOwnLine Verify statuses.WriteFault = ⊤
 HasOwnLine Verify status = ⊥
+HasOwnLine (Exercise seed n) statuses.Done = ⊤
+HasOwnLine (Exercise seed n) statuses.WriteFault = ⊤
+HasOwnLine (Exercise seed n) status = ⊥
 HasOwnLine Save statuses.Done = ⊤
 HasOwnLine Save statuses.WriteFault = ⊤
 HasOwnLine Save status = ⊥
@@ -249,7 +261,7 @@ HasOwnLine Save status = ⊥
 abbrev pub PutsSome : List ℕ → Option (List ℕ) → Option (List ℕ) → Type 0
 PutsSome line old new = Appends old new line ⊎ AppendsPart old new line
 
--- which line that is: that of some stream or some save, whole with status 0, and a part of it with status 4; of a save whose
+-- which line that is: that of some stream, some save or some exercise, whole with status 0, and a part of it with status 4; of a save whose
 -- stream wasn't written, that a write failed
 abbrev pub PutsOwnLine : Command → Option (List ℕ) → Option (List ℕ) → Status → Type 0
 PutsOwnLine Normalise old new status = ⊤
@@ -258,6 +270,9 @@ PutsOwnLine (Restore base) old new status = ⊤
 PutsOwnLine Verify old new statuses.Done = (s : Summary) × Appends old new (ok_line s)
 PutsOwnLine Verify old new statuses.WriteFault = (s : Summary) × AppendsPart old new (ok_line s)
 PutsOwnLine Verify old new status = ⊤
+PutsOwnLine (Exercise seed n) old new statuses.Done = (s : ExerciseSummary) × Appends old new (exercised_line s)
+PutsOwnLine (Exercise seed n) old new statuses.WriteFault = (s : ExerciseSummary) × AppendsPart old new (exercised_line s)
+PutsOwnLine (Exercise seed n) old new status = ⊤
 PutsOwnLine Save old new statuses.Done = (s : SaveSummary) × Appends old new (saved_line s)
 PutsOwnLine Save old new statuses.WriteFault = ((s : SaveSummary) × AppendsPart old new (saved_line s)) ⊎ PutsSome write_fault_line old new
 PutsOwnLine Save old new status = ⊤
@@ -269,6 +284,7 @@ LeavesOut Convert = ⊥
 LeavesOut (Restore base) = ⊥
 LeavesOut Verify = ⊤
 LeavesOut Save = ⊥
+LeavesOut (Exercise seed n) = ⊤
 
 -- ---- the same of an outcome, which has the refusal
 

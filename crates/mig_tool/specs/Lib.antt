@@ -1,5 +1,6 @@
 pub mod Outcomes
 pub mod LiveSaves
+pub mod Exercises
 pub mod Answers
 pub mod SaveSteps
 pub use Rattle.mig_report.specs.Words

@@ -1,5 +1,5 @@
 -- A host that is saved live: what it is read from, when it isn't saved, and what is written of it.
-use Rattle.std.specs.Prelude.{◌≡◌, ◌<◌, ◌≤◌, ◌+◌, ℕ, List, [], ◌∷◌, ◌++◌, length, map, drop, Option, Some, None}
+use Rattle.std.specs.Prelude.{◌≡◌, ◌<◌, ◌≤◌, ◌+◌, ℕ, List, [], ◌∷◌, ◌++◌, length, map, drop, false, Option, Some, None}
 use Rattle.std.specs.List.{AllByRecursion}
 use Rattle.std.specs.Io.KnownBytes.{Appends}
 use Rattle.mig_bytes.specs.Judged.Judged.{Passes}
@@ -18,6 +18,9 @@ use Rattle.mig_script.specs.ScriptLines.{LineOf}
 use Rattle.mig_script.specs.Scripts.{IsScript, IsBadLine, most_script_bytes}
 use Rattle.mig_lines.specs.Groups.{ran}
 use Rattle.mig_lines.specs.HostLines.{after}
+use Rattle.mig_machine.specs.MachineSeen.{MachineSeen, calls_of, is_paused, log_of, history_of}
+use Rattle.mig_machine_api.specs.History.{no_history}
+use Rattle.mig_machine_api.specs.Pfns.{no_pfns}
 use Rattle.mig_paced.specs.Paced.{Paced, pfns_paced}
 use Rattle.mig_report.specs.declared.outcome.SaveSummary.{SaveSummary}
 
@@ -96,3 +99,15 @@ pub record WroteLive (host : HostOf) (lines : List LineOf) (old new : Option (Li
   pub means : (rest : List ℕ) → AcceptedStream (text ++ rest) (view (paused_host host lines calls)) rest
   pub entries : TellsPfns (paused_host host lines calls) text (pfns_paced paced)
   pub counted : summary.entries ≡ again + host.width
+
+-- the same of a machine that stands at this host now: it is the host at the pause
+pub record WroteLiveTo (host : HostOf) (lines : List LineOf) (now : HostOf) (old new : Option (List ℕ)) (summary : SaveSummary) : Type 0 where
+  pub wrote : WroteLive host lines old new summary
+  pub at_pause : now ≡ paused_host host lines wrote.calls
+
+-- nothing was asked of a machine yet
+pub record IsUnasked (m : MachineSeen) : Type 0 where
+  pub calls : calls_of m ≡ 0
+  pub unpaused : is_paused m ≡ false
+  pub log : log_of m ≡ no_pfns
+  pub history : history_of m ≡ no_history

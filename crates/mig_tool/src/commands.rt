@@ -8,13 +8,15 @@ ghost use Rattle.mig_tool.specs.Answers.{form_of, SaysOf, ComesOf, WriteRose, In
 ghost use Rattle.mig_report.specs.Outcome.{status_of};
 ghost use Rattle.mig_tool.specs.Outcomes.{outcome_of};
 ghost use Rattle.mig_report.specs.Report.{Reports};
-ghost use Rattle.mig_report.specs.Words.{IsBase};
+ghost use Rattle.mig_report.specs.Words.{IsBase, IsFrameNumber};
 ghost use Rattle.mig_report.specs.declared.command.Command.TheVariants as commands;
 ghost use Rattle.mig_report.specs.declared.outcome.Outcome.TheVariants as outcomes;
 ghost use Rattle.mig_report.specs.declared.outcome.Refusal.TheVariants as refusals;
 ghost use Rattle.mig_report.specs.declared.status.Status.TheVariants as statuses;
+ghost use Rattle.mig_tool.specs.Exercises.{SaysExercise};
 ghost use Rattle.mig_unended.specs.Unread.{WroteNoStream};
 
+use crate::exercise::exercise_told;
 use crate::save::save;
 use mig_bytes::{Sink, Source};
 use mig_guest::Guest;
@@ -161,7 +163,8 @@ pub(crate) fn carry_out<S: Source, K: Sink, R: Sink>(
     out: &mut K,
     report: &mut R,
 ) -> Status
-    requires { (base : ℕ) → command ≡ commands.Restore base → IsBase base }
+    requires base { (base : ℕ) → command ≡ commands.Restore base → IsBase base }
+    requires frames { (seed n : ℕ) → command ≡ commands.Exercise seed n → IsFrameNumber n }
     ensures said { SaysOf command (S.left input.old) (S.left input.new) (record { out_old = K.written out.old; out_new = K.written out.new; report_old = R.written report.old; report_new = R.written report.new }) result }
     ensures known { result ≢ statuses.Usage }
     ensures kept { result ≢ statuses.Done → result ≢ statuses.WriteFault → (command ≡ commands.Save → result ≢ statuses.Refused) → out.new ≡ out.old }
@@ -169,6 +172,7 @@ pub(crate) fn carry_out<S: Source, K: Sink, R: Sink>(
     ensures no_stream { command ≡ commands.Save → result ≡ statuses.Refused → WroteNoStream (K.written out.old) (K.written out.new) }
     ensures breaks { command ≡ commands.Save → result ≡ statuses.WriteFault → BreaksOff (K.written out.old) (K.written out.new) (K.faults out.old) (K.faults out.new) (R.faults report.old) (R.faults report.new) }
     ensures untouched { LeavesOut command → out.new ≡ out.old }
+    ensures exercised { (seed n : ℕ) → command ≡ commands.Exercise seed n → (input.new ≡ input.old) × SaysExercise seed n (R.written report.old) (R.written report.new) result }
     ensures read { InputRises result (S.faults input.old) (S.faults input.new) }
     ensures write { result ≡ statuses.WriteFault → WriteRose command (K.faults out.old) (K.faults out.new) (R.faults report.old) (R.faults report.new) }
     ensures line { (HasOwnLine command result → ⊥)
@@ -194,5 +198,6 @@ pub(crate) fn carry_out<S: Source, K: Sink, R: Sink>(
         }
         Command::Verify => verify(alloc, input, report),
         Command::Save => save(alloc, input, out, report),
+        Command::Exercise { seed, frames } => exercise_told(alloc, seed, frames, report),
     }
 }

@@ -5,6 +5,7 @@ ghost use Rattle.mig_guest.specs.Hosts.{HostOf};
 ghost use Rattle.mig_script.specs.ScriptLines.{LineOf};
 ghost use Rattle.mig_unended.specs.Unread.{WroteNoStream};
 ghost use Rattle.mig_tool.specs.Answers.{form_of, AcceptedIn, RefusedIn, IsOfInput, Written, SaysOf, IsSavedOrPaused, WriteRose, InputRises, IsLine, HasOwnLine, PutsOwnLine, RefusesPause, BreaksOff, LeavesOut};
+ghost use Rattle.mig_tool.specs.Exercises.{SaysExercise};
 ghost use Rattle.mig_tool.specs.LiveSaves.{HasHostAndScript};
 ghost use Rattle.mig_report.specs.Report.{Reports, usage_line};
 ghost use Rattle.mig_report.specs.Words.{texts_of, Names};
@@ -23,7 +24,9 @@ use std::alloc::Global;
 /// `normalise` takes a stream and writes it in its canonical form. `convert` takes a legacy stream and writes the canonical
 /// stream of its guest. `restore` takes a stream and writes the image of its
 /// guest, with machine frames counted up from the base. `verify` takes a stream and says on `report` what it is. `save` takes
-/// the image of a host and a script, writes the host as a stream while the script runs, and says on `report` how. Each
+/// the image of a host and a script, writes the host as a stream while the script runs, and says on `report` how. `exercise`
+/// reads nothing: it saves a host of so many frames in memory, whose contents and script follow from the seed, reads what was
+/// written, and says on `report` what it came to. Each
 /// status says what it says however the input is cut, and whatever failed before; want of memory may come at any time.
 pub fn run<S: Source, K: Sink, R: Sink>(
     alloc: Global,
@@ -55,7 +58,12 @@ pub fn run<S: Source, K: Sink, R: Sink>(
     ensures saved { (bytes : List ℕ) (host : HostOf) (lines : List LineOf) → Names (texts_of words.now) commands.Save → S.left input.old ≡ Some bytes → HasHostAndScript bytes host lines
         → (Rose (S.faults input.old) (S.faults input.new) → ⊥) → (WriteRose commands.Save (K.faults out.old) (K.faults out.new) (R.faults report.old) (R.faults report.new) → ⊥) → IsSavedOrPaused bytes result }
 
-    // `out` is touched for an accepted stream alone, or by `save` once its input was read, and never by `verify`: where `save`
+    // `exercise` takes nothing of the input. It is saved in the rounds and up to the pause that its host and its script tell,
+    // and its line was reported, or, with status 4, a part of it; or there is no memory. It is never refused.
+    ensures exercised { (seed n : ℕ) → Names (texts_of words.now) (commands.Exercise seed n)
+        → (input.new ≡ input.old) × SaysExercise seed n (R.written report.old) (R.written report.new) result }
+
+    // `out` is touched for an accepted stream alone, or by `save` once its input was read, and never by `verify` and `exercise`: where `save`
     // is refused, `out` is as it was, or the pause is refused.
     ensures kept { result ≢ statuses.Done → result ≢ statuses.WriteFault → (Names (texts_of words.now) commands.Save → result ≢ statuses.Refused) → out.new ≡ out.old }
     ensures kept_refused { Names (texts_of words.now) commands.Save → result ≡ statuses.Refused
@@ -75,7 +83,7 @@ pub fn run<S: Source, K: Sink, R: Sink>(
         → WriteRose command (K.faults out.old) (K.faults out.new) (R.faults report.old) (R.faults report.new) }
 
     // The report got the line of the status, or a part of it where its count rose; that changes no status but that of
-    // `verify` and `save` at their own line, which is whole with status 0, and a part with status 4.
+    // `verify`, `save` and `exercise` at their own line, which is whole with status 0, and a part with status 4.
     ensures line { (command : Command) → Names (texts_of words.now) command → (HasOwnLine command result → ⊥)
         → (line : List ℕ) × IsLine (form_of command) (S.left input.old) result line × Reports line (R.written report.old) (R.written report.new) (R.faults report.old) (R.faults report.new) }
     ensures usage_line { result ≡ statuses.Usage → Reports usage_line (R.written report.old) (R.written report.new) (R.faults report.old) (R.faults report.new) }

@@ -11,7 +11,7 @@ ghost use Rattle.mig_report.specs.declared.outcome.Refusal.TheVariants as refusa
 ghost use Rattle.mig_report.specs.declared.status.Status.TheVariants as statuses;
 ghost use Rattle.mig_unended.specs.Unread.{WroteNoStream};
 ghost use Rattle.mig_tool.specs.Answers.{form_of, SaysOf, InputRises, IsLine, HasOwnLine, PutsOwnLine, RefusesPause, BreaksOff};
-ghost use Rattle.mig_tool.specs.LiveSaves.{WroteLive};
+ghost use Rattle.mig_tool.specs.LiveSaves.{IsUnasked, WroteLive, WroteLiveTo};
 ghost use Rattle.mig_tool.specs.SaveSteps.{ReadsHostToSave, ReadsHostAndScript, stop_of_image, stop_of_script, outcome_of_stop, ComesToNone};
 
 use mig_bytes::{Sink, Source, Stop};
@@ -101,6 +101,37 @@ fn unsaved(answer: SaveAnswer) -> Outcome
     }
 }
 
+/// Saves a machine live, of which nothing was asked before, while its script runs.
+pub(crate) fn save_machine<K: Sink>(
+    alloc: Global,
+    machine: &mut ScriptMachine,
+    out: &mut K,
+) -> Result<SaveSummary, Outcome>
+    requires { IsUnasked machine.old }
+    ensures wrote { IfOk result (WroteLiveTo machine.old.host machine.old.lines machine.new.host (K.written out.old) (K.written out.new)) }
+    ensures none { IfErr result (ComesToNone machine.old.host machine.old.lines) }
+    ensures no_stream { OnErr result (WroteNoStream (K.written out.old) (K.written out.new)) }
+    ensures kept { IsErrOf result outcomes.Memory → out.new ≡ out.old }
+    ensures write { IsErrOf result outcomes.WriteFault → Rose (K.faults out.old) (K.faults out.new) }
+    ensures quiet { OnOk result (K.faults out.new ≡ K.faults out.old) }
+    ensures later { K.faults out.old ≤ K.faults out.new }
+{
+    let Ok(saver) = Saver::prepare(alloc, machine) else {
+        return Err(Outcome::Memory);
+    };
+    let _width = machine.width();
+    // Laws: the machine's logs are exact, and so its rounds are those that the host and the script tell.
+    script_machine_is_at();
+    rounds_are_paced();
+    match saver.run(machine, out) {
+        Ok(report) => Ok(SaveSummary {
+            rounds: u64::from(report.rounds),
+            entries: report.entries,
+        }),
+        Err(answer) => Err(unsaved(answer)),
+    }
+}
+
 /// Saves a host live, while its script runs.
 fn save_live<K: Sink>(
     alloc: Global,
@@ -118,20 +149,7 @@ fn save_live<K: Sink>(
     let Ok(mut machine) = ScriptMachine::new(alloc, read.host, read.script) else {
         return Err(Outcome::Memory);
     };
-    let Ok(saver) = Saver::prepare(alloc, &machine) else {
-        return Err(Outcome::Memory);
-    };
-    let _width = machine.width();
-    // Laws: the machine's logs are exact, and so its rounds are those that the host and the script tell.
-    script_machine_is_at();
-    rounds_are_paced();
-    match saver.run(&mut machine, out) {
-        Ok(report) => Ok(SaveSummary {
-            rounds: u64::from(report.rounds),
-            entries: report.entries,
-        }),
-        Err(answer) => Err(unsaved(answer)),
-    }
+    save_machine(alloc, &mut machine, out)
 }
 
 /// Puts the line of a host that was saved.

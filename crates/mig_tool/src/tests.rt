@@ -1,3 +1,4 @@
+use crate::exercise::exercise;
 use crate::run::run;
 use mig_bytes::{MemSink, MemSource};
 use mig_report::Status;
@@ -94,5 +95,40 @@ fn reads_and_writes_fail_in_mid_stream(rt: HostRuntime) -> Result<(), Fail> {
             assert_eq!(rt; report.bytes(), told.as_bytes(), "{word}");
         }
     }
+    Ok(())
+}
+
+// A checksum of bytes (FNV-1a, 64 bits).
+fn checksum(bytes: &[u8]) -> u64 {
+    bytes.iter().fold(0xcbf29ce484222325, |sum, byte| {
+        (sum ^ u64::from(*byte)).wrapping_mul(1099511628211)
+    })
+}
+
+// What an exercise wrote, and what `normalise` makes of it: lengths and checksums are those of the second reader's streams.
+#[test]
+fn stream_of_an_exercise_is_normalised(rt: HostRuntime) -> Result<(), Fail> {
+    let Ok(exercised) = exercise(rt.alloc(), 1, 600) else {
+        return Err("no memory".into());
+    };
+    assert_eq!(rt;
+        (exercised.rounds, exercised.entries, exercised.canon),
+        (3, 968, 2471808)
+    );
+    let stream = exercised.stream.bytes().to_vec(rt.alloc())?;
+    assert_eq!(rt;
+        (stream.len(), checksum(&stream)),
+        (3982112, 18365729202868563774)
+    );
+    let normalise = words(rt.alloc(), &["normalise"])?;
+    let mut input = MemSource::new(stream, vec![in rt.alloc()]?, vec![in rt.alloc()]?);
+    let mut out = sink(rt.alloc(), NEVER)?;
+    let mut report = sink(rt.alloc(), NEVER)?;
+    let status = run(rt.alloc(), &normalise, &mut input, &mut out, &mut report);
+    assert_eq!(rt; status, Status::Done);
+    assert_eq!(rt;
+        (out.bytes().len(), checksum(out.bytes())),
+        (2471808, 10314801457977527442)
+    );
     Ok(())
 }

@@ -1,4 +1,4 @@
-use Rattle.mig_tool.proofs.Common.{subst, sym, Written, SaysOf, WriteRose, PutsOwnLine, LeavesOut, AcceptedIn, RefusedIn, form_of, Command, Save, Names}
+use Rattle.mig_tool.proofs.Common.{subst, sym, Written, SaysOf, WriteRose, PutsOwnLine, LeavesOut, AcceptedIn, RefusedIn, form_of, Command, Exercise, Save, Names}
 use Rattle.mig_tool.specs.Answers.{HasOwnLine, IsLine}
 use Rattle.mig_report.specs.Words.{texts_of}
 use Rattle.mig_report.proofs.Naming.{same_command}
@@ -47,6 +47,9 @@ returns-in-Some-clause-saved g c = λ bytes host lines is told read reads writes
     saved_done (g.S.Source.left c.args.input.now) (g.S.Source.left c.carry_out.new.input) w c.carry_out.result bytes host lines (subst (λ (d : Command). SaysOf d (g.S.Source.left c.args.input.now) (g.S.Source.left c.carry_out.new.input) w c.carry_out.result) same c.carry_out.ensures.said) told read
     (λ e. reads (input_rose _ _ _ c.carry_out.ensures.read e)) (λ e. writes (subst (λ (d : Command). WriteRose d (g.K.Sink.faults c.args.out.now) (g.K.Sink.faults c.carry_out.new.out) (g.R.Sink.faults c.args.report.now) (g.R.Sink.faults c.carry_out.new.report)) same (c.carry_out.ensures.write e)))
 
+pub returns-in-Some-clause-exercised : goal.returns-in-Some-clause-exercised
+returns-in-Some-clause-exercised g c = λ seed n is. c.carry_out.ensures.exercised seed n (same_command _ c.in-Some.command (Exercise seed n) c.in-Some.ensures.some is)
+
 pub returns-in-Some-clause-kept : goal.returns-in-Some-clause-kept
 returns-in-Some-clause-kept g c = λ undone unfailed other. c.carry_out.ensures.kept undone unfailed (λ is. other (subst (λ (d : Command). Names (texts_of c.args.words.now) d) is c.in-Some.ensures.some))
 
@@ -73,3 +76,6 @@ returns-in-None-clause-line g c = λ command is none. absurd (c.in-None.ensures.
 
 pub returns-in-None-clause-saved : goal.returns-in-None-clause-saved
 returns-in-None-clause-saved g c = λ bytes host lines is told read reads writes. absurd (c.in-None.ensures.none Save is)
+
+pub returns-in-None-clause-exercised : goal.returns-in-None-clause-exercised
+returns-in-None-clause-exercised g c = λ seed n is. absurd (c.in-None.ensures.none (Exercise seed n) is)
