@@ -42,11 +42,16 @@ What the saver has not reached by its pause never runs. A line that does not app
 One of IMAGE and SCRIPT may be `-`, standard input. OUT is written beside its place and renamed when all is well; `-` is
 standard output, and what is told stands on standard error then."""
 
+EXERCISE = """\
+A PV guest with so many frames is made in memory, what it holds and what it writes follow from the seed. It is saved live,
+the stream is read again, and its guest is restored. No file is read or written; it takes some eight times the guest's
+memory."""
 
-def number(least):
+
+def number(least, most=None):
     def parse(text):
-        if not text.isdecimal() or int(text) < least:
-            raise argparse.ArgumentTypeError('a number from %d on is wanted' % least)
+        if not (text.isascii() and text.isdecimal()) or int(text) < least or most is not None and int(text) > most:
+            raise argparse.ArgumentTypeError('a number from %d %s is wanted' % (least, 'on' if most is None else 'to %d' % most))
         return int(text)
     return parse
 
@@ -125,11 +130,15 @@ def compare(words):
     return run(words)
 
 
+def exercise(words):
+    from front.exercise import exercise as run
+    return run(words)
+
+
 def parser():
     words = argparse.ArgumentParser(prog='mig', description='Checks, normalises, converts, restores and compares saves '
                                     'of Xen guests, by the proved program mig_tool.',
-                                    epilog='`mig help VERB` tells more of each. `exercise`, which the usage line of '
-                                    'mig_tool names too,\nis not built yet.\n\n' + STATUSES,
+                                    epilog='`mig help VERB` tells more of each.\n\n' + STATUSES,
                                     formatter_class=argparse.RawDescriptionHelpFormatter)
     words.add_argument('--version', action=Version, nargs=0, help='print revision, date and kit')
     verbs = words.add_subparsers(dest='verb', metavar='VERB', required=True)
@@ -157,6 +166,10 @@ def parser():
     two.add_argument('one', metavar='A')
     two.add_argument('two', metavar='B')
     two.set_defaults(run=compare)
+    own = verb(verbs, 'exercise', 'try the program on a guest of its own, without any file', EXERCISE)
+    own.add_argument('seed', metavar='SEED', nargs='?', type=number(0, (1 << 64) - 1), default=1, help='a number of 64 bits (1)')
+    own.add_argument('frames', metavar='FRAMES', nargs='?', type=number(8, 65536), default=600, help='from 8 to 65536 (600)')
+    own.set_defaults(run=exercise)
     return words
 
 
