@@ -1,4 +1,4 @@
-ghost use Rattle.std.specs.Prelude.{◌≡◌, ◌≤◌, ◌⊎◌, ◌++◌, ℕ, List, Some, None, IfOk, length};
+ghost use Rattle.std.specs.Prelude.{◌≡◌, ◌≤◌, ◌⊎◌, ◌++◌, ℕ, List, Some, None, IfOk, OnOk, length};
 ghost use Rattle.mig_bytes.specs.Faults.{Rose};
 ghost use Rattle.mig_bytes.specs.declared.answer.Answer.TheVariants as stream_answers;
 ghost use Rattle.mig_guest.specs.Guests.{GuestOf};
@@ -90,42 +90,72 @@ fn guest_again(alloc: Global, stream: &[u8]) -> Result<Guest, Memory>
     }
 }
 
-/// The canonical stream of a guest. There is room for so many bytes at once.
-fn canonical(alloc: Global, guest: &Guest, room: usize) -> Result<MemSink, Memory>
-    requires { IsWhole guest.now }
-    ensures { IfOk result (λ text. text.bytes ≡ canon_any guest.now) }
-{
-    let mut text = MemSink::new(alloc, Vec::new(alloc));
-    text.reserve(room)?;
-    match write_any(&mut text, guest) {
-        Ok(()) => Ok(text),
+/// A text in memory. One that is written anew takes the room of the one before.
+#[derive(Drop)]
+struct Text {
+    bytes: Vec<u8>,
+    faults: u64,
+}
+
+impl Sink for Text {
+    ghost written = { λ text. Some text.bytes.items };
+
+    ghost faults = { λ text. text.faults };
+
+    fn write(&mut self, piece: &[u8]) -> Result<usize, Failed> {
+        match self.bytes.extend_from_slice(piece) {
+            Ok(()) => Ok(piece.len()),
+            Err(_) => {
+                self.faults = self.faults.saturating_add(1);
+                Err(Failed)
+            }
+        }
+    }
+}
+
+/// An empty text, with room for so many bytes.
+fn empty_text(alloc: Global, room: usize) -> Result<Text, Memory> {
+    match Vec::with_capacity(alloc, room) {
+        Ok(bytes) => Ok(Text { bytes, faults: 0 }),
         Err(_) => Err(Memory),
     }
 }
 
-/// The canonical stream of the guest that a sound host is seen as.
-fn canonical_seen(alloc: Global, host: &Host, room: usize) -> Result<MemSink, Memory>
+/// Makes a text the canonical stream of a guest.
+fn canonical(guest: &Guest, text: &mut Text) -> Result<(), Memory>
+    requires { IsWhole guest.now }
+    ensures { OnOk result (text.new.bytes.items ≡ canon_any guest.now) }
+{
+    text.bytes.clear();
+    match write_any(text, guest) {
+        Ok(()) => Ok(()),
+        Err(_) => Err(Memory),
+    }
+}
+
+/// Makes a text the canonical stream of the guest that a sound host is seen as.
+fn canonical_seen(alloc: Global, host: &Host, text: &mut Text) -> Result<(), Memory>
     requires { unsoundness host.now.host ≡ None }
-    ensures { IfOk result (λ text. text.bytes ≡ canon_any (view host.now.host)) }
+    ensures { OnOk result (text.new.bytes.items ≡ canon_any (view host.now.host)) }
 {
     match guest_of(alloc, host) {
-        Ok(guest) => canonical(alloc, &guest, room),
+        Ok(guest) => canonical(&guest, text),
         Err(SoundAnswer::Memory) => Err(Memory),
         Err(SoundAnswer::Unsound(_)) => unreachable!(),
     }
 }
 
-/// The canonical stream of the guest that a guest is seen as once it is restored: its own.
-fn canonical_restored(alloc: Global, guest: Guest, room: usize) -> Result<MemSink, Memory>
+/// Makes a text the canonical stream of the guest that a guest is seen as once it is restored: its own.
+fn canonical_restored(alloc: Global, guest: Guest, text: &mut Text) -> Result<(), Memory>
     requires whole { IsWhole guest }
     requires blank { blank_form guest ≡ guest }
-    ensures { IfOk result (λ text. text.bytes ≡ canon_any guest) }
+    ensures { OnOk result (text.new.bytes.items ≡ canon_any guest) }
 {
     // Laws: the host of a restored guest is sound, and it is seen as the guest.
     hosted_is_sound();
     hosted_is_seen();
     match host_of(alloc, guest, BASE) {
-        Ok(host) => canonical_seen(alloc, &host, room),
+        Ok(host) => canonical_seen(alloc, &host, text),
         Err(HostAnswer::Memory) => Err(Memory),
         Err(HostAnswer::BaseRange) => unreachable!(),
     }
@@ -138,14 +168,15 @@ fn canonical_len(alloc: Global, stream: &[u8], host: &Host) -> Result<u64, Memor
     requires means { (rest : List ℕ) → AcceptedStream (stream.now ++ rest) (view host.now.host) rest }
     ensures { IfOk result (λ len. len ≡ length (canon_any (view host.now.host))) }
 {
-    let room = stream.len();
     let guest = guest_again(alloc, stream)?;
-    let read = canonical(alloc, &guest, room)?;
-    let restored = canonical_restored(alloc, guest, room)?;
-    prove_eq!(restored.bytes(), read.bytes());
-    let seen = canonical_seen(alloc, host, room)?;
-    prove_eq!(seen.bytes(), read.bytes());
-    Ok(read.bytes().len() as u64)
+    let mut text = empty_text(alloc, stream.len())?;
+    canonical(&guest, &mut text)?;
+    let len = text.bytes.len();
+    canonical_restored(alloc, guest, &mut text)?;
+    prove_eq!(text.bytes.len(), len);
+    canonical_seen(alloc, host, &mut text)?;
+    prove_eq!(text.bytes.len(), len);
+    Ok(len as u64)
 }
 
 /// That nothing was saved for want of memory: a sink in memory fails where there is none.

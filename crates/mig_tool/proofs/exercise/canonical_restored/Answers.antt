@@ -1,5 +1,5 @@
 use Rattle.mig_tool.proofs.Common.{◌≡◌, List, ℕ, ap, subst, ◌∙◌, GuestOf}
-use Rattle.std.specs.Prelude.{IfOk}
+use Rattle.std.specs.Prelude.{OnOk}
 use Rattle.mig_guest.specs.Hosts.{HostOf}
 use Rattle.mig_hosted.specs.Sound.{unsoundness}
 use Rattle.mig_hosted.specs.View.{view}
@@ -16,4 +16,4 @@ pub returns-in-Ok : goal.returns-in-Ok
 returns-in-Ok c =
     let inside : IsBaseOutside c.args.guest 1048576 → ⊥ = λ outside. let no = c.in-Ok.ensures.outside.1 outside in cc in
     let seen : view c.in-Ok.host.host ≡ c.args.guest = ap (λ (h : HostOf). view h) c.in-Ok.ensures.hosted ∙ c.hosted_is_seen.ensures c.args.guest 1048576 c.requires.whole c.requires.blank inside in
-    subst (λ (g : GuestOf). IfOk c.canonical_seen.result (λ text. text.bytes ≡ canon_any g)) seen c.canonical_seen.ensures
+    subst (λ (g : GuestOf). OnOk c.canonical_seen.result (c.canonical_seen.new.text.bytes.items ≡ canon_any g)) seen c.canonical_seen.ensures
