@@ -1,0 +1,161 @@
+"""Builds what QEMU boots: the hypervisor, dom0's kernel, and dom0's file system as an archive in memory."""
+import glob
+import gzip
+import lzma
+import os
+import shutil
+import stat
+import struct
+
+from faults import Fault
+from programs import command
+
+HERE = os.path.dirname(os.path.realpath(__file__))
+# In this order they find what they need of one another: the devices of Xen, and the folder that dom0 shares with the test.
+MODULES = ('xen-evtchn', 'xen-privcmd', 'xen-gntdev', 'xen-gntalloc', 'xenfs', 'virtio_ring', 'virtio',
+           'virtio_pci_legacy_dev', 'virtio_pci_modern_dev', 'virtio_pci', 'netfs', 'fscache', '9pnet', '9pnet_virtio', '9p')
+FOLDERS = ('bin', 'sbin', 'dev', 'proc', 'sys', 'run', 'tmp', 'etc/xen', 'root', 'share', 'lib/modules', 'var/log/xen',
+           'var/lib/xen', 'var/lib/xenstored')
+LOADED, DISK = 4 * 512, 1 << 20                       # so much of the disk is loaded; its size
+XZ = b'\xfd7zXZ\0'
+
+
+def kernel_of(boot_image):
+    """The ELF kernel in a bzImage, which a PV guest starts from. Linux's boot protocol says where its payload stands."""
+    with open(boot_image, 'rb') as file:
+        data = file.read()
+    setup = ((data[0x1f1] or 4) + 1) * 512
+    offset, length = struct.unpack_from('<II', data, 0x248)
+    payload = data[setup + offset:setup + offset + length]
+    if not payload.startswith(XZ):
+        raise Fault('the payload of %s is not packed by xz' % boot_image)
+    kernel = lzma.LZMADecompressor().decompress(payload)
+    if not kernel.startswith(b'\x7fELF'):
+        raise Fault('no ELF kernel stands in %s' % boot_image)
+    return kernel
+
+
+class Archive:
+    """A cpio archive in the form that Linux unpacks at its start (newc). It is written here so that neither cpio nor the
+    rights of root, which device nodes ask for elsewhere, are needed."""
+
+    def __init__(self, file):
+        self.file, self.number = file, 0
+
+    def entry(self, name, mode, data=b'', device=(0, 0)):
+        self.number += 1
+        encoded = name.encode() + b'\0'
+        fields = (self.number, mode, 0, 0, 1, 0, len(data), 0, 0, *device, len(encoded), 0)
+        head = b'070701' + b''.join(b'%08X' % field for field in fields) + encoded
+        self.file.write(head + bytes(-len(head) % 4) + data + bytes(-len(data) % 4))
+
+    def tree(self, top):
+        """All below a folder: folders, files and links."""
+        for folder, folders, files in os.walk(top):
+            for name in sorted(folders) + sorted(files):
+                path = os.path.join(folder, name)
+                status = os.lstat(path)
+                if stat.S_ISLNK(status.st_mode):
+                    data = os.readlink(path).encode()
+                elif stat.S_ISREG(status.st_mode):
+                    with open(path, 'rb') as file:
+                        data = file.read()
+                else:
+                    data = b''
+                self.entry(os.path.relpath(path, top), status.st_mode, data)
+
+    def console(self):
+        self.entry('dev', 0o40755)
+        self.entry('dev/console', 0o20600, device=(5, 1))
+
+    def end(self):
+        self.entry('TRAILER!!!', 0)
+
+
+def bare(lab, source, name, *words):
+    """Compiles a program that runs without any system below it; its path."""
+    program = os.path.join(lab, name)
+    command(['gcc', '-Wall', '-Wno-array-bounds', '-ffreestanding', '-fno-pie', '-no-pie', '-nostdlib', '-static',
+             '-fno-stack-protector', '-fno-asynchronous-unwind-tables', '-fcf-protection=none', '-fno-strict-aliasing',
+             '-Wl,-N,--build-id=none', *words, '-o', program, os.path.join(HERE, source)], 'compiling ' + source)
+    return program
+
+
+def boot_disk(lab):
+    """The disk of the HVM guest: our program in its first sectors, and room."""
+    disk = bare(lab, 'boot.c', 'boot.disk', '-Os', '-m16', '-march=i386', '-mregparm=3', '-Wl,-Ttext=0x7c00,--oformat=binary')
+    if os.path.getsize(disk) > LOADED:
+        raise Fault('boot.c has become too long: %d bytes' % os.path.getsize(disk))
+    os.truncate(disk, DISK)
+
+
+def tiny_guest(lab):
+    """The PV guest that is nothing but our own program."""
+    bare(lab, 'tiny.c', 'tiny', '-O2', '-mcmodel=kernel', '-mgeneral-regs-only',
+         '-Wl,-Ttext=0xffffffff80000000,--no-warn-rwx-segments')
+
+
+def guest_archive(lab):
+    """The file system of a Linux guest: our init and nothing else."""
+    init = os.path.join(lab, 'guest')
+    command(['gcc', '-O2', '-Wall', '-static', '-s', '-pthread', '-o', init, os.path.join(HERE, 'guest.c')], 'compiling guest.c')
+    with open(init, 'rb') as file:
+        program = file.read()
+    with gzip.GzipFile(os.path.join(lab, 'guest.img'), 'wb', mtime=0) as file:
+        archive = Archive(file)
+        archive.console()
+        archive.entry('init', 0o100755, program)
+        archive.end()
+
+
+def one(pattern):
+    found = sorted(glob.glob(pattern, recursive=True))
+    if not found:
+        raise Fault('no %s was unpacked' % pattern)
+    return found[-1]
+
+
+def small_files(root):
+    for name, text in (('etc/passwd', 'root:x:0:0:root:/root:/bin/sh\n'), ('etc/group', 'root:x:0:\n'),
+                       ('etc/hosts', '127.0.0.1 localhost\n'), ('etc/xen/xl.conf', ''),
+                       ('lib/modules/order', '\n'.join(MODULES) + '\n')):
+        with open(os.path.join(root, name), 'w') as file:
+            file.write(text)
+
+
+def fill_root(root, kernel):
+    for folder in FOLDERS:
+        os.makedirs(os.path.join(root, folder), exist_ok=True)
+    small_files(root)
+    for module in MODULES:
+        shutil.copy(one(os.path.join(kernel, 'lib/modules/**/%s.ko' % module)), os.path.join(root, 'lib/modules'))
+    if not os.path.lexists(os.path.join(root, 'bin/sh')):
+        os.symlink('busybox', os.path.join(root, 'bin/sh'))
+    shutil.copy(os.path.join(HERE, 'dom0_init'), os.path.join(root, 'init'))
+    os.chmod(os.path.join(root, 'init'), 0o755)
+
+
+def build(cache, lab):
+    """Builds all that is booted in the folder `lab`; it isn't built again where it is there."""
+    done = os.path.join(lab, 'built')
+    if os.path.exists(done):
+        return
+    cache.fill()
+    for name in 'dom0', 'kernel', 'hypervisor', 'emulator':
+        shutil.rmtree(os.path.join(lab, name), ignore_errors=True)
+        cache.unpack(name, os.path.join(lab, name))
+    with gzip.open(one(os.path.join(lab, 'hypervisor/boot/xen-4*.gz'))) as packed, open(os.path.join(lab, 'xen'), 'wb') as file:
+        shutil.copyfileobj(packed, file)
+    with open(os.path.join(lab, 'vmlinux'), 'wb') as file:
+        file.write(kernel_of(one(os.path.join(lab, 'kernel/boot/vmlinuz-*'))))
+    guest_archive(lab)
+    boot_disk(lab)
+    tiny_guest(lab)
+    fill_root(os.path.join(lab, 'dom0'), os.path.join(lab, 'kernel'))
+    with open(os.path.join(lab, 'dom0.cpio'), 'wb') as file:
+        archive = Archive(file)
+        archive.console()
+        archive.tree(os.path.join(lab, 'dom0'))
+        archive.end()
+    with open(done, 'w'):
+        pass

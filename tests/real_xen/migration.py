@@ -1,0 +1,69 @@
+"""A guest goes from xl to xl over the loopback, with the stream led through mig_tool between them: by a live migration; or,
+since Debian's Xen can't migrate PV guests live, by `xl save` and `xl restore` at the two ends of a pipe."""
+import os
+import shutil
+
+from guests import GOES_ON, Broken, Watched, place_configuration, wrong
+
+HERE = os.path.dirname(os.path.realpath(__file__))
+SAID = '/share/saves/through.said'
+THROUGH = '/share/guests/through /root/mig_tool ' + SAID
+LIVE = "xl migrate -s '' %(name)s '" + THROUGH + " | xl migrate-receive'"
+PIPED = ('mkfifo /tmp/from /tmp/to; xl save %(name)s /tmp/from & ' + THROUGH + ' < /tmp/from > /tmp/to & '
+         'xl restore /share/guests/%(other)s.cfg /tmp/to; status=$?; [ $status = 0 ] || kill %%1 %%2; wait; exit $status')
+
+
+class Migration:
+    def __init__(self, machine, tool, guest):
+        self.machine, self.tool, self.guest = machine, tool, guest
+        self.is_live = guest.kind != 'pv'
+        # Of a pipe the new domain is there before the old one has gone, so it has another name.
+        self.other = guest if self.is_live else guest._replace(name=guest.name + 'b')
+        self.watched = Watched(machine, guest)
+
+    @property
+    def name(self):
+        way = 'is migrated live' if self.is_live else 'goes from xl save to xl restore in a pipe'
+        return '%s %s, its stream through mig_tool, and goes on' % (self.guest.name, way)
+
+    def place(self):
+        """Puts the program, the script that stands in the pipe, and the configurations where dom0 finds them."""
+        folder = os.path.join(self.machine.share, 'guests')
+        for source, name in (self.tool, 'mig_tool'), (os.path.join(HERE, 'through'), 'through'):
+            shutil.copyfile(source, os.path.join(folder, name))
+            os.chmod(os.path.join(folder, name), 0o755)
+        for guest in self.guest, self.other:
+            place_configuration(self.machine, guest)
+        said = self.machine.share + SAID[len('/share'):]
+        if os.path.exists(said):
+            os.unlink(said)
+        return said
+
+    def sent(self):
+        """Sends the guest; a fault unless both xl and the program end well."""
+        said_by_tool = self.place()
+        command = (LIVE if self.is_live else PIPED) % {'name': self.guest.name, 'other': self.other.name}
+        status, said = self.machine.run('cp /share/guests/mig_tool /root/; ' + command, 600)
+        tool_said = 'nothing'
+        if os.path.exists(said_by_tool):
+            with open(said_by_tool) as file:
+                tool_said = ' '.join(file.read().split('\n')).strip()
+        if status or tool_said != 'status 0':
+            raise Broken('xl: status %d: %s; mig_tool: %s' % (status, wrong(said), tool_said))
+
+    def run(self):
+        self.place()
+        attempt = self.watched.create()
+        try:
+            before = len(self.watched.ticks())
+            self.sent()
+            arrived = Watched(self.machine, self.other)
+            arrived.find_domain()
+            if self.is_live and self.guest.kind != 'hvm':    # one log for both domains: what it said goes on in it
+                ticks = self.watched.ticks_after(before - 1, 12, GOES_ON)
+                return 'up at start %d; %s' % (attempt, arrived.went_on(ticks[1:], ticks[0]))
+            last = self.watched.ticks()[-1]
+            return 'up at start %d; %s' % (attempt, arrived.goes_on(0, last))
+        finally:
+            Watched(self.machine, self.other).destroy()
+            self.watched.destroy()
