@@ -44,7 +44,7 @@ standard output, and what is told stands on standard error then."""
 
 EXERCISE = """\
 A PV guest with so many frames is made in memory, what it holds and what it writes follow from the seed. It is saved live,
-the stream is read again, and its guest is restored. No file is read or written; it takes some eight times the guest's
+the stream is read again, and its guest is restored. No file is read or written; it takes more than six times the guest's
 memory."""
 
 
