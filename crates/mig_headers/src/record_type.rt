@@ -85,10 +85,7 @@ impl RecordType {
     {
         !matches!(
             self,
-            RecordType::Toolstack
-                | RecordType::Verify
-                | RecordType::Checkpoint
-                | RecordType::CheckpointDirtyPfnList
+            RecordType::Toolstack | RecordType::Checkpoint | RecordType::CheckpointDirtyPfnList
         )
     }
 

@@ -22,7 +22,7 @@ const RECORD_TYPES: [(u32, bool, bool, bool, u32, u32); 23] = [
     (0xB, false, true, true, 0, u32::MAX),
     (0xC, true, true, false, 8, 16),
     (0xC, true, true, false, 24, 0),
-    (0xD, false, true, true, 0, u32::MAX),
+    (0xD, true, true, true, 0, 8),
     (0xE, false, true, true, 0, u32::MAX),
     (0xF, false, true, true, 0, u32::MAX),
     (0x10, true, true, true, 0, 1),
