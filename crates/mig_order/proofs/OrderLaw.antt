@@ -7,7 +7,7 @@ use Rattle.mig_headers.specs.declared.kind.Kind.{Kind}
 use Rattle.mig_headers.specs.declared.kind.Kind.TheVariants.{Pv, Hvm}
 use Rattle.mig_headers.specs.declared.fault.Cause.{Cause}
 use Rattle.mig_headers.specs.declared.record_type.RecordType.{RecordType}
-use Rattle.mig_headers.specs.declared.record_type.RecordType.TheVariants.{PageData, X86PvInfo, X86PvP2mFrames, StaticDataEnd}
+use Rattle.mig_headers.specs.declared.record_type.RecordType.TheVariants.{PageData, X86PvInfo, X86PvP2mFrames, Verify, StaticDataEnd}
 use Rattle.mig_headers.proofs.FirstFaults.{rows_fine, no_fault}
 use Rattle.mig_headers.specs.RecordTypes.{record_types, record_row_of, pv, type_number, type_of_number, is_optional}
 use Rattle.mig_headers.proofs.RecordNumbers.{numbers_are_inverse}
@@ -55,7 +55,7 @@ of_pv Hvm is = absurd (cc)
 
 -- what the rows say, in words
 keeps : (version : ℕ) (kind : Kind) (types : List ℕ) (this : RecordType) → AllClear (causes version kind (earlier_in types) this) → KeepsOrder version kind types this
-keeps version kind types this (_, (_, (end, (static, (content, (info, (p2m, (pages, (vcpus, _))))))))) =
+keeps version kind types this (_, (_, (end, (static, (content, (info, (p2m, (pages, (vcpus, (verify, _)))))))))) =
     let late = or_parts (is_of static_records this && some_earlier types (StaticDataEnd ∷ [])) (is_of (StaticDataEnd ∷ static_records) this && some_earlier types content_records) static in
     record {
       one_static_data_end = λ is. then_false (is_of (StaticDataEnd ∷ []) this) (some_earlier types (StaticDataEnd ∷ [])) end (rw is refl);
@@ -67,7 +67,14 @@ keeps version kind types this (_, (_, (end, (static, (content, (info, (p2m, (pag
       p2m_after_pv_info = λ is. not-false (some_earlier types (X86PvInfo ∷ [])) (then_false (is_of (X86PvP2mFrames ∷ []) this) (not (some_earlier types (X86PvInfo ∷ []))) p2m (rw is refl));
       pv_pages_after_p2m = λ is of. not-false (some_earlier types (X86PvP2mFrames ∷ [])) (then_false (is_of (PageData ∷ []) this) (not (some_earlier types (X86PvP2mFrames ∷ []))) (then_false (pv kind) (is_of (PageData ∷ []) this && not (some_earlier types (X86PvP2mFrames ∷ []))) pages (rw is refl)) (rw of refl));
       pages_before_vcpus = λ is. then_false (is_of (PageData ∷ []) this) (some_earlier types vcpu_records) vcpus (rw is refl);
+      one_verify = λ is. (no_late is).0;
+      verify_before_vcpus = λ is. (no_late is).1;
     }
+  where
+    no_late : this ≡ Verify → (some_earlier types (Verify ∷ []) ≡ false) × (some_earlier types vcpu_records ≡ false)
+    no_late is =
+        or_parts (some_earlier types (Verify ∷ [])) (some_earlier types vcpu_records)
+        (then_false (is_of (Verify ∷ []) this) (some_earlier types (Verify ∷ []) || some_earlier types vcpu_records) verify (rw is refl))
 
 -- what the words say, in rows
 clear : (version : ℕ) (kind : Kind) (types : List ℕ) (this : RecordType) → (record_row_of this).supported ≡ true → (record_row_of this).of_kind kind ≡ true → KeepsOrder version kind types this → AllClear (causes version kind (earlier_in types) this)
@@ -81,8 +88,10 @@ clear version kind types this supported of_kind order =
     let pages = and_false (pv kind) (is_of (PageData ∷ []) this && not (earlier (X86PvP2mFrames ∷ [])))
     (λ of. and_false (is_of (PageData ∷ []) this) (not (earlier (X86PvP2mFrames ∷ []))) (λ is. false_not (earlier (X86PvP2mFrames ∷ [])) (order.pv_pages_after_p2m (of_pv kind of) (same_type this PageData is)))) in
     let vcpus = and_false (is_of (PageData ∷ []) this) (earlier vcpu_records) (λ is. order.pages_before_vcpus (same_type this PageData is)) in
+    let verify = and_false (is_of (Verify ∷ []) this) (earlier (Verify ∷ []) || earlier vcpu_records)
+    (λ is. neither (earlier (Verify ∷ [])) (earlier vcpu_records) (order.one_verify (same_type this Verify is)) (order.verify_before_vcpus (same_type this Verify is))) in
     let known = false_not (record_row_of this).supported supported in
-    (known, (false_not ((record_row_of this).of_kind kind) of_kind, (one_end, (late, (content, (one_info, (p2m, (pages, (vcpus, tt)))))))))
+    (known, (false_not ((record_row_of this).of_kind kind) of_kind, (one_end, (late, (content, (one_info, (p2m, (pages, (vcpus, (verify, tt))))))))))
   where
     neither : (a b : Bool) → a ≡ false → b ≡ false → (a || b) ≡ false
     neither a b p q = rw (p, q) refl

@@ -1,7 +1,7 @@
 -- What a gate is seen as, and which lists of types it stands for.
 use Rattle.std.specs.Prelude.{◌≡◌, ◌↔◌, ℕ, List, [], ◌∷◌, None, ◌||◌}
 use Rattle.mig_headers.specs.declared.kind.Kind.{Kind}
-use Rattle.mig_headers.specs.declared.record_type.RecordType.TheVariants.{X86PvInfo, X86PvP2mFrames, StaticDataEnd}
+use Rattle.mig_headers.specs.declared.record_type.RecordType.TheVariants.{X86PvInfo, X86PvP2mFrames, Verify, StaticDataEnd}
 use Rattle.mig_order.specs.Order.{Earlier, earlier_in, among, content_records, vcpu_records, fault_of_type, IsInOrder}
 
 pub record GateOf : Type 0 where
@@ -21,6 +21,7 @@ then_type earlier number = record {
   pv_info = earlier.pv_info || among (X86PvInfo ∷ []) number;
   p2m_frames = earlier.p2m_frames || among (X86PvP2mFrames ∷ []) number;
   vcpu = earlier.vcpu || among vcpu_records number;
+  verify = earlier.verify || among (Verify ∷ []) number;
 }
 
 -- a type has no fault exactly where it may stand there

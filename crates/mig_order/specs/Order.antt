@@ -6,7 +6,7 @@ use Rattle.mig_headers.specs.declared.kind.Kind.TheVariants.{Pv}
 use Rattle.mig_headers.specs.declared.fault.Cause.{Cause}
 use Rattle.mig_headers.specs.declared.fault.Cause.TheVariants.{Unsupported, UnknownMandatory, WrongKind, OutOfOrder}
 use Rattle.mig_headers.specs.declared.record_type.RecordType.{RecordType}
-use Rattle.mig_headers.specs.declared.record_type.RecordType.TheVariants.{End, PageData, X86PvInfo, X86PvP2mFrames, X86PvVcpuBasic, X86PvVcpuExtended, X86PvVcpuXsave, SharedInfo, HvmContext, HvmParams, X86PvVcpuMsrs, StaticDataEnd, X86CpuidPolicy, X86MsrPolicy}
+use Rattle.mig_headers.specs.declared.record_type.RecordType.TheVariants.{End, PageData, X86PvInfo, X86PvP2mFrames, X86PvVcpuBasic, X86PvVcpuExtended, X86PvVcpuXsave, SharedInfo, HvmContext, HvmParams, X86PvVcpuMsrs, Verify, StaticDataEnd, X86CpuidPolicy, X86MsrPolicy}
 use Rattle.mig_headers.specs.Rows.{first_fault}
 use Rattle.mig_headers.specs.RecordTypes.{record_row_of, pv, type_number, type_of_number, is_optional}
 
@@ -15,7 +15,7 @@ abbrev pub static_records : List RecordType
 static_records = X86PvInfo ∷ X86CpuidPolicy ∷ X86MsrPolicy ∷ []
 
 abbrev pub content_records : List RecordType
-content_records = End ∷ PageData ∷ X86PvP2mFrames ∷ X86PvVcpuBasic ∷ X86PvVcpuExtended ∷ X86PvVcpuXsave ∷ SharedInfo ∷ HvmContext ∷ HvmParams ∷ X86PvVcpuMsrs ∷ []
+content_records = End ∷ PageData ∷ X86PvP2mFrames ∷ X86PvVcpuBasic ∷ X86PvVcpuExtended ∷ X86PvVcpuXsave ∷ SharedInfo ∷ HvmContext ∷ HvmParams ∷ X86PvVcpuMsrs ∷ Verify ∷ []
 
 abbrev pub vcpu_records : List RecordType
 vcpu_records = X86PvVcpuBasic ∷ X86PvVcpuExtended ∷ X86PvVcpuXsave ∷ X86PvVcpuMsrs ∷ []
@@ -35,6 +35,7 @@ pub record Earlier : Type 0 where
   pub pv_info : Bool
   pub p2m_frames : Bool
   pub vcpu : Bool
+  pub verify : Bool
 
 abbrev pub earlier_in : List ℕ → Earlier
 earlier_in types = record {
@@ -43,6 +44,7 @@ earlier_in types = record {
   pv_info = some_earlier types (X86PvInfo ∷ []);
   p2m_frames = some_earlier types (X86PvP2mFrames ∷ []);
   vcpu = some_earlier types vcpu_records;
+  verify = some_earlier types (Verify ∷ []);
 }
 
 -- whether a type is one of these
@@ -78,6 +80,10 @@ early_pages kind earlier this = pv kind && (is_of (PageData ∷ []) this && not 
 abbrev pub late_pages : Earlier → RecordType → Bool
 late_pages earlier this = is_of (PageData ∷ []) this && earlier.vcpu
 
+-- rule 8: one VERIFY, which stands before all vCPU records
+abbrev pub late_verify : Earlier → RecordType → Bool
+late_verify earlier this = is_of (Verify ∷ []) this && (earlier.verify || earlier.vcpu)
+
 -- the rules, where a record breaks each
 abbrev pub broken_rules : ℕ → Kind → Earlier → RecordType → List (Bool × Cause)
 broken_rules version kind earlier this =
@@ -88,6 +94,7 @@ broken_rules version kind earlier this =
     ∷ (early_p2m_frames earlier this, OutOfOrder 5)
     ∷ (early_pages kind earlier this, OutOfOrder 6)
     ∷ (late_pages earlier this, OutOfOrder 7)
+    ∷ (late_verify earlier this, OutOfOrder 8)
     ∷ []
 
 -- all causes of a record of a type that the table of record types has
@@ -122,6 +129,8 @@ pub record KeepsOrder (version : ℕ) (kind : Kind) (types : List ℕ) (this : R
   pub p2m_after_pv_info : this ≡ X86PvP2mFrames → IsTrue (some_earlier types (X86PvInfo ∷ []))
   pub pv_pages_after_p2m : kind ≡ Pv → this ≡ PageData → IsTrue (some_earlier types (X86PvP2mFrames ∷ []))
   pub pages_before_vcpus : this ≡ PageData → IsFalse (some_earlier types vcpu_records)
+  pub one_verify : this ≡ Verify → IsFalse (some_earlier types (Verify ∷ []))
+  pub verify_before_vcpus : this ≡ Verify → IsFalse (some_earlier types vcpu_records)
 
 -- a type's number may stand behind records of these types: it is optional, or a supported type of this kind that keeps the order
 pub data IsInOrder (version : ℕ) (kind : Kind) (types : List ℕ) (number : ℕ) : Type 0 where

@@ -3,7 +3,7 @@ ghost use Rattle.mig_headers.specs.Rows.{first_fault};
 ghost use Rattle.mig_headers.specs.Headers.{unless_faulty};
 ghost use Rattle.mig_headers.specs.RecordTypes.{record_row_of, type_number, type_of_number};
 ghost use Rattle.mig_headers.specs.declared.record_type.RecordType.{RecordType};
-ghost use Rattle.mig_order.specs.Order.{broken_rules, causes, fault_after, fault_of_type, second_end, late_static, early_content, second_pv_info, early_p2m_frames, early_pages, late_pages};
+ghost use Rattle.mig_order.specs.Order.{broken_rules, causes, fault_after, fault_of_type, second_end, late_static, early_content, second_pv_info, early_p2m_frames, early_pages, late_pages, late_verify};
 ghost use Rattle.mig_order.specs.Gate.{GateOf, StandsFor, then_type};
 
 use crate::sort::{is_content, is_same, is_static, is_vcpu};
@@ -20,12 +20,13 @@ pub struct Gate {
     pv_info: bool,
     p2m_frames: bool,
     vcpu: bool,
+    verify: bool,
 }
 
 impl Model for Gate {
     ghost Value = { GateOf };
 
-    ghost view = { λ g. record { version = g.version; kind = g.kind; earlier = record { static_data_end = g.static_data_end; content = g.content; pv_info = g.pv_info; p2m_frames = g.p2m_frames; vcpu = g.vcpu } } };
+    ghost view = { λ g. record { version = g.version; kind = g.kind; earlier = record { static_data_end = g.static_data_end; content = g.content; pv_info = g.pv_info; p2m_frames = g.p2m_frames; vcpu = g.vcpu; verify = g.verify } } };
 }
 
 impl Gate {
@@ -43,6 +44,7 @@ impl Gate {
             pv_info: false,
             p2m_frames: false,
             vcpu: false,
+            verify: false,
         }
     }
 
@@ -116,6 +118,9 @@ impl Gate {
         if self.is_late_pages(this) {
             return Some(Cause::OutOfOrder(7));
         }
+        if self.is_late_verify(this) {
+            return Some(Cause::OutOfOrder(8));
+        }
         None
     }
 
@@ -169,6 +174,13 @@ impl Gate {
         is_same(this, RecordType::PageData) && self.vcpu
     }
 
+    /// Rule 8: a second VERIFY, or one behind the record of a vCPU.
+    fn is_late_verify(&self, this: RecordType) -> bool
+        ensures { result ≡ late_verify self.now.earlier this }
+    {
+        is_same(this, RecordType::Verify) && (self.verify || self.vcpu)
+    }
+
     /// A record of the type with this number follows those before.
     fn pass(&mut self, number: u32)
         ensures { self.new ≡ record self.old { earlier = then_type self.old.earlier number } }
@@ -187,5 +199,6 @@ impl Gate {
         self.pv_info = self.pv_info || is_same(this, RecordType::X86PvInfo);
         self.p2m_frames = self.p2m_frames || is_same(this, RecordType::X86PvP2mFrames);
         self.vcpu = self.vcpu || is_vcpu(this);
+        self.verify = self.verify || is_same(this, RecordType::Verify);
     }
 }

@@ -37,6 +37,7 @@ pub fn is_content(this: RecordType) -> bool
             | RecordType::HvmContext
             | RecordType::HvmParams
             | RecordType::X86PvVcpuMsrs
+            | RecordType::Verify
     )
 }
 

@@ -1,6 +1,6 @@
 use Rattle.std.proofs.Common.{sym, ap, ◌∙◌}
 use Rattle.mig_headers.proofs.RecordNumbers.{numbers_are_inverse}
-use Rattle.mig_order.specs.Gate.{GateOf, then_type}
+use Rattle.mig_order.specs.Gate.{then_type}
 use Rattle.mig_order.proofs.gate.Gate.pass.Goals as goal
 
 -- by the law of numbers, so that one more type costs nothing here
