@@ -1,5 +1,5 @@
 -- An accepted guest is whole: each content that is spelled keeps it well formed, and its END asks for the rest.
-use Rattle.mig_restore.proofs.Common.{◌≡◌, ℕ, zero, suc, ◌^◌, ◌<◌, ◌≤◌, Bool, true, false, List, [], ◌∷◌, ◌++◌, length, Option, Some, is_some, refl, sym, ap, subst, ◌∙◌, arith, eqb-true, none-some, same_Some, All, common_steps, AreBytes, le32, record_row_of, type_number, type_of_number, Kind, Pv, Hvm, RecordType, numbers_are_inverse, pfn_limit, word_pfn, word_has_data, type_has_data, PageType, IsInside, HasNoEmulators, GuestOf, words, IsInOrder, shape_of, bodies_are_spelled, is_shaped, Opening, meant_type, put_entry, put_entries, put_content, IsBegun, Grows, FrameEntry, Content, StreamRecord, types_of, is_ended, Sets, Lists, IsPage, IsEntry, AreEntries, IsGoodWord, HasContent, IsComplete, Follows, Accepted, Spells}
+use Rattle.mig_restore.proofs.Common.{◌≡◌, ℕ, zero, suc, ◌^◌, ◌<◌, ◌≤◌, Bool, true, false, List, [], ◌∷◌, ◌++◌, length, Option, Some, is_some, refl, sym, ap, subst, ◌∙◌, arith, eqb-true, none-some, same_Some, All, common_steps, AreBytes, le32, record_row_of, type_number, type_of_number, Kind, Pv, Hvm, RecordType, numbers_are_inverse, pfn_limit, word_pfn, word_has_data, type_has_data, PageType, IsInside, HasNoEmulators, GuestOf, words, IsInOrder, shape_of, bodies_are_spelled, is_shaped, Opening, meant_type, put_entry, put_entries, put_content, IsBegun, Grows, FrameEntry, Content, StreamRecord, types_of, is_verified, is_ended, Sets, Lists, IsPage, IsEntry, AreEntries, IsGoodWord, HasContent, IsComplete, Follows, Accepted, Spells}
 use Rattle.std.proofs.lemmas.List.Elements.{All-head, All-tail}
 use Rattle.mig_headers.specs.declared.record_type.RecordType.TheVariants.{X86PvP2mFrames}
 use Rattle.mig_pagetypes.specs.declared.page_type.PageType.TheVariants.{Notab}
@@ -13,7 +13,7 @@ use Rattle.mig_pvtables.proofs.BlankAgain.{blank_again}
 use Rattle.mig_pvtables.proofs.BlankBytesKept.{blank_bytes}
 use Rattle.mig_pvtables.proofs.BlankWhole.{whole_blank, blank_plain}
 use Rattle.mig_restore.specs.Mean.{sent}
-use Rattle.mig_restore.specs.Spelled.HasContent.{optional, ends, pages, sets, info, p2m_frames, static_end}
+use Rattle.mig_restore.specs.Spelled.HasContent.{optional, ends, pages, sets, info, p2m_frames, static_end, verify}
 use Rattle.mig_bytes.specs.Sequences.Spells.{no_part, one_more}
 use Rattle.mig_restore.proofs.Arrivals.{ended_more}
 use Rattle.mig_restore.proofs.Bodies.{no_type}
@@ -21,6 +21,7 @@ use Rattle.mig_restore.proofs.Growth.{empty_begun, grows_not, grows_on, word_ins
 use Rattle.mig_restore.proofs.Batches.{carries}
 use Rattle.mig_restore.proofs.Laws.{complete_faultless}
 use Rattle.mig_restore.proofs.Meaning.{one_more_record, sent_kind, meant_as_sent}
+use Rattle.mig_restore.proofs.Compared.{placed_is}
 
 -- ---- bytes
 
@@ -87,6 +88,7 @@ content_grows : (g : GuestOf) (kind : Kind) (top type : ℕ) (body : List ℕ) (
 content_grows g kind top type body c k t bytes short of_kind (optional n b many) = grows_not g
 content_grows g kind top type body c k t bytes short of_kind ends = grows_not g
 content_grows g kind top type body c k t bytes short of_kind static_end = grows_not g
+content_grows g kind top type body c k t bytes short of_kind verify = grows_not g
 content_grows g kind top type body c k t bytes short of_kind (info b eight says) = grows_not g
 content_grows g kind top type body c k t bytes short of_kind (pages b es batch) =
     entries_grow kind top (words (le32 batch.front 0) batch.words_bytes) batch.pages_bytes es
@@ -114,8 +116,9 @@ spelled_begun o bytes records all (one_more front rs r text before f) =
     let kind : o.kind ≡ g.kind = sym (sent_kind o.kind rs) in
     let all_text = subst AreBytes f.is.whole (bytes_back front text all) in
     let all_body = bytes_front f.body f.is.padding (bytes_back f.is.head (f.body ++ f.is.padding) all_text) in
-    let grown = content_grows g o.kind g.top r.type f.body r.content kind refl all_body f.small
+    let said = content_grows g o.kind g.top r.type f.body f.said kind refl all_body f.small
     (λ this is. subst (λ k. (record_row_of this).of_kind k ≡ true) kind (of_this_kind o (types_of rs) this (subst (IsInOrder o.version o.kind (types_of rs)) is f.ordered))) f.says in
+    let grown = subst (λ (c : Content). Grows g (put_content g c)) (sym f.placed) (placed_is (λ c. Grows g (put_content g c)) (is_verified (types_of rs)) f.said (λ es. grows_not g) said) in
     subst IsBegun (sym (one_more_record o.kind rs r)) (grown.kept was)
 
 -- the last record ends the image

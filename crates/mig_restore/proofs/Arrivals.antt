@@ -1,15 +1,16 @@
 -- The front of a stream that the reader has behind it.
-use Rattle.mig_restore.proofs.Common.{arith, ◌≡◌, ℕ, List, [], ◌∷◌, ◌++◌, length, Bool, true, false, nat_eq, Option, Result, Ok, Err, refl, sym, ap, ◌∙◌, ◌||◌, list_any, map-append, length-map, common_steps, Stop, stop_at, Gives, Passes, Cause, Record, GuestOf, RecordsSeen, put_record, empty_guest, StreamRecord, types_of, is_ended, Opening, IsSeen, image_of, records_at, IsReading, Follows}
+use Rattle.mig_restore.proofs.Common.{arith, ◌≡◌, ℕ, List, [], ◌∷◌, ◌++◌, length, Bool, true, false, nat_eq, Option, None, is_some, Result, Ok, Err, refl, sym, ap, ◌∙◌, ◌||◌, list_any, map-append, length-map, common_steps, Stop, stop_at, Gives, Passes, Cause, Record, GuestOf, RecordsSeen, put_record, empty_guest, StreamRecord, types_of, is_ended, is_verified, Opening, differs_behind, IsSeen, image_of, records_at, IsReading, Follows}
 use Rattle.std.proofs.lemmas.List.Folds.{list_any-append}
 use Rattle.mig_bytes.proofs.Arrivals as fronts
-use Rattle.mig_bytes.proofs.Joins.{any_stop, mapped, stop, weakened}
+use Rattle.mig_bytes.proofs.Joins.{any_stop, mapped, stop}
 use Rattle.mig_bytes.proofs.Placed.{placed_fine, placed_stops}
 use Rattle.mig_bytes.specs.Sequences.{sequence_at}
 use Rattle.mig_pvtables.specs.Blank.{blank}
 use Rattle.mig_restore.specs.declared.read.Reading.{Reading}
-use Rattle.mig_restore.specs.Mean.{sent}
+use Rattle.mig_restore.specs.Mean.{sent, differs_of}
 use Rattle.mig_restore.specs.Judging.{next_at}
 use Rattle.mig_restore.specs.Stream.{placed_next}
+use Rattle.mig_restore.proofs.Compared.{IsUnchecked, judged_too, next_placed, some_differs, unchecked_more, differs_more}
 use Rattle.mig_restore.proofs.Laws.{finds}
 use Rattle.mig_restore.proofs.Meaning.{one_more_record, meant_as_sent}
 
@@ -23,45 +24,75 @@ is_last r = nat_eq r.type 0
 
 -- ---- what the reader knows between two records
 
+-- what it keeps: of the types, the guest, and how many entries differ
+pub record State : Type 0 where
+  pub seen : RecordsSeen
+  pub guest : GuestOf
+  pub differs : Option ℕ
+
+abbrev pub state : RecordsSeen → GuestOf → Option ℕ → State
+state seen guest differs = record { seen = seen; guest = guest; differs = differs }
+
+pub record Keeps (o : Opening) (s : State) (records : List StreamRecord) : Type 0 where
+  pub seen : IsSeen s.seen o (types_of records)
+  pub guest : s.guest ≡ sent o.kind records
+  pub differs : s.differs ≡ differs_of o.kind records
+  pub unchecked : IsUnchecked records
+
 module _ (o : Opening) where
-  abbrev pub Keeps : RecordsSeen × GuestOf → List StreamRecord → Type 0
-  Keeps s records = IsSeen s.0 o (types_of records) × (s.1 ≡ sent o.kind records)
+  abbrev pub Arrived : Option (List ℕ) → Option (List ℕ) → RecordsSeen → GuestOf → Option ℕ → Type 0
+  Arrived first now seen guest differs = fronts.Arrived is_ended (placed_next o) (Keeps o) first now (state seen guest differs)
 
-  abbrev pub Arrived : Option (List ℕ) → Option (List ℕ) → RecordsSeen → GuestOf → Type 0
-  Arrived first now seen guest = fronts.Arrived is_ended (placed_next o) Keeps first now (seen, guest)
-
-  -- what a record that was read says of the guest, and whether it ends the image
-  abbrev pub Told : GuestOf → GuestOf → RecordsSeen → List StreamRecord → Bool → StreamRecord → Type 0
-  Told old new seen records over r = (new ≡ put_record old r) × IsSeen seen o (types_of (records ++ r ∷ [])) × (over ≡ nat_eq r.type 0)
+  -- what a record that was read says of the guest, whether it ends the image, and how many entries differ with it
+  abbrev pub Told : State → State → List StreamRecord → Bool → StreamRecord → Type 0
+  Told old new records over r = (new.guest ≡ put_record old.guest r) × IsSeen new.seen o (types_of (records ++ r ∷ [])) × (over ≡ nat_eq r.type 0) × (new.differs ≡ differs_behind old.guest old.differs r)
 
   -- the clause of the reader of a record
-  abbrev pub Tells : GuestOf → GuestOf → RecordsSeen → RecordsSeen → Option (List ℕ) → Option (List ℕ) → Result Bool (Stop Cause) → Type 0
-  Tells guest guest' seen seen' b c r = (records : List StreamRecord) → IsSeen seen o (types_of records) → guest ≡ sent o.kind records → Gives (Told guest guest' seen' records) b c (next_at o records) r
+  abbrev pub Tells : State → State → Option (List ℕ) → Option (List ℕ) → Result Bool (Stop Cause) → Type 0
+  Tells old new b c r = (records : List StreamRecord) → IsSeen old.seen o (types_of records) → old.guest ≡ sent o.kind records → is_some old.differs ≡ is_verified (types_of records) → Gives (Told old new records) b c (next_at o records) r
 
-  tells_on : (b c : Option (List ℕ)) (seen seen' : RecordsSeen) (guest guest' : GuestOf) (over : Bool) → Tells guest guest' seen seen' b c (Ok over) → fronts.Tells is_ended (placed_next o) Keeps is_last (seen, guest) (seen', guest') b c (Ok over)
-  tells_on b c seen seen' guest guest' over told records keeps =
+  -- what is kept behind one more record
+  kept : (old new : State) (records : List StreamRecord) (over : Bool) (r : StreamRecord) (i rest : List ℕ) → Keeps o old records → next_at o records i ≡ Passes r rest → Told old new records over r → Keeps o new (records ++ r ∷ [])
+  kept old new records over r i rest keeps judged t =
+      let placed = next_placed o records i r rest judged in
+      record {
+        seen = t.1;
+        guest = t.0 ∙ ap (λ w. put_record w r) keeps.guest ∙ sym (one_more_record o.kind records r);
+        differs = t.3 ∙ ap (λ g. differs_behind g old.differs r) keeps.guest ∙ ap (λ d. differs_behind (sent o.kind records) d r) keeps.differs ∙ sym (differs_more o.kind records r keeps.unchecked placed);
+        unchecked = unchecked_more records r keeps.unchecked placed;
+      }
+
+  is_counted : (s : State) (records : List StreamRecord) → Keeps o s records → is_some s.differs ≡ is_verified (types_of records)
+  is_counted s records keeps = ap is_some keeps.differs ∙ some_differs o.kind records
+
+  tells_on : (b c : Option (List ℕ)) (old new : State) (over : Bool) → Tells old new b c (Ok over) → fronts.Tells is_ended (placed_next o) (Keeps o) is_last old new b c (Ok over)
+  tells_on b c old new over told records keeps =
       placed_fine _ (Record (length records)) b c (next_at o records) over
-      (weakened (Told guest guest' seen' records) (λ over r. Keeps (seen', guest') (records ++ r ∷ []) × (over ≡ is_last r)) b c (next_at o records) over over
-      (λ r t. ((t.1, t.0 ∙ ap (λ w. put_record w r) keeps.1 ∙ sym (one_more_record o.kind records r)), t.2)) (told records keeps.0 keeps.1))
+      (judged_too (Told old new records) (λ over r. Keeps o new (records ++ r ∷ []) × (over ≡ is_last r)) b c (next_at o records) over over
+      (λ i rest r judged t. (kept old new records over r i rest keeps judged t, t.2)) (told records keeps.seen keeps.guest (is_counted old records keeps)))
 
-  pub arrived_first : (a : Option (List ℕ)) (seen : RecordsSeen) (guest : GuestOf) → IsSeen seen o [] → guest ≡ empty_guest o.kind → Arrived a a seen guest
-  unfolding sent
-  arrived_first a seen guest s g = fronts.arrived_first is_ended (placed_next o) Keeps a (seen, guest) (s, g) refl
+  pub arrived_first : (a : Option (List ℕ)) (seen : RecordsSeen) (guest : GuestOf) (differs : Option ℕ) → IsSeen seen o [] → guest ≡ empty_guest o.kind → differs ≡ None → Arrived a a seen guest differs
+  unfolding sent differs_of
+  arrived_first a seen guest differs s g d = fronts.arrived_first is_ended (placed_next o) (Keeps o) a (state seen guest differs) (record { seen = s; guest = g; differs = d; unchecked = λ _. refl }) refl
 
-  pub arrived_next : (a b c : Option (List ℕ)) (seen seen' : RecordsSeen) (guest guest' : GuestOf) (over : Bool) → over ≡ false → Arrived a b seen guest → Tells guest guest' seen seen' b c (Ok over) → Arrived a c seen' guest'
-  arrived_next a b c seen seen' guest guest' over still h told =
-      fronts.arrived_next is_ended (placed_next o) Keeps is_last ended_more a b c (seen, guest) (seen', guest') over still h (tells_on b c seen seen' guest guest' over told)
+  pub arrived_next : (a b c : Option (List ℕ)) (old new : State) (over : Bool) → over ≡ false → fronts.Arrived is_ended (placed_next o) (Keeps o) a b old → Tells old new b c (Ok over) → fronts.Arrived is_ended (placed_next o) (Keeps o) a c new
+  arrived_next a b c old new over still h told = fronts.arrived_next is_ended (placed_next o) (Keeps o) is_last ended_more a b c old new over still h (tells_on b c old new over told)
 
-  pub arrived_end : (a b c : Option (List ℕ)) (seen seen' : RecordsSeen) (guest guest' : GuestOf) (reading : Reading) (over : Bool) → over ≡ true → reading.guest ≡ blank guest' → reading.version ≡ o.version → reading.records ≡ seen'.records → Arrived a b seen guest
-      → Tells guest guest' seen seen' b c (Ok over) → Gives IsReading a c (records_at o) (Ok reading)
-  arrived_end a b c seen seen' guest guest' reading over is_over rg rv rs h told =
-      mapped Keeps IsReading a c (sequence_at is_ended (placed_next o)) (records_at o) (image_of o) (seen', guest') reading (λ i. refl)
-      (fronts.arrived_end is_ended (placed_next o) Keeps is_last ended_more (Follows o) (finds o) a b c (seen, guest) (seen', guest') over is_over h (tells_on b c seen seen' guest guest' over told))
-      (λ records keeps. record { guest = rg ∙ meant_as_sent guest' o.kind records keeps.1; version = rv; records = rs ∙ keeps.0.count ∙ length-map records (λ (x : StreamRecord). x.type) })
+  pub arrived_end : (a b c : Option (List ℕ)) (old new : State) (reading : Reading) (over : Bool) → over ≡ true → reading.guest ≡ blank new.guest → reading.version ≡ o.version → reading.records ≡ new.seen.records → reading.differs ≡ new.differs
+      → fronts.Arrived is_ended (placed_next o) (Keeps o) a b old → Tells old new b c (Ok over) → Gives IsReading a c (records_at o) (Ok reading)
+  arrived_end a b c old new reading over is_over rg rv rs rd h told =
+      mapped (Keeps o) IsReading a c (sequence_at is_ended (placed_next o)) (records_at o) (image_of o) new reading (λ i. refl)
+      (fronts.arrived_end is_ended (placed_next o) (Keeps o) is_last ended_more (Follows o) (finds o) a b c old new over is_over h (tells_on b c old new over told))
+      (λ records keeps. record {
+        guest = rg ∙ meant_as_sent new.guest o.kind records keeps.guest;
+        version = rv;
+        records = rs ∙ keeps.seen.count ∙ length-map records (λ (x : StreamRecord). x.type);
+        differs = rd ∙ keeps.differs;
+      })
 
-  pub arrived_stopped : (a b c : Option (List ℕ)) (seen seen' : RecordsSeen) (guest guest' : GuestOf) (e : Stop Cause) (n : ℕ) → n ≡ seen.records → Arrived a b seen guest → Tells guest guest' seen seen' b c (Err e) → Gives {X = Reading} IsReading a c (records_at o) (Err (stop_at (Record n) e))
-  arrived_stopped a b c seen seen' guest guest' e n count h told =
-      stop Keeps IsReading a c (sequence_at is_ended (placed_next o)) (λ rs. Passes (image_of o rs.0) rs.1) (stop_at (Record n) e)
-      (fronts.arrived_stopped is_ended (placed_next o) Keeps is_last ended_more (Follows o) (finds o) a b c (seen, guest) (seen', guest') (stop_at (Record n) e) h
-      (λ records keeps. placed_stops _ (Record (length records)) b c (next_at o records) e (stop_at (Record n) e) (ap (λ m. stop_at (Record m) e) (count ∙ keeps.0.count ∙ length-map records (λ (x : StreamRecord). x.type)))
-      (any_stop (Told guest guest' seen' records) (λ over r. Keeps (seen', guest') (records ++ r ∷ []) × (over ≡ is_last r)) b c (next_at o records) e (told records keeps.0 keeps.1))))
+  pub arrived_stopped : (a b c : Option (List ℕ)) (old new : State) (e : Stop Cause) (n : ℕ) → n ≡ old.seen.records → fronts.Arrived is_ended (placed_next o) (Keeps o) a b old → Tells old new b c (Err e) → Gives {X = Reading} IsReading a c (records_at o) (Err (stop_at (Record n) e))
+  arrived_stopped a b c old new e n count h told =
+      stop (Keeps o) IsReading a c (sequence_at is_ended (placed_next o)) (λ rs. Passes (image_of o rs.0) rs.1) (stop_at (Record n) e)
+      (fronts.arrived_stopped is_ended (placed_next o) (Keeps o) is_last ended_more (Follows o) (finds o) a b c old new (stop_at (Record n) e) h
+      (λ records keeps. placed_stops _ (Record (length records)) b c (next_at o records) e (stop_at (Record n) e) (ap (λ m. stop_at (Record m) e) (count ∙ keeps.seen.count ∙ length-map records (λ (x : StreamRecord). x.type)))
+      (any_stop (Told old new records) (λ over r. Keeps o new (records ++ r ∷ []) × (over ≡ is_last r)) b c (next_at o records) e (told records keeps.seen keeps.guest (is_counted old records keeps)))))

@@ -1,5 +1,6 @@
 -- The body of a PAGE_DATA record: what judging lets pass is spelled as the format says, and what is spelled so passes.
-use Rattle.mig_restore.proofs.Common.{get_or, zero, suc, ◌≡◌, ℕ, ◌+◌, ◌*◌, ◌<◌, ◌↔◌, List, [], ◌∷◌, ◌++◌, length, Bool, true, false, cond, nat_eq, not, Option, Some, None, refl, sym, ap, subst, ◌∙◌, arith, append_assoc, length-append, Result, Ok, Err, count_by, eqb-true, eqb-false, eq-eqb, ne_eqb, le-ltb, not-false, common_steps, le32, le64, ◌>>=◌, part, tried, Judged, Matches, Gives, Passes, Faulty, part_whole, both_pass, tried_passes, same_passes, then_passes, tried_none, BadLength, Truncated, Kind, word_pfn, word_has_data, word_type, some_has_data, fault_of_count, fault_of_words, count_rows, words, data_len_of, FrameEntry, Content, type_in_word, fault_of_data, words_at, entry_at, with_places, fault_of_level, fault_of_page, entries_at, pages_at, IsPage, Pv, Hvm, PageType, level_of, meant_type, EachEntry, IsWithin, entry, FrameOf, table_within, IsEntry, AreEntries, IsBatch, rows_fine, no_fault, type_of, type_or_none, type_has_data, Stop, Cause, GuestOf, Frames, put_entries, put_content}
+use Rattle.mig_restore.proofs.Common.{get_or, zero, suc, ◌≡◌, ℕ, ◌+◌, ◌*◌, ◌<◌, ◌↔◌, List, [], ◌∷◌, ◌++◌, length, Bool, true, false, cond, nat_eq, not, Option, Some, None, refl, sym, ap, subst, ◌∙◌, arith, append_assoc, length-append, Result, Ok, Err, count_by, eqb-true, eqb-false, eq-eqb, ne_eqb, le-ltb, not-false, common_steps, le32, le64, ◌>>=◌, part, tried, Judged, Matches, Gives, Passes, Faulty, part_whole, both_pass, tried_passes, same_passes, then_passes, tried_none, BadLength, Truncated, Kind, word_pfn, word_has_data, word_type, some_has_data, fault_of_count, fault_of_words, count_rows, words, data_len_of, FrameEntry, Content, type_in_word, fault_of_data, words_at, entry_at, with_places, fault_of_level, fault_of_page, entries_at, list_at, pages_at, stopped, then_reads, IsPage, Pv, Hvm, PageType, level_of, meant_type, EachEntry, IsWithin, entry, FrameOf, table_within, IsEntry, AreEntries, IsBatch, rows_fine, no_fault, type_of, type_or_none, type_has_data, Stop, Cause, GuestOf, Frames, put_entries, put_content}
+use Rattle.std.specs.Result.{IsErrAnd}
 use Rattle.std.proofs.lemmas.List.FromFn.{length-map-range_with_len}
 use Rattle.mig_bytes.specs.Judged.{each}
 use Rattle.mig_pagetypes.specs.declared.page_type.PageType.TheVariants.{Notab}
@@ -60,6 +61,19 @@ within_page kind top place w bytes within = by (word_has_data w) refl
     by true some = (level_within top place (level_of (meant_type kind (type_in_word w))) bytes).1 (λ level lev. within level bytes lev (ap (λ b. cond b (Some bytes) None) some))
     by false none = ap (λ o. fault_of_level top place o bytes) (no_level kind (type_in_word w) (sym (carries w) ∙ none))
 
+-- the entry of the word at this place, judged by the kind and the top of the guest before the loop
+pub entry_here : {X : Type 0} (R : X → FrameEntry → Type 0) (a b : Option (List ℕ)) (r : Result X (Stop Cause)) (kind now : Kind) (top high place : ℕ) (list : List ℕ) → now ≡ kind → high ≡ top → place < length list
+    → Gives R a b (entry_at now high (place, get_or list place 0)) r → Gives R a b (entry_at kind top (get_or (with_places 0 list) place (0, 0))) r
+entry_here R a b r kind now top high place list k t lt read =
+    let same : entry_at now high (place, get_or list place 0) ≡ entry_at kind top (get_or (with_places 0 list) place (0, 0)) =
+    ap (λ x. entry_at x high (place, get_or list place 0)) k ∙ ap (λ n. entry_at kind n (place, get_or list place 0)) t
+    ∙ ap (λ n. entry_at kind top (n, get_or list place 0)) (let e : place ≡ 0 + place = omega arith in e) ∙ ap (entry_at kind top) (sym (place_at 0 list place lt)) in
+    subst (λ (f : List ℕ → Judged Cause FrameEntry). Gives R a b f r) same read
+
+-- a place of the list is one of the words with their places
+pub place_within : (place : ℕ) (list : List ℕ) → place < length list → place < length (with_places 0 list)
+place_within place list lt = subst (λ n. place < n) (sym (places_len 0 list)) lt
+
 -- behind the words of a batch
 abbrev pub behind_words : Kind → ℕ → ℕ → List ℕ × List ℕ → Judged Cause (List FrameEntry)
 behind_words kind top len ws = tried (fault_of_words kind top ws.0) ws.1 >>= λ _. tried (fault_of_data len ws.0) ws.1 >>= λ _. each (entry_at kind top) (with_places 0 ws.0) ws.1
@@ -113,44 +127,90 @@ module _ (kind : Kind) (top : ℕ) where
       (page_by (word_has_data w) (fault_of_page kind top (place, w)) i (λ none. ap (λ o. fault_of_level top place o []) (no_level kind (type_in_word w) (sym (carries w) ∙ none))))
       ∙ each_by place w ws (fault_of_page kind top (place, w)) (part Truncated (page_size w) i)
 
-abbrev behind_front : ℕ → Kind → ℕ → List ℕ × List ℕ → Judged Cause (List FrameEntry)
-behind_front len kind top front = tried (fault_of_count len (le32 front.0 0)) front.1 >>= λ _. words_at (le32 front.0 0) front.1 >>= behind_words kind top len
+-- ---- the words, and the entries behind them
+
+abbrev good_list : Kind → ℕ → ℕ → List ℕ × List ℕ → Judged Cause (List ℕ)
+good_list kind top len ws = tried (fault_of_words kind top ws.0) ws.1 >>= λ _. tried (fault_of_data len ws.0) ws.1 >>= λ _. Passes ws.0 ws.1
+
+abbrev front_list : Kind → ℕ → ℕ → List ℕ × List ℕ → Judged Cause (List ℕ)
+front_list kind top len front = tried (fault_of_count len (le32 front.0 0)) front.1 >>= λ _. words_at (le32 front.0 0) front.1 >>= good_list kind top len
 
 abbrev as_content : List FrameEntry × List ℕ → Judged Cause Content
 as_content es = Passes (Frames es.0) es.1
 
-module _ (g new : GuestOf) (e : Option (List ℕ)) where
-  abbrev Set : Unit {0} → List FrameEntry → Type 0
-  Set _ es = new ≡ record g { frames = put_entries g.kind g.frames es }
+abbrev behind_list : Kind → ℕ → List ℕ × List ℕ → Judged Cause Content
+behind_list kind top ws = entries_in_place kind top 0 ws.0 ws.1 >>= as_content
 
-  abbrev Put : Unit {0} → Content → Type 0
-  Put _ c = new ≡ put_content g c
+module _ (kind : Kind) (top len : ℕ) where
+  abbrev both : Judged Cause (List ℕ) → Judged Cause Content
+  both j = j >>= behind_list kind top
 
-  as_frames : (j : Judged Cause (List FrameEntry)) (r : Result (Unit {0}) (Stop Cause)) → Matches Set e j r → Matches Put e (j >>= as_content) r
-  as_frames j (Ok u) (es, rest, is, left, now) = (Frames es, rest, ap (λ k. k >>= as_content) is, left, now)
-  as_frames j (Err (Refused c)) (rest, is, left) = (rest, ap (λ k. k >>= as_content) is, left)
-  as_frames j (Err ReadFault) h = tt
-  as_frames j (Err Memory) h = tt
+  by_data : (ws rest : List ℕ) (o : Option Cause) → ((tried o rest >>= λ _. entries_in_place kind top 0 ws rest) >>= as_content) ≡ both (tried o rest >>= λ _. Passes ws rest)
+  by_data ws rest None = refl
+  by_data ws rest (Some c) = refl
 
-  module _ {V : Type 0} (items : V → List ℕ) where
-    pub pages_read : (a b d : Option (List ℕ)) (kind : Kind) (top len n m : ℕ) (buf : List ℕ) (list : V) (r : Result (Unit {0}) (Stop Cause)) → kind ≡ g.kind → m ≡ 8
-        → Gives {X = Unit {0}} (λ _ bytes. bytes ≡ buf) a b (part Truncated m) (Ok tt) → n ≡ le32 buf 0 → fault_of_count len n ≡ None
-        → Gives (λ v ws. ws ≡ items v) b d (words_at n) (Ok list) → fault_of_words kind top (items list) ≡ None → fault_of_data len (items list) ≡ None
-        → Gives Set d e (entries_in_place kind top 0 (items list)) r → Gives Put a e (pages_at kind top len) r
-    pages_read None b d kind top len n m buf list r k size front at counted read good whole told = tt
-    pages_read (Some i) b d kind top len n m buf list r k size (bytes, rest, is, left, same) at counted read good whole told =
-        let number : le32 bytes 0 ≡ n = ap (λ l. le32 l 0) same ∙ sym at in
-        let (ws, after, is_words, left_words, words_same) = subst (λ o. Gives (λ v l. l ≡ items v) o d (words_at n) (Ok list)) left read in
-        let told' = subst (λ o. Gives Set o e (entries_in_place kind top 0 (items list)) r) left_words told in
-        let judged : pages_at kind top len i ≡ (entries_in_place kind top 0 (items list) after >>= as_content) =
-        ap (λ j. (j >>= behind_front len kind top) >>= as_content) (ap (λ q. part Truncated q i) (sym size) ∙ is)
-        ∙ ap (λ q. (tried (fault_of_count len q) rest >>= λ _. words_at q rest >>= behind_words kind top len) >>= as_content) number
-        ∙ ap (λ f. (tried f rest >>= λ _. words_at n rest >>= behind_words kind top len) >>= as_content) counted
-        ∙ ap (λ j. (j >>= behind_words kind top len) >>= as_content) is_words
-        ∙ ap (λ l. behind_words kind top len (l, after) >>= as_content) words_same
-        ∙ ap (λ f. (tried f after >>= λ _. tried (fault_of_data len (items list)) after >>= λ _. entries_in_place kind top 0 (items list) after) >>= as_content) good
-        ∙ ap (λ f. (tried f after >>= λ _. entries_in_place kind top 0 (items list) after) >>= as_content) whole in
-        subst (λ j. Matches Put e j r) (sym judged) (as_frames (entries_in_place kind top 0 (items list) after) r told')
+  by_words : (ws rest : List ℕ) (o : Option Cause) → ((tried o rest >>= λ _. tried (fault_of_data len ws) rest >>= λ _. entries_in_place kind top 0 ws rest) >>= as_content) ≡ both (tried o rest >>= λ _. tried (fault_of_data len ws) rest >>= λ _. Passes ws rest)
+  by_words ws rest None = by_data ws rest (fault_of_data len ws)
+  by_words ws rest (Some c) = refl
+
+  by_read : (j : Judged Cause (List ℕ)) → ((j >>= behind_words kind top len) >>= as_content) ≡ both (j >>= good_list kind top len)
+  by_read (Faulty c rest) = refl
+  by_read (Passes ws rest) = by_words ws rest (fault_of_words kind top ws)
+
+  by_count : (n : ℕ) (rest : List ℕ) (o : Option Cause) → ((tried o rest >>= λ _. words_at n rest >>= behind_words kind top len) >>= as_content) ≡ both (tried o rest >>= λ _. words_at n rest >>= good_list kind top len)
+  by_count n rest None = by_read (words_at n rest)
+  by_count n rest (Some c) = refl
+
+  by_front : (j : Judged Cause (List ℕ)) → ((j >>= λ front. tried (fault_of_count len (le32 front.0 0)) front.1 >>= λ _. words_at (le32 front.0 0) front.1 >>= behind_words kind top len) >>= as_content) ≡ both (j >>= front_list kind top len)
+  by_front (Faulty c rest) = refl
+  by_front (Passes front rest) = by_count (le32 front 0) rest (fault_of_count len (le32 front 0))
+
+  -- the words come first
+  list_stage : (i : List ℕ) → pages_at kind top len i ≡ (list_at kind top len i >>= behind_list kind top)
+  list_stage i = by_front (part Truncated 8 i)
+
+module _ {X V : Type 0} (items : V → List ℕ) (Q : X → List FrameEntry → Type 0) (P : X → Content → Type 0) (turn : (x : X) (es : List FrameEntry) → Q x es → P x (Frames es)) where
+  as_frames : (e : Option (List ℕ)) (j : Judged Cause (List FrameEntry)) (r : Result X (Stop Cause)) → Matches Q e j r → Matches P e (j >>= as_content) r
+  as_frames e j (Ok u) (es, rest, is, left, now) = (Frames es, rest, ap (λ k. k >>= as_content) is, left, turn u es now)
+  as_frames e j (Err (Refused c)) (rest, is, left) = (rest, ap (λ k. k >>= as_content) is, left)
+  as_frames e j (Err ReadFault) h = tt
+  as_frames e j (Err Memory) h = tt
+
+  frames_given : (d e : Option (List ℕ)) (f : List ℕ → Judged Cause (List FrameEntry)) (r : Result X (Stop Cause)) → Gives Q d e f r → Gives P d e (λ i. f i >>= as_content) r
+  frames_given None e f r h = tt
+  frames_given (Some i) e f r h = as_frames e (f i) r h
+
+  module _ (kind k : Kind) (top t len : ℕ) (same_kind : k ≡ kind) (same_top : t ≡ top) where
+    here : (a d : Option (List ℕ)) (r : Result V (Stop Cause)) → Gives (λ v ws. ws ≡ items v) a d (list_at k t len) r → Gives (λ v ws. ws ≡ items v) a d (list_at kind top len) r
+    here a d r read = subst (λ x. Gives (λ v ws. ws ≡ items v) a d (list_at x top len) r) same_kind (subst (λ n. Gives (λ v ws. ws ≡ items v) a d (list_at k n len) r) same_top read)
+
+    -- the words were taken, and then the pages
+    pub pages_read : (a d e : Option (List ℕ)) (list : V) (r : Result X (Stop Cause)) → Gives (λ v ws. ws ≡ items v) a d (list_at k t len) (Ok list) → Gives Q d e (entries_in_place kind top 0 (items list)) r → Gives P a e (pages_at kind top len) r
+    pages_read a d e list r read told =
+        then_reads (λ v ws. ws ≡ items v) P a d e (list_at kind top len) (pages_at kind top len) (behind_list kind top) list r (list_stage kind top len) (here a d (Ok list) read)
+        (λ ws same. subst (λ l. Gives P d e (λ i. entries_in_place kind top 0 l i >>= as_content) r) (sym same) (frames_given d e (entries_in_place kind top 0 (items list)) r told))
+
+    -- the reader of the words stopped
+    pub pages_stopped : (a d : Option (List ℕ)) (e : Stop Cause) (r : Result X (Stop Cause)) → IsErrAnd r (λ s. s ≡ e) → Gives {X = V} (λ v ws. ws ≡ items v) a d (list_at k t len) (Err e) → Gives P a d (pages_at kind top len) r
+    pages_stopped a d e r is read = stopped (λ v ws. ws ≡ items v) P a d (list_at kind top len) (pages_at kind top len) (behind_list kind top) e r (list_stage kind top len) is (here a d (Err e) read)
+
+-- the words were taken, and there is a fault in them
+module _ {V : Type 0} (items : V → List ℕ) where
+  pub words_refused : (a b d : Option (List ℕ)) (kind : Kind) (top len n m : ℕ) (buf : List ℕ) (list : V) (c : Cause) → m ≡ 8
+      → Gives {X = Unit {0}} (λ _ bytes. bytes ≡ buf) a b (part Truncated m) (Ok tt) → n ≡ le32 buf 0 → fault_of_count len n ≡ None
+      → Gives (λ v ws. ws ≡ items v) b d (words_at n) (Ok list) → fault_of_words kind top (items list) ≡ Some c → Gives {X = V} (λ v ws. ws ≡ items v) a d (list_at kind top len) (Err (Refused c))
+  words_refused None b d kind top len n m buf list c size front at counted read bad = tt
+  words_refused (Some i) b d kind top len n m buf list c size (bytes, rest, is, left, same) at counted read bad =
+      let number : le32 bytes 0 ≡ n = ap (λ l. le32 l 0) same ∙ sym at in
+      let (ws, after, is_words, left_words, words_same) = subst (λ o. Gives (λ v l. l ≡ items v) o d (words_at n) (Ok list)) left read in
+      let judged : list_at kind top len i ≡ Faulty c after =
+      ap (λ j. j >>= front_list kind top len) (ap (λ q. part Truncated q i) (sym size) ∙ is)
+      ∙ ap (λ q. tried (fault_of_count len q) rest >>= λ _. words_at q rest >>= good_list kind top len) number
+      ∙ ap (λ f. tried f rest >>= λ _. words_at n rest >>= good_list kind top len) counted
+      ∙ ap (λ j. j >>= good_list kind top len) is_words
+      ∙ ap (λ l. good_list kind top len (l, after)) words_same
+      ∙ ap (λ f. tried f after >>= λ _. tried (fault_of_data len (items list)) after >>= λ _. Passes (items list) after) bad in
+      (after, judged, left_words)
 
 -- ---- what the words say of its length
 

@@ -4,8 +4,8 @@ use Rattle.mig_restore.proofs.Common.{◌≡◌, ◌≢◌, ℕ, ◌≤◌, ◌^
 use Rattle.std.proofs.lemmas.Bool.{leb-true}
 use Rattle.mig_bodies.proofs.PvLaws.{list_is}
 use Rattle.mig_guest.specs.declared.part_code.PartCode.TheVariants.{P2mFrames}
-use Rattle.mig_headers.specs.declared.record_type.RecordType.TheVariants.{End, PageData, X86PvInfo, X86PvP2mFrames, StaticDataEnd}
-use Rattle.mig_restore.specs.Spelled.HasContent.{optional as has_optional, ends as has_ends, pages as has_pages, sets as has_sets, info as has_info, p2m_frames as has_lists, static_end as has_static_end}
+use Rattle.mig_headers.specs.declared.record_type.RecordType.TheVariants.{End, PageData, X86PvInfo, X86PvP2mFrames, Verify, StaticDataEnd}
+use Rattle.mig_restore.specs.Spelled.HasContent.{optional as has_optional, ends as has_ends, pages as has_pages, sets as has_sets, info as has_info, p2m_frames as has_lists, static_end as has_static_end, verify as has_verify}
 use Rattle.mig_restore.proofs.Batches.{batch_passes, batch_goes}
 
 has_shape_in : Option PartCode → Bool
@@ -83,12 +83,13 @@ shaped_code this code is not_list = by (has_shape (shape_of code)) refl
     by false other = absurd (not_list (other_shape this code is other))
 
 module _ (kind : Kind) (top : ℕ) (this : RecordType) (len : ℕ) (i : List ℕ) (c : Content) (rest : List ℕ) where
-  -- the types that set no parts: END, page data, X86_PV_INFO, and the end of the static data
+  -- the types that set no parts: END, page data, X86_PV_INFO, VERIFY, and the end of the static data
   marked : (t : RecordType) → (record_row_of t).supported ≡ true → (record_row_of t).allows len ≡ true → code_of_type t ≡ None → typed_at kind top (Some t) len i ≡ Passes c rest → Says kind top (type_number t) len i c rest
   marked End s allowed is h = nothing_says kind top 0 len i c rest has_ends (eqb-true len 0 allowed) h
   marked PageData s allowed is h = pages_say kind top len i c rest h
   marked X86PvInfo s allowed is h = info_says kind top len i c rest (eqb-true len 8 allowed) h
   marked StaticDataEnd s allowed is h = nothing_says kind top 0x10 len i c rest has_static_end (eqb-true len 0 allowed) h
+  marked Verify s allowed is h = nothing_says kind top 0xD len i c rest has_verify (eqb-true len 0 allowed) h
   marked _ s allowed is h = absurd (cc)
 
   typed_says : (record_row_of this).supported ≡ true → (record_row_of this).allows len ≡ true → typed_at kind top (Some this) len i ≡ Passes c rest → Says kind top (type_number this) len i c rest
@@ -155,6 +156,7 @@ body_goes kind top _ len body rest _ (has_sets this code _ ps is allowed says) s
 body_goes kind top _ len body rest _ (has_info _ eight says) size = said_goes Truncated fault_of_pv_info (λ _. Nothing) len body rest size ((info_is_spelled body eight).1 says)
 body_goes kind top _ len body rest _ (has_lists last frames _ says) size = list_goes last frames body rest len says size
 body_goes kind top _ len _ rest _ has_static_end size = refl
+body_goes kind top _ len _ rest _ has_verify size = refl
 
 -- ---- lengths
 
@@ -169,3 +171,4 @@ length_fits kind top _ len body _ (has_sets this code _ ps is allowed says) size
 length_fits kind top _ len body _ (has_info _ eight says) size = eq-eqb len 8 (sym size ∙ eight)
 length_fits kind top _ len body _ (has_lists last frames _ says) size = le-leb 8 len (omega (arith, (list_is last frames body says).0, size))
 length_fits kind top _ len _ _ has_static_end size = eq-eqb len 0 (sym size)
+length_fits kind top _ len _ _ has_verify size = eq-eqb len 0 (sym size)

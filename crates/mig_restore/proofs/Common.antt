@@ -50,10 +50,11 @@ pub use Rattle.mig_pvtables.proofs.Within.{table_within}
 pub use Rattle.mig_pvtables.specs.Faults.{fault_of_guest}
 pub use Rattle.mig_records.specs.Faults.{count_rows, fault_of_count, fault_of_length, fault_of_long, fault_of_words, length_rows, long_rows, type_allows}
 pub use Rattle.mig_records.specs.Words.{data_len_of, words}
-pub use Rattle.mig_restore.specs.Judging.{Before, Opening, before, body_at, code_of_type, coded_at, entries_at, entry_at, fault_at_end, fault_of_data, fault_of_head, fault_of_level, fault_of_number, fault_of_page, head_at, info_at, lists_of, opening_of, p2m_at, pages_at, sets_at, type_in_word, typed_at, with_places, words_at}
-pub use Rattle.mig_restore.specs.Mean.{Grows, IsBegun, empty_guest, ends_in, ends_of, entries_in, entries_of, frame_in, last_bytes, last_entry, last_listed, last_said, lists_at, meant_type, parts_say_of_part, policy_says_of_part, put_content, put_entries, put_entry, put_record, same_key, says_of_part}
-pub use Rattle.mig_restore.specs.Record.{Content, FrameEntry, StreamRecord, is_ended, types_of}
-pub use Rattle.mig_restore.specs.Record.Content.{Frames, Lists, Nothing, Sets}
+pub use Rattle.mig_restore.specs.Compared.{IsPut, IsWithinRecords, differs_behind, differs_with}
+pub use Rattle.mig_restore.specs.Judging.{Before, Opening, before, body_at, code_of_type, coded_at, entries_at, entry_at, fault_at_end, fault_of_data, fault_of_head, fault_of_level, fault_of_number, fault_of_page, head_at, info_at, list_at, lists_of, opening_of, p2m_at, pages_at, sets_at, type_in_word, typed_at, with_places, words_at}
+pub use Rattle.mig_restore.specs.Mean.{Grows, IsBegun, agrees, checked_in, checked_of, differing, empty_guest, ends_in, ends_of, entries_in, entries_of, frame_in, last_bytes, last_entry, last_listed, last_said, lists_at, meant_type, parts_say_of_part, policy_says_of_part, put_content, put_entries, put_entry, put_record, same_key, says_of_part}
+pub use Rattle.mig_restore.specs.Record.{Content, FrameEntry, StreamRecord, is_ended, is_verified, placed_content, types_of}
+pub use Rattle.mig_restore.specs.Record.Content.{Checks, Frames, Lists, Nothing, Sets}
 pub use Rattle.mig_restore.specs.Seen.{IsSeen}
 pub use Rattle.mig_restore.specs.Spelled.{Accepted, AreEntries, Follows, HasContent, IsBatch, IsComplete, IsEntry, IsGoodWord, IsImage, IsPage}
 pub use Rattle.mig_restore.specs.Stream.{ImageOf, IsReading, IsRefused, image_of, kind_at, marker_at, records_at, version_at}

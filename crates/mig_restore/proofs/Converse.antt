@@ -1,5 +1,5 @@
 -- What is spelled as the format says is accepted.
-use Rattle.mig_restore.proofs.Common.{◌≡◌, ℕ, ◌≤◌, ◌<◌, ◌^◌, List, [], ◌∷◌, ◌++◌, length, true, false, nat_le, not, Option, Some, None, Result, Ok, Err, refl, sym, ap, subst, ◌∙◌, arith, append_assoc, take, drop, take-append-drop, length-take-le, length-drop, ◌⊎◌, inl, inr, common_steps, le-ltb, lt-leb, length-map, padding_len, le32, be32, Judged, ◌>>=◌, part, placed, Passes, Faulty, part_whole, same_passes, fault_of_marker, fault_of_image, fault_of_domain, kind_of_number, unless_faulty, IsImageHeader, IsDomainHeader, type_of_number, Cause, TooManyRecords, Truncated, Place, Kind, GuestOf, long_rows, length_rows, type_allows, fault_of_long, fault_of_length, IsInOrder, fault_of_type, fault_of_guest, StreamRecord, is_ended, Opening, Before, opening_of, before, fault_of_head, head_at, fault_at_end, body_at, Follows, IsImage, Accepted, ImageOf, image_of, records_at, IsRefused, then_passes, tried_none, no_fault, neither_some, said_at, said_goes, Spells}
+use Rattle.mig_restore.proofs.Common.{◌≡◌, ℕ, ◌≤◌, ◌<◌, ◌^◌, List, [], ◌∷◌, ◌++◌, length, true, false, nat_le, not, Option, Some, None, Result, Ok, Err, refl, sym, ap, subst, ◌∙◌, arith, append_assoc, take, drop, take-append-drop, length-take-le, length-drop, ◌⊎◌, inl, inr, common_steps, le-ltb, lt-leb, length-map, padding_len, le32, be32, Judged, ◌>>=◌, part, placed, Passes, Faulty, part_whole, same_passes, fault_of_marker, fault_of_image, fault_of_domain, kind_of_number, unless_faulty, IsImageHeader, IsDomainHeader, type_of_number, Cause, TooManyRecords, Truncated, Place, Kind, GuestOf, long_rows, length_rows, type_allows, fault_of_long, fault_of_length, IsInOrder, fault_of_type, fault_of_guest, StreamRecord, is_ended, is_verified, placed_content, types_of, Opening, Before, opening_of, before, fault_of_head, head_at, fault_at_end, body_at, Follows, IsImage, Accepted, ImageOf, image_of, records_at, IsRefused, then_passes, tried_none, no_fault, neither_some, said_at, said_goes, Spells}
 use Rattle.mig_bytes.proofs.Sequences as fronts
 use Rattle.mig_headers.proofs.HeaderLaws.{image_is_spelled, domain_is_spelled, unless_ok}
 use Rattle.mig_headers.specs.declared.fault.Place.TheVariants as places
@@ -37,14 +37,14 @@ record_goes o records r text rest f =
     let len = le32 is.head 4 in
     let mid = f.body ++ (is.padding ++ rest) in
     let input : text ++ rest ≡ is.head ++ mid = ap (λ l. l ++ rest) is.whole ∙ append_assoc is.head _ rest ∙ ap (λ l. is.head ++ l) (append_assoc f.body is.padding rest) in
-    let fields = fine_fields b r.type len (omega (arith, is.len_is, f.small)) f.ordered (length_fits o.kind b.top r.type len f.body r.content f.says (sym is.len_is)) (omega (arith, f.few, length-map records (λ (x : StreamRecord). x.type))) in
+    let fields = fine_fields b r.type len (omega (arith, is.len_is, f.small)) f.ordered (length_fits o.kind b.top r.type len f.body f.said f.says (sym is.len_is)) (omega (arith, f.few, length-map records (λ (x : StreamRecord). x.type))) in
     let fine : fault_of_head b is.head ≡ None = ap (λ t. fault_of_fields b t len) is.type_is ∙ fields in
     ap (record_at b) input ∙ begins b (is.head ++ mid)
-    ∙ then_passes (head_at b (is.head ++ mid)) (behind_head o.kind b.top) is.head mid _ (then_passes (part Truncated 8 (is.head ++ mid)) _ is.head mid _ (part_whole Truncated 8 is.head mid is.head_len) (tried_none (fault_of_head b is.head) mid _ fine))
-    (then_passes (body_at o.kind b.top (le32 is.head 0) len mid) (behind_body is.head) r.content (is.padding ++ rest) _
-    (ap (λ t. body_at o.kind b.top t len mid) is.type_is ∙ body_goes o.kind b.top r.type len f.body (is.padding ++ rest) r.content f.says (sym is.len_is))
+    ∙ then_passes (head_at b (is.head ++ mid)) (behind_head b) is.head mid _ (then_passes (part Truncated 8 (is.head ++ mid)) _ is.head mid _ (part_whole Truncated 8 is.head mid is.head_len) (tried_none (fault_of_head b is.head) mid _ fine))
+    (then_passes (body_at o.kind b.top (le32 is.head 0) len mid) (behind_body b is.head) f.said (is.padding ++ rest) _
+    (ap (λ t. body_at o.kind b.top t len mid) is.type_is ∙ body_goes o.kind b.top r.type len f.body (is.padding ++ rest) f.said f.says (sym is.len_is))
     (then_passes (part Truncated (padding_len len) (is.padding ++ rest)) _ is.padding rest _ (part_whole Truncated _ is.padding rest (is.padded ∙ ap padding_len (sym is.len_is)))
-    (ap (λ t. Passes (record { type = t; content = r.content }) rest) is.type_is)))
+    (ap (λ t. Passes (record { type = t; content = placed_content (is_verified (types_of records)) f.said }) rest) is.type_is ∙ ap (λ c. Passes (record { type = r.type; content = c }) rest) (sym f.placed))))
 
 next_goes : (o : Opening) (records : List StreamRecord) (r : StreamRecord) (text rest : List ℕ) → Follows o records r text → next_at o records (text ++ rest) ≡ Passes r rest
 unfolding behind_record

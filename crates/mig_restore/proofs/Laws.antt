@@ -1,5 +1,5 @@
 -- What judging accepts is spelled as the format says.
-use Rattle.mig_restore.proofs.Common.{◌≡◌, ℕ, ◌≤◌, ◌<◌, ◌^◌, List, [], ◌∷◌, ◌++◌, length, true, false, nat_le, Option, None, refl, sym, ap, subst, ◌∙◌, append_assoc, ltb-false, leb-false, Ok, arith, length-append, not-false, length-map, padding_len, le32, be32, Judged, ◌>>=◌, part, tried, placed, Passes, both_pass, part_passes, tried_passes, same_passes, placed_passes, fault_of_marker, fault_of_image, fault_of_domain, kind_of_number, unless_faulty, IsImageHeader, IsDomainHeader, type_of_number, Cause, TooManyRecords, Truncated, Place, Record, ImageHeader, DomainHeader, Kind, Pv, Hvm, GuestOf, long_rows, length_rows, type_allows, fault_of_long, fault_of_length, IsInOrder, fault_of_type, fault_of_guest, hvm_complete, hvm_faultless, pv_complete, pv_faultless, StreamRecord, is_ended, Opening, Before, opening_of, before, fault_of_number, fault_of_head, fault_at_end, body_at, IsComplete, Follows, IsImage, ImageOf, image_of, records_at, marker_at, version_at, kind_at, rows_fine, both_none, said_passes, Spells, sequence_at}
+use Rattle.mig_restore.proofs.Common.{◌≡◌, ℕ, ◌≤◌, ◌<◌, ◌^◌, List, [], ◌∷◌, ◌++◌, length, true, false, nat_le, Option, None, refl, sym, ap, subst, ◌∙◌, append_assoc, ltb-false, leb-false, Ok, arith, length-append, not-false, length-map, padding_len, le32, be32, Judged, ◌>>=◌, part, tried, placed, Passes, both_pass, part_passes, tried_passes, same_passes, placed_passes, fault_of_marker, fault_of_image, fault_of_domain, kind_of_number, unless_faulty, IsImageHeader, IsDomainHeader, type_of_number, Cause, TooManyRecords, Truncated, Place, Record, ImageHeader, DomainHeader, Kind, Pv, Hvm, GuestOf, long_rows, length_rows, type_allows, fault_of_long, fault_of_length, IsInOrder, fault_of_type, fault_of_guest, hvm_complete, hvm_faultless, pv_complete, pv_faultless, StreamRecord, is_ended, is_verified, placed_content, types_of, Opening, Before, opening_of, before, fault_of_number, fault_of_head, fault_at_end, body_at, IsComplete, Follows, IsImage, ImageOf, image_of, records_at, marker_at, version_at, kind_at, rows_fine, both_none, said_passes, Spells, sequence_at}
 use Rattle.mig_bytes.proofs.Sequences.{Found}
 use Rattle.mig_bytes.proofs.Sequences as fronts
 use Rattle.mig_headers.proofs.HeaderLaws.{image_is_spelled, domain_is_spelled}
@@ -65,30 +65,33 @@ found o records i r rest going h =
     let w = both_pass (tried (fault_at_end n.x.type (sent o.kind (records ++ n.x ∷ []))) n.mid) (λ _. Passes n.x n.mid) r rest n.second in
     let whole = tried_passes _ n.mid w.mid w.x w.first in
     let same = same_passes _ _ _ _ w.second in
-    let a = taken 8 (fault_of_head b) (λ head mid. behind_head o.kind b.top (head, mid)) i n.x n.mid (sym (head_stage b i) ∙ n.first) in
+    let a = taken 8 (fault_of_head b) (λ head mid. behind_head b (head, mid)) i n.x n.mid (sym (head_stage b i) ∙ n.first) in
     let head = a.bytes in
     let type = le32 head 0 in
     let len = le32 head 4 in
     let fine = fields_fine b type len a.fine in
-    let c = both_pass (body_at o.kind b.top type len a.mid) (behind_body head) n.x n.mid a.after in
-    let d = both_pass (part Truncated (padding_len len) c.mid) (λ padding. Passes (record { type = type; content = c.x }) padding.1) n.x n.mid c.second in
+    let c = both_pass (body_at o.kind b.top type len a.mid) (behind_body b head) n.x n.mid a.after in
+    let content = placed_content (is_verified (types_of records)) c.x in
+    let d = both_pass (part Truncated (padding_len len) c.mid) (λ padding. Passes (record { type = type; content = content }) padding.1) n.x n.mid c.second in
     let q = part_passes Truncated _ c.mid d.x d.mid d.first in
     let f = same_passes _ _ _ _ d.second in
     let s = body_says o.version o.kind b.top b.types type len a.mid c.x c.mid fine.ordered fine.allowed c.first in
-    let is_record : record { type = type; content = c.x } ≡ n.x = f.0 in
-    found_same o records i rest (record { type = type; content = c.x }) r (is_record ∙ same.0) (record {
+    let is_record : record { type = type; content = content } ≡ n.x = f.0 in
+    found_same o records i rest (record { type = type; content = content }) r (is_record ∙ same.0) (record {
       text = head ++ (s.body ++ d.x);
       whole = regroup i head a.mid s.body c.mid d.x d.mid rest a.whole s.whole q.0 (f.1 ∙ same.1);
       some = omega (arith, length-append head (s.body ++ d.x), a.size);
       follows = record {
         body = s.body;
         is = record { head = head; padding = d.x; whole = refl {a = head ++ (s.body ++ d.x)}; head_len = a.size; type_is = refl {a = type}; len_is = sym s.body_len; padded = q.1 ∙ ap padding_len (sym s.body_len) };
+        said = c.x;
         says = s.says;
+        placed = refl {a = content};
         small = subst (λ n. n ≤ 2 ^ 27) (sym s.body_len) fine.small;
         ordered = fine.ordered;
         few = subst (λ n. n < 2 ^ 28) (length-map records (λ (x : StreamRecord). x.type)) fine.few;
         not_ended = going;
-        complete = complete_at_end o (records ++ record { type = type; content = c.x } ∷ []) type
+        complete = complete_at_end o (records ++ record { type = type; content = content } ∷ []) type
             (subst (λ (x : StreamRecord). fault_at_end x.type (sent o.kind (records ++ x ∷ [])) ≡ None) (sym is_record) whole.0);
       };
     })

@@ -2,6 +2,8 @@ pub mod Common
 pub mod Arrivals
 pub mod Batches
 pub mod Bodies
+pub mod Compared
+pub mod Entries
 pub mod Converse
 pub mod Behind
 pub mod Growth

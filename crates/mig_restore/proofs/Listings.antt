@@ -1,5 +1,5 @@
 -- Of each index of the list of P2M frames the last record that lists it decides.
-use Rattle.mig_restore.proofs.Common.{◌≡◌, ℕ, suc, ◌+◌, ◌-◌, ◌*◌, ◌<◌, ◌≤◌, common_steps, unwrap_or, List, [], ◌∷◌, ◌++◌, length, drop, Bool, true, false, cond, nat_eq, Option, Some, None, refl, sym, ap, subst, ◌∙◌, inl, inr, arith, length-append, length-drop, le-ltb, AllByRecursion, Kind, GuestOf, p2m_key, Part, PartCode, code_number, shape_of, has_shape, is_shaped, IsBody, Opening, Content, StreamRecord, Sets, put_content, last_bytes, parts_say_of_part, policy_says_of_part, says_of_part, lists_at, last_listed, HasContent, Follows, IsImage, part_cmp, Spells}
+use Rattle.mig_restore.proofs.Common.{◌≡◌, ℕ, suc, ◌+◌, ◌-◌, ◌*◌, ◌<◌, ◌≤◌, common_steps, unwrap_or, List, [], ◌∷◌, ◌++◌, length, drop, Bool, true, false, cond, nat_eq, Option, Some, None, refl, sym, ap, subst, ◌∙◌, inl, inr, arith, length-append, length-drop, le-ltb, AllByRecursion, Kind, GuestOf, p2m_key, Part, PartCode, code_number, shape_of, has_shape, is_shaped, IsBody, Opening, Content, StreamRecord, types_of, is_verified, placed_content, Sets, put_content, last_bytes, parts_say_of_part, policy_says_of_part, says_of_part, lists_at, last_listed, HasContent, Follows, IsImage, part_cmp, Spells}
 use Rattle.std.proofs.lemmas.Bool.{cases_lt, lt-ltb}
 use Rattle.std.proofs.lemmas.List.{drop-append-le}
 use Rattle.std.proofs.lemmas.Slice.{drop-append-drop}
@@ -22,9 +22,10 @@ use Rattle.mig_bodies.specs.declared.shape.Shape.TheVariants.{Table, Single, Nam
 use Rattle.mig_guest.specs.declared.part_key.PartKey.{PartKey}
 use Rattle.mig_pvtables.specs.P2mFrames.{listed, listed_in}
 use Rattle.mig_restore.specs.Mean.{sent}
-use Rattle.mig_restore.specs.Spelled.HasContent.{optional, ends, pages, sets, info, p2m_frames, static_end}
+use Rattle.mig_restore.specs.Spelled.HasContent.{optional, ends, pages, sets, info, p2m_frames, static_end, verify}
 use Rattle.mig_bytes.specs.Sequences.Spells.{no_part, one_more}
 use Rattle.mig_restore.proofs.Meaning.{one_more_record, said}
+use Rattle.mig_restore.proofs.Compared.{placed_is}
 
 -- ---- a list joined with the one before
 
@@ -130,6 +131,7 @@ content_listed : (g : GuestOf) (k : ℕ) (kind : Kind) (top type : ℕ) (body : 
 content_listed g k kind top type body c (optional n b many) = refl
 content_listed g k kind top type body c ends = refl
 content_listed g k kind top type body c static_end = refl
+content_listed g k kind top type body c verify = refl
 content_listed g k kind top type body c (info b eight says) = refl
 content_listed g k kind top type body c (pages b es batch) = refl
 content_listed g k kind top type body c (p2m_frames last frames b says) =
@@ -137,6 +139,13 @@ content_listed g k kind top type body c (p2m_frames last frames b says) =
     ∙ listed_over_is frames _ k says.listed (fin.get g.parts p2m_key)
 content_listed g k kind top type body c (sets this code b ps is allowed says) =
     ap (λ o. listed_in o k) (said g (Sets code ps) p2m_key (λ last frames e. cc) ∙ ap (λ o. unwrap_or o (fin.get g.parts p2m_key)) (not_said code b ps says))
+
+-- so it does where its record stands
+record_listed : (g : GuestOf) (k : ℕ) (verified : Bool) (c said : Content) → c ≡ placed_content verified said → listed (put_content g said).parts k ≡ option_or (lists_at k said) (listed g.parts k)
+    → listed (put_content g c).parts k ≡ option_or (lists_at k c) (listed g.parts k)
+record_listed g k verified c said is h =
+    subst (λ (x : Content). listed (put_content g x).parts k ≡ option_or (lists_at k x) (listed g.parts k)) (sym is)
+    (placed_is (λ x. listed (put_content g x).parts k ≡ option_or (lists_at k x) (listed g.parts k)) verified said (λ es. refl) h)
 
 -- the last record is asked first
 last_more : (k : ℕ) (records : List StreamRecord) (r : StreamRecord) → last_listed k (records ++ r ∷ []) ≡ option_or (lists_at k r.content) (last_listed k records)
@@ -152,7 +161,7 @@ unfolding sent
 spelled_listed o bytes records k no_part = ap (λ l. listed_in l k) (fin.get-empty part_cmp p2m_key)
 spelled_listed o bytes records k (one_more front rs r text before f) =
     ap (λ (g : GuestOf). listed g.parts k) (one_more_record o.kind rs r)
-    ∙ content_listed (sent o.kind rs) k o.kind (sent o.kind rs).top r.type f.body r.content f.says
+    ∙ record_listed (sent o.kind rs) k (is_verified (types_of rs)) r.content f.said f.placed (content_listed (sent o.kind rs) k o.kind (sent o.kind rs).top r.type f.body f.said f.says)
     ∙ ap (option_or (lists_at k r.content)) (spelled_listed o front rs k before)
     ∙ sym (last_more k rs r)
 

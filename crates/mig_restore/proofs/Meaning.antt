@@ -1,5 +1,5 @@
 -- What one more entry, or one more record, means; and that of each frame number and of each part the last decides.
-use Rattle.mig_restore.proofs.Common.{◌≡◌, ℕ, List, [], ◌∷◌, ◌++◌, Bool, true, false, cond, not, nat_eq, Option, Some, None, refl, sym, ap, ◌∙◌, arith, option_and_then, unwrap_or, fold, common_steps, Kind, PageType, GuestOf, part_cmp, Part, PartMap, put_part, put_parts, replace_code, leb-false, le_refl, nat_le, ◌≤◌, ◌≢◌, ◌⊎◌, inl, inr, subst, All, p2m_key, set_p2m, word_pfn, type_in_word, FrameEntry, StreamRecord, Content, Nothing, Frames, Sets, Lists, code_number, ends_in, ends_of, meant_type, put_entry, put_entries, put_content, put_record, empty_guest, entries_in, entries_of, last_entry, frame_in, same_key, last_bytes, parts_say_of_part, policy_says_of_part, says_of_part, last_said}
+use Rattle.mig_restore.proofs.Common.{◌≡◌, ℕ, List, [], ◌∷◌, ◌++◌, Bool, true, false, cond, not, nat_eq, Option, Some, None, refl, sym, ap, ◌∙◌, arith, option_and_then, unwrap_or, fold, common_steps, Kind, PageType, GuestOf, part_cmp, Part, PartMap, put_part, put_parts, replace_code, leb-false, le_refl, nat_le, ◌≤◌, ◌≢◌, ◌⊎◌, inl, inr, subst, All, p2m_key, set_p2m, word_pfn, type_in_word, FrameEntry, StreamRecord, Content, Nothing, Frames, Sets, Lists, Checks, code_number, ends_in, ends_of, meant_type, put_entry, put_entries, put_content, put_record, empty_guest, entries_in, entries_of, last_entry, frame_in, same_key, last_bytes, parts_say_of_part, policy_says_of_part, says_of_part, last_said}
 use Rattle.std.proofs.lemmas.Bool.{leb-true}
 use Rattle.std.proofs.lemmas.List.Elements.{All-nil, All-cons, All-append, Contains-append_left, Contains-append_right}
 use Rattle.std.specs.List.{Contains}
@@ -116,6 +116,7 @@ said g Nothing q other = refl
 said g (Frames es) q other = refl
 said g (Sets code ps) q other = sets_said g.parts (is_policy (code_number code)) (code_number code) ps q
 said g (Lists last frames) q other = not_list g last frames q (other last frames refl)
+said g (Checks es) q other = refl
 
 folded_parts : (g : GuestOf) (rs : List StreamRecord) (q : PartKey) → q ≢ p2m_key → fin.get (fold put_record g rs).parts q ≡ unwrap_or (last_said q rs) (fin.get g.parts q)
 folded_parts g [] q other = refl
@@ -153,6 +154,7 @@ ends_here g (Lists last frames) =
 ends_here g Nothing = (le_refl g.top, All-nil (λ n. n ≤ g.top), inl refl)
 ends_here g (Frames es) = (le_refl g.top, All-nil (λ n. n ≤ g.top), inl refl)
 ends_here g (Sets code ps) = (le_refl g.top, All-nil (λ n. n ≤ g.top), inl refl)
+ends_here g (Checks es) = (le_refl g.top, All-nil (λ n. n ≤ g.top), inl refl)
 
 ends_join : (a b c : ℕ) (xs ys : List ℕ) → IsGreatestOf a xs b → IsGreatestOf b ys c → IsGreatestOf a (xs ++ ys) c
 ends_join a b c xs ys (low, all, is) (low', all', is') = (

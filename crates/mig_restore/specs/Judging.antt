@@ -26,7 +26,7 @@ use Rattle.mig_bodies.specs.Shapes.{fault_of_body, parts_of_body}
 use Rattle.mig_pvtables.specs.Faults.{fault_of_guest}
 use Rattle.mig_pvtables.specs.Tables.{fault_of_page_table}
 use Rattle.mig_restore.specs.Mean.{sent, meant_type}
-use Rattle.mig_restore.specs.Record.{FrameEntry, StreamRecord, Content, types_of}
+use Rattle.mig_restore.specs.Record.{FrameEntry, StreamRecord, Content, types_of, is_verified, placed_content}
 use Rattle.mig_restore.specs.Record.Content.{Nothing, Frames, Sets, Lists}
 
 -- what the headers say
@@ -123,6 +123,16 @@ entry_at kind top at input = do
   page ← page_at kind top at input
   Passes (record { pfn = word_pfn at.1; type = type_in_word at.1; page = page.0 }) page.1
 
+-- the count, and the words
+abbrev pub list_at : Kind → ℕ → ℕ → List ℕ → Judged Cause (List ℕ)
+list_at kind top len input = do
+  front ← part Truncated 8 input
+  _ ← tried (fault_of_count len (le32 front.0 0)) front.1
+  ws ← words_at (le32 front.0 0) front.1
+  _ ← tried (fault_of_words kind top ws.0) ws.1
+  _ ← tried (fault_of_data len ws.0) ws.1
+  Passes ws.0 ws.1
+
 abbrev pub entries_at : Kind → ℕ → ℕ → List ℕ → Judged Cause (List FrameEntry)
 entries_at kind top len input = do
   front ← part Truncated 8 input
@@ -160,13 +170,13 @@ typed_at kind top (Some this) len input = coded_at (code_of_type this) len input
 abbrev pub body_at : Kind → ℕ → ℕ → ℕ → List ℕ → Judged Cause Content
 body_at kind top type len input = if is_optional type then plain_at Truncated (λ _. Nothing) len input else typed_at kind top (type_of_number type) len input
 
--- a record: its head, its body, its padding
+-- a record: its head, its body, its padding; what stands before it places what it says
 unfoldable pub record_at : Before → List ℕ → Judged Cause StreamRecord
 record_at b input = do
   head ← head_at b input
   body ← body_at b.opening.kind b.top (le32 head.0 0) (le32 head.0 4) head.1
   padding ← part Truncated (padding_len (le32 head.0 4)) body.1
-  Passes (record { type = le32 head.0 0; content = body.0 }) padding.1
+  Passes (record { type = le32 head.0 0; content = placed_content (is_verified b.types) body.0 }) padding.1
 
 -- ---- the whole guest
 

@@ -1,4 +1,5 @@
 pub mod Begun
+pub mod Compared
 pub mod Judging
 pub mod Mean
 pub mod Record

@@ -1,13 +1,14 @@
 -- What records send: of each frame number its last entry; of each part its last content; of a policy its last body that
 -- isn't empty; of each P2M frame the last PFN that was listed for it. They mean the blank form of it.
-use Rattle.std.specs.Prelude.{◌≡◌, ℕ, List, [], ◌∷◌, ◌++◌, Bool, Option, Some, None, fold, ◌==◌, ◌&&◌, if◌then◌else◌}
+use Rattle.std.specs.Prelude.{◌≡◌, ℕ, ◌+◌, List, [], ◌∷◌, ◌++◌, Bool, true, false, not, Option, Some, None, fold, count_by, ◌==◌, ◌&&◌, if◌then◌else◌}
 use Rattle.std.specs.Option.{option_map, option_or}
 use Rattle.std.specs.FinMap as maps
+use Rattle.std.specs.Str.{bytes_eq}
 use Rattle.mig_headers.specs.declared.kind.Kind.{Kind}
 use Rattle.mig_headers.specs.declared.kind.Kind.TheVariants.{Pv, Hvm}
 use Rattle.mig_pagetypes.specs.declared.page_type.PageType.{PageType}
 use Rattle.mig_pagetypes.specs.declared.page_type.PageType.TheVariants.{Notab, Xtab}
-use Rattle.mig_pagetypes.specs.PageTypes.{type_has_data}
+use Rattle.mig_pagetypes.specs.PageTypes.{number_of, type_has_data}
 use Rattle.mig_guest.specs.declared.part_key.PartKey.{PartKey}
 use Rattle.mig_guest.specs.Frames.{FrameMap, FrameOf, framed}
 use Rattle.mig_guest.specs.Guests.{GuestOf}
@@ -19,8 +20,8 @@ use Rattle.mig_bodies.specs.Shapes.{set_parts}
 use Rattle.mig_bodies.specs.PvBodies.{set_p2m}
 use Rattle.mig_pvtables.specs.Blank.{blank, IsOfBytes}
 use Rattle.mig_pvtables.specs.P2mFrames.{listed_in}
-use Rattle.mig_restore.specs.Record.{FrameEntry, StreamRecord, Content}
-use Rattle.mig_restore.specs.Record.Content.{Nothing, Frames, Sets, Lists}
+use Rattle.mig_restore.specs.Record.{FrameEntry, StreamRecord, Content, types_of, is_verified}
+use Rattle.mig_restore.specs.Record.Content.{Nothing, Frames, Sets, Lists, Checks}
 
 -- the type that a frame has in a guest of this kind: in an HVM guest every type with data is NOTAB
 abbrev pub meant_type : Kind → PageType → PageType
@@ -39,6 +40,7 @@ put_content g Nothing = g
 put_content g (Frames es) = record { kind = g.kind; top = g.top; frames = put_entries g.kind g.frames es; parts = g.parts }
 put_content g (Sets code ps) = record { kind = g.kind; top = g.top; frames = g.frames; parts = set_parts code g.parts ps }
 put_content g (Lists last frames) = set_p2m last frames g
+put_content g (Checks es) = g
 
 abbrev pub put_record : GuestOf → StreamRecord → GuestOf
 put_record g r = put_content g r.content
@@ -62,8 +64,9 @@ entries_in Nothing = []
 entries_in (Frames es) = es
 entries_in (Sets code ps) = []
 entries_in (Lists last frames) = []
+entries_in (Checks es) = []
 
--- all entries, in stream order
+-- all entries that are sent, in stream order
 abbrev pub entries_of : List StreamRecord → List FrameEntry
 entries_of [] = []
 entries_of (r ∷ rs) = entries_in r.content ++ entries_of rs
@@ -80,6 +83,41 @@ some_frame t page = Some (record { type = t; page = page })
 
 abbrev pub frame_in : Kind → FrameEntry → Option FrameOf
 frame_in kind e = some_frame (meant_type kind e.type) e.page
+
+-- ---- frames that are compared
+
+abbrev pub checked_in : Content → List FrameEntry
+checked_in (Checks es) = es
+checked_in _ = []
+
+-- all entries that are compared, in stream order
+abbrev pub checked_of : List StreamRecord → List FrameEntry
+checked_of [] = []
+checked_of (r ∷ rs) = checked_in r.content ++ checked_of rs
+
+-- whether both are no page, or the same one
+abbrev pub is_same_page : Option (List ℕ) → Option (List ℕ) → Bool
+is_same_page None None = true
+is_same_page (Some p) (Some q) = bytes_eq p q
+is_same_page _ _ = false
+
+-- whether both are no frame, or one of the same type with the same page
+abbrev pub is_same_frame : Option FrameOf → Option FrameOf → Bool
+is_same_frame None None = true
+is_same_frame (Some f) (Some g) = (number_of f.type == number_of g.type) && is_same_page f.page g.page
+is_same_frame _ _ = false
+
+-- whether the frames have just what an entry says of its number
+abbrev pub agrees : Kind → FrameMap → FrameEntry → Bool
+agrees kind frames e = is_same_frame (maps.get frames e.pfn) (frame_in kind e)
+
+-- how many entries say something else than the frames have
+abbrev pub differing : Kind → FrameMap → List FrameEntry → ℕ
+differing kind frames es = count_by (λ e. not (agrees kind frames e)) es
+
+-- how many entries behind a VERIFY differ from what was sent; none where no record is one
+unfoldable pub differs_of : Kind → List StreamRecord → Option ℕ
+differs_of kind records = if is_verified (types_of records) then Some (differing kind (sent kind records).frames (checked_of records)) else None
 
 -- ---- parts in the words of the format
 
@@ -106,6 +144,7 @@ says_of_part q Nothing = None
 says_of_part q (Frames es) = None
 says_of_part q (Sets code ps) = if is_policy (code_number code) then policy_says_of_part q (code_number code) ps else parts_say_of_part q ps
 says_of_part q (Lists last frames) = None
+says_of_part q (Checks es) = None
 
 -- the last content that says something of a part
 abbrev pub last_said : PartKey → List StreamRecord → Option (Option (List ℕ))

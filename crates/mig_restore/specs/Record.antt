@@ -1,7 +1,8 @@
 -- The records of an image, and what they say (libxc migration stream, "Records").
-use Rattle.std.specs.Prelude.{ℕ, List, map, Option}
+use Rattle.std.specs.Prelude.{ℕ, List, [], ◌∷◌, map, Option, Bool, ◌==◌, if◌then◌else◌}
 use Rattle.std.specs.List.{list_any}
-use Rattle.std.specs.Prelude.{Bool, ◌==◌}
+use Rattle.mig_headers.specs.declared.record_type.RecordType.TheVariants.{Verify}
+use Rattle.mig_order.specs.Order.{some_earlier}
 use Rattle.mig_pagetypes.specs.declared.page_type.PageType.{PageType}
 use Rattle.mig_guest.specs.declared.part_code.PartCode.{PartCode}
 use Rattle.mig_guest.specs.Parts.{Part}
@@ -12,12 +13,14 @@ pub record FrameEntry : Type 0 where
   pub type : PageType
   pub page : Option (List ℕ)
 
--- what a record says: nothing; frames; parts of one code, of each key the last; or the P2M frames of all frame numbers up to one
+-- what a record says: nothing; frames; parts of one code, of each key the last; the P2M frames of all frame numbers up to
+-- one; or frames that are compared with those that were sent
 pub data Content : Type 0 where
   Nothing : Content
   Frames : List FrameEntry → Content
   Sets : PartCode → List Part → Content
   Lists : ℕ → List ℕ → Content
+  Checks : List FrameEntry → Content
 
 pub record StreamRecord : Type 0 where
   pub type : ℕ
@@ -25,6 +28,15 @@ pub record StreamRecord : Type 0 where
 
 abbrev pub types_of : List StreamRecord → List ℕ
 types_of records = map (λ r. r.type) records
+
+-- whether a VERIFY is among records of these types
+abbrev pub is_verified : List ℕ → Bool
+is_verified types = some_earlier types (Verify ∷ [])
+
+-- what a body says where its record stands: behind a VERIFY frames are compared, and no more are set
+abbrev pub placed_content : Bool → Content → Content
+placed_content verified (Frames es) = if verified then Checks es else Frames es
+placed_content verified said = said
 
 -- whether some record ends the image
 abbrev pub is_ended : List StreamRecord → Bool

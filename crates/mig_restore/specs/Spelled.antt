@@ -24,7 +24,7 @@ use Rattle.mig_guest.specs.Parts.{Part}
 use Rattle.mig_guest.specs.Tables.{EachEntry, IsWithin}
 use Rattle.mig_restore.specs.Judging.{Opening, most_records, type_in_word, code_of_type}
 use Rattle.mig_restore.specs.Mean.{sent, mean, meant_type}
-use Rattle.mig_restore.specs.Record.{StreamRecord, FrameEntry, Content, types_of, is_ended}
+use Rattle.mig_restore.specs.Record.{StreamRecord, FrameEntry, Content, types_of, is_ended, is_verified, placed_content}
 use Rattle.mig_restore.specs.Record.Content.{Nothing, Frames, Sets, Lists}
 
 -- ---- PAGE_DATA
@@ -74,6 +74,7 @@ pub data HasContent (kind : Kind) (top : ℕ) : ℕ → List ℕ → Content →
   info : (body : List ℕ) → length body ≡ 8 → IsPvInfo body → HasContent kind top 2 body Nothing
   p2m_frames : (last : ℕ) (frames body : List ℕ) → IsP2m last frames body → HasContent kind top 3 body (Lists last frames)
   static_end : HasContent kind top 0x10 [] Nothing
+  verify : HasContent kind top 0xD [] Nothing
 
 -- what END asks of the guest: of an HVM guest its context and not too many frames, of a PV guest all that makes it whole
 abbrev pub IsComplete : Kind → GuestOf → Type 0
@@ -84,7 +85,9 @@ IsComplete Pv g = IsCompletePv g
 pub record Follows (o : Opening) (records : List StreamRecord) (r : StreamRecord) (bytes : List ℕ) : Type 0 where
   pub body : List ℕ
   pub is : IsRecord r.type body bytes
-  pub says : HasContent o.kind (sent o.kind records).top r.type body r.content
+  pub said : Content
+  pub says : HasContent o.kind (sent o.kind records).top r.type body said
+  pub placed : r.content ≡ placed_content (is_verified (types_of records)) said
   pub small : length body ≤ most_body
   pub ordered : IsInOrder o.version o.kind (types_of records) r.type
   pub few : length records < most_records

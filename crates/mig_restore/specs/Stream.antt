@@ -14,7 +14,7 @@ use Rattle.mig_headers.specs.declared.fault.Place.{Place}
 use Rattle.mig_headers.specs.declared.fault.Place.TheVariants.{ImageHeader, DomainHeader, Record}
 use Rattle.mig_restore.specs.Record.{StreamRecord, is_ended}
 use Rattle.mig_restore.specs.Judging.{Opening, opening_of, next_at}
-use Rattle.mig_restore.specs.Mean.{mean}
+use Rattle.mig_restore.specs.Mean.{mean, differs_of}
 use Rattle.mig_restore.specs.declared.read.Reading.{Reading}
 
 -- ---- the headers
@@ -77,11 +77,13 @@ IsRefused input place cause rest = image_at input ≡ Faulty (place, cause) rest
 
 -- ---- what a reader of images answers
 
--- a reading of an image: the guest that its records mean, its version, and the number of its records
+-- a reading of an image: the guest that its records mean, its version, the number of its records, and how many entries
+-- behind a VERIFY differ
 pub record IsReading (reading : Reading) (image : ImageOf) : Type 0 where
   pub guest : reading.guest ≡ mean image.opening.kind image.records
   pub version : reading.version ≡ image.opening.version
   pub records : reading.records ≡ length image.records
+  pub differs : reading.differs ≡ differs_of image.opening.kind image.records
 
 -- what a reader of images answered, and what it left in the source, is what judging gives
 abbrev pub ReadsImage : Option (List ℕ) → Option (List ℕ) → Result Reading (Answer Place Cause) → Type 0

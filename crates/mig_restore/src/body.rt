@@ -18,7 +18,7 @@ ghost use Rattle.mig_pagetypes.specs.FrameWords.{word_pfn};
 ghost use Rattle.mig_pagetypes.specs.PageTypes.{level_of};
 ghost use Rattle.mig_restore.specs.Begun.{AreEntriesBegun, AreEntriesSet};
 ghost use Rattle.mig_restore.specs.Mean.{meant_type, put_entry, put_entries, put_content, Grows};
-ghost use Rattle.mig_restore.specs.Judging.{sets_at, info_at, p2m_at, words_at, type_in_word, fault_of_level, with_places, entry_at, pages_at, typed_at, body_at};
+ghost use Rattle.mig_restore.specs.Judging.{sets_at, info_at, p2m_at, words_at, type_in_word, fault_of_level, with_places, entry_at, list_at, pages_at, typed_at, body_at};
 ghost use Rattle.mig_restore.specs.Record.Content.{Nothing};
 ghost use Rattle.mig_restore.specs.Spelled.{IsGoodWord};
 
@@ -184,7 +184,7 @@ pub fn type_in(word: u64) -> PageType
 }
 
 /// The frame number in a word.
-fn pfn_in(word: u64) -> u64
+pub(crate) fn pfn_in(word: u64) -> u64
     ensures { result ≡ word_pfn word }
 {
     word % (1 << 52)
@@ -273,6 +273,36 @@ pub fn take_entries<S: Source>(
     Ok(())
 }
 
+/// Takes the count and the words of a PAGE_DATA record, for frame numbers up to top, and judges them.
+pub(crate) fn take_list<S: Source>(
+    alloc: Global,
+    src: &mut S,
+    len: u32,
+    kind: Kind,
+    top: u64,
+) -> Result<Vec<u64>, Stop<Cause>>
+    requires { len ≤ most_body }
+    ensures read { Gives (λ v list. list ≡ v.items) (S.left src.old) (S.left src.new) (list_at kind top len) result }
+    ensures good { IfOk result (λ v. All (IsGoodWord kind top) v.items) }
+    ensures few { IfOk result (λ v. length v.items ≤ 2 ^ 24) }
+    ensures faults { RisesOnReadFault (S.faults src.old) (S.faults src.new) result }
+{
+    let mut front = [0; 8];
+    take_part(src, &mut front, Cause::Truncated)?;
+    let count = u32_le(&front, 0);
+    if let Some(cause) = count_fault(len, count) {
+        return Err(Stop::Refused(cause));
+    }
+    let list = take_words(alloc, src, count)?;
+    if let Some(cause) = words_fault(kind, top, &list) {
+        return Err(Stop::Refused(cause));
+    }
+    if u64::from(len) != data_len(&list) {
+        return Err(Stop::Refused(Cause::BadLength(u64::from(len))));
+    }
+    Ok(list)
+}
+
 /// Takes the body of a PAGE_DATA record.
 fn take_pages<S: Source>(
     alloc: Global,
@@ -285,19 +315,7 @@ fn take_pages<S: Source>(
     ensures grown { OnOk result (Grows guest.old guest.new) }
     ensures faults { RisesOnReadFault (S.faults src.old) (S.faults src.new) result }
 {
-    let mut front = [0; 8];
-    take_part(src, &mut front, Cause::Truncated)?;
-    let count = u32_le(&front, 0);
-    if let Some(cause) = count_fault(len, count) {
-        return Err(Stop::Refused(cause));
-    }
-    let list = take_words(alloc, src, count)?;
-    if let Some(cause) = words_fault(guest.kind(), guest.top(), &list) {
-        return Err(Stop::Refused(cause));
-    }
-    if u64::from(len) != data_len(&list) {
-        return Err(Stop::Refused(Cause::BadLength(u64::from(len))));
-    }
+    let list = take_list(alloc, src, len, guest.kind(), guest.top())?;
     take_entries(src, &list, guest)
 }
 

@@ -13,6 +13,7 @@
 
 mod answer;
 mod body;
+mod check;
 mod head;
 mod law;
 mod read;

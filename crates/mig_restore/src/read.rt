@@ -1,4 +1,4 @@
-ghost use Rattle.std.specs.Prelude.{◌≡◌, ℕ, ◌<◌, ◌+◌, ◌^◌, ◌==◌, ◌∷◌, [], ◌++◌, List, ⊤, true, None, IfOk, IfNone, OnOk, IsErrOf};
+ghost use Rattle.std.specs.Prelude.{◌≡◌, ℕ, ◌<◌, ◌+◌, ◌^◌, ◌==◌, ◌∷◌, [], ◌++◌, List, ⊤, true, None, is_some, IfOk, IfNone, OnOk, IsErrOf};
 ghost use Rattle.mig_bytes.specs.Answers.{or_stop};
 ghost use Rattle.mig_bytes.specs.Faults.{RisesOnReadFault};
 ghost use Rattle.mig_bytes.specs.Judged.{Gives};
@@ -8,13 +8,14 @@ ghost use Rattle.mig_pvtables.specs.Blank.{blank as blank_form, IsOfBytes};
 ghost use Rattle.mig_pvtables.specs.Faults.{fault_of_guest};
 ghost use Rattle.mig_pvtables.specs.Whole.{IsWhole};
 ghost use Rattle.mig_restore.specs.Mean.{sent, put_record, IsBegun, Grows};
-ghost use Rattle.mig_restore.specs.Record.{StreamRecord, types_of};
+ghost use Rattle.mig_restore.specs.Compared.{differs_behind, IsWithinRecords};
+ghost use Rattle.mig_restore.specs.Record.{StreamRecord, types_of, is_verified};
 ghost use Rattle.mig_restore.specs.Judging.{Opening, Before, most_records, opening_of, record_at, next_at};
 ghost use Rattle.mig_restore.specs.Seen.{IsSeen};
 ghost use Rattle.mig_restore.specs.Stream.{ReadsImage, ReadsRest, IsReading, image_at, image_behind, records_at, opening_at, opening_behind, marker_at, version_at, kind_at};
 
 use crate::answer::StreamAnswer;
-use crate::body::take_body;
+use crate::check::{counted, take_placed};
 use crate::head::RecordsSeen;
 use mig_bytes::{Source, Stop, answer_for, take_part};
 use mig_guest::Guest;
@@ -35,18 +36,23 @@ pub struct Reading {
     pub version: u32,
     /// How many records the image has, with END and optional ones.
     pub records: u32,
+    /// How many of the entries behind VERIFY differ from the frames that were sent; none without a VERIFY.
+    pub differs: Option<u64>,
 }
 
-/// Takes a record, and keeps what it says. Answers its type.
+/// Takes a record, and keeps what it says; behind a VERIFY it counts the entries that differ. Answers its type.
 fn take_record<S: Source>(
     alloc: Global,
     src: &mut S,
     seen: &mut RecordsSeen,
     guest: &mut Guest,
+    differs: &mut Option<u64>,
 ) -> Result<u32, Stop<Cause>>
-    requires { seen.old.kind ≡ guest.old.kind }
-    ensures read { (b : Before) → IsSeen seen.old b.opening b.types → guest.old.kind ≡ b.opening.kind → guest.old.top ≡ b.top →
-        Gives (λ type r. (guest.new ≡ put_record guest.old r) × (type ≡ r.type)) (S.left src.old) (S.left src.new) (record_at b) result }
+    requires kind { seen.old.kind ≡ guest.old.kind }
+    requires few { IsWithinRecords seen.old.records differs.old }
+    ensures read { (b : Before) → IsSeen seen.old b.opening b.types → guest.old.kind ≡ b.opening.kind → guest.old.top ≡ b.top → is_some differs.old ≡ is_verified b.types →
+        Gives (λ type r. (guest.new ≡ put_record guest.old r) × (type ≡ r.type) × (differs.new ≡ differs_behind guest.old differs.old r)) (S.left src.old) (S.left src.new) (record_at b) result }
+    ensures few { OnOk result (IsWithinRecords seen.new.records differs.new) }
     ensures seen { IfOk result (λ type. (o : Opening) (types : List ℕ) → IsSeen seen.old o types → IsSeen seen.new o (types ++ type ∷ [])) }
     ensures grown { OnOk result (Grows guest.old guest.new) }
     ensures counted { OnOk result ((seen.new.records ≡ seen.old.records + 1) × (seen.old.records < most_records)) }
@@ -54,8 +60,9 @@ fn take_record<S: Source>(
     ensures faults { RisesOnReadFault (S.faults src.old) (S.faults src.new) result }
 {
     let head = seen.read_head(src)?;
-    take_body(alloc, src, head, guest)?;
+    let differ = take_placed(alloc, src, head, differs.is_some(), guest)?;
     take_padding(src, head.len)?;
+    *differs = counted(*differs, head.kind, differ);
     Ok(head.kind)
 }
 
@@ -65,19 +72,22 @@ pub(crate) fn read_next<S: Source>(
     src: &mut S,
     seen: &mut RecordsSeen,
     guest: &mut Guest,
+    differs: &mut Option<u64>,
 ) -> Result<bool, Stop<Cause>>
     requires kind { seen.old.kind ≡ guest.old.kind }
     requires begun { IsBegun guest.old }
-    ensures read { (o : Opening) (records : List StreamRecord) → IsSeen seen.old o (types_of records) → guest.old ≡ sent o.kind records →
-        Gives (λ over r. (guest.new ≡ put_record guest.old r) × IsSeen seen.new o (types_of (records ++ r ∷ [])) × (over ≡ (r.type == 0)))
+    requires few { IsWithinRecords seen.old.records differs.old }
+    ensures read { (o : Opening) (records : List StreamRecord) → IsSeen seen.old o (types_of records) → guest.old ≡ sent o.kind records → is_some differs.old ≡ is_verified (types_of records) →
+        Gives (λ over r. (guest.new ≡ put_record guest.old r) × IsSeen seen.new o (types_of (records ++ r ∷ [])) × (over ≡ (r.type == 0)) × (differs.new ≡ differs_behind guest.old differs.old r))
         (S.left src.old) (S.left src.new) (next_at o records) result }
+    ensures few { OnOk result (IsWithinRecords seen.new.records differs.new) }
     ensures grown { OnOk result (Grows guest.old guest.new) }
     ensures faultless { IfOk result (λ over. over ≡ true → fault_of_guest guest.new ≡ None) }
     ensures counted { OnOk result ((seen.new.records ≡ seen.old.records + 1) × (seen.old.records < most_records)) }
     ensures kind { seen.new.kind ≡ seen.old.kind }
     ensures faults { RisesOnReadFault (S.faults src.old) (S.faults src.new) result }
 {
-    if take_record(alloc, src, seen, guest)? != END {
+    if take_record(alloc, src, seen, guest, differs)? != END {
         return Ok(false);
     }
     match whole(alloc, guest) {
@@ -103,9 +113,10 @@ fn read_records<S: Source>(
 {
     let mut seen = RecordsSeen::new(version, kind);
     let mut guest = Guest::new(alloc, kind);
+    let mut differs = None;
     'records: loop {
         let number = seen.records;
-        match read_next(alloc, src, &mut seen, &mut guest) {
+        match read_next(alloc, src, &mut seen, &mut guest, &mut differs) {
             Ok(over) => {
                 if over {
                     blank(&mut guest);
@@ -114,6 +125,7 @@ fn read_records<S: Source>(
                         guest,
                         version,
                         records,
+                        differs,
                     });
                 }
             }

@@ -5,21 +5,8 @@ use Rattle.mig_bytes.specs.Judged.{each}
 use Rattle.mig_restore.proofs.Begun.{none_set, one_more_set, set_so_far}
 use Rattle.mig_restore.proofs.Growth.{grows_not, grows_on}
 use Rattle.mig_restore.proofs.Meaning.{one_more_entry}
-use Rattle.mig_restore.proofs.Batches.{places_len, place_at}
+use Rattle.mig_restore.proofs.Batches.{places_len, entry_here, place_within}
 use Rattle.mig_restore.proofs.body.take_entries.Goals as goal
-
--- the entry of the word at this place, judged by the kind and the top of the guest before the loop
-entry_here : {X : Type 0} (R : X → FrameEntry → Type 0) (a b : Option (List ℕ)) (r : Result X (Stop Cause)) (kind now : Kind) (top high place : ℕ) (list : List ℕ) → now ≡ kind → high ≡ top → place < length list
-    → Gives R a b (entry_at now high (place, get_or list place 0)) r → Gives R a b (entry_at kind top (get_or (with_places 0 list) place (0, 0))) r
-entry_here R a b r kind now top high place list k t lt read =
-    let same : entry_at now high (place, get_or list place 0) ≡ entry_at kind top (get_or (with_places 0 list) place (0, 0)) =
-    ap (λ x. entry_at x high (place, get_or list place 0)) k ∙ ap (λ n. entry_at kind n (place, get_or list place 0)) t
-    ∙ ap (λ n. entry_at kind top (n, get_or list place 0)) (let e : place ≡ 0 + place = omega arith in e) ∙ ap (entry_at kind top) (sym (place_at 0 list place lt)) in
-    subst (λ (f : List ℕ → Judged Cause FrameEntry). Gives R a b f r) same read
-
--- a place of the list is one of the words with their places
-within : (place : ℕ) (list : List ℕ) → place < length list → place < length (with_places 0 list)
-within place list lt = subst (λ n. place < n) (sym (places_len 0 list)) lt
 
 pub loop-place-init : goal.loop-place-init
 unfolding each
@@ -33,7 +20,7 @@ take_entry-requires g c =
 
 pub returns-in_err-take_entry-clause-read : goal.returns-in_err-take_entry-clause-read
 returns-in_err-take_entry-clause-read g c =
-    each_ends (entry_at c.args.guest.now.kind c.args.guest.now.top) _ _ _ _ _ _ (with_places 0 c.args.list.now) c.loop-place.place (0, 0) tt c.in_err-take_entry.field-0.0 c.from_residual.result (within c.loop-place.place c.args.list.now c.loop-place-test.true) c.loop-place.invariant.read
+    each_ends (entry_at c.args.guest.now.kind c.args.guest.now.top) _ _ _ _ _ _ (with_places 0 c.args.list.now) c.loop-place.place (0, 0) tt c.in_err-take_entry.field-0.0 c.from_residual.result (place_within c.loop-place.place c.args.list.now c.loop-place-test.true) c.loop-place.invariant.read
     (entry_here _ _ _ _ c.args.guest.now.kind _ c.args.guest.now.top _ c.loop-place.place c.args.list.now c.loop-place.invariant.grown.kind c.loop-place.invariant.top c.loop-place-test.true c.in_err-take_entry.ensures.read) (search rules)
 
 pub returns-in_err-take_entry-clause-err : goal.returns-in_err-take_entry-clause-err
@@ -41,7 +28,7 @@ returns-in_err-take_entry-clause-err g c = set_so_far c.from_residual.result c.a
 
 pub loop-place-preserved : goal.loop-place-preserved
 loop-place-preserved g c = record {
-  read = each_step (entry_at c.args.guest.now.kind c.args.guest.now.top) _ _ _ _ _ _ (with_places 0 c.args.list.now) c.loop-place.place (0, 0) tt _ tt (within c.loop-place.place c.args.list.now c.loop-place-test.true) c.loop-place.invariant.read
+  read = each_step (entry_at c.args.guest.now.kind c.args.guest.now.top) _ _ _ _ _ _ (with_places 0 c.args.list.now) c.loop-place.place (0, 0) tt _ tt (place_within c.loop-place.place c.args.list.now c.loop-place-test.true) c.loop-place.invariant.read
       (entry_here _ _ _ _ c.args.guest.now.kind _ c.args.guest.now.top _ c.loop-place.place c.args.list.now c.loop-place.invariant.grown.kind c.loop-place.invariant.top c.loop-place-test.true c.in_ok-take_entry.ensures.read)
       (λ es e r q. one_more_entry _ _ _ es e r q);
   set = one_more_set c.args.guest.now _ _ c.args.list.now c.loop-place.place c.loop-place-test.true c.loop-place.invariant.set c.in_ok-take_entry.ensures.set;

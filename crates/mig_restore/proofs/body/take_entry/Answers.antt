@@ -4,31 +4,8 @@ use Rattle.mig_restore.proofs.Begun.{one_set}
 use Rattle.mig_restore.proofs.Growth.{word_inside, grows_frame}
 use Rattle.mig_restore.proofs.Meaning.{entry_set}
 use Rattle.mig_restore.proofs.Batches.{carries, level_within}
+use Rattle.mig_restore.proofs.Entries.{no_page, with_page, bad_page, judged}
 use Rattle.mig_restore.proofs.body.take_entry.Goals as goal
-
-module _ {X : Type 0} (R : X → FrameEntry → Type 0) (kind : Kind) (top place : ℕ) where
-  no_page : (a : Option (List ℕ)) (w : ℕ) (x : X) → word_has_data w ≡ false → R x (record { pfn = word_pfn w; type = type_in_word w; page = None }) → Gives R a a (entry_at kind top (place, w)) (Ok x)
-  no_page a w x none r = done R a (entry_at kind top (place, w)) x _ (λ i. rw none refl) r
-
-  with_page : (a b : Option (List ℕ)) (w n : ℕ) (page : List ℕ) (u : Unit {0}) (x : X) → n ≡ 4096 → Gives {X = Unit {0}} (λ _ bytes. bytes ≡ page) a b (part Truncated n) (Ok u) → word_has_data w ≡ true
-      → fault_of_page kind top (place, w) page ≡ None → R x (record { pfn = word_pfn w; type = type_in_word w; page = Some page }) → Gives R a b (entry_at kind top (place, w)) (Ok x)
-  with_page None b w n page u x size h some fine r = tt
-  with_page (Some i) b w n page u x size (bytes, rest, is, left, same) some fine r =
-      let is' = subst (λ m. part Truncated m i ≡ Passes bytes rest) size is in
-      let fine' : fault_of_page kind top (place, w) bytes ≡ None = ap (fault_of_page kind top (place, w)) same ∙ fine in
-      (record { pfn = word_pfn w; type = type_in_word w; page = Some bytes }, rest, rw (some, is', fine') refl, left, subst (λ p. R x (record { pfn = word_pfn w; type = type_in_word w; page = Some p })) (sym same) r)
-
-  bad_page : (a b : Option (List ℕ)) (w n : ℕ) (page : List ℕ) (u : Unit {0}) (c : Cause) → n ≡ 4096 → Gives {X = Unit {0}} (λ _ bytes. bytes ≡ page) a b (part Truncated n) (Ok u) → word_has_data w ≡ true
-      → fault_of_page kind top (place, w) page ≡ Some c → Gives R a b (entry_at kind top (place, w)) (Err (Refused c))
-  bad_page None b w n page u c size h some fault = tt
-  bad_page (Some i) b w n page u c size (bytes, rest, is, left, same) some fault =
-      let is' = subst (λ m. part Truncated m i ≡ Passes bytes rest) size is in
-      let fault' : fault_of_page kind top (place, w) bytes ≡ Some c = ap (fault_of_page kind top (place, w)) same ∙ fault in
-      (rest, rw (some, is', fault') refl, left)
-
--- what is wrong with the page that was taken
-judged : (g : GuestOf) (place w : ℕ) (kind in_stream : PageType) (page : List ℕ) (o : Option Cause) → in_stream ≡ type_in_word w → kind ≡ meant_type g.kind in_stream → o ≡ fault_of_level g.top place (level_of kind) page → fault_of_page g.kind g.top (place, w) page ≡ o
-judged g place w kind in_stream page o is meant said = ap (λ t. fault_of_level g.top place (level_of t) page) (ap (meant_type g.kind) (sym is) ∙ sym meant) ∙ sym said
 
 pub returns-in-Ok-clause-read : goal.returns-in-Ok-clause-read
 returns-in-Ok-clause-read g c =

@@ -2,7 +2,7 @@ use Rattle.mig_restore.proofs.Common.{refl, rules, subst, sym, ◌≡◌, ◌∙
 use Rattle.mig_pvtables.specs.Blank.{blank, IsOfBytes}
 use Rattle.mig_pvtables.specs.Whole.{IsWhole}
 use Rattle.mig_restore.specs.declared.read.Reading.{Reading}
-use Rattle.mig_restore.proofs.Arrivals.{arrived_first, arrived_next, arrived_end, arrived_stopped}
+use Rattle.mig_restore.proofs.Arrivals.{state, arrived_first, arrived_next, arrived_end, arrived_stopped}
 use Rattle.mig_pvtables.proofs.BlankAgain.{blank_again}
 use Rattle.mig_pvtables.proofs.BlankBytesKept.{blank_bytes}
 use Rattle.mig_pvtables.proofs.BlankWhole.{whole_blank, blank_plain}
@@ -11,19 +11,21 @@ use Rattle.mig_restore.proofs.read.read_records.Goals as goal
 
 pub records-init : goal.records-init
 records-init g c = record {
-  arrived = arrived_first (opening_of c.args.version c.args.kind) _ c.new-seen.result c.new-guest.result c.new-seen.ensures.seen c.new-guest.ensures;
+  arrived = arrived_first (opening_of c.args.version c.args.kind) _ c.new-seen.result c.new-guest.result _ c.new-seen.ensures.seen c.new-guest.ensures refl;
   kind = search rules;
   begun = subst IsBegun (sym c.new-guest.ensures) (empty_begun c.args.kind);
   few = search rules;
+  counted = search rules;
   quiet = search rules;
 }
 
 pub records-preserved : goal.records-preserved
 records-preserved g c = record {
-  arrived = arrived_next (opening_of c.args.version c.args.kind) _ _ _ c.records.seen c.read_next.new.seen c.records.guest c.read_next.new.guest c.in-Ok.over c.if-over.false c.records.invariant.arrived (c.in-Ok.ensures.read (opening_of c.args.version c.args.kind));
+  arrived = arrived_next (opening_of c.args.version c.args.kind) _ _ _ (state c.records.seen c.records.guest c.records.differs) (state c.read_next.new.seen c.read_next.new.guest c.read_next.new.differs) c.in-Ok.over c.if-over.false c.records.invariant.arrived (c.in-Ok.ensures.read (opening_of c.args.version c.args.kind));
   kind = c.read_next.ensures.kind ∙ c.records.invariant.kind ∙ sym c.in-Ok.ensures.grown.kind;
   begun = c.in-Ok.ensures.grown.kept c.records.invariant.begun;
   few = search rules;
+  counted = search rules;
   quiet = search rules;
 }
 
@@ -33,7 +35,7 @@ blank-requires g c = record { formed = (c.in-Ok.ensures.grown.kept c.records.inv
 
 pub returns-then-over-clause-read : goal.returns-then-over-clause-read
 returns-then-over-clause-read g c =
-    arrived_end (opening_of c.args.version c.args.kind) _ _ _ c.records.seen c.read_next.new.seen c.records.guest c.read_next.new.guest _ c.in-Ok.over c.if-over.true c.blank.ensures refl refl c.records.invariant.arrived (c.in-Ok.ensures.read (opening_of c.args.version c.args.kind))
+    arrived_end (opening_of c.args.version c.args.kind) _ _ _ (state c.records.seen c.records.guest c.records.differs) (state c.read_next.new.seen c.read_next.new.guest c.read_next.new.differs) _ c.in-Ok.over c.if-over.true c.blank.ensures refl refl refl c.records.invariant.arrived (c.in-Ok.ensures.read (opening_of c.args.version c.args.kind))
 
 pub returns-then-over-clause-whole : goal.returns-then-over-clause-whole
 returns-then-over-clause-whole g c =
@@ -51,4 +53,4 @@ returns-then-over-clause-plain g c = subst (λ (x : GuestOf). HasNoEmulators x.p
 pub returns-in-Err-clause-read : goal.returns-in-Err-clause-read
 returns-in-Err-clause-read g c =
     subst (λ s. Gives {X = Reading} IsReading (g.S.Source.left c.args.src.now) (g.S.Source.left c.read_next.new.src) (records_at (opening_of c.args.version c.args.kind)) (Err s)) (sym c.at.ensures)
-    (arrived_stopped (opening_of c.args.version c.args.kind) _ _ _ c.records.seen c.read_next.new.seen c.records.guest c.read_next.new.guest c.in-Err.stop _ (search rules) c.records.invariant.arrived (c.in-Err.ensures.read (opening_of c.args.version c.args.kind)))
+    (arrived_stopped (opening_of c.args.version c.args.kind) _ _ _ (state c.records.seen c.records.guest c.records.differs) (state c.read_next.new.seen c.read_next.new.guest c.read_next.new.differs) c.in-Err.stop _ (search rules) c.records.invariant.arrived (c.in-Err.ensures.read (opening_of c.args.version c.args.kind)))
