@@ -1,5 +1,5 @@
 -- The body of a PAGE_DATA record: what judging lets pass is spelled as the format says, and what is spelled so passes.
-use Rattle.mig_restore.proofs.Common.{get_or, zero, suc, ◌≡◌, ℕ, ◌+◌, ◌*◌, ◌<◌, ◌↔◌, List, [], ◌∷◌, ◌++◌, length, Bool, true, false, cond, nat_eq, not, Option, Some, None, refl, sym, ap, subst, ◌∙◌, arith, append_assoc, length-append, Result, Ok, Err, count_by, eqb-true, eqb-false, eq-eqb, ne_eqb, le-ltb, not-false, common_steps, le32, le64, ◌>>=◌, part, tried, Judged, Matches, Gives, Passes, Faulty, part_whole, both_pass, tried_passes, same_passes, then_passes, tried_none, BadLength, Truncated, Kind, word_pfn, word_has_data, word_type, some_has_data, fault_of_count, fault_of_words, count_rows, words, data_len_of, FrameEntry, Content, type_in_word, fault_of_data, words_at, entry_at, with_places, fault_of_level, fault_of_page, entries_at, list_at, pages_at, stopped, then_reads, IsPage, Pv, Hvm, PageType, level_of, meant_type, EachEntry, IsWithin, entry, FrameOf, table_within, IsEntry, AreEntries, IsBatch, rows_fine, no_fault, type_of, type_or_none, type_has_data, Stop, Cause, GuestOf, Frames, put_entries, put_content}
+use Rattle.mig_restore.proofs.Common.{get_or, zero, suc, ◌≡◌, ℕ, ◌+◌, ◌*◌, ◌<◌, ◌↔◌, List, [], ◌∷◌, ◌++◌, length, Bool, true, false, cond, nat_eq, not, Option, Some, None, refl, sym, ap, subst, ◌∙◌, arith, append_assoc, length-append, Result, Ok, Err, count_by, eqb-true, eqb-false, eq-eqb, ne_eqb, le-ltb, not-false, common_steps, le32, le64, ◌>>=◌, part, tried, Judged, Matches, Gives, Passes, Faulty, part_whole, both_pass, tried_passes, same_passes, then_passes, tried_none, BadLength, Truncated, Kind, word_pfn, word_has_data, word_type, some_has_data, fault_of_count, fault_of_words, count_rows, words, data_len_of, FrameEntry, Content, type_in_word, fault_of_data, words_at, entry_at, with_places, fault_of_level, fault_of_page, entries_at, list_at, pages_at, stopped, then_reads, IsPage, Pv, Hvm, PageType, level_of, meant_type, EachEntry, IsWithin, entry, FrameOf, table_within, IsEntry, AreEntries, IsBatch, rows_fine, no_fault, type_of, type_or_none, type_has_data, Stop, Cause, Frames}
 use Rattle.std.specs.Result.{IsErrAnd}
 use Rattle.std.proofs.lemmas.List.FromFn.{length-map-range_with_len}
 use Rattle.mig_bytes.specs.Judged.{each}

@@ -1,12 +1,11 @@
 -- Frames that are compared: behind a VERIFY no more are sent, and before it none are compared.
-use Rattle.mig_restore.proofs.Common.{◌≡◌, ◌≢◌, ℕ, ◌+◌, ◌^◌, ◌≤◌, List, [], ◌∷◌, ◌++◌, Bool, true, false, cond, not, nat_eq, ◌||◌, Option, Some, None, is_some, refl, sym, ap, subst, ◌∙◌, arith, append_assoc, common_steps, eqb-true, count_by, list_any, map-append, false≢true, Judged, ◌>>=◌, part, tried, Gives, Passes, both_pass, same_passes, said_passes, Result, Ok, Stop, Cause, Truncated, padding_len, le32, Kind, RecordType, numbers_are_inverse, type_number, type_of_number, is_optional, IsInOrder, optional, ordered, PartCode, Part, fault_of_body, parts_of_body, fault_of_pv_info, fault_of_p2m, GuestOf, FrameEntry, StreamRecord, Content, Nothing, Frames, Sets, Lists, Checks, types_of, is_verified, placed_content, Opening, Before, before, head_at, body_at, typed_at, coded_at, code_of_type, sets_at, info_at, p2m_at, lists_of, pages_at, entries_at, plain_at, put_entries, put_content, put_record, entries_in, entries_of, checked_in, checked_of, differing, agrees, differs_behind, differs_with, IsPut, HasContent, Follows, Spells}
+use Rattle.mig_restore.proofs.Common.{◌≡◌, ◌≢◌, ℕ, ◌+◌, List, [], ◌∷◌, ◌++◌, Bool, true, false, cond, not, nat_eq, ◌||◌, Option, Some, None, is_some, refl, sym, ap, subst, ◌∙◌, append_assoc, map-append, Judged, part, tried, Gives, Passes, both_pass, same_passes, said_passes, Ok, Truncated, padding_len, le32, Kind, RecordType, numbers_are_inverse, type_of_number, is_optional, PartCode, Part, fault_of_body, parts_of_body, fault_of_pv_info, fault_of_p2m, GuestOf, FrameEntry, StreamRecord, Content, Nothing, Frames, Sets, Lists, Checks, types_of, is_verified, placed_content, Opening, Before, before, head_at, body_at, typed_at, coded_at, code_of_type, lists_of, pages_at, entries_at, plain_at, put_entries, put_content, put_record, entries_in, entries_of, checked_in, checked_of, differing, agrees, differs_behind, differs_with, IsPut}
 use Rattle.std.proofs.lemmas.Bool.{or_parts}
 use Rattle.std.proofs.lemmas.List.Folds.{list_any-append}
 use Rattle.std.proofs.lemmas.List.Sums.{sum_by-append}
 use Rattle.std.proofs.lemmas.List.{append-nil}
-use Rattle.mig_headers.specs.declared.record_type.RecordType.TheVariants.{PageData, X86PvInfo, X86PvP2mFrames, Verify}
+use Rattle.mig_headers.specs.declared.record_type.RecordType.TheVariants.{PageData, X86PvInfo, X86PvP2mFrames}
 use Rattle.mig_guest.specs.Frames.{FrameMap}
-use Rattle.mig_bytes.specs.Sequences.Spells.{no_part, one_more}
 use Rattle.mig_restore.specs.Judging.{record_at, next_at}
 use Rattle.mig_restore.specs.Mean.{sent, differs_of}
 use Rattle.mig_restore.proofs.Meaning.{one_more_record, sent_kind}
@@ -122,12 +121,6 @@ put_anywhere false g n type c other is now = by c is.unchecked now
     by (Sets code ps) none now = record { guest = now; differ = refl }
     by (Lists last frames) none now = record { guest = now; differ = refl }
     by (Checks es) none now = record { guest = now; differ = ap (differing g.kind g.frames) (sym none) }
-
--- the body of a PAGE_DATA behind a VERIFY leaves the guest as it is
-pub put_checked : (g : GuestOf) (kind : Kind) (top len : ℕ) (i : List ℕ) (c : Content) (rest : List ℕ) (n : ℕ) → pages_at kind top len i ≡ Passes c rest → n ≡ differing g.kind g.frames (checked_in (placed_content true c)) → IsPut true g g n c
-put_checked g kind top len i c rest n h differ =
-    let a = both_pass (entries_at kind top len i) _ c rest h in
-    record { guest = ap (λ x. put_content g (placed_content true x)) (same_passes _ _ _ _ a.second).0; differ = differ }
 
 -- a record whose body was taken
 pub record_told : (g n : GuestOf) (v w : Bool) (d after : Option ℕ) (more type : ℕ) (c : Content) → v ≡ w → IsPut v g n more c → after ≡ differs_with d type more

@@ -2,7 +2,6 @@
 use Rattle.mig_restore.proofs.Common.{◌≡◌, ℕ, List, Option, Some, None, Err, Ok, true, false, Bool, refl, ap, sym, subst, ◌∙◌, part, Gives, Passes, done, Cause, Truncated, Kind, GuestOf, PageType, level_of, word_pfn, word_has_data, FrameEntry, type_in_word, fault_of_level, fault_of_page, meant_type, entry_at, agrees}
 use Rattle.std.specs.FinMap as fin
 use Rattle.mig_bytes.specs.declared.part.Stop.TheVariants.{Refused}
-use Rattle.mig_guest.specs.Frames.{FrameMap}
 use Rattle.mig_restore.specs.Mean.{is_same_frame, some_frame}
 
 module _ {X : Type 0} (R : X → FrameEntry → Type 0) (kind : Kind) (top place : ℕ) where

@@ -11,6 +11,7 @@ pub mod Laws
 pub mod Listings
 pub mod Meaning
 pub mod Parts
+pub mod VerifyLaws
 pub mod AcceptedWhole
 pub mod PartsInOrder
 pub mod Begun

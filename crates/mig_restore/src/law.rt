@@ -1,4 +1,4 @@
-ghost use Rattle.std.specs.Prelude.{◌≡◌, ◌≢◌, ◌≤◌, ◌⊎◌, ℕ, List, option_and_then, unwrap_or, None};
+ghost use Rattle.std.specs.Prelude.{◌≡◌, ◌≢◌, ◌≤◌, ◌⊎◌, ◌↔◌, ◌∷◌, ◌++◌, ℕ, List, option_and_then, unwrap_or, true, Some, None};
 ghost use Rattle.std.specs.List.{All, Contains};
 ghost use Rattle.std.specs.FinMap as maps;
 ghost use Rattle.mig_bytes.specs.Bytes.{AreBytes};
@@ -6,6 +6,7 @@ ghost use Rattle.mig_headers.specs.declared.fault.Cause.{Cause};
 ghost use Rattle.mig_headers.specs.declared.fault.Place.{Place};
 ghost use Rattle.mig_headers.specs.declared.kind.Kind.{Kind};
 ghost use Rattle.mig_guest.specs.Formed.{HasNoEmulators};
+ghost use Rattle.mig_guest.specs.Frames.{FrameMap};
 ghost use Rattle.mig_guest.specs.PartKeys.{p2m_key};
 ghost use Rattle.mig_pvtables.specs.Blank.{blank, IsOfBytes};
 ghost use Rattle.mig_guest.specs.Guests.{GuestOf};
@@ -13,8 +14,8 @@ ghost use Rattle.mig_pvtables.specs.P2mFrames.{listed};
 ghost use Rattle.mig_pvtables.specs.Whole.{IsWhole};
 ghost use Rattle.mig_guest.specs.declared.part_key.PartKey.{PartKey};
 ghost use Rattle.mig_restore.specs.Judging.{Opening};
-ghost use Rattle.mig_restore.specs.Record.{StreamRecord};
-ghost use Rattle.mig_restore.specs.Mean.{sent, last_entry, frame_in, entries_of, last_said, last_listed, ends_of};
+ghost use Rattle.mig_restore.specs.Record.{FrameEntry, StreamRecord};
+ghost use Rattle.mig_restore.specs.Mean.{sent, last_entry, frame_in, entries_of, last_said, last_listed, ends_of, checked_of, agrees, differing, differs_of};
 ghost use Rattle.mig_restore.specs.Spelled.{IsImage, Accepted};
 ghost use Rattle.mig_bytes.specs.Judged.Judged.{Passes};
 ghost use Rattle.mig_restore.specs.Stream.{image_at, image_of, IsRefused};
@@ -84,4 +85,32 @@ pub fn greatest_end_decides()
     ensures { (kind : Kind) (records : List StreamRecord) →
         All (λ last. last ≤ (sent kind records).top) (ends_of records)
         × (((sent kind records).top ≡ 0) ⊎ Contains (ends_of records) (sent kind records).top) }
+{}
+
+/// An entry agrees with frames exactly where the frame of its number is the one that it says, with its type and its page, or
+/// there is none and it is XTAB.
+#[tactic(auto, using(crate::proofs::VerifyLaws::entry_agrees))]
+pub fn entry_agrees()
+    ensures { (kind : Kind) (frames : FrameMap) (e : FrameEntry) → (agrees kind frames e ≡ true) ↔ (maps.get frames e.pfn ≡ frame_in kind e) }
+{}
+
+/// Of an image with a VERIFY the entries before it are those that are sent, and the entries behind it those that are
+/// compared.
+pub fn verify_parts_entries()
+    ensures { (input : List ℕ) (o : Opening) (before behind : List StreamRecord) (v : StreamRecord) (rest : List ℕ) →
+        IsImage input o (before ++ v ∷ behind) rest → v.type ≡ 0xD →
+        (entries_of (before ++ v ∷ behind) ≡ entries_of before) × (checked_of (before ++ v ∷ behind) ≡ checked_of behind) }
+{}
+
+/// Of an image with a VERIFY those entries behind it are counted that differ from the frames that were sent before it.
+pub fn entries_behind_verify_are_counted()
+    ensures { (input : List ℕ) (o : Opening) (before behind : List StreamRecord) (v : StreamRecord) (rest : List ℕ) →
+        IsImage input o (before ++ v ∷ behind) rest → v.type ≡ 0xD →
+        differs_of o.kind (before ++ v ∷ behind) ≡ Some (differing o.kind (sent o.kind before).frames (checked_of behind)) }
+{}
+
+/// There is no such number exactly where no record is a VERIFY.
+#[tactic(auto, using(crate::proofs::VerifyLaws::no_number))]
+pub fn only_verify_is_counted()
+    ensures { (kind : Kind) (records : List StreamRecord) → (differs_of kind records ≡ None) ↔ All (λ r. r.type ≢ 0xD) records }
 {}

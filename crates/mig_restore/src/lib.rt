@@ -7,7 +7,8 @@
 //! frames and parts (mig_guest), page tables, whole guests and blank forms (mig_pvtables).
 //!
 //! What the layers above rely on: `read_image` answers the guest that the accepted front of the input means, or the
-//! first fault with its place, and has taken just the accepted front, or all up to the end of the faulty part;
+//! first fault with its place, and has taken just the accepted front, or all up to the end of the faulty part; behind a
+//! VERIFY it compares frames with those of the guest, and answers how many entries differ;
 //! `words_of` and `take_entries` do so with the words of a batch and with their pages, in a legacy stream too.
 #![tactic(auto)]
 
@@ -22,8 +23,9 @@ pub use answer::StreamAnswer;
 pub use body::{meant, page_fault, take_entries, type_in, words_of};
 pub use head::{MAX_RECORDS, RecordsSeen};
 pub use law::{
-    accepted_is_image, accepted_is_whole, accepted_or_refused, greatest_end_decides,
-    image_is_accepted, last_content_decides, last_entry_decides, last_listing_decides, never_both,
-    one_front,
+    accepted_is_image, accepted_is_whole, accepted_or_refused, entries_behind_verify_are_counted,
+    entry_agrees, greatest_end_decides, image_is_accepted, last_content_decides,
+    last_entry_decides, last_listing_decides, never_both, one_front, only_verify_is_counted,
+    verify_parts_entries,
 };
 pub use read::{Reading, read_image, read_image_rest};

@@ -1,4 +1,4 @@
-use Rattle.mig_restore.proofs.Common.{◌≡◌, ◌+◌, ◌<◌, ◌≤◌, ℕ, List, Option, Result, get_or, [], refl, rules, ap, subst, sym, ◌∙◌, arith, length, take, Ok, put_entries, done, each_step, each_ends, Kind, FrameEntry, with_places, entry_at, IsGoodWord, Gives, Judged, Cause, Stop}
+use Rattle.mig_restore.proofs.Common.{◌≡◌, ◌≤◌, get_or, [], refl, rules, subst, sym, length, take, Ok, put_entries, done, each_step, each_ends, with_places, entry_at, IsGoodWord, Gives}
 use Rattle.std.proofs.lemmas.List.Elements.{All-get_or}
 use Rattle.std.proofs.lemmas.List.{take_all}
 use Rattle.mig_bytes.specs.Judged.{each}

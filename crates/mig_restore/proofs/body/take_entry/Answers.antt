@@ -1,5 +1,4 @@
-use Rattle.mig_restore.proofs.Common.{◌≡◌, ◌<◌, ℕ, pfn_limit, IsInside, IsWithin, entry, List, Option, Some, None, Err, Ok, true, false, length, refl, ap, sym, subst, ◌∙◌, rules, AreBytes, none-some, same_Some, part, Gives, Passes, done, Cause, Truncated, Kind, GuestOf, PageType, level_of, word_pfn, word_has_data, FrameEntry, type_in_word, fault_of_level, fault_of_page, meant_type, entry_at}
-use Rattle.mig_bytes.specs.declared.part.Stop.TheVariants.{Refused}
+use Rattle.mig_restore.proofs.Common.{◌≡◌, ◌<◌, pfn_limit, IsInside, IsWithin, entry, Some, None, length, ap, sym, subst, ◌∙◌, rules, AreBytes, none-some, same_Some, level_of, fault_of_level}
 use Rattle.mig_restore.proofs.Begun.{one_set}
 use Rattle.mig_restore.proofs.Growth.{word_inside, grows_frame}
 use Rattle.mig_restore.proofs.Meaning.{entry_set}

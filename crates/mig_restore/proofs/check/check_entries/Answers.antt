@@ -1,4 +1,4 @@
-use Rattle.mig_restore.proofs.Common.{◌≡◌, ◌+◌, ◌<◌, ◌≤◌, ℕ, List, Option, Result, get_or, [], refl, rules, sym, ap, subst, ◌∙◌, arith, length, take, true, false, cond, Ok, done, each_step, each_ends, Kind, FrameEntry, with_places, entry_at, differing, Gives, Judged, Cause, Stop}
+use Rattle.mig_restore.proofs.Common.{◌≡◌, ◌+◌, ◌≤◌, ℕ, [], refl, rules, sym, subst, arith, length, take, cond, Ok, done, each_step, each_ends, with_places, entry_at, differing, Gives}
 use Rattle.std.proofs.lemmas.List.{take_all}
 use Rattle.mig_bytes.specs.Judged.{each}
 use Rattle.mig_restore.proofs.Batches.{places_len, entry_here, place_within}
