@@ -28,7 +28,7 @@ wrapped_is i = refl
 -- ---- a bare image
 
 pub bare_reading : (reading : Reading) (image : ImageOf) → IsImageReading reading image → IsStreamReading reading (Bare image)
-bare_reading reading image r = record { image = image; is = refl; guest = r.guest ∙ sym (none_set _); version = r.version; records = r.records }
+bare_reading reading image r = record { image = image; is = refl; guest = r.guest ∙ sym (none_set _); version = r.version; records = r.records; differs = r.differs }
 
 module _ (first : List ℕ) (size : length first ≡ 8) where
   -- the image header begins with the marker

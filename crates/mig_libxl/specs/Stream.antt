@@ -13,7 +13,7 @@ use Rattle.mig_headers.specs.declared.fault.Cause.TheVariants.{Truncated}
 use Rattle.mig_headers.specs.declared.fault.Place.{Place}
 use Rattle.mig_headers.specs.declared.fault.Place.TheVariants.{LibxlHeader}
 use Rattle.mig_guest.specs.Guests.{GuestOf}
-use Rattle.mig_restore.specs.Mean.{mean}
+use Rattle.mig_restore.specs.Mean.{mean, differs_of}
 use Rattle.mig_restore.specs.Stream.{ImageOf, image_at}
 use Rattle.mig_restore.specs.declared.read.Reading.{Reading}
 use Rattle.mig_emulators.specs.Content.{LibxlRecord}
@@ -73,13 +73,15 @@ guest_of image s = with_emulators (mean image.opening.kind image.records) (emula
 
 -- ---- what a reader of streams answers
 
--- a reading of a stream: the guest that it means, and the version and the number of records of its image
+-- a reading of a stream: the guest that it means, and of its image the version, the number of records, and how many entries
+-- behind a VERIFY differ
 pub record IsStreamReading (reading : Reading) (s : StreamOf) : Type 0 where
   pub image : ImageOf
   pub is : image_of_stream s ≡ Some image
   pub guest : reading.guest ≡ guest_of image s
   pub version : reading.version ≡ image.opening.version
   pub records : reading.records ≡ length image.records
+  pub differs : reading.differs ≡ differs_of image.opening.kind image.records
 
 -- what a reader of streams answered, and what it left in the source, is what judging gives
 abbrev pub ReadsStream : Option (List ℕ) → Option (List ℕ) → Result Reading (Answer Place Cause) → Type 0
