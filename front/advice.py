@@ -22,7 +22,7 @@ STREAM = {
     6: Advice('BadKind', 'neither a PV nor an HVM guest', COPY),
     7: Advice('BadPageShift', 'pages that have not 4096 bytes', COPY),
     8: Advice('BodyTooLong', 'a record of more than 2^27 bytes', 'bytes were lost or added before it: ' + COPY),
-    9: Advice('Unsupported', 'a record that is not read: of Remus, COLO or `xl migrate --debug`', 'save the guest without these'),
+    9: Advice('Unsupported', 'a record that is not read: of Remus or COLO, or TOOLSTACK', 'save the guest without these'),
     10: Advice('UnknownMandatory', 'a record type that the format does not have', 'made by a newer Xen, or bytes were lost: ' + COPY),
     11: Advice('WrongKind', 'a record of the other kind of guest', COPY),
     12: Advice('OutOfOrder', 'the record may not stand here', COPY),

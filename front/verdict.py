@@ -7,7 +7,7 @@ from front.text import shown
 
 OK, REFUSED, NO_SAVE, NOT_JUDGED, FAULT = 'ok', 'refused', 'no save', 'not judged', 'fault'
 REFUSAL = re.compile(r'refused: (\w+(?: \d+)?): (\d+) \w+')
-FACTS = re.compile(r'ok version (\d+) kind (\w+) frames (\d+) records (\d+)')
+FACTS = re.compile(r'ok version (\d+) kind (\w+) frames (\d+) records (\d+)(?: differs (\d+))?')
 SAVED = re.compile(r'ok rounds (\d+) entries (\d+)')
 
 
@@ -26,8 +26,16 @@ class Verdict(namedtuple('Verdict', FIELDS, defaults=(None,) * 9)):
             yield '    %s%s; %s' % (self.where(), self.means, self.do)
         if SAVED.fullmatch(self.line):
             yield '    ' + self.saved()
+        yield from self.differing()
         if self.follows:
             yield '    %d bytes follow the end of the stream; they were not judged' % self.follows
+
+    def differing(self):
+        """What the frames came to that were sent once more, to be compared, where some differ."""
+        said = FACTS.fullmatch(self.line)
+        if said and int(said[5] or 0):
+            yield ('    %s of the frames that were sent again to be compared (VERIFY) differ from those sent first; the guest has '
+                   'those sent first' % said[5])
 
     def saved(self):
         """What a live save took."""
@@ -52,6 +60,8 @@ class Verdict(namedtuple('Verdict', FIELDS, defaults=(None,) * 9)):
         said = FACTS.fullmatch(self.line)
         if said:
             found.update(version=int(said[1]), kind=said[2], frames=int(said[3]), records=int(said[4]))
+        if said and said[5]:
+            found.update(differs=int(said[5]))
         said = SAVED.fullmatch(self.line)
         if said:
             found.update(rounds=int(said[1]), entries=int(said[2]))

@@ -2,7 +2,7 @@
 records that say it, with frames sent twice, lists of P2M frames in parts, and records in any order that may be taken."""
 import struct
 
-from streams import headers, rarely, record, some_record
+from streams import headers, rarely, record, sent_again, some_record
 
 TOPS = 15, 16, 100, 511, 512, 600, 1023, 1024, 1535
 SLOTS = 0, 1, 255, 256, 263, 271, 272, 510, 511
@@ -244,9 +244,11 @@ def content_records(dice, guest):
     """The lists of P2M frames that stand before all pages, the rest of the content but END, and what may stand anywhere."""
     first, among = ([], []) if 3 in guest.left_out else p2m_records(dice, guest)
     sent = page_records(dice, entries(dice, guest)) if first else []
+    again = sent_again(dice, sent, [page_record(dice, dice.sample(entries(dice, guest), 3))] if first else [])
     shared = [] if 7 in guest.left_out else [record(dice, 7, dice.randbytes(8) * 512) for _ in range(dice.choice((1, 1, 2)))]
     others = [some_record(dice, (8, 'optional')) for _ in range(dice.randrange(3))]
-    return first + mixed_in(dice, mixed_in(dice, sent, among) + vcpu_records(dice, guest), shared + others)
+    pages = mixed_in(dice, sent, among) + again
+    return first + mixed_in(dice, pages + vcpu_records(dice, guest), shared + others)
 
 
 def pv_stream(dice):

@@ -28,16 +28,18 @@ TABLE = {
     CONTEXT: ((HVM,), lambda n: True),
     PARAMS: ((HVM,), lambda n: n >= 8),
     VCPU_MSRS: ((PV,), lambda n: n >= 8 and (n - 8) % 16 == 0),
+    VERIFY: ((PV, HVM), lambda n: n == 0),
     STATIC_DATA_END: ((PV, HVM), lambda n: n == 0),
     CPUID_POLICY: ((PV, HVM), lambda n: n % 24 == 0 and n <= 65536 * 24),
     MSR_POLICY: ((PV, HVM), lambda n: n % 16 == 0 and n <= 65536 * 16),
 }
-UNSUPPORTED = (11, 13, 14, 15)
+UNSUPPORTED = (11, 14, 15)
 STATIC = (PV_INFO, CPUID_POLICY, MSR_POLICY)
-CONTENT = (END, PAGE_DATA, P2M_FRAMES, *VCPU, SHARED_INFO, CONTEXT, PARAMS)
+CONTENT = (END, PAGE_DATA, P2M_FRAMES, *VCPU, SHARED_INFO, CONTEXT, PARAMS, VERIFY)
 
-# the image's version, the guest that is meant, and the number of the image's records with END
-Stream = collections.namedtuple('Stream', 'version guest records')
+# the image's version, the guest that is meant, the number of the image's records with END, and how many entries behind a
+# VERIFY differ from the frames that were sent before it, or None where there is no VERIFY
+Stream = collections.namedtuple('Stream', 'version guest records differs')
 
 
 def broken_rule(version, guest_kind, before, kind):
@@ -52,6 +54,7 @@ def broken_rule(version, guest_kind, before, kind):
         5: kind == P2M_FRAMES and PV_INFO not in before,
         6: guest_kind == PV and kind == PAGE_DATA and P2M_FRAMES not in before,
         7: kind == PAGE_DATA and any(other in VCPU for other in before),
+        8: kind == VERIFY and any(other in (VERIFY, *VCPU) for other in before),
     }
     return min((rule for rule in broken if broken[rule]), default=0)
 
@@ -93,22 +96,37 @@ def judge_words(words, guest):
         refuse_if(pfn >= limit, '16 PfnOutside %d %d' % (entry, pfn))
 
 
-def read_pages(source, length, guest):
+def send(frames, pfn, kind, page):
+    if kind == XTAB:
+        frames.pop(pfn, None)
+    else:
+        frames[pfn] = kind, page
+
+
+def differs(frames, pfn, kind, page):
+    """Whether an entry that is sent again says another frame than there is, or one where there is none, or none where there is one."""
+    return frames.get(pfn) != (None if kind == XTAB else (kind, page))
+
+
+def read_pages(source, length, guest, is_checked):
+    """Sets the frames of a PAGE_DATA; or where they are sent again to be checked, answers how many of them differ."""
     count, _ = struct.unpack('<II', source.take(8))
     refuse_if(length < 8 + 8 * count, '13 BadLength %d' % length)
     refuse_if(count == 0, '14 NoPages')
     words = [(word >> 60, word % (1 << 52)) for word in struct.unpack('<%dQ' % count, source.take(8 * count))]
     judge_words(words, guest)
     refuse_if(length != 8 + 8 * count + PAGE * sum(has_page(kind) for kind, _ in words), '13 BadLength %d' % length)
+    different = 0
     for entry, (kind, pfn) in enumerate(words):
         page = source.take(PAGE) if has_page(kind) else b''
         if guest['kind'] == HVM and has_page(kind):
             kind = NOTAB
         pv.judge_table(entry, kind, page, guest['top'])
-        if kind == XTAB:
-            guest['frames'].pop(pfn, None)
+        if is_checked:
+            different += differs(guest['frames'], pfn, kind, page)
         else:
-            guest['frames'][pfn] = kind, page
+            send(guest['frames'], pfn, kind, page)
+    return different
 
 
 def read_params(body, params):
@@ -145,16 +163,19 @@ def judge_guest(guest):
     refuse_if(len(guest['frames']) > MOST_FRAMES, '32 TooManyFrames')
 
 
-def read_body(source, kind, length, guest):
+def read_body(source, kind, length, guest, is_checked):
+    """Answers how many entries differ, of a PAGE_DATA that is checked."""
+    different = 0
     if is_optional(kind):
         source.take(length)
     elif kind == END:
         judge_guest(guest)
     elif kind == PAGE_DATA:
-        read_pages(source, length, guest)
+        different = read_pages(source, length, guest, is_checked)
     else:
         read_part(kind, source.take(length), guest)
     source.take(-length % 8)
+    return different
 
 
 def policy_records(guest):
@@ -237,7 +258,8 @@ def image(guest, base):
 def summary(stream):
     """The line of `verify`."""
     kind = {PV: 'pv', HVM: 'hvm'}[stream.guest['kind']]
-    return 'ok version %d kind %s frames %d records %d' % (stream.version, kind, len(stream.guest['frames']), stream.records)
+    line = 'ok version %d kind %s frames %d records %d' % (stream.version, kind, len(stream.guest['frames']), stream.records)
+    return line if stream.differs is None else '%s differs %d' % (line, stream.differs)
 
 
 def empty_guest(kind):
@@ -260,14 +282,15 @@ def read_headers(source):
 
 def read_behind_marker(source):
     version, guest_kind = read_headers(source)
-    guest, before = empty_guest(guest_kind), []
+    guest, before, different = empty_guest(guest_kind), [], 0
     while END not in before:
         source.place = 'Record %d' % len(before)
         kind, length = struct.unpack('<II', source.take(8))
         judge_head(version, guest_kind, before, kind, length)
-        read_body(source, kind, length, guest)
+        different += read_body(source, kind, length, guest, VERIFY in before)
         before.append(kind)
-    return Stream(version, pv.blank(guest) if guest_kind == PV else guest, len(before))
+    meant = pv.blank(guest) if guest_kind == PV else guest
+    return Stream(version, meant, len(before), different if VERIFY in before else None)
 
 
 def read_image(source):

@@ -62,13 +62,24 @@ def headers(dice, version, kind):
     return [image, struct.pack('<IHHII', kind, 12, dice.choice((0, 9)), 4, 17)]
 
 
+def sent_again(dice, page_records, more):
+    """Most often nothing; or a VERIFY, and some of these records of pages once more, with others among them."""
+    if dice.random() < 0.7:
+        return []
+    again = [it for it in page_records if dice.random() < 0.8] + [it for it in more if dice.random() < 0.5]
+    dice.shuffle(again)
+    return [record(dice, 13, b'')] * rarely(dice, 1, 2) + again
+
+
 def hvm_stream(dice):
     """Headers and records of a stream of an HVM guest that may be accepted."""
     version = dice.choice((2, 3))
     records = [some_record(dice, (8, 17, 18, 'optional')) for _ in range(dice.randrange(4))]
     if version == 3 or dice.random() < 0.3:
         records.append(record(dice, 16, b''))
-    records += [some_record(dice, (1, 1, 1, 8, 9, 10, 'optional')) for _ in range(dice.randrange(6))]
+    content = [some_record(dice, (1, 1, 1, 8, 9, 10, 'optional')) for _ in range(dice.randrange(6))]
+    sent = [it for it in content if it[:4] == bytes((1, 0, 0, 0))]
+    records += content + sent_again(dice, sent, [record(dice, 1, pages(dice)) for _ in range(2)])
     records.append(record(dice, 9, chain(dice)))
     records += [some_record(dice, (1, 8, 10, 'optional')) for _ in range(dice.randrange(3))]
     return [*headers(dice, version, 2), *records, record(dice, 0, b'')]

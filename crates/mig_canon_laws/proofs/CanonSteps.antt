@@ -4,13 +4,14 @@ use Rattle.std.proofs.lemmas.List.{map-append}
 use Rattle.std.proofs.lemmas.List.Folds.{list_any-append}
 use Rattle.std.specs.FinMap as maps
 use Rattle.mig_headers.specs.declared.record_type.RecordType.{RecordType}
-use Rattle.mig_headers.specs.declared.record_type.RecordType.TheVariants.{StaticDataEnd, X86PvInfo, X86PvP2mFrames}
+use Rattle.mig_headers.specs.declared.record_type.RecordType.TheVariants.{StaticDataEnd, Verify, X86PvInfo, X86PvP2mFrames}
 use Rattle.mig_headers.specs.RecordTypes.{type_of_number}
 use Rattle.mig_records.specs.Records.{spelled}
 use Rattle.mig_order.specs.Order.{Earlier, some_earlier, earlier_in, among, content_records, vcpu_records as vcpu_types, fault_after, fault_of_type}
 use Rattle.mig_order.proofs.OrderLaw.{faultless_is_in_order}
 use Rattle.mig_restore.specs.Judging.{Opening}
 use Rattle.mig_restore.specs.Mean.{sent}
+use Rattle.mig_restore.specs.Record.{placed_content}
 use Rattle.mig_canon_laws.proofs.CanonMaps.{with_parts}
 use Rattle.mig_canon_laws.proofs.CanonOnce.{AtOnce}
 use Rattle.mig_canon_laws.proofs.CanonParts.{is_record, Fits, fits_of}
@@ -36,9 +37,9 @@ pub record Stage : Type 0 where
   pub listed : Bool
   pub framed : Bool
 
--- what stands before it: content behind STATIC_DATA_END alone, and a vCPU's records behind the frames alone, if at all
+-- what stands before it: content behind STATIC_DATA_END alone, and a vCPU's records behind the frames alone, if at all; and no VERIFY
 abbrev pub earlier_at : Stage → Bool → Bool → Earlier
-earlier_at stage content vcpu = record { static_data_end = stage.settled; content = stage.settled && content; pv_info = stage.info; p2m_frames = stage.listed; vcpu = stage.framed && vcpu }
+earlier_at stage content vcpu = record { static_data_end = stage.settled; content = stage.settled && content; pv_info = stage.info; p2m_frames = stage.listed; vcpu = stage.framed && vcpu; verify = false }
 
 -- and with a record of this type more
 abbrev pub earlier_with : Earlier → ℕ → Earlier
@@ -48,6 +49,7 @@ earlier_with e type = record {
   pv_info = e.pv_info || (among (X86PvInfo ∷ []) type || false);
   p2m_frames = e.p2m_frames || (among (X86PvP2mFrames ∷ []) type || false);
   vcpu = e.vcpu || (among vcpu_types type || false);
+  verify = e.verify || (among (Verify ∷ []) type || false);
 }
 
 -- records with these bodies, that mean this guest, and where they lead; and no more records than these
@@ -77,6 +79,7 @@ earlier_more records r = λ i. record {
   pv_info = some_more (X86PvInfo ∷ []) records r i;
   p2m_frames = some_more (X86PvP2mFrames ∷ []) records r i;
   vcpu = some_more vcpu_types records r i;
+  verify = some_more (Verify ∷ []) records r i;
 }
 
 pub ended_more : (records : List StreamRecord) (r : StreamRecord) → is_ended (records ++ r ∷ []) ≡ (is_ended records || (nat_eq r.type 0 || false))
@@ -101,7 +104,9 @@ module _ {kind : Kind} {bodies : List Record} {g : GuestOf} {stage : Stage} {mos
     follows complete = record {
       body = body;
       is = is_record type body step.small fits.short;
+      said = c;
       says = subst (λ (h : GuestOf). HasContent kind h.top type body c) (sym s.means) fits.says;
+      placed = ap (λ (e : Earlier). placed_content e.verify c) (sym s.stands);
       small = fits.short;
       ordered = (faultless_is_in_order 3 kind (types_of s.records) type).0 in_place;
       few = omega (arith, s.few, room);

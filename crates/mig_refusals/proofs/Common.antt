@@ -69,7 +69,7 @@ pub use Rattle.mig_headers.specs.declared.legacy_fault.LegacyCause.{LegacyCause}
 pub use Rattle.mig_headers.specs.declared.legacy_fault.LegacyCause.TheVariants.{BadContext as LegacyBadContext, BadPageType as LegacyBadPageType, BadSignature, BadToolstack, BadVcpuMax, BatchTooLarge, BodyTooLong as LegacyBodyTooLong, Compressed, Modern, Tmem, TooManyFrames as LegacyTooManyFrames, TooManyPairs as LegacyTooManyPairs, Tools32, Truncated as LegacyTruncated, UnknownChunk, UnpairedIoreq, VerifyOrPv, WordHigh}
 pub use Rattle.mig_headers.specs.declared.legacy_fault.LegacyPlace.{LegacyPlace}
 pub use Rattle.mig_headers.specs.declared.record_type.RecordType.{RecordType}
-pub use Rattle.mig_headers.specs.declared.record_type.RecordType.TheVariants.{End, PageData, StaticDataEnd, X86PvInfo, X86PvP2mFrames}
+pub use Rattle.mig_headers.specs.declared.record_type.RecordType.TheVariants.{End, PageData, StaticDataEnd, Verify, X86PvInfo, X86PvP2mFrames}
 pub use Rattle.mig_pagetypes.proofs.Numbers.{type_back}
 pub use Rattle.mig_pagetypes.specs.FrameWords.{word_has_data, word_pfn, word_type}
 pub use Rattle.mig_pagetypes.specs.LegacyWords.{legacy_type}

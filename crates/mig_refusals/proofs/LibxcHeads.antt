@@ -1,8 +1,8 @@
 -- The causes that stand in the head of an image's record.
-use Rattle.mig_refusals.proofs.Common.{◌≡◌, ◌⊎◌, inl, inr, ℕ, ◌^◌, List, [], ◌∷◌, ◌++◌, length, Bool, true, false, nat_le, nat_lt, nat_eq, not, Option, Some, None, refl, sym, ap, subst, ◌∙◌, arith, leb-true, leb-false, ltb-true, eqb-true, le-leb, lt-leb, lt-ltb, false≢true, not-true, and_parts, and_from, not_from_false, or_left, or_right, or_cases, option_or, common_steps, first_fault, Cause, UnknownMandatory, OutOfOrder, BadLength, TooManyRecords, Unsupported, WrongKind, Kind, Pv, Hvm, type_allows, fault_of_long, Opening, Before, most_records, fault_of_number, HeadHas, Breaks, ◌&&◌, same_Some, record_row_of, pv, type_number, type_of_number, is_optional, numbers_are_inverse, RecordType, PageData, X86PvInfo, X86PvP2mFrames, StaticDataEnd, earlier_in, is_of, static_records, content_records, broken_rules, fault_of_type, late_static, fault_of_fields, ascends, join, number_of_cause, BodyTooLong, End}
+use Rattle.mig_refusals.proofs.Common.{◌≡◌, ◌⊎◌, inl, inr, ℕ, ◌^◌, List, [], ◌∷◌, ◌++◌, length, Bool, true, false, nat_le, nat_lt, nat_eq, not, Option, Some, None, refl, sym, ap, subst, ◌∙◌, arith, leb-true, leb-false, ltb-true, eqb-true, le-leb, lt-leb, lt-ltb, false≢true, not-true, and_parts, and_from, not_from_false, or_left, or_right, or_cases, option_or, common_steps, first_fault, Cause, UnknownMandatory, OutOfOrder, BadLength, TooManyRecords, Unsupported, WrongKind, Kind, Pv, Hvm, type_allows, fault_of_long, Opening, Before, most_records, fault_of_number, HeadHas, Breaks, ◌◌&&◌, same_Some◌&&◌, same_Some◌, ◌||◌, same_Some, record_row_of, pv, type_number, type_of_number, is_optional, numbers_are_inverse, RecordType, PageData, Verify, X86PvInfo, X86PvP2mFrames, StaticDataEnd, earlier_in, is_of, static_records, content_records, broken_rules, fault_of_type, late_static, fault_of_fields, ascends, join, number_of_cause, BodyTooLong, End}
 use Rattle.mig_headers.proofs.FirstCauses as firsts
 use Rattle.mig_refusals.specs.Libxc.HeadHas.{too_many, bad_length, out_of_order, wrong_kind, unknown, unsupported, too_long}
-use Rattle.mig_refusals.specs.Libxc.Breaks.{second_end, static_after_end, static_after_content, early_content, second_pv_info, early_p2m_frames, early_pages, late_pages}
+use Rattle.mig_refusals.specs.Libxc.Breaks.{second_end, static_after_end, static_after_content, early_content, second_pv_info, early_p2m_frames, early_pages, late_pages, second_verify, late_verify}
 use Rattle.mig_refusals.specs.Libxc.{HeadHas as has, Breaks as broken}
 use Rattle.mig_refusals.proofs.Least.{Least, RowHas, To, rule_in, named}
 
@@ -103,7 +103,10 @@ module _ (was : Before) (len type : ℕ) where
             (λ h. breaks 5 (of_one this X86PvP2mFrames _ 5 h (λ e. broken.early_p2m_frames (not-true _ e)))),
             (
               (λ h. let a = and_parts (pv o.kind) _ h in breaks 6 (of_one this PageData _ 6 a.1 (λ e. broken.early_pages (of_pv o.kind a.0) (not-true _ e)))),
-              ((λ h. breaks 7 (of_one this PageData _ 7 h broken.late_pages)), behind),
+              (
+                (λ h. breaks 7 (of_one this PageData _ 7 h broken.late_pages)),
+                ((λ h. breaks 8 (of_one this Verify _ 8 h again)), behind),
+              ),
             ),
           ),
         ),
@@ -113,6 +116,9 @@ module _ (was : Before) (len type : ℕ) where
     where
       breaks : (rule : ℕ) → Breaks o.version o.kind types this rule → Has rule (OutOfOrder rule)
       breaks rule h = has.out_of_order this rule number h
+
+      again : ((earlier_in types).verify || (earlier_in types).vcpu) ≡ true → Breaks o.version o.kind types Verify 8
+      again h = elim (or_cases (earlier_in types).verify (earlier_in types).vcpu h) [ | inl e ↦ broken.second_verify e | inr e ↦ broken.late_verify e ]
 
   long : nat_lt (2 ^ 27) len ≡ true → Has 0 (BodyTooLong len)
   long h = has.too_long (ltb-true (2 ^ 27) len h)
@@ -138,6 +144,8 @@ module _ (was : Before) (len type : ℕ) where
   rule_row _ _ (early_p2m_frames h) = inr (inr (inr (inr (inl (rw h refl, refl)))))
   rule_row _ _ (early_pages v h) = inr (inr (inr (inr (inr (inl (rw (v, h) refl, refl))))))
   rule_row _ _ (late_pages h) = inr (inr (inr (inr (inr (inr (inl (rw h refl, refl)))))))
+  rule_row _ _ (second_verify h) = inr (inr (inr (inr (inr (inr (inr (inl (or_left _ _ h, refl))))))))
+  rule_row _ _ (late_verify h) = inr (inr (inr (inr (inr (inr (inr (inl (or_right _ _ h, refl))))))))
 
   module _ (found : Option RecordType) (is : type_of_number type ≡ found) where
     known : (this : RecordType) → type ≡ type_number this → found ≡ Some this

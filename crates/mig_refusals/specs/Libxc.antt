@@ -18,7 +18,7 @@ use Rattle.mig_headers.specs.declared.fault.Place.TheVariants as places
 use Rattle.mig_headers.specs.declared.kind.Kind.{Kind}
 use Rattle.mig_headers.specs.declared.kind.Kind.TheVariants.{Pv, Hvm}
 use Rattle.mig_headers.specs.declared.record_type.RecordType.{RecordType}
-use Rattle.mig_headers.specs.declared.record_type.RecordType.TheVariants.{PageData, X86PvInfo, X86PvP2mFrames, StaticDataEnd}
+use Rattle.mig_headers.specs.declared.record_type.RecordType.TheVariants.{PageData, Verify, X86PvInfo, X86PvP2mFrames, StaticDataEnd}
 use Rattle.mig_pagetypes.specs.FrameWords.{word_type, word_pfn, word_has_data}
 use Rattle.mig_pagetypes.specs.Limits.{pfn_limit, most_frames}
 use Rattle.mig_pagetypes.specs.PageTypes.{level_of}
@@ -63,6 +63,8 @@ pub data Breaks (version : ℕ) (kind : Kind) (types : List ℕ) : RecordType �
   early_p2m_frames : IsFalse (some_earlier types (X86PvInfo ∷ [])) → Breaks version kind types X86PvP2mFrames 5
   early_pages : kind ≡ Pv → IsFalse (some_earlier types (X86PvP2mFrames ∷ [])) → Breaks version kind types PageData 6
   late_pages : IsTrue (some_earlier types vcpu_records) → Breaks version kind types PageData 7
+  second_verify : IsTrue (some_earlier types (Verify ∷ [])) → Breaks version kind types Verify 8
+  late_verify : IsTrue (some_earlier types vcpu_records) → Breaks version kind types Verify 8
 
 -- a record head with this type and body length ("Records", and the section of each type); an order rule is the place of its cause
 pub data HeadHas (b : Before) (type len : ℕ) : ℕ → Cause → Type 0 where

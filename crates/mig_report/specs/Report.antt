@@ -1,5 +1,5 @@
 -- The lines that the program puts on its report.
-use Rattle.std.specs.Prelude.{◌≡◌, ◌≤◌, ◌⊎◌, ℕ, List, ◌++◌, codes, decimal, Option}
+use Rattle.std.specs.Prelude.{◌≡◌, ◌≤◌, ◌⊎◌, ℕ, List, [], ◌++◌, codes, decimal, Option, Some, None}
 use Rattle.std.specs.Io.KnownBytes.{Appends}
 use Rattle.mig_bytes.specs.Bytes.{AppendsPart}
 use Rattle.mig_bytes.specs.Faults.{Rose}
@@ -43,11 +43,16 @@ abbrev pub kind_name : Kind → List ℕ
 kind_name Pv = codes "pv"
 kind_name Hvm = codes "hvm"
 
--- `ok version V kind K frames N records R`
+-- ` differs D` of a stream with a VERIFY
+abbrev pub differs_text : Option ℕ → List ℕ
+differs_text None = []
+differs_text (Some n) = codes " differs " ++ decimal n
+
+-- `ok version V kind K frames N records R`, and ` differs D` where the stream has a VERIFY
 abbrev pub ok_line : Summary → List ℕ
 ok_line s =
     (codes "ok version " ++ decimal s.version) ++ (codes " kind " ++ (kind_name s.kind
-    ++ ((codes " frames " ++ decimal s.frames) ++ ((codes " records " ++ decimal s.records) ++ codes "\n"))))
+    ++ ((codes " frames " ++ decimal s.frames) ++ ((codes " records " ++ decimal s.records) ++ (differs_text s.differs ++ codes "\n")))))
 
 -- `ok rounds R entries N`
 abbrev pub saved_line : SaveSummary → List ℕ

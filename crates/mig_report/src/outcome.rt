@@ -2,7 +2,7 @@ ghost use Rattle.std.specs.Prelude.{◌≡◌, ◌≤◌, ◌++◌, decimal};
 ghost use Rattle.mig_bytes.specs.Bytes.{Puts};
 ghost use Rattle.mig_bytes.specs.Faults.{HasCause};
 ghost use Rattle.mig_report.specs.Outcome.{status_of, line_of};
-ghost use Rattle.mig_report.specs.Report.{Reports, refusal_line, refusal_text, kind_name, ok_line, saved_line, exercised_line};
+ghost use Rattle.mig_report.specs.Report.{Reports, refusal_line, refusal_text, kind_name, differs_text, ok_line, saved_line, exercised_line};
 ghost use Rattle.mig_report.specs.declared.outcome.Outcome.TheVariants as outcomes;
 ghost use Rattle.mig_report.specs.declared.outcome.Refusal.TheVariants as refusals;
 
@@ -51,6 +51,8 @@ pub struct Summary {
     pub frames: u64,
     /// Its records, with END and the optional ones.
     pub records: u64,
+    /// The entries behind a VERIFY record that differ from the frames before it; none where there is no such record.
+    pub differs: Option<u64>,
 }
 
 /// What is said of a host that was saved live.
@@ -223,6 +225,17 @@ fn put_kind<R: Sink>(report: &mut R, kind: Kind) -> Result<(), WriteFailed>
     }
 }
 
+/// Puts how many entries behind a VERIFY differ, where there is one.
+fn put_differs<R: Sink>(report: &mut R, differs: Option<u64>) -> Result<(), WriteFailed>
+    ensures bytes { Puts (differs_text differs) (R.written report.old) (R.written report.new) result }
+    ensures cause { HasCause (R.faults report.old) (R.faults report.new) result }
+{
+    match differs {
+        Some(count) => put_field(report, b" differs ", count),
+        None => put_all(report, b""),
+    }
+}
+
 /// Puts what an accepted stream is on the report.
 pub fn put_ok<R: Sink>(report: &mut R, summary: Summary) -> Result<(), WriteFailed>
     ensures bytes { Puts (ok_line summary) (R.written report.old) (R.written report.new) result }
@@ -233,6 +246,7 @@ pub fn put_ok<R: Sink>(report: &mut R, summary: Summary) -> Result<(), WriteFail
     put_kind(report, summary.kind)?;
     put_field(report, b" frames ", summary.frames)?;
     put_field(report, b" records ", summary.records)?;
+    put_differs(report, summary.differs)?;
     put_all(report, b"\n")
 }
 

@@ -19,6 +19,7 @@ use Rattle.mig_libxl.specs.Spelled.{AcceptedStream}
 use Rattle.mig_libxl.specs.Stream.{IsStreamRefused}
 use Rattle.mig_legacy.specs.Spelled.{AcceptedLegacy}
 use Rattle.mig_legacy.specs.Stream.{IsLegacyRefused}
+use Rattle.mig_restore.specs.Mean.{differs_of}
 use Rattle.mig_report.specs.declared.command.Command.{Command}
 use Rattle.mig_report.specs.declared.command.Command.TheVariants.{Normalise, Restore, Verify, Convert, Save, Exercise}
 use Rattle.mig_report.specs.declared.outcome.Outcome.{Outcome}
@@ -117,11 +118,11 @@ pub record PartWritten (form : Form) (text : GuestOf → List ℕ) (input : List
   pub left_is : left ≡ Some rest
   pub wrote : AppendsPart old new (text guest)
 
--- what is said of an accepted stream: the version and kind of its image, its guest's number of frames, and the image's
--- number of records
+-- what is said of an accepted stream: the version and kind of its image, its guest's number of frames, the image's number
+-- of records, and how many of its entries behind a VERIFY differ from the frames before it, where it has one
 abbrev pub summary_of : {input : List ℕ} {guest : GuestOf} {rest : List ℕ} → AcceptedStream input guest rest → Summary
 summary_of {input} {guest} {rest} a =
-    record { version = a.image.opening.version; kind = a.image.opening.kind; frames = length (maps.entries guest.frames); records = length a.image.records }
+    record { version = a.image.opening.version; kind = a.image.opening.kind; frames = length (maps.entries guest.frames); records = length a.image.records; differs = differs_of a.image.opening.kind a.image.records }
 
 -- a front of the input is an accepted stream, the rest is left, and the line of it was reported
 pub record Verified (Reported : List ℕ → Type 0) (input : List ℕ) (left : Option (List ℕ)) : Type 0 where

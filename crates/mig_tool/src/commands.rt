@@ -148,6 +148,7 @@ fn verify<S: Source, R: Sink>(alloc: Global, input: &mut S, report: &mut R) -> S
         kind: reading.guest.kind(),
         frames: reading.guest.frames(),
         records: u64::from(reading.records),
+        differs: reading.differs,
     };
     match put_ok(report, summary) {
         Ok(()) => Status::Done,
