@@ -1,5 +1,5 @@
 -- Records of a canonical stream one after another, each in its place.
-use Rattle.mig_canon_laws.proofs.Common.{◌≡◌, ℕ, zero, suc, ◌+◌, ◌*◌, ◌≤◌, ◌<◌, ◌^◌, List, [], ◌∷◌, ◌++◌, length, map, Bool, true, false, nat_eq, Option, Some, None, refl, sym, ap, subst, ◌∙◌, arith, append_assoc, append-nil, length-append, ◌||◌, ◌&&◌, fold, is_some, AllByRecursion, list_any, flat_map, Kind, FrameMap, GuestOf, PartCode, code_number, PartKey, Part, PartMap, IsFormed, shape_of, set_parts, parts_at, canonical_bodies, contents_by_shape, IsRecordBody, part_body, SayAll, Record, records_of, records_in_order, key_of, part_record, vcpu_codes, vcpu_record, records_of_vcpu, vcpus_below, text_of, StreamRecord, Content, types_of, is_ended, Sets, put_content, IsComplete, HasContent, Follows, Spells, one_more_record, flat_map-append, canonical_bodies_say, one_more}
+use Rattle.mig_canon_laws.proofs.Common.{◌≡◌, ℕ, zero, suc, ◌+◌, ◌*◌, ◌≤◌, ◌<◌, ◌^◌, List, [], ◌∷◌, ◌++◌, length, map, Bool, true, false, nat_eq, Option, Some, None, refl, sym, ap, subst, ◌∙◌, arith, append_assoc, append-nil, length-append, ◌||◌, ◌&&◌, fold, is_some, AllByRecursion, list_any, flat_map, Kind, FrameMap, GuestOf, PartCode, code_number, PartKey, Part, PartMap, IsFormed, shape_of, set_parts, parts_at, canonical_bodies, contents_by_shape, IsRecordBody, part_body, SayAll, Record, records_of, records_in_order, key_of, part_record, vcpu_codes, vcpu_record, records_of_vcpu, vcpus_below, text_of, StreamRecord, Content, types_of, is_ended, Checks, Frames, Lists, Nothing, Sets, put_content, IsComplete, HasContent, Follows, Spells, one_more_record, flat_map-append, canonical_bodies_say, one_more}
 use Rattle.std.proofs.lemmas.List.{map-append}
 use Rattle.std.proofs.lemmas.List.Folds.{list_any-append}
 use Rattle.std.specs.FinMap as maps
@@ -24,6 +24,14 @@ abbrev pub guest_with : Kind → ℕ → FrameMap → PartMap → GuestOf
 guest_with kind top frames parts = record { kind = kind; top = top; frames = frames; parts = parts }
 
 -- ---- a record
+
+-- without a VERIFY before it, a record says what its body says
+unplaced : (c : Content) → placed_content false c ≡ c
+unplaced Nothing = refl
+unplaced (Frames es) = refl
+unplaced (Sets code ps) = refl
+unplaced (Lists last frames) = refl
+unplaced (Checks es) = refl
 
 text_more : (bodies : List Record) (type : ℕ) (body : List ℕ) → text_of (bodies ++ (type, body) ∷ []) ≡ text_of bodies ++ spelled type body
 text_more bodies type body = flat_map-append (λ (b : Record). spelled b.0 b.1) bodies ((type, body) ∷ []) ∙ ap (λ l. text_of bodies ++ l) (append-nil (spelled type body))
@@ -106,7 +114,7 @@ module _ {kind : Kind} {bodies : List Record} {g : GuestOf} {stage : Stage} {mos
       is = is_record type body step.small fits.short;
       said = c;
       says = subst (λ (h : GuestOf). HasContent kind h.top type body c) (sym s.means) fits.says;
-      placed = ap (λ (e : Earlier). placed_content e.verify c) (sym s.stands);
+      placed = sym (ap (λ (e : Earlier). placed_content e.verify c) s.stands ∙ unplaced c);
       small = fits.short;
       ordered = (faultless_is_in_order 3 kind (types_of s.records) type).0 in_place;
       few = omega (arith, s.few, room);

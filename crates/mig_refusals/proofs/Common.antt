@@ -131,7 +131,7 @@ pub use Rattle.mig_restore.proofs.Parts.{asks, head_stage, taken}
 unfoldable pub use Rattle.mig_restore.specs.Judging.{fault_of_fields}
 pub use Rattle.mig_restore.specs.Judging.{Before, Opening, before, body_at, code_of_type, coded_at, entries_at, fault_of_data, fault_of_head, fault_of_level, fault_of_number, fault_of_page, lists_of, most_records, next_at, record_at, type_in_word, typed_at, words_at}
 pub use Rattle.mig_restore.specs.Mean.{meant_type, sent}
-pub use Rattle.mig_restore.specs.Record.{Content, FrameEntry, StreamRecord, is_ended}
+pub use Rattle.mig_restore.specs.Record.{Content, FrameEntry, StreamRecord, is_ended, is_verified, placed_content}
 pub use Rattle.mig_restore.specs.Record.Content.{Frames, Nothing, Sets}
 pub use Rattle.mig_restore.specs.Spelled.{Accepted, AreEntries, Follows, IsEntry}
 unfoldable pub use Rattle.mig_restore.specs.Stream.{image_at, opening_at}

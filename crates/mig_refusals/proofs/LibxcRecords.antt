@@ -1,5 +1,5 @@
 -- A record of an image that fails: the part in which it fails, and the parts before it.
-use Rattle.mig_refusals.proofs.Common.{◌≡◌, ◌⊎◌, inl, inr, ℕ, ◌+◌, ◌*◌, ◌/◌, List, [], ◌∷◌, ◌++◌, Bool, true, false, not, nat_eq, zero, suc, drop, length, Option, Some, None, refl, sym, ap, subst, ◌∙◌, arith, append_assoc, eqb-true, not-true, false≢true, le32, Judged, ◌>>=◌, part, tried, Passes, Faulty, part_whole, then_passes, both_pass, part_passes, tried_passes, same_passes, Cause, Kind, common_steps, type_allows, Opening, Before, before, record_at, next_at, body_at, typed_at, coded_at, code_of_type, said_at, entries_at, words_at, fault_of_head, fault_of_data, LibxcPart, PagesTo, IsFaultlessLibxcPart, LibxcPartFails, then_faulty, bind_cases, passes_not, only_first, InPages, body_part, libxc_size, InBody, Within, end_record, padding_len, IsLeastPadding, each, record_row_of, type_number, type_of_number, RecordType, PageData, X86PvInfo, X86PvP2mFrames, GuestOf, PartCode, VcpuBasic, VcpuExtended, VcpuXsave, HvmContext, HvmParam, VcpuMsrs, code_number, is_vcpu, fault_of_vcpu, vcpu_rows, Layout, Shape, Table, Single, Other, entry_width, front_width, fault_of_key, fault_of_entries, entry_count, shape_of, has_shape, fault_by_shape, fault_of_body, parts_of_body, length_passes, neither_some, IsInOrder, words, fault_of_guest, lists_of, sent, StreamRecord, FrameEntry, Content, Sets, behind_body, head_stage, asks, behind_record, taken, behind_good, words_stage, entries_in_place, other_entries, each_stage, coded_is, shaped_code, optional_at, FailsBehind, Truncated, Nothing, Frames, behind_head, behind_words, entry_of, body_says, body_goes, body_type_at, fields_fine}
+use Rattle.mig_refusals.proofs.Common.{◌≡◌, ◌⊎◌, inl, inr, ℕ, ◌+◌, ◌*◌, ◌/◌, List, [], ◌∷◌, ◌++◌, Bool, true, false, not, nat_eq, zero, suc, drop, length, Option, Some, None, refl, sym, ap, subst, ◌∙◌, arith, append_assoc, eqb-true, not-true, false≢true, le32, Judged, ◌>>=◌, part, tried, Passes, Faulty, part_whole, then_passes, both_pass, part_passes, tried_passes, same_passes, Cause, Kind, common_steps, type_allows, Opening, Before, before, record_at, next_at, body_at, typed_at, coded_at, code_of_type, said_at, entries_at, words_at, fault_of_head, fault_of_data, LibxcPart, PagesTo, IsFaultlessLibxcPart, LibxcPartFails, then_faulty, bind_cases, passes_not, only_first, InPages, body_part, libxc_size, InBody, Within, end_record, padding_len, IsLeastPadding, each, record_row_of, type_number, type_of_number, RecordType, PageData, X86PvInfo, X86PvP2mFrames, GuestOf, PartCode, VcpuBasic, VcpuExtended, VcpuXsave, HvmContext, HvmParam, VcpuMsrs, code_number, is_vcpu, fault_of_vcpu, vcpu_rows, Layout, Shape, Table, Single, Other, entry_width, front_width, fault_of_key, fault_of_entries, entry_count, shape_of, has_shape, fault_by_shape, fault_of_body, parts_of_body, length_passes, neither_some, IsInOrder, words, fault_of_guest, lists_of, sent, StreamRecord, FrameEntry, Content, is_verified, placed_content, Sets, behind_body, head_stage, asks, behind_record, taken, behind_good, words_stage, entries_in_place, other_entries, each_stage, coded_is, shaped_code, optional_at, FailsBehind, Truncated, Nothing, Frames, behind_head, behind_words, entry_of, body_says, body_goes, body_type_at, fields_fine}
 use Rattle.mig_guest.proofs.PartRows.{number_found}
 use Rattle.mig_order.specs.Order.{IsInOrder as order}
 use Rattle.mig_refusals.specs.Libxc.LibxcPart.{Head, PagesFront, PagesWords, PagesLength, Page, InfoBody, P2mBody, OtherBody, Padding, WholeGuest}
@@ -214,7 +214,7 @@ module _ (b : Before) where
   kind = b.opening.kind
 
   abbrev behind_it : List ℕ → List ℕ → Judged Cause StreamRecord
-  behind_it h r = behind_head kind b.top (h, r)
+  behind_it h r = behind_head b (h, r)
 
   pub head_goes : (head mid : List ℕ) → IsFaultlessLibxcPart (Head b) head → record_at b (head ++ mid) ≡ behind_it head mid
   head_goes head mid f = head_stage b (head ++ mid) ∙ stage_passes (tries (Head b)) behind_it head mid f
@@ -225,12 +225,12 @@ module _ (b : Before) where
   down _ _ left c rest at_head h = head_stage b left ∙ stage_fails (tries (Head b)) behind_it left c rest h
   down _ _ left c rest (in_body head front p f w) h =
       ap (record_at b) (append_assoc head front left) ∙ head_goes head (front ++ left) f
-      ∙ then_faulty (body_at kind b.top (le32 head 0) (le32 head 4) (front ++ left)) (behind_body head) c rest
+      ∙ then_faulty (body_at kind b.top (le32 head 0) (le32 head 4) (front ++ left)) (behind_body b head) c rest
       (body_down kind b.top (le32 head 4) (le32 head 0) front p left c rest (fields_fine b (le32 head 0) (le32 head 4) (fine (tries (Head b)) head f)).allowed w h)
   down _ _ left c rest (at_padding head body content n f size says pads) h =
       ap (record_at b) (append_assoc head body left) ∙ head_goes head (body ++ left) f
-      ∙ then_passes (body_at kind b.top (le32 head 0) (le32 head 4) (body ++ left)) (behind_body head) content left _ (body_goes kind b.top (le32 head 0) (le32 head 4) body left content says size)
-      (stage_fails (tries (Padding (padding_len (le32 head 4)))) (λ _ r. Passes (record { type = le32 head 0; content = content }) r) left c rest (subst (λ m. LibxcPartFails (Padding m) left c rest) (padding_is (le32 head 4) n pads) h))
+      ∙ then_passes (body_at kind b.top (le32 head 0) (le32 head 4) (body ++ left)) (behind_body b head) content left _ (body_goes kind b.top (le32 head 0) (le32 head 4) body left content says size)
+      (stage_fails (tries (Padding (padding_len (le32 head 4)))) (λ _ r. Passes (record { type = le32 head 0; content = placed_content (is_verified b.types) content }) r) left c rest (subst (λ m. LibxcPartFails (Padding m) left c rest) (padding_is (le32 head 4) n pads) h))
 
   -- a record fails: one of its parts does, and none before it
   pub up : (i : List ℕ) (c : Cause) (rest : List ℕ) → record_at b i ≡ Faulty c rest → FailsBehind (Within b) LibxcPartFails i c rest
@@ -243,13 +243,13 @@ module _ (b : Before) where
         let len = le32 head 4 in
         let f = a.is_faultless in
         let fields = fields_fine b type len (fine (tries (Head b)) head f) in
-        elim (bind_cases (body_at kind b.top type len a.mid) (behind_body head) c rest a.after) [
+        elim (bind_cases (body_at kind b.top type len a.mid) (behind_body b head) c rest a.after) [
           | inl e ↦ found_behind (InBody kind b.top len type) (Within b) head a.mid i c rest a.whole (λ front p w. in_body head front p f w)
               (body_up kind b.top len a.mid c rest b.opening.version b.types type fields.ordered fields.allowed e)
           | inr e ↦
               let s = body_says b.opening.version kind b.top b.types type len a.mid e.0 e.1 fields.ordered fields.allowed e.2 in
               found_next (Within b) (Padding (padding_len len)) (head ++ s.body) e.1 i c rest (a.whole ∙ ap (λ l. head ++ l) s.whole ∙ sym (append_assoc head s.body e.1))
-              (at_padding head s.body e.0 (padding_len len) f s.body_len s.says (is_padding len)) (said_fails (tries (Padding (padding_len len))) (λ _. record { type = type; content = e.0 }) e.1 c rest e.3)
+              (at_padding head s.body e.0 (padding_len len) f s.body_len s.says (is_padding len)) (said_fails (tries (Padding (padding_len len))) (λ _. record { type = type; content = placed_content (is_verified b.types) e.0 }) e.1 c rest e.3)
         ]
   ]
 
@@ -262,7 +262,7 @@ module _ (b : Before) where
       let len = le32 head 4 in
       let none : len ≡ 0 = eqb-true len 0 (subst (λ t. type_allows (type_of_number t) len ≡ true) is_end (fields_fine b (le32 head 0) len (fine (tries (Head b)) head f)).allowed) in
       head_goes head left f
-      ∙ ap (λ t. body_at kind b.top t len left >>= λ body. part Truncated (padding_len len) body.1 >>= λ padding. Passes (record { type = t; content = body.0 }) padding.1) is_end
+      ∙ ap (λ t. body_at kind b.top t len left >>= λ body. part Truncated (padding_len len) body.1 >>= λ padding. Passes (record { type = t; content = placed_content (is_verified b.types) body.0 }) padding.1) is_end
       ∙ ap (λ n. part Truncated (padding_len n) left >>= λ padding. Passes end_record padding.1) none
       ∙ then_passes (part Truncated 0 left) (λ padding. Passes end_record padding.1) [] left _ (part_whole Truncated 0 [] left refl) refl
 
@@ -280,8 +280,8 @@ module _ (b : Before) where
       let a = taken 8 (fault_of_head b) behind_it i r mid (sym (head_stage b i) ∙ h) in
       let head = a.bytes in
       let f = faultless (tries (Head b)) head a.size a.fine in
-      let body = both_pass (body_at kind b.top (le32 head 0) (le32 head 4) a.mid) (behind_body head) r mid a.after in
-      let padding = both_pass (part Truncated (padding_len (le32 head 4)) body.mid) (λ padding. Passes (record { type = le32 head 0; content = body.x }) padding.1) r mid body.second in
+      let body = both_pass (body_at kind b.top (le32 head 0) (le32 head 4) a.mid) (behind_body b head) r mid a.after in
+      let padding = both_pass (part Truncated (padding_len (le32 head 4)) body.mid) (λ padding. Passes (record { type = le32 head 0; content = placed_content (is_verified b.types) body.x }) padding.1) r mid body.second in
       let type_is : le32 head 0 ≡ 0 = ap (λ (q : StreamRecord). q.type) (same_passes _ _ _ _ padding.second).0 ∙ is_end in
       let same = same_passes _ _ _ _ (sym h ∙ ap (record_at b) a.whole ∙ end_passes head a.mid f type_is) in
       record { head = head; whole = a.whole ∙ ap (λ l. head ++ l) (sym same.1); faultless_head = f; zero = type_is; is = same.0 }
