@@ -5,12 +5,15 @@ use Rattle.std.proofs.lemmas.Bool.{or_parts, and_parts}
 use Rattle.std.proofs.lemmas.Slice.Eq.{bytes_eq-Decides}
 use Rattle.std.proofs.lemmas.List.{append-nil}
 use Rattle.std.proofs.lemmas.List.Elements.{All-nil, All-cons, All-head, All-tail}
-use Rattle.mig_headers.specs.declared.record_type.RecordType.TheVariants.{Verify}
+use Rattle.mig_headers.specs.declared.record_type.RecordType.TheVariants.{PageData, Verify}
 use Rattle.mig_pagetypes.specs.PageTypes.{number_of, type_of}
 use Rattle.mig_pagetypes.proofs.Numbers.{type_back}
 use Rattle.mig_guest.specs.Frames.{FrameMap}
 use Rattle.mig_bytes.specs.Sequences.Spells.{no_part, one_more}
+use Rattle.mig_records.specs.Records.{IsRecord}
+use Rattle.mig_restore.specs.Judging.{code_of_type}
 use Rattle.mig_restore.specs.Mean.{sent, differs_of, is_same_page, is_same_frame}
+use Rattle.mig_restore.specs.Spelled.{IsBatch}
 use Rattle.mig_restore.specs.Spelled.HasContent.{optional as has_optional, ends, pages, sets, info, p2m_frames, static_end, verify}
 use Rattle.mig_restore.proofs.Compared.{placed_so, some_differs, verified_join, checked_join, entries_join}
 use Rattle.mig_restore.proofs.Meaning.{sent_frames}
@@ -161,6 +164,43 @@ none_checked (r ∷ rs) (first, more) none =
     let both = or_parts (nat_eq r.type 0xD || false) (is_verified (types_of rs)) none in
     let other = (or_parts (nat_eq r.type 0xD) false both.0).0 in
     ap (λ l. l ++ checked_of rs) (first.checks refl) ∙ none_checked rs (subst (λ b. AreInPlace b rs) other more) both.1
+
+-- ---- a PAGE_DATA
+
+-- what its body says is a batch of frames
+of_pages : (kind : Kind) (top type : ℕ) (body : List ℕ) (c : Content) → HasContent kind top type body c → type ≡ 1 → (es : List FrameEntry) × (c ≡ Frames es) × IsBatch kind top body es
+of_pages kind top _ _ _ (has_optional type body above) is = absurd (let no : 2 ^ 31 ≤ 1 = subst (λ n. 2 ^ 31 ≤ n) is above in omega (arith, no))
+of_pages kind top _ _ _ ends is = absurd (omega (arith, is))
+of_pages kind top _ _ _ (pages body es batch) is = (es, refl, batch)
+of_pages kind top _ _ _ (sets this code body ps coded allowed says) is =
+    let this_is : this ≡ PageData = same_Some this PageData (sym (numbers_are_inverse.type_of this) ∙ ap type_of_number is ∙ numbers_are_inverse.type_of PageData) in
+    let none : code_of_type PageData ≡ Some code = ap code_of_type (sym this_is) ∙ coded in
+    absurd (cc)
+of_pages kind top _ _ _ (info body eight says) is = absurd (omega (arith, is))
+of_pages kind top _ _ _ (p2m_frames last frames body says) is = absurd (omega (arith, is))
+of_pages kind top _ _ _ static_end is = absurd (omega (arith, is))
+of_pages kind top _ _ _ verify is = absurd (omega (arith, is))
+
+some_verify : (records : List StreamRecord) (b : Bool) → is_verified (types_of records) ≡ b → (All (λ q. q.type ≢ 0xD) records → ⊥) → is_verified (types_of records) ≡ true
+some_verify records true is some = is
+some_verify records false is some = absurd (some (none_is records is))
+
+-- its entries are sent where no VERIFY is before it, and compared where one is
+pub sent_or_compared : (o : Opening) (records : List StreamRecord) (r : StreamRecord) (bytes : List ℕ) → Follows o records r bytes → r.type ≡ 1
+    → (body : List ℕ) × (es : List FrameEntry) × IsRecord 1 body bytes × IsBatch o.kind (sent o.kind records).top body es
+    × (All (λ q. q.type ≢ 0xD) records → (entries_in r.content ≡ es) × (checked_in r.content ≡ []))
+    × ((All (λ q. q.type ≢ 0xD) records → ⊥) → (entries_in r.content ≡ []) × (checked_in r.content ≡ es))
+sent_or_compared o records r bytes f is =
+    let p = of_pages o.kind (sent o.kind records).top r.type f.body f.said f.says is in
+    let es = p.0 in
+    let content : (b : Bool) → is_verified (types_of records) ≡ b → r.content ≡ placed_content b (Frames es) = λ b verified. f.placed ∙ ap (placed_content (is_verified (types_of records))) p.1 ∙ ap (λ v. placed_content v (Frames es)) verified in (
+      f.body,
+      es,
+      subst (λ n. IsRecord n f.body bytes) is f.is,
+      p.2,
+      (λ none. let c = content false (all_others records none) in (ap entries_in c, ap checked_in c)),
+      (λ some. let c = content true (some_verify records (is_verified (types_of records)) refl some) in (ap entries_in c, ap checked_in c)),
+    )
 
 -- ---- an image with a VERIFY
 

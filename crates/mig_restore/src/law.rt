@@ -1,4 +1,4 @@
-ghost use Rattle.std.specs.Prelude.{◌≡◌, ◌≢◌, ◌≤◌, ◌⊎◌, ◌↔◌, ◌∷◌, ◌++◌, ℕ, List, option_and_then, unwrap_or, true, Some, None};
+ghost use Rattle.std.specs.Prelude.{◌≡◌, ◌≢◌, ◌≤◌, ◌⊎◌, ◌↔◌, [], ◌∷◌, ◌++◌, ℕ, List, option_and_then, unwrap_or, true, Some, None};
 ghost use Rattle.std.specs.List.{All, Contains};
 ghost use Rattle.std.specs.FinMap as maps;
 ghost use Rattle.mig_bytes.specs.Bytes.{AreBytes};
@@ -15,8 +15,9 @@ ghost use Rattle.mig_pvtables.specs.Whole.{IsWhole};
 ghost use Rattle.mig_guest.specs.declared.part_key.PartKey.{PartKey};
 ghost use Rattle.mig_restore.specs.Judging.{Opening};
 ghost use Rattle.mig_restore.specs.Record.{FrameEntry, StreamRecord};
-ghost use Rattle.mig_restore.specs.Mean.{sent, last_entry, frame_in, entries_of, last_said, last_listed, ends_of, checked_of, agrees, differing, differs_of};
-ghost use Rattle.mig_restore.specs.Spelled.{IsImage, Accepted};
+ghost use Rattle.mig_restore.specs.Mean.{sent, last_entry, frame_in, entries_in, entries_of, last_said, last_listed, ends_of, checked_in, checked_of, agrees, differing, differs_of};
+ghost use Rattle.mig_records.specs.Records.{IsRecord};
+ghost use Rattle.mig_restore.specs.Spelled.{IsBatch, Follows, IsImage, Accepted};
 ghost use Rattle.mig_bytes.specs.Judged.Judged.{Passes};
 ghost use Rattle.mig_restore.specs.Stream.{image_at, image_of, IsRefused};
 
@@ -92,6 +93,14 @@ pub fn greatest_end_decides()
 #[tactic(auto, using(crate::proofs::VerifyLaws::entry_agrees))]
 pub fn entry_agrees()
     ensures { (kind : Kind) (frames : FrameMap) (e : FrameEntry) → (agrees kind frames e ≡ true) ↔ (maps.get frames e.pfn ≡ frame_in kind e) }
+{}
+
+/// The entries that the body of a PAGE_DATA has are sent where no record before it is a VERIFY, and compared where one is.
+pub fn page_data_is_sent_or_compared()
+    ensures { (o : Opening) (records : List StreamRecord) (r : StreamRecord) (bytes : List ℕ) → Follows o records r bytes → r.type ≡ 1 →
+        (body : List ℕ) × (es : List FrameEntry) × IsRecord 1 body bytes × IsBatch o.kind (sent o.kind records).top body es
+        × (All (λ q. q.type ≢ 0xD) records → (entries_in r.content ≡ es) × (checked_in r.content ≡ []))
+        × ((All (λ q. q.type ≢ 0xD) records → ⊥) → (entries_in r.content ≡ []) × (checked_in r.content ≡ es)) }
 {}
 
 /// Of an image with a VERIFY the entries before it are those that are sent, and the entries behind it those that are
