@@ -1,8 +1,9 @@
 ghost use Rattle.std.proofs.Common.{◌∙◌};
-ghost use Rattle.std.specs.Prelude.{refl, ◌≡◌, ◌+◌, ◌/◌, ◌<◌, length, OnOk, OnErr};
+ghost use Rattle.std.specs.Prelude.{refl, ◌≡◌, ◌+◌, ◌/◌, ◌<◌, length, IfOk, IfSome, OnOk, OnErr};
 ghost use Rattle.mig_bytes.specs.Faults.{HasCause};
+ghost use Rattle.mig_guest.specs.Hosts.{pfn_in};
 ghost use Rattle.mig_machine.specs.MachineSeen.{machine_state, course_of};
-ghost use Rattle.mig_machine_api.specs.MachineCalls.{LogTaken};
+ghost use Rattle.mig_machine_api.specs.MachineCalls.{seen_at, page_peeked, Peeked, LookedUp, LogTaken, Paused};
 ghost use Rattle.mig_machine_api.specs.MachineStates.{IsValidState, Stays};
 ghost use Rattle.mig_machine_api.specs.Pfns.{Pfns, pfns_of_words};
 ghost use Rattle.mig_faulty.specs.Forgetful.{forgetful_state, without_pfns, IsLaterForgetful};
@@ -80,11 +81,37 @@ impl Machine for ForgetfulMachine {
         self.inner.part(key)
     }
 
-    fn peek(&mut self, pfn: u64, page: &mut [u8; 4096]) -> Result<Seen, Failed> {
+    /// What the machine inside has at this frame number.
+    fn peek(&mut self, pfn: u64, page: &mut [u8; 4096]) -> Result<Seen, Failed>
+        requires { pfn < (forgetful_state self.old).host.width }
+        ensures seen { IfOk result (λ seen. seen ≡ seen_at (forgetful_state self.new).host.frames pfn) }
+        ensures page { OnOk result (page.new ≡ page_peeked (forgetful_state self.new).host.frames pfn page.old) }
+        ensures kept { OnErr result (page.new ≡ page.old) }
+        ensures ok { OnOk result (Peeked pfn (forgetful_state self.old) (forgetful_state self.new)) }
+        ensures err { OnErr result (Stays (forgetful_state self.old) (forgetful_state self.new)) }
+        ensures valid { IsValidState (forgetful_state self.new) }
+        ensures later { IsLaterForgetful self.old self.new }
+        ensures cause { HasCause 0 0 result }
+
+        // It is the call of the machine inside, which logs what its guest changed.
+        ensures inner { OnOk result (Peeked pfn (machine_state self.old.inner) (machine_state self.new.inner)) }
+    {
         self.inner.peek(pfn, page)
     }
 
-    fn pfn_of(&mut self, mfn: u64) -> Result<Option<u64>, Failed> {
+    /// The frame number that has this machine frame in the machine inside.
+    fn pfn_of(&mut self, mfn: u64) -> Result<Option<u64>, Failed>
+        ensures answer { IfOk result (λ pfn. pfn ≡ pfn_in (forgetful_state self.new).host.frames mfn) }
+        ensures inside { IfOk result (λ pfn. IfSome pfn (λ p. p < (forgetful_state self.new).host.width)) }
+        ensures ok { OnOk result (LookedUp (forgetful_state self.old) (forgetful_state self.new)) }
+        ensures err { OnErr result (Stays (forgetful_state self.old) (forgetful_state self.new)) }
+        ensures valid { IsValidState (forgetful_state self.new) }
+        ensures later { IsLaterForgetful self.old self.new }
+        ensures cause { HasCause 0 0 result }
+
+        // It is the call of the machine inside, which logs what its guest changed.
+        ensures inner { OnOk result (LookedUp (machine_state self.old.inner) (machine_state self.new.inner)) }
+    {
         self.inner.pfn_of(mfn)
     }
 
@@ -106,7 +133,17 @@ impl Machine for ForgetfulMachine {
         Ok(())
     }
 
-    fn pause(&mut self) -> Result<(), Failed> {
+    /// Stops the guest of the machine inside.
+    fn pause(&mut self) -> Result<(), Failed>
+        ensures ok { OnOk result (Paused (forgetful_state self.old) (forgetful_state self.new)) }
+        ensures err { OnErr result (Stays (forgetful_state self.old) (forgetful_state self.new)) }
+        ensures valid { IsValidState (forgetful_state self.new) }
+        ensures later { IsLaterForgetful self.old self.new }
+        ensures cause { HasCause 0 0 result }
+
+        // It is the call of the machine inside, which logs what its guest changed.
+        ensures inner { OnOk result (Paused (machine_state self.old.inner) (machine_state self.new.inner)) }
+    {
         self.inner.pause()
     }
 
