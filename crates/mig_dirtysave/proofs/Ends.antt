@@ -1,6 +1,7 @@
 -- What a save has written where it stopped early.
 use Rattle.std.proofs.Common.{◌≡◌, ℕ, ◌+◌, ◌≤◌, Bool, true, false, List, [], ◌∷◌, ◌++◌, length, take, map, Option, refl, sym, ap, subst, ◌∙◌, arith, append_assoc, append-nil}
 use Rattle.std.proofs.Common.{inl, inr}
+use Rattle.std.specs.List.{AllByRecursion}
 use Rattle.std.specs.Io.KnownBytes.{Appends, append_known}
 use Rattle.std.proofs.KnownBytes.{Appends-trans}
 use Rattle.mig_bytes.specs.Bytes.{AppendsPart}
@@ -15,7 +16,7 @@ use Rattle.mig_canon.proofs.Spelling.{text_join, text_one}
 use Rattle.mig_libxl.specs.Canon.{has_emulators, is_of_converter, opening_text, wrapper_opening, wrapper_closing}
 use Rattle.mig_libxl.proofs.Around.{opening_none, opening_some}
 use Rattle.mig_pagesink.specs.Told.{FrameTold, telling_record, all_told}
-use Rattle.mig_pagesink.specs.Written.{WroteAll, WroteSome}
+use Rattle.mig_pagesink.specs.Written.{WroteAll, WroteSome, IsRecordWithin, AreRecordsWithin}
 use Rattle.mig_pagesink.specs.Batches.{IsBehind}
 use Rattle.mig_pagesink.proofs.Written.{all_behind, some_behind}
 use Rattle.mig_machine_api.specs.History.{History, no_history}
@@ -101,17 +102,22 @@ split before pages behind more =
     ap (λ rs. text_of rs ++ more) (sym (append_assoc before pages behind)) ∙ ap (λ l. l ++ more) (text_join (before ++ pages) behind)
     ∙ append_assoc (text_of (before ++ pages)) (text_of behind) more
 
+in_front : (P : Record → Type 0) (rs ss : List Record) → AllByRecursion P (rs ++ ss) → AllByRecursion P rs
+in_front P [] ss all = tt
+in_front P (r ∷ rs) ss all = (all.0, in_front P rs ss all.1)
+
 module _ (old new : Option (List ℕ)) (parts : PartMap) (start opened : Option (List ℕ)) (kind : Kind) (before : List Record) (batches : List (List FrameTold)) (behind : List Record) where
   abbrev pages : List Record
   pages = map telling_record batches
 
   most : (n : ℕ) (more : List ℕ) → Appends old start (wrapper_opening parts) → Appends start opened (headers kind) → Appends opened new (text_of (before ++ (pages ++ behind)) ++ more)
-      → n ≤ length (all_told batches) + 1024 → WroteMost old new parts n
-  most n more a heads wrote few = record {
+      → AreRecordsWithin (before ++ (pages ++ behind)) → n ≤ length (all_told batches) + 1024 → WroteMost old new parts n
+  most n more a heads wrote within few = record {
     kind = kind;
     before = before;
     batches = batches;
     rest = text_of behind ++ more;
+    within = in_front IsRecordWithin (before ++ pages) behind (subst AreRecordsWithin (sym (append_assoc before pages behind)) within);
     appended = subst (λ l. Appends old new (wrapper_opening parts ++ (headers kind ++ l))) (split before pages behind more) (Appends-trans old start new _ _ a (Appends-trans start opened new _ _ heads wrote));
     few = few;
   }
@@ -119,9 +125,9 @@ module _ (old new : Option (List ℕ)) (parts : PartMap) (start opened : Option 
 pub stopped_behind : (old new : Option (List ℕ)) (parts : PartMap) (n : ℕ) → Stopped old new parts n → IsLittleBehind old new parts n
 stopped_behind old new parts n (before_image p few) = inl few
 stopped_behind old new parts n (in_headers start kind a p few) = inl few
-stopped_behind old new parts n (in_image start a w) = inr (most old new parts start w.opened w.kind w.before w.batches w.behind n _ a w.heads w.wrote.appended w.few)
+stopped_behind old new parts n (in_image start a w) = inr (most old new parts start w.opened w.kind w.before w.batches w.behind n _ a w.heads w.wrote.appended w.wrote.within w.few)
 stopped_behind old new parts n (behind_image start ended rs a some w p) =
-    inr (most old new parts start w.opened w.kind w.before w.batches w.behind n _ a w.heads (Appends-trans w.opened w.full new _ _ w.wrote.appended (Appends-trans w.full ended new _ _ w.last p.appended)) w.few)
+    inr (most old new parts start w.opened w.kind w.before w.batches w.behind n _ a w.heads (Appends-trans w.opened w.full new _ _ w.wrote.appended (Appends-trans w.full ended new _ _ w.last p.appended)) w.wrote.within w.few)
 
 -- nothing was read yet
 pub nothing_read : (width : ℕ) (h : History) → h ≡ no_history → total width h ≡ 0

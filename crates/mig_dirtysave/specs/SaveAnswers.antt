@@ -8,6 +8,7 @@ use Rattle.mig_headers.specs.declared.unsound.Unsound.{Unsound}
 use Rattle.mig_guest.specs.Parts.{PartMap}
 use Rattle.mig_canon.specs.Canon.{Record, headers, text_of}
 use Rattle.mig_pagesink.specs.Told.{FrameTold, telling_record, all_told}
+use Rattle.mig_pagesink.specs.Written.{AreRecordsWithin}
 use Rattle.mig_hosted.specs.View.{view}
 use Rattle.mig_libxl.specs.Canon.{wrapper_opening, wrapper_closing}
 use Rattle.mig_libxl.specs.Spelled.{AcceptedStream}
@@ -56,12 +57,13 @@ pub record SaveWritten (old new : Option (List ℕ)) (t : MachineState) : Type 0
   pub means : t.honest ≡ true → (rest : List ℕ) → AcceptedStream (text ++ rest) (view t.host) rest
 
 -- What was written from old to new of a host with these parts begins, behind what stands before the image, with headers and
--- whole records, some of which are those of batches. Of n entries at most 1024 stand in none of them.
+-- whole records that a reader may take, some of which are those of batches. Of n entries at most 1024 stand in none of them.
 pub record WroteMost (old new : Option (List ℕ)) (parts : PartMap) (n : ℕ) : Type 0 where
   pub kind : Kind
   pub before : List Record
   pub batches : List (List FrameTold)
   pub rest : List ℕ
+  pub within : AreRecordsWithin (before ++ map telling_record batches)
   pub appended : Appends old new (wrapper_opening parts ++ (headers kind ++ (text_of (before ++ map telling_record batches) ++ rest)))
   pub few : n ≤ length (all_told batches) + 1024
 
