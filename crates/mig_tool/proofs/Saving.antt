@@ -6,6 +6,7 @@ use mathlib.Core.Logic.{inl, inr}
 use mathlib.Core.List.{append-nil}
 use Rattle.std.specs.Io.KnownBytes.{Appends}
 use Rattle.mig_bytes.specs.Bytes.{AppendsPart}
+use Rattle.mig_bytes.specs.Faults.{Rose}
 use Rattle.mig_bytes.specs.declared.part.Stop.{Stop}
 use Rattle.mig_bytes.specs.declared.part.Stop.TheVariants as stops
 use Rattle.mig_bytes.specs.Judged.Judged.{Passes}
@@ -29,7 +30,7 @@ use Rattle.mig_report.specs.declared.outcome.Outcome.TheVariants as outcomes
 use Rattle.mig_report.specs.declared.outcome.SaveSummary.{SaveSummary}
 use Rattle.mig_report.specs.declared.status.Status.{Status}
 use Rattle.mig_report.specs.declared.status.Status.TheVariants as statuses
-use Rattle.mig_tool.specs.Answers.{NamesRefusal, RefusesPause}
+use Rattle.mig_tool.specs.Answers.{NamesRefusal, RefusesPause, BreaksOff}
 use Rattle.mig_tool.specs.Answers.Form.{ImageAndScript}
 use Rattle.mig_tool.specs.LiveSaves.{HasHostAndScript, WroteLive}
 use Rattle.mig_tool.specs.SaveSteps.{StopsAt, ReadsHostToSave, ReadsHostAndScript, stop_of_script, outcome_of_stop, ComesToNone}
@@ -97,6 +98,18 @@ refuses_pause told left read (outcomes.Refused (refusals.Pause unsound)) status 
 refuses_pause told left read outcomes.WriteFault status old new before now h why is put refused = let e : statuses.WriteFault ≡ statuses.Refused = sym is ∙ refused in absurd cc
 refuses_pause told left read outcomes.Memory status old new before now h why is put refused = let e : statuses.Memory ≡ statuses.Refused = sym is ∙ refused in absurd cc
 refuses_pause told left read _ status old new before now h why is put refused = absurd why
+
+no_failure : (w : Written) (out out_now report report_now : ℕ) (status other : Status) → status ≡ other → status ≡ statuses.WriteFault → (other ≡ statuses.WriteFault → ⊥) → BreaksOff w out out_now report report_now
+no_failure w out out_now report report_now status other is failed unlike = absurd (unlike (sym is ∙ failed))
+
+pub broke_off : (w : Written) (outcome : Outcome) (status : Status) (out out_now report report_now : ℕ) → status ≡ status_of outcome → status ≡ statuses.WriteFault → (outcome ≡ outcomes.WriteFault → Rose out out_now)
+    → WroteNoStream w.out_old w.out_new → Reports (line_of outcome) w.report_old w.report_new report report_now → BreaksOff w out out_now report report_now
+broke_off w outcomes.WriteFault status out out_now report report_now is failed rose none line = inl (record { rose = rose refl; no_stream = none; line = line })
+broke_off w outcomes.Done status out out_now report report_now is failed rose none line = no_failure w out out_now report report_now status statuses.Done is failed (λ e. cc)
+broke_off w (outcomes.Refused refusal) status out out_now report report_now is failed rose none line = no_failure w out out_now report report_now status statuses.Refused is failed (λ e. cc)
+broke_off w outcomes.Usage status out out_now report report_now is failed rose none line = no_failure w out out_now report report_now status statuses.Usage is failed (λ e. cc)
+broke_off w outcomes.ReadFault status out out_now report report_now is failed rose none line = no_failure w out out_now report report_now status statuses.ReadFault is failed (λ e. cc)
+broke_off w outcomes.Memory status out out_now report report_now is failed rose none line = no_failure w out out_now report report_now status statuses.Memory is failed (λ e. cc)
 
 -- ---- a stream was written
 

@@ -230,9 +230,24 @@ NamesRefusal form (Some input) refusal = (rest : List ℕ) × RefusedIn form inp
 abbrev pub RefusesPause : Option (List ℕ) → Option (List ℕ) → Option (List ℕ) → ℕ → ℕ → Type 0
 RefusesPause told old new before now = (unsound : Unsound) × NamesRefusal ImageAndScript told (refusals.Pause unsound) × Reports (refusal_line (refusals.Pause unsound)) old new before now
 
--- a write of the output failed, and no front of what was written is an accepted stream; or one of the report failed
-abbrev pub BreaksOff : Option (List ℕ) → Option (List ℕ) → ℕ → ℕ → ℕ → ℕ → Type 0
-BreaksOff old new out out_now report report_now = (Rose out out_now × WroteNoStream old new) ⊎ Rose report report_now
+-- a write of the output failed, no front of what was written is an accepted stream, and the report got the line of that
+pub record OutputBroke (w : Written) (out out_now report report_now : ℕ) : Type 0 where
+  pub rose : Rose out out_now
+  pub no_stream : WroteNoStream w.out_old w.out_new
+  pub line : Reports write_fault_line w.report_old w.report_new report report_now
+
+-- the stream of a host and a script was written whole, and of its line a part was reported, since a write of the report failed
+pub record ReportBroke (w : Written) (out out_now report report_now : ℕ) : Type 0 where
+  pub host : HostOf
+  pub lines : List LineOf
+  pub summary : SaveSummary
+  pub wrote : WroteLive host lines w.out_old w.out_new summary
+  pub quiet : out_now ≡ out
+  pub rose : Rose report report_now
+  pub reported : AppendsPart w.report_old w.report_new (saved_line summary)
+
+abbrev pub BreaksOff : Written → ℕ → ℕ → ℕ → ℕ → Type 0
+BreaksOff w out out_now report report_now = OutputBroke w out out_now report report_now ⊎ ReportBroke w out out_now report report_now
 
 -- status 0 of `normalise`, `restore` and `convert` has none
 abbrev pub IsLine : Form → Option (List ℕ) → Status → List ℕ → Type 0

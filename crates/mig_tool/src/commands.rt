@@ -171,7 +171,7 @@ pub(crate) fn carry_out<S: Source, K: Sink, R: Sink>(
     ensures kept { result ≢ statuses.Done → result ≢ statuses.WriteFault → (command ≡ commands.Save → result ≢ statuses.Refused) → out.new ≡ out.old }
     ensures kept_refused { command ≡ commands.Save → result ≡ statuses.Refused → (out.new ≡ out.old) ⊎ RefusesPause (S.left input.old) (R.written report.old) (R.written report.new) (R.faults report.old) (R.faults report.new) }
     ensures no_stream { command ≡ commands.Save → result ≡ statuses.Refused → WroteNoStream (K.written out.old) (K.written out.new) }
-    ensures breaks { command ≡ commands.Save → result ≡ statuses.WriteFault → BreaksOff (K.written out.old) (K.written out.new) (K.faults out.old) (K.faults out.new) (R.faults report.old) (R.faults report.new) }
+    ensures breaks { command ≡ commands.Save → result ≡ statuses.WriteFault → BreaksOff (record { out_old = K.written out.old; out_new = K.written out.new; report_old = R.written report.old; report_new = R.written report.new }) (K.faults out.old) (K.faults out.new) (R.faults report.old) (R.faults report.new) }
     ensures untouched { LeavesOut command → out.new ≡ out.old }
     ensures exercised { (seed n : ℕ) → command ≡ commands.Exercise seed n → (input.new ≡ input.old) × SaysExercise seed n (R.written report.old) (R.written report.new) result }
     ensures read { InputRises result (S.faults input.old) (S.faults input.new) }

@@ -70,11 +70,11 @@ pub fn run<S: Source, K: Sink, R: Sink>(
         → (out.new ≡ out.old) ⊎ RefusesPause (S.left input.old) (R.written report.old) (R.written report.new) (R.faults report.old) (R.faults report.new) }
     ensures untouched { (command : Command) → Names (texts_of words.now) command → LeavesOut command → out.new ≡ out.old }
 
-    // Where `save` is refused, no front of what was written is an accepted stream. Nor is one where a write of `out` failed;
-    // else, with status 4, one of the report failed.
+    // Where `save` is refused, no front of what was written is an accepted stream. Nor is one where a write of `out` failed,
+    // of which the report got the line; else, with status 4, a whole stream was written, and one of the report failed.
     ensures no_stream { Names (texts_of words.now) commands.Save → result ≡ statuses.Refused → WroteNoStream (K.written out.old) (K.written out.new) }
     ensures breaks { Names (texts_of words.now) commands.Save → result ≡ statuses.WriteFault
-        → BreaksOff (K.written out.old) (K.written out.new) (K.faults out.old) (K.faults out.new) (R.faults report.old) (R.faults report.new) }
+        → BreaksOff (record { out_old = K.written out.old; out_new = K.written out.new; report_old = R.written report.old; report_new = R.written report.new }) (K.faults out.old) (K.faults out.new) (R.faults report.old) (R.faults report.new) }
 
     // A fault is answered only where a count rose, and that of the input rises with no other status. With status 0 no count
     // rose.

@@ -179,7 +179,7 @@ pub(crate) fn save<S: Source, K: Sink, R: Sink>(
     ensures kept { result ≢ statuses.Done → result ≢ statuses.WriteFault → result ≢ statuses.Refused → out.new ≡ out.old }
     ensures kept_refused { result ≡ statuses.Refused → (out.new ≡ out.old) ⊎ RefusesPause (S.left input.old) (R.written report.old) (R.written report.new) (R.faults report.old) (R.faults report.new) }
     ensures no_stream { result ≡ statuses.Refused → WroteNoStream (K.written out.old) (K.written out.new) }
-    ensures breaks { result ≡ statuses.WriteFault → BreaksOff (K.written out.old) (K.written out.new) (K.faults out.old) (K.faults out.new) (R.faults report.old) (R.faults report.new) }
+    ensures breaks { result ≡ statuses.WriteFault → BreaksOff (record { out_old = K.written out.old; out_new = K.written out.new; report_old = R.written report.old; report_new = R.written report.new }) (K.faults out.old) (K.faults out.new) (R.faults report.old) (R.faults report.new) }
     ensures read { InputRises result (S.faults input.old) (S.faults input.new) }
     ensures line { (HasOwnLine commands.Save result → ⊥)
         → (line : List ℕ) × IsLine (form_of commands.Save) (S.left input.old) result line × Reports line (R.written report.old) (R.written report.new) (R.faults report.old) (R.faults report.new) }

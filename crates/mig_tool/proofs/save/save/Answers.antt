@@ -1,7 +1,7 @@
-use Rattle.mig_tool.proofs.Common.{sym, subst, SaysOf, Save, Written}
+use Rattle.mig_tool.proofs.Common.{Err, sym, ap, subst, SaysOf, Save, Written}
 use mathlib.Core.Logic.{inr}
 use Rattle.mig_tool.proofs.Reporting.{says_of, line_reported}
-use Rattle.mig_tool.proofs.Saving.{stopped_comes, unwritten, unsaved_comes, refuses_pause, saved_said}
+use Rattle.mig_tool.proofs.Saving.{stopped_comes, unwritten, unsaved_comes, refuses_pause, broke_off, saved_said}
 use Rattle.mig_tool.proofs.save.save.Goals as goal
 
 pub returns-in-Err-clause-said : goal.returns-in-Err-clause-said
@@ -34,3 +34,20 @@ returns-in-Err-save_live-clause-line g c = λ _.
     let w : Written = record { out_old = g.K.Sink.written c.args.out.now; out_new = g.K.Sink.written c.save_live.new.out; report_old = g.R.Sink.written c.args.report.now; report_new = g.R.Sink.written c.finish-in-Err-save_live.new.report } in
     line_reported Save (g.S.Source.left c.args.input.now) (g.S.Source.left c.host_and_script.new.input) w c.in-Err-save_live.outcome c.finish-in-Err-save_live.result _ _ _ _ c.finish-in-Err-save_live.ensures.status
     (unsaved_comes _ _ w c.in-Ok.read c.in-Err-save_live.outcome c.in-Ok.ensures.read c.in-Err-save_live.ensures.no_stream c.in-Err-save_live.ensures.none) c.finish-in-Err-save_live.ensures.line
+
+pub returns-in-Ok-save_live-clause-breaks : goal.returns-in-Ok-save_live-clause-breaks
+returns-in-Ok-save_live-clause-breaks g c = λ failed.
+    inr (record {
+      host = c.in-Ok.read.host.host;
+      lines = c.in-Ok.read.script;
+      summary = c.in-Ok-save_live.summary;
+      wrote = c.in-Ok-save_live.ensures.wrote;
+      quiet = c.in-Ok-save_live.ensures.quiet;
+      rose = c.told.ensures.rose failed;
+      reported = c.told.ensures.part failed;
+    })
+
+pub returns-in-Err-save_live-clause-breaks : goal.returns-in-Err-save_live-clause-breaks
+returns-in-Err-save_live-clause-breaks g c = λ failed.
+    let w : Written = record { out_old = g.K.Sink.written c.args.out.now; out_new = g.K.Sink.written c.save_live.new.out; report_old = g.R.Sink.written c.args.report.now; report_new = g.R.Sink.written c.finish-in-Err-save_live.new.report } in
+    broke_off w c.in-Err-save_live.outcome c.finish-in-Err-save_live.result _ _ _ _ c.finish-in-Err-save_live.ensures.status failed (λ e. c.in-Err-save_live.ensures.write (ap Err e)) c.in-Err-save_live.ensures.no_stream c.finish-in-Err-save_live.ensures.line
