@@ -1,0 +1,169 @@
+"""Runs the built program on inputs of chosen bytes, with chosen calls failing or coming short (faults.c) or little memory,
+and tells what the second reader says that it has to answer.
+"""
+import collections
+import contextlib
+import functools
+import importlib.machinery
+import importlib.util
+import os
+import resource
+import shutil
+import signal
+import struct
+import subprocess
+import sys
+import tempfile
+
+HERE = os.path.dirname(os.path.abspath(__file__))
+TESTS = os.path.dirname(HERE)
+TOP = os.path.dirname(TESTS)
+BUILT = os.path.join(TOP, 'crates', 'mig_tool', 'out', 'mig_tool')
+DONE, REFUSED, USAGE, READ_FAULT, WRITE_FAULT, MEMORY = range(6)
+# status, what stands on standard output, what stands on standard error
+Answer = collections.namedtuple('Answer', 'status out report')
+NO_READ, NO_WRITE, NO_MEMORY = (Answer(*it) for it in (
+    (READ_FAULT, b'', b'fault: read\n'), (WRITE_FAULT, None, b'fault: write\n'), (MEMORY, b'', b'fault: memory\n')))
+# what faults.c counts, in its order
+Told = collections.namedtuple('Told', 'reads bytes_read outs reports allocations asked most_asked live peak')
+TOLD = struct.Struct('<7Q2q')
+
+
+def script(name):
+    """A script of tests/, as a module."""
+    sys.dont_write_bytecode = True
+    path = os.path.join(TESTS, *name.split('/'))
+    if os.path.dirname(path) not in sys.path:
+        sys.path.insert(0, os.path.dirname(path))
+    loader = importlib.machinery.SourceFileLoader(name.replace('/', '_'), path)
+    module = importlib.util.module_from_spec(importlib.util.spec_from_loader(loader.name, loader))
+    loader.exec_module(module)
+    return module
+
+
+examples, second = script('examples/run'), script('second_reader/run')
+
+
+NO_COMMAND = Answer(USAGE, b'', examples.USAGE_LINE.encode() + b'\n')
+
+
+@functools.cache
+def case(name):
+    """The input of a case of tests/examples."""
+    return bytes(examples.load(os.path.join(TESTS, 'examples', 'cases', name + '.case'))['in'])
+
+
+def wanted(words, data):
+    """What the second reader answers; its output is None where `save` may have written anything that is no stream."""
+    return Answer(*second.judged(words, data))
+
+
+# ---- one run after another, on files in memory
+
+class Runs:
+    """Runs a program again and again: standard input, output and error are three files in memory, which are its own."""
+
+    def __init__(self, tool):
+        self.tool = tool
+        self.files = [os.memfd_create(name) for name in ('input', 'out', 'report')]
+        self.actions = [(os.POSIX_SPAWN_DUP2, file, number) for number, file in enumerate(self.files)]
+
+    def give(self, data):
+        """The input of the runs that follow."""
+        os.ftruncate(self.files[0], 0)
+        left = memoryview(data)
+        while left:
+            left = left[os.pwrite(self.files[0], left, len(data) - len(left)):]
+
+    def cut(self, length):
+        """Leaves so many bytes of the input."""
+        os.ftruncate(self.files[0], length)
+
+    def answer(self, words, environment=None):
+        for file in self.files:
+            os.lseek(file, 0, os.SEEK_SET)
+        for file in self.files[1:]:
+            os.ftruncate(file, 0)
+        whole = {**os.environ, **environment} if environment else os.environ
+        process = os.posix_spawn(
+            self.tool, [self.tool, *words], whole, file_actions=self.actions, setsigdef=[signal.SIGPIPE])
+        status = os.waitstatus_to_exitcode(os.waitpid(process, 0)[1])
+        return Answer(status, *(os.pread(file, os.fstat(file).st_size, 0) for file in self.files[1:]))
+
+
+def differences(got, want):
+    """What of an answer isn't as wanted; a part that is None may be anything."""
+    if got.status != want.status:
+        yield 'status %d, wanted %d' % (got.status, want.status)
+    if want.report is not None and got.report != want.report:
+        yield 'report %r, wanted %r' % (got.report[:200], want.report)
+    if want.out is not None and got.out != want.out:
+        yield 'out has %d bytes, wanted %d' % (len(got.out), len(want.out))
+
+
+# ---- calls that fail
+
+class Faults:
+    """The library of faults.c, built into a folder that is gone at the end, and the file in which it counts."""
+
+    def __init__(self, folder):
+        compiler = next(filter(None, map(shutil.which, ('cc', 'gcc', 'clang'))), None)
+        if compiler is None:
+            sys.exit('tests/hostile needs a C compiler (cc, gcc or clang) for faults.c')
+        self.library, self.told_in = os.path.join(folder, 'faults.so'), os.path.join(folder, 'told')
+        source = os.path.join(HERE, 'faults.c')
+        subprocess.run([compiler, '-shared', '-fPIC', '-O1', '-o', self.library, source, '-ldl'], check=True)
+
+    def environment(self, **chosen):
+        """The environment in which these calls fail: read='0 5' for HOSTILE_READ. Counting begins anew."""
+        with open(self.told_in, 'wb') as file:
+            file.write(bytes(TOLD.size))
+        names = {'HOSTILE_' + name.upper(): str(what) for name, what in chosen.items()}
+        return {'LD_PRELOAD': self.library, 'HOSTILE_TOLD': self.told_in, **names}
+
+    def told(self):
+        """What was counted in the last run."""
+        with open(self.told_in, 'rb') as file:
+            return Told(*TOLD.unpack(file.read()))
+
+
+@contextlib.contextmanager
+def faults():
+    with tempfile.TemporaryDirectory(prefix='mig_tool-hostile-') as folder:
+        yield Faults(folder)
+
+
+# ---- little memory
+
+def with_limit(tool, words, data, most, environment=None):
+    """An answer of the program where its address space may have so many bytes."""
+    def limit():
+        resource.setrlimit(resource.RLIMIT_AS, (most, most))
+        resource.setrlimit(resource.RLIMIT_CORE, (0, 0))
+    ended = subprocess.run([tool, *words], input=data, capture_output=True, preexec_fn=limit, check=False,
+                           env={**os.environ, **environment} if environment else None)
+    return Answer(ended.returncode, ended.stdout, ended.stderr)
+
+
+# ---- inputs of each form
+
+def live_host():
+    """The image of an HVM host with emulators, and a script that changes pages, parts and contexts while it is saved."""
+    rounds = list(examples.hvm_rounds(case('smallest-hvm')[56:96]))
+    return rounds[0][0].image() + '.\n'.join(lines for _, _, lines, _, _ in rounds).encode()
+
+
+def forms():
+    """Of each form of input a name, the words of the commands that accept it, and one that has much of the form."""
+    streams = {'HVM': case('as-xen-4.17-writes-it'), 'PV': case('pv-as-xen-4.17-writes-it'),
+               'libxl': wanted(['save'], live_host()).out, 'libxl PV': case('libxl-pv-optional-records')}
+    for name, data in streams.items():
+        yield name, ['restore', '4096'], data
+        yield name, ['verify'], data
+        yield name, ['normalise'], data
+    yield 'smallest HVM', ['normalise'], case('smallest-hvm')
+    yield 'legacy', ['convert'], case('legacy-all-kinds')
+    yield 'small legacy', ['convert'], case('legacy-hvm')
+    yield 'HVM image', ['save'], live_host()
+    yield 'PV image', ['save'], case('save-pv-host')
+    yield 'no input', ['exercise', '3', '20'], b''
