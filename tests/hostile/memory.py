@@ -1,0 +1,92 @@
+"""Little memory: the address space of the program is limited to each of some sizes, from far too little to ample.
+
+Whether the program begins at all is the affair of the kernel and of the loader: with less than they need they end it, by
+a signal or with the loader's status and line. That it is they is seen from a run in which the loader does all it does and
+the program none of its own (LD_TRACE_LOADED_OBJECTS, which is what ldd sets). From the least size on at which this run
+succeeds the program answers for itself: status 5 with its line and nothing on standard output, or the right answer.
+"""
+import itertools
+import struct
+
+import program
+
+KIB, MIB = 1 << 10, 1 << 20
+FRAMES, PAGE = 1024, bytes(range(256)) * 16
+PAGES = PAGE * 512
+# from less than the loader needs to more than any command here needs
+SIZES = [size * KIB for size in (
+    256, 1024, 2560, 2624, 2688, 2816, 3072, 3584, 4096, 4608, 5120, 6144, 7168, 8192, 10240, 12288, 16384, 20480, 32768,
+    98304)]
+
+
+def page_record(first):
+    words = struct.pack('<512Q', *range(first, first + 512))
+    return struct.pack('<IIQ', 1, 8 + 512 * 8 + 512 * 4096, 512) + words + PAGES
+
+
+def hvm():
+    """The smallest stream with 4 MiB of pages."""
+    smallest = program.case('smallest-hvm')
+    return b''.join([smallest[:48], *(page_record(first) for first in range(0, FRAMES, 512)), smallest[48:]])
+
+
+def legacy():
+    smallest = program.case('legacy-smallest')
+    batches = (struct.pack('<i512Q', 512, *range(first, first + 512)) + PAGES for first in range(0, FRAMES, 512))
+    return b''.join([smallest[:8], *batches, smallest[8:]])
+
+
+def wrapped():
+    """The same in the wrapper of libxl, behind 1 MiB of pairs and before a context of 1 MiB."""
+    pairs = b''.join(b'key/%08d\0%s\0' % (number, b'v' * 50) for number in range(16384))
+    pairs, context = (struct.pack('<IIII', kind, 8 + len(data), 2, 0) + data for kind, data in ((2, pairs), (3, bytes(MIB))))
+    return b'LibxlFmt' + struct.pack('>II', 2, 0) + pairs + struct.pack('<II', 1, 0) + hvm() + context + bytes(8)
+
+
+def image():
+    frames = (struct.pack('<IIQ', pfn, 0, pfn + 1) + PAGE for pfn in range(FRAMES))
+    context = struct.pack('<QIIII', 1, 9, 0, 0, 40) + program.case('smallest-hvm')[56:96]
+    return b''.join([b'XGIMAGE1', struct.pack('<IIQQ', 2, 0, FRAMES, FRAMES), *frames, context, b'.\nw 5 0 ff\n'])
+
+
+def pv():
+    """The stream of an exercise, of 600 frames."""
+    return program.second.exercise.exercise(1, 600)[0]
+
+
+def asked():
+    """By name, words and an input of some MiB."""
+    streams = {'HVM': hvm(), 'libxl': wrapped(), 'PV': pv()}
+    for (name, data), words in itertools.product(streams.items(), (['verify'], ['restore'], ['normalise'])):
+        yield name, words, data
+    yield 'legacy', ['convert'], legacy()
+    yield 'image', ['save'], image()
+    yield 'PV image', ['save'], program.wanted(['restore'], pv()).out + b'.\nw 0 0 ff\n'
+    yield 'no input', ['exercise', '1', '600'], b''
+    yield 'words', ['verify', 'it'], b''
+
+
+def is_loaded(tool, size):
+    """Whether the kernel and the loader get as far as the program's own first step."""
+    return program.with_limit(tool, [], b'', size, {'LD_TRACE_LOADED_OBJECTS': '1', 'LD_BIND_NOW': '1'}).status == 0
+
+
+def answers(tool):
+    """By name and words: for each size whether it is the loader's affair, what was answered, and what is right."""
+    loaded = {size: is_loaded(tool, size) for size in SIZES}
+    for name, words, data in asked():
+        want = program.NO_COMMAND if name == 'words' else program.wanted(words, data)
+        yield name, words, want, [(size, loaded[size], program.with_limit(tool, words, data, size)) for size in SIZES]
+
+
+def little(tool):
+    """No other answer than the right one or want of memory; at the greatest size it is the right one."""
+    for name, words, want, got in answers(tool):
+        for size, is_its_own, answer in got:
+            if is_its_own and answer not in (want, program.NO_MEMORY):
+                yield '%s, %s, %d KiB: status %d, %d bytes out, report %r' % (
+                    name, words[0], size // KIB, answer.status, len(answer.out), answer.report[:200])
+        if got[-1][2] != want:
+            yield '%s, %s: status %d with much memory' % (name, words[0], got[-1][2].status)
+        if name != 'words' and all(answer != program.NO_MEMORY for _, _, answer in got):
+            yield '%s, %s: no size was too little' % (name, words[0])
