@@ -89,10 +89,11 @@ def boot_disk(lab):
     os.truncate(disk, DISK)
 
 
-def tiny_guest(lab):
-    """The PV guest that is nothing but our own program."""
-    bare(lab, 'tiny.c', 'tiny', '-O2', '-mcmodel=kernel', '-mgeneral-regs-only',
-         '-Wl,-Ttext=0xffffffff80000000,--no-warn-rwx-segments')
+def tiny_guests(lab):
+    """The guests that are nothing but our own program: PV, and PVH."""
+    words = '-O2', '-mgeneral-regs-only', '-Wl,--no-warn-rwx-segments'
+    bare(lab, 'tiny.c', 'tiny', *words, '-mcmodel=kernel', '-Wl,-Ttext=0xffffffff80000000')
+    bare(lab, 'tiny.c', 'tinypvh', *words, '-DPVH', '-Wl,-Ttext=0x100000')
 
 
 def guest_archive(lab):
@@ -150,7 +151,7 @@ def build(cache, lab):
         file.write(kernel_of(one(os.path.join(lab, 'kernel/boot/vmlinuz-*'))))
     guest_archive(lab)
     boot_disk(lab)
-    tiny_guest(lab)
+    tiny_guests(lab)
     fill_root(os.path.join(lab, 'dom0'), os.path.join(lab, 'kernel'))
     with open(os.path.join(lab, 'dom0.cpio'), 'wb') as file:
         archive = Archive(file)
