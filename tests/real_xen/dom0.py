@@ -1,6 +1,7 @@
 """Builds what QEMU boots: the hypervisor, dom0's kernel, and dom0's file system as an archive in memory."""
 import glob
 import gzip
+import hashlib
 import lzma
 import os
 import shutil
@@ -136,10 +137,34 @@ def fill_root(root, kernel):
     os.chmod(os.path.join(root, 'init'), 0o755)
 
 
+def sources_sum():
+    """A checksum of what says how dom0 is built, so that what an earlier version of it built isn't booted."""
+    added = hashlib.sha256()
+    for name in 'dom0.py', 'dom0_init', 'packages.py':
+        with open(os.path.join(HERE, name), 'rb') as file:
+            added.update(file.read())
+    return added.hexdigest()
+
+
+def is_built(done):
+    try:
+        with open(done) as file:
+            return file.read() == sources_sum()
+    except FileNotFoundError:
+        return False
+
+
+def guest_programs(lab):
+    guest_archive(lab)
+    boot_disk(lab)
+    tiny_guests(lab)
+
+
 def build(cache, lab):
-    """Builds all that is booted in the folder `lab`; it isn't built again where it is there."""
+    """Builds all that is booted in the folder `lab`. Of that the guests' programs alone are built again where it is there."""
     done = os.path.join(lab, 'built')
-    if os.path.exists(done):
+    if is_built(done):
+        guest_programs(lab)
         return
     cache.fill()
     for name in 'dom0', 'kernel', 'hypervisor', 'emulator':
@@ -149,14 +174,12 @@ def build(cache, lab):
         shutil.copyfileobj(packed, file)
     with open(os.path.join(lab, 'vmlinux'), 'wb') as file:
         file.write(kernel_of(one(os.path.join(lab, 'kernel/boot/vmlinuz-*'))))
-    guest_archive(lab)
-    boot_disk(lab)
-    tiny_guests(lab)
+    guest_programs(lab)
     fill_root(os.path.join(lab, 'dom0'), os.path.join(lab, 'kernel'))
     with open(os.path.join(lab, 'dom0.cpio'), 'wb') as file:
         archive = Archive(file)
         archive.console()
         archive.tree(os.path.join(lab, 'dom0'))
         archive.end()
-    with open(done, 'w'):
-        pass
+    with open(done, 'w') as file:
+        file.write(sources_sum())

@@ -9,6 +9,7 @@ HERE = os.path.dirname(os.path.realpath(__file__))
 SAID = '/share/saves/through.said'
 THROUGH = '/share/guests/through /root/mig_tool ' + SAID
 LIVE = "xl migrate -s '' %(name)s '" + THROUGH + " | xl migrate-receive'"
+MIGRATES = 3600                                      # seconds
 PIPED = ('mkfifo /tmp/from /tmp/to; xl save %(name)s /tmp/from & ' + THROUGH + ' < /tmp/from > /tmp/to & '
          'xl restore /share/guests/%(other)s.cfg /tmp/to; status=$?; [ $status = 0 ] || kill %%1 %%2; wait; exit $status')
 
@@ -43,7 +44,7 @@ class Migration:
         """Sends the guest; a fault unless both xl and the program end well."""
         said_by_tool = self.place()
         command = (LIVE if self.is_live else PIPED) % {'name': self.guest.name, 'other': self.other.name}
-        status, said = self.machine.run('cp /share/guests/mig_tool /root/; ' + command, 600)
+        status, said = self.machine.run('cp /share/guests/mig_tool /root/; ' + command, MIGRATES)
         tool_said = 'nothing'
         if os.path.exists(said_by_tool):
             with open(said_by_tool) as file:

@@ -36,7 +36,7 @@ def answer(words, limit, **more):
     return process.returncode, out.decode(errors='replace'), err.decode(errors='replace')
 
 
-def command(words, what, limit=900, **more):
+def command(words, what, limit=3600, **more):
     """What a program said on standard output; a fault where it fails, or is missing, or takes too long."""
     try:
         status, out, err = answer(words, limit, **more)

@@ -10,7 +10,7 @@ from guests import LETTER, Broken, Watched, place_configuration
 
 MIG = os.path.join(streams.TOP, 'bin', 'mig')
 OTHERS = 60                                          # so many further pages a script writes
-LIMIT = 900                                          # seconds for one command of bin/mig
+LIMIT = 1800                                         # seconds for one command of bin/mig
 # Where two saves of a guest may differ that was restored and ran between them: clocks and timers, what its vCPUs did, its
 # interrupts, what its devices hold.
 MAY_DIFFER = {
