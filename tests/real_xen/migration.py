@@ -3,7 +3,7 @@ since Debian's Xen can't migrate PV guests live, by `xl save` and `xl restore` a
 import os
 import shutil
 
-from guests import GOES_ON, Broken, Watched, place_configuration, wrong
+from guests import GOES_ON, Broken, Died, Watched, place_configuration, wrong
 
 HERE = os.path.dirname(os.path.realpath(__file__))
 SAID = '/share/saves/through.said'
@@ -42,7 +42,7 @@ class Migration:
 
     def sent(self):
         """Sends the guest; a fault unless both xl and the program end well."""
-        said_by_tool = self.place()
+        said_by_tool, crashes = self.place(), len(self.watched.crashes())
         command = (LIVE if self.is_live else PIPED) % {'name': self.guest.name, 'other': self.other.name}
         status, said = self.machine.run('cp /share/guests/mig_tool /root/; ' + command, MIGRATES)
         tool_said = 'nothing'
@@ -50,9 +50,13 @@ class Migration:
             with open(said_by_tool) as file:
                 tool_said = ' '.join(file.read().split('\n')).strip()
         if status or tool_said != 'status 0':
-            raise Broken('xl: status %d: %s; mig_tool: %s' % (status, wrong(said), tool_said))
+            kind = Died if len(self.watched.crashes()) > crashes else Broken
+            raise kind('xl: status %d: %s; mig_tool: %s' % (status, wrong(said), tool_said))
 
     def run(self):
+        return self.watched.lives(self.led_through)
+
+    def led_through(self):
         self.place()
         attempt = self.watched.create()
         try:

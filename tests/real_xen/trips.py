@@ -69,6 +69,11 @@ class Trip:
         return 'at the %s start' % {1: 'first', 2: 'second', 3: 'third'}.get(attempt, '%dth' % attempt)
 
     def is_saved(self):
+        return self.watched.lives(self.saved)
+
+    def saved(self):
+        if not self.watched.is_there():
+            self.watched.create()
         began = time.monotonic()
         self.last = self.watched.save(self.guest.name + '.save')
         return '%d bytes in %.0f s, at tick %d' % (os.path.getsize(self.path('save')), time.monotonic() - began, self.last.number)
@@ -101,6 +106,9 @@ class Trip:
         if not self.last:
             raise Broken('there is no save of it')
         self.need(part)
+        return self.watched.lives(lambda: self.given_back(part, letter))
+
+    def given_back(self, part, letter):
         self.watched.destroy()
         self.running = None
         mark = self.watched.restore('%s.%s' % (self.guest.name, part))
@@ -116,7 +124,7 @@ class Trip:
         """A second save of what was restored: canonical forms of before and after."""
         if self.running != 'back':
             raise Broken('its canonical stream was not restored')
-        self.watched.save(self.guest.name + '.again')
+        self.watched.lives(self.saved_of_back)
         self.watched.destroy()
         self.mig_says('normalise', '--force', self.need('again'), self.path('again.stream'))
         found = self.listed('stream', 'again.stream', 'again')
@@ -126,6 +134,11 @@ class Trip:
         os.unlink(self.path('again'))
         os.unlink(self.path('again.stream'))
         return 'differ: ' + (', '.join(found) or 'nothing')
+
+    def saved_of_back(self):
+        if not self.watched.is_there():
+            self.given_back('back', 'first')
+        self.watched.save(self.guest.name + '.again')
 
     def stands_still(self):
         """A guest that is restored paused and saved again as it is: nothing of it ran between the two saves."""
