@@ -198,11 +198,28 @@ static const char *state(u64 broken)
     return broken ? "broken" : "whole";
 }
 
+/* Lets the vCPU have its floating point state saved by XSAVE, with AVX where there is that. */
+static void use_xsave(void)
+{
+    enum { XSAVE = 26, AVX = 28, OSXSAVE = 1 << 18, MOST = 7, LEAST = 3 };
+    u32 leaf = 1, has = 0;
+    u64 control;
+    asm volatile("cpuid" : "+a"(leaf), "+c"(has) : : "ebx", "edx");
+    if (has >> XSAVE & 1) {
+        asm volatile("mov %%cr4, %0" : "=r"(control));
+        asm volatile("mov %0, %%cr4" : : "r"(control | OSXSAVE));
+        asm volatile("xsetbv" : : "a"(has >> AVX & 1 ? MOST : LEAST), "c"(0), "d"(0));
+    }
+}
+
 /* What the second vCPU does: a number of its own stays in a register while it rests. While the guest is saved it looks at
-   nothing that is Xen's. */
+   nothing that is Xen's. It rests once before that, since a PVH guest lost its registers in the first rest behind XSETBV with
+   AVX, under Xen 4.17 and QEMU 7.2. */
 __attribute__((noreturn)) void work(void)
 {
     u64 number = mixed(2000000);
+    use_xsave();
+    pause_until(now(1) + 50000000);
     for (;;) {
         asm volatile("movq %0, %%xmm7" : : "r"(number));
         while (is_to_rest) {
