@@ -87,7 +87,8 @@ def hvm_stream(dice):
 
 def spoil(dice, pieces):
     """Changes one thing about a stream."""
-    at = dice.randrange(2 if dice.random() < 0.9 else 0, len(pieces))
+    first = min(2, len(pieces) - 1)
+    at = dice.randrange(first if dice.random() < 0.9 else 0, len(pieces))
     piece = bytearray(pieces[at])
     if len(piece) < 8:
         return
@@ -95,9 +96,9 @@ def spoil(dice, pieces):
     if way == 0:
         del pieces[at]
     elif way == 1:
-        pieces.insert(dice.randrange(2, len(pieces)), pieces[at])
+        pieces.insert(dice.randrange(first, len(pieces)), pieces[at])
     elif way == 2:
-        other = dice.randrange(2, len(pieces))
+        other = dice.randrange(first, len(pieces))
         pieces[at], pieces[other] = pieces[other], pieces[at]
     elif way == 3:
         piece[0:4] = struct.pack('<I', dice.choice((dice.randrange(20), 0x7fffffff, 1 << 31)))
