@@ -1,8 +1,11 @@
 use crate::exercise::exercise;
 use crate::run::run;
 use mig_bytes::{MemSink, MemSource};
+use mig_exercise::exercise_host;
+use mig_image::write_host;
 use mig_report::Status;
 use std::alloc::Global;
+use std::process::Abort;
 use std::test::Fail;
 
 // Image header, domain header, STATIC_DATA_END, HVM_CONTEXT with a header of 24 bytes and its end, END.
@@ -13,21 +16,55 @@ const SMALLEST: [u8; 104] = [
     17, 17, 17, 17, 17, 17, 17, 17, 17, 17, 0, 0, 0, 0, 0, 0, 0, 0, 0, 0, 0, 0, 0, 0, 0, 0,
 ];
 
-// The width of the P2M, the last chunk, three frame numbers, and the same context with its length.
-const LEGACY: [u8; 80] = [
-    0, 1, 0, 0, 0, 0, 0, 0, 0, 0, 0, 0, 1, 0, 0, 0, 0, 0, 0, 0, 2, 0, 0, 0, 0, 0, 0, 0, 3, 0, 0, 0,
-    0, 0, 0, 0, 40, 0, 0, 0, 1, 0, 0, 0, 24, 0, 0, 0, 17, 17, 17, 17, 17, 17, 17, 17, 17, 17, 17,
-    17, 17, 17, 17, 17, 17, 17, 17, 17, 17, 17, 17, 17, 0, 0, 0, 0, 0, 0, 0, 0,
+// The legacy stream of the case legacy-hvm, before its page of bytes 0xAA, and behind it.
+const LEGACY_FRONT: [u8; 36] = [
+    0, 1, 0, 0, 0, 0, 0, 0, 3, 0, 0, 0, 0, 0, 0, 240, 0, 0, 0, 0, 5, 0, 0, 0, 0, 0, 0, 0, 7, 0, 0,
+    240, 0, 0, 0, 0,
 ];
 
-// What the command of this word reads: each read gives at most `cut` bytes, and read number `fails` none.
-fn smallest(alloc: Global, word: &str, cut: usize, fails: u64) -> Result<MemSource, Fail> {
-    let bytes = if word == "convert" {
-        LEGACY.to_vec(alloc)?
-    } else {
-        SMALLEST.to_vec(alloc)?
+const LEGACY_REST: [u8; 189] = [
+    254, 255, 255, 255, 0, 0, 0, 0, 1, 0, 0, 0, 0, 0, 0, 0, 247, 255, 255, 255, 238, 255, 255, 255,
+    45, 0, 0, 0, 1, 0, 0, 0, 1, 0, 0, 0, 0, 0, 0, 224, 0, 0, 0, 0, 0, 0, 0, 240, 0, 0, 0, 0, 0, 0,
+    128, 0, 0, 0, 0, 0, 5, 0, 0, 0, 118, 114, 97, 109, 0, 0, 0, 0, 0, 253, 255, 255, 255, 0, 0, 0,
+    0, 0, 192, 255, 254, 0, 0, 0, 0, 0, 0, 0, 0, 240, 239, 15, 0, 0, 0, 0, 0, 241, 239, 15, 0, 0,
+    0, 0, 0, 252, 239, 15, 0, 0, 0, 0, 0, 40, 0, 0, 0, 1, 0, 0, 0, 24, 0, 0, 0, 17, 17, 17, 17, 17,
+    17, 17, 17, 17, 17, 17, 17, 17, 17, 17, 17, 17, 17, 17, 17, 17, 17, 17, 17, 0, 0, 0, 0, 0, 0,
+    0, 0, 68, 101, 118, 105, 99, 101, 77, 111, 100, 101, 108, 82, 101, 99, 111, 114, 100, 48, 48,
+    48, 50, 3, 0, 0, 0, 170, 187, 204,
+];
+
+// Bytes of which a proof is to know nothing.
+fn page(byte: u8) -> [u8; 4096] {
+    [byte; 4096]
+}
+
+fn legacy(alloc: Global) -> Result<Vec<u8>, Fail> {
+    let mut bytes = LEGACY_FRONT.to_vec(alloc)?;
+    bytes.extend_from_slice(&page(0xAA))?;
+    bytes.extend_from_slice(&LEGACY_REST)?;
+    Ok(bytes)
+}
+
+// The image of a PV host of 8 frames, whose script is empty.
+fn image(alloc: Global) -> Result<Vec<u8>, Fail> {
+    let Ok(host) = exercise_host(alloc, 1, 8) else {
+        return Err("no memory".into());
     };
-    let cuts = vec![in alloc; cut; 200]?;
+    let mut out = sink(alloc, NEVER)?;
+    match write_host(&mut out, &host) {
+        Ok(()) => Ok(out.bytes().to_vec(alloc)?),
+        Err(_) => Err("no memory".into()),
+    }
+}
+
+// What the command of this word reads: each read gives at most `cut` bytes, and read number `fails` none.
+fn source(alloc: Global, word: &str, cut: usize, fails: u64) -> Result<MemSource, Fail> {
+    let bytes = match word {
+        "convert" => legacy(alloc)?,
+        "save" => image(alloc)?,
+        _ => SMALLEST.to_vec(alloc)?,
+    };
+    let cuts = vec![in alloc; cut; 5000]?;
     Ok(MemSource::new(bytes, cuts, vec![in alloc; fails; 1]?))
 }
 
@@ -50,7 +87,7 @@ const NEVER: u64 = u64::MAX;
 #[test]
 fn smallest_stream_into_its_room(rt: HostRuntime) -> Result<(), Fail> {
     let normalise = words(rt.alloc(), &["normalise"])?;
-    let mut input = smallest(rt.alloc(), "normalise", 4096, NEVER)?;
+    let mut input = source(rt.alloc(), "normalise", 4096, NEVER)?;
     let mut out = sink(rt.alloc(), NEVER)?;
     let mut report = sink(rt.alloc(), NEVER)?;
     assert_eq!(rt; out.reserve(104), Ok(()));
@@ -73,7 +110,7 @@ const FAULTS: [(&str, u64, u64, Status, &str); 12] = [
     ("restore", NEVER, 2, Status::WriteFault, "fault: write\n"),
     ("verify", 70, 0, Status::ReadFault, "fault: read\n"),
     ("convert", NEVER, NEVER, Status::Done, ""),
-    ("convert", 79, NEVER, Status::ReadFault, "fault: read\n"),
+    ("convert", 4320, NEVER, Status::ReadFault, "fault: read\n"),
     ("convert", NEVER, 2, Status::WriteFault, "fault: write\n"),
 ];
 
@@ -81,20 +118,99 @@ fn faults() -> &'static [(&'static str, u64, u64, Status, &'static str)] {
     &FAULTS
 }
 
+// What a command answers whose output and whose report fail at these writes, and what it wrote on both.
+fn told(
+    alloc: Global,
+    word: &str,
+    input: &mut MemSource,
+    write: u64,
+    line: u64,
+) -> Result<(Status, MemSink, MemSink), Fail> {
+    let list = words(alloc, &[word])?;
+    let mut out = sink(alloc, write)?;
+    let mut report = sink(alloc, line)?;
+    let status = run(alloc, &list, input, &mut out, &mut report);
+    Ok((status, out, report))
+}
+
 // A report that fails changes no status.
 #[test]
 fn reads_and_writes_fail_in_mid_stream(rt: HostRuntime) -> Result<(), Fail> {
     for (word, read, write, want, line) in faults() {
-        let list = words(rt.alloc(), &[word])?;
-        for (fails, told) in [(NEVER, *line), (0, "")] {
-            let mut input = smallest(rt.alloc(), word, 1, *read)?;
-            let mut out = sink(rt.alloc(), *write)?;
-            let mut report = sink(rt.alloc(), fails)?;
-            let status = run(rt.alloc(), &list, &mut input, &mut out, &mut report);
+        for (fails, text) in [(NEVER, *line), (0, "")] {
+            let mut input = source(rt.alloc(), word, 1, *read)?;
+            let (status, _, report) = told(rt.alloc(), word, &mut input, *write, fails)?;
             assert_eq!(rt; status, *want, "{word}, read {read}, write {write}");
-            assert_eq!(rt; report.bytes(), told.as_bytes(), "{word}");
+            assert_eq!(rt; report.bytes(), text.as_bytes(), "{word}");
         }
     }
+    Ok(())
+}
+
+// Each read fails in turn, up to the first number that no read has: nothing is written.
+fn reads_fail(rt: &impl Abort, alloc: Global, word: &str, cut: usize) -> Result<(), Fail> {
+    for read in 0..5000 {
+        let mut input = source(alloc, word, cut, read)?;
+        let (status, out, report) = told(alloc, word, &mut input, NEVER, NEVER)?;
+        if status == Status::Done {
+            return Ok(());
+        }
+        assert_eq!(rt; status, Status::ReadFault, "{word}, cut {cut}, read {read}");
+        assert_eq!(rt; report.bytes(), "fault: read\n".as_bytes(), "{word}");
+        assert!(rt; out.bytes().is_empty(), "{word}, cut {cut}, read {read}");
+    }
+    Err("too many reads".into())
+}
+
+// Each write of the output fails in turn: what was written is a part of the whole, and no stream.
+fn writes_fail(rt: &impl Abort, alloc: Global, word: &str) -> Result<(), Fail> {
+    let mut input = source(alloc, word, 4096, NEVER)?;
+    let (_, whole, _) = told(alloc, word, &mut input, NEVER, NEVER)?;
+    for write in 0..200 {
+        let mut input = source(alloc, word, 4096, NEVER)?;
+        let (status, out, report) = told(alloc, word, &mut input, write, NEVER)?;
+        if status == Status::Done {
+            return Ok(());
+        }
+        assert_eq!(rt; status, Status::WriteFault, "{word}, write {write}");
+        assert_eq!(rt; report.bytes(), "fault: write\n".as_bytes(), "{word}");
+        assert!(rt;
+            whole.bytes().starts_with(out.bytes()),
+            "{word}, write {write}"
+        );
+        let mut front = MemSource::new(
+            out.bytes().to_vec(alloc)?,
+            Vec::new(alloc),
+            Vec::new(alloc),
+        );
+        let (verified, _, _) = told(alloc, "verify", &mut front, NEVER, NEVER)?;
+        assert_eq!(rt; verified, Status::Refused, "{word}, write {write}");
+    }
+    Err("too many writes".into())
+}
+
+#[test]
+fn each_read_and_each_write_fails(rt: HostRuntime) -> Result<(), Fail> {
+    for word in ["normalise", "convert", "save"] {
+        writes_fail(&rt, rt.alloc(), word)?;
+        reads_fail(&rt, rt.alloc(), word, 4096)?;
+    }
+    for word in ["normalise", "convert"] {
+        reads_fail(&rt, rt.alloc(), word, 1)?;
+        reads_fail(&rt, rt.alloc(), word, 7)?;
+    }
+    Ok(())
+}
+
+// A save whose report fails has written its whole stream.
+#[test]
+fn a_save_is_not_reported(rt: HostRuntime) -> Result<(), Fail> {
+    let mut input = source(rt.alloc(), "save", 4096, NEVER)?;
+    let (done, whole, _) = told(rt.alloc(), "save", &mut input, NEVER, NEVER)?;
+    let mut again = source(rt.alloc(), "save", 4096, NEVER)?;
+    let (failed, out, _) = told(rt.alloc(), "save", &mut again, NEVER, 0)?;
+    assert_eq!(rt; (done, failed), (Status::Done, Status::WriteFault));
+    assert_eq!(rt; out.bytes(), whole.bytes());
     Ok(())
 }
 
