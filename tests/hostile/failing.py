@@ -69,7 +69,7 @@ def every_refused(tool, faults):
 
 
 def nothing_fails(tool, faults):
-    """The program's reads and writes are those that faults.c sees: each byte is counted, and none goes another way."""
+    """The program's reads and writes are those that faults.c sees."""
     for it in (*every(tool, faults), *every_refused(tool, faults)):
         yield from it.differences('where nothing fails', it.got, it.want)
         if it.want.status == program.DONE and it.words[0] != 'exercise' and it.made.reads == 0:

@@ -68,6 +68,10 @@ class Runs:
         self.files = [os.memfd_create(name) for name in ('input', 'out', 'report')]
         self.actions = [(os.POSIX_SPAWN_DUP2, file, number) for number, file in enumerate(self.files)]
 
+    def __del__(self):
+        for file in self.files:
+            os.close(file)
+
     def give(self, data):
         """The input of the runs that follow."""
         os.ftruncate(self.files[0], 0)
