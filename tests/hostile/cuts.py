@@ -1,5 +1,4 @@
 """Input that is cut, that comes in pieces, or whose numbers promise more than there is."""
-import concurrent.futures
 import struct
 
 import program
@@ -13,7 +12,7 @@ PAGES_OF_PV = 24 + 88 + 8 + 8 + 3 * 8                   # where its first page b
 PIECES = 1, 7, 4096
 ALL, SOME = 1, 16                                       # of the lengths inside of parts, each or every sixteenth
 OF_COMMANDS = (['verify'], ALL), (['normalise'], SOME), (['restore'], SOME)
-BESIDE_ENDS = 9
+BESIDE_ENDS, SHARES = 9, 16
 
 
 # ---- each proper prefix
@@ -30,18 +29,6 @@ def wrapped_pv():
     return front + image + optional + bytes(8), parts
 
 
-def wrong_prefixes(tool, words, stream, parts, lengths):
-    """Of these lengths those whose prefix isn't refused as cut in the part that isn't there whole, longest first."""
-    runs, found = program.Runs(tool), []
-    runs.give(stream)
-    for length in sorted(lengths, reverse=True):
-        runs.cut(length)
-        place = next(place for end, place in parts if length < end)
-        want = program.Answer(program.REFUSED, b'', b'refused: %s: 1 Truncated\n' % place.encode())
-        found += ['%s of %d bytes: %s' % (words[0], length, why) for why in program.differences(runs.answer(words), want)]
-    return found
-
-
 def lengths(stream, parts, step):
     """The lengths of proper prefixes: those beside where a part or a page ends, and of the others every so many."""
     ends = [0] + [end for end, _ in parts] + list(range(PAGES_OF_PV, PAGES_OF_PV + 3 * 4096, 4096))
@@ -49,15 +36,18 @@ def lengths(stream, parts, step):
     return sorted({*range(0, len(stream), step), *(length for length in beside if 0 <= length < len(stream))})
 
 
-def prefixes(tool, jobs, words, step):
-    """Proper prefixes of a PV stream in the wrapper."""
+def prefixes(tool, words, step, share):
+    """A share of the proper prefixes of a PV stream in the wrapper, longest first: each is refused as cut, in the part that
+    isn't there whole."""
     stream, parts = wrapped_pv()
-    tried = lengths(stream, parts, step)
-    shares = [tried[first::8 * jobs] for first in range(8 * jobs)]
-    with concurrent.futures.ProcessPoolExecutor(jobs) as pool:
-        asked = [pool.submit(wrong_prefixes, tool, words, stream, parts, share) for share in shares]
-        for one in asked:
-            yield from one.result()
+    runs = program.Runs(tool)
+    runs.give(stream)
+    for length in lengths(stream, parts, step)[share::SHARES][::-1]:
+        runs.cut(length)
+        place = next(place for end, place in parts if length < end)
+        want = program.Answer(program.REFUSED, b'', b'refused: %s: 1 Truncated\n' % place.encode())
+        for why in program.differences(runs.answer(words), want):
+            yield '%s of %d bytes: %s' % (words[0], length, why)
 
 
 # ---- input in pieces

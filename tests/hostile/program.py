@@ -108,26 +108,30 @@ def differences(got, want):
 # ---- calls that fail
 
 class Faults:
-    """The library of faults.c, built into a folder that is gone at the end, and the file in which it counts."""
+    """The library of faults.c, built into a folder that is gone at the end, and the file in which it counts, of each process
+    its own."""
 
     def __init__(self, folder):
         compiler = next(filter(None, map(shutil.which, ('cc', 'gcc', 'clang'))), None)
         if compiler is None:
             sys.exit('tests/hostile needs a C compiler (cc, gcc or clang) for faults.c')
-        self.library, self.told_in = os.path.join(folder, 'faults.so'), os.path.join(folder, 'told')
+        self.folder, self.library = folder, os.path.join(folder, 'faults.so')
         source = os.path.join(HERE, 'faults.c')
         subprocess.run([compiler, '-shared', '-fPIC', '-O1', '-o', self.library, source, '-ldl'], check=True)
 
+    def told_in(self):
+        return os.path.join(self.folder, 'told-%d' % os.getpid())
+
     def environment(self, **chosen):
         """The environment in which these calls fail: read='0 5' for HOSTILE_READ. Counting begins anew."""
-        with open(self.told_in, 'wb') as file:
+        with open(self.told_in(), 'wb') as file:
             file.write(bytes(TOLD.size))
         names = {'HOSTILE_' + name.upper(): str(what) for name, what in chosen.items()}
-        return {'LD_PRELOAD': self.library, 'HOSTILE_TOLD': self.told_in, **names}
+        return {'LD_PRELOAD': self.library, 'HOSTILE_TOLD': self.told_in(), **names}
 
     def told(self):
         """What was counted in the last run."""
-        with open(self.told_in, 'rb') as file:
+        with open(self.told_in(), 'rb') as file:
             return Told(*TOLD.unpack(file.read()))
 
 
