@@ -18,6 +18,7 @@ import tempfile
 HERE = os.path.dirname(os.path.abspath(__file__))
 TESTS = os.path.dirname(HERE)
 TOP = os.path.dirname(TESTS)
+ENVIRONMENT = dict(os.environ)
 BUILT = os.path.join(TOP, 'crates', 'mig_tool', 'out', 'mig_tool')
 DONE, REFUSED, USAGE, READ_FAULT, WRITE_FAULT, MEMORY = range(6)
 # status, what stands on standard output, what stands on standard error
@@ -88,7 +89,7 @@ class Runs:
             os.lseek(file, 0, os.SEEK_SET)
         for file in self.files[1:]:
             os.ftruncate(file, 0)
-        whole = {**os.environ, **environment} if environment else os.environ
+        whole = {**ENVIRONMENT, **environment} if environment else ENVIRONMENT
         process = os.posix_spawn(
             self.tool, [self.tool, *words], whole, file_actions=self.actions, setsigdef=[signal.SIGPIPE])
         status = os.waitstatus_to_exitcode(os.waitpid(process, 0)[1])
@@ -149,7 +150,7 @@ def with_limit(tool, words, data, most, environment=None):
         resource.setrlimit(resource.RLIMIT_AS, (most, most))
         resource.setrlimit(resource.RLIMIT_CORE, (0, 0))
     ended = subprocess.run([tool, *words], input=data, capture_output=True, preexec_fn=limit, check=False,
-                           env={**os.environ, **environment} if environment else None)
+                           env={**ENVIRONMENT, **(environment or {})})
     return Answer(ended.returncode, ended.stdout, ended.stderr)
 
 
