@@ -9,7 +9,7 @@ HERE = os.path.dirname(os.path.realpath(__file__))
 SAID = '/share/saves/through.said'
 THROUGH = '/share/guests/through /root/mig_tool ' + SAID
 LIVE = "xl migrate -s '' %(name)s '" + THROUGH + " | xl migrate-receive'"
-MIGRATES = 3600                                      # seconds
+MIGRATES = 7200                                      # seconds
 PIPED = ('mkfifo /tmp/from /tmp/to; xl save %(name)s /tmp/from & ' + THROUGH + ' < /tmp/from > /tmp/to & '
          'xl restore /share/guests/%(other)s.cfg /tmp/to; status=$?; [ $status = 0 ] || kill %%1 %%2; wait; exit $status')
 
