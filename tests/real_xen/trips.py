@@ -24,6 +24,13 @@ MAY_DIFFER = {
 # pages that Xen's tools write, as xenstore's ring.
 STANDING = {'X86_TSC_INFO', 'HVM_CONTEXT CPU', 'HVM_CONTEXT ISA_IRQ', 'HVM_CONTEXT RTC', 'HVM_CONTEXT PMTIMER', 'HVM_CONTEXT PIT',
             'HVM_CONTEXT LAPIC', 'libxl EMULATOR_CONTEXT', 'pages'}
+# Of the first PIC its first byte alone, the requests that stand in it: they follow the lines of ISA_IRQ, which clocks raise.
+REQUESTS = 'HVM_CONTEXT PIC 0', '1 bytes, at 0'
+
+
+def may_stand(pair):
+    name, _ = pair
+    return pair == REQUESTS or {name, name.rpartition(' ')[0]} & STANDING
 
 
 def calls_to(guest, last):
@@ -148,7 +155,7 @@ class Trip:
         self.watched.destroy()
         self.mig_says('normalise', '--force', self.path('again'), self.path('again.stream'))
         found = self.listed('stream', 'again.stream', 'still')
-        strange = [name for name in found if not {name, name.rpartition(' ')[0]} & STANDING]
+        strange = [name for name, text in found.items() if not may_stand((name, text))]
         if strange:
             raise Broken('differ, though the guest stood: %s' % ', '.join(strange))
         return 'differ: %s' % (', '.join('%s (%s)' % pair for pair in found.items()) or 'nothing')
