@@ -1,5 +1,6 @@
 """A guest goes from xl to xl over the loopback, with the stream led through mig_tool between them: by a live migration; or,
-since Debian's Xen can't migrate PV guests live, by `xl save` and `xl restore` at the two ends of a pipe."""
+since Debian's Xen can't migrate PV guests live, by `xl save` and `xl restore` at the two ends of a pipe. With --debug, xl sends
+all frames a second time, behind a VERIFY record; a copy of such a stream is kept, and `mig check` compares the frames."""
 import os
 import shutil
 
@@ -8,15 +9,17 @@ from guests import GOES_ON, Broken, Died, Watched, place_configuration, wrong
 HERE = os.path.dirname(os.path.realpath(__file__))
 SAID = '/share/saves/through.said'
 THROUGH = '/share/guests/through /root/mig_tool ' + SAID
-LIVE = "xl migrate -s '' %(name)s '" + THROUGH + " | xl migrate-receive'"
+LIVE = "xl migrate %(words)s -s '' %(name)s '%(copied)s" + THROUGH + " | xl migrate-receive'"
+COPY = '/share/saves/%s.debug'
 MIGRATES = 7200                                      # seconds
 PIPED = ('mkfifo /tmp/from /tmp/to; xl save %(name)s /tmp/from & ' + THROUGH + ' < /tmp/from > /tmp/to & '
          'xl restore /share/guests/%(other)s.cfg /tmp/to; status=$?; [ $status = 0 ] || kill %%1 %%2; wait; exit $status')
 
 
 class Migration:
-    def __init__(self, machine, tool, guest):
-        self.machine, self.tool, self.guest = machine, tool, guest
+    def __init__(self, machine, tool, guest, check=None):
+        """`check` tells what `mig check` says of a file; where it is there, the guest is migrated with --debug."""
+        self.machine, self.tool, self.guest, self.check = machine, tool, guest, check
         self.is_live = guest.kind != 'pv'
         # Of a pipe the new domain is there before the old one has gone, so it has another name.
         self.other = guest if self.is_live else guest._replace(name=guest.name + 'b')
@@ -25,7 +28,8 @@ class Migration:
     @property
     def name(self):
         way = 'is migrated live' if self.is_live else 'goes from xl save to xl restore in a pipe'
-        return '%s %s, its stream through mig_tool, and goes on' % (self.guest.name, way)
+        more = ' with --debug' if self.check else ''
+        return '%s %s%s, its stream through mig_tool, and goes on' % (self.guest.name, way, more)
 
     def place(self):
         """Puts the program, the script that stands in the pipe, and the configurations where dom0 finds them."""
@@ -43,7 +47,9 @@ class Migration:
     def sent(self):
         """Sends the guest; a fault unless both xl and the program end well."""
         said_by_tool, crashes = self.place(), len(self.watched.crashes())
-        command = (LIVE if self.is_live else PIPED) % {'name': self.guest.name, 'other': self.other.name}
+        command = (LIVE if self.is_live else PIPED) % {
+            'name': self.guest.name, 'other': self.other.name, 'words': '--debug' if self.check else '',
+            'copied': 'tee %s | ' % (COPY % self.guest.name) if self.check else ''}
         status, said = self.machine.run('cp /share/guests/mig_tool /root/; ' + command, MIGRATES)
         tool_said = 'nothing'
         if os.path.exists(said_by_tool):
@@ -54,7 +60,15 @@ class Migration:
             raise kind('xl: status %d: %s; mig_tool: %s' % (status, wrong(said), tool_said))
 
     def run(self):
-        return self.watched.lives(self.led_through)
+        seen = self.watched.lives(self.led_through)
+        return seen + '; ' + self.frames_compared() if self.check else seen
+
+    def frames_compared(self):
+        """Sees that `mig check` takes the copy, and that the frames behind VERIFY are those sent before: the guest stood still."""
+        said = self.check(self.machine.share + (COPY % self.guest.name)[len('/share'):]).splitlines()[0]
+        if not said.endswith(' differs 0'):
+            raise Broken('mig check of the stream with VERIFY: ' + said)
+        return said.rpartition(': ')[2]
 
     def led_through(self):
         self.place()
