@@ -1,4 +1,5 @@
 pub mod Common
+pub mod Directories
 pub mod Fans
 pub mod Gathered
 pub mod Counted

@@ -6,7 +6,7 @@ use Rattle.std.specs.Coded.{Coded, code_by, coded×, coded_ℕ}
 
 -- numbers are below this
 abbrev pub number_limit : ℕ
-number_limit = 2 ^ 28
+number_limit = 2 ^ 52
 
 -- values by number
 abbrev pub ValueMap : Type 0

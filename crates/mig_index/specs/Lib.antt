@@ -1,3 +1,4 @@
-pub mod Radix
+pub mod Leaves
+pub mod Directories
 pub mod Tree
 pub mod Indexed

@@ -1,61 +1,56 @@
 -- What an index finds.
-use Rattle.std.specs.Prelude.{◌≡◌, ℕ, min, ◌+◌, ◌-◌, ◌^◌, ◌*◌, ◌<◌, ◌≤◌, List, length, slice_index}
-use Rattle.mig_index.specs.Radix.{under, ways, IsLevel, IsFan, Becomes}
+use Rattle.std.specs.Prelude.{◌≡◌, ℕ, ◌+◌, ◌*◌, ◌^◌, ◌<◌, ◌≤◌, List, length}
+use Rattle.mig_index.specs.Leaves.{under, IsLevel, IsFan, Becomes}
+use Rattle.mig_index.specs.Directories.{lead, near_keys, IsDirectory}
 use Rattle.mig_index.specs.declared.tree.Tree.{Tree}
-use Rattle.mig_index.specs.declared.level.Level.{Level}
 
--- the node of the third level for the numbers k * 512 to k * 512 + 511
-abbrev pub leaf_in : List ℕ → List ℕ → ℕ → ℕ
-leaf_in top mids = under (slice_index top) mids
+-- the leaf of the numbers k * 512 to k * 512 + 511; 0 is none
+abbrev pub leaf : Tree → ℕ → ℕ
+leaf x = lead x.directory.near.items x.directory.root
 
 -- the value of number k; 0 where there is none
-abbrev pub found_in : List ℕ → List ℕ → List ℕ → ℕ → ℕ
-found_in top mids leaves = under (leaf_in top mids) leaves
+abbrev pub found : Tree → ℕ → ℕ
+found x = under (leaf x) x.leaves.cells.items
 
-pub record IsTree (top mids : List ℕ) (mids_used : ℕ) (leaves : List ℕ) (leaves_used : ℕ) : Type 0 where
-  pub mids_level : IsLevel mids mids_used
-  pub leaves_level : IsLevel leaves leaves_used
-  pub to_mids : IsFan (slice_index top) mids_used
-  pub to_leaves : IsFan (leaf_in top mids) leaves_used
-  pub mids_led : mids_used ≡ ways (slice_index top) 1024
-  pub leaves_led : leaves_used ≡ ways (leaf_in top mids) (2 ^ 19)
+-- leaves of 512 values, to which F leads
+pub record IsTree (F : ℕ → ℕ) (cells : List ℕ) (used : ℕ) : Type 0 where
+  pub level : IsLevel cells used
+  pub fan : IsFan F used
+  pub low : (k : ℕ) → 0 < F k → k < 2 ^ 43
 
 abbrev pub IsTreeOf : Tree → Type 0
-IsTreeOf x = IsTree x.top.items x.mids.cells.items x.mids.used x.leaves.cells.items x.leaves.used
+IsTreeOf x = IsDirectory x.directory.root × IsTree (leaf x) x.leaves.cells.items x.leaves.used
 
-abbrev pub mid : Tree → ℕ → ℕ
-mid x = slice_index x.top.items
-
-abbrev pub leaf : Tree → ℕ → ℕ
-leaf x = leaf_in x.top.items x.mids.cells.items
-
-abbrev pub found : Tree → ℕ → ℕ
-found x = found_in x.top.items x.mids.cells.items x.leaves.cells.items
-
--- nodes that are there and not in use
+-- leaves that are there and not in use
 abbrev pub HasSpare : List ℕ → ℕ → ℕ → Type 0
 HasSpare cells used more = (used + more) * 512 ≤ length cells
-
--- nodes for `spare` more numbers are there; there are never more than `most` nodes
-abbrev pub HasNodes : Level → ℕ → ℕ → Type 0
-HasNodes x most spare = HasSpare x.cells.items x.used (min spare (most - x.used))
 
 -- the same but for the value of one number
 abbrev pub Sets : Tree → Tree → ℕ → ℕ → Type 0
 Sets x y = Becomes (found x) (found y)
 
--- at most one more node is in use, and as many are there
-pub record IsOneLess (x y : Level) : Type 0 where
-  pub used : y.used ≤ x.used + 1
-  pub there : length y.cells.items ≡ length x.cells.items
-
--- as many nodes are in use, and no fewer are there
-pub record IsKept (x y : Level) : Type 0 where
-  pub used : y.used ≡ x.used
-  pub there : length x.cells.items ≤ length y.cells.items
-
 -- what `spare` more numbers need is there
 pub record HasRoom (x : Tree) (spare : ℕ) : Type 0 where
-  pub top : 0 < spare → 1024 ≤ length x.top.items
-  pub mids : HasNodes x.mids 1024 spare
-  pub leaves : HasNodes x.leaves (2 ^ 19) spare
+  pub near : 0 < spare → near_keys ≤ length x.directory.near.items
+  pub ways : 2 * spare ≤ length x.directory.ready.items
+  pub leaves : HasSpare x.leaves.cells.items x.leaves.used spare
+
+-- at most one more leaf is in use, and two fewer nodes are ready
+pub record IsOneLess (x y : Tree) : Type 0 where
+  pub near : length y.directory.near.items ≡ length x.directory.near.items
+  pub ways : length x.directory.ready.items ≤ length y.directory.ready.items + 2
+  pub used : y.leaves.used ≤ x.leaves.used + 1
+  pub there : length y.leaves.cells.items ≡ length x.leaves.cells.items
+
+-- as many leaves and nodes are in use, and as many are there
+pub record IsAsFull (x y : Tree) : Type 0 where
+  pub ways : y.directory ≡ x.directory
+  pub used : y.leaves.used ≡ x.leaves.used
+  pub there : length y.leaves.cells.items ≡ length x.leaves.cells.items
+
+-- as many leaves are in use, and no fewer are there
+pub record IsKept (x y : Tree) : Type 0 where
+  pub near : length x.directory.near.items ≤ length y.directory.near.items
+  pub ways : length x.directory.ready.items ≤ length y.directory.ready.items
+  pub used : y.leaves.used ≡ x.leaves.used
+  pub there : length x.leaves.cells.items ≤ length y.leaves.cells.items

@@ -7,8 +7,8 @@ use mig_bytes::Memory;
 use std::alloc::{AllocError, Global};
 use std::marker::Model;
 
-/// Numbers are below 2^28.
-const NUMBER_LIMIT: u64 = 1 << 28;
+/// Numbers are below 2^52.
+const NUMBER_LIMIT: u64 = 1 << 52;
 
 /// Values above 0 by number, and room for spare numbers.
 #[derive(Drop)]
@@ -83,9 +83,6 @@ impl Index {
         ensures small { IfSome result (λ e. e.0 < number_limit) }
     {
         let tree = &self.tree;
-        if from >= NUMBER_LIMIT {
-            return None;
-        }
         tree.next(from)
     }
 
@@ -117,13 +114,10 @@ impl Index {
         ensures taken { self.old.spare ≤ self.new.spare + 1 }
         ensures in_place { IsSome (maps.get self.old.values number) → self.new.spare ≡ self.old.spare }
     {
-        if self.tree.get(number) > 0 {
-            self.tree.replace(number, value);
-            return;
+        if self.tree.put(number, value) == 0 {
+            self.count += 1;
+            self.spare -= 1;
         }
-        self.tree.put_spare(number, value);
-        self.count += 1;
-        self.spare -= 1;
     }
 
     /// Takes the value of a number away, where it has one.
@@ -135,7 +129,7 @@ impl Index {
         if self.tree.get(number) == 0 {
             return;
         }
-        self.tree.replace(number, 0);
+        self.tree.put(number, 0);
         self.count -= 1;
     }
 }

@@ -1,13 +1,16 @@
-ghost use Rattle.std.specs.Prelude.{◌≡◌, ◌+◌, ◌-◌, ◌*◌, ◌^◌, ◌<◌, ◌≤◌, ℕ, slice_set, slice_index, length, OnOk, OnErr};
-ghost use Rattle.mig_index.specs.Radix.{step, IsLevel};
-ghost use Rattle.mig_index.specs.Tree.{HasSpare, HasNodes};
+ghost use Rattle.std.specs.Prelude.{◌≡◌, ◌+◌, ◌-◌, ◌*◌, ◌<◌, ◌≤◌, ℕ, slice_set, slice_index, length, OnOk, IfSome, IfNone};
+ghost use Rattle.mig_index.specs.Leaves.{step, IsLevel};
+ghost use Rattle.mig_index.specs.Tree.{HasSpare};
 
 use std::alloc::{AllocError, Global};
 
-/// How many places a node has.
+/// How many places a leaf has.
 const PLACES: usize = 512;
 
-/// Nodes of 512 places, one behind another. Those from `used` on are spare: there, and empty.
+/// There are no more leaves than this.
+const MOST: usize = 1 << 31;
+
+/// Leaves of 512 places, one behind another. Those from `used` on are spare: there, and empty.
 #[derive(Drop)]
 pub(crate) struct Level {
     pub(crate) cells: Vec<u64>,
@@ -15,7 +18,7 @@ pub(crate) struct Level {
 }
 
 impl Level {
-    /// What stands at a place of a node; 0 where there is no node.
+    /// What stands at a place of a leaf; 0 where there is no leaf.
     pub(crate) fn get(&self, node: u64, place: usize) -> u64
         requires sound { IsLevel self.now.cells.items self.now.used }
         requires node { node ≤ self.now.used }
@@ -28,7 +31,24 @@ impl Level {
         self.cells[(node as usize - 1) * PLACES + place]
     }
 
-    /// Puts a value at a place of a node.
+    /// The least place of a leaf, from this one on, that has a value, with the value.
+    pub(crate) fn next(&self, node: u64, from: usize) -> Option<(usize, u64)>
+        requires sound { IsLevel self.now.cells.items self.now.used }
+        requires node { (0 < node) × (node ≤ self.now.used) }
+        requires from { from ≤ 512 }
+        ensures none { IfNone result ((j : ℕ) → from ≤ j → j < 512 → step self.now.cells.items node j ≡ 0) }
+        ensures least { IfSome result (λ e. (from ≤ e.0) × (e.0 < 512) × (0 < e.1) × (step self.now.cells.items node e.0 ≡ e.1) × ((j : ℕ) → from ≤ j → j < e.0 → step self.now.cells.items node j ≡ 0)) }
+    {
+        for place in from..PLACES {
+            let value = self.get(node, place);
+            if value > 0 {
+                return Some((place, value));
+            }
+        }
+        None
+    }
+
+    /// Puts a value at a place of a leaf.
     pub(crate) fn set(&mut self, node: u64, place: usize, value: u64)
         requires sound { IsLevel self.old.cells.items self.old.used }
         requires node { (0 < node) × (node ≤ self.old.used) }
@@ -39,7 +59,7 @@ impl Level {
         self.cells[(node as usize - 1) * PLACES + place] = value;
     }
 
-    /// Takes a spare node into use.
+    /// Takes a spare leaf into use.
     pub(crate) fn open(&mut self) -> u64
         requires sound { IsLevel self.old.cells.items self.old.used }
         requires spare { HasSpare self.old.cells.items self.old.used 1 }
@@ -51,7 +71,7 @@ impl Level {
         self.used as u64
     }
 
-    /// No nodes.
+    /// No leaves.
     pub(crate) fn new(alloc: Global) -> Level
         ensures sound { IsLevel result.cells.items result.used }
         ensures unused { result.used ≡ 0 }
@@ -62,21 +82,22 @@ impl Level {
         }
     }
 
-    /// Makes ready at least so many spare nodes, or all that are left of the `most` that there can be.
-    pub(crate) fn reserve(&mut self, more: usize, most: usize) -> Result<(), AllocError>
+    /// Makes ready at least so many spare leaves.
+    pub(crate) fn reserve(&mut self, more: usize) -> Result<(), AllocError>
         requires sound { IsLevel self.old.cells.items self.old.used }
-        requires most { (self.old.used ≤ most) × (most ≤ 2 ^ 19) }
         ensures sound { IsLevel self.new.cells.items self.new.used }
         ensures used { self.new.used ≡ self.old.used }
         ensures same { (i : ℕ) → slice_index self.new.cells.items i ≡ slice_index self.old.cells.items i }
         ensures kept { length self.old.cells.items ≤ length self.new.cells.items }
-        ensures ready { OnOk result (HasNodes self.new most more) }
+        ensures ready { OnOk result (HasSpare self.new.cells.items self.new.used more) }
     {
-        let wanted = (self.used + more.min(most - self.used)) * PLACES;
-        if self.cells.len() >= wanted {
-            return Ok(());
+        if more >= MOST - self.used {
+            return Err(AllocError);
         }
-        self.cells.resize(wanted, 0)?;
+        let wanted = (self.used + more) * PLACES;
+        if self.cells.len() < wanted {
+            self.cells.resize(wanted, 0)?;
+        }
         Ok(())
     }
 }

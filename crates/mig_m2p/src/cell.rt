@@ -6,7 +6,7 @@ ghost use Rattle.mig_m2p.specs.Cells.{next_cell, either_below, led};
 #[derive(Clone, Copy, Drop)]
 pub(crate) struct Cell {
     pub(crate) machine: u64,
-    pub(crate) pfn: u32,
+    pub(crate) pfn: u64,
     /// The cell below for a bit that is 0; 0 where there is none.
     pub(crate) zero: u32,
     /// The cell below for a bit that is 1; 0 where there is none.
@@ -50,7 +50,7 @@ impl Cell {
     }
 
     /// The cell at the same place, with this machine frame and this PFN.
-    pub(crate) fn having(&self, machine: u64, pfn: u32) -> Cell
+    pub(crate) fn having(&self, machine: u64, pfn: u64) -> Cell
         ensures { result ≡ record self.now { machine = machine; pfn = pfn } }
     {
         let mut cell = *self;

@@ -1,6 +1,5 @@
 ghost use Rattle.std.specs.Prelude.{◌≡◌, ◌≢◌, ◌+◌, ◌-◌, ◌^◌, ◌<◌, ◌≤◌, ℕ, true, false, IsSome, IsOk, None, OnOk, slice_index, length, max};
 ghost use Rattle.std.specs.FinMap as maps;
-ghost use Rattle.mig_pagetypes.specs.Limits.{pfn_limit};
 ghost use Rattle.mig_m2p.specs.Cells.{Agree, next_cell};
 ghost use Rattle.mig_m2p.specs.Trees.{IsStandingTree, IsGrown, AreFree, kept, cell_of};
 
@@ -132,11 +131,11 @@ impl Tree {
         if self.cell(at).machine != machine {
             return None;
         }
-        Some(self.cell(at).pfn as u64)
+        Some(self.cell(at).pfn)
     }
 
     /// Hangs a free cell with this machine frame below the cell where the way to it ends.
-    fn hang(&mut self, at: usize, machine: u64, pfn: u32)
+    fn hang(&mut self, at: usize, machine: u64, pfn: u64)
         requires sound { IsStandingTree self.old }
         requires below { machine < 2 ^ 40 }
         requires used { (cell_of self.old at).used ≡ true }
@@ -165,7 +164,6 @@ impl Tree {
     pub(crate) fn put_spare(&mut self, machine: u64, pfn: u64)
         requires sound { IsStandingTree self.old }
         requires below { machine < 2 ^ 40 }
-        requires small { pfn < pfn_limit }
         requires room { maps.get (kept self.old) machine ≡ None → 1 ≤ self.old.spare }
         ensures sound { IsStandingTree self.new }
         ensures kept { kept self.new ≡ maps.insert (kept self.old) machine pfn }
@@ -174,10 +172,10 @@ impl Tree {
     {
         let at = self.seek(machine);
         if self.cell(at).machine == machine {
-            self.cells[at] = self.cell(at).having(machine, pfn as u32);
+            self.cells[at] = self.cell(at).having(machine, pfn);
             return;
         }
-        self.hang(at, machine, pfn as u32);
+        self.hang(at, machine, pfn);
     }
 
     /// Takes a leaf out of the tree, whose machine frame and PFN then stand in this cell, in place of those that it had.

@@ -8,12 +8,12 @@ fn m2p_finds_what_was_put(rt: HostRuntime) -> Result<(), Fail> {
     m2p.put_spare(5, 1);
     m2p.put_spare(13, 0);
     m2p.put_spare(21, 3);
-    m2p.put_spare(6, (1 << 28) - 1);
+    m2p.put_spare(6, (1 << 52) - 1);
     assert_eq!(rt;
         (m2p.get(5), m2p.get(13), m2p.get(21)),
         (Some(1), Some(0), Some(3))
     );
-    assert_eq!(rt; (m2p.get(6), m2p.get(29)), (Some((1 << 28) - 1), None));
+    assert_eq!(rt; (m2p.get(6), m2p.get(29)), (Some((1 << 52) - 1), None));
     assert_eq!(rt;
         (m2p.get(0), m2p.get(1 << 40), m2p.get(u64::MAX)),
         (None, None, None)

@@ -13,14 +13,14 @@ returns-then-get-eq0-clause-values c =
 pub overflow_sub-self : goal.overflow_sub-self
 overflow_sub-self c =
     let old : 0 < found c.self.inside.tree c.args.number = omega (arith, c.if-get-eq0.false, c.get.ensures) in
-    omega (arith, c.self.invariant.1, some_left _ _ number_limit _ 0 c.requires c.replace.ensures.set old)
+    omega (arith, c.self.invariant.1, some_left _ _ number_limit _ 0 c.requires c.put.ensures.set old)
 
 pub invariant_of-self : goal.invariant_of-self
 invariant_of-self c =
-    let e = c.replace.ensures in let inv = c.self.invariant in
+    let e = c.put.ensures in let inv = c.self.invariant in
     let old : 0 < found c.self.inside.tree c.args.number = omega (arith, c.if-get-eq0.false, c.get.ensures) in
-    (e.sound, ap (λ (n : ℕ). n - 1) inv.1 ∙ sym (put_out _ _ number_limit _ 0 c.requires e.set refl old), same_room _ _ _ e.mids e.leaves e.top inv.2)
+    (e.sound, ap (λ (n : ℕ). n - 1) inv.1 ∙ sym (put_out _ _ number_limit _ 0 c.requires e.set refl old), same_room _ _ _ (e.kept old) inv.2)
 
 pub returns-clause-values : goal.returns-clause-values
 returns-clause-values c =
-    gathered_out _ _ number_limit _ 0 c.requires c.replace.ensures.set refl ∙ ap (λ (i : Indexed). maps.remove i.values c.args.number) c.self.view_is
+    gathered_out _ _ number_limit _ 0 c.requires c.put.ensures.set refl ∙ ap (λ (i : Indexed). maps.remove i.values c.args.number) c.self.view_is
