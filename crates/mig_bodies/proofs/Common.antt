@@ -21,4 +21,4 @@ pub use Rattle.mig_guest.specs.declared.part_key.PartKey.{PartKey}
 pub use Rattle.mig_headers.proofs.FirstFaults.{both_none, neither_some, no_fault, rows_fine}
 pub use Rattle.mig_headers.specs.Rows.{first_fault}
 pub use Rattle.mig_headers.specs.declared.fault.Cause.{Cause}
-pub use Rattle.mig_headers.specs.declared.fault.Cause.TheVariants.{BadLength, BadPvInfo, P2mRange, P2mStart, Pv32}
+pub use Rattle.mig_headers.specs.declared.fault.Cause.TheVariants.{BadLength, BadPvInfo, P2mStart, Pv32}

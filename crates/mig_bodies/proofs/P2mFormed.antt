@@ -5,7 +5,11 @@ use Rattle.std.specs.FinMap.{get-insert}
 use Rattle.std.specs.Ordering.{eq_by_cmp}
 use Rattle.mig_headers.specs.declared.kind.Kind.{Kind}
 use Rattle.mig_headers.specs.declared.kind.Kind.TheVariants.{Pv, Hvm}
-use Rattle.mig_pagetypes.specs.Limits.{pfn_limit}
+use Rattle.mig_pagetypes.specs.Limits.{top_limit}
+use Rattle.mig_bytes.specs.Bytes.{AreBytes}
+use Rattle.std.proofs.lemmas.List.Elements.{recursion_from_All}
+use Rattle.mig_bytes.proofs.ByteLists.{word_below}
+use Rattle.mig_bodies.proofs.PvLaws.{list_is}
 use Rattle.mig_guest.specs.declared.table.Entry.{Entry}
 use Rattle.mig_guest.specs.declared.table.Entry.TheVariants.{Blank, NotPresent, Superpage, Frame}
 use Rattle.mig_guest.specs.Frames.{FrameOf}
@@ -85,7 +89,7 @@ part_wider kind v w key bytes other is = record {
 
 -- ---- the list of P2M frames
 
-module _ (g : GuestOf) (pv : g.kind ≡ Pv) (formed : IsFormed g) (none_yet : maps.get g.parts p2m_key ≡ None → g.top ≡ 0) (last : ℕ) (frames body : List ℕ) (is : IsP2m last frames body) where
+module _ (g : GuestOf) (pv : g.kind ≡ Pv) (formed : IsFormed g) (none_yet : maps.get g.parts p2m_key ≡ None → g.top ≡ 0) (last : ℕ) (frames body : List ℕ) (all : AreBytes body) (is : IsP2m last frames body) where
   abbrev top : ℕ
   top = greater g.top last
 
@@ -126,9 +130,12 @@ module _ (g : GuestOf) (pv : g.kind ≡ Pv) (formed : IsFormed g) (none_yet : ma
   each_part key bytes false other got =
       part_wider g.kind (width_of g) (top + 1) key bytes (λ e. let no : true ≡ false = sym (ap (λ k. eq_by_cmp part_cmp k p2m_key) e) ∙ other in cc) (formed.parts key bytes got)
 
+  last_small : last < top_limit
+  last_small = subst (λ n. n < top_limit) (list_is last frames body is).1 (word_below 4 body (recursion_from_All (λ b. b < 256) body all))
+
   pub p2m_keeps : IsFormed (set_p2m last frames g)
   p2m_keeps = record {
-    top = subst (λ kind. IsTop kind top) (sym pv) (below g.top last pfn_limit (subst (λ kind. IsTop kind g.top) pv formed.top) is.small);
+    top = subst (λ kind. IsTop kind top) (sym pv) (below g.top last top_limit (subst (λ kind. IsTop kind g.top) pv formed.top) last_small);
     frames = λ pfn frame got. frame_wider g.kind g.top top pfn frame (above g.top last).0 (formed.frames pfn frame got);
     parts = λ key bytes got. each_part key bytes (eq_by_cmp part_cmp key p2m_key) refl (sym (get-insert part_total g.parts p2m_key new key) ∙ got);
     policies = λ code one. subst (λ ps. length ps ≤ 65536) (sym (same_parts code (maps.insert g.parts p2m_key new) g.parts (λ q of_code. put_other g.parts (p2m_key, new) q (λ three.

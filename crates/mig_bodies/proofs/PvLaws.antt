@@ -1,12 +1,11 @@
 -- The bodies of X86_PV_INFO and X86_PV_P2M_FRAMES without fault are those that are spelled so; what is wrong with the body
 -- of a vCPU's record.
-use Rattle.mig_bodies.proofs.Common.{◌≡◌, ℕ, ◌+◌, ◌*◌, ◌≤◌, ◌↔◌, Bool, true, false, not, List, [], ◌∷◌, ◌++◌, length, take, drop, nat_le, None, refl, sym, ap, ◌∙◌, arith, take-append-drop, length-append, length-drop, length-take-le, ◌==◌, ◌&&◌, drop-append-le, little_number, little_from-append, eqb-true, eq-eqb, leb-false, le-leb, le-ltb, lt-leb, and_parts, not-false, rows_fine, no_fault, Cause, Option, first_fault, fault_of_body, HasBodyLength, small_number, gdt_ents, PartCode, VcpuBasic, VcpuMsrs, leb-true, nat_lt, BadLength, Pv32, BadPvInfo, P2mStart, P2mRange}
+use Rattle.mig_bodies.proofs.Common.{◌≡◌, ℕ, ◌+◌, ◌*◌, ◌≤◌, ◌↔◌, Bool, true, false, not, List, [], ◌∷◌, ◌++◌, length, take, drop, nat_le, None, refl, sym, ap, ◌∙◌, arith, take-append-drop, length-append, length-drop, length-take-le, ◌==◌, ◌&&◌, drop-append-le, little_number, little_from-append, eqb-true, eq-eqb, le-leb, le-ltb, and_parts, not-false, rows_fine, no_fault, Cause, Option, first_fault, fault_of_body, HasBodyLength, small_number, gdt_ents, PartCode, VcpuBasic, VcpuMsrs, leb-true, nat_lt, BadLength, Pv32, BadPvInfo, P2mStart}
 use Rattle.std.proofs.lemmas.List.{drop_at}
 use Rattle.std.specs.Prelude.{◌||◌, ◌-◌, ◌%◌}
 use Rattle.std.specs.Option.{option_or}
 use Rattle.std.proofs.lemmas.Grind.{common_steps}
 use Rattle.mig_bytes.specs.Fields.{le32}
-use Rattle.mig_pagetypes.specs.Limits.{pfn_limit}
 use Rattle.mig_headers.specs.declared.fault.Cause.TheVariants.{VcpuId, GdtEnts}
 use Rattle.mig_headers.specs.declared.record_type.RecordType.TheVariants as types
 use Rattle.mig_guest.specs.declared.part_code.PartCode.TheVariants.{VcpuExtended, VcpuXsave}
@@ -47,7 +46,7 @@ module _ (body : List ℕ) (long : 8 ≤ length body) where
 
   spelled_p2m : fault_of_p2m body ≡ None → IsP2m last (drop 8 body) body
   spelled_p2m fine =
-      let rows = rows_fine ((nat_le first last && not (length body == 8 + 8 * p2m_count first last), BadLength (length body)) ∷ (not (first == 0), P2mStart first) ∷ (nat_le pfn_limit last, P2mRange last) ∷ []) fine in
+      let rows = rows_fine ((nat_le first last && not (length body == 8 + 8 * p2m_count first last), BadLength (length body)) ∷ (not (first == 0), P2mStart first) ∷ []) fine in
       let zero : first ≡ 0 = eqb-true first 0 (not-false (first == 0) rows.1.0) in
       let size : length body ≡ 8 + 8 * p2m_count first last = eqb-true _ _ (other_fails (nat_le first last) (length body == 8 + 8 * p2m_count first last) rows.0 (le-leb first last (omega (arith, zero)))) in
       record {
@@ -56,7 +55,6 @@ module _ (body : List ℕ) (long : 8 ≤ length body) where
         front_len = length-take-le 8 body long;
         first_is = in_front 0 (omega arith) ∙ zero;
         last_is = in_front 4 (omega arith);
-        small = leb-false pfn_limit last rows.1.1.0;
         listed = omega (arith, length-drop 8 body, size, ap (λ n. 8 * p2m_count n last) zero);
       }
 
@@ -64,8 +62,8 @@ module _ (body : List ℕ) (long : 8 ≤ length body) where
   p2m_spelled is =
       let zero : first ≡ 0 = ap (λ b. le32 b 0) is.whole ∙ at_front is.front (drop 8 body) 0 (omega (arith, is.front_len)) ∙ is.first_is in
       let size : length body ≡ 8 + 8 * p2m_count first last = omega (arith, length-drop 8 body, long, is.listed, ap (λ n. 8 * p2m_count n last) zero) in
-      no_fault ((nat_le first last && not (length body == 8 + 8 * p2m_count first last), BadLength (length body)) ∷ (not (first == 0), P2mStart first) ∷ (nat_le pfn_limit last, P2mRange last) ∷ [])
-      (never (nat_le first last) _ (eq-eqb _ _ size), (ap not (eq-eqb first 0 zero), (lt-leb pfn_limit last is.small, tt)))
+      no_fault ((nat_le first last && not (length body == 8 + 8 * p2m_count first last), BadLength (length body)) ∷ (not (first == 0), P2mStart first) ∷ [])
+      (never (nat_le first last) _ (eq-eqb _ _ size), (ap not (eq-eqb first 0 zero), tt))
     where
       never : (b c : Bool) → c ≡ true → (b && not c) ≡ false
       never true c is = ap not is

@@ -1,11 +1,10 @@
 -- The bodies of X86_PV_INFO, X86_PV_P2M_FRAMES and the records of vCPUs (libxc migration stream, "Records").
-use Rattle.std.specs.Prelude.{◌≡◌, ◌<◌, ℕ, ◌+◌, ◌-◌, ◌*◌, ◌/◌, Bool, true, false, List, [], ◌∷◌, ◌++◌, length, drop, slice_index, Option, Some, None, ◌==◌, ◌&&◌, not, nat_le, nat_lt, if◌then◌else◌}
+use Rattle.std.specs.Prelude.{◌≡◌, ℕ, ◌+◌, ◌-◌, ◌*◌, ◌/◌, Bool, true, false, List, [], ◌∷◌, ◌++◌, length, drop, slice_index, Option, Some, None, ◌==◌, ◌&&◌, not, nat_le, nat_lt, if◌then◌else◌}
 use Rattle.std.specs.FinMap as maps
 use Rattle.mig_bytes.specs.Fields.{le32}
 use Rattle.mig_headers.specs.Rows.{first_fault}
 use Rattle.mig_headers.specs.declared.fault.Cause.{Cause}
-use Rattle.mig_headers.specs.declared.fault.Cause.TheVariants.{BadLength, Pv32, BadPvInfo, P2mStart, P2mRange, VcpuId, GdtEnts}
-use Rattle.mig_pagetypes.specs.Limits.{pfn_limit}
+use Rattle.mig_headers.specs.declared.fault.Cause.TheVariants.{BadLength, Pv32, BadPvInfo, P2mStart, VcpuId, GdtEnts}
 use Rattle.mig_guest.specs.declared.part_code.PartCode.{PartCode}
 use Rattle.mig_guest.specs.declared.part_code.PartCode.TheVariants.{VcpuBasic, VcpuExtended, VcpuXsave, VcpuMsrs}
 use Rattle.mig_guest.specs.Guests.{GuestOf}
@@ -36,17 +35,15 @@ pub record IsP2m (last : ℕ) (frames body : List ℕ) : Type 0 where
   pub front_len : length front ≡ 8
   pub first_is : le32 front 0 ≡ 0
   pub last_is : le32 front 4 ≡ last
-  pub small : last < pfn_limit
   pub listed : length frames ≡ 8 * p2m_count 0 last
 
--- a body of another length than its two frame numbers ask for, a first one that isn't 0, a last one that is none. Where
--- the first is above the last they ask for no length.
+-- a body of another length than its two frame numbers ask for, or a first one that isn't 0. Where the first is above the
+-- last they ask for no length.
 abbrev pub fault_of_p2m : List ℕ → Option Cause
 fault_of_p2m body =
     first_fault (
     (nat_le (le32 body 0) (le32 body 4) && not (length body == 8 + 8 * p2m_count (le32 body 0) (le32 body 4)), BadLength (length body))
     ∷ (not (le32 body 0 == 0), P2mStart (le32 body 0))
-    ∷ (nat_le pfn_limit (le32 body 4), P2mRange (le32 body 4))
     ∷ [])
 
 -- the frames that were listed before, where these replace the first of them

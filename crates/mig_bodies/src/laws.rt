@@ -1,5 +1,6 @@
 ghost use Rattle.std.specs.Prelude.{◌≡◌, ◌↔◌, ◌≤◌, ℕ, true, List, length, drop, None};
 ghost use Rattle.std.specs.FinMap as maps;
+ghost use Rattle.mig_bytes.specs.Bytes.{AreBytes};
 ghost use Rattle.mig_bytes.specs.Fields.{le32};
 ghost use Rattle.mig_headers.specs.declared.kind.Kind.TheVariants.{Pv};
 ghost use Rattle.mig_guest.specs.declared.part_code.PartCode.{PartCode};
@@ -59,8 +60,8 @@ pub fn p2m_law()
 
 /// A PV guest that is well formed, with top 0 before any P2M frames are listed, stays so where P2M frames are listed.
 pub fn p2m_keeps_formed_law()
-    ensures { (g : GuestOf) (last : ℕ) (frames body : List ℕ) → g.kind ≡ Pv → (maps.get g.parts p2m_key ≡ None → g.top ≡ 0) → IsP2m last frames body
-        → IsFormed g → IsFormed (set_p2m last frames g) }
+    ensures { (g : GuestOf) (last : ℕ) (frames body : List ℕ) → g.kind ≡ Pv → (maps.get g.parts p2m_key ≡ None → g.top ≡ 0) → AreBytes body
+        → IsP2m last frames body → IsFormed g → IsFormed (set_p2m last frames g) }
 {}
 
 /// The first fault of the body of a vCPU's record is that its id is no vCPU's, and then that its context has too many

@@ -7,7 +7,6 @@ use crate::read::body_fault;
 use mig_bytes::{Memory, u32_le};
 use mig_guest::{Guest, PartCode, PartKey};
 use mig_headers::Cause;
-use mig_pagetypes::PFN_LIMIT;
 
 /// A P2M frame holds the machine frames of so many frame numbers.
 const IN_P2M_FRAME: u64 = 512;
@@ -32,7 +31,7 @@ pub fn pv_info_fault(body: &[u8; 8]) -> Option<Cause>
 }
 
 /// What is wrong with the body of an X86_PV_P2M_FRAMES: `BadLength` where it isn't as long as its two frame numbers ask,
-/// `P2mStart` where the first isn't 0, `P2mRange` where the last is 2^28 or more.
+/// `P2mStart` where the first isn't 0.
 pub fn p2m_fault(body: &[u8]) -> Option<Cause>
     requires { 8 ≤ length body.now }
     ensures { result ≡ fault_of_p2m body.now }
@@ -47,9 +46,6 @@ pub fn p2m_fault(body: &[u8]) -> Option<Cause>
     }
     if first != 0 {
         return Some(Cause::P2mStart(first));
-    }
-    if last >= PFN_LIMIT {
-        return Some(Cause::P2mRange(last));
     }
     None
 }

@@ -15,6 +15,7 @@ use Rattle.std.proofs.lemmas.List.FromFn.{map-range_with_len_more, take-map-rang
 use Rattle.byteorder.specs.Endian.{little_bytes}
 use Rattle.mig_bytes.specs.declared.failure.WriteFailed.{WriteFailed}
 use Rattle.mig_headers.specs.declared.kind.Kind.TheVariants.{Pv}
+use Rattle.mig_pagetypes.specs.Limits.{top_limit}
 use Rattle.mig_guest.specs.Guests.{GuestOf}
 use Rattle.mig_guest.specs.Formed.{IsFormed, IsTop, width_of}
 use Rattle.mig_guest.specs.Order.{part_cmp}
@@ -112,10 +113,10 @@ module _ (g : GuestOf) (formed : IsFormed g) where
   -- ---- the P2M frames of a PV guest
 
   module _ (pv : g.kind ≡ Pv) where
-    pub top_small : g.top < 2 ^ 28
+    pub top_small : g.top < top_limit
     top_small = subst (λ kind. IsTop kind g.top) pv formed.top
 
-    pub p2m_short : (bytes : List ℕ) → maps.get g.parts p2m_key ≡ Some bytes → length bytes ≤ 2 ^ 22
+    pub p2m_short : (bytes : List ℕ) → maps.get g.parts p2m_key ≡ Some bytes → length bytes ≤ 2 ^ 26
     p2m_short bytes there =
         let part = formed.parts p2m_key bytes there in
         let named : Some P2mFrames ≡ Some part.code = numbered 3 part.code part.number in let code : P2mFrames ≡ part.code = cc in

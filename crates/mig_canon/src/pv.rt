@@ -41,7 +41,7 @@ pub fn write_info<K: Sink>(sink: &mut K, guest: &Guest) -> Result<(), WriteFaile
 /// Appends the record of the P2M frames of all frame numbers up to `top`.
 #[tactic(auto, using(mig_bytes::proofs::Texts::puts_then, mig_bytes::proofs::Texts::puts_stop, mig_bytes::proofs::Texts::puts_same, crate::proofs::PvRecords::p2m_text))]
 fn write_p2m_list<K: Sink>(sink: &mut K, top: u32, frames: &[u8]) -> Result<(), WriteFailed>
-    requires { length frames.now ≤ 2 ^ 22 }
+    requires { length frames.now ≤ 2 ^ 26 }
     ensures bytes { Puts (spelled 3 (p2m_body top frames.now)) (K.written sink.old) (K.written sink.new) result }
     ensures cause { HasCause (K.faults sink.old) (K.faults sink.new) result }
 {

@@ -1,6 +1,6 @@
 -- The body of each batch of frames says these frames.
-use Rattle.mig_canon_laws.proofs.Common.{◌≡◌, ℕ, zero, suc, ◌+◌, ◌-◌, ◌*◌, ◌/◌, ◌%◌, ◌≤◌, ◌<◌, ◌^◌, min, List, [], ◌∷◌, ◌++◌, length, take, drop, map, replicate, Bool, true, false, nat_le, Option, Some, None, refl, sym, ap, subst, ◌∙◌, arith, length-append, drop-drop, unwrap_or, is_some, All, nat_lt, IsInside, meant_type, range_with_len, nat_cmp-IsAntisymmetric, little_bytes, little_number, Kind, Hvm, Pv, is_type_of, GuestOf, IsFormed, Frame, batch, batches, frame_word_in, page_in, words_of, pages_of, frames_in, IsPage, IsEntry, AreEntries, IsGoodWord, IsBatch, common_steps, All-nil, All-cons, All-head, All-tail, all_found}
-use Rattle.std.proofs.lemmas.Bool.{or_from}
+use Rattle.mig_canon_laws.proofs.Common.{◌≡◌, ℕ, zero, suc, ◌+◌, ◌-◌, ◌*◌, ◌/◌, ◌%◌, ◌≤◌, ◌<◌, ◌^◌, min, List, [], ◌∷◌, ◌++◌, length, take, drop, map, replicate, Bool, true, false, Option, Some, None, refl, sym, ap, subst, ◌∙◌, arith, length-append, drop-drop, unwrap_or, is_some, All, nat_lt, IsInside, meant_type, range_with_len, nat_cmp-IsAntisymmetric, little_bytes, little_number, Kind, Hvm, Pv, is_type_of, GuestOf, IsFormed, Frame, batch, batches, frame_word_in, page_in, words_of, pages_of, frames_in, IsPage, IsEntry, AreEntries, IsGoodWord, IsBatch, common_steps, All-nil, All-cons, All-head, All-tail, all_found}
+use Rattle.mig_pagetypes.specs.Limits.{pfn_limit}
 use Rattle.std.proofs.lemmas.List.{length-take, length-drop, take_all}
 use Rattle.std.proofs.Math.Seq.{take-add}
 use Rattle.std.specs.Cmp.{nat_cmp_total}
@@ -47,26 +47,20 @@ all_kept g kind of_kind formed = all_found nat_cmp_total nat_cmp-IsAntisymmetric
 
 -- ---- a word
 
-type_is : (n p : ℕ) → p < 2 ^ 28 → (n * 2 ^ 60 + p) / 2 ^ 60 ≡ n
+type_is : (n p : ℕ) → p < pfn_limit → (n * 2 ^ 60 + p) / 2 ^ 60 ≡ n
 type_is n p h = omega arith
 
-pfn_is : (n p : ℕ) → p < 2 ^ 28 → (n * 2 ^ 60 + p) % 2 ^ 52 ≡ p
+pfn_is : (n p : ℕ) → p < pfn_limit → (n * 2 ^ 60 + p) % 2 ^ 52 ≡ p
 pfn_is n p h = omega arith
 
 not_reserved : (t : PageType) (w : ℕ) → word_type w ≡ number_of t → has_reserved_type w ≡ false
 not_reserved Notab w is = rw is refl
 not_reserved _ w is = rw is refl
 
-not_high : (n p : ℕ) → n ≡ p → p < 2 ^ 28 → nat_le (2 ^ 28) n ≡ false
-not_high n p is h = low n (omega (arith, is, h))
-  where
-    low : (m : ℕ) → m < 2 ^ 28 → nat_le (2 ^ 28) m ≡ false
-    low m less = grind (arith, common_steps)
-
 -- a frame number that lies inside isn't outside
-not_outside : (kind : Kind) (top n p : ℕ) → n ≡ p → p < 2 ^ 28 → IsInside kind top p → is_outside kind top n ≡ false
-not_outside Hvm top n p is low inside = not_high n p is low
-not_outside Pv top n p is low inside = or_from (nat_le (2 ^ 28) n) (nat_lt top n) (not_high n p is low) (below n (omega (arith, is, inside)))
+not_outside : (kind : Kind) (top n p : ℕ) → n ≡ p → IsInside kind top p → is_outside kind top n ≡ false
+not_outside Hvm top n p is inside = refl
+not_outside Pv top n p is inside = below n (omega (arith, is, inside))
   where
     below : (m : ℕ) → m ≤ top → nat_lt top m ≡ false
     below m less = grind (arith, common_steps)
@@ -88,7 +82,7 @@ module _ (kind : Kind) (top : ℕ) (f : Frame) (fine : IsSendable kind top f) wh
   small = omega (arith, number_small f.1.type, fine.low)
 
   good_word : IsGoodWord kind top (frame_word_in f)
-  good_word = (not_reserved f.1.type (frame_word_in f) typed, not_outside kind top (word_pfn (frame_word_in f)) f.0 numbered fine.low fine.inside)
+  good_word = (not_reserved f.1.type (frame_word_in f) typed, not_outside kind top (word_pfn (frame_word_in f)) f.0 numbered fine.inside)
 
   has_data : word_has_data (frame_word_in f) ≡ type_has_data f.1.type
   has_data = ap (λ n. some_has_data (type_of n)) typed ∙ ap some_has_data (type_back f.1.type)

@@ -1,5 +1,6 @@
 -- What the bodies of the records of a PV guest say: X86_PV_INFO, the P2M frames, and the parts of each vCPU.
 use Rattle.mig_canon_laws.proofs.Common.{◌≡◌, ℕ, ◌*◌, ◌<◌, ◌≤◌, ◌^◌, Bool, true, false, cond, List, [], ◌∷◌, ◌++◌, length, map, replicate, Some, None, refl, sym, ap, subst, ◌∙◌, arith, All, AllByRecursion, find, little_bytes, Pv, PartCode, PartKey, Part, GuestOf, IsFormed, IsTop, width_of, part_cmp, code_number, parts_of, put_part, p2m_key, p2m_body, key_of, vcpu_codes, IsRecordBody, SayAll, bodies_by_shape, contents_by_shape, part_body, parts_at, shape_of, ◌==◌, eqb-true, eq-eqb, le-leb, All-nil, All-cons, VcpuBasic, VcpuExtended, VcpuXsave, VcpuMsrs, part_exact, of_part, canonical_bodies_say}
+use Rattle.mig_pagetypes.specs.Limits.{top_limit}
 use Rattle.std.specs.FinMap as maps
 use Rattle.std.specs.FinMap.Entries.{find-where_key}
 use Rattle.mig_guest.specs.declared.part_code.PartCode.TheVariants.{P2mFrames}
@@ -21,7 +22,7 @@ info_says = (record { ignored = replicate 6 0; whole = refl }, refl)
 -- ---- X86_PV_P2M_FRAMES
 
 module _ (g : GuestOf) (formed : IsFormed g) (pv : g.kind ≡ Pv) where
-  top_is_small : g.top < 2 ^ 28
+  top_is_small : g.top < top_limit
   top_is_small = subst (λ kind. IsTop kind g.top) pv formed.top
 
   -- the list of P2M frames lists them all
@@ -37,7 +38,6 @@ module _ (g : GuestOf) (formed : IsFormed g) (pv : g.kind ≡ Pv) where
     front_len = refl;
     first_is = le32_first 0 (little_bytes 4 g.top) (omega arith);
     last_is = le32_second 0 g.top (omega (arith, top_is_small));
-    small = top_is_small;
     listed = p2m_listed frames there;
   }
 

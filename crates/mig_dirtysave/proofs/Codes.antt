@@ -98,7 +98,7 @@ module _ (h : HostOf) (valid : IsValid h) (codes : ℕ → Bool) (plain : codes 
 
   pub kept_formed : IsFormed (parts_alone h.kind h.width (kept_parts codes h.parts))
   kept_formed = record {
-    top = top_is h.kind h.width valid.width valid.some_width;
+    top = top_is h.kind h.width valid.pv_width valid.some_width;
     frames = λ pfn frame is. absurd (no_frame pfn frame is);
     parts = λ key bytes is. kept_part h.kind refl key bytes is;
     policies = λ code one. each_policy (λ c. is_policy c ≡ true → FitsPolicy c (kept_parts codes h.parts)) (λ two. kept_fits 17 valid.leaves two (codes 17) refl) (λ two. kept_fits 18 valid.msrs two (codes 18) refl) code one one;

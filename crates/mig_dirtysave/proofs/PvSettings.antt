@@ -115,7 +115,7 @@ module _ (h : HostOf) where
 
       pub settings_formed : IsFormed (settings_seen h)
       settings_formed = record {
-        top = top_is h.kind h.width valid.width valid.some_width;
+        top = top_is h.kind h.width valid.pv_width valid.some_width;
         frames = λ pfn frame is. absurd (no_frame pfn frame is);
         parts = λ key bytes is.
             subst (λ (k : Kind). IsPart k (top_of k h.width + 1) key bytes) (sym pv)

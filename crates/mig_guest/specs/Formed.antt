@@ -6,7 +6,7 @@ use Rattle.mig_headers.specs.Contexts.{scan, cut_at}
 use Rattle.mig_headers.specs.Pairs.{AreCanonicalPairs}
 use Rattle.mig_headers.specs.declared.kind.Kind.{Kind}
 use Rattle.mig_headers.specs.declared.kind.Kind.TheVariants.{Pv, Hvm}
-use Rattle.mig_pagetypes.specs.Limits.{pfn_limit}
+use Rattle.mig_pagetypes.specs.Limits.{pfn_limit, top_limit}
 use Rattle.mig_guest.specs.declared.part_code.PartCode.{PartCode}
 use Rattle.mig_guest.specs.declared.part_code.PartCode.TheVariants.{VcpuBasic, HvmContext, EmulatorPairs}
 use Rattle.mig_guest.specs.declared.part_key.PartKey.{PartKey}
@@ -68,7 +68,7 @@ width_of g = g.top + 1
 
 -- top is a frame number; an HVM guest has none
 abbrev pub IsTop : Kind → ℕ → Type 0
-IsTop Pv top = top < pfn_limit
+IsTop Pv top = top < top_limit
 IsTop Hvm top = top ≡ 0
 
 -- frame numbers end at top, if there is one

@@ -10,6 +10,7 @@ use Rattle.mig_headers.specs.contracts.kind.Kind as kind
 use Rattle.mig_pagetypes.specs.declared.page_type.PageType.{PageType}
 use Rattle.mig_pagetypes.specs.contracts.page_type.PageType as page_type
 use Rattle.mig_pagetypes.specs.PageTypes.{type_has_data}
+use Rattle.mig_pagetypes.specs.Limits.{top_limit}
 use Rattle.mig_guest.specs.declared.part_key.PartKey.{PartKey}
 use Rattle.mig_guest.specs.Frames.{IsFew, is_type_of}
 use Rattle.mig_guest.specs.Formed.{IsRowPart, IsRawContent}
@@ -38,10 +39,14 @@ pub record HostOf : Type 0 where
 
 -- ---- a valid host
 
--- the greatest width, and the limit that machine frames are below
+-- the greatest width, and the greatest of a host that is saved
 abbrev pub most_width : ℕ
-most_width = 2 ^ 28
+most_width = 2 ^ 52
 
+abbrev pub most_saved_width : ℕ
+most_saved_width = 2 ^ 28
+
+-- machine frames are below this
 abbrev pub machine_limit : ℕ
 machine_limit = 2 ^ 40
 
@@ -65,6 +70,7 @@ IsOneToOne frames = (p q : ℕ) (f g : HostFrame) → maps.get frames p ≡ Some
 pub record IsValid (h : HostOf) : Type 0 where
   pub width : h.width ≤ most_width
   pub some_width : h.kind ≡ Pv → 0 < h.width
+  pub pv_width : h.kind ≡ Pv → h.width ≤ top_limit
   pub frames : (pfn : ℕ) (frame : HostFrame) → maps.get h.frames pfn ≡ Some frame → IsHostFrame h.kind h.width pfn frame
   pub one_to_one : IsOneToOne h.frames
   pub few : IsFew h.frames

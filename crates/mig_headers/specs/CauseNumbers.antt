@@ -1,7 +1,7 @@
 -- The numbers of the causes of a refusal, which are printed, and decide which of several is named.
 use Rattle.std.specs.Prelude.{ℕ}
 use Rattle.mig_headers.specs.declared.fault.Cause.{Cause}
-use Rattle.mig_headers.specs.declared.fault.Cause.TheVariants.{Truncated, NotStream, BadId, BadVersion, BigEndian, BadKind, BadPageShift, BodyTooLong, Unsupported, UnknownMandatory, WrongKind, OutOfOrder, BadLength, NoPages, BadPageType, PfnOutside, Superpage, EntryOutside, Pv32, BadPvInfo, P2mStart, P2mRange, VcpuId, GdtEnts, BadContext, ParamIndex, Missing, P2mFrame, TargetAbsent, VcpuFrame, TooManyRecords, TooManyFrames, BadPairs, BadKey, BadEmulator, EmulatorForPv, ContextCount, TooManyPairs, EmulatorIndex}
+use Rattle.mig_headers.specs.declared.fault.Cause.TheVariants.{Truncated, NotStream, BadId, BadVersion, BigEndian, BadKind, BadPageShift, BodyTooLong, Unsupported, UnknownMandatory, WrongKind, OutOfOrder, BadLength, NoPages, BadPageType, PfnOutside, Superpage, EntryOutside, Pv32, BadPvInfo, P2mStart, VcpuId, GdtEnts, BadContext, ParamIndex, Missing, P2mFrame, TargetAbsent, VcpuFrame, TooManyRecords, TooManyFrames, BadPairs, BadKey, BadEmulator, EmulatorForPv, ContextCount, TooManyPairs, EmulatorIndex}
 use Rattle.mig_headers.specs.declared.image_fault.ImageCause.{ImageCause}
 use Rattle.mig_headers.specs.declared.image_fault.ImageCause.TheVariants as image
 use Rattle.mig_headers.specs.declared.legacy_fault.LegacyCause.{LegacyCause}
@@ -30,7 +30,6 @@ number_of_cause (EntryOutside _ _ _) = 18
 number_of_cause Pv32 = 19
 number_of_cause BadPvInfo = 20
 number_of_cause (P2mStart _) = 21
-number_of_cause (P2mRange _) = 22
 number_of_cause (VcpuId _) = 23
 number_of_cause (GdtEnts _) = 24
 number_of_cause (BadContext _) = 25
@@ -68,6 +67,7 @@ number_of_image_cause (image.PartMany _) = 14
 number_of_image_cause (image.PartLength _) = 15
 number_of_image_cause image.PartBytes = 16
 number_of_image_cause image.PartPadding = 17
+number_of_image_cause (image.ZeroPage _) = 18
 
 -- of a legacy stream
 abbrev pub number_of_legacy_cause : LegacyCause → ℕ

@@ -47,7 +47,6 @@ pub enum Cause {
     Pv32,
     BadPvInfo,
     P2mStart(u64),
-    P2mRange(u64),
     VcpuId(u64),
     GdtEnts(u64),
     BadContext(ContextFault),

@@ -15,13 +15,13 @@ pub enum ImagePlace {
 pub enum ImageCause {
     /// The file ends before this part does.
     Truncated,
-    /// The file doesn't begin with `XGIMAGE1`.
+    /// The file begins neither with `XGIMAGE1` nor with `XGIMAGE2`.
     NotImage,
     /// The guest's kind is this number, and neither 1 nor 2.
     BadKind(u64),
-    /// A field that has to be 0 isn't.
+    /// A field or a bit that has to be 0 isn't.
     Reserved,
-    /// This width is more than 2^28, or 0 for a PV guest.
+    /// This width is above what the reader was to take, in an image of version 1 above 2^28, for a PV guest 0 or above 2^32.
     Width(u64),
     /// This number of frames is more than 2^24 or more than the width.
     FrameCount(u64),
@@ -47,4 +47,6 @@ pub enum ImageCause {
     PartBytes,
     /// The padding isn't zero.
     PartPadding,
+    /// The page of this frame number is all zero, and stands there where the zero flag had to say so.
+    ZeroPage(u64),
 }

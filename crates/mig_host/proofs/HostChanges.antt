@@ -1,5 +1,6 @@
 -- A host stays valid where a frame is changed in place, or taken away.
 use Rattle.mig_host.proofs.Common.{◌≡◌, ℕ, ◌+◌, ◌-◌, ◌<◌, ◌≤◌, ◌^◌, Bool, true, false, cond, length, List, Option, Some, None, is_some, refl, sym, ap, subst, ◌∙◌, ◌⊎◌, inl, inr, arith, unwrap_or, option_map, option_and_then, nat_cmp, eq_by_cmp, nat_cmp_total, nat_cmp-IsAntisymmetric, same_map, len-entries, none-some, same_Some, Kind, FrameOf, FrameMap, HostOf, HostFrame, HostFrames, IsHostFrame, IsOneToOne, IsValid, PartMap, is_type_of, type_has_data, PageType, MachineMap, with_machine, machine_in, host_seen, AreMatched, IsMade, put_frame, Pv, Hvm}
+use Rattle.mig_pagetypes.specs.Limits.{pfn_limit}
 use Rattle.mig_pagetypes.specs.declared.page_type.PageType.TheVariants.{Notab}
 use Rattle.std.specs.FinMap as maps
 use Rattle.mig_host.proofs.Common.{PartKey, part_cmp, part_total, part_exact, FitsPolicy, IsHostPart, IfSome, ◌++◌, ◌==◌, append-nil}
@@ -52,6 +53,7 @@ module _ (h : HostOf) (pfn : ℕ) (old new : HostFrame) (valid : IsValid h) (has
   valid_changed = record {
     width = valid.width;
     some_width = valid.some_width;
+    pv_width = valid.pv_width;
     frames = insert_holds nat_cmp_total nat_cmp-IsAntisymmetric (IsHostFrame h.kind h.width) h.frames pfn new valid.frames fine;
     one_to_one = still_one;
     few = omega (arith, valid.few, no_more, len-entries now, len-entries h.frames);
@@ -77,6 +79,7 @@ module _ (h : HostOf) (pfn : ℕ) (valid : IsValid h) where
   valid_without = record {
     width = valid.width;
     some_width = valid.some_width;
+    pv_width = valid.pv_width;
     frames = remove_holds nat_cmp_total nat_cmp-IsAntisymmetric (IsHostFrame h.kind h.width) h.frames pfn valid.frames;
     one_to_one = λ p q f g hasf hasg alike. valid.one_to_one p q f g (was p f hasf) (was q g hasg) alike;
     few = omega (arith, valid.few, fewer, len-entries (maps.remove h.frames pfn), len-entries h.frames);
@@ -173,7 +176,7 @@ pub there_is : {X : Type 0} (o : Option X) → is_some o ≡ true → (x : X) ×
 there_is None e = let no : false ≡ true = e in cc
 there_is (Some x) e = (x, refl)
 
-pub low_pfn : (h : HostOf) (pfn : ℕ) → IsValid h → is_some (maps.get h.frames pfn) ≡ true → pfn < 2 ^ 28
+pub low_pfn : (h : HostOf) (pfn : ℕ) → IsValid h → is_some (maps.get h.frames pfn) ≡ true → pfn < pfn_limit
 low_pfn h pfn valid e = let (f, has) = there_is (maps.get h.frames pfn) e in let inside = (valid.frames pfn f has).inside in omega (arith, inside, valid.width)
 
 -- a new frame, of a type that guests of either kind have

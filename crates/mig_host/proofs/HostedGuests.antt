@@ -1,10 +1,11 @@
 -- The host that a whole guest becomes is valid and, where the guest is in blank form, sound, and means this guest.
 use Rattle.mig_host.proofs.Common.{◌≡◌, ◌≢◌, ℕ, ◌+◌, ◌<◌, ◌≤◌, ◌^◌, length, List, Option, Some, None, IsSome, refl, sym, ap, subst, ◌∙◌, inl, inr, arith, option_map, nat_cmp_total, nat_cmp-IsAntisymmetric, cases_lt, cases_order, Kind, Pv, Hvm, PartKey, FrameOf, is_type_of, HostFrame, HostFrames, IsHostFrame, IsHostPart, IsOneToOne, IsValid, IsPart, IsTop, width_of, host_part, FitsPolicy, part_total, part_exact, with_machine, with_machines, rank_in, hosted, IsBaseOutside}
+use Rattle.mig_pagetypes.specs.Limits.{top_limit}
 use Rattle.std.specs.FinMap as maps
 use Rattle.mig_guest.specs.Formed.{IsInside}
 use Rattle.mig_guest.specs.Frames.{IsFrame, IsFew}
 use Rattle.mig_guest.specs.Guests.{GuestOf}
-use Rattle.mig_guest.specs.Hosts.{pfn_in}
+use Rattle.mig_guest.specs.Hosts.{pfn_in, most_width}
 use Rattle.mig_pvtables.specs.Blank.{blank}
 use Rattle.mig_pvtables.specs.Renaming.{GoesBack}
 use Rattle.mig_pvtables.specs.VcpuContexts.{is_used}
@@ -122,9 +123,13 @@ module _ (g : GuestOf) (base : ℕ) where
 
     -- ---- validity
 
-    small_width : (k : Kind) → g.kind ≡ k → hosted_width k g ≤ 2 ^ 28
-    small_width Pv is = let small : g.top < 2 ^ 28 = subst (λ (k : Kind). IsTop k g.top) is whole.formed.top in omega (arith, small)
-    small_width Hvm is = width_within g.frames (2 ^ 28) (λ k f found. (whole.formed.frames k f found).small)
+    small_width : (k : Kind) → g.kind ≡ k → hosted_width k g ≤ most_width
+    small_width Pv is = let small : g.top < top_limit = subst (λ (k : Kind). IsTop k g.top) is whole.formed.top in omega (arith, small)
+    small_width Hvm is = width_within g.frames most_width (λ k f found. (whole.formed.frames k f found).small)
+
+    pv_width : (k : Kind) → g.kind ≡ k → k ≡ Pv → hosted_width k g ≤ top_limit
+    pv_width Pv is pv = let small : g.top < top_limit = subst (λ (k : Kind). IsTop k g.top) is whole.formed.top in omega (arith, small)
+    pv_width Hvm is pv = let no : Hvm ≡ Pv = pv in cc
 
     some_width : (k : Kind) → k ≡ Pv → 0 < hosted_width k g
     some_width Pv is = omega arith
@@ -165,6 +170,7 @@ module _ (g : GuestOf) (base : ℕ) where
     valid_inside range = record {
       width = small_width g.kind refl;
       some_width = some_width g.kind;
+      pv_width = pv_width g.kind refl;
       frames = host_frames range;
       one_to_one = one_to_one g.kind;
       few = omega (arith, few_frames g.kind refl, count_with_machines (localised_of g.kind mfn_of g).frames machine_of, count_localised mfn_of g.kind g);

@@ -1,5 +1,7 @@
 -- A host stays valid where a frame or a part is added, and stays what its guest and its machine frames make.
 use Rattle.mig_host.proofs.Common.{◌≡◌, ℕ, ◌<◌, ◌≤◌, ◌^◌, Bool, true, false, cond, length, List, Option, Some, None, is_some, refl, sym, ap, subst, ◌∙◌, ◌⊎◌, inl, inr, arith, unwrap_or, option_map, nat_cmp, eq_by_cmp, nat_cmp_total, nat_cmp-IsAntisymmetric, same_map, get-empty, len-empty, len-entries, empty_of_len, none-some, same_Some, Kind, Pv, PartKey, FrameOf, FrameMap, HostOf, HostFrame, HostFrames, IsHostFrame, IsHostPart, IsOneToOne, IsValid, part_cmp, PartMap, FitsPolicy, parts_of, part_total, part_exact, MachineMap, with_machine, machine_in, host_seen, AreMatched, IsMade, put_frame, put_part_in}
+use Rattle.mig_pagetypes.specs.Limits.{top_limit}
+use Rattle.mig_guest.specs.Hosts.{most_width}
 use Rattle.std.specs.FinMap as maps
 use Rattle.mig_guest.proofs.Found.{insert_holds}
 use Rattle.mig_guest.proofs.KeyedMaps.{insert_len}
@@ -29,6 +31,7 @@ module _ (h : HostOf) (pfn : ℕ) (frame : HostFrame) (valid : IsValid h) (fine 
   valid_frame few = record {
     width = valid.width;
     some_width = valid.some_width;
+    pv_width = valid.pv_width;
     frames = insert_holds nat_cmp_total nat_cmp-IsAntisymmetric (IsHostFrame h.kind h.width) h.frames pfn frame valid.frames fine;
     one_to_one = one_more;
     few = few_more few;
@@ -44,6 +47,7 @@ module _ (h : HostOf) (key : PartKey) (bytes : List ℕ) (valid : IsValid h) (fi
   valid_part leaves msrs = record {
     width = valid.width;
     some_width = valid.some_width;
+    pv_width = valid.pv_width;
     frames = valid.frames;
     one_to_one = valid.one_to_one;
     few = valid.few;
@@ -60,10 +64,11 @@ joined_empty =
     (len-entries (joined maps.empty maps.empty) ∙ count_with_machines maps.empty (machine_in maps.empty) ∙ sym (len-entries {R = nat_cmp} (maps.empty {X = FrameOf})) ∙ len-empty nat_cmp FrameOf)
 
 -- a host without frames and parts
-pub valid_empty : (kind : Kind) (width : ℕ) → width ≤ 2 ^ 28 → (kind ≡ Pv → 0 < width) → IsValid (record { kind = kind; width = width; frames = maps.empty; parts = maps.empty })
-valid_empty kind width small some = record {
+pub valid_empty : (kind : Kind) (width : ℕ) → width ≤ most_width → (kind ≡ Pv → 0 < width) → (kind ≡ Pv → width ≤ top_limit) → IsValid (record { kind = kind; width = width; frames = maps.empty; parts = maps.empty })
+valid_empty kind width small some most = record {
   width = small;
   some_width = some;
+  pv_width = most;
   frames = λ pfn f has. absurd (none-some f (sym (get-empty nat_cmp pfn) ∙ has));
   one_to_one = λ p q f g has gets alike. absurd (none-some f (sym (get-empty nat_cmp p) ∙ has));
   few = subst (λ (es : List (ℕ × HostFrame)). length es ≤ 2 ^ 24) (sym (no_entries nat_cmp HostFrame)) (omega arith);
@@ -76,10 +81,10 @@ valid_empty kind width small some = record {
     none_of code = subst (λ (es : List (PartKey × List ℕ)). length (parts_of code es) ≤ 65536) (sym (no_entries part_cmp (List ℕ))) (omega arith)
 
 -- nothing makes such a host
-pub made_empty : (kind : Kind) (width : ℕ) → width ≤ 2 ^ 28 → (kind ≡ Pv → 0 < width) → IsMade kind width maps.empty maps.empty maps.empty
-made_empty kind width small some = record {
+pub made_empty : (kind : Kind) (width : ℕ) → width ≤ most_width → (kind ≡ Pv → 0 < width) → (kind ≡ Pv → width ≤ top_limit) → IsMade kind width maps.empty maps.empty maps.empty
+made_empty kind width small some most = record {
   matched = λ pfn. ap is_some (get-empty {X = ℕ} nat_cmp pfn) ∙ sym (ap is_some (get-empty {X = FrameOf} nat_cmp pfn));
-  valid = subst (λ (m : HostFrames). IsValid (record { kind = kind; width = width; frames = m; parts = maps.empty })) (sym joined_empty) (valid_empty kind width small some);
+  valid = subst (λ (m : HostFrames). IsValid (record { kind = kind; width = width; frames = m; parts = maps.empty })) (sym joined_empty) (valid_empty kind width small some most);
 }
 
 module _ (frames : FrameMap) (machines : MachineMap) (pfn : ℕ) (f : FrameOf) (machine : ℕ) where

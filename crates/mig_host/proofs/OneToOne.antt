@@ -4,7 +4,7 @@ use Rattle.std.proofs.lemmas.List.Elements.{All-tail}
 use Rattle.std.specs.List as list
 use Rattle.std.specs.FinMap as maps
 use Rattle.mig_guest.specs.Hosts.{machine_limit, pfn_in}
-use Rattle.mig_host.specs.HostView.{pfn_of_machine_in, AreBelowLimit}
+use Rattle.mig_host.specs.HostView.{pfn_of_machine_in}
 use Rattle.mig_host.proofs.InOrder.{all_there, found_passes}
 use Rattle.mig_host.proofs.MachineMaps.{machine_back, pfn_looked_up}
 use Rattle.mig_host.proofs.Machines.{pfn_of_machine}

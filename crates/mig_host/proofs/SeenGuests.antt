@@ -100,8 +100,8 @@ abbrev pub copied_in : HostOf → GuestOf
 copied_in h = record (guest_in h) { parts = each_value part_seen h.parts }
 
 -- PFNs of a host fit into entries
-pub pfns_fit : (h : HostOf) → IsValid h → (mfn pfn : ℕ) → pfn_in h.frames mfn ≡ Some pfn → pfn < 2 ^ 40
-pfns_fit h valid mfn pfn found = omega (arith, pfn_small h valid mfn pfn found)
+pub pfns_fit : (h : HostOf) → IsValid h → h.kind ≡ Pv → (mfn pfn : ℕ) → pfn_in h.frames mfn ≡ Some pfn → pfn < 2 ^ 40
+pfns_fit h valid pv mfn pfn found = omega (arith, pfn_small h valid pv mfn pfn found)
 
 module _ (h : HostOf) (g : GuestOf) (is : g ≡ copied_in h) where
   pub hvm_seen : h.kind ≡ Hvm → g ≡ view h

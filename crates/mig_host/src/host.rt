@@ -3,7 +3,7 @@ ghost use Rattle.std.specs.declared.cmp.Ordering.TheVariants.{Less};
 ghost use Rattle.std.specs.Option.{option_copied, option_map};
 ghost use Rattle.std.specs.FinMap as maps;
 ghost use Rattle.mig_headers.specs.declared.kind.Kind.TheVariants.{Pv};
-ghost use Rattle.mig_pagetypes.specs.Limits.{pfn_limit, most_frames};
+ghost use Rattle.mig_pagetypes.specs.Limits.{pfn_limit, top_limit, most_frames};
 ghost use Rattle.mig_guest.specs.declared.part_key.PartKey.{PartKey};
 ghost use Rattle.mig_guest.specs.Frames.{NextEntry};
 ghost use Rattle.mig_guest.specs.Hosts.{IsHostFrame, IsHostPart, IsValid, most_width, machine_limit, pfn_in};
@@ -55,6 +55,7 @@ impl Host {
     pub fn new(alloc: Global, kind: Kind, width: u64) -> Host
         requires width { width ≤ most_width }
         requires some_width { kind ≡ Pv → 0 < width }
+        requires pv_width { kind ≡ Pv → width ≤ top_limit }
         ensures host { result.host ≡ record { kind = kind; width = width; frames = maps.empty; parts = maps.empty } }
         ensures spare { result.spare ≡ 0 }
     {

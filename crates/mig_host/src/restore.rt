@@ -1,6 +1,7 @@
 ghost use Rattle.std.specs.Prelude.{◌≡◌, ◌⊎◌, ℕ, ◌+◌, ◌<◌, ◌≤◌, ◌^◌, ◌↔◌, true, false, IfOk, Err, IsSome, length};
 ghost use Rattle.std.specs.FinMap as maps;
 ghost use Rattle.std.specs.Option.{option_map};
+ghost use Rattle.mig_pagetypes.specs.Limits.{top_limit};
 ghost use Rattle.mig_pvtables.specs.Whole.{IsWhole};
 ghost use Rattle.mig_host.specs.Hosted.{hosted, hosted_width, rank_in, least_width, IsBaseOutside};
 ghost use Rattle.mig_host.specs.declared.restore.HostAnswer.TheVariants.{BaseRange};
@@ -55,7 +56,7 @@ fn count_up(alloc: Global, guest: &Guest, base: u64) -> Result<(MachineFrames, u
 
 /// The width of the host that a guest becomes, where this is one more than its greatest PFN.
 fn width_for(guest: &Guest, least: u64) -> u64
-    requires { guest.now.top < 2 ^ 28 }
+    requires { guest.now.top < top_limit }
     ensures { least ≡ least_width (maps.entries guest.now.frames) → result ≡ hosted_width guest.now.kind guest.now }
 {
     match guest.kind() {

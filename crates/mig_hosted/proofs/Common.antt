@@ -23,7 +23,7 @@ pub use Rattle.mig_guest.specs.declared.part_key.PartKey.{PartKey}
 pub use Rattle.mig_guest.specs.declared.table.Entry.{Entry}
 pub use Rattle.mig_guest.specs.declared.table.Entry.TheVariants.{Blank, Frame, NotPresent, Superpage}
 pub use Rattle.mig_headers.specs.declared.kind.Kind.TheVariants.{Hvm, Pv}
-pub use Rattle.mig_pagetypes.specs.Limits.{pfn_limit}
+pub use Rattle.mig_pagetypes.specs.Limits.{pfn_limit, top_limit}
 pub use Rattle.mig_pagetypes.specs.PageTypes.{level_of, type_has_data}
 pub use Rattle.mig_pagetypes.specs.declared.page_type.PageType.{PageType}
 pub use Rattle.mig_pvtables.specs.Blank.{IsOfBytes, blank, blank_of, blanked_frame, blanked_page, blanked_part, each_value}

@@ -1,5 +1,5 @@
 -- A guest whose tables, P2M frames and contexts hold machine frames is the guest as it stands in a machine.
-use Rattle.mig_hosted.proofs.Common.{◌≡◌, ℕ, ◌+◌, ◌-◌, ◌*◌, ◌/◌, ◌<◌, ◌≤◌, ◌^◌, List, ◌++◌, length, take, drop, Option, Some, None, IfSome, refl, sym, ap, subst, ◌∙◌, arith, append-nil, drop_all, option_map, nat_cmp_total, nat_cmp-IsAntisymmetric, eqb-true, Pv, pfn_limit, level_of, PartKey, IsFormed, width_of, FrameOf, GuestOf, PartMap, p2m_key, part_total, part_exact, each_value, count_in, place_of, is_used}
+use Rattle.mig_hosted.proofs.Common.{◌≡◌, ℕ, ◌+◌, ◌-◌, ◌*◌, ◌/◌, ◌<◌, ◌≤◌, ◌^◌, List, ◌++◌, length, take, drop, Option, Some, None, IfSome, refl, sym, ap, subst, ◌∙◌, arith, append-nil, drop_all, option_map, nat_cmp_total, nat_cmp-IsAntisymmetric, eqb-true, Pv, top_limit, level_of, PartKey, IsFormed, width_of, FrameOf, GuestOf, PartMap, p2m_key, part_total, part_exact, each_value, count_in, place_of, is_used}
 use Rattle.std.specs.FinMap as maps
 use Rattle.mig_guest.specs.Formed.{IsTop}
 use Rattle.mig_guest.specs.declared.part_code.PartCode.TheVariants.{P2mFrames, VcpuBasic}
@@ -48,7 +48,7 @@ module _ (f : ℕ → Option ℕ) (g : GuestOf) (formed : IsFormed g) (pv : g.ki
   few_in : (o : Option (List ℕ)) → maps.get g.parts p2m_key ≡ o → count_in o ≤ 2 ^ 43
   few_in None is = omega arith
   few_in (Some bytes) is =
-      let top : g.top < pfn_limit = subst (λ (k : Kind). IsTop k g.top) pv formed.top in
+      let top : g.top < top_limit = subst (λ (k : Kind). IsTop k g.top) pv formed.top in
       let size : length bytes ≡ 8 * ((width_of g - 1) / 512 + 1) = eqb-true (length bytes) (8 * ((width_of g - 1) / 512 + 1)) (of_part P2mFrames g.kind (width_of g) (p2m_key, bytes) (formed.parts p2m_key bytes is) refl).len in
       omega (arith, top, size)
 

@@ -1,5 +1,5 @@
 -- The frames of a valid host.
-use Rattle.mig_hosted.proofs.Common.{◌≡◌, ℕ, ◌<◌, ◌≤◌, ◌^◌, Bool, true, false, Option, Some, is_some, IsSome, refl, sym, ap, subst, ◌∙◌, arith, ◌==◌, ◌||◌, eqb-true, nat_cmp_total, nat_cmp-IsAntisymmetric, Pv, Hvm, FrameOf, IsFew, is_type_of, GuestOf}
+use Rattle.mig_hosted.proofs.Common.{◌≡◌, ℕ, ◌<◌, ◌≤◌, Bool, true, false, Option, Some, is_some, IsSome, refl, sym, ap, subst, ◌∙◌, arith, ◌==◌, ◌||◌, eqb-true, nat_cmp_total, nat_cmp-IsAntisymmetric, Pv, Hvm, top_limit, FrameOf, IsFew, is_type_of, GuestOf}
 use Rattle.std.specs.FinMap as maps
 use Rattle.mig_headers.specs.declared.kind.Kind.{Kind}
 use Rattle.mig_pagetypes.specs.declared.page_type.PageType.{PageType}
@@ -20,8 +20,8 @@ not_absent kind t is e = let no : false ≡ true = sym (absent kind) ∙ ap (is_
     absent Pv = refl
     absent Hvm = refl
 
-pub top_is : (kind : Kind) (width : ℕ) → width ≤ 2 ^ 28 → (kind ≡ Pv → 0 < width) → IsTop kind (top_of kind width)
-top_is Pv width most some = let least = some refl in omega (arith, most, least)
+pub top_is : (kind : Kind) (width : ℕ) → (kind ≡ Pv → width ≤ top_limit) → (kind ≡ Pv → 0 < width) → IsTop kind (top_of kind width)
+top_is Pv width most some = let least = some refl in let fits = most refl in omega (arith, fits, least)
 top_is Hvm width most some = refl
 
 pub inside_is : (kind : Kind) (width pfn : ℕ) → pfn < width → IsInside kind (top_of kind width) pfn
@@ -60,8 +60,8 @@ module _ (h : HostOf) (valid : IsValid h) where
   pub pfn_below : (mfn pfn : ℕ) → pfn_of mfn ≡ Some pfn → pfn < h.width
   pfn_below mfn pfn is = let (y, found) = pfn_found h.frames mfn pfn is in (valid.frames pfn y found).inside
 
-  pub pfn_small : (mfn pfn : ℕ) → pfn_of mfn ≡ Some pfn → pfn < 2 ^ 28
-  pfn_small mfn pfn is = omega (arith, pfn_below mfn pfn is, valid.width)
+  pub pfn_small : h.kind ≡ Pv → (mfn pfn : ℕ) → pfn_of mfn ≡ Some pfn → pfn < top_limit
+  pfn_small pv mfn pfn is = omega (arith, pfn_below mfn pfn is, valid.pv_width pv)
 
   pub frame_below : (pfn : ℕ) (x : FrameOf) → maps.get inner.frames pfn ≡ Some x → pfn < h.width
   frame_below pfn x is = let (y, fine, same) = frame_of pfn x is in fine.inside

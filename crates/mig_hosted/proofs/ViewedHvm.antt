@@ -1,5 +1,5 @@
 -- What a valid and sound HVM host is seen as is a whole guest.
-use Rattle.mig_hosted.proofs.Common.{◌≡◌, ℕ, ◌<◌, ◌^◌, true, List, Option, Some, IsSome, sym, ap, subst, ◌∙◌, arith, ◌==◌, and_parts, eqb-true, Hvm, PartKey, is_type_of, GuestOf, IsFormed, IsPart, width_of, context_key, part_total, part_exact, each_value, IsWhole}
+use Rattle.mig_hosted.proofs.Common.{◌≡◌, ℕ, ◌<◌, true, List, Option, Some, IsSome, sym, ap, subst, ◌∙◌, arith, ◌==◌, and_parts, eqb-true, Hvm, PartKey, is_type_of, GuestOf, IsFormed, IsPart, width_of, context_key, part_total, part_exact, each_value, IsWhole, pfn_limit}
 use Rattle.std.specs.FinMap as maps
 use Rattle.mig_headers.specs.declared.kind.Kind.{Kind}
 use Rattle.mig_guest.specs.declared.part_code.PartCode.TheVariants.{HvmContext}
@@ -43,9 +43,9 @@ module _ (h : HostOf) (valid : IsValid h) (sound : IsSound h) (hvm : h.kind ≡ 
 
   hvm_formed : IsFormed cut
   hvm_formed = record {
-    top = top_is h.kind h.width valid.width valid.some_width;
+    top = top_is h.kind h.width valid.pv_width valid.some_width;
     frames = λ pfn x is.
-        let small : pfn < 2 ^ 28 = omega (arith, frame_below h valid pfn x is, valid.width) in
+        let small : pfn < pfn_limit = omega (arith, frame_below h valid pfn x is, valid.width) in
         hvm_frame h.kind cut.top pfn x hvm small (is_frame h valid pfn x is) (subst (λ (k : Kind). is_type_of k x.type ≡ true) hvm (frame_type h valid pfn x is));
     parts = λ key y is. let (x, found, same) = from_each part_total part_exact part_seen h.parts key y is in subst (IsPart h.kind (width_of cut) key) same (cut_part key x found);
     policies = each_policy (λ code. FitsPolicy code cut.parts) (cut_policies 17 valid.leaves) (cut_policies 18 valid.msrs);

@@ -38,7 +38,7 @@ module _ (h : HostOf) (valid : IsValid h) (sound : IsSound h) (pv : h.kind ≡ P
   -- what holds of entries that name nothing, and of those that name a PFN that has a frame, holds of each entry
   entries_there : (P : Entry → Type 0) → P Blank → P NotPresent → ((mfn pfn : ℕ) → pfn_of mfn ≡ Some pfn → P (Frame pfn)) → (x : FrameOf) → EachEntry (NamesKnown pfn_of) x → EachEntry P (renamed_frame pfn_of x)
   entries_there P blank none named x = entries_changed (NamesKnown pfn_of) P (renamed_table pfn_of) x (renamed_page pfn_of (level_of x.type) x.page) (λ level lev i. renamed_page pfn_of (lev i) x.page)
-      (λ level p lev has slot lt. entry_there pfn_of (pfn_small h valid) P blank none named level slot p lt)
+      (λ level p lev has slot lt. entry_there pfn_of (pfn_small h valid pv) P blank none named level slot p lt)
 
   abbrev rename : ℕ → FrameOf → FrameOf
   rename pfn x = renamed_frame pfn_of x
@@ -66,7 +66,7 @@ module _ (h : HostOf) (valid : IsValid h) (sound : IsSound h) (pv : h.kind ≡ P
 
   formed : IsFormed there
   formed = record {
-    top = top_is h.kind h.width valid.width valid.some_width;
+    top = top_is h.kind h.width valid.pv_width valid.some_width;
     frames = λ pfn y is. let (x, found, same) = from_each nat_cmp_total nat_cmp-IsAntisymmetric rename inner.frames pfn y is in subst (IsGuestFrame h.kind there.top pfn) same (formed_frame pfn x found);
     parts = λ key y is. let (x, found, same) = from_each part_total part_exact (renamed_part is_used_somewhere pfn_of) h.parts key y is in subst (IsPart h.kind (width_of there) key) same (formed_part key x found);
     policies = each_policy (λ code. FitsPolicy code there.parts) (policies 17 valid.leaves) (policies 18 valid.msrs);
@@ -103,7 +103,7 @@ module _ (h : HostOf) (valid : IsValid h) (sound : IsSound h) (pv : h.kind ≡ P
         let (x, found, same) = from_context is_used_somewhere pfn_of h.parts key y is code in
         subst (λ c. is_used key.key1 (gdt_ents c) field (field_value c field) ≡ true → fits_field field (type_at there.frames (frame_of_field field (field_value c field))) ≡ true) same
         (λ used. ap (fits_field field) (types (frame_of_field field (field_value (renamed_context is_used_somewhere pfn_of key.key1 x) field)))
-        ∙ context_fits pfn_of key.key1 x (sound.gdt key x found code) (type_at inner.frames) (pfn_small h valid) field most (sound.fields key x found code field most) used);
+        ∙ context_fits pfn_of key.key1 x (sound.gdt key x found code) (type_at inner.frames) (pfn_small h valid pv) field most (sound.fields key x found code field most) used);
     few = omega (arith, few_inner h valid, len_each nat_cmp_total nat_cmp-IsAntisymmetric rename inner.frames);
   }
 

@@ -1,5 +1,5 @@
 -- What the entries and the fields of a host say once their machine frames are frame numbers again.
-use Rattle.mig_hosted.proofs.Common.{◌≡◌, ℕ, ◌-◌, ◌*◌, ◌%◌, ◌^◌, ◌<◌, ◌≤◌, Bool, true, false, cond, not, nat_le, nat_lt, ◌==◌, List, [], ◌∷◌, Option, Some, None, IsSome, refl, sym, ap, subst, ◌∙◌, arith, All, all_found, find, option_map, option_and_then, nat_cmp_total, nat_cmp-IsAntisymmetric, get-entries, entries_sorted, eqb-true, ne_eqb, PageType, Entry, Blank, NotPresent, Superpage, Frame, gdt_ents, entry, long_at, fits_field, field_at, field_place, field_value, frame_of_field, is_marked, is_used}
+use Rattle.mig_hosted.proofs.Common.{◌≡◌, ℕ, ◌-◌, ◌*◌, ◌%◌, ◌^◌, ◌<◌, ◌≤◌, Bool, true, false, cond, not, nat_le, nat_lt, ◌==◌, List, [], ◌∷◌, Option, Some, None, IsSome, refl, sym, ap, subst, ◌∙◌, arith, All, all_found, find, option_map, option_and_then, nat_cmp_total, nat_cmp-IsAntisymmetric, get-entries, entries_sorted, eqb-true, ne_eqb, PageType, Entry, Blank, NotPresent, Superpage, Frame, gdt_ents, entry, long_at, fits_field, field_at, field_place, field_value, frame_of_field, is_marked, is_used, top_limit}
 use Rattle.std.specs.FinMap as maps
 use Rattle.std.proofs.lemmas.List.Elements.{All-head, All-tail}
 use Rattle.mig_guest.specs.Hosts.{HostFrame, HostFrames, pfn_in}
@@ -40,7 +40,7 @@ pfn_found frames mfn pfn is = elim (find test (maps.entries frames)) as (λ o. f
 
 -- ---- entries
 
-module _ (f : ℕ → Option ℕ) (small : (mfn pfn : ℕ) → f mfn ≡ Some pfn → pfn < 2 ^ 28) where
+module _ (f : ℕ → Option ℕ) (small : (mfn pfn : ℕ) → f mfn ≡ Some pfn → pfn < top_limit) where
   fits : (x : Entry) (n m : ℕ) → x ≡ Frame n → name_for f x ≡ Some m → m < 2 ^ 40
   fits x n m is has = let low = small n m (sym (ap (name_for f) is) ∙ has) in omega (arith, low)
 
@@ -85,7 +85,7 @@ used_there id ents field v used = by_case (field == 18) (λ e. eqb-true field 18
     by_case true last = not_zero (subst (λ k. is_used id ents k (v % 2 ^ 64) ≡ true) (last refl) used)
     by_case false last = same (field == 0) (nat_le field 16) (field == 17) (id == 0) (nat_lt ((field - 1) * 512) ents) used
 
-module _ (f : ℕ → Option ℕ) (type_of : ℕ → Option PageType) (small : (mfn pfn : ℕ) → f mfn ≡ Some pfn → pfn < 2 ^ 28) (id ents field v : ℕ) where
+module _ (f : ℕ → Option ℕ) (type_of : ℕ → Option PageType) (small : (mfn pfn : ℕ) → f mfn ≡ Some pfn → pfn < top_limit) (id ents field v : ℕ) where
   -- a frame that fits has a PFN
   fit_named : (o : Option ℕ) → fits_field field (option_and_then type_of o) ≡ true → (n : ℕ) × (o ≡ Some n) × (fits_field field (type_of n) ≡ true)
   fit_named None is = let no : false ≡ true = sym (unfit field) ∙ is in cc
@@ -132,7 +132,7 @@ module _ (f : ℕ → Option ℕ) (id : ℕ) (context : List ℕ) (few : gdt_ent
       let (at, lt) = field_there field most in
       long_of_each 646 (renamed_value is_used_somewhere f id (gdt_ents context)) context (field_place field) lt ∙ ap (λ v. v % 2 ^ 64) (at_place (field_place field) (field_value context field) field at)
 
-  pub context_fits : (type_of : ℕ → Option PageType) → ((mfn pfn : ℕ) → f mfn ≡ Some pfn → pfn < 2 ^ 28) → (field : ℕ) → field ≤ 18
+  pub context_fits : (type_of : ℕ → Option PageType) → ((mfn pfn : ℕ) → f mfn ≡ Some pfn → pfn < top_limit) → (field : ℕ) → field ≤ 18
       → (is_used_somewhere id (gdt_ents context) field (field_value context field) ≡ true → fits_field field (option_and_then type_of (f (frame_of_field field (field_value context field)))) ≡ true)
       → is_used id (gdt_ents there) field (field_value there field) ≡ true → fits_field field (type_of (frame_of_field field (field_value there field))) ≡ true
   context_fits type_of small field most fit used =

@@ -6,14 +6,8 @@ use Rattle.mig_legacy.proofs.Common.{◌≡◌, ℕ, ◌^◌, ◌≤◌, ◌<◌
 type_is : (w : ℕ) → word_type (page_data_word w) ≡ legacy_type w
 type_is w = omega arith
 
-pfn_is : (w : ℕ) → word_pfn (page_data_word w) ≡ legacy_pfn w
-pfn_is w = omega arith
-
-small_pfn : (w : ℕ) → legacy_pfn w < 2 ^ 28
-small_pfn w = omega arith
-
 good_word : (w : ℕ) → is_reserved w ≡ false → IsGoodWord Hvm 0 (page_data_word w)
-good_word w is = (ap (λ n. nat_le 5 n && nat_le n 8) (type_is w) ∙ is, ap (nat_le (2 ^ 28)) (pfn_is w) ∙ lt-leb (2 ^ 28) (legacy_pfn w) (small_pfn w))
+good_word w is = (ap (λ n. nat_le 5 n && nat_le n 8) (type_is w) ∙ is, refl)
 
 one_good : (b : Bool) (w : ℕ) → is_reserved w ≡ false → All (IsGoodWord Hvm 0) (cond b [] (page_data_word w ∷ []))
 one_good true w is = All-nil (IsGoodWord Hvm 0)

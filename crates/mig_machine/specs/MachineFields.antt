@@ -1,5 +1,6 @@
 -- What the fields of a machine are seen as, and what is true of them.
 use Rattle.std.specs.Prelude.{◌≡◌, ℕ, ◌+◌, ◌/◌, ◌≤◌, length, drop, false}
+use Rattle.mig_guest.specs.Hosts.{most_saved_width}
 use Rattle.mig_machine_api.specs.Pfns.{pfns_of_words}
 use Rattle.mig_lines.specs.Groups.{lines_up_to}
 use Rattle.mig_lines.specs.HostLines.{room_for}
@@ -11,6 +12,7 @@ abbrev pub machine_seen : Inside → MachineSeen
 machine_seen m = record { lines = m.script; runs = m.runs; behind = m.behind; host = m.host.host; log = m.log.items; noted = noted_in m.notes }
 
 pub record IsMachine (m : Inside) : Type 0 where
+  pub narrow : m.host.host.width ≤ most_saved_width
   -- a word for each 64 frame numbers
   pub log_size : length m.log.items ≡ (m.host.host.width + 63) / 64
   pub notes_size : length m.notes.read.items ≡ (m.host.host.width + 63) / 64

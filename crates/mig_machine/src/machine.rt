@@ -1,4 +1,5 @@
-ghost use Rattle.std.specs.Prelude.{◌≡◌, false, IfOk};
+ghost use Rattle.std.specs.Prelude.{◌≡◌, ◌≤◌, false, IfOk};
+ghost use Rattle.mig_guest.specs.Hosts.{most_saved_width};
 ghost use Rattle.mig_machine_api.specs.History.{no_history};
 ghost use Rattle.mig_machine_api.specs.MachineStates.{Ran, IsValidState};
 ghost use Rattle.mig_machine_api.specs.Pfns.{no_pfns};
@@ -46,6 +47,7 @@ impl Model for ScriptMachine {
 impl ScriptMachine {
     /// A machine at this host, of which nothing was asked yet. It takes all memory that later calls need.
     pub fn new(alloc: Global, host: Host, script: Script) -> Result<ScriptMachine, Memory>
+        requires narrow { host.host.width ≤ most_saved_width }
         ensures host { IfOk result (λ m. m.host ≡ host.host) }
         ensures lines { IfOk result (λ m. m.lines ≡ script) }
         ensures calls { IfOk result (λ m. calls_of m ≡ 0) }

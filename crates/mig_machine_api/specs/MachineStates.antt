@@ -17,9 +17,10 @@ pub record MachineState : Type 0 where
   pub honest : Bool
   pub history : History
 
--- the host is one that an image may have, and the log names numbers below its width alone
+-- the host is one that an image may have, not too wide to be saved, and the log names numbers below its width alone
 pub record IsValidState (s : MachineState) : Type 0 where
   pub host : hosts.IsValid s.host
+  pub narrow : s.host.width ≤ hosts.most_saved_width
   pub logged : (p : ℕ) → s.host.width ≤ p → s.log p ≡ false
 
 -- what never changes of a host

@@ -4,7 +4,7 @@ ghost use Rattle.std.specs.declared.cmp.Ordering.TheVariants.{Less};
 ghost use Rattle.std.specs.FinMap as maps;
 ghost use Rattle.mig_bytes.specs.Faults.{HasCause};
 ghost use Rattle.mig_guest.specs.declared.part_key.PartKey.{PartKey};
-ghost use Rattle.mig_guest.specs.Hosts.{most_width, pfn_in};
+ghost use Rattle.mig_guest.specs.Hosts.{most_saved_width, pfn_in};
 ghost use Rattle.mig_guest.specs.Order.{part_cmp, IsAbove};
 ghost use Rattle.mig_guest.specs.PartCodes.{is_fixed};
 ghost use Rattle.mig_machine_api.specs.MachineCalls.{seen_at, page_peeked, Peeked, LookedUp, LogTaken, Paused};
@@ -44,7 +44,7 @@ pub trait Machine {
     /// One more than the greatest possible frame number. The host is valid, and the log names numbers below the width alone.
     fn width(&self) -> u64
         ensures value { result ≡ (state self.now).host.width }
-        ensures bound { result ≤ most_width }
+        ensures bound { result ≤ most_saved_width }
         ensures valid { IsValidState (state self.now) };
 
     /// The least part key above `after`, or the least one.

@@ -1,10 +1,10 @@
 -- A standing machine's states are valid, and its log is empty.
-use Rattle.std.proofs.Common.{◌≡◌, ℕ, ◌<◌, List, [], ◌∷◌, ◌++◌, Option, Some, None, refl, sym, ap, subst, ◌∙◌}
+use Rattle.std.proofs.Common.{◌≡◌, ℕ, ◌<◌, ◌≤◌, List, [], ◌∷◌, ◌++◌, Option, Some, None, refl, sym, ap, subst, ◌∙◌}
 use Rattle.std.specs.Prelude.{IfSome}
 use Rattle.std.specs.Option.{option_map}
 use Rattle.std.specs.FinMap as maps
 use Rattle.std.proofs.lemmas.List.Sums.{fold-append}
-use Rattle.mig_guest.specs.Hosts.{HostOf, HostFrame, IsValid}
+use Rattle.mig_guest.specs.Hosts.{HostOf, HostFrame, IsValid, most_saved_width}
 use Rattle.mig_machine_api.specs.MachineCalls.{LogTaken}
 use Rattle.mig_machine_api.specs.MachineStates.{IsValidState}
 use Rattle.mig_machine_api.specs.Pfns.{Pfns, no_pfns}
@@ -12,8 +12,8 @@ use Rattle.mig_machine_tests.specs.Standing.{Asked, and_then, asked, nothing_yet
 use Rattle.mig_machine_tests.specs.declared.standing.Call.{Call}
 use Rattle.mig_machine_tests.specs.declared.standing.Call.TheVariants as calls
 
-pub stands : (h : HostOf) (a : Asked) → IsValid h → IsValidState (standing h a)
-stands h a valid = record { host = valid; logged = λ p _. refl }
+pub stands : (h : HostOf) (a : Asked) → IsValid h → h.width ≤ most_saved_width → IsValidState (standing h a)
+stands h a valid narrow = record { host = valid; narrow = narrow; logged = λ p _. refl }
 
 has_frame : (h : HostOf) (p mfn : ℕ) (frame : Option HostFrame) → IsValid h → maps.get h.frames p ≡ frame → option_map (λ f. f.machine) frame ≡ Some mfn → p < h.width
 has_frame h p mfn None valid at is = cc

@@ -1,7 +1,7 @@
-ghost use Rattle.std.specs.Prelude.{refl, ◌≡◌, [], ◌∷◌, ◌++◌, ℕ, OnOk, OnErr};
+ghost use Rattle.std.specs.Prelude.{refl, ◌≡◌, [], ◌∷◌, ◌++◌, ℕ, ◌≤◌, OnOk, OnErr};
 ghost use Rattle.std.proofs.Common.{◌∙◌};
 ghost use Rattle.mig_bytes.specs.Faults.{HasCause};
-ghost use Rattle.mig_guest.specs.Hosts.{IsValid};
+ghost use Rattle.mig_guest.specs.Hosts.{IsValid, most_saved_width};
 ghost use Rattle.mig_machine_api.specs.Pfns.{pfns_of_words, no_pfns};
 ghost use Rattle.mig_machine_tests.specs.Standing.{asked, standing};
 
@@ -28,6 +28,7 @@ pub struct StandingMachine {
     host: Host,
     calls: Vec<Call>,
     faults: u64,
+    ghost narrow: { host.host.width ≤ most_saved_width },
 }
 
 /// No number is in the log.
@@ -40,6 +41,7 @@ fn clear(bits: &mut [u64])
 impl StandingMachine {
     /// It stands at this host, and nothing was asked of it yet.
     pub fn new(alloc: Global, host: Host) -> StandingMachine
+        requires narrow { host.host.width ≤ most_saved_width }
         ensures host { result.host ≡ host }
         ensures calls { result.calls.items ≡ [] }
     {

@@ -8,7 +8,7 @@ use Rattle.std.proofs.lemmas.List.Sums.{length-filter, count_by-le-length}
 use Rattle.std.proofs.lemmas.List.FromFn.{length-range_with_len}
 use Rattle.mig_headers.specs.declared.kind.Kind.{Kind}
 use Rattle.mig_headers.specs.declared.kind.Kind.TheVariants.{Pv, Hvm}
-use Rattle.mig_guest.specs.Hosts.{HostOf, most_width}
+use Rattle.mig_guest.specs.Hosts.{HostOf, most_saved_width}
 use Rattle.mig_script.specs.ScriptLines.{LineOf}
 use Rattle.mig_machine_api.specs.Pfns.{Pfns, no_pfns, joined, all_below, size, members}
 use Rattle.mig_machine_api.specs.History.{LogTook, History}
@@ -94,7 +94,7 @@ paused_at kind width runs k r wide stopped =
 
 -- ---- the paces of a history
 
-pub paced : (h : HostOf) (m : MachineSeen) → IsExactFrom h m → is_paused m ≡ true → h.width ≤ most_width → (r : Rounds h.kind h.width (history_of m)) → HasPaces h m r
+pub paced : (h : HostOf) (m : MachineSeen) → IsExactFrom h m → is_paused m ≡ true → h.width ≤ most_saved_width → (r : Rounds h.kind h.width (history_of m)) → HasPaces h m r
 paced h m exact paused wide r =
     let width = h.width in let live = r.live in
     let runs : m.runs ≡ asked_before live + 1 = paused_at h.kind width m.runs (history_of m) r wide (exact.stopped paused) in

@@ -20,8 +20,8 @@ pub use laws::{
 pub use legacy_word::{LegacyWord, decode_legacy_word};
 pub use page_type::PageType;
 
-/// Frame numbers (PFN) are below this.
-pub const PFN_LIMIT: u64 = 1 << 28;
+/// Frame numbers (PFN) are below this: a frame word has 52 bits for one.
+pub const PFN_LIMIT: u64 = 1 << 52;
 
 /// The most frames that a guest or a host may have.
 pub const MAX_FRAMES: u64 = 1 << 24;

@@ -1,5 +1,5 @@
 -- What the entries of a table and the fields of a context say in the blank form: the same.
-use Rattle.mig_pvtables.proofs.Common.{◌≡◌, ℕ, ◌+◌, ◌-◌, ◌*◌, ◌/◌, ◌%◌, ◌^◌, ◌<◌, ◌≤◌, Bool, true, false, cond, not, List, Some, None, refl, sym, ap, subst, ◌∙◌, inl, inr, arith, nat_le, nat_lt, ◌==◌, ◌&&◌, cases_eq, cases_lt, eqb-true, eq-eqb, le-leb, lt-ltb, ne_eqb, Blank, NotPresent, Superpage, Frame, gdt_ents, is_blank_slot, entry, blanked_table, long_at, field_at, field_place, field_value, frame_of_field, is_marked, is_used, value_blanked, blanked_context}
+use Rattle.mig_pvtables.proofs.Common.{◌≡◌, ℕ, ◌+◌, ◌-◌, ◌*◌, ◌/◌, ◌%◌, ◌^◌, ◌<◌, ◌≤◌, Bool, true, false, cond, not, List, Some, None, refl, sym, ap, subst, ◌∙◌, inl, inr, arith, nat_le, nat_lt, ◌==◌, ◌&&◌, cases_eq, cases_lt, eqb-true, eq-eqb, le-leb, lt-ltb, ne_eqb, Blank, NotPresent, Superpage, Frame, gdt_ents, is_blank_slot, entry, blanked_table, long_at, field_at, field_place, field_value, frame_of_field, is_marked, is_used, value_blanked, blanked_context, pfn_limit}
 use Rattle.std.proofs.lemmas.Bool.{leb-true, ltb-true}
 use Rattle.mig_guest.specs.Tables.{entry_of, blanked_entry, named_frame}
 use Rattle.mig_pvtables.specs.VcpuContexts.{blanked_value}
@@ -122,10 +122,10 @@ same_said id ents field v fits = by_case (field == 0) (nat_le field 16) (field =
     by_case false false false i g za is = ap (λ m. cond m (v / 4096 * 4096 + 1) 0 % 2 ^ 64 / 4096) is ∙ omega (arith, fits)
 
 -- a field that says a frame number is a number of 8 bytes
-pub said_fits : (field v : ℕ) → frame_of_field field v < 2 ^ 28 → v < 2 ^ 64
+pub said_fits : (field v : ℕ) → frame_of_field field v < pfn_limit → v < 2 ^ 64
 said_fits field v = by_case (nat_le field 16)
   where
-    by_case : (a : Bool) → cond a v (v / 4096) < 2 ^ 28 → v < 2 ^ 64
+    by_case : (a : Bool) → cond a v (v / 4096) < pfn_limit → v < 2 ^ 64
     by_case true lt = omega (arith, lt)
     by_case false lt = omega (arith, lt)
 

@@ -1,5 +1,5 @@
 -- The blank form of a whole guest is whole.
-use Rattle.mig_pvtables.proofs.Common.{◌≡◌, ℕ, ◌%◌, ◌^◌, ◌<◌, ◌≤◌, Bool, true, false, cond, List, length, Option, Some, None, IsSome, refl, sym, ap, subst, ◌∙◌, arith, ◌==◌, nat_le, length-replicate, option_map, nat_cmp_total, nat_cmp-IsAntisymmetric, eqb-true, eq-eqb, Pv, Hvm, level_of, PartKey, Frame, IsFormed, IsGuestFrame, IsPart, width_of, gdt_ents, FrameOf, FrameMap, GuestOf, p2m_key, vcpu_key, shared_key, EachEntry, IsWithin, blanked_table, length_longs, part_total, part_exact, blanked_page, blanked_frame, blanked_part, blank_of, blank, place_of, type_at, fits_field, field_value, frame_of_field, is_used, blanked_context, blanked_shared, IsWhole}
+use Rattle.mig_pvtables.proofs.Common.{◌≡◌, ℕ, ◌%◌, ◌^◌, ◌<◌, ◌≤◌, Bool, true, false, cond, List, length, Option, Some, None, IsSome, refl, sym, ap, subst, ◌∙◌, arith, ◌==◌, nat_le, length-replicate, option_map, nat_cmp_total, nat_cmp-IsAntisymmetric, eqb-true, eq-eqb, Pv, Hvm, level_of, PartKey, Frame, IsFormed, IsGuestFrame, IsPart, width_of, gdt_ents, FrameOf, FrameMap, GuestOf, p2m_key, vcpu_key, shared_key, EachEntry, IsWithin, blanked_table, length_longs, part_total, part_exact, blanked_page, blanked_frame, blanked_part, blank_of, blank, place_of, type_at, fits_field, field_value, frame_of_field, is_used, blanked_context, blanked_shared, IsWhole, pfn_limit}
 use Rattle.std.specs.FinMap as maps
 use Rattle.mig_headers.specs.declared.kind.Kind.{Kind}
 use Rattle.mig_guest.specs.declared.part_code.PartCode.{PartCode}
@@ -94,7 +94,7 @@ fit_there frames field n fits = elim (maps.get frames n) as (λ o. fits_field fi
 
 module _ (g : GuestOf) (formed : IsFormed g) where
   -- a frame that a field fits has a number below the limit
-  fit_below : (field n : ℕ) → fits_field field (type_at g.frames n) ≡ true → n < 2 ^ 28
+  fit_below : (field n : ℕ) → fits_field field (type_at g.frames n) ≡ true → n < pfn_limit
   fit_below field n fits = let (x, found) = fit_there g.frames field n fits in (formed.frames n x found).small
 
   module _ (key : PartKey) (context : List ℕ) (found : maps.get g.parts key ≡ Some context) (code : key.code ≡ 4) (field : ℕ) (most : field ≤ 18) where

@@ -1,10 +1,9 @@
 -- The frame words of a PAGE_DATA record (libxc migration stream, "PAGE_DATA").
-use Rattle.std.specs.Prelude.{◌≡◌, ◌<◌, ℕ, ◌+◌, ◌*◌, Bool, true, false, List, length, map, ◌&&◌, ◌||◌, nat_lt, nat_le, count_by, slice_index}
+use Rattle.std.specs.Prelude.{◌≡◌, ◌<◌, ℕ, ◌+◌, ◌*◌, Bool, true, false, List, length, map, ◌&&◌, nat_lt, nat_le, count_by, slice_index}
 use Rattle.std.specs.List.{position_or_len, range_with_len}
 use Rattle.mig_bytes.specs.Fields.{le64}
 use Rattle.mig_headers.specs.declared.kind.Kind.{Kind}
 use Rattle.mig_headers.specs.declared.kind.Kind.TheVariants.{Pv, Hvm}
-use Rattle.mig_pagetypes.specs.Limits.{pfn_limit}
 use Rattle.mig_pagetypes.specs.FrameWords.{word_type, word_pfn, word_has_data}
 
 -- the first n words that the bytes spell
@@ -15,10 +14,10 @@ words n bytes = map (λ k. le64 bytes (8 * k)) (range_with_len 0 n)
 abbrev pub has_reserved_type : ℕ → Bool
 has_reserved_type w = nat_le 5 (word_type w) && nat_le (word_type w) 8
 
--- a frame number is at the limit or above, or in a PV stream above the last one that the stream names
+-- a frame number of a PV stream is above the last one that the stream names
 abbrev pub is_outside : Kind → ℕ → ℕ → Bool
-is_outside Pv top pfn = nat_le pfn_limit pfn || nat_lt top pfn
-is_outside Hvm top pfn = nat_le pfn_limit pfn
+is_outside Pv top pfn = nat_lt top pfn
+is_outside Hvm top pfn = false
 
 abbrev pub names_outside : Kind → ℕ → ℕ → Bool
 names_outside kind top w = is_outside kind top (word_pfn w)

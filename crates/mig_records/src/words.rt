@@ -4,7 +4,7 @@ ghost use Rattle.mig_records.specs.Words.{has_reserved_type, names_outside, data
 ghost use Rattle.mig_records.specs.Faults.{fault_of_words};
 
 use mig_headers::{Cause, Kind};
-use mig_pagetypes::{PFN_LIMIT, decode_word};
+use mig_pagetypes::decode_word;
 
 /// The number of the type in a word.
 fn type_number(word: u64) -> u64
@@ -32,10 +32,9 @@ fn is_reserved(word: u64) -> bool
 fn is_outside(kind: Kind, top: u64, word: u64) -> bool
     ensures { result ≡ names_outside kind top word }
 {
-    let named = pfn(word);
     match kind {
-        Kind::Pv => named >= PFN_LIMIT || named > top,
-        Kind::Hvm => named >= PFN_LIMIT,
+        Kind::Pv => pfn(word) > top,
+        Kind::Hvm => false,
     }
 }
 

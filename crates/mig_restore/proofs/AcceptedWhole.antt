@@ -1,5 +1,5 @@
 -- An accepted guest is whole: each content that is spelled keeps it well formed, and its END asks for the rest.
-use Rattle.mig_restore.proofs.Common.{◌≡◌, ℕ, zero, suc, ◌^◌, ◌<◌, ◌≤◌, Bool, true, false, List, [], ◌∷◌, ◌++◌, length, Option, Some, is_some, refl, sym, ap, subst, ◌∙◌, arith, eqb-true, none-some, same_Some, All, common_steps, AreBytes, le32, record_row_of, type_number, type_of_number, Kind, Pv, Hvm, RecordType, numbers_are_inverse, pfn_limit, word_pfn, word_has_data, type_has_data, PageType, IsInside, HasNoEmulators, GuestOf, words, IsInOrder, shape_of, bodies_are_spelled, is_shaped, Opening, meant_type, put_entry, put_entries, put_content, IsBegun, Grows, FrameEntry, Content, StreamRecord, types_of, is_verified, is_ended, Sets, Lists, IsPage, IsEntry, AreEntries, IsGoodWord, HasContent, IsComplete, Follows, Accepted, Spells}
+use Rattle.mig_restore.proofs.Common.{◌≡◌, ℕ, zero, suc, ◌^◌, ◌<◌, ◌≤◌, Bool, true, false, List, [], ◌∷◌, ◌++◌, length, Option, Some, is_some, refl, sym, ap, subst, ◌∙◌, arith, eqb-true, none-some, same_Some, All, common_steps, AreBytes, le32, record_row_of, type_number, type_of_number, Kind, Pv, Hvm, RecordType, numbers_are_inverse, pfn_limit, word_has_data, type_has_data, PageType, IsInside, HasNoEmulators, GuestOf, words, IsInOrder, shape_of, bodies_are_spelled, is_shaped, Opening, meant_type, put_entry, put_entries, put_content, IsBegun, Grows, FrameEntry, Content, StreamRecord, types_of, is_verified, is_ended, Sets, Lists, IsPage, IsEntry, AreEntries, IsGoodWord, HasContent, IsComplete, Follows, Accepted, Spells}
 use Rattle.std.proofs.lemmas.List.Elements.{All-head, All-tail}
 use Rattle.mig_headers.specs.declared.record_type.RecordType.TheVariants.{X86PvP2mFrames}
 use Rattle.mig_pagetypes.specs.declared.page_type.PageType.TheVariants.{Notab}
@@ -52,7 +52,7 @@ page_bytes false bytes page h all l is = absurd (none-some l (sym h.1 ∙ is))
 
 entry_grows : (g : GuestOf) (w : ℕ) (bytes : List ℕ) (e : FrameEntry) → AreBytes bytes → IsGoodWord g.kind g.top w → IsEntry g.kind g.top w bytes e → Grows g (record g { frames = put_entry g.kind g.frames e })
 entry_grows g w bytes e all good is =
-    let (small, inside) = word_inside g.kind g.top (word_pfn w) good.1 in
+    let (small, inside) = word_inside g.kind g.top w good.1 in
     grows_frame g (record g { frames = put_entry g.kind g.frames e }) e.type (meant_type g.kind e.type) e.pfn e.page refl (record {
       small = subst (λ n. n < pfn_limit) (sym is.pfn) small;
       inside = subst (IsInside g.kind g.top) (sym is.pfn) inside;

@@ -1,6 +1,6 @@
 -- What reading keeps of a guest: each frame, part or list of P2M frames that is set leaves it on its way.
-use Rattle.mig_restore.proofs.Common.{◌≡◌, ◌≢◌, ℕ, ◌^◌, ◌≤◌, ◌<◌, List, [], ◌∷◌, length, Bool, true, false, cond, nat_le, nat_lt, nat_eq, Option, Some, None, is_some, refl, sym, ap, subst, ◌∙◌, AllByRecursion, same_Some, none-some, leb-false, ltb-false, ne_eqb, unwrap_or, AreBytes, Kind, Pv, Hvm, pfn_limit, type_has_data, PageType, AreParts, is_emulator_code, width_of, IsInside, EachEntry, IsWithin, GuestOf, Part, PartMap, p2m_key, part_cmp, empty_formed, frames_keep, record_row_of, type_number, type_of_number, RecordType, numbers_are_inverse, PartCode, row_of, code_number, shape_of, has_shape, fault_of_body, parts_of_body, set_parts, set_p2m, IsP2m, IsBody, HasBodyLength, bodies_are_spelled, code_of_type, meant_type, Sets, says_of_part, last_bytes, parts_say_of_part, policy_says_of_part, empty_guest, IsBegun, Grows}
-use Rattle.std.proofs.lemmas.Bool.{or_parts}
+use Rattle.mig_restore.proofs.Common.{◌≡◌, ◌≢◌, ℕ, ◌^◌, ◌≤◌, ◌<◌, List, [], ◌∷◌, length, Bool, true, false, cond, nat_eq, Option, Some, None, is_some, refl, sym, ap, subst, ◌∙◌, AllByRecursion, same_Some, none-some, ltb-false, arith, ne_eqb, unwrap_or, AreBytes, Kind, Pv, Hvm, pfn_limit, type_has_data, PageType, AreParts, is_emulator_code, width_of, IsInside, EachEntry, IsWithin, GuestOf, Part, PartMap, p2m_key, part_cmp, empty_formed, frames_keep, record_row_of, type_number, type_of_number, RecordType, numbers_are_inverse, PartCode, row_of, code_number, shape_of, has_shape, fault_of_body, parts_of_body, set_parts, set_p2m, IsP2m, IsBody, HasBodyLength, bodies_are_spelled, code_of_type, meant_type, Sets, says_of_part, last_bytes, parts_say_of_part, policy_says_of_part, empty_guest, IsBegun, Grows}
+use Rattle.mig_pagetypes.specs.FrameWords.{word_pfn}
 use Rattle.std.specs.FinMap as fin
 use Rattle.std.specs.Option.{option_map, option_or}
 use Rattle.std.specs.Ordering.{eq_by_cmp, nat_cmp}
@@ -95,9 +95,9 @@ grows_frame g h t meant pfn page is can now = moved g (record g { frames = frame
 })
 
 -- what a word names inside the guest lies inside
-pub word_inside : (kind : Kind) (top pfn : ℕ) → is_outside kind top pfn ≡ false → (pfn < pfn_limit) × IsInside kind top pfn
-word_inside Pv top pfn is = let both = or_parts (nat_le pfn_limit pfn) (nat_lt top pfn) is in (leb-false pfn_limit pfn both.0, ltb-false top pfn both.1)
-word_inside Hvm top pfn is = (leb-false pfn_limit pfn is, tt)
+pub word_inside : (kind : Kind) (top w : ℕ) → is_outside kind top (word_pfn w) ≡ false → (word_pfn w < pfn_limit) × IsInside kind top (word_pfn w)
+word_inside Pv top w is = (omega arith, ltb-false top (word_pfn w) is)
+word_inside Hvm top w is = (omega arith, tt)
 
 -- ---- parts
 
@@ -180,7 +180,7 @@ pub grows_list : (g h : GuestOf) (last : ℕ) (frames body : List ℕ) → g.kin
 grows_list g h last frames body pv all is now = moved g (set_p2m last frames g) h now (record {
   kind = refl;
   kept = λ begun. record {
-    formed = p2m_keeps g pv begun.formed begun.start last frames body is;
+    formed = p2m_keeps g pv begun.formed begun.start last frames body all is;
     plain = λ key bytes got. by key bytes (eq_by_cmp part_cmp key p2m_key) refl (begun.plain key bytes) (sym (fin.get-insert part_total g.parts p2m_key (listed_over frames (fin.get g.parts p2m_key)) key) ∙ got);
     start = λ none. absurd (none-some _ (sym none ∙ fin.get-insert part_total g.parts p2m_key (listed_over frames (fin.get g.parts p2m_key)) p2m_key));
     bytes = record { pages = begun.bytes.pages; parts = list_bytes last frames g (bytes_back is.front frames (subst AreBytes is.whole all)) begun.bytes.parts };

@@ -1,5 +1,5 @@
 ghost use Rattle.std.specs.Prelude.{◌≡◌, ℕ, ◌<◌, ◌≤◌, length, slice_index_or, IfOk, None};
-ghost use Rattle.mig_guest.specs.Hosts.{most_width};
+ghost use Rattle.mig_guest.specs.Hosts.{most_saved_width};
 
 use mig_bytes::Memory;
 use mig_pagesink::Batch;
@@ -33,7 +33,7 @@ impl Model for Room {
 impl Room {
     /// Room for a machine with so many frame numbers; `Memory` where there is none left.
     pub fn new(alloc: Global, width: u64) -> Result<Room, Memory>
-        requires { width ≤ most_width }
+        requires { width ≤ most_saved_width }
         ensures { IfOk result (λ room. room ≡ width) }
     {
         match make_room(alloc, width) {
@@ -53,7 +53,7 @@ fn no_types(alloc: Global, width: usize) -> Result<Vec<Option<PageType>>, AllocE
 
 /// Every number is to be read, and nothing is noted.
 fn make_room(alloc: Global, width: u64) -> Result<Room, AllocError>
-    requires { width ≤ most_width }
+    requires { width ≤ most_saved_width }
     ensures { IfOk result (λ room. room ≡ width) }
 {
     Ok(Room {

@@ -1,6 +1,6 @@
 ghost use Rattle.std.specs.Prelude.{◌≡◌, ◌+◌, ◌/◌, ◌≤◌, [], length, true, OnOk, OnErr, IfOk, IsErrOf};
 ghost use Rattle.mig_bytes.specs.Faults.{Rose};
-ghost use Rattle.mig_guest.specs.Hosts.{most_width};
+ghost use Rattle.mig_guest.specs.Hosts.{most_saved_width};
 ghost use Rattle.mig_machine_api.specs.Pfns.{pfns_of_words};
 ghost use Rattle.mig_machine_api.specs.History.{nothing_asked};
 ghost use Rattle.mig_pfnset.specs.Changes.{IsBelow};
@@ -27,7 +27,7 @@ pub(crate) fn send_all<M: Machine, K: Sink>(
     types: &mut [Option<PageType>],
     page: &mut [u8; 4096],
 ) -> Result<Worst, SendFault>
-    requires narrow { (M.state machine.old).host.width ≤ most_width }
+    requires narrow { (M.state machine.old).host.width ≤ most_saved_width }
     requires words { length set.now ≡ ((M.state machine.old).host.width + 63) / 64 }
     requires wide { length deferred.old ≡ length set.now }
     requires long { length types.old ≡ (M.state machine.old).host.width }

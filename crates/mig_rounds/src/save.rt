@@ -1,6 +1,6 @@
 ghost use Rattle.std.specs.Prelude.{◌≡◌, ◌+◌, ◌*◌, ◌/◌, ◌^◌, ◌≤◌, [], length, true, false, OnOk, OnErr, IfOk, IsErrOf, Some, None};
 ghost use Rattle.mig_bytes.specs.Faults.{Rose};
-ghost use Rattle.mig_guest.specs.Hosts.{most_width};
+ghost use Rattle.mig_guest.specs.Hosts.{most_saved_width};
 ghost use Rattle.mig_headers.specs.declared.unsound.Unsound.{Unsound};
 ghost use Rattle.mig_pagesink.specs.Batches.{IsBehind};
 ghost use Rattle.mig_machine_api.specs.Pfns.{pfns_of_words, size};
@@ -62,7 +62,7 @@ fn run_rounds<M: Machine, K: Sink>(
     types: &mut [Option<PageType>],
     page: &mut [u8; 4096],
 ) -> Result<RoundsSent, SendFault>
-    requires narrow { (M.state machine.old).host.width ≤ most_width }
+    requires narrow { (M.state machine.old).host.width ≤ most_saved_width }
     requires words { length set.old ≡ ((M.state machine.old).host.width + 63) / 64 }
     requires wide { length deferred.old ≡ length set.old }
     requires long { length types.old ≡ (M.state machine.old).host.width }
@@ -129,7 +129,7 @@ fn finish<M: Machine, K: Sink>(
     page: &mut [u8; 4096],
     rounds: u32,
 ) -> Result<Worst, SendFault>
-    requires narrow { (M.state machine.old).host.width ≤ most_width }
+    requires narrow { (M.state machine.old).host.width ≤ most_saved_width }
     requires words { length set.old ≡ ((M.state machine.old).host.width + 63) / 64 }
     requires wide { length deferred.old ≡ length set.old }
     requires long { length types.old ≡ (M.state machine.old).host.width }

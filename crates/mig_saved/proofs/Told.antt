@@ -1,5 +1,7 @@
 -- What a saver tells of a host, as frames that an image says, and the frames that this leaves.
 use Rattle.std.proofs.Common.{◌≡◌, ℕ, ◌-◌, ◌^◌, ◌<◌, ◌≤◌, ◌==◌, List, [], ◌∷◌, ◌++◌, map, Bool, true, false, cond, Option, Some, None, refl, sym, ap, subst, ◌∙◌, arith, eqb-true}
+use Rattle.mig_pagetypes.specs.Limits.{pfn_limit}
+use Rattle.mig_guest.specs.Hosts.{most_width}
 use Rattle.std.specs.Prelude.{fold, flat_map}
 use Rattle.std.specs.List.{All}
 use Rattle.std.specs.Ordering.{nat_cmp}
@@ -62,11 +64,11 @@ put_type kind m p t page is = ap (λ u. framed m p u page) (type_stays kind t is
 module _ (kind : Kind) (width : ℕ) where
   -- ---- an entry
 
-  module _ (narrow : width ≤ 2 ^ 28) where
+  module _ (narrow : width ≤ most_width) where
     sendable : (e : FrameTold) → IsToldEntry kind width e → IsSendable kind (top_of kind width) (telling_frame e)
     sendable e h = shown e.frame refl
       where
-        low : e.pfn < 2 ^ 28
+        low : e.pfn < pfn_limit
         low = omega (arith, h.inside, narrow)
 
         shown : (o : Option FrameOf) → e.frame ≡ o → IsSendable kind (top_of kind width) (e.pfn, frame_or_xtab o)
@@ -131,7 +133,7 @@ module _ (kind : Kind) (width : ℕ) where
       next p f true here is = let told = h.0 in (subst (λ q. q < width) (sym (eqb-true p e.pfn here)) told.inside, told.frame f (sym (ap (λ b. cond b e.frame (maps.get m p)) here) ∙ is))
       next p f false other is = base p f (sym (ap (λ b. cond b e.frame (maps.get m p)) other) ∙ is)
 
-  pub left_is_formed : (es : List FrameTold) → width ≤ 2 ^ 28 → AreTold kind width es → (p : ℕ) (f : FrameOf) → maps.get (meant es) p ≡ Some f → IsGuestFrame kind (top_of kind width) p f
+  pub left_is_formed : (es : List FrameTold) → width ≤ most_width → AreTold kind width es → (p : ℕ) (f : FrameOf) → maps.get (meant es) p ≡ Some f → IsGuestFrame kind (top_of kind width) p f
   left_is_formed es narrow h p f is =
       let (low, t) = left es maps.empty h (λ q x at. absurd (let no : ◌≡◌ {A = Option FrameOf} None (Some x) = sym (maps.get-empty nat_cmp q) ∙ at in cc)) p f is in
       record {

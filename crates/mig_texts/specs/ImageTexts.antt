@@ -4,7 +4,7 @@ use Rattle.mig_headers.specs.CauseNumbers.{number_of_image_cause}
 use Rattle.mig_headers.specs.declared.image_fault.ImagePlace.{ImagePlace}
 use Rattle.mig_headers.specs.declared.image_fault.ImagePlace.TheVariants.{Head, Frame, Parts, Part}
 use Rattle.mig_headers.specs.declared.image_fault.ImageCause.{ImageCause}
-use Rattle.mig_headers.specs.declared.image_fault.ImageCause.TheVariants.{Truncated, NotImage, BadKind, Reserved, Width, FrameCount, BadPageType, FrameOrder, FrameOutside, MachineFrame, MachineTwice, PartKey, PartOrder, PartMany, PartLength, PartBytes, PartPadding}
+use Rattle.mig_headers.specs.declared.image_fault.ImageCause.TheVariants.{Truncated, NotImage, BadKind, Reserved, Width, FrameCount, BadPageType, FrameOrder, FrameOutside, MachineFrame, MachineTwice, PartKey, PartOrder, PartMany, PartLength, PartBytes, PartPadding, ZeroPage}
 use Rattle.mig_texts.specs.Texts.{spaced}
 
 -- the name of a cause
@@ -26,6 +26,7 @@ name_of_image_cause (PartMany _) = codes "PartMany"
 name_of_image_cause (PartLength _) = codes "PartLength"
 name_of_image_cause PartBytes = codes "PartBytes"
 name_of_image_cause PartPadding = codes "PartPadding"
+name_of_image_cause (ZeroPage _) = codes "ZeroPage"
 
 -- the arguments of a cause
 abbrev pub arguments_of_image_cause : ImageCause → List (List ℕ)
@@ -41,6 +42,7 @@ arguments_of_image_cause (PartKey code) = decimal code ∷ []
 arguments_of_image_cause (PartOrder code) = decimal code ∷ []
 arguments_of_image_cause (PartMany code) = decimal code ∷ []
 arguments_of_image_cause (PartLength length) = decimal length ∷ []
+arguments_of_image_cause (ZeroPage pfn) = decimal pfn ∷ []
 arguments_of_image_cause _ = []
 
 abbrev pub text_of_image_cause : ImageCause → List ℕ

@@ -6,7 +6,7 @@ use Rattle.mig_headers.specs.declared.fault.Place.TheVariants.{ImageHeader, Doma
 use Rattle.mig_headers.specs.declared.fault.ContextFault.{ContextFault}
 use Rattle.mig_headers.specs.declared.fault.ContextFault.TheVariants.{NoHeader, HeaderSize, ShortEntry, NoEnd}
 use Rattle.mig_headers.specs.declared.fault.Cause.{Cause}
-use Rattle.mig_headers.specs.declared.fault.Cause.TheVariants.{Truncated, NotStream, BadId, BadVersion, BigEndian, BadKind, BadPageShift, BodyTooLong, Unsupported, UnknownMandatory, WrongKind, OutOfOrder, BadLength, NoPages, BadPageType, PfnOutside, Superpage, EntryOutside, Pv32, BadPvInfo, P2mStart, P2mRange, VcpuId, GdtEnts, BadContext, ParamIndex, Missing, P2mFrame, TargetAbsent, VcpuFrame, TooManyRecords, TooManyFrames, BadPairs, BadKey, BadEmulator, EmulatorForPv, ContextCount, TooManyPairs, EmulatorIndex}
+use Rattle.mig_headers.specs.declared.fault.Cause.TheVariants.{Truncated, NotStream, BadId, BadVersion, BigEndian, BadKind, BadPageShift, BodyTooLong, Unsupported, UnknownMandatory, WrongKind, OutOfOrder, BadLength, NoPages, BadPageType, PfnOutside, Superpage, EntryOutside, Pv32, BadPvInfo, P2mStart, VcpuId, GdtEnts, BadContext, ParamIndex, Missing, P2mFrame, TargetAbsent, VcpuFrame, TooManyRecords, TooManyFrames, BadPairs, BadKey, BadEmulator, EmulatorForPv, ContextCount, TooManyPairs, EmulatorIndex}
 
 -- the name of a cause
 abbrev pub name_of : Cause → List ℕ
@@ -31,7 +31,6 @@ name_of (EntryOutside _ _ _) = codes "EntryOutside"
 name_of Pv32 = codes "Pv32"
 name_of BadPvInfo = codes "BadPvInfo"
 name_of (P2mStart _) = codes "P2mStart"
-name_of (P2mRange _) = codes "P2mRange"
 name_of (VcpuId _) = codes "VcpuId"
 name_of (GdtEnts _) = codes "GdtEnts"
 name_of (BadContext _) = codes "BadContext"
@@ -73,7 +72,6 @@ arguments_of (PfnOutside entry pfn) = decimal entry ∷ decimal pfn ∷ []
 arguments_of (Superpage entry slot) = decimal entry ∷ decimal slot ∷ []
 arguments_of (EntryOutside entry slot pfn) = decimal entry ∷ decimal slot ∷ decimal pfn ∷ []
 arguments_of (P2mStart first) = decimal first ∷ []
-arguments_of (P2mRange last) = decimal last ∷ []
 arguments_of (VcpuId id) = decimal id ∷ []
 arguments_of (GdtEnts count) = decimal count ∷ []
 arguments_of (BadContext fault) = words_of_context fault

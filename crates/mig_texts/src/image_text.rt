@@ -33,6 +33,7 @@ impl Printed for ImageCause {
             ImageCause::PartLength(length) => (15, "PartLength", Arguments::One(length)),
             ImageCause::PartBytes => (16, "PartBytes", Arguments::Nothing),
             ImageCause::PartPadding => (17, "PartPadding", Arguments::Nothing),
+            ImageCause::ZeroPage(pfn) => (18, "ZeroPage", Arguments::One(pfn)),
         }
     }
 }

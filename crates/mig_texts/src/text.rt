@@ -89,7 +89,6 @@ impl Printed for Cause {
             Cause::Pv32 => (19, "Pv32", Arguments::Nothing),
             Cause::BadPvInfo => (20, "BadPvInfo", Arguments::Nothing),
             Cause::P2mStart(first) => (21, "P2mStart", Arguments::One(first)),
-            Cause::P2mRange(last) => (22, "P2mRange", Arguments::One(last)),
             Cause::VcpuId(id) => (23, "VcpuId", Arguments::One(id)),
             Cause::GdtEnts(count) => (24, "GdtEnts", Arguments::One(count)),
             Cause::BadContext(fault) => (25, "BadContext", Arguments::Context(fault)),

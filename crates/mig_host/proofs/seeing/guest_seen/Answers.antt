@@ -17,7 +17,7 @@ pub normalise_guest-requires-clause-sole : goal.normalise_guest-requires-clause-
 normalise_guest-requires-clause-sole c = page_sole c.args.host.now.host c.in_ok-guest.guest c.in_ok-guest.ensures.guest c.in_ok-guest.ensures.valid (sym c.in-Pv.ensures)
 
 pub normalise_guest-requires-clause-names : goal.normalise_guest-requires-clause-names
-normalise_guest-requires-clause-names c = pfns_fit c.args.host.now.host c.in_ok-guest.ensures.valid
+normalise_guest-requires-clause-names c = pfns_fit c.args.host.now.host c.in_ok-guest.ensures.valid (sym c.in-Pv.ensures)
 
 pub returns-clause-guest : goal.returns-clause-guest
 returns-clause-guest c = elim c.match-kind.branch [

@@ -24,7 +24,7 @@ returns-in-Some-clause-read g c =
 
 pub returns-in-Ok-clause-grown : goal.returns-in-Ok-clause-grown
 returns-in-Ok-clause-grown g c =
-    let inside = word_inside c.args.guest.now.kind c.args.guest.now.top _ c.requires.1 in
+    let inside = word_inside c.args.guest.now.kind c.args.guest.now.top c.args.word c.requires.1 in
     grows_frame c.args.guest.now _ c.type_in-in_stream.result c.meant-kind.result c.pfn_in.result None (search rules) (record {
       small = subst (λ n. n < pfn_limit) (sym c.pfn_in.ensures) inside.0;
       inside = subst (IsInside c.args.guest.now.kind c.args.guest.now.top) (sym c.pfn_in.ensures) inside.1;
@@ -36,7 +36,7 @@ returns-in-Ok-clause-grown g c =
 
 pub returns-in-Ok-set_frame-clause-grown : goal.returns-in-Ok-set_frame-clause-grown
 returns-in-Ok-set_frame-clause-grown g c =
-    let inside = word_inside c.args.guest.now.kind c.args.guest.now.top _ c.requires.1 in
+    let inside = word_inside c.args.guest.now.kind c.args.guest.now.top c.args.word c.requires.1 in
     let page = c.take_part.new.buf in
     let fine : fault_of_level c.args.guest.now.top c.args.place (level_of c.meant-kind.result) page ≡ None = search rules in
     grows_frame c.args.guest.now _ c.type_in-in_stream.result c.meant-kind.result c.pfn_in-2.result (Some page) (search rules) (record {

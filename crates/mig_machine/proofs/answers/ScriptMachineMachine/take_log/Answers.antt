@@ -1,6 +1,6 @@
-use Rattle.std.proofs.Common.{◌≡◌, ap, subst, sym, ◌∙◌}
+use Rattle.std.proofs.Common.{◌≡◌, ap, subst, sym, ◌∙◌, ◌≤◌}
 use Rattle.mig_machine_api.specs.History.{after_log}
-use Rattle.mig_guest.specs.Hosts.{IsValid}
+use Rattle.mig_guest.specs.Hosts.{IsValid, most_saved_width, HostOf}
 use Rattle.mig_machine_api.specs.Pfns.{Pfns, pfns_of_words}
 use Rattle.mig_machine.specs.MachineSeen.{MachineSeen, history_told}
 use Rattle.mig_machine.specs.MachineFields.{machine_seen}
@@ -14,6 +14,7 @@ invariant_of-self c =
     let was = c.self.invariant in
     record {
       log_size = c.hand_over.ensures.size ∙ was.log_size;
+      narrow = was.narrow;
       notes_size = c.note_log.ensures.size ∙ was.notes_size;
       log_below = λ pfn high. ap (λ (s : Pfns). s pfn) c.hand_over.ensures.empty;
       left = was.left;
@@ -23,6 +24,7 @@ invariant_of-self c =
 pub returns-clause-valid : goal.returns-clause-valid
 returns-clause-valid c = record {
   host = subst IsValid (sym (ap (λ (m : MachineSeen). m.host) c.self.view_is)) c.run.ensures.valid.host;
+  narrow = subst (λ (h : HostOf). h.width ≤ most_saved_width) (sym (ap (λ (m : MachineSeen). m.host) c.self.view_is)) c.run.ensures.valid.narrow;
   logged = λ pfn high. ap (λ (s : Pfns). s pfn) c.hand_over.ensures.empty;
 }
 

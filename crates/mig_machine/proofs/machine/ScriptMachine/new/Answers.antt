@@ -1,5 +1,5 @@
-use Rattle.std.proofs.Common.{rules, ◌≡◌, ◌≤◌, ◌+◌, ◌/◌, length, refl, sym, ap, ◌∙◌}
-use Rattle.mig_guest.specs.Hosts.{HostOf}
+use Rattle.std.proofs.Common.{rules, subst, ◌≡◌, ◌≤◌, ◌+◌, ◌/◌, length, refl, sym, ap, ◌∙◌}
+use Rattle.mig_guest.specs.Hosts.{HostOf, most_saved_width}
 use Rattle.mig_machine_api.specs.Pfns.{Pfns}
 use Rattle.mig_lines.specs.HostLines.{room_for}
 use Rattle.mig_machine.proofs.machine.ScriptMachine.new.Goals as goal
@@ -10,6 +10,7 @@ invariant_of-result c =
     let noted : length c.in_ok-notes.notes.read.items ≡ (c.args.host.host.width + 63) / 64 = search rules in
     let ready : room_for c.args.script ≤ c.reserve.new.self.spare = search rules in
     record {
+      narrow = subst (λ (h : HostOf). h.width ≤ most_saved_width) (sym c.reserve.ensures.host) c.requires.narrow;
       log_size = words ∙ ap (λ (h : HostOf). (h.width + 63) / 64) (sym c.reserve.ensures.host);
       notes_size = noted ∙ ap (λ (h : HostOf). (h.width + 63) / 64) (sym c.reserve.ensures.host);
       log_below = λ pfn high. ap (λ (s : Pfns). s pfn) c.in_ok-log.ensures.empty;

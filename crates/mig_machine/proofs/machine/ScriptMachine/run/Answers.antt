@@ -1,4 +1,5 @@
 use Rattle.std.proofs.Common.{rules, arith, ◌≡◌, ◌≤◌, ◌-◌, ◌^◌, false, is_some, length, drop, refl, sym, ap, subst, ◌∙◌, ◌+◌, ◌/◌}
+use Rattle.mig_guest.specs.Hosts.{most_saved_width}
 use Rattle.mig_machine_api.specs.MachineStates.{Ran}
 use Rattle.mig_machine_api.specs.Pfns.{pfns_of_words}
 use Rattle.mig_lines.specs.Groups.{first_group, first_length}
@@ -21,6 +22,7 @@ invariant_of-self-2 c =
     let r = group_ran m.host.host c.run_logged-self-inside.new.host.host (first_group (drop m.at m.script)) (pfns_of_words m.log.items) (pfns_of_words c.run_logged-self-inside.new.log.items) (regular m.host.host c.width-width.ensures.valid) e.host e.log in
     record {
       log_size = e.size ∙ was.log_size ∙ ap (λ w. (w + 63) / 64) (sym r.shape.width);
+      narrow = subst (λ w. w ≤ most_saved_width) (sym r.shape.width) was.narrow;
       notes_size = was.notes_size ∙ ap (λ w. (w + 63) / 64) (sym r.shape.width);
       log_below = r.below was.log_below;
       left = e.place ∙ ap (λ n. n + first_length (drop n m.script)) was.left ∙ next_place m.script m.runs c.saturating_add-self-inside.result (record { is = c.saturating_add-self-inside.ensures; fits = fits }) few;
@@ -52,4 +54,4 @@ pub returns-clause-valid : goal.returns-clause-valid
 returns-clause-valid c =
     let m = c.self.inside in let e = c.run_logged-self-inside.ensures in
     let r = group_ran m.host.host c.run_logged-self-inside.new.host.host (first_group (drop m.at m.script)) (pfns_of_words m.log.items) (pfns_of_words c.run_logged-self-inside.new.log.items) (regular m.host.host c.width-width.ensures.valid) e.host e.log in
-    record { host = c.width-now.ensures.valid; logged = r.below c.self.invariant.log_below }
+    record { host = c.width-now.ensures.valid; narrow = subst (λ w. w ≤ most_saved_width) (sym r.shape.width) c.self.invariant.narrow; logged = r.below c.self.invariant.log_below }
