@@ -5,7 +5,8 @@ from collections import namedtuple
 from front import headers
 
 STREAM, LEGACY, IMAGE, BROKEN, NONE = 'stream', 'legacy', 'image', 'broken', 'none'
-LIBXL_MAGIC, LIBXC_MAGIC, IMAGE_MAGIC = b'LibxlFmt', b'\xff' * 8, b'XGIMAGE1'
+LIBXL_MAGIC, LIBXC_MAGIC = b'LibxlFmt', b'\xff' * 8
+IMAGE_MAGICS = b'XGIMAGE1', b'XGIMAGE2'               # of guest images of version 1 and 2
 LOOK = 512                                           # so many first bytes are looked at
 
 # What packs a file, by its first bytes, and the program that unpacks it to standard output.
@@ -105,7 +106,7 @@ def form_of(source):
                 return headed_form(words, read(front), source)
             except headers.BadHeader as bad:
                 return Form(BROKEN, words, why=str(bad))
-    if starts_like(front, IMAGE_MAGIC):
+    if any(starts_like(front, magic) for magic in IMAGE_MAGICS):
         return Form(IMAGE, 'guest image')
     if is_like_legacy(front):
         return Form(LEGACY, 'legacy stream')

@@ -156,13 +156,19 @@ def legacy_place(source, begins, words):
 
 # ---- the frames and the parts of a guest image
 
+def is_page_sent(word, is_newer):
+    """Whether a page stands behind a frame with this word. In version 2 bit 52 says that the page is left out."""
+    return word >> 60 in WITH_A_PAGE and not word >> 52 & 1 if is_newer else word >> 28 & 15 in WITH_A_PAGE
+
+
 def file_frames(cursor):
     """Of each frame of a guest image, where it begins. It ends where the parts begin."""
-    cursor.skip(FILE_HEAD - 8)
+    is_newer = cursor.read(8) == forms.IMAGE_MAGICS[1]
+    cursor.skip(FILE_HEAD - 16)
     for _ in range(min(number_at(cursor, '<Q'), MOST_FRAMES)):
         yield cursor.place, None
-        word = number_at(cursor, '<I')
-        cursor.skip(PART_HEAD - 4 + PAGE * (word >> 28 in WITH_A_PAGE))
+        word = number_at(cursor, '<Q')
+        cursor.skip(PART_HEAD - 8 + PAGE * is_page_sent(word, is_newer))
 
 
 def file_parts(cursor):
@@ -187,8 +193,8 @@ def image_file_place(source, begins, words):
 
 # ---- what others ask
 
-OF_COMMAND = {'convert': legacy_place, 'save': image_file_place}
-NO_PLACES = 'Script', 'Pause'                        # what refuses a save and is no place in its image
+OF_COMMAND = {'convert': legacy_place, 'save': image_file_place, 'walkimage': image_file_place}
+NO_PLACES = 'Script', 'Pause', 'Host', 'Walk'        # what refuses a save or a walk and is no place in its input
 
 
 def place_of(source, begins, command, place):

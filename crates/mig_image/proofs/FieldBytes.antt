@@ -1,16 +1,20 @@
 -- The bytes of a field are those of its number.
-use Rattle.mig_image.proofs.Common.{◌≡◌, ℕ, ◌+◌, ◌≤◌, List, ◌++◌, length, take, drop, sym, ap, ◌∙◌, arith, take-append-drop, drop-drop, length-drop, append_assoc, codes, take_all, little_bytes, big_number, big_from-take, Bytes, field_size, field_below, word_back, long_back}
-use Rattle.std.specs.Int.{w64, from_be_bytes}
+use Rattle.mig_image.proofs.Common.{◌≡◌, ℕ, ◌+◌, ◌≤◌, List, ◌++◌, length, take, drop, sym, ap, ◌∙◌, arith, take-append-drop, drop-drop, length-drop, append_assoc, take_all, little_bytes, big_number, big_from-take, Bytes, field_size, field_below, word_back, long_back, ImageVersion, One, Two, image_name, name_number}
+use Rattle.std.specs.Int.{w64, from_be_bytes, to_be_bytes}
 use Rattle.std.proofs.lemmas.Nat.{be_bytes_8}
 use Rattle.mig_bytes.specs.Fields.{le32, le64, be64}
 
-name_back : (xs : List ℕ) → Bytes xs → 8 ≤ length xs → be64 xs 0 ≡ 0x5847494D41474531 → codes "XGIMAGE1" ≡ take 8 xs
+first_field : (n : ℕ) (xs : List ℕ) → Bytes xs → 8 ≤ length xs → be64 xs 0 ≡ n → to_be_bytes w64 n ≡ take 8 xs
 unfolding be64
-name_back xs all long is =
-    be_bytes_8 (take 8 xs) 0x5847494D41474531 (field_size 8 0 xs all long) (field_below 8 0 xs all long) (sym is ∙ sym (big_from-take 0 8 8 xs (omega arith)) ∙ sum (take 8 xs))
+first_field n xs all long is =
+    be_bytes_8 (take 8 xs) n (field_size 8 0 xs all long) (field_below 8 0 xs all long) (sym is ∙ sym (big_from-take 0 8 8 xs (omega arith)) ∙ sum (take 8 xs))
   where
     sum : (bs : List ℕ) → big_number 8 bs ≡ from_be_bytes w64 bs
     sum bs = omega arith
+
+name_back : (version : ImageVersion) (xs : List ℕ) → Bytes xs → 8 ≤ length xs → be64 xs 0 ≡ name_number version → image_name version ≡ take 8 xs
+name_back One xs all long is = first_field (name_number One) xs all long is
+name_back Two xs all long is = first_field (name_number Two) xs all long is
 
 -- a field, and what stands behind it
 field_then : (n at : ℕ) (xs field tail : List ℕ) → field ≡ take n (drop at xs) → tail ≡ drop (at + n) xs → field ++ tail ≡ drop at xs
@@ -21,8 +25,8 @@ pub last : (n at : ℕ) (xs : List ℕ) → length xs ≡ at + n → take n (dro
 last n at xs size = take_all n (drop at xs) (omega (arith, size, length-drop at xs))
 
 module _ (xs : List ℕ) (all : Bytes xs) where
-  pub name_then : {tail : List ℕ} → 8 ≤ length xs → be64 xs 0 ≡ 0x5847494D41474531 → tail ≡ drop 8 xs → codes "XGIMAGE1" ++ tail ≡ xs
-  name_then {tail} long is more = field_then 8 0 xs (codes "XGIMAGE1") tail (name_back xs all long is) more
+  pub name_then : {tail : List ℕ} (version : ImageVersion) → 8 ≤ length xs → be64 xs 0 ≡ name_number version → tail ≡ drop 8 xs → image_name version ++ tail ≡ xs
+  name_then {tail} version long is more = field_then 8 0 xs (image_name version) tail (name_back version xs all long is) more
 
   pub word_then : {n : ℕ} {tail : List ℕ} (at : ℕ) → at + 4 ≤ length xs → n ≡ le32 xs at → tail ≡ drop (at + 4) xs → little_bytes 4 n ++ tail ≡ drop at xs
   word_then {n} {tail} at long is more = field_then 4 at xs (little_bytes 4 n) tail (ap (little_bytes 4) is ∙ word_back at xs all long) more

@@ -1,16 +1,15 @@
 -- The frames of an image: what they spell is read, what is read they spell, and both are the frames of a valid host.
-use Rattle.mig_image.proofs.Common.{◌≡◌, ℕ, ◌+◌, ◌*◌, ◌/◌, ◌%◌, ◌^◌, ◌<◌, ◌≤◌, Bool, false, cond, not, nat_eq, nat_le, nat_lt, List, [], ◌++◌, length, Option, Some, None, is_some, refl, sym, ap, ◌∙◌, arith, append_assoc, ◌∷◌, true, subst, length-append, ◌||◌, ◌==◌, list_any, not-false, or_parts, or_from, leb-false, lt-leb, ne_eqb, eqb-true, eqb-false, common_steps, nat_cmp_total, nat_cmp, is_lt, nat_cmp-IsAntisymmetric, none-some, same_Some, little_bytes, little_number-reads_back, Judged, ◌>>=◌, part, Passes, part_whole, then_passes, both_pass, part_passes, same_passes, ImageCause, Truncated, Kind, no_fault, rows_fine, Frame, Pv, Hvm, PageType, number_of, type_of, type_or_none, type_has_data, all_types, is_type_of, HostOf, HostFrame, HostFrames, IsHostFrame, IsValid, host_word, frame_text, head_pfn, head_type, has_machine, has_frame_from, frame_rows, fault_of_frame, frame_head_at, host_page_at, frame_said, put_frame, host_frame_at, head_type_number, frames_at, Bytes, bytes_front}
-use Rattle.std.proofs.Common.{unwrap_or}
+use Rattle.mig_image.proofs.Common.{◌≡◌, ℕ, ◌+◌, ◌^◌, ◌<◌, ◌≤◌, false, not, nat_eq, nat_le, nat_lt, List, [], ◌++◌, length, Option, Some, None, is_some, refl, sym, ap, ◌∙◌, arith, append_assoc, ◌∷◌, true, subst, length-append, ◌||◌, ◌==◌, list_any, not-false, or_parts, or_from, leb-false, lt-leb, ne_eqb, eqb-true, eqb-false, and_parts, common_steps, nat_cmp_total, nat_cmp, is_lt, nat_cmp-IsAntisymmetric, Judged, ◌>>=◌, Passes, then_passes, both_pass, same_passes, ImageCause, Truncated, Kind, no_fault, rows_fine, Frame, Pv, Hvm, PageType, number_of, type_of, type_or_none, type_has_data, all_types, is_type_of, HostOf, HostFrame, HostFrames, IsHostFrame, IsValid, ImageVersion, One, Two, frame_text, leaves_out, most_width_of, page_text, has_zero_flag, head_pfn, head_type, has_machine, has_frame_from, frame_rows, fault_of_frame, frame_head_at, host_page_at, frame_said, put_frame, host_frame_at, head_type_number, frames_at, Bytes, bytes_front}
 use Rattle.std.specs.FinMap as maps
-use Rattle.mig_bytes.specs.Fields.{le32, le64}
+use Rattle.mig_bytes.specs.Fields.{le64}
 use Rattle.mig_pagetypes.specs.declared.page_type.PageType.TheVariants.{Xtab}
-use Rattle.mig_pagetypes.proofs.Numbers.{number_small, type_back}
 use Rattle.mig_image.specs.FrameEnds.{EndsAt}
 use Rattle.mig_image.specs.Image.{frame_head_of}
 use Rattle.mig_bytes.proofs.Said.{bytes_pass, said_goes}
 use Rattle.mig_host.proofs.InOrder.{has_from, get_at, get_front, each_entry, no_entry, none_passes, few_ranks, entries_behind, found_passes, nat_rises}
 use Rattle.mig_host.proofs.HostsMade.{valid_frame}
-use Rattle.mig_image.proofs.FieldBytes.{word_then, long_last, regroup}
+use Rattle.mig_image.proofs.FieldBytes.{regroup}
+use Rattle.mig_image.proofs.FrameHeads.{Says, flag_has_data, head_len, page_back, page_goes, said_head, says}
 use Rattle.mig_image.proofs.Chains.{Chain, put_all, chain_of, chain_same, Found, AllFound, chain_back, chain_entries, chain_keeps}
 
 -- a frame that may stand behind these
@@ -20,14 +19,15 @@ pub record FrameFits (kind : Kind) (width : ℕ) (m : HostFrames) (e : ℕ × Ho
   pub alone : list_any (λ x. x.1.machine == e.1.machine) (maps.entries m) ≡ false
 
 -- so does what a head without a fault and its page say
-pub frame_fits : (h : HostOf) (head : List ℕ) (page : Option (List ℕ)) → fault_of_frame h head ≡ None → is_some page ≡ type_has_data (head_type head) → ((p : List ℕ) → page ≡ Some p → length p ≡ 4096) → FrameFits h.kind h.width h.frames (head_pfn head, frame_said head page)
-frame_fits h head page fine in_step whole =
-    let (reserved, (type, (order, (outside, (machine, (twice, done)))))) = rows_fine (frame_rows h head) fine in
+pub frame_fits : (version : ImageVersion) (h : HostOf) (head : List ℕ) (page : Option (List ℕ)) → fault_of_frame version h head ≡ None → is_some page ≡ type_has_data (head_type version head) → ((p : List ℕ) → page ≡ Some p → length p ≡ 4096)
+    → FrameFits h.kind h.width h.frames (head_pfn version head, frame_said version head page)
+frame_fits version h head page fine in_step whole =
+    let (reserved, (type, (order, (outside, (machine, (twice, done)))))) = rows_fine (frame_rows version h head) fine in
     let (some, small) = or_parts (nat_eq (le64 head 8) 0) (nat_le (2 ^ 40) (le64 head 8)) machine in
     record {
       is = record {
-        inside = leb-false h.width (head_pfn head) outside;
-        type = not-false (is_type_of h.kind (head_type head)) type;
+        inside = leb-false h.width (head_pfn version head) outside;
+        type = not-false (is_type_of h.kind (head_type version head)) type;
         some_machine = positive (le64 head 8) some;
         machine = leb-false (2 ^ 40) (le64 head 8) small;
         in_step = in_step;
@@ -40,88 +40,52 @@ frame_fits h head page fine in_step whole =
     positive : (n : ℕ) → nat_eq n 0 ≡ false → 0 < n
     positive n h = grind (arith, common_steps)
 
--- ---- the fields of a head
-
-word_small : (n pfn : ℕ) → n < 16 → pfn < 2 ^ 28 → n * 2 ^ 28 + pfn < 2 ^ 32
-word_small n pfn a b = omega arith
-
-low_part : (n pfn : ℕ) → pfn < 2 ^ 28 → (n * 2 ^ 28 + pfn) % 2 ^ 28 ≡ pfn
-low_part n pfn h = omega arith
-
-high_part : (n pfn : ℕ) → pfn < 2 ^ 28 → (n * 2 ^ 28 + pfn) / 2 ^ 28 ≡ n
-high_part n pfn h = omega arith
-
-head_len : (pfn : ℕ) (f : HostFrame) → length (frame_head_of pfn f) ≡ 16
-unfolding frame_head_of
-head_len pfn f = refl
-
--- what a head says
-record Says (head : List ℕ) (e : ℕ × HostFrame) : Type 0 where
-  zero : le32 head 4 ≡ 0
-  pfn : head_pfn head ≡ e.0
-  kind : head_type head ≡ e.1.type
-  machine : le64 head 8 ≡ e.1.machine
-
-says : (e : ℕ × HostFrame) → e.0 < 2 ^ 28 → e.1.machine < 2 ^ 40 → Says (frame_head_of e.0 e.1) e
-unfolding le32 le64 frame_head_of
-says e below small =
-    let n = number_of e.1.type in
-    let word = little_number-reads_back 4 (host_word e.0 e.1.type) (little_bytes 4 0 ++ little_bytes 8 e.1.machine) (word_small n e.0 (number_small e.1.type) below) in
-    record {
-      zero = refl;
-      pfn = ap (λ w. w % 2 ^ 28) word ∙ low_part n e.0 below;
-      kind = ap (λ w. type_or_none (type_of (w / 2 ^ 28))) word ∙ ap (λ t. type_or_none (type_of t)) (high_part n e.0 below) ∙ ap type_or_none (type_back e.1.type);
-      machine = little_number-reads_back 8 e.1.machine [] (omega arith);
-    }
-
 -- ---- no fault
 
 some_machine : (m : ℕ) → 0 < m → m < 2 ^ 40 → (nat_eq m 0 || nat_le (2 ^ 40) m) ≡ false
 some_machine m a b = or_from (nat_eq m 0) (nat_le (2 ^ 40) m) (ne_eqb m 0 (λ e. absurd (omega arith))) (lt-leb (2 ^ 40) m b)
 
-fine : (h : HostOf) (e : ℕ × HostFrame) (head : List ℕ) → Says head e → FrameFits h.kind h.width h.frames e → fault_of_frame h head ≡ None
-fine h e head s f =
-    let reserved = ap (λ n. not (nat_eq n 0)) s.zero in
+fine : (version : ImageVersion) (h : HostOf) (e : ℕ × HostFrame) (head : List ℕ) → Says version head e → FrameFits h.kind h.width h.frames e → fault_of_frame version h head ≡ None
+fine version h e head s f =
     let type = ap (λ k. not (is_type_of h.kind k)) s.kind ∙ ap not f.is.type in
     let order = ap (has_frame_from h) s.pfn ∙ f.behind in
     let outside = ap (nat_le h.width) s.pfn ∙ lt-leb h.width e.0 f.is.inside in
     let machine = ap (λ m. nat_eq m 0 || nat_le (2 ^ 40) m) s.machine ∙ some_machine e.1.machine f.is.some_machine f.is.machine in
     let twice = ap (has_machine h) s.machine ∙ f.alone in
-    no_fault (frame_rows h head) (reserved, (type, (order, (outside, (machine, (twice, tt))))))
-
--- ---- the page
-
-abbrev pub page_if : Bool → List ℕ → Judged ImageCause (Option (List ℕ))
-page_if b input = cond b (part Truncated 4096 input >>= λ page. Passes (Some page.0) page.1) (Passes None input)
-
-page_goes : (kind : PageType) (page : Option (List ℕ)) (rest : List ℕ) → is_some page ≡ type_has_data kind → ((p : List ℕ) → page ≡ Some p → length p ≡ 4096)
-    → host_page_at kind (unwrap_or page [] ++ rest) ≡ Passes page rest
-page_goes kind None rest step whole = ap (λ b. page_if b rest) (sym step)
-page_goes kind (Some p) rest step whole =
-    ap (λ b. page_if b (p ++ rest)) (sym step) ∙ then_passes (part Truncated 4096 (p ++ rest)) (λ page. Passes (Some page.0) page.1) p rest _ (part_whole Truncated 4096 p rest (whole p refl)) refl
+    no_fault (frame_rows version h head) (s.reserved, (type, (order, (outside, (machine, (twice, tt))))))
 
 -- ---- the frame
 
-abbrev pub behind_frame_head : HostOf → List ℕ × List ℕ → Judged ImageCause HostOf
-behind_frame_head h a = host_page_at (head_type a.0) a.1 >>= λ page. Passes (put_frame h (head_pfn a.0) (frame_said a.0 page.0)) page.1
+abbrev pub behind_frame_head : ImageVersion → HostOf → List ℕ × List ℕ → Judged ImageCause HostOf
+behind_frame_head version h a = host_page_at version a.0 a.1 >>= λ page. Passes (put_frame h (head_pfn version a.0) (frame_said version a.0 page.0)) page.1
 
-frame_is : (h : HostOf) (e : ℕ × HostFrame) (head : List ℕ) (rest : List ℕ) → Says head e
-    → ◌≡◌ {A = Judged ImageCause HostOf} (Passes (put_frame h (head_pfn head) (frame_said head e.1.page)) rest) (Passes (put_frame h e.0 e.1) rest)
-frame_is h e head rest s =
-    ap (λ p. Passes (put_frame h p (frame_said head e.1.page)) rest) s.pfn
+frame_is : (version : ImageVersion) (h : HostOf) (e : ℕ × HostFrame) (head : List ℕ) (rest : List ℕ) → Says version head e
+    → ◌≡◌ {A = Judged ImageCause HostOf} (Passes (put_frame h (head_pfn version head) (frame_said version head e.1.page)) rest) (Passes (put_frame h e.0 e.1) rest)
+frame_is version h e head rest s =
+    ap (λ p. Passes (put_frame h p (frame_said version head e.1.page)) rest) s.pfn
     ∙ ap (λ k. Passes (put_frame h e.0 (record { type = k; machine = le64 head 8; page = e.1.page })) rest) s.kind
     ∙ ap (λ m. Passes (put_frame h e.0 (record { type = e.1.type; machine = m; page = e.1.page })) rest) s.machine
 
-pub frame_goes : (h : HostOf) (e : ℕ × HostFrame) (rest : List ℕ) → h.width ≤ 2 ^ 28 → FrameFits h.kind h.width h.frames e → host_frame_at h (frame_text e ++ rest) ≡ Passes (put_frame h e.0 e.1) rest
-frame_goes h e rest wide f =
-    let head = frame_head_of e.0 e.1 in
-    let mid = unwrap_or e.1.page [] ++ rest in
-    let s = says e (let below : e.0 < 2 ^ 28 = omega (arith, f.is.inside, wide) in below) f.is.machine in
-    ap (host_frame_at h) (append_assoc head (unwrap_or e.1.page []) rest)
-    ∙ then_passes (frame_head_at h (head ++ mid)) (behind_frame_head h) head mid _
-    (said_goes Truncated (fault_of_frame h) (λ l. l) 16 head mid (head_len e.0 e.1) (fine h e head s f))
-    (then_passes (host_page_at (head_type head) mid) (λ page. Passes (put_frame h (head_pfn head) (frame_said head page.0)) page.1) e.1.page rest _
-    (ap (λ k. host_page_at k mid) s.kind ∙ page_goes e.1.type e.1.page rest f.is.in_step f.is.whole) (frame_is h e head rest s))
+-- the page behind a head that says this frame
+page_read : (version : ImageVersion) (e : ℕ × HostFrame) (head rest : List ℕ) → Says version head e → is_some e.1.page ≡ type_has_data e.1.type → ((p : List ℕ) → e.1.page ≡ Some p → length p ≡ 4096)
+    → host_page_at version head (page_text version e.1.page ++ rest) ≡ Passes e.1.page rest
+page_read version e head rest s step whole =
+    page_goes version (head_pfn version head) (type_has_data (head_type version head)) (has_zero_flag version head) e.1.page rest (step ∙ ap type_has_data (sym s.kind)) s.flag whole
+
+pub frame_goes : (version : ImageVersion) (h : HostOf) (e : ℕ × HostFrame) (rest : List ℕ) → h.width ≤ most_width_of version → FrameFits h.kind h.width h.frames e → host_frame_at version h (frame_text version e ++ rest) ≡ Passes (put_frame h e.0 e.1) rest
+frame_goes version h e rest holds f =
+    let head = frame_head_of version e.0 e.1 in
+    let mid = page_text version e.1.page ++ rest in
+    let s = says version e (below version e.0 h.width f.is.inside holds) f.is.in_step f.is.machine in
+    ap (host_frame_at version h) (append_assoc head (page_text version e.1.page) rest)
+    ∙ then_passes (frame_head_at version h (head ++ mid)) (behind_frame_head version h) head mid _
+    (said_goes Truncated (fault_of_frame version h) (λ l. l) 16 head mid (head_len version e.0 e.1) (fine version h e head s f))
+    (then_passes (host_page_at version head mid) (λ page. Passes (put_frame h (head_pfn version head) (frame_said version head page.0)) page.1) e.1.page rest _
+    (page_read version e head rest s f.is.in_step f.is.whole) (frame_is version h e head rest s))
+  where
+    below : (version : ImageVersion) (pfn width : ℕ) → pfn < width → width ≤ most_width_of version → pfn < most_width_of version
+    below One pfn width less le = omega arith
+    below Two pfn width less le = omega arith
 
 test_is : (k q : ℕ) → nat_le k q ≡ not (is_lt (nat_cmp q k))
 test_is k q = grind (arith, common_steps)
@@ -190,78 +154,49 @@ type_number : (kind : Kind) (type : ℕ) (o : Option PageType) → type_of type 
 type_number kind type None is has = let no : true ≡ false = sym has ∙ no_xtab kind in cc
 type_number kind type (Some t) is has = eqb-true (number_of t) type (found_passes (λ t. nat_eq (number_of t) type) all_types t is)
 
-whole_word : (w : ℕ) → (w / 2 ^ 28) * 2 ^ 28 + w % 2 ^ 28 ≡ w
-whole_word w = omega arith
-
-head_back : (head : List ℕ) (pfn : ℕ) (f : HostFrame) → Bytes head → length head ≡ 16 → host_word pfn f.type ≡ le32 head 0 → 0 ≡ le32 head 4 → f.machine ≡ le64 head 8 → frame_head_of pfn f ≡ head
-unfolding frame_head_of
-head_back head pfn f all size word none machine = word_then head all 0 (omega (arith, size)) word (word_then head all 4 (omega (arith, size)) none (long_last head all 8 size machine))
-
--- ---- a page
-
-record PageFound (kind : PageType) (i : List ℕ) (page : Option (List ℕ)) (rest : List ℕ) : Type 0 where
-  whole : i ≡ unwrap_or page [] ++ rest
-  in_step : is_some page ≡ type_has_data kind
-  size : (p : List ℕ) → page ≡ Some p → length p ≡ 4096
-
-page_back : (kind : PageType) (i : List ℕ) (page : Option (List ℕ)) (rest : List ℕ) → host_page_at kind i ≡ Passes page rest → PageFound kind i page rest
-page_back kind i page rest h = by (type_has_data kind) refl h
-  where
-    by : (b : Bool) → type_has_data kind ≡ b → page_if b i ≡ Passes page rest → PageFound kind i page rest
-    by true has h =
-        let b = both_pass (part Truncated 4096 i) (λ page. Passes (Some page.0) page.1) page rest h in
-        let p = part_passes Truncated 4096 i b.x b.mid b.first in
-        let e = same_passes (Some b.x) page b.mid rest b.second in
-        record {
-          whole = p.0 ∙ ap (λ l. b.x ++ l) e.1 ∙ ap (λ o. unwrap_or o [] ++ rest) e.0;
-          in_step = ap is_some (sym e.0) ∙ sym has;
-          size = λ q is. ap length (same_Some q b.x (sym is ∙ sym e.0)) ∙ p.1;
-        }
-    by false has h =
-        let e = same_passes None page i rest h in
-        record {
-          whole = e.1 ∙ ap (λ o. unwrap_or o [] ++ rest) e.0;
-          in_step = ap is_some (sym e.0) ∙ sym has;
-          size = λ q is. absurd (none-some q (e.0 ∙ is));
-        }
+-- the type of a head without a fault has its number
+number_is : (version : ImageVersion) (h : HostOf) (head : List ℕ) → fault_of_frame version h head ≡ None → number_of (head_type version head) ≡ head_type_number version head
+number_is version h head fine =
+    let (reserved, (type, others)) = rows_fine (frame_rows version h head) fine in
+    type_number h.kind (head_type_number version head) (type_of (head_type_number version head)) refl (not-false (is_type_of h.kind (head_type version head)) type)
 
 -- ---- a frame
 
 abbrev pub with_frames : HostOf → HostFrames → HostOf
 with_frames h m = record h { frames = m }
 
-said_head : (h : HostOf) (head : List ℕ) (page : Option (List ℕ)) → Bytes head → length head ≡ 16 → fault_of_frame h head ≡ None → frame_head_of (head_pfn head) (frame_said head page) ≡ head
-said_head h head page all size fine =
-    let (reserved, (type, others)) = rows_fine (frame_rows h head) fine in
-    let number : number_of (head_type head) ≡ head_type_number head = type_number h.kind (head_type_number head) (type_of (head_type_number head)) refl (not-false (is_type_of h.kind (head_type head)) type) in
-    head_back head (head_pfn head) (frame_said head page) all size (ap (λ n. n * 2 ^ 28 + head_pfn head) number ∙ whole_word (le32 head 0))
-    (sym (eqb-true (le32 head 4) 0 (not-false (nat_eq (le32 head 4) 0) reserved))) refl
+flag_leaves : (version : ImageVersion) (head : List ℕ) → has_zero_flag version head ≡ true → leaves_out version ≡ true
+flag_leaves version head is = (and_parts (leaves_out version) _ is).0
 
-module _ (h : HostOf) where
-  frame_back : (m : HostFrames) (i : List ℕ) (g : HostOf) (rest : List ℕ) → Bytes i → host_frame_at (with_frames h m) i ≡ Passes g rest → Found (FrameFits h.kind h.width) frame_text Frame host_frame_at (with_frames h) m i g rest
+module _ (version : ImageVersion) (h : HostOf) where
+  frame_back : (m : HostFrames) (i : List ℕ) (g : HostOf) (rest : List ℕ) → Bytes i → host_frame_at version (with_frames h m) i ≡ Passes g rest → Found (FrameFits h.kind h.width) (frame_text version) Frame (host_frame_at version) (with_frames h) m i g rest
   frame_back m i g rest all is =
-      let a = both_pass (frame_head_at (with_frames h m) i) (behind_frame_head (with_frames h m)) g rest is in
+      let a = both_pass (frame_head_at version (with_frames h m) i) (behind_frame_head version (with_frames h m)) g rest is in
       let head = a.x in
-      let p = bytes_pass Truncated (fault_of_frame (with_frames h m)) 16 i head a.mid a.first in
-      let c = both_pass (host_page_at (head_type head) a.mid) (λ page. Passes (put_frame (with_frames h m) (head_pfn head) (frame_said head page.0)) page.1) g rest a.second in
-      let q = page_back (head_type head) a.mid c.x c.mid c.first in
-      let e = same_passes (put_frame (with_frames h m) (head_pfn head) (frame_said head c.x)) g c.mid rest c.second in
+      let p = bytes_pass Truncated (fault_of_frame version (with_frames h m)) 16 i head a.mid a.first in
+      let c = both_pass (host_page_at version head a.mid) (λ page. Passes (put_frame (with_frames h m) (head_pfn version head) (frame_said version head page.0)) page.1) g rest a.second in
+      let q = page_back version (head_pfn version head) (type_has_data (head_type version head)) (has_zero_flag version head) a.mid c.x c.mid (flag_leaves version head) c.first in
+      let e = same_passes (put_frame (with_frames h m) (head_pfn version head) (frame_said version head c.x)) g c.mid rest c.second in
       let bytes : Bytes head = bytes_front i head a.mid p.0 all in
-      let text = unwrap_or c.x [] in
+      let (reserved, others) = rows_fine (frame_rows version (with_frames h m) head) p.2 in
+      let number = number_is version (with_frames h m) head p.2 in
+      let spelled = said_head version head c.x bytes p.1 reserved number (q.left_out ∙ flag_has_data version head reserved number) in
+      let text = page_text version c.x in
       record {
-        e = (head_pfn head, frame_said head c.x);
-        whole = regroup i a.mid rest head text p.0 (q.whole ∙ ap (λ l. text ++ l) e.1) ∙ ap (λ l. (l ++ text) ++ rest) (sym (said_head (with_frames h m) head c.x bytes p.1 p.2));
-        fits = frame_fits (with_frames h m) head c.x p.2 q.in_step q.size;
+        e = (head_pfn version head, frame_said version head c.x);
+        whole = regroup i a.mid rest head text p.0 (q.whole ∙ ap (λ l. text ++ l) e.1) ∙ ap (λ l. (l ++ text) ++ rest) (sym spelled);
+        fits = frame_fits version (with_frames h m) head c.x p.2 q.in_step q.size;
         is = sym e.0;
       }
 
   -- frames one behind the other
   abbrev pub FramesFound : ℕ → List ℕ → HostOf → List ℕ → Type 0
-  FramesFound = AllFound (FrameFits h.kind h.width) frame_text Frame host_frame_at (with_frames h) maps.empty
+  FramesFound = AllFound (FrameFits h.kind h.width) (frame_text version) Frame (host_frame_at version) (with_frames h) maps.empty
 
-  pub frames_back : (n : ℕ) (i : List ℕ) (g : HostOf) (rest : List ℕ) → Bytes i → frames_at n (with_frames h maps.empty) i ≡ Passes g rest → FramesFound n i g rest
-  frames_back n i g rest all is = chain_back (FrameFits h.kind h.width) frame_text Frame host_frame_at (with_frames h) frame_back maps.empty n 0 i g rest all is
+  pub frames_back : (n : ℕ) (i : List ℕ) (g : HostOf) (rest : List ℕ) → Bytes i → frames_at version n (with_frames h maps.empty) i ≡ Passes g rest → FramesFound n i g rest
+  frames_back n i g rest all is = chain_back (FrameFits h.kind h.width) (frame_text version) Frame (host_frame_at version) (with_frames h) frame_back maps.empty n 0 i g rest all is
 
+module _ (h : HostOf) where
   pub frame_entries : (es : List (ℕ × HostFrame)) → Chain (FrameFits h.kind h.width) maps.empty es → maps.entries {R = nat_cmp} (put_all maps.empty es) ≡ es
   frame_entries es chain = chain_entries nat_cmp_total (FrameFits h.kind h.width) (λ m e f. behind m e f.behind) es chain
 

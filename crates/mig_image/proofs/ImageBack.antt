@@ -1,5 +1,5 @@
 -- Bytes that are read as a host begin with its image, and the host is valid.
-use Rattle.mig_image.proofs.Common.{◌≡◌, ℕ, ◌^◌, ◌<◌, ◌≤◌, Bool, true, false, not, nat_eq, nat_lt, List, ◌++◌, length, None, refl, sym, ap, subst, ◌∙◌, arith, ◌&&◌, flat_map, not-false, or_parts, ltb-false, eqb-true, eqb-false, recursion_from_All, little_bytes, AreBytes, ◌>>=◌, part, placed, Passes, both_pass, part_passes, same_passes, placed_passes, kind_number, kind_of_number, Truncated, Head, Parts, Kind, Pv, Hvm, PartKey, HostOf, HostFrame, IsValid, frame_text, part_text, IsHostImage, name_rows, size_rows, fault_of_name, fault_of_sizes, fault_of_host_head, host_head_at, opened, frames_at, host_parts_at, count_at, behind_head, Bytes, bytes_front, bytes_back, rows_fine, both_none}
+use Rattle.mig_image.proofs.Common.{◌≡◌, ℕ, ◌^◌, ◌<◌, ◌≤◌, Bool, true, false, not, nat_eq, nat_lt, List, ◌++◌, length, None, refl, sym, ap, subst, ◌∙◌, arith, ◌&&◌, flat_map, not-false, or_parts, ltb-false, eqb-true, eqb-false, recursion_from_All, little_bytes, AreBytes, ◌>>=◌, part, placed, Passes, both_pass, part_passes, same_passes, placed_passes, kind_number, kind_of_number, Truncated, Head, Parts, Kind, Pv, Hvm, PartKey, HostOf, HostFrame, IsValid, frame_text, part_text, IsHostImageUpTo, ImageVersion, One, Two, cond, ◌||◌, head_version, top_limit, most_width, most_width_of, name_number, version_named, name_rows, size_rows, fault_of_name, fault_of_sizes, fault_of_host_head, host_head_at, opened, frames_at, host_parts_at, count_at, behind_head, Bytes, bytes_front, bytes_back, rows_fine, both_none}
 use Rattle.std.specs.FinMap as maps
 use Rattle.mig_bytes.specs.Fields.{le32, le64, be64}
 use Rattle.mig_headers.specs.RecordTypes.{pv}
@@ -10,7 +10,7 @@ use Rattle.mig_host.proofs.HostsMade.{valid_empty}
 use Rattle.mig_image.proofs.FieldBytes.{name_then, word_then, long_then, long_last, regroup}
 use Rattle.mig_image.proofs.Chains.{Chain, put_all}
 use Rattle.mig_image.proofs.Frames.{FrameFits, with_frames, frames_back, frame_entries, frames_valid}
-use Rattle.mig_image.proofs.Parts.{PartFits, with_parts, parts_back, part_entries, parts_valid}
+use Rattle.mig_image.proofs.Parts.{IsPvNarrow, PartFits, with_parts, parts_back, part_entries, parts_valid}
 
 -- ---- the head
 
@@ -22,48 +22,64 @@ kind_known n h = by (nat_eq n 1) (nat_eq n 2) refl refl h
     by false true p q h = let e : n ≡ 2 = eqb-true n 2 q in ap (λ m. kind_number (kind_of_number m)) e ∙ sym e
     by false false p q h = cc
 
-head_back : (h : HostOf) (head : List ℕ) → Bytes head → length head ≡ 32 → be64 head 0 ≡ 0x5847494D41474531 → kind_number h.kind ≡ le32 head 8 → 0 ≡ le32 head 12 → h.width ≡ le64 head 16 → length (maps.entries h.frames) ≡ le64 head 24
-    → host_head h ≡ head
+head_back : (version : ImageVersion) (h : HostOf) (head : List ℕ) → Bytes head → length head ≡ 32 → be64 head 0 ≡ name_number version → kind_number h.kind ≡ le32 head 8 → 0 ≡ le32 head 12 → h.width ≡ le64 head 16 → length (maps.entries h.frames) ≡ le64 head 24
+    → host_head version h ≡ head
 unfolding host_head
-head_back h head all size name kind none width count =
-    name_then head all (omega (arith, size)) name (word_then head all 8 (omega (arith, size)) kind (word_then head all 12 (omega (arith, size)) none
+head_back version h head all size name kind none width count =
+    name_then head all version (omega (arith, size)) name (word_then head all 8 (omega (arith, size)) kind (word_then head all 12 (omega (arith, size)) none
     (long_then head all 16 (omega (arith, size)) width (long_last head all 24 size count))))
 
--- what a head without a fault says
-record HeadFine (head : List ℕ) : Type 0 where
-  name : be64 head 0 ≡ 0x5847494D41474531
-  kind : kind_number (kind_of_number (le32 head 8)) ≡ le32 head 8
-  none : 0 ≡ le32 head 12
-  width : le64 head 16 ≤ 2 ^ 28
-  some_width : kind_of_number (le32 head 8) ≡ Pv → 0 < le64 head 16
-  few : le64 head 24 ≤ 2 ^ 24
+-- one of the names is that of the version
+named : (n : ℕ) → (not (nat_eq n (name_number One)) && not (nat_eq n (name_number Two))) ≡ false → n ≡ name_number (version_named n)
+named n h = by (nat_eq n (name_number Two)) (nat_eq n (name_number One)) refl refl h
+  where
+    by : (two one : Bool) → nat_eq n (name_number Two) ≡ two → nat_eq n (name_number One) ≡ one → (not one && not two) ≡ false → n ≡ name_number (cond two Two One)
+    by true one p q h = eqb-true n (name_number Two) p
+    by false true p q h = eqb-true n (name_number One) q
+    by false false p q h = cc
 
-not_both : (kind : Kind) (width : ℕ) → (pv kind && nat_eq width 0) ≡ false → kind ≡ Pv → 0 < width
-not_both Pv width h is = positive width h
+-- what a head without a fault says, where hosts up to this width are taken
+pub record HeadFine (widest : ℕ) (head : List ℕ) : Type 0 where
+  pub name : be64 head 0 ≡ name_number (head_version head)
+  pub kind : kind_number (kind_of_number (le32 head 8)) ≡ le32 head 8
+  pub none : 0 ≡ le32 head 12
+  pub narrow : le64 head 16 ≤ widest
+  pub holds : le64 head 16 ≤ most_width_of (head_version head)
+  pub some_width : kind_of_number (le32 head 8) ≡ Pv → 0 < le64 head 16
+  pub pv_narrow : IsPvNarrow (kind_of_number (le32 head 8)) (le64 head 16)
+  pub few : le64 head 24 ≤ 2 ^ 24
+
+pv_width : (kind : Kind) (width : ℕ) → (pv kind && (nat_eq width 0 || nat_lt top_limit width)) ≡ false → kind ≡ Pv → (0 < width) × (width ≤ top_limit)
+pv_width Pv width h is =
+    let p = or_parts (nat_eq width 0) (nat_lt top_limit width) h in (positive width p.0, ltb-false top_limit width p.1)
   where
     positive : (n : ℕ) → nat_eq n 0 ≡ false → 0 < n
     positive n h = let differs = eqb-false n 0 h in omega arith
-not_both Hvm width h is = absurd (apart is)
+pv_width Hvm width h is = absurd (apart is)
   where
     apart : Hvm ≡ Pv → ⊥
     apart e = cc
 
-head_fine : (head : List ℕ) → fault_of_host_head head ≡ None → HeadFine head
-head_fine head fine =
+pub head_fine : (widest : ℕ) (head : List ℕ) → fault_of_host_head widest head ≡ None → HeadFine widest head
+head_fine widest head fine =
+    let version = head_version head in
     let kind = kind_of_number (le32 head 8) in
     let width = le64 head 16 in
     let count = le64 head 24 in
-    let both = both_none (fault_of_name head) (fault_of_sizes kind width count) fine in
+    let both = both_none (fault_of_name head) (fault_of_sizes widest version kind width count) fine in
     let (name, (known, (reserved, done))) = rows_fine (name_rows head) both.0 in
-    let (wide, (many, end)) = rows_fine (size_rows kind width count) both.1 in
-    let w = or_parts (nat_lt (2 ^ 28) width) (pv kind && nat_eq width 0) wide in
+    let (wide, (many, end)) = rows_fine (size_rows widest version kind width count) both.1 in
+    let w = or_parts (nat_lt widest width) (nat_lt (most_width_of version) width || (pv kind && (nat_eq width 0 || nat_lt top_limit width))) wide in
+    let v = or_parts (nat_lt (most_width_of version) width) (pv kind && (nat_eq width 0 || nat_lt top_limit width)) w.1 in
     let m = or_parts (nat_lt (2 ^ 24) count) (nat_lt width count) many in
     record {
-      name = eqb-true (be64 head 0) 0x5847494D41474531 (not-false (nat_eq (be64 head 0) 0x5847494D41474531) name);
+      name = named (be64 head 0) name;
       kind = kind_known (le32 head 8) known;
       none = sym (eqb-true (le32 head 12) 0 (not-false (nat_eq (le32 head 12) 0) reserved));
-      width = ltb-false (2 ^ 28) width w.0;
-      some_width = not_both kind width w.1;
+      narrow = ltb-false widest width w.0;
+      holds = ltb-false (most_width_of version) width v.0;
+      some_width = λ is. (pv_width kind width v.1 is).0;
+      pv_narrow = λ is. (pv_width kind width v.1 is).1;
       few = ltb-false (2 ^ 24) count m.0;
     }
 
@@ -90,47 +106,57 @@ joined input head at_frames frames at_count count at_parts parts rest a b c d =
     regroup input at_frames rest head (frames ++ (count ++ parts)) a (regroup at_frames at_count rest frames (count ++ parts) b (regroup at_count at_parts rest count parts c d))
 
 -- an image of these pieces
-image_of : (g : HostOf) (head : List ℕ) (fs : List (ℕ × HostFrame)) (n : ℕ) (ps : List (PartKey × List ℕ)) → host_head g ≡ head → maps.entries g.frames ≡ fs → length (maps.entries g.parts) ≡ n → maps.entries g.parts ≡ ps
-    → image g ≡ head ++ (flat_map frame_text fs ++ (little_bytes 8 n ++ flat_map part_text ps))
+image_of : (version : ImageVersion) (g : HostOf) (head : List ℕ) (fs : List (ℕ × HostFrame)) (n : ℕ) (ps : List (PartKey × List ℕ)) → host_head version g ≡ head → maps.entries g.frames ≡ fs → length (maps.entries g.parts) ≡ n → maps.entries g.parts ≡ ps
+    → image version g ≡ head ++ (flat_map (frame_text version) fs ++ (little_bytes 8 n ++ flat_map part_text ps))
 unfolding image
-image_of g head fs n ps a b c d = rw (a, c, b, d) refl
+image_of version g head fs n ps a b c d = rw (a, c, b, d) refl
 
-module _ (head : List ℕ) (bytes : Bytes head) (size : length head ≡ 32) (said : HeadFine head) (fs : List (ℕ × HostFrame)) (few : length fs ≡ le64 head 24) (fits : Chain (FrameFits (opened head).kind (opened head).width) maps.empty fs)
+module _ (widest : ℕ) (few_widths : widest ≤ most_width) (head : List ℕ) (bytes : Bytes head) (size : length head ≡ 32) (said : HeadFine widest head) (fs : List (ℕ × HostFrame)) (few : length fs ≡ le64 head 24) (fits : Chain (FrameFits (opened head).kind (opened head).width) maps.empty fs)
     (ps : List (PartKey × List ℕ)) (stand : Chain (PartFits (opened head).kind (opened head).width) maps.empty ps) where
+  abbrev version : ImageVersion
+  version = head_version head
+
   abbrev given : HostOf
   given = with_parts (framed head fs) (put_all maps.empty ps)
 
   given_valid : IsValid given
   given_valid =
-      let none = valid_empty (kind_of_number (le32 head 8)) (le64 head 16) said.width said.some_width in
+      let small : le64 head 16 ≤ most_width = omega (arith, few_widths, said.narrow) in
+      let none = valid_empty (kind_of_number (le32 head 8)) (le64 head 16) small said.some_width said.pv_narrow in
       parts_valid (framed head fs) ps (frames_valid (opened head) fs none fits (subst (λ n. n ≤ 2 ^ 24) (sym few) said.few)) stand
 
-  given_image : image given ≡ head ++ (flat_map frame_text fs ++ (little_bytes 8 (length ps) ++ flat_map part_text ps))
+  given_image : image version given ≡ head ++ (flat_map (frame_text version) fs ++ (little_bytes 8 (length ps) ++ flat_map part_text ps))
   given_image =
       let frames : maps.entries given.frames ≡ fs = frame_entries (opened head) fs fits in
       let parts : maps.entries given.parts ≡ ps = part_entries (framed head fs) ps stand in
-      image_of given head fs (length ps) ps (head_back given head bytes size said.name said.kind said.none refl (ap length frames ∙ few)) frames (ap length parts) parts
+      image_of version given head fs (length ps) ps (head_back version given head bytes size said.name said.kind said.none refl (ap length frames ∙ few)) frames (ap length parts) parts
 
-pub image_back : (input : List ℕ) (h : HostOf) (rest : List ℕ) → AreBytes input → host_at input ≡ Passes h rest → IsHostImage input h rest
+pub image_back : (widest : ℕ) (input : List ℕ) (h : HostOf) (rest : List ℕ) → widest ≤ most_width → AreBytes input → host_at widest input ≡ Passes h rest → IsHostImageUpTo widest input h rest
 unfolding host_at
-image_back input h rest are is =
+image_back widest input h rest few_widths are is =
     let all : Bytes input = recursion_from_All (λ b. b < 256) input are in
-    let a = both_pass (placed Head (host_head_at input)) (λ head. behind_head head.0 head.1) h rest is in
-    let p = bytes_pass Truncated fault_of_host_head 32 input a.x a.mid (placed_passes Head (host_head_at input) a.x a.mid a.first) in
+    let a = both_pass (placed Head (host_head_at widest input)) (λ head. behind_head head.0 head.1) h rest is in
+    let p = bytes_pass Truncated (fault_of_host_head widest) 32 input a.x a.mid (placed_passes Head (host_head_at widest input) a.x a.mid a.first) in
+    let version = head_version a.x in
     let in_frames : Bytes a.mid = bytes_back input a.x a.mid p.0 all in
-    let b = both_pass (frames_at (le64 a.x 24) (opened a.x) a.mid) (λ f. placed Parts (count_at f.1) >>= λ count. host_parts_at count.0 f.0 count.1) h rest a.second in
-    let f = frames_back (opened a.x) (le64 a.x 24) a.mid b.x b.mid in_frames b.first in
-    let in_count : Bytes b.mid = bytes_back a.mid (flat_map frame_text f.es) b.mid f.whole in_frames in
+    let b = both_pass (frames_at version (le64 a.x 24) (opened a.x) a.mid) (λ f. placed Parts (count_at f.1) >>= λ count. host_parts_at count.0 f.0 count.1) h rest a.second in
+    let f = frames_back version (opened a.x) (le64 a.x 24) a.mid b.x b.mid in_frames b.first in
+    let in_count : Bytes b.mid = bytes_back a.mid (flat_map (frame_text version) f.es) b.mid f.whole in_frames in
     let c = both_pass (placed Parts (count_at b.mid)) (λ count. host_parts_at count.0 b.x count.1) h rest b.second in
     let n = count_back b.mid c.x c.mid in_count (placed_passes Parts (count_at b.mid) c.x c.mid c.first) in
     let in_parts : Bytes c.mid = bytes_back b.mid (little_bytes 8 c.x) c.mid n in_count in
     let q = parts_back (framed a.x f.es) c.x c.mid h rest in_parts (subst (λ x. host_parts_at c.x x c.mid ≡ Passes h rest) f.is c.second) in
     let bytes = bytes_front input a.x a.mid p.0 all in
-    let said = head_fine a.x p.2 in
+    let said = head_fine widest a.x p.2 in
     let counted : b.mid ≡ little_bytes 8 (length q.es) ++ c.mid = n ∙ ap (λ k. little_bytes 8 k ++ c.mid) (sym q.size) in
-    subst (λ (g : HostOf). IsHostImage input g rest) (sym q.is) (record {
-      valid = given_valid a.x bytes p.1 said f.es f.size f.chain q.es q.chain;
-      spelled =
-          joined input a.x a.mid (flat_map frame_text f.es) b.mid (little_bytes 8 (length q.es)) c.mid (flat_map part_text q.es) rest p.0 f.whole counted q.whole
-          ∙ ap (λ l. l ++ rest) (sym (given_image a.x bytes p.1 said f.es f.size f.chain q.es q.chain));
+    subst (λ (g : HostOf). IsHostImageUpTo widest input g rest) (sym q.is) (record {
+      image = record {
+        version = version;
+        valid = given_valid widest few_widths a.x bytes p.1 said f.es f.size f.chain q.es q.chain;
+        holds = said.holds;
+        spelled =
+            joined input a.x a.mid (flat_map (frame_text version) f.es) b.mid (little_bytes 8 (length q.es)) c.mid (flat_map part_text q.es) rest p.0 f.whole counted q.whole
+            ∙ ap (λ l. l ++ rest) (sym (given_image widest few_widths a.x bytes p.1 said f.es f.size f.chain q.es q.chain));
+      };
+      narrow = said.narrow;
     })

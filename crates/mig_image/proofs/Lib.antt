@@ -1,11 +1,14 @@
 pub mod Common
 pub mod Chains
 pub mod FieldBytes
+pub mod FrameHeads
 pub mod Frames
 pub mod ImageBack
 pub mod ImageFronts
 pub mod ImageReads
+pub mod ImageWords
 pub mod KeyTests
 pub mod Parts
 pub mod Readers
 pub mod Writers
+pub mod ZeroPages

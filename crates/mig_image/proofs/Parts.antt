@@ -1,17 +1,18 @@
 -- The parts of an image: what they spell is read, what is read they spell, and both are the parts of a valid host.
-use Rattle.mig_image.proofs.Common.{◌≡◌, ℕ, zero, suc, ◌^◌, ◌<◌, ◌≤◌, Bool, true, false, not, nat_eq, List, [], ◌∷◌, ◌++◌, length, replicate, Some, None, refl, sym, ap, subst, ◌∙◌, arith, append_assoc, ◌+◌, cond, nat_le, Option, length-append, ◌*◌, ◌&&◌, ◌||◌, ◌==◌, if◌then◌else◌, T, list_all, AllByRecursion, and_from, eqb-true, not-false, and_parts, leb-false, eq-eqb, and_left, and_right, lt-leb, true≢false, common_steps, length-replicate, filter-append, nat_cmp, is_lt, ordering_then, Ordering, Less, Equal, Greater, nat_cmp-IsAntisymmetric, where_key, is_sorted-where_key, little_bytes, little_number-reads_back, padding_len, Judged, ◌>>=◌, Passes, then_passes, both_pass, same_passes, ImageCause, Truncated, PartBytes, PartPadding, Kind, no_fault, rows_fine, Part, PartKey, IsRawContent, HostOf, IsHostPart, IsValid, numbered, one_code, number_found, PartMap, parts_of, FitsPolicy, part_cmp, part_total, part_exact, part_text, head_key, code_fits, code_allows, has_part_from, is_full, part_rows, fault_of_part, fault_of_bytes, fault_of_padding, put_part_in, part_head_at, bytes_at, padding_at, part_at, host_parts_at, Bytes, bytes_front, word_below, Counts}
+use Rattle.mig_image.proofs.Common.{◌≡◌, ℕ, ◌^◌, ◌<◌, ◌≤◌, Bool, true, false, not, nat_eq, List, [], ◌∷◌, ◌++◌, length, replicate, Some, None, refl, sym, ap, subst, ◌∙◌, arith, append_assoc, ◌+◌, cond, nat_le, Option, length-append, ◌*◌, ◌&&◌, ◌||◌, ◌==◌, if◌then◌else◌, T, list_all, AllByRecursion, and_from, eqb-true, not-false, and_parts, leb-false, eq-eqb, and_left, and_right, lt-leb, true≢false, common_steps, length-replicate, filter-append, nat_cmp, is_lt, ordering_then, Ordering, Less, Equal, Greater, nat_cmp-IsAntisymmetric, where_key, is_sorted-where_key, little_bytes, little_number-reads_back, padding_len, Judged, ◌>>=◌, Passes, then_passes, both_pass, same_passes, ImageCause, Truncated, PartBytes, PartPadding, Kind, Pv, Hvm, top_limit, no_fault, rows_fine, Part, PartKey, IsRawContent, HostOf, IsHostPart, IsValid, numbered, one_code, number_found, PartMap, parts_of, FitsPolicy, part_cmp, part_total, part_exact, part_text, head_key, code_fits, code_allows, has_part_from, is_full, part_rows, fault_of_part, fault_of_bytes, fault_of_padding, put_part_in, part_head_at, bytes_at, padding_at, part_at, host_parts_at, Bytes, bytes_front, word_below, Counts}
 use Rattle.std.specs.FinMap as maps
 use Rattle.mig_bytes.specs.Fields.{le32}
 use Rattle.mig_headers.specs.Pairs.{are_canonical_pairs, AreCanonicalPairs}
 use Rattle.mig_headers.proofs.PairTexts.{canonical_pairs_are_computed}
 use Rattle.mig_guest.specs.declared.part_code.PartCode.{PartCode}
-use Rattle.mig_guest.specs.declared.part_code.PartCode.TheVariants.{EmulatorPairs, CpuidLeaf, Msr}
+use Rattle.mig_guest.specs.declared.part_code.PartCode.TheVariants.{EmulatorPairs, CpuidLeaf, Msr, P2mFrames}
 use Rattle.mig_guest.specs.PartCodes.{code_number, code_of_number, row_of}
 use Rattle.mig_image.specs.Image.{part_head_of}
 use Rattle.mig_bytes.proofs.Said.{bytes_pass, said_goes}
 use Rattle.mig_host.proofs.InOrder.{entries_behind, no_entries, has_from, get_at, each_entry, few_ranks, nat_rises}
 use Rattle.mig_host.proofs.HostsMade.{valid_part}
 use Rattle.mig_image.proofs.FieldBytes.{word_then, word_last, regroup}
+use Rattle.mig_image.proofs.ZeroPages.{all_zero, only_zeros}
 use Rattle.mig_image.specs.declared.read_part.Entries.{Entries}
 use Rattle.mig_image.proofs.Chains.{Chain, put_all, chain_of, chain_same, Found, AllFound, chain_back, chain_entries, chain_keeps}
 
@@ -26,8 +27,17 @@ pub record PartFits (kind : Kind) (width : ℕ) (m : PartMap) (e : PartKey × Li
 code_small : (code : PartCode) → code_number code < 2 ^ 32
 code_small code = grind (arith, common_steps)
 
-pub len_small : (code : PartCode) (width len : ℕ) → width ≤ 2 ^ 28 → (row_of code).allows width len ≡ true → len < 2 ^ 32
-len_small _ width len wide is = grind (arith, common_steps)
+-- a PV host isn't wider than its numbers reach
+abbrev pub IsPvNarrow : Kind → ℕ → Type 0
+IsPvNarrow kind width = kind ≡ Pv → width ≤ top_limit
+
+pub valid_narrow : (h : HostOf) → IsValid h → IsPvNarrow h.kind h.width
+valid_narrow h valid is = omega (arith, valid.width)
+
+pub len_small : (code : PartCode) (kind : Kind) (width len : ℕ) → IsPvNarrow kind width → (row_of code).of_kind kind ≡ true → (row_of code).allows width len ≡ true → len < 2 ^ 32
+len_small P2mFrames Pv width len narrow of_kind is = let wide : width ≤ 2 ^ 32 = narrow refl in grind (arith, common_steps)
+len_small P2mFrames Hvm width len narrow of_kind is = absurd (true≢false (sym of_kind))
+len_small _ kind width len narrow of_kind is = grind (arith, common_steps)
 
 -- ---- the fields of a head
 
@@ -41,9 +51,9 @@ record Says (head : List ℕ) (k : PartKey) (n : ℕ) : Type 0 where
   key : head_key head ≡ k
   len : le32 head 12 ≡ n
 
-says : (kind : Kind) (width : ℕ) (e : PartKey × List ℕ) → width ≤ 2 ^ 28 → IsHostPart kind width e.0 e.1 → Says (part_head_of e.0 (length e.1)) e.0 (length e.1)
+says : (kind : Kind) (width : ℕ) (e : PartKey × List ℕ) → IsPvNarrow kind width → IsHostPart kind width e.0 e.1 → Says (part_head_of e.0 (length e.1)) e.0 (length e.1)
 unfolding le32 part_head_of
-says kind width e wide is =
+says kind width e narrow is =
     let n = little_bytes 4 (length e.1) in
     let c = little_number-reads_back 4 e.0.code (little_bytes 4 e.0.key1 ++ (little_bytes 4 e.0.key2 ++ n)) (let small : e.0.code < 2 ^ 32 = omega (arith, is.number, code_small is.code) in small) in
     let k1 = little_number-reads_back 4 e.0.key1 (little_bytes 4 e.0.key2 ++ n) is.small1 in
@@ -51,7 +61,7 @@ says kind width e wide is =
     record {
       code = c;
       key = λ i. record { code = c i; key1 = k1 i; key2 = k2 i };
-      len = little_number-reads_back 4 (length e.1) [] (len_small is.code width (length e.1) wide is.len);
+      len = little_number-reads_back 4 (length e.1) [] (len_small is.code kind width (length e.1) narrow is.of_kind is.len);
     }
 
 -- ---- no fault
@@ -78,10 +88,6 @@ fine_bytes code number bytes is content = no_fault ((nat_eq number 258 && not (a
         ap not ((canonical_pairs_are_computed bytes).1 (subst (λ (c : PartCode). IsRawContent c bytes) code_same content))
     by false same = refl
 
-all_zero : (n : ℕ) → list_all (λ b. nat_eq b 0) (replicate n 0) ≡ true
-all_zero zero = refl
-all_zero (suc n) = all_zero n
-
 fine_padding : (n : ℕ) → fault_of_padding (replicate n 0) ≡ None
 fine_padding n = no_fault ((not (list_all (λ b. nat_eq b 0) (replicate n 0)), PartPadding) ∷ []) (ap not (all_zero n), tt)
 
@@ -96,12 +102,12 @@ behind_bytes h head bytes = padding_at (le32 head 12) bytes.1 >>= λ padding. Pa
 abbrev pub behind_part_head : HostOf → List ℕ × List ℕ → Judged ImageCause HostOf
 behind_part_head h head = bytes_at (le32 head.0 0) (le32 head.0 12) head.1 >>= behind_bytes h head.0
 
-pub part_goes : (h : HostOf) (e : PartKey × List ℕ) (rest : List ℕ) → h.width ≤ 2 ^ 28 → PartFits h.kind h.width h.parts e → part_at h (part_text e ++ rest) ≡ Passes (put_part_in h e.0 e.1) rest
-part_goes h e rest wide f =
+pub part_goes : (h : HostOf) (e : PartKey × List ℕ) (rest : List ℕ) → IsPvNarrow h.kind h.width → PartFits h.kind h.width h.parts e → part_at h (part_text e ++ rest) ≡ Passes (put_part_in h e.0 e.1) rest
+part_goes h e rest narrow f =
     let head = part_head_of e.0 (length e.1) in
     let zeros = replicate (padding_len (length e.1)) 0 in
     let mid = e.1 ++ (zeros ++ rest) in
-    let s = says h.kind h.width e wide f.is in
+    let s = says h.kind h.width e narrow f.is in
     ap (part_at h) (append_assoc head (e.1 ++ zeros) rest ∙ ap (λ l. head ++ l) (append_assoc e.1 zeros rest))
     ∙ then_passes (part_head_at h (head ++ mid)) (behind_part_head h) head mid _
     (said_goes Truncated (fault_of_part h) (λ l. l) 16 head mid (head_len e.0 (length e.1)) (fine h e head s f))
@@ -300,12 +306,6 @@ head_back head all size =
     word_then head all 0 (omega (arith, size)) refl (word_then head all 4 (omega (arith, size)) refl (word_then head all 8 (omega (arith, size)) refl (word_last head all 12 size refl)))
 
 -- ---- zeros
-
-only_zeros : (xs : List ℕ) → list_all (λ b. nat_eq b 0) xs ≡ true → xs ≡ replicate (length xs) 0
-only_zeros [] h = refl
-only_zeros (x ∷ xs) h =
-    let p = and_parts (nat_eq x 0) (list_all (λ b. nat_eq b 0) xs) h in
-    ap (λ y. y ∷ xs) (eqb-true x 0 p.0) ∙ ap (λ l. 0 ∷ l) (only_zeros xs p.1)
 
 zeros : (n : ℕ) (xs : List ℕ) → length xs ≡ n → fault_of_padding xs ≡ None → xs ≡ replicate n 0
 zeros n xs size fine =

@@ -7,18 +7,18 @@ use Rattle.mig_headers.specs.declared.image_fault.ImageCause.{ImageCause}
 use Rattle.mig_headers.specs.declared.image_fault.ImagePlace.{ImagePlace}
 use Rattle.mig_guest.specs.Hosts.{HostOf}
 use Rattle.mig_host.specs.HostView.{HostAndSpare}
-use Rattle.mig_image.specs.Image.{IsHostImage}
+use Rattle.mig_image.specs.Image.{IsHostImageUpTo}
 use Rattle.mig_image.specs.ImageParts.{host_at}
 
 abbrev pub IsHost : HostAndSpare → HostOf → Type 0
 IsHost read host = read.host ≡ host
 
--- what a reader of image files answered, and what it left in the source, is what judging gives
-abbrev pub ReadsHost : Option (List ℕ) → Option (List ℕ) → Result HostAndSpare (Answer ImagePlace ImageCause) → Type 0
-ReadsHost old new result = Gives IsHost old new host_at (or_stop result)
+-- what a reader of image files of hosts up to this width answered, and what it left in the source, is what judging gives
+abbrev pub ReadsHost : ℕ → Option (List ℕ) → Option (List ℕ) → Result HostAndSpare (Answer ImagePlace ImageCause) → Type 0
+ReadsHost widest old new result = Gives IsHost old new (host_at widest) (or_stop result)
 
 -- where the source tells its bytes, an accepted input begins with the image of the host, a valid one, and the rest is left
-abbrev pub BeginsWithImage : Option (List ℕ) → Option (List ℕ) → Result HostAndSpare (Answer ImagePlace ImageCause) → Type 0
-BeginsWithImage None new result = ⊤
-BeginsWithImage (Some input) new (Ok host) = (rest : List ℕ) × IsHostImage input host.host rest × (new ≡ Some rest)
-BeginsWithImage (Some input) new (Err answer) = ⊤
+abbrev pub BeginsWithImage : ℕ → Option (List ℕ) → Option (List ℕ) → Result HostAndSpare (Answer ImagePlace ImageCause) → Type 0
+BeginsWithImage widest None new result = ⊤
+BeginsWithImage widest (Some input) new (Ok host) = (rest : List ℕ) × IsHostImageUpTo widest input host.host rest × (new ≡ Some rest)
+BeginsWithImage widest (Some input) new (Err answer) = ⊤

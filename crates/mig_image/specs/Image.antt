@@ -1,37 +1,86 @@
--- The image file of a host, version 1: a head, the frames by ascending PFN, and the parts by ascending key. All fields
--- are little-endian, and all that isn't named is 0.
-use Rattle.std.specs.Prelude.{◌≡◌, ℕ, ◌+◌, ◌*◌, ◌^◌, List, [], ◌++◌, length, codes, replicate, unwrap_or}
-use Rattle.std.specs.List.{flat_map}
+-- The image file of a host, in two versions: a head, the frames by ascending PFN, and the parts by ascending key. All fields
+-- are little-endian, and all that isn't named is 0. Version 1 has each page as it is, and no PFN of more than 28 bits; version
+-- 2 leaves out the pages that are all zero.
+use Rattle.std.specs.Prelude.{◌≡◌, ◌≤◌, ℕ, ◌+◌, ◌*◌, ◌^◌, Bool, true, false, List, [], ◌++◌, length, codes, replicate, Option, Some, None, unwrap_or, ◌==◌, ◌&&◌, if◌then◌else◌}
+use Rattle.std.specs.List.{flat_map, list_all}
 use Rattle.std.specs.FinMap as maps
 use Rattle.byteorder.specs.Endian.{little_bytes}
 use Rattle.mig_bytes.specs.Bytes.{padding_len}
 use Rattle.mig_headers.specs.Headers.{kind_number}
-use Rattle.mig_pagetypes.specs.declared.page_type.PageType.{PageType}
 use Rattle.mig_pagetypes.specs.PageTypes.{number_of}
 use Rattle.mig_guest.specs.declared.part_key.PartKey.{PartKey}
 use Rattle.mig_guest.specs.Hosts.{HostOf, HostFrame, IsValid}
+use Rattle.mig_image.specs.declared.version.ImageVersion.{ImageVersion}
+use Rattle.mig_image.specs.declared.version.ImageVersion.TheVariants.{One, Two}
+
+-- ---- in what the versions differ
+
+-- the name that the file begins with
+abbrev pub image_name : ImageVersion → List ℕ
+image_name One = codes "XGIMAGE1"
+image_name Two = codes "XGIMAGE2"
+
+-- how many bits of a frame's word hold the PFN, from bit 0 on
+abbrev pub pfn_bits : ImageVersion → ℕ
+pfn_bits One = 28
+pfn_bits Two = 52
+
+-- the first of the four bits that hold the type
+abbrev pub type_bit : ImageVersion → ℕ
+type_bit One = 28
+type_bit Two = 60
+
+-- hosts that are wider have no image of this version
+abbrev pub most_width_of : ImageVersion → ℕ
+most_width_of version = 2 ^ pfn_bits version
+
+-- whether pages that are all zero are left out
+abbrev pub leaves_out : ImageVersion → Bool
+leaves_out One = false
+leaves_out Two = true
+
+-- ---- pages
+
+-- all bytes are zero
+abbrev pub is_all_zero : List ℕ → Bool
+is_all_zero page = list_all (λ b. b == 0) page
+
+-- the page that is all zero
+unfoldable pub page_left_out : List ℕ
+page_left_out = replicate 4096 0
+
+-- whether there is a page, which is left out
+abbrev pub is_left_out : ImageVersion → Option (List ℕ) → Bool
+is_left_out version None = false
+is_left_out version (Some page) = leaves_out version && is_all_zero page
+
+-- what is sent of the page of a frame
+abbrev pub page_text : ImageVersion → Option (List ℕ) → List ℕ
+page_text version page = if is_left_out version page then [] else unwrap_or page []
+
+-- ---- the pieces of an image
 
 -- a name, the kind, 0, the width and the number of frames
-unfoldable pub host_head : HostOf → List ℕ
-host_head h =
-    codes "XGIMAGE1" ++ (little_bytes 4 (kind_number h.kind) ++ (little_bytes 4 0
+unfoldable pub host_head : ImageVersion → HostOf → List ℕ
+host_head version h =
+    image_name version ++ (little_bytes 4 (kind_number h.kind) ++ (little_bytes 4 0
     ++ (little_bytes 8 h.width ++ little_bytes 8 (length (maps.entries h.frames)))))
 
--- the bits of a word that hold the PFN
-abbrev pub pfn_bits : ℕ
-pfn_bits = 28
+-- the zero flag, bit 52, says that the page is left out
+abbrev pub zero_flag : Bool → ℕ
+zero_flag left_out = if left_out then 2 ^ 52 else 0
 
--- the type in bits 31 to 28, the PFN in the others
-abbrev pub host_word : ℕ → PageType → ℕ
-host_word pfn type = number_of type * 2 ^ pfn_bits + pfn
+-- the type, the zero flag, and the PFN
+abbrev pub host_word : ImageVersion → ℕ → HostFrame → ℕ
+host_word version pfn f = number_of f.type * 2 ^ type_bit version + (zero_flag (is_left_out version f.page) + pfn)
 
--- the word, 0, and the machine frame
-unfoldable pub frame_head_of : ℕ → HostFrame → List ℕ
-frame_head_of pfn f = little_bytes 4 (host_word pfn f.type) ++ (little_bytes 4 0 ++ little_bytes 8 f.machine)
+-- the word, and the machine frame
+unfoldable pub frame_head_of : ImageVersion → ℕ → HostFrame → List ℕ
+frame_head_of version pfn f = little_bytes 8 (host_word version pfn f) ++ little_bytes 8 f.machine
 
--- and then the raw page, where the type has data
-abbrev pub frame_text : ℕ × HostFrame → List ℕ
-frame_text e = frame_head_of e.0 e.1 ++ unwrap_or e.1.page []
+-- and then the raw page, where the type has data and the page isn't left out
+abbrev pub frame_text : ImageVersion → ℕ × HostFrame → List ℕ
+frame_text version e = frame_head_of version e.0 e.1 ++ page_text version e.1.page
 
 -- code, keys and length
 unfoldable pub part_head_of : PartKey → ℕ → List ℕ
@@ -42,12 +91,22 @@ abbrev pub part_text : PartKey × List ℕ → List ℕ
 part_text e = part_head_of e.0 (length e.1) ++ (e.1 ++ replicate (padding_len (length e.1)) 0)
 
 -- the image of a host
-unfoldable pub image : HostOf → List ℕ
-image h =
-    host_head h ++ (flat_map frame_text (maps.entries h.frames)
+unfoldable pub image : ImageVersion → HostOf → List ℕ
+image version h =
+    host_head version h ++ (flat_map (frame_text version) (maps.entries h.frames)
     ++ (little_bytes 8 (length (maps.entries h.parts)) ++ flat_map part_text (maps.entries h.parts)))
 
--- a front of the input is the image of this host, a valid one, and rest follows it
+-- ---- images
+
+-- a front of the input is the image of this host in one of the versions, and rest follows it; the host is a valid one, and no
+-- wider than the version holds
 pub record IsHostImage (input : List ℕ) (h : HostOf) (rest : List ℕ) : Type 0 where
+  pub version : ImageVersion
   pub valid : IsValid h
-  pub spelled : input ≡ image h ++ rest
+  pub holds : h.width ≤ most_width_of version
+  pub spelled : input ≡ image version h ++ rest
+
+-- the same, of a host that is no wider than this
+pub record IsHostImageUpTo (widest : ℕ) (input : List ℕ) (h : HostOf) (rest : List ℕ) : Type 0 where
+  pub image : IsHostImage input h rest
+  pub narrow : h.width ≤ widest

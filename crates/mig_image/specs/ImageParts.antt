@@ -13,115 +13,155 @@ use Rattle.mig_headers.specs.Pairs.{are_canonical_pairs}
 use Rattle.mig_headers.specs.RecordTypes.{pv}
 use Rattle.mig_headers.specs.Rows.{first_fault}
 use Rattle.mig_headers.specs.declared.image_fault.ImageCause.{ImageCause}
-use Rattle.mig_headers.specs.declared.image_fault.ImageCause.TheVariants.{Truncated, NotImage, BadKind, Reserved, Width, FrameCount, BadPageType, FrameOrder, FrameOutside, MachineFrame, MachineTwice, PartOrder, PartMany, PartLength, PartBytes, PartPadding}
+use Rattle.mig_headers.specs.declared.image_fault.ImageCause.TheVariants.{Truncated, NotImage, BadKind, Reserved, Width, FrameCount, BadPageType, FrameOrder, FrameOutside, MachineFrame, MachineTwice, PartOrder, PartMany, PartLength, PartBytes, PartPadding, ZeroPage}
 use Rattle.mig_headers.specs.declared.image_fault.ImageCause.TheVariants as causes
 use Rattle.mig_headers.specs.declared.image_fault.ImagePlace.{ImagePlace}
 use Rattle.mig_headers.specs.declared.image_fault.ImagePlace.TheVariants.{Head, Frame, Parts, Part}
 use Rattle.mig_headers.specs.declared.kind.Kind.{Kind}
 use Rattle.mig_pagetypes.specs.declared.page_type.PageType.{PageType}
-use Rattle.mig_pagetypes.specs.Limits.{most_frames}
+use Rattle.mig_pagetypes.specs.Limits.{most_frames, top_limit}
 use Rattle.mig_pagetypes.specs.PageTypes.{type_of, type_or_none, type_has_data}
 use Rattle.mig_guest.specs.declared.part_code.PartCode.{PartCode}
 use Rattle.mig_guest.specs.declared.part_key.PartKey.{PartKey}
 use Rattle.mig_guest.specs.Frames.{is_type_of}
-use Rattle.mig_guest.specs.Hosts.{HostOf, HostFrame, most_width, machine_limit}
+use Rattle.mig_guest.specs.Hosts.{HostOf, HostFrame, machine_limit}
 use Rattle.mig_guest.specs.Order.{part_cmp}
 use Rattle.mig_guest.specs.PartCodes.{code_of_number, row_of}
 use Rattle.mig_guest.specs.Parts.{PartMap, parts_of}
 use Rattle.mig_host.specs.HostView.{has_machine, put_frame, put_part_in}
-use Rattle.mig_image.specs.Image.{pfn_bits}
+use Rattle.mig_image.specs.declared.version.ImageVersion.{ImageVersion}
+use Rattle.mig_image.specs.declared.version.ImageVersion.TheVariants.{One, Two}
+use Rattle.mig_image.specs.Image.{pfn_bits, type_bit, most_width_of, leaves_out, is_left_out, page_left_out}
 
 -- ---- the head, 32 bytes
 
--- "XGIMAGE1"
-abbrev pub image_name : ℕ
-image_name = 0x5847494D41474531
+-- "XGIMAGE1" and "XGIMAGE2", the highest byte first
+abbrev pub name_number : ImageVersion → ℕ
+name_number One = 0x5847494D41474531
+name_number Two = 0x5847494D41474532
 
-abbrev pub is_wide : Kind → ℕ → Bool
-is_wide kind width = nat_lt most_width width || (pv kind && (width == 0))
+-- the version that a name tells
+abbrev pub version_named : ℕ → ImageVersion
+version_named name = if name == name_number Two then Two else One
+
+abbrev pub head_version : List ℕ → ImageVersion
+head_version head = version_named (be64 head 0)
+
+-- a width that isn't taken, that the version doesn't hold, or that no PV host has
+abbrev pub is_wide : ℕ → ImageVersion → Kind → ℕ → Bool
+is_wide widest version kind width =
+    nat_lt widest width || (nat_lt (most_width_of version) width || (pv kind && ((width == 0) || nat_lt top_limit width)))
 
 abbrev pub name_rows : List ℕ → List (Bool × ImageCause)
 name_rows head =
-    (not (be64 head 0 == image_name), NotImage)
+    (not (be64 head 0 == name_number One) && not (be64 head 0 == name_number Two), NotImage)
     ∷ (not (le32 head 8 == 1) && not (le32 head 8 == 2), BadKind (le32 head 8))
     ∷ (not (le32 head 12 == 0), Reserved)
     ∷ []
 
-abbrev pub size_rows : Kind → ℕ → ℕ → List (Bool × ImageCause)
-size_rows kind width count =
-    (is_wide kind width, Width width)
+abbrev pub size_rows : ℕ → ImageVersion → Kind → ℕ → ℕ → List (Bool × ImageCause)
+size_rows widest version kind width count =
+    (is_wide widest version kind width, Width width)
     ∷ (nat_lt most_frames count || nat_lt width count, FrameCount count)
     ∷ []
 
 abbrev pub fault_of_name : List ℕ → Option ImageCause
 fault_of_name head = first_fault (name_rows head)
 
-abbrev pub fault_of_sizes : Kind → ℕ → ℕ → Option ImageCause
-fault_of_sizes kind width count = first_fault (size_rows kind width count)
+abbrev pub fault_of_sizes : ℕ → ImageVersion → Kind → ℕ → ℕ → Option ImageCause
+fault_of_sizes widest version kind width count = first_fault (size_rows widest version kind width count)
 
-abbrev pub fault_of_host_head : List ℕ → Option ImageCause
-fault_of_host_head head = option_or (fault_of_name head) (fault_of_sizes (kind_of_number (le32 head 8)) (le64 head 16) (le64 head 24))
+abbrev pub fault_of_host_head : ℕ → List ℕ → Option ImageCause
+fault_of_host_head widest head =
+    option_or (fault_of_name head) (fault_of_sizes widest (head_version head) (kind_of_number (le32 head 8)) (le64 head 16) (le64 head 24))
 
-abbrev pub host_head_at : List ℕ → Judged ImageCause (List ℕ)
-host_head_at input = do
+abbrev pub host_head_at : ℕ → List ℕ → Judged ImageCause (List ℕ)
+host_head_at widest input = do
   head ← part Truncated 32 input
-  _ ← tried (fault_of_host_head head.0) head.1
+  _ ← tried (fault_of_host_head widest head.0) head.1
   Passes head.0 head.1
 
 -- the host that a head opens, so far without frames and parts
 abbrev pub opened : List ℕ → HostOf
 opened head = record { kind = kind_of_number (le32 head 8); width = le64 head 16; frames = maps.empty; parts = maps.empty }
 
--- ---- a frame behind the frames of a host: 16 bytes, and a page where the type has data
+-- ---- a frame behind the frames of a host: 16 bytes, and a page where the type has data and the page isn't left out
 
-abbrev pub head_pfn : List ℕ → ℕ
-head_pfn head = le32 head 0 % 2 ^ pfn_bits
+abbrev pub head_pfn : ImageVersion → List ℕ → ℕ
+head_pfn version head = le64 head 0 % 2 ^ pfn_bits version
 
-abbrev pub head_type_number : List ℕ → ℕ
-head_type_number head = le32 head 0 / 2 ^ pfn_bits
+abbrev pub head_type_number : ImageVersion → List ℕ → ℕ
+head_type_number version head = le64 head 0 / 2 ^ type_bit version % 2 ^ 4
 
 -- the type in a head; a reserved one is as if it were no frame's
-abbrev pub head_type : List ℕ → PageType
-head_type head = type_or_none (type_of (head_type_number head))
+abbrev pub head_type : ImageVersion → List ℕ → PageType
+head_type version head = type_or_none (type_of (head_type_number version head))
+
+-- the zero flag, which only a version that leaves out pages has
+abbrev pub has_zero_flag : ImageVersion → List ℕ → Bool
+has_zero_flag version head = leaves_out version && (le64 head 0 / 2 ^ 52 % 2 == 1)
+
+-- a bit is set beside those of the type, the PFN and the zero flag, or the zero flag with a type that has no data
+abbrev pub has_reserved : ImageVersion → List ℕ → Bool
+has_reserved One head = not (le64 head 0 / 2 ^ 32 == 0)
+has_reserved Two head = not (le64 head 0 / 2 ^ 53 % 2 ^ 7 == 0) || (has_zero_flag Two head && nat_le 13 (head_type_number Two head))
 
 -- some frame of the host has this PFN or a greater one
 abbrev pub has_frame_from : HostOf → ℕ → Bool
 has_frame_from h pfn = list_any (λ e. nat_le pfn e.0) (maps.entries h.frames)
 
-abbrev pub frame_rows : HostOf → List ℕ → List (Bool × ImageCause)
-frame_rows h head =
-    (not (le32 head 4 == 0), Reserved)
-    ∷ (not (is_type_of h.kind (head_type head)), BadPageType (head_type_number head))
-    ∷ (has_frame_from h (head_pfn head), FrameOrder (head_pfn head))
-    ∷ (nat_le h.width (head_pfn head), FrameOutside (head_pfn head))
+abbrev pub frame_rows : ImageVersion → HostOf → List ℕ → List (Bool × ImageCause)
+frame_rows version h head =
+    (has_reserved version head, Reserved)
+    ∷ (not (is_type_of h.kind (head_type version head)), BadPageType (head_type_number version head))
+    ∷ (has_frame_from h (head_pfn version head), FrameOrder (head_pfn version head))
+    ∷ (nat_le h.width (head_pfn version head), FrameOutside (head_pfn version head))
     ∷ ((le64 head 8 == 0) || nat_le machine_limit (le64 head 8), MachineFrame (le64 head 8))
     ∷ (has_machine h (le64 head 8), MachineTwice (le64 head 8))
     ∷ []
 
-abbrev pub fault_of_frame : HostOf → List ℕ → Option ImageCause
-fault_of_frame h head = first_fault (frame_rows h head)
+abbrev pub fault_of_frame : ImageVersion → HostOf → List ℕ → Option ImageCause
+fault_of_frame version h head = first_fault (frame_rows version h head)
 
 -- the head of a frame behind those of the host
-abbrev pub frame_head_at : HostOf → List ℕ → Judged ImageCause (List ℕ)
-frame_head_at h input = do
+abbrev pub frame_head_at : ImageVersion → HostOf → List ℕ → Judged ImageCause (List ℕ)
+frame_head_at version h input = do
   head ← part Truncated 16 input
-  _ ← tried (fault_of_frame h head.0) head.1
+  _ ← tried (fault_of_frame version h head.0) head.1
   Passes head.0 head.1
 
-abbrev pub host_page_at : PageType → List ℕ → Judged ImageCause (Option (List ℕ))
-host_page_at type input = if type_has_data type then (do
+-- a page that stands there has to be one that isn't left out
+abbrev pub fault_of_sent : ImageVersion → ℕ → List ℕ → Option ImageCause
+fault_of_sent version pfn page = first_fault ((is_left_out version (Some page), ZeroPage pfn) ∷ [])
+
+abbrev pub sent_page_at : ImageVersion → ℕ → List ℕ → Judged ImageCause (List ℕ)
+sent_page_at version pfn input = do
   page ← part Truncated 4096 input
-  Passes (Some page.0) page.1) else Passes None input
+  _ ← tried (fault_of_sent version pfn page.0) page.1
+  Passes page.0 page.1
+
+-- whether a page stands behind a head
+abbrev pub is_sent : ImageVersion → List ℕ → Bool
+is_sent version head = type_has_data (head_type version head) && not (has_zero_flag version head)
+
+-- the page of a frame behind whose head none stands
+abbrev pub page_unsent : ImageVersion → List ℕ → Option (List ℕ)
+page_unsent version head = if type_has_data (head_type version head) then Some page_left_out else None
+
+abbrev pub host_page_at : ImageVersion → List ℕ → List ℕ → Judged ImageCause (Option (List ℕ))
+host_page_at version head input = if is_sent version head then (do
+  page ← sent_page_at version (head_pfn version head) input
+  Passes (Some page.0) page.1) else Passes (page_unsent version head) input
 
 -- the frame that a head and a page say
-abbrev pub frame_said : List ℕ → Option (List ℕ) → HostFrame
-frame_said head page = record { type = head_type head; machine = le64 head 8; page = page }
+abbrev pub frame_said : ImageVersion → List ℕ → Option (List ℕ) → HostFrame
+frame_said version head page = record { type = head_type version head; machine = le64 head 8; page = page }
 
-abbrev pub host_frame_at : HostOf → List ℕ → Judged ImageCause HostOf
-host_frame_at h input = do
-  head ← frame_head_at h input
-  page ← host_page_at (head_type head.0) head.1
-  Passes (put_frame h (head_pfn head.0) (frame_said head.0 page.0)) page.1
+abbrev pub host_frame_at : ImageVersion → HostOf → List ℕ → Judged ImageCause HostOf
+host_frame_at version h input = do
+  head ← frame_head_at version h input
+  page ← host_page_at version head.0 head.1
+  Passes (put_frame h (head_pfn version head.0) (frame_said version head.0 page.0)) page.1
 
 -- ---- a part behind the parts of a host: 16 bytes, so many bytes, and zeros
 
@@ -192,8 +232,8 @@ part_at h input = do
 -- ---- the whole image, with the place of a fault
 
 -- so many frames, and so many parts, numbered from 0
-abbrev pub frames_at : ℕ → HostOf → List ℕ → Judged (ImagePlace × ImageCause) HostOf
-frames_at count h input = steps (λ i h. λ input. placed (Frame i) (host_frame_at h input)) count 0 h input
+abbrev pub frames_at : ImageVersion → ℕ → HostOf → List ℕ → Judged (ImagePlace × ImageCause) HostOf
+frames_at version count h input = steps (λ i h. λ input. placed (Frame i) (host_frame_at version h input)) count 0 h input
 
 abbrev pub host_parts_at : ℕ → HostOf → List ℕ → Judged (ImagePlace × ImageCause) HostOf
 host_parts_at count h input = steps (λ i h. λ input. placed (Part i) (part_at h input)) count 0 h input
@@ -207,11 +247,12 @@ count_at input = do
 -- what stands behind a head
 abbrev pub behind_head : List ℕ → List ℕ → Judged (ImagePlace × ImageCause) HostOf
 behind_head head input = do
-  framed ← frames_at (le64 head 24) (opened head) input
+  framed ← frames_at (head_version head) (le64 head 24) (opened head) input
   count ← placed Parts (count_at framed.1)
   host_parts_at count.0 framed.0 count.1
 
-unfoldable pub host_at : List ℕ → Judged (ImagePlace × ImageCause) HostOf
-host_at input = do
-  head ← placed Head (host_head_at input)
+-- the host of an image of either version; wider ones are refused
+unfoldable pub host_at : ℕ → List ℕ → Judged (ImagePlace × ImageCause) HostOf
+host_at widest input = do
+  head ← placed Head (host_head_at widest input)
   behind_head head.0 head.1

@@ -3,3 +3,4 @@ pub mod ImageParts
 pub mod Answer
 pub mod PartCounts
 pub mod FrameEnds
+pub mod ImageLaws

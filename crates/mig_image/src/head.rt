@@ -1,21 +1,52 @@
-ghost use Rattle.std.specs.Prelude.{◌≡◌, OnOk, IfOk, IsErrOf, None};
+ghost use Rattle.std.specs.Prelude.{◌≡◌, OnOk, IfOk, IsErrOf, None, nat_lt};
 ghost use Rattle.mig_bytes.specs.Bytes.{TakesBytes};
 ghost use Rattle.mig_bytes.specs.Faults.{RisesOnReadFault};
 ghost use Rattle.mig_bytes.specs.Fields.{le32};
 ghost use Rattle.mig_bytes.specs.Judged.{Gives};
 ghost use Rattle.mig_bytes.specs.declared.part.Stop.TheVariants.{Memory};
 ghost use Rattle.mig_headers.specs.Headers.{kind_of_number};
-ghost use Rattle.mig_image.specs.ImageParts.{fault_of_name, fault_of_sizes, fault_of_host_head, host_head_at};
+ghost use Rattle.mig_image.specs.Image.{most_width_of};
+ghost use Rattle.mig_image.specs.ImageParts.{fault_of_name, fault_of_sizes, fault_of_host_head, head_version, host_head_at};
 
+use crate::version::ImageVersion;
 use mig_bytes::{Source, Stop, take_part, u32_le, u64_be, u64_le};
 use mig_headers::{ImageCause, Kind};
 use mig_pagetypes::MAX_FRAMES;
 
-/// "XGIMAGE1", the lowest byte last.
-pub(crate) const IMAGE_NAME: u64 = 0x5847_494D_4147_4531;
+/// "XGIMAGE1" and "XGIMAGE2", the lowest byte last.
+const NAME_ONE: u64 = 0x5847_494D_4147_4531;
 
-/// The greatest width of a host.
-const MAX_WIDTH: u64 = 1 << 28;
+pub(crate) const NAME_TWO: u64 = 0x5847_494D_4147_4532;
+
+/// The greatest width of a host that version 1 holds.
+const MAX_WIDTH_ONE: u64 = 1 << 28;
+
+/// The greatest width of a host that version 2 holds.
+const MAX_WIDTH_TWO: u64 = 1 << 52;
+
+/// The greatest width of a PV host.
+const MAX_PV_WIDTH: u64 = 1 << 32;
+
+/// The version of an image with this head.
+pub(crate) fn version_in(head: &[u8; 32]) -> ImageVersion
+    ensures { result ≡ head_version head.now }
+{
+    if u64_be(head, 0) == NAME_TWO {
+        ImageVersion::Two
+    } else {
+        ImageVersion::One
+    }
+}
+
+/// Whether the version holds no host of this width.
+fn is_above_version(version: ImageVersion, width: u64) -> bool
+    ensures { result ≡ nat_lt (most_width_of version) width }
+{
+    match version {
+        ImageVersion::One => width > MAX_WIDTH_ONE,
+        ImageVersion::Two => width > MAX_WIDTH_TWO,
+    }
+}
 
 /// The kind of guest that a head names.
 pub(crate) fn kind_in(head: &[u8; 32]) -> Kind
@@ -31,7 +62,8 @@ pub(crate) fn kind_in(head: &[u8; 32]) -> Kind
 fn name_fault(head: &[u8; 32]) -> Option<ImageCause>
     ensures { result ≡ fault_of_name head.now }
 {
-    if u64_be(head, 0) != IMAGE_NAME {
+    let name = u64_be(head, 0);
+    if name != NAME_ONE && name != NAME_TWO {
         return Some(ImageCause::NotImage);
     }
     let kind = u32_le(head, 8);
@@ -44,11 +76,21 @@ fn name_fault(head: &[u8; 32]) -> Option<ImageCause>
     None
 }
 
-/// What is wrong with the width and the number of frames.
-fn size_fault(kind: Kind, width: u64, frames: u64) -> Option<ImageCause>
-    ensures { result ≡ fault_of_sizes kind width frames }
+/// What is wrong with the width, where wider hosts than this aren't taken, and with the number of frames.
+fn size_fault(
+    widest: u64,
+    version: ImageVersion,
+    kind: Kind,
+    width: u64,
+    frames: u64,
+) -> Option<ImageCause>
+    ensures { result ≡ fault_of_sizes widest version kind width frames }
 {
-    if width > MAX_WIDTH || (kind == Kind::Pv && width == 0) {
+    let is_pv = kind == Kind::Pv;
+    if width > widest
+        || is_above_version(version, width)
+        || (is_pv && (width == 0 || width > MAX_PV_WIDTH))
+    {
         return Some(ImageCause::Width(width));
     }
     if frames > MAX_FRAMES || frames > width {
@@ -57,20 +99,28 @@ fn size_fault(kind: Kind, width: u64, frames: u64) -> Option<ImageCause>
     None
 }
 
-/// Takes the head of an image.
-pub(crate) fn read_head<S: Source>(src: &mut S) -> Result<[u8; 32], Stop<ImageCause>>
-    ensures read { Gives (λ v head. head ≡ v) (S.left src.old) (S.left src.new) host_head_at result }
-    ensures fine { IfOk result (λ head. fault_of_host_head head ≡ None) }
+/// What is wrong with the head of an image, where wider hosts than this aren't taken.
+fn head_fault(widest: u64, head: &[u8; 32]) -> Option<ImageCause>
+    ensures { result ≡ fault_of_host_head widest head.now }
+{
+    if let Some(cause) = name_fault(head) {
+        return Some(cause);
+    }
+    let (width, frames) = (u64_le(head, 16), u64_le(head, 24));
+    size_fault(widest, version_in(head), kind_in(head), width, frames)
+}
+
+/// Takes the head of an image of a host that is no wider than this.
+pub(crate) fn read_head<S: Source>(src: &mut S, widest: u64) -> Result<[u8; 32], Stop<ImageCause>>
+    ensures read { Gives (λ v head. head ≡ v) (S.left src.old) (S.left src.new) (host_head_at widest) result }
+    ensures fine { IfOk result (λ head. fault_of_host_head widest head ≡ None) }
     ensures taken { OnOk result (TakesBytes (S.left src.old) (S.left src.new)) }
     ensures faults { RisesOnReadFault (S.faults src.old) (S.faults src.new) result }
     ensures takes_no_memory { ¬ IsErrOf result Memory }
 {
     let mut head = [0; 32];
     take_part(src, &mut head, ImageCause::Truncated)?;
-    if let Some(cause) = name_fault(&head) {
-        return Err(Stop::Refused(cause));
-    }
-    match size_fault(kind_in(&head), u64_le(&head, 16), u64_le(&head, 24)) {
+    match head_fault(widest, &head) {
         Some(cause) => Err(Stop::Refused(cause)),
         None => Ok(head),
     }

@@ -1,23 +1,30 @@
 //! The image file that keeps a guest as it stands in a machine.
 //!
-//! Responsible for: the image file of version 1, and reading and writing images. What a host is, which one a restored guest
-//! becomes and as which guest it is seen is left to mig_host, whose calls and laws are passed on. It knows nothing of
-//! streams.
+//! Responsible for: the image file in its two versions, reading both, and writing version 2. What a host is, which one a
+//! restored guest becomes and as which guest it is seen is left to mig_host, whose calls and laws are passed on. It knows
+//! nothing of streams.
 //!
-//! What the layers above rely on: an image is read as the host whose image it is, or refused at the place of its first
-//! fault; and of a host exactly its image is written.
+//! What the layers above rely on: an image of either version is read as the host whose image it is, or refused at the place
+//! of its first fault; of a host exactly its image of version 2 is written, in which no page is all zero.
 #![tactic(auto)]
 
+mod frame;
 mod head;
 mod law;
 mod read;
 mod read_part;
+mod version;
 mod write;
+mod zeros;
 
-pub use law::{image_is_judged, judged_is_image, one_image};
+pub use law::{
+    frames_ascend, hosts_have_images, image_is_judged, images_have_sizes, judged_is_image,
+    one_image, zero_pages_are_left_out,
+};
 pub use mig_host::{
     Host, HostAnswer, SoundAnswer, guest_of, host_of, hosted_is_seen, hosted_is_sound,
     hosted_is_valid, hosted_p2m_frames_are_filled, hvm_hosted_is_seen,
 };
 pub use read::{ImageAnswer, read_host};
+pub use version::ImageVersion;
 pub use write::write_host;

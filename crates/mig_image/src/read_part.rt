@@ -196,6 +196,7 @@ fn read_part<S: Source>(
 ) -> Result<(), Stop<ImageCause>>
     requires { Counts entries.old host.old.host.parts }
     ensures read { Gives (λ _ h. host.new.host ≡ h) (S.left src.old) (S.left src.new) (part_at host.old.host) result }
+    ensures width { OnOk result (host.new.host.width ≡ host.old.host.width) }
     ensures counted { OnOk result (Counts entries.new host.new.host.parts) }
     ensures taken { OnOk result (TakesBytes (S.left src.old) (S.left src.new)) }
     ensures faults { RisesOnReadFault (S.faults src.old) (S.faults src.new) result }
@@ -221,6 +222,7 @@ pub(crate) fn read_parts<S: Source>(
 ) -> Result<(), Stop<(ImagePlace, ImageCause)>>
     requires { host.old.host.parts ≡ maps.empty }
     ensures read { Gives (λ _ h. host.new.host ≡ h) (S.left src.old) (S.left src.new) (host_parts_at count host.old.host) result }
+    ensures width { OnOk result (host.new.host.width ≡ host.old.host.width) }
     ensures taken { OnOk result (TakesBytes (S.left src.old) (S.left src.new)) }
     ensures faults { RisesOnReadFault (S.faults src.old) (S.faults src.new) result }
 {

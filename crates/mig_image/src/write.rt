@@ -10,9 +10,12 @@ ghost use Rattle.mig_headers.specs.Headers.{kind_number};
 ghost use Rattle.mig_pagetypes.specs.Limits.{pfn_limit};
 ghost use Rattle.mig_guest.specs.Hosts.{IsValid};
 ghost use Rattle.mig_guest.specs.Frames.{entries_from};
-ghost use Rattle.mig_image.specs.Image.{frame_head_of, frame_text, part_head_of, part_text, image};
+ghost use Rattle.mig_pagetypes.specs.PageTypes.{number_of};
+ghost use Rattle.mig_image.specs.declared.version.ImageVersion.TheVariants.{Two};
+ghost use Rattle.mig_image.specs.Image.{frame_head_of, frame_text, is_left_out, part_head_of, part_text, image, zero_flag};
 
-use crate::head::IMAGE_NAME;
+use crate::head::NAME_TWO;
+use crate::zeros::is_all_zero;
 use mig_bytes::{Sink, WriteFailed, pad_len, put_all, put_u32_le, put_u64_be, put_u64_le};
 use mig_guest::PartKey;
 use mig_headers::Kind;
@@ -20,7 +23,7 @@ use mig_host::Host;
 use mig_pagetypes::PageType;
 
 /// The number of a kind of guest.
-fn number_of(kind: Kind) -> u32
+fn number_in_head(kind: Kind) -> u32
     ensures { result ≡ kind_number kind }
 {
     match kind {
@@ -29,27 +32,45 @@ fn number_of(kind: Kind) -> u32
     }
 }
 
-/// The head of an image with these numbers.
+/// The head of an image of version 2 with these numbers.
 fn head_bytes(kind: Kind, width: u64, frames: u64) -> [u8; 32]
-    ensures { result ≡ codes "XGIMAGE1" ++ (little_bytes 4 (kind_number kind) ++ (little_bytes 4 0 ++ (little_bytes 8 width ++ little_bytes 8 frames))) }
+    ensures { result ≡ codes "XGIMAGE2" ++ (little_bytes 4 (kind_number kind) ++ (little_bytes 4 0 ++ (little_bytes 8 width ++ little_bytes 8 frames))) }
 {
     let mut head = [0; 32];
-    put_u64_be(&mut head, 0, IMAGE_NAME);
-    put_u32_le(&mut head, 8, number_of(kind));
+    put_u64_be(&mut head, 0, NAME_TWO);
+    put_u32_le(&mut head, 8, number_in_head(kind));
     put_u64_le(&mut head, 16, width);
     put_u64_le(&mut head, 24, frames);
     head
 }
 
-/// The head of a frame.
-#[tactic(auto, unfolding(crate::specs::Image::frame_head_of))]
-fn frame_head(pfn: u64, kind: PageType, machine: u64) -> [u8; 16]
-    requires { pfn < pfn_limit }
-    ensures { (page : Option (List ℕ)) → result ≡ frame_head_of pfn (record { type = kind; machine = machine; page = page }) }
+/// Whether a page is left out.
+fn is_left_out(page: Option<&[u8; 4096]>) -> bool
+    ensures { result ≡ is_left_out Two (option_copied page.entry) }
 {
-    let word = u32::from(kind.nibble()) * (1 << 28) + pfn as u32;
+    match page {
+        Some(bytes) => is_all_zero(bytes),
+        None => false,
+    }
+}
+
+/// The word of a frame, whose page is left out or isn't.
+fn word_of(pfn: u64, kind: PageType, left_out: bool) -> u64
+    requires { pfn < pfn_limit }
+    ensures { result ≡ number_of kind * 2 ^ 60 + (zero_flag left_out + pfn) }
+{
+    let flag = if left_out { 1 << 52 } else { 0 };
+    u64::from(kind.nibble()) * (1 << 60) + (flag + pfn)
+}
+
+/// The head of a frame, whose page is left out or isn't.
+#[tactic(auto, unfolding(crate::specs::Image::frame_head_of))]
+fn frame_head(pfn: u64, kind: PageType, machine: u64, left_out: bool) -> [u8; 16]
+    requires { pfn < pfn_limit }
+    ensures { (page : Option (List ℕ)) → left_out ≡ is_left_out Two page → result ≡ frame_head_of Two pfn (record { type = kind; machine = machine; page = page }) }
+{
     let mut head = [0; 16];
-    put_u32_le(&mut head, 0, word);
+    put_u64_le(&mut head, 0, word_of(pfn, kind, left_out));
     put_u64_le(&mut head, 8, machine);
     head
 }
@@ -94,17 +115,18 @@ fn put_frame(
 ) -> usize
     requires small { pfn < pfn_limit }
     requires space { used + 4112 ≤ length buffer.old }
-    ensures bytes { take result buffer.new ≡ take used buffer.old ++ frame_text (pfn, record { type = kind; machine = machine; page = option_copied page.entry }) }
+    ensures bytes { take result buffer.new ≡ take used buffer.old ++ frame_text Two (pfn, record { type = kind; machine = machine; page = option_copied page.entry }) }
     ensures most { result ≤ used + 4112 }
     ensures room { length buffer.new ≡ length buffer.old }
 {
-    put_bytes(buffer, used, &frame_head(pfn, kind, machine));
+    let left_out = is_left_out(page);
+    put_bytes(buffer, used, &frame_head(pfn, kind, machine, left_out));
     match page {
-        Some(bytes) => {
+        Some(bytes) if !left_out => {
             put_bytes(buffer, used + 16, bytes);
             used + 4112
         }
-        None => used + 16,
+        _ => used + 16,
     }
 }
 
@@ -114,7 +136,7 @@ fn fill_frames(buffer: &mut [u8], host: &Host, start: u64, count: u64) -> (u64, 
     requires space { 4112 * count ≤ length buffer.old }
     requires most { count ≤ 4 }
     requires has { count ≤ length (entries_from start (maps.entries host.now.host.frames)) }
-    ensures bytes { take result.1 buffer.new ≡ flat_map frame_text (take count (entries_from start (maps.entries host.now.host.frames))) }
+    ensures bytes { take result.1 buffer.new ≡ flat_map (frame_text Two) (take count (entries_from start (maps.entries host.now.host.frames))) }
     ensures next { entries_from result.0 (maps.entries host.now.host.frames) ≡ drop count (entries_from start (maps.entries host.now.host.frames)) }
     ensures few { result.1 ≤ 4112 * count }
     ensures room { length buffer.new ≡ length buffer.old }
@@ -135,7 +157,7 @@ fn fill_frames(buffer: &mut [u8], host: &Host, start: u64, count: u64) -> (u64, 
 
 /// Appends all frames, four at a time.
 fn write_frames<K: Sink>(sink: &mut K, host: &Host) -> Result<(), WriteFailed>
-    ensures bytes { Puts (flat_map frame_text (maps.entries host.now.host.frames)) (K.written sink.old) (K.written sink.new) result }
+    ensures bytes { Puts (flat_map (frame_text Two) (maps.entries host.now.host.frames)) (K.written sink.old) (K.written sink.new) result }
     ensures cause { HasCause (K.faults sink.old) (K.faults sink.new) result }
 {
     let mut buffer = no_bytes();
@@ -208,9 +230,9 @@ fn write_parts<K: Sink>(sink: &mut K, host: &Host, count: u64) -> Result<(), Wri
     Ok(())
 }
 
-/// Appends the image of the host. It takes no memory. After a failed write a part of the image is appended.
+/// Appends the image of the host, of version 2. It takes no memory. After a failed write a part of the image is appended.
 pub fn write_host<K: Sink>(sink: &mut K, host: &Host) -> Result<(), WriteFailed>
-    ensures bytes { Puts (image host.now.host) (K.written sink.old) (K.written sink.new) result }
+    ensures bytes { Puts (image Two host.now.host) (K.written sink.old) (K.written sink.new) result }
     ensures cause { HasCause (K.faults sink.old) (K.faults sink.new) result }
 {
     put_all(sink, &head_bytes(host.kind(), host.width(), host.frames()))?;

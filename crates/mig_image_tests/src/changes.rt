@@ -4,7 +4,7 @@ ghost use Rattle.std.specs.FinMap as maps;
 ghost use Rattle.mig_pagetypes.specs.Limits.{most_frames};
 ghost use Rattle.mig_guest.specs.Hosts.{HostFrame};
 
-use crate::image::sample;
+use crate::image::{WIDEST, sample};
 use mig_bytes::MemSource;
 use mig_guest::{PartKey, is_fixed};
 use mig_headers::Kind;
@@ -18,7 +18,7 @@ use std::test::Fail;
 // The host of the sample: it has the frames 2, 4 and 9, of which the last has a page of bytes 0x77.
 fn sampled(alloc: Global) -> Result<Host, Fail> {
     let mut src = MemSource::new(sample(alloc)?, Vec::new(alloc), Vec::new(alloc));
-    match read_host(alloc, &mut src) {
+    match read_host(alloc, &mut src, WIDEST) {
         Ok(host) => Ok(host),
         Err(_) => Err("the image isn't read".into()),
     }

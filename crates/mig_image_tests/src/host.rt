@@ -1,3 +1,4 @@
+use crate::image::WIDEST;
 use mig_bytes::{MemSink, MemSource, put_all, u64_le};
 use mig_guest::{Guest, PartKey};
 use mig_headers::Kind;
@@ -196,7 +197,7 @@ const HVM_ROWS: [&str; 7] = [
 ];
 
 // The texts, of which a proof is to know nothing.
-fn pv() -> &'static [&'static str] {
+pub(crate) fn pv() -> &'static [&'static str] {
     &PV
 }
 
@@ -208,7 +209,7 @@ fn pv_first() -> &'static [&'static str] {
     &PV_FIRST
 }
 
-fn hvm() -> &'static [&'static str] {
+pub(crate) fn hvm() -> &'static [&'static str] {
     &HVM
 }
 
@@ -250,14 +251,14 @@ fn change_of<'a>(changes: &'a str, name: &str) -> Option<&'a str> {
 }
 
 // The host of these lines with these changes.
-fn host_with(alloc: Global, lines: &[&str], changes: &str) -> Result<Host, Fail> {
+pub(crate) fn host_with(alloc: Global, lines: &[&str], changes: &str) -> Result<Host, Fail> {
     let mut bytes = Vec::new(alloc);
     for line in lines {
         let (name, text) = line.split_once(' ').ok_or("no bytes")?;
         append(&mut bytes, alloc, change_of(changes, name).unwrap_or(text))?;
     }
     let mut src = MemSource::new(bytes, Vec::new(alloc), Vec::new(alloc));
-    match read_host(alloc, &mut src) {
+    match read_host(alloc, &mut src, WIDEST) {
         Ok(host) => Ok(host),
         Err(_) => Err("the image isn't read".into()),
     }

@@ -9,3 +9,5 @@ mod changes;
 mod host;
 #[cfg(test)]
 mod image;
+#[cfg(test)]
+mod walking;

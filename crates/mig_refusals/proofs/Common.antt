@@ -1,5 +1,5 @@
 -- Names that the proofs of this crate use of other crates, and its own definitions.
-pub use Rattle.std.proofs.Common.{Bool, Err, IsSome, List, None, Ok, Option, Result, Some, [], ap, append-nil, append_assoc, arith, cond, drop, drop-drop, false, inl, inr, is_none, is_some, le_refl, length, length-append, length-drop, length-take-le, ltb-false, nat_eq, nat_le, nat_lt, not, refl, slice_index, subst, suc, sym, take, take-append-drop, true, zero, ℕ, ◌*◌, ◌++◌, ◌+◌, ◌-◌, ◌/◌, ◌<◌, ◌^◌, ◌∙◌, ◌∷◌, ◌≡◌, ◌≤◌, ◌⊎◌}
+pub use Rattle.std.proofs.Common.{Bool, Err, IsSome, List, None, Ok, Option, Result, Some, [], ap, append-nil, append_assoc, arith, cond, drop, drop-drop, false, inl, inr, is_none, is_some, le_refl, length, length-append, length-drop, length-take-le, ltb-false, nat_eq, nat_le, nat_lt, not, refl, slice_index, subst, suc, sym, take, take-append-drop, true, zero, ℕ, ◌*◌, ◌++◌, ◌+◌, ◌-◌, ◌/◌, ◌<◌, ◌^◌, ◌∙◌, ◌∷◌, ◌≡◌, ◌≤◌, ◌⊎◌, ◌%◌}
 pub use Rattle.std.proofs.Math.Seq.{drop-append_seam, take-append_seam}
 pub use Rattle.std.proofs.lemmas.Bool.{agree_below_at, and_from, and_left, and_parts, and_right, both_ways, cases_eq, cases_lt, cases_order, eq-eqb, eqb-false, eqb-true, false≢true, le-leb, le-ltb, leb-false, leb-true, lt-leb, lt-ltb, ltb-true, ne_eqb, not-false, not-true, not_from_false, or_cases, or_left, or_right}
 pub use Rattle.std.proofs.lemmas.Grind.{common_steps}
@@ -55,13 +55,13 @@ pub use Rattle.mig_headers.specs.Pairs.{AreCanonicalPairs, are_canonical_pairs}
 pub use Rattle.mig_headers.specs.RecordTypes.{is_optional, pv, record_row_of, type_number, type_of_number}
 pub use Rattle.mig_headers.specs.Rows.{first_fault}
 pub use Rattle.mig_headers.specs.declared.fault.Cause.{Cause}
-pub use Rattle.mig_headers.specs.declared.fault.Cause.TheVariants.{BadContext, BadEmulator, BadKey, BadLength, BadPageType, BadPairs, BadPvInfo, BodyTooLong, ContextCount, EmulatorForPv, EmulatorIndex, GdtEnts, Missing, OutOfOrder, P2mFrame, P2mRange, P2mStart, ParamIndex, PfnOutside, Pv32, TargetAbsent, TooManyFrames, TooManyPairs, TooManyRecords, Truncated, UnknownMandatory, Unsupported, VcpuFrame, VcpuId, WrongKind}
+pub use Rattle.mig_headers.specs.declared.fault.Cause.TheVariants.{BadContext, BadEmulator, BadKey, BadLength, BadPageType, BadPairs, BadPvInfo, BodyTooLong, ContextCount, EmulatorForPv, EmulatorIndex, GdtEnts, Missing, OutOfOrder, P2mFrame, P2mStart, ParamIndex, PfnOutside, Pv32, TargetAbsent, TooManyFrames, TooManyPairs, TooManyRecords, Truncated, UnknownMandatory, Unsupported, VcpuFrame, VcpuId, WrongKind}
 pub use Rattle.mig_headers.specs.declared.fault.ContextFault.{ContextFault}
 pub use Rattle.mig_headers.specs.declared.fault.ContextFault.TheVariants.{HeaderSize, NoEnd, NoHeader, ShortEntry}
 pub use Rattle.mig_headers.specs.declared.fault.Place.{Place}
 pub use Rattle.mig_headers.specs.declared.fault.Place.TheVariants.{DomainHeader, ImageHeader, LibxlHeader, LibxlRecord as AtRecord, Record}
 pub use Rattle.mig_headers.specs.declared.image_fault.ImageCause.{ImageCause}
-pub use Rattle.mig_headers.specs.declared.image_fault.ImageCause.TheVariants.{BadPageType as ImageBadPageType, PartBytes, PartLength, PartMany, PartOrder, PartPadding, Truncated as ImageTruncated}
+pub use Rattle.mig_headers.specs.declared.image_fault.ImageCause.TheVariants.{BadPageType as ImageBadPageType, PartBytes, PartLength, PartMany, PartOrder, PartPadding, Truncated as ImageTruncated, ZeroPage}
 pub use Rattle.mig_headers.specs.declared.image_fault.ImagePlace.{ImagePlace}
 pub use Rattle.mig_headers.specs.declared.kind.Kind.{Kind}
 pub use Rattle.mig_headers.specs.declared.kind.Kind.TheVariants.{Hvm, Pv}
@@ -73,7 +73,7 @@ pub use Rattle.mig_headers.specs.declared.record_type.RecordType.TheVariants.{En
 pub use Rattle.mig_pagetypes.proofs.Numbers.{type_back}
 pub use Rattle.mig_pagetypes.specs.FrameWords.{word_has_data, word_pfn, word_type}
 pub use Rattle.mig_pagetypes.specs.LegacyWords.{legacy_type}
-pub use Rattle.mig_pagetypes.specs.Limits.{most_frames, pfn_limit}
+pub use Rattle.mig_pagetypes.specs.Limits.{most_frames, top_limit}
 pub use Rattle.mig_pagetypes.specs.PageTypes.{all_types, level_of, number_of, type_has_data, type_of, type_or_none}
 pub use Rattle.mig_pagetypes.specs.declared.page_type.PageType.{PageType}
 pub use Rattle.mig_pagetypes.specs.declared.page_type.PageType.TheVariants.{Broken, L1Pinned, L1Tab, L2Pinned, L2Tab, L3Pinned, L3Tab, L4Pinned, L4Tab, Notab, Xalloc, Xtab}
@@ -180,7 +180,8 @@ pub use Rattle.mig_chunks.specs.declared.chunk.ChunkKind.{ChunkKind}
 pub use Rattle.mig_chunks.specs.declared.chunk.ChunkKind.TheVariants.{Batch, End as LastChunk}
 pub use Rattle.mig_image.proofs.Chains.{put_all}
 pub use Rattle.mig_image.proofs.FieldBytes.{regroup}
-pub use Rattle.mig_image.proofs.Frames.{behind_frame_head, frame_entries, frames_back as frames_said, frames_valid, page_if}
+pub use Rattle.mig_image.proofs.FrameHeads.{page_if}
+pub use Rattle.mig_image.proofs.Frames.{behind_frame_head, frame_entries, frames_back as frames_said, frames_valid}
 pub use Rattle.mig_host.proofs.HostsMade.{valid_empty}
 pub use Rattle.mig_image.proofs.ImageBack.{image_back}
 pub use Rattle.mig_image.proofs.ImageReads.{image_reads}
@@ -188,11 +189,14 @@ pub use Rattle.mig_host.proofs.InOrder.{all_there, found_passes, no_entries, som
 pub use Rattle.mig_image.proofs.KeyTests.{part_there}
 pub use Rattle.mig_image.proofs.Parts.{behind_bytes, behind_part_head, part_entries, parts_back as parts_said, parts_valid, with_parts}
 unfoldable pub use Rattle.mig_image.specs.Image.{host_head, image}
-pub use Rattle.mig_image.specs.Image.{IsHostImage, frame_text, part_text}
+pub use Rattle.mig_image.specs.Image.{IsHostImage, IsHostImageUpTo, frame_text, is_all_zero, is_left_out, leaves_out, most_width_of, part_text}
+pub use Rattle.mig_image.specs.declared.version.ImageVersion.{ImageVersion}
+pub use Rattle.mig_image.specs.declared.version.ImageVersion.TheVariants.{One, Two}
+pub use Rattle.mig_guest.specs.Hosts.{most_width}
 unfoldable pub use Rattle.mig_image.specs.ImageParts.{host_at}
-pub use Rattle.mig_image.specs.ImageParts.{behind_head as image_behind_head, code_fits, count_at, fault_of_bytes, fault_of_frame, fault_of_host_head, fault_of_padding, fault_of_part, frame_head_at, frame_rows, frame_said, frames_at, has_frame_from, has_part_from, head_key, head_pfn, head_type, head_type_number, host_frame_at, host_head_at, host_page_at, host_parts_at, is_full, is_wide, name_rows, opened, part_at, size_rows}
+pub use Rattle.mig_image.specs.ImageParts.{behind_head as image_behind_head, code_fits, count_at, fault_of_bytes, fault_of_frame, fault_of_host_head, fault_of_padding, fault_of_part, fault_of_sent, frame_head_at, frame_rows, frame_said, frames_at, has_frame_from, has_part_from, has_reserved, has_zero_flag, head_key, head_pfn, head_type, head_type_number, head_version, host_frame_at, host_head_at, host_page_at, host_parts_at, is_full, is_sent, is_wide, name_number, name_rows, opened, page_unsent, part_at, sent_page_at, size_rows}
 pub use Rattle.mig_host.specs.HostView.{has_machine, put_frame, put_part_in}
-pub use Rattle.mig_refusals.specs.ImageFile.{BehindImageFile, BytesHave, FrameHas, FramesTo, ImageFileHeadHas, ImageFilePart, ImageFilePartFails, IsFaultlessImageFilePart, Opens, PaddingHas, PartHas, PartsTo, RefusedImageFile, SpellsFrame, SpellsPart, StandsInImageFile, image_file_size}
+pub use Rattle.mig_refusals.specs.ImageFile.{BehindImageFile, BytesHave, FrameHas, FramesTo, ImageFileHeadHas, ImageFilePart, ImageFilePartFails, IsFaultlessImageFilePart, Opens, PaddingHas, PartHas, PartsTo, RefusedImageFile, SentHas, SpellsFrame, SpellsPart, StandsInImageFile, image_file_size, page_told}
 pub use Rattle.mig_refusals.specs.ImageFileFronts.{EndsInFrames, EndsInParts}
 pub use Rattle.mig_refusals.specs.Legacy.{BehindLegacy, InChunk, InChunkBody, InDevice, InTail, IsFaultlessLegacyPart, LegacyContextHas, LegacyLengthHas, LegacyPart, LegacyPartFails, LegacyPartStops, MaxHas, NumberHas, RefusedLegacy, SignatureHas, StandsInLegacy, StartHas, ToolstackHas, TypeHas, WordsHave, legacy_size, word_place}
 pub use Rattle.mig_refusals.specs.LegacyToolstack.{EntryWrong, FieldWrong, PhysmapsTo}

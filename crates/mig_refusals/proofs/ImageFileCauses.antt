@@ -1,12 +1,14 @@
 -- The causes that stand in each part of an image file.
-use Rattle.mig_refusals.proofs.Common.{◌≡◌, ◌⊎◌, inl, inr, ℕ, ◌≤◌, List, [], ◌∷◌, ◌++◌, Bool, true, false, cond, not, nat_eq, nat_le, nat_lt, Option, Some, None, refl, sym, ap, subst, ◌∙◌, arith, and_from, and_left, and_parts, and_right, cases_lt, eq-eqb, eqb-true, false≢true, le-leb, leb-true, lt-ltb, ltb-true, not-true, not_from_false, or_cases, or_left, or_right, none-some, ◌&&◌, ◌||◌, list_all, le32, le64, first_fault, ImageCause, number_of_image_cause, Kind, Hvm, Pv, HostOf, PageType, ImageFilePart, StandsInImageFile, image_file_size, IsTriedFirst, join, canonical_pairs_are_computed, kind_of_number, AreCanonicalPairs, are_canonical_pairs, pv, PartOrder, PartMany, PartLength, PartBytes, PartPadding, is_type_of, machine_limit, row_of, code_number, code_of_number, PartCode, most_frames, all_types, number_of, type_of, type_or_none, Notab, L1Tab, L2Tab, L3Tab, L4Tab, L1Pinned, L2Pinned, L3Pinned, L4Pinned, Broken, Xalloc, Xtab, found_passes, code_fits, fault_of_bytes, fault_of_frame, fault_of_host_head, fault_of_padding, fault_of_part, frame_rows, has_frame_from, has_machine, has_part_from, head_key, head_pfn, head_type, head_type_number, is_full, is_wide, name_rows, size_rows, ImageFileHeadHas, FrameHas, PartHas, BytesHave, PaddingHas, ImageBadPageType, ImageTruncated}
+use Rattle.mig_refusals.proofs.Common.{◌≡◌, ◌⊎◌, inl, inr, ℕ, ◌≤◌, List, [], ◌∷◌, ◌++◌, Bool, true, false, cond, not, nat_eq, nat_le, nat_lt, Option, Some, None, refl, sym, ap, subst, ◌∙◌, arith, and_from, and_left, and_parts, and_right, cases_lt, eq-eqb, eqb-true, false≢true, le-leb, leb-true, lt-ltb, ltb-true, not-true, not_from_false, or_cases, or_left, or_right, none-some, ◌&&◌, ◌||◌, list_all, le32, le64, first_fault, ImageCause, number_of_image_cause, Kind, Hvm, Pv, HostOf, PageType, ImageFilePart, StandsInImageFile, image_file_size, IsTriedFirst, join, canonical_pairs_are_computed, kind_of_number, AreCanonicalPairs, are_canonical_pairs, pv, PartOrder, PartMany, PartLength, PartBytes, PartPadding, is_type_of, machine_limit, row_of, code_number, code_of_number, PartCode, most_frames, all_types, number_of, type_of, type_or_none, Notab, L1Tab, L2Tab, L3Tab, L4Tab, L1Pinned, L2Pinned, L3Pinned, L4Pinned, Broken, Xalloc, Xtab, found_passes, code_fits, fault_of_bytes, fault_of_frame, fault_of_host_head, fault_of_padding, fault_of_part, frame_rows, has_frame_from, has_machine, has_part_from, head_key, head_pfn, head_type, head_type_number, is_full, is_wide, name_rows, size_rows, ImageFileHeadHas, FrameHas, PartHas, BytesHave, PaddingHas, SentHas, ImageVersion, One, Two, ZeroPage, ◌/◌, ◌%◌, ◌^◌, fault_of_sent, has_reserved, has_zero_flag, head_version, is_all_zero, is_left_out, is_sent, leaves_out, top_limit, ImageBadPageType, ImageTruncated}
 use Rattle.mig_headers.proofs.FirstCauses as firsts
 use Rattle.mig_headers.specs.declared.image_fault.ImageCause.TheVariants as causes
 use Rattle.mig_guest.proofs.PartRows.{number_found, numbered}
 use Rattle.mig_refusals.specs.ImageFile.{ImageFileHeadHas as heads, FrameHas as frames, PartHas as parts}
 use Rattle.mig_refusals.specs.ImageFile.BytesHave.{other_than_pairs}
 use Rattle.mig_refusals.specs.ImageFile.PaddingHas.{not_zero}
-use Rattle.mig_refusals.specs.ImageFile.ImageFilePart.{Head, FrameHead, PartHead, Bytes, Padding}
+use Rattle.mig_refusals.specs.ImageFile.SentHas.{all_zero}
+use Rattle.mig_image.proofs.ImageWords.{each_zero, zero_each}
+use Rattle.mig_refusals.specs.ImageFile.ImageFilePart.{Head, FrameHead, Page, PartHead, Bytes, Padding}
 use Rattle.mig_refusals.proofs.Tests.{differs, is_one, one_of, test_differs}
 use Rattle.mig_refusals.proofs.Parts.{Tries, tries_first}
 use Rattle.mig_refusals.proofs.ImageFileEntries.{frame_from, from_frame, machine_of, of_machine, part_from, from_part, some_byte, byte_some}
@@ -23,12 +25,18 @@ To = firsts.To number_of_image_cause (λ _. 0)
 
 -- ---- the image's head
 
-module _ (head : List ℕ) where
+module _ (widest : ℕ) (head : List ℕ) where
   abbrev kind : Kind
   kind = kind_of_number (le32 head 8)
 
+  abbrev version_said : ImageVersion
+  version_said = head_version head
+
+  abbrev width_said : ℕ
+  width_said = le64 head 16
+
   abbrev head_rows : List (Bool × ImageCause)
-  head_rows = name_rows head ++ size_rows kind (le64 head 16) (le64 head 24)
+  head_rows = name_rows head ++ size_rows widest version_said kind width_said (le64 head 24)
 
   pub of_pv : (n : ℕ) → pv (kind_of_number n) ≡ true → n ≡ 1
   of_pv n h = by (nat_eq n 1) refl h
@@ -37,32 +45,47 @@ module _ (head : List ℕ) where
       by true is h = eqb-true n 1 is
       by false is h = absurd (false≢true h)
 
-  width_of : is_wide kind (le64 head 16) ≡ true → ImageFileHeadHas head (causes.Width (le64 head 16))
+  width_of : is_wide widest version_said kind width_said ≡ true → ImageFileHeadHas widest head (causes.Width width_said)
   width_of h = elim (or_cases _ _ h) [
     | inl wide ↦ heads.too_wide (ltb-true _ _ wide)
-    | inr none ↦ let b = and_parts (pv kind) _ none in heads.pv_without_width (of_pv _ b.0) (eqb-true _ _ b.1)
+    | inr other ↦ elim (or_cases _ _ other) [
+      | inl above ↦ heads.version_holds_less (ltb-true _ _ above)
+      | inr of ↦
+          let b = and_parts (pv kind) _ of in
+          elim (or_cases _ _ b.1) [
+            | inl none ↦ heads.pv_without_width (of_pv _ b.0) (eqb-true _ _ none)
+            | inr wide ↦ heads.pv_too_wide (of_pv _ b.0) (ltb-true _ _ wide)
+          ]
+    ]
   ]
 
-  count_of : (nat_lt most_frames (le64 head 24) || nat_lt (le64 head 16) (le64 head 24)) ≡ true → ImageFileHeadHas head (causes.FrameCount (le64 head 24))
+  count_of : (nat_lt most_frames (le64 head 24) || nat_lt width_said (le64 head 24)) ≡ true → ImageFileHeadHas widest head (causes.FrameCount (le64 head 24))
   count_of h = elim (or_cases _ _ h) [ inl many ↦ heads.too_many (ltb-true _ _ many) | inr above ↦ heads.above_width (ltb-true _ _ above) ]
 
-  head_to : To (ImageFileHeadHas head) head_rows
+  head_to : To (ImageFileHeadHas widest head) head_rows
   head_to = (
-    (λ h. heads.not_image (differs _ _ h)),
+    (λ h. let b = and_parts _ _ h in heads.not_image (differs _ _ b.0) (differs _ _ b.1)),
     ((λ h. let b = and_parts _ _ h in heads.bad_kind (differs _ _ b.0) (differs _ _ b.1)), ((λ h. heads.not_zero (differs _ _ h)), (width_of, (count_of, tt)))),
   )
 
-  head_from : (c : ImageCause) → ImageFileHeadHas head c → RowHas head_rows c
-  head_from _ (heads.not_image h) = inl (test_differs _ _ h, refl)
+  -- what a PV host is refused for
+  of_pv_width : le32 head 8 ≡ 1 → (nat_eq width_said 0 || nat_lt top_limit width_said) ≡ true → is_wide widest version_said kind width_said ≡ true
+  of_pv_width one bad = or_right _ _ (or_right _ _ (and_from _ _ (ap (λ n. pv (kind_of_number n)) one) bad))
+
+  head_from : (c : ImageCause) → ImageFileHeadHas widest head c → RowHas head_rows c
+  head_from _ (heads.not_image one two) = inl (and_from _ _ (test_differs _ _ one) (test_differs _ _ two), refl)
   head_from _ (heads.bad_kind h e) = inr (inl (and_from _ _ (test_differs _ _ h) (test_differs _ _ e), refl))
   head_from _ (heads.not_zero h) = inr (inr (inl (test_differs _ _ h, refl)))
   head_from _ (heads.too_wide h) = inr (inr (inr (inl (or_left _ _ (lt-ltb _ _ h), refl))))
-  head_from _ (heads.pv_without_width one zero) = inr (inr (inr (inl (or_right _ _ (and_from _ _ (ap (λ n. pv (kind_of_number n)) one) (eq-eqb _ _ zero)), refl))))
+  head_from _ (heads.version_holds_less h) = inr (inr (inr (inl (or_right _ _ (or_left _ _ (lt-ltb _ _ h)), refl))))
+  head_from _ (heads.pv_without_width one zero) = inr (inr (inr (inl (of_pv_width one (or_left _ _ (eq-eqb _ _ zero)), refl))))
+  head_from _ (heads.pv_too_wide one wide) = inr (inr (inr (inl (of_pv_width one (or_right _ _ (lt-ltb _ _ wide)), refl))))
   head_from _ (heads.too_many h) = inr (inr (inr (inr (inl (or_left _ _ (lt-ltb _ _ h), refl)))))
   head_from _ (heads.above_width h) = inr (inr (inr (inr (inl (or_right _ _ (lt-ltb _ _ h), refl)))))
 
-  head_named : Named (ImageFileHeadHas head) (fault_of_host_head head)
-  head_named = subst (Named (ImageFileHeadHas head)) (sym (join (name_rows head) (size_rows kind (le64 head 16) (le64 head 24)))) (firsts.rows_name _ _ (ImageFileHeadHas head) head_rows refl head_to head_from)
+  head_named : Named (ImageFileHeadHas widest head) (fault_of_host_head widest head)
+  head_named =
+      subst (Named (ImageFileHeadHas widest head)) (sym (join (name_rows head) (size_rows widest version_said kind width_said (le64 head 24)))) (firsts.rows_name _ _ (ImageFileHeadHas widest head) head_rows refl head_to head_from)
 
 -- ---- a frame's head
 
@@ -124,17 +147,43 @@ module _ (kind : Kind) (n : ℕ) where
       by None none = some_other kind Xtab (inr (inl (omega arith)))
       by (Some t) is = some_other kind t (subst (IsOther kind) (sym (number_is t is)) other)
 
+-- bits that have to be 0 are set
 module _ (h : HostOf) (head : List ℕ) where
-  abbrev Has : ImageCause → Type 0
-  Has = FrameHas h head
+  to_reserved : (version : ImageVersion) → has_reserved version head ≡ true → FrameHas version h head causes.Reserved
+  to_reserved One r = frames.bits_of_one refl (differs _ _ r)
+  to_reserved Two r = elim (or_cases _ _ r) [
+    | inl bits ↦ frames.bits_of_two refl (differs _ _ bits)
+    | inr both ↦ let b = and_parts (has_zero_flag Two head) _ both in frames.flag_without_data refl (eqb-true _ _ b.0) (leb-true _ _ b.1)
+  ]
 
-  to_type : IsOther h.kind (head_type_number head) → Has (ImageBadPageType (head_type_number head))
+  one_reserved : (version : ImageVersion) → version ≡ One → (le64 head 0 / 2 ^ 32 ≡ 0 → ⊥) → has_reserved version head ≡ true
+  one_reserved version is some = ap (λ v. has_reserved v head) is ∙ test_differs _ _ some
+
+  two_reserved : (version : ImageVersion) → version ≡ Two → (le64 head 0 / 2 ^ 53 % 2 ^ 7 ≡ 0 → ⊥) → has_reserved version head ≡ true
+  two_reserved version is some = ap (λ v. has_reserved v head) is ∙ or_left _ _ (test_differs _ _ some)
+
+  flag_reserved : (version : ImageVersion) → version ≡ Two → le64 head 0 / 2 ^ 52 % 2 ≡ 1 → 13 ≤ head_type_number version head → has_reserved version head ≡ true
+  flag_reserved version is flag large =
+      let of_two = le-leb 13 (head_type_number Two head) (subst (λ v. 13 ≤ head_type_number v head) is large) in
+      ap (λ v. has_reserved v head) is ∙ or_right _ _ (and_from _ _ (eq-eqb _ _ flag) of_two)
+
+module _ (version : ImageVersion) (h : HostOf) (head : List ℕ) where
+  abbrev Has : ImageCause → Type 0
+  Has = FrameHas version h head
+
+  abbrev number_said : ℕ
+  number_said = head_type_number version head
+
+  abbrev pfn_said : ℕ
+  pfn_said = head_pfn version head
+
+  to_type : IsOther h.kind number_said → Has (ImageBadPageType number_said)
   to_type (inl (low, high)) = frames.reserved_type low high
   to_type (inr (inl high)) = frames.absent_type high
   to_type (inr (inr (hvm, a, b, c))) = frames.not_of_hvm hvm a b c
 
-  to_order : has_frame_from h (head_pfn head) ≡ true → Has (causes.FrameOrder (head_pfn head))
-  to_order any = let (q, some, le) = frame_from h (head_pfn head) any in frames.not_above q some le
+  to_order : has_frame_from h pfn_said ≡ true → Has (causes.FrameOrder pfn_said)
+  to_order any = let (q, some, le) = frame_from h pfn_said any in frames.not_above q some le
 
   to_machine : (nat_eq (le64 head 8) 0 || nat_le machine_limit (le64 head 8)) ≡ true → Has (causes.MachineFrame (le64 head 8))
   to_machine bad = elim (or_cases _ _ bad) [ inl none ↦ frames.no_machine (eqb-true _ _ none) | inr high ↦ frames.high_machine (leb-true _ _ high) ]
@@ -142,36 +191,65 @@ module _ (h : HostOf) (head : List ℕ) where
   to_twice : has_machine h (le64 head 8) ≡ true → Has (causes.MachineTwice (le64 head 8))
   to_twice any = let (q, frame, at, is) = machine_of h (le64 head 8) any in frames.machine_twice q frame at is
 
-  frame_to : To Has (frame_rows h head)
+  frame_to : To Has (frame_rows version h head)
   frame_to = (
-    (λ r. frames.not_zero (differs _ _ r)),
-    ((λ r. to_type (other_type h.kind (head_type_number head) (not-true _ r))), (to_order, ((λ r. frames.outside (leb-true _ _ r)), (to_machine, (to_twice, tt))))),
+    to_reserved h head version,
+    ((λ r. to_type (other_type h.kind number_said (not-true _ r))), (to_order, ((λ r. frames.outside (leb-true _ _ r)), (to_machine, (to_twice, tt))))),
   )
 
-  bad_type : IsOther h.kind (head_type_number head) → RowHas (frame_rows h head) (ImageBadPageType (head_type_number head))
-  bad_type other = inr (inl (not_from_false _ (type_other h.kind (head_type_number head) other), refl))
+  bad_type : IsOther h.kind number_said → RowHas (frame_rows version h head) (ImageBadPageType number_said)
+  bad_type other = inr (inl (not_from_false _ (type_other h.kind number_said other), refl))
 
-  frame_has : (c : ImageCause) → Has c → RowHas (frame_rows h head) c
-  frame_has _ (frames.not_zero r) = inl (test_differs _ _ r, refl)
+  frame_has : (c : ImageCause) → Has c → RowHas (frame_rows version h head) c
+  frame_has _ (frames.bits_of_one is some) = inl (one_reserved h head version is some, refl)
+  frame_has _ (frames.bits_of_two is some) = inl (two_reserved h head version is some, refl)
+  frame_has _ (frames.flag_without_data is flag large) = inl (flag_reserved h head version is flag large, refl)
   frame_has _ (frames.reserved_type low high) = bad_type (inl (low, high))
   frame_has _ (frames.absent_type high) = bad_type (inr (inl high))
   frame_has _ (frames.not_of_hvm hvm a b c) = bad_type (inr (inr (hvm, a, b, c)))
-  frame_has _ (frames.not_above q some le) = inr (inr (inl (from_frame h (head_pfn head) q some le, refl)))
+  frame_has _ (frames.not_above q some le) = inr (inr (inl (from_frame h pfn_said q some le, refl)))
   frame_has _ (frames.outside le) = inr (inr (inr (inl (le-leb _ _ le, refl))))
   frame_has _ (frames.no_machine none) = inr (inr (inr (inr (inl (or_left _ _ (eq-eqb _ _ none), refl)))))
   frame_has _ (frames.high_machine high) = inr (inr (inr (inr (inl (or_right _ _ (le-leb _ _ high), refl)))))
   frame_has _ (frames.machine_twice q frame at is) = inr (inr (inr (inr (inr (inl (of_machine h (le64 head 8) q frame at is, refl))))))
 
-  frame_named : Named Has (fault_of_frame h head)
-  frame_named = firsts.rows_name _ _ Has (frame_rows h head) refl frame_to frame_has
+  frame_named : Named Has (fault_of_frame version h head)
+  frame_named = firsts.rows_name _ _ Has (frame_rows version h head) refl frame_to frame_has
 
 -- a head in which no cause stands names a type
-pub type_named : (h : HostOf) (head : List ℕ) → ((c : ImageCause) → FrameHas h head c → ⊥) → head_type_number head ≡ number_of (head_type head)
-type_named h head never = by (type_of (head_type_number head)) refl
+pub type_named : (version : ImageVersion) (h : HostOf) (head : List ℕ) → ((c : ImageCause) → FrameHas version h head c → ⊥) → head_type_number version head ≡ number_of (head_type version head)
+type_named version h head never = by (type_of (head_type_number version head)) refl
   where
-    by : (o : Option PageType) → type_of (head_type_number head) ≡ o → head_type_number head ≡ number_of (type_or_none o)
-    by None none = absurd (never _ (to_type h head (unnamed h.kind (head_type_number head) none)))
-    by (Some t) is = sym (number_is h.kind (head_type_number head) t is)
+    by : (o : Option PageType) → type_of (head_type_number version head) ≡ o → head_type_number version head ≡ number_of (type_or_none o)
+    by None none = absurd (never _ (to_type version h head (unnamed h.kind (head_type_number version head) none)))
+    by (Some t) is = sym (number_is h.kind (head_type_number version head) t is)
+
+-- ---- the page behind it
+
+module _ (version : ImageVersion) (head page : List ℕ) where
+  abbrev page_rows : List (Bool × ImageCause)
+  page_rows = (is_left_out version (Some page), ZeroPage (head_pfn version head)) ∷ []
+
+  is_two : (v : ImageVersion) → leaves_out v ≡ true → v ≡ Two
+  is_two One h = absurd (false≢true h)
+  is_two Two h = refl
+
+  -- what is tried in the page, where one is sent or none is
+  abbrev pub fault_if : Bool → Option ImageCause
+  fault_if sent = cond sent (fault_of_sent version (head_pfn version head) page) None
+
+  sent_named : (sent : Bool) → is_sent version head ≡ sent → Named (SentHas version head page) (fault_if sent)
+  sent_named true is = firsts.rows_name _ _ (SentHas version head page) page_rows refl (to, tt) from
+    where
+      to : is_left_out version (Some page) ≡ true → SentHas version head page (ZeroPage (head_pfn version head))
+      to out = let b = and_parts (leaves_out version) (is_all_zero page) out in all_zero (is_two version b.0) is (each_zero page b.1)
+
+      from : (c : ImageCause) → SentHas version head page c → RowHas page_rows c
+      from _ (all_zero two sent zero) = inl (and_from _ _ (ap leaves_out two) (zero_each page zero), refl)
+  sent_named false is = record { holds = λ c h. never c h }
+    where
+      never : (c : ImageCause) → SentHas version head page c → ⊥
+      never _ (all_zero two sent zero) = false≢true (sym is ∙ sent)
 
 -- ---- a part's head
 
@@ -280,16 +358,18 @@ padding_named padding = firsts.rows_name _ _ (PaddingHas padding) padding_rows r
 
 -- what judging tries in a part
 abbrev fault_in : ImageFilePart → List ℕ → Option ImageCause
-fault_in Head bytes = fault_of_host_head bytes
-fault_in (FrameHead h) bytes = fault_of_frame h bytes
+fault_in (Head widest) bytes = fault_of_host_head widest bytes
+fault_in (FrameHead version h) bytes = fault_of_frame version h bytes
+fault_in (Page version head) bytes = fault_if version head bytes (is_sent version head)
 fault_in (PartHead h) bytes = fault_of_part h bytes
 fault_in (Bytes code len) bytes = fault_of_bytes code bytes
 fault_in (Padding n) bytes = fault_of_padding bytes
 fault_in _ bytes = None
 
 pub part_is_named : (part : ImageFilePart) (bytes : List ℕ) → Named (StandsInImageFile part bytes) (fault_in part bytes)
-part_is_named Head bytes = head_named bytes
-part_is_named (FrameHead h) bytes = frame_named h bytes
+part_is_named (Head widest) bytes = head_named widest bytes
+part_is_named (FrameHead version h) bytes = frame_named version h bytes
+part_is_named (Page version head) bytes = sent_named version head bytes (is_sent version head) refl
 part_is_named (PartHead h) bytes = part_named h bytes
 part_is_named (Bytes code len) bytes = bytes_named code bytes
 part_is_named (Padding n) bytes = padding_named bytes

@@ -1,5 +1,5 @@
 -- The host's parts in a front of an image file: judging passes them, and what it passes are such parts.
-use Rattle.mig_refusals.proofs.Common.{◌≡◌, ℕ, ◌+◌, ◌<◌, List, ◌++◌, refl, sym, ap, subst, ◌∙◌, append_assoc, le32, le64, Judged, ◌>>=◌, part, placed, Passes, both_pass, placed_passes, same_passes, then_passes, ImageCause, ImagePlace, HostOf, PartKey, ImageFilePart, IsFaultlessImageFilePart, padding_len, regroup, behind_bytes, behind_part_head, count_at, head_key, part_at, put_part_in, FramesTo, PartsTo, SpellsPart, ImageTruncated}
+use Rattle.mig_refusals.proofs.Common.{◌≡◌, ℕ, ◌+◌, ◌<◌, List, ◌++◌, refl, sym, ap, subst, ◌∙◌, append_assoc, le32, le64, Judged, ◌>>=◌, part, placed, Passes, both_pass, placed_passes, same_passes, then_passes, ImageCause, ImagePlace, HostOf, PartKey, ImageFilePart, IsFaultlessImageFilePart, padding_len, regroup, behind_bytes, behind_part_head, count_at, head_key, part_at, put_part_in, ImageVersion, FramesTo, PartsTo, SpellsPart, ImageTruncated}
 use Rattle.mig_headers.specs.declared.image_fault.ImagePlace.TheVariants as places
 use Rattle.mig_refusals.specs.ImageFile.PartsTo.{at_first, one_more}
 use Rattle.mig_refusals.specs.ImageFile.ImageFilePart.{Number, PartHead, Bytes, Padding}
@@ -29,24 +29,25 @@ abbrev pub part_step : ℕ → HostOf → List ℕ → Judged (ImagePlace × Ima
 part_step i h input = placed (places.Part i) (part_at h input)
 
 -- parts are steps behind all frames and the number of parts
-pub record Counted (count : ℕ) (front : List ℕ) (h : HostOf) : Type 0 where
+pub record Counted (widest count : ℕ) (front : List ℕ) (h : HostOf) : Type 0 where
+  pub version : ImageVersion
   pub before : List ℕ
   pub number : List ℕ
   pub frames : ℕ
   pub whole : front ≡ before ++ number
-  pub to : FramesTo before frames frames h
+  pub to : FramesTo widest version before frames frames h
   pub is : IsFaultlessImageFilePart Number number
   pub count_is : count ≡ le64 number 0
 
-pub parts_go : (front : List ℕ) (count n : ℕ) (h : HostOf) → PartsTo front count n h → Stepped part_step (Counted count) front count n h
-parts_go _ _ _ _ (at_first front number count h to is) =
-    no_step part_step _ (front ++ number) (le64 number 0) h (record { before = front; number = number; frames = count; whole = refl; to = to; is = is; count_is = refl })
-parts_go _ _ _ _ (one_more front bytes count n h key content before less s) =
-    one_step_more part_step _ front count n h (parts_go front count n h before) less bytes (put_part_in h key content) (λ left. ap (placed (places.Part n)) (host_part_goes h bytes key content left s))
+pub parts_go : (widest : ℕ) (front : List ℕ) (count n : ℕ) (h : HostOf) → PartsTo widest front count n h → Stepped part_step (Counted widest count) front count n h
+parts_go widest _ _ _ _ (at_first version front number count h to is) =
+    no_step part_step _ (front ++ number) (le64 number 0) h (record { version = version; before = front; number = number; frames = count; whole = refl; to = to; is = is; count_is = refl })
+parts_go widest _ _ _ _ (one_more front bytes count n h key content before less s) =
+    one_step_more part_step _ front count n h (parts_go widest front count n h before) less bytes (put_part_in h key content) (λ left. ap (placed (places.Part n)) (host_part_goes h bytes key content left s))
 
-pub takes_part : (count : ℕ) (front : List ℕ) (n : ℕ) (h : HostOf) (i : List ℕ) (g : HostOf) (rest : List ℕ) → PartsTo front count n h → n < count → part_step n h i ≡ Passes g rest
-    → (after : List ℕ) × (front ++ i ≡ after ++ rest) × PartsTo after count (n + 1) g
-takes_part count front n h i g rest to less passes =
+pub takes_part : (widest count : ℕ) (front : List ℕ) (n : ℕ) (h : HostOf) (i : List ℕ) (g : HostOf) (rest : List ℕ) → PartsTo widest front count n h → n < count → part_step n h i ≡ Passes g rest
+    → (after : List ℕ) × (front ++ i ≡ after ++ rest) × PartsTo widest after count (n + 1) g
+takes_part widest count front n h i g rest to less passes =
     let a = both_pass (one_part (PartHead h) i) (behind_part_head h) g rest (placed_passes (places.Part n) (part_at h i) g rest passes) in
     let head = a.x in
     let p = part_back (PartHead h) i head a.mid a.first in
@@ -59,7 +60,7 @@ takes_part count front n h i g rest to less passes =
     let spelled : SpellsPart h bytes (head_key head) b.x = record { head = head; padding = c.x; whole = refl; faultless = p.1; key_is = refl; content_is = q.1; zeros = r.1 } in (
       front ++ bytes,
       ap (λ l. front ++ l) (regroup i a.mid rest head (b.x ++ c.x) p.0 (regroup a.mid b.mid rest b.x c.x q.0 (r.0 ∙ ap (λ l. c.x ++ l) e.1))) ∙ sym (append_assoc front bytes rest),
-      subst (PartsTo (front ++ bytes) count (n + 1)) e.0 (one_more front bytes count n h (head_key head) b.x to less spelled),
+      subst (PartsTo widest (front ++ bytes) count (n + 1)) e.0 (one_more front bytes count n h (head_key head) b.x to less spelled),
     )
 
 -- the number of parts

@@ -1,5 +1,5 @@
 -- The causes that stand in each part of an image.
-use Rattle.mig_refusals.proofs.Common.{◌≡◌, ◌⊎◌, inl, inr, ℕ, zero, suc, drop, ltb-false, ◌+◌, ◌*◌, ◌<◌, ◌≤◌, List, [], ◌∷◌, length, Bool, true, false, nat_le, nat_lt, nat_eq, not, is_none, Option, Some, None, Result, Ok, Err, slice_index, refl, sym, ap, subst, ◌∙◌, arith, leb-true, ltb-true, eqb-true, eq-eqb, le-leb, lt-ltb, le-ltb, cases_order, both_ways, not-true, and_parts, and_from, or_cases, common_steps, option_or, le32, here, first_fault, Cause, BadLength, PfnOutside, ParamIndex, Missing, Kind, Pv, Hvm, count_rows, fault_of_count, fault_of_words, fault_of_data, fault_of_head, EntriesTo, EntryHas, MarkerHas, HeaderHas, DomainHas, GuestHas, FrontHas, WordsHas, LengthHas, PageHas, ContextHas, ParamsHas, IsTriedBefore, LibxcPart, StandsInLibxc, libxc_size, fault_of_page, list_any, drop-drop, none-some, same_Some, little_number, le64, walk_end, walk_end_reached, Scanned, scan, scan_at, fault_at, after_entry, scan_is, marker_rows, image_rows, domain_rows, fault_of_marker, fault_of_image, fault_of_domain, number_of_cause, ContextFault, word_type, word_pfn, pfn_limit, most_frames, level_of, GuestOf, context_key, words, data_len_of, has_reserved_type, names_outside, is_outside, first_place, first_word, place_is_first, none_pass, HvmContext, HvmParam, Layout, layout, fault_of_entries, fault_of_pv_info, fault_of_p2m, fault_of_vcpu, fault_of_body, fault_of_scan, fault_of_guest, fault_of_page_table, hvm_fault, type_in_word, fault_of_level, meant_type, TableHas, PvGuestHas, join, BadPageType, BadContext, TooManyFrames}
+use Rattle.mig_refusals.proofs.Common.{◌≡◌, ◌⊎◌, inl, inr, ℕ, zero, suc, drop, ltb-false, ◌+◌, ◌*◌, ◌<◌, ◌≤◌, List, [], ◌∷◌, length, Bool, true, false, nat_le, nat_lt, nat_eq, not, is_none, Option, Some, None, Result, Ok, Err, slice_index, refl, sym, ap, subst, ◌∙◌, arith, leb-true, ltb-true, eqb-true, eq-eqb, le-leb, lt-ltb, le-ltb, cases_order, both_ways, not-true, and_parts, and_from, or_cases, common_steps, option_or, le32, here, first_fault, Cause, BadLength, PfnOutside, ParamIndex, Missing, Kind, Pv, Hvm, count_rows, fault_of_count, fault_of_words, fault_of_data, fault_of_head, EntriesTo, EntryHas, MarkerHas, HeaderHas, DomainHas, GuestHas, FrontHas, WordsHas, LengthHas, PageHas, ContextHas, ParamsHas, IsTriedBefore, LibxcPart, StandsInLibxc, libxc_size, fault_of_page, list_any, drop-drop, none-some, same_Some, little_number, le64, walk_end, walk_end_reached, Scanned, scan, scan_at, fault_at, after_entry, scan_is, marker_rows, image_rows, domain_rows, fault_of_marker, fault_of_image, fault_of_domain, number_of_cause, ContextFault, word_type, word_pfn, most_frames, level_of, GuestOf, context_key, words, data_len_of, has_reserved_type, names_outside, is_outside, first_place, first_word, place_is_first, none_pass, HvmContext, HvmParam, Layout, layout, fault_of_entries, fault_of_pv_info, fault_of_p2m, fault_of_vcpu, fault_of_body, fault_of_scan, fault_of_guest, fault_of_page_table, hvm_fault, type_in_word, fault_of_level, meant_type, TableHas, PvGuestHas, join, BadPageType, BadContext, TooManyFrames}
 use Rattle.std.specs.FinMap as maps
 use Rattle.mig_refusals.specs.Libxc.LibxcPart.{Marker, HeaderRest, Domain, Head, WholeGuest, PagesFront, PagesWords, PagesLength, Page, InfoBody, P2mBody, VcpuBody, ContextBody, ParamsBody, OtherBody, Padding}
 use Rattle.mig_refusals.specs.Libxc.PageHas.{in_table}
@@ -111,12 +111,12 @@ module _ (test : ℕ → Bool) (ws : List ℕ) (cause : ℕ → ℕ → Cause) w
       by false none = record { holds = λ k c h. both_ways _ (none_pass test ws none k 0 h.0) h.1 }
 
 module _ (kind : Kind) (top : ℕ) (ws : List ℕ) where
-  outside_of : (k : Kind) (n : ℕ) → is_outside k top n ≡ true → (pfn_limit ≤ n) ⊎ ((k ≡ Pv) × (top < n))
-  outside_of Pv n h = elim (or_cases (nat_le pfn_limit n) (nat_lt top n) h) [ inl e ↦ inl (leb-true _ _ e) | inr e ↦ inr (refl, ltb-true _ _ e) ]
-  outside_of Hvm n h = inl (leb-true _ _ h)
+  outside_of : (k : Kind) (n : ℕ) → is_outside k top n ≡ true → (k ≡ Pv) × (top < n)
+  outside_of Pv n h = (refl, ltb-true _ _ h)
+  outside_of Hvm n h = let no : false ≡ true = h in cc
 
-  test_outside : (k : Kind) (n : ℕ) → (pfn_limit ≤ n) ⊎ ((k ≡ Pv) × (top < n)) → is_outside k top n ≡ true
-  test_outside k n h = grind (arith, common_steps, h)
+  test_outside : (k : Kind) (n : ℕ) → k ≡ Pv → top < n → is_outside k top n ≡ true
+  test_outside k n pv h = ap (λ i. is_outside i top n) pv ∙ lt-ltb _ _ h
 
   abbrev page_type : ℕ → ℕ → Cause
   page_type k w = BadPageType k (word_type w)
@@ -140,10 +140,10 @@ module _ (kind : Kind) (top : ℕ) (ws : List ℕ) where
 
       to : (k : ℕ) (c : Cause) → Reserved k c ⊎ Outside k c → WordsHas kind top ws k c
       to k c (inl h) = let b = and_parts _ _ h.1 in subst (WordsHas kind top ws k) (sym h.2) (reserved k h.0 (leb-true _ _ b.0) (leb-true _ _ b.1))
-      to k c (inr h) = subst (WordsHas kind top ws k) (sym h.2) (outside k h.0 (outside_of kind _ h.1))
+      to k c (inr h) = subst (WordsHas kind top ws k) (sym h.2) (let o = outside_of kind _ h.1 in outside k h.0 o.0 o.1)
 
       from : (k : ℕ) (c : Cause) → WordsHas kind top ws k c → Reserved k c ⊎ Outside k c
-      from _ _ (outside k within h) = inr (within, test_outside kind _ h, refl)
+      from _ _ (outside k within pv h) = inr (within, test_outside kind _ pv h, refl)
       from _ _ (reserved k within a b) = inl (within, and_from _ _ (le-leb _ _ a) (le-leb _ _ b), refl)
 
 -- ---- pages

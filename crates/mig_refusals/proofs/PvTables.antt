@@ -1,9 +1,9 @@
 -- The causes that stand in the page tables of a PV guest, and in the bodies of the records that only it has.
-use Rattle.mig_refusals.proofs.Common.{◌≡◌, ◌⊎◌, inl, inr, ℕ, ◌+◌, ◌*◌, ◌<◌, List, [], ◌∷◌, length, drop, Bool, true, false, nat_le, nat_lt, nat_eq, not, slice_index, refl, sym, ap, subst, ◌∙◌, arith, leb-true, ltb-true, eqb-true, eqb-false, ne_eqb, eq-eqb, le-leb, lt-ltb, and_parts, and_from, common_steps, le32, first_fault, Cause, ◌&&◌, number_of_cause, BadLength, Pv32, BadPvInfo, P2mStart, P2mRange, VcpuId, GdtEnts, pfn_limit, gdt_ents, PartCode, VcpuBasic, fault_of_pv_info, p2m_count, fault_of_p2m, fault_of_vcpu, long_at, entry, named_frame, Entry, Superpage, Frame, fault_of_page_table, is_superpage, names_above, TableHas, InfoHas, P2mHas, VcpuHas, table_entry_of}
+use Rattle.mig_refusals.proofs.Common.{◌≡◌, ◌⊎◌, inl, inr, ℕ, ◌+◌, ◌*◌, ◌<◌, List, [], ◌∷◌, length, drop, Bool, true, false, nat_le, nat_lt, nat_eq, not, slice_index, refl, sym, ap, subst, ◌∙◌, arith, leb-true, ltb-true, eqb-true, eqb-false, ne_eqb, eq-eqb, le-leb, lt-ltb, and_parts, and_from, common_steps, le32, first_fault, Cause, ◌&&◌, number_of_cause, BadLength, Pv32, BadPvInfo, P2mStart, VcpuId, GdtEnts, gdt_ents, PartCode, VcpuBasic, fault_of_pv_info, p2m_count, fault_of_p2m, fault_of_vcpu, long_at, entry, named_frame, Entry, Superpage, Frame, fault_of_page_table, is_superpage, names_above, TableHas, InfoHas, P2mHas, VcpuHas, table_entry_of}
 use Rattle.mig_headers.specs.declared.fault.Cause.TheVariants as causes
 use Rattle.mig_refusals.specs.LibxcPv.TableHas.{superpage, outside}
 use Rattle.mig_refusals.specs.LibxcPv.InfoHas.{width_4, other_width, other_levels}
-use Rattle.mig_refusals.specs.LibxcPv.P2mHas.{bad_length, late_start, far_end}
+use Rattle.mig_refusals.specs.LibxcPv.P2mHas.{bad_length, late_start}
 use Rattle.mig_refusals.specs.LibxcPv.VcpuHas.{vcpu_id, descriptors}
 use Rattle.mig_refusals.proofs.Least.{Least, RowHas, named, both_least}
 use Rattle.mig_refusals.proofs.Tests.{differs, test_differs}
@@ -81,15 +81,14 @@ module _ (body : List ℕ) where
   last = le32 body 4
 
   abbrev p2m_rows : List (Bool × Cause)
-  p2m_rows = (nat_le first last && not (nat_eq (length body) (8 + 8 * p2m_count first last)), BadLength (length body)) ∷ (not (nat_eq first 0), P2mStart first) ∷ (nat_le pfn_limit last, P2mRange last) ∷ []
+  p2m_rows = (nat_le first last && not (nat_eq (length body) (8 + 8 * p2m_count first last)), BadLength (length body)) ∷ (not (nat_eq first 0), P2mStart first) ∷ []
 
   pub p2m_least : Least (P2mHas body) (fault_of_p2m body)
-  p2m_least = named (P2mHas body) p2m_rows refl ((λ h. let b = and_parts _ _ h in bad_length (leb-true _ _ b.0) (differs _ _ b.1)), ((λ h. late_start (differs _ _ h)), ((λ h. far_end (leb-true _ _ h)), tt))) from
+  p2m_least = named (P2mHas body) p2m_rows refl ((λ h. let b = and_parts _ _ h in bad_length (leb-true _ _ b.0) (differs _ _ b.1)), ((λ h. late_start (differs _ _ h)), tt)) from
     where
       from : (k : ℕ) (c : Cause) → P2mHas body k c → RowHas p2m_rows k c
       from _ _ (bad_length le h) = (refl, inl (and_from _ _ (le-leb _ _ le) (test_differs _ _ h), refl))
       from _ _ (late_start h) = (refl, inr (inl (test_differs _ _ h, refl)))
-      from _ _ (far_end h) = (refl, inr (inr (inl (le-leb _ _ h, refl))))
 
 -- ---- the records of vCPUs
 

@@ -4,24 +4,28 @@ use Rattle.std.specs.FinMap as maps
 use Rattle.std.specs.List.{flat_map}
 use Rattle.mig_bytes.specs.Fields.{le64}
 use Rattle.mig_guest.specs.Hosts.{HostOf, IsValid}
+use Rattle.mig_image.specs.declared.version.ImageVersion.{ImageVersion}
 use Rattle.mig_image.specs.Image.{frame_text, host_head, part_text}
+use Rattle.mig_image.specs.ImageParts.{head_version}
 use Rattle.mig_refusals.specs.ImageFile.{IsFaultlessImageFilePart}
 use Rattle.mig_refusals.specs.ImageFile.ImageFilePart.{Head}
 
--- a faultless head, which may tell more frames, and all n frames of a valid host without parts
-pub record EndsInFrames (front : List ℕ) (n : ℕ) (h : HostOf) : Type 0 where
+-- a faultless head, which may tell more frames, and all n frames of a valid host without parts, in this version
+pub record EndsInFrames (widest : ℕ) (version : ImageVersion) (front : List ℕ) (n : ℕ) (h : HostOf) : Type 0 where
   pub head : List ℕ
-  pub faultless : IsFaultlessImageFilePart Head head
-  pub spelled : front ≡ head ++ flat_map frame_text (maps.entries h.frames)
+  pub faultless : IsFaultlessImageFilePart (Head widest) head
+  pub in_version : head_version head ≡ version
+  pub spelled : front ≡ head ++ flat_map (frame_text version) (maps.entries h.frames)
   pub size : length (maps.entries h.frames) ≡ n
   pub no_parts : h.parts ≡ maps.empty
   pub valid : IsValid h
 
 -- the image of a valid host with n parts, but with another number, count, as that of the parts
 pub record EndsInParts (front : List ℕ) (count n : ℕ) (h : HostOf) : Type 0 where
+  pub version : ImageVersion
   pub number : List ℕ
   pub number_size : length number ≡ 8
   pub number_is : count ≡ le64 number 0
-  pub spelled : front ≡ host_head h ++ (flat_map frame_text (maps.entries h.frames) ++ (number ++ flat_map part_text (maps.entries h.parts)))
+  pub spelled : front ≡ host_head version h ++ (flat_map (frame_text version) (maps.entries h.frames) ++ (number ++ flat_map part_text (maps.entries h.parts)))
   pub size : length (maps.entries h.parts) ≡ n
   pub valid : IsValid h

@@ -20,7 +20,7 @@ use Rattle.mig_headers.specs.declared.kind.Kind.TheVariants.{Pv, Hvm}
 use Rattle.mig_headers.specs.declared.record_type.RecordType.{RecordType}
 use Rattle.mig_headers.specs.declared.record_type.RecordType.TheVariants.{PageData, Verify, X86PvInfo, X86PvP2mFrames, StaticDataEnd}
 use Rattle.mig_pagetypes.specs.FrameWords.{word_type, word_pfn, word_has_data}
-use Rattle.mig_pagetypes.specs.Limits.{pfn_limit, most_frames}
+use Rattle.mig_pagetypes.specs.Limits.{most_frames}
 use Rattle.mig_pagetypes.specs.PageTypes.{level_of}
 use Rattle.mig_guest.specs.Guests.{GuestOf}
 use Rattle.mig_guest.specs.PartKeys.{context_key}
@@ -83,7 +83,7 @@ pub data FrontHas (len count : ℕ) : ℕ → Cause → Type 0 where
 
 -- the words: at the word of this place ("PAGE_DATA")
 pub data WordsHas (kind : Kind) (top : ℕ) (ws : List ℕ) : ℕ → Cause → Type 0 where
-  outside : (place : ℕ) → place < length ws → (pfn_limit ≤ word_pfn (slice_index ws place)) ⊎ ((kind ≡ Pv) × (top < word_pfn (slice_index ws place))) → WordsHas kind top ws place (PfnOutside place (word_pfn (slice_index ws place)))
+  outside : (place : ℕ) → place < length ws → kind ≡ Pv → top < word_pfn (slice_index ws place) → WordsHas kind top ws place (PfnOutside place (word_pfn (slice_index ws place)))
   reserved : (place : ℕ) → place < length ws → 5 ≤ word_type (slice_index ws place) → word_type (slice_index ws place) ≤ 8 → WordsHas kind top ws place (BadPageType place (word_type (slice_index ws place)))
 
 -- the length of a body with these words ("PAGE_DATA")

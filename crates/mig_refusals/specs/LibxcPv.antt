@@ -6,7 +6,7 @@ use Rattle.std.specs.Ordering.{is_lt}
 use Rattle.mig_bytes.specs.Fields.{le32, le64}
 use Rattle.mig_headers.specs.declared.fault.Cause.{Cause}
 use Rattle.mig_headers.specs.declared.fault.Cause.TheVariants as causes
-use Rattle.mig_pagetypes.specs.Limits.{pfn_limit, most_frames}
+use Rattle.mig_pagetypes.specs.Limits.{most_frames}
 use Rattle.mig_pagetypes.specs.PageTypes.{level_of}
 use Rattle.mig_pagetypes.specs.declared.page_type.PageType.{PageType}
 use Rattle.mig_pagetypes.specs.declared.page_type.PageType.TheVariants.{Notab, L4Tab, L4Pinned}
@@ -40,7 +40,6 @@ pub data InfoHas (body : List ℕ) : ℕ → Cause → Type 0 where
 pub data P2mHas (body : List ℕ) : ℕ → Cause → Type 0 where
   bad_length : le32 body 0 ≤ le32 body 4 → (length body ≡ 8 + 8 * p2m_count (le32 body 0) (le32 body 4) → ⊥) → P2mHas body 0 (causes.BadLength (length body))
   late_start : (le32 body 0 ≡ 0 → ⊥) → P2mHas body 0 (causes.P2mStart (le32 body 0))
-  far_end : pfn_limit ≤ le32 body 4 → P2mHas body 0 (causes.P2mRange (le32 body 4))
 
 -- the body of a vCPU's record that sets parts of this code: its id, and a context where one follows ("X86_PV_VCPU_BASIC" to "X86_PV_VCPU_XSAVE", "X86_PV_VCPU_MSRS")
 pub data VcpuHas (code : PartCode) (body : List ℕ) : ℕ → Cause → Type 0 where

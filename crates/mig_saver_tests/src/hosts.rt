@@ -1,7 +1,13 @@
+ghost use Rattle.std.specs.Prelude.{◌≤◌, IfOk};
+ghost use Rattle.mig_guest.specs.Hosts.{most_saved_width};
+
 use mig_bytes::MemSource;
 use mig_image::{Host, read_host};
 use std::alloc::Global;
 use std::test::Fail;
+
+// The greatest width of a host that is read.
+const WIDEST: u64 = 1 << 28;
 
 // The image of a PV host with the width 16, whose frames 1 to 9 have the machine frames 5000 (0x1388) to 5008, in pieces:
 // bytes, or bytes and how often they stand there. Frame 2 is a P2M frame, 4 a table of level 1, and so on up to 7, the root;
@@ -75,16 +81,20 @@ fn append_frames(bytes: &mut Vec<u8>, count: u32) -> Result<(), Fail> {
 }
 
 // The host of an image.
-fn host_in(alloc: Global, image: Vec<u8>) -> Result<Host, Fail> {
+fn host_in(alloc: Global, image: Vec<u8>) -> Result<Host, Fail>
+    ensures narrow { IfOk result (λ host. host.host.width ≤ most_saved_width) }
+{
     let mut src = MemSource::new(image, Vec::new(alloc), Vec::new(alloc));
-    match read_host(alloc, &mut src) {
+    match read_host(alloc, &mut src, WIDEST) {
         Ok(host) => Ok(host),
         Err(_) => Err("the image isn't read".into()),
     }
 }
 
 // The PV host of 46368 bytes.
-pub(crate) fn worked(alloc: Global) -> Result<Host, Fail> {
+pub(crate) fn worked(alloc: Global) -> Result<Host, Fail>
+    ensures narrow { IfOk result (λ host. host.host.width ≤ most_saved_width) }
+{
     let mut image = Vec::new(alloc);
     for line in worked_text() {
         append(&mut image, alloc, line)?;
@@ -93,7 +103,9 @@ pub(crate) fn worked(alloc: Global) -> Result<Host, Fail> {
 }
 
 // An HVM host of 2048 frames.
-pub(crate) fn wide(alloc: Global) -> Result<Host, Fail> {
+pub(crate) fn wide(alloc: Global) -> Result<Host, Fail>
+    ensures narrow { IfOk result (λ host. host.host.width ≤ most_saved_width) }
+{
     let mut image = Vec::new(alloc);
     let (before, behind) = wide_text();
     append(&mut image, alloc, before)?;

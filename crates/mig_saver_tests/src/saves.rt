@@ -1,4 +1,5 @@
-ghost use Rattle.std.specs.Prelude.{◌≡◌, false, IfOk};
+ghost use Rattle.std.specs.Prelude.{◌≡◌, ◌≤◌, false, IfOk};
+ghost use Rattle.mig_guest.specs.Hosts.{most_saved_width};
 ghost use Rattle.mig_machine.specs.MachineSeen.{is_paused, history_of};
 ghost use Rattle.mig_machine_api.specs.History.{no_history};
 
@@ -32,6 +33,7 @@ fn script(alloc: Global, dots: u32, last: &[u8]) -> Result<Script, Fail> {
 
 // A machine of which nothing was asked.
 fn started(alloc: Global, host: Host, script: Script) -> Result<ScriptMachine, Fail>
+    requires narrow { host.host.width ≤ most_saved_width }
     ensures unpaused { IfOk result (λ machine. is_paused machine ≡ false) }
     ensures history { IfOk result (λ machine. history_of machine ≡ no_history) }
 {

@@ -10,20 +10,22 @@ loop-i-init g c = record {
   counted = c.requires.none;
   ends = ends_at_none c.args.host.now.host c.requires.none;
   parts = refl;
+  width = refl;
   taken = takes_none _;
   quiet = search rules;
 }
 
 pub returns-in-Err-clause-read : goal.returns-in-Err-clause-read
 returns-in-Err-clause-read g c =
-    one_stops Frame host_frame_at _ _ _ _ _ c.loop-i.i c.args.count c.args.host.now.host c.loop-i.host.host c.in-Err.stop c.at.result (search rules) c.loop-i.invariant.read c.in-Err.ensures.read c.at.ensures
+    one_stops Frame (host_frame_at c.args.version) _ _ _ _ _ c.loop-i.i c.args.count c.args.host.now.host c.loop-i.host.host c.in-Err.stop c.at.result (search rules) c.loop-i.invariant.read c.in-Err.ensures.read c.at.ensures
 
 pub loop-i-preserved : goal.loop-i-preserved
 loop-i-preserved g c = record {
-  read = one_more Frame host_frame_at _ _ _ c.loop-i.i c.args.host.now.host c.loop-i.host.host c.read_frame.new.host.host _ c.loop-i.invariant.read (told _ _ _ _ tt (known _ _ _ _ _ c.in-Ok.ensures.read));
+  read = one_more Frame (host_frame_at c.args.version) _ _ _ c.loop-i.i c.args.host.now.host c.loop-i.host.host c.read_frame.new.host.host _ c.loop-i.invariant.read (told _ _ _ _ tt (known _ _ _ _ _ c.in-Ok.ensures.read));
   ends = c.in-Ok.ensures.ends;
   counted = c.in-Ok.ensures.counted ∙ ap (λ n. n + 1) c.loop-i.invariant.counted;
   parts = c.in-Ok.ensures.parts ∙ c.loop-i.invariant.parts;
+  width = c.in-Ok.ensures.width ∙ c.loop-i.invariant.width;
   taken = takes_more _ _ _ c.loop-i.invariant.taken c.in-Ok.ensures.taken;
   quiet = search rules;
 }
@@ -31,4 +33,4 @@ loop-i-preserved g c = record {
 pub returns-clause-read : goal.returns-clause-read
 returns-clause-read g c =
     let all : c.loop-i.i ≡ c.args.count = search rules in
-    told _ _ (frames_at c.args.count c.args.host.now.host) c.loop-i.host.host tt (subst (λ n. Gives {X = HostOf} (λ v h. v ≡ h) (g.S.Source.left c.args.src.now) (g.S.Source.left c.loop-i.src) (frames_at n c.args.host.now.host) (Ok c.loop-i.host.host)) all c.loop-i.invariant.read)
+    told _ _ (frames_at c.args.version c.args.count c.args.host.now.host) c.loop-i.host.host tt (subst (λ n. Gives {X = HostOf} (λ v h. v ≡ h) (g.S.Source.left c.args.src.now) (g.S.Source.left c.loop-i.src) (frames_at c.args.version n c.args.host.now.host) (Ok c.loop-i.host.host)) all c.loop-i.invariant.read)

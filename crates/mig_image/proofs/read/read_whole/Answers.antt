@@ -12,12 +12,12 @@ behind head = behind_head head.0 head.1
 
 pub returns-in-Err-clause-read : goal.returns-in-Err-clause-read
 unfolding host_at
-returns-in-Err-clause-read g c = placed_ends _ IsHost Head host_head_at behind _ _ c.in-Err.stop c.at.result c.at.ensures c.in-Err.ensures.read
+returns-in-Err-clause-read g c = placed_ends _ IsHost Head (host_head_at c.args.widest) behind _ _ c.in-Err.stop c.at.result c.at.ensures c.in-Err.ensures.read
 
 pub returns-clause-read : goal.returns-clause-read
 unfolding host_at
 returns-clause-read g c =
-    placed_then _ IsHost Head host_head_at behind _ _ _ _ c.read_behind.result c.in-Ok.ensures.read
+    placed_then _ IsHost Head (host_head_at c.args.widest) behind _ _ _ _ c.read_behind.result c.in-Ok.ensures.read
     (λ head is. subst (λ (h : List ℕ). Gives IsHost (g.S.Source.left c.read_head.new.src) (g.S.Source.left c.read_behind.new.src) (behind_head h) c.read_behind.result) (sym is) c.read_behind.ensures.read)
 
 pub returns-clause-taken : goal.returns-clause-taken

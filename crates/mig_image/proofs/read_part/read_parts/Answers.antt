@@ -1,4 +1,4 @@
-use Rattle.mig_image.proofs.Common.{◌≡◌, subst, rules, refl, Ok, Gives, takes_none, takes_more, told, one_more, one_stops, Part, HostOf, part_at, host_parts_at}
+use Rattle.mig_image.proofs.Common.{◌≡◌, ◌∙◌, subst, rules, refl, Ok, Gives, takes_none, takes_more, told, one_more, one_stops, Part, HostOf, part_at, host_parts_at}
 use Rattle.mig_bytes.proofs.Steps.{begins}
 use Rattle.mig_image.proofs.Parts.{counts_none}
 use Rattle.mig_image.proofs.read_part.read_parts.Goals as goal
@@ -7,6 +7,7 @@ pub loop-i-init : goal.loop-i-init
 loop-i-init g c = record {
   read = begins (λ (v h : HostOf). v ≡ h) _ c.args.host.now.host c.args.host.now.host _ refl;
   counted = counts_none _ _ c.requires refl refl;
+  width = refl;
   taken = takes_none _;
   quiet = search rules;
 }
@@ -19,6 +20,7 @@ pub loop-i-preserved : goal.loop-i-preserved
 loop-i-preserved g c = record {
   read = one_more Part part_at _ _ _ c.loop-i.i c.args.host.now.host c.loop-i.host.host c.read_part.new.host.host _ c.loop-i.invariant.read c.in_default.ensures.read;
   counted = c.in_default.ensures.counted;
+  width = c.in_default.ensures.width ∙ c.loop-i.invariant.width;
   taken = takes_more _ _ _ c.loop-i.invariant.taken c.in_default.ensures.taken;
   quiet = search rules;
 }

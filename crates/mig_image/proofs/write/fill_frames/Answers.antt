@@ -1,4 +1,4 @@
-use Rattle.mig_image.proofs.Common.{ℕ, ◌++◌, sym, ap, ◌∙◌, arith, option_copied, HostFrame, entries_from, frame_text}
+use Rattle.mig_image.proofs.Common.{ℕ, ◌++◌, sym, ap, ◌∙◌, arith, option_copied, HostFrame, entries_from, frame_text, Two}
 use Rattle.std.specs.FinMap as maps
 use Rattle.mig_image.proofs.Writers.{drop_next, ended_early, flat_next}
 use Rattle.mig_image.proofs.write.fill_frames.Goals as goal
@@ -18,7 +18,7 @@ loop-i-preserved c =
     let here = sym c.loop-i.invariant.at ∙ c.in-Some.ensures.next in
     record {
       at = sym (drop_next c.loop-i.i all _ e here);
-      bytes = c.put_frame-used.ensures.bytes ∙ ap (λ l. l ++ frame_text e) c.loop-i.invariant.bytes ∙ sym (flat_next frame_text all c.loop-i.i e _ here);
+      bytes = c.put_frame-used.ensures.bytes ∙ ap (λ l. l ++ frame_text Two e) c.loop-i.invariant.bytes ∙ sym (flat_next (frame_text Two) all c.loop-i.i e _ here);
       few = omega arith;
       room = c.put_frame-used.ensures.room ∙ c.loop-i.invariant.room;
     }

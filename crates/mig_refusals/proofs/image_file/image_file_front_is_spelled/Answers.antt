@@ -4,6 +4,6 @@ use Rattle.mig_refusals.proofs.image_file.image_file_front_is_spelled.Goals as g
 
 pub returns : goal.returns
 returns c = record {
-  frames = λ front count n h bytes to. frames_spelled front count n h (recursion_from_All (λ b. b < 256) front bytes) to;
-  parts = λ front count n h bytes to. parts_spelled front count n h (recursion_from_All (λ b. b < 256) front bytes) to;
+  frames = λ widest version front count n h few bytes to. frames_spelled widest few version front count n h (recursion_from_All (λ b. b < 256) front bytes) to;
+  parts = λ widest front count n h few bytes to. parts_spelled widest few front count n h (recursion_from_All (λ b. b < 256) front bytes) to;
 }

@@ -1,0 +1,214 @@
+ghost use Rattle.std.specs.Prelude.{◌≡◌, ◌<◌, ◌+◌, ◌^◌, OnOk, IfOk, IsErrOf, length, Some, None, true};
+ghost use Rattle.std.specs.FinMap as maps;
+ghost use Rattle.mig_bytes.specs.Bytes.{TakesBytes};
+ghost use Rattle.mig_bytes.specs.Faults.{RisesOnReadFault};
+ghost use Rattle.mig_bytes.specs.Judged.{Gives};
+ghost use Rattle.mig_bytes.specs.declared.part.Stop.TheVariants.{Memory};
+ghost use Rattle.mig_pagetypes.specs.Limits.{most_frames};
+ghost use Rattle.mig_pagetypes.specs.PageTypes.{type_has_data};
+ghost use Rattle.mig_guest.specs.Frames.{is_type_of};
+ghost use Rattle.mig_image.specs.FrameEnds.{EndsAt};
+ghost use Rattle.mig_image.specs.Image.{page_left_out};
+ghost use Rattle.mig_image.specs.ImageParts.{fault_of_frame, fault_of_sent, frame_head_at, sent_page_at, host_page_at, host_frame_at, head_pfn, head_type, head_type_number, has_zero_flag, has_reserved};
+
+use crate::version::ImageVersion;
+use crate::zeros::{is_all_zero, zero_page};
+use mig_bytes::{Source, Stop, take_part, u64_le};
+use mig_headers::{ImageCause, Kind};
+use mig_host::{Host, MACHINE_LIMIT};
+use mig_pagetypes::PageType;
+
+/// The number of the type in a frame's head.
+fn type_number_of(version: ImageVersion, head: &[u8; 16]) -> u64
+    ensures { result ≡ head_type_number version head.now }
+{
+    let word = u64_le(head, 0);
+    match version {
+        ImageVersion::One => word / (1 << 28) % 16,
+        ImageVersion::Two => word / (1 << 60) % 16,
+    }
+}
+
+/// The type in a frame's head; a reserved one is as if it were no frame's.
+fn kind_of(version: ImageVersion, head: &[u8; 16]) -> PageType
+    ensures { result ≡ head_type version head.now }
+{
+    PageType::from_nibble(type_number_of(version, head) as u8).unwrap_or(PageType::Xtab)
+}
+
+/// The frame number in a frame's head.
+fn pfn_of(version: ImageVersion, head: &[u8; 16]) -> u64
+    ensures value { result ≡ head_pfn version head.now }
+    ensures small { result < 2 ^ 52 }
+{
+    let word = u64_le(head, 0);
+    match version {
+        ImageVersion::One => word % (1 << 28),
+        ImageVersion::Two => word % (1 << 52),
+    }
+}
+
+/// Whether a frame's head says that the page is all zero, and doesn't stand behind it.
+fn has_zero_flag(version: ImageVersion, head: &[u8; 16]) -> bool
+    ensures { result ≡ has_zero_flag version head.now }
+{
+    version == ImageVersion::Two && u64_le(head, 0) / (1 << 52) % 2 == 1
+}
+
+/// Whether bits are set in a frame's head that have to be 0.
+fn has_reserved(version: ImageVersion, head: &[u8; 16]) -> bool
+    ensures { result ≡ has_reserved version head.now }
+{
+    let word = u64_le(head, 0);
+    match version {
+        ImageVersion::One => word / (1 << 32) != 0,
+        ImageVersion::Two => {
+            word / (1 << 53) % (1 << 7) != 0
+                || (has_zero_flag(version, head) && type_number_of(version, head) >= 13)
+        }
+    }
+}
+
+/// Whether guests of this kind have frames of this type.
+fn is_type_of(kind: Kind, this: PageType) -> bool
+    ensures { result ≡ is_type_of kind this }
+{
+    match kind {
+        Kind::Pv => this != PageType::Xtab,
+        Kind::Hvm => matches!(this, PageType::Notab | PageType::Broken | PageType::Xalloc),
+    }
+}
+
+/// What is wrong with the head of a frame behind those of the host, which end at `next`.
+fn frame_fault(version: ImageVersion, host: &Host, next: u64, head: &[u8; 16]) -> Option<ImageCause>
+    requires { EndsAt host.now.host next }
+    ensures { result ≡ fault_of_frame version host.now.host head.now }
+{
+    let pfn = pfn_of(version, head);
+    let machine = u64_le(head, 8);
+    if has_reserved(version, head) {
+        return Some(ImageCause::Reserved);
+    }
+    if !is_type_of(host.kind(), kind_of(version, head)) {
+        return Some(ImageCause::BadPageType(type_number_of(version, head)));
+    }
+    if pfn < next {
+        return Some(ImageCause::FrameOrder(pfn));
+    }
+    if pfn >= host.width() {
+        return Some(ImageCause::FrameOutside(pfn));
+    }
+    if machine == 0 || machine >= MACHINE_LIMIT {
+        return Some(ImageCause::MachineFrame(machine));
+    }
+    if host.uses_machine(machine) {
+        return Some(ImageCause::MachineTwice(machine));
+    }
+    None
+}
+
+/// Takes the head of a frame that stands behind those of the host, which end at `next`.
+fn read_frame_head<S: Source>(
+    src: &mut S,
+    version: ImageVersion,
+    host: &Host,
+    next: u64,
+) -> Result<[u8; 16], Stop<ImageCause>>
+    requires { EndsAt host.now.host next }
+    ensures read { Gives (λ v head. head ≡ v) (S.left src.old) (S.left src.new) (frame_head_at version host.now.host) result }
+    ensures fine { IfOk result (λ head. fault_of_frame version host.now.host head ≡ None) }
+    ensures taken { OnOk result (TakesBytes (S.left src.old) (S.left src.new)) }
+    ensures faults { RisesOnReadFault (S.faults src.old) (S.faults src.new) result }
+    ensures takes_no_memory { ¬ IsErrOf result Memory }
+{
+    let mut head = [0; 16];
+    take_part(src, &mut head, ImageCause::Truncated)?;
+    match frame_fault(version, host, next, &head) {
+        Some(cause) => Err(Stop::Refused(cause)),
+        None => Ok(head),
+    }
+}
+
+/// What is wrong with the page of this frame number, which stands behind its head.
+fn sent_fault(version: ImageVersion, pfn: u64, page: &[u8; 4096]) -> Option<ImageCause>
+    ensures { result ≡ fault_of_sent version pfn page.now }
+{
+    if version == ImageVersion::Two && is_all_zero(page) {
+        return Some(ImageCause::ZeroPage(pfn));
+    }
+    None
+}
+
+/// Takes a page that stands behind its head.
+fn read_sent_page<S: Source>(
+    src: &mut S,
+    version: ImageVersion,
+    pfn: u64,
+    page: &mut [u8; 4096],
+) -> Result<(), Stop<ImageCause>>
+    ensures read { Gives (λ _ sent. sent ≡ page.new) (S.left src.old) (S.left src.new) (sent_page_at version pfn) result }
+    ensures taken { OnOk result (TakesBytes (S.left src.old) (S.left src.new)) }
+    ensures faults { RisesOnReadFault (S.faults src.old) (S.faults src.new) result }
+    ensures takes_no_memory { ¬ IsErrOf result Memory }
+{
+    take_part(src, page, ImageCause::Truncated)?;
+    match sent_fault(version, pfn, page) {
+        Some(cause) => Err(Stop::Refused(cause)),
+        None => Ok(()),
+    }
+}
+
+/// Takes the page of a frame whose type has data; one that is left out stays all zero.
+fn read_page<S: Source>(
+    src: &mut S,
+    version: ImageVersion,
+    head: &[u8; 16],
+    page: &mut [u8; 4096],
+) -> Result<(), Stop<ImageCause>>
+    requires some { type_has_data (head_type version head.now) ≡ true }
+    requires zero { page.old ≡ page_left_out }
+    ensures read { Gives (λ _ found. found ≡ Some page.new) (S.left src.old) (S.left src.new) (host_page_at version head.now) result }
+    ensures taken { OnOk result (TakesBytes (S.left src.old) (S.left src.new)) }
+    ensures faults { RisesOnReadFault (S.faults src.old) (S.faults src.new) result }
+    ensures takes_no_memory { ¬ IsErrOf result Memory }
+{
+    if has_zero_flag(version, head) {
+        return Ok(());
+    }
+    read_sent_page(src, version, pfn_of(version, head), page)
+}
+
+/// Takes a frame that stands behind those of the host, which end at `next`, and keeps it. Answers where they end now.
+#[tactic(auto, using(crate::proofs::Readers::frames_more, crate::proofs::Readers::is_absent))]
+pub(crate) fn read_frame<S: Source>(
+    src: &mut S,
+    version: ImageVersion,
+    host: &mut Host,
+    next: u64,
+) -> Result<u64, Stop<ImageCause>>
+    requires ends { EndsAt host.old.host next }
+    requires few { length (maps.entries host.old.host.frames) < most_frames }
+    ensures read { Gives (λ _ h. host.new.host ≡ h) (S.left src.old) (S.left src.new) (host_frame_at version host.old.host) result }
+    ensures ends { IfOk result (λ behind. EndsAt host.new.host behind) }
+    ensures counted { OnOk result (length (maps.entries host.new.host.frames) ≡ length (maps.entries host.old.host.frames) + 1) }
+    ensures width { OnOk result (host.new.host.width ≡ host.old.host.width) }
+    ensures parts { OnOk result (host.new.host.parts ≡ host.old.host.parts) }
+    ensures taken { OnOk result (TakesBytes (S.left src.old) (S.left src.new)) }
+    ensures faults { RisesOnReadFault (S.faults src.old) (S.faults src.new) result }
+{
+    let head = read_frame_head(src, version, host, next)?;
+    let kind = kind_of(version, &head);
+    let (pfn, machine) = (pfn_of(version, &head), u64_le(&head, 8));
+    if !kind.has_data() {
+        return match host.add_frame(pfn, kind, machine, None) {
+            Ok(()) => Ok(pfn + 1),
+            Err(_) => Err(Stop::Memory),
+        };
+    }
+    let mut page = zero_page();
+    read_page(src, version, &head, &mut page)?;
+    match host.add_frame(pfn, kind, machine, Some(&page)) {
+        Ok(()) => Ok(pfn + 1),
+        Err(_) => Err(Stop::Memory),
+    }
+}
