@@ -1,0 +1,9 @@
+pub mod HostFrames
+pub mod Reaching
+pub mod OneAnswer
+pub mod Steps
+pub mod SomeAnswer
+pub mod Standings
+pub mod Laws
+pub mod Commuting
+pub mod AddressBits
