@@ -29,13 +29,12 @@ STREAM = {
     13: Advice('BadLength', 'a length that this record cannot have', COPY),
     14: Advice('NoPages', 'a PAGE_DATA without frames', 'tell those whose program made the stream'),
     15: Advice('BadPageType', 'a page type that does not exist', COPY),
-    16: Advice('PfnOutside', 'a frame number that is too great', 'guests above 1 TiB are not taken; else ' + COPY),
+    16: Advice('PfnOutside', 'a frame number above the last one of the guest', COPY),
     17: Advice('Superpage', 'a page table with a large page in it', DAMAGED),
     18: Advice('EntryOutside', 'a page table that names a frame outside the guest', DAMAGED),
     19: Advice('Pv32', 'a PV guest of 32 bits', NOT_TAKEN),
     20: Advice('BadPvInfo', 'a PV guest of another width or number of table levels', 'not taken, or damaged: ' + COPY),
     21: Advice('P2mStart', 'a list of P2M frames that does not begin at 0', DAMAGED),
-    22: Advice('P2mRange', 'a PV guest above 1 TiB', NOT_TAKEN),
     23: Advice('VcpuId', 'a vCPU of number 4096 or more', COPY),
     24: Advice('GdtEnts', 'a vCPU whose GDT is too long', COPY),
     25: Advice('BadContext', 'the context of the guest is damaged', DAMAGED),
@@ -96,6 +95,7 @@ IMAGE = {
     15: Advice('PartLength', 'a length that this part cannot have', AGAIN),
     16: Advice('PartBytes', "the device model's store is not in its canonical form", AGAIN),
     17: Advice('PartPadding', 'padding that is not zero', AGAIN),
+    18: Advice('ZeroPage', 'a page of zeros that should have been left out', AGAIN),
 }
 
 SCRIPT = {
@@ -113,12 +113,26 @@ PAUSE = {
     7: Advice('BadContext', 'the context of the guest is damaged', MEND),
 }
 
-# The parts of a live save's input, by the first word of a place; all others are those of its image.
+# Why a host in an image isn't taken, where no script runs on it.
+HOST = {number: said._replace(do=AGAIN) for number, said in PAUSE.items()}
+
+WALK = {
+    1: Advice('NoVcpu', 'the guest has no such vCPU, or is an HVM guest', 'name a vCPU that the guest has; HVM guests have none here'),
+    2: Advice('NotCanonical', 'bits 63 to 47 of the address are not all equal', 'look whether the address was copied whole'),
+    3: Advice('Absent', 'no entry is present there, or the slot is the hypervisor\'s', 'the guest has mapped nothing at this address'),
+    4: Advice('NotTable', 'the frame named there is no table of this level', 'linear tables are not followed'),
+}
+
+# The parts of a live save's input, and of what a walk is refused for, by the first word of a place; all others are those of
+# an image or of a stream.
 OF_SAVE = {'Script': SCRIPT, 'Pause': PAUSE}
+OF_WALK = {'Host': HOST, 'Walk': WALK}
 
 
 def of_refusal(command, place, number):
     """The advice for a cause of this number, at this place of what a command was given; None where there is none."""
     if command == 'save':
         return OF_SAVE.get(place.split()[0], IMAGE).get(number)
+    if command in ('walk', 'walkimage'):
+        return OF_WALK.get(place.split()[0], IMAGE if command == 'walkimage' else STREAM).get(number)
     return (LEGACY if command == 'convert' else STREAM).get(number)

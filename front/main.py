@@ -1,6 +1,7 @@
 """The words of `mig`, and which verb does what."""
 import argparse
 import os
+import re
 import signal
 import subprocess
 import sys
@@ -12,7 +13,7 @@ STATUSES = """\
 exit status:
   0    each file was accepted; `compare`: the same guest state
   1    a file was refused, is no save, or isn't judged; `compare`: another guest state; `save`: the image, the script or
-       the paused host was refused
+       the paused host was refused; `walk`: the address means no frame
   2    the words make no command, OUT is there already, or it is a terminal
   3    a file couldn't be read
   4    OUT couldn't be written
@@ -48,12 +49,25 @@ the stream is read again, and its guest is restored. No file is read or written;
 memory."""
 
 
+WALK = """\
+IN is a save, as `mig check` takes it, or a guest image, as `mig restore` writes it. Of a save the frame is named by its number
+(PFN), of an image by its machine frame. VCPU is a number from 0 to 4095, ADDRESS one to base 16, with or without 0x. HVM guests
+have no vCPU whose page tables a save tells."""
+
+
 def number(least, most=None):
     def parse(text):
         if not (text.isascii() and text.isdecimal()) or int(text) < least or most is not None and int(text) > most:
             raise argparse.ArgumentTypeError('a number from %d %s is wanted' % (least, 'on' if most is None else 'to %d' % most))
         return int(text)
     return parse
+
+
+def address(text):
+    digits = text[2:] if text[:2] in ('0x', '0X') else text
+    if not re.fullmatch('[0-9A-Fa-f]+', digits) or int(digits, 16) >= 1 << 64:
+        raise argparse.ArgumentTypeError('an address of 64 bits to base 16 is wanted')
+    return int(digits, 16)
 
 
 class Version(argparse.Action):
@@ -135,6 +149,11 @@ def exercise(words):
     return run(words)
 
 
+def walk(words):
+    from front.walk import walk as run
+    return run(words)
+
+
 def parser():
     words = argparse.ArgumentParser(prog='mig', description='Checks, normalises, converts, restores and compares saves '
                                     'of Xen guests, by the proved program mig_tool.',
@@ -170,6 +189,11 @@ def parser():
     own.add_argument('seed', metavar='SEED', nargs='?', type=number(0, (1 << 64) - 1), default=1, help='a number of 64 bits (1)')
     own.add_argument('frames', metavar='FRAMES', nargs='?', type=number(8, 65536), default=600, help='from 8 to 65536 (600)')
     own.set_defaults(run=exercise)
+    way = verb(verbs, 'walk', 'say which frame an address means to a vCPU', WALK)
+    way.add_argument('input', metavar='IN')
+    way.add_argument('vcpu', metavar='VCPU', type=number(0, 4095))
+    way.add_argument('address', metavar='ADDRESS', type=address)
+    way.set_defaults(run=walk)
     return words
 
 

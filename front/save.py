@@ -58,10 +58,10 @@ class Feeder(threading.Thread):
 
 def pass_image(take):
     """Takes each part of an image once, whatever it holds: a head says how much follows it."""
-    frames, = struct.unpack('<24xQ', take(places.FILE_HEAD))
+    name, frames = struct.unpack('<8s16xQ', take(places.FILE_HEAD))
     for _ in range(frames):
-        word, = struct.unpack('<I12x', take(places.PART_HEAD))
-        if word >> 28 in places.WITH_A_PAGE:
+        word, = struct.unpack('<Q8x', take(places.PART_HEAD))
+        if places.is_page_sent(word, name == forms.IMAGE_MAGICS[1]):
             take(places.PAGE)
     parts, = struct.unpack('<Q', take(8))
     for _ in range(parts):

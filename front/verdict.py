@@ -80,7 +80,7 @@ def without_program(name, form):
         return Verdict(name, REFUSED, program.REFUSED, 'refused: ' + form.why, form.words, means='no stream was reached',
                        do=advice.COPY)
     if form.kind == forms.IMAGE:
-        return Verdict(name, NOT_JUDGED, program.REFUSED, 'not judged: `mig save` alone reads guest images', form.words)
+        return Verdict(name, NOT_JUDGED, program.REFUSED, 'not judged: `mig save` and `mig walk` alone read guest images', form.words)
     return None
 
 
@@ -89,7 +89,7 @@ def of_answer(name, source, form, command, answer):
     words = ', '.join(filter(None, (source.packed, form.words))) or None
     found = Verdict(name, FAULT, answer.status, answer.line, words, form.begins, packed=source.packed)
     if answer.status == program.OK:
-        end = places.end_of(source, form) if command != 'save' else None
+        end = places.end_of(source, form) if command not in ('save', 'walkimage') else None
         follows = source.size - end if end is not None else 0
         return found._replace(result=OK, line=answer.line or 'ok', follows=follows or None)
     refusal = REFUSAL.match(answer.line)

@@ -11,9 +11,19 @@ use Rattle.mig_texts.specs.Texts.{text_of_place, text_of_cause}
 use Rattle.mig_texts.specs.UnsoundTexts.{text_of_unsound}
 use Rattle.mig_report.specs.declared.outcome.ExerciseSummary.{ExerciseSummary}
 use Rattle.mig_report.specs.declared.outcome.Refusal.{Refusal}
-use Rattle.mig_report.specs.declared.outcome.Refusal.TheVariants.{Stream, Legacy, Image, BadLine, TooLong, Pause}
+use Rattle.mig_report.specs.declared.outcome.Refusal.TheVariants.{Stream, Legacy, Image, BadLine, TooLong, Pause, Host, Walk}
 use Rattle.mig_report.specs.declared.outcome.SaveSummary.{SaveSummary}
 use Rattle.mig_report.specs.declared.outcome.Summary.{Summary}
+use Rattle.mig_report.specs.declared.outcome.WalkEnd.{WalkEnd}
+use Rattle.mig_report.specs.declared.outcome.WalkEnd.TheVariants.{NoVcpu, NotCanonical, Absent, NotTable}
+use Rattle.mig_report.specs.declared.outcome.WalkSummary.{WalkSummary}
+
+-- why an address means no frame: `NUMBER NAME`, and the vCPU's id or the level
+abbrev pub text_of_walk_end : WalkEnd → List ℕ
+text_of_walk_end (NoVcpu id) = codes "1 NoVcpu " ++ decimal id
+text_of_walk_end NotCanonical = codes "2 NotCanonical"
+text_of_walk_end (Absent level) = codes "3 Absent " ++ decimal level
+text_of_walk_end (NotTable level) = codes "4 NotTable " ++ decimal level
 
 -- `PLACE: NUMBER NAME`, and the cause's arguments
 abbrev pub refusal_text : Refusal → List ℕ
@@ -23,12 +33,14 @@ refusal_text (Image place cause) = text_of_image_place place ++ (codes ": " ++ t
 refusal_text (BadLine line) = (codes "Script " ++ decimal line) ++ codes ": 1 BadLine"
 refusal_text TooLong = codes "Script: 2 TooLong"
 refusal_text (Pause unsound) = codes "Pause: " ++ text_of_unsound unsound
+refusal_text (Host unsound) = codes "Host: " ++ text_of_unsound unsound
+refusal_text (Walk end) = codes "Walk: " ++ text_of_walk_end end
 
 abbrev pub refusal_line : Refusal → List ℕ
 refusal_line refusal = codes "refused: " ++ (refusal_text refusal ++ codes "\n")
 
 abbrev pub usage_line : List ℕ
-usage_line = codes "usage: restore [BASE] | verify | normalise | convert | save | exercise SEED FRAMES\n"
+usage_line = codes "usage: restore [BASE] | verify | normalise | convert | save | exercise SEED FRAMES | walk VCPU ADDRESS | walkimage VCPU ADDRESS\n"
 
 abbrev pub read_fault_line : List ℕ
 read_fault_line = codes "fault: read\n"
@@ -62,6 +74,10 @@ saved_line s = (codes "ok rounds " ++ decimal s.rounds) ++ ((codes " entries " +
 abbrev pub exercised_line : ExerciseSummary → List ℕ
 exercised_line s =
     (codes "ok frames " ++ decimal s.frames) ++ ((codes " rounds " ++ decimal s.rounds) ++ ((codes " entries " ++ decimal s.entries) ++ ((codes " canon " ++ decimal s.canon) ++ codes "\n")))
+
+-- `ok frame F type T`
+abbrev pub walked_line : WalkSummary → List ℕ
+walked_line s = (codes "ok frame " ++ decimal s.frame) ++ ((codes " type " ++ decimal s.kind) ++ codes "\n")
 
 -- the report got the line, and its count stands as it was; or a write failed, and it got some first bytes, but not all
 abbrev pub Reports : List ℕ → Option (List ℕ) → Option (List ℕ) → ℕ → ℕ → Type 0

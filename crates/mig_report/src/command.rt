@@ -1,5 +1,5 @@
-ghost use Rattle.std.specs.Prelude.{◌≡◌, ◌↔◌, ◌<◌, ◌^◌, ◌∷◌, [], ℕ, IfSome, IfNone, IsTrue, decimal};
-ghost use Rattle.mig_report.specs.Words.{texts_of, IsBase, IsFrameNumber, Names};
+ghost use Rattle.std.specs.Prelude.{◌≡◌, ◌↔◌, ◌<◌, ◌^◌, ◌∷◌, [], ℕ, IfSome, IfNone, IsTrue, decimal, codes, length, ◌≤◌};
+ghost use Rattle.mig_report.specs.Words.{texts_of, IsBase, IsFrameNumber, vcpu_limit, hex_value as value_of_letter, hex_behind, IsAddress, ArePlace, Names};
 ghost use Rattle.mig_report.specs.declared.command.Command.{Command};
 
 use itoa::Buffer;
@@ -14,6 +14,12 @@ const MAX_BASE: u64 = (1 << 40) - (1 << 24);
 const LEAST_FRAMES: u64 = 8;
 
 const MOST_FRAMES: u64 = 65536;
+
+/// Ids of vCPUs are below this.
+const VCPUS: u64 = 4096;
+
+/// An address has at most so many digits.
+const MOST_DIGITS: usize = 16;
 
 /// What the program is to do.
 #[derive(Clone, Copy, Debug, PartialEq, Eq)]
@@ -30,6 +36,10 @@ pub enum Command {
     Save,
     /// Save a host of so many frames live, whose contents and script follow from the seed, and say how.
     Exercise { seed: u64, frames: u64 },
+    /// Say which frame of the stream's guest an address means to a vCPU.
+    Walk { vcpu: u32, address: u64 },
+    /// Say which machine frame of the image's host an address means to a vCPU.
+    WalkImage { vcpu: u32, address: u64 },
 }
 
 /// Whether the word is this one.
@@ -125,17 +135,107 @@ fn with_base(word: &str, base: &str) -> Option<Command>
     Some(Command::Restore(base))
 }
 
-/// The command of a word, a seed and a number of frames.
-fn with_seed(word: &str, seed: &str, frames: &str) -> Option<Command>
-    ensures some { IfSome result (Names (word.now ∷ seed.now ∷ frames.now ∷ [])) }
-    ensures none { IfNone result ((command : Command) → Names (word.now ∷ seed.now ∷ frames.now ∷ []) command → ⊥) }
+/// What a letter stands for in a number to base 16.
+fn hex_value(letter: u8) -> Option<u64>
+    ensures value { result ≡ value_of_letter letter }
+    ensures small { IfSome result (λ value. value < 16) }
 {
-    if !is_word(word, "exercise") {
+    match letter {
+        b'0'..=b'9' => Some(u64::from(letter - b'0')),
+        b'a'..=b'f' => Some(u64::from(letter - b'a' + 10)),
+        _ => None,
+    }
+}
+
+/// The number that up to 16 letters spell to base 16.
+fn hex_number(letters: &[u8]) -> Option<u64>
+    requires { length letters.now ≤ 16 }
+    ensures { result ≡ hex_behind 0 letters.now }
+{
+    let mut number = 0;
+    for letter in letters {
+        number = 16 * number + hex_value(*letter)?;
+    }
+    Some(number)
+}
+
+/// The address that a word spells.
+fn address_in(word: &str) -> Option<u64>
+    ensures some { IfSome result (IsAddress word.now) }
+    ensures none { IfNone result ((address : ℕ) → IsAddress word.now address → ⊥) }
+{
+    let letters = word.as_bytes();
+    if letters.is_empty() || letters.len() > MOST_DIGITS {
         return None;
     }
+    if letters.len() > 1 && letters[0] == b'0' {
+        return None;
+    }
+    hex_number(letters)
+}
+
+/// The id of a vCPU that a word spells.
+fn vcpu_in(word: &str) -> Option<u32>
+    ensures some { IfSome result (λ id. (word.now ≡ decimal id) × (id < vcpu_limit)) }
+    ensures none { IfNone result ((id : ℕ) → word.now ≡ decimal id → id < vcpu_limit → ⊥) }
+{
+    let id = number_in(word)?;
+    if id < VCPUS { Some(id as u32) } else { None }
+}
+
+/// The vCPU's id and the address that two words spell.
+fn place_in(vcpu: &str, address: &str) -> Option<(u32, u64)>
+    ensures some { IfSome result (λ place. ArePlace vcpu.now address.now place.0 place.1) }
+    ensures none { IfNone result ((id at : ℕ) → ArePlace vcpu.now address.now id at → ⊥) }
+{
+    let vcpu = vcpu_in(vcpu)?;
+    let address = address_in(address)?;
+    Some((vcpu, address))
+}
+
+/// The exercise of a seed and a number of frames.
+fn exercise_with(seed: &str, frames: &str) -> Option<Command>
+    ensures some { IfSome result (Names (codes "exercise" ∷ seed.now ∷ frames.now ∷ [])) }
+    ensures none { IfNone result ((command : Command) → Names (codes "exercise" ∷ seed.now ∷ frames.now ∷ []) command → ⊥) }
+{
     let seed = number_in(seed)?;
     let frames = frames_in(frames)?;
     Some(Command::Exercise { seed, frames })
+}
+
+/// The walk of an address in a stream's guest.
+fn walk_with(vcpu: &str, address: &str) -> Option<Command>
+    ensures some { IfSome result (Names (codes "walk" ∷ vcpu.now ∷ address.now ∷ [])) }
+    ensures none { IfNone result ((command : Command) → Names (codes "walk" ∷ vcpu.now ∷ address.now ∷ []) command → ⊥) }
+{
+    let (vcpu, address) = place_in(vcpu, address)?;
+    Some(Command::Walk { vcpu, address })
+}
+
+/// The walk of an address in an image's host.
+fn walk_image_with(vcpu: &str, address: &str) -> Option<Command>
+    ensures some { IfSome result (Names (codes "walkimage" ∷ vcpu.now ∷ address.now ∷ [])) }
+    ensures none { IfNone result ((command : Command) → Names (codes "walkimage" ∷ vcpu.now ∷ address.now ∷ []) command → ⊥) }
+{
+    let (vcpu, address) = place_in(vcpu, address)?;
+    Some(Command::WalkImage { vcpu, address })
+}
+
+/// The command of a word and two numbers.
+fn with_two(word: &str, first: &str, second: &str) -> Option<Command>
+    ensures some { IfSome result (Names (word.now ∷ first.now ∷ second.now ∷ [])) }
+    ensures none { IfNone result ((command : Command) → Names (word.now ∷ first.now ∷ second.now ∷ []) command → ⊥) }
+{
+    if is_word(word, "exercise") {
+        return exercise_with(first, second);
+    }
+    if is_word(word, "walk") {
+        return walk_with(first, second);
+    }
+    if is_word(word, "walkimage") {
+        return walk_image_with(first, second);
+    }
+    None
 }
 
 /// The command that the words name.
@@ -146,7 +246,7 @@ pub fn command_in(words: &[String]) -> Option<Command>
     match words {
         [word] => plain(word.as_str()),
         [word, base] => with_base(word.as_str(), base.as_str()),
-        [word, seed, frames] => with_seed(word.as_str(), seed.as_str(), frames.as_str()),
+        [word, first, second] => with_two(word.as_str(), first.as_str(), second.as_str()),
         _ => None,
     }
 }

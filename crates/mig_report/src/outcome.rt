@@ -2,7 +2,7 @@ ghost use Rattle.std.specs.Prelude.{◌≡◌, ◌≤◌, ◌++◌, decimal};
 ghost use Rattle.mig_bytes.specs.Bytes.{Puts};
 ghost use Rattle.mig_bytes.specs.Faults.{HasCause};
 ghost use Rattle.mig_report.specs.Outcome.{status_of, line_of};
-ghost use Rattle.mig_report.specs.Report.{Reports, refusal_line, refusal_text, kind_name, differs_text, ok_line, saved_line, exercised_line};
+ghost use Rattle.mig_report.specs.Report.{Reports, refusal_line, refusal_text, text_of_walk_end, kind_name, differs_text, ok_line, saved_line, exercised_line, walked_line};
 ghost use Rattle.mig_report.specs.declared.outcome.Outcome.TheVariants as outcomes;
 ghost use Rattle.mig_report.specs.declared.outcome.Refusal.TheVariants as refusals;
 
@@ -29,6 +29,23 @@ pub enum Refusal {
     TooLong,
     /// A host can't be seen as a guest as it stands at the pause.
     Pause(Unsound),
+    /// A host can't be seen as a guest.
+    Host(Unsound),
+    /// An address means no frame.
+    Walk(WalkEnd),
+}
+
+/// Why an address means no frame.
+#[derive(Clone, Copy, Debug, PartialEq, Eq)]
+pub enum WalkEnd {
+    /// There is no vCPU with this id.
+    NoVcpu(u64),
+    /// Bits 63 to 47 of the address aren't all equal.
+    NotCanonical,
+    /// Its way ends at a table of this level, where the entry names nothing.
+    Absent(u64),
+    /// Its way ends at a frame that is no table of this level.
+    NotTable(u64),
 }
 
 /// What a command came to: its status, and what its line says.
@@ -75,6 +92,15 @@ pub struct ExerciseSummary {
     pub entries: u64,
     /// The bytes of the guest's canonical stream.
     pub canon: u64,
+}
+
+/// What is said of an address that means a frame.
+#[derive(Clone, Copy, Debug, PartialEq, Eq)]
+pub struct WalkSummary {
+    /// The frame: of a stream's guest its PFN, of a host its machine frame.
+    pub frame: u64,
+    /// The number of its type.
+    pub kind: u64,
 }
 
 /// The status of an outcome.
@@ -160,6 +186,37 @@ fn put_pause_refusal<R: Sink>(report: &mut R, unsound: Unsound) -> Result<(), Wr
     put_unsound(report, unsound)
 }
 
+/// Puts what is in the way of seeing a host.
+fn put_host_refusal<R: Sink>(report: &mut R, unsound: Unsound) -> Result<(), WriteFailed>
+    ensures bytes { Puts (refusal_text (refusals.Host unsound)) (R.written report.old) (R.written report.new) result }
+    ensures cause { HasCause (R.faults report.old) (R.faults report.new) result }
+{
+    put_all(report, b"Host: ")?;
+    put_unsound(report, unsound)
+}
+
+/// Puts why an address means no frame.
+fn put_walk_end<R: Sink>(report: &mut R, end: WalkEnd) -> Result<(), WriteFailed>
+    ensures bytes { Puts (text_of_walk_end end) (R.written report.old) (R.written report.new) result }
+    ensures cause { HasCause (R.faults report.old) (R.faults report.new) result }
+{
+    match end {
+        WalkEnd::NoVcpu(id) => put_field(report, b"1 NoVcpu ", id),
+        WalkEnd::NotCanonical => put_all(report, b"2 NotCanonical"),
+        WalkEnd::Absent(level) => put_field(report, b"3 Absent ", level),
+        WalkEnd::NotTable(level) => put_field(report, b"4 NotTable ", level),
+    }
+}
+
+/// Puts that an address means no frame.
+fn put_walk_refusal<R: Sink>(report: &mut R, end: WalkEnd) -> Result<(), WriteFailed>
+    ensures bytes { Puts (refusal_text (refusals.Walk end)) (R.written report.old) (R.written report.new) result }
+    ensures cause { HasCause (R.faults report.old) (R.faults report.new) result }
+{
+    put_all(report, b"Walk: ")?;
+    put_walk_end(report, end)
+}
+
 /// Puts the place and the cause of a refusal.
 fn put_place_and_cause<R: Sink>(report: &mut R, refusal: Refusal) -> Result<(), WriteFailed>
     ensures bytes { Puts (refusal_text refusal) (R.written report.old) (R.written report.new) result }
@@ -172,6 +229,8 @@ fn put_place_and_cause<R: Sink>(report: &mut R, refusal: Refusal) -> Result<(), 
         Refusal::BadLine(line) => put_bad_line(report, line),
         Refusal::TooLong => put_all(report, b"Script: 2 TooLong"),
         Refusal::Pause(unsound) => put_pause_refusal(report, unsound),
+        Refusal::Host(unsound) => put_host_refusal(report, unsound),
+        Refusal::Walk(end) => put_walk_refusal(report, end),
     }
 }
 
@@ -195,7 +254,7 @@ pub fn put_line<R: Sink>(report: &mut R, outcome: Outcome) -> Result<(), WriteFa
         Outcome::Refused(refusal) => put_refusal(report, refusal),
         Outcome::Usage => put_all(
             report,
-            b"usage: restore [BASE] | verify | normalise | convert | save | exercise SEED FRAMES\n",
+            b"usage: restore [BASE] | verify | normalise | convert | save | exercise SEED FRAMES | walk VCPU ADDRESS | walkimage VCPU ADDRESS\n",
         ),
         Outcome::ReadFault => put_all(report, b"fault: read\n"),
         Outcome::WriteFault => put_all(report, b"fault: write\n"),
@@ -269,5 +328,15 @@ pub fn put_exercised<R: Sink>(report: &mut R, summary: ExerciseSummary) -> Resul
     put_field(report, b" rounds ", summary.rounds)?;
     put_field(report, b" entries ", summary.entries)?;
     put_field(report, b" canon ", summary.canon)?;
+    put_all(report, b"\n")
+}
+
+/// Puts which frame an address means on the report.
+pub fn put_walked<R: Sink>(report: &mut R, summary: WalkSummary) -> Result<(), WriteFailed>
+    ensures bytes { Puts (walked_line summary) (R.written report.old) (R.written report.new) result }
+    ensures cause { HasCause (R.faults report.old) (R.faults report.new) result }
+{
+    put_field(report, b"ok frame ", summary.frame)?;
+    put_field(report, b" type ", summary.kind)?;
     put_all(report, b"\n")
 }

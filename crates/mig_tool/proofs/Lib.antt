@@ -1,6 +1,8 @@
 pub mod Common
 pub mod SaveInputs
+pub mod Walks
 pub mod Reporting
 pub mod Saving
 pub mod Lives
 pub mod Exercising
+pub mod Walking

@@ -1,5 +1,5 @@
 -- What the program answers, and what the line on the report comes to.
-use Rattle.mig_tool.proofs.Common.{◌⊎◌, ◌≡◌, ℕ, ◌++◌, List, length, arith, Option, Some, None, Result, Ok, Err, refl, sym, ap, subst, ◌∙◌, GuestOf, AcceptedStream, AcceptedIn, RefusedIn, Form, ImageAndScript, Legacy, Modern, NoInput, form_of, Refusal, Kind, Hvm, Pv, IsCarried, IsFew, IsBase, restored_text, Written, Done, DonePart, Comes, ComesOf, Says, SaysOf, InputRises, IsLine, summary_of, Command, Convert, Exercise, Normalise, Restore, Save, Verify, mean_kind, status_of, line_of, outcome_of}
+use Rattle.mig_tool.proofs.Common.{◌⊎◌, ◌≡◌, ℕ, ◌++◌, List, length, arith, Option, Some, None, Result, Ok, Err, refl, sym, ap, subst, ◌∙◌, GuestOf, AcceptedStream, AcceptedIn, RefusedIn, Form, ImageAndScript, ImageAt, Legacy, Modern, ModernAt, NoInput, form_of, Refusal, Kind, Hvm, Pv, IsCarried, IsFew, IsBase, restored_text, Written, Done, DonePart, Comes, ComesOf, Says, SaysOf, InputRises, IsLine, summary_of, Command, Convert, Exercise, Normalise, Restore, Save, Verify, Walk, WalkImage, mean_kind, status_of, line_of, outcome_of}
 use mathlib.Core.Logic.{inl, inr}
 use Rattle.std.specs.Io.KnownBytes.{Appends}
 use Rattle.mig_bytes.specs.Bytes.{Puts}
@@ -24,7 +24,8 @@ use Rattle.mig_report.specs.declared.outcome.Refusal.TheVariants as refusals
 use Rattle.mig_report.specs.declared.status.Status.{Status}
 use Rattle.mig_report.specs.declared.status.Status.TheVariants as statuses
 use Rattle.mig_host.specs.Hosted.{hosted, IsBaseOutside}
-use Rattle.mig_image.proofs.ImageReads.{image_reads}
+use Rattle.mig_image.proofs.ImageReads.{held, image_reads}
+use Rattle.mig_image.specs.declared.version.ImageVersion.TheVariants.{Two}
 use Rattle.mig_pvtables.specs.Whole.{IsWhole}
 use Rattle.mig_pvtables.proofs.HvmGuests.{hvm_complete}
 use Rattle.mig_pvtables.proofs.PvGuests.{pv_complete}
@@ -44,6 +45,8 @@ use Rattle.mig_script.specs.ScriptLines.{LineOf}
 use Rattle.mig_tool.specs.LiveSaves.{HasHostAndScript}
 use Rattle.mig_tool.specs.Answers.{IsSavedOrPaused}
 use Rattle.mig_tool.proofs.SaveInputs.{not_refused, paused}
+use Rattle.mig_tool.proofs.Walks.{stream_once, image_once, host_once, address_once, stream_found, host_found}
+use Rattle.mig_hosted.specs.View.{view}
 use Rattle.mig_report.specs.Report.{ok_line}
 use Rattle.mig_report.specs.Report.{Reports}
 
@@ -94,6 +97,13 @@ never_both Legacy input guest rest more (refusals.Legacy place cause) accepted r
 never_both Legacy input guest rest more _ accepted refused = refused
 never_both ImageAndScript input guest rest more refusal accepted refused = accepted
 never_both NoInput input guest rest more refusal accepted refused = accepted
+never_both (ModernAt id at) input guest rest more (refusals.Stream place cause) accepted refused = never_both_modern input guest rest place cause more accepted.accepted refused
+never_both (ModernAt id at) input guest rest more (refusals.Walk end) accepted refused = stream_once id at input guest rest more end accepted refused
+never_both (ModernAt id at) input guest rest more _ accepted refused = refused
+never_both (ImageAt id at) input guest rest more (refusals.Image place cause) accepted refused = image_once id at input guest rest more place cause accepted refused
+never_both (ImageAt id at) input guest rest more (refusals.Host unsound) accepted refused = host_once id at input guest rest more unsound accepted refused
+never_both (ImageAt id at) input guest rest more (refusals.Walk end) accepted refused = address_once id at input guest rest more end accepted refused
+never_both (ImageAt id at) input guest rest more _ accepted refused = refused
 
 -- a refused input isn't done
 done_refused : (command : Command) (input : List ℕ) (left : Option (List ℕ)) (w : Written) (refusal : Refusal) (rest : List ℕ) → Done command input left w → RefusedIn (form_of command) input refusal rest → IsOfInput refusal → ⊥
@@ -102,6 +112,8 @@ done_refused Convert input left w refusal rest h refused it = never_both Legacy 
 done_refused (Restore base) input left w refusal rest h refused it = never_both Modern input h.guest h.rest rest refusal h.accepted refused
 done_refused Verify input left w refusal rest h refused it = never_both Modern input h.guest h.rest rest refusal h.accepted refused
 done_refused (Exercise seed n) input left w refusal rest h refused it = refused
+done_refused (Walk id at) input left w refusal rest h refused it = never_both (ModernAt id at) input h.found.guest h.found.rest rest refusal (stream_found id at input left h.summary h.found) refused
+done_refused (WalkImage id at) input left w refusal rest h refused it = never_both (ImageAt id at) input (view h.found.host) h.found.rest rest refusal (host_found id at input left h.summary h.found) refused
 done_refused Save input left w refusal rest h refused it = not_refused input h.host h.lines refusal rest h.read refused it
 
 part_refused : (command : Command) (input : List ℕ) (left : Option (List ℕ)) (w : Written) (refusal : Refusal) (rest : List ℕ) → DonePart command input left w → RefusedIn (form_of command) input refusal rest → IsOfInput refusal → ⊥
@@ -110,6 +122,8 @@ part_refused Convert input left w refusal rest h refused it = never_both Legacy 
 part_refused (Restore base) input left w refusal rest h refused it = never_both Modern input h.guest h.rest rest refusal h.accepted refused
 part_refused Verify input left w refusal rest h refused it = never_both Modern input h.guest h.rest rest refusal h.accepted refused
 part_refused (Exercise seed n) input left w refusal rest h refused it = refused
+part_refused (Walk id at) input left w refusal rest h refused it = never_both (ModernAt id at) input h.found.guest h.found.rest rest refusal (stream_found id at input left h.summary h.found) refused
+part_refused (WalkImage id at) input left w refusal rest h refused it = never_both (ImageAt id at) input (view h.found.host) h.found.rest rest refusal (host_found id at input left h.summary h.found) refused
 part_refused Save input left w refusal rest (inl h) refused it = not_refused input h.host h.lines refusal rest h.read refused it
 part_refused Save input left w refusal rest (inr h) refused it = not_refused input h.host h.lines refusal rest h.read refused it
 
@@ -234,7 +248,7 @@ restored (Some input) left w reading base outcome (stream, rest, accepts, left_i
       valid = valid;
       sound = whole_sound reading.guest base carried.whole carried.blank fits;
       seen = whole_seen reading.guest base carried.whole carried.blank fits;
-      kept = λ more. image_reads (restored_text base reading.guest ++ more) (hosted reading.guest base) more (record { valid = valid; spelled = refl });
+      kept = λ widest more narrow. image_reads widest (restored_text base reading.guest ++ more) (hosted reading.guest base) more (record { image = record { version = Two; valid = valid; holds = held (hosted reading.guest base) valid; spelled = refl }; narrow = narrow });
     })
 restored (Some input) left w reading base outcome (stream, rest, accepts, left_is, is_read) carried range done part (inr (inl is)) =
     subst (Comes (Restore base) input left w) (sym is) (record { guest = reading.guest; rest = rest; accepted = accepted_front input rest stream reading accepts is_read; left_is = left_is; wrote = part is })

@@ -7,21 +7,20 @@ use Rattle.mig_headers.specs.declared.image_fault.ImageCause.{ImageCause}
 use Rattle.mig_headers.specs.declared.image_fault.ImagePlace.{ImagePlace}
 use Rattle.mig_headers.specs.declared.unsound.Unsound.{Unsound}
 use Rattle.mig_guest.specs.Hosts.{HostOf}
-use Rattle.mig_image.specs.ImageParts.{host_at}
 use Rattle.mig_script.specs.ScriptLines.{LineOf}
 use Rattle.mig_script.specs.Scripts.{IsBadLine}
 use Rattle.mig_script.proofs.OneScript.{never_both}
 use Rattle.mig_tool.specs.Answers.{IsOfInput}
 use Rattle.mig_tool.specs.Answers.Form.{ImageAndScript}
-use Rattle.mig_tool.specs.LiveSaves.{HasHostAndScript, HasUnsoundPause}
+use Rattle.mig_tool.specs.LiveSaves.{HasHostAndScript, HasUnsoundPause, saved_host_at}
 
 abbrev HostJudged : Type 0
 HostJudged = Judged (ImagePlace × ImageCause) HostOf
 
-same_text : (input : List ℕ) (g h : HostOf) (s t : List ℕ) → host_at input ≡ Passes g s → host_at input ≡ Passes h t → s ≡ t
+same_text : (input : List ℕ) (g h : HostOf) (s t : List ℕ) → saved_host_at input ≡ Passes g s → saved_host_at input ≡ Passes h t → s ≡ t
 same_text input g h s t p q = let e : ◌≡◌ {A = HostJudged} (Passes g s) (Passes h t) = sym p ∙ q in cc
 
-no_fault : (input : List ℕ) (h : HostOf) (t rest : List ℕ) (fault : ImagePlace × ImageCause) → host_at input ≡ Passes h t → host_at input ≡ Faulty fault rest → ⊥
+no_fault : (input : List ℕ) (h : HostOf) (t rest : List ℕ) (fault : ImagePlace × ImageCause) → saved_host_at input ≡ Passes h t → saved_host_at input ≡ Faulty fault rest → ⊥
 no_fault input h t rest fault p q = let e : ◌≡◌ {A = HostJudged} (Passes h t) (Faulty fault rest) = sym p ∙ q in cc
 
 pub not_refused : (input : List ℕ) (host : HostOf) (lines : List LineOf) (refusal : Refusal) (rest : List ℕ) → HasHostAndScript input host lines → RefusedIn ImageAndScript input refusal rest → IsOfInput refusal → ⊥

@@ -12,11 +12,10 @@ use Rattle.mig_bytes.specs.declared.part.Stop.TheVariants as stops
 use Rattle.mig_bytes.specs.Judged.Judged.{Passes}
 use Rattle.mig_headers.specs.declared.unsound.Unsound.{Unsound}
 use Rattle.mig_headers.specs.Headers.{image_header_of, domain_header_of}
-use Rattle.mig_guest.specs.Hosts.{HostOf}
+use Rattle.mig_guest.specs.Hosts.{HostOf, most_saved_width}
 use Rattle.mig_canon.specs.Canon.{headers}
 use Rattle.mig_host.specs.HostView.{HostAndSpare}
 use Rattle.mig_image.specs.Answer.{ReadsHost}
-use Rattle.mig_image.specs.ImageParts.{host_at}
 use Rattle.mig_unended.specs.Unread.{WroteNoStream}
 use Rattle.mig_unended.proofs.Written.{bare_headers}
 use Rattle.mig_script.specs.ScriptAnswers.{ReadsScript}
@@ -32,7 +31,7 @@ use Rattle.mig_report.specs.declared.status.Status.{Status}
 use Rattle.mig_report.specs.declared.status.Status.TheVariants as statuses
 use Rattle.mig_tool.specs.Answers.{NamesRefusal, RefusesPause, BreaksOff}
 use Rattle.mig_tool.specs.Answers.Form.{ImageAndScript}
-use Rattle.mig_tool.specs.LiveSaves.{HasHostAndScript, WroteLive}
+use Rattle.mig_tool.specs.LiveSaves.{HasHostAndScript, WroteLive, saved_host_at}
 use Rattle.mig_tool.specs.SaveSteps.{StopsAt, ReadsHostToSave, ReadsHostAndScript, stop_of_script, outcome_of_stop, ComesToNone}
 use Rattle.mig_tool.specs.declared.save.HostAndScript.{HostAndScript}
 
@@ -61,11 +60,11 @@ pub stopped_comes : (told left : Option (List ℕ)) (w : Written) (stop : Stop R
 stopped_comes None left w stop outcome h is = tt
 stopped_comes (Some input) left w stop outcome h is = subst (Comes Save input left w) (sym is) (stop_comes input left w stop h)
 
-pub host_read : (told left : Option (List ℕ)) (host : HostAndSpare) → ReadsHost told left (Ok host) → ReadsHostToSave told left (Ok host)
+pub host_read : (told left : Option (List ℕ)) (host : HostAndSpare) → ReadsHost most_saved_width told left (Ok host) → ReadsHostToSave told left (Ok host)
 host_read None left host h = tt
 host_read (Some input) left host (judged, rest, image, is, same) = (rest, image ∙ ap (λ (j : HostOf). Passes j rest) (sym same), is)
 
-bad_script : (input text : List ℕ) (left : Option (List ℕ)) (host : HostOf) (answer : ScriptAnswer) → host_at input ≡ Passes host text → ReadsScript (Some text) left (Err answer) → StopsAt input left (stop_of_script answer)
+bad_script : (input text : List ℕ) (left : Option (List ℕ)) (host : HostOf) (answer : ScriptAnswer) → saved_host_at input ≡ Passes host text → ReadsScript (Some text) left (Err answer) → StopsAt input left (stop_of_script answer)
 bad_script input text left host (scripts.BadLine line) has (is, few, bad) = ([], (record { host = host; text = text; image = has; few = few; bad = bad }, refl), tt, is)
 bad_script input text left host scripts.TooLong has (many, is) = (drop (most_script_bytes + 1) text, record { host = host; text = text; image = has; many = many; left = refl }, tt, is)
 bad_script input text left host scripts.ReadFault has h = tt

@@ -9,6 +9,7 @@ use Rattle.mig_headers.specs.declared.unsound.Unsound.{Unsound}
 use Rattle.mig_guest.specs.Guests.{GuestOf}
 use Rattle.mig_guest.specs.Hosts.{HostOf, IsValid}
 use Rattle.mig_host.specs.Hosted.{hosted}
+use Rattle.mig_image.specs.declared.version.ImageVersion.TheVariants.{Two}
 use Rattle.mig_image.specs.Image.{image}
 use Rattle.mig_image.specs.ImageParts.{host_at}
 use Rattle.mig_hosted.specs.Sound.{IsSound}
@@ -21,7 +22,7 @@ use Rattle.mig_legacy.specs.Spelled.{AcceptedLegacy}
 use Rattle.mig_legacy.specs.Stream.{IsLegacyRefused}
 use Rattle.mig_restore.specs.Mean.{differs_of}
 use Rattle.mig_report.specs.declared.command.Command.{Command}
-use Rattle.mig_report.specs.declared.command.Command.TheVariants.{Normalise, Restore, Verify, Convert, Save, Exercise}
+use Rattle.mig_report.specs.declared.command.Command.TheVariants.{Normalise, Restore, Verify, Convert, Save, Exercise, Walk, WalkImage}
 use Rattle.mig_report.specs.declared.outcome.Outcome.{Outcome}
 use Rattle.mig_report.specs.declared.outcome.Outcome.TheVariants as outcomes
 use Rattle.mig_report.specs.declared.outcome.Refusal.{Refusal}
@@ -29,23 +30,27 @@ use Rattle.mig_report.specs.declared.outcome.Refusal.TheVariants as refusals
 use Rattle.mig_report.specs.declared.outcome.ExerciseSummary.{ExerciseSummary}
 use Rattle.mig_report.specs.declared.outcome.SaveSummary.{SaveSummary}
 use Rattle.mig_report.specs.declared.outcome.Summary.{Summary}
+use Rattle.mig_report.specs.declared.outcome.WalkSummary.{WalkSummary}
 use Rattle.mig_report.specs.declared.status.Status.{Status}
 use Rattle.mig_report.specs.declared.status.Status.TheVariants as statuses
-use Rattle.mig_report.specs.Report.{Reports, refusal_line, usage_line, read_fault_line, write_fault_line, memory_line, ok_line, saved_line, exercised_line}
+use Rattle.mig_report.specs.Report.{Reports, refusal_line, usage_line, read_fault_line, write_fault_line, memory_line, ok_line, saved_line, exercised_line, walked_line}
 use Rattle.mig_script.specs.ScriptLines.{LineOf}
 use Rattle.mig_unended.specs.Unread.{WroteNoStream}
+use Rattle.mig_tool.specs.Addresses.{AddressReported, HasUnsoundHost, HostHasFrame, HostHasNone, StreamHasFrame, StreamHasNone, FrameInHost, FrameInStream, any_host_at}
 use Rattle.mig_tool.specs.Exercises.{ExerciseReported}
-use Rattle.mig_tool.specs.LiveSaves.{HasHostAndScript, HasBadLine, HasLongScript, HasUnsoundPause, WroteLive}
+use Rattle.mig_tool.specs.LiveSaves.{HasHostAndScript, HasBadLine, HasLongScript, HasUnsoundPause, WroteLive, saved_host_at}
 
 -- ---- the forms of input
 
--- a stream, bare or inside a libxl stream; a legacy stream; the image of a host, and behind it a script to the end; or none,
--- where nothing is read
+-- a stream, bare or inside a libxl stream; a legacy stream; the image of a host, and behind it a script to the end; none, where
+-- nothing is read; or a stream, or the image of a sound host and no more, in which an address means a frame to a vCPU
 pub data Form : Type 0 where
   Modern : Form
   Legacy : Form
   ImageAndScript : Form
   NoInput : Form
+  ModernAt : ℕ → ℕ → Form
+  ImageAt : ℕ → ℕ → Form
 
 -- which of them a command reads
 abbrev pub form_of : Command → Form
@@ -55,22 +60,32 @@ form_of Verify = Modern
 form_of Convert = Legacy
 form_of Save = ImageAndScript
 form_of (Exercise seed n) = NoInput
+form_of (Walk id at) = ModernAt id at
+form_of (WalkImage id at) = ImageAt id at
 
--- a front of the input is an accepted stream of this form, with this guest, and rest follows it
+-- a front of the input is an accepted stream of this form, with this guest, and rest follows it; or the image of a host that is
+-- seen as this guest
 abbrev pub AcceptedIn : Form → List ℕ → GuestOf → List ℕ → Type 0
 AcceptedIn Modern input guest rest = AcceptedStream input guest rest
 AcceptedIn Legacy input guest rest = AcceptedLegacy input guest rest
 AcceptedIn ImageAndScript input guest rest = ⊥
 AcceptedIn NoInput input guest rest = ⊥
+AcceptedIn (ModernAt id at) input guest rest = StreamHasFrame id at input guest rest
+AcceptedIn (ImageAt id at) input guest rest = HostHasFrame id at input guest rest
 
 -- the input has this refusal, and rest follows the faulty part
 abbrev pub RefusedIn : Form → List ℕ → Refusal → List ℕ → Type 0
 RefusedIn Modern input (refusals.Stream place cause) rest = IsStreamRefused input place cause rest
 RefusedIn Legacy input (refusals.Legacy place cause) rest = IsLegacyRefused input place cause rest
-RefusedIn ImageAndScript input (refusals.Image place cause) rest = host_at input ≡ Faulty (place, cause) rest
+RefusedIn ImageAndScript input (refusals.Image place cause) rest = saved_host_at input ≡ Faulty (place, cause) rest
 RefusedIn ImageAndScript input (refusals.BadLine line) rest = HasBadLine input line × (rest ≡ [])
 RefusedIn ImageAndScript input refusals.TooLong rest = HasLongScript input rest
 RefusedIn ImageAndScript input (refusals.Pause unsound) rest = HasUnsoundPause input unsound × (rest ≡ [])
+RefusedIn (ModernAt id at) input (refusals.Stream place cause) rest = IsStreamRefused input place cause rest
+RefusedIn (ModernAt id at) input (refusals.Walk end) rest = StreamHasNone id at input rest end
+RefusedIn (ImageAt id at) input (refusals.Image place cause) rest = any_host_at input ≡ Faulty (place, cause) rest
+RefusedIn (ImageAt id at) input (refusals.Host unsound) rest = HasUnsoundHost input rest unsound
+RefusedIn (ImageAt id at) input (refusals.Walk end) rest = HostHasNone id at input rest end
 RefusedIn _ input _ rest = ⊥
 
 -- the input alone decides about it; that of a pause hangs on when the pause comes too
@@ -92,12 +107,12 @@ pub record Normalised (form : Form) (input : List ℕ) (left old new : Option (L
   pub kept : (more : List ℕ) → AcceptedStream (canon_any guest ++ more) guest more
   pub alone : (other : GuestOf) → IsCarried other → (canon_any other ≡ canon_any guest) ↔ (other ≡ guest)
 
--- the image of the guest, restored with machine frames from the base on
+-- the image of the guest, of version 2, restored with machine frames from the base on
 abbrev pub restored_text : ℕ → GuestOf → List ℕ
-restored_text base guest = image (hosted guest base)
+restored_text base guest = image Two (hosted guest base)
 
 -- a front of the input is an accepted stream, the rest is left, and the image of its guest was written: that of a valid and
--- sound host that is seen as the guest, as which it is read again
+-- sound host that is seen as the guest, as which it is read again where hosts of its width are
 pub record Restored (base : ℕ) (input : List ℕ) (left old new : Option (List ℕ)) : Type 0 where
   pub guest : GuestOf
   pub rest : List ℕ
@@ -108,7 +123,7 @@ pub record Restored (base : ℕ) (input : List ℕ) (left old new : Option (List
   pub valid : IsValid (hosted guest base)
   pub sound : IsSound (hosted guest base)
   pub seen : view (hosted guest base) ≡ guest
-  pub kept : (more : List ℕ) → host_at (restored_text base guest ++ more) ≡ Passes (hosted guest base) more
+  pub kept : (widest : ℕ) (more : List ℕ) → (hosted guest base).width ≤ widest → host_at widest (restored_text base guest ++ more) ≡ Passes (hosted guest base) more
 
 -- the same, but a write failed, and of the guest's text only a part was written
 pub record PartWritten (form : Form) (text : GuestOf → List ℕ) (input : List ℕ) (left old new : Option (List ℕ)) : Type 0 where
@@ -173,6 +188,8 @@ Done Convert input left w = Normalised Legacy input left w.out_old w.out_new
 Done (Restore base) input left w = Restored base input left w.out_old w.out_new
 Done Verify input left w = Verified (Appends w.report_old w.report_new) input left
 Done (Exercise seed n) input left w = ExerciseReported (Appends w.report_old w.report_new) seed n
+Done (Walk id at) input left w = AddressReported (FrameInStream id at input left) (Appends w.report_old w.report_new)
+Done (WalkImage id at) input left w = AddressReported (FrameInHost id at input left) (Appends w.report_old w.report_new)
 Done Save input left w = LiveSaved (Appends w.report_old w.report_new) input left w.out_old w.out_new
 
 abbrev pub DonePart : Command → List ℕ → Option (List ℕ) → Written → Type 0
@@ -181,6 +198,8 @@ DonePart Normalise input left w = PartWritten Modern canon_any input left w.out_
 DonePart (Restore base) input left w = PartWritten Modern (restored_text base) input left w.out_old w.out_new
 DonePart Verify input left w = Verified (AppendsPart w.report_old w.report_new) input left
 DonePart (Exercise seed n) input left w = ExerciseReported (AppendsPart w.report_old w.report_new) seed n
+DonePart (Walk id at) input left w = AddressReported (FrameInStream id at input left) (AppendsPart w.report_old w.report_new)
+DonePart (WalkImage id at) input left w = AddressReported (FrameInHost id at input left) (AppendsPart w.report_old w.report_new)
 DonePart Save input left w = LiveBroken input left w.out_old w.out_new ⊎ LiveSaved (AppendsPart w.report_old w.report_new) input left w.out_old w.out_new
 
 abbrev pub Says : Command → List ℕ → Option (List ℕ) → Written → Status → Type 0
@@ -200,13 +219,16 @@ abbrev pub SaysOf : Command → Option (List ℕ) → Option (List ℕ) → Writ
 SaysOf command None left w status = ⊤
 SaysOf command (Some input) left w status = Says command input left w status
 
--- a write fault is one of a sink that the command writes on: `verify`, `save` and `exercise` write their line on the report
+-- a write fault is one of a sink that the command writes on: `verify`, `save`, `exercise`, `walk` and `walkimage` write their
+-- line on the report
 abbrev pub WriteRose : Command → ℕ → ℕ → ℕ → ℕ → Type 0
 WriteRose Verify out out_now report report_now = Rose report report_now
 WriteRose Normalise out out_now report report_now = Rose out out_now
 WriteRose Convert out out_now report report_now = Rose out out_now
 WriteRose (Restore base) out out_now report report_now = Rose out out_now
 WriteRose (Exercise seed n) out out_now report report_now = Rose report report_now
+WriteRose (Walk id at) out out_now report report_now = Rose report report_now
+WriteRose (WalkImage id at) out out_now report report_now = Rose report report_now
 WriteRose Save out out_now report report_now = Rose out out_now ⊎ Rose report report_now
 
 -- the count of the input rises with a read fault, and with every other status it stands as it was
@@ -258,7 +280,7 @@ IsLine form told statuses.ReadFault line = line ≡ read_fault_line
 IsLine form told statuses.WriteFault line = line ≡ write_fault_line
 IsLine form told statuses.Memory line = line ≡ memory_line
 
--- a command may have put a line of its own, or a part of it: `verify`, `save` and `exercise` do
+-- a command may have put a line of its own, or a part of it: `verify`, `save`, `exercise`, `walk` and `walkimage` do
 abbrev pub HasOwnLine : Command → Status → Type 0
 HasOwnLine Normalise status = ⊥
 HasOwnLine Convert status = ⊥
@@ -269,6 +291,12 @@ HasOwnLine Verify status = ⊥
 HasOwnLine (Exercise seed n) statuses.Done = ⊤
 HasOwnLine (Exercise seed n) statuses.WriteFault = ⊤
 HasOwnLine (Exercise seed n) status = ⊥
+HasOwnLine (Walk id at) statuses.Done = ⊤
+HasOwnLine (Walk id at) statuses.WriteFault = ⊤
+HasOwnLine (Walk id at) status = ⊥
+HasOwnLine (WalkImage id at) statuses.Done = ⊤
+HasOwnLine (WalkImage id at) statuses.WriteFault = ⊤
+HasOwnLine (WalkImage id at) status = ⊥
 HasOwnLine Save statuses.Done = ⊤
 HasOwnLine Save statuses.WriteFault = ⊤
 HasOwnLine Save status = ⊥
@@ -277,8 +305,8 @@ HasOwnLine Save status = ⊥
 abbrev pub PutsSome : List ℕ → Option (List ℕ) → Option (List ℕ) → Type 0
 PutsSome line old new = Appends old new line ⊎ AppendsPart old new line
 
--- which line that is: that of some stream, some save or some exercise, whole with status 0, and a part of it with status 4; of a save whose
--- stream wasn't written, that a write failed
+-- which line that is: that of some stream, some save, some exercise or some frame, whole with status 0, and a part of it with
+-- status 4; of a save whose stream wasn't written, that a write failed
 abbrev pub PutsOwnLine : Command → Option (List ℕ) → Option (List ℕ) → Status → Type 0
 PutsOwnLine Normalise old new status = ⊤
 PutsOwnLine Convert old new status = ⊤
@@ -289,6 +317,12 @@ PutsOwnLine Verify old new status = ⊤
 PutsOwnLine (Exercise seed n) old new statuses.Done = (s : ExerciseSummary) × Appends old new (exercised_line s)
 PutsOwnLine (Exercise seed n) old new statuses.WriteFault = (s : ExerciseSummary) × AppendsPart old new (exercised_line s)
 PutsOwnLine (Exercise seed n) old new status = ⊤
+PutsOwnLine (Walk id at) old new statuses.Done = (s : WalkSummary) × Appends old new (walked_line s)
+PutsOwnLine (Walk id at) old new statuses.WriteFault = (s : WalkSummary) × AppendsPart old new (walked_line s)
+PutsOwnLine (Walk id at) old new status = ⊤
+PutsOwnLine (WalkImage id at) old new statuses.Done = (s : WalkSummary) × Appends old new (walked_line s)
+PutsOwnLine (WalkImage id at) old new statuses.WriteFault = (s : WalkSummary) × AppendsPart old new (walked_line s)
+PutsOwnLine (WalkImage id at) old new status = ⊤
 PutsOwnLine Save old new statuses.Done = (s : SaveSummary) × Appends old new (saved_line s)
 PutsOwnLine Save old new statuses.WriteFault = ((s : SaveSummary) × AppendsPart old new (saved_line s)) ⊎ PutsSome write_fault_line old new
 PutsOwnLine Save old new status = ⊤
@@ -301,6 +335,8 @@ LeavesOut (Restore base) = ⊥
 LeavesOut Verify = ⊤
 LeavesOut Save = ⊥
 LeavesOut (Exercise seed n) = ⊤
+LeavesOut (Walk id at) = ⊤
+LeavesOut (WalkImage id at) = ⊤
 
 -- ---- the same of an outcome, which has the refusal
 

@@ -1,7 +1,9 @@
 pub mod Outcomes
 pub mod LiveSaves
 pub mod Exercises
+pub mod Addresses
 pub mod Answers
+pub mod AddressSteps
 pub mod SaveSteps
 pub use Rattle.mig_report.specs.Words
 pub use Rattle.mig_report.specs.Report

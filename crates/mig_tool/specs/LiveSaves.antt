@@ -2,9 +2,12 @@
 use Rattle.std.specs.Prelude.{◌≡◌, ◌<◌, ◌≤◌, ◌+◌, ℕ, List, [], ◌∷◌, ◌++◌, length, map, drop, false, Option, Some, None}
 use Rattle.std.specs.List.{AllByRecursion}
 use Rattle.std.specs.Io.KnownBytes.{Appends}
+use Rattle.mig_bytes.specs.Judged.{Judged}
 use Rattle.mig_bytes.specs.Judged.Judged.{Passes}
+use Rattle.mig_headers.specs.declared.image_fault.ImageCause.{ImageCause}
+use Rattle.mig_headers.specs.declared.image_fault.ImagePlace.{ImagePlace}
 use Rattle.mig_headers.specs.declared.unsound.Unsound.{Unsound}
-use Rattle.mig_guest.specs.Hosts.{HostOf}
+use Rattle.mig_guest.specs.Hosts.{HostOf, most_saved_width}
 use Rattle.mig_canon.specs.Canon.{Record, headers, text_of}
 use Rattle.mig_pagesink.specs.Told.{FrameTold, telling_record, all_told}
 use Rattle.mig_hosted.specs.Sound.{unsoundness}
@@ -26,10 +29,14 @@ use Rattle.mig_report.specs.declared.outcome.SaveSummary.{SaveSummary}
 
 -- ---- what is read
 
+-- the host whose image the input begins with
+abbrev pub saved_host_at : List ℕ → Judged (ImagePlace × ImageCause) HostOf
+saved_host_at input = host_at most_saved_width input
+
 -- the input begins with the image of a host, and what follows is a script of these lines, which isn't too long
 pub record HasHostAndScript (input : List ℕ) (host : HostOf) (lines : List LineOf) : Type 0 where
   pub text : List ℕ
-  pub image : host_at input ≡ Passes host text
+  pub image : saved_host_at input ≡ Passes host text
   pub few : length text ≤ most_script_bytes
   pub script : IsScript text lines
 
@@ -52,7 +59,7 @@ pub record PausesUnsound (host : HostOf) (lines : List LineOf) (unsound : Unsoun
 pub record HasBadLine (input : List ℕ) (line : ℕ) : Type 0 where
   pub host : HostOf
   pub text : List ℕ
-  pub image : host_at input ≡ Passes host text
+  pub image : saved_host_at input ≡ Passes host text
   pub few : length text ≤ most_script_bytes
   pub bad : IsBadLine text line
 
@@ -60,7 +67,7 @@ pub record HasBadLine (input : List ℕ) (line : ℕ) : Type 0 where
 pub record HasLongScript (input rest : List ℕ) : Type 0 where
   pub host : HostOf
   pub text : List ℕ
-  pub image : host_at input ≡ Passes host text
+  pub image : saved_host_at input ≡ Passes host text
   pub many : most_script_bytes < length text
   pub left : rest ≡ drop (most_script_bytes + 1) text
 

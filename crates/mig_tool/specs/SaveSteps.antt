@@ -9,7 +9,6 @@ use Rattle.mig_headers.specs.declared.image_fault.ImagePlace.{ImagePlace}
 use Rattle.mig_guest.specs.Hosts.{HostOf}
 use Rattle.mig_host.specs.HostView.{HostAndSpare}
 use Rattle.mig_bytes.specs.Judged.Judged.{Passes}
-use Rattle.mig_image.specs.ImageParts.{host_at}
 use Rattle.mig_report.specs.declared.outcome.Outcome.{Outcome}
 use Rattle.mig_report.specs.declared.outcome.Outcome.TheVariants as outcomes
 use Rattle.mig_report.specs.declared.outcome.Refusal.{Refusal}
@@ -19,7 +18,7 @@ use Rattle.mig_script.specs.declared.script.ScriptAnswer.{ScriptAnswer}
 use Rattle.mig_script.specs.declared.script.ScriptAnswer.TheVariants as scripts
 use Rattle.mig_tool.specs.Answers.{RefusedIn, IsOfInput}
 use Rattle.mig_tool.specs.Answers.Form.{ImageAndScript}
-use Rattle.mig_tool.specs.LiveSaves.{HasHostAndScript, PausesUnsound}
+use Rattle.mig_tool.specs.LiveSaves.{HasHostAndScript, PausesUnsound, saved_host_at}
 use Rattle.mig_tool.specs.declared.save.HostAndScript.{HostAndScript}
 
 abbrev pub stop_of_image : Answer ImagePlace ImageCause → Stop Refusal
@@ -42,7 +41,7 @@ StopsAt input left stops.Memory = ⊤
 -- the host of the input, and what is left behind its image; or why it isn't read
 abbrev pub ReadsHostToSave : Option (List ℕ) → Option (List ℕ) → Result HostAndSpare (Stop Refusal) → Type 0
 ReadsHostToSave None left result = ⊤
-ReadsHostToSave (Some input) left (Ok host) = (text : List ℕ) × (host_at input ≡ Passes host.host text) × (left ≡ Some text)
+ReadsHostToSave (Some input) left (Ok host) = (text : List ℕ) × (saved_host_at input ≡ Passes host.host text) × (left ≡ Some text)
 ReadsHostToSave (Some input) left (Err stop) = StopsAt input left stop
 
 -- the host and the script of the input, of which nothing is left; or why they aren't read

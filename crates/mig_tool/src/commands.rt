@@ -18,6 +18,7 @@ ghost use Rattle.mig_unended.specs.Unread.{WroteNoStream};
 
 use crate::exercise::exercise_told;
 use crate::save::save;
+use crate::walk::{walk, walk_image};
 use mig_bytes::{Sink, Source};
 use mig_guest::Guest;
 use mig_image::{HostAnswer, host_of, write_host};
@@ -28,7 +29,7 @@ use mig_restore::StreamAnswer;
 use std::alloc::Global;
 
 /// The outcome where no stream is read.
-fn unread(answer: StreamAnswer) -> Outcome
+pub(crate) fn unread(answer: StreamAnswer) -> Outcome
     ensures { result ≡ outcome_of refusals.Stream answer }
 {
     match answer {
@@ -200,5 +201,7 @@ pub(crate) fn carry_out<S: Source, K: Sink, R: Sink>(
         Command::Verify => verify(alloc, input, report),
         Command::Save => save(alloc, input, out, report),
         Command::Exercise { seed, frames } => exercise_told(alloc, seed, frames, report),
+        Command::Walk { vcpu, address } => walk(alloc, vcpu, address, input, report),
+        Command::WalkImage { vcpu, address } => walk_image(alloc, vcpu, address, input, report),
     }
 }

@@ -26,7 +26,8 @@ use std::alloc::Global;
 /// guest, with machine frames counted up from the base. `verify` takes a stream and says on `report` what it is. `save` takes
 /// the image of a host and a script, writes the host as a stream while the script runs, and says on `report` how. `exercise`
 /// reads nothing: it saves a host of so many frames in memory, whose contents and script follow from the seed, reads what was
-/// written, and says on `report` what it came to. Each
+/// written, and says on `report` what it came to. `walk` takes a stream, and says on `report` which frame of its guest an
+/// address means to a vCPU; `walkimage` takes the image of a host, and says which machine frame. Each
 /// status says what it says however the input is cut, and whatever failed before; want of memory may come at any time.
 pub fn run<S: Source, K: Sink, R: Sink>(
     alloc: Global,
@@ -40,16 +41,18 @@ pub fn run<S: Source, K: Sink, R: Sink>(
     ensures known { (command : Command) → Names (texts_of words.now) command → result ≢ statuses.Usage }
     ensures unread { result ≡ statuses.Usage → input.new ≡ input.old }
 
-    // `convert` reads legacy streams, `save` an image and a script, and all others streams. Status 0: an accepted front was
-    // taken, and the text of its guest was written, or its line reported; or an image and a script were taken, what was
+    // `convert` reads legacy streams, `save` an image and a script, `walkimage` an image, and all others streams. Status 0: an
+    // accepted front was taken, and the text of its guest was written, or its line reported; of `walk` and `walkimage` the line
+    // of the one frame that the address means there; or an image and a script were taken, what was
     // written is accepted with the guest that the host is seen as at the pause, in the rounds and up to the pause that the
     // host and the script tell, and its line was reported. Status 1: the input was taken up to the end of the refused part.
     // Status 4: as 0, but a part of the text or line was written; of `save`, a part of the line, or what is no stream.
     ensures done { (command : Command) → Names (texts_of words.now) command
         → SaysOf command (S.left input.old) (S.left input.new) (record { out_old = K.written out.old; out_new = K.written out.new; report_old = R.written report.old; report_new = R.written report.new }) result }
 
-    // An accepted stream is done and what is refused by itself is refused, but for memory, where nothing failed. An image
-    // and a script are saved, or refused at the pause.
+    // An accepted stream is done and what is refused by itself is refused, but for memory, where nothing failed. To `walk` and
+    // `walkimage` an input is accepted in which the address means a frame, and refused where it means none. An image and a
+    // script are saved, or refused at the pause.
     ensures accepted { (command : Command) (bytes : List ℕ) (guest : GuestOf) (rest : List ℕ) → Names (texts_of words.now) command → S.left input.old ≡ Some bytes → AcceptedIn (form_of command) bytes guest rest
         → (Rose (S.faults input.old) (S.faults input.new) → ⊥) → (WriteRose command (K.faults out.old) (K.faults out.new) (R.faults report.old) (R.faults report.new) → ⊥)
         → (result ≡ statuses.Done) ⊎ (result ≡ statuses.Memory) }
@@ -63,8 +66,8 @@ pub fn run<S: Source, K: Sink, R: Sink>(
     ensures exercised { (seed n : ℕ) → Names (texts_of words.now) (commands.Exercise seed n)
         → (input.new ≡ input.old) × SaysExercise seed n (R.written report.old) (R.written report.new) result }
 
-    // `out` is touched for an accepted stream alone, or by `save` once its input was read, and never by `verify` and `exercise`: where `save`
-    // is refused, `out` is as it was, or the pause is refused.
+    // `out` is touched for an accepted stream alone, or by `save` once its input was read, and never by `verify`, `exercise`,
+    // `walk` and `walkimage`: where `save` is refused, `out` is as it was, or the pause is refused.
     ensures kept { result ≢ statuses.Done → result ≢ statuses.WriteFault → (Names (texts_of words.now) commands.Save → result ≢ statuses.Refused) → out.new ≡ out.old }
     ensures kept_refused { Names (texts_of words.now) commands.Save → result ≡ statuses.Refused
         → (out.new ≡ out.old) ⊎ RefusesPause (S.left input.old) (R.written report.old) (R.written report.new) (R.faults report.old) (R.faults report.new) }
@@ -83,7 +86,8 @@ pub fn run<S: Source, K: Sink, R: Sink>(
         → WriteRose command (K.faults out.old) (K.faults out.new) (R.faults report.old) (R.faults report.new) }
 
     // The report got the line of the status, or a part of it where its count rose; that changes no status but that of
-    // `verify`, `save` and `exercise` at their own line, which is whole with status 0, and a part with status 4.
+    // `verify`, `save`, `exercise`, `walk` and `walkimage` at their own line, which is whole with status 0, and a part with
+    // status 4.
     ensures line { (command : Command) → Names (texts_of words.now) command → (HasOwnLine command result → ⊥)
         → (line : List ℕ) × IsLine (form_of command) (S.left input.old) result line × Reports line (R.written report.old) (R.written report.new) (R.faults report.old) (R.faults report.new) }
     ensures usage_line { result ≡ statuses.Usage → Reports usage_line (R.written report.old) (R.written report.new) (R.faults report.old) (R.faults report.new) }

@@ -1,4 +1,5 @@
 ghost use Rattle.std.specs.Prelude.{◌≡◌, ◌≢◌, ◌≤◌, ◌⊎◌, ℕ, List, IfOk, IfErr, OnOk, OnErr, IsErrOf};
+ghost use Rattle.mig_guest.specs.Hosts.{most_saved_width};
 ghost use Rattle.std.specs.Io.KnownBytes.{Appends};
 ghost use Rattle.mig_bytes.specs.Bytes.{AppendsPart};
 ghost use Rattle.mig_bytes.specs.Faults.{Rose, RisesOnReadFault};
@@ -23,6 +24,9 @@ use mig_paced::rounds_are_paced;
 use mig_report::{Outcome, Refusal, SaveSummary, Status, finish, put_saved};
 use mig_script::{Script, ScriptAnswer};
 use std::alloc::Global;
+
+/// Wider hosts aren't saved.
+const MOST_SAVED_WIDTH: u64 = 1 << 28;
 
 /// A host, and the script that is to run on it while it is saved.
 #[derive(Drop)]
@@ -57,9 +61,10 @@ fn script_stop(answer: ScriptAnswer) -> Stop<Refusal>
 /// Reads the image of a host, and leaves unread what follows it.
 fn host_to_save<S: Source>(alloc: Global, input: &mut S) -> Result<Host, Stop<Refusal>>
     ensures read { ReadsHostToSave (S.left input.old) (S.left input.new) result }
+    ensures narrow { IfOk result (λ host. host.host.width ≤ most_saved_width) }
     ensures faults { RisesOnReadFault (S.faults input.old) (S.faults input.new) result }
 {
-    match read_host(alloc, input) {
+    match read_host(alloc, input, MOST_SAVED_WIDTH) {
         Ok(host) => Ok(host),
         Err(answer) => Err(image_stop(answer)),
     }
@@ -68,6 +73,7 @@ fn host_to_save<S: Source>(alloc: Global, input: &mut S) -> Result<Host, Stop<Re
 /// Reads the image of a host, and a script to the end of the input.
 fn host_and_script<S: Source>(alloc: Global, input: &mut S) -> Result<HostAndScript, Stop<Refusal>>
     ensures read { ReadsHostAndScript (S.left input.old) (S.left input.new) result }
+    ensures narrow { IfOk result (λ read. read.host.host.width ≤ most_saved_width) }
     ensures faults { RisesOnReadFault (S.faults input.old) (S.faults input.new) result }
 {
     let host = host_to_save(alloc, input)?;
@@ -138,6 +144,7 @@ fn save_live<K: Sink>(
     read: HostAndScript,
     out: &mut K,
 ) -> Result<SaveSummary, Outcome>
+    requires narrow { read.host.host.width ≤ most_saved_width }
     ensures wrote { IfOk result (WroteLive read.host.host (read.script) (K.written out.old) (K.written out.new)) }
     ensures none { IfErr result (ComesToNone read.host.host (read.script)) }
     ensures no_stream { OnErr result (WroteNoStream (K.written out.old) (K.written out.new)) }

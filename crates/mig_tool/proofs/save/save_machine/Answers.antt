@@ -1,6 +1,6 @@
 use Rattle.mig_tool.proofs.Common.{Err, ap, ◌≡◌, ℕ, List, refl, sym, subst, ◌∙◌, rules}
 use Rattle.std.specs.Prelude.{◌≤◌, true}
-use Rattle.mig_guest.specs.Hosts.{HostOf, most_width}
+use Rattle.mig_guest.specs.Hosts.{HostOf, most_saved_width}
 use Rattle.mig_script.specs.ScriptLines.{LineOf}
 use Rattle.mig_machine.specs.MachineSeen.{history_of, machine_state}
 use Rattle.mig_dirtysave.specs.SaveAnswers.{IsTrusted}
@@ -22,7 +22,7 @@ returns-in-Ok-run-clause-wrote g c =
     let e = c.in-Ok-run.ensures in
     let first = c.args.machine.now in let now = c.run.new.machine in
     let old = g.K.Sink.written c.args.out.now in let new = g.K.Sink.written c.run.new.sink in
-    let wide : first.host.width ≤ most_width = subst (λ (w : ℕ). w ≤ most_width) c.width-width.ensures.value c.width-width.ensures.bound in
+    let wide : first.host.width ≤ most_saved_width = subst (λ (w : ℕ). w ≤ most_saved_width) c.width-width.ensures.value c.width-width.ensures.bound in
     let exact = c.script_machine_is_at.ensures.exact first now c.requires.calls c.requires.log c.requires.history e.later in
     let tight = tight_of first.host now e.kept.shape (e.tight refl) in
     let p = c.rounds_are_paced.ensures.paced first.host now exact e.paused wide tight.rounds in
@@ -36,7 +36,7 @@ pub returns-in-Err-clause-none : goal.returns-in-Err-clause-none
 returns-in-Err-clause-none g c =
     let e = c.in-Err.ensures in
     let first = c.args.machine.now in let now = c.run.new.machine in
-    let wide : first.host.width ≤ most_width = subst (λ (w : ℕ). w ≤ most_width) c.width-width.ensures.value c.width-width.ensures.bound in
+    let wide : first.host.width ≤ most_saved_width = subst (λ (w : ℕ). w ≤ most_saved_width) c.width-width.ensures.value c.width-width.ensures.bound in
     let exact = c.script_machine_is_at.ensures.exact first now c.requires.calls c.requires.log c.requires.history e.later in
     let paced = at_end SaveReport ((machine_state now).paused ≡ true) (StaysSame (machine_state first) (machine_state now)) (HasRounds (machine_state now)) (PausesSo first.host now.lines now.runs) c.in-Err.answer
     (λ paused kept rounds. pauses_so first.host now (c.rounds_are_paced.ensures.paced first.host now exact paused wide) kept.shape rounds) e.paused e.kept e.rounds in

@@ -1,0 +1,62 @@
+-- What the steps of a walk answer.
+use Rattle.std.specs.Prelude.{◌≡◌, ◌⊎◌, ⊤, ℕ, List, Option, Some, None, Result, Ok, Err}
+use Rattle.std.specs.Io.KnownBytes.{Appends}
+use Rattle.mig_bytes.specs.Bytes.{AppendsPart}
+use Rattle.mig_bytes.specs.Faults.{Rose}
+use Rattle.mig_guest.specs.Hosts.{HostOf}
+use Rattle.mig_hosted.specs.Sound.{IsSound, unsoundness}
+use Rattle.mig_report.specs.Outcome.{status_of, line_of}
+use Rattle.mig_report.specs.Report.{Reports, walked_line}
+use Rattle.mig_report.specs.declared.command.Command.{Command}
+use Rattle.mig_report.specs.declared.command.Command.TheVariants.{Walk, WalkImage}
+use Rattle.mig_report.specs.declared.outcome.Outcome.{Outcome}
+use Rattle.mig_report.specs.declared.outcome.Outcome.TheVariants as outcomes
+use Rattle.mig_report.specs.declared.outcome.Refusal.TheVariants as refusals
+use Rattle.mig_report.specs.declared.outcome.WalkSummary.{WalkSummary}
+use Rattle.mig_report.specs.declared.status.Status.{Status}
+use Rattle.mig_report.specs.declared.status.Status.TheVariants as statuses
+use Rattle.mig_standing.specs.Standing.{Standing, in_host}
+use Rattle.mig_tool.specs.Addresses.{FrameInHost, FrameInStream, MeansNone}
+use Rattle.mig_tool.specs.Answers.{Written, Comes}
+
+-- what a walk finds
+abbrev pub FoundBy : Command → List ℕ → Option (List ℕ) → WalkSummary → Type 0
+FoundBy (Walk id at) input left summary = FrameInStream id at input left summary
+FoundBy (WalkImage id at) input left summary = FrameInHost id at input left summary
+FoundBy _ input left summary = ⊥
+
+-- what comes where no frame is found: nothing was written
+abbrev pub IsUnfound : Outcome → Type 0
+IsUnfound (outcomes.Refused refusal) = ⊤
+IsUnfound outcomes.ReadFault = ⊤
+IsUnfound outcomes.Memory = ⊤
+IsUnfound _ = ⊥
+
+-- a walk that comes to no frame is refused so
+abbrev pub EndsWalk : Standing → ℕ → ℕ → Outcome → Type 0
+EndsWalk s id at (outcomes.Refused (refusals.Walk end)) = MeansNone s id at end
+EndsWalk s id at _ = ⊥
+
+-- the same in a host, which may not be sound, and of which that isn't found out where there is no memory
+abbrev pub EndsInHost : HostOf → ℕ → ℕ → Outcome → Type 0
+EndsInHost h id at (outcomes.Refused (refusals.Host unsound)) = unsoundness h ≡ Some unsound
+EndsInHost h id at (outcomes.Refused (refusals.Walk end)) = IsSound h × MeansNone (in_host h) id at end
+EndsInHost h id at outcomes.Memory = ⊤
+EndsInHost h id at _ = ⊥
+
+-- the status that a walk leads to, where the report doesn't fail
+abbrev pub status_found : Result WalkSummary Outcome → Status
+status_found (Ok summary) = statuses.Done
+status_found (Err outcome) = status_of outcome
+
+-- what is told of it: the line of the frame, or a part of it where the report failed; or the line of the outcome
+abbrev pub TellsFound : Result WalkSummary Outcome → Status → Option (List ℕ) → Option (List ℕ) → ℕ → ℕ → Type 0
+TellsFound (Ok summary) status old new before now =
+    ((status ≡ statuses.Done) × Appends old new (walked_line summary) × (now ≡ before)) ⊎ ((status ≡ statuses.WriteFault) × AppendsPart old new (walked_line summary) × Rose before now)
+TellsFound (Err outcome) status old new before now = (status ≡ status_of outcome) × Reports (line_of outcome) old new before now
+
+-- the frame that an address means in the input; or why nothing was read, or none is meant
+abbrev pub FindsFrame : Command → Option (List ℕ) → Option (List ℕ) → Result WalkSummary Outcome → Type 0
+FindsFrame command None left result = ⊤
+FindsFrame command (Some input) left (Ok summary) = FoundBy command input left summary
+FindsFrame command (Some input) left (Err outcome) = (w : Written) → Comes command input left w outcome
