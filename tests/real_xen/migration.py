@@ -74,12 +74,12 @@ class Migration:
         self.place()
         attempt = self.watched.create()
         try:
-            before = len(self.watched.ticks())
+            before, arrived = len(self.watched.ticks()), Watched(self.machine, self.other)
+            arrived.arrived_at = len(arrived.incoming())
             self.sent()
-            arrived = Watched(self.machine, self.other)
             arrived.find_domain()
-            if self.is_live and self.guest.kind != 'hvm':    # one log for both domains: what it said goes on in it
-                ticks = self.watched.ticks_after(before - 1, 12, GOES_ON)
+            if self.is_live and self.guest.kind != 'hvm':    # one log for both domains, or another that goes on behind it
+                ticks = arrived.ticks_after(before - 1, 12, GOES_ON)
                 return 'up at start %d; %s' % (attempt, arrived.went_on(ticks[1:], ticks[0]))
             last = self.watched.ticks()[-1]
             return 'up at start %d; %s' % (attempt, arrived.goes_on(0, last))
