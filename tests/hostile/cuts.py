@@ -113,6 +113,7 @@ def lying_images():
     def part(*fields):
         return struct.pack('<IIII', *fields)
     yield 'frames of a host', 'Frame 0', b'XGIMAGE1' + struct.pack('<IIQQ', 2, 0, 1 << 28, 1 << 24)
+    yield 'frames of a host, version 2', 'Frame 0', b'XGIMAGE2' + struct.pack('<IIQQ', 2, 0, 1 << 28, 1 << 24)
     yield 'parts of a host', 'Part 0', front(2, 1 << 28)
     yield 'the context of a host', 'Part 0', front(2, 1) + part(9, 0, 0, MOST_BODY)
     yield 'the pairs of a host', 'Part 0', front(2, 1) + part(258, 0, 0, 1 << 24)

@@ -175,4 +175,6 @@ def forms():
     yield 'small legacy', ['convert'], case('legacy-hvm')
     yield 'HVM image', ['save'], live_host()
     yield 'PV image', ['save'], case('save-pv-host')
+    yield 'PV', ['walk', '0', '1000'], case('walk-a-frame')
+    yield 'PV image', ['walkimage', '0', '1000'], case('save-pv-host')
     yield 'no input', ['exercise', '3', '20'], b''

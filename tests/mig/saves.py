@@ -21,7 +21,8 @@ def example(name):
 
 SMALLEST, THREE, TWO = example('smallest-hvm.stream'), example('three-frames.stream'), example('version-2-hvm.stream')
 WRAPPED, LEGACY = example('wrapped-hvm.stream'), example('legacy-hvm.stream')
-HOST, SCRIPT = gzip.decompress(example('two-hundred-frames.image.gz')), example('two-hundred-frames.script')
+HOST = gzip.decompress(example('two-hundred-frames-version-1.image.gz'))
+NEWER_HOST, SCRIPT = gzip.decompress(example('two-hundred-frames.image.gz')), example('two-hundred-frames.script')
 THIRD_HEAD = 16 + 8 + 104 + 8 + 112                  # of WRAPPED: header, LIBXC_CONTEXT, the image, and the pairs
 OK_SMALLEST = 'ok version 3 kind hvm frames 0 records 3'
 OK_THREE = 'ok version 3 kind hvm frames 3 records 6'
@@ -118,7 +119,8 @@ SAVES = {
     b'33-zeros': (bytes(4096), 'no save: begins with 512 zero bytes'),
     b'34-bytes': (b'\x80\x81\x82\x83' * 99, 'no save: begins with the bytes 80 81 82 83 80 81 82 83'),
     b'35-disk.qcow2': (b'QFI\xfb\0\0\0\3' + bytes(99), 'no save: begins with qcow2, a disk image'),
-    b'36-image': (b'XGIMAGE1' + bytes(32), 'guest image: not judged: `mig save` alone reads guest images'),
+    b'36-image': (b'XGIMAGE1' + bytes(32), 'guest image: not judged: `mig save` and `mig walk` alone read guest images'),
+    b'36-image-2': (b'XGIMAGE2' + bytes(32), 'guest image: not judged: `mig save` and `mig walk` alone read guest images'),
     b'37-joined.stream': (THREE + SMALLEST,
                           'libxc image: ' + OK_THREE + '\n    104 bytes follow the end of the stream; they were not judged'),
     b'38-twice.gz.gz': (gzip.compress(gzip.compress(THREE)), 'no save: begins with gzip, which is to be unpacked first'),

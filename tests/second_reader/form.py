@@ -1,7 +1,7 @@
 """What both kinds of guest have in common in the second reader: numbers of the format, input, refusals, records."""
 import struct
 
-MOST_BODY, MOST_RECORDS, MOST_FRAMES, FRAME_LIMIT = 1 << 27, 1 << 28, 1 << 24, 1 << 28
+MOST_BODY, MOST_RECORDS, MOST_FRAMES = 1 << 27, 1 << 28, 1 << 24
 PAGE = 4096
 PV, HVM = 1, 2
 END, PAGE_DATA, PV_INFO, P2M_FRAMES, BASIC, EXTENDED, XSAVE, SHARED_INFO, TSC_INFO, CONTEXT, PARAMS = range(11)

@@ -9,8 +9,9 @@ import pv
 import reader
 from form import *
 
-NAME = b'XGIMAGE1'
-MOST_WIDTH, MACHINE_LIMIT, MOST_POLICY = 1 << 28, 1 << 40, 65536
+NAMES = {b'XGIMAGE1': 1, b'XGIMAGE2': 2}
+MOST_SAVED_WIDTH, MOST_WIDTH_OF_ONE, MOST_PV_WIDTH = 1 << 28, 1 << 28, 1 << 32
+MACHINE_LIMIT, MOST_POLICY = 1 << 40, 65536
 XALLOC, PAIRS, EMULATOR = 14, 258, 259
 
 # code: the kinds of guest that have it, whether these are its keys, and whether this is a length of it in a host so wide
@@ -36,27 +37,53 @@ def types_of(kind):
     return (NOTAB, BROKEN, XALLOC) if kind == HVM else (0, 1, 2, 3, 4, 9, 10, 11, 12, BROKEN, XALLOC)
 
 
-def read_head(source):
+def read_head(source, widest):
     name, kind, zero, width, count = struct.unpack('<8sIIQQ', source.take(32))
-    refuse_if(name != NAME, '2 NotImage')
+    refuse_if(name not in NAMES, '2 NotImage')
     refuse_if(kind not in (PV, HVM), '3 BadKind %d' % kind)
     refuse_if(zero, '4 Reserved')
-    refuse_if(width > MOST_WIDTH or kind == PV and not width, '5 Width %d' % width)
+    refuse_if(width > widest or NAMES[name] == 1 and width > MOST_WIDTH_OF_ONE, '5 Width %d' % width)
+    refuse_if(kind == PV and not 0 < width <= MOST_PV_WIDTH, '5 Width %d' % width)
     refuse_if(count > MOST_FRAMES or count > width, '6 FrameCount %d' % count)
-    return {'kind': kind, 'width': width, 'frames': {}, 'parts': {}}, count
+    return NAMES[name], {'kind': kind, 'width': width, 'frames': {}, 'parts': {}}, count
 
 
-def read_frame(source, host, machine):
-    word, zero, mfn = struct.unpack('<IIQ', source.take(16))
-    kind, pfn = word >> 28, word % (1 << 28)
+def word_of_one(head):
+    """What the head of a frame says in version 1: type, PFN, and whether the page is left out."""
+    word, zero = struct.unpack_from('<II', head)
     refuse_if(zero, '4 Reserved')
+    return word >> 28, word % (1 << 28), False
+
+
+def word_of_two(head):
+    """The same in version 2."""
+    word, = struct.unpack_from('<Q', head)
+    kind, zeros = word >> 60, bool(word >> 52 & 1)
+    refuse_if(word >> 53 & 0x7f or zeros and kind >= BROKEN, '4 Reserved')
+    return kind, word % (1 << 52), zeros
+
+
+def read_page(source, version, kind, pfn, zeros):
+    if not has_page(kind):
+        return b''
+    if zeros:
+        return bytes(PAGE)
+    page = source.take(PAGE)
+    refuse_if(version == 2 and not any(page), '18 ZeroPage %d' % pfn)
+    return page
+
+
+def read_frame(source, version, host, machine):
+    head = source.take(16)
+    kind, pfn, zeros = (word_of_one, word_of_two)[version - 1](head)
+    mfn, = struct.unpack_from('<Q', head, 8)
     refuse_if(kind not in types_of(host['kind']), '7 BadPageType %d' % kind)
     refuse_if(host['frames'] and pfn <= next(reversed(host['frames'])), '8 FrameOrder %d' % pfn)
     refuse_if(pfn >= host['width'], '9 FrameOutside %d' % pfn)
     refuse_if(not 0 < mfn < MACHINE_LIMIT, '10 MachineFrame %d' % mfn)
     refuse_if(mfn in machine, '11 MachineTwice %d' % mfn)
     machine.add(mfn)
-    host['frames'][pfn] = kind, mfn, source.take(PAGE) if has_page(kind) else b''
+    host['frames'][pfn] = kind, mfn, read_page(source, version, kind, pfn, zeros)
 
 
 def are_canonical_pairs(text):
@@ -80,14 +107,14 @@ def read_part(source, host):
     host['parts'][code, one, two] = data
 
 
-def read_host(source):
-    """The host in the image that the input begins with."""
+def read_host(source, widest=MOST_SAVED_WIDTH):
+    """The host, no wider than this, in the image of either version that the input begins with."""
     source.place = 'Head'
-    host, count = read_head(source)
+    version, host, count = read_head(source, widest)
     machine = set()
     for number in range(count):
         source.place = 'Frame %d' % number
-        read_frame(source, host, machine)
+        read_frame(source, version, host, machine)
     source.place = 'Parts'
     count, = struct.unpack('<Q', source.take(8))
     for number in range(count):

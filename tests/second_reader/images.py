@@ -1,4 +1,5 @@
-"""Images of HVM hosts that are made at random, a few of them of other hosts or faulty, with scripts behind them."""
+"""Images of HVM hosts that are made at random, of both versions, a few of them of other hosts or faulty, with scripts behind
+them."""
 import struct
 
 import libxl
@@ -7,12 +8,28 @@ import streams
 LINES = 'wwwwttarxxp..'
 
 
-def frame(dice, pfn, mfn):
-    kind, zero = dice.choice((0,) * 14 + (13, 14)), 0
+def head(version, kind, width, count, zero=0):
+    return b'XGIMAGE%d' % version + struct.pack('<IIQQ', kind, zero, width, count)
+
+
+def frame_of(version, kind, pfn, mfn, page, reserved=0, zeros=None):
+    """A frame as a version spells it, with these bits where zeros have to be; in version 2 the zero flag as it has to be, where
+    no other is named."""
+    if version == 1:
+        return struct.pack('<IIQ', kind << 28 | pfn, reserved, mfn) + page
+    left_out = bool(page) and not any(page) if zeros is None else zeros
+    return struct.pack('<QQ', kind << 60 | reserved << 53 | left_out << 52 | pfn, mfn) + (b'' if left_out else page)
+
+
+def frame(dice, version, pfn, mfn):
+    kind, more = dice.choice((0,) * 14 + (13, 14)), {}
+    page = dice.choice((dice.randbytes(8), dice.randbytes(8), bytes(8))) * 512
     if dice.random() < 0.003:
-        kind, zero, mfn = dice.choice(((1, 0, mfn), (4, 0, mfn), (5, 0, mfn), (15, 0, mfn), (0, 7, mfn), (0, 0, 0), (0, 0, 1 << 40)))
-    head = struct.pack('<IIQ', kind << 28 | pfn, zero, mfn)
-    return head + (dice.randbytes(8) * 512 if kind < 13 else b'')
+        kind, more['reserved'], mfn = dice.choice(((1, 0, mfn), (4, 0, mfn), (5, 0, mfn), (15, 0, mfn), (0, 7, mfn), (0, 0, 0), (0, 0, 1 << 40)))
+    elif dice.random() < 0.003:
+        kind, more['zeros'] = dice.choice(((13, True), (14, True), (5, True), (0, False)))
+        page = bytes(4096)
+    return frame_of(version, kind, pfn, mfn, page if kind < 13 else b'', **more)
 
 
 def part(code, one, two, data):
@@ -48,14 +65,14 @@ def parts(dice):
 
 def image(dice):
     """The pieces of an image, and its width and parts."""
-    width = dice.choice((0, 1, 3, 9, 9, 64, 64, 130))
+    width, version = dice.choice((0, 1, 3, 9, 9, 64, 64, 130)), dice.choice((1, 2, 2))
     pfns = sorted(dice.sample(range(width), dice.choice((width, width - width // 9, width // 2))))
     mfns, found = dice.sample(range(1, 400), len(pfns)), parts(dice)
     kind, zero = streams.rarely(dice, 2, dice.choice((1, 3))), streams.rarely(dice, 0, 5)
-    head = b'XGIMAGE1' + struct.pack('<IIQQ', kind, zero, streams.rarely(dice, width, 1 << 28 | 1), len(pfns))
-    frames = [frame(dice, pfn, mfn) for pfn, mfn in zip(pfns, mfns)]
+    first = head(streams.rarely(dice, version, 3), kind, streams.rarely(dice, width, 1 << 28 | 1), len(pfns), zero)
+    frames = [frame(dice, version, pfn, mfn) for pfn, mfn in zip(pfns, mfns)]
     last = [part(*key, data) for key, data in sorted(found.items())]
-    return [head, *frames, struct.pack('<Q', len(last)), *last], width, found
+    return [first, *frames, struct.pack('<Q', len(last)), *last], width, found
 
 
 def put(dice, key, found):

@@ -9,7 +9,7 @@ import libxl
 from form import *
 from reader import MARKER, empty_guest, end_of_chain
 
-MOST_CHUNKS, MOST_BATCH, VCPU_LIMIT = 1 << 28, 1024, 4096
+MOST_CHUNKS, MOST_BATCH, VCPU_LIMIT, LEGACY_FRAMES = 1 << 28, 1024, 4096, 1 << 28
 TAIL, VCPU_MAP, TSC, LAST_CHECKPOINT, TOOLSTACK = 0, -2, -7, -9, -18
 VERIFY, TMEM, COMPRESSED = (-1,), (-5, -6), (-12, -13)
 IOREQ_SERVER = {-19, -20}
@@ -56,9 +56,9 @@ def read_batch(source, count, frames):
     for kind, word in zip(types, words):
         page = source.take(PAGE) if has_page(kind) else b''
         if kind == XTAB and word != PLACEHOLDER:
-            frames.pop(word % FRAME_LIMIT, None)
+            frames.pop(word % LEGACY_FRAMES, None)
         elif word != PLACEHOLDER:
-            frames[word % FRAME_LIMIT] = NOTAB if has_page(kind) else kind, page
+            frames[word % LEGACY_FRAMES] = NOTAB if has_page(kind) else kind, page
 
 
 def skip_vcpu_map(source):

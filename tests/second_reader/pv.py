@@ -76,7 +76,6 @@ def read_p2m(body, guest):
     count = last // 512 - first // 512 + 1
     refuse_if(first <= last and len(body) != 8 + 8 * count, '13 BadLength %d' % len(body))
     refuse_if(first != 0, '21 P2mStart %d' % first)
-    refuse_if(last >= FRAME_LIMIT, '22 P2mRange %d' % last)
     guest['p2m'][:count] = struct.unpack_from('<%dQ' % count, body, 8)
     guest['top'] = max(guest['top'], last)
 

@@ -89,7 +89,8 @@ def image_and_script(dice):
     for _ in range(dice.choice((0, 0, 1, 2))):
         letter, *fields = saver.read_line(line(dice, host).encode())
         saver.DOES[letter](host, *fields)
-    head = b'XGIMAGE1' + struct.pack('<IIQQ', streams.rarely(dice, 1, 2), 0, host['width'], len(host['frames']))
-    frames = [struct.pack('<IIQ', kind << 28 | pfn, 0, mfn) + page for pfn, (kind, mfn, page) in sorted(host['frames'].items())]
+    version = dice.choice((1, 2, 2))
+    head = images.head(version, streams.rarely(dice, 1, 2), host['width'], len(host['frames']))
+    frames = [images.frame_of(version, kind, pfn, mfn, page) for pfn, (kind, mfn, page) in sorted(host['frames'].items())]
     last = [images.part(*key, data) for key, data in sorted(host['parts'].items())]
     return [head, *frames, struct.pack('<Q', len(last)), *last], script(dice, host)

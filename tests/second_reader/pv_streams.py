@@ -44,8 +44,20 @@ class Guest:
         return [frames.pop() if index in in_use else self.spare for index in range(self.top // 512 + 1)]
 
     def some_tables(self, dice):
+        """A table of each level; in most guests each leads to the one of the level below, at one slot or more."""
+        below = None
         for level in (1, 2, 3, 4):
-            self.put(dice, self.pfns.pop(), level + dice.choice((0, 8)))
+            pfn = self.pfns.pop()
+            self.put(dice, pfn, level + dice.choice((0, 8)))
+            if below is not None and dice.random() < 0.9:
+                self.link(dice, pfn, below)
+            below = pfn
+
+    def link(self, dice, table, pfn):
+        """Makes one of the table's slots that count name this frame."""
+        kind, page = self.frames[table]
+        at = 8 * dice.choice([slot for slot in SLOTS if not 256 <= slot < 272])
+        self.frames[table] = kind, page[:at] + struct.pack('<Q', entry_of(dice, TABLES[kind], pfn)) + page[at + 8:]
 
     def put(self, dice, pfn, kind):
         self.frames[pfn] = kind, some_table(dice, TABLES[kind], list(self.frames)) if kind in TABLES else some_page(dice, kind)

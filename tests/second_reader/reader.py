@@ -89,11 +89,11 @@ def end_of_chain(body, cause):
 
 
 def judge_words(words, guest):
-    limit = FRAME_LIMIT if guest['kind'] == HVM else guest['top'] + 1
     for entry, (kind, _) in enumerate(words):
         refuse_if(5 <= kind <= 8, '15 BadPageType %d %d' % (entry, kind))
-    for entry, (_, pfn) in enumerate(words):
-        refuse_if(pfn >= limit, '16 PfnOutside %d %d' % (entry, pfn))
+    if guest['kind'] == PV:
+        for entry, (_, pfn) in enumerate(words):
+            refuse_if(pfn > guest['top'], '16 PfnOutside %d %d' % (entry, pfn))
 
 
 def send(frames, pfn, kind, page):
@@ -249,9 +249,10 @@ def image(guest, base):
     if guest['kind'] == PV:
         guest, width = pv.restored(guest, machine), guest['top'] + 1
     frames, parts = sorted(guest['frames'].items()), sorted(parts_of(guest).items())
-    out = [b'XGIMAGE1', struct.pack('<IIQQ', guest['kind'], 0, width, len(frames))]
+    out = [b'XGIMAGE2', struct.pack('<IIQQ', guest['kind'], 0, width, len(frames))]
     for pfn, (kind, page) in frames:
-        out.append(struct.pack('<IIQ', kind << 28 | pfn, 0, machine[pfn]) + page)
+        zeros = bool(page) and not any(page)         # a page of zeros is left out
+        out.append(struct.pack('<QQ', kind << 60 | zeros << 52 | pfn, machine[pfn]) + (b'' if zeros else page))
     return b''.join(out + [struct.pack('<Q', len(parts))] + [part(*it) for it in parts])
 
 

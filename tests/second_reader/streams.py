@@ -24,8 +24,8 @@ def pages(dice):
     words, data = [], []
     for _ in range(dice.choice((1, 1, 2, 3, 5))):
         kind = rarely(dice, dice.choice((0, 0, 0, 1, 4, 9, 12, 13, 14, 15, 15)), dice.randrange(5, 9))
-        pfn = dice.choice((dice.randrange(6), dice.randrange(6), dice.randrange(1 << 28), (1 << 28) - 1))
-        pfn = rarely(dice, pfn, dice.choice((1 << 28, 1 << 51)))
+        pfn = dice.choice((dice.randrange(6), dice.randrange(6), dice.randrange(1 << 28), dice.randrange(1 << 52)))
+        pfn = rarely(dice, pfn, dice.choice(((1 << 28) - 1, 1 << 28, 1 << 51, (1 << 52) - 1)))
         words.append(struct.pack('<Q', kind << 60 | dice.choice((0, dice.randrange(256))) << 52 | pfn))
         if kind < 13:
             data.append(dice.randbytes(8) * 512)
