@@ -1,11 +1,19 @@
 -- The image that the reader keeps, as heads ask for it.
-use Rattle.mig_libxl.proofs.Common.{◌≡◌, Option, Some, None, sym, ap, ◌∙◌, ImageOf, Reading, Holds}
+use Rattle.mig_libxl.proofs.Common.{◌≡◌, List, Option, Some, None, refl, ap, ◌∙◌, ImageOf, Reading, LibxlRecord, image_among, Holds, IsLibxlSeen, WrapperSeen}
 use Rattle.mig_restore.proofs.Meaning.{mean_kind}
-use Rattle.mig_libxl.specs.Judging.{is_pv, is_pv_kind}
+use Rattle.mig_libxl.specs.Behind.{AreBehind, kind_of_image, kind_of_reading}
 
--- the kind of the image is that of the guest that was read
-pub held_kind : (o : Option Reading) (i : Option ImageOf) (reading : Reading) → o ≡ Some reading → Holds o i → is_pv i ≡ is_pv_kind reading.guest.kind
-held_kind (Some r) (Some image) reading is h =
-    ap is_pv_kind (sym (ap (λ g. g.kind) h.guest ∙ mean_kind image.opening.kind image.records)) ∙ ap (λ (x : Reading). is_pv_kind x.guest.kind) (let e : r ≡ reading = cc in e)
-held_kind (Some r) None reading is h = absurd h
-held_kind None i reading is h = let no : ◌≡◌ {A = Option Reading} None (Some reading) = is in cc
+-- what was read of the image is of its kind
+held_kind : (o : Option Reading) (i : Option ImageOf) → Holds o i → kind_of_reading o ≡ kind_of_image i
+held_kind (Some reading) (Some image) h = ap Some (ap (λ g. g.kind) h.guest ∙ mean_kind image.opening.kind image.records)
+held_kind (Some reading) None h = absurd h
+held_kind None (Some image) h = absurd h
+held_kind None None h = refl
+
+-- what the reader keeps is what a head is judged by
+pub seen_behind : (seen : WrapperSeen) (records : List LibxlRecord) → IsLibxlSeen seen records → AreBehind (record { records = seen.records; emulated = seen.emulated; image = kind_of_reading seen.image }) records
+seen_behind seen records is = record {
+  count = is.count;
+  emulated = is.emulated;
+  image = held_kind seen.image (image_among records) is.image;
+}

@@ -1,4 +1,5 @@
 pub mod Among
+pub mod Behind
 pub mod Judging
 pub mod Canon
 pub mod Carried

@@ -1,12 +1,16 @@
-/// The types of the records of a libxl stream.
-pub(crate) const END: u32 = 0;
+/// The type of the record that ends a libxl stream.
+pub const LIBXL_END: u32 = 0;
 
-pub(crate) const LIBXC_CONTEXT: u32 = 1;
+/// The type of the record that the image stands behind.
+pub const LIBXC_CONTEXT: u32 = 1;
 
-pub(crate) const EMULATOR_XENSTORE_DATA: u32 = 2;
+/// The type of a record with pairs of an emulator.
+pub const EMULATOR_XENSTORE_DATA: u32 = 2;
 
-pub(crate) const EMULATOR_CONTEXT: u32 = 3;
+/// The type of a record with an emulator's context.
+pub const EMULATOR_CONTEXT: u32 = 3;
 
+/// The types of the records of checkpoints, the last that are known.
 pub(crate) const CHECKPOINT_END: u32 = 4;
 
 pub(crate) const CHECKPOINT_STATE: u32 = 5;

@@ -11,26 +11,27 @@ ghost use Rattle.mig_pvtables.specs.Whole.{IsWhole};
 ghost use Rattle.mig_records.specs.Heads.{head_in};
 ghost use Rattle.mig_restore.specs.Judging.{most_records};
 ghost use Rattle.mig_emulators.specs.Content.{LibxlRecord};
-ghost use Rattle.mig_libxl.specs.Among.{image_among};
+ghost use Rattle.mig_libxl.specs.Behind.{AreBehind, kind_of_reading};
 ghost use Rattle.mig_emulators.specs.Content.LibxlContent.{Nothing};
-ghost use Rattle.mig_libxl.specs.Judging.{is_pv, is_pv_kind, fault_of_libxl_fields, fault_of_libxl_head, libxl_head_at, pairs_at, context_at, skipped_at, inner_at, body_of_type, libxl_content_at, libxl_record_at, allows_length as length_allowed};
+ghost use Rattle.mig_libxl.specs.Judging.{fault_of_libxl_head, libxl_head_at, pairs_at, context_at, skipped_at, inner_at, body_of_type, libxl_content_at, libxl_record_at, allows_length as length_allowed};
 ghost use Rattle.mig_libxl.specs.Seen.{IsLibxlSeen, IsLibxlBegun, IsClosed};
 ghost use Rattle.mig_libxl.specs.Stream.StreamOf.{Wrapped};
 ghost use Rattle.mig_headers.specs.declared.kind.Kind.TheVariants.{Pv};
 ghost use Rattle.mig_libxl.specs.Stream.{header_at, libxl_records_at, wrapped_at, bare_at, stream_at, IsStreamReading, ReadsStream};
 
+use crate::head::{RecordsBehind, libxl_head_fault};
 use crate::numbers::{
-    CHECKPOINT_END, CHECKPOINT_STATE, CONTEXT, EMULATOR_CONTEXT, EMULATOR_XENSTORE_DATA, EMULATORS,
-    END, INDICES, LIBXC_CONTEXT, MAX_RECORDS, PAIRS,
+    CONTEXT, EMULATOR_CONTEXT, EMULATOR_XENSTORE_DATA, EMULATORS, INDICES, LIBXC_CONTEXT,
+    LIBXL_END, PAIRS,
 };
 use mig_bytes::{
     Memory, ReadFailed, Source, Stop, answer_for, skip, stop_for, take_long, take_part, u32_le,
 };
 use mig_emulators::Emulators;
 use mig_guest::PartKey;
-use mig_headers::{Cause, ImageHeader, Kind, LibxlHeader, Place, is_optional};
+use mig_headers::{Cause, ImageHeader, LibxlHeader, Place};
 use mig_policy::{PairsAnswer, pairs_fault};
-use mig_records::{RecordHead, long_fault, take_head, take_padding};
+use mig_records::{RecordHead, take_head, take_padding};
 use mig_restore::{Reading, StreamAnswer, read_image, read_image_rest};
 use std::alloc::Global;
 
@@ -63,39 +64,6 @@ pub(crate) struct WrapperSeen {
     pub(crate) records: u32,
 }
 
-/// Whether a record of this type may have a body of this length.
-fn allows_length(kind: u32, len: u32) -> bool
-    ensures { result ≡ length_allowed kind len }
-{
-    match kind {
-        END | LIBXC_CONTEXT => len == 0,
-        EMULATOR_XENSTORE_DATA | EMULATOR_CONTEXT => len >= 8,
-        _ => true,
-    }
-}
-
-/// What is wrong with a head, whatever stands before it.
-#[tactic(auto, unfolding(crate::specs::Judging::fault_of_libxl_fields))]
-fn lone_fault(head: RecordHead) -> Option<Cause>
-    ensures fault { result ≡ fault_of_libxl_fields head.kind head.len }
-    ensures small { IfNone result (head.len ≤ most_body) }
-    ensures allowed { IfNone result (length_allowed head.kind head.len ≡ true) }
-{
-    if let Some(cause) = long_fault(head) {
-        return Some(cause);
-    }
-    if head.kind == CHECKPOINT_END || head.kind == CHECKPOINT_STATE {
-        return Some(Cause::Unsupported(u64::from(head.kind)));
-    }
-    if head.kind > CHECKPOINT_STATE && !is_optional(head.kind) {
-        return Some(Cause::UnknownMandatory(u64::from(head.kind)));
-    }
-    if !allows_length(head.kind, head.len) {
-        return Some(Cause::BadLength(u64::from(head.len)));
-    }
-    None
-}
-
 impl WrapperSeen {
     ghost use Rattle.mig_libxl.specs.Seen.{IsLibxlSeen, IsLibxlBegun, IsClosed, TakesLibxl};
 
@@ -113,19 +81,23 @@ impl WrapperSeen {
         }
     }
 
-    /// Whether the image is that of a PV guest.
-    fn is_pv(&self) -> bool
-        ensures seen { (records : List LibxlRecord) → IsLibxlSeen self.now records → result ≡ is_pv (image_among records) }
-        ensures held { IfSome self.now.image (λ reading. result ≡ is_pv_kind reading.guest.kind) }
+    /// What a head is judged by, of these records.
+    #[tactic(auto, using(crate::proofs::Heads::seen_behind))]
+    fn behind(&self) -> RecordsBehind
+        ensures kept { result ≡ record { records = self.now.records; emulated = self.now.emulated; image = kind_of_reading self.now.image } }
+        ensures behind { (records : List LibxlRecord) → IsLibxlSeen self.now records → AreBehind result records }
     {
-        match &self.image {
-            Some(reading) => reading.guest.kind() == Kind::Pv,
-            None => false,
+        RecordsBehind {
+            records: self.records,
+            emulated: self.emulated,
+            image: match &self.image {
+                Some(reading) => Some(reading.guest.kind()),
+                None => None,
+            },
         }
     }
 
     /// What is wrong with a head behind these records.
-    #[tactic(auto, unfolding(crate::specs::Judging::fault_of_order))]
     fn head_fault(&self, head: RecordHead) -> Option<Cause>
         ensures fault { (records : List LibxlRecord) → IsLibxlSeen self.now records → result ≡ fault_of_libxl_head records head.kind head.len }
         ensures small { IfNone result (head.len ≤ most_body) }
@@ -135,24 +107,7 @@ impl WrapperSeen {
         ensures ends { IfNone result (head.kind ≡ 0 → IsSome self.now.image) }
         ensures pv { IfNone result (head.kind ≡ 0 → IfSome self.now.image (λ reading. reading.guest.kind ≡ Pv → self.now.emulated ≡ false)) }
     {
-        if let Some(cause) = lone_fault(head) {
-            return Some(cause);
-        }
-        if self.records >= MAX_RECORDS {
-            return Some(Cause::TooManyRecords);
-        }
-        if head.kind == END && self.is_pv() && self.emulated {
-            return Some(Cause::EmulatorForPv);
-        }
-        let miscounted = match head.kind {
-            LIBXC_CONTEXT => self.image.is_some(),
-            END => self.image.is_none(),
-            _ => false,
-        };
-        if miscounted {
-            return Some(Cause::ContextCount);
-        }
-        None
+        libxl_head_fault(head, self.behind())
     }
 
     /// Takes the next record's head.
@@ -354,7 +309,7 @@ impl WrapperSeen {
             Err(stop) => return Err(stop.at(place)),
         }
         self.records += 1;
-        Ok(head.kind == END)
+        Ok(head.kind == LIBXL_END)
     }
 
     /// The reading of the image, with the emulators put into its guest.

@@ -10,7 +10,7 @@ ghost use Rattle.mig_pvtables.specs.Whole.{IsWhole};
 ghost use Rattle.mig_records.specs.Records.{spelled};
 ghost use Rattle.mig_libxl.specs.Canon.{has_emulators as some_emulators, is_of_converter as from_converter, emulator_record, part_with, parts_of_emulator, parts_of_id, emulators_in_order, text_of_emulators, opening_text, wrapper_opening, wrapper_closing, canon_any};
 
-use crate::numbers::{CONTEXT, EMULATORS, END, INDICES, LIBXC_CONTEXT, PAIRS};
+use crate::numbers::{CONTEXT, EMULATORS, INDICES, LIBXC_CONTEXT, LIBXL_END, PAIRS};
 use mig_bytes::{Sink, WriteFailed, put_all, put_u32_le};
 use mig_canon::write_canon;
 use mig_guest::{Guest, PartKey};
@@ -58,7 +58,7 @@ pub fn close_wrapper<K: Sink>(sink: &mut K) -> Result<(), WriteFailed>
     ensures bytes { Puts (spelled 0 []) (K.written sink.old) (K.written sink.new) result }
     ensures cause { HasCause (K.faults sink.old) (K.faults sink.new) result }
 {
-    write_record(sink, END, &[])
+    write_record(sink, LIBXL_END, &[])
 }
 
 /// Appends the record of the part of this key, where the guest has it.
