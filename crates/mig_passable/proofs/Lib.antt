@@ -1,0 +1,10 @@
+pub mod Fronts
+pub mod Opens
+pub mod RecordFronts
+pub mod Images
+pub mod Asked
+pub mod Records
+pub mod Streams
+pub mod Tells
+pub mod Kept
+pub mod StreamsKept

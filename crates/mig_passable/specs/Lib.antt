@@ -1,0 +1,4 @@
+pub mod Causes
+pub mod Images
+pub mod Streams
+pub mod Laws
