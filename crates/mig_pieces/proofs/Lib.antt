@@ -1,0 +1,6 @@
+pub mod ContextChain
+pub mod PairPieces
+pub mod Fronts
+pub mod FirstPieces
+pub mod NextPieces
+pub mod Types
