@@ -1,0 +1,12 @@
+-- Judgements one after another, regrouped.
+use Rattle.std.proofs.Common.{◌≡◌, ℕ, List, refl}
+use Rattle.mig_bytes.specs.Judged.{Judged, ◌>>=◌, placed}
+use Rattle.mig_bytes.specs.Judged.Judged.{Passes, Faulty}
+
+pub bind_assoc : {C X Y Z : Type 0} (j : Judged C X) (f : X × List ℕ → Judged C Y) (k : Y × List ℕ → Judged C Z) → ((j >>= f) >>= k) ≡ (j >>= λ a. f a >>= k)
+bind_assoc (Passes x rest) f k = refl
+bind_assoc (Faulty c rest) f k = refl
+
+pub placed_bind : {P C X Y Z : Type 0} (place : P) (j : Judged C X) (f : X × List ℕ → Judged C Y) (k : Y × List ℕ → Judged (P × C) Z) → (placed place (j >>= f) >>= k) ≡ (placed place j >>= λ a. placed place (f a) >>= k)
+placed_bind place (Passes x rest) f k = refl
+placed_bind place (Faulty c rest) f k = refl

@@ -1,0 +1,13 @@
+pub mod Binds
+pub mod Moves
+pub mod Unrolls
+pub mod PageParts
+pub mod SpotParts
+pub mod Kept
+pub mod Openings
+pub mod HeadParts
+pub mod LibxlHeads
+pub mod Paging
+pub mod BehindBodies
+pub mod Places
+pub mod Steps

@@ -1,0 +1,104 @@
+-- The front, the words and the pages of a PAGE_DATA are parts, one after another.
+use Rattle.std.proofs.Common.{◌≡◌, ℕ, ◌*◌, List, [], ◌∷◌, ◌++◌, true, false, Option, Some, None, refl, sym, ap, ◌∙◌, append_assoc, append-nil, length}
+use Rattle.std.specs.Option.{option_or}
+use Rattle.mig_bytes.specs.Fields.{le32}
+use Rattle.mig_bytes.specs.Judged.{Judged, ◌>>=◌, part, tried, placed, said_at, each}
+use Rattle.mig_bytes.specs.Judged.Judged.{Passes, Faulty}
+use Rattle.mig_headers.specs.declared.fault.Cause.{Cause}
+use Rattle.mig_headers.specs.declared.fault.Cause.TheVariants.{Truncated}
+use Rattle.mig_headers.specs.declared.fault.Place.TheVariants.{Record}
+use Rattle.mig_pagetypes.specs.FrameWords.{word_has_data}
+use Rattle.mig_records.specs.Faults.{fault_of_count, fault_of_words}
+use Rattle.mig_records.specs.Words.{words}
+use Rattle.mig_records.specs.declared.head.RecordHead.{RecordHead}
+use Rattle.mig_restore.specs.Record.{StreamRecord, FrameEntry, Content}
+use Rattle.mig_restore.specs.Record.Content.{Frames}
+use Rattle.mig_restore.specs.Judging.{Opening, before, fault_of_data, fault_of_page, with_places, entry_at, words_at, pages_at}
+use Rattle.mig_relay.specs.Parts.{AtPadding, judge, with_body, pages_behind, words_behind, fault_of_list, entry_of}
+
+module _ (o : Opening) (records : List StreamRecord) (head : RecordHead) where
+  abbrev kind_top : List (ℕ × ℕ) → List ℕ → Judged Cause (List FrameEntry)
+  kind_top ws = each (entry_at o.kind (before o records).top) ws
+
+  -- what stands behind a part of a body is judged on
+  behind : {X : Type 0} (j : Judged Cause X) (k : X × List ℕ → Judged Cause Content) → with_body o records head (j >>= k) ≡ (placed (Record (length records)) j >>= λ a. with_body o records head (k a))
+  behind (Passes x rest) k = refl
+  behind (Faulty c rest) k = refl
+
+  -- causes of a part that are tried one by one
+  two_causes : {Y : Type 0} (f g : Option Cause) (i : List ℕ) (k : Judged Cause Y) → (tried f i >>= λ _. tried g i >>= λ _. k) ≡ (tried (option_or f g) i >>= λ _. k)
+  two_causes None g i k = refl
+  two_causes (Some c) g i k = refl
+
+  -- no page is left
+  pub pages_over : (stood : List FrameEntry) (i : List ℕ) → pages_behind o records head [] stood i ≡ judge (AtPadding o records head (Frames stood)) i
+  unfolding each
+  pages_over stood i = ap (λ es. with_body o records head (Passes (Frames es) i)) (append-nil stood)
+
+  -- the entry of a word, and the others
+  on : (entry : FrameEntry) (stood : List FrameEntry) (j : Judged Cause (List FrameEntry))
+      → ((j >>= λ others. Passes (entry ∷ others.0) others.1) >>= λ es. Passes (Frames (stood ++ es.0)) es.1) ≡ (j >>= λ es. Passes (Frames ((stood ++ entry ∷ []) ++ es.0)) es.1)
+  on entry stood (Passes es rest) = ap (λ l. Passes (Frames l) rest) (sym (append_assoc stood (entry ∷ []) es))
+  on entry stood (Faulty c rest) = refl
+
+  module _ (place word : ℕ) (others : List (ℕ × ℕ)) (stood : List FrameEntry) where
+    -- a word without a page
+    pub no_page : word_has_data word ≡ false → (i : List ℕ) → pages_behind o records head ((place, word) ∷ others) stood i ≡ pages_behind o records head others (stood ++ entry_of word None ∷ []) i
+    unfolding each
+    no_page none i = rw none (ap (with_body o records head) (on (entry_of word None) stood (kind_top others i)))
+
+    paged : (j : Judged Cause (List ℕ))
+        → with_body o records head (((((j >>= λ page. tried (fault_of_page o.kind (before o records).top (place, word) page.0) page.1 >>= λ _. Passes (Some page.0) page.1) >>= λ page. Passes (entry_of word page.0) page.1) >>= λ first. kind_top others first.1 >>= λ es. Passes (first.0 ∷ es.0) es.1)) >>= λ es. Passes (Frames (stood ++ es.0)) es.1)
+        ≡ (placed (Record (length records)) (j >>= λ b. tried (fault_of_page o.kind (before o records).top (place, word) b.0) b.1 >>= λ _. Passes b.0 b.1) >>= λ b. pages_behind o records head others (stood ++ entry_of word (Some b.0) ∷ []) b.1)
+    paged (Faulty c rest) = refl
+    paged (Passes b rest) =
+        elim (fault_of_page o.kind (before o records).top (place, word) b) as (λ g. with_body o records head ((((tried g rest >>= λ _. Passes (Some b) rest) >>= λ page. Passes (entry_of word page.0) page.1) >>= λ first. kind_top others first.1 >>= λ es. Passes (first.0 ∷ es.0) es.1) >>= λ es. Passes (Frames (stood ++ es.0)) es.1)
+        ≡ (placed (Record (length records)) (tried g rest >>= λ _. Passes b rest) >>= λ b. pages_behind o records head others (stood ++ entry_of word (Some b.0) ∷ []) b.1))
+        [ None ↦ ap (with_body o records head) (on (entry_of word (Some b)) stood (kind_top others rest)) | Some c ↦ refl ]
+
+    -- a page is a part
+    pub page_part : word_has_data word ≡ true → (i : List ℕ) → pages_behind o records head ((place, word) ∷ others) stood i
+        ≡ (placed (Record (length records)) (said_at Truncated (fault_of_page o.kind (before o records).top (place, word)) (λ b. b) 4096 i) >>= λ b. pages_behind o records head others (stood ++ entry_of word (Some b.0) ∷ []) b.1)
+    unfolding each
+    page_part some i = rw some (paged (part Truncated 4096 i))
+
+  -- the words are a part, with the length that they ask for
+  listed : (n : ℕ) (j : Judged Cause (List ℕ))
+      → with_body o records head (((j >>= λ b. Passes (words n b.0) b.1) >>= λ ws. tried (fault_of_words o.kind (before o records).top ws.0) ws.1 >>= λ _. tried (fault_of_data head.len ws.0) ws.1 >>= λ _. kind_top (with_places 0 ws.0) ws.1 >>= λ es. Passes (Frames es.0) es.1))
+      ≡ (placed (Record (length records)) (j >>= λ b. tried (fault_of_list o.kind (before o records).top head.len n b.0) b.1 >>= λ _. Passes b.0 b.1) >>= λ b. pages_behind o records head (with_places 0 (words n b.0)) [] b.1)
+  listed n (Faulty c rest) = refl
+  listed n (Passes b rest) =
+      ap (with_body o records head) (two_causes (fault_of_words o.kind (before o records).top (words n b)) (fault_of_data head.len (words n b)) rest (kind_top (with_places 0 (words n b)) rest >>= λ es. Passes (Frames es.0) es.1))
+      ∙ elim (fault_of_list o.kind (before o records).top head.len n b) as (λ g. with_body o records head (tried g rest >>= λ _. kind_top (with_places 0 (words n b)) rest >>= λ es. Passes (Frames es.0) es.1)
+      ≡ (placed (Record (length records)) (tried g rest >>= λ _. Passes b rest) >>= λ b. pages_behind o records head (with_places 0 (words n b.0)) [] b.1)) [ None ↦ refl | Some c ↦ refl ]
+
+  pub words_part : (n : ℕ) (i : List ℕ) → words_behind o records head n i
+      ≡ (placed (Record (length records)) (said_at Truncated (fault_of_list o.kind (before o records).top head.len n) (λ b. b) (8 * n) i) >>= λ b. pages_behind o records head (with_places 0 (words n b.0)) [] b.1)
+  words_part n i = listed n (part Truncated (8 * n) i)
+
+  abbrev listed_on : List ℕ × List ℕ → Judged Cause (List FrameEntry)
+  listed_on ws = tried (fault_of_words o.kind (before o records).top ws.0) ws.1 >>= λ _. tried (fault_of_data head.len ws.0) ws.1 >>= λ _. kind_top (with_places 0 ws.0) ws.1
+
+  pull : {X Y : Type 0} (f g : Option Cause) (i : List ℕ) (j : Judged Cause X) (k : X × List ℕ → Judged Cause Y) → ((tried f i >>= λ _. tried g i >>= λ _. j) >>= k) ≡ (tried f i >>= λ _. tried g i >>= λ _. j >>= k)
+  pull None None i j k = refl
+  pull None (Some d) i j k = refl
+  pull (Some c) g i j k = refl
+
+  inner : (j : Judged Cause (List ℕ)) → ((j >>= listed_on) >>= λ es. Passes (Frames es.0) es.1)
+      ≡ (j >>= λ ws. tried (fault_of_words o.kind (before o records).top ws.0) ws.1 >>= λ _. tried (fault_of_data head.len ws.0) ws.1 >>= λ _. kind_top (with_places 0 ws.0) ws.1 >>= λ es. Passes (Frames es.0) es.1)
+  inner (Faulty c rest) = refl
+  inner (Passes ws rest) = pull (fault_of_words o.kind (before o records).top ws) (fault_of_data head.len ws) rest (kind_top (with_places 0 ws) rest) (λ es. Passes (Frames es.0) es.1)
+
+  -- the front is a part
+  fronted : (j : Judged Cause (List ℕ))
+      → with_body o records head ((j >>= λ front. tried (fault_of_count head.len (le32 front.0 0)) front.1 >>= λ _. words_at (le32 front.0 0) front.1 >>= λ ws. tried (fault_of_words o.kind (before o records).top ws.0) ws.1 >>= λ _. tried (fault_of_data head.len ws.0) ws.1 >>= λ _. kind_top (with_places 0 ws.0) ws.1) >>= λ es. Passes (Frames es.0) es.1)
+      ≡ (placed (Record (length records)) (j >>= λ b. tried (fault_of_count head.len (le32 b.0 0)) b.1 >>= λ _. Passes b.0 b.1) >>= λ b. words_behind o records head (le32 b.0 0) b.1)
+  fronted (Faulty c rest) = refl
+  fronted (Passes b rest) =
+      elim (fault_of_count head.len (le32 b 0)) as (λ g. with_body o records head ((tried g rest >>= λ _. words_at (le32 b 0) rest >>= listed_on) >>= λ es. Passes (Frames es.0) es.1)
+      ≡ (placed (Record (length records)) (tried g rest >>= λ _. Passes b rest) >>= λ b. words_behind o records head (le32 b.0 0) b.1))
+      [ None ↦ ap (with_body o records head) (inner (words_at (le32 b 0) rest)) | Some c ↦ refl ]
+
+  pub front_part : (i : List ℕ) → with_body o records head (pages_at o.kind (before o records).top head.len i)
+      ≡ (placed (Record (length records)) (said_at Truncated (λ b. fault_of_count head.len (le32 b 0)) (λ b. b) 8 i) >>= λ b. words_behind o records head (le32 b.0 0) b.1)
+  front_part i = fronted (part Truncated 8 i)

@@ -1,0 +1,258 @@
+-- A PAGE_DATA on its way: its count, its words and its pages are parts, and words without a page are passed over.
+use Rattle.std.proofs.Common.{◌≡◌, ℕ, zero, suc, ◌+◌, ◌*◌, ◌-◌, ◌<◌, ◌≤◌, ◌^◌, Bool, true, false, nat_eq, nat_lt, not, List, [], ◌∷◌, ◌++◌, length, drop, slice_index, replicate, Option, Some, None, Ok, Err, refl, sym, ap, subst, ◌∙◌, arith}
+use Rattle.std.specs.Option.{option_or}
+use Rattle.std.proofs.lemmas.Bool.{ltb-true, ltb-false, eqb-true, eqb-false, not-false}
+use Rattle.std.proofs.lemmas.List.{drop_more, drop_all, map-append, length-replicate}
+use Rattle.mig_bytes.specs.Bytes.{padding_len, TakesFew}
+use Rattle.mig_bytes.specs.Fields.{le32}
+use Rattle.mig_bytes.specs.Judged.{Judged, ◌>>=◌, part, Gives}
+use Rattle.mig_bytes.specs.declared.part.Stop.{Stop}
+use Rattle.mig_bytes.proofs.Joins.{any_stop}
+use Rattle.mig_guest.specs.Guests.{GuestOf}
+use Rattle.mig_headers.proofs.FirstFaults.{rows_fine}
+use Rattle.mig_headers.specs.declared.fault.Cause.{Cause}
+use Rattle.mig_headers.specs.declared.fault.Cause.TheVariants.{Truncated, BadLength}
+use Rattle.mig_headers.specs.declared.fault.Place.{Place}
+use Rattle.mig_headers.specs.declared.fault.Place.TheVariants.{Record}
+use Rattle.mig_headers.specs.declared.kind.Kind.{Kind}
+use Rattle.mig_libxl.specs.Among.{image_among}
+use Rattle.mig_pagetypes.specs.FrameWords.{word_has_data}
+use Rattle.mig_pagetypes.specs.PageTypes.{level_of}
+use Rattle.mig_pagetypes.specs.declared.page_type.PageType.{PageType}
+use Rattle.mig_records.specs.Faults.{fault_of_count, fault_of_words, count_rows}
+use Rattle.mig_records.specs.Words.{words, data_len_of}
+use Rattle.mig_records.specs.declared.head.RecordHead.{RecordHead}
+use Rattle.mig_restore.proofs.Arrivals.{ended_more}
+use Rattle.mig_restore.proofs.Meaning.{one_more_record}
+use Rattle.mig_restore.specs.Judging.{Opening, before, type_in_word, fault_of_data, fault_of_level, fault_of_page, with_places}
+use Rattle.mig_restore.specs.Mean.{sent, put_content, meant_type}
+use Rattle.mig_restore.specs.Record.{StreamRecord, FrameEntry, types_of, is_verified, placed_content}
+use Rattle.mig_restore.specs.Record.Content.{Frames}
+use Rattle.mig_restore.specs.Seen.{IsSeen}
+use Rattle.mig_restore.specs.Stream.{ImageOf}
+use Rattle.mig_restore.specs.declared.head.RecordsSeen.{RecordsSeen}
+use Rattle.mig_relay.specs.Keeping.{Keeps, KeepsWords, HasNumber, KeepsRecords, KeepsHead, KeepsOuter, IsPages}
+use Rattle.mig_relay.specs.Parts.{AtHead, AtFront, AtWords, AtPages, judge, record_with, fault_of_list, entry_of, IsPart}
+use Rattle.mig_relay.specs.Spots.{Outer, Alone, Behind, Spot, InImage, spot, carry}
+use Rattle.mig_relay.specs.declared.state.Relay.{Relay}
+use Rattle.mig_relay.specs.declared.state.Coming.TheVariants as comes
+use Rattle.mig_relay.proofs.Moves.{Buffered}
+use Rattle.mig_relay.proofs.PageParts.{front_part, words_part, page_part, no_page, pages_over}
+use Rattle.mig_relay.proofs.SpotParts.{lifted}
+use Rattle.mig_relay.proofs.Unrolls.{with, no_padding}
+
+-- the word that has the next page, and those behind it, with their places
+abbrev pub next_word : Relay → ℕ
+next_word r = slice_index r.words.items r.page
+
+abbrev pub others : Relay → List (ℕ × ℕ)
+others r = with_places (r.page + 1) (drop (r.page + 1) r.words.items)
+
+-- ---- the parts, in the stream around them
+
+module _ (outer : Outer) (o : Opening) (records : List StreamRecord) (head : RecordHead) where
+  -- the count of the words
+  pub front_is : IsPart (spot (InImage outer (AtFront o records head))) (Record (length records)) 8 (λ b. fault_of_count head.len (le32 b 0)) (λ b i. spot (InImage outer (AtWords o records head (le32 b 0))) i)
+  front_is = lifted (carry outer) (record { judged = front_part o records head; some = omega arith })
+
+  -- so many words, with the length that they ask for
+  pub words_is : (n : ℕ) → 0 < n
+      → IsPart (spot (InImage outer (AtWords o records head n))) (Record (length records)) (8 * n) (fault_of_list o.kind (before o records).top head.len n) (λ b i. spot (InImage outer (AtPages o records head (with_places 0 (words n b)) [])) i)
+  words_is n some = lifted (carry outer) (record { judged = words_part o records head n; some = omega (arith, some) })
+
+  -- the page of the next word
+  pub page_is : (r : Relay) (coming : List (ℕ × ℕ)) (stood : List FrameEntry) → KeepsWords r coming
+      → IsPart (spot (InImage outer (AtPages o records head coming stood))) (Record (length records)) 4096 (fault_of_page o.kind (before o records).top (r.page, next_word r)) (λ b i. spot (InImage outer (AtPages o records head (others r) (stood ++ entry_of (next_word r) (Some b) ∷ []))) i)
+  page_is r coming stood kept = lifted (carry outer) (record {
+    judged = λ i. ap (λ l. judge (AtPages o records head l stood) i) (kept.left ∙ ap (with_places r.page) (drop_more r.words.items r.page 0 kept.some)) ∙ page_part o records head r.page (next_word r) (others r) stood kept.paged i;
+    some = omega arith;
+  })
+
+-- ---- what has no fault
+
+-- the words fit in the body, and there are some
+pub in_count : (len n : ℕ) → None ≡ fault_of_count len n → (0 < n) × (8 + 8 * n ≤ len)
+in_count len n fine =
+    let rows = rows_fine (count_rows len n) (sym fine) in
+    let other = eqb-false n 0 rows.1.0 in
+    (grind (arith, other), ltb-false _ _ rows.0)
+
+-- neither of two causes
+pub both_none : (f g : Option Cause) → None ≡ option_or f g → (f ≡ None) × (g ≡ None)
+both_none None g is = (refl, sym is)
+both_none (Some c) g is = let no : ◌≡◌ {A = Option Cause} None (Some c) = is in absurd (cc)
+
+-- a body of words and pages needs no padding
+pub whole_length : (len : ℕ) (ws : List ℕ) → fault_of_data len ws ≡ None → padding_len len ≡ 0
+whole_length len ws fine =
+    let rows = rows_fine ((not (nat_eq len (data_len_of ws)), BadLength len) ∷ []) fine in
+    let full : len ≡ data_len_of ws = eqb-true len _ (not-false _ rows.0) in
+    omega (arith, full)
+
+-- what is known of the opening and of the words tells the same cause
+pub same_list_fault : (kind its : Kind) (top high len n : ℕ) (ws bytes : List ℕ) (fault : Option Cause) → kind ≡ its → top ≡ high → ws ≡ words n bytes → fault ≡ option_or (fault_of_words kind top ws) (fault_of_data len ws) → fault ≡ fault_of_list its high len n bytes
+same_list_fault kind its top high len n ws bytes fault same_kind same_high same_words is =
+    is ∙ ap (λ l. option_or (fault_of_words kind top l) (fault_of_data len l)) same_words ∙ ap (λ k. fault_of_list k top len n bytes) same_kind ∙ ap (λ m. fault_of_list its m len n bytes) same_high
+
+-- what is known of the opening and of the word's type tells the same cause of its page
+pub same_page_fault : (kind its : Kind) (top high place at word : ℕ) (type : PageType) (page : List ℕ) (fault : Option Cause) → kind ≡ its → top ≡ high → place ≡ at → type ≡ meant_type kind (type_in_word word) → fault ≡ fault_of_level top place (level_of type) page → fault ≡ fault_of_page its high (at, word) page
+same_page_fault kind its top high place at word type page fault same_kind same_high same_place same_type is =
+    is
+    ∙ ap (λ t. fault_of_level top place (level_of t) page) same_type
+    ∙ ap (λ k. fault_of_level top place (level_of (meant_type k (type_in_word word))) page) same_kind
+    ∙ ap (λ m. fault_of_level m place (level_of (meant_type its (type_in_word word))) page) same_high
+    ∙ ap (λ n. fault_of_level high n (level_of (meant_type its (type_in_word word))) page) same_place
+
+-- words and pages without fault need no padding
+pub whole_list : (kind : Kind) (top len n : ℕ) (bytes : List ℕ) → None ≡ fault_of_list kind top len n bytes → padding_len len ≡ 0
+whole_list kind top len n bytes fine = whole_length len (words n bytes) (both_none (fault_of_words kind top (words n bytes)) (fault_of_data len (words n bytes)) fine).1
+
+-- ---- what was taken, or wasn't
+
+-- bytes that no one reads
+abbrev pub blank : ℕ → List ℕ
+blank n = replicate n 0
+
+-- so many of them
+pub blank_len : (n : ℕ) → length (blank n) ≡ n
+blank_len n = length-replicate n 0
+
+-- no more bytes than so many were taken
+pub few_bytes : (n m : ℕ) (old new : Option (List ℕ)) → n ≡ m → TakesFew n old new → TakesFew m old new
+few_bytes n m old new same few = record { taken = few.taken; few = omega (arith, few.few, same); gone = few.gone }
+
+-- a list that was taken whole is a buffer that was
+pub buffered : {X : Type 0} (items : X → List ℕ) (x : X) (n : ℕ) (old new : Option (List ℕ)) → n ≡ length (items x) → Gives (λ y bytes. bytes ≡ items y) old new (part Truncated n) (Ok x) → Gives (Buffered (items x)) old new (part Truncated (length (items x))) (Ok tt)
+buffered items x n None new size h = tt
+buffered items x n (Some left) new size h = subst (λ m. Gives (Buffered (items x)) (Some left) new (part Truncated m) (Ok tt)) size h
+
+-- a list that couldn't be taken is a buffer that couldn't
+pub unbuffered : {X : Type 0} (items : X → List ℕ) (buf : List ℕ) (n : ℕ) (e : Stop Cause) (old new : Option (List ℕ)) → n ≡ length buf → Gives {X = X} (λ y bytes. bytes ≡ items y) old new (part Truncated n) (Err e) → Gives (Buffered buf) old new (part Truncated (length buf)) (Err e)
+unbuffered items buf n e None new size h = tt
+unbuffered items buf n e (Some left) new size h = subst (λ m. Gives (Buffered buf) (Some left) new (part Truncated m) (Err e)) size (any_stop (λ y bytes. bytes ≡ items y) (Buffered buf) (Some left) new (part Truncated n) e h)
+
+-- ---- what is kept
+
+-- around the image and of its records, all is kept as it was
+pub record IsKept (r t : Relay) : Type 0 where
+  pub wrapper : t.wrapper ≡ r.wrapper
+  pub seen : t.seen ≡ r.seen
+  pub top : t.top ≡ r.top
+
+-- then the stream around the image has what it had
+pub outer_stays : (r t : Relay) (outer : Outer) → IsKept r t → KeepsOuter r outer → KeepsOuter t outer
+outer_stays r t Alone kept k = kept.wrapper ∙ k
+outer_stays r t (Behind around) kept k =
+    let w = k.0.0.0 in
+    (((record { behind = w.behind; is = kept.wrapper ∙ w.is; are = w.are; number = subst (λ (s : RecordsSeen). HasNumber s.records (image_among around)) (sym kept.seen) w.number }, k.0.0.1), k.0.1), k.1)
+
+-- and so have the image's records
+pub records_stay : (r t : Relay) (o : Opening) (records : List StreamRecord) (types : List ℕ) (high : ℕ) → IsKept r t → KeepsRecords r o records types high → KeepsRecords t o records types high
+records_stay r t o records types high kept k = record { seen = subst (λ (s : RecordsSeen). IsSeen s o types) (sym kept.seen) k.seen; top = kept.top ∙ k.top; going = k.going }
+
+-- ---- behind a PAGE_DATA
+
+module _ (o : Opening) (records : List StreamRecord) (head : RecordHead) where
+  -- frames leave the greatest frame number as it is
+  same_top : (entries : List FrameEntry) → (before o (with o records head (Frames entries))).top ≡ (before o records).top
+  same_top entries = ap (λ (g : GuestOf). g.top) (one_more_record o.kind records (record_with records head (Frames entries))) ∙ by (is_verified (types_of records)) (sent o.kind records)
+    where
+      by : (verified : Bool) (g : GuestOf) → (put_content g (placed_content verified (Frames entries))).top ≡ g.top
+      by true g = refl
+      by false g = refl
+
+  -- the record of these frames stands behind the others, and ends nothing
+  pub behind_pages : (t : Relay) (entries : List FrameEntry) → IsPages head → KeepsHead t o records head (before o records).top → KeepsRecords t o (with o records head (Frames entries)) (types_of (with o records head (Frames entries))) (before o (with o records head (Frames entries))).top
+  behind_pages t entries pages k = record {
+    seen = subst (IsSeen t.seen o) (sym (map-append (λ (x : StreamRecord). x.type) records (record_with records head (Frames entries) ∷ []))) k.seen;
+    top = k.top ∙ sym (same_top entries);
+    going = ended_more records (record_with records head (Frames entries)) k.going ∙ ap (λ n. nat_eq n 0) pages.kind;
+  }
+
+  -- ---- words without a page
+
+  module _ (ws : List ℕ) where
+    -- the pages of the words from here on are those of the words from there on, behind other entries
+    record Skips (from to : ℕ) (stood : List FrameEntry) : Type 0 where
+      pub entries : List FrameEntry
+      pub same : (i : List ℕ) → judge (AtPages o records head (with_places from (drop from ws)) stood) i ≡ judge (AtPages o records head (with_places to (drop to ws)) entries) i
+
+    -- words without a page are passed over, one by one
+    skips : (k from to : ℕ) (stood : List FrameEntry) → to ≡ from + k → to ≤ length ws → ((place : ℕ) → from ≤ place → place < to → word_has_data (slice_index ws place) ≡ false) → Skips from to stood
+    skips zero from to stood is within none =
+        let at : from ≡ to = omega (arith, is) in
+        record { entries = stood; same = λ i. ap (λ n. judge (AtPages o records head (with_places n (drop n ws)) stood) i) at }
+    skips (suc k) from to stood is within none =
+        let word = slice_index ws from in
+        let more = skips k (from + 1) to (stood ++ entry_of word None ∷ []) (omega (arith, is)) within (λ place le lt. none place (omega (arith, le)) lt) in
+        record {
+          entries = more.entries;
+          same = λ i.
+              ap (λ l. judge (AtPages o records head (with_places from l) stood) i) (drop_more ws from 0 (omega (arith, is, within)))
+              ∙ no_page o records head from word (with_places (from + 1) (drop (from + 1) ws)) stood (none from (omega arith) (omega (arith, is))) i
+              ∙ more.same i;
+        }
+
+-- ---- the next page of the words, or the next record
+
+-- what comes next behind the pages of these words up to one, and that it is judged as they are from there
+pub record Turned (t : Relay) (outer : Outer) (o : Opening) (records : List StreamRecord) (head : RecordHead) (coming : List (ℕ × ℕ)) (stood : List FrameEntry) : Type 0 where
+  pub next : Spot
+  pub same : (more : List ℕ) → spot (InImage outer (AtPages o records head coming stood)) more ≡ spot next more
+  pub keeps : Keeps t next []
+
+module _ (r t : Relay) (head : RecordHead) (within : t.page ≤ length r.words.items) (page : t.page < length r.words.items → t ≡ record r { page = t.page; coming = comes.Page head }) (over : t.page ≡ length r.words.items → t ≡ record r { page = t.page; coming = comes.Head }) where
+  abbrev ws : List ℕ
+  ws = r.words.items
+
+  -- what doesn't turn on what comes next, and on the page, is as it was
+  pub turning_keeps : {X : Type 0} (f : Relay → X) → ((next : ℕ) → f (record r { page = next; coming = comes.Page head }) ≡ f r) → ((next : ℕ) → f (record r { page = next; coming = comes.Head }) ≡ f r) → f t ≡ f r
+  turning_keeps f at_page at_head = by (nat_lt t.page (length ws)) refl
+    where
+      by : (b : Bool) → nat_lt t.page (length ws) ≡ b → f t ≡ f r
+      by true is = ap f (page (ltb-true _ _ is)) ∙ at_page t.page
+      by false is = let whole : length ws ≤ t.page = ltb-false _ _ is in ap f (over (omega (arith, whole, within))) ∙ at_head t.page
+
+  -- nothing around the page turns
+  turning_stays : IsKept r t
+  turning_stays = record { wrapper = turning_keeps (λ x. x.wrapper) (λ _. refl) (λ _. refl); seen = turning_keeps (λ x. x.seen) (λ _. refl) (λ _. refl); top = turning_keeps (λ x. x.top) (λ _. refl) (λ _. refl) }
+
+  -- the next word with a page comes next, or the next record where there is none
+  pub turned : (outer : Outer) (o : Opening) (records : List StreamRecord) (from : ℕ) (stood : List FrameEntry) → from ≤ t.page → (t.page < length ws → word_has_data (slice_index ws t.page) ≡ true) → ((place : ℕ) → from ≤ place → place < t.page → word_has_data (slice_index ws place) ≡ false)
+      → length ws ≤ 2 ^ 24 → KeepsOuter r outer → KeepsHead r o records head (before o records).top → IsPages head → padding_len head.len ≡ 0 → Turned t outer o records head (with_places from (drop from ws)) stood
+  turned outer o records from stood ahead paged none few around kept pages padding = by (nat_lt t.page (length ws)) refl
+    where
+      skipped : Skips o records head ws from t.page stood
+      skipped = skips o records head ws (t.page - from) from t.page stood (omega (arith, ahead)) within none
+
+      same_words : t.words.items ≡ ws
+      same_words = turning_keeps (λ x. x.words.items) (λ _. refl) (λ _. refl)
+
+      kept_words : t.page < length ws → KeepsWords t (with_places t.page (drop t.page ws))
+      kept_words lt = record {
+        left = ap (λ l. with_places t.page (drop t.page l)) (sym same_words);
+        some = subst (λ l. t.page < length l) (sym same_words) lt;
+        paged = subst (λ l. word_has_data (slice_index l t.page) ≡ true) (sym same_words) (paged lt);
+        few = subst (λ l. length l ≤ 2 ^ 24) (sym same_words) few;
+      }
+
+      by : (b : Bool) → nat_lt t.page (length ws) ≡ b → Turned t outer o records head (with_places from (drop from ws)) stood
+      by true is =
+          let lt : t.page < length ws = ltb-true _ _ is in
+          record {
+            next = InImage outer (AtPages o records head (with_places t.page (drop t.page ws)) skipped.entries);
+            same = λ more. ap (λ (j : Judged (Place × Cause) ImageOf). j >>= carry outer) (skipped.same more);
+            keeps = (outer_stays r t outer turning_stays around, (ap (λ (x : Relay). x.coming) (page lt), records_stay r t o records _ _ turning_stays kept, pages, padding, kept_words lt, refl));
+          }
+      by false is =
+          let whole : length ws ≤ t.page = ltb-false _ _ is in
+          record {
+            next = InImage outer (AtHead o (with o records head (Frames skipped.entries)));
+            same = λ more.
+                ap (λ (j : Judged (Place × Cause) ImageOf). j >>= carry outer)
+                (skipped.same more
+                ∙ ap (λ l. judge (AtPages o records head (with_places t.page l) skipped.entries) more) (drop_all t.page ws whole)
+                ∙ pages_over o records head skipped.entries more
+                ∙ no_padding o records head (Frames skipped.entries) more padding);
+            keeps = (outer_stays r t outer turning_stays around, (ap (λ (x : Relay). x.coming) (over (omega (arith, whole, within))), behind_pages o records head t skipped.entries pages (records_stay r t o records _ _ turning_stays kept), refl));
+          }

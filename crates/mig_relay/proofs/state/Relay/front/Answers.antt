@@ -1,0 +1,45 @@
+use Rattle.std.proofs.Common.{arith, refl, sym, [], ap, ◌∙◌}
+use Rattle.mig_headers.specs.declared.fault.Place.TheVariants.{Record}
+use Rattle.mig_records.specs.Faults.{fault_of_count}
+use Rattle.mig_relay.specs.Parts.{AtWords}
+use Rattle.mig_relay.specs.Spots.{InImage, spot}
+use Rattle.mig_relay.specs.Steps.{answer_of}
+use Rattle.mig_relay.specs.declared.answer.RelayAnswer.TheVariants.{Refused}
+use Rattle.mig_relay.specs.declared.state.Coming.TheVariants as comes
+use Rattle.mig_relay.specs.declared.state.Relay.{Relay}
+use Rattle.mig_relay.proofs.Moves.{not_taken, not_allowed, not_written, went}
+use Rattle.mig_relay.proofs.Kept.{this_number}
+use Rattle.mig_relay.proofs.Paging.{IsKept, front_is, in_count, outer_stays, records_stay}
+use Rattle.mig_relay.proofs.state.Relay.front.Goals as goal
+
+pub returns-in-Err-clause-moved : goal.returns-in-Err-clause-moved
+returns-in-Err-clause-moved g c outer o records around kept pages =
+    let buf = c.take_part.new.buf in
+    not_taken (front_is outer o records c.args.head) _ _ _ _ _ _ buf (omega (arith, c.take_part.auto.buf)) (omega (arith, c.take_part.auto.buf)) c.in-Err.stop _
+    (c.answer.ensures ∙ ap (λ n. answer_of (Record n) c.in-Err.stop) (c.from.ensures ∙ this_number _ o records _ kept.seen)) refl c.in-Err.ensures.read c.in-Err.ensures.few
+
+pub returns-in-Some-clause-moved : goal.returns-in-Some-clause-moved
+returns-in-Some-clause-moved g c outer o records around kept pages =
+    let buf = c.take_part.new.buf in
+    not_allowed (front_is outer o records c.args.head) _ _ _ _ _ _ buf (omega (arith, c.take_part.auto.buf)) (omega (arith, c.take_part.auto.buf)) _ c.in-Some.cause _
+    (ap (λ n. Refused (Record n) c.in-Some.cause) (c.from.ensures ∙ this_number _ o records _ kept.seen)) (c.in-Some.ensures.fault ∙ ap (fault_of_count c.args.head.len) c.u32_le-count.ensures) refl c.in_default.ensures.read
+
+pub returns-in-Err-put-clause-moved : goal.returns-in-Err-put-clause-moved
+returns-in-Err-put-clause-moved g c outer o records around kept pages =
+    let buf = c.take_part.new.buf in
+    not_written (front_is outer o records c.args.head) _ _ _ _ _ _ buf (omega (arith, c.take_part.auto.buf)) (omega (arith, c.take_part.auto.buf)) _ c.in_default.ensures.read c.in-Err-put.ensures.bytes
+
+pub returns-clause-moved : goal.returns-clause-moved
+returns-clause-moved g c outer o records around kept pages =
+    let buf = c.take_part.new.buf in
+    let n = c.u32_le-count.result in
+    let put = c.in_default-put.ensures.kept in
+    let fine = c.in_default-count_fault.ensures.fault in
+    let after : Relay = record c.put.new.self { coming = comes.Words c.args.head n } in
+    let stays : IsKept c.args.self.now after = record { wrapper = ap (λ (r : Relay). r.wrapper) put; seen = ap (λ (r : Relay). r.seen) put; top = ap (λ (r : Relay). r.top) put } in
+    record {
+      is =
+          went (front_is outer o records c.args.head) _ _ _ _ _ _ buf (omega (arith, c.take_part.auto.buf)) (omega (arith, c.take_part.auto.buf)) _ (InImage outer (AtWords o records c.args.head n)) [] _
+          (fine ∙ ap (fault_of_count c.args.head.len) c.u32_le-count.ensures) c.in_default.ensures.read c.in_default-put.ensures.bytes (λ more. ap (λ m. spot (InImage outer (AtWords o records c.args.head m)) more) (sym c.u32_le-count.ensures))
+          (outer_stays _ _ outer stays around, (refl, records_stay _ _ o records _ _ stays kept, pages, in_count c.args.head.len n fine, refl)) (ap (λ (r : Relay). r.passed) put) (refl, omega (arith, c.take_part.auto.buf));
+    }

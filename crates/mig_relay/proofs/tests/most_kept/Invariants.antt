@@ -1,0 +1,7 @@
+use Rattle.mig_relay.specs.Keeping.{Stands}
+use Rattle.mig_relay.proofs.tests.most_kept.Given as goal
+
+abbrev pub invariant-loop-steps : goal.invariant-loop-steps
+invariant-loop-steps l = record {
+  stands : Stands l.relay;
+}

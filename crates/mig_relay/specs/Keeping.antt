@@ -1,0 +1,138 @@
+-- What a relay keeps of the front that it has behind it. It keeps no pages and no bodies.
+use Rattle.std.specs.Prelude.{◌≡◌, ◌≢◌, ◌<◌, ◌≤◌, ◌+◌, ◌*◌, ◌^◌, ◌==◌, ◌||◌, ◌&&◌, not, ℕ, true, false, List, [], ◌∷◌, ◌++◌, length, drop, slice_index, Option, Some, None, ⊤, if◌then◌else◌}
+use Rattle.mig_bodies.specs.PvBodies.{greater}
+use Rattle.mig_bytes.specs.Bytes.{padding_len}
+use Rattle.mig_bytes.specs.Fields.{le32}
+use Rattle.mig_emulators.specs.Content.{LibxlRecord}
+use Rattle.mig_headers.specs.RecordTypes.{most_body}
+use Rattle.mig_headers.specs.declared.fault.Cause.{Cause}
+use Rattle.mig_libxl.specs.Among.{is_libxl_ended, image_in, image_among}
+use Rattle.mig_libxl.specs.Behind.{AreBehind}
+use Rattle.mig_libxl.specs.Stream.{StreamOf, image_of_stream}
+use Rattle.mig_libxl.specs.declared.head.RecordsBehind.{RecordsBehind}
+use Rattle.mig_pagetypes.specs.FrameWords.{word_has_data}
+use Rattle.mig_pieces.specs.Begun.{IsBegunBody, piece_len}
+use Rattle.mig_pieces.specs.Bodies.{fault_of_record_body, fault_of_libxl_body}
+use Rattle.mig_records.specs.declared.head.RecordHead.{RecordHead}
+use Rattle.mig_restore.specs.Judging.{Opening, before, fault_of_fields, most_records, with_places}
+use Rattle.mig_restore.specs.Record.{StreamRecord, types_of, is_ended}
+use Rattle.mig_restore.specs.Seen.{IsSeen}
+use Rattle.mig_restore.specs.Stream.{ImageOf}
+use Rattle.mig_relay.specs.Parts.{Next, AtMarker, AtVersion, AtKind, AtHead, AtBody, AtFront, AtWords, AtPages, AtPadding, record_with}
+use Rattle.mig_relay.specs.Spots.{Outer, Alone, Behind, Spot, AtStart, AtLibxlHeader, AtLibxlHead, AtLibxlBody, AtLibxlPadding, InImage, AtEnd}
+use Rattle.mig_relay.specs.declared.state.Relay.{Relay}
+use Rattle.mig_relay.specs.declared.state.Coming.TheVariants as comes
+
+-- ---- in an image
+
+-- Behind an opening and records, of which none ends the image: how many they are, of which types, and the greatest frame
+-- number.
+pub record KeepsRecords (r : Relay) (o : Opening) (records : List StreamRecord) (types : List ℕ) (high : ℕ) : Type 0 where
+  pub seen : IsSeen r.seen o types
+  pub top : r.top ≡ high
+  pub going : is_ended records ≡ false
+
+-- the same, behind the head of one more
+abbrev pub KeepsHead : Relay → Opening → List StreamRecord → RecordHead → ℕ → Type 0
+KeepsHead r o records head top = KeepsRecords r o records (types_of records ++ head.kind ∷ []) top
+
+-- of a body with these causes, of which these first bytes were taken
+pub record KeepsBody (r : Relay) (head : RecordHead) (fault : List ℕ → Option Cause) (begun : List ℕ) : Type 0 where
+  pub len : r.body.len ≡ head.len
+  pub known : IsBegunBody r.body fault begun
+  pub less : length begun < head.len
+
+-- the greatest frame number, with that in the first bytes of a list of P2M frames
+abbrev pub top_with : ℕ → List ℕ → ℕ → ℕ
+top_with type [] top = top
+top_with type (b ∷ bytes) top = if type == 3 then greater top (le32 (b ∷ bytes) 4) else top
+
+-- a head without fault, which isn't that of a PAGE_DATA
+pub record IsOther (o : Opening) (records : List StreamRecord) (head : RecordHead) : Type 0 where
+  pub fine : fault_of_fields (before o records) head.kind head.len ≡ None
+  pub other : head.kind ≢ 1
+
+-- what is wrong with the body behind this head of an image's record, where it is empty
+abbrev pub fault_of_empty : RecordHead → Option Cause
+fault_of_empty head = if (head.len == 0) && not (head.kind == 1) then fault_of_record_body head.kind [] else None
+
+-- both frame numbers of a list of P2M frames come in its first piece
+pub record KeepsFirst (r : Relay) (head : RecordHead) (begun : List ℕ) : Type 0 where
+  pub coming : head.kind ≡ 3 → begun ≡ [] → 8 ≤ piece_len r.body
+  pub come : head.kind ≡ 3 → 0 < length begun → 8 ≤ length begun
+
+-- the head of a PAGE_DATA, of a length that is allowed
+pub record IsPages (head : RecordHead) : Type 0 where
+  pub kind : head.kind ≡ 1
+  pub small : head.len ≤ most_body
+
+-- the words of a PAGE_DATA, of which this one has the next page
+pub record KeepsWords (r : Relay) (coming : List (ℕ × ℕ)) : Type 0 where
+  pub left : coming ≡ with_places r.page (drop r.page r.words.items)
+  pub some : r.page < length r.words.items
+  pub paged : word_has_data (slice_index r.words.items r.page) ≡ true
+  pub few : length r.words.items ≤ 2 ^ 24
+
+-- what a relay keeps where this comes next in an image, and these first bytes of it were taken
+abbrev pub KeepsNext : Relay → Next → List ℕ → Type 0
+KeepsNext r AtMarker begun = (r.coming ≡ comes.Marker) × (begun ≡ [])
+KeepsNext r AtVersion begun = (r.coming ≡ comes.Version) × (begun ≡ [])
+KeepsNext r (AtKind version) begun = (r.coming ≡ comes.Kind version) × (begun ≡ [])
+KeepsNext r (AtHead o records) begun = (r.coming ≡ comes.Head) × KeepsRecords r o records (types_of records) (before o records).top × (begun ≡ [])
+KeepsNext r (AtBody o records head) begun = (r.coming ≡ comes.Body head) × KeepsHead r o records head (top_with head.kind begun (before o records).top) × IsOther o records head × KeepsFirst r head begun × KeepsBody r head (fault_of_record_body head.kind) begun
+KeepsNext r (AtFront o records head) begun = (r.coming ≡ comes.Front head) × KeepsHead r o records head (before o records).top × IsPages head × (begun ≡ [])
+KeepsNext r (AtWords o records head n) begun = (r.coming ≡ comes.Words head n) × KeepsHead r o records head (before o records).top × IsPages head × ((0 < n) × (8 + 8 * n ≤ head.len)) × (begun ≡ [])
+KeepsNext r (AtPages o records head coming stood) begun = (r.coming ≡ comes.Page head) × KeepsHead r o records head (before o records).top × IsPages head × (padding_len head.len ≡ 0) × KeepsWords r coming × (begun ≡ [])
+KeepsNext r (AtPadding o records head content) begun = (r.coming ≡ comes.Padding head) × KeepsHead r o records head (before o (records ++ record_with records head content ∷ [])).top × (0 < padding_len head.len) × (head.kind ≢ 0) × (begun ≡ [])
+
+-- ---- around an image
+
+-- so many records has the image, where one is there
+abbrev pub HasNumber : ℕ → Option ImageOf → Type 0
+HasNumber n None = ⊤
+HasNumber n (Some image) = n ≡ length image.records
+
+-- behind these records of a libxl stream
+pub record KeepsWrapper (r : Relay) (records : List LibxlRecord) : Type 0 where
+  pub behind : RecordsBehind
+  pub is : r.wrapper ≡ Some behind
+  pub are : AreBehind behind records
+  pub number : HasNumber r.seen.records (image_among records)
+
+-- and none of them ends the stream
+abbrev pub KeepsGoing : Relay → List LibxlRecord → Type 0
+KeepsGoing r records = KeepsWrapper r records × (is_libxl_ended records ≡ false)
+
+-- and there is room for one more, whose head was taken
+abbrev pub KeepsOpen : Relay → List LibxlRecord → Type 0
+KeepsOpen r records = KeepsGoing r records × (length records < most_records)
+
+-- the same with one more of this type, which isn't LIBXC_CONTEXT
+abbrev pub with_one : ℕ → RecordsBehind → RecordsBehind
+with_one type behind = record { records = behind.records + 1; emulated = behind.emulated || ((type == 2) || (type == 3)); image = behind.image }
+
+abbrev pub KeepsOuter : Relay → Outer → Type 0
+KeepsOuter r Alone = r.wrapper ≡ None
+KeepsOuter r (Behind records) = KeepsOpen r records × (image_among records ≡ None)
+
+-- a stream has an image with so many records
+abbrev pub HasRecords : ℕ → StreamOf → Type 0
+HasRecords n s = (image : ImageOf) × (image_of_stream s ≡ Some image) × (n ≡ length image.records)
+
+-- a head that is neither END's nor LIBXC_CONTEXT's
+abbrev pub IsBodied : RecordHead → Type 0
+IsBodied head = (head.kind ≢ 0) × (head.kind ≢ 1)
+
+-- What a relay keeps where this comes next, and these first bytes of it were taken: of what is judged at once, none.
+abbrev pub Keeps : Relay → Spot → List ℕ → Type 0
+Keeps r AtStart begun = (r.coming ≡ comes.Start) × (r.wrapper ≡ None) × (begun ≡ [])
+Keeps r AtLibxlHeader begun = (r.coming ≡ comes.LibxlHeader) × KeepsWrapper r [] × (begun ≡ [])
+Keeps r (AtLibxlHead records) begun = (r.coming ≡ comes.LibxlHead) × KeepsGoing r records × (begun ≡ [])
+Keeps r (AtLibxlBody records head) begun = (r.coming ≡ comes.LibxlBody head) × KeepsOpen r records × IsBodied head × KeepsBody r head (fault_of_libxl_body head.kind) begun
+Keeps r (AtLibxlPadding records head content) begun = (r.coming ≡ comes.LibxlPadding head) × KeepsOpen r records × IsBodied head × (image_in content ≡ None) × (0 < padding_len head.len) × (begun ≡ [])
+Keeps r (InImage outer next) begun = KeepsOuter r outer × KeepsNext r next begun
+Keeps r (AtEnd s) begun = (r.coming ≡ comes.End) × HasRecords r.seen.records s × (begun ≡ [])
+
+-- a relay that stands somewhere: nothing was refused yet and nothing failed
+abbrev pub Stands : Relay → Type 0
+Stands r = (here : Spot) × (begun : List ℕ) × Keeps r here begun

@@ -1,0 +1,98 @@
+-- The parts of an image (libxc migration stream, "Headers" and "Records"): which comes next behind a faultless front, and
+-- what is judged from there.
+use Rattle.std.specs.Prelude.{◌≡◌, ◌<◌, ℕ, List, [], ◌∷◌, ◌++◌, length, Option}
+use Rattle.std.specs.Option.{option_or}
+use Rattle.mig_bytes.specs.Bytes.{padding_len}
+use Rattle.mig_bytes.specs.Judged.{Judged, ◌>>=◌, part, tried, each, placed, said_at}
+use Rattle.mig_bytes.specs.Judged.Judged.{Passes}
+use Rattle.mig_headers.specs.declared.fault.Cause.{Cause}
+use Rattle.mig_headers.specs.declared.fault.Cause.TheVariants.{Truncated}
+use Rattle.mig_headers.specs.declared.fault.Place.{Place}
+use Rattle.mig_headers.specs.declared.fault.Place.TheVariants.{DomainHeader, Record}
+use Rattle.mig_headers.specs.declared.kind.Kind.{Kind}
+use Rattle.mig_pagetypes.specs.FrameWords.{word_pfn}
+use Rattle.mig_passable.specs.Images.{open_image_at, open_records}
+use Rattle.mig_records.specs.Faults.{fault_of_words}
+use Rattle.mig_records.specs.Words.{words}
+use Rattle.mig_records.specs.declared.head.RecordHead.{RecordHead}
+use Rattle.mig_restore.specs.Judging.{Opening, opening_of, before, body_at, type_in_word, fault_of_data, words_at, with_places, entry_at, pages_at}
+use Rattle.mig_restore.specs.Record.{StreamRecord, FrameEntry, Content, types_of, is_verified, placed_content}
+use Rattle.mig_restore.specs.Record.Content.{Frames}
+use Rattle.mig_restore.specs.Stream.{ImageOf, opening_behind, kind_at}
+
+-- What comes next behind a faultless front of an image, and what of the front decides how it is judged: the marker; the
+-- rest of the image header; the domain header; the head of a record; its body; the words of a PAGE_DATA, which has so many;
+-- its pages, of these words with their places, behind these entries; or a record's padding.
+pub data Next : Type 0 where
+  AtMarker : Next
+  AtVersion : Next
+  AtKind : ℕ → Next
+  AtHead : Opening → List StreamRecord → Next
+  AtBody : Opening → List StreamRecord → RecordHead → Next
+  AtFront : Opening → List StreamRecord → RecordHead → Next
+  AtWords : Opening → List StreamRecord → RecordHead → ℕ → Next
+  AtPages : Opening → List StreamRecord → RecordHead → List (ℕ × ℕ) → List FrameEntry → Next
+  AtPadding : Opening → List StreamRecord → RecordHead → Content → Next
+
+-- the record of this head and body, behind these records
+abbrev pub record_with : List StreamRecord → RecordHead → Content → StreamRecord
+record_with records head content = record { type = head.kind; content = placed_content (is_verified (types_of records)) content }
+
+-- a record more, and all that follows it
+abbrev pub with_record : Opening → List StreamRecord → Judged Cause StreamRecord → Judged (Place × Cause) ImageOf
+with_record o records judged = do
+  r ← placed (Record (length records)) judged
+  open_records o (records ++ r.0 ∷ []) r.1
+
+abbrev pub padded : List StreamRecord → RecordHead → Content → List ℕ → Judged Cause StreamRecord
+padded records head content input = do
+  padding ← part Truncated (padding_len head.len) input
+  Passes (record_with records head content) padding.1
+
+-- the padding behind a body that was judged so, and all that follows it
+abbrev pub with_body : Opening → List StreamRecord → RecordHead → Judged Cause Content → Judged (Place × Cause) ImageOf
+with_body o records head judged = with_record o records (judged >>= λ body. padded records head body.0 body.1)
+
+-- the pages of these words, behind entries that stand whole
+abbrev pub pages_behind : Opening → List StreamRecord → RecordHead → List (ℕ × ℕ) → List FrameEntry → List ℕ → Judged (Place × Cause) ImageOf
+pages_behind o records head coming stood input = with_body o records head (do
+  entries ← each (entry_at o.kind (before o records).top) coming input
+  Passes (Frames (stood ++ entries.0)) entries.1)
+
+-- so many words, and then their pages
+abbrev pub words_behind : Opening → List StreamRecord → RecordHead → ℕ → List ℕ → Judged (Place × Cause) ImageOf
+words_behind o records head n input = with_body o records head (do
+  ws ← words_at n input
+  _ ← tried (fault_of_words o.kind (before o records).top ws.0) ws.1
+  _ ← tried (fault_of_data head.len ws.0) ws.1
+  entries ← each (entry_at o.kind (before o records).top) (with_places 0 ws.0) ws.1
+  Passes (Frames entries.0) entries.1)
+
+-- the causes of words: those of each word, and then the length that they ask for
+abbrev pub fault_of_list : Kind → ℕ → ℕ → ℕ → List ℕ → Option Cause
+fault_of_list kind top len n bytes = option_or (fault_of_words kind top (words n bytes)) (fault_of_data len (words n bytes))
+
+abbrev pub entry_of : ℕ → Option (List ℕ) → FrameEntry
+entry_of word page = record { pfn = word_pfn word; type = type_in_word word; page = page }
+
+-- what is judged from there
+abbrev pub judge : Next → List ℕ → Judged (Place × Cause) ImageOf
+judge AtMarker input = open_image_at input
+judge AtVersion input = do
+  opening ← opening_behind input
+  open_records opening.0 [] opening.1
+judge (AtKind version) input = do
+  kind ← placed DomainHeader (kind_at input)
+  open_records (opening_of version kind.0) [] kind.1
+judge (AtHead o records) input = open_records o records input
+judge (AtBody o records head) input = with_body o records head (body_at o.kind (before o records).top head.kind head.len input)
+judge (AtFront o records head) input = with_body o records head (pages_at o.kind (before o records).top head.len input)
+judge (AtWords o records head n) input = words_behind o records head n input
+judge (AtPages o records head coming stood) input = pages_behind o records head coming stood input
+judge (AtPadding o records head content) input = with_record o records (padded records head content input)
+
+-- What is judged begins with a part of so many bytes, more than none, at this place and with these causes; and then this
+-- follows.
+pub record IsPart {X : Type 0} (judged_here : List ℕ → Judged (Place × Cause) X) (place : Place) (size : ℕ) (fault : List ℕ → Option Cause) (follows : List ℕ → List ℕ → Judged (Place × Cause) X) : Type 0 where
+  pub judged : (input : List ℕ) → judged_here input ≡ (placed place (said_at Truncated fault (λ b. b) size input) >>= λ b. follows b.0 b.1)
+  pub some : 0 < size

@@ -1,0 +1,75 @@
+-- Where a stream of either form goes on behind a faultless front (libxl migration stream, "Header" and "Records").
+use Rattle.std.specs.Prelude.{ℕ, ◌*◌, ◌==◌, Bool, List, [], ◌∷◌, ◌++◌, length, Option, None, if◌then◌else◌}
+use Rattle.mig_bytes.specs.Bytes.{padding_len}
+use Rattle.mig_bytes.specs.Fields.{be64}
+use Rattle.mig_bytes.specs.Judged.{Judged, ◌>>=◌, part, placed}
+use Rattle.mig_bytes.specs.Judged.Judged.{Passes}
+use Rattle.mig_emulators.specs.Content.{LibxlRecord, LibxlContent}
+use Rattle.mig_emulators.specs.Content.LibxlContent.{Image}
+use Rattle.mig_headers.specs.Headers.{libxl_ident, fault_of_marker}
+use Rattle.mig_headers.specs.declared.fault.Cause.{Cause}
+use Rattle.mig_headers.specs.declared.fault.Cause.TheVariants.{Truncated}
+use Rattle.mig_headers.specs.declared.fault.Place.{Place}
+use Rattle.mig_headers.specs.declared.fault.Place.TheVariants.{LibxlRecord as AtRecord}
+use Rattle.mig_libxl.specs.Stream.{StreamOf}
+use Rattle.mig_libxl.specs.Stream.StreamOf.{Bare}
+use Rattle.mig_passable.specs.Streams.{open_stream_at, open_wrapped, open_libxl_records, open_body}
+use Rattle.mig_records.specs.declared.head.RecordHead.{RecordHead}
+use Rattle.mig_restore.specs.Stream.{ImageOf}
+use Rattle.mig_relay.specs.Parts.{Next, AtWords, judge}
+
+-- an image that stands alone, or behind these records of a libxl stream and a head of LIBXC_CONTEXT
+pub data Outer : Type 0 where
+  Alone : Outer
+  Behind : List LibxlRecord → Outer
+
+-- What comes next behind a faultless front of a stream: its first 8 bytes; the header behind a libxl ident; the head of a
+-- libxl record, its body, or its padding; a part of an image; or nothing, since this stream is over.
+pub data Spot : Type 0 where
+  AtStart : Spot
+  AtLibxlHeader : Spot
+  AtLibxlHead : List LibxlRecord → Spot
+  AtLibxlBody : List LibxlRecord → RecordHead → Spot
+  AtLibxlPadding : List LibxlRecord → RecordHead → LibxlContent → Spot
+  InImage : Outer → Next → Spot
+  AtEnd : StreamOf → Spot
+
+-- the record of LIBXC_CONTEXT with this image
+abbrev pub image_record : ImageOf → LibxlRecord
+image_record image = record { type = 1; content = Image image }
+
+-- what follows a whole image
+abbrev pub carry : Outer → ImageOf × List ℕ → Judged (Place × Cause) StreamOf
+carry Alone image = Passes (Bare image.0) image.1
+carry (Behind records) image = open_libxl_records (records ++ image_record image.0 ∷ []) image.1
+
+-- the padding of a libxl record, and all that follows it
+abbrev pub libxl_padded : List LibxlRecord → RecordHead → LibxlContent → List ℕ → Judged (Place × Cause) StreamOf
+libxl_padded records head content input = do
+  padding ← placed (AtRecord (length records)) (part Truncated (padding_len head.len) input)
+  open_libxl_records (records ++ record { type = head.kind; content = content } ∷ []) padding.1
+
+-- the ident of a libxl stream
+abbrev pub is_ident : List ℕ → Bool
+is_ident bytes = be64 bytes 0 == libxl_ident
+
+-- what is wrong with the first 8 bytes: where they aren't the ident, they are an image's marker
+abbrev pub fault_of_start : List ℕ → Option Cause
+fault_of_start bytes = if is_ident bytes then None else fault_of_marker bytes
+
+-- what is judged from there
+abbrev pub spot : Spot → List ℕ → Judged (Place × Cause) StreamOf
+spot AtStart input = open_stream_at input
+spot AtLibxlHeader input = open_wrapped input
+spot (AtLibxlHead records) input = open_libxl_records records input
+spot (AtLibxlBody records head) input = do
+  content ← placed (AtRecord (length records)) (open_body head.kind head.len input)
+  libxl_padded records head content.0 content.1
+spot (AtLibxlPadding records head content) input = libxl_padded records head content input
+spot (InImage outer next) input = judge next input >>= carry outer
+spot (AtEnd s) input = Passes s input
+
+-- how many bytes of the part that comes next may have been taken and not written: the words of a PAGE_DATA, or 4096
+abbrev pub held : Spot → ℕ
+held (InImage outer (AtWords o records head n)) = 8 * n
+held _ = 4096

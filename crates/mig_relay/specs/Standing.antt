@@ -1,0 +1,76 @@
+-- The bytes that a relay stands for, and what a step does for each list of them.
+use Rattle.std.specs.Prelude.{◌≡◌, ◌<◌, ◌-◌, ◌^◌, ℕ, Bool, true, false, List, [], ◌++◌, length, min, Option, Some, None, Result, Ok, Err, ⊤}
+use Rattle.std.specs.Io.KnownBytes.{Consumes, Appends, Keeps as Stays}
+use Rattle.mig_bytes.specs.Judged.Judged.{Faulty}
+use Rattle.mig_headers.specs.declared.fault.Cause.{Cause}
+use Rattle.mig_headers.specs.declared.fault.Place.{Place}
+use Rattle.mig_libxl.specs.Stream.{StreamOf}
+use Rattle.mig_passable.specs.Streams.{open_stream_at, IsPassable}
+use Rattle.mig_relay.specs.Keeping.{Keeps, HasRecords}
+use Rattle.mig_relay.specs.Spots.{Spot, spot, held}
+use Rattle.mig_relay.specs.Steps.{IsStep, IsCut, IsUnfinished, WritesFront, is_judged_first}
+use Rattle.mig_relay.specs.declared.answer.RelayAnswer.{RelayAnswer}
+use Rattle.mig_relay.specs.declared.answer.RelayAnswer.TheVariants.{Refused, ReadFault, WriteFault, Memory}
+use Rattle.mig_relay.specs.declared.answer.Step.{Step}
+use Rattle.mig_relay.specs.declared.answer.Step.TheVariants.{Done}
+use Rattle.mig_relay.specs.declared.state.Coming.{Coming}
+use Rattle.mig_relay.specs.declared.state.Coming.TheVariants as comes
+use Rattle.mig_relay.specs.declared.state.Relay.{Relay}
+
+-- A relay stands for these bytes: whatever follows them, an input is judged as what comes next is judged from there on; and
+-- it has counted them.
+pub record StandsFor (r : Relay) (bytes : List ℕ) : Type 0 where
+  pub here : Spot
+  pub begun : List ℕ
+  pub keeps : Keeps r here begun
+  pub same : (more : List ℕ) → open_stream_at (bytes ++ more) ≡ spot here (begun ++ more)
+  pub count : r.passed ≡ min (length bytes) (2 ^ 64 - 1)
+
+-- a relay that has answered Done or an error
+abbrev pub is_past : Coming → Bool
+is_past comes.Over = true
+is_past _ = false
+
+-- nothing is left to pass on: the next step answers Done
+abbrev pub is_at_end : Coming → Bool
+is_at_end comes.End = true
+is_at_end _ = false
+
+-- a piece was taken and written, and the relay stands for the bytes with it at their end
+pub record PassesOn (here : Spot) (bytes : List ℕ) (step : Step) (t : Relay) (old new : Option (List ℕ)) (before now : Option (List ℕ)) : Type 0 where
+  pub piece : List ℕ
+  pub some : 0 < length piece
+  pub taken : Consumes old new piece
+  pub written : Appends before now piece
+  pub stands : StandsFor t (bytes ++ piece)
+  pub is : IsStep here piece t step
+
+-- the open refusal of these bytes and those that are left
+abbrev pub IsRefusedBehind : List ℕ → Option (List ℕ) → Option (List ℕ) → Place → Cause → Type 0
+IsRefusedBehind bytes None new place cause = ⊤
+IsRefusedBehind bytes (Some left) new place cause = (rest : List ℕ) × (open_stream_at (bytes ++ left) ≡ Faulty (place, cause) rest) × (new ≡ Some rest)
+
+-- some first bytes of what was taken were written, none of a part that is judged first, and no stream stands whole in them
+abbrev pub WritesSomeBehind : Spot → List ℕ → Option (List ℕ) → Option (List ℕ) → Option (List ℕ) → Option (List ℕ) → Type 0
+WritesSomeBehind here bytes old new before now = (wrote : List ℕ) × WritesFront (held here) old new before now wrote × (is_judged_first here ≡ true → wrote ≡ []) × IsUnfinished (open_stream_at (bytes ++ wrote))
+
+-- it stopped in a part, before that was written whole
+abbrev pub StopsBehind : Spot → List ℕ → Option (List ℕ) → Option (List ℕ) → Option (List ℕ) → Option (List ℕ) → Type 0
+StopsBehind here bytes old new before now = (wrote : List ℕ) × WritesFront (held here) old new before now wrote × IsCut (open_stream_at (bytes ++ wrote))
+
+-- What a step does, for bytes that the relay stands for, and what comes next behind them. Done: they are passable. Another
+-- value: a piece more was passed on. An error: the bytes with those left are refused, or the source, the sink or memory
+-- failed inside the part.
+abbrev pub StepSays : Spot → List ℕ → Relay → Relay → Option (List ℕ) → Option (List ℕ) → Option (List ℕ) → Option (List ℕ) → Result Step RelayAnswer → Type 0
+StepSays here bytes r t old new before now (Ok Done) = (s : StreamOf) × IsPassable bytes s × Stays old new × Stays before now × HasRecords r.seen.records s
+StepSays here bytes r t old new before now (Ok step) = PassesOn here bytes step t old new before now
+StepSays here bytes r t old new before now (Err (Refused place cause)) = IsRefusedBehind bytes old new place cause × WritesSomeBehind here bytes old new before now
+StepSays here bytes r t old new before now (Err ReadFault) = StopsBehind here bytes old new before now
+StepSays here bytes r t old new before now (Err WriteFault) = StopsBehind here bytes old new before now
+StepSays here bytes r t old new before now (Err Memory) = StopsBehind here bytes old new before now
+
+-- whether a step's answer leaves a relay that goes on
+abbrev pub goes_on : Result Step RelayAnswer → Bool
+goes_on (Ok Done) = false
+goes_on (Ok step) = true
+goes_on (Err answer) = false

@@ -1,0 +1,128 @@
+-- What a step does.
+use Rattle.std.specs.Prelude.{◌≡◌, ◌<◌, ◌≤◌, ◌+◌, ◌-◌, ◌^◌, ◌==◌, ℕ, true, false, Bool, List, [], ◌++◌, length, min, Option, Some, None, Result, Ok, Err, ⊤}
+use Rattle.std.specs.Io.KnownBytes.{Consumes, Appends, Keeps as Stays}
+use Rattle.mig_bytes.specs.Faults.{Rose}
+use Rattle.mig_bytes.specs.Fields.{be32, be64, le32}
+use Rattle.mig_bytes.specs.Judged.{Judged as Verdict}
+use Rattle.mig_bytes.specs.Judged.Judged.{Passes, Faulty}
+use Rattle.mig_bytes.specs.declared.part.Stop.{Stop}
+use Rattle.mig_bytes.specs.declared.part.Stop.TheVariants as stops
+use Rattle.mig_headers.specs.Headers.{libxl_ident, kind_of_number}
+use Rattle.mig_headers.specs.declared.fault.Cause.{Cause}
+use Rattle.mig_headers.specs.declared.fault.Cause.TheVariants.{Truncated}
+use Rattle.mig_headers.specs.declared.fault.Place.{Place}
+use Rattle.mig_libxl.specs.Stream.{StreamOf}
+use Rattle.mig_records.specs.Heads.{head_in}
+use Rattle.mig_records.specs.Words.{words as words_in}
+use Rattle.mig_relay.specs.Keeping.{Keeps, HasRecords}
+use Rattle.mig_relay.specs.Parts.{AtMarker, AtVersion, AtKind, AtHead, AtBody, AtFront, AtWords, AtPages, AtPadding}
+use Rattle.mig_relay.specs.Spots.{Spot, AtStart, AtLibxlHeader, AtLibxlHead, AtLibxlBody, AtLibxlPadding, InImage, spot, held}
+use Rattle.mig_relay.specs.declared.answer.RelayAnswer.{RelayAnswer}
+use Rattle.mig_relay.specs.declared.answer.RelayAnswer.TheVariants.{Refused, ReadFault, WriteFault, Memory}
+use Rattle.mig_relay.specs.declared.answer.Step.{Step}
+use Rattle.mig_relay.specs.declared.answer.Step.TheVariants.{Marker, Version, Kind, Head, Words, Piece, Done}
+use Rattle.mig_relay.specs.declared.state.Relay.{Relay}
+
+-- the answer for what stopped the reading of a part
+abbrev pub answer_of : Place → Stop Cause → RelayAnswer
+answer_of place (stops.Refused cause) = Refused place cause
+answer_of place stops.ReadFault = ReadFault
+answer_of place stops.Memory = Memory
+
+-- A read fault is answered only where the count of the source rose, a write fault only where that of the sink rose, and
+-- every other answer only where both stand as they were.
+abbrev pub RisesOnFault : {X : Type 0} → ℕ → ℕ → ℕ → ℕ → Result X RelayAnswer → Type 0
+RisesOnFault reads read writes written (Ok x) = (read ≡ reads) × (written ≡ writes)
+RisesOnFault reads read writes written (Err (Refused place cause)) = (read ≡ reads) × (written ≡ writes)
+RisesOnFault reads read writes written (Err ReadFault) = (reads ≤ read) × Rose reads read × (written ≡ writes)
+RisesOnFault reads read writes written (Err WriteFault) = (read ≡ reads) × (writes ≤ written) × Rose writes written
+RisesOnFault reads read writes written (Err Memory) = (read ≡ reads) × (written ≡ writes)
+
+-- a count of bytes with so many more, in 64 bits; it stands still at their end
+abbrev pub counted : ℕ → ℕ → ℕ
+counted n more = min (n + more) (2 ^ 64 - 1)
+
+-- ---- which part a step passed on
+
+-- a piece of a body, padding, or what has no value of its own
+abbrev pub is_piece : Spot → Bool
+is_piece AtLibxlHeader = true
+is_piece (AtLibxlBody records head) = true
+is_piece (AtLibxlPadding records head content) = true
+is_piece (InImage outer (AtBody o records head)) = true
+is_piece (InImage outer (AtFront o records head)) = true
+is_piece (InImage outer (AtPages o records head coming stood)) = true
+is_piece (InImage outer (AtPadding o records head content)) = true
+is_piece _ = false
+
+-- the value of a step that passed on these bytes of what came next; and which words the relay has in hand behind it
+abbrev pub IsStep : Spot → List ℕ → Relay → Step → Type 0
+IsStep AtStart piece t (Marker wrapped) = wrapped ≡ (be64 piece 0 == libxl_ident)
+IsStep (InImage outer AtMarker) piece t (Marker wrapped) = wrapped ≡ false
+IsStep (InImage outer AtVersion) piece t (Version version) = version ≡ be32 piece 4
+IsStep (InImage outer (AtKind version)) piece t (Kind kind) = kind ≡ kind_of_number (le32 piece 0)
+IsStep (InImage outer (AtHead o records)) piece t (Head wrapped head) = (wrapped ≡ false) × (head ≡ head_in piece) × (t.words.items ≡ [])
+IsStep (AtLibxlHead records) piece t (Head wrapped head) = (wrapped ≡ true) × (head ≡ head_in piece) × (t.words.items ≡ [])
+IsStep (InImage outer (AtWords o records head n)) piece t Words = t.words.items ≡ words_in n piece
+IsStep here piece t Piece = (is_piece here ≡ true) × (length piece ≤ 4096)
+IsStep here piece t step = ⊥
+
+-- ---- what it does, where this comes next and these first bytes of it were taken
+
+-- a piece was taken and written, and the relay has it behind it
+pub record GoesOn (here : Spot) (begun : List ℕ) (step : Step) (r t : Relay) (old new : Option (List ℕ)) (before now : Option (List ℕ)) : Type 0 where
+  pub piece : List ℕ
+  pub next : Spot
+  pub front : List ℕ
+  pub some : 0 < length piece
+  pub taken : Consumes old new piece
+  pub written : Appends before now piece
+  pub same : (more : List ℕ) → spot here (begun ++ (piece ++ more)) ≡ spot next (front ++ more)
+  pub keeps : Keeps t next front
+  pub count : t.passed ≡ counted r.passed (length piece)
+  pub is : IsStep here piece t step
+
+-- some bytes were taken, and the first of them written; those that weren't are at most so many
+pub record WritesFront (most : ℕ) (old new : Option (List ℕ)) (before now : Option (List ℕ)) (wrote : List ℕ) : Type 0 where
+  pub others : List ℕ
+  pub few : length others ≤ most
+  pub taken : Consumes old new (wrote ++ others)
+  pub written : Appends before now wrote
+
+-- of the bytes so far a part isn't whole, and no cause stands in them
+abbrev pub IsCut : Verdict (Place × Cause) StreamOf → Type 0
+IsCut judged = (place : Place) × (judged ≡ Faulty (place, Truncated) [])
+
+-- the bytes so far are no stream
+abbrev pub IsUnfinished : Verdict (Place × Cause) StreamOf → Type 0
+IsUnfinished judged = (fault : Place × Cause) × (rest : List ℕ) × (judged ≡ Faulty fault rest)
+
+-- all but bodies is written only once it is judged
+abbrev pub is_judged_first : Spot → Bool
+is_judged_first (AtLibxlBody records head) = false
+is_judged_first (InImage outer (AtBody o records head)) = false
+is_judged_first _ = true
+
+-- some first bytes of what was taken were written, and none of a part that is judged first
+abbrev pub WritesSome : Spot → List ℕ → Option (List ℕ) → Option (List ℕ) → Option (List ℕ) → Option (List ℕ) → Type 0
+WritesSome here begun old new before now = (wrote : List ℕ) × WritesFront (held here) old new before now wrote × (is_judged_first here ≡ true → wrote ≡ []) × IsUnfinished (spot here (begun ++ wrote))
+
+-- the bytes that are left are refused, and all up to the end of the faulty part was taken
+abbrev pub Refuses : Spot → List ℕ → Option (List ℕ) → Option (List ℕ) → Place → Cause → Type 0
+Refuses here begun None new place cause = ⊤
+Refuses here begun (Some left) new place cause = (rest : List ℕ) × (spot here (begun ++ left) ≡ Faulty (place, cause) rest) × (new ≡ Some rest)
+
+-- the relay stopped in a part, before it was written whole
+abbrev pub Stops : Spot → List ℕ → Option (List ℕ) → Option (List ℕ) → Option (List ℕ) → Option (List ℕ) → Type 0
+Stops here begun old new before now = (wrote : List ℕ) × WritesFront (held here) old new before now wrote × IsCut (spot here (begun ++ wrote))
+
+abbrev pub MovedBy : Spot → List ℕ → Relay → Relay → Option (List ℕ) → Option (List ℕ) → Option (List ℕ) → Option (List ℕ) → Result Step RelayAnswer → Type 0
+MovedBy here begun r t old new before now (Ok Done) = (s : StreamOf) × ((more : List ℕ) → spot here (begun ++ more) ≡ Passes s more) × Stays old new × Stays before now × HasRecords r.seen.records s
+MovedBy here begun r t old new before now (Ok step) = GoesOn here begun step r t old new before now
+MovedBy here begun r t old new before now (Err (Refused place cause)) = Refuses here begun old new place cause × WritesSome here begun old new before now
+MovedBy here begun r t old new before now (Err ReadFault) = Stops here begun old new before now
+MovedBy here begun r t old new before now (Err WriteFault) = Stops here begun old new before now
+MovedBy here begun r t old new before now (Err Memory) = Stops here begun old new before now
+
+pub record Moved (here : Spot) (begun : List ℕ) (r t : Relay) (old new : Option (List ℕ)) (before now : Option (List ℕ)) (result : Result Step RelayAnswer) : Type 0 where
+  pub is : MovedBy here begun r t old new before now result

@@ -1,0 +1,28 @@
+//! Passes a stream on while it judges it, part by part, and keeps no pages.
+//!
+//! Responsible for: which part of a stream comes next, what is judged of it before it is written, and what is kept of it: a
+//! count, a few facts, the words of one PAGE_DATA and the small state of one body. In either form of stream (libxc
+//! migration stream; libxl migration stream).
+//! Left to others: what is wrong with a part (mig_headers, mig_records, mig_order, mig_libxl, mig_restore, mig_pvtables),
+//! bodies in pieces (mig_pieces), which streams may pass (mig_passable).
+//!
+//! What the layers above rely on: `relay` answers Ok exactly on a passable front, which it has taken and written then, and
+//! refuses with the open refusal; whatever it answers, what was written is a front of what was taken, and no more than the
+//! words of one PAGE_DATA and 4096 bytes were taken and not written.
+#![tactic(auto)]
+
+mod answer;
+mod bodies;
+mod heads;
+mod law;
+mod opening;
+mod pages;
+mod pass;
+mod state;
+#[cfg(test)]
+mod tests;
+
+pub use answer::{RelayAnswer, Relayed, Step};
+pub use law::lists_are_fronts;
+pub use pass::relay;
+pub use state::Relay;

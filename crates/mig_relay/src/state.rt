@@ -1,0 +1,218 @@
+ghost use Rattle.std.specs.Prelude.{true, false, ◌≡◌, ◌*◌, ◌+◌, ◌-◌, ◌^◌, min, [], List, ℕ, length, is_ok, if◌then◌else◌, Ok, OnOk};
+ghost use Rattle.mig_bytes.specs.Bytes.{Puts};
+ghost use Rattle.mig_bytes.specs.Faults.{HasCause};
+ghost use Rattle.mig_libxl.specs.Stream.{StreamOf};
+ghost use Rattle.mig_passable.specs.Streams.{IsPassable};
+ghost use Rattle.mig_relay.specs.Keeping.{Keeps, Stands};
+ghost use Rattle.mig_relay.specs.Spots.{Spot, AtStart};
+ghost use Rattle.mig_relay.specs.Standing.{StandsFor, StepSays, is_past, is_at_end, goes_on};
+ghost use Rattle.mig_relay.specs.Steps.{Moved, RisesOnFault, answer_of, counted};
+ghost use Rattle.mig_relay.specs.declared.answer.Step.TheVariants.{Done};
+
+use crate::answer::{RelayAnswer, Relayed, Step};
+use mig_bytes::{Sink, Source, Stop, WriteFailed, put_all};
+use mig_headers::{Cause, Kind, Place};
+use mig_libxl::RecordsBehind;
+use mig_pieces::BodySeen;
+use mig_records::RecordHead;
+use mig_restore::RecordsSeen;
+use std::alloc::Global;
+
+/// Which part comes next.
+#[derive(Clone, Copy, Debug, PartialEq, Eq)]
+pub(crate) enum Coming {
+    Start,
+    LibxlHeader,
+    LibxlHead,
+    LibxlBody(RecordHead),
+    LibxlPadding(RecordHead),
+    Marker,
+    Version,
+    Kind(u32),
+    Head,
+    Body(RecordHead),
+    Front(RecordHead),
+    /// So many words of a PAGE_DATA.
+    Words(RecordHead, u32),
+    Page(RecordHead),
+    Padding(RecordHead),
+    /// Nothing: the stream is over.
+    End,
+    /// A step has answered Done or an error.
+    Over,
+}
+
+/// The bytes that a relay holds beside the words in hand, at most: its own fields.
+const OWN: u64 = 512;
+
+/// Passes a stream on, part by part, and keeps no pages.
+#[derive(Drop)]
+pub struct Relay {
+    pub(crate) alloc: Global,
+    pub(crate) coming: Coming,
+    /// What is known of the records of a libxl stream; nothing where an image stands alone.
+    pub(crate) wrapper: Option<RecordsBehind>,
+    /// What is known of the image's records.
+    pub(crate) seen: RecordsSeen,
+    /// The greatest frame number of a PV guest so far.
+    pub(crate) top: u64,
+    /// What is known of the body in hand.
+    pub(crate) body: BodySeen,
+    /// The words of the PAGE_DATA in hand.
+    pub(crate) words: Vec<u64>,
+    /// Which of them has the next page.
+    pub(crate) page: usize,
+    /// How many bytes were written.
+    pub(crate) passed: u64,
+}
+
+/// The answer for what stopped the reading of a part at this place.
+pub(crate) fn answer(stop: Stop<Cause>, place: Place) -> RelayAnswer
+    ensures { result ≡ answer_of place stop }
+{
+    match stop {
+        Stop::Refused(cause) => RelayAnswer::Refused(place, cause),
+        Stop::ReadFault => RelayAnswer::ReadFault,
+        Stop::Memory => RelayAnswer::Memory,
+    }
+}
+
+impl Relay {
+    /// Nothing was taken yet. No memory is taken.
+    pub fn new(alloc: Global) -> Relay
+        ensures keeps { Keeps result AtStart [] }
+        ensures empty { StandsFor result [] }
+        ensures stands { Stands result }
+        ensures words { result.words.items ≡ [] }
+    {
+        Relay {
+            alloc,
+            coming: Coming::Start,
+            wrapper: None,
+            seen: RecordsSeen::new(0, Kind::Hvm),
+            top: 0,
+            body: BodySeen::of_record(0, 0),
+            words: Vec::new(alloc),
+            page: 0,
+            passed: 0,
+        }
+    }
+
+    /// Whether a step has answered Done or an error.
+    pub fn is_over(&self) -> bool
+        ensures { result ≡ is_past self.now.coming }
+    {
+        self.coming == Coming::Over
+    }
+
+    /// The words of the PAGE_DATA in hand, from the step that answers Words to the next Head.
+    pub fn words(&self) -> &[u64]
+        ensures { result.now ≡ self.now.words.items }
+    {
+        self.words.as_slice()
+    }
+
+    /// How many bytes the relay holds, at most: 8 for each word in hand, and 512 of its own. While a step runs, it also
+    /// holds the piece that it passes on.
+    pub fn kept(&self) -> u64
+        ensures { result ≡ min (8 * length self.now.words.items + 512) (2 ^ 64 - 1) }
+    {
+        let words = (self.words.len() as u64).saturating_mul(8);
+        words.saturating_add(OWN)
+    }
+
+    /// Whether the stream is over: the next step answers Done.
+    pub(crate) fn is_at_end(&self) -> bool
+        ensures { result ≡ is_at_end self.now.coming }
+    {
+        self.coming == Coming::End
+    }
+
+    /// How many records the image has, and how many bytes were written.
+    pub(crate) fn relayed(&self) -> Relayed
+        ensures records { result.records ≡ self.now.seen.records }
+        ensures bytes { result.bytes ≡ self.now.passed }
+    {
+        Relayed {
+            records: self.seen.records,
+            bytes: self.passed,
+        }
+    }
+
+    /// Writes a piece, and counts its bytes.
+    pub(crate) fn put<K: Sink>(&mut self, sink: &mut K, piece: &[u8]) -> Result<(), WriteFailed>
+        ensures bytes { Puts piece.now (K.written sink.old) (K.written sink.new) result }
+        ensures cause { HasCause (K.faults sink.old) (K.faults sink.new) result }
+        ensures kept { self.new ≡ record self.old { passed = if is_ok result then counted self.old.passed (length piece.now) else self.old.passed } }
+    {
+        put_all(sink, piece)?;
+        self.passed = self.passed.saturating_add(piece.len() as u64);
+        Ok(())
+    }
+
+    /// Takes the next part, or a piece of it, and writes it.
+    pub(crate) fn pass_part<S: Source, K: Sink>(
+        &mut self,
+        src: &mut S,
+        sink: &mut K,
+    ) -> Result<Step, RelayAnswer>
+        requires { Stands self.old }
+        ensures moved { (here : Spot) (begun : List ℕ) → Keeps self.old here begun → Moved here begun self.old self.new (S.left src.old) (S.left src.new) (K.written sink.old) (K.written sink.new) result }
+        ensures stands { OnOk result (Stands self.new) }
+        ensures over { is_at_end self.old.coming ≡ true → result ≡ Ok Done }
+        ensures stays { is_at_end self.old.coming ≡ true → self.new ≡ self.old }
+        ensures faults { RisesOnFault (S.faults src.old) (S.faults src.new) (K.faults sink.old) (K.faults sink.new) result }
+    {
+        match self.coming {
+            Coming::Start => self.start(src, sink),
+            Coming::LibxlHeader => self.libxl_header(src, sink),
+            Coming::LibxlHead => self.libxl_head(src, sink),
+            Coming::LibxlBody(head) => self.libxl_body(src, sink, head),
+            Coming::LibxlPadding(head) => self.libxl_padding(src, sink, head),
+            Coming::Marker => self.marker(src, sink),
+            Coming::Version => self.version(src, sink),
+            Coming::Kind(version) => self.kind(src, sink, version),
+            Coming::Head => self.head(src, sink),
+            Coming::Body(head) => self.body(src, sink, head),
+            Coming::Front(head) => self.front(src, sink, head),
+            Coming::Words(head, count) => self.take_words(src, sink, head, count),
+            Coming::Page(head) => self.page(src, sink, head),
+            Coming::Padding(head) => self.padding(src, sink, head),
+            Coming::End => Ok(Step::Done),
+            Coming::Over => unreachable!(),
+        }
+    }
+
+    /// Takes the next part, or a piece of it, and writes it: headers, heads, words and table pages only once they are
+    /// judged, a body piece by piece, and then it is judged. `Done` behind the last part, with nothing taken; the relay is
+    /// over then, as behind an error. `Refused` has the place and the cause of the first fault, and then the source was
+    /// read up to the end of the faulty part.
+    pub fn step<S: Source, K: Sink>(
+        &mut self,
+        src: &mut S,
+        sink: &mut K,
+    ) -> Result<Step, RelayAnswer>
+        requires { Stands self.old }
+
+        // Of each list of bytes that the relay stands for: a piece was taken and written, and the relay stands for the
+        // list with it at its end; or the list is passable; or the list and the bytes left are refused; or it stopped.
+        ensures says { (bytes : List ℕ) (stands : StandsFor self.old bytes) → StepSays stands.here bytes self.old self.new (S.left src.old) (S.left src.new) (K.written sink.old) (K.written sink.new) result }
+        ensures done { (bytes : List ℕ) (s : StreamOf) → StandsFor self.old bytes → IsPassable bytes s → result ≡ Ok Done }
+        ensures stands { goes_on result ≡ true → Stands self.new }
+        ensures over { goes_on result ≡ false → is_past self.new.coming ≡ true }
+        ensures faults { RisesOnFault (S.faults src.old) (S.faults src.new) (K.faults sink.old) (K.faults sink.new) result }
+    {
+        match self.pass_part(src, sink) {
+            Ok(step) => {
+                if step == Step::Done {
+                    self.coming = Coming::Over;
+                }
+                Ok(step)
+            }
+            Err(answer) => {
+                self.coming = Coming::Over;
+                Err(answer)
+            }
+        }
+    }
+}
