@@ -1,6 +1,6 @@
 -- Words name one command at most.
 use mathlib.Core.Logic.{inl, inr}
-use Rattle.mig_report.proofs.Common.{◌≡◌, ◌+◌, ◌*◌, Some, ℕ, ◌<◌, ◌^◌, List, [], length, get_or, sym, ap, ◌∙◌, refl, arith, IsBase, IsFrameNumber, Names, Command, Convert, Exercise, Normalise, Restore, Save, Verify, Walk, WalkImage}
+use Rattle.mig_report.proofs.Common.{◌≡◌, ◌+◌, ◌*◌, Some, ℕ, ◌<◌, ◌^◌, List, [], length, get_or, sym, ap, ◌∙◌, refl, arith, IsBase, IsFrameNumber, Names, Command, Convert, Exercise, Normalise, Restore, Save, Verify, Walk, WalkImage, Relay}
 use Rattle.std.proofs.lemmas.Fmt.{decimal_injective}
 use Rattle.mig_report.specs.Words.{vcpu_limit, hex_behind, NamePlace}
 
@@ -17,12 +17,14 @@ named (Restore base) = 114 + 256 * 7
 named (Exercise seed frames) = 101 + 256 * 8
 named (Walk id at) = 119 + 256 * 4
 named (WalkImage id at) = 119 + 256 * 9
+named Relay = 114 + 256 * 5
 
 begins : (words : List (List ℕ)) (command : Command) → Names words command → initial words ≡ named command
 begins words Normalise h = ap initial h
 begins words Verify h = ap initial h
 begins words Convert h = ap initial h
 begins words Save h = ap initial h
+begins words Relay h = ap initial h
 begins words (Restore base) (inl (h, e)) = ap initial h
 begins words (Restore base) (inr (h, e)) = ap initial h
 begins words (Exercise seed frames) h = ap initial h.0
@@ -67,6 +69,7 @@ same_command words Normalise Normalise h k = refl
 same_command words Verify Verify h k = refl
 same_command words Convert Convert h k = refl
 same_command words Save Save h k = refl
+same_command words Relay Relay h k = refl
 same_command words (Restore a) (Restore b) h k = ap (λ (n : ℕ). Restore n) (same_base words a b h k)
 same_command words (Exercise a n) (Exercise b m) h k = let (e, f) = same_numbers words a b n m h k in ap (λ (x : ℕ). Exercise x n) e ∙ ap (λ (y : ℕ). Exercise b y) f
 same_command words (Walk a x) (Walk b y) h k = let (e, f) = same_place _ words a b x y h k in λ i. Walk (e i) (f i)

@@ -12,6 +12,7 @@ use Rattle.mig_texts.specs.UnsoundTexts.{text_of_unsound}
 use Rattle.mig_report.specs.declared.outcome.ExerciseSummary.{ExerciseSummary}
 use Rattle.mig_report.specs.declared.outcome.Refusal.{Refusal}
 use Rattle.mig_report.specs.declared.outcome.Refusal.TheVariants.{Stream, Legacy, Image, BadLine, TooLong, Pause, Host, Walk}
+use Rattle.mig_report.specs.declared.outcome.RelaySummary.{RelaySummary}
 use Rattle.mig_report.specs.declared.outcome.SaveSummary.{SaveSummary}
 use Rattle.mig_report.specs.declared.outcome.Summary.{Summary}
 use Rattle.mig_report.specs.declared.outcome.WalkEnd.{WalkEnd}
@@ -40,7 +41,7 @@ abbrev pub refusal_line : Refusal → List ℕ
 refusal_line refusal = codes "refused: " ++ (refusal_text refusal ++ codes "\n")
 
 abbrev pub usage_line : List ℕ
-usage_line = codes "usage: restore [BASE] | verify | normalise | convert | save | exercise SEED FRAMES | walk VCPU ADDRESS | walkimage VCPU ADDRESS\n"
+usage_line = codes "usage: restore [BASE] | verify | normalise | convert | save | exercise SEED FRAMES | walk VCPU ADDRESS | walkimage VCPU ADDRESS | relay\n"
 
 abbrev pub read_fault_line : List ℕ
 read_fault_line = codes "fault: read\n"
@@ -78,6 +79,10 @@ exercised_line s =
 -- `ok frame F type T`
 abbrev pub walked_line : WalkSummary → List ℕ
 walked_line s = (codes "ok frame " ++ decimal s.frame) ++ ((codes " type " ++ decimal s.kind) ++ codes "\n")
+
+-- `ok records R bytes B`
+abbrev pub relayed_line : RelaySummary → List ℕ
+relayed_line s = (codes "ok records " ++ decimal s.records) ++ ((codes " bytes " ++ decimal s.bytes) ++ codes "\n")
 
 -- the report got the line, and its count stands as it was; or a write failed, and it got some first bytes, but not all
 abbrev pub Reports : List ℕ → Option (List ℕ) → Option (List ℕ) → ℕ → ℕ → Type 0

@@ -40,6 +40,8 @@ pub enum Command {
     Walk { vcpu: u32, address: u64 },
     /// Say which machine frame of the image's host an address means to a vCPU.
     WalkImage { vcpu: u32, address: u64 },
+    /// Pass the stream on while it is judged.
+    Relay,
 }
 
 /// Whether the word is this one.
@@ -119,6 +121,9 @@ fn plain(word: &str) -> Option<Command>
     }
     if is_word(word, "save") {
         return Some(Command::Save);
+    }
+    if is_word(word, "relay") {
+        return Some(Command::Relay);
     }
     None
 }

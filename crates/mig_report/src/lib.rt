@@ -1,7 +1,7 @@
 //! What the program is told and what it tells: the words of its command line, its statuses, and the lines of its report.
 //!
 //! Responsible for: which command the words name, which status and which line an outcome has, and putting that line, or
-//! the line of `verify`, `save`, `exercise`, `walk` or `walkimage`, on a sink. Left to others: what a command does (mig_tool), and how a place or a
+//! the line of `verify`, `save`, `exercise`, `walk`, `walkimage` or `relay`, on a sink. Left to others: what a command does (mig_tool), and how a place or a
 //! cause is printed (mig_texts).
 //!
 //! What the layers above rely on: a command is found exactly where the words name one, and words name one at most; of a
@@ -14,7 +14,7 @@ mod status;
 
 pub use command::{Command, command_in};
 pub use outcome::{
-    ExerciseSummary, Outcome, Refusal, SaveSummary, Summary, WalkEnd, WalkSummary, finish,
-    put_exercised, put_line, put_ok, put_saved, put_walked,
+    ExerciseSummary, Outcome, Refusal, RelaySummary, SaveSummary, Summary, WalkEnd, WalkSummary,
+    finish, put_exercised, put_line, put_ok, put_relayed, put_saved, put_walked,
 };
 pub use status::Status;

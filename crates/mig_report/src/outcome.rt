@@ -2,7 +2,7 @@ ghost use Rattle.std.specs.Prelude.{◌≡◌, ◌≤◌, ◌++◌, decimal};
 ghost use Rattle.mig_bytes.specs.Bytes.{Puts};
 ghost use Rattle.mig_bytes.specs.Faults.{HasCause};
 ghost use Rattle.mig_report.specs.Outcome.{status_of, line_of};
-ghost use Rattle.mig_report.specs.Report.{Reports, refusal_line, refusal_text, text_of_walk_end, kind_name, differs_text, ok_line, saved_line, exercised_line, walked_line};
+ghost use Rattle.mig_report.specs.Report.{Reports, refusal_line, refusal_text, text_of_walk_end, kind_name, differs_text, ok_line, saved_line, exercised_line, walked_line, relayed_line};
 ghost use Rattle.mig_report.specs.declared.outcome.Outcome.TheVariants as outcomes;
 ghost use Rattle.mig_report.specs.declared.outcome.Refusal.TheVariants as refusals;
 
@@ -92,6 +92,15 @@ pub struct ExerciseSummary {
     pub entries: u64,
     /// The bytes of the guest's canonical stream.
     pub canon: u64,
+}
+
+/// What is said of a stream that was passed on.
+#[derive(Clone, Copy, Debug, PartialEq, Eq)]
+pub struct RelaySummary {
+    /// The image's records, with END and the optional ones.
+    pub records: u64,
+    /// The bytes that were written.
+    pub bytes: u64,
 }
 
 /// What is said of an address that means a frame.
@@ -254,7 +263,7 @@ pub fn put_line<R: Sink>(report: &mut R, outcome: Outcome) -> Result<(), WriteFa
         Outcome::Refused(refusal) => put_refusal(report, refusal),
         Outcome::Usage => put_all(
             report,
-            b"usage: restore [BASE] | verify | normalise | convert | save | exercise SEED FRAMES | walk VCPU ADDRESS | walkimage VCPU ADDRESS\n",
+            b"usage: restore [BASE] | verify | normalise | convert | save | exercise SEED FRAMES | walk VCPU ADDRESS | walkimage VCPU ADDRESS | relay\n",
         ),
         Outcome::ReadFault => put_all(report, b"fault: read\n"),
         Outcome::WriteFault => put_all(report, b"fault: write\n"),
@@ -338,5 +347,15 @@ pub fn put_walked<R: Sink>(report: &mut R, summary: WalkSummary) -> Result<(), W
 {
     put_field(report, b"ok frame ", summary.frame)?;
     put_field(report, b" type ", summary.kind)?;
+    put_all(report, b"\n")
+}
+
+/// Puts how many records and bytes of a stream were passed on on the report.
+pub fn put_relayed<R: Sink>(report: &mut R, summary: RelaySummary) -> Result<(), WriteFailed>
+    ensures bytes { Puts (relayed_line summary) (R.written report.old) (R.written report.new) result }
+    ensures cause { HasCause (R.faults report.old) (R.faults report.new) result }
+{
+    put_field(report, b"ok records ", summary.records)?;
+    put_field(report, b" bytes ", summary.bytes)?;
     put_all(report, b"\n")
 }

@@ -1,6 +1,7 @@
 pub mod Common
 pub mod SaveInputs
 pub mod Walks
+pub mod Relaying
 pub mod Reporting
 pub mod Saving
 pub mod Lives

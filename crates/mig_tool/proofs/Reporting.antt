@@ -1,5 +1,5 @@
 -- What the program answers, and what the line on the report comes to.
-use Rattle.mig_tool.proofs.Common.{◌⊎◌, ◌≡◌, ℕ, ◌++◌, List, length, arith, Option, Some, None, Result, Ok, Err, refl, sym, ap, subst, ◌∙◌, GuestOf, AcceptedStream, AcceptedIn, RefusedIn, Form, ImageAndScript, ImageAt, Legacy, Modern, ModernAt, NoInput, form_of, Refusal, Kind, Hvm, Pv, IsCarried, IsFew, IsBase, restored_text, Written, Done, DonePart, Comes, ComesOf, Says, SaysOf, InputRises, IsLine, summary_of, Command, Convert, Exercise, Normalise, Restore, Save, Verify, Walk, WalkImage, mean_kind, status_of, line_of, outcome_of}
+use Rattle.mig_tool.proofs.Common.{◌⊎◌, ◌≡◌, ◌≢◌, ℕ, ◌++◌, List, length, arith, Option, Some, None, Result, Ok, Err, refl, sym, ap, subst, ◌∙◌, GuestOf, AcceptedStream, AcceptedIn, RefusedIn, Form, ImageAndScript, ImageAt, Legacy, Modern, ModernAt, NoInput, Passing, form_of, Refusal, Kind, Hvm, Pv, IsCarried, IsFew, IsBase, restored_text, Written, Done, DonePart, Comes, ComesOf, Says, SaysOf, InputRises, IsLine, summary_of, Command, Convert, Exercise, Normalise, Restore, Save, Verify, Walk, WalkImage, Relay, mean_kind, status_of, line_of, outcome_of}
 use mathlib.Core.Logic.{inl, inr}
 use Rattle.std.specs.Io.KnownBytes.{Appends}
 use Rattle.mig_bytes.specs.Bytes.{Puts}
@@ -44,7 +44,10 @@ use Rattle.mig_guest.specs.Hosts.{HostOf}
 use Rattle.mig_script.specs.ScriptLines.{LineOf}
 use Rattle.mig_tool.specs.LiveSaves.{HasHostAndScript}
 use Rattle.mig_tool.specs.Answers.{IsSavedOrPaused}
+use Rattle.mig_tool.proofs.Relaying.{passable_once, passed_front}
 use Rattle.mig_tool.proofs.SaveInputs.{not_refused, paused}
+use Rattle.mig_tool.specs.Relays.{PassableFront, PassedOn}
+use Rattle.mig_tool.specs.Answers.{RelayBreaksOff}
 use Rattle.mig_tool.proofs.Walks.{stream_once, image_once, host_once, address_once, stream_found, host_found}
 use Rattle.mig_hosted.specs.View.{view}
 use Rattle.mig_report.specs.Report.{ok_line}
@@ -104,6 +107,12 @@ never_both (ImageAt id at) input guest rest more (refusals.Image place cause) ac
 never_both (ImageAt id at) input guest rest more (refusals.Host unsound) accepted refused = host_once id at input guest rest more unsound accepted refused
 never_both (ImageAt id at) input guest rest more (refusals.Walk end) accepted refused = address_once id at input guest rest more end accepted refused
 never_both (ImageAt id at) input guest rest more _ accepted refused = refused
+never_both Passing input guest rest more (refusals.Stream place cause) accepted refused = passable_once input rest more place cause accepted refused
+never_both Passing input guest rest more _ accepted refused = refused
+
+front_once : (input rest more : List ℕ) (refusal : Refusal) → PassableFront input rest → RefusedIn Passing input refusal more → ⊥
+front_once input rest more (refusals.Stream place cause) front refused = passable_once input rest more place cause front refused
+front_once input rest more _ front refused = refused
 
 -- a refused input isn't done
 done_refused : (command : Command) (input : List ℕ) (left : Option (List ℕ)) (w : Written) (refusal : Refusal) (rest : List ℕ) → Done command input left w → RefusedIn (form_of command) input refusal rest → IsOfInput refusal → ⊥
@@ -114,18 +123,20 @@ done_refused Verify input left w refusal rest h refused it = never_both Modern i
 done_refused (Exercise seed n) input left w refusal rest h refused it = refused
 done_refused (Walk id at) input left w refusal rest h refused it = never_both (ModernAt id at) input h.found.guest h.found.rest rest refusal (stream_found id at input left h.summary h.found) refused
 done_refused (WalkImage id at) input left w refusal rest h refused it = never_both (ImageAt id at) input (view h.found.host) h.found.rest rest refusal (host_found id at input left h.summary h.found) refused
+done_refused Relay input left w refusal rest h refused it = front_once input h.rest rest refusal h.front refused
 done_refused Save input left w refusal rest h refused it = not_refused input h.host h.lines refusal rest h.read refused it
 
-part_refused : (command : Command) (input : List ℕ) (left : Option (List ℕ)) (w : Written) (refusal : Refusal) (rest : List ℕ) → DonePart command input left w → RefusedIn (form_of command) input refusal rest → IsOfInput refusal → ⊥
-part_refused Normalise input left w refusal rest h refused it = never_both Modern input h.guest h.rest rest refusal h.accepted refused
-part_refused Convert input left w refusal rest h refused it = never_both Legacy input h.guest h.rest rest refusal h.accepted refused
-part_refused (Restore base) input left w refusal rest h refused it = never_both Modern input h.guest h.rest rest refusal h.accepted refused
-part_refused Verify input left w refusal rest h refused it = never_both Modern input h.guest h.rest rest refusal h.accepted refused
-part_refused (Exercise seed n) input left w refusal rest h refused it = refused
-part_refused (Walk id at) input left w refusal rest h refused it = never_both (ModernAt id at) input h.found.guest h.found.rest rest refusal (stream_found id at input left h.summary h.found) refused
-part_refused (WalkImage id at) input left w refusal rest h refused it = never_both (ImageAt id at) input (view h.found.host) h.found.rest rest refusal (host_found id at input left h.summary h.found) refused
-part_refused Save input left w refusal rest (inl h) refused it = not_refused input h.host h.lines refusal rest h.read refused it
-part_refused Save input left w refusal rest (inr h) refused it = not_refused input h.host h.lines refusal rest h.read refused it
+part_refused : (command : Command) (input : List ℕ) (left : Option (List ℕ)) (w : Written) (refusal : Refusal) (rest : List ℕ) → DonePart command input left w → RefusedIn (form_of command) input refusal rest → IsOfInput refusal → command ≢ Relay → ⊥
+part_refused Normalise input left w refusal rest h refused it other = never_both Modern input h.guest h.rest rest refusal h.accepted refused
+part_refused Convert input left w refusal rest h refused it other = never_both Legacy input h.guest h.rest rest refusal h.accepted refused
+part_refused (Restore base) input left w refusal rest h refused it other = never_both Modern input h.guest h.rest rest refusal h.accepted refused
+part_refused Verify input left w refusal rest h refused it other = never_both Modern input h.guest h.rest rest refusal h.accepted refused
+part_refused (Exercise seed n) input left w refusal rest h refused it other = refused
+part_refused (Walk id at) input left w refusal rest h refused it other = never_both (ModernAt id at) input h.found.guest h.found.rest rest refusal (stream_found id at input left h.summary h.found) refused
+part_refused (WalkImage id at) input left w refusal rest h refused it other = never_both (ImageAt id at) input (view h.found.host) h.found.rest rest refusal (host_found id at input left h.summary h.found) refused
+part_refused Relay input left w refusal rest h refused it other = absurd (other refl)
+part_refused Save input left w refusal rest (inl h) refused it other = not_refused input h.host h.lines refusal rest h.read refused it
+part_refused Save input left w refusal rest (inr h) refused it other = not_refused input h.host h.lines refusal rest h.read refused it
 
 -- an accepted stream is done, but for memory, where nothing failed
 done_or : (command : Command) (input : List ℕ) (left : Option (List ℕ)) (w : Written) (status : Status) (guest : GuestOf) (rest : List ℕ) → Says command input left w status → AcceptedIn (form_of command) input guest rest
@@ -143,18 +154,18 @@ accepted_done command told left w status input guest rest h is accepted reads wr
     done_or command input left w status guest rest (subst (λ t. SaysOf command t left w status) is h) accepted reads writes
 
 refused_or : (command : Command) (input : List ℕ) (left : Option (List ℕ)) (w : Written) (status : Status) (refusal : Refusal) (rest : List ℕ) → Says command input left w status → RefusedIn (form_of command) input refusal rest → IsOfInput refusal
-    → (status ≡ statuses.ReadFault → ⊥) → (status ≡ statuses.Refused) ⊎ (status ≡ statuses.Memory)
-refused_or command input left w statuses.Done refusal rest h refused it reads = absurd (done_refused command input left w refusal rest h refused it)
-refused_or command input left w statuses.Refused refusal rest h refused it reads = inl refl
-refused_or command input left w statuses.Usage refusal rest h refused it reads = absurd h
-refused_or command input left w statuses.ReadFault refusal rest h refused it reads = absurd (reads refl)
-refused_or command input left w statuses.WriteFault refusal rest h refused it reads = absurd (part_refused command input left w refusal rest h refused it)
-refused_or command input left w statuses.Memory refusal rest h refused it reads = inr refl
+    → (status ≡ statuses.ReadFault → ⊥) → (command ≡ Relay → status ≡ statuses.WriteFault → ⊥) → (status ≡ statuses.Refused) ⊎ (status ≡ statuses.Memory)
+refused_or command input left w statuses.Done refusal rest h refused it reads writes = absurd (done_refused command input left w refusal rest h refused it)
+refused_or command input left w statuses.Refused refusal rest h refused it reads writes = inl refl
+refused_or command input left w statuses.Usage refusal rest h refused it reads writes = absurd h
+refused_or command input left w statuses.ReadFault refusal rest h refused it reads writes = absurd (reads refl)
+refused_or command input left w statuses.WriteFault refusal rest h refused it reads writes = absurd (part_refused command input left w refusal rest h refused it (λ relay. writes relay refl))
+refused_or command input left w statuses.Memory refusal rest h refused it reads writes = inr refl
 
 pub refused_refused : (command : Command) (told left : Option (List ℕ)) (w : Written) (status : Status) (input : List ℕ) (refusal : Refusal) (rest : List ℕ) → SaysOf command told left w status → told ≡ Some input → RefusedIn (form_of command) input refusal rest → IsOfInput refusal
-    → (status ≡ statuses.ReadFault → ⊥) → (status ≡ statuses.Refused) ⊎ (status ≡ statuses.Memory)
-refused_refused command told left w status input refusal rest h is refused it reads =
-    refused_or command input left w status refusal rest (subst (λ t. SaysOf command t left w status) is h) refused it reads
+    → (status ≡ statuses.ReadFault → ⊥) → (command ≡ Relay → status ≡ statuses.WriteFault → ⊥) → (status ≡ statuses.Refused) ⊎ (status ≡ statuses.Memory)
+refused_refused command told left w status input refusal rest h is refused it reads writes =
+    refused_or command input left w status refusal rest (subst (λ t. SaysOf command t left w status) is h) refused it reads writes
 
 -- a host and a script are saved, or refused at the pause, but for memory, where nothing failed
 saved_or : (input : List ℕ) (left : Option (List ℕ)) (w : Written) (status : Status) (host : HostOf) (lines : List LineOf) → Says Save input left w status → HasHostAndScript input host lines
@@ -170,6 +181,13 @@ pub saved_done : (told left : Option (List ℕ)) (w : Written) (status : Status)
     → (status ≡ statuses.ReadFault → ⊥) → (status ≡ statuses.WriteFault → ⊥) → IsSavedOrPaused input status
 saved_done told left w status input host lines h is read reads writes =
     saved_or input left w status host lines (subst (λ t. SaysOf Save t left w status) is h) read reads writes
+
+-- a relay of an input that is refused breaks off where a write of the output fails alone
+pub relay_unbroken : (told left : Option (List ℕ)) (w : Written) (input : List ℕ) (refusal : Refusal) (rest : List ℕ) (out out_now report report_now : ℕ) → told ≡ Some input → RefusedIn Passing input refusal rest → (Rose out out_now → ⊥) → RelayBreaksOff told left w out out_now report report_now → ⊥
+relay_unbroken told left w input refusal rest out out_now report report_now is refused quiet (inl broke) = quiet broke.rose
+relay_unbroken told left w input refusal rest out out_now report report_now is refused quiet (inr broke) =
+    let f = passed_front input left w.out_old w.out_new broke.summary (subst (λ t. PassedOn t left w.out_old w.out_new broke.summary) is broke.passed) in
+    front_once input f.rest rest refusal f.front refused
 
 -- a read fault comes with a risen count
 pub input_rose : (status : Status) (before now : ℕ) → InputRises status before now → status ≡ statuses.ReadFault → Rose before now

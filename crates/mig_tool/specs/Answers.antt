@@ -22,28 +22,33 @@ use Rattle.mig_legacy.specs.Spelled.{AcceptedLegacy}
 use Rattle.mig_legacy.specs.Stream.{IsLegacyRefused}
 use Rattle.mig_restore.specs.Mean.{differs_of}
 use Rattle.mig_report.specs.declared.command.Command.{Command}
-use Rattle.mig_report.specs.declared.command.Command.TheVariants.{Normalise, Restore, Verify, Convert, Save, Exercise, Walk, WalkImage}
+use Rattle.mig_report.specs.declared.command.Command.TheVariants.{Normalise, Restore, Verify, Convert, Save, Exercise, Walk, WalkImage, Relay}
 use Rattle.mig_report.specs.declared.outcome.Outcome.{Outcome}
 use Rattle.mig_report.specs.declared.outcome.Outcome.TheVariants as outcomes
 use Rattle.mig_report.specs.declared.outcome.Refusal.{Refusal}
 use Rattle.mig_report.specs.declared.outcome.Refusal.TheVariants as refusals
 use Rattle.mig_report.specs.declared.outcome.ExerciseSummary.{ExerciseSummary}
+use Rattle.mig_report.specs.declared.outcome.RelaySummary.{RelaySummary}
 use Rattle.mig_report.specs.declared.outcome.SaveSummary.{SaveSummary}
 use Rattle.mig_report.specs.declared.outcome.Summary.{Summary}
 use Rattle.mig_report.specs.declared.outcome.WalkSummary.{WalkSummary}
 use Rattle.mig_report.specs.declared.status.Status.{Status}
 use Rattle.mig_report.specs.declared.status.Status.TheVariants as statuses
-use Rattle.mig_report.specs.Report.{Reports, refusal_line, usage_line, read_fault_line, write_fault_line, memory_line, ok_line, saved_line, exercised_line, walked_line}
+use Rattle.mig_report.specs.Report.{Reports, refusal_line, usage_line, read_fault_line, write_fault_line, memory_line, ok_line, saved_line, exercised_line, walked_line, relayed_line}
 use Rattle.mig_script.specs.ScriptLines.{LineOf}
 use Rattle.mig_unended.specs.Unread.{WroteNoStream}
 use Rattle.mig_tool.specs.Addresses.{AddressReported, HasUnsoundHost, HostHasFrame, HostHasNone, StreamHasFrame, StreamHasNone, FrameInHost, FrameInStream, any_host_at}
 use Rattle.mig_tool.specs.Exercises.{ExerciseReported}
+use Rattle.mig_passable.specs.Streams.{IsOpenRefused}
+use Rattle.mig_tool.specs.Relays.{FrontRelayed, OutputStopped, PassableFront, ReportStopped}
+use Rattle.mig_relay.specs.Relaying.{IsPart}
 use Rattle.mig_tool.specs.LiveSaves.{HasHostAndScript, HasBadLine, HasLongScript, HasUnsoundPause, WroteLive, saved_host_at}
 
 -- ---- the forms of input
 
 -- a stream, bare or inside a libxl stream; a legacy stream; the image of a host, and behind it a script to the end; none, where
--- nothing is read; or a stream, or the image of a sound host and no more, in which an address means a frame to a vCPU
+-- nothing is read; a stream, or the image of a sound host and no more, in which an address means a frame to a vCPU; or a
+-- stream that is passed on, of which nothing is asked that needs more than its parts one by one
 pub data Form : Type 0 where
   Modern : Form
   Legacy : Form
@@ -51,6 +56,7 @@ pub data Form : Type 0 where
   NoInput : Form
   ModernAt : ℕ → ℕ → Form
   ImageAt : ℕ → ℕ → Form
+  Passing : Form
 
 -- which of them a command reads
 abbrev pub form_of : Command → Form
@@ -62,9 +68,10 @@ form_of Save = ImageAndScript
 form_of (Exercise seed n) = NoInput
 form_of (Walk id at) = ModernAt id at
 form_of (WalkImage id at) = ImageAt id at
+form_of Relay = Passing
 
 -- a front of the input is an accepted stream of this form, with this guest, and rest follows it; or the image of a host that is
--- seen as this guest
+-- seen as this guest; or a front that may pass, whose guest nobody asks for
 abbrev pub AcceptedIn : Form → List ℕ → GuestOf → List ℕ → Type 0
 AcceptedIn Modern input guest rest = AcceptedStream input guest rest
 AcceptedIn Legacy input guest rest = AcceptedLegacy input guest rest
@@ -72,6 +79,7 @@ AcceptedIn ImageAndScript input guest rest = ⊥
 AcceptedIn NoInput input guest rest = ⊥
 AcceptedIn (ModernAt id at) input guest rest = StreamHasFrame id at input guest rest
 AcceptedIn (ImageAt id at) input guest rest = HostHasFrame id at input guest rest
+AcceptedIn Passing input guest rest = PassableFront input rest
 
 -- the input has this refusal, and rest follows the faulty part
 abbrev pub RefusedIn : Form → List ℕ → Refusal → List ℕ → Type 0
@@ -86,6 +94,7 @@ RefusedIn (ModernAt id at) input (refusals.Walk end) rest = StreamHasNone id at 
 RefusedIn (ImageAt id at) input (refusals.Image place cause) rest = any_host_at input ≡ Faulty (place, cause) rest
 RefusedIn (ImageAt id at) input (refusals.Host unsound) rest = HasUnsoundHost input rest unsound
 RefusedIn (ImageAt id at) input (refusals.Walk end) rest = HostHasNone id at input rest end
+RefusedIn Passing input (refusals.Stream place cause) rest = IsOpenRefused input place cause rest
 RefusedIn _ input _ rest = ⊥
 
 -- the input alone decides about it; that of a pause hangs on when the pause comes too
@@ -190,6 +199,7 @@ Done Verify input left w = Verified (Appends w.report_old w.report_new) input le
 Done (Exercise seed n) input left w = ExerciseReported (Appends w.report_old w.report_new) seed n
 Done (Walk id at) input left w = AddressReported (FrameInStream id at input left) (Appends w.report_old w.report_new)
 Done (WalkImage id at) input left w = AddressReported (FrameInHost id at input left) (Appends w.report_old w.report_new)
+Done Relay input left w = FrontRelayed (Appends w.report_old w.report_new) input left w.out_old w.out_new
 Done Save input left w = LiveSaved (Appends w.report_old w.report_new) input left w.out_old w.out_new
 
 abbrev pub DonePart : Command → List ℕ → Option (List ℕ) → Written → Type 0
@@ -200,6 +210,7 @@ DonePart Verify input left w = Verified (AppendsPart w.report_old w.report_new) 
 DonePart (Exercise seed n) input left w = ExerciseReported (AppendsPart w.report_old w.report_new) seed n
 DonePart (Walk id at) input left w = AddressReported (FrameInStream id at input left) (AppendsPart w.report_old w.report_new)
 DonePart (WalkImage id at) input left w = AddressReported (FrameInHost id at input left) (AppendsPart w.report_old w.report_new)
+DonePart Relay input left w = IsPart (Some input) left w.out_old w.out_new ⊎ FrontRelayed (AppendsPart w.report_old w.report_new) input left w.out_old w.out_new
 DonePart Save input left w = LiveBroken input left w.out_old w.out_new ⊎ LiveSaved (AppendsPart w.report_old w.report_new) input left w.out_old w.out_new
 
 abbrev pub Says : Command → List ℕ → Option (List ℕ) → Written → Status → Type 0
@@ -219,8 +230,8 @@ abbrev pub SaysOf : Command → Option (List ℕ) → Option (List ℕ) → Writ
 SaysOf command None left w status = ⊤
 SaysOf command (Some input) left w status = Says command input left w status
 
--- a write fault is one of a sink that the command writes on: `verify`, `save`, `exercise`, `walk` and `walkimage` write their
--- line on the report
+-- a write fault is one of a sink that the command writes on: `verify`, `save`, `exercise`, `walk`, `walkimage` and `relay`
+-- write their line on the report
 abbrev pub WriteRose : Command → ℕ → ℕ → ℕ → ℕ → Type 0
 WriteRose Verify out out_now report report_now = Rose report report_now
 WriteRose Normalise out out_now report report_now = Rose out out_now
@@ -229,6 +240,7 @@ WriteRose (Restore base) out out_now report report_now = Rose out out_now
 WriteRose (Exercise seed n) out out_now report report_now = Rose report report_now
 WriteRose (Walk id at) out out_now report report_now = Rose report report_now
 WriteRose (WalkImage id at) out out_now report report_now = Rose report report_now
+WriteRose Relay out out_now report report_now = Rose out out_now ⊎ Rose report report_now
 WriteRose Save out out_now report report_now = Rose out out_now ⊎ Rose report report_now
 
 -- the count of the input rises with a read fault, and with every other status it stands as it was
@@ -271,6 +283,11 @@ pub record ReportBroke (w : Written) (out out_now report report_now : ℕ) : Typ
 abbrev pub BreaksOff : Written → ℕ → ℕ → ℕ → ℕ → Type 0
 BreaksOff w out out_now report report_now = OutputBroke w out out_now report report_now ⊎ ReportBroke w out out_now report report_now
 
+-- a relay whose output broke off, or whose report
+abbrev pub RelayBreaksOff : Option (List ℕ) → Option (List ℕ) → Written → ℕ → ℕ → ℕ → ℕ → Type 0
+RelayBreaksOff told left w out out_now report report_now =
+    OutputStopped told left w.out_old w.out_new w.report_old w.report_new out out_now report report_now ⊎ ReportStopped told left w.out_old w.out_new w.report_old w.report_new out out_now report report_now
+
 -- status 0 of `normalise`, `restore` and `convert` has none
 abbrev pub IsLine : Form → Option (List ℕ) → Status → List ℕ → Type 0
 IsLine form told statuses.Done line = line ≡ []
@@ -280,7 +297,7 @@ IsLine form told statuses.ReadFault line = line ≡ read_fault_line
 IsLine form told statuses.WriteFault line = line ≡ write_fault_line
 IsLine form told statuses.Memory line = line ≡ memory_line
 
--- a command may have put a line of its own, or a part of it: `verify`, `save`, `exercise`, `walk` and `walkimage` do
+-- a command may have put a line of its own, or a part of it: `verify`, `save`, `exercise`, `walk`, `walkimage` and `relay` do
 abbrev pub HasOwnLine : Command → Status → Type 0
 HasOwnLine Normalise status = ⊥
 HasOwnLine Convert status = ⊥
@@ -297,6 +314,9 @@ HasOwnLine (Walk id at) status = ⊥
 HasOwnLine (WalkImage id at) statuses.Done = ⊤
 HasOwnLine (WalkImage id at) statuses.WriteFault = ⊤
 HasOwnLine (WalkImage id at) status = ⊥
+HasOwnLine Relay statuses.Done = ⊤
+HasOwnLine Relay statuses.WriteFault = ⊤
+HasOwnLine Relay status = ⊥
 HasOwnLine Save statuses.Done = ⊤
 HasOwnLine Save statuses.WriteFault = ⊤
 HasOwnLine Save status = ⊥
@@ -305,8 +325,8 @@ HasOwnLine Save status = ⊥
 abbrev pub PutsSome : List ℕ → Option (List ℕ) → Option (List ℕ) → Type 0
 PutsSome line old new = Appends old new line ⊎ AppendsPart old new line
 
--- which line that is: that of some stream, some save, some exercise or some frame, whole with status 0, and a part of it with
--- status 4; of a save whose stream wasn't written, that a write failed
+-- which line that is: that of some stream, some save, some exercise, some frame or some relay, whole with status 0, and a part
+-- of it with status 4; of a save or a relay whose stream wasn't written, that a write failed
 abbrev pub PutsOwnLine : Command → Option (List ℕ) → Option (List ℕ) → Status → Type 0
 PutsOwnLine Normalise old new status = ⊤
 PutsOwnLine Convert old new status = ⊤
@@ -323,6 +343,9 @@ PutsOwnLine (Walk id at) old new status = ⊤
 PutsOwnLine (WalkImage id at) old new statuses.Done = (s : WalkSummary) × Appends old new (walked_line s)
 PutsOwnLine (WalkImage id at) old new statuses.WriteFault = (s : WalkSummary) × AppendsPart old new (walked_line s)
 PutsOwnLine (WalkImage id at) old new status = ⊤
+PutsOwnLine Relay old new statuses.Done = (s : RelaySummary) × Appends old new (relayed_line s)
+PutsOwnLine Relay old new statuses.WriteFault = ((s : RelaySummary) × AppendsPart old new (relayed_line s)) ⊎ PutsSome write_fault_line old new
+PutsOwnLine Relay old new status = ⊤
 PutsOwnLine Save old new statuses.Done = (s : SaveSummary) × Appends old new (saved_line s)
 PutsOwnLine Save old new statuses.WriteFault = ((s : SaveSummary) × AppendsPart old new (saved_line s)) ⊎ PutsSome write_fault_line old new
 PutsOwnLine Save old new status = ⊤
@@ -337,6 +360,7 @@ LeavesOut Save = ⊥
 LeavesOut (Exercise seed n) = ⊤
 LeavesOut (Walk id at) = ⊤
 LeavesOut (WalkImage id at) = ⊤
+LeavesOut Relay = ⊥
 
 -- ---- the same of an outcome, which has the refusal
 

@@ -4,7 +4,7 @@ ghost use Rattle.mig_bytes.specs.Bytes.{AppendsPart};
 ghost use Rattle.mig_bytes.specs.Faults.{Rose};
 ghost use Rattle.mig_pvtables.specs.Whole.{IsWhole};
 ghost use Rattle.mig_libxl.specs.Canon.{canon_any};
-ghost use Rattle.mig_tool.specs.Answers.{form_of, SaysOf, ComesOf, WriteRose, InputRises, OutputRises, IsLine, HasOwnLine, PutsOwnLine, LeavesOut, RefusesPause, BreaksOff, restored_text};
+ghost use Rattle.mig_tool.specs.Answers.{form_of, SaysOf, ComesOf, WriteRose, InputRises, OutputRises, IsLine, HasOwnLine, PutsOwnLine, LeavesOut, RefusesPause, BreaksOff, RelayBreaksOff, restored_text};
 ghost use Rattle.mig_report.specs.Outcome.{status_of};
 ghost use Rattle.mig_tool.specs.Outcomes.{outcome_of};
 ghost use Rattle.mig_report.specs.Report.{Reports};
@@ -14,9 +14,11 @@ ghost use Rattle.mig_report.specs.declared.outcome.Outcome.TheVariants as outcom
 ghost use Rattle.mig_report.specs.declared.outcome.Refusal.TheVariants as refusals;
 ghost use Rattle.mig_report.specs.declared.status.Status.TheVariants as statuses;
 ghost use Rattle.mig_tool.specs.Exercises.{SaysExercise};
+ghost use Rattle.mig_tool.specs.Relays.{SaysRelayed};
 ghost use Rattle.mig_unended.specs.Unread.{WroteNoStream};
 
 use crate::exercise::exercise_told;
+use crate::relay::relay;
 use crate::save::save;
 use crate::walk::{walk, walk_image};
 use mig_bytes::{Sink, Source};
@@ -169,11 +171,13 @@ pub(crate) fn carry_out<S: Source, K: Sink, R: Sink>(
     requires frames { (seed n : ℕ) → command ≡ commands.Exercise seed n → IsFrameNumber n }
     ensures said { SaysOf command (S.left input.old) (S.left input.new) (record { out_old = K.written out.old; out_new = K.written out.new; report_old = R.written report.old; report_new = R.written report.new }) result }
     ensures known { result ≢ statuses.Usage }
-    ensures kept { result ≢ statuses.Done → result ≢ statuses.WriteFault → (command ≡ commands.Save → result ≢ statuses.Refused) → out.new ≡ out.old }
+    ensures kept { result ≢ statuses.Done → result ≢ statuses.WriteFault → (command ≡ commands.Save → result ≢ statuses.Refused) → command ≢ commands.Relay → out.new ≡ out.old }
     ensures kept_refused { command ≡ commands.Save → result ≡ statuses.Refused → (out.new ≡ out.old) ⊎ RefusesPause (S.left input.old) (R.written report.old) (R.written report.new) (R.faults report.old) (R.faults report.new) }
     ensures no_stream { command ≡ commands.Save → result ≡ statuses.Refused → WroteNoStream (K.written out.old) (K.written out.new) }
     ensures breaks { command ≡ commands.Save → result ≡ statuses.WriteFault → BreaksOff (record { out_old = K.written out.old; out_new = K.written out.new; report_old = R.written report.old; report_new = R.written report.new }) (K.faults out.old) (K.faults out.new) (R.faults report.old) (R.faults report.new) }
     ensures untouched { LeavesOut command → out.new ≡ out.old }
+    ensures relayed { command ≡ commands.Relay → SaysRelayed result (S.left input.old) (S.left input.new) (K.written out.old) (K.written out.new) }
+    ensures relay_breaks { command ≡ commands.Relay → result ≡ statuses.WriteFault → RelayBreaksOff (S.left input.old) (S.left input.new) (record { out_old = K.written out.old; out_new = K.written out.new; report_old = R.written report.old; report_new = R.written report.new }) (K.faults out.old) (K.faults out.new) (R.faults report.old) (R.faults report.new) }
     ensures exercised { (seed n : ℕ) → command ≡ commands.Exercise seed n → (input.new ≡ input.old) × SaysExercise seed n (R.written report.old) (R.written report.new) result }
     ensures read { InputRises result (S.faults input.old) (S.faults input.new) }
     ensures write { result ≡ statuses.WriteFault → WriteRose command (K.faults out.old) (K.faults out.new) (R.faults report.old) (R.faults report.new) }
@@ -203,5 +207,6 @@ pub(crate) fn carry_out<S: Source, K: Sink, R: Sink>(
         Command::Exercise { seed, frames } => exercise_told(alloc, seed, frames, report),
         Command::Walk { vcpu, address } => walk(alloc, vcpu, address, input, report),
         Command::WalkImage { vcpu, address } => walk_image(alloc, vcpu, address, input, report),
+        Command::Relay => relay(alloc, input, out, report),
     }
 }

@@ -8,6 +8,7 @@
 
 mod commands;
 mod exercise;
+mod relay;
 mod run;
 mod save;
 #[cfg(test)]

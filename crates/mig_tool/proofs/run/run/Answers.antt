@@ -1,8 +1,8 @@
-use Rattle.mig_tool.proofs.Common.{subst, sym, Written, SaysOf, WriteRose, PutsOwnLine, LeavesOut, AcceptedIn, RefusedIn, form_of, Command, Exercise, Save, Names}
+use Rattle.mig_tool.proofs.Common.{subst, sym, Written, SaysOf, WriteRose, PutsOwnLine, LeavesOut, AcceptedIn, RefusedIn, form_of, Command, Exercise, Save, Relay, Names, ◌≡◌, ◌∙◌}
 use Rattle.mig_tool.specs.Answers.{HasOwnLine, IsLine}
 use Rattle.mig_report.specs.Words.{texts_of}
 use Rattle.mig_report.proofs.Naming.{same_command}
-use Rattle.mig_tool.proofs.Reporting.{accepted_done, refused_refused, saved_done, input_rose}
+use Rattle.mig_tool.proofs.Reporting.{accepted_done, refused_refused, saved_done, input_rose, relay_unbroken}
 use Rattle.mig_tool.proofs.run.run.Goals as goal
 
 pub returns-in-Some-clause-done : goal.returns-in-Some-clause-done
@@ -34,11 +34,23 @@ returns-in-Some-clause-accepted g c = λ command bytes guest rest is told accept
     (λ e. reads (input_rose _ _ _ c.carry_out.ensures.read e)) (λ e. writes (subst (λ (d : Command). WriteRose d (g.K.Sink.faults c.args.out.now) (g.K.Sink.faults c.carry_out.new.out) (g.R.Sink.faults c.args.report.now) (g.R.Sink.faults c.carry_out.new.report)) same (c.carry_out.ensures.write e)))
 
 pub returns-in-Some-clause-refused : goal.returns-in-Some-clause-refused
-returns-in-Some-clause-refused g c = λ command bytes refusal rest is told refused it reads.
+returns-in-Some-clause-refused g c = λ command bytes refusal rest is told refused it reads writes.
     let w : Written = record { out_old = g.K.Sink.written c.args.out.now; out_new = g.K.Sink.written c.carry_out.new.out; report_old = g.R.Sink.written c.args.report.now; report_new = g.R.Sink.written c.carry_out.new.report } in
     let same = same_command _ c.in-Some.command command c.in-Some.ensures.some is in
     refused_refused c.in-Some.command (g.S.Source.left c.args.input.now) (g.S.Source.left c.carry_out.new.input) w c.carry_out.result bytes refusal rest c.carry_out.ensures.said told (subst (λ (d : Command). RefusedIn (form_of d) bytes refusal rest) (sym same) refused) it
     (λ e. reads (input_rose _ _ _ c.carry_out.ensures.read e))
+    (λ relay e.
+    let this : command ≡ Relay = sym same ∙ relay in
+    relay_unbroken (g.S.Source.left c.args.input.now) (g.S.Source.left c.carry_out.new.input) w bytes refusal rest _ _ _ _ told (subst (λ (d : Command). RefusedIn (form_of d) bytes refusal rest) this refused) (writes this) (c.carry_out.ensures.relay_breaks relay e))
+
+pub returns-in-Some-clause-relayed : goal.returns-in-Some-clause-relayed
+returns-in-Some-clause-relayed g c = λ is. c.carry_out.ensures.relayed (same_command _ c.in-Some.command Relay c.in-Some.ensures.some is)
+
+pub returns-in-Some-clause-relay_breaks : goal.returns-in-Some-clause-relay_breaks
+returns-in-Some-clause-relay_breaks g c = λ is. c.carry_out.ensures.relay_breaks (same_command _ c.in-Some.command Relay c.in-Some.ensures.some is)
+
+pub returns-in-None-clause-relayed : goal.returns-in-None-clause-relayed
+returns-in-None-clause-relayed g c = λ is. absurd (c.in-None.ensures.none Relay is)
 
 pub returns-in-Some-clause-saved : goal.returns-in-Some-clause-saved
 returns-in-Some-clause-saved g c = λ bytes host lines is told read reads writes.
@@ -51,7 +63,8 @@ pub returns-in-Some-clause-exercised : goal.returns-in-Some-clause-exercised
 returns-in-Some-clause-exercised g c = λ seed n is. c.carry_out.ensures.exercised seed n (same_command _ c.in-Some.command (Exercise seed n) c.in-Some.ensures.some is)
 
 pub returns-in-Some-clause-kept : goal.returns-in-Some-clause-kept
-returns-in-Some-clause-kept g c = λ undone unfailed other. c.carry_out.ensures.kept undone unfailed (λ is. other (subst (λ (d : Command). Names (texts_of c.args.words.now) d) is c.in-Some.ensures.some))
+returns-in-Some-clause-kept g c = λ undone unfailed other relay.
+    c.carry_out.ensures.kept undone unfailed (λ is. other (subst (λ (d : Command). Names (texts_of c.args.words.now) d) is c.in-Some.ensures.some)) (λ is. relay (subst (λ (d : Command). Names (texts_of c.args.words.now) d) is c.in-Some.ensures.some))
 
 pub returns-in-Some-clause-kept_refused : goal.returns-in-Some-clause-kept_refused
 returns-in-Some-clause-kept_refused g c = λ is. c.carry_out.ensures.kept_refused (same_command _ c.in-Some.command Save c.in-Some.ensures.some is)

@@ -1,0 +1,28 @@
+use Rattle.mig_tool.proofs.Common.{Err, sym, subst, SaysOf, ComesOf, Relay, Written}
+use mathlib.Core.Logic.{inl, inr}
+use Rattle.mig_report.specs.declared.status.Status.TheVariants as statuses
+use Rattle.mig_tool.specs.Answers.{RelayBreaksOff}
+use Rattle.mig_tool.proofs.Relaying.{passed_says, passed_relayed, passed_breaks, passed_line, part_of, unpassed_comes, unpassed_relayed, unpassed_breaks, unpassed_line, input_rises, output_later}
+use Rattle.mig_tool.proofs.Reporting.{says_of, line_reported}
+use Rattle.mig_tool.proofs.relay.relay.Goals as goal
+
+pub returns-in-Ok-clause-said : goal.returns-in-Ok-clause-said
+returns-in-Ok-clause-said g c =
+    let w : Written = record { out_old = g.K.Sink.written c.args.out.now; out_new = g.K.Sink.written c.relay.new.sink; report_old = g.R.Sink.written c.args.report.now; report_new = g.R.Sink.written c.told.new.report } in
+    passed_says (g.S.Source.left c.args.input.now) (g.S.Source.left c.relay.new.src) w c.in-Ok.relayed c.told.result c.in-Ok.ensures.relayed c.told.ensures.done c.told.ensures.part c.told.ensures.answers
+
+pub returns-in-Ok-clause-relayed : goal.returns-in-Ok-clause-relayed
+returns-in-Ok-clause-relayed g c = passed_relayed (g.S.Source.left c.args.input.now) (g.S.Source.left c.relay.new.src) _ _ c.in-Ok.relayed c.told.result c.in-Ok.ensures.relayed c.told.ensures.answers
+
+pub returns-in-Ok-clause-breaks : goal.returns-in-Ok-clause-breaks
+returns-in-Ok-clause-breaks g c = λ failed.
+    inr (passed_breaks (g.S.Source.left c.args.input.now) (g.S.Source.left c.relay.new.src) _ _ _ _ c.in-Ok.relayed _ _ _ _ c.in-Ok.ensures.relayed c.in-Ok.ensures.faults.1 (c.told.ensures.rose failed) (c.told.ensures.part failed))
+
+pub returns-in-Ok-clause-own_line : goal.returns-in-Ok-clause-own_line
+returns-in-Ok-clause-own_line g c = passed_line _ _ c.in-Ok.relayed c.told.result c.told.ensures.done c.told.ensures.part c.told.ensures.answers
+
+pub returns-in-Err-clause-said : goal.returns-in-Err-clause-said
+returns-in-Err-clause-said g c =
+    let w : Written = record { out_old = g.K.Sink.written c.args.out.now; out_new = g.K.Sink.written c.relay.new.sink; report_old = g.R.Sink.written c.args.report.now; report_new = g.R.Sink.written c.finish.new.report } in
+    subst (SaysOf Relay (g.S.Source.left c.args.input.now) (g.S.Source.left c.relay.new.src) w) (sym c.finish.ensures.status)
+    (says_of Relay (g.S.Source.left c.args.input.now) (g.S.Source.left c.relay.new.src) w c.unrelayed.result (subst (ComesOf Relay _ _ w) (sym c.unrelayed.ensures) (unpassed_comes _ _ w c.in-Err.answer c.in-Err.ensures.relayed)))

@@ -1,0 +1,18 @@
+-- What a relay's answer comes to.
+use Rattle.mig_relay.specs.declared.answer.RelayAnswer.{RelayAnswer}
+use Rattle.mig_relay.specs.declared.answer.RelayAnswer.TheVariants as answers
+use Rattle.mig_relay.specs.declared.answer.Relayed.{Relayed}
+use Rattle.mig_report.specs.declared.outcome.Outcome.{Outcome}
+use Rattle.mig_report.specs.declared.outcome.Outcome.TheVariants as outcomes
+use Rattle.mig_report.specs.declared.outcome.Refusal.TheVariants as refusals
+use Rattle.mig_report.specs.declared.outcome.RelaySummary.{RelaySummary}
+
+abbrev pub outcome_of_relay : RelayAnswer → Outcome
+outcome_of_relay (answers.Refused place cause) = outcomes.Refused (refusals.Stream place cause)
+outcome_of_relay answers.ReadFault = outcomes.ReadFault
+outcome_of_relay answers.WriteFault = outcomes.WriteFault
+outcome_of_relay answers.Memory = outcomes.Memory
+
+-- what is said of it
+abbrev pub summary_of_relay : Relayed → RelaySummary
+summary_of_relay relayed = record { records = relayed.records; bytes = relayed.bytes }
