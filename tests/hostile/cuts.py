@@ -1,5 +1,8 @@
 """Input that is cut, that comes in pieces, or whose numbers promise more than there is."""
+import os
+import select
 import struct
+import subprocess
 
 import program
 
@@ -11,8 +14,9 @@ SMALLEST_PV_PARTS = (
 PAGES_OF_PV = 24 + 88 + 8 + 8 + 3 * 8                   # where its first page begins in the wrapper
 PIECES = 1, 7, 4096
 ALL, SOME = 1, 16                                       # of the lengths inside of parts, each or every sixteenth
-OF_COMMANDS = (['verify'], ALL), (['normalise'], SOME), (['restore'], SOME)
+OF_COMMANDS = (['verify'], ALL), *((words, SOME) for words in (['normalise'], ['restore'], ['relay']))
 BESIDE_ENDS, SHARES = 9, 16
+FRONTS, SECONDS = 40, 20                                # fronts that come one after another, and how long is waited for output
 
 
 # ---- each proper prefix
@@ -36,9 +40,15 @@ def lengths(stream, parts, step):
     return sorted({*range(0, len(stream), step), *(length for length in beside if 0 <= length < len(stream))})
 
 
+def is_passed_on(stream, parts, out):
+    """Whether this was written of a cut stream: a front with all parts that are there, and all but a piece of 4096 bytes."""
+    whole = max((end for end, _ in parts if end <= len(stream)), default=0)
+    return stream.startswith(out) and len(out) >= max(whole, len(stream) - 4095)
+
+
 def prefixes(tool, words, step, share):
     """A share of the proper prefixes of a PV stream in the wrapper, longest first: each is refused as cut, in the part that
-    isn't there whole."""
+    isn't there whole. `relay` writes a front of it: all parts before this one, and of this one all but a piece."""
     stream, parts = wrapped_pv()
     runs = program.Runs(tool)
     runs.give(stream)
@@ -46,7 +56,10 @@ def prefixes(tool, words, step, share):
         runs.cut(length)
         place = next(place for end, place in parts if length < end)
         want = program.Answer(program.REFUSED, b'', b'refused: %s: 1 Truncated\n' % place.encode())
-        for why in program.differences(runs.answer(words), want):
+        got = runs.answer(words)
+        if program.passes_on(words) and is_passed_on(stream[:length], parts, got.out):
+            want = want._replace(out=got.out)
+        for why in program.differences(got, want):
             yield '%s of %d bytes: %s' % (words[0], length, why)
 
 
@@ -59,6 +72,36 @@ def pieces(tool, size):
         got = program.Answer(*program.examples.piped(tool, words, cut))
         for why in program.differences(got, program.wanted(words, data)):
             yield '%s, %s: %s' % (name, words[0], why)
+
+
+def read_up_to(pipe, length):
+    """So many bytes of a pipe; fewer where it ends, or where no more come."""
+    out = b''
+    while len(out) < length and select.select([pipe], [], [], SECONDS)[0]:
+        part = os.read(pipe.fileno(), length - len(out))
+        if not part:
+            break
+        out += part
+    return out
+
+
+def flowing(tool):
+    """What came is passed on before more comes: of each front, while the input is open, `relay` has written all that it
+    passes on of it."""
+    for name, words, data in program.forms():
+        if not program.passes_on(words):
+            continue
+        pipes = dict.fromkeys(('stdin', 'stdout', 'stderr'), subprocess.PIPE)
+        with subprocess.Popen([tool, *words], bufsize=0, **pipes) as started:
+            came, out = 0, b''
+            for length in (*range(1, len(data), max(1, len(data) // FRONTS)), len(data)):
+                started.stdin.write(data[came:length])
+                came, want = length, program.wanted(words, data[:length]).out
+                out += read_up_to(started.stdout, len(want) - len(out))
+                if out != want:
+                    started.kill()
+                    yield '%s: of %d bytes that came %d were written, wanted %d' % (name, length, len(out), len(want))
+                    break
 
 
 # ---- heads that promise more than there is
@@ -124,7 +167,8 @@ def lying_images():
 
 def lying_heads():
     """By name, words, line and input."""
-    for words, made in ((['verify'], lying_records()), (['convert'], lying_chunks()), (['save'], lying_images())):
+    for words, made in ((['verify'], lying_records()), (['relay'], lying_records()), (['convert'], lying_chunks()),
+                        (['save'], lying_images())):
         for name, place, data in made:
             yield name, words, b'refused: %s: 1 Truncated\n' % place.encode(), data
 
@@ -147,13 +191,15 @@ def asked_by_lies(tool, faults):
             more = data + bytes(behind)
             want = program.wanted(words, more)
             got, told = asked(tool, faults, words, more)
-            yield name, behind, line if not behind else want.report, want, got, told
+            yield '%s, %s' % (name, words[0]), behind, line if not behind else want.report, want, got, told
 
 
 def lies(tool, faults):
-    """Each lying head is refused, and little memory is held: twice what stands behind it in the input, and some KiB."""
+    """Each lying head is refused, and little memory is held: twice what stands behind it in the input, and some KiB; by
+    `relay` some KiB alone, but for the words of pages."""
     for name, behind, line, want, got, told in asked_by_lies(tool, faults):
         for why in program.differences(got, want._replace(report=line)):
             yield '%s, %d bytes behind it: %s' % (name, behind, why)
-        if told.peak > MOST_HELD + 2 * behind or told.reads == 0:
+        kept = 0 if name.endswith(', relay') and not name.startswith('words') else behind
+        if told.peak > MOST_HELD + 2 * kept or told.reads == 0:
             yield '%s, %d bytes behind it: %d bytes were held' % (name, behind, told.peak)

@@ -4,7 +4,8 @@ itself (full disks, closed pipes, files that shrink).
 What is wanted: a read that fails gives status 3, a write of standard output that fails status 4, and a write of standard
 error status 4 where a line says what was found, each with its line. Standard output has nothing where the status isn't 0
 or 4, and with status 4 a proper prefix of what status 0 writes; of `save` no front of it is a stream, but where its line
-failed it is the whole stream. An interrupted call is a failed one.
+failed it is the whole stream. `relay` writes while it judges: with status 3 exactly what it passes on of the bytes that came
+is there, with status 4 what `save` has. An interrupted call is a failed one.
 """
 import errno
 import fcntl
@@ -27,7 +28,7 @@ class Asked:
     """A command and its input, what it has to answer, and how many reads and writes it makes where none fails."""
 
     def __init__(self, tool, faults, name, words, data):
-        self.name, self.words, self.faults, self.runs = name, words, faults, program.Runs(tool)
+        self.name, self.words, self.faults, self.runs, self.data = name, words, faults, program.Runs(tool), data
         self.runs.give(data)
         self.want = program.wanted(words, data)
         self.got = self.answer()
@@ -48,6 +49,11 @@ class Asked:
     def differences(self, what, got, want):
         for why in program.differences(got, want):
             yield '%s, %s, %s: %s' % (self.name, self.words[0], what, why)
+
+
+def after_a_failed_read(it, what, got):
+    """What isn't as it has to be where a read failed, behind those whose bytes were counted."""
+    return it.differences(what, got, program.no_read(it.words, it.data[:it.faults.told().bytes_read]))
 
 
 def every(tool, faults):
@@ -84,7 +90,7 @@ def reads(tool, faults):
         for number in range(it.made.reads):
             for error in READ_ERRORS:
                 got = it.answer(read='%d %d' % (number, error))
-                yield from it.differences('read %d fails by %d' % (number, error), got, program.NO_READ)
+                yield from after_a_failed_read(it, 'read %d fails by %d' % (number, error), got)
 
 
 def reads_of_pieces(tool, faults):
@@ -93,7 +99,7 @@ def reads_of_pieces(tool, faults):
         most = max(1, -(-it.made.bytes_read // PLACES))
         for number in range(it.calls_made(read_most=most).reads):
             got = it.answer(read='%d %d' % (number, errno.EIO), read_most=most)
-            yield from it.differences('read %d of %d bytes fails' % (number, most), got, program.NO_READ)
+            yield from after_a_failed_read(it, 'read %d of %d bytes fails' % (number, most), got)
 
 
 def write_errors(number, made):
@@ -101,16 +107,12 @@ def write_errors(number, made):
     return WRITE_ERRORS if number in (0, made - 1) else WRITE_ERRORS[:1]
 
 
-def is_front(part, whole):
-    return len(part) < len(whole) and whole.startswith(part)
-
-
 def after_a_failed_write(tool, it, what, got):
     """What isn't as it has to be where a write of standard output failed."""
     yield from it.differences(what, got, program.NO_WRITE)
-    if not is_front(got.out, it.want.out):
+    if not program.is_front(got.out, it.want.out):
         yield '%s, %s, %s: what was written is no proper prefix' % (it.name, it.words[0], what)
-    if it.words[0] == 'save':
+    if it.words[0] == 'save' or program.passes_on(it.words):
         runs = program.Runs(tool)
         runs.give(got.out)
         if runs.answer(['verify']).status != program.REFUSED:
@@ -147,7 +149,7 @@ def reports(tool, faults):
                 what = 'write %d of the line fails by %d' % (number, error)
                 got = it.answer(report='%d %d' % (number, error))
                 yield from it.differences(what, got, it.want._replace(status=status, report=None))
-                if not is_front(got.report, it.want.report):
+                if not program.is_front(got.report, it.want.report):
                     yield '%s, %s, %s: the line is %r' % (it.name, it.words[0], what, got.report)
 
 
@@ -201,31 +203,31 @@ def closed(number):
 
 
 def unreadable(tool, words, data):
-    """By what it is, answers where standard input can't be read, or not to its end."""
+    """By what it is, the bytes that come of standard input that can't be read, or not to its end, and the answer."""
     folder = os.open(program.HERE, os.O_RDONLY)
-    yield 'a folder', run(tool, words, stdin=folder)
+    yield 'a folder', b'', run(tool, words, stdin=folder)
     os.close(folder)
     with open('/dev/null', 'wb') as sink:
-        yield 'a file for writing', run(tool, words, stdin=sink)
-    yield 'closed', run(tool, words, stdin=None, preexec_fn=closed(0))
+        yield 'a file for writing', b'', run(tool, words, stdin=sink)
+    yield 'closed', b'', run(tool, words, stdin=None, preexec_fn=closed(0))
     ours, its = socket.socketpair()
-    its.send(data[:len(data) // 2])
+    front = data[:its.send(data[:len(data) // 2])]
     ours.send(b'never read by its peer')
     its.close()
-    yield 'a socket whose other end is gone', run(tool, words, stdin=ours)
+    yield 'a socket whose other end is gone', front, run(tool, words, stdin=ours)
     ours.close()
     ours, its = os.pipe()
     os.set_blocking(ours, False)
-    yield 'a pipe that has nothing yet', run(tool, words, stdin=ours)
-    os.write(its, data[:min(len(data) // 2, 4096)])
-    yield 'a pipe that has no more yet', run(tool, words, stdin=ours)
+    yield 'a pipe that has nothing yet', b'', run(tool, words, stdin=ours)
+    front = data[:os.write(its, data[:min(len(data) // 2, 4096)])]
+    yield 'a pipe that has no more yet', front, run(tool, words, stdin=ours)
     os.close(ours), os.close(its)
 
 
 def real_reads(tool, faults):
     for name, words, data in program.forms():
-        for what, got in unreadable(tool, words, data) if data else ():
-            for why in program.differences(got, program.NO_READ):
+        for what, front, got in unreadable(tool, words, data) if data else ():
+            for why in program.differences(got, program.no_read(words, front)):
                 yield '%s, %s, standard input is %s: %s' % (name, words[0], what, why)
 
 

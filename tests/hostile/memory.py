@@ -3,7 +3,8 @@
 Whether the program begins at all is the affair of the kernel and of the loader: with less than they need they end it, by
 a signal or with the loader's status and line. That it is they is seen from a run in which the loader does all it does and
 the program none of its own (LD_TRACE_LOADED_OBJECTS, which is what ldd sets). From the least size on at which this run
-succeeds the program answers for itself: status 5 with its line and nothing on standard output, or the right answer.
+succeeds the program answers for itself: status 5 with its line and nothing on standard output, or the right answer. `relay`
+may have written a front of what it passes on; what it passes on may be far longer than the memory that it has.
 """
 import itertools
 import struct
@@ -57,7 +58,7 @@ def pv():
 def asked():
     """By name, words and an input of some MiB."""
     streams = {'HVM': hvm(), 'libxl': wrapped(), 'PV': pv()}
-    for (name, data), words in itertools.product(streams.items(), (['verify'], ['restore'], ['normalise'])):
+    for (name, data), words in itertools.product(streams.items(), (['verify'], ['restore'], ['normalise'], ['relay'])):
         yield name, words, data
     yield 'legacy', ['convert'], legacy()
     yield 'image', ['save'], image()
@@ -83,10 +84,55 @@ def little(tool):
     """No other answer than the right one or want of memory; at the greatest size it is the right one."""
     for name, words, want, got in answers(tool):
         for size, is_its_own, answer in got:
-            if is_its_own and answer not in (want, program.NO_MEMORY):
+            if is_its_own and answer != want and not program.is_no_memory(words, answer, want):
                 yield '%s, %s, %d KiB: status %d, %d bytes out, report %r' % (
                     name, words[0], size // KIB, answer.status, len(answer.out), answer.report[:200])
         if got[-1][2] != want:
             yield '%s, %s: status %d with much memory' % (name, words[0], got[-1][2].status)
-        if name != 'words' and all(answer != program.NO_MEMORY for _, _, answer in got):
+        if name != 'words' and not any(program.is_no_memory(words, answer, want) for _, _, answer in got):
             yield '%s, %s: no size was too little' % (name, words[0])
+
+
+# ---- what is passed on and not kept
+
+LONGEST, ENOUGH = 1 << 27, 16 * MIB
+BLOCK = bytes(range(1, 256)) * 4096                  # of no whole number of pieces or pages
+
+
+def of_length(length):
+    """So many bytes, block by block."""
+    for at in range(0, length, len(BLOCK)):
+        yield BLOCK[:length - at]
+
+
+def long_streams():
+    """By name, how many records each has, and its bytes block by block: bodies as long as they may be, and many pages."""
+    smallest = program.case('smallest-hvm')
+    front, context, end = smallest[:48], smallest[48:96], smallest[96:]
+    optional = struct.pack('<II', 1 << 31, LONGEST), *of_length(LONGEST)
+    yield 'optional records', 5, [front, *optional, *optional, context, end]
+    inner = LONGEST - 32 - 8 - 8
+    entries = struct.pack('<HHI', 2, 0, inner), *of_length(inner), bytes(8)
+    long_context = struct.pack('<II', 9, LONGEST), smallest[56:88], *entries
+    yield 'a context twice', 4, [front, *long_context, *long_context, end]
+    count = LONGEST // 16 - 1
+    some = struct.pack('<QQ', 7, 1) * (count // 3)
+    parameters = struct.pack('<IIQ', 10, 8 + 16 * count, count), some, some, some, struct.pack('<QQ', 7, 1) * (count % 3)
+    yield 'parameters twice', 5, [front, *parameters, *parameters, context, end]
+    yield 'pages', 103, [front, *(page_record(512 * number) for number in range(100)), context, end]
+    many = [b'key\0' + b'v' * 4091 + b'\0'] * (LONGEST // 4096 - 1)
+    pairs = struct.pack('<IIII', 2, LONGEST, 2, 0), *many, b'k\0' + b'v' * 4085 + b'\0'
+    yield 'pairs of a wrapper, twice', 3, [
+        b'LibxlFmt' + struct.pack('>II', 2, 0), *pairs, *pairs, struct.pack('<II', 1, 0), smallest, bytes(8)]
+
+
+def passed_on(tool):
+    """`relay` passes on more than 200 MiB where it may have 16 MiB, the program itself and its buffer included."""
+    for name, records, blocks in long_streams():
+        length = sum(map(len, blocks))
+        got = program.passed_through(tool, ['relay'], blocks, ENOUGH)
+        want = program.Passed(program.DONE, length, program.digest_of(blocks), b'ok records %d bytes %d\n' % (records, length))
+        if got != want:
+            yield '%s: status %d, %d bytes out, report %r' % (name, got.status, got.length, got.report)
+        if length < 200 * MIB:
+            yield '%s: %d bytes alone' % (name, length)

@@ -4,6 +4,7 @@ and tells what the second reader says that it has to answer.
 import collections
 import contextlib
 import functools
+import hashlib
 import importlib.machinery
 import importlib.util
 import os
@@ -14,6 +15,7 @@ import struct
 import subprocess
 import sys
 import tempfile
+import threading
 
 HERE = os.path.dirname(os.path.abspath(__file__))
 TESTS = os.path.dirname(HERE)
@@ -57,6 +59,27 @@ def case(name):
 def wanted(words, data):
     """What the second reader answers; its output is None where `save` may have written anything that is no stream."""
     return Answer(*second.judged(words, data))
+
+
+def passes_on(words):
+    """Whether the command writes while it judges."""
+    return words == ['relay']
+
+
+def no_read(words, front):
+    """What is answered where this front of an input came, and then a read failed: of `relay` it is passed on."""
+    return NO_READ._replace(out=wanted(words, front).out) if passes_on(words) else NO_READ
+
+
+def is_no_memory(words, got, want):
+    """Whether want of memory is told. Nothing was written then, but by `relay` a front of what is wanted with much memory."""
+    front = got.out if passes_on(words) and is_front(got.out, want.out) else b''
+    return got == NO_MEMORY._replace(out=front)
+
+
+def is_front(part, whole):
+    """Whether it is a front, and not all."""
+    return len(part) < len(whole) and whole.startswith(part)
 
 
 # ---- one run after another, on files in memory
@@ -154,6 +177,38 @@ def with_limit(tool, words, data, most, environment=None):
     return Answer(ended.returncode, ended.stdout, ended.stderr)
 
 
+# what went through a program: its status, how many bytes it wrote and their digest, its report
+Passed = collections.namedtuple('Passed', 'status length digest report')
+
+
+def digest_of(blocks):
+    digest = hashlib.sha256()
+    for block in blocks:
+        digest.update(block)
+    return digest.digest()
+
+
+def passed_through(tool, words, blocks, most):
+    """What goes through the program where its address space may have so many bytes; nothing of it is kept here."""
+    def limit():
+        resource.setrlimit(resource.RLIMIT_AS, (most, most))
+
+    def feed():
+        with contextlib.suppress(BrokenPipeError), started.stdin:
+            for block in blocks:
+                started.stdin.write(block)
+    pipes = dict.fromkeys(('stdin', 'stdout', 'stderr'), subprocess.PIPE)
+    with subprocess.Popen([tool, *words], preexec_fn=limit, **pipes) as started:
+        feeder = threading.Thread(target=feed)
+        feeder.start()
+        length, digest = 0, hashlib.sha256()
+        while block := started.stdout.read(1 << 20):
+            length, _ = length + len(block), digest.update(block)
+        report = started.stderr.read()
+        feeder.join()
+    return Passed(started.returncode, length, digest.digest(), report)
+
+
 # ---- inputs of each form
 
 def live_host():
@@ -170,7 +225,9 @@ def forms():
         yield name, ['restore', '4096'], data
         yield name, ['verify'], data
         yield name, ['normalise'], data
+        yield name, ['relay'], data
     yield 'smallest HVM', ['normalise'], case('smallest-hvm')
+    yield 'smallest HVM', ['relay'], case('smallest-hvm')
     yield 'legacy', ['convert'], case('legacy-all-kinds')
     yield 'small legacy', ['convert'], case('legacy-hvm')
     yield 'HVM image', ['save'], live_host()

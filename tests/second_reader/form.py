@@ -17,6 +17,9 @@ class Refused(Exception):
 class Input:
     """Bytes that are taken one after another, and the place that is printed of what is being judged."""
 
+    # whether a guest is kept; where none is, nothing is asked that needs a whole guest or all pairs of an emulator
+    keeps_guest = True
+
     def __init__(self, data):
         self.data, self.at, self.place = data, 0, 'ImageHeader'
 
@@ -25,6 +28,10 @@ class Input:
             raise Refused('1 Truncated')
         self.at += length
         return self.data[self.at - length:self.at]
+
+    def take_body(self, kind, length, is_wrapped=False):
+        """The body of a record that is judged as a whole; `is_wrapped`: of a record of the wrapper."""
+        return self.take(length)
 
 
 def refuse_if(test, cause):

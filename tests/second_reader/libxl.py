@@ -56,13 +56,13 @@ def spelled(pairs):
 
 # ---- the state of emulators
 
-def read_emulator_pairs(body, emulators):
+def read_emulator_pairs(body, emulators, keeps_guest):
     emulator, index = struct.unpack_from('<II', body)
     pairs = read_pairs(body[8:])
     refuse_if(emulator >= EMULATOR_LIMIT, '35 BadEmulator %d' % emulator)
     key = emulator, index, XENSTORE_DATA
     text = spelled({**read_pairs(emulators.get(key, b'')), **pairs})
-    refuse_if(len(text) > MOST_PAIRS, '38 TooManyPairs')
+    refuse_if(len(text) > MOST_PAIRS and keeps_guest, '38 TooManyPairs')
     refuse_if(index >= INDEX_LIMIT, '39 EmulatorIndex %d' % index)
     if pairs:
         emulators[key] = text
@@ -76,9 +76,9 @@ def read_emulator_context(body, emulators):
 
 
 def read_body(source, kind, length, emulators):
-    body = source.take(length)
+    body = source.take_body(kind, length, is_wrapped=True)
     if kind == XENSTORE_DATA:
-        read_emulator_pairs(body, emulators)
+        read_emulator_pairs(body, emulators, source.keeps_guest)
     elif kind == EMULATOR_CONTEXT:
         read_emulator_context(body, emulators)
     source.take(-length % 8)

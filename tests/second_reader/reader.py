@@ -167,13 +167,14 @@ def read_body(source, kind, length, guest, is_checked):
     """Answers how many entries differ, of a PAGE_DATA that is checked."""
     different = 0
     if is_optional(kind):
-        source.take(length)
+        source.take_body(kind, length)
     elif kind == END:
-        judge_guest(guest)
+        if source.keeps_guest:
+            judge_guest(guest)
     elif kind == PAGE_DATA:
         different = read_pages(source, length, guest, is_checked)
     else:
-        read_part(kind, source.take(length), guest)
+        read_part(kind, source.take_body(kind, length), guest)
     source.take(-length % 8)
     return different
 
@@ -290,7 +291,7 @@ def read_behind_marker(source):
         judge_head(version, guest_kind, before, kind, length)
         different += read_body(source, kind, length, guest, VERIFY in before)
         before.append(kind)
-    meant = pv.blank(guest) if guest_kind == PV else guest
+    meant = pv.blank(guest) if guest_kind == PV and source.keeps_guest else guest
     return Stream(version, meant, len(before), different if VERIFY in before else None)
 
 
