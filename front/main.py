@@ -13,7 +13,7 @@ STATUSES = """\
 exit status:
   0    each file was accepted; `compare`: the same guest state
   1    a file was refused, is no save, or isn't judged; `compare`: another guest state; `save`: the image, the script or
-       the paused host was refused; `walk`: the address means no frame
+       the paused host was refused; `walk`: the address means no frame; `relay` may have written a part of the stream
   2    the words make no command, OUT is there already, or it is a terminal
   3    a file couldn't be read
   4    OUT couldn't be written
@@ -21,8 +21,8 @@ exit status:
   6    `compare`: a file was refused, so nothing was compared
   125  the program isn't there and couldn't be built
 
-Answers are explained in docs/refusals.md. An `ok` says that the stream is well formed and holds a whole guest: a bit
-that was flipped inside a page can't be seen by any reader of this format."""
+Answers are explained in docs/refusals.md. An `ok` says that the stream is well formed and holds a whole guest, and of
+`relay` that its parts are well formed: a bit that was flipped inside a page can't be seen by any reader of this format."""
 INPUT = """\
 IN is a file or `-`: a file of `xl save` or of libvirt's libxl driver, a libxl stream, the image of a libxc stream, or
 a stream of Xen 4.5 or older, also packed by gzip, zstd or xz."""
@@ -47,6 +47,24 @@ EXERCISE = """\
 A PV guest with so many frames is made in memory, what it holds and what it writes follow from the seed. It is saved live,
 the stream is read again, and its guest is restored. No file is read or written; it takes more than six times the guest's
 memory."""
+
+
+RELAY = """\
+IN is what `mig check` takes, standard input where it is left out; OUT is standard output where it is left out, and else it is
+written beside its place and renamed when all is well. What is told stands on standard error where standard output has the
+stream.
+
+The stream goes on as it came, up to its END; what follows it is read and dropped. xl's header before it goes on with --xl
+alone, and a packed file goes on unpacked. A part is judged before it is written, or a piece of 4096 bytes at most while the
+rest of a record is still to come. So a stream that is refused, or a read or write that failed, leaves a front of the stream,
+which `mig check` refuses. The guest isn't kept in memory. Put it between two hosts:
+
+  xl's stream | mig relay --xl | ssh HOST 'cat > guest.save && mig check guest.save'
+
+Not judged is what needs the whole guest: whether a record is missing that each guest has (cause 27), whether the frames are
+there that the list of P2M frames, page tables and vCPUs name (28 to 30), how many frames there are (32), and how long all
+pairs of a device model are (38). `mig check` on the far side tells these. It ends when the input ends, or the stream is
+refused."""
 
 
 WALK = """\
@@ -149,6 +167,16 @@ def exercise(words):
     return run(words)
 
 
+def relay(words):
+    from front.relay import relay as run
+    from front.write import Refused
+    try:
+        return run(words)
+    except Refused as refused:
+        tell(str(refused))
+        return refused.status
+
+
 def walk(words):
     from front.walk import walk as run
     return run(words)
@@ -156,7 +184,7 @@ def walk(words):
 
 def parser():
     words = argparse.ArgumentParser(prog='mig', description='Checks, normalises, converts, restores and compares saves '
-                                    'of Xen guests, by the proved program mig_tool.',
+                                    'of Xen guests, and passes streams on, by the proved program mig_tool.',
                                     epilog='`mig help VERB` tells more of each.\n\n' + STATUSES,
                                     formatter_class=argparse.RawDescriptionHelpFormatter)
     words.add_argument('--version', action=Version, nargs=0, help='print revision, date and kit')
@@ -181,6 +209,13 @@ def parser():
     live.add_argument('--force', action='store_true', help='write over OUT where it is there')
     live.add_argument('--json', action='store_true', help='print one JSON object')
     live.set_defaults(run=save)
+    passing = verb(verbs, 'relay', 'pass a stream on while it is judged part by part, without keeping its guest', RELAY)
+    passing.add_argument('input', metavar='IN', nargs='?', default='-')
+    passing.add_argument('output', metavar='OUT', nargs='?', default='-')
+    passing.add_argument('--xl', action='store_true', help="pass xl's header on in front")
+    passing.add_argument('--force', action='store_true', help='write over OUT where it is there')
+    passing.add_argument('--json', action='store_true', help='print one JSON object')
+    passing.set_defaults(run=relay)
     two = verb(verbs, 'compare', 'say whether two saves are of the same guest state', INPUT)
     two.add_argument('one', metavar='A')
     two.add_argument('two', metavar='B')

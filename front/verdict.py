@@ -9,6 +9,7 @@ OK, REFUSED, NO_SAVE, NOT_JUDGED, FAULT = 'ok', 'refused', 'no save', 'not judge
 REFUSAL = re.compile(r'refused: (\w+(?: \d+)?): (\d+) \w+')
 FACTS = re.compile(r'ok version (\d+) kind (\w+) frames (\d+) records (\d+)(?: differs (\d+))?')
 SAVED = re.compile(r'ok rounds (\d+) entries (\d+)')
+RELAYED = re.compile(r'ok records (\d+) bytes (\d+)')
 
 
 FIELDS = 'name result status line form begins offset packed means do follows text size'
@@ -27,8 +28,12 @@ class Verdict(namedtuple('Verdict', FIELDS, defaults=(None,) * 9)):
         if SAVED.fullmatch(self.line):
             yield '    ' + self.saved()
         yield from self.differing()
+        relayed = RELAYED.fullmatch(self.line)
+        if relayed:
+            yield '    each part was judged, and not whether the guest is whole; `mig check` tells that'
         if self.follows:
-            yield '    %d bytes follow the end of the stream; they were not judged' % self.follows
+            yield '    %d bytes follow the end of the stream; they were not judged%s' % (
+                self.follows, ' and not passed on' if relayed else '')
 
     def differing(self):
         """What the frames came to that were sent once more, to be compared, where some differ."""
@@ -65,6 +70,9 @@ class Verdict(namedtuple('Verdict', FIELDS, defaults=(None,) * 9)):
         said = SAVED.fullmatch(self.line)
         if said:
             found.update(rounds=int(said[1]), entries=int(said[2]))
+        said = RELAYED.fullmatch(self.line)
+        if said:
+            found.update(records=int(said[1]), bytes=int(said[2]))
         return found
 
 
