@@ -26,8 +26,8 @@ use Rattle.mig_restore.specs.Mean.{sent}
 use Rattle.mig_restore.specs.Stream.{ImageOf, image_of, image_at, records_at, opening_at, placed_next}
 use Rattle.mig_restore.proofs.Arrivals.{ended_more}
 use Rattle.mig_restore.proofs.Parts.{asks, behind_record}
-use Rattle.mig_passable.specs.Causes.{is_left_out}
-use Rattle.mig_passable.specs.Images.{open_next, open_records, open_image_at, asked}
+use Rattle.mig_passable.specs.Causes.{is_unasked}
+use Rattle.mig_passable.specs.Images.{open_next, open_records, open_image_at, guest_asked}
 use Rattle.mig_passable.proofs.Images.{open_shrinks, next_shrinks}
 use Rattle.mig_passable.proofs.Tells.{Names, names_map, names_one, names_or}
 use Rattle.mig_passable.proofs.Opens.{Opens, opens_as, same, leaves}
@@ -86,28 +86,28 @@ module _ (o : Opening) where
   agree zero records i going le = step records i going (λ r rest is _. absurd (omega (arith, le, open_shrinks o records i r rest going (ap (placed (Record (length records))) is))))
   agree (suc n) records i going le = step records i going (λ r rest is still. agree n (records ++ r ∷ []) rest still (omega (arith, le, open_shrinks o records i r rest going (ap (placed (Record (length records))) is))))
 
-  turned : (j : Judged (Place × Cause) (List StreamRecord)) → ((j >>= ask) >>= λ rs. Passes (image_of o rs.0) rs.1) ≡ ((j >>= λ rs. Passes (image_of o rs.0) rs.1) >>= asked)
+  turned : (j : Judged (Place × Cause) (List StreamRecord)) → ((j >>= ask) >>= λ rs. Passes (image_of o rs.0) rs.1) ≡ ((j >>= λ rs. Passes (image_of o rs.0) rs.1) >>= guest_asked)
   turned (Faulty c rest) = refl
   turned (Passes all rest) = elim (fault_of_guest (sent o.kind all)) as (λ g. ((placed (Record (length all - 1)) (tried g rest) >>= λ _. Passes all rest) >>= λ rs. Passes (image_of o rs.0) rs.1) ≡ (placed (Record (length all - 1)) (tried g rest) >>= λ _. Passes (image_of o all) rest)) [ None ↦ refl | Some c ↦ refl ]
 
-  records_asked : (i : List ℕ) → records_at o i ≡ (open_records o [] i >>= asked)
+  records_asked : (i : List ℕ) → records_at o i ≡ (open_records o [] i >>= guest_asked)
   unfolding open_records
   records_asked i =
       ap (λ (j : Judged (Place × Cause) (List StreamRecord)). j >>= λ rs. Passes (image_of o rs.0) rs.1) (starts is_ended (placed_next o) i ∙ agree (length i) [] i refl (le_refl _))
       ∙ turned (opened [] i)
 
-pub image_asked : (i : List ℕ) → image_at i ≡ (open_image_at i >>= asked)
+pub image_asked : (i : List ℕ) → image_at i ≡ (open_image_at i >>= guest_asked)
 unfolding image_at open_image_at
 image_asked i = by (opening_at i)
   where
-    by : (j : Judged (Place × Cause) Opening) → (j >>= λ opening. records_at opening.0 opening.1) ≡ ((j >>= λ opening. open_records opening.0 [] opening.1) >>= asked)
+    by : (j : Judged (Place × Cause) Opening) → (j >>= λ opening. records_at opening.0 opening.1) ≡ ((j >>= λ opening. open_records opening.0 [] opening.1) >>= guest_asked)
     by (Faulty c rest) = refl
     by (Passes o rest) = records_asked o rest
 
 -- ---- the guest is asked for causes that are left out
 
 abbrev pub IsLeftCause : Cause → Type 0
-IsLeftCause c = is_left_out c ≡ true
+IsLeftCause c = is_unasked c ≡ true
 
 -- no cause stands, or one that is left out
 abbrev pub OnlyLeft : Option Cause → Type 0
@@ -148,9 +148,9 @@ guest_only g = by g.kind
 
 -- a cause that is left out, at any place
 abbrev pub IsLeft : Place × Cause → Type 0
-IsLeft at = is_left_out at.1 ≡ true
+IsLeft at = is_unasked at.1 ≡ true
 
-asked_opens : (j : Judged (Place × Cause) ImageOf) → Opens IsLeft (j >>= asked) j
+asked_opens : (j : Judged (Place × Cause) ImageOf) → Opens IsLeft (j >>= guest_asked) j
 asked_opens (Faulty c rest) = same (Faulty c rest)
 asked_opens (Passes image rest) = by (fault_of_guest (sent image.opening.kind image.records)) (guest_only (sent image.opening.kind image.records))
   where

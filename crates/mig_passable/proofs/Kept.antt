@@ -38,16 +38,16 @@ use Rattle.mig_restore.specs.Record.{is_ended, is_verified, placed_content}
 use Rattle.mig_restore.specs.Record.Content.{Nothing, Frames, Sets}
 use Rattle.mig_restore.specs.Stream.{image_of, marker_at, version_at, kind_at, opening_behind, opening_at}
 use Rattle.mig_restore.proofs.Parts.{behind_body, behind_head}
-use Rattle.mig_passable.specs.Causes.{is_left_out}
+use Rattle.mig_passable.specs.Causes.{is_unasked}
 use Rattle.mig_passable.specs.Images.{open_next, open_records, open_image_at}
 use Rattle.mig_passable.proofs.Tells.{Names, Tells, names_rows, names_one, names_two, names_or, names_map, tells_then, tells_checked, tells_part, tells_said, tells_plain, tells_each, tells_onward, tells_placed}
 
 -- a cause that isn't left out, and one at any place
 abbrev pub IsKept : Cause → Type 0
-IsKept c = is_left_out c ≡ false
+IsKept c = is_unasked c ≡ false
 
 abbrev pub IsKeptAt : Place × Cause → Type 0
-IsKeptAt at = is_left_out at.1 ≡ false
+IsKeptAt at = is_unasked at.1 ≡ false
 
 -- ---- heads: the length, the type and its order, the number of records
 

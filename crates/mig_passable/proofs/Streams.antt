@@ -24,7 +24,7 @@ use Rattle.mig_libxl.specs.Judging.{libxl_record_at}
 use Rattle.mig_libxl.specs.Stream.{StreamOf, header_at, bare_at, wrapped_at, stream_at, IsStreamRefused}
 use Rattle.mig_libxl.specs.Stream.StreamOf.{Bare, Wrapped}
 use Rattle.mig_restore.specs.Stream.{ImageOf, image_at, marker_at, opening_at, opening_behind}
-use Rattle.mig_passable.specs.Causes.{is_left_out}
+use Rattle.mig_passable.specs.Causes.{is_unasked}
 use Rattle.mig_passable.specs.Images.{open_records, open_image_at}
 use Rattle.mig_passable.specs.Streams.{open_libxl_record, open_libxl_records, open_wrapped, open_bare, open_stream_at, IsPassable, IsOpenRefused}
 use Rattle.mig_passable.proofs.Asked.{IsLeft, image_opens}
@@ -134,7 +134,7 @@ accepted_passes i s rest is = opens_passes IsLeft (stream_at i) (open_stream_at 
 other_left : {b : Bool} → b ≡ true → b ≡ false → ⊥
 other_left h g = cc
 
-pub refused_is_open_refused : (i : List ℕ) (place : Place) (cause : Cause) (rest : List ℕ) → IsStreamRefused i place cause rest → is_left_out cause ≡ false → IsOpenRefused i place cause rest
+pub refused_is_open_refused : (i : List ℕ) (place : Place) (cause : Cause) (rest : List ℕ) → IsStreamRefused i place cause rest → is_unasked cause ≡ false → IsOpenRefused i place cause rest
 refused_is_open_refused i place cause rest is kept = opens_refused IsLeft (stream_at i) (open_stream_at i) (place, cause) rest (stream_opens i) is (λ left. other_left left kept)
 
 -- passable bytes pass, whatever follows them

@@ -20,7 +20,7 @@ use Rattle.mig_libxl.specs.Stream.{header_at}
 use Rattle.mig_libxl.specs.Stream.StreamOf.{Bare, Wrapped}
 use Rattle.mig_policy.specs.PairFaults.{torn_at, bad_key_at, first_of, pairs_fault}
 use Rattle.mig_policy.specs.PairMaps.{pairs_in}
-use Rattle.mig_passable.specs.Causes.{is_left_out}
+use Rattle.mig_passable.specs.Causes.{is_unasked}
 use Rattle.mig_passable.specs.Images.{open_image_at}
 use Rattle.mig_passable.specs.Streams.{open_fault_of_pairs, open_pairs_at, open_body, open_inner, open_content, open_libxl_record, open_libxl_records, open_wrapped, open_bare, open_stream_at, IsOpenRefused}
 use Rattle.mig_passable.proofs.Kept.{IsKept, IsKeptAt, image_kept}
@@ -85,5 +85,5 @@ stream_kept i = by (nat_le 8 (length i) && nat_eq (be64 i 0) libxl_ident)
     by true = wrapped_kept (drop 8 i)
     by false = tells_then IsKeptAt (open_image_at i) (λ image. Passes (Bare image.0) image.1) (image_kept i) (λ image rest. tt)
 
-pub left_out_is_not_told : (i : List ℕ) (place : Place) (cause : Cause) (rest : List ℕ) → IsOpenRefused i place cause rest → is_left_out cause ≡ false
+pub left_out_is_not_told : (i : List ℕ) (place : Place) (cause : Cause) (rest : List ℕ) → IsOpenRefused i place cause rest → is_unasked cause ≡ false
 left_out_is_not_told i place cause rest is = subst (Tells IsKeptAt) is (stream_kept i)

@@ -28,7 +28,7 @@ open_image_at input = do
   open_records opening.0 [] opening.1
 
 -- what END asks of the whole guest, at the place of the last record
-abbrev pub asked : ImageOf × List ℕ → Judged (Place × Cause) ImageOf
-asked image = do
+abbrev pub guest_asked : ImageOf × List ℕ → Judged (Place × Cause) ImageOf
+guest_asked image = do
   _ ← placed (Record (length image.0.records - 1)) (tried (fault_of_guest (sent image.0.opening.kind image.0.records)) image.1)
   Passes image.0 image.1

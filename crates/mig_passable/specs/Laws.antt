@@ -6,13 +6,13 @@ use Rattle.mig_headers.specs.declared.fault.Cause.{Cause}
 use Rattle.mig_headers.specs.declared.fault.Place.{Place}
 use Rattle.mig_libxl.specs.Stream.{StreamOf, stream_at, IsStreamRefused}
 use Rattle.mig_restore.specs.Stream.{image_at}
-use Rattle.mig_passable.specs.Causes.{is_left_out}
-use Rattle.mig_passable.specs.Images.{open_image_at, asked}
+use Rattle.mig_passable.specs.Causes.{is_unasked}
+use Rattle.mig_passable.specs.Images.{open_image_at, guest_asked}
 use Rattle.mig_passable.specs.Streams.{open_stream_at, IsPassable, IsOpenRefused}
 
 -- An image is judged so, and then its guest is asked: nothing else is left out.
 abbrev pub NothingElseIsLeftOut : Type 0
-NothingElseIsLeftOut = (input : List ℕ) → image_at input ≡ (open_image_at input >>= asked)
+NothingElseIsLeftOut = (input : List ℕ) → image_at input ≡ (open_image_at input >>= guest_asked)
 
 -- an accepted front is passable, and says the same
 abbrev pub AcceptedPasses : Type 0
@@ -20,11 +20,11 @@ AcceptedPasses = (input : List ℕ) (s : StreamOf) (rest : List ℕ) → stream_
 
 -- what is refused for a cause that isn't left out is refused so
 abbrev pub RefusedIsOpenRefused : Type 0
-RefusedIsOpenRefused = (input : List ℕ) (place : Place) (cause : Cause) (rest : List ℕ) → IsStreamRefused input place cause rest → is_left_out cause ≡ false → IsOpenRefused input place cause rest
+RefusedIsOpenRefused = (input : List ℕ) (place : Place) (cause : Cause) (rest : List ℕ) → IsStreamRefused input place cause rest → is_unasked cause ≡ false → IsOpenRefused input place cause rest
 
 -- a cause that is left out is never told
 abbrev pub LeftOutIsNotTold : Type 0
-LeftOutIsNotTold = (input : List ℕ) (place : Place) (cause : Cause) (rest : List ℕ) → IsOpenRefused input place cause rest → is_left_out cause ≡ false
+LeftOutIsNotTold = (input : List ℕ) (place : Place) (cause : Cause) (rest : List ℕ) → IsOpenRefused input place cause rest → is_unasked cause ≡ false
 
 -- what passable bytes say doesn't change with what follows them
 abbrev pub FrontsPass : Type 0

@@ -9,16 +9,16 @@ use Rattle.mig_headers.proofs.Chains.{scan_is}
 use Rattle.mig_headers.proofs.ContextTexts.{in16, in32, past16, past32}
 use Rattle.mig_pieces.specs.declared.chain.Chain.{Chain}
 use Rattle.mig_pieces.specs.declared.chain.Chain.TheVariants.{Entry}
-use Rattle.mig_pieces.specs.ContextChain.{fault_in, Says, IsAhead, IsHeaderFault, IsBegunContext, chain_piece}
+use Rattle.mig_pieces.specs.ContextChain.{fault_of_scanned, ChainSays, IsAhead, IsHeaderFault, IsBegunContext, chain_piece}
 use Rattle.mig_pieces.specs.ContextChain.IsHeaderFault.{not_header, not_sized}
 
 -- ---- a chain that was followed up to here
 
-pub faulty_here : (bytes : List ℕ) (at : ℕ) (f : ContextFault) → ChainTo bytes at → fault_at bytes at ≡ Some f → fault_in (scan bytes) ≡ Some f
-faulty_here bytes at f chain fault = ap fault_in (sym (scan_is bytes (Err f) (at, chain, fault)))
+pub faulty_here : (bytes : List ℕ) (at : ℕ) (f : ContextFault) → ChainTo bytes at → fault_at bytes at ≡ Some f → fault_of_scanned (scan bytes) ≡ Some f
+faulty_here bytes at f chain fault = ap fault_of_scanned (sym (scan_is bytes (Err f) (at, chain, fault)))
 
-pub ends_here : (bytes : List ℕ) (at : ℕ) → ChainTo bytes at → fault_at bytes at ≡ None → is_last bytes at ≡ true → fault_in (scan bytes) ≡ None
-ends_here bytes at chain fine last = ap fault_in (sym (scan_is bytes (Ok at) (chain, fine, last)))
+pub ends_here : (bytes : List ℕ) (at : ℕ) → ChainTo bytes at → fault_at bytes at ≡ None → is_last bytes at ≡ true → fault_of_scanned (scan bytes) ≡ None
+ends_here bytes at chain fine last = ap fault_of_scanned (sym (scan_is bytes (Ok at) (chain, fine, last)))
 
 -- ---- a head
 
@@ -60,12 +60,12 @@ le32_behind begun piece more at is size =
 
 -- the piece is the head of the next entry
 pub head_known : (chain : Chain) (begun piece : List ℕ) (at len : ℕ) → at ≡ length begun → length piece ≡ 8 → at + 8 ≤ len → IsAhead chain (at + 8) len
-    → ((bytes : List ℕ) → length bytes ≡ len → ChainTo bytes at → le16 piece 0 ≡ le16 bytes at → le32 piece 4 ≡ le32 bytes (at + 4) → Says chain bytes)
+    → ((bytes : List ℕ) → length bytes ≡ len → ChainTo bytes at → le16 piece 0 ≡ le16 bytes at → le32 piece 4 ≡ le32 bytes (at + 4) → ChainSays chain bytes)
     → IsBegunContext (Entry at) len begun → IsBegunContext chain len (begun ++ piece)
 head_known chain begun piece at len is size room ahead head known = record {
   says = λ more whole.
       let same : (begun ++ piece) ++ more ≡ begun ++ (piece ++ more) = append_assoc begun piece more in
-      subst (Says chain) (sym same)
+      subst (ChainSays chain) (sym same)
       (head (begun ++ (piece ++ more)) (ap length (sym same) ∙ whole) (known.says (piece ++ more) (ap length (sym same) ∙ whole)) (sym (le16_behind begun piece more at is size)) (sym (le32_behind begun piece more at is size)));
   ahead = subst (λ n. IsAhead chain n len) (let e : at + 8 ≡ length (begun ++ piece) = omega (arith, length-append begun piece, is, size) in e) ahead;
 }
@@ -79,30 +79,30 @@ room_for chain at taken len n is reached size eight = fits (subst (λ (k : Chain
 
 -- ---- the whole context
 
-pub at_end : (body : List ℕ) (at : ℕ) → ChainTo body at → at ≡ length body → at ≡ 0 → fault_in (scan body) ≡ Some NoHeader
+pub at_end : (body : List ℕ) (at : ℕ) → ChainTo body at → at ≡ length body → at ≡ 0 → fault_of_scanned (scan body) ≡ Some NoHeader
 unfolding fault_at
 at_end body at chain whole zero = faulty_here body at NoHeader chain (fault body at whole zero)
   where
     fault : (bytes : List ℕ) (o : ℕ) → o ≡ length bytes → o ≡ 0 → fault_at bytes o ≡ Some NoHeader
     fault bytes o whole zero = grind (arith, common_steps, whole, zero)
 
-pub no_end : (body : List ℕ) (at : ℕ) → ChainTo body at → at ≡ length body → at ≢ 0 → fault_in (scan body) ≡ Some NoEnd
+pub no_end : (body : List ℕ) (at : ℕ) → ChainTo body at → at ≡ length body → at ≢ 0 → fault_of_scanned (scan body) ≡ Some NoEnd
 unfolding fault_at
 no_end body at chain whole some = faulty_here body at NoEnd chain (fault body at whole some)
   where
     fault : (bytes : List ℕ) (o : ℕ) → o ≡ length bytes → o ≢ 0 → fault_at bytes o ≡ Some NoEnd
     fault bytes o whole some = grind (arith, common_steps, whole, some)
 
-pub short_end : (body : List ℕ) (at : ℕ) → ChainTo body at → at < length body → length body < at + 8 → fault_in (scan body) ≡ Some (ShortEntry at)
+pub short_end : (body : List ℕ) (at : ℕ) → ChainTo body at → at < length body → length body < at + 8 → fault_of_scanned (scan body) ≡ Some (ShortEntry at)
 unfolding fault_at
 short_end body at chain some short = faulty_here body at (ShortEntry at) chain (fault body at some short)
   where
     fault : (bytes : List ℕ) (o : ℕ) → o < length bytes → length bytes < o + 8 → fault_at bytes o ≡ Some (ShortEntry o)
     fault bytes o some short = grind (arith, common_steps, some, short)
 
-pub whole_says : (chain known : Chain) (len : ℕ) (body : List ℕ) → chain ≡ known → length body ≡ len → IsBegunContext chain len body → Says known body
+pub whole_says : (chain known : Chain) (len : ℕ) (body : List ℕ) → chain ≡ known → length body ≡ len → IsBegunContext chain len body → ChainSays known body
 whole_says chain known len body is whole b =
-    subst (λ l. Says known l) (append-nil body) (subst (λ (k : Chain). Says k (body ++ [])) is (b.says [] (ap length (append-nil body) ∙ whole)))
+    subst (λ l. ChainSays known l) (append-nil body) (subst (λ (k : Chain). ChainSays k (body ++ [])) is (b.says [] (ap length (append-nil body) ∙ whole)))
 
 -- the head of the last entry isn't whole
 pub last_ahead : (chain : Chain) (at len : ℕ) (body : List ℕ) → chain ≡ Entry at → length body ≡ len → IsBegunContext chain len body → (at ≡ len → ⊥) → (at < length body) × (length body < at + 8)

@@ -14,8 +14,8 @@ use Rattle.mig_libxl.specs.Judging.{fault_of_context}
 use Rattle.mig_policy.specs.PairFaults.{pairs_fault}
 use Rattle.mig_pieces.specs.Begun.{piece_of, FitsForm, fault_of_form, params, IsKnown}
 use Rattle.mig_pieces.specs.PairPieces.{no_bytes, then_byte}
-use Rattle.mig_pieces.specs.declared.known.Form.{Form}
-use Rattle.mig_pieces.specs.declared.known.Form.TheVariants.{PvInfo, P2mFrames, BasicVcpu, OtherVcpu, HvmParams, EmulatorPairs, EmulatorContext}
+use Rattle.mig_pieces.specs.declared.known.BodyForm.{BodyForm}
+use Rattle.mig_pieces.specs.declared.known.BodyForm.TheVariants.{PvInfo, P2mFrames, BasicVcpu, OtherVcpu, HvmParams, EmulatorPairs, EmulatorContext}
 use Rattle.mig_pieces.specs.declared.known.Knows.{Knows}
 use Rattle.mig_pieces.specs.declared.known.Knows.TheVariants.{Nothing, Texts, Params, Basic, Verdict}
 use Rattle.mig_pieces.specs.declared.pairs.Pairs.{Pairs}
@@ -24,13 +24,13 @@ use Rattle.mig_pieces.proofs.Fronts.{none_left, info_told, other_told, basic_tol
 -- ---- behind a first piece
 
 -- what is known of this form, where the first piece has 8 bytes
-abbrev pub KnownFirst : Form → Knows → ℕ → List ℕ → Type 0
+abbrev pub KnownFirst : BodyForm → Knows → ℕ → List ℕ → Type 0
 KnownFirst form knows len piece = FitsForm form len → length piece ≡ piece_of (Nothing form) 0 len → IsKnown knows len (fault_of_form form) piece
 
-pub at_form : (form this : Form) (knows : Knows) (len : ℕ) (piece : List ℕ) → form ≡ this → KnownFirst this knows len piece → KnownFirst form knows len piece
-at_form form this knows len piece is known = subst (λ (f : Form). KnownFirst f knows len piece) (sym is) known
+pub at_form : (form this : BodyForm) (knows : Knows) (len : ℕ) (piece : List ℕ) → form ≡ this → KnownFirst this knows len piece → KnownFirst form knows len piece
+at_form form this knows len piece is known = subst (λ (f : BodyForm). KnownFirst f knows len piece) (sym is) known
 
-pub verdict_first : (form : Form) (len : ℕ) (piece : List ℕ) (v : Option Cause) → ((more : List ℕ) → length (piece ++ more) ≡ len → fault_of_form form (piece ++ more) ≡ v) → KnownFirst form (Verdict v) len piece
+pub verdict_first : (form : BodyForm) (len : ℕ) (piece : List ℕ) (v : Option Cause) → ((more : List ℕ) → length (piece ++ more) ≡ len → fault_of_form form (piece ++ more) ≡ v) → KnownFirst form (Verdict v) len piece
 verdict_first form len piece v told fits size = record { stands = tt; says = told }
 
 pub info_first : (len : ℕ) (piece : List ℕ) (v : Option Cause) → 8 ≤ length piece → v ≡ fault_of_pv_info (take 8 piece) → KnownFirst PvInfo (Verdict v) len piece

@@ -15,7 +15,7 @@ use Rattle.mig_pieces.specs.ContextChain.{IsBegunContext}
 use Rattle.mig_pieces.specs.PairPieces.{no_bytes, then_byte}
 use Rattle.mig_pieces.specs.declared.body.BodySeen.{BodySeen}
 use Rattle.mig_pieces.specs.declared.chain.Chain.{Chain}
-use Rattle.mig_pieces.specs.declared.known.Form.{Form}
+use Rattle.mig_pieces.specs.declared.known.BodyForm.{BodyForm}
 use Rattle.mig_pieces.specs.declared.known.Knows.{Knows}
 use Rattle.mig_pieces.specs.declared.known.Knows.TheVariants.{Nothing, Entries, Texts, Params, Basic, Verdict}
 use Rattle.mig_pieces.specs.declared.pairs.Pairs.{Pairs}
@@ -44,7 +44,7 @@ module _ (len : ℕ) (begun piece more : List ℕ) where
 -- ---- behind a piece
 
 module _ (len : ℕ) (fault : List ℕ → Option Cause) (begun piece : List ℕ) where
-  pub first_behind : (form : Form) (next : Knows) → KnownFirst form next len piece → IsKnown (Nothing form) len fault begun → length piece ≡ piece_of (Nothing form) (length begun) len → IsKnown next len fault (begun ++ piece)
+  pub first_behind : (form : BodyForm) (next : Knows) → KnownFirst form next len piece → IsKnown (Nothing form) len fault begun → length piece ≡ piece_of (Nothing form) (length begun) len → IsKnown next len fault (begun ++ piece)
   first_behind form next first known size =
       let none : begun ≡ [] = known.stands.0 in
       let start = subst (λ l. IsKnown (Nothing form) len fault l) none known in

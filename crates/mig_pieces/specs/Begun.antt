@@ -14,8 +14,8 @@ use Rattle.mig_pieces.specs.Bodies.{fault_of_pair_body}
 use Rattle.mig_pieces.specs.ContextChain.{IsBegunContext, chain_piece}
 use Rattle.mig_pieces.specs.PairPieces.{no_bytes, then_byte}
 use Rattle.mig_pieces.specs.declared.body.BodySeen.{BodySeen}
-use Rattle.mig_pieces.specs.declared.known.Form.{Form}
-use Rattle.mig_pieces.specs.declared.known.Form.TheVariants.{PvInfo, P2mFrames, BasicVcpu, OtherVcpu, HvmParams, EmulatorPairs, EmulatorContext}
+use Rattle.mig_pieces.specs.declared.known.BodyForm.{BodyForm}
+use Rattle.mig_pieces.specs.declared.known.BodyForm.TheVariants.{PvInfo, P2mFrames, BasicVcpu, OtherVcpu, HvmParams, EmulatorPairs, EmulatorContext}
 use Rattle.mig_pieces.specs.declared.known.Knows.{Knows}
 use Rattle.mig_pieces.specs.declared.known.Knows.TheVariants.{Nothing, Entries, Texts, Params, Basic, Verdict}
 
@@ -23,7 +23,7 @@ use Rattle.mig_pieces.specs.declared.known.Knows.TheVariants.{Nothing, Entries, 
 
 -- The most bytes of a first piece. That of HVM parameters has 8 bytes and 255 whole entries, and the later ones have 256
 -- entries; that of an emulator's pairs has its id and its index.
-abbrev pub first_piece : Form → ℕ
+abbrev pub first_piece : BodyForm → ℕ
 first_piece HvmParams = 4088
 first_piece EmulatorPairs = 8
 first_piece _ = 4096
@@ -41,7 +41,7 @@ piece_len seen = piece_of seen.knows seen.taken seen.len
 -- ---- what is known
 
 -- The fault of a whole body of this form. Of the records of vCPUs other than X86_PV_VCPU_BASIC it is the same for each.
-abbrev pub fault_of_form : Form → List ℕ → Option Cause
+abbrev pub fault_of_form : BodyForm → List ℕ → Option Cause
 fault_of_form PvInfo body = fault_of_pv_info body
 fault_of_form P2mFrames body = fault_of_p2m body
 fault_of_form BasicVcpu body = fault_of_body VcpuBasic body
@@ -51,7 +51,7 @@ fault_of_form EmulatorPairs body = fault_of_pair_body body
 fault_of_form EmulatorContext body = fault_of_context body
 
 -- the lengths of such bodies
-abbrev pub FitsForm : Form → ℕ → Type 0
+abbrev pub FitsForm : BodyForm → ℕ → Type 0
 FitsForm PvInfo len = len ≡ 8
 FitsForm BasicVcpu len = len ≡ 5176
 FitsForm form len = 8 ≤ len
@@ -75,18 +75,18 @@ EndsInEntries taken len = (n : ℕ) × (taken + 16 * n ≡ len)
 
 -- What the bytes that were taken are, where this is known of them: none of a body of this form; the beginning of a chain
 -- of entries, or of pairs behind an emulator's id and index; whole parameters; the first piece of a vCPU's basic context.
-abbrev pub Stands : Knows → ℕ → List ℕ → Type 0
-Stands (Nothing form) len begun = (begun ≡ []) × FitsForm form len
-Stands (Entries chain) len begun = IsBegunContext chain len begun
-Stands (Texts named pairs) len begun = (8 ≤ length begun) × (pairs ≡ fold then_byte no_bytes (drop 8 begun))
-Stands (Params first) len begun = EndsInEntries (length begun) len
-Stands (Basic named) len begun = (length begun ≡ 4096) × (len ≡ 5176)
-Stands (Verdict fault) len begun = ⊤
+abbrev pub KnowsBegun : Knows → ℕ → List ℕ → Type 0
+KnowsBegun (Nothing form) len begun = (begun ≡ []) × FitsForm form len
+KnowsBegun (Entries chain) len begun = IsBegunContext chain len begun
+KnowsBegun (Texts named pairs) len begun = (8 ≤ length begun) × (pairs ≡ fold then_byte no_bytes (drop 8 begun))
+KnowsBegun (Params first) len begun = EndsInEntries (length begun) len
+KnowsBegun (Basic named) len begun = (length begun ≡ 4096) × (len ≡ 5176)
+KnowsBegun (Verdict fault) len begun = ⊤
 
 -- These first bytes of a body of this length, which has this fault, were taken: in whatever way it goes on to its length,
 -- its fault is the one that what is known tells of that way.
 pub record IsKnown (knows : Knows) (len : ℕ) (fault : List ℕ → Option Cause) (begun : List ℕ) : Type 0 where
-  pub stands : Stands knows len begun
+  pub stands : KnowsBegun knows len begun
   pub says : (more : List ℕ) → length (begun ++ more) ≡ len → fault (begun ++ more) ≡ fault_behind knows begun more
 
 -- a body with this fault, of which these first bytes were taken

@@ -7,14 +7,14 @@ use Rattle.mig_pieces.specs.declared.chain.Chain.{Chain}
 use Rattle.mig_pieces.specs.declared.chain.Chain.TheVariants.{Entry, Judged}
 
 -- the fault that a scan found
-abbrev pub fault_in : Result ℕ ContextFault → Option ContextFault
-fault_in (Ok end) = None
-fault_in (Err fault) = Some fault
+abbrev pub fault_of_scanned : Result ℕ ContextFault → Option ContextFault
+fault_of_scanned (Ok end) = None
+fault_of_scanned (Err fault) = Some fault
 
 -- of these bytes: whole entries stand up to here, or this is what is wrong with them
-abbrev pub Says : Chain → List ℕ → Type 0
-Says (Entry at) bytes = ChainTo bytes at
-Says (Judged fault) bytes = fault_in (scan bytes) ≡ fault
+abbrev pub ChainSays : Chain → List ℕ → Type 0
+ChainSays (Entry at) bytes = ChainTo bytes at
+ChainSays (Judged fault) bytes = fault_of_scanned (scan bytes) ≡ fault
 
 -- Where the next entry begins: not before the bytes that were taken, or its head isn't whole and all bytes were taken.
 abbrev pub IsAhead : Chain → ℕ → ℕ → Type 0
@@ -28,7 +28,7 @@ pub data IsHeaderFault (at typecode size : ℕ) : ContextFault → Type 0 where
 
 -- a context of so many bytes that begins with these, however it goes on
 pub record IsBegunContext (chain : Chain) (len : ℕ) (begun : List ℕ) : Type 0 where
-  pub says : (more : List ℕ) → length (begun ++ more) ≡ len → Says chain (begun ++ more)
+  pub says : (more : List ℕ) → length (begun ++ more) ≡ len → ChainSays chain (begun ++ more)
   pub ahead : IsAhead chain (length begun) len
 
 -- how many bytes the next piece has: those before the next entry, or its head

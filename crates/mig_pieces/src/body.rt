@@ -9,13 +9,13 @@ ghost use Rattle.mig_records.specs.Faults.{fault_of_length};
 ghost use Rattle.mig_pieces.specs.Bodies.{fault_of_record_body, fault_of_typed, fault_of_libxl_body};
 ghost use Rattle.mig_pieces.specs.Begun.{IsBegunBody, IsKnown, piece_len};
 ghost use Rattle.mig_pieces.specs.ContextChain.{IsBegunContext};
-ghost use Rattle.mig_pieces.specs.declared.known.Form.TheVariants.{P2mFrames};
+ghost use Rattle.mig_pieces.specs.declared.known.BodyForm.TheVariants.{P2mFrames};
 ghost use Rattle.mig_pieces.specs.declared.known.Knows.TheVariants.{Nothing};
 ghost use Rattle.mig_headers.specs.declared.record_type.RecordType.TheVariants.{X86PvP2mFrames};
 
 use crate::chain::{Chain, behind_piece, context_fault, next_piece};
 use crate::front::{behind_first, gdt_fault, params_fault};
-use crate::known::{FRONT, Form, Knows, PIECE};
+use crate::known::{BodyForm, FRONT, Knows, PIECE};
 use crate::pairs::{behind_bytes, pairs_fault};
 use mig_headers::{Cause, RecordType, is_optional};
 use mig_libxl::{EMULATOR_CONTEXT, EMULATOR_XENSTORE_DATA};
@@ -39,20 +39,20 @@ fn known_of_type(this: RecordType, len: u32) -> Knows
     ensures p2m { this ≡ X86PvP2mFrames → result ≡ Nothing P2mFrames }
 {
     match this {
-        RecordType::X86PvInfo => Knows::Nothing(Form::PvInfo),
-        RecordType::X86PvP2mFrames => Knows::Nothing(Form::P2mFrames),
+        RecordType::X86PvInfo => Knows::Nothing(BodyForm::PvInfo),
+        RecordType::X86PvP2mFrames => Knows::Nothing(BodyForm::P2mFrames),
         RecordType::X86PvVcpuBasic => {
             // Without its context a vCPU's record has an id alone.
             if len as usize == FRONT {
-                Knows::Nothing(Form::OtherVcpu)
+                Knows::Nothing(BodyForm::OtherVcpu)
             } else {
-                Knows::Nothing(Form::BasicVcpu)
+                Knows::Nothing(BodyForm::BasicVcpu)
             }
         }
         RecordType::X86PvVcpuExtended | RecordType::X86PvVcpuXsave | RecordType::X86PvVcpuMsrs =>
-            Knows::Nothing(Form::OtherVcpu),
+            Knows::Nothing(BodyForm::OtherVcpu),
         RecordType::HvmContext => Knows::Entries(Chain::Entry(0)),
-        RecordType::HvmParams => Knows::Nothing(Form::HvmParams),
+        RecordType::HvmParams => Knows::Nothing(BodyForm::HvmParams),
         _ => Knows::Verdict(None),
     }
 }
@@ -78,8 +78,8 @@ fn known_of_libxl_record(kind: u32, len: u32) -> Knows
     ensures { IsKnown result len (fault_of_libxl_body kind) [] }
 {
     match kind {
-        EMULATOR_XENSTORE_DATA => Knows::Nothing(Form::EmulatorPairs),
-        EMULATOR_CONTEXT => Knows::Nothing(Form::EmulatorContext),
+        EMULATOR_XENSTORE_DATA => Knows::Nothing(BodyForm::EmulatorPairs),
+        EMULATOR_CONTEXT => Knows::Nothing(BodyForm::EmulatorContext),
         _ => Knows::Verdict(None),
     }
 }

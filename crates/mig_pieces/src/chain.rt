@@ -4,7 +4,7 @@ ghost use Rattle.std.specs.declared.option.Option.{Option};
 ghost use Rattle.mig_headers.specs.declared.fault.ContextFault.{ContextFault};
 ghost use Rattle.mig_headers.specs.Contexts.{ChainTo, scan};
 ghost use Rattle.mig_pieces.specs.declared.chain.Chain.TheVariants.{Judged};
-ghost use Rattle.mig_pieces.specs.ContextChain.{Says, IsAhead, IsHeaderFault, IsBegunContext, fault_in, chain_piece};
+ghost use Rattle.mig_pieces.specs.ContextChain.{ChainSays, IsAhead, IsHeaderFault, IsBegunContext, fault_of_scanned, chain_piece};
 
 use mig_bytes::{u16_le, u32_le};
 use mig_headers::ContextFault;
@@ -45,7 +45,7 @@ fn header_fault(at: u64, typecode: u16, size: u32) -> Option<ContextFault>
 /// What is known behind an entry's head at this offset of a context of so many bytes.
 fn behind_head(at: u64, len: u64, typecode: u16, size: u32) -> Chain
     requires head { at + 8 ≤ len }
-    ensures says { (bytes : List ℕ) → length bytes ≡ len → ChainTo bytes at → typecode ≡ le16 bytes at → size ≡ le32 bytes (at + 4) → Says result bytes }
+    ensures says { (bytes : List ℕ) → length bytes ≡ len → ChainTo bytes at → typecode ≡ le16 bytes at → size ≡ le32 bytes (at + 4) → ChainSays result bytes }
     ensures ahead { IsAhead result (at + 8) len }
 {
     if let Some(fault) = header_fault(at, typecode, size) {
@@ -101,7 +101,7 @@ pub(crate) fn behind_piece(chain: Chain, taken: u64, len: u64, piece: &[u8]) -> 
 
 /// The first fault of a context that was taken whole.
 pub(crate) fn context_fault(chain: Chain, len: u64) -> Option<ContextFault>
-    ensures { (body : List ℕ) → length body ≡ len → IsBegunContext chain len body → result ≡ fault_in (scan body) }
+    ensures { (body : List ℕ) → length body ≡ len → IsBegunContext chain len body → result ≡ fault_of_scanned (scan body) }
 {
     match chain {
         Chain::Entry(at) => {

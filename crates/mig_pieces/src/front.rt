@@ -7,9 +7,9 @@ ghost use Rattle.mig_guest.specs.declared.part_code.PartCode.TheVariants.{VcpuBa
 ghost use Rattle.mig_libxl.specs.Judging.{fault_of_context};
 ghost use Rattle.mig_pieces.specs.Begun.{FitsForm, IsKnown, fault_of_form, params, piece_of};
 ghost use Rattle.mig_pieces.specs.declared.known.Knows.TheVariants.{Nothing};
-ghost use Rattle.mig_pieces.specs.declared.known.Form.TheVariants.{HvmParams};
+ghost use Rattle.mig_pieces.specs.declared.known.BodyForm.TheVariants.{HvmParams};
 
-use crate::known::{FRONT, Form, Knows, PARAM, PIECE};
+use crate::known::{BodyForm, FRONT, Knows, PARAM, PIECE};
 use crate::pairs::no_pairs;
 use mig_bodies::{GDT_ENTS, MAX_GDT_ENTS, SMALL_NUMBERS, body_fault, pv_info_fault};
 use mig_bytes::{u32_le, u64_le};
@@ -139,7 +139,7 @@ fn behind_params(len: u32, piece: &[u8]) -> Knows
 }
 
 /// What is known behind the first piece of a body of this form and of so many bytes.
-pub(crate) fn behind_first(form: Form, len: u32, piece: &[u8]) -> Knows
+pub(crate) fn behind_first(form: BodyForm, len: u32, piece: &[u8]) -> Knows
     ensures { FitsForm form len → length piece.now ≡ piece_of (Nothing form) 0 len → IsKnown result len (fault_of_form form) piece.now }
 {
     // Each body of a form has 8 bytes, and its first piece has them.
@@ -147,12 +147,12 @@ pub(crate) fn behind_first(form: Form, len: u32, piece: &[u8]) -> Knows
         return Knows::Verdict(None);
     }
     match form {
-        Form::PvInfo => Knows::Verdict(info_fault(piece)),
-        Form::P2mFrames => Knows::Verdict(p2m_fault(len, piece)),
-        Form::BasicVcpu => Knows::Basic(id_fault(PartCode::VcpuBasic, piece)),
-        Form::OtherVcpu => Knows::Verdict(id_fault(PartCode::VcpuExtended, piece)),
-        Form::HvmParams => behind_params(len, piece),
-        Form::EmulatorPairs => Knows::Texts(emulator_fault(piece), no_pairs()),
-        Form::EmulatorContext => Knows::Verdict(emulator_fault(piece)),
+        BodyForm::PvInfo => Knows::Verdict(info_fault(piece)),
+        BodyForm::P2mFrames => Knows::Verdict(p2m_fault(len, piece)),
+        BodyForm::BasicVcpu => Knows::Basic(id_fault(PartCode::VcpuBasic, piece)),
+        BodyForm::OtherVcpu => Knows::Verdict(id_fault(PartCode::VcpuExtended, piece)),
+        BodyForm::HvmParams => behind_params(len, piece),
+        BodyForm::EmulatorPairs => Knows::Texts(emulator_fault(piece), no_pairs()),
+        BodyForm::EmulatorContext => Knows::Verdict(emulator_fault(piece)),
     }
 }

@@ -17,7 +17,7 @@ pub(crate) const PARAM: usize = 16;
 /// A body of whose first 8 bytes something has to be asked: by its record (libxc migration stream, "Records"; libxl
 /// migration stream, the emulator records), what stands in them and behind them.
 #[derive(Clone, Copy, Debug, PartialEq, Eq)]
-pub enum Form {
+pub enum BodyForm {
     /// X86_PV_INFO: the guest's width in bytes and the levels of its page tables, a byte each, and nothing behind.
     PvInfo,
     /// X86_PV_P2M_FRAMES: the first and the last frame number, of 4 bytes each; and 8 bytes for each P2M frame.
@@ -36,15 +36,15 @@ pub enum Form {
     EmulatorContext,
 }
 
-impl Form {
+impl BodyForm {
     /// The most bytes of the first piece. What stands before an emulator's pairs is a piece of its own, and HVM parameters
     /// are cut between two of them, so that no number lies across two pieces.
     pub(crate) fn first_piece(self) -> usize
         ensures { result ≡ first_piece self }
     {
         match self {
-            Form::EmulatorPairs => FRONT,
-            Form::HvmParams => PIECE - PARAM + FRONT,
+            BodyForm::EmulatorPairs => FRONT,
+            BodyForm::HvmParams => PIECE - PARAM + FRONT,
             _ => PIECE,
         }
     }
@@ -54,7 +54,7 @@ impl Form {
 #[derive(Clone, Copy, Debug, PartialEq, Eq)]
 pub enum Knows {
     /// Nothing, before the first byte of a body of this form.
-    Nothing(Form),
+    Nothing(BodyForm),
     /// How far the entries of an HVM context were followed.
     Entries(Chain),
     /// What an emulator's id and index tell, and what is known of its pairs.

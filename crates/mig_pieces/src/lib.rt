@@ -19,5 +19,5 @@ mod pairs;
 mod tests;
 
 pub use body::BodySeen;
-pub use known::{Form, Knows};
+pub use known::{BodyForm, Knows};
 pub use law::bodies_are_parts;

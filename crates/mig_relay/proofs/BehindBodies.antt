@@ -32,7 +32,7 @@ use Rattle.mig_restore.specs.Record.{StreamRecord, Content}
 use Rattle.mig_restore.specs.Record.Content.{Nothing, Lists}
 use Rattle.mig_restore.specs.Stream.{ImageOf}
 use Rattle.mig_relay.specs.Keeping.{Keeps, KeepsFirst, KeepsHead, KeepsOpen, KeepsOuter, IsBodied, IsOther, top_with, with_one}
-use Rattle.mig_relay.specs.Parts.{AtHead, AtBody, AtPadding, IsPart}
+use Rattle.mig_relay.specs.Parts.{AtHead, AtBody, AtPadding, BeginsWithPart}
 use Rattle.mig_relay.specs.Spots.{Outer, Spot, AtLibxlHead, AtLibxlPadding, InImage, spot, carry}
 use Rattle.mig_relay.specs.declared.state.Coming.TheVariants as comes
 use Rattle.mig_relay.specs.declared.state.Relay.{Relay}
@@ -51,7 +51,7 @@ pub record BehindBody (middle t : Relay) (here : Spot) : Type 0 where
 
 module _ (outer : Outer) (o : Opening) (records : List StreamRecord) (head : RecordHead) where
   -- the body is a part of the stream
-  pub body_part : IsOther o records head → 0 < head.len → IsPart (spot (InImage outer (AtBody o records head))) (Record (length records)) head.len (fault_of_record_body head.kind) (λ b i. spot (InImage outer (AtPadding o records head (record_content head.kind b))) i)
+  pub body_part : IsOther o records head → 0 < head.len → BeginsWithPart (spot (InImage outer (AtBody o records head))) (Record (length records)) head.len (fault_of_record_body head.kind) (λ b i. spot (InImage outer (AtPadding o records head (record_content head.kind b))) i)
   body_part other some = lifted (carry outer) (body_is o records head (fault_of_record_body head.kind) (record_content head.kind) (bodies_are_parts (before o records) head.kind head.len other.fine other.other) some)
 
   -- END has no body

@@ -39,7 +39,7 @@ use Rattle.mig_headers.specs.declared.kind.Kind.{Kind}
 use Rattle.std.specs.Prelude.{IfSome}
 use Rattle.mig_restore.specs.Stream.{ImageOf, image_of}
 use Rattle.mig_relay.specs.Keeping.{Keeps, KeepsGoing, KeepsHead, KeepsRecords, KeepsOuter, HasNumber, fault_of_empty}
-use Rattle.mig_relay.specs.Parts.{AtHead, AtBody, AtFront, judge, record_with, with_body, IsPart}
+use Rattle.mig_relay.specs.Parts.{AtHead, AtBody, AtFront, judged_next, record_with, with_body, BeginsWithPart}
 use Rattle.mig_relay.specs.Spots.{Outer, Alone, Behind, Spot, AtLibxlHead, InImage, AtEnd, spot, carry, image_record}
 use Rattle.mig_relay.specs.declared.state.Coming.TheVariants as comes
 use Rattle.mig_relay.specs.declared.state.Relay.{Relay}
@@ -54,13 +54,13 @@ module _ (o : Opening) (records : List StreamRecord) where
   here = Record (length records)
 
   -- a record whose empty body has a fault is refused behind its head
-  empty_refused : (head : RecordHead) (c : Cause) → fault_of_fields (before o records) head.kind head.len ≡ None → fault_of_empty head ≡ Some c → (i : List ℕ) → judge (AtBody o records head) i ≡ Faulty (here, c) i
+  empty_refused : (head : RecordHead) (c : Cause) → fault_of_fields (before o records) head.kind head.len ≡ None → fault_of_empty head ≡ Some c → (i : List ℕ) → judged_next (AtBody o records head) i ≡ Faulty (here, c) i
   empty_refused head c fine faulty i = by (nat_eq head.len 0) (nat_eq head.kind 1) refl refl
     where
       apart : ◌≡◌ {A = Option Cause} None (Some c) → ⊥
       apart e = cc
 
-      by : (none one : Bool) → nat_eq head.len 0 ≡ none → nat_eq head.kind 1 ≡ one → judge (AtBody o records head) i ≡ Faulty (here, c) i
+      by : (none one : Bool) → nat_eq head.len 0 ≡ none → nat_eq head.kind 1 ≡ one → judged_next (AtBody o records head) i ≡ Faulty (here, c) i
       by false one some is = absurd (apart (sym (ap (λ b. cond (b && not (nat_eq head.kind 1)) (fault_of_record_body head.kind []) None) some) ∙ faulty))
       by true true none is = absurd (apart (sym (ap (λ b. cond (nat_eq head.len 0 && not b) (fault_of_record_body head.kind []) None) is ∙ ap (λ b. cond (b && false) (fault_of_record_body head.kind []) None) none) ∙ faulty))
       by true false none is =
@@ -73,10 +73,10 @@ module _ (o : Opening) (records : List StreamRecord) where
   fault_here b = option_or (fault_of_head (before o records) b) (fault_of_empty (head_in b))
 
   abbrev follows : List ℕ → List ℕ → Judged (Place × Cause) ImageOf
-  follows b i = judge (AtBody o records (head_in b)) i
+  follows b i = judged_next (AtBody o records (head_in b)) i
 
   -- a head is a part, with the fault of an empty body behind it
-  pub whole_head_is : is_ended records ≡ false → IsPart (judge (AtHead o records)) here 8 fault_here follows
+  pub whole_head_is : is_ended records ≡ false → BeginsWithPart (judged_next (AtHead o records)) here 8 fault_here follows
   whole_head_is going = record {
     judged = λ i. (head_is o records going).judged i ∙ by (part Truncated 8 i);
     some = omega arith;
@@ -229,7 +229,7 @@ module _ (r t : Relay) (outer : Outer) (o : Opening) (records : List StreamRecor
   with_empty = records ++ record_with records head (record_content head.kind []) ∷ []
 
   -- an empty body, without fault
-  empty_passes : head.kind ≢ 1 → head.len ≡ 0 → (i : List ℕ) → judge (AtBody o records head) i ≡ judge (AtHead o with_empty) i
+  empty_passes : head.kind ≢ 1 → head.len ≡ 0 → (i : List ℕ) → judged_next (AtBody o records head) i ≡ judged_next (AtHead o with_empty) i
   empty_passes other none i =
       empty_is o records head (fault_of_record_body head.kind) (record_content head.kind) (bodies_are_parts (before o records) head.kind head.len j.fine other) none i
       ∙ ap (λ (g : Option Cause). with_body o records head (tried g i >>= λ _. Passes (record_content head.kind []) i)) (empty_fine head other none j.empty)

@@ -14,9 +14,9 @@ use Rattle.mig_headers.specs.declared.fault.Cause.TheVariants.{Truncated}
 use Rattle.mig_headers.specs.declared.fault.Place.{Place}
 use Rattle.mig_libxl.specs.Stream.{StreamOf}
 use Rattle.mig_relay.specs.Keeping.{Keeps}
-use Rattle.mig_relay.specs.Parts.{IsPart}
+use Rattle.mig_relay.specs.Parts.{BeginsWithPart}
 use Rattle.mig_relay.specs.Spots.{Spot, spot, held}
-use Rattle.mig_relay.specs.Steps.{is_judged_first, counted, GoesOn, IsStep, IsUnfinished, Refuses, Stops, Moved, MovedBy, answer_of}
+use Rattle.mig_relay.specs.Steps.{is_judged_first, counted, PassedPiece, IsStep, IsUnfinished, Refuses, Stops, StepMoved, MovedBy, answer_of}
 use Rattle.mig_relay.specs.declared.answer.RelayAnswer.{RelayAnswer}
 use Rattle.mig_relay.specs.declared.answer.RelayAnswer.TheVariants.{Refused, WriteFault, Memory}
 use Rattle.mig_relay.specs.declared.answer.Step.{Step}
@@ -47,7 +47,7 @@ pub nothing : (o : Option (List ℕ)) → Appends o o []
 nothing None = tt
 nothing (Some xs) = sym (append-nil xs)
 
-module _ (here : Spot) (place : Place) (size : ℕ) (fault : List ℕ → Option Cause) (follows : List ℕ → List ℕ → Judged (Place × Cause) StreamOf) (is : IsPart (spot here) place size fault follows) where
+module _ (here : Spot) (place : Place) (size : ℕ) (fault : List ℕ → Option Cause) (follows : List ℕ → List ℕ → Judged (Place × Cause) StreamOf) (is : BeginsWithPart (spot here) place size fault follows) where
   -- fewer bytes than the part has
   pub cut : (bytes : List ℕ) → length bytes < size → spot here bytes ≡ Faulty (place, Truncated) []
   cut bytes less = is.judged bytes ∙ rw (lt-ltb (length bytes) size less) refl
@@ -77,8 +77,8 @@ module _ (here : Spot) (place : Place) (size : ℕ) (fault : List ℕ → Option
 
     -- the bytes that the part still lacks couldn't be taken
     pub stopped : (buf : List ℕ) (e : Stop Cause) (answer : RelayAnswer) → answer ≡ answer_of place e → length begun + length buf ≤ size → 0 < length buf → before ≡ now → Gives (Buffered buf) old new (part Truncated (length buf)) (Err e) → length buf ≤ held here → TakesFew (length buf) old new
-        → Moved here begun r t old new before now (Err answer)
-    stopped buf e answer is_answer room some kept h small gone = subst (λ (a : RelayAnswer). Moved here begun r t old new before now (Err a)) (sym is_answer) (record { is = by e h })
+        → StepMoved here begun r t old new before now (Err answer)
+    stopped buf e answer is_answer room some kept h small gone = subst (λ (a : RelayAnswer). StepMoved here begun r t old new before now (Err a)) (sym is_answer) (record { is = by e h })
       where
         written : Appends before now []
         written = subst (λ o. Appends before o []) kept (nothing before)
@@ -106,14 +106,14 @@ module _ (here : Spot) (place : Place) (size : ℕ) (fault : List ℕ → Option
 
     -- a cause stands in the whole part, of which some first bytes were written
     pub refused : (buf wrote others : List ℕ) (u : Unit {0}) (c : Cause) (answer : RelayAnswer) → answer ≡ Refused place c → length (begun ++ buf) ≡ size → fault (begun ++ buf) ≡ Some c → Gives (Buffered buf) old new (part Truncated (length buf)) (Ok u) → buf ≡ wrote ++ others → length others ≤ held here → Appends before now wrote
-        → (is_judged_first here ≡ true → wrote ≡ []) → IsUnfinished (spot here (begun ++ wrote)) → Moved here begun r t old new before now (Err answer)
+        → (is_judged_first here ≡ true → wrote ≡ []) → IsUnfinished (spot here (begun ++ wrote)) → StepMoved here begun r t old new before now (Err answer)
     refused buf wrote others u c answer is_answer whole stands h split few written first unfinished =
-        subst (λ (a : RelayAnswer). Moved here begun r t old new before now (Err a)) (sym is_answer)
+        subst (λ (a : RelayAnswer). StepMoved here begun r t old new before now (Err a)) (sym is_answer)
         (record { is = (refuses buf u c old whole stands h, (wrote, record { others = others; few = few; taken = subst (Consumes old new) split (consumed (length buf) buf u old new h); written = written }, first, unfinished)) })
 
     -- the last piece of a body was written, and a cause stands in the whole body
     pub refused_behind : (buf : List ℕ) (u : Unit {0}) (c : Cause) (answer : RelayAnswer) → answer ≡ Refused place c → length (begun ++ buf) ≡ size → fault (begun ++ buf) ≡ Some c → Gives (Buffered buf) old new (part Truncated (length buf)) (Ok u) → Appends before now buf → is_judged_first here ≡ false
-        → Moved here begun r t old new before now (Err answer)
+        → StepMoved here begun r t old new before now (Err answer)
     refused_behind buf u c answer is_answer whole stands h written last =
         refused buf buf [] u c answer is_answer whole stands h (sym (append-nil buf)) (omega arith) written (λ first. absurd (apart (sym first ∙ last)))
         ((place, c), [], ap (spot here) (sym (append-nil (begun ++ buf))) ∙ faulty (begun ++ buf) [] c whole stands)
@@ -122,7 +122,7 @@ module _ (here : Spot) (place : Place) (size : ℕ) (fault : List ℕ → Option
         apart e = cc
 
     -- a write failed
-    pub unwritten : (buf : List ℕ) (u : Unit {0}) → length buf ≤ held here → length begun + length buf < size + 1 → Gives (Buffered buf) old new (part Truncated (length buf)) (Ok u) → AppendsPart before now buf → Moved here begun r t old new before now (Err WriteFault)
+    pub unwritten : (buf : List ℕ) (u : Unit {0}) → length buf ≤ held here → length begun + length buf < size + 1 → Gives (Buffered buf) old new (part Truncated (length buf)) (Ok u) → AppendsPart before now buf → StepMoved here begun r t old new before now (Err WriteFault)
     unwritten buf u small room h (k, less, written) =
         record {
           is = (
@@ -134,33 +134,33 @@ module _ (here : Spot) (place : Place) (size : ℕ) (fault : List ℕ → Option
 
     -- a piece of the part, or the rest of it
     pub goes_on : (buf : List ℕ) (u : Unit {0}) (next : Spot) (front : List ℕ) (step : Step) → 0 < length buf → Gives (Buffered buf) old new (part Truncated (length buf)) (Ok u) → Appends before now buf
-        → ((more : List ℕ) → spot here (begun ++ (buf ++ more)) ≡ spot next (front ++ more)) → Keeps t next front → t.passed ≡ counted r.passed (length buf) → IsStep here buf t step → GoesOn here begun step r t old new before now
+        → ((more : List ℕ) → spot here (begun ++ (buf ++ more)) ≡ spot next (front ++ more)) → Keeps t next front → t.passed ≡ counted r.passed (length buf) → IsStep here buf t step → PassedPiece here begun step r t old new before now
     goes_on buf u next front step some h written same keeps count is_step =
         record { piece = buf; next = next; front = front; some = some; taken = consumed (length buf) buf u old new h; written = written; same = same; keeps = keeps; count = count; is = is_step }
 
 -- ---- a part that is taken at once
 
-module _ {here : Spot} {place : Place} {size : ℕ} {fault : List ℕ → Option Cause} {follows : List ℕ → List ℕ → Judged (Place × Cause) StreamOf} (is : IsPart (spot here) place size fault follows) (r t : Relay) (old new before now : Option (List ℕ)) (buf : List ℕ) (whole : length buf ≡ size) (small : length buf ≤ held here) where
-  pub not_taken : (e : Stop Cause) (answer : RelayAnswer) → answer ≡ answer_of place e → before ≡ now → Gives (Buffered buf) old new (part Truncated (length buf)) (Err e) → TakesFew (length buf) old new → Moved here [] r t old new before now (Err answer)
+module _ {here : Spot} {place : Place} {size : ℕ} {fault : List ℕ → Option Cause} {follows : List ℕ → List ℕ → Judged (Place × Cause) StreamOf} (is : BeginsWithPart (spot here) place size fault follows) (r t : Relay) (old new before now : Option (List ℕ)) (buf : List ℕ) (whole : length buf ≡ size) (small : length buf ≤ held here) where
+  pub not_taken : (e : Stop Cause) (answer : RelayAnswer) → answer ≡ answer_of place e → before ≡ now → Gives (Buffered buf) old new (part Truncated (length buf)) (Err e) → TakesFew (length buf) old new → StepMoved here [] r t old new before now (Err answer)
   not_taken e answer is_answer kept h gone = stopped here place size fault follows is [] r t old new before now buf e answer is_answer (omega (arith, whole)) (omega (arith, whole, is.some)) kept h small gone
 
-  pub not_allowed : (u : Unit {0}) (c : Cause) (answer : RelayAnswer) → answer ≡ Refused place c → Some c ≡ fault buf → before ≡ now → Gives (Buffered buf) old new (part Truncated (length buf)) (Ok u) → Moved here [] r t old new before now (Err answer)
+  pub not_allowed : (u : Unit {0}) (c : Cause) (answer : RelayAnswer) → answer ≡ Refused place c → Some c ≡ fault buf → before ≡ now → Gives (Buffered buf) old new (part Truncated (length buf)) (Ok u) → StepMoved here [] r t old new before now (Err answer)
   not_allowed u c answer is_answer stands kept h =
       refused here place size fault follows is [] r t old new before now buf [] buf u c answer is_answer whole (sym stands) h refl small (subst (λ o. Appends before o []) kept (nothing before)) (λ _. refl)
       ((place, Truncated), [], cut here place size fault follows is [] is.some)
 
-  pub not_written : (u : Unit {0}) → Gives (Buffered buf) old new (part Truncated (length buf)) (Ok u) → AppendsPart before now buf → Moved here [] r t old new before now (Err WriteFault)
+  pub not_written : (u : Unit {0}) → Gives (Buffered buf) old new (part Truncated (length buf)) (Ok u) → AppendsPart before now buf → StepMoved here [] r t old new before now (Err WriteFault)
   not_written u h part_of = unwritten here place size fault follows is [] r t old new before now buf u small (omega (arith, whole)) h part_of
 
   -- the part was taken and isn't written
-  pub gave_up : (u : Unit {0}) → before ≡ now → Gives (Buffered buf) old new (part Truncated (length buf)) (Ok u) → Moved here [] r t old new before now (Err Memory)
+  pub gave_up : (u : Unit {0}) → before ≡ now → Gives (Buffered buf) old new (part Truncated (length buf)) (Ok u) → StepMoved here [] r t old new before now (Err Memory)
   gave_up u kept h = record {
     is =
         ([], record { others = buf; few = small; taken = consumed (length buf) buf u old new h; written = subst (λ o. Appends before o []) kept (nothing before) }, (place, cut here place size fault follows is [] is.some));
   }
 
   pub went : (u : Unit {0}) (next : Spot) (front : List ℕ) (step : Step) → None ≡ fault buf → Gives (Buffered buf) old new (part Truncated (length buf)) (Ok u) → Appends before now buf → ((more : List ℕ) → follows buf more ≡ spot next (front ++ more)) → Keeps t next front
-      → t.passed ≡ counted r.passed (length buf) → IsStep here buf t step → GoesOn here [] step r t old new before now
+      → t.passed ≡ counted r.passed (length buf) → IsStep here buf t step → PassedPiece here [] step r t old new before now
   went u next front step fine h written same keeps count is_step =
       goes_on here place size fault follows is [] r t old new before now buf u next front step (omega (arith, whole, is.some)) h written (λ more. passes here place size fault follows is buf more whole (sym fine) ∙ same more) keeps count is_step
 

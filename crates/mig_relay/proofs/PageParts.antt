@@ -14,7 +14,7 @@ use Rattle.mig_records.specs.declared.head.RecordHead.{RecordHead}
 use Rattle.mig_restore.specs.Record.{StreamRecord, FrameEntry, Content}
 use Rattle.mig_restore.specs.Record.Content.{Frames}
 use Rattle.mig_restore.specs.Judging.{Opening, before, fault_of_data, fault_of_page, with_places, entry_at, words_at, pages_at}
-use Rattle.mig_relay.specs.Parts.{AtPadding, judge, with_body, pages_behind, words_behind, fault_of_list, entry_of}
+use Rattle.mig_relay.specs.Parts.{AtPadding, judged_next, with_body, pages_behind, words_behind, fault_of_list, entry_of_word}
 
 module _ (o : Opening) (records : List StreamRecord) (head : RecordHead) where
   abbrev kind_top : List (ℕ × ℕ) → List ℕ → Judged Cause (List FrameEntry)
@@ -31,7 +31,7 @@ module _ (o : Opening) (records : List StreamRecord) (head : RecordHead) where
   two_causes (Some c) g i k = refl
 
   -- no page is left
-  pub pages_over : (stood : List FrameEntry) (i : List ℕ) → pages_behind o records head [] stood i ≡ judge (AtPadding o records head (Frames stood)) i
+  pub pages_over : (stood : List FrameEntry) (i : List ℕ) → pages_behind o records head [] stood i ≡ judged_next (AtPadding o records head (Frames stood)) i
   unfolding each
   pages_over stood i = ap (λ es. with_body o records head (Passes (Frames es) i)) (append-nil stood)
 
@@ -43,22 +43,22 @@ module _ (o : Opening) (records : List StreamRecord) (head : RecordHead) where
 
   module _ (place word : ℕ) (others : List (ℕ × ℕ)) (stood : List FrameEntry) where
     -- a word without a page
-    pub no_page : word_has_data word ≡ false → (i : List ℕ) → pages_behind o records head ((place, word) ∷ others) stood i ≡ pages_behind o records head others (stood ++ entry_of word None ∷ []) i
+    pub no_page : word_has_data word ≡ false → (i : List ℕ) → pages_behind o records head ((place, word) ∷ others) stood i ≡ pages_behind o records head others (stood ++ entry_of_word word None ∷ []) i
     unfolding each
-    no_page none i = rw none (ap (with_body o records head) (on (entry_of word None) stood (kind_top others i)))
+    no_page none i = rw none (ap (with_body o records head) (on (entry_of_word word None) stood (kind_top others i)))
 
     paged : (j : Judged Cause (List ℕ))
-        → with_body o records head (((((j >>= λ page. tried (fault_of_page o.kind (before o records).top (place, word) page.0) page.1 >>= λ _. Passes (Some page.0) page.1) >>= λ page. Passes (entry_of word page.0) page.1) >>= λ first. kind_top others first.1 >>= λ es. Passes (first.0 ∷ es.0) es.1)) >>= λ es. Passes (Frames (stood ++ es.0)) es.1)
-        ≡ (placed (Record (length records)) (j >>= λ b. tried (fault_of_page o.kind (before o records).top (place, word) b.0) b.1 >>= λ _. Passes b.0 b.1) >>= λ b. pages_behind o records head others (stood ++ entry_of word (Some b.0) ∷ []) b.1)
+        → with_body o records head (((((j >>= λ page. tried (fault_of_page o.kind (before o records).top (place, word) page.0) page.1 >>= λ _. Passes (Some page.0) page.1) >>= λ page. Passes (entry_of_word word page.0) page.1) >>= λ first. kind_top others first.1 >>= λ es. Passes (first.0 ∷ es.0) es.1)) >>= λ es. Passes (Frames (stood ++ es.0)) es.1)
+        ≡ (placed (Record (length records)) (j >>= λ b. tried (fault_of_page o.kind (before o records).top (place, word) b.0) b.1 >>= λ _. Passes b.0 b.1) >>= λ b. pages_behind o records head others (stood ++ entry_of_word word (Some b.0) ∷ []) b.1)
     paged (Faulty c rest) = refl
     paged (Passes b rest) =
-        elim (fault_of_page o.kind (before o records).top (place, word) b) as (λ g. with_body o records head ((((tried g rest >>= λ _. Passes (Some b) rest) >>= λ page. Passes (entry_of word page.0) page.1) >>= λ first. kind_top others first.1 >>= λ es. Passes (first.0 ∷ es.0) es.1) >>= λ es. Passes (Frames (stood ++ es.0)) es.1)
-        ≡ (placed (Record (length records)) (tried g rest >>= λ _. Passes b rest) >>= λ b. pages_behind o records head others (stood ++ entry_of word (Some b.0) ∷ []) b.1))
-        [ None ↦ ap (with_body o records head) (on (entry_of word (Some b)) stood (kind_top others rest)) | Some c ↦ refl ]
+        elim (fault_of_page o.kind (before o records).top (place, word) b) as (λ g. with_body o records head ((((tried g rest >>= λ _. Passes (Some b) rest) >>= λ page. Passes (entry_of_word word page.0) page.1) >>= λ first. kind_top others first.1 >>= λ es. Passes (first.0 ∷ es.0) es.1) >>= λ es. Passes (Frames (stood ++ es.0)) es.1)
+        ≡ (placed (Record (length records)) (tried g rest >>= λ _. Passes b rest) >>= λ b. pages_behind o records head others (stood ++ entry_of_word word (Some b.0) ∷ []) b.1))
+        [ None ↦ ap (with_body o records head) (on (entry_of_word word (Some b)) stood (kind_top others rest)) | Some c ↦ refl ]
 
     -- a page is a part
     pub page_part : word_has_data word ≡ true → (i : List ℕ) → pages_behind o records head ((place, word) ∷ others) stood i
-        ≡ (placed (Record (length records)) (said_at Truncated (fault_of_page o.kind (before o records).top (place, word)) (λ b. b) 4096 i) >>= λ b. pages_behind o records head others (stood ++ entry_of word (Some b.0) ∷ []) b.1)
+        ≡ (placed (Record (length records)) (said_at Truncated (fault_of_page o.kind (before o records).top (place, word)) (λ b. b) 4096 i) >>= λ b. pages_behind o records head others (stood ++ entry_of_word word (Some b.0) ∷ []) b.1)
     unfolding each
     page_part some i = rw some (paged (part Truncated 4096 i))
 

@@ -32,7 +32,7 @@ use Rattle.mig_restore.specs.Seen.{IsSeen}
 use Rattle.mig_restore.specs.Stream.{ImageOf}
 use Rattle.mig_restore.specs.declared.head.RecordsSeen.{RecordsSeen}
 use Rattle.mig_relay.specs.Keeping.{Keeps, KeepsWords, HasNumber, KeepsRecords, KeepsHead, KeepsOuter, IsPages}
-use Rattle.mig_relay.specs.Parts.{AtHead, AtFront, AtWords, AtPages, judge, record_with, fault_of_list, entry_of, IsPart}
+use Rattle.mig_relay.specs.Parts.{AtHead, AtFront, AtWords, AtPages, judged_next, record_with, fault_of_list, entry_of_word, BeginsWithPart}
 use Rattle.mig_relay.specs.Spots.{Outer, Alone, Behind, Spot, InImage, spot, carry}
 use Rattle.mig_relay.specs.declared.state.Relay.{Relay}
 use Rattle.mig_relay.specs.declared.state.Coming.TheVariants as comes
@@ -52,19 +52,19 @@ others r = with_places (r.page + 1) (drop (r.page + 1) r.words.items)
 
 module _ (outer : Outer) (o : Opening) (records : List StreamRecord) (head : RecordHead) where
   -- the count of the words
-  pub front_is : IsPart (spot (InImage outer (AtFront o records head))) (Record (length records)) 8 (λ b. fault_of_count head.len (le32 b 0)) (λ b i. spot (InImage outer (AtWords o records head (le32 b 0))) i)
+  pub front_is : BeginsWithPart (spot (InImage outer (AtFront o records head))) (Record (length records)) 8 (λ b. fault_of_count head.len (le32 b 0)) (λ b i. spot (InImage outer (AtWords o records head (le32 b 0))) i)
   front_is = lifted (carry outer) (record { judged = front_part o records head; some = omega arith })
 
   -- so many words, with the length that they ask for
   pub words_is : (n : ℕ) → 0 < n
-      → IsPart (spot (InImage outer (AtWords o records head n))) (Record (length records)) (8 * n) (fault_of_list o.kind (before o records).top head.len n) (λ b i. spot (InImage outer (AtPages o records head (with_places 0 (words n b)) [])) i)
+      → BeginsWithPart (spot (InImage outer (AtWords o records head n))) (Record (length records)) (8 * n) (fault_of_list o.kind (before o records).top head.len n) (λ b i. spot (InImage outer (AtPages o records head (with_places 0 (words n b)) [])) i)
   words_is n some = lifted (carry outer) (record { judged = words_part o records head n; some = omega (arith, some) })
 
   -- the page of the next word
   pub page_is : (r : Relay) (coming : List (ℕ × ℕ)) (stood : List FrameEntry) → KeepsWords r coming
-      → IsPart (spot (InImage outer (AtPages o records head coming stood))) (Record (length records)) 4096 (fault_of_page o.kind (before o records).top (r.page, next_word r)) (λ b i. spot (InImage outer (AtPages o records head (others r) (stood ++ entry_of (next_word r) (Some b) ∷ []))) i)
+      → BeginsWithPart (spot (InImage outer (AtPages o records head coming stood))) (Record (length records)) 4096 (fault_of_page o.kind (before o records).top (r.page, next_word r)) (λ b i. spot (InImage outer (AtPages o records head (others r) (stood ++ entry_of_word (next_word r) (Some b) ∷ []))) i)
   page_is r coming stood kept = lifted (carry outer) (record {
-    judged = λ i. ap (λ l. judge (AtPages o records head l stood) i) (kept.left ∙ ap (with_places r.page) (drop_more r.words.items r.page 0 kept.some)) ∙ page_part o records head r.page (next_word r) (others r) stood kept.paged i;
+    judged = λ i. ap (λ l. judged_next (AtPages o records head l stood) i) (kept.left ∙ ap (with_places r.page) (drop_more r.words.items r.page 0 kept.some)) ∙ page_part o records head r.page (next_word r) (others r) stood kept.paged i;
     some = omega arith;
   })
 
@@ -175,20 +175,20 @@ module _ (o : Opening) (records : List StreamRecord) (head : RecordHead) where
     -- the pages of the words from here on are those of the words from there on, behind other entries
     record Skips (from to : ℕ) (stood : List FrameEntry) : Type 0 where
       pub entries : List FrameEntry
-      pub same : (i : List ℕ) → judge (AtPages o records head (with_places from (drop from ws)) stood) i ≡ judge (AtPages o records head (with_places to (drop to ws)) entries) i
+      pub same : (i : List ℕ) → judged_next (AtPages o records head (with_places from (drop from ws)) stood) i ≡ judged_next (AtPages o records head (with_places to (drop to ws)) entries) i
 
     -- words without a page are passed over, one by one
     skips : (k from to : ℕ) (stood : List FrameEntry) → to ≡ from + k → to ≤ length ws → ((place : ℕ) → from ≤ place → place < to → word_has_data (slice_index ws place) ≡ false) → Skips from to stood
     skips zero from to stood is within none =
         let at : from ≡ to = omega (arith, is) in
-        record { entries = stood; same = λ i. ap (λ n. judge (AtPages o records head (with_places n (drop n ws)) stood) i) at }
+        record { entries = stood; same = λ i. ap (λ n. judged_next (AtPages o records head (with_places n (drop n ws)) stood) i) at }
     skips (suc k) from to stood is within none =
         let word = slice_index ws from in
-        let more = skips k (from + 1) to (stood ++ entry_of word None ∷ []) (omega (arith, is)) within (λ place le lt. none place (omega (arith, le)) lt) in
+        let more = skips k (from + 1) to (stood ++ entry_of_word word None ∷ []) (omega (arith, is)) within (λ place le lt. none place (omega (arith, le)) lt) in
         record {
           entries = more.entries;
           same = λ i.
-              ap (λ l. judge (AtPages o records head (with_places from l) stood) i) (drop_more ws from 0 (omega (arith, is, within)))
+              ap (λ l. judged_next (AtPages o records head (with_places from l) stood) i) (drop_more ws from 0 (omega (arith, is, within)))
               ∙ no_page o records head from word (with_places (from + 1) (drop (from + 1) ws)) stood (none from (omega arith) (omega (arith, is))) i
               ∙ more.same i;
         }
@@ -251,7 +251,7 @@ module _ (r t : Relay) (head : RecordHead) (within : t.page ≤ length r.words.i
             same = λ more.
                 ap (λ (j : Judged (Place × Cause) ImageOf). j >>= carry outer)
                 (skipped.same more
-                ∙ ap (λ l. judge (AtPages o records head (with_places t.page l) skipped.entries) more) (drop_all t.page ws whole)
+                ∙ ap (λ l. judged_next (AtPages o records head (with_places t.page l) skipped.entries) more) (drop_all t.page ws whole)
                 ∙ pages_over o records head skipped.entries more
                 ∙ no_padding o records head (Frames skipped.entries) more padding);
             keeps = (outer_stays r t outer turning_stays around, (ap (λ (x : Relay). x.coming) (over (omega (arith, whole, within))), behind_pages o records head t skipped.entries pages (records_stay r t o records _ _ turning_stays kept), refl));

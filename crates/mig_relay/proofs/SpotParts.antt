@@ -31,13 +31,13 @@ use Rattle.mig_records.specs.declared.head.RecordHead.{RecordHead}
 use Rattle.mig_restore.specs.Judging.{Opening}
 use Rattle.mig_restore.specs.Record.{StreamRecord, is_ended}
 use Rattle.mig_restore.specs.Stream.{ImageOf, image_of}
-use Rattle.mig_relay.specs.Parts.{AtMarker, AtVersion, AtHead, IsPart}
-use Rattle.mig_relay.specs.Spots.{Alone, Behind, AtLibxlHeader, AtLibxlHead, AtLibxlBody, AtLibxlPadding, AtStart, InImage, AtEnd, spot, carry, image_record, libxl_padded, is_ident, fault_of_start}
+use Rattle.mig_relay.specs.Parts.{AtMarker, AtVersion, AtHead, BeginsWithPart}
+use Rattle.mig_relay.specs.Spots.{Alone, Behind, AtLibxlHeader, AtLibxlHead, AtLibxlBody, AtLibxlPadding, AtStart, InImage, AtEnd, spot, carry, image_record, libxl_padded, is_ident, fault_of_first}
 use Rattle.mig_relay.proofs.Unrolls.{marker_is, ended}
 
 -- a part of an image is one of the stream around it, too
-pub lifted : {X Y : Type 0} {judged_here : List ℕ → Judged (Place × Cause) X} {place : Place} {size : ℕ} {fault : List ℕ → Option Cause} {follows : List ℕ → List ℕ → Judged (Place × Cause) X} (k : X × List ℕ → Judged (Place × Cause) Y) → IsPart judged_here place size fault follows
-    → IsPart (λ i. judged_here i >>= k) place size fault (λ b i. follows b i >>= k)
+pub lifted : {X Y : Type 0} {judged_here : List ℕ → Judged (Place × Cause) X} {place : Place} {size : ℕ} {fault : List ℕ → Option Cause} {follows : List ℕ → List ℕ → Judged (Place × Cause) X} (k : X × List ℕ → Judged (Place × Cause) Y) → BeginsWithPart judged_here place size fault follows
+    → BeginsWithPart (λ i. judged_here i >>= k) place size fault (λ b i. follows b i >>= k)
 lifted {X} {Y} {judged_here} {place} {size} {fault} {follows} k is = record {
   judged = λ i. ap (λ (j : Judged (Place × Cause) X). j >>= k) (is.judged i) ∙ bind_assoc (placed place (said_at Truncated fault (λ b. b) size i)) (λ b. follows b.0 b.1) k;
   some = is.some;
@@ -52,7 +52,7 @@ abbrev bare : ImageOf × List ℕ → Judged (Place × Cause) StreamOf
 bare image = Passes (Bare image.0) image.1
 
 abbrev first : List ℕ → Judged (Place × Cause) StreamOf
-first i = placed ImageHeader (said_at Truncated fault_of_start (λ b. b) 8 i) >>= λ b. start_follows b.0 b.1
+first i = placed ImageHeader (said_at Truncated fault_of_first (λ b. b) 8 i) >>= λ b. start_follows b.0 b.1
 
 alone_is : (i : List ℕ) → open_bare i ≡ (placed ImageHeader (said_at Truncated fault_of_marker (λ b. b) 8 i) >>= λ b. spot (InImage Alone AtVersion) b.1)
 alone_is i = (lifted bare marker_is).judged i
@@ -81,7 +81,7 @@ whole_start bytes rest eight = by (is_ident bytes) refl
         marked (Some c) = refl
         marked None = rw is refl
 
-pub start_is : IsPart (spot AtStart) ImageHeader 8 fault_of_start start_follows
+pub start_is : BeginsWithPart (spot AtStart) ImageHeader 8 fault_of_first start_follows
 start_is = record { judged = by; some = omega arith }
   where
     by : (i : List ℕ) → open_stream_at i ≡ first i
@@ -96,7 +96,7 @@ start_is = record { judged = by; some = omega arith }
 
 -- ---- the header of a libxl stream
 
-pub header_is : IsPart (spot AtLibxlHeader) LibxlHeader 8 fault_of_libxl (λ _ i. spot (AtLibxlHead []) i)
+pub header_is : BeginsWithPart (spot AtLibxlHeader) LibxlHeader 8 fault_of_libxl (λ _ i. spot (AtLibxlHead []) i)
 unfolding open_wrapped
 header_is = record { judged = λ i. refl; some = omega arith }
 
@@ -160,12 +160,12 @@ module _ (records : List LibxlRecord) where
   unrolled (Faulty c rest) = refl
   unrolled (Passes head rest) = regrouped (head_in head) (open_content records (le32 head 0) (le32 head 4) rest)
 
-  pub libxl_head_is : is_libxl_ended records ≡ false → IsPart (spot (AtLibxlHead records)) here 8 (λ head. fault_of_libxl_head records (le32 head 0) (le32 head 4)) (λ b i. behind_libxl_head records (head_in b) i)
+  pub libxl_head_is : is_libxl_ended records ≡ false → BeginsWithPart (spot (AtLibxlHead records)) here 8 (λ head. fault_of_libxl_head records (le32 head 0) (le32 head 4)) (λ b i. behind_libxl_head records (head_in b) i)
   unfolding open_libxl_record
   libxl_head_is going = record { judged = λ i. opened i going ∙ unrolled (placed here (libxl_head_at records i)); some = omega arith }
 
   module _ (head : RecordHead) where
-    pub libxl_body_is : 0 < head.len → IsPart (spot (AtLibxlBody records head)) here head.len (fault_of_libxl_body head.kind) (λ b i. spot (AtLibxlPadding records head (libxl_content head.kind b)) i)
+    pub libxl_body_is : 0 < head.len → BeginsWithPart (spot (AtLibxlBody records head)) here head.len (fault_of_libxl_body head.kind) (λ b i. spot (AtLibxlPadding records head (libxl_content head.kind b)) i)
     libxl_body_is some = record {
       judged = λ i.
           ap (λ (j : Judged Cause LibxlContent). placed here j >>= λ content. libxl_padded records head content.0 content.1) (open_body_is head.kind head.len i)
@@ -173,7 +173,7 @@ module _ (records : List LibxlRecord) where
       some = some;
     }
 
-    pub libxl_padding_is : (content : LibxlContent) → 0 < padding_len head.len → IsPart (spot (AtLibxlPadding records head content)) here (padding_len head.len) (λ _. None) (λ _ i. spot (AtLibxlHead (with_libxl head content)) i)
+    pub libxl_padding_is : (content : LibxlContent) → 0 < padding_len head.len → BeginsWithPart (spot (AtLibxlPadding records head content)) here (padding_len head.len) (λ _. None) (λ _ i. spot (AtLibxlHead (with_libxl head content)) i)
     libxl_padding_is content some = record {
       judged = λ i. by (part Truncated (padding_len head.len) i);
       some = some;

@@ -16,11 +16,11 @@ use Rattle.mig_pieces.proofs.Types.{bodies_are_parts}
 use Rattle.mig_restore.specs.Judging.{before}
 use Rattle.mig_restore.specs.Stream.{ImageOf}
 use Rattle.mig_relay.specs.Keeping.{Keeps, KeepsNext, HasRecords, Stands}
-use Rattle.mig_relay.specs.Parts.{Next, AtMarker, AtVersion, AtKind, AtHead, AtBody, AtFront, AtWords, AtPages, AtPadding, judge, IsPart}
-use Rattle.mig_relay.specs.Relaying.{HasPassed, IsRelayed, IsPart as IsWritten, NoneIsAccepted, IsCutPart}
+use Rattle.mig_relay.specs.Parts.{Next, AtMarker, AtVersion, AtKind, AtHead, AtBody, AtFront, AtWords, AtPages, AtPadding, judged_next, BeginsWithPart}
+use Rattle.mig_relay.specs.Relaying.{HasPassed, IsRelayed, PassedPart as IsWritten, NoneIsAccepted, IsCutPart}
 use Rattle.mig_relay.specs.Spots.{Outer, Spot, AtStart, AtLibxlHeader, AtLibxlHead, AtLibxlBody, AtLibxlPadding, InImage, AtEnd, spot, held, carry}
-use Rattle.mig_relay.specs.Standing.{StandsFor, StepSays, PassesOn, IsRefusedBehind, WritesSomeBehind, StopsBehind, is_at_end, goes_on}
-use Rattle.mig_relay.specs.Steps.{GoesOn, WritesFront, IsCut, IsUnfinished, Refuses, Stops, WritesSome, Moved, MovedBy, counted}
+use Rattle.mig_relay.specs.Standing.{StandsForBytes, StepSays, PassesOn, IsRefusedBehind, WritesSomeBehind, StopsInside, is_at_end, goes_on}
+use Rattle.mig_relay.specs.Steps.{PassedPiece, WritesFront, EndsInside, IsUnfinished, Refuses, Stops, WritesSome, StepMoved, MovedBy, counted}
 use Rattle.mig_relay.specs.declared.answer.RelayAnswer.{RelayAnswer}
 use Rattle.mig_relay.specs.declared.answer.RelayAnswer.TheVariants.{Refused, ReadFault, WriteFault, Memory}
 use Rattle.mig_relay.specs.declared.answer.Relayed.{Relayed}
@@ -38,19 +38,19 @@ use Rattle.mig_relay.proofs.Unrolls.{marker_is, version_is, kind_is, head_is, bo
 -- ---- a relay that isn't at the end stands in a part that isn't whole
 
 -- of a part, fewer bytes than it has
-still_cut : (here : Spot) {place : Place} {size : ℕ} {fault : List ℕ → Option Cause} {follows : List ℕ → List ℕ → Judged (Place × Cause) StreamOf} → IsPart (spot here) place size fault follows → (begun : List ℕ) → length begun < size → IsCut (spot here begun)
+still_cut : (here : Spot) {place : Place} {size : ℕ} {fault : List ℕ → Option Cause} {follows : List ℕ → List ℕ → Judged (Place × Cause) StreamOf} → BeginsWithPart (spot here) place size fault follows → (begun : List ℕ) → length begun < size → EndsInside (spot here begun)
 still_cut here {place} {size} {fault} {follows} is begun less = (place, cut here place size fault follows is begun less)
 
 -- or none
-none_cut : (here : Spot) {place : Place} {size : ℕ} {fault : List ℕ → Option Cause} {follows : List ℕ → List ℕ → Judged (Place × Cause) StreamOf} → IsPart (spot here) place size fault follows → (begun : List ℕ) → begun ≡ [] → IsCut (spot here begun)
-none_cut here is begun none = subst (λ l. IsCut (spot here l)) (sym none) (still_cut here is [] is.some)
+none_cut : (here : Spot) {place : Place} {size : ℕ} {fault : List ℕ → Option Cause} {follows : List ℕ → List ℕ → Judged (Place × Cause) StreamOf} → BeginsWithPart (spot here) place size fault follows → (begun : List ℕ) → begun ≡ [] → EndsInside (spot here begun)
+none_cut here is begun none = subst (λ l. EndsInside (spot here l)) (sym none) (still_cut here is [] is.some)
 
 module _ (r : Relay) (outer : Outer) where
   -- a part of an image that is taken at once
-  once : (next : Next) {place : Place} {size : ℕ} {fault : List ℕ → Option Cause} {follows : List ℕ → List ℕ → Judged (Place × Cause) ImageOf} → IsPart (judge next) place size fault follows → (begun : List ℕ) → begun ≡ [] → IsCut (spot (InImage outer next) begun)
+  once : (next : Next) {place : Place} {size : ℕ} {fault : List ℕ → Option Cause} {follows : List ℕ → List ℕ → Judged (Place × Cause) ImageOf} → BeginsWithPart (judged_next next) place size fault follows → (begun : List ℕ) → begun ≡ [] → EndsInside (spot (InImage outer next) begun)
   once next is = none_cut (InImage outer next) (lifted (carry outer) is)
 
-  image_cut : (next : Next) (begun : List ℕ) → KeepsNext r next begun → IsCut (spot (InImage outer next) begun)
+  image_cut : (next : Next) (begun : List ℕ) → KeepsNext r next begun → EndsInside (spot (InImage outer next) begun)
   image_cut AtMarker begun (is, none) = once AtMarker marker_is begun none
   image_cut AtVersion begun (is, none) = once AtVersion version_is begun none
   image_cut (AtKind version) begun (is, none) = once (AtKind version) (kind_is version) begun none
@@ -68,7 +68,7 @@ apart : true ≡ false → ⊥
 apart e = cc
 
 -- what is judged at a place that is kept is cut, but for the end
-pub keeps_cut : (r : Relay) (here : Spot) (begun : List ℕ) → Keeps r here begun → is_at_end r.coming ≡ false → IsCut (spot here begun)
+pub keeps_cut : (r : Relay) (here : Spot) (begun : List ℕ) → Keeps r here begun → is_at_end r.coming ≡ false → EndsInside (spot here begun)
 keeps_cut r AtStart begun (is, alone, none) going = none_cut AtStart start_is begun none
 keeps_cut r AtLibxlHeader begun (is, kept, none) going = none_cut AtLibxlHeader header_is begun none
 keeps_cut r (AtLibxlHead records) begun (is, kept, none) going = none_cut (AtLibxlHead records) (libxl_head_is records kept.1) begun none
@@ -88,15 +88,15 @@ stays None = tt
 stays (Some xs) = refl
 
 -- at the end nothing is left to do
-pub from_end : (r : Relay) (old before : Option (List ℕ)) → is_at_end r.coming ≡ true → (here : Spot) (begun : List ℕ) → Keeps r here begun → Moved here begun r r old old before before (Ok steps.Done)
+pub from_end : (r : Relay) (old before : Option (List ℕ)) → is_at_end r.coming ≡ true → (here : Spot) (begun : List ℕ) → Keeps r here begun → StepMoved here begun r r old old before before (Ok steps.Done)
 from_end r old before over =
-    told r (λ here begun. Moved here begun r r old old before before (Ok steps.Done)) comes.End (at_end_is r.coming over) (λ s has. record { is = (s, (λ more. refl), stays old, stays before, has) })
+    told r (λ here begun. StepMoved here begun r r old old before before (Ok steps.Done)) comes.End (at_end_is r.coming over) (λ s has. record { is = (s, (λ more. refl), stays old, stays before, has) })
 
 -- ---- what holds behind a step, for the place that is kept
 
 module _ (here : Spot) (begun : List ℕ) (r t : Relay) (old new before now : Option (List ℕ)) where
   -- nothing is done where a part isn't whole
-  pub done_at_end : Keeps r here begun → Moved here begun r t old new before now (Ok steps.Done) → is_at_end r.coming ≡ true
+  pub done_at_end : Keeps r here begun → StepMoved here begun r t old new before now (Ok steps.Done) → is_at_end r.coming ≡ true
   done_at_end k m = by (is_at_end r.coming) refl
     where
       by : (b : Bool) → is_at_end r.coming ≡ b → is_at_end r.coming ≡ true
@@ -107,35 +107,35 @@ module _ (here : Spot) (begun : List ℕ) (r t : Relay) (old new before now : Op
   stood_by steps.Done k going m = absurd (apart (sym (done_at_end k (record { is = m })) ∙ going))
   stood_by step k going m = stood m
     where
-      stood : GoesOn here begun step r t old new before now → Stands t
+      stood : PassedPiece here begun step r t old new before now → Stands t
       stood g = (g.next, g.front, g.keeps)
 
   -- what is passed on leaves a relay that stands somewhere
-  pub still_stands : (result : Result Step RelayAnswer) → Keeps r here begun → is_at_end r.coming ≡ false → Moved here begun r t old new before now result → OnOk result (Stands t)
+  pub still_stands : (result : Result Step RelayAnswer) → Keeps r here begun → is_at_end r.coming ≡ false → StepMoved here begun r t old new before now result → OnOk result (Stands t)
   still_stands (Ok step) k going m = stood_by step k going m.is
   still_stands (Err answer) k going m = tt
 
 -- a step from what comes next, at each place where it may
-pub moved_from : (r t : Relay) (old new before now : Option (List ℕ)) (result : Result Step RelayAnswer) (c : Coming) → r.coming ≡ c → Told r (λ here begun. Moved here begun r t old new before now result) c → (here : Spot) (begun : List ℕ) → Keeps r here begun → Moved here begun r t old new before now result
-moved_from r t old new before now result = told r (λ here begun. Moved here begun r t old new before now result)
+pub moved_from : (r t : Relay) (old new before now : Option (List ℕ)) (result : Result Step RelayAnswer) (c : Coming) → r.coming ≡ c → Told r (λ here begun. StepMoved here begun r t old new before now result) c → (here : Spot) (begun : List ℕ) → Keeps r here begun → StepMoved here begun r t old new before now result
+moved_from r t old new before now result = told r (λ here begun. StepMoved here begun r t old new before now result)
 
 -- and the relay stands somewhere behind it
-pub stands_from : (r t : Relay) (old new before now : Option (List ℕ)) (result : Result Step RelayAnswer) (c : Coming) → r.coming ≡ c → is_at_end c ≡ false → Told r (λ here begun. Moved here begun r t old new before now result) c → Stands r → OnOk result (Stands t)
+pub stands_from : (r t : Relay) (old new before now : Option (List ℕ)) (result : Result Step RelayAnswer) (c : Coming) → r.coming ≡ c → is_at_end c ≡ false → Told r (λ here begun. StepMoved here begun r t old new before now result) c → Stands r → OnOk result (Stands t)
 stands_from r t old new before now result c is going f (here, begun, k) = still_stands here begun r t old new before now result k (ap is_at_end is ∙ going) (moved_from r t old new before now result c is f here begun k)
 
 -- ---- the bytes that a relay stands for
 
 -- a new relay has taken nothing
-pub begins : (r : Relay) → Keeps r AtStart [] → r.passed ≡ 0 → StandsFor r []
+pub begins : (r : Relay) → Keeps r AtStart [] → r.passed ≡ 0 → StandsForBytes r []
 begins r k none = record { here = AtStart; begun = []; keeps = k; same = λ more. refl; count = none }
 
 -- the count of the bytes so far, with those of a piece
 counted_on : (passed behind size more : ℕ) → passed ≡ min size (2 ^ 64 - 1) → behind ≡ counted passed more → behind ≡ min (size + more) (2 ^ 64 - 1)
 counted_on passed behind size more was is = omega (arith, was, is)
 
-module _ {r : Relay} {bytes : List ℕ} (s : StandsFor r bytes) where
+module _ {r : Relay} {bytes : List ℕ} (s : StandsForBytes r bytes) where
   -- a piece more
-  pub stands_on : {t : Relay} {old new before now : Option (List ℕ)} {step : Step} (g : GoesOn s.here s.begun step r t old new before now) → StandsFor t (bytes ++ g.piece)
+  pub stands_on : {t : Relay} {old new before now : Option (List ℕ)} {step : Step} (g : PassedPiece s.here s.begun step r t old new before now) → StandsForBytes t (bytes ++ g.piece)
   stands_on {t} g = record {
     here = g.next;
     begun = g.front;
@@ -145,7 +145,7 @@ module _ {r : Relay} {bytes : List ℕ} (s : StandsFor r bytes) where
   }
 
   -- a list that isn't passable ends inside a part
-  pub is_front : is_at_end r.coming ≡ false → IsCut (open_stream_at bytes)
+  pub is_front : is_at_end r.coming ≡ false → EndsInside (open_stream_at bytes)
   is_front going =
       let c = keeps_cut r s.here s.begun s.keeps going in
       (c.0, ap open_stream_at (sym (append-nil bytes)) ∙ s.same [] ∙ ap (spot s.here) (append-nil s.begun) ∙ c.1)
@@ -160,8 +160,8 @@ module _ {r : Relay} {bytes : List ℕ} (s : StandsFor r bytes) where
 
 -- ---- the clauses of a step, for each list that the relay stands for
 
-module _ (r t : Relay) (old new before now : Option (List ℕ)) (result : Result Step RelayAnswer) (moved : (here : Spot) (begun : List ℕ) → Keeps r here begun → Moved here begun r t old new before now result) (bytes : List ℕ) (s : StandsFor r bytes) where
-  stops : Stops s.here s.begun old new before now → StopsBehind s.here bytes old new before now
+module _ (r t : Relay) (old new before now : Option (List ℕ)) (result : Result Step RelayAnswer) (moved : (here : Spot) (begun : List ℕ) → Keeps r here begun → StepMoved here begun r t old new before now result) (bytes : List ℕ) (s : StandsForBytes r bytes) where
+  stops : Stops s.here s.begun old new before now → StopsInside s.here bytes old new before now
   stops (wrote, w, (place, is)) = (wrote, w, (place, s.same wrote ∙ is))
 
   refused : (place : Place) (cause : Cause) (o : Option (List ℕ)) → Refuses s.here s.begun o new place cause → IsRefusedBehind bytes o new place cause
@@ -175,7 +175,7 @@ module _ (r t : Relay) (old new before now : Option (List ℕ)) (result : Result
   by_result (Ok steps.Done) m = (m.0, subst (λ l. open_stream_at l ≡ Passes m.0 []) (append-nil bytes) (s.same [] ∙ m.1 []), m.2, m.3, m.4)
   by_result (Ok step) m = passes_on m
     where
-      passes_on : GoesOn s.here s.begun step r t old new before now → PassesOn s.here bytes step t old new before now
+      passes_on : PassedPiece s.here s.begun step r t old new before now → PassesOn s.here bytes step t old new before now
       passes_on g = record { piece = g.piece; some = g.some; taken = g.taken; written = g.written; stands = stands_on s g; is = g.is }
   by_result (Err (Refused place cause)) m = (refused place cause old m.0, writes m.1)
   by_result (Err ReadFault) m = stops m
@@ -230,11 +230,11 @@ none_accepted : (wrote : List ℕ) → IsUnfinished (open_stream_at wrote) → N
 none_accepted wrote ((place, cause), rest, is) front more s whole accepted = unfinished_is_not_accepted front more s place cause rest (sym (ap open_stream_at whole) ∙ is) accepted
 
 module _ (r t : Relay) (old mid new before between now : Option (List ℕ)) (h : HasPassed r old mid before between) where
-  abbrev s : StandsFor r h.bytes
+  abbrev s : StandsForBytes r h.bytes
   s = h.stands
 
   -- one piece more
-  passed_more : (step : Step) → GoesOn s.here s.begun step r t mid new between now → HasPassed t old new before now
+  passed_more : (step : Step) → PassedPiece s.here s.begun step r t mid new between now → HasPassed t old new before now
   passed_more step g = record {
     bytes = h.bytes ++ g.piece;
     stands = stands_on s g;
@@ -243,7 +243,7 @@ module _ (r t : Relay) (old mid new before between now : Option (List ℕ)) (h :
   }
 
   -- whatever the step was, but for Done
-  pub goes : (step : Step) → step ≢ steps.Done → Moved s.here s.begun r t mid new between now (Ok step) → HasPassed t old new before now
+  pub goes : (step : Step) → step ≢ steps.Done → StepMoved s.here s.begun r t mid new between now (Ok step) → HasPassed t old new before now
   goes steps.Done other m = absurd (other refl)
   goes step other m = passed_more step m.is
 
@@ -278,7 +278,7 @@ module _ (r t : Relay) (old mid new before between now : Option (List ℕ)) (h :
   stopped_on (wrote, w, (place, is)) = (wrote_on wrote w ((place, Truncated), [], is), (place, s.same wrote ∙ is))
 
   -- an error ends the relay
-  pub ends_on : (answer : RelayAnswer) → Moved s.here s.begun r t mid new between now (Err answer) → IsRelayed old new before now (Err answer)
+  pub ends_on : (answer : RelayAnswer) → StepMoved s.here s.begun r t mid new between now (Err answer) → IsRelayed old new before now (Err answer)
   ends_on (Refused place cause) m = record { is = (refused_on old place cause h.taken m.is.0, by m.is.1) }
     where
       by : WritesSome s.here s.begun mid new between now → IsWritten old new before now
@@ -288,7 +288,7 @@ module _ (r t : Relay) (old mid new before between now : Option (List ℕ)) (h :
   ends_on Memory m = record { is = stopped_on m.is }
 
   -- the bytes so far are a whole stream
-  done_on : (relayed : Relayed) → relayed.records ≡ r.seen.records → relayed.bytes ≡ r.passed → Moved s.here s.begun r t mid new between now (Ok steps.Done) → IsRelayed old new before now (Ok relayed)
+  done_on : (relayed : Relayed) → relayed.records ≡ r.seen.records → relayed.bytes ≡ r.passed → StepMoved s.here s.begun r t mid new between now (Ok steps.Done) → IsRelayed old new before now (Ok relayed)
   done_on relayed records bytes m = record {
     is = record {
       front = h.bytes;
@@ -302,14 +302,14 @@ module _ (r t : Relay) (old mid new before between now : Option (List ℕ)) (h :
   }
 
   -- Done is answered at the end, and there the relay stays
-  pub done_here : (relayed : Relayed) (step : Step) → step ≡ steps.Done → (is_at_end r.coming ≡ true → t ≡ r) → relayed.records ≡ t.seen.records → relayed.bytes ≡ t.passed → Moved s.here s.begun r t mid new between now (Ok step) → IsRelayed old new before now (Ok relayed)
+  pub done_here : (relayed : Relayed) (step : Step) → step ≡ steps.Done → (is_at_end r.coming ≡ true → t ≡ r) → relayed.records ≡ t.seen.records → relayed.bytes ≡ t.passed → StepMoved s.here s.begun r t mid new between now (Ok step) → IsRelayed old new before now (Ok relayed)
   done_here relayed step is_done stays_there records bytes moved =
-      let m = subst (λ (x : Step). Moved s.here s.begun r t mid new between now (Ok x)) is_done moved in
+      let m = subst (λ (x : Step). StepMoved s.here s.begun r t mid new between now (Ok x)) is_done moved in
       let same = stays_there (done_at_end s.here s.begun r t mid new between now s.keeps m) in
       done_on relayed (records ∙ ap (λ (x : Relay). x.seen.records) same) (bytes ∙ ap (λ (x : Relay). x.passed) same) m
 
 -- the first bytes
-pub passed_none : (r : Relay) (old before : Option (List ℕ)) → StandsFor r [] → HasPassed r old old before before
+pub passed_none : (r : Relay) (old before : Option (List ℕ)) → StandsForBytes r [] → HasPassed r old old before before
 passed_none r old before s = record { bytes = []; stands = s; taken = left_alone old old (stays old); written = nothing before }
 
 -- it stands somewhere

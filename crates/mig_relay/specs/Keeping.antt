@@ -23,6 +23,10 @@ use Rattle.mig_relay.specs.Spots.{Outer, Alone, Behind, Spot, AtStart, AtLibxlHe
 use Rattle.mig_relay.specs.declared.state.Relay.{Relay}
 use Rattle.mig_relay.specs.declared.state.Coming.TheVariants as comes
 
+-- the words of the PAGE_DATA in hand
+abbrev pub words_in_hand : Relay → List ℕ
+words_in_hand r = r.words.items
+
 -- ---- in an image
 
 -- Behind an opening and records, of which none ends the image: how many they are, of which types, and the greatest frame

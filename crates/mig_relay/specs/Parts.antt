@@ -72,27 +72,27 @@ words_behind o records head n input = with_body o records head (do
 abbrev pub fault_of_list : Kind → ℕ → ℕ → ℕ → List ℕ → Option Cause
 fault_of_list kind top len n bytes = option_or (fault_of_words kind top (words n bytes)) (fault_of_data len (words n bytes))
 
-abbrev pub entry_of : ℕ → Option (List ℕ) → FrameEntry
-entry_of word page = record { pfn = word_pfn word; type = type_in_word word; page = page }
+abbrev pub entry_of_word : ℕ → Option (List ℕ) → FrameEntry
+entry_of_word word page = record { pfn = word_pfn word; type = type_in_word word; page = page }
 
 -- what is judged from there
-abbrev pub judge : Next → List ℕ → Judged (Place × Cause) ImageOf
-judge AtMarker input = open_image_at input
-judge AtVersion input = do
+abbrev pub judged_next : Next → List ℕ → Judged (Place × Cause) ImageOf
+judged_next AtMarker input = open_image_at input
+judged_next AtVersion input = do
   opening ← opening_behind input
   open_records opening.0 [] opening.1
-judge (AtKind version) input = do
+judged_next (AtKind version) input = do
   kind ← placed DomainHeader (kind_at input)
   open_records (opening_of version kind.0) [] kind.1
-judge (AtHead o records) input = open_records o records input
-judge (AtBody o records head) input = with_body o records head (body_at o.kind (before o records).top head.kind head.len input)
-judge (AtFront o records head) input = with_body o records head (pages_at o.kind (before o records).top head.len input)
-judge (AtWords o records head n) input = words_behind o records head n input
-judge (AtPages o records head coming stood) input = pages_behind o records head coming stood input
-judge (AtPadding o records head content) input = with_record o records (padded records head content input)
+judged_next (AtHead o records) input = open_records o records input
+judged_next (AtBody o records head) input = with_body o records head (body_at o.kind (before o records).top head.kind head.len input)
+judged_next (AtFront o records head) input = with_body o records head (pages_at o.kind (before o records).top head.len input)
+judged_next (AtWords o records head n) input = words_behind o records head n input
+judged_next (AtPages o records head coming stood) input = pages_behind o records head coming stood input
+judged_next (AtPadding o records head content) input = with_record o records (padded records head content input)
 
 -- What is judged begins with a part of so many bytes, more than none, at this place and with these causes; and then this
 -- follows.
-pub record IsPart {X : Type 0} (judged_here : List ℕ → Judged (Place × Cause) X) (place : Place) (size : ℕ) (fault : List ℕ → Option Cause) (follows : List ℕ → List ℕ → Judged (Place × Cause) X) : Type 0 where
+pub record BeginsWithPart {X : Type 0} (judged_here : List ℕ → Judged (Place × Cause) X) (place : Place) (size : ℕ) (fault : List ℕ → Option Cause) (follows : List ℕ → List ℕ → Judged (Place × Cause) X) : Type 0 where
   pub judged : (input : List ℕ) → judged_here input ≡ (placed place (said_at Truncated fault (λ b. b) size input) >>= λ b. follows b.0 b.1)
   pub some : 0 < size

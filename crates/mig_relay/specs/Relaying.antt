@@ -6,15 +6,15 @@ use Rattle.mig_libxl.specs.Stream.{StreamOf, stream_at}
 use Rattle.mig_passable.specs.Streams.{open_stream_at}
 use Rattle.mig_relay.specs.Keeping.{HasRecords}
 use Rattle.mig_relay.specs.Spots.{Spot, spot, held}
-use Rattle.mig_relay.specs.Standing.{StandsFor, IsRefusedBehind}
-use Rattle.mig_relay.specs.Steps.{IsCut}
+use Rattle.mig_relay.specs.Standing.{StandsForBytes, IsRefusedBehind}
+use Rattle.mig_relay.specs.Steps.{EndsInside}
 use Rattle.mig_relay.specs.declared.answer.RelayAnswer.{RelayAnswer}
 use Rattle.mig_relay.specs.declared.answer.RelayAnswer.TheVariants.{Refused}
 use Rattle.mig_relay.specs.declared.answer.Relayed.{Relayed}
 use Rattle.mig_relay.specs.declared.state.Relay.{Relay}
 
 -- a front of the input was taken and written, and it is passable, whatever follows it
-pub record IsWhole (old new : Option (List ℕ)) (before now : Option (List ℕ)) (relayed : Relayed) : Type 0 where
+pub record PassedWhole (old new : Option (List ℕ)) (before now : Option (List ℕ)) (relayed : Relayed) : Type 0 where
   pub front : List ℕ
   pub s : StreamOf
   pub passes : (more : List ℕ) → open_stream_at (front ++ more) ≡ Passes s more
@@ -36,7 +36,7 @@ abbrev pub NoneIsAccepted : List ℕ → Type 0
 NoneIsAccepted wrote = (front more : List ℕ) (s : StreamOf) → wrote ≡ front ++ more → stream_at front ≡ Passes s [] → ⊥
 
 -- some first bytes of what was taken were written
-pub record IsPart (old new : Option (List ℕ)) (before now : Option (List ℕ)) : Type 0 where
+pub record PassedPart (old new : Option (List ℕ)) (before now : Option (List ℕ)) : Type 0 where
   pub wrote : List ℕ
   pub others : List ℕ
   pub taken : Consumes old new (wrote ++ others)
@@ -46,13 +46,13 @@ pub record IsPart (old new : Option (List ℕ)) (before now : Option (List ℕ))
 
 -- and what was written ends inside a part, without a cause in it
 abbrev pub IsCutPart : Option (List ℕ) → Option (List ℕ) → Option (List ℕ) → Option (List ℕ) → Type 0
-IsCutPart old new before now = (p : IsPart old new before now) × IsCut (open_stream_at p.wrote)
+IsCutPart old new before now = (p : PassedPart old new before now) × EndsInside (open_stream_at p.wrote)
 
 -- A passable front was passed on, and nothing else was taken; or the input is refused, with all causes but those that are
 -- left out; or the source, the sink or memory failed.
 abbrev pub RelayedBy : Option (List ℕ) → Option (List ℕ) → Option (List ℕ) → Option (List ℕ) → Result Relayed RelayAnswer → Type 0
-RelayedBy old new before now (Ok relayed) = IsWhole old new before now relayed
-RelayedBy old new before now (Err (Refused place cause)) = IsRefusedBehind [] old new place cause × IsPart old new before now
+RelayedBy old new before now (Ok relayed) = PassedWhole old new before now relayed
+RelayedBy old new before now (Err (Refused place cause)) = IsRefusedBehind [] old new place cause × PassedPart old new before now
 RelayedBy old new before now (Err answer) = IsCutPart old new before now
 
 pub record IsRelayed (old new before now : Option (List ℕ)) (result : Result Relayed RelayAnswer) : Type 0 where
@@ -61,6 +61,6 @@ pub record IsRelayed (old new before now : Option (List ℕ)) (result : Result R
 -- a relay that has taken and written the bytes that it stands for
 pub record HasPassed (r : Relay) (old new before now : Option (List ℕ)) : Type 0 where
   pub bytes : List ℕ
-  pub stands : StandsFor r bytes
+  pub stands : StandsForBytes r bytes
   pub taken : Consumes old new bytes
   pub written : Appends before now bytes

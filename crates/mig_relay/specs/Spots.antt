@@ -16,7 +16,7 @@ use Rattle.mig_libxl.specs.Stream.StreamOf.{Bare}
 use Rattle.mig_passable.specs.Streams.{open_stream_at, open_wrapped, open_libxl_records, open_body}
 use Rattle.mig_records.specs.declared.head.RecordHead.{RecordHead}
 use Rattle.mig_restore.specs.Stream.{ImageOf}
-use Rattle.mig_relay.specs.Parts.{Next, AtWords, judge}
+use Rattle.mig_relay.specs.Parts.{Next, AtWords, judged_next}
 
 -- an image that stands alone, or behind these records of a libxl stream and a head of LIBXC_CONTEXT
 pub data Outer : Type 0 where
@@ -54,8 +54,8 @@ abbrev pub is_ident : List ℕ → Bool
 is_ident bytes = be64 bytes 0 == libxl_ident
 
 -- what is wrong with the first 8 bytes: where they aren't the ident, they are an image's marker
-abbrev pub fault_of_start : List ℕ → Option Cause
-fault_of_start bytes = if is_ident bytes then None else fault_of_marker bytes
+abbrev pub fault_of_first : List ℕ → Option Cause
+fault_of_first bytes = if is_ident bytes then None else fault_of_marker bytes
 
 -- what is judged from there
 abbrev pub spot : Spot → List ℕ → Judged (Place × Cause) StreamOf
@@ -66,7 +66,7 @@ spot (AtLibxlBody records head) input = do
   content ← placed (AtRecord (length records)) (open_body head.kind head.len input)
   libxl_padded records head content.0 content.1
 spot (AtLibxlPadding records head content) input = libxl_padded records head content input
-spot (InImage outer next) input = judge next input >>= carry outer
+spot (InImage outer next) input = judged_next next input >>= carry outer
 spot (AtEnd s) input = Passes s input
 
 -- how many bytes of the part that comes next may have been taken and not written: the words of a PAGE_DATA, or 4096

@@ -8,7 +8,7 @@ use Rattle.mig_libxl.specs.Stream.{StreamOf}
 use Rattle.mig_passable.specs.Streams.{open_stream_at, IsPassable}
 use Rattle.mig_relay.specs.Keeping.{Keeps, HasRecords}
 use Rattle.mig_relay.specs.Spots.{Spot, spot, held}
-use Rattle.mig_relay.specs.Steps.{IsStep, IsCut, IsUnfinished, WritesFront, is_judged_first}
+use Rattle.mig_relay.specs.Steps.{IsStep, EndsInside, IsUnfinished, WritesFront, is_judged_first}
 use Rattle.mig_relay.specs.declared.answer.RelayAnswer.{RelayAnswer}
 use Rattle.mig_relay.specs.declared.answer.RelayAnswer.TheVariants.{Refused, ReadFault, WriteFault, Memory}
 use Rattle.mig_relay.specs.declared.answer.Step.{Step}
@@ -19,7 +19,7 @@ use Rattle.mig_relay.specs.declared.state.Relay.{Relay}
 
 -- A relay stands for these bytes: whatever follows them, an input is judged as what comes next is judged from there on; and
 -- it has counted them.
-pub record StandsFor (r : Relay) (bytes : List ℕ) : Type 0 where
+pub record StandsForBytes (r : Relay) (bytes : List ℕ) : Type 0 where
   pub here : Spot
   pub begun : List ℕ
   pub keeps : Keeps r here begun
@@ -30,6 +30,9 @@ pub record StandsFor (r : Relay) (bytes : List ℕ) : Type 0 where
 abbrev pub is_past : Coming → Bool
 is_past comes.Over = true
 is_past _ = false
+
+abbrev pub is_over : Relay → Bool
+is_over r = is_past r.coming
 
 -- nothing is left to pass on: the next step answers Done
 abbrev pub is_at_end : Coming → Bool
@@ -42,7 +45,7 @@ pub record PassesOn (here : Spot) (bytes : List ℕ) (step : Step) (t : Relay) (
   pub some : 0 < length piece
   pub taken : Consumes old new piece
   pub written : Appends before now piece
-  pub stands : StandsFor t (bytes ++ piece)
+  pub stands : StandsForBytes t (bytes ++ piece)
   pub is : IsStep here piece t step
 
 -- the open refusal of these bytes and those that are left
@@ -55,8 +58,8 @@ abbrev pub WritesSomeBehind : Spot → List ℕ → Option (List ℕ) → Option
 WritesSomeBehind here bytes old new before now = (wrote : List ℕ) × WritesFront (held here) old new before now wrote × (is_judged_first here ≡ true → wrote ≡ []) × IsUnfinished (open_stream_at (bytes ++ wrote))
 
 -- it stopped in a part, before that was written whole
-abbrev pub StopsBehind : Spot → List ℕ → Option (List ℕ) → Option (List ℕ) → Option (List ℕ) → Option (List ℕ) → Type 0
-StopsBehind here bytes old new before now = (wrote : List ℕ) × WritesFront (held here) old new before now wrote × IsCut (open_stream_at (bytes ++ wrote))
+abbrev pub StopsInside : Spot → List ℕ → Option (List ℕ) → Option (List ℕ) → Option (List ℕ) → Option (List ℕ) → Type 0
+StopsInside here bytes old new before now = (wrote : List ℕ) × WritesFront (held here) old new before now wrote × EndsInside (open_stream_at (bytes ++ wrote))
 
 -- What a step does, for bytes that the relay stands for, and what comes next behind them. Done: they are passable. Another
 -- value: a piece more was passed on. An error: the bytes with those left are refused, or the source, the sink or memory
@@ -65,9 +68,9 @@ abbrev pub StepSays : Spot → List ℕ → Relay → Relay → Option (List ℕ
 StepSays here bytes r t old new before now (Ok Done) = (s : StreamOf) × IsPassable bytes s × Stays old new × Stays before now × HasRecords r.seen.records s
 StepSays here bytes r t old new before now (Ok step) = PassesOn here bytes step t old new before now
 StepSays here bytes r t old new before now (Err (Refused place cause)) = IsRefusedBehind bytes old new place cause × WritesSomeBehind here bytes old new before now
-StepSays here bytes r t old new before now (Err ReadFault) = StopsBehind here bytes old new before now
-StepSays here bytes r t old new before now (Err WriteFault) = StopsBehind here bytes old new before now
-StepSays here bytes r t old new before now (Err Memory) = StopsBehind here bytes old new before now
+StepSays here bytes r t old new before now (Err ReadFault) = StopsInside here bytes old new before now
+StepSays here bytes r t old new before now (Err WriteFault) = StopsInside here bytes old new before now
+StepSays here bytes r t old new before now (Err Memory) = StopsInside here bytes old new before now
 
 -- whether a step's answer leaves a relay that goes on
 abbrev pub goes_on : Result Step RelayAnswer → Bool

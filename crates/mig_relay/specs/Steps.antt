@@ -14,7 +14,7 @@ use Rattle.mig_headers.specs.declared.fault.Place.{Place}
 use Rattle.mig_libxl.specs.Stream.{StreamOf}
 use Rattle.mig_records.specs.Heads.{head_in}
 use Rattle.mig_records.specs.Words.{words as words_in}
-use Rattle.mig_relay.specs.Keeping.{Keeps, HasRecords}
+use Rattle.mig_relay.specs.Keeping.{Keeps, HasRecords, words_in_hand}
 use Rattle.mig_relay.specs.Parts.{AtMarker, AtVersion, AtKind, AtHead, AtBody, AtFront, AtWords, AtPages, AtPadding}
 use Rattle.mig_relay.specs.Spots.{Spot, AtStart, AtLibxlHeader, AtLibxlHead, AtLibxlBody, AtLibxlPadding, InImage, spot, held}
 use Rattle.mig_relay.specs.declared.answer.RelayAnswer.{RelayAnswer}
@@ -61,16 +61,16 @@ IsStep AtStart piece t (Marker wrapped) = wrapped ≡ (be64 piece 0 == libxl_ide
 IsStep (InImage outer AtMarker) piece t (Marker wrapped) = wrapped ≡ false
 IsStep (InImage outer AtVersion) piece t (Version version) = version ≡ be32 piece 4
 IsStep (InImage outer (AtKind version)) piece t (Kind kind) = kind ≡ kind_of_number (le32 piece 0)
-IsStep (InImage outer (AtHead o records)) piece t (Head wrapped head) = (wrapped ≡ false) × (head ≡ head_in piece) × (t.words.items ≡ [])
-IsStep (AtLibxlHead records) piece t (Head wrapped head) = (wrapped ≡ true) × (head ≡ head_in piece) × (t.words.items ≡ [])
-IsStep (InImage outer (AtWords o records head n)) piece t Words = t.words.items ≡ words_in n piece
+IsStep (InImage outer (AtHead o records)) piece t (Head wrapped head) = (wrapped ≡ false) × (head ≡ head_in piece) × (words_in_hand t ≡ [])
+IsStep (AtLibxlHead records) piece t (Head wrapped head) = (wrapped ≡ true) × (head ≡ head_in piece) × (words_in_hand t ≡ [])
+IsStep (InImage outer (AtWords o records head n)) piece t Words = words_in_hand t ≡ words_in n piece
 IsStep here piece t Piece = (is_piece here ≡ true) × (length piece ≤ 4096)
 IsStep here piece t step = ⊥
 
 -- ---- what it does, where this comes next and these first bytes of it were taken
 
 -- a piece was taken and written, and the relay has it behind it
-pub record GoesOn (here : Spot) (begun : List ℕ) (step : Step) (r t : Relay) (old new : Option (List ℕ)) (before now : Option (List ℕ)) : Type 0 where
+pub record PassedPiece (here : Spot) (begun : List ℕ) (step : Step) (r t : Relay) (old new : Option (List ℕ)) (before now : Option (List ℕ)) : Type 0 where
   pub piece : List ℕ
   pub next : Spot
   pub front : List ℕ
@@ -90,8 +90,8 @@ pub record WritesFront (most : ℕ) (old new : Option (List ℕ)) (before now : 
   pub written : Appends before now wrote
 
 -- of the bytes so far a part isn't whole, and no cause stands in them
-abbrev pub IsCut : Verdict (Place × Cause) StreamOf → Type 0
-IsCut judged = (place : Place) × (judged ≡ Faulty (place, Truncated) [])
+abbrev pub EndsInside : Verdict (Place × Cause) StreamOf → Type 0
+EndsInside judged = (place : Place) × (judged ≡ Faulty (place, Truncated) [])
 
 -- the bytes so far are no stream
 abbrev pub IsUnfinished : Verdict (Place × Cause) StreamOf → Type 0
@@ -114,15 +114,15 @@ Refuses here begun (Some left) new place cause = (rest : List ℕ) × (spot here
 
 -- the relay stopped in a part, before it was written whole
 abbrev pub Stops : Spot → List ℕ → Option (List ℕ) → Option (List ℕ) → Option (List ℕ) → Option (List ℕ) → Type 0
-Stops here begun old new before now = (wrote : List ℕ) × WritesFront (held here) old new before now wrote × IsCut (spot here (begun ++ wrote))
+Stops here begun old new before now = (wrote : List ℕ) × WritesFront (held here) old new before now wrote × EndsInside (spot here (begun ++ wrote))
 
 abbrev pub MovedBy : Spot → List ℕ → Relay → Relay → Option (List ℕ) → Option (List ℕ) → Option (List ℕ) → Option (List ℕ) → Result Step RelayAnswer → Type 0
 MovedBy here begun r t old new before now (Ok Done) = (s : StreamOf) × ((more : List ℕ) → spot here (begun ++ more) ≡ Passes s more) × Stays old new × Stays before now × HasRecords r.seen.records s
-MovedBy here begun r t old new before now (Ok step) = GoesOn here begun step r t old new before now
+MovedBy here begun r t old new before now (Ok step) = PassedPiece here begun step r t old new before now
 MovedBy here begun r t old new before now (Err (Refused place cause)) = Refuses here begun old new place cause × WritesSome here begun old new before now
 MovedBy here begun r t old new before now (Err ReadFault) = Stops here begun old new before now
 MovedBy here begun r t old new before now (Err WriteFault) = Stops here begun old new before now
 MovedBy here begun r t old new before now (Err Memory) = Stops here begun old new before now
 
-pub record Moved (here : Spot) (begun : List ℕ) (r t : Relay) (old new : Option (List ℕ)) (before now : Option (List ℕ)) (result : Result Step RelayAnswer) : Type 0 where
+pub record StepMoved (here : Spot) (begun : List ℕ) (r t : Relay) (old new : Option (List ℕ)) (before now : Option (List ℕ)) (result : Result Step RelayAnswer) : Type 0 where
   pub is : MovedBy here begun r t old new before now result

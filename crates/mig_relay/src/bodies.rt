@@ -8,7 +8,7 @@ ghost use Rattle.mig_pieces.specs.Bodies.{fault_of_record_body, fault_of_libxl_b
 ghost use Rattle.mig_relay.specs.Keeping.{KeepsBody, KeepsHead, KeepsOpen, KeepsOuter, KeepsFirst, IsBodied, IsOther, top_with, with_one};
 ghost use Rattle.mig_relay.specs.Parts.{AtBody, AtPadding, record_with};
 ghost use Rattle.mig_relay.specs.Spots.{Outer, AtLibxlBody, AtLibxlPadding, InImage};
-ghost use Rattle.mig_relay.specs.Steps.{Moved, RisesOnFault};
+ghost use Rattle.mig_relay.specs.Steps.{StepMoved, RisesOnFault};
 ghost use Rattle.mig_relay.specs.declared.state.Coming.TheVariants as comes;
 ghost use Rattle.mig_restore.specs.Judging.{Opening, before, most_records};
 ghost use Rattle.mig_restore.specs.Record.{StreamRecord, Content};
@@ -66,7 +66,7 @@ impl Relay {
         requires count { 0 < self.old.seen.records }
         ensures moved { (outer : Outer) (o : Opening) (records : List StreamRecord) (begun : List ℕ) → KeepsOuter self.old outer → KeepsHead self.old o records head (top_with head.kind begun (before o records).top) → IsOther o records head → KeepsFirst self.old head begun
             → KeepsBody self.old head (fault_of_record_body head.kind) begun
-            → Moved (InImage outer (AtBody o records head)) begun self.old self.new (S.left src.old) (S.left src.new) (K.written sink.old) (K.written sink.new) result }
+            → StepMoved (InImage outer (AtBody o records head)) begun self.old self.new (S.left src.old) (S.left src.new) (K.written sink.old) (K.written sink.new) result }
         ensures faults { RisesOnFault (S.faults src.old) (S.faults src.new) (K.faults sink.old) (K.faults sink.new) result }
     {
         let place = Place::Record(u64::from(self.seen.records - 1));
@@ -101,7 +101,7 @@ impl Relay {
         requires some { 0 < padding_len head.len }
         requires count { 0 < self.old.seen.records }
         ensures moved { (outer : Outer) (o : Opening) (records : List StreamRecord) (content : Content) → KeepsOuter self.old outer → KeepsHead self.old o records head (before o (records ++ record_with records head content ∷ [])).top → head.kind ≢ 0
-            → Moved (InImage outer (AtPadding o records head content)) [] self.old self.new (S.left src.old) (S.left src.new) (K.written sink.old) (K.written sink.new) result }
+            → StepMoved (InImage outer (AtPadding o records head content)) [] self.old self.new (S.left src.old) (S.left src.new) (K.written sink.old) (K.written sink.new) result }
         ensures faults { RisesOnFault (S.faults src.old) (S.faults src.new) (K.faults sink.old) (K.faults sink.new) result }
     {
         let mut bytes = [0; 8];
@@ -129,7 +129,7 @@ impl Relay {
         requires wrapper { IsSome self.old.wrapper }
         requires room { IfSome self.old.wrapper (λ behind. behind.records < most_records) }
         ensures moved { (records : List LibxlRecord) (begun : List ℕ) → KeepsOpen self.old records → IsBodied head → KeepsBody self.old head (fault_of_libxl_body head.kind) begun
-            → Moved (AtLibxlBody records head) begun self.old self.new (S.left src.old) (S.left src.new) (K.written sink.old) (K.written sink.new) result }
+            → StepMoved (AtLibxlBody records head) begun self.old self.new (S.left src.old) (S.left src.new) (K.written sink.old) (K.written sink.new) result }
         ensures faults { RisesOnFault (S.faults src.old) (S.faults src.new) (K.faults sink.old) (K.faults sink.new) result }
     {
         let Some(behind) = self.wrapper else {
@@ -180,7 +180,7 @@ impl Relay {
         requires wrapper { IsSome self.old.wrapper }
         requires room { IfSome self.old.wrapper (λ behind. behind.records < most_records) }
         ensures moved { (records : List LibxlRecord) (content : LibxlContent) → KeepsOpen self.old records → IsBodied head → image_in content ≡ None
-            → Moved (AtLibxlPadding records head content) [] self.old self.new (S.left src.old) (S.left src.new) (K.written sink.old) (K.written sink.new) result }
+            → StepMoved (AtLibxlPadding records head content) [] self.old self.new (S.left src.old) (S.left src.new) (K.written sink.old) (K.written sink.new) result }
         ensures faults { RisesOnFault (S.faults src.old) (S.faults src.new) (K.faults sink.old) (K.faults sink.new) result }
     {
         let Some(behind) = self.wrapper else {

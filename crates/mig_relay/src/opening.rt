@@ -1,8 +1,8 @@
 ghost use Rattle.std.specs.Prelude.{◌≡◌, [], List, ℕ, None};
 ghost use Rattle.mig_relay.specs.Keeping.{KeepsOuter, KeepsWrapper};
 ghost use Rattle.mig_relay.specs.Parts.{AtMarker, AtVersion, AtKind};
-ghost use Rattle.mig_relay.specs.Spots.{Outer, AtStart, AtLibxlHeader, InImage, fault_of_start};
-ghost use Rattle.mig_relay.specs.Steps.{Moved, RisesOnFault};
+ghost use Rattle.mig_relay.specs.Spots.{Outer, AtStart, AtLibxlHeader, InImage, fault_of_first};
+ghost use Rattle.mig_relay.specs.Steps.{StepMoved, RisesOnFault};
 
 use crate::answer::{RelayAnswer, Step};
 use crate::state::{Coming, Relay, answer};
@@ -20,7 +20,7 @@ const NONE_BEHIND: RecordsBehind = RecordsBehind {
 
 /// What is wrong with the first 8 bytes of a stream: where they aren't the ident of a libxl stream, they are a marker.
 fn start_fault(bytes: &[u8; 8]) -> Option<Cause>
-    ensures { result ≡ fault_of_start bytes.now }
+    ensures { result ≡ fault_of_first bytes.now }
 {
     if LibxlHeader::is_ident(bytes) {
         None
@@ -37,7 +37,7 @@ impl Relay {
         sink: &mut K,
     ) -> Result<Step, RelayAnswer>
         requires { self.old.wrapper ≡ None }
-        ensures moved { Moved AtStart [] self.old self.new (S.left src.old) (S.left src.new) (K.written sink.old) (K.written sink.new) result }
+        ensures moved { StepMoved AtStart [] self.old self.new (S.left src.old) (S.left src.new) (K.written sink.old) (K.written sink.new) result }
         ensures faults { RisesOnFault (S.faults src.old) (S.faults src.new) (K.faults sink.old) (K.faults sink.new) result }
     {
         let mut bytes = [0; 8];
@@ -67,7 +67,7 @@ impl Relay {
         sink: &mut K,
     ) -> Result<Step, RelayAnswer>
         requires { KeepsWrapper self.old [] }
-        ensures moved { Moved AtLibxlHeader [] self.old self.new (S.left src.old) (S.left src.new) (K.written sink.old) (K.written sink.new) result }
+        ensures moved { StepMoved AtLibxlHeader [] self.old self.new (S.left src.old) (S.left src.new) (K.written sink.old) (K.written sink.new) result }
         ensures faults { RisesOnFault (S.faults src.old) (S.faults src.new) (K.faults sink.old) (K.faults sink.new) result }
     {
         let mut bytes = [0; 8];
@@ -92,7 +92,7 @@ impl Relay {
         src: &mut S,
         sink: &mut K,
     ) -> Result<Step, RelayAnswer>
-        ensures moved { (outer : Outer) → KeepsOuter self.old outer → Moved (InImage outer AtMarker) [] self.old self.new (S.left src.old) (S.left src.new) (K.written sink.old) (K.written sink.new) result }
+        ensures moved { (outer : Outer) → KeepsOuter self.old outer → StepMoved (InImage outer AtMarker) [] self.old self.new (S.left src.old) (S.left src.new) (K.written sink.old) (K.written sink.new) result }
         ensures faults { RisesOnFault (S.faults src.old) (S.faults src.new) (K.faults sink.old) (K.faults sink.new) result }
     {
         let mut bytes = [0; 8];
@@ -115,7 +115,7 @@ impl Relay {
         src: &mut S,
         sink: &mut K,
     ) -> Result<Step, RelayAnswer>
-        ensures moved { (outer : Outer) → KeepsOuter self.old outer → Moved (InImage outer AtVersion) [] self.old self.new (S.left src.old) (S.left src.new) (K.written sink.old) (K.written sink.new) result }
+        ensures moved { (outer : Outer) → KeepsOuter self.old outer → StepMoved (InImage outer AtVersion) [] self.old self.new (S.left src.old) (S.left src.new) (K.written sink.old) (K.written sink.new) result }
         ensures faults { RisesOnFault (S.faults src.old) (S.faults src.new) (K.faults sink.old) (K.faults sink.new) result }
     {
         let mut bytes = [0; 16];
@@ -141,7 +141,7 @@ impl Relay {
         sink: &mut K,
         version: u32,
     ) -> Result<Step, RelayAnswer>
-        ensures moved { (outer : Outer) → KeepsOuter self.old outer → Moved (InImage outer (AtKind version)) [] self.old self.new (S.left src.old) (S.left src.new) (K.written sink.old) (K.written sink.new) result }
+        ensures moved { (outer : Outer) → KeepsOuter self.old outer → StepMoved (InImage outer (AtKind version)) [] self.old self.new (S.left src.old) (S.left src.new) (K.written sink.old) (K.written sink.new) result }
         ensures faults { RisesOnFault (S.faults src.old) (S.faults src.new) (K.faults sink.old) (K.faults sink.new) result }
     {
         let mut bytes = [0; 16];

@@ -7,7 +7,7 @@ ghost use Rattle.mig_records.specs.Faults.{fault_of_words};
 ghost use Rattle.mig_relay.specs.Keeping.{KeepsHead, KeepsOuter, KeepsWords, IsPages};
 ghost use Rattle.mig_relay.specs.Parts.{AtFront, AtWords, AtPages};
 ghost use Rattle.mig_relay.specs.Spots.{Outer, InImage};
-ghost use Rattle.mig_relay.specs.Steps.{Moved, RisesOnFault};
+ghost use Rattle.mig_relay.specs.Steps.{StepMoved, RisesOnFault};
 ghost use Rattle.mig_relay.specs.declared.state.Coming.TheVariants as comes;
 ghost use Rattle.mig_restore.specs.Judging.{Opening, before, fault_of_data};
 ghost use Rattle.mig_restore.specs.Record.{StreamRecord, FrameEntry};
@@ -58,7 +58,7 @@ impl Relay {
     ) -> Result<Step, RelayAnswer>
         requires count { 0 < self.old.seen.records }
         ensures moved { (outer : Outer) (o : Opening) (records : List StreamRecord) → KeepsOuter self.old outer → KeepsHead self.old o records head (before o records).top → IsPages head
-            → Moved (InImage outer (AtFront o records head)) [] self.old self.new (S.left src.old) (S.left src.new) (K.written sink.old) (K.written sink.new) result }
+            → StepMoved (InImage outer (AtFront o records head)) [] self.old self.new (S.left src.old) (S.left src.new) (K.written sink.old) (K.written sink.new) result }
         ensures faults { RisesOnFault (S.faults src.old) (S.faults src.new) (K.faults sink.old) (K.faults sink.new) result }
     {
         let place = Place::Record(u64::from(self.seen.records - 1));
@@ -107,7 +107,7 @@ impl Relay {
         requires some { 0 < count }
         requires within { 8 + 8 * count ≤ head.len }
         ensures moved { (outer : Outer) (o : Opening) (records : List StreamRecord) → KeepsOuter self.old outer → KeepsHead self.old o records head (before o records).top → IsPages head
-            → Moved (InImage outer (AtWords o records head count)) [] self.old self.new (S.left src.old) (S.left src.new) (K.written sink.old) (K.written sink.new) result }
+            → StepMoved (InImage outer (AtWords o records head count)) [] self.old self.new (S.left src.old) (S.left src.new) (K.written sink.old) (K.written sink.new) result }
         ensures faults { RisesOnFault (S.faults src.old) (S.faults src.new) (K.faults sink.old) (K.faults sink.new) result }
     {
         let place = Place::Record(u64::from(self.seen.records - 1));
@@ -141,7 +141,7 @@ impl Relay {
         requires some { self.old.page < length self.old.words.items }
         requires few { length self.old.words.items ≤ 2 ^ 24 }
         ensures moved { (outer : Outer) (o : Opening) (records : List StreamRecord) (coming : List (ℕ × ℕ)) (stood : List FrameEntry) → KeepsOuter self.old outer → KeepsHead self.old o records head (before o records).top → IsPages head → padding_len head.len ≡ 0 → KeepsWords self.old coming
-            → Moved (InImage outer (AtPages o records head coming stood)) [] self.old self.new (S.left src.old) (S.left src.new) (K.written sink.old) (K.written sink.new) result }
+            → StepMoved (InImage outer (AtPages o records head coming stood)) [] self.old self.new (S.left src.old) (S.left src.new) (K.written sink.old) (K.written sink.new) result }
         ensures faults { RisesOnFault (S.faults src.old) (S.faults src.new) (K.faults sink.old) (K.faults sink.new) result }
     {
         let place = Place::Record(u64::from(self.seen.records - 1));

@@ -3,10 +3,10 @@ ghost use Rattle.mig_bytes.specs.Bytes.{Puts};
 ghost use Rattle.mig_bytes.specs.Faults.{HasCause};
 ghost use Rattle.mig_libxl.specs.Stream.{StreamOf};
 ghost use Rattle.mig_passable.specs.Streams.{IsPassable};
-ghost use Rattle.mig_relay.specs.Keeping.{Keeps, Stands};
+ghost use Rattle.mig_relay.specs.Keeping.{Keeps, Stands, words_in_hand};
 ghost use Rattle.mig_relay.specs.Spots.{Spot, AtStart};
-ghost use Rattle.mig_relay.specs.Standing.{StandsFor, StepSays, is_past, is_at_end, goes_on};
-ghost use Rattle.mig_relay.specs.Steps.{Moved, RisesOnFault, answer_of, counted};
+ghost use Rattle.mig_relay.specs.Standing.{StandsForBytes, StepSays, is_over, is_at_end, goes_on};
+ghost use Rattle.mig_relay.specs.Steps.{StepMoved, RisesOnFault, answer_of, counted};
 ghost use Rattle.mig_relay.specs.declared.answer.Step.TheVariants.{Done};
 
 use crate::answer::{RelayAnswer, Relayed, Step};
@@ -81,9 +81,9 @@ impl Relay {
     /// Nothing was taken yet. No memory is taken.
     pub fn new(alloc: Global) -> Relay
         ensures keeps { Keeps result AtStart [] }
-        ensures empty { StandsFor result [] }
+        ensures empty { StandsForBytes result [] }
         ensures stands { Stands result }
-        ensures words { result.words.items ≡ [] }
+        ensures words { words_in_hand result ≡ [] }
     {
         Relay {
             alloc,
@@ -100,14 +100,15 @@ impl Relay {
 
     /// Whether a step has answered Done or an error.
     pub fn is_over(&self) -> bool
-        ensures { result ≡ is_past self.now.coming }
+        ensures over { result ≡ is_over self.now }
+        ensures stands { Stands self.now → result ≡ false }
     {
         self.coming == Coming::Over
     }
 
     /// The words of the PAGE_DATA in hand, from the step that answers Words to the next Head.
     pub fn words(&self) -> &[u64]
-        ensures { result.now ≡ self.now.words.items }
+        ensures { result.now ≡ words_in_hand self.now }
     {
         self.words.as_slice()
     }
@@ -115,7 +116,7 @@ impl Relay {
     /// How many bytes the relay holds, at most: 8 for each word in hand, and 512 of its own. While a step runs, it also
     /// holds the piece that it passes on.
     pub fn kept(&self) -> u64
-        ensures { result ≡ min (8 * length self.now.words.items + 512) (2 ^ 64 - 1) }
+        ensures { result ≡ min (8 * length (words_in_hand self.now) + 512) (2 ^ 64 - 1) }
     {
         let words = (self.words.len() as u64).saturating_mul(8);
         words.saturating_add(OWN)
@@ -157,7 +158,7 @@ impl Relay {
         sink: &mut K,
     ) -> Result<Step, RelayAnswer>
         requires { Stands self.old }
-        ensures moved { (here : Spot) (begun : List ℕ) → Keeps self.old here begun → Moved here begun self.old self.new (S.left src.old) (S.left src.new) (K.written sink.old) (K.written sink.new) result }
+        ensures moved { (here : Spot) (begun : List ℕ) → Keeps self.old here begun → StepMoved here begun self.old self.new (S.left src.old) (S.left src.new) (K.written sink.old) (K.written sink.new) result }
         ensures stands { OnOk result (Stands self.new) }
         ensures over { is_at_end self.old.coming ≡ true → result ≡ Ok Done }
         ensures stays { is_at_end self.old.coming ≡ true → self.new ≡ self.old }
@@ -196,10 +197,10 @@ impl Relay {
 
         // Of each list of bytes that the relay stands for: a piece was taken and written, and the relay stands for the
         // list with it at its end; or the list is passable; or the list and the bytes left are refused; or it stopped.
-        ensures says { (bytes : List ℕ) (stands : StandsFor self.old bytes) → StepSays stands.here bytes self.old self.new (S.left src.old) (S.left src.new) (K.written sink.old) (K.written sink.new) result }
-        ensures done { (bytes : List ℕ) (s : StreamOf) → StandsFor self.old bytes → IsPassable bytes s → result ≡ Ok Done }
+        ensures says { (bytes : List ℕ) (stands : StandsForBytes self.old bytes) → StepSays stands.here bytes self.old self.new (S.left src.old) (S.left src.new) (K.written sink.old) (K.written sink.new) result }
+        ensures done { (bytes : List ℕ) (s : StreamOf) → StandsForBytes self.old bytes → IsPassable bytes s → result ≡ Ok Done }
         ensures stands { goes_on result ≡ true → Stands self.new }
-        ensures over { goes_on result ≡ false → is_past self.new.coming ≡ true }
+        ensures over { goes_on result ≡ false → is_over self.new ≡ true }
         ensures faults { RisesOnFault (S.faults src.old) (S.faults src.new) (K.faults sink.old) (K.faults sink.new) result }
     {
         match self.pass_part(src, sink) {

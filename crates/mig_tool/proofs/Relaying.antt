@@ -9,7 +9,7 @@ use Rattle.mig_headers.specs.declared.fault.Cause.{Cause}
 use Rattle.mig_headers.specs.declared.fault.Place.{Place}
 use Rattle.std.specs.Prelude.{◌≤◌}
 use Rattle.mig_passable.specs.Streams.{open_stream_at, IsOpenRefused}
-use Rattle.mig_relay.specs.Relaying.{IsWhole, IsPart, IsRelayed, RelayedBy}
+use Rattle.mig_relay.specs.Relaying.{PassedWhole, PassedPart, IsRelayed, RelayedBy}
 use Rattle.mig_relay.specs.Steps.{RisesOnFault}
 use Rattle.mig_relay.specs.declared.answer.RelayAnswer.{RelayAnswer}
 use Rattle.mig_relay.specs.declared.answer.RelayAnswer.TheVariants as answers
@@ -33,7 +33,7 @@ pub record Front (input : List ℕ) (left : Option (List ℕ)) : Type 0 where
   pub front : PassableFront input rest
   pub left_is : left ≡ Some rest
 
-front_of : (input : List ℕ) (left old new : Option (List ℕ)) (relayed : Relayed) → IsWhole (Some input) left old new relayed → Front input left
+front_of : (input : List ℕ) (left old new : Option (List ℕ)) (relayed : Relayed) → PassedWhole (Some input) left old new relayed → Front input left
 front_of input left old new relayed w = by left w.taken
   where
     by : (l : Option (List ℕ)) → Consumes (Some input) l w.front → Front input l
@@ -43,7 +43,7 @@ front_of input left old new relayed w = by left w.taken
 pub passed_front : (input : List ℕ) (left old new : Option (List ℕ)) (summary : RelaySummary) → PassedOn (Some input) left old new summary → Front input left
 passed_front input left old new summary w = front_of input left old new (counts_of summary) w
 
-relayed_front : (Reported : List ℕ → Type 0) (input : List ℕ) (left old new : Option (List ℕ)) (relayed : Relayed) → IsWhole (Some input) left old new relayed → Reported (relayed_line (summary_of_relay relayed)) → FrontRelayed Reported input left old new
+relayed_front : (Reported : List ℕ → Type 0) (input : List ℕ) (left old new : Option (List ℕ)) (relayed : Relayed) → PassedWhole (Some input) left old new relayed → Reported (relayed_line (summary_of_relay relayed)) → FrontRelayed Reported input left old new
 relayed_front Reported input left old new relayed w reported =
     let f = front_of input left old new relayed w in
     record { rest = f.rest; front = f.front; left_is = f.left_is; summary = summary_of_relay relayed; passed = w; reported = reported }
@@ -62,7 +62,7 @@ passed_relayed told left old new relayed status r (inr is) = subst (λ s. SaysRe
 -- ---- what wasn't
 
 -- what was written then
-pub part_of : (told left old new : Option (List ℕ)) (answer : RelayAnswer) → IsRelayed told left old new (Err answer) → IsPart told left old new
+pub part_of : (told left old new : Option (List ℕ)) (answer : RelayAnswer) → IsRelayed told left old new (Err answer) → PassedPart told left old new
 part_of told left old new (answers.Refused place cause) r = r.is.1
 part_of told left old new answers.ReadFault r = r.is.0
 part_of told left old new answers.WriteFault r = r.is.0

@@ -41,7 +41,7 @@ use Rattle.mig_tool.specs.Addresses.{AddressReported, HasUnsoundHost, HostHasFra
 use Rattle.mig_tool.specs.Exercises.{ExerciseReported}
 use Rattle.mig_passable.specs.Streams.{IsOpenRefused}
 use Rattle.mig_tool.specs.Relays.{FrontRelayed, OutputStopped, PassableFront, ReportStopped}
-use Rattle.mig_relay.specs.Relaying.{IsPart}
+use Rattle.mig_relay.specs.Relaying.{PassedPart}
 use Rattle.mig_tool.specs.LiveSaves.{HasHostAndScript, HasBadLine, HasLongScript, HasUnsoundPause, WroteLive, saved_host_at}
 
 -- ---- the forms of input
@@ -210,7 +210,7 @@ DonePart Verify input left w = Verified (AppendsPart w.report_old w.report_new) 
 DonePart (Exercise seed n) input left w = ExerciseReported (AppendsPart w.report_old w.report_new) seed n
 DonePart (Walk id at) input left w = AddressReported (FrameInStream id at input left) (AppendsPart w.report_old w.report_new)
 DonePart (WalkImage id at) input left w = AddressReported (FrameInHost id at input left) (AppendsPart w.report_old w.report_new)
-DonePart Relay input left w = IsPart (Some input) left w.out_old w.out_new ⊎ FrontRelayed (AppendsPart w.report_old w.report_new) input left w.out_old w.out_new
+DonePart Relay input left w = PassedPart (Some input) left w.out_old w.out_new ⊎ FrontRelayed (AppendsPart w.report_old w.report_new) input left w.out_old w.out_new
 DonePart Save input left w = LiveBroken input left w.out_old w.out_new ⊎ LiveSaved (AppendsPart w.report_old w.report_new) input left w.out_old w.out_new
 
 abbrev pub Says : Command → List ℕ → Option (List ℕ) → Written → Status → Type 0

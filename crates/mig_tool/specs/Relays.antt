@@ -6,7 +6,7 @@ use Rattle.mig_bytes.specs.Faults.{Rose}
 use Rattle.mig_bytes.specs.Judged.Judged.{Passes}
 use Rattle.mig_libxl.specs.Stream.{StreamOf}
 use Rattle.mig_passable.specs.Streams.{open_stream_at}
-use Rattle.mig_relay.specs.Relaying.{IsWhole, IsPart}
+use Rattle.mig_relay.specs.Relaying.{PassedWhole, PassedPart}
 use Rattle.mig_relay.specs.declared.answer.Relayed.{Relayed}
 use Rattle.mig_report.specs.Report.{Reports, relayed_line, write_fault_line}
 use Rattle.mig_report.specs.declared.outcome.RelaySummary.{RelaySummary}
@@ -25,7 +25,7 @@ counts_of summary = record { records = summary.records; bytes = summary.bytes }
 -- A front of the input may pass, and just this front was taken and written. So many records has its image, and so many bytes
 -- has it.
 abbrev pub PassedOn : Option (List ℕ) → Option (List ℕ) → Option (List ℕ) → Option (List ℕ) → RelaySummary → Type 0
-PassedOn told left old new summary = IsWhole told left old new (counts_of summary)
+PassedOn told left old new summary = PassedWhole told left old new (counts_of summary)
 
 -- the same, and rest follows the front in the input; its line was reported
 pub record FrontRelayed (Reported : List ℕ → Type 0) (input : List ℕ) (left old new : Option (List ℕ)) : Type 0 where
@@ -40,13 +40,13 @@ pub record FrontRelayed (Reported : List ℕ → Type 0) (input : List ℕ) (lef
 -- with every other status but 4 no front of it is an accepted stream.
 abbrev pub SaysRelayed : Status → Option (List ℕ) → Option (List ℕ) → Option (List ℕ) → Option (List ℕ) → Type 0
 SaysRelayed statuses.Done told left old new = (summary : RelaySummary) × PassedOn told left old new summary
-SaysRelayed statuses.WriteFault told left old new = IsPart told left old new ⊎ ((summary : RelaySummary) × PassedOn told left old new summary)
-SaysRelayed _ told left old new = IsPart told left old new
+SaysRelayed statuses.WriteFault told left old new = PassedPart told left old new ⊎ ((summary : RelaySummary) × PassedOn told left old new summary)
+SaysRelayed _ told left old new = PassedPart told left old new
 
 -- a write of the output failed, no front of what was written is an accepted stream, and the report got the line of that
 pub record OutputStopped (told left old new report_old report_new : Option (List ℕ)) (out out_now report report_now : ℕ) : Type 0 where
   pub rose : Rose out out_now
-  pub part : IsPart told left old new
+  pub part : PassedPart told left old new
   pub line : Reports write_fault_line report_old report_new report report_now
 
 -- all was passed on, and of its line a part was reported, since a write of the report failed

@@ -1,6 +1,6 @@
 use Rattle.std.proofs.Common.{arith}
 use Rattle.mig_pieces.proofs.FirstPieces.{at_form, info_first, frames_first, basic_first, other_first, pairs_first, context_first}
-use Rattle.mig_pieces.specs.declared.known.Form.TheVariants.{PvInfo, P2mFrames, BasicVcpu, OtherVcpu, HvmParams, EmulatorPairs, EmulatorContext}
+use Rattle.mig_pieces.specs.declared.known.BodyForm.TheVariants.{PvInfo, P2mFrames, BasicVcpu, OtherVcpu, HvmParams, EmulatorPairs, EmulatorContext}
 use Rattle.mig_pieces.proofs.front.behind_first.Goals as goal
 
 pub returns-in-PvInfo : goal.returns-in-PvInfo

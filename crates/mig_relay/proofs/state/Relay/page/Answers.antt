@@ -3,7 +3,7 @@ use Rattle.std.proofs.lemmas.List.{get_or_read}
 use Rattle.mig_headers.specs.declared.fault.Place.TheVariants.{Record}
 use Rattle.mig_restore.specs.Judging.{before, type_in_word}
 use Rattle.mig_restore.specs.Mean.{meant_type}
-use Rattle.mig_relay.specs.Parts.{AtPages, entry_of}
+use Rattle.mig_relay.specs.Parts.{AtPages, entry_of_word}
 use Rattle.mig_relay.specs.Spots.{InImage, spot}
 use Rattle.mig_relay.specs.Steps.{answer_of}
 use Rattle.mig_relay.specs.declared.answer.RelayAnswer.TheVariants.{Refused}
@@ -46,7 +46,7 @@ returns-clause-moved g c outer o records coming stood around kept pages padding 
     let held : Relay = c.put.new.self in
     let stays : IsKept r held = record { wrapper = ap (λ (x : Relay). x.wrapper) put; seen = ap (λ (x : Relay). x.seen) put; top = ap (λ (x : Relay). x.top) put } in
     let few : length held.words.items ≤ 2 ^ 24 = omega (arith, ap (λ (x : Relay). length x.words.items) put, words.few) in
-    let behind = stood ++ entry_of (next_word r) (Some buf) ∷ [] in
+    let behind = stood ++ entry_of_word (next_word r) (Some buf) ∷ [] in
     let e = c.turn_to.ensures in
     let t = turned held c.turn_to.new.self c.args.head e.within.1 e.page e.over outer o records (held.page + 1) behind e.within.0 e.data e.none few (outer_stays _ held outer stays around) (records_stay _ held o records _ _ stays kept) pages padding in
     record {
