@@ -16,7 +16,7 @@ use Rattle.mig_libxl.specs.Stream.{StreamOf}
 use Rattle.mig_relay.specs.Keeping.{Keeps}
 use Rattle.mig_relay.specs.Parts.{BeginsWithPart}
 use Rattle.mig_relay.specs.Spots.{Spot, spot, held}
-use Rattle.mig_relay.specs.Steps.{is_judged_first, counted, PassedPiece, IsStep, IsUnfinished, Refuses, Stops, StepMoved, MovedBy, answer_of}
+use Rattle.mig_relay.specs.Steps.{is_judged_first, counted, FrontsAreCut, PassedPiece, IsStep, IsUnfinished, Refuses, Stops, StepMoved, MovedBy, answer_of}
 use Rattle.mig_relay.specs.declared.answer.RelayAnswer.{RelayAnswer}
 use Rattle.mig_relay.specs.declared.answer.RelayAnswer.TheVariants.{Refused, WriteFault, Memory}
 use Rattle.mig_relay.specs.declared.answer.Step.{Step}
@@ -64,10 +64,14 @@ module _ (here : Spot) (place : Place) (size : ℕ) (fault : List ℕ → Option
       ∙ ap (λ (g : Option Cause). placed place (tried g rest >>= λ _. Passes bytes rest) >>= λ b. follows b.0 b.1) fine
 
   module _ (begun : List ℕ) (r t : Relay) (old new before now : Option (List ℕ)) where
+    -- fewer bytes than so many of the part
+    fronts_cut : (bytes : List ℕ) → length begun + length bytes ≤ size → FrontsAreCut here begun bytes
+    fronts_cut bytes room front more split some = (place, cut (begun ++ front) (omega (arith, length-append begun front, ap length split, length-append front more, some, room)))
+
     -- nothing more was written
     stops_here : (m : ℕ) → m ≤ held here → length begun < size → TakesFew m old new → Appends before now [] → Stops here begun old new before now
     stops_here m small less gone written =
-        ([], record { others = gone.taken; few = omega (arith, gone.few, small); taken = gone.gone; written = written }, (place, cut (begun ++ []) (omega (arith, length-append begun [], less))))
+        ([], record { others = gone.taken; few = omega (arith, gone.few, small); taken = gone.gone; written = written }, (place, cut (begun ++ []) (omega (arith, length-append begun [], less))), fronts_cut [] (omega (arith, less)))
 
     truncated : (buf : List ℕ) (c : Cause) (o : Option (List ℕ)) → length begun + length buf ≤ size → Gives (Buffered buf) o new (part Truncated (length buf)) (Err (stops.Refused c)) → Refuses here begun o new place c
     truncated buf c None rest_of h = tt
@@ -94,6 +98,7 @@ module _ (here : Spot) (place : Place) (size : ℕ) (fault : List ℕ → Option
             record { others = gone.taken; few = omega (arith, gone.few, small); taken = gone.gone; written = written },
             λ _. refl,
             ((place, Truncated), [], cut (begun ++ []) (omega (arith, length-append begun [], less))),
+            fronts_cut [] (omega (arith, less)),
           ),
         )
         by stops.ReadFault h = stops_here (length buf) small less gone written
@@ -105,17 +110,17 @@ module _ (here : Spot) (place : Place) (size : ℕ) (fault : List ℕ → Option
         (rest, ap (λ l. spot here (begun ++ l)) ((part_passes Truncated (length buf) left bytes rest passed).0 ∙ ap (λ l. l ++ rest) same) ∙ ap (spot here) (sym (append_assoc begun buf rest)) ∙ faulty (begun ++ buf) rest c whole stands, left_now)
 
     -- a cause stands in the whole part, of which some first bytes were written
-    pub refused : (buf wrote others : List ℕ) (u : Unit {0}) (c : Cause) (answer : RelayAnswer) → answer ≡ Refused place c → length (begun ++ buf) ≡ size → fault (begun ++ buf) ≡ Some c → Gives (Buffered buf) old new (part Truncated (length buf)) (Ok u) → buf ≡ wrote ++ others → length others ≤ held here → Appends before now wrote
+    pub refused : (buf wrote others : List ℕ) (u : Unit {0}) (c : Cause) (answer : RelayAnswer) → answer ≡ Refused place c → length (begun ++ buf) ≡ size → fault (begun ++ buf) ≡ Some c → Gives (Buffered buf) old new (part Truncated (length buf)) (Ok u) → buf ≡ wrote ++ others → length buf ≤ held here → Appends before now wrote
         → (is_judged_first here ≡ true → wrote ≡ []) → IsUnfinished (spot here (begun ++ wrote)) → StepMoved here begun r t old new before now (Err answer)
-    refused buf wrote others u c answer is_answer whole stands h split few written first unfinished =
+    refused buf wrote others u c answer is_answer whole stands h split small written first unfinished =
         subst (λ (a : RelayAnswer). StepMoved here begun r t old new before now (Err a)) (sym is_answer)
-        (record { is = (refuses buf u c old whole stands h, (wrote, record { others = others; few = few; taken = subst (Consumes old new) split (consumed (length buf) buf u old new h); written = written }, first, unfinished)) })
+        (record { is = (refuses buf u c old whole stands h, (wrote, record { others = others; few = omega (arith, small, ap length split, length-append wrote others); taken = subst (Consumes old new) split (consumed (length buf) buf u old new h); written = written }, first, unfinished, fronts_cut wrote (omega (arith, whole, length-append begun buf, ap length split, length-append wrote others)))) })
 
     -- the last piece of a body was written, and a cause stands in the whole body
-    pub refused_behind : (buf : List ℕ) (u : Unit {0}) (c : Cause) (answer : RelayAnswer) → answer ≡ Refused place c → length (begun ++ buf) ≡ size → fault (begun ++ buf) ≡ Some c → Gives (Buffered buf) old new (part Truncated (length buf)) (Ok u) → Appends before now buf → is_judged_first here ≡ false
+    pub refused_behind : (buf : List ℕ) (u : Unit {0}) (c : Cause) (answer : RelayAnswer) → answer ≡ Refused place c → length (begun ++ buf) ≡ size → fault (begun ++ buf) ≡ Some c → Gives (Buffered buf) old new (part Truncated (length buf)) (Ok u) → length buf ≤ held here → Appends before now buf → is_judged_first here ≡ false
         → StepMoved here begun r t old new before now (Err answer)
-    refused_behind buf u c answer is_answer whole stands h written last =
-        refused buf buf [] u c answer is_answer whole stands h (sym (append-nil buf)) (omega arith) written (λ first. absurd (apart (sym first ∙ last)))
+    refused_behind buf u c answer is_answer whole stands h small written last =
+        refused buf buf [] u c answer is_answer whole stands h (sym (append-nil buf)) small written (λ first. absurd (apart (sym first ∙ last)))
         ((place, c), [], ap (spot here) (sym (append-nil (begun ++ buf))) ∙ faulty (begun ++ buf) [] c whole stands)
       where
         apart : true ≡ false → ⊥
@@ -127,16 +132,17 @@ module _ (here : Spot) (place : Place) (size : ℕ) (fault : List ℕ → Option
         record {
           is = (
             take k buf,
-            record { others = drop k buf; few = omega (arith, length-drop k buf, small); taken = subst (Consumes old new) (sym (take-append-drop k buf)) (consumed (length buf) buf u old new h); written = written },
+            record { others = drop k buf; few = omega (arith, length-drop k buf, length-take-le k buf (omega (arith, less)), less, small); taken = subst (Consumes old new) (sym (take-append-drop k buf)) (consumed (length buf) buf u old new h); written = written },
             (place, cut (begun ++ take k buf) (omega (arith, length-append begun (take k buf), room, less, length-take-le k buf (omega (arith, less))))),
+            fronts_cut (take k buf) (omega (arith, room, less, length-take-le k buf (omega (arith, less)))),
           );
         }
 
     -- a piece of the part, or the rest of it
-    pub goes_on : (buf : List ℕ) (u : Unit {0}) (next : Spot) (front : List ℕ) (step : Step) → 0 < length buf → Gives (Buffered buf) old new (part Truncated (length buf)) (Ok u) → Appends before now buf
+    pub goes_on : (buf : List ℕ) (u : Unit {0}) (next : Spot) (front : List ℕ) (step : Step) → length begun + length buf ≤ size → length buf ≤ held here → 0 < length buf → Gives (Buffered buf) old new (part Truncated (length buf)) (Ok u) → Appends before now buf
         → ((more : List ℕ) → spot here (begun ++ (buf ++ more)) ≡ spot next (front ++ more)) → Keeps t next front → t.passed ≡ counted r.passed (length buf) → IsStep here buf t step → PassedPiece here begun step r t old new before now
-    goes_on buf u next front step some h written same keeps count is_step =
-        record { piece = buf; next = next; front = front; some = some; taken = consumed (length buf) buf u old new h; written = written; same = same; keeps = keeps; count = count; is = is_step }
+    goes_on buf u next front step room small some h written same keeps count is_step =
+        record { piece = buf; next = next; front = front; some = some; taken = consumed (length buf) buf u old new h; written = written; same = same; keeps = keeps; small = small; cuts = fronts_cut buf room; count = count; is = is_step }
 
 -- ---- a part that is taken at once
 
@@ -156,13 +162,13 @@ module _ {here : Spot} {place : Place} {size : ℕ} {fault : List ℕ → Option
   pub gave_up : (u : Unit {0}) → before ≡ now → Gives (Buffered buf) old new (part Truncated (length buf)) (Ok u) → StepMoved here [] r t old new before now (Err Memory)
   gave_up u kept h = record {
     is =
-        ([], record { others = buf; few = small; taken = consumed (length buf) buf u old new h; written = subst (λ o. Appends before o []) kept (nothing before) }, (place, cut here place size fault follows is [] is.some));
+        ([], record { others = buf; few = omega (arith, small); taken = consumed (length buf) buf u old new h; written = subst (λ o. Appends before o []) kept (nothing before) }, (place, cut here place size fault follows is [] is.some), fronts_cut here place size fault follows is [] r t old new before now [] (omega (arith, is.some)));
   }
 
   pub went : (u : Unit {0}) (next : Spot) (front : List ℕ) (step : Step) → None ≡ fault buf → Gives (Buffered buf) old new (part Truncated (length buf)) (Ok u) → Appends before now buf → ((more : List ℕ) → follows buf more ≡ spot next (front ++ more)) → Keeps t next front
       → t.passed ≡ counted r.passed (length buf) → IsStep here buf t step → PassedPiece here [] step r t old new before now
   went u next front step fine h written same keeps count is_step =
-      goes_on here place size fault follows is [] r t old new before now buf u next front step (omega (arith, whole, is.some)) h written (λ more. passes here place size fault follows is buf more whole (sym fine) ∙ same more) keeps count is_step
+      goes_on here place size fault follows is [] r t old new before now buf u next front step (omega (arith, whole)) small (omega (arith, whole, is.some)) h written (λ more. passes here place size fault follows is buf more whole (sym fine) ∙ same more) keeps count is_step
 
 -- ---- what a decoder answers
 

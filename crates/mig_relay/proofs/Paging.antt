@@ -2,7 +2,7 @@
 use Rattle.std.proofs.Common.{◌≡◌, ℕ, zero, suc, ◌+◌, ◌*◌, ◌-◌, ◌<◌, ◌≤◌, ◌^◌, Bool, true, false, nat_eq, nat_lt, not, List, [], ◌∷◌, ◌++◌, length, drop, slice_index, replicate, Option, Some, None, Ok, Err, refl, sym, ap, subst, ◌∙◌, arith}
 use Rattle.std.specs.Option.{option_or}
 use Rattle.std.proofs.lemmas.Bool.{ltb-true, ltb-false, eqb-true, eqb-false, not-false}
-use Rattle.std.proofs.lemmas.List.{drop_more, drop_all, map-append, length-replicate}
+use Rattle.std.proofs.lemmas.List.{drop_more, drop_all, map-append, length-append, length-replicate}
 use Rattle.mig_bytes.specs.Bytes.{padding_len, TakesFew}
 use Rattle.mig_bytes.specs.Fields.{le32}
 use Rattle.mig_bytes.specs.Judged.{Judged, ◌>>=◌, part, Gives}
@@ -61,7 +61,7 @@ module _ (outer : Outer) (o : Opening) (records : List StreamRecord) (head : Rec
   words_is n some = lifted (carry outer) (record { judged = words_part o records head n; some = omega (arith, some) })
 
   -- the page of the next word
-  pub page_is : (r : Relay) (coming : List (ℕ × ℕ)) (stood : List FrameEntry) → KeepsWords r coming
+  pub page_is : (r : Relay) (coming : List (ℕ × ℕ)) (stood : List FrameEntry) → KeepsWords r coming stood
       → BeginsWithPart (spot (InImage outer (AtPages o records head coming stood))) (Record (length records)) 4096 (fault_of_page o.kind (before o records).top (r.page, next_word r)) (λ b i. spot (InImage outer (AtPages o records head (others r) (stood ++ entry_of_word (next_word r) (Some b) ∷ []))) i)
   page_is r coming stood kept = lifted (carry outer) (record {
     judged = λ i. ap (λ l. judged_next (AtPages o records head l stood) i) (kept.left ∙ ap (with_places r.page) (drop_more r.words.items r.page 0 kept.some)) ∙ page_part o records head r.page (next_word r) (others r) stood kept.paged i;
@@ -175,18 +175,20 @@ module _ (o : Opening) (records : List StreamRecord) (head : RecordHead) where
     -- the pages of the words from here on are those of the words from there on, behind other entries
     record Skips (from to : ℕ) (stood : List FrameEntry) : Type 0 where
       pub entries : List FrameEntry
+      pub many : length entries + from ≡ length stood + to
       pub same : (i : List ℕ) → judged_next (AtPages o records head (with_places from (drop from ws)) stood) i ≡ judged_next (AtPages o records head (with_places to (drop to ws)) entries) i
 
     -- words without a page are passed over, one by one
     skips : (k from to : ℕ) (stood : List FrameEntry) → to ≡ from + k → to ≤ length ws → ((place : ℕ) → from ≤ place → place < to → word_has_data (slice_index ws place) ≡ false) → Skips from to stood
     skips zero from to stood is within none =
         let at : from ≡ to = omega (arith, is) in
-        record { entries = stood; same = λ i. ap (λ n. judged_next (AtPages o records head (with_places n (drop n ws)) stood) i) at }
+        record { entries = stood; many = omega (arith, at); same = λ i. ap (λ n. judged_next (AtPages o records head (with_places n (drop n ws)) stood) i) at }
     skips (suc k) from to stood is within none =
         let word = slice_index ws from in
         let more = skips k (from + 1) to (stood ++ entry_of_word word None ∷ []) (omega (arith, is)) within (λ place le lt. none place (omega (arith, le)) lt) in
         record {
           entries = more.entries;
+          many = omega (arith, more.many, length-append stood (entry_of_word word None ∷ []));
           same = λ i.
               ap (λ l. judged_next (AtPages o records head (with_places from l) stood) i) (drop_more ws from 0 (omega (arith, is, within)))
               ∙ no_page o records head from word (with_places (from + 1) (drop (from + 1) ws)) stood (none from (omega arith) (omega (arith, is))) i
@@ -218,9 +220,9 @@ module _ (r t : Relay) (head : RecordHead) (within : t.page ≤ length r.words.i
   turning_stays = record { wrapper = turning_keeps (λ x. x.wrapper) (λ _. refl) (λ _. refl); seen = turning_keeps (λ x. x.seen) (λ _. refl) (λ _. refl); top = turning_keeps (λ x. x.top) (λ _. refl) (λ _. refl) }
 
   -- the next word with a page comes next, or the next record where there is none
-  pub turned : (outer : Outer) (o : Opening) (records : List StreamRecord) (from : ℕ) (stood : List FrameEntry) → from ≤ t.page → (t.page < length ws → word_has_data (slice_index ws t.page) ≡ true) → ((place : ℕ) → from ≤ place → place < t.page → word_has_data (slice_index ws place) ≡ false)
+  pub turned : (outer : Outer) (o : Opening) (records : List StreamRecord) (from : ℕ) (stood : List FrameEntry) → length stood ≡ from → from ≤ t.page → (t.page < length ws → word_has_data (slice_index ws t.page) ≡ true) → ((place : ℕ) → from ≤ place → place < t.page → word_has_data (slice_index ws place) ≡ false)
       → length ws ≤ 2 ^ 24 → KeepsOuter r outer → KeepsHead r o records head (before o records).top → IsPages head → padding_len head.len ≡ 0 → Turned t outer o records head (with_places from (drop from ws)) stood
-  turned outer o records from stood ahead paged none few around kept pages padding = by (nat_lt t.page (length ws)) refl
+  turned outer o records from stood behind ahead paged none few around kept pages padding = by (nat_lt t.page (length ws)) refl
     where
       skipped : Skips o records head ws from t.page stood
       skipped = skips o records head ws (t.page - from) from t.page stood (omega (arith, ahead)) within none
@@ -228,12 +230,13 @@ module _ (r t : Relay) (head : RecordHead) (within : t.page ≤ length r.words.i
       same_words : t.words.items ≡ ws
       same_words = turning_keeps (λ x. x.words.items) (λ _. refl) (λ _. refl)
 
-      kept_words : t.page < length ws → KeepsWords t (with_places t.page (drop t.page ws))
+      kept_words : t.page < length ws → KeepsWords t (with_places t.page (drop t.page ws)) skipped.entries
       kept_words lt = record {
         left = ap (λ l. with_places t.page (drop t.page l)) (sym same_words);
         some = subst (λ l. t.page < length l) (sym same_words) lt;
         paged = subst (λ l. word_has_data (slice_index l t.page) ≡ true) (sym same_words) (paged lt);
         few = subst (λ l. length l ≤ 2 ^ 24) (sym same_words) few;
+        behind = omega (arith, skipped.many, behind);
       }
 
       by : (b : Bool) → nat_lt t.page (length ws) ≡ b → Turned t outer o records head (with_places from (drop from ws)) stood

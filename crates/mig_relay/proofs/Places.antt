@@ -76,7 +76,7 @@ module _ (r : Relay) where
         → KeepsBody r head (fault_of_record_body head.kind) begun → Goal (InImage outer (AtBody o records head)) begun
     Told (comes.Front head) = (outer : Outer) (o : Opening) (records : List StreamRecord) → KeepsOuter r outer → KeepsHead r o records head (before o records).top → IsPages head → Goal (InImage outer (AtFront o records head)) []
     Told (comes.Words head n) = (outer : Outer) (o : Opening) (records : List StreamRecord) → KeepsOuter r outer → KeepsHead r o records head (before o records).top → IsPages head → Goal (InImage outer (AtWords o records head n)) []
-    Told (comes.Page head) = (outer : Outer) (o : Opening) (records : List StreamRecord) (coming : List (ℕ × ℕ)) (stood : List FrameEntry) → KeepsOuter r outer → KeepsHead r o records head (before o records).top → IsPages head → padding_len head.len ≡ 0 → KeepsWords r coming
+    Told (comes.Page head) = (outer : Outer) (o : Opening) (records : List StreamRecord) (coming : List (ℕ × ℕ)) (stood : List FrameEntry) → KeepsOuter r outer → KeepsHead r o records head (before o records).top → IsPages head → padding_len head.len ≡ 0 → KeepsWords r coming stood
         → Goal (InImage outer (AtPages o records head coming stood)) []
     Told (comes.Padding head) = (outer : Outer) (o : Opening) (records : List StreamRecord) (content : Content) → KeepsOuter r outer → KeepsHead r o records head (before o (records ++ record_with records head content ∷ [])).top → head.kind ≢ 0 → Goal (InImage outer (AtPadding o records head content)) []
     Told comes.End = (s : StreamOf) → HasRecords r.seen.records s → Goal (AtEnd s) []

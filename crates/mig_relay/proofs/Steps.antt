@@ -1,7 +1,10 @@
 -- From what a relay keeps to the bytes that it stands for.
-use Rattle.std.proofs.Common.{◌≡◌, ◌≢◌, ℕ, Bool, true, false, List, [], ◌++◌, length, min, ◌+◌, ◌-◌, ◌^◌, ◌<◌, Option, Some, None, Result, Ok, Err, refl, sym, ap, subst, ◌∙◌, arith, append_assoc, append-nil, length-append}
+use Rattle.std.proofs.Common.{◌≡◌, ◌≢◌, ℕ, ◌≤◌, Bool, true, false, List, [], ◌∷◌, ◌++◌, length, take, drop, min, ◌+◌, ◌-◌, ◌^◌, ◌<◌, Option, Some, None, Result, Ok, Err, refl, sym, ap, subst, ◌∙◌, arith, append_assoc, append-nil, length-append, length-drop, take-append-drop}
+use mathlib.Core.Logic.{inl, inr}
 use Rattle.std.specs.Prelude.{OnOk}
 use Rattle.std.specs.Io.KnownBytes.{Consumes, Appends, Keeps as Stays}
+use Rattle.mig_bytes.specs.Bytes.{AppendsPart}
+use Rattle.mig_bytes.specs.Faults.{Rose}
 use Rattle.mig_bytes.specs.Judged.{Judged}
 use Rattle.mig_bytes.specs.Judged.Judged.{Passes}
 use Rattle.mig_bytes.proofs.Joins.{passes_not}
@@ -13,14 +16,16 @@ use Rattle.mig_passable.specs.Streams.{open_stream_at, IsPassable}
 use Rattle.mig_passable.proofs.Streams.{unfinished_is_not_accepted}
 use Rattle.mig_pieces.specs.Bodies.{fault_of_record_body, record_content}
 use Rattle.mig_pieces.proofs.Types.{bodies_are_parts}
-use Rattle.mig_restore.specs.Judging.{before}
+use Rattle.mig_restore.proofs.Batches.{places_len}
+use Rattle.mig_restore.specs.Judging.{before, with_places}
 use Rattle.mig_restore.specs.Stream.{ImageOf}
 use Rattle.mig_relay.specs.Keeping.{Keeps, KeepsNext, HasRecords, Stands}
 use Rattle.mig_relay.specs.Parts.{Next, AtMarker, AtVersion, AtKind, AtHead, AtBody, AtFront, AtWords, AtPages, AtPadding, judged_next, BeginsWithPart}
-use Rattle.mig_relay.specs.Relaying.{HasPassed, IsRelayed, PassedPart as IsWritten, NoneIsAccepted, IsCutPart}
+use Rattle.mig_relay.specs.Relaying.{HasPassed, IsRelayed, RelayedBy, PassedPart as IsWritten, NoneIsAccepted, NoneWaits, IsCutPart, IsWrittenPart, Turned, TurnedBy, RisesOnAnswer, WritesOnReadFault, held_answer, unwritten}
 use Rattle.mig_relay.specs.Spots.{Outer, Spot, AtStart, AtLibxlHeader, AtLibxlHead, AtLibxlBody, AtLibxlPadding, InImage, AtEnd, spot, held, carry}
 use Rattle.mig_relay.specs.Standing.{StandsForBytes, StepSays, PassesOn, IsRefusedBehind, WritesSomeBehind, StopsInside, is_at_end, goes_on}
-use Rattle.mig_relay.specs.Steps.{PassedPiece, WritesFront, EndsInside, IsUnfinished, Refuses, Stops, WritesSome, StepMoved, MovedBy, counted}
+use Rattle.mig_relay.specs.Steps.{FrontsAreCut, RisesOnFault, PassedPiece, EndsInside, IsUnfinished, Refuses, Stops, WritesSome, StepMoved, MovedBy, counted}
+use Rattle.mig_relay.specs.Waiting.{Fits, may_wait, most_waiting}
 use Rattle.mig_relay.specs.declared.answer.RelayAnswer.{RelayAnswer}
 use Rattle.mig_relay.specs.declared.answer.RelayAnswer.TheVariants.{Refused, ReadFault, WriteFault, Memory}
 use Rattle.mig_relay.specs.declared.answer.Relayed.{Relayed}
@@ -162,14 +167,14 @@ module _ {r : Relay} {bytes : List ℕ} (s : StandsForBytes r bytes) where
 
 module _ (r t : Relay) (old new before now : Option (List ℕ)) (result : Result Step RelayAnswer) (moved : (here : Spot) (begun : List ℕ) → Keeps r here begun → StepMoved here begun r t old new before now result) (bytes : List ℕ) (s : StandsForBytes r bytes) where
   stops : Stops s.here s.begun old new before now → StopsInside s.here bytes old new before now
-  stops (wrote, w, (place, is)) = (wrote, w, (place, s.same wrote ∙ is))
+  stops (wrote, w, (place, is), cuts) = (wrote, w, (place, s.same wrote ∙ is))
 
   refused : (place : Place) (cause : Cause) (o : Option (List ℕ)) → Refuses s.here s.begun o new place cause → IsRefusedBehind bytes o new place cause
   refused place cause None f = tt
   refused place cause (Some left) f = (f.0, s.same left ∙ f.1, f.2)
 
   writes : WritesSome s.here s.begun old new before now → WritesSomeBehind s.here bytes old new before now
-  writes (wrote, w, first, (fault, rest, is)) = (wrote, w, first, (fault, rest, s.same wrote ∙ is))
+  writes (wrote, w, first, (fault, rest, is), cuts) = (wrote, w, first, (fault, rest, s.same wrote ∙ is))
 
   by_result : (q : Result Step RelayAnswer) → MovedBy s.here s.begun r t old new before now q → StepSays s.here bytes r t old new before now q
   by_result (Ok steps.Done) m = (m.0, subst (λ l. open_stream_at l ≡ Passes m.0 []) (append-nil bytes) (s.same [] ∙ m.1 []), m.2, m.3, m.4)
@@ -198,7 +203,7 @@ module _ (r t : Relay) (old new before now : Option (List ℕ)) (result : Result
       by (Err WriteFault) e says = says
       by (Err Memory) e says = says
 
--- ---- the loop
+-- ---- what was taken and written so far
 
 -- what was taken, and what was taken behind it
 consumed_on : (a b c : Option (List ℕ)) (xs ys : List ℕ) → Consumes a b xs → Consumes b c ys → Consumes a c (xs ++ ys)
@@ -229,111 +234,386 @@ left_alone (Some l) (Some m) p = sym p
 none_accepted : (wrote : List ℕ) → IsUnfinished (open_stream_at wrote) → NoneIsAccepted wrote
 none_accepted wrote ((place, cause), rest, is) front more s whole accepted = unfinished_is_not_accepted front more s place cause rest (sym (ap open_stream_at whole) ∙ is) accepted
 
-module _ (r t : Relay) (old mid new before between now : Option (List ℕ)) (h : HasPassed r old mid before between) where
-  abbrev s : StandsForBytes r h.bytes
+-- Some bytes were passed on and wait, of which this part comes last, and of that the rest was taken. Every shorter front of
+-- what was passed on ends inside a part.
+pub record Gathered (waiting : List ℕ) (old new before now : Option (List ℕ)) : Type 0 where
+  pub wrote : List ℕ
+  pub rest : List ℕ
+  pub here : Spot
+  pub begun : List ℕ
+  pub same : (more : List ℕ) → open_stream_at ((wrote ++ waiting) ++ more) ≡ spot here (begun ++ more)
+  pub cuts : FrontsAreCut AtStart [] (wrote ++ waiting)
+  pub taken : Consumes old new ((wrote ++ waiting) ++ rest)
+  pub written : Appends before now wrote
+  pub few : length waiting + length rest ≤ most_waiting here
+  pub rest_few : length rest ≤ held here
+
+module _ (old new before now later : Option (List ℕ)) (waiting : List ℕ) (g : Gathered waiting old new before now) where
+  -- some first bytes of what waits were written, but not all
+  pub broke_off : AppendsPart now later waiting → IsCutPart old new before later
+  broke_off (k, less, put) =
+      let cut = g.cuts (g.wrote ++ take k waiting) (drop k waiting) (sym whole) (omega (arith, length-drop k waiting, less)) in (
+        record {
+          wrote = g.wrote ++ take k waiting;
+          others = drop k waiting ++ g.rest;
+          taken = subst (Consumes old new) (sym (ap (λ l. l ++ g.rest) whole) ∙ append_assoc (g.wrote ++ take k waiting) (drop k waiting) g.rest) g.taken;
+          written = appended_on before now later g.wrote (take k waiting) g.written put;
+          held = record {
+            waiting = drop k waiting;
+            rest = g.rest;
+            are = refl;
+            here = g.here;
+            begun = g.begun;
+            same = λ more. ap (λ l. open_stream_at (l ++ more)) whole ∙ g.same more;
+            few = omega (arith, length-append (drop k waiting) g.rest, length-drop k waiting, g.few);
+            rest_few = g.rest_few;
+          };
+          unaccepted = none_accepted (g.wrote ++ take k waiting) ((cut.0, Truncated), [], cut.1);
+        },
+        cut,
+      )
+    where
+      whole : (g.wrote ++ take k waiting) ++ drop k waiting ≡ g.wrote ++ waiting
+      whole = append_assoc g.wrote (take k waiting) (drop k waiting) ∙ ap (λ l. g.wrote ++ l) (take-append-drop k waiting)
+
+  -- all that waits was written
+  pub all_written : Appends now later waiting → IsUnfinished (open_stream_at (g.wrote ++ waiting)) → (p : IsWritten old new before later) × NoneWaits p × (p.wrote ≡ g.wrote ++ waiting)
+  all_written put unfinished = (
+    record {
+      wrote = g.wrote ++ waiting;
+      others = g.rest;
+      taken = g.taken;
+      written = appended_on before now later g.wrote waiting g.written put;
+      held = record {
+        waiting = [];
+        rest = g.rest;
+        are = refl;
+        here = g.here;
+        begun = g.begun;
+        same = λ more. ap (λ l. open_stream_at (l ++ more)) (append-nil (g.wrote ++ waiting)) ∙ g.same more;
+        few = omega (arith, g.few);
+        rest_few = g.rest_few;
+      };
+      unaccepted = none_accepted (g.wrote ++ waiting) unfinished;
+    },
+    refl,
+    refl,
+  )
+
+-- what ends a step inside a part, with what waits then
+pub record Cut (waiting : List ℕ) (old new before now : Option (List ℕ)) : Type 0 where
+  pub g : Gathered waiting old new before now
+  pub cut : EndsInside (open_stream_at (g.wrote ++ waiting))
+
+-- a refused part
+pub record Refusal (waiting : List ℕ) (old new before now : Option (List ℕ)) (place : Place) (cause : Cause) : Type 0 where
+  pub g : Gathered waiting old new before now
+  pub refused : IsRefusedBehind [] old new place cause
+  pub unfinished : IsUnfinished (open_stream_at (g.wrote ++ waiting))
+
+-- what a step's error leaves
+abbrev pub Ends : List ℕ → Option (List ℕ) → Option (List ℕ) → Option (List ℕ) → Option (List ℕ) → RelayAnswer → Type 0
+Ends waiting old new before now (Refused place cause) = Refusal waiting old new before now place cause
+Ends waiting old new before now ReadFault = Cut waiting old new before now
+Ends waiting old new before now WriteFault = Cut waiting old new before now
+Ends waiting old new before now Memory = Cut waiting old new before now
+
+-- that is gathered whatever the error is
+pub of_ends : (waiting : List ℕ) (old new before now : Option (List ℕ)) (answer : RelayAnswer) → Ends waiting old new before now answer → Gathered waiting old new before now
+of_ends waiting old new before now (Refused place cause) e = e.g
+of_ends waiting old new before now ReadFault e = e.g
+of_ends waiting old new before now WriteFault e = e.g
+of_ends waiting old new before now Memory e = e.g
+
+module _ (old new before now later : Option (List ℕ)) (waiting : List ℕ) (put : Appends now later waiting) where
+  cut_written : Cut waiting old new before now → IsWrittenPart old new before later
+  cut_written c =
+      let w = all_written old new before now later waiting c.g put ((c.cut.0, Truncated), [], c.cut.1) in
+      (w.0, subst (λ l. EndsInside (open_stream_at l)) (sym w.2) c.cut, w.1)
+
+  -- all that waits was written behind an error, and the error is answered
+  pub ended : (answer : RelayAnswer) → Ends waiting old new before now answer → RelayedBy old new before later (Err (held_answer answer))
+  ended (Refused place cause) e = let w = all_written old new before now later waiting e.g put e.unfinished in (e.refused, w.0, w.1)
+  ended ReadFault e = let w = cut_written e in (w.0, w.1)
+  ended WriteFault e = cut_written e
+  ended Memory e = cut_written e
+
+-- ---- where no more waits than may
+
+-- the words from this one on
+all_come : (ws : List ℕ) (page : ℕ) (coming : List (ℕ × ℕ)) → coming ≡ with_places page (drop page ws) → page ≤ length ws → page + length coming ≡ length ws
+all_come ws page coming is within = omega (arith, within, ap length is, places_len page (drop page ws), length-drop page ws)
+
+-- no more than may wait, and the part that comes next, is no more than may wait with it
+room_in : (r : Relay) (outer : Outer) (next : Next) (begun : List ℕ) → KeepsNext r next begun → may_wait r.coming (length r.words.items) + held (InImage outer next) ≤ most_waiting (InImage outer next)
+room_in r outer AtMarker begun k = rw k.0 (omega arith)
+room_in r outer AtVersion begun k = rw k.0 (omega arith)
+room_in r outer (AtKind version) begun k = rw k.0 (omega arith)
+room_in r outer (AtHead o records) begun k = rw k.0 (omega arith)
+room_in r outer (AtBody o records head) begun k = rw k.0 (omega arith)
+room_in r outer (AtFront o records head) begun k = rw k.0 (omega arith)
+room_in r outer (AtWords o records head n) begun k = rw k.0 (omega arith)
+room_in r outer (AtPages o records head coming stood) begun (is, kept, pages, whole, words, none) = rw is (omega (arith, words.behind, all_come r.words.items r.page coming words.left (omega (arith, words.some))))
+room_in r outer (AtPadding o records head content) begun k = rw k.0 (omega arith)
+
+room : (r : Relay) (here : Spot) (begun : List ℕ) → Keeps r here begun → may_wait r.coming (length r.words.items) + held here ≤ most_waiting here
+room r AtStart begun k = rw k.0 (omega arith)
+room r AtLibxlHeader begun k = rw k.0 (omega arith)
+room r (AtLibxlHead records) begun k = rw k.0 (omega arith)
+room r (AtLibxlBody records head) begun k = rw k.0 (omega arith)
+room r (AtLibxlPadding records head content) begun k = rw k.0 (omega arith)
+room r (InImage outer next) begun (around, k) = room_in r outer next begun k
+room r (AtEnd s) begun k = rw k.0 (omega arith)
+
+-- ---- a turn
+
+-- where a front of two lists ends: inside the first, or behind it
+data Splits (xs ys front more : List ℕ) : Type 0 where
+  Inside : (rest : List ℕ) → xs ≡ front ++ rest → 0 < length rest → Splits xs ys front more
+  Beyond : (rest : List ℕ) → front ≡ xs ++ rest → ys ≡ rest ++ more → Splits xs ys front more
+
+splits : (xs ys front more : List ℕ) → xs ++ ys ≡ front ++ more → Splits xs ys front more
+splits [] ys front more e = Beyond front refl e
+splits (x ∷ xs) ys [] more e = Inside (x ∷ xs) refl (omega arith)
+splits (x ∷ xs) ys (y ∷ front) more e = by (splits xs ys front more (cc))
+  where
+    same : x ≡ y
+    same = cc
+
+    by : Splits xs ys front more → Splits (x ∷ xs) ys (y ∷ front) more
+    by (Inside rest is some) = Inside rest (ap (λ l. x ∷ l) is ∙ ap (λ z. z ∷ (front ++ rest)) same) some
+    by (Beyond rest is others) = Beyond rest (ap (λ l. y ∷ l) is ∙ ap (λ z. z ∷ (xs ++ rest)) (sym same)) others
+
+-- shorter fronts of a list and of a piece behind it
+fronts_on : (bytes piece : List ℕ) (here : Spot) (begun : List ℕ) → ((more : List ℕ) → open_stream_at (bytes ++ more) ≡ spot here (begun ++ more)) → FrontsAreCut AtStart [] bytes → FrontsAreCut here begun piece → FrontsAreCut AtStart [] (bytes ++ piece)
+fronts_on bytes piece here begun same cuts cuts_here front more split some = by (splits bytes piece front more split)
+  where
+    by : Splits bytes piece front more → EndsInside (open_stream_at front)
+    by (Inside rest is inside) = cuts front rest is inside
+    by (Beyond rest is others) = let c = cuts_here rest more others some in (c.0, ap open_stream_at is ∙ same rest ∙ c.1)
+
+-- none is shorter than the empty list
+none_shorter : (here : Spot) (begun : List ℕ) → FrontsAreCut here begun []
+none_shorter here begun front more split some = absurd (omega (arith, ap length split, length-append front more, some))
+
+-- the first bytes
+pub passed_none : (r : Relay) (old before : Option (List ℕ)) (waiting : List ℕ) → waiting ≡ [] → StandsForBytes r [] → HasPassed r waiting old old before before
+passed_none r old before waiting none s =
+    subst (λ l. HasPassed r l old old before before) (sym none) (record { wrote = []; stands = s; cuts = none_shorter AtStart []; taken = left_alone old old (stays old); written = nothing before })
+
+-- nothing waits in front of the first part
+pub fits_none : (r : Relay) (waiting : List ℕ) → waiting ≡ [] → Fits r waiting
+fits_none r waiting none = omega (arith, ap length none)
+
+-- it stands somewhere
+pub stands_somewhere : {r : Relay} {waiting : List ℕ} {old new before now : Option (List ℕ)} → HasPassed r waiting old new before now → Stands r
+stands_somewhere h = (h.stands.here, h.stands.begun, h.stands.keeps)
+
+-- all that waits was written
+pub flushed : (r : Relay) (waiting : List ℕ) (old new before now later : Option (List ℕ)) → HasPassed r waiting old new before now → Appends now later waiting → HasPassed r [] old new before later
+flushed r waiting old new before now later h put =
+    let same = sym (append-nil (h.wrote ++ waiting)) in
+    record {
+      wrote = h.wrote ++ waiting;
+      stands = subst (StandsForBytes r) same h.stands;
+      cuts = subst (FrontsAreCut AtStart []) same h.cuts;
+      taken = subst (Consumes old new) same h.taken;
+      written = appended_on before now later h.wrote waiting h.written put;
+    }
+
+module _ (r t : Relay) (waiting waits : List ℕ) (old mid new before now : Option (List ℕ)) (h : HasPassed r waiting old mid before now) (fits : Fits r waiting) where
+  abbrev s : StandsForBytes r (h.wrote ++ waiting)
   s = h.stands
 
-  -- one piece more
-  passed_more : (step : Step) → PassedPiece s.here s.begun step r t mid new between now → HasPassed t old new before now
-  passed_more step g = record {
-    bytes = h.bytes ++ g.piece;
-    stands = stands_on s g;
-    taken = consumed_on old mid new h.bytes g.piece h.taken g.taken;
-    written = appended_on before between now h.bytes g.piece h.written g.written;
+  -- behind what was passed on, a piece more waits
+  longer : (piece : List ℕ) → waits ≡ waiting ++ piece → (h.wrote ++ waiting) ++ piece ≡ h.wrote ++ waits
+  longer piece is = append_assoc h.wrote waiting piece ∙ ap (λ l. h.wrote ++ l) (sym is)
+
+  cuts_on : (piece : List ℕ) → waits ≡ waiting ++ piece → FrontsAreCut s.here s.begun piece → FrontsAreCut AtStart [] (h.wrote ++ waits)
+  cuts_on piece is cuts = subst (FrontsAreCut AtStart []) (longer piece is) (fronts_on (h.wrote ++ waiting) piece s.here s.begun s.same h.cuts cuts)
+
+  -- a piece was passed on, and the rest taken
+  gather : (piece rest : List ℕ) → waits ≡ waiting ++ piece → length piece + length rest ≤ held s.here → FrontsAreCut s.here s.begun piece → Consumes mid new (piece ++ rest) → Gathered waits old new before now
+  gather piece rest is few cuts taken = record {
+    wrote = h.wrote;
+    rest = rest;
+    here = s.here;
+    begun = s.begun ++ piece;
+    same = λ more. ap (λ l. open_stream_at (l ++ more)) (sym (longer piece is)) ∙ ap open_stream_at (append_assoc (h.wrote ++ waiting) piece more) ∙ s.same (piece ++ more) ∙ ap (spot s.here) (sym (append_assoc s.begun piece more));
+    cuts = cuts_on piece is cuts;
+    taken = subst (Consumes old new) (sym (append_assoc (h.wrote ++ waiting) piece rest) ∙ ap (λ l. l ++ rest) (longer piece is)) (consumed_on old mid new (h.wrote ++ waiting) (piece ++ rest) h.taken taken);
+    written = h.written;
+    few = omega (arith, few, fits, room r s.here s.begun s.keeps, ap length is, length-append waiting piece);
+    rest_few = omega (arith, few);
   }
 
-  -- whatever the step was, but for Done
-  pub goes : (step : Step) → step ≢ steps.Done → StepMoved s.here s.begun r t mid new between now (Ok step) → HasPassed t old new before now
-  goes steps.Done other m = absurd (other refl)
-  goes step other m = passed_more step m.is
-
-  -- some of a part was written, and the stream is unfinished
-  wrote_on : (wrote : List ℕ) → WritesFront (held s.here) mid new between now wrote → IsUnfinished (spot s.here (s.begun ++ wrote)) → IsWritten old new before now
-  wrote_on wrote w (fault, rest, is) = record {
-    wrote = h.bytes ++ wrote;
-    others = w.others;
-    taken = subst (Consumes old new) (sym (append_assoc h.bytes wrote w.others)) (consumed_on old mid new h.bytes (wrote ++ w.others) h.taken w.taken);
-    written = appended_on before between now h.bytes wrote h.written w.written;
-    held = record {
-      here = s.here;
-      begun = s.begun ++ wrote;
-      same = λ more. ap open_stream_at (append_assoc h.bytes wrote more) ∙ s.same (wrote ++ more) ∙ ap (spot s.here) (sym (append_assoc s.begun wrote more));
-      few = w.few;
-    };
-    unaccepted = none_accepted (h.bytes ++ wrote) (fault, rest, s.same wrote ∙ is);
+  -- a step stopped in a part
+  cut_here : Stops s.here s.begun mid new (Some waiting) (Some waits) → Cut waits old new before now
+  unfolding gather
+  cut_here (wrote, w, (place, is), cuts) = record {
+    g = gather wrote w.others w.written w.few cuts w.taken;
+    cut = (place, ap open_stream_at (sym (longer wrote w.written)) ∙ s.same wrote ∙ is);
   }
 
   -- the whole input is refused
-  refused_on : (o : Option (List ℕ)) (place : Place) (cause : Cause) → Consumes o mid h.bytes → Refuses s.here s.begun mid new place cause → IsRefusedBehind [] o new place cause
+  refused_on : (o : Option (List ℕ)) (place : Place) (cause : Cause) → Consumes o mid (h.wrote ++ waiting) → Refuses s.here s.begun mid new place cause → IsRefusedBehind [] o new place cause
   refused_on None place cause gone f = tt
   refused_on (Some input) place cause gone f = by mid gone f
     where
-      by : (m : Option (List ℕ)) → Consumes (Some input) m h.bytes → Refuses s.here s.begun m new place cause → IsRefusedBehind [] (Some input) new place cause
+      by : (m : Option (List ℕ)) → Consumes (Some input) m (h.wrote ++ waiting) → Refuses s.here s.begun m new place cause → IsRefusedBehind [] (Some input) new place cause
       by None gone f = absurd gone
       by (Some left) gone (rest, is, after) = (rest, ap open_stream_at gone ∙ s.same left ∙ is, after)
 
-  -- what was written ends inside a part
-  stopped_on : Stops s.here s.begun mid new between now → IsCutPart old new before now
-  unfolding wrote_on
-  stopped_on (wrote, w, (place, is)) = (wrote_on wrote w ((place, Truncated), [], is), (place, s.same wrote ∙ is))
-
-  -- an error ends the relay
-  pub ends_on : (answer : RelayAnswer) → StepMoved s.here s.begun r t mid new between now (Err answer) → IsRelayed old new before now (Err answer)
-  ends_on (Refused place cause) m = record { is = (refused_on old place cause h.taken m.is.0, by m.is.1) }
-    where
-      by : WritesSome s.here s.begun mid new between now → IsWritten old new before now
-      by (wrote, w, first, unfinished) = wrote_on wrote w unfinished
-  ends_on ReadFault m = record { is = stopped_on m.is }
-  ends_on WriteFault m = record { is = stopped_on m.is }
-  ends_on Memory m = record { is = stopped_on m.is }
-
-  -- the bytes so far are a whole stream
-  done_on : (relayed : Relayed) → relayed.records ≡ r.seen.records → relayed.bytes ≡ r.passed → StepMoved s.here s.begun r t mid new between now (Ok steps.Done) → IsRelayed old new before now (Ok relayed)
-  done_on relayed records bytes m = record {
-    is = record {
-      front = h.bytes;
-      s = m.is.0;
-      passes = λ more. s.same more ∙ m.is.1 more;
-      taken = subst (Consumes old new) (append-nil h.bytes) (consumed_on old mid new h.bytes [] h.taken (left_alone mid new m.is.2));
-      written = subst (Appends before now) (append-nil h.bytes) (appended_on before between now h.bytes [] h.written (kept between now m.is.3));
-      bytes = bytes ∙ s.count;
-      records = subst (λ n. HasRecords n m.is.0) (sym records) m.is.4;
-    };
+  refused_here : (place : Place) (cause : Cause) → Refuses s.here s.begun mid new place cause → WritesSome s.here s.begun mid new (Some waiting) (Some waits) → Refusal waits old new before now place cause
+  unfolding gather
+  refused_here place cause f (wrote, w, first, (fault, rest, is), cuts) = record {
+    g = gather wrote w.others w.written w.few cuts w.taken;
+    refused = refused_on old place cause h.taken f;
+    unfinished = (fault, rest, ap open_stream_at (sym (longer wrote w.written)) ∙ s.same wrote ∙ is);
   }
 
-  -- Done is answered at the end, and there the relay stays
-  pub done_here : (relayed : Relayed) (step : Step) → step ≡ steps.Done → (is_at_end r.coming ≡ true → t ≡ r) → relayed.records ≡ t.seen.records → relayed.bytes ≡ t.passed → StepMoved s.here s.begun r t mid new between now (Ok step) → IsRelayed old new before now (Ok relayed)
-  done_here relayed step is_done stays_there records bytes moved =
-      let m = subst (λ (x : Step). StepMoved s.here s.begun r t mid new between now (Ok x)) is_done moved in
-      let same = stays_there (done_at_end s.here s.begun r t mid new between now s.keeps m) in
-      done_on relayed (records ∙ ap (λ (x : Relay). x.seen.records) same) (bytes ∙ ap (λ (x : Relay). x.passed) same) m
+  -- what an error leaves
+  pub ends_on : (answer : RelayAnswer) → StepMoved s.here s.begun r t mid new (Some waiting) (Some waits) (Err answer) → Ends waits old new before now answer
+  ends_on (Refused place cause) m = refused_here place cause m.is.0 m.is.1
+  ends_on ReadFault m = cut_here m.is
+  ends_on WriteFault m = cut_here m.is
+  ends_on Memory m = cut_here m.is
 
--- the first bytes
-pub passed_none : (r : Relay) (old before : Option (List ℕ)) → StandsForBytes r [] → HasPassed r old old before before
-passed_none r old before s = record { bytes = []; stands = s; taken = left_alone old old (stays old); written = nothing before }
+  more_gathered : (step : Step) → PassedPiece s.here s.begun step r t mid new (Some waiting) (Some waits) → Gathered waits old new before now
+  more_gathered step g = gather g.piece [] g.written (omega (arith, g.small)) g.cuts (subst (Consumes mid new) (sym (append-nil g.piece)) g.taken)
 
--- it stands somewhere
-pub stands_somewhere : {r : Relay} {old new before now : Option (List ℕ)} → HasPassed r old new before now → Stands r
-stands_somewhere h = (h.stands.here, h.stands.begun, h.stands.keeps)
+  -- what waits behind a step, whatever it answered
+  pub gathers : (result : Result Step RelayAnswer) → StepMoved s.here s.begun r t mid new (Some waiting) (Some waits) result → Gathered waits old new before now
+  gathers (Ok steps.Done) m = gather [] [] (m.is.3 ∙ sym (append-nil waiting)) (omega arith) (none_shorter s.here s.begun) (left_alone mid new m.is.2)
+  gathers (Ok step) m = more_gathered step m.is
+  gathers (Err answer) m = of_ends waits old new before now answer (ends_on answer m)
 
--- no step more, at the end
-pub over_now : (r : Relay) (old new before now : Option (List ℕ)) (relayed : Relayed) → HasPassed r old new before now → is_at_end r.coming ≡ true → relayed.records ≡ r.seen.records → relayed.bytes ≡ r.passed → IsRelayed old new before now (Ok relayed)
-over_now r old new before now relayed h over records bytes = done_on r r old new new before now now h relayed records bytes (from_end r new now over h.stands.here h.stands.begun h.stands.keeps)
+  more_passed : (step : Step) → PassedPiece s.here s.begun step r t mid new (Some waiting) (Some waits) → HasPassed t waits old new before now
+  more_passed step g = record {
+    wrote = h.wrote;
+    stands = subst (StandsForBytes t) (longer g.piece g.written) (stands_on s g);
+    cuts = cuts_on g.piece g.written g.cuts;
+    taken = subst (Consumes old new) (longer g.piece g.written) (consumed_on old mid new (h.wrote ++ waiting) g.piece h.taken g.taken);
+    written = h.written;
+  }
+
+  -- the relay stands for a piece more, or for the same at the end
+  pub passes_on : (step : Step) → (is_at_end r.coming ≡ true → t ≡ r) → StepMoved s.here s.begun r t mid new (Some waiting) (Some waits) (Ok step) → HasPassed t waits old new before now
+  passes_on steps.Done stays_there m =
+      let same = stays_there (done_at_end s.here s.begun r t mid new (Some waiting) (Some waits) s.keeps m) in
+      subst (λ (x : Relay). HasPassed x waits old new before now) (sym same)
+      (subst (λ l. HasPassed r l old new before now) (sym m.is.3)
+      (record { wrote = h.wrote; stands = s; cuts = h.cuts; taken = subst (Consumes old new) (append-nil (h.wrote ++ waiting)) (consumed_on old mid new (h.wrote ++ waiting) [] h.taken (left_alone mid new m.is.2)); written = h.written }))
+  passes_on step stays_there m = more_passed step m.is
+
+  -- where the relay goes on, no more waits than may
+  pub turned_on : (result : Result Step RelayAnswer) → goes_on result ≡ true → (is_at_end r.coming ≡ true → t ≡ r) → Fits t waits → StepMoved s.here s.begun r t mid new (Some waiting) (Some waits) result → Turned t waits old new before now result
+  turned_on (Ok steps.Done) on stays_there fit m = absurd (apart (sym on))
+  turned_on (Ok step) on stays_there fit m = record { is = (passes_on step stays_there m, fit) }
+  turned_on (Err answer) on stays_there fit m = absurd (apart (sym on))
+
+  -- all that waits was written behind a step
+  pub turned_flushed : (later : Option (List ℕ)) (none : List ℕ) (step : Step) → (is_at_end r.coming ≡ true → t ≡ r) → StepMoved s.here s.begun r t mid new (Some waiting) (Some waits) (Ok step) → Appends now later waits → none ≡ [] → Turned t none old new before later (Ok step)
+  turned_flushed later none step stays_there m put is = subst (λ l. Turned t l old new before later (Ok step)) (sym is) (record { is = by step m })
+    where
+      behind : (step : Step) → StepMoved s.here s.begun r t mid new (Some waiting) (Some waits) (Ok step) → HasPassed t [] old new before later
+      behind step m = flushed t waits old new before now later (passes_on step stays_there m) put
+
+      by : (step : Step) → StepMoved s.here s.begun r t mid new (Some waiting) (Some waits) (Ok step) → TurnedBy t [] old new before later (Ok step)
+      by steps.Done m =
+          let over = done_at_end s.here s.begun r t mid new (Some waiting) (Some waits) s.keeps m in
+          (refl, behind steps.Done m, ap (λ (x : Relay). is_at_end x.coming) (stays_there over) ∙ over)
+      by step m = (behind step m, omega arith)
+
+  -- a write of what waits failed
+  pub turn_broke_off : (later : Option (List ℕ)) (none : List ℕ) (result : Result Step RelayAnswer) → StepMoved s.here s.begun r t mid new (Some waiting) (Some waits) result → AppendsPart now later waits → Turned t none old new before later (Err (unwritten result))
+  turn_broke_off later none result m put = record { is = by result (broke_off old new before now later waits (gathers result m) put) }
+    where
+      by : (result : Result Step RelayAnswer) → IsCutPart old new before later → RelayedBy old new before later (Err (unwritten result))
+      by (Ok step) p = p
+      by (Err (Refused place cause)) p = p
+      by (Err ReadFault) p = p
+      by (Err WriteFault) p = p
+      by (Err Memory) p = p
+
+  -- all that waits was written behind an error
+  pub turn_ended : (later : Option (List ℕ)) (none : List ℕ) (answer : RelayAnswer) → StepMoved s.here s.begun r t mid new (Some waiting) (Some waits) (Err answer) → Appends now later waits → Turned t none old new before later (Err (held_answer answer))
+  turn_ended later none answer m put = record { is = ended old new before now later waits put answer (ends_on answer m) }
+
+  -- where a read failed, all that waits was written
+  pub read_written : (later : Option (List ℕ)) (writes written : ℕ) (answer : RelayAnswer) → StepMoved s.here s.begun r t mid new (Some waiting) (Some waits) (Err answer) → Appends now later waits → WritesOnReadFault {X = Step} old new before later writes written (Err (held_answer answer))
+  read_written later writes written (Refused place cause) m put = tt
+  read_written later writes written ReadFault m put = inl (cut_written old new before now later waits put (cut_here m.is))
+  read_written later writes written WriteFault m put = tt
+  read_written later writes written Memory m put = tt
+
+-- no read failed where the relay goes on
+pub read_on : (old new before now : Option (List ℕ)) (writes written : ℕ) (result : Result Step RelayAnswer) → goes_on result ≡ true → WritesOnReadFault old new before now writes written result
+read_on old new before now writes written (Ok step) on = tt
+read_on old new before now writes written (Err answer) on = absurd (apart (sym on))
+
+-- or a write failed too
+pub read_broke_off : (old new before now : Option (List ℕ)) (writes written : ℕ) (result : Result Step RelayAnswer) → Rose writes written → WritesOnReadFault {X = Step} old new before now writes written (Err (unwritten result))
+read_broke_off old new before now writes written (Ok step) rose = tt
+read_broke_off old new before now writes written (Err (Refused place cause)) rose = tt
+read_broke_off old new before now writes written (Err ReadFault) rose = inr rose
+read_broke_off old new before now writes written (Err WriteFault) rose = tt
+read_broke_off old new before now writes written (Err Memory) rose = tt
+
+-- which counts rose where a write of what waits failed
+pub rises_unwritten : (reads read starved starving writes written : ℕ) (result : Result Step RelayAnswer) → RisesOnFault reads read starved starving result → writes ≤ written → Rose writes written → RisesOnAnswer {X = Step} reads read writes written (Err (unwritten result))
+rises_unwritten reads read starved starving writes written (Ok step) h later rose = (h.0, later, rose)
+rises_unwritten reads read starved starving writes written (Err (Refused place cause)) h later rose = (h.0, later, rose)
+rises_unwritten reads read starved starving writes written (Err ReadFault) h later rose = (h.0, h.1, later)
+rises_unwritten reads read starved starving writes written (Err WriteFault) h later rose = (h.0, later, rose)
+rises_unwritten reads read starved starving writes written (Err Memory) h later rose = (h.0, later, rose)
+
+-- ---- the loop
+
+-- the same of the answer of the whole relay
+pub read_again : (old new before now : Option (List ℕ)) (writes written : ℕ) (answer : RelayAnswer) → WritesOnReadFault {X = Step} old new before now writes written (Err answer) → WritesOnReadFault {X = Relayed} old new before now writes written (Err answer)
+read_again old new before now writes written (Refused place cause) h = tt
+read_again old new before now writes written ReadFault h = h
+read_again old new before now writes written WriteFault h = tt
+read_again old new before now writes written Memory h = tt
+
+-- a turn that isn't the last
+pub turn_goes_on : {t : Relay} {waits : List ℕ} {old new before now : Option (List ℕ)} (step : Step) → step ≢ steps.Done → Turned t waits old new before now (Ok step) → HasPassed t waits old new before now × Fits t waits
+turn_goes_on steps.Done other turn = absurd (other refl)
+turn_goes_on step other turn = turn.is
+
+-- a relay at the end, with nothing that waits, has passed a whole stream on
+pub over_now : (r : Relay) (old new before now : Option (List ℕ)) (relayed : Relayed) → HasPassed r [] old new before now → is_at_end r.coming ≡ true → relayed.records ≡ r.seen.records → relayed.bytes ≡ r.passed → IsRelayed old new before now (Ok relayed)
+over_now r old new before now relayed h over records bytes =
+    let m = from_end r new now over h.stands.here h.stands.begun h.stands.keeps in
+    record {
+      is = record {
+        front = h.wrote ++ [];
+        s = m.is.0;
+        passes = λ more. h.stands.same more ∙ m.is.1 more;
+        taken = h.taken;
+        written = subst (Appends before now) (sym (append-nil h.wrote)) h.written;
+        bytes = bytes ∙ h.stands.count;
+        records = subst (λ n. HasRecords n m.is.0) (sym records) m.is.4;
+      };
+    }
+
+-- the last turn
+pub turn_over : {t : Relay} {waits : List ℕ} {old new before now : Option (List ℕ)} (relayed : Relayed) (step : Step) → step ≡ steps.Done → Turned t waits old new before now (Ok step) → relayed.records ≡ t.seen.records → relayed.bytes ≡ t.passed → IsRelayed old new before now (Ok relayed)
+turn_over {t} {waits} {old} {new} {before} {now} relayed step is turn records bytes =
+    let m = (subst (λ (x : Step). Turned t waits old new before now (Ok x)) is turn).is in
+    over_now t old new before now relayed m.1 m.2 records bytes
+
+-- what waits where no step more is taken
+at_rest : (r : Relay) (waiting : List ℕ) (old new before now : Option (List ℕ)) → HasPassed r waiting old new before now → Fits r waiting → Gathered waiting old new before now
+at_rest r waiting old new before now h fits = gather r r waiting waiting old new new before now h fits [] [] (sym (append-nil waiting)) (omega arith) (none_shorter h.stands.here h.stands.begun) (left_alone new new (stays new))
+
+-- it couldn't be written
+pub rest_broke_off : (r : Relay) (waiting : List ℕ) (old new before now later : Option (List ℕ)) → HasPassed r waiting old new before now → Fits r waiting → AppendsPart now later waiting → IsRelayed old new before later (Err WriteFault)
+rest_broke_off r waiting old new before now later h fits put = record { is = broke_off old new before now later waiting (at_rest r waiting old new before now h fits) put }
 
 -- no step more, before the end
-pub gave_up_on : (r : Relay) (old new before now : Option (List ℕ)) → HasPassed r old new before now → is_at_end r.coming ≡ false → IsRelayed old new before now (Err Memory)
+pub gave_up_on : (r : Relay) (old new before now : Option (List ℕ)) → HasPassed r [] old new before now → is_at_end r.coming ≡ false → IsRelayed old new before now (Err Memory)
+unfolding at_rest gather
 gave_up_on r old new before now h going =
-    let c = is_front h.stands going in
-    record {
-      is = (
-        record {
-          wrote = h.bytes;
-          others = [];
-          taken = subst (Consumes old new) (sym (append-nil h.bytes)) h.taken;
-          written = h.written;
-          held = record { here = h.stands.here; begun = h.stands.begun; same = h.stands.same; few = omega arith };
-          unaccepted = none_accepted h.bytes ((c.0, Truncated), [], c.1);
-        },
-        c,
-      );
-    }
+    record { is = cut_written old new before now now [] (nothing now) (record { g = at_rest r [] old new before now h (omega arith); cut = is_front h.stands going }) }

@@ -15,7 +15,7 @@ use Rattle.mig_pieces.specs.Begun.{IsBegunBody, piece_len}
 use Rattle.mig_pieces.specs.Bodies.{fault_of_record_body, fault_of_libxl_body}
 use Rattle.mig_records.specs.declared.head.RecordHead.{RecordHead}
 use Rattle.mig_restore.specs.Judging.{Opening, before, fault_of_fields, most_records, with_places}
-use Rattle.mig_restore.specs.Record.{StreamRecord, types_of, is_ended}
+use Rattle.mig_restore.specs.Record.{StreamRecord, FrameEntry, types_of, is_ended}
 use Rattle.mig_restore.specs.Seen.{IsSeen}
 use Rattle.mig_restore.specs.Stream.{ImageOf}
 use Rattle.mig_relay.specs.Parts.{Next, AtMarker, AtVersion, AtKind, AtHead, AtBody, AtFront, AtWords, AtPages, AtPadding, record_with}
@@ -70,12 +70,13 @@ pub record IsPages (head : RecordHead) : Type 0 where
   pub kind : head.kind ≡ 1
   pub small : head.len ≤ most_body
 
--- the words of a PAGE_DATA, of which this one has the next page
-pub record KeepsWords (r : Relay) (coming : List (ℕ × ℕ)) : Type 0 where
+-- the words of a PAGE_DATA, of which this one has the next page, behind the entries of the others
+pub record KeepsWords (r : Relay) (coming : List (ℕ × ℕ)) (stood : List FrameEntry) : Type 0 where
   pub left : coming ≡ with_places r.page (drop r.page r.words.items)
   pub some : r.page < length r.words.items
   pub paged : word_has_data (slice_index r.words.items r.page) ≡ true
   pub few : length r.words.items ≤ 2 ^ 24
+  pub behind : length stood ≡ r.page
 
 -- what a relay keeps where this comes next in an image, and these first bytes of it were taken
 abbrev pub KeepsNext : Relay → Next → List ℕ → Type 0
@@ -86,7 +87,7 @@ KeepsNext r (AtHead o records) begun = (r.coming ≡ comes.Head) × KeepsRecords
 KeepsNext r (AtBody o records head) begun = (r.coming ≡ comes.Body head) × KeepsHead r o records head (top_with head.kind begun (before o records).top) × IsOther o records head × KeepsFirst r head begun × KeepsBody r head (fault_of_record_body head.kind) begun
 KeepsNext r (AtFront o records head) begun = (r.coming ≡ comes.Front head) × KeepsHead r o records head (before o records).top × IsPages head × (begun ≡ [])
 KeepsNext r (AtWords o records head n) begun = (r.coming ≡ comes.Words head n) × KeepsHead r o records head (before o records).top × IsPages head × ((0 < n) × (8 + 8 * n ≤ head.len)) × (begun ≡ [])
-KeepsNext r (AtPages o records head coming stood) begun = (r.coming ≡ comes.Page head) × KeepsHead r o records head (before o records).top × IsPages head × (padding_len head.len ≡ 0) × KeepsWords r coming × (begun ≡ [])
+KeepsNext r (AtPages o records head coming stood) begun = (r.coming ≡ comes.Page head) × KeepsHead r o records head (before o records).top × IsPages head × (padding_len head.len ≡ 0) × KeepsWords r coming stood × (begun ≡ [])
 KeepsNext r (AtPadding o records head content) begun = (r.coming ≡ comes.Padding head) × KeepsHead r o records head (before o (records ++ record_with records head content ∷ [])).top × (0 < padding_len head.len) × (head.kind ≢ 0) × (begun ≡ [])
 
 -- ---- around an image

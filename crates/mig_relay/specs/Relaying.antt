@@ -1,16 +1,20 @@
 -- What a relay of a whole stream does.
-use Rattle.std.specs.Prelude.{◌≡◌, ◌≤◌, ◌-◌, ◌^◌, ℕ, List, [], ◌++◌, length, min, Option, Result, Ok, Err}
+use Rattle.std.specs.Prelude.{◌≡◌, true, ◌≤◌, ◌-◌, ◌^◌, ℕ, List, [], ◌++◌, length, min, Option, Result, Ok, Err, ⊤, ◌⊎◌}
 use Rattle.std.specs.Io.KnownBytes.{Consumes, Appends}
+use Rattle.mig_bytes.specs.Faults.{Rose}
 use Rattle.mig_bytes.specs.Judged.Judged.{Passes}
 use Rattle.mig_libxl.specs.Stream.{StreamOf, stream_at}
 use Rattle.mig_passable.specs.Streams.{open_stream_at}
 use Rattle.mig_relay.specs.Keeping.{HasRecords}
-use Rattle.mig_relay.specs.Spots.{Spot, spot, held}
-use Rattle.mig_relay.specs.Standing.{StandsForBytes, IsRefusedBehind}
-use Rattle.mig_relay.specs.Steps.{EndsInside}
+use Rattle.mig_relay.specs.Spots.{Spot, AtStart, spot, held}
+use Rattle.mig_relay.specs.Standing.{StandsForBytes, IsRefusedBehind, is_at_end}
+use Rattle.mig_relay.specs.Steps.{FrontsAreCut, EndsInside}
+use Rattle.mig_relay.specs.Waiting.{Fits, most_waiting}
 use Rattle.mig_relay.specs.declared.answer.RelayAnswer.{RelayAnswer}
-use Rattle.mig_relay.specs.declared.answer.RelayAnswer.TheVariants.{Refused}
+use Rattle.mig_relay.specs.declared.answer.RelayAnswer.TheVariants.{Refused, ReadFault, WriteFault, Memory}
 use Rattle.mig_relay.specs.declared.answer.Relayed.{Relayed}
+use Rattle.mig_relay.specs.declared.answer.Step.{Step}
+use Rattle.mig_relay.specs.declared.answer.Step.TheVariants.{Done}
 use Rattle.mig_relay.specs.declared.state.Relay.{Relay}
 
 -- a front of the input was taken and written, and it is passable, whatever follows it
@@ -23,13 +27,18 @@ pub record PassedWhole (old new : Option (List ℕ)) (before now : Option (List 
   pub bytes : relayed.bytes ≡ min (length front) (2 ^ 64 - 1)
   pub records : HasRecords relayed.records s
 
--- Behind the bytes that were written this comes next, and of it these bytes were taken: at most 8 for each word of a
--- PAGE_DATA, or 4096.
+-- Of the bytes that were taken, these others aren't written. The first of them were passed on and wait. What was passed on
+-- ends in a part, of which it has the bytes begun, and the rest was taken of that part. The others are at most 8 for each
+-- word of the part's PAGE_DATA, and 4608; and the rest alone is at most the words, where these are the part, or 4096.
 pub record AreHeld (wrote others : List ℕ) : Type 0 where
+  pub waiting : List ℕ
+  pub rest : List ℕ
+  pub are : others ≡ waiting ++ rest
   pub here : Spot
   pub begun : List ℕ
-  pub same : (more : List ℕ) → open_stream_at (wrote ++ more) ≡ spot here (begun ++ more)
-  pub few : length others ≤ held here
+  pub same : (more : List ℕ) → open_stream_at ((wrote ++ waiting) ++ more) ≡ spot here (begun ++ more)
+  pub few : length others ≤ most_waiting here
+  pub rest_few : length rest ≤ held here
 
 -- no front of these bytes is an accepted stream
 abbrev pub NoneIsAccepted : List ℕ → Type 0
@@ -44,23 +53,74 @@ pub record PassedPart (old new : Option (List ℕ)) (before now : Option (List �
   pub held : AreHeld wrote others
   pub unaccepted : NoneIsAccepted wrote
 
+-- nothing waits: all that was passed on was written
+abbrev pub NoneWaits : {old new before now : Option (List ℕ)} → PassedPart old new before now → Type 0
+NoneWaits p = p.held.waiting ≡ []
+
 -- and what was written ends inside a part, without a cause in it
 abbrev pub IsCutPart : Option (List ℕ) → Option (List ℕ) → Option (List ℕ) → Option (List ℕ) → Type 0
 IsCutPart old new before now = (p : PassedPart old new before now) × EndsInside (open_stream_at p.wrote)
 
+-- the same, and nothing waits
+abbrev pub IsWrittenPart : Option (List ℕ) → Option (List ℕ) → Option (List ℕ) → Option (List ℕ) → Type 0
+IsWrittenPart old new before now = (p : PassedPart old new before now) × EndsInside (open_stream_at p.wrote) × NoneWaits p
+
 -- A passable front was passed on, and nothing else was taken; or the input is refused, with all causes but those that are
--- left out; or the source, the sink or memory failed.
+-- left out; or the source, the sink or memory failed. Where the input is refused, or memory failed, nothing waits.
 abbrev pub RelayedBy : Option (List ℕ) → Option (List ℕ) → Option (List ℕ) → Option (List ℕ) → Result Relayed RelayAnswer → Type 0
 RelayedBy old new before now (Ok relayed) = PassedWhole old new before now relayed
-RelayedBy old new before now (Err (Refused place cause)) = IsRefusedBehind [] old new place cause × PassedPart old new before now
-RelayedBy old new before now (Err answer) = IsCutPart old new before now
+RelayedBy old new before now (Err (Refused place cause)) = IsRefusedBehind [] old new place cause × (p : PassedPart old new before now) × NoneWaits p
+RelayedBy old new before now (Err WriteFault) = IsCutPart old new before now
+RelayedBy old new before now (Err ReadFault) = IsCutPart old new before now
+RelayedBy old new before now (Err Memory) = IsWrittenPart old new before now
 
 pub record IsRelayed (old new before now : Option (List ℕ)) (result : Result Relayed RelayAnswer) : Type 0 where
   pub is : RelayedBy old new before now result
 
--- a relay that has taken and written the bytes that it stands for
-pub record HasPassed (r : Relay) (old new before now : Option (List ℕ)) : Type 0 where
-  pub bytes : List ℕ
-  pub stands : StandsForBytes r bytes
-  pub taken : Consumes old new bytes
-  pub written : Appends before now bytes
+-- where a read failed, nothing waits, or a write failed too
+abbrev pub WritesOnReadFault : {X : Type 0} → Option (List ℕ) → Option (List ℕ) → Option (List ℕ) → Option (List ℕ) → ℕ → ℕ → Result X RelayAnswer → Type 0
+WritesOnReadFault old new before now writes written (Ok x) = ⊤
+WritesOnReadFault old new before now writes written (Err (Refused place cause)) = ⊤
+WritesOnReadFault old new before now writes written (Err ReadFault) = IsWrittenPart old new before now ⊎ Rose writes written
+WritesOnReadFault old new before now writes written (Err WriteFault) = ⊤
+WritesOnReadFault old new before now writes written (Err Memory) = ⊤
+
+-- A read fault is answered only where the count of the source rose, a write fault only where that of the sink rose, and
+-- every other answer only where both stand as they were. What waits when a read fails is written then, and that may fail
+-- too: of the two failures the first is answered.
+abbrev pub RisesOnAnswer : {X : Type 0} → ℕ → ℕ → ℕ → ℕ → Result X RelayAnswer → Type 0
+RisesOnAnswer reads read writes written (Ok x) = (read ≡ reads) × (written ≡ writes)
+RisesOnAnswer reads read writes written (Err (Refused place cause)) = (read ≡ reads) × (written ≡ writes)
+RisesOnAnswer reads read writes written (Err ReadFault) = (reads ≤ read) × Rose reads read × (writes ≤ written)
+RisesOnAnswer reads read writes written (Err WriteFault) = (read ≡ reads) × (writes ≤ written) × Rose writes written
+RisesOnAnswer reads read writes written (Err Memory) = (read ≡ reads) × (written ≡ writes)
+
+-- ---- what a relay of a whole stream keeps
+
+-- A relay that has taken the bytes that it stands for, and written all but those that wait. Every shorter front of them
+-- ends inside a part.
+pub record HasPassed (r : Relay) (waiting : List ℕ) (old new before now : Option (List ℕ)) : Type 0 where
+  pub wrote : List ℕ
+  pub stands : StandsForBytes r (wrote ++ waiting)
+  pub cuts : FrontsAreCut AtStart [] (wrote ++ waiting)
+  pub taken : Consumes old new (wrote ++ waiting)
+  pub written : Appends before now wrote
+
+-- the answer of a step over a sink that fails only where no memory is found
+abbrev pub held_answer : RelayAnswer → RelayAnswer
+held_answer WriteFault = Memory
+held_answer answer = answer
+
+-- the answer where a write of what waits failed behind a step: of two failures the first
+abbrev pub unwritten : Result Step RelayAnswer → RelayAnswer
+unwritten (Err ReadFault) = ReadFault
+unwritten _ = WriteFault
+
+-- the end was reached and all is written; or the relay goes on, and no more waits than may; or the answer stands
+abbrev pub TurnedBy : Relay → List ℕ → Option (List ℕ) → Option (List ℕ) → Option (List ℕ) → Option (List ℕ) → Result Step RelayAnswer → Type 0
+TurnedBy r waiting old new before now (Ok Done) = (waiting ≡ []) × HasPassed r [] old new before now × (is_at_end r.coming ≡ true)
+TurnedBy r waiting old new before now (Ok step) = HasPassed r waiting old new before now × Fits r waiting
+TurnedBy r waiting old new before now (Err answer) = RelayedBy old new before now (Err answer)
+
+pub record Turned (r : Relay) (waiting : List ℕ) (old new before now : Option (List ℕ)) (result : Result Step RelayAnswer) : Type 0 where
+  pub is : TurnedBy r waiting old new before now result

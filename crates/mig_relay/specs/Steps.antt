@@ -69,6 +69,14 @@ IsStep here piece t step = ⊥
 
 -- ---- what it does, where this comes next and these first bytes of it were taken
 
+-- of the bytes so far a part isn't whole, and no cause stands in them
+abbrev pub EndsInside : Verdict (Place × Cause) StreamOf → Type 0
+EndsInside judged = (place : Place) × (judged ≡ Faulty (place, Truncated) [])
+
+-- where any last bytes of the piece are missing, a part isn't whole, and no cause stands in what is there
+abbrev pub FrontsAreCut : Spot → List ℕ → List ℕ → Type 0
+FrontsAreCut here begun piece = (front more : List ℕ) → piece ≡ front ++ more → 0 < length more → EndsInside (spot here (begun ++ front))
+
 -- a piece was taken and written, and the relay has it behind it
 pub record PassedPiece (here : Spot) (begun : List ℕ) (step : Step) (r t : Relay) (old new : Option (List ℕ)) (before now : Option (List ℕ)) : Type 0 where
   pub piece : List ℕ
@@ -79,19 +87,17 @@ pub record PassedPiece (here : Spot) (begun : List ℕ) (step : Step) (r t : Rel
   pub written : Appends before now piece
   pub same : (more : List ℕ) → spot here (begun ++ (piece ++ more)) ≡ spot next (front ++ more)
   pub keeps : Keeps t next front
+  pub small : length piece ≤ held here
+  pub cuts : FrontsAreCut here begun piece
   pub count : t.passed ≡ counted r.passed (length piece)
   pub is : IsStep here piece t step
 
--- some bytes were taken, and the first of them written; those that weren't are at most so many
+-- at most so many bytes were taken, and the first of them written
 pub record WritesFront (most : ℕ) (old new : Option (List ℕ)) (before now : Option (List ℕ)) (wrote : List ℕ) : Type 0 where
   pub others : List ℕ
-  pub few : length others ≤ most
+  pub few : length wrote + length others ≤ most
   pub taken : Consumes old new (wrote ++ others)
   pub written : Appends before now wrote
-
--- of the bytes so far a part isn't whole, and no cause stands in them
-abbrev pub EndsInside : Verdict (Place × Cause) StreamOf → Type 0
-EndsInside judged = (place : Place) × (judged ≡ Faulty (place, Truncated) [])
 
 -- the bytes so far are no stream
 abbrev pub IsUnfinished : Verdict (Place × Cause) StreamOf → Type 0
@@ -105,7 +111,7 @@ is_judged_first _ = true
 
 -- some first bytes of what was taken were written, and none of a part that is judged first
 abbrev pub WritesSome : Spot → List ℕ → Option (List ℕ) → Option (List ℕ) → Option (List ℕ) → Option (List ℕ) → Type 0
-WritesSome here begun old new before now = (wrote : List ℕ) × WritesFront (held here) old new before now wrote × (is_judged_first here ≡ true → wrote ≡ []) × IsUnfinished (spot here (begun ++ wrote))
+WritesSome here begun old new before now = (wrote : List ℕ) × WritesFront (held here) old new before now wrote × (is_judged_first here ≡ true → wrote ≡ []) × IsUnfinished (spot here (begun ++ wrote)) × FrontsAreCut here begun wrote
 
 -- the bytes that are left are refused, and all up to the end of the faulty part was taken
 abbrev pub Refuses : Spot → List ℕ → Option (List ℕ) → Option (List ℕ) → Place → Cause → Type 0
@@ -114,7 +120,7 @@ Refuses here begun (Some left) new place cause = (rest : List ℕ) × (spot here
 
 -- the relay stopped in a part, before it was written whole
 abbrev pub Stops : Spot → List ℕ → Option (List ℕ) → Option (List ℕ) → Option (List ℕ) → Option (List ℕ) → Type 0
-Stops here begun old new before now = (wrote : List ℕ) × WritesFront (held here) old new before now wrote × EndsInside (spot here (begun ++ wrote))
+Stops here begun old new before now = (wrote : List ℕ) × WritesFront (held here) old new before now wrote × EndsInside (spot here (begun ++ wrote)) × FrontsAreCut here begun wrote
 
 abbrev pub MovedBy : Spot → List ℕ → Relay → Relay → Option (List ℕ) → Option (List ℕ) → Option (List ℕ) → Option (List ℕ) → Result Step RelayAnswer → Type 0
 MovedBy here begun r t old new before now (Ok Done) = (s : StreamOf) × ((more : List ℕ) → spot here (begun ++ more) ≡ Passes s more) × Stays old new × Stays before now × HasRecords r.seen.records s

@@ -1,19 +1,21 @@
 //! Passes a stream on while it judges it, part by part, and keeps no pages.
 //!
 //! Responsible for: which part of a stream comes next, what is judged of it before it is written, and what is kept of it: a
-//! count, a few facts, the words of one PAGE_DATA and the small state of one body. In either form of stream (libxc
-//! migration stream; libxl migration stream).
+//! count, a few facts, the words of one PAGE_DATA and the small state of one body. Which parts wait to be written with
+//! those behind them. In either form of stream (libxc migration stream; libxl migration stream).
 //! Left to others: what is wrong with a part (mig_headers, mig_records, mig_order, mig_libxl, mig_restore, mig_pvtables),
 //! bodies in pieces (mig_pieces), which streams may pass (mig_passable).
 //!
 //! What the layers above rely on: `relay` answers Ok exactly on a passable front, which it has taken and written then, and
-//! refuses with the open refusal; whatever it answers, what was written is a front of what was taken, and no more than the
-//! words of one PAGE_DATA and 4096 bytes were taken and not written.
+//! refuses with the open refusal; whatever it answers, what was written is a front of what was taken, and no more than 8
+//! bytes for each word of the PAGE_DATA in hand and 4608 were taken and not written. Where no write fails, all that was
+//! passed on is written before it answers.
 #![tactic(auto)]
 
 mod answer;
 mod bodies;
 mod heads;
+mod held;
 mod law;
 mod opening;
 mod pages;

@@ -7,6 +7,7 @@ ghost use Rattle.mig_relay.specs.Keeping.{Keeps, Stands, words_in_hand};
 ghost use Rattle.mig_relay.specs.Spots.{Spot, AtStart};
 ghost use Rattle.mig_relay.specs.Standing.{StandsForBytes, StepSays, is_over, is_at_end, goes_on};
 ghost use Rattle.mig_relay.specs.Steps.{StepMoved, RisesOnFault, answer_of, counted};
+ghost use Rattle.mig_relay.specs.Waiting.{may_wait};
 ghost use Rattle.mig_relay.specs.declared.answer.Step.TheVariants.{Done};
 
 use crate::answer::{RelayAnswer, Relayed, Step};
@@ -45,6 +46,9 @@ pub(crate) enum Coming {
 /// The bytes that a relay holds beside the words in hand, at most: its own fields.
 const OWN: u64 = 512;
 
+/// How many judged bytes may wait in front of any part.
+const WAITING: usize = 512;
+
 /// Passes a stream on, part by part, and keeps no pages.
 #[derive(Drop)]
 pub struct Relay {
@@ -62,7 +66,7 @@ pub struct Relay {
     pub(crate) words: Vec<u64>,
     /// Which of them has the next page.
     pub(crate) page: usize,
-    /// How many bytes were written.
+    /// How many bytes were passed on.
     pub(crate) passed: u64,
 }
 
@@ -120,6 +124,16 @@ impl Relay {
     {
         let words = (self.words.len() as u64).saturating_mul(8);
         words.saturating_add(OWN)
+    }
+
+    /// How many judged bytes may wait while the next part is taken: 8 for each word of a PAGE_DATA whose page comes, and 512.
+    pub(crate) fn may_wait(&self) -> usize
+        ensures { result ≡ min (may_wait self.now.coming (length self.now.words.items)) (2 ^ 64 - 1) }
+    {
+        match self.coming {
+            Coming::Page(_) => self.words.len().saturating_mul(8).saturating_add(WAITING),
+            _ => WAITING,
+        }
     }
 
     /// Whether the stream is over: the next step answers Done.

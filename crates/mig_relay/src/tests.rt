@@ -25,16 +25,18 @@ fn sink(alloc: Global, fails: u64) -> Result<MemSink, Fail> {
 
 const NEVER: u64 = u64::MAX;
 
-// The headers of an HVM image, and a PAGE_DATA of 1024 words, each of a frame that is taken away but the second, which has
-// a page; behind it the context and END.
-fn thousand_words(alloc: Global) -> Result<Vec<u8>, Fail> {
+// The headers of an HVM image, and a PAGE_DATA of 1024 words, each of a frame that is taken away but those of the first
+// pages; its length is 256 times `high`, and 8. Behind it the context and END.
+fn thousand_words(alloc: Global, high: u8, pages: u64) -> Result<Vec<u8>, Fail> {
     let mut bytes = SMALLEST[..48].to_vec(alloc)?;
-    bytes.extend_from_slice(&[1, 0, 0, 0, 8, 48, 0, 0, 0, 4, 0, 0, 0, 0, 0, 0])?;
+    bytes.extend_from_slice(&[1, 0, 0, 0, 8, high, 0, 0, 0, 4, 0, 0, 0, 0, 0, 0])?;
     for pfn in 0..1024u64 {
-        let kind = if pfn == 1 { 0 } else { 0xF0 };
+        let kind = if pfn < pages { 0 } else { 0xF0 };
         bytes.extend_from_slice(&[(pfn % 256) as u8, (pfn / 256) as u8, 0, 0, 0, 0, 0, kind])?;
     }
-    bytes.extend_from_slice(&[7; 4096])?;
+    for _ in 0..pages {
+        bytes.extend_from_slice(&[7; 4096])?;
+    }
     bytes.extend_from_slice(&SMALLEST[48..])?;
     Ok(bytes)
 }
@@ -57,7 +59,7 @@ fn most_kept(alloc: Global, src: &mut MemSource, sink: &mut MemSink) -> (u64, u6
 
 #[test]
 fn few_bytes_are_kept_of_a_thousand_words(rt: HostRuntime) -> Result<(), Fail> {
-    let bytes = thousand_words(rt.alloc())?;
+    let bytes = thousand_words(rt.alloc(), 48, 1)?;
     let mut src = source(rt.alloc(), bytes, 4096, NEVER)?;
     let mut out = sink(rt.alloc(), NEVER)?;
     let (most, steps) = most_kept(rt.alloc(), &mut src, &mut out);
@@ -91,23 +93,56 @@ fn the_smallest_stream_is_passed_on(rt: HostRuntime) -> Result<(), Fail> {
     Ok(())
 }
 
-// Each read and each write fails in turn: what was written is a front of the stream.
+// Each read fails in turn: what was judged before it was written.
 #[test]
-fn reads_and_writes_fail_in_turn(rt: HostRuntime) -> Result<(), Fail> {
-    for fails in 0..12 {
+fn reads_fail_in_turn(rt: HostRuntime) -> Result<(), Fail> {
+    let mut least = 0;
+    for fails in 0..8 {
         let mut src = source(rt.alloc(), SMALLEST.to_vec(rt.alloc())?, 4096, fails)?;
         let mut out = sink(rt.alloc(), NEVER)?;
         let read = relay(rt.alloc(), &mut src, &mut out);
-        let mut whole = source(rt.alloc(), SMALLEST.to_vec(rt.alloc())?, 4096, NEVER)?;
-        let mut broken = sink(rt.alloc(), fails)?;
-        let written = relay(rt.alloc(), &mut whole, &mut broken);
-        if fails < 8 {
-            assert_eq!(rt; read, Err(RelayAnswer::ReadFault), "{fails}");
-            assert_eq!(rt; written, Err(RelayAnswer::WriteFault), "{fails}");
-        }
+        assert_eq!(rt; read, Err(RelayAnswer::ReadFault), "{fails}");
         assert!(rt; SMALLEST.starts_with(out.bytes()), "{fails}");
-        assert!(rt; SMALLEST.starts_with(broken.bytes()), "{fails}");
+        assert_eq!(rt; out.bytes().is_empty(), fails == 0, "{fails}");
+        assert!(rt; least <= out.bytes().len(), "{fails}");
+        least = out.bytes().len();
     }
+    assert_eq!(rt; least, 88);
+    Ok(())
+}
+
+// Each write of 17 parts, of which 5 are pages, fails in turn, until none fails: they are written by 4 writes.
+#[test]
+fn writes_fail_in_turn(rt: HostRuntime) -> Result<(), Fail> {
+    let stream = thousand_words(rt.alloc(), 112, 5)?;
+    for fails in 0..5 {
+        let mut src = source(
+            rt.alloc(),
+            stream.as_slice().to_vec(rt.alloc())?,
+            4096,
+            NEVER,
+        )?;
+        let mut out = sink(rt.alloc(), fails)?;
+        let written = relay(rt.alloc(), &mut src, &mut out);
+        assert_eq!(rt;
+            written == Err(RelayAnswer::WriteFault),
+            fails < 4,
+            "{fails}"
+        );
+        assert!(rt; stream.starts_with(out.bytes()), "{fails}");
+        assert_eq!(rt; out.bytes().len() == stream.len(), fails == 4, "{fails}");
+    }
+    Ok(())
+}
+
+// A read fails, and then the write of what waits: of the two failures the first is told.
+#[test]
+fn of_two_failures_the_first_is_told(rt: HostRuntime) -> Result<(), Fail> {
+    let mut src = source(rt.alloc(), SMALLEST.to_vec(rt.alloc())?, 4096, 3)?;
+    let mut out = sink(rt.alloc(), 0)?;
+    let relayed = relay(rt.alloc(), &mut src, &mut out);
+    assert_eq!(rt; relayed, Err(RelayAnswer::ReadFault));
+    assert!(rt; out.bytes().is_empty());
     Ok(())
 }
 

@@ -9,8 +9,7 @@ use Rattle.mig_headers.specs.declared.fault.Cause.{Cause}
 use Rattle.mig_headers.specs.declared.fault.Place.{Place}
 use Rattle.std.specs.Prelude.{◌≤◌}
 use Rattle.mig_passable.specs.Streams.{open_stream_at, IsOpenRefused}
-use Rattle.mig_relay.specs.Relaying.{PassedWhole, PassedPart, IsRelayed, RelayedBy}
-use Rattle.mig_relay.specs.Steps.{RisesOnFault}
+use Rattle.mig_relay.specs.Relaying.{PassedWhole, PassedPart, IsRelayed, RelayedBy, RisesOnAnswer}
 use Rattle.mig_relay.specs.declared.answer.RelayAnswer.{RelayAnswer}
 use Rattle.mig_relay.specs.declared.answer.RelayAnswer.TheVariants as answers
 use Rattle.mig_relay.specs.declared.answer.Relayed.{Relayed}
@@ -86,21 +85,21 @@ unpassed_relayed told left old new answer status is r = subst (λ s. SaysRelayed
 
 -- ---- counts of faults
 
-pub input_rises : (answer : RelayAnswer) (reads read writes written : ℕ) → RisesOnFault {X = Relayed} reads read writes written (Err answer) → InputRises (status_of (outcome_of_relay answer)) reads read
+pub input_rises : (answer : RelayAnswer) (reads read writes written : ℕ) → RisesOnAnswer {X = Relayed} reads read writes written (Err answer) → InputRises (status_of (outcome_of_relay answer)) reads read
 input_rises (answers.Refused place cause) reads read writes written h = h.0
 input_rises answers.ReadFault reads read writes written h = (h.0, h.1)
 input_rises answers.WriteFault reads read writes written h = h.0
 input_rises answers.Memory reads read writes written h = h.0
 
-pub output_later : (r : Result Relayed RelayAnswer) (reads read writes written : ℕ) → RisesOnFault reads read writes written r → writes ≤ written
+pub output_later : (r : Result Relayed RelayAnswer) (reads read writes written : ℕ) → RisesOnAnswer reads read writes written r → writes ≤ written
 output_later (Ok x) reads read writes written h = omega (arith, h.1)
 output_later (Err (answers.Refused place cause)) reads read writes written h = omega (arith, h.1)
-output_later (Err answers.ReadFault) reads read writes written h = omega (arith, h.2)
+output_later (Err answers.ReadFault) reads read writes written h = h.2
 output_later (Err answers.WriteFault) reads read writes written h = h.1
 output_later (Err answers.Memory) reads read writes written h = omega (arith, h.1)
 
 -- a write fault that no report has is the output's
-pub output_rose : (answer : RelayAnswer) (reads read writes written : ℕ) → status_of (outcome_of_relay answer) ≡ statuses.WriteFault → RisesOnFault {X = Relayed} reads read writes written (Err answer) → Rose writes written
+pub output_rose : (answer : RelayAnswer) (reads read writes written : ℕ) → status_of (outcome_of_relay answer) ≡ statuses.WriteFault → RisesOnAnswer {X = Relayed} reads read writes written (Err answer) → Rose writes written
 output_rose (answers.Refused place cause) reads read writes written is h = let no : ◌≡◌ {A = Status} statuses.Refused statuses.WriteFault = is in absurd (cc)
 output_rose answers.ReadFault reads read writes written is h = let no : ◌≡◌ {A = Status} statuses.ReadFault statuses.WriteFault = is in absurd (cc)
 output_rose answers.WriteFault reads read writes written is h = h.2
@@ -125,7 +124,7 @@ passed_line old new relayed status done part (inr is) = subst (PutsOwnLine Relay
 -- ---- where a write of the output failed
 
 pub unpassed_breaks : (told left old new report_old report_new : Option (List ℕ)) (answer : RelayAnswer) (status : Status) (reads read out out_now report report_now : ℕ) → status ≡ status_of (outcome_of_relay answer) → status ≡ statuses.WriteFault → IsRelayed told left old new (Err answer)
-    → RisesOnFault {X = Relayed} reads read out out_now (Err answer) → Reports (line_of (outcome_of_relay answer)) report_old report_new report report_now → OutputStopped told left old new report_old report_new out out_now report report_now
+    → RisesOnAnswer {X = Relayed} reads read out out_now (Err answer) → Reports (line_of (outcome_of_relay answer)) report_old report_new report report_now → OutputStopped told left old new report_old report_new out out_now report report_now
 unpassed_breaks told left old new report_old report_new answer status reads read out out_now report report_now is failed r h line = record {
   rose = output_rose answer reads read out out_now (sym is ∙ failed) h;
   part = part_of told left old new answer r;

@@ -42,7 +42,7 @@ returns-then-self-clause-moved g c outer o records begun around kept other first
     (λ more. c.top_behind-self.ensures.later (omega (arith, begins, more)) ∙ ap (λ (r : Relay). r.top) same) in
     record {
       is =
-          goes_on _ _ _ _ _ (body_part outer o records c.args.head other (omega (arith, body.less))) begun c.args.self.now _ _ _ _ _ buf _ (InImage outer (AtBody o records c.args.head)) (begun ++ buf) Piece some
+          goes_on _ _ _ _ _ (body_part outer o records c.args.head other (omega (arith, body.less))) begun c.args.self.now _ _ _ _ _ buf _ (InImage outer (AtBody o records c.args.head)) (begun ++ buf) Piece (omega (arith, size, body.known.taken, c.next_piece-count.ensures.within, body.len)) (omega (arith, size, c.next_piece-count.ensures.most)) some
           c.in_default.ensures.read c.in_default-put.ensures.bytes (λ more. ap (spot (InImage outer (AtBody o records c.args.head))) (sym (append_assoc begun buf more))) (
             outer_same c.args.self.now _ outer (ap (λ (r : Relay). r.wrapper) same) around,
             (
@@ -73,7 +73,7 @@ returns-in-Some-clause-moved g c outer o records begun around kept other first b
     let known = c.pass.ensures.begun (fault_of_record_body c.args.head.kind) begun (subst (λ (r : Relay). IsBegunBody r.body (fault_of_record_body c.args.head.kind) begun) (sym same) body.known) in
     let whole : length (begun ++ buf) ≡ c.args.head.len = omega (arith, length-append begun buf, size, len, taken, body.known.taken, body.len, c.next_piece-count.ensures.within, c.if-self.false) in
     refused_behind _ _ _ _ _ (body_part outer o records c.args.head other (omega (arith, body.less))) begun _ _ _ _ _ _ buf _ c.in-Some.cause _ (ap (λ n. Refused (Record n) c.in-Some.cause) (c.from.ensures ∙ this_number _ o records _ kept.seen)) whole
-    (sym (c.fault.ensures (fault_of_record_body c.args.head.kind) (begun ++ buf) known) ∙ c.in-Some.is) c.in_default.ensures.read c.in_default-put.ensures.bytes refl
+    (sym (c.fault.ensures (fault_of_record_body c.args.head.kind) (begun ++ buf) known) ∙ c.in-Some.is) c.in_default.ensures.read (omega (arith, size, c.next_piece-count.ensures.most)) c.in_default-put.ensures.bytes refl
 
 pub returns-clause-moved : goal.returns-clause-moved
 returns-clause-moved g c outer o records begun around kept other first body =
@@ -97,7 +97,7 @@ returns-clause-moved g c outer o records begun around kept other first body =
     c.behind_body-self.ensures.padding c.behind_body-self.ensures.none in
     record {
       is =
-          goes_on _ _ _ _ _ is begun c.args.self.now _ _ _ _ _ buf _ b.next [] Piece some c.in_default.ensures.read c.in_default-put.ensures.bytes
+          goes_on _ _ _ _ _ is begun c.args.self.now _ _ _ _ _ buf _ b.next [] Piece (omega (arith, size, body.known.taken, c.next_piece-count.ensures.within, body.len)) (omega (arith, size, c.next_piece-count.ensures.most)) some c.in_default.ensures.read c.in_default-put.ensures.bytes
           (λ more. ap (spot (InImage outer (AtBody o records c.args.head))) (sym (append_assoc begun buf more))
           ∙ passes (InImage outer (AtBody o records c.args.head)) _ _ _ _ is (begun ++ buf) more whole (sym (c.fault.ensures (fault_of_record_body c.args.head.kind) (begun ++ buf) known) ∙ c.in_default-fault.is) ∙ b.same more)
           b.keeps (ap (λ (r : Relay). r.passed) same) (refl, omega (arith, size, c.next_piece-count.ensures.most));

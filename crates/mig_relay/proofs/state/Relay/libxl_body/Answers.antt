@@ -34,7 +34,7 @@ returns-then-self-clause-moved g c records begun kept bodied body =
     let taken : c.pass.new.self.taken ≡ c.args.self.now.body.taken + length c.take_part.new.buf = c.pass.ensures.taken ∙ ap (λ (r : Relay). r.body.taken + length c.take_part.new.buf) same in
     record {
       is =
-          goes_on _ _ _ _ _ (libxl_body_is records c.args.head (omega (arith, body.less))) begun c.args.self.now _ _ _ _ _ c.take_part.new.buf _ (AtLibxlBody records c.args.head) (begun ++ c.take_part.new.buf) Piece (omega (arith, size, c.next_piece-count.ensures.some))
+          goes_on _ _ _ _ _ (libxl_body_is records c.args.head (omega (arith, body.less))) begun c.args.self.now _ _ _ _ _ c.take_part.new.buf _ (AtLibxlBody records c.args.head) (begun ++ c.take_part.new.buf) Piece (omega (arith, size, body.known.taken, c.next_piece-count.ensures.within, body.len)) (omega (arith, size, c.next_piece-count.ensures.most)) (omega (arith, size, c.next_piece-count.ensures.some))
           c.in_default-take_part.ensures.read c.in_default-put.ensures.bytes (λ more. ap (spot (AtLibxlBody records c.args.head)) (sym (append_assoc begun c.take_part.new.buf more))) (
             ap (λ (r : Relay). r.coming) same ∙ c.requires.coming,
             (going_same c.args.self.now _ records (ap (λ (r : Relay). r.wrapper) same) (ap (λ (r : Relay). r.seen) same) kept.0, kept.1),
@@ -58,7 +58,7 @@ returns-in-Some-fault-clause-moved g c records begun kept bodied body =
     let whole : length (begun ++ c.take_part.new.buf) ≡ c.args.head.len = omega (arith, length-append begun c.take_part.new.buf, size, len, taken, body.known.taken, body.len, c.next_piece-count.ensures.within, c.if-self.false) in
     refused_behind _ _ _ _ _ (libxl_body_is records c.args.head (omega (arith, body.less))) begun _ _ _ _ _ _ c.take_part.new.buf _ c.in-Some-fault.cause _
     (ap (λ n. Refused (AtRecord n) c.in-Some-fault.cause) (c.from.ensures ∙ libxl_number c.args.self.now records c.in-Some.behind kept.0 c.in-Some.is)) whole
-    (sym (c.fault.ensures (fault_of_libxl_body c.args.head.kind) (begun ++ c.take_part.new.buf) known) ∙ c.in-Some-fault.is) c.in_default-take_part.ensures.read c.in_default-put.ensures.bytes refl
+    (sym (c.fault.ensures (fault_of_libxl_body c.args.head.kind) (begun ++ c.take_part.new.buf) known) ∙ c.in-Some-fault.is) c.in_default-take_part.ensures.read (omega (arith, size, c.next_piece-count.ensures.most)) c.in_default-put.ensures.bytes refl
 
 pub returns-clause-moved : goal.returns-clause-moved
 returns-clause-moved g c records begun kept bodied body =
@@ -74,7 +74,7 @@ returns-clause-moved g c records begun kept bodied body =
     (ap (λ (r : Relay). r.wrapper) same) (ap (λ (r : Relay). r.seen) same) c.end_libxl_body.ensures.padding c.end_libxl_body.ensures.none in
     record {
       is =
-          goes_on _ _ _ _ _ is begun c.args.self.now _ _ _ _ _ c.take_part.new.buf _ b.next [] Piece (omega (arith, size, c.next_piece-count.ensures.some)) c.in_default-take_part.ensures.read c.in_default-put.ensures.bytes
+          goes_on _ _ _ _ _ is begun c.args.self.now _ _ _ _ _ c.take_part.new.buf _ b.next [] Piece (omega (arith, size, body.known.taken, c.next_piece-count.ensures.within, body.len)) (omega (arith, size, c.next_piece-count.ensures.most)) (omega (arith, size, c.next_piece-count.ensures.some)) c.in_default-take_part.ensures.read c.in_default-put.ensures.bytes
           (λ more. ap (spot (AtLibxlBody records c.args.head)) (sym (append_assoc begun c.take_part.new.buf more))
           ∙ passes (AtLibxlBody records c.args.head) _ _ _ _ is (begun ++ c.take_part.new.buf) more whole (sym (c.fault.ensures (fault_of_libxl_body c.args.head.kind) (begun ++ c.take_part.new.buf) known) ∙ c.in_default-fault.is) ∙ b.same more)
           b.keeps (b.passed ∙ ap (λ (r : Relay). r.passed) same) (refl, omega (arith, size, c.next_piece-count.ensures.most));

@@ -1,4 +1,4 @@
-use Rattle.std.proofs.Common.{◌≤◌, ◌+◌, ◌^◌, ◌∷◌, ◌++◌, Some, length, arith, refl, sym, [], ap, ◌∙◌}
+use Rattle.std.proofs.Common.{◌≡◌, ◌≤◌, ◌+◌, ◌^◌, ◌∷◌, ◌++◌, Some, length, length-append, arith, refl, sym, [], ap, ◌∙◌}
 use Rattle.std.proofs.lemmas.List.{get_or_read}
 use Rattle.mig_headers.specs.declared.fault.Place.TheVariants.{Record}
 use Rattle.mig_restore.specs.Judging.{before, type_in_word}
@@ -48,7 +48,8 @@ returns-clause-moved g c outer o records coming stood around kept pages padding 
     let few : length held.words.items ≤ 2 ^ 24 = omega (arith, ap (λ (x : Relay). length x.words.items) put, words.few) in
     let behind = stood ++ entry_of_word (next_word r) (Some buf) ∷ [] in
     let e = c.turn_to.ensures in
-    let t = turned held c.turn_to.new.self c.args.head e.within.1 e.page e.over outer o records (held.page + 1) behind e.within.0 e.data e.none few (outer_stays _ held outer stays around) (records_stay _ held o records _ _ stays kept) pages padding in
+    let many : length behind ≡ held.page + 1 = omega (arith, length-append stood (entry_of_word (next_word r) (Some buf) ∷ []), words.behind, ap (λ (x : Relay). x.page) put) in
+    let t = turned held c.turn_to.new.self c.args.head e.within.1 e.page e.over outer o records (held.page + 1) behind many e.within.0 e.data e.none few (outer_stays _ held outer stays around) (records_stay _ held o records _ _ stays kept) pages padding in
     record {
       is =
           went (page_is outer o records c.args.head r coming stood words) _ _ _ _ _ _ buf (omega (arith, c.take_part.auto.buf)) (omega (arith, c.take_part.auto.buf)) _ t.next [] _ fine c.in_default.ensures.read

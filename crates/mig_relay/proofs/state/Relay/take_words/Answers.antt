@@ -58,7 +58,7 @@ returns-clause-moved g c outer o records around kept pages =
     let stays : IsKept c.args.self.now held = record { wrapper = ap (λ (r : Relay). r.wrapper) put; seen = ap (λ (r : Relay). r.seen) put; top = ap (λ (r : Relay). r.top) put } in
     let e = c.turn_to.ensures in
     let few : length held.words.items ≤ 2 ^ 24 = omega (arith, c.in-Ok-words_of.words.ok.0, c.in-Ok-words_of.ensures.len, c.requires.within, c.requires.small) in
-    let t = turned held c.turn_to.new.self c.args.head e.within.1 e.page e.over outer o records 0 [] e.within.0 e.data e.none few (outer_stays _ held outer stays around) (records_stay _ held o records _ _ stays kept) pages
+    let t = turned held c.turn_to.new.self c.args.head e.within.1 e.page e.over outer o records 0 [] refl e.within.0 e.data e.none few (outer_stays _ held outer stays around) (records_stay _ held o records _ _ stays kept) pages
     (whole_list o.kind (before o records).top c.args.head.len n bytes fine) in
     record {
       is =
