@@ -1,0 +1,7 @@
+use Rattle.std.proofs.Common.{◌≡◌, map, take}
+use Rattle.serde_json.specs.View.{view}
+use Rattle.mig_show.specs.Tree.{record_tree}
+use Rattle.mig_show.proofs.tree.records_array.Given as goal
+
+abbrev pub invariant-loop-record : goal.invariant-loop-record
+invariant-loop-record l = map view l.objects.items ≡ map record_tree (take l.record-index l.list)

@@ -1,0 +1,4 @@
+pub mod Names
+pub mod Refusals
+pub mod Tree
+pub mod Smallest
