@@ -34,6 +34,7 @@ libxl_names = codes "END" ∷ codes "LIBXC_CONTEXT" ∷ codes "EMULATOR_XENSTORE
 abbrev pub type_name : Bool → ℕ → Option (List ℕ)
 type_name wrapped number = if wrapped then slice_get libxl_names number else option_map libxc_name (type_of_number number)
 
--- the name that is shown; a record whose type has bit 31 is optional, whatever the other bits are
+-- the name that is shown: a record whose type has bit 31 is optional, whatever the other bits are; and a type that is none of
+-- its layer has no name
 abbrev pub shown_name : Bool → ℕ → List ℕ
 shown_name wrapped number = if is_optional number then codes "optional" else unwrap_or (type_name wrapped number) []

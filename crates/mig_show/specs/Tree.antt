@@ -1,19 +1,14 @@
 -- The tree that shows a stream's records, in the terms of JSON: objects have their members in the order of their keys.
-use Rattle.std.specs.Prelude.{ℕ, Bool, List, map, codes, Option, Some, None, ◌==◌, ◌&&◌, not, IsTrue, IsSome, ◌⊎◌, if◌then◌else◌}
+use Rattle.std.specs.Prelude.{ℕ, Bool, List, map, codes, Option, Some, None, ◌==◌, ◌&&◌, not, if◌then◌else◌}
 use Rattle.serde_json.specs.Data.{Data, null, boolean, number, string, array, object, unsigned, Members, no_members, member, put}
 use Rattle.serde_json.specs.View.{items_of}
 use Rattle.mig_headers.specs.declared.fault.Place.{Place}
 use Rattle.mig_headers.specs.declared.fault.Cause.{Cause}
 use Rattle.mig_headers.specs.declared.kind.Kind.{Kind}
 use Rattle.mig_headers.specs.declared.kind.Kind.TheVariants.{Pv, Hvm}
-use Rattle.mig_headers.specs.RecordTypes.{is_optional}
 use Rattle.mig_show.specs.declared.record.ShownRecord.{ShownRecord}
-use Rattle.mig_show.specs.Names.{type_name, shown_name}
+use Rattle.mig_show.specs.Names.{shown_name}
 use Rattle.mig_show.specs.Refusals.{refused_text}
-
--- a record can be shown: its type is one of its layer, or has bit 31
-abbrev pub HasShownName : ShownRecord → Type 0
-HasShownName shown = IsTrue (is_optional shown.kind) ⊎ IsSome (type_name shown.wrapped shown.kind)
 
 -- a whole number
 abbrev pub whole : ℕ → Data

@@ -1,6 +1,6 @@
-ghost use Rattle.std.specs.Prelude.{◌≡◌, All, IfOk};
+ghost use Rattle.std.specs.Prelude.{◌≡◌, IfOk};
 ghost use Rattle.serde_json.specs.View.{view};
-ghost use Rattle.mig_show.specs.Tree.{HasShownName, records_tree, kind_tree, version_tree, refused_tree, shown_tree};
+ghost use Rattle.mig_show.specs.Tree.{records_tree, kind_tree, version_tree, refused_tree, shown_tree};
 
 use crate::record::{ShownRecord, record_object};
 use crate::refusal::refused_text;
@@ -78,7 +78,7 @@ fn stream_object(
 /// Xen's documents (libxc and libxl migration stream, "Records"), or "optional" where its type has bit 31; `type`, its
 /// number; and of a PAGE_DATA also `pages`, how many of its words have data, and `words`, how many it has.
 ///
-/// `Memory` where no memory was found. A type has to be one of the record's layer or to have bit 31, since others have no
+/// `Memory` where no memory was found. A type that is none of the record's layer and has no bit 31 has an empty
 /// name.
 pub fn tree_of(
     alloc: Global,
@@ -88,7 +88,6 @@ pub fn tree_of(
     list: &[ShownRecord],
     refused: Option<(Place, Cause)>,
 ) -> Result<Value, Memory>
-    requires { All HasShownName list.now }
     ensures { IfOk result (λ v. view v ≡ shown_tree wrapper version kind list.now refused) }
 {
     match stream_object(alloc, wrapper, version, kind, list, refused) {
