@@ -1,5 +1,5 @@
 -- Bodies that are passed on in pieces: what a relay keeps behind a piece, and behind the last one.
-use Rattle.std.proofs.Common.{◌≡◌, ◌≢◌, ℕ, ◌<◌, ◌≤◌, Bool, true, false, nat_eq, ◌==◌, cond, List, [], ◌∷◌, ◌++◌, length, drop, Option, Some, None, refl, sym, ap, ◌∙◌, arith, length-append}
+use Rattle.std.proofs.Common.{◌≡◌, ◌≢◌, ℕ, ◌+◌, ◌<◌, ◌≤◌, Bool, true, false, nat_eq, ◌==◌, cond, List, [], ◌∷◌, ◌++◌, length, drop, Option, Some, None, refl, sym, ap, ◌∙◌, arith, length-append}
 use Rattle.std.proofs.lemmas.Bool.{eqb-true, eqb-false}
 use Rattle.std.proofs.lemmas.Grind.{common_steps}
 use Rattle.mig_bodies.specs.PvBodies.{greater}
@@ -31,21 +31,23 @@ use Rattle.mig_restore.specs.Judging.{Opening, before, lists_of, code_of_type}
 use Rattle.mig_restore.specs.Record.{StreamRecord, Content}
 use Rattle.mig_restore.specs.Record.Content.{Nothing, Lists}
 use Rattle.mig_restore.specs.Stream.{ImageOf}
+use Rattle.mig_relay.specs.Following.{ComesNext, more, whole, image_next, libxl_next}
 use Rattle.mig_relay.specs.Keeping.{Keeps, KeepsFirst, KeepsHead, KeepsOpen, KeepsOuter, IsBodied, IsOther, top_with, with_one}
-use Rattle.mig_relay.specs.Parts.{AtHead, AtBody, AtPadding, BeginsWithPart}
-use Rattle.mig_relay.specs.Spots.{Outer, Spot, AtLibxlHead, AtLibxlPadding, InImage, spot, carry}
+use Rattle.mig_relay.specs.Parts.{AtHead, AtBody, AtPadding, BeginsWithPart, record_with}
+use Rattle.mig_relay.specs.Spots.{Outer, Spot, AtLibxlHead, AtLibxlBody, AtLibxlPadding, InImage, spot, carry}
 use Rattle.mig_relay.specs.declared.state.Coming.TheVariants as comes
 use Rattle.mig_relay.specs.declared.state.Relay.{Relay}
 use Rattle.mig_relay.proofs.Kept.{ListsNone, going_same, wrapped_more, records_more, top_same, top_listed}
 use Rattle.mig_relay.proofs.SpotParts.{lifted, libxl_content, libxl_no_padding, with_libxl}
 use Rattle.mig_relay.proofs.Unrolls.{body_is, no_padding, with}
 
--- What comes next behind a whole body, which is judged as its padding is. No more bytes were passed on.
-pub record BehindBody (middle t : Relay) (here : Spot) : Type 0 where
+-- What comes next behind a whole body of this size, which is judged as its padding is. No more bytes were passed on.
+pub record BehindBody (middle t : Relay) (from here : Spot) (size : ℕ) : Type 0 where
   pub next : Spot
   pub same : (more : List ℕ) → spot here more ≡ spot next more
   pub keeps : Keeps t next []
   pub passed : t.passed ≡ middle.passed
+  pub follows : (begun piece : List ℕ) → length begun + length piece ≡ size → ComesNext from begun piece next []
 
 -- ---- a record of an image
 
@@ -121,10 +123,10 @@ module _ (o : Opening) (records : List StreamRecord) (head : RecordHead) where
 
 -- a relay has the body of an image's record behind it
 pub behind_record : (t : Relay) (outer : Outer) (o : Opening) (records : List StreamRecord) (head : RecordHead) (content : Content) → KeepsOuter t outer → KeepsHead t o records head (before o (with o records head content)).top → head.kind ≢ 0
-    → (0 < padding_len head.len → t.coming ≡ comes.Padding head) → (padding_len head.len ≡ 0 → t.coming ≡ comes.Head) → BehindBody t t (InImage outer (AtPadding o records head content))
+    → (0 < padding_len head.len → t.coming ≡ comes.Padding head) → (padding_len head.len ≡ 0 → t.coming ≡ comes.Head) → BehindBody t t (InImage outer (AtBody o records head)) (InImage outer (AtPadding o records head content)) head.len
 behind_record t outer o records head content around kept other padded unpadded = by (nat_eq (padding_len head.len) 0) refl
   where
-    by : (b : Bool) → nat_eq (padding_len head.len) 0 ≡ b → BehindBody t t (InImage outer (AtPadding o records head content))
+    by : (b : Bool) → nat_eq (padding_len head.len) 0 ≡ b → BehindBody t t (InImage outer (AtBody o records head)) (InImage outer (AtPadding o records head content)) head.len
     by true is =
         let zero = eqb-true (padding_len head.len) 0 is in
         record {
@@ -132,10 +134,17 @@ behind_record t outer o records head content around kept other padded unpadded =
           same = λ more. ap (λ (j : Judged (Place × Cause) ImageOf). j >>= carry outer) (no_padding o records head content more zero);
           keeps = (around, (unpadded zero, records_more t o records head content _ kept other, refl));
           passed = refl;
+          follows = λ begun piece size. whole (InImage outer (AtBody o records head)) _ begun piece head refl (λ e. cc) (omega (arith, size, zero)) (image_next outer o records (record_with records head content) head.kind other);
         }
     by false is =
         let some : 0 < padding_len head.len = grind (arith, common_steps, is) in
-        record { next = InImage outer (AtPadding o records head content); same = λ more. refl; keeps = (around, (padded some, kept, some, other, refl)); passed = refl }
+        record {
+          next = InImage outer (AtPadding o records head content);
+          same = λ more. refl;
+          keeps = (around, (padded some, kept, some, other, refl));
+          passed = refl;
+          follows = λ begun piece size. more (InImage outer (AtBody o records head)) (InImage outer (AtPadding o records head content)) begun piece [] head refl refl refl (λ e. cc) refl (omega (arith, size));
+        }
 
 -- ---- a record of a libxl stream
 
@@ -151,10 +160,10 @@ no_image type body = by (type == 2) (type == 3)
 -- a relay has the body of a libxl record behind it
 pub behind_libxl : (old middle t : Relay) (records : List LibxlRecord) (head : RecordHead) (content : LibxlContent) (behind : RecordsBehind) → KeepsOpen old records → IsBodied head → image_in content ≡ None → old.wrapper ≡ Some behind → middle.wrapper ≡ old.wrapper → middle.seen ≡ old.seen
     → (0 < padding_len head.len → t ≡ record middle { coming = comes.LibxlPadding head }) → (padding_len head.len ≡ 0 → t ≡ record middle { coming = comes.LibxlHead; wrapper = Some (with_one head.kind behind) })
-    → BehindBody middle t (AtLibxlPadding records head content)
+    → BehindBody middle t (AtLibxlBody records head) (AtLibxlPadding records head content) head.len
 behind_libxl old middle t records head content behind kept bodied none was wrapper seen padded unpadded = by (nat_eq (padding_len head.len) 0) refl
   where
-    by : (b : Bool) → nat_eq (padding_len head.len) 0 ≡ b → BehindBody middle t (AtLibxlPadding records head content)
+    by : (b : Bool) → nat_eq (padding_len head.len) 0 ≡ b → BehindBody middle t (AtLibxlBody records head) (AtLibxlPadding records head content) head.len
     by true is =
         let zero = eqb-true (padding_len head.len) 0 is in
         let now = unpadded zero in
@@ -167,6 +176,7 @@ behind_libxl old middle t records head content behind kept bodied none was wrapp
             refl,
           );
           passed = ap (λ (r : Relay). r.passed) now;
+          follows = λ begun piece size. whole (AtLibxlBody records head) _ begun piece head refl (λ e. cc) (omega (arith, size, zero)) (libxl_next records (record { type = head.kind; content = content }) head.kind bodied.0 bodied.1);
         }
     by false is =
         let some : 0 < padding_len head.len = grind (arith, common_steps, is) in
@@ -183,4 +193,5 @@ behind_libxl old middle t records head content behind kept bodied none was wrapp
             refl,
           );
           passed = ap (λ (r : Relay). r.passed) now;
+          follows = λ begun piece size. more (AtLibxlBody records head) (AtLibxlPadding records head content) begun piece [] head refl refl refl (λ e. cc) refl (omega (arith, size));
         }

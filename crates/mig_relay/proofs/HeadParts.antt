@@ -38,6 +38,7 @@ use Rattle.mig_restore.specs.declared.head.RecordsSeen.{RecordsSeen}
 use Rattle.mig_headers.specs.declared.kind.Kind.{Kind}
 use Rattle.std.specs.Prelude.{IfSome}
 use Rattle.mig_restore.specs.Stream.{ImageOf, image_of}
+use Rattle.mig_relay.specs.Following.{ComesBehind, ComesNext, image_begins, pages_begin, image_whole, image_next, image_end, inner_end}
 use Rattle.mig_relay.specs.Keeping.{Keeps, KeepsGoing, KeepsHead, KeepsRecords, KeepsOuter, HasNumber, fault_of_empty}
 use Rattle.mig_relay.specs.Parts.{AtHead, AtBody, AtFront, judged_next, record_with, with_body, BeginsWithPart}
 use Rattle.mig_relay.specs.Spots.{Outer, Alone, Behind, Spot, AtLibxlHead, InImage, AtEnd, spot, carry, image_record}
@@ -168,6 +169,7 @@ pub record Begun (t : Relay) (outer : Outer) (o : Opening) (records : List Strea
   pub next : Spot
   pub same : (more : List ℕ) → spot (InImage outer (AtBody o records head)) more ≡ spot next more
   pub keeps : Keeps t next []
+  pub follows : (piece : List ℕ) → length piece ≡ 8 → head_in piece ≡ head → ComesNext (InImage outer (AtHead o records)) [] piece next []
 
 -- what a relay has behind a head
 pub record HasBegun (r t : Relay) (head : RecordHead) : Type 0 where
@@ -203,6 +205,7 @@ module _ (r t : Relay) (outer : Outer) (o : Opening) (records : List StreamRecor
     next = InImage outer (AtFront o records head);
     same = λ more. ap (λ (k : ℕ). with_body o records head (body_at o.kind (before o records).top k head.len more) >>= carry outer) one;
     keeps = (outer_same r t outer (b.wrapper (λ zero. absurd (omega (arith, one, zero)))) kept, (b.pages one, kept_records, record { kind = one; small = j.small }, refl));
+    follows = λ piece size is. subst (λ (h : RecordHead). ComesNext (InImage outer (AtHead o records)) [] piece (InImage outer (AtFront o records h)) []) is (pages_begin outer o records piece size (ap (λ (h : RecordHead). h.kind) is ∙ one));
   }
 
   -- a body of some bytes
@@ -220,13 +223,23 @@ module _ (r t : Relay) (outer : Outer) (o : Opening) (records : List StreamRecor
         record { len = b.len other some; known = b.begun other some; less = some },
       ),
     );
+    follows = λ piece size is. subst (λ (h : RecordHead). ComesNext (InImage outer (AtHead o records)) [] piece (InImage outer (AtBody o records h)) []) is (image_begins outer o records piece size (λ one. other (sym (ap (λ (h : RecordHead). h.kind) is) ∙ one)));
   }
     where
       p2m_front : head.kind ≡ 3 → 8 ≤ head.len
       p2m_front three = front_of_p2m head.kind head.len three j.allowed
 
+  abbrev empty_record : StreamRecord
+  empty_record = record_with records head (record_content head.kind [])
+
   abbrev with_empty : List StreamRecord
-  with_empty = records ++ record_with records head (record_content head.kind []) ∷ []
+  with_empty = records ++ empty_record ∷ []
+
+  -- a head that is a whole record
+  whole_follows : (next : Spot) → head.kind ≢ 1 → head.len ≡ 0 → (piece : List ℕ) → length piece ≡ 8 → head_in piece ≡ head → ComesBehind (InImage outer (AtHead o records)) head.kind next → ComesNext (InImage outer (AtHead o records)) [] piece next []
+  whole_follows next other none piece size is behind =
+      image_whole outer o records piece next size (ap (λ (h : RecordHead). h.len) is ∙ none) (λ one. other (sym (ap (λ (h : RecordHead). h.kind) is) ∙ one))
+      (subst (λ (h : RecordHead). ComesBehind (InImage outer (AtHead o records)) h.kind next) (sym is) behind)
 
   -- an empty body, without fault
   empty_passes : head.kind ≢ 1 → head.len ≡ 0 → (i : List ℕ) → judged_next (AtBody o records head) i ≡ judged_next (AtHead o with_empty) i
@@ -248,6 +261,7 @@ module _ (r t : Relay) (outer : Outer) (o : Opening) (records : List StreamRecor
         refl,
       ),
     );
+    follows = λ piece size is. whole_follows (InImage outer (AtHead o with_empty)) other none piece size is (image_next outer o records empty_record head.kind going);
   }
 
   -- the image is over
@@ -265,6 +279,7 @@ module _ (r t : Relay) (outer : Outer) (o : Opening) (records : List StreamRecor
     next = AtEnd (Bare image);
     same = λ more. ap (λ (j : Judged (Place × Cause) ImageOf). j >>= carry outer) (empty_passes (zero_not_one head.kind zero) none more) ∙ ap (λ (a : Outer). spot (InImage a (AtHead o with_empty)) more) (sym is) ∙ alone_ended o with_empty more (ended_now zero);
     keeps = ((b.alone zero none (subst (KeepsOuter r) (sym is) kept)).0, (image, refl, count_now), refl);
+    follows = λ piece size is_head. whole_follows (AtEnd (Bare image)) (zero_not_one head.kind zero) none piece size is_head (subst (λ (a : Outer). ComesBehind (InImage a (AtHead o records)) head.kind (AtEnd (Bare image))) is (image_end o records head.kind (Bare image) zero));
   }
   end_begun (Behind around) is zero none =
       let k : KeepsOuter r (Behind around) = subst (KeepsOuter r) (sym is) kept in
@@ -273,6 +288,7 @@ module _ (r t : Relay) (outer : Outer) (o : Opening) (records : List StreamRecor
         next = AtLibxlHead (around ++ image_record image ∷ []);
         same = λ more. ap (λ (j : Judged (Place × Cause) ImageOf). j >>= carry outer) (empty_passes (zero_not_one head.kind zero) none more) ∙ ap (λ (a : Outer). spot (InImage a (AtHead o with_empty)) more) (sym is) ∙ wrapped_ended around o with_empty more (ended_now zero);
         keeps = (w.0, around_image t around k.0.0.0.behind image r.seen.kind w.1 k.0.0.0.are k.1 k.0.0.1 (j.seen.kind) count_now, refl);
+        follows = λ piece size is_head. whole_follows (AtLibxlHead (around ++ image_record image ∷ [])) (zero_not_one head.kind zero) none piece size is_head (subst (λ (a : Outer). ComesBehind (InImage a (AtHead o records)) head.kind (AtLibxlHead (around ++ image_record image ∷ []))) is (inner_end around o records head.kind (image_record image) zero));
       }
 
   pub begun : Begun t outer o records head

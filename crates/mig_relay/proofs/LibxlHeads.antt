@@ -13,9 +13,11 @@ use Rattle.mig_libxl.specs.Stream.StreamOf.{Wrapped}
 use Rattle.mig_libxl.specs.declared.head.RecordsBehind.{RecordsBehind}
 use Rattle.mig_pieces.specs.Begun.{IsBegunBody}
 use Rattle.mig_pieces.specs.Bodies.{fault_of_libxl_body}
+use Rattle.mig_records.specs.Heads.{head_in}
 use Rattle.mig_records.specs.declared.head.RecordHead.{RecordHead}
 use Rattle.mig_restore.specs.Judging.{most_records}
 use Rattle.mig_restore.specs.Stream.{ImageOf}
+use Rattle.mig_relay.specs.Following.{ComesBehind, ComesNext, libxl_begins, libxl_whole, libxl_next, libxl_context, libxl_end}
 use Rattle.mig_relay.specs.Keeping.{Keeps, KeepsGoing, KeepsWrapper, HasNumber, with_one}
 use Rattle.mig_relay.specs.Parts.{AtMarker}
 use Rattle.mig_relay.specs.Spots.{Behind, Spot, AtLibxlHead, AtLibxlBody, InImage, AtEnd, spot}
@@ -31,6 +33,7 @@ pub record BegunLibxl (t : Relay) (records : List LibxlRecord) (head : RecordHea
   pub next : Spot
   pub same : (more : List ℕ) → behind_libxl_head records head more ≡ spot next more
   pub keeps : Keeps t next []
+  pub follows : (piece : List ℕ) → length piece ≡ 8 → head_in piece ≡ head → ComesNext (AtLibxlHead records) [] piece next []
 
 -- what a relay has behind such a head
 pub record HasBegunLibxl (r t : Relay) (behind : RecordsBehind) (head : RecordHead) : Type 0 where
@@ -94,12 +97,18 @@ module _ (r t : Relay) (records : List LibxlRecord) (head : RecordHead) (w : Kee
   same_number : HasNumber t.seen.records (image_among records)
   same_number = subst (λ (n : ℕ). HasNumber n (image_among records)) (sym (ap (λ (s : RecordsSeen). s.records) b.seen)) w.0.number
 
+  -- a head that is a whole record
+  whole_follows : (next : Spot) → head.len ≡ 0 → (piece : List ℕ) → length piece ≡ 8 → head_in piece ≡ head → ComesBehind (AtLibxlHead records) head.kind next → ComesNext (AtLibxlHead records) [] piece next []
+  whole_follows next none piece size is behind =
+      libxl_whole records piece next size (ap (λ (h : RecordHead). h.len) is ∙ none) (subst (λ (h : RecordHead). ComesBehind (AtLibxlHead records) h.kind next) (sym is) behind)
+
   -- LIBXC_CONTEXT: an image
   image_begun : head.kind ≡ 1 → BegunLibxl t records head
   image_begun one = record {
     next = InImage (Behind records) AtMarker;
     same = libxl_image records head one (no_length head.len head.kind (inr one) a.allowed);
     keeps = ((((wrapper_same r t records (b.image one).1 b.seen w.0, w.1), room), no_image (image_among records) (sym are.image ∙ a.first one)), ((b.image one).0, refl));
+    follows = λ piece size is. whole_follows (InImage (Behind records) AtMarker) (no_length head.len head.kind (inr one) a.allowed) piece size is (libxl_context records head.kind one);
   }
 
   -- END
@@ -113,6 +122,7 @@ module _ (r t : Relay) (records : List LibxlRecord) (head : RecordHead) (w : Kee
         next = AtEnd (Wrapped (with_libxl records head content));
         same = λ more. libxl_empty records head (λ one. omega (arith, zero, one)) none (empty_fine head.kind head.len none a.allowed) more ∙ libxl_ended (with_libxl records head content) more (libxl_ending records last w.1 zero);
         keeps = (b.end zero, (i.0, among_same records last (no_image_said head.kind []) ∙ i.1, subst (HasNumber t.seen.records) i.1 same_number), refl);
+        follows = λ piece size is. whole_follows (AtEnd (Wrapped (with_libxl records head content))) none piece size is (libxl_end records head.kind (Wrapped (with_libxl records head content)) zero);
       }
 
   -- a body of some bytes
@@ -121,6 +131,7 @@ module _ (r t : Relay) (records : List LibxlRecord) (head : RecordHead) (w : Kee
     next = AtLibxlBody records head;
     same = libxl_bodied records head other;
     keeps = ((b.body going other some).0, ((wrapper_same r t records (b.body going other some).1 b.seen w.0, w.1), room), (going, other), record { len = b.len going other some; known = b.begun going other some; less = some });
+    follows = λ piece size is. subst (λ (h : RecordHead). ComesNext (AtLibxlHead records) [] piece (AtLibxlBody records h) []) is (libxl_begins records piece size);
   }
 
   -- an empty body
@@ -131,6 +142,7 @@ module _ (r t : Relay) (records : List LibxlRecord) (head : RecordHead) (w : Kee
         next = AtLibxlHead (with_libxl records head content);
         same = libxl_empty records head other none (empty_fine head.kind head.len none a.allowed);
         keeps = ((b.empty going other none).0, wrapped_more records (record { type = head.kind; content = content }) r t behind w is (b.empty going other none).1 b.seen (no_image_said head.kind []) going, refl);
+        follows = λ piece size is. whole_follows (AtLibxlHead (with_libxl records head content)) none piece size is (libxl_next records (record { type = head.kind; content = content }) head.kind going other);
       }
 
   pub begun_libxl : BegunLibxl t records head

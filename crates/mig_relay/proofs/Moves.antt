@@ -13,6 +13,7 @@ use Rattle.mig_headers.specs.declared.fault.Cause.{Cause}
 use Rattle.mig_headers.specs.declared.fault.Cause.TheVariants.{Truncated}
 use Rattle.mig_headers.specs.declared.fault.Place.{Place}
 use Rattle.mig_libxl.specs.Stream.{StreamOf}
+use Rattle.mig_relay.specs.Following.{ComesNext, place_of_spot}
 use Rattle.mig_relay.specs.Keeping.{Keeps}
 use Rattle.mig_relay.specs.Parts.{BeginsWithPart}
 use Rattle.mig_relay.specs.Spots.{Spot, spot, held}
@@ -31,12 +32,12 @@ consumed n buf u None new h = tt
 consumed n buf u (Some left) new (bytes, rest, is, now, same) =
     subst (λ o. Consumes (Some left) o buf) (sym now) ((part_passes Truncated n left bytes rest is).0 ∙ ap (λ l. l ++ rest) same)
 
-record Short (n : ℕ) (left : List ℕ) (c : Cause) (rest : List ℕ) : Type 0 where
-  less : length left < n
-  truncated : c ≡ Truncated
-  nothing_left : rest ≡ []
+pub record Short (n : ℕ) (left : List ℕ) (c : Cause) (rest : List ℕ) : Type 0 where
+  pub less : length left < n
+  pub truncated : c ≡ Truncated
+  pub nothing_left : rest ≡ []
 
-short_is : (n : ℕ) (left : List ℕ) (c : Cause) (rest : List ℕ) → part Truncated n left ≡ Faulty c rest → Short n left c rest
+pub short_is : (n : ℕ) (left : List ℕ) (c : Cause) (rest : List ℕ) → part Truncated n left ≡ Faulty c rest → Short n left c rest
 short_is n left c rest h = by (nat_lt (length left) n) refl h
   where
     by : (b : Bool) → nat_lt (length left) n ≡ b → ◌≡◌ {A = Judged Cause (List ℕ)} (cond b (Faulty Truncated []) (Passes (take n left) (drop n left))) (Faulty c rest) → Short n left c rest
@@ -80,9 +81,9 @@ module _ (here : Spot) (place : Place) (size : ℕ) (fault : List ℕ → Option
         (rest, cut (begun ++ left) (omega (arith, length-append begun left, room, s.less)) ∙ ap (λ d. Faulty (place, d) []) (sym s.truncated) ∙ ap (Faulty (place, c)) (sym s.nothing_left), left_now)
 
     -- the bytes that the part still lacks couldn't be taken
-    pub stopped : (buf : List ℕ) (e : Stop Cause) (answer : RelayAnswer) → answer ≡ answer_of place e → length begun + length buf ≤ size → 0 < length buf → before ≡ now → Gives (Buffered buf) old new (part Truncated (length buf)) (Err e) → length buf ≤ held here → TakesFew (length buf) old new
+    pub stopped : (buf : List ℕ) (e : Stop Cause) (answer : RelayAnswer) → answer ≡ answer_of place e → length begun + length buf ≤ size → 0 < length buf → before ≡ now → Gives (Buffered buf) old new (part Truncated (length buf)) (Err e) → length buf ≤ held here → TakesFew (length buf) old new → place_of_spot here ≡ Some place
         → StepMoved here begun r t old new before now (Err answer)
-    stopped buf e answer is_answer room some kept h small gone = subst (λ (a : RelayAnswer). StepMoved here begun r t old new before now (Err a)) (sym is_answer) (record { is = by e h })
+    stopped buf e answer is_answer room some kept h small gone at = subst (λ (a : RelayAnswer). StepMoved here begun r t old new before now (Err a)) (sym is_answer) (record { is = by e h })
       where
         written : Appends before now []
         written = subst (λ o. Appends before o []) kept (nothing before)
@@ -99,6 +100,7 @@ module _ (here : Spot) (place : Place) (size : ℕ) (fault : List ℕ → Option
             λ _. refl,
             ((place, Truncated), [], cut (begun ++ []) (omega (arith, length-append begun [], less))),
             fronts_cut [] (omega (arith, less)),
+            at,
           ),
         )
         by stops.ReadFault h = stops_here (length buf) small less gone written
@@ -111,17 +113,17 @@ module _ (here : Spot) (place : Place) (size : ℕ) (fault : List ℕ → Option
 
     -- a cause stands in the whole part, of which some first bytes were written
     pub refused : (buf wrote others : List ℕ) (u : Unit {0}) (c : Cause) (answer : RelayAnswer) → answer ≡ Refused place c → length (begun ++ buf) ≡ size → fault (begun ++ buf) ≡ Some c → Gives (Buffered buf) old new (part Truncated (length buf)) (Ok u) → buf ≡ wrote ++ others → length buf ≤ held here → Appends before now wrote
-        → (is_judged_first here ≡ true → wrote ≡ []) → IsUnfinished (spot here (begun ++ wrote)) → StepMoved here begun r t old new before now (Err answer)
-    refused buf wrote others u c answer is_answer whole stands h split small written first unfinished =
+        → (is_judged_first here ≡ true → wrote ≡ []) → IsUnfinished (spot here (begun ++ wrote)) → place_of_spot here ≡ Some place → StepMoved here begun r t old new before now (Err answer)
+    refused buf wrote others u c answer is_answer whole stands h split small written first unfinished at =
         subst (λ (a : RelayAnswer). StepMoved here begun r t old new before now (Err a)) (sym is_answer)
-        (record { is = (refuses buf u c old whole stands h, (wrote, record { others = others; few = omega (arith, small, ap length split, length-append wrote others); taken = subst (Consumes old new) split (consumed (length buf) buf u old new h); written = written }, first, unfinished, fronts_cut wrote (omega (arith, whole, length-append begun buf, ap length split, length-append wrote others)))) })
+        (record { is = (refuses buf u c old whole stands h, (wrote, record { others = others; few = omega (arith, small, ap length split, length-append wrote others); taken = subst (Consumes old new) split (consumed (length buf) buf u old new h); written = written }, first, unfinished, fronts_cut wrote (omega (arith, whole, length-append begun buf, ap length split, length-append wrote others)), at)) })
 
     -- the last piece of a body was written, and a cause stands in the whole body
-    pub refused_behind : (buf : List ℕ) (u : Unit {0}) (c : Cause) (answer : RelayAnswer) → answer ≡ Refused place c → length (begun ++ buf) ≡ size → fault (begun ++ buf) ≡ Some c → Gives (Buffered buf) old new (part Truncated (length buf)) (Ok u) → length buf ≤ held here → Appends before now buf → is_judged_first here ≡ false
+    pub refused_behind : (buf : List ℕ) (u : Unit {0}) (c : Cause) (answer : RelayAnswer) → answer ≡ Refused place c → length (begun ++ buf) ≡ size → fault (begun ++ buf) ≡ Some c → Gives (Buffered buf) old new (part Truncated (length buf)) (Ok u) → length buf ≤ held here → Appends before now buf → is_judged_first here ≡ false → place_of_spot here ≡ Some place
         → StepMoved here begun r t old new before now (Err answer)
-    refused_behind buf u c answer is_answer whole stands h small written last =
+    refused_behind buf u c answer is_answer whole stands h small written last at =
         refused buf buf [] u c answer is_answer whole stands h (sym (append-nil buf)) small written (λ first. absurd (apart (sym first ∙ last)))
-        ((place, c), [], ap (spot here) (sym (append-nil (begun ++ buf))) ∙ faulty (begun ++ buf) [] c whole stands)
+        ((place, c), [], ap (spot here) (sym (append-nil (begun ++ buf))) ∙ faulty (begun ++ buf) [] c whole stands) at
       where
         apart : true ≡ false → ⊥
         apart e = cc
@@ -140,20 +142,20 @@ module _ (here : Spot) (place : Place) (size : ℕ) (fault : List ℕ → Option
 
     -- a piece of the part, or the rest of it
     pub goes_on : (buf : List ℕ) (u : Unit {0}) (next : Spot) (front : List ℕ) (step : Step) → length begun + length buf ≤ size → length buf ≤ held here → 0 < length buf → Gives (Buffered buf) old new (part Truncated (length buf)) (Ok u) → Appends before now buf
-        → ((more : List ℕ) → spot here (begun ++ (buf ++ more)) ≡ spot next (front ++ more)) → Keeps t next front → t.passed ≡ counted r.passed (length buf) → IsStep here buf t step → PassedPiece here begun step r t old new before now
-    goes_on buf u next front step room small some h written same keeps count is_step =
-        record { piece = buf; next = next; front = front; some = some; taken = consumed (length buf) buf u old new h; written = written; same = same; keeps = keeps; small = small; cuts = fronts_cut buf room; count = count; is = is_step }
+        → ((more : List ℕ) → spot here (begun ++ (buf ++ more)) ≡ spot next (front ++ more)) → Keeps t next front → t.passed ≡ counted r.passed (length buf) → IsStep here buf t step → ComesNext here begun buf next front → PassedPiece here begun step r t old new before now
+    goes_on buf u next front step room small some h written same keeps count is_step follow =
+        record { piece = buf; next = next; front = front; some = some; taken = consumed (length buf) buf u old new h; written = written; same = same; keeps = keeps; small = small; cuts = fronts_cut buf room; follows = follow; count = count; is = is_step }
 
 -- ---- a part that is taken at once
 
 module _ {here : Spot} {place : Place} {size : ℕ} {fault : List ℕ → Option Cause} {follows : List ℕ → List ℕ → Judged (Place × Cause) StreamOf} (is : BeginsWithPart (spot here) place size fault follows) (r t : Relay) (old new before now : Option (List ℕ)) (buf : List ℕ) (whole : length buf ≡ size) (small : length buf ≤ held here) where
-  pub not_taken : (e : Stop Cause) (answer : RelayAnswer) → answer ≡ answer_of place e → before ≡ now → Gives (Buffered buf) old new (part Truncated (length buf)) (Err e) → TakesFew (length buf) old new → StepMoved here [] r t old new before now (Err answer)
-  not_taken e answer is_answer kept h gone = stopped here place size fault follows is [] r t old new before now buf e answer is_answer (omega (arith, whole)) (omega (arith, whole, is.some)) kept h small gone
+  pub not_taken : (e : Stop Cause) (answer : RelayAnswer) → answer ≡ answer_of place e → before ≡ now → Gives (Buffered buf) old new (part Truncated (length buf)) (Err e) → TakesFew (length buf) old new → place_of_spot here ≡ Some place → StepMoved here [] r t old new before now (Err answer)
+  not_taken e answer is_answer kept h gone at = stopped here place size fault follows is [] r t old new before now buf e answer is_answer (omega (arith, whole)) (omega (arith, whole, is.some)) kept h small gone at
 
-  pub not_allowed : (u : Unit {0}) (c : Cause) (answer : RelayAnswer) → answer ≡ Refused place c → Some c ≡ fault buf → before ≡ now → Gives (Buffered buf) old new (part Truncated (length buf)) (Ok u) → StepMoved here [] r t old new before now (Err answer)
-  not_allowed u c answer is_answer stands kept h =
+  pub not_allowed : (u : Unit {0}) (c : Cause) (answer : RelayAnswer) → answer ≡ Refused place c → Some c ≡ fault buf → before ≡ now → Gives (Buffered buf) old new (part Truncated (length buf)) (Ok u) → place_of_spot here ≡ Some place → StepMoved here [] r t old new before now (Err answer)
+  not_allowed u c answer is_answer stands kept h at =
       refused here place size fault follows is [] r t old new before now buf [] buf u c answer is_answer whole (sym stands) h refl small (subst (λ o. Appends before o []) kept (nothing before)) (λ _. refl)
-      ((place, Truncated), [], cut here place size fault follows is [] is.some)
+      ((place, Truncated), [], cut here place size fault follows is [] is.some) at
 
   pub not_written : (u : Unit {0}) → Gives (Buffered buf) old new (part Truncated (length buf)) (Ok u) → AppendsPart before now buf → StepMoved here [] r t old new before now (Err WriteFault)
   not_written u h part_of = unwritten here place size fault follows is [] r t old new before now buf u small (omega (arith, whole)) h part_of
@@ -166,9 +168,9 @@ module _ {here : Spot} {place : Place} {size : ℕ} {fault : List ℕ → Option
   }
 
   pub went : (u : Unit {0}) (next : Spot) (front : List ℕ) (step : Step) → None ≡ fault buf → Gives (Buffered buf) old new (part Truncated (length buf)) (Ok u) → Appends before now buf → ((more : List ℕ) → follows buf more ≡ spot next (front ++ more)) → Keeps t next front
-      → t.passed ≡ counted r.passed (length buf) → IsStep here buf t step → PassedPiece here [] step r t old new before now
-  went u next front step fine h written same keeps count is_step =
-      goes_on here place size fault follows is [] r t old new before now buf u next front step (omega (arith, whole)) small (omega (arith, whole, is.some)) h written (λ more. passes here place size fault follows is buf more whole (sym fine) ∙ same more) keeps count is_step
+      → t.passed ≡ counted r.passed (length buf) → IsStep here buf t step → ComesNext here [] buf next front → PassedPiece here [] step r t old new before now
+  went u next front step fine h written same keeps count is_step follow =
+      goes_on here place size fault follows is [] r t old new before now buf u next front step (omega (arith, whole)) small (omega (arith, whole, is.some)) h written (λ more. passes here place size fault follows is buf more whole (sym fine) ∙ same more) keeps count is_step follow
 
 -- ---- what a decoder answers
 

@@ -1,5 +1,16 @@
 -- What a relay keeps behind the first parts of a stream.
-use Rattle.std.proofs.Common.{◌≡◌, ℕ, List, [], true, false, cond, None, Some, refl, sym, ap, subst, ◌∙◌}
+use Rattle.std.proofs.Common.{◌≡◌, ℕ, ◌≤◌, Bool, List, [], ◌++◌, length, take, true, false, cond, Option, None, Some, Ok, Err, refl, sym, ap, subst, ◌∙◌, arith}
+use Rattle.std.specs.Prelude.{nat_le, ◌&&◌}
+use Rattle.std.proofs.Math.Seq.{take-append_seam}
+use Rattle.std.proofs.lemmas.Bool.{leb-true}
+use Rattle.mig_bytes.specs.Judged.{Gives, part}
+use Rattle.mig_bytes.specs.declared.part.Stop.{Stop}
+use Rattle.mig_bytes.specs.declared.part.Stop.TheVariants as stops
+use Rattle.mig_bytes.proofs.Joins.{part_passes}
+use Rattle.mig_headers.specs.Headers.{fault_of_marker}
+use Rattle.mig_headers.specs.declared.fault.Cause.{Cause}
+use Rattle.mig_headers.specs.declared.fault.Cause.TheVariants.{Truncated}
+use Rattle.mig_headers.specs.declared.fault.Place.TheVariants.{ImageHeader}
 use Rattle.mig_headers.specs.declared.kind.Kind.{Kind}
 use Rattle.mig_libxl.specs.Among.{image_among}
 use Rattle.mig_restore.specs.Judging.{before, opening_of}
@@ -9,8 +20,11 @@ use Rattle.mig_restore.specs.declared.head.RecordsSeen.{RecordsSeen}
 use Rattle.mig_emulators.specs.Content.{LibxlRecord}
 use Rattle.mig_relay.specs.Keeping.{KeepsRecords, KeepsWrapper, HasNumber}
 use Rattle.mig_relay.specs.Parts.{AtVersion}
-use Rattle.mig_relay.specs.Spots.{Alone, AtLibxlHeader, InImage, spot, is_ident}
+use Rattle.mig_relay.specs.Spots.{Alone, AtLibxlHeader, InImage, spot, is_ident, begins_with_ident, fault_of_first}
+use Rattle.mig_relay.specs.Standing.{IsNotRefused}
+use Rattle.mig_relay.specs.Steps.{answer_of}
 use Rattle.mig_relay.specs.declared.state.Relay.{Relay}
+use Rattle.mig_relay.proofs.Moves.{Buffered, short_is}
 use Rattle.mig_relay.proofs.SpotParts.{start_follows}
 
 -- the form that the first 8 bytes tell
@@ -32,3 +46,33 @@ no_records t version kind seen top = record { seen = seen; top = top; going = re
 -- the same, of the wrapper alone
 pub wrapper_same : (r t : Relay) (records : List LibxlRecord) → t.wrapper ≡ r.wrapper → t.seen ≡ r.seen → KeepsWrapper r records → KeepsWrapper t records
 wrapper_same r t records same seen k = record { behind = k.behind; is = same ∙ k.is; are = k.are; number = subst (λ (s : RecordsSeen). HasNumber s.records (image_among records)) (sym seen) k.number }
+
+-- ---- an input that begins with the ident
+
+true_left : (a b : Bool) → (a && b) ≡ true → a ≡ true
+true_left true b e = refl
+true_left false b e = e
+
+true_right : (a b : Bool) → (a && b) ≡ true → b ≡ true
+true_right true b e = e
+true_right false b e = let no : false ≡ true = e in absurd (cc)
+
+-- has its 8 bytes
+pub begun_long : (left : List ℕ) → begins_with_ident left ≡ true → 8 ≤ length left
+begun_long left begins = leb-true 8 (length left) (true_left (nat_le 8 (length left)) (is_ident (take 8 left)) begins)
+
+-- which can be taken
+pub whole_not_short : (buf : List ℕ) (e : Stop Cause) (left : List ℕ) (new : Option (List ℕ)) → length buf ≤ length left → Gives (Buffered buf) (Some left) new (part Truncated (length buf)) (Err e) → IsNotRefused (Err (answer_of ImageHeader e))
+whole_not_short buf (stops.Refused c) left new fits (rest, is, now) = absurd (omega (arith, fits, (short_is (length buf) left c rest is).less))
+whole_not_short buf stops.ReadFault left new fits h = tt
+whole_not_short buf stops.Memory left new fits h = tt
+
+-- and have no fault
+pub ident_is_fine : (buf left : List ℕ) (new : Option (List ℕ)) (c : Cause) → length buf ≡ 8 → begins_with_ident left ≡ true → Gives (Buffered buf) (Some left) new (part Truncated (length buf)) (Ok tt) → Some c ≡ fault_of_first buf → ⊥
+ident_is_fine buf left new c size begins (bytes, rest, is, now, same) stands =
+    let p = part_passes Truncated (length buf) left bytes rest is in
+    let whole : left ≡ buf ++ rest = p.0 ∙ ap (λ l. l ++ rest) same in
+    let first : take 8 left ≡ buf = ap (take 8) whole ∙ ap (λ n. take n (buf ++ rest)) (sym size) ∙ take-append_seam buf rest in
+    let ident : is_ident buf ≡ true = ap is_ident (sym first) ∙ true_right (nat_le 8 (length left)) (is_ident (take 8 left)) begins in
+    let none : Some c ≡ None = stands ∙ ap (λ b. cond b None (fault_of_marker buf)) ident in
+    cc

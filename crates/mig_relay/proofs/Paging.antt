@@ -1,10 +1,13 @@
 -- A PAGE_DATA on its way: its count, its words and its pages are parts, and words without a page are passed over.
-use Rattle.std.proofs.Common.{◌≡◌, ℕ, zero, suc, ◌+◌, ◌*◌, ◌-◌, ◌<◌, ◌≤◌, ◌^◌, Bool, true, false, nat_eq, nat_lt, not, List, [], ◌∷◌, ◌++◌, length, drop, slice_index, replicate, Option, Some, None, Ok, Err, refl, sym, ap, subst, ◌∙◌, arith}
+use Rattle.std.proofs.Common.{◌≡◌, ℕ, zero, suc, ◌+◌, ◌*◌, ◌-◌, ◌<◌, ◌≤◌, ◌^◌, ◌≢◌, Bool, true, false, cond, nat_eq, nat_lt, not, List, [], ◌∷◌, ◌++◌, length, drop, slice_index, replicate, Option, Some, None, Ok, Err, refl, sym, ap, subst, ◌∙◌, arith}
 use Rattle.std.specs.Option.{option_or}
+use Rattle.std.specs.Prelude.{count_by}
 use Rattle.std.proofs.lemmas.Bool.{ltb-true, ltb-false, eqb-true, eqb-false, not-false}
+use Rattle.std.proofs.lemmas.List.FromFn.{length-map-range_with_len}
+use Rattle.std.proofs.lemmas.List.Sums.{sum_by-cons}
 use Rattle.std.proofs.lemmas.List.{drop_more, drop_all, map-append, length-append, length-replicate}
 use Rattle.mig_bytes.specs.Bytes.{padding_len, TakesFew}
-use Rattle.mig_bytes.specs.Fields.{le32}
+use Rattle.mig_bytes.specs.Fields.{le32, le64}
 use Rattle.mig_bytes.specs.Judged.{Judged, ◌>>=◌, part, Gives}
 use Rattle.mig_bytes.specs.declared.part.Stop.{Stop}
 use Rattle.mig_bytes.proofs.Joins.{any_stop}
@@ -31,6 +34,7 @@ use Rattle.mig_restore.specs.Record.Content.{Frames}
 use Rattle.mig_restore.specs.Seen.{IsSeen}
 use Rattle.mig_restore.specs.Stream.{ImageOf}
 use Rattle.mig_restore.specs.declared.head.RecordsSeen.{RecordsSeen}
+use Rattle.mig_relay.specs.Following.{ComesBehind, ComesNext, CountDue, bytes_behind_head, due, head_spot, in_hand, pages_to_come, to_come, more, whole as last_bytes, image_next}
 use Rattle.mig_relay.specs.Keeping.{Keeps, KeepsWords, HasNumber, KeepsRecords, KeepsHead, KeepsOuter, IsPages}
 use Rattle.mig_relay.specs.Parts.{AtHead, AtFront, AtWords, AtPages, judged_next, record_with, fault_of_list, entry_of_word, BeginsWithPart}
 use Rattle.mig_relay.specs.Spots.{Outer, Alone, Behind, Spot, InImage, spot, carry}
@@ -150,6 +154,44 @@ outer_stays r t (Behind around) kept k =
 pub records_stay : (r t : Relay) (o : Opening) (records : List StreamRecord) (types : List ℕ) (high : ℕ) → IsKept r t → KeepsRecords r o records types high → KeepsRecords t o records types high
 records_stay r t o records types high kept k = record { seen = subst (λ (s : RecordsSeen). IsSeen s o types) (sym kept.seen) k.seen; top = kept.top ∙ k.top; going = k.going }
 
+-- ---- how many pages are still to come
+
+-- of a word with a page, and of one without
+paged_more : (at word : ℕ) (coming : List (ℕ × ℕ)) → word_has_data word ≡ true → pages_to_come ((at, word) ∷ coming) ≡ 1 + pages_to_come coming
+paged_more at word coming is = sum_by-cons (λ (at : ℕ × ℕ). cond (word_has_data at.1) 1 0) (at, word) coming ∙ ap (λ b. cond b 1 0 + pages_to_come coming) is
+
+unpaged : (at word : ℕ) (coming : List (ℕ × ℕ)) → word_has_data word ≡ false → pages_to_come ((at, word) ∷ coming) ≡ pages_to_come coming
+unpaged at word coming is =
+    let none : cond (word_has_data word) 1 0 ≡ 0 = ap {B = ℕ} (λ b. cond b 1 0) is in
+    omega (arith, sum_by-cons (λ (at : ℕ × ℕ). cond (word_has_data at.1) 1 0) (at, word) coming, none)
+
+-- of all words
+all_pages : (from : ℕ) (ws : List ℕ) → pages_to_come (with_places from ws) ≡ count_by word_has_data ws
+all_pages from [] = refl
+all_pages from (w ∷ ws) =
+    sum_by-cons (λ (at : ℕ × ℕ). cond (word_has_data at.1) 1 0) (from, w) (with_places (from + 1) ws)
+    ∙ ap (λ n. cond (word_has_data w) 1 0 + n) (all_pages (from + 1) ws)
+    ∙ sym (sum_by-cons (λ (word : ℕ). cond (word_has_data word) 1 0) w ws)
+
+-- behind the page of a word, those of the others
+pub page_left : (r held : Relay) (coming : List (ℕ × ℕ)) (stood : List FrameEntry) (size : ℕ) → KeepsWords r coming stood → held.words.items ≡ r.words.items → held.page ≡ r.page → size ≡ 4096 → size + 4096 * pages_to_come (with_places (held.page + 1) (drop (held.page + 1) held.words.items)) ≡ 4096 * pages_to_come coming
+page_left r held coming stood size kept same_words same_page is =
+    let first : pages_to_come coming ≡ 1 + pages_to_come (others r) = ap pages_to_come (kept.left ∙ ap (with_places r.page) (drop_more r.words.items r.page 0 kept.some)) ∙ paged_more r.page (next_word r) (others r) kept.paged in
+    let same : pages_to_come (others held) ≡ pages_to_come (others r) = ap (λ n. pages_to_come (with_places (n + 1) (drop (n + 1) held.words.items))) same_page ∙ ap (λ l. pages_to_come (with_places (r.page + 1) (drop (r.page + 1) l))) same_words in
+    omega (arith, first, same, is)
+
+-- so many words stand in as many bytes
+words_number : (n : ℕ) (bytes : List ℕ) → length (words n bytes) ≡ n
+words_number n bytes = length-map-range_with_len (λ k. le64 bytes (8 * k)) 0 n
+
+-- behind the words of a PAGE_DATA, as many as its length asks for
+pub words_left : (kind : Kind) (top : ℕ) (head : RecordHead) (n : ℕ) (bytes ws : List ℕ) → ws ≡ words n bytes → None ≡ fault_of_list kind top head.len n bytes → length bytes ≡ 8 * n → length bytes + 4096 * pages_to_come (with_places 0 ws) ≡ bytes_behind_head head - 8
+words_left kind top head n bytes ws is fine size =
+    let sized = (both_none (fault_of_words kind top (words n bytes)) (fault_of_data head.len (words n bytes)) fine).1 in
+    let rows = rows_fine ((not (nat_eq head.len (data_len_of (words n bytes))), BadLength head.len) ∷ []) sized in
+    let full : head.len ≡ data_len_of (words n bytes) = eqb-true head.len _ (not-false _ rows.0) in
+    omega (arith, full, whole_length head.len (words n bytes) sized, size, ap length is, words_number n bytes, all_pages 0 ws, ap (count_by word_has_data) is)
+
 -- ---- behind a PAGE_DATA
 
 module _ (o : Opening) (records : List StreamRecord) (head : RecordHead) where
@@ -177,12 +219,13 @@ module _ (o : Opening) (records : List StreamRecord) (head : RecordHead) where
       pub entries : List FrameEntry
       pub many : length entries + from ≡ length stood + to
       pub same : (i : List ℕ) → judged_next (AtPages o records head (with_places from (drop from ws)) stood) i ≡ judged_next (AtPages o records head (with_places to (drop to ws)) entries) i
+      pub pages : pages_to_come (with_places from (drop from ws)) ≡ pages_to_come (with_places to (drop to ws))
 
     -- words without a page are passed over, one by one
     skips : (k from to : ℕ) (stood : List FrameEntry) → to ≡ from + k → to ≤ length ws → ((place : ℕ) → from ≤ place → place < to → word_has_data (slice_index ws place) ≡ false) → Skips from to stood
     skips zero from to stood is within none =
         let at : from ≡ to = omega (arith, is) in
-        record { entries = stood; many = omega (arith, at); same = λ i. ap (λ n. judged_next (AtPages o records head (with_places n (drop n ws)) stood) i) at }
+        record { entries = stood; many = omega (arith, at); same = λ i. ap (λ n. judged_next (AtPages o records head (with_places n (drop n ws)) stood) i) at; pages = ap (λ n. pages_to_come (with_places n (drop n ws))) at }
     skips (suc k) from to stood is within none =
         let word = slice_index ws from in
         let more = skips k (from + 1) to (stood ++ entry_of_word word None ∷ []) (omega (arith, is)) within (λ place le lt. none place (omega (arith, le)) lt) in
@@ -193,6 +236,7 @@ module _ (o : Opening) (records : List StreamRecord) (head : RecordHead) where
               ap (λ l. judged_next (AtPages o records head (with_places from l) stood) i) (drop_more ws from 0 (omega (arith, is, within)))
               ∙ no_page o records head from word (with_places (from + 1) (drop (from + 1) ws)) stood (none from (omega arith) (omega (arith, is))) i
               ∙ more.same i;
+          pages = ap (λ l. pages_to_come (with_places from l)) (drop_more ws from 0 (omega (arith, is, within))) ∙ unpaged from word (with_places (from + 1) (drop (from + 1) ws)) (none from (omega arith) (omega (arith, is))) ∙ more.pages;
         }
 
 -- ---- the next page of the words, or the next record
@@ -202,6 +246,7 @@ pub record Turned (t : Relay) (outer : Outer) (o : Opening) (records : List Stre
   pub next : Spot
   pub same : (more : List ℕ) → spot (InImage outer (AtPages o records head coming stood)) more ≡ spot next more
   pub keeps : Keeps t next []
+  pub follows : (here : Spot) (piece : List ℕ) → in_hand here ≡ Some head → head_spot here ≡ InImage outer (AtHead o records) → due here ≢ CountDue → length piece + 4096 * pages_to_come coming ≡ to_come here → ComesNext here [] piece next []
 
 module _ (r t : Relay) (head : RecordHead) (within : t.page ≤ length r.words.items) (page : t.page < length r.words.items → t ≡ record r { page = t.page; coming = comes.Page head }) (over : t.page ≡ length r.words.items → t ≡ record r { page = t.page; coming = comes.Head }) where
   abbrev ws : List ℕ
@@ -246,6 +291,7 @@ module _ (r t : Relay) (head : RecordHead) (within : t.page ≤ length r.words.i
             next = InImage outer (AtPages o records head (with_places t.page (drop t.page ws)) skipped.entries);
             same = λ more. ap (λ (j : Judged (Place × Cause) ImageOf). j >>= carry outer) (skipped.same more);
             keeps = (outer_stays r t outer turning_stays around, (ap (λ (x : Relay). x.coming) (page lt), records_stay r t o records _ _ turning_stays kept, pages, padding, kept_words lt, refl));
+            follows = λ here piece hand at counted left. more here (InImage outer (AtPages o records head (with_places t.page (drop t.page ws)) skipped.entries)) [] piece [] head hand refl (sym at) counted refl (omega (arith, left, skipped.pages));
           }
       by false is =
           let whole : length ws ≤ t.page = ltb-false _ _ is in
@@ -258,4 +304,7 @@ module _ (r t : Relay) (head : RecordHead) (within : t.page ≤ length r.words.i
                 ∙ pages_over o records head skipped.entries more
                 ∙ no_padding o records head (Frames skipped.entries) more padding);
             keeps = (outer_stays r t outer turning_stays around, (ap (λ (x : Relay). x.coming) (over (omega (arith, whole, within))), behind_pages o records head t skipped.entries pages (records_stay r t o records _ _ turning_stays kept), refl));
+            follows = λ here piece hand at counted left.
+                last_bytes here (InImage outer (AtHead o (with o records head (Frames skipped.entries)))) [] piece head hand counted (omega (arith, left, skipped.pages, ap (λ l. pages_to_come (with_places t.page l)) (drop_all t.page ws whole)))
+                (subst (λ s. ComesBehind s head.kind (InImage outer (AtHead o (with o records head (Frames skipped.entries))))) (sym at) (image_next outer o records (record_with records head (Frames skipped.entries)) head.kind (λ zero. omega (arith, zero, pages.kind))));
           }

@@ -1,7 +1,7 @@
 -- From what a relay keeps to the bytes that it stands for.
 use Rattle.std.proofs.Common.{◌≡◌, ◌≢◌, ℕ, ◌≤◌, Bool, true, false, List, [], ◌∷◌, ◌++◌, length, take, drop, min, ◌+◌, ◌-◌, ◌^◌, ◌<◌, Option, Some, None, Result, Ok, Err, refl, sym, ap, subst, ◌∙◌, arith, append_assoc, append-nil, length-append, length-drop, take-append-drop}
 use mathlib.Core.Logic.{inl, inr}
-use Rattle.std.specs.Prelude.{OnOk}
+use Rattle.std.specs.Prelude.{OnOk, is_some}
 use Rattle.std.specs.Io.KnownBytes.{Consumes, Appends, Keeps as Stays}
 use Rattle.mig_bytes.specs.Bytes.{AppendsPart}
 use Rattle.mig_bytes.specs.Faults.{Rose}
@@ -19,11 +19,12 @@ use Rattle.mig_pieces.proofs.Types.{bodies_are_parts}
 use Rattle.mig_restore.proofs.Batches.{places_len}
 use Rattle.mig_restore.specs.Judging.{before, with_places}
 use Rattle.mig_restore.specs.Stream.{ImageOf}
+use Rattle.mig_relay.specs.Following.{head_of_next, in_hand}
 use Rattle.mig_relay.specs.Keeping.{Keeps, KeepsNext, HasRecords, Stands}
 use Rattle.mig_relay.specs.Parts.{Next, AtMarker, AtVersion, AtKind, AtHead, AtBody, AtFront, AtWords, AtPages, AtPadding, judged_next, BeginsWithPart}
 use Rattle.mig_relay.specs.Relaying.{HasPassed, IsRelayed, RelayedBy, PassedPart as IsWritten, NoneIsAccepted, NoneWaits, IsCutPart, IsWrittenPart, Turned, TurnedBy, RisesOnAnswer, WritesOnReadFault, held_answer, unwritten}
 use Rattle.mig_relay.specs.Spots.{Outer, Spot, AtStart, AtLibxlHeader, AtLibxlHead, AtLibxlBody, AtLibxlPadding, InImage, AtEnd, spot, held, carry}
-use Rattle.mig_relay.specs.Standing.{StandsForBytes, StepSays, PassesOn, IsRefusedBehind, WritesSomeBehind, StopsInside, is_at_end, goes_on}
+use Rattle.mig_relay.specs.Standing.{StandsForBytes, StepSays, PassesOn, IsRefusedBehind, WritesSomeBehind, StopsInside, is_at_end, is_within, goes_on}
 use Rattle.mig_relay.specs.Steps.{FrontsAreCut, RisesOnFault, PassedPiece, EndsInside, IsUnfinished, Refuses, Stops, WritesSome, StepMoved, MovedBy, counted}
 use Rattle.mig_relay.specs.Waiting.{Fits, may_wait, most_waiting}
 use Rattle.mig_relay.specs.declared.answer.RelayAnswer.{RelayAnswer}
@@ -81,6 +82,29 @@ keeps_cut r (AtLibxlBody records head) begun (is, kept, bodied, body) going = st
 keeps_cut r (AtLibxlPadding records head content) begun (is, kept, bodied, image, some, none) going = none_cut (AtLibxlPadding records head content) (libxl_padding_is records head content some) begun none
 keeps_cut r (InImage outer next) begun (around, k) going = image_cut r outer next begun k
 keeps_cut r (AtEnd s) begun (is, has, none) going = absurd (apart (sym (ap is_at_end is) ∙ going))
+
+-- ---- a record in hand
+
+within_image : (r : Relay) (next : Next) (begun : List ℕ) → KeepsNext r next begun → is_within r.coming ≡ is_some (head_of_next next)
+within_image r AtMarker begun k = ap is_within k.0
+within_image r AtVersion begun k = ap is_within k.0
+within_image r (AtKind version) begun k = ap is_within k.0
+within_image r (AtHead o records) begun k = ap is_within k.0
+within_image r (AtBody o records head) begun k = ap is_within k.0
+within_image r (AtFront o records head) begun k = ap is_within k.0
+within_image r (AtWords o records head n) begun k = ap is_within k.0
+within_image r (AtPages o records head coming stood) begun k = ap is_within k.0
+within_image r (AtPadding o records head content) begun k = ap is_within k.0
+
+-- it is known by what comes next
+pub within : (r : Relay) (here : Spot) (begun : List ℕ) → Keeps r here begun → is_within r.coming ≡ is_some (in_hand here)
+within r AtStart begun k = ap is_within k.0
+within r AtLibxlHeader begun k = ap is_within k.0
+within r (AtLibxlHead records) begun k = ap is_within k.0
+within r (AtLibxlBody records head) begun k = ap is_within k.0
+within r (AtLibxlPadding records head content) begun k = ap is_within k.0
+within r (InImage outer next) begun (around, k) = within_image r next begun k
+within r (AtEnd s) begun k = ap is_within k.0
 
 -- ---- the end
 
@@ -173,29 +197,30 @@ module _ (r t : Relay) (old new before now : Option (List ℕ)) (result : Result
   refused place cause None f = tt
   refused place cause (Some left) f = (f.0, s.same left ∙ f.1, f.2)
 
-  writes : WritesSome s.here s.begun old new before now → WritesSomeBehind s.here bytes old new before now
-  writes (wrote, w, first, (fault, rest, is), cuts) = (wrote, w, first, (fault, rest, s.same wrote ∙ is))
+  writes : (place : Place) → WritesSome s.here s.begun old new before now place → WritesSomeBehind s.here bytes old new before now place
+  writes place (wrote, w, first, (fault, rest, is), cuts, at) = (wrote, w, first, (fault, rest, s.same wrote ∙ is), at)
 
-  by_result : (q : Result Step RelayAnswer) → MovedBy s.here s.begun r t old new before now q → StepSays s.here bytes r t old new before now q
+  by_result : (q : Result Step RelayAnswer) → MovedBy s.here s.begun r t old new before now q → StepSays s.here s.begun bytes r t old new before now q
+  unfolding stands_on
   by_result (Ok steps.Done) m = (m.0, subst (λ l. open_stream_at l ≡ Passes m.0 []) (append-nil bytes) (s.same [] ∙ m.1 []), m.2, m.3, m.4)
   by_result (Ok step) m = passes_on m
     where
-      passes_on : PassedPiece s.here s.begun step r t old new before now → PassesOn s.here bytes step t old new before now
-      passes_on g = record { piece = g.piece; some = g.some; taken = g.taken; written = g.written; stands = stands_on s g; is = g.is }
-  by_result (Err (Refused place cause)) m = (refused place cause old m.0, writes m.1)
+      passes_on : PassedPiece s.here s.begun step r t old new before now → PassesOn s.here s.begun bytes step t old new before now
+      passes_on g = record { piece = g.piece; some = g.some; taken = g.taken; written = g.written; stands = stands_on s g; follows = g.follows; is = g.is }
+  by_result (Err (Refused place cause)) m = (refused place cause old m.0, writes place m.1)
   by_result (Err ReadFault) m = stops m
   by_result (Err WriteFault) m = stops m
   by_result (Err Memory) m = stops m
 
   -- what a step does at the place behind the bytes
-  pub says_of : StepSays s.here bytes r t old new before now result
+  pub says_of : StepSays s.here s.begun bytes r t old new before now result
   says_of = by_result result (moved s.here s.begun s.keeps).is
 
   -- the same of a relay that is over
-  pub says_over : (u : Relay) → goes_on result ≡ false → StepSays s.here bytes r u old new before now result
+  pub says_over : (u : Relay) → goes_on result ≡ false → StepSays s.here s.begun bytes r u old new before now result
   says_over u over = by result over says_of
     where
-      by : (q : Result Step RelayAnswer) → goes_on q ≡ false → StepSays s.here bytes r t old new before now q → StepSays s.here bytes r u old new before now q
+      by : (q : Result Step RelayAnswer) → goes_on q ≡ false → StepSays s.here s.begun bytes r t old new before now q → StepSays s.here s.begun bytes r u old new before now q
       by (Ok steps.Done) e says = says
       by (Ok step) e says = absurd (apart e)
       by (Err (Refused place cause)) e says = says
@@ -206,7 +231,7 @@ module _ (r t : Relay) (old new before now : Option (List ℕ)) (result : Result
 -- ---- what was taken and written so far
 
 -- what was taken, and what was taken behind it
-consumed_on : (a b c : Option (List ℕ)) (xs ys : List ℕ) → Consumes a b xs → Consumes b c ys → Consumes a c (xs ++ ys)
+pub consumed_on : (a b c : Option (List ℕ)) (xs ys : List ℕ) → Consumes a b xs → Consumes b c ys → Consumes a c (xs ++ ys)
 consumed_on None b c xs ys p q = tt
 consumed_on (Some l) None c xs ys p q = absurd p
 consumed_on (Some l) (Some m) None xs ys p q = absurd q
@@ -225,7 +250,7 @@ kept None b p = tt
 kept (Some l) None p = absurd p
 kept (Some l) (Some m) p = p ∙ sym (append-nil l)
 
-left_alone : (a b : Option (List ℕ)) → Stays a b → Consumes a b []
+pub left_alone : (a b : Option (List ℕ)) → Stays a b → Consumes a b []
 left_alone None b p = tt
 left_alone (Some l) None p = absurd p
 left_alone (Some l) (Some m) p = sym p
@@ -464,9 +489,9 @@ module _ (r t : Relay) (waiting waits : List ℕ) (old mid new before now : Opti
       by None gone f = absurd gone
       by (Some left) gone (rest, is, after) = (rest, ap open_stream_at gone ∙ s.same left ∙ is, after)
 
-  refused_here : (place : Place) (cause : Cause) → Refuses s.here s.begun mid new place cause → WritesSome s.here s.begun mid new (Some waiting) (Some waits) → Refusal waits old new before now place cause
+  refused_here : (place : Place) (cause : Cause) → Refuses s.here s.begun mid new place cause → WritesSome s.here s.begun mid new (Some waiting) (Some waits) place → Refusal waits old new before now place cause
   unfolding gather
-  refused_here place cause f (wrote, w, first, (fault, rest, is), cuts) = record {
+  refused_here place cause f (wrote, w, first, (fault, rest, is), cuts, at) = record {
     g = gather wrote w.others w.written w.few cuts w.taken;
     refused = refused_on old place cause h.taken f;
     unfinished = (fault, rest, ap open_stream_at (sym (longer wrote w.written)) ∙ s.same wrote ∙ is);

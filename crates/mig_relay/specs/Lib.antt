@@ -1,5 +1,6 @@
 pub mod Parts
 pub mod Spots
+pub mod Following
 pub mod Keeping
 pub mod Waiting
 pub mod Steps

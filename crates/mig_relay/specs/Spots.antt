@@ -1,5 +1,5 @@
 -- Where a stream of either form goes on behind a faultless front (libxl migration stream, "Header" and "Records").
-use Rattle.std.specs.Prelude.{ℕ, ◌*◌, ◌==◌, Bool, List, [], ◌∷◌, ◌++◌, length, Option, None, if◌then◌else◌}
+use Rattle.std.specs.Prelude.{ℕ, ◌*◌, ◌==◌, ◌&&◌, nat_le, Bool, List, [], ◌∷◌, ◌++◌, length, take, Option, None, if◌then◌else◌}
 use Rattle.mig_bytes.specs.Bytes.{padding_len}
 use Rattle.mig_bytes.specs.Fields.{be64}
 use Rattle.mig_bytes.specs.Judged.{Judged, ◌>>=◌, part, placed}
@@ -52,6 +52,10 @@ libxl_padded records head content input = do
 -- the ident of a libxl stream
 abbrev pub is_ident : List ℕ → Bool
 is_ident bytes = be64 bytes 0 == libxl_ident
+
+-- the first 8 bytes are the ident of a libxl stream
+abbrev pub begins_with_ident : List ℕ → Bool
+begins_with_ident bytes = nat_le 8 (length bytes) && is_ident (take 8 bytes)
 
 -- what is wrong with the first 8 bytes: where they aren't the ident, they are an image's marker
 abbrev pub fault_of_first : List ℕ → Option Cause

@@ -6,6 +6,7 @@ use Rattle.mig_headers.specs.declared.fault.Cause.{Cause}
 use Rattle.mig_headers.specs.declared.fault.Place.{Place}
 use Rattle.mig_libxl.specs.Stream.{StreamOf}
 use Rattle.mig_passable.specs.Streams.{open_stream_at, IsPassable}
+use Rattle.mig_relay.specs.Following.{ComesNext, place_of_spot}
 use Rattle.mig_relay.specs.Keeping.{Keeps, HasRecords}
 use Rattle.mig_relay.specs.Spots.{Spot, spot, held}
 use Rattle.mig_relay.specs.Steps.{IsStep, EndsInside, IsUnfinished, WritesFront, is_judged_first}
@@ -39,13 +40,38 @@ abbrev pub is_at_end : Coming → Bool
 is_at_end comes.End = true
 is_at_end _ = false
 
+-- nothing was taken yet
+abbrev pub is_at_start : Coming → Bool
+is_at_start comes.Start = true
+is_at_start _ = false
+
+-- the input isn't refused
+abbrev pub IsNotRefused : Result Step RelayAnswer → Type 0
+IsNotRefused (Ok step) = ⊤
+IsNotRefused (Err (Refused place cause)) = ⊥
+IsNotRefused (Err ReadFault) = ⊤
+IsNotRefused (Err WriteFault) = ⊤
+IsNotRefused (Err Memory) = ⊤
+
+-- what comes next is a part of a record behind its head
+abbrev pub is_within : Coming → Bool
+is_within (comes.LibxlBody head) = true
+is_within (comes.LibxlPadding head) = true
+is_within (comes.Body head) = true
+is_within (comes.Front head) = true
+is_within (comes.Words head n) = true
+is_within (comes.Page head) = true
+is_within (comes.Padding head) = true
+is_within _ = false
+
 -- a piece was taken and written, and the relay stands for the bytes with it at their end
-pub record PassesOn (here : Spot) (bytes : List ℕ) (step : Step) (t : Relay) (old new : Option (List ℕ)) (before now : Option (List ℕ)) : Type 0 where
+pub record PassesOn (here : Spot) (begun bytes : List ℕ) (step : Step) (t : Relay) (old new : Option (List ℕ)) (before now : Option (List ℕ)) : Type 0 where
   pub piece : List ℕ
   pub some : 0 < length piece
   pub taken : Consumes old new piece
   pub written : Appends before now piece
   pub stands : StandsForBytes t (bytes ++ piece)
+  pub follows : ComesNext here begun piece stands.here stands.begun
   pub is : IsStep here piece t step
 
 -- the open refusal of these bytes and those that are left
@@ -53,24 +79,25 @@ abbrev pub IsRefusedBehind : List ℕ → Option (List ℕ) → Option (List ℕ
 IsRefusedBehind bytes None new place cause = ⊤
 IsRefusedBehind bytes (Some left) new place cause = (rest : List ℕ) × (open_stream_at (bytes ++ left) ≡ Faulty (place, cause) rest) × (new ≡ Some rest)
 
--- some first bytes of what was taken were written, none of a part that is judged first, and no stream stands whole in them
-abbrev pub WritesSomeBehind : Spot → List ℕ → Option (List ℕ) → Option (List ℕ) → Option (List ℕ) → Option (List ℕ) → Type 0
-WritesSomeBehind here bytes old new before now = (wrote : List ℕ) × WritesFront (held here) old new before now wrote × (is_judged_first here ≡ true → wrote ≡ []) × IsUnfinished (open_stream_at (bytes ++ wrote))
+-- some first bytes of what was taken were written, none of a part that is judged first, and no stream stands whole in them;
+-- and the place of the part is this one
+abbrev pub WritesSomeBehind : Spot → List ℕ → Option (List ℕ) → Option (List ℕ) → Option (List ℕ) → Option (List ℕ) → Place → Type 0
+WritesSomeBehind here bytes old new before now place = (wrote : List ℕ) × WritesFront (held here) old new before now wrote × (is_judged_first here ≡ true → wrote ≡ []) × IsUnfinished (open_stream_at (bytes ++ wrote)) × (place_of_spot here ≡ Some place)
 
 -- it stopped in a part, before that was written whole
 abbrev pub StopsInside : Spot → List ℕ → Option (List ℕ) → Option (List ℕ) → Option (List ℕ) → Option (List ℕ) → Type 0
 StopsInside here bytes old new before now = (wrote : List ℕ) × WritesFront (held here) old new before now wrote × EndsInside (open_stream_at (bytes ++ wrote))
 
--- What a step does, for bytes that the relay stands for, and what comes next behind them. Done: they are passable. Another
+-- What a step does, for bytes that the relay stands for, of which the last were begun of what comes next. Done: they are passable. Another
 -- value: a piece more was passed on. An error: the bytes with those left are refused, or the source, the sink or memory
 -- failed inside the part.
-abbrev pub StepSays : Spot → List ℕ → Relay → Relay → Option (List ℕ) → Option (List ℕ) → Option (List ℕ) → Option (List ℕ) → Result Step RelayAnswer → Type 0
-StepSays here bytes r t old new before now (Ok Done) = (s : StreamOf) × IsPassable bytes s × Stays old new × Stays before now × HasRecords r.seen.records s
-StepSays here bytes r t old new before now (Ok step) = PassesOn here bytes step t old new before now
-StepSays here bytes r t old new before now (Err (Refused place cause)) = IsRefusedBehind bytes old new place cause × WritesSomeBehind here bytes old new before now
-StepSays here bytes r t old new before now (Err ReadFault) = StopsInside here bytes old new before now
-StepSays here bytes r t old new before now (Err WriteFault) = StopsInside here bytes old new before now
-StepSays here bytes r t old new before now (Err Memory) = StopsInside here bytes old new before now
+abbrev pub StepSays : Spot → List ℕ → List ℕ → Relay → Relay → Option (List ℕ) → Option (List ℕ) → Option (List ℕ) → Option (List ℕ) → Result Step RelayAnswer → Type 0
+StepSays here begun bytes r t old new before now (Ok Done) = (s : StreamOf) × IsPassable bytes s × Stays old new × Stays before now × HasRecords r.seen.records s
+StepSays here begun bytes r t old new before now (Ok step) = PassesOn here begun bytes step t old new before now
+StepSays here begun bytes r t old new before now (Err (Refused place cause)) = IsRefusedBehind bytes old new place cause × WritesSomeBehind here bytes old new before now place
+StepSays here begun bytes r t old new before now (Err ReadFault) = StopsInside here bytes old new before now
+StepSays here begun bytes r t old new before now (Err WriteFault) = StopsInside here bytes old new before now
+StepSays here begun bytes r t old new before now (Err Memory) = StopsInside here bytes old new before now
 
 -- whether a step's answer leaves a relay that goes on
 abbrev pub goes_on : Result Step RelayAnswer → Bool

@@ -1,5 +1,5 @@
 -- What a step does.
-use Rattle.std.specs.Prelude.{◌≡◌, ◌<◌, ◌≤◌, ◌+◌, ◌-◌, ◌^◌, ◌==◌, ℕ, true, false, Bool, List, [], ◌++◌, length, min, Option, Some, None, Result, Ok, Err, ⊤}
+use Rattle.std.specs.Prelude.{◌≡◌, ◌<◌, ◌≤◌, ◌+◌, ◌-◌, ◌*◌, ◌^◌, ◌==◌, ℕ, true, false, Bool, List, [], ◌++◌, length, min, Option, Some, None, Result, Ok, Err, ⊤}
 use Rattle.std.specs.Io.KnownBytes.{Consumes, Appends, Keeps as Stays}
 use Rattle.mig_bytes.specs.Faults.{Rose}
 use Rattle.mig_bytes.specs.Fields.{be32, be64, le32}
@@ -14,6 +14,7 @@ use Rattle.mig_headers.specs.declared.fault.Place.{Place}
 use Rattle.mig_libxl.specs.Stream.{StreamOf}
 use Rattle.mig_records.specs.Heads.{head_in}
 use Rattle.mig_records.specs.Words.{words as words_in}
+use Rattle.mig_relay.specs.Following.{ComesNext, place_of_spot}
 use Rattle.mig_relay.specs.Keeping.{Keeps, HasRecords, words_in_hand}
 use Rattle.mig_relay.specs.Parts.{AtMarker, AtVersion, AtKind, AtHead, AtBody, AtFront, AtWords, AtPages, AtPadding}
 use Rattle.mig_relay.specs.Spots.{Spot, AtStart, AtLibxlHeader, AtLibxlHead, AtLibxlBody, AtLibxlPadding, InImage, spot, held}
@@ -63,7 +64,7 @@ IsStep (InImage outer AtVersion) piece t (Version version) = version ≡ be32 pi
 IsStep (InImage outer (AtKind version)) piece t (Kind kind) = kind ≡ kind_of_number (le32 piece 0)
 IsStep (InImage outer (AtHead o records)) piece t (Head wrapped head) = (wrapped ≡ false) × (head ≡ head_in piece) × (words_in_hand t ≡ [])
 IsStep (AtLibxlHead records) piece t (Head wrapped head) = (wrapped ≡ true) × (head ≡ head_in piece) × (words_in_hand t ≡ [])
-IsStep (InImage outer (AtWords o records head n)) piece t Words = words_in_hand t ≡ words_in n piece
+IsStep (InImage outer (AtWords o records head n)) piece t Words = (words_in_hand t ≡ words_in n piece) × (length piece ≡ 8 * n)
 IsStep here piece t Piece = (is_piece here ≡ true) × (length piece ≤ 4096)
 IsStep here piece t step = ⊥
 
@@ -89,6 +90,7 @@ pub record PassedPiece (here : Spot) (begun : List ℕ) (step : Step) (r t : Rel
   pub keeps : Keeps t next front
   pub small : length piece ≤ held here
   pub cuts : FrontsAreCut here begun piece
+  pub follows : ComesNext here begun piece next front
   pub count : t.passed ≡ counted r.passed (length piece)
   pub is : IsStep here piece t step
 
@@ -109,9 +111,9 @@ is_judged_first (AtLibxlBody records head) = false
 is_judged_first (InImage outer (AtBody o records head)) = false
 is_judged_first _ = true
 
--- some first bytes of what was taken were written, and none of a part that is judged first
-abbrev pub WritesSome : Spot → List ℕ → Option (List ℕ) → Option (List ℕ) → Option (List ℕ) → Option (List ℕ) → Type 0
-WritesSome here begun old new before now = (wrote : List ℕ) × WritesFront (held here) old new before now wrote × (is_judged_first here ≡ true → wrote ≡ []) × IsUnfinished (spot here (begun ++ wrote)) × FrontsAreCut here begun wrote
+-- some first bytes of what was taken were written, and none of a part that is judged first; and its place is this one
+abbrev pub WritesSome : Spot → List ℕ → Option (List ℕ) → Option (List ℕ) → Option (List ℕ) → Option (List ℕ) → Place → Type 0
+WritesSome here begun old new before now place = (wrote : List ℕ) × WritesFront (held here) old new before now wrote × (is_judged_first here ≡ true → wrote ≡ []) × IsUnfinished (spot here (begun ++ wrote)) × FrontsAreCut here begun wrote × (place_of_spot here ≡ Some place)
 
 -- the bytes that are left are refused, and all up to the end of the faulty part was taken
 abbrev pub Refuses : Spot → List ℕ → Option (List ℕ) → Option (List ℕ) → Place → Cause → Type 0
@@ -125,7 +127,7 @@ Stops here begun old new before now = (wrote : List ℕ) × WritesFront (held he
 abbrev pub MovedBy : Spot → List ℕ → Relay → Relay → Option (List ℕ) → Option (List ℕ) → Option (List ℕ) → Option (List ℕ) → Result Step RelayAnswer → Type 0
 MovedBy here begun r t old new before now (Ok Done) = (s : StreamOf) × ((more : List ℕ) → spot here (begun ++ more) ≡ Passes s more) × Stays old new × Stays before now × HasRecords r.seen.records s
 MovedBy here begun r t old new before now (Ok step) = PassedPiece here begun step r t old new before now
-MovedBy here begun r t old new before now (Err (Refused place cause)) = Refuses here begun old new place cause × WritesSome here begun old new before now
+MovedBy here begun r t old new before now (Err (Refused place cause)) = Refuses here begun old new place cause × WritesSome here begun old new before now place
 MovedBy here begun r t old new before now (Err ReadFault) = Stops here begun old new before now
 MovedBy here begun r t old new before now (Err WriteFault) = Stops here begun old new before now
 MovedBy here begun r t old new before now (Err Memory) = Stops here begun old new before now

@@ -1,7 +1,8 @@
-ghost use Rattle.std.specs.Prelude.{◌≡◌, [], List, ℕ, None};
+ghost use Rattle.std.specs.Prelude.{◌≡◌, [], List, ℕ, None, Some, true};
 ghost use Rattle.mig_relay.specs.Keeping.{KeepsOuter, KeepsWrapper};
 ghost use Rattle.mig_relay.specs.Parts.{AtMarker, AtVersion, AtKind};
-ghost use Rattle.mig_relay.specs.Spots.{Outer, AtStart, AtLibxlHeader, InImage, fault_of_first};
+ghost use Rattle.mig_relay.specs.Spots.{Outer, AtStart, AtLibxlHeader, InImage, begins_with_ident, fault_of_first};
+ghost use Rattle.mig_relay.specs.Standing.{IsNotRefused};
 ghost use Rattle.mig_relay.specs.Steps.{StepMoved, RisesOnFault};
 
 use crate::answer::{RelayAnswer, Step};
@@ -37,6 +38,7 @@ impl Relay {
         sink: &mut K,
     ) -> Result<Step, RelayAnswer>
         requires { self.old.wrapper ≡ None }
+        ensures ident { (left : List ℕ) → S.left src.old ≡ Some left → begins_with_ident left ≡ true → IsNotRefused result }
         ensures moved { StepMoved AtStart [] self.old self.new (S.left src.old) (S.left src.new) (K.written sink.old) (K.written sink.new) result }
         ensures faults { RisesOnFault (S.faults src.old) (S.faults src.new) (K.faults sink.old) (K.faults sink.new) result }
     {

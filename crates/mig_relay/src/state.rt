@@ -1,11 +1,12 @@
-ghost use Rattle.std.specs.Prelude.{true, false, ◌≡◌, ◌*◌, ◌+◌, ◌-◌, ◌^◌, min, [], List, ℕ, length, is_ok, if◌then◌else◌, Ok, OnOk};
+ghost use Rattle.std.specs.Prelude.{true, false, ◌≡◌, ◌*◌, ◌+◌, ◌-◌, ◌^◌, min, [], List, ℕ, length, is_ok, is_some, Some, if◌then◌else◌, Ok, OnOk};
 ghost use Rattle.mig_bytes.specs.Bytes.{Puts};
 ghost use Rattle.mig_bytes.specs.Faults.{HasCause};
 ghost use Rattle.mig_libxl.specs.Stream.{StreamOf};
 ghost use Rattle.mig_passable.specs.Streams.{IsPassable};
+ghost use Rattle.mig_relay.specs.Following.{in_hand};
 ghost use Rattle.mig_relay.specs.Keeping.{Keeps, Stands, words_in_hand};
-ghost use Rattle.mig_relay.specs.Spots.{Spot, AtStart};
-ghost use Rattle.mig_relay.specs.Standing.{StandsForBytes, StepSays, is_over, is_at_end, goes_on};
+ghost use Rattle.mig_relay.specs.Spots.{Spot, AtStart, begins_with_ident};
+ghost use Rattle.mig_relay.specs.Standing.{StandsForBytes, StepSays, is_over, is_at_end, is_at_start, is_within, goes_on, IsNotRefused};
 ghost use Rattle.mig_relay.specs.Steps.{StepMoved, RisesOnFault, answer_of, counted};
 ghost use Rattle.mig_relay.specs.Waiting.{may_wait};
 ghost use Rattle.mig_relay.specs.declared.answer.Step.TheVariants.{Done};
@@ -81,6 +82,22 @@ pub(crate) fn answer(stop: Stop<Cause>, place: Place) -> RelayAnswer
     }
 }
 
+/// Whether what comes next is a part of a record behind its head.
+fn is_within(coming: Coming) -> bool
+    ensures { result ≡ is_within coming }
+{
+    match coming {
+        Coming::LibxlBody(_)
+        | Coming::LibxlPadding(_)
+        | Coming::Body(_)
+        | Coming::Front(_)
+        | Coming::Words(_, _)
+        | Coming::Page(_)
+        | Coming::Padding(_) => true,
+        _ => false,
+    }
+}
+
 impl Relay {
     /// Nothing was taken yet. No memory is taken.
     pub fn new(alloc: Global) -> Relay
@@ -136,6 +153,13 @@ impl Relay {
         }
     }
 
+    /// Whether some bytes of a record whose head was passed on are still to come.
+    pub fn is_in_record(&self) -> bool
+        ensures { (here : Spot) (begun : List ℕ) → Keeps self.now here begun → result ≡ is_some (in_hand here) }
+    {
+        is_within(self.coming)
+    }
+
     /// Whether the stream is over: the next step answers Done.
     pub(crate) fn is_at_end(&self) -> bool
         ensures { result ≡ is_at_end self.now.coming }
@@ -174,6 +198,7 @@ impl Relay {
         requires { Stands self.old }
         ensures moved { (here : Spot) (begun : List ℕ) → Keeps self.old here begun → StepMoved here begun self.old self.new (S.left src.old) (S.left src.new) (K.written sink.old) (K.written sink.new) result }
         ensures stands { OnOk result (Stands self.new) }
+        ensures ident { (left : List ℕ) → is_at_start self.old.coming ≡ true → S.left src.old ≡ Some left → begins_with_ident left ≡ true → IsNotRefused result }
         ensures over { is_at_end self.old.coming ≡ true → result ≡ Ok Done }
         ensures stays { is_at_end self.old.coming ≡ true → self.new ≡ self.old }
         ensures faults { RisesOnFault (S.faults src.old) (S.faults src.new) (K.faults sink.old) (K.faults sink.new) result }
@@ -211,8 +236,10 @@ impl Relay {
 
         // Of each list of bytes that the relay stands for: a piece was taken and written, and the relay stands for the
         // list with it at its end; or the list is passable; or the list and the bytes left are refused; or it stopped.
-        ensures says { (bytes : List ℕ) (stands : StandsForBytes self.old bytes) → StepSays stands.here bytes self.old self.new (S.left src.old) (S.left src.new) (K.written sink.old) (K.written sink.new) result }
+        ensures says { (bytes : List ℕ) (stands : StandsForBytes self.old bytes) → StepSays stands.here stands.begun bytes self.old self.new (S.left src.old) (S.left src.new) (K.written sink.old) (K.written sink.new) result }
         ensures done { (bytes : List ℕ) (s : StreamOf) → StandsForBytes self.old bytes → IsPassable bytes s → result ≡ Ok Done }
+        // At its start an input with the ident of a libxl stream isn't refused.
+        ensures ident { (left : List ℕ) → is_at_start self.old.coming ≡ true → S.left src.old ≡ Some left → begins_with_ident left ≡ true → IsNotRefused result }
         ensures stands { goes_on result ≡ true → Stands self.new }
         ensures over { goes_on result ≡ false → is_over self.new ≡ true }
         ensures faults { RisesOnFault (S.faults src.old) (S.faults src.new) (K.faults sink.old) (K.faults sink.new) result }

@@ -5,6 +5,7 @@ use Rattle.mig_pieces.specs.Begun.{IsBegunBody}
 use Rattle.mig_pieces.specs.Bodies.{fault_of_record_body, record_content}
 use Rattle.mig_restore.specs.Judging.{before}
 use Rattle.mig_relay.specs.Keeping.{top_with}
+use Rattle.mig_relay.specs.Following.{more}
 use Rattle.mig_relay.specs.Parts.{AtBody}
 use Rattle.mig_relay.specs.Spots.{InImage, spot}
 use Rattle.mig_relay.specs.Steps.{answer_of, counted}
@@ -20,7 +21,7 @@ pub returns-in-Err-clause-moved : goal.returns-in-Err-clause-moved
 returns-in-Err-clause-moved g c outer o records begun around kept other first body =
     let size : length c.take_part.new.buf ≡ c.next_piece-count.result = c.take_part.auto.buf ∙ grind (arith, common_steps, c.next_piece-count.ensures.most) in
     stopped _ _ _ _ _ (body_part outer o records c.args.head other (omega (arith, body.less))) begun _ _ _ _ _ _ c.take_part.new.buf c.in-Err.stop _ (c.answer.ensures ∙ ap (λ n. answer_of (Record n) c.in-Err.stop) (c.from.ensures ∙ this_number _ o records _ kept.seen))
-    (omega (arith, size, body.known.taken, c.next_piece-count.ensures.within, body.len)) (omega (arith, size, c.next_piece-count.ensures.some)) refl c.in-Err.ensures.read (omega (arith, size, c.next_piece-count.ensures.most)) c.in-Err.ensures.few
+    (omega (arith, size, body.known.taken, c.next_piece-count.ensures.within, body.len)) (omega (arith, size, c.next_piece-count.ensures.some)) refl c.in-Err.ensures.read (omega (arith, size, c.next_piece-count.ensures.most)) c.in-Err.ensures.few refl
 
 pub returns-in-Err-put-clause-moved : goal.returns-in-Err-put-clause-moved
 returns-in-Err-put-clause-moved g c outer o records begun around kept other first body =
@@ -60,7 +61,8 @@ returns-then-self-clause-moved g c outer o records begun around kept other first
               },
             ),
           )
-          (ap (λ (r : Relay). r.passed) same) (refl, omega (arith, size, c.next_piece-count.ensures.most));
+          (ap (λ (r : Relay). r.passed) same) (refl, omega (arith, size, c.next_piece-count.ensures.most))
+          (more (InImage outer (AtBody o records c.args.head)) (InImage outer (AtBody o records c.args.head)) begun buf (begun ++ buf) c.args.head refl refl refl (λ e. cc) refl (omega (arith, length-append begun buf)));
     }
 
 pub returns-in-Some-clause-moved : goal.returns-in-Some-clause-moved
@@ -73,7 +75,7 @@ returns-in-Some-clause-moved g c outer o records begun around kept other first b
     let known = c.pass.ensures.begun (fault_of_record_body c.args.head.kind) begun (subst (λ (r : Relay). IsBegunBody r.body (fault_of_record_body c.args.head.kind) begun) (sym same) body.known) in
     let whole : length (begun ++ buf) ≡ c.args.head.len = omega (arith, length-append begun buf, size, len, taken, body.known.taken, body.len, c.next_piece-count.ensures.within, c.if-self.false) in
     refused_behind _ _ _ _ _ (body_part outer o records c.args.head other (omega (arith, body.less))) begun _ _ _ _ _ _ buf _ c.in-Some.cause _ (ap (λ n. Refused (Record n) c.in-Some.cause) (c.from.ensures ∙ this_number _ o records _ kept.seen)) whole
-    (sym (c.fault.ensures (fault_of_record_body c.args.head.kind) (begun ++ buf) known) ∙ c.in-Some.is) c.in_default.ensures.read (omega (arith, size, c.next_piece-count.ensures.most)) c.in_default-put.ensures.bytes refl
+    (sym (c.fault.ensures (fault_of_record_body c.args.head.kind) (begun ++ buf) known) ∙ c.in-Some.is) c.in_default.ensures.read (omega (arith, size, c.next_piece-count.ensures.most)) c.in_default-put.ensures.bytes refl refl
 
 pub returns-clause-moved : goal.returns-clause-moved
 returns-clause-moved g c outer o records begun around kept other first body =
@@ -100,5 +102,5 @@ returns-clause-moved g c outer o records begun around kept other first body =
           goes_on _ _ _ _ _ is begun c.args.self.now _ _ _ _ _ buf _ b.next [] Piece (omega (arith, size, body.known.taken, c.next_piece-count.ensures.within, body.len)) (omega (arith, size, c.next_piece-count.ensures.most)) some c.in_default.ensures.read c.in_default-put.ensures.bytes
           (λ more. ap (spot (InImage outer (AtBody o records c.args.head))) (sym (append_assoc begun buf more))
           ∙ passes (InImage outer (AtBody o records c.args.head)) _ _ _ _ is (begun ++ buf) more whole (sym (c.fault.ensures (fault_of_record_body c.args.head.kind) (begun ++ buf) known) ∙ c.in_default-fault.is) ∙ b.same more)
-          b.keeps (ap (λ (r : Relay). r.passed) same) (refl, omega (arith, size, c.next_piece-count.ensures.most));
+          b.keeps (ap (λ (r : Relay). r.passed) same) (refl, omega (arith, size, c.next_piece-count.ensures.most)) (b.follows begun buf (omega (arith, whole, length-append begun buf)));
     }

@@ -1,7 +1,8 @@
-use Rattle.std.proofs.Common.{arith, refl, sym, [], ap, ◌∙◌}
+use Rattle.std.proofs.Common.{arith, refl, sym, subst, [], ap, ◌∙◌}
 use Rattle.mig_headers.specs.declared.fault.Place.TheVariants.{Record}
 use Rattle.mig_records.specs.Faults.{fault_of_count}
-use Rattle.mig_relay.specs.Parts.{AtWords}
+use Rattle.mig_relay.specs.Following.{ComesNext, count}
+use Rattle.mig_relay.specs.Parts.{AtFront, AtWords}
 use Rattle.mig_relay.specs.Spots.{InImage, spot}
 use Rattle.mig_relay.specs.Steps.{answer_of}
 use Rattle.mig_relay.specs.declared.answer.RelayAnswer.TheVariants.{Refused}
@@ -16,13 +17,13 @@ pub returns-in-Err-clause-moved : goal.returns-in-Err-clause-moved
 returns-in-Err-clause-moved g c outer o records around kept pages =
     let buf = c.take_part.new.buf in
     not_taken (front_is outer o records c.args.head) _ _ _ _ _ _ buf (omega (arith, c.take_part.auto.buf)) (omega (arith, c.take_part.auto.buf)) c.in-Err.stop _
-    (c.answer.ensures ∙ ap (λ n. answer_of (Record n) c.in-Err.stop) (c.from.ensures ∙ this_number _ o records _ kept.seen)) refl c.in-Err.ensures.read c.in-Err.ensures.few
+    (c.answer.ensures ∙ ap (λ n. answer_of (Record n) c.in-Err.stop) (c.from.ensures ∙ this_number _ o records _ kept.seen)) refl c.in-Err.ensures.read c.in-Err.ensures.few refl
 
 pub returns-in-Some-clause-moved : goal.returns-in-Some-clause-moved
 returns-in-Some-clause-moved g c outer o records around kept pages =
     let buf = c.take_part.new.buf in
     not_allowed (front_is outer o records c.args.head) _ _ _ _ _ _ buf (omega (arith, c.take_part.auto.buf)) (omega (arith, c.take_part.auto.buf)) _ c.in-Some.cause _
-    (ap (λ n. Refused (Record n) c.in-Some.cause) (c.from.ensures ∙ this_number _ o records _ kept.seen)) (c.in-Some.ensures.fault ∙ ap (fault_of_count c.args.head.len) c.u32_le-count.ensures) refl c.in_default.ensures.read
+    (ap (λ n. Refused (Record n) c.in-Some.cause) (c.from.ensures ∙ this_number _ o records _ kept.seen)) (c.in-Some.ensures.fault ∙ ap (fault_of_count c.args.head.len) c.u32_le-count.ensures) refl c.in_default.ensures.read refl
 
 pub returns-in-Err-put-clause-moved : goal.returns-in-Err-put-clause-moved
 returns-in-Err-put-clause-moved g c outer o records around kept pages =
@@ -41,5 +42,6 @@ returns-clause-moved g c outer o records around kept pages =
       is =
           went (front_is outer o records c.args.head) _ _ _ _ _ _ buf (omega (arith, c.take_part.auto.buf)) (omega (arith, c.take_part.auto.buf)) _ (InImage outer (AtWords o records c.args.head n)) [] _
           (fine ∙ ap (fault_of_count c.args.head.len) c.u32_le-count.ensures) c.in_default.ensures.read c.in_default-put.ensures.bytes (λ more. ap (λ m. spot (InImage outer (AtWords o records c.args.head m)) more) (sym c.u32_le-count.ensures))
-          (outer_stays _ _ outer stays around, (refl, records_stay _ _ o records _ _ stays kept, pages, in_count c.args.head.len n fine, refl)) (ap (λ (r : Relay). r.passed) put) (refl, omega (arith, c.take_part.auto.buf));
+          (outer_stays _ _ outer stays around, (refl, records_stay _ _ o records _ _ stays kept, pages, in_count c.args.head.len n fine, refl)) (ap (λ (r : Relay). r.passed) put) (refl, omega (arith, c.take_part.auto.buf))
+          (subst (λ m. ComesNext (InImage outer (AtFront o records c.args.head)) [] buf (InImage outer (AtWords o records c.args.head m)) []) (sym c.u32_le-count.ensures) (count outer o records c.args.head buf (omega (arith, c.take_part.auto.buf)) (omega (arith, (in_count c.args.head.len n fine).1, c.u32_le-count.ensures))));
     }

@@ -23,21 +23,21 @@ use Rattle.mig_relay.proofs.state.Relay.head.Goals as goal
 pub returns-in-Err-clause-moved : goal.returns-in-Err-clause-moved
 returns-in-Err-clause-moved g c = λ outer o records kept k.
     not_taken (lifted (carry outer) (whole_head_is o records k.going)) _ _ _ _ _ _ c.take_part.new.buf c.take_part.auto.buf (omega (arith, c.take_part.auto.buf)) c.in-Err.stop _ (c.answer.ensures ∙ ap (λ n. answer_of (Record n) c.in-Err.stop) (c.from.ensures ∙ number_is _ o records k.seen)) refl
-    c.in-Err.ensures.read c.in-Err.ensures.few
+    c.in-Err.ensures.read c.in-Err.ensures.few refl
 
 pub returns-in-Err-judge-clause-moved : goal.returns-in-Err-judge-clause-moved
 returns-in-Err-judge-clause-moved g c = λ outer o records kept k.
     let b = c.take_part.new.buf in
     let stands = err_fault _ tt c.in-Err-judge.cause (c.in-Err-judge.ensures.judged (before o records) k.seen) ∙ ap (λ (h : RecordHead). fault_of_fields (before o records) h.kind h.len) c.decode-head.ensures.value in
     not_allowed (lifted (carry outer) (whole_head_is o records k.going)) _ _ _ _ _ _ b c.take_part.auto.buf (omega (arith, c.take_part.auto.buf)) _ c.in-Err-judge.cause _ (ap (λ n. Refused (Record n) c.in-Err-judge.cause) (c.from.ensures ∙ number_is _ o records k.seen))
-    (ap (λ f. option_or f (fault_of_empty c.decode-head.result)) stands ∙ ap (λ (h : RecordHead). option_or (fault_of_fields (before o records) (le32 b 0) (le32 b 4)) (fault_of_empty h)) c.decode-head.ensures.value) refl c.in_default.ensures.read
+    (ap (λ f. option_or f (fault_of_empty c.decode-head.result)) stands ∙ ap (λ (h : RecordHead). option_or (fault_of_fields (before o records) (le32 b 0) (le32 b 4)) (fault_of_empty h)) c.decode-head.ensures.value) refl c.in_default.ensures.read refl
 
 pub returns-in-Some-clause-moved : goal.returns-in-Some-clause-moved
 returns-in-Some-clause-moved g c = λ outer o records kept k.
     let b = c.take_part.new.buf in
     let fine = (ok_none _ tt tt (c.in_default-judge.ensures.judged (before o records) k.seen)).0 ∙ ap (λ (h : RecordHead). fault_of_fields (before o records) h.kind h.len) c.decode-head.ensures.value in
     not_allowed (lifted (carry outer) (whole_head_is o records k.going)) _ _ _ _ _ _ b c.take_part.auto.buf (omega (arith, c.take_part.auto.buf)) _ c.in-Some.cause _ (ap (λ n. Refused (Record n) c.in-Some.cause) (c.from.ensures ∙ number_is _ o records k.seen))
-    (c.in-Some.ensures ∙ ap fault_of_empty c.decode-head.ensures.value ∙ ap (λ f. option_or f (fault_of_empty (head_in b))) fine) refl c.in_default.ensures.read
+    (c.in-Some.ensures ∙ ap fault_of_empty c.decode-head.ensures.value ∙ ap (λ f. option_or f (fault_of_empty (head_in b))) fine) refl c.in_default.ensures.read refl
 
 pub returns-in-Err-put-clause-moved : goal.returns-in-Err-put-clause-moved
 returns-in-Err-put-clause-moved g c = λ outer o records kept k.
@@ -69,5 +69,5 @@ returns-clause-moved g c = λ outer o records kept k.
           went (lifted (carry outer) (whole_head_is o records k.going)) _ _ _ _ _ _ b c.take_part.auto.buf (omega (arith, c.take_part.auto.buf)) _ n.next [] _
           (c.in_default-empty_fault.ensures ∙ ap fault_of_empty c.decode-head.ensures.value ∙ ap (λ f. option_or f (fault_of_empty (head_in b))) (fine ∙ ap (λ (x : RecordHead). fault_of_fields (before o records) x.kind x.len) c.decode-head.ensures.value))
           c.in_default.ensures.read c.in_default-put.ensures.bytes (λ more. ap (λ (x : RecordHead). spot (InImage outer (AtBody o records x)) more) (sym c.decode-head.ensures.value) ∙ n.same more) n.keeps (e.passed ∙ ap (λ (x : Relay). x.passed) same)
-          (refl, c.decode-head.ensures.value, e.words);
+          (refl, c.decode-head.ensures.value, e.words) (n.follows b c.take_part.auto.buf (sym c.decode-head.ensures.value));
     }

@@ -3,6 +3,7 @@ use Rattle.std.proofs.lemmas.Grind.{common_steps}
 use Rattle.mig_headers.specs.declared.fault.Place.TheVariants.{LibxlRecord as AtRecord}
 use Rattle.mig_pieces.specs.Begun.{IsBegunBody}
 use Rattle.mig_pieces.specs.Bodies.{fault_of_libxl_body}
+use Rattle.mig_relay.specs.Following.{more}
 use Rattle.mig_relay.specs.Spots.{AtLibxlBody, spot}
 use Rattle.mig_relay.specs.Steps.{answer_of, counted}
 use Rattle.mig_relay.specs.declared.answer.RelayAnswer.TheVariants.{Refused}
@@ -18,7 +19,7 @@ pub returns-in-Err-clause-moved : goal.returns-in-Err-clause-moved
 returns-in-Err-clause-moved g c records begun kept bodied body =
     let size : length c.take_part.new.buf ≡ c.next_piece-count.result = c.take_part.auto.buf ∙ grind (arith, common_steps, c.next_piece-count.ensures.most) in
     stopped _ _ _ _ _ (libxl_body_is records c.args.head (omega (arith, body.less))) begun _ _ _ _ _ _ c.take_part.new.buf c.in-Err.stop _ (c.answer.ensures ∙ ap (λ n. answer_of (AtRecord n) c.in-Err.stop) (c.from.ensures ∙ libxl_number c.args.self.now records c.in-Some.behind kept.0 c.in-Some.is))
-    (omega (arith, size, body.known.taken, c.next_piece-count.ensures.within, body.len)) (omega (arith, size, c.next_piece-count.ensures.some)) refl c.in-Err.ensures.read (omega (arith, size, c.next_piece-count.ensures.most)) c.in-Err.ensures.few
+    (omega (arith, size, body.known.taken, c.next_piece-count.ensures.within, body.len)) (omega (arith, size, c.next_piece-count.ensures.some)) refl c.in-Err.ensures.read (omega (arith, size, c.next_piece-count.ensures.most)) c.in-Err.ensures.few refl
 
 pub returns-in-Err-put-clause-moved : goal.returns-in-Err-put-clause-moved
 returns-in-Err-put-clause-moved g c records begun kept bodied body =
@@ -45,7 +46,8 @@ returns-then-self-clause-moved g c records begun kept bodied body =
               less = omega (arith, length-append begun c.take_part.new.buf, len, taken, body.known.taken, body.len, c.if-self.true);
             },
           )
-          (ap (λ (r : Relay). r.passed) same) (refl, omega (arith, size, c.next_piece-count.ensures.most));
+          (ap (λ (r : Relay). r.passed) same) (refl, omega (arith, size, c.next_piece-count.ensures.most))
+          (more (AtLibxlBody records c.args.head) (AtLibxlBody records c.args.head) begun c.take_part.new.buf (begun ++ c.take_part.new.buf) c.args.head refl refl refl (λ e. cc) refl (omega (arith, length-append begun c.take_part.new.buf)));
     }
 
 pub returns-in-Some-fault-clause-moved : goal.returns-in-Some-fault-clause-moved
@@ -58,7 +60,7 @@ returns-in-Some-fault-clause-moved g c records begun kept bodied body =
     let whole : length (begun ++ c.take_part.new.buf) ≡ c.args.head.len = omega (arith, length-append begun c.take_part.new.buf, size, len, taken, body.known.taken, body.len, c.next_piece-count.ensures.within, c.if-self.false) in
     refused_behind _ _ _ _ _ (libxl_body_is records c.args.head (omega (arith, body.less))) begun _ _ _ _ _ _ c.take_part.new.buf _ c.in-Some-fault.cause _
     (ap (λ n. Refused (AtRecord n) c.in-Some-fault.cause) (c.from.ensures ∙ libxl_number c.args.self.now records c.in-Some.behind kept.0 c.in-Some.is)) whole
-    (sym (c.fault.ensures (fault_of_libxl_body c.args.head.kind) (begun ++ c.take_part.new.buf) known) ∙ c.in-Some-fault.is) c.in_default-take_part.ensures.read (omega (arith, size, c.next_piece-count.ensures.most)) c.in_default-put.ensures.bytes refl
+    (sym (c.fault.ensures (fault_of_libxl_body c.args.head.kind) (begun ++ c.take_part.new.buf) known) ∙ c.in-Some-fault.is) c.in_default-take_part.ensures.read (omega (arith, size, c.next_piece-count.ensures.most)) c.in_default-put.ensures.bytes refl refl
 
 pub returns-clause-moved : goal.returns-clause-moved
 returns-clause-moved g c records begun kept bodied body =
@@ -77,5 +79,5 @@ returns-clause-moved g c records begun kept bodied body =
           goes_on _ _ _ _ _ is begun c.args.self.now _ _ _ _ _ c.take_part.new.buf _ b.next [] Piece (omega (arith, size, body.known.taken, c.next_piece-count.ensures.within, body.len)) (omega (arith, size, c.next_piece-count.ensures.most)) (omega (arith, size, c.next_piece-count.ensures.some)) c.in_default-take_part.ensures.read c.in_default-put.ensures.bytes
           (λ more. ap (spot (AtLibxlBody records c.args.head)) (sym (append_assoc begun c.take_part.new.buf more))
           ∙ passes (AtLibxlBody records c.args.head) _ _ _ _ is (begun ++ c.take_part.new.buf) more whole (sym (c.fault.ensures (fault_of_libxl_body c.args.head.kind) (begun ++ c.take_part.new.buf) known) ∙ c.in_default-fault.is) ∙ b.same more)
-          b.keeps (b.passed ∙ ap (λ (r : Relay). r.passed) same) (refl, omega (arith, size, c.next_piece-count.ensures.most));
+          b.keeps (b.passed ∙ ap (λ (r : Relay). r.passed) same) (refl, omega (arith, size, c.next_piece-count.ensures.most)) (b.follows begun c.take_part.new.buf (omega (arith, whole, length-append begun c.take_part.new.buf)));
     }

@@ -14,13 +14,13 @@ use Rattle.mig_relay.proofs.state.Relay.libxl_head.Goals as goal
 
 pub returns-in-Err-clause-moved : goal.returns-in-Err-clause-moved
 returns-in-Err-clause-moved g c = λ records w.
-    not_taken (libxl_head_is records w.1) _ _ _ _ _ _ c.take_part.new.buf c.take_part.auto.buf (omega (arith, c.take_part.auto.buf)) c.in-Err.stop _ (c.answer.ensures ∙ ap (λ n. answer_of (AtRecord n) c.in-Err.stop) (c.from.ensures ∙ (are_behind _ records w.0 c.in-Some.behind c.in-Some.is).count)) refl c.in-Err.ensures.read c.in-Err.ensures.few
+    not_taken (libxl_head_is records w.1) _ _ _ _ _ _ c.take_part.new.buf c.take_part.auto.buf (omega (arith, c.take_part.auto.buf)) c.in-Err.stop _ (c.answer.ensures ∙ ap (λ n. answer_of (AtRecord n) c.in-Err.stop) (c.from.ensures ∙ (are_behind _ records w.0 c.in-Some.behind c.in-Some.is).count)) refl c.in-Err.ensures.read c.in-Err.ensures.few refl
 
 pub returns-in-Some-libxl_head_fault-clause-moved : goal.returns-in-Some-libxl_head_fault-clause-moved
 returns-in-Some-libxl_head_fault-clause-moved g c = λ records w.
     let are = are_behind _ records w.0 c.in-Some.behind c.in-Some.is in
     not_allowed (libxl_head_is records w.1) _ _ _ _ _ _ c.take_part.new.buf c.take_part.auto.buf (omega (arith, c.take_part.auto.buf)) _ c.in-Some-libxl_head_fault.cause _ (ap (λ n. Refused (AtRecord n) c.in-Some-libxl_head_fault.cause) (c.from.ensures ∙ are.count))
-    (c.in-Some-libxl_head_fault.ensures.fault records are ∙ ap (λ (h : RecordHead). fault_of_libxl_head records h.kind h.len) c.decode-head.ensures.value) refl c.in_default-take_part.ensures.read
+    (c.in-Some-libxl_head_fault.ensures.fault records are ∙ ap (λ (h : RecordHead). fault_of_libxl_head records h.kind h.len) c.decode-head.ensures.value) refl c.in_default-take_part.ensures.read refl
 
 pub returns-in-Err-put-clause-moved : goal.returns-in-Err-put-clause-moved
 returns-in-Err-put-clause-moved g c = λ records w. not_written (libxl_head_is records w.1) _ _ _ _ _ _ c.take_part.new.buf c.take_part.auto.buf (omega (arith, c.take_part.auto.buf)) _ c.in_default-take_part.ensures.read c.in-Err-put.ensures.bytes
@@ -40,5 +40,5 @@ returns-clause-moved g c = λ records w.
       is =
           went (libxl_head_is records w.1) _ _ _ _ _ _ c.take_part.new.buf c.take_part.auto.buf (omega (arith, c.take_part.auto.buf)) _ n.next [] _ (f.fault records (are_behind _ records w.0 c.in-Some.behind c.in-Some.is) ∙ ap (λ (x : RecordHead). fault_of_libxl_head records x.kind x.len) c.decode-head.ensures.value)
           c.in_default-take_part.ensures.read c.in_default-put.ensures.bytes (λ more. ap (λ (x : RecordHead). behind_libxl_head records x more) (sym c.decode-head.ensures.value) ∙ n.same more) n.keeps (e.passed ∙ ap (λ (x : Relay). x.passed) same)
-          (refl, c.decode-head.ensures.value, e.words);
+          (refl, c.decode-head.ensures.value, e.words) (n.follows c.take_part.new.buf c.take_part.auto.buf (sym c.decode-head.ensures.value));
     }

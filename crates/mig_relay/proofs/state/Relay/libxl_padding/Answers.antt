@@ -7,7 +7,8 @@ use Rattle.mig_relay.specs.declared.answer.Step.TheVariants.{Piece}
 use Rattle.mig_records.specs.declared.head.RecordHead.{RecordHead}
 use Rattle.mig_relay.specs.Keeping.{with_one}
 use Rattle.mig_relay.specs.declared.state.Coming.TheVariants as comes
-use Rattle.mig_relay.specs.Spots.{AtLibxlHead}
+use Rattle.mig_relay.specs.Following.{whole, libxl_next}
+use Rattle.mig_relay.specs.Spots.{AtLibxlHead, AtLibxlPadding}
 use Rattle.mig_relay.proofs.SpotParts.{libxl_padding_is, with_libxl}
 use Rattle.mig_relay.proofs.Kept.{libxl_number, wrapped_more}
 use Rattle.mig_relay.proofs.Moves.{not_taken, not_written, went}
@@ -16,7 +17,7 @@ use Rattle.mig_relay.proofs.state.Relay.libxl_padding.Goals as goal
 pub returns-in-Err-clause-moved : goal.returns-in-Err-clause-moved
 returns-in-Err-clause-moved g c records content kept bodied none =
     not_taken (libxl_padding_is records c.args.head content c.requires.some) _ _ _ _ _ _ c.take_part.new.buf (c.take_part.auto.buf ∙ grind (arith, common_steps, c.pad_len.ensures.value, c.pad_len.ensures.small)) (grind (arith, common_steps, c.take_part.auto.buf, c.pad_len.ensures.small)) c.in-Err.stop _
-    (c.answer.ensures ∙ ap (λ n. answer_of (AtRecord n) c.in-Err.stop) (c.from.ensures ∙ libxl_number c.args.self.now records c.in-Some.behind kept.0 c.in-Some.is)) refl c.in-Err.ensures.read c.in-Err.ensures.few
+    (c.answer.ensures ∙ ap (λ n. answer_of (AtRecord n) c.in-Err.stop) (c.from.ensures ∙ libxl_number c.args.self.now records c.in-Some.behind kept.0 c.in-Some.is)) refl c.in-Err.ensures.read c.in-Err.ensures.few refl
 
 pub returns-in-Err-put-clause-moved : goal.returns-in-Err-put-clause-moved
 returns-in-Err-put-clause-moved g c records content kept bodied none =
@@ -32,7 +33,8 @@ returns-clause-moved g c records content kept bodied none = record {
         wrapped_more records (record { type = head.kind; content = content }) c.args.self.now _ c.in-Some.behind kept.0 c.in-Some.is (ap (λ (r : Relay). r.wrapper) behind) (ap (λ (r : Relay). r.seen) behind ∙ ap (λ (r : Relay). r.seen) same) none bodied.0,
         refl,
       )
-      (ap (λ (r : Relay). r.passed) behind ∙ ap (λ (r : Relay). r.passed) same) (refl, grind (arith, common_steps, c.take_part.auto.buf, c.pad_len.ensures.small));
+      (ap (λ (r : Relay). r.passed) behind ∙ ap (λ (r : Relay). r.passed) same) (refl, grind (arith, common_steps, c.take_part.auto.buf, c.pad_len.ensures.small))
+      (whole (AtLibxlPadding records head content) _ [] c.take_part.new.buf head refl (λ e. cc) (grind (arith, common_steps, c.take_part.auto.buf, c.pad_len.ensures.value, c.pad_len.ensures.small)) (libxl_next records (record { type = head.kind; content = content }) head.kind bodied.0 bodied.1));
 }
   where
     head : RecordHead

@@ -6,7 +6,8 @@ use Rattle.mig_relay.specs.Steps.{answer_of, counted}
 use Rattle.mig_relay.specs.declared.answer.Step.TheVariants.{Piece}
 use Rattle.mig_records.specs.declared.head.RecordHead.{RecordHead}
 use Rattle.mig_relay.specs.Spots.{InImage, carry}
-use Rattle.mig_relay.specs.Parts.{AtHead}
+use Rattle.mig_relay.specs.Following.{whole, image_next}
+use Rattle.mig_relay.specs.Parts.{AtHead, AtPadding, record_with}
 use Rattle.mig_relay.proofs.Unrolls.{padding_is, with}
 use Rattle.mig_relay.proofs.SpotParts.{lifted}
 use Rattle.mig_relay.proofs.Kept.{this_number, records_same, records_more, outer_same}
@@ -16,7 +17,7 @@ use Rattle.mig_relay.proofs.state.Relay.padding.Goals as goal
 pub returns-in-Err-clause-moved : goal.returns-in-Err-clause-moved
 returns-in-Err-clause-moved g c outer o records content around kept other =
     not_taken (lifted (carry outer) (padding_is o records c.args.head content c.requires.some)) _ _ _ _ _ _ c.take_part.new.buf (c.take_part.auto.buf ∙ grind (arith, common_steps, c.pad_len.ensures.value, c.pad_len.ensures.small)) (grind (arith, common_steps, c.take_part.auto.buf, c.pad_len.ensures.small)) c.in-Err.stop _
-    (c.answer.ensures ∙ ap (λ n. answer_of (Record n) c.in-Err.stop) (c.from.ensures ∙ this_number _ o records _ kept.seen)) refl c.in-Err.ensures.read c.in-Err.ensures.few
+    (c.answer.ensures ∙ ap (λ n. answer_of (Record n) c.in-Err.stop) (c.from.ensures ∙ this_number _ o records _ kept.seen)) refl c.in-Err.ensures.read c.in-Err.ensures.few refl
 
 pub returns-in-Err-put-clause-moved : goal.returns-in-Err-put-clause-moved
 returns-in-Err-put-clause-moved g c outer o records content around kept other =
@@ -35,7 +36,8 @@ returns-clause-moved g c outer o records content around kept other = record {
           refl,
         ),
       )
-      (ap (λ (r : Relay). r.passed) same) (refl, grind (arith, common_steps, c.take_part.auto.buf, c.pad_len.ensures.small));
+      (ap (λ (r : Relay). r.passed) same) (refl, grind (arith, common_steps, c.take_part.auto.buf, c.pad_len.ensures.small))
+      (whole (InImage outer (AtPadding o records head content)) _ [] c.take_part.new.buf head refl (λ e. cc) (grind (arith, common_steps, c.take_part.auto.buf, c.pad_len.ensures.value, c.pad_len.ensures.small)) (image_next outer o records (record_with records head content) head.kind other));
 }
   where
     head : RecordHead

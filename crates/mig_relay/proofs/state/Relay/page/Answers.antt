@@ -10,7 +10,7 @@ use Rattle.mig_relay.specs.declared.answer.RelayAnswer.TheVariants.{Refused}
 use Rattle.mig_relay.specs.declared.state.Relay.{Relay}
 use Rattle.mig_relay.proofs.Moves.{not_taken, not_allowed, not_written, went}
 use Rattle.mig_relay.proofs.Kept.{this_number}
-use Rattle.mig_relay.proofs.Paging.{IsKept, next_word, others, page_is, outer_stays, records_stay, turned, turning_keeps, same_page_fault}
+use Rattle.mig_relay.proofs.Paging.{IsKept, next_word, others, page_is, outer_stays, records_stay, turned, turning_keeps, same_page_fault, page_left}
 use Rattle.mig_relay.proofs.state.Relay.page.Goals as goal
 
 pub returns-in-Err-clause-moved : goal.returns-in-Err-clause-moved
@@ -18,7 +18,7 @@ returns-in-Err-clause-moved g c outer o records coming stood around kept pages p
     let buf = c.take_part.new.buf in
     let r : Relay = c.args.self.now in
     not_taken (page_is outer o records c.args.head r coming stood words) _ _ _ _ _ _ buf (omega (arith, c.take_part.auto.buf)) (omega (arith, c.take_part.auto.buf)) c.in-Err.stop _
-    (c.answer.ensures ∙ ap (λ n. answer_of (Record n) c.in-Err.stop) (c.from.ensures ∙ this_number _ o records _ kept.seen)) refl c.in-Err.ensures.read c.in-Err.ensures.few
+    (c.answer.ensures ∙ ap (λ n. answer_of (Record n) c.in-Err.stop) (c.from.ensures ∙ this_number _ o records _ kept.seen)) refl c.in-Err.ensures.read c.in-Err.ensures.few refl
 
 pub returns-in-Some-clause-moved : goal.returns-in-Some-clause-moved
 returns-in-Some-clause-moved g c outer o records coming stood around kept pages padding words =
@@ -27,7 +27,7 @@ returns-in-Some-clause-moved g c outer o records coming stood around kept pages 
     not_allowed (page_is outer o records c.args.head r coming stood words) _ _ _ _ _ _ buf (omega (arith, c.take_part.auto.buf)) (omega (arith, c.take_part.auto.buf)) _ c.in-Some.cause _
     (ap (λ n. Refused (Record n) c.in-Some.cause) (c.from.ensures ∙ this_number _ o records _ kept.seen))
     (same_page_fault _ o.kind _ (before o records).top _ r.page (next_word r) _ buf _ kept.seen.kind kept.top refl
-    (c.meant-kind.ensures ∙ ap (meant_type r.seen.kind) (c.type_in.ensures ∙ ap type_in_word (get_or_read r.words.items _ _ words.some c.index.ensures 0))) c.in-Some.ensures) refl c.in_default.ensures.read
+    (c.meant-kind.ensures ∙ ap (meant_type r.seen.kind) (c.type_in.ensures ∙ ap type_in_word (get_or_read r.words.items _ _ words.some c.index.ensures 0))) c.in-Some.ensures) refl c.in_default.ensures.read refl
 
 pub returns-in-Err-put-clause-moved : goal.returns-in-Err-put-clause-moved
 returns-in-Err-put-clause-moved g c outer o records coming stood around kept pages padding words =
@@ -55,5 +55,6 @@ returns-clause-moved g c outer o records coming stood around kept pages padding 
           went (page_is outer o records c.args.head r coming stood words) _ _ _ _ _ _ buf (omega (arith, c.take_part.auto.buf)) (omega (arith, c.take_part.auto.buf)) _ t.next [] _ fine c.in_default.ensures.read
           c.in_default-put.ensures.bytes (λ more. ap (λ (x : Relay). spot (InImage outer (AtPages o records c.args.head (others x) behind)) more) (sym put) ∙ t.same more) t.keeps
           (turning_keeps held c.turn_to.new.self c.args.head e.within.1 e.page e.over (λ x. x.passed) (λ _. refl) (λ _. refl) ∙ ap (λ (x : Relay). x.passed) put)
-          (refl, omega (arith, c.take_part.auto.buf));
+          (refl, omega (arith, c.take_part.auto.buf))
+          (t.follows (InImage outer (AtPages o records c.args.head coming stood)) buf refl refl (λ e. cc) (page_left r held coming stood (length buf) words (ap (λ (x : Relay). x.words.items) put) (ap (λ (x : Relay). x.page) put) (omega (arith, c.take_part.auto.buf))));
     }

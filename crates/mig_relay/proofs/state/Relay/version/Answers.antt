@@ -2,6 +2,7 @@ use Rattle.std.proofs.Common.{arith, refl, sym, ap, []}
 use Rattle.mig_bytes.specs.Fields.{be32}
 use Rattle.mig_headers.specs.Headers.{fault_of_image}
 use Rattle.mig_headers.specs.declared.header.ImageHeader.{ImageHeader}
+use Rattle.mig_relay.specs.Following.{version}
 use Rattle.mig_relay.specs.Parts.{AtKind}
 use Rattle.mig_relay.specs.Spots.{InImage, carry, spot}
 use Rattle.mig_relay.proofs.Kept.{outer_same}
@@ -11,10 +12,10 @@ use Rattle.mig_relay.proofs.Moves.{not_taken, not_allowed, not_written, went, er
 use Rattle.mig_relay.proofs.state.Relay.version.Goals as goal
 
 pub returns-in-Err-clause-moved : goal.returns-in-Err-clause-moved
-returns-in-Err-clause-moved g c = λ outer kept. not_taken (lifted (carry outer) version_is) _ _ _ _ _ _ c.take_part.new.buf c.take_part.auto.buf (omega (arith, c.take_part.auto.buf)) c.in-Err.stop _ c.answer.ensures refl c.in-Err.ensures.read c.in-Err.ensures.few
+returns-in-Err-clause-moved g c = λ outer kept. not_taken (lifted (carry outer) version_is) _ _ _ _ _ _ c.take_part.new.buf c.take_part.auto.buf (omega (arith, c.take_part.auto.buf)) c.in-Err.stop _ c.answer.ensures refl c.in-Err.ensures.read c.in-Err.ensures.few refl
 
 pub returns-in-Err-decode-clause-moved : goal.returns-in-Err-decode-clause-moved
-returns-in-Err-decode-clause-moved g c = λ outer kept. not_allowed (lifted (carry outer) version_is) _ _ _ _ _ _ c.take_part.new.buf c.take_part.auto.buf (omega (arith, c.take_part.auto.buf)) _ c.in-Err-decode.cause _ refl (err_fault (fault_of_image c.take_part.new.buf) _ c.in-Err-decode.cause c.in-Err-decode.ensures.value) refl c.in_default.ensures.read
+returns-in-Err-decode-clause-moved g c = λ outer kept. not_allowed (lifted (carry outer) version_is) _ _ _ _ _ _ c.take_part.new.buf c.take_part.auto.buf (omega (arith, c.take_part.auto.buf)) _ c.in-Err-decode.cause _ refl (err_fault (fault_of_image c.take_part.new.buf) _ c.in-Err-decode.cause c.in-Err-decode.ensures.value) refl c.in_default.ensures.read refl
 
 pub returns-in-Err-put-clause-moved : goal.returns-in-Err-put-clause-moved
 returns-in-Err-put-clause-moved g c = λ outer kept. not_written (lifted (carry outer) version_is) _ _ _ _ _ _ c.take_part.new.buf c.take_part.auto.buf (omega (arith, c.take_part.auto.buf)) _ c.in_default.ensures.read c.in-Err-put.ensures.bytes
@@ -26,5 +27,5 @@ returns-in_default-put-clause-moved g c = λ outer kept.
     record {
       is =
           went (lifted (carry outer) version_is) _ _ _ _ _ _ c.take_part.new.buf c.take_part.auto.buf (omega (arith, c.take_part.auto.buf)) _ (InImage outer (AtKind c.in-Ok.header.version)) [] _ d.0 c.in_default.ensures.read c.in_default-put.ensures.bytes
-          (λ more. ap (λ (h : ImageHeader). spot (InImage outer (AtKind h.version)) more) d.1) (outer_same _ _ outer (ap (λ r. r.wrapper) c.in_default-put.ensures.kept) kept, (refl, refl)) (ap (λ r. r.passed) c.in_default-put.ensures.kept) (sym (ap (λ (h : ImageHeader). h.version) d.1));
+          (λ more. ap (λ (h : ImageHeader). spot (InImage outer (AtKind h.version)) more) d.1) (outer_same _ _ outer (ap (λ r. r.wrapper) c.in_default-put.ensures.kept) kept, (refl, refl)) (ap (λ r. r.passed) c.in_default-put.ensures.kept) (sym (ap (λ (h : ImageHeader). h.version) d.1)) (version outer c.in-Ok.header.version b c.take_part.auto.buf);
     }
