@@ -2,3 +2,6 @@ pub mod Names
 pub mod Refusals
 pub mod Tree
 pub mod Smallest
+pub mod Fronts
+pub mod Seeing
+pub mod Shows

@@ -1,20 +1,25 @@
-//! The JSON tree that shows a stream's records.
+//! A stream's records as a JSON tree.
 //!
-//! Responsible for: the members of the tree, the names of record types in Xen's documents, and the text of a refusal as
-//! the tree has it. Left to others: which records a stream has and why it is refused (the layers that read it), what is
-//! printed of a place and a cause (mig_texts), and the JSON text of a tree (serde_json).
+//! Responsible for: which records stand whole in front of the part that is refused, and what is shown of each; the members
+//! of the tree, the names of record types in Xen's documents, and the text of a refusal as the tree has it. Left to
+//! others: why a stream is refused, and which part comes next (mig_relay), what is printed of a place and a cause
+//! (mig_texts), and the JSON text of a tree (serde_json).
 //!
-//! What the layers above rely on: the tree is exactly that of specs/Tree, with the records in the order of the list.
+//! What the layers above rely on: the records are exactly those of specs/Fronts, and the tree is that of specs/Tree.
 #![tactic(auto)]
 
 mod laws;
 mod names;
+mod nowhere;
 mod record;
 mod refusal;
+mod seen;
 #[cfg(test)]
 mod tests;
 mod tree;
+mod viewer;
 
 pub use laws::{smallest_stream_is_shown, trees_have_no_float};
 pub use record::ShownRecord;
 pub use tree::tree_of;
+pub use viewer::{ShowAnswer, Shown, ShownText, show, show_text};
