@@ -5,4 +5,4 @@ pub use Rattle.mig_bytes.proofs.Texts.{puts_same, puts_stop, puts_then}
 pub use Rattle.mig_report.specs.Outcome.{line_of}
 pub use Rattle.mig_report.specs.Words.{IsBase, IsFrameNumber, Names}
 pub use Rattle.mig_report.specs.declared.command.Command.{Command}
-pub use Rattle.mig_report.specs.declared.command.Command.TheVariants.{Convert, Exercise, Normalise, Restore, Save, Verify, Walk, WalkImage, Relay}
+pub use Rattle.mig_report.specs.declared.command.Command.TheVariants.{Convert, Exercise, Normalise, Restore, Save, Verify, Walk, WalkImage, Relay, Show}

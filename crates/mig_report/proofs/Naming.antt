@@ -1,23 +1,24 @@
 -- Words name one command at most.
 use mathlib.Core.Logic.{inl, inr}
-use Rattle.mig_report.proofs.Common.{◌≡◌, ◌+◌, ◌*◌, Some, ℕ, ◌<◌, ◌^◌, List, [], length, get_or, sym, ap, ◌∙◌, refl, arith, IsBase, IsFrameNumber, Names, Command, Convert, Exercise, Normalise, Restore, Save, Verify, Walk, WalkImage, Relay}
+use Rattle.mig_report.proofs.Common.{◌≡◌, ◌+◌, ◌*◌, Some, ℕ, ◌<◌, ◌^◌, List, [], length, get_or, sym, ap, ◌∙◌, refl, arith, IsBase, IsFrameNumber, Names, Command, Convert, Exercise, Normalise, Restore, Save, Verify, Walk, WalkImage, Relay, Show}
 use Rattle.std.proofs.lemmas.Fmt.{decimal_injective}
 use Rattle.mig_report.specs.Words.{vcpu_limit, hex_behind, NamePlace}
 
--- the first letter of the first word, and how long that is
+-- the third letter of the first word, and how long that is
 abbrev initial : List (List ℕ) → ℕ
-initial words = get_or (get_or words 0 []) 0 0 + 256 * length (get_or words 0 [])
+initial words = get_or (get_or words 0 []) 2 0 + 256 * length (get_or words 0 [])
 
 abbrev named : Command → ℕ
-named Normalise = 110 + 256 * 9
-named Verify = 118 + 256 * 6
-named Convert = 99 + 256 * 7
-named Save = 115 + 256 * 4
-named (Restore base) = 114 + 256 * 7
+named Normalise = 114 + 256 * 9
+named Verify = 114 + 256 * 6
+named Convert = 110 + 256 * 7
+named Save = 118 + 256 * 4
+named (Restore base) = 115 + 256 * 7
 named (Exercise seed frames) = 101 + 256 * 8
-named (Walk id at) = 119 + 256 * 4
-named (WalkImage id at) = 119 + 256 * 9
-named Relay = 114 + 256 * 5
+named (Walk id at) = 108 + 256 * 4
+named (WalkImage id at) = 108 + 256 * 9
+named Relay = 108 + 256 * 5
+named Show = 111 + 256 * 4
 
 begins : (words : List (List ℕ)) (command : Command) → Names words command → initial words ≡ named command
 begins words Normalise h = ap initial h
@@ -25,6 +26,7 @@ begins words Verify h = ap initial h
 begins words Convert h = ap initial h
 begins words Save h = ap initial h
 begins words Relay h = ap initial h
+begins words Show h = ap initial h
 begins words (Restore base) (inl (h, e)) = ap initial h
 begins words (Restore base) (inr (h, e)) = ap initial h
 begins words (Exercise seed frames) h = ap initial h.0
@@ -70,6 +72,7 @@ same_command words Verify Verify h k = refl
 same_command words Convert Convert h k = refl
 same_command words Save Save h k = refl
 same_command words Relay Relay h k = refl
+same_command words Show Show h k = refl
 same_command words (Restore a) (Restore b) h k = ap (λ (n : ℕ). Restore n) (same_base words a b h k)
 same_command words (Exercise a n) (Exercise b m) h k = let (e, f) = same_numbers words a b n m h k in ap (λ (x : ℕ). Exercise x n) e ∙ ap (λ (y : ℕ). Exercise b y) f
 same_command words (Walk a x) (Walk b y) h k = let (e, f) = same_place _ words a b x y h k in λ i. Walk (e i) (f i)

@@ -2,7 +2,7 @@
 use Rattle.std.specs.Prelude.{◌≡◌, ◌≢◌, ◌⊎◌, ◌<◌, ◌≤◌, ◌^◌, ◌+◌, ◌-◌, ◌*◌, ◌&&◌, ℕ, List, [], ◌∷◌, length, map, codes, decimal, string_bytes, slice_index, nat_le, Option, Some, None, option_and_then, if◌then◌else◌}
 use Rattle.std.specs.declared.string.String.{String}
 use Rattle.mig_report.specs.declared.command.Command.{Command}
-use Rattle.mig_report.specs.declared.command.Command.TheVariants.{Normalise, Restore, Verify, Convert, Save, Exercise, Walk, WalkImage, Relay}
+use Rattle.mig_report.specs.declared.command.Command.TheVariants.{Normalise, Restore, Verify, Convert, Save, Exercise, Walk, WalkImage, Relay, Show}
 
 abbrev pub texts_of : {Z : Type 0} → List (String Z) → List (List ℕ)
 texts_of words = map string_bytes words
@@ -59,6 +59,7 @@ Names words Verify = words ≡ codes "verify" ∷ []
 Names words Convert = words ≡ codes "convert" ∷ []
 Names words Save = words ≡ codes "save" ∷ []
 Names words Relay = words ≡ codes "relay" ∷ []
+Names words Show = words ≡ codes "show" ∷ []
 Names words (Restore base) = ((words ≡ codes "restore" ∷ []) × (base ≡ usual_base)) ⊎ ((words ≡ codes "restore" ∷ decimal base ∷ []) × IsBase base)
 Names words (Exercise seed frames) = (words ≡ codes "exercise" ∷ decimal seed ∷ decimal frames ∷ []) × (seed < 2 ^ 64) × IsFrameNumber frames
 Names words (Walk id at) = NamePlace (codes "walk") words id at

@@ -42,6 +42,8 @@ pub enum Command {
     WalkImage { vcpu: u32, address: u64 },
     /// Pass the stream on while it is judged.
     Relay,
+    /// Show the stream's records as JSON.
+    Show,
 }
 
 /// Whether the word is this one.
@@ -124,6 +126,9 @@ fn plain(word: &str) -> Option<Command>
     }
     if is_word(word, "relay") {
         return Some(Command::Relay);
+    }
+    if is_word(word, "show") {
+        return Some(Command::Show);
     }
     None
 }

@@ -263,7 +263,7 @@ pub fn put_line<R: Sink>(report: &mut R, outcome: Outcome) -> Result<(), WriteFa
         Outcome::Refused(refusal) => put_refusal(report, refusal),
         Outcome::Usage => put_all(
             report,
-            b"usage: restore [BASE] | verify | normalise | convert | save | exercise SEED FRAMES | walk VCPU ADDRESS | walkimage VCPU ADDRESS | relay\n",
+            b"usage: restore [BASE] | verify | normalise | convert | save | exercise SEED FRAMES | walk VCPU ADDRESS | walkimage VCPU ADDRESS | relay | show\n",
         ),
         Outcome::ReadFault => put_all(report, b"fault: read\n"),
         Outcome::WriteFault => put_all(report, b"fault: write\n"),
