@@ -1,5 +1,5 @@
 -- What an exercise comes to.
-use Rattle.mig_tool.proofs.Common.{◌≡◌, ◌⊎◌, ℕ, ◌++◌, List, [], length, Option, Some, None, Result, Ok, Err, refl, sym, ap, subst, ◌∙◌, arith, GuestOf, AcceptedStream}
+use Rattle.mig_tool.proofs.Common.{◌≡◌, ◌⊎◌, ℕ, ◌++◌, List, [], length, Option, Some, None, Ok, Err, refl, sym, ap, subst, ◌∙◌, arith, GuestOf, AcceptedStream}
 use mathlib.Core.Logic.{inl, inr}
 use mathlib.Core.List.{append-nil}
 use Rattle.mig_bytes.specs.Answers.{or_stop}
@@ -7,7 +7,6 @@ use Rattle.mig_bytes.specs.Faults.{RisesOnReadFault}
 use Rattle.mig_bytes.specs.declared.answer.Answer.TheVariants as answers
 use Rattle.mig_headers.specs.declared.fault.Cause.{Cause}
 use Rattle.mig_headers.specs.declared.fault.Place.{Place}
-use Rattle.mig_headers.specs.declared.unsound.Unsound.{Unsound}
 use Rattle.mig_guest.specs.Hosts.{HostOf}
 use Rattle.mig_hosted.specs.Sound.{unsoundness}
 use Rattle.mig_libxl.specs.Stream.{ReadsStream}

@@ -2,6 +2,7 @@ pub mod Common
 pub mod SaveInputs
 pub mod Walks
 pub mod Relaying
+pub mod Showing
 pub mod Reporting
 pub mod Saving
 pub mod Lives

@@ -1,21 +1,20 @@
 -- What a relay's answer says.
-use Rattle.mig_tool.proofs.Common.{◌≡◌, ◌⊎◌, ℕ, List, Option, Some, None, Result, Ok, Err, refl, sym, ap, subst, ◌∙◌, arith, Written, Comes, ComesOf, Says, SaysOf, InputRises, PutsOwnLine, Relay, line_of, status_of}
+use Rattle.mig_tool.proofs.Common.{◌≡◌, ◌⊎◌, ◌++◌, ℕ, List, Option, Some, None, Result, Ok, Err, refl, sym, ap, subst, ◌∙◌, arith, Written, ComesOf, Says, SaysOf, InputRises, PutsOwnLine, Relay, line_of, status_of}
 use mathlib.Core.Logic.{inl, inr}
 use Rattle.std.specs.Io.KnownBytes.{Consumes, Appends}
 use Rattle.mig_bytes.specs.Bytes.{AppendsPart}
 use Rattle.mig_bytes.specs.Faults.{Rose}
-use Rattle.mig_bytes.specs.Judged.Judged.{Passes, Faulty}
+use Rattle.mig_bytes.specs.Judged.Judged.{Passes}
 use Rattle.mig_headers.specs.declared.fault.Cause.{Cause}
 use Rattle.mig_headers.specs.declared.fault.Place.{Place}
 use Rattle.std.specs.Prelude.{◌≤◌}
+use Rattle.mig_libxl.specs.Stream.{StreamOf}
 use Rattle.mig_passable.specs.Streams.{open_stream_at, IsOpenRefused}
-use Rattle.mig_relay.specs.Relaying.{PassedWhole, PassedPart, IsRelayed, RelayedBy, RisesOnAnswer}
+use Rattle.mig_relay.specs.Relaying.{PassedWhole, PassedPart, IsRelayed, RisesOnAnswer}
 use Rattle.mig_relay.specs.declared.answer.RelayAnswer.{RelayAnswer}
 use Rattle.mig_relay.specs.declared.answer.RelayAnswer.TheVariants as answers
 use Rattle.mig_relay.specs.declared.answer.Relayed.{Relayed}
 use Rattle.mig_report.specs.Report.{Reports, relayed_line, write_fault_line}
-use Rattle.mig_report.specs.declared.outcome.Refusal.{Refusal}
-use Rattle.mig_report.specs.declared.outcome.Refusal.TheVariants as refusals
 use Rattle.mig_report.specs.declared.outcome.RelaySummary.{RelaySummary}
 use Rattle.mig_report.specs.declared.status.Status.{Status}
 use Rattle.mig_report.specs.declared.status.Status.TheVariants as statuses
@@ -32,12 +31,12 @@ pub record Front (input : List ℕ) (left : Option (List ℕ)) : Type 0 where
   pub front : PassableFront input rest
   pub left_is : left ≡ Some rest
 
+pub taken_front : (input bytes : List ℕ) (left : Option (List ℕ)) (s : StreamOf) → ((more : List ℕ) → open_stream_at (bytes ++ more) ≡ Passes s more) → Consumes (Some input) left bytes → Front input left
+taken_front input bytes None s passes gone = absurd gone
+taken_front input bytes (Some rest) s passes gone = record { rest = rest; front = record { s = s; passes = ap open_stream_at gone ∙ passes rest }; left_is = refl }
+
 front_of : (input : List ℕ) (left old new : Option (List ℕ)) (relayed : Relayed) → PassedWhole (Some input) left old new relayed → Front input left
-front_of input left old new relayed w = by left w.taken
-  where
-    by : (l : Option (List ℕ)) → Consumes (Some input) l w.front → Front input l
-    by None gone = absurd gone
-    by (Some rest) gone = record { rest = rest; front = record { s = w.s; passes = ap open_stream_at gone ∙ w.passes rest }; left_is = refl }
+front_of input left old new relayed w = taken_front input w.front left w.s w.passes w.taken
 
 pub passed_front : (input : List ℕ) (left old new : Option (List ℕ)) (summary : RelaySummary) → PassedOn (Some input) left old new summary → Front input left
 passed_front input left old new summary w = front_of input left old new (counts_of summary) w

@@ -1,5 +1,5 @@
 -- What the program answers, and what the line on the report comes to.
-use Rattle.mig_tool.proofs.Common.{◌⊎◌, ◌≡◌, ◌≢◌, ℕ, ◌++◌, List, length, arith, Option, Some, None, Result, Ok, Err, refl, sym, ap, subst, ◌∙◌, GuestOf, AcceptedStream, AcceptedIn, RefusedIn, Form, ImageAndScript, ImageAt, Legacy, Modern, ModernAt, NoInput, Passing, form_of, Refusal, Kind, Hvm, Pv, IsCarried, IsFew, IsBase, restored_text, Written, Done, DonePart, Comes, ComesOf, Says, SaysOf, InputRises, IsLine, summary_of, Command, Convert, Exercise, Normalise, Restore, Save, Verify, Walk, WalkImage, Relay, mean_kind, status_of, line_of, outcome_of}
+use Rattle.mig_tool.proofs.Common.{◌⊎◌, ◌≡◌, ℕ, ◌++◌, List, length, arith, Option, Some, None, Result, Ok, Err, refl, sym, ap, subst, ◌∙◌, GuestOf, AcceptedStream, AcceptedIn, RefusedIn, Form, ImageAndScript, ImageAt, Legacy, Modern, ModernAt, NoInput, Passing, form_of, Refusal, Kind, Hvm, Pv, IsCarried, IsFew, IsBase, restored_text, Written, Done, DonePart, Comes, ComesOf, Says, SaysOf, InputRises, IsLine, WriteRose, WritesRefused, summary_of, Command, Convert, Exercise, Normalise, Restore, Save, Verify, Walk, WalkImage, Relay, Show, mean_kind, status_of, line_of, outcome_of}
 use mathlib.Core.Logic.{inl, inr}
 use Rattle.std.specs.Io.KnownBytes.{Appends}
 use Rattle.mig_bytes.specs.Bytes.{Puts}
@@ -124,9 +124,10 @@ done_refused (Exercise seed n) input left w refusal rest h refused it = refused
 done_refused (Walk id at) input left w refusal rest h refused it = never_both (ModernAt id at) input h.found.guest h.found.rest rest refusal (stream_found id at input left h.summary h.found) refused
 done_refused (WalkImage id at) input left w refusal rest h refused it = never_both (ImageAt id at) input (view h.found.host) h.found.rest rest refusal (host_found id at input left h.summary h.found) refused
 done_refused Relay input left w refusal rest h refused it = front_once input h.rest rest refusal h.front refused
+done_refused Show input left w refusal rest h refused it = front_once input h.rest rest refusal h.front refused
 done_refused Save input left w refusal rest h refused it = not_refused input h.host h.lines refusal rest h.read refused it
 
-part_refused : (command : Command) (input : List ℕ) (left : Option (List ℕ)) (w : Written) (refusal : Refusal) (rest : List ℕ) → DonePart command input left w → RefusedIn (form_of command) input refusal rest → IsOfInput refusal → command ≢ Relay → ⊥
+part_refused : (command : Command) (input : List ℕ) (left : Option (List ℕ)) (w : Written) (refusal : Refusal) (rest : List ℕ) → DonePart command input left w → RefusedIn (form_of command) input refusal rest → IsOfInput refusal → (WritesRefused command → ⊥) → ⊥
 part_refused Normalise input left w refusal rest h refused it other = never_both Modern input h.guest h.rest rest refusal h.accepted refused
 part_refused Convert input left w refusal rest h refused it other = never_both Legacy input h.guest h.rest rest refusal h.accepted refused
 part_refused (Restore base) input left w refusal rest h refused it other = never_both Modern input h.guest h.rest rest refusal h.accepted refused
@@ -134,7 +135,8 @@ part_refused Verify input left w refusal rest h refused it other = never_both Mo
 part_refused (Exercise seed n) input left w refusal rest h refused it other = refused
 part_refused (Walk id at) input left w refusal rest h refused it other = never_both (ModernAt id at) input h.found.guest h.found.rest rest refusal (stream_found id at input left h.summary h.found) refused
 part_refused (WalkImage id at) input left w refusal rest h refused it other = never_both (ImageAt id at) input (view h.found.host) h.found.rest rest refusal (host_found id at input left h.summary h.found) refused
-part_refused Relay input left w refusal rest h refused it other = absurd (other refl)
+part_refused Relay input left w refusal rest h refused it other = other tt
+part_refused Show input left w refusal rest h refused it other = other tt
 part_refused Save input left w refusal rest (inl h) refused it other = not_refused input h.host h.lines refusal rest h.read refused it
 part_refused Save input left w refusal rest (inr h) refused it other = not_refused input h.host h.lines refusal rest h.read refused it
 
@@ -154,16 +156,16 @@ accepted_done command told left w status input guest rest h is accepted reads wr
     done_or command input left w status guest rest (subst (λ t. SaysOf command t left w status) is h) accepted reads writes
 
 refused_or : (command : Command) (input : List ℕ) (left : Option (List ℕ)) (w : Written) (status : Status) (refusal : Refusal) (rest : List ℕ) → Says command input left w status → RefusedIn (form_of command) input refusal rest → IsOfInput refusal
-    → (status ≡ statuses.ReadFault → ⊥) → (command ≡ Relay → status ≡ statuses.WriteFault → ⊥) → (status ≡ statuses.Refused) ⊎ (status ≡ statuses.Memory)
+    → (status ≡ statuses.ReadFault → ⊥) → (WritesRefused command → status ≡ statuses.WriteFault → ⊥) → (status ≡ statuses.Refused) ⊎ (status ≡ statuses.Memory)
 refused_or command input left w statuses.Done refusal rest h refused it reads writes = absurd (done_refused command input left w refusal rest h refused it)
 refused_or command input left w statuses.Refused refusal rest h refused it reads writes = inl refl
 refused_or command input left w statuses.Usage refusal rest h refused it reads writes = absurd h
 refused_or command input left w statuses.ReadFault refusal rest h refused it reads writes = absurd (reads refl)
-refused_or command input left w statuses.WriteFault refusal rest h refused it reads writes = absurd (part_refused command input left w refusal rest h refused it (λ relay. writes relay refl))
+refused_or command input left w statuses.WriteFault refusal rest h refused it reads writes = absurd (part_refused command input left w refusal rest h refused it (λ before. writes before refl))
 refused_or command input left w statuses.Memory refusal rest h refused it reads writes = inr refl
 
 pub refused_refused : (command : Command) (told left : Option (List ℕ)) (w : Written) (status : Status) (input : List ℕ) (refusal : Refusal) (rest : List ℕ) → SaysOf command told left w status → told ≡ Some input → RefusedIn (form_of command) input refusal rest → IsOfInput refusal
-    → (status ≡ statuses.ReadFault → ⊥) → (command ≡ Relay → status ≡ statuses.WriteFault → ⊥) → (status ≡ statuses.Refused) ⊎ (status ≡ statuses.Memory)
+    → (status ≡ statuses.ReadFault → ⊥) → (WritesRefused command → status ≡ statuses.WriteFault → ⊥) → (status ≡ statuses.Refused) ⊎ (status ≡ statuses.Memory)
 refused_refused command told left w status input refusal rest h is refused it reads writes =
     refused_or command input left w status refusal rest (subst (λ t. SaysOf command t left w status) is h) refused it reads writes
 
@@ -183,11 +185,18 @@ saved_done told left w status input host lines h is read reads writes =
     saved_or input left w status host lines (subst (λ t. SaysOf Save t left w status) is h) read reads writes
 
 -- a relay of an input that is refused breaks off where a write of the output fails alone
-pub relay_unbroken : (told left : Option (List ℕ)) (w : Written) (input : List ℕ) (refusal : Refusal) (rest : List ℕ) (out out_now report report_now : ℕ) → told ≡ Some input → RefusedIn Passing input refusal rest → (Rose out out_now → ⊥) → RelayBreaksOff told left w out out_now report report_now → ⊥
+relay_unbroken : (told left : Option (List ℕ)) (w : Written) (input : List ℕ) (refusal : Refusal) (rest : List ℕ) (out out_now report report_now : ℕ) → told ≡ Some input → RefusedIn Passing input refusal rest → (Rose out out_now → ⊥) → RelayBreaksOff told left w out out_now report report_now → ⊥
 relay_unbroken told left w input refusal rest out out_now report report_now is refused quiet (inl broke) = quiet broke.rose
 relay_unbroken told left w input refusal rest out out_now report report_now is refused quiet (inr broke) =
     let f = passed_front input left w.out_old w.out_new broke.summary (subst (λ t. PassedOn t left w.out_old w.out_new broke.summary) is broke.passed) in
     front_once input f.rest rest refusal f.front refused
+
+-- no command but the two fails to write of an input that is refused, and they do where a write of the output fails alone
+pub refused_unbroken : (command : Command) (told left : Option (List ℕ)) (w : Written) (input : List ℕ) (refusal : Refusal) (rest : List ℕ) (out out_now report report_now : ℕ) → WritesRefused command → told ≡ Some input → RefusedIn (form_of command) input refusal rest → (Rose out out_now → ⊥)
+    → (command ≡ Relay → RelayBreaksOff told left w out out_now report report_now) → WriteRose command out out_now report report_now → ⊥
+refused_unbroken Relay told left w input refusal rest out out_now report report_now before is refused quiet breaks rose = relay_unbroken told left w input refusal rest out out_now report report_now is refused quiet (breaks refl)
+refused_unbroken Show told left w input refusal rest out out_now report report_now before is refused quiet breaks rose = quiet rose
+refused_unbroken _ told left w input refusal rest out out_now report report_now before is refused quiet breaks rose = absurd before
 
 -- a read fault comes with a risen count
 pub input_rose : (status : Status) (before now : ℕ) → InputRises status before now → status ≡ statuses.ReadFault → Rose before now

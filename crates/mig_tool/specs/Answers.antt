@@ -22,7 +22,7 @@ use Rattle.mig_legacy.specs.Spelled.{AcceptedLegacy}
 use Rattle.mig_legacy.specs.Stream.{IsLegacyRefused}
 use Rattle.mig_restore.specs.Mean.{differs_of}
 use Rattle.mig_report.specs.declared.command.Command.{Command}
-use Rattle.mig_report.specs.declared.command.Command.TheVariants.{Normalise, Restore, Verify, Convert, Save, Exercise, Walk, WalkImage, Relay}
+use Rattle.mig_report.specs.declared.command.Command.TheVariants.{Normalise, Restore, Verify, Convert, Save, Exercise, Walk, WalkImage, Relay, Show}
 use Rattle.mig_report.specs.declared.outcome.Outcome.{Outcome}
 use Rattle.mig_report.specs.declared.outcome.Outcome.TheVariants as outcomes
 use Rattle.mig_report.specs.declared.outcome.Refusal.{Refusal}
@@ -41,6 +41,7 @@ use Rattle.mig_tool.specs.Addresses.{AddressReported, HasUnsoundHost, HostHasFra
 use Rattle.mig_tool.specs.Exercises.{ExerciseReported}
 use Rattle.mig_passable.specs.Streams.{IsOpenRefused}
 use Rattle.mig_tool.specs.Relays.{FrontRelayed, OutputStopped, PassableFront, ReportStopped}
+use Rattle.mig_tool.specs.Shown.{FrontShown, PartShown}
 use Rattle.mig_relay.specs.Relaying.{PassedPart}
 use Rattle.mig_tool.specs.LiveSaves.{HasHostAndScript, HasBadLine, HasLongScript, HasUnsoundPause, WroteLive, saved_host_at}
 
@@ -48,7 +49,7 @@ use Rattle.mig_tool.specs.LiveSaves.{HasHostAndScript, HasBadLine, HasLongScript
 
 -- a stream, bare or inside a libxl stream; a legacy stream; the image of a host, and behind it a script to the end; none, where
 -- nothing is read; a stream, or the image of a sound host and no more, in which an address means a frame to a vCPU; or a
--- stream that is passed on, of which nothing is asked that needs more than its parts one by one
+-- stream that is passed on or shown, of which nothing is asked that needs more than its parts one by one
 pub data Form : Type 0 where
   Modern : Form
   Legacy : Form
@@ -69,6 +70,7 @@ form_of (Exercise seed n) = NoInput
 form_of (Walk id at) = ModernAt id at
 form_of (WalkImage id at) = ImageAt id at
 form_of Relay = Passing
+form_of Show = Passing
 
 -- a front of the input is an accepted stream of this form, with this guest, and rest follows it; or the image of a host that is
 -- seen as this guest; or a front that may pass, whose guest nobody asks for
@@ -200,6 +202,7 @@ Done (Exercise seed n) input left w = ExerciseReported (Appends w.report_old w.r
 Done (Walk id at) input left w = AddressReported (FrameInStream id at input left) (Appends w.report_old w.report_new)
 Done (WalkImage id at) input left w = AddressReported (FrameInHost id at input left) (Appends w.report_old w.report_new)
 Done Relay input left w = FrontRelayed (Appends w.report_old w.report_new) input left w.out_old w.out_new
+Done Show input left w = FrontShown input left w.out_old w.out_new
 Done Save input left w = LiveSaved (Appends w.report_old w.report_new) input left w.out_old w.out_new
 
 abbrev pub DonePart : Command → List ℕ → Option (List ℕ) → Written → Type 0
@@ -211,6 +214,7 @@ DonePart (Exercise seed n) input left w = ExerciseReported (AppendsPart w.report
 DonePart (Walk id at) input left w = AddressReported (FrameInStream id at input left) (AppendsPart w.report_old w.report_new)
 DonePart (WalkImage id at) input left w = AddressReported (FrameInHost id at input left) (AppendsPart w.report_old w.report_new)
 DonePart Relay input left w = PassedPart (Some input) left w.out_old w.out_new ⊎ FrontRelayed (AppendsPart w.report_old w.report_new) input left w.out_old w.out_new
+DonePart Show input left w = PartShown (Some input) left w.out_old w.out_new
 DonePart Save input left w = LiveBroken input left w.out_old w.out_new ⊎ LiveSaved (AppendsPart w.report_old w.report_new) input left w.out_old w.out_new
 
 abbrev pub Says : Command → List ℕ → Option (List ℕ) → Written → Status → Type 0
@@ -241,6 +245,7 @@ WriteRose (Exercise seed n) out out_now report report_now = Rose report report_n
 WriteRose (Walk id at) out out_now report report_now = Rose report report_now
 WriteRose (WalkImage id at) out out_now report report_now = Rose report report_now
 WriteRose Relay out out_now report report_now = Rose out out_now ⊎ Rose report report_now
+WriteRose Show out out_now report report_now = Rose out out_now
 WriteRose Save out out_now report report_now = Rose out out_now ⊎ Rose report report_now
 
 -- the count of the input rises with a read fault, and with every other status it stands as it was
@@ -288,7 +293,7 @@ abbrev pub RelayBreaksOff : Option (List ℕ) → Option (List ℕ) → Written 
 RelayBreaksOff told left w out out_now report report_now =
     OutputStopped told left w.out_old w.out_new w.report_old w.report_new out out_now report report_now ⊎ ReportStopped told left w.out_old w.out_new w.report_old w.report_new out out_now report report_now
 
--- status 0 of `normalise`, `restore` and `convert` has none
+-- status 0 of `normalise`, `restore`, `convert` and `show` has none
 abbrev pub IsLine : Form → Option (List ℕ) → Status → List ℕ → Type 0
 IsLine form told statuses.Done line = line ≡ []
 IsLine form told statuses.Refused line = (refusal : Refusal) × (line ≡ refusal_line refusal) × NamesRefusal form told refusal
@@ -317,6 +322,7 @@ HasOwnLine (WalkImage id at) status = ⊥
 HasOwnLine Relay statuses.Done = ⊤
 HasOwnLine Relay statuses.WriteFault = ⊤
 HasOwnLine Relay status = ⊥
+HasOwnLine Show status = ⊥
 HasOwnLine Save statuses.Done = ⊤
 HasOwnLine Save statuses.WriteFault = ⊤
 HasOwnLine Save status = ⊥
@@ -346,6 +352,7 @@ PutsOwnLine (WalkImage id at) old new status = ⊤
 PutsOwnLine Relay old new statuses.Done = (s : RelaySummary) × Appends old new (relayed_line s)
 PutsOwnLine Relay old new statuses.WriteFault = ((s : RelaySummary) × AppendsPart old new (relayed_line s)) ⊎ PutsSome write_fault_line old new
 PutsOwnLine Relay old new status = ⊤
+PutsOwnLine Show old new status = ⊤
 PutsOwnLine Save old new statuses.Done = (s : SaveSummary) × Appends old new (saved_line s)
 PutsOwnLine Save old new statuses.WriteFault = ((s : SaveSummary) × AppendsPart old new (saved_line s)) ⊎ PutsSome write_fault_line old new
 PutsOwnLine Save old new status = ⊤
@@ -361,6 +368,20 @@ LeavesOut (Exercise seed n) = ⊤
 LeavesOut (Walk id at) = ⊤
 LeavesOut (WalkImage id at) = ⊤
 LeavesOut Relay = ⊥
+LeavesOut Show = ⊥
+
+-- what is refused may be written before: a relay's front, and the text of what stands in front of the refused part
+abbrev pub WritesRefused : Command → Type 0
+WritesRefused Normalise = ⊥
+WritesRefused Convert = ⊥
+WritesRefused (Restore base) = ⊥
+WritesRefused Verify = ⊥
+WritesRefused Save = ⊥
+WritesRefused (Exercise seed n) = ⊥
+WritesRefused (Walk id at) = ⊥
+WritesRefused (WalkImage id at) = ⊥
+WritesRefused Relay = ⊤
+WritesRefused Show = ⊤
 
 -- ---- the same of an outcome, which has the refusal
 

@@ -1,6 +1,5 @@
 -- A stream that is passed on: what was taken, and what was written of it.
-use Rattle.std.specs.Prelude.{◌≡◌, ◌-◌, ◌^◌, ◌⊎◌, ℕ, List, Option, Some, length, min}
-use Rattle.std.specs.Io.KnownBytes.{Consumes, Appends}
+use Rattle.std.specs.Prelude.{◌≡◌, ◌⊎◌, ℕ, List, Option, Some}
 use Rattle.mig_bytes.specs.Bytes.{AppendsPart}
 use Rattle.mig_bytes.specs.Faults.{Rose}
 use Rattle.mig_bytes.specs.Judged.Judged.{Passes}

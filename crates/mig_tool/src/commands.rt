@@ -15,11 +15,13 @@ ghost use Rattle.mig_report.specs.declared.outcome.Refusal.TheVariants as refusa
 ghost use Rattle.mig_report.specs.declared.status.Status.TheVariants as statuses;
 ghost use Rattle.mig_tool.specs.Exercises.{SaysExercise};
 ghost use Rattle.mig_tool.specs.Relays.{SaysRelayed};
+ghost use Rattle.mig_tool.specs.Shown.{SaysShown};
 ghost use Rattle.mig_unended.specs.Unread.{WroteNoStream};
 
 use crate::exercise::exercise_told;
 use crate::relay::relay;
 use crate::save::save;
+use crate::shown::show;
 use crate::walk::{walk, walk_image};
 use mig_bytes::{Sink, Source};
 use mig_guest::Guest;
@@ -171,13 +173,14 @@ pub(crate) fn carry_out<S: Source, K: Sink, R: Sink>(
     requires frames { (seed n : ℕ) → command ≡ commands.Exercise seed n → IsFrameNumber n }
     ensures said { SaysOf command (S.left input.old) (S.left input.new) (record { out_old = K.written out.old; out_new = K.written out.new; report_old = R.written report.old; report_new = R.written report.new }) result }
     ensures known { result ≢ statuses.Usage }
-    ensures kept { result ≢ statuses.Done → result ≢ statuses.WriteFault → (command ≡ commands.Save → result ≢ statuses.Refused) → command ≢ commands.Relay → out.new ≡ out.old }
+    ensures kept { result ≢ statuses.Done → result ≢ statuses.WriteFault → (command ≡ commands.Save → result ≢ statuses.Refused) → (command ≡ commands.Show → result ≢ statuses.Refused) → command ≢ commands.Relay → out.new ≡ out.old }
     ensures kept_refused { command ≡ commands.Save → result ≡ statuses.Refused → (out.new ≡ out.old) ⊎ RefusesPause (S.left input.old) (R.written report.old) (R.written report.new) (R.faults report.old) (R.faults report.new) }
     ensures no_stream { command ≡ commands.Save → result ≡ statuses.Refused → WroteNoStream (K.written out.old) (K.written out.new) }
     ensures breaks { command ≡ commands.Save → result ≡ statuses.WriteFault → BreaksOff (record { out_old = K.written out.old; out_new = K.written out.new; report_old = R.written report.old; report_new = R.written report.new }) (K.faults out.old) (K.faults out.new) (R.faults report.old) (R.faults report.new) }
     ensures untouched { LeavesOut command → out.new ≡ out.old }
     ensures relayed { command ≡ commands.Relay → SaysRelayed result (S.left input.old) (S.left input.new) (K.written out.old) (K.written out.new) }
     ensures relay_breaks { command ≡ commands.Relay → result ≡ statuses.WriteFault → RelayBreaksOff (S.left input.old) (S.left input.new) (record { out_old = K.written out.old; out_new = K.written out.new; report_old = R.written report.old; report_new = R.written report.new }) (K.faults out.old) (K.faults out.new) (R.faults report.old) (R.faults report.new) }
+    ensures shown { command ≡ commands.Show → SaysShown result (S.left input.old) (S.left input.new) (K.written out.old) (K.written out.new) }
     ensures exercised { (seed n : ℕ) → command ≡ commands.Exercise seed n → (input.new ≡ input.old) × SaysExercise seed n (R.written report.old) (R.written report.new) result }
     ensures read { InputRises result (S.faults input.old) (S.faults input.new) }
     ensures write { result ≡ statuses.WriteFault → WriteRose command (K.faults out.old) (K.faults out.new) (R.faults report.old) (R.faults report.new) }
@@ -208,5 +211,9 @@ pub(crate) fn carry_out<S: Source, K: Sink, R: Sink>(
         Command::Walk { vcpu, address } => walk(alloc, vcpu, address, input, report),
         Command::WalkImage { vcpu, address } => walk_image(alloc, vcpu, address, input, report),
         Command::Relay => relay(alloc, input, out, report),
+        Command::Show => {
+            let outcome = show(alloc, input, out);
+            finish(report, outcome)
+        }
     }
 }

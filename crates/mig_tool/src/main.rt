@@ -1,7 +1,8 @@
 //! Reads a stream of a Xen guest, and writes it in its one canonical form, writes the image of the restored guest, or says
 //! what it is; or reads a legacy stream, and writes the canonical stream of its guest; or reads the image of a host and a
 //! script, and saves the host live, while the script runs; or tries all of this on a host of its own; or says which frame an
-//! address means in a stream's guest or in an image's host.
+//! address means in a stream's guest or in an image's host; or passes a stream on while it is judged; or shows the records of
+//! a stream.
 //!
 //! `run` is the program but for its standard streams; its clauses say what is answered, taken, written and reported.
 #![tactic(auto)]
@@ -11,6 +12,7 @@ mod exercise;
 mod relay;
 mod run;
 mod save;
+mod shown;
 #[cfg(test)]
 mod tests;
 mod walk;

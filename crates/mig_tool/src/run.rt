@@ -5,7 +5,8 @@ ghost use Rattle.mig_guest.specs.Hosts.{HostOf};
 ghost use Rattle.mig_script.specs.ScriptLines.{LineOf};
 ghost use Rattle.mig_unended.specs.Unread.{WroteNoStream};
 ghost use Rattle.mig_tool.specs.Relays.{SaysRelayed};
-ghost use Rattle.mig_tool.specs.Answers.{RelayBreaksOff, form_of, AcceptedIn, RefusedIn, IsOfInput, Written, SaysOf, IsSavedOrPaused, WriteRose, InputRises, IsLine, HasOwnLine, PutsOwnLine, RefusesPause, BreaksOff, LeavesOut};
+ghost use Rattle.mig_tool.specs.Shown.{SaysShown};
+ghost use Rattle.mig_tool.specs.Answers.{RelayBreaksOff, form_of, AcceptedIn, RefusedIn, IsOfInput, Written, SaysOf, IsSavedOrPaused, WriteRose, InputRises, IsLine, HasOwnLine, PutsOwnLine, RefusesPause, BreaksOff, LeavesOut, WritesRefused};
 ghost use Rattle.mig_tool.specs.Exercises.{SaysExercise};
 ghost use Rattle.mig_tool.specs.LiveSaves.{HasHostAndScript};
 ghost use Rattle.mig_report.specs.Report.{Reports, usage_line};
@@ -29,7 +30,8 @@ use std::alloc::Global;
 /// reads nothing: it saves a host of so many frames in memory, whose contents and script follow from the seed, reads what was
 /// written, and says on `report` what it came to. `walk` takes a stream, and says on `report` which frame of its guest an
 /// address means to a vCPU; `walkimage` takes the image of a host, and says which machine frame. `relay` takes a stream, judges
-/// it part by part, and writes what it took once it is judged, and says on `report` how much that was. Each
+/// it part by part, and writes what it took once it is judged, and says on `report` how much that was. `show` takes a stream,
+/// and writes a JSON text of its records that stand whole in front of the part that is refused. Each
 /// status says what it says however the input is cut, and whatever failed before; want of memory may come at any time.
 pub fn run<S: Source, K: Sink, R: Sink>(
     alloc: Global,
@@ -49,19 +51,20 @@ pub fn run<S: Source, K: Sink, R: Sink>(
     // written is accepted with the guest that the host is seen as at the pause, in the rounds and up to the pause that the
     // host and the script tell, and its line was reported. Status 1: the input was taken up to the end of the refused part.
     // Status 4: as 0, but a part of the text or line was written; of `save`, a part of the line, or what is no stream. Of
-    // `relay`: a front was taken that may pass, and just this front was written.
+    // `relay`: a front was taken that may pass, and just this front was written. Of `show`: such a front was taken, and the
+    // text of its records was written; with status 4 a part of that, or of the text of what stands in front of the refused part.
     ensures done { (command : Command) → Names (texts_of words.now) command
         → SaysOf command (S.left input.old) (S.left input.new) (record { out_old = K.written out.old; out_new = K.written out.new; report_old = R.written report.old; report_new = R.written report.new }) result }
 
     // An accepted stream is done and what is refused by itself is refused, but for memory, where nothing failed: of what is
-    // refused, no read, and of `relay`, which writes before it comes to the refused part, no write of the output. To `walk` and
-    // `walkimage` an input is accepted in which the address means a frame, and refused where it means none. An image and a
-    // script are saved, or refused at the pause.
+    // refused, no read, and of `relay` and `show`, which write of what stands in front of the refused part, no write of the
+    // output. To `walk` and `walkimage` an input is accepted in which the address means a frame, and refused where it means
+    // none. An image and a script are saved, or refused at the pause.
     ensures accepted { (command : Command) (bytes : List ℕ) (guest : GuestOf) (rest : List ℕ) → Names (texts_of words.now) command → S.left input.old ≡ Some bytes → AcceptedIn (form_of command) bytes guest rest
         → (Rose (S.faults input.old) (S.faults input.new) → ⊥) → (WriteRose command (K.faults out.old) (K.faults out.new) (R.faults report.old) (R.faults report.new) → ⊥)
         → (result ≡ statuses.Done) ⊎ (result ≡ statuses.Memory) }
     ensures refused { (command : Command) (bytes : List ℕ) (refusal : Refusal) (rest : List ℕ) → Names (texts_of words.now) command → S.left input.old ≡ Some bytes → RefusedIn (form_of command) bytes refusal rest → IsOfInput refusal
-        → (Rose (S.faults input.old) (S.faults input.new) → ⊥) → (command ≡ commands.Relay → Rose (K.faults out.old) (K.faults out.new) → ⊥) → (result ≡ statuses.Refused) ⊎ (result ≡ statuses.Memory) }
+        → (Rose (S.faults input.old) (S.faults input.new) → ⊥) → (WritesRefused command → Rose (K.faults out.old) (K.faults out.new) → ⊥) → (result ≡ statuses.Refused) ⊎ (result ≡ statuses.Memory) }
     ensures saved { (bytes : List ℕ) (host : HostOf) (lines : List LineOf) → Names (texts_of words.now) commands.Save → S.left input.old ≡ Some bytes → HasHostAndScript bytes host lines
         → (Rose (S.faults input.old) (S.faults input.new) → ⊥) → (WriteRose commands.Save (K.faults out.old) (K.faults out.new) (R.faults report.old) (R.faults report.new) → ⊥) → IsSavedOrPaused bytes result }
 
@@ -72,14 +75,19 @@ pub fn run<S: Source, K: Sink, R: Sink>(
     ensures relay_breaks { Names (texts_of words.now) commands.Relay → result ≡ statuses.WriteFault
         → RelayBreaksOff (S.left input.old) (S.left input.new) (record { out_old = K.written out.old; out_new = K.written out.new; report_old = R.written report.old; report_new = R.written report.new }) (K.faults out.old) (K.faults out.new) (R.faults report.old) (R.faults report.new) }
 
+    // Of `show`: with status 0 a front of the input may pass, and the text of its records was written; with status 1 that of
+    // those in front of the refused part; with status 4 a part of one of these, but not all.
+    ensures shown { Names (texts_of words.now) commands.Show → SaysShown result (S.left input.old) (S.left input.new) (K.written out.old) (K.written out.new) }
+
     // `exercise` takes nothing of the input. It is saved in the rounds and up to the pause that its host and its script tell,
     // and its line was reported, or, with status 4, a part of it; or there is no memory. It is never refused.
     ensures exercised { (seed n : ℕ) → Names (texts_of words.now) (commands.Exercise seed n)
         → (input.new ≡ input.old) × SaysExercise seed n (R.written report.old) (R.written report.new) result }
 
-    // `out` is touched for an accepted stream alone, by `save` once its input was read, or by `relay`, and never by `verify`,
-    // `exercise`, `walk` and `walkimage`: where `save` is refused, `out` is as it was, or the pause is refused.
-    ensures kept { result ≢ statuses.Done → result ≢ statuses.WriteFault → (Names (texts_of words.now) commands.Save → result ≢ statuses.Refused) → (Names (texts_of words.now) commands.Relay → ⊥) → out.new ≡ out.old }
+    // `out` is touched for an accepted stream alone, by `save` once its input was read, by `relay`, or by `show` for a stream
+    // that is refused too, and never by `verify`, `exercise`, `walk` and `walkimage`: where `save` is refused, `out` is as it
+    // was, or the pause is refused.
+    ensures kept { result ≢ statuses.Done → result ≢ statuses.WriteFault → (Names (texts_of words.now) commands.Save → result ≢ statuses.Refused) → (Names (texts_of words.now) commands.Show → result ≢ statuses.Refused) → (Names (texts_of words.now) commands.Relay → ⊥) → out.new ≡ out.old }
     ensures kept_refused { Names (texts_of words.now) commands.Save → result ≡ statuses.Refused
         → (out.new ≡ out.old) ⊎ RefusesPause (S.left input.old) (R.written report.old) (R.written report.new) (R.faults report.old) (R.faults report.new) }
     ensures untouched { (command : Command) → Names (texts_of words.now) command → LeavesOut command → out.new ≡ out.old }

@@ -191,11 +191,11 @@ fn writes_fail(rt: &impl Abort, alloc: Global, word: &str) -> Result<(), Fail> {
 
 #[test]
 fn each_read_and_each_write_fails(rt: HostRuntime) -> Result<(), Fail> {
-    for word in ["normalise", "convert", "save"] {
+    for word in ["normalise", "convert", "save", "show"] {
         writes_fail(&rt, rt.alloc(), word)?;
         reads_fail(&rt, rt.alloc(), word, 4096)?;
     }
-    for word in ["normalise", "convert"] {
+    for word in ["normalise", "convert", "show"] {
         reads_fail(&rt, rt.alloc(), word, 1)?;
         reads_fail(&rt, rt.alloc(), word, 7)?;
     }
@@ -211,6 +211,44 @@ fn a_save_is_not_reported(rt: HostRuntime) -> Result<(), Fail> {
     let (failed, out, _) = told(rt.alloc(), "save", &mut again, NEVER, 0)?;
     assert_eq!(rt; (done, failed), (Status::Done, Status::WriteFault));
     assert_eq!(rt; out.bytes(), whole.bytes());
+    Ok(())
+}
+
+// How many bytes of the smallest stream are read, the status, the line of the report, and what is shown of its end.
+const SHOWN: [(usize, Status, &str, &str); 2] = [
+    (
+        104,
+        Status::Done,
+        "",
+        ",{\"layer\":\"libxc\",\"length\":0,\"name\":\"END\",\"type\":0}],\"refused\":null",
+    ),
+    (
+        103,
+        Status::Refused,
+        "refused: Record 2: 1 Truncated\n",
+        "],\"refused\":\"Record 2: 1 Truncated\"",
+    ),
+];
+
+fn shown_rows() -> &'static [(usize, Status, &'static str, &'static str)] {
+    &SHOWN
+}
+
+// The records that stand whole are shown, of a stream that is refused too.
+#[test]
+fn records_are_shown(rt: HostRuntime) -> Result<(), Fail> {
+    for (len, want, line, end) in shown_rows() {
+        let mut front = SMALLEST.to_vec(rt.alloc())?;
+        front.truncate(*len);
+        let mut input = MemSource::new(front, vec![in rt.alloc()]?, vec![in rt.alloc()]?);
+        let (status, out, report) = told(rt.alloc(), "show", &mut input, NEVER, NEVER)?;
+        let text = format!(in rt.alloc();
+            "{{\"kind\":\"hvm\",\"records\":[{{\"layer\":\"libxc\",\"length\":0,\"name\":\"STATIC_DATA_END\",\"type\":16}},{{\"layer\":\"libxc\",\"length\":40,\"name\":\"HVM_CONTEXT\",\"type\":9}}{end},\"version\":3,\"wrapper\":false}}\n"
+        )?;
+        assert_eq!(rt; status, *want, "{len} bytes");
+        assert_eq!(rt; out.bytes(), text.as_bytes(), "{len} bytes");
+        assert_eq!(rt; report.bytes(), line.as_bytes(), "{len} bytes");
+    }
     Ok(())
 }
 

@@ -41,3 +41,16 @@ pub returns-in-Restore-clause-line : goal.returns-in-Restore-clause-line
 returns-in-Restore-clause-line g c = λ _.
     let told = g.S.Source.left c.args.input.now in
     line_of_this c.args.command (commands.Restore c.in-Restore.base) told _ _ c.restore-outcome.result c.finish-in-Restore.result _ _ _ _ c.in-Restore.is c.finish-in-Restore.ensures.status (c.restore-outcome.ensures.answer told told) c.finish-in-Restore.ensures.line
+
+pub returns-in-Show-clause-said : goal.returns-in-Show-clause-said
+returns-in-Show-clause-said g c =
+    let before = g.R.Sink.written c.args.report.now in
+    let now = g.R.Sink.written c.finish-in-Show.new.report in
+    let w : Written = record { out_old = g.K.Sink.written c.args.out.now; out_new = g.K.Sink.written c.show-outcome.new.out; report_old = before; report_new = now } in
+    said_of c.args.command commands.Show (g.S.Source.left c.args.input.now) (g.S.Source.left c.show-outcome.new.input) w c.show-outcome.result c.finish-in-Show.result
+    c.in-Show.is c.finish-in-Show.ensures.status (c.show-outcome.ensures.answer before now)
+
+pub returns-in-Show-clause-line : goal.returns-in-Show-clause-line
+returns-in-Show-clause-line g c = λ _.
+    let told = g.S.Source.left c.args.input.now in
+    line_of_this c.args.command commands.Show told _ _ c.show-outcome.result c.finish-in-Show.result _ _ _ _ c.in-Show.is c.finish-in-Show.ensures.status (c.show-outcome.ensures.answer told told) c.finish-in-Show.ensures.line

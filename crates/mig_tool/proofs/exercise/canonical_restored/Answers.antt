@@ -1,4 +1,4 @@
-use Rattle.mig_tool.proofs.Common.{◌≡◌, List, ℕ, ap, subst, ◌∙◌, GuestOf}
+use Rattle.mig_tool.proofs.Common.{◌≡◌, ap, subst, ◌∙◌, GuestOf}
 use Rattle.std.specs.Prelude.{OnOk}
 use Rattle.mig_guest.specs.Hosts.{HostOf}
 use Rattle.mig_hosted.specs.Sound.{unsoundness}

@@ -1,9 +1,7 @@
-use Rattle.mig_tool.proofs.Common.{Err, sym, subst, SaysOf, ComesOf, Relay, Written}
-use mathlib.Core.Logic.{inl, inr}
-use Rattle.mig_report.specs.declared.status.Status.TheVariants as statuses
-use Rattle.mig_tool.specs.Answers.{RelayBreaksOff}
-use Rattle.mig_tool.proofs.Relaying.{passed_says, passed_relayed, passed_breaks, passed_line, part_of, unpassed_comes, unpassed_relayed, unpassed_breaks, unpassed_line, input_rises, output_later}
-use Rattle.mig_tool.proofs.Reporting.{says_of, line_reported}
+use Rattle.mig_tool.proofs.Common.{sym, subst, SaysOf, ComesOf, Relay, Written}
+use mathlib.Core.Logic.{inr}
+use Rattle.mig_tool.proofs.Relaying.{passed_says, passed_relayed, passed_breaks, passed_line, unpassed_comes}
+use Rattle.mig_tool.proofs.Reporting.{says_of}
 use Rattle.mig_tool.proofs.relay.relay.Goals as goal
 
 pub returns-in-Ok-clause-said : goal.returns-in-Ok-clause-said

@@ -1,8 +1,8 @@
-use Rattle.mig_tool.proofs.Common.{subst, sym, Written, SaysOf, WriteRose, PutsOwnLine, LeavesOut, AcceptedIn, RefusedIn, form_of, Command, Exercise, Save, Relay, Names, ◌≡◌, ◌∙◌}
+use Rattle.mig_tool.proofs.Common.{subst, sym, Written, SaysOf, WriteRose, PutsOwnLine, LeavesOut, WritesRefused, AcceptedIn, RefusedIn, form_of, Command, Exercise, Save, Relay, Show, Names}
 use Rattle.mig_tool.specs.Answers.{HasOwnLine, IsLine}
 use Rattle.mig_report.specs.Words.{texts_of}
 use Rattle.mig_report.proofs.Naming.{same_command}
-use Rattle.mig_tool.proofs.Reporting.{accepted_done, refused_refused, saved_done, input_rose, relay_unbroken}
+use Rattle.mig_tool.proofs.Reporting.{accepted_done, refused_refused, saved_done, input_rose, refused_unbroken}
 use Rattle.mig_tool.proofs.run.run.Goals as goal
 
 pub returns-in-Some-clause-done : goal.returns-in-Some-clause-done
@@ -39,15 +39,20 @@ returns-in-Some-clause-refused g c = λ command bytes refusal rest is told refus
     let same = same_command _ c.in-Some.command command c.in-Some.ensures.some is in
     refused_refused c.in-Some.command (g.S.Source.left c.args.input.now) (g.S.Source.left c.carry_out.new.input) w c.carry_out.result bytes refusal rest c.carry_out.ensures.said told (subst (λ (d : Command). RefusedIn (form_of d) bytes refusal rest) (sym same) refused) it
     (λ e. reads (input_rose _ _ _ c.carry_out.ensures.read e))
-    (λ relay e.
-    let this : command ≡ Relay = sym same ∙ relay in
-    relay_unbroken (g.S.Source.left c.args.input.now) (g.S.Source.left c.carry_out.new.input) w bytes refusal rest _ _ _ _ told (subst (λ (d : Command). RefusedIn (form_of d) bytes refusal rest) this refused) (writes this) (c.carry_out.ensures.relay_breaks relay e))
+    (λ before e. refused_unbroken c.in-Some.command (g.S.Source.left c.args.input.now) (g.S.Source.left c.carry_out.new.input) w bytes refusal rest _ _ _ _ before told (subst (λ (d : Command). RefusedIn (form_of d) bytes refusal rest) (sym same) refused)
+    (writes (subst WritesRefused same before)) (λ relay. c.carry_out.ensures.relay_breaks relay e) (c.carry_out.ensures.write e))
 
 pub returns-in-Some-clause-relayed : goal.returns-in-Some-clause-relayed
 returns-in-Some-clause-relayed g c = λ is. c.carry_out.ensures.relayed (same_command _ c.in-Some.command Relay c.in-Some.ensures.some is)
 
 pub returns-in-Some-clause-relay_breaks : goal.returns-in-Some-clause-relay_breaks
 returns-in-Some-clause-relay_breaks g c = λ is. c.carry_out.ensures.relay_breaks (same_command _ c.in-Some.command Relay c.in-Some.ensures.some is)
+
+pub returns-in-Some-clause-shown : goal.returns-in-Some-clause-shown
+returns-in-Some-clause-shown g c = λ is. c.carry_out.ensures.shown (same_command _ c.in-Some.command Show c.in-Some.ensures.some is)
+
+pub returns-in-None-clause-shown : goal.returns-in-None-clause-shown
+returns-in-None-clause-shown g c = λ is. absurd (c.in-None.ensures.none Show is)
 
 pub returns-in-None-clause-relayed : goal.returns-in-None-clause-relayed
 returns-in-None-clause-relayed g c = λ is. absurd (c.in-None.ensures.none Relay is)
@@ -63,8 +68,8 @@ pub returns-in-Some-clause-exercised : goal.returns-in-Some-clause-exercised
 returns-in-Some-clause-exercised g c = λ seed n is. c.carry_out.ensures.exercised seed n (same_command _ c.in-Some.command (Exercise seed n) c.in-Some.ensures.some is)
 
 pub returns-in-Some-clause-kept : goal.returns-in-Some-clause-kept
-returns-in-Some-clause-kept g c = λ undone unfailed other relay.
-    c.carry_out.ensures.kept undone unfailed (λ is. other (subst (λ (d : Command). Names (texts_of c.args.words.now) d) is c.in-Some.ensures.some)) (λ is. relay (subst (λ (d : Command). Names (texts_of c.args.words.now) d) is c.in-Some.ensures.some))
+returns-in-Some-clause-kept g c = λ undone unfailed save show relay.
+    c.carry_out.ensures.kept undone unfailed (λ is. save (subst (λ (d : Command). Names (texts_of c.args.words.now) d) is c.in-Some.ensures.some)) (λ is. show (subst (λ (d : Command). Names (texts_of c.args.words.now) d) is c.in-Some.ensures.some)) (λ is. relay (subst (λ (d : Command). Names (texts_of c.args.words.now) d) is c.in-Some.ensures.some))
 
 pub returns-in-Some-clause-kept_refused : goal.returns-in-Some-clause-kept_refused
 returns-in-Some-clause-kept_refused g c = λ is. c.carry_out.ensures.kept_refused (same_command _ c.in-Some.command Save c.in-Some.ensures.some is)

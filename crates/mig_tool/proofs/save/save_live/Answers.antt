@@ -1,7 +1,3 @@
-use Rattle.mig_tool.proofs.Common.{List, subst}
-use Rattle.mig_guest.specs.Hosts.{HostOf}
-use Rattle.mig_script.specs.ScriptLines.{LineOf}
-use Rattle.mig_tool.specs.LiveSaves.{WroteLive}
 use Rattle.mig_tool.proofs.Saving.{unwritten}
 use Rattle.mig_tool.proofs.save.save_live.Goals as goal
 

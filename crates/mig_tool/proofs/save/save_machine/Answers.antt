@@ -1,6 +1,6 @@
-use Rattle.mig_tool.proofs.Common.{Err, ap, ◌≡◌, ℕ, List, refl, sym, subst, ◌∙◌, rules}
+use Rattle.mig_tool.proofs.Common.{Err, ap, ◌≡◌, ℕ, List, refl, subst, rules}
 use Rattle.std.specs.Prelude.{◌≤◌, true}
-use Rattle.mig_guest.specs.Hosts.{HostOf, most_saved_width}
+use Rattle.mig_guest.specs.Hosts.{most_saved_width}
 use Rattle.mig_script.specs.ScriptLines.{LineOf}
 use Rattle.mig_machine.specs.MachineSeen.{history_of, machine_state}
 use Rattle.mig_dirtysave.specs.SaveAnswers.{IsTrusted}
@@ -8,7 +8,6 @@ use Rattle.mig_dirtysave.specs.declared.answer.SaveReport.{SaveReport}
 use Rattle.mig_dirtysave.specs.declared.answer.SaveAnswer.{SaveAnswer}
 use Rattle.mig_report.specs.declared.outcome.Outcome.TheVariants as outcomes
 use Rattle.mig_rounds.specs.Live.{HasRounds, StaysSame}
-use Rattle.mig_tool.specs.LiveSaves.{WroteLive}
 use Rattle.mig_tool.specs.SaveSteps.{ComesToNone}
 use Rattle.mig_tool.proofs.Saving.{unwritten}
 use Rattle.mig_tool.proofs.Lives.{wrote_live, wrote_live_to, honest, tight_of, never_fails, PausesSo, pauses_so, at_end, ends, had_memory, no_write}
