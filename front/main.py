@@ -13,7 +13,8 @@ STATUSES = """\
 exit status:
   0    each file was accepted; `compare`: the same guest state
   1    a file was refused, is no save, or isn't judged; `compare`: another guest state; `save`: the image, the script or
-       the paused host was refused; `walk`: the address means no frame; `relay` may have written a part of the stream
+       the paused host was refused; `walk`: the address means no frame; `relay` may have written a part of the stream,
+       and `show` has written what stands in front of the refused part
   2    the words make no command, OUT is there already, or it is a terminal
   3    a file couldn't be read
   4    OUT couldn't be written
@@ -22,7 +23,8 @@ exit status:
   125  the program isn't there and couldn't be built
 
 Answers are explained in docs/refusals.md. An `ok` says that the stream is well formed and holds a whole guest, and of
-`relay` that its parts are well formed: a bit that was flipped inside a page can't be seen by any reader of this format."""
+`relay`, as status 0 of `show`, that its parts are well formed: a bit that was flipped inside a page can't be seen by any
+reader of this format."""
 INPUT = """\
 IN is a file or `-`: a file of `xl save` or of libvirt's libxl driver, a libxl stream, the image of a libxc stream, or
 a stream of Xen 4.5 or older, also packed by gzip, zstd or xz."""
@@ -65,6 +67,24 @@ Not judged is what needs the whole guest: whether a record is missing that each 
 there that the list of P2M frames, page tables and vCPUs name (28 to 30), how many frames there are (32), and how long all
 pairs of a device model are (38). `mig check` on the far side tells these. It ends when the input ends, or the stream is
 refused."""
+
+
+SHOW = """\
+Files and folders, with all files below, and `-` for standard input; each is what `mig check` takes, but no old save.
+
+For each file one line stands on standard output, a JSON object without spaces:
+  kind         "pv" or "hvm"; null where the stream is refused before its domain header was judged
+  version      the version of the image; null where the stream is refused before the image's header was judged
+  wrapper      whether it is a libxl stream
+  records      an object for each record that stands whole, with its padding, in front of the part that is refused; those of
+               an image in a libxl stream stand behind its LIBXC_CONTEXT
+  refused      null, or place and cause, as they stand behind `refused: ` in the line of a refusal
+The object of a record has layer ("libxc" or "libxl"), length (the bytes of its body), name (as Xen's documents have it, or
+"optional"), type (its number), and of a PAGE_DATA pages and words: how many of its frame numbers have a page, and how many
+there are. With --names the line is {"file": NAME, "shown": OBJECT}. What is told of a file stands on standard error.
+
+The stream is judged as `mig relay` does it, so what needs the whole guest isn't looked at; `mig check` tells that. No page is
+kept in memory, but what is shown of each record is, until the line is written."""
 
 
 WALK = """\
@@ -177,6 +197,16 @@ def relay(words):
         return refused.status
 
 
+def show(words):
+    from front.show import show as run
+    from front.write import Refused
+    try:
+        return run(words)
+    except Refused as refused:
+        tell(str(refused))
+        return refused.status
+
+
 def walk(words):
     from front.walk import walk as run
     return run(words)
@@ -184,7 +214,7 @@ def walk(words):
 
 def parser():
     words = argparse.ArgumentParser(prog='mig', description='Checks, normalises, converts, restores and compares saves '
-                                    'of Xen guests, and passes streams on, by the proved program mig_tool.',
+                                    'of Xen guests, passes streams on and lists their records, by the proved program mig_tool.',
                                     epilog='`mig help VERB` tells more of each.\n\n' + STATUSES,
                                     formatter_class=argparse.RawDescriptionHelpFormatter)
     words.add_argument('--version', action=Version, nargs=0, help='print revision, date and kit')
@@ -216,6 +246,10 @@ def parser():
     passing.add_argument('--force', action='store_true', help='write over OUT where it is there')
     passing.add_argument('--json', action='store_true', help='print one JSON object')
     passing.set_defaults(run=relay)
+    listing = verb(verbs, 'show', 'write the records of each file as JSON, up to the part that is refused', SHOW)
+    listing.add_argument('paths', metavar='PATH', nargs='+')
+    listing.add_argument('--names', action='store_true', help='put each text in an object with the name of its file')
+    listing.set_defaults(run=show)
     two = verb(verbs, 'compare', 'say whether two saves are of the same guest state', INPUT)
     two.add_argument('one', metavar='A')
     two.add_argument('two', metavar='B')

@@ -14,7 +14,7 @@ SMALLEST_PV_PARTS = (
 PAGES_OF_PV = 24 + 88 + 8 + 8 + 3 * 8                   # where its first page begins in the wrapper
 PIECES = 1, 7, 4096
 ALL, SOME = 1, 16                                       # of the lengths inside of parts, each or every sixteenth
-OF_COMMANDS = (['verify'], ALL), *((words, SOME) for words in (['normalise'], ['restore'], ['relay']))
+OF_COMMANDS = (['verify'], ALL), *((words, SOME) for words in (['normalise'], ['restore'], ['relay'], ['show']))
 BESIDE_ENDS, SHARES = 9, 16
 FRONTS, SECONDS = 40, 20                                # fronts that come one after another, and how long is waited for output
 WAITING = 4096                                          # 512 bytes and 8 a word, of which these streams have fewer than 448
@@ -49,7 +49,8 @@ def is_passed_on(stream, parts, out):
 
 def prefixes(tool, words, step, share):
     """A share of the proper prefixes of a PV stream in the wrapper, longest first: each is refused as cut, in the part that
-    isn't there whole. `relay` writes a front of it: all parts before this one, and of this one all but a piece."""
+    isn't there whole. `relay` writes a front of it: all parts before this one, and of this one all but a piece; `show` the text
+    that the second reader tells."""
     stream, parts = wrapped_pv()
     runs = program.Runs(tool)
     runs.give(stream)
@@ -57,6 +58,8 @@ def prefixes(tool, words, step, share):
         runs.cut(length)
         place = next(place for end, place in parts if length < end)
         want = program.Answer(program.REFUSED, b'', b'refused: %s: 1 Truncated\n' % place.encode())
+        if words == ['show']:
+            want = want._replace(out=program.wanted(words, stream[:length]).out)
         got = runs.answer(words)
         if program.passes_on(words) and is_passed_on(stream[:length], parts, got.out):
             want = want._replace(out=got.out)
@@ -169,8 +172,8 @@ def lying_images():
 
 def lying_heads():
     """By name, words, line and input."""
-    for words, made in ((['verify'], lying_records()), (['relay'], lying_records()), (['convert'], lying_chunks()),
-                        (['save'], lying_images())):
+    for words, made in ((['verify'], lying_records()), (['relay'], lying_records()), (['show'], lying_records()),
+                        (['convert'], lying_chunks()), (['save'], lying_images())):
         for name, place, data in made:
             yield name, words, b'refused: %s: 1 Truncated\n' % place.encode(), data
 
@@ -198,10 +201,10 @@ def asked_by_lies(tool, faults):
 
 def lies(tool, faults):
     """Each lying head is refused, and little memory is held: twice what stands behind it in the input, and some KiB; by
-    `relay` some KiB alone, but for the words of pages."""
+    `relay` and `show` some KiB alone, but for the words of pages."""
     for name, behind, line, want, got, told in asked_by_lies(tool, faults):
         for why in program.differences(got, want._replace(report=line)):
             yield '%s, %d bytes behind it: %s' % (name, behind, why)
-        kept = 0 if name.endswith(', relay') and not name.startswith('words') else behind
+        kept = 0 if name.endswith((', relay', ', show')) and not name.startswith('words') else behind
         if told.peak > MOST_HELD + 2 * kept or told.reads == 0:
             yield '%s, %d bytes behind it: %d bytes were held' % (name, behind, told.peak)

@@ -5,7 +5,8 @@ What is wanted: a read that fails gives status 3, a write of standard output tha
 error status 4 where a line says what was found, each with its line. Standard output has nothing where the status isn't 0
 or 4, and with status 4 a proper prefix of what status 0 writes; of `save` no front of it is a stream, but where its line
 failed it is the whole stream. `relay` writes while it judges: with status 3 exactly what it passes on of the bytes that came
-is there, with status 4 what `save` has. An interrupted call is a failed one.
+is there, with status 4 what `save` has. `show` writes its text with status 1 too, once all is read, and with status 4 a proper
+prefix of that. An interrupted call is a failed one.
 """
 import errno
 import fcntl
@@ -74,6 +75,12 @@ def every_refused(tool, faults):
     yield usage
 
 
+def every_writing(tool, faults):
+    """Commands that write all at the end: accepted inputs, and of `show`, which writes of refused ones too, also those."""
+    yield from every(tool, faults)
+    yield from (it for it in every_refused(tool, faults) if it.words == ['show'])
+
+
 def nothing_fails(tool, faults):
     """The program's reads and writes are those that faults.c sees."""
     for it in (*every(tool, faults), *every_refused(tool, faults)):
@@ -121,7 +128,7 @@ def after_a_failed_write(tool, it, what, got):
 
 def writes(tool, faults):
     """Each write of standard output fails in turn."""
-    for it in every(tool, faults):
+    for it in every_writing(tool, faults):
         for number in range(it.made.outs):
             for error in write_errors(number, it.made.outs):
                 got = it.answer(out='%d %d' % (number, error))
@@ -130,7 +137,7 @@ def writes(tool, faults):
 
 def writes_of_pieces(tool, faults):
     """The same where each write takes few bytes: exactly those of the writes before are there."""
-    for it in every(tool, faults):
+    for it in every_writing(tool, faults):
         for most in (1, max(1, len(it.want.out) // PLACES)) if it.want.out else ():
             made = it.calls_made(write_most=most).outs
             places = {*range(0, made, max(1, made // PLACES)), made // 2, made - 1} if made else ()
@@ -251,7 +258,7 @@ def full_after(length):
 
 def limited_files(tool, faults):
     """A file that takes so many bytes and no more: exactly these are there."""
-    for it in every(tool, faults):
+    for it in every_writing(tool, faults):
         size = len(it.want.out)
         for length in sorted({0, 1, size // 3, size // 2, size - 1}) if size else ():
             with tempfile.TemporaryFile() as out:

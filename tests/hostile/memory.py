@@ -4,7 +4,8 @@ Whether the program begins at all is the affair of the kernel and of the loader:
 a signal or with the loader's status and line. That it is they is seen from a run in which the loader does all it does and
 the program none of its own (LD_TRACE_LOADED_OBJECTS, which is what ldd sets). From the least size on at which this run
 succeeds the program answers for itself: status 5 with its line and nothing on standard output, or the right answer. `relay`
-may have written a front of what it passes on; what it passes on may be far longer than the memory that it has.
+may have written a front of what it passes on; what it passes on, and what `show` lists the records of, may be far longer than
+the memory that either has.
 """
 import itertools
 import struct
@@ -58,7 +59,7 @@ def pv():
 def asked():
     """By name, words and an input of some MiB."""
     streams = {'HVM': hvm(), 'libxl': wrapped(), 'PV': pv()}
-    for (name, data), words in itertools.product(streams.items(), (['verify'], ['restore'], ['normalise'], ['relay'])):
+    for (name, data), words in itertools.product(streams.items(), (['verify'], ['restore'], ['normalise'], ['relay'], ['show'])):
         yield name, words, data
     yield 'legacy', ['convert'], legacy()
     yield 'image', ['save'], image()
@@ -93,7 +94,7 @@ def little(tool):
             yield '%s, %s: no size was too little' % (name, words[0])
 
 
-# ---- what is passed on and not kept
+# ---- what is passed on, or listed, and not kept
 
 LONGEST, ENOUGH = 1 << 27, 16 * MIB
 BLOCK = bytes(range(1, 256)) * 4096                  # of no whole number of pieces or pages
@@ -105,34 +106,56 @@ def of_length(length):
         yield BLOCK[:length - at]
 
 
+def listed(layer, number, name, length=0, **more):
+    """What is shown of a record."""
+    return {'layer': layer, 'length': length, 'name': name, 'type': number, **more}
+
+
+STATIC, CONTEXT, END = listed('libxc', 16, 'STATIC_DATA_END'), listed('libxc', 9, 'HVM_CONTEXT', 40), listed('libxc', 0, 'END')
+
+
 def long_streams():
-    """By name, how many records each has, and its bytes block by block: bodies as long as they may be, and many pages."""
+    """By name, what is shown of the records of each, and its bytes block by block: bodies as long as they may be, and many
+    pages."""
     smallest = program.case('smallest-hvm')
     front, context, end = smallest[:48], smallest[48:96], smallest[96:]
     optional = struct.pack('<II', 1 << 31, LONGEST), *of_length(LONGEST)
-    yield 'optional records', 5, [front, *optional, *optional, context, end]
+    shown = listed('libxc', 1 << 31, 'optional', LONGEST)
+    yield 'optional records', [STATIC, shown, shown, CONTEXT, END], [front, *optional, *optional, context, end]
     inner = LONGEST - 32 - 8 - 8
     entries = struct.pack('<HHI', 2, 0, inner), *of_length(inner), bytes(8)
     long_context = struct.pack('<II', 9, LONGEST), smallest[56:88], *entries
-    yield 'a context twice', 4, [front, *long_context, *long_context, end]
+    yield 'a context twice', [STATIC, *[listed('libxc', 9, 'HVM_CONTEXT', LONGEST)] * 2, END], [front, *long_context, *long_context, end]
     count = LONGEST // 16 - 1
     some = struct.pack('<QQ', 7, 1) * (count // 3)
     parameters = struct.pack('<IIQ', 10, 8 + 16 * count, count), some, some, some, struct.pack('<QQ', 7, 1) * (count % 3)
-    yield 'parameters twice', 5, [front, *parameters, *parameters, context, end]
-    yield 'pages', 103, [front, *(page_record(512 * number) for number in range(100)), context, end]
+    yield 'parameters twice', [STATIC, *[listed('libxc', 10, 'HVM_PARAMS', 8 + 16 * count)] * 2, CONTEXT, END], [front, *parameters, *parameters, context, end]
+    shown = listed('libxc', 1, 'PAGE_DATA', 8 + 512 * 4104, words=512, pages=512)
+    yield 'pages', [STATIC, *[shown] * 100, CONTEXT, END], [front, *(page_record(512 * number) for number in range(100)), context, end]
     many = [b'key\0' + b'v' * 4091 + b'\0'] * (LONGEST // 4096 - 1)
     pairs = struct.pack('<IIII', 2, LONGEST, 2, 0), *many, b'k\0' + b'v' * 4085 + b'\0'
-    yield 'pairs of a wrapper, twice', 3, [
+    shown = listed('libxl', 2, 'EMULATOR_XENSTORE_DATA', LONGEST)
+    yield 'pairs of a wrapper, twice', [shown, shown, listed('libxl', 1, 'LIBXC_CONTEXT'), STATIC, CONTEXT, END, listed('libxl', 0, 'END')], [
         b'LibxlFmt' + struct.pack('>II', 2, 0), *pairs, *pairs, struct.pack('<II', 1, 0), smallest, bytes(8)]
 
 
 def passed_on(tool):
     """`relay` passes on more than 200 MiB where it may have 16 MiB, the program itself and its buffer included."""
-    for name, records, blocks in long_streams():
-        length = sum(map(len, blocks))
+    for name, shown, blocks in long_streams():
+        length, records = sum(map(len, blocks)), sum(record['layer'] == 'libxc' for record in shown)
         got = program.passed_through(tool, ['relay'], blocks, ENOUGH)
         want = program.Passed(program.DONE, length, program.digest_of(blocks), b'ok records %d bytes %d\n' % (records, length))
         if got != want:
             yield '%s: status %d, %d bytes out, report %r' % (name, got.status, got.length, got.report)
         if length < 200 * MIB:
             yield '%s: %d bytes alone' % (name, length)
+
+
+def listed_whole(tool):
+    """`show` lists the records of the same where it may have 16 MiB."""
+    for name, shown, blocks in long_streams():
+        wrapper = shown[0]['layer'] == 'libxl'
+        text = program.examples.text_of({'kind': 'hvm', 'records': shown, 'refused': None, 'version': 3, 'wrapper': wrapper})
+        got = program.passed_through(tool, ['show'], blocks, ENOUGH)
+        if got != program.Passed(program.DONE, len(text), program.digest_of([text]), b''):
+            yield '%s: status %d, %d bytes out, report %r' % (name, got.status, got.length, got.report)

@@ -226,8 +226,9 @@ def forms():
         yield name, ['verify'], data
         yield name, ['normalise'], data
         yield name, ['relay'], data
-    yield 'smallest HVM', ['normalise'], case('smallest-hvm')
-    yield 'smallest HVM', ['relay'], case('smallest-hvm')
+        yield name, ['show'], data
+    for command in 'normalise', 'relay', 'show':
+        yield 'smallest HVM', [command], case('smallest-hvm')
     yield 'legacy', ['convert'], case('legacy-all-kinds')
     yield 'small legacy', ['convert'], case('legacy-hvm')
     yield 'HVM image', ['save'], live_host()

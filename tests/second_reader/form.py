@@ -22,6 +22,7 @@ class Input:
 
     def __init__(self, data):
         self.data, self.at, self.place = data, 0, 'ImageHeader'
+        self.version, self.kind = None, None         # what the headers of the image say, when they are judged
 
     def take(self, length):
         if len(self.data) - self.at < length:
@@ -32,6 +33,9 @@ class Input:
     def take_body(self, kind, length, is_wrapped=False):
         """The body of a record that is judged as a whole; `is_wrapped`: of a record of the wrapper."""
         return self.take(length)
+
+    def stands(self, kind, length, is_wrapped=False):
+        """A record of this type and length was judged, with its padding, and ends here; nothing is kept of it."""
 
 
 def refuse_if(test, cause):

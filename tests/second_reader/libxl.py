@@ -101,10 +101,11 @@ def read_behind_ident(source, read_image):
         source.place = 'LibxlRecord %d' % len(before)
         kind, length = struct.unpack('<II', source.take(8))
         judge_head(before, stream and stream.guest, kind, length)
-        if kind == LIBXC_CONTEXT:
-            stream = read_image(source)
-        else:
+        if kind != LIBXC_CONTEXT:
             read_body(source, kind, length, emulators)
+        source.stands(kind, length, is_wrapped=True)
+        if kind == LIBXC_CONTEXT:                    # it has no body, and the image follows it
+            stream = read_image(source)
         before.append(kind)
     stream.guest['emulators'] = emulators
     return stream

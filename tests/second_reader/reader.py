@@ -275,10 +275,11 @@ def read_headers(source):
     refuse_if(name != b'XENF', '3 BadId')
     refuse_if(version not in (2, 3), '4 BadVersion %d' % version)
     refuse_if(options & 1, '5 BigEndian')
-    source.place = 'DomainHeader'
+    source.place, source.version = 'DomainHeader', version
     kind, shift = struct.unpack_from('<IH', source.take(16))
     refuse_if(kind not in (PV, HVM), '6 BadKind %d' % kind)
     refuse_if(shift != 12, '7 BadPageShift %d' % shift)
+    source.kind = kind
     return version, kind
 
 
@@ -290,6 +291,7 @@ def read_behind_marker(source):
         kind, length = struct.unpack('<II', source.take(8))
         judge_head(version, guest_kind, before, kind, length)
         different += read_body(source, kind, length, guest, VERIFY in before)
+        source.stands(kind, length)
         before.append(kind)
     meant = pv.blank(guest) if guest_kind == PV and source.keeps_guest else guest
     return Stream(version, meant, len(before), different if VERIFY in before else None)
