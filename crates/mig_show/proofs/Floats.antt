@@ -13,20 +13,23 @@ of_members : (pages : Bool) (shown : ShownRecord) → members_have_float (cond p
 of_members true shown = refl
 of_members false shown = refl
 
+pub of_record : (shown : ShownRecord) → has_float (record_tree shown) ≡ false
+of_record shown = of_members (is_page_data shown) shown
+
 of_records : (list : List ShownRecord) → items_have_float (items_of (map record_tree list)) ≡ false
 of_records [] = refl
 of_records (shown ∷ list) = rw (of_members (is_page_data shown) shown) (of_records list)
 
-of_kind : (kind : Option Kind) → has_float (kind_tree kind) ≡ false
+pub of_kind : (kind : Option Kind) → has_float (kind_tree kind) ≡ false
 of_kind None = refl
 of_kind (Some Pv) = refl
 of_kind (Some Hvm) = refl
 
-of_version : (version : Option ℕ) → has_float (version_tree version) ≡ false
+pub of_version : (version : Option ℕ) → has_float (version_tree version) ≡ false
 of_version None = refl
 of_version (Some version) = refl
 
-of_refused : (refused : Option (Place × Cause)) → has_float (refused_tree refused) ≡ false
+pub of_refused : (refused : Option (Place × Cause)) → has_float (refused_tree refused) ≡ false
 of_refused None = refl
 of_refused (Some refused) = refl
 

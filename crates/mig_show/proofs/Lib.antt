@@ -3,3 +3,4 @@ pub mod Spacing
 pub mod Stages
 pub mod Passing
 pub mod Sights
+pub mod Texts

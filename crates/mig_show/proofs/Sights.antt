@@ -1,8 +1,6 @@
 -- What a viewer has seen while the relay goes on, and at its end.
 use Rattle.std.proofs.Common.{arith, ◌≡◌, ◌≢◌, ℕ, Bool, true, false, List, [], ◌∷◌, ◌++◌, length, Option, Some, None, Ok, Err, refl, sym, ap, subst, ◌∙◌, append_assoc, append-nil}
 use Rattle.std.specs.Prelude.{is_some, IfOk, ◌≤◌}
-use Rattle.serde_json.specs.Data.{Data}
-use Rattle.serde_json.specs.Written.{has_float}
 use Rattle.mig_bytes.specs.Faults.{Rose}
 use Rattle.mig_relay.specs.Steps.{RisesOnFault}
 use Rattle.std.specs.Io.KnownBytes.{Consumes}
@@ -25,7 +23,6 @@ use Rattle.mig_relay.proofs.Steps.{consumed_on, left_alone, over_there}
 use Rattle.mig_show.specs.Fronts.{ShownFront, StandsBefore, of_form, image_first}
 use Rattle.mig_show.specs.Seeing.{SeenState, with_step, with_end, ended_by}
 use Rattle.mig_show.specs.Shows.{Shows, ShowsRefused, RisesOnShow, front_tree}
-use Rattle.mig_show.proofs.Floats.{no_float}
 use Rattle.mig_show.proofs.Passing.{form_on, seen_on}
 use Rattle.mig_show.proofs.Stages.{Has}
 
@@ -177,11 +174,3 @@ rises_ended start reads read writes written (Refused place cause) same rises = r
 rises_ended start reads read writes written ReadFault same rises = (subst (λ n. n ≤ read) same rises.0, subst (λ n. Rose n read) same rises.1)
 rises_ended start reads read writes written WriteFault same rises = rises.0 ∙ same
 rises_ended start reads read writes written Memory same rises = rises.0 ∙ same
-
--- ---- the text
-
--- no number of what is shown is a float
-pub shown_plain : (told left : Option (List ℕ)) (refused : Option (Place × Cause)) (tree : Data) → Shows told left refused tree → has_float tree ≡ false
-shown_plain told left None tree s = ap has_float s.tree_is ∙ no_float s.front.wrapper s.front.version s.front.kind s.front.records None
-shown_plain None left (Some refused) tree (front, is) = ap has_float is ∙ no_float front.wrapper front.version front.kind front.records (Some refused)
-shown_plain (Some input) left (Some refused) tree s = ap has_float s.tree_is ∙ no_float s.front.wrapper s.front.version s.front.kind s.front.records (Some refused)

@@ -5,3 +5,4 @@ pub mod Smallest
 pub mod Fronts
 pub mod Seeing
 pub mod Shows
+pub mod Lines

@@ -9,6 +9,7 @@
 #![tactic(auto)]
 
 mod laws;
+mod line;
 mod names;
 mod nowhere;
 mod record;

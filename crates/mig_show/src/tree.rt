@@ -21,7 +21,7 @@ fn records_array(alloc: Global, list: &[ShownRecord]) -> Result<Value, AllocErro
 }
 
 /// The JSON of a guest's kind.
-fn kind_value(alloc: Global, kind: Option<Kind>) -> Result<Value, AllocError>
+pub(crate) fn kind_value(alloc: Global, kind: Option<Kind>) -> Result<Value, AllocError>
     ensures { IfOk result (λ v. view v ≡ kind_tree kind) }
 {
     match kind {
@@ -32,7 +32,7 @@ fn kind_value(alloc: Global, kind: Option<Kind>) -> Result<Value, AllocError>
 }
 
 /// The JSON of a stream's version.
-fn version_value(version: Option<u32>) -> Value
+pub(crate) fn version_value(version: Option<u32>) -> Value
     ensures { view result ≡ version_tree version }
 {
     match version {
@@ -42,7 +42,10 @@ fn version_value(version: Option<u32>) -> Value
 }
 
 /// The JSON of why a stream is refused.
-fn refused_value(alloc: Global, refused: Option<(Place, Cause)>) -> Result<Value, AllocError>
+pub(crate) fn refused_value(
+    alloc: Global,
+    refused: Option<(Place, Cause)>,
+) -> Result<Value, AllocError>
     ensures { IfOk result (λ v. view v ≡ refused_tree refused) }
 {
     match refused {

@@ -1,11 +1,11 @@
 ghost use Rattle.std.specs.Prelude.{◌≡◌, false, None, IfOk, string_bytes};
 ghost use Rattle.serde_json.specs.Data.{Data};
 ghost use Rattle.serde_json.specs.View.{view};
-ghost use Rattle.serde_json.specs.Written.{has_float};
 ghost use Rattle.mig_show.specs.Fronts.{of_form};
 ghost use Rattle.mig_show.specs.Seeing.{ended_by};
 ghost use Rattle.mig_show.specs.Shows.{Shows, RisesOnShow, tree_line, front_tree};
 
+use crate::line::stream_line;
 use crate::nowhere::Nowhere;
 use crate::seen::Seen;
 use crate::tree::tree_of;
@@ -13,7 +13,7 @@ use mig_bytes::Source;
 use mig_headers::{Cause, Place};
 use mig_relay::{Relay, RelayAnswer, Step};
 use serde_json::Value;
-use std::alloc::{AllocError, Global};
+use std::alloc::Global;
 
 /// What is shown of a stream.
 #[derive(Drop)]
@@ -104,26 +104,23 @@ pub fn show<S: Source>(alloc: Global, src: &mut S) -> Result<Shown, ShowAnswer>
     }
 }
 
-/// The JSON text of a tree that has no float, and a line feed.
-fn line_of(alloc: Global, tree: &Value) -> Result<String, AllocError>
-    ensures { IfOk result (λ line. has_float (view tree.now) ≡ false → string_bytes line ≡ tree_line (view tree.now)) }
-{
-    let mut line = tree.to_string(alloc)?;
-    line.push('\n')?;
-    Ok(line)
-}
-
-/// The same as `show`, as a line of text.
+/// The same as `show`, as a line of text. The tree isn't made: the text takes less memory.
 pub fn show_text<S: Source>(alloc: Global, src: &mut S) -> Result<ShownText, ShowAnswer>
     ensures shown { IfOk result (λ shown. (tree : Data) × Shows (S.left src.old) (S.left src.new) shown.refused tree × (string_bytes shown.line ≡ tree_line tree)) }
     ensures faults { RisesOnShow (S.faults src.old) (S.faults src.new) result }
 {
-    let shown = show(alloc, src)?;
-    match line_of(alloc, &shown.tree) {
-        Ok(line) => Ok(ShownText {
-            line,
-            refused: shown.refused,
-        }),
+    let mut seen = Seen::new(alloc);
+    let refused = see_all(alloc, &mut seen, src)?;
+    let line = stream_line(
+        alloc,
+        seen.wrapper,
+        seen.version,
+        seen.kind,
+        &seen.records,
+        refused,
+    );
+    match line {
+        Ok(line) => Ok(ShownText { line, refused }),
         Err(_) => Err(ShowAnswer::Memory),
     }
 }

@@ -1,0 +1,86 @@
+ghost use Rattle.std.specs.Prelude.{◌≡◌, ◌<◌, ◌++◌, false, length, nat_lt, slice_index_or, string_bytes, IfOk, OnOk};
+ghost use Rattle.serde_json.specs.View.{view};
+ghost use Rattle.serde_json.specs.Written.{has_float, comma_if, compact_text};
+ghost use Rattle.mig_show.specs.Lines.{records_text};
+ghost use Rattle.mig_show.specs.Tree.{record_tree, shown_tree};
+ghost use Rattle.mig_show.specs.Shows.{tree_line};
+ghost use Rattle.mig_show.specs.declared.record.ShownRecord.{ShownRecord as Listed};
+
+use crate::record::{ShownRecord, record_object};
+use crate::tree::{kind_value, refused_value, version_value};
+use mig_headers::{Cause, Kind, Place};
+use serde_json::Value;
+use std::alloc::{AllocError, Global};
+
+/// Puts the text of a value that has no float.
+fn put_value(line: &mut String, alloc: Global, value: &Value) -> Result<(), AllocError>
+    ensures { OnOk result (has_float (view value.now) ≡ false → string_bytes line.new ≡ string_bytes line.old ++ compact_text (view value.now)) }
+{
+    let text = value.to_string(alloc)?;
+    line.push_str(text.as_str())
+}
+
+/// Puts the text of a record, behind a comma where others stand before it.
+fn put_record(
+    line: &mut String,
+    alloc: Global,
+    later: bool,
+    shown: ShownRecord,
+) -> Result<(), AllocError>
+    ensures { OnOk result (string_bytes line.new ≡ string_bytes line.old ++ (comma_if later ++ compact_text (record_tree shown))) }
+{
+    if later {
+        line.push(',')?;
+    }
+    put_value(line, alloc, &record_object(alloc, shown)?)
+}
+
+/// Puts the text of the record at this place.
+fn put_place(
+    line: &mut String,
+    alloc: Global,
+    list: &[ShownRecord],
+    place: usize,
+) -> Result<(), AllocError>
+    requires { place < length list.now }
+    ensures { (d : Listed) → OnOk result (string_bytes line.new ≡ string_bytes line.old ++ (comma_if (nat_lt 0 place) ++ compact_text (record_tree (slice_index_or list.now place d)))) }
+{
+    put_record(line, alloc, place > 0, list[place])
+}
+
+/// Puts the texts of the records, with a comma between two. Each record's object is gone before the next is made, so
+/// that a stream with many records takes the memory of its text, and not that of its tree.
+fn put_records(line: &mut String, alloc: Global, list: &[ShownRecord]) -> Result<(), AllocError>
+    ensures { OnOk result (string_bytes line.new ≡ string_bytes line.old ++ records_text false list.now) }
+{
+    for place in 0..list.len() {
+        put_place(line, alloc, list, place)?;
+    }
+    Ok(())
+}
+
+/// The JSON text of the tree that shows a stream, and a line feed.
+pub(crate) fn stream_line(
+    alloc: Global,
+    wrapper: bool,
+    version: Option<u32>,
+    kind: Option<Kind>,
+    list: &[ShownRecord],
+    refused: Option<(Place, Cause)>,
+) -> Result<String, AllocError>
+    ensures { IfOk result (λ line. string_bytes line ≡ tree_line (shown_tree wrapper version kind list.now refused)) }
+{
+    let mut line = String::from_str(alloc, "{\"kind\":")?;
+    put_value(&mut line, alloc, &kind_value(alloc, kind)?)?;
+    line.push_str(",\"records\":[")?;
+    put_records(&mut line, alloc, list)?;
+    line.push_str("],\"refused\":")?;
+    put_value(&mut line, alloc, &refused_value(alloc, refused)?)?;
+    line.push_str(",\"version\":")?;
+    put_value(&mut line, alloc, &version_value(version))?;
+    line.push_str(",\"wrapper\":")?;
+    put_value(&mut line, alloc, &Value::from(wrapper))?;
+    line.push_str("}")?;
+    line.push_str("\n")?;
+    Ok(line)
+}
