@@ -134,7 +134,7 @@ behind_record t outer o records head content around kept other padded unpadded =
           same = λ more. ap (λ (j : Judged (Place × Cause) ImageOf). j >>= carry outer) (no_padding o records head content more zero);
           keeps = (around, (unpadded zero, records_more t o records head content _ kept other, refl));
           passed = refl;
-          follows = λ begun piece size. whole (InImage outer (AtBody o records head)) _ begun piece head refl (λ e. cc) (omega (arith, size, zero)) (image_next outer o records (record_with records head content) head.kind other);
+          follows = λ begun piece size. whole (InImage outer (AtBody o records head)) _ begun piece head refl (λ e. cc) tt (omega (arith, size, zero)) (image_next outer o records (record_with records head content) head.kind other);
         }
     by false is =
         let some : 0 < padding_len head.len = grind (arith, common_steps, is) in
@@ -143,7 +143,7 @@ behind_record t outer o records head content around kept other padded unpadded =
           same = λ more. refl;
           keeps = (around, (padded some, kept, some, other, refl));
           passed = refl;
-          follows = λ begun piece size. more (InImage outer (AtBody o records head)) (InImage outer (AtPadding o records head content)) begun piece [] head refl refl refl (λ e. cc) refl (omega (arith, size));
+          follows = λ begun piece size. more (InImage outer (AtBody o records head)) (InImage outer (AtPadding o records head content)) begun piece [] head refl refl refl (λ e. cc) refl tt (omega (arith, size));
         }
 
 -- ---- a record of a libxl stream
@@ -176,7 +176,7 @@ behind_libxl old middle t records head content behind kept bodied none was wrapp
             refl,
           );
           passed = ap (λ (r : Relay). r.passed) now;
-          follows = λ begun piece size. whole (AtLibxlBody records head) _ begun piece head refl (λ e. cc) (omega (arith, size, zero)) (libxl_next records (record { type = head.kind; content = content }) head.kind bodied.0 bodied.1);
+          follows = λ begun piece size. whole (AtLibxlBody records head) _ begun piece head refl (λ e. cc) tt (omega (arith, size, zero)) (libxl_next records (record { type = head.kind; content = content }) head.kind bodied.0 bodied.1 none);
         }
     by false is =
         let some : 0 < padding_len head.len = grind (arith, common_steps, is) in
@@ -193,5 +193,5 @@ behind_libxl old middle t records head content behind kept bodied none was wrapp
             refl,
           );
           passed = ap (λ (r : Relay). r.passed) now;
-          follows = λ begun piece size. more (AtLibxlBody records head) (AtLibxlPadding records head content) begun piece [] head refl refl refl (λ e. cc) refl (omega (arith, size));
+          follows = λ begun piece size. more (AtLibxlBody records head) (AtLibxlPadding records head content) begun piece [] head refl refl refl (λ e. cc) refl tt (omega (arith, size));
         }

@@ -288,7 +288,7 @@ module _ (r t : Relay) (outer : Outer) (o : Opening) (records : List StreamRecor
         next = AtLibxlHead (around ++ image_record image ∷ []);
         same = λ more. ap (λ (j : Judged (Place × Cause) ImageOf). j >>= carry outer) (empty_passes (zero_not_one head.kind zero) none more) ∙ ap (λ (a : Outer). spot (InImage a (AtHead o with_empty)) more) (sym is) ∙ wrapped_ended around o with_empty more (ended_now zero);
         keeps = (w.0, around_image t around k.0.0.0.behind image r.seen.kind w.1 k.0.0.0.are k.1 k.0.0.1 (j.seen.kind) count_now, refl);
-        follows = λ piece size is_head. whole_follows (AtLibxlHead (around ++ image_record image ∷ [])) (zero_not_one head.kind zero) none piece size is_head (subst (λ (a : Outer). ComesBehind (InImage a (AtHead o records)) head.kind (AtLibxlHead (around ++ image_record image ∷ []))) is (inner_end around o records head.kind (image_record image) zero));
+        follows = λ piece size is_head. whole_follows (AtLibxlHead (around ++ image_record image ∷ [])) (zero_not_one head.kind zero) none piece size is_head (subst (λ (a : Outer). ComesBehind (InImage a (AtHead o records)) head.kind (AtLibxlHead (around ++ image_record image ∷ []))) is (inner_end around o records head.kind image zero));
       }
 
   pub begun : Begun t outer o records head

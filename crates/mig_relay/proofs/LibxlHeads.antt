@@ -108,7 +108,7 @@ module _ (r t : Relay) (records : List LibxlRecord) (head : RecordHead) (w : Kee
     next = InImage (Behind records) AtMarker;
     same = libxl_image records head one (no_length head.len head.kind (inr one) a.allowed);
     keeps = ((((wrapper_same r t records (b.image one).1 b.seen w.0, w.1), room), no_image (image_among records) (sym are.image ∙ a.first one)), ((b.image one).0, refl));
-    follows = λ piece size is. whole_follows (InImage (Behind records) AtMarker) (no_length head.len head.kind (inr one) a.allowed) piece size is (libxl_context records head.kind one);
+    follows = λ piece size is. whole_follows (InImage (Behind records) AtMarker) (no_length head.len head.kind (inr one) a.allowed) piece size is (libxl_context records head.kind one (no_image (image_among records) (sym are.image ∙ a.first one)));
   }
 
   -- END
@@ -142,7 +142,7 @@ module _ (r t : Relay) (records : List LibxlRecord) (head : RecordHead) (w : Kee
         next = AtLibxlHead (with_libxl records head content);
         same = libxl_empty records head other none (empty_fine head.kind head.len none a.allowed);
         keeps = ((b.empty going other none).0, wrapped_more records (record { type = head.kind; content = content }) r t behind w is (b.empty going other none).1 b.seen (no_image_said head.kind []) going, refl);
-        follows = λ piece size is. whole_follows (AtLibxlHead (with_libxl records head content)) none piece size is (libxl_next records (record { type = head.kind; content = content }) head.kind going other);
+        follows = λ piece size is. whole_follows (AtLibxlHead (with_libxl records head content)) none piece size is (libxl_next records (record { type = head.kind; content = content }) head.kind going other (no_image_said head.kind []));
       }
 
   pub begun_libxl : BegunLibxl t records head

@@ -34,7 +34,7 @@ use Rattle.mig_restore.specs.Record.Content.{Frames}
 use Rattle.mig_restore.specs.Seen.{IsSeen}
 use Rattle.mig_restore.specs.Stream.{ImageOf}
 use Rattle.mig_restore.specs.declared.head.RecordsSeen.{RecordsSeen}
-use Rattle.mig_relay.specs.Following.{ComesBehind, ComesNext, CountDue, bytes_behind_head, due, head_spot, in_hand, pages_to_come, to_come, more, whole as last_bytes, image_next}
+use Rattle.mig_relay.specs.Following.{ComesBehind, ComesNext, CountDue, FillsBody, WordsDue, bytes_behind_head, due, head_spot, in_hand, pages_to_come, to_come, more, whole as last_bytes, image_next}
 use Rattle.mig_relay.specs.Keeping.{Keeps, KeepsWords, HasNumber, KeepsRecords, KeepsHead, KeepsOuter, IsPages}
 use Rattle.mig_relay.specs.Parts.{AtHead, AtFront, AtWords, AtPages, judged_next, record_with, fault_of_list, entry_of_word, BeginsWithPart}
 use Rattle.mig_relay.specs.Spots.{Outer, Alone, Behind, Spot, InImage, spot, carry}
@@ -184,13 +184,21 @@ page_left r held coming stood size kept same_words same_page is =
 words_number : (n : ℕ) (bytes : List ℕ) → length (words n bytes) ≡ n
 words_number n bytes = length-map-range_with_len (λ k. le64 bytes (8 * k)) 0 n
 
--- behind the words of a PAGE_DATA, as many as its length asks for
-pub words_left : (kind : Kind) (top : ℕ) (head : RecordHead) (n : ℕ) (bytes ws : List ℕ) → ws ≡ words n bytes → None ≡ fault_of_list kind top head.len n bytes → length bytes ≡ 8 * n → length bytes + 4096 * pages_to_come (with_places 0 ws) ≡ bytes_behind_head head - 8
-words_left kind top head n bytes ws is fine size =
-    let sized = (both_none (fault_of_words kind top (words n bytes)) (fault_of_data head.len (words n bytes)) fine).1 in
-    let rows = rows_fine ((not (nat_eq head.len (data_len_of (words n bytes))), BadLength head.len) ∷ []) sized in
-    let full : head.len ≡ data_len_of (words n bytes) = eqb-true head.len _ (not-false _ rows.0) in
-    omega (arith, full, whole_length head.len (words n bytes) sized, size, ap length is, words_number n bytes, all_pages 0 ws, ap (count_by word_has_data) is)
+module _ (kind : Kind) (top : ℕ) (head : RecordHead) (n : ℕ) (bytes : List ℕ) (fine : None ≡ fault_of_list kind top head.len n bytes) where
+  sized : fault_of_data head.len (words n bytes) ≡ None
+  sized = (both_none (fault_of_words kind top (words n bytes)) (fault_of_data head.len (words n bytes)) fine).1
+
+  full : head.len ≡ data_len_of (words n bytes)
+  full = let rows = rows_fine ((not (nat_eq head.len (data_len_of (words n bytes))), BadLength head.len) ∷ []) sized in eqb-true head.len _ (not-false _ rows.0)
+
+  -- the words of a PAGE_DATA, which are as many as its length asks for
+  pub filled : FillsBody (WordsDue n) bytes head
+  filled = omega (arith, full, words_number n bytes)
+
+  -- and behind them their pages
+  pub words_left : (ws : List ℕ) → ws ≡ words n bytes → length bytes ≡ 8 * n → length bytes + 4096 * pages_to_come (with_places 0 ws) ≡ bytes_behind_head head - 8
+  words_left ws is size =
+      omega (arith, full, whole_length head.len (words n bytes) sized, size, ap length is, words_number n bytes, all_pages 0 ws, ap (count_by word_has_data) is)
 
 -- ---- behind a PAGE_DATA
 
@@ -246,7 +254,7 @@ pub record Turned (t : Relay) (outer : Outer) (o : Opening) (records : List Stre
   pub next : Spot
   pub same : (more : List ℕ) → spot (InImage outer (AtPages o records head coming stood)) more ≡ spot next more
   pub keeps : Keeps t next []
-  pub follows : (here : Spot) (piece : List ℕ) → in_hand here ≡ Some head → head_spot here ≡ InImage outer (AtHead o records) → due here ≢ CountDue → length piece + 4096 * pages_to_come coming ≡ to_come here → ComesNext here [] piece next []
+  pub follows : (here : Spot) (piece : List ℕ) → in_hand here ≡ Some head → head_spot here ≡ InImage outer (AtHead o records) → due here ≢ CountDue → FillsBody (due here) piece head → length piece + 4096 * pages_to_come coming ≡ to_come here → ComesNext here [] piece next []
 
 module _ (r t : Relay) (head : RecordHead) (within : t.page ≤ length r.words.items) (page : t.page < length r.words.items → t ≡ record r { page = t.page; coming = comes.Page head }) (over : t.page ≡ length r.words.items → t ≡ record r { page = t.page; coming = comes.Head }) where
   abbrev ws : List ℕ
@@ -291,7 +299,7 @@ module _ (r t : Relay) (head : RecordHead) (within : t.page ≤ length r.words.i
             next = InImage outer (AtPages o records head (with_places t.page (drop t.page ws)) skipped.entries);
             same = λ more. ap (λ (j : Judged (Place × Cause) ImageOf). j >>= carry outer) (skipped.same more);
             keeps = (outer_stays r t outer turning_stays around, (ap (λ (x : Relay). x.coming) (page lt), records_stay r t o records _ _ turning_stays kept, pages, padding, kept_words lt, refl));
-            follows = λ here piece hand at counted left. more here (InImage outer (AtPages o records head (with_places t.page (drop t.page ws)) skipped.entries)) [] piece [] head hand refl (sym at) counted refl (omega (arith, left, skipped.pages));
+            follows = λ here piece hand at counted full left. more here (InImage outer (AtPages o records head (with_places t.page (drop t.page ws)) skipped.entries)) [] piece [] head hand refl (sym at) counted refl full (omega (arith, left, skipped.pages));
           }
       by false is =
           let whole : length ws ≤ t.page = ltb-false _ _ is in
@@ -304,7 +312,7 @@ module _ (r t : Relay) (head : RecordHead) (within : t.page ≤ length r.words.i
                 ∙ pages_over o records head skipped.entries more
                 ∙ no_padding o records head (Frames skipped.entries) more padding);
             keeps = (outer_stays r t outer turning_stays around, (ap (λ (x : Relay). x.coming) (over (omega (arith, whole, within))), behind_pages o records head t skipped.entries pages (records_stay r t o records _ _ turning_stays kept), refl));
-            follows = λ here piece hand at counted left.
-                last_bytes here (InImage outer (AtHead o (with o records head (Frames skipped.entries)))) [] piece head hand counted (omega (arith, left, skipped.pages, ap (λ l. pages_to_come (with_places t.page l)) (drop_all t.page ws whole)))
+            follows = λ here piece hand at counted full left.
+                last_bytes here (InImage outer (AtHead o (with o records head (Frames skipped.entries)))) [] piece head hand counted full (omega (arith, left, skipped.pages, ap (λ l. pages_to_come (with_places t.page l)) (drop_all t.page ws whole)))
                 (subst (λ s. ComesBehind s head.kind (InImage outer (AtHead o (with o records head (Frames skipped.entries))))) (sym at) (image_next outer o records (record_with records head (Frames skipped.entries)) head.kind (λ zero. omega (arith, zero, pages.kind))));
           }

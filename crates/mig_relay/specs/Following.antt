@@ -1,19 +1,22 @@
 -- Which part comes next behind one that was passed on (libxc migration stream, "Headers" and "Records"; libxl migration
 -- stream, "Header" and "Records"), and how many bytes of the record in hand are still to come.
-use Rattle.std.specs.Prelude.{◌≡◌, ◌≢◌, ◌≤◌, ◌+◌, ◌-◌, ◌*◌, ℕ, true, false, List, [], ◌∷◌, ◌++◌, length, count_by, Option, Some, None}
+use Rattle.std.specs.Prelude.{◌≡◌, ◌≢◌, ◌≤◌, ◌+◌, ◌-◌, ◌*◌, ⊤, ℕ, true, false, List, [], ◌∷◌, ◌++◌, length, count_by, Option, Some, None}
 use Rattle.mig_bytes.specs.Bytes.{padding_len}
 use Rattle.mig_bytes.specs.Fields.{le32}
 use Rattle.mig_emulators.specs.Content.{LibxlRecord}
 use Rattle.mig_headers.specs.declared.fault.Place.{Place}
 use Rattle.mig_headers.specs.declared.fault.Place.TheVariants.{ImageHeader, DomainHeader, Record, LibxlHeader, LibxlRecord as AtRecord}
+use Rattle.mig_libxl.specs.Among.{image_among, image_in}
 use Rattle.mig_libxl.specs.Stream.{StreamOf}
 use Rattle.mig_pagetypes.specs.FrameWords.{word_has_data}
 use Rattle.mig_records.specs.Heads.{head_in}
+use Rattle.mig_records.specs.Words.{words}
 use Rattle.mig_records.specs.declared.head.RecordHead.{RecordHead}
 use Rattle.mig_restore.specs.Judging.{Opening}
 use Rattle.mig_restore.specs.Record.{StreamRecord}
+use Rattle.mig_restore.specs.Stream.{ImageOf}
 use Rattle.mig_relay.specs.Parts.{Next, AtMarker, AtVersion, AtKind, AtHead, AtBody, AtFront, AtWords, AtPages, AtPadding}
-use Rattle.mig_relay.specs.Spots.{Outer, Alone, Behind, Spot, AtStart, AtLibxlHeader, AtLibxlHead, AtLibxlBody, AtLibxlPadding, InImage, AtEnd, is_ident}
+use Rattle.mig_relay.specs.Spots.{Outer, Alone, Behind, Spot, AtStart, AtLibxlHeader, AtLibxlHead, AtLibxlBody, AtLibxlPadding, InImage, AtEnd, image_record, is_ident}
 
 -- ---- the place of what comes next
 
@@ -107,17 +110,23 @@ abbrev pub due : Spot → Due
 due (InImage outer next) = due_of_next next
 due _ = NothingDue
 
+-- where so many words are due, this piece has them, and the body is filled: 8 bytes up to their count, 8 for each word, and
+-- 4096 for each that has data
+abbrev pub FillsBody : Due → List ℕ → RecordHead → Type 0
+FillsBody (WordsDue n) piece head = 8 + 8 * n + 4096 * count_by word_has_data (words n piece) ≡ head.len
+FillsBody _ piece head = ⊤
+
 -- ---- what follows
 
 -- what comes behind a whole record of this type, whose head stood there: the next record, or nothing behind END; behind
--- LIBXC_CONTEXT an image, and behind that image the next record of the libxl stream around it
+-- LIBXC_CONTEXT, of which there is one, an image, and behind that image the next record of the libxl stream around it
 pub data ComesBehind : Spot → ℕ → Spot → Type 0 where
-  libxl_next : (records : List LibxlRecord) (r : LibxlRecord) (type : ℕ) → type ≢ 0 → type ≢ 1 → ComesBehind (AtLibxlHead records) type (AtLibxlHead (records ++ r ∷ []))
-  libxl_context : (records : List LibxlRecord) (type : ℕ) → type ≡ 1 → ComesBehind (AtLibxlHead records) type (InImage (Behind records) AtMarker)
+  libxl_next : (records : List LibxlRecord) (r : LibxlRecord) (type : ℕ) → type ≢ 0 → type ≢ 1 → image_in r.content ≡ None → ComesBehind (AtLibxlHead records) type (AtLibxlHead (records ++ r ∷ []))
+  libxl_context : (records : List LibxlRecord) (type : ℕ) → type ≡ 1 → image_among records ≡ None → ComesBehind (AtLibxlHead records) type (InImage (Behind records) AtMarker)
   libxl_end : (records : List LibxlRecord) (type : ℕ) (s : StreamOf) → type ≡ 0 → ComesBehind (AtLibxlHead records) type (AtEnd s)
   image_next : (outer : Outer) (o : Opening) (records : List StreamRecord) (r : StreamRecord) (type : ℕ) → type ≢ 0 → ComesBehind (InImage outer (AtHead o records)) type (InImage outer (AtHead o (records ++ r ∷ [])))
   image_end : (o : Opening) (records : List StreamRecord) (type : ℕ) (s : StreamOf) → type ≡ 0 → ComesBehind (InImage Alone (AtHead o records)) type (AtEnd s)
-  inner_end : (around : List LibxlRecord) (o : Opening) (records : List StreamRecord) (type : ℕ) (r : LibxlRecord) → type ≡ 0 → ComesBehind (InImage (Behind around) (AtHead o records)) type (AtLibxlHead (around ++ r ∷ []))
+  inner_end : (around : List LibxlRecord) (o : Opening) (records : List StreamRecord) (type : ℕ) (image : ImageOf) → type ≡ 0 → ComesBehind (InImage (Behind around) (AtHead o records)) type (AtLibxlHead (around ++ image_record image ∷ []))
 
 -- Where this comes next, and these first bytes of it were taken, a piece is passed on; and then that comes next, and these
 -- first bytes of it were taken.
@@ -136,7 +145,7 @@ pub data ComesNext : Spot → List ℕ → List ℕ → Spot → List ℕ → Ty
   image_whole : (outer : Outer) (o : Opening) (records : List StreamRecord) (piece : List ℕ) (next : Spot) → length piece ≡ 8 → (head_in piece).len ≡ 0 → (head_in piece).kind ≢ 1 → ComesBehind (InImage outer (AtHead o records)) (head_in piece).kind next → ComesNext (InImage outer (AtHead o records)) [] piece next []
   -- more of the record in hand, first the count of a PAGE_DATA's words
   count : (outer : Outer) (o : Opening) (records : List StreamRecord) (head : RecordHead) (piece : List ℕ) → length piece ≡ 8 → 8 + 8 * le32 piece 0 ≤ head.len → ComesNext (InImage outer (AtFront o records head)) [] piece (InImage outer (AtWords o records head (le32 piece 0))) []
-  more : (here next : Spot) (begun piece front : List ℕ) (head : RecordHead) → in_hand here ≡ Some head → in_hand next ≡ Some head → head_spot next ≡ head_spot here → due here ≢ CountDue → due next ≡ NothingDue
+  more : (here next : Spot) (begun piece front : List ℕ) (head : RecordHead) → in_hand here ≡ Some head → in_hand next ≡ Some head → head_spot next ≡ head_spot here → due here ≢ CountDue → due next ≡ NothingDue → FillsBody (due here) piece head
       → length begun + length piece + to_come next ≡ to_come here + length front → ComesNext here begun piece next front
   -- the rest of it
-  whole : (here next : Spot) (begun piece : List ℕ) (head : RecordHead) → in_hand here ≡ Some head → due here ≢ CountDue → length begun + length piece ≡ to_come here → ComesBehind (head_spot here) head.kind next → ComesNext here begun piece next []
+  whole : (here next : Spot) (begun piece : List ℕ) (head : RecordHead) → in_hand here ≡ Some head → due here ≢ CountDue → FillsBody (due here) piece head → length begun + length piece ≡ to_come here → ComesBehind (head_spot here) head.kind next → ComesNext here begun piece next []

@@ -62,7 +62,7 @@ returns-then-self-clause-moved g c outer o records begun around kept other first
             ),
           )
           (ap (λ (r : Relay). r.passed) same) (refl, omega (arith, size, c.next_piece-count.ensures.most))
-          (more (InImage outer (AtBody o records c.args.head)) (InImage outer (AtBody o records c.args.head)) begun buf (begun ++ buf) c.args.head refl refl refl (λ e. cc) refl (omega (arith, length-append begun buf)));
+          (more (InImage outer (AtBody o records c.args.head)) (InImage outer (AtBody o records c.args.head)) begun buf (begun ++ buf) c.args.head refl refl refl (λ e. cc) refl tt (omega (arith, length-append begun buf)));
     }
 
 pub returns-in-Some-clause-moved : goal.returns-in-Some-clause-moved

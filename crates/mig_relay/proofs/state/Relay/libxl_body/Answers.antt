@@ -47,7 +47,7 @@ returns-then-self-clause-moved g c records begun kept bodied body =
             },
           )
           (ap (λ (r : Relay). r.passed) same) (refl, omega (arith, size, c.next_piece-count.ensures.most))
-          (more (AtLibxlBody records c.args.head) (AtLibxlBody records c.args.head) begun c.take_part.new.buf (begun ++ c.take_part.new.buf) c.args.head refl refl refl (λ e. cc) refl (omega (arith, length-append begun c.take_part.new.buf)));
+          (more (AtLibxlBody records c.args.head) (AtLibxlBody records c.args.head) begun c.take_part.new.buf (begun ++ c.take_part.new.buf) c.args.head refl refl refl (λ e. cc) refl tt (omega (arith, length-append begun c.take_part.new.buf)));
     }
 
 pub returns-in-Some-fault-clause-moved : goal.returns-in-Some-fault-clause-moved

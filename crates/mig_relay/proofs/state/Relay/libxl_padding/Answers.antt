@@ -34,7 +34,7 @@ returns-clause-moved g c records content kept bodied none = record {
         refl,
       )
       (ap (λ (r : Relay). r.passed) behind ∙ ap (λ (r : Relay). r.passed) same) (refl, grind (arith, common_steps, c.take_part.auto.buf, c.pad_len.ensures.small))
-      (whole (AtLibxlPadding records head content) _ [] c.take_part.new.buf head refl (λ e. cc) (grind (arith, common_steps, c.take_part.auto.buf, c.pad_len.ensures.value, c.pad_len.ensures.small)) (libxl_next records (record { type = head.kind; content = content }) head.kind bodied.0 bodied.1));
+      (whole (AtLibxlPadding records head content) _ [] c.take_part.new.buf head refl (λ e. cc) tt (grind (arith, common_steps, c.take_part.auto.buf, c.pad_len.ensures.value, c.pad_len.ensures.small)) (libxl_next records (record { type = head.kind; content = content }) head.kind bodied.0 bodied.1 none));
 }
   where
     head : RecordHead

@@ -37,7 +37,7 @@ returns-clause-moved g c outer o records content around kept other = record {
         ),
       )
       (ap (λ (r : Relay). r.passed) same) (refl, grind (arith, common_steps, c.take_part.auto.buf, c.pad_len.ensures.small))
-      (whole (InImage outer (AtPadding o records head content)) _ [] c.take_part.new.buf head refl (λ e. cc) (grind (arith, common_steps, c.take_part.auto.buf, c.pad_len.ensures.value, c.pad_len.ensures.small)) (image_next outer o records (record_with records head content) head.kind other));
+      (whole (InImage outer (AtPadding o records head content)) _ [] c.take_part.new.buf head refl (λ e. cc) tt (grind (arith, common_steps, c.take_part.auto.buf, c.pad_len.ensures.value, c.pad_len.ensures.small)) (image_next outer o records (record_with records head content) head.kind other));
 }
   where
     head : RecordHead

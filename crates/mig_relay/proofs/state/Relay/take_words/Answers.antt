@@ -11,7 +11,7 @@ use Rattle.mig_relay.specs.declared.answer.RelayAnswer.TheVariants.{Refused}
 use Rattle.mig_relay.specs.declared.state.Relay.{Relay}
 use Rattle.mig_relay.proofs.Moves.{not_taken, not_allowed, not_written, gave_up, went}
 use Rattle.mig_relay.proofs.Kept.{this_number}
-use Rattle.mig_relay.proofs.Paging.{IsKept, words_is, blank, blank_len, few_bytes, buffered, unbuffered, whole_list, outer_stays, records_stay, turned, turning_keeps, same_list_fault, words_left}
+use Rattle.mig_relay.proofs.Paging.{IsKept, words_is, blank, blank_len, few_bytes, buffered, unbuffered, whole_list, outer_stays, records_stay, turned, turning_keeps, same_list_fault, filled, words_left}
 use Rattle.mig_relay.proofs.state.Relay.take_words.Goals as goal
 
 pub returns-in-Err-clause-moved : goal.returns-in-Err-clause-moved
@@ -67,5 +67,5 @@ returns-clause-moved g c outer o records around kept pages =
           (λ more. ap (λ l. spot (InImage outer (AtPages o records c.args.head (with_places 0 l) [])) more) (sym kept_words) ∙ t.same more) t.keeps
           (turning_keeps held c.turn_to.new.self c.args.head e.within.1 e.page e.over (λ r. r.passed) (λ _. refl) (λ _. refl) ∙ ap (λ (r : Relay). r.passed) put ∙ ap (λ l. counted c.args.self.now.passed (length l)) c.deref-3.ensures.value)
           (turning_keeps held c.turn_to.new.self c.args.head e.within.1 e.page e.over (λ r. r.words.items) (λ _. refl) (λ _. refl) ∙ kept_words, size)
-          (t.follows (InImage outer (AtWords o records c.args.head n)) bytes refl refl (λ e. cc) (words_left o.kind (before o records).top c.args.head n bytes held.words.items kept_words fine size));
+          (t.follows (InImage outer (AtWords o records c.args.head n)) bytes refl refl (λ e. cc) (filled o.kind (before o records).top c.args.head n bytes fine) (words_left o.kind (before o records).top c.args.head n bytes fine held.words.items kept_words size));
     }
