@@ -17,7 +17,7 @@ use Rattle.mig_records.specs.Words.{words}
 use Rattle.mig_records.specs.declared.head.RecordHead.{RecordHead}
 use Rattle.mig_restore.specs.Judging.{Opening}
 use Rattle.mig_restore.specs.Record.{StreamRecord}
-use Rattle.mig_relay.specs.Following.{Due, ComesNext, image_opens, wrapper_opens, wrapper_header, marker, version, kind, libxl_begins, libxl_whole, image_begins, pages_begin, image_whole, count, more, whole, ComesBehind, NothingDue, CountDue, WordsDue, bytes_behind_head, due, head_spot, in_hand, place_of_spot, to_come}
+use Rattle.mig_relay.specs.Following.{Due, FillsBody, ComesNext, image_opens, wrapper_opens, wrapper_header, marker, version, kind, libxl_begins, libxl_whole, image_begins, pages_begin, image_whole, count, more, whole, ComesBehind, NothingDue, CountDue, WordsDue, bytes_behind_head, due, head_spot, in_hand, place_of_spot, to_come}
 use Rattle.mig_relay.specs.Keeping.{words_in_hand}
 use Rattle.mig_relay.specs.Parts.{Next, AtMarker, AtVersion, AtKind, AtHead, AtBody, AtFront, AtWords, AtPages, AtPadding}
 use Rattle.mig_relay.specs.Spots.{Outer, Alone, Behind, Spot, AtStart, AtLibxlHeader, AtLibxlHead, AtLibxlBody, AtLibxlPadding, InImage, AtEnd, is_ident, begins_with_ident}
@@ -175,7 +175,7 @@ wrapper_opened bytes piece seen t size is h (steps.Marker w) e =
       split = ap (λ l. l ++ piece) (h.none refl);
       stands = subst (λ (f : ShownFront). StandsBefore [] f (Some LibxlHeader)) (sym same) header_first;
       hand = (h.hand.0, size);
-      around = subst (IsAround AtLibxlHeader) (sym same) (refl, refl);
+      around = subst (IsAround AtLibxlHeader) (sym same) (refl, refl, λ _. refl);
       form = ap (λ (f : ShownFront). f.wrapper) same ∙ sym (first_form bytes piece (h.none refl) size ∙ is);
       long = λ _. omega (arith, size, length-append bytes piece);
       none = λ never. absurd (apart (sym never));
@@ -411,8 +411,8 @@ record Grows (here : Spot) (begun piece part : List ℕ) (head : RecordHead) (se
   pub front : later.front ≡ seen.front
   pub grown : Grown here begun piece part head later
 
-grows : (here : Spot) (begun bytes piece : List ℕ) (head : RecordHead) (seen : SeenState) (t : Relay) → in_hand here ≡ Some head → due here ≢ CountDue → (h : Has here begun bytes seen) → (step : Step) → IsStep here piece t step → Grows here begun piece h.part head seen (with_step seen step (words_in_hand t))
-grows here begun bytes piece head seen t hand counted h step e = by (held_step here head piece t step hand e)
+grows : (here : Spot) (begun bytes piece : List ℕ) (head : RecordHead) (seen : SeenState) (t : Relay) → in_hand here ≡ Some head → due here ≢ CountDue → FillsBody (due here) piece head → (h : Has here begun bytes seen) → (step : Step) → IsStep here piece t step → Grows here begun piece h.part head seen (with_step seen step (words_in_hand t))
+grows here begun bytes piece head seen t hand counted full h step e = by (held_step here head piece t step hand e)
   where
     held : HandOf (Some head) (due here) (to_come here) (is_libxl here) (opened here) begun h.part seen.hand
     held = subst (λ (o : Option RecordHead). HandOf o (due here) (to_come here) (is_libxl here) (opened here) begun h.part seen.hand) hand h.hand
@@ -449,6 +449,7 @@ grows here begun bytes piece head seen t hand counted h step e = by (held_step h
     words_more n are ws size =
         let d : HasSome (WordsDue n) i.inner head held.0 = subst (λ (d : Due). HasSome d i.inner head held.0) are i.words in
         let number : length (words_in_hand t) ≡ n = ap length ws ∙ words_number n piece in
+        let fills : FillsBody (WordsDue n) piece head = subst (λ (d : Due). FillsBody d piece head) are full in
         record {
           front = refl;
           grown = record {
@@ -475,7 +476,7 @@ grows here begun bytes piece head seen t hand counted h step e = by (held_step h
                   spelled_len = omega (arith, size, number);
                   pages_is = ap (count_by word_has_data) (ws ∙ ap (λ m. words m piece) (sym number));
                 },
-                omega (arith, d.3, number),
+                omega (arith, fills, number, ap (count_by word_has_data) ws),
               ),
               λ plain. absurd (apart (sym d.2 ∙ plain)),
             );
@@ -486,10 +487,10 @@ grows here begun bytes piece head seen t hand counted h step e = by (held_step h
     by (inl (is, nothing)) = subst (λ (s : Step). Grows here begun piece h.part head seen (with_step seen s (words_in_hand t))) (sym is) (piece_more (nothing counted))
     by (inr (is, n, are, ws, size)) = subst (λ (s : Step). Grows here begun piece h.part head seen (with_step seen s (words_in_hand t))) (sym is) (words_more n are ws size)
 
-more_passed : (here next : Spot) (begun bytes piece front : List ℕ) (head : RecordHead) (seen : SeenState) (t : Relay) → in_hand here ≡ Some head → in_hand next ≡ Some head → head_spot next ≡ head_spot here → due here ≢ CountDue → due next ≡ NothingDue → length begun + length piece + to_come next ≡ to_come here + length front
+more_passed : (here next : Spot) (begun bytes piece front : List ℕ) (head : RecordHead) (seen : SeenState) (t : Relay) → in_hand here ≡ Some head → in_hand next ≡ Some head → head_spot next ≡ head_spot here → due here ≢ CountDue → due next ≡ NothingDue → FillsBody (due here) piece head → length begun + length piece + to_come next ≡ to_come here + length front
     → Has here begun bytes seen → (step : Step) → IsStep here piece t step → Has next front (bytes ++ piece) (with_end (is_some (in_hand next)) (with_step seen step (words_in_hand t)))
-more_passed here next begun bytes piece front head seen t hand hand_next same_spot counted nothing size h step e =
-    let g = grows here begun bytes piece head seen t hand counted h step e in
+more_passed here next begun bytes piece front head seen t hand hand_next same_spot counted nothing full size h step e =
+    let g = grows here begun bytes piece head seen t hand counted full h step e in
     let later : SeenState = with_step seen step (words_in_hand t) in
     let i = g.grown in
     let long : 8 ≤ length bytes = h.long (hand_goes_on here head hand) in
@@ -513,10 +514,10 @@ more_passed here next begun bytes piece front head seen t hand hand_next same_sp
       none = λ never. absurd (apart (sym never ∙ hand_goes_on next head hand_next));
     })
 
-whole_passed : (here next : Spot) (begun bytes piece : List ℕ) (head : RecordHead) (seen : SeenState) (t : Relay) → in_hand here ≡ Some head → due here ≢ CountDue → length begun + length piece ≡ to_come here → ComesBehind (head_spot here) head.kind next
+whole_passed : (here next : Spot) (begun bytes piece : List ℕ) (head : RecordHead) (seen : SeenState) (t : Relay) → in_hand here ≡ Some head → due here ≢ CountDue → FillsBody (due here) piece head → length begun + length piece ≡ to_come here → ComesBehind (head_spot here) head.kind next
     → Has here begun bytes seen → (step : Step) → IsStep here piece t step → Has next [] (bytes ++ piece) (with_end (is_some (in_hand next)) (with_step seen step (words_in_hand t)))
-whole_passed here next begun bytes piece head seen t hand counted size behind h step e =
-    let g = grows here begun bytes piece head seen t hand counted h step e in
+whole_passed here next begun bytes piece head seen t hand counted full size behind h step e =
+    let g = grows here begun bytes piece head seen t hand counted full h step e in
     let later : SeenState = with_step seen step (words_in_hand t) in
     let i = g.grown in
     let long : 8 ≤ length bytes = h.long (hand_goes_on here head hand) in
@@ -543,5 +544,5 @@ seen_on (image_begins outer o records piece size other) bytes seen t step e h = 
 seen_on (pages_begin outer o records piece size one) bytes seen t step e h = pages_begun outer o records bytes piece seen t size one h step e
 seen_on (image_whole outer o records piece next size empty other behind) bytes seen t step e h = image_ended outer o records next bytes piece seen t size empty other behind h step e
 seen_on (count outer o records head piece size fit) bytes seen t step e h = count_passed outer o records head bytes piece seen t size fit h step e
-seen_on (more here next begun piece front head hand hand_next same_spot counted nothing size) bytes seen t step e h = more_passed here next begun bytes piece front head seen t hand hand_next same_spot counted nothing size h step e
-seen_on (whole here next begun piece head hand counted size behind) bytes seen t step e h = whole_passed here next begun bytes piece head seen t hand counted size behind h step e
+seen_on (more here next begun piece front head hand hand_next same_spot counted nothing full size) bytes seen t step e h = more_passed here next begun bytes piece front head seen t hand hand_next same_spot counted nothing full size h step e
+seen_on (whole here next begun piece head hand counted full size behind) bytes seen t step e h = whole_passed here next begun bytes piece head seen t hand counted full size behind h step e

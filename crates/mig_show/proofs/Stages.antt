@@ -1,5 +1,6 @@
 -- What a viewer has seen, for the place that the relay stands at.
 use Rattle.std.proofs.Common.{◌≡◌, ℕ, ◌+◌, ◌-◌, ◌*◌, ◌≤◌, Bool, true, false, cond, List, [], ◌∷◌, ◌++◌, length, take, drop, Option, Some, None, refl, sym, ap, subst, ◌∙◌, arith, append_assoc, length-append, length-take-le, length-drop, take-append-drop}
+use Rattle.std.specs.Option.{option_or}
 use Rattle.std.specs.Prelude.{⊤}
 use Rattle.std.proofs.lemmas.List.Sums.{sum_by_push}
 use Rattle.std.proofs.Math.Seq.{take-append-add}
@@ -11,7 +12,10 @@ use Rattle.mig_records.specs.Heads.{head_in}
 use Rattle.mig_records.specs.declared.head.RecordHead.{RecordHead}
 use Rattle.mig_relay.specs.Following.{ComesBehind, libxl_next, libxl_context, libxl_end, image_next, image_end, inner_end, Due, NothingDue, CountDue, WordsDue, bytes_behind_head, due, head_spot, in_hand, place_of_spot, to_come}
 use Rattle.mig_relay.specs.Parts.{Next, AtMarker, AtVersion, AtKind, AtHead, AtBody, AtFront, AtWords, AtPages, AtPadding}
-use Rattle.mig_relay.specs.Spots.{Outer, Alone, Behind, Spot, AtStart, AtLibxlHeader, AtLibxlHead, AtLibxlBody, AtLibxlPadding, InImage, AtEnd, begins_with_ident}
+use Rattle.mig_libxl.specs.Among.{image_among, image_in}
+use Rattle.mig_restore.specs.Stream.{ImageOf}
+use Rattle.mig_relay.specs.Spots.{Outer, Alone, Behind, Spot, AtStart, AtLibxlHeader, AtLibxlHead, AtLibxlBody, AtLibxlPadding, InImage, AtEnd, begins_with_ident, image_record as record_of_image}
+use Rattle.mig_relay.proofs.Kept.{among_same}
 use Rattle.mig_show.specs.Fronts.{ShownFront, HasWords, StandsWhole, StandsBefore, of_form, with_shown, libxl_number, libxl_record, libxl_context as context_stands, libxl_end as libxl_stands, image_record, image_end as image_stands}
 use Rattle.mig_show.specs.Seeing.{SeenState}
 use Rattle.mig_show.specs.Tree.{is_page_data}
@@ -33,7 +37,7 @@ is_libxl _ = false
 
 -- what came behind its head, and what is known of its words
 abbrev pub HasSome : Due → List ℕ → RecordHead → ShownRecord → Type 0
-HasSome NothingDue inner head shown = (is_page_data shown ≡ true → HasWords inner shown.words shown.pages × (8 + 8 * shown.words ≤ head.len)) × (is_page_data shown ≡ false → (shown.words ≡ 0) × (shown.pages ≡ 0))
+HasSome NothingDue inner head shown = (is_page_data shown ≡ true → HasWords inner shown.words shown.pages × (8 + 8 * shown.words + 4096 * shown.pages ≡ head.len)) × (is_page_data shown ≡ false → (shown.words ≡ 0) × (shown.pages ≡ 0))
 HasSome CountDue inner head shown = (inner ≡ []) × (is_page_data shown ≡ true)
 HasSome (WordsDue n) inner head shown = (length inner ≡ 8) × (le32 inner 0 ≡ n) × (is_page_data shown ≡ true) × (8 + 8 * n ≤ head.len)
 
@@ -61,11 +65,11 @@ IsAroundImage Alone front = (front.wrapper ≡ false) × (libxl_number front ≡
 IsAroundImage (Behind records) front = (front.wrapper ≡ true) × (libxl_number front ≡ length records + 1)
 
 abbrev pub IsAroundLibxl : List LibxlRecord → ShownFront → Type 0
-IsAroundLibxl records front = (front.wrapper ≡ true) × (libxl_number front ≡ length records)
+IsAroundLibxl records front = (front.wrapper ≡ true) × (libxl_number front ≡ length records) × (image_among records ≡ None → front.version ≡ None)
 
 abbrev pub IsAround : Spot → ShownFront → Type 0
 IsAround AtStart front = front ≡ of_form false
-IsAround AtLibxlHeader front = (front.wrapper ≡ true) × (libxl_number front ≡ 0)
+IsAround AtLibxlHeader front = IsAroundLibxl [] front
 IsAround (AtLibxlHead records) front = IsAroundLibxl records front
 IsAround (AtLibxlBody records head) front = IsAroundLibxl records front
 IsAround (AtLibxlPadding records head content) front = IsAroundLibxl records front
@@ -140,6 +144,18 @@ image_around : (outer : Outer) (front : ShownFront) (shown : ShownRecord) → sh
 image_around Alone front shown plain (form, number) = (form, omega (arith, number_more front shown false plain, number))
 image_around (Behind records) front shown plain (form, number) = (form, omega (arith, number_more front shown false plain, number))
 
+-- an image stands among these
+has_image : (records : List LibxlRecord) (image : ImageOf) → image_among (records ++ record_of_image image ∷ []) ≡ None → ⊥
+has_image [] image e = cc
+has_image (r ∷ records) image e = by (image_in r.content) (has_image records image) e
+  where
+    rest : Option ImageOf
+    rest = image_among (records ++ record_of_image image ∷ [])
+
+    by : (first : Option ImageOf) → (rest ≡ None → ⊥) → option_or first rest ≡ None → ⊥
+    by (Some i) others e = cc
+    by None others e = others e
+
 -- what comes next behind a whole record, which stands behind what stood before
 pub record Stood (front text : List ℕ) (seen : ShownFront) (shown : ShownRecord) (next : Spot) : Type 0 where
   pub stands : StandsBefore (front ++ text) (with_shown seen shown) (place_of_spot next)
@@ -149,23 +165,23 @@ pub record Stood (front text : List ℕ) (seen : ShownFront) (shown : ShownRecor
   pub goes_on : is_start next ≡ false
 
 pub stood : {at next : Spot} {type : ℕ} → ComesBehind at type next → (front text : List ℕ) (seen : ShownFront) (shown : ShownRecord) → StandsBefore front seen (place_of_spot at) → StandsWhole (is_libxl at) text shown → shown.kind ≡ type → IsAround at seen → Stood front text seen shown next
-stood (libxl_next records r type other inner) front text seen shown before whole kind (form, number) = record {
+stood (libxl_next records r type other inner plain) front text seen shown before whole kind (form, number, unopened) = record {
   stands =
       subst (λ n. StandsBefore (front ++ text) (with_shown seen shown) (Some (AtRecord n))) (sym (length-append records (r ∷ [])))
       (libxl_record front text seen shown (length records) before whole (λ zero. other (sym kind ∙ zero)) (λ one. inner (sym kind ∙ one)));
-  around = (form, omega (arith, number_more seen shown true whole.layer, number, length-append records (r ∷ [])));
+  around = (form, omega (arith, number_more seen shown true whole.layer, number, length-append records (r ∷ [])), λ none. unopened (sym (among_same records r plain) ∙ none));
   none = refl;
   nothing_opened = refl;
   goes_on = refl;
 }
-stood (libxl_context records type one) front text seen shown before whole kind (form, number) = record {
-  stands = context_stands front text seen shown (length records) before whole (kind ∙ one);
+stood (libxl_context records type one none) front text seen shown before whole kind (form, number, unopened) = record {
+  stands = context_stands front text seen shown (length records) before whole (kind ∙ one) (unopened none);
   around = (form, omega (arith, number_more seen shown true whole.layer, number));
   none = refl;
   nothing_opened = refl;
   goes_on = refl;
 }
-stood (libxl_end records type s zero) front text seen shown before whole kind (form, number) = record {
+stood (libxl_end records type s zero) front text seen shown before whole kind (form, number, unopened) = record {
   stands = libxl_stands front text seen shown (length records) before whole (kind ∙ zero);
   around = tt;
   none = refl;
@@ -190,13 +206,13 @@ stood (image_end o records type s zero) front text seen shown before whole kind 
   nothing_opened = refl;
   goes_on = refl;
 }
-stood (inner_end records o inside type r zero) front text seen shown before whole kind (form, number) =
-    let long : length (records ++ r ∷ []) ≡ length records + 1 = length-append records (r ∷ []) in
+stood (inner_end records o inside type image zero) front text seen shown before whole kind (form, number) =
+    let long : length (records ++ record_of_image image ∷ []) ≡ length records + 1 = length-append records (record_of_image image ∷ []) in
     record {
       stands =
           subst (StandsBefore (front ++ text) (with_shown seen shown)) (ap (λ b. cond b (Some (AtRecord (libxl_number seen))) None) form ∙ ap (λ n. Some (AtRecord n)) (number ∙ sym long))
           (image_stands front text seen shown (length inside) before whole (kind ∙ zero));
-      around = (form, omega (arith, number_more seen shown false whole.layer, number, long));
+      around = (form, omega (arith, number_more seen shown false whole.layer, number, long), λ none. absurd (has_image records image none));
       none = refl;
       nothing_opened = refl;
       goes_on = refl;
@@ -257,6 +273,7 @@ finished head wrapped first inner text shown whole first_len headed kind len lay
         padded = omega (arith, length-drop head.len inner, size) ∙ ap padding_len (sym body_len);
       };
       len = len ∙ sym body_len;
-      counted = λ paged. cut_words inner shown.words shown.pages head.len (counted paged).0 (counted paged).1;
+      counted = λ paged. cut_words inner shown.words shown.pages head.len (counted paged).0 (omega (arith, (counted paged).1));
+      filled = λ paged. len ∙ sym (counted paged).1;
       plain = plain;
     }

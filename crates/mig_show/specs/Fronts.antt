@@ -27,13 +27,14 @@ pub record HasWords (body : List ℕ) (number pages : ℕ) : Type 0 where
   pub pages_is : pages ≡ count_by word_has_data (words number spelled)
 
 -- what is shown of a record of a libxl stream, or of an image, that stands whole as these bytes: its head, its body and its
--- padding; and of a PAGE_DATA how many words it has, and how many of them have data
+-- padding; and of a PAGE_DATA how many words it has, and how many of them have data, which fill its body with their pages
 pub record StandsWhole (wrapped : Bool) (text : List ℕ) (shown : ShownRecord) : Type 0 where
   pub layer : shown.wrapped ≡ wrapped
   pub body : List ℕ
   pub is : IsRecord shown.kind body text
   pub len : shown.len ≡ length body
   pub counted : is_page_data shown ≡ true → HasWords body shown.words shown.pages
+  pub filled : is_page_data shown ≡ true → shown.len ≡ 8 + 8 * shown.words + 4096 * shown.pages
   pub plain : is_page_data shown ≡ false → (shown.words ≡ 0) × (shown.pages ≡ 0)
 
 -- ---- the front of a stream
@@ -63,7 +64,7 @@ behind_image front = if front.wrapper then Some (LibxlRecord (libxl_number front
 
 -- These bytes stand in front of this place, or are a whole stream where no place follows; and so much is shown of them. An
 -- image has an image header, a domain header, and its records up to END. A libxl stream has a header, and its records up to
--- END; an image follows its LIBXC_CONTEXT.
+-- END; the image follows its LIBXC_CONTEXT, in front of which there was none.
 pub data StandsBefore : List ℕ → ShownFront → Option Place → Type 0 where
   image_first : StandsBefore [] (of_form false) (Some ImageHeader)
   header_first : StandsBefore [] (of_form true) (Some LibxlHeader)
@@ -71,7 +72,7 @@ pub data StandsBefore : List ℕ → ShownFront → Option Place → Type 0 wher
   libxl_record : (bytes text : List ℕ) (front : ShownFront) (shown : ShownRecord) (n : ℕ) → StandsBefore bytes front (Some (LibxlRecord n))
       → StandsWhole true text shown → shown.kind ≢ 0 → shown.kind ≢ 1 → StandsBefore (bytes ++ text) (with_shown front shown) (Some (LibxlRecord (n + 1)))
   libxl_context : (bytes text : List ℕ) (front : ShownFront) (shown : ShownRecord) (n : ℕ) → StandsBefore bytes front (Some (LibxlRecord n))
-      → StandsWhole true text shown → shown.kind ≡ 1 → StandsBefore (bytes ++ text) (with_shown front shown) (Some ImageHeader)
+      → StandsWhole true text shown → shown.kind ≡ 1 → front.version ≡ None → StandsBefore (bytes ++ text) (with_shown front shown) (Some ImageHeader)
   libxl_end : (bytes text : List ℕ) (front : ShownFront) (shown : ShownRecord) (n : ℕ) → StandsBefore bytes front (Some (LibxlRecord n))
       → StandsWhole true text shown → shown.kind ≡ 0 → StandsBefore (bytes ++ text) (with_shown front shown) None
   image_header : (bytes text : List ℕ) (front : ShownFront) → StandsBefore bytes front (Some ImageHeader)
