@@ -59,6 +59,17 @@ fn put_records(line: &mut String, alloc: Global, list: &[ShownRecord]) -> Result
     Ok(())
 }
 
+/// The most bytes of a record's text, with its comma: a PAGE_DATA has four numbers, of 10, 7, 1 and 9 digits at most.
+const MOST: usize = 100;
+
+/// Puts the texts of the records, after room was made for all: a text that grows takes twice the memory.
+fn put_list(line: &mut String, alloc: Global, list: &[ShownRecord]) -> Result<(), AllocError>
+    ensures { OnOk result (string_bytes line.new ≡ string_bytes line.old ++ records_text false list.now) }
+{
+    line.reserve(list.len().saturating_mul(MOST))?;
+    put_records(line, alloc, list)
+}
+
 /// The JSON text of the tree that shows a stream, and a line feed.
 pub(crate) fn stream_line(
     alloc: Global,
@@ -73,7 +84,7 @@ pub(crate) fn stream_line(
     let mut line = String::from_str(alloc, "{\"kind\":")?;
     put_value(&mut line, alloc, &kind_value(alloc, kind)?)?;
     line.push_str(",\"records\":[")?;
-    put_records(&mut line, alloc, list)?;
+    put_list(&mut line, alloc, list)?;
     line.push_str("],\"refused\":")?;
     put_value(&mut line, alloc, &refused_value(alloc, refused)?)?;
     line.push_str(",\"version\":")?;
