@@ -4,3 +4,5 @@ pub mod Stages
 pub mod Passing
 pub mod Sights
 pub mod Texts
+pub mod OneFront
+pub mod OneTree

@@ -20,7 +20,7 @@ mod tests;
 mod tree;
 mod viewer;
 
-pub use laws::{smallest_stream_is_shown, trees_have_no_float};
+pub use laws::{one_tree_is_shown, smallest_stream_is_shown, trees_have_no_float};
 pub use record::ShownRecord;
 pub use tree::tree_of;
 pub use viewer::{ShowAnswer, Shown, ShownText, show, show_text};
