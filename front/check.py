@@ -5,7 +5,7 @@ import sys
 import threading
 
 from front import forms, program, sources, verdict
-from front.text import shown
+from front.text import put_lines, shown
 
 BESIDE = 64 << 20                                    # what the program takes beside a guest's pages
 KEPT_FREE = 10                                       # of this many parts of the memory, one is kept free
@@ -152,9 +152,9 @@ def check(words):
         statuses.add(found.status)
         if words.json:
             import json
-            print(json.dumps(found.facts()), flush=True)
+            put_lines([json.dumps(found.facts())], sys.stdout)
         else:
-            print(*found.lines(), sep='\n', flush=True)
+            put_lines(found.lines(), sys.stdout)
     if not words.json:
-        print(count_of(counts))
+        put_lines([count_of(counts)], sys.stdout)
     return status_of(statuses)

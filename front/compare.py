@@ -6,7 +6,7 @@ import subprocess
 import sys
 
 from front import forms, places, program, sources, verdict
-from front.text import shown
+from front.text import put_lines, shown
 
 PAGE_DATA = 1
 RECORDS = {0: 'END', PAGE_DATA: 'PAGE_DATA', 2: 'X86_PV_INFO', 3: 'X86_PV_P2M_FRAMES', 4: 'X86_PV_VCPU_BASIC',
@@ -132,7 +132,7 @@ def tell_ends(sides, by_themselves=()):
     found = [side.end(side in by_themselves) for side in sides]
     refused = [one for one in found if one and one.status != program.OK]
     for one in refused:
-        print(*one.lines(), sep='\n', file=sys.stderr)
+        put_lines(one.lines(), sys.stderr)
     return max((one.status for one in refused), default=program.OK)
 
 
@@ -149,7 +149,7 @@ def compare(words):
             sides.append(Side(name, path))
     except sources.Unreadable as unreadable:
         tell_ends(sides)
-        print('%s: fault: read: %s' % (shown(name), unreadable), file=sys.stderr)
+        put_lines(['%s: fault: read: %s' % (shown(name), unreadable)], sys.stderr)
         return program.READ_FAULT
     if any(side.process is None for side in sides):
         return not_compared(tell_ends(sides))
@@ -157,11 +157,11 @@ def compare(words):
         walk(*sides)
     except Difference as difference:
         tell_ends(sides)
-        print('another guest state: %s' % difference)
+        put_lines(['another guest state: %s' % difference], sys.stdout)
         return program.REFUSED
     except Ended as ended:
         return not_compared(tell_ends(sides, ended.args))
     status = tell_ends(sides, sides)
     if status == program.OK:
-        print('the same guest state')
+        put_lines(['the same guest state'], sys.stdout)
     return status

@@ -1,8 +1,10 @@
 """`mig exercise`: the program saves a guest of its own live, in memory, reads it back and restores it, and says what it came to."""
 import re
 import subprocess
+import sys
 
 from front import program
+from front.text import put_lines
 
 NUMBERS = re.compile(r'ok frames (\d+) rounds (\d+) entries (\d+) canon (\d+)')
 
@@ -23,5 +25,5 @@ def exercise(words):
     process = program.RUNNING.start([path, 'exercise', str(words.seed), str(words.frames)], stdin=subprocess.DEVNULL,
                                     stdout=subprocess.DEVNULL, stderr=subprocess.PIPE)
     answer = program.answer_of(process)
-    print(*told(answer), sep='\n')
+    put_lines(told(answer), sys.stdout)
     return answer.status

@@ -7,7 +7,7 @@ import subprocess
 import sys
 
 from front import program
-from front.text import tell
+from front.text import Untold, put_lines, tell
 
 STATUSES = """\
 exit status:
@@ -17,7 +17,7 @@ exit status:
        and `show` has written what stands in front of the refused part
   2    the words make no command, OUT is there already, or it is a terminal
   3    a file couldn't be read
-  4    OUT couldn't be written
+  4    OUT, or what is told, couldn't be written
   5    no memory was found, or the program was ended from outside
   6    `compare`: a file was refused, so nothing was compared
   125  the program isn't there and couldn't be built
@@ -112,7 +112,7 @@ class Version(argparse.Action):
     """Says which sources and which kit the program is of."""
 
     def __call__(self, parser, *_):
-        print('mig, revision %s, %s' % (revision(), kit()))
+        put_lines(['mig, revision %s, %s' % (revision(), kit())], sys.stdout)
         parser.exit()
 
 
@@ -266,20 +266,33 @@ def parser():
     return words
 
 
+def untold(why=None):
+    """The status where lines couldn't be written; what still waits to be is dropped."""
+    nowhere = os.open(os.devnull, os.O_WRONLY)
+    os.dup2(nowhere, 1)
+    try:
+        if why:
+            tell(why)
+    except Untold:                                   # standard error takes nothing either
+        os.dup2(nowhere, 2)
+    return program.WRITE_FAULT
+
+
 def main(arguments):
     if arguments[:1] == ['help']:
         arguments = [*arguments[1:], '--help']
-    words = parser().parse_args(arguments)
-    for number in signal.SIGINT, signal.SIGTERM, signal.SIGHUP:
-        signal.signal(number, program.RUNNING.stop)
     sys.stdout.reconfigure(errors='backslashreplace')
     try:
+        words = parser().parse_args(arguments)
+        for number in signal.SIGINT, signal.SIGTERM, signal.SIGHUP:
+            signal.signal(number, program.RUNNING.stop)
         return words.run(words)
     except program.NoProgram as missing:
         tell(str(missing))
         return program.NO_PROGRAM
     except BrokenPipeError:                          # who reads the lines is gone
-        os.dup2(os.open(os.devnull, os.O_WRONLY), 1)
-        return program.WRITE_FAULT
+        return untold()
+    except Untold as fault:
+        return untold(str(fault))
     except program.Stopped as stopped:
         return stopped.status

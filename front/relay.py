@@ -3,7 +3,7 @@ comes; OUT is written beside its place and renamed when all is well."""
 import sys
 
 from front import forms, program, sources, verdict
-from front.text import shown, tell
+from front.text import put_lines, shown, tell
 from front.write import Output, Refused, configuration, mode_of, put
 
 
@@ -25,11 +25,10 @@ def show(words, found):
     to = sys.stderr if words.output == '-' or found.status and not words.json else sys.stdout
     if words.json:
         import json
-        print(json.dumps(found.facts()), file=to)
+        put_lines([json.dumps(found.facts())], to)
         return
-    print(*found.lines(), sep='\n', file=to)
-    if words.output == '-' and found.status and found.begins is not None:
-        print('    what was written to standard output may be cut; throw it away', file=to)
+    is_cut = words.output == '-' and found.status and found.begins is not None
+    put_lines([*found.lines(), *['    what was written to standard output may be cut; throw it away'] * bool(is_cut)], to)
 
 
 def relay(words):

@@ -8,7 +8,7 @@ import sys
 import threading
 
 from front import forms, places, program, sources, verdict
-from front.text import shown, tell
+from front.text import put_lines, shown, tell
 from front.write import Output, Refused, mode_of
 
 MOST_SCRIPT = 1 << 24                                # bytes; the program refuses a script with more
@@ -138,11 +138,10 @@ def show(words, found):
     to = sys.stderr if words.output == '-' or found.status and not words.json else sys.stdout
     if words.json:
         import json
-        print(json.dumps({**found.facts(), 'image': words.image, 'script': words.script}), file=to)
+        put_lines([json.dumps({**found.facts(), 'image': words.image, 'script': words.script})], to)
         return
-    print(*found.lines(), sep='\n', file=to)
-    if words.output == '-' and found.line.startswith('refused: Pause'):
-        print('    what was written to standard output is no stream; throw it away', file=to)
+    is_none = words.output == '-' and found.line.startswith('refused: Pause')
+    put_lines([*found.lines(), *['    what was written to standard output is no stream; throw it away'] * is_none], to)
 
 
 def save(words):

@@ -5,7 +5,7 @@ import sys
 
 from front import forms, program, sources, verdict, write
 from front.check import files_of, status_of
-from front.text import shown, tell
+from front.text import put_lines, shown, tell
 
 OLD = 'not judged: an old save has no such records; what `mig convert` makes of it has'
 
@@ -52,8 +52,7 @@ def status_of_file(words, path, name):
     finally:
         if source:
             source.close()
-    for line in list(found.lines())[found.status == program.OK:]:
-        print(line, file=sys.stderr)
+    put_lines(list(found.lines())[found.status == program.OK:], sys.stderr)
     return found.status
 
 

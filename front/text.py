@@ -17,5 +17,23 @@ def shown(name):
     return ''.join(letters)
 
 
+class Untold(Exception):
+    """Lines couldn't be written; where, and why."""
+
+
+def put_lines(lines, to):
+    """Writes lines at once, so that those of several processes don't mix in a pipe that they share."""
+    text = ''.join(line + '\n' for line in lines)
+    if not text:
+        return
+    try:
+        to.write(text)
+        to.flush()
+    except BrokenPipeError:
+        raise
+    except OSError as fault:
+        raise Untold('%s: %s' % ('standard output' if to is sys.stdout else 'standard error', fault.strerror)) from None
+
+
 def tell(line):
-    print('mig: ' + line, file=sys.stderr, flush=True)
+    put_lines(['mig: ' + line], sys.stderr)

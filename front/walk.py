@@ -1,8 +1,9 @@
 """`mig walk`: which frame an address means to a vCPU, in a save by its PFN and in a guest image by its machine frame."""
 import re
+import sys
 
 from front import forms, program, sources, verdict
-from front.text import shown, tell
+from front.text import put_lines, shown, tell
 
 FOUND = re.compile(r'ok frame (\d+) type (\d+)')
 TYPES = {0: 'NOTAB', 13: 'BROKEN', 14: 'XALLOC', **{level: 'L%dTAB' % level for level in (1, 2, 3, 4)},
@@ -43,5 +44,5 @@ def walk(words):
         return program.READ_FAULT
     finally:
         source.close()
-    print(*told(found, form, words.address), sep='\n')
+    put_lines(told(found, form, words.address), sys.stdout)
     return found.status

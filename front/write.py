@@ -5,7 +5,7 @@ import stat
 import sys
 
 from front import forms, headers, program, sources, verdict
-from front.text import shown, tell
+from front.text import put_lines, shown, tell
 
 LIBXL_FRONT = bytes.fromhex('4c6962786c466d74 00000002 00000000 01000000 00000000')
 LIBXL_END = bytes(8)
@@ -168,6 +168,5 @@ def write(words):
         source.close()
     if found.status or found.follows:
         lines = list(found.lines())
-        for line in lines[bool(found.status == program.OK):]:
-            print(line, file=sys.stderr)
+        put_lines(lines[bool(found.status == program.OK):], sys.stderr)
     return found.status
