@@ -112,7 +112,7 @@ class Version(argparse.Action):
     """Says which sources and which kit the program is of."""
 
     def __call__(self, parser, *_):
-        put_lines(['mig, revision %s, %s' % (revision(), kit())], sys.stdout)
+        put_lines(['mig, ' + version()], sys.stdout)
         parser.exit()
 
 
@@ -133,6 +133,17 @@ def revision():
 
 def kit():
     return output_of('rt', 'version') or 'kit unknown'
+
+
+def version():
+    """Revision, date and kit: those of the repository, or those that were written down when this was installed."""
+    if program.IS_REPOSITORY:
+        return 'revision %s, %s' % (revision(), kit())
+    try:
+        with open(program.VERSION, encoding='utf-8') as told:
+            return told.read().strip()
+    except OSError:
+        return 'revision unknown, kit unknown'
 
 
 def verb(verbs, name, says, more=''):

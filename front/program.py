@@ -4,9 +4,11 @@ import subprocess
 from collections import namedtuple
 
 TOP = os.path.dirname(os.path.dirname(os.path.realpath(__file__)))
+IS_REPOSITORY = os.path.isdir(os.path.join(TOP, 'crates'))  # else TOP is PREFIX/lib/mig, as bin/install lays it out
 BUILT = os.path.join(TOP, 'crates', 'mig_tool', 'out', 'mig_tool')
-BUILDER = os.path.join(TOP, 'bin', 'mig_tool')
+BUILDER = INSTALLED = os.path.join(TOP, 'bin', 'mig_tool')  # in the repository a script that builds the program, else itself
 EXAMPLE = os.path.join(TOP, 'examples', 'smallest-hvm.stream')
+VERSION = os.path.join(TOP, 'version')               # is there where it was installed
 OK, REFUSED, USAGE, READ_FAULT, WRITE_FAULT, NO_MEMORY, NOT_COMPARED, NO_PROGRAM = 0, 1, 2, 3, 4, 5, 6, 125
 
 
@@ -70,13 +72,17 @@ def is_current():
 
 
 def find():
-    """The path of the program: that which MIG_TOOL names, or the built one, which bin/mig_tool builds first where it has
-    to be."""
+    """The path of the program: that which MIG_TOOL names, the one that was installed with this, or the built one, which
+    bin/mig_tool builds first where it has to be."""
     named = os.environ.get('MIG_TOOL')
     if named:
         if not os.access(named, os.X_OK):
             raise NoProgram('MIG_TOOL names %s, which is no program' % named)
         return named
+    if not IS_REPOSITORY:
+        if not os.access(INSTALLED, os.X_OK):
+            raise NoProgram('%s is not there, or is no program: install it again' % INSTALLED)
+        return INSTALLED
     if not is_current():
         with open(EXAMPLE, 'rb') as example:
             built = subprocess.run([BUILDER, 'verify'], stdin=example, stdout=subprocess.DEVNULL).returncode
