@@ -1,4 +1,5 @@
 """Tests of bin/install."""
+import importlib.util
 import json
 import os
 import resource
@@ -109,8 +110,33 @@ def all_is_there():
         files = {path for path, what in found.items() if not isinstance(what, int)}
         yield from wanted(set(json.loads(read(prefix, LIST))['files']), files - {LIST})
         for name in os.listdir(os.path.join(copy.top, 'front')):
-            if name.endswith('.py') and 'lib/mig/front/' + name not in found:
-                yield 'front/%s is missing' % name
+            for path in 'lib/mig/front/' + name, importlib.util.cache_from_source('lib/mig/front/' + name):
+                if name.endswith('.py') and path not in found:
+                    yield '%s is missing' % path
+
+
+def compiled_modules_are_those_of_the_sources():
+    """A module that is changed by hand goes by its source, whatever its time is."""
+    with copy_and_prefix() as (copy, prefix):
+        copy.install('--prefix', prefix)
+        path = os.path.join(prefix, 'lib', 'mig', 'front', 'text.py')
+        before, text = os.stat(path), read(path)
+        write(text.replace("'mig: '", "'MIG: '"), path)
+        os.utime(path, ns=(before.st_atime_ns, before.st_mtime_ns))
+        yield from wanted(run(os.path.join(prefix, 'bin', 'mig'), 'normalise', '/none', '/none')[::2],
+                          (3, 'MIG: /none: fault: read: No such file or directory\n'))
+
+
+def version_of_what_was_installed():
+    """It is what bin/mig said of the repository then, whatever stands around the prefix."""
+    with copy_and_prefix() as (copy, prefix):
+        copy.install('--prefix', prefix)
+        said = run(os.path.join(copy.top, 'bin', 'mig'), '--version')[1]
+        yield from wanted('mig, ' + read(prefix, 'lib', 'mig', 'version'), said)
+        write('revision 1 of 2026-01-01, kit 2\n', prefix, 'lib', 'mig', 'version')
+        yield from wanted(run(os.path.join(prefix, 'bin', 'mig'), '--version'), (0, 'mig, revision 1 of 2026-01-01, kit 2\n', ''))
+        os.unlink(os.path.join(prefix, 'lib', 'mig', 'version'))
+        yield from wanted(run(os.path.join(prefix, 'bin', 'mig'), '--version'), (0, 'mig, revision unknown, kit unknown\n', ''))
 
 
 def twice():
@@ -323,7 +349,8 @@ def words():
 
 
 TESTS = (
-    used_without_the_repository, moved, nothing_left, all_is_there, twice, newer, below_a_destdir, names_that_are_hard,
+    used_without_the_repository, moved, nothing_left, all_is_there, compiled_modules_are_those_of_the_sources,
+    version_of_what_was_installed, twice, newer, below_a_destdir, names_that_are_hard,
     somebody_elses_file, link_of_somebody_else, folder_in_the_way, changed_since, damaged_list,
     not_built, nothing_to_install, not_writable, a_write_fails, words,
 )

@@ -92,7 +92,7 @@ def read_by_zsh_and_fish():
             environment = {'PATH': PATH, 'HOME': home}
             _, out, err = run('fish', '--no-config', '-c', 'source $argv[1]; complete -C $argv[2]',
                               os.path.join(COMPLETIONS, 'fish', name + '.fish'), line, environment=environment, cwd=home)
-            return err or {line.split('\t')[0] for line in out.splitlines()}
+            return {err} if err else {line.split('\t')[0] for line in out.splitlines()}
         by_verb, _ = verbs()
         yield from wanted(offered('mig', 'mig '), {*by_verb, 'help'})
         yield from wanted(offered('mig', 'mig help '), set(by_verb))
