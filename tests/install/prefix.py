@@ -58,6 +58,9 @@ def used_without_the_repository():
         copy.delete()
         yield from works(prefix, place)
         yield from wanted(sorted(tree(prefix)), sorted(before))
+        shutil.rmtree(os.path.join(prefix, 'lib', 'mig', 'front', '__pycache__'))  # as with another release of python3
+        yield from works(prefix, place)
+        yield from wanted([path for path in tree(prefix) if path not in before or path.endswith('.pyc')], [])
         os.unlink(os.path.join(prefix, 'lib', 'mig', 'bin', 'mig_tool'))
         yield from refused(run(os.path.join(prefix, 'bin', 'mig'), 'check', 'x'), 125, 'is not there, or is no program: install it again')
 
@@ -187,6 +190,7 @@ def names_that_are_hard():
             yield from works(prefix, place)
             yield from wanted(copy.remove('--prefix=' + name, cwd=top)[0], 0)
             yield from wanted(os.path.exists(prefix), False)
+            yield from refused(copy.remove('--prefix=' + name, cwd=top), 1, 'nothing is installed in ')
 
 
 # ---- files of others
