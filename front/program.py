@@ -37,9 +37,12 @@ class Running:
         raise self.stopped
 
     def start(self, words, **streams):
+        """Starts a program, whose path is the first word. The program itself gets its name there, since it answers no words
+        behind a path that isn't UTF-8."""
         if self.stopped:
             raise self.stopped
-        process = subprocess.Popen(words, **streams)
+        path, *rest = words
+        process = subprocess.Popen(['mig_tool', *rest], executable=path, **streams)
         self.processes.add(process)
         return process
 

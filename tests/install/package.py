@@ -17,14 +17,13 @@ FOUND = {}                                           # the package, built once f
 def built(top):
     """The path of the package, in a folder."""
     if not FOUND:
-        copy = Copy(top)
-        status, out, err = copy.package(top)
-        if status or err:
-            raise AssertionError('debian-package answers %d, %r' % (status, err))
-        FOUND['name'] = os.path.basename(out.strip())
-        with open(out.strip(), 'rb') as file:
-            FOUND['data'] = file.read()
-        copy.delete()
+        with folder() as own:
+            status, out, err = Copy(own).package(own)
+            if status or err:
+                raise AssertionError('debian-package answers %d, %r' % (status, err))
+            FOUND['name'] = os.path.basename(out.strip())
+            with open(out.strip(), 'rb') as file:
+                FOUND['data'] = file.read()
     path = os.path.join(top, FOUND['name'])
     with open(path, 'wb') as file:
         file.write(FOUND['data'])

@@ -22,7 +22,8 @@ def installed(got, prefix):
 def works(prefix, place):
     """What doesn't work of what is installed in a prefix, used from a place that has examples of its own."""
     def used(*words, **more):
-        return run(os.path.join(prefix, 'bin', words[0]), *words[1:], cwd=place, environment=NOTHING, **more)
+        """As a shell runs what it found in the prefix: the first word is the name alone."""
+        return run(*words, executable=os.path.join(prefix, 'bin', words[0]), cwd=place, environment=NOTHING, **more)
     with open(os.path.join(place, 'three-frames.stream'), 'rb') as stream:
         yield from wanted(used('mig_tool', 'verify', stdin=stream), (0, '', OK_THREE))
     yield from wanted(used('mig', 'check', 'three-frames.stream'),
