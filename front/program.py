@@ -9,6 +9,8 @@ BUILT = os.path.join(TOP, 'crates', 'mig_tool', 'out', 'mig_tool')
 BUILDER = INSTALLED = os.path.join(TOP, 'bin', 'mig_tool')  # in the repository a script that builds the program, else itself
 EXAMPLE = os.path.join(TOP, 'examples', 'smallest-hvm.stream')
 VERSION = os.path.join(TOP, 'version')               # is there where it was installed
+HUGE_PAGES = 'glibc.malloc.hugetlb'                  # of glibc 2.35 and newer; others pass it over
+KEEPS_NO_PAGES = 'relay', 'show'
 OK, REFUSED, USAGE, READ_FAULT, WRITE_FAULT, NO_MEMORY, NOT_COMPARED, NO_PROGRAM = 0, 1, 2, 3, 4, 5, 6, 125
 
 
@@ -22,6 +24,15 @@ class Stopped(BaseException):
     def __init__(self, number):
         super().__init__()
         self.status = 128 + number
+
+
+def surroundings(command):
+    """The program's environment. Its pages come in two thirds of the time where the C library asks for huge ones, which it
+    does where GLIBC_TUNABLES says so; what is said there of huge pages already stays."""
+    told = os.environ.get('GLIBC_TUNABLES', '')
+    if command in KEEPS_NO_PAGES or HUGE_PAGES in told:
+        return None
+    return {**os.environ, 'GLIBC_TUNABLES': ':'.join(filter(None, (told, HUGE_PAGES + '=1')))}
 
 
 class Running:
@@ -42,7 +53,7 @@ class Running:
         if self.stopped:
             raise self.stopped
         path, *rest = words
-        process = subprocess.Popen(['mig_tool', *rest], executable=path, **streams)
+        process = subprocess.Popen(['mig_tool', *rest], executable=path, env=surroundings(rest[0]), **streams)
         self.processes.add(process)
         return process
 
