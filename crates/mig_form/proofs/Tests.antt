@@ -1,0 +1,101 @@
+-- What a test gives is what its condition says; and so for a table of them.
+use Rattle.std.proofs.Common.{◌≡◌, ◌⊎◌, inl, inr, ◌<◌, Bool, true, false, cond, not, nat_eq, nat_lt, ◌&&◌, ◌||◌, List, [], ◌∷◌, Option, Some, None, refl, ap, subst, arith, ltb-true, ltb-false, eqb-true}
+use Rattle.std.proofs.lemmas.Bool.{eqb-false, false≢true}
+use Rattle.std.specs.Option.{option_map}
+use Rattle.mig_form.specs.Tests.{Test, Holding, is_passed, first_named, NoneHolds, NamedIn, retold_rows}
+use Rattle.mig_form.specs.Tests.Test.{Less, Equal, Is, Not, Both, Either}
+use Rattle.mig_form.specs.Tests.NamedIn.{this, later}
+
+-- a truth value tells whether A
+abbrev Told : Type 0 → Bool → Type 0
+Told A true = A
+Told A false = A → ⊥
+
+module _ (A B : Type 0) where
+  not_told : (b : Bool) → Told A b → Told (A → ⊥) (not b)
+  not_told true a = λ none. none a
+  not_told false none = none
+
+  both_told : (b c : Bool) → Told A b → Told B c → Told (A × B) (b && c)
+  both_told true true a b = (a, b)
+  both_told true false a none = λ both. none both.1
+  both_told false c none b = λ both. none both.0
+
+  either_told : (b c : Bool) → Told A b → Told B c → Told (A ⊎ B) (b || c)
+  either_told true c a b = inl a
+  either_told false true none b = inr b
+  either_told false false never none = λ either. elim either [ inl a ↦ never a | inr b ↦ none b ]
+
+is_told : (t : Test) → Told (Holding t) (is_passed t)
+is_told (Less a b) = by (nat_lt a b) refl
+  where
+    by : (c : Bool) → nat_lt a b ≡ c → Told (a < b) c
+    by true is = ltb-true a b is
+    by false is = λ less. let least = ltb-false a b is in omega (arith, less, least)
+is_told (Equal a b) = by (nat_eq a b) refl
+  where
+    by : (c : Bool) → nat_eq a b ≡ c → Told (a ≡ b) c
+    by true is = eqb-true a b is
+    by false is = eqb-false a b is
+is_told (Is true) = refl
+is_told (Is false) = false≢true
+is_told (Not t) = not_told (Holding t) (Holding t) (is_passed t) (is_told t)
+is_told (Both s t) = both_told (Holding s) (Holding t) (is_passed s) (is_passed t) (is_told s) (is_told t)
+is_told (Either s t) = either_told (Holding s) (Holding t) (is_passed s) (is_passed t) (is_told s) (is_told t)
+
+-- ---- rows
+
+module _ {C : Type 0} where
+  -- what the table names is told
+  abbrev RowsTold : List (Test × C) → Option C → Type 0
+  RowsTold rows None = NoneHolds rows
+  RowsTold rows (Some c) = NamedIn rows c
+
+  rows_told : (rows : List (Test × C)) → RowsTold rows (first_named rows)
+  rows_told [] = tt
+  rows_told (row ∷ rows) = by (is_passed row.0) (is_told row.0) (first_named rows) (rows_told rows)
+    where
+      by : (b : Bool) → Told (Holding row.0) b → (o : Option C) → RowsTold rows o → RowsTold (row ∷ rows) (cond b (Some row.1) o)
+      by true holds o others = this row.0 row.1 rows holds
+      by false never None others = (never, others)
+      by false never (Some c) others = later row.0 row.1 c rows never others
+
+  one_named : (rows : List (Test × C)) (c d : C) → NamedIn rows c → NamedIn rows d → c ≡ d
+  one_named _ _ _ (this t c rows holds) (this _ _ _ other) = refl
+  one_named _ _ _ (this t c rows holds) (later _ _ d _ never other) = absurd (never holds)
+  one_named _ _ _ (later t c d rows never named) (this _ _ _ holds) = absurd (never holds)
+  one_named _ _ _ (later t c d rows never named) (later _ _ e _ _ other) = one_named rows d e named other
+
+  none_named : (rows : List (Test × C)) (c : C) → NoneHolds rows → NamedIn rows c → ⊥
+  none_named _ _ none (this t c rows holds) = none.0 holds
+  none_named _ _ none (later t c d rows never named) = none_named rows d none.1 named
+
+  pub is_none : (rows : List (Test × C)) → first_named rows ≡ None → NoneHolds rows
+  is_none rows is = subst (RowsTold rows) is (rows_told rows)
+
+  pub is_named : (rows : List (Test × C)) (c : C) → first_named rows ≡ Some c → NamedIn rows c
+  is_named rows c is = subst (RowsTold rows) is (rows_told rows)
+
+  pub none_is : (rows : List (Test × C)) → NoneHolds rows → first_named rows ≡ None
+  none_is rows none = by (first_named rows) (rows_told rows)
+    where
+      by : (o : Option C) → RowsTold rows o → o ≡ None
+      by None told = refl
+      by (Some c) told = absurd (none_named rows c none told)
+
+  pub named_is : (rows : List (Test × C)) (c : C) → NamedIn rows c → first_named rows ≡ Some c
+  named_is rows c named = by (first_named rows) (rows_told rows)
+    where
+      by : (o : Option C) → RowsTold rows o → o ≡ Some c
+      by None told = absurd (none_named rows c told named)
+      by (Some d) told = ap Some (one_named rows d c told named)
+
+-- rows told in another way
+module _ {C D : Type 0} (turn : C → D) where
+  pub retold_is : (rows : List (Test × C)) → first_named (retold_rows turn rows) ≡ option_map turn (first_named rows)
+  retold_is [] = refl
+  retold_is (row ∷ rows) = by (is_passed row.0) (retold_is rows)
+    where
+      by : (b : Bool) → first_named (retold_rows turn rows) ≡ option_map turn (first_named rows) → cond b (Some (turn row.1)) (first_named (retold_rows turn rows)) ≡ option_map turn (cond b (Some row.1) (first_named rows))
+      by true same = refl
+      by false same = same
