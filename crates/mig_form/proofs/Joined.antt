@@ -1,14 +1,15 @@
 -- Forms one behind another: how they are judged, spelled and refused.
-use Rattle.std.proofs.Common.{◌≡◌, ◌⊎◌, inl, inr, ℕ, zero, suc, nat_lt, cond, true, false, length, take, drop, ◌+◌, List, [], Option, Some, None, refl, sym, ap, ◌∙◌}
+use Rattle.std.proofs.Common.{append-nil, subst, arith, ◌<◌, ◌≡◌, ◌⊎◌, inl, inr, ℕ, zero, suc, nat_lt, cond, true, false, length, take, drop, ◌+◌, List, [], Option, Some, None, refl, sym, ap, ◌∙◌}
 use Rattle.std.specs.Option.{option_map}
-use Rattle.mig_bytes.specs.Judged.{Judged, ◌>>=◌, part, tried, steps}
+use Rattle.mig_bytes.specs.Judged.{Judged, ◌>>=◌, part, tried, placed, steps}
 use Rattle.mig_bytes.specs.Judged.Judged.{Passes, Faulty}
 use Rattle.mig_bytes.proofs.Joins.{both_pass, bind_cases, same_passes, same_faulty, passes_not}
-use Rattle.mig_form.specs.Tests.{first_named, retold_rows}
-use Rattle.mig_form.specs.Form.{FormOf, ◌>>>◌, steps_form, retold, judged_as, judged_then, RefusedAs, BeginsAs}
+use Rattle.mig_form.specs.Tests.{Test, NoneHolds, first_named, retold_rows}
+use Rattle.mig_form.specs.Form.{FormOf, ◌>>>◌, steps_form, retold, placed_form, bytes_form, paired, judged_as, judged_then, SpelledAs, RefusedAs, BeginsAs}
 use Rattle.mig_form.specs.Form.FormOf.{Gives, Part}
+use Rattle.mig_form.specs.Form.SpelledAs.{nothing, one_part}
 use Rattle.mig_form.proofs.Tests.{retold_is}
-use Rattle.mig_form.proofs.Verdicts.{passes_is_spelled, begins_passes, refused_is, is_refused}
+use Rattle.mig_form.proofs.Verdicts.{passes_is_spelled, begins_passes, refused_is, is_refused, never_both}
 
 module _ {C X Y : Type 0} (g : X → FormOf C Y) where
   pub then_judged : (f : FormOf C X) (i : List ℕ) → judged_as (f >>> g) i ≡ judged_then (judged_as f i) g
@@ -58,6 +59,49 @@ module _ {C X Y : Type 0} (f : FormOf C X) (g : X → FormOf C Y) where
   then_refused i mid x c rest first refused =
       is_refused (f >>> g) i c rest (then_judged g f i ∙ ap (λ j. judged_then j g) (begins_passes f i x mid first) ∙ refused_is (g x) mid c rest refused)
 
+-- ---- and what both give
+
+pub gives_begins : {C X : Type 0} (x : X) (i : List ℕ) → BeginsAs {C = C} (Gives x) i x i
+gives_begins x i = ([], refl, nothing x)
+
+pub begins_gives : {C X : Type 0} (x y : X) (i rest : List ℕ) → BeginsAs {C = C} (Gives x) i y rest → (x ≡ y) × (i ≡ rest)
+begins_gives {C} x y i rest begins = same_passes {C = C} x y i rest (sym (begins_passes (Gives x) i x i (gives_begins x i)) ∙ begins_passes (Gives x) i y rest begins)
+
+-- all of these bytes
+pub whole_begins : {C X : Type 0} (f : FormOf C X) (bytes : List ℕ) (x : X) → SpelledAs f bytes x → BeginsAs f bytes x []
+whole_begins f bytes x spelled = (bytes, sym (append-nil bytes), spelled)
+
+-- what gives its bytes
+pub bytes_spelled : {C : Type 0} (truncated : C) (n : ℕ) (rows : List ℕ → List (Test × C)) (bytes x : List ℕ) → SpelledAs (bytes_form truncated n rows) bytes x → (bytes ≡ x) × SpelledAs (bytes_form truncated n rows) x x × (length x ≡ n) × NoneHolds (rows x)
+bytes_spelled truncated n rows _ _ (one_part _ _ _ _ bytes _ _ size none (nothing _)) =
+    let all = append-nil bytes in
+    (all, subst (λ l. SpelledAs (bytes_form truncated n rows) l bytes) all (one_part n truncated rows (λ b. Gives b) bytes [] bytes size none (nothing bytes)), size, none)
+
+module _ {C X Y : Type 0} (f : FormOf C X) (g : X → FormOf C Y) where
+  pub begins_paired : (i : List ℕ) (x : X) (y : Y) (rest : List ℕ) → BeginsAs (paired f g) i (x, y) rest → (mid : List ℕ) × BeginsAs f i x mid × BeginsAs (g x) mid y rest
+  begins_paired i x y rest begins =
+      let b = begins_then f (λ x. g x >>> λ y. Gives (x, y)) i (x, y) rest begins in
+      let d = begins_then (g b.x) (λ y. Gives (b.x, y)) b.mid (x, y) rest b.then in
+      let e = begins_gives (b.x, d.x) (x, y) d.mid rest d.then in
+      let first : b.x ≡ x = ap (λ (p : X × Y). p.0) e.0 in
+      (b.mid, subst (λ z. BeginsAs f i z b.mid) first b.first, subst (λ z. BeginsAs (g x) b.mid z rest) (ap (λ (p : X × Y). p.1) e.0) (subst (λ l. BeginsAs (g x) b.mid d.x l) e.1 (subst (λ z. BeginsAs (g z) b.mid d.x d.mid) first d.first)))
+
+  pub paired_begins : (i mid : List ℕ) (x : X) (y : Y) (rest : List ℕ) → BeginsAs f i x mid → BeginsAs (g x) mid y rest → BeginsAs (paired f g) i (x, y) rest
+  paired_begins i mid x y rest first then =
+      then_begins f (λ x. g x >>> λ y. Gives (x, y)) i mid x (x, y) rest first (then_begins (g x) (λ y. Gives (x, y)) mid rest y (x, y) rest then (gives_begins (x, y) rest))
+
+  pub refused_paired : (i : List ℕ) (c : C) (rest : List ℕ) → RefusedAs (paired f g) i c rest → RefusedAs f i c rest ⊎ ((x : X) × (mid : List ℕ) × BeginsAs f i x mid × RefusedAs (g x) mid c rest)
+  refused_paired i c rest refused = elim (refused_then f (λ x. g x >>> λ y. Gives (x, y)) i c rest refused) [
+    | inl first ↦ inl first
+    | inr a ↦ elim (refused_then (g a.0) (λ y. Gives (a.0, y)) a.1 c rest a.3) [
+      | inl then ↦ inr (a.0, a.1, a.2, then)
+      | inr b ↦ absurd (never_both (Gives (a.0, b.0)) b.1 (a.0, b.0) b.1 c rest (gives_begins (a.0, b.0) b.1) b.3)
+    ]
+  ]
+
+  pub paired_refused : (i mid : List ℕ) (x : X) (c : C) (rest : List ℕ) → BeginsAs f i x mid → RefusedAs (g x) mid c rest → RefusedAs (paired f g) i c rest
+  paired_refused i mid x c rest first refused = then_refused f (λ x. g x >>> λ y. Gives (x, y)) i mid x c rest first (first_refused (g x) (λ y. Gives (x, y)) mid c rest refused)
+
 -- ---- causes told in another way
 
 module _ {C D X : Type 0} (turn : C → D) where
@@ -96,11 +140,24 @@ module _ {C D X : Type 0} (turn : C → D) where
     -- and refused where it was
     pub retold_refused : (d : D) (rest : List ℕ) → RefusedAs (retold turn f) i d rest → (c : C) × (turn c ≡ d) × RefusedAs f i c rest
     retold_refused d rest refused =
-        let (c, is, faulty) = turned_faulty (judged_as f i) d rest (sym (retold_judged f i) ∙ refused_is (retold turn f) i d rest refused) in
-        (c, is, is_refused f i c rest faulty)
+        let (c, is, before) = turned_faulty (judged_as f i) d rest (sym (retold_judged f i) ∙ refused_is (retold turn f) i d rest refused) in
+        (c, is, is_refused f i c rest before)
 
     pub refused_retold : (c : C) (rest : List ℕ) → RefusedAs f i c rest → RefusedAs (retold turn f) i (turn c) rest
     refused_retold c rest refused = is_refused (retold turn f) i (turn c) rest (retold_judged f i ∙ ap turned (refused_is f i c rest refused))
+
+pub placed_judged : {P C X : Type 0} (place : P) (f : FormOf C X) (i : List ℕ) → judged_as (placed_form place f) i ≡ placed place (judged_as f i)
+placed_judged {P} {C} {X} place f i = retold_judged (λ c. (place, c)) f i ∙ by (judged_as f i)
+  where
+    by : (j : Judged C X) → turned (λ c. (place, c)) j ≡ placed place j
+    by (Passes x rest) = refl
+    by (Faulty c rest) = refl
+
+-- what is refused in a form with a place is refused at this place
+pub placed_refused : {P C X : Type 0} (at place : P) (f : FormOf C X) (i : List ℕ) (c : C) (rest : List ℕ) → RefusedAs (placed_form at f) i (place, c) rest → (at ≡ place) × RefusedAs f i c rest
+placed_refused {P} {C} at place f i c rest refused =
+    let (d, is, before) = retold_refused (λ c. (at, c)) f i (place, c) rest refused in
+    (ap (λ (p : P × C). p.0) is, subst (λ (e : C). RefusedAs f i e rest) (ap (λ (p : P × C). p.1) is) before)
 
 -- ---- n forms one behind another
 
@@ -109,3 +166,58 @@ module _ {C X : Type 0} (step : ℕ → X → FormOf C X) where
   unfolding judged_as steps_form steps
   steps_judged zero k x i = refl
   steps_judged (suc n) k x i = then_judged (λ y. steps_form step n (k + 1) y) (step k x) i ∙ (λ at. judged_as (step k x) i >>= λ a. steps_judged n (k + 1) a.0 a.1 at)
+
+  -- behind the first steps the next is refused
+  pub record StepRefused (n k : ℕ) (x : X) (i : List ℕ) (c : C) (rest : List ℕ) : Type 0 where
+    pub m : ℕ
+    pub y : X
+    pub mid : List ℕ
+    pub less : m < n
+    pub before : BeginsAs (steps_form step m k x) i y mid
+    pub refused : RefusedAs (step (k + m) y) mid c rest
+
+  refused_from : (n k : ℕ) (x : X) (i : List ℕ) (c : C) (rest : List ℕ) → RefusedAs (steps_form step n k x) i c rest → StepRefused n k x i c rest
+  unfolding steps_form
+  refused_from zero k x i c rest refused = absurd (never_both (Gives x) i x i c rest (gives_begins x i) refused)
+  refused_from (suc n) k x i c rest refused = elim (refused_then (step k x) (steps_form step n (k + 1)) i c rest refused) [
+    | inl first ↦
+        let none : k ≡ k + 0 = omega arith in
+        record { m = 0; y = x; mid = i; less = omega arith; before = gives_begins x i; refused = subst (λ l. RefusedAs (step l x) i c rest) none first }
+    | inr a ↦
+        let s = refused_from n (k + 1) a.0 a.1 c rest a.3 in
+        let same : (k + 1) + s.m ≡ k + suc s.m = omega arith in
+        let less = s.less in
+        record { m = suc s.m; y = s.y; mid = s.mid; less = omega (arith, less); before = then_begins (step k x) (steps_form step s.m (k + 1)) i a.1 a.0 s.y s.mid a.2 s.before; refused = subst (λ l. RefusedAs (step l s.y) s.mid c rest) same s.refused }
+  ]
+
+  from_refused : (m n k : ℕ) (x y : X) (i mid : List ℕ) (c : C) (rest : List ℕ) → m < n → BeginsAs (steps_form step m k x) i y mid → RefusedAs (step (k + m) y) mid c rest → RefusedAs (steps_form step n k x) i c rest
+  unfolding steps_form
+  from_refused m zero k x y i mid c rest less before refused = absurd (omega (arith, less))
+  from_refused zero (suc n) k x y i mid c rest less before refused =
+      let none : k + 0 ≡ k = omega arith in
+      let e = begins_gives {C = C} x y i mid before in
+      first_refused (step k x) (steps_form step n (k + 1)) i c rest (subst (λ l. RefusedAs (step k x) l c rest) (sym e.1) (subst (λ z. RefusedAs (step k z) mid c rest) (sym e.0) (subst (λ l. RefusedAs (step l y) mid c rest) none refused)))
+  from_refused (suc m) (suc n) k x y i mid c rest less before refused =
+      let b = begins_then (step k x) (steps_form step m (k + 1)) i y mid before in
+      let same : k + suc m ≡ (k + 1) + m = omega arith in
+      then_refused (step k x) (steps_form step n (k + 1)) i b.mid b.x c rest b.first (from_refused m n (k + 1) b.x y b.mid mid c rest (omega (arith, less)) b.then (subst (λ l. RefusedAs (step l y) mid c rest) same refused))
+
+  -- of n steps from 0 on the one that is refused is that of the number of those before it
+  pub steps_refused : (n : ℕ) (x : X) (i : List ℕ) (c : C) (rest : List ℕ) → RefusedAs (steps_form step n 0 x) i c rest → (m : ℕ) × (y : X) × (mid : List ℕ) × (m < n) × BeginsAs (steps_form step m 0 x) i y mid × RefusedAs (step m y) mid c rest
+  steps_refused n x i c rest refused =
+      let s = refused_from n 0 x i c rest refused in
+      let same : 0 + s.m ≡ s.m = omega arith in
+      (s.m, s.y, s.mid, s.less, s.before, subst (λ l. RefusedAs (step l s.y) s.mid c rest) same s.refused)
+
+  pub refused_steps : (m n : ℕ) (x y : X) (i mid : List ℕ) (c : C) (rest : List ℕ) → m < n → BeginsAs (steps_form step m 0 x) i y mid → RefusedAs (step m y) mid c rest → RefusedAs (steps_form step n 0 x) i c rest
+  refused_steps m n x y i mid c rest less before refused = let same : m ≡ 0 + m = omega arith in from_refused m n 0 x y i mid c rest less before (subst (λ l. RefusedAs (step l y) mid c rest) same refused)
+
+-- ---- judged as a form
+
+-- one after another, where each is judged so
+pub then_is : {C X Y : Type 0} (f : FormOf C X) (g : X → FormOf C Y) (i : List ℕ) (j : Judged C X) (k : X × List ℕ → Judged C Y) → judged_as f i ≡ j → ((x : X) (mid : List ℕ) → judged_as (g x) mid ≡ k (x, mid)) → judged_as (f >>> g) i ≡ (j >>= k)
+then_is f g i j k first then = then_judged g f i ∙ (λ at. first at >>= λ a. then a.0 a.1 at)
+
+-- steps, where each is judged so
+pub steps_are : {C X : Type 0} (step : ℕ → X → FormOf C X) (judge : ℕ → X → List ℕ → Judged C X) (n : ℕ) (x : X) (i : List ℕ) → ((k : ℕ) (y : X) (mid : List ℕ) → judged_as (step k y) mid ≡ judge k y mid) → judged_as (steps_form step n 0 x) i ≡ steps judge n 0 x i
+steps_are step judge n x i same = steps_judged step n 0 x i ∙ (λ at. steps (λ k y mid. same k y mid at) n 0 x i)

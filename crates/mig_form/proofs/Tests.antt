@@ -1,10 +1,12 @@
 -- What a test gives is what its condition says; and so for a table of them.
-use Rattle.std.proofs.Common.{◌≡◌, ◌⊎◌, inl, inr, ◌<◌, Bool, true, false, cond, not, nat_eq, nat_lt, ◌&&◌, ◌||◌, List, [], ◌∷◌, Option, Some, None, refl, ap, subst, arith, ltb-true, ltb-false, eqb-true}
-use Rattle.std.proofs.lemmas.Bool.{eqb-false, false≢true}
+use Rattle.std.proofs.Common.{ℕ, ◌≡◌, ◌⊎◌, inl, inr, ◌<◌, ◌≤◌, Bool, true, false, cond, not, nat_eq, nat_le, nat_lt, ◌&&◌, ◌||◌, List, [], ◌∷◌, Option, Some, None, refl, ap, subst, arith, ltb-true, ltb-false, eqb-true, leb-true}
+use Rattle.std.proofs.lemmas.Bool.{and_parts, eqb-false, leb-false, false≢true}
 use Rattle.std.specs.Option.{option_map}
-use Rattle.mig_form.specs.Tests.{Test, Holding, is_passed, first_named, NoneHolds, NamedIn, retold_rows}
-use Rattle.mig_form.specs.Tests.Test.{Less, Equal, Is, Not, Both, Either}
+use Rattle.mig_form.specs.Tests.{Test, Holding, is_passed, first_named, NoneHolds, NamedIn, HasIn, is_ascending, retold_rows}
+use Rattle.mig_form.specs.Tests.Test.{Less, AtMost, Equal, Is, Not, Both, Either}
 use Rattle.mig_form.specs.Tests.NamedIn.{this, later}
+use Rattle.mig_form.specs.Tests.HasIn.{here, there}
+use Rattle.std.specs.List.{list_all}
 
 -- a truth value tells whether A
 abbrev Told : Type 0 → Bool → Type 0
@@ -32,6 +34,11 @@ is_told (Less a b) = by (nat_lt a b) refl
     by : (c : Bool) → nat_lt a b ≡ c → Told (a < b) c
     by true is = ltb-true a b is
     by false is = λ less. let least = ltb-false a b is in omega (arith, less, least)
+is_told (AtMost a b) = by (nat_le a b) refl
+  where
+    by : (c : Bool) → nat_le a b ≡ c → Told (a ≤ b) c
+    by true is = leb-true a b is
+    by false is = λ least. let less = leb-false a b is in omega (arith, less, least)
 is_told (Equal a b) = by (nat_eq a b) refl
   where
     by : (c : Bool) → nat_eq a b ≡ c → Told (a ≡ b) c
@@ -89,6 +96,18 @@ module _ {C : Type 0} where
       by : (o : Option C) → RowsTold rows o → o ≡ Some c
       by None told = absurd (none_named rows c told named)
       by (Some d) told = ap Some (one_named rows d c told named)
+
+-- in a table in the order of numbers the cause that is named has the least number of those that stand
+module _ {C : Type 0} (number : C → ℕ) where
+  below : (n : ℕ) (rows : List (Test × C)) (d : C) → list_all (λ row. nat_lt n (number row.1)) rows ≡ true → HasIn rows d → n < number d
+  below n _ d all (here t c rows holds) = ltb-true n (number c) (and_parts _ _ all).0
+  below n _ d all (there row c rows has) = below n rows c (and_parts _ _ all).1 has
+
+  pub least_named : (rows : List (Test × C)) (c d : C) → is_ascending number rows ≡ true → NamedIn rows c → HasIn rows d → number c ≤ number d
+  least_named _ _ _ asc (this t c rows holds) (here _ _ _ other) = omega arith
+  least_named _ _ _ asc (this t c rows holds) (there _ d _ has) = let less = below (number c) rows d (and_parts _ _ asc).0 has in omega (arith, less)
+  least_named _ _ _ asc (later t c d rows never named) (here _ _ _ holds) = absurd (never holds)
+  least_named _ _ _ asc (later t c d rows never named) (there _ e _ has) = least_named rows d e (and_parts _ _ asc).1 named has
 
 -- rows told in another way
 module _ {C D : Type 0} (turn : C → D) where

@@ -3,7 +3,7 @@ use Rattle.std.proofs.Common.{◌≡◌, ◌⊎◌, inl, inr, ℕ, List, [], ◌
 use Rattle.std.specs.Prelude.{◌↔◌}
 use Rattle.mig_bytes.specs.Judged.{Judged, ◌>>=◌, part, tried}
 use Rattle.mig_bytes.specs.Judged.Judged.{Passes, Faulty}
-use Rattle.mig_bytes.proofs.Joins.{both_pass, part_passes, part_whole, same_passes, same_faulty, then_passes, tried_none, tried_passes, passes_not}
+use Rattle.mig_bytes.proofs.Joins.{both_pass, part_passes, part_whole, same_passes, same_faulty, then_passes, tried_none, passes_not}
 use Rattle.mig_form.specs.Tests.{Test, first_named, NoneHolds}
 use Rattle.mig_form.specs.Form.{FormOf, judged_as, SpelledAs, RefusedAs, BeginsAs}
 use Rattle.mig_form.specs.Form.FormOf.{Gives, Part}
@@ -25,6 +25,15 @@ module _ {C X : Type 0} where
   spelled_passes _ _ _ rest (one_part n truncated rows next bytes more x size none after) =
       ap (judged_as (Part n truncated rows next)) (append_assoc bytes more rest) ∙ part_goes n truncated rows next bytes (more ++ rest) size none ∙ spelled_passes (next bytes) more x rest after
 
+  -- a part without fault, and what is spelled behind it
+  begins_part : (n : ℕ) (truncated : C) (rows : List ℕ → List (Test × C)) (next : List ℕ → FormOf C X) (bytes mid i : List ℕ) (x : X) (rest : List ℕ) → i ≡ bytes ++ mid → length bytes ≡ n → NoneHolds (rows bytes) → BeginsAs (next bytes) mid x rest → BeginsAs (Part n truncated rows next) i x rest
+  begins_part n truncated rows next bytes mid i x rest whole size none (more, is, after) =
+      (bytes ++ more, whole ∙ ap (λ l. bytes ++ l) is ∙ sym (append_assoc bytes more rest), one_part n truncated rows next bytes more x size none after)
+
+  no_cause : (o : Option C) (mid : List ℕ) (j : Judged C X) (x : X) (rest : List ℕ) → (tried o mid >>= λ _. j) ≡ Passes x rest → (o ≡ None) × (j ≡ Passes x rest)
+  no_cause None mid j x rest h = (refl, h)
+  no_cause (Some c) mid j x rest h = passes_not x rest c mid (sym h)
+
   -- what passes is spelled
   pub passes_is_spelled : (f : FormOf C X) (i : List ℕ) (x : X) (rest : List ℕ) → judged_as f i ≡ Passes x rest → BeginsAs f i x rest
   unfolding judged_as
@@ -32,14 +41,8 @@ module _ {C X : Type 0} where
   passes_is_spelled (Part n truncated rows next) i x rest h =
       let a = both_pass (part truncated n i) (λ p. tried (first_named (rows p.0)) p.1 >>= λ _. judged_as (next p.0) p.1) x rest h in
       let p = part_passes truncated n i a.x a.mid a.first in
-      let b = both_pass (tried (first_named (rows a.x)) a.mid) (λ u. judged_as (next a.x) u.1) x rest (again (first_named (rows a.x)) a.mid (judged_as (next a.x)) ∙ a.second) in
-      let t = tried_passes (first_named (rows a.x)) a.mid b.mid b.x b.first in
-      let (bytes, is, after) = passes_is_spelled (next a.x) b.mid x rest b.second in
-      (a.x ++ bytes, p.0 ∙ ap (λ l. a.x ++ l) (t.1 ∙ is) ∙ sym (append_assoc a.x bytes rest), one_part n truncated rows next a.x bytes x p.1 (is_none (rows a.x) t.0) after)
-    where
-      again : (o : Option C) (mid : List ℕ) (g : List ℕ → Judged C X) → (tried o mid >>= λ u. g u.1) ≡ (tried o mid >>= λ _. g mid)
-      again None mid g = refl
-      again (Some c) mid g = refl
+      let t = no_cause (first_named (rows a.x)) a.mid (judged_as (next a.x) a.mid) x rest a.second in
+      begins_part n truncated rows next a.x a.mid i x rest p.0 p.1 (is_none (rows a.x) t.0) (passes_is_spelled (next a.x) a.mid x rest t.1)
 
   pub passes_spelled : (f : FormOf C X) (i : List ℕ) (x : X) (rest : List ℕ) → (judged_as f i ≡ Passes x rest) ↔ BeginsAs f i x rest
   passes_spelled f i x rest = (passes_is_spelled f i x rest, λ (bytes, is, spelled). ap (judged_as f) is ∙ spelled_passes f bytes x rest spelled)

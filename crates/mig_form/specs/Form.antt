@@ -9,11 +9,19 @@ pub data FormOf (C X : Type 0) : Type 0 where
   Gives : X → FormOf C X
   Part : ℕ → C → (List ℕ → List (Test × C)) → (List ℕ → FormOf C X) → FormOf C X
 
+-- a part that gives its bytes
+abbrev pub bytes_form : {C : Type 0} → C → ℕ → (List ℕ → List (Test × C)) → FormOf C (List ℕ)
+bytes_form truncated n rows = Part n truncated rows (λ bytes. Gives bytes)
+
 infixl 10 ◌>>>◌
 -- one form behind another
 unfoldable pub ◌>>>◌ : {C X Y : Type 0} → FormOf C X → (X → FormOf C Y) → FormOf C Y
 (Gives x) >>> g = g x
 (Part n truncated rows next) >>> g = Part n truncated rows (λ bytes. next bytes >>> g)
+
+-- and what both give
+abbrev pub paired : {C X Y : Type 0} → FormOf C X → (X → FormOf C Y) → FormOf C (X × Y)
+paired f g = f >>> λ x. g x >>> λ y. Gives (x, y)
 
 -- n forms one behind another, each with what the one before gave; they are numbered from k on
 unfoldable pub steps_form : {C X : Type 0} → (ℕ → X → FormOf C X) → ℕ → ℕ → X → FormOf C X
@@ -24,6 +32,10 @@ steps_form step (suc n) k x = step k x >>> λ y. steps_form step n (k + 1) y
 unfoldable pub retold : {C D X : Type 0} → (C → D) → FormOf C X → FormOf D X
 retold turn (Gives x) = Gives x
 retold turn (Part n truncated rows next) = Part n (turn truncated) (λ bytes. retold_rows turn (rows bytes)) (λ bytes. retold turn (next bytes))
+
+-- with a place
+abbrev pub placed_form : {P C X : Type 0} → P → FormOf C X → FormOf (P × C) X
+placed_form place f = retold (λ c. (place, c)) f
 
 -- ---- judging
 

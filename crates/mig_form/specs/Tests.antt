@@ -1,8 +1,10 @@
 -- Conditions with two readings: what they say, and the test of it; and tables of them, a row for each cause.
-use Rattle.std.specs.Prelude.{◌≡◌, ◌⊎◌, ℕ, ◌<◌, Bool, true, List, [], ◌∷◌, Option, Some, None, ◌==◌, ◌&&◌, ◌||◌, not, nat_lt, if◌then◌else◌}
+use Rattle.std.specs.List.{list_all}
+use Rattle.std.specs.Prelude.{◌≡◌, ◌⊎◌, ℕ, ◌<◌, ◌≤◌, Bool, true, List, [], ◌∷◌, Option, Some, None, ◌==◌, ◌&&◌, ◌||◌, not, nat_le, nat_lt, if◌then◌else◌}
 
 pub data Test : Type 0 where
   Less : ℕ → ℕ → Test
+  AtMost : ℕ → ℕ → Test
   Equal : ℕ → ℕ → Test
   Is : Bool → Test
   Not : Test → Test
@@ -12,6 +14,7 @@ pub data Test : Type 0 where
 -- what it says
 abbrev pub Holding : Test → Type 0
 Holding (Less a b) = a < b
+Holding (AtMost a b) = a ≤ b
 Holding (Equal a b) = a ≡ b
 Holding (Is b) = b ≡ true
 Holding (Not t) = Holding t → ⊥
@@ -21,6 +24,7 @@ Holding (Either s t) = Holding s ⊎ Holding t
 -- whether it passes
 abbrev pub is_passed : Test → Bool
 is_passed (Less a b) = nat_lt a b
+is_passed (AtMost a b) = nat_le a b
 is_passed (Equal a b) = a == b
 is_passed (Is b) = b
 is_passed (Not t) = not (is_passed t)
@@ -47,3 +51,15 @@ pub data NamedIn {C : Type 0} : List (Test × C) → C → Type 0 where
 abbrev pub retold_rows : {C D : Type 0} → (C → D) → List (Test × C) → List (Test × D)
 retold_rows turn [] = []
 retold_rows turn (row ∷ rows) = (row.0, turn row.1) ∷ retold_rows turn rows
+
+-- ---- in the order of numbers
+
+-- some row that holds has this cause
+pub data HasIn {C : Type 0} : List (Test × C) → C → Type 0 where
+  here : (t : Test) (c : C) (rows : List (Test × C)) → Holding t → HasIn ((t, c) ∷ rows) c
+  there : (row : Test × C) (c : C) (rows : List (Test × C)) → HasIn rows c → HasIn (row ∷ rows) c
+
+-- the number of each row's cause is below those of the rows behind it
+abbrev pub is_ascending : {C : Type 0} → (C → ℕ) → List (Test × C) → Bool
+is_ascending number [] = true
+is_ascending number (row ∷ rows) = list_all (λ other. nat_lt (number row.1) (number other.1)) rows && is_ascending number rows

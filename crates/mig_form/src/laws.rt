@@ -1,5 +1,6 @@
-ghost use Rattle.std.specs.Prelude.{◌≡◌, ◌⊎◌, ◌↔◌, ℕ, List};
+ghost use Rattle.std.specs.Prelude.{◌≡◌, ◌⊎◌, ◌↔◌, ◌≤◌, ℕ, List, true};
 ghost use Rattle.mig_bytes.specs.Judged.Judged.{Passes, Faulty};
+ghost use Rattle.mig_form.specs.Tests.{Test, HasIn, NamedIn, is_ascending};
 ghost use Rattle.mig_form.specs.Form.{FormOf, ◌>>>◌, judged_as, judged_then, RefusedAs, BeginsAs};
 
 /// Judging passes exactly where a front of the input spells the form.
@@ -33,4 +34,10 @@ pub fn one_refusal<C, X>()
 #[tactic(auto, using(crate::proofs::Joined::then_judged))]
 pub fn then_judged<C, X, Y>()
     ensures { (f : FormOf C X) (g : X → FormOf C Y) (input : List ℕ) → judged_as (f >>> g) input ≡ judged_then (judged_as f input) g }
+{}
+
+/// In a table in the order of the causes' numbers the cause that is named has the least number of those that stand.
+#[tactic(auto, using(crate::proofs::Tests::least_named))]
+pub fn named_is_least<C>()
+    ensures { (number : C → ℕ) (rows : List (Test × C)) (c d : C) → is_ascending number rows ≡ true → NamedIn rows c → HasIn rows d → number c ≤ number d }
 {}

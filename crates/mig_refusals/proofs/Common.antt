@@ -1,32 +1,29 @@
 -- Names that the proofs of this crate use of other crates, and its own definitions.
-pub use Rattle.std.proofs.Common.{Bool, Err, IsSome, List, None, Ok, Option, Result, Some, [], ap, append-nil, append_assoc, arith, cond, drop, drop-drop, false, inl, inr, is_none, is_some, le_refl, length, length-append, length-drop, length-take-le, ltb-false, nat_eq, nat_le, nat_lt, not, refl, slice_index, subst, suc, sym, take, take-append-drop, true, zero, ℕ, ◌*◌, ◌++◌, ◌+◌, ◌-◌, ◌/◌, ◌<◌, ◌^◌, ◌∙◌, ◌∷◌, ◌≡◌, ◌≤◌, ◌⊎◌, ◌%◌}
+pub use Rattle.std.proofs.Common.{Bool, Err, IsSome, List, None, Ok, Option, Result, Some, [], ap, append-nil, append_assoc, arith, cond, drop, drop-drop, false, inl, inr, is_none, is_some, length, length-append, length-drop, length-take-le, ltb-false, nat_eq, nat_le, nat_lt, not, refl, slice_index, subst, suc, sym, take, take-append-drop, true, zero, ℕ, ◌*◌, ◌++◌, ◌+◌, ◌-◌, ◌/◌, ◌<◌, ◌^◌, ◌∙◌, ◌∷◌, ◌≡◌, ◌≤◌, ◌⊎◌}
 pub use Rattle.std.proofs.Math.Seq.{drop-append_seam, take-append_seam}
-pub use Rattle.std.proofs.lemmas.Bool.{agree_below_at, and_from, and_left, and_parts, and_right, both_ways, cases_eq, cases_lt, cases_order, eq-eqb, eqb-false, eqb-true, false≢true, le-leb, le-ltb, leb-false, leb-true, lt-leb, lt-ltb, ltb-true, ne_eqb, not-false, not-true, not_from_false, or_cases, or_left, or_right}
+pub use Rattle.std.proofs.lemmas.Bool.{agree_below_at, and_from, and_parts, both_ways, cases_eq, cases_lt, cases_order, eq-eqb, eqb-false, eqb-true, false≢true, le-leb, le-ltb, leb-false, leb-true, lt-leb, lt-ltb, ltb-true, ne_eqb, not-false, not-true, not_from_false, or_cases, or_left, or_right}
 pub use Rattle.std.proofs.lemmas.Grind.{common_steps}
-pub use Rattle.std.proofs.lemmas.List.{append_cancel_right, nil_from_length}
-pub use Rattle.std.proofs.lemmas.List.Elements.{All-append, All-from_recursion, All-head, All-tail, recursion_from_All}
-pub use Rattle.std.proofs.lemmas.List.Folds.{list_all_at, list_any_at}
+pub use Rattle.std.proofs.lemmas.List.{append_cancel_right}
+pub use Rattle.std.proofs.lemmas.List.Elements.{All-append, All-from_recursion, recursion_from_All}
+pub use Rattle.std.proofs.lemmas.List.Folds.{list_any_at}
 pub use Rattle.std.proofs.lemmas.List.FromFn.{get_or-range_with_len, length-range_with_len}
 pub use Rattle.std.proofs.lemmas.Option.{none-some, same_Some}
 pub use Rattle.std.proofs.lemmas.Slice.Eq.{bytes_eq-Decides}
 pub use Rattle.std.specs.Cmp.{IsTotalOrder, nat_cmp_total, ranked}
 pub use Rattle.std.specs.FinMap.{FinMap, IsAntisymmetric, nat_cmp-IsAntisymmetric}
-pub use Rattle.std.specs.FinMap.Entries.{below_all, is_sorted}
-pub use Rattle.std.specs.List.{All, flat_map, list_all, list_any, range_with_len}
+pub use Rattle.std.specs.List.{flat_map, list_any, range_with_len}
 pub use Rattle.std.specs.Option.{option_map, option_or}
-pub use Rattle.std.specs.Ordering.{eq_by_cmp, is_lt, ordering_reverse}
-pub use Rattle.std.specs.Prelude.{T, filter, find, unwrap_or, ◌&&◌, ◌==◌, ◌||◌}
+pub use Rattle.std.specs.Prelude.{find, ◌&&◌, ◌==◌, ◌||◌}
 pub use Rattle.std.specs.Result.{is_err}
 pub use Rattle.std.specs.Str.{bytes_eq}
 pub use Rattle.std.specs.declared.cmp.Ordering.{Ordering}
-pub use Rattle.std.specs.declared.cmp.Ordering.TheVariants.{Equal, Greater, Less}
+pub use Rattle.std.specs.declared.cmp.Ordering.TheVariants.{Less}
 pub use Rattle.byteorder.specs.Endian.{little_bytes, little_number}
 pub use Rattle.mig_bytes.proofs.ByteLists.{bytes_back, bytes_front}
 pub use Rattle.mig_bytes.proofs.Failing.{Names, fails_is, is_fails}
 pub use Rattle.mig_bytes.proofs.Joins.{bind_cases, both_pass, only_first, part_passes, part_whole, passes_not, placed_faulty, placed_passes, same_faulty, same_passes, then_faulty, then_passes, tried_none, tried_passes}
-pub use Rattle.mig_bytes.proofs.Said.{bytes_pass, said_goes, said_passes}
+pub use Rattle.mig_bytes.proofs.Said.{said_goes, said_passes}
 pub use Rattle.mig_bytes.proofs.Sequences.{accepted_spelled, refused_stops, spelled_accepted, spelled_refused}
-pub use Rattle.mig_bytes.proofs.Steps.{steps_more, steps_stop}
 pub use Rattle.mig_bytes.proofs.Walks.{walk_end_reached}
 pub use Rattle.mig_bytes.specs.Bytes.{AreBytes, IsLeastPadding, padding_len}
 pub use Rattle.mig_bytes.specs.Failing.{Fails, IsFaultless}
@@ -43,15 +40,12 @@ pub use Rattle.mig_headers.proofs.Chains.{chain_more, gone, none_of, not_last, s
 pub use Rattle.mig_headers.proofs.ContextTexts.{in32}
 pub use Rattle.mig_headers.proofs.FirstCauses.{ascends, is_named, join, none_is, rows_name}
 pub use Rattle.mig_headers.proofs.FirstFaults.{both_none, neither_some, rows_fine}
-pub use Rattle.mig_headers.proofs.KindNumbers.{kind_back}
-pub use Rattle.mig_headers.proofs.PairTexts.{canonical_pairs_are_computed}
 pub use Rattle.mig_headers.proofs.RecordNumbers.{numbers_are_inverse}
 unfoldable pub use Rattle.mig_headers.specs.Contexts.{after_entry, fault_at, scan}
 pub use Rattle.mig_headers.specs.Contexts.{ChainTo, Scanned, entry_end, is_last, scan_at}
 pub use Rattle.mig_headers.specs.FirstCauses.{IsEarlier, IsTriedFirst}
-pub use Rattle.mig_headers.specs.Headers.{domain_rows, fault_of_domain, fault_of_image, fault_of_libxl, fault_of_marker, image_rows, is_from_legacy, kind_number, kind_of_number, libxl_ident, libxl_rows, marker_rows}
-pub use Rattle.mig_headers.specs.CauseNumbers.{number_of_cause, number_of_image_cause, number_of_legacy_cause}
-pub use Rattle.mig_headers.specs.Pairs.{AreCanonicalPairs, are_canonical_pairs}
+pub use Rattle.mig_headers.specs.Headers.{domain_rows, fault_of_domain, fault_of_image, fault_of_libxl, fault_of_marker, image_rows, is_from_legacy, kind_of_number, libxl_ident, libxl_rows, marker_rows}
+pub use Rattle.mig_headers.specs.CauseNumbers.{number_of_cause, number_of_legacy_cause}
 pub use Rattle.mig_headers.specs.RecordTypes.{is_optional, pv, record_row_of, type_number, type_of_number}
 pub use Rattle.mig_headers.specs.Rows.{first_fault}
 pub use Rattle.mig_headers.specs.declared.fault.Cause.{Cause}
@@ -61,7 +55,6 @@ pub use Rattle.mig_headers.specs.declared.fault.ContextFault.TheVariants.{Header
 pub use Rattle.mig_headers.specs.declared.fault.Place.{Place}
 pub use Rattle.mig_headers.specs.declared.fault.Place.TheVariants.{DomainHeader, ImageHeader, LibxlHeader, LibxlRecord as AtRecord, Record}
 pub use Rattle.mig_headers.specs.declared.image_fault.ImageCause.{ImageCause}
-pub use Rattle.mig_headers.specs.declared.image_fault.ImageCause.TheVariants.{BadPageType as ImageBadPageType, PartBytes, PartLength, PartMany, PartOrder, PartPadding, Truncated as ImageTruncated, ZeroPage}
 pub use Rattle.mig_headers.specs.declared.image_fault.ImagePlace.{ImagePlace}
 pub use Rattle.mig_headers.specs.declared.kind.Kind.{Kind}
 pub use Rattle.mig_headers.specs.declared.kind.Kind.TheVariants.{Hvm, Pv}
@@ -70,25 +63,20 @@ pub use Rattle.mig_headers.specs.declared.legacy_fault.LegacyCause.TheVariants.{
 pub use Rattle.mig_headers.specs.declared.legacy_fault.LegacyPlace.{LegacyPlace}
 pub use Rattle.mig_headers.specs.declared.record_type.RecordType.{RecordType}
 pub use Rattle.mig_headers.specs.declared.record_type.RecordType.TheVariants.{End, PageData, StaticDataEnd, Verify, X86PvInfo, X86PvP2mFrames}
-pub use Rattle.mig_pagetypes.proofs.Numbers.{type_back}
 pub use Rattle.mig_pagetypes.specs.FrameWords.{word_has_data, word_pfn, word_type}
 pub use Rattle.mig_pagetypes.specs.LegacyWords.{legacy_type}
 pub use Rattle.mig_pagetypes.specs.Limits.{most_frames, top_limit}
-pub use Rattle.mig_pagetypes.specs.PageTypes.{all_types, level_of, number_of, type_has_data, type_of, type_or_none}
+pub use Rattle.mig_pagetypes.specs.PageTypes.{level_of}
 pub use Rattle.mig_pagetypes.specs.declared.page_type.PageType.{PageType}
-pub use Rattle.mig_pagetypes.specs.declared.page_type.PageType.TheVariants.{Broken, L1Pinned, L1Tab, L2Pinned, L2Tab, L3Pinned, L3Tab, L4Pinned, L4Tab, Notab, Xalloc, Xtab}
-pub use Rattle.mig_guest.proofs.Found.{all_found}
-pub use Rattle.mig_guest.proofs.KeyedMaps.{tied}
-pub use Rattle.mig_guest.proofs.PartCursor.{both_of, less, true_of}
+pub use Rattle.mig_pagetypes.specs.declared.page_type.PageType.TheVariants.{L4Pinned, L4Tab, Notab}
 pub use Rattle.mig_guest.proofs.PartOrder.{part_exact, part_total}
 pub use Rattle.mig_guest.specs.Formed.{gdt_ents}
-pub use Rattle.mig_guest.specs.Frames.{is_type_of}
 pub use Rattle.mig_guest.specs.Frames.{FrameMap, FrameOf}
 pub use Rattle.mig_guest.specs.Guests.{GuestOf}
-pub use Rattle.mig_guest.specs.Hosts.{HostFrame, HostOf, IsValid, machine_limit}
+pub use Rattle.mig_guest.specs.Hosts.{HostOf, IsValid}
 pub use Rattle.mig_guest.specs.Longs.{long_at}
-pub use Rattle.mig_guest.specs.Order.{IsAbove, part_cmp}
-pub use Rattle.mig_guest.specs.PartCodes.{code_number, code_of_number, row_of}
+pub use Rattle.mig_guest.specs.Order.{part_cmp}
+pub use Rattle.mig_guest.specs.PartCodes.{code_number}
 pub use Rattle.mig_guest.specs.PartKeys.{context_key, p2m_key, shared_key, vcpu_key}
 pub use Rattle.mig_guest.specs.Parts.{PartMap}
 unfoldable pub use Rattle.mig_guest.specs.Tables.{entry_of as table_entry_of}
@@ -115,8 +103,6 @@ pub use Rattle.mig_policy.specs.PairFaults.{IsBadKeyAt, IsFirstFault, IsTornAt, 
 pub use Rattle.mig_policy.specs.PairMaps.{pairs_in}
 pub use Rattle.mig_pvtables.proofs.HvmGuests.{hvm_fault}
 pub use Rattle.mig_pvtables.proofs.PvGuests.{counted}
-pub use Rattle.mig_pvtables.proofs.Searches.{find_in_range}
-pub use Rattle.mig_pvtables.proofs.Slots.{found_in_range}
 unfoldable pub use Rattle.mig_pvtables.specs.Faults.{field_numbers, slots}
 pub use Rattle.mig_pvtables.specs.Faults.{fault_of_guest, faults_for, find_entry, find_field, find_p2m, find_slot, first_cause, first_some, fits_field, is_absent, is_misplaced, is_needed, is_notab, is_root, is_this, misfits, type_at}
 pub use Rattle.mig_pvtables.specs.P2mFrames.{count_in, listed}
@@ -135,7 +121,7 @@ pub use Rattle.mig_restore.specs.Record.{Content, FrameEntry, StreamRecord, is_e
 pub use Rattle.mig_restore.specs.Record.Content.{Frames, Nothing, Sets}
 pub use Rattle.mig_restore.specs.Spelled.{Accepted, AreEntries, Follows, IsEntry}
 unfoldable pub use Rattle.mig_restore.specs.Stream.{image_at, opening_at}
-pub use Rattle.mig_restore.specs.Stream.{ImageOf, IsRefused, image_of, kind_at, marker_at, placed_next, records_at, version_at}
+pub use Rattle.mig_restore.specs.Stream.{ImageOf, IsRefused, image_of, placed_next, records_at}
 pub use Rattle.mig_libxl.proofs.Bodies.{FineFields, body_goes as libxl_body_goes, body_says as libxl_body_says, fields_fine as libxl_fields_fine, has_no_image}
 pub use Rattle.mig_libxl.proofs.Forms.{behind_header}
 pub use Rattle.mig_libxl.proofs.Laws.{Ident, header_goes, ident_of, is_header, libxl_goes}
@@ -169,7 +155,7 @@ unfoldable pub use Rattle.mig_chunks.specs.Judged.{entry_fault, toolstack_fault}
 pub use Rattle.mig_chunks.specs.Judged.{entries_fault, entry_len, is_name, name_at, name_in, name_len, toolstack}
 unfoldable pub use Rattle.mig_legacy.specs.Judging.{chunk_at, device_at, fault_of_kind, tail_at}
 pub use Rattle.mig_legacy.specs.Judging.{allowed, batch_at, chunk_content_at, chunk_kind_at, clock_of, context_fault, device_record_at, fault_of_counted, fault_of_max, fault_of_signature, fault_of_start, fault_of_toolstack, frames_sent, is_modern, is_unpaired, kind_rows, legacy_words_at, length_at, or_truncated, pairs_of_toolstack, signature, start_at, tail_of, vcpus_at}
-pub use Rattle.mig_legacy.specs.Legacy.{LegacyChunk, LegacyContent, LegacyStream, LegacyTail, has_value, image_records, is_end, is_legacy_ended, store_key, store_records}
+pub use Rattle.mig_legacy.specs.Legacy.{LegacyChunk, LegacyContent, LegacyTail, has_value, image_records, is_end, is_legacy_ended, store_key, store_records}
 pub use Rattle.mig_legacy.specs.Legacy.LegacyContent.{Clock, Frames as LegacyFrames, Nothing as LegacyNothing, Pairs, Value}
 pub use Rattle.mig_legacy.specs.Spelled.{AcceptedLegacy, FollowsLegacy, IsStart}
 unfoldable pub use Rattle.mig_legacy.specs.Stream.{legacy_at}
@@ -179,28 +165,23 @@ pub use Rattle.mig_chunks.specs.Toolstack.{IsName, IsPhysmapHead, Physmap, name_
 pub use Rattle.mig_chunks.specs.declared.chunk.ChunkKind.{ChunkKind}
 pub use Rattle.mig_chunks.specs.declared.chunk.ChunkKind.TheVariants.{Batch, End as LastChunk}
 pub use Rattle.mig_image.proofs.Chains.{put_all}
-pub use Rattle.mig_image.proofs.FieldBytes.{regroup}
-pub use Rattle.mig_image.proofs.FrameHeads.{page_if}
-pub use Rattle.mig_image.proofs.Frames.{behind_frame_head, frame_entries, frames_back as frames_said, frames_valid}
+pub use Rattle.mig_image.proofs.Frames.{frame_entries, frames_back as frames_said, frames_valid}
 pub use Rattle.mig_host.proofs.HostsMade.{valid_empty}
 pub use Rattle.mig_image.proofs.ImageBack.{image_back}
 pub use Rattle.mig_image.proofs.ImageReads.{image_reads}
-pub use Rattle.mig_host.proofs.InOrder.{all_there, found_passes, no_entries, some_entry}
-pub use Rattle.mig_image.proofs.KeyTests.{part_there}
-pub use Rattle.mig_image.proofs.Parts.{behind_bytes, behind_part_head, part_entries, parts_back as parts_said, parts_valid, with_parts}
+pub use Rattle.mig_host.proofs.InOrder.{no_entries}
+pub use Rattle.mig_image.proofs.Parts.{part_entries, parts_back as parts_said, parts_valid, with_parts}
 unfoldable pub use Rattle.mig_image.specs.Image.{host_head, image}
-pub use Rattle.mig_image.specs.Image.{IsHostImage, IsHostImageUpTo, frame_text, is_all_zero, is_left_out, leaves_out, most_width_of, part_text}
+pub use Rattle.mig_image.specs.Image.{IsHostImageUpTo, frame_text, most_width_of, part_text}
 pub use Rattle.mig_image.specs.declared.version.ImageVersion.{ImageVersion}
 pub use Rattle.mig_image.specs.declared.version.ImageVersion.TheVariants.{One, Two}
 pub use Rattle.mig_guest.specs.Hosts.{most_width}
 unfoldable pub use Rattle.mig_image.specs.ImageParts.{host_at}
-pub use Rattle.mig_image.specs.ImageParts.{behind_head as image_behind_head, code_fits, count_at, fault_of_bytes, fault_of_frame, fault_of_host_head, fault_of_padding, fault_of_part, fault_of_sent, frame_head_at, frame_rows, frame_said, frames_at, has_frame_from, has_part_from, has_reserved, has_zero_flag, head_key, head_pfn, head_type, head_type_number, head_version, host_frame_at, host_head_at, host_page_at, host_parts_at, is_full, is_sent, is_wide, name_number, name_rows, opened, page_unsent, part_at, sent_page_at, size_rows}
-pub use Rattle.mig_host.specs.HostView.{has_machine, put_frame, put_part_in}
-pub use Rattle.mig_refusals.specs.ImageFile.{BehindImageFile, BytesHave, FrameHas, FramesTo, ImageFileHeadHas, ImageFilePart, ImageFilePartFails, IsFaultlessImageFilePart, Opens, PaddingHas, PartHas, PartsTo, RefusedImageFile, SentHas, SpellsFrame, SpellsPart, StandsInImageFile, image_file_size, page_told}
-pub use Rattle.mig_refusals.specs.ImageFileFronts.{EndsInFrames, EndsInParts}
+pub use Rattle.mig_image.specs.ImageParts.{count_at, fault_of_frame, fault_of_host_head, frame_head_at, frame_said, frames_at, head_key, head_pfn, head_version, host_frame_at, host_head_at, host_page_at, host_parts_at, is_sent, name_rows, opened, page_unsent, part_at, sent_page_at, size_rows}
+pub use Rattle.mig_host.specs.HostView.{put_frame, put_part_in}
 pub use Rattle.mig_refusals.specs.Legacy.{BehindLegacy, InChunk, InChunkBody, InDevice, InTail, IsFaultlessLegacyPart, LegacyContextHas, LegacyLengthHas, LegacyPart, LegacyPartFails, LegacyPartStops, MaxHas, NumberHas, RefusedLegacy, SignatureHas, StandsInLegacy, StartHas, ToolstackHas, TypeHas, WordsHave, legacy_size, word_place}
 pub use Rattle.mig_refusals.specs.LegacyToolstack.{EntryWrong, FieldWrong, PhysmapsTo}
 pub use Rattle.mig_refusals.specs.Libxc.{AnswersFirstCause, BehindLibxc, Breaks, ContextHas, DomainHas, EntriesTo, EntryHas, FrontHas, GuestHas, HeadHas, HeaderHas, InBody, InPages, IsFaultlessLibxcPart, IsFirstCause, IsOpen, IsTriedBefore, LengthHas, LibxcPart, LibxcPartFails, MarkerHas, PageHas, PagesTo, ParamsHas, RefusedLibxc, StandsInLibxc, Within, WordsHas, body_part, end_record, libxc_size}
 pub use Rattle.mig_refusals.specs.LibxcPv.{InfoHas, IsUsedField, P2mHas, PvGuestHas, TableHas, TakesType, VcpuHas, rank_of}
-pub use Rattle.mig_refusals.specs.Refusals.{AreAllAcceptedOrRefused, AreJudged, FailsBehind, HasOneRefusal, IsAcceptedOrRefused, IsNeverBoth}
+pub use Rattle.mig_refusals.specs.Refusals.{AreAllAcceptedOrRefused, AreJudged, FailsBehind, HasOneRefusal, IsNeverBoth}
 pub use Rattle.mig_refusals.specs.Stream.{BeginsAsLibxl, BehindWrapper, EmulatorContextHas, HasBody, IsFaultlessWrapperPart, IsOpenWrapper, LibxlHeadHas, LibxlHeaderHas, PairsHas, RefusedStream, StandsInWrapper, WithinWrapper, WrapperPart, WrapperPartFails, wrapper_size}

@@ -23,10 +23,7 @@ pub mod LegacyNumbers
 pub mod LegacyPages
 pub mod LegacyToolstacks
 pub mod LegacyVerdicts
-pub mod ImageFileCauses
-pub mod ImageFileEntries
-pub mod ImageFileFrames
-pub mod ImageFileParts
-pub mod ImageFileSpelled
-pub mod ImageFileSteps
+pub mod ImageFileJudged
+pub mod ImageFilePlaces
+pub mod ImageFileFronts
 pub mod ImageFileVerdicts

@@ -1,5 +1,5 @@
 -- The causes that stand in each part of an image.
-use Rattle.mig_refusals.proofs.Common.{◌≡◌, ◌⊎◌, inl, inr, ℕ, zero, suc, drop, ltb-false, ◌+◌, ◌*◌, ◌<◌, ◌≤◌, List, [], ◌∷◌, length, Bool, true, false, nat_le, nat_lt, nat_eq, not, is_none, Option, Some, None, Result, Ok, Err, slice_index, refl, sym, ap, subst, ◌∙◌, arith, leb-true, ltb-true, eqb-true, eq-eqb, le-leb, lt-ltb, le-ltb, cases_order, both_ways, not-true, and_parts, and_from, or_cases, common_steps, option_or, le32, here, first_fault, Cause, BadLength, PfnOutside, ParamIndex, Missing, Kind, Pv, Hvm, count_rows, fault_of_count, fault_of_words, fault_of_data, fault_of_head, EntriesTo, EntryHas, MarkerHas, HeaderHas, DomainHas, GuestHas, FrontHas, WordsHas, LengthHas, PageHas, ContextHas, ParamsHas, IsTriedBefore, LibxcPart, StandsInLibxc, libxc_size, fault_of_page, list_any, drop-drop, none-some, same_Some, little_number, le64, walk_end, walk_end_reached, Scanned, scan, scan_at, fault_at, after_entry, scan_is, marker_rows, image_rows, domain_rows, fault_of_marker, fault_of_image, fault_of_domain, number_of_cause, ContextFault, word_type, word_pfn, most_frames, level_of, GuestOf, context_key, words, data_len_of, has_reserved_type, names_outside, is_outside, first_place, first_word, place_is_first, none_pass, HvmContext, HvmParam, Layout, layout, fault_of_entries, fault_of_pv_info, fault_of_p2m, fault_of_vcpu, fault_of_body, fault_of_scan, fault_of_guest, fault_of_page_table, hvm_fault, type_in_word, fault_of_level, meant_type, TableHas, PvGuestHas, join, BadPageType, BadContext, TooManyFrames}
+use Rattle.mig_refusals.proofs.Common.{◌≡◌, ◌⊎◌, inl, inr, ℕ, zero, suc, drop, ltb-false, ◌+◌, ◌*◌, ◌<◌, ◌≤◌, List, [], ◌∷◌, length, Bool, true, false, nat_lt, nat_eq, not, is_none, Option, Some, None, Result, Ok, Err, slice_index, refl, sym, ap, subst, ◌∙◌, arith, leb-true, ltb-true, eqb-true, eq-eqb, le-leb, lt-ltb, le-ltb, cases_order, both_ways, not-true, and_parts, and_from, common_steps, option_or, le32, here, first_fault, Cause, BadLength, PfnOutside, ParamIndex, Missing, Kind, Pv, Hvm, count_rows, fault_of_count, fault_of_words, fault_of_data, fault_of_head, EntriesTo, EntryHas, MarkerHas, HeaderHas, DomainHas, GuestHas, FrontHas, WordsHas, LengthHas, PageHas, ContextHas, ParamsHas, IsTriedBefore, LibxcPart, StandsInLibxc, libxc_size, fault_of_page, list_any, drop-drop, none-some, same_Some, little_number, le64, walk_end, walk_end_reached, Scanned, scan, scan_at, fault_at, after_entry, scan_is, marker_rows, image_rows, domain_rows, fault_of_marker, fault_of_image, fault_of_domain, number_of_cause, ContextFault, word_type, word_pfn, most_frames, level_of, GuestOf, context_key, words, data_len_of, has_reserved_type, names_outside, is_outside, first_place, first_word, place_is_first, none_pass, HvmContext, HvmParam, Layout, layout, fault_of_entries, fault_of_pv_info, fault_of_p2m, fault_of_vcpu, fault_of_body, fault_of_scan, fault_of_guest, fault_of_page_table, hvm_fault, type_in_word, fault_of_level, meant_type, TableHas, PvGuestHas, join, BadPageType, BadContext, TooManyFrames}
 use Rattle.std.specs.FinMap as maps
 use Rattle.mig_refusals.specs.Libxc.LibxcPart.{Marker, HeaderRest, Domain, Head, WholeGuest, PagesFront, PagesWords, PagesLength, Page, InfoBody, P2mBody, VcpuBody, ContextBody, ParamsBody, OtherBody, Padding}
 use Rattle.mig_refusals.specs.Libxc.PageHas.{in_table}

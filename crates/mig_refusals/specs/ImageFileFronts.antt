@@ -3,19 +3,17 @@ use Rattle.std.specs.Prelude.{◌≡◌, ℕ, List, ◌++◌, length}
 use Rattle.std.specs.FinMap as maps
 use Rattle.std.specs.List.{flat_map}
 use Rattle.mig_bytes.specs.Fields.{le64}
+use Rattle.mig_form.specs.Form.{SpelledAs}
 use Rattle.mig_guest.specs.Hosts.{HostOf, IsValid}
 use Rattle.mig_image.specs.declared.version.ImageVersion.{ImageVersion}
 use Rattle.mig_image.specs.Image.{frame_text, host_head, part_text}
 use Rattle.mig_image.specs.ImageParts.{head_version}
-use Rattle.mig_refusals.specs.ImageFile.{IsFaultlessImageFilePart}
-use Rattle.mig_refusals.specs.ImageFile.ImageFilePart.{Head}
+use Rattle.mig_refusals.specs.ImageFile.{host_head_form}
 
--- a faultless head, which may tell more frames, and all n frames of a valid host without parts, in this version
-pub record EndsInFrames (widest : ℕ) (version : ImageVersion) (front : List ℕ) (n : ℕ) (h : HostOf) : Type 0 where
-  pub head : List ℕ
-  pub faultless : IsFaultlessImageFilePart (Head widest) head
-  pub in_version : head_version head ≡ version
-  pub spelled : front ≡ head ++ flat_map (frame_text version) (maps.entries h.frames)
+-- a faultless head, which may tell more frames, and all n frames of a valid host without parts, in its version
+pub record EndsInFrames (widest : ℕ) (front head : List ℕ) (n : ℕ) (h : HostOf) : Type 0 where
+  pub faultless : SpelledAs (host_head_form widest) head head
+  pub spelled : front ≡ head ++ flat_map (frame_text (head_version head)) (maps.entries h.frames)
   pub size : length (maps.entries h.frames) ≡ n
   pub no_parts : h.parts ≡ maps.empty
   pub valid : IsValid h

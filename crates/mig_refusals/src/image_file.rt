@@ -1,18 +1,18 @@
 ghost use Rattle.std.specs.Prelude.{◌≡◌, ◌≤◌, ℕ, List};
 ghost use Rattle.mig_bytes.specs.Bytes.{AreBytes};
+ghost use Rattle.mig_bytes.specs.Fields.{le64};
 ghost use Rattle.mig_bytes.specs.Judged.Judged.{Faulty};
+ghost use Rattle.mig_form.specs.Form.{SpelledAs};
 ghost use Rattle.mig_guest.specs.Hosts.{HostOf, most_width};
-ghost use Rattle.mig_image.specs.declared.version.ImageVersion.{ImageVersion};
 ghost use Rattle.mig_image.specs.Image.{IsHostImageUpTo};
 ghost use Rattle.mig_image.specs.ImageParts.{host_at};
 ghost use Rattle.mig_refusals.specs.Refusals.{AreJudged, HasOneRefusal, IsAcceptedOrRefused, IsNeverBoth};
 ghost use Rattle.mig_refusals.specs.ImageFileFronts.{EndsInFrames, EndsInParts};
-ghost use Rattle.mig_refusals.specs.ImageFile.{FramesTo, PartsTo, RefusedImageFile};
+ghost use Rattle.mig_refusals.specs.ImageFile.{ImageCausesAscend, PlaceIsOfPart, RefusedImageFile, count_and_parts, head_and_frames};
 
-/// Judging refuses an input as an image file for a cause at a place exactly where a faultless front is followed by a part
-/// that isn't whole, or that is whole and in which this cause is named: of several causes that of the least number. What is
-/// left is what follows that part. This and what follows hold for images of both versions, and for each greatest width of a
-/// host that is taken.
+/// Judging refuses an input as an image file for a cause at a place exactly where its form is refused so: behind parts without
+/// fault one isn't whole, or in it the first condition of its table that holds has this cause. What is left is what follows
+/// that part. This and what follows hold for images of both versions, and for each greatest width of a host that is taken.
 #[tactic(auto, using(crate::proofs::ImageFileVerdicts::agree))]
 pub fn image_file_refusals_agree()
     ensures { (widest : ℕ) → AreJudged (RefusedImageFile widest) (λ input place cause rest. host_at widest input ≡ Faulty (place, cause) rest) }
@@ -35,9 +35,22 @@ pub fn image_file_never_both()
     ensures { (widest : ℕ) → IsNeverBoth (RefusedImageFile widest) (IsHostImageUpTo widest) }
 {}
 
+/// The tables of causes are in the order of the causes' numbers: of several causes that stand in a part the least is named.
+#[tactic(auto, using(crate::proofs::ImageFileVerdicts::ascend))]
+pub fn image_file_causes_ascend()
+    ensures { ImageCausesAscend }
+{}
+
+/// A refusal stands in the head; or at a frame, behind a faultless head and exactly so many frames; or in the number of parts,
+/// behind a head and all its frames; or at a part, behind these, the number and exactly so many parts.
+#[tactic(auto, using(crate::proofs::ImageFilePlaces::place_is_of_part))]
+pub fn image_file_place_is_of_part()
+    ensures { PlaceIsOfPart }
+{}
+
 /// A front with which a refusal begins is spelled as an image, where it is of bytes: up to a frame it is a faultless head and
 /// the frames of a valid host; up to a part it is the image of a valid host, but for the number of its parts.
 pub fn image_file_front_is_spelled()
-    ensures frames { (widest : ℕ) (version : ImageVersion) (front : List ℕ) (count n : ℕ) (host : HostOf) → widest ≤ most_width → AreBytes front → FramesTo widest version front count n host → EndsInFrames widest version front n host }
-    ensures parts { (widest : ℕ) (front : List ℕ) (count n : ℕ) (host : HostOf) → widest ≤ most_width → AreBytes front → PartsTo widest front count n host → EndsInParts front count n host }
+    ensures frames { (widest : ℕ) (front head : List ℕ) (n : ℕ) (host : HostOf) → widest ≤ most_width → AreBytes front → n ≤ le64 head 24 → SpelledAs (head_and_frames widest n) front (head, host) → EndsInFrames widest front head n host }
+    ensures parts { (widest : ℕ) (front : List ℕ) (count n : ℕ) (framed host : HostOf) → widest ≤ most_width → AreBytes front → SpelledAs (count_and_parts widest n) front ((framed, count), host) → EndsInParts front count n host }
 {}

@@ -13,8 +13,9 @@ mod libxc;
 mod stream;
 
 pub use image_file::{
-    image_file_accepted_or_refused, image_file_front_is_spelled, image_file_never_both,
-    image_file_one_refusal, image_file_refusals_agree,
+    image_file_accepted_or_refused, image_file_causes_ascend, image_file_front_is_spelled,
+    image_file_never_both, image_file_one_refusal, image_file_place_is_of_part,
+    image_file_refusals_agree,
 };
 pub use legacy::{
     legacy_accepted_or_refused, legacy_never_both, legacy_one_refusal, legacy_refusals_agree,
