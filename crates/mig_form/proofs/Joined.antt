@@ -1,11 +1,11 @@
 -- Forms one behind another: how they are judged, spelled and refused.
-use Rattle.std.proofs.Common.{append-nil, subst, arith, ◌<◌, ◌≡◌, ◌⊎◌, inl, inr, ℕ, zero, suc, nat_lt, cond, true, false, length, take, drop, ◌+◌, List, [], Option, Some, None, refl, sym, ap, ◌∙◌}
+use Rattle.std.proofs.Common.{append-nil, subst, arith, ◌<◌, ◌≡◌, ◌⊎◌, inl, inr, ℕ, zero, suc, nat_lt, cond, true, false, length, take, drop, ◌+◌, List, [], ◌∷◌, Option, Some, None, refl, sym, ap, ◌∙◌}
 use Rattle.std.specs.Option.{option_map}
-use Rattle.mig_bytes.specs.Judged.{Judged, ◌>>=◌, part, tried, placed, steps}
+use Rattle.mig_bytes.specs.Judged.{Judged, ◌>>=◌, part, tried, placed, steps, each}
 use Rattle.mig_bytes.specs.Judged.Judged.{Passes, Faulty}
 use Rattle.mig_bytes.proofs.Joins.{both_pass, bind_cases, same_passes, same_faulty, passes_not}
 use Rattle.mig_form.specs.Tests.{Test, NoneHolds, first_named, retold_rows}
-use Rattle.mig_form.specs.Form.{FormOf, ◌>>>◌, steps_form, retold, placed_form, bytes_form, paired, judged_as, judged_then, SpelledAs, RefusedAs, BeginsAs}
+use Rattle.mig_form.specs.Form.{FormOf, ◌>>>◌, steps_form, each_form, retold, placed_form, bytes_form, paired, judged_as, judged_then, SpelledAs, RefusedAs, BeginsAs}
 use Rattle.mig_form.specs.Form.FormOf.{Gives, Part}
 use Rattle.mig_form.specs.Form.SpelledAs.{nothing, one_part}
 use Rattle.mig_form.proofs.Tests.{retold_is}
@@ -221,3 +221,11 @@ then_is f g i j k first then = then_judged g f i ∙ (λ at. first at >>= λ a. 
 -- steps, where each is judged so
 pub steps_are : {C X : Type 0} (step : ℕ → X → FormOf C X) (judge : ℕ → X → List ℕ → Judged C X) (n : ℕ) (x : X) (i : List ℕ) → ((k : ℕ) (y : X) (mid : List ℕ) → judged_as (step k y) mid ≡ judge k y mid) → judged_as (steps_form step n 0 x) i ≡ steps judge n 0 x i
 steps_are step judge n x i same = steps_judged step n 0 x i ∙ (λ at. steps (λ k y mid. same k y mid at) n 0 x i)
+
+-- one for each of a list, where each is judged so
+pub each_is : {C W X : Type 0} (f : W → FormOf C X) (judge : W → List ℕ → Judged C X) → ((w : W) (i : List ℕ) → judged_as (f w) i ≡ judge w i) → (ws : List W) (i : List ℕ) → judged_as (each_form f ws) i ≡ each judge ws i
+unfolding judged_as each_form each
+each_is f judge same [] i = refl
+each_is f judge same (w ∷ ws) i =
+    then_is (f w) (λ x. each_form f ws >>> λ xs. Gives (x ∷ xs)) i (judge w i) (λ first. each judge ws first.1 >>= λ others. Passes (first.0 ∷ others.0) others.1) (same w i)
+    (λ x mid. then_is (each_form f ws) (λ xs. Gives (x ∷ xs)) mid (each judge ws mid) (λ others. Passes (x ∷ others.0) others.1) (each_is f judge same ws mid) (λ xs rest. refl))

@@ -1,8 +1,8 @@
 -- What a test gives is what its condition says; and so for a table of them.
-use Rattle.std.proofs.Common.{ℕ, ◌≡◌, ◌⊎◌, inl, inr, ◌<◌, ◌≤◌, Bool, true, false, cond, not, nat_eq, nat_le, nat_lt, ◌&&◌, ◌||◌, List, [], ◌∷◌, Option, Some, None, refl, ap, subst, arith, ltb-true, ltb-false, eqb-true, leb-true}
+use Rattle.std.proofs.Common.{ℕ, ◌≡◌, ◌⊎◌, inl, inr, ◌<◌, ◌≤◌, Bool, true, false, cond, not, nat_eq, nat_le, nat_lt, ◌&&◌, ◌||◌, List, [], ◌∷◌, ◌++◌, Option, Some, None, refl, ap, subst, arith, ltb-true, ltb-false, eqb-true, leb-true}
 use Rattle.std.proofs.lemmas.Bool.{and_parts, eqb-false, leb-false, false≢true}
-use Rattle.std.specs.Option.{option_map}
-use Rattle.mig_form.specs.Tests.{Test, Holding, is_passed, first_named, NoneHolds, NamedIn, HasIn, is_ascending, retold_rows}
+use Rattle.std.specs.Option.{option_map, option_or}
+use Rattle.mig_form.specs.Tests.{Test, Holding, is_passed, first_named, NoneHolds, NamedIn, HasIn, is_ascending, computed, retold_rows}
 use Rattle.mig_form.specs.Tests.Test.{Less, AtMost, Equal, Is, Not, Both, Either}
 use Rattle.mig_form.specs.Tests.NamedIn.{this, later}
 use Rattle.mig_form.specs.Tests.HasIn.{here, there}
@@ -73,7 +73,7 @@ module _ {C : Type 0} where
   one_named _ _ _ (later t c d rows never named) (this _ _ _ holds) = absurd (never holds)
   one_named _ _ _ (later t c d rows never named) (later _ _ e _ _ other) = one_named rows d e named other
 
-  none_named : (rows : List (Test × C)) (c : C) → NoneHolds rows → NamedIn rows c → ⊥
+  pub none_named : (rows : List (Test × C)) (c : C) → NoneHolds rows → NamedIn rows c → ⊥
   none_named _ _ none (this t c rows holds) = none.0 holds
   none_named _ _ none (later t c d rows never named) = none_named rows d none.1 named
 
@@ -118,3 +118,17 @@ module _ {C D : Type 0} (turn : C → D) where
       by : (b : Bool) → first_named (retold_rows turn rows) ≡ option_map turn (first_named rows) → cond b (Some (turn row.1)) (first_named (retold_rows turn rows)) ≡ option_map turn (cond b (Some row.1) (first_named rows))
       by true same = refl
       by false same = same
+
+-- a table, and another behind it
+pub append_named : {C : Type 0} (rows others : List (Test × C)) → first_named (rows ++ others) ≡ option_or (first_named rows) (first_named others)
+append_named [] others = refl
+append_named (row ∷ rows) others = by (is_passed row.0) (append_named rows others)
+  where
+    by : (b : Bool) → first_named (rows ++ others) ≡ option_or (first_named rows) (first_named others) → cond b (Some row.1) (first_named (rows ++ others)) ≡ option_or (cond b (Some row.1) (first_named rows)) (first_named others)
+    by true same = refl
+    by false same = same
+
+-- a computed cause
+pub computed_is : {C : Type 0} (o : Option C) → first_named (computed o) ≡ o
+computed_is None = refl
+computed_is (Some c) = refl

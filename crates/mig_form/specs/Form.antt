@@ -1,6 +1,6 @@
 -- The form of an input as a term: its parts in byte order. Each has a size, the cause where it isn't whole, and a table of causes
 -- that may stand in it; what follows it depends on its bytes.
-use Rattle.std.specs.Prelude.{◌≡◌, ℕ, zero, suc, ◌+◌, ◌<◌, List, [], ◌++◌, length}
+use Rattle.std.specs.Prelude.{◌≡◌, ℕ, zero, suc, ◌+◌, ◌<◌, List, [], ◌∷◌, ◌++◌, length}
 use Rattle.mig_bytes.specs.Judged.{Judged, ◌>>=◌, part, tried}
 use Rattle.mig_bytes.specs.Judged.Judged.{Passes}
 use Rattle.mig_form.specs.Tests.{Test, first_named, NoneHolds, NamedIn, retold_rows}
@@ -9,9 +9,12 @@ pub data FormOf (C X : Type 0) : Type 0 where
   Gives : X → FormOf C X
   Part : ℕ → C → (List ℕ → List (Test × C)) → (List ℕ → FormOf C X) → FormOf C X
 
--- a part that gives its bytes
+-- a part by itself, which says this; or which gives its bytes
+abbrev pub said_form : {C X : Type 0} → C → ℕ → (List ℕ → List (Test × C)) → (List ℕ → X) → FormOf C X
+said_form truncated n rows says = Part n truncated rows (λ bytes. Gives (says bytes))
+
 abbrev pub bytes_form : {C : Type 0} → C → ℕ → (List ℕ → List (Test × C)) → FormOf C (List ℕ)
-bytes_form truncated n rows = Part n truncated rows (λ bytes. Gives bytes)
+bytes_form truncated n rows = said_form truncated n rows (λ bytes. bytes)
 
 infixl 10 ◌>>>◌
 -- one form behind another
@@ -27,6 +30,11 @@ paired f g = f >>> λ x. g x >>> λ y. Gives (x, y)
 unfoldable pub steps_form : {C X : Type 0} → (ℕ → X → FormOf C X) → ℕ → ℕ → X → FormOf C X
 steps_form step zero k x = Gives x
 steps_form step (suc n) k x = step k x >>> λ y. steps_form step n (k + 1) y
+
+-- one for each of a list
+unfoldable pub each_form : {C W X : Type 0} → (W → FormOf C X) → List W → FormOf C (List X)
+each_form f [] = Gives []
+each_form f (w ∷ ws) = f w >>> λ x. each_form f ws >>> λ xs. Gives (x ∷ xs)
 
 -- the same form, its causes told in another way: with a place, say
 unfoldable pub retold : {C D X : Type 0} → (C → D) → FormOf C X → FormOf D X

@@ -47,6 +47,11 @@ pub data NamedIn {C : Type 0} : List (Test × C) → C → Type 0 where
   this : (t : Test) (c : C) (rows : List (Test × C)) → Holding t → NamedIn ((t, c) ∷ rows) c
   later : (t : Test) (c d : C) (rows : List (Test × C)) → (Holding t → ⊥) → NamedIn rows d → NamedIn ((t, c) ∷ rows) d
 
+-- a cause that is computed, as the one row that holds
+abbrev pub computed : {C : Type 0} → Option C → List (Test × C)
+computed None = []
+computed (Some c) = (Is true, c) ∷ []
+
 -- the same rows, their causes told in another way
 abbrev pub retold_rows : {C D : Type 0} → (C → D) → List (Test × C) → List (Test × D)
 retold_rows turn [] = []

@@ -1,21 +1,19 @@
 -- Names that the proofs of this crate use of other crates, and its own definitions.
 pub use Rattle.std.proofs.Common.{Bool, Err, IsSome, List, None, Ok, Option, Result, Some, [], ap, append-nil, append_assoc, arith, cond, drop, drop-drop, false, inl, inr, is_none, is_some, length, length-append, length-drop, length-take-le, ltb-false, nat_eq, nat_le, nat_lt, not, refl, slice_index, subst, suc, sym, take, take-append-drop, true, zero, ℕ, ◌*◌, ◌++◌, ◌+◌, ◌-◌, ◌/◌, ◌<◌, ◌^◌, ◌∙◌, ◌∷◌, ◌≡◌, ◌≤◌, ◌⊎◌}
 pub use Rattle.std.proofs.Math.Seq.{drop-append_seam, take-append_seam}
-pub use Rattle.std.proofs.lemmas.Bool.{agree_below_at, and_from, and_parts, both_ways, cases_eq, cases_lt, cases_order, eq-eqb, eqb-false, eqb-true, false≢true, le-leb, le-ltb, leb-false, leb-true, lt-leb, lt-ltb, ltb-true, ne_eqb, not-false, not-true, not_from_false, or_cases, or_left, or_right}
+pub use Rattle.std.proofs.lemmas.Bool.{agree_below_at, and_from, and_parts, both_ways, cases_eq, cases_lt, cases_order, eq-eqb, eqb-false, eqb-true, false≢true, le-leb, le-ltb, leb-false, leb-true, lt-leb, lt-ltb, ltb-true, ne_eqb, not-true, not_from_false, or_cases, or_left, or_right}
 pub use Rattle.std.proofs.lemmas.Grind.{common_steps}
 pub use Rattle.std.proofs.lemmas.List.{append_cancel_right}
 pub use Rattle.std.proofs.lemmas.List.Elements.{All-append, All-from_recursion, recursion_from_All}
 pub use Rattle.std.proofs.lemmas.List.Folds.{list_any_at}
 pub use Rattle.std.proofs.lemmas.List.FromFn.{get_or-range_with_len, length-range_with_len}
 pub use Rattle.std.proofs.lemmas.Option.{none-some, same_Some}
-pub use Rattle.std.proofs.lemmas.Slice.Eq.{bytes_eq-Decides}
 pub use Rattle.std.specs.Cmp.{IsTotalOrder, nat_cmp_total, ranked}
 pub use Rattle.std.specs.FinMap.{FinMap, IsAntisymmetric, nat_cmp-IsAntisymmetric}
 pub use Rattle.std.specs.List.{flat_map, list_any, range_with_len}
 pub use Rattle.std.specs.Option.{option_map, option_or}
 pub use Rattle.std.specs.Prelude.{find, ◌&&◌, ◌==◌, ◌||◌}
 pub use Rattle.std.specs.Result.{is_err}
-pub use Rattle.std.specs.Str.{bytes_eq}
 pub use Rattle.std.specs.declared.cmp.Ordering.{Ordering}
 pub use Rattle.std.specs.declared.cmp.Ordering.TheVariants.{Less}
 pub use Rattle.byteorder.specs.Endian.{little_bytes, little_number}
@@ -27,10 +25,9 @@ pub use Rattle.mig_bytes.proofs.Sequences.{accepted_spelled, refused_stops, spel
 pub use Rattle.mig_bytes.proofs.Walks.{walk_end_reached}
 pub use Rattle.mig_bytes.specs.Bytes.{AreBytes, IsLeastPadding, padding_len}
 pub use Rattle.mig_bytes.specs.Failing.{Fails, IsFaultless}
-pub use Rattle.mig_bytes.specs.Failing.Fails.{faulty, short}
 unfoldable pub use Rattle.mig_bytes.specs.Fields.{le64}
 pub use Rattle.mig_bytes.specs.Fields.{be32, be64, le16, le32}
-unfoldable pub use Rattle.mig_bytes.specs.Judged.{each, steps}
+unfoldable pub use Rattle.mig_bytes.specs.Judged.{each}
 pub use Rattle.mig_bytes.specs.Judged.{Judged, part, placed, plain_at, said_at, tried, ◌>>=◌}
 pub use Rattle.mig_bytes.specs.Judged.Judged.{Faulty, Passes}
 pub use Rattle.mig_bytes.specs.Sequences.{Spells, sequence_at}
@@ -39,7 +36,7 @@ pub use Rattle.mig_bytes.specs.Walk.Reaches.{here, next as next_reached}
 pub use Rattle.mig_headers.proofs.Chains.{chain_more, gone, none_of, not_last, scan_is}
 pub use Rattle.mig_headers.proofs.ContextTexts.{in32}
 pub use Rattle.mig_headers.proofs.FirstCauses.{ascends, is_named, join, none_is, rows_name}
-pub use Rattle.mig_headers.proofs.FirstFaults.{both_none, neither_some, rows_fine}
+pub use Rattle.mig_headers.proofs.FirstFaults.{both_none, neither_some}
 pub use Rattle.mig_headers.proofs.RecordNumbers.{numbers_are_inverse}
 unfoldable pub use Rattle.mig_headers.specs.Contexts.{after_entry, fault_at, scan}
 pub use Rattle.mig_headers.specs.Contexts.{ChainTo, Scanned, entry_end, is_last, scan_at}
@@ -59,7 +56,7 @@ pub use Rattle.mig_headers.specs.declared.image_fault.ImagePlace.{ImagePlace}
 pub use Rattle.mig_headers.specs.declared.kind.Kind.{Kind}
 pub use Rattle.mig_headers.specs.declared.kind.Kind.TheVariants.{Hvm, Pv}
 pub use Rattle.mig_headers.specs.declared.legacy_fault.LegacyCause.{LegacyCause}
-pub use Rattle.mig_headers.specs.declared.legacy_fault.LegacyCause.TheVariants.{BadContext as LegacyBadContext, BadPageType as LegacyBadPageType, BadSignature, BadToolstack, BadVcpuMax, BatchTooLarge, BodyTooLong as LegacyBodyTooLong, Compressed, Modern, Tmem, TooManyFrames as LegacyTooManyFrames, TooManyPairs as LegacyTooManyPairs, Tools32, Truncated as LegacyTruncated, UnknownChunk, UnpairedIoreq, VerifyOrPv, WordHigh}
+pub use Rattle.mig_headers.specs.declared.legacy_fault.LegacyCause.TheVariants.{BadContext as LegacyBadContext, BadPageType as LegacyBadPageType, BadToolstack, BatchTooLarge, Compressed, Tmem, TooManyFrames as LegacyTooManyFrames, TooManyPairs as LegacyTooManyPairs, Truncated as LegacyTruncated, UnknownChunk, UnpairedIoreq, VerifyOrPv, WordHigh}
 pub use Rattle.mig_headers.specs.declared.legacy_fault.LegacyPlace.{LegacyPlace}
 pub use Rattle.mig_headers.specs.declared.record_type.RecordType.{RecordType}
 pub use Rattle.mig_headers.specs.declared.record_type.RecordType.TheVariants.{End, PageData, StaticDataEnd, Verify, X86PvInfo, X86PvP2mFrames}
@@ -108,7 +105,7 @@ pub use Rattle.mig_pvtables.specs.Faults.{fault_of_guest, faults_for, find_entry
 pub use Rattle.mig_pvtables.specs.P2mFrames.{count_in, listed}
 pub use Rattle.mig_pvtables.specs.Tables.{fault_of_page_table, is_superpage, names_above}
 pub use Rattle.mig_pvtables.specs.VcpuContexts.{field_value, frame_of_field, is_marked, is_used}
-pub use Rattle.mig_restore.proofs.Batches.{behind_good, behind_words, each_stage, entries_in_place, entry_of, is_page, of_page, other_entries, page_size, words_stage}
+pub use Rattle.mig_restore.proofs.Batches.{behind_good, behind_words, each_stage, entries_in_place, entry_of, other_entries, words_stage}
 pub use Rattle.mig_restore.proofs.Bodies.{body_goes, body_says, coded_is, optional_at, shaped_code, type_at as body_type_at}
 pub use Rattle.mig_restore.proofs.Converse.{goes, going, headers_go, image_header_goes, marker_goes}
 pub use Rattle.mig_restore.proofs.Laws.{behind_kind, behind_marker, behind_version, fields_fine, finds, image_header, opened as stream_opened}
@@ -119,7 +116,7 @@ pub use Rattle.mig_restore.specs.Judging.{Before, Opening, before, body_at, code
 pub use Rattle.mig_restore.specs.Mean.{meant_type, sent}
 pub use Rattle.mig_restore.specs.Record.{Content, FrameEntry, StreamRecord, is_ended, is_verified, placed_content}
 pub use Rattle.mig_restore.specs.Record.Content.{Frames, Nothing, Sets}
-pub use Rattle.mig_restore.specs.Spelled.{Accepted, AreEntries, Follows, IsEntry}
+pub use Rattle.mig_restore.specs.Spelled.{Accepted, Follows}
 unfoldable pub use Rattle.mig_restore.specs.Stream.{image_at, opening_at}
 pub use Rattle.mig_restore.specs.Stream.{ImageOf, IsRefused, image_of, placed_next, records_at}
 pub use Rattle.mig_libxl.proofs.Bodies.{FineFields, body_goes as libxl_body_goes, body_says as libxl_body_says, fields_fine as libxl_fields_fine, has_no_image}
@@ -136,31 +133,29 @@ pub use Rattle.mig_libxl.specs.Spelled.{AcceptedStream, FollowsLibxl}
 unfoldable pub use Rattle.mig_libxl.specs.Stream.{stream_at, wrapped_at}
 pub use Rattle.mig_libxl.specs.Stream.{IsStreamRefused, bare_at, header_at, libxl_records_at}
 pub use Rattle.mig_libxl.specs.Stream.StreamOf.{Bare, Wrapped}
-pub use Rattle.mig_legacy.proofs.Batches.{behind_words as legacy_behind_words, no_table, page_fine}
+pub use Rattle.mig_legacy.proofs.Batches.{behind_words as legacy_behind_words, page_fine}
 pub use Rattle.mig_chunks.proofs.ChunkNumbers.{numbers_have_kinds}
-pub use Rattle.mig_legacy.proofs.ChunkTexts.{finds as legacy_finds, goes as legacy_goes, not_ended as legacy_not_ended, numbered as legacy_numbered, stand_fine}
+pub use Rattle.mig_legacy.proofs.ChunkTexts.{finds as legacy_finds, goes as legacy_goes, not_ended as legacy_not_ended}
 pub use Rattle.mig_legacy.proofs.Chunked.{behind_kind as legacy_behind_kind}
 pub use Rattle.mig_chunks.proofs.Entries.{faultless_first, faulty_first, nothing_left}
 pub use Rattle.mig_chunks.proofs.Fields.{first32}
 pub use Rattle.mig_chunks.proofs.KindNumbers.{kinds_have_numbers}
 pub use Rattle.mig_chunks.proofs.NameForms.{name_passes, name_spelled}
-pub use Rattle.mig_legacy.proofs.Parts.{counted_at}
-pub use Rattle.mig_chunks.proofs.Spelling.{behind_all, fault_of, fine as fine_entry, len_is, toolstack_spelled}
+pub use Rattle.mig_chunks.proofs.Spelling.{behind_all, fault_of, fine as fine_entry, len_is}
 pub use Rattle.mig_legacy.proofs.Streams.{behind_chunks, behind_start, behind_tail, stream_of}
-pub use Rattle.mig_legacy.proofs.TailTexts.{fault_of_tail, some_device, start_goes, start_passes, tail_goes, tail_passes}
+pub use Rattle.mig_legacy.proofs.TailTexts.{some_device, start_goes, start_passes, tail_goes, tail_passes}
 pub use Rattle.mig_chunks.specs.Batches.{fault_of_batch, is_high, is_reserved, page_data_words}
 unfoldable pub use Rattle.mig_chunks.specs.Chunks.{kind_of}
 pub use Rattle.mig_chunks.specs.Chunks.{IsNumberOf, negative, negative_kind}
 unfoldable pub use Rattle.mig_chunks.specs.Judged.{entry_fault, toolstack_fault}
-pub use Rattle.mig_chunks.specs.Judged.{entries_fault, entry_len, is_name, name_at, name_in, name_len, toolstack}
+pub use Rattle.mig_chunks.specs.Judged.{entries_fault, entry_len, is_name, name_at, name_in, name_len}
 unfoldable pub use Rattle.mig_legacy.specs.Judging.{chunk_at, device_at, fault_of_kind, tail_at}
-pub use Rattle.mig_legacy.specs.Judging.{allowed, batch_at, chunk_content_at, chunk_kind_at, clock_of, context_fault, device_record_at, fault_of_counted, fault_of_max, fault_of_signature, fault_of_start, fault_of_toolstack, frames_sent, is_modern, is_unpaired, kind_rows, legacy_words_at, length_at, or_truncated, pairs_of_toolstack, signature, start_at, tail_of, vcpus_at}
-pub use Rattle.mig_legacy.specs.Legacy.{LegacyChunk, LegacyContent, LegacyTail, has_value, image_records, is_end, is_legacy_ended, store_key, store_records}
-pub use Rattle.mig_legacy.specs.Legacy.LegacyContent.{Clock, Frames as LegacyFrames, Nothing as LegacyNothing, Pairs, Value}
+pub use Rattle.mig_legacy.specs.Judging.{allowed, batch_at, chunk_content_at, chunk_kind_at, context_fault, device_record_at, fault_of_max, fault_of_signature, fault_of_toolstack, frames_sent, is_unpaired, legacy_words_at, length_at, or_truncated, pairs_of_toolstack, signature, start_at, tail_of}
+pub use Rattle.mig_legacy.specs.Legacy.{LegacyChunk, is_end, is_legacy_ended, store_key, store_records}
+pub use Rattle.mig_legacy.specs.Legacy.LegacyContent.{Frames as LegacyFrames, Nothing as LegacyNothing, Pairs}
 pub use Rattle.mig_legacy.specs.Spelled.{AcceptedLegacy, FollowsLegacy, IsStart}
 unfoldable pub use Rattle.mig_legacy.specs.Stream.{legacy_at}
 pub use Rattle.mig_legacy.specs.Stream.{IsLegacyRefused, chunks_at, placed_chunk}
-pub use Rattle.mig_chunks.specs.Texts.{pairs_of_physmap}
 pub use Rattle.mig_chunks.specs.Toolstack.{IsName, IsPhysmapHead, Physmap, name_bytes}
 pub use Rattle.mig_chunks.specs.declared.chunk.ChunkKind.{ChunkKind}
 pub use Rattle.mig_chunks.specs.declared.chunk.ChunkKind.TheVariants.{Batch, End as LastChunk}
@@ -179,7 +174,6 @@ pub use Rattle.mig_guest.specs.Hosts.{most_width}
 unfoldable pub use Rattle.mig_image.specs.ImageParts.{host_at}
 pub use Rattle.mig_image.specs.ImageParts.{count_at, fault_of_frame, fault_of_host_head, frame_head_at, frame_said, frames_at, head_key, head_pfn, head_version, host_frame_at, host_head_at, host_page_at, host_parts_at, is_sent, name_rows, opened, page_unsent, part_at, sent_page_at, size_rows}
 pub use Rattle.mig_host.specs.HostView.{put_frame, put_part_in}
-pub use Rattle.mig_refusals.specs.Legacy.{BehindLegacy, InChunk, InChunkBody, InDevice, InTail, IsFaultlessLegacyPart, LegacyContextHas, LegacyLengthHas, LegacyPart, LegacyPartFails, LegacyPartStops, MaxHas, NumberHas, RefusedLegacy, SignatureHas, StandsInLegacy, StartHas, ToolstackHas, TypeHas, WordsHave, legacy_size, word_place}
 pub use Rattle.mig_refusals.specs.LegacyToolstack.{EntryWrong, FieldWrong, PhysmapsTo}
 pub use Rattle.mig_refusals.specs.Libxc.{AnswersFirstCause, BehindLibxc, Breaks, ContextHas, DomainHas, EntriesTo, EntryHas, FrontHas, GuestHas, HeadHas, HeaderHas, InBody, InPages, IsFaultlessLibxcPart, IsFirstCause, IsOpen, IsTriedBefore, LengthHas, LibxcPart, LibxcPartFails, MarkerHas, PageHas, PagesTo, ParamsHas, RefusedLibxc, StandsInLibxc, Within, WordsHas, body_part, end_record, libxc_size}
 pub use Rattle.mig_refusals.specs.LibxcPv.{InfoHas, IsUsedField, P2mHas, PvGuestHas, TableHas, TakesType, VcpuHas, rank_of}

@@ -1,6 +1,17 @@
 -- The causes that stand in the number of a chunk's type.
-use Rattle.mig_refusals.proofs.Common.{◌≡◌, ◌⊎◌, inl, inr, ℕ, ◌<◌, ◌≤◌, ◌^◌, Bool, true, false, nat_eq, nat_le, nat_lt, Result, Ok, Err, refl, sym, ap, and_parts, leb-true, ◌&&◌, ◌||◌, ◌∙◌, arith, common_steps, cases_eq, cases_lt, ne_eqb, LegacyCause, ChunkKind, number_of_legacy_cause, agree_below_at, is_err, VerifyOrPv, Tmem, Compressed, UnknownChunk, BatchTooLarge, negative, negative_kind, kind_of, Batch, numbers_have_kinds, NumberHas, LastChunk}
-use Rattle.mig_refusals.specs.Legacy.NumberHas.{verify_or_pv, tmem, compressed, unknown, too_large}
+use Rattle.mig_refusals.proofs.Common.{◌≡◌, ◌⊎◌, inl, inr, ℕ, ◌<◌, ◌≤◌, ◌^◌, Bool, true, false, nat_eq, nat_le, nat_lt, Result, Ok, Err, refl, sym, ap, and_parts, leb-true, ◌&&◌, ◌||◌, ◌∙◌, arith, common_steps, cases_eq, cases_lt, ne_eqb, LegacyCause, ChunkKind, agree_below_at, is_err, VerifyOrPv, Tmem, Compressed, UnknownChunk, BatchTooLarge, negative, negative_kind, kind_of, Batch, numbers_have_kinds, LastChunk, []}
+use Rattle.mig_form.specs.Tests.{NoneHolds, NamedIn}
+use Rattle.mig_form.specs.Tests.NamedIn.{this, later}
+use Rattle.mig_form.proofs.Tests.{none_named}
+use Rattle.mig_refusals.specs.Legacy.{number_causes}
+
+-- the cause that stands in a number
+pub data NumberHas (n : ℕ) : LegacyCause → Type 0 where
+  verify_or_pv : n ≡ negative 1 → NumberHas n VerifyOrPv
+  tmem : (n ≡ negative 5) ⊎ (n ≡ negative 6) → NumberHas n Tmem
+  compressed : (n ≡ negative 12) ⊎ (n ≡ negative 13) → NumberHas n Compressed
+  unknown : 2 ^ 31 ≤ n → ((k : ℕ) → 1 ≤ k → k ≤ 20 → n ≡ negative k → ⊥) → NumberHas n (UnknownChunk (negative n))
+  too_large : 1024 < n → n < 2 ^ 31 → NumberHas n (BatchTooLarge n)
 
 -- a number is that of a chunk, or a cause stands in it, which is the answer
 abbrev pub Decided : ℕ → Type 0
@@ -76,10 +87,29 @@ decided n = elim (cases_lt n (2 ^ 31)) [
   ]
 ]
 
--- the numbers of these causes are less than those of the others
-pub low_cause : (n : ℕ) (c : LegacyCause) → NumberHas n c → number_of_legacy_cause c ≤ 8
-low_cause n _ (verify_or_pv _) = omega arith
-low_cause n _ (tmem _) = omega arith
-low_cause n _ (compressed _) = omega arith
-low_cause n _ (unknown _ _) = omega arith
-low_cause n _ (too_large _ _) = omega arith
+-- ---- the table
+
+pub has_number : (n : ℕ) (c : LegacyCause) → NamedIn (number_causes n) c → NumberHas n c
+has_number n _ (this _ _ _ is) = verify_or_pv is
+has_number n _ (later _ _ _ _ _ (this _ _ _ is)) = tmem is
+has_number n _ (later _ _ _ _ _ (later _ _ _ _ _ (this _ _ _ is))) = compressed is
+has_number n _ (later _ _ _ _ _ (later _ _ _ _ _ (later _ _ _ _ _ (this _ _ _ (high, far))))) = unknown high (λ k low most is. none_far k low most is far)
+  where
+    none_far : (k : ℕ) → 1 ≤ k → k ≤ 20 → n ≡ negative k → (negative n < 1) ⊎ (20 < negative n) → ⊥
+    none_far k low most is (inl less) = omega (arith, low, most, is, less)
+    none_far k low most is (inr more) = omega (arith, low, most, is, more)
+has_number n _ (later _ _ _ _ _ (later _ _ _ _ _ (later _ _ _ _ _ (later _ _ _ _ _ (this _ _ _ (above, low)))))) = too_large above low
+has_number n c (later _ _ _ _ _ (later _ _ _ _ _ (later _ _ _ _ _ (later _ _ _ _ _ (later _ _ _ _ _ named))))) = absurd (none_named [] _ tt named)
+
+pub none_has : (n : ℕ) (c : LegacyCause) → NoneHolds (number_causes n) → NumberHas n c → ⊥
+none_has n _ none (verify_or_pv is) = none.0 is
+none_has n _ none (tmem is) = none.1.0 is
+none_has n _ none (compressed is) = none.1.1.0 is
+none_has n _ none (unknown high never) = none.1.1.1.0 (high, far)
+  where
+    far : (negative n < 1) ⊎ (20 < negative n)
+    far = elim (cases_lt (negative n) 1) [
+      | inl less ↦ inl less
+      | inr some ↦ elim (cases_lt 20 (negative n)) [ inl more ↦ inr more | inr few ↦ absurd (never (negative n) some few (omega (arith, high, some))) ]
+    ]
+none_has n _ none (too_large above low) = none.1.1.1.1.0 (above, low)

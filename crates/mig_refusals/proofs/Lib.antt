@@ -17,10 +17,9 @@ pub mod UsedFields
 pub mod StreamCauses
 pub mod StreamRecords
 pub mod StreamVerdicts
-pub mod LegacyBodies
 pub mod LegacyCauses
 pub mod LegacyNumbers
-pub mod LegacyPages
+pub mod LegacyJudged
 pub mod LegacyToolstacks
 pub mod LegacyVerdicts
 pub mod ImageFileJudged

@@ -1,11 +1,11 @@
 ghost use Rattle.mig_legacy.specs.Spelled.{AcceptedLegacy};
 ghost use Rattle.mig_legacy.specs.Stream.{IsLegacyRefused};
 ghost use Rattle.mig_refusals.specs.Refusals.{AreAllAcceptedOrRefused, AreJudged, HasOneRefusal, IsNeverBoth};
-ghost use Rattle.mig_refusals.specs.Legacy.{RefusedLegacy};
+ghost use Rattle.mig_refusals.specs.Legacy.{ComputedCausesStand, LegacyCausesAscend, RefusedLegacy};
 
-/// Judging refuses an input as a legacy stream for a cause at a place exactly where a faultless front is followed by a part
-/// that isn't whole, or that is whole and in which this cause is named: of several causes that of the least number, and of
-/// one cause its least place. What is left is what follows that part.
+/// Judging refuses an input as a legacy stream for a cause at a place exactly where a faultless front, as a legacy stream spells
+/// it, is followed by a form that is refused: of the start, of a chunk, of the tail, or of a device model's record. What is left
+/// is what follows the faulty part.
 #[tactic(auto, using(crate::proofs::LegacyVerdicts::agree))]
 pub fn legacy_refusals_agree()
     ensures { AreJudged RefusedLegacy IsLegacyRefused }
@@ -27,4 +27,17 @@ pub fn legacy_accepted_or_refused()
 #[tactic(auto, using(crate::proofs::LegacyVerdicts::never))]
 pub fn legacy_never_both()
     ensures { IsNeverBoth RefusedLegacy AcceptedLegacy }
+{}
+
+/// The tables of causes are in the order of the causes' numbers: of several causes that stand in a part the least is named.
+#[tactic(auto, using(crate::proofs::LegacyCauses::ascend))]
+pub fn legacy_causes_ascend()
+    ensures { LegacyCausesAscend }
+{}
+
+/// A cause that is computed stands in words: in the words of a batch that of the least number, and of one cause its least word;
+/// in the data of a toolstack the first field that is wrong; in a context the first entry that is wrong.
+#[tactic(auto, using(crate::proofs::LegacyCauses::computed_stand))]
+pub fn legacy_computed_causes_stand()
+    ensures { ComputedCausesStand }
 {}

@@ -18,7 +18,8 @@ pub use image_file::{
     image_file_refusals_agree,
 };
 pub use legacy::{
-    legacy_accepted_or_refused, legacy_never_both, legacy_one_refusal, legacy_refusals_agree,
+    legacy_accepted_or_refused, legacy_causes_ascend, legacy_computed_causes_stand,
+    legacy_never_both, legacy_one_refusal, legacy_refusals_agree,
 };
 pub use libxc::{
     libxc_accepted_or_refused, libxc_never_both, libxc_one_refusal, libxc_refusals_agree,
