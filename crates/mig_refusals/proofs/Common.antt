@@ -36,17 +36,17 @@ pub use Rattle.mig_bytes.specs.Walk.Reaches.{here, next as next_reached}
 pub use Rattle.mig_headers.proofs.Chains.{chain_more, gone, none_of, not_last, scan_is}
 pub use Rattle.mig_headers.proofs.ContextTexts.{in32}
 pub use Rattle.mig_headers.proofs.FirstCauses.{ascends, is_named, join, none_is, rows_name}
-pub use Rattle.mig_headers.proofs.FirstFaults.{both_none, neither_some}
+pub use Rattle.mig_headers.proofs.FirstFaults.{neither_some}
 pub use Rattle.mig_headers.proofs.RecordNumbers.{numbers_are_inverse}
 unfoldable pub use Rattle.mig_headers.specs.Contexts.{after_entry, fault_at, scan}
 pub use Rattle.mig_headers.specs.Contexts.{ChainTo, Scanned, entry_end, is_last, scan_at}
 pub use Rattle.mig_headers.specs.FirstCauses.{IsEarlier, IsTriedFirst}
-pub use Rattle.mig_headers.specs.Headers.{domain_rows, fault_of_domain, fault_of_image, fault_of_libxl, fault_of_marker, image_rows, is_from_legacy, kind_of_number, libxl_ident, libxl_rows, marker_rows}
+pub use Rattle.mig_headers.specs.Headers.{domain_rows, fault_of_domain, fault_of_image, fault_of_libxl, fault_of_marker, image_rows, is_from_legacy, kind_of_number, libxl_ident, marker_rows}
 pub use Rattle.mig_headers.specs.CauseNumbers.{number_of_cause, number_of_legacy_cause}
 pub use Rattle.mig_headers.specs.RecordTypes.{is_optional, pv, record_row_of, type_number, type_of_number}
 pub use Rattle.mig_headers.specs.Rows.{first_fault}
 pub use Rattle.mig_headers.specs.declared.fault.Cause.{Cause}
-pub use Rattle.mig_headers.specs.declared.fault.Cause.TheVariants.{BadContext, BadEmulator, BadKey, BadLength, BadPageType, BadPairs, BadPvInfo, BodyTooLong, ContextCount, EmulatorForPv, EmulatorIndex, GdtEnts, Missing, OutOfOrder, P2mFrame, P2mStart, ParamIndex, PfnOutside, Pv32, TargetAbsent, TooManyFrames, TooManyPairs, TooManyRecords, Truncated, UnknownMandatory, Unsupported, VcpuFrame, VcpuId, WrongKind}
+pub use Rattle.mig_headers.specs.declared.fault.Cause.TheVariants.{BadContext, BadEmulator, BadKey, BadLength, BadPageType, BadPairs, BadPvInfo, BodyTooLong, EmulatorIndex, GdtEnts, Missing, OutOfOrder, P2mFrame, P2mStart, ParamIndex, PfnOutside, Pv32, TargetAbsent, TooManyFrames, TooManyPairs, TooManyRecords, Truncated, UnknownMandatory, Unsupported, VcpuFrame, VcpuId, WrongKind}
 pub use Rattle.mig_headers.specs.declared.fault.ContextFault.{ContextFault}
 pub use Rattle.mig_headers.specs.declared.fault.ContextFault.TheVariants.{HeaderSize, NoEnd, NoHeader, ShortEntry}
 pub use Rattle.mig_headers.specs.declared.fault.Place.{Place}
@@ -96,7 +96,7 @@ pub use Rattle.mig_bodies.specs.declared.layout.Layout.{Layout}
 pub use Rattle.mig_bodies.specs.declared.shape.Shape.{Shape}
 pub use Rattle.mig_bodies.specs.declared.shape.Shape.TheVariants.{Other, Single, Table}
 pub use Rattle.mig_policy.proofs.KeyLaws.{first_fault_is_computed}
-pub use Rattle.mig_policy.specs.PairFaults.{IsBadKeyAt, IsFirstFault, IsTornAt, pairs_fault}
+pub use Rattle.mig_policy.specs.PairFaults.{IsFirstFault, pairs_fault}
 pub use Rattle.mig_policy.specs.PairMaps.{pairs_in}
 pub use Rattle.mig_pvtables.proofs.HvmGuests.{hvm_fault}
 pub use Rattle.mig_pvtables.proofs.PvGuests.{counted}
@@ -118,17 +118,16 @@ pub use Rattle.mig_restore.specs.Record.{Content, FrameEntry, StreamRecord, is_e
 pub use Rattle.mig_restore.specs.Record.Content.{Frames, Nothing, Sets}
 pub use Rattle.mig_restore.specs.Spelled.{Accepted, Follows}
 unfoldable pub use Rattle.mig_restore.specs.Stream.{image_at, opening_at}
-pub use Rattle.mig_restore.specs.Stream.{ImageOf, IsRefused, image_of, placed_next, records_at}
-pub use Rattle.mig_libxl.proofs.Bodies.{FineFields, body_goes as libxl_body_goes, body_says as libxl_body_says, fields_fine as libxl_fields_fine, has_no_image}
+pub use Rattle.mig_restore.specs.Stream.{IsRefused, image_of, placed_next, records_at}
 pub use Rattle.mig_libxl.proofs.Forms.{behind_header}
 pub use Rattle.mig_libxl.proofs.Laws.{Ident, header_goes, ident_of, is_header, libxl_goes}
 pub use Rattle.mig_libxl.proofs.Records.{behind_content, behind_head as libxl_behind_head, found, not_ended as libxl_not_ended, record_goes}
 pub use Rattle.mig_emulators.specs.Content.{LibxlContent, LibxlRecord}
-pub use Rattle.mig_libxl.specs.Among.{has_emulator, image_among, is_libxl_ended}
+pub use Rattle.mig_libxl.specs.Among.{is_libxl_ended}
 pub use Rattle.mig_emulators.specs.Content.LibxlContent.{Image, Nothing as LibxlNothing}
-pub use Rattle.mig_emulators.specs.Emulators.{EmulatorsOf, emulators_of, most_pairs, spelled_with}
+pub use Rattle.mig_emulators.specs.Emulators.{emulators_of, most_pairs, spelled_with}
 unfoldable pub use Rattle.mig_libxl.specs.Judging.{fault_of_context, fault_of_libxl_fields, fault_of_order, fault_of_pairs, libxl_record_at}
-pub use Rattle.mig_libxl.specs.Judging.{allows_length, body_of_type, emulator_key, fault_of_libxl_head, field_rows, inner_at, is_miscounted, is_pv, is_pv_kind, libxl_content_at, libxl_head_at, order_rows, skipped_at}
+pub use Rattle.mig_libxl.specs.Judging.{allows_length, body_of_type, emulator_key, fault_of_libxl_head, inner_at, libxl_content_at, libxl_head_at, skipped_at}
 pub use Rattle.mig_libxl.specs.Spelled.{AcceptedStream, FollowsLibxl}
 unfoldable pub use Rattle.mig_libxl.specs.Stream.{stream_at, wrapped_at}
 pub use Rattle.mig_libxl.specs.Stream.{IsStreamRefused, bare_at, header_at, libxl_records_at}
@@ -178,4 +177,3 @@ pub use Rattle.mig_refusals.specs.LegacyToolstack.{EntryWrong, FieldWrong, Physm
 pub use Rattle.mig_refusals.specs.Libxc.{AnswersFirstCause, BehindLibxc, Breaks, ContextHas, DomainHas, EntriesTo, EntryHas, FrontHas, GuestHas, HeadHas, HeaderHas, InBody, InPages, IsFaultlessLibxcPart, IsFirstCause, IsOpen, IsTriedBefore, LengthHas, LibxcPart, LibxcPartFails, MarkerHas, PageHas, PagesTo, ParamsHas, RefusedLibxc, StandsInLibxc, Within, WordsHas, body_part, end_record, libxc_size}
 pub use Rattle.mig_refusals.specs.LibxcPv.{InfoHas, IsUsedField, P2mHas, PvGuestHas, TableHas, TakesType, VcpuHas, rank_of}
 pub use Rattle.mig_refusals.specs.Refusals.{AreAllAcceptedOrRefused, AreJudged, FailsBehind, HasOneRefusal, IsNeverBoth}
-pub use Rattle.mig_refusals.specs.Stream.{BeginsAsLibxl, BehindWrapper, EmulatorContextHas, HasBody, IsFaultlessWrapperPart, IsOpenWrapper, LibxlHeadHas, LibxlHeaderHas, PairsHas, RefusedStream, StandsInWrapper, WithinWrapper, WrapperPart, WrapperPartFails, wrapper_size}

@@ -1,161 +1,142 @@
--- A record of a libxl stream that fails: one of its parts does, or the image that follows its head is refused.
-use Rattle.mig_refusals.proofs.Common.{then_faulty, bind_cases, passes_not, only_first, placed_faulty, ◌≡◌, ◌⊎◌, inl, inr, ℕ, List, [], ◌++◌, Bool, true, false, cond, nat_eq, length, refl, sym, ap, subst, ◌∙◌, arith, append_assoc, eqb-true, eq-eqb, le32, part, placed, Passes, Faulty, part_whole, then_passes, placed_passes, common_steps, Cause, padding_len, both_none, Place, FailsBehind, image_at, LibxlRecord, LibxlContent, Image, EmulatorsOf, emulators_of, allows_length, fault_of_libxl_fields, fault_of_order, libxl_head_at, skipped_at, inner_at, body_of_type, libxl_content_at, libxl_record_at, FineFields, has_no_image, behind_content, WrapperPart, IsFaultlessWrapperPart, WrapperPartFails, HasBody, WithinWrapper, Truncated, AtRecord, LibxlNothing, libxl_fields_fine, libxl_body_says, libxl_body_goes, libxl_behind_head}
-use Rattle.mig_refusals.proofs.LibxcRecords.{is_padding, padding_is}
-use Rattle.mig_refusals.proofs.Parts.{stage_fails, said_fails, part_goes, fine, found_here, found_next, placed_cases}
-use Rattle.mig_refusals.specs.Stream.WrapperPart.{Head, PairsBody, ContextBody, OtherBody, Padding}
-use Rattle.mig_refusals.specs.Stream.HasBody.{pairs, context, ends, optional}
-use Rattle.mig_refusals.specs.Stream.WithinWrapper.{at_head, in_body, at_padding}
-use Rattle.mig_refusals.proofs.StreamCauses.{tries}
-
--- no bytes are always there
-no_bytes : {Y : Type 0} (i : List ℕ) (c : Cause) (rest : List ℕ) → part Truncated 0 i ≡ Faulty c rest → Y
-no_bytes i c rest h = passes_not [] i c rest (sym (part_whole Truncated 0 [] i refl) ∙ h)
+-- A record of a libxl stream is refused where its form is, or where the image behind its head is.
+use Rattle.mig_refusals.proofs.Common.{pairs_in, then_faulty, bind_cases, passes_not, only_first, placed_faulty, ◌≡◌, ◌⊎◌, inl, inr, ℕ, List, [], ◌++◌, Bool, true, false, cond, nat_eq, length, refl, sym, ap, subst, ◌∙◌, eqb-true, eq-eqb, false≢true, le32, drop, part, placed, tried, Judged, ◌>>=◌, Passes, Faulty, then_passes, placed_passes, Cause, padding_len, Place, image_at, LibxlRecord, LibxlContent, libxl_record_at, libxl_head_at, libxl_content_at, inner_at, body_of_type, emulators_of, libxl_behind_head, behind_content, allows_length, AtRecord, Image, LibxlNothing, Truncated, skipped_at}
+use Rattle.mig_form.specs.Form.{FormOf, ◌>>>◌, bytes_form, judged_as, BeginsAs, SpelledAs, RefusedAs}
+use Rattle.mig_form.specs.Form.FormOf.{Gives}
+use Rattle.mig_form.proofs.Joined.{bytes_spelled, first_refused, gives_begins, refused_then, then_is, then_refused}
+use Rattle.mig_form.specs.Tests.{NoneHolds}
+use Rattle.mig_bytes.proofs.Joins.{no_bytes}
+use Rattle.mig_emulators.specs.Content.LibxlContent.{Pairs, Context}
+use Rattle.mig_libxl.specs.Judging.{emulator_key, pairs_at, context_at}
+use Rattle.mig_form.proofs.Verdicts.{begins_passes, is_refused, never_both, passes_is_spelled, refused_is, spelled_passes}
+use Rattle.mig_refusals.specs.Stream.{head_causes, record_head_form, record_body_form, behind_record_head, record_form}
+use Rattle.mig_refusals.proofs.StreamCauses.{context_named, head_named, pairs_named}
 
 module _ (records : List LibxlRecord) where
   abbrev place : Place
   place = AtRecord (length records)
 
-  abbrev emulators : EmulatorsOf
-  emulators = emulators_of records
+  head_judged : (i : List ℕ) → judged_as (record_head_form records) i ≡ libxl_head_at records i
+  unfolding judged_as
+  head_judged i = λ at. part Truncated 8 i >>= λ b. tried (head_named records (le32 b.0 0) (le32 b.0 4) at) b.1 >>= λ _. Passes b.0 b.1
 
-  -- ---- a body
+  body_judged : (type len : ℕ) (i : List ℕ) → judged_as (record_body_form records type len) i ≡ body_of_type (emulators_of records) type len i
+  unfolding judged_as
+  body_judged type len i = by (nat_eq type 2) (nat_eq type 3)
+    where
+      by : (two three : Bool) → judged_as (cond two (record_body_form records 2 len) (cond three (record_body_form records 3 len) (record_body_form records 0 len))) i ≡ cond two (pairs_at (emulators_of records) len i) (cond three (context_at len i) (skipped_at len i))
+      by true three = λ at. part Truncated len i >>= λ b. tried (pairs_named records b.0 at) b.1 >>= λ _. Passes (Pairs (emulator_key 258 b.0) (pairs_in (drop 8 b.0))) b.1
+      by false true = λ at. part Truncated len i >>= λ b. tried (context_named b.0 at) b.1 >>= λ _. Passes (Context (emulator_key 259 b.0) (drop 8 b.0)) b.1
+      by false false = refl
 
-  -- no body is that of LIBXC_CONTEXT
-  not_image : (type len : ℕ) (p : WrapperPart) → HasBody records len type p → nat_eq type 1 ≡ false
-  not_image _ len _ pairs = refl
-  not_image _ len _ context = refl
-  not_image _ len _ ends = refl
-  not_image _ len _ (optional type above) = grind (arith, common_steps, above)
+  -- with a place each, or as one
+  placed_then : {X Y : Type 0} (j : Judged Cause X) (k : X × List ℕ → Judged Cause Y) → placed place (j >>= k) ≡ (placed place j >>= λ a. placed place (k a))
+  placed_then (Passes x rest) k = refl
+  placed_then (Faulty c rest) k = refl
 
-  skipped_as : (type len : ℕ) (i : List ℕ) → nat_eq type 2 ≡ false → nat_eq type 3 ≡ false → body_of_type emulators type len i ≡ skipped_at len i
-  skipped_as type len i two three = rw (two, three) refl
+  module _ (head : List ℕ) where
+    abbrev type : ℕ
+    type = le32 head 0
 
-  body_down : (type len : ℕ) (p : WrapperPart) (left : List ℕ) (c : Cause) (rest : List ℕ) → HasBody records len type p → WrapperPartFails p left c rest → body_of_type emulators type len left ≡ Faulty c rest
-  body_down _ len _ left c rest pairs h = stage_fails (tries (PairsBody records len)) _ left c rest h
-  body_down _ len _ left c rest context h = stage_fails (tries (ContextBody len)) _ left c rest h
-  body_down _ len _ left c rest ends h = stage_fails (tries (OtherBody len)) _ left c rest h
-  body_down _ len _ left c rest (optional type above) h = skipped_as type len left (grind (arith, common_steps, above)) (grind (arith, common_steps, above)) ∙ stage_fails (tries (OtherBody len)) _ left c rest h
+    abbrev len : ℕ
+    len = le32 head 4
 
-  -- a body that fails is one part that fails
-  abbrev BodyFails : ℕ → ℕ → List ℕ → Cause → List ℕ → Type 0
-  BodyFails type len i c rest = (p : WrapperPart) × HasBody records len type p × WrapperPartFails p i c rest
+    abbrev said : LibxlContent → LibxlRecord
+    said content = record { type = type; content = content }
 
-  module _ (len : ℕ) (i : List ℕ) (c : Cause) (rest : List ℕ) where
-    other_up : (type : ℕ) → FineFields type len → nat_eq type 1 ≡ false → nat_eq type 2 ≡ false → nat_eq type 3 ≡ false → skipped_at len i ≡ Faulty c rest → BodyFails type len i c rest
-    other_up type f one two three h = by (nat_eq type 0) refl
+    abbrev padded : LibxlContent → FormOf Cause LibxlRecord
+    padded content = bytes_form Truncated (padding_len len) (λ _. []) >>> λ _. Gives (said content)
+
+    abbrev body_and_padding : FormOf Cause LibxlRecord
+    body_and_padding = record_body_form records type len >>> padded
+
+    -- behind a head that isn't that of LIBXC_CONTEXT
+    behind_judged : (mid : List ℕ) → nat_eq type 1 ≡ false → placed place (judged_as (behind_record_head records head) mid) ≡ libxl_behind_head records (head, mid)
+    unfolding judged_as ◌>>>◌
+    behind_judged mid one =
+        ap (λ b. placed place (judged_as (cond b (Gives (said LibxlNothing)) body_and_padding) mid)) one
+        ∙ ap (placed place) (then_is (record_body_form records type len) padded mid (body_of_type (emulators_of records) type len mid) padding (body_judged type len mid) (λ content left. padding_judged content left))
+        ∙ placed_then (body_of_type (emulators_of records) type len mid) padding
+        ∙ (λ at. placed place (body_of_type (emulators_of records) type len mid) >>= λ a. padding_placed a.0 a.1 at)
+        ∙ ap (λ b. cond b (inner_at mid) (placed place (body_of_type (emulators_of records) type len mid)) >>= behind_content records head) (sym one)
       where
-        fails : WrapperPartFails (OtherBody len) i c rest
-        fails = said_fails (tries (OtherBody len)) (λ _. LibxlNothing) i c rest h
+        padding : LibxlContent × List ℕ → Judged Cause LibxlRecord
+        padding content = part Truncated (padding_len len) content.1 >>= λ padding. Passes (said content.0) padding.1
 
-        by : (b : Bool) → nat_eq type 0 ≡ b → BodyFails type len i c rest
-        by true zero = subst (λ t. BodyFails t len i c rest) (sym (eqb-true type 0 zero)) (OtherBody len, ends, fails)
-        by false some = (OtherBody len, optional type (grind (arith, common_steps, f.supported, f.known, one, two, three, some)), fails)
+        padding_judged : (content : LibxlContent) (left : List ℕ) → judged_as (padded content) left ≡ padding (content, left)
+        padding_judged content left = refl
 
-    body_up : (type : ℕ) → FineFields type len → nat_eq type 1 ≡ false → body_of_type emulators type len i ≡ Faulty c rest → BodyFails type len i c rest
-    body_up type f one h = by (nat_eq type 2) (nat_eq type 3) refl refl h
+        padding_placed : (content : LibxlContent) (left : List ℕ) → placed place (padding (content, left)) ≡ behind_content records head (content, left)
+        padding_placed content left = placed_then (part Truncated (padding_len len) left) (λ p. Passes (said content) p.1)
+
+    -- LIBXC_CONTEXT has no body
+    no_body : NoneHolds (head_causes records type len) → type ≡ 1 → len ≡ 0
+    no_body none one = eqb-true len 0 (subst (λ t. allows_length t len ≡ true) one (by (allows_length type len) none.1.1.1.0))
       where
-        by : (b d : Bool) → nat_eq type 2 ≡ b → nat_eq type 3 ≡ d → cond b (body_of_type emulators 2 len i) (cond d (body_of_type emulators 3 len i) (skipped_at len i)) ≡ Faulty c rest → BodyFails type len i c rest
-        by true d two three g = subst (λ t. BodyFails t len i c rest) (sym (eqb-true type 2 two)) (PairsBody records len, pairs, said_fails (tries (PairsBody records len)) _ i c rest g)
-        by false true two three g = subst (λ t. BodyFails t len i c rest) (sym (eqb-true type 3 three)) (ContextBody len, context, said_fails (tries (ContextBody len)) _ i c rest g)
-        by false false two three g = other_up type f one two three g
+        by : (b : Bool) → (((b ≡ true) → ⊥) → ⊥) → b ≡ true
+        by true h = refl
+        by false h = absurd (h (λ t. false≢true t))
 
-  -- ---- a record
+  -- ---- a record that is refused
 
-  fields_of : (head : List ℕ) → IsFaultlessWrapperPart (Head records) head → FineFields (le32 head 0) (le32 head 4)
-  fields_of head f = libxl_fields_fine (le32 head 0) (le32 head 4) (both_none (fault_of_libxl_fields (le32 head 0) (le32 head 4)) (fault_of_order records (le32 head 0)) (fine (tries (Head records)) head f)).0
-
-  -- LIBXC_CONTEXT has no body
-  no_body : (type len : ℕ) → FineFields type len → type ≡ 1 → len ≡ 0
-  no_body type len f one = eqb-true len 0 (subst (λ t. allows_length t len ≡ true) one f.allowed)
-
-  head_goes : (head mid : List ℕ) → IsFaultlessWrapperPart (Head records) head → libxl_record_at records (head ++ mid) ≡ libxl_behind_head records (head, mid)
+  pub down : (i : List ℕ) (c : Cause) (rest : List ℕ) → RefusedAs (record_form records) i c rest → libxl_record_at records i ≡ Faulty (place, c) rest
   unfolding libxl_record_at
-  head_goes head mid f =
-      then_passes (placed place (libxl_head_at records (head ++ mid))) (libxl_behind_head records) head mid _
-      (ap (placed place) (part_goes (tries (Head records)) (λ l. l) head mid f)) refl
-
-  -- a part fails behind others: so does the record
-  pub down : (front : List ℕ) (p : WrapperPart) (left : List ℕ) (c : Cause) (rest : List ℕ) → WithinWrapper records front p → WrapperPartFails p left c rest → libxl_record_at records (front ++ left) ≡ Faulty (place, c) rest
-  unfolding libxl_record_at
-  down _ _ left c rest at_head h =
-      then_faulty (placed place (libxl_head_at records left)) (libxl_behind_head records) (place, c) rest (ap (placed place) (stage_fails (tries (Head records)) (λ head r. Passes head r) left c rest h))
-  down _ _ left c rest (in_body head p f b) h =
-      let one = not_image (le32 head 0) (le32 head 4) p b in
-      let fails = body_down (le32 head 0) (le32 head 4) p left c rest b h in
-      head_goes head left f
-      ∙ then_faulty (libxl_content_at records (le32 head 0) (le32 head 4) left) (behind_content records head) (place, c) rest
-      (ap (λ t. cond t (inner_at left) (placed place (body_of_type emulators (le32 head 0) (le32 head 4) left))) one ∙ ap (placed place) fails)
-  down _ _ left c rest (at_padding head body content n f size says fits pads) h =
-      let one = has_no_image (le32 head 0) body content says in
-      let goes = subst (λ m. body_of_type emulators (le32 head 0) m (body ++ left) ≡ Passes content left) size (libxl_body_goes records (le32 head 0) body content left says fits one) in
-      ap (libxl_record_at records) (append_assoc head body left) ∙ head_goes head (body ++ left) f
-      ∙ then_passes (libxl_content_at records (le32 head 0) (le32 head 4) (body ++ left)) (behind_content records head) content left _
-      (ap (λ t. cond t (inner_at (body ++ left)) (placed place (body_of_type emulators (le32 head 0) (le32 head 4) (body ++ left)))) one ∙ ap (placed place) goes)
-      (then_faulty (placed place (part Truncated (padding_len (le32 head 4)) left)) (λ padding. Passes (record { type = le32 head 0; content = content }) padding.1) (place, c) rest
-      (ap (placed place) (only_first (λ l. l) (part Truncated (padding_len (le32 head 4)) left) c rest (stage_fails (tries (Padding (padding_len (le32 head 4)))) (λ l r. Passes l r) left c rest (subst (λ m. WrapperPartFails (Padding m) left c rest) (padding_is (le32 head 4) n pads) h)))))
+  down i c rest refused = elim (refused_then (record_head_form records) (behind_record_head records) i c rest refused) [
+    | inl e ↦ then_faulty (placed place (libxl_head_at records i)) (libxl_behind_head records) (place, c) rest (ap (placed place) (sym (head_judged i) ∙ refused_is (record_head_form records) i c rest e))
+    | inr a ↦
+        then_passes (placed place (libxl_head_at records i)) (libxl_behind_head records) a.0 a.1 _ (ap (placed place) (sym (head_judged i) ∙ begins_passes (record_head_form records) i a.0 a.1 a.2))
+        (by a.0 a.1 (nat_eq (le32 a.0 0) 1) refl a.3)
+  ]
+    where
+      by : (head mid : List ℕ) (b : Bool) → nat_eq (le32 head 0) 1 ≡ b → RefusedAs (behind_record_head records head) mid c rest → libxl_behind_head records (head, mid) ≡ Faulty (place, c) rest
+      by head mid false one fails = sym (behind_judged head mid one) ∙ ap (placed place) (refused_is (behind_record_head records head) mid c rest fails)
+      by head mid true one fails =
+          let none : RefusedAs (Gives (said head LibxlNothing)) mid c rest = subst (λ b. RefusedAs (cond b (Gives (said head LibxlNothing)) (body_and_padding head)) mid c rest) one fails in
+          absurd (never_both (Gives (said head LibxlNothing)) mid (said head LibxlNothing) mid c rest (gives_begins (said head LibxlNothing) mid) none)
 
   -- the image behind LIBXC_CONTEXT is refused: so is the record
-  pub image_down : (head left : List ℕ) (at : Place × Cause) (rest : List ℕ) → IsFaultlessWrapperPart (Head records) head → le32 head 0 ≡ 1 → image_at left ≡ Faulty at rest → libxl_record_at records (head ++ left) ≡ Faulty at rest
-  image_down head left at rest f one h =
-      head_goes head left f
-      ∙ then_faulty (libxl_content_at records (le32 head 0) (le32 head 4) left) (behind_content records head) at rest
-      (ap (λ t. cond t (inner_at left) (placed place (body_of_type emulators (le32 head 0) (le32 head 4) left))) (eq-eqb (le32 head 0) 1 one) ∙ then_faulty (image_at left) (λ image. Passes (Image image.0) image.1) at rest h)
-
-  -- ---- a record that fails
+  pub image_down : (head left : List ℕ) (at : Place × Cause) (rest : List ℕ) → SpelledAs (record_head_form records) head head → le32 head 0 ≡ 1 → image_at left ≡ Faulty at rest → libxl_record_at records (head ++ left) ≡ Faulty at rest
+  unfolding libxl_record_at
+  image_down head left at rest spelled one h =
+      then_passes (placed place (libxl_head_at records (head ++ left))) (libxl_behind_head records) head left _ (ap (placed place) (sym (head_judged (head ++ left)) ∙ spelled_passes (record_head_form records) head head left spelled))
+      (then_faulty (libxl_content_at records (le32 head 0) (le32 head 4) left) (behind_content records head) at rest
+      (ap (λ t. cond t (inner_at left) (placed place (body_of_type (emulators_of records) (le32 head 0) (le32 head 4) left))) (eq-eqb (le32 head 0) 1 one) ∙ then_faulty (image_at left) (λ image. Passes (Image image.0) image.1) at rest h))
 
   -- the image behind its head is refused
   pub record ImageStops (i : List ℕ) (at : Place) (c : Cause) (rest : List ℕ) : Type 0 where
     pub head : List ℕ
     pub left : List ℕ
     pub whole : i ≡ head ++ left
-    pub faultless_head : IsFaultlessWrapperPart (Head records) head
+    pub spelled : SpelledAs (record_head_form records) head head
     pub is_context : le32 head 0 ≡ 1
     pub refused : image_at left ≡ Faulty (at, c) rest
 
   module _ (i : List ℕ) (at : Place) (c : Cause) (rest : List ℕ) where
-    -- a part of it fails, behind others, or that image
+    -- its form is refused, or that image
     abbrev Stops : Type 0
-    Stops = (FailsBehind (WithinWrapper records) WrapperPartFails i c rest × (place ≡ at)) ⊎ ImageStops i at c rest
+    Stops = (RefusedAs (record_form records) i c rest × (place ≡ at)) ⊎ ImageStops i at c rest
 
-    module _ (head mid : List ℕ) (whole : i ≡ head ++ mid) (f : IsFaultlessWrapperPart (Head records) head) where
-      abbrev type : ℕ
-      type = le32 head 0
+    image_stops : (head mid : List ℕ) → BeginsAs (record_head_form records) i head mid → nat_eq (le32 head 0) 1 ≡ true → libxl_behind_head records (head, mid) ≡ Faulty (at, c) rest → Stops
+    image_stops head mid (start, whole, spelled) one h =
+        let (is, faultless, size, none) = bytes_spelled Truncated 8 (λ b. head_causes records (le32 b 0) (le32 b 4)) start head spelled in
+        let type_is = eqb-true (le32 head 0) 1 one in
+        elim (bind_cases (libxl_content_at records (le32 head 0) (le32 head 4) mid) (behind_content records head) (at, c) rest h) [
+          | inl e ↦
+              let inner = ap (λ b. cond b (inner_at mid) (placed place (body_of_type (emulators_of records) (le32 head 0) (le32 head 4) mid))) (sym one) ∙ e in
+              inr (record { head = head; left = mid; whole = whole ∙ ap (λ l. l ++ mid) is; spelled = faultless; is_context = type_is; refused = only_first Image (image_at mid) (at, c) rest inner })
+          | inr a ↦
+              let p = placed_faulty place at (part Truncated (padding_len (le32 head 4)) a.1) c rest (only_first (λ _. said head a.0) (placed place (part Truncated (padding_len (le32 head 4)) a.1)) (at, c) rest a.3) in
+              passes_not [] a.1 c rest (sym (no_bytes Truncated a.1) ∙ ap (λ n. part Truncated n a.1) (sym (ap padding_len (no_body head none type_is))) ∙ p.0)
+        ]
 
-      abbrev len : ℕ
-      len = le32 head 4
-
-      -- in its body, or in the image
-      content_up : (b : Bool) → nat_eq type 1 ≡ b → cond b (inner_at mid) (placed place (body_of_type emulators type len mid)) ≡ Faulty (at, c) rest → Stops
-      content_up true one h = inr (record { head = head; left = mid; whole = whole; faultless_head = f; is_context = eqb-true type 1 one; refused = only_first Image (image_at mid) (at, c) rest h })
-      content_up false one h =
-          let p = placed_faulty place at (body_of_type emulators type len mid) c rest h in
-          let b = body_up len mid c rest type (fields_of head f) one p.0 in
-          inl (found_next (WithinWrapper records) b.0 head mid i c rest whole (in_body head b.0 f b.1) b.2, p.1)
-
-      -- in its padding, of which an image has none
-      padding_up : (content : LibxlContent) (left : List ℕ) (b : Bool) → nat_eq type 1 ≡ b → cond b (inner_at mid) (placed place (body_of_type emulators type len mid)) ≡ Passes content left → place ≡ at → part Truncated (padding_len len) left ≡ Faulty c rest → Stops
-      padding_up content left true one h same fails = no_bytes left c rest (subst (λ n. part Truncated n left ≡ Faulty c rest) (ap padding_len (no_body type len (fields_of head f) (eqb-true type 1 one))) fails)
-      padding_up content left false one h same fails =
-          let s = libxl_body_says records type len mid content left (fields_of head f) one (placed_passes place (body_of_type emulators type len mid) content left h) in
-          inl (
-            found_next (WithinWrapper records) (Padding (padding_len len)) (head ++ s.body) left i c rest (whole ∙ ap (λ l. head ++ l) s.whole ∙ sym (append_assoc head s.body left))
-                (at_padding head s.body content (padding_len len) f s.body_len s.says s.fits (is_padding len))
-                (said_fails (tries (Padding (padding_len len))) (λ l. l) left c rest (then_faulty (part Truncated (padding_len len) left) (λ l. Passes l.0 l.1) c rest fails)),
-            same,
-          )
-
-      behind_up : libxl_behind_head records (head, mid) ≡ Faulty (at, c) rest → Stops
-      behind_up h = elim (bind_cases (libxl_content_at records type len mid) (behind_content records head) (at, c) rest h) [
-        | inl e ↦ content_up (nat_eq type 1) refl e
-        | inr a ↦
-            let e = only_first (λ _. record { type = type; content = a.0 }) (placed place (part Truncated (padding_len len) a.1)) (at, c) rest a.3 in
-            let p = placed_faulty place at (part Truncated (padding_len len) a.1) c rest e in
-            padding_up a.0 a.1 (nat_eq type 1) refl a.2 p.1 p.0
-      ]
+    behind_up : (head mid : List ℕ) → BeginsAs (record_head_form records) i head mid → (b : Bool) → nat_eq (le32 head 0) 1 ≡ b → libxl_behind_head records (head, mid) ≡ Faulty (at, c) rest → Stops
+    behind_up head mid begins true one h = image_stops head mid begins one h
+    behind_up head mid begins false one h =
+        let p = placed_faulty place at (judged_as (behind_record_head records head) mid) c rest (behind_judged head mid one ∙ h) in
+        inl (then_refused (record_head_form records) (behind_record_head records) i mid head c rest begins (is_refused (behind_record_head records head) mid c rest p.0), p.1)
 
     pub up : libxl_record_at records i ≡ Faulty (at, c) rest → Stops
     unfolding libxl_record_at
-    up h = elim (placed_cases (tries (Head records)) (λ head. head) place (libxl_behind_head records) i at c rest h) [
-      | inl e ↦ inl (found_here (WithinWrapper records) (Head records) i c rest at_head e.0, e.1)
-      | inr a ↦ behind_up a.bytes a.mid a.whole a.is_faultless a.after
+    up h = elim (bind_cases (placed place (libxl_head_at records i)) (libxl_behind_head records) (at, c) rest h) [
+      | inl e ↦ let p = placed_faulty place at (libxl_head_at records i) c rest e in inl (first_refused (record_head_form records) (behind_record_head records) i c rest (is_refused (record_head_form records) i c rest (head_judged i ∙ p.0)), p.1)
+      | inr a ↦ behind_up a.0 a.1 (passes_is_spelled (record_head_form records) i a.0 a.1 (head_judged i ∙ placed_passes place (libxl_head_at records i) a.0 a.1 a.2)) (nat_eq (le32 a.0 0) 1) refl a.3
     ]

@@ -1,13 +1,13 @@
 -- An input of either form is refused as the format's words say exactly where judging refuses it.
-use Rattle.mig_refusals.proofs.Common.{then_faulty, only_first, ◌≡◌, inl, inr, ℕ, List, ◌++◌, length, drop, Bool, true, false, cond, nat_eq, nat_le, None, refl, sym, ap, ◌∙◌, append_assoc, be32, false≢true, placed, Passes, Faulty, Cause, ◌&&◌, be64, fault_of_libxl, is_from_legacy, libxl_ident, Place, LibxlHeader, refused_stops, AreJudged, HasOneRefusal, AreAllAcceptedOrRefused, IsNeverBoth, WithinWrapper, image_at, LibxlRecord, is_libxl_ended, FollowsLibxl, found, libxl_record_at, header_at, libxl_records_at, wrapped_at, bare_at, stream_at, IsStreamRefused, Bare, Wrapped, WrapperPart, WrapperPartFails, BeginsAsLibxl, IsOpenWrapper, BehindWrapper, RefusedStream, behind_header, Ident, ident_of, libxl_goes, is_header, AtRecord, AcceptedStream, le-leb, leb-true, eq-eqb, eqb-true, and_parts, spelled_refused, header_goes, record_goes, libxl_not_ended}
+use Rattle.mig_refusals.proofs.Common.{then_faulty, only_first, ◌≡◌, inl, inr, ℕ, List, ◌++◌, length, drop, Bool, true, false, cond, nat_eq, nat_le, None, refl, sym, ap, ◌∙◌, append_assoc, be32, false≢true, placed, Passes, Faulty, Cause, ◌&&◌, be64, fault_of_libxl, is_from_legacy, libxl_ident, Place, LibxlHeader, refused_stops, AreJudged, HasOneRefusal, AreAllAcceptedOrRefused, IsNeverBoth, image_at, LibxlRecord, is_libxl_ended, FollowsLibxl, found, libxl_record_at, header_at, libxl_records_at, wrapped_at, bare_at, stream_at, IsStreamRefused, Bare, Wrapped, behind_header, Ident, ident_of, libxl_goes, is_header, AtRecord, AcceptedStream, le-leb, leb-true, eq-eqb, eqb-true, and_parts, spelled_refused, header_goes, record_goes, libxl_not_ended, placed_passes, placed_faulty, bind_cases, Truncated, subst}
 use Rattle.mig_libxl.proofs.Laws.{accepted_or_refused as judged, never_both as never_judged}
 use Rattle.mig_refusals.proofs.Laws.{accepted_or_refused, never_both, one_refusal}
-use Rattle.mig_refusals.proofs.Parts.{stage_fails, fine, found_at, found_behind, found_placed, placed_cases}
 use Rattle.mig_refusals.proofs.LibxcVerdicts.{refused_is as image_refused_is, is_refused as image_is_refused}
-use Rattle.mig_refusals.specs.Stream.WrapperPart.{Header}
-use Rattle.mig_refusals.specs.Stream.BehindWrapper.{at_header, in_record}
-use Rattle.mig_refusals.specs.Stream.RefusedStream.{bare, in_wrapper, in_image}
-use Rattle.mig_refusals.proofs.StreamCauses.{tries}
+use Rattle.mig_bytes.proofs.Said.{bytes_pass}
+use Rattle.mig_form.specs.Form.{judged_as, RefusedAs}
+use Rattle.mig_form.proofs.Verdicts.{is_refused as form_is_refused, refused_is as form_refused_is}
+use Rattle.mig_refusals.specs.Stream.{header_form, BeginsAsLibxl, IsOpenWrapper, RefusedStream}
+use Rattle.mig_refusals.specs.Stream.RefusedStreamAt.{bare, in_header, in_record, in_image}
 use Rattle.mig_refusals.proofs.StreamRecords.{down, image_down, up}
 
 -- ---- which form an input has
@@ -27,14 +27,13 @@ next_refused front left records at rest o h =
     ap stream_at (ap (λ l. l ++ left) o.whole ∙ append_assoc o.header o.bytes left) ∙ header_goes o.header behind o.legacy o.is_header
     ∙ then_faulty (libxl_records_at behind) (λ records. Passes (Wrapped records.0) records.1) at rest (spelled_refused is_libxl_ended libxl_record_at FollowsLibxl found record_goes libxl_not_ended o.bytes left records at rest o.spelled o.not_ended h)
 
-header_refused : (left : List ℕ) (c : Cause) (rest : List ℕ) → WrapperPartFails Header left c rest → wrapped_at left ≡ Faulty (LibxlHeader, c) rest
-unfolding wrapped_at
-header_refused left c rest h = then_faulty (placed LibxlHeader (header_at left)) behind_header (LibxlHeader, c) rest (ap (placed LibxlHeader) (stage_fails (tries Header) (λ header r. Passes header r) left c rest h))
+header_judged : (i : List ℕ) → judged_as header_form i ≡ header_at i
+unfolding judged_as
+header_judged i = refl
 
-behind_refused : (front : List ℕ) (place : Place) (p : WrapperPart) (left : List ℕ) (c : Cause) (rest : List ℕ) → BehindWrapper front place p → WrapperPartFails p left c rest → stream_at (front ++ left) ≡ Faulty (place, c) rest
-behind_refused _ _ _ left c rest (at_header ident size is) h = libxl_goes ident left size is ∙ header_refused left c rest h
-behind_refused _ _ _ left c rest (in_record front before_it records p o within) h =
-    ap stream_at (append_assoc front before_it left) ∙ next_refused front (before_it ++ left) records (AtRecord (length records), c) rest o (down records before_it p left c rest within h)
+header_refused : (left : List ℕ) (c : Cause) (rest : List ℕ) → RefusedAs header_form left c rest → wrapped_at left ≡ Faulty (LibxlHeader, c) rest
+unfolding wrapped_at
+header_refused left c rest refused = then_faulty (placed LibxlHeader (header_at left)) behind_header (LibxlHeader, c) rest (ap (placed LibxlHeader) (sym (header_judged left) ∙ form_refused_is header_form left c rest refused))
 
 -- a bare image
 bare_refused : (input : List ℕ) (at : Place × Cause) (rest : List ℕ) → (BeginsAsLibxl input → ⊥) → image_at input ≡ Faulty at rest → stream_at input ≡ Faulty at rest
@@ -46,29 +45,22 @@ bare_refused input at rest other h = by (nat_le 8 (length input) && nat_eq (be64
     by false is = then_faulty (image_at input) (λ image. Passes (Bare image.0) image.1) at rest h
 
 pub refused_is : (input : List ℕ) (place : Place) (c : Cause) (rest : List ℕ) → RefusedStream input place c rest → IsStreamRefused input place c rest
-refused_is input place c rest (bare other r) = bare_refused input (place, c) rest other (image_refused_is input place c rest r)
-refused_is input place c rest (in_wrapper w) = ap stream_at w.whole ∙ behind_refused w.front place w.part w.left c rest w.behind w.fails
-refused_is input place c rest (in_image r) =
-    ap stream_at r.whole ∙ next_refused r.front (r.head ++ r.left) r.records (place, c) rest r.is_open (image_down r.records r.head r.left (place, c) rest r.faultless r.is_context (image_refused_is r.left place c rest r.refused))
+refused_is input _ c rest (bare place other r) = bare_refused input (place, c) rest other (image_refused_is input place c rest r)
+refused_is input _ c rest (in_header ident left whole size is refused) = ap stream_at whole ∙ libxl_goes ident left size is ∙ header_refused left c rest refused
+refused_is input _ c rest (in_record front left records whole o refused) = ap stream_at whole ∙ next_refused front left records (AtRecord (length records), c) rest o (down records left c rest refused)
+refused_is input _ c rest (in_image place front head left records whole o spelled one r) = ap stream_at whole ∙ next_refused front (head ++ left) records (place, c) rest o (image_down records head left (place, c) rest spelled one (image_refused_is left place c rest r))
 
 -- ---- what is refused is refused in words
 
 module _ (input : List ℕ) (place : Place) (c : Cause) (rest : List ℕ) where
+  at_place : (at : Place) → at ≡ place → RefusedStream input at c rest → RefusedStream input place c rest
+  at_place at same refused = subst (λ p. RefusedStream input p c rest) same refused
+
   -- behind an open front the next record is refused
   record_fails : (front left : List ℕ) (records : List LibxlRecord) → input ≡ front ++ left → IsOpenWrapper front records → libxl_record_at records left ≡ Faulty (place, c) rest → RefusedStream input place c rest
   record_fails front left records whole o h = elim (up records left place c rest h) [
-    | inl u ↦ in_wrapper (found_at BehindWrapper (AtRecord (length records)) place input c rest u.1 (found_behind (WithinWrapper records) (λ b p. BehindWrapper b (AtRecord (length records)) p) front left input c rest whole (λ b p within. in_record front b records p o within) u.0))
-    | inr u ↦ in_image (record {
-      front = front;
-      head = u.head;
-      left = u.left;
-      records = records;
-      whole = whole ∙ ap (λ l. front ++ l) u.whole;
-      is_open = o;
-      faultless = u.faultless_head;
-      is_context = u.is_context;
-      refused = image_is_refused u.left place c rest u.refused;
-    })
+    | inl u ↦ at_place (AtRecord (length records)) u.1 (in_record front left records whole o u.0)
+    | inr u ↦ in_image place front u.head u.left records (whole ∙ ap (λ l. front ++ l) u.whole) o u.spelled u.is_context (image_is_refused u.left place c rest u.refused)
   ]
 
   records_fail : (f : Ident input) (more left : List ℕ) → f.behind ≡ more ++ left → length more ≡ 8 → fault_of_libxl more ≡ None → libxl_records_at left ≡ Faulty (place, c) rest → RefusedStream input place c rest
@@ -83,9 +75,11 @@ module _ (input : List ℕ) (place : Place) (c : Cause) (rest : List ℕ) where
 
   wrapped_fails : (f : Ident input) → wrapped_at f.behind ≡ Faulty (place, c) rest → RefusedStream input place c rest
   unfolding wrapped_at
-  wrapped_fails f h = elim (placed_cases (tries Header) (λ header. header) LibxlHeader behind_header f.behind place c rest h) [
-    | inl e ↦ in_wrapper (found_placed BehindWrapper LibxlHeader place Header f.ident f.behind input c rest f.whole (at_header f.ident f.size f.is) e)
-    | inr a ↦ records_fail f a.bytes a.mid a.whole a.is_faultless.size (fine (tries Header) a.bytes a.is_faultless) (only_first Wrapped (libxl_records_at a.mid) (place, c) rest a.after)
+  wrapped_fails f h = elim (bind_cases (placed LibxlHeader (header_at f.behind)) behind_header (place, c) rest h) [
+    | inl e ↦ let p = placed_faulty LibxlHeader place (header_at f.behind) c rest e in at_place LibxlHeader p.1 (in_header f.ident f.behind f.whole f.size f.is (form_is_refused header_form f.behind c rest (header_judged f.behind ∙ p.0)))
+    | inr a ↦
+        let (whole, size, fine) = bytes_pass Truncated fault_of_libxl 8 f.behind a.0 a.1 (placed_passes LibxlHeader (header_at f.behind) a.0 a.1 a.2) in
+        records_fail f a.0 a.1 whole size fine (only_first Wrapped (libxl_records_at a.1) (place, c) rest a.3)
   ]
 
   pub is_refused : IsStreamRefused input place c rest → RefusedStream input place c rest
@@ -96,7 +90,7 @@ module _ (input : List ℕ) (place : Place) (c : Cause) (rest : List ℕ) where
       other is b = false≢true (sym is ∙ has_begun input b)
 
       by : (b : Bool) → (nat_le 8 (length input) && nat_eq (be64 input 0) libxl_ident) ≡ b → cond b (wrapped_at (drop 8 input)) (bare_at input) ≡ Faulty (place, c) rest → RefusedStream input place c rest
-      by false is g = bare (other is) (image_is_refused input place c rest (only_first Bare (image_at input) (place, c) rest g))
+      by false is g = bare place (other is) (image_is_refused input place c rest (only_first Bare (image_at input) (place, c) rest g))
       by true is g =
           let f = ident_of input is in wrapped_fails f (sym (libxl_goes f.ident f.behind f.size f.is) ∙ ap stream_at (sym f.whole) ∙ h)
 

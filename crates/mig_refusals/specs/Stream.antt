@@ -1,49 +1,73 @@
--- Refusals of streams of either form in the words of the format (libxl migration stream): a faultless front, and behind it a
--- part that isn't whole or in which a cause stands.
-use Rattle.std.specs.Prelude.{◌≡◌, ◌⊎◌, ◌≤◌, ◌<◌, ◌%◌, ◌^◌, ℕ, true, false, Bool, List, [], ◌++◌, length, drop, Some, None, IsSome}
+-- The form of a libxl stream around its image (libxl migration stream), and in each part the causes that may stand in it, in the
+-- order of their numbers; and the refusals of streams of either form, behind a faultless front.
+use Rattle.std.specs.Prelude.{◌≡◌, ◌≤◌, ◌%◌, ◌^◌, ℕ, true, false, Bool, List, [], ◌∷◌, ◌++◌, length, drop, is_some, is_none, ◌==◌, if◌then◌else◌}
 use Rattle.std.specs.List.{flat_map}
-use Rattle.mig_bytes.specs.Bytes.{IsLeastPadding}
-use Rattle.mig_bytes.specs.Failing.{IsFaultless, Fails}
+use Rattle.mig_bytes.specs.Bytes.{padding_len}
 use Rattle.mig_bytes.specs.Fields.{le32, be32, be64}
 use Rattle.mig_bytes.specs.Sequences.{Spells}
+use Rattle.mig_form.specs.Form.{FormOf, ◌>>>◌, bytes_form, said_form, SpelledAs, RefusedAs}
+use Rattle.mig_form.specs.Form.FormOf.{Gives}
+use Rattle.mig_form.specs.Tests.{Test, computed, is_ascending}
+use Rattle.mig_form.specs.Tests.Test.{Less, AtMost, Equal, Is, Not, Both, Either}
 use Rattle.mig_headers.specs.RecordTypes.{most_body}
+use Rattle.mig_headers.specs.CauseNumbers.{number_of_cause}
 use Rattle.mig_headers.specs.Headers.{libxl_ident, IsLibxlHeader}
 use Rattle.mig_headers.specs.Pairs.{Pair, AreRising, text_of_pair}
 use Rattle.mig_headers.specs.declared.fault.Cause.{Cause}
-use Rattle.mig_headers.specs.declared.fault.Cause.TheVariants.{Truncated, BadVersion, BigEndian, BodyTooLong, Unsupported, UnknownMandatory, BadLength, TooManyRecords, BadPairs, BadKey, BadEmulator, EmulatorForPv, ContextCount, TooManyPairs, EmulatorIndex}
+use Rattle.mig_headers.specs.declared.fault.Cause.TheVariants.{Truncated, BadVersion, BigEndian, BodyTooLong, Unsupported, UnknownMandatory, BadLength, TooManyRecords, BadEmulator, EmulatorForPv, ContextCount, TooManyPairs, EmulatorIndex}
 use Rattle.mig_headers.specs.declared.fault.Place.{Place}
 use Rattle.mig_headers.specs.declared.fault.Place.TheVariants as places
-use Rattle.mig_headers.specs.declared.kind.Kind.TheVariants.{Pv}
-use Rattle.mig_policy.specs.PairFaults.{IsTornAt, IsBadKeyAt}
+use Rattle.mig_policy.specs.PairFaults.{pairs_fault}
 use Rattle.mig_policy.specs.PairMaps.{last_pair_value, pairs_in}
 use Rattle.mig_restore.specs.Judging.{most_records}
-use Rattle.mig_restore.specs.Stream.{ImageOf}
-use Rattle.mig_refusals.specs.Refusals.{FailsBehind}
-use Rattle.mig_refusals.specs.Libxc.{IsFirstCause, RefusedLibxc}
+use Rattle.mig_refusals.specs.Libxc.{RefusedLibxc}
 use Rattle.mig_emulators.specs.Content.{LibxlRecord, LibxlContent}
+use Rattle.mig_emulators.specs.Content.LibxlContent.{Nothing, Pairs, Context}
+use Rattle.mig_emulators.specs.Emulators.{emulators_of, most_pairs, pairs_said, spelled_with}
 use Rattle.mig_libxl.specs.Among.{is_libxl_ended, has_emulator, image_among}
-use Rattle.mig_emulators.specs.Emulators.{most_pairs, pairs_said}
-use Rattle.mig_libxl.specs.Judging.{emulator_key}
-use Rattle.mig_libxl.specs.Spelled.{HasLibxlContent, EmulatorsFit, FollowsLibxl}
+use Rattle.mig_libxl.specs.Judging.{allows_length, emulator_key, is_pv}
+use Rattle.mig_libxl.specs.Spelled.{FollowsLibxl}
 
--- ---- where each cause stands, a line for each; causes that have places stand at several, all others at place 0
+-- ---- conditions and their causes
 
 -- the header behind its ident ("Header")
-pub data LibxlHeaderHas (bytes : List ℕ) : ℕ → Cause → Type 0 where
-  big_endian : be32 bytes 4 % 2 ≡ 1 → LibxlHeaderHas bytes 0 BigEndian
-  bad_version : (be32 bytes 0 ≡ 2 → ⊥) → LibxlHeaderHas bytes 0 (BadVersion (be32 bytes 0))
+abbrev pub header_causes : List ℕ → List (Test × Cause)
+header_causes bytes = (Not (Equal (be32 bytes 0) 2), BadVersion (be32 bytes 0)) ∷ (Equal (be32 bytes 4 % 2) 1, BigEndian) ∷ []
 
 -- a record head with this type and body length, behind these records ("Records", and the section of each type)
-pub data LibxlHeadHas (records : List LibxlRecord) (type len : ℕ) : ℕ → Cause → Type 0 where
-  second_context : type ≡ 1 → IsSome (image_among records) → LibxlHeadHas records type len 0 ContextCount
-  no_context : type ≡ 0 → image_among records ≡ None → LibxlHeadHas records type len 0 ContextCount
-  emulator_for_pv : (image : ImageOf) → type ≡ 0 → image_among records ≡ Some image → image.opening.kind ≡ Pv → has_emulator records ≡ true → LibxlHeadHas records type len 0 EmulatorForPv
-  too_many : most_records ≤ length records → LibxlHeadHas records type len 0 TooManyRecords
-  no_body : (type ≡ 0) ⊎ (type ≡ 1) → (len ≡ 0 → ⊥) → LibxlHeadHas records type len 0 (BadLength len)
-  short_body : (type ≡ 2) ⊎ (type ≡ 3) → len < 8 → LibxlHeadHas records type len 0 (BadLength len)
-  unknown : 5 < type → type < 2 ^ 31 → LibxlHeadHas records type len 0 (UnknownMandatory type)
-  unsupported : (type ≡ 4) ⊎ (type ≡ 5) → LibxlHeadHas records type len 0 (Unsupported type)
-  too_long : most_body < len → LibxlHeadHas records type len 0 (BodyTooLong len)
+abbrev pub head_causes : List LibxlRecord → ℕ → ℕ → List (Test × Cause)
+head_causes records type len =
+    (Less most_body len, BodyTooLong len)
+    ∷ (Either (Equal type 4) (Equal type 5), Unsupported type)
+    ∷ (Both (Less 5 type) (Not (AtMost (2 ^ 31) type)), UnknownMandatory type)
+    ∷ (Not (Is (allows_length type len)), BadLength len)
+    ∷ (AtMost most_records (length records), TooManyRecords)
+    ∷ (Both (Equal type 0) (Both (Is (is_pv (image_among records))) (Is (has_emulator records))), EmulatorForPv)
+    ∷ (Either (Both (Equal type 1) (Is (is_some (image_among records)))) (Both (Equal type 0) (Is (is_none (image_among records)))), ContextCount)
+    ∷ []
+
+-- the pairs of an emulator: what is wrong with their text; the emulator's id, how long its store becomes, and its index
+-- ("EMULATOR_XENSTORE_DATA")
+abbrev pub pairs_causes : List LibxlRecord → List ℕ → List (Test × Cause)
+pairs_causes records body =
+    computed (pairs_fault (drop 8 body))
+    ++ ((AtMost 3 (le32 body 0), BadEmulator (le32 body 0))
+    ∷ (Less most_pairs (spelled_with (emulators_of records) (emulator_key 258 body) (pairs_in (drop 8 body))), TooManyPairs)
+    ∷ (AtMost 256 (le32 body 4), EmulatorIndex (le32 body 4))
+    ∷ [])
+
+-- an emulator's context ("EMULATOR_CONTEXT")
+abbrev pub context_causes : List ℕ → List (Test × Cause)
+context_causes body = (AtMost 3 (le32 body 0), BadEmulator (le32 body 0)) ∷ (AtMost 256 (le32 body 4), EmulatorIndex (le32 body 4)) ∷ []
+
+-- each table is in the order of the causes' numbers
+pub record WrapperCausesAscend : Type 0 where
+  pub in_header : (bytes : List ℕ) → is_ascending number_of_cause (header_causes bytes) ≡ true
+  pub in_head : (records : List LibxlRecord) (type len : ℕ) → is_ascending number_of_cause (head_causes records type len) ≡ true
+  pub in_pairs : (records : List LibxlRecord) (body : List ℕ) → is_ascending number_of_cause (pairs_causes records body) ≡ true
+  pub in_context : (body : List ℕ) → is_ascending number_of_cause (context_causes body) ≡ true
+
+-- ---- how long a store becomes, in words
 
 -- what all these pairs come to: their keys in ascending order, each once, with the value of the last pair that has it
 pub record AreMerged (all pairs : List Pair) : Type 0 where
@@ -54,72 +78,37 @@ pub record AreMerged (all pairs : List Pair) : Type 0 where
 abbrev pub pairs_with : List LibxlRecord → List ℕ → List Pair
 pairs_with records body = pairs_said (emulator_key 258 body) records ++ pairs_in (drop 8 body)
 
--- a body with pairs for an emulator, behind these records; the place of a text counts from the first pair
--- ("EMULATOR_XENSTORE_DATA")
-pub data PairsHas (records : List LibxlRecord) (body : List ℕ) : ℕ → Cause → Type 0 where
-  index : 256 ≤ le32 body 4 → PairsHas records body 0 (EmulatorIndex (le32 body 4))
-  too_many : (pairs : List Pair) → AreMerged (pairs_with records body) pairs → most_pairs < length (flat_map text_of_pair pairs) → PairsHas records body 0 TooManyPairs
-  bad_emulator : 3 ≤ le32 body 0 → PairsHas records body 0 (BadEmulator (le32 body 0))
-  bad_key : (place : ℕ) → IsBadKeyAt (drop 8 body) place → PairsHas records body place (BadKey place)
-  torn : (place : ℕ) → IsTornAt (drop 8 body) place → PairsHas records body place (BadPairs place)
+-- a store becomes as long as what all pairs come to
+pub record StoresAreMerged : Type 0 where
+  pub length_is : (records : List LibxlRecord) (body : List ℕ) (pairs : List Pair) → AreMerged (pairs_with records body) pairs → length (flat_map text_of_pair pairs) ≡ spelled_with (emulators_of records) (emulator_key 258 body) (pairs_in (drop 8 body))
+  pub some : (records : List LibxlRecord) (body : List ℕ) → (pairs : List Pair) × AreMerged (pairs_with records body) pairs
 
--- a body with an emulator's context ("EMULATOR_CONTEXT")
-pub data EmulatorContextHas (body : List ℕ) : ℕ → Cause → Type 0 where
-  index : 256 ≤ le32 body 4 → EmulatorContextHas body 0 (EmulatorIndex (le32 body 4))
-  bad_emulator : 3 ≤ le32 body 0 → EmulatorContextHas body 0 (BadEmulator (le32 body 0))
+-- ---- the forms
 
--- ---- the parts of a libxl stream around its image
+abbrev pub header_form : FormOf Cause (List ℕ)
+header_form = bytes_form Truncated 8 header_causes
 
--- the header behind its ident; a record's head; the bodies of emulators; a body of which nothing is kept; padding
-pub data WrapperPart : Type 0 where
-  Header : WrapperPart
-  Head : List LibxlRecord → WrapperPart
-  PairsBody : List LibxlRecord → ℕ → WrapperPart
-  ContextBody : ℕ → WrapperPart
-  OtherBody : ℕ → WrapperPart
-  Padding : ℕ → WrapperPart
+abbrev pub record_head_form : List LibxlRecord → FormOf Cause (List ℕ)
+record_head_form records = bytes_form Truncated 8 (λ head. head_causes records (le32 head 0) (le32 head 4))
 
--- how many bytes a part has
-abbrev pub wrapper_size : WrapperPart → ℕ
-wrapper_size Header = 8
-wrapper_size (Head records) = 8
-wrapper_size (PairsBody records len) = len
-wrapper_size (ContextBody len) = len
-wrapper_size (OtherBody len) = len
-wrapper_size (Padding n) = n
+-- the body of a record of this type, which isn't LIBXC_CONTEXT
+abbrev pub record_body_form : List LibxlRecord → ℕ → ℕ → FormOf Cause LibxlContent
+record_body_form records type len =
+    if type == 2 then said_form Truncated len (pairs_causes records) (λ body. Pairs (emulator_key 258 body) (pairs_in (drop 8 body)))
+    else if type == 3 then said_form Truncated len context_causes (λ body. Context (emulator_key 259 body) (drop 8 body))
+    else said_form Truncated len (λ _. []) (λ _. Nothing)
 
--- the causes that stand in a part
-abbrev pub StandsInWrapper : WrapperPart → List ℕ → ℕ → Cause → Type 0
-StandsInWrapper Header bytes place cause = LibxlHeaderHas bytes place cause
-StandsInWrapper (Head records) bytes place cause = LibxlHeadHas records (le32 bytes 0) (le32 bytes 4) place cause
-StandsInWrapper (PairsBody records len) bytes place cause = PairsHas records bytes place cause
-StandsInWrapper (ContextBody len) bytes place cause = EmulatorContextHas bytes place cause
-StandsInWrapper (OtherBody len) bytes place cause = ⊥
-StandsInWrapper (Padding n) bytes place cause = ⊥
+-- what stands behind a head: a body and its padding; behind LIBXC_CONTEXT the image, which is no part of this form
+abbrev pub behind_record_head : List LibxlRecord → List ℕ → FormOf Cause LibxlRecord
+behind_record_head records head =
+    if le32 head 0 == 1 then Gives (record { type = le32 head 0; content = Nothing })
+    else (record_body_form records (le32 head 0) (le32 head 4) >>> λ content. bytes_form Truncated (padding_len (le32 head 4)) (λ _. []) >>> λ _. Gives (record { type = le32 head 0; content = content }))
 
--- a part that is whole and without a cause
-abbrev pub IsFaultlessWrapperPart : WrapperPart → List ℕ → Type 0
-IsFaultlessWrapperPart part bytes = IsFaultless (wrapper_size part) (λ read (at : ℕ × Cause). StandsInWrapper part read at.0 at.1) bytes
+-- a record behind these records
+abbrev pub record_form : List LibxlRecord → FormOf Cause LibxlRecord
+record_form records = record_head_form records >>> λ head. behind_record_head records head
 
--- a part isn't whole in what is left, of which nothing remains; or it is, and this cause is named, and rest follows it
-abbrev pub WrapperPartFails : WrapperPart → List ℕ → Cause → List ℕ → Type 0
-WrapperPartFails part left cause rest = Fails Truncated (wrapper_size part) (λ bytes. IsFirstCause (StandsInWrapper part bytes)) left cause rest
-
--- ---- faultless fronts, and what comes next
-
--- the body of a record of this type and length, which isn't LIBXC_CONTEXT
-pub data HasBody (records : List LibxlRecord) (len : ℕ) : ℕ → WrapperPart → Type 0 where
-  pairs : HasBody records len 2 (PairsBody records len)
-  context : HasBody records len 3 (ContextBody len)
-  ends : HasBody records len 0 (OtherBody len)
-  optional : (type : ℕ) → 2 ^ 31 ≤ type → HasBody records len type (OtherBody len)
-
--- the first parts of a record behind these records
-pub data WithinWrapper (records : List LibxlRecord) : List ℕ → WrapperPart → Type 0 where
-  at_head : WithinWrapper records [] (Head records)
-  in_body : (head : List ℕ) (part : WrapperPart) → IsFaultlessWrapperPart (Head records) head → HasBody records (le32 head 4) (le32 head 0) part → WithinWrapper records head part
-  at_padding : (head body : List ℕ) (content : LibxlContent) (n : ℕ) → IsFaultlessWrapperPart (Head records) head → length body ≡ le32 head 4 → HasLibxlContent (le32 head 0) body content → EmulatorsFit records content
-      → IsLeastPadding (le32 head 4) n → WithinWrapper records (head ++ body) (Padding n)
+-- ---- refusals, behind faultless fronts
 
 -- the header, and behind it these records, of which none is END
 pub record IsOpenWrapper (front : List ℕ) (records : List LibxlRecord) : Type 0 where
@@ -131,31 +120,19 @@ pub record IsOpenWrapper (front : List ℕ) (records : List LibxlRecord) : Type 
   pub spelled : Spells FollowsLibxl bytes records
   pub not_ended : is_libxl_ended records ≡ false
 
--- a faultless front of a libxl stream, and the place and the part that come next
-pub data BehindWrapper : List ℕ → Place → WrapperPart → Type 0 where
-  at_header : (ident : List ℕ) → length ident ≡ 8 → be64 ident 0 ≡ libxl_ident → BehindWrapper ident places.LibxlHeader Header
-  in_record : (front before_it : List ℕ) (records : List LibxlRecord) (part : WrapperPart) → IsOpenWrapper front records → WithinWrapper records before_it part → BehindWrapper (front ++ before_it) (places.LibxlRecord (length records)) part
-
--- the image that follows LIBXC_CONTEXT is refused
-pub record ImageFails (input : List ℕ) (place : Place) (cause : Cause) (rest : List ℕ) : Type 0 where
-  pub front : List ℕ
-  pub head : List ℕ
-  pub left : List ℕ
-  pub records : List LibxlRecord
-  pub whole : input ≡ front ++ (head ++ left)
-  pub is_open : IsOpenWrapper front records
-  pub faultless : IsFaultlessWrapperPart (Head records) head
-  pub is_context : le32 head 0 ≡ 1
-  pub refused : RefusedLibxc left place cause rest
-
 -- an input of 8 bytes and more that begins as a libxl stream
 pub record BeginsAsLibxl (input : List ℕ) : Type 0 where
   pub long : 8 ≤ length input
   pub ident : be64 input 0 ≡ libxl_ident
 
--- the input is refused at this place, for this cause, and rest follows the faulty part: a libxl stream in a part of its own or
--- in its image, and any other input as an image
-pub data RefusedStream (input : List ℕ) (place : Place) (cause : Cause) (rest : List ℕ) : Type 0 where
-  bare : (BeginsAsLibxl input → ⊥) → RefusedLibxc input place cause rest → RefusedStream input place cause rest
-  in_wrapper : FailsBehind (λ front part. BehindWrapper front place part) WrapperPartFails input cause rest → RefusedStream input place cause rest
-  in_image : ImageFails input place cause rest → RefusedStream input place cause rest
+-- the input is refused at this place, for this cause, and rest follows the faulty part: an image that is no libxl stream; a libxl
+-- stream in its header, in a record behind others, or in the image behind the head of LIBXC_CONTEXT
+pub data RefusedStreamAt (input : List ℕ) (cause : Cause) (rest : List ℕ) : Place → Type 0 where
+  bare : (place : Place) → (BeginsAsLibxl input → ⊥) → RefusedLibxc input place cause rest → RefusedStreamAt input cause rest place
+  in_header : (ident left : List ℕ) → input ≡ ident ++ left → length ident ≡ 8 → be64 ident 0 ≡ libxl_ident → RefusedAs header_form left cause rest → RefusedStreamAt input cause rest places.LibxlHeader
+  in_record : (front left : List ℕ) (records : List LibxlRecord) → input ≡ front ++ left → IsOpenWrapper front records → RefusedAs (record_form records) left cause rest → RefusedStreamAt input cause rest (places.LibxlRecord (length records))
+  in_image : (place : Place) (front head left : List ℕ) (records : List LibxlRecord) → input ≡ front ++ (head ++ left) → IsOpenWrapper front records → SpelledAs (record_head_form records) head head → le32 head 0 ≡ 1 → RefusedLibxc left place cause rest
+      → RefusedStreamAt input cause rest place
+
+abbrev pub RefusedStream : List ℕ → Place → Cause → List ℕ → Type 0
+RefusedStream input place cause rest = RefusedStreamAt input cause rest place

@@ -26,5 +26,6 @@ pub use libxc::{
     page_answers_the_least_fault, whole_answers_the_least_fault,
 };
 pub use stream::{
-    stream_accepted_or_refused, stream_never_both, stream_one_refusal, stream_refusals_agree,
+    stream_accepted_or_refused, stream_causes_ascend, stream_never_both, stream_one_refusal,
+    stream_refusals_agree, stream_stores_are_merged,
 };

@@ -1,11 +1,11 @@
 ghost use Rattle.mig_libxl.specs.Spelled.{AcceptedStream};
 ghost use Rattle.mig_libxl.specs.Stream.{IsStreamRefused};
 ghost use Rattle.mig_refusals.specs.Refusals.{AreAllAcceptedOrRefused, AreJudged, HasOneRefusal, IsNeverBoth};
-ghost use Rattle.mig_refusals.specs.Stream.{RefusedStream};
+ghost use Rattle.mig_refusals.specs.Stream.{RefusedStream, StoresAreMerged, WrapperCausesAscend};
 
-/// Judging refuses an input as a stream of either form for a cause at a place exactly where a faultless front is followed by
-/// a part that isn't whole, or that is whole and in which this cause is named: of several causes that of the least number,
-/// and of one cause its least place. What is left is what follows that part.
+/// Judging refuses an input as a stream of either form for a cause at a place exactly where it is no libxl stream and is refused
+/// as an image; or where behind a faultless front of a libxl stream a form is refused, that of its header or of a record; or the
+/// image behind the head of LIBXC_CONTEXT. What is left is what follows the faulty part.
 #[tactic(auto, using(crate::proofs::StreamVerdicts::agree))]
 pub fn stream_refusals_agree()
     ensures { AreJudged RefusedStream IsStreamRefused }
@@ -27,4 +27,18 @@ pub fn stream_accepted_or_refused()
 #[tactic(auto, using(crate::proofs::StreamVerdicts::never))]
 pub fn stream_never_both()
     ensures { IsNeverBoth RefusedStream AcceptedStream }
+{}
+
+/// The tables of causes of a libxl stream are in the order of the causes' numbers: of several causes that stand in a part the
+/// least is named.
+#[tactic(auto, using(crate::proofs::StreamCauses::ascend))]
+pub fn stream_causes_ascend()
+    ensures { WrapperCausesAscend }
+{}
+
+/// A store becomes as long as what all its pairs come to: their keys in ascending order, each once, with the value of the last
+/// pair that has it.
+#[tactic(auto, using(crate::proofs::StreamCauses::stores_are_merged))]
+pub fn stream_stores_are_merged()
+    ensures { StoresAreMerged }
 {}
