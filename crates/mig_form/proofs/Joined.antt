@@ -3,9 +3,9 @@ use Rattle.std.proofs.Common.{append-nil, subst, arith, ◌<◌, ◌≡◌, ◌�
 use Rattle.std.specs.Option.{option_map}
 use Rattle.mig_bytes.specs.Judged.{Judged, ◌>>=◌, part, tried, placed, steps, each}
 use Rattle.mig_bytes.specs.Judged.Judged.{Passes, Faulty}
-use Rattle.mig_bytes.proofs.Joins.{both_pass, bind_cases, same_passes, same_faulty, passes_not}
+use Rattle.mig_bytes.proofs.Joins.{both_pass, bind_cases, same_passes, same_faulty, passes_not, no_bytes}
 use Rattle.mig_form.specs.Tests.{Test, NoneHolds, first_named, retold_rows}
-use Rattle.mig_form.specs.Form.{FormOf, ◌>>>◌, steps_form, each_form, retold, placed_form, bytes_form, paired, judged_as, judged_then, SpelledAs, RefusedAs, BeginsAs}
+use Rattle.mig_form.specs.Form.{FormOf, ◌>>>◌, steps_form, each_form, retold, placed_form, bytes_form, asked_form, paired, judged_as, judged_then, SpelledAs, RefusedAs, BeginsAs}
 use Rattle.mig_form.specs.Form.FormOf.{Gives, Part}
 use Rattle.mig_form.specs.Form.SpelledAs.{nothing, one_part}
 use Rattle.mig_form.proofs.Tests.{retold_is}
@@ -229,3 +229,7 @@ each_is f judge same [] i = refl
 each_is f judge same (w ∷ ws) i =
     then_is (f w) (λ x. each_form f ws >>> λ xs. Gives (x ∷ xs)) i (judge w i) (λ first. each judge ws first.1 >>= λ others. Passes (first.0 ∷ others.0) others.1) (same w i)
     (λ x mid. then_is (each_form f ws) (λ xs. Gives (x ∷ xs)) mid (each judge ws mid) (λ others. Passes (x ∷ others.0) others.1) (each_is f judge same ws mid) (λ xs rest. refl))
+
+pub asked_is : {C X : Type 0} (truncated : C) (rows : List (Test × C)) (x : X) (i : List ℕ) → judged_as (asked_form truncated rows x) i ≡ (tried (first_named rows) i >>= λ _. Passes x i)
+unfolding judged_as
+asked_is truncated rows x i = ap (λ j. j >>= λ p. tried (first_named rows) p.1 >>= λ _. Passes x p.1) (no_bytes truncated i)

@@ -16,6 +16,10 @@ said_form truncated n rows says = Part n truncated rows (λ bytes. Gives (says b
 abbrev pub bytes_form : {C : Type 0} → C → ℕ → (List ℕ → List (Test × C)) → FormOf C (List ℕ)
 bytes_form truncated n rows = said_form truncated n rows (λ bytes. bytes)
 
+-- no bytes, but a cause may stand
+abbrev pub asked_form : {C X : Type 0} → C → List (Test × C) → X → FormOf C X
+asked_form truncated rows x = said_form truncated 0 (λ _. rows) (λ _. x)
+
 infixl 10 ◌>>>◌
 -- one form behind another
 unfoldable pub ◌>>>◌ : {C X Y : Type 0} → FormOf C X → (X → FormOf C Y) → FormOf C Y

@@ -18,16 +18,14 @@ pub use Rattle.std.specs.declared.cmp.Ordering.{Ordering}
 pub use Rattle.std.specs.declared.cmp.Ordering.TheVariants.{Less}
 pub use Rattle.byteorder.specs.Endian.{little_bytes, little_number}
 pub use Rattle.mig_bytes.proofs.ByteLists.{bytes_back, bytes_front}
-pub use Rattle.mig_bytes.proofs.Failing.{Names, fails_is, is_fails}
-pub use Rattle.mig_bytes.proofs.Joins.{bind_cases, both_pass, only_first, part_passes, part_whole, passes_not, placed_faulty, placed_passes, same_faulty, same_passes, then_faulty, then_passes, tried_none, tried_passes}
-pub use Rattle.mig_bytes.proofs.Said.{said_goes, said_passes}
+pub use Rattle.mig_bytes.proofs.Failing.{Names}
+pub use Rattle.mig_bytes.proofs.Joins.{bind_cases, both_pass, only_first, part_passes, passes_not, placed_faulty, placed_passes, same_faulty, same_passes, then_faulty, then_passes}
+pub use Rattle.mig_bytes.proofs.Said.{said_passes}
 pub use Rattle.mig_bytes.proofs.Sequences.{accepted_spelled, refused_stops, spelled_accepted, spelled_refused}
 pub use Rattle.mig_bytes.proofs.Walks.{walk_end_reached}
-pub use Rattle.mig_bytes.specs.Bytes.{AreBytes, IsLeastPadding, padding_len}
-pub use Rattle.mig_bytes.specs.Failing.{Fails, IsFaultless}
+pub use Rattle.mig_bytes.specs.Bytes.{AreBytes, padding_len}
 unfoldable pub use Rattle.mig_bytes.specs.Fields.{le64}
 pub use Rattle.mig_bytes.specs.Fields.{be32, be64, le16, le32}
-unfoldable pub use Rattle.mig_bytes.specs.Judged.{each}
 pub use Rattle.mig_bytes.specs.Judged.{Judged, part, placed, plain_at, said_at, tried, ◌>>=◌}
 pub use Rattle.mig_bytes.specs.Judged.Judged.{Faulty, Passes}
 pub use Rattle.mig_bytes.specs.Sequences.{Spells, sequence_at}
@@ -35,7 +33,7 @@ pub use Rattle.mig_bytes.specs.Walk.{walk_end}
 pub use Rattle.mig_bytes.specs.Walk.Reaches.{here, next as next_reached}
 pub use Rattle.mig_headers.proofs.Chains.{chain_more, gone, none_of, not_last, scan_is}
 pub use Rattle.mig_headers.proofs.ContextTexts.{in32}
-pub use Rattle.mig_headers.proofs.FirstCauses.{ascends, is_named, join, none_is, rows_name}
+pub use Rattle.mig_headers.proofs.FirstCauses.{ascends, is_named, join, rows_name}
 pub use Rattle.mig_headers.proofs.FirstFaults.{neither_some}
 pub use Rattle.mig_headers.proofs.RecordNumbers.{numbers_are_inverse}
 unfoldable pub use Rattle.mig_headers.specs.Contexts.{after_entry, fault_at, scan}
@@ -86,7 +84,7 @@ pub use Rattle.mig_guest.specs.declared.table.Entry.TheVariants.{Frame, Superpag
 pub use Rattle.mig_records.proofs.Places.{none_pass, place_is_first}
 pub use Rattle.mig_records.specs.Faults.{count_rows, fault_of_count, fault_of_long, fault_of_words, type_allows}
 pub use Rattle.mig_records.specs.Words.{data_len_of, first_place, first_word, has_reserved_type, is_outside, names_outside, words}
-pub use Rattle.mig_order.specs.Order.{IsInOrder, broken_rules, content_records, earlier_in, fault_of_type, is_of, late_static, static_records}
+pub use Rattle.mig_order.specs.Order.{broken_rules, content_records, earlier_in, fault_of_type, is_of, late_static, static_records}
 pub use Rattle.mig_bodies.proofs.PvLaws.{vcpu_rows}
 pub use Rattle.mig_bodies.proofs.TableSpelled.{length_passes}
 pub use Rattle.mig_bodies.specs.Layouts.{entry_count, entry_width, fault_of_entries, fault_of_key, front_width, layout}
@@ -105,17 +103,14 @@ pub use Rattle.mig_pvtables.specs.Faults.{fault_of_guest, faults_for, find_entry
 pub use Rattle.mig_pvtables.specs.P2mFrames.{count_in, listed}
 pub use Rattle.mig_pvtables.specs.Tables.{fault_of_page_table, is_superpage, names_above}
 pub use Rattle.mig_pvtables.specs.VcpuContexts.{field_value, frame_of_field, is_marked, is_used}
-pub use Rattle.mig_restore.proofs.Batches.{behind_good, behind_words, each_stage, entries_in_place, entry_of, other_entries, words_stage}
-pub use Rattle.mig_restore.proofs.Bodies.{body_goes, body_says, coded_is, optional_at, shaped_code, type_at as body_type_at}
-pub use Rattle.mig_restore.proofs.Converse.{goes, going, headers_go, image_header_goes, marker_goes}
-pub use Rattle.mig_restore.proofs.Laws.{behind_kind, behind_marker, behind_version, fields_fine, finds, image_header, opened as stream_opened}
-unfoldable pub use Rattle.mig_restore.proofs.Parts.{behind_body, behind_head, behind_record}
-pub use Rattle.mig_restore.proofs.Parts.{asks, head_stage, taken}
+pub use Rattle.mig_restore.proofs.Batches.{behind_good, behind_words, entries_in_place, words_stage}
+pub use Rattle.mig_restore.proofs.Bodies.{shaped_code}
+pub use Rattle.mig_restore.proofs.Converse.{goes, going, headers_go, image_header_goes}
+pub use Rattle.mig_restore.proofs.Laws.{behind_kind, behind_marker, behind_version, finds, image_header, opened as stream_opened}
 unfoldable pub use Rattle.mig_restore.specs.Judging.{fault_of_fields}
-pub use Rattle.mig_restore.specs.Judging.{Before, Opening, before, body_at, code_of_type, coded_at, entries_at, fault_of_data, fault_of_head, fault_of_level, fault_of_number, fault_of_page, lists_of, most_records, next_at, record_at, type_in_word, typed_at, words_at}
+pub use Rattle.mig_restore.specs.Judging.{Before, Opening, before, fault_of_data, fault_of_head, fault_of_level, fault_of_number, fault_of_page, lists_of, most_records, next_at, type_in_word}
 pub use Rattle.mig_restore.specs.Mean.{meant_type, sent}
-pub use Rattle.mig_restore.specs.Record.{Content, FrameEntry, StreamRecord, is_ended, is_verified, placed_content}
-pub use Rattle.mig_restore.specs.Record.Content.{Frames, Nothing, Sets}
+pub use Rattle.mig_restore.specs.Record.{FrameEntry, StreamRecord, is_ended}
 pub use Rattle.mig_restore.specs.Spelled.{Accepted, Follows}
 unfoldable pub use Rattle.mig_restore.specs.Stream.{image_at, opening_at}
 pub use Rattle.mig_restore.specs.Stream.{IsRefused, image_of, placed_next, records_at}
@@ -174,6 +169,6 @@ unfoldable pub use Rattle.mig_image.specs.ImageParts.{host_at}
 pub use Rattle.mig_image.specs.ImageParts.{count_at, fault_of_frame, fault_of_host_head, frame_head_at, frame_said, frames_at, head_key, head_pfn, head_version, host_frame_at, host_head_at, host_page_at, host_parts_at, is_sent, name_rows, opened, page_unsent, part_at, sent_page_at, size_rows}
 pub use Rattle.mig_host.specs.HostView.{put_frame, put_part_in}
 pub use Rattle.mig_refusals.specs.LegacyToolstack.{EntryWrong, FieldWrong, PhysmapsTo}
-pub use Rattle.mig_refusals.specs.Libxc.{AnswersFirstCause, BehindLibxc, Breaks, ContextHas, DomainHas, EntriesTo, EntryHas, FrontHas, GuestHas, HeadHas, HeaderHas, InBody, InPages, IsFaultlessLibxcPart, IsFirstCause, IsOpen, IsTriedBefore, LengthHas, LibxcPart, LibxcPartFails, MarkerHas, PageHas, PagesTo, ParamsHas, RefusedLibxc, StandsInLibxc, Within, WordsHas, body_part, end_record, libxc_size}
+pub use Rattle.mig_refusals.specs.Libxc.{AnswersFirstCause, Breaks, ContextHas, DomainHas, EntriesTo, EntryHas, FrontHas, GuestHas, HeadHas, HeaderHas, IsFirstCause, IsTriedBefore, LengthHas, MarkerHas, PageHas, ParamsHas, WordsHas, BodyHas, LibxcCausesStand}
 pub use Rattle.mig_refusals.specs.LibxcPv.{InfoHas, IsUsedField, P2mHas, PvGuestHas, TableHas, TakesType, VcpuHas, rank_of}
-pub use Rattle.mig_refusals.specs.Refusals.{AreAllAcceptedOrRefused, AreJudged, FailsBehind, HasOneRefusal, IsNeverBoth}
+pub use Rattle.mig_refusals.specs.Refusals.{AreAllAcceptedOrRefused, AreJudged, HasOneRefusal, IsNeverBoth}

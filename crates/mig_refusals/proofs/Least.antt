@@ -1,21 +1,12 @@
 -- The cause that is named: of a table the first row whose test holds, and of several tables the first that names one.
-use Rattle.mig_refusals.proofs.Common.{◌≡◌, ◌⊎◌, inl, inr, ℕ, List, Bool, true, false, cond, refl, false≢true, Option, Some, None, sym, ap, subst, arith, option_or, first_fault, Cause, OutOfOrder, IsTriedBefore, IsFirstCause, AnswersFirstCause, number_of_cause, ascends, rows_name, Truncated}
+use Rattle.mig_refusals.proofs.Common.{◌≡◌, ◌⊎◌, inl, inr, ℕ, List, Bool, true, false, cond, refl, false≢true, Option, Some, None, sym, ap, subst, arith, option_or, first_fault, Cause, OutOfOrder, IsTriedBefore, IsFirstCause, AnswersFirstCause, number_of_cause, ascends, rows_name}
 use Rattle.mig_standing.specs.NamedFirst.{NamesFirst}
 use Rattle.mig_headers.proofs.FirstCauses as firsts
 use Rattle.mig_headers.proofs.FirstCauses.{Named}
-use Rattle.mig_refusals.proofs.Parts.{Tries}
 
 -- what a computed fault is of the causes that stand
 abbrev pub Least : (ℕ → Cause → Type 0) → Option Cause → Type 0
 Least Has f = NamesFirst number_of_cause Has f
-
--- what is tried in a part: the least of the causes that stand in it
-pub record LeastTried (Has : List ℕ → ℕ → Cause → Type 0) : Type 0 where
-  pub fault : List ℕ → Option Cause
-  pub least : (bytes : List ℕ) → Least (Has bytes) (fault bytes)
-
-abbrev pub nothing_tried : LeastTried (λ _ k c. ⊥)
-nothing_tried = record { fault = λ _. None; least = λ _. record { holds = λ k c h. h } }
 
 -- what is named is what is computed
 pub named_is : (Has : ℕ → Cause → Type 0) (f : Option Cause) (c : Cause) → Least Has f → IsFirstCause Has c → f ≡ Some c
@@ -33,17 +24,6 @@ pub answers_first : (Has : ℕ → Cause → Type 0) (f : Option Cause) → Leas
 answers_first Has f p = record {
   first = λ c. ((λ is. (subst (Least Has) is p).holds), (λ first. named_is Has f c p first));
   none = ((λ is. (subst (Least Has) is p).holds), (λ never. none_is Has f p (λ at h. never at.0 at.1 h)));
-}
-
-abbrev pub TriesLeast : ℕ → (List ℕ → ℕ → Cause → Type 0) → Type 0
-TriesLeast n Has = Tries Truncated n (λ bytes (at : ℕ × Cause). Has bytes at.0 at.1) (λ bytes. IsFirstCause (Has bytes))
-
-abbrev pub tries_least : (n : ℕ) (Has : List ℕ → ℕ → Cause → Type 0) → LeastTried Has → TriesLeast n Has
-tries_least n Has t = record {
-  fault = t.fault;
-  names = record { computed = λ bytes c is. (subst (Least (Has bytes)) is (t.least bytes)).holds; named = λ bytes c first. named_is (Has bytes) (t.fault bytes) c (t.least bytes) first };
-  none_named = λ bytes never. none_is (Has bytes) (t.fault bytes) (t.least bytes) never;
-  none_stands = λ bytes none at h. (subst (Least (Has bytes)) none (t.least bytes)).holds at.0 at.1 h;
 }
 
 -- a cause that stands at one place

@@ -4,11 +4,10 @@ pub mod FirstAnswers
 pub mod Firsts
 pub mod Laws
 pub mod Least
-pub mod Parts
 pub mod Tests
 pub mod LibxcCauses
 pub mod LibxcHeads
-pub mod LibxcRecords
+pub mod LibxcJudged
 pub mod LibxcVerdicts
 pub mod PvGuests
 pub mod PvTables

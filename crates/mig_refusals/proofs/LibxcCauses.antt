@@ -1,7 +1,6 @@
 -- The causes that stand in each part of an image.
-use Rattle.mig_refusals.proofs.Common.{◌≡◌, ◌⊎◌, inl, inr, ℕ, zero, suc, drop, ltb-false, ◌+◌, ◌*◌, ◌<◌, ◌≤◌, List, [], ◌∷◌, length, Bool, true, false, nat_lt, nat_eq, not, is_none, Option, Some, None, Result, Ok, Err, slice_index, refl, sym, ap, subst, ◌∙◌, arith, leb-true, ltb-true, eqb-true, eq-eqb, le-leb, lt-ltb, le-ltb, cases_order, both_ways, not-true, and_parts, and_from, common_steps, option_or, le32, here, first_fault, Cause, BadLength, PfnOutside, ParamIndex, Missing, Kind, Pv, Hvm, count_rows, fault_of_count, fault_of_words, fault_of_data, fault_of_head, EntriesTo, EntryHas, MarkerHas, HeaderHas, DomainHas, GuestHas, FrontHas, WordsHas, LengthHas, PageHas, ContextHas, ParamsHas, IsTriedBefore, LibxcPart, StandsInLibxc, libxc_size, fault_of_page, list_any, drop-drop, none-some, same_Some, little_number, le64, walk_end, walk_end_reached, Scanned, scan, scan_at, fault_at, after_entry, scan_is, marker_rows, image_rows, domain_rows, fault_of_marker, fault_of_image, fault_of_domain, number_of_cause, ContextFault, word_type, word_pfn, most_frames, level_of, GuestOf, context_key, words, data_len_of, has_reserved_type, names_outside, is_outside, first_place, first_word, place_is_first, none_pass, HvmContext, HvmParam, Layout, layout, fault_of_entries, fault_of_pv_info, fault_of_p2m, fault_of_vcpu, fault_of_body, fault_of_scan, fault_of_guest, fault_of_page_table, hvm_fault, type_in_word, fault_of_level, meant_type, TableHas, PvGuestHas, join, BadPageType, BadContext, TooManyFrames}
+use Rattle.mig_refusals.proofs.Common.{VcpuHas, numbers_are_inverse, ◌≡◌, ◌⊎◌, inl, inr, ℕ, zero, suc, drop, ltb-false, ◌+◌, ◌*◌, ◌<◌, ◌≤◌, List, [], ◌∷◌, length, Bool, true, false, nat_lt, nat_eq, not, is_none, Option, Some, None, Result, Ok, Err, slice_index, refl, sym, ap, subst, ◌∙◌, arith, leb-true, ltb-true, eqb-true, eq-eqb, le-leb, lt-ltb, le-ltb, cases_order, both_ways, not-true, and_parts, and_from, common_steps, option_or, le32, here, first_fault, Cause, BadLength, PfnOutside, ParamIndex, Missing, Kind, Pv, Hvm, count_rows, fault_of_count, fault_of_words, fault_of_data, EntriesTo, EntryHas, MarkerHas, HeaderHas, DomainHas, GuestHas, FrontHas, WordsHas, LengthHas, PageHas, ContextHas, ParamsHas, IsTriedBefore, fault_of_page, list_any, drop-drop, none-some, same_Some, little_number, le64, walk_end, walk_end_reached, Scanned, scan, scan_at, fault_at, after_entry, scan_is, marker_rows, image_rows, domain_rows, fault_of_marker, fault_of_image, fault_of_domain, number_of_cause, ContextFault, word_type, word_pfn, most_frames, level_of, GuestOf, context_key, data_len_of, has_reserved_type, names_outside, is_outside, first_place, first_word, place_is_first, none_pass, HvmContext, HvmParam, Layout, layout, fault_of_entries, fault_of_body, fault_of_scan, fault_of_guest, fault_of_page_table, hvm_fault, type_in_word, fault_of_level, meant_type, TableHas, PvGuestHas, join, BadPageType, BadContext, TooManyFrames, ◌/◌, false≢true, type_allows, type_number, type_of_number, PartCode, VcpuBasic, VcpuExtended, VcpuXsave, VcpuMsrs, code_number, is_vcpu, vcpu_rows, Shape, Table, Single, Other, entry_width, front_width, fault_of_key, entry_count, shape_of, has_shape, fault_by_shape, length_passes, neither_some, shaped_code, BodyHas, LibxcCausesStand}
 use Rattle.std.specs.FinMap as maps
-use Rattle.mig_refusals.specs.Libxc.LibxcPart.{Marker, HeaderRest, Domain, Head, WholeGuest, PagesFront, PagesWords, PagesLength, Page, InfoBody, P2mBody, VcpuBody, ContextBody, ParamsBody, OtherBody, Padding}
 use Rattle.mig_refusals.specs.Libxc.PageHas.{in_table}
 use Rattle.mig_refusals.specs.Libxc.{FrontHas as fronts, LengthHas as lengths, ParamsHas as of_params}
 use Rattle.mig_refusals.specs.Libxc.MarkerHas.{not_stream}
@@ -10,7 +9,8 @@ use Rattle.mig_refusals.specs.Libxc.DomainHas.{bad_page_shift, bad_kind}
 use Rattle.mig_refusals.specs.Libxc.GuestHas.{too_many_frames, missing, of_pv}
 use Rattle.mig_refusals.specs.Libxc.WordsHas.{outside, reserved}
 use Rattle.mig_refusals.specs.Libxc.ContextHas.{bad_context}
-use Rattle.mig_refusals.proofs.Least.{Least, LeastTried, TriesLeast, nothing_tried, tries_least, RowHas, Alone, alone_least, turned, both_least, named}
+use Rattle.mig_guest.proofs.PartRows.{number_found}
+use Rattle.mig_refusals.proofs.Least.{Least, answers_first, RowHas, Alone, alone_least, turned, both_least, named}
 use Rattle.mig_refusals.proofs.ContextEntries.{chain_reached, reached_chain, found_has, has_found}
 use Rattle.mig_refusals.proofs.LibxcHeads.{head_least}
 use Rattle.mig_refusals.proofs.PvTables.{table_least, info_least, p2m_least, vcpu_least}
@@ -251,25 +251,64 @@ module _ (body : List ℕ) where
       from _ _ (of_params.bad_length h) = inl (h, refl, refl)
       from _ _ (of_params.param_index k less h) = let is = pair_at k less in inr (omega (arith, less, how_many count (drop 8 body)), ap not (le-ltb _ _ (subst (λ n. 4096 ≤ n) is h)), ap ParamIndex is)
 
+-- ---- a body with parts
+
+-- of a shape whose length is fixed, or that of its entries, and that length
+abbrev is_plain : Shape → Bool
+is_plain (Table l) = not l.counted
+is_plain (Single len ignored) = true
+is_plain Other = true
+is_plain _ = false
+
+abbrev shape_len : Shape → ℕ → ℕ
+shape_len (Table l) len = entry_width l * (len / entry_width l)
+shape_len (Single len ignored) _ = len + ignored
+shape_len _ len = len
+
+-- what leaves no fault to a body of this length: it is as long as its shape says, and no key of it is refused
+record Fits (shape : Shape) (code : PartCode) (len : ℕ) : Type 0 where
+  plain : is_plain shape ≡ true
+  size : len ≡ shape_len shape len
+  keys : (key1 key2 : ℕ) → fault_of_key code key1 key2 ≡ None
+
+no_key_fault : (code : PartCode) (l : Layout) → ((key1 key2 : ℕ) → fault_of_key code key1 key2 ≡ None) → (n : ℕ) (bytes : List ℕ) → fault_of_entries code l n bytes ≡ None
+no_key_fault code l keys zero bytes = refl
+no_key_fault code l keys (suc n) bytes = neither_some _ _ (keys _ _) (no_key_fault code l keys n (drop (entry_width l) bytes))
+
+quiet : (shape : Shape) (code : PartCode) (body : List ℕ) → Fits shape code (length body) → fault_by_shape shape code body ≡ None
+quiet (Table l) code body f = neither_some _ _ (length_passes _ _ (rw (not-true _ f.plain) (f.size ∙ omega arith))) (no_key_fault code l f.keys (entry_count l body) (drop (front_width l) body))
+quiet (Single len ignored) code body f = length_passes _ _ f.size
+quiet Other code body f = refl
+quiet _ code body f = absurd (false≢true f.plain)
+
+module _ (body : List ℕ) where
+  abbrev Allows : PartCode → Type 0
+  Allows code = type_allows (type_of_number (code_number code)) (length body) ≡ true
+
+  vcpu_of : (code : PartCode) → is_vcpu code ≡ true → Allows code → Least (VcpuHas code body) (fault_of_body code body)
+  vcpu_of code is allowed = subst (Least (VcpuHas code body)) (sym (vcpu_rows code body is (λ type named. subst (λ o. type_allows o (length body) ≡ true) named allowed))) (vcpu_least code body)
+
+  body_least : (code : PartCode) → has_shape (shape_of code) ≡ true → Allows code → Least (BodyHas code body) (fault_of_body code body)
+  body_least HvmContext shaped allowed = context_by body (scan body) refl
+  body_least HvmParam shaped allowed = params_least body
+  body_least VcpuBasic shaped allowed = vcpu_of VcpuBasic refl allowed
+  body_least VcpuExtended shaped allowed = vcpu_of VcpuExtended refl allowed
+  body_least VcpuXsave shaped allowed = vcpu_of VcpuXsave refl allowed
+  body_least VcpuMsrs shaped allowed = vcpu_of VcpuMsrs refl allowed
+  body_least code shaped allowed = subst (Least (BodyHas code body)) (sym (quiet (shape_of code) code body (record { plain = cc; size = grind (arith, common_steps, allowed); keys = λ key1 key2. cc }))) (record { holds = λ k c h. h })
+
 -- ---- all parts
 
-abbrev least_in : (part : LibxcPart) → LeastTried (StandsInLibxc part)
-least_in Marker = record { fault = fault_of_marker; least = marker_least }
-least_in HeaderRest = record { fault = fault_of_image; least = header_least }
-least_in Domain = record { fault = fault_of_domain; least = domain_least }
-least_in (Head b) = record { fault = fault_of_head b; least = λ bytes. head_least b (le32 bytes 4) (le32 bytes 0) }
-least_in (WholeGuest g) = record { fault = λ _. fault_of_guest g; least = λ _. guest_least g }
-least_in (PagesFront len) = record { fault = λ bytes. fault_of_count len (le32 bytes 0); least = λ bytes. front_least len (le32 bytes 0) }
-least_in (PagesWords kind top n) = record { fault = λ bytes. fault_of_words kind top (words n bytes); least = λ bytes. words_least kind top (words n bytes) }
-least_in (PagesLength len ws) = record { fault = λ _. fault_of_data len ws; least = λ _. length_least len ws }
-least_in (Page kind top place word) = record { fault = fault_of_page kind top (place, word); least = page_least kind top place word }
-least_in (InfoBody len) = record { fault = fault_of_pv_info; least = info_least }
-least_in (P2mBody len) = record { fault = fault_of_p2m; least = p2m_least }
-least_in (VcpuBody code len) = record { fault = fault_of_vcpu code; least = vcpu_least code }
-least_in (ContextBody len) = record { fault = fault_of_body HvmContext; least = λ bytes. context_by bytes (scan bytes) refl }
-least_in (ParamsBody len) = record { fault = fault_of_body HvmParam; least = params_least }
-least_in (OtherBody len) = nothing_tried
-least_in (Padding n) = nothing_tried
-
-abbrev pub tries : (part : LibxcPart) → TriesLeast (libxc_size part) (StandsInLibxc part)
-tries part = tries_least (libxc_size part) (StandsInLibxc part) (least_in part)
+pub causes_stand : LibxcCausesStand
+causes_stand = record {
+  marker = λ bytes. answers_first _ _ (marker_least bytes);
+  header = λ bytes. answers_first _ _ (header_least bytes);
+  domain = λ bytes. answers_first _ _ (domain_least bytes);
+  head = λ b head. answers_first _ _ (head_least b (le32 head 4) (le32 head 0));
+  front = λ len count. answers_first _ _ (front_least len count);
+  page_words = λ kind top ws. answers_first _ _ (words_least kind top ws);
+  data_length = λ len ws. answers_first _ _ (length_least len ws);
+  info = λ body. answers_first _ _ (info_least body);
+  p2m = λ body. answers_first _ _ (p2m_least body);
+  body = λ this code body is other allowed. answers_first _ _ (body_least body code (shaped_code this code is other) (subst (λ n. type_allows (type_of_number n) (length body) ≡ true) (number_found (type_number this) code is) (subst (λ o. type_allows o (length body) ≡ true) (sym (numbers_are_inverse.type_of this)) allowed)));
+}

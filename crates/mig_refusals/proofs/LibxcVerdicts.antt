@@ -1,12 +1,15 @@
 -- An input is refused as an image in the format's words exactly where judging refuses it.
-use Rattle.mig_refusals.proofs.Common.{◌≡◌, inl, inr, ℕ, List, [], ◌++◌, length, refl, sym, ap, ◌∙◌, append_assoc, le32, be32, ◌>>=◌, placed, Passes, Faulty, then_passes, then_faulty, bind_cases, passes_not, only_first, placed_faulty, Cause, Opening, before, next_at, marker_goes, image_header_goes, headers_go, LibxcPart, IsOpen, BehindLibxc, RefusedLibxc, LibxcPartFails, Within, AreJudged, HasOneRefusal, AreAllAcceptedOrRefused, IsNeverBoth, refused_stops, spelled_refused, sequence_at, kind_of_number, Place, ImageHeader, DomainHeader, Record, StreamRecord, is_ended, Follows, image_of, placed_next, records_at, opening_at, image_at, IsRefused, going, image_header, behind_marker, behind_version, goes, finds, behind_kind, stream_opened, Accepted}
+use Rattle.mig_refusals.proofs.Common.{◌≡◌, inl, inr, ℕ, List, ◌++◌, length, refl, sym, ap, ◌∙◌, append_assoc, be32, ◌>>=◌, placed, Passes, Faulty, then_passes, then_faulty, bind_cases, passes_not, only_first, placed_faulty, Cause, Opening, next_at, image_header_goes, headers_go, AreJudged, HasOneRefusal, AreAllAcceptedOrRefused, IsNeverBoth, refused_stops, spelled_refused, sequence_at, Place, ImageHeader, DomainHeader, Record, StreamRecord, is_ended, Follows, image_of, placed_next, records_at, opening_at, image_at, IsRefused, going, image_header, behind_marker, behind_version, goes, finds, behind_kind, stream_opened, Accepted, placed_passes, Judged, Truncated, fault_of_marker, fault_of_image, subst, said_passes}
+use Rattle.mig_bytes.proofs.Said.{bytes_pass}
+use Rattle.mig_form.specs.Form.{FormOf, judged_as, RefusedAs}
+use Rattle.mig_form.proofs.Verdicts.{begins_passes, is_refused as form_is_refused, passes_is_spelled, refused_is as form_refused_is}
+use Rattle.mig_restore.specs.Judging.{opening_of}
+use Rattle.mig_restore.specs.Stream.{kind_at, marker_at, version_at}
+use Rattle.mig_refusals.specs.Libxc.{marker_form, version_form, kind_form, next_form, IsOpen, RefusedLibxc}
+use Rattle.mig_refusals.specs.Libxc.RefusedLibxcAt.{in_marker, in_header, in_domain, in_record}
+use Rattle.mig_refusals.proofs.LibxcJudged.{marker_judged, version_judged, kind_judged, next_judged}
 use Rattle.mig_restore.proofs.Converse.{accepted_or_refused as judged, never_both as never_judged}
 use Rattle.mig_refusals.proofs.Laws.{accepted_or_refused, never_both, one_refusal}
-use Rattle.mig_refusals.specs.Libxc.LibxcPart.{Marker, HeaderRest, Domain}
-use Rattle.mig_refusals.specs.Libxc.BehindLibxc.{at_marker, at_header, at_domain, in_record, at_guest}
-use Rattle.mig_refusals.proofs.LibxcCauses.{tries}
-use Rattle.mig_refusals.proofs.Parts.{stage_fails, fine, found_at, found_behind, found_next, found_placed, placed_cases}
-use Rattle.mig_refusals.proofs.LibxcRecords.{down, next_down, guest_down, next_up}
 
 -- ---- what is refused in words is refused
 
@@ -26,41 +29,51 @@ next_refused front left o records c rest is_open h =
     (then_faulty (sequence_at is_ended (placed_next o) behind) (λ rs. Passes (image_of o rs.0) rs.1) (Record (length records), c) rest
     (spelled_refused is_ended (placed_next o) (Follows o) (finds o) (goes o) (going o) is_open.bytes left records (Record (length records), c) rest is_open.spelled is_open.not_ended (ap (placed (Record (length records))) h)))
 
-behind_refused : (front : List ℕ) (place : Place) (p : LibxcPart) (left : List ℕ) (c : Cause) (rest : List ℕ) → BehindLibxc front place p → LibxcPartFails p left c rest → image_at (front ++ left) ≡ Faulty (place, c) rest
-unfolding opening_at
-behind_refused _ _ _ left c rest at_marker h = opening_refused left rest (ImageHeader, c) (ap (λ j. placed ImageHeader j >>= behind_marker) (stage_fails (tries Marker) (λ m r. Passes m r) left c rest h))
-behind_refused _ _ _ left c rest (at_header first f) h =
-    opening_refused (first ++ left) rest (ImageHeader, c)
-    (marker_goes first left f.size (fine (tries Marker) first f) ∙ ap (λ j. placed ImageHeader j >>= behind_version) (stage_fails (tries HeaderRest) (λ l r. Passes (be32 l 4) r) left c rest h))
-behind_refused _ _ _ left c rest (at_domain header version is) h =
-    opening_refused (header ++ left) rest (DomainHeader, c)
-    (image_header_goes header left version is ∙ ap (λ j. placed DomainHeader j >>= behind_kind version) (stage_fails (tries Domain) (λ l r. Passes (kind_of_number (le32 l 0)) r) left c rest h))
-behind_refused _ _ _ left c rest (in_record front before_it o records p is_open within) h =
-    ap image_at (append_assoc front before_it left)
-    ∙ next_refused front (before_it ++ left) o records c rest is_open (next_down o records (before_it ++ left) c rest (down (before o records) before_it p left c rest within h))
-behind_refused _ _ _ left c rest (at_guest front head o records is_open f zero) h =
-    ap image_at (append_assoc front head left) ∙ next_refused front (head ++ left) o records c rest is_open (guest_down o records head left c rest f zero h)
+-- what is faulty is refused as a form, and what is refused as a form is faulty
+refused_as : {X : Type 0} (f : FormOf Cause X) (i : List ℕ) (j : Judged Cause X) (c : Cause) (rest : List ℕ) → judged_as f i ≡ j → j ≡ Faulty c rest → RefusedAs f i c rest
+refused_as f i j c rest same h = form_is_refused f i c rest (same ∙ h)
+
+as_refused : {X : Type 0} (f : FormOf Cause X) (i : List ℕ) (j : Judged Cause X) (c : Cause) (rest : List ℕ) → judged_as f i ≡ j → RefusedAs f i c rest → j ≡ Faulty c rest
+as_refused f i j c rest same r = sym same ∙ form_refused_is f i c rest r
 
 pub refused_is : (input : List ℕ) (place : Place) (c : Cause) (rest : List ℕ) → RefusedLibxc input place c rest → IsRefused input place c rest
-refused_is input place c rest r = ap image_at r.whole ∙ behind_refused r.front place r.part r.left c rest r.behind r.fails
+unfolding opening_at
+refused_is input _ c rest (in_marker r) = opening_refused input rest (ImageHeader, c) (ap (λ j. placed ImageHeader j >>= behind_marker) (as_refused marker_form input (marker_at input) c rest (marker_judged input) r))
+refused_is input _ c rest (in_header marker left begins r) =
+    opening_refused input rest (ImageHeader, c)
+    (ap (λ j. placed ImageHeader j >>= behind_marker) (sym (marker_judged input) ∙ begins_passes marker_form input marker left begins) ∙ ap (λ j. placed ImageHeader j >>= behind_version) (as_refused version_form left (version_at left) c rest (version_judged left) r))
+refused_is input _ c rest (in_domain header left version whole is r) =
+    ap image_at whole
+    ∙ opening_refused (header ++ left) rest (DomainHeader, c) (image_header_goes header left version is ∙ ap (λ j. placed DomainHeader j >>= behind_kind version) (as_refused kind_form left (kind_at left) c rest (kind_judged left) r))
+refused_is input _ c rest (in_record front left o records whole is_open r) = ap image_at whole ∙ next_refused front left o records c rest is_open (as_refused (next_form o records) left (next_at o records left) c rest (next_judged o records left) r)
 
 -- ---- what is refused is refused in words
 
 module _ (input : List ℕ) (place : Place) (c : Cause) (rest : List ℕ) where
+  at_place : (at : Place) → at ≡ place → RefusedLibxc input at c rest → RefusedLibxc input place c rest
+  at_place at same refused = subst (λ p. RefusedLibxc input p c rest) same refused
+
   opening_fails : opening_at input ≡ Faulty (place, c) rest → RefusedLibxc input place c rest
   unfolding opening_at
-  opening_fails h = elim (placed_cases (tries Marker) (λ l. l) ImageHeader behind_marker input place c rest h) [
-    | inl e ↦ found_placed BehindLibxc ImageHeader place Marker [] input input c rest refl at_marker e
-    | inr m ↦ elim (placed_cases (tries HeaderRest) (λ l. be32 l 4) ImageHeader behind_version m.mid place c rest m.after) [
-      | inl e ↦ found_placed BehindLibxc ImageHeader place HeaderRest m.bytes m.mid input c rest m.whole (at_header m.bytes m.is_faultless) e
-      | inr g ↦
-          let version = be32 g.bytes 4 in
-          let header = image_header m.bytes g.bytes version m.is_faultless.size g.is_faultless.size (fine (tries Marker) m.bytes m.is_faultless) (fine (tries HeaderRest) g.bytes g.is_faultless) refl in
-          elim (placed_cases (tries Domain) (λ l. kind_of_number (le32 l 0)) DomainHeader (behind_kind version) g.mid place c rest g.after) [
-            | inl e ↦ found_placed BehindLibxc DomainHeader place Domain (m.bytes ++ g.bytes) g.mid input c rest (m.whole ∙ ap (λ l. m.bytes ++ l) g.whole ∙ sym (append_assoc m.bytes g.bytes g.mid)) (at_domain (m.bytes ++ g.bytes) version header) e
-            | inr d ↦ passes_not _ d.mid (place, c) rest d.after
-          ]
-    ]
+  opening_fails h = elim (bind_cases (placed ImageHeader (marker_at input)) behind_marker (place, c) rest h) [
+    | inl e ↦ let p = placed_faulty ImageHeader place (marker_at input) c rest e in at_place ImageHeader p.1 (in_marker (refused_as marker_form input (marker_at input) c rest (marker_judged input) p.0))
+    | inr m ↦
+        let marker_passes = placed_passes ImageHeader (marker_at input) m.0 m.1 m.2 in
+        elim (bind_cases (placed ImageHeader (version_at m.1)) behind_version (place, c) rest m.3) [
+          | inl e ↦
+              let p = placed_faulty ImageHeader place (version_at m.1) c rest e in
+              at_place ImageHeader p.1 (in_header m.0 m.1 (passes_is_spelled marker_form input m.0 m.1 (marker_judged input ∙ marker_passes)) (refused_as version_form m.1 (version_at m.1) c rest (version_judged m.1) p.0))
+          | inr g ↦
+              let (whole, size, fine) = bytes_pass Truncated fault_of_marker 8 input m.0 m.1 marker_passes in
+              let s = said_passes Truncated fault_of_image (λ l. be32 l 4) 16 m.1 g.0 g.1 (placed_passes ImageHeader (version_at m.1) g.0 g.1 g.2) in
+              elim (bind_cases (placed DomainHeader (kind_at g.1)) (λ kind. Passes (opening_of g.0 kind.0) kind.1) (place, c) rest g.3) [
+                | inl e ↦
+                    let p = placed_faulty DomainHeader place (kind_at g.1) c rest e in
+                    at_place DomainHeader p.1 (in_domain (m.0 ++ s.bytes) g.1 g.0 (whole ∙ ap (λ l. m.0 ++ l) s.whole ∙ sym (append_assoc m.0 s.bytes g.1)) (image_header m.0 s.bytes g.0 size s.size fine s.fine s.value)
+                    (refused_as kind_form g.1 (kind_at g.1) c rest (kind_judged g.1) p.0))
+                | inr d ↦ passes_not _ d.1 (place, c) rest d.3
+              ]
+        ]
   ]
 
   records_fail : (o : Opening) (i : List ℕ) → opening_at input ≡ Passes o i → records_at o i ≡ Faulty (place, c) rest → RefusedLibxc input place c rest
@@ -84,10 +97,7 @@ module _ (input : List ℕ) (place : Place) (c : Cause) (rest : List ℕ) where
       } in
       let whole : input ≡ front ++ s.left =
       w.whole ∙ ap (λ l. w.image_header ++ l) (ap (λ l. w.domain_header ++ l) s.whole ∙ sym (append_assoc w.domain_header s.bytes s.left)) ∙ sym (append_assoc w.image_header (w.domain_header ++ s.bytes) s.left) in
-      found_at BehindLibxc at place input c rest n.1 (elim (next_up o s.parts s.left c rest n.0) [
-        | inl u ↦ found_behind (Within (before o s.parts)) (λ b p. BehindLibxc b at p) front s.left input c rest whole (λ b p within. in_record front b o s.parts p is_open within) u
-        | inr (r, left, end, fails) ↦ found_next (λ b p. BehindLibxc b at p) _ (front ++ end.head) left input c rest (whole ∙ ap (λ l. front ++ l) end.whole ∙ sym (append_assoc front end.head left)) (at_guest front end.head o s.parts is_open end.faultless_head end.zero) fails
-      ])
+      at_place at n.1 (in_record front s.left o s.parts whole is_open (refused_as (next_form o s.parts) s.left (next_at o s.parts s.left) c rest (next_judged o s.parts s.left) n.0))
 
   pub is_refused : IsRefused input place c rest → RefusedLibxc input place c rest
   unfolding image_at

@@ -1,13 +1,15 @@
--- Refusals of images, each a stream of its own or a part of a libxl stream, in the words of the format (libxc migration
--- stream): a faultless front, and behind it a part that isn't whole or in which a cause stands.
+-- The form of an image (libxc migration stream), a stream of its own or a part of a libxl stream; in the words of the format
+-- which causes stand in each of its parts; and its refusals, behind a faultless front.
 use Rattle.std.specs.Prelude.{◌≡◌, ◌↔◌, ◌⊎◌, ℕ, ◌+◌, ◌*◌, ◌^◌, ◌%◌, ◌<◌, ◌≤◌, List, [], ◌∷◌, ◌++◌, length, Option, Some, None, IsTrue, IsFalse, false, count_by, slice_index, if◌then◌else◌}
 use Rattle.std.specs.FinMap as maps
-use Rattle.mig_bytes.specs.Bytes.{IsLeastPadding}
-use Rattle.mig_bytes.specs.Failing.{IsFaultless, Fails}
+use Rattle.mig_bytes.specs.Bytes.{padding_len}
 use Rattle.mig_bytes.specs.Sequences.{Spells}
+use Rattle.mig_form.specs.Form.{FormOf, ◌>>>◌, asked_form, bytes_form, each_form, said_form, BeginsAs, RefusedAs}
+use Rattle.mig_form.specs.Form.FormOf.{Gives}
+use Rattle.mig_form.specs.Tests.{computed}
 use Rattle.mig_bytes.specs.Fields.{le16, le32, le64, be16, be32, be64}
-use Rattle.mig_headers.specs.Headers.{marker as all_ones, image_id, page_shift, IsImageHeader, IsDomainHeader}
-use Rattle.mig_headers.specs.RecordTypes.{record_row_of, type_number, type_of_number, most_body}
+use Rattle.mig_headers.specs.Headers.{marker as all_ones, image_id, page_shift, fault_of_domain, fault_of_image, fault_of_marker, kind_of_number, IsImageHeader, IsDomainHeader}
+use Rattle.mig_headers.specs.RecordTypes.{is_optional, record_row_of, type_number, type_of_number, most_body}
 use Rattle.mig_headers.specs.CauseNumbers.{number_of_cause}
 use Rattle.mig_headers.specs.declared.fault.Cause.{Cause}
 use Rattle.mig_headers.specs.declared.fault.Cause.TheVariants.{Truncated, NotStream, BadId, BadVersion, BigEndian, BadKind, BadPageShift, BodyTooLong, Unsupported, UnknownMandatory, WrongKind, OutOfOrder, BadLength, NoPages, BadPageType, PfnOutside, BadContext, ParamIndex, Missing, TooManyRecords, TooManyFrames}
@@ -26,14 +28,16 @@ use Rattle.mig_guest.specs.Guests.{GuestOf}
 use Rattle.mig_guest.specs.PartKeys.{context_key}
 use Rattle.mig_guest.specs.declared.part_code.PartCode.{PartCode}
 use Rattle.mig_guest.specs.declared.part_code.PartCode.TheVariants.{VcpuBasic, VcpuExtended, VcpuXsave, HvmContext, HvmParam, VcpuMsrs}
+use Rattle.mig_bodies.specs.PvBodies.{fault_of_pv_info, fault_of_p2m}
+use Rattle.mig_bodies.specs.Shapes.{fault_of_body, parts_of_body}
+use Rattle.mig_records.specs.Faults.{fault_of_count, fault_of_words}
 use Rattle.mig_records.specs.Words.{words}
 use Rattle.mig_order.specs.Order.{some_earlier, is_of, static_records, content_records, vcpu_records}
-use Rattle.mig_restore.specs.Judging.{Opening, Before, before, most_records, type_in_word, code_of_type}
+use Rattle.mig_restore.specs.Judging.{Opening, Before, before, code_of_type, fault_at_end, fault_of_data, fault_of_head, fault_of_page, lists_of, most_records, type_in_word, with_places}
 use Rattle.mig_restore.specs.Mean.{sent, meant_type}
-use Rattle.mig_restore.specs.Record.{StreamRecord, Content, is_ended}
-use Rattle.mig_restore.specs.Record.Content.{Nothing}
-use Rattle.mig_restore.specs.Spelled.{HasContent, Follows}
-use Rattle.mig_refusals.specs.Refusals.{FailsBehind}
+use Rattle.mig_restore.specs.Record.{FrameEntry, StreamRecord, Content, is_ended, is_verified, placed_content}
+use Rattle.mig_restore.specs.Record.Content.{Nothing, Frames, Sets}
+use Rattle.mig_restore.specs.Spelled.{Follows}
 use Rattle.mig_refusals.specs.LibxcPv.{TableHas, InfoHas, P2mHas, VcpuHas, PvGuestHas}
 
 -- ---- where each cause stands, a line for each; causes that have places stand at several, all others at place 0
@@ -123,66 +127,15 @@ pub data GuestHas (g : GuestOf) : ℕ → Cause → Type 0 where
   missing : g.kind ≡ Hvm → maps.get g.parts context_key ≡ None → GuestHas g 0 (Missing 9)
   of_pv : (place : ℕ) (cause : Cause) → g.kind ≡ Pv → PvGuestHas g place cause → GuestHas g place cause
 
--- ---- the parts of an image
-
--- the headers; a record's head; of a PAGE_DATA body its front, its words, its length, and the page of the word at a place, in a
--- stream of a kind with frame numbers up to top; other bodies, of which an OtherBody is one of which its head asked all;
--- padding; and the whole guest, which has no bytes of its own
-pub data LibxcPart : Type 0 where
-  Marker : LibxcPart
-  HeaderRest : LibxcPart
-  Domain : LibxcPart
-  Head : Before → LibxcPart
-  PagesFront : ℕ → LibxcPart
-  PagesWords : Kind → ℕ → ℕ → LibxcPart
-  PagesLength : ℕ → List ℕ → LibxcPart
-  Page : Kind → ℕ → ℕ → ℕ → LibxcPart
-  InfoBody : ℕ → LibxcPart
-  P2mBody : ℕ → LibxcPart
-  VcpuBody : PartCode → ℕ → LibxcPart
-  ContextBody : ℕ → LibxcPart
-  ParamsBody : ℕ → LibxcPart
-  OtherBody : ℕ → LibxcPart
-  Padding : ℕ → LibxcPart
-  WholeGuest : GuestOf → LibxcPart
-
--- how many bytes a part has
-abbrev pub libxc_size : LibxcPart → ℕ
-libxc_size Marker = 8
-libxc_size HeaderRest = 16
-libxc_size Domain = 16
-libxc_size (Head b) = 8
-libxc_size (PagesFront len) = 8
-libxc_size (PagesWords kind top n) = 8 * n
-libxc_size (PagesLength len ws) = 0
-libxc_size (Page kind top place word) = if word_has_data word then 4096 else 0
-libxc_size (InfoBody len) = len
-libxc_size (P2mBody len) = len
-libxc_size (VcpuBody code len) = len
-libxc_size (ContextBody len) = len
-libxc_size (ParamsBody len) = len
-libxc_size (OtherBody len) = len
-libxc_size (Padding n) = n
-libxc_size (WholeGuest g) = 0
-
--- the causes that stand in a part
-abbrev pub StandsInLibxc : LibxcPart → List ℕ → ℕ → Cause → Type 0
-StandsInLibxc Marker bytes place cause = MarkerHas bytes place cause
-StandsInLibxc HeaderRest bytes place cause = HeaderHas bytes place cause
-StandsInLibxc Domain bytes place cause = DomainHas bytes place cause
-StandsInLibxc (Head b) bytes place cause = HeadHas b (le32 bytes 0) (le32 bytes 4) place cause
-StandsInLibxc (PagesFront len) bytes place cause = FrontHas len (le32 bytes 0) place cause
-StandsInLibxc (PagesWords kind top n) bytes place cause = WordsHas kind top (words n bytes) place cause
-StandsInLibxc (PagesLength len ws) bytes place cause = LengthHas len ws place cause
-StandsInLibxc (Page kind top at word) bytes place cause = PageHas kind top at word bytes place cause
-StandsInLibxc (InfoBody len) bytes place cause = InfoHas bytes place cause
-StandsInLibxc (P2mBody len) bytes place cause = P2mHas bytes place cause
-StandsInLibxc (VcpuBody code len) bytes place cause = VcpuHas code bytes place cause
-StandsInLibxc (ContextBody len) bytes place cause = ContextHas bytes place cause
-StandsInLibxc (ParamsBody len) bytes place cause = ParamsHas bytes place cause
-StandsInLibxc (OtherBody len) bytes place cause = ⊥
-StandsInLibxc (Padding n) bytes place cause = ⊥
-StandsInLibxc (WholeGuest g) bytes place cause = GuestHas g place cause
+-- a body that sets parts of this code: a vCPU's parts, a context and parameters have causes of their own
+abbrev pub BodyHas : PartCode → List ℕ → ℕ → Cause → Type 0
+BodyHas VcpuBasic body place cause = VcpuHas VcpuBasic body place cause
+BodyHas VcpuExtended body place cause = VcpuHas VcpuExtended body place cause
+BodyHas VcpuXsave body place cause = VcpuHas VcpuXsave body place cause
+BodyHas VcpuMsrs body place cause = VcpuHas VcpuMsrs body place cause
+BodyHas HvmContext body place cause = ContextHas body place cause
+BodyHas HvmParam body place cause = ParamsHas body place cause
+BodyHas code body place cause = ⊥
 
 -- causes are tried in the order of their numbers, and one cause in the order of its places
 abbrev pub IsTriedBefore : ℕ → Cause → ℕ → Cause → Type 0
@@ -197,54 +150,72 @@ pub record AnswersFirstCause (Has : ℕ → Cause → Type 0) (answer : Option C
   pub first : (cause : Cause) → (answer ≡ Some cause) ↔ IsFirstCause Has cause
   pub none : (answer ≡ None) ↔ ((place : ℕ) (cause : Cause) → Has place cause → ⊥)
 
--- a part that is whole and without a cause
-abbrev pub IsFaultlessLibxcPart : LibxcPart → List ℕ → Type 0
-IsFaultlessLibxcPart part bytes = IsFaultless (libxc_size part) (λ read (at : ℕ × Cause). StandsInLibxc part read at.0 at.1) bytes
+-- what is computed of each part is the cause that is tried first of those that stand in it; of a body with parts where its
+-- length is one that its record may have
+pub record LibxcCausesStand : Type 0 where
+  pub marker : (bytes : List ℕ) → AnswersFirstCause (MarkerHas bytes) (fault_of_marker bytes)
+  pub header : (bytes : List ℕ) → AnswersFirstCause (HeaderHas bytes) (fault_of_image bytes)
+  pub domain : (bytes : List ℕ) → AnswersFirstCause (DomainHas bytes) (fault_of_domain bytes)
+  pub head : (b : Before) (head : List ℕ) → AnswersFirstCause (HeadHas b (le32 head 0) (le32 head 4)) (fault_of_head b head)
+  pub front : (len count : ℕ) → AnswersFirstCause (FrontHas len count) (fault_of_count len count)
+  pub page_words : (kind : Kind) (top : ℕ) (ws : List ℕ) → AnswersFirstCause (WordsHas kind top ws) (fault_of_words kind top ws)
+  pub data_length : (len : ℕ) (ws : List ℕ) → AnswersFirstCause (LengthHas len ws) (fault_of_data len ws)
+  pub info : (body : List ℕ) → AnswersFirstCause (InfoHas body) (fault_of_pv_info body)
+  pub p2m : (body : List ℕ) → AnswersFirstCause (P2mHas body) (fault_of_p2m body)
+  pub body : (this : RecordType) (code : PartCode) (body : List ℕ) → code_of_type this ≡ Some code → (this ≡ X86PvP2mFrames → ⊥) → IsTrue ((record_row_of this).allows (length body)) → AnswersFirstCause (BodyHas code body) (fault_of_body code body)
 
--- a part isn't whole in what is left, of which nothing remains; or it is, and this cause is named, and rest follows it
-abbrev pub LibxcPartFails : LibxcPart → List ℕ → Cause → List ℕ → Type 0
-LibxcPartFails part left cause rest = Fails Truncated (libxc_size part) (λ bytes. IsFirstCause (StandsInLibxc part bytes)) left cause rest
+-- ---- the form
 
--- ---- faultless fronts, and the part that comes next
+abbrev pub marker_form : FormOf Cause (List ℕ)
+marker_form = bytes_form Truncated 8 (λ bytes. computed (fault_of_marker bytes))
 
--- the pages of the first of these words, of which the first stands at this place, and the place and the word whose page comes next; the page of a word whose type has no data is empty
-pub data PagesTo (kind : Kind) (top : ℕ) : ℕ → List ℕ → List ℕ → ℕ → ℕ → Type 0 where
-  next_page : (place word : ℕ) (others : List ℕ) → PagesTo kind top place (word ∷ others) [] place word
-  one_page : (place first : ℕ) (others page pages : List ℕ) (next word : ℕ) → IsFaultlessLibxcPart (Page kind top place first) page → PagesTo kind top (place + 1) others pages next word
-      → PagesTo kind top place (first ∷ others) (page ++ pages) next word
+-- the rest of the image header, which tells the version; and the domain header, which tells the kind
+abbrev pub version_form : FormOf Cause ℕ
+version_form = said_form Truncated 16 (λ bytes. computed (fault_of_image bytes)) (λ bytes. be32 bytes 4)
 
--- the first parts of a PAGE_DATA body of this length
-pub data InPages (kind : Kind) (top len : ℕ) : List ℕ → LibxcPart → Type 0 where
-  at_front : InPages kind top len [] (PagesFront len)
-  at_words : (front : List ℕ) → IsFaultlessLibxcPart (PagesFront len) front → InPages kind top len front (PagesWords kind top (le32 front 0))
-  at_length : (front ws : List ℕ) → IsFaultlessLibxcPart (PagesFront len) front → IsFaultlessLibxcPart (PagesWords kind top (le32 front 0)) ws → InPages kind top len (front ++ ws) (PagesLength len (words (le32 front 0) ws))
-  at_page : (front ws pages : List ℕ) (next word : ℕ) → IsFaultlessLibxcPart (PagesFront len) front → IsFaultlessLibxcPart (PagesWords kind top (le32 front 0)) ws → IsFaultlessLibxcPart (PagesLength len (words (le32 front 0) ws)) []
-      → PagesTo kind top 0 (words (le32 front 0) ws) pages next word → InPages kind top len (front ++ (ws ++ pages)) (Page kind top next word)
+abbrev pub kind_form : FormOf Cause Kind
+kind_form = said_form Truncated 16 (λ bytes. computed (fault_of_domain bytes)) (λ bytes. kind_of_number (le32 bytes 0))
 
--- a body of a record that sets parts of this code: a vCPU's parts, a context and parameters have causes of their own
-abbrev pub body_part : PartCode → ℕ → LibxcPart
-body_part VcpuBasic len = VcpuBody VcpuBasic len
-body_part VcpuExtended len = VcpuBody VcpuExtended len
-body_part VcpuXsave len = VcpuBody VcpuXsave len
-body_part VcpuMsrs len = VcpuBody VcpuMsrs len
-body_part HvmContext len = ContextBody len
-body_part HvmParam len = ParamsBody len
-body_part code len = OtherBody len
+-- the page of a word at its place, where the type has data; and the entry that they say
+abbrev pub image_page_form : Kind → ℕ → ℕ × ℕ → FormOf Cause (Option (List ℕ))
+image_page_form kind top at = if word_has_data at.1 then said_form Truncated 4096 (λ page. computed (fault_of_page kind top at page)) Some else Gives None
 
--- the first parts of a body of this type and length; a record that only marks a place has none, and one that lists P2M frames has a body of its own
-pub data InBody (kind : Kind) (top len : ℕ) : ℕ → List ℕ → LibxcPart → Type 0 where
-  in_pages : (before : List ℕ) (part : LibxcPart) → InPages kind top len before part → InBody kind top len 1 before part
-  at_info : InBody kind top len 2 [] (InfoBody len)
-  at_p2m_frames : InBody kind top len 3 [] (P2mBody len)
-  of_code : (this : RecordType) (code : PartCode) → code_of_type this ≡ Some code → (this ≡ X86PvP2mFrames → ⊥) → InBody kind top len (type_number this) [] (body_part code len)
-  optional : (type : ℕ) → 2 ^ 31 ≤ type → InBody kind top len type [] (OtherBody len)
+abbrev pub image_entry_form : Kind → ℕ → ℕ × ℕ → FormOf Cause FrameEntry
+image_entry_form kind top at = image_page_form kind top at >>> λ page. Gives (record { pfn = word_pfn at.1; type = type_in_word at.1; page = page })
 
--- the first parts of a record
-pub data Within (b : Before) : List ℕ → LibxcPart → Type 0 where
-  at_head : Within b [] (Head b)
-  in_body : (head before : List ℕ) (part : LibxcPart) → IsFaultlessLibxcPart (Head b) head → InBody b.opening.kind b.top (le32 head 4) (le32 head 0) before part → Within b (head ++ before) part
-  at_padding : (head body : List ℕ) (content : Content) (n : ℕ) → IsFaultlessLibxcPart (Head b) head → length body ≡ le32 head 4 → HasContent b.opening.kind b.top (le32 head 0) body content
-      → IsLeastPadding (le32 head 4) n → Within b (head ++ body) (Padding n)
+-- a PAGE_DATA body: its count, so many words, its length, and the pages
+abbrev pub pages_form : Kind → ℕ → ℕ → FormOf Cause Content
+pages_form kind top len =
+    bytes_form Truncated 8 (λ front. computed (fault_of_count len (le32 front 0))) >>> λ front.
+    said_form Truncated (8 * le32 front 0) (λ bytes. computed (fault_of_words kind top (words (le32 front 0) bytes))) (words (le32 front 0)) >>> λ ws.
+    asked_form Truncated (computed (fault_of_data len ws)) ws >>> λ ws. each_form (image_entry_form kind top) (with_places 0 ws) >>> λ entries. Gives (Frames entries)
+
+-- a body with parts of this code; a record that only marks a place has none
+abbrev pub coded_form : Option PartCode → ℕ → FormOf Cause Content
+coded_form None len = Gives Nothing
+coded_form (Some code) len = said_form Truncated len (λ body. computed (fault_of_body code body)) (λ body. Sets code (parts_of_body code body))
+
+abbrev pub typed_form : Kind → ℕ → Option RecordType → ℕ → FormOf Cause Content
+typed_form kind top None len = Gives Nothing
+typed_form kind top (Some PageData) len = pages_form kind top len
+typed_form kind top (Some X86PvInfo) len = said_form Truncated len (λ body. computed (fault_of_pv_info body)) (λ _. Nothing)
+typed_form kind top (Some X86PvP2mFrames) len = said_form Truncated len (λ body. computed (fault_of_p2m body)) lists_of
+typed_form kind top (Some this) len = coded_form (code_of_type this) len
+
+-- an optional record says nothing, whatever its body
+abbrev pub image_body_form : Kind → ℕ → ℕ → ℕ → FormOf Cause Content
+image_body_form kind top type len = if is_optional type then said_form Truncated len (λ _. []) (λ _. Nothing) else typed_form kind top (type_of_number type) len
+
+-- a record behind others: its head, its body, its padding; and behind END the whole guest, which has no bytes of its own
+abbrev pub image_record_form : Before → FormOf Cause StreamRecord
+image_record_form b =
+    bytes_form Truncated 8 (λ head. computed (fault_of_head b head)) >>> λ head. image_body_form b.opening.kind b.top (le32 head 0) (le32 head 4) >>> λ content.
+    bytes_form Truncated (padding_len (le32 head 4)) (λ _. []) >>> λ _. Gives (record { type = le32 head 0; content = placed_content (is_verified b.types) content })
+
+abbrev pub next_form : Opening → List StreamRecord → FormOf Cause StreamRecord
+next_form o records = image_record_form (before o records) >>> λ r. asked_form Truncated (computed (fault_at_end r.type (sent o.kind (records ++ r ∷ [])))) r
+
+-- ---- refusals, behind faultless fronts
 
 -- both headers, and behind them these records, of which none is END
 pub record IsOpen (front : List ℕ) (o : Opening) (records : List StreamRecord) : Type 0 where
@@ -259,18 +230,13 @@ pub record IsOpen (front : List ℕ) (o : Opening) (records : List StreamRecord)
   pub spelled : Spells (Follows o) bytes records
   pub not_ended : is_ended records ≡ false
 
-abbrev pub end_record : StreamRecord
-end_record = record { type = 0; content = Nothing }
+-- the input is refused as an image at this place, for this cause, and rest follows the faulty part: in its marker, behind it in
+-- the image header, in the domain header, or in a record behind others
+pub data RefusedLibxcAt (input : List ℕ) (cause : Cause) (rest : List ℕ) : Place → Type 0 where
+  in_marker : RefusedAs marker_form input cause rest → RefusedLibxcAt input cause rest places.ImageHeader
+  in_header : (marker left : List ℕ) → BeginsAs marker_form input marker left → RefusedAs version_form left cause rest → RefusedLibxcAt input cause rest places.ImageHeader
+  in_domain : (header left : List ℕ) (version : ℕ) → input ≡ header ++ left → IsImageHeader header version → RefusedAs kind_form left cause rest → RefusedLibxcAt input cause rest places.DomainHeader
+  in_record : (front left : List ℕ) (o : Opening) (records : List StreamRecord) → input ≡ front ++ left → IsOpen front o records → RefusedAs (next_form o records) left cause rest → RefusedLibxcAt input cause rest (places.Record (length records))
 
--- a faultless front of an input, and the place and the part that come next; END is no more than its head, and the whole guest comes behind it
-pub data BehindLibxc : List ℕ → Place → LibxcPart → Type 0 where
-  at_marker : BehindLibxc [] places.ImageHeader Marker
-  at_header : (marker : List ℕ) → IsFaultlessLibxcPart Marker marker → BehindLibxc marker places.ImageHeader HeaderRest
-  at_domain : (header : List ℕ) (version : ℕ) → IsImageHeader header version → BehindLibxc header places.DomainHeader Domain
-  in_record : (front before_it : List ℕ) (o : Opening) (records : List StreamRecord) (part : LibxcPart) → IsOpen front o records → Within (before o records) before_it part → BehindLibxc (front ++ before_it) (places.Record (length records)) part
-  at_guest : (front head : List ℕ) (o : Opening) (records : List StreamRecord) → IsOpen front o records → IsFaultlessLibxcPart (Head (before o records)) head → le32 head 0 ≡ 0
-      → BehindLibxc (front ++ head) (places.Record (length records)) (WholeGuest (sent o.kind (records ++ end_record ∷ [])))
-
--- the input is refused as an image at this place, for this cause, and rest follows the faulty part
 abbrev pub RefusedLibxc : List ℕ → Place → Cause → List ℕ → Type 0
-RefusedLibxc input place cause rest = FailsBehind (λ front part. BehindLibxc front place part) LibxcPartFails input cause rest
+RefusedLibxc input place cause rest = RefusedLibxcAt input cause rest place

@@ -1,14 +1,5 @@
 -- What the refusals of all forms of input have in common: a part that fails behind a front; and what the laws say of them.
-use Rattle.std.specs.Prelude.{◌≡◌, ◌↔◌, ℕ, List, ◌++◌}
-
--- a front of the input, behind which this part comes next, and in what is left the part fails for this cause; rest follows it
-pub record FailsBehind {Part C : Type 0} (Behind : List ℕ → Part → Type 0) (PartFails : Part → List ℕ → C → List ℕ → Type 0) (input : List ℕ) (cause : C) (rest : List ℕ) : Type 0 where
-  pub front : List ℕ
-  pub left : List ℕ
-  pub part : Part
-  pub whole : input ≡ front ++ left
-  pub behind : Behind front part
-  pub fails : PartFails part left cause rest
+use Rattle.std.specs.Prelude.{◌≡◌, ◌↔◌, ℕ, List}
 
 -- ---- what the laws say of refusals of an input at a place, for a cause, with what is left
 

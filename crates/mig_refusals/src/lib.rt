@@ -22,8 +22,8 @@ pub use legacy::{
     legacy_never_both, legacy_one_refusal, legacy_refusals_agree,
 };
 pub use libxc::{
-    libxc_accepted_or_refused, libxc_never_both, libxc_one_refusal, libxc_refusals_agree,
-    page_answers_the_least_fault, whole_answers_the_least_fault,
+    libxc_accepted_or_refused, libxc_causes_stand, libxc_never_both, libxc_one_refusal,
+    libxc_refusals_agree, page_answers_the_least_fault, whole_answers_the_least_fault,
 };
 pub use stream::{
     stream_accepted_or_refused, stream_causes_ascend, stream_never_both, stream_one_refusal,

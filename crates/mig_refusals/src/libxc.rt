@@ -7,12 +7,11 @@ ghost use Rattle.mig_restore.specs.Judging.{fault_of_page};
 ghost use Rattle.mig_restore.specs.Spelled.{Accepted};
 ghost use Rattle.mig_restore.specs.Stream.{IsRefused};
 ghost use Rattle.mig_refusals.specs.Refusals.{AreAllAcceptedOrRefused, AreJudged, HasOneRefusal, IsNeverBoth};
-ghost use Rattle.mig_refusals.specs.Libxc.{AnswersFirstCause, GuestHas, PageHas, RefusedLibxc};
+ghost use Rattle.mig_refusals.specs.Libxc.{AnswersFirstCause, GuestHas, LibxcCausesStand, PageHas, RefusedLibxc};
 ghost use Rattle.mig_refusals.specs.LibxcPv.{TableHas};
 
-/// Judging refuses an input as an image for a cause at a place exactly where a faultless front is followed by a part that
-/// isn't whole, or that is whole and in which this cause is named: of several causes that of the least number, and of one
-/// cause its least place. What is left is what follows that part.
+/// Judging refuses an input as an image for a cause at a place exactly where behind a faultless front a form is refused: of the
+/// marker, of the rest of the image header, of the domain header, or of a record. What is left is what follows the faulty part.
 #[tactic(auto, using(crate::proofs::LibxcVerdicts::agree))]
 pub fn libxc_refusals_agree()
     ensures { AreJudged RefusedLibxc IsRefused }
@@ -34,6 +33,13 @@ pub fn libxc_accepted_or_refused()
 #[tactic(auto, using(crate::proofs::LibxcVerdicts::never))]
 pub fn libxc_never_both()
     ensures { IsNeverBoth RefusedLibxc Accepted }
+{}
+
+/// What is computed of each part of an image is, of the causes that stand in it in words, that of the least number, and of one
+/// cause that at its least place; and nothing is exactly where none stands. Of a page and of a whole guest the next two say it.
+#[tactic(auto, using(crate::proofs::LibxcCauses::causes_stand))]
+pub fn libxc_causes_stand()
+    ensures { LibxcCausesStand }
 {}
 
 /// What is answered of a guest at its END, and by `whole` of mig_pvtables, is of the causes that stand in the guest that of the
