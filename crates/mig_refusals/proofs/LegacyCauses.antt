@@ -1,9 +1,12 @@
 -- The causes that are computed in a batch, in the data of a toolstack and in a context stand there in words; and tables of causes are in order.
-use Rattle.mig_refusals.proofs.Common.{pairs_of_toolstack, ◌++◌, Names, is_named, ◌≡◌, ◌⊎◌, inl, inr, ℕ, ◌<◌, ◌≤◌, List, [], ◌∷◌, Bool, true, false, Option, Some, None, Result, Ok, Err, refl, sym, ap, subst, arith, and_from, and_parts, both_ways, cases_order, le-leb, leb-true, none-some, same_Some, slice_index, list_any, first_fault, LegacyCause, LegacyChunk, number_of_legacy_cause, option_map, IsEarlier, IsTriedFirst, scan, ContextFault, WordHigh, BadToolstack, legacy_type, first_place, first_word, none_pass, place_is_first, emulators_of, most_pairs, spelled_with, is_reserved, is_high, fault_of_batch, toolstack_fault, context_fault, store_key, store_records, LegacyBadPageType, LegacyBadContext, LegacyTooManyPairs}
+use Rattle.mig_refusals.proofs.Common.{cond, not, sent, Hvm, common_steps, signature, pairs_of_toolstack, ◌++◌, Names, is_named, ◌≡◌, ◌⊎◌, inl, inr, ℕ, ◌<◌, ◌≤◌, List, [], ◌∷◌, Bool, true, false, Option, Some, None, Result, Ok, Err, refl, sym, ap, subst, arith, and_from, and_parts, both_ways, cases_order, le-leb, leb-true, none-some, same_Some, slice_index, list_any, first_fault, LegacyCause, LegacyChunk, number_of_legacy_cause, option_map, IsEarlier, IsTriedFirst, scan, ContextFault, WordHigh, BadToolstack, legacy_type, first_place, first_word, none_pass, place_is_first, emulators_of, most_pairs, spelled_with, is_reserved, is_high, fault_of_batch, toolstack_fault, context_fault, store_key, store_records, LegacyBadPageType, LegacyBadContext, LegacyTooManyPairs}
+use Rattle.std.proofs.lemmas.Slice.Eq.{bytes_eq-Decides}
+use Rattle.std.specs.FinMap as maps
+use Rattle.mig_legacy.specs.Legacy.{has_value, image_records}
 use Rattle.mig_headers.proofs.FirstCauses as firsts
 use Rattle.mig_refusals.proofs.ContextEntries.{found_has, reached_chain}
 use Rattle.mig_refusals.proofs.LibxcCauses.{scan_finds, scanned}
-use Rattle.mig_refusals.specs.Legacy.{WordsHave, LegacyContextHas, ComputedCausesStand, LegacyCausesAscend, word_place}
+use Rattle.mig_refusals.specs.Legacy.{WordsHave, LegacyContextHas, ComputedCausesStand, LegacyCausesAscend, LegacyTestsSay, word_place}
 use Rattle.mig_form.specs.Tests.{computed, is_ascending}
 use Rattle.mig_form.specs.Tests.Test.{Less}
 use Rattle.mig_refusals.specs.Legacy.WordsHave.{reserved_type, not_zero}
@@ -84,3 +87,18 @@ ascend = record { in_start = λ _. refl; in_type = λ _ _. refl; in_toolstack = 
     by : (chunks : List LegacyChunk) (body : List ℕ) (o : Option ℕ) → is_ascending number_of_legacy_cause (computed (option_map BadToolstack o) ++ (Less most_pairs (spelled_with (emulators_of (store_records chunks)) store_key (pairs_of_toolstack body)), LegacyTooManyPairs) ∷ []) ≡ true
     by chunks body None = refl
     by chunks body (Some offset) = refl
+
+-- ---- what else is computed
+
+differing : (b d : Bool) → (b ≡ d → ⊥) → cond b (not d) d ≡ true
+differing b d h = grind (arith, common_steps, h)
+
+unlike : (b d : Bool) → cond b (not d) d ≡ true → b ≡ d → ⊥
+unlike b d h e = grind (arith, common_steps, h, e)
+
+pub tests_say : LegacyTestsSay
+tests_say = record {
+  unpaired = λ chunks. (unlike (has_value 32 chunks) (has_value 33 chunks), differing (has_value 32 chunks) (has_value 33 chunks));
+  frames = λ chunks. maps.len-entries (sent Hvm (image_records chunks)).frames;
+  signature_is = λ bytes. bytes_eq-Decides bytes signature;
+}

@@ -21,6 +21,7 @@ pub mod LegacyNumbers
 pub mod LegacyJudged
 pub mod LegacyToolstacks
 pub mod LegacyVerdicts
+pub mod ImageFileTests
 pub mod ImageFileJudged
 pub mod ImageFilePlaces
 pub mod ImageFileFronts

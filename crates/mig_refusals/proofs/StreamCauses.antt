@@ -1,5 +1,8 @@
 -- The tables of causes of a libxl stream around its image: they are what is judged, and in order; and how long a store becomes.
-use Rattle.mig_refusals.proofs.Common.{◌≡◌, ℕ, List, [], ◌∷◌, ◌++◌, drop, true, Option, Some, None, refl, sym, ap, ◌∙◌, Cause, LibxlRecord, join, fault_of_libxl_head, fault_of_libxl_fields, fault_of_order, fault_of_pairs, fault_of_context, emulators_of, spelled_with, emulator_key, pairs_in, pairs_fault, le32, most_pairs, BadEmulator, TooManyPairs, EmulatorIndex, BadPairs, BadKey, IsFirstFault, first_fault_is_computed, option_or, number_of_cause}
+use Rattle.mig_refusals.proofs.Common.{◌<◌, ◌⊎◌, inl, inr, Bool, false, cond, nat_eq, nat_le, ◌||◌, eqb-false, leb-false, lt-leb, ne_eqb, false≢true, Kind, Pv, Hvm, ◌≡◌, ℕ, List, [], ◌∷◌, ◌++◌, drop, true, Option, Some, None, refl, sym, ap, ◌∙◌, Cause, LibxlRecord, join, fault_of_libxl_head, fault_of_libxl_fields, fault_of_order, fault_of_pairs, fault_of_context, emulators_of, spelled_with, emulator_key, pairs_in, pairs_fault, le32, most_pairs, BadEmulator, TooManyPairs, EmulatorIndex, BadPairs, BadKey, IsFirstFault, first_fault_is_computed, option_or, number_of_cause}
+use Rattle.mig_libxl.specs.Judging.{allows_length, is_pv, is_pv_kind}
+use Rattle.mig_restore.specs.Stream.{ImageOf}
+use Rattle.mig_refusals.proofs.Tests.{is_one, one_of}
 use Rattle.std.proofs.Common.{length}
 use Rattle.std.specs.List.{flat_map}
 use Rattle.mig_form.specs.Tests.{Test, computed, first_named, is_ascending}
@@ -11,7 +14,7 @@ use Rattle.mig_policy.specs.PairMaps.{PairMap, put_pairs, text_of_map}
 use Rattle.mig_policy.proofs.LastValues.{map_pairs, map_pairs_rise, map_pairs_values, one_text}
 use Rattle.mig_emulators.specs.Emulators.{store_at}
 use Rattle.mig_emulators.proofs.EmulatorMeaning.{last_value_with}
-use Rattle.mig_refusals.specs.Stream.{head_causes, pairs_causes, context_causes, AreMerged, pairs_with, StoresAreMerged, WrapperCausesAscend}
+use Rattle.mig_refusals.specs.Stream.{head_causes, pairs_causes, context_causes, AreMerged, pairs_with, StoresAreMerged, WrapperCausesAscend, WrapperTestsSay}
 
 -- ---- what is judged
 
@@ -57,3 +60,35 @@ module _ (records : List LibxlRecord) (body : List ℕ) where
 
 pub stores_are_merged : StoresAreMerged
 stores_are_merged = record { length_is = one_length; some = λ records body. (map_pairs (store records body), merged_pairs records body) }
+
+-- ---- what truth values say
+
+Disallowed : ℕ → ℕ → Type 0
+Disallowed type len = (((type ≡ 0) ⊎ (type ≡ 1)) × (len ≡ 0 → ⊥)) ⊎ (((type ≡ 2) ⊎ (type ≡ 3)) × (len < 8))
+
+disallowed : (type len : ℕ) → allows_length type len ≡ false → Disallowed type len
+unfolding Disallowed
+disallowed type len h = by (nat_eq type 0 || nat_eq type 1) (nat_eq type 2 || nat_eq type 3) refl refl h
+  where
+    by : (a b : Bool) → (nat_eq type 0 || nat_eq type 1) ≡ a → (nat_eq type 2 || nat_eq type 3) ≡ b → cond a (nat_eq len 0) (cond b (nat_le 8 len) true) ≡ false → Disallowed type len
+    by true b first second fails = inl (one_of type 0 1 first, eqb-false len 0 fails)
+    by false true first second fails = inr (one_of type 2 3 second, leb-false 8 len fails)
+    by false false first second fails = absurd (false≢true (sym fails))
+
+is_disallowed : (type len : ℕ) → Disallowed type len → allows_length type len ≡ false
+unfolding Disallowed
+is_disallowed type len (inl (is, some)) = ap (λ b. cond b (nat_eq len 0) (cond (nat_eq type 2 || nat_eq type 3) (nat_le 8 len) true)) (is_one type 0 1 is) ∙ ne_eqb len 0 some
+is_disallowed type len (inr (inl is, short)) = rw is (lt-leb _ _ short)
+is_disallowed type len (inr (inr is, short)) = rw is (lt-leb _ _ short)
+
+pv_kind : (kind : Kind) → is_pv_kind kind ≡ true → kind ≡ Pv
+pv_kind Pv is = refl
+pv_kind Hvm is = absurd (false≢true is)
+
+pv_image : (image : Option ImageOf) → is_pv image ≡ true → (i : ImageOf) × (image ≡ Some i) × (i.opening.kind ≡ Pv)
+pv_image None is = absurd (false≢true is)
+pv_image (Some i) is = (i, refl, pv_kind i.opening.kind is)
+
+pub tests_say : WrapperTestsSay
+unfolding Disallowed
+tests_say = record { length_is = λ type len. (disallowed type len, is_disallowed type len); of_pv = λ image. (pv_image image, λ (i, is, kind). ap is_pv is ∙ ap is_pv_kind kind) }

@@ -1,6 +1,6 @@
 -- The form of an image file: its parts in byte order, and in each the causes that may stand in it, in the order of their
 -- numbers; and the place of a refusal, told by the faultless front before it.
-use Rattle.std.specs.Prelude.{ℕ, ◌/◌, ◌%◌, ◌^◌, ◌<◌, true, List, [], ◌∷◌, ◌≡◌, ◌↔◌, Option, Some, length, if◌then◌else◌}
+use Rattle.std.specs.Prelude.{ℕ, ◌/◌, ◌%◌, ◌^◌, ◌<◌, true, List, [], ◌∷◌, ◌≡◌, ◌↔◌, Option, Some, length, if◌then◌else◌, ◌⊎◌, ◌≤◌, false, IsSome, slice_index}
 use Rattle.std.specs.FinMap as maps
 use Rattle.mig_bytes.specs.Bytes.{padding_len}
 use Rattle.mig_bytes.specs.Fields.{le32, le64, be64}
@@ -9,7 +9,9 @@ use Rattle.mig_form.specs.Form.FormOf.{Gives}
 use Rattle.mig_form.specs.Tests.{Test, is_ascending}
 use Rattle.mig_form.specs.Tests.Test.{Less, AtMost, Equal, Is, Not, Both, Either}
 use Rattle.mig_headers.specs.CauseNumbers.{number_of_image_cause}
-use Rattle.mig_headers.specs.Pairs.{are_canonical_pairs}
+use Rattle.mig_headers.specs.Pairs.{AreCanonicalPairs, are_canonical_pairs}
+use Rattle.mig_headers.specs.declared.kind.Kind.{Kind}
+use Rattle.mig_headers.specs.declared.kind.Kind.TheVariants.{Hvm}
 use Rattle.mig_headers.specs.declared.image_fault.ImageCause.{ImageCause}
 use Rattle.mig_headers.specs.declared.image_fault.ImageCause.TheVariants.{Truncated, NotImage, BadKind, Reserved, Width, FrameCount, BadPageType, FrameOrder, FrameOutside, MachineFrame, MachineTwice, PartOrder, PartMany, PartLength, PartBytes, PartPadding, ZeroPage}
 use Rattle.mig_headers.specs.declared.image_fault.ImageCause.TheVariants as causes
@@ -17,9 +19,12 @@ use Rattle.mig_headers.specs.declared.image_fault.ImagePlace.{ImagePlace}
 use Rattle.mig_headers.specs.declared.image_fault.ImagePlace.TheVariants as places
 use Rattle.mig_pagetypes.specs.Limits.{most_frames, top_limit}
 use Rattle.mig_guest.specs.Frames.{is_type_of}
-use Rattle.mig_guest.specs.Hosts.{HostOf, machine_limit}
-use Rattle.mig_guest.specs.PartCodes.{code_of_number}
-use Rattle.mig_guest.specs.Parts.{parts_of}
+use Rattle.mig_guest.specs.Hosts.{HostOf, HostFrame, machine_limit}
+use Rattle.mig_guest.specs.Order.{IsAbove}
+use Rattle.mig_guest.specs.PartCodes.{code_number, code_of_number, row_of}
+use Rattle.mig_guest.specs.declared.part_code.PartCode.{PartCode}
+use Rattle.mig_guest.specs.declared.part_key.PartKey.{PartKey}
+use Rattle.mig_guest.specs.Parts.{PartMap, parts_of}
 use Rattle.mig_host.specs.HostView.{has_machine, put_frame, put_part_in}
 use Rattle.mig_image.specs.declared.version.ImageVersion.{ImageVersion}
 use Rattle.mig_image.specs.declared.version.ImageVersion.TheVariants.{One, Two}
@@ -74,6 +79,26 @@ content_causes code bytes = (Both (Equal code 258) (Not (Is (are_canonical_pairs
 
 abbrev pub padding_causes : List ℕ → List (Test × ImageCause)
 padding_causes padding = (Not (Is (is_all_zero padding)), PartPadding) ∷ []
+
+-- ---- what truth values in conditions say
+
+-- the numbers of types that no frame of a guest of this kind has
+abbrev pub IsNoType : Kind → ℕ → Type 0
+IsNoType kind n = ((5 ≤ n) × (n ≤ 8)) ⊎ ((15 ≤ n) ⊎ ((kind ≡ Hvm) × (n ≡ 0 → ⊥) × (n ≡ 13 → ⊥) × (n ≡ 14 → ⊥)))
+
+-- a code has this number, and of its row this is so
+abbrev pub IsCodeOf : ℕ → (PartCode → Type 0) → Type 0
+IsCodeOf n Allows = (code : PartCode) × (n ≡ code_number code) × Allows code
+
+pub record ImageTestsSay : Type 0 where
+  pub other_type : (version : ImageVersion) (kind : Kind) (head : List ℕ) → (is_type_of kind (head_type version head) ≡ false) ↔ IsNoType kind (head_type_number version head)
+  pub frame_from : (h : HostOf) (pfn : ℕ) → (has_frame_from h pfn ≡ true) ↔ ((q : ℕ) × IsSome (maps.get h.frames q) × (pfn ≤ q))
+  pub machine : (h : HostOf) (machine : ℕ) → (has_machine h machine ≡ true) ↔ ((q : ℕ) × (frame : HostFrame) × (maps.get h.frames q ≡ Some frame) × (frame.machine ≡ machine))
+  pub part_from : (parts : PartMap) (key : PartKey) → (has_part_from parts key ≡ true) ↔ ((q : PartKey) × IsSome (maps.get parts q) × ((q ≡ key) ⊎ IsAbove (Some key) q))
+  pub all_zero : (bytes : List ℕ) → (is_all_zero bytes ≡ true) ↔ ((place : ℕ) → place < length bytes → slice_index bytes place ≡ 0)
+  pub pairs : (bytes : List ℕ) → (are_canonical_pairs bytes ≡ true) ↔ AreCanonicalPairs bytes
+  pub fits : (n : ℕ) (kind : Kind) (key : PartKey) → (code_fits (code_of_number n) kind key ≡ true) ↔ IsCodeOf n (λ code. ((row_of code).of_kind kind ≡ true) × ((row_of code).keys key.key1 key.key2 ≡ true))
+  pub allowed : (n width len : ℕ) → (code_allows (code_of_number n) width len ≡ true) ↔ IsCodeOf n (λ code. (row_of code).allows width len ≡ true)
 
 -- every table is in the order of the causes' numbers
 pub record ImageCausesAscend : Type 0 where

@@ -24,7 +24,10 @@ use Rattle.mig_pagetypes.specs.LegacyWords.{legacy_type}
 use Rattle.mig_pagetypes.specs.Limits.{most_frames}
 use Rattle.mig_records.specs.Words.{words}
 use Rattle.mig_restore.specs.Judging.{type_in_word}
+use Rattle.mig_restore.specs.Mean.{sent}
 use Rattle.mig_restore.specs.Record.{FrameEntry}
+use Rattle.mig_headers.specs.declared.kind.Kind.TheVariants.{Hvm}
+use Rattle.std.specs.FinMap as maps
 use Rattle.mig_emulators.specs.Emulators.{emulators_of, most_pairs, spelled_with}
 use Rattle.mig_refusals.specs.Libxc.{EntriesTo, EntryHas}
 use Rattle.mig_chunks.specs.declared.chunk.ChunkKind.{ChunkKind}
@@ -33,7 +36,7 @@ use Rattle.mig_chunks.specs.Batches.{fault_of_batch, page_data_words}
 use Rattle.mig_chunks.specs.Chunks.{negative, kind_of}
 use Rattle.mig_chunks.specs.Judged.{toolstack_fault}
 use Rattle.mig_legacy.specs.Judging.{clock_of, context_fault, frames_sent, is_unpaired, most_chunks, pairs_of_toolstack, signature, tail_of}
-use Rattle.mig_legacy.specs.Legacy.{LegacyChunk, LegacyContent, LegacyTail, is_legacy_ended, store_key, store_records}
+use Rattle.mig_legacy.specs.Legacy.{LegacyChunk, LegacyContent, LegacyTail, has_value, image_records, is_legacy_ended, store_key, store_records}
 use Rattle.mig_legacy.specs.Legacy.LegacyContent.{Nothing, Frames, Value, Clock, Pairs}
 use Rattle.mig_legacy.specs.Spelled.{IsStart, IsTail, FollowsLegacy}
 use Rattle.mig_refusals.specs.LegacyToolstack.{FieldWrong}
@@ -107,6 +110,13 @@ pub record ComputedCausesStand : Type 0 where
   pub batch : (ws : List ℕ) (cause : LegacyCause) → (fault_of_batch ws ≡ Some cause) ↔ IsTriedFirst number_of_legacy_cause word_place (WordsHave ws) cause
   pub toolstack : (body : List ℕ) (offset : ℕ) → (toolstack_fault body ≡ Some offset) ↔ FieldWrong body offset
   pub context : (body : List ℕ) (cause : LegacyCause) → (context_fault (scan body) ≡ Some cause) ↔ LegacyContextHas body cause
+
+-- what else is computed in conditions: one of two values is told and the other isn't, how many frames the chunks leave, and
+-- whether bytes are the signature
+pub record LegacyTestsSay : Type 0 where
+  pub unpaired : (chunks : List LegacyChunk) → (is_unpaired chunks ≡ true) ↔ (has_value 32 chunks ≡ has_value 33 chunks → ⊥)
+  pub frames : (chunks : List LegacyChunk) → frames_sent chunks ≡ length (maps.entries (sent Hvm (image_records chunks)).frames)
+  pub signature_is : (bytes : List ℕ) → (bytes_eq bytes signature ≡ true) ↔ (bytes ≡ signature)
 
 -- ---- the form
 

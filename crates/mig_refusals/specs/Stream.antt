@@ -1,6 +1,6 @@
 -- The form of a libxl stream around its image (libxl migration stream), and in each part the causes that may stand in it, in the
 -- order of their numbers; and the refusals of streams of either form, behind a faultless front.
-use Rattle.std.specs.Prelude.{◌≡◌, ◌≤◌, ◌%◌, ◌^◌, ℕ, true, false, Bool, List, [], ◌∷◌, ◌++◌, length, drop, is_some, is_none, ◌==◌, if◌then◌else◌}
+use Rattle.std.specs.Prelude.{◌<◌, ◌≡◌, ◌≤◌, ◌%◌, ◌^◌, ℕ, true, false, Bool, List, [], ◌∷◌, ◌++◌, length, drop, is_some, is_none, ◌==◌, if◌then◌else◌, ◌⊎◌, ◌↔◌, Option, Some}
 use Rattle.std.specs.List.{flat_map}
 use Rattle.mig_bytes.specs.Bytes.{padding_len}
 use Rattle.mig_bytes.specs.Fields.{le32, be32, be64}
@@ -20,6 +20,8 @@ use Rattle.mig_headers.specs.declared.fault.Place.TheVariants as places
 use Rattle.mig_policy.specs.PairFaults.{pairs_fault}
 use Rattle.mig_policy.specs.PairMaps.{last_pair_value, pairs_in}
 use Rattle.mig_restore.specs.Judging.{most_records}
+use Rattle.mig_restore.specs.Stream.{ImageOf}
+use Rattle.mig_headers.specs.declared.kind.Kind.TheVariants.{Pv}
 use Rattle.mig_refusals.specs.Libxc.{RefusedLibxc}
 use Rattle.mig_emulators.specs.Content.{LibxlRecord, LibxlContent}
 use Rattle.mig_emulators.specs.Content.LibxlContent.{Nothing, Pairs, Context}
@@ -66,6 +68,13 @@ pub record WrapperCausesAscend : Type 0 where
   pub in_head : (records : List LibxlRecord) (type len : ℕ) → is_ascending number_of_cause (head_causes records type len) ≡ true
   pub in_pairs : (records : List LibxlRecord) (body : List ℕ) → is_ascending number_of_cause (pairs_causes records body) ≡ true
   pub in_context : (body : List ℕ) → is_ascending number_of_cause (context_causes body) ≡ true
+
+-- ---- what truth values in conditions say
+
+-- END and LIBXC_CONTEXT have no body, and a body of an emulator has at least its id and its index; the image is that of a PV guest
+pub record WrapperTestsSay : Type 0 where
+  pub length_is : (type len : ℕ) → (allows_length type len ≡ false) ↔ ((((type ≡ 0) ⊎ (type ≡ 1)) × (len ≡ 0 → ⊥)) ⊎ (((type ≡ 2) ⊎ (type ≡ 3)) × (len < 8)))
+  pub of_pv : (image : Option ImageOf) → (is_pv image ≡ true) ↔ ((i : ImageOf) × (image ≡ Some i) × (i.opening.kind ≡ Pv))
 
 -- ---- how long a store becomes, in words
 

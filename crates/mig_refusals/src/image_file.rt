@@ -8,7 +8,7 @@ ghost use Rattle.mig_image.specs.Image.{IsHostImageUpTo};
 ghost use Rattle.mig_image.specs.ImageParts.{host_at};
 ghost use Rattle.mig_refusals.specs.Refusals.{AreJudged, HasOneRefusal, IsAcceptedOrRefused, IsNeverBoth};
 ghost use Rattle.mig_refusals.specs.ImageFileFronts.{EndsInFrames, EndsInParts};
-ghost use Rattle.mig_refusals.specs.ImageFile.{ImageCausesAscend, PlaceIsOfPart, RefusedImageFile, count_and_parts, head_and_frames};
+ghost use Rattle.mig_refusals.specs.ImageFile.{ImageCausesAscend, ImageTestsSay, PlaceIsOfPart, RefusedImageFile, count_and_parts, head_and_frames};
 
 /// Judging refuses an input as an image file for a cause at a place exactly where its form is refused so: behind parts without
 /// fault one isn't whole, or in it the first condition of its table that holds has this cause. What is left is what follows
@@ -39,6 +39,13 @@ pub fn image_file_never_both()
 #[tactic(auto, using(crate::proofs::ImageFileVerdicts::ascend))]
 pub fn image_file_causes_ascend()
     ensures { ImageCausesAscend }
+{}
+
+/// What the truth values in the conditions say: which types no frame of a kind of guest has, what stands already, whether bytes
+/// are zero or canonical pairs, and what the row of a part's code allows.
+#[tactic(auto, using(crate::proofs::ImageFileTests::tests_say))]
+pub fn image_file_tests_say()
+    ensures { ImageTestsSay }
 {}
 
 /// A refusal stands in the head; or at a frame, behind a faultless head and exactly so many frames; or in the number of parts,

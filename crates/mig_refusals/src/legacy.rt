@@ -1,7 +1,7 @@
 ghost use Rattle.mig_legacy.specs.Spelled.{AcceptedLegacy};
 ghost use Rattle.mig_legacy.specs.Stream.{IsLegacyRefused};
 ghost use Rattle.mig_refusals.specs.Refusals.{AreAllAcceptedOrRefused, AreJudged, HasOneRefusal, IsNeverBoth};
-ghost use Rattle.mig_refusals.specs.Legacy.{ComputedCausesStand, LegacyCausesAscend, RefusedLegacy};
+ghost use Rattle.mig_refusals.specs.Legacy.{ComputedCausesStand, LegacyCausesAscend, LegacyTestsSay, RefusedLegacy};
 
 /// Judging refuses an input as a legacy stream for a cause at a place exactly where a faultless front, as a legacy stream spells
 /// it, is followed by a form that is refused: of the start, of a chunk, of the tail, or of a device model's record. What is left
@@ -40,4 +40,11 @@ pub fn legacy_causes_ascend()
 #[tactic(auto, using(crate::proofs::LegacyCauses::computed_stand))]
 pub fn legacy_computed_causes_stand()
     ensures { ComputedCausesStand }
+{}
+
+/// What else is computed in conditions: that one of two values is told and the other isn't, how many frames the chunks leave, and
+/// that bytes are the signature.
+#[tactic(auto, using(crate::proofs::LegacyCauses::tests_say))]
+pub fn legacy_tests_say()
+    ensures { LegacyTestsSay }
 {}

@@ -15,7 +15,7 @@ mod stream;
 pub use image_file::{
     image_file_accepted_or_refused, image_file_causes_ascend, image_file_front_is_spelled,
     image_file_never_both, image_file_one_refusal, image_file_place_is_of_part,
-    image_file_refusals_agree,
+    image_file_refusals_agree, image_file_tests_say,
 };
 pub use legacy::{
     legacy_accepted_or_refused, legacy_causes_ascend, legacy_computed_causes_stand,
@@ -27,5 +27,5 @@ pub use libxc::{
 };
 pub use stream::{
     stream_accepted_or_refused, stream_causes_ascend, stream_never_both, stream_one_refusal,
-    stream_refusals_agree, stream_stores_are_merged,
+    stream_refusals_agree, stream_stores_are_merged, stream_tests_say,
 };

@@ -1,7 +1,7 @@
 ghost use Rattle.mig_libxl.specs.Spelled.{AcceptedStream};
 ghost use Rattle.mig_libxl.specs.Stream.{IsStreamRefused};
 ghost use Rattle.mig_refusals.specs.Refusals.{AreAllAcceptedOrRefused, AreJudged, HasOneRefusal, IsNeverBoth};
-ghost use Rattle.mig_refusals.specs.Stream.{RefusedStream, StoresAreMerged, WrapperCausesAscend};
+ghost use Rattle.mig_refusals.specs.Stream.{RefusedStream, StoresAreMerged, WrapperCausesAscend, WrapperTestsSay};
 
 /// Judging refuses an input as a stream of either form for a cause at a place exactly where it is no libxl stream and is refused
 /// as an image; or where behind a faultless front of a libxl stream a form is refused, that of its header or of a record; or the
@@ -41,4 +41,11 @@ pub fn stream_causes_ascend()
 #[tactic(auto, using(crate::proofs::StreamCauses::stores_are_merged))]
 pub fn stream_stores_are_merged()
     ensures { StoresAreMerged }
+{}
+
+/// What the truth values in the conditions of a record's head say: which lengths a type doesn't allow, and that the image is that
+/// of a PV guest.
+#[tactic(auto, using(crate::proofs::StreamCauses::tests_say))]
+pub fn stream_tests_say()
+    ensures { WrapperTestsSay }
 {}
