@@ -81,6 +81,10 @@ module _ {C X : Type 0} where
   pub refused_so : (f : FormOf C X) (i : List ℕ) (c : C) (rest : List ℕ) → (judged_as f i ≡ Faulty c rest) ↔ RefusedAs f i c rest
   refused_so f i c rest = (is_refused f i c rest, refused_is f i c rest)
 
+  -- where judging is known
+  pub refused_where : (f : FormOf C X) (i : List ℕ) (j : Judged C X) (c : C) (rest : List ℕ) → judged_as f i ≡ j → (j ≡ Faulty c rest) ↔ RefusedAs f i c rest
+  refused_where f i j c rest same = (λ h. is_refused f i c rest (same ∙ h), λ r. sym same ∙ refused_is f i c rest r)
+
   pub begins_passes : (f : FormOf C X) (i : List ℕ) (x : X) (rest : List ℕ) → BeginsAs f i x rest → judged_as f i ≡ Passes x rest
   begins_passes f i x rest begins = (passes_spelled f i x rest).1 begins
 

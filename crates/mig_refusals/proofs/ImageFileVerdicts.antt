@@ -1,6 +1,6 @@
 -- What an image file is refused for is what judging refuses it for; and what follows.
 use Rattle.mig_refusals.proofs.Common.{◌≡◌, ℕ, ◌≤◌, List, refl, sym, ◌∙◌, AreBytes, Judged, Passes, Faulty, passes_not, ImageCause, ImagePlace, HostOf, most_width, image_back, image_reads, IsHostImageUpTo, host_at}
-use Rattle.mig_form.proofs.Verdicts.{is_refused, refused_is}
+use Rattle.mig_form.proofs.Verdicts.{refused_where}
 use Rattle.mig_refusals.specs.ImageFile.{image_file_form, RefusedImageFile, ImageCausesAscend}
 use Rattle.mig_refusals.specs.Refusals.{AreJudged, HasOneRefusal, IsAcceptedOrRefused, IsNeverBoth}
 use Rattle.mig_refusals.specs.Refusals.IsAcceptedOrRefused.{accepted, refused}
@@ -8,7 +8,7 @@ use Rattle.mig_refusals.proofs.Laws.{one_refusal}
 use Rattle.mig_refusals.proofs.ImageFileJudged.{host_judged}
 
 pub agree : (widest : ℕ) → AreJudged (RefusedImageFile widest) (λ input place cause rest. host_at widest input ≡ Faulty (place, cause) rest)
-agree widest = record { agree = λ input place c rest. (λ h. is_refused (image_file_form widest) input (place, c) rest (host_judged widest input ∙ h), λ r. sym (host_judged widest input) ∙ refused_is (image_file_form widest) input (place, c) rest r) }
+agree widest = record { agree = λ input place c rest. refused_where (image_file_form widest) input (host_at widest input) (place, c) rest (host_judged widest input) }
 
 pub one : (widest : ℕ) → HasOneRefusal (RefusedImageFile widest)
 one widest = one_refusal (host_at widest) (RefusedImageFile widest) (agree widest)

@@ -1,6 +1,6 @@
 -- A legacy stream is refused in words exactly where judging refuses it.
-use Rattle.mig_refusals.proofs.Common.{◌≡◌, inl, inr, ℕ, ◌<◌, List, [], ◌∷◌, ◌++◌, length, true, None, refl, sym, ap, subst, ◌∙◌, arith, Judged, placed, Passes, Faulty, bind_cases, only_first, passes_not, placed_faulty, placed_passes, then_faulty, then_passes, LegacyCause, LegacyPlace, LegacyChunk, Spells, AreJudged, HasOneRefusal, AreAllAcceptedOrRefused, IsNeverBoth, accepted_spelled, refused_stops, spelled_accepted, spelled_refused, start_at, chunk_at, device_record_at, tail_at, device_at, is_legacy_ended, FollowsLegacy, IsStart, chunks_at, legacy_at, placed_chunk, IsLegacyRefused, behind_chunks, behind_start, behind_tail, stream_of, some_device, start_passes, start_goes, tail_passes, tail_goes, legacy_finds, legacy_goes, legacy_not_ended, AcceptedLegacy}
-use Rattle.mig_form.proofs.Verdicts.{is_refused as is_refused_as, refused_is as refused_as_is}
+use Rattle.mig_refusals.proofs.Common.{◌≡◌, inl, inr, ℕ, ◌<◌, List, [], ◌∷◌, ◌++◌, length, true, None, refl, ap, subst, ◌∙◌, arith, Judged, placed, Passes, Faulty, bind_cases, only_first, passes_not, placed_faulty, placed_passes, then_faulty, then_passes, LegacyCause, LegacyPlace, LegacyChunk, Spells, AreJudged, HasOneRefusal, AreAllAcceptedOrRefused, IsNeverBoth, accepted_spelled, refused_stops, spelled_accepted, spelled_refused, start_at, chunk_at, device_record_at, tail_at, device_at, is_legacy_ended, FollowsLegacy, IsStart, chunks_at, legacy_at, placed_chunk, IsLegacyRefused, behind_chunks, behind_start, behind_tail, stream_of, some_device, start_passes, start_goes, tail_passes, tail_goes, legacy_finds, legacy_goes, legacy_not_ended, AcceptedLegacy}
+use Rattle.mig_form.proofs.Verdicts.{refused_where}
 use Rattle.mig_form.specs.Form.{FormOf, judged_as, RefusedAs}
 use Rattle.mig_headers.specs.declared.legacy_fault.LegacyPlace.TheVariants as places
 use Rattle.mig_legacy.proofs.Laws.{accepted_or_refused as judged, never_both as never_judged}
@@ -8,10 +8,6 @@ use Rattle.mig_refusals.proofs.Laws.{accepted_or_refused, never_both, one_refusa
 use Rattle.mig_refusals.specs.Legacy.{start_form, chunk_form, tail_form, device_form, RefusedLegacy}
 use Rattle.mig_refusals.specs.Legacy.RefusedLegacyAt.{in_start, in_chunk, in_tail, in_device}
 use Rattle.mig_refusals.proofs.LegacyJudged.{start_judged, chunk_judged, tail_judged, device_judged}
-
--- what judging refuses as a form does
-refused_as : {X : Type 0} (f : FormOf LegacyCause X) (i : List ℕ) (j : Judged LegacyCause X) (c : LegacyCause) (rest : List ℕ) → judged_as f i ≡ j → j ≡ Faulty c rest → RefusedAs f i c rest
-refused_as f i j c rest same h = is_refused_as f i c rest (same ∙ h)
 
 -- ---- what is refused is refused in words
 
@@ -22,13 +18,13 @@ module _ (input : List ℕ) (place : LegacyPlace) (c : LegacyCause) (rest : List
   device_refused : (i : List ℕ) → device_at i ≡ Faulty c rest → (0 < length i) × RefusedAs device_form i c rest
   unfolding device_at
   device_refused [] h = passes_not None [] c rest h
-  device_refused (b ∷ i) h = ((omega arith), refused_as device_form (b ∷ i) (device_record_at (b ∷ i)) c rest (device_judged (b ∷ i)) h)
+  device_refused (b ∷ i) h = ((omega arith), (refused_where device_form (b ∷ i) (device_record_at (b ∷ i)) c rest (device_judged (b ∷ i))).0 h)
 
   tail_refusal : (start bytes left : List ℕ) (chunks : List LegacyChunk) → IsStart start → Spells FollowsLegacy bytes chunks → is_legacy_ended chunks ≡ true → input ≡ start ++ (bytes ++ left) → behind_chunks (chunks, left) ≡ Faulty (place, c) rest → RefusedLegacy input place c rest
   tail_refusal start bytes left chunks is spelled ended whole h = elim (bind_cases (placed places.Tail (tail_at left)) (behind_tail chunks) (place, c) rest h) [
     | inl e ↦
         let p = placed_faulty places.Tail place (tail_at left) c rest e in
-        at_place places.Tail p.1 (in_tail start bytes left chunks whole is spelled ended (refused_as tail_form left (tail_at left) c rest (tail_judged left) p.0))
+        at_place places.Tail p.1 (in_tail start bytes left chunks whole is spelled ended ((refused_where tail_form left (tail_at left) c rest (tail_judged left)).0 p.0))
     | inr a ↦
         let t = tail_passes left a.0 a.1 (placed_passes places.Tail (tail_at left) a.0 a.1 a.2) in
         let p = placed_faulty places.Device place (device_at a.1) c rest (only_first (stream_of chunks a.0) (placed places.Device (device_at a.1)) (place, c) rest a.3) in
@@ -41,7 +37,7 @@ module _ (input : List ℕ) (place : LegacyPlace) (c : LegacyCause) (rest : List
     | inl e ↦
         let s = refused_stops is_legacy_ended placed_chunk FollowsLegacy legacy_finds left (place, c) rest e in
         let p = placed_faulty (places.Chunk (length s.parts)) place (chunk_at s.parts s.left) c rest s.fails in
-        at_place (places.Chunk (length s.parts)) p.1 (in_chunk start s.bytes s.left s.parts (whole ∙ ap (λ l. start ++ l) s.whole) is s.spelled s.going (refused_as (chunk_form s.parts) s.left (chunk_at s.parts s.left) c rest (chunk_judged s.parts s.left) p.0))
+        at_place (places.Chunk (length s.parts)) p.1 (in_chunk start s.bytes s.left s.parts (whole ∙ ap (λ l. start ++ l) s.whole) is s.spelled s.going ((refused_where (chunk_form s.parts) s.left (chunk_at s.parts s.left) c rest (chunk_judged s.parts s.left)).0 p.0))
     | inr a ↦
         let (bytes, all, spelled, ended) = accepted_spelled is_legacy_ended placed_chunk FollowsLegacy legacy_finds left a.0 a.1 a.2 in
         tail_refusal start bytes a.1 a.0 is spelled ended (whole ∙ ap (λ l. start ++ l) all) a.3
@@ -52,7 +48,7 @@ module _ (input : List ℕ) (place : LegacyPlace) (c : LegacyCause) (rest : List
   is_refused h = elim (bind_cases (placed places.Start (start_at input)) behind_start (place, c) rest h) [
     | inl e ↦
         let p = placed_faulty places.Start place (start_at input) c rest e in
-        at_place places.Start p.1 (in_start (refused_as start_form input (start_at input) c rest (start_judged input) p.0))
+        at_place places.Start p.1 (in_start ((refused_where start_form input (start_at input) c rest (start_judged input)).0 p.0))
     | inr a ↦ let s = start_passes input a.0 a.1 (placed_passes places.Start (start_at input) a.0 a.1 a.2) in chunks_refusal a.0 a.1 s.1 s.0 a.3
   ]
 
@@ -69,7 +65,7 @@ chunks_go start bytes i chunks is spelled ended =
 module _ (input : List ℕ) (c : LegacyCause) (rest : List ℕ) where
   -- a form that is refused, at its place
   placed_is : {X : Type 0} (place : LegacyPlace) (f : FormOf LegacyCause X) (i : List ℕ) (j : Judged LegacyCause X) → judged_as f i ≡ j → RefusedAs f i c rest → placed place j ≡ Faulty (place, c) rest
-  placed_is place f i j same refused = ap (placed place) (sym same ∙ refused_as_is f i c rest refused)
+  placed_is place f i j same refused = ap (placed place) ((refused_where f i j c rest same).1 refused)
 
   pub refused_is : (place : LegacyPlace) → RefusedLegacy input place c rest → IsLegacyRefused input place c rest
   unfolding legacy_at

@@ -1,8 +1,7 @@
 -- An input is refused as an image in the format's words exactly where judging refuses it.
-use Rattle.mig_refusals.proofs.Common.{◌≡◌, inl, inr, ℕ, List, ◌++◌, length, refl, sym, ap, ◌∙◌, append_assoc, be32, ◌>>=◌, placed, Passes, Faulty, then_passes, then_faulty, bind_cases, passes_not, only_first, placed_faulty, Cause, Opening, next_at, image_header_goes, headers_go, AreJudged, HasOneRefusal, AreAllAcceptedOrRefused, IsNeverBoth, refused_stops, spelled_refused, sequence_at, Place, ImageHeader, DomainHeader, Record, StreamRecord, is_ended, Follows, image_of, placed_next, records_at, opening_at, image_at, IsRefused, going, image_header, behind_marker, behind_version, goes, finds, behind_kind, stream_opened, Accepted, placed_passes, Judged, Truncated, fault_of_marker, fault_of_image, subst, said_passes}
+use Rattle.mig_refusals.proofs.Common.{◌≡◌, inl, inr, ℕ, List, ◌++◌, length, refl, sym, ap, ◌∙◌, append_assoc, be32, ◌>>=◌, placed, Passes, Faulty, then_passes, then_faulty, bind_cases, passes_not, only_first, placed_faulty, Cause, Opening, next_at, image_header_goes, headers_go, AreJudged, HasOneRefusal, AreAllAcceptedOrRefused, IsNeverBoth, refused_stops, spelled_refused, sequence_at, Place, ImageHeader, DomainHeader, Record, StreamRecord, is_ended, Follows, image_of, placed_next, records_at, opening_at, image_at, IsRefused, going, image_header, behind_marker, behind_version, goes, finds, behind_kind, stream_opened, Accepted, placed_passes, Truncated, fault_of_marker, fault_of_image, subst, said_passes}
 use Rattle.mig_bytes.proofs.Said.{bytes_pass}
-use Rattle.mig_form.specs.Form.{FormOf, judged_as, RefusedAs}
-use Rattle.mig_form.proofs.Verdicts.{begins_passes, is_refused as form_is_refused, passes_is_spelled, refused_is as form_refused_is}
+use Rattle.mig_form.proofs.Verdicts.{begins_passes, passes_is_spelled, refused_where}
 use Rattle.mig_restore.specs.Judging.{opening_of}
 use Rattle.mig_restore.specs.Stream.{kind_at, marker_at, version_at}
 use Rattle.mig_refusals.specs.Libxc.{marker_form, version_form, kind_form, next_form, IsOpen, RefusedLibxc}
@@ -29,23 +28,16 @@ next_refused front left o records c rest is_open h =
     (then_faulty (sequence_at is_ended (placed_next o) behind) (λ rs. Passes (image_of o rs.0) rs.1) (Record (length records), c) rest
     (spelled_refused is_ended (placed_next o) (Follows o) (finds o) (goes o) (going o) is_open.bytes left records (Record (length records), c) rest is_open.spelled is_open.not_ended (ap (placed (Record (length records))) h)))
 
--- what is faulty is refused as a form, and what is refused as a form is faulty
-refused_as : {X : Type 0} (f : FormOf Cause X) (i : List ℕ) (j : Judged Cause X) (c : Cause) (rest : List ℕ) → judged_as f i ≡ j → j ≡ Faulty c rest → RefusedAs f i c rest
-refused_as f i j c rest same h = form_is_refused f i c rest (same ∙ h)
-
-as_refused : {X : Type 0} (f : FormOf Cause X) (i : List ℕ) (j : Judged Cause X) (c : Cause) (rest : List ℕ) → judged_as f i ≡ j → RefusedAs f i c rest → j ≡ Faulty c rest
-as_refused f i j c rest same r = sym same ∙ form_refused_is f i c rest r
-
 pub refused_is : (input : List ℕ) (place : Place) (c : Cause) (rest : List ℕ) → RefusedLibxc input place c rest → IsRefused input place c rest
 unfolding opening_at
-refused_is input _ c rest (in_marker r) = opening_refused input rest (ImageHeader, c) (ap (λ j. placed ImageHeader j >>= behind_marker) (as_refused marker_form input (marker_at input) c rest (marker_judged input) r))
+refused_is input _ c rest (in_marker r) = opening_refused input rest (ImageHeader, c) (ap (λ j. placed ImageHeader j >>= behind_marker) ((refused_where marker_form input (marker_at input) c rest (marker_judged input)).1 r))
 refused_is input _ c rest (in_header marker left begins r) =
     opening_refused input rest (ImageHeader, c)
-    (ap (λ j. placed ImageHeader j >>= behind_marker) (sym (marker_judged input) ∙ begins_passes marker_form input marker left begins) ∙ ap (λ j. placed ImageHeader j >>= behind_version) (as_refused version_form left (version_at left) c rest (version_judged left) r))
+    (ap (λ j. placed ImageHeader j >>= behind_marker) (sym (marker_judged input) ∙ begins_passes marker_form input marker left begins) ∙ ap (λ j. placed ImageHeader j >>= behind_version) ((refused_where version_form left (version_at left) c rest (version_judged left)).1 r))
 refused_is input _ c rest (in_domain header left version whole is r) =
     ap image_at whole
-    ∙ opening_refused (header ++ left) rest (DomainHeader, c) (image_header_goes header left version is ∙ ap (λ j. placed DomainHeader j >>= behind_kind version) (as_refused kind_form left (kind_at left) c rest (kind_judged left) r))
-refused_is input _ c rest (in_record front left o records whole is_open r) = ap image_at whole ∙ next_refused front left o records c rest is_open (as_refused (next_form o records) left (next_at o records left) c rest (next_judged o records left) r)
+    ∙ opening_refused (header ++ left) rest (DomainHeader, c) (image_header_goes header left version is ∙ ap (λ j. placed DomainHeader j >>= behind_kind version) ((refused_where kind_form left (kind_at left) c rest (kind_judged left)).1 r))
+refused_is input _ c rest (in_record front left o records whole is_open r) = ap image_at whole ∙ next_refused front left o records c rest is_open ((refused_where (next_form o records) left (next_at o records left) c rest (next_judged o records left)).1 r)
 
 -- ---- what is refused is refused in words
 
@@ -56,13 +48,13 @@ module _ (input : List ℕ) (place : Place) (c : Cause) (rest : List ℕ) where
   opening_fails : opening_at input ≡ Faulty (place, c) rest → RefusedLibxc input place c rest
   unfolding opening_at
   opening_fails h = elim (bind_cases (placed ImageHeader (marker_at input)) behind_marker (place, c) rest h) [
-    | inl e ↦ let p = placed_faulty ImageHeader place (marker_at input) c rest e in at_place ImageHeader p.1 (in_marker (refused_as marker_form input (marker_at input) c rest (marker_judged input) p.0))
+    | inl e ↦ let p = placed_faulty ImageHeader place (marker_at input) c rest e in at_place ImageHeader p.1 (in_marker ((refused_where marker_form input (marker_at input) c rest (marker_judged input)).0 p.0))
     | inr m ↦
         let marker_passes = placed_passes ImageHeader (marker_at input) m.0 m.1 m.2 in
         elim (bind_cases (placed ImageHeader (version_at m.1)) behind_version (place, c) rest m.3) [
           | inl e ↦
               let p = placed_faulty ImageHeader place (version_at m.1) c rest e in
-              at_place ImageHeader p.1 (in_header m.0 m.1 (passes_is_spelled marker_form input m.0 m.1 (marker_judged input ∙ marker_passes)) (refused_as version_form m.1 (version_at m.1) c rest (version_judged m.1) p.0))
+              at_place ImageHeader p.1 (in_header m.0 m.1 (passes_is_spelled marker_form input m.0 m.1 (marker_judged input ∙ marker_passes)) ((refused_where version_form m.1 (version_at m.1) c rest (version_judged m.1)).0 p.0))
           | inr g ↦
               let (whole, size, fine) = bytes_pass Truncated fault_of_marker 8 input m.0 m.1 marker_passes in
               let s = said_passes Truncated fault_of_image (λ l. be32 l 4) 16 m.1 g.0 g.1 (placed_passes ImageHeader (version_at m.1) g.0 g.1 g.2) in
@@ -70,7 +62,7 @@ module _ (input : List ℕ) (place : Place) (c : Cause) (rest : List ℕ) where
                 | inl e ↦
                     let p = placed_faulty DomainHeader place (kind_at g.1) c rest e in
                     at_place DomainHeader p.1 (in_domain (m.0 ++ s.bytes) g.1 g.0 (whole ∙ ap (λ l. m.0 ++ l) s.whole ∙ sym (append_assoc m.0 s.bytes g.1)) (image_header m.0 s.bytes g.0 size s.size fine s.fine s.value)
-                    (refused_as kind_form g.1 (kind_at g.1) c rest (kind_judged g.1) p.0))
+                    ((refused_where kind_form g.1 (kind_at g.1) c rest (kind_judged g.1)).0 p.0))
                 | inr d ↦ passes_not _ d.1 (place, c) rest d.3
               ]
         ]
@@ -97,7 +89,7 @@ module _ (input : List ℕ) (place : Place) (c : Cause) (rest : List ℕ) where
       } in
       let whole : input ≡ front ++ s.left =
       w.whole ∙ ap (λ l. w.image_header ++ l) (ap (λ l. w.domain_header ++ l) s.whole ∙ sym (append_assoc w.domain_header s.bytes s.left)) ∙ sym (append_assoc w.image_header (w.domain_header ++ s.bytes) s.left) in
-      at_place at n.1 (in_record front s.left o s.parts whole is_open (refused_as (next_form o s.parts) s.left (next_at o s.parts s.left) c rest (next_judged o s.parts s.left) n.0))
+      at_place at n.1 (in_record front s.left o s.parts whole is_open ((refused_where (next_form o s.parts) s.left (next_at o s.parts s.left) c rest (next_judged o s.parts s.left)).0 n.0))
 
   pub is_refused : IsRefused input place c rest → RefusedLibxc input place c rest
   unfolding image_at
