@@ -1,13 +1,8 @@
-//! Tests of the public calls on hosts and image files that the program doesn't make: that each does its work where memory
-//! is at hand, which no contract says; a source that fails in mid-image; and, as tables, which images are refused, and of
-//! which hosts no guest is seen. They stand in a crate of their own, since a crate with tests is proved twice.
+//! Tests of the public calls on image files: that an image of each version is read as its host, and written, and a guest
+//! seen of an HVM host, where memory is at hand, which no contract says; a source and a sink that fail in mid-image; and a
+//! reader that takes narrow hosts alone. They stand in a crate of their own, since a crate with tests is proved twice; which
+//! images are refused, and of which hosts no guest is seen, is tested with the built program (tests/examples/hosts).
 #![tactic(auto)]
 
 #[cfg(test)]
-mod changes;
-#[cfg(test)]
-mod host;
-#[cfg(test)]
 mod image;
-#[cfg(test)]
-mod walking;
