@@ -9,63 +9,135 @@ use std::test::Fail;
 // The greatest width of a host that is read.
 const WIDEST: u64 = 1 << 28;
 
-// The image of a PV host with the width 16, whose frames 1 to 9 have the machine frames 5000 (0x1388) to 5008, in pieces:
-// bytes, or bytes and how often they stand there. Frame 2 is a P2M frame, 4 a table of level 1, and so on up to 7, the root;
-// the fields of the vCPU that are used name frames 1, 3 and 7.
-const WORKED: [&str; 14] = [
-    "5847494d41474531 01000000 00000000 1000000000000000 0900000000000000",
-    "01000000 00000000 8813000000000000 01*4096",
-    "02000000 00000000 8913000000000000 ff*8 8813000000000000 8913000000000000 8a13000000000000 8b13000000000000 8c13000000000000 8d13000000000000 8e13000000000000 8f13000000000000 9013000000000000 ff*4016",
-    "03000000 00000000 8a13000000000000 03*4096",
-    "04000010 00000000 8b13000000000000 00*8 67f0380100000000 00*56 00d0ea0d00000000 00*4016",
-    "05000020 00000000 8c13000000000000 67b0380100000000 00*4088",
-    "06000030 00000000 8d13000000000000 67c0380100000000 00*4088",
-    "070000c0 00000000 8e13000000000000 67d0380100000000 00*4088",
-    "08000000 00000000 8f13000000000000 08*4096",
-    "09000000 00000000 9013000000000000 09*4096",
-    "0300000000000000",
-    "03000000 00000000 00000000 08000000 0200000000000000",
-    "04000000 00000000 00000000 30140000 00*616 8813000000000000 00*4208 8a13000000000000 00*120 0002000000000000 00*40 00e0380100000000 00*152",
-    "07000000 00000000 00000000 00100000 00*4096",
+// The image of a PV host with the width 16, whose frames 1 to 9 have the machine frames 5000 (136, 19) to 5008: bytes, and the
+// byte that stands behind them so many times. Frame 2 is a P2M frame, 4 a table of level 1, and so on up to 7, the root; the
+// fields of the vCPU that are used name frames 1, 3 and 7.
+const WORKED: [(&[u8], u8, usize); 16] = [
+    (
+        &[
+            88, 71, 73, 77, 65, 71, 69, 49, 1, 0, 0, 0, 0, 0, 0, 0, 16, 0, 0, 0, 0, 0, 0, 0, 9, 0,
+            0, 0, 0, 0, 0, 0, 1, 0, 0, 0, 0, 0, 0, 0, 136, 19, 0, 0, 0, 0, 0, 0,
+        ],
+        1,
+        4096,
+    ),
+    (
+        &[
+            2, 0, 0, 0, 0, 0, 0, 0, 137, 19, 0, 0, 0, 0, 0, 0, 255, 255, 255, 255, 255, 255, 255,
+            255, 136, 19, 0, 0, 0, 0, 0, 0, 137, 19, 0, 0, 0, 0, 0, 0, 138, 19, 0, 0, 0, 0, 0, 0,
+            139, 19, 0, 0, 0, 0, 0, 0, 140, 19, 0, 0, 0, 0, 0, 0, 141, 19, 0, 0, 0, 0, 0, 0, 142,
+            19, 0, 0, 0, 0, 0, 0, 143, 19, 0, 0, 0, 0, 0, 0, 144, 19, 0, 0, 0, 0, 0, 0,
+        ],
+        255,
+        4016,
+    ),
+    (
+        &[3, 0, 0, 0, 0, 0, 0, 0, 138, 19, 0, 0, 0, 0, 0, 0],
+        3,
+        4096,
+    ),
+    (
+        &[
+            4, 0, 0, 16, 0, 0, 0, 0, 139, 19, 0, 0, 0, 0, 0, 0, 0, 0, 0, 0, 0, 0, 0, 0, 103, 240,
+            56, 1, 0, 0, 0, 0,
+        ],
+        0,
+        56,
+    ),
+    (&[0, 208, 234, 13, 0, 0, 0, 0], 0, 4016),
+    (
+        &[
+            5, 0, 0, 32, 0, 0, 0, 0, 140, 19, 0, 0, 0, 0, 0, 0, 103, 176, 56, 1, 0, 0, 0, 0,
+        ],
+        0,
+        4088,
+    ),
+    (
+        &[
+            6, 0, 0, 48, 0, 0, 0, 0, 141, 19, 0, 0, 0, 0, 0, 0, 103, 192, 56, 1, 0, 0, 0, 0,
+        ],
+        0,
+        4088,
+    ),
+    (
+        &[
+            7, 0, 0, 192, 0, 0, 0, 0, 142, 19, 0, 0, 0, 0, 0, 0, 103, 208, 56, 1, 0, 0, 0, 0,
+        ],
+        0,
+        4088,
+    ),
+    (
+        &[8, 0, 0, 0, 0, 0, 0, 0, 143, 19, 0, 0, 0, 0, 0, 0],
+        8,
+        4096,
+    ),
+    (
+        &[9, 0, 0, 0, 0, 0, 0, 0, 144, 19, 0, 0, 0, 0, 0, 0],
+        9,
+        4096,
+    ),
+    (
+        &[
+            3, 0, 0, 0, 0, 0, 0, 0, 3, 0, 0, 0, 0, 0, 0, 0, 0, 0, 0, 0, 8, 0, 0, 0, 2, 0, 0, 0, 0,
+            0, 0, 0, 4, 0, 0, 0, 0, 0, 0, 0, 0, 0, 0, 0, 48, 20, 0, 0,
+        ],
+        0,
+        616,
+    ),
+    (&[136, 19, 0, 0, 0, 0, 0, 0], 0, 4208),
+    (&[138, 19, 0, 0, 0, 0, 0, 0], 0, 120),
+    (&[0, 2, 0, 0, 0, 0, 0, 0], 0, 40),
+    (&[0, 224, 56, 1, 0, 0, 0, 0], 0, 152),
+    (&[7, 0, 0, 0, 0, 0, 0, 0, 0, 0, 0, 0, 0, 16, 0, 0], 0, 4096),
 ];
 
-// What stands before the 2048 frames of an HVM host with this width, and behind them: the smallest context.
-const WIDE: [&str; 2] = [
-    "5847494d41474531 02000000 00000000 0008000000000000 0008000000000000",
-    "0100000000000000 09000000 00000000 00000000 28000000 01000000 18000000 11*24 00*8",
+// What stands before the 2048 frames of an HVM host with this width.
+const BEFORE: [u8; 32] = [
+    88, 71, 73, 77, 65, 71, 69, 49, 2, 0, 0, 0, 0, 0, 0, 0, 0, 8, 0, 0, 0, 0, 0, 0, 0, 8, 0, 0, 0,
+    0, 0, 0,
 ];
 
-// The texts, of which a proof is to know nothing.
-fn worked_text() -> &'static [&'static str] {
+// What stands behind them: the smallest context.
+const BEHIND: [u8; 64] = [
+    1, 0, 0, 0, 0, 0, 0, 0, 9, 0, 0, 0, 0, 0, 0, 0, 0, 0, 0, 0, 40, 0, 0, 0, 1, 0, 0, 0, 24, 0, 0,
+    0, 17, 17, 17, 17, 17, 17, 17, 17, 17, 17, 17, 17, 17, 17, 17, 17, 17, 17, 17, 17, 17, 17, 17,
+    17, 0, 0, 0, 0, 0, 0, 0, 0,
+];
+
+// The tables, of which a proof is to know nothing.
+fn worked_rows() -> &'static [(&'static [u8], u8, usize)] {
     &WORKED
 }
 
-fn wide_text() -> (&'static str, &'static str) {
-    (WIDE[0], WIDE[1])
+fn before() -> &'static [u8] {
+    &BEFORE
 }
 
-// A page of this byte, of which a proof is to know nothing.
-fn page(byte: u8) -> [u8; 4096] {
-    [byte; 4096]
+fn behind() -> &'static [u8] {
+    &BEHIND
 }
 
-// Appends the bytes of a piece.
-fn append_piece(bytes: &mut Vec<u8>, alloc: Global, piece: &str) -> Result<(), Fail> {
-    let Some((word, times)) = piece.split_once('*') else {
-        bytes.extend_from_slice(&hex::decode(alloc, piece)?)?;
-        return Ok(());
-    };
-    let word = hex::decode(alloc, word)?;
-    let times = times.parse::<u64>()?;
-    for _ in 0..times {
-        bytes.extend_from_slice(&word)?;
-    }
+// A page of zeros, of which a proof is to know nothing.
+fn zeros() -> [u8; 4096] {
+    [0; 4096]
+}
+
+// Appends bytes, and then a byte so many times.
+fn append_row(
+    bytes: &mut Vec<u8>,
+    alloc: Global,
+    front: &[u8],
+    byte: u8,
+    times: usize,
+) -> Result<(), Fail> {
+    bytes.extend_from_slice(front)?;
+    bytes.extend_from_slice(&vec![in alloc; byte; times]?)?;
     Ok(())
 }
 
-fn append(bytes: &mut Vec<u8>, alloc: Global, text: &str) -> Result<(), Fail> {
-    for piece in text.split(' ') {
-        append_piece(bytes, alloc, piece)?;
+fn append_worked(bytes: &mut Vec<u8>, alloc: Global) -> Result<(), Fail> {
+    for (front, byte, times) in worked_rows() {
+        append_row(bytes, alloc, front, *byte, *times)?;
     }
     Ok(())
 }
@@ -75,8 +147,15 @@ fn append_frames(bytes: &mut Vec<u8>, count: u32) -> Result<(), Fail> {
     for pfn in 0..count {
         bytes.extend_from_slice(&u64::from(pfn).to_le_bytes())?;
         bytes.extend_from_slice(&(u64::from(pfn) + 1).to_le_bytes())?;
-        bytes.extend_from_slice(&page(0))?;
+        bytes.extend_from_slice(&zeros())?;
     }
+    Ok(())
+}
+
+fn append_wide(bytes: &mut Vec<u8>) -> Result<(), Fail> {
+    bytes.extend_from_slice(before())?;
+    append_frames(bytes, 2048)?;
+    bytes.extend_from_slice(behind())?;
     Ok(())
 }
 
@@ -96,9 +175,7 @@ pub(crate) fn worked(alloc: Global) -> Result<Host, Fail>
     ensures narrow { IfOk result (λ host. host.host.width ≤ most_saved_width) }
 {
     let mut image = Vec::new(alloc);
-    for line in worked_text() {
-        append(&mut image, alloc, line)?;
-    }
+    append_worked(&mut image, alloc)?;
     host_in(alloc, image)
 }
 
@@ -107,9 +184,6 @@ pub(crate) fn wide(alloc: Global) -> Result<Host, Fail>
     ensures narrow { IfOk result (λ host. host.host.width ≤ most_saved_width) }
 {
     let mut image = Vec::new(alloc);
-    let (before, behind) = wide_text();
-    append(&mut image, alloc, before)?;
-    append_frames(&mut image, 2048)?;
-    append(&mut image, alloc, behind)?;
+    append_wide(&mut image)?;
     host_in(alloc, image)
 }
