@@ -11,6 +11,5 @@ pub mod Fronts
 pub mod ByteLists
 pub mod Said
 pub mod Sequences
-pub mod Failing
 pub mod Arrivals
 pub mod NumberMaps

@@ -7,4 +7,3 @@ pub mod Walk
 pub mod Judged
 pub mod Answers
 pub mod Sequences
-pub mod Failing

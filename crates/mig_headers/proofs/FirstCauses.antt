@@ -4,9 +4,13 @@ use Rattle.std.specs.Prelude.{◌&&◌, ◌||◌}
 use Rattle.std.specs.List.{list_all}
 use Rattle.std.specs.Option.{option_or}
 use Rattle.std.proofs.lemmas.Bool.{and_parts, or_cases, false≢true}
-use Rattle.mig_bytes.proofs.Failing.{Names}
 use Rattle.mig_headers.specs.FirstCauses.{IsEarlier, IsTriedFirst}
 use Rattle.mig_headers.specs.Rows.{first_fault}
+
+-- a computed cause is the one that is named
+pub record Names {C : Type 0} (Named : List ℕ → C → Type 0) (fault : List ℕ → Option C) : Type 0 where
+  pub computed : (bytes : List ℕ) (c : C) → fault bytes ≡ Some c → Named bytes c
+  pub named : (bytes : List ℕ) (c : C) → Named bytes c → fault bytes ≡ Some c
 
 module _ {C : Type 0} (number place : C → ℕ) where
   abbrev NamedOf : (C → Type 0) → Option C → Type 0

@@ -14,6 +14,5 @@ pub mod RestoredHosts
 pub mod SeenGuests
 pub mod SoundHosts
 pub mod HostChanges
-pub mod Callers
 pub mod SeenBytes
 pub mod OneToOne

@@ -18,7 +18,6 @@ pub use Rattle.std.specs.declared.cmp.Ordering.{Ordering}
 pub use Rattle.std.specs.declared.cmp.Ordering.TheVariants.{Less}
 pub use Rattle.byteorder.specs.Endian.{little_bytes, little_number}
 pub use Rattle.mig_bytes.proofs.ByteLists.{bytes_back, bytes_front}
-pub use Rattle.mig_bytes.proofs.Failing.{Names}
 pub use Rattle.mig_bytes.proofs.Joins.{bind_cases, both_pass, only_first, part_passes, passes_not, placed_faulty, placed_passes, same_faulty, same_passes, then_faulty, then_passes}
 pub use Rattle.mig_bytes.proofs.Said.{said_passes}
 pub use Rattle.mig_bytes.proofs.Sequences.{accepted_spelled, refused_stops, spelled_accepted, spelled_refused}
@@ -33,7 +32,7 @@ pub use Rattle.mig_bytes.specs.Walk.{walk_end}
 pub use Rattle.mig_bytes.specs.Walk.Reaches.{here, next as next_reached}
 pub use Rattle.mig_headers.proofs.Chains.{chain_more, gone, none_of, not_last, scan_is}
 pub use Rattle.mig_headers.proofs.ContextTexts.{in32}
-pub use Rattle.mig_headers.proofs.FirstCauses.{ascends, is_named, join, rows_name}
+pub use Rattle.mig_headers.proofs.FirstCauses.{Names, ascends, is_named, join, rows_name}
 pub use Rattle.mig_headers.proofs.FirstFaults.{neither_some}
 pub use Rattle.mig_headers.proofs.RecordNumbers.{numbers_are_inverse}
 unfoldable pub use Rattle.mig_headers.specs.Contexts.{after_entry, fault_at, scan}
