@@ -7,6 +7,7 @@ use Rattle.mig_guest.proofs.KeyedMaps.{tied}
 use Rattle.mig_guest.proofs.PartCursor.{less, not_itself}
 use Rattle.mig_guest.proofs.PartOrder.{part_total, part_exact}
 use Rattle.mig_guest.specs.Guests.{GuestOf}
+use Rattle.mig_guest.specs.Parts.{IsNextKey}
 use Rattle.mig_headers.specs.declared.kind.Kind.{Kind}
 use Rattle.mig_dirtysave.specs.Saver.{is_setting, kept_parts, parts_alone, part_len, SameSettings}
 
@@ -81,11 +82,6 @@ remaining_falls m after key here there =
     one_less after key here bytes (maps.entries m) (sym (maps.get-entries m key) ∙ is)
 
 -- ---- the next key
-
--- the key is the next one of the map
-pub record IsNextKey (m : PartMap) (after : Option PartKey) (key : PartKey) : Type 0 where
-  pub above : IsAbove after key
-  pub least : (k : PartKey) → IsAbove after k → part_cmp k key ≡ Less → maps.get m k ≡ None
 
 -- what isn't ahead of a key is the key, or apart from it and was passed before or isn't there
 pub data Passes (m : PartMap) (after : Option PartKey) (key q : PartKey) : Type 0 where
@@ -253,10 +249,10 @@ bare_from kind width g m is = is ∙ ap (parts_alone kind width) (sym (ap (λ (k
 set_in : (kind : Kind) (width : ℕ) (g k : GuestOf) (key : PartKey) (bytes : List ℕ) → g ≡ parts_alone kind width g.parts → k ≡ record g { parts = maps.insert g.parts key bytes } → k ≡ parts_alone kind width (maps.insert g.parts key bytes)
 set_in kind width g k key bytes bare is = is ∙ ap (λ (x : GuestOf). record x { parts = maps.insert g.parts key bytes }) bare
 
-module _ (m : PartMap) (after : Option PartKey) (key : PartKey) (next : IsNextKey m after key) (there : IsSome (maps.get m key)) (kind : Kind) (width : ℕ) (g k : GuestOf) (bare : g ≡ parts_alone kind width g.parts)
+module _ (m : PartMap) (after : Option PartKey) (key : PartKey) (next : IsNextKey m after key) (kind : Kind) (width : ℕ) (g k : GuestOf) (bare : g ≡ parts_alone kind width g.parts)
     (set : IfSome (maps.get m key) (λ bytes. k ≡ record g { parts = maps.insert g.parts key bytes })) where
   pub copies_one : (codes : ℕ → Bool) → codes key.code ≡ true → Copied codes m after g.parts → (k ≡ parts_alone kind width k.parts) × Copied codes m (Some key) k.parts
-  copies_one codes of copied = by (maps.get m key) refl there set
+  copies_one codes of copied = by (maps.get m key) refl next.there set
     where
       by : (o : Option (List ℕ)) → maps.get m key ≡ o → IsSome o → IfSome o (λ bytes. k ≡ record g { parts = maps.insert g.parts key bytes }) → (k ≡ parts_alone kind width k.parts) × Copied codes m (Some key) k.parts
       by None at some is = absurd (cc)
@@ -265,7 +261,7 @@ module _ (m : PartMap) (after : Option PartKey) (key : PartKey) (next : IsNextKe
           (bare_from kind width k _ whole, subst (Copied codes m (Some key)) (sym (ap (λ (x : GuestOf). x.parts) is)) (copied_one codes m after key next g.parts copied bytes of at))
 
   pub refreshes_one : is_setting key.code ≡ true → Refreshed m after g.parts → (k ≡ parts_alone kind width k.parts) × Refreshed m (Some key) k.parts
-  refreshes_one of refreshed = by (maps.get m key) refl there set
+  refreshes_one of refreshed = by (maps.get m key) refl next.there set
     where
       by : (o : Option (List ℕ)) → maps.get m key ≡ o → IsSome o → IfSome o (λ bytes. k ≡ record g { parts = maps.insert g.parts key bytes }) → (k ≡ parts_alone kind width k.parts) × Refreshed m (Some key) k.parts
       by None at some is = absurd (cc)

@@ -1,12 +1,13 @@
 -- The parts of a guest: a finite map from keys to bytes.
-use Rattle.std.specs.Prelude.{◌≡◌, ◌≤◌, ℕ, length, List, [], ◌∷◌, map, filter, fold, not, ◌==◌, Option, Some, None}
+use Rattle.std.specs.Prelude.{◌≡◌, ◌≤◌, ℕ, length, List, [], ◌∷◌, map, filter, fold, not, ◌==◌, Option, Some, None, IsSome}
+use Rattle.std.specs.declared.cmp.Ordering.TheVariants.{Less}
 use Rattle.std.specs.Ordering.{is_lt}
 use Rattle.std.specs.FinMap as maps
 use Rattle.std.specs.Coded.{Coded, coded_ℕ, coded_list}
 use Rattle.std.specs.declared.vec.Vec.{Vec}
 use Rattle.mig_guest.specs.declared.part_key.PartKey.{PartKey}
 use Rattle.mig_guest.specs.contracts.part_key.PartKey as part_key
-use Rattle.mig_guest.specs.Order.{part_cmp}
+use Rattle.mig_guest.specs.Order.{part_cmp, IsAbove}
 
 -- parts by key
 abbrev pub PartMap : Type 0
@@ -68,3 +69,14 @@ parts_behind (Some k) es = filter (λ e. is_lt (part_cmp k e.0)) es
 abbrev pub NextBehind : {X : Type 0} → Option PartKey → List (PartKey × X) → Option (PartKey × X) → Type 0
 NextBehind after es None = parts_behind after es ≡ []
 NextBehind after es (Some e) = parts_behind after es ≡ e ∷ parts_behind (Some e.0) es
+
+-- of the keys above one, or of all, the least that has a part
+pub record IsNextKey (parts : PartMap) (after : Option PartKey) (next : PartKey) : Type 0 where
+  pub above : IsAbove after next
+  pub there : IsSome (maps.get parts next)
+  pub least : (key : PartKey) → IsAbove after key → part_cmp key next ≡ Less → maps.get parts key ≡ None
+
+-- that one, or none, where none has a part
+abbrev pub NextKey : PartMap → Option PartKey → Option PartKey → Type 0
+NextKey parts after None = (key : PartKey) → IsAbove after key → maps.get parts key ≡ None
+NextKey parts after (Some next) = IsNextKey parts after next

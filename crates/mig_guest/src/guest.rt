@@ -1,5 +1,4 @@
 ghost use Rattle.std.specs.Prelude.{◌≡◌, ◌==◌, ℕ, ◌+◌, ◌<◌, ◌≤◌, length, not, IsOk, OnOk, OnErr, IfSome, IfNone, IsSome, None, is_some, option_and_then};
-ghost use Rattle.std.specs.declared.cmp.Ordering.TheVariants.{Less};
 ghost use Rattle.std.specs.Option.{option_copied, option_copied_mut, option_map};
 ghost use Rattle.std.specs.FinMap as maps;
 ghost use Rattle.std.specs.Borrow.{sem};
@@ -8,9 +7,8 @@ ghost use Rattle.mig_pagetypes.specs.Limits.{pfn_limit};
 ghost use Rattle.mig_pagetypes.specs.declared.page_type.PageType.TheVariants.{Xtab};
 ghost use Rattle.mig_pagestore.specs.Pages.{spliced};
 ghost use Rattle.mig_guest.specs.declared.part_key.PartKey.{PartKey};
-ghost use Rattle.mig_guest.specs.Order.{part_cmp, IsAbove};
 ghost use Rattle.mig_guest.specs.Frames.{framed, IsSized, NextEntry};
-ghost use Rattle.mig_guest.specs.Parts.{NextPart, NextBehind};
+ghost use Rattle.mig_guest.specs.Parts.{NextPart, NextBehind, NextKey};
 
 use crate::part_key::PartKey;
 use crate::parts::{Parts, bytes_mut};
@@ -196,9 +194,7 @@ impl Guest {
 
     /// The least key of a part that is above `after`, or of all parts.
     pub fn next_part(&self, after: Option<PartKey>) -> Option<PartKey>
-        ensures none { IfNone result ((k : PartKey) → IsAbove after k → maps.get self.now.parts k ≡ None) }
-        ensures there { IfSome result (λ q. IsSome (maps.get self.now.parts q)) }
-        ensures least { IfSome result (λ q. IsAbove after q × ((k : PartKey) → IsAbove after k → part_cmp k q ≡ Less → maps.get self.now.parts k ≡ None)) }
+        ensures { NextKey self.now.parts after result }
     {
         self.parts.next(after)
     }

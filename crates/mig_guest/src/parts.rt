@@ -1,14 +1,12 @@
 ghost use Rattle.std.specs.declared.ops.Bound.TheVariants.{Included, Excluded, Unbounded};
 ghost use Rattle.std.specs.Prelude.{◌≡◌, ◌==◌, ℕ, ◌+◌, ◌≤◌, length, not, OnOk, OnErr, IfSome, IfNone, IsSome, None, option_and_then};
-ghost use Rattle.std.specs.declared.cmp.Ordering.TheVariants.{Less};
 ghost use Rattle.std.specs.Option.{option_copied, option_copied_mut, option_map};
 ghost use Rattle.std.specs.BTreeMap as tree;
 ghost use Rattle.std.specs.FinMap as maps;
 ghost use Rattle.std.specs.Borrow.{sem};
 ghost use Rattle.mig_pagestore.specs.Pages.{spliced};
 ghost use Rattle.mig_guest.specs.declared.part_key.PartKey.{PartKey};
-ghost use Rattle.mig_guest.specs.Order.{part_cmp, IsAbove};
-ghost use Rattle.mig_guest.specs.Parts.{NextPart, NextBehind};
+ghost use Rattle.mig_guest.specs.Parts.{NextPart, NextBehind, NextKey};
 ghost use Rattle.mig_guest.specs.Lending.{LendsBytes};
 
 use crate::part_key::PartKey;
@@ -136,8 +134,7 @@ impl Parts {
 
     /// The least key of a part that is above `after`, or of all parts.
     pub fn next(&self, after: Option<PartKey>) -> Option<PartKey>
-        ensures none { IfNone result ((k : PartKey) → IsAbove after k → maps.get self.now k ≡ None) }
-        ensures least { IfSome result (λ q. IsAbove after q × IsSome (maps.get self.now q) × ((k : PartKey) → IsAbove after k → part_cmp k q ≡ Less → maps.get self.now k ≡ None)) }
+        ensures { NextKey self.now after result }
     {
         match self.next_behind(after) {
             Some((key, _)) => Some(key),

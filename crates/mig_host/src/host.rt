@@ -1,5 +1,4 @@
 ghost use Rattle.std.specs.Prelude.{◌≡◌, ℕ, ◌+◌, ◌≤◌, ◌<◌, OnOk, OnErr, IfSome, IfNone, IsSome, IsOk, Some, None, option_and_then, length, min};
-ghost use Rattle.std.specs.declared.cmp.Ordering.TheVariants.{Less};
 ghost use Rattle.std.specs.Option.{option_copied, option_map};
 ghost use Rattle.std.specs.FinMap as maps;
 ghost use Rattle.mig_headers.specs.declared.kind.Kind.TheVariants.{Pv};
@@ -7,8 +6,7 @@ ghost use Rattle.mig_pagetypes.specs.Limits.{pfn_limit, top_limit, most_frames};
 ghost use Rattle.mig_guest.specs.declared.part_key.PartKey.{PartKey};
 ghost use Rattle.mig_guest.specs.Frames.{NextEntry};
 ghost use Rattle.mig_guest.specs.Hosts.{IsHostFrame, IsHostPart, IsValid, most_width, machine_limit, pfn_in};
-ghost use Rattle.mig_guest.specs.Order.{part_cmp, IsAbove};
-ghost use Rattle.mig_guest.specs.Parts.{FitsPolicy, NextBehind};
+ghost use Rattle.mig_guest.specs.Parts.{FitsPolicy, NextBehind, NextKey};
 ghost use Rattle.mig_hosted.specs.View.{guest_in};
 ghost use Rattle.mig_host.specs.HostView.{has_machine, put_frame, put_part_in};
 
@@ -194,9 +192,7 @@ impl Host {
 
     /// The least key of a part that is above `after`, or of all parts.
     pub fn next_part(&self, after: Option<PartKey>) -> Option<PartKey>
-        ensures none { IfNone result ((k : PartKey) → IsAbove after k → maps.get self.now.host.parts k ≡ None) }
-        ensures there { IfSome result (λ q. IsSome (maps.get self.now.host.parts q)) }
-        ensures least { IfSome result (λ q. IsAbove after q × ((k : PartKey) → IsAbove after k → part_cmp k q ≡ Less → maps.get self.now.host.parts k ≡ None)) }
+        ensures { NextKey self.now.host.parts after result }
     {
         self.parts.next(after)
     }

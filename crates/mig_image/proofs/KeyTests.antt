@@ -1,5 +1,6 @@
 -- Whether a host has a frame or a part from a key on.
-use Rattle.mig_image.proofs.Common.{◌≡◌, ℕ, Bool, true, false, not, nat_le, Option, Some, None, is_some, IsSome, IfSome, IfNone, refl, sym, ap, ◌∙◌, arith, list_any, le-leb, true≢false, false_from_ne_true, none-some, IsTotalOrder, nat_cmp_total, is_lt, ordering_reverse, Ordering, Less, Equal, Greater, FinMap, IsAntisymmetric, nat_cmp-IsAntisymmetric, PartKey, part_cmp, IsAbove, HostFrames, PartMap, part_total, part_exact, has_part_from}
+use Rattle.mig_image.proofs.Common.{◌≡◌, ℕ, Bool, true, false, not, nat_le, Option, Some, None, is_some, IsSome, refl, sym, ap, ◌∙◌, arith, list_any, le-leb, true≢false, false_from_ne_true, none-some, IsTotalOrder, nat_cmp_total, is_lt, ordering_reverse, Ordering, Less, Equal, Greater, FinMap, IsAntisymmetric, nat_cmp-IsAntisymmetric, PartKey, part_cmp, IsAbove, HostFrames, PartMap, part_total, part_exact, has_part_from}
+use Rattle.mig_guest.specs.Parts.{NextKey}
 use Rattle.std.specs.FinMap as maps
 use Rattle.mig_host.proofs.InOrder.{some_entry, no_entry, none_passes}
 
@@ -44,14 +45,12 @@ module _ (key : PartKey) (parts : PartMap) where
   part_there there = some_key part_total part_exact at_least parts key (itself (part_cmp key key) (part_total.antisymm key key)) there
 
   -- the next part, where that of the key isn't there
-  pub parts_from : (r : Option PartKey) → maps.get parts key ≡ None
-      → IfNone r ((k : PartKey) → IsAbove (Some key) k → maps.get parts k ≡ None) → IfSome r (λ q. IsSome (maps.get parts q)) → IfSome r (λ q. IsAbove (Some key) q × ((k : PartKey) → IsAbove (Some key) k → part_cmp k q ≡ Less → maps.get parts k ≡ None))
-      → is_some r ≡ has_part_from parts key
-  parts_from None absent none there least = sym (no_key part_total part_exact at_least parts (λ k passes. by k passes (part_cmp k key) refl))
+  pub parts_from : (r : Option PartKey) → maps.get parts key ≡ None → NextKey parts (Some key) r → is_some r ≡ has_part_from parts key
+  parts_from None absent none = sym (no_key part_total part_exact at_least parts (λ k passes. by k passes (part_cmp k key) refl))
     where
       by : (k : PartKey) → at_least k ≡ true → (r : Ordering) → part_cmp k key ≡ r → maps.get parts k ≡ None
       by k passes Equal is = ap (maps.get parts) (part_exact k key is) ∙ absent
       by k passes Less is = absurd (true≢false (sym passes ∙ ap (λ r. not (is_lt r)) is))
       by k passes Greater is = none k (part_total.antisymm key k ∙ ap ordering_reverse is)
-  parts_from (Some q) absent none there least =
-      sym (some_key part_total part_exact at_least parts q (ap (λ r. not (is_lt r)) (part_total.antisymm q key ∙ ap ordering_reverse least.0)) there)
+  parts_from (Some q) absent next =
+      sym (some_key part_total part_exact at_least parts q (ap (λ r. not (is_lt r)) (part_total.antisymm q key ∙ ap ordering_reverse next.above)) next.there)

@@ -1,11 +1,10 @@
-ghost use Rattle.std.specs.Prelude.{◌≡◌, ℕ, ◌+◌, ◌/◌, ◌<◌, ◌≤◌, length, OnOk, OnErr, IfOk, IfSome, IfNone, IsSome, None, if◌then◌else◌};
+ghost use Rattle.std.specs.Prelude.{◌≡◌, ℕ, ◌+◌, ◌/◌, ◌<◌, ◌≤◌, length, OnOk, OnErr, IfOk, IfSome, None, if◌then◌else◌};
 ghost use Rattle.std.specs.Option.{option_copied};
-ghost use Rattle.std.specs.declared.cmp.Ordering.TheVariants.{Less};
 ghost use Rattle.std.specs.FinMap as maps;
 ghost use Rattle.mig_bytes.specs.Faults.{HasCause};
 ghost use Rattle.mig_guest.specs.declared.part_key.PartKey.{PartKey};
 ghost use Rattle.mig_guest.specs.Hosts.{most_saved_width, pfn_in};
-ghost use Rattle.mig_guest.specs.Order.{part_cmp, IsAbove};
+ghost use Rattle.mig_guest.specs.Parts.{NextKey};
 ghost use Rattle.mig_guest.specs.PartCodes.{is_fixed};
 ghost use Rattle.mig_machine_api.specs.MachineCalls.{seen_at, page_peeked, Peeked, LookedUp, LogTaken, Paused};
 ghost use Rattle.mig_machine_api.specs.MachineStates.{MachineState, IsValidState, Stays};
@@ -49,9 +48,7 @@ pub trait Machine {
 
     /// The least part key above `after`, or the least one.
     fn next_key(&self, after: Option<PartKey>) -> Option<PartKey>
-        ensures none { IfNone result ((key : PartKey) → IsAbove after key → maps.get (state self.now).host.parts key ≡ None) }
-        ensures there { IfSome result (λ next. IsSome (maps.get (state self.now).host.parts next)) }
-        ensures least { IfSome result (λ next. IsAbove after next × ((key : PartKey) → IsAbove after key → part_cmp key next ≡ Less → maps.get (state self.now).host.parts key ≡ None)) };
+        ensures { NextKey (state self.now).host.parts after result };
 
     /// The bytes of a part that never changes; none where this isn't the key of such a part that is there.
     fn fixed_part(&self, key: PartKey) -> Option<&[u8]>

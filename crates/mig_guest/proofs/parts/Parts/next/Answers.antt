@@ -21,13 +21,17 @@ is_key_above : (after : Option PartKey) (k : PartKey) → is_above after k ≡ t
 is_key_above None k h = tt
 is_key_above (Some a) k h = less _ h
 
-pub returns-in-Some-clause-least : goal.returns-in-Some-clause-least
-returns-in-Some-clause-least c =
+pub returns-in-Some : goal.returns-in-Some
+returns-in-Some c =
     let m = c.args.self.now in let after = c.args.after in
     let found = first_passes part_total part_exact m (is_above after) _ _ (behind_are after (maps.entries m) ∙ c.in-Some.ensures) in
-    (is_key_above after _ found.0, ap is_some found.1, λ k is before. found.2 k (above after k is) before)
+    record {
+      above = is_key_above after _ found.0;
+      there = ap is_some found.1;
+      least = λ k is before. found.2 k (above after k is) before;
+    }
 
-pub returns-in-None-clause-none : goal.returns-in-None-clause-none
-returns-in-None-clause-none c =
+pub returns-in-None : goal.returns-in-None
+returns-in-None c =
     let m = c.args.self.now in let after = c.args.after in
     λ k is. none_passes part_total part_exact m (is_above after) (behind_are after (maps.entries m) ∙ c.in-None.ensures) k (above after k is)
