@@ -3,7 +3,7 @@ pub use Rattle.mig_bytes.specs.Bytes.{AreBytes}
 pub use Rattle.mig_emulators.specs.Content.{LibxlContent, LibxlRecord}
 pub use Rattle.mig_emulators.specs.Content.LibxlContent.{Context, Image, Pairs}
 pub use Rattle.mig_emulators.specs.Emulators.{EmulatorsOf, add_pairs, emulator_parts, no_emulators, put_libxl_content, store_at, store_part, with_emulators}
-pub use Rattle.mig_emulators.specs.Formed.{AreEmulators, IsPlain}
+pub use Rattle.mig_emulators.specs.Formed.{AreEmulators}
 pub use Rattle.mig_guest.proofs.Found.{all_found}
 pub use Rattle.mig_guest.proofs.KeyedMaps.{tied}
 pub use Rattle.mig_guest.proofs.PartOrder.{part_exact, part_total}
@@ -20,7 +20,7 @@ pub use Rattle.mig_policy.proofs.KeyLaws.{pairs_are_read}
 pub use Rattle.mig_policy.proofs.PairMapLaws.{some_bytes_are_some_pairs}
 pub use Rattle.mig_policy.specs.PairFaults.{pairs_fault}
 pub use Rattle.mig_policy.specs.PairMaps.{PairMap, put_pairs, text_of_map}
-pub use Rattle.mig_pvtables.specs.Whole.{IsWhole}
+pub use Rattle.mig_pvtables.specs.Whole.{IsWhole, IsStreamed, IsStreamedBare}
 pub use Rattle.std.proofs.Common.{Bool, Err, List, None, Ok, Option, Result, Some, [], ap, append_assoc, arith, cond, false, length, map, nat_eq, refl, subst, sym, true, ℕ, ◌++◌, ◌+◌, ◌-◌, ◌<◌, ◌^◌, ◌∙◌, ◌∷◌, ◌≡◌, ◌≤◌}
 pub use Rattle.std.proofs.lemmas.Bool.{eqb-true, le-leb}
 pub use Rattle.std.proofs.lemmas.Cmp.{eq_by_cmp_equiv}

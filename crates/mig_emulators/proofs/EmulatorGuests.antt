@@ -1,5 +1,5 @@
 -- A guest with the parts of its emulators: what it has at each key, and that it is whole, in its blank form and of bytes.
-use Rattle.mig_emulators.proofs.Common.{◌≡◌, ℕ, ◌+◌, ◌-◌, ◌≤◌, ◌^◌, true, false, List, [], ◌∷◌, ◌++◌, length, map, refl, sym, ap, subst, ◌∙◌, arith, T, is_sorted, option_or, option_map, fold-append, All, le-leb, All-head, All-tail, AreBytes, Kind, Pv, Hvm, IsPart, IsFormed, is_emulator_code, width_of, GuestOf, part_cmp, Part, PartMap, put_part, put_parts, EmulatorPairs, EmulatorContext, PartKey, all_found, part_total, part_exact, PairMap, text_of_map, IsWhole, EmulatorsOf, no_emulators, store_part, with_emulators, AreEmulators, IsPlain, nil_from_length, Option, Some, None, is_none, if◌then◌else◌, is_policy}
+use Rattle.mig_emulators.proofs.Common.{◌≡◌, ℕ, ◌+◌, ◌-◌, ◌≤◌, ◌^◌, true, false, List, [], ◌∷◌, ◌++◌, length, map, refl, sym, ap, subst, ◌∙◌, arith, T, is_sorted, option_or, option_map, fold-append, All, le-leb, All-head, All-tail, AreBytes, Kind, Pv, Hvm, IsPart, IsFormed, is_emulator_code, width_of, GuestOf, part_cmp, Part, PartMap, put_part, put_parts, EmulatorPairs, EmulatorContext, PartKey, all_found, part_total, part_exact, PairMap, text_of_map, EmulatorsOf, no_emulators, store_part, with_emulators, AreEmulators, IsStreamed, IsStreamedBare, nil_from_length, Option, Some, None, is_none, if◌then◌else◌, is_policy}
 use Rattle.std.specs.FinMap as maps
 use Rattle.std.proofs.lemmas.Bool.{lt-ltb, and_from}
 use Rattle.std.proofs.lemmas.List.Elements.{All-append, All-map, All-weaker}
@@ -8,7 +8,7 @@ use Rattle.mig_guest.proofs.Counts.{same_parts}
 use Rattle.mig_guest.proofs.Found.{Each, insert_holds}
 use Rattle.mig_guest.proofs.PartSets.{put_other}
 use Rattle.mig_policy.proofs.PairMapLaws.{maps_are_of_pairs}
-use Rattle.mig_pvtables.specs.Blank.{blank, blank_of, IsOfBytes}
+use Rattle.mig_pvtables.specs.Blank.{blank_of}
 use Rattle.mig_emulators.specs.Emulators.{emulator_parts}
 use Rattle.mig_emulators.specs.Formed.{IsEmulatorKey, IsStore}
 use Rattle.mig_guest.proofs.KeyedMaps.{seen, find_seen, entries_shown}
@@ -95,13 +95,7 @@ puts_stay m (p ∷ ps) are key other =
 
 -- ---- the guest
 
--- what a guest is at the end of its stream
-pub record IsDone (g : GuestOf) : Type 0 where
-  pub whole : IsWhole g
-  pub blank : blank g ≡ g
-  pub bytes : IsOfBytes g
-
-module _ (g : GuestOf) (e : EmulatorsOf) (plain : IsPlain g) (are : AreEmulators e) where
+module _ (g : GuestOf) (e : EmulatorsOf) (plain : IsStreamedBare g) (are : AreEmulators e) where
   abbrev ps : List Part
   ps = emulator_parts e
 
@@ -120,7 +114,7 @@ module _ (g : GuestOf) (e : EmulatorsOf) (plain : IsPlain g) (are : AreEmulators
     policies = λ code one. subst (λ l. length l ≤ 65536) (sym (same_parts code (put_parts g.parts ps) g.parts (λ key of. other_part key (ap is_emulator_code of ∙ plain_policy code one)))) (plain.whole.formed.policies code one);
   }
 
-  hvm_done : g.kind ≡ Hvm → IsDone (with_emulators g e)
+  hvm_done : g.kind ≡ Hvm → IsStreamed (with_emulators g e)
   hvm_done hvm = record {
     whole = record { formed = hvm_formed hvm; faultless = hvm_faultless g (put_parts g.parts ps) hvm (other_part context_key refl) plain.whole.faultless };
     blank = ap (λ k. blank_of k (with_emulators g e)) hvm;
@@ -134,12 +128,12 @@ no_entries {X} = nil_from_length _ (sym (maps.len-entries (maps.empty {X = X} {R
 pub none_set : (g : GuestOf) → with_emulators g no_emulators ≡ g
 none_set g = λ i. record g { parts = put_parts g.parts (map store_part (no_entries {X = PairMap} i) ++ no_entries {X = List ℕ} i) }
 
-pub guest_done : (g : GuestOf) (e : EmulatorsOf) → IsPlain g → AreEmulators e → (g.kind ≡ Pv → e ≡ no_emulators) → IsDone (with_emulators g e)
+pub guest_done : (g : GuestOf) (e : EmulatorsOf) → IsStreamedBare g → AreEmulators e → (g.kind ≡ Pv → e ≡ no_emulators) → IsStreamed (with_emulators g e)
 guest_done g e plain are alone = by_kind g.kind refl
   where
-    by_kind : (k : Kind) → g.kind ≡ k → IsDone (with_emulators g e)
+    by_kind : (k : Kind) → g.kind ≡ k → IsStreamed (with_emulators g e)
     by_kind Hvm is = hvm_done g e plain are is
-    by_kind Pv is = subst IsDone (sym (ap (with_emulators g) (alone is) ∙ none_set g)) (record { whole = plain.whole; blank = plain.blank; bytes = plain.bytes })
+    by_kind Pv is = subst IsStreamed (sym (ap (with_emulators g) (alone is) ∙ none_set g)) (record { whole = plain.whole; blank = plain.blank; bytes = plain.bytes })
 
 -- ---- a guest with its emulators, at each key
 

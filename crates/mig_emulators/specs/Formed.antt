@@ -1,14 +1,10 @@
--- Emulators that are well formed, as a reader keeps them whatever comes, and the guests that they are set in.
+-- Emulators that are well formed, as a reader keeps them whatever comes, before they are set in a guest.
 use Rattle.std.specs.Prelude.{◌≡◌, ◌≤◌, ◌<◌, ◌+◌, ◌^◌, ℕ, List, length, Some}
 use Rattle.std.specs.FinMap as maps
 use Rattle.mig_bytes.specs.Bytes.{AreBytes}
 use Rattle.mig_headers.specs.RecordTypes.{most_body}
 use Rattle.mig_guest.specs.declared.part_key.PartKey.{PartKey}
-use Rattle.mig_guest.specs.Formed.{HasNoEmulators}
-use Rattle.mig_guest.specs.Guests.{GuestOf}
 use Rattle.mig_policy.specs.PairMaps.{PairMap, IsOfPairs, text_of_map}
-use Rattle.mig_pvtables.specs.Blank.{blank, IsOfBytes}
-use Rattle.mig_pvtables.specs.Whole.{IsWhole}
 use Rattle.mig_emulators.specs.Emulators.{EmulatorsOf}
 
 -- the key of an emulator's part of this code
@@ -27,10 +23,3 @@ pub record IsStore (m : PairMap) : Type 0 where
 pub record AreEmulators (e : EmulatorsOf) : Type 0 where
   pub stores : (key : PartKey) (m : PairMap) → maps.get e.stores key ≡ Some m → IsEmulatorKey 258 key × IsStore m
   pub contexts : (key : PartKey) (bytes : List ℕ) → maps.get e.contexts key ≡ Some bytes → IsEmulatorKey 259 key × (length bytes + 8 ≤ most_body) × AreBytes bytes
-
--- a whole guest in its blank form, of bytes and without emulators
-pub record IsPlain (g : GuestOf) : Type 0 where
-  pub whole : IsWhole g
-  pub blank : blank g ≡ g
-  pub bytes : IsOfBytes g
-  pub plain : HasNoEmulators g.parts

@@ -8,8 +8,8 @@ ghost use Rattle.mig_headers.specs.declared.kind.Kind.TheVariants.{Pv};
 ghost use Rattle.mig_guest.specs.Hosts.{IsValid};
 ghost use Rattle.mig_guest.specs.PartKeys.{context_key};
 ghost use Rattle.mig_headers.specs.declared.unsound.Unsound.{Unsound as Cause};
-ghost use Rattle.mig_pvtables.specs.Blank.{blank, each_value, IsOfBytes};
-ghost use Rattle.mig_pvtables.specs.Whole.{IsWhole};
+ghost use Rattle.mig_pvtables.specs.Blank.{each_value, IsOfBytes};
+ghost use Rattle.mig_pvtables.specs.Whole.{IsStreamed};
 ghost use Rattle.mig_hosted.specs.Normalised.{part_seen};
 ghost use Rattle.mig_hosted.specs.Sound.{IsSound, unsoundness};
 ghost use Rattle.mig_hosted.specs.View.{without_machine, top_of, guest_in, view};
@@ -132,9 +132,7 @@ fn guest_seen(alloc: Global, host: &Host) -> Result<Guest, Memory>
 /// cause, and no guest is made.
 pub fn guest_of(alloc: Global, host: &Host) -> Result<Guest, SoundAnswer>
     ensures guest { IfOk result (λ guest. guest ≡ view host.now.host) }
-    ensures whole { IfOk result (λ guest. IsWhole guest) }
-    ensures blank { IfOk result (λ guest. blank guest ≡ guest) }
-    ensures bytes { IfOk result (λ guest. IsOfBytes guest) }
+    ensures streamed { IfOk result (λ guest. IsStreamed guest) }
     ensures sound { OnOk result (IsSound host.now.host) }
     ensures unsound { (u : Cause) → result ≡ Err (answers.Unsound u) → unsoundness host.now.host ≡ Some u }
 {

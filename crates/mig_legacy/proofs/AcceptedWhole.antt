@@ -1,6 +1,6 @@
 -- An accepted guest is whole, with the parts of its device model: each chunk that is spelled leaves the guest on its way and the
 -- emulators well formed, and the tail sets the context.
-use Rattle.mig_legacy.proofs.Common.{◌≡◌, ℕ, ◌<◌, true, false, List, [], ◌++◌, length, Option, Some, None, refl, sym, ap, subst, ◌∙◌, arith, length-append, All-append, fold-append, AreBytes, Hvm, Pv, GuestOf, width_of, IsDone, guest_done, context_kept, EmulatorsOf, emulators_of, put_libxl_content, no_emulators, AreEmulators, IsPlain, Grows, IsBegun, sent, put_record, empty_guest, sent_kind, words, page_data_words, ChunkKind, End, LegacyContent, LegacyChunk, LegacyTail, Nothing, param_key, tsc_key, store_records, image_records, tail_records, device_records, guest_without, device_model, is_end, is_legacy_ended, mean_legacy, put_in_guest, put_in_emulators, put_tail, put_device, HasLegacyContent, StoreFits, FollowsLegacy, IsTail, IsDevice, AcceptedLegacy, blank, IsOfBytes, signature}
+use Rattle.mig_legacy.proofs.Common.{◌≡◌, ℕ, ◌<◌, true, false, List, [], ◌++◌, length, Option, Some, None, refl, sym, ap, subst, ◌∙◌, arith, length-append, All-append, fold-append, AreBytes, Hvm, Pv, GuestOf, width_of, IsStreamed, guest_done, context_kept, EmulatorsOf, emulators_of, put_libxl_content, no_emulators, AreEmulators, IsStreamedBare, Grows, IsBegun, sent, put_record, empty_guest, sent_kind, words, page_data_words, ChunkKind, End, LegacyContent, LegacyChunk, LegacyTail, Nothing, param_key, tsc_key, store_records, image_records, tail_records, device_records, guest_without, device_model, is_end, is_legacy_ended, mean_legacy, put_in_guest, put_in_emulators, put_tail, put_device, HasLegacyContent, StoreFits, FollowsLegacy, IsTail, IsDevice, AcceptedLegacy, blank, IsOfBytes, signature}
 use Rattle.mig_guest.specs.Frames.{IsFew}
 use Rattle.mig_bodies.proofs.BodyBytes.{bytes_front, bytes_back}
 use Rattle.mig_bytes.specs.Sequences.{Spells}
@@ -107,7 +107,7 @@ with_tail : (chunks : List LegacyChunk) (t : LegacyTail) → sent Hvm (image_rec
 unfolding sent
 with_tail chunks t = fold-append put_record (empty_guest Hvm) (image_records chunks) (tail_records t)
 
-tail_kept : (g : GuestOf) → g.kind ≡ Hvm → IsBegun g → IsFew g.frames → (bytes : List ℕ) (t : LegacyTail) → IsTail bytes t → AreBytes bytes → IsPlain (put_tail g t)
+tail_kept : (g : GuestOf) → g.kind ≡ Hvm → IsBegun g → IsFew g.frames → (bytes : List ℕ) (t : LegacyTail) → IsTail bytes t → AreBytes bytes → IsStreamedBare (put_tail g t)
 tail_kept g hvm begun few bytes t is all =
     let told = t.requests ++ (t.buffered ++ t.store) in
     let size : length told ≡ 24 = omega (arith, length-append t.requests (t.buffered ++ t.store), length-append t.buffered t.store, is.requests_len, is.buffered_len, is.store_len) in
@@ -132,7 +132,7 @@ device_kept e are bytes (Some content) rest (text, whole, counted) all =
 
 -- ---- the stream
 
-legacy_done : (input : List ℕ) (guest : GuestOf) (rest : List ℕ) → AreBytes input → AcceptedLegacy input guest rest → IsDone guest
+legacy_done : (input : List ℕ) (guest : GuestOf) (rest : List ℕ) → AreBytes input → AcceptedLegacy input guest rest → IsStreamed guest
 unfolding mean_legacy
 legacy_done input guest rest all a =
     let s = a.stream in
@@ -143,11 +143,11 @@ legacy_done input guest rest all a =
     let at_tail = bytes_back is.bytes (is.tail ++ (is.device ++ rest)) at_chunks in
     let at_device = bytes_back is.tail (is.device ++ rest) at_tail in
     let k = spelled_kept is.bytes s.chunks (bytes_front is.bytes (is.tail ++ (is.device ++ rest)) at_chunks) is.spelled in
-    let plain : IsPlain (put_tail g s.tail) = tail_kept g hvm k.guest (ended_few is.bytes s.chunks is.spelled is.ended) is.tail s.tail is.is_tail (bytes_front is.tail (is.device ++ rest) at_tail) in
+    let plain : IsStreamedBare (put_tail g s.tail) = tail_kept g hvm k.guest (ended_few is.bytes s.chunks is.spelled is.ended) is.tail s.tail is.is_tail (bytes_front is.tail (is.device ++ rest) at_tail) in
     let model : AreEmulators (put_device (emulators_of (store_records s.chunks)) s.device) = device_kept (emulators_of (store_records s.chunks)) k.emulators is.device s.device rest is.is_device (bytes_front is.device rest at_device) in
     let same = without_is s ∙ with_tail s.chunks s.tail in
     let kind : (guest_without s).kind ≡ Hvm = ap (λ (x : GuestOf). x.kind) (without_is s) ∙ sent_kind Hvm (image_records s.chunks ++ tail_records s.tail) in
-    subst IsDone (sym a.means) (guest_done (guest_without s) (device_model s) (subst IsPlain (sym same) plain) (subst AreEmulators (sym (with_device s.chunks s.device)) model)
+    subst IsStreamed (sym a.means) (guest_done (guest_without s) (device_model s) (subst IsStreamedBare (sym same) plain) (subst AreEmulators (sym (with_device s.chunks s.device)) model)
     (λ pv. let no : Hvm ≡ Pv = sym kind ∙ pv in absurd (cc)))
 
 pub accepted_legacy_whole : (input : List ℕ) (guest : GuestOf) (rest : List ℕ) → AreBytes input → AcceptedLegacy input guest rest → IsWhole guest × (blank guest ≡ guest) × IsOfBytes guest

@@ -47,15 +47,16 @@ pub use Rattle.mig_chunks.specs.declared.chunk.ChunkKind.{ChunkKind}
 pub use Rattle.mig_chunks.specs.declared.chunk.ChunkKind.TheVariants.{End, Batch, VcpuMap, Tsc, LastCheckpoint, Toolstack, Param}
 pub use Rattle.mig_legacy.specs.declared.read.ChunksSeen.{ChunksSeen}
 pub use Rattle.mig_emulators.proofs.Formed.{store_small, pairs_kept, context_kept}
-pub use Rattle.mig_emulators.proofs.EmulatorGuests.{part_there, IsDone, guest_done}
+pub use Rattle.mig_emulators.proofs.EmulatorGuests.{part_there, guest_done}
 unfoldable pub use Rattle.mig_emulators.specs.Emulators.{emulators_of}
 pub use Rattle.mig_emulators.specs.Emulators.{EmulatorsOf, put_libxl_content, no_emulators, with_emulators, store_at, add_pairs, last_context, most_pairs, spelled_with}
-pub use Rattle.mig_emulators.specs.Formed.{IsPlain, AreEmulators}
+pub use Rattle.mig_emulators.specs.Formed.{AreEmulators}
 pub use Rattle.mig_pagetypes.specs.FrameWords.{word_pfn, word_type}
 pub use Rattle.mig_pagetypes.specs.LegacyWords.{legacy_type, legacy_pfn, placeholder}
 pub use Rattle.mig_policy.specs.PairFaults.{pairs_fault}
 pub use Rattle.mig_policy.specs.PairMaps.{PairMap, put_pair, put_pairs, text_of_map, pairs_in}
 pub use Rattle.mig_pvtables.specs.Blank.{blank_of, blank, IsOfBytes}
+pub use Rattle.mig_pvtables.specs.Whole.{IsStreamed, IsStreamedBare}
 pub use Rattle.mig_records.proofs.Places.{none_pass}
 pub use Rattle.mig_records.specs.Words.{words}
 pub use Rattle.mig_restore.proofs.Meaning.{last_entry_is, parts_got, sent_kind, part_ties}

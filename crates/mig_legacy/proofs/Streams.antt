@@ -1,5 +1,5 @@
 -- A legacy stream as the reader takes it, part after part, and the guest that it means.
-use Rattle.mig_legacy.proofs.Common.{◌≡◌, ℕ, List, ◌++◌, Option, refl, sym, ap, ◌∙◌, fold-append, Judged, ◌>>=◌, placed, Passes, Hvm, LegacyCause, LegacyPlace, Start, Tail, Device, GuestOf, blank, mean, sent, put_record, empty_guest, EmulatorsOf, put_libxl_content, no_emulators, emulators_of, with_emulators, IsPlain, start_at, tail_at, device_at, LegacyChunk, LegacyTail, LegacyStream, tail_records, device_records, image_records, store_records, mean_legacy, IsLegacySeen, put_tail, put_device, chunks_at, legacy_at, ChunksSeen}
+use Rattle.mig_legacy.proofs.Common.{◌≡◌, ℕ, List, ◌++◌, Option, refl, sym, ap, ◌∙◌, fold-append, Judged, ◌>>=◌, placed, Passes, Hvm, LegacyCause, LegacyPlace, Start, Tail, Device, GuestOf, blank, mean, sent, put_record, empty_guest, EmulatorsOf, put_libxl_content, no_emulators, emulators_of, with_emulators, IsStreamedBare, start_at, tail_at, device_at, LegacyChunk, LegacyTail, LegacyStream, tail_records, device_records, image_records, store_records, mean_legacy, IsLegacySeen, put_tail, put_device, chunks_at, legacy_at, ChunksSeen}
 use Rattle.std.proofs.Common.{fold}
 
 abbrev pub stream_of : List LegacyChunk → LegacyTail → Option (List ℕ) → LegacyStream
@@ -21,7 +21,7 @@ stream_is i = refl
 
 -- the guest that was put together is the one that is meant
 pub guest_meant : (seen : ChunksSeen) (chunks : List LegacyChunk) (tail : LegacyTail) (device : Option (List ℕ)) (g : GuestOf) (e : EmulatorsOf) (result : GuestOf)
-    → IsLegacySeen seen chunks → g ≡ put_tail seen.guest tail → e ≡ put_device seen.emulators device → IsPlain g → result ≡ with_emulators g e → result ≡ mean_legacy (stream_of chunks tail device)
+    → IsLegacySeen seen chunks → g ≡ put_tail seen.guest tail → e ≡ put_device seen.emulators device → IsStreamedBare g → result ≡ with_emulators g e → result ≡ mean_legacy (stream_of chunks tail device)
 unfolding mean_legacy mean sent emulators_of
 guest_meant seen chunks tail device g e result is_seen is_tail is_device plain is =
     let all : g ≡ fold put_record (empty_guest Hvm) (image_records chunks ++ tail_records tail) =

@@ -1,6 +1,6 @@
 -- The tail: how it is read, and that a guest with it is whole.
 use Rattle.mig_bodies.proofs.Kept.{cut_is}
-use Rattle.mig_legacy.proofs.Common.{◌≡◌, ℕ, ◌<◌, ◌≤◌, ◌^◌, List, length, take, drop, Option, Result, Ok, Err, refl, sym, ap, subst, ◌∙◌, arith, length-take-le, length-drop, IsOk, IfOk, IsSome, replicate, false≢true, All-append, All-take, All-drop, All-replicate, AreBytes, Judged, ◌>>=◌, part, Gives, said_at, Passes, Faulty, Stop, then_reads, scan, cut_at, ContextFault, Hvm, LegacyCause, Truncated, IsCut, width_of, GuestOf, context_key, PartKey, part_total, blank_of, IsBegun, IsPlain, length_at, context_fault, cut_context, tail_of, tail_at, LegacyTail, param_key, put_tail}
+use Rattle.mig_legacy.proofs.Common.{◌≡◌, ℕ, ◌<◌, ◌≤◌, ◌^◌, List, length, take, drop, Option, Result, Ok, Err, refl, sym, ap, subst, ◌∙◌, arith, length-take-le, length-drop, IsOk, IfOk, IsSome, replicate, false≢true, All-append, All-take, All-drop, All-replicate, AreBytes, Judged, ◌>>=◌, part, Gives, said_at, Passes, Faulty, Stop, then_reads, scan, cut_at, ContextFault, Hvm, LegacyCause, Truncated, IsCut, width_of, GuestOf, context_key, PartKey, part_total, blank_of, IsBegun, IsStreamedBare, length_at, context_fault, cut_context, tail_of, tail_at, LegacyTail, param_key, put_tail}
 use Rattle.std.specs.FinMap as maps
 use Rattle.mig_guest.specs.Frames.{IsFew}
 use Rattle.mig_restore.proofs.Laws.{complete_faultless}
@@ -106,10 +106,10 @@ module _ (g : GuestOf) (frames context : List ℕ) (end : ℕ) (hvm : g.kind ≡
   is_tail : g4 ≡ put_tail g (tail_of frames context)
   is_tail = ap (λ s. record g { parts = maps.insert g3.parts context_key (cut_context context s) }) (sym found)
 
-  pub tail_plain : (h : GuestOf) → IsBegun g → IsFew g.frames → h ≡ put_tail g (tail_of frames context) → IsPlain h
+  pub tail_plain : (h : GuestOf) → IsBegun g → IsFew g.frames → h ≡ put_tail g (tail_of frames context) → IsStreamedBare h
   tail_plain h begun few now =
       let all = begun4 begun in
-      subst IsPlain (is_tail ∙ sym now) (record {
+      subst IsStreamedBare (is_tail ∙ sym now) (record {
         whole = record { formed = all.formed; faultless = complete_faultless Hvm g4 hvm (subst (λ (o : Option (List ℕ)). IsSome o) (sym (maps.get-insert part_total g3.parts context_key b4 context_key)) refl, few) };
         blank = ap (λ k. blank_of k g4) hvm;
         bytes = all.bytes;

@@ -9,10 +9,9 @@ ghost use Rattle.mig_bytes.specs.declared.part.Stop.TheVariants.{Memory as NoMem
 ghost use Rattle.mig_headers.specs.declared.kind.Kind.TheVariants.{Hvm};
 ghost use Rattle.mig_guest.specs.Frames.{IsFew};
 ghost use Rattle.mig_pagetypes.specs.Limits.{most_frames};
-ghost use Rattle.mig_pvtables.specs.Blank.{blank, IsOfBytes};
-ghost use Rattle.mig_pvtables.specs.Whole.{IsWhole};
+ghost use Rattle.mig_pvtables.specs.Whole.{IsStreamed, IsStreamedBare};
 ghost use Rattle.mig_emulators.specs.Emulators.{with_emulators};
-ghost use Rattle.mig_emulators.specs.Formed.{IsPlain, AreEmulators};
+ghost use Rattle.mig_emulators.specs.Formed.{AreEmulators};
 ghost use Rattle.mig_chunks.specs.declared.chunk.ChunkKind.TheVariants as kinds;
 ghost use Rattle.mig_legacy.specs.Judging.{most_chunks, fault_of_kind, fault_of_start, chunk_kind_at, chunk_content_at, chunk_at, start_at, tail_at, device_at};
 ghost use Rattle.mig_legacy.specs.Legacy.{LegacyChunk, device_records, is_end, is_value_of, mean_legacy};
@@ -205,13 +204,11 @@ impl ChunksSeen {
 
     /// The guest, with the device model put into it.
     fn finish(self) -> Result<Guest, Memory>
-        requires plain { IsPlain self.guest }
+        requires plain { IsStreamedBare self.guest }
         requires hvm { self.guest.kind ≡ Hvm }
         requires emulators { AreEmulators self.emulators }
         ensures ok { IfOk result (λ guest. guest ≡ with_emulators self.guest self.emulators) }
-        ensures whole { IfOk result (λ guest. IsWhole guest) }
-        ensures blank { IfOk result (λ guest. blank guest ≡ guest) }
-        ensures bytes { IfOk result (λ guest. IsOfBytes guest) }
+        ensures streamed { IfOk result (λ guest. IsStreamed guest) }
     {
         let ChunksSeen {
             mut guest,
@@ -250,9 +247,7 @@ fn read_parts<S: Source>(
     src: &mut S,
 ) -> Result<Guest, Stop<(LegacyPlace, LegacyCause)>>
     ensures read { Gives (λ guest s. guest ≡ mean_legacy s) (S.left src.old) (S.left src.new) legacy_at result }
-    ensures whole { IfOk result (λ guest. IsWhole guest) }
-    ensures blank { IfOk result (λ guest. blank guest ≡ guest) }
-    ensures bytes { IfOk result (λ guest. IsOfBytes guest) }
+    ensures streamed { IfOk result (λ guest. IsStreamed guest) }
     ensures faults { RisesOnReadFault (S.faults src.old) (S.faults src.new) result }
 {
     if let Err(stop) = take_start(src) {
@@ -277,9 +272,7 @@ fn read_parts<S: Source>(
 /// the end of the faulty part; `ReadFault` comes only where a read failed (Xen's xg_save_restore.h).
 pub fn read_legacy<S: Source>(alloc: Global, src: &mut S) -> Result<Guest, LegacyAnswer>
     ensures read { ReadsLegacy (S.left src.old) (S.left src.new) result }
-    ensures whole { IfOk result (λ guest. IsWhole guest) }
-    ensures blank { IfOk result (λ guest. blank guest ≡ guest) }
-    ensures bytes { IfOk result (λ guest. IsOfBytes guest) }
+    ensures streamed { IfOk result (λ guest. IsStreamed guest) }
     ensures faults { RisesOnReadFault (S.faults src.old) (S.faults src.new) (or_stop result) }
 {
     match read_parts(alloc, src) {

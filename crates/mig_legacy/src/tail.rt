@@ -6,7 +6,8 @@ ghost use Rattle.mig_headers.specs.Contexts.{scan};
 ghost use Rattle.mig_headers.specs.declared.kind.Kind.TheVariants.{Hvm};
 ghost use Rattle.mig_guest.specs.Frames.{IsFew};
 ghost use Rattle.mig_restore.specs.Mean.{IsBegun};
-ghost use Rattle.mig_emulators.specs.Formed.{IsPlain, AreEmulators};
+ghost use Rattle.mig_emulators.specs.Formed.{AreEmulators};
+ghost use Rattle.mig_pvtables.specs.Whole.{IsStreamedBare};
 ghost use Rattle.mig_legacy.specs.Judging.{tail_of, tail_at, device_at, device_record_at};
 ghost use Rattle.mig_legacy.specs.Seen.{put_tail, put_device};
 
@@ -56,7 +57,7 @@ pub(crate) fn take_tail<S: Source>(
     requires begun { IsBegun guest.old }
     requires few { IsFew guest.old.frames }
     ensures read { Gives (λ _ t. guest.new ≡ put_tail guest.old t) (S.left src.old) (S.left src.new) tail_at result }
-    ensures plain { OnOk result (IsPlain guest.new) }
+    ensures plain { OnOk result (IsStreamedBare guest.new) }
     ensures kind { OnOk result (guest.new.kind ≡ Hvm) }
     ensures faults { RisesOnReadFault (S.faults src.old) (S.faults src.new) result }
 {

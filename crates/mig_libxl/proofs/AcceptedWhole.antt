@@ -1,6 +1,6 @@
 -- An accepted guest is whole, with the parts of its emulators: its image means a whole guest, and each record that is spelled
 -- leaves the emulators well formed.
-use Rattle.mig_libxl.proofs.Common.{◌≡◌, ℕ, ◌^◌, ◌≤◌, ◌<◌, true, false, List, [], ◌∷◌, ◌++◌, length, nat_eq, Option, Some, None, refl, sym, ap, subst, ◌∙◌, arith, ◌||◌, eqb-true, length-append, All-drop, AreBytes, Spells, no_part, one_more, pairs_are_read, Pair, Pv, PartKey, GuestOf, IsWhole, IsImage, ImageOf, LibxlRecord, LibxlContent, is_libxl_ended, image_in, image_among, Context, EmulatorsOf, no_emulators, put_libxl_content, add_pairs, AreEmulators, IsPlain, HasLibxlContent, EmulatorsFit, FollowsLibxl, Bare, Wrapped}
+use Rattle.mig_libxl.proofs.Common.{◌≡◌, ℕ, ◌^◌, ◌≤◌, ◌<◌, true, false, List, [], ◌∷◌, ◌++◌, length, nat_eq, Option, Some, None, refl, sym, ap, subst, ◌∙◌, arith, ◌||◌, eqb-true, length-append, All-drop, AreBytes, Spells, no_part, one_more, pairs_are_read, Pair, Pv, PartKey, GuestOf, IsWhole, IsImage, ImageOf, LibxlRecord, LibxlContent, is_libxl_ended, image_in, image_among, Context, EmulatorsOf, no_emulators, put_libxl_content, add_pairs, AreEmulators, IsStreamedBare, HasLibxlContent, EmulatorsFit, FollowsLibxl, Bare, Wrapped}
 use Rattle.std.proofs.lemmas.Bool.{false≢true, or_parts}
 use Rattle.std.proofs.lemmas.List.{take_at, drop_at}
 use Rattle.std.proofs.lemmas.List.Elements.{All-take}
@@ -11,7 +11,8 @@ use Rattle.mig_restore.specs.Mean.{mean}
 use Rattle.mig_restore.proofs.AcceptedWhole.{accepted_whole}
 use Rattle.mig_restore.proofs.Meaning.{mean_kind}
 use Rattle.mig_emulators.specs.Emulators.{emulators_of, spelled_with}
-use Rattle.mig_emulators.proofs.EmulatorGuests.{IsDone, guest_done}
+use Rattle.mig_emulators.proofs.EmulatorGuests.{guest_done}
+use Rattle.mig_pvtables.specs.Whole.{IsStreamed}
 use Rattle.mig_emulators.proofs.Formed.{context_kept, pairs_kept, none_yet}
 use Rattle.mig_libxl.specs.Among.{has_emulator}
 use Rattle.mig_libxl.specs.Carried.{IsCarried}
@@ -34,7 +35,7 @@ back_bytes xs ys h = subst AreBytes (drop_at xs ys (length xs) refl) (All-drop (
 abbrev meant : ImageOf → GuestOf
 meant image = mean image.opening.kind image.records
 
-image_plain : (input : List ℕ) (image : ImageOf) (rest : List ℕ) → AreBytes input → IsImage input image.opening image.records rest → IsPlain (meant image)
+image_plain : (input : List ℕ) (image : ImageOf) (rest : List ℕ) → AreBytes input → IsImage input image.opening image.records rest → IsStreamedBare (meant image)
 image_plain input image rest all is =
     let w = accepted_whole input (meant image) rest all (record { opening = image.opening; records = image.records; image = is; means = refl }) in
     record { whole = w.0; blank = w.1; bytes = w.2; plain = w.3 }
@@ -65,7 +66,7 @@ module _ (e : EmulatorsOf) (are : AreEmulators e) (key : PartKey) (front : List 
 record Keeps (records : List LibxlRecord) : Type 0 where
   emulators : AreEmulators (emulators_of records)
   none : has_emulator records ≡ false → emulators_of records ≡ no_emulators
-  image : (image : ImageOf) → image_among records ≡ Some image → IsPlain (meant image)
+  image : (image : ImageOf) → image_among records ≡ Some image → IsStreamedBare (meant image)
 
 none_kept : Keeps []
 unfolding emulators_of
@@ -81,7 +82,7 @@ module _ (records : List LibxlRecord) (k : Keeps records) where
       by (Some other) there = sym (among_more records (r ∷ []) other there) ∙ is
 
   -- a record of no emulator leaves them as they are
-  others_kept : (r : LibxlRecord) → put_libxl_content (emulators_of records) r.content ≡ emulators_of records → ((image : ImageOf) → image_among (records ++ r ∷ []) ≡ Some image → IsPlain (meant image)) → Keeps (records ++ r ∷ [])
+  others_kept : (r : LibxlRecord) → put_libxl_content (emulators_of records) r.content ≡ emulators_of records → ((image : ImageOf) → image_among (records ++ r ∷ []) ≡ Some image → IsStreamedBare (meant image)) → Keeps (records ++ r ∷ [])
   others_kept r same image =
       let still = emulators_more records r ∙ same in
       record {
@@ -111,7 +112,7 @@ module _ (records : List LibxlRecord) (k : Keeps records) where
   is_kept : (r : LibxlRecord) (text : List ℕ) → IsLibxlRecord r text → EmulatorsFit records r.content → (r.type ≡ 1 → image_among records ≡ None) → AreBytes text → Keeps (records ++ r ∷ [])
   is_kept r _ (an_image head text image is spelled) fits one all =
       others_kept r refl
-      (λ other there. subst (λ i. IsPlain (meant i)) (same_Some image other (sym (among_first records r (one refl)) ∙ there)) (image_plain text image [] (back_bytes head text all) spelled))
+      (λ other there. subst (λ i. IsStreamedBare (meant i)) (same_Some image other (sym (among_first records r (one refl)) ∙ there)) (image_plain text image [] (back_bytes head text all) spelled))
   is_kept _ text (a_body type body _ c is small says) fits one all =
       content_kept type body c says small fits (front_bytes body is.padding (back_bytes is.head (body ++ is.padding) (subst AreBytes is.whole all)))
 
@@ -133,12 +134,12 @@ alone _ _ image (one_more bytes records r text before f) ended there pv =
 
 -- ---- the stream
 
-accepted_done : (input : List ℕ) (guest : GuestOf) (rest : List ℕ) → AreBytes input → AcceptedStream input guest rest → IsDone guest
-accepted_done input guest rest all a = subst IsDone (sym a.means) (by a.stream a.spelled a.image_is)
+accepted_done : (input : List ℕ) (guest : GuestOf) (rest : List ℕ) → AreBytes input → AcceptedStream input guest rest → IsStreamed guest
+accepted_done input guest rest all a = subst IsStreamed (sym a.means) (by a.stream a.spelled a.image_is)
   where
-    by : (s : StreamOf) → IsStream input s rest → image_of_stream s ≡ Some a.image → IsDone (guest_of a.image s)
+    by : (s : StreamOf) → IsStream input s rest → image_of_stream s ≡ Some a.image → IsStreamed (guest_of a.image s)
     by (Bare image) is there =
-        guest_done (meant a.image) no_emulators (subst (λ i. IsPlain (meant i)) (same_Some image a.image there) (image_plain input image rest all is)) none_yet (λ _. refl)
+        guest_done (meant a.image) no_emulators (subst (λ i. IsStreamedBare (meant i)) (same_Some image a.image there) (image_plain input image rest all is)) none_yet (λ _. refl)
     by (Wrapped records) is there =
         let behind = back_bytes is.header (is.bytes ++ rest) (subst AreBytes is.whole all) in
         let k = spelled_kept is.bytes records (front_bytes is.bytes rest behind) is.spelled in

@@ -1,5 +1,5 @@
 -- The image in a canonical stream: it says the guest without the parts of its emulators.
-use Rattle.mig_libxl.proofs.Common.{and_parts, list_all, records_in_order, static_codes, last_codes, pv_last_codes, vcpu_codes, ◌≡◌, ℕ, Bool, true, false, cond, not, List, [], ◌∷◌, ◌++◌, map, Option, Some, None, refl, sym, ap, subst, ◌∙◌, ◌↔◌, ◌≤◌, length, flat_map, list_any, range_with_len, eq_by_cmp, find, Kind, Pv, Hvm, IsFormed, HasNoEmulators, is_emulator_code, GuestOf, part_cmp, row_of, code_number, p2m_key, Part, PartMap, parts_of, PartCode, EmulatorPairs, PartKey, all_found, tied, part_total, part_exact, IsWhole, bodies_of, frame_bodies, frames_in, batches, headers, info_records, key_of, last_records, p2m_record, p2m_records, part_record, records_of, records_of_vcpu, static_bodies, text_of, vcpu_record, vcpus_below, has_emulators, bare_guest, IsPlain}
+use Rattle.mig_libxl.proofs.Common.{and_parts, list_all, records_in_order, static_codes, last_codes, pv_last_codes, vcpu_codes, ◌≡◌, ℕ, Bool, true, false, cond, not, List, [], ◌∷◌, ◌++◌, map, Option, Some, None, refl, sym, ap, subst, ◌∙◌, ◌↔◌, ◌≤◌, length, flat_map, list_any, range_with_len, eq_by_cmp, find, Kind, Pv, Hvm, IsFormed, HasNoEmulators, is_emulator_code, GuestOf, part_cmp, row_of, code_number, p2m_key, Part, PartMap, parts_of, PartCode, EmulatorPairs, PartKey, all_found, tied, part_total, part_exact, IsWhole, bodies_of, frame_bodies, frames_in, batches, headers, info_records, key_of, last_records, p2m_record, p2m_records, part_record, records_of, records_of_vcpu, static_bodies, text_of, vcpu_record, vcpus_below, has_emulators, bare_guest, IsStreamedBare}
 use Rattle.std.specs.FinMap as maps
 use Rattle.std.proofs.lemmas.Bool.{or_parts, not-true}
 use Rattle.std.proofs.lemmas.List.Folds.{list_any_none}
@@ -145,7 +145,7 @@ module _ (g : GuestOf) where
   bare_whole Hvm hvm whole blanked = (record { formed = bare_formed whole.formed; faultless = hvm_faultless g bare.parts hvm (get_same context_key refl) whole.faultless }, ap (λ k. blank_of k bare) hvm)
 
   -- it is whole, in blank form, of bytes, and has no emulators
-  pub plain_bare : IsWhole g → blank g ≡ g → IsOfBytes g → IsPlain bare
+  pub plain_bare : IsWhole g → blank g ≡ g → IsOfBytes g → IsStreamedBare bare
   plain_bare whole blanked bytes = record {
     whole = (bare_whole g.kind refl whole blanked).0;
     blank = (bare_whole g.kind refl whole blanked).1;

@@ -13,7 +13,8 @@ pub use Rattle.mig_canon_laws.specs.Bare.{IsBare}
 pub use Rattle.mig_emulators.specs.Content.{LibxlContent, LibxlRecord}
 pub use Rattle.mig_emulators.specs.Content.LibxlContent.{Context, Image, Pairs}
 pub use Rattle.mig_emulators.specs.Emulators.{EmulatorsOf, add_pairs, no_emulators, put_libxl_content, store_at, with_emulators}
-pub use Rattle.mig_emulators.specs.Formed.{AreEmulators, IsPlain}
+pub use Rattle.mig_emulators.specs.Formed.{AreEmulators}
+pub use Rattle.mig_pvtables.specs.Whole.{IsStreamedBare}
 pub use Rattle.mig_guest.proofs.CodeParts.{all_of}
 pub use Rattle.mig_guest.proofs.Found.{all_found}
 pub use Rattle.mig_guest.proofs.KeyedMaps.{tied}

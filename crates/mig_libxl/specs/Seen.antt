@@ -8,7 +8,8 @@ use Rattle.mig_emulators.specs.Content.{LibxlRecord, LibxlContent}
 use Rattle.mig_libxl.specs.Among.{has_emulator, image_in, image_among}
 use Rattle.mig_emulators.specs.Emulators.{no_emulators, put_libxl_content, emulators_of}
 use Rattle.mig_libxl.specs.declared.read.WrapperSeen.{WrapperSeen}
-use Rattle.mig_emulators.specs.Formed.{AreEmulators, IsPlain}
+use Rattle.mig_emulators.specs.Formed.{AreEmulators}
+use Rattle.mig_pvtables.specs.Whole.{IsStreamedBare}
 
 -- what was read of the image, where there was one
 abbrev pub Holds : Option Reading → Option ImageOf → Type 0
@@ -29,7 +30,7 @@ pub record IsLibxlSeen (seen : WrapperSeen) (records : List LibxlRecord) : Type 
 pub record IsLibxlBegun (seen : WrapperSeen) : Type 0 where
   pub emulators : AreEmulators seen.emulators
   pub none : seen.emulated ≡ false → seen.emulators ≡ no_emulators
-  pub guest : IfSome seen.image (λ reading. IsPlain reading.guest)
+  pub guest : IfSome seen.image (λ reading. IsStreamedBare reading.guest)
 
 -- the image is there, and that of a PV guest stands alone
 pub record IsClosed (seen : WrapperSeen) : Type 0 where

@@ -6,8 +6,7 @@ ghost use Rattle.mig_bytes.specs.Judged.{Gives};
 ghost use Rattle.mig_bytes.specs.declared.part.Stop.TheVariants.{Memory as NoMemory};
 ghost use Rattle.mig_headers.specs.RecordTypes.{most_body};
 ghost use Rattle.mig_headers.specs.declared.fault.Cause.TheVariants.{Truncated};
-ghost use Rattle.mig_pvtables.specs.Blank.{blank, IsOfBytes};
-ghost use Rattle.mig_pvtables.specs.Whole.{IsWhole};
+ghost use Rattle.mig_pvtables.specs.Whole.{IsStreamed};
 ghost use Rattle.mig_records.specs.Heads.{head_in};
 ghost use Rattle.mig_restore.specs.Judging.{most_records};
 ghost use Rattle.mig_emulators.specs.Content.{LibxlRecord};
@@ -317,9 +316,7 @@ impl WrapperSeen {
         requires begun { IsLibxlBegun self }
         requires closed { IsClosed self }
         ensures read { IfOk result (λ reading. (records : List LibxlRecord) → IsLibxlSeen self records → IsStreamReading reading (Wrapped records)) }
-        ensures whole { IfOk result (λ reading. IsWhole reading.guest) }
-        ensures blank { IfOk result (λ reading. blank reading.guest ≡ reading.guest) }
-        ensures bytes { IfOk result (λ reading. IsOfBytes reading.guest) }
+        ensures streamed { IfOk result (λ reading. IsStreamed reading.guest) }
     {
         let WrapperSeen {
             emulators,
@@ -363,9 +360,7 @@ fn take_header<S: Source>(src: &mut S) -> Result<(), Stop<Cause>>
 /// Takes a libxl stream behind its ident.
 fn read_wrapped<S: Source>(alloc: Global, src: &mut S) -> Result<Reading, Stop<(Place, Cause)>>
     ensures read { Gives IsStreamReading (S.left src.old) (S.left src.new) wrapped_at result }
-    ensures whole { IfOk result (λ reading. IsWhole reading.guest) }
-    ensures blank { IfOk result (λ reading. blank reading.guest ≡ reading.guest) }
-    ensures bytes { IfOk result (λ reading. IsOfBytes reading.guest) }
+    ensures streamed { IfOk result (λ reading. IsStreamed reading.guest) }
     ensures faults { RisesOnReadFault (S.faults src.old) (S.faults src.new) result }
 {
     if let Err(stop) = take_header(src) {
@@ -385,9 +380,7 @@ fn read_bare<S: Source>(
     first: &[u8; 8],
 ) -> Result<Reading, Stop<(Place, Cause)>>
     ensures read { Gives IsStreamReading (S.left src.old) (S.left src.new) (λ rest. bare_at (first.now ++ rest)) result }
-    ensures whole { IfOk result (λ reading. IsWhole reading.guest) }
-    ensures blank { IfOk result (λ reading. blank reading.guest ≡ reading.guest) }
-    ensures bytes { IfOk result (λ reading. IsOfBytes reading.guest) }
+    ensures streamed { IfOk result (λ reading. IsStreamed reading.guest) }
     ensures faults { RisesOnReadFault (S.faults src.old) (S.faults src.new) result }
 {
     if let Some(cause) = ImageHeader::marker_fault(first) {
@@ -402,9 +395,7 @@ fn read_bare<S: Source>(
 /// Takes a stream of either form.
 fn read_form<S: Source>(alloc: Global, src: &mut S) -> Result<Reading, Stop<(Place, Cause)>>
     ensures read { Gives IsStreamReading (S.left src.old) (S.left src.new) stream_at result }
-    ensures whole { IfOk result (λ reading. IsWhole reading.guest) }
-    ensures blank { IfOk result (λ reading. blank reading.guest ≡ reading.guest) }
-    ensures bytes { IfOk result (λ reading. IsOfBytes reading.guest) }
+    ensures streamed { IfOk result (λ reading. IsStreamed reading.guest) }
     ensures faults { RisesOnReadFault (S.faults src.old) (S.faults src.new) result }
 {
     let mut first = [0; 8];
@@ -424,9 +415,7 @@ fn read_form<S: Source>(alloc: Global, src: &mut S) -> Result<Reading, Stop<(Pla
 /// then the source was read up to the end of the faulty part; `ReadFault` comes only where a read failed.
 pub fn read_any<S: Source>(alloc: Global, src: &mut S) -> Result<Reading, StreamAnswer>
     ensures read { ReadsStream (S.left src.old) (S.left src.new) result }
-    ensures whole { IfOk result (λ reading. IsWhole reading.guest) }
-    ensures blank { IfOk result (λ reading. blank reading.guest ≡ reading.guest) }
-    ensures bytes { IfOk result (λ reading. IsOfBytes reading.guest) }
+    ensures streamed { IfOk result (λ reading. IsStreamed reading.guest) }
     ensures faults { RisesOnReadFault (S.faults src.old) (S.faults src.new) (or_stop result) }
 {
     match read_form(alloc, src) {

@@ -3,10 +3,8 @@ ghost use Rattle.mig_bytes.specs.Answers.{or_stop};
 ghost use Rattle.mig_bytes.specs.Faults.{RisesOnReadFault};
 ghost use Rattle.mig_bytes.specs.Judged.{Gives};
 ghost use Rattle.mig_bytes.specs.declared.part.Stop.TheVariants.{Memory};
-ghost use Rattle.mig_guest.specs.Formed.{HasNoEmulators};
-ghost use Rattle.mig_pvtables.specs.Blank.{blank as blank_form, IsOfBytes};
 ghost use Rattle.mig_pvtables.specs.Faults.{fault_of_guest};
-ghost use Rattle.mig_pvtables.specs.Whole.{IsWhole};
+ghost use Rattle.mig_pvtables.specs.Whole.{IsStreamedBare};
 ghost use Rattle.mig_restore.specs.Mean.{sent, put_record, IsBegun, Grows};
 ghost use Rattle.mig_restore.specs.Compared.{differs_behind, IsWithinRecords};
 ghost use Rattle.mig_restore.specs.Record.{StreamRecord, types_of, is_verified};
@@ -105,10 +103,7 @@ fn read_records<S: Source>(
     kind: Kind,
 ) -> Result<Reading, Stop<(Place, Cause)>>
     ensures read { Gives IsReading (S.left src.old) (S.left src.new) (records_at (opening_of version kind)) result }
-    ensures whole { IfOk result (λ reading. IsWhole reading.guest) }
-    ensures blank { IfOk result (λ reading. blank_form reading.guest ≡ reading.guest) }
-    ensures bytes { IfOk result (λ reading. IsOfBytes reading.guest) }
-    ensures plain { IfOk result (λ reading. HasNoEmulators reading.guest.parts) }
+    ensures streamed { IfOk result (λ reading. IsStreamedBare reading.guest) }
     ensures faults { RisesOnReadFault (S.faults src.old) (S.faults src.new) result }
 {
     let mut seen = RecordsSeen::new(version, kind);
@@ -207,10 +202,7 @@ fn read_opening<S: Source>(src: &mut S) -> Result<(u32, Kind), Stop<(Place, Caus
 /// Takes the headers and the records.
 fn read_parts<S: Source>(alloc: Global, src: &mut S) -> Result<Reading, Stop<(Place, Cause)>>
     ensures read { Gives IsReading (S.left src.old) (S.left src.new) image_at result }
-    ensures whole { IfOk result (λ reading. IsWhole reading.guest) }
-    ensures blank { IfOk result (λ reading. blank_form reading.guest ≡ reading.guest) }
-    ensures bytes { IfOk result (λ reading. IsOfBytes reading.guest) }
-    ensures plain { IfOk result (λ reading. HasNoEmulators reading.guest.parts) }
+    ensures streamed { IfOk result (λ reading. IsStreamedBare reading.guest) }
     ensures faults { RisesOnReadFault (S.faults src.old) (S.faults src.new) result }
 {
     let (version, kind) = read_opening(src)?;
@@ -220,10 +212,7 @@ fn read_parts<S: Source>(alloc: Global, src: &mut S) -> Result<Reading, Stop<(Pl
 /// Takes the headers behind the marker, and the records.
 fn read_rest<S: Source>(alloc: Global, src: &mut S) -> Result<Reading, Stop<(Place, Cause)>>
     ensures read { Gives IsReading (S.left src.old) (S.left src.new) image_behind result }
-    ensures whole { IfOk result (λ reading. IsWhole reading.guest) }
-    ensures blank { IfOk result (λ reading. blank_form reading.guest ≡ reading.guest) }
-    ensures bytes { IfOk result (λ reading. IsOfBytes reading.guest) }
-    ensures plain { IfOk result (λ reading. HasNoEmulators reading.guest.parts) }
+    ensures streamed { IfOk result (λ reading. IsStreamedBare reading.guest) }
     ensures faults { RisesOnReadFault (S.faults src.old) (S.faults src.new) result }
 {
     let (version, kind) = read_headers(src)?;
@@ -235,10 +224,7 @@ fn read_rest<S: Source>(alloc: Global, src: &mut S) -> Result<Reading, Stop<(Pla
 /// part; `ReadFault` comes only where a read failed.
 pub fn read_image<S: Source>(alloc: Global, src: &mut S) -> Result<Reading, StreamAnswer>
     ensures read { ReadsImage (S.left src.old) (S.left src.new) result }
-    ensures whole { IfOk result (λ reading. IsWhole reading.guest) }
-    ensures blank { IfOk result (λ reading. blank_form reading.guest ≡ reading.guest) }
-    ensures bytes { IfOk result (λ reading. IsOfBytes reading.guest) }
-    ensures plain { IfOk result (λ reading. HasNoEmulators reading.guest.parts) }
+    ensures streamed { IfOk result (λ reading. IsStreamedBare reading.guest) }
     ensures faults { RisesOnReadFault (S.faults src.old) (S.faults src.new) (or_stop result) }
 {
     match read_parts(alloc, src) {
@@ -250,10 +236,7 @@ pub fn read_image<S: Source>(alloc: Global, src: &mut S) -> Result<Reading, Stre
 /// Reads an image whose marker was taken before and found right; the same else.
 pub fn read_image_rest<S: Source>(alloc: Global, src: &mut S) -> Result<Reading, StreamAnswer>
     ensures read { ReadsRest (S.left src.old) (S.left src.new) result }
-    ensures whole { IfOk result (λ reading. IsWhole reading.guest) }
-    ensures blank { IfOk result (λ reading. blank_form reading.guest ≡ reading.guest) }
-    ensures bytes { IfOk result (λ reading. IsOfBytes reading.guest) }
-    ensures plain { IfOk result (λ reading. HasNoEmulators reading.guest.parts) }
+    ensures streamed { IfOk result (λ reading. IsStreamedBare reading.guest) }
     ensures faults { RisesOnReadFault (S.faults src.old) (S.faults src.new) (or_stop result) }
 {
     match read_rest(alloc, src) {

@@ -5,10 +5,9 @@ use Rattle.mig_pvtables.specs.Whole.{IsWhole}
 use Rattle.mig_hosted.proofs.ViewedGuests.{viewed_whole, viewed_blank}
 use Rattle.mig_host.proofs.seeing.guest_of.Goals as goal
 
-pub returns-in-Ok-clause-whole : goal.returns-in-Ok-clause-whole
-returns-in-Ok-clause-whole c =
-    subst (λ (g : GuestOf). IsWhole g) (sym c.in-Ok.ensures.guest) (viewed_whole c.args.host.now.host c.in-Ok.ensures.valid c.in_ok-sound.ensures.ok)
-
-pub returns-in-Ok-clause-blank : goal.returns-in-Ok-clause-blank
-returns-in-Ok-clause-blank c =
-    ap blank c.in-Ok.ensures.guest ∙ viewed_blank c.args.host.now.host c.in-Ok.ensures.valid c.in_ok-sound.ensures.ok ∙ sym c.in-Ok.ensures.guest
+pub returns-in-Ok-clause-streamed : goal.returns-in-Ok-clause-streamed
+returns-in-Ok-clause-streamed c = record {
+  whole = subst (λ (g : GuestOf). IsWhole g) (sym c.in-Ok.ensures.guest) (viewed_whole c.args.host.now.host c.in-Ok.ensures.valid c.in_ok-sound.ensures.ok);
+  blank = ap blank c.in-Ok.ensures.guest ∙ viewed_blank c.args.host.now.host c.in-Ok.ensures.valid c.in_ok-sound.ensures.ok ∙ sym c.in-Ok.ensures.guest;
+  bytes = c.in-Ok.ensures.bytes;
+}

@@ -1,6 +1,5 @@
-use Rattle.mig_restore.proofs.Common.{refl, rules, subst, sym, ◌≡◌, ◌∙◌, Err, GuestOf, Gives, records_at, IsReading, opening_of, HasNoEmulators, IsBegun}
-use Rattle.mig_pvtables.specs.Blank.{blank, IsOfBytes}
-use Rattle.mig_pvtables.specs.Whole.{IsWhole}
+use Rattle.mig_restore.proofs.Common.{refl, rules, subst, sym, ◌≡◌, ◌∙◌, Err, Gives, records_at, IsReading, opening_of, IsBegun}
+use Rattle.mig_pvtables.specs.Whole.{IsStreamedBare}
 use Rattle.mig_restore.specs.declared.read.Reading.{Reading}
 use Rattle.mig_restore.proofs.Arrivals.{state, arrived_first, arrived_next, arrived_end, arrived_stopped}
 use Rattle.mig_pvtables.proofs.BlankAgain.{blank_again}
@@ -37,18 +36,16 @@ pub returns-then-over-clause-read : goal.returns-then-over-clause-read
 returns-then-over-clause-read g c =
     arrived_end (opening_of c.args.version c.args.kind) _ _ _ (state c.records.seen c.records.guest c.records.differs) (state c.read_next.new.seen c.read_next.new.guest c.read_next.new.differs) _ c.in-Ok.over c.if-over.true c.blank.ensures refl refl refl c.records.invariant.arrived (c.in-Ok.ensures.read (opening_of c.args.version c.args.kind))
 
-pub returns-then-over-clause-whole : goal.returns-then-over-clause-whole
-returns-then-over-clause-whole g c =
-    subst IsWhole (sym c.blank.ensures) (whole_blank c.read_next.new.guest (record { formed = (c.in-Ok.ensures.grown.kept c.records.invariant.begun).formed; faultless = c.in-Ok.ensures.faultless c.if-over.true }))
-
-pub returns-then-over-clause-blank : goal.returns-then-over-clause-blank
-returns-then-over-clause-blank g c = subst (λ (x : GuestOf). blank x ≡ x) (sym c.blank.ensures) (blank_again c.read_next.new.guest)
-
-pub returns-then-over-clause-bytes : goal.returns-then-over-clause-bytes
-returns-then-over-clause-bytes g c = subst IsOfBytes (sym c.blank.ensures) (blank_bytes c.read_next.new.guest (c.in-Ok.ensures.grown.kept c.records.invariant.begun).bytes)
-
-pub returns-then-over-clause-plain : goal.returns-then-over-clause-plain
-returns-then-over-clause-plain g c = subst (λ (x : GuestOf). HasNoEmulators x.parts) (sym c.blank.ensures) (blank_plain c.read_next.new.guest (c.in-Ok.ensures.grown.kept c.records.invariant.begun).plain)
+pub returns-then-over-clause-streamed : goal.returns-then-over-clause-streamed
+returns-then-over-clause-streamed g c =
+    let read = c.read_next.new.guest in
+    let begun = c.in-Ok.ensures.grown.kept c.records.invariant.begun in
+    subst IsStreamedBare (sym c.blank.ensures) (record {
+      whole = whole_blank read (record { formed = begun.formed; faultless = c.in-Ok.ensures.faultless c.if-over.true });
+      blank = blank_again read;
+      bytes = blank_bytes read begun.bytes;
+      plain = blank_plain read begun.plain;
+    })
 
 pub returns-in-Err-clause-read : goal.returns-in-Err-clause-read
 returns-in-Err-clause-read g c =

@@ -5,7 +5,7 @@ use Rattle.mig_tool.proofs.commands.normalise.Goals as goal
 pub returns-in-Ok-clause-answer : goal.returns-in-Ok-clause-answer
 returns-in-Ok-clause-answer g c = λ before now.
     let w : Written = record { out_old = g.K.Sink.written c.args.out.now; out_new = g.K.Sink.written c.write_canonical.new.out; report_old = before; report_new = now } in
-    came (g.S.Source.left c.args.input.now) (g.S.Source.left c.read_any.new.src) w c.in-Ok.reading c.write_canonical.result c.in-Ok.ensures.read (record { whole = c.in-Ok.ensures.whole; blank = c.in-Ok.ensures.blank })
+    came (g.S.Source.left c.args.input.now) (g.S.Source.left c.read_any.new.src) w c.in-Ok.reading c.write_canonical.result c.in-Ok.ensures.read (record { whole = c.in-Ok.ensures.streamed.whole; blank = c.in-Ok.ensures.streamed.blank })
     c.write_canonical.ensures.done c.write_canonical.ensures.part c.write_canonical.ensures.answers
 
 pub returns-in-Err-clause-answer : goal.returns-in-Err-clause-answer
