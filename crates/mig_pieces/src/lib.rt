@@ -15,8 +15,6 @@ mod front;
 mod known;
 mod law;
 mod pairs;
-#[cfg(test)]
-mod tests;
 
 pub use body::BodySeen;
 pub use known::{BodyForm, Knows};

@@ -21,8 +21,6 @@ mod opening;
 mod pages;
 mod pass;
 mod state;
-#[cfg(test)]
-mod tests;
 
 pub use answer::{RelayAnswer, Relayed, Step};
 pub use law::lists_are_fronts;

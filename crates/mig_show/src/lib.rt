@@ -15,8 +15,6 @@ mod nowhere;
 mod record;
 mod refusal;
 mod seen;
-#[cfg(test)]
-mod tests;
 mod tree;
 mod viewer;
 

@@ -13,8 +13,6 @@ mod relay;
 mod run;
 mod save;
 mod shown;
-#[cfg(test)]
-mod tests;
 mod walk;
 
 use crate::run::run;

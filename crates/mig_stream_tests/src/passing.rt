@@ -1,6 +1,6 @@
-use crate::{Relay, RelayAnswer, Relayed, Step, relay};
 use mig_bytes::{MemSink, MemSource};
 use mig_headers::{Cause, ContextFault, Place};
+use mig_relay::{Relay, RelayAnswer, Relayed, Step, relay};
 use std::alloc::Global;
 use std::test::Fail;
 

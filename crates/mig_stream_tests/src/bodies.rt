@@ -3,8 +3,8 @@ ghost use Rattle.std.specs.declared.option.Option.{Option};
 ghost use Rattle.mig_headers.specs.declared.fault.Cause.{Cause};
 ghost use Rattle.mig_pieces.specs.Begun.{IsBegunBody};
 
-use crate::BodySeen;
 use mig_headers::{Cause, ContextFault};
+use mig_pieces::BodySeen;
 
 // The fault of a body that comes in pieces is that of the whole body.
 fn judged(seen: BodySeen, body: &[u8]) -> Option<Cause>
