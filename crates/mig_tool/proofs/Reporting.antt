@@ -39,7 +39,7 @@ use Rattle.mig_headers.specs.declared.fault.Place.{Place}
 use Rattle.mig_headers.specs.declared.legacy_fault.LegacyCause.{LegacyCause}
 use Rattle.mig_headers.specs.declared.legacy_fault.LegacyPlace.{LegacyPlace}
 use Rattle.std.specs.FinMap as maps
-use Rattle.mig_tool.specs.Answers.{IsOfInput, Normalised, PartWritten}
+use Rattle.mig_tool.specs.Answers.{IsOfInput, LeavesOut, MayWrite, Normalised, PartWritten}
 use Rattle.mig_guest.specs.Hosts.{HostOf}
 use Rattle.mig_script.specs.ScriptLines.{LineOf}
 use Rattle.mig_tool.specs.LiveSaves.{HasHostAndScript}
@@ -201,6 +201,27 @@ refused_unbroken _ told left w input refusal rest out out_now report report_now 
 -- a read fault comes with a risen count
 pub input_rose : (status : Status) (before now : ℕ) → InputRises status before now → status ≡ statuses.ReadFault → Rose before now
 input_rose status before now h is = let r = subst (λ s. InputRises s before now) is h in r.1
+
+-- ---- the output where a command may not write on it
+
+module _ (X : Type 0) (status : Status) where
+  abbrev Kept : Command → Type 0
+  Kept command = (status ≡ statuses.Done → ⊥) → (status ≡ statuses.WriteFault → ⊥) → (command ≡ Save → status ≡ statuses.Refused → ⊥) → (command ≡ Show → status ≡ statuses.Refused → ⊥) → (command ≡ Relay → ⊥) → X
+
+  other_kept : (command : Command) → (command ≡ Save → ⊥) → (command ≡ Show → ⊥) → (command ≡ Relay → ⊥) → ((status ≡ statuses.Done) ⊎ (status ≡ statuses.WriteFault) → ⊥) → Kept command → X
+  other_kept command save show relay never kept = kept (λ e. never (inl e)) (λ e. never (inr e)) (λ is. absurd (save is)) (λ is. absurd (show is)) relay
+
+  pub stays : (command : Command) → (MayWrite command status → ⊥) → (LeavesOut command → X) → Kept command → X
+  stays Normalise never left kept = other_kept Normalise (λ e. let no : Normalise ≡ Save = e in cc) (λ e. let no : Normalise ≡ Show = e in cc) (λ e. let no : Normalise ≡ Relay = e in cc) never kept
+  stays Convert never left kept = other_kept Convert (λ e. let no : Convert ≡ Save = e in cc) (λ e. let no : Convert ≡ Show = e in cc) (λ e. let no : Convert ≡ Relay = e in cc) never kept
+  stays (Restore base) never left kept = other_kept (Restore base) (λ e. let no : Restore base ≡ Save = e in cc) (λ e. let no : Restore base ≡ Show = e in cc) (λ e. let no : Restore base ≡ Relay = e in cc) never kept
+  stays Verify never left kept = left tt
+  stays (Exercise seed n) never left kept = left tt
+  stays (Walk id at) never left kept = left tt
+  stays (WalkImage id at) never left kept = left tt
+  stays Relay never left kept = absurd (never tt)
+  stays Show never left kept = kept (λ e. never (inr (inl e))) (λ e. never (inr (inr e))) (λ _ e. never (inl e)) (λ _ e. never (inl e)) (λ e. let no : Show ≡ Relay = e in cc)
+  stays Save never left kept = kept (λ e. never (inr (inl e))) (λ e. never (inr (inr e))) (λ _ e. never (inl e)) (λ _ e. never (inl e)) (λ e. let no : Save ≡ Relay = e in cc)
 
 -- ---- what a reading and a writing come to
 

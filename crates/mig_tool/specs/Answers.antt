@@ -40,7 +40,7 @@ use Rattle.mig_unended.specs.Unread.{WroteNoStream}
 use Rattle.mig_tool.specs.Addresses.{AddressReported, HasUnsoundHost, HostHasFrame, HostHasNone, StreamHasFrame, StreamHasNone, FrameInHost, FrameInStream, any_host_at}
 use Rattle.mig_tool.specs.Exercises.{ExerciseReported}
 use Rattle.mig_passable.specs.Streams.{IsOpenRefused}
-use Rattle.mig_tool.specs.Relays.{FrontRelayed, OutputStopped, PassableFront, ReportStopped}
+use Rattle.mig_tool.specs.Relays.{FrontRelayed, OutputStopped, PassableFront, ReportStopped, SaysRelayed}
 use Rattle.mig_tool.specs.Shown.{FrontShown, PartShown}
 use Rattle.mig_relay.specs.Relaying.{PassedPart}
 use Rattle.mig_tool.specs.LiveSaves.{HasHostAndScript, HasBadLine, HasLongScript, HasUnsoundPause, WroteLive, saved_host_at}
@@ -258,6 +258,11 @@ abbrev pub OutputRises : Status → ℕ → ℕ → Type 0
 OutputRises statuses.WriteFault before now = (before ≤ now) × Rose before now
 OutputRises _ before now = now ≡ before
 
+-- the count of a sink never falls, and with status 0 it stands as it was
+pub record NoneFailed (status : Status) (before now : ℕ) : Type 0 where
+  pub later : before ≤ now
+  pub done : status ≡ statuses.Done → now ≡ before
+
 -- ---- the line of a status
 
 -- the refusal that is named is that of the input, where it tells its bytes
@@ -288,10 +293,22 @@ pub record ReportBroke (w : Written) (out out_now report report_now : ℕ) : Typ
 abbrev pub BreaksOff : Written → ℕ → ℕ → ℕ → ℕ → Type 0
 BreaksOff w out out_now report report_now = OutputBroke w out out_now report report_now ⊎ ReportBroke w out out_now report report_now
 
+-- what a save that isn't done came to. Where it is refused, the output is untouched or the pause is refused, and no front of
+-- what was written is an accepted stream; with status 4 it broke off.
+pub record BreaksSave (Untouched : Type 0) (status : Status) (told : Option (List ℕ)) (w : Written) (out out_now report report_now : ℕ) : Type 0 where
+  pub refused : status ≡ statuses.Refused → Untouched ⊎ RefusesPause told w.report_old w.report_new report report_now
+  pub no_stream : status ≡ statuses.Refused → WroteNoStream w.out_old w.out_new
+  pub broke : status ≡ statuses.WriteFault → BreaksOff w out out_now report report_now
+
 -- a relay whose output broke off, or whose report
 abbrev pub RelayBreaksOff : Option (List ℕ) → Option (List ℕ) → Written → ℕ → ℕ → ℕ → ℕ → Type 0
 RelayBreaksOff told left w out out_now report report_now =
     OutputStopped told left w.out_old w.out_new w.report_old w.report_new out out_now report report_now ⊎ ReportStopped told left w.out_old w.out_new w.report_old w.report_new out out_now report report_now
+
+-- what a relay came to, whatever its status; with status 4 it broke off
+pub record Relays (status : Status) (told left : Option (List ℕ)) (w : Written) (out out_now report report_now : ℕ) : Type 0 where
+  pub says : SaysRelayed status told left w.out_old w.out_new
+  pub broke : status ≡ statuses.WriteFault → RelayBreaksOff told left w out out_now report report_now
 
 -- status 0 of `normalise`, `restore`, `convert` and `show` has none
 abbrev pub IsLine : Form → Option (List ℕ) → Status → List ℕ → Type 0
@@ -369,6 +386,18 @@ LeavesOut (Walk id at) = ⊤
 LeavesOut (WalkImage id at) = ⊤
 LeavesOut Relay = ⊥
 LeavesOut Show = ⊥
+
+-- the output may be written with this status: of a guest that was read, or a part of it; by `save` of what runs up to a pause
+-- that is refused, by `show` of what stands in front of a refused part, and by `relay` whatever comes
+abbrev pub MayWrite : Command → Status → Type 0
+MayWrite Verify status = ⊥
+MayWrite (Exercise seed n) status = ⊥
+MayWrite (Walk id at) status = ⊥
+MayWrite (WalkImage id at) status = ⊥
+MayWrite Relay status = ⊤
+MayWrite Save status = (status ≡ statuses.Refused) ⊎ ((status ≡ statuses.Done) ⊎ (status ≡ statuses.WriteFault))
+MayWrite Show status = (status ≡ statuses.Refused) ⊎ ((status ≡ statuses.Done) ⊎ (status ≡ statuses.WriteFault))
+MayWrite _ status = (status ≡ statuses.Done) ⊎ (status ≡ statuses.WriteFault)
 
 -- what is refused may be written before: a relay's front, and the text of what stands in front of the refused part
 abbrev pub WritesRefused : Command → Type 0

@@ -1,12 +1,10 @@
-ghost use Rattle.std.specs.Prelude.{◌≡◌, ◌≢◌, ◌≤◌, ◌<◌, ◌⊎◌, ℕ, List, Option, Some};
+ghost use Rattle.std.specs.Prelude.{◌≡◌, ◌≢◌, ◌⊎◌, ℕ, List, Some};
 ghost use Rattle.mig_bytes.specs.Faults.{Rose};
 ghost use Rattle.mig_guest.specs.Guests.{GuestOf};
 ghost use Rattle.mig_guest.specs.Hosts.{HostOf};
 ghost use Rattle.mig_script.specs.ScriptLines.{LineOf};
-ghost use Rattle.mig_unended.specs.Unread.{WroteNoStream};
-ghost use Rattle.mig_tool.specs.Relays.{SaysRelayed};
 ghost use Rattle.mig_tool.specs.Shown.{SaysShown};
-ghost use Rattle.mig_tool.specs.Answers.{RelayBreaksOff, form_of, AcceptedIn, RefusedIn, IsOfInput, Written, SaysOf, IsSavedOrPaused, WriteRose, InputRises, IsLine, HasOwnLine, PutsOwnLine, RefusesPause, BreaksOff, LeavesOut, WritesRefused};
+ghost use Rattle.mig_tool.specs.Answers.{form_of, AcceptedIn, RefusedIn, IsOfInput, Written, SaysOf, IsSavedOrPaused, MayWrite, WriteRose, InputRises, NoneFailed, IsLine, HasOwnLine, PutsOwnLine, Relays, BreaksSave, WritesRefused};
 ghost use Rattle.mig_tool.specs.Exercises.{SaysExercise};
 ghost use Rattle.mig_tool.specs.LiveSaves.{HasHostAndScript};
 ghost use Rattle.mig_report.specs.Report.{Reports, usage_line};
@@ -43,7 +41,7 @@ pub fn run<S: Source, K: Sink, R: Sink>(
     // The words decide about status 2, and then nothing is read.
     ensures usage { ((command : Command) → Names (texts_of words.now) command → ⊥) → result ≡ statuses.Usage }
     ensures known { (command : Command) → Names (texts_of words.now) command → result ≢ statuses.Usage }
-    ensures unread { result ≡ statuses.Usage → input.new ≡ input.old }
+    ensures untouched { result ≡ statuses.Usage → (input.new ≡ input.old) × (out.new ≡ out.old) }
 
     // `convert` reads legacy streams, `save` an image and a script, `walkimage` an image, and all others streams. Status 0: an
     // accepted front was taken, and the text of its guest was written, or its line reported; of `walk` and `walkimage` the line
@@ -71,9 +69,8 @@ pub fn run<S: Source, K: Sink, R: Sink>(
     // What `relay` has written is a front of what it has taken, whatever its status: all of it, and that may pass, with status
     // 0; no front of it is an accepted stream with any status but 0 and 4. With status 4 a write of the output failed, and so
     // it is then too; or one of the report did, and what may pass was written.
-    ensures relayed { Names (texts_of words.now) commands.Relay → SaysRelayed result (S.left input.old) (S.left input.new) (K.written out.old) (K.written out.new) }
-    ensures relay_breaks { Names (texts_of words.now) commands.Relay → result ≡ statuses.WriteFault
-        → RelayBreaksOff (S.left input.old) (S.left input.new) (record { out_old = K.written out.old; out_new = K.written out.new; report_old = R.written report.old; report_new = R.written report.new }) (K.faults out.old) (K.faults out.new) (R.faults report.old) (R.faults report.new) }
+    ensures relayed { Names (texts_of words.now) commands.Relay → Relays result (S.left input.old) (S.left input.new)
+        (record { out_old = K.written out.old; out_new = K.written out.new; report_old = R.written report.old; report_new = R.written report.new }) (K.faults out.old) (K.faults out.new) (R.faults report.old) (R.faults report.new) }
 
     // Of `show`: with status 0 a front of the input may pass, and the text of its records was written; with status 1 that of
     // those in front of the refused part; with status 4 a part of one of these, but not all.
@@ -85,21 +82,17 @@ pub fn run<S: Source, K: Sink, R: Sink>(
         → (input.new ≡ input.old) × SaysExercise seed n (R.written report.old) (R.written report.new) result }
 
     // `out` is touched for an accepted stream alone, by `save` once its input was read, by `relay`, or by `show` for a stream
-    // that is refused too, and never by `verify`, `exercise`, `walk` and `walkimage`: where `save` is refused, `out` is as it
-    // was, or the pause is refused.
-    ensures kept { result ≢ statuses.Done → result ≢ statuses.WriteFault → (Names (texts_of words.now) commands.Save → result ≢ statuses.Refused) → (Names (texts_of words.now) commands.Show → result ≢ statuses.Refused) → (Names (texts_of words.now) commands.Relay → ⊥) → out.new ≡ out.old }
-    ensures kept_refused { Names (texts_of words.now) commands.Save → result ≡ statuses.Refused
-        → (out.new ≡ out.old) ⊎ RefusesPause (S.left input.old) (R.written report.old) (R.written report.new) (R.faults report.old) (R.faults report.new) }
-    ensures untouched { (command : Command) → Names (texts_of words.now) command → LeavesOut command → out.new ≡ out.old }
+    // that is refused too, and never by `verify`, `exercise`, `walk` and `walkimage`.
+    ensures kept { (command : Command) → Names (texts_of words.now) command → (MayWrite command result → ⊥) → out.new ≡ out.old }
 
-    // Where `save` is refused, no front of what was written is an accepted stream. Nor is one where a write of `out` failed,
-    // of which the report got the line; else, with status 4, a whole stream was written, and one of the report failed.
-    ensures no_stream { Names (texts_of words.now) commands.Save → result ≡ statuses.Refused → WroteNoStream (K.written out.old) (K.written out.new) }
-    ensures breaks { Names (texts_of words.now) commands.Save → result ≡ statuses.WriteFault
-        → BreaksOff (record { out_old = K.written out.old; out_new = K.written out.new; report_old = R.written report.old; report_new = R.written report.new }) (K.faults out.old) (K.faults out.new) (R.faults report.old) (R.faults report.new) }
+    // Where `save` is refused, `out` is as it was, or the pause is refused; and no front of what was written is an accepted
+    // stream. Nor is one where a write of `out` failed, of which the report got the line; else, with status 4, a whole stream
+    // was written, and one of the report failed.
+    ensures breaks { Names (texts_of words.now) commands.Save → BreaksSave (out.new ≡ out.old) result (S.left input.old)
+        (record { out_old = K.written out.old; out_new = K.written out.new; report_old = R.written report.old; report_new = R.written report.new }) (K.faults out.old) (K.faults out.new) (R.faults report.old) (R.faults report.new) }
 
     // A fault is answered only where a count rose, and that of the input rises with no other status. With status 0 no count
-    // rose.
+    // rose; and none ever falls.
     ensures read { InputRises result (S.faults input.old) (S.faults input.new) }
     ensures write { (command : Command) → Names (texts_of words.now) command → result ≡ statuses.WriteFault
         → WriteRose command (K.faults out.old) (K.faults out.new) (R.faults report.old) (R.faults report.new) }
@@ -112,10 +105,8 @@ pub fn run<S: Source, K: Sink, R: Sink>(
     ensures usage_line { result ≡ statuses.Usage → Reports usage_line (R.written report.old) (R.written report.new) (R.faults report.old) (R.faults report.new) }
     ensures own_line { (command : Command) → Names (texts_of words.now) command → PutsOwnLine command (R.written report.old) (R.written report.new) result }
 
-    ensures out_quiet { result ≡ statuses.Done → K.faults out.new ≡ K.faults out.old }
-    ensures report_quiet { result ≡ statuses.Done → R.faults report.new ≡ R.faults report.old }
-    ensures out_later { K.faults out.old ≤ K.faults out.new }
-    ensures report_later { R.faults report.old ≤ R.faults report.new }
+    ensures out_faults { NoneFailed result (K.faults out.old) (K.faults out.new) }
+    ensures report_faults { NoneFailed result (R.faults report.old) (R.faults report.new) }
 {
     match command_in(words) {
         Some(command) => carry_out(alloc, command, input, out, report),

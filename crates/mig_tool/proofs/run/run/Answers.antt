@@ -1,8 +1,8 @@
-use Rattle.mig_tool.proofs.Common.{subst, sym, Written, SaysOf, WriteRose, PutsOwnLine, LeavesOut, WritesRefused, AcceptedIn, RefusedIn, form_of, Command, Exercise, Save, Relay, Show, Names}
-use Rattle.mig_tool.specs.Answers.{HasOwnLine, IsLine}
+use Rattle.mig_tool.proofs.Common.{subst, sym, Written, SaysOf, WriteRose, PutsOwnLine, WritesRefused, AcceptedIn, RefusedIn, form_of, Command, Exercise, Save, Relay, Show, Names}
+use Rattle.mig_tool.specs.Answers.{HasOwnLine, IsLine, MayWrite}
 use Rattle.mig_report.specs.Words.{texts_of}
 use Rattle.mig_report.proofs.Naming.{same_command}
-use Rattle.mig_tool.proofs.Reporting.{accepted_done, refused_refused, saved_done, input_rose, refused_unbroken}
+use Rattle.mig_tool.proofs.Reporting.{accepted_done, refused_refused, saved_done, input_rose, refused_unbroken, stays}
 use Rattle.mig_tool.proofs.run.run.Goals as goal
 
 pub returns-in-Some-clause-done : goal.returns-in-Some-clause-done
@@ -10,10 +10,6 @@ returns-in-Some-clause-done g c = λ command is.
     let w : Written = record { out_old = g.K.Sink.written c.args.out.now; out_new = g.K.Sink.written c.carry_out.new.out; report_old = g.R.Sink.written c.args.report.now; report_new = g.R.Sink.written c.carry_out.new.report } in
     subst (λ (d : Command). SaysOf d (g.S.Source.left c.args.input.now) (g.S.Source.left c.carry_out.new.input) w c.carry_out.result)
     (same_command _ c.in-Some.command command c.in-Some.ensures.some is) c.carry_out.ensures.said
-
-pub returns-in-Some-clause-untouched : goal.returns-in-Some-clause-untouched
-returns-in-Some-clause-untouched g c = λ command is leaves.
-    c.carry_out.ensures.untouched (subst LeavesOut (sym (same_command _ c.in-Some.command command c.in-Some.ensures.some is)) leaves)
 
 pub returns-in-Some-clause-own_line : goal.returns-in-Some-clause-own_line
 returns-in-Some-clause-own_line g c = λ command is.
@@ -43,10 +39,9 @@ returns-in-Some-clause-refused g c = λ command bytes refusal rest is told refus
     (writes (subst WritesRefused same before)) (λ relay. c.carry_out.ensures.relay_breaks relay e) (c.carry_out.ensures.write e))
 
 pub returns-in-Some-clause-relayed : goal.returns-in-Some-clause-relayed
-returns-in-Some-clause-relayed g c = λ is. c.carry_out.ensures.relayed (same_command _ c.in-Some.command Relay c.in-Some.ensures.some is)
-
-pub returns-in-Some-clause-relay_breaks : goal.returns-in-Some-clause-relay_breaks
-returns-in-Some-clause-relay_breaks g c = λ is. c.carry_out.ensures.relay_breaks (same_command _ c.in-Some.command Relay c.in-Some.ensures.some is)
+returns-in-Some-clause-relayed g c = λ is.
+    let relay = same_command _ c.in-Some.command Relay c.in-Some.ensures.some is in
+    record { says = c.carry_out.ensures.relayed relay; broke = c.carry_out.ensures.relay_breaks relay }
 
 pub returns-in-Some-clause-shown : goal.returns-in-Some-clause-shown
 returns-in-Some-clause-shown g c = λ is. c.carry_out.ensures.shown (same_command _ c.in-Some.command Show c.in-Some.ensures.some is)
@@ -67,24 +62,8 @@ returns-in-Some-clause-saved g c = λ bytes host lines is told read reads writes
 pub returns-in-Some-clause-exercised : goal.returns-in-Some-clause-exercised
 returns-in-Some-clause-exercised g c = λ seed n is. c.carry_out.ensures.exercised seed n (same_command _ c.in-Some.command (Exercise seed n) c.in-Some.ensures.some is)
 
-pub returns-in-Some-clause-kept : goal.returns-in-Some-clause-kept
-returns-in-Some-clause-kept g c = λ undone unfailed save show relay.
-    c.carry_out.ensures.kept undone unfailed (λ is. save (subst (λ (d : Command). Names (texts_of c.args.words.now) d) is c.in-Some.ensures.some)) (λ is. show (subst (λ (d : Command). Names (texts_of c.args.words.now) d) is c.in-Some.ensures.some)) (λ is. relay (subst (λ (d : Command). Names (texts_of c.args.words.now) d) is c.in-Some.ensures.some))
-
-pub returns-in-Some-clause-kept_refused : goal.returns-in-Some-clause-kept_refused
-returns-in-Some-clause-kept_refused g c = λ is. c.carry_out.ensures.kept_refused (same_command _ c.in-Some.command Save c.in-Some.ensures.some is)
-
-pub returns-in-Some-clause-no_stream : goal.returns-in-Some-clause-no_stream
-returns-in-Some-clause-no_stream g c = λ is. c.carry_out.ensures.no_stream (same_command _ c.in-Some.command Save c.in-Some.ensures.some is)
-
-pub returns-in-Some-clause-breaks : goal.returns-in-Some-clause-breaks
-returns-in-Some-clause-breaks g c = λ is. c.carry_out.ensures.breaks (same_command _ c.in-Some.command Save c.in-Some.ensures.some is)
-
 pub returns-in-None-clause-done : goal.returns-in-None-clause-done
 returns-in-None-clause-done g c = λ command is. absurd (c.in-None.ensures.none command is)
-
-pub returns-in-None-clause-untouched : goal.returns-in-None-clause-untouched
-returns-in-None-clause-untouched g c = λ command is leaves. absurd (c.in-None.ensures.none command is)
 
 pub returns-in-None-clause-own_line : goal.returns-in-None-clause-own_line
 returns-in-None-clause-own_line g c = λ command is. absurd (c.in-None.ensures.none command is)
@@ -97,3 +76,19 @@ returns-in-None-clause-saved g c = λ bytes host lines is told read reads writes
 
 pub returns-in-None-clause-exercised : goal.returns-in-None-clause-exercised
 returns-in-None-clause-exercised g c = λ seed n is. absurd (c.in-None.ensures.none (Exercise seed n) is)
+
+pub returns-in-Some-clause-kept : goal.returns-in-Some-clause-kept
+returns-in-Some-clause-kept g c = λ command is never.
+    let same = same_command _ c.in-Some.command command c.in-Some.ensures.some is in
+    stays _ c.carry_out.result c.in-Some.command (λ may. never (subst (λ (d : Command). MayWrite d c.carry_out.result) same may)) c.carry_out.ensures.untouched c.carry_out.ensures.kept
+
+pub returns-in-None-clause-kept : goal.returns-in-None-clause-kept
+returns-in-None-clause-kept g c = λ command is never. absurd (c.in-None.ensures.none command is)
+
+pub returns-in-Some-clause-breaks : goal.returns-in-Some-clause-breaks
+returns-in-Some-clause-breaks g c = λ is.
+    let save = same_command _ c.in-Some.command Save c.in-Some.ensures.some is in
+    record { refused = c.carry_out.ensures.kept_refused save; no_stream = c.carry_out.ensures.no_stream save; broke = c.carry_out.ensures.breaks save }
+
+pub returns-in-None-clause-breaks : goal.returns-in-None-clause-breaks
+returns-in-None-clause-breaks g c = λ is. absurd (c.in-None.ensures.none Save is)
