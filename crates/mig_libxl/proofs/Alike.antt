@@ -1,9 +1,10 @@
 -- What stands around an image looks at the parts of emulators alone, and what stands before it at their keys.
-use Rattle.mig_libxl.proofs.Common.{and_parts, ◌≡◌, ℕ, ◌==◌, ◌&&◌, Bool, true, false, cond, List, [], ◌++◌, Option, Some, None, is_some, refl, sym, ap, ◌∙◌, flat_map, list_any, range_with_len, is_emulator_code, PartMap, PartKey, has_emulators, is_of_converter, part_with, parts_of_emulator, text_of_emulators}
+use Rattle.mig_libxl.proofs.Common.{and_parts, ◌≡◌, ℕ, ◌==◌, ◌&&◌, Bool, true, false, cond, List, [], ◌++◌, Option, Some, None, is_some, refl, sym, ap, ◌∙◌, list_any, is_emulator_code, PartMap, PartKey, has_emulators, is_of_converter, text_of_emulators}
 use Rattle.std.specs.FinMap as maps
 use Rattle.mig_records.specs.Records.{spelled}
-use Rattle.mig_libxl.specs.Canon.{emulators_in_order, opening_text, parts_of_id, wrapper_opening, wrapper_closing}
+use Rattle.mig_libxl.specs.Canon.{emulators_in_order, opening_text, wrapper_opening, wrapper_closing}
 use Rattle.mig_libxl.proofs.Canon.{none_is}
+use Rattle.mig_libxl.proofs.EmulatorParts.{order_alike}
 
 -- the keys that pass a test are the same
 abbrev SameKeys : (PartKey → Bool) → PartMap → PartMap → Type 0
@@ -39,23 +40,8 @@ module _ (m n : PartMap) (same : (q : PartKey) → is_emulator_code q.code ≡ t
   opening_alike = let some = some_alike in let legacy = converter_alike in λ i. cond (some i) (opening_text (legacy i)) []
 
 module _ (m n : PartMap) (same : (q : PartKey) → is_emulator_code q.code ≡ true → maps.get m q ≡ maps.get n q) where
-  one_alike : (id index : ℕ) → parts_of_emulator m id index ≡ parts_of_emulator n id index
-  one_alike id index =
-      let pairs : PartKey = record { code = 258; key1 = id; key2 = index } in
-      let context : PartKey = record { code = 259; key1 = id; key2 = index } in
-      let a = same pairs refl in let b = same context refl in
-      λ i. part_with pairs (a i) ++ part_with context (b i)
-
-  id_alike : (id : ℕ) → parts_of_id m id ≡ parts_of_id n id
-  unfolding parts_of_id
-  id_alike id = λ i. flat_map (λ index. one_alike id index i) (range_with_len 0 256)
-
-  order_alike : emulators_in_order m ≡ emulators_in_order n
-  unfolding emulators_in_order
-  order_alike = λ i. flat_map (λ id. id_alike id i) (range_with_len 0 3)
-
   pub closing_alike : wrapper_closing m ≡ wrapper_closing n
   unfolding wrapper_closing
   closing_alike =
-      let some = some_alike m n (λ q is. ap (λ (o : Option (List ℕ)). is_some o) (same q is)) in let order = order_alike in
+      let some = some_alike m n (λ q is. ap (λ (o : Option (List ℕ)). is_some o) (same q is)) in let order = order_alike m n same in
       λ i. cond (some i) (text_of_emulators (order i) ++ spelled 0 []) []

@@ -1,7 +1,6 @@
 -- The canonical stream of a guest of either form is accepted with this guest, and is that of no other.
-use Rattle.mig_libxl.proofs.Common.{◌≡◌, ◌↔◌, ℕ, ◌*◌, ◌≤◌, Bool, true, false, List, [], ◌∷◌, ◌++◌, length, map, Option, Some, None, refl, sym, ap, subst, ◌∙◌, arith, append_assoc, append-nil, length-append, All, flat_map, range_with_len, Pv, IsFormed, GuestOf, part_cmp, Part, PartMap, PartKey, IsImage, ImageOf, IsBare, bare_guest, has_emulators, is_of_converter, part_with, parts_of_emulator, text_of_emulators, LibxlRecord, Image, EmulatorsOf, no_emulators, with_emulators, FollowsLibxl, no_part, one_more, Bare, Wrapped}
+use Rattle.mig_libxl.proofs.Common.{◌≡◌, ◌↔◌, ℕ, Bool, true, false, List, [], ◌∷◌, ◌++◌, map, None, refl, sym, ap, subst, ◌∙◌, arith, append_assoc, append-nil, All, Pv, IsFormed, GuestOf, part_cmp, Part, IsImage, ImageOf, IsBare, bare_guest, has_emulators, is_of_converter, text_of_emulators, LibxlRecord, Image, EmulatorsOf, no_emulators, with_emulators, FollowsLibxl, no_part, one_more, Bare, Wrapped}
 use Rattle.std.specs.FinMap as maps
-use Rattle.std.proofs.lemmas.List.FromFn.{length-range_with_len}
 use Rattle.mig_headers.specs.Headers.{libxl_header_of}
 use Rattle.mig_headers.proofs.LibxlHeaders.{libxl_is_read_back}
 use Rattle.mig_records.specs.Records.{spelled}
@@ -11,7 +10,7 @@ use Rattle.mig_restore.specs.Mean.{mean}
 use Rattle.mig_restore.specs.Spelled.{Accepted as ImageAccepted}
 use Rattle.mig_restore.specs.Stream.{image_of}
 use Rattle.mig_libxl.specs.Carried.{IsCarried}
-use Rattle.mig_libxl.specs.Canon.{canon_any, emulators_in_order, parts_of_id, wrapper_opening, wrapper_closing}
+use Rattle.mig_libxl.specs.Canon.{canon_any, emulators_in_order, wrapper_opening, wrapper_closing}
 use Rattle.mig_emulators.specs.Content.LibxlContent.{Nothing}
 use Rattle.mig_emulators.specs.Emulators.{emulators_of}
 use Rattle.mig_libxl.specs.Spelled.{AcceptedStream}
@@ -21,7 +20,7 @@ use Rattle.mig_libxl.proofs.Among.{emulators_more, among_more, ended_more}
 use Rattle.mig_libxl.proofs.Canon.{bare_is, bare_plain, bare_whole, canon_bare, plain_is, pv_plain}
 use Rattle.mig_canon_laws.proofs.Batched.{canon_is_accepted as image_is_accepted}
 use Rattle.mig_emulators.proofs.EmulatorGuests.{none_set}
-use Rattle.mig_libxl.proofs.EmulatorParts.{in_order_differ, in_order_holds}
+use Rattle.mig_libxl.proofs.EmulatorParts.{few_emulators, in_order_differ, in_order_holds}
 use Rattle.mig_libxl.proofs.EmulatorRecords.{record_of_part}
 use Rattle.mig_canon_laws.proofs.CanonParts.{is_record}
 use Rattle.mig_libxl.proofs.EmulatorMaps.{said_of, said_is, guest_again}
@@ -34,32 +33,6 @@ use Rattle.mig_libxl.proofs.WrappedCanons.{Here, here_all}
 bare_accepted : (input : List ℕ) (g : GuestOf) (rest : List ℕ) → ImageAccepted input g rest → AcceptedStream input g rest
 bare_accepted input g rest a =
     record { stream = Bare (image_of a.opening a.records); image = image_of a.opening a.records; spelled = a.image; image_is = refl; means = a.means ∙ sym (none_set (mean a.opening.kind a.records)) }
-
--- ---- how many emulators there are
-
-few_flat : {X Y : Type 0} (F : X → List Y) (m : ℕ) (xs : List X) → ((x : X) → length (F x) ≤ m) → length (flat_map F xs) ≤ length xs * m
-few_flat F m [] each = omega arith
-few_flat F m (x ∷ xs) each = let first = each x in let others = few_flat F m xs each in omega (arith, length-append (F x) (flat_map F xs), first, others)
-
-few_with : (o : Option (List ℕ)) (key : PartKey) → length (part_with key o) ≤ 1
-few_with None key = omega arith
-few_with (Some bytes) key = omega arith
-
-few_of_one : (parts : PartMap) (id index : ℕ) → length (parts_of_emulator parts id index) ≤ 2
-few_of_one parts id index =
-    let pairs : PartKey = record { code = 258; key1 = id; key2 = index } in
-    let context : PartKey = record { code = 259; key1 = id; key2 = index } in
-    let a = few_with (maps.get parts pairs) pairs in
-    let b = few_with (maps.get parts context) context in
-    omega (arith, length-append (part_with pairs (maps.get parts pairs)) (part_with context (maps.get parts context)), a, b)
-
-few_of_id : (parts : PartMap) (id : ℕ) → length (parts_of_id parts id) ≤ 512
-unfolding parts_of_id
-few_of_id parts id = let few = few_flat (parts_of_emulator parts id) 2 (range_with_len 0 256) (few_of_one parts id) in omega (arith, few, length-range_with_len 0 256)
-
-few_emulators : (parts : PartMap) → length (emulators_in_order parts) ≤ 1536
-unfolding emulators_in_order
-few_emulators parts = let few = few_flat (parts_of_id parts) 512 (range_with_len 0 3) (few_of_id parts) in omega (arith, few, length-range_with_len 0 3)
 
 -- ---- a guest that has emulators
 
@@ -112,7 +85,7 @@ module _ (g : GuestOf) (formed : IsFormed g) (some : has_emulators g.parts ≡ t
     going = refl;
     image = refl;
     absent = subst (λ (e : EmulatorsOf). All (λ (p : Part). maps.get e.stores p.0 ≡ None) ps) (sym nothing_yet) (λ k d l. maps.get-empty part_cmp _);
-    few = let few = few_emulators g.parts in omega (arith, few);
+    few = let few = few_emulators g formed in omega (arith, few);
   }
 
   all_parts : Here g formed im (first ∷ map record_of_part ps) (text ++ text_of_emulators ps) []

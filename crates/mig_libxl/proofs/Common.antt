@@ -37,7 +37,7 @@ pub use Rattle.mig_headers.specs.declared.fault.Place.TheVariants.{LibxlHeader}
 pub use Rattle.mig_headers.specs.declared.kind.Kind.{Kind}
 pub use Rattle.mig_headers.specs.declared.kind.Kind.TheVariants.{Hvm, Pv}
 pub use Rattle.mig_libxl.specs.Among.{image_among, image_in, is_libxl_ended}
-pub use Rattle.mig_libxl.specs.Canon.{bare_guest, has_emulators, is_of_converter, part_with, parts_of_emulator, text_of_emulators}
+pub use Rattle.mig_libxl.specs.Canon.{bare_guest, has_emulators, is_of_converter, text_of_emulators}
 pub use Rattle.mig_libxl.specs.Judging.{body_of_type, emulator_key, libxl_content_at, libxl_head_at}
 pub use Rattle.mig_libxl.specs.Seen.{Holds, IsLibxlSeen}
 pub use Rattle.mig_libxl.specs.Spelled.{EmulatorsFit, FollowsLibxl, HasLibxlContent}

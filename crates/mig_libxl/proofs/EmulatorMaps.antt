@@ -138,7 +138,7 @@ module _ (g : GuestOf) (formed : IsFormed g) where
       → option_or (picked b f (find part_cmp q (emulators_in_order g.parts))) (maps.get (maps.empty {X = X} {R = part_cmp}) q) ≡ picked b f (maps.get g.parts q)
   only_said f b q up =
       ap (option_or (picked b f (find part_cmp q (emulators_in_order g.parts)))) (maps.get-empty part_cmp q) ∙ or_none (picked b f (find part_cmp q (emulators_in_order g.parts)))
-      ∙ ap (picked b f) (emulators_found g formed q) ∙ kept b (is_emulator_code q.code) f (maps.get g.parts q) up
+      ∙ ap (picked b f) (emulators_found g.parts q) ∙ kept b (is_emulator_code q.code) f (maps.get g.parts q) up
 
   -- the store of each part of pairs
   pub stores_are : (q : PartKey) → maps.get (said_of g).stores q ≡ picked (q.code == 258) map_of (maps.get g.parts q)

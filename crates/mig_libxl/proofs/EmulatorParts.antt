@@ -1,193 +1,253 @@
 -- The parts of emulators in the order of their records: all of a guest, and none twice.
-use Rattle.mig_libxl.proofs.Common.{◌≡◌, ℕ, zero, suc, ◌+◌, ◌<◌, ◌≤◌, true, false, cond, List, [], ◌∷◌, ◌++◌, Option, Some, None, inl, inr, refl, sym, ap, subst, ◌∙◌, arith, ◌==◌, ◌≢◌, nat_lt, All, flat_map, range_with_len, option_or, eq_by_cmp, find, and_parts, eqb-true, or_cases, eq_by_cmp_equiv, All-nil, All-cons, All-head, All-tail, IsFormed, is_emulator_code, width_of, GuestOf, part_cmp, Part, PartMap, EmulatorPairs, EmulatorContext, PartKey, tied, part_total, part_exact, IsOf, of_part, part_with, parts_of_emulator}
-use Rattle.std.specs.Prelude.{⊤}
+use Rattle.mig_libxl.proofs.Common.{◌≡◌, ◌≢◌, ◌↔◌, ℕ, ◌+◌, ◌*◌, ◌<◌, ◌≤◌, Bool, true, false, cond, List, [], ◌∷◌, ◌++◌, length, Option, Some, None, inl, inr, refl, sym, ap, subst, ◌∙◌, arith, ◌==◌, nat_lt, All, option_or, eq_by_cmp, is_lt, nat_cmp, Equal, find, and_parts, eq-eqb, eqb-true, or_cases, eq_by_cmp_equiv, All-nil, All-cons, All-head, All-tail, IsFormed, is_emulator_code, width_of, GuestOf, part_cmp, Part, PartMap, parts_of, EmulatorPairs, EmulatorContext, PartKey, all_of, tied, part_total, part_exact, IsOf, of_part, common_steps, nil_from_length}
+use Rattle.std.specs.Prelude.{⊤, T}
 use Rattle.std.specs.FinMap as maps
-use Rattle.std.proofs.lemmas.Bool.{eqb-false, ltb-true}
-use Rattle.std.proofs.lemmas.List.Elements.{All-append}
-use Rattle.mig_libxl.specs.Canon.{parts_below, parts_of_id, emulators_in_order}
-use Rattle.std.proofs.lemmas.Grind.{common_steps}
-use Rattle.mig_restore.proofs.PartsInOrder.{or_none}
-use Rattle.mig_canon_laws.proofs.CanonMaps.{found_holds}
+use Rattle.std.specs.FinMap.{is_sorted, IsAntisymmetric}
+use Rattle.std.specs.FinMap.Entries.{below_all, by_order, put, find-where_key, same_entries}
+use Rattle.std.specs.List.{Contains}
+use Rattle.std.specs.Cmp.{IsTotalOrder}
+use Rattle.std.specs.Ordering.{is_eq, ordering_reverse, ordering_then}
+use Rattle.std.specs.declared.cmp.Ordering.{Ordering}
+use Rattle.std.specs.declared.cmp.Ordering.TheVariants.{Less, Greater}
+use Rattle.std.proofs.lemmas.Bool.{ltb-true, ne_eqb}
+use Rattle.std.proofs.lemmas.Cmp.{nat_cmp_total, on_total, ranked, then_total, tied_itself}
+use Rattle.std.proofs.lemmas.List.Elements.{All-append, All-contains, All-contains_itself, All-filter, All-weaker, filter_passes}
+use Rattle.std.proofs.lemmas.Map.Lookups.{exact_pairs, exact_unsigned}
+use Rattle.mig_guest.specs.Parts.{parts_after, NextPart}
+use Rattle.mig_guest.proofs.Counts.{same_parts}
+use Rattle.mig_guest.proofs.Found.{all_found}
+use Rattle.mig_guest.proofs.PartCursor.{both_of, less, true_of}
+use Rattle.mig_guest.proofs.KeyedMaps.{both}
+use Rattle.mig_canon.proofs.Wholes.{code_next}
+use Rattle.mig_canon_laws.proofs.CanonMaps.{found_holds, mixed}
+use Rattle.mig_libxl.specs.Canon.{AreEmulatorsInOrder, NextEmulator, emulator_cmp, emulators_after, emulators_in_order, in_emulator_order}
 
--- ---- lists of parts
+-- ---- the order
+
+pub emulator_total : IsTotalOrder emulator_cmp
+emulator_total = then_total (on_total (λ (k : PartKey). k.key1) nat_cmp_total) (then_total (on_total (λ (k : PartKey). k.key2) nat_cmp_total) (on_total (λ (k : PartKey). k.code) nat_cmp_total))
+
+emulator_exact : IsAntisymmetric emulator_cmp
+emulator_exact x y e =
+    ap (λ (k : ℕ × (ℕ × ℕ)). record { code = k.1.1; key1 = k.0; key2 = k.1.0 })
+    (exact_pairs nat_cmp (λ p q. ordering_then (nat_cmp p.0 q.0) (nat_cmp p.1 q.1)) exact_unsigned (exact_pairs nat_cmp nat_cmp exact_unsigned exact_unsigned) (x.key1, (x.key2, x.code)) (y.key1, (y.key2, y.code)) e)
+
+-- the same keys tie in either order
+alike : (q k : PartKey) → eq_by_cmp emulator_cmp q k ≡ eq_by_cmp part_cmp q k
+alike q k = grind (arith, common_steps)
+
+find_alike : (q : PartKey) (ps : List Part) → find emulator_cmp q ps ≡ find part_cmp q ps
+find_alike q [] = refl
+find_alike q (p ∷ ps) = (λ i. cond (alike q p.0 i) (Some p.1) (find_alike q ps i))
+
+-- keys of one code have the same order in both
+same_code : (a b : PartKey) → a.code ≡ b.code → is_lt (part_cmp a b) ≡ true → emulator_cmp a b ≡ Less
+same_code a b code t = grind (arith, common_steps)
+
+-- this part stands before that one
+abbrev Before : Part → Part → Type 0
+Before p q = emulator_cmp p.0 q.0 ≡ Less
+
+-- ---- parts in order
+
+module _ (ps : List Part) where
+  sorted : T (is_sorted emulator_cmp (in_emulator_order ps))
+  sorted = maps.entries_sorted (maps.from_entries {R = emulator_cmp} ps)
+
+  order_found : (q : PartKey) → find emulator_cmp q (in_emulator_order ps) ≡ find part_cmp q ps
+  order_found q = sym (maps.get-entries (maps.from_entries {R = emulator_cmp} ps) q) ∙ maps.get-from_entries emulator_total ps q ∙ find_alike q ps
+
+  order_holds : (P : Part → Type 0) → All P ps → All P (in_emulator_order ps)
+  order_holds P all = all_found emulator_total emulator_exact P (in_emulator_order ps) sorted (λ q v is. found_holds P q v ps all (sym (order_found q) ∙ is))
+
+put_first : (e : Part) (ps : List Part) → All (Before e) ps → put emulator_cmp e.0 e.1 ps ≡ e ∷ ps
+put_first e [] before = refl
+put_first e (p ∷ ps) before = ap (λ r. by_order r (e ∷ p ∷ ps) ((p.0, e.1) ∷ ps) (p ∷ put emulator_cmp e.0 e.1 ps)) (All-head (Before e) p ps before)
+
+-- a part that stands before all others comes first
+first : (e : Part) (xs ps : List Part) → All (Before e) xs → All (Before e) ps → in_emulator_order (xs ++ (e ∷ ps)) ≡ e ∷ in_emulator_order (xs ++ ps)
+first e [] ps above before = maps.entries-insert emulator_total (maps.from_entries ps) e.0 e.1 ∙ put_first e (in_emulator_order ps) (order_holds ps (Before e) before)
+first e (x ∷ xs) ps above before =
+    let rest = in_emulator_order (xs ++ ps) in
+    let later : emulator_cmp x.0 e.0 ≡ Greater = emulator_total.antisymm x.0 e.0 ∙ ap ordering_reverse (All-head (Before e) x xs above) in
+    maps.entries-insert emulator_total (maps.from_entries (xs ++ (e ∷ ps))) x.0 x.1
+    ∙ ap (put emulator_cmp x.0 x.1) (first e xs ps (All-tail (Before e) x xs above) before)
+    ∙ ap (λ r. by_order r (x ∷ e ∷ rest) ((e.0, x.1) ∷ rest) (e ∷ put emulator_cmp x.0 x.1 rest)) later
+    ∙ ap (λ l. e ∷ l) (sym (maps.entries-insert emulator_total (maps.from_entries (xs ++ ps)) x.0 x.1))
+
+-- ---- the next part
+
+module _ (code : ℕ) (after : Option PartKey) (es : List Part) (e : Part) (h : NextPart code after es (Some e)) where
+  behind : All (Before e) (parts_after code (Some e.0) es)
+  behind =
+      all_of (λ p. is_lt (part_cmp e.0 p.0) ≡ true) (λ p. (p.0.code == code) ≡ true) (Before e)
+      (λ p l is. same_code e.0 p.0 (code_next code after es e (parts_after code (Some e.0) es) h ∙ sym (eqb-true p.0.code code is)) l) (parts_after code (Some e.0) es)
+      (filter_passes (λ p. is_lt (part_cmp e.0 p.0)) (parts_of code es))
+      (All-filter (λ p. is_lt (part_cmp e.0 p.0)) (λ p. (p.0.code == code) ≡ true) (parts_of code es) (filter_passes (λ p. p.0.code == code) es))
+
+  -- what stands before the first stands before all
+  before_all : (x : Part) → Before x e → All (Before x) (parts_after code after es)
+  before_all x up =
+      subst (All (Before x)) (sym h)
+      (All-cons (Before x) e (parts_after code (Some e.0) es) up (All-weaker (Before e) (Before x) (λ p l. emulator_total.trans x.0 e.0 p.0 up l) (parts_after code (Some e.0) es) behind))
+
+module _ (parts : PartMap) (pairs context : Option PartKey) where
+  abbrev es : List Part
+  es = maps.entries parts
+
+  pairs_first : (e : Part) → NextPart 258 pairs es (Some e) → All (Before e) (parts_after 259 context es) → NextEmulator parts pairs context (Some e)
+  pairs_first e h before =
+      let rest = parts_after 258 (Some e.0) es in let contexts = parts_after 259 context es in
+      let is = code_next 258 pairs es e rest h in
+      ap (λ l. in_emulator_order (l ++ contexts)) h
+      ∙ first e [] (rest ++ contexts) (All-nil (Before e)) (All-append (Before e) rest contexts (behind 258 pairs es e h) before)
+      ∙ ap (λ n. e ∷ cond (n == 258) (emulators_after parts (Some e.0) context) (emulators_after parts pairs (Some e.0))) (sym is)
+
+  context_first : (e : Part) → NextPart 259 context es (Some e) → All (Before e) (parts_after 258 pairs es) → NextEmulator parts pairs context (Some e)
+  context_first e h before =
+      let rest = parts_after 259 (Some e.0) es in let stores = parts_after 258 pairs es in
+      let is = code_next 259 context es e rest h in
+      ap (λ l. in_emulator_order (stores ++ l)) h
+      ∙ first e stores rest before (behind 259 context es e h)
+      ∙ ap (λ n. e ∷ cond (n == 258) (emulators_after parts (Some e.0) context) (emulators_after parts pairs (Some e.0))) (sym is)
+
+  pub pairs_alone : (e : Part) → NextPart 258 pairs es (Some e) → NextPart 259 context es None → NextEmulator parts pairs context (Some e)
+  pairs_alone e h none = pairs_first e h (subst (All (Before e)) (sym none) (All-nil (Before e)))
+
+  pub context_alone : (r : Option Part) → NextPart 258 pairs es None → NextPart 259 context es r → NextEmulator parts pairs context r
+  context_alone None none h = (λ i. in_emulator_order (none i ++ h i)) ∙ nil_from_length _ (sym (maps.len-entries _) ∙ maps.len-empty emulator_cmp (List ℕ))
+  context_alone (Some e) none h = context_first e h (subst (All (Before e)) (sym none) (All-nil (Before e)))
+
+  module _ (x y : Part) (one : NextPart 258 pairs es (Some x)) (two : NextPart 259 context es (Some y)) where
+    pub context_before : is_lt (emulator_cmp y.0 x.0) ≡ true → NextEmulator parts pairs context (Some y)
+    context_before t = context_first y two (before_all 258 pairs es x one y (less _ t))
+
+    pub pairs_before : is_lt (emulator_cmp y.0 x.0) ≡ false → NextEmulator parts pairs context (Some x)
+    pairs_before f = pairs_first x one (before_all 259 context es y two x (by (emulator_cmp y.0 x.0) refl f))
+      where
+        by : (r : Ordering) → emulator_cmp y.0 x.0 ≡ r → is_lt r ≡ false → Before x y
+        by Less is f = cc
+        by Equal is f =
+            let no : 259 ≡ 258 = sym (code_next 259 context es y (parts_after 259 (Some y.0) es) two) ∙ ap (λ (k : PartKey). k.code) (emulator_exact y.0 x.0 is) ∙ code_next 258 pairs es x (parts_after 258 (Some x.0) es) one in absurd (omega (arith, no))
+        by Greater is f = emulator_total.antisymm x.0 y.0 ∙ ap ordering_reverse is
+
+  -- what is behind it
+  module _ (e : Part) (h : NextEmulator parts pairs context (Some e)) where
+    abbrev both_ways : Bool → List Part
+    both_ways b = e ∷ cond b (emulators_after parts (Some e.0) context) (emulators_after parts pairs (Some e.0))
+
+    pub behind_pairs : e.0.code ≡ 258 → emulators_after parts pairs context ≡ e ∷ emulators_after parts (Some e.0) context
+    behind_pairs is = h ∙ ap both_ways (eq-eqb e.0.code 258 is)
+
+    pub behind_context : e.0.code ≢ 258 → emulators_after parts pairs context ≡ e ∷ emulators_after parts pairs (Some e.0)
+    behind_context other = h ∙ ap both_ways (ne_eqb e.0.code 258 other)
+
+-- ---- all parts of emulators
 
 -- no key stands twice
 abbrev pub KeysDiffer : List Part → Type 0
 KeysDiffer [] = ⊤
 KeysDiffer (p ∷ ps) = (find part_cmp p.0 ps ≡ None) × KeysDiffer ps
 
+not_behind : (q : PartKey) (ps : List Part) → T (below_all emulator_cmp q ps) → find part_cmp q ps ≡ None
+not_behind q [] h = refl
+not_behind q (p ∷ ps) h =
+    let (below, others) = both_of (is_lt (emulator_cmp q p.0)) (below_all emulator_cmp q ps) h in
+    ap (λ b. cond b (Some p.1) (find part_cmp q ps)) (sym (alike q p.0) ∙ ap is_eq (less _ (true_of _ below))) ∙ not_behind q ps others
+
+sorted_differ : (ps : List Part) → T (is_sorted emulator_cmp ps) → KeysDiffer ps
+sorted_differ [] h = tt
+sorted_differ (p ∷ ps) h = let (below, others) = both_of (below_all emulator_cmp p.0 ps) (is_sorted emulator_cmp ps) h in (not_behind p.0 ps below, sorted_differ ps others)
+
 pub find_join : (q : PartKey) (xs ys : List Part) → find part_cmp q (xs ++ ys) ≡ option_or (find part_cmp q xs) (find part_cmp q ys)
 find_join q [] ys = refl
 find_join q (x ∷ xs) ys = grind (arith, common_steps, find_join q xs ys)
-
-pub differ_join : (xs ys : List Part) → KeysDiffer xs → KeysDiffer ys → All (λ p. find part_cmp p.0 ys ≡ None) xs → KeysDiffer (xs ++ ys)
-differ_join [] ys one two apart = two
-differ_join (x ∷ xs) ys one two apart = (
-  find_join x.0 xs ys ∙ ap (λ o. option_or o (find part_cmp x.0 ys)) one.0 ∙ All-head (λ p. find part_cmp p.0 ys ≡ None) x xs apart,
-  differ_join xs ys one.1 two (All-tail (λ p. find part_cmp p.0 ys ≡ None) x xs apart),
-)
-
--- ---- parts told apart by a number of their keys
-
-above : (a n : ℕ) → a ≤ n → n ≢ a → a + 1 ≤ n
-above a n low other = omega (arith, low, other)
-
-module _ (number : PartKey → ℕ) where
-  -- no part has the number of this key
-  not_among : (q : PartKey) (ps : List Part) → All (λ p. number p.0 ≡ number q → ⊥) ps → find part_cmp q ps ≡ None
-  not_among q [] differ = refl
-  not_among q (p ∷ ps) differ = elim (eq_by_cmp part_cmp q p.0) as (λ b. eq_by_cmp part_cmp q p.0 ≡ b → cond b (Some p.1) (find part_cmp q ps) ≡ None) [
-    | true ↦ λ t. absurd (All-head (λ p. number p.0 ≡ number q → ⊥) p ps differ (ap number (sym (part_exact q p.0 (tied _ t)))))
-    | false ↦ λ t. not_among q ps (All-tail (λ p. number p.0 ≡ number q → ⊥) p ps differ)
-  ] refl
-
-  module _ (F : ℕ → List Part) where
-    -- the parts of n numbers, from a on
-    abbrev run : ℕ → ℕ → List Part
-    run a n = flat_map F (range_with_len a n)
-
-    all_in : (P : Part → Type 0) (a n : ℕ) → ((i : ℕ) → i < a + n → All P (F i)) → All P (run a n)
-    all_in P a zero go = All-nil P
-    all_in P a (suc n) go = All-append P (F a) (run (a + 1) n) (go a (omega arith)) (all_in P (a + 1) n (λ i less. go i (omega (arith, less))))
-
-    module _ (numbered : (i : ℕ) → All (λ p. number p.0 ≡ i) (F i)) where
-      from_on : (a n : ℕ) → All (λ p. a ≤ number p.0) (run a n)
-      from_on a zero = All-nil (λ p. a ≤ number p.0)
-      from_on a (suc n) = All-append (λ p. a ≤ number p.0) (F a) (run (a + 1) n) (λ k d l. omega (arith, numbered a k d l)) (λ k d l. omega (arith, from_on (a + 1) n k d l))
-
-      none_later : (q : PartKey) (a n : ℕ) → number q ≡ a → find part_cmp q (run (a + 1) n) ≡ None
-      none_later q a n is = not_among q (run (a + 1) n) (λ k d l same. omega (arith, from_on (a + 1) n k d l, same, is))
-
-      runs_differ : (a n : ℕ) → ((i : ℕ) → KeysDiffer (F i)) → KeysDiffer (run a n)
-      runs_differ a zero each = tt
-      runs_differ a (suc n) each = differ_join (F a) (run (a + 1) n) (each a) (runs_differ (a + 1) n each) (λ k d l. none_later _ a n (numbered a k d l))
-
-      found_at : (q : PartKey) (a n : ℕ) → a ≤ number q → number q < a + n → find part_cmp q (run a n) ≡ find part_cmp q (F (number q))
-      found_at q a zero low high = absurd (omega (arith, low, high))
-      found_at q a (suc n) low high = find_join q (F a) (run (a + 1) n) ∙ elim (number q == a) as (λ b. (number q == a) ≡ b → option_or (find part_cmp q (F a)) (find part_cmp q (run (a + 1) n)) ≡ find part_cmp q (F (number q))) [
-        | true ↦ λ t. ap (option_or (find part_cmp q (F a))) (none_later q a n (eqb-true (number q) a t)) ∙ or_none (find part_cmp q (F a)) ∙ ap (λ i. find part_cmp q (F i)) (sym (eqb-true (number q) a t))
-        | false ↦ λ t. ap (λ o. option_or o (find part_cmp q (run (a + 1) n))) (not_among q (F a) (λ k d l same. eqb-false (number q) a t (omega (arith, numbered a k d l, same))))
-            ∙ found_at q (a + 1) n (above a (number q) low (eqb-false (number q) a t)) (omega (arith, high))
-      ] refl
-
--- ---- one key
-
-module _ (key : PartKey) where
-  with_all : (P : Part → Type 0) (o : Option (List ℕ)) → ((bytes : List ℕ) → o ≡ Some bytes → P (key, bytes)) → All P (part_with key o)
-  with_all P None go = All-nil P
-  with_all P (Some bytes) go = All-cons P (key, bytes) [] (go bytes refl) (All-nil P)
-
-  with_differ : (o : Option (List ℕ)) → KeysDiffer (part_with key o)
-  with_differ None = tt
-  with_differ (Some bytes) = (refl, tt)
-
-  with_found : (o : Option (List ℕ)) → find part_cmp key (part_with key o) ≡ o
-  with_found None = refl
-  with_found (Some bytes) = ap (λ b. cond b (Some bytes) None) ((eq_by_cmp_equiv part_total).refl key)
-
--- ---- one emulator
-
-abbrev pub pairs_of_emulator : ℕ → ℕ → PartKey
-pairs_of_emulator id index = record { code = 258; key1 = id; key2 = index }
-
-abbrev pub context_of_emulator : ℕ → ℕ → PartKey
-context_of_emulator id index = record { code = 259; key1 = id; key2 = index }
 
 -- a part of an emulator, which the guest has
 pub record IsEmulatorPart (parts : PartMap) (p : Part) : Type 0 where
   pub there : maps.get parts p.0 ≡ Some p.1
   pub code : is_emulator_code p.0.code ≡ true
-  pub known : p.0.key1 < 3
-  pub small : p.0.key2 < 256
-
-module _ (parts : PartMap) (id index : ℕ) where
-  abbrev pairs : List Part
-  pairs = part_with (pairs_of_emulator id index) (maps.get parts (pairs_of_emulator id index))
-
-  abbrev context : List Part
-  context = part_with (context_of_emulator id index) (maps.get parts (context_of_emulator id index))
-
-  one_all : (P : Part → Type 0) → ((bytes : List ℕ) → maps.get parts (pairs_of_emulator id index) ≡ Some bytes → P (pairs_of_emulator id index, bytes))
-      → ((bytes : List ℕ) → maps.get parts (context_of_emulator id index) ≡ Some bytes → P (context_of_emulator id index, bytes)) → All P (parts_of_emulator parts id index)
-  one_all P one two = All-append P pairs context (with_all (pairs_of_emulator id index) P _ one) (with_all (context_of_emulator id index) P _ two)
-
-  no_context : find part_cmp (pairs_of_emulator id index) context ≡ None
-  no_context = not_among (λ k. k.code) (pairs_of_emulator id index) context (with_all (context_of_emulator id index) (λ p. p.0.code ≡ 258 → ⊥) _ (λ bytes is same. omega (arith, same)))
-
-  no_pairs : find part_cmp (context_of_emulator id index) pairs ≡ None
-  no_pairs = not_among (λ k. k.code) (context_of_emulator id index) pairs (with_all (pairs_of_emulator id index) (λ p. p.0.code ≡ 259 → ⊥) _ (λ bytes is same. omega (arith, same)))
-
-  one_differ : KeysDiffer (parts_of_emulator parts id index)
-  one_differ = differ_join pairs context (with_differ (pairs_of_emulator id index) _) (with_differ (context_of_emulator id index) _) (with_all (pairs_of_emulator id index) (λ p. find part_cmp p.0 context ≡ None) _ (λ bytes is. no_context))
-
-  pairs_found : find part_cmp (pairs_of_emulator id index) (parts_of_emulator parts id index) ≡ maps.get parts (pairs_of_emulator id index)
-  pairs_found =
-      find_join (pairs_of_emulator id index) pairs context ∙ ap (option_or (find part_cmp (pairs_of_emulator id index) pairs)) no_context
-      ∙ or_none (find part_cmp (pairs_of_emulator id index) pairs) ∙ with_found (pairs_of_emulator id index) (maps.get parts (pairs_of_emulator id index))
-
-  context_found : find part_cmp (context_of_emulator id index) (parts_of_emulator parts id index) ≡ maps.get parts (context_of_emulator id index)
-  context_found =
-      find_join (context_of_emulator id index) pairs context ∙ ap (λ o. option_or o (find part_cmp (context_of_emulator id index) context)) no_pairs
-      ∙ with_found (context_of_emulator id index) (maps.get parts (context_of_emulator id index))
-
-  one_holds : id < 3 → index < 256 → All (IsEmulatorPart parts) (parts_of_emulator parts id index)
-  one_holds known small =
-      one_all (IsEmulatorPart parts) (λ bytes is. record { there = is; code = refl; known = known; small = small }) (λ bytes is. record { there = is; code = refl; known = known; small = small })
 
 module _ (parts : PartMap) where
-  one_found : (q : PartKey) → is_emulator_code q.code ≡ true → find part_cmp q (parts_of_emulator parts q.key1 q.key2) ≡ maps.get parts q
-  one_found q code = elim (or_cases (q.code == 258) (q.code == 259) code) [
-    | inl a ↦ let is = eqb-true q.code 258 a in
-        subst (λ (k : PartKey). find part_cmp k (parts_of_emulator parts k.key1 k.key2) ≡ maps.get parts k) (λ i. record { code = sym is i; key1 = q.key1; key2 = q.key2 }) (pairs_found parts q.key1 q.key2)
-    | inr b ↦ let is = eqb-true q.code 259 b in
-        subst (λ (k : PartKey). find part_cmp k (parts_of_emulator parts k.key1 k.key2) ≡ maps.get parts k) (λ i. record { code = sym is i; key1 = q.key1; key2 = q.key2 }) (context_found parts q.key1 q.key2)
-  ]
+  abbrev entries : List Part
+  entries = maps.entries parts
 
-  -- ---- the emulators of an id
+  of_code : (c : ℕ) (q : PartKey) → find part_cmp q (parts_of c entries) ≡ cond (q.code == c) (maps.get parts q) None
+  of_code c q = find-where_key part_cmp (λ (k : PartKey). k.code == c) q (λ x e. ap (λ (k : PartKey). k.code == c) (sym (part_exact q x e))) entries ∙ ap (λ o. cond (q.code == c) o None) (sym (maps.get-entries parts q))
 
-  module _ (id : ℕ) where
-    indexed : (index : ℕ) → All (λ p. p.0.key2 ≡ index) (parts_of_emulator parts id index)
-    indexed index = one_all parts id index (λ p. p.0.key2 ≡ index) (λ bytes is. refl) (λ bytes is. refl)
-
-    id_keys : (n : ℕ) → 256 ≡ n → All (λ p. p.0.key1 ≡ id) (parts_of_id parts id)
-    unfolding parts_of_id
-    id_keys n is =
-        subst (λ m. All (λ (p : Part). p.0.key1 ≡ id) (parts_below parts m id)) (sym is)
-        (all_in (λ k. k.key2) (parts_of_emulator parts id) (λ p. p.0.key1 ≡ id) 0 n (λ index less. one_all parts id index (λ p. p.0.key1 ≡ id) (λ bytes is. refl) (λ bytes is. refl)))
-
-    id_holds : (n : ℕ) → 256 ≡ n → id < 3 → All (IsEmulatorPart parts) (parts_of_id parts id)
-    unfolding parts_of_id
-    id_holds n is known =
-        subst (λ m. All (IsEmulatorPart parts) (parts_below parts m id)) (sym is)
-        (all_in (λ k. k.key2) (parts_of_emulator parts id) (IsEmulatorPart parts) 0 n (λ index less. one_holds parts id index known (omega (arith, less, is))))
-
-    id_differ : (n : ℕ) → 256 ≡ n → KeysDiffer (parts_of_id parts id)
-    unfolding parts_of_id
-    id_differ n is = subst (λ m. KeysDiffer (parts_below parts m id)) (sym is) (runs_differ (λ k. k.key2) (parts_of_emulator parts id) indexed 0 n (one_differ parts id))
-
-    id_found : (n : ℕ) → 256 ≡ n → (q : PartKey) → q.key2 < n → find part_cmp q (parts_of_id parts id) ≡ find part_cmp q (parts_of_emulator parts id q.key2)
-    unfolding parts_of_id
-    id_found n is q small = ap (λ m. find part_cmp q (parts_below parts m id)) is ∙ found_at (λ k. k.key2) (parts_of_emulator parts id) indexed q 0 n (omega arith) (omega (arith, small))
-
-  -- ---- all emulators
-
-  keyed : (id : ℕ) → All (λ p. p.0.key1 ≡ id) (parts_of_id parts id)
-  keyed id = id_keys id 256 refl
-
-  -- each is a part of the guest
-  pub in_order_holds : All (IsEmulatorPart parts) (emulators_in_order parts)
+  pub order_is : emulators_in_order parts ≡ emulators_after parts None None
   unfolding emulators_in_order
-  in_order_holds = all_in (λ k. k.key1) (parts_of_id parts) (IsEmulatorPart parts) 0 3 (λ id less. id_holds id 256 refl less)
+  order_is = refl
+
+  found : (q : PartKey) → find emulator_cmp q (emulators_in_order parts) ≡ cond (is_emulator_code q.code) (maps.get parts q) None
+  found q =
+      ap (find emulator_cmp q) order_is ∙ order_found (parts_of 258 entries ++ parts_of 259 entries) q ∙ find_join q (parts_of 258 entries) (parts_of 259 entries)
+      ∙ (λ i. option_or (of_code 258 q i) (of_code 259 q i)) ∙ mixed (q.code == 258) (q.code == 259) (maps.get parts q)
+
+  -- the parts that stand there are exactly those of emulators
+  pub emulators_found : (q : PartKey) → find part_cmp q (emulators_in_order parts) ≡ cond (is_emulator_code q.code) (maps.get parts q) None
+  emulators_found q = sym (find_alike q (emulators_in_order parts)) ∙ found q
+
+  in_order_sorted : T (is_sorted emulator_cmp (emulators_in_order parts))
+  in_order_sorted = subst (λ l. T (is_sorted emulator_cmp l)) (sym order_is) (sorted (parts_of 258 entries ++ parts_of 259 entries))
 
   -- and no key stands twice
   pub in_order_differ : KeysDiffer (emulators_in_order parts)
-  unfolding emulators_in_order
-  in_order_differ = runs_differ (λ k. k.key1) (parts_of_id parts) keyed 0 3 (λ id. id_differ id 256 refl)
+  in_order_differ = sorted_differ (emulators_in_order parts) in_order_sorted
 
-  -- each part of an emulator stands there
-  pub in_order_found : (q : PartKey) → is_emulator_code q.code ≡ true → q.key1 < 3 → q.key2 < 256 → find part_cmp q (emulators_in_order parts) ≡ maps.get parts q
-  unfolding emulators_in_order
-  in_order_found q code known small = found_at (λ k. k.key1) (parts_of_id parts) keyed q 0 3 (omega arith) known ∙ id_found q.key1 256 refl q small ∙ one_found q code
+  -- each is a part of the guest
+  pub in_order_holds : All (IsEmulatorPart parts) (emulators_in_order parts)
+  in_order_holds = all_found emulator_total emulator_exact (IsEmulatorPart parts) (emulators_in_order parts) in_order_sorted (λ q v is. by q v (is_emulator_code q.code) refl (sym (found q) ∙ is))
+    where
+      by : (q : PartKey) (v : List ℕ) (b : Bool) → is_emulator_code q.code ≡ b → cond b (maps.get parts q) None ≡ Some v → IsEmulatorPart parts (q, v)
+      by q v true code is = record { there = is; code = code }
+      by q v false code is = absurd (cc)
+
+  -- a part that is met on the way
+  pub met_holds : (done rest : List Part) (e : Part) → emulators_in_order parts ≡ done ++ (e ∷ rest) → IsEmulatorPart parts e
+  met_holds done rest e is = by done (subst (All (IsEmulatorPart parts)) is in_order_holds)
+    where
+      by : (xs : List Part) → All (IsEmulatorPart parts) (xs ++ (e ∷ rest)) → IsEmulatorPart parts e
+      by [] all = All-head (IsEmulatorPart parts) e rest all
+      by (x ∷ xs) all = by xs (All-tail (IsEmulatorPart parts) x (xs ++ (e ∷ rest)) all)
+
+-- maps that are alike at the keys of emulators have the same
+pub order_alike : (m n : PartMap) → ((q : PartKey) → is_emulator_code q.code ≡ true → maps.get m q ≡ maps.get n q) → emulators_in_order m ≡ emulators_in_order n
+order_alike m n same =
+    let stores = same_parts 258 m n (λ q is. same q (ap is_emulator_code is)) in let contexts = same_parts 259 m n (λ q is. same q (ap is_emulator_code is)) in
+    order_is m ∙ (λ i. in_emulator_order (stores i ++ contexts i)) ∙ sym (order_is n)
+
+-- ---- what the order is in words
+
+each_found : (ps : List Part) → T (is_sorted emulator_cmp ps) → All (λ p. find emulator_cmp p.0 ps ≡ Some p.1) ps
+each_found ps h = all_found emulator_total emulator_exact (λ p. find emulator_cmp p.0 ps ≡ Some p.1) ps h (λ q v is. is)
+
+contained : (ps : List Part) (p : Part) → T (is_sorted emulator_cmp ps) → Contains ps p ↔ (find emulator_cmp p.0 ps ≡ Some p.1)
+contained ps p h = (
+  All-contains (λ p. find emulator_cmp p.0 ps ≡ Some p.1) ps p (each_found ps h),
+  λ is. found_holds (Contains ps) p.0 p.1 ps (All-contains_itself ps) (sym (find_alike p.0 ps) ∙ is),
+)
+
+said : (b : Bool) (o : Option (List ℕ)) (v : List ℕ) → (cond b o None ≡ Some v) ↔ ((o ≡ Some v) × (b ≡ true))
+said true o v = (λ is. (is, refl), λ is. is.0)
+said false o v = (λ is. absurd (cc), λ is. absurd (let no : false ≡ true = is.1 in cc))
+
+same_option : (o r : Option (List ℕ)) → ((v : List ℕ) → (o ≡ Some v) ↔ (r ≡ Some v)) → o ≡ r
+same_option None None same = refl
+same_option None (Some v) same = (same v).1 refl
+same_option (Some v) r same = sym ((same v).0 refl)
+
+pub emulators_ascend : (parts : PartMap) (ps : List Part) → (ps ≡ emulators_in_order parts) ↔ AreEmulatorsInOrder parts ps
+emulators_ascend parts ps = (
+  (λ is. subst (AreEmulatorsInOrder parts) (sym is) record {
+    each = λ p. let holds = contained (emulators_in_order parts) p (in_order_sorted parts) in let there = said (is_emulator_code p.0.code) (maps.get parts p.0) p.1 in
+        (λ c. there.0 (sym (found parts p.0) ∙ holds.0 c), λ t. holds.1 (found parts p.0 ∙ there.1 t));
+    ascend = in_order_sorted parts;
+  }),
+  (λ are. same_entries emulator_cmp emulator_total emulator_exact ps (emulators_in_order parts) are.ascend (in_order_sorted parts) (λ q.
+      same_option _ _ (λ v. let holds = contained ps (q, v) are.ascend in let there = said (is_emulator_code q.code) (maps.get parts q) v in
+      (λ is. found parts q ∙ there.1 ((are.each (q, v)).0 (holds.1 is)), λ is. holds.0 ((are.each (q, v)).1 (there.0 (sym (found parts q) ∙ is))))))),
+)
 
 -- ---- a guest that is well formed
 
@@ -201,18 +261,38 @@ module _ (g : GuestOf) (formed : IsFormed g) where
         let (x, y) = and_parts (nat_lt q.key1 3) (nat_lt q.key2 256) one.keys in (ltb-true q.key1 3 x, ltb-true q.key2 256 y)
   ]
 
-  -- the parts that stand there are exactly those of its emulators
-  pub emulators_found : (q : PartKey) → find part_cmp q (emulators_in_order g.parts) ≡ cond (is_emulator_code q.code) (maps.get g.parts q) None
-  emulators_found q = elim (is_emulator_code q.code) as (λ b. is_emulator_code q.code ≡ b → find part_cmp q (emulators_in_order g.parts) ≡ cond b (maps.get g.parts q) None) [
-    | true ↦ λ t. emulated t (maps.get g.parts q) refl (find part_cmp q (emulators_in_order g.parts)) refl
-    | false ↦ λ t. other t (find part_cmp q (emulators_in_order g.parts)) refl
-  ] refl
-    where
-      other : is_emulator_code q.code ≡ false → (o : Option (List ℕ)) → find part_cmp q (emulators_in_order g.parts) ≡ o → find part_cmp q (emulators_in_order g.parts) ≡ None
-      other plain None is = is
-      other plain (Some bytes) is = let no : true ≡ false = sym (found_holds (IsEmulatorPart g.parts) q bytes (emulators_in_order g.parts) (in_order_holds g.parts) is).code ∙ plain in absurd (cc)
+  -- ---- how many there are
 
-      emulated : is_emulator_code q.code ≡ true → (o : Option (List ℕ)) → maps.get g.parts q ≡ o → (f : Option (List ℕ)) → find part_cmp q (emulators_in_order g.parts) ≡ f → find part_cmp q (emulators_in_order g.parts) ≡ maps.get g.parts q
-      emulated code (Some bytes) got f is = let (known, small) = small_keys q bytes code got in in_order_found g.parts q code known small
-      emulated code None got None is = is ∙ sym got
-      emulated code None got (Some bytes) is = is ∙ sym (found_holds (IsEmulatorPart g.parts) q bytes (emulators_in_order g.parts) (in_order_holds g.parts) is).there
+  -- a number that rises from part to part
+  abbrev place : Part → ℕ
+  place p = 512 * p.0.key1 + 2 * p.0.key2 + p.0.code
+
+  pub record IsSmall (p : Part) : Type 0 where
+    pub id : p.0.key1 < 3
+    pub index : p.0.key2 < 256
+    pub least : 258 ≤ p.0.code
+    pub most : p.0.code ≤ 259
+
+  are_small : All IsSmall (emulators_in_order g.parts)
+  are_small = All-weaker (IsEmulatorPart g.parts) IsSmall (λ p is. let (id, index) = small_keys p.0 p.1 is.code is.there in elim (or_cases (p.0.code == 258) (p.0.code == 259) is.code) [
+    | inl a ↦ let e = eqb-true p.0.code 258 a in record { id = id; index = index; least = omega (arith, e); most = omega (arith, e) }
+    | inr b ↦ let e = eqb-true p.0.code 259 b in record { id = id; index = index; least = omega (arith, e); most = omega (arith, e) }
+  ]) (emulators_in_order g.parts) (in_order_holds g.parts)
+
+  rises : (p q : Part) → IsSmall p → IsSmall q → is_lt (emulator_cmp p.0 q.0) ≡ true → place p < place q
+  rises p q one two l = grind (arith, common_steps, one.index, one.most, two.index, two.least, l)
+
+  few : (p : Part) (ps : List Part) → T (is_sorted emulator_cmp (p ∷ ps)) → All IsSmall (p ∷ ps) → place p + length (p ∷ ps) ≤ 1794
+  few p [] h all = let s = All-head IsSmall p [] all in omega (arith, s.id, s.index, s.most)
+  few p (q ∷ ps) h all =
+      let (below, others) = both_of (below_all emulator_cmp p.0 (q ∷ ps)) (is_sorted emulator_cmp (q ∷ ps)) h in
+      let up = (both_of (is_lt (emulator_cmp p.0 q.0)) (below_all emulator_cmp p.0 ps) below).0 in
+      let rest = All-tail IsSmall p (q ∷ ps) all in
+      omega (arith, rises p q (All-head IsSmall p (q ∷ ps) all) (All-head IsSmall q ps rest) (true_of _ up), few q ps others rest)
+
+  pub few_emulators : length (emulators_in_order g.parts) ≤ 1794
+  few_emulators = by (emulators_in_order g.parts) (in_order_sorted g.parts) are_small
+    where
+      by : (ps : List Part) → T (is_sorted emulator_cmp ps) → All IsSmall ps → length ps ≤ 1794
+      by [] h all = omega arith
+      by (p ∷ ps) h all = omega (arith, few p ps h all)

@@ -11,11 +11,17 @@ use Rattle.mig_libxl.specs.Canon.{emulator_body, emulator_record}
 use Rattle.mig_libxl.specs.Spelled.{IsFront, IsLibxlRecord}
 use Rattle.mig_libxl.specs.Spelled.HasLibxlContent.{pairs as says_pairs, context as says_context}
 use Rattle.mig_libxl.specs.Spelled.IsLibxlRecord.{body as a_body}
-use Rattle.mig_libxl.proofs.EmulatorParts.{IsEmulatorPart, pairs_of_emulator, context_of_emulator}
+use Rattle.mig_libxl.proofs.EmulatorParts.{IsEmulatorPart, small_keys}
 use Rattle.mig_libxl.proofs.EmulatorTexts.{key_front}
 use Rattle.mig_canon_laws.proofs.CanonParts.{is_record}
 
 -- ---- what a part's record says
+
+abbrev pairs_of_emulator : ℕ → ℕ → PartKey
+pairs_of_emulator id index = record { code = 258; key1 = id; key2 = index }
+
+abbrev context_of_emulator : ℕ → ℕ → PartKey
+context_of_emulator id index = record { code = 259; key1 = id; key2 = index }
 
 abbrev pub content_of : Part → LibxlContent
 content_of p = if p.0.code == 258 then Pairs p.0 (pairs_in p.1) else Context p.0 p.1
@@ -78,11 +84,11 @@ module _ (g : GuestOf) (formed : IsFormed g) where
 
   -- each record of an emulator's part is spelled as the format says
   pub emulator_is_spelled : (p : Part) → IsEmulatorPart g.parts p → IsLibxlRecord (record_of_part p) (emulator_record p)
-  emulator_is_spelled p is = elim (or_cases (p.0.code == 258) (p.0.code == 259) is.code) [
+  emulator_is_spelled p is = let (known, small) = small_keys g formed p.0 p.1 is.code is.there in elim (or_cases (p.0.code == 258) (p.0.code == 259) is.code) [
     | inl a ↦ let code = eqb-true p.0.code 258 a in let some = some_pairs p.0 p.1 code is.there in
         subst (λ (x : Part). IsLibxlRecord (record_of_part x) (emulator_record x)) (λ i. (record { code = sym code i; key1 = p.0.key1; key2 = p.0.key2 }, p.1))
-        (pairs_record p.0.key1 p.0.key2 p.1 is.known is.small (let few = some.few in omega (arith, few)) ((pairs_are_read p.1 (pairs_in p.1)).0 (some_bytes_are_some_pairs.sound p.1 some.canonical, refl)))
+        (pairs_record p.0.key1 p.0.key2 p.1 known small (let few = some.few in omega (arith, few)) ((pairs_are_read p.1 (pairs_in p.1)).0 (some_bytes_are_some_pairs.sound p.1 some.canonical, refl)))
     | inr b ↦ let code = eqb-true p.0.code 259 b in
         subst (λ (x : Part). IsLibxlRecord (record_of_part x) (emulator_record x)) (λ i. (record { code = sym code i; key1 = p.0.key1; key2 = p.0.key2 }, p.1))
-        (context_record p.0.key1 p.0.key2 p.1 is.known is.small (short_context p.0 p.1 code is.there))
+        (context_record p.0.key1 p.0.key2 p.1 known small (short_context p.0 p.1 code is.there))
   ]

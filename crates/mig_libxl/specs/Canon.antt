@@ -1,14 +1,17 @@
 -- The canonical stream of a guest: its canonical image, and around that a libxl stream where the guest has emulators (libxl
 -- migration stream, "Header" and "Records").
-use Rattle.std.specs.Prelude.{ℕ, ◌-◌, Bool, List, [], ◌∷◌, ◌++◌, Option, Some, None, ◌==◌, ◌&&◌, not, if◌then◌else◌}
-use Rattle.std.specs.List.{flat_map, list_any, range_with_len}
+use Rattle.std.specs.Prelude.{◌≡◌, ◌↔◌, T, ℕ, ◌-◌, Bool, true, List, [], ◌∷◌, ◌++◌, Option, Some, None, ◌==◌, ◌&&◌, not, if◌then◌else◌}
+use Rattle.std.specs.List.{flat_map, list_any, Contains}
+use Rattle.std.specs.Ordering.{nat_cmp, on, then_cmp}
+use Rattle.std.specs.declared.cmp.Ordering.{Ordering}
 use Rattle.std.specs.FinMap as maps
+use Rattle.std.specs.FinMap.{is_sorted}
 use Rattle.byteorder.specs.Endian.{little_bytes}
 use Rattle.mig_headers.specs.Headers.{libxl_header_of}
 use Rattle.mig_guest.specs.declared.part_key.PartKey.{PartKey}
 use Rattle.mig_guest.specs.Formed.{is_emulator_code}
 use Rattle.mig_guest.specs.Guests.{GuestOf}
-use Rattle.mig_guest.specs.Parts.{Part, PartMap}
+use Rattle.mig_guest.specs.Parts.{Part, PartMap, parts_after}
 use Rattle.mig_records.specs.Records.{spelled}
 use Rattle.mig_canon.specs.Canon.{canon}
 
@@ -30,32 +33,34 @@ emulator_body p = little_bytes 4 p.0.key1 ++ (little_bytes 4 p.0.key2 ++ p.1)
 unfoldable pub emulator_record : Part → List ℕ
 emulator_record p = spelled (p.0.code - 256) (emulator_body p)
 
-abbrev pub part_with : PartKey → Option (List ℕ) → List Part
-part_with key None = []
-part_with key (Some bytes) = (key, bytes) ∷ []
+-- ---- their order
 
--- of the emulator of this id and index its pairs, and then its context, as far as they are there
-abbrev pub parts_of_emulator : PartMap → ℕ → ℕ → List Part
-parts_of_emulator parts id index =
-    let pairs : PartKey = record { code = 258; key1 = id; key2 = index } in
-    let context : PartKey = record { code = 259; key1 = id; key2 = index } in
-    part_with pairs (maps.get parts pairs) ++ part_with context (maps.get parts context)
+-- compares the ids of emulators, then their indices, and then the codes, of which that of pairs is less
+abbrev pub emulator_cmp : PartKey → PartKey → Ordering
+emulator_cmp = then_cmp (on (λ k. k.key1) nat_cmp) (then_cmp (on (λ k. k.key2) nat_cmp) (on (λ k. k.code) nat_cmp))
 
--- of the first n emulators of this id
-abbrev pub parts_below : PartMap → ℕ → ℕ → List Part
-parts_below parts n id = flat_map (parts_of_emulator parts id) (range_with_len 0 n)
+-- these parts, in the order of their keys
+abbrev pub in_emulator_order : List Part → List Part
+in_emulator_order ps = maps.entries (maps.from_entries {R = emulator_cmp} ps)
 
--- of all emulators of this id: indices are below 256
-unfoldable pub parts_of_id : PartMap → ℕ → List Part
-parts_of_id parts id = parts_below parts 256 id
+-- the pairs of emulators behind this key, and the contexts behind that one, in this order; with no key all
+abbrev pub emulators_after : PartMap → Option PartKey → Option PartKey → List Part
+emulators_after parts pairs context = in_emulator_order (parts_after 258 pairs (maps.entries parts) ++ parts_after 259 context (maps.entries parts))
 
--- of all emulators of the first n ids
-abbrev pub parts_of_ids : PartMap → ℕ → List Part
-parts_of_ids parts n = flat_map (parts_of_id parts) (range_with_len 0 n)
+-- the first of them, where there is one, and then those behind it
+abbrev pub NextEmulator : PartMap → Option PartKey → Option PartKey → Option Part → Type 0
+NextEmulator parts pairs context None = emulators_after parts pairs context ≡ []
+NextEmulator parts pairs context (Some e) =
+    emulators_after parts pairs context ≡ e ∷ (if e.0.code == 258 then emulators_after parts (Some e.0) context else emulators_after parts pairs (Some e.0))
 
--- ids are below 3
+-- all parts of emulators
 unfoldable pub emulators_in_order : PartMap → List Part
-emulators_in_order parts = parts_of_ids parts 3
+emulators_in_order parts = emulators_after parts None None
+
+-- each part of an emulator stands there, and no other; the keys ascend by id, index and code
+pub record AreEmulatorsInOrder (parts : PartMap) (ps : List Part) : Type 0 where
+  pub each : (p : Part) → Contains ps p ↔ ((maps.get parts p.0 ≡ Some p.1) × (is_emulator_code p.0.code ≡ true))
+  pub ascend : T (is_sorted emulator_cmp ps)
 
 abbrev pub text_of_emulators : List Part → List ℕ
 text_of_emulators ps = flat_map emulator_record ps

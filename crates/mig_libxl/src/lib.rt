@@ -17,7 +17,7 @@ mod numbers;
 mod read;
 mod write;
 
-pub use canon_law::{canon_is_accepted, canon_is_one_to_one, twice_is_once};
+pub use canon_law::{canon_is_accepted, canon_is_one_to_one, emulators_ascend, twice_is_once};
 pub use head::{RecordsBehind, libxl_head_fault};
 pub use law::{
     accepted_is_stream, accepted_or_refused, accepted_stream_is_whole, never_both, one_front,

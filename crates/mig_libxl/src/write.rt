@@ -1,4 +1,6 @@
-ghost use Rattle.std.specs.Prelude.{◌≡◌, ◌+◌, ◌≤◌, ◌<◌, ◌==◌, ◌&&◌, ◌++◌, [], true, length};
+ghost use Rattle.std.specs.Prelude.{◌≡◌, ◌+◌, ◌≤◌, ◌==◌, ◌&&◌, ◌++◌, [], true, length, IfSome};
+ghost use Rattle.std.specs.Option.{option_map};
+ghost use Rattle.std.specs.Ordering.{is_lt};
 ghost use Rattle.std.specs.List.{list_any};
 ghost use Rattle.std.specs.FinMap as maps;
 ghost use Rattle.byteorder.specs.Endian.{little_bytes};
@@ -8,9 +10,9 @@ ghost use Rattle.mig_headers.specs.RecordTypes.{most_body};
 ghost use Rattle.mig_guest.specs.Formed.{IsFormed, is_emulator_code};
 ghost use Rattle.mig_pvtables.specs.Whole.{IsWhole};
 ghost use Rattle.mig_records.specs.Records.{spelled};
-ghost use Rattle.mig_libxl.specs.Canon.{has_emulators as some_emulators, is_of_converter as from_converter, emulator_record, part_with, parts_of_emulator, parts_of_id, emulators_in_order, text_of_emulators, opening_text, wrapper_opening, wrapper_closing, canon_any};
+ghost use Rattle.mig_libxl.specs.Canon.{has_emulators as some_emulators, is_of_converter as from_converter, emulator_record, emulator_cmp, NextEmulator, emulators_in_order, text_of_emulators, opening_text, wrapper_opening, wrapper_closing, canon_any};
 
-use crate::numbers::{CONTEXT, EMULATORS, INDICES, LIBXC_CONTEXT, LIBXL_END, PAIRS};
+use crate::numbers::{CONTEXT, LIBXC_CONTEXT, LIBXL_END, PAIRS};
 use mig_bytes::{Sink, WriteFailed, put_all, put_u32_le};
 use mig_canon::write_canon;
 use mig_guest::{Guest, PartKey};
@@ -61,63 +63,53 @@ pub fn close_wrapper<K: Sink>(sink: &mut K) -> Result<(), WriteFailed>
     write_record(sink, LIBXL_END, &[])
 }
 
-/// Appends the record of the part of this key, where the guest has it.
-#[tactic(auto, using(mig_bytes::proofs::Texts::puts_same, crate::proofs::EmulatorTexts::text_alone, crate::proofs::EmulatorTexts::short_emulator))]
-fn write_part<K: Sink>(sink: &mut K, guest: &Guest, key: PartKey) -> Result<(), WriteFailed>
-    requires formed { IsFormed guest.now }
-    requires code { is_emulator_code key.code ≡ true }
-    ensures bytes { Puts (text_of_emulators (part_with key (maps.get guest.now.parts key))) (K.written sink.old) (K.written sink.new) result }
-    ensures cause { HasCause (K.faults sink.old) (K.faults sink.new) result }
+/// Whether a part of the first key stands before one of the second: ids ascend, of an id indices, and of an index codes.
+fn stands_before(first: PartKey, second: PartKey) -> bool
+    ensures { result ≡ is_lt (emulator_cmp first second) }
 {
-    match guest.part(key) {
-        Some(bytes) => write_emulator(sink, key, bytes),
-        None => Ok(()),
+    (first.key1, first.key2, first.code) < (second.key1, second.key2, second.code)
+}
+
+/// The first of the emulators' parts that stand behind these keys, or of all.
+fn next_emulator(
+    guest: &Guest,
+    pairs: Option<PartKey>,
+    context: Option<PartKey>,
+) -> Option<(PartKey, &[u8])>
+    requires pairs { IfSome pairs (λ k. k.code ≡ 258) }
+    requires context { IfSome context (λ k. k.code ≡ 259) }
+    ensures next { NextEmulator guest.now.parts pairs context (option_map (λ e. (e.0, e.1.now)) result) }
+{
+    match guest.next_of_code(PAIRS, pairs) {
+        Some((key, bytes)) => match guest.next_of_code(CONTEXT, context) {
+            Some((other, content)) => {
+                if stands_before(other, key) {
+                    Some((other, content))
+                } else {
+                    Some((key, bytes))
+                }
+            }
+            None => Some((key, bytes)),
+        },
+        None => guest.next_of_code(CONTEXT, context),
     }
 }
 
-/// Appends the records of the emulator of this id and index.
-#[tactic(auto, using(mig_bytes::proofs::Texts::puts_then, mig_bytes::proofs::Texts::puts_stop, mig_bytes::proofs::Texts::puts_same, crate::proofs::EmulatorTexts::text_of_one))]
-fn write_one<K: Sink>(sink: &mut K, guest: &Guest, id: u32, index: u32) -> Result<(), WriteFailed>
-    requires formed { IsFormed guest.now }
-    ensures bytes { Puts (text_of_emulators (parts_of_emulator guest.now.parts id index)) (K.written sink.old) (K.written sink.new) result }
-    ensures cause { HasCause (K.faults sink.old) (K.faults sink.new) result }
-{
-    let pairs = PartKey {
-        code: PAIRS,
-        key1: id,
-        key2: index,
-    };
-    let context = PartKey {
-        code: CONTEXT,
-        key1: id,
-        key2: index,
-    };
-    write_part(sink, guest, pairs)?;
-    write_part(sink, guest, context)
-}
-
-/// Appends the records of the emulators of this id, indices ascending.
-#[tactic(auto, using(mig_bytes::proofs::Texts::puts_same, crate::proofs::EmulatorTexts::emulator_next, crate::proofs::EmulatorTexts::emulators_end))]
-fn write_id<K: Sink>(sink: &mut K, guest: &Guest, id: u32) -> Result<(), WriteFailed>
-    requires formed { IsFormed guest.now }
-    ensures bytes { Puts (text_of_emulators (parts_of_id guest.now.parts id)) (K.written sink.old) (K.written sink.new) result }
-    ensures cause { HasCause (K.faults sink.old) (K.faults sink.new) result }
-{
-    for index in 0..INDICES {
-        write_one(sink, guest, id, index)?;
-    }
-    Ok(())
-}
-
-/// Appends the records of all emulators, ids ascending.
-#[tactic(auto, using(mig_bytes::proofs::Texts::puts_same, crate::proofs::EmulatorTexts::id_next, crate::proofs::EmulatorTexts::ids_end))]
+/// Appends the records of all emulators: ids ascend, of an id indices, and of an index pairs stand before a context.
 fn write_emulators<K: Sink>(sink: &mut K, guest: &Guest) -> Result<(), WriteFailed>
     requires formed { IsFormed guest.now }
     ensures bytes { Puts (text_of_emulators (emulators_in_order guest.now.parts)) (K.written sink.old) (K.written sink.new) result }
     ensures cause { HasCause (K.faults sink.old) (K.faults sink.new) result }
 {
-    for id in 0..EMULATORS {
-        write_id(sink, guest, id)?;
+    let mut pairs = None;
+    let mut context = None;
+    while let Some((key, bytes)) = next_emulator(guest, pairs, context) {
+        write_emulator(sink, key, bytes)?;
+        if key.code == PAIRS {
+            pairs = Some(key);
+        } else {
+            context = Some(key);
+        }
     }
     Ok(())
 }
