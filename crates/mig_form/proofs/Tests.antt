@@ -1,12 +1,13 @@
 -- What a test gives is what its condition says; and so for a table of them.
-use Rattle.std.proofs.Common.{ℕ, ◌≡◌, ◌⊎◌, inl, inr, ◌<◌, ◌≤◌, Bool, true, false, cond, not, nat_eq, nat_le, nat_lt, ◌&&◌, ◌||◌, List, [], ◌∷◌, ◌++◌, Option, Some, None, refl, ap, subst, arith, ltb-true, ltb-false, eqb-true, leb-true}
+use Rattle.std.proofs.Common.{ℕ, ◌≡◌, ◌⊎◌, inl, inr, ◌<◌, ◌≤◌, Bool, true, false, cond, not, nat_eq, nat_le, nat_lt, ◌&&◌, ◌||◌, List, [], ◌∷◌, ◌++◌, Option, Some, None, refl, sym, ap, subst, arith, ltb-true, ltb-false, eqb-true, leb-true}
 use Rattle.std.proofs.lemmas.Bool.{and_parts, eqb-false, leb-false, false≢true}
+use Rattle.std.proofs.lemmas.Option.{none-some}
 use Rattle.std.specs.Option.{option_map, option_or}
 use Rattle.mig_form.specs.Tests.{Test, Holding, is_passed, first_named, NoneHolds, NamedIn, HasIn, is_ascending, computed, retold_rows}
 use Rattle.mig_form.specs.Tests.Test.{Less, AtMost, Equal, Is, Not, Both, Either}
 use Rattle.mig_form.specs.Tests.NamedIn.{this, later}
 use Rattle.mig_form.specs.Tests.HasIn.{here, there}
-use Rattle.std.specs.List.{list_all}
+use Rattle.std.specs.List.{AllByRecursion, list_all}
 
 -- a truth value tells whether A
 abbrev Told : Type 0 → Bool → Type 0
@@ -96,6 +97,21 @@ module _ {C : Type 0} where
       by : (o : Option C) → RowsTold rows o → o ≡ Some c
       by None told = absurd (none_named rows c told named)
       by (Some d) told = ap Some (one_named rows d c told named)
+
+-- ---- by the tests
+
+-- where no cause is named no test passes
+pub rows_fine : {C : Type 0} (rows : List (Test × C)) → first_named rows ≡ None → AllByRecursion (λ row. is_passed row.0 ≡ false) rows
+rows_fine [] h = tt
+rows_fine {C} (row ∷ rows) h = by (is_passed row.0) refl h (rows_fine rows)
+  where
+    by : (b : Bool) → is_passed row.0 ≡ b → cond b (Some row.1) (first_named rows) ≡ None → (first_named rows ≡ None → AllByRecursion (λ row. is_passed row.0 ≡ false) rows) → (is_passed row.0 ≡ false) × AllByRecursion (λ row. is_passed row.0 ≡ false) rows
+    by true is named others = absurd (none-some row.1 (sym named))
+    by false is none others = (is, others none)
+
+pub no_fault : {C : Type 0} (rows : List (Test × C)) → AllByRecursion (λ row. is_passed row.0 ≡ false) rows → first_named rows ≡ None
+no_fault [] h = refl
+no_fault (row ∷ rows) h = rw h.0 (no_fault rows h.1)
 
 -- in a table in the order of numbers the cause that is named has the least number of those that stand
 module _ {C : Type 0} (number : C → ℕ) where

@@ -20,13 +20,20 @@ pub use Rattle.std.specs.declared.cmp.Ordering.TheVariants.{Equal, Greater, Less
 pub use Rattle.byteorder.specs.Endian.{big_number, little_bytes}
 pub use Rattle.byteorder.specs.Numbers.{big_from-take, little_number-reads_back}
 pub use Rattle.mig_bytes.proofs.ByteLists.{Bytes, bytes_back, bytes_front, field_below, field_size, long_back, word_back, word_below}
-pub use Rattle.mig_bytes.proofs.Joins.{both_pass, done, mapped, part_passes, part_whole, placed_passes, same_passes, seq, stopped, then_passes}
-pub use Rattle.mig_bytes.proofs.Placed.{one_more, one_stops, placed_ends, placed_fine, placed_then, told}
+pub use Rattle.mig_bytes.proofs.Joins.{both_pass, done, judged_so, placed_passes, same_passes, then_passes}
+pub use Rattle.mig_bytes.proofs.Placed.{one_more, one_stops, told}
+pub use Rattle.mig_bytes.proofs.Said.{said_goes, said_passes}
 pub use Rattle.mig_bytes.proofs.Taking.{takes_more, takes_none}
 pub use Rattle.mig_bytes.proofs.Texts.{all_parted, flat_more, puts_same, puts_stop, puts_then}
 pub use Rattle.mig_bytes.specs.Bytes.{AppendsPart, AreBytes, Puts, TakesBytes, padding_len}
-pub use Rattle.mig_bytes.specs.Judged.{Gives, Judged, part, placed, ◌>>=◌}
+pub use Rattle.mig_bytes.specs.Judged.{Gives, Judged, placed}
 pub use Rattle.mig_bytes.specs.Judged.Judged.{Passes}
+pub use Rattle.mig_form.proofs.ByParts.{both_go, bytes_go, bytes_gone, first_stops, gives_goes, gives_gone, nothing_read, placed_goes, placed_gone, placed_read, placed_stop, steps_at, steps_go, steps_read, then_goes, then_read, told_then}
+pub use Rattle.mig_form.proofs.Tests.{no_fault, rows_fine}
+unfoldable pub use Rattle.mig_form.specs.Form.{judged_as, ◌>>>◌}
+pub use Rattle.mig_form.specs.Form.{FormOf, placed_form}
+pub use Rattle.mig_form.specs.Form.FormOf.{Gives as Giving}
+pub use Rattle.mig_form.specs.Tests.{first_named, is_passed}
 pub use Rattle.mig_guest.proofs.PartOrder.{part_exact, part_total}
 pub use Rattle.mig_guest.proofs.PartRows.{number_found, numbered, one_code}
 pub use Rattle.mig_guest.specs.Formed.{IsRawContent}
@@ -35,10 +42,9 @@ pub use Rattle.mig_guest.specs.Hosts.{HostFrame, HostFrames, HostOf, IsHostFrame
 pub use Rattle.mig_guest.specs.Order.{IsAbove, part_cmp}
 pub use Rattle.mig_guest.specs.Parts.{FitsPolicy, PartMap, parts_behind, parts_of}
 pub use Rattle.mig_guest.specs.declared.part_key.PartKey.{PartKey}
-pub use Rattle.mig_headers.proofs.FirstFaults.{both_none, no_fault, rows_fine}
 pub use Rattle.mig_headers.specs.Headers.{kind_number, kind_of_number}
 pub use Rattle.mig_headers.specs.declared.image_fault.ImageCause.{ImageCause}
-pub use Rattle.mig_headers.specs.declared.image_fault.ImageCause.TheVariants.{PartBytes, PartPadding, Truncated, ZeroPage}
+pub use Rattle.mig_headers.specs.declared.image_fault.ImageCause.TheVariants.{Truncated}
 pub use Rattle.mig_headers.specs.declared.image_fault.ImagePlace.{ImagePlace}
 pub use Rattle.mig_headers.specs.declared.image_fault.ImagePlace.TheVariants.{Frame, Head, Part, Parts}
 pub use Rattle.mig_headers.specs.declared.kind.Kind.{Kind}
@@ -48,7 +54,9 @@ pub use Rattle.mig_image.specs.declared.version.ImageVersion.{ImageVersion}
 pub use Rattle.mig_image.specs.declared.version.ImageVersion.TheVariants.{One, Two}
 pub use Rattle.mig_host.specs.HostView.{HostAndSpare, has_machine, put_frame, put_part_in}
 pub use Rattle.mig_image.specs.Image.{IsHostImage, IsHostImageUpTo, frame_text, host_word, image_name, is_all_zero, is_left_out, leaves_out, most_width_of, page_left_out, page_text, part_text, pfn_bits, type_bit, zero_flag}
-pub use Rattle.mig_image.specs.ImageParts.{behind_head, bytes_at, code_allows, code_fits, count_at, fault_of_bytes, fault_of_frame, fault_of_host_head, fault_of_name, fault_of_padding, fault_of_part, fault_of_sent, fault_of_sizes, frame_head_at, frame_rows, frame_said, frames_at, has_frame_from, has_part_from, has_reserved, has_zero_flag, head_key, head_pfn, head_type, head_type_number, head_version, host_frame_at, host_head_at, host_page_at, host_parts_at, is_full, is_sent, is_wide, name_number, name_rows, opened, padding_at, page_unsent, part_at, part_head_at, part_rows, sent_page_at, size_rows, version_named}
+pub use Rattle.mig_image.specs.ImageParts.{code_allows, code_fits, frame_said, has_frame_from, has_part_from, has_zero_flag, head_key, head_pfn, head_type, head_type_number, head_version, is_sent, name_number, opened, page_unsent, version_named}
+unfoldable pub use Rattle.mig_image.specs.ImageForm.{image_file_form}
+pub use Rattle.mig_image.specs.ImageForm.{behind_frames, behind_head, content_causes, part_bytes_form, count_form, frame_causes, frame_head_form, frames_form, full_policy, host_at, host_frame_form, host_head_causes, host_head_form, host_part_form, host_parts_form, padding_causes, padding_form, page_causes, page_form, part_causes, part_head_form, reserved_bits, sent_page_form}
 pub use Rattle.mig_image.specs.PartCounts.{Counts}
 pub use Rattle.mig_pagetypes.specs.PageTypes.{all_types, number_of, type_has_data, type_of, type_or_none}
 pub use Rattle.mig_pagetypes.specs.declared.page_type.PageType.{PageType}

@@ -1,8 +1,7 @@
 -- The head of a frame and its page: what they spell is read, and what is read they spell.
-use Rattle.mig_image.proofs.Common.{◌≡◌, ℕ, ◌+◌, ◌*◌, ◌/◌, ◌%◌, ◌^◌, ◌<◌, ◌≤◌, Bool, true, false, cond, not, nat_eq, nat_le, List, [], ◌++◌, length, Option, Some, None, is_some, refl, sym, ap, subst, ◌∙◌, arith, ◌&&◌, and_from, eq-eqb, eqb-true, leb-false, lt-leb, not-false, or_from, or_parts, none-some, same_Some, true≢false, ◌∷◌, little_bytes, little_number-reads_back, Judged, ◌>>=◌, Passes, then_passes, both_pass, same_passes, ImageCause, Truncated, ZeroPage, no_fault, rows_fine, ImageVersion, One, Two, PageType, number_of, type_of, type_or_none, type_has_data, HostFrame, host_word, is_left_out, is_all_zero, leaves_out, most_width_of, page_left_out, page_text, zero_flag, fault_of_sent, frame_said, has_reserved, has_zero_flag, head_pfn, head_type, head_type_number, sent_page_at, Bytes}
+use Rattle.mig_image.proofs.Common.{◌≡◌, ℕ, ◌+◌, ◌*◌, ◌/◌, ◌%◌, ◌^◌, ◌<◌, ◌≤◌, Bool, true, false, cond, not, nat_eq, nat_le, List, [], ◌++◌, length, Option, Some, None, is_some, refl, sym, ap, subst, ◌∙◌, arith, ◌&&◌, and_from, eq-eqb, eqb-true, leb-false, lt-leb, not-false, or_from, or_parts, none-some, same_Some, true≢false, ◌∷◌, little_bytes, little_number-reads_back, Passes, ImageCause, Truncated, no_fault, rows_fine, ImageVersion, One, Two, PageType, number_of, type_of, type_or_none, type_has_data, HostFrame, host_word, is_left_out, is_all_zero, leaves_out, most_width_of, page_left_out, page_text, zero_flag, frame_said, has_zero_flag, head_pfn, head_type, head_type_number, Bytes, FormOf, Giving, judged_as, ◌>>>◌, first_named, is_passed, gives_gone, said_goes, said_passes, page_causes, reserved_bits, sent_page_form}
 use Rattle.mig_bytes.proofs.ByteLists.{long_below}
 use Rattle.mig_bytes.specs.Fields.{le64}
-use Rattle.mig_bytes.proofs.Said.{bytes_pass, said_goes}
 use Rattle.mig_pagetypes.specs.declared.page_type.PageType.TheVariants.{Broken, Xalloc, Xtab}
 use Rattle.mig_pagetypes.proofs.Numbers.{number_small, type_back}
 use Rattle.mig_image.specs.Image.{frame_head_of}
@@ -62,7 +61,7 @@ unfolding frame_head_of
 head_len version pfn f = refl
 
 pub record Says (version : ImageVersion) (head : List ℕ) (e : ℕ × HostFrame) : Type 0 where
-  pub reserved : has_reserved version head ≡ false
+  pub reserved : is_passed (reserved_bits version head) ≡ false
   pub pfn : head_pfn version head ≡ e.0
   pub kind : head_type version head ≡ e.1.type
   pub flag : has_zero_flag version head ≡ is_left_out version e.1.page
@@ -81,7 +80,7 @@ not_large true n small = lt-leb 13 n (small refl)
 not_large false n small = refl
 
 words_read : (version : ImageVersion) (e : ℕ × HostFrame) (head : List ℕ) → e.0 < most_width_of version → is_some e.1.page ≡ type_has_data e.1.type → le64 head 0 ≡ host_word version e.0 e.1
-    → (has_reserved version head ≡ false) × (head_pfn version head ≡ e.0) × (head_type_number version head ≡ number_of e.1.type) × (has_zero_flag version head ≡ is_left_out version e.1.page)
+    → (is_passed (reserved_bits version head) ≡ false) × (head_pfn version head ≡ e.0) × (head_type_number version head ≡ number_of e.1.type) × (has_zero_flag version head ≡ is_left_out version e.1.page)
 words_read One e head below step word =
     let n = number_of e.1.type in
     let none = none_left_out e.1.page in
@@ -134,7 +133,7 @@ says version e below step small =
 -- ---- a head without a fault spells what it says
 
 -- the zero flag comes with data alone
-pub flag_has_data : (version : ImageVersion) (head : List ℕ) → has_reserved version head ≡ false → number_of (head_type version head) ≡ head_type_number version head → (type_has_data (head_type version head) && has_zero_flag version head) ≡ has_zero_flag version head
+pub flag_has_data : (version : ImageVersion) (head : List ℕ) → is_passed (reserved_bits version head) ≡ false → number_of (head_type version head) ≡ head_type_number version head → (type_has_data (head_type version head) && has_zero_flag version head) ≡ has_zero_flag version head
 flag_has_data One head reserved number = by (type_has_data (head_type One head))
   where
     by : (d : Bool) → (d && false) ≡ false
@@ -151,7 +150,7 @@ flag_has_data Two head reserved number = by (type_has_data (head_type Two head))
         let large = no_data (head_type Two head) has in
         absurd (omega (arith, number, small, large))
 
-pub word_said : (version : ImageVersion) (head : List ℕ) (page : Option (List ℕ)) → Bytes head → has_reserved version head ≡ false → number_of (head_type version head) ≡ head_type_number version head → is_left_out version page ≡ has_zero_flag version head
+pub word_said : (version : ImageVersion) (head : List ℕ) (page : Option (List ℕ)) → Bytes head → is_passed (reserved_bits version head) ≡ false → number_of (head_type version head) ≡ head_type_number version head → is_left_out version page ≡ has_zero_flag version head
     → host_word version (head_pfn version head) (frame_said version head page) ≡ le64 head 0
 word_said One head page all reserved number flag =
     let w = le64 head 0 in
@@ -169,7 +168,7 @@ word_said Two head page all reserved number flag =
     ∙ ap (λ k. (w / 2 ^ 60 % 2 ^ 4) * 2 ^ 60 + (k + w % 2 ^ 52)) (flag_of (w / 2 ^ 52 % 2) (has_zero_flag Two head) bit refl)
     ∙ two_back w (long_below 0 head all) none
 
-pub said_head : (version : ImageVersion) (head : List ℕ) (page : Option (List ℕ)) → Bytes head → length head ≡ 16 → has_reserved version head ≡ false → number_of (head_type version head) ≡ head_type_number version head → is_left_out version page ≡ has_zero_flag version head
+pub said_head : (version : ImageVersion) (head : List ℕ) (page : Option (List ℕ)) → Bytes head → length head ≡ 16 → is_passed (reserved_bits version head) ≡ false → number_of (head_type version head) ≡ head_type_number version head → is_left_out version page ≡ has_zero_flag version head
     → frame_head_of version (head_pfn version head) (frame_said version head page) ≡ head
 unfolding frame_head_of
 said_head version head page all size reserved number flag =
@@ -178,25 +177,25 @@ said_head version head page all size reserved number flag =
 -- ---- the page
 
 -- the page behind a head that says so; what isn't sent is known
-abbrev pub page_if : ImageVersion → ℕ → Bool → Option (List ℕ) → List ℕ → Judged ImageCause (Option (List ℕ))
-page_if version pfn sent unsent input = cond sent (sent_page_at version pfn input >>= λ page. Passes (Some page.0) page.1) (Passes unsent input)
+abbrev pub page_if : ImageVersion → ℕ → Bool → Option (List ℕ) → FormOf ImageCause (Option (List ℕ))
+page_if version pfn sent unsent = cond sent (sent_page_form version pfn >>> λ page. Giving (Some page)) (Giving unsent)
 
 abbrev pub unsent_if : Bool → Option (List ℕ)
 unsent_if has = cond has (Some page_left_out) None
 
 module _ (version : ImageVersion) (pfn : ℕ) where
-  some_goes : (p rest : List ℕ) → length p ≡ 4096 → (b : Bool) → is_left_out version (Some p) ≡ b → page_if version pfn (not b) (Some page_left_out) (cond b [] p ++ rest) ≡ Passes (Some p) rest
+  some_goes : (p rest : List ℕ) → length p ≡ 4096 → (b : Bool) → is_left_out version (Some p) ≡ b → judged_as (page_if version pfn (not b) (Some page_left_out)) (cond b [] p ++ rest) ≡ Passes (Some p) rest
+  unfolding judged_as ◌>>>◌
   some_goes p rest size true is = ap (λ l. Passes (Some l) rest) (sym (left_out_is_zeros version p is size))
-  some_goes p rest size false is =
-      then_passes (sent_page_at version pfn (p ++ rest)) (λ page. Passes (Some page.0) page.1) p rest _
-      (said_goes Truncated (fault_of_sent version pfn) (λ l. l) 4096 p rest size (no_fault ((is_left_out version (Some p), ZeroPage pfn) ∷ []) (is, tt))) refl
+  some_goes p rest size false is = said_goes Truncated (λ l. first_named (page_causes version pfn l)) (λ l. Some l) 4096 p rest size (no_fault (page_causes version pfn p) (is, tt))
 
   pub page_goes : (has flag : Bool) (page : Option (List ℕ)) (rest : List ℕ) → is_some page ≡ has → flag ≡ is_left_out version page → ((p : List ℕ) → page ≡ Some p → length p ≡ 4096)
-      → page_if version pfn (has && not flag) (unsent_if has) (page_text version page ++ rest) ≡ Passes page rest
-  page_goes has flag None rest step is whole = ap (λ d. page_if version pfn (d && not flag) (unsent_if d) rest) (sym step)
+      → judged_as (page_if version pfn (has && not flag) (unsent_if has)) (page_text version page ++ rest) ≡ Passes page rest
+  unfolding judged_as
+  page_goes has flag None rest step is whole = ap (λ d. judged_as (page_if version pfn (d && not flag) (unsent_if d)) rest) (sym step)
   page_goes has flag (Some p) rest step is whole =
-      ap (λ d. page_if version pfn (d && not flag) (unsent_if d) (page_text version (Some p) ++ rest)) (sym step)
-      ∙ ap (λ b. page_if version pfn (not b) (Some page_left_out) (page_text version (Some p) ++ rest)) is
+      ap (λ d. judged_as (page_if version pfn (d && not flag) (unsent_if d)) (page_text version (Some p) ++ rest)) (sym step)
+      ∙ ap (λ b. judged_as (page_if version pfn (not b) (Some page_left_out)) (page_text version (Some p) ++ rest)) is
       ∙ some_goes p rest (whole p refl) (is_left_out version (Some p)) refl
 
   -- a page that was found, where the type has data and the flag is set, or not
@@ -206,9 +205,9 @@ module _ (version : ImageVersion) (pfn : ℕ) where
     pub left_out : is_left_out version page ≡ (has && flag)
     pub size : (p : List ℕ) → page ≡ Some p → length p ≡ 4096
 
-  found_sent : (i p rest : List ℕ) → (i ≡ p ++ rest) × (length p ≡ 4096) × (fault_of_sent version pfn p ≡ None) → PageFound true false i (Some p) rest
+  found_sent : (i p rest : List ℕ) → (i ≡ p ++ rest) × (length p ≡ 4096) × (first_named (page_causes version pfn p) ≡ None) → PageFound true false i (Some p) rest
   found_sent i p rest (whole, size, fine) =
-      let (sent, done) = rows_fine ((is_left_out version (Some p), ZeroPage pfn) ∷ []) fine in
+      let (sent, done) = rows_fine (page_causes version pfn p) fine in
       record {
         whole = whole ∙ ap (λ b. cond b [] p ++ rest) (sym sent);
         in_step = refl;
@@ -229,14 +228,14 @@ module _ (version : ImageVersion) (pfn : ℕ) where
   found_none : (flag : Bool) (i : List ℕ) → PageFound false flag i None i
   found_none flag i = record { whole = refl; in_step = refl; left_out = refl; size = λ q is. absurd (none-some q is) }
 
-  pub page_back : (has flag : Bool) (i : List ℕ) (page : Option (List ℕ)) (rest : List ℕ) → (flag ≡ true → leaves_out version ≡ true) → page_if version pfn (has && not flag) (unsent_if has) i ≡ Passes page rest → PageFound has flag i page rest
+  pub page_back : (has flag : Bool) (i : List ℕ) (page : Option (List ℕ)) (rest : List ℕ) → (flag ≡ true → leaves_out version ≡ true) → judged_as (page_if version pfn (has && not flag) (unsent_if has)) i ≡ Passes page rest → PageFound has flag i page rest
+  unfolding judged_as ◌>>>◌
   page_back true true i page rest leaves h =
-      let e = same_passes (Some page_left_out) page i rest h in
+      let e = gives_gone {C = ImageCause} (Some page_left_out) i page rest h in
       subst (λ o. PageFound true true i o rest) e.0 (subst (PageFound true true i (Some page_left_out)) e.1 (found_zeros i (leaves refl)))
   page_back true false i page rest leaves h =
-      let b = both_pass (sent_page_at version pfn i) (λ page. Passes (Some page.0) page.1) page rest h in
-      let e = same_passes (Some b.x) page b.mid rest b.second in
-      subst (λ o. PageFound true false i o rest) e.0 (subst (PageFound true false i (Some b.x)) e.1 (found_sent i b.x b.mid (bytes_pass Truncated (fault_of_sent version pfn) 4096 i b.x b.mid b.first)))
+      let s = said_passes Truncated (λ l. first_named (page_causes version pfn l)) (λ l. Some l) 4096 i page rest h in
+      subst (λ o. PageFound true false i o rest) s.value (found_sent i s.bytes rest (s.whole, s.size, s.fine))
   page_back false flag i page rest leaves h =
-      let e = same_passes None page i rest h in
+      let e = gives_gone {C = ImageCause} None i page rest h in
       subst (λ o. PageFound false flag i o rest) e.0 (subst (PageFound false flag i None) e.1 (found_none flag i))

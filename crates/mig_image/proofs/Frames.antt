@@ -1,11 +1,10 @@
 -- The frames of an image: what they spell is read, what is read they spell, and both are the frames of a valid host.
-use Rattle.mig_image.proofs.Common.{◌≡◌, ℕ, ◌+◌, ◌^◌, ◌<◌, ◌≤◌, false, not, nat_eq, nat_le, nat_lt, List, [], ◌++◌, length, Option, Some, None, is_some, refl, sym, ap, ◌∙◌, arith, append_assoc, ◌∷◌, true, subst, length-append, ◌||◌, ◌==◌, list_any, not-false, or_parts, or_from, leb-false, lt-leb, ne_eqb, eqb-true, eqb-false, and_parts, common_steps, nat_cmp_total, nat_cmp, is_lt, nat_cmp-IsAntisymmetric, Judged, ◌>>=◌, Passes, then_passes, both_pass, same_passes, ImageCause, Truncated, Kind, no_fault, rows_fine, Frame, Pv, Hvm, PageType, number_of, type_of, type_or_none, type_has_data, all_types, is_type_of, HostOf, HostFrame, HostFrames, IsHostFrame, IsValid, ImageVersion, One, Two, frame_text, leaves_out, most_width_of, page_text, has_zero_flag, head_pfn, head_type, has_machine, has_frame_from, frame_rows, fault_of_frame, frame_head_at, host_page_at, frame_said, put_frame, host_frame_at, head_type_number, frames_at, Bytes, bytes_front}
+use Rattle.mig_image.proofs.Common.{◌≡◌, ℕ, ◌+◌, ◌^◌, ◌<◌, ◌≤◌, false, not, nat_eq, nat_le, nat_lt, List, [], ◌++◌, length, Option, Some, None, is_some, refl, sym, ap, ◌∙◌, arith, append_assoc, ◌∷◌, true, subst, length-append, ◌||◌, ◌==◌, list_any, not-false, or_parts, or_from, leb-false, lt-leb, ne_eqb, eqb-true, eqb-false, and_parts, common_steps, nat_cmp_total, nat_cmp, is_lt, nat_cmp-IsAntisymmetric, Judged, Passes, ImageCause, Truncated, Kind, no_fault, rows_fine, Frame, Pv, Hvm, PageType, number_of, type_of, type_or_none, type_has_data, all_types, is_type_of, HostOf, HostFrame, HostFrames, IsHostFrame, IsValid, ImageVersion, One, Two, frame_text, leaves_out, most_width_of, page_text, has_zero_flag, head_pfn, head_type, has_machine, has_frame_from, frame_said, put_frame, head_type_number, Bytes, bytes_front, FormOf, Giving, judged_as, ◌>>>◌, first_named, frame_causes, frame_head_form, page_form, host_frame_form, frames_form, then_goes, both_go, bytes_go, bytes_gone, gives_goes, gives_gone, steps_go}
 use Rattle.std.specs.FinMap as maps
 use Rattle.mig_bytes.specs.Fields.{le64}
 use Rattle.mig_pagetypes.specs.declared.page_type.PageType.TheVariants.{Xtab}
 use Rattle.mig_image.specs.FrameEnds.{EndsAt}
 use Rattle.mig_image.specs.Image.{frame_head_of}
-use Rattle.mig_bytes.proofs.Said.{bytes_pass, said_goes}
 use Rattle.mig_host.proofs.InOrder.{has_from, get_at, get_front, each_entry, no_entry, none_passes, few_ranks, entries_behind, found_passes, nat_rises}
 use Rattle.mig_host.proofs.HostsMade.{valid_frame}
 use Rattle.mig_image.proofs.FieldBytes.{regroup}
@@ -19,10 +18,10 @@ pub record FrameFits (kind : Kind) (width : ℕ) (m : HostFrames) (e : ℕ × Ho
   pub alone : list_any (λ x. x.1.machine == e.1.machine) (maps.entries m) ≡ false
 
 -- so does what a head without a fault and its page say
-pub frame_fits : (version : ImageVersion) (h : HostOf) (head : List ℕ) (page : Option (List ℕ)) → fault_of_frame version h head ≡ None → is_some page ≡ type_has_data (head_type version head) → ((p : List ℕ) → page ≡ Some p → length p ≡ 4096)
+pub frame_fits : (version : ImageVersion) (h : HostOf) (head : List ℕ) (page : Option (List ℕ)) → first_named (frame_causes version h head) ≡ None → is_some page ≡ type_has_data (head_type version head) → ((p : List ℕ) → page ≡ Some p → length p ≡ 4096)
     → FrameFits h.kind h.width h.frames (head_pfn version head, frame_said version head page)
 frame_fits version h head page fine in_step whole =
-    let (reserved, (type, (order, (outside, (machine, (twice, done)))))) = rows_fine (frame_rows version h head) fine in
+    let (reserved, (type, (order, (outside, (machine, (twice, done)))))) = rows_fine (frame_causes version h head) fine in
     let (some, small) = or_parts (nat_eq (le64 head 8) 0) (nat_le (2 ^ 40) (le64 head 8)) machine in
     record {
       is = record {
@@ -45,19 +44,22 @@ frame_fits version h head page fine in_step whole =
 some_machine : (m : ℕ) → 0 < m → m < 2 ^ 40 → (nat_eq m 0 || nat_le (2 ^ 40) m) ≡ false
 some_machine m a b = or_from (nat_eq m 0) (nat_le (2 ^ 40) m) (ne_eqb m 0 (λ e. absurd (omega arith))) (lt-leb (2 ^ 40) m b)
 
-fine : (version : ImageVersion) (h : HostOf) (e : ℕ × HostFrame) (head : List ℕ) → Says version head e → FrameFits h.kind h.width h.frames e → fault_of_frame version h head ≡ None
+fine : (version : ImageVersion) (h : HostOf) (e : ℕ × HostFrame) (head : List ℕ) → Says version head e → FrameFits h.kind h.width h.frames e → first_named (frame_causes version h head) ≡ None
 fine version h e head s f =
     let type = ap (λ k. not (is_type_of h.kind k)) s.kind ∙ ap not f.is.type in
     let order = ap (has_frame_from h) s.pfn ∙ f.behind in
     let outside = ap (nat_le h.width) s.pfn ∙ lt-leb h.width e.0 f.is.inside in
     let machine = ap (λ m. nat_eq m 0 || nat_le (2 ^ 40) m) s.machine ∙ some_machine e.1.machine f.is.some_machine f.is.machine in
     let twice = ap (has_machine h) s.machine ∙ f.alone in
-    no_fault (frame_rows version h head) (s.reserved, (type, (order, (outside, (machine, (twice, tt))))))
+    no_fault (frame_causes version h head) (s.reserved, (type, (order, (outside, (machine, (twice, tt))))))
 
 -- ---- the frame
 
-abbrev pub behind_frame_head : ImageVersion → HostOf → List ℕ × List ℕ → Judged ImageCause HostOf
-behind_frame_head version h a = host_page_at version a.0 a.1 >>= λ page. Passes (put_frame h (head_pfn version a.0) (frame_said version a.0 page.0)) page.1
+abbrev pub behind_page : ImageVersion → HostOf → List ℕ → Option (List ℕ) → FormOf ImageCause HostOf
+behind_page version h head page = Giving (put_frame h (head_pfn version head) (frame_said version head page))
+
+abbrev pub behind_frame_head : ImageVersion → HostOf → List ℕ → FormOf ImageCause HostOf
+behind_frame_head version h head = page_form version head >>> behind_page version h head
 
 frame_is : (version : ImageVersion) (h : HostOf) (e : ℕ × HostFrame) (head : List ℕ) (rest : List ℕ) → Says version head e
     → ◌≡◌ {A = Judged ImageCause HostOf} (Passes (put_frame h (head_pfn version head) (frame_said version head e.1.page)) rest) (Passes (put_frame h e.0 e.1) rest)
@@ -68,20 +70,20 @@ frame_is version h e head rest s =
 
 -- the page behind a head that says this frame
 page_read : (version : ImageVersion) (e : ℕ × HostFrame) (head rest : List ℕ) → Says version head e → is_some e.1.page ≡ type_has_data e.1.type → ((p : List ℕ) → e.1.page ≡ Some p → length p ≡ 4096)
-    → host_page_at version head (page_text version e.1.page ++ rest) ≡ Passes e.1.page rest
+    → judged_as (page_form version head) (page_text version e.1.page ++ rest) ≡ Passes e.1.page rest
 page_read version e head rest s step whole =
     page_goes version (head_pfn version head) (type_has_data (head_type version head)) (has_zero_flag version head) e.1.page rest (step ∙ ap type_has_data (sym s.kind)) s.flag whole
 
-pub frame_goes : (version : ImageVersion) (h : HostOf) (e : ℕ × HostFrame) (rest : List ℕ) → h.width ≤ most_width_of version → FrameFits h.kind h.width h.frames e → host_frame_at version h (frame_text version e ++ rest) ≡ Passes (put_frame h e.0 e.1) rest
+pub frame_goes : (version : ImageVersion) (h : HostOf) (e : ℕ × HostFrame) (rest : List ℕ) → h.width ≤ most_width_of version → FrameFits h.kind h.width h.frames e → judged_as (host_frame_form version h) (frame_text version e ++ rest) ≡ Passes (put_frame h e.0 e.1) rest
 frame_goes version h e rest holds f =
     let head = frame_head_of version e.0 e.1 in
     let mid = page_text version e.1.page ++ rest in
     let s = says version e (below version e.0 h.width f.is.inside holds) f.is.in_step f.is.machine in
-    ap (host_frame_at version h) (append_assoc head (page_text version e.1.page) rest)
-    ∙ then_passes (frame_head_at version h (head ++ mid)) (behind_frame_head version h) head mid _
-    (said_goes Truncated (fault_of_frame version h) (λ l. l) 16 head mid (head_len version e.0 e.1) (fine version h e head s f))
-    (then_passes (host_page_at version head mid) (λ page. Passes (put_frame h (head_pfn version head) (frame_said version head page.0)) page.1) e.1.page rest _
-    (page_read version e head rest s f.is.in_step f.is.whole) (frame_is version h e head rest s))
+    ap (judged_as (host_frame_form version h)) (append_assoc head (page_text version e.1.page) rest)
+    ∙ then_goes (frame_head_form version h) (behind_frame_head version h) (head ++ mid) head mid _
+    (bytes_go Truncated 16 (frame_causes version h) head mid (head_len version e.0 e.1) (fine version h e head s f))
+    (then_goes (page_form version head) (behind_page version h head) mid e.1.page rest _
+    (page_read version e head rest s f.is.in_step f.is.whole) (gives_goes {C = ImageCause} (put_frame h (head_pfn version head) (frame_said version head e.1.page)) rest ∙ frame_is version h e head rest s))
   where
     below : (version : ImageVersion) (pfn width : ℕ) → pfn < width → width ≤ most_width_of version → pfn < most_width_of version
     below One pfn width less le = omega arith
@@ -155,9 +157,9 @@ type_number kind type None is has = let no : true ≡ false = sym has ∙ no_xta
 type_number kind type (Some t) is has = eqb-true (number_of t) type (found_passes (λ t. nat_eq (number_of t) type) all_types t is)
 
 -- the type of a head without a fault has its number
-number_is : (version : ImageVersion) (h : HostOf) (head : List ℕ) → fault_of_frame version h head ≡ None → number_of (head_type version head) ≡ head_type_number version head
+number_is : (version : ImageVersion) (h : HostOf) (head : List ℕ) → first_named (frame_causes version h head) ≡ None → number_of (head_type version head) ≡ head_type_number version head
 number_is version h head fine =
-    let (reserved, (type, others)) = rows_fine (frame_rows version h head) fine in
+    let (reserved, (type, others)) = rows_fine (frame_causes version h head) fine in
     type_number h.kind (head_type_number version head) (type_of (head_type_number version head)) refl (not-false (is_type_of h.kind (head_type version head)) type)
 
 -- ---- a frame
@@ -169,16 +171,16 @@ flag_leaves : (version : ImageVersion) (head : List ℕ) → has_zero_flag versi
 flag_leaves version head is = (and_parts (leaves_out version) _ is).0
 
 module _ (version : ImageVersion) (h : HostOf) where
-  frame_back : (m : HostFrames) (i : List ℕ) (g : HostOf) (rest : List ℕ) → Bytes i → host_frame_at version (with_frames h m) i ≡ Passes g rest → Found (FrameFits h.kind h.width) (frame_text version) Frame (host_frame_at version) (with_frames h) m i g rest
+  frame_back : (m : HostFrames) (i : List ℕ) (g : HostOf) (rest : List ℕ) → Bytes i → judged_as (host_frame_form version (with_frames h m)) i ≡ Passes g rest → Found (FrameFits h.kind h.width) (frame_text version) Frame (λ k. judged_as (host_frame_form version k)) (with_frames h) m i g rest
   frame_back m i g rest all is =
-      let a = both_pass (frame_head_at version (with_frames h m) i) (behind_frame_head version (with_frames h m)) g rest is in
+      let a = both_go (frame_head_form version (with_frames h m)) (behind_frame_head version (with_frames h m)) i g rest is in
       let head = a.x in
-      let p = bytes_pass Truncated (fault_of_frame version (with_frames h m)) 16 i head a.mid a.first in
-      let c = both_pass (host_page_at version head a.mid) (λ page. Passes (put_frame (with_frames h m) (head_pfn version head) (frame_said version head page.0)) page.1) g rest a.second in
+      let p = bytes_gone Truncated 16 (frame_causes version (with_frames h m)) i head a.mid a.first in
+      let c = both_go (page_form version head) (behind_page version (with_frames h m) head) a.mid g rest a.second in
       let q = page_back version (head_pfn version head) (type_has_data (head_type version head)) (has_zero_flag version head) a.mid c.x c.mid (flag_leaves version head) c.first in
-      let e = same_passes (put_frame (with_frames h m) (head_pfn version head) (frame_said version head c.x)) g c.mid rest c.second in
+      let e = gives_gone {C = ImageCause} (put_frame (with_frames h m) (head_pfn version head) (frame_said version head c.x)) c.mid g rest c.second in
       let bytes : Bytes head = bytes_front i head a.mid p.0 all in
-      let (reserved, others) = rows_fine (frame_rows version (with_frames h m) head) p.2 in
+      let (reserved, others) = rows_fine (frame_causes version (with_frames h m) head) p.2 in
       let number = number_is version (with_frames h m) head p.2 in
       let spelled = said_head version head c.x bytes p.1 reserved number (q.left_out ∙ flag_has_data version head reserved number) in
       let text = page_text version c.x in
@@ -191,10 +193,12 @@ module _ (version : ImageVersion) (h : HostOf) where
 
   -- frames one behind the other
   abbrev pub FramesFound : ℕ → List ℕ → HostOf → List ℕ → Type 0
-  FramesFound = AllFound (FrameFits h.kind h.width) (frame_text version) Frame (host_frame_at version) (with_frames h) maps.empty
+  FramesFound = AllFound (FrameFits h.kind h.width) (frame_text version) Frame (λ k. judged_as (host_frame_form version k)) (with_frames h) maps.empty
 
-  pub frames_back : (n : ℕ) (i : List ℕ) (g : HostOf) (rest : List ℕ) → Bytes i → frames_at version n (with_frames h maps.empty) i ≡ Passes g rest → FramesFound n i g rest
-  frames_back n i g rest all is = chain_back (FrameFits h.kind h.width) (frame_text version) Frame (host_frame_at version) (with_frames h) frame_back maps.empty n 0 i g rest all is
+  pub frames_back : (n : ℕ) (i : List ℕ) (g : HostOf) (rest : List ℕ) → Bytes i → judged_as (frames_form version (with_frames h maps.empty) n) i ≡ Passes g rest → FramesFound n i g rest
+  frames_back n i g rest all is =
+      chain_back (FrameFits h.kind h.width) (frame_text version) Frame (λ k. judged_as (host_frame_form version k)) (with_frames h) frame_back maps.empty n 0 i g rest all
+      (sym (steps_go Frame (host_frame_form version) n (with_frames h maps.empty) i) ∙ is)
 
 module _ (h : HostOf) where
   pub frame_entries : (es : List (ℕ × HostFrame)) → Chain (FrameFits h.kind h.width) maps.empty es → maps.entries {R = nat_cmp} (put_all maps.empty es) ≡ es

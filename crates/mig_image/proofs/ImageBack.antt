@@ -1,11 +1,8 @@
 -- Bytes that are read as a host begin with its image, and the host is valid.
-use Rattle.mig_image.proofs.Common.{◌≡◌, ℕ, ◌^◌, ◌<◌, ◌≤◌, Bool, true, false, not, nat_eq, nat_lt, List, ◌++◌, length, None, refl, sym, ap, subst, ◌∙◌, arith, ◌&&◌, flat_map, not-false, or_parts, ltb-false, eqb-true, eqb-false, recursion_from_All, little_bytes, AreBytes, ◌>>=◌, part, placed, Passes, both_pass, part_passes, same_passes, placed_passes, kind_number, kind_of_number, Truncated, Head, Parts, Kind, Pv, Hvm, PartKey, HostOf, HostFrame, IsValid, frame_text, part_text, IsHostImageUpTo, ImageVersion, One, Two, cond, ◌||◌, head_version, top_limit, most_width, most_width_of, name_number, version_named, name_rows, size_rows, fault_of_name, fault_of_sizes, fault_of_host_head, host_head_at, opened, frames_at, host_parts_at, count_at, behind_head, Bytes, bytes_front, bytes_back, rows_fine, both_none}
+use Rattle.mig_image.proofs.Common.{◌≡◌, ℕ, ◌^◌, ◌<◌, ◌≤◌, Bool, true, false, not, nat_eq, nat_lt, List, ◌++◌, length, None, refl, sym, ap, subst, ◌∙◌, arith, ◌&&◌, flat_map, not-false, or_parts, ltb-false, eqb-true, eqb-false, recursion_from_All, little_bytes, AreBytes, Passes, kind_number, kind_of_number, Truncated, Head, Parts, Kind, Pv, Hvm, PartKey, HostOf, HostFrame, IsValid, frame_text, part_text, IsHostImageUpTo, ImageVersion, One, Two, cond, ◌||◌, head_version, top_limit, most_width, most_width_of, name_number, version_named, opened, behind_head, Bytes, bytes_front, bytes_back, rows_fine, placed_form, judged_as, first_named, host_head_causes, host_head_form, frames_form, host_parts_form, count_form, behind_frames, image_file_form, host_at, both_go, bytes_gone, placed_gone, said_passes}
 use Rattle.std.specs.FinMap as maps
 use Rattle.mig_bytes.specs.Fields.{le32, le64, be64}
-use Rattle.mig_headers.specs.RecordTypes.{pv}
 use Rattle.mig_image.specs.Image.{host_head, image}
-use Rattle.mig_image.specs.ImageParts.{host_at}
-use Rattle.mig_bytes.proofs.Said.{bytes_pass}
 use Rattle.mig_host.proofs.HostsMade.{valid_empty}
 use Rattle.mig_image.proofs.FieldBytes.{name_then, word_then, long_then, long_last, regroup}
 use Rattle.mig_image.proofs.Chains.{Chain, put_all}
@@ -49,28 +46,26 @@ pub record HeadFine (widest : ℕ) (head : List ℕ) : Type 0 where
   pub pv_narrow : IsPvNarrow (kind_of_number (le32 head 8)) (le64 head 16)
   pub few : le64 head 24 ≤ 2 ^ 24
 
-pv_width : (kind : Kind) (width : ℕ) → (pv kind && (nat_eq width 0 || nat_lt top_limit width)) ≡ false → kind ≡ Pv → (0 < width) × (width ≤ top_limit)
-pv_width Pv width h is =
+pv_width : (is_pv : Bool) (width : ℕ) → (is_pv && (nat_eq width 0 || nat_lt top_limit width)) ≡ false → cond is_pv Pv Hvm ≡ Pv → (0 < width) × (width ≤ top_limit)
+pv_width true width h is =
     let p = or_parts (nat_eq width 0) (nat_lt top_limit width) h in (positive width p.0, ltb-false top_limit width p.1)
   where
     positive : (n : ℕ) → nat_eq n 0 ≡ false → 0 < n
     positive n h = let differs = eqb-false n 0 h in omega arith
-pv_width Hvm width h is = absurd (apart is)
+pv_width false width h is = absurd (apart is)
   where
     apart : Hvm ≡ Pv → ⊥
     apart e = cc
 
-pub head_fine : (widest : ℕ) (head : List ℕ) → fault_of_host_head widest head ≡ None → HeadFine widest head
+pub head_fine : (widest : ℕ) (head : List ℕ) → first_named (host_head_causes widest head) ≡ None → HeadFine widest head
 head_fine widest head fine =
     let version = head_version head in
-    let kind = kind_of_number (le32 head 8) in
+    let is_pv = nat_eq (le32 head 8) 1 in
     let width = le64 head 16 in
     let count = le64 head 24 in
-    let both = both_none (fault_of_name head) (fault_of_sizes widest version kind width count) fine in
-    let (name, (known, (reserved, done))) = rows_fine (name_rows head) both.0 in
-    let (wide, (many, end)) = rows_fine (size_rows widest version kind width count) both.1 in
-    let w = or_parts (nat_lt widest width) (nat_lt (most_width_of version) width || (pv kind && (nat_eq width 0 || nat_lt top_limit width))) wide in
-    let v = or_parts (nat_lt (most_width_of version) width) (pv kind && (nat_eq width 0 || nat_lt top_limit width)) w.1 in
+    let (name, (known, (reserved, (wide, (many, end))))) = rows_fine (host_head_causes widest head) fine in
+    let w = or_parts (nat_lt widest width) (nat_lt (most_width_of version) width || (is_pv && (nat_eq width 0 || nat_lt top_limit width))) wide in
+    let v = or_parts (nat_lt (most_width_of version) width) (is_pv && (nat_eq width 0 || nat_lt top_limit width)) w.1 in
     let m = or_parts (nat_lt (2 ^ 24) count) (nat_lt width count) many in
     record {
       name = named (be64 head 0) name;
@@ -78,21 +73,19 @@ head_fine widest head fine =
       none = sym (eqb-true (le32 head 12) 0 (not-false (nat_eq (le32 head 12) 0) reserved));
       narrow = ltb-false widest width w.0;
       holds = ltb-false (most_width_of version) width v.0;
-      some_width = λ is. (pv_width kind width v.1 is).0;
-      pv_narrow = λ is. (pv_width kind width v.1 is).1;
+      some_width = λ is. (pv_width is_pv width v.1 is).0;
+      pv_narrow = λ is. (pv_width is_pv width v.1 is).1;
       few = ltb-false (2 ^ 24) count m.0;
     }
 
 -- ---- the number of parts
 
-count_back : (i : List ℕ) (n : ℕ) (rest : List ℕ) → Bytes i → count_at i ≡ Passes n rest → i ≡ little_bytes 8 n ++ rest
+count_back : (i : List ℕ) (n : ℕ) (rest : List ℕ) → Bytes i → judged_as count_form i ≡ Passes n rest → i ≡ little_bytes 8 n ++ rest
+unfolding judged_as
 count_back i n rest all is =
-    let a = both_pass (part Truncated 8 i) (λ count. Passes (le64 count.0 0) count.1) n rest is in
-    let p = part_passes Truncated 8 i a.x a.mid a.first in
-    let e = same_passes (le64 a.x 0) n a.mid rest a.second in
-    let bytes : Bytes a.x = bytes_front i a.x a.mid p.0 all in
-    let text : a.x ≡ little_bytes 8 (le64 a.x 0) = sym (long_last a.x bytes 0 p.1 refl) in
-    p.0 ∙ ap (λ l. l ++ a.mid) (text ∙ ap (little_bytes 8) e.0) ∙ ap (λ l. little_bytes 8 n ++ l) e.1
+    let s = said_passes Truncated (λ _. None) (λ b. le64 b 0) 8 i n rest is in
+    let bytes : Bytes s.bytes = bytes_front i s.bytes rest s.whole all in
+    s.whole ∙ ap (λ l. l ++ rest) (sym (long_last s.bytes bytes 0 s.size refl) ∙ ap (little_bytes 8) s.value)
 
 -- ---- the whole
 
@@ -132,20 +125,20 @@ module _ (widest : ℕ) (few_widths : widest ≤ most_width) (head : List ℕ) (
       image_of version given head fs (length ps) ps (head_back version given head bytes size said.name said.kind said.none refl (ap length frames ∙ few)) frames (ap length parts) parts
 
 pub image_back : (widest : ℕ) (input : List ℕ) (h : HostOf) (rest : List ℕ) → widest ≤ most_width → AreBytes input → host_at widest input ≡ Passes h rest → IsHostImageUpTo widest input h rest
-unfolding host_at
+unfolding image_file_form
 image_back widest input h rest few_widths are is =
     let all : Bytes input = recursion_from_All (λ b. b < 256) input are in
-    let a = both_pass (placed Head (host_head_at widest input)) (λ head. behind_head head.0 head.1) h rest is in
-    let p = bytes_pass Truncated (fault_of_host_head widest) 32 input a.x a.mid (placed_passes Head (host_head_at widest input) a.x a.mid a.first) in
+    let a = both_go (placed_form Head (host_head_form widest)) behind_head input h rest is in
+    let p = bytes_gone Truncated 32 (host_head_causes widest) input a.x a.mid (placed_gone Head (host_head_form widest) input a.x a.mid a.first) in
     let version = head_version a.x in
     let in_frames : Bytes a.mid = bytes_back input a.x a.mid p.0 all in
-    let b = both_pass (frames_at version (le64 a.x 24) (opened a.x) a.mid) (λ f. placed Parts (count_at f.1) >>= λ count. host_parts_at count.0 f.0 count.1) h rest a.second in
+    let b = both_go (frames_form version (opened a.x) (le64 a.x 24)) behind_frames a.mid h rest a.second in
     let f = frames_back version (opened a.x) (le64 a.x 24) a.mid b.x b.mid in_frames b.first in
     let in_count : Bytes b.mid = bytes_back a.mid (flat_map (frame_text version) f.es) b.mid f.whole in_frames in
-    let c = both_pass (placed Parts (count_at b.mid)) (λ count. host_parts_at count.0 b.x count.1) h rest b.second in
-    let n = count_back b.mid c.x c.mid in_count (placed_passes Parts (count_at b.mid) c.x c.mid c.first) in
+    let c = both_go (placed_form Parts count_form) (host_parts_form b.x) b.mid h rest b.second in
+    let n = count_back b.mid c.x c.mid in_count (placed_gone Parts count_form b.mid c.x c.mid c.first) in
     let in_parts : Bytes c.mid = bytes_back b.mid (little_bytes 8 c.x) c.mid n in_count in
-    let q = parts_back (framed a.x f.es) c.x c.mid h rest in_parts (subst (λ x. host_parts_at c.x x c.mid ≡ Passes h rest) f.is c.second) in
+    let q = parts_back (framed a.x f.es) c.x c.mid h rest in_parts (subst (λ x. judged_as (host_parts_form x c.x) c.mid ≡ Passes h rest) f.is c.second) in
     let bytes = bytes_front input a.x a.mid p.0 all in
     let said = head_fine widest a.x p.2 in
     let counted : b.mid ≡ little_bytes 8 (length q.es) ++ c.mid = n ∙ ap (λ k. little_bytes 8 k ++ c.mid) (sym q.size) in

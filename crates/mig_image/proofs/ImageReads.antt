@@ -1,12 +1,9 @@
 -- The image of a valid host is read as this host.
-use Rattle.mig_image.proofs.Common.{◌≡◌, ℕ, ◌^◌, ◌<◌, ◌≤◌, false, not, nat_eq, nat_lt, List, [], ◌++◌, length, None, refl, sym, ap, ◌∙◌, arith, append_assoc, ◌&&◌, flat_map, or_from, le-ltb, ne_eqb, little_bytes, little_number-reads_back, Judged, ◌>>=◌, part, placed, Passes, part_whole, same_passes, kind_number, kind_of_number, ImageCause, Truncated, ImagePlace, Head, Frame, Parts, Part, Kind, Pv, Hvm, HostOf, IsValid, frame_text, part_text, IsHostImage, IsHostImageUpTo, ImageVersion, One, Two, ◌||◌, head_version, top_limit, most_width, most_width_of, name_number, version_named, is_wide, name_rows, size_rows, fault_of_name, fault_of_sizes, fault_of_host_head, host_head_at, opened, host_frame_at, part_at, frames_at, host_parts_at, count_at, behind_head, then_passes, no_fault}
+use Rattle.mig_image.proofs.Common.{◌≡◌, ℕ, ◌^◌, ◌<◌, ◌≤◌, false, not, nat_eq, nat_lt, List, [], ◌++◌, length, None, refl, sym, ap, ◌∙◌, arith, append_assoc, ◌&&◌, flat_map, or_from, le-ltb, ne_eqb, little_bytes, little_number-reads_back, Passes, same_passes, kind_number, kind_of_number, Truncated, Head, Frame, Parts, Part, Kind, Pv, Hvm, HostOf, IsValid, frame_text, part_text, IsHostImage, IsHostImageUpTo, ImageVersion, One, Two, ◌||◌, head_version, top_limit, most_width, most_width_of, name_number, version_named, opened, behind_head, no_fault, Bool, placed_form, judged_as, first_named, host_head_causes, host_head_form, host_frame_form, host_part_form, frames_form, host_parts_form, count_form, behind_frames, image_file_form, host_at, bytes_go, placed_goes, then_goes, steps_go, said_goes}
 use Rattle.std.specs.FinMap as maps
 use Rattle.mig_bytes.specs.Fields.{le32, le64, be64}
-use Rattle.mig_headers.specs.RecordTypes.{pv}
 use Rattle.mig_headers.proofs.KindNumbers.{kind_back}
 use Rattle.mig_image.specs.Image.{host_head, image}
-use Rattle.mig_image.specs.ImageParts.{host_at}
-use Rattle.mig_bytes.proofs.Said.{said_goes}
 use Rattle.mig_image.proofs.Chains.{chain_goes}
 use Rattle.mig_image.proofs.Frames.{frames_chain, frames_same, frames_within, with_frames, FrameFits, frame_goes}
 use Rattle.mig_image.proofs.Parts.{parts_chain, parts_same, parts_few, with_parts, PartFits, part_goes, IsPvNarrow, valid_narrow}
@@ -34,12 +31,15 @@ version_back : (version : ImageVersion) → version_named (name_number version) 
 version_back One = refl
 version_back Two = refl
 
-not_wide : (widest : ℕ) (version : ImageVersion) (kind : Kind) (width : ℕ) → width ≤ widest → width ≤ most_width_of version → (kind ≡ Pv → 0 < width) → IsPvNarrow kind width → is_wide widest version kind width ≡ false
+abbrev is_wide : ℕ → ImageVersion → ℕ → ℕ → Bool
+is_wide widest version kind width = nat_lt widest width || (nat_lt (most_width_of version) width || (nat_eq kind 1 && (nat_eq width 0 || nat_lt top_limit width)))
+
+not_wide : (widest : ℕ) (version : ImageVersion) (kind : Kind) (width : ℕ) → width ≤ widest → width ≤ most_width_of version → (kind ≡ Pv → 0 < width) → IsPvNarrow kind width → is_wide widest version (kind_number kind) width ≡ false
 not_wide widest version kind width narrow holds some pv_narrow =
-    or_from (nat_lt widest width) (nat_lt (most_width_of version) width || (pv kind && (nat_eq width 0 || nat_lt top_limit width))) (le-ltb widest width narrow)
-    (or_from (nat_lt (most_width_of version) width) (pv kind && (nat_eq width 0 || nat_lt top_limit width)) (le-ltb (most_width_of version) width holds) (by kind some pv_narrow))
+    or_from (nat_lt widest width) (nat_lt (most_width_of version) width || (nat_eq (kind_number kind) 1 && (nat_eq width 0 || nat_lt top_limit width))) (le-ltb widest width narrow)
+    (or_from (nat_lt (most_width_of version) width) (nat_eq (kind_number kind) 1 && (nat_eq width 0 || nat_lt top_limit width)) (le-ltb (most_width_of version) width holds) (by kind some pv_narrow))
   where
-    by : (k : Kind) → (k ≡ Pv → 0 < width) → IsPvNarrow k width → (pv k && (nat_eq width 0 || nat_lt top_limit width)) ≡ false
+    by : (k : Kind) → (k ≡ Pv → 0 < width) → IsPvNarrow k width → (nat_eq (kind_number k) 1 && (nat_eq width 0 || nat_lt top_limit width)) ≡ false
     by Pv some small = let pos = some refl in or_from (nat_eq width 0) (nat_lt top_limit width) (ne_eqb width 0 (λ e. absurd (omega arith))) (le-ltb top_limit width (small refl))
     by Hvm some small = refl
 
@@ -72,19 +72,17 @@ says_behind Two h valid wide = record {
 says : (version : ImageVersion) (h : HostOf) → IsValid h → Says version (host_head version h) h
 says version h valid = says_behind version h valid (omega (arith, valid.width))
 
-fine : (widest : ℕ) (version : ImageVersion) (h : HostOf) (head : List ℕ) → IsValid h → h.width ≤ widest → h.width ≤ most_width_of version → Says version head h → fault_of_host_head widest head ≡ None
+fine : (widest : ℕ) (version : ImageVersion) (h : HostOf) (head : List ℕ) → IsValid h → h.width ≤ widest → h.width ≤ most_width_of version → Says version head h → first_named (host_head_causes widest head) ≡ None
 fine widest version h head valid narrow holds s =
     let n = length (maps.entries h.frames) in
     let name = ap (λ n. not (nat_eq n (name_number One)) && not (nat_eq n (name_number Two))) s.name ∙ name_known version in
     let kind = ap (λ n. not (nat_eq n 1) && not (nat_eq n 2)) s.kind ∙ kind_known h.kind in
-    let first : fault_of_name head ≡ None = no_fault (name_rows head) (name, (kind, (ap (λ n. not (nat_eq n 0)) s.zero, tt))) in
+    let wide =
+    ap (λ v. is_wide widest v (le32 head 8) (le64 head 16)) (version_is head s.name) ∙ ap (λ k. is_wide widest version k (le64 head 16)) s.kind ∙ ap (is_wide widest version (kind_number h.kind)) s.width
+    ∙ not_wide widest version h.kind h.width narrow holds valid.some_width (valid_narrow h valid) in
     let few = or_from (nat_lt (2 ^ 24) n) (nat_lt h.width n) (le-ltb (2 ^ 24) n valid.few) (le-ltb h.width n (frames_within h valid)) in
-    let sizes : fault_of_sizes widest version h.kind h.width n ≡ None = no_fault (size_rows widest version h.kind h.width n) (not_wide widest version h.kind h.width narrow holds valid.some_width (valid_narrow h valid), (few, tt)) in
-    let second : fault_of_sizes widest (head_version head) (kind_of_number (le32 head 8)) (le64 head 16) (le64 head 24) ≡ None =
-    ap (λ v. fault_of_sizes widest v (kind_of_number (le32 head 8)) (le64 head 16) (le64 head 24)) (version_is head s.name)
-    ∙ ap (λ k. fault_of_sizes widest version (kind_of_number k) (le64 head 16) (le64 head 24)) s.kind ∙ ap (λ k. fault_of_sizes widest version k (le64 head 16) (le64 head 24)) (kind_back h.kind)
-    ∙ ap (λ w. fault_of_sizes widest version h.kind w (le64 head 24)) s.width ∙ ap (fault_of_sizes widest version h.kind h.width) s.count ∙ sizes in
-    rw (first, second) refl
+    let many = ap (λ w. nat_lt (2 ^ 24) (le64 head 24) || nat_lt w (le64 head 24)) s.width ∙ ap (λ c. nat_lt (2 ^ 24) c || nat_lt h.width c) s.count ∙ few in
+    no_fault (host_head_causes widest head) (name, (kind, (ap (λ n. not (nat_eq n 0)) s.zero, (wide, (many, tt)))))
   where
     version_is : (head : List ℕ) → be64 head 0 ≡ name_number version → head_version head ≡ version
     version_is head name = ap version_named name ∙ version_back version
@@ -100,11 +98,9 @@ opened_is version h head s =
 
 -- ---- the number of parts
 
-count_text : (n : ℕ) (rest : List ℕ) → n < 2 ^ 64 → count_at (little_bytes 8 n ++ rest) ≡ Passes n rest
-unfolding le64
-count_text n rest small =
-    then_passes (part Truncated 8 (little_bytes 8 n ++ rest)) (λ count. Passes (le64 count.0 0) count.1) (little_bytes 8 n) rest _ (part_whole Truncated 8 (little_bytes 8 n) rest refl)
-    (ap (λ m. Passes m rest) (little_number-reads_back 8 n [] small))
+count_text : (n : ℕ) (rest : List ℕ) → n < 2 ^ 64 → judged_as count_form (little_bytes 8 n ++ rest) ≡ Passes n rest
+unfolding le64 judged_as
+count_text n rest small = said_goes Truncated (λ _. None) (λ b. le64 b 0) 8 (little_bytes 8 n) rest refl refl ∙ ap (λ m. Passes m rest) (little_number-reads_back 8 n [] small)
 
 -- ---- the whole
 
@@ -139,32 +135,31 @@ module _ (widest : ℕ) (version : ImageVersion) (h : HostOf) (valid : IsValid h
       append_assoc head (frames_text ++ (little_bytes 8 count ++ parts_text)) rest
       ∙ ap (λ l. head ++ l) (append_assoc frames_text (little_bytes 8 count ++ parts_text) rest ∙ ap (λ l. frames_text ++ l) (append_assoc (little_bytes 8 count) parts_text rest))
 
-  frames_read : frames_at version (length (maps.entries h.frames)) (without h) at_frames ≡ Passes framed at_count
+  frames_read : judged_as (frames_form version (without h) (length (maps.entries h.frames))) at_frames ≡ Passes framed at_count
   frames_read =
-      chain_goes (FrameFits h.kind h.width) (frame_text version) Frame (host_frame_at version) (with_frames (without h)) (λ m e rest f. frame_goes version (with_frames (without h) m) e rest holds f) maps.empty (maps.entries h.frames) 0 at_count (frames_chain h valid)
+      steps_go Frame (host_frame_form version) (length (maps.entries h.frames)) (without h) at_frames
+      ∙ chain_goes (FrameFits h.kind h.width) (frame_text version) Frame (λ k. judged_as (host_frame_form version k)) (with_frames (without h)) (λ m e rest f. frame_goes version (with_frames (without h) m) e rest holds f) maps.empty (maps.entries h.frames) 0 at_count (frames_chain h valid)
       ∙ ap (λ m. Passes (with_frames (without h) m) at_count) (frames_same h valid)
 
-  parts_read : host_parts_at count framed at_parts ≡ Passes h rest
+  parts_read : judged_as (host_parts_form framed count) at_parts ≡ Passes h rest
   parts_read =
-      chain_goes (PartFits h.kind h.width) part_text Part part_at (with_parts framed) (λ m e rest f. part_goes (with_parts framed m) e rest (valid_narrow h valid) f) maps.empty (maps.entries h.parts) 0 rest (parts_chain h valid)
+      steps_go Part host_part_form count framed at_parts
+      ∙ chain_goes (PartFits h.kind h.width) part_text Part (λ k. judged_as (host_part_form k)) (with_parts framed) (λ m e rest f. part_goes (with_parts framed m) e rest (valid_narrow h valid) f) maps.empty (maps.entries h.parts) 0 rest (parts_chain h valid)
       ∙ ap (λ m. Passes (record { kind = h.kind; width = h.width; frames = h.frames; parts = m }) rest) (parts_same h valid)
 
-  abbrev behind_frames : HostOf × List ℕ → Judged (ImagePlace × ImageCause) HostOf
-  behind_frames f = placed Parts (count_at f.1) >>= λ count. host_parts_at count.0 f.0 count.1
-
-  behind : behind_head head at_frames ≡ Passes h rest
+  behind : judged_as (behind_head head) at_frames ≡ Passes h rest
   behind =
       let s = says version h valid in
-      then_passes (frames_at (head_version head) (le64 head 24) (opened head) at_frames) behind_frames framed at_count _
-      (ap (λ v. frames_at v (le64 head 24) (opened head) at_frames) (ap version_named s.name ∙ version_back version) ∙ ap (λ n. frames_at version n (opened head) at_frames) s.count ∙ ap (λ o. frames_at version (length (maps.entries h.frames)) o at_frames) (opened_is version h head s) ∙ frames_read)
-      (then_passes (placed Parts (count_at at_count)) (λ count. host_parts_at count.0 framed count.1) count at_parts _ (ap (placed Parts) (count_text count at_parts (parts_few h valid))) parts_read)
-
-  head_reads : host_head_at widest (head ++ at_frames) ≡ Passes head at_frames
-  head_reads = said_goes Truncated (fault_of_host_head widest) (λ l. l) 32 head at_frames (head_len version h) (fine widest version h head valid narrow holds (says version h valid))
+      then_goes (frames_form (head_version head) (opened head) (le64 head 24)) behind_frames at_frames framed at_count _
+      (ap (λ v. judged_as (frames_form v (opened head) (le64 head 24)) at_frames) (ap version_named s.name ∙ version_back version) ∙ ap (λ n. judged_as (frames_form version (opened head) n) at_frames) s.count
+      ∙ ap (λ o. judged_as (frames_form version o (length (maps.entries h.frames))) at_frames) (opened_is version h head s) ∙ frames_read)
+      (then_goes (placed_form Parts count_form) (host_parts_form framed) at_count count at_parts _ (placed_goes Parts count_form at_count count at_parts (count_text count at_parts (parts_few h valid))) parts_read)
 
   reads : host_at widest (head ++ at_frames) ≡ Passes h rest
-  unfolding host_at
-  reads = then_passes (placed Head (host_head_at widest (head ++ at_frames))) (λ head. behind_head head.0 head.1) head at_frames _ (ap (placed Head) head_reads) behind
+  unfolding image_file_form
+  reads =
+      then_goes (placed_form Head (host_head_form widest)) behind_head (head ++ at_frames) head at_frames _
+      (placed_goes Head (host_head_form widest) (head ++ at_frames) head at_frames (bytes_go Truncated 32 (host_head_causes widest) head at_frames (head_len version h) (fine widest version h head valid narrow holds (says version h valid)))) behind
 
 -- version 2 holds each valid host
 pub held : (h : HostOf) → IsValid h → h.width ≤ most_width_of Two

@@ -1,5 +1,5 @@
 -- The parts of an image: what they spell is read, what is read they spell, and both are the parts of a valid host.
-use Rattle.mig_image.proofs.Common.{◌≡◌, ℕ, ◌^◌, ◌<◌, ◌≤◌, Bool, true, false, not, nat_eq, List, [], ◌∷◌, ◌++◌, length, replicate, Some, None, refl, sym, ap, subst, ◌∙◌, arith, append_assoc, ◌+◌, cond, nat_le, Option, length-append, ◌*◌, ◌&&◌, ◌||◌, ◌==◌, if◌then◌else◌, T, list_all, AllByRecursion, and_from, eqb-true, not-false, and_parts, leb-false, eq-eqb, and_left, and_right, lt-leb, true≢false, common_steps, length-replicate, filter-append, nat_cmp, is_lt, ordering_then, Ordering, Less, Equal, Greater, nat_cmp-IsAntisymmetric, where_key, is_sorted-where_key, little_bytes, little_number-reads_back, padding_len, Judged, ◌>>=◌, Passes, then_passes, both_pass, same_passes, ImageCause, Truncated, PartBytes, PartPadding, Kind, Pv, Hvm, top_limit, no_fault, rows_fine, Part, PartKey, IsRawContent, HostOf, IsHostPart, IsValid, numbered, one_code, number_found, PartMap, parts_of, FitsPolicy, part_cmp, part_total, part_exact, part_text, head_key, code_fits, code_allows, has_part_from, is_full, part_rows, fault_of_part, fault_of_bytes, fault_of_padding, put_part_in, part_head_at, bytes_at, padding_at, part_at, host_parts_at, Bytes, bytes_front, word_below, Counts}
+use Rattle.mig_image.proofs.Common.{◌≡◌, ℕ, ◌^◌, ◌<◌, ◌≤◌, Bool, true, false, not, nat_eq, List, [], ◌∷◌, ◌++◌, length, replicate, Some, None, refl, sym, ap, subst, ◌∙◌, arith, append_assoc, ◌+◌, cond, nat_le, Option, length-append, ◌*◌, ◌&&◌, ◌||◌, ◌==◌, if◌then◌else◌, T, list_all, AllByRecursion, and_from, eqb-true, not-false, and_parts, leb-false, eq-eqb, and_left, and_right, lt-leb, true≢false, common_steps, length-replicate, filter-append, nat_cmp, is_lt, ordering_then, Ordering, Less, Equal, Greater, nat_cmp-IsAntisymmetric, where_key, is_sorted-where_key, little_bytes, little_number-reads_back, padding_len, Judged, Passes, ImageCause, Truncated, Kind, Pv, Hvm, top_limit, no_fault, rows_fine, Part, PartKey, IsRawContent, HostOf, IsHostPart, IsValid, numbered, one_code, number_found, PartMap, parts_of, FitsPolicy, part_cmp, part_total, part_exact, part_text, head_key, code_fits, code_allows, has_part_from, put_part_in, Bytes, bytes_front, word_below, Counts, FormOf, Giving, judged_as, ◌>>>◌, first_named, is_passed, full_policy, part_causes, content_causes, padding_causes, part_head_form, part_bytes_form, padding_form, host_part_form, host_parts_form, then_goes, both_go, bytes_go, bytes_gone, gives_goes, gives_gone, steps_go}
 use Rattle.std.specs.FinMap as maps
 use Rattle.mig_bytes.specs.Fields.{le32}
 use Rattle.mig_headers.specs.Pairs.{are_canonical_pairs, AreCanonicalPairs}
@@ -8,7 +8,6 @@ use Rattle.mig_guest.specs.declared.part_code.PartCode.{PartCode}
 use Rattle.mig_guest.specs.declared.part_code.PartCode.TheVariants.{EmulatorPairs, CpuidLeaf, Msr, P2mFrames}
 use Rattle.mig_guest.specs.PartCodes.{code_number, code_of_number, row_of}
 use Rattle.mig_image.specs.Image.{part_head_of}
-use Rattle.mig_bytes.proofs.Said.{bytes_pass, said_goes}
 use Rattle.mig_host.proofs.InOrder.{entries_behind, no_entries, has_from, get_at, each_entry, few_ranks, nat_rises}
 use Rattle.mig_host.proofs.HostsMade.{valid_part}
 use Rattle.mig_image.proofs.FieldBytes.{word_then, word_last, regroup}
@@ -16,11 +15,15 @@ use Rattle.mig_image.proofs.ZeroPages.{all_zero, only_zeros}
 use Rattle.mig_image.specs.declared.read_part.Entries.{Entries}
 use Rattle.mig_image.proofs.Chains.{Chain, put_all, chain_of, chain_same, Found, AllFound, chain_back, chain_entries, chain_keeps}
 
+-- these parts have as many of a policy's entries as there may be
+abbrev pub full : PartMap → ℕ → Bool
+full parts code = is_passed (full_policy parts code)
+
 -- a part that may stand behind these
 pub record PartFits (kind : Kind) (width : ℕ) (m : PartMap) (e : PartKey × List ℕ) : Type 0 where
   pub is : IsHostPart kind width e.0 e.1
   pub behind : has_part_from m e.0 ≡ false
-  pub room : is_full m e.0.code ≡ false
+  pub room : full m e.0.code ≡ false
 
 -- ---- codes
 
@@ -70,17 +73,17 @@ fits_is : (kind : Kind) (key : PartKey) (code : PartCode) → (row_of code).of_k
     → code_fits (code_of_number key.code) kind key ≡ true
 fits_is kind key code a b is = ap (λ c. code_fits c kind key) is ∙ and_from ((row_of code).of_kind kind) ((row_of code).keys key.key1 key.key2) a b
 
-fine : (h : HostOf) (e : PartKey × List ℕ) (head : List ℕ) → Says head e.0 (length e.1) → PartFits h.kind h.width h.parts e → fault_of_part h head ≡ None
+fine : (h : HostOf) (e : PartKey × List ℕ) (head : List ℕ) → Says head e.0 (length e.1) → PartFits h.kind h.width h.parts e → first_named (part_causes h head) ≡ None
 fine h e head s f =
     let is = numbered e.0.code f.is.code f.is.number in
     let row = ap (λ c. not (code_fits (code_of_number c) h.kind (head_key head))) s.code ∙ ap (λ k. not (code_fits (code_of_number e.0.code) h.kind k)) s.key ∙ ap not (fits_is h.kind e.0 f.is.code f.is.of_kind f.is.keys is) in
     let order = ap (has_part_from h.parts) s.key ∙ f.behind in
-    let many = ap (is_full h.parts) s.code ∙ f.room in
+    let many = ap (full h.parts) s.code ∙ f.room in
     let len = ap (λ c. not (code_allows (code_of_number c) h.width (le32 head 12))) s.code ∙ ap (λ n. not (code_allows (code_of_number e.0.code) h.width n)) s.len ∙ ap (λ c. not (code_allows c h.width (length e.1))) is ∙ ap not f.is.len in
-    no_fault (part_rows h head) (row, (order, (many, (len, tt))))
+    no_fault (part_causes h head) (row, (order, (many, (len, tt))))
 
-fine_bytes : (code : PartCode) (number : ℕ) (bytes : List ℕ) → number ≡ code_number code → IsRawContent code bytes → fault_of_bytes number bytes ≡ None
-fine_bytes code number bytes is content = no_fault ((nat_eq number 258 && not (are_canonical_pairs bytes), PartBytes) ∷ []) (by (nat_eq number 258) refl, tt)
+fine_bytes : (code : PartCode) (number : ℕ) (bytes : List ℕ) → number ≡ code_number code → IsRawContent code bytes → first_named (content_causes number bytes) ≡ None
+fine_bytes code number bytes is content = no_fault (content_causes number bytes) (by (nat_eq number 258) refl, tt)
   where
     by : (b : Bool) → nat_eq number 258 ≡ b → (b && not (are_canonical_pairs bytes)) ≡ false
     by true same =
@@ -88,33 +91,37 @@ fine_bytes code number bytes is content = no_fault ((nat_eq number 258 && not (a
         ap not ((canonical_pairs_are_computed bytes).1 (subst (λ (c : PartCode). IsRawContent c bytes) code_same content))
     by false same = refl
 
-fine_padding : (n : ℕ) → fault_of_padding (replicate n 0) ≡ None
-fine_padding n = no_fault ((not (list_all (λ b. nat_eq b 0) (replicate n 0)), PartPadding) ∷ []) (ap not (all_zero n), tt)
+fine_padding : (n : ℕ) → first_named (padding_causes (replicate n 0)) ≡ None
+fine_padding n = no_fault (padding_causes (replicate n 0)) (ap not (all_zero n), tt)
 
 -- ---- the part
 
 part_is : (h : HostOf) (e : PartKey × List ℕ) (head rest : List ℕ) → Says head e.0 (length e.1) → ◌≡◌ {A = Judged ImageCause HostOf} (Passes (put_part_in h (head_key head) e.1) rest) (Passes (put_part_in h e.0 e.1) rest)
 part_is h e head rest s = ap (λ k. Passes (put_part_in h k e.1) rest) s.key
 
-abbrev pub behind_bytes : HostOf → List ℕ → List ℕ × List ℕ → Judged ImageCause HostOf
-behind_bytes h head bytes = padding_at (le32 head 12) bytes.1 >>= λ padding. Passes (put_part_in h (head_key head) bytes.0) padding.1
+abbrev pub behind_padding : HostOf → List ℕ → List ℕ → FormOf ImageCause HostOf
+behind_padding h head bytes = Giving (put_part_in h (head_key head) bytes)
 
-abbrev pub behind_part_head : HostOf → List ℕ × List ℕ → Judged ImageCause HostOf
-behind_part_head h head = bytes_at (le32 head.0 0) (le32 head.0 12) head.1 >>= behind_bytes h head.0
+abbrev pub behind_bytes : HostOf → List ℕ → List ℕ → FormOf ImageCause HostOf
+behind_bytes h head bytes = padding_form (le32 head 12) >>> λ _. behind_padding h head bytes
 
-pub part_goes : (h : HostOf) (e : PartKey × List ℕ) (rest : List ℕ) → IsPvNarrow h.kind h.width → PartFits h.kind h.width h.parts e → part_at h (part_text e ++ rest) ≡ Passes (put_part_in h e.0 e.1) rest
+abbrev pub behind_part_head : HostOf → List ℕ → FormOf ImageCause HostOf
+behind_part_head h head = part_bytes_form (le32 head 0) (le32 head 12) >>> behind_bytes h head
+
+pub part_goes : (h : HostOf) (e : PartKey × List ℕ) (rest : List ℕ) → IsPvNarrow h.kind h.width → PartFits h.kind h.width h.parts e → judged_as (host_part_form h) (part_text e ++ rest) ≡ Passes (put_part_in h e.0 e.1) rest
 part_goes h e rest narrow f =
     let head = part_head_of e.0 (length e.1) in
     let zeros = replicate (padding_len (length e.1)) 0 in
     let mid = e.1 ++ (zeros ++ rest) in
     let s = says h.kind h.width e narrow f.is in
-    ap (part_at h) (append_assoc head (e.1 ++ zeros) rest ∙ ap (λ l. head ++ l) (append_assoc e.1 zeros rest))
-    ∙ then_passes (part_head_at h (head ++ mid)) (behind_part_head h) head mid _
-    (said_goes Truncated (fault_of_part h) (λ l. l) 16 head mid (head_len e.0 (length e.1)) (fine h e head s f))
-    (then_passes (bytes_at (le32 head 0) (le32 head 12) mid) (behind_bytes h head) e.1 (zeros ++ rest) _
-    (ap (λ c. bytes_at c (le32 head 12) mid) s.code ∙ ap (λ n. bytes_at e.0.code n mid) s.len ∙ said_goes Truncated (fault_of_bytes e.0.code) (λ l. l) (length e.1) e.1 (zeros ++ rest) refl (fine_bytes f.is.code e.0.code e.1 f.is.number f.is.content))
-    (then_passes (padding_at (le32 head 12) (zeros ++ rest)) (λ padding. Passes (put_part_in h (head_key head) e.1) padding.1) zeros rest _
-    (ap (λ n. padding_at n (zeros ++ rest)) s.len ∙ said_goes Truncated fault_of_padding (λ l. l) (padding_len (length e.1)) zeros rest (length-replicate {A = ℕ} (padding_len (length e.1)) 0) (fine_padding (padding_len (length e.1)))) (part_is h e head rest s)))
+    ap (judged_as (host_part_form h)) (append_assoc head (e.1 ++ zeros) rest ∙ ap (λ l. head ++ l) (append_assoc e.1 zeros rest))
+    ∙ then_goes (part_head_form h) (behind_part_head h) (head ++ mid) head mid _
+    (bytes_go Truncated 16 (part_causes h) head mid (head_len e.0 (length e.1)) (fine h e head s f))
+    (then_goes (part_bytes_form (le32 head 0) (le32 head 12)) (behind_bytes h head) mid e.1 (zeros ++ rest) _
+    (ap (λ c. judged_as (part_bytes_form c (le32 head 12)) mid) s.code ∙ ap (λ n. judged_as (part_bytes_form e.0.code n) mid) s.len ∙ bytes_go Truncated (length e.1) (content_causes e.0.code) e.1 (zeros ++ rest) refl (fine_bytes f.is.code e.0.code e.1 f.is.number f.is.content))
+    (then_goes (padding_form (le32 head 12)) (λ _. behind_padding h head e.1) (zeros ++ rest) zeros rest _
+    (ap (λ n. judged_as (padding_form n) (zeros ++ rest)) s.len ∙ bytes_go Truncated (padding_len (length e.1)) padding_causes zeros rest (length-replicate {A = ℕ} (padding_len (length e.1)) 0) (fine_padding (padding_len (length e.1))))
+    (gives_goes {C = ImageCause} (put_part_in h (head_key head) e.1) rest ∙ part_is h e head rest s)))
 
 -- ---- one more of its code
 
@@ -143,47 +150,47 @@ module _ (parts : PartMap) (key : PartKey) (bytes : List ℕ) (behind : has_part
     msrs = counted_by (nat_eq key.code 18) _ _ _ _ msrs counts.msrs (count_is 18);
   }
 
-  fits_by : (code : ℕ) (b : Bool) → nat_eq key.code code ≡ b → ((code == 17) || (code == 18)) ≡ true → is_full parts key.code ≡ false → FitsPolicy code parts
+  fits_by : (code : ℕ) (b : Bool) → nat_eq key.code code ≡ b → ((code == 17) || (code == 18)) ≡ true → full parts key.code ≡ false → FitsPolicy code parts
       → length (parts_of code (maps.entries more)) ≡ (if b then length (parts_of code (maps.entries parts)) + 1 else length (parts_of code (maps.entries parts))) → FitsPolicy code more
   fits_by code true same policy room fits is =
-      let full : is_full parts code ≡ false = ap (is_full parts) (sym (eqb-true key.code code same)) ∙ room in
-      let less = leb-false 65536 (length (parts_of code (maps.entries parts))) (sym (ap (λ b. b && nat_le 65536 (length (parts_of code (maps.entries parts)))) policy) ∙ full) in
+      let known : full parts code ≡ false = ap (full parts) (sym (eqb-true key.code code same)) ∙ room in
+      let less = leb-false 65536 (length (parts_of code (maps.entries parts))) (sym (ap (λ b. b && nat_le 65536 (length (parts_of code (maps.entries parts)))) policy) ∙ known) in
       omega (arith, is, less)
   fits_by code false same policy room fits is = omega (arith, is, fits)
 
-  pub fits_more : (code : ℕ) → ((code == 17) || (code == 18)) ≡ true → is_full parts key.code ≡ false → FitsPolicy code parts → FitsPolicy code more
+  pub fits_more : (code : ℕ) → ((code == 17) || (code == 18)) ≡ true → full parts key.code ≡ false → FitsPolicy code parts → FitsPolicy code more
   fits_more code policy room fits = fits_by code (nat_eq key.code code) refl policy room fits (count_is code)
 
 -- ---- a part whose head and bytes have no fault
 
-canonical : (number : ℕ) (bytes : List ℕ) → fault_of_bytes number bytes ≡ None → number ≡ 258 → AreCanonicalPairs bytes
+canonical : (number : ℕ) (bytes : List ℕ) → first_named (content_causes number bytes) ≡ None → number ≡ 258 → AreCanonicalPairs bytes
 canonical number bytes fine is =
-    let (test, done) = rows_fine ((nat_eq number 258 && not (are_canonical_pairs bytes), PartBytes) ∷ []) fine in
+    let (test, done) = rows_fine (content_causes number bytes) fine in
     (canonical_pairs_are_computed bytes).0 (not-false (are_canonical_pairs bytes) (sym (ap (λ b. b && not (are_canonical_pairs bytes)) (eq-eqb number 258 is)) ∙ test))
 
-raw_content : (code : PartCode) (number : ℕ) (bytes : List ℕ) → number ≡ code_number code → fault_of_bytes number bytes ≡ None → IsRawContent code bytes
+raw_content : (code : PartCode) (number : ℕ) (bytes : List ℕ) → number ≡ code_number code → first_named (content_causes number bytes) ≡ None → IsRawContent code bytes
 raw_content EmulatorPairs number bytes is fine = canonical number bytes fine is
 raw_content _ number bytes is fine = tt
 
 coded : (kind : Kind) (width : ℕ) (key : PartKey) (bytes : List ℕ) (o : Option PartCode) → code_of_number key.code ≡ o → code_fits o kind key ≡ true → code_allows o width (length bytes) ≡ true
-    → key.key1 < 2 ^ 32 → key.key2 < 2 ^ 32 → fault_of_bytes key.code bytes ≡ None → IsHostPart kind width key bytes
+    → key.key1 < 2 ^ 32 → key.key2 < 2 ^ 32 → first_named (content_causes key.code bytes) ≡ None → IsHostPart kind width key bytes
 coded kind width key bytes None is fits allows small1 small2 fine = let no : false ≡ true = fits in cc
 coded kind width key bytes (Some code) is fits allows small1 small2 fine =
     let p = and_parts ((row_of code).of_kind kind) ((row_of code).keys key.key1 key.key2) fits in
     let number = number_found key.code code is in
     record { code = code; number = number; of_kind = p.0; keys = p.1; small1 = small1; small2 = small2; len = allows; content = raw_content code key.code bytes number fine }
 
-module _ (h : HostOf) (head : List ℕ) (fine : fault_of_part h head ≡ None) (key : PartKey) (is : key ≡ head_key head) where
+module _ (h : HostOf) (head : List ℕ) (fine : first_named (part_causes h head) ≡ None) (key : PartKey) (is : key ≡ head_key head) where
   -- no part of the host has its key or a greater one
   pub is_behind : has_part_from h.parts key ≡ false
-  is_behind = let (row, (order, others)) = rows_fine (part_rows h head) fine in ap (has_part_from h.parts) is ∙ order
+  is_behind = let (row, (order, others)) = rows_fine (part_causes h head) fine in ap (has_part_from h.parts) is ∙ order
 
-  is_room : is_full h.parts key.code ≡ false
-  is_room = let (row, (order, (many, others))) = rows_fine (part_rows h head) fine in ap (λ (k : PartKey). is_full h.parts k.code) is ∙ many
+  is_room : full h.parts key.code ≡ false
+  is_room = let (row, (order, (many, others))) = rows_fine (part_causes h head) fine in ap (λ (k : PartKey). full h.parts k.code) is ∙ many
 
-  pub is_part : (bytes : List ℕ) → length bytes ≡ le32 head 12 → key.key1 < 2 ^ 32 → key.key2 < 2 ^ 32 → fault_of_bytes key.code bytes ≡ None → IsHostPart h.kind h.width key bytes
+  pub is_part : (bytes : List ℕ) → length bytes ≡ le32 head 12 → key.key1 < 2 ^ 32 → key.key2 < 2 ^ 32 → first_named (content_causes key.code bytes) ≡ None → IsHostPart h.kind h.width key bytes
   is_part bytes size small1 small2 good =
-      let (row, (order, (many, (len, done)))) = rows_fine (part_rows h head) fine in
+      let (row, (order, (many, (len, done)))) = rows_fine (part_causes h head) fine in
       coded h.kind h.width key bytes (code_of_number key.code) refl
       (ap (λ (k : PartKey). code_fits (code_of_number k.code) h.kind k) is ∙ not-false (code_fits (code_of_number (le32 head 0)) h.kind (head_key head)) row)
       (ap (code_allows (code_of_number key.code) h.width) size ∙ ap (λ (k : PartKey). code_allows (code_of_number k.code) h.width (le32 head 12)) is ∙ not-false (code_allows (code_of_number (le32 head 0)) h.width (le32 head 12)) len)
@@ -194,7 +201,7 @@ module _ (h : HostOf) (head : List ℕ) (fine : fault_of_part h head ≡ None) (
   policy_fits code policy before bytes = fits_more h.parts key bytes is_behind code policy is_room before
 
   -- it may stand behind the parts of the host
-  pub part_fits : (bytes : List ℕ) → length bytes ≡ le32 head 12 → key.key1 < 2 ^ 32 → key.key2 < 2 ^ 32 → fault_of_bytes key.code bytes ≡ None → PartFits h.kind h.width h.parts (key, bytes)
+  pub part_fits : (bytes : List ℕ) → length bytes ≡ le32 head 12 → key.key1 < 2 ^ 32 → key.key2 < 2 ^ 32 → first_named (content_causes key.code bytes) ≡ None → PartFits h.kind h.width h.parts (key, bytes)
   part_fits bytes size small1 small2 good = record { is = is_part bytes size small1 small2 good; behind = is_behind; room = is_room }
 
 -- of no parts there are none
@@ -218,13 +225,13 @@ room_for code done more e is few =
     lt-leb 65536 (length (parts_of code done)) (omega (arith, few, ap length split, size, ap length first))
 
 module _ (g : HostOf) (valid : IsValid g) where
-  roomy : (m : PartMap) (e : Entry) (more : List Entry) → maps.entries g.parts ≡ maps.entries m ++ e ∷ more → is_full m e.0.code ≡ false
+  roomy : (m : PartMap) (e : Entry) (more : List Entry) → maps.entries g.parts ≡ maps.entries m ++ e ∷ more → full m e.0.code ≡ false
   roomy m e more eg = by (nat_eq e.0.code 17) (nat_eq e.0.code 18) refl refl
     where
       few : (code : ℕ) → FitsPolicy code g.parts → e.0.code ≡ code → nat_le 65536 (length (parts_of e.0.code (maps.entries m))) ≡ false
       few code fits is = ap (λ c. nat_le 65536 (length (parts_of c (maps.entries m)))) is ∙ room_for code (maps.entries m) more e is (subst (λ l. length (parts_of code l) ≤ 65536) eg fits)
 
-      by : (a b : Bool) → nat_eq e.0.code 17 ≡ a → nat_eq e.0.code 18 ≡ b → is_full m e.0.code ≡ false
+      by : (a b : Bool) → nat_eq e.0.code 17 ≡ a → nat_eq e.0.code 18 ≡ b → full m e.0.code ≡ false
       by true b p q = and_right (policy e.0.code) _ (few 17 valid.leaves (eqb-true e.0.code 17 p))
       by false true p q = and_right (policy e.0.code) _ (few 18 valid.msrs (eqb-true e.0.code 18 q))
       by false false p q = and_left (policy e.0.code) _ (rw (p, q) refl)
@@ -307,9 +314,9 @@ head_back head all size =
 
 -- ---- zeros
 
-zeros : (n : ℕ) (xs : List ℕ) → length xs ≡ n → fault_of_padding xs ≡ None → xs ≡ replicate n 0
+zeros : (n : ℕ) (xs : List ℕ) → length xs ≡ n → first_named (padding_causes xs) ≡ None → xs ≡ replicate n 0
 zeros n xs size fine =
-    let (test, done) = rows_fine ((not (list_all (λ b. nat_eq b 0) xs), PartPadding) ∷ []) fine in
+    let (test, done) = rows_fine (padding_causes xs) fine in
     only_zeros xs (not-false (list_all (λ b. nat_eq b 0) xs) test) ∙ ap (λ m. replicate m 0) size
 
 -- ---- a part
@@ -326,16 +333,16 @@ spelled i mid last end rest head bytes padding all size len zeros first second t
     ∙ ap (λ l. (l ++ (bytes ++ padding)) ++ rest) text ∙ ap (λ l. (part_head_of (head_key head) (length bytes) ++ (bytes ++ l)) ++ rest) filled
 
 module _ (h : HostOf) where
-  part_back : (m : PartMap) (i : List ℕ) (g : HostOf) (rest : List ℕ) → Bytes i → part_at (with_parts h m) i ≡ Passes g rest → Found (PartFits h.kind h.width) part_text Part part_at (with_parts h) m i g rest
+  part_back : (m : PartMap) (i : List ℕ) (g : HostOf) (rest : List ℕ) → Bytes i → judged_as (host_part_form (with_parts h m)) i ≡ Passes g rest → Found (PartFits h.kind h.width) part_text Part (λ k. judged_as (host_part_form k)) (with_parts h) m i g rest
   part_back m i g rest all is =
-      let a = both_pass (part_head_at (with_parts h m) i) (behind_part_head (with_parts h m)) g rest is in
+      let a = both_go (part_head_form (with_parts h m)) (behind_part_head (with_parts h m)) i g rest is in
       let head = a.x in
-      let p = bytes_pass Truncated (fault_of_part (with_parts h m)) 16 i head a.mid a.first in
-      let b = both_pass (bytes_at (le32 head 0) (le32 head 12) a.mid) (behind_bytes (with_parts h m) head) g rest a.second in
-      let q = bytes_pass Truncated (fault_of_bytes (le32 head 0)) (le32 head 12) a.mid b.x b.mid b.first in
-      let c = both_pass (padding_at (le32 head 12) b.mid) (λ padding. Passes (put_part_in (with_parts h m) (head_key head) b.x) padding.1) g rest b.second in
-      let r = bytes_pass Truncated fault_of_padding (padding_len (le32 head 12)) b.mid c.x c.mid c.first in
-      let e = same_passes (put_part_in (with_parts h m) (head_key head) b.x) g c.mid rest c.second in
+      let p = bytes_gone Truncated 16 (part_causes (with_parts h m)) i head a.mid a.first in
+      let b = both_go (part_bytes_form (le32 head 0) (le32 head 12)) (behind_bytes (with_parts h m) head) a.mid g rest a.second in
+      let q = bytes_gone Truncated (le32 head 12) (content_causes (le32 head 0)) a.mid b.x b.mid b.first in
+      let c = both_go (padding_form (le32 head 12)) (λ _. behind_padding (with_parts h m) head b.x) b.mid g rest b.second in
+      let r = bytes_gone Truncated (padding_len (le32 head 12)) padding_causes b.mid c.x c.mid c.first in
+      let e = gives_gone {C = ImageCause} (put_part_in (with_parts h m) (head_key head) b.x) c.mid g rest c.second in
       let bytes : Bytes head = bytes_front i head a.mid p.0 all in
       record {
         e = (head_key head, b.x);
@@ -346,10 +353,12 @@ module _ (h : HostOf) where
 
   -- parts one behind the other
   abbrev pub PartsFound : ℕ → List ℕ → HostOf → List ℕ → Type 0
-  PartsFound = AllFound (PartFits h.kind h.width) part_text Part part_at (with_parts h) maps.empty
+  PartsFound = AllFound (PartFits h.kind h.width) part_text Part (λ k. judged_as (host_part_form k)) (with_parts h) maps.empty
 
-  pub parts_back : (n : ℕ) (i : List ℕ) (g : HostOf) (rest : List ℕ) → Bytes i → host_parts_at n (with_parts h maps.empty) i ≡ Passes g rest → PartsFound n i g rest
-  parts_back n i g rest all is = chain_back (PartFits h.kind h.width) part_text Part part_at (with_parts h) part_back maps.empty n 0 i g rest all is
+  pub parts_back : (n : ℕ) (i : List ℕ) (g : HostOf) (rest : List ℕ) → Bytes i → judged_as (host_parts_form (with_parts h maps.empty) n) i ≡ Passes g rest → PartsFound n i g rest
+  parts_back n i g rest all is =
+      chain_back (PartFits h.kind h.width) part_text Part (λ k. judged_as (host_part_form k)) (with_parts h) part_back maps.empty n 0 i g rest all
+      (sym (steps_go Part host_part_form n (with_parts h maps.empty) i) ∙ is)
 
   pub part_entries : (es : List (PartKey × List ℕ)) → Chain (PartFits h.kind h.width) maps.empty es → maps.entries {R = part_cmp} (put_all maps.empty es) ≡ es
   part_entries es chain = chain_entries part_total (PartFits h.kind h.width) (λ m e f. f.behind) es chain

@@ -8,7 +8,7 @@ use Rattle.mig_headers.specs.declared.image_fault.ImagePlace.{ImagePlace}
 use Rattle.mig_guest.specs.Hosts.{HostOf}
 use Rattle.mig_host.specs.HostView.{HostAndSpare}
 use Rattle.mig_image.specs.Image.{IsHostImageUpTo}
-use Rattle.mig_image.specs.ImageParts.{host_at}
+use Rattle.mig_image.specs.ImageForm.{host_at}
 
 abbrev pub IsHost : HostAndSpare → HostOf → Type 0
 IsHost read host = read.host ≡ host

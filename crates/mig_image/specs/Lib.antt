@@ -1,5 +1,6 @@
 pub mod Image
 pub mod ImageParts
+pub mod ImageForm
 pub mod Answer
 pub mod PartCounts
 pub mod FrameEnds

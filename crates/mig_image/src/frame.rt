@@ -4,12 +4,15 @@ ghost use Rattle.mig_bytes.specs.Bytes.{TakesBytes};
 ghost use Rattle.mig_bytes.specs.Faults.{RisesOnReadFault};
 ghost use Rattle.mig_bytes.specs.Judged.{Gives};
 ghost use Rattle.mig_bytes.specs.declared.part.Stop.TheVariants.{Memory};
+ghost use Rattle.mig_form.specs.Form.{judged_as};
+ghost use Rattle.mig_form.specs.Tests.{first_named, is_passed};
 ghost use Rattle.mig_pagetypes.specs.Limits.{most_frames};
 ghost use Rattle.mig_pagetypes.specs.PageTypes.{type_has_data};
 ghost use Rattle.mig_guest.specs.Frames.{is_type_of};
 ghost use Rattle.mig_image.specs.FrameEnds.{EndsAt};
 ghost use Rattle.mig_image.specs.Image.{page_left_out};
-ghost use Rattle.mig_image.specs.ImageParts.{fault_of_frame, fault_of_sent, frame_head_at, sent_page_at, host_page_at, host_frame_at, head_pfn, head_type, head_type_number, has_zero_flag, has_reserved};
+ghost use Rattle.mig_image.specs.ImageForm.{reserved_bits, frame_causes, page_causes, frame_head_form, sent_page_form, page_form, host_frame_form};
+ghost use Rattle.mig_image.specs.ImageParts.{head_pfn, head_type, head_type_number, has_zero_flag};
 
 use crate::version::ImageVersion;
 use crate::zeros::{is_all_zero, zero_page};
@@ -57,7 +60,7 @@ fn has_zero_flag(version: ImageVersion, head: &[u8; 16]) -> bool
 
 /// Whether bits are set in a frame's head that have to be 0.
 fn has_reserved(version: ImageVersion, head: &[u8; 16]) -> bool
-    ensures { result ≡ has_reserved version head.now }
+    ensures { result ≡ is_passed (reserved_bits version head.now) }
 {
     let word = u64_le(head, 0);
     match version {
@@ -82,7 +85,7 @@ fn is_type_of(kind: Kind, this: PageType) -> bool
 /// What is wrong with the head of a frame behind those of the host, which end at `next`.
 fn frame_fault(version: ImageVersion, host: &Host, next: u64, head: &[u8; 16]) -> Option<ImageCause>
     requires { EndsAt host.now.host next }
-    ensures { result ≡ fault_of_frame version host.now.host head.now }
+    ensures { result ≡ first_named (frame_causes version host.now.host head.now) }
 {
     let pfn = pfn_of(version, head);
     let machine = u64_le(head, 8);
@@ -108,6 +111,7 @@ fn frame_fault(version: ImageVersion, host: &Host, next: u64, head: &[u8; 16]) -
 }
 
 /// Takes the head of a frame that stands behind those of the host, which end at `next`.
+#[tactic(auto, unfolding(mig_form::specs::Form::judged_as))]
 fn read_frame_head<S: Source>(
     src: &mut S,
     version: ImageVersion,
@@ -115,8 +119,8 @@ fn read_frame_head<S: Source>(
     next: u64,
 ) -> Result<[u8; 16], Stop<ImageCause>>
     requires { EndsAt host.now.host next }
-    ensures read { Gives (λ v head. head ≡ v) (S.left src.old) (S.left src.new) (frame_head_at version host.now.host) result }
-    ensures fine { IfOk result (λ head. fault_of_frame version host.now.host head ≡ None) }
+    ensures read { Gives (λ v head. head ≡ v) (S.left src.old) (S.left src.new) (judged_as (frame_head_form version host.now.host)) result }
+    ensures fine { IfOk result (λ head. first_named (frame_causes version host.now.host head) ≡ None) }
     ensures taken { OnOk result (TakesBytes (S.left src.old) (S.left src.new)) }
     ensures faults { RisesOnReadFault (S.faults src.old) (S.faults src.new) result }
     ensures takes_no_memory { ¬ IsErrOf result Memory }
@@ -131,7 +135,7 @@ fn read_frame_head<S: Source>(
 
 /// What is wrong with the page of this frame number, which stands behind its head.
 fn sent_fault(version: ImageVersion, pfn: u64, page: &[u8; 4096]) -> Option<ImageCause>
-    ensures { result ≡ fault_of_sent version pfn page.now }
+    ensures { result ≡ first_named (page_causes version pfn page.now) }
 {
     if version == ImageVersion::Two && is_all_zero(page) {
         return Some(ImageCause::ZeroPage(pfn));
@@ -140,13 +144,14 @@ fn sent_fault(version: ImageVersion, pfn: u64, page: &[u8; 4096]) -> Option<Imag
 }
 
 /// Takes a page that stands behind its head.
+#[tactic(auto, unfolding(mig_form::specs::Form::judged_as))]
 fn read_sent_page<S: Source>(
     src: &mut S,
     version: ImageVersion,
     pfn: u64,
     page: &mut [u8; 4096],
 ) -> Result<(), Stop<ImageCause>>
-    ensures read { Gives (λ _ sent. sent ≡ page.new) (S.left src.old) (S.left src.new) (sent_page_at version pfn) result }
+    ensures read { Gives (λ _ sent. sent ≡ page.new) (S.left src.old) (S.left src.new) (judged_as (sent_page_form version pfn)) result }
     ensures taken { OnOk result (TakesBytes (S.left src.old) (S.left src.new)) }
     ensures faults { RisesOnReadFault (S.faults src.old) (S.faults src.new) result }
     ensures takes_no_memory { ¬ IsErrOf result Memory }
@@ -167,7 +172,7 @@ fn read_page<S: Source>(
 ) -> Result<(), Stop<ImageCause>>
     requires some { type_has_data (head_type version head.now) ≡ true }
     requires zero { page.old ≡ page_left_out }
-    ensures read { Gives (λ _ found. found ≡ Some page.new) (S.left src.old) (S.left src.new) (host_page_at version head.now) result }
+    ensures read { Gives (λ _ found. found ≡ Some page.new) (S.left src.old) (S.left src.new) (judged_as (page_form version head.now)) result }
     ensures taken { OnOk result (TakesBytes (S.left src.old) (S.left src.new)) }
     ensures faults { RisesOnReadFault (S.faults src.old) (S.faults src.new) result }
     ensures takes_no_memory { ¬ IsErrOf result Memory }
@@ -188,7 +193,7 @@ pub(crate) fn read_frame<S: Source>(
 ) -> Result<u64, Stop<ImageCause>>
     requires ends { EndsAt host.old.host next }
     requires few { length (maps.entries host.old.host.frames) < most_frames }
-    ensures read { Gives (λ _ h. host.new.host ≡ h) (S.left src.old) (S.left src.new) (host_frame_at version host.old.host) result }
+    ensures read { Gives (λ _ h. host.new.host ≡ h) (S.left src.old) (S.left src.new) (judged_as (host_frame_form version host.old.host)) result }
     ensures ends { IfOk result (λ behind. EndsAt host.new.host behind) }
     ensures counted { OnOk result (length (maps.entries host.new.host.frames) ≡ length (maps.entries host.old.host.frames) + 1) }
     ensures width { OnOk result (host.new.host.width ≡ host.old.host.width) }

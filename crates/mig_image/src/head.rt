@@ -4,9 +4,12 @@ ghost use Rattle.mig_bytes.specs.Faults.{RisesOnReadFault};
 ghost use Rattle.mig_bytes.specs.Fields.{le32};
 ghost use Rattle.mig_bytes.specs.Judged.{Gives};
 ghost use Rattle.mig_bytes.specs.declared.part.Stop.TheVariants.{Memory};
+ghost use Rattle.mig_form.specs.Form.{judged_as};
+ghost use Rattle.mig_form.specs.Tests.{first_named};
 ghost use Rattle.mig_headers.specs.Headers.{kind_of_number};
 ghost use Rattle.mig_image.specs.Image.{most_width_of};
-ghost use Rattle.mig_image.specs.ImageParts.{fault_of_name, fault_of_sizes, fault_of_host_head, head_version, host_head_at};
+ghost use Rattle.mig_image.specs.ImageForm.{host_head_causes, host_head_form};
+ghost use Rattle.mig_image.specs.ImageParts.{head_version};
 
 use crate::version::ImageVersion;
 use mig_bytes::{Source, Stop, take_part, u32_le, u64_be, u64_le};
@@ -58,38 +61,24 @@ pub(crate) fn kind_in(head: &[u8; 32]) -> Kind
     }
 }
 
-/// What is wrong with the name, the kind and the field that is 0.
-fn name_fault(head: &[u8; 32]) -> Option<ImageCause>
-    ensures { result ≡ fault_of_name head.now }
+/// What is wrong with the head of an image, where wider hosts than this aren't taken.
+fn head_fault(widest: u64, head: &[u8; 32]) -> Option<ImageCause>
+    ensures { result ≡ first_named (host_head_causes widest head.now) }
 {
-    let name = u64_be(head, 0);
+    let (name, kind) = (u64_be(head, 0), u32_le(head, 8));
     if name != NAME_ONE && name != NAME_TWO {
         return Some(ImageCause::NotImage);
     }
-    let kind = u32_le(head, 8);
     if kind != 1 && kind != 2 {
         return Some(ImageCause::BadKind(u64::from(kind)));
     }
     if u32_le(head, 12) != 0 {
         return Some(ImageCause::Reserved);
     }
-    None
-}
-
-/// What is wrong with the width, where wider hosts than this aren't taken, and with the number of frames.
-fn size_fault(
-    widest: u64,
-    version: ImageVersion,
-    kind: Kind,
-    width: u64,
-    frames: u64,
-) -> Option<ImageCause>
-    ensures { result ≡ fault_of_sizes widest version kind width frames }
-{
-    let is_pv = kind == Kind::Pv;
+    let (width, frames) = (u64_le(head, 16), u64_le(head, 24));
     if width > widest
-        || is_above_version(version, width)
-        || (is_pv && (width == 0 || width > MAX_PV_WIDTH))
+        || is_above_version(version_in(head), width)
+        || (kind == 1 && (width == 0 || width > MAX_PV_WIDTH))
     {
         return Some(ImageCause::Width(width));
     }
@@ -99,21 +88,11 @@ fn size_fault(
     None
 }
 
-/// What is wrong with the head of an image, where wider hosts than this aren't taken.
-fn head_fault(widest: u64, head: &[u8; 32]) -> Option<ImageCause>
-    ensures { result ≡ fault_of_host_head widest head.now }
-{
-    if let Some(cause) = name_fault(head) {
-        return Some(cause);
-    }
-    let (width, frames) = (u64_le(head, 16), u64_le(head, 24));
-    size_fault(widest, version_in(head), kind_in(head), width, frames)
-}
-
 /// Takes the head of an image of a host that is no wider than this.
+#[tactic(auto, unfolding(mig_form::specs::Form::judged_as))]
 pub(crate) fn read_head<S: Source>(src: &mut S, widest: u64) -> Result<[u8; 32], Stop<ImageCause>>
-    ensures read { Gives (λ v head. head ≡ v) (S.left src.old) (S.left src.new) (host_head_at widest) result }
-    ensures fine { IfOk result (λ head. fault_of_host_head widest head ≡ None) }
+    ensures read { Gives (λ v head. head ≡ v) (S.left src.old) (S.left src.new) (judged_as (host_head_form widest)) result }
+    ensures fine { IfOk result (λ head. first_named (host_head_causes widest head) ≡ None) }
     ensures taken { OnOk result (TakesBytes (S.left src.old) (S.left src.new)) }
     ensures faults { RisesOnReadFault (S.faults src.old) (S.faults src.new) result }
     ensures takes_no_memory { ¬ IsErrOf result Memory }

@@ -5,7 +5,7 @@ ghost use Rattle.mig_bytes.specs.Judged.Judged.{Passes};
 ghost use Rattle.mig_guest.specs.Hosts.{HostOf, most_width};
 ghost use Rattle.mig_image.specs.Image.{IsHostImage, IsHostImageUpTo};
 ghost use Rattle.mig_image.specs.ImageLaws.{HostsHaveImages, FlagsSayZero, UnsentAreZero, IsAscending, ImagesHaveSizes};
-ghost use Rattle.mig_image.specs.ImageParts.{host_at};
+ghost use Rattle.mig_image.specs.ImageForm.{host_at};
 
 /// The image of a valid host is read as this host, whatever follows it, where the host isn't too wide.
 pub fn image_is_judged()

@@ -5,10 +5,12 @@ ghost use Rattle.mig_bytes.specs.Bytes.{TakesBytes};
 ghost use Rattle.mig_bytes.specs.Faults.{RisesOnReadFault};
 ghost use Rattle.mig_bytes.specs.Judged.{Gives};
 ghost use Rattle.mig_bytes.specs.declared.part.Stop.TheVariants.{Memory};
+ghost use Rattle.mig_form.specs.Form.{judged_as};
+ghost use Rattle.mig_form.specs.Tests.{first_named};
 ghost use Rattle.mig_pagetypes.specs.Limits.{most_frames};
 ghost use Rattle.mig_guest.specs.Hosts.{most_width};
 ghost use Rattle.mig_image.specs.Answer.{IsHost, ReadsHost, BeginsWithImage};
-ghost use Rattle.mig_image.specs.ImageParts.{fault_of_host_head, frames_at, count_at, behind_head, host_at};
+ghost use Rattle.mig_image.specs.ImageForm.{host_head_causes, frames_form, count_form, behind_head, host_at};
 
 use crate::frame::read_frame;
 use crate::head::{kind_in, read_head, version_in};
@@ -31,7 +33,7 @@ fn read_frames<S: Source>(
 ) -> Result<(), Stop<(ImagePlace, ImageCause)>>
     requires few { count ≤ most_frames }
     requires none { length (maps.entries host.old.host.frames) ≡ 0 }
-    ensures read { Gives (λ _ h. host.new.host ≡ h) (S.left src.old) (S.left src.new) (frames_at version count host.old.host) result }
+    ensures read { Gives (λ _ h. host.new.host ≡ h) (S.left src.old) (S.left src.new) (judged_as (frames_form version host.old.host count)) result }
     ensures width { OnOk result (host.new.host.width ≡ host.old.host.width) }
     ensures parts { OnOk result (host.new.host.parts ≡ host.old.host.parts) }
     ensures taken { OnOk result (TakesBytes (S.left src.old) (S.left src.new)) }
@@ -48,8 +50,9 @@ fn read_frames<S: Source>(
 }
 
 /// Takes the number of parts.
+#[tactic(auto, unfolding(mig_form::specs::Form::judged_as))]
 fn read_count<S: Source>(src: &mut S) -> Result<u64, Stop<ImageCause>>
-    ensures read { Gives (λ v count. count ≡ v) (S.left src.old) (S.left src.new) count_at result }
+    ensures read { Gives (λ v count. count ≡ v) (S.left src.old) (S.left src.new) (judged_as count_form) result }
     ensures taken { OnOk result (TakesBytes (S.left src.old) (S.left src.new)) }
     ensures faults { RisesOnReadFault (S.faults src.old) (S.faults src.new) result }
     ensures takes_no_memory { ¬ IsErrOf result Memory }
@@ -68,8 +71,8 @@ fn read_behind<S: Source>(
     head: &[u8; 32],
 ) -> Result<Host, Stop<(ImagePlace, ImageCause)>>
     requires widest { widest ≤ most_width }
-    requires fine { fault_of_host_head widest head.now ≡ None }
-    ensures read { Gives (λ host h. host.host ≡ h) (S.left src.old) (S.left src.new) (behind_head head.now) result }
+    requires fine { first_named (host_head_causes widest head.now) ≡ None }
+    ensures read { Gives (λ host h. host.host ≡ h) (S.left src.old) (S.left src.new) (judged_as (behind_head head.now)) result }
     ensures narrow { IfOk result (λ host. host.host.width ≤ widest) }
     ensures taken { OnOk result (TakesBytes (S.left src.old) (S.left src.new)) }
     ensures faults { RisesOnReadFault (S.faults src.old) (S.faults src.new) result }

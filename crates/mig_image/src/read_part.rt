@@ -5,11 +5,14 @@ ghost use Rattle.mig_bytes.specs.Bytes.{TakesBytes};
 ghost use Rattle.mig_bytes.specs.Faults.{RisesOnReadFault};
 ghost use Rattle.mig_bytes.specs.Judged.{Gives};
 ghost use Rattle.mig_bytes.specs.declared.part.Stop.TheVariants.{Memory};
+ghost use Rattle.mig_form.specs.Form.{judged_as};
+ghost use Rattle.mig_form.specs.Tests.{first_named, is_passed};
 ghost use Rattle.mig_headers.specs.declared.kind.Kind.TheVariants.{Pv};
 ghost use Rattle.mig_guest.specs.Hosts.{IsValid};
 ghost use Rattle.mig_guest.specs.PartCodes.{code_of_number};
 ghost use Rattle.mig_guest.specs.Parts.{PartMap};
-ghost use Rattle.mig_image.specs.ImageParts.{fault_of_part, fault_of_bytes, head_key, code_fits, code_allows, has_part_from, is_full, part_head_at, bytes_at, padding_at, part_at, host_parts_at};
+ghost use Rattle.mig_image.specs.ImageForm.{part_causes, content_causes, full_policy, part_head_form, part_bytes_form, padding_form, host_part_form, host_parts_form};
+ghost use Rattle.mig_image.specs.ImageParts.{head_key, code_fits, code_allows, has_part_from};
 ghost use Rattle.mig_image.specs.PartCounts.{Counts};
 
 use mig_bytes::{Source, Stop, pad_len, take_long, take_part, u32_le};
@@ -37,7 +40,7 @@ pub(crate) struct Entries {
 impl Entries {
     /// Whether the code is that of a policy's entries, of which there are as many as there may be.
     fn is_full(self, code: u32) -> bool
-        ensures { (parts : PartMap) → Counts self parts → result ≡ is_full parts code }
+        ensures { (parts : PartMap) → Counts self parts → result ≡ is_passed (full_policy parts code) }
     {
         (code == CPUID_LEAF && self.leaves >= MAX_ENTRIES)
             || (code == MSR && self.msrs >= MAX_ENTRIES)
@@ -101,7 +104,7 @@ fn has_from(host: &Host, key: PartKey) -> bool
 /// What is wrong with the head of a part behind those of the host.
 fn part_fault(host: &Host, entries: Entries, head: &[u8; 16]) -> Option<ImageCause>
     requires { Counts entries host.now.host.parts }
-    ensures value { result ≡ fault_of_part host.now.host head.now }
+    ensures value { result ≡ first_named (part_causes host.now.host head.now) }
     ensures valid { IfNone result (IsValid host.now.host) }
 {
     let key = key_of(head);
@@ -122,14 +125,15 @@ fn part_fault(host: &Host, entries: Entries, head: &[u8; 16]) -> Option<ImageCau
 }
 
 /// Takes the head of a part that stands behind those of the host.
+#[tactic(auto, unfolding(mig_form::specs::Form::judged_as))]
 fn read_part_head<S: Source>(
     src: &mut S,
     host: &Host,
     entries: Entries,
 ) -> Result<[u8; 16], Stop<ImageCause>>
     requires { Counts entries host.now.host.parts }
-    ensures read { Gives (λ v head. head ≡ v) (S.left src.old) (S.left src.new) (part_head_at host.now.host) result }
-    ensures fine { IfOk result (λ head. fault_of_part host.now.host head ≡ None) }
+    ensures read { Gives (λ v head. head ≡ v) (S.left src.old) (S.left src.new) (judged_as (part_head_form host.now.host)) result }
+    ensures fine { IfOk result (λ head. first_named (part_causes host.now.host head) ≡ None) }
     ensures valid { IfOk result (λ _. IsValid host.now.host) }
     ensures taken { OnOk result (TakesBytes (S.left src.old) (S.left src.new)) }
     ensures faults { RisesOnReadFault (S.faults src.old) (S.faults src.new) result }
@@ -144,15 +148,16 @@ fn read_part_head<S: Source>(
 }
 
 /// Takes the bytes of a part.
+#[tactic(auto, unfolding(mig_form::specs::Form::judged_as))]
 fn read_bytes<S: Source>(
     alloc: Global,
     src: &mut S,
     code: u32,
     len: u32,
 ) -> Result<Vec<u8>, Stop<ImageCause>>
-    ensures read { Gives (λ v bytes. bytes ≡ v.items) (S.left src.old) (S.left src.new) (bytes_at code len) result }
+    ensures read { Gives (λ v bytes. bytes ≡ v.items) (S.left src.old) (S.left src.new) (judged_as (part_bytes_form code len)) result }
     ensures len { IfOk result (λ v. length v.items ≡ len) }
-    ensures fine { IfOk result (λ v. fault_of_bytes code v.items ≡ None) }
+    ensures fine { IfOk result (λ v. first_named (content_causes code v.items) ≡ None) }
     ensures taken { OnOk result (TakesBytes (S.left src.old) (S.left src.new)) }
     ensures faults { RisesOnReadFault (S.faults src.old) (S.faults src.new) result }
 {
@@ -171,8 +176,9 @@ fn are_zeros(bytes: &[u8]) -> bool
 }
 
 /// Takes the zeros behind so many bytes.
+#[tactic(auto, unfolding(mig_form::specs::Form::judged_as))]
 fn read_padding<S: Source>(src: &mut S, len: u32) -> Result<(), Stop<ImageCause>>
-    ensures read { Gives (λ _ _. ⊤) (S.left src.old) (S.left src.new) (padding_at len) result }
+    ensures read { Gives (λ _ _. ⊤) (S.left src.old) (S.left src.new) (judged_as (padding_form len)) result }
     ensures taken { OnOk result (TakesBytes (S.left src.old) (S.left src.new)) }
     ensures faults { RisesOnReadFault (S.faults src.old) (S.faults src.new) result }
     ensures takes_no_memory { ¬ IsErrOf result Memory }
@@ -195,7 +201,7 @@ fn read_part<S: Source>(
     entries: &mut Entries,
 ) -> Result<(), Stop<ImageCause>>
     requires { Counts entries.old host.old.host.parts }
-    ensures read { Gives (λ _ h. host.new.host ≡ h) (S.left src.old) (S.left src.new) (part_at host.old.host) result }
+    ensures read { Gives (λ _ h. host.new.host ≡ h) (S.left src.old) (S.left src.new) (judged_as (host_part_form host.old.host)) result }
     ensures width { OnOk result (host.new.host.width ≡ host.old.host.width) }
     ensures counted { OnOk result (Counts entries.new host.new.host.parts) }
     ensures taken { OnOk result (TakesBytes (S.left src.old) (S.left src.new)) }
@@ -221,7 +227,7 @@ pub(crate) fn read_parts<S: Source>(
     count: u64,
 ) -> Result<(), Stop<(ImagePlace, ImageCause)>>
     requires { host.old.host.parts ≡ maps.empty }
-    ensures read { Gives (λ _ h. host.new.host ≡ h) (S.left src.old) (S.left src.new) (host_parts_at count host.old.host) result }
+    ensures read { Gives (λ _ h. host.new.host ≡ h) (S.left src.old) (S.left src.new) (judged_as (host_parts_form host.old.host count)) result }
     ensures width { OnOk result (host.new.host.width ≡ host.old.host.width) }
     ensures taken { OnOk result (TakesBytes (S.left src.old) (S.left src.new)) }
     ensures faults { RisesOnReadFault (S.faults src.old) (S.faults src.new) result }

@@ -164,8 +164,9 @@ pub use Rattle.mig_image.specs.Image.{IsHostImageUpTo, frame_text, most_width_of
 pub use Rattle.mig_image.specs.declared.version.ImageVersion.{ImageVersion}
 pub use Rattle.mig_image.specs.declared.version.ImageVersion.TheVariants.{One, Two}
 pub use Rattle.mig_guest.specs.Hosts.{most_width}
-unfoldable pub use Rattle.mig_image.specs.ImageParts.{host_at}
-pub use Rattle.mig_image.specs.ImageParts.{count_at, fault_of_frame, fault_of_host_head, frame_head_at, frame_said, frames_at, head_key, head_pfn, head_version, host_frame_at, host_head_at, host_page_at, host_parts_at, is_sent, name_rows, opened, page_unsent, part_at, sent_page_at, size_rows}
+pub use Rattle.mig_image.specs.ImageParts.{head_version, opened}
+unfoldable pub use Rattle.mig_image.specs.ImageForm.{image_file_form}
+pub use Rattle.mig_image.specs.ImageForm.{behind_frames, behind_head, count_form, frames_form, host_at, host_frame_form, host_head_causes, host_head_form, host_part_form, host_parts_form}
 pub use Rattle.mig_host.specs.HostView.{put_frame, put_part_in}
 pub use Rattle.mig_refusals.specs.LegacyToolstack.{EntryWrong, FieldWrong, PhysmapsTo}
 pub use Rattle.mig_refusals.specs.Libxc.{AnswersFirstCause, Breaks, ContextHas, DomainHas, EntriesTo, EntryHas, FrontHas, GuestHas, HeadHas, HeaderHas, IsFirstCause, IsTriedBefore, LengthHas, MarkerHas, PageHas, ParamsHas, WordsHas, BodyHas, LibxcCausesStand}

@@ -1,14 +1,13 @@
 -- What an image file is refused for is what judging refuses it for; and what follows.
-use Rattle.mig_refusals.proofs.Common.{◌≡◌, ℕ, ◌≤◌, List, refl, sym, ◌∙◌, AreBytes, Judged, Passes, Faulty, passes_not, ImageCause, ImagePlace, HostOf, most_width, image_back, image_reads, IsHostImageUpTo, host_at}
-use Rattle.mig_form.proofs.Verdicts.{refused_where}
-use Rattle.mig_refusals.specs.ImageFile.{image_file_form, RefusedImageFile, ImageCausesAscend}
+use Rattle.mig_refusals.proofs.Common.{◌≡◌, ℕ, ◌≤◌, List, refl, sym, ◌∙◌, AreBytes, Judged, Passes, Faulty, passes_not, ImageCause, ImagePlace, HostOf, most_width, image_back, image_reads, IsHostImageUpTo, host_at, image_file_form}
+use Rattle.mig_form.proofs.Verdicts.{refused_so}
+use Rattle.mig_refusals.specs.ImageFile.{RefusedImageFile, ImageCausesAscend}
 use Rattle.mig_refusals.specs.Refusals.{AreJudged, HasOneRefusal, IsAcceptedOrRefused, IsNeverBoth}
 use Rattle.mig_refusals.specs.Refusals.IsAcceptedOrRefused.{accepted, refused}
 use Rattle.mig_refusals.proofs.Laws.{one_refusal}
-use Rattle.mig_refusals.proofs.ImageFileJudged.{host_judged}
 
 pub agree : (widest : ℕ) → AreJudged (RefusedImageFile widest) (λ input place cause rest. host_at widest input ≡ Faulty (place, cause) rest)
-agree widest = record { agree = λ input place c rest. refused_where (image_file_form widest) input (host_at widest input) (place, c) rest (host_judged widest input) }
+agree widest = record { agree = λ input place c rest. refused_so (image_file_form widest) input (place, c) rest }
 
 pub one : (widest : ℕ) → HasOneRefusal (RefusedImageFile widest)
 one widest = one_refusal (host_at widest) (RefusedImageFile widest) (agree widest)

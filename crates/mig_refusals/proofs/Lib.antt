@@ -22,7 +22,6 @@ pub mod LegacyJudged
 pub mod LegacyToolstacks
 pub mod LegacyVerdicts
 pub mod ImageFileTests
-pub mod ImageFileJudged
 pub mod ImageFilePlaces
 pub mod ImageFileFronts
 pub mod ImageFileVerdicts

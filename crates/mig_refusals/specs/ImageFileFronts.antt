@@ -8,7 +8,7 @@ use Rattle.mig_guest.specs.Hosts.{HostOf, IsValid}
 use Rattle.mig_image.specs.declared.version.ImageVersion.{ImageVersion}
 use Rattle.mig_image.specs.Image.{frame_text, host_head, part_text}
 use Rattle.mig_image.specs.ImageParts.{head_version}
-use Rattle.mig_refusals.specs.ImageFile.{host_head_form}
+use Rattle.mig_image.specs.ImageForm.{host_head_form}
 
 -- a faultless head, which may tell more frames, and all n frames of a valid host without parts, in its version
 pub record EndsInFrames (widest : ℕ) (front head : List ℕ) (n : ℕ) (h : HostOf) : Type 0 where

@@ -5,7 +5,7 @@ ghost use Rattle.mig_bytes.specs.Judged.Judged.{Faulty};
 ghost use Rattle.mig_form.specs.Form.{SpelledAs};
 ghost use Rattle.mig_guest.specs.Hosts.{HostOf, most_width};
 ghost use Rattle.mig_image.specs.Image.{IsHostImageUpTo};
-ghost use Rattle.mig_image.specs.ImageParts.{host_at};
+ghost use Rattle.mig_image.specs.ImageForm.{host_at};
 ghost use Rattle.mig_refusals.specs.Refusals.{AreJudged, HasOneRefusal, IsAcceptedOrRefused, IsNeverBoth};
 ghost use Rattle.mig_refusals.specs.ImageFileFronts.{EndsInFrames, EndsInParts};
 ghost use Rattle.mig_refusals.specs.ImageFile.{ImageCausesAscend, ImageTestsSay, PlaceIsOfPart, RefusedImageFile, count_and_parts, head_and_frames};

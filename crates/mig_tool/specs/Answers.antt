@@ -11,7 +11,7 @@ use Rattle.mig_guest.specs.Hosts.{HostOf, IsValid}
 use Rattle.mig_host.specs.Hosted.{hosted}
 use Rattle.mig_image.specs.declared.version.ImageVersion.TheVariants.{Two}
 use Rattle.mig_image.specs.Image.{image}
-use Rattle.mig_image.specs.ImageParts.{host_at}
+use Rattle.mig_image.specs.ImageForm.{host_at}
 use Rattle.mig_hosted.specs.Sound.{IsSound}
 use Rattle.mig_hosted.specs.View.{view}
 use Rattle.mig_libxl.specs.Carried.{IsCarried}

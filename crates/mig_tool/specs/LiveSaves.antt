@@ -12,7 +12,7 @@ use Rattle.mig_canon.specs.Canon.{Record, headers, text_of}
 use Rattle.mig_pagesink.specs.Told.{FrameTold, telling_record, all_told}
 use Rattle.mig_hosted.specs.Sound.{unsoundness}
 use Rattle.mig_hosted.specs.View.{view}
-use Rattle.mig_image.specs.ImageParts.{host_at}
+use Rattle.mig_image.specs.ImageForm.{host_at}
 use Rattle.mig_libxl.specs.Canon.{wrapper_opening, wrapper_closing}
 use Rattle.mig_libxl.specs.Spelled.{AcceptedStream}
 use Rattle.mig_rounds.specs.Entries.{pfns_sent}

@@ -1,7 +1,12 @@
-use Rattle.mig_image.proofs.Common.{◌≡◌, length, ◌∙◌, ◌+◌, Some, None, sym, ap, subst, rules, takes_more, type_has_data}
+use Rattle.mig_image.proofs.Common.{◌≡◌, length, ◌∙◌, ◌+◌, Some, None, sym, ap, subst, rules, takes_more, type_has_data, ℕ, List, first_stops, frame_head_form}
 use Rattle.mig_image.specs.FrameEnds.{EndsAt}
+use Rattle.mig_image.proofs.Frames.{behind_frame_head}
 use Rattle.mig_image.proofs.Readers.{frame_reads, page_reads, page_stops, ends_more, is_unused, is_frame, said_is, sized, unsized}
 use Rattle.mig_image.proofs.frame.read_frame.Goals as goal
+
+pub returns-in_err-head-clause-read : goal.returns-in_err-head-clause-read
+returns-in_err-head-clause-read g c =
+    first_stops {V = List ℕ} (λ v head. head ≡ v) _ (frame_head_form c.args.version c.args.host.now.host) (behind_frame_head c.args.version c.args.host.now.host) _ _ c.in_err-head.field-0.0 c.from_residual.result (search rules) c.in_err-head.ensures.read
 
 pub add_frame-requires-clause-is : goal.add_frame-requires-clause-is
 add_frame-requires-clause-is g c =

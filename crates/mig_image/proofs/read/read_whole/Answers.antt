@@ -1,5 +1,4 @@
-use Rattle.mig_image.proofs.Common.{List, ℕ, Option, Result, Ok, Err, OnOk, sym, subst, TakesBytes, Judged, Gives, placed_then, placed_ends, takes_more, ImageCause, ImagePlace, Head, HostOf, IsHost, host_head_at, behind_head}
-use Rattle.mig_image.specs.ImageParts.{host_at}
+use Rattle.mig_image.proofs.Common.{List, ℕ, Option, Result, Ok, Err, OnOk, TakesBytes, takes_more, Head, IsHost, behind_head, judged_as, placed_form, host_head_form, image_file_form, first_stops, placed_read, placed_stop, told_then, refl, ◌≡◌}
 use Rattle.mig_image.proofs.read.read_whole.Goals as goal
 
 -- what was taken, and then more
@@ -7,18 +6,15 @@ onward : {X E : Type 0} (r : Result X E) (a b c : Option (List ℕ)) → TakesBy
 onward (Ok x) a b c first more = takes_more a b c first more
 onward (Err e) a b c first more = tt
 
-abbrev behind : List ℕ × List ℕ → Judged (ImagePlace × ImageCause) HostOf
-behind head = behind_head head.0 head.1
-
 pub returns-in-Err-clause-read : goal.returns-in-Err-clause-read
-unfolding host_at
-returns-in-Err-clause-read g c = placed_ends _ IsHost Head (host_head_at c.args.widest) behind _ _ c.in-Err.stop c.at.result c.at.ensures c.in-Err.ensures.read
+unfolding image_file_form
+returns-in-Err-clause-read g c =
+    first_stops (λ v head. head ≡ v) IsHost (placed_form Head (host_head_form c.args.widest)) behind_head _ _ c.at.result _ refl (placed_stop (λ v head. head ≡ v) Head (host_head_form c.args.widest) _ _ c.in-Err.stop c.at.result c.at.ensures c.in-Err.ensures.read)
 
 pub returns-clause-read : goal.returns-clause-read
-unfolding host_at
+unfolding image_file_form
 returns-clause-read g c =
-    placed_then _ IsHost Head (host_head_at c.args.widest) behind _ _ _ _ c.read_behind.result c.in-Ok.ensures.read
-    (λ head is. subst (λ (h : List ℕ). Gives IsHost (g.S.Source.left c.read_head.new.src) (g.S.Source.left c.read_behind.new.src) (behind_head h) c.read_behind.result) (sym is) c.read_behind.ensures.read)
+    told_then (λ v. v) IsHost (placed_form Head (host_head_form c.args.widest)) behind_head _ _ _ _ c.read_behind.result (placed_read (λ v head. head ≡ v) Head (host_head_form c.args.widest) _ _ _ c.in-Ok.ensures.read) c.read_behind.ensures.read
 
 pub returns-clause-taken : goal.returns-clause-taken
 returns-clause-taken g c = onward c.read_behind.result _ _ _ c.in-Ok.ensures.taken c.read_behind.ensures.taken

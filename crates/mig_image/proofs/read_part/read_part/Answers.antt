@@ -1,7 +1,11 @@
-use Rattle.mig_image.proofs.Common.{◌∙◌, ap, sym, subst, rules, takes_more, HostOf, head_key, put_part_in, Counts}
+use Rattle.mig_image.proofs.Common.{◌∙◌, ap, sym, subst, rules, takes_more, HostOf, head_key, put_part_in, Counts, ◌≡◌, ℕ, List, first_stops, part_head_form}
 use Rattle.mig_image.proofs.Readers.{bytes_stop, padding_stop, part_reads}
-use Rattle.mig_image.proofs.Parts.{is_behind, counts_more}
+use Rattle.mig_image.proofs.Parts.{behind_part_head, is_behind, counts_more}
 use Rattle.mig_image.proofs.read_part.read_part.Goals as goal
+
+pub returns-in_err-head-clause-read : goal.returns-in_err-head-clause-read
+returns-in_err-head-clause-read g c =
+    first_stops {V = List ℕ} (λ v head. head ≡ v) _ (part_head_form c.args.host.now.host) (behind_part_head c.args.host.now.host) _ _ c.in_err-head.field-0.0 c.from_residual.result (search rules) c.in_err-head.ensures.read
 
 pub returns-in_err-bytes-clause-read : goal.returns-in_err-bytes-clause-read
 returns-in_err-bytes-clause-read g c =

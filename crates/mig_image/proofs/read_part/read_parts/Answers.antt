@@ -1,4 +1,4 @@
-use Rattle.mig_image.proofs.Common.{◌≡◌, ◌∙◌, subst, rules, refl, Ok, Gives, takes_none, takes_more, told, one_more, one_stops, Part, HostOf, part_at, host_parts_at}
+use Rattle.mig_image.proofs.Common.{◌≡◌, ◌∙◌, subst, rules, refl, Ok, Gives, takes_none, takes_more, told, one_more, one_stops, Part, HostOf, judged_as, host_part_form, steps_at, steps_read}
 use Rattle.mig_bytes.proofs.Steps.{begins}
 use Rattle.mig_image.proofs.Parts.{counts_none}
 use Rattle.mig_image.proofs.read_part.read_parts.Goals as goal
@@ -14,11 +14,12 @@ loop-i-init g c = record {
 
 pub returns-in-Err-clause-read : goal.returns-in-Err-clause-read
 returns-in-Err-clause-read g c =
-    one_stops Part part_at _ _ _ _ _ c.loop-i.i c.args.count c.args.host.now.host c.loop-i.host.host c.in-Err.stop c.at.result (search rules) c.loop-i.invariant.read c.in-Err.ensures.read c.at.ensures
+    steps_read _ Part host_part_form _ _ c.args.count c.args.host.now.host _
+    (one_stops Part (λ h. judged_as (host_part_form h)) _ _ _ _ _ c.loop-i.i c.args.count c.args.host.now.host c.loop-i.host.host c.in-Err.stop c.at.result (search rules) c.loop-i.invariant.read c.in-Err.ensures.read c.at.ensures)
 
 pub loop-i-preserved : goal.loop-i-preserved
 loop-i-preserved g c = record {
-  read = one_more Part part_at _ _ _ c.loop-i.i c.args.host.now.host c.loop-i.host.host c.read_part.new.host.host _ c.loop-i.invariant.read c.in_default.ensures.read;
+  read = one_more Part (λ h. judged_as (host_part_form h)) _ _ _ c.loop-i.i c.args.host.now.host c.loop-i.host.host c.read_part.new.host.host _ c.loop-i.invariant.read c.in_default.ensures.read;
   counted = c.in_default.ensures.counted;
   width = c.in_default.ensures.width ∙ c.loop-i.invariant.width;
   taken = takes_more _ _ _ c.loop-i.invariant.taken c.in_default.ensures.taken;
@@ -28,4 +29,6 @@ loop-i-preserved g c = record {
 pub returns-clause-read : goal.returns-clause-read
 returns-clause-read g c =
     let all : c.loop-i.i ≡ c.args.count = search rules in
-    told _ _ (host_parts_at c.args.count c.args.host.now.host) c.loop-i.host.host tt (subst (λ n. Gives {X = HostOf} (λ v h. v ≡ h) (g.S.Source.left c.args.src.now) (g.S.Source.left c.loop-i.src) (host_parts_at n c.args.host.now.host) (Ok c.loop-i.host.host)) all c.loop-i.invariant.read)
+    let parts = steps_at Part host_part_form in
+    steps_read _ Part host_part_form _ _ c.args.count c.args.host.now.host _
+    (told _ _ (parts c.args.count c.args.host.now.host) c.loop-i.host.host tt (subst (λ n. Gives {X = HostOf} (λ v h. v ≡ h) (g.S.Source.left c.args.src.now) (g.S.Source.left c.loop-i.src) (parts n c.args.host.now.host) (Ok c.loop-i.host.host)) all c.loop-i.invariant.read))
