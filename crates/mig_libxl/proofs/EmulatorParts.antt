@@ -1,23 +1,18 @@
 -- The parts of emulators in the order of their records: all of a guest, and none twice.
-use Rattle.mig_libxl.proofs.Common.{◌≡◌, ◌≢◌, ◌↔◌, ℕ, ◌+◌, ◌*◌, ◌<◌, ◌≤◌, Bool, true, false, cond, List, [], ◌∷◌, ◌++◌, length, Option, Some, None, inl, inr, refl, sym, ap, subst, ◌∙◌, arith, ◌==◌, nat_lt, All, option_or, eq_by_cmp, is_lt, nat_cmp, Equal, find, and_parts, eq-eqb, eqb-true, or_cases, eq_by_cmp_equiv, All-nil, All-cons, All-head, All-tail, IsFormed, is_emulator_code, width_of, GuestOf, part_cmp, Part, PartMap, parts_of, EmulatorPairs, EmulatorContext, PartKey, all_of, tied, part_total, part_exact, IsOf, of_part, common_steps, nil_from_length}
-use Rattle.std.specs.Prelude.{⊤, T}
+use Rattle.mig_libxl.proofs.Common.{◌≡◌, ◌≢◌, ◌↔◌, ℕ, ◌+◌, ◌*◌, ◌<◌, ◌≤◌, Bool, true, false, cond, List, [], ◌∷◌, ◌++◌, length, Option, Some, None, inl, inr, refl, sym, ap, subst, ◌∙◌, arith, ◌==◌, nat_lt, All, option_or, eq_by_cmp, is_lt, nat_cmp, Equal, find, and_parts, eq-eqb, eqb-true, or_cases, All-nil, All-cons, All-head, All-tail, IsFormed, is_emulator_code, width_of, GuestOf, part_cmp, Part, PartMap, parts_of, EmulatorPairs, EmulatorContext, PartKey, all_of, part_exact, IsOf, of_part, common_steps, nil_from_length}
+use Rattle.std.specs.Prelude.{⊤}
 use Rattle.std.specs.FinMap as maps
-use Rattle.std.specs.FinMap.{is_sorted, IsAntisymmetric}
-use Rattle.std.specs.FinMap.Entries.{below_all, by_order, put, find-where_key, same_entries}
+use Rattle.std.specs.FinMap.Entries.{by_order, put, same_entries}
 use Rattle.std.specs.List.{Contains}
-use Rattle.std.specs.Cmp.{IsTotalOrder}
-use Rattle.std.specs.Ordering.{is_eq, ordering_reverse, ordering_then}
-use Rattle.std.specs.declared.cmp.Ordering.{Ordering}
-use Rattle.std.specs.declared.cmp.Ordering.TheVariants.{Less, Greater}
+use Rattle.std.specs.Ordering.{ordering_reverse}
 use Rattle.std.proofs.lemmas.Bool.{ltb-true, ne_eqb}
-use Rattle.std.proofs.lemmas.Cmp.{nat_cmp_total, on_total, ranked, then_total, tied_itself}
-use Rattle.std.proofs.lemmas.List.Elements.{All-append, All-contains, All-contains_itself, All-filter, All-weaker, filter_passes}
+use Rattle.std.proofs.lemmas.List.Elements.{All-append, All-contains, All-contains_itself, All-weaker}
 use Rattle.std.proofs.lemmas.Map.Lookups.{exact_pairs, exact_unsigned}
 use Rattle.mig_guest.specs.Parts.{parts_after, NextPart}
+use Rattle.mig_guest.proofs.Common.{All-filter, Greater, IsAntisymmetric, IsTotalOrder, Less, Ordering, T, below_all, filter_passes, find-where_key, is_eq, is_sorted, nat_cmp_total, on_total, ordering_then, then_total}
 use Rattle.mig_guest.proofs.Counts.{same_parts}
 use Rattle.mig_guest.proofs.Found.{all_found}
 use Rattle.mig_guest.proofs.PartCursor.{both_of, less, true_of}
-use Rattle.mig_guest.proofs.KeyedMaps.{both}
 use Rattle.mig_canon.proofs.Wholes.{code_next}
 use Rattle.mig_canon_laws.proofs.CanonMaps.{found_holds, mixed}
 use Rattle.mig_libxl.specs.Canon.{AreEmulatorsInOrder, NextEmulator, emulator_cmp, emulators_after, emulators_in_order, in_emulator_order}
@@ -98,18 +93,16 @@ module _ (parts : PartMap) (pairs context : Option PartKey) where
   pairs_first : (e : Part) → NextPart 258 pairs es (Some e) → All (Before e) (parts_after 259 context es) → NextEmulator parts pairs context (Some e)
   pairs_first e h before =
       let rest = parts_after 258 (Some e.0) es in let contexts = parts_after 259 context es in
-      let is = code_next 258 pairs es e rest h in
       ap (λ l. in_emulator_order (l ++ contexts)) h
       ∙ first e [] (rest ++ contexts) (All-nil (Before e)) (All-append (Before e) rest contexts (behind 258 pairs es e h) before)
-      ∙ ap (λ n. e ∷ cond (n == 258) (emulators_after parts (Some e.0) context) (emulators_after parts pairs (Some e.0))) (sym is)
+      ∙ ap (λ n. e ∷ cond (n == 258) (emulators_after parts (Some e.0) context) (emulators_after parts pairs (Some e.0))) (sym (code_next 258 pairs es e rest h))
 
   context_first : (e : Part) → NextPart 259 context es (Some e) → All (Before e) (parts_after 258 pairs es) → NextEmulator parts pairs context (Some e)
   context_first e h before =
       let rest = parts_after 259 (Some e.0) es in let stores = parts_after 258 pairs es in
-      let is = code_next 259 context es e rest h in
       ap (λ l. in_emulator_order (stores ++ l)) h
       ∙ first e stores rest before (behind 259 context es e h)
-      ∙ ap (λ n. e ∷ cond (n == 258) (emulators_after parts (Some e.0) context) (emulators_after parts pairs (Some e.0))) (sym is)
+      ∙ ap (λ n. e ∷ cond (n == 258) (emulators_after parts (Some e.0) context) (emulators_after parts pairs (Some e.0))) (sym (code_next 259 context es e rest h))
 
   pub pairs_alone : (e : Part) → NextPart 258 pairs es (Some e) → NextPart 259 context es None → NextEmulator parts pairs context (Some e)
   pairs_alone e h none = pairs_first e h (subst (All (Before e)) (sym none) (All-nil (Before e)))
@@ -136,10 +129,10 @@ module _ (parts : PartMap) (pairs context : Option PartKey) where
     abbrev both_ways : Bool → List Part
     both_ways b = e ∷ cond b (emulators_after parts (Some e.0) context) (emulators_after parts pairs (Some e.0))
 
-    pub behind_pairs : e.0.code ≡ 258 → emulators_after parts pairs context ≡ e ∷ emulators_after parts (Some e.0) context
+    pub behind_pairs : e.0.code ≡ 258 → emulators_after parts pairs context ≡ both_ways true
     behind_pairs is = h ∙ ap both_ways (eq-eqb e.0.code 258 is)
 
-    pub behind_context : e.0.code ≢ 258 → emulators_after parts pairs context ≡ e ∷ emulators_after parts pairs (Some e.0)
+    pub behind_context : e.0.code ≢ 258 → emulators_after parts pairs context ≡ both_ways false
     behind_context other = h ∙ ap both_ways (ne_eqb e.0.code 258 other)
 
 -- ---- all parts of emulators
@@ -179,12 +172,12 @@ module _ (parts : PartMap) where
   unfolding emulators_in_order
   order_is = refl
 
+  -- the parts that stand there are exactly those of emulators
   found : (q : PartKey) → find emulator_cmp q (emulators_in_order parts) ≡ cond (is_emulator_code q.code) (maps.get parts q) None
   found q =
       ap (find emulator_cmp q) order_is ∙ order_found (parts_of 258 entries ++ parts_of 259 entries) q ∙ find_join q (parts_of 258 entries) (parts_of 259 entries)
       ∙ (λ i. option_or (of_code 258 q i) (of_code 259 q i)) ∙ mixed (q.code == 258) (q.code == 259) (maps.get parts q)
 
-  -- the parts that stand there are exactly those of emulators
   pub emulators_found : (q : PartKey) → find part_cmp q (emulators_in_order parts) ≡ cond (is_emulator_code q.code) (maps.get parts q) None
   emulators_found q = sym (find_alike q (emulators_in_order parts)) ∙ found q
 
@@ -219,12 +212,9 @@ order_alike m n same =
 
 -- ---- what the order is in words
 
-each_found : (ps : List Part) → T (is_sorted emulator_cmp ps) → All (λ p. find emulator_cmp p.0 ps ≡ Some p.1) ps
-each_found ps h = all_found emulator_total emulator_exact (λ p. find emulator_cmp p.0 ps ≡ Some p.1) ps h (λ q v is. is)
-
 contained : (ps : List Part) (p : Part) → T (is_sorted emulator_cmp ps) → Contains ps p ↔ (find emulator_cmp p.0 ps ≡ Some p.1)
 contained ps p h = (
-  All-contains (λ p. find emulator_cmp p.0 ps ≡ Some p.1) ps p (each_found ps h),
+  All-contains (λ p. find emulator_cmp p.0 ps ≡ Some p.1) ps p (all_found emulator_total emulator_exact (λ p. find emulator_cmp p.0 ps ≡ Some p.1) ps h (λ q v is. is)),
   λ is. found_holds (Contains ps) p.0 p.1 ps (All-contains_itself ps) (sym (find_alike p.0 ps) ∙ is),
 )
 
@@ -253,31 +243,23 @@ emulators_ascend parts ps = (
 
 module _ (g : GuestOf) (formed : IsFormed g) where
   -- an emulator's id is below 3, and its index below 256
-  pub small_keys : (q : PartKey) (bytes : List ℕ) → is_emulator_code q.code ≡ true → maps.get g.parts q ≡ Some bytes → (q.key1 < 3) × (q.key2 < 256)
-  small_keys q bytes code got = elim (or_cases (q.code == 258) (q.code == 259) code) [
-    | inl a ↦ let one : IsOf EmulatorPairs (width_of g) (q, bytes) = of_part EmulatorPairs g.kind (width_of g) (q, bytes) (formed.parts q bytes got) (eqb-true q.code 258 a) in
-        let (x, y) = and_parts (nat_lt q.key1 3) (nat_lt q.key2 256) one.keys in (ltb-true q.key1 3 x, ltb-true q.key2 256 y)
-    | inr b ↦ let one : IsOf EmulatorContext (width_of g) (q, bytes) = of_part EmulatorContext g.kind (width_of g) (q, bytes) (formed.parts q bytes got) (eqb-true q.code 259 b) in
-        let (x, y) = and_parts (nat_lt q.key1 3) (nat_lt q.key2 256) one.keys in (ltb-true q.key1 3 x, ltb-true q.key2 256 y)
-  ]
-
-  -- ---- how many there are
-
-  -- a number that rises from part to part
-  abbrev place : Part → ℕ
-  place p = 512 * p.0.key1 + 2 * p.0.key2 + p.0.code
-
   pub record IsSmall (p : Part) : Type 0 where
     pub id : p.0.key1 < 3
     pub index : p.0.key2 < 256
     pub least : 258 ≤ p.0.code
     pub most : p.0.code ≤ 259
 
-  are_small : All IsSmall (emulators_in_order g.parts)
-  are_small = All-weaker (IsEmulatorPart g.parts) IsSmall (λ p is. let (id, index) = small_keys p.0 p.1 is.code is.there in elim (or_cases (p.0.code == 258) (p.0.code == 259) is.code) [
-    | inl a ↦ let e = eqb-true p.0.code 258 a in record { id = id; index = index; least = omega (arith, e); most = omega (arith, e) }
-    | inr b ↦ let e = eqb-true p.0.code 259 b in record { id = id; index = index; least = omega (arith, e); most = omega (arith, e) }
-  ]) (emulators_in_order g.parts) (in_order_holds g.parts)
+  pub small : (p : Part) → IsEmulatorPart g.parts p → IsSmall p
+  small p is = elim (or_cases (p.0.code == 258) (p.0.code == 259) is.code) [
+    | inl a ↦ let code = eqb-true p.0.code 258 a in let one : IsOf EmulatorPairs (width_of g) p = of_part EmulatorPairs g.kind (width_of g) p (formed.parts p.0 p.1 is.there) code in
+        let (x, y) = and_parts (nat_lt p.0.key1 3) (nat_lt p.0.key2 256) one.keys in record { id = ltb-true p.0.key1 3 x; index = ltb-true p.0.key2 256 y; least = omega (arith, code); most = omega (arith, code) }
+    | inr b ↦ let code = eqb-true p.0.code 259 b in let one : IsOf EmulatorContext (width_of g) p = of_part EmulatorContext g.kind (width_of g) p (formed.parts p.0 p.1 is.there) code in
+        let (x, y) = and_parts (nat_lt p.0.key1 3) (nat_lt p.0.key2 256) one.keys in record { id = ltb-true p.0.key1 3 x; index = ltb-true p.0.key2 256 y; least = omega (arith, code); most = omega (arith, code) }
+  ]
+
+  -- a number that rises from part to part, so that there are few
+  abbrev place : Part → ℕ
+  place p = 512 * p.0.key1 + 2 * p.0.key2 + p.0.code
 
   rises : (p q : Part) → IsSmall p → IsSmall q → is_lt (emulator_cmp p.0 q.0) ≡ true → place p < place q
   rises p q one two l = grind (arith, common_steps, one.index, one.most, two.index, two.least, l)
@@ -291,7 +273,7 @@ module _ (g : GuestOf) (formed : IsFormed g) where
       omega (arith, rises p q (All-head IsSmall p (q ∷ ps) all) (All-head IsSmall q ps rest) (true_of _ up), few q ps others rest)
 
   pub few_emulators : length (emulators_in_order g.parts) ≤ 1794
-  few_emulators = by (emulators_in_order g.parts) (in_order_sorted g.parts) are_small
+  few_emulators = by (emulators_in_order g.parts) (in_order_sorted g.parts) (All-weaker (IsEmulatorPart g.parts) IsSmall small (emulators_in_order g.parts) (in_order_holds g.parts))
     where
       by : (ps : List Part) → T (is_sorted emulator_cmp ps) → All IsSmall ps → length ps ≤ 1794
       by [] h all = omega arith

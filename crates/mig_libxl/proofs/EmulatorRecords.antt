@@ -1,5 +1,5 @@
 -- The records of a guest's emulators: each is spelled as the format says, and together they say the emulators.
-use Rattle.mig_libxl.proofs.Common.{◌≡◌, ℕ, ◌+◌, ◌<◌, ◌≤◌, ◌^◌, List, ◌++◌, length, Some, inl, inr, refl, sym, subst, arith, append_assoc, length-append, ◌-◌, ◌==◌, nat_le, if◌then◌else◌, and_parts, eqb-true, leb-true, or_cases, little_bytes, IsFormed, width_of, GuestOf, Part, EmulatorPairs, EmulatorContext, PartKey, IsOf, of_part, pairs_are_read, some_bytes_are_some_pairs, LibxlRecord, LibxlContent, Pairs, Context, HasLibxlContent}
+use Rattle.mig_libxl.proofs.Common.{◌≡◌, ℕ, ◌+◌, ◌<◌, ◌≤◌, ◌^◌, List, ◌++◌, length, Some, inl, inr, refl, sym, subst, arith, append_assoc, length-append, ◌-◌, ◌==◌, nat_le, if◌then◌else◌, and_parts, eqb-true, leb-true, or_cases, little_bytes, IsFormed, width_of, GuestOf, Part, EmulatorPairs, PartKey, IsOf, of_part, pairs_are_read, some_bytes_are_some_pairs, LibxlRecord, LibxlContent, Pairs, Context, HasLibxlContent}
 use Rattle.std.specs.FinMap as maps
 use Rattle.byteorder.specs.Numbers.{length-bytes_low_first}
 use Rattle.mig_headers.specs.Pairs.{AreCanonicalPairs}
@@ -11,8 +11,8 @@ use Rattle.mig_libxl.specs.Canon.{emulator_body, emulator_record}
 use Rattle.mig_libxl.specs.Spelled.{IsFront, IsLibxlRecord}
 use Rattle.mig_libxl.specs.Spelled.HasLibxlContent.{pairs as says_pairs, context as says_context}
 use Rattle.mig_libxl.specs.Spelled.IsLibxlRecord.{body as a_body}
-use Rattle.mig_libxl.proofs.EmulatorParts.{IsEmulatorPart, small_keys}
-use Rattle.mig_libxl.proofs.EmulatorTexts.{key_front}
+use Rattle.mig_libxl.proofs.EmulatorParts.{IsEmulatorPart, small}
+use Rattle.mig_libxl.proofs.EmulatorTexts.{key_front, short_emulator}
 use Rattle.mig_canon_laws.proofs.CanonParts.{is_record}
 
 -- ---- what a part's record says
@@ -77,18 +77,13 @@ module _ (g : GuestOf) (formed : IsFormed g) where
       let (least, most) = and_parts (nat_le 1 (length bytes)) (nat_le (length bytes) (2 ^ 24)) one.len in
       record { canonical = one.content; some = omega (arith, leb-true 1 (length bytes) least); few = leb-true (length bytes) (2 ^ 24) most }
 
-  short_context : (q : PartKey) (bytes : List ℕ) → q.code ≡ 259 → maps.get g.parts q ≡ Some bytes → length bytes + 8 ≤ 2 ^ 27
-  short_context q bytes code got =
-      let one : IsOf EmulatorContext (width_of g) (q, bytes) = of_part EmulatorContext g.kind (width_of g) (q, bytes) (formed.parts q bytes got) code in
-      omega (arith, leb-true (length bytes) _ one.len)
-
   -- each record of an emulator's part is spelled as the format says
   pub emulator_is_spelled : (p : Part) → IsEmulatorPart g.parts p → IsLibxlRecord (record_of_part p) (emulator_record p)
-  emulator_is_spelled p is = let (known, small) = small_keys g formed p.0 p.1 is.code is.there in elim (or_cases (p.0.code == 258) (p.0.code == 259) is.code) [
+  emulator_is_spelled p is = let s = small g formed p is in let short = short_emulator g p.0 p.1 formed is.code is.there in elim (or_cases (p.0.code == 258) (p.0.code == 259) is.code) [
     | inl a ↦ let code = eqb-true p.0.code 258 a in let some = some_pairs p.0 p.1 code is.there in
         subst (λ (x : Part). IsLibxlRecord (record_of_part x) (emulator_record x)) (λ i. (record { code = sym code i; key1 = p.0.key1; key2 = p.0.key2 }, p.1))
-        (pairs_record p.0.key1 p.0.key2 p.1 known small (let few = some.few in omega (arith, few)) ((pairs_are_read p.1 (pairs_in p.1)).0 (some_bytes_are_some_pairs.sound p.1 some.canonical, refl)))
+        (pairs_record p.0.key1 p.0.key2 p.1 s.id s.index short ((pairs_are_read p.1 (pairs_in p.1)).0 (some_bytes_are_some_pairs.sound p.1 some.canonical, refl)))
     | inr b ↦ let code = eqb-true p.0.code 259 b in
         subst (λ (x : Part). IsLibxlRecord (record_of_part x) (emulator_record x)) (λ i. (record { code = sym code i; key1 = p.0.key1; key2 = p.0.key2 }, p.1))
-        (context_record p.0.key1 p.0.key2 p.1 known small (short_context p.0 p.1 code is.there))
+        (context_record p.0.key1 p.0.key2 p.1 s.id s.index short)
   ]
