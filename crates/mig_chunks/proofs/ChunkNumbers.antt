@@ -1,11 +1,11 @@
 -- Each chunk is that of its number.
 use Rattle.std.proofs.Common.{ne_eqb, subst}
-use Rattle.std.proofs.lemmas.Bool.{le-leb, lt-ltb}
+use Rattle.std.proofs.lemmas.Bool.{le-ltb, lt-ltb}
 use Rattle.mig_chunks.proofs.Common.{◌≡◌, ℕ, ◌<◌, ◌≤◌, Bool, true, false, List, [], ◌∷◌, nat_eq, cond, Some, Ok, refl, ap, ◌∙◌, arith, eqb-true, AllByRecursion, negative, param_chunks, second_of, IsParamChunk, IsNumberOf, kind_of, NumbersHaveKinds, IsWithinLimits, ChunkKind, End, Batch, VcpuMap, Tsc, LastCheckpoint, Toolstack, Param}
 
 batch_kind : (number : ℕ) → 0 < number → number ≤ 1024 → kind_of number ≡ Ok (Batch number)
 unfolding kind_of
-batch_kind number some few = rw (ne_eqb number 0 (λ none. omega (arith, some, none)), lt-ltb number 2147483648 (omega (arith, few)), le-leb number 1024 few) refl
+batch_kind number some few = rw (ne_eqb number 0 (λ none. omega (arith, some, none)), lt-ltb number 2147483648 (omega (arith, few)), le-ltb 1024 number few) refl
 
 -- a parameter's chunk is that of its number, and its index is small
 abbrev IsSound : ℕ → ℕ → Type 0

@@ -1,6 +1,8 @@
 -- The types of a legacy stream's chunks (Xen's xg_save_restore.h): a number of 4 bytes, low byte first, of which the upper
 -- half is negative.
-use Rattle.std.specs.Prelude.{⊤, ◌≡◌, ◌≤◌, ◌<◌, ℕ, ◌-◌, ◌^◌, List, [], ◌∷◌, Option, Some, None, Result, Ok, Err, ◌==◌, ◌||◌, nat_le, nat_lt, if◌then◌else◌}
+use Rattle.std.specs.Prelude.{⊤, ◌≡◌, ◌≤◌, ◌<◌, ℕ, ◌-◌, ◌^◌, List, [], ◌∷◌, Option, Some, None, Result, Ok, Err, ◌==◌, nat_lt, if◌then◌else◌}
+use Rattle.mig_form.specs.Tests.{Test, first_named}
+use Rattle.mig_form.specs.Tests.Test.{Less, Equal, Either}
 use Rattle.mig_headers.specs.declared.legacy_fault.LegacyCause.{LegacyCause}
 use Rattle.mig_headers.specs.declared.legacy_fault.LegacyCause.TheVariants.{VerifyOrPv, Tmem, Compressed, UnknownChunk, BatchTooLarge}
 use Rattle.mig_chunks.specs.declared.chunk.ChunkKind.{ChunkKind}
@@ -37,35 +39,50 @@ IsNumberOf (Param index) number = IsParamChunk (second_of index param_chunks) nu
 
 -- ---- from a number to its chunk
 
--- the chunk −n
-abbrev pub negative_kind : ℕ → Result ChunkKind LegacyCause
+-- why there is no chunk −n: other than −1 to −20 none is known
+abbrev pub negative_causes : ℕ → List (Test × LegacyCause)
+negative_causes n =
+    (Equal n 1, VerifyOrPv)
+    ∷ (Either (Equal n 5) (Equal n 6), Tmem)
+    ∷ (Either (Equal n 12) (Equal n 13), Compressed)
+    ∷ (Either (Less n 1) (Less 20 n), UnknownChunk n)
+    ∷ []
+
+-- why there is no chunk of this number
+abbrev pub number_causes : ℕ → List (Test × LegacyCause)
+number_causes number = if nat_lt number (2 ^ 31) then (Less 1024 number, BatchTooLarge number) ∷ [] else negative_causes (negative number)
+
+-- the chunk −n; where a cause stands it is never asked for
+abbrev pub negative_kind : ℕ → ChunkKind
 negative_kind n =
-    if n == 1 then Err VerifyOrPv
-    else if (n == 5) || (n == 6) then Err Tmem
-    else if (n == 12) || (n == 13) then Err Compressed
-    else if n == 2 then Ok VcpuMap
-    else if n == 7 then Ok Tsc
-    else if n == 9 then Ok LastCheckpoint
-    else if n == 18 then Ok Toolstack
-    else if n == 3 then Ok (Param 12)
-    else if n == 4 then Ok (Param 15)
-    else if n == 8 then Ok (Param 17)
-    else if n == 10 then Ok (Param 19)
-    else if n == 11 then Ok (Param 9)
-    else if n == 14 then Ok (Param 34)
-    else if n == 15 then Ok (Param 27)
-    else if n == 16 then Ok (Param 28)
-    else if n == 17 then Ok (Param 29)
-    else if n == 19 then Ok (Param 32)
-    else if n == 20 then Ok (Param 33)
-    else Err (UnknownChunk n)
+    if n == 2 then VcpuMap
+    else if n == 7 then Tsc
+    else if n == 9 then LastCheckpoint
+    else if n == 18 then Toolstack
+    else if n == 3 then Param 12
+    else if n == 4 then Param 15
+    else if n == 8 then Param 17
+    else if n == 10 then Param 19
+    else if n == 11 then Param 9
+    else if n == 14 then Param 34
+    else if n == 15 then Param 27
+    else if n == 16 then Param 28
+    else if n == 17 then Param 29
+    else if n == 19 then Param 32
+    else if n == 20 then Param 33
+    else End
+
+-- the chunk of this number, where no cause stands
+abbrev pub kind_numbered : ℕ → ChunkKind
+kind_numbered number = if number == 0 then End else if nat_lt number (2 ^ 31) then Batch number else negative_kind (negative number)
+
+abbrev pub unless_caused : Option LegacyCause → ChunkKind → Result ChunkKind LegacyCause
+unless_caused None kind = Ok kind
+unless_caused (Some cause) kind = Err cause
 
 -- the chunk of this number, or why there is none
 unfoldable pub kind_of : ℕ → Result ChunkKind LegacyCause
-kind_of number =
-    if number == 0 then Ok End
-    else if nat_lt number (2 ^ 31) then (if nat_le number 1024 then Ok (Batch number) else Err (BatchTooLarge number))
-    else negative_kind (negative number)
+kind_of number = unless_caused (first_named (number_causes number)) (kind_numbered number)
 
 -- each chunk is that of its number
 abbrev pub NumbersHaveKinds : Type 0

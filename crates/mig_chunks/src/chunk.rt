@@ -1,5 +1,6 @@
 ghost use Rattle.std.specs.Prelude.{◌≡◌, IfOk};
-ghost use Rattle.mig_chunks.specs.Chunks.{negative_kind as kind_below, kind_of, negative, IsNumberOf};
+ghost use Rattle.mig_form.specs.Tests.{first_named};
+ghost use Rattle.mig_chunks.specs.Chunks.{negative_causes, negative_kind as kind_below, unless_caused, kind_of, negative, IsNumberOf};
 
 use mig_headers::LegacyCause;
 
@@ -26,7 +27,7 @@ const MAX_BATCH: u32 = 1024;
 
 /// What the chunk −n is.
 fn negative_kind(n: u64) -> Result<ChunkKind, LegacyCause>
-    ensures value { result ≡ kind_below n }
+    ensures value { result ≡ unless_caused (first_named (negative_causes n)) (kind_below n) }
     ensures said { IfOk result (λ kind. IsNumberOf kind (negative n)) }
 {
     match n {

@@ -1,6 +1,6 @@
 -- An accepted guest is whole, with the parts of its device model: each chunk that is spelled leaves the guest on its way and the
 -- emulators well formed, and the tail sets the context.
-use Rattle.mig_legacy.proofs.Common.{◌≡◌, ℕ, ◌<◌, true, false, List, [], ◌++◌, length, Option, Some, None, refl, sym, ap, subst, ◌∙◌, arith, length-append, All-append, fold-append, AreBytes, Hvm, Pv, GuestOf, width_of, IsStreamed, guest_done, context_kept, EmulatorsOf, emulators_of, put_libxl_content, no_emulators, AreEmulators, IsStreamedBare, Grows, IsBegun, sent, put_record, empty_guest, sent_kind, words, page_data_words, ChunkKind, End, LegacyContent, LegacyChunk, LegacyTail, Nothing, param_key, tsc_key, store_records, image_records, tail_records, device_records, guest_without, device_model, is_end, is_legacy_ended, mean_legacy, put_in_guest, put_in_emulators, put_tail, put_device, HasLegacyContent, StoreFits, FollowsLegacy, IsTail, IsDevice, AcceptedLegacy, blank, IsOfBytes, signature}
+use Rattle.mig_legacy.proofs.Common.{◌≡◌, ℕ, ◌<◌, true, false, List, [], ◌++◌, length, Option, Some, None, refl, sym, ap, subst, ◌∙◌, arith, length-append, All-append, fold-append, AreBytes, Hvm, Pv, GuestOf, width_of, IsStreamed, guest_done, context_kept, EmulatorsOf, emulators_of, put_libxl_content, no_emulators, AreEmulators, IsStreamedBare, Grows, IsBegun, sent, put_record, empty_guest, sent_kind, words, page_data_words, ChunkKind, End, LegacyContent, LegacyChunk, LegacyTail, Nothing, param_key, tsc_key, store_records, image_records, tail_records, device_records, guest_without, device_model, is_legacy_ended, mean_legacy, put_in_guest, put_in_emulators, put_tail, put_device, HasLegacyContent, StoreFits, FollowsLegacy, IsTail, IsDevice, AcceptedLegacy, blank, IsOfBytes, signature}
 use Rattle.mig_guest.specs.Frames.{IsFew}
 use Rattle.mig_bodies.proofs.BodyBytes.{bytes_front, bytes_back}
 use Rattle.mig_bytes.specs.Sequences.{Spells}
@@ -15,7 +15,7 @@ use Rattle.mig_legacy.specs.Spelled.HasLegacyContent.{ends, batch, vcpus, clock,
 use Rattle.mig_legacy.proofs.BatchFrames.{good_words}
 use Rattle.mig_legacy.proofs.Batches.{fine_words}
 use Rattle.mig_legacy.proofs.Chunked.{sent_more, told_more}
-use Rattle.mig_legacy.proofs.ChunkTexts.{ended_more}
+use Rattle.mig_legacy.proofs.ChunkTexts.{end_is, ended_more}
 use Rattle.mig_legacy.proofs.Growth.{part_grows, param_part, tsc_part}
 use Rattle.mig_legacy.proofs.KeptFrames.{entries_grow}
 use Rattle.mig_legacy.proofs.KeptStores.{toolstack_kept}
@@ -79,10 +79,6 @@ spelled_kept _ _ all (one_more bytes chunks c text before f) =
     }
 
 -- ---- the last chunk
-
-end_is : (kind : ChunkKind) → is_end kind ≡ true → kind ≡ End
-end_is End h = refl
-end_is _ h = cc
 
 end_says : (kind : ChunkKind) (body : List ℕ) (c : LegacyContent) → HasLegacyContent kind body c → kind ≡ End → c ≡ Nothing
 end_says _ _ _ ends is = refl

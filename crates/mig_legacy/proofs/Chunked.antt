@@ -1,6 +1,7 @@
 -- A chunk as the reader takes it: its type, its body, and what was kept once it is counted.
 use Rattle.std.proofs.Math.Bool.{or-false}
-use Rattle.mig_legacy.proofs.Common.{◌≡◌, ℕ, ◌+◌, List, [], ◌∷◌, ◌++◌, refl, sym, ap, ◌∙◌, length-append, ◌||◌, flat_map-append, list_any-append, fold-append, Judged, ◌>>=◌, Passes, Hvm, LegacyCause, sent, put_record, empty_guest, put_libxl_content, no_emulators, emulators_of, chunk_kind_at, chunk_content_at, chunk_at, LegacyContent, LegacyChunk, is_value_of, has_value, records_in, pair_records, image_records, store_records, put_in_guest, put_in_emulators, IsLegacySeen, TakesLegacy, ChunkKind, ChunksSeen}
+use Rattle.mig_form.proofs.Joined.{then_is, then_judged}
+use Rattle.mig_legacy.proofs.Common.{◌≡◌, ℕ, ◌+◌, List, [], ◌∷◌, ◌++◌, refl, sym, ap, ◌∙◌, length-append, ◌||◌, flat_map-append, list_any-append, fold-append, Judged, ◌>>=◌, Passes, Hvm, LegacyCause, sent, put_record, empty_guest, put_libxl_content, no_emulators, emulators_of, judged_as, ◌>>>◌, Given, type_form, content_form, chunk_form, LegacyContent, LegacyChunk, is_value_of, has_value, records_in, pair_records, image_records, store_records, put_in_guest, put_in_emulators, IsLegacySeen, TakesLegacy, ChunkKind, ChunksSeen}
 use Rattle.std.proofs.Common.{fold, append-nil}
 
 abbrev pub chunk_of : ChunkKind → LegacyContent → LegacyChunk
@@ -8,14 +9,16 @@ chunk_of kind content = record { kind = kind; content = content }
 
 -- what stands behind the type
 abbrev pub behind_kind : List LegacyChunk → ChunkKind × List ℕ → Judged LegacyCause LegacyChunk
-behind_kind chunks kind = chunk_content_at chunks kind.0 kind.1 >>= λ content. Passes (chunk_of kind.0 content.0) content.1
+behind_kind chunks kind = judged_as (content_form chunks kind.0) kind.1 >>= λ content. Passes (chunk_of kind.0 content.0) content.1
 
-pub begins : (chunks : List LegacyChunk) (i : List ℕ) → chunk_at chunks i ≡ (chunk_kind_at chunks i >>= behind_kind chunks)
-unfolding chunk_at
-begins chunks i = refl
+pub begins : (chunks : List LegacyChunk) (i : List ℕ) → judged_as (chunk_form chunks) i ≡ (judged_as (type_form chunks) i >>= behind_kind chunks)
+unfolding chunk_form judged_as
+begins chunks i =
+    then_is (type_form chunks) (λ kind. content_form chunks kind >>> λ content. Given (chunk_of kind content)) i (judged_as (type_form chunks) i) (behind_kind chunks) refl
+    (λ kind mid. then_judged (λ content. Given (chunk_of kind content)) (content_form chunks kind) mid)
 
 -- the type that was taken is the one that stands there
-pub goes_behind : (chunks : List LegacyChunk) (kind taken : ChunkKind) → kind ≡ taken → (i : List ℕ) → behind_kind chunks (kind, i) ≡ (chunk_content_at chunks taken i >>= λ content. Passes (chunk_of taken content.0) content.1)
+pub goes_behind : (chunks : List LegacyChunk) (kind taken : ChunkKind) → kind ≡ taken → (i : List ℕ) → behind_kind chunks (kind, i) ≡ (judged_as (content_form chunks taken) i >>= λ content. Passes (chunk_of taken content.0) content.1)
 goes_behind chunks kind taken is i = ap (λ k. behind_kind chunks (k, i)) is
 
 -- ---- with one chunk more

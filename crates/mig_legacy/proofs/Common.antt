@@ -10,6 +10,12 @@ unfoldable pub use Rattle.mig_bytes.specs.Judged.{each}
 pub use Rattle.mig_bytes.specs.Judged.{Judged, ◌>>=◌, part, Matches, Gives, plain_at, said_at, placed, stop_at, tried}
 pub use Rattle.mig_bytes.specs.Judged.Judged.{Passes, Faulty}
 pub use Rattle.mig_bytes.specs.declared.part.Stop.{Stop}
+unfoldable pub use Rattle.mig_form.specs.Form.{judged_as, each_form, ◌>>>◌}
+pub use Rattle.mig_form.specs.Form.{FormOf, said_form, SpelledAs, BeginsAs}
+pub use Rattle.mig_form.specs.Form.FormOf.{Gives as Given}
+pub use Rattle.mig_form.specs.Form.SpelledAs.{nothing, one_part}
+pub use Rattle.mig_form.specs.Tests.{Test, computed, first_named, NoneHolds}
+pub use Rattle.mig_form.specs.Tests.Test.{Less}
 pub use Rattle.mig_guest.proofs.PartOrder.{part_total, part_exact}
 pub use Rattle.mig_guest.specs.Formed.{IsPart, IsCut, is_policy, is_emulator_code, width_of}
 pub use Rattle.mig_guest.specs.Guests.{GuestOf}
@@ -29,17 +35,17 @@ pub use Rattle.mig_headers.specs.declared.legacy_fault.LegacyPlace.{LegacyPlace}
 pub use Rattle.mig_headers.specs.declared.legacy_fault.LegacyPlace.TheVariants.{Start, Tail, Device, Chunk}
 pub use Rattle.mig_chunks.specs.Batches.{is_reserved, is_high, fault_of_batch, batch_rows, page_data_words, page_data_word, page_data_words_of}
 unfoldable pub use Rattle.mig_chunks.specs.Chunks.{kind_of}
-pub use Rattle.mig_chunks.specs.Chunks.{IsNumberOf}
+pub use Rattle.mig_chunks.specs.Chunks.{IsNumberOf, number_causes, kind_numbered, unless_caused}
 unfoldable pub use Rattle.mig_chunks.specs.Judged.{toolstack, toolstack_fault}
-unfoldable pub use Rattle.mig_legacy.specs.Judging.{device_at, tail_at, chunk_at, fault_of_kind}
-pub use Rattle.mig_legacy.specs.Judging.{length_at, fault_of_signature, device_record_at, fault_of_counted, or_truncated, legacy_words_at, batch_at, context_fault, cut_context, tail_of, start_at, clock_of, is_modern, fault_of_start, signature, pairs_of_toolstack, fault_of_toolstack, chunk_kind_at, chunk_content_at, most_chunks, is_unpaired, frames_sent, kind_rows, allowed, fault_of_max, vcpus_at, clock_at, value_at, toolstack_at}
+unfoldable pub use Rattle.mig_legacy.specs.LegacyForm.{tail_form, chunk_form}
+pub use Rattle.mig_legacy.specs.LegacyForm.{most_chunks, is_unpaired, frames_sent, pairs_of_toolstack, context_fault, signature, start_causes, place_causes, max_causes, length_causes, toolstack_causes, signature_causes, plain_form, length_form, counted_form, start_form, type_form, words_form, page_of_word, entry_form, batch_form, vcpus_form, clock_of, clock_form, toolstack_form, value_form, content_form, cut_context, tail_of, device_form}
 unfoldable pub use Rattle.mig_legacy.specs.Legacy.{mean_legacy}
 pub use Rattle.mig_legacy.specs.Legacy.{LegacyContent, LegacyChunk, LegacyTail, LegacyStream, param_key, records_in, tail_records, image_records, guest_without, tsc_key, device_records, store_records, is_end, is_legacy_ended, store_key, device_key, pair_records, device_model, is_value_of, has_value}
 pub use Rattle.mig_legacy.specs.Legacy.LegacyContent.{Nothing, Frames, Value, Clock, Pairs}
 pub use Rattle.mig_legacy.specs.Meaning.{batch_entries, entries_of_chunks, parts_in, parts_of_chunks, parts_of_tail, parts_told, tail_value, value_in, last_value, toolstack_pairs, pairs_of_chunks, store_of}
 pub use Rattle.mig_legacy.specs.Seen.{put_in_guest, put_tail, IsLegacySeen, put_device, put_in_emulators, TakesLegacy, IsLegacyBegun}
 pub use Rattle.mig_legacy.specs.Spelled.{IsCounted, IsLegacyWord, IsLegacyBatch, FollowsLegacy, IsLegacy, AcceptedLegacy, IsStart, IsTail, IsDevice, IsLegacyComplete, HasLegacyContent, StoreFits}
-unfoldable pub use Rattle.mig_legacy.specs.Stream.{legacy_at}
+unfoldable pub use Rattle.mig_legacy.specs.Stream.{device_at, legacy_at}
 pub use Rattle.mig_legacy.specs.Stream.{chunks_at, placed_chunk, IsLegacyRefused}
 pub use Rattle.mig_chunks.specs.Texts.{pairs_of_physmap, text_of_physmaps}
 pub use Rattle.mig_chunks.specs.Toolstack.{Physmap, IsToolstack}

@@ -1,12 +1,12 @@
 -- The device model's record, of which the first byte is taken alone.
 use Rattle.mig_bytes.proofs.Joins.{any_stop, passes_not, part_whole}
-use Rattle.mig_legacy.proofs.Common.{◌≡◌, ℕ, suc, ◌-◌, ◌^◌, false, cond, nat_lt, List, [], ◌∷◌, ◌++◌, length, take, drop, get_or, Option, Some, None, Result, Ok, Err, refl, sym, ap, subst, ◌∙◌, arith, common_steps, Judged, ◌>>=◌, part, Matches, Gives, plain_at, Passes, Faulty, Stop, part_passes, LegacyCause, Truncated, length_at, fault_of_signature, device_record_at, device_at}
+use Rattle.mig_legacy.proofs.Common.{◌≡◌, ℕ, suc, ◌-◌, ◌^◌, false, cond, nat_lt, List, [], ◌∷◌, ◌++◌, length, take, drop, get_or, Option, Some, None, Result, Ok, Err, refl, sym, ap, subst, ◌∙◌, arith, common_steps, Judged, ◌>>=◌, part, Matches, Gives, Passes, Faulty, Stop, part_passes, LegacyCause, Truncated, judged_as, first_named, signature_causes, counted_form, device_form, device_at}
 use Rattle.std.specs.Result.{IsErrAnd}
 use Rattle.mig_bytes.specs.declared.part.Stop.TheVariants.{Refused}
 
 -- what follows the signature
 abbrev pub behind_signature : List ℕ → Judged LegacyCause (Option (List ℕ))
-behind_signature input = length_at (2 ^ 27 - 8) input >>= λ len. plain_at Truncated Some len.0 len.1
+behind_signature input = judged_as (counted_form (2 ^ 27 - 8) (λ _. []) Some) input
 
 -- a byte before a part that is there
 part_more : (n b : ℕ) (i x rest : List ℕ) → part Truncated n i ≡ Passes x rest → part Truncated (suc n) (b ∷ i) ≡ Passes (b ∷ x) rest
@@ -15,13 +15,14 @@ part_more n b i x rest is =
     ap (λ l. part Truncated (suc n) (b ∷ l)) whole ∙ part_whole Truncated (suc n) (b ∷ x) rest (ap suc len)
 
 module _ {V : Type 0} (Q : V → Option (List ℕ) → Type 0) (first n : ℕ) (bytes : List ℕ) (size : n ≡ 20) where
-  pub signed : (a b d : Option (List ℕ)) (r : Result V (Stop LegacyCause)) → Gives {X = Unit {0}} (λ _ x. x ≡ bytes) a b (part Truncated n) (Ok tt) → fault_of_signature (first ∷ bytes) ≡ None
-      → Gives Q b d behind_signature r → Gives Q a d (λ rest. device_record_at (first ∷ rest)) r
+  pub signed : (a b d : Option (List ℕ)) (r : Result V (Stop LegacyCause)) → Gives {X = Unit {0}} (λ _ x. x ≡ bytes) a b (part Truncated n) (Ok tt) → first_named (signature_causes (first ∷ bytes)) ≡ None
+      → Gives Q b d behind_signature r → Gives Q a d (λ rest. judged_as device_form (first ∷ rest)) r
+  unfolding judged_as
   signed None b d r told fine read = tt
   signed (Some i) b d r (x, rest, is, left, same) fine read =
       let there : part Truncated 21 (first ∷ i) ≡ Passes (first ∷ x) rest = part_more 20 first i x rest (subst (λ k. part Truncated k i ≡ Passes x rest) size is) in
-      let none : fault_of_signature (first ∷ x) ≡ None = ap (λ l. fault_of_signature (first ∷ l)) same ∙ fine in
-      let judged : device_record_at (first ∷ i) ≡ behind_signature rest = rw (there, none) refl in
+      let none : first_named (signature_causes (first ∷ x)) ≡ None = ap (λ l. first_named (signature_causes (first ∷ l))) same ∙ fine in
+      let judged : judged_as device_form (first ∷ i) ≡ behind_signature rest = rw (there, none) refl in
       subst (λ j. Matches Q d j r) (sym judged) (subst (λ o. Gives Q o d behind_signature r) left read)
 
 -- ---- the first byte
@@ -34,7 +35,7 @@ ended (b ∷ i) c rest is =
     let long : nat_lt (suc (length i)) 1 ≡ false = grind (arith, common_steps) in
     passes_not (take 1 (b ∷ i)) (drop 1 (b ∷ i)) c rest (ap (λ t. cond t (Faulty Truncated []) (Passes (take 1 (b ∷ i)) (drop 1 (b ∷ i)))) (sym long) ∙ is)
 
-begins : (x rest : List ℕ) → length x ≡ 1 → device_at (x ++ rest) ≡ device_record_at (get_or x 0 0 ∷ rest)
+begins : (x rest : List ℕ) → length x ≡ 1 → device_at (x ++ rest) ≡ judged_as device_form (get_or x 0 0 ∷ rest)
 unfolding device_at
 begins [] rest one = absurd (omega (arith, one))
 begins (b ∷ []) rest one = refl
@@ -48,12 +49,12 @@ module _ {V : Type 0} (Q : V → Option (List ℕ) → Type 0) (n : ℕ) (size :
       (None, rest, ended i c rest (subst (λ k. part Truncated k i ≡ Faulty c rest) size is), left, q)
 
   pub some_device : (bytes : List ℕ) (first : ℕ) (a b d : Option (List ℕ)) (r : Result V (Stop LegacyCause)) → first ≡ get_or bytes 0 0 → Gives {X = Unit {0}} (λ _ x. x ≡ bytes) a b (part Truncated n) (Ok tt)
-      → Gives Q b d (λ rest. device_record_at (first ∷ rest)) r → Gives Q a d device_at r
+      → Gives Q b d (λ rest. judged_as device_form (first ∷ rest)) r → Gives Q a d device_at r
   some_device bytes first None b d r at told read = tt
   some_device bytes first (Some i) b d r at (x, rest, is, left, same) read =
       let (whole, one) = part_passes Truncated 1 i x rest (subst (λ k. part Truncated k i ≡ Passes x rest) size is) in
-      let judged : device_at i ≡ device_record_at (first ∷ rest) = ap device_at whole ∙ begins x rest one ∙ ap (λ k. device_record_at (k ∷ rest)) (ap (λ l. get_or l 0 0) same ∙ sym at) in
-      subst (λ j. Matches Q d j r) (sym judged) (subst (λ o. Gives Q o d (λ rest. device_record_at (first ∷ rest)) r) left read)
+      let judged : device_at i ≡ judged_as device_form (first ∷ rest) = ap device_at whole ∙ begins x rest one ∙ ap (λ k. judged_as device_form (k ∷ rest)) (ap (λ l. get_or l 0 0) same ∙ sym at) in
+      subst (λ j. Matches Q d j r) (sym judged) (subst (λ o. Gives Q o d (λ rest. judged_as device_form (first ∷ rest)) r) left read)
 
 -- ---- where it stops
 

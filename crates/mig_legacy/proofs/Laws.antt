@@ -1,6 +1,6 @@
 -- What judging accepts is what is spelled as a legacy stream.
 use Rattle.mig_bytes.proofs.Joins.{passes_not}
-use Rattle.mig_legacy.proofs.Common.{◌≡◌, ◌⊎◌, ℕ, List, ◌++◌, refl, sym, ap, subst, ◌∙◌, inl, inr, Judged, placed, Passes, Faulty, both_pass, placed_passes, same_passes, then_passes, LegacyCause, LegacyPlace, Start, Tail, Device, GuestOf, start_at, tail_at, device_at, LegacyStream, is_legacy_ended, mean_legacy, FollowsLegacy, IsLegacy, AcceptedLegacy, chunks_at, legacy_at, placed_chunk, IsLegacyRefused, accepted_spelled, spelled_accepted}
+use Rattle.mig_legacy.proofs.Common.{◌≡◌, ◌⊎◌, ℕ, List, ◌++◌, refl, sym, ap, subst, ◌∙◌, inl, inr, Judged, placed, Passes, Faulty, both_pass, placed_passes, same_passes, then_passes, LegacyCause, LegacyPlace, Start, Tail, Device, GuestOf, judged_as, start_form, tail_form, device_at, LegacyStream, is_legacy_ended, mean_legacy, FollowsLegacy, IsLegacy, AcceptedLegacy, chunks_at, legacy_at, placed_chunk, IsLegacyRefused, accepted_spelled, spelled_accepted}
 use Rattle.mig_legacy.proofs.ChunkTexts.{finds, goes, not_ended}
 use Rattle.mig_legacy.proofs.Streams.{stream_of, behind_tail, behind_chunks, behind_start}
 use Rattle.mig_legacy.proofs.TailTexts.{start_passes, start_goes, tail_passes, tail_goes, device_passes, device_goes}
@@ -8,14 +8,14 @@ use Rattle.mig_legacy.proofs.TailTexts.{start_passes, start_goes, tail_passes, t
 pub accepted_is_legacy : (input : List ℕ) (s : LegacyStream) (rest : List ℕ) → legacy_at input ≡ Passes s rest → IsLegacy input s rest
 unfolding legacy_at
 accepted_is_legacy input s rest h =
-    let a = both_pass (placed Start (start_at input)) behind_start s rest h in
+    let a = both_pass (placed Start (judged_as start_form input)) behind_start s rest h in
     let b = both_pass (chunks_at a.mid) behind_chunks s rest a.second in
-    let c = both_pass (placed Tail (tail_at b.mid)) (behind_tail b.x) s rest b.second in
+    let c = both_pass (placed Tail (judged_as tail_form b.mid)) (behind_tail b.x) s rest b.second in
     let d = both_pass (placed Device (device_at c.mid)) (λ device. Passes (stream_of b.x c.x device.0) device.1) s rest c.second in
     let e = same_passes {C = (LegacyPlace × LegacyCause)} (stream_of b.x c.x d.x) s d.mid rest d.second in
-    let first = start_passes input a.x a.mid (placed_passes Start (start_at input) a.x a.mid a.first) in
+    let first = start_passes input a.x a.mid (placed_passes Start (judged_as start_form input) a.x a.mid a.first) in
     let (bytes, whole, spelled, ended) = accepted_spelled is_legacy_ended placed_chunk FollowsLegacy finds a.mid b.x b.mid b.first in
-    let tail = tail_passes b.mid c.x c.mid (placed_passes Tail (tail_at b.mid) c.x c.mid c.first) in
+    let tail = tail_passes b.mid c.x c.mid (placed_passes Tail (judged_as tail_form b.mid) c.x c.mid c.first) in
     let device = device_passes c.mid d.x d.mid (placed_passes Device (device_at c.mid) d.x d.mid d.first) in
     let is : IsLegacy input (stream_of b.x c.x d.x) d.mid = record {
       start = a.x;
@@ -38,9 +38,9 @@ legacy_is_accepted input s rest is =
     let at_tail = is.tail ++ at_device in
     let at_chunks = is.bytes ++ at_tail in
     ap legacy_at is.whole
-    ∙ then_passes (placed Start (start_at (is.start ++ at_chunks))) behind_start is.start at_chunks _ (ap (placed Start) (start_goes is.start at_chunks is.is_start))
+    ∙ then_passes (placed Start (judged_as start_form (is.start ++ at_chunks))) behind_start is.start at_chunks _ (ap (placed Start) (start_goes is.start at_chunks is.is_start))
     (then_passes (chunks_at at_chunks) behind_chunks s.chunks at_tail _ (spelled_accepted is_legacy_ended placed_chunk FollowsLegacy finds goes not_ended is.bytes s.chunks at_tail is.spelled is.ended)
-    (then_passes (placed Tail (tail_at at_tail)) (behind_tail s.chunks) s.tail at_device _ (ap (placed Tail) (tail_goes is.tail s.tail is.is_tail at_device))
+    (then_passes (placed Tail (judged_as tail_form at_tail)) (behind_tail s.chunks) s.tail at_device _ (ap (placed Tail) (tail_goes is.tail s.tail is.is_tail at_device))
     (then_passes (placed Device (device_at at_device)) (λ device. Passes (stream_of s.chunks s.tail device.0) device.1) s.device rest _ (ap (placed Device) (device_goes is.device s.device rest is.is_device)) refl)))
 
 -- ---- one answer

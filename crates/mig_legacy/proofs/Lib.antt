@@ -5,6 +5,7 @@ pub mod Parts
 pub mod Batches
 pub mod Bodies
 pub mod ChunkTexts
+pub mod Contents
 pub mod Arrivals
 pub mod Taking
 pub mod BatchFrames

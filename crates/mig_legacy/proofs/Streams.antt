@@ -1,5 +1,5 @@
 -- A legacy stream as the reader takes it, part after part, and the guest that it means.
-use Rattle.mig_legacy.proofs.Common.{◌≡◌, ℕ, List, ◌++◌, Option, refl, sym, ap, ◌∙◌, fold-append, Judged, ◌>>=◌, placed, Passes, Hvm, LegacyCause, LegacyPlace, Start, Tail, Device, GuestOf, blank, mean, sent, put_record, empty_guest, EmulatorsOf, put_libxl_content, no_emulators, emulators_of, with_emulators, IsStreamedBare, start_at, tail_at, device_at, LegacyChunk, LegacyTail, LegacyStream, tail_records, device_records, image_records, store_records, mean_legacy, IsLegacySeen, put_tail, put_device, chunks_at, legacy_at, ChunksSeen}
+use Rattle.mig_legacy.proofs.Common.{◌≡◌, ℕ, List, ◌++◌, Option, refl, sym, ap, ◌∙◌, fold-append, Judged, ◌>>=◌, placed, Passes, Hvm, LegacyCause, LegacyPlace, Start, Tail, Device, GuestOf, blank, mean, sent, put_record, empty_guest, EmulatorsOf, put_libxl_content, no_emulators, emulators_of, with_emulators, IsStreamedBare, judged_as, start_form, tail_form, device_at, LegacyChunk, LegacyTail, LegacyStream, tail_records, device_records, image_records, store_records, mean_legacy, IsLegacySeen, put_tail, put_device, chunks_at, legacy_at, ChunksSeen}
 use Rattle.std.proofs.Common.{fold}
 
 abbrev pub stream_of : List LegacyChunk → LegacyTail → Option (List ℕ) → LegacyStream
@@ -10,12 +10,12 @@ abbrev pub behind_tail : List LegacyChunk → LegacyTail × List ℕ → Judged 
 behind_tail chunks tail = placed Device (device_at tail.1) >>= λ device. Passes (stream_of chunks tail.0 device.0) device.1
 
 abbrev pub behind_chunks : List LegacyChunk × List ℕ → Judged (LegacyPlace × LegacyCause) LegacyStream
-behind_chunks chunks = placed Tail (tail_at chunks.1) >>= behind_tail chunks.0
+behind_chunks chunks = placed Tail (judged_as tail_form chunks.1) >>= behind_tail chunks.0
 
 abbrev pub behind_start : List ℕ × List ℕ → Judged (LegacyPlace × LegacyCause) LegacyStream
 behind_start start = chunks_at start.1 >>= behind_chunks
 
-pub stream_is : (i : List ℕ) → legacy_at i ≡ (placed Start (start_at i) >>= behind_start)
+pub stream_is : (i : List ℕ) → legacy_at i ≡ (placed Start (judged_as start_form i) >>= behind_start)
 unfolding legacy_at
 stream_is i = refl
 

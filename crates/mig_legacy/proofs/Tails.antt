@@ -1,10 +1,12 @@
 -- The tail: how it is read, and that a guest with it is whole.
 use Rattle.mig_bodies.proofs.Kept.{cut_is}
-use Rattle.mig_legacy.proofs.Common.{◌≡◌, ℕ, ◌<◌, ◌≤◌, ◌^◌, List, length, take, drop, Option, Result, Ok, Err, refl, sym, ap, subst, ◌∙◌, arith, length-take-le, length-drop, IsOk, IfOk, IsSome, replicate, false≢true, All-append, All-take, All-drop, All-replicate, AreBytes, Judged, ◌>>=◌, part, Gives, said_at, Passes, Faulty, Stop, then_reads, scan, cut_at, ContextFault, Hvm, LegacyCause, Truncated, IsCut, width_of, GuestOf, context_key, PartKey, part_total, blank_of, IsBegun, IsStreamedBare, length_at, context_fault, cut_context, tail_of, tail_at, LegacyTail, param_key, put_tail}
+use Rattle.mig_legacy.proofs.Common.{◌≡◌, ℕ, ◌<◌, ◌≤◌, ◌^◌, List, length, take, drop, Option, Result, Ok, Err, refl, sym, ap, subst, ◌∙◌, arith, length-take-le, length-drop, IsOk, IfOk, IsSome, replicate, false≢true, All-append, All-take, All-drop, All-replicate, AreBytes, Judged, ◌>>=◌, part, tried, Gives, said_at, Passes, Faulty, Stop, then_reads, scan, cut_at, ContextFault, Hvm, LegacyCause, Truncated, IsCut, width_of, GuestOf, context_key, PartKey, part_total, blank_of, IsBegun, IsStreamedBare, judged_as, Test, computed, length_form, counted_form, context_fault, cut_context, tail_of, tail_form, LegacyTail, param_key, put_tail}
 use Rattle.std.specs.FinMap as maps
 use Rattle.mig_guest.specs.Frames.{IsFew}
 use Rattle.mig_restore.proofs.Laws.{complete_faultless}
 use Rattle.mig_legacy.proofs.Growth.{part_grows, param_part, context_part}
+use Rattle.mig_form.proofs.Tests.{computed_is}
+use Rattle.mig_legacy.proofs.Parts.{behind_length, counted_is}
 use Rattle.mig_legacy.proofs.Taking.{behind, part_set}
 
 -- ---- the parts in their order
@@ -13,28 +15,34 @@ use Rattle.mig_legacy.proofs.Taking.{behind, part_set}
 abbrev pub context_at : List ℕ → ℕ → List ℕ → Judged LegacyCause LegacyTail
 context_at frames n input = said_at Truncated (λ context. context_fault (scan context)) (tail_of frames) n input
 
+abbrev tail_rows : List ℕ → List (Test × LegacyCause)
+tail_rows context = computed (context_fault (scan context))
+
 -- what follows the frame numbers
 abbrev pub behind_frames : List ℕ × List ℕ → Judged LegacyCause LegacyTail
-behind_frames frames = length_at (2 ^ 27) frames.1 >>= λ len. context_at frames.0 len.0 len.1
+behind_frames frames = judged_as (counted_form (2 ^ 27) tail_rows (tail_of frames.0)) frames.1
 
-pub tail_parts : (n : ℕ) → n ≡ 24 → (i : List ℕ) → tail_at i ≡ (part Truncated n i >>= behind_frames)
-unfolding tail_at
-tail_parts n is i = by (part Truncated 24 i) ∙ ap (λ k. part Truncated k i >>= behind_frames) (sym is)
-  where
-    by : (j : Judged LegacyCause (List ℕ)) → ((j >>= λ bytes. Passes bytes.0 bytes.1) >>= behind_frames) ≡ (j >>= behind_frames)
-    by (Passes bytes rest) = refl
-    by (Faulty c rest) = refl
+pub tail_parts : (n : ℕ) → n ≡ 24 → (i : List ℕ) → judged_as tail_form i ≡ (part Truncated n i >>= behind_frames)
+unfolding tail_form judged_as
+tail_parts n is i = ap (λ k. part Truncated k i >>= behind_frames) (sym is)
+
+context_is : (frames : List ℕ) (n : ℕ) (i : List ℕ) → behind_length (2 ^ 27) tail_rows (tail_of frames) (n, i) ≡ context_at frames n i
+unfolding judged_as
+context_is frames n i = λ at. part Truncated n i >>= λ b. tried (computed_is (context_fault (scan b.0)) at) b.1 >>= λ _. Passes (tail_of frames b.0) b.1
+
+pub counted_parts : (frames i : List ℕ) → behind_frames (frames, i) ≡ (judged_as (length_form (2 ^ 27)) i >>= λ len. context_at frames len.0 len.1)
+counted_parts frames i = counted_is (2 ^ 27) tail_rows (tail_of frames) i ∙ (λ at. judged_as (length_form (2 ^ 27)) i >>= λ len. context_is frames len.0 len.1 at)
 
 module _ {V : Type 0} (Q : V → LegacyTail → Type 0) (n : ℕ) (size : n ≡ 24) (frames : List ℕ) (a b : Option (List ℕ)) (told : Gives {X = Unit {0}} (λ _ bytes. bytes ≡ frames) a b (part Truncated n) (Ok tt)) where
   -- behind the frame numbers
-  pub framed : (d : Option (List ℕ)) (r : Result V (Stop LegacyCause)) → Gives Q b d (λ i. behind_frames (frames, i)) r → Gives Q a d tail_at r
+  pub framed : (d : Option (List ℕ)) (r : Result V (Stop LegacyCause)) → Gives Q b d (λ i. behind_frames (frames, i)) r → Gives Q a d (judged_as tail_form) r
   framed d r read =
-      then_reads (λ _ bytes. bytes ≡ frames) Q a b d (part Truncated n) tail_at behind_frames tt r (tail_parts n size) told (λ bytes is. subst (λ l. Gives Q b d (λ i. behind_frames (l, i)) r) (sym is) read)
+      then_reads (λ _ bytes. bytes ≡ frames) Q a b d (part Truncated n) (judged_as tail_form) behind_frames tt r (tail_parts n size) told (λ bytes is. subst (λ l. Gives Q b d (λ i. behind_frames (l, i)) r) (sym is) read)
 
   -- behind the length too
-  pub counted : (c d : Option (List ℕ)) (len : ℕ) (r : Result V (Stop LegacyCause)) → Gives {X = ℕ} (λ len n. n ≡ len) b c (length_at (2 ^ 27)) (Ok len) → Gives Q c d (context_at frames len) r → Gives Q a d tail_at r
+  pub counted : (c d : Option (List ℕ)) (len : ℕ) (r : Result V (Stop LegacyCause)) → Gives {X = ℕ} (λ len n. n ≡ len) b c (judged_as (length_form (2 ^ 27))) (Ok len) → Gives Q c d (context_at frames len) r → Gives Q a d (judged_as tail_form) r
   counted c d len r counts read =
-      framed d r (then_reads (λ len n. n ≡ len) Q b c d (length_at (2 ^ 27)) (λ i. behind_frames (frames, i)) (λ len. context_at frames len.0 len.1) len r (λ i. refl) counts (λ m is. subst (λ k. Gives Q c d (context_at frames k) r) (sym is) read))
+      framed d r (then_reads (λ len n. n ≡ len) Q b c d (judged_as (length_form (2 ^ 27))) (λ i. behind_frames (frames, i)) (λ len. context_at frames len.0 len.1) len r (counted_parts frames) counts (λ m is. subst (λ k. Gives Q c d (context_at frames k) r) (sym is) read))
 
 -- ---- what is set
 

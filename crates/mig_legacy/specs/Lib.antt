@@ -1,5 +1,5 @@
 pub mod Legacy
-pub mod Judging
+pub mod LegacyForm
 pub mod Stream
 pub mod Spelled
 pub mod Seen

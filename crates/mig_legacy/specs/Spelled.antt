@@ -19,7 +19,7 @@ use Rattle.mig_chunks.specs.declared.chunk.ChunkKind.{ChunkKind}
 use Rattle.mig_chunks.specs.declared.chunk.ChunkKind.TheVariants.{End, Batch, VcpuMap, Tsc, LastCheckpoint, Toolstack, Param}
 use Rattle.mig_chunks.specs.Batches.{is_reserved, is_high, page_data_words}
 use Rattle.mig_chunks.specs.Chunks.{IsNumberOf}
-use Rattle.mig_legacy.specs.Judging.{most_chunks, signature}
+use Rattle.mig_legacy.specs.LegacyForm.{most_chunks, signature}
 use Rattle.mig_legacy.specs.Legacy.{LegacyContent, LegacyChunk, LegacyTail, LegacyStream, is_legacy_ended, has_value, store_key, image_records, store_records, mean_legacy}
 use Rattle.mig_legacy.specs.Legacy.LegacyContent.{Nothing, Frames, Value, Clock, Pairs}
 use Rattle.mig_chunks.specs.Texts.{pairs_of_physmap}

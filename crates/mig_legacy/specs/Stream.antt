@@ -1,23 +1,24 @@
 -- Judging a legacy stream as a whole: the start, chunks up to the one that ends them, the tail, and the device model's
 -- record if there is one.
-use Rattle.std.specs.Prelude.{◌≡◌, ℕ, List, length, Option, Result}
+use Rattle.std.specs.Prelude.{◌≡◌, ℕ, List, [], ◌∷◌, length, Option, None, Result}
 use Rattle.mig_bytes.specs.Answers.{or_stop}
 use Rattle.mig_bytes.specs.Judged.{Judged, ◌>>=◌, placed, Gives}
 use Rattle.mig_bytes.specs.Judged.Judged.{Passes, Faulty}
 use Rattle.mig_bytes.specs.Sequences.{sequence_at}
 use Rattle.mig_bytes.specs.declared.answer.Answer.{Answer}
+use Rattle.mig_form.specs.Form.{judged_as}
 use Rattle.mig_headers.specs.declared.legacy_fault.LegacyCause.{LegacyCause}
 use Rattle.mig_headers.specs.declared.legacy_fault.LegacyPlace.{LegacyPlace}
 use Rattle.mig_headers.specs.declared.legacy_fault.LegacyPlace.TheVariants.{Start, Chunk, Tail, Device}
 use Rattle.mig_guest.specs.Guests.{GuestOf}
-use Rattle.mig_legacy.specs.Judging.{chunk_at, start_at, tail_at, device_at}
+use Rattle.mig_legacy.specs.LegacyForm.{start_form, chunk_form, tail_form, device_form}
 use Rattle.mig_legacy.specs.Legacy.{LegacyChunk, LegacyStream, is_legacy_ended, mean_legacy}
 
 -- ---- the chunks
 
 -- a chunk behind these chunks, at its place
 abbrev pub placed_chunk : List LegacyChunk → List ℕ → Judged (LegacyPlace × LegacyCause) LegacyChunk
-placed_chunk chunks input = placed (Chunk (length chunks)) (chunk_at chunks input)
+placed_chunk chunks input = placed (Chunk (length chunks)) (judged_as (chunk_form chunks) input)
 
 -- chunks up to the one that ends them
 abbrev pub chunks_at : List ℕ → Judged (LegacyPlace × LegacyCause) (List LegacyChunk)
@@ -25,11 +26,16 @@ chunks_at input = sequence_at is_legacy_ended placed_chunk input
 
 -- ---- the stream
 
+-- the device model's record, or the end of the input
+unfoldable pub device_at : List ℕ → Judged LegacyCause (Option (List ℕ))
+device_at [] = Passes None []
+device_at (b ∷ input) = judged_as device_form (b ∷ input)
+
 unfoldable pub legacy_at : List ℕ → Judged (LegacyPlace × LegacyCause) LegacyStream
 legacy_at input = do
-  start ← placed Start (start_at input)
+  start ← placed Start (judged_as start_form input)
   chunks ← chunks_at start.1
-  tail ← placed Tail (tail_at chunks.1)
+  tail ← placed Tail (judged_as tail_form chunks.1)
   device ← placed Device (device_at tail.1)
   Passes (record { chunks = chunks.0; tail = tail.0; device = device.0 }) device.1
 

@@ -3,11 +3,12 @@ ghost use Rattle.mig_bytes.specs.Bytes.{AreBytes};
 ghost use Rattle.mig_bytes.specs.Faults.{RisesOnReadFault};
 ghost use Rattle.mig_bytes.specs.Judged.{Gives, stop_at};
 ghost use Rattle.mig_bytes.specs.declared.part.Stop.TheVariants.{Memory as NoMemory};
+ghost use Rattle.mig_form.specs.Form.{judged_as};
 ghost use Rattle.mig_headers.specs.declared.kind.Kind.TheVariants.{Hvm};
 ghost use Rattle.mig_restore.specs.Mean.{Grows};
 ghost use Rattle.mig_emulators.specs.Formed.{AreEmulators};
 ghost use Rattle.mig_chunks.specs.Batches.{fault_of_batch};
-ghost use Rattle.mig_legacy.specs.Judging.{length_at, legacy_words_at, batch_at, clock_of as clock_in, vcpus_at, clock_at, value_at, toolstack_at};
+ghost use Rattle.mig_legacy.specs.LegacyForm.{length_form, words_form, batch_form, clock_of as clock_in, vcpus_form, clock_form, value_form, toolstack_form};
 ghost use Rattle.mig_legacy.specs.Legacy.{LegacyContent, param_key as key_of_param};
 ghost use Rattle.mig_legacy.specs.Legacy.LegacyContent.{Nothing};
 ghost use Rattle.mig_legacy.specs.Seen.{cut_short, put_in_guest, put_in_emulators};
@@ -55,8 +56,9 @@ pub(crate) fn are_bytes(bytes: &[u8])
 {}
 
 /// Takes a length, which is at most so much.
+#[tactic(auto, unfolding(mig_form::specs::Form::judged_as))]
 pub(crate) fn take_length<S: Source>(src: &mut S, most: u32) -> Result<u32, Stop<LegacyCause>>
-    ensures read { Gives (λ len n. n ≡ len) (S.left src.old) (S.left src.new) (length_at most) result }
+    ensures read { Gives (λ len n. n ≡ len) (S.left src.old) (S.left src.new) (judged_as (length_form most)) result }
     ensures most { IfOk result (λ len. len ≤ most) }
     ensures faults { RisesOnReadFault (S.faults src.old) (S.faults src.new) result }
     ensures takes_no_memory { ¬ IsErrOf result NoMemory }
@@ -84,13 +86,14 @@ fn truncated(stop: Stop<Cause>) -> Stop<LegacyCause>
 }
 
 /// Takes so many words.
+#[tactic(auto, unfolding(mig_form::specs::Form::judged_as))]
 fn take_words<S: Source>(
     alloc: Global,
     src: &mut S,
     count: u32,
 ) -> Result<Vec<u64>, Stop<LegacyCause>>
     requires { count ≤ 1024 }
-    ensures read { Gives (λ list ws. ws ≡ list.items) (S.left src.old) (S.left src.new) (legacy_words_at count) result }
+    ensures read { Gives (λ list ws. ws ≡ list.items) (S.left src.old) (S.left src.new) (judged_as (words_form count)) result }
     ensures good { IfOk result (λ list. fault_of_batch list.items ≡ None) }
     ensures len { IfOk result (λ list. length list.items ≡ count) }
     ensures faults { RisesOnReadFault (S.faults src.old) (S.faults src.new) result }
@@ -115,7 +118,7 @@ pub(crate) fn take_batch<S: Source>(
     requires few { count ≤ 1024 }
     requires hvm { guest.old.kind ≡ Hvm }
     requires top { guest.old.top ≡ 0 }
-    ensures read { Gives (λ _ c. guest.new ≡ put_in_guest guest.old c) (S.left src.old) (S.left src.new) (batch_at count) result }
+    ensures read { Gives (λ _ c. guest.new ≡ put_in_guest guest.old c) (S.left src.old) (S.left src.new) (judged_as (batch_form count)) result }
     ensures grown { OnOk result (Grows guest.old guest.new) }
     ensures faults { RisesOnReadFault (S.faults src.old) (S.faults src.new) result }
 {
@@ -132,8 +135,9 @@ pub(crate) fn take_batch<S: Source>(
 // ---- other bodies
 
 /// Takes which vCPUs there are, of which nothing is kept.
+#[tactic(auto, unfolding(mig_form::specs::Form::judged_as))]
 pub(crate) fn take_vcpus<S: Source>(src: &mut S) -> Result<(), Stop<LegacyCause>>
-    ensures read { Gives (λ _ c. c ≡ Nothing) (S.left src.old) (S.left src.new) vcpus_at result }
+    ensures read { Gives (λ _ c. c ≡ Nothing) (S.left src.old) (S.left src.new) (judged_as vcpus_form) result }
     ensures faults { RisesOnReadFault (S.faults src.old) (S.faults src.new) result }
     ensures takes_no_memory { ¬ IsErrOf result NoMemory }
 {
@@ -165,13 +169,14 @@ fn clock_of(alloc: Global, bytes: &[u8; 20]) -> Result<Vec<u8>, Memory>
 }
 
 /// Takes how time passes in the guest.
+#[tactic(auto, unfolding(mig_form::specs::Form::judged_as))]
 pub(crate) fn take_clock<S: Source>(
     alloc: Global,
     src: &mut S,
     guest: &mut Guest,
 ) -> Result<(), Stop<LegacyCause>>
     requires hvm { guest.old.kind ≡ Hvm }
-    ensures read { Gives (λ _ c. guest.new ≡ put_in_guest guest.old c) (S.left src.old) (S.left src.new) clock_at result }
+    ensures read { Gives (λ _ c. guest.new ≡ put_in_guest guest.old c) (S.left src.old) (S.left src.new) (judged_as clock_form) result }
     ensures grown { OnOk result (Grows guest.old guest.new) }
     ensures faults { RisesOnReadFault (S.faults src.old) (S.faults src.new) result }
 {
@@ -188,6 +193,7 @@ pub(crate) fn take_clock<S: Source>(
 }
 
 /// Takes the value of the HVM parameter of this index.
+#[tactic(auto, unfolding(mig_form::specs::Form::judged_as))]
 pub(crate) fn take_value<S: Source>(
     src: &mut S,
     index: u32,
@@ -195,7 +201,7 @@ pub(crate) fn take_value<S: Source>(
 ) -> Result<(), Stop<LegacyCause>>
     requires small { index < 4096 }
     requires hvm { guest.old.kind ≡ Hvm }
-    ensures read { Gives (λ _ c. guest.new ≡ put_in_guest guest.old c) (S.left src.old) (S.left src.new) (value_at index) result }
+    ensures read { Gives (λ _ c. guest.new ≡ put_in_guest guest.old c) (S.left src.old) (S.left src.new) (judged_as (value_form index)) result }
     ensures grown { OnOk result (Grows guest.old guest.new) }
     ensures faults { RisesOnReadFault (S.faults src.old) (S.faults src.new) result }
 {
@@ -215,7 +221,7 @@ pub(crate) fn take_toolstack<S: Source>(
     emulators: &mut Emulators,
 ) -> Result<(), Stop<LegacyCause>>
     requires begun { AreEmulators emulators.old }
-    ensures read { Gives (λ _ c. emulators.new ≡ put_in_emulators emulators.old c) (S.left src.old) (S.left src.new) (toolstack_at emulators.old) result }
+    ensures read { Gives (λ _ c. emulators.new ≡ put_in_emulators emulators.old c) (S.left src.old) (S.left src.new) (judged_as (toolstack_form emulators.old)) result }
     ensures begun { OnOk result (AreEmulators emulators.new) }
     ensures faults { RisesOnReadFault (S.faults src.old) (S.faults src.new) result }
 {

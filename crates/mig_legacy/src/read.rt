@@ -6,6 +6,8 @@ ghost use Rattle.mig_bytes.specs.Bytes.{AreBytes};
 ghost use Rattle.mig_bytes.specs.Faults.{RisesOnReadFault};
 ghost use Rattle.mig_bytes.specs.Judged.{Gives};
 ghost use Rattle.mig_bytes.specs.declared.part.Stop.TheVariants.{Memory as NoMemory};
+ghost use Rattle.mig_form.specs.Form.{judged_as};
+ghost use Rattle.mig_form.specs.Tests.{first_named};
 ghost use Rattle.mig_headers.specs.declared.kind.Kind.TheVariants.{Hvm};
 ghost use Rattle.mig_guest.specs.Frames.{IsFew};
 ghost use Rattle.mig_pagetypes.specs.Limits.{most_frames};
@@ -13,7 +15,7 @@ ghost use Rattle.mig_pvtables.specs.Whole.{IsStreamed, IsStreamedBare};
 ghost use Rattle.mig_emulators.specs.Emulators.{with_emulators};
 ghost use Rattle.mig_emulators.specs.Formed.{AreEmulators};
 ghost use Rattle.mig_chunks.specs.declared.chunk.ChunkKind.TheVariants as kinds;
-ghost use Rattle.mig_legacy.specs.Judging.{most_chunks, fault_of_kind, fault_of_start, chunk_kind_at, chunk_content_at, chunk_at, start_at, tail_at, device_at};
+ghost use Rattle.mig_legacy.specs.LegacyForm.{most_chunks, start_causes, place_causes, start_form, type_form, content_form, chunk_form};
 ghost use Rattle.mig_legacy.specs.Legacy.{LegacyChunk, device_records, is_end, is_value_of, mean_legacy};
 ghost use Rattle.mig_legacy.specs.Seen.{IsLegacySeen, IsLegacyBegun, TakesLegacy, put_tail};
 ghost use Rattle.mig_chunks.specs.Chunks.{IsWithinLimits};
@@ -37,7 +39,7 @@ pub type LegacyAnswer = Answer<LegacyPlace, LegacyCause>;
 
 /// What is wrong with the first 8 bytes.
 fn start_fault(width: &[u8; 8]) -> Option<LegacyCause>
-    ensures { result ≡ fault_of_start width.now }
+    ensures { result ≡ first_named (start_causes width.now) }
 {
     if ImageHeader::marker_fault(width).is_none() || LibxlHeader::is_ident(width) {
         return Some(LegacyCause::Modern);
@@ -49,8 +51,9 @@ fn start_fault(width: &[u8; 8]) -> Option<LegacyCause>
 }
 
 /// Takes the width of the P2M, of which nothing is kept.
+#[tactic(auto, unfolding(mig_form::specs::Form::judged_as))]
 fn take_start<S: Source>(src: &mut S) -> Result<(), Stop<LegacyCause>>
-    ensures read { Gives (λ _ _. ⊤) (S.left src.old) (S.left src.new) start_at result }
+    ensures read { Gives (λ _ _. ⊤) (S.left src.old) (S.left src.new) (judged_as start_form) result }
     ensures faults { RisesOnReadFault (S.faults src.old) (S.faults src.new) result }
     ensures takes_no_memory { ¬ IsErrOf result NoMemory }
 {
@@ -99,9 +102,8 @@ impl ChunksSeen {
     }
 
     /// What is wrong with a chunk that is this, behind those before.
-    #[tactic(auto, unfolding(crate::specs::Judging::fault_of_kind))]
     fn kind_fault(&self, kind: ChunkKind) -> Option<LegacyCause>
-        ensures fault { (chunks : List LegacyChunk) → IsLegacySeen self.now chunks → result ≡ fault_of_kind chunks kind }
+        ensures fault { (chunks : List LegacyChunk) → IsLegacySeen self.now chunks → result ≡ first_named (place_causes chunks kind) }
         ensures room { IfNone result (self.now.chunks < most_chunks) }
         ensures few { IfNone result (is_end kind ≡ true → maps.len self.now.guest.frames ≤ most_frames) }
     {
@@ -119,9 +121,9 @@ impl ChunksSeen {
     }
 
     /// Takes the type of the next chunk.
-    #[tactic(auto, using(mig_chunks::proofs::ChunkNumbers::sound_kind))]
+    #[tactic(auto, using(mig_chunks::proofs::ChunkNumbers::sound_kind), unfolding(mig_form::specs::Form::judged_as))]
     fn take_kind<S: Source>(&self, src: &mut S) -> Result<ChunkKind, Stop<LegacyCause>>
-        ensures read { (chunks : List LegacyChunk) → IsLegacySeen self.now chunks → Gives (λ kind k. k ≡ kind) (S.left src.old) (S.left src.new) (chunk_kind_at chunks) result }
+        ensures read { (chunks : List LegacyChunk) → IsLegacySeen self.now chunks → Gives (λ kind k. k ≡ kind) (S.left src.old) (S.left src.new) (judged_as (type_form chunks)) result }
         ensures sound { IfOk result (λ kind. IsWithinLimits kind) }
         ensures room { OnOk result (self.now.chunks < most_chunks) }
         ensures few { IfOk result (λ kind. is_end kind ≡ true → maps.len self.now.guest.frames ≤ most_frames) }
@@ -141,6 +143,7 @@ impl ChunksSeen {
     }
 
     /// Takes the body of a chunk that is this, and keeps what it says.
+    #[tactic(auto, unfolding(mig_form::specs::Form::judged_as))]
     fn take_content<S: Source>(
         &mut self,
         alloc: Global,
@@ -149,7 +152,7 @@ impl ChunksSeen {
     ) -> Result<(), Stop<LegacyCause>>
         requires begun { IsLegacyBegun self.old }
         requires sound { IsWithinLimits kind }
-        ensures read { (chunks : List LegacyChunk) → IsLegacySeen self.old chunks → Gives (λ _ c. TakesLegacy self.old self.new c) (S.left src.old) (S.left src.new) (chunk_content_at chunks kind) result }
+        ensures read { (chunks : List LegacyChunk) → IsLegacySeen self.old chunks → Gives (λ _ c. TakesLegacy self.old self.new c) (S.left src.old) (S.left src.new) (judged_as (content_form chunks kind)) result }
         ensures begun { OnOk result (IsLegacyBegun self.new) }
         ensures chunks { OnOk result (self.new.chunks ≡ self.old.chunks) }
         ensures end { OnOk result (is_end kind ≡ true → self.new ≡ self.old) }
@@ -190,7 +193,7 @@ impl ChunksSeen {
     ) -> Result<bool, Stop<LegacyCause>>
         requires begun { IsLegacyBegun self.old }
         ensures read { (chunks : List LegacyChunk) → IsLegacySeen self.old chunks →
-            Gives (λ over c. IsLegacySeen self.new (chunks ++ c ∷ []) × (over ≡ is_end c.kind)) (S.left src.old) (S.left src.new) (chunk_at chunks) result }
+            Gives (λ over c. IsLegacySeen self.new (chunks ++ c ∷ []) × (over ≡ is_end c.kind)) (S.left src.old) (S.left src.new) (judged_as (chunk_form chunks)) result }
         ensures begun { OnOk result (IsLegacyBegun self.new) }
         ensures few { IfOk result (λ over. over ≡ true → maps.len self.new.guest.frames ≤ most_frames) }
         ensures counted { OnOk result ((self.new.chunks ≡ self.old.chunks + 1) × (self.old.chunks < most_chunks)) }

@@ -1,6 +1,7 @@
 ghost use Rattle.std.specs.Prelude.{◌≡◌, ◌≤◌, ◌+◌, ◌∷◌, List, Some, length, IsOk, IfOk, OnOk};
 ghost use Rattle.mig_bytes.specs.Faults.{RisesOnReadFault};
 ghost use Rattle.mig_bytes.specs.Judged.{Gives};
+ghost use Rattle.mig_form.specs.Form.{judged_as};
 ghost use Rattle.mig_headers.specs.RecordTypes.{most_body};
 ghost use Rattle.mig_headers.specs.Contexts.{scan};
 ghost use Rattle.mig_headers.specs.declared.kind.Kind.TheVariants.{Hvm};
@@ -8,8 +9,9 @@ ghost use Rattle.mig_guest.specs.Frames.{IsFew};
 ghost use Rattle.mig_restore.specs.Mean.{IsBegun};
 ghost use Rattle.mig_emulators.specs.Formed.{AreEmulators};
 ghost use Rattle.mig_pvtables.specs.Whole.{IsStreamedBare};
-ghost use Rattle.mig_legacy.specs.Judging.{tail_of, tail_at, device_at, device_record_at};
+ghost use Rattle.mig_legacy.specs.LegacyForm.{tail_of, tail_form, device_form};
 ghost use Rattle.mig_legacy.specs.Seen.{put_tail, put_device};
+ghost use Rattle.mig_legacy.specs.Stream.{device_at};
 
 use crate::body::{are_bytes, param_key, take_length};
 use mig_bytes::{Memory, Source, Stop, take_long, take_part};
@@ -56,7 +58,7 @@ pub(crate) fn take_tail<S: Source>(
     requires hvm { guest.old.kind ≡ Hvm }
     requires begun { IsBegun guest.old }
     requires few { IsFew guest.old.frames }
-    ensures read { Gives (λ _ t. guest.new ≡ put_tail guest.old t) (S.left src.old) (S.left src.new) tail_at result }
+    ensures read { Gives (λ _ t. guest.new ≡ put_tail guest.old t) (S.left src.old) (S.left src.new) (judged_as tail_form) result }
     ensures plain { OnOk result (IsStreamedBare guest.new) }
     ensures kind { OnOk result (guest.new.kind ≡ Hvm) }
     ensures faults { RisesOnReadFault (S.faults src.old) (S.faults src.new) result }
@@ -77,12 +79,13 @@ pub(crate) fn take_tail<S: Source>(
 }
 
 /// Takes a device model's record behind its first byte.
+#[tactic(auto, unfolding(mig_form::specs::Form::judged_as))]
 fn take_record<S: Source>(
     alloc: Global,
     src: &mut S,
     first: u8,
 ) -> Result<Vec<u8>, Stop<LegacyCause>>
-    ensures read { Gives (λ content device. device ≡ Some content.items) (S.left src.old) (S.left src.new) (λ rest. device_record_at (first ∷ rest)) result }
+    ensures read { Gives (λ content device. device ≡ Some content.items) (S.left src.old) (S.left src.new) (λ rest. judged_as device_form (first ∷ rest)) result }
     ensures small { IfOk result (λ content. length content.items + 8 ≤ most_body) }
     ensures faults { RisesOnReadFault (S.faults src.old) (S.faults src.new) result }
 {

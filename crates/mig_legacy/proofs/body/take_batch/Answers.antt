@@ -1,5 +1,6 @@
-use Rattle.mig_legacy.proofs.Common.{◌≡◌, length, rules, sym, ap, subst, arith, All, IsGoodWord, page_data_words}
-use Rattle.mig_legacy.proofs.BatchFrames.{good_words, few_words, batch_read}
+use Rattle.mig_legacy.proofs.Common.{◌≡◌, length, rules, sym, ap, subst, arith, All, IsGoodWord, page_data_words, judged_as, words_form, batch_form, stopped}
+use Rattle.mig_legacy.proofs.Batches.{behind_words, batch_is}
+use Rattle.mig_legacy.proofs.BatchFrames.{good_words, few_words, batch_read, batch_stopped}
 use Rattle.mig_legacy.proofs.body.take_batch.Goals as goal
 
 pub take_entries-requires-clause-good : goal.take_entries-requires-clause-good
@@ -22,3 +23,13 @@ returns-in-Ok-take_entries-clause-read g c =
     let ws = c.in_ok-words.words.items in
     let same : c.deref-2.result.now ≡ page_data_words ws = search rules in
     batch_read c.args.guest.now c.take_entries.new.guest c.args.count c.requires.hvm c.requires.top _ _ _ c.in_ok-words.words (λ v. v.items) c.deref-2.result.now same c.in_ok-words.ensures.read c.in-Ok-take_entries.ensures.read
+
+pub returns-in_err-words-clause-read : goal.returns-in_err-words-clause-read
+returns-in_err-words-clause-read g c =
+    stopped _ _ _ _ (judged_as (words_form c.args.count)) (judged_as (batch_form c.args.count)) behind_words c.in_err-words.field-0.0 c.from_residual.result (batch_is c.args.count) (search rules) c.in_err-words.ensures.read
+
+pub returns-clause-read : goal.returns-clause-read
+returns-clause-read g c =
+    let ws = c.in_ok-words.words.items in
+    let same : c.deref-2.result.now ≡ page_data_words ws = search rules in
+    batch_stopped c.args.guest.now c.take_entries.new.guest c.args.count c.requires.hvm c.requires.top _ _ _ c.in_ok-words.words (λ v. v.items) c.deref-2.result.now same c.in-Err.stop c.truncated.result c.truncated.ensures c.in_ok-words.ensures.read c.in-Err.ensures.read

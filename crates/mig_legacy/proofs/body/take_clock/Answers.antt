@@ -1,9 +1,10 @@
-use Rattle.mig_legacy.proofs.Common.{refl, plain_read, Truncated, ◌≡◌, length, rules, ap, sym, subst, ◌∙◌, AreBytes, width_of, clock_of, tsc_key, Clock}
+use Rattle.mig_legacy.proofs.Common.{judged_as, refl, plain_read, Truncated, ◌≡◌, length, rules, ap, sym, subst, ◌∙◌, AreBytes, width_of, clock_of, tsc_key, Clock}
 use Rattle.mig_legacy.proofs.Growth.{part_grows, tsc_part}
 use Rattle.mig_legacy.proofs.Taking.{clock_set, clock_len}
 use Rattle.mig_legacy.proofs.body.take_clock.Goals as goal
 
 pub returns-in-Ok-set_part-clause-read : goal.returns-in-Ok-set_part-clause-read
+unfolding judged_as
 returns-in-Ok-set_part-clause-read g c =
     let buf = c.take_part.new.buf in
     let same : c.deref-2.result.now ≡ clock_of buf = search rules in

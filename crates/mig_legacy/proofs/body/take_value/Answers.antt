@@ -1,9 +1,10 @@
-use Rattle.mig_legacy.proofs.Common.{refl, plain_read, Truncated, ◌≡◌, ◌<◌, length, drop, rules, sym, ap, ◌∙◌, arith, length-drop, All-drop, width_of, Value, param_key}
+use Rattle.mig_legacy.proofs.Common.{judged_as, refl, plain_read, Truncated, ◌≡◌, ◌<◌, length, drop, rules, sym, ap, ◌∙◌, arith, length-drop, All-drop, width_of, Value, param_key}
 use Rattle.mig_legacy.proofs.Growth.{part_grows, param_part}
 use Rattle.mig_legacy.proofs.Taking.{behind, part_set, value_set}
 use Rattle.mig_legacy.proofs.body.take_value.Goals as goal
 
 pub returns-in-Ok-clause-read : goal.returns-in-Ok-clause-read
+unfolding judged_as
 returns-in-Ok-clause-read g c =
     let len : length c.take_part.new.buf ≡ 12 = search rules in
     plain_read Truncated _ _ _ 12 len (λ bytes. Value c.args.index (drop 4 bytes)) tt _ _ tt c.in_ok-take_part.ensures.read

@@ -1,17 +1,17 @@
-use Rattle.mig_legacy.proofs.Common.{refl, rules, subst, ◌≤◌, ◌^◌, ◌>>=◌, placed, Passes, judged_so, mapped, stopped, then_reads, placed_then, placed_ends, placed_fine, Start, Tail, Device, start_at, tail_at, device_at, chunks_at, legacy_at}
+use Rattle.mig_legacy.proofs.Common.{refl, rules, subst, ◌≤◌, ◌^◌, ◌>>=◌, placed, Passes, judged_so, mapped, stopped, then_reads, placed_then, placed_ends, placed_fine, Start, Tail, Device, judged_as, start_form, tail_form, device_at, chunks_at, legacy_at}
 use Rattle.std.specs.FinMap as maps
 use Rattle.mig_legacy.proofs.Streams.{stream_of, behind_start, behind_chunks, behind_tail, stream_is, guest_meant}
 use Rattle.mig_legacy.proofs.read.read_parts.Goals as goal
 
 pub returns-in-Err-clause-read : goal.returns-in-Err-clause-read
 returns-in-Err-clause-read g c =
-    judged_so _ _ _ (λ i. placed Start (start_at i) >>= behind_start) legacy_at _ stream_is
-    (placed_ends _ _ Start start_at behind_start _ _ c.in-Err.stop c.at.result c.at.ensures c.in-Err.ensures.read)
+    judged_so _ _ _ (λ i. placed Start (judged_as start_form i) >>= behind_start) legacy_at _ stream_is
+    (placed_ends _ _ Start (judged_as start_form) behind_start _ _ c.in-Err.stop c.at.result c.at.ensures c.in-Err.ensures.read)
 
 pub returns-in_err-seen-clause-read : goal.returns-in_err-seen-clause-read
 returns-in_err-seen-clause-read g c =
-    judged_so _ _ _ (λ i. placed Start (start_at i) >>= behind_start) legacy_at _ stream_is
-    (placed_then _ _ Start start_at behind_start _ _ _ _ c.from_residual.result c.in_default.ensures.read
+    judged_so _ _ _ (λ i. placed Start (judged_as start_form i) >>= behind_start) legacy_at _ stream_is
+    (placed_then _ _ Start (judged_as start_form) behind_start _ _ _ _ c.from_residual.result c.in_default.ensures.read
     (λ start _. stopped _ _ _ _ chunks_at (λ i. behind_start (start, i)) behind_chunks c.in_err-seen.field-0.0 c.from_residual.result (λ i. refl) (search rules) c.in_err-seen.ensures.read))
 
 pub take_tail-requires-clause-few : goal.take_tail-requires-clause-few
@@ -19,24 +19,24 @@ take_tail-requires-clause-few g c = subst (λ n. n ≤ 2 ^ 24) (maps.len-entries
 
 pub returns-in-Err-take_tail-clause-read : goal.returns-in-Err-take_tail-clause-read
 returns-in-Err-take_tail-clause-read g c =
-    judged_so _ _ _ (λ i. placed Start (start_at i) >>= behind_start) legacy_at _ stream_is
-    (placed_then _ _ Start start_at behind_start _ _ _ _ _ c.in_default.ensures.read
+    judged_so _ _ _ (λ i. placed Start (judged_as start_form i) >>= behind_start) legacy_at _ stream_is
+    (placed_then _ _ Start (judged_as start_form) behind_start _ _ _ _ _ c.in_default.ensures.read
     (λ start _. then_reads _ _ _ _ _ chunks_at (λ i. behind_start (start, i)) behind_chunks c.in_ok-seen.seen _ (λ i. refl) c.in_ok-seen.ensures.read
-    (λ chunks _. placed_ends _ _ Tail tail_at (behind_tail chunks) _ _ c.in-Err-take_tail.stop c.at-in-Err-take_tail.result c.at-in-Err-take_tail.ensures c.in-Err-take_tail.ensures.read)))
+    (λ chunks _. placed_ends _ _ Tail (judged_as tail_form) (behind_tail chunks) _ _ c.in-Err-take_tail.stop c.at-in-Err-take_tail.result c.at-in-Err-take_tail.ensures c.in-Err-take_tail.ensures.read)))
 
 pub returns-in-Err-take_device-clause-read : goal.returns-in-Err-take_device-clause-read
 returns-in-Err-take_device-clause-read g c =
-    judged_so _ _ _ (λ i. placed Start (start_at i) >>= behind_start) legacy_at _ stream_is
-    (placed_then _ _ Start start_at behind_start _ _ _ _ _ c.in_default.ensures.read
+    judged_so _ _ _ (λ i. placed Start (judged_as start_form i) >>= behind_start) legacy_at _ stream_is
+    (placed_then _ _ Start (judged_as start_form) behind_start _ _ _ _ _ c.in_default.ensures.read
     (λ start _. then_reads _ _ _ _ _ chunks_at (λ i. behind_start (start, i)) behind_chunks c.in_ok-seen.seen _ (λ i. refl) c.in_ok-seen.ensures.read
-    (λ chunks _. placed_then _ _ Tail tail_at (behind_tail chunks) _ _ _ _ _ c.in_default-take_tail.ensures.read
+    (λ chunks _. placed_then _ _ Tail (judged_as tail_form) (behind_tail chunks) _ _ _ _ _ c.in_default-take_tail.ensures.read
     (λ tail _. placed_ends _ _ Device device_at (λ device. Passes (stream_of chunks tail device.0) device.1) _ _ c.in-Err-take_device.stop c.at-in-Err-take_device.result c.at-in-Err-take_device.ensures c.in-Err-take_device.ensures.read))))
 
 pub returns-in-Ok-clause-read : goal.returns-in-Ok-clause-read
 returns-in-Ok-clause-read g c =
-    judged_so _ _ _ (λ i. placed Start (start_at i) >>= behind_start) legacy_at _ stream_is
-    (placed_then _ _ Start start_at behind_start _ _ _ _ _ c.in_default.ensures.read
+    judged_so _ _ _ (λ i. placed Start (judged_as start_form i) >>= behind_start) legacy_at _ stream_is
+    (placed_then _ _ Start (judged_as start_form) behind_start _ _ _ _ _ c.in_default.ensures.read
     (λ start _. then_reads _ _ _ _ _ chunks_at (λ i. behind_start (start, i)) behind_chunks c.in_ok-seen.seen _ (λ i. refl) c.in_ok-seen.ensures.read
-    (λ chunks seen. placed_then _ _ Tail tail_at (behind_tail chunks) _ _ _ _ _ c.in_default-take_tail.ensures.read
+    (λ chunks seen. placed_then _ _ Tail (judged_as tail_form) (behind_tail chunks) _ _ _ _ _ c.in_default-take_tail.ensures.read
     (λ tail told. mapped _ _ _ _ (λ i. placed Device (device_at i)) (λ i. behind_tail chunks (tail, i)) (stream_of chunks tail) _ _ (λ i. refl) (placed_fine _ Device _ _ device_at _ c.in_default-take_device.ensures.read)
     (λ device set. guest_meant c.in_ok-seen.seen chunks tail device _ _ _ seen told set c.in_default-take_tail.ensures.plain c.in-Ok.ensures.ok)))))

@@ -1,5 +1,5 @@
 use Rattle.mig_bytes.proofs.Joins.{weakened}
-use Rattle.mig_legacy.proofs.Common.{◌≡◌, ◌∷◌, length, Some, rules, refl, sym, ap, subst, ◌∙◌, AreBytes, context_kept, device_record_at, put_device}
+use Rattle.mig_legacy.proofs.Common.{◌≡◌, ◌∷◌, length, Some, rules, refl, sym, ap, subst, ◌∙◌, AreBytes, context_kept, judged_as, device_form, put_device}
 use Rattle.mig_legacy.proofs.Devices.{no_device, some_device, stops_so}
 use Rattle.mig_legacy.proofs.tail.take_device.Goals as goal
 
@@ -13,7 +13,7 @@ returns-in_err-content-clause-read g c =
     let buf = c.take_part.new.buf in
     let one : length buf ≡ 1 = search rules in
     some_device _ _ one buf _ _ _ _ c.from_residual.result refl c.in-Ok.ensures.read
-    (stops_so _ _ (λ rest. device_record_at (_ ∷ rest)) _ _ c.in_err-content.field-0.0 c.from_residual.result (search rules) c.in_err-content.ensures.read)
+    (stops_so _ _ (λ rest. judged_as device_form (_ ∷ rest)) _ _ c.in_err-content.field-0.0 c.from_residual.result (search rules) c.in_err-content.ensures.read)
 
 pub returns-in-Ok-set_context-clause-read : goal.returns-in-Ok-set_context-clause-read
 returns-in-Ok-set_context-clause-read g c =
@@ -22,7 +22,7 @@ returns-in-Ok-set_context-clause-read g c =
     let one : length buf ≡ 1 = search rules in
     let same : c.deref-2.result.now ≡ c.in_ok-content.content.items = search rules in
     some_device _ _ one buf _ _ _ _ _ refl c.in-Ok.ensures.read
-    (weakened _ _ _ _ (λ rest. device_record_at (_ ∷ rest)) c.in_ok-content.content tt
+    (weakened _ _ _ _ (λ rest. judged_as device_form (_ ∷ rest)) c.in_ok-content.content tt
     (λ device is. c.in-Ok-set_context.ensures.ok ∙ ap (put_device e) (ap Some same ∙ sym is)) c.in_ok-content.ensures.read)
 
 pub returns-in-Ok-set_context-clause-begun : goal.returns-in-Ok-set_context-clause-begun
