@@ -1,7 +1,7 @@
 -- Names that the proofs of this crate use of other crates, and its own definitions.
 pub use Rattle.std.proofs.Common.{Bool, Err, IsSome, List, None, Ok, Option, Result, Some, [], ap, append-nil, append_assoc, arith, cond, drop, drop-drop, false, inl, inr, is_none, is_some, length, length-append, length-drop, length-take-le, ltb-false, nat_eq, nat_le, nat_lt, not, refl, slice_index, subst, suc, sym, take, take-append-drop, true, zero, ℕ, ◌*◌, ◌++◌, ◌+◌, ◌-◌, ◌/◌, ◌<◌, ◌^◌, ◌∙◌, ◌∷◌, ◌≡◌, ◌≤◌, ◌⊎◌}
 pub use Rattle.std.proofs.Math.Seq.{drop-append_seam, take-append_seam}
-pub use Rattle.std.proofs.lemmas.Bool.{agree_below_at, and_from, and_parts, both_ways, cases_eq, cases_lt, cases_order, eq-eqb, eqb-false, eqb-true, false≢true, le-leb, le-ltb, leb-false, leb-true, lt-leb, lt-ltb, ltb-true, ne_eqb, not-true, not_from_false, or_cases, or_left, or_right}
+pub use Rattle.std.proofs.lemmas.Bool.{and_from, and_parts, both_ways, cases_eq, cases_lt, cases_order, eq-eqb, eqb-false, eqb-true, false≢true, le-leb, le-ltb, leb-false, leb-true, lt-leb, lt-ltb, ltb-true, ne_eqb, not-true, not_from_false, or_cases, or_left, or_right}
 pub use Rattle.std.proofs.lemmas.Grind.{common_steps}
 pub use Rattle.std.proofs.lemmas.List.{append_cancel_right}
 pub use Rattle.std.proofs.lemmas.List.Elements.{All-append, All-from_recursion, recursion_from_All}
@@ -13,7 +13,6 @@ pub use Rattle.std.specs.FinMap.{FinMap, IsAntisymmetric, nat_cmp-IsAntisymmetri
 pub use Rattle.std.specs.List.{flat_map, list_any, range_with_len}
 pub use Rattle.std.specs.Option.{option_map, option_or}
 pub use Rattle.std.specs.Prelude.{find, ◌&&◌, ◌==◌, ◌||◌}
-pub use Rattle.std.specs.Result.{is_err}
 pub use Rattle.std.specs.declared.cmp.Ordering.{Ordering}
 pub use Rattle.std.specs.declared.cmp.Ordering.TheVariants.{Less}
 pub use Rattle.byteorder.specs.Endian.{little_bytes, little_number}
@@ -53,7 +52,7 @@ pub use Rattle.mig_headers.specs.declared.image_fault.ImagePlace.{ImagePlace}
 pub use Rattle.mig_headers.specs.declared.kind.Kind.{Kind}
 pub use Rattle.mig_headers.specs.declared.kind.Kind.TheVariants.{Hvm, Pv}
 pub use Rattle.mig_headers.specs.declared.legacy_fault.LegacyCause.{LegacyCause}
-pub use Rattle.mig_headers.specs.declared.legacy_fault.LegacyCause.TheVariants.{BadContext as LegacyBadContext, BadPageType as LegacyBadPageType, BadToolstack, BatchTooLarge, Compressed, Tmem, TooManyFrames as LegacyTooManyFrames, TooManyPairs as LegacyTooManyPairs, Truncated as LegacyTruncated, UnknownChunk, UnpairedIoreq, VerifyOrPv, WordHigh}
+pub use Rattle.mig_headers.specs.declared.legacy_fault.LegacyCause.TheVariants.{BadContext as LegacyBadContext, BadPageType as LegacyBadPageType, BadToolstack, BatchTooLarge, TooManyPairs as LegacyTooManyPairs, WordHigh}
 pub use Rattle.mig_headers.specs.declared.legacy_fault.LegacyPlace.{LegacyPlace}
 pub use Rattle.mig_headers.specs.declared.record_type.RecordType.{RecordType}
 pub use Rattle.mig_headers.specs.declared.record_type.RecordType.TheVariants.{End, PageData, StaticDataEnd, Verify, X86PvInfo, X86PvP2mFrames}
@@ -119,39 +118,31 @@ pub use Rattle.mig_libxl.proofs.Records.{behind_content, behind_head as libxl_be
 pub use Rattle.mig_emulators.specs.Content.{LibxlContent, LibxlRecord}
 pub use Rattle.mig_libxl.specs.Among.{is_libxl_ended}
 pub use Rattle.mig_emulators.specs.Content.LibxlContent.{Image, Nothing as LibxlNothing}
-pub use Rattle.mig_emulators.specs.Emulators.{emulators_of, most_pairs, spelled_with}
+pub use Rattle.mig_emulators.specs.Emulators.{EmulatorsOf, emulators_of, most_pairs, spelled_with}
 unfoldable pub use Rattle.mig_libxl.specs.Judging.{fault_of_context, fault_of_libxl_fields, fault_of_order, fault_of_pairs, libxl_record_at}
 pub use Rattle.mig_libxl.specs.Judging.{allows_length, body_of_type, emulator_key, fault_of_libxl_head, inner_at, libxl_content_at, libxl_head_at, skipped_at}
 pub use Rattle.mig_libxl.specs.Spelled.{AcceptedStream, FollowsLibxl}
 unfoldable pub use Rattle.mig_libxl.specs.Stream.{stream_at, wrapped_at}
 pub use Rattle.mig_libxl.specs.Stream.{IsStreamRefused, bare_at, header_at, libxl_records_at}
 pub use Rattle.mig_libxl.specs.Stream.StreamOf.{Bare, Wrapped}
-pub use Rattle.mig_legacy.proofs.Batches.{behind_words as legacy_behind_words, page_fine}
-pub use Rattle.mig_chunks.proofs.ChunkNumbers.{numbers_have_kinds}
 pub use Rattle.mig_legacy.proofs.ChunkTexts.{finds as legacy_finds, goes as legacy_goes, not_ended as legacy_not_ended}
-pub use Rattle.mig_legacy.proofs.Chunked.{behind_kind as legacy_behind_kind}
 pub use Rattle.mig_chunks.proofs.Entries.{faultless_first, faulty_first, nothing_left}
 pub use Rattle.mig_chunks.proofs.Fields.{first32}
-pub use Rattle.mig_chunks.proofs.KindNumbers.{kinds_have_numbers}
 pub use Rattle.mig_chunks.proofs.NameForms.{name_passes, name_spelled}
 pub use Rattle.mig_chunks.proofs.Spelling.{behind_all, fault_of, fine as fine_entry, len_is}
 pub use Rattle.mig_legacy.proofs.Streams.{behind_chunks, behind_start, behind_tail, stream_of}
 pub use Rattle.mig_legacy.proofs.TailTexts.{some_device, start_goes, start_passes, tail_goes, tail_passes}
-pub use Rattle.mig_chunks.specs.Batches.{fault_of_batch, is_high, is_reserved, page_data_words}
-unfoldable pub use Rattle.mig_chunks.specs.Chunks.{kind_of}
-pub use Rattle.mig_chunks.specs.Chunks.{IsNumberOf, negative, negative_kind}
+pub use Rattle.mig_chunks.specs.Batches.{fault_of_batch, is_high, is_reserved}
+pub use Rattle.mig_chunks.specs.Chunks.{negative, negative_causes}
 unfoldable pub use Rattle.mig_chunks.specs.Judged.{entry_fault, toolstack_fault}
 pub use Rattle.mig_chunks.specs.Judged.{entries_fault, entry_len, is_name, name_at, name_in, name_len}
-unfoldable pub use Rattle.mig_legacy.specs.Judging.{chunk_at, device_at, fault_of_kind, tail_at}
-pub use Rattle.mig_legacy.specs.Judging.{allowed, batch_at, chunk_content_at, chunk_kind_at, context_fault, device_record_at, fault_of_max, fault_of_signature, fault_of_toolstack, frames_sent, is_unpaired, legacy_words_at, length_at, or_truncated, pairs_of_toolstack, signature, start_at, tail_of}
-pub use Rattle.mig_legacy.specs.Legacy.{LegacyChunk, is_end, is_legacy_ended, store_key, store_records}
-pub use Rattle.mig_legacy.specs.Legacy.LegacyContent.{Frames as LegacyFrames, Nothing as LegacyNothing, Pairs}
+pub use Rattle.mig_legacy.specs.LegacyForm.{context_fault, pairs_of_toolstack, place_causes, signature}
+pub use Rattle.mig_legacy.specs.Legacy.{LegacyChunk, is_legacy_ended, store_key}
 pub use Rattle.mig_legacy.specs.Spelled.{AcceptedLegacy, FollowsLegacy, IsStart}
-unfoldable pub use Rattle.mig_legacy.specs.Stream.{legacy_at}
+unfoldable pub use Rattle.mig_legacy.specs.Stream.{device_at, legacy_at}
 pub use Rattle.mig_legacy.specs.Stream.{IsLegacyRefused, chunks_at, placed_chunk}
 pub use Rattle.mig_chunks.specs.Toolstack.{IsName, IsPhysmapHead, Physmap, name_bytes}
 pub use Rattle.mig_chunks.specs.declared.chunk.ChunkKind.{ChunkKind}
-pub use Rattle.mig_chunks.specs.declared.chunk.ChunkKind.TheVariants.{Batch, End as LastChunk}
 pub use Rattle.mig_image.proofs.Chains.{put_all}
 pub use Rattle.mig_image.proofs.Frames.{frame_entries, frames_back as frames_said, frames_valid}
 pub use Rattle.mig_host.proofs.HostsMade.{valid_empty}

@@ -1,5 +1,5 @@
 -- The causes that are computed in a batch, in the data of a toolstack and in a context stand there in words; and tables of causes are in order.
-use Rattle.mig_refusals.proofs.Common.{cond, not, sent, Hvm, common_steps, signature, pairs_of_toolstack, ◌++◌, Names, is_named, ◌≡◌, ◌⊎◌, inl, inr, ℕ, ◌<◌, ◌≤◌, List, [], ◌∷◌, Bool, true, false, Option, Some, None, Result, Ok, Err, refl, sym, ap, subst, arith, and_from, and_parts, both_ways, cases_order, le-leb, leb-true, none-some, same_Some, slice_index, list_any, first_fault, LegacyCause, LegacyChunk, number_of_legacy_cause, option_map, IsEarlier, IsTriedFirst, scan, ContextFault, WordHigh, BadToolstack, legacy_type, first_place, first_word, none_pass, place_is_first, emulators_of, most_pairs, spelled_with, is_reserved, is_high, fault_of_batch, toolstack_fault, context_fault, store_key, store_records, LegacyBadPageType, LegacyBadContext, LegacyTooManyPairs}
+use Rattle.mig_refusals.proofs.Common.{cond, not, sent, Hvm, common_steps, signature, pairs_of_toolstack, ◌++◌, Names, is_named, ◌≡◌, ◌⊎◌, inl, inr, ℕ, ◌<◌, ◌≤◌, List, [], ◌∷◌, Bool, true, false, Option, Some, None, Result, Ok, Err, refl, sym, ap, subst, arith, and_from, and_parts, both_ways, cases_order, le-leb, leb-true, none-some, same_Some, slice_index, list_any, first_fault, LegacyCause, LegacyChunk, number_of_legacy_cause, option_map, IsEarlier, IsTriedFirst, scan, ContextFault, WordHigh, BadToolstack, legacy_type, first_place, first_word, none_pass, place_is_first, nat_lt, ◌^◌, EmulatorsOf, ChunkKind, BatchTooLarge, negative, negative_causes, place_causes, most_pairs, spelled_with, is_reserved, is_high, fault_of_batch, toolstack_fault, context_fault, store_key, LegacyBadPageType, LegacyBadContext, LegacyTooManyPairs}
 use Rattle.std.proofs.lemmas.Slice.Eq.{bytes_eq-Decides}
 use Rattle.std.specs.FinMap as maps
 use Rattle.mig_legacy.specs.Legacy.{has_value, image_records}
@@ -82,11 +82,15 @@ computed_stand = record {
 -- ---- the order of the tables
 
 pub ascend : LegacyCausesAscend
-ascend = record { in_start = λ _. refl; in_type = λ _ _. refl; in_toolstack = λ chunks body. by chunks body (toolstack_fault body) }
+ascend = record { in_start = λ _. refl; in_type = λ chunks kind n. half chunks kind n (nat_lt n (2 ^ 31)); in_toolstack = λ e body. by e body (toolstack_fault body) }
   where
-    by : (chunks : List LegacyChunk) (body : List ℕ) (o : Option ℕ) → is_ascending number_of_legacy_cause (computed (option_map BadToolstack o) ++ (Less most_pairs (spelled_with (emulators_of (store_records chunks)) store_key (pairs_of_toolstack body)), LegacyTooManyPairs) ∷ []) ≡ true
-    by chunks body None = refl
-    by chunks body (Some offset) = refl
+    half : (chunks : List LegacyChunk) (kind : ChunkKind) (n : ℕ) (low : Bool) → is_ascending number_of_legacy_cause (cond low ((Less 1024 n, BatchTooLarge n) ∷ []) (negative_causes (negative n)) ++ place_causes chunks kind) ≡ true
+    half chunks kind n true = refl
+    half chunks kind n false = refl
+
+    by : (e : EmulatorsOf) (body : List ℕ) (o : Option ℕ) → is_ascending number_of_legacy_cause (computed (option_map BadToolstack o) ++ (Less most_pairs (spelled_with e store_key (pairs_of_toolstack body)), LegacyTooManyPairs) ∷ []) ≡ true
+    by e body None = refl
+    by e body (Some offset) = refl
 
 -- ---- what else is computed
 

@@ -17,8 +17,6 @@ pub mod StreamCauses
 pub mod StreamRecords
 pub mod StreamVerdicts
 pub mod LegacyCauses
-pub mod LegacyNumbers
-pub mod LegacyJudged
 pub mod LegacyToolstacks
 pub mod LegacyVerdicts
 pub mod ImageFileTests
