@@ -53,10 +53,10 @@ pub use Rattle.mig_records.specs.Records.{IsRecord}
 pub use Rattle.mig_restore.specs.Spelled.{IsImage}
 pub use Rattle.mig_restore.specs.Stream.{ImageOf}
 pub use Rattle.mig_restore.specs.declared.read.Reading.{Reading}
-pub use Rattle.std.proofs.Common.{Bool, Err, List, None, Ok, Option, Result, Some, [], ap, append-nil, append_assoc, arith, cond, drop, false, inl, inr, length, length-append, map, nat_eq, nat_le, nat_lt, not, refl, replicate, rules, subst, suc, sym, take, take-append-drop, true, zero, ℕ, ◌*◌, ◌++◌, ◌+◌, ◌-◌, ◌<◌, ◌^◌, ◌↔◌, ◌∙◌, ◌∷◌, ◌≡◌, ◌≢◌, ◌≤◌}
+pub use Rattle.std.proofs.Common.{Bool, Err, List, None, Ok, Option, Result, Some, [], ap, append-nil, append_assoc, arith, cond, drop, false, inl, inr, length, length-append, map, nat_eq, nat_le, nat_lt, not, refl, replicate, rules, subst, sym, take, take-append-drop, true, zero, ℕ, ◌*◌, ◌++◌, ◌+◌, ◌-◌, ◌<◌, ◌^◌, ◌↔◌, ◌∙◌, ◌∷◌, ◌≡◌, ◌≢◌, ◌≤◌}
 pub use Rattle.std.proofs.lemmas.Bool.{and_parts, eq-eqb, eqb-true, le-leb, le-ltb, leb-true, lt-leb, or_cases}
 pub use Rattle.std.proofs.lemmas.Cmp.{eq_by_cmp_equiv}
-pub use Rattle.std.proofs.lemmas.Grind.{common_steps, flat_map-append}
+pub use Rattle.std.proofs.lemmas.Grind.{common_steps}
 pub use Rattle.std.proofs.lemmas.List.{drop_at, nil_from_length}
 pub use Rattle.std.proofs.lemmas.List.Elements.{All-cons, All-drop, All-head, All-nil, All-tail}
 pub use Rattle.std.proofs.lemmas.List.Sums.{fold-append}

@@ -1,10 +1,8 @@
-ghost use Rattle.std.specs.Prelude.{◌≡◌, ◌≤◌, ◌<◌, List, true, false, None, Some, IfNone, IsSome};
+ghost use Rattle.std.specs.Prelude.{◌≡◌, ◌≤◌, List, true, IfNone};
 ghost use Rattle.mig_headers.specs.RecordTypes.{most_body};
-ghost use Rattle.mig_headers.specs.declared.kind.Kind.TheVariants.{Pv};
-ghost use Rattle.mig_restore.specs.Judging.{most_records};
 ghost use Rattle.mig_emulators.specs.Content.{LibxlRecord};
 ghost use Rattle.mig_libxl.specs.Judging.{fault_of_libxl_fields, fault_of_libxl_head, allows_length as length_allowed};
-ghost use Rattle.mig_libxl.specs.Behind.{AreBehind};
+ghost use Rattle.mig_libxl.specs.Behind.{AreBehind, MayFollow};
 
 use crate::numbers::{
     CHECKPOINT_END, CHECKPOINT_STATE, EMULATOR_CONTEXT, EMULATOR_XENSTORE_DATA, LIBXC_CONTEXT,
@@ -61,12 +59,7 @@ fn lone_fault(head: RecordHead) -> Option<Cause>
 #[tactic(auto, unfolding(crate::specs::Judging::fault_of_order))]
 pub fn libxl_head_fault(head: RecordHead, behind: RecordsBehind) -> Option<Cause>
     ensures fault { (records : List LibxlRecord) → AreBehind behind records → result ≡ fault_of_libxl_head records head.kind head.len }
-    ensures small { IfNone result (head.len ≤ most_body) }
-    ensures allowed { IfNone result (length_allowed head.kind head.len ≡ true) }
-    ensures room { IfNone result (behind.records < most_records) }
-    ensures first { IfNone result (head.kind ≡ 1 → behind.image ≡ None) }
-    ensures ends { IfNone result (head.kind ≡ 0 → IsSome behind.image) }
-    ensures pv { IfNone result (head.kind ≡ 0 → behind.image ≡ Some Pv → behind.emulated ≡ false) }
+    ensures may { IfNone result (MayFollow behind head.kind head.len) }
 {
     if let Some(cause) = lone_fault(head) {
         return Some(cause);

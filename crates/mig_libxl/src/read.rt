@@ -1,4 +1,4 @@
-ghost use Rattle.std.specs.Prelude.{◌≡◌, ◌≤◌, ◌+◌, ◌==◌, ◌∷◌, [], ◌++◌, ⊤, ◌≢◌, ◌<◌, List, ℕ, true, false, None, length, IfOk, IfNone, IfSome, IsSome, OnOk, IsErrOf};
+ghost use Rattle.std.specs.Prelude.{◌≡◌, ◌≤◌, ◌+◌, ◌==◌, ◌∷◌, [], ◌++◌, ⊤, ◌≢◌, ◌<◌, List, ℕ, true, None, length, IfOk, IfNone, OnOk, IsErrOf};
 ghost use Rattle.mig_bytes.specs.Answers.{or_stop};
 ghost use Rattle.mig_bytes.specs.Bytes.{AreBytes};
 ghost use Rattle.mig_bytes.specs.Faults.{RisesOnReadFault};
@@ -10,12 +10,11 @@ ghost use Rattle.mig_pvtables.specs.Whole.{IsStreamed};
 ghost use Rattle.mig_records.specs.Heads.{head_in};
 ghost use Rattle.mig_restore.specs.Judging.{most_records};
 ghost use Rattle.mig_emulators.specs.Content.{LibxlRecord};
-ghost use Rattle.mig_libxl.specs.Behind.{AreBehind, kind_of_reading};
+ghost use Rattle.mig_libxl.specs.Behind.{AreBehind, MayFollow, behind_of};
 ghost use Rattle.mig_emulators.specs.Content.LibxlContent.{Nothing};
 ghost use Rattle.mig_libxl.specs.Judging.{fault_of_libxl_head, libxl_head_at, pairs_at, context_at, skipped_at, inner_at, body_of_type, libxl_content_at, libxl_record_at, allows_length as length_allowed};
 ghost use Rattle.mig_libxl.specs.Seen.{IsLibxlSeen, IsLibxlBegun, IsClosed};
 ghost use Rattle.mig_libxl.specs.Stream.StreamOf.{Wrapped};
-ghost use Rattle.mig_headers.specs.declared.kind.Kind.TheVariants.{Pv};
 ghost use Rattle.mig_libxl.specs.Stream.{header_at, libxl_records_at, wrapped_at, bare_at, stream_at, IsStreamReading, ReadsStream};
 
 use crate::head::{RecordsBehind, libxl_head_fault};
@@ -83,7 +82,7 @@ impl WrapperSeen {
     /// What a head is judged by, of these records.
     #[tactic(auto, using(crate::proofs::Heads::seen_behind))]
     fn behind(&self) -> RecordsBehind
-        ensures kept { result ≡ record { records = self.now.records; emulated = self.now.emulated; image = kind_of_reading self.now.image } }
+        ensures kept { result ≡ behind_of self.now }
         ensures behind { (records : List LibxlRecord) → IsLibxlSeen self.now records → AreBehind result records }
     {
         RecordsBehind {
@@ -99,12 +98,7 @@ impl WrapperSeen {
     /// What is wrong with a head behind these records.
     fn head_fault(&self, head: RecordHead) -> Option<Cause>
         ensures fault { (records : List LibxlRecord) → IsLibxlSeen self.now records → result ≡ fault_of_libxl_head records head.kind head.len }
-        ensures small { IfNone result (head.len ≤ most_body) }
-        ensures allowed { IfNone result (length_allowed head.kind head.len ≡ true) }
-        ensures room { IfNone result (self.now.records < most_records) }
-        ensures first { IfNone result (head.kind ≡ 1 → self.now.image ≡ None) }
-        ensures ends { IfNone result (head.kind ≡ 0 → IsSome self.now.image) }
-        ensures pv { IfNone result (head.kind ≡ 0 → IfSome self.now.image (λ reading. reading.guest.kind ≡ Pv → self.now.emulated ≡ false)) }
+        ensures may { IfNone result (MayFollow (behind_of self.now) head.kind head.len) }
     {
         libxl_head_fault(head, self.behind())
     }
@@ -112,12 +106,7 @@ impl WrapperSeen {
     /// Takes the next record's head.
     fn take_head<S: Source>(&self, src: &mut S) -> Result<RecordHead, Stop<Cause>>
         ensures read { (records : List LibxlRecord) → IsLibxlSeen self.now records → Gives (λ h head. h ≡ head_in head) (S.left src.old) (S.left src.new) (libxl_head_at records) result }
-        ensures small { IfOk result (λ h. h.len ≤ most_body) }
-        ensures allowed { IfOk result (λ h. length_allowed h.kind h.len ≡ true) }
-        ensures room { OnOk result (self.now.records < most_records) }
-        ensures first { IfOk result (λ h. h.kind ≡ 1 → self.now.image ≡ None) }
-        ensures ends { IfOk result (λ h. h.kind ≡ 0 → IsSome self.now.image) }
-        ensures pv { IfOk result (λ h. h.kind ≡ 0 → IfSome self.now.image (λ reading. reading.guest.kind ≡ Pv → self.now.emulated ≡ false)) }
+        ensures may { IfOk result (λ h. MayFollow (behind_of self.now) h.kind h.len) }
         ensures faults { RisesOnReadFault (S.faults src.old) (S.faults src.new) result }
         ensures takes_no_memory { ¬ IsErrOf result NoMemory }
     {
@@ -263,9 +252,7 @@ impl WrapperSeen {
         src: &mut S,
         head: RecordHead,
     ) -> Result<(), Stop<(Place, Cause)>>
-        requires small { head.len ≤ most_body }
-        requires allowed { length_allowed head.kind head.len ≡ true }
-        requires first { head.kind ≡ 1 → self.old.image ≡ None }
+        requires may { MayFollow (behind_of self.old) head.kind head.len }
         requires begun { IsLibxlBegun self.old }
         ensures read { (records : List LibxlRecord) → IsLibxlSeen self.old records → Gives (λ _ c. TakesLibxl self.old self.new head.kind c) (S.left src.old) (S.left src.new) (libxl_content_at records head.kind head.len) result }
         ensures begun { OnOk result (IsLibxlBegun self.new) }

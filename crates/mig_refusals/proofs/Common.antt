@@ -17,7 +17,7 @@ pub use Rattle.std.specs.declared.cmp.Ordering.{Ordering}
 pub use Rattle.std.specs.declared.cmp.Ordering.TheVariants.{Less}
 pub use Rattle.byteorder.specs.Endian.{little_bytes, little_number}
 pub use Rattle.mig_bytes.proofs.ByteLists.{bytes_back, bytes_front}
-pub use Rattle.mig_bytes.proofs.Joins.{bind_cases, both_pass, only_first, part_passes, passes_not, placed_faulty, placed_passes, same_faulty, same_passes, then_faulty, then_passes}
+pub use Rattle.mig_bytes.proofs.Joins.{bind_cases, only_first, passes_not, placed_faulty, placed_passes, same_faulty, then_faulty, then_passes}
 pub use Rattle.mig_bytes.proofs.Said.{said_passes}
 pub use Rattle.mig_bytes.proofs.Sequences.{accepted_spelled, refused_stops, spelled_accepted, spelled_refused}
 pub use Rattle.mig_bytes.proofs.Walks.{walk_end_reached}
@@ -58,7 +58,7 @@ pub use Rattle.mig_headers.specs.declared.record_type.RecordType.{RecordType}
 pub use Rattle.mig_headers.specs.declared.record_type.RecordType.TheVariants.{End, PageData, StaticDataEnd, Verify, X86PvInfo, X86PvP2mFrames}
 pub use Rattle.mig_pagetypes.specs.FrameWords.{word_has_data, word_pfn, word_type}
 pub use Rattle.mig_pagetypes.specs.LegacyWords.{legacy_type}
-pub use Rattle.mig_pagetypes.specs.Limits.{most_frames, top_limit}
+pub use Rattle.mig_pagetypes.specs.Limits.{most_frames}
 pub use Rattle.mig_pagetypes.specs.PageTypes.{level_of}
 pub use Rattle.mig_pagetypes.specs.declared.page_type.PageType.{PageType}
 pub use Rattle.mig_pagetypes.specs.declared.page_type.PageType.TheVariants.{L4Pinned, L4Tab, Notab}
@@ -151,14 +151,12 @@ pub use Rattle.mig_image.proofs.ImageReads.{image_reads}
 pub use Rattle.mig_host.proofs.InOrder.{no_entries}
 pub use Rattle.mig_image.proofs.Parts.{part_entries, parts_back as parts_said, parts_valid, with_parts}
 unfoldable pub use Rattle.mig_image.specs.Image.{host_head, image}
-pub use Rattle.mig_image.specs.Image.{IsHostImageUpTo, frame_text, most_width_of, part_text}
+pub use Rattle.mig_image.specs.Image.{IsHostImageUpTo, frame_text, part_text}
 pub use Rattle.mig_image.specs.declared.version.ImageVersion.{ImageVersion}
-pub use Rattle.mig_image.specs.declared.version.ImageVersion.TheVariants.{One, Two}
 pub use Rattle.mig_guest.specs.Hosts.{most_width}
 pub use Rattle.mig_image.specs.ImageParts.{head_version, opened}
 unfoldable pub use Rattle.mig_image.specs.ImageForm.{image_file_form}
 pub use Rattle.mig_image.specs.ImageForm.{behind_frames, behind_head, count_form, frames_form, host_at, host_frame_form, host_head_causes, host_head_form, host_part_form, host_parts_form}
-pub use Rattle.mig_host.specs.HostView.{put_frame, put_part_in}
 pub use Rattle.mig_refusals.specs.LegacyToolstack.{EntryWrong, FieldWrong, PhysmapsTo}
 pub use Rattle.mig_refusals.specs.Libxc.{AnswersFirstCause, Breaks, ContextHas, DomainHas, EntriesTo, EntryHas, FrontHas, GuestHas, HeadHas, HeaderHas, IsFirstCause, IsTriedBefore, LengthHas, MarkerHas, PageHas, ParamsHas, WordsHas, BodyHas, LibxcCausesStand}
 pub use Rattle.mig_refusals.specs.LibxcPv.{InfoHas, IsUsedField, P2mHas, PvGuestHas, TableHas, TakesType, VcpuHas, rank_of}

@@ -6,7 +6,7 @@ use Rattle.std.proofs.lemmas.Grind.{common_steps}
 use Rattle.mig_emulators.specs.Content.{LibxlRecord}
 use Rattle.mig_headers.specs.declared.kind.Kind.{Kind}
 use Rattle.mig_libxl.specs.Among.{image_among}
-use Rattle.mig_libxl.specs.Behind.{AreBehind, kind_of_image}
+use Rattle.mig_libxl.specs.Behind.{AreBehind, MayFollow, kind_of_image}
 use Rattle.mig_libxl.specs.Judging.{allows_length}
 use Rattle.mig_restore.specs.declared.head.RecordsSeen.{RecordsSeen}
 use Rattle.mig_libxl.specs.Stream.StreamOf.{Wrapped}
@@ -45,13 +45,6 @@ pub record HasBegunLibxl (r t : Relay) (behind : RecordsBehind) (head : RecordHe
   pub len : head.kind ≢ 0 → head.kind ≢ 1 → 0 < head.len → t.body.len ≡ head.len
   pub empty : head.kind ≢ 0 → head.kind ≢ 1 → head.len ≡ 0 → (t.coming ≡ comes.LibxlHead) × (t.wrapper ≡ Some (with_one head.kind behind))
 
--- a head that was judged behind these records
-pub record IsAllowed (behind : RecordsBehind) (head : RecordHead) : Type 0 where
-  pub allowed : allows_length head.kind head.len ≡ true
-  pub room : behind.records < most_records
-  pub first : head.kind ≡ 1 → behind.image ≡ None
-  pub ends : head.kind ≡ 0 → IsSome behind.image
-
 -- what is known of the records behind a relay is what its wrapper has
 pub same_behind : (r : Relay) (records : List LibxlRecord) (w : KeepsWrapper r records) (behind : RecordsBehind) → r.wrapper ≡ Some behind → behind ≡ w.behind
 same_behind r records w behind is = inside (sym is ∙ w.is)
@@ -87,7 +80,7 @@ empty_fine type len none h = by (nat_eq type 2) (nat_eq type 3) refl refl
     by false true is other = absurd (long 3 refl (eqb-true type 3 other))
     by false false is other = rw (is, other) refl
 
-module _ (r t : Relay) (records : List LibxlRecord) (head : RecordHead) (w : KeepsGoing r records) (behind : RecordsBehind) (is : r.wrapper ≡ Some behind) (b : HasBegunLibxl r t behind head) (a : IsAllowed behind head) where
+module _ (r t : Relay) (records : List LibxlRecord) (head : RecordHead) (w : KeepsGoing r records) (behind : RecordsBehind) (is : r.wrapper ≡ Some behind) (b : HasBegunLibxl r t behind head) (a : MayFollow behind head.kind head.len) where
   are : AreBehind behind records
   are = are_behind r records w.0 behind is
 

@@ -5,7 +5,7 @@ use Rattle.mig_records.specs.declared.head.RecordHead.{RecordHead}
 use Rattle.mig_relay.specs.Steps.{answer_of}
 use Rattle.mig_relay.specs.declared.answer.RelayAnswer.TheVariants.{Refused}
 use Rattle.mig_relay.specs.declared.state.Relay.{Relay}
-use Rattle.mig_relay.proofs.LibxlHeads.{HasBegunLibxl, IsAllowed, begun_libxl, are_behind}
+use Rattle.mig_relay.proofs.LibxlHeads.{HasBegunLibxl, begun_libxl, are_behind}
 use Rattle.mig_relay.proofs.Openings.{wrapper_same}
 use Rattle.mig_relay.specs.Keeping.{KeepsGoing}
 use Rattle.mig_relay.proofs.Moves.{not_taken, not_allowed, not_written, went}
@@ -34,8 +34,7 @@ returns-clause-moved g c = λ records w.
     let same = c.in_default-put.ensures.kept in
     let kept : KeepsGoing r records = (wrapper_same _ r records (ap (λ (x : Relay). x.wrapper) same) (ap (λ (x : Relay). x.seen) same) w.0, w.1) in
     let has : HasBegunLibxl r c.begin_libxl.new.self c.in-Some.behind h = record { seen = e.seen; image = e.image; end = e.end; body = e.body; begun = e.begun; len = e.len; empty = e.empty } in
-    let allowed : IsAllowed c.in-Some.behind h = record { allowed = f.allowed; room = f.room; first = f.first; ends = f.ends } in
-    let n = begun_libxl r c.begin_libxl.new.self records h kept c.in-Some.behind (ap (λ (x : Relay). x.wrapper) same ∙ c.in-Some.is) has allowed in
+    let n = begun_libxl r c.begin_libxl.new.self records h kept c.in-Some.behind (ap (λ (x : Relay). x.wrapper) same ∙ c.in-Some.is) has f.may in
     record {
       is =
           went (libxl_head_is records w.1) _ _ _ _ _ _ c.take_part.new.buf c.take_part.auto.buf (omega (arith, c.take_part.auto.buf)) _ n.next [] _ (f.fault records (are_behind _ records w.0 c.in-Some.behind c.in-Some.is) ∙ ap (λ (x : RecordHead). fault_of_libxl_head records x.kind x.len) c.decode-head.ensures.value)
