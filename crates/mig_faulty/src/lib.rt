@@ -13,8 +13,6 @@
 mod failing;
 mod forgetful;
 mod law;
-#[cfg(test)]
-mod tests;
 
 pub use failing::FailingMachine;
 pub use forgetful::ForgetfulMachine;

@@ -12,8 +12,6 @@ mod answers;
 mod law;
 mod machine;
 mod notes;
-#[cfg(test)]
-mod tests;
 
 pub use law::script_machine_is_at;
 pub use machine::ScriptMachine;

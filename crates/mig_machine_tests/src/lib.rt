@@ -2,11 +2,9 @@
 //! nothing can meet.
 //!
 //! Responsible for: `StandingMachine`, over a host, honest, with an empty log. It fails only where it finds no memory for its
-//! history, and then its count rises. Nothing stands on it; machines that a saver runs against are not its task.
+//! history, and then its count rises. Tests alone stand on it; machines that a saver runs against are not its task.
 #![tactic(auto)]
 
 mod standing;
-#[cfg(test)]
-mod tests;
 
 pub use standing::StandingMachine;

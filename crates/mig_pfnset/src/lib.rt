@@ -15,6 +15,3 @@ mod set;
 pub use make::{all, none};
 pub use scan::{count, next_from};
 pub use set::{clear, contains, insert, join, put, remove};
-
-#[cfg(test)]
-mod tests;

@@ -12,8 +12,6 @@ mod fields;
 mod law;
 mod line;
 mod script;
-#[cfg(test)]
-mod tests;
 
 pub use law::{one_line, one_script, script_or_bad_line};
 pub use script::{Line, Script, ScriptAnswer};

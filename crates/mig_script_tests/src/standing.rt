@@ -1,18 +1,20 @@
-ghost use Rattle.std.specs.Prelude.{◌≡◌, [], IfOk};
+ghost use Rattle.std.specs.Prelude.{◌≡◌, IfOk};
+ghost use Rattle.mig_machine_api.specs.History.{no_history};
 
-use crate::StandingMachine;
+use crate::made::{log, looks_up};
 use mig_guest::PartKey;
 use mig_headers::Kind;
 use mig_host::Host;
 use mig_machine_api::{Machine, Seen};
+use mig_machine_tests::StandingMachine;
 use mig_pagetypes::PageType;
 use std::alloc::Global;
 use std::process::Abort;
 use std::test::Fail;
 
 // An HVM host of width 70 with frame 65, whose machine frame is 7.
-fn machine(alloc: Global) -> Result<StandingMachine, Fail>
-    ensures { IfOk result (λ machine. machine.calls.items ≡ []) }
+fn host(alloc: Global) -> Result<Host, Fail>
+    ensures { IfOk result (λ host. host.host.width ≡ 70) }
 {
     let mut host = Host::new(alloc, Kind::Hvm, 70);
     if host
@@ -21,11 +23,11 @@ fn machine(alloc: Global) -> Result<StandingMachine, Fail>
     {
         return Err("no frame".into());
     }
-    Ok(StandingMachine::new(alloc, host))
+    Ok(host)
 }
 
 // What the machine has there.
-fn look(machine: &mut StandingMachine, pfn: u64, page: &mut [u8; 4096]) -> Option<Seen> {
+fn look<M: Machine>(machine: &mut M, pfn: u64, page: &mut [u8; 4096]) -> Option<Seen> {
     if pfn < machine.width() {
         machine.peek(pfn, page).ok()
     } else {
@@ -34,7 +36,7 @@ fn look(machine: &mut StandingMachine, pfn: u64, page: &mut [u8; 4096]) -> Optio
 }
 
 // What the machine has at two numbers.
-fn looks(rt: &impl Abort, machine: &mut StandingMachine) {
+fn looks<M: Machine>(rt: &impl Abort, machine: &mut M) {
     let mut page = [0; 4096];
     assert_eq!(rt; look(machine, 64, &mut page), Some(Seen::Absent));
     assert_eq!(rt; page[0], 0);
@@ -45,22 +47,9 @@ fn looks(rt: &impl Abort, machine: &mut StandingMachine) {
     assert_eq!(rt; page[4095], 0xaa);
 }
 
-// Which numbers two machine frames have.
-fn looks_up(rt: &impl Abort, machine: &mut StandingMachine) {
-    assert_eq!(rt; machine.pfn_of(7), Ok(Some(65)));
-    assert_eq!(rt; machine.pfn_of(8), Ok(None));
-}
-
-#[test]
-fn a_standing_machine_answers(rt: HostRuntime) -> Result<(), Fail> {
-    let mut machine = machine(rt.alloc())?;
-    let mut bits = [!0, !0];
+// What never changes of it.
+fn stays<M: Machine>(rt: &impl Abort, machine: &M) {
     assert_eq!(rt; machine.width(), 70);
-    assert_eq!(rt; machine.take_log(&mut bits), Ok(()));
-    assert_eq!(rt; bits, [0, 0]);
-    looks(&rt, &mut machine);
-    looks_up(&rt, &mut machine);
-    assert_eq!(rt; machine.pause(), Ok(()));
     assert_eq!(rt; machine.next_key(None), None);
     let key = PartKey {
         code: 8,
@@ -68,5 +57,24 @@ fn a_standing_machine_answers(rt: HostRuntime) -> Result<(), Fail> {
         key2: 0,
     };
     assert!(rt; machine.part(key).is_none() && machine.fixed_part(key).is_none());
+}
+
+// What it answers, call by call.
+fn answers<M: Machine>(rt: &impl Abort, machine: &mut M)
+    requires width { (M.state machine.old).host.width ≡ 70 }
+    requires unread { (M.state machine.old).history ≡ no_history }
+{
+    assert_eq!(rt; log(machine), Ok([0, 0]));
+    looks(rt, machine);
+    looks_up(rt, machine, &[(7, Ok(Some(65))), (8, Ok(None))]);
+    assert_eq!(rt; machine.pause(), Ok(()));
+    stays(rt, machine);
+}
+
+#[test]
+fn a_standing_machine_answers(rt: HostRuntime) -> Result<(), Fail> {
+    let host = host(rt.alloc())?;
+    let mut machine = StandingMachine::new(rt.alloc(), host);
+    answers(&rt, &mut machine);
     Ok(())
 }
