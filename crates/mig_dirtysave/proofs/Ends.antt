@@ -24,13 +24,12 @@ use Rattle.mig_machine_api.specs.MachineStates.{MachineState}
 use Rattle.mig_rounds.specs.Parts.{total}
 use Rattle.mig_rounds.specs.Live.{FramesSaved}
 use Rattle.mig_rounds.proofs.Saves.{size_none}
-use Rattle.mig_saved.specs.Around.{text_before}
+use Rattle.mig_around.specs.SaveTexts.{text_before, StopsBehind, ClosesStream}
 use Rattle.mig_unended.specs.Unread.{WroteNoStream}
 use Rattle.mig_unended.proofs.Written.{bare_headers, bare_some, wrapped_behind, wrapped_headers, wrapped_opening, wrapped_some}
-use Rattle.mig_dirtysave.specs.SaveTexts.{StopsBehind, ClosesStream}
+use Rattle.mig_around.proofs.Codes.{first_records, first_within, are_within}
+use Rattle.mig_around.proofs.Texts.{some_records, appends_first, part_behind}
 use Rattle.mig_dirtysave.specs.SaveAnswers.{WroteMost, IsLittleBehind}
-use Rattle.mig_dirtysave.proofs.Codes.{first_records, first_within, are_within}
-use Rattle.mig_dirtysave.proofs.Texts.{some_records, appends_first, part_behind}
 use Rattle.mig_dirtysave.proofs.Wrappers.{closing_cut}
 
 -- the headers of an image were written, records, some of which are those of batches, and a part of one more, perhaps none; of

@@ -1,10 +1,7 @@
-pub mod Walks
-pub mod Rows
-pub mod Codes
-pub mod Texts
 pub mod Wrappers
 pub mod Ends
 pub mod Streams
-pub mod PvSettings
+pub mod Settled
+pub mod HvmTables
 pub mod PvRows
 pub mod Looked

@@ -2,11 +2,9 @@
 use Rattle.std.specs.Prelude.{◌==◌, not, is_some}
 use Rattle.std.proofs.lemmas.Bool.{and_parts}
 use Rattle.std.proofs.Common.{◌≡◌, ℕ, Bool, List, [], ◌∷◌, ◌++◌, map, true, Option, None, refl, sym, ap, subst, ◌∙◌, arith, append_assoc}
-use Rattle.std.specs.List.{AllByRecursion}
 use Rattle.std.specs.Io.KnownBytes.{Appends}
 use Rattle.std.proofs.KnownBytes.{Appends-trans}
 use Rattle.mig_headers.specs.declared.kind.Kind.{Kind}
-use Rattle.mig_headers.specs.declared.kind.Kind.TheVariants.{Pv, Hvm}
 use Rattle.mig_headers.specs.declared.unsound.Unsound.{Unsound}
 use Rattle.mig_guest.specs.Formed.{IsFormed}
 use Rattle.mig_guest.specs.Guests.{GuestOf}
@@ -20,7 +18,6 @@ use Rattle.mig_canon.proofs.Spelling.{text_join}
 use Rattle.mig_canon_laws.specs.Batched.{batch_records, batched}
 use Rattle.mig_hosted.specs.Sound.{unsoundness}
 use Rattle.mig_hosted.specs.View.{view, top_of}
-use Rattle.mig_hosted.proofs.HostViews.{hvm_viewed}
 use Rattle.mig_hosted.proofs.SoundRows.{sound_is_faultless}
 use Rattle.mig_hosted.proofs.ViewedGuests.{viewed_whole}
 use Rattle.mig_libxl.specs.Canon.{bare_guest, wrapper_opening, wrapper_closing}
@@ -32,20 +29,16 @@ use Rattle.mig_pagesink.specs.Told.{FrameTold, telling_frames, telling_record}
 use Rattle.mig_restore.specs.Spelled.{Accepted}
 use Rattle.mig_rounds.specs.Live.{StaysSame, FramesSaved}
 use Rattle.mig_saved.proofs.Viewed.{saved_is_viewed}
-use Rattle.mig_saved.specs.Around.{text_before}
-use Rattle.mig_dirtysave.specs.Saver.{SaverOf, IsFor, HoldsParts, is_early, is_setting, kept_parts, parts_alone}
-use Rattle.mig_dirtysave.specs.SaveTexts.{IsContextFront, closing_records, settings_seen, ClosesStream}
-use Rattle.mig_dirtysave.specs.SaveAnswers.{IsOtherRecord, SaveWritten}
-use Rattle.mig_dirtysave.proofs.PvSettings.{pv_last_seen, pv_last_within}
-use Rattle.mig_dirtysave.proofs.Codes.{IsOther, are_within, both_all, closing_within, emulators_seen, first_records, first_seen, first_within, front_short, kept_formed, last_seen, no_pv, viewed_kind}
+use Rattle.mig_around.specs.SaveTexts.{IsOtherRecord, text_before, ClosesStream}
+use Rattle.mig_around.specs.KeptParts.{HoldsParts, is_early}
+use Rattle.mig_around.proofs.Codes.{both_all, emulators_seen, first_records, first_seen, first_within, viewed_kind}
+use Rattle.mig_around.proofs.Closings.{others_are}
+use Rattle.mig_dirtysave.specs.Saver.{SaverOf, IsFor}
+use Rattle.mig_dirtysave.specs.SaveAnswers.{SaveWritten}
 
 records_are : (batches : List (List FrameTold)) → batch_records (map telling_frames batches) ≡ map telling_record batches
 records_are [] = refl
 records_are (b ∷ batches) = ap (λ (l : List Record). telling_record b ∷ l) (records_are batches)
-
-pub others_are : (rs : List Record) → AllByRecursion IsOther rs → AllByRecursion IsOtherRecord rs
-others_are [] p = tt
-others_are (r ∷ rs) p = (record { no_pages = p.0.1; no_end = p.0.0.no_end }, others_are rs p.1)
 
 -- ---- what stays of a machine
 
@@ -68,35 +61,6 @@ held_there codes k l v w g kind width held = subst (λ (k : Kind). HoldsParts co
 
 pub top_held : (codes : ℕ → Bool) (k : Kind) (w : ℕ) (g : GuestOf) → HoldsParts codes k w g → g.top ≡ top_of k w
 top_held codes k w g held = ap (λ (x : GuestOf). x.top) held.bare
-
--- ---- behind the frames of an HVM host
-
-module _ (h : HostOf) (valid : IsValid h) (hvm : h.kind ≡ Hvm) (front : List ℕ) (f : IsContextFront h.parts front) where
-  abbrev settings : GuestOf
-  settings = parts_alone h.kind h.width (kept_parts is_setting h.parts)
-
-  formed : IsFormed settings
-  formed = kept_formed h valid is_setting refl (no_pv h is_setting hvm)
-
-  pub hvm_closes : (g : GuestOf) (old new : Option (List ℕ)) → g ≡ settings → Appends old new (text_of (closing_records g front ++ (0, []) ∷ [])) → ClosesStream h old new
-  hvm_closes g old new is a = record {
-    behind = closing_records settings front;
-    others = others_are (closing_records settings front) (closing_within settings formed front (front_short h valid front f));
-    within = are_within (closing_records settings front) (closing_within settings formed front (front_short h valid front f));
-    seen = λ _. sym ((λ i. last_records (hvm i) (hvm_viewed h hvm i)) ∙ last_seen h valid front f);
-    appended = subst (λ (k : GuestOf). Appends old new (text_of (closing_records k front ++ (0, []) ∷ []))) is a;
-  }
-
--- ---- behind the frames of a PV host
-
-pub pv_closes : (h : HostOf) → h.kind ≡ Pv → (g : GuestOf) (old new : Option (List ℕ)) → IsFormed g → g ≡ settings_seen h → Appends old new (text_of (last_records Pv g ++ (0, []) ∷ [])) → ClosesStream h old new
-pv_closes h pv g old new formed is a = record {
-  behind = last_records Pv g;
-  others = others_are (last_records Pv g) (pv_last_within g formed);
-  within = are_within (last_records Pv g) (pv_last_within g formed);
-  seen = λ _. ap (last_records Pv) is ∙ pv_last_seen h pv;
-  appended = a;
-}
 
 -- ---- the stream
 

@@ -28,9 +28,10 @@ use Rattle.mig_libxl.proofs.EmulatorTexts.{short_emulator}
 use Rattle.mig_pagesink.specs.Written.{IsRecordWithin, AreRecordsWithin, WroteSome}
 use Rattle.mig_machine_api.specs.MachineStates.{MachineState}
 use Rattle.mig_rounds.specs.Live.{StaysSame}
-use Rattle.mig_dirtysave.specs.Saver.{SaverOf, IsFor, SameEmulators}
-use Rattle.mig_dirtysave.proofs.Codes.{emulator_setting}
-use Rattle.mig_dirtysave.proofs.Texts.{part_behind, some_records}
+use Rattle.mig_around.specs.KeptParts.{SameEmulators}
+use Rattle.mig_around.proofs.Codes.{emulator_setting}
+use Rattle.mig_around.proofs.Texts.{part_behind, some_records}
+use Rattle.mig_dirtysave.specs.Saver.{SaverOf, IsFor}
 
 -- ---- the records of emulators
 

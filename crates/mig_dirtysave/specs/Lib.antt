@@ -1,3 +1,2 @@
 pub mod Saver
-pub mod SaveTexts
 pub mod SaveAnswers

@@ -1,5 +1,5 @@
 -- What a save has written, and what it answers.
-use Rattle.std.specs.Prelude.{◌≡◌, ◌≢◌, ◌⊎◌, ℕ, ◌+◌, ◌≤◌, true, List, [], ◌∷◌, ◌++◌, length, map, Option, Result, Ok, Err}
+use Rattle.std.specs.Prelude.{◌≡◌, ◌⊎◌, ℕ, ◌+◌, ◌≤◌, true, List, [], ◌∷◌, ◌++◌, length, map, Option, Result, Ok, Err}
 use Rattle.std.specs.List.{AllByRecursion}
 use Rattle.std.specs.Io.KnownBytes.{Appends}
 use Rattle.mig_headers.specs.declared.kind.Kind.{Kind}
@@ -12,6 +12,7 @@ use Rattle.mig_pagesink.specs.Written.{AreRecordsWithin}
 use Rattle.mig_hosted.specs.View.{view}
 use Rattle.mig_libxl.specs.Canon.{wrapper_opening, wrapper_closing}
 use Rattle.mig_libxl.specs.Spelled.{AcceptedStream}
+use Rattle.mig_around.specs.SaveTexts.{IsOtherRecord}
 use Rattle.mig_machine_api.specs.MachineStates.{MachineState}
 use Rattle.mig_machine_api.specs.Rounds.{all_read}
 use Rattle.mig_rounds.specs.Entries.{pfns_sent}
@@ -34,11 +35,6 @@ IfUnsound (Err answers.WriteFault) P = Unit {0}
 -- the types that a saver saw last are those of the host's frames: the machine is honest, or no type is asked of an HVM host
 abbrev pub IsTrusted : MachineState → Type 0
 IsTrusted t = (t.honest ≡ true) ⊎ (t.host.kind ≡ Hvm)
-
--- a record that is neither PAGE_DATA nor END
-pub record IsOtherRecord (r : Record) : Type 0 where
-  pub no_pages : r.0 ≢ 1
-  pub no_end : r.0 ≢ 0
 
 -- From old to new a stream was written: headers, PAGE_DATA records between others, and END, inside a libxl stream with the
 -- emulators behind the image where the host has parts of some. Its entries name what was read of the machine, in that

@@ -1,17 +1,13 @@
 -- What a saver keeps of the host that it was made for.
-use Rattle.std.specs.Prelude.{◌≡◌, ℕ, Bool, true, List, length, Option, Some, refl, ◌==◌, ◌&&◌, not}
-use Rattle.std.specs.Option.{option_map}
+use Rattle.std.specs.Prelude.{◌≡◌, ℕ, true, refl}
 use Rattle.std.specs.FinMap as maps
 use Rattle.std.specs.Coded.{Coded, code_by, coded×, coded_ℕ}
 use Rattle.mig_headers.specs.declared.kind.Kind.{Kind}
 use Rattle.mig_headers.specs.contracts.kind.Kind as kind
 use Rattle.mig_guest.specs.declared.part_key.PartKey.{PartKey}
-use Rattle.mig_guest.specs.Formed.{is_emulator_code}
-use Rattle.mig_guest.specs.Guests.{GuestOf}
 use Rattle.mig_guest.specs.Hosts.{HostOf}
-use Rattle.mig_guest.specs.PartCodes.{is_fixed}
 use Rattle.mig_guest.specs.Parts.{PartMap, parts_code}
-use Rattle.mig_hosted.specs.View.{top_of}
+use Rattle.mig_around.specs.KeptParts.{is_early, SameSettings}
 
 pub record SaverOf : Type 0 where
   pub kind : Kind
@@ -24,40 +20,6 @@ abbrev pub saver_code : Coded SaverOf
 saver_code =
     code_by (Kind × (ℕ × (PartMap × PartMap))) (coded× kind.the_row.coded (coded× coded_ℕ (coded× parts_code parts_code)))
     (λ s. (s.kind, (s.width, (s.early, s.settings)))) (λ p. record { kind = p.0; width = p.1.0; early = p.1.1.0; settings = p.1.1.1 }) (λ _. refl)
-
--- the codes of the parts that stand before the frames, which never change while a guest runs; an emulator's pairs don't
--- either, and stand behind the image
-abbrev pub is_early : ℕ → Bool
-is_early code = is_fixed code && not (code == 258)
-
--- the codes of the parts that stand behind the frames, without the context, which is written where it stands
-abbrev pub is_setting : ℕ → Bool
-is_setting code = not (is_early code) && not (code == 9)
-
--- the parts of some codes
-abbrev pub kept_parts : (ℕ → Bool) → PartMap → PartMap
-kept_parts codes parts = maps.retain_keys parts (λ (key : PartKey). codes key.code)
-
--- a guest of this kind and with so many frame numbers that has these parts, and no frames
-abbrev pub parts_alone : Kind → ℕ → PartMap → GuestOf
-parts_alone kind width parts = record { kind = kind; top = top_of kind width; frames = maps.empty; parts = parts }
-
--- a guest that has parts of these codes, and nothing else
-pub record HoldsParts (codes : ℕ → Bool) (kind : Kind) (width : ℕ) (g : GuestOf) : Type 0 where
-  pub bare : g ≡ parts_alone kind width g.parts
-  pub alone : (key : PartKey) (bytes : List ℕ) → maps.get g.parts key ≡ Some bytes → codes key.code ≡ true
-
--- how long a part is, where it is there
-abbrev pub part_len : PartMap → PartKey → Option ℕ
-part_len parts key = option_map (λ (bytes : List ℕ). length bytes) (maps.get parts key)
-
--- each part of a setting is in both or in neither, with one length
-abbrev pub SameSettings : PartMap → PartMap → Type 0
-SameSettings parts settings = (key : PartKey) → is_setting key.code ≡ true → part_len parts key ≡ part_len settings key
-
--- each part of an emulator is in both with the same bytes, or in neither
-abbrev pub SameEmulators : PartMap → PartMap → Type 0
-SameEmulators parts settings = (key : PartKey) → is_emulator_code key.code ≡ true → maps.get parts key ≡ maps.get settings key
 
 -- the saver is for a host of its kind and width, its early parts, and settings with these keys and lengths
 pub record IsFor (s : SaverOf) (h : HostOf) : Type 0 where

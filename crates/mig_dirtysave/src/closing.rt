@@ -9,15 +9,13 @@ ghost use Rattle.mig_rounds.specs.Live.{AnswersTables, IsUnsound, SawTypes};
 ghost use Rattle.mig_standing.specs.Standing.{is_of_no_type};
 ghost use Rattle.mig_standing.specs.Unsoundness.{UnsoundHas};
 ghost use Rattle.mig_pause.specs.Paused.{HasTypes, OnlyLooksUp};
-ghost use Rattle.mig_dirtysave.specs.Saver.{HoldsParts, SameEmulators, SameSettings, is_setting};
-ghost use Rattle.mig_dirtysave.specs.SaveTexts.{settings_seen, StopsBehind, ClosesStream};
+ghost use Rattle.mig_around.specs.KeptParts.{HoldsParts, SameEmulators, SameSettings, is_setting};
+ghost use Rattle.mig_around.specs.SaveTexts.{settings_seen, StopsBehind, ClosesStream};
 ghost use Rattle.mig_dirtysave.specs.SaveAnswers.{IfUnsound, IsTrusted};
 ghost use Rattle.mig_dirtysave.specs.declared.answer.SaveAnswer.TheVariants.{MachineFault, WriteFault};
 
 use crate::answer::SaveAnswer;
-use crate::judge::judge;
-use crate::settings::refresh;
-use crate::write::{write_last, write_pv_last};
+use mig_around::{judge, refresh, write_last, write_pv_last};
 use mig_bytes::Sink;
 use mig_guest::Guest;
 use mig_headers::{Kind, Unsound};

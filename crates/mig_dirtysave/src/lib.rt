@@ -1,10 +1,11 @@
 //! Saves a machine whose guest runs on.
 //!
-//! Responsible for: what a save needs, made before it begins; what it writes before the frames and behind them, from the
-//! parts of the machine's host; judging the host once the machine is paused, of an HVM machine here; and which answer comes
-//! where the machine or the sink fails. Left to others: the machine (mig_machine_api), the frames and the rounds in which
-//! they are sent (mig_rounds), judging a PV host and bringing its contexts to their form in a stream (mig_pause), the
-//! records of parts (mig_canon), and what a stream is and what stands around its image (mig_libxl).
+//! Responsible for: what a save needs, made before it begins; the order of its steps; that the host is judged once the machine
+//! is paused, and its settings are written as they are then; and which answer comes where the machine or the sink fails. Left
+//! to others: the machine (mig_machine_api), the parts that are kept of its host, judging an HVM host, and what is written
+//! before the frames and behind them (mig_around), the frames and the rounds in which they are sent (mig_rounds), judging a
+//! PV host and bringing its contexts to their form in a stream (mig_pause), and what a stream is and what stands around its
+//! image (mig_libxl).
 //!
 //! What the layers above rely on: over an honest machine what `run` wrote is accepted, whatever follows it, and its guest is
 //! what the paused host is seen as. An HVM host is judged as it is in the end, over any machine; a PV host over an honest
@@ -15,12 +16,8 @@
 
 mod answer;
 mod closing;
-mod judge;
-mod prepare;
 mod saver;
-mod settings;
 mod steps;
-mod write;
 
 pub use answer::{SaveAnswer, SaveReport};
 pub use saver::Saver;

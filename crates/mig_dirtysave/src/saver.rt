@@ -14,8 +14,8 @@ ghost use Rattle.mig_dirtysave.specs.declared.answer.SaveAnswer.TheVariants.{Mac
 
 use crate::answer::{SaveAnswer, SaveReport};
 use crate::closing::close;
-use crate::prepare::{copy_parts, make_marks};
 use crate::steps::{begin, end, open, send};
+use mig_around::{copy_parts, make_marks};
 use mig_bytes::{Memory, Sink};
 use mig_guest::Guest;
 use mig_machine_api::Machine;
@@ -37,7 +37,8 @@ impl Model for Saver {
     ghost use Rattle.std.specs.Prelude.{◌≡◌, length};
     ghost use Rattle.mig_headers.specs.declared.kind.Kind.TheVariants.{Pv};
     ghost use Rattle.mig_guest.specs.Formed.{IsFormed};
-    ghost use Rattle.mig_dirtysave.specs.Saver.{SaverOf, HoldsParts, is_early, is_setting, saver_code};
+    ghost use Rattle.mig_around.specs.KeptParts.{HoldsParts, is_early, is_setting};
+    ghost use Rattle.mig_dirtysave.specs.Saver.{SaverOf, saver_code};
 
     ghost Value = { SaverOf };
 

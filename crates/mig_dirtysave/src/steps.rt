@@ -11,12 +11,12 @@ ghost use Rattle.mig_machine_api.specs.MachineStates.{IsValidState};
 ghost use Rattle.mig_rounds.specs.Parts.{total};
 ghost use Rattle.mig_rounds.specs.Live.{StaysSame, HasRounds, IsTight, FramesSaved, SawTypes, AnswersTables, IsUnsound};
 ghost use Rattle.mig_libxl.specs.Canon.{wrapper_opening, wrapper_closing};
-ghost use Rattle.mig_saved.specs.Around.{text_before};
+ghost use Rattle.mig_around.specs.SaveTexts.{text_before};
 ghost use Rattle.mig_dirtysave.specs.SaveAnswers.{IfUnsound};
 ghost use Rattle.mig_dirtysave.specs.declared.answer.SaveAnswer.TheVariants.{MachineFault, WriteFault};
 
 use crate::answer::SaveAnswer;
-use crate::write::write_before;
+use mig_around::write_before;
 use mig_bytes::Sink;
 use mig_guest::Guest;
 use mig_headers::Unsound;

@@ -5,9 +5,10 @@ use Rattle.mig_guest.specs.Guests.{GuestOf}
 use Rattle.mig_pause.specs.Paused.{standing_seen}
 use Rattle.mig_pause.proofs.HeldParts.{kept_are_held}
 use Rattle.mig_pause.proofs.TableRows.{rounds_find_rows}
-use Rattle.mig_dirtysave.specs.Saver.{is_setting}
+use Rattle.mig_around.specs.KeptParts.{is_setting}
+use Rattle.mig_around.proofs.PvSettings.{settings_formed}
 use Rattle.mig_dirtysave.proofs.PvRows.{few_descriptors, found_stands}
-use Rattle.mig_dirtysave.proofs.PvSettings.{settings_are, settings_formed}
+use Rattle.mig_dirtysave.proofs.Settled.{settings_are}
 use Rattle.mig_dirtysave.proofs.closing.settle.Goals as goal
 
 pub view_parts-requires-clause-held : goal.view_parts-requires-clause-held
@@ -17,13 +18,13 @@ view_parts-requires-clause-held g c =
 pub returns-in-Ok-None-clause-seen : goal.returns-in-Ok-None-clause-seen
 returns-in-Ok-None-clause-seen g c =
     let none : ◌≡◌ {A = Option Unsound} c.in-Ok-None.field-0 None = cc in
-    settings_are (g.M.Machine.state c.args.machine.now).host c.requires.valid c.requires.pv c.refresh.new.settings c.view_parts.new.guest c.refresh.ensures (c.in-Ok-None.ensures.seen none)
+    settings_are (g.M.Machine.state c.args.machine.now).host c.requires.pv c.refresh.new.settings c.view_parts.new.guest c.refresh.ensures (c.in-Ok-None.ensures.seen none)
 
 pub returns-in-Ok-None-clause-formed : goal.returns-in-Ok-None-clause-formed
 returns-in-Ok-None-clause-formed g c =
     let h = (g.M.Machine.state c.args.machine.now).host in
     let none : ◌≡◌ {A = Option Unsound} c.in-Ok-None.field-0 None = cc in
-    subst IsFormed (sym (settings_are h c.requires.valid c.requires.pv c.refresh.new.settings c.view_parts.new.guest c.refresh.ensures (c.in-Ok-None.ensures.seen none)))
+    subst IsFormed (sym (settings_are h c.requires.pv c.refresh.new.settings c.view_parts.new.guest c.refresh.ensures (c.in-Ok-None.ensures.seen none)))
     (settings_formed h c.requires.valid c.requires.pv (few_descriptors c.args.tables (standing_seen h c.args.types.now) (sym c.in-Ok-None.ensures.first ∙ none)))
 
 pub returns-in-Ok-None-clause-sound : goal.returns-in-Ok-None-clause-sound

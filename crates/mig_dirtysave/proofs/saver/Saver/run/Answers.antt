@@ -4,14 +4,15 @@ use Rattle.mig_rounds.specs.Parts.{total}
 use Rattle.mig_guest.specs.Hosts.{HostOf}
 use Rattle.std.specs.Io.KnownBytes.{Appends}
 use Rattle.mig_libxl.proofs.Alike.{closing_alike}
-use Rattle.mig_dirtysave.specs.Saver.{SaverOf, is_early}
+use Rattle.mig_around.specs.KeptParts.{is_early}
+use Rattle.mig_dirtysave.specs.Saver.{SaverOf}
 use Rattle.mig_standing.specs.Standing.{is_of_no_type}
 use Rattle.mig_standing.specs.Unsoundness.{UnsoundHas}
+use Rattle.mig_around.proofs.Texts.{on_err}
 use Rattle.mig_dirtysave.specs.SaveAnswers.{IsLittleBehind, IsTrusted}
 use Rattle.mig_dirtysave.proofs.Looked.{stream_stays, tight_stay, total_stays, trust_stays, unsound_on}
 use Rattle.mig_dirtysave.proofs.Ends.{nothing_read, stopped_closing, stopped_no_stream, stopped_behind, stopped_first, stopped_frames, stopped_last, stopped_opening}
 use Rattle.mig_dirtysave.proofs.Streams.{early_stays, held_there, kind_stays, save_is_stream, top_held, width_stays}
-use Rattle.mig_dirtysave.proofs.Texts.{on_err}
 use Rattle.mig_dirtysave.proofs.Wrappers.{begun_as_host, emulators_stay, opening_stays, opens_as_host}
 use Rattle.mig_dirtysave.proofs.saver.Saver.run.Goals as goal
 

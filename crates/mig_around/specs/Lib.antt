@@ -1,0 +1,2 @@
+pub mod KeptParts
+pub mod SaveTexts

@@ -1,0 +1,78 @@
+ghost use Rattle.std.specs.Prelude.{◌≡◌, length, OnOk, IfOk, IfSome};
+ghost use Rattle.std.specs.FinMap as maps;
+ghost use Rattle.mig_headers.specs.declared.kind.Kind.TheVariants.{Pv};
+ghost use Rattle.mig_around.specs.KeptParts.{is_early as is_early_code, is_setting as is_setting_code, kept_parts, parts_alone};
+
+use crate::settings::{is_early, is_setting};
+use mig_bytes::Memory;
+use mig_guest::{Guest, PartKey};
+use mig_headers::Kind;
+use mig_machine_api::Machine;
+use std::alloc::{AllocError, Global};
+
+/// Sets a part of the machine's host in a guest.
+fn copy_part<M: Machine>(guest: &mut Guest, machine: &M, key: PartKey) -> Result<(), Memory>
+    ensures { OnOk result (IfSome (maps.get (M.state machine.now).host.parts key) (λ bytes. guest.new ≡ record guest.old { parts = maps.insert guest.old.parts key bytes })) }
+{
+    match machine.part(key) {
+        Some(bytes) => guest.set_part(key, bytes),
+        None => Ok(()),
+    }
+}
+
+/// A guest of the machine's kind and width that has neither frames nor parts.
+fn bare_guest<M: Machine>(alloc: Global, machine: &M) -> Guest
+    ensures { result ≡ parts_alone (M.state machine.now).host.kind (M.state machine.now).host.width maps.empty }
+{
+    let mut guest = Guest::new(alloc, machine.kind());
+    let width = machine.width();
+    match machine.kind() {
+        Kind::Pv => {
+            guest.set_top(width - 1);
+            guest
+        }
+        Kind::Hvm => guest,
+    }
+}
+
+/// Two guests: one has the parts of the machine's host that stand before the frames, the other those behind them, without the
+/// context.
+pub fn copy_parts<M: Machine>(alloc: Global, machine: &M) -> Result<(Guest, Guest), Memory>
+    ensures early { IfOk result (λ copied. copied.0 ≡ parts_alone (M.state machine.now).host.kind (M.state machine.now).host.width (kept_parts is_early_code (M.state machine.now).host.parts)) }
+    ensures settings { IfOk result (λ copied. copied.1 ≡ parts_alone (M.state machine.now).host.kind (M.state machine.now).host.width (kept_parts is_setting_code (M.state machine.now).host.parts)) }
+{
+    let mut early = bare_guest(alloc, machine);
+    let mut settings = bare_guest(alloc, machine);
+    let mut after = None;
+    while let Some(key) = machine.next_key(after) {
+        if is_early(key.code) {
+            copy_part(&mut early, machine, key)?;
+        } else if is_setting(key.code) {
+            copy_part(&mut settings, machine, key)?;
+        }
+        after = Some(key);
+    }
+    Ok((early, settings))
+}
+
+/// So many marks, none of which is set.
+fn no_marks(alloc: Global, count: usize) -> Result<Vec<Option<bool>>, AllocError>
+    ensures { IfOk result (λ marks. length marks.items ≡ count) }
+{
+    vec![in alloc; None; count]
+}
+
+/// Marks for judging the P2M frames of a PV machine: one for each frame number.
+pub fn make_marks<M: Machine>(alloc: Global, machine: &M) -> Result<Vec<Option<bool>>, Memory>
+    ensures { IfOk result (λ marks. (M.state machine.now).host.kind ≡ Pv → length marks.items ≡ (M.state machine.now).host.width) }
+{
+    let width = machine.width() as usize;
+    let count = match machine.kind() {
+        Kind::Pv => width,
+        Kind::Hvm => 0,
+    };
+    match no_marks(alloc, count) {
+        Ok(marks) => Ok(marks),
+        Err(_) => Err(Memory),
+    }
+}

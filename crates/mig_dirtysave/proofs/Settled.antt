@@ -1,0 +1,13 @@
+-- The settings that are held of a paused PV host become those of the guest that it is seen as.
+use Rattle.mig_hosted.proofs.Common.{◌≡◌, ap, ◌∙◌, Pv, GuestOf}
+use Rattle.mig_guest.specs.Hosts.{HostOf}
+use Rattle.mig_pause.specs.Paused.{with_view}
+use Rattle.mig_pause.proofs.HeldParts.{kept_are_seen}
+use Rattle.mig_around.specs.KeptParts.{is_setting, kept_parts, parts_alone}
+use Rattle.mig_around.specs.SaveTexts.{settings_seen}
+
+-- the settings are refreshed, and those of the host become those of its view
+pub settings_are : (h : HostOf) → h.kind ≡ Pv → (g k : GuestOf) → g ≡ parts_alone h.kind h.width (kept_parts is_setting h.parts) → k ≡ with_view h g → k ≡ settings_seen h
+settings_are h pv g k fresh seen =
+    seen ∙ ap (λ (s : GuestOf). record s { parts = (with_view h g).parts }) fresh
+    ∙ ap (parts_alone h.kind h.width) (kept_are_seen h g is_setting (ap (λ (s : GuestOf). s.parts) fresh) pv)
