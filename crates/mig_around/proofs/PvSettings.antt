@@ -25,7 +25,7 @@ use Rattle.mig_hosted.specs.View.{view, top_of}
 use Rattle.mig_hosted.proofs.ViewedFrames.{each_policy, top_is}
 use Rattle.mig_hosted.proofs.ViewedParts.{pv_part}
 use Rattle.mig_hosted.proofs.ViewedSays.{ents_there}
-use Rattle.mig_around.specs.KeptParts.{is_setting, kept_parts, parts_alone}
+use Rattle.mig_around.specs.KeptParts.{is_setting}
 use Rattle.mig_around.specs.SaveTexts.{settings_seen}
 use Rattle.mig_around.proofs.Codes.{IsOther, both_all, code_within, from_kept, same_records, seen_as}
 use Rattle.mig_around.proofs.Walks.{kept_at}

@@ -8,7 +8,7 @@ use Rattle.mig_headers.specs.declared.kind.Kind.{Kind}
 use Rattle.mig_headers.specs.declared.unsound.Unsound.{Unsound}
 use Rattle.mig_guest.specs.Formed.{IsFormed}
 use Rattle.mig_guest.specs.Guests.{GuestOf}
-use Rattle.mig_guest.specs.Hosts.{HostOf, IsValid}
+use Rattle.mig_guest.specs.Hosts.{IsValid}
 use Rattle.mig_guest.specs.PartCodes.{is_fixed}
 use Rattle.mig_guest.specs.Parts.{PartMap}
 use Rattle.mig_guest.specs.declared.part_key.PartKey.{PartKey}
