@@ -8,11 +8,12 @@ pub use Rattle.mig_headers.specs.declared.kind.Kind.{Kind}
 pub use Rattle.mig_headers.specs.declared.kind.Kind.TheVariants.{Hvm, Pv}
 pub use Rattle.mig_restore.proofs.Meaning.{mean_kind}
 pub use Rattle.mig_libxl.specs.Spelled.{AcceptedStream}
-pub use Rattle.mig_tool.specs.Answers.{AcceptedIn, Comes, ComesOf, Done, DonePart, Form, InputRises, IsLine, LeavesOut, PutsOwnLine, RefusedIn, Says, SaysOf, WriteRose, WritesRefused, Written, form_of, restored_text, summary_of}
+pub use Rattle.mig_tool.specs.Answers.{AcceptedIn, Done, DonePart, Form, HasSaveRefusal, IsLine, PutsOwnLine, RefusedIn, SaysOf, WriteRose, WritesRefused, form_of}
+pub use Rattle.mig_commands.specs.Statuses.{InputRises, Written}
+pub use Rattle.mig_commands.specs.Outcomes.{OutcomeSays}
 pub use Rattle.mig_tool.specs.Answers.Form.{ImageAndScript, ImageAt, Legacy, Modern, ModernAt, NoInput, Passing}
 pub use Rattle.mig_libxl.specs.Carried.{IsCarried}
 pub use Rattle.mig_report.specs.Outcome.{line_of, status_of}
-pub use Rattle.mig_tool.specs.Outcomes.{outcome_of}
 pub use Rattle.mig_report.specs.Words.{IsBase, Names}
 pub use Rattle.mig_report.specs.declared.command.Command.{Command}
 pub use Rattle.mig_report.specs.declared.command.Command.TheVariants.{Convert, Exercise, Normalise, Restore, Save, Verify, Walk, WalkImage, Relay, Show}

@@ -27,7 +27,7 @@ use Rattle.mig_report.specs.declared.outcome.SaveSummary.{SaveSummary}
 use Rattle.mig_tool.specs.Exercises.{Exercises, ExerciseSaved}
 use Rattle.mig_tool.specs.LiveSaves.{WroteLive, WroteLiveTo, paused_host}
 use Rattle.mig_tool.specs.SaveSteps.{ComesToNone}
-use Rattle.mig_tool.proofs.Reporting.{accepted_front}
+use Rattle.mig_commands.proofs.Reporting.{accepted_front}
 
 -- ---- a stream is read again
 

@@ -1,10 +1,7 @@
 pub mod Common
 pub mod SaveInputs
-pub mod Walks
-pub mod Relaying
-pub mod Showing
 pub mod Reporting
 pub mod Saving
 pub mod Lives
 pub mod Exercising
-pub mod Walking
+pub mod Carrying

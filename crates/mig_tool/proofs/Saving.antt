@@ -1,6 +1,6 @@
 -- What a live save comes to, says and reports.
 use Rattle.std.specs.Prelude.{◌+◌, drop}
-use Rattle.mig_tool.proofs.Common.{◌⊎◌, ◌≡◌, ℕ, List, [], length, arith, Option, Some, None, Ok, Err, refl, sym, ap, subst, ◌∙◌, Hvm, Refusal, Written, Comes, ComesOf, Says, SaysOf, Save, status_of, line_of}
+use Rattle.mig_tool.proofs.Common.{◌⊎◌, ◌≡◌, ℕ, List, [], length, arith, Option, Some, None, Ok, Err, refl, sym, ap, subst, ◌∙◌, Hvm, Refusal, Written, Done, DonePart, HasSaveRefusal, OutcomeSays, SaysOf, Save, status_of, line_of}
 use Rattle.mig_report.specs.declared.outcome.Refusal.TheVariants as refusals
 use mathlib.Core.Logic.{inl, inr}
 use mathlib.Core.List.{append-nil}
@@ -29,8 +29,8 @@ use Rattle.mig_report.specs.declared.outcome.Outcome.TheVariants as outcomes
 use Rattle.mig_report.specs.declared.outcome.SaveSummary.{SaveSummary}
 use Rattle.mig_report.specs.declared.status.Status.{Status}
 use Rattle.mig_report.specs.declared.status.Status.TheVariants as statuses
-use Rattle.mig_tool.specs.Answers.{NamesRefusal, RefusesPause, BreaksOff}
-use Rattle.mig_tool.specs.Answers.Form.{ImageAndScript}
+use Rattle.mig_commands.specs.Statuses.{NamesRefusal}
+use Rattle.mig_tool.specs.Answers.{RefusesPause, BreaksOff}
 use Rattle.mig_tool.specs.LiveSaves.{HasHostAndScript, WroteLive, saved_host_at}
 use Rattle.mig_tool.specs.SaveSteps.{StopsAt, ReadsHostToSave, ReadsHostAndScript, stop_of_script, outcome_of_stop, ComesToNone}
 use Rattle.mig_tool.specs.declared.save.HostAndScript.{HostAndScript}
@@ -51,14 +51,18 @@ unwritten old = bare_headers old old Hvm (0, omega (arith, headers_len), appends
 
 -- ---- why no host and script were read
 
-stop_comes : (input : List ℕ) (left : Option (List ℕ)) (w : Written) (stop : Stop Refusal) → StopsAt input left stop → Comes Save input left w (outcome_of_stop stop)
+-- what an outcome of `save` says
+abbrev pub SaveComes : Option (List ℕ) → Option (List ℕ) → Written → Outcome → Type 0
+SaveComes told left w outcome = OutcomeSays (λ input. Done Save input left w) (λ input. DonePart Save input left w) HasSaveRefusal told left outcome
+
+stop_comes : (input : List ℕ) (left : Option (List ℕ)) (w : Written) (stop : Stop Refusal) → StopsAt input left stop → SaveComes (Some input) left w (outcome_of_stop stop)
 stop_comes input left w (stops.Refused refusal) (rest, refused, it, is) = (rest, refused, is)
 stop_comes input left w stops.ReadFault h = tt
 stop_comes input left w stops.Memory h = tt
 
-pub stopped_comes : (told left : Option (List ℕ)) (w : Written) (stop : Stop Refusal) (outcome : Outcome) → ReadsHostAndScript told left (Err stop) → outcome ≡ outcome_of_stop stop → ComesOf Save told left w outcome
+pub stopped_comes : (told left : Option (List ℕ)) (w : Written) (stop : Stop Refusal) (outcome : Outcome) → ReadsHostAndScript told left (Err stop) → outcome ≡ outcome_of_stop stop → SaveComes told left w outcome
 stopped_comes None left w stop outcome h is = tt
-stopped_comes (Some input) left w stop outcome h is = subst (Comes Save input left w) (sym is) (stop_comes input left w stop h)
+stopped_comes (Some input) left w stop outcome h is = subst (SaveComes (Some input) left w) (sym is) (stop_comes input left w stop h)
 
 pub host_read : (told left : Option (List ℕ)) (host : HostAndSpare) → ReadsHost most_saved_width told left (Ok host) → ReadsHostToSave told left (Ok host)
 host_read None left host h = tt
@@ -77,17 +81,17 @@ script_not_read (Some input) mid left host answer stop (text, has, at) read is =
 
 -- ---- a host and a script were read, and came to no stream
 
-none_comes : (input : List ℕ) (left : Option (List ℕ)) (w : Written) (host : HostOf) (lines : List LineOf) (outcome : Outcome) → HasHostAndScript input host lines → left ≡ Some [] → WroteNoStream w.out_old w.out_new → ComesToNone host lines outcome → Comes Save input left w outcome
+none_comes : (input : List ℕ) (left : Option (List ℕ)) (w : Written) (host : HostOf) (lines : List LineOf) (outcome : Outcome) → HasHostAndScript input host lines → left ≡ Some [] → WroteNoStream w.out_old w.out_new → ComesToNone host lines outcome → SaveComes (Some input) left w outcome
 none_comes input left w host lines (outcomes.Refused (refusals.Pause unsound)) read is none why = ([], (record { host = host; lines = lines; is = read; pause = why }, refl), is)
 none_comes input left w host lines outcomes.WriteFault read is none h = inl (record { host = host; lines = lines; read = read; left_is = is; no_stream = none })
 none_comes input left w host lines outcomes.Memory read is none h = tt
 none_comes input left w host lines _ read is none h = absurd h
 
-pub unsaved_comes : (told left : Option (List ℕ)) (w : Written) (read : HostAndScript) (outcome : Outcome) → ReadsHostAndScript told left (Ok read) → WroteNoStream w.out_old w.out_new → ComesToNone read.host.host (read.script) outcome → ComesOf Save told left w outcome
+pub unsaved_comes : (told left : Option (List ℕ)) (w : Written) (read : HostAndScript) (outcome : Outcome) → ReadsHostAndScript told left (Ok read) → WroteNoStream w.out_old w.out_new → ComesToNone read.host.host (read.script) outcome → SaveComes told left w outcome
 unsaved_comes None left w read outcome h none why = tt
 unsaved_comes (Some input) left w read outcome h none why = none_comes input left w read.host.host (read.script) outcome h.0 h.1 none why
 
-pause_named : (told left : Option (List ℕ)) (read : HostAndScript) (unsound : Unsound) → ReadsHostAndScript told left (Ok read) → ComesToNone read.host.host (read.script) (outcomes.Refused (refusals.Pause unsound)) → NamesRefusal ImageAndScript told (refusals.Pause unsound)
+pause_named : (told left : Option (List ℕ)) (read : HostAndScript) (unsound : Unsound) → ReadsHostAndScript told left (Ok read) → ComesToNone read.host.host (read.script) (outcomes.Refused (refusals.Pause unsound)) → NamesRefusal HasSaveRefusal told (refusals.Pause unsound)
 pause_named None left read unsound h why = tt
 pause_named (Some input) left read unsound h why = ([], (record { host = read.host.host; lines = read.script; is = h.0; pause = why }, refl))
 
@@ -116,6 +120,6 @@ pub saved_said : (told left : Option (List ℕ)) (w : Written) (read : HostAndSc
     → (status ≡ statuses.Done → Appends w.report_old w.report_new (saved_line s)) → (status ≡ statuses.WriteFault → AppendsPart w.report_old w.report_new (saved_line s)) → (status ≡ statuses.Done) ⊎ (status ≡ statuses.WriteFault) → SaysOf Save told left w status
 saved_said None left w read s status h wrote done part answers = tt
 saved_said (Some input) left w read s status h wrote done part (inl is) =
-    subst (Says Save input left w) (sym is) (record { host = read.host.host; lines = read.script; read = h.0; left_is = h.1; summary = s; wrote = wrote; reported = done is })
+    subst (SaysOf Save (Some input) left w) (sym is) (record { host = read.host.host; lines = read.script; read = h.0; left_is = h.1; summary = s; wrote = wrote; reported = done is })
 saved_said (Some input) left w read s status h wrote done part (inr is) =
-    subst (Says Save input left w) (sym is) (inr (record { host = read.host.host; lines = read.script; read = h.0; left_is = h.1; summary = s; wrote = wrote; reported = part is }))
+    subst (SaysOf Save (Some input) left w) (sym is) (inr (record { host = read.host.host; lines = read.script; read = h.0; left_is = h.1; summary = s; wrote = wrote; reported = part is }))

@@ -1,14 +1,7 @@
-pub mod Outcomes
 pub mod LiveSaves
 pub mod Exercises
-pub mod Addresses
-pub mod Relays
-pub mod Shown
 pub mod Answers
-pub mod AddressSteps
 pub mod SaveSteps
-pub mod RelaySteps
-pub mod ShownSteps
 pub use Rattle.mig_report.specs.Words
 pub use Rattle.mig_report.specs.Report
 pub use Rattle.mig_report.specs.Outcome

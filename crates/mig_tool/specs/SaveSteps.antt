@@ -16,8 +16,7 @@ use Rattle.mig_report.specs.declared.outcome.Refusal.TheVariants as refusals
 use Rattle.mig_script.specs.ScriptLines.{LineOf}
 use Rattle.mig_script.specs.declared.script.ScriptAnswer.{ScriptAnswer}
 use Rattle.mig_script.specs.declared.script.ScriptAnswer.TheVariants as scripts
-use Rattle.mig_tool.specs.Answers.{RefusedIn, IsOfInput}
-use Rattle.mig_tool.specs.Answers.Form.{ImageAndScript}
+use Rattle.mig_tool.specs.Answers.{HasSaveRefusal, IsOfInput}
 use Rattle.mig_tool.specs.LiveSaves.{HasHostAndScript, PausesUnsound, saved_host_at}
 use Rattle.mig_tool.specs.declared.save.HostAndScript.{HostAndScript}
 
@@ -34,7 +33,7 @@ stop_of_script scripts.Memory = stops.Memory
 
 -- the input is refused, by itself, and so much of it is left
 abbrev pub StopsAt : List ℕ → Option (List ℕ) → Stop Refusal → Type 0
-StopsAt input left (stops.Refused refusal) = (rest : List ℕ) × RefusedIn ImageAndScript input refusal rest × IsOfInput refusal × (left ≡ Some rest)
+StopsAt input left (stops.Refused refusal) = (rest : List ℕ) × HasSaveRefusal input refusal rest × IsOfInput refusal × (left ≡ Some rest)
 StopsAt input left stops.ReadFault = ⊤
 StopsAt input left stops.Memory = ⊤
 

@@ -7,13 +7,10 @@
 //! `run` is the program but for its standard streams; its clauses say what is answered, taken, written and reported.
 #![tactic(auto)]
 
-mod commands;
+mod carry;
 mod exercise;
-mod relay;
 mod run;
 mod save;
-mod shown;
-mod walk;
 
 use crate::run::run;
 use mig_bytes::{InSource, OutSink};

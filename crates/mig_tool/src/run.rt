@@ -3,8 +3,10 @@ ghost use Rattle.mig_bytes.specs.Faults.{Rose};
 ghost use Rattle.mig_guest.specs.Guests.{GuestOf};
 ghost use Rattle.mig_guest.specs.Hosts.{HostOf};
 ghost use Rattle.mig_script.specs.ScriptLines.{LineOf};
-ghost use Rattle.mig_tool.specs.Shown.{SaysShown};
-ghost use Rattle.mig_tool.specs.Answers.{form_of, AcceptedIn, RefusedIn, IsOfInput, Written, SaysOf, IsSavedOrPaused, MayWrite, WriteRose, InputRises, NoneFailed, IsLine, HasOwnLine, PutsOwnLine, Relays, BreaksSave, WritesRefused};
+ghost use Rattle.mig_commands.specs.Relays.{Relays};
+ghost use Rattle.mig_commands.specs.Shown.{SaysShown};
+ghost use Rattle.mig_commands.specs.Statuses.{InputRises, NoneFailed, Written};
+ghost use Rattle.mig_tool.specs.Answers.{form_of, AcceptedIn, RefusedIn, IsOfInput, SaysOf, IsSavedOrPaused, MayWrite, WriteRose, IsLine, HasOwnLine, PutsOwnLine, BreaksSave, WritesRefused};
 ghost use Rattle.mig_tool.specs.Exercises.{SaysExercise};
 ghost use Rattle.mig_tool.specs.LiveSaves.{HasHostAndScript};
 ghost use Rattle.mig_report.specs.Report.{Reports, usage_line};
@@ -14,7 +16,7 @@ ghost use Rattle.mig_report.specs.declared.command.Command.TheVariants as comman
 ghost use Rattle.mig_report.specs.declared.outcome.Refusal.{Refusal};
 ghost use Rattle.mig_report.specs.declared.status.Status.TheVariants as statuses;
 
-use crate::commands::carry_out;
+use crate::carry::carry_out;
 use mig_bytes::{Sink, Source};
 use mig_report::{Outcome, Status, command_in, finish};
 use std::alloc::Global;

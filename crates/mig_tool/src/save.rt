@@ -11,7 +11,8 @@ ghost use Rattle.mig_report.specs.declared.outcome.Outcome.TheVariants as outcom
 ghost use Rattle.mig_report.specs.declared.outcome.Refusal.TheVariants as refusals;
 ghost use Rattle.mig_report.specs.declared.status.Status.TheVariants as statuses;
 ghost use Rattle.mig_unended.specs.Unread.{WroteNoStream};
-ghost use Rattle.mig_tool.specs.Answers.{form_of, SaysOf, InputRises, IsLine, HasOwnLine, PutsOwnLine, RefusesPause, BreaksOff};
+ghost use Rattle.mig_commands.specs.Statuses.{InputRises};
+ghost use Rattle.mig_tool.specs.Answers.{form_of, SaysOf, IsLine, HasOwnLine, PutsOwnLine, RefusesPause, BreaksOff};
 ghost use Rattle.mig_tool.specs.LiveSaves.{IsUnasked, WroteLive, WroteLiveTo};
 ghost use Rattle.mig_tool.specs.SaveSteps.{ReadsHostToSave, ReadsHostAndScript, stop_of_image, stop_of_script, outcome_of_stop, ComesToNone};
 

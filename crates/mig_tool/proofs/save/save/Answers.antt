@@ -1,14 +1,13 @@
-use Rattle.mig_tool.proofs.Common.{Err, sym, ap, subst, SaysOf, Save, Written}
+use Rattle.mig_tool.proofs.Common.{Err, ap, HasSaveRefusal, Written}
 use mathlib.Core.Logic.{inr}
-use Rattle.mig_tool.proofs.Reporting.{says_of, line_reported}
+use Rattle.mig_commands.proofs.Reporting.{says_of, line_reported}
 use Rattle.mig_tool.proofs.Saving.{stopped_comes, unwritten, unsaved_comes, refuses_pause, broke_off, saved_said}
 use Rattle.mig_tool.proofs.save.save.Goals as goal
 
 pub returns-in-Err-clause-said : goal.returns-in-Err-clause-said
 returns-in-Err-clause-said g c =
     let w : Written = record { out_old = g.K.Sink.written c.args.out.now; out_new = g.K.Sink.written c.args.out.now; report_old = g.R.Sink.written c.args.report.now; report_new = g.R.Sink.written c.finish.new.report } in
-    subst (SaysOf Save (g.S.Source.left c.args.input.now) (g.S.Source.left c.host_and_script.new.input) w) (sym c.finish.ensures.status)
-    (says_of Save (g.S.Source.left c.args.input.now) (g.S.Source.left c.host_and_script.new.input) w c.stopped.result (stopped_comes _ _ w c.in-Err.stop c.stopped.result c.in-Err.ensures.read c.stopped.ensures))
+    says_of _ _ HasSaveRefusal (g.S.Source.left c.args.input.now) (g.S.Source.left c.host_and_script.new.input) c.stopped.result c.finish.result c.finish.ensures.status (stopped_comes _ _ w c.in-Err.stop c.stopped.result c.in-Err.ensures.read c.stopped.ensures)
 
 pub returns-in-Err-clause-no_stream : goal.returns-in-Err-clause-no_stream
 returns-in-Err-clause-no_stream g c = λ _. unwritten _
@@ -21,8 +20,8 @@ returns-in-Ok-save_live-clause-said g c =
 pub returns-in-Err-save_live-clause-said : goal.returns-in-Err-save_live-clause-said
 returns-in-Err-save_live-clause-said g c =
     let w : Written = record { out_old = g.K.Sink.written c.args.out.now; out_new = g.K.Sink.written c.save_live.new.out; report_old = g.R.Sink.written c.args.report.now; report_new = g.R.Sink.written c.finish-in-Err-save_live.new.report } in
-    subst (SaysOf Save (g.S.Source.left c.args.input.now) (g.S.Source.left c.host_and_script.new.input) w) (sym c.finish-in-Err-save_live.ensures.status)
-    (says_of Save (g.S.Source.left c.args.input.now) (g.S.Source.left c.host_and_script.new.input) w c.in-Err-save_live.outcome (unsaved_comes _ _ w c.in-Ok.read c.in-Err-save_live.outcome c.in-Ok.ensures.read c.in-Err-save_live.ensures.no_stream c.in-Err-save_live.ensures.none))
+    says_of _ _ HasSaveRefusal (g.S.Source.left c.args.input.now) (g.S.Source.left c.host_and_script.new.input) c.in-Err-save_live.outcome c.finish-in-Err-save_live.result c.finish-in-Err-save_live.ensures.status
+    (unsaved_comes _ _ w c.in-Ok.read c.in-Err-save_live.outcome c.in-Ok.ensures.read c.in-Err-save_live.ensures.no_stream c.in-Err-save_live.ensures.none)
 
 pub returns-in-Err-save_live-clause-kept_refused : goal.returns-in-Err-save_live-clause-kept_refused
 returns-in-Err-save_live-clause-kept_refused g c = λ refused.
@@ -32,7 +31,7 @@ returns-in-Err-save_live-clause-kept_refused g c = λ refused.
 pub returns-in-Err-save_live-clause-line : goal.returns-in-Err-save_live-clause-line
 returns-in-Err-save_live-clause-line g c = λ _.
     let w : Written = record { out_old = g.K.Sink.written c.args.out.now; out_new = g.K.Sink.written c.save_live.new.out; report_old = g.R.Sink.written c.args.report.now; report_new = g.R.Sink.written c.finish-in-Err-save_live.new.report } in
-    line_reported Save (g.S.Source.left c.args.input.now) (g.S.Source.left c.host_and_script.new.input) w c.in-Err-save_live.outcome c.finish-in-Err-save_live.result _ _ _ _ c.finish-in-Err-save_live.ensures.status
+    line_reported _ _ HasSaveRefusal (g.S.Source.left c.args.input.now) (g.S.Source.left c.host_and_script.new.input) c.in-Err-save_live.outcome c.finish-in-Err-save_live.result _ _ _ _ c.finish-in-Err-save_live.ensures.status
     (unsaved_comes _ _ w c.in-Ok.read c.in-Err-save_live.outcome c.in-Ok.ensures.read c.in-Err-save_live.ensures.no_stream c.in-Err-save_live.ensures.none) c.finish-in-Err-save_live.ensures.line
 
 pub returns-in-Ok-save_live-clause-breaks : goal.returns-in-Ok-save_live-clause-breaks

@@ -1,0 +1,19 @@
+-- Names that many proofs of this crate use.
+pub use Rattle.std.proofs.Common.{Err, List, None, Ok, Option, Result, Some, ap, arith, length, refl, rules, subst, sym, ℕ, ◌++◌, ◌∙◌, ◌≡◌}
+pub use Rattle.std.specs.Prelude.{◌⊎◌}
+pub use Rattle.mig_guest.specs.Frames.{IsFew}
+pub use Rattle.mig_guest.specs.Guests.{GuestOf}
+pub use Rattle.mig_headers.specs.declared.kind.Kind.{Kind}
+pub use Rattle.mig_headers.specs.declared.kind.Kind.TheVariants.{Hvm, Pv}
+pub use Rattle.mig_restore.proofs.Meaning.{mean_kind}
+pub use Rattle.mig_libxl.specs.Carried.{IsCarried}
+pub use Rattle.mig_libxl.specs.Spelled.{AcceptedStream}
+pub use Rattle.mig_commands.specs.Fronts.{Accepting, Normalised, PartWritten, restored_text, summary_of}
+pub use Rattle.mig_commands.specs.Outcomes.{OutcomeSays, outcome_of}
+pub use Rattle.mig_commands.specs.Refusals.{HasLegacyRefusal, HasOpenRefusal, HasStreamRefusal, HasWalkImageRefusal, HasWalkRefusal, Refusing}
+pub use Rattle.mig_commands.specs.Says.{ConvertComes, NormaliseComes, RelaySays, RestoreComes, ShowComes, VerifySays, WalkImageSays, WalkSays}
+pub use Rattle.mig_commands.specs.Statuses.{InputRises, IsStatusLine, ReportsStatus, StatusSays, Written}
+pub use Rattle.mig_report.specs.Outcome.{line_of, status_of}
+pub use Rattle.mig_report.specs.Words.{IsBase}
+pub use Rattle.mig_report.specs.declared.outcome.Refusal.{Refusal}
+pub use Rattle.mig_report.specs.declared.outcome.Refusal.TheVariants as refusals

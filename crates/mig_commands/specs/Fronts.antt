@@ -1,0 +1,76 @@
+-- An accepted front of the input, and what was written or reported of its guest.
+use Rattle.std.specs.Prelude.{◌≡◌, ◌↔◌, ◌≤◌, ℕ, List, ◌++◌, length, Some, Option}
+use Rattle.std.specs.FinMap as maps
+use Rattle.std.specs.Io.KnownBytes.{Appends}
+use Rattle.mig_bytes.specs.Bytes.{AppendsPart}
+use Rattle.mig_bytes.specs.Judged.Judged.{Passes}
+use Rattle.mig_guest.specs.Guests.{GuestOf}
+use Rattle.mig_guest.specs.Hosts.{IsValid}
+use Rattle.mig_host.specs.Hosted.{hosted}
+use Rattle.mig_image.specs.declared.version.ImageVersion.TheVariants.{Two}
+use Rattle.mig_image.specs.Image.{image}
+use Rattle.mig_image.specs.ImageForm.{host_at}
+use Rattle.mig_hosted.specs.Sound.{IsSound}
+use Rattle.mig_hosted.specs.View.{view}
+use Rattle.mig_libxl.specs.Carried.{IsCarried}
+use Rattle.mig_libxl.specs.Canon.{canon_any}
+use Rattle.mig_libxl.specs.Spelled.{AcceptedStream}
+use Rattle.mig_restore.specs.Mean.{differs_of}
+use Rattle.mig_report.specs.declared.outcome.Summary.{Summary}
+use Rattle.mig_report.specs.Report.{ok_line}
+
+-- that a front of an input is accepted with this guest, and what follows it
+abbrev pub Accepting : Type 1
+Accepting = List ℕ → GuestOf → List ℕ → Type 0
+
+-- a front of the input is accepted, the rest is left, and of its guest, a whole one in its blank form, the canonical stream
+-- was written: it is accepted with this guest, and no other such guest has it, whatever form it was read from
+pub record Normalised (Accepts : Accepting) (input : List ℕ) (left old new : Option (List ℕ)) : Type 0 where
+  pub guest : GuestOf
+  pub rest : List ℕ
+  pub accepted : Accepts input guest rest
+  pub left_is : left ≡ Some rest
+  pub wrote : Appends old new (canon_any guest)
+  pub carried : IsCarried guest
+  pub kept : (more : List ℕ) → AcceptedStream (canon_any guest ++ more) guest more
+  pub alone : (other : GuestOf) → IsCarried other → (canon_any other ≡ canon_any guest) ↔ (other ≡ guest)
+
+-- the image of the guest, of version 2, restored with machine frames from the base on
+abbrev pub restored_text : ℕ → GuestOf → List ℕ
+restored_text base guest = image Two (hosted guest base)
+
+-- a front of the input is an accepted stream, the rest is left, and the image of its guest was written: that of a valid and
+-- sound host that is seen as the guest, as which it is read again where hosts of its width are
+pub record Restored (base : ℕ) (input : List ℕ) (left old new : Option (List ℕ)) : Type 0 where
+  pub guest : GuestOf
+  pub rest : List ℕ
+  pub accepted : AcceptedStream input guest rest
+  pub left_is : left ≡ Some rest
+  pub wrote : Appends old new (restored_text base guest)
+  pub carried : IsCarried guest
+  pub valid : IsValid (hosted guest base)
+  pub sound : IsSound (hosted guest base)
+  pub seen : view (hosted guest base) ≡ guest
+  pub kept : (widest : ℕ) (more : List ℕ) → (hosted guest base).width ≤ widest → host_at widest (restored_text base guest ++ more) ≡ Passes (hosted guest base) more
+
+-- the same, but a write failed, and of the guest's text only a part was written
+pub record PartWritten (Accepts : Accepting) (text : GuestOf → List ℕ) (input : List ℕ) (left old new : Option (List ℕ)) : Type 0 where
+  pub guest : GuestOf
+  pub rest : List ℕ
+  pub accepted : Accepts input guest rest
+  pub left_is : left ≡ Some rest
+  pub wrote : AppendsPart old new (text guest)
+
+-- what is said of an accepted stream: the version and kind of its image, its guest's number of frames, the image's number
+-- of records, and how many of its entries behind a VERIFY differ from the frames before it, where it has one
+abbrev pub summary_of : {input : List ℕ} {guest : GuestOf} {rest : List ℕ} → AcceptedStream input guest rest → Summary
+summary_of {input} {guest} {rest} a =
+    record { version = a.image.opening.version; kind = a.image.opening.kind; frames = length (maps.entries guest.frames); records = length a.image.records; differs = differs_of a.image.opening.kind a.image.records }
+
+-- a front of the input is an accepted stream, the rest is left, and the line of it was reported
+pub record Verified (Reported : List ℕ → Type 0) (input : List ℕ) (left : Option (List ℕ)) : Type 0 where
+  pub guest : GuestOf
+  pub rest : List ℕ
+  pub accepted : AcceptedStream input guest rest
+  pub left_is : left ≡ Some rest
+  pub reported : Reported (ok_line (summary_of accepted))

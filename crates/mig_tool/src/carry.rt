@@ -1,0 +1,39 @@
+ghost use Rattle.std.specs.Prelude.{◌≡◌, ℕ};
+ghost use Rattle.mig_report.specs.Words.{IsBase, IsFrameNumber};
+ghost use Rattle.mig_report.specs.declared.command.Command.TheVariants as commands;
+ghost use Rattle.mig_tool.specs.Answers.{CarriedOut};
+
+use crate::exercise::exercise_told;
+use crate::save::save;
+use mig_bytes::{Sink, Source};
+use mig_commands::{convert, normalise, relay, restore, show, verify, walk, walk_image};
+use mig_report::{Command, Status};
+use std::alloc::Global;
+
+/// Carries out a command.
+pub(crate) fn carry_out<S: Source, K: Sink, R: Sink>(
+    alloc: Global,
+    command: Command,
+    input: &mut S,
+    out: &mut K,
+    report: &mut R,
+) -> Status
+    requires base { (base : ℕ) → command ≡ commands.Restore base → IsBase base }
+    requires frames { (seed n : ℕ) → command ≡ commands.Exercise seed n → IsFrameNumber n }
+    ensures { CarriedOut command (out.new ≡ out.old) (input.new ≡ input.old) result (S.left input.old) (S.left input.new)
+        (record { out_old = K.written out.old; out_new = K.written out.new; report_old = R.written report.old; report_new = R.written report.new })
+        (S.faults input.old) (S.faults input.new) (K.faults out.old) (K.faults out.new) (R.faults report.old) (R.faults report.new) }
+{
+    match command {
+        Command::Normalise => normalise(alloc, input, out, report),
+        Command::Convert => convert(alloc, input, out, report),
+        Command::Restore(base) => restore(alloc, base, input, out, report),
+        Command::Verify => verify(alloc, input, report),
+        Command::Save => save(alloc, input, out, report),
+        Command::Exercise { seed, frames } => exercise_told(alloc, seed, frames, report),
+        Command::Walk { vcpu, address } => walk(alloc, vcpu, address, input, report),
+        Command::WalkImage { vcpu, address } => walk_image(alloc, vcpu, address, input, report),
+        Command::Relay => relay(alloc, input, out, report),
+        Command::Show => show(alloc, input, out, report),
+    }
+}
