@@ -11,7 +11,7 @@ pub use Rattle.mig_libxl.specs.Spelled.{AcceptedStream}
 pub use Rattle.mig_commands.specs.Fronts.{Accepting, Normalised, PartWritten, restored_text, summary_of}
 pub use Rattle.mig_commands.specs.Outcomes.{OutcomeSays, outcome_of}
 pub use Rattle.mig_commands.specs.Refusals.{HasLegacyRefusal, HasOpenRefusal, HasStreamRefusal, HasWalkImageRefusal, HasWalkRefusal, Refusing}
-pub use Rattle.mig_commands.specs.Says.{ConvertComes, NormaliseComes, RelaySays, RestoreComes, ShowComes, VerifySays, WalkImageSays, WalkSays}
+pub use Rattle.mig_commands.specs.Says.{ConvertComes, NormaliseComes, RelaySays, RestoreComes, ShowComes, VerifySays}
 pub use Rattle.mig_commands.specs.Statuses.{InputRises, IsStatusLine, ReportsStatus, StatusSays, Written}
 pub use Rattle.mig_report.specs.Outcome.{line_of, status_of}
 pub use Rattle.mig_report.specs.Words.{IsBase}

@@ -1,5 +1,5 @@
 -- Of what a command answers: an input that is accepted is done, and one that is refused is refused, where nothing failed.
-use Rattle.mig_tool.proofs.Common.{◌⊎◌, ◌≡◌, ℕ, List, Option, Some, refl, sym, ap, subst, GuestOf, AcceptedIn, RefusedIn, Form, ImageAndScript, ImageAt, Legacy, Modern, ModernAt, NoInput, Passing, form_of, Refusal, Written, Done, DonePart, SaysOf, InputRises, WriteRose, WritesRefused, Command, Convert, Exercise, Normalise, Restore, Save, Verify, Walk, WalkImage, Relay, Show}
+use Rattle.mig_tool.proofs.Common.{◌⊎◌, ◌≡◌, ℕ, List, Option, Some, refl, subst, GuestOf, AcceptedIn, RefusedIn, Form, ImageAndScript, ImageAt, Legacy, Modern, ModernAt, NoInput, Passing, form_of, Refusal, Written, Done, DonePart, SaysOf, InputRises, WriteRose, WritesRefused, Command, Convert, Exercise, Normalise, Restore, Save, Verify, Walk, WalkImage, Relay, Show}
 use mathlib.Core.Logic.{inl, inr}
 use Rattle.mig_bytes.specs.Faults.{Rose}
 use Rattle.mig_guest.specs.Hosts.{HostOf}

@@ -87,7 +87,7 @@ returns-in-Save g c =
       besides = record { refused = e.kept_refused; no_stream = e.no_stream; broke = e.breaks };
       kept = λ never. e.kept (λ d. never (inr (inl d))) (λ p. never (inr (inr p))) (λ r. never (inl r));
       reads = e.read;
-      writes = λ failed. save_rose _ _ _ _ _ (e.breaks failed);
+      writes = λ failed. save_rose w _ _ _ _ (e.breaks failed);
       line = e.line;
       own_line = e.own_line;
       out_faults = record { later = e.out_later; done = e.out_quiet };
@@ -148,7 +148,7 @@ returns-in-Relay g c =
       besides = record { says = e.relayed; broke = e.breaks };
       kept = λ never. absurd (never tt);
       reads = e.read;
-      writes = λ failed. relay_rose _ _ _ _ _ _ _ (e.breaks failed);
+      writes = λ failed. relay_rose _ _ w _ _ _ _ (e.breaks failed);
       line = e.line;
       own_line = e.own_line;
       out_faults = record { later = e.out_later; done = e.out_quiet };

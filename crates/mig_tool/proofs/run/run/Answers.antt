@@ -1,4 +1,4 @@
-use Rattle.mig_tool.proofs.Common.{sym, Written, Exercise, Save, Relay, Show}
+use Rattle.mig_tool.proofs.Common.{Written, Exercise, Save, Relay, Show}
 use Rattle.mig_report.proofs.Naming.{same_command}
 use Rattle.mig_tool.proofs.Carrying.{of_same}
 use Rattle.mig_tool.proofs.Reporting.{accepted_done, refused_refused, saved_done, input_rose, refused_unbroken}
