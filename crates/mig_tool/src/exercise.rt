@@ -1,6 +1,8 @@
-ghost use Rattle.std.specs.Prelude.{◌≡◌, ◌≤◌, ◌⊎◌, ◌++◌, ℕ, List, Some, None, IfOk, OnOk, length};
+ghost use Rattle.std.specs.Prelude.{◌≡◌, ◌≤◌, ◌⊎◌, ◌++◌, ℕ, List, [], Some, None, IfOk, OnOk, length};
 ghost use Rattle.mig_bytes.specs.Faults.{Rose};
 ghost use Rattle.mig_bytes.specs.declared.answer.Answer.TheVariants as stream_answers;
+ghost use Rattle.mig_exercise.specs.ExerciseHosts.{host_of_exercise};
+ghost use Rattle.mig_exercise.specs.ExerciseScripts.{script_of_exercise};
 ghost use Rattle.mig_guest.specs.Guests.{GuestOf};
 ghost use Rattle.mig_hosted.specs.Sound.{unsoundness};
 ghost use Rattle.mig_hosted.specs.View.{view};
@@ -13,6 +15,7 @@ ghost use Rattle.mig_report.specs.Words.{IsFrameNumber};
 ghost use Rattle.mig_report.specs.declared.outcome.Outcome.TheVariants as outcomes;
 ghost use Rattle.mig_report.specs.declared.status.Status.TheVariants as statuses;
 ghost use Rattle.mig_tool.specs.Exercises.{Exercises, ExerciseSaved, SaysExercise};
+ghost use Rattle.mig_tool.specs.LiveSaves.{IsUnasked, WroteLiveTo, paused_host};
 
 use crate::save::save_machine;
 use mig_bytes::{Failed, MemSink, Memory, Sink, Source};
@@ -24,7 +27,7 @@ use mig_image::{
 };
 use mig_libxl::{read_any, write_any};
 use mig_machine::ScriptMachine;
-use mig_report::{ExerciseSummary, Outcome, Status, finish, put_exercised};
+use mig_report::{ExerciseSummary, Outcome, SaveSummary, Status, finish, put_exercised};
 use mig_restore::StreamAnswer;
 use std::alloc::Global;
 
@@ -189,6 +192,39 @@ fn starved(outcome: Outcome) -> Memory
     }
 }
 
+/// A machine in memory with the host of the exercise, which runs its script.
+fn exercise_machine(alloc: Global, seed: u64, frames: u64) -> Result<ScriptMachine, Memory>
+    requires { IsFrameNumber frames }
+    ensures host { IfOk result (λ machine. machine.host ≡ host_of_exercise seed frames) }
+    ensures lines { IfOk result (λ machine. machine.lines ≡ script_of_exercise seed frames) }
+    ensures unasked { IfOk result (λ machine. IsUnasked machine) }
+{
+    let host = exercise_host(alloc, seed, frames)?;
+    let script = exercise_script(alloc, seed, frames)?;
+    ScriptMachine::new(alloc, host, script)
+}
+
+/// Saves a machine live in memory whose host can be seen as a guest whenever it is paused, reads what was written, and says
+/// how long the canonical stream of its guest is.
+fn saved_len(
+    alloc: Global,
+    machine: &mut ScriptMachine,
+    stream: &mut MemSink,
+) -> Result<(SaveSummary, u64), Memory>
+    requires unasked { IsUnasked machine.old }
+    requires sound { (calls : ℕ) → unsoundness (paused_host machine.old.host machine.old.lines calls) ≡ None }
+    requires empty { stream.old.bytes ≡ [] }
+    ensures wrote { IfOk result (λ saved. WroteLiveTo machine.old.host machine.old.lines machine.new.host (Some stream.old.bytes) (Some stream.new.bytes) saved.0) }
+    ensures canon { IfOk result (λ saved. saved.1 ≡ length (canon_any (view machine.new.host))) }
+{
+    let summary = match save_machine(alloc, machine, stream) {
+        Ok(summary) => summary,
+        Err(outcome) => return Err(starved(outcome)),
+    };
+    let canon = canonical_len(alloc, stream.bytes(), machine.host())?;
+    Ok((summary, canon))
+}
+
 /// Saves the host of the exercise live in memory, while its script runs, reads what was written, and writes its guest in its
 /// canonical form, as it was read, as it is seen once it is restored, and as the paused host is seen.
 pub fn exercise(alloc: Global, seed: u64, frames: u64) -> Result<Exercised, Memory>
@@ -199,15 +235,9 @@ pub fn exercise(alloc: Global, seed: u64, frames: u64) -> Result<Exercised, Memo
 {
     // Law: the host can be seen as a guest whenever it is paused, and that guest's canonical stream has one length.
     exercise_is_saved();
-    let host = exercise_host(alloc, seed, frames)?;
-    let script = exercise_script(alloc, seed, frames)?;
-    let mut machine = ScriptMachine::new(alloc, host, script)?;
+    let mut machine = exercise_machine(alloc, seed, frames)?;
     let mut stream = MemSink::new(alloc, Vec::new(alloc));
-    let summary = match save_machine(alloc, &mut machine, &mut stream) {
-        Ok(summary) => summary,
-        Err(outcome) => return Err(starved(outcome)),
-    };
-    let canon = canonical_len(alloc, stream.bytes(), machine.host())?;
+    let (summary, canon) = saved_len(alloc, &mut machine, &mut stream)?;
     Ok(Exercised {
         frames,
         rounds: summary.rounds as u32,

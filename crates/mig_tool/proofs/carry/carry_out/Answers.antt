@@ -99,7 +99,7 @@ returns-in-Exercise g c =
     let e = c.exercise_told.ensures in
     let w : Written = record { out_old = g.K.Sink.written c.args.out.now; out_new = g.K.Sink.written c.args.out.now; report_old = g.R.Sink.written c.args.report.now; report_new = g.R.Sink.written c.exercise_told.new.report } in
     of_same {w = w} {this = (commands.Exercise c.in-Exercise.seed c.in-Exercise.frames)} (sym c.in-Exercise.is)
-    (exercise_came _ _ refl refl c.in-Exercise.seed c.in-Exercise.frames w _ _ _ _ _ c.exercise_told.result e.said e.quiet e.rose e.later e.line)
+    (exercise_came _ _ (refl {a = c.args.out.now}) (refl {a = c.args.input.now}) c.in-Exercise.seed c.in-Exercise.frames w _ _ _ _ _ c.exercise_told.result e.said e.quiet e.rose e.later e.line)
 
 pub returns-in-Walk : goal.returns-in-Walk
 returns-in-Walk g c =
