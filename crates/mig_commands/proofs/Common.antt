@@ -9,11 +9,11 @@ pub use Rattle.mig_restore.proofs.Meaning.{mean_kind}
 pub use Rattle.mig_libxl.specs.Carried.{IsCarried}
 pub use Rattle.mig_libxl.specs.Spelled.{AcceptedStream}
 pub use Rattle.mig_commands.specs.Fronts.{Accepting, Normalised, PartWritten, restored_text, summary_of}
-pub use Rattle.mig_commands.specs.Outcomes.{OutcomeSays, outcome_of}
-pub use Rattle.mig_commands.specs.Refusals.{HasLegacyRefusal, HasOpenRefusal, HasStreamRefusal, HasWalkImageRefusal, HasWalkRefusal, Refusing}
-pub use Rattle.mig_commands.specs.Says.{ConvertComes, NormaliseComes, RelaySays, RestoreComes, ShowComes, VerifySays}
-pub use Rattle.mig_commands.specs.Statuses.{InputRises, IsStatusLine, ReportsStatus, StatusSays, Written}
-pub use Rattle.mig_report.specs.Outcome.{line_of, status_of}
+pub use Rattle.mig_commands.specs.Outcomes.{outcome_of}
+pub use Rattle.mig_commands.specs.Refusals.{HasLegacyRefusal, HasStreamRefusal, HasWalkImageRefusal, HasWalkRefusal}
+pub use Rattle.mig_commands.specs.Says.{ConvertComes, NormaliseComes, RestoreComes, VerifySays}
+pub use Rattle.mig_report.specs.Statuses.{InputRises, OutcomeSays}
+pub use Rattle.mig_report.specs.Outcome.{status_of}
 pub use Rattle.mig_report.specs.Words.{IsBase}
 pub use Rattle.mig_report.specs.declared.outcome.Refusal.{Refusal}
 pub use Rattle.mig_report.specs.declared.outcome.Refusal.TheVariants as refusals

@@ -1,13 +1,11 @@
 -- An input isn't both accepted and refused, whatever is read of it.
-use Rattle.mig_commands.proofs.Common.{ℕ, List, GuestOf, AcceptedStream, Refusal, HasLegacyRefusal, HasOpenRefusal, HasStreamRefusal, HasWalkImageRefusal, HasWalkRefusal}
+use Rattle.mig_commands.proofs.Common.{ℕ, List, GuestOf, AcceptedStream, Refusal, HasLegacyRefusal, HasStreamRefusal, HasWalkImageRefusal, HasWalkRefusal}
 use Rattle.mig_legacy.proofs.Laws.{never_both as never_both_legacy}
 use Rattle.mig_legacy.specs.Spelled.{AcceptedLegacy}
 use Rattle.mig_libxl.proofs.Laws.{never_both}
 use Rattle.mig_report.specs.declared.outcome.Refusal.TheVariants as refusals
-use Rattle.mig_commands.proofs.Relaying.{passable_once}
 use Rattle.mig_commands.proofs.Walks.{stream_once, image_once, host_once, address_once}
 use Rattle.mig_commands.specs.Addresses.{HostHasFrame, StreamHasFrame}
-use Rattle.mig_commands.specs.Relays.{PassableFront}
 
 pub accepted_once : (input : List ℕ) (guest : GuestOf) (rest more : List ℕ) (refusal : Refusal) → AcceptedStream input guest rest → HasStreamRefusal input refusal more → ⊥
 accepted_once input guest rest more (refusals.Stream place cause) accepted refused = never_both input guest rest place cause more accepted refused
@@ -27,7 +25,3 @@ walk_image_once id at input guest rest more (refusals.Image place cause) has ref
 walk_image_once id at input guest rest more (refusals.Host unsound) has refused = host_once id at input guest rest more unsound has refused
 walk_image_once id at input guest rest more (refusals.Walk end) has refused = address_once id at input guest rest more end has refused
 walk_image_once id at input guest rest more _ has refused = refused
-
-pub front_once : (input rest more : List ℕ) (refusal : Refusal) → PassableFront input rest → HasOpenRefusal input refusal more → ⊥
-front_once input rest more (refusals.Stream place cause) front refused = passable_once input rest more place cause front refused
-front_once input rest more _ front refused = refused

@@ -1,5 +1,5 @@
--- What a command answers, and what the line on the report comes to.
-use Rattle.mig_commands.proofs.Common.{◌⊎◌, ◌≡◌, ℕ, ◌++◌, List, length, arith, Option, Some, None, Result, Ok, Err, refl, sym, ap, subst, ◌∙◌, GuestOf, AcceptedStream, Refusing, HasStreamRefusal, HasLegacyRefusal, Kind, Hvm, Pv, Accepting, Normalised, PartWritten, IsCarried, IsFew, IsBase, restored_text, OutcomeSays, StatusSays, IsStatusLine, ReportsStatus, NormaliseComes, ConvertComes, RestoreComes, VerifySays, summary_of, mean_kind, status_of, line_of, outcome_of}
+-- What a command answers.
+use Rattle.mig_commands.proofs.Common.{◌⊎◌, ◌≡◌, ℕ, ◌++◌, List, length, arith, Option, Some, None, Result, Ok, Err, refl, sym, ap, subst, ◌∙◌, GuestOf, AcceptedStream, HasStreamRefusal, HasLegacyRefusal, Kind, Hvm, Pv, Accepting, Normalised, PartWritten, IsCarried, IsFew, IsBase, restored_text, OutcomeSays, NormaliseComes, ConvertComes, RestoreComes, VerifySays, summary_of, mean_kind, outcome_of}
 use mathlib.Core.Logic.{inl, inr}
 use Rattle.std.specs.FinMap as maps
 use Rattle.std.specs.Io.KnownBytes.{Appends}
@@ -27,7 +27,7 @@ use Rattle.mig_libxl.specs.Stream.{StreamOf, IsStreamReading, ReadsStream, strea
 use Rattle.mig_pvtables.proofs.HvmGuests.{hvm_complete}
 use Rattle.mig_pvtables.proofs.PvGuests.{pv_complete}
 use Rattle.mig_pvtables.specs.Whole.{IsWhole}
-use Rattle.mig_report.specs.Report.{Reports, ok_line}
+use Rattle.mig_report.specs.Report.{ok_line}
 use Rattle.mig_report.specs.declared.outcome.Outcome.{Outcome}
 use Rattle.mig_report.specs.declared.outcome.Outcome.TheVariants as outcomes
 use Rattle.mig_report.specs.declared.outcome.Refusal.TheVariants as refusals
@@ -37,38 +37,6 @@ use Rattle.mig_report.specs.declared.status.Status.TheVariants as statuses
 use Rattle.mig_restore.specs.Mean.{differs_of}
 use Rattle.mig_restore.specs.Stream.{ImageOf}
 use Rattle.mig_restore.specs.declared.read.Reading.{Reading}
-
--- ---- the status and the line
-
-module _ (D P : List ℕ → Type 0) (Has : Refusing) where
-  -- the line of an outcome is that of its status
-  line_is : (told left : Option (List ℕ)) (outcome : Outcome) → OutcomeSays D P Has told left outcome → IsStatusLine Has told (status_of outcome) (line_of outcome)
-  line_is None left (outcomes.Refused refusal) h = (refusal, refl, tt)
-  line_is (Some input) left (outcomes.Refused refusal) (rest, refused, is) = (refusal, refl, (rest, refused))
-  line_is told left outcomes.Done h = refl
-  line_is told left outcomes.Usage h = refl
-  line_is told left outcomes.ReadFault h = refl
-  line_is told left outcomes.WriteFault h = refl
-  line_is told left outcomes.Memory h = refl
-
-  -- and it was reported
-  pub line_reported : (told left : Option (List ℕ)) (outcome : Outcome) (status : Status) (old new : Option (List ℕ)) (before now : ℕ) → status ≡ status_of outcome → OutcomeSays D P Has told left outcome → Reports (line_of outcome) old new before now
-      → ReportsStatus Has told status old new before now
-  line_reported told left outcome status old new before now is h line =
-      (line_of outcome, subst (λ s. IsStatusLine Has told s (line_of outcome)) (sym is) (line_is told left outcome h), line)
-
-  says : (input : List ℕ) (left : Option (List ℕ)) (outcome : Outcome) → OutcomeSays D P Has (Some input) left outcome → StatusSays D P Has (Some input) left (status_of outcome)
-  says input left (outcomes.Refused refusal) (rest, refused, is) = record { refusal = refusal; rest = rest; refused = refused; left_is = is }
-  says input left outcomes.Done h = h
-  says input left outcomes.Usage h = h
-  says input left outcomes.ReadFault h = h
-  says input left outcomes.WriteFault h = h
-  says input left outcomes.Memory h = h
-
-  -- a status says what its outcome says
-  pub says_of : (told left : Option (List ℕ)) (outcome : Outcome) (status : Status) → status ≡ status_of outcome → OutcomeSays D P Has told left outcome → StatusSays D P Has told left status
-  says_of None left outcome status is h = tt
-  says_of (Some input) left outcome status is h = subst (StatusSays D P Has (Some input) left) (sym is) (says input left outcome h)
 
 -- ---- no stream was read
 

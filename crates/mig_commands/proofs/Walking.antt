@@ -1,5 +1,5 @@
 -- What a walk comes to, says and reports.
-use Rattle.mig_commands.proofs.Common.{◌≡◌, ℕ, List, Option, Some, None, Result, Ok, Err, sym, ap, subst, ◌∙◌, OutcomeSays, StatusSays, ReportsStatus, InputRises, Refusing}
+use Rattle.mig_commands.proofs.Common.{◌≡◌, ℕ, List, Option, Some, None, Result, Ok, Err, sym, ap, subst, ◌∙◌, OutcomeSays, InputRises}
 use mathlib.Core.Logic.{inl, inr}
 use Rattle.std.specs.Prelude.{IfOk, IfErr, OnOk}
 use Rattle.std.specs.Io.KnownBytes.{Appends}
@@ -17,10 +17,11 @@ use Rattle.mig_report.specs.declared.outcome.Refusal.TheVariants as refusals
 use Rattle.mig_report.specs.declared.outcome.WalkSummary.{WalkSummary}
 use Rattle.mig_report.specs.declared.status.Status.{Status}
 use Rattle.mig_standing.specs.Standing.{in_stream, in_host}
-use Rattle.mig_commands.specs.Statuses.{EndsWithOwnLine}
+use Rattle.mig_report.specs.Statuses.{EndsWithOwnLine, Refusing, ReportsStatus, StatusSays}
 use Rattle.mig_commands.specs.Addresses.{AddressReported, MeansFrame, any_host_at}
 use Rattle.mig_commands.specs.AddressSteps.{EndsWalk, EndsInHost, FindsFrame, FindsInImage, FindsInStream, IsUnfound, TellsFound, status_found}
-use Rattle.mig_commands.proofs.Reporting.{accepted_front, line_reported, says_of}
+use Rattle.mig_commands.proofs.Reporting.{accepted_front}
+use Rattle.mig_report.proofs.Statuses.{line_reported, says_of}
 
 -- ---- what is found
 

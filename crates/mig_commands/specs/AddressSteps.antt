@@ -15,8 +15,8 @@ use Rattle.mig_report.specs.declared.status.Status.{Status}
 use Rattle.mig_report.specs.declared.status.Status.TheVariants as statuses
 use Rattle.mig_standing.specs.Standing.{Standing, in_host}
 use Rattle.mig_commands.specs.Addresses.{FrameInHost, FrameInStream, MeansNone}
-use Rattle.mig_commands.specs.Outcomes.{OutcomeSays}
-use Rattle.mig_commands.specs.Refusals.{HasWalkImageRefusal, HasWalkRefusal, Refusing}
+use Rattle.mig_report.specs.Statuses.{OutcomeSays, Refusing}
+use Rattle.mig_commands.specs.Refusals.{HasWalkImageRefusal, HasWalkRefusal}
 
 -- what comes where no frame is found: nothing was written
 abbrev pub IsUnfound : Outcome → Type 0

@@ -1,14 +1,10 @@
 pub mod Addresses
 pub mod Refusals
-pub mod Statuses
 pub mod Outcomes
 pub mod Fronts
-pub mod Relays
-pub mod Shown
 pub mod Says
 pub mod AddressSteps
-pub mod RelaySteps
-pub mod ShownSteps
 pub use Rattle.mig_report.specs.Words
 pub use Rattle.mig_report.specs.Report
 pub use Rattle.mig_report.specs.Outcome
+pub use Rattle.mig_report.specs.Statuses

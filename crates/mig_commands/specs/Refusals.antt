@@ -1,16 +1,11 @@
 -- Which refusals an input has, by what is read of it.
-use Rattle.std.specs.Prelude.{◌≡◌, ℕ, List, Option, Some}
+use Rattle.std.specs.Prelude.{◌≡◌, ℕ, List}
 use Rattle.mig_bytes.specs.Judged.Judged.{Faulty}
 use Rattle.mig_legacy.specs.Stream.{IsLegacyRefused}
 use Rattle.mig_libxl.specs.Stream.{IsStreamRefused}
-use Rattle.mig_passable.specs.Streams.{IsOpenRefused}
 use Rattle.mig_report.specs.declared.outcome.Refusal.{Refusal}
 use Rattle.mig_report.specs.declared.outcome.Refusal.TheVariants as refusals
 use Rattle.mig_commands.specs.Addresses.{HasUnsoundHost, HostHasNone, StreamHasNone, any_host_at}
-
--- that an input has this refusal, and what follows the faulty part
-abbrev pub Refusing : Type 1
-Refusing = List ℕ → Refusal → List ℕ → Type 0
 
 -- of a stream, bare or inside a libxl stream
 abbrev pub HasStreamRefusal : List ℕ → Refusal → List ℕ → Type 0
@@ -34,15 +29,3 @@ HasWalkImageRefusal id at input (refusals.Image place cause) rest = any_host_at 
 HasWalkImageRefusal id at input (refusals.Host unsound) rest = HasUnsoundHost input rest unsound
 HasWalkImageRefusal id at input (refusals.Walk end) rest = HostHasNone id at input rest end
 HasWalkImageRefusal id at input _ rest = ⊥
-
--- of a stream that is passed on or shown, of which nothing is asked that needs more than its parts one by one
-abbrev pub HasOpenRefusal : List ℕ → Refusal → List ℕ → Type 0
-HasOpenRefusal input (refusals.Stream place cause) rest = IsOpenRefused input place cause rest
-HasOpenRefusal input _ rest = ⊥
-
--- the input is refused, and what follows the faulty part is left
-pub record Rejected (Has : Refusing) (input : List ℕ) (left : Option (List ℕ)) : Type 0 where
-  pub refusal : Refusal
-  pub rest : List ℕ
-  pub refused : Has input refusal rest
-  pub left_is : left ≡ Some rest

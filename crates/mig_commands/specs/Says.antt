@@ -1,21 +1,17 @@
 -- What a status says of each command: of the input, of what is left of it, and of what was written on the output or on the
 -- report.
-use Rattle.std.specs.Prelude.{◌⊎◌, ℕ, List, Some, Option}
+use Rattle.std.specs.Prelude.{ℕ, List, Option}
 use Rattle.std.specs.Io.KnownBytes.{Appends}
 use Rattle.mig_bytes.specs.Bytes.{AppendsPart}
 use Rattle.mig_legacy.specs.Spelled.{AcceptedLegacy}
 use Rattle.mig_libxl.specs.Canon.{canon_any}
 use Rattle.mig_libxl.specs.Spelled.{AcceptedStream}
-use Rattle.mig_relay.specs.Relaying.{PassedPart}
 use Rattle.mig_report.specs.declared.outcome.Outcome.{Outcome}
 use Rattle.mig_report.specs.declared.status.Status.{Status}
 use Rattle.mig_commands.specs.Addresses.{AddressReported, FrameInHost, FrameInStream}
 use Rattle.mig_commands.specs.Fronts.{Normalised, PartWritten, Restored, Verified, restored_text}
-use Rattle.mig_commands.specs.Outcomes.{OutcomeSays}
-use Rattle.mig_commands.specs.Refusals.{HasLegacyRefusal, HasOpenRefusal, HasStreamRefusal, HasWalkImageRefusal, HasWalkRefusal}
-use Rattle.mig_commands.specs.Relays.{FrontRelayed}
-use Rattle.mig_commands.specs.Shown.{FrontShown, PartShown}
-use Rattle.mig_commands.specs.Statuses.{StatusSays, Written}
+use Rattle.mig_commands.specs.Refusals.{HasLegacyRefusal, HasStreamRefusal, HasWalkImageRefusal, HasWalkRefusal}
+use Rattle.mig_report.specs.Statuses.{OutcomeSays, StatusSays}
 
 -- ---- of `normalise`, `convert` and `restore`, which write on the output
 
@@ -41,15 +37,6 @@ abbrev pub WalkImageSays : ℕ → ℕ → (told left old new : Option (List ℕ
 WalkImageSays id at told left old new status =
     StatusSays (λ input. AddressReported (FrameInHost id at input left) (Appends old new)) (λ input. AddressReported (FrameInHost id at input left) (AppendsPart old new)) (HasWalkImageRefusal id at) told left status
 
--- ---- of `relay`, which writes on both, and of `show`, which writes on the output
-
-abbrev pub RelaySays : Option (List ℕ) → Option (List ℕ) → Written → Status → Type 0
-RelaySays told left w status =
-    StatusSays (λ input. FrontRelayed (Appends w.report_old w.report_new) input left w.out_old w.out_new) (λ input. PassedPart (Some input) left w.out_old w.out_new ⊎ FrontRelayed (AppendsPart w.report_old w.report_new) input left w.out_old w.out_new) HasOpenRefusal told left status
-
-abbrev pub ShowSays : (told left old new : Option (List ℕ)) → Status → Type 0
-ShowSays told left old new status = StatusSays (λ input. FrontShown input left old new) (λ input. PartShown (Some input) left old new) HasOpenRefusal told left status
-
 -- ---- the same of the outcomes of those that put no line of their own
 
 abbrev pub NormaliseComes : (told left old new : Option (List ℕ)) → Outcome → Type 0
@@ -60,6 +47,3 @@ ConvertComes told left old new outcome = OutcomeSays (λ input. Normalised Accep
 
 abbrev pub RestoreComes : ℕ → (told left old new : Option (List ℕ)) → Outcome → Type 0
 RestoreComes base told left old new outcome = OutcomeSays (λ input. Restored base input left old new) (λ input. PartWritten AcceptedStream (restored_text base) input left old new) HasStreamRefusal told left outcome
-
-abbrev pub ShowComes : (told left old new : Option (List ℕ)) → Outcome → Type 0
-ShowComes told left old new outcome = OutcomeSays (λ input. FrontShown input left old new) (λ input. PartShown (Some input) left old new) HasOpenRefusal told left outcome

@@ -11,7 +11,7 @@ ghost use Rattle.mig_commands.specs.AddressSteps.{EndsInHost, EndsWalk, FindsInI
 ghost use Rattle.mig_commands.specs.Outcomes.{outcome_of};
 ghost use Rattle.mig_commands.specs.Refusals.{HasWalkImageRefusal, HasWalkRefusal};
 ghost use Rattle.mig_commands.specs.Says.{WalkImageSays, WalkSays};
-ghost use Rattle.mig_commands.specs.Statuses.{EndsWithOwnLine, InputRises, PutsLineOf, ReportsStatus};
+ghost use Rattle.mig_report.specs.Statuses.{EndsWithOwnLine, InputRises, PutsLineOf, ReportsStatus};
 
 use crate::commands::unread;
 use mig_bytes::{Sink, Source};

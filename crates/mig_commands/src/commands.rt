@@ -8,7 +8,7 @@ ghost use Rattle.mig_commands.specs.Fronts.{restored_text};
 ghost use Rattle.mig_commands.specs.Outcomes.{outcome_of};
 ghost use Rattle.mig_commands.specs.Refusals.{HasLegacyRefusal, HasStreamRefusal};
 ghost use Rattle.mig_commands.specs.Says.{ConvertComes, ConvertSays, NormaliseComes, NormaliseSays, RestoreComes, RestoreSays, VerifySays};
-ghost use Rattle.mig_commands.specs.Statuses.{EndsWithOwnLine, InputRises, NoneFailed, OutputRises, PutsLineOf, ReportsStatus};
+ghost use Rattle.mig_report.specs.Statuses.{EndsWithOwnLine, InputRises, NoneFailed, OutputRises, PutsLineOf, ReportsStatus};
 ghost use Rattle.mig_report.specs.Outcome.{status_of};
 ghost use Rattle.mig_report.specs.Report.{ok_line};
 ghost use Rattle.mig_report.specs.Words.{IsBase};

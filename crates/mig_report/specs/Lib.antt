@@ -1,3 +1,4 @@
 pub mod Words
 pub mod Report
 pub mod Outcome
+pub mod Statuses

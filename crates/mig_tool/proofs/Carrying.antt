@@ -6,10 +6,11 @@ use Rattle.mig_bytes.specs.Faults.{Rose}
 use Rattle.mig_report.specs.declared.status.Status.{Status}
 use Rattle.mig_report.specs.declared.status.Status.TheVariants as statuses
 use Rattle.mig_report.specs.Report.{Reports, memory_line}
-use Rattle.mig_commands.specs.Relays.{RelayBreaksOff}
-use Rattle.mig_commands.specs.Statuses.{NoneFailed, OutputRises}
-use Rattle.mig_tool.specs.Answers.{BreaksOff, CarriedOut}
-use Rattle.mig_tool.specs.Exercises.{SaysExercise}
+use Rattle.mig_report.specs.Statuses.{NoneFailed, OutputRises}
+use Rattle.mig_passing.specs.Relays.{RelayBreaksOff}
+use Rattle.mig_live.specs.Exercises.{SaysExercise}
+use Rattle.mig_live.specs.Saves.{BreaksOff}
+use Rattle.mig_tool.specs.Answers.{CarriedOut}
 
 -- of the command that it is
 pub of_same : {Untouched Unread : Type 0} {status : Status} {told left : Option (List ℕ)} {w : Written} {read read_now out out_now report report_now : ℕ} {this command : Command} → this ≡ command

@@ -7,13 +7,14 @@ use Rattle.mig_hosted.specs.View.{view}
 use Rattle.mig_report.specs.declared.status.Status.{Status}
 use Rattle.mig_report.specs.declared.status.Status.TheVariants as statuses
 use Rattle.mig_script.specs.ScriptLines.{LineOf}
-use Rattle.mig_commands.proofs.Once.{accepted_once, front_once, legacy_once, walk_image_once, walk_once}
-use Rattle.mig_commands.proofs.Relaying.{passed_front}
+use Rattle.mig_commands.proofs.Once.{accepted_once, legacy_once, walk_image_once, walk_once}
+use Rattle.mig_passing.proofs.Relaying.{front_once, passed_front}
 use Rattle.mig_commands.proofs.Walks.{host_found, stream_found}
-use Rattle.mig_commands.specs.Relays.{PassedOn, RelayBreaksOff}
-use Rattle.mig_tool.proofs.SaveInputs.{not_refused, paused}
-use Rattle.mig_tool.specs.Answers.{IsOfInput, IsSavedOrPaused, SaysBesides}
-use Rattle.mig_tool.specs.LiveSaves.{HasHostAndScript}
+use Rattle.mig_passing.specs.Relays.{PassedOn, RelayBreaksOff}
+use Rattle.mig_live.proofs.SaveInputs.{not_refused, paused}
+use Rattle.mig_live.specs.LiveSaves.{HasHostAndScript}
+use Rattle.mig_live.specs.Saves.{IsOfInput, IsSavedOrPaused}
+use Rattle.mig_tool.specs.Answers.{SaysBesides}
 
 -- an input of whichever form isn't both accepted and refused
 never_both : (form : Form) (input : List ℕ) (guest : GuestOf) (rest more : List ℕ) (refusal : Refusal) → AcceptedIn form input guest rest → RefusedIn form input refusal more → ⊥

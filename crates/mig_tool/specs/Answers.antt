@@ -1,12 +1,9 @@
 -- What the program answers, takes and writes.
-use Rattle.std.specs.Prelude.{◌≡◌, ◌≢◌, ◌⊎◌, ℕ, List, [], ⊤, Some, Option}
+use Rattle.std.specs.Prelude.{◌≡◌, ◌≢◌, ◌⊎◌, ℕ, List, ⊤, Some, Option}
 use Rattle.std.specs.Io.KnownBytes.{Appends}
 use Rattle.mig_bytes.specs.Bytes.{AppendsPart}
 use Rattle.mig_bytes.specs.Faults.{Rose}
-use Rattle.mig_bytes.specs.Judged.Judged.{Faulty}
-use Rattle.mig_headers.specs.declared.unsound.Unsound.{Unsound}
 use Rattle.mig_guest.specs.Guests.{GuestOf}
-use Rattle.mig_guest.specs.Hosts.{HostOf}
 use Rattle.mig_libxl.specs.Canon.{canon_any}
 use Rattle.mig_libxl.specs.Spelled.{AcceptedStream}
 use Rattle.mig_legacy.specs.Spelled.{AcceptedLegacy}
@@ -14,21 +11,18 @@ use Rattle.mig_relay.specs.Relaying.{PassedPart}
 use Rattle.mig_report.specs.declared.command.Command.{Command}
 use Rattle.mig_report.specs.declared.command.Command.TheVariants.{Normalise, Restore, Verify, Convert, Save, Exercise, Walk, WalkImage, Relay, Show}
 use Rattle.mig_report.specs.declared.outcome.Refusal.{Refusal}
-use Rattle.mig_report.specs.declared.outcome.Refusal.TheVariants as refusals
-use Rattle.mig_report.specs.declared.outcome.SaveSummary.{SaveSummary}
 use Rattle.mig_report.specs.declared.status.Status.{Status}
 use Rattle.mig_report.specs.declared.status.Status.TheVariants as statuses
-use Rattle.mig_report.specs.Report.{Reports, refusal_line, write_fault_line, ok_line, saved_line, exercised_line, walked_line, relayed_line}
-use Rattle.mig_script.specs.ScriptLines.{LineOf}
-use Rattle.mig_unended.specs.Unread.{WroteNoStream}
+use Rattle.mig_report.specs.Report.{ok_line, saved_line, exercised_line, walked_line, relayed_line}
+use Rattle.mig_report.specs.Statuses.{EndsWithOwnLine, InputRises, IsStatusLine, NoneFailed, PutsLineOf, PutsLineOrFault, ReportsStatus, StatusSays, Written}
 use Rattle.mig_commands.specs.Addresses.{AddressReported, FrameInHost, FrameInStream, HostHasFrame, StreamHasFrame}
 use Rattle.mig_commands.specs.Fronts.{Normalised, PartWritten, Restored, Verified, restored_text}
-use Rattle.mig_commands.specs.Refusals.{HasLegacyRefusal, HasOpenRefusal, HasStreamRefusal, HasWalkImageRefusal, HasWalkRefusal}
-use Rattle.mig_commands.specs.Relays.{FrontRelayed, PassableFront, Relays}
-use Rattle.mig_commands.specs.Shown.{FrontShown, PartShown, SaysShown}
-use Rattle.mig_commands.specs.Statuses.{EndsWithOwnLine, InputRises, IsStatusLine, NamesRefusal, NoneFailed, PutsLineOf, PutsLineOrFault, ReportsStatus, StatusSays, Written}
-use Rattle.mig_tool.specs.Exercises.{ExerciseReported, SaysExercise}
-use Rattle.mig_tool.specs.LiveSaves.{HasHostAndScript, HasBadLine, HasLongScript, HasUnsoundPause, WroteLive, saved_host_at}
+use Rattle.mig_commands.specs.Refusals.{HasLegacyRefusal, HasStreamRefusal, HasWalkImageRefusal, HasWalkRefusal}
+use Rattle.mig_passing.specs.Relays.{FrontRelayed, PassableFront, Relays}
+use Rattle.mig_passing.specs.Says.{HasOpenRefusal}
+use Rattle.mig_passing.specs.Shown.{FrontShown, PartShown, SaysShown}
+use Rattle.mig_live.specs.Exercises.{ExerciseReported, SaysExercise}
+use Rattle.mig_live.specs.Saves.{BreaksSave, HasSaveRefusal, LiveBroken, LiveSaved}
 
 -- ---- the forms of input
 
@@ -68,14 +62,6 @@ AcceptedIn (ModernAt id at) input guest rest = StreamHasFrame id at input guest 
 AcceptedIn (ImageAt id at) input guest rest = HostHasFrame id at input guest rest
 AcceptedIn Passing input guest rest = PassableFront input rest
 
--- the image of a host and a script have this refusal, and rest follows the faulty part
-abbrev pub HasSaveRefusal : List ℕ → Refusal → List ℕ → Type 0
-HasSaveRefusal input (refusals.Image place cause) rest = saved_host_at input ≡ Faulty (place, cause) rest
-HasSaveRefusal input (refusals.BadLine line) rest = HasBadLine input line × (rest ≡ [])
-HasSaveRefusal input refusals.TooLong rest = HasLongScript input rest
-HasSaveRefusal input (refusals.Pause unsound) rest = HasUnsoundPause input unsound × (rest ≡ [])
-HasSaveRefusal input _ rest = ⊥
-
 -- the input has this refusal, and rest follows the faulty part
 abbrev pub RefusedIn : Form → List ℕ → Refusal → List ℕ → Type 0
 RefusedIn Modern = HasStreamRefusal
@@ -85,32 +71,6 @@ RefusedIn NoInput = λ input refusal rest. ⊥
 RefusedIn (ModernAt id at) = HasWalkRefusal id at
 RefusedIn (ImageAt id at) = HasWalkImageRefusal id at
 RefusedIn Passing = HasOpenRefusal
-
--- the input alone decides about it; that of a pause hangs on when the pause comes too
-abbrev pub IsOfInput : Refusal → Type 0
-IsOfInput (refusals.Pause unsound) = ⊥
-IsOfInput _ = ⊤
-
--- ---- what a save comes to
-
--- the input is a host and a script, all of it is taken, what a saver has to write of the host was written, and its line was
--- reported
-pub record LiveSaved (Reported : List ℕ → Type 0) (input : List ℕ) (left old new : Option (List ℕ)) : Type 0 where
-  pub host : HostOf
-  pub lines : List LineOf
-  pub read : HasHostAndScript input host lines
-  pub left_is : left ≡ Some []
-  pub summary : SaveSummary
-  pub wrote : WroteLive host lines old new summary
-  pub reported : Reported (saved_line summary)
-
--- the same input, but a write failed: no front of what was written is an accepted stream
-pub record LiveBroken (input : List ℕ) (left old new : Option (List ℕ)) : Type 0 where
-  pub host : HostOf
-  pub lines : List LineOf
-  pub read : HasHostAndScript input host lines
-  pub left_is : left ≡ Some []
-  pub no_stream : WroteNoStream old new
 
 -- ---- what a status of a command says: of the input, of what is left of it, of what was written, and of the report
 
@@ -138,10 +98,6 @@ DonePart Relay input left w = PassedPart (Some input) left w.out_old w.out_new �
 DonePart Show input left w = PartShown (Some input) left w.out_old w.out_new
 DonePart Save input left w = LiveBroken input left w.out_old w.out_new ⊎ LiveSaved (AppendsPart w.report_old w.report_new) input left w.out_old w.out_new
 
--- what comes of a host and a script where nothing fails: it is saved, or refused at the pause, or there is no memory
-abbrev pub IsSavedOrPaused : List ℕ → Status → Type 0
-IsSavedOrPaused input status = (status ≡ statuses.Done) ⊎ (((status ≡ statuses.Refused) × (unsound : Unsound) × HasUnsoundPause input unsound) ⊎ (status ≡ statuses.Memory))
-
 -- where the input tells its bytes
 abbrev pub SaysOf : Command → Option (List ℕ) → Option (List ℕ) → Written → Status → Type 0
 SaysOf command told left w status = StatusSays (λ input. Done command input left w) (λ input. DonePart command input left w) (RefusedIn (form_of command)) told left status
@@ -161,36 +117,6 @@ WriteRose Show out out_now report report_now = Rose out out_now
 WriteRose Save out out_now report report_now = Rose out out_now ⊎ Rose report report_now
 
 -- ---- the line of a status
-
--- the host at the pause is refused, and the report got the line of that, or a part of it where its count rose
-abbrev pub RefusesPause : Option (List ℕ) → Option (List ℕ) → Option (List ℕ) → ℕ → ℕ → Type 0
-RefusesPause told old new before now = (unsound : Unsound) × NamesRefusal HasSaveRefusal told (refusals.Pause unsound) × Reports (refusal_line (refusals.Pause unsound)) old new before now
-
--- a write of the output failed, no front of what was written is an accepted stream, and the report got the line of that
-pub record OutputBroke (w : Written) (out out_now report report_now : ℕ) : Type 0 where
-  pub rose : Rose out out_now
-  pub no_stream : WroteNoStream w.out_old w.out_new
-  pub line : Reports write_fault_line w.report_old w.report_new report report_now
-
--- the stream of a host and a script was written whole, and of its line a part was reported, since a write of the report failed
-pub record ReportBroke (w : Written) (out out_now report report_now : ℕ) : Type 0 where
-  pub host : HostOf
-  pub lines : List LineOf
-  pub summary : SaveSummary
-  pub wrote : WroteLive host lines w.out_old w.out_new summary
-  pub quiet : out_now ≡ out
-  pub rose : Rose report report_now
-  pub reported : AppendsPart w.report_old w.report_new (saved_line summary)
-
-abbrev pub BreaksOff : Written → ℕ → ℕ → ℕ → ℕ → Type 0
-BreaksOff w out out_now report report_now = OutputBroke w out out_now report report_now ⊎ ReportBroke w out out_now report report_now
-
--- what a save that isn't done came to. Where it is refused, the output is untouched or the pause is refused, and no front of
--- what was written is an accepted stream; with status 4 it broke off.
-pub record BreaksSave (Untouched : Type 0) (status : Status) (told : Option (List ℕ)) (w : Written) (out out_now report report_now : ℕ) : Type 0 where
-  pub refused : status ≡ statuses.Refused → Untouched ⊎ RefusesPause told w.report_old w.report_new report report_now
-  pub no_stream : status ≡ statuses.Refused → WroteNoStream w.out_old w.out_new
-  pub broke : status ≡ statuses.WriteFault → BreaksOff w out out_now report report_now
 
 -- status 0 of `normalise`, `restore`, `convert` and `show` has none
 abbrev pub IsLine : Form → Option (List ℕ) → Status → List ℕ → Type 0

@@ -3,10 +3,10 @@ ghost use Rattle.mig_report.specs.Words.{IsBase, IsFrameNumber};
 ghost use Rattle.mig_report.specs.declared.command.Command.TheVariants as commands;
 ghost use Rattle.mig_tool.specs.Answers.{CarriedOut};
 
-use crate::exercise::exercise_told;
-use crate::save::save;
 use mig_bytes::{Sink, Source};
-use mig_commands::{convert, normalise, relay, restore, show, verify, walk, walk_image};
+use mig_commands::{convert, normalise, restore, verify, walk, walk_image};
+use mig_live::{exercise_told, save};
+use mig_passing::{relay, show};
 use mig_report::{Command, Status};
 use std::alloc::Global;
 

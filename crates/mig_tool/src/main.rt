@@ -8,9 +8,7 @@
 #![tactic(auto)]
 
 mod carry;
-mod exercise;
 mod run;
-mod save;
 
 use crate::run::run;
 use mig_bytes::{InSource, OutSink};

@@ -1,0 +1,8 @@
+pub mod Relays
+pub mod Shown
+pub mod Says
+pub mod RelaySteps
+pub mod ShownSteps
+pub use Rattle.mig_report.specs.Report
+pub use Rattle.mig_report.specs.Outcome
+pub use Rattle.mig_report.specs.Statuses

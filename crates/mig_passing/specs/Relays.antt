@@ -1,0 +1,68 @@
+-- A stream that is passed on: what was taken, and what was written of it.
+use Rattle.std.specs.Prelude.{◌≡◌, ◌⊎◌, ℕ, List, Option, Some}
+use Rattle.mig_bytes.specs.Bytes.{AppendsPart}
+use Rattle.mig_bytes.specs.Faults.{Rose}
+use Rattle.mig_bytes.specs.Judged.Judged.{Passes}
+use Rattle.mig_libxl.specs.Stream.{StreamOf}
+use Rattle.mig_passable.specs.Streams.{open_stream_at}
+use Rattle.mig_relay.specs.Relaying.{PassedWhole, PassedPart}
+use Rattle.mig_relay.specs.declared.answer.Relayed.{Relayed}
+use Rattle.mig_report.specs.Report.{Reports, relayed_line, write_fault_line}
+use Rattle.mig_report.specs.declared.outcome.RelaySummary.{RelaySummary}
+use Rattle.mig_report.specs.declared.status.Status.{Status}
+use Rattle.mig_report.specs.declared.status.Status.TheVariants as statuses
+use Rattle.mig_report.specs.Statuses.{Written}
+
+-- a front of the input may pass, and rest follows it
+pub record PassableFront (input rest : List ℕ) : Type 0 where
+  pub s : StreamOf
+  pub passes : open_stream_at input ≡ Passes s rest
+
+-- the numbers of what was passed on
+abbrev pub counts_of : RelaySummary → Relayed
+counts_of summary = record { records = summary.records; bytes = summary.bytes }
+
+-- A front of the input may pass, and just this front was taken and written. So many records has its image, and so many bytes
+-- has it.
+abbrev pub PassedOn : Option (List ℕ) → Option (List ℕ) → Option (List ℕ) → Option (List ℕ) → RelaySummary → Type 0
+PassedOn told left old new summary = PassedWhole told left old new (counts_of summary)
+
+-- the same, and rest follows the front in the input; its line was reported
+pub record FrontRelayed (Reported : List ℕ → Type 0) (input : List ℕ) (left old new : Option (List ℕ)) : Type 0 where
+  pub rest : List ℕ
+  pub front : PassableFront input rest
+  pub left_is : left ≡ Some rest
+  pub summary : RelaySummary
+  pub passed : PassedOn (Some input) left old new summary
+  pub reported : Reported (relayed_line summary)
+
+-- What was written is a front of what was taken, whatever the status: the whole of it, and that may pass, with status 0; and
+-- with every other status but 4 no front of it is an accepted stream.
+abbrev pub SaysRelayed : Status → Option (List ℕ) → Option (List ℕ) → Option (List ℕ) → Option (List ℕ) → Type 0
+SaysRelayed statuses.Done told left old new = (summary : RelaySummary) × PassedOn told left old new summary
+SaysRelayed statuses.WriteFault told left old new = PassedPart told left old new ⊎ ((summary : RelaySummary) × PassedOn told left old new summary)
+SaysRelayed _ told left old new = PassedPart told left old new
+
+-- a write of the output failed, no front of what was written is an accepted stream, and the report got the line of that
+pub record OutputStopped (told left old new report_old report_new : Option (List ℕ)) (out out_now report report_now : ℕ) : Type 0 where
+  pub rose : Rose out out_now
+  pub part : PassedPart told left old new
+  pub line : Reports write_fault_line report_old report_new report report_now
+
+-- all was passed on, and of its line a part was reported, since a write of the report failed
+pub record ReportStopped (told left old new report_old report_new : Option (List ℕ)) (out out_now report report_now : ℕ) : Type 0 where
+  pub summary : RelaySummary
+  pub passed : PassedOn told left old new summary
+  pub quiet : out_now ≡ out
+  pub rose : Rose report report_now
+  pub reported : AppendsPart report_old report_new (relayed_line summary)
+
+-- a relay whose output broke off, or whose report
+abbrev pub RelayBreaksOff : Option (List ℕ) → Option (List ℕ) → Written → ℕ → ℕ → ℕ → ℕ → Type 0
+RelayBreaksOff told left w out out_now report report_now =
+    OutputStopped told left w.out_old w.out_new w.report_old w.report_new out out_now report report_now ⊎ ReportStopped told left w.out_old w.out_new w.report_old w.report_new out out_now report report_now
+
+-- what a relay came to, whatever its status; with status 4 it broke off
+pub record Relays (status : Status) (told left : Option (List ℕ)) (w : Written) (out out_now report report_now : ℕ) : Type 0 where
+  pub says : SaysRelayed status told left w.out_old w.out_new
+  pub broke : status ≡ statuses.WriteFault → RelayBreaksOff told left w out out_now report report_now

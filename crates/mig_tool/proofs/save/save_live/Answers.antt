@@ -1,5 +1,0 @@
-use Rattle.mig_tool.proofs.Saving.{unwritten}
-use Rattle.mig_tool.proofs.save.save_live.Goals as goal
-
-pub returns-in_default-clause-no_stream : goal.returns-in_default-clause-no_stream
-returns-in_default-clause-no_stream g c = unwritten _
