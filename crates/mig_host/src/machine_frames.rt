@@ -101,7 +101,9 @@ impl MachineFrames {
         if more <= self.spare {
             return Ok(());
         }
-        self.there.reserve(more)?;
+        let Ok(()) = self.there.reserve(more) else {
+            return Err(Memory);
+        };
         self.back.reserve(more)?;
         self.spare = more;
         Ok(())

@@ -3,7 +3,6 @@ ghost use Rattle.std.specs.FinMap as maps;
 ghost use Rattle.mig_index.specs.Indexed.{number_limit};
 
 use crate::tree::Tree;
-use mig_bytes::Memory;
 use std::alloc::{AllocError, Global};
 use std::marker::Model;
 
@@ -87,7 +86,7 @@ impl Index {
     }
 
     /// Makes ready room for at least `more` numbers, those included that are spare already.
-    pub fn reserve(&mut self, more: usize) -> Result<(), Memory>
+    pub fn reserve(&mut self, more: usize) -> Result<(), AllocError>
         ensures values { self.new.values ≡ self.old.values }
         ensures ready { OnOk result (more ≤ self.new.spare) }
         ensures kept { self.old.spare ≤ self.new.spare }
@@ -96,13 +95,9 @@ impl Index {
         if more <= self.spare {
             return Ok(());
         }
-        match self.tree.reserve(more) {
-            Ok(()) => {
-                self.spare = more;
-                Ok(())
-            }
-            Err(AllocError) => Err(Memory),
-        }
+        self.tree.reserve(more)?;
+        self.spare = more;
+        Ok(())
     }
 
     /// Sets the value of a number, and takes no memory: a number that had none takes a spare one.

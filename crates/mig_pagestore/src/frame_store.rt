@@ -308,7 +308,9 @@ impl FrameStore {
         if more >= MOST_PAGES - self.pfns.len() {
             return Err(Memory);
         }
-        self.index.reserve(more)?;
+        let Ok(()) = self.index.reserve(more) else {
+            return Err(Memory);
+        };
         match make_room(self.alloc, &mut self.arena, &mut self.pfns, more) {
             Ok(()) => {
                 self.spare = more;

@@ -112,7 +112,9 @@ pub fn misplaced_frame(
         if is_misplaced(frame_type(frames, pfn), marks.get(pfn), needed) {
             return Ok(Some(index));
         }
-        marks.reserve(1)?;
+        let Ok(()) = marks.reserve(1) else {
+            return Err(Memory);
+        };
         marks.put_spare(pfn, mark_for(needed));
         index += 1;
     }

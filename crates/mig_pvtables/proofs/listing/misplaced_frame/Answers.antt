@@ -23,7 +23,7 @@ loop-pfn-preserved c =
     let frames = c.args.frames.now.frames in let parts = c.args.parts.now in let k = c.loop-pfn.index in let pfn = c.in-Some.pfn in
     let by = misplaced_by frames parts k c.loop-pfn.marks.values c.loop-pfn.invariant.are pfn c.frame_type.result c.get.result c.is_needed-needed.result c.frame_type.ensures.value c.get.ensures.value c.is_needed-needed.ensures in
     let fine = sym by ∙ sym c.is_misplaced.ensures ∙ c.if-is_misplaced.false in record {
-      are = marks_next frames parts k c.loop-pfn.marks.values c.loop-pfn.invariant.are pfn (sym c.in-Some.ensures.value) fine c.put_spare.new.self.values c.mark_for.result (c.mark_for.ensures.value ∙ ap (λ b. cond b 2 1) c.is_needed-needed.ensures) (c.put_spare.ensures.values ∙ ap (λ m. maps.insert m pfn c.mark_for.result) c.in_ok-reserve.ensures.values);
+      are = marks_next frames parts k c.loop-pfn.marks.values c.loop-pfn.invariant.are pfn (sym c.in-Some.ensures.value) fine c.put_spare.new.self.values c.mark_for.result (c.mark_for.ensures.value ∙ ap (λ b. cond b 2 1) c.is_needed-needed.ensures) (c.put_spare.ensures.values ∙ ap (λ m. maps.insert m pfn c.mark_for.result) c.reserve.ensures.values);
       fine = fine_next frames parts k c.loop-pfn.invariant.fine pfn (sym c.in-Some.ensures.value) fine;
     }
 
