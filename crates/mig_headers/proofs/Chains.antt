@@ -1,11 +1,8 @@
 -- One more entry of a chain, and where the chain ends.
-use Rattle.std.proofs.Common.{◌≡◌, ℕ, ◌+◌, ◌-◌, ◌<◌, ◌≤◌, List, length, Option, Some, None, Result, Ok, Err, Bool, true, false, is_some, refl, ap, sym, subst, ◌∙◌, cond, arith}
-use Rattle.std.proofs.Common.{[], ◌∷◌, take, drop, replicate, not, nat_eq, nat_lt, nat_le, get_or, length-append, length-take-le, drop_at, ltb-false}
+use Rattle.std.proofs.Common.{◌≡◌, ℕ, ◌+◌, ◌-◌, ◌<◌, ◌≤◌, List, length, Option, Some, None, Result, Ok, Err, Bool, true, false, is_some, refl, sym, subst, cond, arith}
+use Rattle.std.proofs.Common.{[], ◌∷◌, not, nat_eq, nat_lt, nat_le, ltb-false}
 use Rattle.std.specs.Prelude.{◌&&◌}
 use Rattle.std.proofs.lemmas.Bool.{eqb-true}
-use Rattle.std.proofs.lemmas.List.{get_or-drop, get_or-take}
-use Rattle.std.proofs.Math.ListN.{get_or-append}
-use Rattle.byteorder.specs.Endian.{little_number}
 use Rattle.mig_bytes.specs.Fields.{le16, le32}
 use Rattle.mig_bytes.proofs.Walks.{walk_end_ends, walk_end_reached}
 use Rattle.mig_headers.specs.declared.fault.ContextFault.TheVariants.{NoHeader, HeaderSize, ShortEntry, NoEnd}
@@ -15,7 +12,7 @@ use Rattle.mig_bytes.specs.Walk.Reaches.{here, next}
 use Rattle.mig_bytes.proofs.Walks.{walk_end_is}
 use Rattle.mig_headers.specs.declared.fault.ContextFault.{ContextFault}
 use Rattle.mig_headers.proofs.FirstFaults.{rows_fine, no_fault}
-use Rattle.mig_headers.specs.Contexts.{ChainTo, Scanned, scan, scan_at, fault_at, is_last, entry_end, after_entry, cut_at}
+use Rattle.mig_headers.specs.Contexts.{ChainTo, Scanned, scan, scan_at, fault_at, is_last, entry_end, after_entry}
 
 stepped : (bytes : List ℕ) (o : ℕ) → fault_at bytes o ≡ None → is_last bytes o ≡ false → after_entry bytes o ≡ Some (entry_end bytes o)
 unfolding after_entry

@@ -1,5 +1,5 @@
 -- The frames of a batch leave an HVM guest on its way.
-use Rattle.mig_legacy.proofs.Common.{◌≡◌, ℕ, ◌<◌, Bool, true, false, List, [], ◌∷◌, ◌++◌, length, Option, Some, refl, sym, ap, subst, ◌∙◌, none-some, common_steps, arith, All, All-head, All-tail, AreBytes, Hvm, GuestOf, word_pfn, meant_type, Grows, FrameEntry, AreEntries, IsGoodWord, put_entries}
+use Rattle.mig_legacy.proofs.Common.{◌≡◌, ℕ, ◌<◌, Bool, true, false, List, [], ◌∷◌, ◌++◌, length, Option, Some, refl, sym, ap, subst, ◌∙◌, none-some, common_steps, arith, All, All-head, All-tail, AreBytes, Hvm, GuestOf, meant_type, Grows, FrameEntry, AreEntries, IsGoodWord, put_entries}
 use Rattle.std.proofs.lemmas.Option.{same_Some}
 use Rattle.std.proofs.Common.{is_some}
 use Rattle.mig_pagetypes.specs.FrameWords.{word_has_data}

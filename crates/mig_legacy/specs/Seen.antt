@@ -1,5 +1,5 @@
 -- What the reader of a legacy stream keeps of the chunks before.
-use Rattle.std.specs.Prelude.{◌≡◌, ◌≤◌, ◌<◌, ℕ, ⊤, List, length, fold, Option}
+use Rattle.std.specs.Prelude.{◌≡◌, ℕ, List, length, fold, Option}
 use Rattle.mig_bytes.specs.declared.part.Stop.{Stop}
 use Rattle.mig_bytes.specs.declared.part.Stop.TheVariants.{Refused, ReadFault, Memory}
 use Rattle.mig_headers.specs.declared.fault.Cause.{Cause}
@@ -12,8 +12,6 @@ use Rattle.mig_restore.specs.Mean.{IsBegun as IsGuestBegun}
 use Rattle.mig_emulators.specs.Emulators.{EmulatorsOf, put_libxl_content, emulators_of}
 use Rattle.mig_emulators.specs.Formed.{AreEmulators}
 use Rattle.mig_legacy.specs.Legacy.{LegacyContent, LegacyChunk, LegacyTail, has_value, records_in, pair_records, tail_records, device_records, image_records, store_records}
-use Rattle.mig_chunks.specs.declared.chunk.ChunkKind.{ChunkKind}
-use Rattle.mig_chunks.specs.declared.chunk.ChunkKind.TheVariants.{Batch, Param}
 use Rattle.mig_legacy.specs.declared.read.ChunksSeen.{ChunksSeen}
 
 -- the reader has these chunks behind it

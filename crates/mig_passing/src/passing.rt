@@ -3,7 +3,6 @@ ghost use Rattle.std.specs.Io.KnownBytes.{Appends};
 ghost use Rattle.mig_bytes.specs.Bytes.{AppendsPart};
 ghost use Rattle.mig_bytes.specs.Faults.{Rose};
 ghost use Rattle.mig_report.specs.Report.{relayed_line};
-ghost use Rattle.mig_report.specs.declared.outcome.RelaySummary.{RelaySummary as Passed};
 ghost use Rattle.mig_report.specs.declared.status.Status.TheVariants as statuses;
 ghost use Rattle.mig_passing.specs.Says.{HasOpenRefusal};
 ghost use Rattle.mig_passing.specs.Relays.{RelayBreaksOff, SaysRelayed};

@@ -1,5 +1,5 @@
 -- What a saver tells of a host, as frames that an image says, and the frames that this leaves.
-use Rattle.std.proofs.Common.{◌≡◌, ℕ, ◌-◌, ◌^◌, ◌<◌, ◌≤◌, ◌==◌, List, [], ◌∷◌, ◌++◌, map, Bool, true, false, cond, Option, Some, None, refl, sym, ap, subst, ◌∙◌, arith, eqb-true}
+use Rattle.std.proofs.Common.{◌≡◌, ℕ, ◌-◌, ◌<◌, ◌≤◌, ◌==◌, List, [], ◌∷◌, ◌++◌, map, Bool, true, false, cond, Option, Some, None, refl, sym, ap, subst, ◌∙◌, arith, eqb-true}
 use Rattle.mig_pagetypes.specs.Limits.{pfn_limit}
 use Rattle.mig_guest.specs.Hosts.{most_width}
 use Rattle.std.specs.Prelude.{fold, flat_map}

@@ -27,7 +27,7 @@ use Rattle.mig_standing.specs.Unsoundness.{key_rank, IsWrong, NamesFirstRow, is_
 use Rattle.mig_standing.specs.Unsoundness.IsWrong.{no_context, no_p2m, no_shared, no_vcpu, other_type, listed_twice, large, nameless, many_descriptors, field_ill, bad_context}
 use Rattle.mig_standing.proofs.KeyRanks.{rank_lt}
 use Rattle.mig_standing.proofs.NamedFirst as firsts
-use Rattle.mig_standing.proofs.NamedFirst.{found_first, told_first, told_twice}
+use Rattle.mig_standing.proofs.NamedFirst.{told_first, told_twice}
 
 abbrev Found : (ℕ → Unsound → Type 0) → Option Unsound → Type 0
 Found Has f = NamesFirst number_of_unsound Has f

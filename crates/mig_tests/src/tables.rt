@@ -1,7 +1,7 @@
 use mig_bytes::MemSink;
-use mig_headers::{Cause, ContextFault, Kind, LegacyCause, RecordType, Unsound, is_optional};
+use mig_headers::{Cause, Kind, LegacyCause, RecordType, is_optional};
 use mig_policy::canonical_pairs;
-use mig_texts::{put_cause, put_legacy_cause, put_unsound};
+use mig_texts::{put_cause, put_legacy_cause};
 use std::test::Fail;
 
 // Number, whether the type is supported, whether it stands in PV and in HVM guests, a length that it may have, and one
@@ -59,29 +59,6 @@ fn prints_causes(rt: HostRuntime) {
     for (cause, want) in CAUSES {
         let mut sink = MemSink::new(rt.alloc(), Vec::new(rt.alloc()));
         assert_eq!(rt; put_cause(&mut sink, cause), Ok(()));
-        assert_eq!(rt; sink.bytes(), want.as_bytes());
-    }
-}
-
-// No command prints them.
-const UNSOUND: [(Unsound, &str); 7] = [
-    (Unsound::Missing(9), "1 Missing 9"),
-    (Unsound::P2mFrame(7), "2 P2mFrame 7"),
-    (Unsound::Superpage(4, 0), "3 Superpage 4 0"),
-    (Unsound::NoFrame(4, 2), "4 NoFrame 4 2"),
-    (Unsound::GdtEnts(1, 7169), "5 GdtEnts 1 7169"),
-    (Unsound::VcpuFrame(0, 18), "6 VcpuFrame 0 18"),
-    (
-        Unsound::BadContext(ContextFault::HeaderSize(25)),
-        "7 BadContext HeaderSize 25",
-    ),
-];
-
-#[test]
-fn prints_why_a_host_is_not_sound(rt: HostRuntime) {
-    for (unsound, want) in UNSOUND {
-        let mut sink = MemSink::new(rt.alloc(), Vec::new(rt.alloc()));
-        assert_eq!(rt; put_unsound(&mut sink, unsound), Ok(()));
         assert_eq!(rt; sink.bytes(), want.as_bytes());
     }
 }

@@ -3,7 +3,7 @@ ghost use Rattle.mig_bytes.specs.Faults.{Rose};
 ghost use Rattle.mig_guest.specs.Guests.{GuestOf};
 ghost use Rattle.mig_guest.specs.Hosts.{HostOf};
 ghost use Rattle.mig_script.specs.ScriptLines.{LineOf};
-ghost use Rattle.mig_report.specs.Statuses.{InputRises, NoneFailed, Written};
+ghost use Rattle.mig_report.specs.Statuses.{InputRises, NoneFailed};
 ghost use Rattle.mig_passing.specs.Relays.{Relays};
 ghost use Rattle.mig_passing.specs.Shown.{SaysShown};
 ghost use Rattle.mig_tool.specs.Answers.{form_of, AcceptedIn, RefusedIn, SaysOf, MayWrite, WriteRose, IsLine, HasOwnLine, PutsOwnLine, WritesRefused};

@@ -1,4 +1,4 @@
-use Rattle.std.proofs.Common.{◌≡◌, ℕ, length, None, ap, ◌∙◌}
+use Rattle.std.proofs.Common.{length, ap, ◌∙◌}
 use Rattle.mig_guest.specs.Hosts.{HostOf}
 use Rattle.mig_hosted.specs.Sound.{unsoundness}
 use Rattle.mig_hosted.specs.View.{view}

@@ -1,4 +1,4 @@
-use Rattle.mig_image.proofs.Common.{List, ℕ, Option, Result, Ok, Err, OnOk, TakesBytes, takes_more, Head, IsHost, behind_head, judged_as, placed_form, host_head_form, image_file_form, first_stops, placed_read, placed_stop, told_then, refl, ◌≡◌}
+use Rattle.mig_image.proofs.Common.{List, ℕ, Option, Result, Ok, Err, OnOk, TakesBytes, takes_more, Head, IsHost, behind_head, placed_form, host_head_form, image_file_form, first_stops, placed_read, placed_stop, told_then, refl, ◌≡◌}
 use Rattle.mig_image.proofs.read.read_whole.Goals as goal
 
 -- what was taken, and then more

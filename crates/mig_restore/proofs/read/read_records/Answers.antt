@@ -1,4 +1,4 @@
-use Rattle.mig_restore.proofs.Common.{refl, rules, subst, sym, ◌≡◌, ◌∙◌, Err, Gives, records_at, IsReading, opening_of, IsBegun}
+use Rattle.mig_restore.proofs.Common.{refl, rules, subst, sym, ◌∙◌, Err, Gives, records_at, IsReading, opening_of, IsBegun}
 use Rattle.mig_pvtables.specs.Whole.{IsStreamedBare}
 use Rattle.mig_restore.specs.declared.read.Reading.{Reading}
 use Rattle.mig_restore.proofs.Arrivals.{state, arrived_first, arrived_next, arrived_end, arrived_stopped}

@@ -1,4 +1,4 @@
-use Rattle.mig_legacy.proofs.Common.{◌≡◌, length, Ok, Err, None, Some, rules, sym, ap, ◌∙◌, le32, said_read, said_refused, Truncated, judged_as, first_named, place_causes, kind_of}
+use Rattle.mig_legacy.proofs.Common.{◌≡◌, Ok, Err, None, Some, rules, sym, ap, ◌∙◌, le32, said_read, said_refused, Truncated, judged_as, first_named, place_causes, kind_of}
 use Rattle.mig_legacy.proofs.ChunkTexts.{type_rows, kind_in, number_told, number_refused, place_named}
 use Rattle.mig_legacy.proofs.read.ChunksSeen.take_kind.Goals as goal
 
