@@ -40,14 +40,23 @@ fn add_data(host: &mut Host, seed: u64, frames: u64) -> Result<(), Memory>
     Ok(())
 }
 
+/// Adds the frames and the parts of the exercise to a host that has none.
+fn fill(alloc: Global, host: &mut Host, seed: u64, frames: u64) -> Result<(), Memory>
+    requires size { IsExerciseSize frames }
+    requires none { (contents : ℕ → List ℕ) → host.old.host ≡ host_begun frames contents 0 }
+    ensures { OnOk result (host.new.host ≡ host_of_exercise seed frames) }
+{
+    add_first(host, frames)?;
+    add_data(host, seed, frames)?;
+    set_parts(alloc, host, frames)
+}
+
 /// The host of the exercise with so many frames, from 8 to 65536. The seed tells what its frames of data hold.
 pub fn exercise_host(alloc: Global, seed: u64, frames: u64) -> Result<Host, Memory>
     requires { IsExerciseSize frames }
     ensures { IfOk result (λ host. host.host ≡ host_of_exercise seed frames) }
 {
     let mut host = Host::new(alloc, Kind::Pv, frames);
-    add_first(&mut host, frames)?;
-    add_data(&mut host, seed, frames)?;
-    set_parts(alloc, &mut host, frames)?;
+    fill(alloc, &mut host, seed, frames)?;
     Ok(host)
 }

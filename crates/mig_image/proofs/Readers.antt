@@ -163,21 +163,21 @@ module _ (head : List ℕ) (h : HostOf) (is : h ≡ opened head) (n : ℕ) (same
   as_told : (a b : Option (List ℕ)) (framed : HostOf) (r : Result (Unit {0}) (Stop (ImagePlace × ImageCause))) → FramesRead a b framed r version n h → FramesRead a b framed r (head_version head) (le64 head 24) (opened head)
   as_told a b framed r frames = subst (λ v. FramesRead a b framed r v (le64 head 24) (opened head)) in_version (subst (λ m. FramesRead a b framed r version m (opened head)) same (subst (FramesRead a b framed r version n) is frames))
 
-  module _ (a b : Option (List ℕ)) (framed : HostOf) (r : Result HostAndSpare (Stop (ImagePlace × ImageCause))) where
+  module _ {Z : Type 0} (Q : Z → HostOf → Type 0) (a b : Option (List ℕ)) (framed : HostOf) (r : Result Z (Stop (ImagePlace × ImageCause))) where
     -- the frames aren't read
-    pub frames_stop : (e : Stop (ImagePlace × ImageCause)) → IsErrAnd r (λ d. d ≡ e) → FramesRead a b framed (Err e) version n h → Gives IsHost a b (judged_as (behind_head head)) r
-    frames_stop e stops frames = first_stops {V = Unit {0}} (λ _ h. framed ≡ h) IsHost (frames_form (head_version head) (opened head) (le64 head 24)) behind_frames a b e r stops (as_told a b framed (Err e) frames)
+    pub frames_stop : (e : Stop (ImagePlace × ImageCause)) → IsErrAnd r (λ d. d ≡ e) → FramesRead a b framed (Err e) version n h → Gives Q a b (judged_as (behind_head head)) r
+    frames_stop e stops frames = first_stops {V = Unit {0}} (λ _ h. framed ≡ h) Q (frames_form (head_version head) (opened head) (le64 head 24)) behind_frames a b e r stops (as_told a b framed (Err e) frames)
 
     module _ (frames : FramesRead a b framed (Ok tt) version n h) where
-      frames_then : (d : Option (List ℕ)) → Gives IsHost b d (judged_as (behind_frames framed)) r → Gives IsHost a d (judged_as (behind_head head)) r
+      frames_then : (d : Option (List ℕ)) → Gives Q b d (judged_as (behind_frames framed)) r → Gives Q a d (judged_as (behind_head head)) r
       frames_then d then =
-          then_read {V = Unit {0}} (λ _ h. framed ≡ h) IsHost (frames_form (head_version head) (opened head) (le64 head 24)) behind_frames a b d tt r (as_told a b framed (Ok tt) frames)
-          (λ y e. subst (λ g. Gives IsHost b d (judged_as (behind_frames g)) r) e then)
+          then_read {V = Unit {0}} (λ _ h. framed ≡ h) Q (frames_form (head_version head) (opened head) (le64 head 24)) behind_frames a b d tt r (as_told a b framed (Ok tt) frames)
+          (λ y e. subst (λ g. Gives Q b d (judged_as (behind_frames g)) r) e then)
 
       -- their number isn't read
-      pub count_stops : (c : Option (List ℕ)) (e : Stop ImageCause) (d : Stop (ImagePlace × ImageCause)) → d ≡ stop_at Parts e → IsErrAnd r (λ x. x ≡ d) → Gives {X = ℕ} (λ v m. m ≡ v) b c (judged_as count_form) (Err e) → Gives IsHost a c (judged_as (behind_head head)) r
-      count_stops c e d at stops counts = frames_then c (first_stops {V = ℕ} (λ v m. m ≡ v) IsHost (placed_form Parts count_form) (host_parts_form framed) b c d r stops (placed_stop (λ v m. m ≡ v) Parts count_form b c e d at counts))
+      pub count_stops : (c : Option (List ℕ)) (e : Stop ImageCause) (d : Stop (ImagePlace × ImageCause)) → d ≡ stop_at Parts e → IsErrAnd r (λ x. x ≡ d) → Gives {X = ℕ} (λ v m. m ≡ v) b c (judged_as count_form) (Err e) → Gives Q a c (judged_as (behind_head head)) r
+      count_stops c e d at stops counts = frames_then c (first_stops {V = ℕ} (λ v m. m ≡ v) Q (placed_form Parts count_form) (host_parts_form framed) b c d r stops (placed_stop (λ v m. m ≡ v) Parts count_form b c e d at counts))
 
       -- the parts are read, or aren't
-      pub parts_then : (c d : Option (List ℕ)) (count : ℕ) → Gives {X = ℕ} (λ v m. m ≡ v) b c (judged_as count_form) (Ok count) → Gives IsHost c d (judged_as (host_parts_form framed count)) r → Gives IsHost a d (judged_as (behind_head head)) r
-      parts_then c d count counts parts = frames_then d (told_then (λ v. v) IsHost (placed_form Parts count_form) (host_parts_form framed) b c d count r (placed_read (λ v m. m ≡ v) Parts count_form b c count counts) parts)
+      pub parts_then : (c d : Option (List ℕ)) (count : ℕ) → Gives {X = ℕ} (λ v m. m ≡ v) b c (judged_as count_form) (Ok count) → Gives Q c d (judged_as (host_parts_form framed count)) r → Gives Q a d (judged_as (behind_head head)) r
+      parts_then c d count counts parts = frames_then d (told_then (λ v. v) Q (placed_form Parts count_form) (host_parts_form framed) b c d count r (placed_read (λ v m. m ≡ v) Parts count_form b c count counts) parts)

@@ -3,6 +3,7 @@ ghost use Rattle.std.specs.FinMap as maps;
 ghost use Rattle.mig_bytes.specs.Answers.{or_stop};
 ghost use Rattle.mig_bytes.specs.Bytes.{TakesBytes};
 ghost use Rattle.mig_bytes.specs.Faults.{RisesOnReadFault};
+ghost use Rattle.mig_bytes.specs.Fields.{le64};
 ghost use Rattle.mig_bytes.specs.Judged.{Gives};
 ghost use Rattle.mig_bytes.specs.declared.part.Stop.TheVariants.{Memory};
 ghost use Rattle.mig_form.specs.Form.{judged_as};
@@ -11,6 +12,7 @@ ghost use Rattle.mig_pagetypes.specs.Limits.{most_frames};
 ghost use Rattle.mig_guest.specs.Hosts.{most_width};
 ghost use Rattle.mig_image.specs.Answer.{IsHost, ReadsHost, BeginsWithImage};
 ghost use Rattle.mig_image.specs.ImageForm.{host_head_causes, frames_form, count_form, behind_head, host_at};
+ghost use Rattle.mig_image.specs.ImageParts.{opened};
 
 use crate::frame::read_frame;
 use crate::head::{kind_in, read_head, version_in};
@@ -62,8 +64,30 @@ fn read_count<S: Source>(src: &mut S) -> Result<u64, Stop<ImageCause>>
     Ok(u64_le(&count, 0))
 }
 
-/// Takes the frames and parts behind a head.
+/// Takes the frames and parts behind a head into the host that the head opens.
 #[tactic(auto, using(mig_host::proofs::InOrder::no_entries))]
+fn take_behind<S: Source>(
+    alloc: Global,
+    src: &mut S,
+    head: &[u8; 32],
+    host: &mut Host,
+) -> Result<(), Stop<(ImagePlace, ImageCause)>>
+    requires opened { host.old.host ≡ opened head.now }
+    requires few { le64 head.now 24 ≤ most_frames }
+    ensures read { Gives (λ _ h. host.new.host ≡ h) (S.left src.old) (S.left src.new) (judged_as (behind_head head.now)) result }
+    ensures width { OnOk result (host.new.host.width ≡ host.old.host.width) }
+    ensures taken { OnOk result (TakesBytes (S.left src.old) (S.left src.new)) }
+    ensures faults { RisesOnReadFault (S.faults src.old) (S.faults src.new) result }
+{
+    read_frames(src, version_in(head), host, u64_le(head, 24))?;
+    let count = match read_count(src) {
+        Ok(count) => count,
+        Err(stop) => return Err(stop.at(ImagePlace::Parts)),
+    };
+    read_parts(alloc, src, host, count)
+}
+
+/// Takes the frames and parts behind a head.
 fn read_behind<S: Source>(
     alloc: Global,
     src: &mut S,
@@ -78,12 +102,7 @@ fn read_behind<S: Source>(
     ensures faults { RisesOnReadFault (S.faults src.old) (S.faults src.new) result }
 {
     let mut host = Host::new(alloc, kind_in(head), u64_le(head, 16));
-    read_frames(src, version_in(head), &mut host, u64_le(head, 24))?;
-    let count = match read_count(src) {
-        Ok(count) => count,
-        Err(stop) => return Err(stop.at(ImagePlace::Parts)),
-    };
-    read_parts(alloc, src, &mut host, count)?;
+    take_behind(alloc, src, head, &mut host)?;
     Ok(host)
 }
 

@@ -1,8 +1,10 @@
-ghost use Rattle.std.specs.Prelude.{◌≡◌, ◌≤◌, false, IfOk};
+ghost use Rattle.std.specs.Prelude.{◌≡◌, ◌+◌, ◌/◌, ◌≤◌, false, length, IfOk, OnOk};
 ghost use Rattle.mig_guest.specs.Hosts.{most_saved_width};
 ghost use Rattle.mig_machine_api.specs.History.{no_history};
 ghost use Rattle.mig_machine_api.specs.MachineStates.{Ran, IsValidState};
-ghost use Rattle.mig_machine_api.specs.Pfns.{no_pfns};
+ghost use Rattle.mig_machine_api.specs.Pfns.{no_pfns, pfns_of_words};
+ghost use Rattle.mig_lines.specs.HostLines.{room_for};
+ghost use Rattle.mig_machine.specs.Noted.{history_in};
 ghost use Rattle.mig_machine.specs.MachineSeen.{calls_of, is_paused, log_of, history_of, machine_state};
 ghost use Rattle.mig_machine.specs.Exact.{RunsOn};
 
@@ -44,6 +46,27 @@ impl Model for ScriptMachine {
     ghost invariant = { IsMachine };
 }
 
+/// Makes ready the room of a host for all that a script does to it, a log without frame numbers, and room for notes.
+fn made_ready(
+    alloc: Global,
+    host: &mut Host,
+    script: &Script,
+) -> Result<(Vec<u64>, Notes), Memory>
+    requires { host.old.host.width ≤ most_saved_width }
+    ensures host { host.new.host ≡ host.old.host }
+    ensures room { OnOk result (room_for script.now ≤ host.new.spare) }
+    ensures empty { IfOk result (λ r. pfns_of_words r.0.items ≡ no_pfns) }
+    ensures log_size { IfOk result (λ r. length r.0.items ≡ (host.old.host.width + 63) / 64) }
+    ensures history { IfOk result (λ r. history_in r.1 ≡ no_history) }
+    ensures notes_size { IfOk result (λ r. length r.1.read.items ≡ (host.old.host.width + 63) / 64) }
+{
+    let width = host.width();
+    host.reserve(room_in(script))?;
+    let log = no_members(alloc, width)?;
+    let notes = Notes::new(alloc, width)?;
+    Ok((log, notes))
+}
+
 impl ScriptMachine {
     /// A machine at this host, of which nothing was asked yet. It takes all memory that later calls need.
     pub fn new(alloc: Global, host: Host, script: Script) -> Result<ScriptMachine, Memory>
@@ -56,10 +79,7 @@ impl ScriptMachine {
         ensures history { IfOk result (λ m. history_of m ≡ no_history) }
     {
         let mut host = host;
-        let width = host.width();
-        host.reserve(room_in(&script))?;
-        let log = no_members(alloc, width)?;
-        let notes = Notes::new(alloc, width)?;
+        let (log, notes) = made_ready(alloc, &mut host, &script)?;
         Ok(ScriptMachine {
             host,
             script,

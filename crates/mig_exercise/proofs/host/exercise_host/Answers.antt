@@ -1,6 +1,6 @@
 use Rattle.mig_exercise.specs.ExerciseHosts.{frames_up_to}
 use Rattle.mig_exercise.proofs.host.exercise_host.Goals as goal
 
-pub add_first-requires-clause-none : goal.add_first-requires-clause-none
+pub fill-requires-clause-none : goal.fill-requires-clause-none
 unfolding frames_up_to
-add_first-requires-clause-none c = λ contents. c.new-host.ensures.host
+fill-requires-clause-none c = λ contents. c.new-host.ensures.host
