@@ -1,12 +1,12 @@
--- What a command came to, of the parts that its function says.
+-- What a command came to, of the parts that its function says now.
 use Rattle.mig_tool.proofs.Common.{◌≡◌, ◌⊎◌, ℕ, List, Option, None, Some, arith, refl, subst, Command, Exercise, SaysOf, Written}
 use mathlib.Core.Logic.{inl, inr}
-use Rattle.std.specs.Prelude.{◌≤◌}
+use Rattle.std.specs.Prelude.{◌≢◌, ◌≤◌}
 use Rattle.mig_bytes.specs.Faults.{Rose}
 use Rattle.mig_report.specs.declared.status.Status.{Status}
 use Rattle.mig_report.specs.declared.status.Status.TheVariants as statuses
-use Rattle.mig_report.specs.Report.{Reports, memory_line}
-use Rattle.mig_report.specs.Statuses.{NoneFailed, OutputRises}
+use Rattle.mig_report.specs.Report.{Reports, exercised_line, memory_line}
+use Rattle.mig_report.specs.Statuses.{EndsWithOwnLine, InputRises, NoneFailed, OutputRises, PutsLineOf, ReportsStatus}
 use Rattle.mig_passing.specs.Relays.{RelayBreaksOff}
 use Rattle.mig_live.specs.Exercises.{SaysExercise}
 use Rattle.mig_live.specs.Saves.{BreaksOff}
@@ -55,42 +55,45 @@ module _ (Untouched Unread : Type 0) (kept : Untouched) (unread : Unread) (seed 
   exercise_says (Some input) statuses.Memory said = tt
   exercise_says (Some input) _ said = absurd said
 
-  pub exercise_came : (status : Status) → SaysExercise seed n w.report_old w.report_new status → (status ≡ statuses.Done → report_now ≡ report) → (status ≡ statuses.WriteFault → Rose report report_now) → report ≤ report_now
+  abbrev Said : Status → Type 0
+  Said status = SaysExercise seed n w.report_old w.report_new status
+
+  known : (status : Status) → Said status → status ≢ statuses.Usage
+  known statuses.Done said = λ e. cc
+  known statuses.WriteFault said = λ e. cc
+  known statuses.Memory said = λ e. cc
+  known _ said = absurd said
+
+  unread_count : (status : Status) → Said status → InputRises status read read
+  unread_count statuses.Done said = refl
+  unread_count statuses.WriteFault said = refl
+  unread_count statuses.Memory said = refl
+  unread_count _ said = absurd said
+
+  own_line : (status : Status) → Said status → PutsLineOf exercised_line w.report_old w.report_new status
+  own_line statuses.Done said = (said.summary, said.reported)
+  own_line statuses.WriteFault said = (said.summary, said.reported)
+  own_line statuses.Memory said = tt
+  own_line _ said = absurd said
+
+  other_line : (status : Status) → Said status → (status ≡ statuses.Memory → Reports memory_line w.report_old w.report_new report report_now) → (EndsWithOwnLine status → ⊥)
+      → ReportsStatus (λ input refusal rest. ⊥) told status w.report_old w.report_new report report_now
+  other_line statuses.Done said line none = absurd (none tt)
+  other_line statuses.WriteFault said line none = absurd (none tt)
+  other_line statuses.Memory said line none = (memory_line, refl, line refl)
+  other_line _ said line none = absurd said
+
+  pub exercise_came : (status : Status) → Said status → (status ≡ statuses.Done → report_now ≡ report) → (status ≡ statuses.WriteFault → Rose report report_now) → report ≤ report_now
       → (status ≡ statuses.Memory → Reports memory_line w.report_old w.report_new report report_now) → Came status
-  exercise_came statuses.Done said quiet rises later line = record {
-    said = exercise_says told statuses.Done said;
-    known = λ e. cc;
+  exercise_came status said quiet rises later line = record {
+    said = exercise_says told status said;
+    known = known status said;
     besides = (unread, said);
     kept = λ _. kept;
-    reads = refl;
+    reads = unread_count status said;
     writes = rises;
-    line = λ none. absurd (none tt);
-    own_line = (said.summary, said.reported);
-    out_faults = untouched statuses.Done out;
+    line = other_line status said line;
+    own_line = own_line status said;
+    out_faults = untouched status out;
     report_faults = record { later = later; done = quiet };
   }
-  exercise_came statuses.WriteFault said quiet rises later line = record {
-    said = exercise_says told statuses.WriteFault said;
-    known = λ e. cc;
-    besides = (unread, said);
-    kept = λ _. kept;
-    reads = refl;
-    writes = rises;
-    line = λ none. absurd (none tt);
-    own_line = (said.summary, said.reported);
-    out_faults = untouched statuses.WriteFault out;
-    report_faults = record { later = later; done = quiet };
-  }
-  exercise_came statuses.Memory said quiet rises later line = record {
-    said = exercise_says told statuses.Memory said;
-    known = λ e. cc;
-    besides = (unread, said);
-    kept = λ _. kept;
-    reads = refl;
-    writes = rises;
-    line = λ _. (memory_line, refl, line refl);
-    own_line = tt;
-    out_faults = untouched statuses.Memory out;
-    report_faults = record { later = later; done = quiet };
-  }
-  exercise_came _ said quiet rises later line = absurd said
