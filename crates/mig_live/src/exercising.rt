@@ -283,12 +283,7 @@ pub fn exercise(alloc: Global, seed: u64, frames: u64) -> Result<Exercised, Memo
 }
 
 /// Makes an exercise, and says on the report what it came to.
-pub fn exercise_told<R: Sink>(
-    alloc: Global,
-    seed: u64,
-    frames: u64,
-    report: &mut R,
-) -> Status
+pub fn exercise_told<R: Sink>(alloc: Global, seed: u64, frames: u64, report: &mut R) -> Status
     requires { IsFrameNumber frames }
     ensures said { SaysExercise seed frames (R.written report.old) (R.written report.new) result }
     ensures quiet { result ≡ statuses.Done → R.faults report.new ≡ R.faults report.old }

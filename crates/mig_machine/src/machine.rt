@@ -47,11 +47,7 @@ impl Model for ScriptMachine {
 }
 
 /// Makes ready the room of a host for all that a script does to it, a log without frame numbers, and room for notes.
-fn made_ready(
-    alloc: Global,
-    host: &mut Host,
-    script: &Script,
-) -> Result<(Vec<u64>, Notes), Memory>
+fn made_ready(alloc: Global, host: &mut Host, script: &Script) -> Result<(Vec<u64>, Notes), Memory>
     requires { host.old.host.width ≤ most_saved_width }
     ensures host { host.new.host ≡ host.old.host }
     ensures room { OnOk result (room_for script.now ≤ host.new.spare) }
