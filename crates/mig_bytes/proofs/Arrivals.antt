@@ -7,8 +7,8 @@ use Rattle.mig_bytes.specs.Judged.Judged.{Passes}
 use Rattle.mig_bytes.specs.Sequences.{Front, at_start, grown, sequence_at}
 use Rattle.mig_bytes.specs.Walk.{Reaches}
 use Rattle.mig_bytes.specs.Walk.Reaches.{here, next}
-use Rattle.mig_bytes.specs.declared.part.Stop.{Stop}
-use Rattle.mig_bytes.specs.declared.part.Stop.TheVariants.{Refused, ReadFault, Memory}
+use Rattle.mig_bytes.specs.declared.stop.Stop.{Stop}
+use Rattle.mig_bytes.specs.declared.stop.Stop.TheVariants.{Refused, ReadFault, Memory}
 use Rattle.mig_bytes.proofs.Sequences.{Found, grows, all_parts, next_refused}
 
 module _ {C E S : Type 0} (is_ended : List E → Bool) (part_at : List E → List ℕ → Judged C E) (Is : S → List E → Type 0) where

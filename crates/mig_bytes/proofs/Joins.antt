@@ -4,8 +4,8 @@ use Rattle.std.proofs.lemmas.List.{take_more, take_at, drop_at}
 use Rattle.std.proofs.lemmas.Bool.{le-ltb}
 use Rattle.std.proofs.Math.Seq.{drop-cons}
 use Rattle.std.proofs.Common.{◌≡◌, ◌⊎◌, inl, inr, ℕ, suc, ◌+◌, ◌<◌, length, take, drop, get_or, take-append-drop, List, [], ◌∷◌, ◌++◌, Bool, true, false, cond, nat_lt, Option, Some, None, Result, Ok, Err, refl, sym, ap, subst, ◌∙◌, length-append, arith, length-take-le, ltb-false}
-use Rattle.mig_bytes.specs.declared.part.Stop.{Stop}
-use Rattle.mig_bytes.specs.declared.part.Stop.TheVariants.{Refused, ReadFault, Memory}
+use Rattle.mig_bytes.specs.declared.stop.Stop.{Stop}
+use Rattle.mig_bytes.specs.declared.stop.Stop.TheVariants.{Refused, ReadFault, Memory}
 use Rattle.mig_bytes.specs.Judged.{Judged, ◌>>=◌, part, tried, said_at, plain_at, each, placed, Matches, Gives}
 use Rattle.mig_bytes.specs.Judged.Judged.{Passes, Faulty}
 

@@ -1,7 +1,4 @@
-pub mod Streams
-pub mod Taking
 pub mod Texts
-pub mod Vectors
 pub mod Walks
 pub mod FieldWrites
 pub mod Joins

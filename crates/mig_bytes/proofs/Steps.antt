@@ -1,7 +1,7 @@
 -- Steps one after another, and how readers of them join.
 use Rattle.std.proofs.Common.{◌≡◌, ℕ, zero, suc, ◌+◌, ◌-◌, ◌≤◌, ◌<◌, List, Option, Some, None, Ok, Err, refl, sym, ap, subst, ◌∙◌, arith}
-use Rattle.mig_bytes.specs.declared.part.Stop.{Stop}
-use Rattle.mig_bytes.specs.declared.part.Stop.TheVariants.{Refused, ReadFault, Memory}
+use Rattle.mig_bytes.specs.declared.stop.Stop.{Stop}
+use Rattle.mig_bytes.specs.declared.stop.Stop.TheVariants.{Refused, ReadFault, Memory}
 use Rattle.mig_bytes.specs.Judged.{Judged, ◌>>=◌, steps, Gives}
 use Rattle.mig_bytes.specs.Judged.Judged.{Passes, Faulty}
 

@@ -2,8 +2,8 @@
 use Rattle.std.specs.Prelude.{Result, Ok, Err}
 use Rattle.mig_bytes.specs.declared.answer.Answer.{Answer}
 use Rattle.mig_bytes.specs.declared.answer.Answer.TheVariants.{Refused, ReadFault, Memory}
-use Rattle.mig_bytes.specs.declared.part.Stop.{Stop}
-use Rattle.mig_bytes.specs.declared.part.Stop.TheVariants as stops
+use Rattle.mig_bytes.specs.declared.stop.Stop.{Stop}
+use Rattle.mig_bytes.specs.declared.stop.Stop.TheVariants as stops
 
 -- the place and the cause of a refusal, as one
 abbrev pub stop_of : {P C : Type 0} → Answer P C → Stop (P × C)

@@ -3,8 +3,8 @@ use Rattle.std.specs.Prelude.{◌≡◌, ◌<◌, ◌≤◌, ℕ, ◌+◌, ◌-�
 use Rattle.std.specs.List.{All}
 use Rattle.std.specs.declared.option.Option.{Option}
 use Rattle.std.specs.Io.KnownBytes.{Consumes, Appends, IsAtEnd}
-use Rattle.mig_bytes.specs.declared.take.Got.{Got}
-use Rattle.mig_bytes.specs.declared.take.Got.TheVariants.{Whole, Short}
+use Rattle.mig_bytes.specs.declared.stop.Got.{Got}
+use Rattle.mig_bytes.specs.declared.stop.Got.TheVariants.{Whole, Short}
 use Rattle.mig_bytes.specs.declared.failure.WriteFailed.{WriteFailed}
 
 -- how many bytes make a length a multiple of 8

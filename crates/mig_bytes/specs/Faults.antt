@@ -1,9 +1,9 @@
 -- Faults of an outside object, by the count that it keeps.
 use Rattle.std.specs.Prelude.{◌≡◌, ℕ, ◌+◌, ◌-◌, ◌^◌, ◌≤◌, min, Result, Ok, Err, OnOk, OnErr}
-use Rattle.mig_bytes.specs.declared.part.Stop.{Stop}
-use Rattle.mig_bytes.specs.declared.part.Stop.TheVariants.{Refused, ReadFault, Memory}
-use Rattle.mig_bytes.specs.declared.take.TakeFault.{TakeFault}
-use Rattle.mig_bytes.specs.declared.take.TakeFault.TheVariants as take_faults
+use Rattle.mig_bytes.specs.declared.stop.Stop.{Stop}
+use Rattle.mig_bytes.specs.declared.stop.Stop.TheVariants.{Refused, ReadFault, Memory}
+use Rattle.mig_bytes.specs.declared.stop.TakeFault.{TakeFault}
+use Rattle.mig_bytes.specs.declared.stop.TakeFault.TheVariants as take_faults
 
 -- the count is greater, or stands at the last value of a counter of 64 bits
 abbrev pub Rose : ℕ → ℕ → Type 0

@@ -2,7 +2,7 @@ ghost use Rattle.std.specs.Prelude.{◌≡◌, IfOk};
 ghost use Rattle.mig_form.specs.Tests.{first_named};
 ghost use Rattle.mig_chunks.specs.Chunks.{negative_causes, negative_kind as kind_below, unless_caused, kind_of, negative, IsNumberOf};
 
-use mig_headers::LegacyCause;
+use mig_causes::LegacyCause;
 
 /// What a chunk of a legacy stream is, by its type (Xen's xg_save_restore.h).
 #[derive(Clone, Copy, Debug, PartialEq, Eq)]

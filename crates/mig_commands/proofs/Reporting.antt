@@ -8,10 +8,10 @@ use Rattle.mig_bytes.specs.Judged.Judged.{Passes}
 use Rattle.mig_bytes.specs.declared.answer.Answer.{Answer}
 use Rattle.mig_bytes.specs.declared.answer.Answer.TheVariants as answers
 use Rattle.mig_bytes.specs.declared.failure.WriteFailed.{WriteFailed}
-use Rattle.mig_headers.specs.declared.fault.Cause.{Cause}
-use Rattle.mig_headers.specs.declared.fault.Place.{Place}
-use Rattle.mig_headers.specs.declared.legacy_fault.LegacyCause.{LegacyCause}
-use Rattle.mig_headers.specs.declared.legacy_fault.LegacyPlace.{LegacyPlace}
+use Rattle.mig_causes.specs.declared.fault.Cause.{Cause}
+use Rattle.mig_causes.specs.declared.fault.Place.{Place}
+use Rattle.mig_causes.specs.declared.legacy_fault.LegacyCause.{LegacyCause}
+use Rattle.mig_causes.specs.declared.legacy_fault.LegacyPlace.{LegacyPlace}
 use Rattle.mig_host.proofs.HostedGuests.{whole_valid, whole_sound, whole_seen}
 use Rattle.mig_host.specs.Hosted.{hosted, IsBaseOutside}
 use Rattle.mig_image.proofs.ImageReads.{held, image_reads}
@@ -20,10 +20,11 @@ use Rattle.mig_legacy.proofs.Laws.{accepted_is_legacy}
 use Rattle.mig_legacy.specs.Legacy.{LegacyStream, mean_legacy}
 use Rattle.mig_legacy.specs.Spelled.{AcceptedLegacy}
 use Rattle.mig_legacy.specs.Stream.{ReadsLegacy, legacy_at}
-use Rattle.mig_libxl.proofs.AnyCanons.{canon_is_accepted, canon_is_one_to_one}
+use Rattle.mig_wrap.proofs.AnyCanons.{canon_is_accepted, canon_is_one_to_one}
 use Rattle.mig_libxl.proofs.Laws.{accepted_is_stream}
-use Rattle.mig_libxl.specs.Canon.{canon_any}
-use Rattle.mig_libxl.specs.Stream.{StreamOf, IsStreamReading, ReadsStream, stream_at}
+use Rattle.mig_wrap.specs.Canon.{canon_any}
+use Rattle.mig_libxl.specs.Stream.{StreamOf, stream_at}
+use Rattle.mig_unwrap.specs.Reads.{IsStreamReading, ReadsStream}
 use Rattle.mig_pvtables.proofs.HvmGuests.{hvm_complete}
 use Rattle.mig_pvtables.proofs.PvGuests.{pv_complete}
 use Rattle.mig_pvtables.specs.Whole.{IsWhole}
@@ -34,8 +35,8 @@ use Rattle.mig_report.specs.declared.outcome.Refusal.TheVariants as refusals
 use Rattle.mig_report.specs.declared.outcome.Summary.{Summary}
 use Rattle.mig_report.specs.declared.status.Status.{Status}
 use Rattle.mig_report.specs.declared.status.Status.TheVariants as statuses
-use Rattle.mig_restore.specs.Mean.{differs_of}
-use Rattle.mig_restore.specs.Stream.{ImageOf}
+use Rattle.mig_libxc.specs.Mean.{differs_of}
+use Rattle.mig_libxc.specs.Stream.{ImageOf}
 use Rattle.mig_restore.specs.declared.read.Reading.{Reading}
 
 -- ---- no stream was read

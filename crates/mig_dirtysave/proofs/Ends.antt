@@ -6,15 +6,15 @@ use Rattle.std.specs.Io.KnownBytes.{Appends, append_known}
 use Rattle.std.proofs.KnownBytes.{Appends-trans}
 use Rattle.mig_bytes.specs.Bytes.{AppendsPart}
 use Rattle.mig_headers.specs.declared.kind.Kind.{Kind}
-use Rattle.mig_headers.specs.declared.unsound.Unsound.{Unsound}
+use Rattle.mig_causes.specs.declared.unsound.Unsound.{Unsound}
 use Rattle.mig_guest.specs.Formed.{IsFormed}
 use Rattle.mig_guest.specs.Guests.{GuestOf}
 use Rattle.mig_guest.specs.Parts.{PartMap}
 use Rattle.mig_records.specs.Records.{spelled}
 use Rattle.mig_canon.specs.Canon.{Record, headers, text_of}
 use Rattle.mig_canon.proofs.Spelling.{text_join, text_one}
-use Rattle.mig_libxl.specs.Canon.{has_emulators, is_of_converter, opening_text, wrapper_opening, wrapper_closing}
-use Rattle.mig_libxl.proofs.Around.{opening_none, opening_some}
+use Rattle.mig_wrap.specs.Canon.{has_emulators, is_of_converter, opening_text, wrapper_opening, wrapper_closing}
+use Rattle.mig_wrap.proofs.Around.{opening_none, opening_some}
 use Rattle.mig_pagesink.specs.Told.{FrameTold, telling_record, all_told}
 use Rattle.mig_pagesink.specs.Written.{WroteAll, WroteSome, IsRecordWithin, AreRecordsWithin}
 use Rattle.mig_pagesink.specs.Batches.{IsBehind}

@@ -12,7 +12,7 @@ use Rattle.mig_guest.specs.Hosts.{HostOf, HostFrame, IsValid}
 use Rattle.mig_canon.specs.Canon.{headers, text_of}
 use Rattle.mig_pagesink.specs.Told.{telling_record}
 use Rattle.mig_hosted.specs.View.{view}
-use Rattle.mig_libxl.specs.Canon.{wrapper_opening, wrapper_closing}
+use Rattle.mig_wrap.specs.Canon.{wrapper_opening, wrapper_closing}
 use Rattle.mig_libxl.specs.Spelled.{AcceptedStream}
 use Rattle.mig_machine_api.specs.History.{History}
 use Rattle.mig_machine_api.specs.MachineStates.{MachineState}
@@ -21,7 +21,7 @@ use Rattle.mig_machine_api.specs.Rounds.{Rounds, Tight, all_read, rounds_read}
 use Rattle.mig_rounds.specs.Parts.{total, total_taken}
 use Rattle.mig_rounds.specs.Live.{IsTight, type_in}
 use Rattle.mig_pause.specs.Paused.{OnlyLooksUp, HasTypes}
-use Rattle.mig_headers.specs.declared.unsound.Unsound.{Unsound}
+use Rattle.mig_causes.specs.declared.unsound.Unsound.{Unsound}
 use Rattle.mig_dirtysave.specs.SaveAnswers.{SaveWritten, IsTrusted, IfUnsound}
 use Rattle.mig_dirtysave.specs.declared.answer.SaveAnswer.{SaveAnswer}
 use Rattle.mig_dirtysave.specs.declared.answer.SaveAnswer.TheVariants as answers

@@ -5,7 +5,7 @@ use Rattle.std.proofs.Common.{◌≡◌, ℕ, Bool, List, [], ◌∷◌, ◌++�
 use Rattle.std.specs.Io.KnownBytes.{Appends}
 use Rattle.std.proofs.KnownBytes.{Appends-trans}
 use Rattle.mig_headers.specs.declared.kind.Kind.{Kind}
-use Rattle.mig_headers.specs.declared.unsound.Unsound.{Unsound}
+use Rattle.mig_causes.specs.declared.unsound.Unsound.{Unsound}
 use Rattle.mig_guest.specs.Formed.{IsFormed}
 use Rattle.mig_guest.specs.Guests.{GuestOf}
 use Rattle.mig_guest.specs.Hosts.{IsValid}
@@ -20,13 +20,13 @@ use Rattle.mig_hosted.specs.Sound.{unsoundness}
 use Rattle.mig_hosted.specs.View.{view, top_of}
 use Rattle.mig_hosted.proofs.SoundRows.{sound_is_faultless}
 use Rattle.mig_hosted.proofs.ViewedGuests.{viewed_whole}
-use Rattle.mig_libxl.specs.Canon.{bare_guest, wrapper_opening, wrapper_closing}
+use Rattle.mig_wrap.specs.Canon.{bare_guest, wrapper_opening, wrapper_closing}
 use Rattle.mig_libxl.specs.Spelled.{AcceptedStream}
-use Rattle.mig_libxl.proofs.Alike.{opening_alike, closing_alike}
-use Rattle.mig_libxl.proofs.AnyCanons.{around_is_accepted}
+use Rattle.mig_wrap.proofs.Alike.{opening_alike, closing_alike}
+use Rattle.mig_wrap.proofs.AnyCanons.{around_is_accepted}
 use Rattle.mig_machine_api.specs.MachineStates.{MachineState}
 use Rattle.mig_pagesink.specs.Told.{FrameTold, telling_frames, telling_record}
-use Rattle.mig_restore.specs.Spelled.{Accepted}
+use Rattle.mig_libxc.specs.Spelled.{Accepted}
 use Rattle.mig_rounds.specs.Live.{StaysSame, FramesSaved}
 use Rattle.mig_saved.proofs.Viewed.{saved_is_viewed}
 use Rattle.mig_around.specs.SaveTexts.{IsOtherRecord, text_before, ClosesStream}

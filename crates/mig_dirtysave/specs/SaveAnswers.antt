@@ -4,13 +4,13 @@ use Rattle.std.specs.List.{AllByRecursion}
 use Rattle.std.specs.Io.KnownBytes.{Appends}
 use Rattle.mig_headers.specs.declared.kind.Kind.{Kind}
 use Rattle.mig_headers.specs.declared.kind.Kind.TheVariants.{Hvm}
-use Rattle.mig_headers.specs.declared.unsound.Unsound.{Unsound}
+use Rattle.mig_causes.specs.declared.unsound.Unsound.{Unsound}
 use Rattle.mig_guest.specs.Parts.{PartMap}
 use Rattle.mig_canon.specs.Canon.{Record, headers, text_of}
 use Rattle.mig_pagesink.specs.Told.{FrameTold, telling_record, all_told}
 use Rattle.mig_pagesink.specs.Written.{AreRecordsWithin}
 use Rattle.mig_hosted.specs.View.{view}
-use Rattle.mig_libxl.specs.Canon.{wrapper_opening, wrapper_closing}
+use Rattle.mig_wrap.specs.Canon.{wrapper_opening, wrapper_closing}
 use Rattle.mig_libxl.specs.Spelled.{AcceptedStream}
 use Rattle.mig_around.specs.SaveTexts.{IsOtherRecord}
 use Rattle.mig_machine_api.specs.MachineStates.{MachineState}

@@ -2,7 +2,7 @@ ghost use Rattle.std.specs.Prelude.{◌≡◌, ◌≤◌, true, false, None, Som
 ghost use Rattle.std.specs.Io.KnownBytes.{Appends};
 ghost use Rattle.mig_bytes.specs.Bytes.{AppendsPart};
 ghost use Rattle.mig_bytes.specs.Faults.{Rose};
-ghost use Rattle.mig_headers.specs.declared.unsound.Unsound.{Unsound as UnsoundCause};
+ghost use Rattle.mig_causes.specs.declared.unsound.Unsound.{Unsound as UnsoundCause};
 ghost use Rattle.mig_guest.specs.Formed.{IsFormed};
 ghost use Rattle.mig_guest.specs.Hosts.{IsValid};
 ghost use Rattle.mig_pagesink.specs.Batches.{IsBehind};
@@ -10,7 +10,7 @@ ghost use Rattle.mig_machine_api.specs.History.{no_history};
 ghost use Rattle.mig_machine_api.specs.MachineStates.{IsValidState};
 ghost use Rattle.mig_rounds.specs.Parts.{total};
 ghost use Rattle.mig_rounds.specs.Live.{StaysSame, HasRounds, IsTight, FramesSaved, SawTypes, AnswersTables, IsUnsound};
-ghost use Rattle.mig_libxl.specs.Canon.{wrapper_opening, wrapper_closing};
+ghost use Rattle.mig_wrap.specs.Canon.{wrapper_opening, wrapper_closing};
 ghost use Rattle.mig_around.specs.SaveTexts.{text_before};
 ghost use Rattle.mig_dirtysave.specs.SaveAnswers.{IfUnsound};
 ghost use Rattle.mig_dirtysave.specs.declared.answer.SaveAnswer.TheVariants.{MachineFault, WriteFault};
@@ -18,11 +18,11 @@ ghost use Rattle.mig_dirtysave.specs.declared.answer.SaveAnswer.TheVariants.{Mac
 use crate::answer::SaveAnswer;
 use mig_around::write_before;
 use mig_bytes::Sink;
+use mig_causes::Unsound;
 use mig_guest::Guest;
-use mig_headers::Unsound;
-use mig_libxl::{write_closing, write_opening};
 use mig_machine_api::Machine;
 use mig_rounds::{Room, SendFault, Sent, send_frames};
+use mig_wrap::{write_closing, write_opening};
 
 /// Writes what stands before the frames.
 pub(crate) fn open<K: Sink>(sink: &mut K, early: &Guest) -> Result<(), SaveAnswer>

@@ -1,7 +1,7 @@
 -- Forms by their parts: what passes is put together and taken apart; and what readers of forms give.
 use Rattle.std.proofs.Common.{◌≡◌, ℕ, List, ◌++◌, length, Option, None, Result, Ok, Err, refl, sym, ap, subst, ◌∙◌}
 use Rattle.std.specs.Result.{IsErrAnd}
-use Rattle.mig_bytes.specs.declared.part.Stop.{Stop}
+use Rattle.mig_bytes.specs.declared.stop.Stop.{Stop}
 use Rattle.mig_bytes.specs.Judged.{Judged, placed, steps, stop_at, Gives}
 use Rattle.mig_bytes.specs.Judged.Judged.{Passes}
 use Rattle.mig_bytes.proofs.Joins.{Both, both_pass, done, judged_so, placed_passes, same_passes, stopped, then_passes, then_reads}

@@ -2,8 +2,6 @@ pub mod HeaderLaws
 pub mod RecordNumbers
 pub mod Chains
 pub mod PairTexts
-pub mod FirstFaults
 pub mod ContextTexts
 pub mod LibxlHeaders
-pub mod FirstCauses
 pub mod KindNumbers

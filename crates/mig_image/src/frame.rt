@@ -3,7 +3,7 @@ ghost use Rattle.std.specs.FinMap as maps;
 ghost use Rattle.mig_bytes.specs.Bytes.{TakesBytes};
 ghost use Rattle.mig_bytes.specs.Faults.{RisesOnReadFault};
 ghost use Rattle.mig_bytes.specs.Judged.{Gives};
-ghost use Rattle.mig_bytes.specs.declared.part.Stop.TheVariants.{Memory};
+ghost use Rattle.mig_bytes.specs.declared.stop.Stop.TheVariants.{Memory};
 ghost use Rattle.mig_form.specs.Form.{judged_as};
 ghost use Rattle.mig_form.specs.Tests.{first_named, is_passed};
 ghost use Rattle.mig_pagetypes.specs.Limits.{most_frames};
@@ -16,9 +16,11 @@ ghost use Rattle.mig_image.specs.ImageParts.{head_pfn, head_type, head_type_numb
 
 use crate::version::ImageVersion;
 use crate::zeros::{is_all_zero, zero_page};
-use mig_bytes::{Source, Stop, take_part, u64_le};
-use mig_headers::{ImageCause, Kind};
+use mig_bytes::{Source, Stop, u64_le};
+use mig_causes::ImageCause;
+use mig_headers::Kind;
 use mig_host::{Host, MACHINE_LIMIT};
+use mig_io::take_part;
 use mig_pagetypes::PageType;
 
 /// The number of the type in a frame's head.

@@ -3,7 +3,7 @@ ghost use Rattle.mig_bytes.specs.Bytes.{TakesBytes};
 ghost use Rattle.mig_bytes.specs.Faults.{RisesOnReadFault};
 ghost use Rattle.mig_bytes.specs.Fields.{le32};
 ghost use Rattle.mig_bytes.specs.Judged.{Gives};
-ghost use Rattle.mig_bytes.specs.declared.part.Stop.TheVariants.{Memory};
+ghost use Rattle.mig_bytes.specs.declared.stop.Stop.TheVariants.{Memory};
 ghost use Rattle.mig_form.specs.Form.{judged_as};
 ghost use Rattle.mig_form.specs.Tests.{first_named};
 ghost use Rattle.mig_headers.specs.Headers.{kind_of_number};
@@ -12,8 +12,10 @@ ghost use Rattle.mig_image.specs.ImageForm.{host_head_causes, host_head_form};
 ghost use Rattle.mig_image.specs.ImageParts.{head_version};
 
 use crate::version::ImageVersion;
-use mig_bytes::{Source, Stop, take_part, u32_le, u64_be, u64_le};
-use mig_headers::{ImageCause, Kind};
+use mig_bytes::{Source, Stop, u32_le, u64_be, u64_le};
+use mig_causes::ImageCause;
+use mig_headers::Kind;
+use mig_io::take_part;
 use mig_pagetypes::MAX_FRAMES;
 
 /// "XGIMAGE1" and "XGIMAGE2", the lowest byte last.

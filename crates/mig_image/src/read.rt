@@ -5,7 +5,7 @@ ghost use Rattle.mig_bytes.specs.Bytes.{TakesBytes};
 ghost use Rattle.mig_bytes.specs.Faults.{RisesOnReadFault};
 ghost use Rattle.mig_bytes.specs.Fields.{le64};
 ghost use Rattle.mig_bytes.specs.Judged.{Gives};
-ghost use Rattle.mig_bytes.specs.declared.part.Stop.TheVariants.{Memory};
+ghost use Rattle.mig_bytes.specs.declared.stop.Stop.TheVariants.{Memory};
 ghost use Rattle.mig_form.specs.Form.{judged_as};
 ghost use Rattle.mig_form.specs.Tests.{first_named};
 ghost use Rattle.mig_pagetypes.specs.Limits.{most_frames};
@@ -18,9 +18,10 @@ use crate::frame::read_frame;
 use crate::head::{kind_in, read_head, version_in};
 use crate::read_part::read_parts;
 use crate::version::ImageVersion;
-use mig_bytes::{Answer, Source, Stop, answer_for, take_part, u64_le};
-use mig_headers::{ImageCause, ImagePlace};
+use mig_bytes::{Answer, Source, Stop, answer_for, u64_le};
+use mig_causes::{ImageCause, ImagePlace};
 use mig_host::Host;
+use mig_io::take_part;
 use std::alloc::Global;
 
 /// Why an image isn't read.

@@ -4,7 +4,7 @@ ghost use Rattle.std.specs.FinMap as maps;
 ghost use Rattle.mig_bytes.specs.Bytes.{TakesBytes};
 ghost use Rattle.mig_bytes.specs.Faults.{RisesOnReadFault};
 ghost use Rattle.mig_bytes.specs.Judged.{Gives};
-ghost use Rattle.mig_bytes.specs.declared.part.Stop.TheVariants.{Memory};
+ghost use Rattle.mig_bytes.specs.declared.stop.Stop.TheVariants.{Memory};
 ghost use Rattle.mig_form.specs.Form.{judged_as};
 ghost use Rattle.mig_form.specs.Tests.{first_named, is_passed};
 ghost use Rattle.mig_headers.specs.declared.kind.Kind.TheVariants.{Pv};
@@ -15,10 +15,12 @@ ghost use Rattle.mig_image.specs.ImageForm.{part_causes, content_causes, full_po
 ghost use Rattle.mig_image.specs.ImageParts.{head_key, code_fits, code_allows, has_part_from};
 ghost use Rattle.mig_image.specs.PartCounts.{Counts};
 
-use mig_bytes::{Source, Stop, pad_len, take_long, take_part, u32_le};
+use mig_bytes::{Source, Stop, pad_len, u32_le};
+use mig_causes::{ImageCause, ImagePlace};
 use mig_guest::{EMULATOR_PAIRS, PartCode, PartKey};
-use mig_headers::{ImageCause, ImagePlace, Kind};
+use mig_headers::Kind;
 use mig_host::Host;
+use mig_io::{take_long, take_part};
 use mig_policy::canonical_pairs;
 use std::alloc::Global;
 

@@ -9,7 +9,7 @@ pub use Rattle.mig_bytes.specs.Fields.{be64}
 unfoldable pub use Rattle.mig_bytes.specs.Judged.{each}
 pub use Rattle.mig_bytes.specs.Judged.{Judged, ◌>>=◌, part, Matches, Gives, plain_at, said_at, placed, stop_at, tried}
 pub use Rattle.mig_bytes.specs.Judged.Judged.{Passes, Faulty}
-pub use Rattle.mig_bytes.specs.declared.part.Stop.{Stop}
+pub use Rattle.mig_bytes.specs.declared.stop.Stop.{Stop}
 unfoldable pub use Rattle.mig_form.specs.Form.{judged_as, each_form, ◌>>>◌}
 pub use Rattle.mig_form.specs.Form.{FormOf, said_form, SpelledAs, BeginsAs}
 pub use Rattle.mig_form.specs.Form.FormOf.{Gives as Given}
@@ -23,16 +23,16 @@ pub use Rattle.mig_guest.specs.Order.{part_cmp}
 pub use Rattle.mig_guest.specs.PartKeys.{context_key, p2m_key}
 pub use Rattle.mig_guest.specs.declared.part_key.PartKey.{PartKey}
 pub use Rattle.mig_headers.proofs.ContextTexts.{contexts_are_spelled}
-pub use Rattle.mig_headers.proofs.FirstFaults.{no_fault, rows_fine, both_none, neither_some}
+pub use Rattle.mig_causes.proofs.FirstFaults.{no_fault, rows_fine, both_none, neither_some}
 pub use Rattle.mig_headers.specs.Contexts.{scan, cut_at}
 pub use Rattle.mig_headers.specs.Pairs.{Pair}
-pub use Rattle.mig_headers.specs.declared.fault.ContextFault.{ContextFault}
+pub use Rattle.mig_causes.specs.declared.fault.ContextFault.{ContextFault}
 pub use Rattle.mig_headers.specs.declared.kind.Kind.{Kind}
 pub use Rattle.mig_headers.specs.declared.kind.Kind.TheVariants.{Hvm, Pv}
-pub use Rattle.mig_headers.specs.declared.legacy_fault.LegacyCause.{LegacyCause}
-pub use Rattle.mig_headers.specs.declared.legacy_fault.LegacyCause.TheVariants.{Truncated, BodyTooLong, Modern, Tools32, BadContext, BadSignature, TooManyPairs, BadVcpuMax, BadToolstack}
-pub use Rattle.mig_headers.specs.declared.legacy_fault.LegacyPlace.{LegacyPlace}
-pub use Rattle.mig_headers.specs.declared.legacy_fault.LegacyPlace.TheVariants.{Start, Tail, Device, Chunk}
+pub use Rattle.mig_causes.specs.declared.legacy_fault.LegacyCause.{LegacyCause}
+pub use Rattle.mig_causes.specs.declared.legacy_fault.LegacyCause.TheVariants.{Truncated, BodyTooLong, Modern, Tools32, BadContext, BadSignature, TooManyPairs, BadVcpuMax, BadToolstack}
+pub use Rattle.mig_causes.specs.declared.legacy_fault.LegacyPlace.{LegacyPlace}
+pub use Rattle.mig_causes.specs.declared.legacy_fault.LegacyPlace.TheVariants.{Start, Tail, Device, Chunk}
 pub use Rattle.mig_chunks.specs.Batches.{is_reserved, is_high, fault_of_batch, batch_rows, page_data_words, page_data_word, page_data_words_of}
 unfoldable pub use Rattle.mig_chunks.specs.Chunks.{kind_of}
 pub use Rattle.mig_chunks.specs.Chunks.{IsNumberOf, number_causes, kind_numbered, unless_caused}
@@ -65,12 +65,12 @@ pub use Rattle.mig_pvtables.specs.Blank.{blank_of, blank, IsOfBytes}
 pub use Rattle.mig_pvtables.specs.Whole.{IsStreamed, IsStreamedBare}
 pub use Rattle.mig_records.proofs.Places.{none_pass}
 pub use Rattle.mig_records.specs.Words.{words}
-pub use Rattle.mig_restore.proofs.Meaning.{last_entry_is, parts_got, sent_kind, part_ties}
-pub use Rattle.mig_restore.specs.Judging.{type_in_word, fault_of_level, fault_of_page, entry_at, with_places}
-unfoldable pub use Rattle.mig_restore.specs.Mean.{sent, mean}
-pub use Rattle.mig_restore.specs.Mean.{put_record, empty_guest, entries_of, last_entry, frame_in, same_key, last_bytes, meant_type, put_entries, Grows, IsBegun}
-pub use Rattle.mig_restore.specs.Record.{StreamRecord, FrameEntry}
-pub use Rattle.mig_restore.specs.Spelled.{AreEntries, IsGoodWord}
+pub use Rattle.mig_libxc.proofs.Meaning.{last_entry_is, parts_got, sent_kind, part_ties}
+pub use Rattle.mig_libxc.specs.Judging.{type_in_word, fault_of_level, fault_of_page, entry_at, with_places}
+unfoldable pub use Rattle.mig_libxc.specs.Mean.{sent, mean}
+pub use Rattle.mig_libxc.specs.Mean.{put_record, empty_guest, entries_of, last_entry, frame_in, same_key, last_bytes, meant_type, put_entries, Grows, IsBegun}
+pub use Rattle.mig_libxc.specs.Record.{StreamRecord, FrameEntry}
+pub use Rattle.mig_libxc.specs.Spelled.{AreEntries, IsGoodWord}
 pub use Rattle.std.proofs.Common.{◌≡◌, ℕ, cond, List, [], ◌∷◌, ◌++◌, Option, Some, None, refl, sym, ap, ◌∙◌, arith, append_assoc, ◌+◌, ◌-◌, ◌<◌, ◌≤◌, Bool, not, length, drop, nat_eq, nat_lt, suc, ◌^◌, true, false, take, get_or, Result, Ok, Err, subst, ◌/◌, length-append, nat_le, eqb-true, ltb-false, ◌*◌, ◌≢◌, length-take-le, length-drop, ◌⊎◌, inl, inr, take-append-drop, drop-drop, eq-eqb, leb-false, rules}
 pub use Rattle.std.proofs.lemmas.Bool.{le-ltb, lt-leb, le-leb, lt-ltb, and_from, false≢true, eqb-false, ne_eqb, not-false}
 pub use Rattle.std.proofs.lemmas.Grind.{common_steps, flat_map-append}

@@ -2,7 +2,7 @@
 use Rattle.mig_bytes.proofs.Joins.{any_stop, passes_not, part_whole}
 use Rattle.mig_legacy.proofs.Common.{◌≡◌, ℕ, suc, ◌-◌, ◌^◌, false, cond, nat_lt, List, [], ◌∷◌, ◌++◌, length, take, drop, get_or, Option, Some, None, Result, Ok, Err, refl, sym, ap, subst, ◌∙◌, arith, common_steps, Judged, ◌>>=◌, part, Matches, Gives, Passes, Faulty, Stop, part_passes, LegacyCause, Truncated, judged_as, first_named, signature_causes, counted_form, device_form, device_at}
 use Rattle.std.specs.Result.{IsErrAnd}
-use Rattle.mig_bytes.specs.declared.part.Stop.TheVariants.{Refused}
+use Rattle.mig_bytes.specs.declared.stop.Stop.TheVariants.{Refused}
 
 -- what follows the signature
 abbrev pub behind_signature : List ℕ → Judged LegacyCause (Option (List ℕ))

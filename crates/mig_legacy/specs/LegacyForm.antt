@@ -14,16 +14,16 @@ use Rattle.mig_headers.specs.Contexts.{scan, cut_at}
 use Rattle.mig_headers.specs.Headers.{marker, libxl_ident}
 use Rattle.mig_headers.specs.Pairs.{Pair}
 use Rattle.mig_headers.specs.RecordTypes.{most_body}
-use Rattle.mig_headers.specs.declared.fault.ContextFault.{ContextFault}
+use Rattle.mig_causes.specs.declared.fault.ContextFault.{ContextFault}
 use Rattle.mig_headers.specs.declared.kind.Kind.TheVariants.{Hvm}
-use Rattle.mig_headers.specs.declared.legacy_fault.LegacyCause.{LegacyCause}
-use Rattle.mig_headers.specs.declared.legacy_fault.LegacyCause.TheVariants.{Truncated, Modern, Tools32, BadVcpuMax, BadToolstack, UnpairedIoreq, BadContext, BadSignature, TooManyChunks, TooManyFrames, BodyTooLong, TooManyPairs}
+use Rattle.mig_causes.specs.declared.legacy_fault.LegacyCause.{LegacyCause}
+use Rattle.mig_causes.specs.declared.legacy_fault.LegacyCause.TheVariants.{Truncated, Modern, Tools32, BadVcpuMax, BadToolstack, UnpairedIoreq, BadContext, BadSignature, TooManyChunks, TooManyFrames, BodyTooLong, TooManyPairs}
 use Rattle.mig_pagetypes.specs.FrameWords.{word_has_data, word_pfn}
 use Rattle.mig_pagetypes.specs.Limits.{most_frames}
 use Rattle.mig_records.specs.Words.{words}
-use Rattle.mig_restore.specs.Judging.{type_in_word}
-use Rattle.mig_restore.specs.Mean.{sent}
-use Rattle.mig_restore.specs.Record.{FrameEntry}
+use Rattle.mig_libxc.specs.Judging.{type_in_word}
+use Rattle.mig_libxc.specs.Mean.{sent}
+use Rattle.mig_libxc.specs.Record.{FrameEntry}
 use Rattle.mig_emulators.specs.Emulators.{EmulatorsOf, emulators_of, most_pairs, spelled_with}
 use Rattle.mig_chunks.specs.declared.chunk.ChunkKind.{ChunkKind}
 use Rattle.mig_chunks.specs.declared.chunk.ChunkKind.TheVariants.{End, Batch, VcpuMap, Tsc, LastCheckpoint, Toolstack, Param}

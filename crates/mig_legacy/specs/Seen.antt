@@ -1,14 +1,14 @@
 -- What the reader of a legacy stream keeps of the chunks before.
 use Rattle.std.specs.Prelude.{◌≡◌, ℕ, List, length, fold, Option}
-use Rattle.mig_bytes.specs.declared.part.Stop.{Stop}
-use Rattle.mig_bytes.specs.declared.part.Stop.TheVariants.{Refused, ReadFault, Memory}
-use Rattle.mig_headers.specs.declared.fault.Cause.{Cause}
+use Rattle.mig_bytes.specs.declared.stop.Stop.{Stop}
+use Rattle.mig_bytes.specs.declared.stop.Stop.TheVariants.{Refused, ReadFault, Memory}
+use Rattle.mig_causes.specs.declared.fault.Cause.{Cause}
 use Rattle.mig_headers.specs.declared.kind.Kind.TheVariants.{Hvm}
-use Rattle.mig_headers.specs.declared.legacy_fault.LegacyCause.{LegacyCause}
-use Rattle.mig_headers.specs.declared.legacy_fault.LegacyCause.TheVariants.{Truncated}
+use Rattle.mig_causes.specs.declared.legacy_fault.LegacyCause.{LegacyCause}
+use Rattle.mig_causes.specs.declared.legacy_fault.LegacyCause.TheVariants.{Truncated}
 use Rattle.mig_guest.specs.Guests.{GuestOf}
-use Rattle.mig_restore.specs.Mean.{sent, put_record}
-use Rattle.mig_restore.specs.Mean.{IsBegun as IsGuestBegun}
+use Rattle.mig_libxc.specs.Mean.{sent, put_record}
+use Rattle.mig_libxc.specs.Mean.{IsBegun as IsGuestBegun}
 use Rattle.mig_emulators.specs.Emulators.{EmulatorsOf, put_libxl_content, emulators_of}
 use Rattle.mig_emulators.specs.Formed.{AreEmulators}
 use Rattle.mig_legacy.specs.Legacy.{LegacyContent, LegacyChunk, LegacyTail, has_value, records_in, pair_records, tail_records, device_records, image_records, store_records}

@@ -2,10 +2,10 @@ ghost use Rattle.std.specs.Prelude.{◌≡◌, ◌≤◌, ◌<◌, ◌^◌, ℕ,
 ghost use Rattle.mig_bytes.specs.Bytes.{AreBytes};
 ghost use Rattle.mig_bytes.specs.Faults.{RisesOnReadFault};
 ghost use Rattle.mig_bytes.specs.Judged.{Gives, stop_at};
-ghost use Rattle.mig_bytes.specs.declared.part.Stop.TheVariants.{Memory as NoMemory};
+ghost use Rattle.mig_bytes.specs.declared.stop.Stop.TheVariants.{Memory as NoMemory};
 ghost use Rattle.mig_form.specs.Form.{judged_as};
 ghost use Rattle.mig_headers.specs.declared.kind.Kind.TheVariants.{Hvm};
-ghost use Rattle.mig_restore.specs.Mean.{Grows};
+ghost use Rattle.mig_libxc.specs.Mean.{Grows};
 ghost use Rattle.mig_emulators.specs.Formed.{AreEmulators};
 ghost use Rattle.mig_chunks.specs.Batches.{fault_of_batch};
 ghost use Rattle.mig_legacy.specs.LegacyForm.{length_form, words_form, batch_form, clock_of as clock_in, vcpus_form, clock_form, value_form, toolstack_form};
@@ -13,13 +13,16 @@ ghost use Rattle.mig_legacy.specs.Legacy.{LegacyContent, param_key as key_of_par
 ghost use Rattle.mig_legacy.specs.Legacy.LegacyContent.{Nothing};
 ghost use Rattle.mig_legacy.specs.Seen.{cut_short, put_in_guest, put_in_emulators};
 
-use mig_bytes::{Memory, ReadFailed, Source, Stop, skip, take_long, take_part, u32_le};
+use mig_bytes::{Memory, ReadFailed, Source, Stop, u32_le};
+use mig_causes::{Cause, LegacyCause};
 use mig_chunks::{batch_fault, page_data_words, physmap_pairs, put, toolstack_fault};
 use mig_emulators::Emulators;
 use mig_guest::{EMULATOR_PAIRS, Guest, PartKey};
-use mig_headers::{Cause, LegacyCause, MOST_BODY};
+use mig_headers::MOST_BODY;
+use mig_io::{skip, take_long, take_part};
+use mig_libxc::words_of;
 use mig_policy::PairsAnswer;
-use mig_restore::{take_entries, words_of};
+use mig_restore::take_entries;
 use std::alloc::Global;
 
 /// Ids of vCPUs are below this.

@@ -5,7 +5,7 @@ ghost use Rattle.mig_bytes.specs.Answers.{or_stop};
 ghost use Rattle.mig_bytes.specs.Bytes.{AreBytes};
 ghost use Rattle.mig_bytes.specs.Faults.{RisesOnReadFault};
 ghost use Rattle.mig_bytes.specs.Judged.{Gives};
-ghost use Rattle.mig_bytes.specs.declared.part.Stop.TheVariants.{Memory as NoMemory};
+ghost use Rattle.mig_bytes.specs.declared.stop.Stop.TheVariants.{Memory as NoMemory};
 ghost use Rattle.mig_form.specs.Form.{judged_as};
 ghost use Rattle.mig_form.specs.Tests.{first_named};
 ghost use Rattle.mig_headers.specs.declared.kind.Kind.TheVariants.{Hvm};
@@ -23,11 +23,13 @@ ghost use Rattle.mig_legacy.specs.Stream.{chunks_at, legacy_at, ReadsLegacy};
 
 use crate::body::{take_batch, take_clock, take_toolstack, take_value, take_vcpus};
 use crate::tail::{take_device, take_tail};
-use mig_bytes::{Answer, Memory, Source, Stop, answer_for, take_part, u32_le};
+use mig_bytes::{Answer, Memory, Source, Stop, answer_for, u32_le};
+use mig_causes::{LegacyCause, LegacyPlace};
 use mig_chunks::{ChunkKind, chunk_kind};
 use mig_emulators::Emulators;
 use mig_guest::Guest;
-use mig_headers::{ImageHeader, Kind, LegacyCause, LegacyPlace, LibxlHeader};
+use mig_headers::{ImageHeader, Kind, LibxlHeader};
+use mig_io::take_part;
 use mig_pagetypes::MAX_FRAMES;
 use std::alloc::Global;
 

@@ -6,7 +6,7 @@ ghost use Rattle.mig_headers.specs.RecordTypes.{most_body};
 ghost use Rattle.mig_headers.specs.Contexts.{scan};
 ghost use Rattle.mig_headers.specs.declared.kind.Kind.TheVariants.{Hvm};
 ghost use Rattle.mig_guest.specs.Frames.{IsFew};
-ghost use Rattle.mig_restore.specs.Mean.{IsBegun};
+ghost use Rattle.mig_libxc.specs.Mean.{IsBegun};
 ghost use Rattle.mig_emulators.specs.Formed.{AreEmulators};
 ghost use Rattle.mig_pvtables.specs.Whole.{IsStreamedBare};
 ghost use Rattle.mig_legacy.specs.LegacyForm.{tail_of, tail_form, device_form};
@@ -14,11 +14,13 @@ ghost use Rattle.mig_legacy.specs.Seen.{put_tail, put_device};
 ghost use Rattle.mig_legacy.specs.Stream.{device_at};
 
 use crate::body::{are_bytes, param_key, take_length};
-use mig_bytes::{Memory, Source, Stop, take_long, take_part};
+use mig_bytes::{Memory, Source, Stop};
+use mig_causes::LegacyCause;
 use mig_emulators::Emulators;
 use mig_guest::{EMULATOR_CONTEXT, Guest, PartKey};
-use mig_headers::{LegacyCause, MOST_BODY};
+use mig_headers::MOST_BODY;
 use mig_hvm::{read_context, scan_context};
+use mig_io::{take_long, take_part};
 use std::alloc::Global;
 
 /// The HVM parameters that are the frames of I/O requests, of buffered ones and of the store.

@@ -1,68 +1,41 @@
 -- Names that many proofs of this crate use.
-pub use Rattle.byteorder.specs.Endian.{little_bytes, little_number}
-pub use Rattle.mig_bytes.proofs.Joins.{judged_so, mapped, stopped}
+pub use Rattle.byteorder.specs.Endian.{little_number}
 pub use Rattle.mig_bytes.proofs.Said.{said_goes, said_passes}
-pub use Rattle.mig_bytes.proofs.Texts.{puts_same, puts_stop, puts_then}
 pub use Rattle.mig_bytes.specs.Bytes.{AreBytes, padding_len}
 pub use Rattle.mig_bytes.specs.Judged.{Judged, part, placed, ◌>>=◌}
 pub use Rattle.mig_bytes.specs.Judged.Judged.{Passes}
 pub use Rattle.mig_bytes.specs.Sequences.{Spells}
 pub use Rattle.mig_bytes.specs.Sequences.Spells.{no_part, one_more}
-pub use Rattle.mig_canon.specs.Canon.{batches, bodies_of, frame_bodies, frames_in, headers, info_records, key_of, last_codes, last_records, p2m_record, p2m_records, part_record, pv_last_codes, records_in_order, records_of, records_of_vcpu, static_bodies, static_codes, text_of, vcpu_codes, vcpu_record, vcpus_below}
-pub use Rattle.mig_canon_laws.specs.Bare.{IsBare}
+pub use Rattle.mig_causes.specs.declared.fault.Cause.{Cause}
+pub use Rattle.mig_causes.specs.declared.fault.Cause.TheVariants.{Truncated}
+pub use Rattle.mig_causes.specs.declared.fault.Place.{Place}
+pub use Rattle.mig_causes.specs.declared.fault.Place.TheVariants.{LibxlHeader}
 pub use Rattle.mig_emulators.specs.Content.{LibxlContent, LibxlRecord}
 pub use Rattle.mig_emulators.specs.Content.LibxlContent.{Context, Image, Pairs}
-pub use Rattle.mig_emulators.specs.Emulators.{EmulatorsOf, add_pairs, no_emulators, put_libxl_content, store_at, with_emulators}
+pub use Rattle.mig_emulators.specs.Emulators.{EmulatorsOf, add_pairs, no_emulators, put_libxl_content, store_at}
 pub use Rattle.mig_emulators.specs.Formed.{AreEmulators}
-pub use Rattle.mig_pvtables.specs.Whole.{IsStreamedBare}
-pub use Rattle.mig_guest.proofs.CodeParts.{all_of}
-pub use Rattle.mig_guest.proofs.Found.{all_found}
-pub use Rattle.mig_guest.proofs.KeyedMaps.{tied}
-pub use Rattle.mig_guest.proofs.PartOrder.{part_exact, part_total}
-pub use Rattle.mig_guest.proofs.PartRows.{IsOf, of_part}
-pub use Rattle.mig_guest.specs.Formed.{HasNoEmulators, IsFormed, is_emulator_code, width_of}
 pub use Rattle.mig_guest.specs.Guests.{GuestOf}
-pub use Rattle.mig_guest.specs.Order.{part_cmp}
-pub use Rattle.mig_guest.specs.PartCodes.{code_number, row_of}
-pub use Rattle.mig_guest.specs.PartKeys.{p2m_key}
-pub use Rattle.mig_guest.specs.Parts.{Part, PartMap, parts_of, put_parts}
-pub use Rattle.mig_guest.specs.declared.part_code.PartCode.{PartCode}
-pub use Rattle.mig_guest.specs.declared.part_code.PartCode.TheVariants.{EmulatorContext, EmulatorPairs}
 pub use Rattle.mig_guest.specs.declared.part_key.PartKey.{PartKey}
 pub use Rattle.mig_headers.specs.Pairs.{Pair}
-pub use Rattle.mig_headers.specs.declared.fault.Cause.{Cause}
-pub use Rattle.mig_headers.specs.declared.fault.Cause.TheVariants.{Truncated}
-pub use Rattle.mig_headers.specs.declared.fault.Place.{Place}
-pub use Rattle.mig_headers.specs.declared.fault.Place.TheVariants.{LibxlHeader}
 pub use Rattle.mig_headers.specs.declared.kind.Kind.{Kind}
 pub use Rattle.mig_headers.specs.declared.kind.Kind.TheVariants.{Hvm, Pv}
 pub use Rattle.mig_libxl.specs.Among.{image_among, image_in, is_libxl_ended}
-pub use Rattle.mig_libxl.specs.Canon.{bare_guest, has_emulators, is_of_converter, text_of_emulators}
 pub use Rattle.mig_libxl.specs.Judging.{body_of_type, emulator_key, libxl_content_at, libxl_head_at}
-pub use Rattle.mig_libxl.specs.Seen.{Holds, IsLibxlSeen}
 pub use Rattle.mig_libxl.specs.Spelled.{EmulatorsFit, FollowsLibxl, HasLibxlContent}
 pub use Rattle.mig_libxl.specs.Stream.{bare_at, header_at, libxl_records_at}
 pub use Rattle.mig_libxl.specs.Stream.StreamOf.{Bare, Wrapped}
-pub use Rattle.mig_libxl.specs.declared.read.WrapperSeen.{WrapperSeen}
 pub use Rattle.mig_policy.proofs.KeyLaws.{pairs_are_read}
-pub use Rattle.mig_policy.proofs.PairMapLaws.{some_bytes_are_some_pairs}
 pub use Rattle.mig_policy.specs.PairFaults.{pairs_fault}
 pub use Rattle.mig_policy.specs.PairMaps.{put_pairs, text_of_map}
-pub use Rattle.mig_pvtables.specs.Whole.{IsWhole}
+pub use Rattle.mig_pvtables.specs.Whole.{IsStreamedBare, IsWhole}
 pub use Rattle.mig_records.specs.Records.{IsRecord}
-pub use Rattle.mig_restore.specs.Spelled.{IsImage}
-pub use Rattle.mig_restore.specs.Stream.{ImageOf}
-pub use Rattle.mig_restore.specs.declared.read.Reading.{Reading}
-pub use Rattle.std.proofs.Common.{Bool, Err, List, None, Ok, Option, Result, Some, [], ap, append-nil, append_assoc, arith, cond, drop, false, inl, inr, length, length-append, map, nat_eq, nat_le, nat_lt, not, refl, replicate, rules, subst, sym, take, take-append-drop, true, zero, ℕ, ◌*◌, ◌++◌, ◌+◌, ◌-◌, ◌<◌, ◌^◌, ◌↔◌, ◌∙◌, ◌∷◌, ◌≡◌, ◌≢◌, ◌≤◌}
-pub use Rattle.std.proofs.lemmas.Bool.{and_parts, eq-eqb, eqb-true, le-leb, le-ltb, leb-true, lt-leb, or_cases}
-pub use Rattle.std.proofs.lemmas.Cmp.{eq_by_cmp_equiv}
+pub use Rattle.mig_libxc.specs.Spelled.{IsImage}
+pub use Rattle.mig_libxc.specs.Stream.{ImageOf}
+pub use Rattle.std.proofs.Common.{Bool, List, None, Option, Some, [], ap, append_assoc, arith, cond, drop, false, inl, inr, length, length-append, nat_eq, nat_le, nat_lt, not, refl, subst, sym, take, take-append-drop, true, ℕ, ◌++◌, ◌+◌, ◌<◌, ◌^◌, ◌∙◌, ◌∷◌, ◌≡◌, ◌≤◌}
+pub use Rattle.std.proofs.lemmas.Bool.{and_parts, eq-eqb, eqb-true, le-leb, le-ltb, leb-true, lt-leb}
 pub use Rattle.std.proofs.lemmas.Grind.{common_steps}
 pub use Rattle.std.proofs.lemmas.List.{drop_at, nil_from_length}
-pub use Rattle.std.proofs.lemmas.List.Elements.{All-cons, All-drop, All-head, All-nil, All-tail}
+pub use Rattle.std.proofs.lemmas.List.Elements.{All-drop}
 pub use Rattle.std.proofs.lemmas.List.Sums.{fold-append}
-pub use Rattle.std.specs.FinMap.{find}
-pub use Rattle.std.specs.List.{All, flat_map, list_all, list_any, range_with_len}
-pub use Rattle.std.specs.Option.{option_map, option_or}
-pub use Rattle.std.specs.Ordering.{eq_by_cmp, is_lt, nat_cmp}
-pub use Rattle.std.specs.Prelude.{fold, if◌then◌else◌, is_none, is_some, unwrap_or, ◌&&◌, ◌==◌, ◌||◌}
-pub use Rattle.std.specs.declared.cmp.Ordering.TheVariants.{Equal}
+pub use Rattle.std.specs.Option.{option_or}
+pub use Rattle.std.specs.Prelude.{is_none, is_some, ◌&&◌, ◌||◌}

@@ -3,34 +3,23 @@ use Rattle.std.specs.Prelude.{◌≡◌, ◌≤◌, ◌<◌, ℕ, true, false, L
 use Rattle.mig_headers.specs.RecordTypes.{most_body}
 use Rattle.mig_headers.specs.declared.kind.Kind.{Kind}
 use Rattle.mig_headers.specs.declared.kind.Kind.TheVariants.{Pv}
-use Rattle.mig_restore.specs.Judging.{most_records}
-use Rattle.mig_restore.specs.Stream.{ImageOf}
-use Rattle.mig_restore.specs.declared.read.Reading.{Reading}
+use Rattle.mig_libxc.specs.Judging.{most_records}
+use Rattle.mig_libxc.specs.Stream.{ImageOf}
 use Rattle.mig_emulators.specs.Content.{LibxlRecord}
 use Rattle.mig_libxl.specs.Among.{has_emulator, image_among}
 use Rattle.mig_libxl.specs.Judging.{allows_length}
 use Rattle.mig_libxl.specs.declared.head.RecordsBehind.{RecordsBehind}
-use Rattle.mig_libxl.specs.declared.read.WrapperSeen.{WrapperSeen}
 
 -- the kind of guest of an image, where there is one
 abbrev pub kind_of_image : Option ImageOf → Option Kind
 kind_of_image None = None
 kind_of_image (Some image) = Some image.opening.kind
 
--- the same of what was read of it
-abbrev pub kind_of_reading : Option Reading → Option Kind
-kind_of_reading None = None
-kind_of_reading (Some reading) = Some reading.guest.kind
-
 -- what is known of these records
 pub record AreBehind (behind : RecordsBehind) (records : List LibxlRecord) : Type 0 where
   pub count : behind.records ≡ length records
   pub emulated : behind.emulated ≡ has_emulator records
   pub image : behind.image ≡ kind_of_image (image_among records)
-
--- of what a reader keeps, what a head is judged by
-abbrev pub behind_of : WrapperSeen → RecordsBehind
-behind_of seen = record { records = seen.records; emulated = seen.emulated; image = kind_of_reading seen.image }
 
 -- A head of this type and length may follow these records: its body is as long as the type allows, one more record has
 -- room, LIBXC_CONTEXT comes first, and END behind it, for a PV guest with no emulator.

@@ -1,21 +1,18 @@
 -- Judging a stream of either form: a bare image, or an image inside a libxl stream (libxl migration stream, "Header" and
 -- "Records").
-use Rattle.std.specs.Prelude.{◌≡◌, ℕ, ◌&&◌, ◌==◌, List, length, drop, nat_le, Option, Some, Result, if◌then◌else◌}
-use Rattle.mig_bytes.specs.Answers.{or_stop}
+use Rattle.std.specs.Prelude.{◌≡◌, ℕ, ◌&&◌, ◌==◌, List, length, drop, nat_le, Option, Some, if◌then◌else◌}
 use Rattle.mig_bytes.specs.Fields.{be64}
-use Rattle.mig_bytes.specs.Judged.{Judged, ◌>>=◌, placed, said_at, Gives}
+use Rattle.mig_bytes.specs.Judged.{Judged, ◌>>=◌, placed, said_at}
 use Rattle.mig_bytes.specs.Judged.Judged.{Passes, Faulty}
 use Rattle.mig_bytes.specs.Sequences.{sequence_at}
-use Rattle.mig_bytes.specs.declared.answer.Answer.{Answer}
 use Rattle.mig_headers.specs.Headers.{libxl_ident, fault_of_libxl}
-use Rattle.mig_headers.specs.declared.fault.Cause.{Cause}
-use Rattle.mig_headers.specs.declared.fault.Cause.TheVariants.{Truncated}
-use Rattle.mig_headers.specs.declared.fault.Place.{Place}
-use Rattle.mig_headers.specs.declared.fault.Place.TheVariants.{LibxlHeader}
+use Rattle.mig_causes.specs.declared.fault.Cause.{Cause}
+use Rattle.mig_causes.specs.declared.fault.Cause.TheVariants.{Truncated}
+use Rattle.mig_causes.specs.declared.fault.Place.{Place}
+use Rattle.mig_causes.specs.declared.fault.Place.TheVariants.{LibxlHeader}
 use Rattle.mig_guest.specs.Guests.{GuestOf}
-use Rattle.mig_restore.specs.Mean.{mean, differs_of}
-use Rattle.mig_restore.specs.Stream.{ImageOf, image_at}
-use Rattle.mig_restore.specs.declared.read.Reading.{Reading}
+use Rattle.mig_libxc.specs.Mean.{mean}
+use Rattle.mig_libxc.specs.Stream.{ImageOf, image_at}
 use Rattle.mig_emulators.specs.Content.{LibxlRecord}
 use Rattle.mig_libxl.specs.Among.{is_libxl_ended, image_among}
 use Rattle.mig_emulators.specs.Emulators.{EmulatorsOf, no_emulators, emulators_of, with_emulators}
@@ -70,19 +67,3 @@ emulators_in (Wrapped records) = emulators_of records
 -- the guest that its image means, with the parts of its emulators
 abbrev pub guest_of : ImageOf → StreamOf → GuestOf
 guest_of image s = with_emulators (mean image.opening.kind image.records) (emulators_in s)
-
--- ---- what a reader of streams answers
-
--- a reading of a stream: the guest that it means, and of its image the version, the number of records, and how many entries
--- behind a VERIFY differ
-pub record IsStreamReading (reading : Reading) (s : StreamOf) : Type 0 where
-  pub image : ImageOf
-  pub is : image_of_stream s ≡ Some image
-  pub guest : reading.guest ≡ guest_of image s
-  pub version : reading.version ≡ image.opening.version
-  pub records : reading.records ≡ length image.records
-  pub differs : reading.differs ≡ differs_of image.opening.kind image.records
-
--- what a reader of streams answered, and what it left in the source, is what judging gives
-abbrev pub ReadsStream : Option (List ℕ) → Option (List ℕ) → Result Reading (Answer Place Cause) → Type 0
-ReadsStream old new result = Gives IsStreamReading old new stream_at (or_stop result)

@@ -8,7 +8,8 @@ use crate::numbers::{
     CHECKPOINT_END, CHECKPOINT_STATE, EMULATOR_CONTEXT, EMULATOR_XENSTORE_DATA, LIBXC_CONTEXT,
     LIBXL_END, MAX_RECORDS,
 };
-use mig_headers::{Cause, Kind, is_optional};
+use mig_causes::Cause;
+use mig_headers::{Kind, is_optional};
 use mig_records::{RecordHead, long_fault};
 
 /// What the head of a libxl record is judged by, of the records before it.

@@ -15,16 +15,5 @@ pub(crate) const CHECKPOINT_END: u32 = 4;
 
 pub(crate) const CHECKPOINT_STATE: u32 = 5;
 
-/// The codes of the parts that are an emulator's pairs, and its context.
-pub(crate) const PAIRS: u32 = mig_guest::EMULATOR_PAIRS;
-
-pub(crate) const CONTEXT: u32 = mig_guest::EMULATOR_CONTEXT;
-
 /// The most records of a stream.
-pub(crate) const MAX_RECORDS: u32 = mig_restore::MAX_RECORDS;
-
-/// Emulator ids are below this.
-pub(crate) const EMULATORS: u32 = 3;
-
-/// Indices of an emulator are below this.
-pub(crate) const INDICES: u32 = 256;
+pub(crate) const MAX_RECORDS: u32 = mig_libxc::MAX_RECORDS;

@@ -4,13 +4,13 @@ use Rattle.mig_report.specs.declared.outcome.Refusal.TheVariants as refusals
 use mathlib.Core.Logic.{inl}
 use Rattle.std.specs.Prelude.{◌+◌, ◌∷◌, map}
 use Rattle.mig_bytes.specs.Faults.{Rose}
-use Rattle.mig_headers.specs.declared.unsound.Unsound.{Unsound}
+use Rattle.mig_causes.specs.declared.unsound.Unsound.{Unsound}
 use Rattle.mig_guest.specs.Hosts.{HostOf}
 use Rattle.mig_canon.specs.Canon.{headers, text_of}
 use Rattle.mig_pagesink.specs.Told.{telling_record}
 use Rattle.mig_hosted.specs.Sound.{unsoundness}
 use Rattle.mig_hosted.specs.View.{view}
-use Rattle.mig_libxl.specs.Canon.{wrapper_opening, wrapper_closing}
+use Rattle.mig_wrap.specs.Canon.{wrapper_opening, wrapper_closing}
 use Rattle.mig_libxl.specs.Spelled.{AcceptedStream}
 use Rattle.mig_machine_api.specs.MachineStates.{IsSameShape}
 use Rattle.mig_machine_api.specs.Rounds.{Rounds, Tight, all_read}

@@ -4,16 +4,16 @@ use Rattle.std.specs.List.{AllByRecursion}
 use Rattle.std.specs.Io.KnownBytes.{Appends}
 use Rattle.mig_bytes.specs.Judged.{Judged}
 use Rattle.mig_bytes.specs.Judged.Judged.{Passes}
-use Rattle.mig_headers.specs.declared.image_fault.ImageCause.{ImageCause}
-use Rattle.mig_headers.specs.declared.image_fault.ImagePlace.{ImagePlace}
-use Rattle.mig_headers.specs.declared.unsound.Unsound.{Unsound}
+use Rattle.mig_causes.specs.declared.image_fault.ImageCause.{ImageCause}
+use Rattle.mig_causes.specs.declared.image_fault.ImagePlace.{ImagePlace}
+use Rattle.mig_causes.specs.declared.unsound.Unsound.{Unsound}
 use Rattle.mig_guest.specs.Hosts.{HostOf, most_saved_width}
 use Rattle.mig_canon.specs.Canon.{Record, headers, text_of}
 use Rattle.mig_pagesink.specs.Told.{FrameTold, telling_record, all_told}
 use Rattle.mig_hosted.specs.Sound.{unsoundness}
 use Rattle.mig_hosted.specs.View.{view}
 use Rattle.mig_image.specs.ImageForm.{host_at}
-use Rattle.mig_libxl.specs.Canon.{wrapper_opening, wrapper_closing}
+use Rattle.mig_wrap.specs.Canon.{wrapper_opening, wrapper_closing}
 use Rattle.mig_libxl.specs.Spelled.{AcceptedStream}
 use Rattle.mig_rounds.specs.Entries.{pfns_sent}
 use Rattle.mig_around.specs.SaveTexts.{IsOtherRecord}

@@ -9,12 +9,12 @@ use Rattle.mig_bytes.specs.Sequences.{onward}
 use Rattle.mig_headers.specs.Contexts.{scan}
 use Rattle.mig_headers.specs.Headers.{marker_rows, image_rows, domain_rows, fault_of_marker, fault_of_image, fault_of_domain, kind_of_number}
 use Rattle.mig_headers.specs.RecordTypes.{is_optional, type_of_number}
-use Rattle.mig_headers.specs.declared.fault.Cause.{Cause}
-use Rattle.mig_headers.specs.declared.fault.Cause.TheVariants.{Truncated, BadLength, Pv32, BadPvInfo, P2mStart, VcpuId, GdtEnts, ParamIndex, TooManyRecords}
-use Rattle.mig_headers.specs.declared.fault.Cause.TheVariants as told
-use Rattle.mig_headers.specs.declared.fault.ContextFault.{ContextFault}
-use Rattle.mig_headers.specs.declared.fault.Place.{Place}
-use Rattle.mig_headers.specs.declared.fault.Place.TheVariants.{ImageHeader, DomainHeader, Record}
+use Rattle.mig_causes.specs.declared.fault.Cause.{Cause}
+use Rattle.mig_causes.specs.declared.fault.Cause.TheVariants.{Truncated, BadLength, Pv32, BadPvInfo, P2mStart, VcpuId, GdtEnts, ParamIndex, TooManyRecords}
+use Rattle.mig_causes.specs.declared.fault.Cause.TheVariants as told
+use Rattle.mig_causes.specs.declared.fault.ContextFault.{ContextFault}
+use Rattle.mig_causes.specs.declared.fault.Place.{Place}
+use Rattle.mig_causes.specs.declared.fault.Place.TheVariants.{ImageHeader, DomainHeader, Record}
 use Rattle.mig_headers.specs.declared.kind.Kind.{Kind}
 use Rattle.mig_headers.specs.declared.record_type.RecordType.{RecordType}
 use Rattle.mig_headers.specs.declared.record_type.RecordType.TheVariants.{PageData, X86PvInfo, X86PvP2mFrames}
@@ -33,11 +33,11 @@ use Rattle.mig_bodies.specs.Shapes.{shape_of, fault_of_content, fault_of_scan, f
 use Rattle.mig_bodies.specs.declared.shape.Shape.{Shape}
 use Rattle.mig_bodies.specs.declared.shape.Shape.TheVariants.{Table, Single, Named, Chain, Other}
 use Rattle.mig_pvtables.specs.Tables.{first_superpage, first_outside}
-use Rattle.mig_restore.specs.Judging.{Before, opening_of, before, fault_of_number, fault_of_fields, fault_of_head, head_at, fault_of_level, fault_of_page, fault_of_data, page_at, entry_at, entries_at, words_at, with_places, lists_of, type_in_word, code_of_type, coded_at, typed_at, body_at, record_at}
-use Rattle.mig_restore.specs.Record.{is_ended, is_verified, placed_content}
-use Rattle.mig_restore.specs.Record.Content.{Nothing, Frames, Sets}
-use Rattle.mig_restore.specs.Stream.{image_of, marker_at, version_at, kind_at, opening_behind, opening_at}
-use Rattle.mig_restore.proofs.Parts.{behind_body, behind_head}
+use Rattle.mig_libxc.specs.Judging.{Before, opening_of, before, fault_of_number, fault_of_fields, fault_of_head, head_at, fault_of_level, fault_of_page, fault_of_data, page_at, entry_at, entries_at, words_at, with_places, lists_of, type_in_word, code_of_type, coded_at, typed_at, body_at, record_at}
+use Rattle.mig_libxc.specs.Record.{is_ended, is_verified, placed_content}
+use Rattle.mig_libxc.specs.Record.Content.{Nothing, Frames, Sets}
+use Rattle.mig_libxc.specs.Stream.{image_of, marker_at, version_at, kind_at, opening_behind, opening_at}
+use Rattle.mig_libxc.proofs.Parts.{behind_body, behind_head}
 use Rattle.mig_passable.specs.Causes.{is_unasked}
 use Rattle.mig_passable.specs.Images.{open_next, open_records, open_image_at}
 use Rattle.mig_passable.proofs.Tells.{Names, Tells, names_rows, names_one, names_two, names_or, names_map, tells_then, tells_checked, tells_part, tells_said, tells_plain, tells_each, tells_onward, tells_placed}

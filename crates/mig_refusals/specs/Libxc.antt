@@ -10,13 +10,13 @@ use Rattle.mig_form.specs.Tests.{computed}
 use Rattle.mig_bytes.specs.Fields.{le16, le32, le64, be16, be32, be64}
 use Rattle.mig_headers.specs.Headers.{marker as all_ones, image_id, page_shift, fault_of_domain, fault_of_image, fault_of_marker, kind_of_number, IsImageHeader, IsDomainHeader}
 use Rattle.mig_headers.specs.RecordTypes.{is_optional, record_row_of, type_number, type_of_number, most_body}
-use Rattle.mig_headers.specs.CauseNumbers.{number_of_cause}
-use Rattle.mig_headers.specs.declared.fault.Cause.{Cause}
-use Rattle.mig_headers.specs.declared.fault.Cause.TheVariants.{Truncated, NotStream, BadId, BadVersion, BigEndian, BadKind, BadPageShift, BodyTooLong, Unsupported, UnknownMandatory, WrongKind, OutOfOrder, BadLength, NoPages, BadPageType, PfnOutside, BadContext, ParamIndex, Missing, TooManyRecords, TooManyFrames}
-use Rattle.mig_headers.specs.declared.fault.ContextFault.{ContextFault}
-use Rattle.mig_headers.specs.declared.fault.ContextFault.TheVariants.{NoHeader, HeaderSize, ShortEntry, NoEnd}
-use Rattle.mig_headers.specs.declared.fault.Place.{Place}
-use Rattle.mig_headers.specs.declared.fault.Place.TheVariants as places
+use Rattle.mig_causes.specs.CauseNumbers.{number_of_cause}
+use Rattle.mig_causes.specs.declared.fault.Cause.{Cause}
+use Rattle.mig_causes.specs.declared.fault.Cause.TheVariants.{Truncated, NotStream, BadId, BadVersion, BigEndian, BadKind, BadPageShift, BodyTooLong, Unsupported, UnknownMandatory, WrongKind, OutOfOrder, BadLength, NoPages, BadPageType, PfnOutside, BadContext, ParamIndex, Missing, TooManyRecords, TooManyFrames}
+use Rattle.mig_causes.specs.declared.fault.ContextFault.{ContextFault}
+use Rattle.mig_causes.specs.declared.fault.ContextFault.TheVariants.{NoHeader, HeaderSize, ShortEntry, NoEnd}
+use Rattle.mig_causes.specs.declared.fault.Place.{Place}
+use Rattle.mig_causes.specs.declared.fault.Place.TheVariants as places
 use Rattle.mig_headers.specs.declared.kind.Kind.{Kind}
 use Rattle.mig_headers.specs.declared.kind.Kind.TheVariants.{Pv, Hvm}
 use Rattle.mig_headers.specs.declared.record_type.RecordType.{RecordType}
@@ -33,11 +33,11 @@ use Rattle.mig_bodies.specs.Shapes.{fault_of_body, parts_of_body}
 use Rattle.mig_records.specs.Faults.{fault_of_count, fault_of_words}
 use Rattle.mig_records.specs.Words.{words}
 use Rattle.mig_order.specs.Order.{some_earlier, is_of, static_records, content_records, vcpu_records}
-use Rattle.mig_restore.specs.Judging.{Opening, Before, before, code_of_type, fault_at_end, fault_of_data, fault_of_head, fault_of_page, lists_of, most_records, type_in_word, with_places}
-use Rattle.mig_restore.specs.Mean.{sent, meant_type}
-use Rattle.mig_restore.specs.Record.{FrameEntry, StreamRecord, Content, is_ended, is_verified, placed_content}
-use Rattle.mig_restore.specs.Record.Content.{Nothing, Frames, Sets}
-use Rattle.mig_restore.specs.Spelled.{Follows}
+use Rattle.mig_libxc.specs.Judging.{Opening, Before, before, code_of_type, fault_at_end, fault_of_data, fault_of_head, fault_of_page, lists_of, most_records, type_in_word, with_places}
+use Rattle.mig_libxc.specs.Mean.{sent, meant_type}
+use Rattle.mig_libxc.specs.Record.{FrameEntry, StreamRecord, Content, is_ended, is_verified, placed_content}
+use Rattle.mig_libxc.specs.Record.Content.{Nothing, Frames, Sets}
+use Rattle.mig_libxc.specs.Spelled.{Follows}
 use Rattle.mig_refusals.specs.LibxcPv.{TableHas, InfoHas, P2mHas, VcpuHas, PvGuestHas}
 
 -- ---- where each cause stands, a line for each; causes that have places stand at several, all others at place 0

@@ -12,9 +12,9 @@ use Rattle.mig_guest.specs.declared.part_code.PartCode.{PartCode}
 use Rattle.mig_headers.proofs.ContextTexts.{in32}
 use Rattle.mig_headers.proofs.RecordNumbers.{numbers_are_inverse}
 use Rattle.mig_headers.specs.RecordTypes.{is_optional, type_of_number}
-use Rattle.mig_headers.specs.declared.fault.Cause.{Cause}
-use Rattle.mig_headers.specs.declared.fault.Place.{Place}
-use Rattle.mig_headers.specs.declared.fault.Place.TheVariants.{Record}
+use Rattle.mig_causes.specs.declared.fault.Cause.{Cause}
+use Rattle.mig_causes.specs.declared.fault.Place.{Place}
+use Rattle.mig_causes.specs.declared.fault.Place.TheVariants.{Record}
 use Rattle.mig_headers.specs.declared.record_type.RecordType.{RecordType}
 use Rattle.mig_headers.specs.declared.record_type.RecordType.TheVariants.{X86PvInfo, X86PvP2mFrames}
 use Rattle.mig_libxl.specs.Among.{image_in}
@@ -26,11 +26,11 @@ use Rattle.mig_pieces.specs.Bodies.{fault_of_record_body, coded_content, typed_c
 use Rattle.mig_policy.specs.PairMaps.{pairs_in}
 use Rattle.mig_records.specs.Faults.{type_allows}
 use Rattle.mig_records.specs.declared.head.RecordHead.{RecordHead}
-use Rattle.mig_restore.proofs.Laws.{fields_fine}
-use Rattle.mig_restore.specs.Judging.{Opening, before, lists_of, code_of_type}
-use Rattle.mig_restore.specs.Record.{StreamRecord, Content}
-use Rattle.mig_restore.specs.Record.Content.{Nothing, Lists}
-use Rattle.mig_restore.specs.Stream.{ImageOf}
+use Rattle.mig_libxc.proofs.Laws.{fields_fine}
+use Rattle.mig_libxc.specs.Judging.{Opening, before, lists_of, code_of_type}
+use Rattle.mig_libxc.specs.Record.{StreamRecord, Content}
+use Rattle.mig_libxc.specs.Record.Content.{Nothing, Lists}
+use Rattle.mig_libxc.specs.Stream.{ImageOf}
 use Rattle.mig_relay.specs.Following.{ComesNext, more, whole, image_next, libxl_next}
 use Rattle.mig_relay.specs.Keeping.{Keeps, KeepsFirst, KeepsHead, KeepsOpen, KeepsOuter, IsBodied, IsOther, top_with, with_one}
 use Rattle.mig_relay.specs.Parts.{AtHead, AtBody, AtPadding, BeginsWithPart, record_with}

@@ -12,13 +12,13 @@ use Rattle.mig_bodies.specs.Shapes.{parts_of_body}
 use Rattle.mig_guest.specs.declared.part_code.PartCode.{PartCode}
 use Rattle.mig_headers.proofs.RecordNumbers.{numbers_are_inverse}
 use Rattle.mig_headers.specs.RecordTypes.{most_body, type_of_number, is_optional}
-use Rattle.mig_headers.specs.Rows.{first_fault}
+use Rattle.mig_causes.specs.Rows.{first_fault}
 use Rattle.mig_headers.specs.declared.record_type.RecordType.{RecordType}
 use Rattle.mig_headers.specs.declared.record_type.RecordType.TheVariants.{X86PvInfo, X86PvP2mFrames}
-use Rattle.mig_headers.specs.declared.fault.Cause.{Cause}
-use Rattle.mig_headers.specs.declared.fault.Cause.TheVariants.{Truncated, BadLength}
-use Rattle.mig_headers.specs.declared.fault.Place.{Place}
-use Rattle.mig_headers.specs.declared.fault.Place.TheVariants.{Record}
+use Rattle.mig_causes.specs.declared.fault.Cause.{Cause}
+use Rattle.mig_causes.specs.declared.fault.Cause.TheVariants.{Truncated, BadLength}
+use Rattle.mig_causes.specs.declared.fault.Place.{Place}
+use Rattle.mig_causes.specs.declared.fault.Place.TheVariants.{Record}
 use Rattle.mig_libxl.specs.Among.{is_libxl_ended, has_emulator, image_among}
 use Rattle.mig_libxl.specs.Behind.{AreBehind, kind_of_image}
 use Rattle.mig_libxl.specs.Stream.StreamOf.{Bare}
@@ -30,14 +30,14 @@ use Rattle.mig_pieces.proofs.Types.{bodies_are_parts}
 use Rattle.mig_records.specs.Faults.{fault_of_length}
 use Rattle.mig_records.specs.Heads.{head_in}
 use Rattle.mig_records.specs.declared.head.RecordHead.{RecordHead}
-use Rattle.mig_restore.specs.Judging.{Opening, before, body_at, code_of_type, fault_of_head, fault_of_fields}
-use Rattle.mig_restore.specs.Record.Content.{Nothing, Sets, Lists}
-use Rattle.mig_restore.specs.Record.{StreamRecord, Content, types_of, is_ended}
-use Rattle.mig_restore.specs.Seen.{IsSeen}
-use Rattle.mig_restore.specs.declared.head.RecordsSeen.{RecordsSeen}
+use Rattle.mig_libxc.specs.Judging.{Opening, before, body_at, code_of_type, fault_of_head, fault_of_fields}
+use Rattle.mig_libxc.specs.Record.Content.{Nothing, Sets, Lists}
+use Rattle.mig_libxc.specs.Record.{StreamRecord, Content, types_of, is_ended}
+use Rattle.mig_libxc.specs.Seen.{IsSeen}
+use Rattle.mig_libxc.specs.declared.head.RecordsSeen.{RecordsSeen}
 use Rattle.mig_headers.specs.declared.kind.Kind.{Kind}
 use Rattle.std.specs.Prelude.{IfSome}
-use Rattle.mig_restore.specs.Stream.{ImageOf, image_of}
+use Rattle.mig_libxc.specs.Stream.{ImageOf, image_of}
 use Rattle.mig_relay.specs.Following.{ComesBehind, ComesNext, image_begins, pages_begin, image_whole, image_next, image_end, inner_end}
 use Rattle.mig_relay.specs.Keeping.{Keeps, KeepsGoing, KeepsHead, KeepsRecords, KeepsOuter, HasNumber, fault_of_empty}
 use Rattle.mig_relay.specs.Parts.{AtHead, AtBody, AtFront, judged_next, record_with, with_body, BeginsWithPart}

@@ -4,19 +4,19 @@ use Rattle.std.specs.Prelude.{nat_le, ◌&&◌}
 use Rattle.std.proofs.Math.Seq.{take-append_seam}
 use Rattle.std.proofs.lemmas.Bool.{leb-true}
 use Rattle.mig_bytes.specs.Judged.{Gives, part}
-use Rattle.mig_bytes.specs.declared.part.Stop.{Stop}
-use Rattle.mig_bytes.specs.declared.part.Stop.TheVariants as stops
+use Rattle.mig_bytes.specs.declared.stop.Stop.{Stop}
+use Rattle.mig_bytes.specs.declared.stop.Stop.TheVariants as stops
 use Rattle.mig_bytes.proofs.Joins.{part_passes}
 use Rattle.mig_headers.specs.Headers.{fault_of_marker}
-use Rattle.mig_headers.specs.declared.fault.Cause.{Cause}
-use Rattle.mig_headers.specs.declared.fault.Cause.TheVariants.{Truncated}
-use Rattle.mig_headers.specs.declared.fault.Place.TheVariants.{ImageHeader}
+use Rattle.mig_causes.specs.declared.fault.Cause.{Cause}
+use Rattle.mig_causes.specs.declared.fault.Cause.TheVariants.{Truncated}
+use Rattle.mig_causes.specs.declared.fault.Place.TheVariants.{ImageHeader}
 use Rattle.mig_headers.specs.declared.kind.Kind.{Kind}
 use Rattle.mig_libxl.specs.Among.{image_among}
-use Rattle.mig_restore.specs.Judging.{before, opening_of}
-use Rattle.mig_restore.specs.Mean.{sent}
-use Rattle.mig_restore.specs.Seen.{IsSeen}
-use Rattle.mig_restore.specs.declared.head.RecordsSeen.{RecordsSeen}
+use Rattle.mig_libxc.specs.Judging.{before, opening_of}
+use Rattle.mig_libxc.specs.Mean.{sent}
+use Rattle.mig_libxc.specs.Seen.{IsSeen}
+use Rattle.mig_libxc.specs.declared.head.RecordsSeen.{RecordsSeen}
 use Rattle.mig_emulators.specs.Content.{LibxlRecord}
 use Rattle.mig_relay.specs.Keeping.{KeepsRecords, KeepsWrapper, HasNumber}
 use Rattle.mig_relay.specs.Parts.{AtVersion}

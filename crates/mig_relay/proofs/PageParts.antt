@@ -4,16 +4,16 @@ use Rattle.std.specs.Option.{option_or}
 use Rattle.mig_bytes.specs.Fields.{le32}
 use Rattle.mig_bytes.specs.Judged.{Judged, ◌>>=◌, part, tried, placed, said_at, each}
 use Rattle.mig_bytes.specs.Judged.Judged.{Passes, Faulty}
-use Rattle.mig_headers.specs.declared.fault.Cause.{Cause}
-use Rattle.mig_headers.specs.declared.fault.Cause.TheVariants.{Truncated}
-use Rattle.mig_headers.specs.declared.fault.Place.TheVariants.{Record}
+use Rattle.mig_causes.specs.declared.fault.Cause.{Cause}
+use Rattle.mig_causes.specs.declared.fault.Cause.TheVariants.{Truncated}
+use Rattle.mig_causes.specs.declared.fault.Place.TheVariants.{Record}
 use Rattle.mig_pagetypes.specs.FrameWords.{word_has_data}
 use Rattle.mig_records.specs.Faults.{fault_of_count, fault_of_words}
 use Rattle.mig_records.specs.Words.{words}
 use Rattle.mig_records.specs.declared.head.RecordHead.{RecordHead}
-use Rattle.mig_restore.specs.Record.{StreamRecord, FrameEntry, Content}
-use Rattle.mig_restore.specs.Record.Content.{Frames}
-use Rattle.mig_restore.specs.Judging.{Opening, before, fault_of_data, fault_of_page, with_places, entry_at, words_at, pages_at}
+use Rattle.mig_libxc.specs.Record.{StreamRecord, FrameEntry, Content}
+use Rattle.mig_libxc.specs.Record.Content.{Frames}
+use Rattle.mig_libxc.specs.Judging.{Opening, before, fault_of_data, fault_of_page, with_places, entry_at, words_at, pages_at}
 use Rattle.mig_relay.specs.Parts.{AtPadding, judged_next, with_body, pages_behind, words_behind, fault_of_list, entry_of_word}
 
 module _ (o : Opening) (records : List StreamRecord) (head : RecordHead) where

@@ -9,14 +9,14 @@ use Rattle.std.proofs.lemmas.List.{drop_more, drop_all, map-append, length-appen
 use Rattle.mig_bytes.specs.Bytes.{padding_len, TakesFew}
 use Rattle.mig_bytes.specs.Fields.{le32, le64}
 use Rattle.mig_bytes.specs.Judged.{Judged, ◌>>=◌, part, Gives}
-use Rattle.mig_bytes.specs.declared.part.Stop.{Stop}
+use Rattle.mig_bytes.specs.declared.stop.Stop.{Stop}
 use Rattle.mig_bytes.proofs.Joins.{any_stop}
 use Rattle.mig_guest.specs.Guests.{GuestOf}
-use Rattle.mig_headers.proofs.FirstFaults.{rows_fine}
-use Rattle.mig_headers.specs.declared.fault.Cause.{Cause}
-use Rattle.mig_headers.specs.declared.fault.Cause.TheVariants.{Truncated, BadLength}
-use Rattle.mig_headers.specs.declared.fault.Place.{Place}
-use Rattle.mig_headers.specs.declared.fault.Place.TheVariants.{Record}
+use Rattle.mig_causes.proofs.FirstFaults.{rows_fine}
+use Rattle.mig_causes.specs.declared.fault.Cause.{Cause}
+use Rattle.mig_causes.specs.declared.fault.Cause.TheVariants.{Truncated, BadLength}
+use Rattle.mig_causes.specs.declared.fault.Place.{Place}
+use Rattle.mig_causes.specs.declared.fault.Place.TheVariants.{Record}
 use Rattle.mig_headers.specs.declared.kind.Kind.{Kind}
 use Rattle.mig_libxl.specs.Among.{image_among}
 use Rattle.mig_pagetypes.specs.FrameWords.{word_has_data}
@@ -25,15 +25,15 @@ use Rattle.mig_pagetypes.specs.declared.page_type.PageType.{PageType}
 use Rattle.mig_records.specs.Faults.{fault_of_count, fault_of_words, count_rows}
 use Rattle.mig_records.specs.Words.{words, data_len_of}
 use Rattle.mig_records.specs.declared.head.RecordHead.{RecordHead}
-use Rattle.mig_restore.proofs.Arrivals.{ended_more}
-use Rattle.mig_restore.proofs.Meaning.{one_more_record}
-use Rattle.mig_restore.specs.Judging.{Opening, before, type_in_word, fault_of_data, fault_of_level, fault_of_page, with_places}
-use Rattle.mig_restore.specs.Mean.{sent, put_content, meant_type}
-use Rattle.mig_restore.specs.Record.{StreamRecord, FrameEntry, types_of, is_verified, placed_content}
-use Rattle.mig_restore.specs.Record.Content.{Frames}
-use Rattle.mig_restore.specs.Seen.{IsSeen}
-use Rattle.mig_restore.specs.Stream.{ImageOf}
-use Rattle.mig_restore.specs.declared.head.RecordsSeen.{RecordsSeen}
+use Rattle.mig_libxc.proofs.Meaning.{ended_more}
+use Rattle.mig_libxc.proofs.Meaning.{one_more_record}
+use Rattle.mig_libxc.specs.Judging.{Opening, before, type_in_word, fault_of_data, fault_of_level, fault_of_page, with_places}
+use Rattle.mig_libxc.specs.Mean.{sent, put_content, meant_type}
+use Rattle.mig_libxc.specs.Record.{StreamRecord, FrameEntry, types_of, is_verified, placed_content}
+use Rattle.mig_libxc.specs.Record.Content.{Frames}
+use Rattle.mig_libxc.specs.Seen.{IsSeen}
+use Rattle.mig_libxc.specs.Stream.{ImageOf}
+use Rattle.mig_libxc.specs.declared.head.RecordsSeen.{RecordsSeen}
 use Rattle.mig_relay.specs.Following.{ComesBehind, ComesNext, CountDue, FillsBody, WordsDue, bytes_behind_head, due, head_spot, in_hand, pages_to_come, to_come, more, whole as last_bytes, image_next}
 use Rattle.mig_relay.specs.Keeping.{Keeps, KeepsWords, HasNumber, KeepsRecords, KeepsHead, KeepsOuter, IsPages}
 use Rattle.mig_relay.specs.Parts.{AtHead, AtFront, AtWords, AtPages, judged_next, record_with, fault_of_list, entry_of_word, BeginsWithPart}

@@ -13,10 +13,10 @@ use Rattle.mig_emulators.specs.Content.{LibxlRecord, LibxlContent}
 use Rattle.mig_emulators.specs.Content.LibxlContent.{Nothing, Image, Pairs, Context}
 use Rattle.mig_headers.proofs.HeaderLaws.{marker_of}
 use Rattle.mig_headers.specs.Headers.{fault_of_marker, fault_of_libxl}
-use Rattle.mig_headers.specs.declared.fault.Cause.{Cause}
-use Rattle.mig_headers.specs.declared.fault.Cause.TheVariants.{Truncated}
-use Rattle.mig_headers.specs.declared.fault.Place.{Place}
-use Rattle.mig_headers.specs.declared.fault.Place.TheVariants.{ImageHeader, LibxlHeader, LibxlRecord as AtRecord}
+use Rattle.mig_causes.specs.declared.fault.Cause.{Cause}
+use Rattle.mig_causes.specs.declared.fault.Cause.TheVariants.{Truncated}
+use Rattle.mig_causes.specs.declared.fault.Place.{Place}
+use Rattle.mig_causes.specs.declared.fault.Place.TheVariants.{ImageHeader, LibxlHeader, LibxlRecord as AtRecord}
 use Rattle.mig_libxl.specs.Among.{is_libxl_ended}
 use Rattle.mig_libxl.specs.Judging.{emulator_key, fault_of_libxl_head, libxl_head_at}
 use Rattle.mig_libxl.specs.Stream.{StreamOf}
@@ -28,9 +28,9 @@ use Rattle.mig_pieces.specs.Bodies.{fault_of_libxl_body}
 use Rattle.mig_policy.specs.PairMaps.{pairs_in}
 use Rattle.mig_records.specs.Heads.{head_in}
 use Rattle.mig_records.specs.declared.head.RecordHead.{RecordHead}
-use Rattle.mig_restore.specs.Judging.{Opening}
-use Rattle.mig_restore.specs.Record.{StreamRecord, is_ended}
-use Rattle.mig_restore.specs.Stream.{ImageOf, image_of}
+use Rattle.mig_libxc.specs.Judging.{Opening}
+use Rattle.mig_libxc.specs.Record.{StreamRecord, is_ended}
+use Rattle.mig_libxc.specs.Stream.{ImageOf, image_of}
 use Rattle.mig_relay.specs.Parts.{AtMarker, AtVersion, AtHead, BeginsWithPart}
 use Rattle.mig_relay.specs.Spots.{Alone, Behind, AtLibxlHeader, AtLibxlHead, AtLibxlBody, AtLibxlPadding, AtStart, InImage, AtEnd, spot, carry, image_record, libxl_padded, is_ident, fault_of_first}
 use Rattle.mig_relay.proofs.Unrolls.{marker_is, ended}

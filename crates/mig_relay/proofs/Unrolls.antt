@@ -9,18 +9,18 @@ use Rattle.mig_bytes.proofs.Joins.{said_part, plain_part, no_bytes}
 use Rattle.mig_relay.proofs.Binds.{bind_assoc, placed_bind}
 use Rattle.mig_bytes.proofs.Sequences.{over, goes_on}
 use Rattle.mig_headers.specs.Headers.{fault_of_marker, fault_of_image, fault_of_domain, kind_of_number}
-use Rattle.mig_headers.specs.declared.fault.Cause.{Cause}
-use Rattle.mig_headers.specs.declared.fault.Cause.TheVariants.{Truncated}
-use Rattle.mig_headers.specs.declared.fault.Place.{Place}
-use Rattle.mig_headers.specs.declared.fault.Place.TheVariants.{ImageHeader, DomainHeader, Record}
+use Rattle.mig_causes.specs.declared.fault.Cause.{Cause}
+use Rattle.mig_causes.specs.declared.fault.Cause.TheVariants.{Truncated}
+use Rattle.mig_causes.specs.declared.fault.Place.{Place}
+use Rattle.mig_causes.specs.declared.fault.Place.TheVariants.{ImageHeader, DomainHeader, Record}
 use Rattle.mig_passable.specs.Images.{open_next, open_records, open_image_at}
 use Rattle.mig_passable.proofs.Images.{open_shrinks}
 use Rattle.mig_records.specs.Heads.{head_in}
 use Rattle.mig_records.specs.declared.head.RecordHead.{RecordHead}
-use Rattle.mig_restore.specs.Judging.{Opening, opening_of, before, fault_of_head, head_at, record_at, body_at}
-use Rattle.mig_restore.specs.Record.{StreamRecord, Content, is_ended}
-use Rattle.mig_restore.specs.Stream.{image_of, opening_at, opening_behind, marker_at, version_at, kind_at}
-use Rattle.mig_restore.proofs.Parts.{begins, behind_head, behind_body}
+use Rattle.mig_libxc.specs.Judging.{Opening, opening_of, before, fault_of_head, head_at, record_at, body_at}
+use Rattle.mig_libxc.specs.Record.{StreamRecord, Content, is_ended}
+use Rattle.mig_libxc.specs.Stream.{image_of, opening_at, opening_behind, marker_at, version_at, kind_at}
+use Rattle.mig_libxc.proofs.Parts.{begins, behind_head, behind_body}
 use Rattle.mig_relay.specs.Parts.{AtMarker, AtVersion, AtKind, AtHead, AtBody, AtPadding, judged_next, record_with, with_record, with_body, padded, BeginsWithPart}
 
 -- ---- headers

@@ -5,7 +5,7 @@ use Rattle.mig_bytes.specs.Bytes.{padding_len}
 use Rattle.mig_bytes.specs.Fields.{le32}
 use Rattle.mig_emulators.specs.Content.{LibxlRecord}
 use Rattle.mig_headers.specs.RecordTypes.{most_body}
-use Rattle.mig_headers.specs.declared.fault.Cause.{Cause}
+use Rattle.mig_causes.specs.declared.fault.Cause.{Cause}
 use Rattle.mig_libxl.specs.Among.{is_libxl_ended, image_in, image_among}
 use Rattle.mig_libxl.specs.Behind.{AreBehind}
 use Rattle.mig_libxl.specs.Stream.{StreamOf, image_of_stream}
@@ -14,10 +14,10 @@ use Rattle.mig_pagetypes.specs.FrameWords.{word_has_data}
 use Rattle.mig_pieces.specs.Begun.{IsBegunBody, piece_len}
 use Rattle.mig_pieces.specs.Bodies.{fault_of_record_body, fault_of_libxl_body}
 use Rattle.mig_records.specs.declared.head.RecordHead.{RecordHead}
-use Rattle.mig_restore.specs.Judging.{Opening, before, fault_of_fields, most_records, with_places}
-use Rattle.mig_restore.specs.Record.{StreamRecord, FrameEntry, types_of, is_ended}
-use Rattle.mig_restore.specs.Seen.{IsSeen}
-use Rattle.mig_restore.specs.Stream.{ImageOf}
+use Rattle.mig_libxc.specs.Judging.{Opening, before, fault_of_fields, most_records, with_places}
+use Rattle.mig_libxc.specs.Record.{StreamRecord, FrameEntry, types_of, is_ended}
+use Rattle.mig_libxc.specs.Seen.{IsSeen}
+use Rattle.mig_libxc.specs.Stream.{ImageOf}
 use Rattle.mig_relay.specs.Parts.{Next, AtMarker, AtVersion, AtKind, AtHead, AtBody, AtFront, AtWords, AtPages, AtPadding, record_with}
 use Rattle.mig_relay.specs.Spots.{Outer, Alone, Behind, Spot, AtStart, AtLibxlHeader, AtLibxlHead, AtLibxlBody, AtLibxlPadding, InImage, AtEnd}
 use Rattle.mig_relay.specs.declared.state.Relay.{Relay}

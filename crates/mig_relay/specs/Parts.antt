@@ -5,20 +5,20 @@ use Rattle.std.specs.Option.{option_or}
 use Rattle.mig_bytes.specs.Bytes.{padding_len}
 use Rattle.mig_bytes.specs.Judged.{Judged, ◌>>=◌, part, tried, each, placed, said_at}
 use Rattle.mig_bytes.specs.Judged.Judged.{Passes}
-use Rattle.mig_headers.specs.declared.fault.Cause.{Cause}
-use Rattle.mig_headers.specs.declared.fault.Cause.TheVariants.{Truncated}
-use Rattle.mig_headers.specs.declared.fault.Place.{Place}
-use Rattle.mig_headers.specs.declared.fault.Place.TheVariants.{DomainHeader, Record}
+use Rattle.mig_causes.specs.declared.fault.Cause.{Cause}
+use Rattle.mig_causes.specs.declared.fault.Cause.TheVariants.{Truncated}
+use Rattle.mig_causes.specs.declared.fault.Place.{Place}
+use Rattle.mig_causes.specs.declared.fault.Place.TheVariants.{DomainHeader, Record}
 use Rattle.mig_headers.specs.declared.kind.Kind.{Kind}
 use Rattle.mig_pagetypes.specs.FrameWords.{word_pfn}
 use Rattle.mig_passable.specs.Images.{open_image_at, open_records}
 use Rattle.mig_records.specs.Faults.{fault_of_words}
 use Rattle.mig_records.specs.Words.{words}
 use Rattle.mig_records.specs.declared.head.RecordHead.{RecordHead}
-use Rattle.mig_restore.specs.Judging.{Opening, opening_of, before, body_at, type_in_word, fault_of_data, words_at, with_places, entry_at, pages_at}
-use Rattle.mig_restore.specs.Record.{StreamRecord, FrameEntry, Content, types_of, is_verified, placed_content}
-use Rattle.mig_restore.specs.Record.Content.{Frames}
-use Rattle.mig_restore.specs.Stream.{ImageOf, opening_behind, kind_at}
+use Rattle.mig_libxc.specs.Judging.{Opening, opening_of, before, body_at, type_in_word, fault_of_data, words_at, with_places, entry_at, pages_at}
+use Rattle.mig_libxc.specs.Record.{StreamRecord, FrameEntry, Content, types_of, is_verified, placed_content}
+use Rattle.mig_libxc.specs.Record.Content.{Frames}
+use Rattle.mig_libxc.specs.Stream.{ImageOf, opening_behind, kind_at}
 
 -- What comes next behind a faultless front of an image, and what of the front decides how it is judged: the marker; the
 -- rest of the image header; the domain header; the head of a record; its body; the words of a PAGE_DATA, which has so many;

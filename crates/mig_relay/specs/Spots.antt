@@ -7,15 +7,15 @@ use Rattle.mig_bytes.specs.Judged.Judged.{Passes}
 use Rattle.mig_emulators.specs.Content.{LibxlRecord, LibxlContent}
 use Rattle.mig_emulators.specs.Content.LibxlContent.{Image}
 use Rattle.mig_headers.specs.Headers.{libxl_ident, fault_of_marker}
-use Rattle.mig_headers.specs.declared.fault.Cause.{Cause}
-use Rattle.mig_headers.specs.declared.fault.Cause.TheVariants.{Truncated}
-use Rattle.mig_headers.specs.declared.fault.Place.{Place}
-use Rattle.mig_headers.specs.declared.fault.Place.TheVariants.{LibxlRecord as AtRecord}
+use Rattle.mig_causes.specs.declared.fault.Cause.{Cause}
+use Rattle.mig_causes.specs.declared.fault.Cause.TheVariants.{Truncated}
+use Rattle.mig_causes.specs.declared.fault.Place.{Place}
+use Rattle.mig_causes.specs.declared.fault.Place.TheVariants.{LibxlRecord as AtRecord}
 use Rattle.mig_libxl.specs.Stream.{StreamOf}
 use Rattle.mig_libxl.specs.Stream.StreamOf.{Bare}
 use Rattle.mig_passable.specs.Streams.{open_stream_at, open_wrapped, open_libxl_records, open_body}
 use Rattle.mig_records.specs.declared.head.RecordHead.{RecordHead}
-use Rattle.mig_restore.specs.Stream.{ImageOf}
+use Rattle.mig_libxc.specs.Stream.{ImageOf}
 use Rattle.mig_relay.specs.Parts.{Next, AtWords, judged_next}
 
 -- an image that stands alone, or behind these records of a libxl stream and a head of LIBXC_CONTEXT

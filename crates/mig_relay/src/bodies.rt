@@ -10,13 +10,14 @@ ghost use Rattle.mig_relay.specs.Parts.{AtBody, AtPadding, record_with};
 ghost use Rattle.mig_relay.specs.Spots.{Outer, AtLibxlBody, AtLibxlPadding, InImage};
 ghost use Rattle.mig_relay.specs.Steps.{StepMoved, RisesOnFault};
 ghost use Rattle.mig_relay.specs.declared.state.Coming.TheVariants as comes;
-ghost use Rattle.mig_restore.specs.Judging.{Opening, before, most_records};
-ghost use Rattle.mig_restore.specs.Record.{StreamRecord, Content};
+ghost use Rattle.mig_libxc.specs.Judging.{Opening, before, most_records};
+ghost use Rattle.mig_libxc.specs.Record.{StreamRecord, Content};
 
 use crate::answer::{RelayAnswer, Step};
 use crate::state::{Coming, Relay, answer};
-use mig_bytes::{Sink, Source, pad_len, take_part, u32_le};
-use mig_headers::{Cause, Place};
+use mig_bytes::{Sink, Source, pad_len, u32_le};
+use mig_causes::{Cause, Place};
+use mig_io::take_part;
 use mig_libxl::RecordsBehind;
 use mig_records::RecordHead;
 

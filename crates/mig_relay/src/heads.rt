@@ -10,13 +10,14 @@ ghost use Rattle.mig_relay.specs.Parts.{AtHead};
 ghost use Rattle.mig_relay.specs.Spots.{Outer, AtLibxlHead, InImage};
 ghost use Rattle.mig_relay.specs.Steps.{StepMoved, RisesOnFault};
 ghost use Rattle.mig_relay.specs.declared.state.Coming.TheVariants as comes;
-ghost use Rattle.mig_restore.specs.Judging.{Opening, before, most_records};
-ghost use Rattle.mig_restore.specs.Record.{StreamRecord, types_of};
+ghost use Rattle.mig_libxc.specs.Judging.{Opening, before, most_records};
+ghost use Rattle.mig_libxc.specs.Record.{StreamRecord, types_of};
 
 use crate::answer::{RelayAnswer, Step};
 use crate::state::{Coming, Relay, answer};
-use mig_bytes::{Sink, Source, take_part};
-use mig_headers::{Cause, Place};
+use mig_bytes::{Sink, Source};
+use mig_causes::{Cause, Place};
+use mig_io::take_part;
 use mig_libxl::{EMULATOR_CONTEXT, EMULATOR_XENSTORE_DATA, RecordsBehind, libxl_head_fault};
 use mig_pieces::BodySeen;
 use mig_records::RecordHead;

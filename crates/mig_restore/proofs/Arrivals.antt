@@ -1,23 +1,18 @@
 -- The front of a stream that the reader has behind it.
-use Rattle.mig_restore.proofs.Common.{arith, ◌≡◌, ℕ, List, [], ◌∷◌, ◌++◌, length, Bool, true, false, nat_eq, Option, None, is_some, Result, Ok, Err, refl, sym, ap, ◌∙◌, ◌||◌, list_any, map-append, length-map, common_steps, Stop, stop_at, Gives, Passes, Cause, Record, GuestOf, RecordsSeen, put_record, empty_guest, StreamRecord, types_of, is_ended, is_verified, Opening, differs_behind, IsSeen, image_of, records_at, IsReading, Follows}
-use Rattle.std.proofs.lemmas.List.Folds.{list_any-append}
+use Rattle.mig_restore.proofs.Common.{◌≡◌, ℕ, List, [], ◌∷◌, ◌++◌, length, Bool, true, false, nat_eq, Option, None, is_some, Result, Ok, Err, refl, sym, ap, ◌∙◌, length-map, Stop, stop_at, Gives, Passes, Cause, Record, GuestOf, RecordsSeen, put_record, empty_guest, StreamRecord, types_of, is_ended, is_verified, Opening, differs_behind, IsSeen, image_of, records_at, IsReading, Follows}
 use Rattle.mig_bytes.proofs.Arrivals as fronts
 use Rattle.mig_bytes.proofs.Joins.{any_stop, mapped, stop}
 use Rattle.mig_bytes.proofs.Placed.{placed_fine, placed_stops}
 use Rattle.mig_bytes.specs.Sequences.{sequence_at}
 use Rattle.mig_pvtables.specs.Blank.{blank}
 use Rattle.mig_restore.specs.declared.read.Reading.{Reading}
-use Rattle.mig_restore.specs.Mean.{sent, differs_of}
-use Rattle.mig_restore.specs.Judging.{next_at}
-use Rattle.mig_restore.specs.Stream.{placed_next}
-use Rattle.mig_restore.proofs.Compared.{IsUnchecked, judged_too, next_placed, some_differs, unchecked_more, differs_more}
-use Rattle.mig_restore.proofs.Laws.{finds}
-use Rattle.mig_restore.proofs.Meaning.{one_more_record, meant_as_sent}
-
-pub ended_more : (records : List StreamRecord) (r : StreamRecord) → is_ended records ≡ false → is_ended (records ++ r ∷ []) ≡ nat_eq r.type 0
-ended_more records r going =
-    ap (list_any (λ t. nat_eq t 0)) (map-append (λ (x : StreamRecord). x.type) records (r ∷ [])) ∙ list_any-append (λ t. nat_eq t 0) (types_of records) (r.type ∷ [])
-    ∙ ap (λ b. b || (nat_eq r.type 0 || false)) going ∙ grind (arith, common_steps)
+use Rattle.mig_libxc.specs.Mean.{sent, differs_of}
+use Rattle.mig_libxc.specs.Judging.{next_at}
+use Rattle.mig_libxc.specs.Stream.{placed_next}
+use Rattle.mig_libxc.proofs.Compared.{IsUnchecked, next_placed, some_differs, unchecked_more}
+use Rattle.mig_restore.proofs.Compared.{judged_too, differs_more}
+use Rattle.mig_libxc.proofs.Laws.{finds}
+use Rattle.mig_libxc.proofs.Meaning.{ended_more, one_more_record, meant_as_sent}
 
 abbrev is_last : StreamRecord → Bool
 is_last r = nat_eq r.type 0

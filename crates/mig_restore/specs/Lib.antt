@@ -1,8 +1,3 @@
 pub mod Begun
 pub mod Compared
-pub mod Judging
-pub mod Mean
-pub mod Record
-pub mod Seen
-pub mod Spelled
-pub mod Stream
+pub mod Reads

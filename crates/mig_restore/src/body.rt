@@ -3,8 +3,8 @@ ghost use Rattle.std.specs.List.{All, AllByRecursion};
 ghost use Rattle.mig_bytes.specs.Bytes.{AreBytes};
 ghost use Rattle.mig_bytes.specs.Faults.{RisesOnReadFault};
 ghost use Rattle.mig_bytes.specs.Judged.{Gives, each, plain_at};
-ghost use Rattle.mig_headers.specs.declared.fault.Cause.TheVariants.{Truncated};
-ghost use Rattle.mig_bytes.specs.declared.part.Stop.TheVariants.{Memory};
+ghost use Rattle.mig_causes.specs.declared.fault.Cause.TheVariants.{Truncated};
+ghost use Rattle.mig_bytes.specs.declared.stop.Stop.TheVariants.{Memory};
 ghost use Rattle.mig_headers.specs.RecordTypes.{record_row_of, type_of_number, most_body};
 ghost use Rattle.mig_headers.specs.declared.record_type.RecordType.{RecordType};
 ghost use Rattle.mig_guest.specs.PartCodes.{row_of, code_number};
@@ -12,25 +12,23 @@ ghost use Rattle.mig_guest.specs.Formed.{is_emulator_code};
 ghost use Rattle.mig_bodies.specs.Layouts.{IsSmallKey};
 ghost use Rattle.mig_bodies.specs.Shapes.{fault_of_body, parts_of_body, set_parts, HasBodyLength};
 ghost use Rattle.mig_records.specs.Faults.{fault_of_length};
-ghost use Rattle.mig_records.specs.Words.{words as words_in};
 ghost use Rattle.mig_headers.specs.declared.kind.Kind.TheVariants.{Pv};
-ghost use Rattle.mig_pagetypes.specs.FrameWords.{word_pfn};
-ghost use Rattle.mig_pagetypes.specs.PageTypes.{level_of};
 ghost use Rattle.mig_restore.specs.Begun.{AreEntriesBegun, AreEntriesSet};
-ghost use Rattle.mig_restore.specs.Mean.{meant_type, put_entry, put_entries, put_content, Grows};
-ghost use Rattle.mig_restore.specs.Judging.{sets_at, info_at, p2m_at, words_at, type_in_word, fault_of_level, with_places, entry_at, list_at, pages_at, typed_at, body_at};
-ghost use Rattle.mig_restore.specs.Record.Content.{Nothing};
-ghost use Rattle.mig_restore.specs.Spelled.{IsGoodWord};
+ghost use Rattle.mig_libxc.specs.Mean.{put_entry, put_entries, put_content, Grows};
+ghost use Rattle.mig_libxc.specs.Judging.{sets_at, info_at, p2m_at, words_at, with_places, entry_at, list_at, pages_at, typed_at, body_at};
+ghost use Rattle.mig_libxc.specs.Record.Content.{Nothing};
+ghost use Rattle.mig_libxc.specs.Spelled.{IsGoodWord};
 
 use mig_bodies::{body_fault, p2m_fault, pv_info_fault, read_body, read_p2m};
-use mig_bytes::{ReadFailed, Source, Stop, skip, take_long, take_part, u32_le, u64_le};
+use mig_bytes::{ReadFailed, Source, Stop, u32_le};
+use mig_causes::Cause;
 use mig_guest::{Guest, PartCode};
-use mig_headers::{Cause, Kind, RecordType, is_optional};
+use mig_headers::{Kind, RecordType, is_optional};
 use mig_hvm::{read_context, scan_context};
-use mig_pagetypes::{PageType, decode_word};
-use mig_pvtables::check_table;
+use mig_io::{skip, take_long, take_part};
+use mig_libxc::{meant, page_fault, pfn_in, type_in, words_of};
 use mig_records::{RecordHead, count_fault, data_len, words_fault};
-use std::alloc::{AllocError, Global};
+use std::alloc::Global;
 
 /// Does nothing. That bytes are below 256 is what makes a guest that they are set in one of bytes.
 fn are_bytes(bytes: &[u8])
@@ -146,19 +144,6 @@ fn skip_body<S: Source>(src: &mut S, len: u32) -> Result<(), Stop<Cause>>
 
 // ---- frames
 
-/// The words of 8 bytes, low byte first, that these bytes begin with.
-pub fn words_of(alloc: Global, bytes: &[u8], count: usize) -> Result<Vec<u64>, AllocError>
-    requires { 8 * count ≤ length bytes.now }
-    ensures words { IfOk result (λ v. v.items ≡ words_in count bytes.now) }
-    ensures len { IfOk result (λ v. vec_len v ≡ count) }
-{
-    let mut list = Vec::with_capacity(alloc, count)?;
-    for k in 0..count {
-        list.push(u64_le(bytes, 8 * k))?;
-    }
-    Ok(list)
-}
-
 /// Takes so many words.
 fn take_words<S: Source>(alloc: Global, src: &mut S, count: u32) -> Result<Vec<u64>, Stop<Cause>>
     requires { 8 * count ≤ most_body }
@@ -171,47 +156,6 @@ fn take_words<S: Source>(alloc: Global, src: &mut S, count: u32) -> Result<Vec<u
         Ok(list) => Ok(list),
         Err(_) => Err(Stop::Memory),
     }
-}
-
-/// The type in a word; one whose type is reserved has no page.
-pub fn type_in(word: u64) -> PageType
-    ensures { result ≡ type_in_word word }
-{
-    match decode_word(word) {
-        Ok(frame) => frame.kind,
-        Err(_) => PageType::Xtab,
-    }
-}
-
-/// The frame number in a word.
-pub(crate) fn pfn_in(word: u64) -> u64
-    ensures { result ≡ word_pfn word }
-{
-    word % (1 << 52)
-}
-
-/// The type that a frame has in a guest of this kind.
-pub fn meant(kind: Kind, in_stream: PageType) -> PageType
-    ensures { result ≡ meant_type kind in_stream }
-{
-    match kind {
-        Kind::Pv => in_stream,
-        Kind::Hvm => {
-            if in_stream.has_data() {
-                PageType::Notab
-            } else {
-                in_stream
-            }
-        }
-    }
-}
-
-/// What is wrong with a page at this place of its record, where its type is a table's.
-pub fn page_fault(kind: PageType, page: &[u8; 4096], place: u32, top: u64) -> Option<Cause>
-    ensures { result ≡ fault_of_level top place (level_of kind) page.now }
-{
-    let level = kind.table_level()?;
-    check_table(page, level, place, top)
 }
 
 /// Takes the page that goes with the word at this place of its record, where its type has data, and sets the frame. A

@@ -1,25 +1,32 @@
-ghost use Rattle.std.specs.Prelude.{◌≡◌, ℕ, ◌<◌, ◌+◌, ◌^◌, ◌==◌, ◌∷◌, [], ◌++◌, List, ⊤, true, None, is_some, IfOk, IfNone, OnOk, IsErrOf};
+ghost use Rattle.std.specs.Prelude.{◌≡◌, ℕ, ◌≤◌, ◌<◌, ◌+◌, ◌==◌, ◌∷◌, [], ◌++◌, List, ⊤, true, None, Some, is_some, IfOk, OnOk, IsErrOf};
 ghost use Rattle.mig_bytes.specs.Answers.{or_stop};
 ghost use Rattle.mig_bytes.specs.Faults.{RisesOnReadFault};
 ghost use Rattle.mig_bytes.specs.Judged.{Gives};
-ghost use Rattle.mig_bytes.specs.declared.part.Stop.TheVariants.{Memory};
+ghost use Rattle.mig_bytes.specs.declared.stop.Stop.TheVariants.{Memory};
+ghost use Rattle.mig_headers.specs.RecordTypes.{record_row_of, type_of_number, most_body};
+ghost use Rattle.mig_headers.specs.declared.record_type.RecordType.{RecordType};
+ghost use Rattle.mig_records.specs.Faults.{fault_of_length};
+ghost use Rattle.mig_records.specs.Heads.{head_in};
 ghost use Rattle.mig_pvtables.specs.Faults.{fault_of_guest};
 ghost use Rattle.mig_pvtables.specs.Whole.{IsStreamedBare};
-ghost use Rattle.mig_restore.specs.Mean.{sent, put_record, IsBegun, Grows};
+ghost use Rattle.mig_libxc.specs.Mean.{sent, put_record, IsBegun, Grows};
 ghost use Rattle.mig_restore.specs.Compared.{differs_behind, IsWithinRecords};
-ghost use Rattle.mig_restore.specs.Record.{StreamRecord, types_of, is_verified};
-ghost use Rattle.mig_restore.specs.Judging.{Opening, Before, most_records, opening_of, record_at, next_at};
-ghost use Rattle.mig_restore.specs.Seen.{IsSeen};
-ghost use Rattle.mig_restore.specs.Stream.{ReadsImage, ReadsRest, IsReading, image_at, image_behind, records_at, opening_at, opening_behind, marker_at, version_at, kind_at};
+ghost use Rattle.mig_libxc.specs.Record.{StreamRecord, types_of, is_verified};
+ghost use Rattle.mig_libxc.specs.Judging.{Opening, Before, most_records, opening_of, head_at, record_at, next_at};
+ghost use Rattle.mig_libxc.specs.Seen.{IsSeen};
+ghost use Rattle.mig_libxc.specs.Stream.{image_at, image_behind, records_at, opening_at, opening_behind, marker_at, version_at, kind_at};
+ghost use Rattle.mig_restore.specs.Reads.{ReadsImage, ReadsRest, IsReading};
 
 use crate::answer::StreamAnswer;
 use crate::check::{counted, take_placed};
-use crate::head::RecordsSeen;
-use mig_bytes::{Source, Stop, answer_for, take_part};
+use mig_bytes::{Source, Stop, answer_for};
+use mig_causes::{Cause, Place};
 use mig_guest::Guest;
-use mig_headers::{Cause, DomainHeader, ImageHeader, Kind, Place};
+use mig_headers::{DomainHeader, ImageHeader, Kind};
+use mig_io::take_part;
+use mig_libxc::RecordsSeen;
 use mig_pvtables::{WholeAnswer, blank, whole};
-use mig_records::take_padding;
+use mig_records::{RecordHead, take_head, take_padding};
 use std::alloc::Global;
 
 /// The type of the record that ends an image.
@@ -36,6 +43,26 @@ pub struct Reading {
     pub records: u32,
     /// How many of the entries behind VERIFY differ from the frames that were sent; none without a VERIFY.
     pub differs: Option<u64>,
+}
+
+/// Takes the next record's head.
+fn read_head<S: Source>(src: &mut S, seen: &mut RecordsSeen) -> Result<RecordHead, Stop<Cause>>
+    ensures read { (b : Before) → IsSeen seen.old b.opening b.types →
+        Gives (λ h head. h ≡ head_in head) (S.left src.old) (S.left src.new) (head_at b) result }
+    ensures seen { IfOk result (λ h. (o : Opening) (types : List ℕ) → IsSeen seen.old o types → IsSeen seen.new o (types ++ h.kind ∷ [])) }
+    ensures len { IfOk result (λ h. h.len ≤ most_body) }
+    ensures allowed { IfOk result (λ h. fault_of_length h.kind h.len ≡ None) }
+    ensures count { OnOk result ((seen.new.records ≡ seen.old.records + 1) × (seen.old.records < most_records)) }
+    ensures of_kind { IfOk result (λ h. (this : RecordType) → type_of_number h.kind ≡ Some this → (record_row_of this).of_kind seen.old.kind ≡ true) }
+    ensures kind { seen.new.kind ≡ seen.old.kind }
+    ensures faults { RisesOnReadFault (S.faults src.old) (S.faults src.new) result }
+    ensures takes_no_memory { ¬ IsErrOf result Memory }
+{
+    let head = take_head(src)?;
+    match seen.judge(head) {
+        Ok(()) => Ok(head),
+        Err(cause) => Err(Stop::Refused(cause)),
+    }
 }
 
 /// Takes a record, and keeps what it says; behind a VERIFY it counts the entries that differ. Answers its type.
@@ -57,7 +84,7 @@ fn take_record<S: Source>(
     ensures kind { seen.new.kind ≡ seen.old.kind }
     ensures faults { RisesOnReadFault (S.faults src.old) (S.faults src.new) result }
 {
-    let head = seen.read_head(src)?;
+    let head = read_head(src, seen)?;
     let differ = take_placed(alloc, src, head, differs.is_some(), guest)?;
     take_padding(src, head.len)?;
     *differs = counted(*differs, head.kind, differ);

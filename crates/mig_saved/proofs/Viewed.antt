@@ -16,11 +16,11 @@ use Rattle.mig_hosted.specs.View.{view, hvm_view, top_of}
 use Rattle.mig_hosted.proofs.HostViews.{hvm_viewed}
 use Rattle.mig_hosted.proofs.ViewedGuests.{viewed_whole}
 use Rattle.mig_canon.specs.Canon.{Frame}
-use Rattle.mig_restore.specs.Spelled.{Accepted, IsComplete}
+use Rattle.mig_libxc.specs.Spelled.{Accepted, IsComplete}
 use Rattle.mig_canon_laws.specs.Batched.{IsSendableBatch, TellFrames, frames_told, batched}
 use Rattle.mig_canon_laws.proofs.Batched.{batched_is_accepted}
-use Rattle.mig_libxl.specs.Canon.{bare_guest}
-use Rattle.mig_libxl.proofs.Canon.{bare_is, bare_plain, bare_whole, batched_bare}
+use Rattle.mig_wrap.specs.Canon.{bare_guest}
+use Rattle.mig_wrap.proofs.Canon.{bare_is, bare_plain, bare_whole, batched_bare}
 use Rattle.mig_pagesink.specs.Told.{FrameTold, telling_frames, all_told}
 use Rattle.mig_pagesink.specs.Batches.{AreSized}
 use Rattle.mig_rounds.specs.Entries.{AreTold, meant}

@@ -2,8 +2,8 @@ ghost use Rattle.std.specs.Prelude.{◌≡◌, ◌≤◌, ◌^◌, ℕ, List, �
 ghost use Rattle.mig_guest.specs.Hosts.{HostOf, IsValid};
 ghost use Rattle.mig_hosted.specs.Sound.{IsSound};
 ghost use Rattle.mig_hosted.specs.View.{view};
-ghost use Rattle.mig_restore.specs.Spelled.{Accepted};
-ghost use Rattle.mig_libxl.specs.Canon.{bare_guest};
+ghost use Rattle.mig_libxc.specs.Spelled.{Accepted};
+ghost use Rattle.mig_wrap.specs.Canon.{bare_guest};
 ghost use Rattle.mig_canon_laws.specs.Batched.{batched};
 ghost use Rattle.mig_pagesink.specs.Told.{FrameTold, telling_frames, all_told};
 ghost use Rattle.mig_pagesink.specs.Batches.{AreSized};

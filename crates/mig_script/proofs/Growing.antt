@@ -2,8 +2,8 @@
 use Rattle.std.proofs.Common.{◌≡◌, ℕ, List, [], ◌∷◌, ◌++◌, length, map, drop, Option, Some, None, Err, refl, sym, ap, subst, ◌∙◌, arith, length-append}
 use Rattle.std.specs.Io.KnownBytes.{Consumes}
 use Rattle.mig_bytes.specs.Bytes.{Grown}
-use Rattle.mig_bytes.specs.declared.take.Got.{Got}
-use Rattle.mig_bytes.specs.declared.take.Got.TheVariants.{Whole, Short}
+use Rattle.mig_bytes.specs.declared.stop.Got.{Got}
+use Rattle.mig_bytes.specs.declared.stop.Got.TheVariants.{Whole, Short}
 use Rattle.std.proofs.lemmas.Grind.{common_steps}
 use Rattle.std.proofs.lemmas.List.{map-append}
 use Rattle.mig_script.specs.declared.script.Line.{Line}

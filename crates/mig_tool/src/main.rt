@@ -11,7 +11,7 @@ mod carry;
 mod run;
 
 use crate::run::run;
-use mig_bytes::{InSource, OutSink};
+use mig_io::{InSource, OutSink};
 use mig_report::{Outcome, Status, put_line};
 use std::alloc::Global;
 use std::io::{BufReader, ErrorKind};

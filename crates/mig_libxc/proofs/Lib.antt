@@ -1,0 +1,13 @@
+pub mod Common
+pub mod Batches
+pub mod Bodies
+pub mod Compared
+pub mod Converse
+pub mod Growth
+pub mod Laws
+pub mod Listings
+pub mod Meaning
+pub mod Parts
+pub mod VerifyLaws
+pub mod AcceptedWhole
+pub mod PartsInOrder

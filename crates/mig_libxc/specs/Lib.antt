@@ -1,0 +1,6 @@
+pub mod Judging
+pub mod Mean
+pub mod Record
+pub mod Seen
+pub mod Spelled
+pub mod Stream

@@ -1,0 +1,26 @@
+-- What a reader of images answers.
+use Rattle.std.specs.Prelude.{◌≡◌, ℕ, List, length, Option, Result}
+use Rattle.mig_bytes.specs.Answers.{or_stop}
+use Rattle.mig_bytes.specs.Judged.{Gives}
+use Rattle.mig_bytes.specs.declared.answer.Answer.{Answer}
+use Rattle.mig_causes.specs.declared.fault.Cause.{Cause}
+use Rattle.mig_causes.specs.declared.fault.Place.{Place}
+use Rattle.mig_libxc.specs.Mean.{mean, differs_of}
+use Rattle.mig_libxc.specs.Stream.{ImageOf, image_at, image_behind}
+use Rattle.mig_restore.specs.declared.read.Reading.{Reading}
+
+-- a reading of an image: the guest that its records mean, its version, the number of its records, and how many entries
+-- behind a VERIFY differ
+pub record IsReading (reading : Reading) (image : ImageOf) : Type 0 where
+  pub guest : reading.guest ≡ mean image.opening.kind image.records
+  pub version : reading.version ≡ image.opening.version
+  pub records : reading.records ≡ length image.records
+  pub differs : reading.differs ≡ differs_of image.opening.kind image.records
+
+-- what a reader of images answered, and what it left in the source, is what judging gives
+abbrev pub ReadsImage : Option (List ℕ) → Option (List ℕ) → Result Reading (Answer Place Cause) → Type 0
+ReadsImage old new result = Gives IsReading old new image_at (or_stop result)
+
+-- the same where the marker was taken before
+abbrev pub ReadsRest : Option (List ℕ) → Option (List ℕ) → Result Reading (Answer Place Cause) → Type 0
+ReadsRest old new result = Gives IsReading old new image_behind (or_stop result)

@@ -1,0 +1,11 @@
+pub mod Common
+pub mod WrappedCanons
+pub mod Around
+pub mod Alike
+pub mod AnyCanons
+pub mod EmulatorTexts
+pub mod FirstParts
+pub mod Canon
+pub mod EmulatorParts
+pub mod EmulatorRecords
+pub mod EmulatorMaps
