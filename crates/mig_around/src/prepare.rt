@@ -35,6 +35,30 @@ fn bare_guest<M: Machine>(alloc: Global, machine: &M) -> Guest
     }
 }
 
+/// Sets in two guests of the machine's kind and width, which have neither frames nor parts, the parts of its host that stand
+/// before the frames, and those behind them without the context. Where no memory is found, some may be set.
+fn fill_parts<M: Machine>(
+    early: &mut Guest,
+    settings: &mut Guest,
+    machine: &M,
+) -> Result<(), Memory>
+    requires early { early.old ≡ parts_alone (M.state machine.now).host.kind (M.state machine.now).host.width maps.empty }
+    requires settings { settings.old ≡ parts_alone (M.state machine.now).host.kind (M.state machine.now).host.width maps.empty }
+    ensures early { OnOk result (early.new ≡ parts_alone (M.state machine.now).host.kind (M.state machine.now).host.width (kept_parts is_early_code (M.state machine.now).host.parts)) }
+    ensures settings { OnOk result (settings.new ≡ parts_alone (M.state machine.now).host.kind (M.state machine.now).host.width (kept_parts is_setting_code (M.state machine.now).host.parts)) }
+{
+    let mut after = None;
+    while let Some(key) = machine.next_key(after) {
+        if is_early(key.code) {
+            copy_part(early, machine, key)?;
+        } else if is_setting(key.code) {
+            copy_part(settings, machine, key)?;
+        }
+        after = Some(key);
+    }
+    Ok(())
+}
+
 /// Two guests: one has the parts of the machine's host that stand before the frames, the other those behind them, without the
 /// context.
 pub fn copy_parts<M: Machine>(alloc: Global, machine: &M) -> Result<(Guest, Guest), Memory>
@@ -43,15 +67,7 @@ pub fn copy_parts<M: Machine>(alloc: Global, machine: &M) -> Result<(Guest, Gues
 {
     let mut early = bare_guest(alloc, machine);
     let mut settings = bare_guest(alloc, machine);
-    let mut after = None;
-    while let Some(key) = machine.next_key(after) {
-        if is_early(key.code) {
-            copy_part(&mut early, machine, key)?;
-        } else if is_setting(key.code) {
-            copy_part(&mut settings, machine, key)?;
-        }
-        after = Some(key);
-    }
+    fill_parts(&mut early, &mut settings, machine)?;
     Ok((early, settings))
 }
 

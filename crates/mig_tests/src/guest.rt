@@ -15,9 +15,8 @@ fn page(byte: u8) -> [u8; 4096] {
     [byte; 4096]
 }
 
-#[test]
-fn pages_by_number(rt: HostRuntime) -> Result<(), Fail> {
-    let mut store = PageStore::new(rt.alloc());
+// Puts, changes, lends and takes out pages of an empty store.
+fn change_pages(rt: &impl Abort, store: &mut PageStore) -> Result<(), Fail> {
     store.reserve(1)?;
     store.put_spare(5, &page(5));
     store.put(7, &page(7))?;
@@ -33,6 +32,12 @@ fn pages_by_number(rt: HostRuntime) -> Result<(), Fail> {
     assert!(rt; !store.remove(7));
     assert_eq!(rt; store.len(), 1);
     Ok(())
+}
+
+#[test]
+fn pages_by_number(rt: HostRuntime) -> Result<(), Fail> {
+    let mut store = PageStore::new(rt.alloc());
+    change_pages(&rt, &mut store)
 }
 
 fn key(code: u32, key1: u32, key2: u32) -> PartKey {
@@ -60,29 +65,30 @@ fn fill(guest: &mut Guest) {
     }
 }
 
-fn small_guest(rt: &HostRuntime) -> Result<Guest, Fail> {
-    let mut guest = Guest::new(rt.alloc(), Kind::Pv);
+fn set_some(guest: &mut Guest) -> Result<(), Fail> {
     guest.set_frame(5, PageType::L1Tab, Some(&page(1)))?;
     guest.set_part(key(4, 1, 0), &[1, 2, 3, 4])?;
     guest.set_part(key(4, 0, 9), &[5])?;
-    Ok(guest)
+    Ok(())
+}
+
+// Sets, lends and reads what an empty guest has.
+fn lend(rt: &impl Abort, guest: &mut Guest) -> Result<(), Fail> {
+    set_some(guest)?;
+    guest.set_top(0xffff);
+    assert_eq!(rt; guest.top(), 0xffff);
+    fill(guest);
+    let page = guest.page(5).ok_or("no page")?;
+    assert_eq!(rt; (page[0], page[4095]), (1, 9));
+    assert_eq!(rt; guest.frame(5), Some(PageType::L1Tab));
+    has(rt, guest, &[(key(4, 0, 9), &[5]), (key(4, 1, 0), &[7; 4])]);
+    Ok(())
 }
 
 #[test]
 fn a_guest_is_lent(rt: HostRuntime) -> Result<(), Fail> {
-    let mut guest = small_guest(&rt)?;
-    guest.set_top(0xffff);
-    assert_eq!(rt; guest.top(), 0xffff);
-    fill(&mut guest);
-    let page = guest.page(5).ok_or("no page")?;
-    assert_eq!(rt; (page[0], page[4095]), (1, 9));
-    assert_eq!(rt; guest.frame(5), Some(PageType::L1Tab));
-    has(
-        &rt,
-        &guest,
-        &[(key(4, 0, 9), &[5]), (key(4, 1, 0), &[7; 4])],
-    );
-    Ok(())
+    let mut guest = Guest::new(rt.alloc(), Kind::Pv);
+    lend(&rt, &mut guest)
 }
 
 // Leaf 3 with subleaf 0; the MSRs 0xc0000080 and 0x10; parameter 1, twice.
@@ -105,21 +111,25 @@ fn hidden(bytes: &[u8]) -> &[u8] {
     bytes
 }
 
+fn read_hvm_bodies(rt: &impl Abort, guest: &mut Guest) -> Result<(), Fail> {
+    let leaves = hidden(&LEAF);
+    assert_eq!(rt; leaves.len() % 24, 0);
+    read_cpuid(guest, leaves)?;
+    let msrs = hidden(&MSRS);
+    assert_eq!(rt; msrs.len() % 16, 0);
+    read_msr(guest, msrs)?;
+    read_tsc(guest, &[0x22; 24])?;
+    let parameters = hidden(&PARAMETERS);
+    assert_eq!(rt; params_fault(parameters), None);
+    read_params(guest, parameters)?;
+    has_hvm_parts(rt, guest);
+    Ok(())
+}
+
 #[test]
 fn bodies_of_an_hvm_guest(rt: HostRuntime) -> Result<(), Fail> {
     let mut guest = Guest::new(rt.alloc(), Kind::Hvm);
-    let leaves = hidden(&LEAF);
-    assert_eq!(rt; leaves.len() % 24, 0);
-    read_cpuid(&mut guest, leaves)?;
-    let msrs = hidden(&MSRS);
-    assert_eq!(rt; msrs.len() % 16, 0);
-    read_msr(&mut guest, msrs)?;
-    read_tsc(&mut guest, &[0x22; 24])?;
-    let parameters = hidden(&PARAMETERS);
-    assert_eq!(rt; params_fault(parameters), None);
-    read_params(&mut guest, parameters)?;
-    has_hvm_parts(&rt, &guest);
-    Ok(())
+    read_hvm_bodies(&rt, &mut guest)
 }
 
 fn has_hvm_parts(rt: &impl Abort, guest: &Guest) {
@@ -139,9 +149,7 @@ fn has_hvm_parts(rt: &impl Abort, guest: &Guest) {
 // A vCPU's id, 4 bytes that are ignored, and the part.
 const XSAVE: [u8; 12] = [3, 0, 0, 0, 9, 9, 9, 9, 77, 0, 0, 1];
 
-#[test]
-fn bodies_of_a_pv_guest(rt: HostRuntime) -> Result<(), Fail> {
-    let mut guest = Guest::new(rt.alloc(), Kind::Pv);
+fn read_pv_bodies(rt: &impl Abort, guest: &mut Guest) -> Result<(), Fail> {
     let far = hidden(&[3, 16, 0, 0, 9, 9, 9, 9, 77]);
     assert_eq!(rt;
         body_fault(PartCode::VcpuXsave, far),
@@ -159,20 +167,26 @@ fn bodies_of_a_pv_guest(rt: HostRuntime) -> Result<(), Fail> {
     // an empty part is none
     let empty = hidden(&[3, 0, 0, 0, 9, 9, 9, 9]);
     assert_eq!(rt; body_fault(PartCode::VcpuXsave, empty), None);
-    read_body(&mut guest, PartCode::VcpuXsave, empty)?;
+    read_body(guest, PartCode::VcpuXsave, empty)?;
     assert_eq!(rt; guest.next_part(None), None);
     let xsave = hidden(&XSAVE);
     assert_eq!(rt; body_fault(PartCode::VcpuXsave, xsave), None);
-    read_body(&mut guest, PartCode::VcpuXsave, xsave)?;
+    read_body(guest, PartCode::VcpuXsave, xsave)?;
     let info = page(5);
     assert_eq!(rt; body_fault(PartCode::SharedInfo, &info), None);
-    read_body(&mut guest, PartCode::SharedInfo, &info)?;
+    read_body(guest, PartCode::SharedInfo, &info)?;
     has(
-        &rt,
-        &guest,
+        rt,
+        guest,
         &[(key(6, 3, 0), &XSAVE[8..]), (key(7, 0, 0), &info)],
     );
     Ok(())
+}
+
+#[test]
+fn bodies_of_a_pv_guest(rt: HostRuntime) -> Result<(), Fail> {
+    let mut guest = Guest::new(rt.alloc(), Kind::Pv);
+    read_pv_bodies(&rt, &mut guest)
 }
 
 // The P2M frames of the frame numbers up to 1023, and then of those up to 511 again.
@@ -190,15 +204,19 @@ fn list(rt: &impl Abort, guest: &mut Guest, body: &[u8]) -> Result<(), Fail> {
     Ok(())
 }
 
+fn list_again(rt: &impl Abort, guest: &mut Guest) -> Result<(), Fail> {
+    list(rt, guest, hidden(&P2M_FRAMES))?;
+    list(rt, guest, hidden(&FIRST_P2M_FRAME))?;
+    assert_eq!(rt; guest.top(), 0x3ff);
+    let listed = [9, 0, 0, 0, 0, 0, 0, 0, 8, 0, 0, 0, 0, 0, 0, 0];
+    has(rt, guest, &[(key(3, 0, 0), &listed)]);
+    Ok(())
+}
+
 #[test]
 fn p2m_frames_are_listed_again(rt: HostRuntime) -> Result<(), Fail> {
     let mut guest = Guest::new(rt.alloc(), Kind::Pv);
-    list(&rt, &mut guest, hidden(&P2M_FRAMES))?;
-    list(&rt, &mut guest, hidden(&FIRST_P2M_FRAME))?;
-    assert_eq!(rt; guest.top(), 0x3ff);
-    let listed = [9, 0, 0, 0, 0, 0, 0, 0, 8, 0, 0, 0, 0, 0, 0, 0];
-    has(&rt, &guest, &[(key(3, 0, 0), &listed)]);
-    Ok(())
+    list_again(&rt, &mut guest)
 }
 
 // Adds pairs, which have no fault, to those of emulator 1 with index 2.
@@ -208,15 +226,19 @@ fn merge(rt: &impl Abort, alloc: Global, guest: &mut Guest, bytes: &[u8]) -> Res
     Ok(())
 }
 
+fn merge_some(rt: &impl Abort, alloc: Global, guest: &mut Guest) -> Result<(), Fail> {
+    merge(rt, alloc, guest, hidden(b""))?;
+    assert_eq!(rt; guest.next_part(None), None);
+    merge(rt, alloc, guest, hidden(b"b\0one\0c\0two\0"))?;
+    merge(rt, alloc, guest, hidden(b"b\0three\0a\0\0"))?;
+    merge(rt, alloc, guest, hidden(b""))?;
+    let pairs = b"a\0\0b\0three\0c\0two\0";
+    has(rt, guest, &[(key(258, 1, 2), pairs)]);
+    Ok(())
+}
+
 #[test]
 fn pairs_are_merged(rt: HostRuntime) -> Result<(), Fail> {
     let mut guest = Guest::new(rt.alloc(), Kind::Hvm);
-    merge(&rt, rt.alloc(), &mut guest, hidden(b""))?;
-    assert_eq!(rt; guest.next_part(None), None);
-    merge(&rt, rt.alloc(), &mut guest, hidden(b"b\0one\0c\0two\0"))?;
-    merge(&rt, rt.alloc(), &mut guest, hidden(b"b\0three\0a\0\0"))?;
-    merge(&rt, rt.alloc(), &mut guest, hidden(b""))?;
-    let pairs = b"a\0\0b\0three\0c\0two\0";
-    has(&rt, &guest, &[(key(258, 1, 2), pairs)]);
-    Ok(())
+    merge_some(&rt, rt.alloc(), &mut guest)
 }

@@ -4,16 +4,16 @@ use Rattle.std.specs.FinMap as maps
 use Rattle.mig_guest.specs.Guests.{GuestOf}
 use Rattle.mig_around.specs.KeptParts.{is_early, is_setting, parts_alone}
 use Rattle.mig_around.proofs.Walks.{Copied, remaining_falls, bare_from, copied_none, copied_past, copied_all, copies_one}
-use Rattle.mig_around.proofs.prepare.copy_parts.Goals as goal
+use Rattle.mig_around.proofs.prepare.fill_parts.Goals as goal
 
 pub loop-key-init : goal.loop-key-init
 loop-key-init g c =
     let h = (g.M.Machine.state c.args.machine.now).host in
     record {
-      early = bare_from h.kind h.width c.bare_guest-early.result maps.empty c.bare_guest-early.ensures;
-      settings = bare_from h.kind h.width c.bare_guest-settings.result maps.empty c.bare_guest-settings.ensures;
-      kept = subst (Copied is_early h.parts _) (sym (ap (λ (k : GuestOf). k.parts) c.bare_guest-early.ensures)) (copied_none _ _);
-      changing = subst (Copied is_setting h.parts _) (sym (ap (λ (k : GuestOf). k.parts) c.bare_guest-settings.ensures)) (copied_none _ _);
+      early = bare_from h.kind h.width c.args.early.now maps.empty c.requires.early;
+      settings = bare_from h.kind h.width c.args.settings.now maps.empty c.requires.settings;
+      kept = subst (Copied is_early h.parts _) (sym (ap (λ (k : GuestOf). k.parts) c.requires.early)) (copied_none _ _);
+      changing = subst (Copied is_setting h.parts _) (sym (ap (λ (k : GuestOf). k.parts) c.requires.settings)) (copied_none _ _);
     }
 
 pub loop-key-smaller-in_ok-copy_part : goal.loop-key-smaller-in_ok-copy_part

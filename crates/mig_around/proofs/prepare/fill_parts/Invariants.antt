@@ -1,7 +1,7 @@
 use Rattle.std.proofs.Common.{◌≡◌}
 use Rattle.mig_around.specs.KeptParts.{is_early, is_setting, parts_alone}
 use Rattle.mig_around.proofs.Walks.{remaining, Copied}
-use Rattle.mig_around.proofs.prepare.copy_parts.Given as goal
+use Rattle.mig_around.proofs.prepare.fill_parts.Given as goal
 
 abbrev pub invariant-loop-key : goal.invariant-loop-key
 invariant-loop-key g l = record {
