@@ -13,6 +13,7 @@ use Rattle.mig_relay.specs.Relaying.{PassedWhole, PassedPart, IsRelayed}
 use Rattle.mig_relay.specs.declared.answer.RelayAnswer.{RelayAnswer}
 use Rattle.mig_relay.specs.declared.answer.RelayAnswer.TheVariants as answers
 use Rattle.mig_relay.specs.declared.answer.Relayed.{Relayed}
+use Rattle.mig_report.specs.Outcome.{status_of}
 use Rattle.mig_report.specs.Report.{relayed_line}
 use Rattle.mig_report.specs.declared.outcome.Outcome.{Outcome}
 use Rattle.mig_report.specs.declared.outcome.Refusal.{Refusal}
@@ -68,13 +69,22 @@ RelayComes told left w outcome =
 
 unpassed : (told left : Option (List ℕ)) (w : Written) (answer : RelayAnswer) → IsRelayed told left w.out_old w.out_new (Err answer) → RelayComes told left w (outcome_of_relay answer)
 unpassed None left w answer r = tt
-unpassed (Some input) left w (answers.Refused place cause) r = let h = r.is.0 in (h.0, h.1, h.2)
+unpassed (Some input) left w (answers.Refused place cause) r = let h = r.is.refused in (h.0, h.1, h.2)
 unpassed (Some input) left w answers.ReadFault r = tt
 unpassed (Some input) left w answers.WriteFault r = inl r.is.0
 unpassed (Some input) left w answers.Memory r = tt
 
 pub unpassed_comes : (told left : Option (List ℕ)) (w : Written) (answer : RelayAnswer) (outcome : Outcome) → IsRelayed told left w.out_old w.out_new (Err answer) → outcome ≡ outcome_of_relay answer → RelayComes told left w outcome
 unpassed_comes told left w answer outcome r is = subst (RelayComes told left w) (sym is) (unpassed told left w answer r)
+
+unpassed_says : (told left old new : Option (List ℕ)) (answer : RelayAnswer) → IsRelayed told left old new (Err answer) → SaysRelayed (status_of (outcome_of_relay answer)) told left old new
+unpassed_says told left old new (answers.Refused place cause) r = (place, cause, r.is)
+unpassed_says told left old new answers.ReadFault r = r.is
+unpassed_says told left old new answers.WriteFault r = inl r.is.0
+unpassed_says told left old new answers.Memory r = r.is
+
+pub unpassed_relayed : (told left old new : Option (List ℕ)) (answer : RelayAnswer) (outcome : Outcome) (status : Status) → IsRelayed told left old new (Err answer) → outcome ≡ outcome_of_relay answer → status ≡ status_of outcome → SaysRelayed status told left old new
+unpassed_relayed told left old new answer outcome status r is stood = subst (λ s. SaysRelayed s told left old new) (sym (stood ∙ ap status_of is)) (unpassed_says told left old new answer r)
 
 -- ---- a front that may pass isn't refused
 

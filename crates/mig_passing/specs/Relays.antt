@@ -3,9 +3,11 @@ use Rattle.std.specs.Prelude.{◌≡◌, ◌⊎◌, ℕ, List, Option, Some}
 use Rattle.mig_bytes.specs.Bytes.{AppendsPart}
 use Rattle.mig_bytes.specs.Faults.{Rose}
 use Rattle.mig_bytes.specs.Judged.Judged.{Passes}
+use Rattle.mig_causes.specs.declared.fault.Cause.{Cause}
+use Rattle.mig_causes.specs.declared.fault.Place.{Place}
 use Rattle.mig_libxl.specs.Stream.{StreamOf}
 use Rattle.mig_passable.specs.Streams.{open_stream_at}
-use Rattle.mig_relay.specs.Relaying.{PassedWhole, PassedPart}
+use Rattle.mig_relay.specs.Relaying.{PassedWhole, PassedPart, RefusedPart, IsCutPart, IsWrittenPart}
 use Rattle.mig_relay.specs.declared.answer.Relayed.{Relayed}
 use Rattle.mig_report.specs.Report.{Reports, relayed_line, write_fault_line}
 use Rattle.mig_report.specs.declared.outcome.RelaySummary.{RelaySummary}
@@ -36,12 +38,17 @@ pub record FrontRelayed (Reported : List ℕ → Type 0) (input : List ℕ) (lef
   pub passed : PassedOn (Some input) left old new summary
   pub reported : Reported (relayed_line summary)
 
--- What was written is a front of what was taken, whatever the status: the whole of it, and that may pass, with status 0; and
--- with every other status but 4 no front of it is an accepted stream.
+-- What was written is a front of what was taken, whatever the status: the whole of it, and that may pass, with status 0; with
+-- status 1 all that was passed on in front of the refused part, or inside it where it is a body; with status 3 and 5 it ends
+-- inside a part, without a cause, and with status 5 it is all that was passed on. With every status but 0 and 4 no front of
+-- it is an accepted stream.
 abbrev pub SaysRelayed : Status → Option (List ℕ) → Option (List ℕ) → Option (List ℕ) → Option (List ℕ) → Type 0
 SaysRelayed statuses.Done told left old new = (summary : RelaySummary) × PassedOn told left old new summary
 SaysRelayed statuses.WriteFault told left old new = PassedPart told left old new ⊎ ((summary : RelaySummary) × PassedOn told left old new summary)
-SaysRelayed _ told left old new = PassedPart told left old new
+SaysRelayed statuses.Refused told left old new = (place : Place) × (cause : Cause) × RefusedPart told left old new place cause
+SaysRelayed statuses.ReadFault told left old new = IsCutPart told left old new
+SaysRelayed statuses.Memory told left old new = IsWrittenPart told left old new
+SaysRelayed statuses.Usage told left old new = PassedPart told left old new
 
 -- a write of the output failed, no front of what was written is an accepted stream, and the report got the line of that
 pub record OutputStopped (told left old new report_old report_new : Option (List ℕ)) (out out_now report report_now : ℕ) : Type 0 where

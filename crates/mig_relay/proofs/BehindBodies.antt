@@ -41,12 +41,14 @@ use Rattle.mig_relay.proofs.Kept.{ListsNone, going_same, wrapped_more, records_m
 use Rattle.mig_relay.proofs.SpotParts.{lifted, libxl_content, libxl_no_padding, with_libxl}
 use Rattle.mig_relay.proofs.Unrolls.{body_is, no_padding, with}
 
--- What comes next behind a whole body of this size, which is judged as its padding is. No more bytes were passed on.
+-- What comes next behind a whole body of this size, which is judged as its padding is. No more bytes were passed on,
+-- and the words in hand are the same.
 pub record BehindBody (middle t : Relay) (from here : Spot) (size : ℕ) : Type 0 where
   pub next : Spot
   pub same : (more : List ℕ) → spot here more ≡ spot next more
   pub keeps : Keeps t next []
   pub passed : t.passed ≡ middle.passed
+  pub words : t.words.items ≡ middle.words.items
   pub follows : (begun piece : List ℕ) → length begun + length piece ≡ size → ComesNext from begun piece next []
 
 -- ---- a record of an image
@@ -134,6 +136,7 @@ behind_record t outer o records head content around kept other padded unpadded =
           same = λ more. ap (λ (j : Judged (Place × Cause) ImageOf). j >>= carry outer) (no_padding o records head content more zero);
           keeps = (around, (unpadded zero, records_more t o records head content _ kept other, refl));
           passed = refl;
+          words = refl;
           follows = λ begun piece size. whole (InImage outer (AtBody o records head)) _ begun piece head refl (λ e. cc) tt (omega (arith, size, zero)) (image_next outer o records (record_with records head content) head.kind other);
         }
     by false is =
@@ -143,6 +146,7 @@ behind_record t outer o records head content around kept other padded unpadded =
           same = λ more. refl;
           keeps = (around, (padded some, kept, some, other, refl));
           passed = refl;
+          words = refl;
           follows = λ begun piece size. more (InImage outer (AtBody o records head)) (InImage outer (AtPadding o records head content)) begun piece [] head refl refl refl (λ e. cc) refl tt (omega (arith, size));
         }
 
@@ -176,6 +180,7 @@ behind_libxl old middle t records head content behind kept bodied none was wrapp
             refl,
           );
           passed = ap (λ (r : Relay). r.passed) now;
+          words = ap (λ (r : Relay). r.words.items) now;
           follows = λ begun piece size. whole (AtLibxlBody records head) _ begun piece head refl (λ e. cc) tt (omega (arith, size, zero)) (libxl_next records (record { type = head.kind; content = content }) head.kind bodied.0 bodied.1 none);
         }
     by false is =
@@ -193,5 +198,6 @@ behind_libxl old middle t records head content behind kept bodied none was wrapp
             refl,
           );
           passed = ap (λ (r : Relay). r.passed) now;
+          words = ap (λ (r : Relay). r.words.items) now;
           follows = λ begun piece size. more (AtLibxlBody records head) (AtLibxlPadding records head content) begun piece [] head refl refl refl (λ e. cc) refl tt (omega (arith, size));
         }

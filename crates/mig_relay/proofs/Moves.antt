@@ -17,7 +17,7 @@ use Rattle.mig_relay.specs.Following.{ComesNext, place_of_spot}
 use Rattle.mig_relay.specs.Keeping.{Keeps}
 use Rattle.mig_relay.specs.Parts.{BeginsWithPart}
 use Rattle.mig_relay.specs.Spots.{Spot, spot, held}
-use Rattle.mig_relay.specs.Steps.{is_judged_first, counted, FrontsAreCut, PassedPiece, IsStep, IsUnfinished, Refuses, Stops, StepMoved, MovedBy, answer_of}
+use Rattle.mig_relay.specs.Steps.{is_judged_first, counted, FrontsAreCut, PassedPiece, IsStep, IsUnfinished, KeepsWordsInHand, Refuses, Stops, StepMoved, MovedBy, answer_of}
 use Rattle.mig_relay.specs.declared.answer.RelayAnswer.{RelayAnswer}
 use Rattle.mig_relay.specs.declared.answer.RelayAnswer.TheVariants.{Refused, WriteFault, Memory}
 use Rattle.mig_relay.specs.declared.answer.Step.{Step}
@@ -142,9 +142,9 @@ module _ (here : Spot) (place : Place) (size : ℕ) (fault : List ℕ → Option
 
     -- a piece of the part, or the rest of it
     pub goes_on : (buf : List ℕ) (u : Unit {0}) (next : Spot) (front : List ℕ) (step : Step) → length begun + length buf ≤ size → length buf ≤ held here → 0 < length buf → Gives (Buffered buf) old new (part Truncated (length buf)) (Ok u) → Appends before now buf
-        → ((more : List ℕ) → spot here (begun ++ (buf ++ more)) ≡ spot next (front ++ more)) → Keeps t next front → t.passed ≡ counted r.passed (length buf) → IsStep here buf t step → ComesNext here begun buf next front → PassedPiece here begun step r t old new before now
-    goes_on buf u next front step room small some h written same keeps count is_step follow =
-        record { piece = buf; next = next; front = front; some = some; taken = consumed (length buf) buf u old new h; written = written; same = same; keeps = keeps; small = small; cuts = fronts_cut buf room; follows = follow; count = count; is = is_step }
+        → ((more : List ℕ) → spot here (begun ++ (buf ++ more)) ≡ spot next (front ++ more)) → Keeps t next front → t.passed ≡ counted r.passed (length buf) → IsStep here buf t step → KeepsWordsInHand r t step → ComesNext here begun buf next front → PassedPiece here begun step r t old new before now
+    goes_on buf u next front step room small some h written same keeps count is_step words follow =
+        record { piece = buf; next = next; front = front; some = some; taken = consumed (length buf) buf u old new h; written = written; same = same; keeps = keeps; small = small; cuts = fronts_cut buf room; follows = follow; count = count; is = is_step; words = words }
 
 -- ---- a part that is taken at once
 
@@ -168,9 +168,9 @@ module _ {here : Spot} {place : Place} {size : ℕ} {fault : List ℕ → Option
   }
 
   pub went : (u : Unit {0}) (next : Spot) (front : List ℕ) (step : Step) → None ≡ fault buf → Gives (Buffered buf) old new (part Truncated (length buf)) (Ok u) → Appends before now buf → ((more : List ℕ) → follows buf more ≡ spot next (front ++ more)) → Keeps t next front
-      → t.passed ≡ counted r.passed (length buf) → IsStep here buf t step → ComesNext here [] buf next front → PassedPiece here [] step r t old new before now
-  went u next front step fine h written same keeps count is_step follow =
-      goes_on here place size fault follows is [] r t old new before now buf u next front step (omega (arith, whole)) small (omega (arith, whole, is.some)) h written (λ more. passes here place size fault follows is buf more whole (sym fine) ∙ same more) keeps count is_step follow
+      → t.passed ≡ counted r.passed (length buf) → IsStep here buf t step → KeepsWordsInHand r t step → ComesNext here [] buf next front → PassedPiece here [] step r t old new before now
+  went u next front step fine h written same keeps count is_step words follow =
+      goes_on here place size fault follows is [] r t old new before now buf u next front step (omega (arith, whole)) small (omega (arith, whole, is.some)) h written (λ more. passes here place size fault follows is buf more whole (sym fine) ∙ same more) keeps count is_step words follow
 
 -- ---- what a decoder answers
 

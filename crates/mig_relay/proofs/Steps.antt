@@ -19,13 +19,13 @@ use Rattle.mig_pieces.proofs.Types.{bodies_are_parts}
 use Rattle.mig_libxc.proofs.Batches.{places_len}
 use Rattle.mig_libxc.specs.Judging.{before, with_places}
 use Rattle.mig_libxc.specs.Stream.{ImageOf}
-use Rattle.mig_relay.specs.Following.{head_of_next, in_hand}
+use Rattle.mig_relay.specs.Following.{head_of_next, in_hand, place_of_spot}
 use Rattle.mig_relay.specs.Keeping.{Keeps, KeepsNext, HasRecords, Stands}
 use Rattle.mig_relay.specs.Parts.{Next, AtMarker, AtVersion, AtKind, AtHead, AtBody, AtFront, AtWords, AtPages, AtPadding, judged_next, BeginsWithPart}
-use Rattle.mig_relay.specs.Relaying.{HasPassed, IsRelayed, RelayedBy, PassedPart as IsWritten, NoneIsAccepted, NoneWaits, IsCutPart, IsWrittenPart, Turned, TurnedBy, RisesOnAnswer, WritesOnReadFault, held_answer, unwritten}
+use Rattle.mig_relay.specs.Relaying.{HasPassed, IsRelayed, RelayedBy, PassedPart as IsWritten, RefusedPart, NoneIsAccepted, NoneWaits, IsCutPart, IsWrittenPart, Turned, TurnedBy, RisesOnAnswer, WritesOnReadFault, held_answer, unwritten}
 use Rattle.mig_relay.specs.Spots.{Outer, Spot, AtStart, AtLibxlHeader, AtLibxlHead, AtLibxlBody, AtLibxlPadding, InImage, AtEnd, spot, held, carry}
 use Rattle.mig_relay.specs.Standing.{StandsForBytes, StepSays, PassesOn, IsRefusedBehind, WritesSomeBehind, StopsInside, is_at_end, is_within, goes_on}
-use Rattle.mig_relay.specs.Steps.{FrontsAreCut, RisesOnFault, PassedPiece, EndsInside, IsUnfinished, Refuses, Stops, WritesSome, StepMoved, MovedBy, counted}
+use Rattle.mig_relay.specs.Steps.{FrontsAreCut, RisesOnFault, PassedPiece, EndsInside, IsUnfinished, is_judged_first, Refuses, Stops, WritesSome, StepMoved, MovedBy, counted}
 use Rattle.mig_relay.specs.Waiting.{Fits, may_wait, most_waiting}
 use Rattle.mig_relay.specs.declared.answer.RelayAnswer.{RelayAnswer}
 use Rattle.mig_relay.specs.declared.answer.RelayAnswer.TheVariants.{Refused, ReadFault, WriteFault, Memory}
@@ -106,11 +106,43 @@ within r (AtLibxlPadding records head content) begun k = ap is_within k.0
 within r (InImage outer next) begun (around, k) = within_image r next begun k
 within r (AtEnd s) begun k = ap is_within k.0
 
+-- of what is judged at once no byte was passed on
+unbegun_next : (r : Relay) (outer : Outer) (next : Next) (begun : List ℕ) → KeepsNext r next begun → is_judged_first (InImage outer next) ≡ true → begun ≡ []
+unbegun_next r outer AtMarker begun k judged = k.1
+unbegun_next r outer AtVersion begun k judged = k.1
+unbegun_next r outer (AtKind version) begun k judged = k.1
+unbegun_next r outer (AtHead o records) begun k judged = k.2
+unbegun_next r outer (AtBody o records head) begun k judged = absurd (apart (sym judged))
+unbegun_next r outer (AtFront o records head) begun k judged = k.3
+unbegun_next r outer (AtWords o records head n) begun k judged = k.4
+unbegun_next r outer (AtPages o records head coming stood) begun k judged = k.5
+unbegun_next r outer (AtPadding o records head content) begun k judged = k.4
+
+unbegun : (r : Relay) (here : Spot) (begun : List ℕ) → Keeps r here begun → is_judged_first here ≡ true → begun ≡ []
+unbegun r AtStart begun k judged = k.2
+unbegun r AtLibxlHeader begun k judged = k.2
+unbegun r (AtLibxlHead records) begun k judged = k.2
+unbegun r (AtLibxlBody records head) begun k judged = absurd (apart (sym judged))
+unbegun r (AtLibxlPadding records head content) begun k judged = k.5
+unbegun r (InImage outer next) begun k judged = unbegun_next r outer next begun k.1 judged
+unbegun r (AtEnd s) begun k judged = k.2
+
 -- ---- the end
 
 at_end_is : (c : Coming) → is_at_end c ≡ true → c ≡ comes.End
 at_end_is comes.End e = refl
 at_end_is _ e = absurd (apart (sym e))
+
+-- the end has no place
+before_end : (r : Relay) (here : Spot) (begun : List ℕ) (place : Place) → Keeps r here begun → place_of_spot here ≡ Some place → is_at_end r.coming ≡ false
+before_end r here begun place k at = by (is_at_end r.coming) refl
+  where
+    by : (b : Bool) → is_at_end r.coming ≡ b → is_at_end r.coming ≡ false
+    by false going = going
+    by true over = absurd (no_place (sym (told r (λ here begun. place_of_spot here ≡ None) comes.End (at_end_is r.coming over) (λ s has. refl) here begun k) ∙ at))
+      where
+        no_place : ◌≡◌ {A = Option Place} None (Some place) → ⊥
+        no_place e = cc
 
 stays : (o : Option (List ℕ)) → Stays o o
 stays None = tt
@@ -205,8 +237,8 @@ module _ (r t : Relay) (old new before now : Option (List ℕ)) (result : Result
   by_result (Ok steps.Done) m = (m.0, subst (λ l. open_stream_at l ≡ Passes m.0 []) (append-nil bytes) (s.same [] ∙ m.1 []), m.2, m.3, m.4)
   by_result (Ok step) m = passes_on m
     where
-      passes_on : PassedPiece s.here s.begun step r t old new before now → PassesOn s.here s.begun bytes step t old new before now
-      passes_on g = record { piece = g.piece; some = g.some; taken = g.taken; written = g.written; stands = stands_on s g; follows = g.follows; is = g.is }
+      passes_on : PassedPiece s.here s.begun step r t old new before now → PassesOn s.here s.begun bytes step r t old new before now
+      passes_on g = record { piece = g.piece; some = g.some; taken = g.taken; written = g.written; stands = stands_on s g; follows = g.follows; is = g.is; words = g.words }
   by_result (Err (Refused place cause)) m = (refused place cause old m.0, writes place m.1)
   by_result (Err ReadFault) m = stops m
   by_result (Err WriteFault) m = stops m
@@ -335,6 +367,9 @@ pub record Refusal (waiting : List ℕ) (old new before now : Option (List ℕ))
   pub g : Gathered waiting old new before now
   pub refused : IsRefusedBehind [] old new place cause
   pub unfinished : IsUnfinished (open_stream_at (g.wrote ++ waiting))
+  pub at : place_of_spot g.here ≡ Some place
+  pub unbegun : is_judged_first g.here ≡ true → g.begun ≡ []
+  pub cut : is_judged_first g.here ≡ true → EndsInside (open_stream_at (g.wrote ++ waiting))
 
 -- what a step's error leaves
 abbrev pub Ends : List ℕ → Option (List ℕ) → Option (List ℕ) → Option (List ℕ) → Option (List ℕ) → RelayAnswer → Type 0
@@ -356,9 +391,20 @@ module _ (old new before now later : Option (List ℕ)) (waiting : List ℕ) (pu
       let w = all_written old new before now later waiting c.g put ((c.cut.0, Truncated), [], c.cut.1) in
       (w.0, subst (λ l. EndsInside (open_stream_at l)) (sym w.2) c.cut, w.1)
 
+  refused_part : (place : Place) (cause : Cause) → Refusal waiting old new before now place cause → RefusedPart old new before later place cause
+  unfolding all_written
+  refused_part place cause e = record {
+    refused = e.refused;
+    part = (all_written old new before now later waiting e.g put e.unfinished).0;
+    written = refl;
+    at = e.at;
+    unbegun = e.unbegun;
+    cut = e.cut;
+  }
+
   -- all that waits was written behind an error, and the error is answered
   pub ended : (answer : RelayAnswer) → Ends waiting old new before now answer → RelayedBy old new before later (Err (held_answer answer))
-  ended (Refused place cause) e = let w = all_written old new before now later waiting e.g put e.unfinished in (e.refused, w.0, w.1)
+  ended (Refused place cause) e = refused_part place cause e
   ended ReadFault e = let w = cut_written e in (w.0, w.1)
   ended WriteFault e = cut_written e
   ended Memory e = cut_written e
@@ -495,6 +541,9 @@ module _ (r t : Relay) (waiting waits : List ℕ) (old mid new before now : Opti
     g = gather wrote w.others w.written w.few cuts w.taken;
     refused = refused_on old place cause h.taken f;
     unfinished = (fault, rest, ap open_stream_at (sym (longer wrote w.written)) ∙ s.same wrote ∙ is);
+    at = at;
+    unbegun = λ judged. ap (λ l. s.begun ++ l) (first judged) ∙ append-nil s.begun ∙ unbegun r s.here s.begun s.keeps judged;
+    cut = λ judged. subst (λ l. EndsInside (open_stream_at l)) (sym (append-nil (h.wrote ++ waiting)) ∙ ap (λ l. (h.wrote ++ waiting) ++ l) (sym (first judged)) ∙ longer wrote w.written) (is_front s (before_end r s.here s.begun place s.keeps at));
   }
 
   -- what an error leaves

@@ -1,14 +1,17 @@
 -- What a relay of a whole stream does.
-use Rattle.std.specs.Prelude.{◌≡◌, true, ◌≤◌, ◌-◌, ◌^◌, ℕ, List, [], ◌++◌, length, min, Option, Result, Ok, Err, ⊤, ◌⊎◌}
+use Rattle.std.specs.Prelude.{◌≡◌, true, ◌≤◌, ◌-◌, ◌^◌, ℕ, List, [], ◌++◌, length, min, Option, Some, Result, Ok, Err, ⊤, ◌⊎◌}
 use Rattle.std.specs.Io.KnownBytes.{Consumes, Appends}
 use Rattle.mig_bytes.specs.Faults.{Rose}
 use Rattle.mig_bytes.specs.Judged.Judged.{Passes}
+use Rattle.mig_causes.specs.declared.fault.Cause.{Cause}
+use Rattle.mig_causes.specs.declared.fault.Place.{Place}
 use Rattle.mig_libxl.specs.Stream.{StreamOf, stream_at}
 use Rattle.mig_passable.specs.Streams.{open_stream_at}
+use Rattle.mig_relay.specs.Following.{place_of_spot}
 use Rattle.mig_relay.specs.Keeping.{HasRecords}
 use Rattle.mig_relay.specs.Spots.{Spot, AtStart, spot, held}
 use Rattle.mig_relay.specs.Standing.{StandsForBytes, IsRefusedBehind, is_at_end}
-use Rattle.mig_relay.specs.Steps.{FrontsAreCut, EndsInside}
+use Rattle.mig_relay.specs.Steps.{FrontsAreCut, EndsInside, is_judged_first}
 use Rattle.mig_relay.specs.Waiting.{Fits, most_waiting}
 use Rattle.mig_relay.specs.declared.answer.RelayAnswer.{RelayAnswer}
 use Rattle.mig_relay.specs.declared.answer.RelayAnswer.TheVariants.{Refused, ReadFault, WriteFault, Memory}
@@ -29,7 +32,7 @@ pub record PassedWhole (old new : Option (List ℕ)) (before now : Option (List 
 
 -- Of the bytes that were taken, these others aren't written. The first of them were passed on and wait. What was passed on
 -- ends in a part, of which it has the bytes begun, and the rest was taken of that part. The others are at most 8 for each
--- word of the part's PAGE_DATA, and 4608; and the rest alone is at most the words, where these are the part, or 4096.
+-- word of the part's PAGE_DATA, and 4608; and the rest alone is no more than the part has, and of a body than 4096.
 pub record AreHeld (wrote others : List ℕ) : Type 0 where
   pub waiting : List ℕ
   pub rest : List ℕ
@@ -65,11 +68,21 @@ IsCutPart old new before now = (p : PassedPart old new before now) × EndsInside
 abbrev pub IsWrittenPart : Option (List ℕ) → Option (List ℕ) → Option (List ℕ) → Option (List ℕ) → Type 0
 IsWrittenPart old new before now = (p : PassedPart old new before now) × EndsInside (open_stream_at p.wrote) × NoneWaits p
 
--- A passable front was passed on, and nothing else was taken; or the input is refused, with all causes but those that are
--- left out; or the source, the sink or memory failed. Where the input is refused, or memory failed, nothing waits.
+-- The input is refused, with all causes but those that are left out. All that was passed on was written, and that ends in
+-- the part of this place: in front of it, without a cause, or inside it where it is a body.
+pub record RefusedPart (old new : Option (List ℕ)) (before now : Option (List ℕ)) (place : Place) (cause : Cause) : Type 0 where
+  pub refused : IsRefusedBehind [] old new place cause
+  pub part : PassedPart old new before now
+  pub written : NoneWaits part
+  pub at : place_of_spot part.held.here ≡ Some place
+  pub unbegun : is_judged_first part.held.here ≡ true → part.held.begun ≡ []
+  pub cut : is_judged_first part.held.here ≡ true → EndsInside (open_stream_at part.wrote)
+
+-- A passable front was passed on, and nothing else was taken; or the input is refused; or the source, the sink or memory
+-- failed. Where memory failed, nothing waits.
 abbrev pub RelayedBy : Option (List ℕ) → Option (List ℕ) → Option (List ℕ) → Option (List ℕ) → Result Relayed RelayAnswer → Type 0
 RelayedBy old new before now (Ok relayed) = PassedWhole old new before now relayed
-RelayedBy old new before now (Err (Refused place cause)) = IsRefusedBehind [] old new place cause × (p : PassedPart old new before now) × NoneWaits p
+RelayedBy old new before now (Err (Refused place cause)) = RefusedPart old new before now place cause
 RelayedBy old new before now (Err WriteFault) = IsCutPart old new before now
 RelayedBy old new before now (Err ReadFault) = IsCutPart old new before now
 RelayedBy old new before now (Err Memory) = IsWrittenPart old new before now

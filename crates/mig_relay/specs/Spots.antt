@@ -16,7 +16,7 @@ use Rattle.mig_libxl.specs.Stream.StreamOf.{Bare}
 use Rattle.mig_passable.specs.Streams.{open_stream_at, open_wrapped, open_libxl_records, open_body}
 use Rattle.mig_records.specs.declared.head.RecordHead.{RecordHead}
 use Rattle.mig_libxc.specs.Stream.{ImageOf}
-use Rattle.mig_relay.specs.Parts.{Next, AtWords, judged_next}
+use Rattle.mig_relay.specs.Parts.{Next, AtVersion, AtKind, AtBody, AtWords, AtPages, judged_next}
 
 -- an image that stands alone, or behind these records of a libxl stream and a head of LIBXC_CONTEXT
 pub data Outer : Type 0 where
@@ -73,7 +73,18 @@ spot (AtLibxlPadding records head content) input = libxl_padded records head con
 spot (InImage outer next) input = judged_next next input >>= carry outer
 spot (AtEnd s) input = Passes s input
 
--- how many bytes of the part that comes next may have been taken and not written: the words of a PAGE_DATA, or 4096
+-- How many bytes of the part that comes next may have been taken and not written: all that it has, which are at most 8 of a
+-- padding, and of a body a piece of 4096.
+abbrev pub held_of_next : Next → ℕ
+held_of_next AtVersion = 16
+held_of_next (AtKind version) = 16
+held_of_next (AtBody o records head) = 4096
+held_of_next (AtWords o records head n) = 8 * n
+held_of_next (AtPages o records head coming stood) = 4096
+held_of_next _ = 8
+
 abbrev pub held : Spot → ℕ
-held (InImage outer (AtWords o records head n)) = 8 * n
-held _ = 4096
+held (AtLibxlBody records head) = 4096
+held (InImage outer next) = held_of_next next
+held (AtEnd s) = 0
+held _ = 8

@@ -9,7 +9,7 @@ use Rattle.mig_passable.specs.Streams.{open_stream_at, IsPassable}
 use Rattle.mig_relay.specs.Following.{ComesNext, place_of_spot}
 use Rattle.mig_relay.specs.Keeping.{Keeps, HasRecords}
 use Rattle.mig_relay.specs.Spots.{Spot, spot, held}
-use Rattle.mig_relay.specs.Steps.{IsStep, EndsInside, IsUnfinished, WritesFront, is_judged_first}
+use Rattle.mig_relay.specs.Steps.{IsStep, EndsInside, IsUnfinished, KeepsWordsInHand, WritesFront, is_judged_first}
 use Rattle.mig_relay.specs.declared.answer.RelayAnswer.{RelayAnswer}
 use Rattle.mig_relay.specs.declared.answer.RelayAnswer.TheVariants.{Refused, ReadFault, WriteFault, Memory}
 use Rattle.mig_relay.specs.declared.answer.Step.{Step}
@@ -65,7 +65,7 @@ is_within (comes.Padding head) = true
 is_within _ = false
 
 -- a piece was taken and written, and the relay stands for the bytes with it at their end
-pub record PassesOn (here : Spot) (begun bytes : List ℕ) (step : Step) (t : Relay) (old new : Option (List ℕ)) (before now : Option (List ℕ)) : Type 0 where
+pub record PassesOn (here : Spot) (begun bytes : List ℕ) (step : Step) (r t : Relay) (old new : Option (List ℕ)) (before now : Option (List ℕ)) : Type 0 where
   pub piece : List ℕ
   pub some : 0 < length piece
   pub taken : Consumes old new piece
@@ -73,6 +73,7 @@ pub record PassesOn (here : Spot) (begun bytes : List ℕ) (step : Step) (t : Re
   pub stands : StandsForBytes t (bytes ++ piece)
   pub follows : ComesNext here begun piece stands.here stands.begun
   pub is : IsStep here piece t step
+  pub words : KeepsWordsInHand r t step
 
 -- the open refusal of these bytes and those that are left
 abbrev pub IsRefusedBehind : List ℕ → Option (List ℕ) → Option (List ℕ) → Place → Cause → Type 0
@@ -93,7 +94,7 @@ StopsInside here bytes old new before now = (wrote : List ℕ) × WritesFront (h
 -- failed inside the part.
 abbrev pub StepSays : Spot → List ℕ → List ℕ → Relay → Relay → Option (List ℕ) → Option (List ℕ) → Option (List ℕ) → Option (List ℕ) → Result Step RelayAnswer → Type 0
 StepSays here begun bytes r t old new before now (Ok Done) = (s : StreamOf) × IsPassable bytes s × Stays old new × Stays before now × HasRecords r.seen.records s
-StepSays here begun bytes r t old new before now (Ok step) = PassesOn here begun bytes step t old new before now
+StepSays here begun bytes r t old new before now (Ok step) = PassesOn here begun bytes step r t old new before now
 StepSays here begun bytes r t old new before now (Err (Refused place cause)) = IsRefusedBehind bytes old new place cause × WritesSomeBehind here bytes old new before now place
 StepSays here begun bytes r t old new before now (Err ReadFault) = StopsInside here bytes old new before now
 StepSays here begun bytes r t old new before now (Err WriteFault) = StopsInside here bytes old new before now

@@ -78,6 +78,10 @@ EndsInside judged = (place : Place) × (judged ≡ Faulty (place, Truncated) [])
 abbrev pub FrontsAreCut : Spot → List ℕ → List ℕ → Type 0
 FrontsAreCut here begun piece = (front more : List ℕ) → piece ≡ front ++ more → 0 < length more → EndsInside (spot here (begun ++ front))
 
+-- a piece with no value of its own leaves the words in hand
+abbrev pub KeepsWordsInHand : Relay → Relay → Step → Type 0
+KeepsWordsInHand r t step = step ≡ Piece → words_in_hand t ≡ words_in_hand r
+
 -- a piece was taken and written, and the relay has it behind it
 pub record PassedPiece (here : Spot) (begun : List ℕ) (step : Step) (r t : Relay) (old new : Option (List ℕ)) (before now : Option (List ℕ)) : Type 0 where
   pub piece : List ℕ
@@ -93,6 +97,7 @@ pub record PassedPiece (here : Spot) (begun : List ℕ) (step : Step) (r t : Rel
   pub follows : ComesNext here begun piece next front
   pub count : t.passed ≡ counted r.passed (length piece)
   pub is : IsStep here piece t step
+  pub words : KeepsWordsInHand r t step
 
 -- at most so many bytes were taken, and the first of them written
 pub record WritesFront (most : ℕ) (old new : Option (List ℕ)) (before now : Option (List ℕ)) (wrote : List ℕ) : Type 0 where

@@ -60,7 +60,7 @@ looks_first r seen old keeps stands front hand = record {
 }
 
 -- behind a step
-passes_of : {here : Spot} {begun bytes : List ℕ} {t : Relay} {old new before now : Option (List ℕ)} (r : Relay) (step : Step) → step ≢ steps.Done → StepSays here begun bytes r t old new before now (Ok step) → PassesOn here begun bytes step t old new before now
+passes_of : {here : Spot} {begun bytes : List ℕ} {t : Relay} {old new before now : Option (List ℕ)} (r : Relay) (step : Step) → step ≢ steps.Done → StepSays here begun bytes r t old new before now (Ok step) → PassesOn here begun bytes step r t old new before now
 passes_of r steps.Done other says = absurd (other refl)
 passes_of r step other says = says
 

@@ -1,6 +1,6 @@
 use Rattle.mig_passing.proofs.Common.{Written}
 use mathlib.Core.Logic.{inr}
-use Rattle.mig_passing.proofs.Relaying.{passed_says, passed_relayed, passed_breaks, passed_line, unpassed_comes}
+use Rattle.mig_passing.proofs.Relaying.{passed_says, passed_relayed, passed_breaks, passed_line, unpassed_comes, unpassed_relayed}
 use Rattle.mig_report.proofs.Statuses.{says_of, line_reported}
 use Rattle.mig_passing.proofs.passing.relay.Goals as goal
 
@@ -24,6 +24,9 @@ returns-in-Err-clause-said g c =
     let w : Written = record { out_old = g.K.Sink.written c.args.out.now; out_new = g.K.Sink.written c.relay.new.sink; report_old = g.R.Sink.written c.args.report.now; report_new = g.R.Sink.written c.finish.new.report } in
     says_of _ _ _ _ _ c.unrelayed.result c.finish.result c.finish.ensures.status
     (unpassed_comes (g.S.Source.left c.args.input.now) (g.S.Source.left c.relay.new.src) w c.in-Err.answer c.unrelayed.result c.in-Err.ensures.relayed c.unrelayed.ensures)
+
+pub returns-in-Err-clause-relayed : goal.returns-in-Err-clause-relayed
+returns-in-Err-clause-relayed g c = unpassed_relayed (g.S.Source.left c.args.input.now) (g.S.Source.left c.relay.new.src) _ _ c.in-Err.answer c.unrelayed.result c.finish.result c.in-Err.ensures.relayed c.unrelayed.ensures c.finish.ensures.status
 
 pub returns-in-Err-clause-line : goal.returns-in-Err-clause-line
 returns-in-Err-clause-line g c = λ _.

@@ -61,7 +61,7 @@ returns-then-self-clause-moved g c outer o records begun around kept other first
               },
             ),
           )
-          (ap (λ (r : Relay). r.passed) same) (refl, omega (arith, size, c.next_piece-count.ensures.most))
+          (ap (λ (r : Relay). r.passed) same) (refl, omega (arith, size, c.next_piece-count.ensures.most)) (λ _. ap (λ (r : Relay). r.words.items) same)
           (more (InImage outer (AtBody o records c.args.head)) (InImage outer (AtBody o records c.args.head)) begun buf (begun ++ buf) c.args.head refl refl refl (λ e. cc) refl tt (omega (arith, length-append begun buf)));
     }
 
@@ -102,5 +102,5 @@ returns-clause-moved g c outer o records begun around kept other first body =
           goes_on _ _ _ _ _ is begun c.args.self.now _ _ _ _ _ buf _ b.next [] Piece (omega (arith, size, body.known.taken, c.next_piece-count.ensures.within, body.len)) (omega (arith, size, c.next_piece-count.ensures.most)) some c.in_default.ensures.read c.in_default-put.ensures.bytes
           (λ more. ap (spot (InImage outer (AtBody o records c.args.head))) (sym (append_assoc begun buf more))
           ∙ passes (InImage outer (AtBody o records c.args.head)) _ _ _ _ is (begun ++ buf) more whole (sym (c.fault.ensures (fault_of_record_body c.args.head.kind) (begun ++ buf) known) ∙ c.in_default-fault.is) ∙ b.same more)
-          b.keeps (ap (λ (r : Relay). r.passed) same) (refl, omega (arith, size, c.next_piece-count.ensures.most)) (b.follows begun buf (omega (arith, whole, length-append begun buf)));
+          b.keeps (ap (λ (r : Relay). r.passed) same) (refl, omega (arith, size, c.next_piece-count.ensures.most)) (λ _. ap (λ (r : Relay). r.words.items) same) (b.follows begun buf (omega (arith, whole, length-append begun buf)));
     }

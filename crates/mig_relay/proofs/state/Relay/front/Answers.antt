@@ -42,6 +42,6 @@ returns-clause-moved g c outer o records around kept pages =
       is =
           went (front_is outer o records c.args.head) _ _ _ _ _ _ buf (omega (arith, c.take_part.auto.buf)) (omega (arith, c.take_part.auto.buf)) _ (InImage outer (AtWords o records c.args.head n)) [] _
           (fine ∙ ap (fault_of_count c.args.head.len) c.u32_le-count.ensures) c.in_default.ensures.read c.in_default-put.ensures.bytes (λ more. ap (λ m. spot (InImage outer (AtWords o records c.args.head m)) more) (sym c.u32_le-count.ensures))
-          (outer_stays _ _ outer stays around, (refl, records_stay _ _ o records _ _ stays kept, pages, in_count c.args.head.len n fine, refl)) (ap (λ (r : Relay). r.passed) put) (refl, omega (arith, c.take_part.auto.buf))
+          (outer_stays _ _ outer stays around, (refl, records_stay _ _ o records _ _ stays kept, pages, in_count c.args.head.len n fine, refl)) (ap (λ (r : Relay). r.passed) put) (refl, omega (arith, c.take_part.auto.buf)) (λ _. ap (λ (r : Relay). r.words.items) put)
           (subst (λ m. ComesNext (InImage outer (AtFront o records c.args.head)) [] buf (InImage outer (AtWords o records c.args.head m)) []) (sym c.u32_le-count.ensures) (count outer o records c.args.head buf (omega (arith, c.take_part.auto.buf)) (omega (arith, (in_count c.args.head.len n fine).1, c.u32_le-count.ensures))));
     }

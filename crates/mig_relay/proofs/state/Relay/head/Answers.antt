@@ -69,5 +69,5 @@ returns-clause-moved g c = λ outer o records kept k.
           went (lifted (carry outer) (whole_head_is o records k.going)) _ _ _ _ _ _ b c.take_part.auto.buf (omega (arith, c.take_part.auto.buf)) _ n.next [] _
           (c.in_default-empty_fault.ensures ∙ ap fault_of_empty c.decode-head.ensures.value ∙ ap (λ f. option_or f (fault_of_empty (head_in b))) (fine ∙ ap (λ (x : RecordHead). fault_of_fields (before o records) x.kind x.len) c.decode-head.ensures.value))
           c.in_default.ensures.read c.in_default-put.ensures.bytes (λ more. ap (λ (x : RecordHead). spot (InImage outer (AtBody o records x)) more) (sym c.decode-head.ensures.value) ∙ n.same more) n.keeps (e.passed ∙ ap (λ (x : Relay). x.passed) same)
-          (refl, c.decode-head.ensures.value, e.words) (n.follows b c.take_part.auto.buf (sym c.decode-head.ensures.value));
+          (refl, c.decode-head.ensures.value, e.words) (λ e. cc) (n.follows b c.take_part.auto.buf (sym c.decode-head.ensures.value));
     }

@@ -30,5 +30,5 @@ returns-in_default-put-clause-moved g c = λ outer kept.
       is =
           went (lifted (carry outer) (kind_is c.args.version)) _ _ _ _ _ _ c.take_part.new.buf c.take_part.auto.buf (omega (arith, c.take_part.auto.buf)) _ (InImage outer (AtHead (opening_of c.args.version c.in-Ok.header.kind) [])) [] _ d.0 c.in_default.ensures.read c.in_default-put.ensures.bytes
           (λ more. ap (λ (h : DomainHeader). spot (InImage outer (AtHead (opening_of c.args.version h.kind) [])) more) d.1)
-          (outer_same _ _ outer (ap (λ r. r.wrapper) c.in_default-put.ensures.kept) kept, (refl, no_records _ c.args.version c.in-Ok.header.kind c.new-self.ensures.seen refl, refl)) (ap (λ r. r.passed) c.in_default-put.ensures.kept) (sym (ap (λ (h : DomainHeader). h.kind) d.1)) (kind outer c.args.version (opening_of c.args.version c.in-Ok.header.kind) b c.take_part.auto.buf);
+          (outer_same _ _ outer (ap (λ r. r.wrapper) c.in_default-put.ensures.kept) kept, (refl, no_records _ c.args.version c.in-Ok.header.kind c.new-self.ensures.seen refl, refl)) (ap (λ r. r.passed) c.in_default-put.ensures.kept) (sym (ap (λ (h : DomainHeader). h.kind) d.1)) (λ e. cc) (kind outer c.args.version (opening_of c.args.version c.in-Ok.header.kind) b c.take_part.auto.buf);
     }

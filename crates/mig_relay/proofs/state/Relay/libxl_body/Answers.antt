@@ -46,7 +46,7 @@ returns-then-self-clause-moved g c records begun kept bodied body =
               less = omega (arith, length-append begun c.take_part.new.buf, len, taken, body.known.taken, body.len, c.if-self.true);
             },
           )
-          (ap (λ (r : Relay). r.passed) same) (refl, omega (arith, size, c.next_piece-count.ensures.most))
+          (ap (λ (r : Relay). r.passed) same) (refl, omega (arith, size, c.next_piece-count.ensures.most)) (λ _. ap (λ (r : Relay). r.words.items) same)
           (more (AtLibxlBody records c.args.head) (AtLibxlBody records c.args.head) begun c.take_part.new.buf (begun ++ c.take_part.new.buf) c.args.head refl refl refl (λ e. cc) refl tt (omega (arith, length-append begun c.take_part.new.buf)));
     }
 
@@ -79,5 +79,5 @@ returns-clause-moved g c records begun kept bodied body =
           goes_on _ _ _ _ _ is begun c.args.self.now _ _ _ _ _ c.take_part.new.buf _ b.next [] Piece (omega (arith, size, body.known.taken, c.next_piece-count.ensures.within, body.len)) (omega (arith, size, c.next_piece-count.ensures.most)) (omega (arith, size, c.next_piece-count.ensures.some)) c.in_default-take_part.ensures.read c.in_default-put.ensures.bytes
           (λ more. ap (spot (AtLibxlBody records c.args.head)) (sym (append_assoc begun c.take_part.new.buf more))
           ∙ passes (AtLibxlBody records c.args.head) _ _ _ _ is (begun ++ c.take_part.new.buf) more whole (sym (c.fault.ensures (fault_of_libxl_body c.args.head.kind) (begun ++ c.take_part.new.buf) known) ∙ c.in_default-fault.is) ∙ b.same more)
-          b.keeps (b.passed ∙ ap (λ (r : Relay). r.passed) same) (refl, omega (arith, size, c.next_piece-count.ensures.most)) (b.follows begun c.take_part.new.buf (omega (arith, whole, length-append begun c.take_part.new.buf)));
+          b.keeps (b.passed ∙ ap (λ (r : Relay). r.passed) same) (refl, omega (arith, size, c.next_piece-count.ensures.most)) (λ _. b.words ∙ ap (λ (r : Relay). r.words.items) same) (b.follows begun c.take_part.new.buf (omega (arith, whole, length-append begun c.take_part.new.buf)));
     }

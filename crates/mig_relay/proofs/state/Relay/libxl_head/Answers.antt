@@ -39,5 +39,5 @@ returns-clause-moved g c = λ records w.
       is =
           went (libxl_head_is records w.1) _ _ _ _ _ _ c.take_part.new.buf c.take_part.auto.buf (omega (arith, c.take_part.auto.buf)) _ n.next [] _ (f.fault records (are_behind _ records w.0 c.in-Some.behind c.in-Some.is) ∙ ap (λ (x : RecordHead). fault_of_libxl_head records x.kind x.len) c.decode-head.ensures.value)
           c.in_default-take_part.ensures.read c.in_default-put.ensures.bytes (λ more. ap (λ (x : RecordHead). behind_libxl_head records x more) (sym c.decode-head.ensures.value) ∙ n.same more) n.keeps (e.passed ∙ ap (λ (x : Relay). x.passed) same)
-          (refl, c.decode-head.ensures.value, e.words) (n.follows c.take_part.new.buf c.take_part.auto.buf (sym c.decode-head.ensures.value));
+          (refl, c.decode-head.ensures.value, e.words) (λ e. cc) (n.follows c.take_part.new.buf c.take_part.auto.buf (sym c.decode-head.ensures.value));
     }

@@ -21,5 +21,5 @@ returns-in_default-put-clause-moved g c =
     record {
       is =
           went header_is _ _ _ _ _ _ c.take_part.new.buf c.take_part.auto.buf (omega (arith, c.take_part.auto.buf)) _ (AtLibxlHead []) [] _ (ok_none (fault_of_libxl c.take_part.new.buf) _ _ c.in-Ok.ensures.value).0 c.in_default.ensures.read c.in_default-put.ensures.bytes
-          (λ more. refl) (refl, (wrapper_same _ _ [] (ap (λ r. r.wrapper) c.in_default-put.ensures.kept) (ap (λ r. r.seen) c.in_default-put.ensures.kept) c.requires, refl), refl) (ap (λ r. r.passed) c.in_default-put.ensures.kept) (refl, omega (arith, c.take_part.auto.buf)) (wrapper_header c.take_part.new.buf c.take_part.auto.buf);
+          (λ more. refl) (refl, (wrapper_same _ _ [] (ap (λ r. r.wrapper) c.in_default-put.ensures.kept) (ap (λ r. r.seen) c.in_default-put.ensures.kept) c.requires, refl), refl) (ap (λ r. r.passed) c.in_default-put.ensures.kept) (refl, omega (arith, c.take_part.auto.buf)) (λ _. ap (λ r. r.words.items) c.in_default-put.ensures.kept) (wrapper_header c.take_part.new.buf c.take_part.auto.buf);
     }

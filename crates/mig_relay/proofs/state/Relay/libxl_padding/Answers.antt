@@ -33,7 +33,7 @@ returns-clause-moved g c records content kept bodied none = record {
         wrapped_more records (record { type = head.kind; content = content }) c.args.self.now _ c.in-Some.behind kept.0 c.in-Some.is (ap (λ (r : Relay). r.wrapper) behind) (ap (λ (r : Relay). r.seen) behind ∙ ap (λ (r : Relay). r.seen) same) none bodied.0,
         refl,
       )
-      (ap (λ (r : Relay). r.passed) behind ∙ ap (λ (r : Relay). r.passed) same) (refl, grind (arith, common_steps, c.take_part.auto.buf, c.pad_len.ensures.small))
+      (ap (λ (r : Relay). r.passed) behind ∙ ap (λ (r : Relay). r.passed) same) (refl, grind (arith, common_steps, c.take_part.auto.buf, c.pad_len.ensures.small)) (λ _. ap (λ (r : Relay). r.words.items) behind ∙ ap (λ (r : Relay). r.words.items) same)
       (whole (AtLibxlPadding records head content) _ [] c.take_part.new.buf head refl (λ e. cc) tt (grind (arith, common_steps, c.take_part.auto.buf, c.pad_len.ensures.value, c.pad_len.ensures.small)) (libxl_next records (record { type = head.kind; content = content }) head.kind bodied.0 bodied.1 none));
 }
   where

@@ -21,5 +21,5 @@ pub returns-clause-moved : goal.returns-clause-moved
 returns-clause-moved g c = λ outer kept. record {
   is =
       went (lifted (carry outer) marker_is) _ _ _ _ _ _ c.take_part.new.buf c.take_part.auto.buf (omega (arith, c.take_part.auto.buf)) _ (InImage outer AtVersion) [] _ c.in_default-marker_fault.ensures.fault c.in_default.ensures.read c.in_default-put.ensures.bytes (λ more. refl)
-      (outer_same _ _ outer (ap (λ r. r.wrapper) c.in_default-put.ensures.kept) kept, (refl, refl)) (ap (λ r. r.passed) c.in_default-put.ensures.kept) refl (marker outer c.take_part.new.buf c.take_part.auto.buf);
+      (outer_same _ _ outer (ap (λ r. r.wrapper) c.in_default-put.ensures.kept) kept, (refl, refl)) (ap (λ r. r.passed) c.in_default-put.ensures.kept) refl (λ e. cc) (marker outer c.take_part.new.buf c.take_part.auto.buf);
 }

@@ -36,7 +36,7 @@ returns-clause-moved g c outer o records content around kept other = record {
           refl,
         ),
       )
-      (ap (λ (r : Relay). r.passed) same) (refl, grind (arith, common_steps, c.take_part.auto.buf, c.pad_len.ensures.small))
+      (ap (λ (r : Relay). r.passed) same) (refl, grind (arith, common_steps, c.take_part.auto.buf, c.pad_len.ensures.small)) (λ _. ap (λ (r : Relay). r.words.items) same)
       (whole (InImage outer (AtPadding o records head content)) _ [] c.take_part.new.buf head refl (λ e. cc) tt (grind (arith, common_steps, c.take_part.auto.buf, c.pad_len.ensures.value, c.pad_len.ensures.small)) (image_next outer o records (record_with records head content) head.kind other));
 }
   where

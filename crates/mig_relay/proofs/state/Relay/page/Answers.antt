@@ -56,5 +56,6 @@ returns-clause-moved g c outer o records coming stood around kept pages padding 
           c.in_default-put.ensures.bytes (λ more. ap (λ (x : Relay). spot (InImage outer (AtPages o records c.args.head (others x) behind)) more) (sym put) ∙ t.same more) t.keeps
           (turning_keeps held c.turn_to.new.self c.args.head e.within.1 e.page e.over (λ x. x.passed) (λ _. refl) (λ _. refl) ∙ ap (λ (x : Relay). x.passed) put)
           (refl, omega (arith, c.take_part.auto.buf))
+          (λ _. turning_keeps held c.turn_to.new.self c.args.head e.within.1 e.page e.over (λ x. x.words.items) (λ _. refl) (λ _. refl) ∙ ap (λ (x : Relay). x.words.items) put)
           (t.follows (InImage outer (AtPages o records c.args.head coming stood)) buf refl refl (λ e. cc) tt (page_left r held coming stood (length buf) words (ap (λ (x : Relay). x.words.items) put) (ap (λ (x : Relay). x.page) put) (omega (arith, c.take_part.auto.buf))));
     }

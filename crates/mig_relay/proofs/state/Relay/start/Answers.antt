@@ -26,7 +26,7 @@ returns-then-wrapped-clause-moved g c =
     record {
       is =
           went start_is _ _ _ _ _ _ b c.take_part.auto.buf (omega (arith, c.take_part.auto.buf)) _ AtLibxlHeader [] _ c.in_default-start_fault.ensures c.in_default.ensures.read c.in_default-put.ensures.bytes
-          (wrapped_form b (sym (c.is_ident-wrapped.ensures) ∙ c.if-wrapped.true)) (refl, none_behind _ refl, refl) (ap (λ r. r.passed) c.in_default-put.ensures.kept) c.is_ident-wrapped.ensures (wrapper_opens b c.take_part.auto.buf (sym (c.is_ident-wrapped.ensures) ∙ c.if-wrapped.true));
+          (wrapped_form b (sym (c.is_ident-wrapped.ensures) ∙ c.if-wrapped.true)) (refl, none_behind _ refl, refl) (ap (λ r. r.passed) c.in_default-put.ensures.kept) c.is_ident-wrapped.ensures (λ e. cc) (wrapper_opens b c.take_part.auto.buf (sym (c.is_ident-wrapped.ensures) ∙ c.if-wrapped.true));
     }
 
 pub returns-else-wrapped-clause-moved : goal.returns-else-wrapped-clause-moved
@@ -35,7 +35,7 @@ returns-else-wrapped-clause-moved g c =
     record {
       is =
           went start_is _ _ _ _ _ _ b c.take_part.auto.buf (omega (arith, c.take_part.auto.buf)) _ (InImage Alone AtVersion) [] _ c.in_default-start_fault.ensures c.in_default.ensures.read c.in_default-put.ensures.bytes
-          (bare_form b (sym (c.is_ident-wrapped.ensures) ∙ c.if-wrapped.false)) (ap (λ r. r.wrapper) c.in_default-put.ensures.kept ∙ c.requires, (refl, refl)) (ap (λ r. r.passed) c.in_default-put.ensures.kept) c.is_ident-wrapped.ensures (image_opens b c.take_part.auto.buf (sym (c.is_ident-wrapped.ensures) ∙ c.if-wrapped.false));
+          (bare_form b (sym (c.is_ident-wrapped.ensures) ∙ c.if-wrapped.false)) (ap (λ r. r.wrapper) c.in_default-put.ensures.kept ∙ c.requires, (refl, refl)) (ap (λ r. r.passed) c.in_default-put.ensures.kept) c.is_ident-wrapped.ensures (λ e. cc) (image_opens b c.take_part.auto.buf (sym (c.is_ident-wrapped.ensures) ∙ c.if-wrapped.false));
     }
 
 pub returns-in-Err-clause-ident : goal.returns-in-Err-clause-ident

@@ -67,5 +67,6 @@ returns-clause-moved g c outer o records around kept pages =
           (λ more. ap (λ l. spot (InImage outer (AtPages o records c.args.head (with_places 0 l) [])) more) (sym kept_words) ∙ t.same more) t.keeps
           (turning_keeps held c.turn_to.new.self c.args.head e.within.1 e.page e.over (λ r. r.passed) (λ _. refl) (λ _. refl) ∙ ap (λ (r : Relay). r.passed) put ∙ ap (λ l. counted c.args.self.now.passed (length l)) c.deref-3.ensures.value)
           (turning_keeps held c.turn_to.new.self c.args.head e.within.1 e.page e.over (λ r. r.words.items) (λ _. refl) (λ _. refl) ∙ kept_words, size)
+          (λ e. cc)
           (t.follows (InImage outer (AtWords o records c.args.head n)) bytes refl refl (λ e. cc) (filled o.kind (before o records).top c.args.head n bytes fine) (words_left o.kind (before o records).top c.args.head n bytes fine held.words.items kept_words size));
     }

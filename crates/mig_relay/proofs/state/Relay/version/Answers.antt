@@ -27,5 +27,5 @@ returns-in_default-put-clause-moved g c = λ outer kept.
     record {
       is =
           went (lifted (carry outer) version_is) _ _ _ _ _ _ c.take_part.new.buf c.take_part.auto.buf (omega (arith, c.take_part.auto.buf)) _ (InImage outer (AtKind c.in-Ok.header.version)) [] _ d.0 c.in_default.ensures.read c.in_default-put.ensures.bytes
-          (λ more. ap (λ (h : ImageHeader). spot (InImage outer (AtKind h.version)) more) d.1) (outer_same _ _ outer (ap (λ r. r.wrapper) c.in_default-put.ensures.kept) kept, (refl, refl)) (ap (λ r. r.passed) c.in_default-put.ensures.kept) (sym (ap (λ (h : ImageHeader). h.version) d.1)) (version outer c.in-Ok.header.version b c.take_part.auto.buf);
+          (λ more. ap (λ (h : ImageHeader). spot (InImage outer (AtKind h.version)) more) d.1) (outer_same _ _ outer (ap (λ r. r.wrapper) c.in_default-put.ensures.kept) kept, (refl, refl)) (ap (λ r. r.passed) c.in_default-put.ensures.kept) (sym (ap (λ (h : ImageHeader). h.version) d.1)) (λ e. cc) (version outer c.in-Ok.header.version b c.take_part.auto.buf);
     }
