@@ -15,7 +15,7 @@ use Rattle.mig_around.proofs.PvSettings.{pv_last_seen, pv_last_within}
 
 pub others_are : (rs : List Record) → AllByRecursion IsOther rs → AllByRecursion IsOtherRecord rs
 others_are [] p = tt
-others_are (r ∷ rs) p = (record { no_pages = p.0.1; no_end = p.0.0.no_end }, others_are rs p.1)
+others_are (r ∷ rs) p = (record { no_pages = p.0.1.0; no_verify = p.0.1.1; no_end = p.0.0.no_end }, others_are rs p.1)
 
 -- ---- behind the frames of an HVM host
 

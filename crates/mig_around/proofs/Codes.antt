@@ -226,16 +226,20 @@ module _ (h : HostOf) where
         ∙ ap (λ (l : List Record). records_of Tsc settings ++ (l ++ (context_record front ∷ []))) (sym (append-nil (records_of HvmParam settings)))
         ∙ sym (append_assoc (records_of Tsc settings) (records_of HvmParam settings ++ []) (context_record front ∷ []))
 
--- ---- none of them is END or has frames
+-- ---- none of them is END or VERIFY, or has frames
 
 pub both_all : (P : Record → Type 0) (rs ss : List Record) → AllByRecursion P rs → AllByRecursion P ss → AllByRecursion P (rs ++ ss)
 both_all P [] ss p q = q
 both_all P (r ∷ rs) ss p q = (p.0, both_all P rs ss p.1 q)
 
-abbrev pub IsOther : Record → Type 0
-IsOther r = IsRecordWithin r × (r.0 ≢ 1)
+-- the type of no record that has frames, and not that of VERIFY
+abbrev pub IsOtherType : ℕ → Type 0
+IsOtherType type = (type ≢ 1) × (type ≢ 13)
 
-bodies_within : (code : PartCode) → code_number code < 2 ^ 32 → code_number code ≢ 0 → code_number code ≢ 1 → (bodies : List (List ℕ)) (contents : List (List Part)) → SayAll code bodies contents
+abbrev pub IsOther : Record → Type 0
+IsOther r = IsRecordWithin r × IsOtherType r.0
+
+bodies_within : (code : PartCode) → code_number code < 2 ^ 32 → code_number code ≢ 0 → IsOtherType (code_number code) → (bodies : List (List ℕ)) (contents : List (List Part)) → SayAll code bodies contents
     → AllByRecursion IsOther (map (λ (body : List ℕ). (code_number code, body)) bodies)
 bodies_within code small no_end no_page [] contents say = tt
 bodies_within code small no_end no_page (body ∷ bodies) [] say = absurd say
@@ -248,7 +252,7 @@ p2m_by Hvm top o = []
 p2m_by Pv top o = p2m_record top o
 
 module _ (g : GuestOf) (formed : IsFormed g) where
-  pub code_within : (code : PartCode) → code_number code < 2 ^ 32 → code_number code ≢ 0 → code_number code ≢ 1 → AllByRecursion IsOther (records_of code g)
+  pub code_within : (code : PartCode) → code_number code < 2 ^ 32 → code_number code ≢ 0 → IsOtherType (code_number code) → AllByRecursion IsOther (records_of code g)
   code_within code small no_end no_page = bodies_within code small no_end no_page (canonical_bodies code (parts_at code g)) (contents_by_shape (shape_of code) (parts_at code g)) (canonical_bodies_say code g formed)
 
   two_within : (a b : PartCode) (last : Record) → AllByRecursion IsOther (records_of a g) → AllByRecursion IsOther (records_of b g) → IsOther last → AllByRecursion IsOther (records_in_order (a ∷ b ∷ []) g ++ last ∷ [])
@@ -256,12 +260,12 @@ module _ (g : GuestOf) (formed : IsFormed g) where
 
   static_within : AllByRecursion IsOther (static_bodies g)
   static_within =
-      two_within CpuidLeaf Msr (0x10, []) (code_within CpuidLeaf (omega arith) (λ e. omega (arith, e)) (λ e. omega (arith, e))) (code_within Msr (omega arith) (λ e. omega (arith, e)) (λ e. omega (arith, e)))
-      (record { short = record { type = omega arith; len = omega arith }; no_end = λ e. omega (arith, e) }, λ e. omega (arith, e))
+      two_within CpuidLeaf Msr (0x10, []) (code_within CpuidLeaf (omega arith) (λ e. omega (arith, e)) (λ e. omega (arith, e), λ e. omega (arith, e))) (code_within Msr (omega arith) (λ e. omega (arith, e)) (λ e. omega (arith, e), λ e. omega (arith, e)))
+      (record { short = record { type = omega arith; len = omega arith }; no_end = λ e. omega (arith, e) }, (λ e. omega (arith, e), λ e. omega (arith, e)))
 
   info_within : (k : Kind) → AllByRecursion IsOther (info_records k)
   info_within Hvm = tt
-  info_within Pv = ((record { short = record { type = omega arith; len = omega (arith, length-replicate {A = ℕ} 6 0) }; no_end = λ e. omega (arith, e) }, λ e. omega (arith, e)), tt)
+  info_within Pv = ((record { short = record { type = omega arith; len = omega (arith, length-replicate {A = ℕ} 6 0) }; no_end = λ e. omega (arith, e) }, (λ e. omega (arith, e), λ e. omega (arith, e))), tt)
 
   p2m_within : (k : Kind) → g.kind ≡ k → (o : Option (List ℕ)) → maps.get g.parts p2m_key ≡ o → AllByRecursion IsOther (p2m_by k g.top o)
   p2m_within Hvm kind o at = tt
@@ -274,7 +278,7 @@ module _ (g : GuestOf) (formed : IsFormed g) where
             short = record { type = omega arith; len = omega (arith, short, length-append (replicate 4 0) (numbers ++ frames), length-append numbers frames, length-replicate {A = ℕ} 4 0, length-bytes_low_first 0 4 g.top) };
             no_end = λ e. omega (arith, e);
           },
-          λ e. omega (arith, e),
+          (λ e. omega (arith, e), λ e. omega (arith, e)),
         ),
         tt,
       )
@@ -291,8 +295,8 @@ module _ (g : GuestOf) (formed : IsFormed g) where
 
   pub closing_within : (front : List ℕ) → length front + 8 ≤ 2 ^ 27 → AllByRecursion IsOther (closing_records g front)
   closing_within front short =
-      two_within Tsc HvmParam (context_record front) (code_within Tsc (omega arith) (λ e. omega (arith, e)) (λ e. omega (arith, e))) (code_within HvmParam (omega arith) (λ e. omega (arith, e)) (λ e. omega (arith, e)))
-      (record { short = record { type = omega arith; len = omega (arith, short, length-append front (replicate 8 0), length-replicate {A = ℕ} 8 0) }; no_end = λ e. omega (arith, e) }, λ e. omega (arith, e))
+      two_within Tsc HvmParam (context_record front) (code_within Tsc (omega arith) (λ e. omega (arith, e)) (λ e. omega (arith, e), λ e. omega (arith, e))) (code_within HvmParam (omega arith) (λ e. omega (arith, e)) (λ e. omega (arith, e), λ e. omega (arith, e)))
+      (record { short = record { type = omega arith; len = omega (arith, short, length-append front (replicate 8 0), length-replicate {A = ℕ} 8 0) }; no_end = λ e. omega (arith, e) }, (λ e. omega (arith, e), λ e. omega (arith, e)))
 
 pub are_within : (rs : List Record) → AllByRecursion IsOther rs → AreRecordsWithin rs
 are_within [] p = tt

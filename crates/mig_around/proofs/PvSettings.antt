@@ -27,7 +27,7 @@ use Rattle.mig_hosted.proofs.ViewedParts.{pv_part}
 use Rattle.mig_hosted.proofs.ViewedSays.{ents_there}
 use Rattle.mig_around.specs.KeptParts.{is_setting}
 use Rattle.mig_around.specs.SaveTexts.{settings_seen}
-use Rattle.mig_around.proofs.Codes.{IsOther, both_all, code_within, from_kept, same_records, seen_as}
+use Rattle.mig_around.proofs.Codes.{IsOther, IsOtherType, both_all, code_within, from_kept, same_records, seen_as}
 use Rattle.mig_around.proofs.Walks.{kept_at}
 
 module _ (h : HostOf) where
@@ -115,20 +115,20 @@ module _ (h : HostOf) where
         policies = λ code one. each_policy (λ c. is_policy c ≡ true → FitsPolicy c (settings_seen h).parts) (λ two. no_policy 17 two refl) (λ two. no_policy 18 two refl) code one one;
       }
 
--- ---- none of its records is END or has frames
+-- ---- none of its records is END or VERIFY, or has frames
 
 module _ (g : GuestOf) (formed : IsFormed g) where
-  part_within : (code : PartCode) (key : PartKey) (o : Option (List ℕ)) → code_number code < 2 ^ 32 → code_number code ≢ 0 → code_number code ≢ 1
+  part_within : (code : PartCode) (key : PartKey) (o : Option (List ℕ)) → code_number code < 2 ^ 32 → code_number code ≢ 0 → IsOtherType (code_number code)
       → ((bytes : List ℕ) → o ≡ Some bytes → length (part_body (shape_of code) (key, bytes)) ≤ 2 ^ 27) → AllByRecursion IsOther (part_record code key o)
   part_within code key None small no_end no_page short = tt
   part_within code key (Some bytes) small no_end no_page short = ((record { short = record { type = small; len = short bytes refl }; no_end = no_end }, no_page), tt)
 
   vcpu_within : (id : ℕ) → AllByRecursion IsOther (records_of_vcpu g id)
   vcpu_within id =
-      both_all IsOther (vcpu_record g id VcpuBasic) _ (part_within VcpuBasic (key_of VcpuBasic id) (maps.get g.parts (key_of VcpuBasic id)) (omega arith) (λ e. omega (arith, e)) (λ e. omega (arith, e)) (short_part g formed VcpuBasic id))
-      (both_all IsOther (vcpu_record g id VcpuExtended) _ (part_within VcpuExtended (key_of VcpuExtended id) (maps.get g.parts (key_of VcpuExtended id)) (omega arith) (λ e. omega (arith, e)) (λ e. omega (arith, e)) (short_part g formed VcpuExtended id))
-      (both_all IsOther (vcpu_record g id VcpuXsave) _ (part_within VcpuXsave (key_of VcpuXsave id) (maps.get g.parts (key_of VcpuXsave id)) (omega arith) (λ e. omega (arith, e)) (λ e. omega (arith, e)) (short_part g formed VcpuXsave id))
-      (both_all IsOther (vcpu_record g id VcpuMsrs) [] (part_within VcpuMsrs (key_of VcpuMsrs id) (maps.get g.parts (key_of VcpuMsrs id)) (omega arith) (λ e. omega (arith, e)) (λ e. omega (arith, e)) (short_part g formed VcpuMsrs id)) tt)))
+      both_all IsOther (vcpu_record g id VcpuBasic) _ (part_within VcpuBasic (key_of VcpuBasic id) (maps.get g.parts (key_of VcpuBasic id)) (omega arith) (λ e. omega (arith, e)) (λ e. omega (arith, e), λ e. omega (arith, e)) (short_part g formed VcpuBasic id))
+      (both_all IsOther (vcpu_record g id VcpuExtended) _ (part_within VcpuExtended (key_of VcpuExtended id) (maps.get g.parts (key_of VcpuExtended id)) (omega arith) (λ e. omega (arith, e)) (λ e. omega (arith, e), λ e. omega (arith, e)) (short_part g formed VcpuExtended id))
+      (both_all IsOther (vcpu_record g id VcpuXsave) _ (part_within VcpuXsave (key_of VcpuXsave id) (maps.get g.parts (key_of VcpuXsave id)) (omega arith) (λ e. omega (arith, e)) (λ e. omega (arith, e), λ e. omega (arith, e)) (short_part g formed VcpuXsave id))
+      (both_all IsOther (vcpu_record g id VcpuMsrs) [] (part_within VcpuMsrs (key_of VcpuMsrs id) (maps.get g.parts (key_of VcpuMsrs id)) (omega arith) (λ e. omega (arith, e)) (λ e. omega (arith, e), λ e. omega (arith, e)) (short_part g formed VcpuMsrs id)) tt)))
 
   ids_within : (ids : List ℕ) → AllByRecursion IsOther (flat_map (records_of_vcpu g) ids)
   ids_within [] = tt
@@ -144,6 +144,6 @@ module _ (g : GuestOf) (formed : IsFormed g) where
   pub pv_last_within : AllByRecursion IsOther (last_records Pv g)
   pv_last_within =
       both_all IsOther (records_in_order pv_last_codes g) (all_vcpus g)
-      (both_all IsOther (records_of Tsc g) _ (code_within g formed Tsc (omega arith) (λ e. omega (arith, e)) (λ e. omega (arith, e)))
-      (both_all IsOther (records_of SharedInfo g) [] (code_within g formed SharedInfo (omega arith) (λ e. omega (arith, e)) (λ e. omega (arith, e))) tt))
+      (both_all IsOther (records_of Tsc g) _ (code_within g formed Tsc (omega arith) (λ e. omega (arith, e)) (λ e. omega (arith, e), λ e. omega (arith, e)))
+      (both_all IsOther (records_of SharedInfo g) [] (code_within g formed SharedInfo (omega arith) (λ e. omega (arith, e)) (λ e. omega (arith, e), λ e. omega (arith, e))) tt))
       vcpus_within

@@ -62,12 +62,13 @@ judged_with tables parts = first_cause (absent parts context_key ∷ tables ∷ 
 abbrev pub StopsBehind : Option (List ℕ) → Option (List ℕ) → Type 0
 StopsBehind old new = (start : Option (List ℕ)) (rs : List Record) → WroteAll start old rs → (more : List Record) × WroteSome start new (rs ++ more)
 
--- a record that is neither PAGE_DATA nor END
+-- a record that is none of PAGE_DATA, VERIFY and END
 pub record IsOtherRecord (r : Record) : Type 0 where
   pub no_pages : r.0 ≢ 1
+  pub no_verify : r.0 ≢ 13
   pub no_end : r.0 ≢ 0
 
--- Records were written that are neither END nor have frames, and END behind them. Where nothing is in the way of seeing the
+-- Records were written that are none of PAGE_DATA, VERIFY and END, and END behind them. Where nothing is in the way of seeing the
 -- host as a guest, they are those that the canonical image of this guest has behind its frames.
 pub record ClosesStream (h : HostOf) (old new : Option (List ℕ)) : Type 0 where
   pub behind : List Record
