@@ -70,8 +70,10 @@ pub fn run<S: Source, K: Sink, R: Sink>(
         → (Rose (S.faults input.old) (S.faults input.new) → ⊥) → (WriteRose commands.Save (K.faults out.old) (K.faults out.new) (R.faults report.old) (R.faults report.new) → ⊥) → IsSavedOrPaused bytes result }
 
     // What `relay` has written is a front of what it has taken, whatever its status: all of it, and that may pass, with status
-    // 0; no front of it is an accepted stream with any status but 0 and 4. With status 4 a write of the output failed, and so
-    // it is then too; or one of the report did, and what may pass was written.
+    // 0; no front of it is an accepted stream with any status but 0 and 4. With status 1 it is all that was passed on, and ends
+    // in front of the refused part, or inside it where that is a body; with status 3 and 5 it ends inside a part, without a
+    // cause. With status 4 a write of the output failed, and so it is then too; or one of the report did, and what may pass was
+    // written.
     ensures relayed { Names (texts_of words.now) commands.Relay → Relays result (S.left input.old) (S.left input.new)
         (record { out_old = K.written out.old; out_new = K.written out.new; report_old = R.written report.old; report_new = R.written report.new }) (K.faults out.old) (K.faults out.new) (R.faults report.old) (R.faults report.new) }
 
