@@ -18,12 +18,14 @@ def is_special(path):
 
 
 def files_below(folder):
-    """All files below a folder, in the order of their names; a folder that can't be read is answered as itself."""
+    """All files below a folder, in the order of their names; a folder that can't be read is answered as itself, and so is a
+    link to a folder, which isn't followed."""
     def failed(fault):
         unreadable.append(fault.filename)
     unreadable = []
     for place, folders, files in os.walk(folder, onerror=failed):
         folders.sort()
+        yield from (path for path in (os.path.join(place, name) for name in folders) if os.path.islink(path))
         paths = (os.path.join(place, name) for name in sorted(files))
         yield from (path for path in paths if not is_special(path))
     yield from unreadable
@@ -124,13 +126,18 @@ def checks(names, path, at_once):
         yield from ((name, lambda name=name: verdict.of_file(name, path)) for name in names)
         return
     from concurrent.futures import ThreadPoolExecutor
-    memory, begun = Memory(), collections.deque()
-    with ThreadPoolExecutor(at_once) as pool:
+    memory, begun, pool = Memory(), collections.deque(), ThreadPoolExecutor(at_once)
+    try:
         for name in names:
             begun.append((name, pool.submit(memory.check, name, path).result))
             if len(begun) > 4 * at_once:
                 yield begun.popleft()
         yield from begun
+    except BaseException as why:                     # a signal, or who reads the lines is gone
+        program.RUNNING.end(why)
+        pool.shutdown(wait=False, cancel_futures=True)
+        raise
+    pool.shutdown()
 
 
 def count_of(counts):

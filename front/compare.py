@@ -6,7 +6,7 @@ import subprocess
 import sys
 
 from front import forms, places, program, sources, verdict
-from front.text import put_lines, shown
+from front.text import put_lines, shown, tell
 
 PAGE_DATA = 1
 RECORDS = {0: 'END', PAGE_DATA: 'PAGE_DATA', 2: 'X86_PV_INFO', 3: 'X86_PV_P2M_FRAMES', 4: 'X86_PV_VCPU_BASIC',
@@ -51,7 +51,10 @@ class Side:
         fault = self.source.ended(by_itself and said.status == program.OK)
         if by_itself:
             said = program.Answer(program.READ_FAULT, 'fault: read: ' + fault) if fault else said
-            self.found = verdict.of_answer(self.name, self.source, self.form, self.command, said)
+            try:
+                self.found = verdict.of_answer(self.name, self.source, self.form, self.command, said)
+            except sources.Unreadable as unreadable:
+                self.found = verdict.fault(self.name, str(unreadable))
         self.source.close()
         return self.found
 
@@ -142,6 +145,9 @@ def not_compared(status):
 
 
 def compare(words):
+    if words.one == words.two == '-':
+        tell('A and B are both standard input')
+        return program.USAGE
     path = program.find()
     sides = []
     try:

@@ -10,7 +10,8 @@ IMAGE_MAGICS = b'XGIMAGE1', b'XGIMAGE2'               # of guest images of versi
 LOOK = 512                                           # so many first bytes are looked at
 
 # What packs a file, by its first bytes, and the program that unpacks it to standard output.
-PACKERS = {b'\x1f\x8b': 'gzip', b'\x28\xb5\x2f\xfd': 'zstd', b'\xfd7zXZ\0': 'xz'}
+PACKERS = {b'\x1f\x8b': 'gzip', b'\x28\xb5\x2f\xfd': 'zstd', b'\xfd7zXZ\0': 'xz',
+           b'\x50\x2a\x4d\x18': 'zstd'}             # a frame that is skipped, which pzstd writes first
 
 # Other files, by their first bytes.
 OTHERS = (

@@ -15,12 +15,13 @@ exit status:
   1    a file was refused, is no save, or isn't judged; `compare`: another guest state; `save`: the image, the script or
        the paused host was refused; `walk`: the address means no frame; `relay` may have written a part of the stream,
        and `show` has written what stands in front of the refused part
-  2    the words make no command, OUT is there already, or it is a terminal
-  3    a file couldn't be read
+  2    the words make no command, OUT is there already, is a terminal, or names no file
+  3    a file couldn't be read or unpacked
   4    OUT, or what is told, couldn't be written
-  5    no memory was found, or the program was ended from outside
+  5    no memory was found, or the program was ended from outside, or couldn't begin
   6    `compare`: a file was refused, so nothing was compared
   125  the program isn't there and couldn't be built
+  128 + N  the signal N (1, 2 or 15) ended `mig`
 
 Answers are explained in docs/refusals.md. An `ok` says that the stream is well formed and holds a whole guest, and of
 `relay`, as status 0 of `show`, that its parts are well formed: a bit that was flipped inside a page can't be seen by any
@@ -106,6 +107,13 @@ def address(text):
     if not re.fullmatch('[0-9A-Fa-f]+', digits) or int(digits, 16) >= 1 << 64:
         raise argparse.ArgumentTypeError('an address of 64 bits to base 16 is wanted')
     return int(digits, 16)
+
+
+class Words(argparse.ArgumentParser):
+    """What it says is written as all lines are."""
+
+    def _print_message(self, message, file=None):
+        put_lines(message.splitlines(), file or sys.stderr)
 
 
 class Version(argparse.Action):
@@ -224,10 +232,10 @@ def walk(words):
 
 
 def parser():
-    words = argparse.ArgumentParser(prog='mig', description='Checks, normalises, converts, restores and compares saves '
-                                    'of Xen guests, passes streams on and lists their records, by the proved program mig_tool.',
-                                    epilog='`mig help VERB` tells more of each.\n\n' + STATUSES,
-                                    formatter_class=argparse.RawDescriptionHelpFormatter)
+    words = Words(prog='mig', description='Checks, normalises, converts, restores and compares saves of Xen guests, passes '
+                  'streams on and lists their records, by the proved program mig_tool.',
+                  epilog='`mig help VERB` tells more of each.\n\n' + STATUSES,
+                  formatter_class=argparse.RawDescriptionHelpFormatter)
     words.add_argument('--version', action=Version, nargs=0, help='print revision, date and kit')
     verbs = words.add_subparsers(dest='verb', metavar='VERB', required=True)
     one = verb(verbs, 'check', 'say of each file whether it is a whole, well formed save',
@@ -289,13 +297,25 @@ def untold(why=None):
     return program.WRITE_FAULT
 
 
+def open_closed():
+    """Gives a standard stream that is closed its number again, so that no other file gets it; reads and writes fail there."""
+    for fd, flags in (0, os.O_WRONLY), (1, os.O_RDONLY), (2, os.O_RDONLY):
+        try:
+            os.fstat(fd)
+        except OSError:
+            os.open(os.devnull, flags)
+    sys.stdout = sys.stdout or open(1, 'w', closefd=False)
+    sys.stderr = sys.stderr or open(2, 'w', closefd=False, errors='backslashreplace')
+
+
 def main(arguments):
     if arguments[:1] == ['help']:
         arguments = [*arguments[1:], '--help']
+    open_closed()
     sys.stdout.reconfigure(errors='backslashreplace')
     try:
         words = parser().parse_args(arguments)
-        for number in signal.SIGINT, signal.SIGTERM, signal.SIGHUP:
+        for number in program.SIGNALS:
             signal.signal(number, program.RUNNING.stop)
         return words.run(words)
     except program.NoProgram as missing:
@@ -306,4 +326,4 @@ def main(arguments):
     except Untold as fault:
         return untold(str(fault))
     except program.Stopped as stopped:
-        return stopped.status
+        os._exit(stopped.status)                     # at once, though a thread may wait for a pipe's other end

@@ -1,7 +1,10 @@
 """The proved program: where it is, and what it answers of an input."""
 import os
+import signal
 import subprocess
 from collections import namedtuple
+
+from front.text import shown
 
 TOP = os.path.dirname(os.path.dirname(os.path.realpath(__file__)))
 IS_REPOSITORY = os.path.isdir(os.path.join(TOP, 'crates'))  # else TOP is PREFIX/lib/mig, as bin/install lays it out
@@ -11,7 +14,9 @@ EXAMPLE = os.path.join(TOP, 'examples', 'smallest-hvm.stream')
 VERSION = os.path.join(TOP, 'version')               # is there where it was installed
 HUGE_PAGES = 'glibc.malloc.hugetlb'                  # of glibc 2.35 and newer; others pass it over
 KEEPS_NO_PAGES = 'relay', 'show'
+SIGNALS = signal.SIGINT, signal.SIGTERM, signal.SIGHUP
 OK, REFUSED, USAGE, READ_FAULT, WRITE_FAULT, NO_MEMORY, NOT_COMPARED, NO_PROGRAM = 0, 1, 2, 3, 4, 5, 6, 125
+BY_OTHERS = 126, 127                                 # of a shell, or where a library of the program isn't found, or has no room
 
 
 class NoProgram(Exception):
@@ -41,10 +46,16 @@ class Running:
     def __init__(self):
         self.processes, self.stopped = set(), None
 
-    def stop(self, number, _):
-        self.stopped = Stopped(number)
+    def end(self, stopped):
+        """Ends all programs; none is started any more."""
+        self.stopped = stopped
         for process in list(self.processes):
             process.kill()
+
+    def stop(self, number, _):
+        for other in SIGNALS:                        # what was begun is taken away meanwhile
+            signal.signal(other, signal.SIG_IGN)
+        self.end(Stopped(number))
         raise self.stopped
 
     def start(self, words, **streams):
@@ -53,8 +64,14 @@ class Running:
         if self.stopped:
             raise self.stopped
         path, *rest = words
-        process = subprocess.Popen(['mig_tool', *rest], executable=path, env=surroundings(rest[0]), **streams)
+        try:
+            process = subprocess.Popen(['mig_tool', *rest], executable=path, env=surroundings(rest[0]),
+                                       restore_signals=False, **streams)  # a limit of file sizes is a write fault, too
+        except OSError as fault:
+            raise NoProgram('%s does not start: %s' % (shown(path), fault.strerror)) from None
         self.processes.add(process)
+        if self.stopped:                             # meanwhile, in another thread
+            process.kill()
         return process
 
 
@@ -90,8 +107,8 @@ def find():
     bin/mig_tool builds first where it has to be."""
     named = os.environ.get('MIG_TOOL')
     if named:
-        if not os.access(named, os.X_OK):
-            raise NoProgram('MIG_TOOL names %s, which is no program' % named)
+        if not os.path.isfile(named) or not os.access(named, os.X_OK):
+            raise NoProgram('MIG_TOOL names %s, which is no program' % shown(named))
         return named
     if not IS_REPOSITORY:
         if not os.access(INSTALLED, os.X_OK):
@@ -99,8 +116,14 @@ def find():
         return INSTALLED
     if not is_current():
         with open(EXAMPLE, 'rb') as example:
-            built = subprocess.run([BUILDER, 'verify'], stdin=example, stdout=subprocess.DEVNULL).returncode
-        if built == NO_PROGRAM or not os.access(BUILT, os.X_OK):
+            building = subprocess.Popen([BUILDER, 'verify'], stdin=example, stdout=subprocess.DEVNULL)
+        try:
+            built = building.wait()
+        except Stopped:                              # it puts back what it has begun
+            building.terminate()
+            building.wait()
+            raise
+        if built < 0 or built == NO_PROGRAM or not os.access(BUILT, os.X_OK):
             raise NoProgram('the program could not be built')
     return BUILT
 
@@ -113,6 +136,8 @@ def answer_of(process):
     RUNNING.processes.discard(process)
     if status < 0:
         return Answer(NO_MEMORY, 'the program was ended by signal %d; most often no memory was left' % -status)
+    if status in BY_OTHERS or status == REFUSED and not said.startswith('refused: '):
+        return Answer(NO_MEMORY, 'the program could not begin: ' + said.strip())
     return Answer(status, said.removesuffix('\n'))
 
 

@@ -31,12 +31,20 @@ def show(words, found):
     put_lines([*found.lines(), *['    what was written to standard output may be cut; throw it away'] * bool(is_cut)], to)
 
 
+def unreadable(words, why):
+    """Tells of an input that can't be read."""
+    if words.json:
+        show(words, verdict.fault(words.input, str(why)))
+    else:
+        tell('%s: fault: read: %s' % (shown(words.input), why))
+    return program.READ_FAULT
+
+
 def relay(words):
     try:
         source = sources.source_of(words.input)
-    except sources.Unreadable as unreadable:
-        tell('%s: fault: read: %s' % (shown(words.input), unreadable))
-        return program.READ_FAULT
+    except sources.Unreadable as why:
+        return unreadable(words, why)
     try:
         output = Output(words.output, words.force, mode_of(source))
         try:
@@ -45,9 +53,8 @@ def relay(words):
                 output.place()
         finally:
             output.close()
-    except sources.Unreadable as unreadable:
-        tell('%s: fault: read: %s' % (shown(words.input), unreadable))
-        return program.READ_FAULT
+    except sources.Unreadable as why:
+        return unreadable(words, why)
     finally:
         source.close()
     show(words, found)

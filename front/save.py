@@ -160,7 +160,10 @@ def save(words):
         finally:
             output.close()
     except sources.Unreadable as unreadable:
-        tell('%s: fault: read: %s' % (shown(name), unreadable))
+        if words.json:
+            show(words, verdict.fault(name, str(unreadable)))
+        else:
+            tell('%s: fault: read: %s' % (shown(name), unreadable))
         return program.READ_FAULT
     finally:
         for source in opened:

@@ -11,10 +11,10 @@ OLD = 'not judged: an old save has no such records; what `mig convert` makes of 
 
 
 def behind_name(process, name):
-    """Writes what the program writes, where it writes anything, in an object with the file's name."""
+    """Writes what the program writes, where it writes a whole line, in an object with the file's name."""
     with process.stdout as pipe:
         text = pipe.read()
-    if text:
+    if text.endswith(b'\n'):
         write.put(1, b'{"file": %s, "shown": %s}\n' % (json.dumps(name).encode(), text.rstrip(b'\n')))
 
 

@@ -1,6 +1,7 @@
 """Where the bytes of a save come from: a plain file, a packed one, or a pipe. Each gives its first bytes to be looked at,
 and is then handed to the program as its standard input, from a place on. Of a plain file no byte is copied here."""
 import os
+import signal
 import stat
 import subprocess
 import threading
@@ -117,18 +118,22 @@ class Packed:
     """A file that another program packed. It is unpacked anew for each look, and once for the program."""
     size = None
     TIMES = 16                                       # what is taken for the unpacked size, to share memory out
+    MORE = {'zstd': ['--long=31']}                   # else zstd refuses what was packed with `--long=28` and more
     is_walkable = True
 
-    def __init__(self, fd, packer):
-        self.fd, self.packed, self.running = fd, packer, None
+    def __init__(self, fd, base, packer):
+        self.fd, self.base, self.packed, self.running = fd, base, packer, None
         self.front = self.look(0, forms.LOOK)
 
     def unpack(self):
-        os.lseek(self.fd, 0, os.SEEK_SET)
+        os.lseek(self.fd, self.base, os.SEEK_SET)
         try:
-            return subprocess.Popen([self.packed, '-dc'], stdin=self.fd, stdout=subprocess.PIPE, stderr=subprocess.PIPE)
+            return subprocess.Popen([self.packed, '-dc', *self.MORE.get(self.packed, ())], stdin=self.fd,
+                                    stdout=subprocess.PIPE, stderr=subprocess.PIPE)
         except FileNotFoundError:
             raise Unreadable('it is packed, and the program %s is not installed' % self.packed) from None
+        except OSError as fault:
+            raise Unreadable('it is packed, and the program %s does not start: %s' % (self.packed, why(fault))) from None
 
     def look(self, offset, count):
         """Some bytes of what is packed; fewer where it ends before."""
@@ -137,7 +142,7 @@ class Packed:
         data = read_upto(out, count) if pass_over(out, offset) == offset else b''
         said = self.stop() if len(data) < count else self.kill()
         if said:
-            raise Unreadable('the packed file is damaged: %s' % said)
+            raise Unreadable(said)
         return data
 
     def at(self, offset, count):
@@ -167,16 +172,20 @@ class Packed:
         """Where the program accepted the stream, all is unpacked, so that the packer's own checksum is looked at."""
         if accepted:
             drain(self.running.stdout.fileno())
-        said = self.stop()
-        return 'the packed file is damaged: %s' % said if said else None
+        return self.stop()
 
     def stop(self):
-        """Ends the unpacker, and answers what it said where it failed by itself."""
+        """Ends the unpacker, and answers why it failed, where it did so by itself or was ended by others."""
         unpacker, self.running = self.running, None
         unpacker.stdout.close()
         said = unpacker.stderr.read().decode(errors='replace').strip().splitlines()
         unpacker.stderr.close()
-        return (said or ['%s failed' % self.packed])[-1] if unpacker.wait() > 0 else None
+        status = unpacker.wait()
+        if status > 0:
+            return 'the packed file is damaged: ' + (said or ['%s failed' % self.packed])[-1]
+        if status in (0, -signal.SIGPIPE):           # the program had all that it wanted
+            return None
+        return '%s was ended by signal %d; most often no memory was left' % (self.packed, -status)
 
     def kill(self):
         if self.running:
@@ -242,19 +251,27 @@ def unpacked(fd, size):
     """The source of a regular file."""
     plain = Plain(fd, size)
     packer = forms.packer_of(plain.at(0, 8))
-    return Packed(fd, packer) if packer else plain
+    return Packed(fd, plain.base, packer) if packer else plain
 
 
-def source_of(name):
-    """The source of a file with this name; `-` is standard input."""
-    try:
-        fd = 0 if name == '-' else os.open(name, os.O_RDONLY | os.O_CLOEXEC)
-    except OSError as fault:
-        raise Unreadable(why(fault)) from None
+def source_of_open(fd, name):
     status = os.fstat(fd)
     if stat.S_ISREG(status.st_mode):
         return unpacked(fd, status.st_size)
     if stat.S_ISDIR(status.st_mode):
-        os.close(fd)
-        raise Unreadable('Is a directory')
+        raise Unreadable("Is a link to a folder, and isn't followed; name the folder" if os.path.islink(name) else 'Is a directory')
     return Piped(fd)
+
+
+def source_of(name):
+    """The source of a file with this name; `-` is standard input. A file that gives none is closed again."""
+    fd = source = None
+    try:
+        fd = 0 if name == '-' else os.open(name, os.O_RDONLY | os.O_CLOEXEC)
+        source = source_of_open(fd, name)
+        return source
+    except OSError as fault:
+        raise Unreadable(why(fault)) from None
+    finally:
+        if fd and not source:
+            os.close(fd)

@@ -98,7 +98,7 @@ def of_answer(name, source, form, command, answer):
     found = Verdict(name, FAULT, answer.status, answer.line, words, form.begins, packed=source.packed)
     if answer.status == program.OK:
         end = places.end_of(source, form) if command not in ('save', 'walkimage') else None
-        follows = source.size - end if end is not None else 0
+        follows = max(source.size - end, 0) if end is not None else 0  # a file that grows meanwhile is longer than it was
         return found._replace(result=OK, line=answer.line or 'ok', follows=follows or None)
     refusal = REFUSAL.match(answer.line)
     if answer.status != program.REFUSED or not refusal:

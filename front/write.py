@@ -29,8 +29,10 @@ class Output:
             return
         if os.path.lexists(name) and not (force and os.path.isfile(name)):
             raise Refused(program.USAGE, '%s is there already; --force writes over a file' % shown(name))
+        if not os.path.basename(name):
+            raise Refused(program.USAGE, "OUT, '%s', names no file" % shown(name))
         folder, base = os.path.split(os.path.abspath(name))
-        self.part = os.path.join(folder, '.%s.%d.part' % (base[:200], os.getpid()))
+        self.part = os.path.join(folder, '.%s.%d.part' % (os.fsdecode(os.fsencode(base)[:200]), os.getpid()))
         try:
             self.fd = os.open(self.part, os.O_RDWR | os.O_CREAT | os.O_EXCL | os.O_CLOEXEC, mode)
         except OSError as fault:
@@ -52,20 +54,40 @@ class Output:
             if self.force:
                 os.replace(self.part, self.name)
             else:
-                os.link(self.part, self.name)
-                os.unlink(self.part)
+                self.move()
         except FileExistsError:
             raise Refused(program.USAGE, '%s is there meanwhile; --force writes over it' % shown(self.name)) from None
         except OSError as fault:
             raise Refused(program.WRITE_FAULT, '%s: %s' % (shown(self.name), sources.why(fault))) from None
         self.part = None
 
+    def move(self):
+        """Gives the file a name that nobody has. Where there are no hard links an empty file holds it meanwhile."""
+        try:
+            os.link(self.part, self.name)
+        except FileExistsError:
+            raise
+        except OSError:
+            os.close(os.open(self.name, os.O_WRONLY | os.O_CREAT | os.O_EXCL | os.O_CLOEXEC))
+            try:
+                os.replace(self.part, self.name)
+            except OSError:
+                os.unlink(self.name)
+                raise
+        else:
+            os.unlink(self.part)
+
     def close(self):
-        """Takes away what isn't whole."""
+        """Takes away what isn't whole; where that can't be done, it is told."""
         if self.fd != 1:
             os.close(self.fd)
-        if self.part:
-            os.unlink(self.part)
+        try:
+            if self.part:
+                os.unlink(self.part)
+        except FileNotFoundError:
+            pass
+        except OSError as fault:
+            tell('%s is no whole file and stays: %s' % (shown(self.part), sources.why(fault)))
 
 
 def put(fd, data):
