@@ -3,7 +3,6 @@ import argparse
 import os
 import re
 import signal
-import subprocess
 import sys
 
 from front import program
@@ -117,41 +116,12 @@ class Words(argparse.ArgumentParser):
 
 
 class Version(argparse.Action):
-    """Says which sources and which kit the program is of."""
+    """Says which release this is, and which program runs."""
 
     def __call__(self, parser, *_):
-        put_lines(['mig, ' + version()], sys.stdout)
+        from front import version
+        put_lines(version.lines(), sys.stdout)
         parser.exit()
-
-
-def output_of(*words):
-    try:
-        ended = subprocess.run(words, stdout=subprocess.PIPE, stderr=subprocess.DEVNULL, check=True)
-        return ended.stdout.decode().strip()
-    except (OSError, subprocess.CalledProcessError):
-        return ''
-
-
-def revision():
-    git = 'git', '-C', program.TOP
-    told = output_of(*git, 'log', '-1', '--format=%h of %cs')
-    changed = output_of(*git, 'status', '--porcelain', '--untracked-files=no')
-    return (told or 'unknown') + (', with changes' if changed else '')
-
-
-def kit():
-    return output_of('rt', 'version') or 'kit unknown'
-
-
-def version():
-    """Revision, date and kit: those of the repository, or those that were written down when this was installed."""
-    if program.IS_REPOSITORY:
-        return 'revision %s, %s' % (revision(), kit())
-    try:
-        with open(program.VERSION, encoding='utf-8') as told:
-            return told.read().strip()
-    except OSError:
-        return 'revision unknown, kit unknown'
 
 
 def verb(verbs, name, says, more=''):
@@ -236,8 +206,9 @@ def parser():
                   'streams on and lists their records, by the proved program mig_tool.',
                   epilog='`mig help VERB` tells more of each.\n\n' + STATUSES,
                   formatter_class=argparse.RawDescriptionHelpFormatter)
-    words.add_argument('--version', action=Version, nargs=0, help='print revision, date and kit')
-    verbs = words.add_subparsers(dest='verb', metavar='VERB', required=True)
+    words.add_argument('--version', action=Version, nargs=0, help='print the release, and which program runs and why')
+    verbs = words.add_subparsers(dest='verb', metavar='VERB')
+    verbs.required = True                            # python3.6 takes no such word above
     one = verb(verbs, 'check', 'say of each file whether it is a whole, well formed save',
                'Files and folders, with all files below, and `-` for standard input.\n' + INPUT)
     one.add_argument('paths', metavar='PATH', nargs='+')
@@ -319,7 +290,8 @@ def main(arguments):
             signal.signal(number, program.RUNNING.stop)
         return words.run(words)
     except program.NoProgram as missing:
-        tell(str(missing))
+        if str(missing):
+            tell(str(missing))
         return program.NO_PROGRAM
     except BrokenPipeError:                          # who reads the lines is gone
         return untold()

@@ -4,23 +4,16 @@ import signal
 import subprocess
 from collections import namedtuple
 
+from front import resolve
+from front.resolve import NoProgram
 from front.text import shown
 
-TOP = os.path.dirname(os.path.dirname(os.path.realpath(__file__)))
-IS_REPOSITORY = os.path.isdir(os.path.join(TOP, 'crates'))  # else TOP is PREFIX/lib/mig, as bin/install lays it out
-BUILT = os.path.join(TOP, 'crates', 'mig_tool', 'out', 'mig_tool')
-BUILDER = INSTALLED = os.path.join(TOP, 'bin', 'mig_tool')  # in the repository a script that builds the program, else itself
-EXAMPLE = os.path.join(TOP, 'examples', 'smallest-hvm.stream')
-VERSION = os.path.join(TOP, 'version')               # is there where it was installed
+BUILDER = os.path.join(resolve.TOP, 'bin', 'build-mig_tool')
 HUGE_PAGES = 'glibc.malloc.hugetlb'                  # of glibc 2.35 and newer; others pass it over
 KEEPS_NO_PAGES = 'relay', 'show'
 SIGNALS = signal.SIGINT, signal.SIGTERM, signal.SIGHUP
 OK, REFUSED, USAGE, READ_FAULT, WRITE_FAULT, NO_MEMORY, NOT_COMPARED, NO_PROGRAM = 0, 1, 2, 3, 4, 5, 6, 125
 BY_OTHERS = 126, 127                                 # of a shell, or where a library of the program isn't found, or has no room
-
-
-class NoProgram(Exception):
-    """The program isn't there and couldn't be built; why stands on standard error already, or here."""
 
 
 class Stopped(BaseException):
@@ -82,50 +75,46 @@ RUNNING = Running()
 Answer = namedtuple('Answer', 'status line')
 
 
-def is_older(place, time):
-    """Whether a folder, and all below it, was changed at this time or before."""
-    if os.stat(place).st_mtime_ns > time:
-        return False
-    with os.scandir(place) as entries:
-        return all(is_older(entry.path, time) if entry.is_dir() else entry.stat().st_mtime_ns <= time for entry in entries)
-
-
-def is_current():
-    """Whether the program is built and no source is newer."""
-    try:
-        built = os.stat(BUILT).st_mtime_ns
-    except OSError:
-        return False
-    crates = [crate.path for crate in os.scandir(os.path.join(TOP, 'crates'))]
-    parts = [os.path.join(crate, part) for crate in crates for part in ('src', 'specs', 'proofs')]
-    return (os.stat(os.path.join(TOP, 'crates.txt')).st_mtime_ns <= built
-            and all(is_older(part, built) for part in parts if os.path.isdir(part)))
-
-
 def find():
-    """The path of the program: that which MIG_TOOL names, the one that was installed with this, or the built one, which
-    bin/mig_tool builds first where it has to be."""
+    """The path of the program: that which MIG_TOOL names, or the one that fits these sources."""
     named = os.environ.get('MIG_TOOL')
-    if named:
-        if not os.path.isfile(named) or not os.access(named, os.X_OK):
-            raise NoProgram('MIG_TOOL names %s, which is no program' % shown(named))
-        return named
-    if not IS_REPOSITORY:
-        if not os.access(INSTALLED, os.X_OK):
-            raise NoProgram('%s is not there, or is no program: install it again' % INSTALLED)
-        return INSTALLED
-    if not is_current():
-        with open(EXAMPLE, 'rb') as example:
-            building = subprocess.Popen([BUILDER, 'verify'], stdin=example, stdout=subprocess.DEVNULL)
-        try:
-            built = building.wait()
-        except Stopped:                              # it puts back what it has begun
-            building.terminate()
-            building.wait()
-            raise
-        if built < 0 or built == NO_PROGRAM or not os.access(BUILT, os.X_OK):
-            raise NoProgram('the program could not be built')
-    return BUILT
+    if not named:
+        return resolved().path
+    if not os.path.isfile(named) or not os.access(named, os.X_OK):
+        raise NoProgram('MIG_TOOL names %s, which is no program' % shown(named))
+    return named
+
+
+def resolved():
+    """The program that fits these sources, which is built first where none does."""
+    try:
+        return resolve.present()
+    except NoProgram as none:
+        if not can_build():
+            raise NoProgram('no program runs: %s' % none) from None
+    build()
+    try:
+        return resolve.present()
+    except NoProgram as none:
+        raise NoProgram('no program runs: %s; where a source was changed meanwhile, run it again' % none) from None
+
+
+def can_build():
+    """Whether this is a checkout; not what was installed, nor a release without its sources."""
+    return resolve.IS_REPOSITORY and os.access(BUILDER, os.X_OK)
+
+
+def build():
+    """Has the program proved and built; what it says stands on standard error."""
+    building = subprocess.Popen([BUILDER], stdin=subprocess.DEVNULL, stdout=subprocess.DEVNULL)
+    try:
+        built = building.wait()
+    except Stopped:                                  # it puts back what it has begun
+        building.terminate()
+        building.wait()
+        raise
+    if built:
+        raise NoProgram('')
 
 
 def answer_of(process):
@@ -138,7 +127,7 @@ def answer_of(process):
         return Answer(NO_MEMORY, 'the program was ended by signal %d; most often no memory was left' % -status)
     if status in BY_OTHERS or status == REFUSED and not said.startswith('refused: '):
         return Answer(NO_MEMORY, 'the program could not begin: ' + said.strip())
-    return Answer(status, said.removesuffix('\n'))
+    return Answer(status, said[:-1] if said.endswith('\n') else said)
 
 
 def start(path, words, source, begins, out):

@@ -1,0 +1,1 @@
+"""What proves, links and packs the program. Nothing of it is installed."""

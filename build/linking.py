@@ -1,0 +1,51 @@
+"""Links the program with nothing that it would have to find on a machine: the C library is inside."""
+import os
+import re
+import shutil
+import subprocess
+import tempfile
+
+from build.proving import NotBuilt
+
+LINKER = 'gcc'
+LIBRARIES = 'libos_c.a', 'liblibc_c.a'               # of the kit: what its std calls of the system
+
+
+def link(kit, made, to):
+    """Links an object file to a program. Names and folders of this machine go nowhere into it."""
+    with tempfile.TemporaryDirectory(prefix='mig-link-') as room:
+        shutil.copy(made, os.path.join(room, 'mig_tool.o'))
+        for name in LIBRARIES:
+            shutil.copy(os.path.join(kit.folder, 'c', name), room)
+        words = [LINKER, '-static', '-o', 'mig_tool', 'mig_tool.o'] + list(LIBRARIES)
+        try:
+            ended = subprocess.run(words, cwd=room, stdin=subprocess.DEVNULL, stdout=subprocess.PIPE, stderr=subprocess.STDOUT)
+        except OSError as fault:
+            raise NotBuilt('it is not linked: %s: %s' % (LINKER, fault.strerror)) from None
+        if ended.returncode:
+            raise NotBuilt('it is not linked: %s failed' % LINKER, ended.stdout.decode(errors='replace').rstrip())
+        shutil.copyfile(os.path.join(room, 'mig_tool'), to)
+    os.chmod(to, 0o755)
+
+
+def first_line(*words):
+    try:
+        said = subprocess.run(words, stdin=subprocess.DEVNULL, stdout=subprocess.PIPE, stderr=subprocess.DEVNULL, check=True)
+    except (OSError, subprocess.CalledProcessError):
+        return ''
+    return said.stdout.decode().partition('\n')[0].strip()
+
+
+def linker():
+    """What links here, with versions; nothing where it isn't installed."""
+    return ', '.join(filter(None, (first_line(LINKER, '--version'), first_line('ld', '--version'))))
+
+
+def library():
+    """The C library that gets inside, with its version; nothing where it isn't installed."""
+    try:
+        with open(first_line(LINKER, '-print-file-name=libc.a'), 'rb') as archive:
+            found = re.search(rb'GNU C Library \([^)]*\)', archive.read())
+    except OSError:
+        return ''
+    return found[0].decode() if found else ''
