@@ -19,7 +19,7 @@ exit status:
   4    OUT, or what is told, couldn't be written
   5    no memory was found, or the program was ended from outside, or couldn't begin
   6    `compare`: a file was refused, so nothing was compared
-  125  the program isn't there and couldn't be built
+  125  no program runs here, and none could be built
   128 + N  the signal N (1, 2 or 15) ended `mig`
 
 Answers are explained in docs/refusals.md. An `ok` says that the stream is well formed and holds a whole guest, and of

@@ -175,7 +175,8 @@ def manifest(folder):
 
 
 def below_top(path):
-    return os.path.relpath(path, TOP)
+    """A path as it is told: from the top of a checkout on."""
+    return os.path.relpath(path, TOP) if IS_REPOSITORY else path
 
 
 def program_in(folder, path):
@@ -221,7 +222,10 @@ def shipped():
 
 def installed():
     """The program that bin/install put beside bin/mig."""
-    return program_in(TOP, os.path.join(TOP, 'bin', NAME))
+    try:
+        return program_in(TOP, os.path.join(TOP, 'bin', NAME))
+    except Unfit as unfit:
+        raise Unfit('%s: install it again' % unfit) from None
 
 
 def present():

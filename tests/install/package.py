@@ -10,7 +10,7 @@ from places import PATH, PROGRAMS, TOP, Copy, copy_and_prefix, folder, read, ref
 from prefix import place_in, works
 
 NAME = 'mig-tool'
-EPOCH_VERSION = '0~git20261129130154.unknown-1'      # of the copy, which is no clone, with the time that places.py gives
+EPOCH_VERSION = read(TOP, 'VERSION').strip() + '+git20261129130154.unknown-1'  # of the copy, which is no clone, with the time that places.py gives
 FOUND = {}                                           # the package, built once for all tests that look at it
 
 
@@ -43,7 +43,7 @@ def fields():
         for name, value in ('Package', NAME), ('Version', EPOCH_VERSION), ('Architecture', here), ('Recommends', 'xz-utils, zstd'):
             yield from wanted(field(package, name), value)
         depends = field(package, 'Depends').split(', ')
-        if 'python3 (>= 3.9)' not in depends:
+        if 'python3 (>= 3.6)' not in depends:
             yield 'depends on %r' % depends
         yield from wanted(sorted(it.split()[0] for it in depends), sorted({'python3', *libraries()}))
         yield from wanted(run('dpkg', '--validate-version', EPOCH_VERSION)[0], 0)
@@ -79,7 +79,7 @@ def contents():
         first, last = changes.splitlines()[0], changes.splitlines()[-1]
         yield from wanted(first, '%s (%s) unstable; urgency=medium' % (NAME, EPOCH_VERSION))
         yield from wanted(last.rpartition('  ')[2], 'Sun, 29 Nov 2026 13:01:54 +0000')
-        if b'Licence: none is given yet' not in found[documents + '/copyright'][1]:
+        if b'License: Apache-2.0\n' not in found[documents + '/copyright'][1]:
             yield 'the copyright file is %r' % (found[documents + '/copyright'],)
         with open(os.path.join(TOP, 'CHANGELOG.md'), 'rb') as document:
             yield from wanted(gzip.decompress(found[documents + '/changelog.gz'][1]), document.read())
@@ -159,7 +159,7 @@ def of_the_last_commit():
         status, out, err = run(os.path.join(TOP, 'bin', 'debian-package'), '--tool', places.TOOL, top)
         yield from wanted((status, err), (0, ''))
         date = run('date', '-u', '-d', '@' + told[0], '+%Y%m%d%H%M%S')[1].strip()
-        if not field(out.strip(), 'Version').startswith('0~git%s.%s' % (date, told[1])):
+        if not field(out.strip(), 'Version').startswith('%s+git%s.%s' % (read(TOP, 'VERSION').strip(), date, told[1])):
             yield 'the version is %s' % field(out.strip(), 'Version')
 
 
@@ -205,7 +205,7 @@ def refusals():
         write('#!/bin/sh\n', script)
         os.chmod(script, 0o755)
         program = os.path.join(copy.top, 'bin', 'debian-package')
-        yield from refused(run(program, place, environment={'PATH': PATH, 'SOURCE_DATE_EPOCH': '1'}), 125, 'the program is not built')
+        yield from refused(run(program, place, environment={'PATH': PATH, 'SOURCE_DATE_EPOCH': '1'}), 125, 'no program is installed')
         yield from refused(copy.package(place, tool=script), 125, 'is no program of this machine')
         yield from refused(copy.package(place, environment={'SOURCE_DATE_EPOCH': 'x'}), 125, 'SOURCE_DATE_EPOCH')
         nowhere = {'SOURCE_DATE_EPOCH': '', 'GIT_CEILING_DIRECTORIES': os.path.dirname(copy.top)}

@@ -11,9 +11,10 @@ import tempfile
 TOP = os.path.dirname(os.path.dirname(os.path.dirname(os.path.abspath(__file__))))
 TOOL = os.path.join(TOP, 'crates', 'mig_tool', 'out', 'mig_tool')
 sys.path.insert(0, TOP)
+from front import resolve  # noqa: E402
 from front.text import shown  # noqa: E402
 
-COPIED = 'bin', 'completions', 'docs', 'examples', 'front'
+COPIED = 'bin', 'build', 'completions', 'docs', 'examples', 'front'
 PROGRAMS = 'mig', 'mig_tool', 'xl-stream'
 PATH = os.pathsep.join([os.path.dirname(sys.executable), '/usr/sbin', '/usr/bin', '/sbin', '/bin'])  # without the Rattle kit
 STANDARD_PYTHON = any(os.access(os.path.join(folder, 'python3'), os.X_OK) for folder in ('/usr/local/bin', '/usr/bin', '/bin'))
@@ -71,9 +72,19 @@ class Copy:
         self.top = os.path.join(top, 'repository')
         for name in COPIED:
             shutil.copytree(os.path.join(TOP, name), os.path.join(self.top, name), ignore=shutil.ignore_patterns('__pycache__'))
-        shutil.copy(os.path.join(TOP, 'CHANGELOG.md'), self.top)
-        shutil.copy(os.path.join(TOP, 'crates.txt'), self.top)
-        os.mkdir(os.path.join(self.top, 'crates'))
+        for name in 'CHANGELOG.md', 'LICENSE', 'VERSION':
+            shutil.copy(os.path.join(TOP, name), self.top)
+        os.makedirs(os.path.join(self.top, 'crates', 'mig_tool', 'src'))
+        write('mig_tool:\n', self.top, 'crates.txt')
+
+    def ship(self, tool=None, **more):
+        """Ships a program of its sources."""
+        path = os.path.join(self.top, 'dist', resolve.MACHINE, 'mig_tool')
+        os.makedirs(os.path.dirname(path))
+        shutil.copy(tool or TOOL, path)
+        told = {'version': '0.0.1', 'machine': resolve.MACHINE, 'program': resolve.sum_of_file(path),
+                'sources': resolve.Sources(self.top).checksum(), 'kit': 'a kit', 'origin': 'built from commit 1234567, shipped', **more}
+        write(''.join('%s: %s\n' % it for it in told.items()), self.top, 'dist', 'MANIFEST')
 
     def install(self, *words, tool=None, **more):
         return run(os.path.join(self.top, 'bin', 'install'), '--tool', tool or TOOL, *words, **more)

@@ -2,10 +2,13 @@
 import importlib.util
 import json
 import os
+import re
 import resource
 import shutil
 import sys
 
+import places
+from front import resolve
 from places import NOTHING, PROGRAMS, Copy, copy_and_prefix, folder, read, refused, run, shown, skipped, tree, wanted, write
 
 LIST = os.path.join('lib', 'mig', 'installed.json')
@@ -37,7 +40,7 @@ def works(prefix, place):
         yield from wanted(used('mig_tool', 'verify', stdin=stream), (0, '', OK_SMALLEST))
     yield from wanted(used('mig', 'check', 'guest.save')[0], 0)
     status, out, err = used('mig', '--version')
-    if status or err or not out.startswith('mig, revision '):
+    if status or err or not re.match(r'mig \d+\.\d+\.\d+\nprogram: sha256 [0-9a-f]{64}, ', out):
         yield '--version answers %r' % ((status, out, err),)
 
 
@@ -63,7 +66,7 @@ def used_without_the_repository():
         yield from works(prefix, place)
         yield from wanted([path for path in tree(prefix) if path not in before or path.endswith('.pyc')], [])
         os.unlink(os.path.join(prefix, 'lib', 'mig', 'bin', 'mig_tool'))
-        yield from refused(run(os.path.join(prefix, 'bin', 'mig'), 'check', 'x'), 125, 'is not there, or is no program: install it again')
+        yield from refused(run(os.path.join(prefix, 'bin', 'mig'), 'check', 'x'), 125, 'lib/mig/bin/mig_tool is not there: install it again')
 
 
 def moved():
@@ -129,18 +132,6 @@ def compiled_modules_are_those_of_the_sources():
         os.utime(path, ns=(before.st_atime_ns, before.st_mtime_ns))
         yield from wanted(run(os.path.join(prefix, 'bin', 'mig'), 'normalise', '/none', '/none')[::2],
                           (3, 'MIG: /none: fault: read: No such file or directory\n'))
-
-
-def version_of_what_was_installed():
-    """It is what bin/mig said of the repository then, whatever stands around the prefix."""
-    with copy_and_prefix() as (copy, prefix):
-        copy.install('--prefix', prefix)
-        said = run(os.path.join(copy.top, 'bin', 'mig'), '--version')[1]
-        yield from wanted('mig, ' + read(prefix, 'lib', 'mig', 'version'), said)
-        write('revision 1 of 2026-01-01, kit 2\n', prefix, 'lib', 'mig', 'version')
-        yield from wanted(run(os.path.join(prefix, 'bin', 'mig'), '--version'), (0, 'mig, revision 1 of 2026-01-01, kit 2\n', ''))
-        os.unlink(os.path.join(prefix, 'lib', 'mig', 'version'))
-        yield from wanted(run(os.path.join(prefix, 'bin', 'mig'), '--version'), (0, 'mig, revision unknown, kit unknown\n', ''))
 
 
 def twice():
@@ -268,23 +259,59 @@ def damaged_list():
 
 # ---- what can't be
 
-def not_built():
-    """It is said how the program is built; nothing is written."""
+def the_shipped_one():
+    """It is installed where none was proved here and no program is named; `mig` and its own list tell where it's from."""
     with copy_and_prefix() as (copy, prefix):
         program = os.path.join(copy.top, 'bin', 'install')
-        yield from refused(run(program, '--prefix', prefix), 125, '`bin/mig_tool verify < examples/smallest-hvm.stream` builds it')
-        yield from refused(copy.install('--prefix', prefix, tool=os.path.join(copy.top, 'README.md')), 125, 'is no program')
-        yield from refused(copy.install('--prefix', prefix, tool=copy.top), 125, 'is no program')
-        yield from wanted(os.path.exists(prefix), False)
-        built = os.path.join(copy.top, 'crates', 'mig_tool', 'out')
-        os.makedirs(built)
-        write('#!/bin/sh\n', built, 'mig_tool')
-        os.chmod(os.path.join(built, 'mig_tool'), 0o755)
+        copy.ship()
         yield from installed(run(program, '--prefix', prefix), prefix)
-        source = os.path.join(copy.top, 'crates', 'mig_tool', 'src')
-        os.mkdir(source)
-        os.utime(source, (1 << 32, 1 << 32))
-        yield from refused(run(program, '--prefix', prefix), 125, 'or a source is newer')
+        status, out, err = run(os.path.join(prefix, 'bin', 'mig'), '--version')
+        told = 'program: sha256 %s, built from commit 1234567, shipped' % resolve.sum_of_file(places.TOOL)
+        yield from wanted((status, out.splitlines(), err), (0, ['mig 0.0.1', told, 'kit: a kit'], ''))
+
+
+def the_one_that_was_proved_here():
+    with copy_and_prefix() as (copy, prefix):
+        copy.ship(origin='proved on this machine')
+        os.makedirs(os.path.join(copy.top, 'out'))
+        os.rename(os.path.join(copy.top, 'dist'), os.path.join(copy.top, 'out', 'built'))
+        os.rename(os.path.join(copy.top, 'out', 'built', resolve.MACHINE, 'mig_tool'), os.path.join(copy.top, 'out', 'built', 'mig_tool'))
+        yield from installed(run(os.path.join(copy.top, 'bin', 'install'), '--prefix', prefix), prefix)
+        out = run(os.path.join(prefix, 'bin', 'mig'), '--version')[1]
+        if not out.splitlines()[1].endswith(', proved where it was installed from'):
+            yield '--version answers %r' % out
+
+
+def none_to_install():
+    """It is said why; nothing is written."""
+    with copy_and_prefix() as (copy, prefix):
+        program = os.path.join(copy.top, 'bin', 'install')
+        yield from refused(run(program, '--prefix', prefix), 125, 'no program is installed: no program is shipped with these sources')
+        yield from refused(copy.install('--prefix', prefix, tool=os.path.join(copy.top, 'LICENSE')), 125, 'is no program')
+        yield from refused(copy.install('--prefix', prefix, tool=copy.top), 125, 'is no program')
+        copy.ship()
+        write('changed', copy.top, 'crates', 'mig_tool', 'src', 'main.rt')
+        yield from refused(run(program, '--prefix', prefix), 125, 'is of other sources')
+        yield from wanted(os.path.exists(prefix), False)
+
+
+def a_change_of_other_crates():
+    """What the program doesn't stand on has no say in what is installed."""
+    with copy_and_prefix() as (copy, prefix):
+        copy.ship()
+        os.makedirs(os.path.join(copy.top, 'crates', 'mig_tests', 'src'))
+        write('changed', copy.top, 'crates', 'mig_tests', 'src', 'lib.rt')
+        yield from installed(run(os.path.join(copy.top, 'bin', 'install'), '--prefix', prefix), prefix)
+
+
+def a_program_that_was_changed():
+    """It isn't run by `mig`, and no line but one is said."""
+    with copy_and_prefix() as (copy, prefix):
+        place = place_in(os.path.dirname(prefix), copy)
+        copy.install('--prefix', prefix)
+        own = os.path.join(prefix, 'lib', 'mig', 'bin', 'mig_tool')
+        os.truncate(own, os.path.getsize(own) - 1)
+        yield from refused(run(os.path.join(prefix, 'bin', 'mig'), 'check', 'three-frames.stream', cwd=place), 125, 'is cut or changed')
 
 
 def nothing_to_install():
@@ -355,7 +382,8 @@ def words():
 
 TESTS = (
     used_without_the_repository, moved, nothing_left, all_is_there, compiled_modules_are_those_of_the_sources,
-    version_of_what_was_installed, twice, newer, below_a_destdir, names_that_are_hard,
+    twice, newer, below_a_destdir, names_that_are_hard,
     somebody_elses_file, link_of_somebody_else, folder_in_the_way, changed_since, damaged_list,
-    not_built, nothing_to_install, not_writable, a_write_fails, words,
+    the_shipped_one, the_one_that_was_proved_here, none_to_install, a_change_of_other_crates, a_program_that_was_changed,
+    nothing_to_install, not_writable, a_write_fails, words,
 )
