@@ -44,7 +44,6 @@ class Kit:
         self.line = self.answer('version')
         self.folder = os.path.dirname(self.answer('doc'))
         self.rattle = os.path.join(self.folder, 'bin', 'rattle')
-        self.can = output_of(self.rattle, 'build', '--help')
 
     @staticmethod
     def answer(word):
@@ -125,8 +124,8 @@ class Crates:
         words += ['--antt-project', folder + '/rattle/logic/antt-project.json', '--logic-built', folder + '/logic_built']
         words += ['--incremental', os.path.join(ROOM, 'kept', crate), '--links', crate + '=', '--jobs', str(jobs)]
         if crate == resolve.NAME:
-            return words + ['--toolchain', folder + '/toolchain', '--backend', 'llvm']
-        return words + ['--statements'] * ('--statements' in self.kit.can)
+            words += ['--toolchain', folder + '/toolchain', '--backend', 'llvm']
+        return words
 
     def prove(self, crate, jobs):
         """Proves and builds a crate whose lower ones are built; the seconds that it took, or None where nothing was left to do."""

@@ -28,7 +28,8 @@ OTHERS = (
 
 # What a file is: its kind, that in words, where the stream in it begins, the header of a toolstack before it, and of a file
 # that no command takes why.
-Form = namedtuple('Form', 'kind words begins header why', defaults=(0, None, ''))
+Form = namedtuple('Form', 'kind words begins header why')
+Form.__new__.__defaults__ = 0, None, ''               # of the last three; python3.6 has no better word for it
 
 
 def packer_of(front):

@@ -6,7 +6,7 @@ import signal
 import sys
 
 from front import program
-from front.text import Untold, put_lines, tell
+from front.text import Untold, escape_output, put_lines, tell
 
 STATUSES = """\
 exit status:
@@ -95,7 +95,7 @@ have no vCPU whose page tables a save tells."""
 
 def number(least, most=None):
     def parse(text):
-        if not (text.isascii() and text.isdecimal()) or int(text) < least or most is not None and int(text) > most:
+        if not re.fullmatch('[0-9]+', text) or int(text) < least or most is not None and int(text) > most:
             raise argparse.ArgumentTypeError('a number from %d %s is wanted' % (least, 'on' if most is None else 'to %d' % most))
         return int(text)
     return parse
@@ -283,7 +283,7 @@ def main(arguments):
     if arguments[:1] == ['help']:
         arguments = [*arguments[1:], '--help']
     open_closed()
-    sys.stdout.reconfigure(errors='backslashreplace')
+    escape_output()
     try:
         words = parser().parse_args(arguments)
         for number in program.SIGNALS:

@@ -1,5 +1,11 @@
 """How names and lines are printed, and where."""
+import io
 import sys
+
+
+def escape_output():
+    """Standard output escapes what it can't encode."""
+    sys.stdout = io.TextIOWrapper(sys.stdout.detach(), sys.stdout.encoding, 'backslashreplace')
 
 
 def shown(name):

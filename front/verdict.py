@@ -12,10 +12,11 @@ SAVED = re.compile(r'ok rounds (\d+) entries (\d+)')
 RELAYED = re.compile(r'ok records (\d+) bytes (\d+)')
 
 
-FIELDS = 'name result status line form begins offset packed means do follows text size'
+Fields = namedtuple('Fields', 'name result status line form begins offset packed means do follows text size')
+Fields.__new__.__defaults__ = (None,) * 9            # of the last nine; python3.6 has no better word for it
 
 
-class Verdict(namedtuple('Verdict', FIELDS, defaults=(None,) * 9)):
+class Verdict(Fields):
     """Of one file: a result, the status that goes with it, the program's line, the form that was found, and what explains
     it, with the text of a script's bad line and the size of a stream that was saved; None where that says nothing of it."""
 
