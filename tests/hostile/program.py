@@ -19,9 +19,11 @@ import threading
 
 HERE = os.path.dirname(os.path.abspath(__file__))
 TESTS = os.path.dirname(HERE)
-TOP = os.path.dirname(TESTS)
+sys.dont_write_bytecode = True
+sys.path.append(TESTS)
+import tried  # noqa: E402
+
 ENVIRONMENT = dict(os.environ)
-BUILT = os.path.join(TOP, 'crates', 'mig_tool', 'out', 'mig_tool')
 DONE, REFUSED, USAGE, READ_FAULT, WRITE_FAULT, MEMORY = range(6)
 # status, what stands on standard output, what stands on standard error
 Answer = collections.namedtuple('Answer', 'status out report')
@@ -34,7 +36,6 @@ TOLD = struct.Struct('<7Q2q')
 
 def script(name):
     """A script of tests/, as a module."""
-    sys.dont_write_bytecode = True
     path = os.path.join(TESTS, *name.split('/'))
     if os.path.dirname(path) not in sys.path:
         sys.path.insert(0, os.path.dirname(path))
@@ -131,17 +132,19 @@ def differences(got, want):
 
 # ---- calls that fail
 
+def compiler():
+    """The path of a C compiler; None where there is none."""
+    return next(filter(None, map(shutil.which, ('cc', 'gcc', 'clang'))), None)
+
+
 class Faults:
     """The library of faults.c, built into a folder that is gone at the end, and the file in which it counts, of each process
     its own."""
 
     def __init__(self, folder):
-        compiler = next(filter(None, map(shutil.which, ('cc', 'gcc', 'clang'))), None)
-        if compiler is None:
-            sys.exit('tests/hostile needs a C compiler (cc, gcc or clang) for faults.c')
         self.folder, self.library = folder, os.path.join(folder, 'faults.so')
         source = os.path.join(HERE, 'faults.c')
-        subprocess.run([compiler, '-shared', '-fPIC', '-O1', '-o', self.library, source, '-ldl'], check=True)
+        subprocess.run([compiler(), '-shared', '-fPIC', '-O1', '-o', self.library, source, '-ldl'], check=True)
 
     def told_in(self):
         return os.path.join(self.folder, 'told-%d' % os.getpid())
@@ -159,8 +162,22 @@ class Faults:
             return Told(*TOLD.unpack(file.read()))
 
 
+class NoFaults:
+    """What stands in where there is no C compiler: no call fails, and none is counted."""
+    library = None
+
+    def environment(self):
+        return {}
+
+    def told(self):
+        return None
+
+
 @contextlib.contextmanager
 def faults():
+    if not compiler():
+        yield NoFaults()
+        return
     with tempfile.TemporaryDirectory(prefix='mig_tool-hostile-') as folder:
         yield Faults(folder)
 

@@ -4,10 +4,12 @@ import bz2
 import gzip
 import lzma
 import os
+import shutil
 import struct
 import subprocess
 
 TOP = os.path.dirname(os.path.dirname(os.path.dirname(os.path.abspath(__file__))))
+HAS_XZ = bool(shutil.which('xz'))                    # else nothing here is packed by it
 CONFIG = b'{"c_info":{}}\0'
 XL_MAGIC = bytes.fromhex('58656e20736176656420646f6d61696e2c20786c20666f726d61740a2000200d')
 LIBVIRT_MAGIC = bytes.fromhex('6c6962766972742d786d6c0a2000200d')
@@ -144,6 +146,8 @@ SAVES = {
     b'49-xapi': (b'XenSavedDomv2-\n' + WRAPPED, "no save: begins with XAPI's header: the stream is to be cut out by hand"),
     b'50-folder/51-below.save': (xl(THREE), 'xl save, libxc image: ' + OK_THREE),
 }
+if not HAS_XZ:
+    del SAVES[b'17-xl.save.xz']
 SHOWN = {b'47-name\nwith-a-new-line.stream': '47-name\\nwith-a-new-line.stream', b'48-name-\xff\xfe.stream': '48-name-\\xff\\xfe.stream'}
 STARTS = {b'23-damaged.gz': DAMAGED_GZIP, b'24-checksum.gz': DAMAGED_GZIP}
 
