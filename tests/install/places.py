@@ -9,10 +9,11 @@ import sys
 import tempfile
 
 TOP = os.path.dirname(os.path.dirname(os.path.dirname(os.path.abspath(__file__))))
-TOOL = os.path.join(TOP, 'crates', 'mig_tool', 'out', 'mig_tool')
-sys.path.insert(0, TOP)
+TOOL = None                                          # the program that is tried; run sets it
+sys.path[:0] = [TOP, os.path.join(TOP, 'tests')]
 from front import resolve  # noqa: E402
 from front.text import shown  # noqa: E402
+from tried import program, skipped  # noqa: E402
 
 COPIED = 'bin', 'build', 'completions', 'docs', 'examples', 'front'
 PROGRAMS = 'mig', 'mig_tool', 'xl-stream'
@@ -115,10 +116,6 @@ def read(*path):
 def write(text, *path):
     with open(os.path.join(*path), 'w', encoding='utf-8') as file:
         file.write(text)
-
-
-def skipped(what, why):
-    print('skipped: %s: %s' % (what, why))
 
 
 # ---- what the sources have
