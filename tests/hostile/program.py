@@ -137,6 +137,23 @@ def compiler():
     return next(filter(None, map(shutil.which, ('cc', 'gcc', 'clang'))), None)
 
 
+def has_loader(tool):
+    """Whether a program is begun by the system's loader (PT_INTERP of ELF), so that a library can stand before its own."""
+    with open(tool, 'rb') as file:
+        data = file.read()
+    first, size, count = struct.unpack_from('<Q', data, 32)[0], *struct.unpack_from('<HH', data, 54)
+    return any(struct.unpack_from('<I', data, first + number * size)[0] == 3 for number in range(count))
+
+
+def no_faults(tool):
+    """Why no call of a program can be made to fail; nothing where it can."""
+    if not compiler():
+        return 'no C compiler is installed (cc, gcc or clang)'
+    if not has_loader(tool):
+        return 'the program has its C library inside, and no other can stand before it'
+    return ''
+
+
 class Faults:
     """The library of faults.c, built into a folder that is gone at the end, and the file in which it counts, of each process
     its own."""
@@ -163,7 +180,7 @@ class Faults:
 
 
 class NoFaults:
-    """What stands in where there is no C compiler: no call fails, and none is counted."""
+    """What stands in where no call can be made to fail: none fails, and none is counted."""
     library = None
 
     def environment(self):
@@ -174,8 +191,8 @@ class NoFaults:
 
 
 @contextlib.contextmanager
-def faults():
-    if not compiler():
+def faults(tool):
+    if no_faults(tool):
         yield NoFaults()
         return
     with tempfile.TemporaryDirectory(prefix='mig_tool-hostile-') as folder:
