@@ -1,11 +1,11 @@
 """Little memory: the address space of the program is limited to each of some sizes, from far too little to ample.
 
-Whether the program begins at all is the affair of the kernel and of the loader: with less than they need they end it, by
-a signal or with the loader's status and line. That it is they is seen from a run in which the loader does all it does and
-the program none of its own (LD_TRACE_LOADED_OBJECTS, which is what ldd sets). From the least size on at which this run
-succeeds the program answers for itself: status 5 with its line and nothing on standard output, or the right answer. `relay`
-may have written a front of what it passes on; what it passes on, and what `show` lists the records of, may be far longer than
-the memory that either has.
+Whether the program begins at all is the affair of the kernel and of the loader: with less than they need they end it, by a
+signal or with the loader's status and line. That it is they is seen from a run in which the loader does all it does and the
+program none of its own (LD_TRACE_LOADED_OBJECTS, which is what ldd sets); of a program that needs no loader, from one
+without words, which tells its usage and no more. From the least size on at which this run succeeds the program answers for
+itself: status 5 with its line and nothing on standard output, or the right answer. `relay` may have written a front of what
+it passes on; what it passes on, and what `show` lists the records of, may be far longer than the memory that either has.
 """
 import itertools
 import struct
@@ -70,6 +70,8 @@ def asked():
 
 def is_loaded(tool, size):
     """Whether the kernel and the loader get as far as the program's own first step."""
+    if not program.has_loader(tool):
+        return program.with_limit(tool, [], b'', size) == program.NO_COMMAND
     return program.with_limit(tool, [], b'', size, {'LD_TRACE_LOADED_OBJECTS': '1', 'LD_BIND_NOW': '1'}).status == 0
 
 
