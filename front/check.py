@@ -129,13 +129,16 @@ def checks(names, path, at_once):
     memory, begun, pool = Memory(), collections.deque(), ThreadPoolExecutor(at_once)
     try:
         for name in names:
-            begun.append((name, pool.submit(memory.check, name, path).result))
+            begun.append((name, pool.submit(memory.check, name, path)))
             if len(begun) > 4 * at_once:
-                yield begun.popleft()
-        yield from begun
+                first, found = begun.popleft()
+                yield first, found.result
+        yield from ((name, found.result) for name, found in begun)
     except BaseException as why:                     # a signal, or who reads the lines is gone
         program.RUNNING.end(why)
-        pool.shutdown(wait=False, cancel_futures=True)
+        for _, waiting in begun:
+            waiting.cancel()
+        pool.shutdown(wait=False)
         raise
     pool.shutdown()
 

@@ -72,7 +72,7 @@ def looks_like(front):
         return 'begins with %d zero bytes' % len(front)
     if is_text(front):
         return 'begins with text: %s' % ascii(front.decode('utf-8', 'ignore').strip().partition('\n')[0].rstrip()[:24])
-    return 'begins with the bytes %s' % front[:8].hex(' ')
+    return 'begins with the bytes %s' % ' '.join('%02x' % byte for byte in front[:8])
 
 
 def bare_form(front, begins, before=''):
