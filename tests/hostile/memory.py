@@ -15,9 +15,9 @@ import program
 KIB, MIB = 1 << 10, 1 << 20
 FRAMES, PAGE = 1024, bytes(range(256)) * 16
 PAGES = PAGE * 512
-# from less than the loader needs to more than any command here needs
+# from less than the kernel or the loader needs to more than any command here needs; 1408: a program without a loader begins
 SIZES = [size * KIB for size in (
-    256, 1024, 2560, 2624, 2688, 2816, 3072, 3584, 4096, 4608, 5120, 6144, 7168, 8192, 10240, 12288, 16384, 20480, 32768,
+    1024, 1408, 2560, 2624, 2688, 2816, 3072, 3584, 4096, 4608, 5120, 6144, 7168, 8192, 10240, 12288, 16384, 20480, 32768,
     98304)]
 
 
