@@ -179,10 +179,9 @@ def prove_all(crates, cores, tell):
                     tell('%s is proved, %.0f s; %d of %d left' % (crate, ended.result(), all_of_them - len(done), all_of_them))
 
 
-def build(anew, tell):
-    """Proves all that the program stands on, and links it: PROGRAM and OBJECT are there then. Answers the kit, and the checksum
-    of what it was made from. With `anew` nothing is taken from earlier runs."""
-    kit = Kit()
+def build(kit, anew, tell):
+    """Proves all that the program stands on, and links it: PROGRAM and OBJECT are there then. Answers the checksum of what it was
+    made from. With `anew` nothing is taken from earlier runs."""
     free = shutil.disk_usage(TOP).free
     if free < DISK:
         raise NotBuilt('it is not built: building takes %.0f GB of disk, and %.1f are free at %s' % (DISK / 2 ** 30, free / 2 ** 30, TOP))
@@ -194,4 +193,4 @@ def build(anew, tell):
     prove_all(crates, min(len(os.sched_getaffinity(0)), MOST_AT_ONCE), tell)
     words = '--target', TARGET, '--toolchain', kit.folder + '/toolchain', '-o', PROGRAM, OBJECT
     call('the program', ROOM, kit.folder + '/bin/rattle-link', *words, kit.folder + '/c/libos_c.a', kit.folder + '/c/liblibc_c.a')
-    return kit, crates.sources.checksum()
+    return crates.sources.checksum()

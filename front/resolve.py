@@ -37,8 +37,11 @@ Program = namedtuple('Program', 'path told')
 
 def number():
     """The number of the release that these sources are, or come after."""
-    with open(os.path.join(TOP, 'VERSION'), encoding='ascii') as file:
-        return file.read().strip()
+    try:
+        with open(os.path.join(TOP, 'VERSION'), encoding='ascii') as file:
+            return file.read().strip()
+    except (OSError, ValueError):
+        return 'unknown'
 
 
 # ---- what the program is made from

@@ -24,7 +24,7 @@ def lines():
 
 def release(told):
     if not resolve.IS_REPOSITORY:
-        return told.get('version', 'of an unknown release')
+        return told.get('version', 'unknown')
     at = revision()
     return resolve.number() + (', revision ' + at if at else '')
 
