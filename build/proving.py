@@ -2,7 +2,8 @@
 
 Each crate is proved when those below it are, as many side by side as there are cores, those first above which most is left.
 `rattle build` is called as `rattle build --help` documents it, and not `rt lib`: some kits' `rt` reads all files below a crate
-again on each way through crates.txt, which took 16 of 40 minutes (docs/performance.md).
+again on each way through crates.txt, which took 16 of 40 minutes. And a library gets its statements alone, as under `rt ci`, so
+that those above it load no proofs: that halves the time of the crates at the top (docs/performance.md).
 
 A library stands in out/proof when it is proved, with the checksum of what it was made from, so that a later run proves what
 changed and what stands above it."""
@@ -21,7 +22,7 @@ ROOM = os.path.join(TOP, 'out', 'proof')
 RLIBS, COPIES = os.path.join(ROOM, 'rlibs'), os.path.join(ROOM, 'sources')
 PROGRAM, OBJECT = os.path.join(ROOM, resolve.NAME), os.path.join(ROOM, resolve.NAME + '.o')
 TARGET = 'x86_64-unknown-linux-gnu'
-DISK = 5 << 30
+DISK = 2 << 30
 LITTLE_DISK = 64 << 20
 MOST_AT_ONCE = 4                                     # each takes up to 2.5 GB of memory
 SIGNALS = signal.SIGINT, signal.SIGTERM, signal.SIGHUP
@@ -122,10 +123,10 @@ class Crates:
             words += ['--extern', '%s=%s/%s.rlib' % (name, RLIBS, name)]
         words += ['-L', 'dependency=%s/rlibs' % folder, '-L', 'dependency=' + RLIBS]
         words += ['--antt-project', folder + '/rattle/logic/antt-project.json', '--logic-built', folder + '/logic_built']
-        words += ['--incremental', os.path.join(ROOM, 'kept', crate), '--links', crate + '=', '--jobs', str(jobs)]
+        words += ['--links', crate + '=', '--jobs', str(jobs)]
         if crate == resolve.NAME:
-            words += ['--toolchain', folder + '/toolchain', '--backend', 'llvm']
-        return words
+            return words + ['--toolchain', folder + '/toolchain', '--backend', 'llvm']
+        return words + ['--statements']
 
     def prove(self, crate, jobs):
         """Proves and builds a crate whose lower ones are built; the seconds that it took, or None where nothing was left to do."""
@@ -134,7 +135,6 @@ class Crates:
         if text_of(kept) == self.marks[crate] and os.path.exists(made):
             return None
         began = time.monotonic()
-        os.makedirs(os.path.join(ROOM, 'kept', crate), exist_ok=True)
         call(crate, os.path.join(COPIES, 'crates', crate), self.kit.rattle, 'build', *self.words(crate, jobs), '-o', made)
         with open(kept, 'w', encoding='ascii') as mark:
             mark.write(self.marks[crate])
