@@ -15,7 +15,7 @@ import subprocess
 import time
 from concurrent.futures import FIRST_COMPLETED, ThreadPoolExecutor, wait
 
-from front import resolve
+from front import program, resolve
 
 TOP = resolve.TOP
 ROOM = os.path.join(TOP, 'out', 'proof')
@@ -25,7 +25,6 @@ TARGET = 'x86_64-unknown-linux-gnu'
 DISK = 2 << 30
 LITTLE_DISK = 64 << 20
 MOST_AT_ONCE = 4                                     # each takes up to 2.5 GB of memory
-SIGNALS = signal.SIGINT, signal.SIGTERM, signal.SIGHUP
 
 
 class NotBuilt(Exception):
@@ -63,14 +62,9 @@ def output_of(*words):
 AT_WORK = set()                                      # each prover, with a process group of its own
 
 
-def stop_on_signals():
-    for number in SIGNALS:
-        signal.signal(number, stopped)
-
-
 def stopped(number, _):
     """A signal ends what is at work."""
-    for other in SIGNALS:
+    for other in program.SIGNALS:
         signal.signal(other, signal.SIG_IGN)
     for prover in list(AT_WORK):
         os.killpg(prover.pid, signal.SIGTERM)

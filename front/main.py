@@ -2,7 +2,6 @@
 import argparse
 import os
 import re
-import signal
 import sys
 
 from front import program
@@ -286,8 +285,7 @@ def main(arguments):
     escape_output()
     try:
         words = parser().parse_args(arguments)
-        for number in program.SIGNALS:
-            signal.signal(number, program.RUNNING.stop)
+        program.catch_signals(program.RUNNING.stop)
         return words.run(words)
     except program.NoProgram as missing:
         if str(missing):

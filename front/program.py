@@ -16,6 +16,13 @@ OK, REFUSED, USAGE, READ_FAULT, WRITE_FAULT, NO_MEMORY, NOT_COMPARED, NO_PROGRAM
 BY_OTHERS = 126, 127                                 # of a shell, or where a library of the program isn't found, or has no room
 
 
+def catch_signals(handler):
+    """Has a function called where a signal asks for an end; one that was ignored from the start, as under nohup, stays so."""
+    for number in SIGNALS:
+        if signal.getsignal(number) != signal.SIG_IGN:
+            signal.signal(number, handler)
+
+
 class Stopped(BaseException):
     """A signal asks for an end. No program is started any more."""
 
