@@ -3,7 +3,7 @@
 Each crate is proved when those below it are, as many side by side as there are cores, those first above which most is left.
 `rattle build` is called as `rattle build --help` documents it, and not `rt lib`: some kits' `rt` reads all files below a crate
 again on each way through crates.txt, which took 16 of 40 minutes. And a library gets its statements alone, as under `rt ci`, so
-that those above it load no proofs: that halves the time of the crates at the top (docs/performance.md).
+that those above it load no proofs: of 28 minutes that took five (docs/performance.md).
 
 A library stands in out/proof when it is proved, with the checksum of what it was made from, so that a later run proves what
 changed and what stands above it."""
