@@ -4,7 +4,7 @@ import shutil
 
 from build import linking
 from front import resolve
-from front.version import revision
+from front.version import revision, said_by_git
 
 LICENCE = 'Apache-2.0'
 HEAD = '''\
@@ -58,5 +58,6 @@ def ship(program, own):
     put_program(program, os.path.join(resolve.SHIPPED, resolve.MACHINE, resolve.NAME))
     put_text(os.path.join(resolve.SHIPPED, 'MANIFEST'), text(
         version=resolve.number(), licence=LICENCE, machine=resolve.MACHINE, program=resolve.sum_of_file(program), object=own['object'],
-        sources=own['sources'], kit=own['kit'], linker=linking.linker(), library=linking.library(),
+        sources=own['sources'], commit=said_by_git('rev-parse', 'HEAD') or 'unknown', kit=own['kit'], linker=linking.linker(),
+        library=linking.library(),
         origin='built from commit %s, shipped' % revision()))
