@@ -300,9 +300,11 @@ def closed_pipes(tool, faults):
 
 BY_FAULTS = (
     ('nothing fails', nothing_fails), ('each read fails', reads), ('each read of a few bytes fails', reads_of_pieces),
-    ('each write fails', writes), ('each write of a few bytes fails', writes_of_pieces),
-    ('each write of the line fails', reports), ('the line of a fault fails', reports_of_faults),
-    ('short reads and writes', short), ('a file that shrinks', shrinking))
+    ('each write fails', writes), ('each write of the line fails', reports), ('a file that shrinks', shrinking))
+# With memory that fails, or with so many calls that to trace them takes minutes.
+BY_THE_LIBRARY = (
+    ('each write of a few bytes fails', writes_of_pieces), ('the line of a fault fails', reports_of_faults),
+    ('short reads and writes', short))
 BY_THE_SYSTEM = (
     ('standard input that cannot be read', real_reads), ('a pipe whose writer dies', writer_dies), ('a full disk', limited_files),
     ('a pipe whose reader dies', closed_pipes))

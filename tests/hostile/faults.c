@@ -1,42 +1,13 @@
 /* Stands before the C library's read, write and allocator (LD_PRELOAD), and makes chosen calls of a program fail or come
- * short. What it does is told by the environment, numbers being decimal:
- *
- *   HOSTILE_READ="N ERRNO"      read number N of standard input, from 0 on, fails
- *   HOSTILE_READ_MOST=K         each read of standard input gives at most K bytes
- *   HOSTILE_SHRINK="N K"        before read number N the file that is standard input is cut to K bytes
- *   HOSTILE_OUT="N ERRNO"       write number N on standard output fails; an ERRNO of 0: it takes no byte
- *   HOSTILE_REPORT="N ERRNO"    the same of standard error
- *   HOSTILE_WRITE_MOST=K        each write on the two takes at most K bytes
- *   HOSTILE_ALLOCATION="N M"    the allocations from number N on, M of them, fail; the first one is number 0
- *   HOSTILE_TOLD=PATH           a file of the size of `struct told`, where it counts
+ * short. What it does is told by the environment (faults.h).
  *
  * The allocator's calls are counted from the moment when the program is loaded. */
 #define _GNU_SOURCE
+#include "faults.h"
 #include <dlfcn.h>
 #include <errno.h>
-#include <fcntl.h>
 #include <malloc.h>
-#include <stdint.h>
-#include <stdio.h>
-#include <stdlib.h>
-#include <sys/mman.h>
-#include <unistd.h>
 
-struct told {
-    uint64_t reads, bytes_read, writes[2], allocations;
-    uint64_t asked;      /* bytes that were asked for since the first read, and were more than a block had */
-    uint64_t most_asked; /* the most of them at once */
-    int64_t live, peak;  /* bytes of the blocks that are there, and the most there were since the first read */
-};
-
-struct chosen {
-    uint64_t number, what;
-    int is_set;
-};
-
-static struct told unshared, *told = &unshared;
-static struct chosen failing_read, shrink, failing_write[2], failing_allocation;
-static uint64_t read_most = UINT64_MAX, write_most = UINT64_MAX;
 static int is_loaded;
 
 extern void *__libc_malloc(size_t);
@@ -45,39 +16,14 @@ extern void *__libc_realloc(void *, size_t);
 extern void *__libc_memalign(size_t, size_t);
 extern void __libc_free(void *);
 
-static void choose(const char *name, struct chosen *it) {
-    const char *text = getenv(name);
-    it->is_set = text && sscanf(text, "%ju %ju", &it->number, &it->what) == 2;
-}
-
-static void choose_most(const char *name, uint64_t *most) {
-    const char *text = getenv(name);
-    if (text)
-        *most = strtoull(text, NULL, 10);
-}
-
 __attribute__((constructor)) static void load(void) {
-    choose("HOSTILE_READ", &failing_read);
-    choose("HOSTILE_SHRINK", &shrink);
-    choose("HOSTILE_OUT", &failing_write[0]);
-    choose("HOSTILE_REPORT", &failing_write[1]);
-    choose("HOSTILE_ALLOCATION", &failing_allocation);
-    choose_most("HOSTILE_READ_MOST", &read_most);
-    choose_most("HOSTILE_WRITE_MOST", &write_most);
-    const char *path = getenv("HOSTILE_TOLD");
-    int file = path ? open(path, O_RDWR | O_CLOEXEC) : -1;
-    if (file >= 0) {
-        void *at = mmap(NULL, sizeof *told, PROT_READ | PROT_WRITE, MAP_SHARED, file, 0);
-        if (at != MAP_FAILED)
-            told = at;
-        close(file);
-    }
+    choose_all();
     is_loaded = 1;
 }
 
 /* Whether call number `number` of this kind fails; it does so without reaching the system. */
 static int fails(const struct chosen *it, uint64_t number) {
-    if (!it->is_set || it->number != number)
+    if (!is_chosen(it, number))
         return 0;
     errno = (int)it->what;
     return 1;
@@ -94,7 +40,7 @@ ssize_t read(int fd, void *to, size_t length) {
     uint64_t number = told->reads++;
     if (fails(&failing_read, number))
         return -1;
-    if (shrink.is_set && shrink.number == number && ftruncate(0, (off_t)shrink.what) != 0)
+    if (is_chosen(&shrink, number) && ftruncate(0, (off_t)shrink.what) != 0)
         abort();
     ssize_t got = next(fd, to, length < read_most ? length : read_most);
     told->bytes_read += got > 0 ? (uint64_t)got : 0;

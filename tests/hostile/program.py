@@ -24,6 +24,7 @@ sys.path.append(TESTS)
 import tried  # noqa: E402
 
 ENVIRONMENT = dict(os.environ)
+TRACER = 'HOSTILE_TRACER'                            # names the program that runs the other
 DONE, REFUSED, USAGE, READ_FAULT, WRITE_FAULT, MEMORY = range(6)
 # status, what stands on standard output, what stands on standard error
 Answer = collections.namedtuple('Answer', 'status out report')
@@ -114,8 +115,8 @@ class Runs:
         for file in self.files[1:]:
             os.ftruncate(file, 0)
         whole = {**ENVIRONMENT, **environment} if environment else ENVIRONMENT
-        process = os.posix_spawn(
-            self.tool, [self.tool, *words], whole, file_actions=self.actions, setsigdef=[signal.SIGPIPE])
+        line = [it for it in (whole.get(TRACER), self.tool, *words) if it is not None]
+        process = os.posix_spawn(line[0], line, whole, file_actions=self.actions, setsigdef=[signal.SIGPIPE])
         status = os.waitstatus_to_exitcode(os.waitpid(process, 0)[1])
         return Answer(status, *(os.pread(file, os.fstat(file).st_size, 0) for file in self.files[1:]))
 
@@ -145,23 +146,15 @@ def has_loader(tool):
     return any(struct.unpack_from('<I', data, first + number * size)[0] == 3 for number in range(count))
 
 
-def no_faults(tool):
-    """Why no call of a program can be made to fail; nothing where it can."""
-    if not compiler():
-        return 'no C compiler is installed (cc, gcc or clang)'
-    if not has_loader(tool):
-        return 'the program has its C library inside, and no other can stand before it'
-    return ''
-
-
 class Faults:
-    """The library of faults.c, built into a folder that is gone at the end, and the file in which it counts, of each process
-    its own."""
+    """Makes calls of a program fail: by a library that stands before the program's own, built of faults.c into a folder that is
+    gone at the end; and the file in which it counts, of each process its own."""
+    counts_memory, source, how = True, 'faults.c', ('-shared', '-fPIC')
 
     def __init__(self, folder):
-        self.folder, self.library = folder, os.path.join(folder, 'faults.so')
-        source = os.path.join(HERE, 'faults.c')
-        subprocess.run([compiler(), '-shared', '-fPIC', '-O1', '-o', self.library, source, '-ldl'], check=True)
+        self.folder, self.made = folder, os.path.join(folder, 'made')
+        words = [compiler(), *self.how, '-O1', '-o', self.made, os.path.join(HERE, self.source), '-ldl']
+        subprocess.run(words, check=True)
 
     def told_in(self):
         return os.path.join(self.folder, 'told-%d' % os.getpid())
@@ -171,7 +164,11 @@ class Faults:
         with open(self.told_in(), 'wb') as file:
             file.write(bytes(TOLD.size))
         names = {'HOSTILE_' + name.upper(): str(what) for name, what in chosen.items()}
-        return {'LD_PRELOAD': self.library, 'HOSTILE_TOLD': self.told_in(), **names}
+        return {self.variable(): self.made, 'HOSTILE_TOLD': self.told_in(), **names}
+
+    @staticmethod
+    def variable():
+        return 'LD_PRELOAD'
 
     def told(self):
         """What was counted in the last run."""
@@ -179,9 +176,22 @@ class Faults:
             return Told(*TOLD.unpack(file.read()))
 
 
+class Traced(Faults):
+    """The same of a program that has its C library inside, by another that traces it; it sees no allocation."""
+    counts_memory, source, how = False, 'traced.c', ()
+
+    @staticmethod
+    def variable():
+        return TRACER
+
+    def works(self, tool):
+        """Whether programs may be traced here."""
+        return subprocess.run([self.made, tool], stdin=subprocess.DEVNULL, stderr=subprocess.DEVNULL, check=False).returncode == USAGE
+
+
 class NoFaults:
     """What stands in where no call can be made to fail: none fails, and none is counted."""
-    library = None
+    counts_memory = False
 
     def environment(self):
         return {}
@@ -192,11 +202,21 @@ class NoFaults:
 
 @contextlib.contextmanager
 def faults(tool):
-    if no_faults(tool):
+    """What makes calls of a program fail; NoFaults where nothing can, which is told."""
+    if not compiler():
+        tried.skipped('calls that fail, and memory that is counted', 'no C compiler is installed (cc, gcc or clang)')
         yield NoFaults()
         return
     with tempfile.TemporaryDirectory(prefix='mig_tool-hostile-') as folder:
-        yield Faults(folder)
+        if has_loader(tool):
+            yield Faults(folder)
+            return
+        tried.skipped('memory that fails or is counted, and calls that come short by many', 'the program has its C library inside')
+        traced = Traced(folder)
+        if not traced.works(tool):
+            tried.skipped('calls that fail', 'no program may be traced here')
+            traced = NoFaults()
+        yield traced
 
 
 # ---- little memory
