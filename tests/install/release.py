@@ -3,7 +3,6 @@ import os
 import shutil
 import tarfile
 
-import places
 from front import resolve
 from places import PATH, Copy, folder, read, refused, run, skipped, tree, wanted, write
 from prefix import installed, works
