@@ -10,10 +10,9 @@ ghost use Rattle.mig_canon.specs.Canon.{static_bodies, last_records, text_of};
 ghost use Rattle.mig_around.specs.SaveTexts.{text_before};
 ghost use Rattle.mig_around.specs.SaveTexts.{context_record, closing_records, StopsBehind};
 
-use mig_bytes::{Sink, WriteFailed};
+use mig_bytes::{Sink, WriteFailed, put_all};
 use mig_canon::{write_codes, write_headers, write_info, write_p2m_frames, write_vcpus};
 use mig_guest::{Guest, PartCode};
-use mig_io::put_all;
 use mig_pagesink::write_end;
 use mig_records::{write_head, write_padding, write_record};
 

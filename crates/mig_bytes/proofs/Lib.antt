@@ -10,3 +10,6 @@ pub mod Said
 pub mod Sequences
 pub mod Arrivals
 pub mod NumberMaps
+pub mod Streams
+pub mod Taking
+pub mod Vectors

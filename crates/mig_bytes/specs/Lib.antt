@@ -5,3 +5,5 @@ pub mod Walk
 pub mod Judged
 pub mod Answers
 pub mod Sequences
+pub mod Memory
+pub mod Outside

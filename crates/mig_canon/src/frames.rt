@@ -8,9 +8,8 @@ ghost use Rattle.mig_records.specs.Records.{spelled};
 ghost use Rattle.mig_canon.specs.Canon.{words_of, pages_of, body_of, text_of, frame_bodies, batches, frames_in};
 
 use crate::parts::write_count;
-use mig_bytes::{Sink, WriteFailed, put_u64_le};
+use mig_bytes::{Sink, WriteFailed, put_all, put_u64_le};
 use mig_guest::Guest;
-use mig_io::put_all;
 use mig_pagetypes::{FrameWord, encode_word};
 use mig_records::write_head;
 

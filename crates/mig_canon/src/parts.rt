@@ -14,9 +14,8 @@ ghost use Rattle.mig_canon.specs.Canon.{records_of, text_of};
 ghost use Rattle.mig_canon.specs.Pieces.{piece, IsShortPart};
 
 use mig_bodies::{Layout, Shape, shape_of};
-use mig_bytes::{Sink, WriteFailed, put_u64_le};
+use mig_bytes::{Sink, WriteFailed, put_all, put_u64_le};
 use mig_guest::{Guest, PartCode, PartKey};
-use mig_io::put_all;
 use mig_records::{write_head, write_padding, write_record};
 
 /// Appends the lowest bytes of two numbers, of each the lowest first.

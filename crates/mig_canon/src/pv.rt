@@ -8,10 +8,9 @@ ghost use Rattle.mig_canon.specs.Canon.{info_records, p2m_body, p2m_records, vcp
 
 use crate::parts::{write_numbers, write_piece};
 use mig_bodies::shape_of;
-use mig_bytes::{Sink, WriteFailed};
+use mig_bytes::{Sink, WriteFailed, put_all};
 use mig_guest::{Guest, PartCode, PartKey};
 use mig_headers::Kind;
-use mig_io::put_all;
 use mig_records::{write_head, write_padding, write_record};
 
 /// The type of X86_PV_INFO.

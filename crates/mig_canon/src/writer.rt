@@ -9,10 +9,9 @@ ghost use Rattle.mig_canon.specs.Canon.{headers, records_of, static_bodies, last
 use crate::frames::write_frames;
 use crate::parts::write_parts;
 use crate::pv::{write_info, write_p2m_frames, write_vcpus};
-use mig_bytes::{Sink, WriteFailed};
+use mig_bytes::{Sink, WriteFailed, put_all};
 use mig_guest::{Guest, PartCode};
 use mig_headers::{DomainHeader, ImageHeader, Kind};
-use mig_io::put_all;
 use mig_records::write_record;
 
 /// The type of END.

@@ -1,7 +1,7 @@
 ghost use Rattle.std.proofs.Common.{◌∙◌, le_refl, le_trans};
 ghost use Rattle.std.specs.Prelude.{refl, ◌≡◌, ◌+◌, ◌/◌, ◌<◌, ◌≤◌, ◌↔◌, length, IsTrue, IsErr, IfOk, IfSome, OnOk, OnErr};
 ghost use Rattle.mig_bytes.specs.Faults.{HasCause};
-ghost use Rattle.mig_io.specs.Memory.{counted_up, IsListed};
+ghost use Rattle.mig_bytes.specs.Memory.{counted_up, IsListed};
 ghost use Rattle.mig_guest.specs.Hosts.{pfn_in};
 ghost use Rattle.mig_machine_api.specs.MachineCalls.{seen_at, page_peeked, Peeked, LookedUp, LogTaken, Paused};
 ghost use Rattle.mig_machine_api.specs.MachineStates.{IsValidState, Stays};

@@ -23,7 +23,7 @@ pub use Rattle.mig_bytes.proofs.ByteLists.{Bytes, bytes_back, bytes_front, field
 pub use Rattle.mig_bytes.proofs.Joins.{both_pass, done, judged_so, placed_passes, same_passes, then_passes}
 pub use Rattle.mig_bytes.proofs.Placed.{one_more, one_stops, told}
 pub use Rattle.mig_bytes.proofs.Said.{said_goes, said_passes}
-pub use Rattle.mig_io.proofs.Taking.{takes_more, takes_none}
+pub use Rattle.mig_bytes.proofs.Taking.{takes_more, takes_none}
 pub use Rattle.mig_bytes.proofs.Texts.{all_parted, flat_more, puts_same, puts_stop, puts_then}
 pub use Rattle.mig_bytes.specs.Bytes.{AppendsPart, AreBytes, Puts, TakesBytes, padding_len}
 pub use Rattle.mig_bytes.specs.Judged.{Gives, Judged, placed}

@@ -16,11 +16,10 @@ ghost use Rattle.mig_image.specs.ImageParts.{head_pfn, head_type, head_type_numb
 
 use crate::version::ImageVersion;
 use crate::zeros::{is_all_zero, zero_page};
-use mig_bytes::{Source, Stop, u64_le};
+use mig_bytes::{Source, Stop, take_part, u64_le};
 use mig_causes::ImageCause;
 use mig_headers::Kind;
 use mig_host::{Host, MACHINE_LIMIT};
-use mig_io::take_part;
 use mig_pagetypes::PageType;
 
 /// The number of the type in a frame's head.

@@ -12,10 +12,9 @@ ghost use Rattle.mig_image.specs.ImageForm.{host_head_causes, host_head_form};
 ghost use Rattle.mig_image.specs.ImageParts.{head_version};
 
 use crate::version::ImageVersion;
-use mig_bytes::{Source, Stop, u32_le, u64_be, u64_le};
+use mig_bytes::{Source, Stop, take_part, u32_le, u64_be, u64_le};
 use mig_causes::ImageCause;
 use mig_headers::Kind;
-use mig_io::take_part;
 use mig_pagetypes::MAX_FRAMES;
 
 /// "XGIMAGE1" and "XGIMAGE2", the lowest byte last.

@@ -18,10 +18,9 @@ use crate::frame::read_frame;
 use crate::head::{kind_in, read_head, version_in};
 use crate::read_part::read_parts;
 use crate::version::ImageVersion;
-use mig_bytes::{Answer, Source, Stop, answer_for, u64_le};
+use mig_bytes::{Answer, Source, Stop, answer_for, take_part, u64_le};
 use mig_causes::{ImageCause, ImagePlace};
 use mig_host::Host;
-use mig_io::take_part;
 use std::alloc::Global;
 
 /// Why an image isn't read.

@@ -16,11 +16,10 @@ ghost use Rattle.mig_image.specs.Image.{frame_head_of, frame_text, is_left_out, 
 
 use crate::head::NAME_TWO;
 use crate::zeros::is_all_zero;
-use mig_bytes::{Sink, WriteFailed, pad_len, put_u32_le, put_u64_be, put_u64_le};
+use mig_bytes::{Sink, WriteFailed, pad_len, put_all, put_u32_le, put_u64_be, put_u64_le};
 use mig_guest::PartKey;
 use mig_headers::Kind;
 use mig_host::Host;
-use mig_io::put_all;
 use mig_pagetypes::PageType;
 
 /// The number of a kind of guest.

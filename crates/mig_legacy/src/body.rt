@@ -13,13 +13,12 @@ ghost use Rattle.mig_legacy.specs.Legacy.{LegacyContent, param_key as key_of_par
 ghost use Rattle.mig_legacy.specs.Legacy.LegacyContent.{Nothing};
 ghost use Rattle.mig_legacy.specs.Seen.{cut_short, put_in_guest, put_in_emulators};
 
-use mig_bytes::{Memory, ReadFailed, Source, Stop, u32_le};
+use mig_bytes::{Memory, ReadFailed, Source, Stop, skip, take_long, take_part, u32_le};
 use mig_causes::{Cause, LegacyCause};
 use mig_chunks::{batch_fault, page_data_words, physmap_pairs, put, toolstack_fault};
 use mig_emulators::Emulators;
 use mig_guest::{EMULATOR_PAIRS, Guest, PartKey};
 use mig_headers::MOST_BODY;
-use mig_io::{skip, take_long, take_part};
 use mig_libxc::words_of;
 use mig_policy::PairsAnswer;
 use mig_restore::take_entries;

@@ -14,13 +14,12 @@ ghost use Rattle.mig_legacy.specs.Seen.{put_tail, put_device};
 ghost use Rattle.mig_legacy.specs.Stream.{device_at};
 
 use crate::body::{are_bytes, param_key, take_length};
-use mig_bytes::{Memory, Source, Stop};
+use mig_bytes::{Memory, Source, Stop, take_long, take_part};
 use mig_causes::LegacyCause;
 use mig_emulators::Emulators;
 use mig_guest::{EMULATOR_CONTEXT, Guest, PartKey};
 use mig_headers::MOST_BODY;
 use mig_hvm::{read_context, scan_context};
-use mig_io::{take_long, take_part};
 use std::alloc::Global;
 
 /// The HVM parameters that are the frames of I/O requests, of buffered ones and of the store.

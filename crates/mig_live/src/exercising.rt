@@ -18,14 +18,11 @@ ghost use Rattle.mig_live.specs.Exercises.{Exercises, ExerciseSaved, SaysExercis
 ghost use Rattle.mig_live.specs.LiveSaves.{IsUnasked, WroteLiveTo, paused_host};
 
 use crate::saving::save_machine;
-use mig_bytes::{Failed, Memory, Sink, Source};
+use mig_bytes::{Failed, MemSink, Memory, Sink, Source};
 use mig_exercise::{exercise_host, exercise_script};
 use mig_exercise_laws::exercise_is_saved;
 use mig_guest::Guest;
-use mig_image::{
-    Host, HostAnswer, SoundAnswer, guest_of, host_of, hosted_is_seen, hosted_is_sound,
-};
-use mig_io::MemSink;
+use mig_image::{Host, HostAnswer, SoundAnswer, guest_of, host_of, hosted_is_seen, hosted_is_sound};
 use mig_machine::ScriptMachine;
 use mig_report::{ExerciseSummary, Outcome, SaveSummary, Status, finish, put_exercised};
 use mig_restore::StreamAnswer;

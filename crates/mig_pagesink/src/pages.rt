@@ -8,9 +8,8 @@ ghost use Rattle.mig_pagesink.specs.Told.{told_of, told_held, telling_frame, tel
 ghost use Rattle.mig_pagesink.specs.Batches.{JoinsBatches};
 
 use crate::HeldFrame;
-use mig_bytes::{Sink, WriteFailed, put_u64_le};
+use mig_bytes::{Sink, WriteFailed, put_all, put_u64_le};
 use mig_canon::{no_pages, no_words, pages_with, put_page, write_count};
-use mig_io::put_all;
 use mig_pagetypes::{FrameWord, PageType, encode_word};
 use mig_records::write_head;
 

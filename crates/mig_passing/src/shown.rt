@@ -10,9 +10,8 @@ ghost use Rattle.mig_passing.specs.Shown.{SaysShown};
 ghost use Rattle.mig_passing.specs.ShownSteps.{outcome_of_shown, outcome_of_unshown};
 ghost use Rattle.mig_report.specs.Statuses.{InputRises, NoneFailed, OutputRises, ReportsStatus};
 
-use mig_bytes::{Sink, Source};
+use mig_bytes::{Sink, Source, put_all};
 use mig_causes::{Cause, Place};
-use mig_io::put_all;
 use mig_report::{Outcome, Refusal, Status, finish};
 use mig_show::{ShowAnswer, ShownText, show_text};
 use std::alloc::Global;

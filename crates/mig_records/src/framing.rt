@@ -7,9 +7,8 @@ ghost use Rattle.mig_causes.specs.declared.fault.Cause.TheVariants.{Truncated};
 ghost use Rattle.mig_records.specs.Heads.{head_in};
 
 use crate::RecordHead;
-use mig_bytes::{Source, Stop, pad_len};
+use mig_bytes::{Source, Stop, pad_len, take_part};
 use mig_causes::Cause;
-use mig_io::take_part;
 
 /// Takes a record's head, of a libxc image or of a libxl stream.
 pub fn take_head<S: Source>(src: &mut S) -> Result<RecordHead, Stop<Cause>>

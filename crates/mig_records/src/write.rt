@@ -7,8 +7,7 @@ ghost use Rattle.mig_headers.specs.RecordTypes.{most_body};
 ghost use Rattle.mig_records.specs.Records.{head_of, spelled};
 
 use crate::RecordHead;
-use mig_bytes::{Sink, WriteFailed, pad_len};
-use mig_io::put_all;
+use mig_bytes::{Sink, WriteFailed, pad_len, put_all};
 
 /// Appends the head of a record.
 pub fn write_head<K: Sink>(sink: &mut K, kind: u32, len: u32) -> Result<(), WriteFailed>

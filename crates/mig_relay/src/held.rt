@@ -4,8 +4,7 @@ ghost use Rattle.std.specs.Io.KnownBytes.{WriteAppends};
 ghost use Rattle.mig_bytes.specs.Bytes.{Puts};
 ghost use Rattle.mig_bytes.specs.Faults.{HasCause};
 
-use mig_bytes::{Failed, Sink, WriteFailed};
-use mig_io::put_all;
+use mig_bytes::{Failed, Sink, WriteFailed, put_all};
 use std::alloc::Global;
 use std::marker::Model;
 

@@ -15,10 +15,9 @@ ghost use Rattle.std.specs.Option.{option_or};
 
 use crate::answer::{RelayAnswer, Step};
 use crate::state::{Coming, Relay, answer};
-use mig_bytes::{Sink, Source, u32_le};
+use mig_bytes::{Sink, Source, take_long, take_part, u32_le};
 use mig_causes::{Cause, Place};
 use mig_headers::Kind;
-use mig_io::{take_long, take_part};
 use mig_libxc::{meant, page_fault, type_in, words_of};
 use mig_records::{RecordHead, count_fault, data_len, words_fault};
 

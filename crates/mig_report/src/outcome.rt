@@ -7,14 +7,10 @@ ghost use Rattle.mig_report.specs.declared.outcome.Outcome.TheVariants as outcom
 ghost use Rattle.mig_report.specs.declared.outcome.Refusal.TheVariants as refusals;
 
 use crate::status::Status;
-use mig_bytes::{Sink, WriteFailed};
+use mig_bytes::{Sink, WriteFailed, put_all};
 use mig_causes::{Cause, ImageCause, ImagePlace, LegacyCause, LegacyPlace, Place, Unsound};
 use mig_headers::Kind;
-use mig_io::put_all;
-use mig_texts::{
-    put_cause, put_image_cause, put_image_place, put_legacy_cause, put_legacy_place, put_number,
-    put_place, put_unsound,
-};
+use mig_texts::{put_cause, put_image_cause, put_image_place, put_legacy_cause, put_legacy_place, put_number, put_place, put_unsound};
 
 /// The place and the cause of a refusal.
 #[derive(Clone, Copy, Debug, PartialEq, Eq)]

@@ -20,12 +20,11 @@ ghost use Rattle.mig_libxc.specs.Record.Content.{Nothing};
 ghost use Rattle.mig_libxc.specs.Spelled.{IsGoodWord};
 
 use mig_bodies::{body_fault, p2m_fault, pv_info_fault, read_body, read_p2m};
-use mig_bytes::{ReadFailed, Source, Stop, u32_le};
+use mig_bytes::{ReadFailed, Source, Stop, skip, take_long, take_part, u32_le};
 use mig_causes::Cause;
 use mig_guest::{Guest, PartCode};
 use mig_headers::{Kind, RecordType, is_optional};
 use mig_hvm::{read_context, scan_context};
-use mig_io::{skip, take_long, take_part};
 use mig_libxc::{meant, page_fault, pfn_in, type_in, words_of};
 use mig_records::{RecordHead, count_fault, data_len, words_fault};
 use std::alloc::Global;

@@ -19,11 +19,10 @@ ghost use Rattle.mig_restore.specs.Reads.{ReadsImage, ReadsRest, IsReading};
 
 use crate::answer::StreamAnswer;
 use crate::check::{counted, take_placed};
-use mig_bytes::{Source, Stop, answer_for};
+use mig_bytes::{Source, Stop, answer_for, take_part};
 use mig_causes::{Cause, Place};
 use mig_guest::Guest;
 use mig_headers::{DomainHeader, ImageHeader, Kind};
-use mig_io::take_part;
 use mig_libxc::RecordsSeen;
 use mig_pvtables::{WholeAnswer, blank, whole};
 use mig_records::{RecordHead, take_head, take_padding};

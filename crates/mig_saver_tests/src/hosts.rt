@@ -1,8 +1,8 @@
 ghost use Rattle.std.specs.Prelude.{◌≤◌, IfOk};
 ghost use Rattle.mig_guest.specs.Hosts.{most_saved_width};
 
+use mig_bytes::MemSource;
 use mig_image::{Host, read_host};
-use mig_io::MemSource;
 use std::alloc::Global;
 use std::test::Fail;
 

@@ -4,11 +4,11 @@ ghost use Rattle.mig_machine.specs.MachineSeen.{is_paused, history_of};
 ghost use Rattle.mig_machine_api.specs.History.{no_history};
 
 use crate::hosts::{wide, worked};
+use mig_bytes::{MemSink, MemSource};
 use mig_dirtysave::{SaveAnswer, SaveReport, Saver};
 use mig_faulty::{FailingMachine, ForgetfulMachine};
 use mig_guest::Guest;
 use mig_image::Host;
-use mig_io::{MemSink, MemSource};
 use mig_machine::ScriptMachine;
 use mig_machine_api::Machine;
 use mig_script::Script;

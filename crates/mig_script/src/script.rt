@@ -9,8 +9,7 @@ ghost use Rattle.mig_script.specs.Scripts.{most_script_bytes, BeginsWithText};
 ghost use Rattle.mig_script.specs.declared.script.ScriptAnswer.TheVariants as answers;
 
 use crate::line::line_in;
-use mig_bytes::{Got, Memory, Source, TakeFault};
-use mig_io::take_vec;
+use mig_bytes::{Got, Memory, Source, TakeFault, take_vec};
 use std::alloc::Global;
 use std::marker::Model;
 

@@ -1,4 +1,4 @@
-use mig_io::MemSource;
+use mig_bytes::MemSource;
 use mig_script::{Line, Script, ScriptAnswer};
 use std::alloc::Global;
 use std::process::Abort;

@@ -1,5 +1,5 @@
+use mig_bytes::{MemSink, MemSource};
 use mig_causes::{Cause, ContextFault, Place};
-use mig_io::{MemSink, MemSource};
 use mig_relay::{Relay, RelayAnswer, Relayed, Step, relay};
 use std::alloc::Global;
 use std::test::Fail;
@@ -87,7 +87,7 @@ fn the_smallest_stream_is_passed_on(rt: HostRuntime) -> Result<(), Fail> {
     );
     assert_eq!(rt; out.bytes(), SMALLEST.as_slice());
     let mut last = [0; 2];
-    let left = mig_io::take_exact(&mut src, &mut last);
+    let left = mig_bytes::take_exact(&mut src, &mut last);
     assert_eq!(rt; left, Ok(mig_bytes::Got::Short(1)));
     assert_eq!(rt; last[0], 255);
     Ok(())

@@ -1,7 +1,6 @@
 ghost use Rattle.std.specs.Prelude.{◌≡◌};
 
-use mig_bytes::WriteFailed;
-use mig_io::MemSink;
+use mig_bytes::{MemSink, WriteFailed};
 use mig_pagesink::{Batch, HeldFrame, write_batch, write_end, write_plain};
 use mig_pagetypes::PageType;
 use std::test::Fail;

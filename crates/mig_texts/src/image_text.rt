@@ -4,9 +4,8 @@ ghost use Rattle.mig_causes.specs.CauseNumbers.{number_of_image_cause};
 ghost use Rattle.mig_texts.specs.ImageTexts.{name_of_image_cause, arguments_of_image_cause, text_of_image_cause, text_of_image_place};
 
 use crate::text::{Arguments, Printed, put_numbered, put_words};
-use mig_bytes::{Sink, WriteFailed};
+use mig_bytes::{Sink, WriteFailed, put_all};
 use mig_causes::{ImageCause, ImagePlace};
-use mig_io::put_all;
 
 impl Printed for ImageCause {
     ghost number_told = { number_of_image_cause };

@@ -8,9 +8,8 @@ ghost use Rattle.mig_causes.specs.CauseNumbers.{number_of_cause};
 ghost use Rattle.mig_texts.specs.Texts.{name_of, arguments_of, words_of_context, spaced, text_of_cause, text_of_place};
 
 use itoa::Buffer;
-use mig_bytes::{Sink, WriteFailed};
+use mig_bytes::{Sink, WriteFailed, put_all};
 use mig_causes::{Cause, ContextFault, Place};
-use mig_io::put_all;
 
 /// What stands behind a cause's name.
 #[derive(Clone, Copy)]

@@ -11,12 +11,12 @@ mod carry;
 mod run;
 
 use crate::run::run;
-use mig_io::{InSource, OutSink};
+use mig_bytes::{InSource, OutSink};
 use mig_report::{Outcome, Status, put_line};
 use std::alloc::Global;
+use std::{env, io};
 use std::io::{BufReader, ErrorKind};
 use std::process::ExitCode;
-use std::{env, io};
 
 /// How much of standard input is read at once.
 const INPUT_BUFFER: usize = 131072;

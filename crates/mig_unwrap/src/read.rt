@@ -19,16 +19,12 @@ ghost use Rattle.mig_libxl.specs.Stream.StreamOf.{Wrapped};
 ghost use Rattle.mig_libxl.specs.Stream.{header_at, libxl_records_at, wrapped_at, bare_at, stream_at};
 ghost use Rattle.mig_unwrap.specs.Reads.{IsStreamReading, ReadsStream};
 
-use mig_bytes::{Memory, ReadFailed, Source, Stop, answer_for, stop_for, u32_le};
+use mig_bytes::{Memory, ReadFailed, Source, Stop, answer_for, skip, stop_for, take_long, take_part, u32_le};
 use mig_causes::{Cause, Place};
 use mig_emulators::Emulators;
 use mig_guest::PartKey;
 use mig_headers::{ImageHeader, LibxlHeader};
-use mig_io::{skip, take_long, take_part};
-use mig_libxl::{
-    EMULATOR_CONTEXT, EMULATOR_XENSTORE_DATA, LIBXC_CONTEXT, LIBXL_END, RecordsBehind,
-    libxl_head_fault,
-};
+use mig_libxl::{EMULATOR_CONTEXT, EMULATOR_XENSTORE_DATA, LIBXC_CONTEXT, LIBXL_END, RecordsBehind, libxl_head_fault};
 use mig_policy::{PairsAnswer, pairs_fault};
 use mig_records::{RecordHead, take_head, take_padding};
 use mig_restore::{Reading, StreamAnswer, read_image, read_image_rest};

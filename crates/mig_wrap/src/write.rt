@@ -12,11 +12,10 @@ ghost use Rattle.mig_pvtables.specs.Whole.{IsWhole};
 ghost use Rattle.mig_records.specs.Records.{spelled};
 ghost use Rattle.mig_wrap.specs.Canon.{has_emulators as some_emulators, is_of_converter as from_converter, emulator_record, emulator_cmp, NextEmulator, emulators_in_order, text_of_emulators, opening_text, wrapper_opening, wrapper_closing, canon_any};
 
-use mig_bytes::{Sink, WriteFailed, put_u32_le};
+use mig_bytes::{Sink, WriteFailed, put_all, put_u32_le};
 use mig_canon::write_canon;
 use mig_guest::{EMULATOR_CONTEXT as CONTEXT, EMULATOR_PAIRS as PAIRS, Guest, PartKey};
 use mig_headers::LibxlHeader;
-use mig_io::put_all;
 use mig_libxl::{LIBXC_CONTEXT, LIBXL_END};
 use mig_records::{write_head, write_padding, write_record};
 

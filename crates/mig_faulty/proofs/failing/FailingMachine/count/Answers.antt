@@ -1,5 +1,5 @@
 use Rattle.std.proofs.Common.{refl, subst, List, ℕ}
-use Rattle.mig_io.specs.Memory.{IsListed}
+use Rattle.mig_bytes.specs.Memory.{IsListed}
 use Rattle.mig_faulty.specs.Failing.{FailingSeen}
 use Rattle.mig_faulty.proofs.failing.FailingMachine.count.Goals as goal
 
