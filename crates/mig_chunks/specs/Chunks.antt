@@ -1,8 +1,8 @@
 -- The types of a legacy stream's chunks (Xen's xg_save_restore.h): a number of 4 bytes, low byte first, of which the upper
 -- half is negative.
 use Rattle.std.specs.Prelude.{⊤, ◌≡◌, ◌≤◌, ◌<◌, ℕ, ◌-◌, ◌^◌, List, [], ◌∷◌, Option, Some, None, Result, Ok, Err, ◌==◌, nat_lt, if◌then◌else◌}
-use Rattle.mig_form.specs.Tests.{Test, first_named}
-use Rattle.mig_form.specs.Tests.Test.{Less, Equal, Either}
+use Rattle.mig_bytes_form.specs.Tests.{Test, first_named}
+use Rattle.mig_bytes_form.specs.Tests.Test.{Less, Equal, Either}
 use Rattle.mig_causes.specs.declared.legacy_fault.LegacyCause.{LegacyCause}
 use Rattle.mig_causes.specs.declared.legacy_fault.LegacyCause.TheVariants.{VerifyOrPv, Tmem, Compressed, UnknownChunk, BatchTooLarge}
 use Rattle.mig_chunks.specs.declared.chunk.ChunkKind.{ChunkKind}

@@ -28,12 +28,12 @@ pub use Rattle.mig_bytes.proofs.Texts.{all_parted, flat_more, puts_same, puts_st
 pub use Rattle.mig_bytes.specs.Bytes.{AppendsPart, AreBytes, Puts, TakesBytes, padding_len}
 pub use Rattle.mig_bytes.specs.Judged.{Gives, Judged, placed}
 pub use Rattle.mig_bytes.specs.Judged.Judged.{Passes}
-pub use Rattle.mig_form.proofs.ByParts.{both_go, bytes_go, bytes_gone, first_stops, gives_goes, gives_gone, nothing_read, placed_goes, placed_gone, placed_read, placed_stop, steps_at, steps_go, steps_read, then_goes, then_read, told_then}
-pub use Rattle.mig_form.proofs.Tests.{no_fault, rows_fine}
-unfoldable pub use Rattle.mig_form.specs.Form.{judged_as, ◌>>>◌}
-pub use Rattle.mig_form.specs.Form.{FormOf, placed_form}
-pub use Rattle.mig_form.specs.Form.FormOf.{Gives as Giving}
-pub use Rattle.mig_form.specs.Tests.{first_named, is_passed}
+pub use Rattle.mig_bytes_form.proofs.ByParts.{both_go, bytes_go, bytes_gone, first_stops, gives_goes, gives_gone, nothing_read, placed_goes, placed_gone, placed_read, placed_stop, steps_at, steps_go, steps_read, then_goes, then_read, told_then}
+pub use Rattle.mig_bytes_form.proofs.Tests.{no_fault, rows_fine}
+unfoldable pub use Rattle.mig_bytes_form.specs.Form.{judged_as, ◌>>>◌}
+pub use Rattle.mig_bytes_form.specs.Form.{FormOf, placed_form}
+pub use Rattle.mig_bytes_form.specs.Form.FormOf.{Gives as Giving}
+pub use Rattle.mig_bytes_form.specs.Tests.{first_named, is_passed}
 pub use Rattle.mig_guest.proofs.PartOrder.{part_exact, part_total}
 pub use Rattle.mig_guest.proofs.PartRows.{number_found, numbered, one_code}
 pub use Rattle.mig_guest.specs.Formed.{IsRawContent}

@@ -1,6 +1,6 @@
 -- What was taken as a host is its image, where it is bytes, whatever follows it.
 use Rattle.mig_image.proofs.Common.{◌≡◌, ◌≤◌, ℕ, List, [], ◌++◌, Option, Some, None, Ok, sym, ap, subst, ◌∙◌, append-nil, append_cancel_right, Consumes, AreBytes, TakesBytes, Gives, Passes, HostOf, HostAndSpare, IsHost, BeginsWithImage, IsHostImageUpTo, most_width, image_file_form, host_at}
-use Rattle.mig_form.proofs.Verdicts.{passes_is_spelled, spelled_passes}
+use Rattle.mig_bytes_form.proofs.Verdicts.{passes_is_spelled, spelled_passes}
 use Rattle.mig_image.specs.Image.{image}
 use Rattle.mig_image.proofs.ImageBack.{image_back}
 

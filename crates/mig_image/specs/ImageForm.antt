@@ -5,10 +5,10 @@ use Rattle.std.specs.FinMap as maps
 use Rattle.mig_bytes.specs.Bytes.{padding_len}
 use Rattle.mig_bytes.specs.Fields.{le32, le64, be64}
 use Rattle.mig_bytes.specs.Judged.{Judged}
-use Rattle.mig_form.specs.Form.{FormOf, ◌>>>◌, bytes_form, said_form, steps_form, placed_form, judged_as}
-use Rattle.mig_form.specs.Form.FormOf.{Gives}
-use Rattle.mig_form.specs.Tests.{Test}
-use Rattle.mig_form.specs.Tests.Test.{Less, AtMost, Equal, Is, Not, Both, Either}
+use Rattle.mig_bytes_form.specs.Form.{FormOf, ◌>>>◌, bytes_form, said_form, steps_form, placed_form, judged_as}
+use Rattle.mig_bytes_form.specs.Form.FormOf.{Gives}
+use Rattle.mig_bytes_form.specs.Tests.{Test}
+use Rattle.mig_bytes_form.specs.Tests.Test.{Less, AtMost, Equal, Is, Not, Both, Either}
 use Rattle.mig_headers.specs.Pairs.{are_canonical_pairs}
 use Rattle.mig_causes.specs.declared.image_fault.ImageCause.{ImageCause}
 use Rattle.mig_causes.specs.declared.image_fault.ImageCause.TheVariants.{Truncated, NotImage, BadKind, Reserved, Width, FrameCount, BadPageType, FrameOrder, FrameOutside, MachineFrame, MachineTwice, PartOrder, PartMany, PartLength, PartBytes, PartPadding, ZeroPage}

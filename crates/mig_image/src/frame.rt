@@ -4,8 +4,8 @@ ghost use Rattle.mig_bytes.specs.Bytes.{TakesBytes};
 ghost use Rattle.mig_bytes.specs.Faults.{RisesOnReadFault};
 ghost use Rattle.mig_bytes.specs.Judged.{Gives};
 ghost use Rattle.mig_bytes.specs.declared.stop.Stop.TheVariants.{Memory};
-ghost use Rattle.mig_form.specs.Form.{judged_as};
-ghost use Rattle.mig_form.specs.Tests.{first_named, is_passed};
+ghost use Rattle.mig_bytes_form.specs.Form.{judged_as};
+ghost use Rattle.mig_bytes_form.specs.Tests.{first_named, is_passed};
 ghost use Rattle.mig_pagetypes.specs.Limits.{most_frames};
 ghost use Rattle.mig_pagetypes.specs.PageTypes.{type_has_data};
 ghost use Rattle.mig_guest.specs.Frames.{is_type_of};
@@ -112,7 +112,7 @@ fn frame_fault(version: ImageVersion, host: &Host, next: u64, head: &[u8; 16]) -
 }
 
 /// Takes the head of a frame that stands behind those of the host, which end at `next`.
-#[tactic(auto, unfolding(mig_form::specs::Form::judged_as))]
+#[tactic(auto, unfolding(mig_bytes_form::specs::Form::judged_as))]
 fn read_frame_head<S: Source>(
     src: &mut S,
     version: ImageVersion,
@@ -145,7 +145,7 @@ fn sent_fault(version: ImageVersion, pfn: u64, page: &[u8; 4096]) -> Option<Imag
 }
 
 /// Takes a page that stands behind its head.
-#[tactic(auto, unfolding(mig_form::specs::Form::judged_as))]
+#[tactic(auto, unfolding(mig_bytes_form::specs::Form::judged_as))]
 fn read_sent_page<S: Source>(
     src: &mut S,
     version: ImageVersion,

@@ -4,8 +4,8 @@ ghost use Rattle.mig_bytes.specs.Faults.{RisesOnReadFault};
 ghost use Rattle.mig_bytes.specs.Fields.{le32};
 ghost use Rattle.mig_bytes.specs.Judged.{Gives};
 ghost use Rattle.mig_bytes.specs.declared.stop.Stop.TheVariants.{Memory};
-ghost use Rattle.mig_form.specs.Form.{judged_as};
-ghost use Rattle.mig_form.specs.Tests.{first_named};
+ghost use Rattle.mig_bytes_form.specs.Form.{judged_as};
+ghost use Rattle.mig_bytes_form.specs.Tests.{first_named};
 ghost use Rattle.mig_headers.specs.Headers.{kind_of_number};
 ghost use Rattle.mig_image.specs.Image.{most_width_of};
 ghost use Rattle.mig_image.specs.ImageForm.{host_head_causes, host_head_form};
@@ -90,7 +90,7 @@ fn head_fault(widest: u64, head: &[u8; 32]) -> Option<ImageCause>
 }
 
 /// Takes the head of an image of a host that is no wider than this.
-#[tactic(auto, unfolding(mig_form::specs::Form::judged_as))]
+#[tactic(auto, unfolding(mig_bytes_form::specs::Form::judged_as))]
 pub(crate) fn read_head<S: Source>(src: &mut S, widest: u64) -> Result<[u8; 32], Stop<ImageCause>>
     ensures read { Gives (λ v head. head ≡ v) (S.left src.old) (S.left src.new) (judged_as (host_head_form widest)) result }
     ensures fine { IfOk result (λ head. first_named (host_head_causes widest head) ≡ None) }

@@ -6,8 +6,8 @@ ghost use Rattle.mig_bytes.specs.Faults.{RisesOnReadFault};
 ghost use Rattle.mig_bytes.specs.Fields.{le64};
 ghost use Rattle.mig_bytes.specs.Judged.{Gives};
 ghost use Rattle.mig_bytes.specs.declared.stop.Stop.TheVariants.{Memory};
-ghost use Rattle.mig_form.specs.Form.{judged_as};
-ghost use Rattle.mig_form.specs.Tests.{first_named};
+ghost use Rattle.mig_bytes_form.specs.Form.{judged_as};
+ghost use Rattle.mig_bytes_form.specs.Tests.{first_named};
 ghost use Rattle.mig_pagetypes.specs.Limits.{most_frames};
 ghost use Rattle.mig_guest.specs.Hosts.{most_width};
 ghost use Rattle.mig_image.specs.Answer.{IsHost, ReadsHost, BeginsWithImage};
@@ -52,7 +52,7 @@ fn read_frames<S: Source>(
 }
 
 /// Takes the number of parts.
-#[tactic(auto, unfolding(mig_form::specs::Form::judged_as))]
+#[tactic(auto, unfolding(mig_bytes_form::specs::Form::judged_as))]
 fn read_count<S: Source>(src: &mut S) -> Result<u64, Stop<ImageCause>>
     ensures read { Gives (λ v count. count ≡ v) (S.left src.old) (S.left src.new) (judged_as count_form) result }
     ensures taken { OnOk result (TakesBytes (S.left src.old) (S.left src.new)) }

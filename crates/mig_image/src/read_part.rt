@@ -5,8 +5,8 @@ ghost use Rattle.mig_bytes.specs.Bytes.{TakesBytes};
 ghost use Rattle.mig_bytes.specs.Faults.{RisesOnReadFault};
 ghost use Rattle.mig_bytes.specs.Judged.{Gives};
 ghost use Rattle.mig_bytes.specs.declared.stop.Stop.TheVariants.{Memory};
-ghost use Rattle.mig_form.specs.Form.{judged_as};
-ghost use Rattle.mig_form.specs.Tests.{first_named, is_passed};
+ghost use Rattle.mig_bytes_form.specs.Form.{judged_as};
+ghost use Rattle.mig_bytes_form.specs.Tests.{first_named, is_passed};
 ghost use Rattle.mig_headers.specs.declared.kind.Kind.TheVariants.{Pv};
 ghost use Rattle.mig_guest.specs.Hosts.{IsValid};
 ghost use Rattle.mig_guest.specs.PartCodes.{code_of_number};
@@ -126,7 +126,7 @@ fn part_fault(host: &Host, entries: Entries, head: &[u8; 16]) -> Option<ImageCau
 }
 
 /// Takes the head of a part that stands behind those of the host.
-#[tactic(auto, unfolding(mig_form::specs::Form::judged_as))]
+#[tactic(auto, unfolding(mig_bytes_form::specs::Form::judged_as))]
 fn read_part_head<S: Source>(
     src: &mut S,
     host: &Host,
@@ -149,7 +149,7 @@ fn read_part_head<S: Source>(
 }
 
 /// Takes the bytes of a part.
-#[tactic(auto, unfolding(mig_form::specs::Form::judged_as))]
+#[tactic(auto, unfolding(mig_bytes_form::specs::Form::judged_as))]
 fn read_bytes<S: Source>(
     alloc: Global,
     src: &mut S,
@@ -177,7 +177,7 @@ fn are_zeros(bytes: &[u8]) -> bool
 }
 
 /// Takes the zeros behind so many bytes.
-#[tactic(auto, unfolding(mig_form::specs::Form::judged_as))]
+#[tactic(auto, unfolding(mig_bytes_form::specs::Form::judged_as))]
 fn read_padding<S: Source>(src: &mut S, len: u32) -> Result<(), Stop<ImageCause>>
     ensures read { Gives (λ _ _. ⊤) (S.left src.old) (S.left src.new) (judged_as (padding_form len)) result }
     ensures taken { OnOk result (TakesBytes (S.left src.old) (S.left src.new)) }

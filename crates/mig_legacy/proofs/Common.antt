@@ -10,12 +10,12 @@ unfoldable pub use Rattle.mig_bytes.specs.Judged.{each}
 pub use Rattle.mig_bytes.specs.Judged.{Judged, ◌>>=◌, part, Matches, Gives, plain_at, said_at, placed, stop_at, tried}
 pub use Rattle.mig_bytes.specs.Judged.Judged.{Passes, Faulty}
 pub use Rattle.mig_bytes.specs.declared.stop.Stop.{Stop}
-unfoldable pub use Rattle.mig_form.specs.Form.{judged_as, each_form, ◌>>>◌}
-pub use Rattle.mig_form.specs.Form.{FormOf, said_form, SpelledAs, BeginsAs}
-pub use Rattle.mig_form.specs.Form.FormOf.{Gives as Given}
-pub use Rattle.mig_form.specs.Form.SpelledAs.{nothing, one_part}
-pub use Rattle.mig_form.specs.Tests.{Test, computed, first_named, NoneHolds}
-pub use Rattle.mig_form.specs.Tests.Test.{Less}
+unfoldable pub use Rattle.mig_bytes_form.specs.Form.{judged_as, each_form, ◌>>>◌}
+pub use Rattle.mig_bytes_form.specs.Form.{FormOf, said_form, SpelledAs, BeginsAs}
+pub use Rattle.mig_bytes_form.specs.Form.FormOf.{Gives as Given}
+pub use Rattle.mig_bytes_form.specs.Form.SpelledAs.{nothing, one_part}
+pub use Rattle.mig_bytes_form.specs.Tests.{Test, computed, first_named, NoneHolds}
+pub use Rattle.mig_bytes_form.specs.Tests.Test.{Less}
 pub use Rattle.mig_guest.proofs.PartOrder.{part_total, part_exact}
 pub use Rattle.mig_guest.specs.Formed.{IsPart, IsCut, is_policy, is_emulator_code, width_of}
 pub use Rattle.mig_guest.specs.Guests.{GuestOf}

@@ -5,7 +5,7 @@ use Rattle.std.specs.FinMap as maps
 use Rattle.mig_guest.specs.Frames.{IsFew}
 use Rattle.mig_libxc.proofs.Laws.{complete_faultless}
 use Rattle.mig_legacy.proofs.Growth.{part_grows, param_part, context_part}
-use Rattle.mig_form.proofs.Tests.{computed_is}
+use Rattle.mig_bytes_form.proofs.Tests.{computed_is}
 use Rattle.mig_legacy.proofs.Parts.{behind_length, counted_is}
 use Rattle.mig_legacy.proofs.Taking.{behind, part_set}
 

@@ -6,10 +6,10 @@ use Rattle.std.specs.Option.{option_map}
 use Rattle.std.specs.FinMap as maps
 use Rattle.std.specs.Str.{bytes_eq}
 use Rattle.mig_bytes.specs.Fields.{le32, be64}
-use Rattle.mig_form.specs.Form.{FormOf, ◌>>>◌, bytes_form, said_form, each_form}
-use Rattle.mig_form.specs.Form.FormOf.{Gives, Part}
-use Rattle.mig_form.specs.Tests.{Test, computed}
-use Rattle.mig_form.specs.Tests.Test.{Less, AtMost, Equal, Is, Not, Both, Either}
+use Rattle.mig_bytes_form.specs.Form.{FormOf, ◌>>>◌, bytes_form, said_form, each_form}
+use Rattle.mig_bytes_form.specs.Form.FormOf.{Gives, Part}
+use Rattle.mig_bytes_form.specs.Tests.{Test, computed}
+use Rattle.mig_bytes_form.specs.Tests.Test.{Less, AtMost, Equal, Is, Not, Both, Either}
 use Rattle.mig_headers.specs.Contexts.{scan, cut_at}
 use Rattle.mig_headers.specs.Headers.{marker, libxl_ident}
 use Rattle.mig_headers.specs.Pairs.{Pair}

@@ -6,7 +6,7 @@ use Rattle.mig_bytes.specs.Judged.{Judged, ◌>>=◌, placed, Gives}
 use Rattle.mig_bytes.specs.Judged.Judged.{Passes, Faulty}
 use Rattle.mig_bytes.specs.Sequences.{sequence_at}
 use Rattle.mig_bytes.specs.declared.answer.Answer.{Answer}
-use Rattle.mig_form.specs.Form.{judged_as}
+use Rattle.mig_bytes_form.specs.Form.{judged_as}
 use Rattle.mig_causes.specs.declared.legacy_fault.LegacyCause.{LegacyCause}
 use Rattle.mig_causes.specs.declared.legacy_fault.LegacyPlace.{LegacyPlace}
 use Rattle.mig_causes.specs.declared.legacy_fault.LegacyPlace.TheVariants.{Start, Chunk, Tail, Device}

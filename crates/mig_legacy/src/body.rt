@@ -3,7 +3,7 @@ ghost use Rattle.mig_bytes.specs.Bytes.{AreBytes};
 ghost use Rattle.mig_bytes.specs.Faults.{RisesOnReadFault};
 ghost use Rattle.mig_bytes.specs.Judged.{Gives, stop_at};
 ghost use Rattle.mig_bytes.specs.declared.stop.Stop.TheVariants.{Memory as NoMemory};
-ghost use Rattle.mig_form.specs.Form.{judged_as};
+ghost use Rattle.mig_bytes_form.specs.Form.{judged_as};
 ghost use Rattle.mig_headers.specs.declared.kind.Kind.TheVariants.{Hvm};
 ghost use Rattle.mig_libxc.specs.Mean.{Grows};
 ghost use Rattle.mig_emulators.specs.Formed.{AreEmulators};
@@ -58,7 +58,7 @@ pub(crate) fn are_bytes(bytes: &[u8])
 {}
 
 /// Takes a length, which is at most so much.
-#[tactic(auto, unfolding(mig_form::specs::Form::judged_as))]
+#[tactic(auto, unfolding(mig_bytes_form::specs::Form::judged_as))]
 pub(crate) fn take_length<S: Source>(src: &mut S, most: u32) -> Result<u32, Stop<LegacyCause>>
     ensures read { Gives (λ len n. n ≡ len) (S.left src.old) (S.left src.new) (judged_as (length_form most)) result }
     ensures most { IfOk result (λ len. len ≤ most) }
@@ -88,7 +88,7 @@ fn truncated(stop: Stop<Cause>) -> Stop<LegacyCause>
 }
 
 /// Takes so many words.
-#[tactic(auto, unfolding(mig_form::specs::Form::judged_as))]
+#[tactic(auto, unfolding(mig_bytes_form::specs::Form::judged_as))]
 fn take_words<S: Source>(
     alloc: Global,
     src: &mut S,
@@ -137,7 +137,7 @@ pub(crate) fn take_batch<S: Source>(
 // ---- other bodies
 
 /// Takes which vCPUs there are, of which nothing is kept.
-#[tactic(auto, unfolding(mig_form::specs::Form::judged_as))]
+#[tactic(auto, unfolding(mig_bytes_form::specs::Form::judged_as))]
 pub(crate) fn take_vcpus<S: Source>(src: &mut S) -> Result<(), Stop<LegacyCause>>
     ensures read { Gives (λ _ c. c ≡ Nothing) (S.left src.old) (S.left src.new) (judged_as vcpus_form) result }
     ensures faults { RisesOnReadFault (S.faults src.old) (S.faults src.new) result }
@@ -171,7 +171,7 @@ fn clock_of(alloc: Global, bytes: &[u8; 20]) -> Result<Vec<u8>, Memory>
 }
 
 /// Takes how time passes in the guest.
-#[tactic(auto, unfolding(mig_form::specs::Form::judged_as))]
+#[tactic(auto, unfolding(mig_bytes_form::specs::Form::judged_as))]
 pub(crate) fn take_clock<S: Source>(
     alloc: Global,
     src: &mut S,
@@ -195,7 +195,7 @@ pub(crate) fn take_clock<S: Source>(
 }
 
 /// Takes the value of the HVM parameter of this index.
-#[tactic(auto, unfolding(mig_form::specs::Form::judged_as))]
+#[tactic(auto, unfolding(mig_bytes_form::specs::Form::judged_as))]
 pub(crate) fn take_value<S: Source>(
     src: &mut S,
     index: u32,

@@ -6,8 +6,8 @@ ghost use Rattle.mig_bytes.specs.Bytes.{AreBytes};
 ghost use Rattle.mig_bytes.specs.Faults.{RisesOnReadFault};
 ghost use Rattle.mig_bytes.specs.Judged.{Gives};
 ghost use Rattle.mig_bytes.specs.declared.stop.Stop.TheVariants.{Memory as NoMemory};
-ghost use Rattle.mig_form.specs.Form.{judged_as};
-ghost use Rattle.mig_form.specs.Tests.{first_named};
+ghost use Rattle.mig_bytes_form.specs.Form.{judged_as};
+ghost use Rattle.mig_bytes_form.specs.Tests.{first_named};
 ghost use Rattle.mig_headers.specs.declared.kind.Kind.TheVariants.{Hvm};
 ghost use Rattle.mig_guest.specs.Frames.{IsFew};
 ghost use Rattle.mig_pagetypes.specs.Limits.{most_frames};
@@ -52,7 +52,7 @@ fn start_fault(width: &[u8; 8]) -> Option<LegacyCause>
 }
 
 /// Takes the width of the P2M, of which nothing is kept.
-#[tactic(auto, unfolding(mig_form::specs::Form::judged_as))]
+#[tactic(auto, unfolding(mig_bytes_form::specs::Form::judged_as))]
 fn take_start<S: Source>(src: &mut S) -> Result<(), Stop<LegacyCause>>
     ensures read { Gives (λ _ _. ⊤) (S.left src.old) (S.left src.new) (judged_as start_form) result }
     ensures faults { RisesOnReadFault (S.faults src.old) (S.faults src.new) result }
@@ -122,7 +122,7 @@ impl ChunksSeen {
     }
 
     /// Takes the type of the next chunk.
-    #[tactic(auto, using(mig_chunks::proofs::ChunkNumbers::sound_kind), unfolding(mig_form::specs::Form::judged_as))]
+    #[tactic(auto, using(mig_chunks::proofs::ChunkNumbers::sound_kind), unfolding(mig_bytes_form::specs::Form::judged_as))]
     fn take_kind<S: Source>(&self, src: &mut S) -> Result<ChunkKind, Stop<LegacyCause>>
         ensures read { (chunks : List LegacyChunk) → IsLegacySeen self.now chunks → Gives (λ kind k. k ≡ kind) (S.left src.old) (S.left src.new) (judged_as (type_form chunks)) result }
         ensures sound { IfOk result (λ kind. IsWithinLimits kind) }
@@ -144,7 +144,7 @@ impl ChunksSeen {
     }
 
     /// Takes the body of a chunk that is this, and keeps what it says.
-    #[tactic(auto, unfolding(mig_form::specs::Form::judged_as))]
+    #[tactic(auto, unfolding(mig_bytes_form::specs::Form::judged_as))]
     fn take_content<S: Source>(
         &mut self,
         alloc: Global,

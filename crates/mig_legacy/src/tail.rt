@@ -1,7 +1,7 @@
 ghost use Rattle.std.specs.Prelude.{◌≡◌, ◌≤◌, ◌+◌, ◌∷◌, List, Some, length, IsOk, IfOk, OnOk};
 ghost use Rattle.mig_bytes.specs.Faults.{RisesOnReadFault};
 ghost use Rattle.mig_bytes.specs.Judged.{Gives};
-ghost use Rattle.mig_form.specs.Form.{judged_as};
+ghost use Rattle.mig_bytes_form.specs.Form.{judged_as};
 ghost use Rattle.mig_headers.specs.RecordTypes.{most_body};
 ghost use Rattle.mig_headers.specs.Contexts.{scan};
 ghost use Rattle.mig_headers.specs.declared.kind.Kind.TheVariants.{Hvm};
@@ -80,7 +80,7 @@ pub(crate) fn take_tail<S: Source>(
 }
 
 /// Takes a device model's record behind its first byte.
-#[tactic(auto, unfolding(mig_form::specs::Form::judged_as))]
+#[tactic(auto, unfolding(mig_bytes_form::specs::Form::judged_as))]
 fn take_record<S: Source>(
     alloc: Global,
     src: &mut S,

@@ -1,6 +1,6 @@
 -- What an image file is refused for is what judging refuses it for; and what follows.
 use Rattle.mig_refusals.proofs.Common.{◌≡◌, ℕ, ◌≤◌, List, refl, sym, ◌∙◌, AreBytes, Judged, Passes, Faulty, passes_not, ImageCause, ImagePlace, HostOf, most_width, image_back, image_reads, IsHostImageUpTo, host_at, image_file_form}
-use Rattle.mig_form.proofs.Verdicts.{refused_so}
+use Rattle.mig_bytes_form.proofs.Verdicts.{refused_so}
 use Rattle.mig_refusals.specs.ImageFile.{RefusedImageFile, ImageCausesAscend}
 use Rattle.mig_refusals.specs.Refusals.{AreJudged, HasOneRefusal, IsAcceptedOrRefused, IsNeverBoth}
 use Rattle.mig_refusals.specs.Refusals.IsAcceptedOrRefused.{accepted, refused}

@@ -7,8 +7,8 @@ use Rattle.mig_causes.proofs.FirstCauses as firsts
 use Rattle.mig_refusals.proofs.ContextEntries.{found_has, reached_chain}
 use Rattle.mig_refusals.proofs.LibxcCauses.{scan_finds, scanned}
 use Rattle.mig_refusals.specs.Legacy.{WordsHave, LegacyContextHas, ComputedCausesStand, LegacyCausesAscend, LegacyTestsSay, word_place}
-use Rattle.mig_form.specs.Tests.{computed, is_ascending}
-use Rattle.mig_form.specs.Tests.Test.{Less}
+use Rattle.mig_bytes_form.specs.Tests.{computed, is_ascending}
+use Rattle.mig_bytes_form.specs.Tests.Test.{Less}
 use Rattle.mig_refusals.specs.Legacy.WordsHave.{reserved_type, not_zero}
 use Rattle.mig_refusals.specs.Legacy.LegacyContextHas.{wrong_entry}
 use Rattle.mig_refusals.proofs.LegacyToolstacks.{field_found, found_field}

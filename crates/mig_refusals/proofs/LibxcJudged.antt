@@ -1,10 +1,10 @@
 -- The form of each piece of an image is judged as this piece is.
 use Rattle.mig_refusals.proofs.Common.{entries_in_place, behind_good, behind_words, words_stage, lists_of, parts_of_body, ◌≡◌, ℕ, ◌*◌, List, [], ◌∷◌, ◌++◌, Bool, true, false, cond, Option, Some, None, refl, sym, ap, ◌∙◌, le32, be32, Judged, ◌>>=◌, part, plain_at, said_at, tried, Passes, Faulty, Cause, Truncated, Kind, Opening, Before, before, StreamRecord, RecordType, PartCode, words, fault_of_marker, fault_of_image, fault_of_domain, fault_of_head, fault_of_count, fault_of_words, fault_of_data, fault_of_page, fault_of_pv_info, fault_of_p2m, fault_of_body, kind_of_number, padding_len, sent, FrameEntry, word_pfn, type_in_word}
-use Rattle.mig_form.specs.Form.{FormOf, ◌>>>◌, asked_form, bytes_form, each_form, said_form, judged_as}
-use Rattle.mig_form.specs.Form.FormOf.{Gives}
-use Rattle.mig_form.specs.Tests.{computed}
-use Rattle.mig_form.proofs.Joined.{asked_is, each_is, then_is}
-use Rattle.mig_form.proofs.Tests.{computed_is}
+use Rattle.mig_bytes_form.specs.Form.{FormOf, ◌>>>◌, asked_form, bytes_form, each_form, said_form, judged_as}
+use Rattle.mig_bytes_form.specs.Form.FormOf.{Gives}
+use Rattle.mig_bytes_form.specs.Tests.{computed}
+use Rattle.mig_bytes_form.proofs.Joined.{asked_is, each_is, then_is}
+use Rattle.mig_bytes_form.proofs.Tests.{computed_is}
 use Rattle.mig_headers.specs.RecordTypes.{is_optional, type_of_number}
 use Rattle.mig_headers.specs.declared.record_type.RecordType.TheVariants.{PageData, X86PvInfo, X86PvP2mFrames}
 use Rattle.mig_pagetypes.specs.FrameWords.{word_has_data}

@@ -5,9 +5,9 @@ use Rattle.mig_libxc.specs.Stream.{ImageOf}
 use Rattle.mig_refusals.proofs.Tests.{is_one, one_of}
 use Rattle.std.proofs.Common.{length}
 use Rattle.std.specs.List.{flat_map}
-use Rattle.mig_form.specs.Tests.{Test, computed, first_named, is_ascending}
-use Rattle.mig_form.specs.Tests.Test.{Less, AtMost}
-use Rattle.mig_form.proofs.Tests.{append_named, computed_is}
+use Rattle.mig_bytes_form.specs.Tests.{Test, computed, first_named, is_ascending}
+use Rattle.mig_bytes_form.specs.Tests.Test.{Less, AtMost}
+use Rattle.mig_bytes_form.proofs.Tests.{append_named, computed_is}
 use Rattle.mig_headers.specs.Pairs.{Pair, text_of_pair}
 use Rattle.mig_libxl.specs.Judging.{field_rows, order_rows}
 use Rattle.mig_policy.specs.PairMaps.{PairMap, put_pairs, text_of_map}

@@ -4,8 +4,8 @@ use Rattle.mig_libxl.proofs.Laws.{accepted_or_refused as judged, never_both as n
 use Rattle.mig_refusals.proofs.Laws.{accepted_or_refused, never_both, one_refusal}
 use Rattle.mig_refusals.proofs.LibxcVerdicts.{refused_is as image_refused_is, is_refused as image_is_refused}
 use Rattle.mig_bytes.proofs.Said.{bytes_pass}
-use Rattle.mig_form.specs.Form.{judged_as, RefusedAs}
-use Rattle.mig_form.proofs.Verdicts.{is_refused as form_is_refused, refused_is as form_refused_is}
+use Rattle.mig_bytes_form.specs.Form.{judged_as, RefusedAs}
+use Rattle.mig_bytes_form.proofs.Verdicts.{is_refused as form_is_refused, refused_is as form_refused_is}
 use Rattle.mig_refusals.specs.Stream.{header_form, BeginsAsLibxl, IsOpenWrapper, RefusedStream}
 use Rattle.mig_refusals.specs.Stream.RefusedStreamAt.{bare, in_header, in_record, in_image}
 use Rattle.mig_refusals.proofs.StreamRecords.{down, image_down, up}

@@ -3,8 +3,8 @@
 use Rattle.std.specs.Prelude.{ℕ, ◌<◌, true, List, ◌≡◌, ◌↔◌, Some, length, ◌⊎◌, ◌≤◌, false, IsSome, slice_index}
 use Rattle.std.specs.FinMap as maps
 use Rattle.mig_bytes.specs.Fields.{le64}
-use Rattle.mig_form.specs.Form.{FormOf, ◌>>>◌, placed_form, paired, BeginsAs, RefusedAs}
-use Rattle.mig_form.specs.Tests.{is_ascending}
+use Rattle.mig_bytes_form.specs.Form.{FormOf, ◌>>>◌, placed_form, paired, BeginsAs, RefusedAs}
+use Rattle.mig_bytes_form.specs.Tests.{is_ascending}
 use Rattle.mig_causes.specs.CauseNumbers.{number_of_image_cause}
 use Rattle.mig_headers.specs.Pairs.{AreCanonicalPairs, are_canonical_pairs}
 use Rattle.mig_headers.specs.declared.kind.Kind.{Kind}

@@ -3,7 +3,7 @@ use Rattle.std.specs.Prelude.{◌≡◌, ℕ, List, ◌++◌, length}
 use Rattle.std.specs.FinMap as maps
 use Rattle.std.specs.List.{flat_map}
 use Rattle.mig_bytes.specs.Fields.{le64}
-use Rattle.mig_form.specs.Form.{SpelledAs}
+use Rattle.mig_bytes_form.specs.Form.{SpelledAs}
 use Rattle.mig_guest.specs.Hosts.{HostOf, IsValid}
 use Rattle.mig_image.specs.declared.version.ImageVersion.{ImageVersion}
 use Rattle.mig_image.specs.Image.{frame_text, host_head, part_text}

@@ -3,8 +3,8 @@ use Rattle.std.specs.Prelude.{◌≡◌, ◌↔◌, ℕ, ◌^◌, ◌<◌, ◌�
 use Rattle.std.specs.FinMap as maps
 use Rattle.std.specs.Str.{bytes_eq}
 use Rattle.mig_bytes.specs.Sequences.{Spells}
-use Rattle.mig_form.specs.Form.{RefusedAs}
-use Rattle.mig_form.specs.Tests.{is_ascending}
+use Rattle.mig_bytes_form.specs.Form.{RefusedAs}
+use Rattle.mig_bytes_form.specs.Tests.{is_ascending}
 use Rattle.mig_causes.specs.CauseNumbers.{number_of_legacy_cause}
 use Rattle.mig_headers.specs.Contexts.{scan}
 use Rattle.mig_causes.specs.FirstCauses.{IsTriedFirst}

@@ -4,9 +4,9 @@ use Rattle.std.specs.Prelude.{◌≡◌, ◌↔◌, ◌⊎◌, ℕ, ◌+◌, ◌
 use Rattle.std.specs.FinMap as maps
 use Rattle.mig_bytes.specs.Bytes.{padding_len}
 use Rattle.mig_bytes.specs.Sequences.{Spells}
-use Rattle.mig_form.specs.Form.{FormOf, ◌>>>◌, asked_form, bytes_form, each_form, said_form, BeginsAs, RefusedAs}
-use Rattle.mig_form.specs.Form.FormOf.{Gives}
-use Rattle.mig_form.specs.Tests.{computed}
+use Rattle.mig_bytes_form.specs.Form.{FormOf, ◌>>>◌, asked_form, bytes_form, each_form, said_form, BeginsAs, RefusedAs}
+use Rattle.mig_bytes_form.specs.Form.FormOf.{Gives}
+use Rattle.mig_bytes_form.specs.Tests.{computed}
 use Rattle.mig_bytes.specs.Fields.{le16, le32, le64, be16, be32, be64}
 use Rattle.mig_headers.specs.Headers.{marker as all_ones, image_id, page_shift, fault_of_domain, fault_of_image, fault_of_marker, kind_of_number, IsImageHeader, IsDomainHeader}
 use Rattle.mig_headers.specs.RecordTypes.{is_optional, record_row_of, type_number, type_of_number, most_body}

@@ -5,10 +5,10 @@ use Rattle.std.specs.List.{flat_map}
 use Rattle.mig_bytes.specs.Bytes.{padding_len}
 use Rattle.mig_bytes.specs.Fields.{le32, be32, be64}
 use Rattle.mig_bytes.specs.Sequences.{Spells}
-use Rattle.mig_form.specs.Form.{FormOf, ◌>>>◌, bytes_form, said_form, SpelledAs, RefusedAs}
-use Rattle.mig_form.specs.Form.FormOf.{Gives}
-use Rattle.mig_form.specs.Tests.{Test, computed, is_ascending}
-use Rattle.mig_form.specs.Tests.Test.{Less, AtMost, Equal, Is, Not, Both, Either}
+use Rattle.mig_bytes_form.specs.Form.{FormOf, ◌>>>◌, bytes_form, said_form, SpelledAs, RefusedAs}
+use Rattle.mig_bytes_form.specs.Form.FormOf.{Gives}
+use Rattle.mig_bytes_form.specs.Tests.{Test, computed, is_ascending}
+use Rattle.mig_bytes_form.specs.Tests.Test.{Less, AtMost, Equal, Is, Not, Both, Either}
 use Rattle.mig_headers.specs.RecordTypes.{most_body}
 use Rattle.mig_causes.specs.CauseNumbers.{number_of_cause}
 use Rattle.mig_headers.specs.Headers.{libxl_ident, IsLibxlHeader}

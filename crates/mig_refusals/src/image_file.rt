@@ -2,7 +2,7 @@ ghost use Rattle.std.specs.Prelude.{◌≡◌, ◌≤◌, ℕ, List};
 ghost use Rattle.mig_bytes.specs.Bytes.{AreBytes};
 ghost use Rattle.mig_bytes.specs.Fields.{le64};
 ghost use Rattle.mig_bytes.specs.Judged.Judged.{Faulty};
-ghost use Rattle.mig_form.specs.Form.{SpelledAs};
+ghost use Rattle.mig_bytes_form.specs.Form.{SpelledAs};
 ghost use Rattle.mig_guest.specs.Hosts.{HostOf, most_width};
 ghost use Rattle.mig_image.specs.Image.{IsHostImageUpTo};
 ghost use Rattle.mig_image.specs.ImageForm.{host_at};

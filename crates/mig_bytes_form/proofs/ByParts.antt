@@ -7,10 +7,10 @@ use Rattle.mig_bytes.specs.Judged.Judged.{Passes}
 use Rattle.mig_bytes.proofs.Joins.{Both, both_pass, done, judged_so, placed_passes, same_passes, stopped, then_passes, then_reads}
 use Rattle.mig_bytes.proofs.Placed.{placed_fine, placed_stops}
 use Rattle.mig_bytes.proofs.Said.{bytes_pass, said_goes}
-use Rattle.mig_form.specs.Tests.{Test, first_named}
-use Rattle.mig_form.specs.Form.{FormOf, ◌>>>◌, bytes_form, steps_form, placed_form, judged_as}
-use Rattle.mig_form.specs.Form.FormOf.{Gives as Giving}
-use Rattle.mig_form.proofs.Joined.{placed_judged, steps_are, then_judged}
+use Rattle.mig_bytes_form.specs.Tests.{Test, first_named}
+use Rattle.mig_bytes_form.specs.Form.{FormOf, ◌>>>◌, bytes_form, steps_form, placed_form, judged_as}
+use Rattle.mig_bytes_form.specs.Form.FormOf.{Gives as Giving}
+use Rattle.mig_bytes_form.proofs.Joined.{placed_judged, steps_are, then_judged}
 
 -- ---- what passes
 

@@ -4,12 +4,12 @@ use Rattle.std.specs.Option.{option_map}
 use Rattle.mig_bytes.specs.Judged.{Judged, ◌>>=◌, part, tried, placed, steps, each}
 use Rattle.mig_bytes.specs.Judged.Judged.{Passes, Faulty}
 use Rattle.mig_bytes.proofs.Joins.{both_pass, bind_cases, same_passes, same_faulty, passes_not, no_bytes}
-use Rattle.mig_form.specs.Tests.{Test, NoneHolds, first_named, retold_rows}
-use Rattle.mig_form.specs.Form.{FormOf, ◌>>>◌, steps_form, each_form, retold, placed_form, bytes_form, asked_form, paired, judged_as, judged_then, SpelledAs, RefusedAs, BeginsAs}
-use Rattle.mig_form.specs.Form.FormOf.{Gives, Part}
-use Rattle.mig_form.specs.Form.SpelledAs.{nothing, one_part}
-use Rattle.mig_form.proofs.Tests.{retold_is}
-use Rattle.mig_form.proofs.Verdicts.{passes_is_spelled, begins_passes, refused_is, is_refused, never_both}
+use Rattle.mig_bytes_form.specs.Tests.{Test, NoneHolds, first_named, retold_rows}
+use Rattle.mig_bytes_form.specs.Form.{FormOf, ◌>>>◌, steps_form, each_form, retold, placed_form, bytes_form, asked_form, paired, judged_as, judged_then, SpelledAs, RefusedAs, BeginsAs}
+use Rattle.mig_bytes_form.specs.Form.FormOf.{Gives, Part}
+use Rattle.mig_bytes_form.specs.Form.SpelledAs.{nothing, one_part}
+use Rattle.mig_bytes_form.proofs.Tests.{retold_is}
+use Rattle.mig_bytes_form.proofs.Verdicts.{passes_is_spelled, begins_passes, refused_is, is_refused, never_both}
 
 module _ {C X Y : Type 0} (g : X → FormOf C Y) where
   pub then_judged : (f : FormOf C X) (i : List ℕ) → judged_as (f >>> g) i ≡ judged_then (judged_as f i) g

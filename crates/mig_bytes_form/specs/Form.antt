@@ -3,7 +3,7 @@
 use Rattle.std.specs.Prelude.{◌≡◌, ℕ, zero, suc, ◌+◌, ◌<◌, List, [], ◌∷◌, ◌++◌, length}
 use Rattle.mig_bytes.specs.Judged.{Judged, ◌>>=◌, part, tried}
 use Rattle.mig_bytes.specs.Judged.Judged.{Passes}
-use Rattle.mig_form.specs.Tests.{Test, first_named, NoneHolds, NamedIn, retold_rows}
+use Rattle.mig_bytes_form.specs.Tests.{Test, first_named, NoneHolds, NamedIn, retold_rows}
 
 pub data FormOf (C X : Type 0) : Type 0 where
   Gives : X → FormOf C X

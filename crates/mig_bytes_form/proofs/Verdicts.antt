@@ -4,12 +4,12 @@ use Rattle.std.specs.Prelude.{◌↔◌}
 use Rattle.mig_bytes.specs.Judged.{Judged, ◌>>=◌, part, tried}
 use Rattle.mig_bytes.specs.Judged.Judged.{Passes, Faulty}
 use Rattle.mig_bytes.proofs.Joins.{both_pass, part_passes, part_whole, same_passes, same_faulty, then_passes, tried_none, passes_not}
-use Rattle.mig_form.specs.Tests.{Test, first_named, NoneHolds}
-use Rattle.mig_form.specs.Form.{FormOf, judged_as, SpelledAs, RefusedAs, BeginsAs}
-use Rattle.mig_form.specs.Form.FormOf.{Gives, Part}
-use Rattle.mig_form.specs.Form.SpelledAs.{nothing, one_part}
-use Rattle.mig_form.specs.Form.RefusedAs.{short, faulty, behind}
-use Rattle.mig_form.proofs.Tests.{none_is, is_none, named_is, is_named}
+use Rattle.mig_bytes_form.specs.Tests.{Test, first_named, NoneHolds}
+use Rattle.mig_bytes_form.specs.Form.{FormOf, judged_as, SpelledAs, RefusedAs, BeginsAs}
+use Rattle.mig_bytes_form.specs.Form.FormOf.{Gives, Part}
+use Rattle.mig_bytes_form.specs.Form.SpelledAs.{nothing, one_part}
+use Rattle.mig_bytes_form.specs.Form.RefusedAs.{short, faulty, behind}
+use Rattle.mig_bytes_form.proofs.Tests.{none_is, is_none, named_is, is_named}
 
 module _ {C X : Type 0} where
   -- behind a part without fault

@@ -3,10 +3,10 @@ use Rattle.std.proofs.Common.{ℕ, ◌≡◌, ◌⊎◌, inl, inr, ◌<◌, ◌�
 use Rattle.std.proofs.lemmas.Bool.{and_parts, eqb-false, leb-false, false≢true}
 use Rattle.std.proofs.lemmas.Option.{none-some}
 use Rattle.std.specs.Option.{option_map, option_or}
-use Rattle.mig_form.specs.Tests.{Test, Holding, is_passed, first_named, NoneHolds, NamedIn, HasIn, is_ascending, computed, retold_rows}
-use Rattle.mig_form.specs.Tests.Test.{Less, AtMost, Equal, Is, Not, Both, Either}
-use Rattle.mig_form.specs.Tests.NamedIn.{this, later}
-use Rattle.mig_form.specs.Tests.HasIn.{here, there}
+use Rattle.mig_bytes_form.specs.Tests.{Test, Holding, is_passed, first_named, NoneHolds, NamedIn, HasIn, is_ascending, computed, retold_rows}
+use Rattle.mig_bytes_form.specs.Tests.Test.{Less, AtMost, Equal, Is, Not, Both, Either}
+use Rattle.mig_bytes_form.specs.Tests.NamedIn.{this, later}
+use Rattle.mig_bytes_form.specs.Tests.HasIn.{here, there}
 use Rattle.std.specs.List.{AllByRecursion, list_all}
 
 -- a truth value tells whether A

@@ -1,7 +1,7 @@
 ghost use Rattle.std.specs.Prelude.{◌≡◌, ◌⊎◌, ◌↔◌, ◌≤◌, ℕ, List, true};
 ghost use Rattle.mig_bytes.specs.Judged.Judged.{Passes, Faulty};
-ghost use Rattle.mig_form.specs.Tests.{Test, HasIn, NamedIn, is_ascending};
-ghost use Rattle.mig_form.specs.Form.{FormOf, ◌>>>◌, judged_as, judged_then, RefusedAs, BeginsAs};
+ghost use Rattle.mig_bytes_form.specs.Tests.{Test, HasIn, NamedIn, is_ascending};
+ghost use Rattle.mig_bytes_form.specs.Form.{FormOf, ◌>>>◌, judged_as, judged_then, RefusedAs, BeginsAs};
 
 /// Judging passes exactly where a front of the input spells the form.
 pub fn passes_spelled<C, X>()

@@ -1,5 +1,0 @@
-use Rattle.mig_form.proofs.Verdicts.{never_both}
-use Rattle.mig_form.proofs.laws.never_both.Goals as goal
-
-pub returns : goal.returns
-returns g c = never_both

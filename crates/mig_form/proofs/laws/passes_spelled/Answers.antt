@@ -1,5 +1,0 @@
-use Rattle.mig_form.proofs.Verdicts.{passes_spelled}
-use Rattle.mig_form.proofs.laws.passes_spelled.Goals as goal
-
-pub returns : goal.returns
-returns g c = passes_spelled
