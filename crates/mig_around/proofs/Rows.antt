@@ -2,8 +2,8 @@
 use Rattle.mig_hosted.proofs.Common.{◌≡◌, ℕ, Bool, true, false, cond, List, [], ◌∷◌, Option, Some, None, refl, sym, ap, subst, ◌∙◌, ◌==◌, ◌&&◌, nat_lt, find, range_with_len, option_map, option_or, eqb-true, nat_cmp_total, nat_cmp-IsAntisymmetric, part_total, part_exact, Hvm, PartKey, Entry, EachEntry, gdt_ents, FrameOf, FrameMap, is_type_of, p2m_key, context_key, find_p2m, find_entry, is_superpage, count_in, listed, first_cause, level_of}
 use Rattle.std.specs.FinMap as maps
 use Rattle.mig_headers.specs.declared.kind.Kind.{Kind}
-use Rattle.mig_causes.specs.declared.unsound.Unsound.{Unsound}
-use Rattle.mig_causes.specs.declared.unsound.Unsound.TheVariants as unsounds
+use Rattle.mig_headers.specs.declared.unsound.Unsound.{Unsound}
+use Rattle.mig_headers.specs.declared.unsound.Unsound.TheVariants as unsounds
 use Rattle.mig_guest.specs.declared.part_code.PartCode.{PartCode}
 use Rattle.mig_guest.specs.declared.part_code.PartCode.TheVariants.{P2mFrames, VcpuBasic}
 use Rattle.mig_guest.specs.Hosts.{HostOf, HostFrame, IsValid, pfn_in}

@@ -5,8 +5,8 @@ use Rattle.std.specs.Option.{option_map}
 use Rattle.std.specs.FinMap as maps
 use Rattle.std.specs.Io.KnownBytes.{Appends}
 use Rattle.mig_headers.specs.Contexts.{scan}
-use Rattle.mig_causes.specs.declared.unsound.Unsound.{Unsound}
-use Rattle.mig_causes.specs.declared.unsound.Unsound.TheVariants as unsounds
+use Rattle.mig_headers.specs.declared.unsound.Unsound.{Unsound}
+use Rattle.mig_headers.specs.declared.unsound.Unsound.TheVariants as unsounds
 use Rattle.mig_guest.specs.declared.part_code.PartCode.{PartCode}
 use Rattle.mig_guest.specs.declared.part_code.PartCode.TheVariants.{Tsc, HvmParam}
 use Rattle.mig_guest.specs.Guests.{GuestOf}

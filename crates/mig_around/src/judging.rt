@@ -2,8 +2,8 @@ ghost use Rattle.std.specs.Prelude.{◌≡◌, IfOk};
 ghost use Rattle.mig_around.specs.SaveTexts.{IsContextFront, unsound_in, judged_with};
 
 use crate::write::HVM_CONTEXT;
-use mig_causes::Unsound;
 use mig_guest::PartKey;
+use mig_headers::Unsound;
 use mig_hvm::scan_context;
 use mig_machine_api::Machine;
 

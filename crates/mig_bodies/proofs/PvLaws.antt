@@ -6,7 +6,7 @@ use Rattle.std.specs.Prelude.{◌||◌, ◌-◌, ◌%◌}
 use Rattle.std.specs.Option.{option_or}
 use Rattle.std.proofs.lemmas.Grind.{common_steps}
 use Rattle.mig_bytes.specs.Fields.{le32}
-use Rattle.mig_causes.specs.declared.fault.Cause.TheVariants.{VcpuId, GdtEnts}
+use Rattle.mig_headers.specs.declared.fault.Cause.TheVariants.{VcpuId, GdtEnts}
 use Rattle.mig_headers.specs.declared.record_type.RecordType.TheVariants as types
 use Rattle.mig_guest.specs.declared.part_code.PartCode.TheVariants.{VcpuExtended, VcpuXsave}
 use Rattle.mig_bodies.specs.PvBodies.{IsPvInfo, fault_of_pv_info, p2m_count, IsP2m, fault_of_p2m, is_vcpu, fault_of_vcpu}

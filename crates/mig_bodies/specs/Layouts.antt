@@ -6,9 +6,9 @@ use Rattle.std.specs.List.{flat_map}
 use Rattle.std.specs.Option.{option_or}
 use Rattle.byteorder.specs.Endian.{little_number, little_bytes}
 use Rattle.mig_bytes.specs.Fields.{le32}
-use Rattle.mig_causes.specs.Rows.{first_fault}
-use Rattle.mig_causes.specs.declared.fault.Cause.{Cause}
-use Rattle.mig_causes.specs.declared.fault.Cause.TheVariants.{BadLength, VcpuId, ParamIndex}
+use Rattle.mig_headers.specs.Rows.{first_fault}
+use Rattle.mig_headers.specs.declared.fault.Cause.{Cause}
+use Rattle.mig_headers.specs.declared.fault.Cause.TheVariants.{BadLength, VcpuId, ParamIndex}
 use Rattle.mig_guest.specs.declared.part_code.PartCode.{PartCode}
 use Rattle.mig_guest.specs.declared.part_code.PartCode.TheVariants.{VcpuBasic, VcpuExtended, VcpuXsave, VcpuMsrs, HvmParam}
 use Rattle.mig_guest.specs.declared.part_key.PartKey.{PartKey}

@@ -5,8 +5,8 @@ ghost use Rattle.mig_bodies.specs.Shapes.{HasBodyLength};
 
 use crate::read::body_fault;
 use mig_bytes::{Memory, u32_le};
-use mig_causes::Cause;
 use mig_guest::{Guest, PartCode, PartKey};
+use mig_headers::Cause;
 
 /// A P2M frame holds the machine frames of so many frame numbers.
 const IN_P2M_FRAME: u64 = 512;

@@ -12,8 +12,8 @@ use crate::number::{behind, number};
 use crate::shape::{Shape, shape_of};
 use crate::table::{key_fault, read_table, table_fault};
 use mig_bytes::{Memory, u64_le};
-use mig_causes::Cause;
 use mig_guest::{Guest, PartCode, PartKey};
+use mig_headers::Cause;
 
 // ---- single values
 

@@ -11,8 +11,8 @@ ghost use Rattle.mig_bodies.specs.Shapes.{cleared, set_parts};
 use crate::layout::Layout;
 use crate::number::{behind, number};
 use mig_bytes::{Memory, u32_le};
-use mig_causes::Cause;
 use mig_guest::{Guest, PartCode, PartKey};
+use mig_headers::Cause;
 
 /// The least number that no vCPU and no parameter has.
 pub const SMALL_NUMBERS: u64 = 4096;

@@ -3,8 +3,8 @@ use Rattle.mig_chunks.proofs.Common.{◌≡◌, ℕ, ◌<◌, ◌≤◌, Bool, t
 use Rattle.std.proofs.Common.{◌^◌}
 use Rattle.std.proofs.lemmas.List.Folds.{list_any_none}
 use Rattle.std.specs.List.{list_any}
-use Rattle.mig_causes.specs.Rows.{first_fault}
-use Rattle.mig_causes.specs.declared.legacy_fault.LegacyCause.{LegacyCause}
+use Rattle.mig_headers.specs.Rows.{first_fault}
+use Rattle.mig_headers.specs.declared.legacy_fault.LegacyCause.{LegacyCause}
 use Rattle.mig_records.specs.Words.{first_place, first_word}
 use Rattle.mig_chunks.specs.Batches.{batch_rows, IsTyped, IsFirstHigh, BatchesAreJudged}
 

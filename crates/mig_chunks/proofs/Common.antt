@@ -1,8 +1,8 @@
 -- Names that many proofs of this crate use.
 unfoldable pub use Rattle.mig_bytes.specs.Fields.{le32, le64}
-pub use Rattle.mig_causes.proofs.FirstFaults.{no_fault, rows_fine}
+pub use Rattle.mig_headers.proofs.FirstFaults.{no_fault, rows_fine}
 pub use Rattle.mig_headers.specs.Pairs.{IsPair, is_key_byte, text_of_pair}
-pub use Rattle.mig_causes.specs.declared.legacy_fault.LegacyCause.TheVariants.{BadPageType, WordHigh}
+pub use Rattle.mig_headers.specs.declared.legacy_fault.LegacyCause.TheVariants.{BadPageType, WordHigh}
 pub use Rattle.mig_chunks.specs.Batches.{is_reserved, is_high, fault_of_batch, IsBatchFault, page_data_words_of}
 unfoldable pub use Rattle.mig_chunks.specs.Chunks.{kind_of}
 pub use Rattle.mig_chunks.specs.Chunks.{IsWithinLimits, negative, param_chunks, second_of, IsParamChunk, IsNumberOf, NumbersHaveKinds}

@@ -1,9 +1,9 @@
 -- The words of a batch of pages in a legacy stream (Xen's xg_save_restore.h), and what is wrong with them.
 use Rattle.std.specs.Prelude.{◌≡◌, ◌≤◌, ◌<◌, ◌↔◌, ◌⊎◌, ℕ, ◌^◌, Bool, false, List, [], ◌∷◌, length, Option, Some, None, ◌&&◌, ◌==◌, ◌+◌, ◌*◌, nat_le, slice_index, if◌then◌else◌}
 use Rattle.std.specs.List.{All, list_any, flat_map}
-use Rattle.mig_causes.specs.Rows.{first_fault}
-use Rattle.mig_causes.specs.declared.legacy_fault.LegacyCause.{LegacyCause}
-use Rattle.mig_causes.specs.declared.legacy_fault.LegacyCause.TheVariants.{BadPageType, WordHigh}
+use Rattle.mig_headers.specs.Rows.{first_fault}
+use Rattle.mig_headers.specs.declared.legacy_fault.LegacyCause.{LegacyCause}
+use Rattle.mig_headers.specs.declared.legacy_fault.LegacyCause.TheVariants.{BadPageType, WordHigh}
 use Rattle.mig_pagetypes.specs.LegacyWords.{legacy_type, legacy_pfn, placeholder}
 use Rattle.mig_records.specs.Words.{IsFirst, first_place, first_word}
 

@@ -3,7 +3,7 @@ ghost use Rattle.mig_pagetypes.specs.LegacyWords.{legacy_type};
 ghost use Rattle.mig_chunks.specs.Batches.{is_reserved as reserved, is_high as high, fault_of_batch, IsBatchFault, page_data_words_of, page_data_words as words_of};
 
 use mig_bytes::Memory;
-use mig_causes::LegacyCause;
+use mig_headers::LegacyCause;
 use std::alloc::Global;
 
 // The word that stands for no frame.

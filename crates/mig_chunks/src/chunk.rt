@@ -2,7 +2,7 @@ ghost use Rattle.std.specs.Prelude.{◌≡◌, IfOk};
 ghost use Rattle.mig_bytes_form.specs.Tests.{first_named};
 ghost use Rattle.mig_chunks.specs.Chunks.{negative_causes, negative_kind as kind_below, unless_caused, kind_of, negative, IsNumberOf};
 
-use mig_causes::LegacyCause;
+use mig_headers::LegacyCause;
 
 /// What a chunk of a legacy stream is, by its type (Xen's xg_save_restore.h).
 #[derive(Clone, Copy, Debug, PartialEq, Eq)]

@@ -8,10 +8,10 @@ use Rattle.mig_bytes.specs.Judged.Judged.{Passes}
 use Rattle.mig_bytes.specs.declared.answer.Answer.{Answer}
 use Rattle.mig_bytes.specs.declared.answer.Answer.TheVariants as answers
 use Rattle.mig_bytes.specs.declared.failure.WriteFailed.{WriteFailed}
-use Rattle.mig_causes.specs.declared.fault.Cause.{Cause}
-use Rattle.mig_causes.specs.declared.fault.Place.{Place}
-use Rattle.mig_causes.specs.declared.legacy_fault.LegacyCause.{LegacyCause}
-use Rattle.mig_causes.specs.declared.legacy_fault.LegacyPlace.{LegacyPlace}
+use Rattle.mig_headers.specs.declared.fault.Cause.{Cause}
+use Rattle.mig_headers.specs.declared.fault.Place.{Place}
+use Rattle.mig_headers.specs.declared.legacy_fault.LegacyCause.{LegacyCause}
+use Rattle.mig_headers.specs.declared.legacy_fault.LegacyPlace.{LegacyPlace}
 use Rattle.mig_host.proofs.HostedGuests.{whole_valid, whole_sound, whole_seen}
 use Rattle.mig_host.specs.Hosted.{hosted, IsBaseOutside}
 use Rattle.mig_image.proofs.ImageReads.{held, image_reads}

@@ -1,10 +1,10 @@
 -- What an address means to a vCPU: of the guest of a stream, or of the host of an image.
 use Rattle.std.specs.Prelude.{◌≡◌, ℕ, List, Option, Some}
-use Rattle.mig_causes.specs.declared.image_fault.ImagePlace.{ImagePlace}
-use Rattle.mig_causes.specs.declared.image_fault.ImageCause.{ImageCause}
+use Rattle.mig_headers.specs.declared.image_fault.ImagePlace.{ImagePlace}
+use Rattle.mig_headers.specs.declared.image_fault.ImageCause.{ImageCause}
 use Rattle.mig_bytes.specs.Judged.{Judged}
 use Rattle.mig_bytes.specs.Judged.Judged.{Passes}
-use Rattle.mig_causes.specs.declared.unsound.Unsound.{Unsound}
+use Rattle.mig_headers.specs.declared.unsound.Unsound.{Unsound}
 use Rattle.mig_pagetypes.specs.PageTypes.{number_of}
 use Rattle.mig_pagetypes.specs.declared.page_type.PageType.{PageType}
 use Rattle.mig_guest.specs.Guests.{GuestOf}

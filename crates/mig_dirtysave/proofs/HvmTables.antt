@@ -1,8 +1,8 @@
 -- What is found in the tables of a valid HVM host while it is read: nothing, since it has none.
 use Rattle.mig_hosted.proofs.Common.{◌≡◌, ℕ, Option, Some, None, refl, sym, ap, ◌∙◌, option_map, Hvm}
 use Rattle.std.specs.FinMap as maps
-use Rattle.mig_causes.specs.declared.unsound.Unsound.{Unsound}
-use Rattle.mig_causes.specs.declared.unsound.Unsound.TheVariants as unsounds
+use Rattle.mig_headers.specs.declared.unsound.Unsound.{Unsound}
+use Rattle.mig_headers.specs.declared.unsound.Unsound.TheVariants as unsounds
 use Rattle.mig_guest.specs.Hosts.{HostOf, HostFrame, IsValid}
 use Rattle.mig_machine_api.specs.Footprints.{footprint_of, footprint, table_in}
 use Rattle.mig_rounds.specs.Forms.{superpage_in, superpage_slot, lost_in, lost_slot}

@@ -21,7 +21,7 @@ use Rattle.mig_machine_api.specs.Rounds.{Rounds, Tight, all_read, rounds_read}
 use Rattle.mig_rounds.specs.Parts.{total, total_taken}
 use Rattle.mig_rounds.specs.Live.{IsTight, type_in}
 use Rattle.mig_pause.specs.Paused.{OnlyLooksUp, HasTypes}
-use Rattle.mig_causes.specs.declared.unsound.Unsound.{Unsound}
+use Rattle.mig_headers.specs.declared.unsound.Unsound.{Unsound}
 use Rattle.mig_dirtysave.specs.SaveAnswers.{SaveWritten, IsTrusted, IfUnsound}
 use Rattle.mig_dirtysave.specs.declared.answer.SaveAnswer.{SaveAnswer}
 use Rattle.mig_dirtysave.specs.declared.answer.SaveAnswer.TheVariants as answers

@@ -1,4 +1,4 @@
-use mig_causes::Unsound;
+use mig_headers::Unsound;
 use thiserror::Error;
 
 /// What a save took.

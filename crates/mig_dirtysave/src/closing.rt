@@ -1,7 +1,7 @@
 ghost use Rattle.std.specs.Prelude.{◌≡◌, ◌≤◌, ℕ, length, true, None, Some, OnOk, OnErr, IsErrOf};
 ghost use Rattle.mig_bytes.specs.Faults.{Rose};
 ghost use Rattle.mig_headers.specs.declared.kind.Kind.TheVariants.{Hvm, Pv};
-ghost use Rattle.mig_causes.specs.declared.unsound.Unsound.{Unsound as UnsoundCause};
+ghost use Rattle.mig_headers.specs.declared.unsound.Unsound.{Unsound as UnsoundCause};
 ghost use Rattle.mig_guest.specs.Formed.{IsFormed};
 ghost use Rattle.mig_guest.specs.Hosts.{IsValid};
 ghost use Rattle.mig_hosted.specs.Sound.{unsoundness};
@@ -17,9 +17,8 @@ ghost use Rattle.mig_dirtysave.specs.declared.answer.SaveAnswer.TheVariants.{Mac
 use crate::answer::SaveAnswer;
 use mig_around::{judge, refresh, write_last, write_pv_last};
 use mig_bytes::Sink;
-use mig_causes::Unsound;
 use mig_guest::Guest;
-use mig_headers::Kind;
+use mig_headers::{Kind, Unsound};
 use mig_machine_api::Machine;
 use mig_pagetypes::PageType;
 use mig_pause::view_parts;

@@ -2,7 +2,7 @@ ghost use Rattle.std.specs.Prelude.{◌≡◌, ◌≤◌, true, false, None, Som
 ghost use Rattle.std.specs.Io.KnownBytes.{Appends};
 ghost use Rattle.mig_bytes.specs.Bytes.{AppendsPart};
 ghost use Rattle.mig_bytes.specs.Faults.{Rose};
-ghost use Rattle.mig_causes.specs.declared.unsound.Unsound.{Unsound as UnsoundCause};
+ghost use Rattle.mig_headers.specs.declared.unsound.Unsound.{Unsound as UnsoundCause};
 ghost use Rattle.mig_guest.specs.Formed.{IsFormed};
 ghost use Rattle.mig_guest.specs.Hosts.{IsValid};
 ghost use Rattle.mig_pagesink.specs.Batches.{IsBehind};
@@ -18,8 +18,8 @@ ghost use Rattle.mig_dirtysave.specs.declared.answer.SaveAnswer.TheVariants.{Mac
 use crate::answer::SaveAnswer;
 use mig_around::write_before;
 use mig_bytes::Sink;
-use mig_causes::Unsound;
 use mig_guest::Guest;
+use mig_headers::Unsound;
 use mig_machine_api::Machine;
 use mig_rounds::{Room, SendFault, Sent, send_frames};
 use mig_wrap::{write_closing, write_opening};

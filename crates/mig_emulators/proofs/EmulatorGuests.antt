@@ -13,7 +13,7 @@ use Rattle.mig_emulators.specs.Emulators.{emulator_parts}
 use Rattle.mig_emulators.specs.Formed.{IsEmulatorKey, IsStore}
 use Rattle.mig_guest.proofs.KeyedMaps.{seen, find_seen, entries_shown}
 use Rattle.mig_libxc.proofs.PartsInOrder.{parts_set}
-use Rattle.mig_causes.specs.declared.fault.Cause.TheVariants.{Missing}
+use Rattle.mig_headers.specs.declared.fault.Cause.TheVariants.{Missing}
 use Rattle.mig_pvtables.specs.Faults.{fault_of_guest, faults_for, first_cause, too_many}
 
 -- ---- guests with other parts of emulators

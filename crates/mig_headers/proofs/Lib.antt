@@ -1,3 +1,5 @@
+pub mod FirstFaults
+pub mod FirstCauses
 pub mod HeaderLaws
 pub mod RecordNumbers
 pub mod Chains

@@ -3,10 +3,10 @@ use Rattle.std.proofs.Common.{◌≡◌, ◌↔◌, ℕ, ◌+◌, ◌%◌, List,
 use Rattle.std.proofs.lemmas.Bool.{eqb-true}
 use Rattle.byteorder.specs.Endian.{big_bytes}
 use Rattle.mig_bytes.specs.Fields.{be32, be64}
-use Rattle.mig_causes.specs.declared.fault.Cause.{Cause}
-use Rattle.mig_causes.specs.declared.fault.Cause.TheVariants.{BadVersion, BigEndian}
+use Rattle.mig_headers.specs.declared.fault.Cause.{Cause}
+use Rattle.mig_headers.specs.declared.fault.Cause.TheVariants.{BadVersion, BigEndian}
 use Rattle.mig_headers.specs.declared.header.LibxlHeader.{LibxlHeader}
-use Rattle.mig_causes.specs.Rows.{first_fault}
+use Rattle.mig_headers.specs.Rows.{first_fault}
 use Rattle.mig_headers.specs.Headers.{libxl_ident, is_from_legacy, unless_faulty, behind_ident, libxl_header_of, IsLibxlHeader}
 use Rattle.mig_headers.specs.HeaderValues.{libxl_header_in}
 use Rattle.mig_headers.specs.HeaderLaws.{LibxlHeaderIsSpelled, LibxlHeadersAreReadBack}

@@ -1,7 +1,7 @@
 -- What the bytes of a header read as.
 use Rattle.std.specs.Prelude.{ℕ, List, Result}
 use Rattle.mig_bytes.specs.Fields.{le32, be32}
-use Rattle.mig_causes.specs.declared.fault.Cause.{Cause}
+use Rattle.mig_headers.specs.declared.fault.Cause.{Cause}
 use Rattle.mig_headers.specs.declared.header.ImageHeader.{ImageHeader}
 use Rattle.mig_headers.specs.declared.header.DomainHeader.{DomainHeader}
 use Rattle.mig_headers.specs.declared.header.LibxlHeader.{LibxlHeader}

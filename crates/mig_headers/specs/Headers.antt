@@ -4,9 +4,9 @@ use Rattle.byteorder.specs.Endian.{little_bytes, big_bytes}
 use Rattle.mig_bytes.specs.Fields.{le16, le32, be16, be32, be64}
 use Rattle.mig_headers.specs.declared.kind.Kind.{Kind}
 use Rattle.mig_headers.specs.declared.kind.Kind.TheVariants.{Pv, Hvm}
-use Rattle.mig_causes.specs.declared.fault.Cause.{Cause}
-use Rattle.mig_causes.specs.declared.fault.Cause.TheVariants.{NotStream, BadId, BadVersion, BigEndian, BadKind, BadPageShift}
-use Rattle.mig_causes.specs.Rows.{first_fault}
+use Rattle.mig_headers.specs.declared.fault.Cause.{Cause}
+use Rattle.mig_headers.specs.declared.fault.Cause.TheVariants.{NotStream, BadId, BadVersion, BigEndian, BadKind, BadPageShift}
+use Rattle.mig_headers.specs.Rows.{first_fault}
 
 -- 64 ones
 abbrev pub marker : ℕ

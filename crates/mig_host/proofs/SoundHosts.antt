@@ -3,7 +3,7 @@ use Rattle.mig_host.proofs.Common.{◌≡◌, ℕ, ◌+◌, ◌-◌, ◌*◌, �
 use Rattle.std.specs.FinMap as maps
 use Rattle.std.specs.Prelude.{IfOk}
 use Rattle.mig_headers.specs.declared.kind.Kind.{Kind}
-use Rattle.mig_causes.specs.declared.unsound.Unsound.{Unsound}
+use Rattle.mig_headers.specs.declared.unsound.Unsound.{Unsound}
 use Rattle.mig_guest.specs.PartCodes.{row_of, code_number}
 use Rattle.mig_guest.specs.PartKeys.{p2m_key}
 use Rattle.mig_guest.specs.declared.part_code.PartCode.{PartCode}

@@ -7,7 +7,7 @@ ghost use Rattle.mig_headers.specs.Contexts.{scan};
 ghost use Rattle.mig_headers.specs.declared.kind.Kind.TheVariants.{Pv};
 ghost use Rattle.mig_guest.specs.Hosts.{IsValid};
 ghost use Rattle.mig_guest.specs.PartKeys.{context_key};
-ghost use Rattle.mig_causes.specs.declared.unsound.Unsound.{Unsound as Cause};
+ghost use Rattle.mig_headers.specs.declared.unsound.Unsound.{Unsound as Cause};
 ghost use Rattle.mig_pvtables.specs.Blank.{each_value, IsOfBytes};
 ghost use Rattle.mig_pvtables.specs.Whole.{IsStreamed};
 ghost use Rattle.mig_hosted.specs.Normalised.{part_seen};

@@ -2,10 +2,10 @@
 use Rattle.mig_hosted.proofs.Common.{◌≡◌, ℕ, ◌≤◌, Bool, true, false, cond, List, [], ◌∷◌, Option, Some, None, refl, sym, ap, ◌∙◌, ◌↔◌, ◌==◌, ◌&&◌, nat_lt, option_and_then, option_or, eqb-true, eq-eqb, ltb-false, le-ltb, PartKey, gdt_ents, FrameOf, FrameMap, GuestOf, PartMap, context_key, entry, EachEntry, part_total, part_exact, first_cause, first_some, find_entry, find_p2m, is_superpage}
 use Rattle.std.specs.FinMap as maps
 use Rattle.std.specs.Prelude.{Result, Ok, Err}
-use Rattle.mig_causes.proofs.FirstFaults.{both_none}
+use Rattle.mig_headers.proofs.FirstFaults.{both_none}
 use Rattle.mig_headers.specs.Contexts.{scan}
-use Rattle.mig_causes.specs.declared.fault.ContextFault.{ContextFault}
-use Rattle.mig_causes.specs.declared.unsound.Unsound.TheVariants.{Missing}
+use Rattle.mig_headers.specs.declared.fault.ContextFault.{ContextFault}
+use Rattle.mig_headers.specs.declared.unsound.Unsound.TheVariants.{Missing}
 use Rattle.mig_guest.specs.Hosts.{HostOf, pfn_in}
 use Rattle.mig_pvtables.specs.BadEntries.{is_unknown, NamesKnown}
 use Rattle.mig_pvtables.specs.Faults.{find_in_contexts}

@@ -4,7 +4,7 @@ use Rattle.std.proofs.lemmas.List.Elements.{All-append, All-take, All-replicate}
 use Rattle.std.specs.Prelude.{Result, Ok, Err, replicate}
 use Rattle.mig_bytes.specs.Bytes.{AreBytes}
 use Rattle.mig_headers.specs.Contexts.{scan, cut_at}
-use Rattle.mig_causes.specs.declared.fault.ContextFault.{ContextFault}
+use Rattle.mig_headers.specs.declared.fault.ContextFault.{ContextFault}
 use Rattle.mig_headers.specs.declared.kind.Kind.{Kind}
 use Rattle.mig_guest.specs.Hosts.{HostOf, pfn_in}
 use Rattle.mig_pvtables.specs.Renaming.{renamed_table}

@@ -1,6 +1,6 @@
 -- The form in a stream of a guest that stands in a machine.
 use Rattle.std.specs.Prelude.{ℕ, List, Option, Result, Ok, Err, ◌==◌, if◌then◌else◌}
-use Rattle.mig_causes.specs.declared.fault.ContextFault.{ContextFault}
+use Rattle.mig_headers.specs.declared.fault.ContextFault.{ContextFault}
 use Rattle.mig_headers.specs.declared.kind.Kind.{Kind}
 use Rattle.mig_headers.specs.declared.kind.Kind.TheVariants.{Pv, Hvm}
 use Rattle.mig_headers.specs.Contexts.{scan, cut_at}

@@ -1,7 +1,7 @@
 ghost use Rattle.std.specs.Prelude.{◌≡◌, ◌≤◌, ◌<◌, ◌^◌, ℕ, List, [], ◌∷◌, length, IfSome, IfOk, find};
 ghost use Rattle.std.specs.Option.{option_copied, option_map, option_or};
 ghost use Rattle.std.specs.FinMap as maps;
-ghost use Rattle.mig_causes.specs.declared.unsound.Unsound.TheVariants.{Superpage, NoFrame, GdtEnts, VcpuFrame, BadContext};
+ghost use Rattle.mig_headers.specs.declared.unsound.Unsound.TheVariants.{Superpage, NoFrame, GdtEnts, VcpuFrame, BadContext};
 ghost use Rattle.mig_headers.specs.declared.kind.Kind.TheVariants.{Hvm, Pv};
 ghost use Rattle.mig_pagetypes.specs.Limits.{pfn_limit};
 ghost use Rattle.mig_pagetypes.specs.PageTypes.{level_of};
@@ -16,9 +16,8 @@ ghost use Rattle.mig_pvtables.specs.Tables.{is_superpage};
 ghost use Rattle.mig_hosted.specs.Sound.{absent, needed_keys, misnames, machine_type as type_of_machine_frame, find_gdt, find_context_fault, unsound_rows};
 
 use mig_bytes::Memory;
-use mig_causes::{ContextFault, Unsound};
 use mig_guest::{FrameStore, PartCode, PartKey, Parts};
-use mig_headers::Kind;
+use mig_headers::{ContextFault, Kind, Unsound};
 use mig_hvm::scan_context;
 use mig_pagetypes::PageType;
 use mig_pvtables::{FIELDS, Frames, VCPU_BASIC, frame_type, gdt_ents, host_frame, is_type_of_field, lacks, misplaced_frame, sole_key, superpage_slot, unknown_slot};

@@ -9,8 +9,8 @@ ghost use Rattle.mig_bodies.specs.Shapes.{fault_of_body, parts_of_body};
 
 use mig_bodies::{body_fault, read_body};
 use mig_bytes::Memory;
-use mig_causes::Cause;
 use mig_guest::{Guest, PartCode};
+use mig_headers::Cause;
 
 /// What is wrong with the body of an HVM_PARAMS record: `BadLength` where its count asks for another length, else
 /// `ParamIndex` of the first index of 4096 or more.

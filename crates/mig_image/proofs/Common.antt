@@ -43,10 +43,10 @@ pub use Rattle.mig_guest.specs.Order.{IsAbove, part_cmp}
 pub use Rattle.mig_guest.specs.Parts.{FitsPolicy, PartMap, parts_behind, parts_of}
 pub use Rattle.mig_guest.specs.declared.part_key.PartKey.{PartKey}
 pub use Rattle.mig_headers.specs.Headers.{kind_number, kind_of_number}
-pub use Rattle.mig_causes.specs.declared.image_fault.ImageCause.{ImageCause}
-pub use Rattle.mig_causes.specs.declared.image_fault.ImageCause.TheVariants.{Truncated}
-pub use Rattle.mig_causes.specs.declared.image_fault.ImagePlace.{ImagePlace}
-pub use Rattle.mig_causes.specs.declared.image_fault.ImagePlace.TheVariants.{Frame, Head, Part, Parts}
+pub use Rattle.mig_headers.specs.declared.image_fault.ImageCause.{ImageCause}
+pub use Rattle.mig_headers.specs.declared.image_fault.ImageCause.TheVariants.{Truncated}
+pub use Rattle.mig_headers.specs.declared.image_fault.ImagePlace.{ImagePlace}
+pub use Rattle.mig_headers.specs.declared.image_fault.ImagePlace.TheVariants.{Frame, Head, Part, Parts}
 pub use Rattle.mig_headers.specs.declared.kind.Kind.{Kind}
 pub use Rattle.mig_headers.specs.declared.kind.Kind.TheVariants.{Hvm, Pv}
 pub use Rattle.mig_image.specs.Answer.{BeginsWithImage, IsHost}

@@ -10,11 +10,11 @@ use Rattle.mig_bytes_form.specs.Form.FormOf.{Gives}
 use Rattle.mig_bytes_form.specs.Tests.{Test}
 use Rattle.mig_bytes_form.specs.Tests.Test.{Less, AtMost, Equal, Is, Not, Both, Either}
 use Rattle.mig_headers.specs.Pairs.{are_canonical_pairs}
-use Rattle.mig_causes.specs.declared.image_fault.ImageCause.{ImageCause}
-use Rattle.mig_causes.specs.declared.image_fault.ImageCause.TheVariants.{Truncated, NotImage, BadKind, Reserved, Width, FrameCount, BadPageType, FrameOrder, FrameOutside, MachineFrame, MachineTwice, PartOrder, PartMany, PartLength, PartBytes, PartPadding, ZeroPage}
-use Rattle.mig_causes.specs.declared.image_fault.ImageCause.TheVariants as causes
-use Rattle.mig_causes.specs.declared.image_fault.ImagePlace.{ImagePlace}
-use Rattle.mig_causes.specs.declared.image_fault.ImagePlace.TheVariants as places
+use Rattle.mig_headers.specs.declared.image_fault.ImageCause.{ImageCause}
+use Rattle.mig_headers.specs.declared.image_fault.ImageCause.TheVariants.{Truncated, NotImage, BadKind, Reserved, Width, FrameCount, BadPageType, FrameOrder, FrameOutside, MachineFrame, MachineTwice, PartOrder, PartMany, PartLength, PartBytes, PartPadding, ZeroPage}
+use Rattle.mig_headers.specs.declared.image_fault.ImageCause.TheVariants as causes
+use Rattle.mig_headers.specs.declared.image_fault.ImagePlace.{ImagePlace}
+use Rattle.mig_headers.specs.declared.image_fault.ImagePlace.TheVariants as places
 use Rattle.mig_pagetypes.specs.Limits.{most_frames, top_limit}
 use Rattle.mig_guest.specs.Frames.{is_type_of}
 use Rattle.mig_guest.specs.Hosts.{HostOf, machine_limit}

@@ -17,8 +17,7 @@ ghost use Rattle.mig_image.specs.ImageParts.{head_pfn, head_type, head_type_numb
 use crate::version::ImageVersion;
 use crate::zeros::{is_all_zero, zero_page};
 use mig_bytes::{Source, Stop, take_part, u64_le};
-use mig_causes::ImageCause;
-use mig_headers::Kind;
+use mig_headers::{ImageCause, Kind};
 use mig_host::{Host, MACHINE_LIMIT};
 use mig_pagetypes::PageType;
 

@@ -13,8 +13,7 @@ ghost use Rattle.mig_image.specs.ImageParts.{head_version};
 
 use crate::version::ImageVersion;
 use mig_bytes::{Source, Stop, take_part, u32_le, u64_be, u64_le};
-use mig_causes::ImageCause;
-use mig_headers::Kind;
+use mig_headers::{ImageCause, Kind};
 use mig_pagetypes::MAX_FRAMES;
 
 /// "XGIMAGE1" and "XGIMAGE2", the lowest byte last.

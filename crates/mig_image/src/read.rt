@@ -19,7 +19,7 @@ use crate::head::{kind_in, read_head, version_in};
 use crate::read_part::read_parts;
 use crate::version::ImageVersion;
 use mig_bytes::{Answer, Source, Stop, answer_for, take_part, u64_le};
-use mig_causes::{ImageCause, ImagePlace};
+use mig_headers::{ImageCause, ImagePlace};
 use mig_host::Host;
 use std::alloc::Global;
 

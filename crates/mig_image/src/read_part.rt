@@ -16,9 +16,8 @@ ghost use Rattle.mig_image.specs.ImageParts.{head_key, code_fits, code_allows, h
 ghost use Rattle.mig_image.specs.PartCounts.{Counts};
 
 use mig_bytes::{Source, Stop, pad_len, take_long, take_part, u32_le};
-use mig_causes::{ImageCause, ImagePlace};
 use mig_guest::{EMULATOR_PAIRS, PartCode, PartKey};
-use mig_headers::Kind;
+use mig_headers::{ImageCause, ImagePlace, Kind};
 use mig_host::Host;
 use mig_policy::canonical_pairs;
 use std::alloc::Global;

@@ -2,9 +2,8 @@ ghost use Rattle.std.specs.Prelude.{◌≤◌};
 ghost use Rattle.mig_guest.specs.Hosts.{most_width};
 
 use mig_bytes::{MemSink, MemSource};
-use mig_causes::{ImageCause, ImagePlace};
 use mig_guest::{Guest, PartKey};
-use mig_headers::Kind;
+use mig_headers::{ImageCause, ImagePlace, Kind};
 use mig_image::{Host, ImageAnswer, guest_of, read_host, write_host};
 use mig_pagetypes::PageType;
 use std::alloc::Global;

@@ -3,8 +3,8 @@
 use Rattle.mig_bytes_form.proofs.Joined.{then_is}
 use Rattle.mig_bytes_form.proofs.Tests.{computed_is}
 use Rattle.mig_legacy.proofs.Common.{said_passes, said_goes, ◌≡◌, ℕ, ◌+◌, ◌*◌, List, [], ◌∷◌, ◌++◌, Bool, true, false, cond, nat_lt, length, take, drop, Option, Some, None, refl, sym, ap, subst, ◌∙◌, append_assoc, All, none-some, list_any_none, Judged, ◌>>=◌, part, tried, each, Passes, Faulty, both_pass, same_passes, then_passes, no_fault, rows_fine, Hvm, LegacyCause, Truncated, words, none_pass, type_in_word, fault_of_level, fault_of_page, entry_at, meant_type, FrameEntry, AreEntries, is_reserved, is_high, batch_rows, fault_of_batch, page_data_words, word_pfn, judged_as, ◌>>>◌, each_form, Given, computed, first_named, plain_form, words_form, page_of_word, entry_form, batch_form, LegacyContent, Frames, IsLegacyWord, IsLegacyBatch}
-use Rattle.mig_causes.specs.declared.fault.Cause.{Cause}
-use Rattle.mig_causes.specs.declared.fault.Cause.TheVariants.{Truncated as ImageTruncated}
+use Rattle.mig_headers.specs.declared.fault.Cause.{Cause}
+use Rattle.mig_headers.specs.declared.fault.Cause.TheVariants.{Truncated as ImageTruncated}
 use Rattle.mig_pagetypes.specs.FrameWords.{word_has_data}
 use Rattle.mig_pagetypes.specs.PageTypes.{level_of}
 use Rattle.mig_pagetypes.specs.declared.page_type.PageType.{PageType}

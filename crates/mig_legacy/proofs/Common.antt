@@ -23,16 +23,16 @@ pub use Rattle.mig_guest.specs.Order.{part_cmp}
 pub use Rattle.mig_guest.specs.PartKeys.{context_key, p2m_key}
 pub use Rattle.mig_guest.specs.declared.part_key.PartKey.{PartKey}
 pub use Rattle.mig_headers.proofs.ContextTexts.{contexts_are_spelled}
-pub use Rattle.mig_causes.proofs.FirstFaults.{no_fault, rows_fine, both_none, neither_some}
+pub use Rattle.mig_headers.proofs.FirstFaults.{no_fault, rows_fine, both_none, neither_some}
 pub use Rattle.mig_headers.specs.Contexts.{scan, cut_at}
 pub use Rattle.mig_headers.specs.Pairs.{Pair}
-pub use Rattle.mig_causes.specs.declared.fault.ContextFault.{ContextFault}
+pub use Rattle.mig_headers.specs.declared.fault.ContextFault.{ContextFault}
 pub use Rattle.mig_headers.specs.declared.kind.Kind.{Kind}
 pub use Rattle.mig_headers.specs.declared.kind.Kind.TheVariants.{Hvm, Pv}
-pub use Rattle.mig_causes.specs.declared.legacy_fault.LegacyCause.{LegacyCause}
-pub use Rattle.mig_causes.specs.declared.legacy_fault.LegacyCause.TheVariants.{Truncated, BodyTooLong, Modern, Tools32, BadContext, BadSignature, TooManyPairs, BadVcpuMax, BadToolstack}
-pub use Rattle.mig_causes.specs.declared.legacy_fault.LegacyPlace.{LegacyPlace}
-pub use Rattle.mig_causes.specs.declared.legacy_fault.LegacyPlace.TheVariants.{Start, Tail, Device, Chunk}
+pub use Rattle.mig_headers.specs.declared.legacy_fault.LegacyCause.{LegacyCause}
+pub use Rattle.mig_headers.specs.declared.legacy_fault.LegacyCause.TheVariants.{Truncated, BodyTooLong, Modern, Tools32, BadContext, BadSignature, TooManyPairs, BadVcpuMax, BadToolstack}
+pub use Rattle.mig_headers.specs.declared.legacy_fault.LegacyPlace.{LegacyPlace}
+pub use Rattle.mig_headers.specs.declared.legacy_fault.LegacyPlace.TheVariants.{Start, Tail, Device, Chunk}
 pub use Rattle.mig_chunks.specs.Batches.{is_reserved, is_high, fault_of_batch, batch_rows, page_data_words, page_data_word, page_data_words_of}
 unfoldable pub use Rattle.mig_chunks.specs.Chunks.{kind_of}
 pub use Rattle.mig_chunks.specs.Chunks.{IsNumberOf, number_causes, kind_numbered, unless_caused}

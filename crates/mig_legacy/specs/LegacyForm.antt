@@ -14,10 +14,10 @@ use Rattle.mig_headers.specs.Contexts.{scan, cut_at}
 use Rattle.mig_headers.specs.Headers.{marker, libxl_ident}
 use Rattle.mig_headers.specs.Pairs.{Pair}
 use Rattle.mig_headers.specs.RecordTypes.{most_body}
-use Rattle.mig_causes.specs.declared.fault.ContextFault.{ContextFault}
+use Rattle.mig_headers.specs.declared.fault.ContextFault.{ContextFault}
 use Rattle.mig_headers.specs.declared.kind.Kind.TheVariants.{Hvm}
-use Rattle.mig_causes.specs.declared.legacy_fault.LegacyCause.{LegacyCause}
-use Rattle.mig_causes.specs.declared.legacy_fault.LegacyCause.TheVariants.{Truncated, Modern, Tools32, BadVcpuMax, BadToolstack, UnpairedIoreq, BadContext, BadSignature, TooManyChunks, TooManyFrames, BodyTooLong, TooManyPairs}
+use Rattle.mig_headers.specs.declared.legacy_fault.LegacyCause.{LegacyCause}
+use Rattle.mig_headers.specs.declared.legacy_fault.LegacyCause.TheVariants.{Truncated, Modern, Tools32, BadVcpuMax, BadToolstack, UnpairedIoreq, BadContext, BadSignature, TooManyChunks, TooManyFrames, BodyTooLong, TooManyPairs}
 use Rattle.mig_pagetypes.specs.FrameWords.{word_has_data, word_pfn}
 use Rattle.mig_pagetypes.specs.Limits.{most_frames}
 use Rattle.mig_records.specs.Words.{words}

@@ -7,9 +7,9 @@ use Rattle.mig_bytes.specs.Judged.Judged.{Passes, Faulty}
 use Rattle.mig_bytes.specs.Sequences.{sequence_at}
 use Rattle.mig_bytes.specs.declared.answer.Answer.{Answer}
 use Rattle.mig_bytes_form.specs.Form.{judged_as}
-use Rattle.mig_causes.specs.declared.legacy_fault.LegacyCause.{LegacyCause}
-use Rattle.mig_causes.specs.declared.legacy_fault.LegacyPlace.{LegacyPlace}
-use Rattle.mig_causes.specs.declared.legacy_fault.LegacyPlace.TheVariants.{Start, Chunk, Tail, Device}
+use Rattle.mig_headers.specs.declared.legacy_fault.LegacyCause.{LegacyCause}
+use Rattle.mig_headers.specs.declared.legacy_fault.LegacyPlace.{LegacyPlace}
+use Rattle.mig_headers.specs.declared.legacy_fault.LegacyPlace.TheVariants.{Start, Chunk, Tail, Device}
 use Rattle.mig_guest.specs.Guests.{GuestOf}
 use Rattle.mig_legacy.specs.LegacyForm.{start_form, chunk_form, tail_form, device_form}
 use Rattle.mig_legacy.specs.Legacy.{LegacyChunk, LegacyStream, is_legacy_ended, mean_legacy}

@@ -14,11 +14,10 @@ ghost use Rattle.mig_legacy.specs.Legacy.LegacyContent.{Nothing};
 ghost use Rattle.mig_legacy.specs.Seen.{cut_short, put_in_guest, put_in_emulators};
 
 use mig_bytes::{Memory, ReadFailed, Source, Stop, skip, take_long, take_part, u32_le};
-use mig_causes::{Cause, LegacyCause};
 use mig_chunks::{batch_fault, page_data_words, physmap_pairs, put, toolstack_fault};
 use mig_emulators::Emulators;
 use mig_guest::{EMULATOR_PAIRS, Guest, PartKey};
-use mig_headers::MOST_BODY;
+use mig_headers::{Cause, LegacyCause, MOST_BODY};
 use mig_libxc::words_of;
 use mig_policy::PairsAnswer;
 use mig_restore::take_entries;

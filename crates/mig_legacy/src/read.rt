@@ -24,11 +24,10 @@ ghost use Rattle.mig_legacy.specs.Stream.{chunks_at, legacy_at, ReadsLegacy};
 use crate::body::{take_batch, take_clock, take_toolstack, take_value, take_vcpus};
 use crate::tail::{take_device, take_tail};
 use mig_bytes::{Answer, Memory, Source, Stop, answer_for, take_part, u32_le};
-use mig_causes::{LegacyCause, LegacyPlace};
 use mig_chunks::{ChunkKind, chunk_kind};
 use mig_emulators::Emulators;
 use mig_guest::Guest;
-use mig_headers::{ImageHeader, Kind, LibxlHeader};
+use mig_headers::{ImageHeader, Kind, LegacyCause, LegacyPlace, LibxlHeader};
 use mig_pagetypes::MAX_FRAMES;
 use std::alloc::Global;
 

@@ -15,10 +15,9 @@ ghost use Rattle.mig_legacy.specs.Stream.{device_at};
 
 use crate::body::{are_bytes, param_key, take_length};
 use mig_bytes::{Memory, Source, Stop, take_long, take_part};
-use mig_causes::LegacyCause;
 use mig_emulators::Emulators;
 use mig_guest::{EMULATOR_CONTEXT, Guest, PartKey};
-use mig_headers::MOST_BODY;
+use mig_headers::{LegacyCause, MOST_BODY};
 use mig_hvm::{read_context, scan_context};
 use std::alloc::Global;
 

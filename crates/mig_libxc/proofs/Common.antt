@@ -11,11 +11,11 @@ pub use Rattle.mig_bytes.specs.Judged.{Gives, Judged, Matches, part, placed, pla
 pub use Rattle.mig_bytes.specs.Judged.Judged.{Faulty, Passes}
 pub use Rattle.mig_bytes.specs.Sequences.{Spells, sequence_at}
 pub use Rattle.mig_bytes.specs.declared.stop.Stop.{Stop}
-pub use Rattle.mig_causes.proofs.FirstFaults.{both_none, neither_some, no_fault, rows_fine}
-pub use Rattle.mig_causes.specs.declared.fault.Cause.{Cause}
-pub use Rattle.mig_causes.specs.declared.fault.Cause.TheVariants.{BadLength, TooManyRecords, Truncated}
-pub use Rattle.mig_causes.specs.declared.fault.Place.{Place}
-pub use Rattle.mig_causes.specs.declared.fault.Place.TheVariants.{DomainHeader, ImageHeader, Record}
+pub use Rattle.mig_headers.proofs.FirstFaults.{both_none, neither_some, no_fault, rows_fine}
+pub use Rattle.mig_headers.specs.declared.fault.Cause.{Cause}
+pub use Rattle.mig_headers.specs.declared.fault.Cause.TheVariants.{BadLength, TooManyRecords, Truncated}
+pub use Rattle.mig_headers.specs.declared.fault.Place.{Place}
+pub use Rattle.mig_headers.specs.declared.fault.Place.TheVariants.{DomainHeader, ImageHeader, Record}
 pub use Rattle.mig_guest.proofs.Kept.{empty_formed, frames_keep}
 pub use Rattle.mig_guest.specs.Formed.{AreParts, HasNoEmulators, IsInside, is_emulator_code, width_of}
 pub use Rattle.mig_guest.specs.Frames.{FrameOf}

@@ -2,7 +2,7 @@
 use Rattle.mig_libxc.proofs.Common.{◌≡◌, ℕ, ◌≤◌, ◌<◌, ◌^◌, List, [], ◌∷◌, ◌++◌, length, true, false, nat_le, not, Option, None, refl, sym, ap, subst, ◌∙◌, arith, append_assoc, take, drop, take-append-drop, length-take-le, length-drop, ◌⊎◌, inl, inr, common_steps, le-ltb, lt-leb, length-map, padding_len, le32, be32, Judged, ◌>>=◌, part, placed, Passes, Faulty, part_whole, same_passes, fault_of_marker, fault_of_image, fault_of_domain, kind_of_number, IsImageHeader, IsDomainHeader, type_of_number, Cause, TooManyRecords, Truncated, Place, Kind, GuestOf, long_rows, length_rows, type_allows, fault_of_long, fault_of_length, IsInOrder, fault_of_type, fault_of_guest, StreamRecord, is_ended, is_verified, placed_content, types_of, Opening, Before, opening_of, before, fault_of_head, head_at, fault_at_end, body_at, Follows, IsImage, Accepted, ImageOf, image_of, records_at, IsRefused, then_passes, tried_none, no_fault, neither_some, said_at, said_goes, Spells}
 use Rattle.mig_bytes.proofs.Sequences as fronts
 use Rattle.mig_headers.proofs.HeaderLaws.{image_is_spelled, domain_is_spelled, unless_ok}
-use Rattle.mig_causes.specs.declared.fault.Place.TheVariants as places
+use Rattle.mig_headers.specs.declared.fault.Place.TheVariants as places
 use Rattle.mig_headers.specs.declared.header.ImageHeader.{ImageHeader}
 use Rattle.mig_headers.specs.declared.header.DomainHeader.{DomainHeader}
 use Rattle.mig_order.proofs.OrderLaw.{faultless_is_in_order}

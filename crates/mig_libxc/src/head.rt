@@ -5,8 +5,7 @@ ghost use Rattle.mig_headers.specs.declared.record_type.RecordType.{RecordType};
 ghost use Rattle.mig_records.specs.Faults.{fault_of_length};
 ghost use Rattle.mig_libxc.specs.Judging.{Opening, Before, most_records, opening_of, fault_of_number, fault_of_fields};
 
-use mig_causes::Cause;
-use mig_headers::Kind;
+use mig_headers::{Cause, Kind};
 use mig_order::Gate;
 use mig_records::{RecordHead, length_fault, long_fault};
 

@@ -6,8 +6,7 @@ ghost use Rattle.mig_libxc.specs.Mean.{meant_type};
 ghost use Rattle.mig_libxc.specs.Judging.{type_in_word, fault_of_level};
 
 use mig_bytes::u64_le;
-use mig_causes::Cause;
-use mig_headers::Kind;
+use mig_headers::{Cause, Kind};
 use mig_pagetypes::{PageType, decode_word};
 use mig_pvtables::check_table;
 use std::alloc::{AllocError, Global};

@@ -6,9 +6,9 @@ use Rattle.std.proofs.lemmas.List.{drop-append-le}
 use Rattle.byteorder.specs.Numbers.{little_from-append}
 use Rattle.mig_bytes.specs.Fields.{le32}
 use Rattle.mig_bytes.specs.Judged.{said_at}
-use Rattle.mig_causes.proofs.FirstFaults.{both_none, neither_some, no_fault, rows_fine}
+use Rattle.mig_headers.proofs.FirstFaults.{both_none, neither_some, no_fault, rows_fine}
 use Rattle.mig_headers.specs.RecordTypes.{is_optional}
-use Rattle.mig_causes.specs.declared.fault.Cause.TheVariants.{BadEmulator, TooManyPairs, EmulatorIndex}
+use Rattle.mig_headers.specs.declared.fault.Cause.TheVariants.{BadEmulator, TooManyPairs, EmulatorIndex}
 use Rattle.mig_policy.specs.PairMaps.{pairs_in}
 use Rattle.mig_emulators.specs.Content.LibxlContent.{Nothing}
 use Rattle.mig_emulators.specs.Emulators.{emulators_of, most_pairs, spelled_with}

@@ -6,10 +6,10 @@ pub use Rattle.mig_bytes.specs.Judged.{Judged, part, placed, ◌>>=◌}
 pub use Rattle.mig_bytes.specs.Judged.Judged.{Passes}
 pub use Rattle.mig_bytes.specs.Sequences.{Spells}
 pub use Rattle.mig_bytes.specs.Sequences.Spells.{no_part, one_more}
-pub use Rattle.mig_causes.specs.declared.fault.Cause.{Cause}
-pub use Rattle.mig_causes.specs.declared.fault.Cause.TheVariants.{Truncated}
-pub use Rattle.mig_causes.specs.declared.fault.Place.{Place}
-pub use Rattle.mig_causes.specs.declared.fault.Place.TheVariants.{LibxlHeader}
+pub use Rattle.mig_headers.specs.declared.fault.Cause.{Cause}
+pub use Rattle.mig_headers.specs.declared.fault.Cause.TheVariants.{Truncated}
+pub use Rattle.mig_headers.specs.declared.fault.Place.{Place}
+pub use Rattle.mig_headers.specs.declared.fault.Place.TheVariants.{LibxlHeader}
 pub use Rattle.mig_emulators.specs.Content.{LibxlContent, LibxlRecord}
 pub use Rattle.mig_emulators.specs.Content.LibxlContent.{Context, Image, Pairs}
 pub use Rattle.mig_emulators.specs.Emulators.{EmulatorsOf, add_pairs, no_emulators, put_libxl_content, store_at}

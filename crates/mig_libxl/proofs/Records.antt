@@ -5,8 +5,8 @@ use Rattle.std.proofs.lemmas.List.{append-nil}
 use Rattle.mig_bytes.specs.Fields.{le32}
 use Rattle.mig_bytes.proofs.Joins.{both_pass, part_passes, part_whole, placed_passes, same_passes, then_passes}
 use Rattle.mig_bytes.proofs.Sequences.{Found}
-use Rattle.mig_causes.proofs.FirstFaults.{both_none, neither_some, no_fault, rows_fine}
-use Rattle.mig_causes.specs.declared.fault.Place.TheVariants.{LibxlRecord as AtRecord}
+use Rattle.mig_headers.proofs.FirstFaults.{both_none, neither_some, no_fault, rows_fine}
+use Rattle.mig_headers.specs.declared.fault.Place.TheVariants.{LibxlRecord as AtRecord}
 use Rattle.mig_libxc.specs.Stream.{image_at}
 use Rattle.mig_libxc.proofs.Laws.{accepted_is_image}
 use Rattle.mig_libxc.proofs.Converse.{image_is_accepted}

@@ -6,10 +6,10 @@ use Rattle.mig_bytes.specs.Judged.{Judged, ◌>>=◌, placed, said_at}
 use Rattle.mig_bytes.specs.Judged.Judged.{Passes, Faulty}
 use Rattle.mig_bytes.specs.Sequences.{sequence_at}
 use Rattle.mig_headers.specs.Headers.{libxl_ident, fault_of_libxl}
-use Rattle.mig_causes.specs.declared.fault.Cause.{Cause}
-use Rattle.mig_causes.specs.declared.fault.Cause.TheVariants.{Truncated}
-use Rattle.mig_causes.specs.declared.fault.Place.{Place}
-use Rattle.mig_causes.specs.declared.fault.Place.TheVariants.{LibxlHeader}
+use Rattle.mig_headers.specs.declared.fault.Cause.{Cause}
+use Rattle.mig_headers.specs.declared.fault.Cause.TheVariants.{Truncated}
+use Rattle.mig_headers.specs.declared.fault.Place.{Place}
+use Rattle.mig_headers.specs.declared.fault.Place.TheVariants.{LibxlHeader}
 use Rattle.mig_guest.specs.Guests.{GuestOf}
 use Rattle.mig_libxc.specs.Mean.{mean}
 use Rattle.mig_libxc.specs.Stream.{ImageOf, image_at}

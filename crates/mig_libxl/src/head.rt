@@ -4,12 +4,8 @@ ghost use Rattle.mig_emulators.specs.Content.{LibxlRecord};
 ghost use Rattle.mig_libxl.specs.Judging.{fault_of_libxl_fields, fault_of_libxl_head, allows_length as length_allowed};
 ghost use Rattle.mig_libxl.specs.Behind.{AreBehind, MayFollow};
 
-use crate::numbers::{
-    CHECKPOINT_END, CHECKPOINT_STATE, EMULATOR_CONTEXT, EMULATOR_XENSTORE_DATA, LIBXC_CONTEXT,
-    LIBXL_END, MAX_RECORDS,
-};
-use mig_causes::Cause;
-use mig_headers::{Kind, is_optional};
+use crate::numbers::{CHECKPOINT_END, CHECKPOINT_STATE, EMULATOR_CONTEXT, EMULATOR_XENSTORE_DATA, LIBXC_CONTEXT, LIBXL_END, MAX_RECORDS};
+use mig_headers::{Cause, Kind, is_optional};
 use mig_records::{RecordHead, long_fault};
 
 /// What the head of a libxl record is judged by, of the records before it.

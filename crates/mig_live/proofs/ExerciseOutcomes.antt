@@ -5,8 +5,8 @@ use mathlib.Core.List.{append-nil}
 use Rattle.mig_bytes.specs.Answers.{or_stop}
 use Rattle.mig_bytes.specs.Faults.{RisesOnReadFault}
 use Rattle.mig_bytes.specs.declared.answer.Answer.TheVariants as answers
-use Rattle.mig_causes.specs.declared.fault.Cause.{Cause}
-use Rattle.mig_causes.specs.declared.fault.Place.{Place}
+use Rattle.mig_headers.specs.declared.fault.Cause.{Cause}
+use Rattle.mig_headers.specs.declared.fault.Place.{Place}
 use Rattle.mig_guest.specs.Hosts.{HostOf}
 use Rattle.mig_hosted.specs.Sound.{unsoundness}
 use Rattle.mig_unwrap.specs.Reads.{ReadsStream}

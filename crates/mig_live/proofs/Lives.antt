@@ -4,7 +4,7 @@ use Rattle.mig_report.specs.declared.outcome.Refusal.TheVariants as refusals
 use mathlib.Core.Logic.{inl}
 use Rattle.std.specs.Prelude.{◌+◌, ◌∷◌, map}
 use Rattle.mig_bytes.specs.Faults.{Rose}
-use Rattle.mig_causes.specs.declared.unsound.Unsound.{Unsound}
+use Rattle.mig_headers.specs.declared.unsound.Unsound.{Unsound}
 use Rattle.mig_guest.specs.Hosts.{HostOf}
 use Rattle.mig_canon.specs.Canon.{headers, text_of}
 use Rattle.mig_pagesink.specs.Told.{telling_record}

@@ -3,9 +3,9 @@ use Rattle.mig_live.proofs.Common.{◌≡◌, ℕ, List, length, sym, ap, subst,
 use Rattle.mig_report.specs.declared.outcome.Refusal.TheVariants as refusals
 use Rattle.mig_bytes.specs.Judged.{Judged}
 use Rattle.mig_bytes.specs.Judged.Judged.{Passes, Faulty}
-use Rattle.mig_causes.specs.declared.image_fault.ImageCause.{ImageCause}
-use Rattle.mig_causes.specs.declared.image_fault.ImagePlace.{ImagePlace}
-use Rattle.mig_causes.specs.declared.unsound.Unsound.{Unsound}
+use Rattle.mig_headers.specs.declared.image_fault.ImageCause.{ImageCause}
+use Rattle.mig_headers.specs.declared.image_fault.ImagePlace.{ImagePlace}
+use Rattle.mig_headers.specs.declared.unsound.Unsound.{Unsound}
 use Rattle.mig_guest.specs.Hosts.{HostOf}
 use Rattle.mig_script.specs.ScriptLines.{LineOf}
 use Rattle.mig_script.specs.Scripts.{IsBadLine}

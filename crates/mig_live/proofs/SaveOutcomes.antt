@@ -10,7 +10,7 @@ use Rattle.mig_bytes.specs.Faults.{Rose}
 use Rattle.mig_bytes.specs.declared.stop.Stop.{Stop}
 use Rattle.mig_bytes.specs.declared.stop.Stop.TheVariants as stops
 use Rattle.mig_bytes.specs.Judged.Judged.{Passes}
-use Rattle.mig_causes.specs.declared.unsound.Unsound.{Unsound}
+use Rattle.mig_headers.specs.declared.unsound.Unsound.{Unsound}
 use Rattle.mig_headers.specs.Headers.{image_header_of, domain_header_of}
 use Rattle.mig_guest.specs.Hosts.{HostOf, most_saved_width}
 use Rattle.mig_canon.specs.Canon.{headers}

@@ -4,7 +4,7 @@ use Rattle.std.specs.Io.KnownBytes.{Appends}
 use Rattle.mig_bytes.specs.Bytes.{AppendsPart}
 use Rattle.mig_bytes.specs.Faults.{Rose}
 use Rattle.mig_bytes.specs.Judged.Judged.{Faulty}
-use Rattle.mig_causes.specs.declared.unsound.Unsound.{Unsound}
+use Rattle.mig_headers.specs.declared.unsound.Unsound.{Unsound}
 use Rattle.mig_guest.specs.Hosts.{HostOf}
 use Rattle.mig_report.specs.declared.outcome.Refusal.{Refusal}
 use Rattle.mig_report.specs.declared.outcome.Refusal.TheVariants as refusals

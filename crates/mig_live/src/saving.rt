@@ -3,7 +3,7 @@ ghost use Rattle.mig_guest.specs.Hosts.{most_saved_width};
 ghost use Rattle.std.specs.Io.KnownBytes.{Appends};
 ghost use Rattle.mig_bytes.specs.Bytes.{AppendsPart};
 ghost use Rattle.mig_bytes.specs.Faults.{Rose, RisesOnReadFault};
-ghost use Rattle.mig_causes.specs.declared.unsound.Unsound.{Unsound};
+ghost use Rattle.mig_headers.specs.declared.unsound.Unsound.{Unsound};
 ghost use Rattle.mig_dirtysave.specs.declared.answer.SaveAnswer.TheVariants as answers;
 ghost use Rattle.mig_report.specs.Report.{saved_line};
 ghost use Rattle.mig_report.specs.declared.outcome.Outcome.TheVariants as outcomes;

@@ -5,10 +5,10 @@ use Rattle.std.proofs.lemmas.Bool.{eqb-true, leb-true, not-false, or_parts}
 use Rattle.std.proofs.lemmas.Option.{slice_get_past}
 use Rattle.mig_headers.specs.declared.kind.Kind.{Kind}
 use Rattle.mig_headers.specs.declared.kind.Kind.TheVariants.{Pv, Hvm}
-use Rattle.mig_causes.specs.declared.fault.Cause.{Cause}
+use Rattle.mig_headers.specs.declared.fault.Cause.{Cause}
 use Rattle.mig_headers.specs.declared.record_type.RecordType.{RecordType}
 use Rattle.mig_headers.specs.declared.record_type.RecordType.TheVariants.{PageData, X86PvInfo, X86PvP2mFrames, Verify, StaticDataEnd}
-use Rattle.mig_causes.proofs.FirstFaults.{rows_fine, no_fault}
+use Rattle.mig_headers.proofs.FirstFaults.{rows_fine, no_fault}
 use Rattle.mig_headers.specs.RecordTypes.{record_types, record_row_of, pv, type_number, type_of_number, is_optional}
 use Rattle.mig_headers.proofs.RecordNumbers.{numbers_are_inverse}
 use Rattle.mig_order.specs.Order.{Earlier, earlier_in, is_of, some_earlier, static_records, content_records, vcpu_records, causes, fault_of_mandatory, fault_after, fault_of_type, KeepsOrder, IsInOrder, optional, ordered}

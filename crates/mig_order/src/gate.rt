@@ -1,5 +1,5 @@
 ghost use Rattle.std.specs.Prelude.{◌≡◌, ◌++◌, ◌∷◌, [], ℕ, List, true, Some, OnOk, OnErr};
-ghost use Rattle.mig_causes.specs.Rows.{first_fault};
+ghost use Rattle.mig_headers.specs.Rows.{first_fault};
 ghost use Rattle.mig_headers.specs.Headers.{unless_faulty};
 ghost use Rattle.mig_headers.specs.RecordTypes.{record_row_of, type_number, type_of_number};
 ghost use Rattle.mig_headers.specs.declared.record_type.RecordType.{RecordType};
@@ -7,8 +7,7 @@ ghost use Rattle.mig_order.specs.Order.{broken_rules, causes, fault_after, fault
 ghost use Rattle.mig_order.specs.Gate.{GateOf, StandsFor, then_type};
 
 use crate::sort::{is_content, is_same, is_static, is_vcpu};
-use mig_causes::Cause;
-use mig_headers::{Kind, RecordType, is_optional};
+use mig_headers::{Cause, Kind, RecordType, is_optional};
 use std::marker::Model;
 
 /// Judges the types of a stream's records, one after the other.

@@ -8,8 +8,8 @@ use Rattle.mig_bytes.proofs.Joins.{both_pass, placed_passes, same_passes}
 use Rattle.mig_bytes.proofs.Said.{said_passes}
 use Rattle.mig_bytes.proofs.Fronts.{TakesFronts, front_pass, front_said, front_then, front_placed}
 use Rattle.mig_headers.specs.Headers.{fault_of_marker, fault_of_image, fault_of_domain, kind_of_number}
-use Rattle.mig_causes.specs.declared.fault.Cause.TheVariants.{Truncated}
-use Rattle.mig_causes.specs.declared.fault.Place.TheVariants.{ImageHeader, DomainHeader, Record}
+use Rattle.mig_headers.specs.declared.fault.Cause.TheVariants.{Truncated}
+use Rattle.mig_headers.specs.declared.fault.Place.TheVariants.{ImageHeader, DomainHeader, Record}
 use Rattle.mig_libxc.specs.Record.{StreamRecord, is_ended}
 use Rattle.mig_libxc.specs.Judging.{Opening, Before, opening_of, before, fault_of_head, head_at, record_at, next_at, fault_at_end}
 use Rattle.mig_libxc.specs.Mean.{sent}

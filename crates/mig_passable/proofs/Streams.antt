@@ -12,13 +12,13 @@ use Rattle.mig_bytes.proofs.Joins.{both_pass, passes_not, placed_passes, same_pa
 use Rattle.mig_bytes.proofs.Said.{said_passes}
 use Rattle.mig_bytes.proofs.Sequences.{starts}
 use Rattle.mig_emulators.specs.Content.{LibxlRecord}
-use Rattle.mig_causes.proofs.FirstFaults.{rows_fine}
+use Rattle.mig_headers.proofs.FirstFaults.{rows_fine}
 use Rattle.mig_headers.proofs.HeaderLaws.{marker_of}
 use Rattle.mig_headers.specs.Headers.{libxl_ident, marker, marker_rows, fault_of_marker, fault_of_libxl}
-use Rattle.mig_causes.specs.declared.fault.Cause.{Cause}
-use Rattle.mig_causes.specs.declared.fault.Cause.TheVariants.{Truncated}
-use Rattle.mig_causes.specs.declared.fault.Place.{Place}
-use Rattle.mig_causes.specs.declared.fault.Place.TheVariants.{ImageHeader, LibxlHeader}
+use Rattle.mig_headers.specs.declared.fault.Cause.{Cause}
+use Rattle.mig_headers.specs.declared.fault.Cause.TheVariants.{Truncated}
+use Rattle.mig_headers.specs.declared.fault.Place.{Place}
+use Rattle.mig_headers.specs.declared.fault.Place.TheVariants.{ImageHeader, LibxlHeader}
 use Rattle.mig_libxl.specs.Among.{is_libxl_ended}
 use Rattle.mig_libxl.specs.Judging.{libxl_record_at}
 use Rattle.mig_libxl.specs.Stream.{StreamOf, header_at, bare_at, wrapped_at, stream_at, IsStreamRefused}

@@ -10,10 +10,10 @@ use Rattle.mig_emulators.specs.Content.{LibxlRecord}
 use Rattle.mig_emulators.specs.Content.LibxlContent.{Nothing, Image, Pairs, Context}
 use Rattle.mig_headers.specs.Headers.{libxl_ident, libxl_rows, fault_of_libxl}
 use Rattle.mig_headers.specs.Pairs.{texts_in}
-use Rattle.mig_causes.specs.declared.fault.Cause.{Cause}
-use Rattle.mig_causes.specs.declared.fault.Cause.TheVariants.{Truncated, BadEmulator, EmulatorIndex}
-use Rattle.mig_causes.specs.declared.fault.Place.{Place}
-use Rattle.mig_causes.specs.declared.fault.Place.TheVariants.{LibxlHeader, LibxlRecord as AtRecord}
+use Rattle.mig_headers.specs.declared.fault.Cause.{Cause}
+use Rattle.mig_headers.specs.declared.fault.Cause.TheVariants.{Truncated, BadEmulator, EmulatorIndex}
+use Rattle.mig_headers.specs.declared.fault.Place.{Place}
+use Rattle.mig_headers.specs.declared.fault.Place.TheVariants.{LibxlHeader, LibxlRecord as AtRecord}
 use Rattle.mig_libxl.specs.Among.{is_libxl_ended}
 use Rattle.mig_libxl.specs.Judging.{emulator_key, field_rows, order_rows, fault_of_libxl_fields, fault_of_order, fault_of_context, fault_of_libxl_head, libxl_head_at, context_at, skipped_at}
 use Rattle.mig_libxl.specs.Stream.{header_at}

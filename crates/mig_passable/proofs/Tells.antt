@@ -7,7 +7,7 @@ use Rattle.mig_bytes.specs.Judged.{Judged, ◌>>=◌, part, tried, said_at, plai
 use Rattle.mig_bytes.specs.Judged.Judged.{Passes, Faulty}
 use Rattle.mig_bytes.specs.Sequences.{Front, grown, ended_at, onward}
 use Rattle.mig_bytes.specs.Walk.{walk_end}
-use Rattle.mig_causes.specs.Rows.{first_fault}
+use Rattle.mig_headers.specs.Rows.{first_fault}
 
 -- no cause stands, or one of these
 abbrev pub Names : {C : Type 0} → (C → Type 0) → Option C → Type 0

@@ -3,9 +3,9 @@ use Rattle.std.specs.Prelude.{◌-◌, ℕ, List, [], length}
 use Rattle.mig_bytes.specs.Judged.{Judged, ◌>>=◌, placed, tried}
 use Rattle.mig_bytes.specs.Judged.Judged.{Passes}
 use Rattle.mig_bytes.specs.Sequences.{onward}
-use Rattle.mig_causes.specs.declared.fault.Cause.{Cause}
-use Rattle.mig_causes.specs.declared.fault.Place.{Place}
-use Rattle.mig_causes.specs.declared.fault.Place.TheVariants.{Record}
+use Rattle.mig_headers.specs.declared.fault.Cause.{Cause}
+use Rattle.mig_headers.specs.declared.fault.Place.{Place}
+use Rattle.mig_headers.specs.declared.fault.Place.TheVariants.{Record}
 use Rattle.mig_pvtables.specs.Faults.{fault_of_guest}
 use Rattle.mig_libxc.specs.Judging.{Opening, before, record_at}
 use Rattle.mig_libxc.specs.Mean.{sent}

@@ -2,8 +2,8 @@
 use Rattle.std.specs.Prelude.{◌≡◌, ℕ, false, List, [], ◌++◌}
 use Rattle.mig_bytes.specs.Judged.{◌>>=◌}
 use Rattle.mig_bytes.specs.Judged.Judged.{Passes}
-use Rattle.mig_causes.specs.declared.fault.Cause.{Cause}
-use Rattle.mig_causes.specs.declared.fault.Place.{Place}
+use Rattle.mig_headers.specs.declared.fault.Cause.{Cause}
+use Rattle.mig_headers.specs.declared.fault.Place.{Place}
 use Rattle.mig_libxl.specs.Stream.{StreamOf, stream_at, IsStreamRefused}
 use Rattle.mig_libxc.specs.Stream.{image_at}
 use Rattle.mig_passable.specs.Causes.{is_unasked}

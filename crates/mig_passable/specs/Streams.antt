@@ -9,10 +9,10 @@ use Rattle.mig_bytes.specs.Sequences.{onward}
 use Rattle.mig_emulators.specs.Content.{LibxlRecord, LibxlContent}
 use Rattle.mig_emulators.specs.Content.LibxlContent.{Image, Pairs}
 use Rattle.mig_headers.specs.Headers.{libxl_ident}
-use Rattle.mig_causes.specs.declared.fault.Cause.{Cause}
-use Rattle.mig_causes.specs.declared.fault.Cause.TheVariants.{Truncated}
-use Rattle.mig_causes.specs.declared.fault.Place.{Place}
-use Rattle.mig_causes.specs.declared.fault.Place.TheVariants.{LibxlHeader, LibxlRecord as AtRecord}
+use Rattle.mig_headers.specs.declared.fault.Cause.{Cause}
+use Rattle.mig_headers.specs.declared.fault.Cause.TheVariants.{Truncated}
+use Rattle.mig_headers.specs.declared.fault.Place.{Place}
+use Rattle.mig_headers.specs.declared.fault.Place.TheVariants.{LibxlHeader, LibxlRecord as AtRecord}
 use Rattle.mig_libxl.specs.Among.{is_libxl_ended}
 use Rattle.mig_libxl.specs.Judging.{emulator_key, fault_of_context, context_at, skipped_at, libxl_head_at}
 use Rattle.mig_libxl.specs.Stream.{StreamOf, header_at}

@@ -5,8 +5,8 @@ use Rattle.std.specs.Io.KnownBytes.{Consumes, Appends}
 use Rattle.mig_bytes.specs.Bytes.{AppendsPart}
 use Rattle.mig_bytes.specs.Faults.{Rose}
 use Rattle.mig_bytes.specs.Judged.Judged.{Passes}
-use Rattle.mig_causes.specs.declared.fault.Cause.{Cause}
-use Rattle.mig_causes.specs.declared.fault.Place.{Place}
+use Rattle.mig_headers.specs.declared.fault.Cause.{Cause}
+use Rattle.mig_headers.specs.declared.fault.Place.{Place}
 use Rattle.mig_libxl.specs.Stream.{StreamOf}
 use Rattle.mig_passable.specs.Streams.{open_stream_at, IsOpenRefused}
 use Rattle.mig_relay.specs.Relaying.{PassedWhole, PassedPart, IsRelayed}

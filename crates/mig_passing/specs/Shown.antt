@@ -3,8 +3,8 @@ use Rattle.std.specs.Prelude.{◌≡◌, ℕ, List, Option, Some, None, ⊤}
 use Rattle.std.specs.Io.KnownBytes.{Appends}
 use Rattle.serde_json.specs.Data.{Data}
 use Rattle.mig_bytes.specs.Bytes.{AppendsPart}
-use Rattle.mig_causes.specs.declared.fault.Cause.{Cause}
-use Rattle.mig_causes.specs.declared.fault.Place.{Place}
+use Rattle.mig_headers.specs.declared.fault.Cause.{Cause}
+use Rattle.mig_headers.specs.declared.fault.Place.{Place}
 use Rattle.mig_show.specs.Shows.{Shows, tree_line}
 use Rattle.mig_report.specs.declared.status.Status.{Status}
 use Rattle.mig_report.specs.declared.status.Status.TheVariants as statuses

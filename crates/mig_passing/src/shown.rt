@@ -11,7 +11,7 @@ ghost use Rattle.mig_passing.specs.ShownSteps.{outcome_of_shown, outcome_of_unsh
 ghost use Rattle.mig_report.specs.Statuses.{InputRises, NoneFailed, OutputRises, ReportsStatus};
 
 use mig_bytes::{Sink, Source, put_all};
-use mig_causes::{Cause, Place};
+use mig_headers::{Cause, Place};
 use mig_report::{Outcome, Refusal, Status, finish};
 use mig_show::{ShowAnswer, ShownText, show_text};
 use std::alloc::Global;

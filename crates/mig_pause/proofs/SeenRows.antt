@@ -8,8 +8,8 @@ use Rattle.std.specs.FinMap.{nat_cmp-IsAntisymmetric}
 use Rattle.std.proofs.lemmas.Bool.{eqb-true}
 use Rattle.mig_headers.specs.declared.kind.Kind.{Kind}
 use Rattle.mig_headers.specs.declared.kind.Kind.TheVariants.{Pv}
-use Rattle.mig_causes.specs.declared.unsound.Unsound.{Unsound}
-use Rattle.mig_causes.specs.declared.unsound.Unsound.TheVariants.{P2mFrame, BadContext}
+use Rattle.mig_headers.specs.declared.unsound.Unsound.{Unsound}
+use Rattle.mig_headers.specs.declared.unsound.Unsound.TheVariants.{P2mFrame, BadContext}
 use Rattle.mig_pagetypes.specs.declared.page_type.PageType.{PageType}
 use Rattle.mig_guest.specs.declared.part_key.PartKey.{PartKey}
 use Rattle.mig_guest.specs.declared.part_code.PartCode.TheVariants.{VcpuBasic, HvmContext}

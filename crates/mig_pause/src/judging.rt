@@ -13,8 +13,8 @@ ghost use Rattle.mig_pause.specs.Paused.{standing_seen, HasTypes, first_in_table
 use crate::contexts::rename_contexts;
 use crate::listing::misplaced_by_type;
 use mig_bytes::Failed;
-use mig_causes::Unsound;
 use mig_guest::{Guest, PartCode};
+use mig_headers::Unsound;
 use mig_hosted::large_gdt;
 use mig_machine_api::Machine;
 use mig_pagetypes::PageType;

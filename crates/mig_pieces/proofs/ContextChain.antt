@@ -3,8 +3,8 @@ use Rattle.std.proofs.Common.{◌≡◌, ◌≢◌, ℕ, ◌+◌, ◌<◌, ◌�
 use Rattle.std.proofs.lemmas.Grind.{common_steps}
 use Rattle.mig_bytes.specs.Fields.{le16, le32}
 use Rattle.mig_headers.specs.Contexts.{ChainTo, scan, fault_at, is_last}
-use Rattle.mig_causes.specs.declared.fault.ContextFault.{ContextFault}
-use Rattle.mig_causes.specs.declared.fault.ContextFault.TheVariants.{NoHeader, HeaderSize, ShortEntry, NoEnd}
+use Rattle.mig_headers.specs.declared.fault.ContextFault.{ContextFault}
+use Rattle.mig_headers.specs.declared.fault.ContextFault.TheVariants.{NoHeader, HeaderSize, ShortEntry, NoEnd}
 use Rattle.mig_headers.proofs.Chains.{scan_is}
 use Rattle.mig_headers.proofs.ContextTexts.{in16, in32, past16, past32}
 use Rattle.mig_pieces.specs.declared.chain.Chain.{Chain}

@@ -8,8 +8,8 @@ use Rattle.mig_bodies.specs.PvBodies.{fault_of_pv_info, fault_of_p2m}
 use Rattle.mig_bodies.specs.Shapes.{fault_of_body, fault_of_content}
 use Rattle.mig_guest.specs.declared.part_code.PartCode.TheVariants.{VcpuBasic, VcpuExtended, HvmParam}
 use Rattle.mig_headers.proofs.ContextTexts.{in32}
-use Rattle.mig_causes.specs.declared.fault.Cause.{Cause}
-use Rattle.mig_causes.specs.declared.fault.Cause.TheVariants.{BadLength}
+use Rattle.mig_headers.specs.declared.fault.Cause.{Cause}
+use Rattle.mig_headers.specs.declared.fault.Cause.TheVariants.{BadLength}
 use Rattle.mig_libxl.specs.Judging.{fault_of_context}
 use Rattle.mig_policy.specs.PairFaults.{pairs_fault}
 use Rattle.mig_pieces.specs.Begun.{piece_of, FitsForm, fault_of_form, params, IsKnown}

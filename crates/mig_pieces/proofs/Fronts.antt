@@ -15,9 +15,9 @@ use Rattle.mig_bodies.specs.Shapes.{fault_by_shape, fault_of_body, fault_of_cont
 use Rattle.mig_bodies.specs.declared.shape.Shape.TheVariants.{Named}
 use Rattle.mig_guest.specs.declared.part_code.PartCode.{PartCode}
 use Rattle.mig_guest.specs.declared.part_code.PartCode.TheVariants.{VcpuBasic, VcpuExtended, HvmParam}
-use Rattle.mig_causes.specs.Rows.{first_fault}
-use Rattle.mig_causes.specs.declared.fault.Cause.{Cause}
-use Rattle.mig_causes.specs.declared.fault.Cause.TheVariants.{BadLength, GdtEnts}
+use Rattle.mig_headers.specs.Rows.{first_fault}
+use Rattle.mig_headers.specs.declared.fault.Cause.{Cause}
+use Rattle.mig_headers.specs.declared.fault.Cause.TheVariants.{BadLength, GdtEnts}
 use Rattle.mig_headers.proofs.ContextTexts.{in32}
 use Rattle.mig_pieces.specs.Begun.{params}
 

@@ -8,7 +8,7 @@ use Rattle.mig_bodies.specs.Layouts.{fault_of_entries}
 use Rattle.mig_bodies.specs.Shapes.{fault_of_content, fault_of_scan}
 use Rattle.mig_guest.specs.declared.part_code.PartCode.TheVariants.{VcpuBasic, HvmParam}
 use Rattle.mig_headers.specs.Contexts.{scan}
-use Rattle.mig_causes.specs.declared.fault.Cause.{Cause}
+use Rattle.mig_headers.specs.declared.fault.Cause.{Cause}
 use Rattle.mig_policy.specs.PairFaults.{pairs_fault}
 use Rattle.mig_pieces.specs.Begun.{piece_of, piece_len, fault_behind, params, IsKnown, IsBegunBody}
 use Rattle.mig_pieces.specs.ContextChain.{IsBegunContext}

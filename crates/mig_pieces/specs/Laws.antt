@@ -1,7 +1,7 @@
 -- Laws: the body of each record is a part that is judged as a whole.
 use Rattle.std.specs.Prelude.{◌≡◌, ◌≢◌, ℕ, List, None}
 use Rattle.mig_bytes.specs.Judged.{said_at}
-use Rattle.mig_causes.specs.declared.fault.Cause.TheVariants.{Truncated}
+use Rattle.mig_headers.specs.declared.fault.Cause.TheVariants.{Truncated}
 use Rattle.mig_libxc.specs.Judging.{Before, fault_of_fields, body_at}
 use Rattle.mig_pieces.specs.Bodies.{fault_of_record_body, record_content}
 

@@ -2,7 +2,7 @@
 use Rattle.std.specs.Prelude.{ℕ, ◌+◌, false, not, Option, Some, None, ◌==◌, ◌||◌, nat_lt, if◌then◌else◌}
 use Rattle.std.specs.Option.{option_or}
 use Rattle.mig_headers.specs.Pairs.{is_key_byte}
-use Rattle.mig_causes.specs.declared.fault.Cause.{Cause}
+use Rattle.mig_headers.specs.declared.fault.Cause.{Cause}
 use Rattle.mig_policy.specs.PairFaults.{first_of}
 use Rattle.mig_pieces.specs.declared.pairs.Pairs.{Pairs}
 

@@ -1,6 +1,6 @@
 ghost use Rattle.std.specs.Prelude.{min, ◌≡◌, ◌≢◌, ◌≤◌, ◌<◌, ◌+◌, ◌++◌, List, ℕ, length, true, None, [], Some};
 ghost use Rattle.std.specs.declared.option.Option.{Option};
-ghost use Rattle.mig_causes.specs.declared.fault.Cause.{Cause};
+ghost use Rattle.mig_headers.specs.declared.fault.Cause.{Cause};
 ghost use Rattle.mig_headers.specs.RecordTypes.{most_body, record_row_of};
 ghost use Rattle.mig_headers.specs.Contexts.{scan};
 ghost use Rattle.mig_bodies.specs.Shapes.{fault_of_scan};
@@ -17,8 +17,7 @@ use crate::chain::{Chain, behind_piece, context_fault, next_piece};
 use crate::front::{behind_first, gdt_fault, params_fault};
 use crate::known::{BodyForm, FRONT, Knows, PIECE};
 use crate::pairs::{behind_bytes, pairs_fault};
-use mig_causes::Cause;
-use mig_headers::{RecordType, is_optional};
+use mig_headers::{Cause, RecordType, is_optional};
 use mig_libxl::{EMULATOR_CONTEXT, EMULATOR_XENSTORE_DATA};
 
 /// What is known of a body of which some first bytes were taken.

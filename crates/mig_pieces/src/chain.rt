@@ -1,13 +1,13 @@
 ghost use Rattle.std.specs.Prelude.{◌≡◌, ◌≤◌, ◌<◌, ◌+◌, ◌-◌, ◌++◌, List, ℕ, length, IfSome, IfNone as OnNone};
 ghost use Rattle.mig_bytes.specs.Fields.{le16, le32};
 ghost use Rattle.std.specs.declared.option.Option.{Option};
-ghost use Rattle.mig_causes.specs.declared.fault.ContextFault.{ContextFault};
+ghost use Rattle.mig_headers.specs.declared.fault.ContextFault.{ContextFault};
 ghost use Rattle.mig_headers.specs.Contexts.{ChainTo, scan};
 ghost use Rattle.mig_pieces.specs.declared.chain.Chain.TheVariants.{Judged};
 ghost use Rattle.mig_pieces.specs.ContextChain.{ChainSays, IsAhead, IsHeaderFault, IsBegunContext, fault_of_scanned, chain_piece};
 
 use mig_bytes::{u16_le, u32_le};
-use mig_causes::ContextFault;
+use mig_headers::ContextFault;
 
 /// What is known of an HVM context of which some first bytes were taken: a chain of entries, each a head of 8 bytes with the
 /// entry's typecode and length, and its data (Xen's public/arch-x86/hvm/save.h; libxc migration stream, "HVM_CONTEXT").

@@ -13,8 +13,8 @@ use crate::known::{BodyForm, FRONT, Knows, PARAM, PIECE};
 use crate::pairs::no_pairs;
 use mig_bodies::{GDT_ENTS, MAX_GDT_ENTS, SMALL_NUMBERS, body_fault, pv_info_fault};
 use mig_bytes::{u32_le, u64_le};
-use mig_causes::Cause;
 use mig_guest::PartCode;
+use mig_headers::Cause;
 
 /// Frame numbers whose machine frames one P2M frame holds.
 const IN_P2M_FRAME: u64 = 512;

@@ -3,7 +3,7 @@ ghost use Rattle.mig_pieces.specs.Begun.{first_piece};
 
 use crate::chain::Chain;
 use crate::pairs::Pairs;
-use mig_causes::Cause;
+use mig_headers::Cause;
 
 /// The most bytes of a piece.
 pub(crate) const PIECE: usize = 4096;

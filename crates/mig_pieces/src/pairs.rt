@@ -2,7 +2,7 @@ ghost use Rattle.std.specs.Prelude.{◌≡◌, ◌≤◌, ◌<◌, ◌+◌, ◌^
 ghost use Rattle.mig_policy.specs.PairFaults.{pairs_fault as fault_of};
 ghost use Rattle.mig_pieces.specs.PairPieces.{no_bytes, then_byte, bad_byte, torn_in, fault_in_pairs};
 
-use mig_causes::Cause;
+use mig_headers::Cause;
 use mig_policy::may_be_in_key;
 
 /// What is known of pairs of texts of which some first bytes were taken.

@@ -7,8 +7,8 @@ use Rattle.std.proofs.lemmas.List.Splits.{slice_split_at, slice_split_none, slic
 use Rattle.std.proofs.lemmas.List.Elements.{All-from_recursion, recursion_from_All, All-weaker, All-nil, All-cons, All-head, All-append, All-same}
 use Rattle.std.proofs.lemmas.List.Sums.{fails_before_first, prefix_len-le-length}
 use Rattle.mig_headers.specs.Pairs.{Pair, IsPair, is_key_byte, text_of_pair, texts_in}
-use Rattle.mig_causes.specs.declared.fault.Cause.{Cause}
-use Rattle.mig_causes.specs.declared.fault.Cause.TheVariants.{BadPairs, BadKey}
+use Rattle.mig_headers.specs.declared.fault.Cause.{Cause}
+use Rattle.mig_headers.specs.declared.fault.Cause.TheVariants.{BadPairs, BadKey}
 use Rattle.mig_policy.specs.PairFaults.{HasNoZero, ended, SpellPairs, IsTornAt, IsBadKeyAt, IsFirstFault, FirstFaultIsComputed, torn_at, bad_key_at, fine_len, first_of, pairs_fault}
 use Rattle.mig_policy.specs.PairMaps.{pairs_of, pairs_in, PairsAreRead}
 use Rattle.mig_policy.proofs.TextSteps.{torn_cons, pairs_cons, some_texts, bad_here}

@@ -3,8 +3,8 @@
 use Rattle.std.specs.Prelude.{◌≡◌, ◌⊎◌, ◌<◌, ◌+◌, ◌%◌, ℕ, Bool, true, false, not, List, [], ◌∷◌, ◌++◌, length, Option, Some, None, ◌==◌, nat_lt, ◌||◌, if◌then◌else◌, ◌↔◌}
 use Rattle.std.specs.List.{All, flat_map, position_or_len}
 use Rattle.mig_headers.specs.Pairs.{Pair, IsPair, is_key_byte, text_of_pair, texts_in}
-use Rattle.mig_causes.specs.declared.fault.Cause.{Cause}
-use Rattle.mig_causes.specs.declared.fault.Cause.TheVariants.{BadPairs, BadKey}
+use Rattle.mig_headers.specs.declared.fault.Cause.{Cause}
+use Rattle.mig_headers.specs.declared.fault.Cause.TheVariants.{BadPairs, BadKey}
 
 -- ---- in words
 

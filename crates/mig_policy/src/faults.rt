@@ -5,7 +5,7 @@ ghost use Rattle.mig_policy.specs.PairFaults.{torn_at, bad_key_at, fine_len, pai
 
 use crate::pairs::may_be_in_key;
 use crate::texts::split_text;
-use mig_causes::Cause;
+use mig_headers::Cause;
 
 /// Where the first byte stands that no key may have.
 fn first_not_allowed(key: &[u8]) -> Option<usize>

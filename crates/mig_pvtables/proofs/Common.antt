@@ -24,7 +24,7 @@ pub use Rattle.mig_guest.specs.Tables.{EachEntry, IsWithin, blanked_table, entry
 pub use Rattle.mig_guest.specs.declared.part_key.PartKey.{PartKey}
 pub use Rattle.mig_guest.specs.declared.table.Entry.{Entry}
 pub use Rattle.mig_guest.specs.declared.table.Entry.TheVariants.{Blank, Frame, NotPresent, Superpage}
-pub use Rattle.mig_causes.specs.declared.fault.Cause.TheVariants.{Missing, TooManyFrames}
+pub use Rattle.mig_headers.specs.declared.fault.Cause.TheVariants.{Missing, TooManyFrames}
 pub use Rattle.mig_headers.specs.declared.kind.Kind.TheVariants.{Hvm, Pv}
 pub use Rattle.mig_pagetypes.specs.Limits.{most_frames, pfn_limit}
 pub use Rattle.mig_pagetypes.specs.PageTypes.{level_of, type_has_data}

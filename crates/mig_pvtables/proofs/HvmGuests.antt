@@ -2,8 +2,8 @@
 use Rattle.mig_pvtables.proofs.Common.{◌≡◌, ◌∷◌, [], length, Bool, true, false, cond, nat_lt, Some, None, is_none, IsSome, refl, sym, ap, ◌∙◌, option_or, Missing, TooManyFrames, Hvm, most_frames, IsFew, GuestOf, context_key, IsFormed, blank, blank_of, first_cause, faults_for, fault_of_guest, IsWhole}
 use Rattle.std.specs.Prelude.{◌↔◌}
 use Rattle.std.specs.FinMap as maps
-use Rattle.mig_causes.specs.Rows.{first_fault}
-use Rattle.mig_causes.specs.declared.fault.Cause.{Cause}
+use Rattle.mig_headers.specs.Rows.{first_fault}
+use Rattle.mig_headers.specs.declared.fault.Cause.{Cause}
 use Rattle.mig_pvtables.proofs.Searches.{all_none, is_there, are_few}
 
 pub hvm_blank : (g : GuestOf) → g.kind ≡ Hvm → blank g ≡ g

@@ -5,7 +5,7 @@ use Rattle.std.proofs.lemmas.List.Elements.{All-head, All-tail}
 use Rattle.std.proofs.lemmas.List.Folds.{list_any_at}
 use Rattle.std.proofs.lemmas.List.FromFn.{length-range_with_len, get_or-range_with_len}
 use Rattle.std.proofs.lemmas.List.Recursion.{or_from_places}
-use Rattle.mig_causes.proofs.FirstFaults.{both_none}
+use Rattle.mig_headers.proofs.FirstFaults.{both_none}
 
 pub none_of : {X : Type 0} (o : Option X) → is_some o ≡ false → o ≡ None
 none_of None is = refl

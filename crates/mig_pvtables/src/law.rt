@@ -1,7 +1,7 @@
 ghost use Rattle.std.specs.Prelude.{◌≡◌, ◌↔◌, ◌<◌, ◌∷◌, [], ℕ, List, length, is_none, nat_lt, None, IsSome};
 ghost use Rattle.std.specs.FinMap as maps;
-ghost use Rattle.mig_causes.specs.Rows.{first_fault};
-ghost use Rattle.mig_causes.specs.declared.fault.Cause.TheVariants.{Missing, TooManyFrames};
+ghost use Rattle.mig_headers.specs.Rows.{first_fault};
+ghost use Rattle.mig_headers.specs.declared.fault.Cause.TheVariants.{Missing, TooManyFrames};
 ghost use Rattle.mig_headers.specs.declared.kind.Kind.TheVariants.{Pv, Hvm};
 ghost use Rattle.mig_pagetypes.specs.Limits.{most_frames};
 ghost use Rattle.mig_guest.specs.Formed.{IsFormed};

@@ -6,8 +6,8 @@ ghost use Rattle.mig_guest.specs.Tables.{entry as what_is_said, named_frame};
 ghost use Rattle.mig_pvtables.specs.Tables.{first_superpage, first_outside, fault_of_page_table, with_frame, is_superpage, names_above};
 
 use mig_bytes::{put_u64_le, u64_le};
-use mig_causes::Cause;
 use mig_guest::Entry;
+use mig_headers::Cause;
 
 /// How many entries a table has.
 pub(crate) const SLOTS: usize = 512;

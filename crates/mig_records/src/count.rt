@@ -1,7 +1,7 @@
 ghost use Rattle.std.specs.Prelude.{◌≡◌};
 ghost use Rattle.mig_records.specs.Faults.{fault_of_count};
 
-use mig_causes::Cause;
+use mig_headers::Cause;
 
 /// What is wrong with the count in the first 8 bytes of a PAGE_DATA whose body has this length.
 pub fn count_fault(len: u32, count: u32) -> Option<Cause>

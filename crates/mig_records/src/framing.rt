@@ -3,12 +3,12 @@ ghost use Rattle.mig_bytes.specs.Bytes.{padding_len};
 ghost use Rattle.mig_bytes.specs.Faults.{RisesOnReadFault};
 ghost use Rattle.mig_bytes.specs.Judged.{Gives, part};
 ghost use Rattle.mig_bytes.specs.declared.stop.Stop.TheVariants.{Memory};
-ghost use Rattle.mig_causes.specs.declared.fault.Cause.TheVariants.{Truncated};
+ghost use Rattle.mig_headers.specs.declared.fault.Cause.TheVariants.{Truncated};
 ghost use Rattle.mig_records.specs.Heads.{head_in};
 
 use crate::RecordHead;
 use mig_bytes::{Source, Stop, pad_len, take_part};
-use mig_causes::Cause;
+use mig_headers::Cause;
 
 /// Takes a record's head, of a libxc image or of a libxl stream.
 pub fn take_head<S: Source>(src: &mut S) -> Result<RecordHead, Stop<Cause>>

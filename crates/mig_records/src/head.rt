@@ -3,8 +3,7 @@ ghost use Rattle.mig_records.specs.Faults.{fault_of_long, fault_of_length};
 ghost use Rattle.mig_records.specs.Records.{head_of};
 
 use mig_bytes::{put_u32_le, u32_le};
-use mig_causes::Cause;
-use mig_headers::{MOST_BODY, RecordType};
+use mig_headers::{Cause, MOST_BODY, RecordType};
 
 /// The head of a record (libxc migration stream, "Records").
 #[derive(Clone, Copy, Debug, PartialEq, Eq)]

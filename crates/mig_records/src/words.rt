@@ -3,8 +3,7 @@ ghost use Rattle.mig_pagetypes.specs.FrameWords.{word_type, word_pfn, word_has_d
 ghost use Rattle.mig_records.specs.Words.{has_reserved_type, names_outside, data_len_of};
 ghost use Rattle.mig_records.specs.Faults.{fault_of_words};
 
-use mig_causes::Cause;
-use mig_headers::Kind;
+use mig_headers::{Cause, Kind};
 use mig_pagetypes::decode_word;
 
 /// The number of the type in a word.

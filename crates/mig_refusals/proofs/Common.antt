@@ -31,29 +31,29 @@ pub use Rattle.mig_bytes.specs.Walk.{walk_end}
 pub use Rattle.mig_bytes.specs.Walk.Reaches.{here, next as next_reached}
 pub use Rattle.mig_headers.proofs.Chains.{chain_more, gone, none_of, not_last, scan_is}
 pub use Rattle.mig_headers.proofs.ContextTexts.{in32}
-pub use Rattle.mig_causes.proofs.FirstCauses.{Names, ascends, is_named, join, rows_name}
-pub use Rattle.mig_causes.proofs.FirstFaults.{neither_some}
+pub use Rattle.mig_headers.proofs.FirstCauses.{Names, ascends, is_named, join, rows_name}
+pub use Rattle.mig_headers.proofs.FirstFaults.{neither_some}
 pub use Rattle.mig_headers.proofs.RecordNumbers.{numbers_are_inverse}
 unfoldable pub use Rattle.mig_headers.specs.Contexts.{after_entry, fault_at, scan}
 pub use Rattle.mig_headers.specs.Contexts.{ChainTo, Scanned, entry_end, is_last, scan_at}
-pub use Rattle.mig_causes.specs.FirstCauses.{IsEarlier, IsTriedFirst}
+pub use Rattle.mig_headers.specs.FirstCauses.{IsEarlier, IsTriedFirst}
 pub use Rattle.mig_headers.specs.Headers.{domain_rows, fault_of_domain, fault_of_image, fault_of_libxl, fault_of_marker, image_rows, is_from_legacy, kind_of_number, libxl_ident, marker_rows}
-pub use Rattle.mig_causes.specs.CauseNumbers.{number_of_cause, number_of_legacy_cause}
+pub use Rattle.mig_headers.specs.CauseNumbers.{number_of_cause, number_of_legacy_cause}
 pub use Rattle.mig_headers.specs.RecordTypes.{is_optional, pv, record_row_of, type_number, type_of_number}
-pub use Rattle.mig_causes.specs.Rows.{first_fault}
-pub use Rattle.mig_causes.specs.declared.fault.Cause.{Cause}
-pub use Rattle.mig_causes.specs.declared.fault.Cause.TheVariants.{BadContext, BadEmulator, BadKey, BadLength, BadPageType, BadPairs, BadPvInfo, BodyTooLong, EmulatorIndex, GdtEnts, Missing, OutOfOrder, P2mFrame, P2mStart, ParamIndex, PfnOutside, Pv32, TargetAbsent, TooManyFrames, TooManyPairs, TooManyRecords, Truncated, UnknownMandatory, Unsupported, VcpuFrame, VcpuId, WrongKind}
-pub use Rattle.mig_causes.specs.declared.fault.ContextFault.{ContextFault}
-pub use Rattle.mig_causes.specs.declared.fault.ContextFault.TheVariants.{HeaderSize, NoEnd, NoHeader, ShortEntry}
-pub use Rattle.mig_causes.specs.declared.fault.Place.{Place}
-pub use Rattle.mig_causes.specs.declared.fault.Place.TheVariants.{DomainHeader, ImageHeader, LibxlHeader, LibxlRecord as AtRecord, Record}
-pub use Rattle.mig_causes.specs.declared.image_fault.ImageCause.{ImageCause}
-pub use Rattle.mig_causes.specs.declared.image_fault.ImagePlace.{ImagePlace}
+pub use Rattle.mig_headers.specs.Rows.{first_fault}
+pub use Rattle.mig_headers.specs.declared.fault.Cause.{Cause}
+pub use Rattle.mig_headers.specs.declared.fault.Cause.TheVariants.{BadContext, BadEmulator, BadKey, BadLength, BadPageType, BadPairs, BadPvInfo, BodyTooLong, EmulatorIndex, GdtEnts, Missing, OutOfOrder, P2mFrame, P2mStart, ParamIndex, PfnOutside, Pv32, TargetAbsent, TooManyFrames, TooManyPairs, TooManyRecords, Truncated, UnknownMandatory, Unsupported, VcpuFrame, VcpuId, WrongKind}
+pub use Rattle.mig_headers.specs.declared.fault.ContextFault.{ContextFault}
+pub use Rattle.mig_headers.specs.declared.fault.ContextFault.TheVariants.{HeaderSize, NoEnd, NoHeader, ShortEntry}
+pub use Rattle.mig_headers.specs.declared.fault.Place.{Place}
+pub use Rattle.mig_headers.specs.declared.fault.Place.TheVariants.{DomainHeader, ImageHeader, LibxlHeader, LibxlRecord as AtRecord, Record}
+pub use Rattle.mig_headers.specs.declared.image_fault.ImageCause.{ImageCause}
+pub use Rattle.mig_headers.specs.declared.image_fault.ImagePlace.{ImagePlace}
 pub use Rattle.mig_headers.specs.declared.kind.Kind.{Kind}
 pub use Rattle.mig_headers.specs.declared.kind.Kind.TheVariants.{Hvm, Pv}
-pub use Rattle.mig_causes.specs.declared.legacy_fault.LegacyCause.{LegacyCause}
-pub use Rattle.mig_causes.specs.declared.legacy_fault.LegacyCause.TheVariants.{BadContext as LegacyBadContext, BadPageType as LegacyBadPageType, BadToolstack, BatchTooLarge, TooManyPairs as LegacyTooManyPairs, WordHigh}
-pub use Rattle.mig_causes.specs.declared.legacy_fault.LegacyPlace.{LegacyPlace}
+pub use Rattle.mig_headers.specs.declared.legacy_fault.LegacyCause.{LegacyCause}
+pub use Rattle.mig_headers.specs.declared.legacy_fault.LegacyCause.TheVariants.{BadContext as LegacyBadContext, BadPageType as LegacyBadPageType, BadToolstack, BatchTooLarge, TooManyPairs as LegacyTooManyPairs, WordHigh}
+pub use Rattle.mig_headers.specs.declared.legacy_fault.LegacyPlace.{LegacyPlace}
 pub use Rattle.mig_headers.specs.declared.record_type.RecordType.{RecordType}
 pub use Rattle.mig_headers.specs.declared.record_type.RecordType.TheVariants.{End, PageData, StaticDataEnd, Verify, X86PvInfo, X86PvP2mFrames}
 pub use Rattle.mig_pagetypes.specs.FrameWords.{word_has_data, word_pfn, word_type}

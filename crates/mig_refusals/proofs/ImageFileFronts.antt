@@ -8,8 +8,8 @@ use Rattle.mig_bytes_form.proofs.Joined.{begins_paired, begins_then, bytes_spell
 use Rattle.mig_bytes_form.proofs.ByParts.{placed_goes}
 use Rattle.mig_bytes_form.proofs.Tests.{none_is}
 use Rattle.mig_bytes_form.proofs.Verdicts.{begins_passes, passes_is_spelled}
-use Rattle.mig_causes.specs.declared.image_fault.ImageCause.TheVariants.{Truncated}
-use Rattle.mig_causes.specs.declared.image_fault.ImagePlace.TheVariants as places
+use Rattle.mig_headers.specs.declared.image_fault.ImageCause.TheVariants.{Truncated}
+use Rattle.mig_headers.specs.declared.image_fault.ImagePlace.TheVariants as places
 use Rattle.mig_image.proofs.ImageBack.{head_fine}
 use Rattle.mig_refusals.specs.ImageFile.{all_frames, up_to_count, head_and_frames, count_and_parts}
 use Rattle.mig_refusals.specs.ImageFileFronts.{EndsInFrames, EndsInParts}

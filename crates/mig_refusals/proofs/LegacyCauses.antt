@@ -3,7 +3,7 @@ use Rattle.mig_refusals.proofs.Common.{cond, not, sent, Hvm, common_steps, signa
 use Rattle.std.proofs.lemmas.Slice.Eq.{bytes_eq-Decides}
 use Rattle.std.specs.FinMap as maps
 use Rattle.mig_legacy.specs.Legacy.{has_value, image_records}
-use Rattle.mig_causes.proofs.FirstCauses as firsts
+use Rattle.mig_headers.proofs.FirstCauses as firsts
 use Rattle.mig_refusals.proofs.ContextEntries.{found_has, reached_chain}
 use Rattle.mig_refusals.proofs.LibxcCauses.{scan_finds, scanned}
 use Rattle.mig_refusals.specs.Legacy.{WordsHave, LegacyContextHas, ComputedCausesStand, LegacyCausesAscend, LegacyTestsSay, word_place}

@@ -1,6 +1,6 @@
 -- The causes that stand in the head of an image's record.
 use Rattle.mig_refusals.proofs.Common.{◌≡◌, ◌⊎◌, inl, inr, ℕ, ◌^◌, List, [], ◌∷◌, ◌++◌, length, Bool, true, false, nat_le, nat_lt, nat_eq, not, Option, Some, None, refl, sym, ap, subst, ◌∙◌, arith, leb-true, leb-false, ltb-true, eqb-true, le-leb, lt-leb, lt-ltb, false≢true, not-true, and_parts, and_from, not_from_false, or_left, or_right, or_cases, option_or, common_steps, first_fault, Cause, UnknownMandatory, OutOfOrder, BadLength, TooManyRecords, Unsupported, WrongKind, Kind, Pv, Hvm, type_allows, fault_of_long, Opening, Before, most_records, fault_of_number, HeadHas, Breaks, ◌&&◌, ◌||◌, same_Some, record_row_of, pv, type_number, type_of_number, is_optional, numbers_are_inverse, RecordType, PageData, Verify, X86PvInfo, X86PvP2mFrames, StaticDataEnd, earlier_in, is_of, static_records, content_records, broken_rules, fault_of_type, late_static, fault_of_fields, ascends, join, number_of_cause, BodyTooLong, End}
-use Rattle.mig_causes.proofs.FirstCauses as firsts
+use Rattle.mig_headers.proofs.FirstCauses as firsts
 use Rattle.mig_refusals.specs.Libxc.HeadHas.{too_many, bad_length, out_of_order, wrong_kind, unknown, unsupported, too_long}
 use Rattle.mig_refusals.specs.Libxc.Breaks.{second_end, static_after_end, static_after_content, early_content, second_pv_info, early_p2m_frames, early_pages, late_pages, second_verify, late_verify}
 use Rattle.mig_refusals.specs.Libxc.{HeadHas as has, Breaks as broken}

@@ -1,6 +1,6 @@
 -- The causes that stand in the page tables of a PV guest, and in the bodies of the records that only it has.
 use Rattle.mig_refusals.proofs.Common.{◌≡◌, ◌⊎◌, inl, inr, ℕ, ◌+◌, ◌*◌, ◌<◌, List, [], ◌∷◌, length, drop, Bool, true, false, nat_le, nat_lt, nat_eq, not, slice_index, refl, sym, ap, subst, ◌∙◌, arith, leb-true, ltb-true, eqb-true, eqb-false, ne_eqb, eq-eqb, le-leb, lt-ltb, and_parts, and_from, common_steps, le32, first_fault, Cause, ◌&&◌, number_of_cause, BadLength, Pv32, BadPvInfo, P2mStart, VcpuId, GdtEnts, gdt_ents, PartCode, VcpuBasic, fault_of_pv_info, p2m_count, fault_of_p2m, fault_of_vcpu, long_at, entry, named_frame, Entry, Superpage, Frame, fault_of_page_table, is_superpage, names_above, TableHas, InfoHas, P2mHas, VcpuHas, table_entry_of}
-use Rattle.mig_causes.specs.declared.fault.Cause.TheVariants as causes
+use Rattle.mig_headers.specs.declared.fault.Cause.TheVariants as causes
 use Rattle.mig_refusals.specs.LibxcPv.TableHas.{superpage, outside}
 use Rattle.mig_refusals.specs.LibxcPv.InfoHas.{width_4, other_width, other_levels}
 use Rattle.mig_refusals.specs.LibxcPv.P2mHas.{bad_length, late_start}

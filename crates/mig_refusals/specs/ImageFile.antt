@@ -5,13 +5,13 @@ use Rattle.std.specs.FinMap as maps
 use Rattle.mig_bytes.specs.Fields.{le64}
 use Rattle.mig_bytes_form.specs.Form.{FormOf, ◌>>>◌, placed_form, paired, BeginsAs, RefusedAs}
 use Rattle.mig_bytes_form.specs.Tests.{is_ascending}
-use Rattle.mig_causes.specs.CauseNumbers.{number_of_image_cause}
+use Rattle.mig_headers.specs.CauseNumbers.{number_of_image_cause}
 use Rattle.mig_headers.specs.Pairs.{AreCanonicalPairs, are_canonical_pairs}
 use Rattle.mig_headers.specs.declared.kind.Kind.{Kind}
 use Rattle.mig_headers.specs.declared.kind.Kind.TheVariants.{Hvm}
-use Rattle.mig_causes.specs.declared.image_fault.ImageCause.{ImageCause}
-use Rattle.mig_causes.specs.declared.image_fault.ImagePlace.{ImagePlace}
-use Rattle.mig_causes.specs.declared.image_fault.ImagePlace.TheVariants as places
+use Rattle.mig_headers.specs.declared.image_fault.ImageCause.{ImageCause}
+use Rattle.mig_headers.specs.declared.image_fault.ImagePlace.{ImagePlace}
+use Rattle.mig_headers.specs.declared.image_fault.ImagePlace.TheVariants as places
 use Rattle.mig_guest.specs.Frames.{is_type_of}
 use Rattle.mig_guest.specs.Hosts.{HostOf, HostFrame}
 use Rattle.mig_guest.specs.Order.{IsAbove}

@@ -5,15 +5,15 @@ use Rattle.std.specs.Str.{bytes_eq}
 use Rattle.mig_bytes.specs.Sequences.{Spells}
 use Rattle.mig_bytes_form.specs.Form.{RefusedAs}
 use Rattle.mig_bytes_form.specs.Tests.{is_ascending}
-use Rattle.mig_causes.specs.CauseNumbers.{number_of_legacy_cause}
+use Rattle.mig_headers.specs.CauseNumbers.{number_of_legacy_cause}
 use Rattle.mig_headers.specs.Contexts.{scan}
-use Rattle.mig_causes.specs.FirstCauses.{IsTriedFirst}
-use Rattle.mig_causes.specs.declared.fault.ContextFault.{ContextFault}
+use Rattle.mig_headers.specs.FirstCauses.{IsTriedFirst}
+use Rattle.mig_headers.specs.declared.fault.ContextFault.{ContextFault}
 use Rattle.mig_headers.specs.declared.kind.Kind.TheVariants.{Hvm}
-use Rattle.mig_causes.specs.declared.legacy_fault.LegacyCause.{LegacyCause}
-use Rattle.mig_causes.specs.declared.legacy_fault.LegacyCause.TheVariants.{BadPageType, WordHigh, BadContext}
-use Rattle.mig_causes.specs.declared.legacy_fault.LegacyPlace.{LegacyPlace}
-use Rattle.mig_causes.specs.declared.legacy_fault.LegacyPlace.TheVariants as places
+use Rattle.mig_headers.specs.declared.legacy_fault.LegacyCause.{LegacyCause}
+use Rattle.mig_headers.specs.declared.legacy_fault.LegacyCause.TheVariants.{BadPageType, WordHigh, BadContext}
+use Rattle.mig_headers.specs.declared.legacy_fault.LegacyPlace.{LegacyPlace}
+use Rattle.mig_headers.specs.declared.legacy_fault.LegacyPlace.TheVariants as places
 use Rattle.mig_pagetypes.specs.LegacyWords.{legacy_type}
 use Rattle.mig_libxc.specs.Mean.{sent}
 use Rattle.mig_emulators.specs.Emulators.{EmulatorsOf}

@@ -10,13 +10,13 @@ use Rattle.mig_bytes_form.specs.Form.FormOf.{Gives}
 use Rattle.mig_bytes_form.specs.Tests.{Test, computed, is_ascending}
 use Rattle.mig_bytes_form.specs.Tests.Test.{Less, AtMost, Equal, Is, Not, Both, Either}
 use Rattle.mig_headers.specs.RecordTypes.{most_body}
-use Rattle.mig_causes.specs.CauseNumbers.{number_of_cause}
+use Rattle.mig_headers.specs.CauseNumbers.{number_of_cause}
 use Rattle.mig_headers.specs.Headers.{libxl_ident, IsLibxlHeader}
 use Rattle.mig_headers.specs.Pairs.{Pair, AreRising, text_of_pair}
-use Rattle.mig_causes.specs.declared.fault.Cause.{Cause}
-use Rattle.mig_causes.specs.declared.fault.Cause.TheVariants.{Truncated, BadVersion, BigEndian, BodyTooLong, Unsupported, UnknownMandatory, BadLength, TooManyRecords, BadEmulator, EmulatorForPv, ContextCount, TooManyPairs, EmulatorIndex}
-use Rattle.mig_causes.specs.declared.fault.Place.{Place}
-use Rattle.mig_causes.specs.declared.fault.Place.TheVariants as places
+use Rattle.mig_headers.specs.declared.fault.Cause.{Cause}
+use Rattle.mig_headers.specs.declared.fault.Cause.TheVariants.{Truncated, BadVersion, BigEndian, BodyTooLong, Unsupported, UnknownMandatory, BadLength, TooManyRecords, BadEmulator, EmulatorForPv, ContextCount, TooManyPairs, EmulatorIndex}
+use Rattle.mig_headers.specs.declared.fault.Place.{Place}
+use Rattle.mig_headers.specs.declared.fault.Place.TheVariants as places
 use Rattle.mig_policy.specs.PairFaults.{pairs_fault}
 use Rattle.mig_policy.specs.PairMaps.{last_pair_value, pairs_in}
 use Rattle.mig_libxc.specs.Judging.{most_records}

@@ -12,11 +12,11 @@ use Rattle.mig_bytes.specs.Judged.{Judged, ◌>>=◌, part, Gives}
 use Rattle.mig_bytes.specs.declared.stop.Stop.{Stop}
 use Rattle.mig_bytes.proofs.Joins.{any_stop}
 use Rattle.mig_guest.specs.Guests.{GuestOf}
-use Rattle.mig_causes.proofs.FirstFaults.{rows_fine}
-use Rattle.mig_causes.specs.declared.fault.Cause.{Cause}
-use Rattle.mig_causes.specs.declared.fault.Cause.TheVariants.{Truncated, BadLength}
-use Rattle.mig_causes.specs.declared.fault.Place.{Place}
-use Rattle.mig_causes.specs.declared.fault.Place.TheVariants.{Record}
+use Rattle.mig_headers.proofs.FirstFaults.{rows_fine}
+use Rattle.mig_headers.specs.declared.fault.Cause.{Cause}
+use Rattle.mig_headers.specs.declared.fault.Cause.TheVariants.{Truncated, BadLength}
+use Rattle.mig_headers.specs.declared.fault.Place.{Place}
+use Rattle.mig_headers.specs.declared.fault.Place.TheVariants.{Record}
 use Rattle.mig_headers.specs.declared.kind.Kind.{Kind}
 use Rattle.mig_libxl.specs.Among.{image_among}
 use Rattle.mig_pagetypes.specs.FrameWords.{word_has_data}

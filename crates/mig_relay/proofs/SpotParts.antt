@@ -13,10 +13,10 @@ use Rattle.mig_emulators.specs.Content.{LibxlRecord, LibxlContent}
 use Rattle.mig_emulators.specs.Content.LibxlContent.{Nothing, Image, Pairs, Context}
 use Rattle.mig_headers.proofs.HeaderLaws.{marker_of}
 use Rattle.mig_headers.specs.Headers.{fault_of_marker, fault_of_libxl}
-use Rattle.mig_causes.specs.declared.fault.Cause.{Cause}
-use Rattle.mig_causes.specs.declared.fault.Cause.TheVariants.{Truncated}
-use Rattle.mig_causes.specs.declared.fault.Place.{Place}
-use Rattle.mig_causes.specs.declared.fault.Place.TheVariants.{ImageHeader, LibxlHeader, LibxlRecord as AtRecord}
+use Rattle.mig_headers.specs.declared.fault.Cause.{Cause}
+use Rattle.mig_headers.specs.declared.fault.Cause.TheVariants.{Truncated}
+use Rattle.mig_headers.specs.declared.fault.Place.{Place}
+use Rattle.mig_headers.specs.declared.fault.Place.TheVariants.{ImageHeader, LibxlHeader, LibxlRecord as AtRecord}
 use Rattle.mig_libxl.specs.Among.{is_libxl_ended}
 use Rattle.mig_libxl.specs.Judging.{emulator_key, fault_of_libxl_head, libxl_head_at}
 use Rattle.mig_libxl.specs.Stream.{StreamOf}

@@ -4,8 +4,8 @@ use Rattle.std.specs.Prelude.{◌≡◌, ◌≢◌, ◌≤◌, ◌+◌, ◌-◌,
 use Rattle.mig_bytes.specs.Bytes.{padding_len}
 use Rattle.mig_bytes.specs.Fields.{le32}
 use Rattle.mig_emulators.specs.Content.{LibxlRecord}
-use Rattle.mig_causes.specs.declared.fault.Place.{Place}
-use Rattle.mig_causes.specs.declared.fault.Place.TheVariants.{ImageHeader, DomainHeader, Record, LibxlHeader, LibxlRecord as AtRecord}
+use Rattle.mig_headers.specs.declared.fault.Place.{Place}
+use Rattle.mig_headers.specs.declared.fault.Place.TheVariants.{ImageHeader, DomainHeader, Record, LibxlHeader, LibxlRecord as AtRecord}
 use Rattle.mig_libxl.specs.Among.{image_among, image_in}
 use Rattle.mig_libxl.specs.Stream.{StreamOf}
 use Rattle.mig_pagetypes.specs.FrameWords.{word_has_data}

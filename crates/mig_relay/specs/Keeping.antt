@@ -5,7 +5,7 @@ use Rattle.mig_bytes.specs.Bytes.{padding_len}
 use Rattle.mig_bytes.specs.Fields.{le32}
 use Rattle.mig_emulators.specs.Content.{LibxlRecord}
 use Rattle.mig_headers.specs.RecordTypes.{most_body}
-use Rattle.mig_causes.specs.declared.fault.Cause.{Cause}
+use Rattle.mig_headers.specs.declared.fault.Cause.{Cause}
 use Rattle.mig_libxl.specs.Among.{is_libxl_ended, image_in, image_among}
 use Rattle.mig_libxl.specs.Behind.{AreBehind}
 use Rattle.mig_libxl.specs.Stream.{StreamOf, image_of_stream}

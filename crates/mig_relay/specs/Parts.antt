@@ -5,10 +5,10 @@ use Rattle.std.specs.Option.{option_or}
 use Rattle.mig_bytes.specs.Bytes.{padding_len}
 use Rattle.mig_bytes.specs.Judged.{Judged, ◌>>=◌, part, tried, each, placed, said_at}
 use Rattle.mig_bytes.specs.Judged.Judged.{Passes}
-use Rattle.mig_causes.specs.declared.fault.Cause.{Cause}
-use Rattle.mig_causes.specs.declared.fault.Cause.TheVariants.{Truncated}
-use Rattle.mig_causes.specs.declared.fault.Place.{Place}
-use Rattle.mig_causes.specs.declared.fault.Place.TheVariants.{DomainHeader, Record}
+use Rattle.mig_headers.specs.declared.fault.Cause.{Cause}
+use Rattle.mig_headers.specs.declared.fault.Cause.TheVariants.{Truncated}
+use Rattle.mig_headers.specs.declared.fault.Place.{Place}
+use Rattle.mig_headers.specs.declared.fault.Place.TheVariants.{DomainHeader, Record}
 use Rattle.mig_headers.specs.declared.kind.Kind.{Kind}
 use Rattle.mig_pagetypes.specs.FrameWords.{word_pfn}
 use Rattle.mig_passable.specs.Images.{open_image_at, open_records}

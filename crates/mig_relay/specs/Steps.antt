@@ -8,9 +8,9 @@ use Rattle.mig_bytes.specs.Judged.Judged.{Passes, Faulty}
 use Rattle.mig_bytes.specs.declared.stop.Stop.{Stop}
 use Rattle.mig_bytes.specs.declared.stop.Stop.TheVariants as stops
 use Rattle.mig_headers.specs.Headers.{libxl_ident, kind_of_number}
-use Rattle.mig_causes.specs.declared.fault.Cause.{Cause}
-use Rattle.mig_causes.specs.declared.fault.Cause.TheVariants.{Truncated}
-use Rattle.mig_causes.specs.declared.fault.Place.{Place}
+use Rattle.mig_headers.specs.declared.fault.Cause.{Cause}
+use Rattle.mig_headers.specs.declared.fault.Cause.TheVariants.{Truncated}
+use Rattle.mig_headers.specs.declared.fault.Place.{Place}
 use Rattle.mig_libxl.specs.Stream.{StreamOf}
 use Rattle.mig_records.specs.Heads.{head_in}
 use Rattle.mig_records.specs.Words.{words as words_in}

@@ -1,5 +1,4 @@
-use mig_causes::{Cause, Place};
-use mig_headers::Kind;
+use mig_headers::{Cause, Kind, Place};
 use mig_records::RecordHead;
 
 /// What a step passed on.

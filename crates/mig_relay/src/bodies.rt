@@ -16,7 +16,7 @@ ghost use Rattle.mig_libxc.specs.Record.{StreamRecord, Content};
 use crate::answer::{RelayAnswer, Step};
 use crate::state::{Coming, Relay, answer};
 use mig_bytes::{Sink, Source, pad_len, take_part, u32_le};
-use mig_causes::{Cause, Place};
+use mig_headers::{Cause, Place};
 use mig_libxl::RecordsBehind;
 use mig_records::RecordHead;
 

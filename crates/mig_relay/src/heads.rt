@@ -16,7 +16,7 @@ ghost use Rattle.mig_libxc.specs.Record.{StreamRecord, types_of};
 use crate::answer::{RelayAnswer, Step};
 use crate::state::{Coming, Relay, answer};
 use mig_bytes::{Sink, Source, take_part};
-use mig_causes::{Cause, Place};
+use mig_headers::{Cause, Place};
 use mig_libxl::{EMULATOR_CONTEXT, EMULATOR_XENSTORE_DATA, RecordsBehind, libxl_head_fault};
 use mig_pieces::BodySeen;
 use mig_records::RecordHead;

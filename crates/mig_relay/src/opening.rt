@@ -8,8 +8,7 @@ ghost use Rattle.mig_relay.specs.Steps.{StepMoved, RisesOnFault};
 use crate::answer::{RelayAnswer, Step};
 use crate::state::{Coming, Relay, answer};
 use mig_bytes::{Sink, Source, take_part};
-use mig_causes::{Cause, Place};
-use mig_headers::{DomainHeader, ImageHeader, LibxlHeader};
+use mig_headers::{Cause, DomainHeader, ImageHeader, LibxlHeader, Place};
 use mig_libxc::RecordsSeen;
 use mig_libxl::RecordsBehind;
 

@@ -16,8 +16,7 @@ ghost use Rattle.std.specs.Option.{option_or};
 use crate::answer::{RelayAnswer, Step};
 use crate::state::{Coming, Relay, answer};
 use mig_bytes::{Sink, Source, take_long, take_part, u32_le};
-use mig_causes::{Cause, Place};
-use mig_headers::Kind;
+use mig_headers::{Cause, Kind, Place};
 use mig_libxc::{meant, page_fault, type_in, words_of};
 use mig_records::{RecordHead, count_fault, data_len, words_fault};
 

@@ -13,8 +13,7 @@ ghost use Rattle.mig_relay.specs.declared.answer.Step.TheVariants.{Done};
 
 use crate::answer::{RelayAnswer, Relayed, Step};
 use mig_bytes::{Sink, Source, Stop, WriteFailed, put_all};
-use mig_causes::{Cause, Place};
-use mig_headers::Kind;
+use mig_headers::{Cause, Kind, Place};
 use mig_libxc::RecordsSeen;
 use mig_libxl::RecordsBehind;
 use mig_pieces::BodySeen;

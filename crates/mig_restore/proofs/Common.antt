@@ -8,10 +8,10 @@ pub use Rattle.mig_bytes.specs.Fields.{le32}
 pub use Rattle.mig_bytes.specs.Judged.{Gives, Judged, part, placed, stop_at, ◌>>=◌}
 pub use Rattle.mig_bytes.specs.Judged.Judged.{Passes}
 pub use Rattle.mig_bytes.specs.declared.stop.Stop.{Stop}
-pub use Rattle.mig_causes.specs.declared.fault.Cause.{Cause}
-pub use Rattle.mig_causes.specs.declared.fault.Cause.TheVariants.{Truncated}
-pub use Rattle.mig_causes.specs.declared.fault.Place.{Place}
-pub use Rattle.mig_causes.specs.declared.fault.Place.TheVariants.{DomainHeader, ImageHeader, Record}
+pub use Rattle.mig_headers.specs.declared.fault.Cause.{Cause}
+pub use Rattle.mig_headers.specs.declared.fault.Cause.TheVariants.{Truncated}
+pub use Rattle.mig_headers.specs.declared.fault.Place.{Place}
+pub use Rattle.mig_headers.specs.declared.fault.Place.TheVariants.{DomainHeader, ImageHeader, Record}
 pub use Rattle.mig_guest.specs.Formed.{IsInside}
 pub use Rattle.mig_guest.specs.Guests.{GuestOf}
 pub use Rattle.mig_guest.specs.PartCodes.{code_of_number}

@@ -13,8 +13,8 @@ ghost use Rattle.mig_libxc.specs.Record.{placed_content};
 
 use crate::body::{take_body, take_list};
 use mig_bytes::{Source, Stop, take_part};
-use mig_causes::Cause;
 use mig_guest::Guest;
+use mig_headers::Cause;
 use mig_libxc::{meant, page_fault, pfn_in, type_in};
 use mig_pagetypes::PageType;
 use mig_records::RecordHead;

@@ -1,7 +1,7 @@
 ghost use Rattle.std.specs.Prelude.{◌≡◌, ◌+◌, ◌*◌, ◌/◌, ◌^◌, ◌≤◌, [], length, true, false, OnOk, OnErr, IfOk, IsErrOf, Some, None};
 ghost use Rattle.mig_bytes.specs.Faults.{Rose};
 ghost use Rattle.mig_guest.specs.Hosts.{most_saved_width};
-ghost use Rattle.mig_causes.specs.declared.unsound.Unsound.{Unsound};
+ghost use Rattle.mig_headers.specs.declared.unsound.Unsound.{Unsound};
 ghost use Rattle.mig_pagesink.specs.Batches.{IsBehind};
 ghost use Rattle.mig_machine_api.specs.Pfns.{pfns_of_words, size};
 ghost use Rattle.mig_machine_api.specs.History.{no_history};
@@ -18,7 +18,7 @@ use crate::room::Room;
 use crate::round::send_all;
 use crate::sets::{take_more, take_set};
 use mig_bytes::Sink;
-use mig_causes::Unsound;
+use mig_headers::Unsound;
 use mig_machine_api::Machine;
 use mig_pagesink::Batch;
 use mig_pagetypes::PageType;

@@ -2,8 +2,8 @@
 use Rattle.std.proofs.Common.{◌≡◌, ℕ, Bool, true, false, cond, List, [], ◌∷◌, map, Option, Some, None, refl}
 use Rattle.serde_json.specs.View.{items_of}
 use Rattle.serde_json.specs.Written.{has_float, items_have_float, members_have_float}
-use Rattle.mig_causes.specs.declared.fault.Place.{Place}
-use Rattle.mig_causes.specs.declared.fault.Cause.{Cause}
+use Rattle.mig_headers.specs.declared.fault.Place.{Place}
+use Rattle.mig_headers.specs.declared.fault.Cause.{Cause}
 use Rattle.mig_headers.specs.declared.kind.Kind.{Kind}
 use Rattle.mig_headers.specs.declared.kind.Kind.TheVariants.{Pv, Hvm}
 use Rattle.mig_show.specs.declared.record.ShownRecord.{ShownRecord}

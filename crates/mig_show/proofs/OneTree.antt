@@ -2,8 +2,8 @@
 use Rattle.std.proofs.Common.{◌≡◌, ℕ, ◌≤◌, Bool, true, false, List, ◌++◌, length, Option, Some, None, refl, sym, ap, ◌∙◌, arith, length-append}
 use Rattle.std.specs.Io.KnownBytes.{Consumes}
 use Rattle.serde_json.specs.Data.{Data}
-use Rattle.mig_causes.specs.declared.fault.Cause.{Cause}
-use Rattle.mig_causes.specs.declared.fault.Place.{Place}
+use Rattle.mig_headers.specs.declared.fault.Cause.{Cause}
+use Rattle.mig_headers.specs.declared.fault.Place.{Place}
 use Rattle.mig_relay.specs.Spots.{begins_with_ident}
 use Rattle.mig_show.specs.Fronts.{ShownFront, StandsBefore, StandsWhole, image_first, header_first, libxl_header, libxl_record, libxl_context, libxl_end, image_header, domain_header, image_record, image_end}
 use Rattle.mig_show.specs.Shows.{Shows, ShowsWhole, front_tree}

@@ -8,7 +8,7 @@ use Rattle.byteorder.specs.Endian.{big_number}
 use Rattle.mig_bytes.specs.Bytes.{padding_len}
 use Rattle.mig_bytes.specs.Fields.{le32, le64, be32}
 use Rattle.mig_emulators.specs.Content.{LibxlRecord}
-use Rattle.mig_causes.specs.declared.fault.Place.TheVariants.{ImageHeader, DomainHeader, LibxlHeader, Record}
+use Rattle.mig_headers.specs.declared.fault.Place.TheVariants.{ImageHeader, DomainHeader, LibxlHeader, Record}
 use Rattle.mig_headers.specs.Headers.{kind_of_number}
 use Rattle.mig_headers.specs.declared.kind.Kind.{Kind as KindOf}
 use Rattle.mig_pagetypes.specs.FrameWords.{word_has_data}

@@ -4,9 +4,9 @@ use Rattle.std.specs.Prelude.{is_some, IfOk, ◌≤◌}
 use Rattle.mig_bytes.specs.Faults.{Rose}
 use Rattle.mig_relay.specs.Steps.{RisesOnFault}
 use Rattle.std.specs.Io.KnownBytes.{Consumes}
-use Rattle.mig_causes.specs.declared.fault.Cause.{Cause}
-use Rattle.mig_causes.specs.declared.fault.Place.{Place}
-use Rattle.mig_causes.specs.declared.fault.Place.TheVariants.{ImageHeader}
+use Rattle.mig_headers.specs.declared.fault.Cause.{Cause}
+use Rattle.mig_headers.specs.declared.fault.Place.{Place}
+use Rattle.mig_headers.specs.declared.fault.Place.TheVariants.{ImageHeader}
 use Rattle.mig_passable.specs.Streams.{open_stream_at}
 use Rattle.mig_passable.proofs.Streams.{fronts_pass}
 use Rattle.mig_relay.specs.Following.{in_hand}

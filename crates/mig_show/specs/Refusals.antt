@@ -1,7 +1,7 @@
 -- The text of a stream's refusal.
 use Rattle.std.specs.Prelude.{ℕ, List, ◌++◌, codes}
-use Rattle.mig_causes.specs.declared.fault.Place.{Place}
-use Rattle.mig_causes.specs.declared.fault.Cause.{Cause}
+use Rattle.mig_headers.specs.declared.fault.Place.{Place}
+use Rattle.mig_headers.specs.declared.fault.Cause.{Cause}
 use Rattle.mig_texts.specs.Texts.{text_of_place, text_of_cause}
 
 -- what the refusal line says behind its first word

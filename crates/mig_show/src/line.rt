@@ -8,8 +8,7 @@ ghost use Rattle.mig_show.specs.declared.record.ShownRecord.{ShownRecord as List
 
 use crate::record::{ShownRecord, record_object};
 use crate::tree::{kind_value, refused_value, version_value};
-use mig_causes::{Cause, Place};
-use mig_headers::Kind;
+use mig_headers::{Cause, Kind, Place};
 use serde_json::Value;
 use std::alloc::{AllocError, Global};
 

@@ -3,7 +3,7 @@ ghost use Rattle.mig_texts.specs.Arguments.{argument_texts};
 ghost use Rattle.mig_texts.specs.Texts.{spaced, words_of_context, text_of_place, text_of_cause};
 ghost use Rattle.mig_show.specs.Refusals.{refused_text};
 
-use mig_causes::{Cause, ContextFault, Place};
+use mig_headers::{Cause, ContextFault, Place};
 use mig_texts::{Arguments, Printed};
 use std::alloc::{AllocError, Global};
 

@@ -5,8 +5,7 @@ ghost use Rattle.mig_show.specs.Tree.{records_tree, kind_tree, version_tree, ref
 use crate::record::{ShownRecord, record_object};
 use crate::refusal::refused_text;
 use mig_bytes::Memory;
-use mig_causes::{Cause, Place};
-use mig_headers::Kind;
+use mig_headers::{Cause, Kind, Place};
 use serde_json::{Value, json};
 use std::alloc::{AllocError, Global};
 

@@ -10,7 +10,7 @@ use crate::nowhere::Nowhere;
 use crate::seen::Seen;
 use crate::tree::tree_of;
 use mig_bytes::Source;
-use mig_causes::{Cause, Place};
+use mig_headers::{Cause, Place};
 use mig_relay::{Relay, RelayAnswer, Step};
 use serde_json::Value;
 use std::alloc::Global;

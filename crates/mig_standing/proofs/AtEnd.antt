@@ -1,10 +1,10 @@
 -- The fault of a PV guest at the end of its stream is the first of what is wrong with it there.
 use Rattle.std.proofs.Common.{◌⊎◌}
 use Rattle.std.specs.FinMap as maps
-use Rattle.mig_causes.specs.CauseNumbers.{number_of_cause}
-use Rattle.mig_causes.specs.declared.fault.Cause.{Cause}
-use Rattle.mig_causes.specs.declared.unsound.Unsound.{Unsound}
-use Rattle.mig_causes.specs.declared.unsound.Unsound.TheVariants as causes
+use Rattle.mig_headers.specs.CauseNumbers.{number_of_cause}
+use Rattle.mig_headers.specs.declared.fault.Cause.{Cause}
+use Rattle.mig_headers.specs.declared.unsound.Unsound.{Unsound}
+use Rattle.mig_headers.specs.declared.unsound.Unsound.TheVariants as causes
 use Rattle.mig_texts.specs.UnsoundTexts.{number_of_unsound}
 use Rattle.mig_pvtables.proofs.Common.{◌≡◌, inl, inr, ℕ, ◌+◌, ◌/◌, ◌%◌, ◌<◌, ◌≤◌, length, nat_lt, true, refl, sym, ap, subst, arith, ltb-true, lt-ltb, GuestOf, Pv, fault_of_guest, TooManyFrames, most_frames, first_cause}
 use Rattle.mig_standing.specs.NamedFirst.{IsNamedBefore, NamesFirst}

@@ -1,7 +1,7 @@
 -- Where nothing is wrong, a host is sound, and a PV guest that is well formed is whole; and the other way round.
-use Rattle.mig_causes.specs.CauseNumbers.{number_of_cause}
-use Rattle.mig_causes.specs.declared.fault.Cause.{Cause}
-use Rattle.mig_causes.specs.declared.unsound.Unsound.{Unsound}
+use Rattle.mig_headers.specs.CauseNumbers.{number_of_cause}
+use Rattle.mig_headers.specs.declared.fault.Cause.{Cause}
+use Rattle.mig_headers.specs.declared.unsound.Unsound.{Unsound}
 use Rattle.mig_texts.specs.UnsoundTexts.{number_of_unsound}
 use Rattle.mig_guest.specs.Hosts.{HostOf}
 use Rattle.mig_pvtables.proofs.Common.{◌≡◌, ℕ, ◌↔◌, GuestOf, Pv, IsFormed, IsWhole, fault_of_guest}

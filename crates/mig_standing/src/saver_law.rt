@@ -1,5 +1,5 @@
 ghost use Rattle.std.specs.Prelude.{◌≡◌, ◌↔◌, ℕ, Option, true};
-ghost use Rattle.mig_causes.specs.declared.unsound.Unsound.{Unsound};
+ghost use Rattle.mig_headers.specs.declared.unsound.Unsound.{Unsound};
 ghost use Rattle.mig_pagetypes.specs.declared.page_type.PageType.{PageType};
 ghost use Rattle.mig_guest.specs.Hosts.{HostOf};
 ghost use Rattle.mig_pvtables.specs.Faults.{type_at};

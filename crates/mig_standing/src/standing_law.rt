@@ -1,8 +1,8 @@
 ghost use Rattle.std.specs.Prelude.{◌≡◌, ◌↔◌, ℕ, Option};
-ghost use Rattle.mig_causes.specs.CauseNumbers.{number_of_cause};
-ghost use Rattle.mig_causes.specs.declared.fault.Cause.{Cause};
+ghost use Rattle.mig_headers.specs.CauseNumbers.{number_of_cause};
+ghost use Rattle.mig_headers.specs.declared.fault.Cause.{Cause};
 ghost use Rattle.mig_headers.specs.declared.kind.Kind.TheVariants.{Pv};
-ghost use Rattle.mig_causes.specs.declared.unsound.Unsound.{Unsound};
+ghost use Rattle.mig_headers.specs.declared.unsound.Unsound.{Unsound};
 ghost use Rattle.mig_texts.specs.UnsoundTexts.{number_of_unsound};
 ghost use Rattle.mig_guest.specs.Formed.{IsFormed};
 ghost use Rattle.mig_guest.specs.Guests.{GuestOf};

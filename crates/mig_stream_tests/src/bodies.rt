@@ -1,9 +1,9 @@
 ghost use Rattle.std.specs.Prelude.{◌≡◌, ℕ, List, [], length};
 ghost use Rattle.std.specs.declared.option.Option.{Option};
-ghost use Rattle.mig_causes.specs.declared.fault.Cause.{Cause};
+ghost use Rattle.mig_headers.specs.declared.fault.Cause.{Cause};
 ghost use Rattle.mig_pieces.specs.Begun.{IsBegunBody};
 
-use mig_causes::{Cause, ContextFault};
+use mig_headers::{Cause, ContextFault};
 use mig_pieces::BodySeen;
 
 // The fault of a body that comes in pieces is that of the whole body.

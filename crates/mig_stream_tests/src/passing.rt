@@ -1,5 +1,5 @@
 use mig_bytes::{MemSink, MemSource};
-use mig_causes::{Cause, ContextFault, Place};
+use mig_headers::{Cause, ContextFault, Place};
 use mig_relay::{Relay, RelayAnswer, Relayed, Step, relay};
 use std::alloc::Global;
 use std::test::Fail;

@@ -1,5 +1,5 @@
 use mig_bytes::{Got, InSource, MemSink, MemSource, OutSink, ReadFailed, TakeFault, WriteFailed, put_all, skip, take_exact, take_vec};
-use mig_causes::Cause;
+use mig_headers::Cause;
 use mig_records::write_record;
 use mig_texts::put_cause;
 use std::io;

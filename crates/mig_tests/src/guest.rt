@@ -1,7 +1,6 @@
 use mig_bodies::{body_fault, p2m_fault, read_body, read_p2m};
-use mig_causes::Cause;
 use mig_guest::{Guest, PartCode, PartKey};
-use mig_headers::Kind;
+use mig_headers::{Cause, Kind};
 use mig_hvm::{params_fault, read_params};
 use mig_pagestore::PageStore;
 use mig_pagetypes::PageType;

@@ -1,6 +1,5 @@
 use mig_bytes::MemSink;
-use mig_causes::{Cause, LegacyCause};
-use mig_headers::{Kind, RecordType, is_optional};
+use mig_headers::{Cause, Kind, LegacyCause, RecordType, is_optional};
 use mig_policy::canonical_pairs;
 use mig_texts::{put_cause, put_legacy_cause};
 use std::test::Fail;

@@ -1,10 +1,10 @@
 -- The printed texts of the places and causes of a legacy stream's refusal: number, name and arguments, parted by one space.
 use Rattle.std.specs.Prelude.{ℕ, List, [], ◌∷◌, ◌++◌, codes, decimal}
-use Rattle.mig_causes.specs.CauseNumbers.{number_of_legacy_cause}
-use Rattle.mig_causes.specs.declared.legacy_fault.LegacyPlace.{LegacyPlace}
-use Rattle.mig_causes.specs.declared.legacy_fault.LegacyPlace.TheVariants.{Start, Chunk, Tail, Device}
-use Rattle.mig_causes.specs.declared.legacy_fault.LegacyCause.{LegacyCause}
-use Rattle.mig_causes.specs.declared.legacy_fault.LegacyCause.TheVariants.{Truncated, Modern, Tools32, VerifyOrPv, Tmem, Compressed, UnknownChunk, BatchTooLarge, BadPageType, WordHigh, BadVcpuMax, BadToolstack, UnpairedIoreq, BadContext, BadSignature, TooManyChunks, TooManyFrames, BodyTooLong, TooManyPairs}
+use Rattle.mig_headers.specs.CauseNumbers.{number_of_legacy_cause}
+use Rattle.mig_headers.specs.declared.legacy_fault.LegacyPlace.{LegacyPlace}
+use Rattle.mig_headers.specs.declared.legacy_fault.LegacyPlace.TheVariants.{Start, Chunk, Tail, Device}
+use Rattle.mig_headers.specs.declared.legacy_fault.LegacyCause.{LegacyCause}
+use Rattle.mig_headers.specs.declared.legacy_fault.LegacyCause.TheVariants.{Truncated, Modern, Tools32, VerifyOrPv, Tmem, Compressed, UnknownChunk, BatchTooLarge, BadPageType, WordHigh, BadVcpuMax, BadToolstack, UnpairedIoreq, BadContext, BadSignature, TooManyChunks, TooManyFrames, BodyTooLong, TooManyPairs}
 use Rattle.mig_texts.specs.Texts.{spaced, words_of_context}
 
 -- the name of a cause

@@ -1,12 +1,12 @@
 -- The printed texts of places and causes: number, name and arguments, parted by one space.
 use Rattle.std.specs.Prelude.{ℕ, List, [], ◌∷◌, ◌++◌, codes, decimal}
-use Rattle.mig_causes.specs.CauseNumbers.{number_of_cause}
-use Rattle.mig_causes.specs.declared.fault.Place.{Place}
-use Rattle.mig_causes.specs.declared.fault.Place.TheVariants.{ImageHeader, DomainHeader, Record, LibxlHeader, LibxlRecord}
-use Rattle.mig_causes.specs.declared.fault.ContextFault.{ContextFault}
-use Rattle.mig_causes.specs.declared.fault.ContextFault.TheVariants.{NoHeader, HeaderSize, ShortEntry, NoEnd}
-use Rattle.mig_causes.specs.declared.fault.Cause.{Cause}
-use Rattle.mig_causes.specs.declared.fault.Cause.TheVariants.{Truncated, NotStream, BadId, BadVersion, BigEndian, BadKind, BadPageShift, BodyTooLong, Unsupported, UnknownMandatory, WrongKind, OutOfOrder, BadLength, NoPages, BadPageType, PfnOutside, Superpage, EntryOutside, Pv32, BadPvInfo, P2mStart, VcpuId, GdtEnts, BadContext, ParamIndex, Missing, P2mFrame, TargetAbsent, VcpuFrame, TooManyRecords, TooManyFrames, BadPairs, BadKey, BadEmulator, EmulatorForPv, ContextCount, TooManyPairs, EmulatorIndex}
+use Rattle.mig_headers.specs.CauseNumbers.{number_of_cause}
+use Rattle.mig_headers.specs.declared.fault.Place.{Place}
+use Rattle.mig_headers.specs.declared.fault.Place.TheVariants.{ImageHeader, DomainHeader, Record, LibxlHeader, LibxlRecord}
+use Rattle.mig_headers.specs.declared.fault.ContextFault.{ContextFault}
+use Rattle.mig_headers.specs.declared.fault.ContextFault.TheVariants.{NoHeader, HeaderSize, ShortEntry, NoEnd}
+use Rattle.mig_headers.specs.declared.fault.Cause.{Cause}
+use Rattle.mig_headers.specs.declared.fault.Cause.TheVariants.{Truncated, NotStream, BadId, BadVersion, BigEndian, BadKind, BadPageShift, BodyTooLong, Unsupported, UnknownMandatory, WrongKind, OutOfOrder, BadLength, NoPages, BadPageType, PfnOutside, Superpage, EntryOutside, Pv32, BadPvInfo, P2mStart, VcpuId, GdtEnts, BadContext, ParamIndex, Missing, P2mFrame, TargetAbsent, VcpuFrame, TooManyRecords, TooManyFrames, BadPairs, BadKey, BadEmulator, EmulatorForPv, ContextCount, TooManyPairs, EmulatorIndex}
 
 -- the name of a cause
 abbrev pub name_of : Cause → List ℕ

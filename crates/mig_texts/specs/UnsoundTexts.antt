@@ -1,7 +1,7 @@
 -- The printed texts of what makes a host unsound: number, name and arguments, parted by one space.
 use Rattle.std.specs.Prelude.{ℕ, List, [], ◌∷◌, ◌++◌, codes, decimal}
-use Rattle.mig_causes.specs.declared.unsound.Unsound.{Unsound}
-use Rattle.mig_causes.specs.declared.unsound.Unsound.TheVariants.{Missing, P2mFrame, Superpage, NoFrame, GdtEnts, VcpuFrame, BadContext}
+use Rattle.mig_headers.specs.declared.unsound.Unsound.{Unsound}
+use Rattle.mig_headers.specs.declared.unsound.Unsound.TheVariants.{Missing, P2mFrame, Superpage, NoFrame, GdtEnts, VcpuFrame, BadContext}
 use Rattle.mig_texts.specs.Texts.{spaced, words_of_context}
 
 -- the number of a cause

@@ -1,11 +1,11 @@
 ghost use Rattle.mig_bytes.specs.Bytes.{Puts};
 ghost use Rattle.mig_bytes.specs.Faults.{HasCause};
-ghost use Rattle.mig_causes.specs.CauseNumbers.{number_of_legacy_cause};
+ghost use Rattle.mig_headers.specs.CauseNumbers.{number_of_legacy_cause};
 ghost use Rattle.mig_texts.specs.LegacyTexts.{name_of_legacy_cause, arguments_of_legacy_cause, text_of_legacy_cause, text_of_legacy_place};
 
 use crate::text::{Arguments, Printed, put_numbered, put_words};
 use mig_bytes::{Sink, WriteFailed, put_all};
-use mig_causes::{LegacyCause, LegacyPlace};
+use mig_headers::{LegacyCause, LegacyPlace};
 
 impl Printed for LegacyCause {
     ghost number_told = { number_of_legacy_cause };

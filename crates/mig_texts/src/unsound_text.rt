@@ -4,7 +4,7 @@ ghost use Rattle.mig_texts.specs.UnsoundTexts.{number_of_unsound, name_of_unsoun
 
 use crate::text::{Arguments, Printed, put_words};
 use mig_bytes::{Sink, WriteFailed};
-use mig_causes::Unsound;
+use mig_headers::Unsound;
 
 impl Printed for Unsound {
     ghost number_told = { number_of_unsound };

@@ -3,10 +3,10 @@ pub use Rattle.mig_bytes.proofs.Joins.{judged_so, mapped, stopped}
 pub use Rattle.mig_bytes.specs.Bytes.{AreBytes, padding_len}
 pub use Rattle.mig_bytes.specs.Judged.{Judged, part, placed, ◌>>=◌}
 pub use Rattle.mig_bytes.specs.Judged.Judged.{Passes}
-pub use Rattle.mig_causes.specs.declared.fault.Cause.{Cause}
-pub use Rattle.mig_causes.specs.declared.fault.Cause.TheVariants.{Truncated}
-pub use Rattle.mig_causes.specs.declared.fault.Place.{Place}
-pub use Rattle.mig_causes.specs.declared.fault.Place.TheVariants.{LibxlHeader}
+pub use Rattle.mig_headers.specs.declared.fault.Cause.{Cause}
+pub use Rattle.mig_headers.specs.declared.fault.Cause.TheVariants.{Truncated}
+pub use Rattle.mig_headers.specs.declared.fault.Place.{Place}
+pub use Rattle.mig_headers.specs.declared.fault.Place.TheVariants.{LibxlHeader}
 pub use Rattle.mig_emulators.specs.Content.{LibxlContent, LibxlRecord}
 pub use Rattle.mig_emulators.specs.Content.LibxlContent.{Context, Image, Pairs}
 pub use Rattle.mig_emulators.specs.Emulators.{EmulatorsOf, add_pairs, put_libxl_content, store_at, with_emulators}

@@ -9,7 +9,7 @@ use Rattle.mig_bytes.specs.declared.stop.Stop.TheVariants as stops
 use Rattle.mig_bytes.proofs.Joins.{part_whole, part_passes}
 use Rattle.mig_headers.proofs.HeaderLaws.{marker_of}
 use Rattle.mig_headers.specs.Headers.{libxl_ident, fault_of_marker}
-use Rattle.mig_causes.specs.declared.fault.Place.TheVariants.{ImageHeader}
+use Rattle.mig_headers.specs.declared.fault.Place.TheVariants.{ImageHeader}
 use Rattle.mig_restore.proofs.Behind.{behind_is}
 use Rattle.mig_libxc.specs.Stream.{image_at, image_behind, marker_at, opening_at}
 use Rattle.mig_restore.specs.Reads.{IsReading as IsImageReading}

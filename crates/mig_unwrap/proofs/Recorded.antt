@@ -1,7 +1,7 @@
 -- A record behind its head and behind its content, and what the reader has seen once it was read.
 use Rattle.mig_unwrap.proofs.Common.{◌≡◌, ℕ, ◌+◌, false, List, [], ◌∷◌, ◌++◌, length, nat_eq, Option, Some, None, refl, sym, ap, subst, ◌∙◌, arith, length-append, ◌||◌, padding_len, ◌>>=◌, part, placed, Passes, Truncated, ImageOf, Reading, LibxlRecord, LibxlContent, image_in, image_among, EmulatorsOf, put_libxl_content, libxl_head_at, body_of_type, libxl_content_at, Holds, IsLibxlSeen, WrapperSeen}
 use Rattle.mig_bytes.specs.Fields.{le32}
-use Rattle.mig_causes.specs.declared.fault.Place.TheVariants.{LibxlRecord as AtRecord}
+use Rattle.mig_headers.specs.declared.fault.Place.TheVariants.{LibxlRecord as AtRecord}
 use Rattle.mig_records.specs.declared.head.RecordHead.{RecordHead}
 use Rattle.mig_records.specs.Heads.{head_in}
 use Rattle.mig_emulators.specs.Emulators.{emulators_of}

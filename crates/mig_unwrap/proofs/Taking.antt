@@ -6,7 +6,7 @@ use Rattle.std.proofs.lemmas.List.{take_all}
 use Rattle.std.proofs.lemmas.Option.{none-some, same_Some}
 use Rattle.mig_bytes.specs.Fields.{le32}
 use Rattle.mig_bytes.specs.Judged.{Gives}
-use Rattle.mig_causes.specs.declared.fault.Cause.TheVariants.{BadEmulator, TooManyPairs, EmulatorIndex}
+use Rattle.mig_headers.specs.declared.fault.Cause.TheVariants.{BadEmulator, TooManyPairs, EmulatorIndex}
 use Rattle.mig_policy.specs.PairMaps.{pairs_in}
 use Rattle.mig_libxc.specs.Stream.{image_at}
 use Rattle.mig_restore.specs.Reads.{IsReading as IsImageReading}

@@ -3,8 +3,8 @@ use Rattle.std.specs.Prelude.{◌≡◌, ℕ, List, length, Option, Some, Result
 use Rattle.mig_bytes.specs.Answers.{or_stop}
 use Rattle.mig_bytes.specs.Judged.{Gives}
 use Rattle.mig_bytes.specs.declared.answer.Answer.{Answer}
-use Rattle.mig_causes.specs.declared.fault.Cause.{Cause}
-use Rattle.mig_causes.specs.declared.fault.Place.{Place}
+use Rattle.mig_headers.specs.declared.fault.Cause.{Cause}
+use Rattle.mig_headers.specs.declared.fault.Place.{Place}
 use Rattle.mig_libxc.specs.Mean.{differs_of}
 use Rattle.mig_libxc.specs.Stream.{ImageOf}
 use Rattle.mig_restore.specs.declared.read.Reading.{Reading}

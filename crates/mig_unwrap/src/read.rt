@@ -5,7 +5,7 @@ ghost use Rattle.mig_bytes.specs.Faults.{RisesOnReadFault};
 ghost use Rattle.mig_bytes.specs.Judged.{Gives};
 ghost use Rattle.mig_bytes.specs.declared.stop.Stop.TheVariants.{Memory as NoMemory};
 ghost use Rattle.mig_headers.specs.RecordTypes.{most_body};
-ghost use Rattle.mig_causes.specs.declared.fault.Cause.TheVariants.{Truncated};
+ghost use Rattle.mig_headers.specs.declared.fault.Cause.TheVariants.{Truncated};
 ghost use Rattle.mig_pvtables.specs.Whole.{IsStreamed};
 ghost use Rattle.mig_records.specs.Heads.{head_in};
 ghost use Rattle.mig_libxc.specs.Judging.{most_records};
@@ -20,10 +20,9 @@ ghost use Rattle.mig_libxl.specs.Stream.{header_at, libxl_records_at, wrapped_at
 ghost use Rattle.mig_unwrap.specs.Reads.{IsStreamReading, ReadsStream};
 
 use mig_bytes::{Memory, ReadFailed, Source, Stop, answer_for, skip, stop_for, take_long, take_part, u32_le};
-use mig_causes::{Cause, Place};
 use mig_emulators::Emulators;
 use mig_guest::PartKey;
-use mig_headers::{ImageHeader, LibxlHeader};
+use mig_headers::{Cause, ImageHeader, LibxlHeader, Place};
 use mig_libxl::{EMULATOR_CONTEXT, EMULATOR_XENSTORE_DATA, LIBXC_CONTEXT, LIBXL_END, RecordsBehind, libxl_head_fault};
 use mig_policy::{PairsAnswer, pairs_fault};
 use mig_records::{RecordHead, take_head, take_padding};

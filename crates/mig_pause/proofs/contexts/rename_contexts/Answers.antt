@@ -2,7 +2,7 @@ use Rattle.std.proofs.Common.{arith, ◌≡◌, ℕ, List, Some, Bool, ap, subst
 use Rattle.std.specs.Prelude.{IfSome, find}
 use Rattle.std.specs.Option.{option_map}
 use Rattle.std.specs.FinMap as maps
-use Rattle.mig_causes.specs.declared.unsound.Unsound.TheVariants.{VcpuFrame}
+use Rattle.mig_headers.specs.declared.unsound.Unsound.TheVariants.{VcpuFrame}
 use Rattle.mig_guest.specs.Guests.{GuestOf}
 use Rattle.mig_guest.specs.Hosts.{HostOf, pfn_in}
 use Rattle.mig_guest.specs.Parts.{Part, parts_after}

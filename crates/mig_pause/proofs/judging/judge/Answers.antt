@@ -1,6 +1,6 @@
 use Rattle.std.proofs.Common.{◌≡◌, ℕ, sym, ap, ◌∙◌}
 use Rattle.std.specs.Option.{option_map}
-use Rattle.mig_causes.specs.declared.unsound.Unsound.TheVariants.{VcpuFrame}
+use Rattle.mig_headers.specs.declared.unsound.Unsound.TheVariants.{VcpuFrame}
 use Rattle.mig_guest.specs.Hosts.{HostOf}
 use Rattle.mig_standing.specs.FirstRow.{names_ill, row_1, row_2, row_5, row_6}
 use Rattle.mig_standing.specs.Standing.{Standing}

@@ -1,5 +1,5 @@
 use Rattle.std.proofs.Common.{subst, sym}
-use Rattle.mig_causes.specs.declared.fault.ContextFault.TheVariants.{HeaderSize}
+use Rattle.mig_headers.specs.declared.fault.ContextFault.TheVariants.{HeaderSize}
 use Rattle.mig_pieces.specs.ContextChain.{IsHeaderFault}
 use Rattle.mig_pieces.specs.ContextChain.IsHeaderFault.{not_header, not_sized}
 use Rattle.mig_pieces.proofs.chain.header_fault.Goals as goal

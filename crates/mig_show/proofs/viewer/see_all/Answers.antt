@@ -1,7 +1,7 @@
 use Rattle.std.proofs.Common.{rules, refl, sym, subst, ◌∙◌, ◌≡◌, None, Ok}
 use Rattle.std.specs.Prelude.{IfOk, Option, Result}
-use Rattle.mig_causes.specs.declared.fault.Cause.{Cause}
-use Rattle.mig_causes.specs.declared.fault.Place.{Place}
+use Rattle.mig_headers.specs.declared.fault.Cause.{Cause}
+use Rattle.mig_headers.specs.declared.fault.Place.{Place}
 use Rattle.mig_relay.specs.Standing.{StepSays}
 use Rattle.mig_show.specs.Shows.{Shows, RisesOnShow, front_tree}
 use Rattle.mig_show.specs.declared.viewer.ShowAnswer.{ShowAnswer}

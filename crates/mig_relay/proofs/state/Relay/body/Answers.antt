@@ -1,6 +1,6 @@
 use Rattle.std.proofs.Common.{◌≡◌, ◌<◌, ◌+◌, ◌++◌, refl, sym, [], ap, subst, ◌∙◌, arith, length, length-append, append_assoc}
 use Rattle.std.proofs.lemmas.Grind.{common_steps}
-use Rattle.mig_causes.specs.declared.fault.Place.TheVariants.{Record}
+use Rattle.mig_headers.specs.declared.fault.Place.TheVariants.{Record}
 use Rattle.mig_pieces.specs.Begun.{IsBegunBody}
 use Rattle.mig_pieces.specs.Bodies.{fault_of_record_body, record_content}
 use Rattle.mig_libxc.specs.Judging.{before}

@@ -1,5 +1,5 @@
 use Rattle.std.proofs.Common.{arith, refl, sym, subst, [], ap, ◌∙◌}
-use Rattle.mig_causes.specs.declared.fault.Place.TheVariants.{Record}
+use Rattle.mig_headers.specs.declared.fault.Place.TheVariants.{Record}
 use Rattle.mig_records.specs.Faults.{fault_of_count}
 use Rattle.mig_relay.specs.Following.{ComesNext, count}
 use Rattle.mig_relay.specs.Parts.{AtFront, AtWords}

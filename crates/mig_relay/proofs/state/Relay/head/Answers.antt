@@ -1,6 +1,6 @@
 use Rattle.std.proofs.Common.{arith, refl, sym, ap, subst, ◌∙◌, [], ◌∷◌, ◌++◌}
 use Rattle.std.specs.Option.{option_or}
-use Rattle.mig_causes.specs.declared.fault.Place.TheVariants.{Record}
+use Rattle.mig_headers.specs.declared.fault.Place.TheVariants.{Record}
 use Rattle.mig_bytes.specs.Fields.{le32}
 use Rattle.mig_records.specs.Heads.{head_in}
 use Rattle.mig_records.specs.declared.head.RecordHead.{RecordHead}

@@ -1,6 +1,6 @@
 use Rattle.std.proofs.Common.{◌≡◌, refl, [], ap, ◌∙◌, arith, length}
 use Rattle.std.proofs.lemmas.Grind.{common_steps}
-use Rattle.mig_causes.specs.declared.fault.Place.TheVariants.{Record}
+use Rattle.mig_headers.specs.declared.fault.Place.TheVariants.{Record}
 use Rattle.mig_relay.specs.declared.state.Relay.{Relay}
 use Rattle.mig_relay.specs.Steps.{answer_of, counted}
 use Rattle.mig_relay.specs.declared.answer.Step.TheVariants.{Piece}

@@ -1,6 +1,6 @@
 use Rattle.std.proofs.Common.{arith, refl, sym, ap, subst, ◌∙◌, [], List, ℕ, length, Option, Ok, Err}
 use Rattle.mig_bytes.specs.Judged.{Gives, part}
-use Rattle.mig_causes.specs.declared.fault.Cause.TheVariants.{Truncated}
+use Rattle.mig_headers.specs.declared.fault.Cause.TheVariants.{Truncated}
 use Rattle.mig_relay.specs.Following.{wrapper_opens, image_opens}
 use Rattle.mig_relay.specs.Parts.{AtVersion}
 use Rattle.mig_relay.specs.Spots.{Alone, AtLibxlHeader, InImage}

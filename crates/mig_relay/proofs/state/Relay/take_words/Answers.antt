@@ -1,7 +1,7 @@
 use Rattle.std.proofs.Common.{◌≡◌, ◌≤◌, ◌*◌, ◌^◌, length, arith, refl, sym, subst, [], ap, ◌∙◌}
 use Rattle.std.specs.Io.KnownBytes.{Appends}
 use Rattle.mig_bytes.specs.Bytes.{AppendsPart}
-use Rattle.mig_causes.specs.declared.fault.Place.TheVariants.{Record}
+use Rattle.mig_headers.specs.declared.fault.Place.TheVariants.{Record}
 use Rattle.mig_records.specs.Words.{words}
 use Rattle.mig_libxc.specs.Judging.{before, with_places}
 use Rattle.mig_relay.specs.Parts.{AtPages, AtWords}

@@ -1,7 +1,7 @@
 use Rattle.mig_unwrap.proofs.Common.{◌∙◌, placed, judged_so, body_of_type, libxl_content_at}
 use Rattle.std.proofs.lemmas.Bool.{ne_eqb}
 use Rattle.mig_bytes.proofs.Placed.{placed_stops}
-use Rattle.mig_causes.specs.declared.fault.Place.TheVariants.{LibxlRecord as AtRecord}
+use Rattle.mig_headers.specs.declared.fault.Place.TheVariants.{LibxlRecord as AtRecord}
 use Rattle.mig_unwrap.proofs.Recorded.{body_is}
 use Rattle.mig_unwrap.proofs.read.WrapperSeen.take_content.Goals as goal
 

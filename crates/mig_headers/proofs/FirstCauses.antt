@@ -4,8 +4,8 @@ use Rattle.std.specs.Prelude.{◌&&◌, ◌||◌}
 use Rattle.std.specs.List.{list_all}
 use Rattle.std.specs.Option.{option_or}
 use Rattle.std.proofs.lemmas.Bool.{and_parts, or_cases, false≢true}
-use Rattle.mig_causes.specs.FirstCauses.{IsEarlier, IsTriedFirst}
-use Rattle.mig_causes.specs.Rows.{first_fault}
+use Rattle.mig_headers.specs.FirstCauses.{IsEarlier, IsTriedFirst}
+use Rattle.mig_headers.specs.Rows.{first_fault}
 
 -- a computed cause is the one that is named
 pub record Names {C : Type 0} (Named : List ℕ → C → Type 0) (fault : List ℕ → Option C) : Type 0 where

@@ -2,7 +2,7 @@
 use Rattle.std.proofs.Common.{◌≡◌, List, [], ◌∷◌, Bool, true, false, Option, Some, None, refl}
 use Rattle.std.specs.List.{AllByRecursion}
 use Rattle.std.specs.Option.{option_or}
-use Rattle.mig_causes.specs.Rows.{first_fault}
+use Rattle.mig_headers.specs.Rows.{first_fault}
 
 some_none : {C : Type 0} {c : C} → Some c ≡ None → ⊥
 some_none e = cc
