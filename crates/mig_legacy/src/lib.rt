@@ -4,7 +4,7 @@
 //! the laws that join the judging with the spelling of the form, and those that say in its words what it means. Left to
 //! others: what is wrong with a chunk by itself, and what it says (mig_chunks), the pages of a batch (mig_restore), what
 //! pairs of texts mean (mig_policy), the device model (mig_emulators), contexts (mig_hvm), and the printed texts of
-//! refusals (mig_texts).
+//! refusals (mig_headers_text).
 //!
 //! What the layers above rely on: `read_legacy` answers the guest that the accepted front of the input means, or the
 //! first fault with its place, and has taken just the accepted front, or all up to the end of the faulty part.

@@ -5,10 +5,10 @@ use Rattle.mig_bytes.specs.Bytes.{AppendsPart}
 use Rattle.mig_bytes.specs.Faults.{Rose}
 use Rattle.mig_headers.specs.declared.kind.Kind.{Kind}
 use Rattle.mig_headers.specs.declared.kind.Kind.TheVariants.{Pv, Hvm}
-use Rattle.mig_texts.specs.ImageTexts.{text_of_image_place, text_of_image_cause}
-use Rattle.mig_texts.specs.LegacyTexts.{text_of_legacy_place, text_of_legacy_cause}
-use Rattle.mig_texts.specs.Texts.{text_of_place, text_of_cause}
-use Rattle.mig_texts.specs.UnsoundTexts.{text_of_unsound}
+use Rattle.mig_headers_text.specs.ImageTexts.{text_of_image_place, text_of_image_cause}
+use Rattle.mig_headers_text.specs.LegacyTexts.{text_of_legacy_place, text_of_legacy_cause}
+use Rattle.mig_headers_text.specs.Texts.{text_of_place, text_of_cause}
+use Rattle.mig_headers_text.specs.UnsoundTexts.{text_of_unsound}
 use Rattle.mig_report.specs.declared.outcome.ExerciseSummary.{ExerciseSummary}
 use Rattle.mig_report.specs.declared.outcome.Refusal.{Refusal}
 use Rattle.mig_report.specs.declared.outcome.Refusal.TheVariants.{Stream, Legacy, Image, BadLine, TooLong, Pause, Host, Walk}

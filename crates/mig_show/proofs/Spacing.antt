@@ -1,6 +1,6 @@
 -- Words that are parted by spaces, and the text that a call made of them.
 use Rattle.std.proofs.Common.{◌≡◌, ℕ, List, [], ◌∷◌, ◌++◌, codes, Result, String, Global, string_bytes, IfOk, ap, sym, subst, append-nil}
-use Rattle.mig_texts.specs.Texts.{spaced}
+use Rattle.mig_headers_text.specs.Texts.{spaced}
 
 -- each with no end behind its last word
 pub spaced_one : (a : List ℕ) → codes " " ++ a ≡ spaced (a ∷ [])

@@ -1,10 +1,10 @@
 ghost use Rattle.std.specs.Prelude.{◌≡◌, string_bytes, IfOk};
-ghost use Rattle.mig_texts.specs.Arguments.{argument_texts};
-ghost use Rattle.mig_texts.specs.Texts.{spaced, words_of_context, text_of_place, text_of_cause};
+ghost use Rattle.mig_headers_text.specs.Arguments.{argument_texts};
+ghost use Rattle.mig_headers_text.specs.Texts.{spaced, words_of_context, text_of_place, text_of_cause};
 ghost use Rattle.mig_show.specs.Refusals.{refused_text};
 
 use mig_headers::{Cause, ContextFault, Place};
-use mig_texts::{Arguments, Printed};
+use mig_headers_text::{Arguments, Printed};
 use std::alloc::{AllocError, Global};
 
 /// The text of a place.

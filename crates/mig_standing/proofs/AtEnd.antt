@@ -5,7 +5,7 @@ use Rattle.mig_headers.specs.CauseNumbers.{number_of_cause}
 use Rattle.mig_headers.specs.declared.fault.Cause.{Cause}
 use Rattle.mig_headers.specs.declared.unsound.Unsound.{Unsound}
 use Rattle.mig_headers.specs.declared.unsound.Unsound.TheVariants as causes
-use Rattle.mig_texts.specs.UnsoundTexts.{number_of_unsound}
+use Rattle.mig_headers_text.specs.UnsoundTexts.{number_of_unsound}
 use Rattle.mig_pvtables.proofs.Common.{◌≡◌, inl, inr, ℕ, ◌+◌, ◌/◌, ◌%◌, ◌<◌, ◌≤◌, length, nat_lt, true, refl, sym, ap, subst, arith, ltb-true, lt-ltb, GuestOf, Pv, fault_of_guest, TooManyFrames, most_frames, first_cause}
 use Rattle.mig_standing.specs.NamedFirst.{IsNamedBefore, NamesFirst}
 use Rattle.mig_standing.specs.Standing.{in_stream}

@@ -5,7 +5,7 @@ use Rattle.mig_headers.specs.declared.fault.Cause.TheVariants as faults
 use Rattle.mig_headers.specs.declared.kind.Kind.{Kind}
 use Rattle.mig_headers.specs.declared.unsound.Unsound.{Unsound}
 use Rattle.mig_headers.specs.declared.unsound.Unsound.TheVariants as causes
-use Rattle.mig_texts.specs.UnsoundTexts.{number_of_unsound}
+use Rattle.mig_headers_text.specs.UnsoundTexts.{number_of_unsound}
 use Rattle.mig_guest.specs.Hosts.{HostOf, HostFrame, IsValid, pfn_in}
 use Rattle.mig_pvtables.proofs.Common.{◌≡◌, ℕ, ◌+◌, ◌*◌, ◌<◌, List, [], ◌∷◌, true, false, cond, not, is_none, is_some, Option, Some, None, refl, sym, ap, subst, ◌∙◌, ◌&&◌, ◌||◌, find, list_any, range_with_len, option_map, option_or, option_and_then, nat_cmp_total, nat_cmp-IsAntisymmetric, gdt_ents, FrameOf, FrameMap, GuestOf, PartMap, PartKey, p2m_key, vcpu_key, shared_key, Entry, Blank, NotPresent, Superpage, Frame, Pv, first_cause, first_some, is_notab, is_this, is_needed, is_misplaced, find_p2m, find_entry, find_field, is_absent, type_at, fits_field, is_superpage, count_in, listed, field_value, frame_of_field, is_used, faults_for, fault_of_guest}
 use Rattle.mig_pvtables.specs.BadEntries.{is_unknown}

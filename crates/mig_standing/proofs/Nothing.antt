@@ -2,7 +2,7 @@
 use Rattle.mig_headers.specs.CauseNumbers.{number_of_cause}
 use Rattle.mig_headers.specs.declared.fault.Cause.{Cause}
 use Rattle.mig_headers.specs.declared.unsound.Unsound.{Unsound}
-use Rattle.mig_texts.specs.UnsoundTexts.{number_of_unsound}
+use Rattle.mig_headers_text.specs.UnsoundTexts.{number_of_unsound}
 use Rattle.mig_guest.specs.Hosts.{HostOf}
 use Rattle.mig_pvtables.proofs.Common.{◌≡◌, ℕ, ◌↔◌, GuestOf, Pv, IsFormed, IsWhole, fault_of_guest}
 use Rattle.mig_hosted.specs.Sound.{IsSound, unsoundness}

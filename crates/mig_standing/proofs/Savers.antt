@@ -1,6 +1,6 @@
 -- What a saver finds with types that it saw last.
 use Rattle.mig_headers.specs.declared.unsound.Unsound.{Unsound}
-use Rattle.mig_texts.specs.UnsoundTexts.{number_of_unsound}
+use Rattle.mig_headers_text.specs.UnsoundTexts.{number_of_unsound}
 use Rattle.mig_guest.specs.Hosts.{HostOf}
 use Rattle.mig_pvtables.proofs.Common.{◌≡◌, ℕ, true, Option, subst, sym, ◌∙◌, ◌↔◌, PageType, type_at}
 use Rattle.mig_hosted.specs.Sound.{unsoundness}

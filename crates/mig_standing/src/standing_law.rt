@@ -3,7 +3,7 @@ ghost use Rattle.mig_headers.specs.CauseNumbers.{number_of_cause};
 ghost use Rattle.mig_headers.specs.declared.fault.Cause.{Cause};
 ghost use Rattle.mig_headers.specs.declared.kind.Kind.TheVariants.{Pv};
 ghost use Rattle.mig_headers.specs.declared.unsound.Unsound.{Unsound};
-ghost use Rattle.mig_texts.specs.UnsoundTexts.{number_of_unsound};
+ghost use Rattle.mig_headers_text.specs.UnsoundTexts.{number_of_unsound};
 ghost use Rattle.mig_guest.specs.Formed.{IsFormed};
 ghost use Rattle.mig_guest.specs.Guests.{GuestOf};
 ghost use Rattle.mig_guest.specs.Hosts.{HostOf, IsValid};

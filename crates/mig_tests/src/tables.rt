@@ -1,7 +1,7 @@
 use mig_bytes::MemSink;
 use mig_headers::{Cause, Kind, LegacyCause, RecordType, is_optional};
+use mig_headers_text::{put_cause, put_legacy_cause};
 use mig_policy::canonical_pairs;
-use mig_texts::{put_cause, put_legacy_cause};
 use std::test::Fail;
 
 // Number, whether the type is supported, whether it stands in PV and in HVM guests, a length that it may have, and one

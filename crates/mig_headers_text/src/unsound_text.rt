@@ -1,6 +1,6 @@
 ghost use Rattle.mig_bytes.specs.Bytes.{Puts};
 ghost use Rattle.mig_bytes.specs.Faults.{HasCause};
-ghost use Rattle.mig_texts.specs.UnsoundTexts.{number_of_unsound, name_of_unsound, arguments_of_unsound, text_of_unsound};
+ghost use Rattle.mig_headers_text.specs.UnsoundTexts.{number_of_unsound, name_of_unsound, arguments_of_unsound, text_of_unsound};
 
 use crate::text::{Arguments, Printed, put_words};
 use mig_bytes::{Sink, WriteFailed};

@@ -2,7 +2,7 @@
 use Rattle.std.specs.Prelude.{ℕ, List, [], ◌∷◌, ◌++◌, codes, decimal}
 use Rattle.mig_headers.specs.declared.unsound.Unsound.{Unsound}
 use Rattle.mig_headers.specs.declared.unsound.Unsound.TheVariants.{Missing, P2mFrame, Superpage, NoFrame, GdtEnts, VcpuFrame, BadContext}
-use Rattle.mig_texts.specs.Texts.{spaced, words_of_context}
+use Rattle.mig_headers_text.specs.Texts.{spaced, words_of_context}
 
 -- the number of a cause
 abbrev pub number_of_unsound : Unsound → ℕ

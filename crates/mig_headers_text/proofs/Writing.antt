@@ -4,7 +4,7 @@ use Rattle.std.specs.Io.KnownBytes.{Appends}
 use Rattle.mig_bytes.specs.declared.failure.WriteFailed.{WriteFailed}
 use Rattle.mig_bytes.specs.Bytes.{Puts}
 use Rattle.mig_bytes.proofs.Texts.{puts_then, puts_same}
-use Rattle.mig_texts.specs.Texts.{spaced}
+use Rattle.mig_headers_text.specs.Texts.{spaced}
 
 -- a word, and a last one
 pub two_words : {X : Type 0} (first second : List ℕ) (a b c : Option (List ℕ)) (r : Result X WriteFailed) → Appends a b (codes " " ++ first) → Puts (codes " " ++ second) b c r

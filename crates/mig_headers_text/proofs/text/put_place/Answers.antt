@@ -1,4 +1,4 @@
-use Rattle.mig_texts.proofs.text.put_place.Goals as goal
+use Rattle.mig_headers_text.proofs.text.put_place.Goals as goal
 
 pub returns-in-ImageHeader-clause-bytes : goal.returns-in-ImageHeader-clause-bytes
 returns-in-ImageHeader-clause-bytes g c = rw c.in-ImageHeader.is c.put_all.ensures.bytes

@@ -5,7 +5,7 @@ use Rattle.mig_headers.specs.declared.legacy_fault.LegacyPlace.{LegacyPlace}
 use Rattle.mig_headers.specs.declared.legacy_fault.LegacyPlace.TheVariants.{Start, Chunk, Tail, Device}
 use Rattle.mig_headers.specs.declared.legacy_fault.LegacyCause.{LegacyCause}
 use Rattle.mig_headers.specs.declared.legacy_fault.LegacyCause.TheVariants.{Truncated, Modern, Tools32, VerifyOrPv, Tmem, Compressed, UnknownChunk, BatchTooLarge, BadPageType, WordHigh, BadVcpuMax, BadToolstack, UnpairedIoreq, BadContext, BadSignature, TooManyChunks, TooManyFrames, BodyTooLong, TooManyPairs}
-use Rattle.mig_texts.specs.Texts.{spaced, words_of_context}
+use Rattle.mig_headers_text.specs.Texts.{spaced, words_of_context}
 
 -- the name of a cause
 abbrev pub name_of_legacy_cause : LegacyCause → List ℕ

@@ -1,7 +1,7 @@
 ghost use Rattle.mig_bytes.specs.Bytes.{Puts};
 ghost use Rattle.mig_bytes.specs.Faults.{HasCause};
 ghost use Rattle.mig_headers.specs.CauseNumbers.{number_of_legacy_cause};
-ghost use Rattle.mig_texts.specs.LegacyTexts.{name_of_legacy_cause, arguments_of_legacy_cause, text_of_legacy_cause, text_of_legacy_place};
+ghost use Rattle.mig_headers_text.specs.LegacyTexts.{name_of_legacy_cause, arguments_of_legacy_cause, text_of_legacy_cause, text_of_legacy_place};
 
 use crate::text::{Arguments, Printed, put_numbered, put_words};
 use mig_bytes::{Sink, WriteFailed, put_all};

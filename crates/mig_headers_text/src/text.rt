@@ -3,9 +3,9 @@
 ghost use Rattle.std.specs.Prelude.{◌≡◌, ℕ, List, [], ◌∷◌, ◌++◌, codes, decimal};
 ghost use Rattle.mig_bytes.specs.Bytes.{Puts};
 ghost use Rattle.mig_bytes.specs.Faults.{HasCause};
-ghost use Rattle.mig_texts.specs.Arguments.{argument_texts};
+ghost use Rattle.mig_headers_text.specs.Arguments.{argument_texts};
 ghost use Rattle.mig_headers.specs.CauseNumbers.{number_of_cause};
-ghost use Rattle.mig_texts.specs.Texts.{name_of, arguments_of, words_of_context, spaced, text_of_cause, text_of_place};
+ghost use Rattle.mig_headers_text.specs.Texts.{name_of, arguments_of, words_of_context, spaced, text_of_cause, text_of_place};
 
 use itoa::Buffer;
 use mig_bytes::{Sink, WriteFailed, put_all};

@@ -1,8 +1,8 @@
 -- What the words behind a cause's name are made of.
 use Rattle.std.specs.Prelude.{List, ℕ, [], ◌∷◌, decimal}
-use Rattle.mig_texts.specs.declared.text.Arguments.{Arguments}
-use Rattle.mig_texts.specs.declared.text.Arguments.TheVariants.{Nothing, One, Two, Three, Context}
-use Rattle.mig_texts.specs.Texts.{words_of_context}
+use Rattle.mig_headers_text.specs.declared.text.Arguments.{Arguments}
+use Rattle.mig_headers_text.specs.declared.text.Arguments.TheVariants.{Nothing, One, Two, Three, Context}
+use Rattle.mig_headers_text.specs.Texts.{words_of_context}
 
 abbrev pub argument_texts : Arguments → List (List ℕ)
 argument_texts Nothing = []

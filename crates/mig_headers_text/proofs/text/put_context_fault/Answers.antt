@@ -1,4 +1,4 @@
-use Rattle.mig_texts.proofs.text.put_context_fault.Goals as goal
+use Rattle.mig_headers_text.proofs.text.put_context_fault.Goals as goal
 
 pub returns-in-HeaderSize-clause-bytes : goal.returns-in-HeaderSize-clause-bytes
 returns-in-HeaderSize-clause-bytes g c = rw c.in-HeaderSize.is c.put_fault.ensures.bytes

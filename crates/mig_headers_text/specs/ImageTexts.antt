@@ -5,7 +5,7 @@ use Rattle.mig_headers.specs.declared.image_fault.ImagePlace.{ImagePlace}
 use Rattle.mig_headers.specs.declared.image_fault.ImagePlace.TheVariants.{Head, Frame, Parts, Part}
 use Rattle.mig_headers.specs.declared.image_fault.ImageCause.{ImageCause}
 use Rattle.mig_headers.specs.declared.image_fault.ImageCause.TheVariants.{Truncated, NotImage, BadKind, Reserved, Width, FrameCount, BadPageType, FrameOrder, FrameOutside, MachineFrame, MachineTwice, PartKey, PartOrder, PartMany, PartLength, PartBytes, PartPadding, ZeroPage}
-use Rattle.mig_texts.specs.Texts.{spaced}
+use Rattle.mig_headers_text.specs.Texts.{spaced}
 
 -- the name of a cause
 abbrev pub name_of_image_cause : ImageCause → List ℕ
