@@ -24,8 +24,8 @@ use Rattle.mig_guest.proofs.Counts.{same_parts}
 use Rattle.mig_guest.proofs.Kept.{empty_formed}
 use Rattle.mig_guest.proofs.KeyedMaps.{tied}
 use Rattle.mig_guest.proofs.PartRows.{one_code}
-use Rattle.mig_bodies.specs.Shapes.{canonical_bodies, contents_by_shape, parts_at, shape_of, SayAll}
-use Rattle.mig_bodies.proofs.Canonical.{canonical_bodies_say}
+use Rattle.mig_records.specs.Shapes.{canonical_bodies, contents_by_shape, parts_at, shape_of, SayAll}
+use Rattle.mig_records.proofs.Canonical.{canonical_bodies_say}
 use Rattle.mig_canon.specs.Canon.{Record, info_records, p2m_record, p2m_records, records_of, records_in_order, static_bodies, last_records}
 use Rattle.mig_canon.proofs.PvRecords.{p2m_short}
 use Rattle.mig_pagesink.specs.Written.{IsRecordWithin, AreRecordsWithin}

@@ -27,7 +27,7 @@ use Rattle.mig_guest.specs.declared.part_key.PartKey.{PartKey}
 use Rattle.mig_guest.proofs.KeyedMaps.{tied}
 use Rattle.mig_guest.proofs.PartOrder.{part_exact}
 use Rattle.mig_guest.proofs.PartRows.{numbered}
-use Rattle.mig_bodies.specs.Shapes.{of_vcpu}
+use Rattle.mig_records.specs.Shapes.{of_vcpu}
 use Rattle.mig_records.specs.Records.{spelled}
 use Rattle.mig_canon.specs.Canon.{vcpu_codes, all_vcpus}
 use Rattle.mig_canon.proofs.Spelling.{text_one, text_join, texts_of, record_text}

@@ -8,13 +8,13 @@ use Rattle.mig_guest.specs.declared.part_code.PartCode.{PartCode}
 use Rattle.mig_guest.specs.declared.part_key.PartKey.{PartKey}
 use Rattle.mig_guest.specs.Order.{part_cmp}
 use Rattle.mig_guest.specs.Guests.{GuestOf}
-use Rattle.mig_bodies.specs.declared.layout.Layout.{Layout}
-use Rattle.mig_bodies.specs.declared.shape.Shape.{Shape}
-use Rattle.mig_bodies.specs.declared.shape.Shape.TheVariants.{Table, Single, Named, Chain, Other}
-use Rattle.mig_bodies.specs.Layouts.{AreWidths, entry_width, front_width, table_text}
-use Rattle.mig_bodies.proofs.Canonical.{canonical_bodies_say}
-use Rattle.mig_bodies.proofs.Rows.{all_rows}
-use Rattle.mig_bodies.proofs.TableSpelled.{table_len}
+use Rattle.mig_records.specs.declared.layout.Layout.{Layout}
+use Rattle.mig_records.specs.declared.shape.Shape.{Shape}
+use Rattle.mig_records.specs.declared.shape.Shape.TheVariants.{Table, Single, Named, Chain, Other}
+use Rattle.mig_records.specs.Layouts.{AreWidths, entry_width, front_width, table_text}
+use Rattle.mig_records.proofs.Canonical.{canonical_bodies_say}
+use Rattle.mig_records.proofs.Rows.{all_rows}
+use Rattle.mig_records.proofs.TableSpelled.{table_len}
 use Rattle.mig_guest.specs.Formed.{IsFormed}
 
 -- ---- a walk over a code

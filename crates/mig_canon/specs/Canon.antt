@@ -16,7 +16,7 @@ use Rattle.mig_guest.specs.declared.part_code.PartCode.TheVariants.{VcpuBasic, V
 use Rattle.mig_guest.specs.declared.part_key.PartKey.{PartKey}
 use Rattle.mig_guest.specs.PartCodes.{code_number}
 use Rattle.mig_guest.specs.PartKeys.{p2m_key}
-use Rattle.mig_bodies.specs.Shapes.{canonical_bodies, part_body, parts_at, shape_of}
+use Rattle.mig_records.specs.Shapes.{canonical_bodies, part_body, parts_at, shape_of}
 use Rattle.mig_records.specs.Records.{spelled}
 
 -- ---- frames: 1024 in each record, and the rest in the last

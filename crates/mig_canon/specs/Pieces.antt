@@ -2,10 +2,10 @@
 use Rattle.std.specs.Prelude.{◌≤◌, ℕ, List, [], length, ⊤}
 use Rattle.mig_headers.specs.RecordTypes.{most_body}
 use Rattle.mig_guest.specs.Parts.{Part}
-use Rattle.mig_bodies.specs.declared.shape.Shape.{Shape}
-use Rattle.mig_bodies.specs.declared.shape.Shape.TheVariants.{Table, Other}
-use Rattle.mig_bodies.specs.Layouts.{entry_text}
-use Rattle.mig_bodies.specs.Shapes.{part_body}
+use Rattle.mig_records.specs.declared.shape.Shape.{Shape}
+use Rattle.mig_records.specs.declared.shape.Shape.TheVariants.{Table, Other}
+use Rattle.mig_records.specs.Layouts.{entry_text}
+use Rattle.mig_records.specs.Shapes.{part_body}
 use Rattle.mig_records.specs.Records.{spelled}
 
 abbrev pub piece : Shape → ℕ → Part → List ℕ

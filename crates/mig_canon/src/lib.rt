@@ -1,7 +1,7 @@
 //! Writes a guest as its canonical stream (libxc migration stream, version 3).
 //!
 //! Responsible for: the order of the records of a canonical stream; frames in batches of 1024; and the parts of each code,
-//! written by its shape with everything that a reader ignores zero. It leaves to others the shapes (mig_bodies), whether a
+//! written by its shape with everything that a reader ignores zero. It leaves to others the shapes (mig_records), whether a
 //! guest can be written (`IsWhole` of mig_pvtables), what the stream means to a reader, and the wrapper.
 //!
 //! What the layers above rely on: for a whole guest the bytes that are appended are exactly `canon` of specs/Canon,

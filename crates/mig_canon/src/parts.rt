@@ -7,16 +7,15 @@ ghost use Rattle.mig_headers.specs.RecordTypes.{most_body};
 ghost use Rattle.mig_guest.specs.Formed.{IsFormed};
 ghost use Rattle.mig_records.specs.Records.{spelled};
 ghost use Rattle.mig_guest.specs.PartCodes.{code_number};
-ghost use Rattle.mig_bodies.specs.declared.shape.Shape.TheVariants as shapes;
-ghost use Rattle.mig_bodies.specs.Layouts.{AreWidths, front_text, entry_text};
-ghost use Rattle.mig_bodies.specs.Shapes.{shape_of, parts_at, IsRow};
+ghost use Rattle.mig_records.specs.declared.shape.Shape.TheVariants as shapes;
+ghost use Rattle.mig_records.specs.Layouts.{AreWidths, front_text, entry_text};
+ghost use Rattle.mig_records.specs.Shapes.{shape_of, parts_at, IsRow};
 ghost use Rattle.mig_canon.specs.Canon.{records_of, text_of};
 ghost use Rattle.mig_canon.specs.Pieces.{piece, IsShortPart};
 
-use mig_bodies::{Layout, Shape, shape_of};
 use mig_bytes::{Sink, WriteFailed, put_all, put_u64_le};
 use mig_guest::{Guest, PartCode, PartKey};
-use mig_records::{write_head, write_padding, write_record};
+use mig_records::{Layout, Shape, shape_of, write_head, write_padding, write_record};
 
 /// Appends the lowest bytes of two numbers, of each the lowest first.
 #[tactic(auto, using(mig_bytes::proofs::Texts::puts_same, crate::proofs::Spelling::numbers_text))]

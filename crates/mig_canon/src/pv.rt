@@ -1,17 +1,16 @@
 ghost use Rattle.std.specs.Prelude.{◌≡◌, ◌+◌, ◌≤◌, ◌^◌, length};
 ghost use Rattle.mig_bytes.specs.Bytes.{Puts};
 ghost use Rattle.mig_bytes.specs.Faults.{HasCause};
-ghost use Rattle.mig_bodies.specs.Shapes.{shape_of, of_vcpu};
+ghost use Rattle.mig_records.specs.Shapes.{shape_of, of_vcpu};
 ghost use Rattle.mig_guest.specs.Formed.{IsFormed};
 ghost use Rattle.mig_records.specs.Records.{spelled};
 ghost use Rattle.mig_canon.specs.Canon.{info_records, p2m_body, p2m_records, vcpu_record, records_of_vcpu, all_vcpus, text_of};
 
 use crate::parts::{write_numbers, write_piece};
-use mig_bodies::shape_of;
 use mig_bytes::{Sink, WriteFailed, put_all};
 use mig_guest::{Guest, PartCode, PartKey};
 use mig_headers::Kind;
-use mig_records::{write_head, write_padding, write_record};
+use mig_records::{shape_of, write_head, write_padding, write_record};
 
 /// The type of X86_PV_INFO.
 const PV_INFO: u32 = 2;

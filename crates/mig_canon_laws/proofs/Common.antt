@@ -1,7 +1,7 @@
 -- Names that many proofs of this crate use.
 pub use Rattle.byteorder.specs.Endian.{little_bytes, little_number}
-pub use Rattle.mig_bodies.proofs.Canonical.{canonical_bodies_say}
-pub use Rattle.mig_bodies.specs.Shapes.{IsBody, IsRecordBody, IsShaped, SayAll, bodies_by_shape, canonical_bodies, contents_by_shape, part_body, parts_at, set_parts, shape_of, sole_key}
+pub use Rattle.mig_records.proofs.Canonical.{canonical_bodies_say}
+pub use Rattle.mig_records.specs.Shapes.{IsBody, IsRecordBody, IsShaped, SayAll, bodies_by_shape, canonical_bodies, contents_by_shape, part_body, parts_at, set_parts, shape_of, sole_key}
 pub use Rattle.mig_bytes.specs.Bytes.{padding_len}
 pub use Rattle.mig_bytes.specs.Sequences.{Spells}
 pub use Rattle.mig_bytes.specs.Sequences.Spells.{no_part, one_more}

@@ -7,7 +7,7 @@ use Rattle.std.proofs.Math.Bool.{and-or_distrib_right}
 use Rattle.std.proofs.lemmas.Bool.{and_right, not-true}
 use Rattle.mig_guest.specs.declared.part_code.PartCode.TheVariants.{P2mFrames, SharedInfo, CpuidLeaf, Msr}
 use Rattle.mig_guest.specs.PartCodes.{no_keys}
-use Rattle.mig_bodies.specs.PvBodies.{set_p2m}
+use Rattle.mig_records.specs.PvBodies.{set_p2m}
 use Rattle.mig_canon_laws.proofs.PvSays.{p2m_set}
 use Rattle.mig_canon_laws.proofs.CanonMaps.{Holds, mixed, codes_with, with_parts, holds_codes, holds_none, nothing, all_again}
 use Rattle.std.proofs.lemmas.List.{map-id}

@@ -4,9 +4,9 @@ use Rattle.mig_pagetypes.specs.Limits.{top_limit}
 use Rattle.std.specs.FinMap as maps
 use Rattle.std.specs.FinMap.Entries.{find-where_key}
 use Rattle.mig_guest.specs.declared.part_code.PartCode.TheVariants.{P2mFrames}
-use Rattle.mig_bodies.specs.PvBodies.{IsPvInfo, IsP2m, p2m_count, set_p2m, greater, listed_over}
-use Rattle.mig_bodies.specs.declared.shape.Shape.{Shape}
-use Rattle.mig_bodies.specs.declared.shape.Shape.TheVariants.{Table, Single, Named, Chain, Other}
+use Rattle.mig_records.specs.PvBodies.{IsPvInfo, IsP2m, p2m_count, set_p2m, greater, listed_over}
+use Rattle.mig_records.specs.declared.shape.Shape.{Shape}
+use Rattle.mig_records.specs.declared.shape.Shape.TheVariants.{Table, Single, Named, Chain, Other}
 use Rattle.mig_canon_laws.proofs.CanonParts.{le32_first, le32_second}
 use Rattle.mig_canon_laws.proofs.CanonMaps.{found_holds}
 

@@ -23,7 +23,7 @@ use Rattle.mig_guest.specs.declared.part_code.PartCode.TheVariants.{VcpuBasic}
 use Rattle.mig_guest.specs.declared.part_key.PartKey.{PartKey}
 use Rattle.mig_guest.proofs.KeyedMaps.{tied}
 use Rattle.mig_guest.proofs.PartOrder.{part_exact}
-use Rattle.mig_bodies.specs.Shapes.{canonical_bodies}
+use Rattle.mig_records.specs.Shapes.{canonical_bodies}
 use Rattle.mig_records.specs.Records.{head_of, spelled}
 use Rattle.mig_canon.specs.Canon.{Frame, Record, batch, batches, page_in, pages_of, body_of, frame_bodies, records_in_order, static_codes, pv_last_codes, static_bodies, p2m_body, p2m_record, p2m_records, part_record, key_of, vcpu_codes, records_of_vcpu, vcpus_below, all_vcpus, last_records, info_records, text_of, headers, canon}
 use Rattle.mig_canon.proofs.Batches.{words_len}

@@ -4,13 +4,13 @@ ghost use Rattle.std.specs.FinMap as maps;
 ghost use Rattle.mig_guest.specs.Parts.{put_parts};
 ghost use Rattle.mig_guest.specs.declared.part_key.PartKey.{PartKey};
 ghost use Rattle.mig_guest.specs.declared.part_code.PartCode.TheVariants.{HvmParam};
-ghost use Rattle.mig_bodies.specs.Layouts.{IsSmallKey};
-ghost use Rattle.mig_bodies.specs.Shapes.{fault_of_body, parts_of_body};
+ghost use Rattle.mig_records.specs.Layouts.{IsSmallKey};
+ghost use Rattle.mig_records.specs.Shapes.{fault_of_body, parts_of_body};
 
-use mig_bodies::{body_fault, read_body};
 use mig_bytes::Memory;
 use mig_guest::{Guest, PartCode};
 use mig_headers::Cause;
+use mig_records::{body_fault, read_body};
 
 /// What is wrong with the body of an HVM_PARAMS record: `BadLength` where its count asks for another length, else
 /// `ParamIndex` of the first index of 4096 or more.

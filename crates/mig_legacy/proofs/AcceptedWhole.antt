@@ -2,7 +2,7 @@
 -- emulators well formed, and the tail sets the context.
 use Rattle.mig_legacy.proofs.Common.{◌≡◌, ℕ, ◌<◌, true, false, List, [], ◌++◌, length, Option, Some, None, refl, sym, ap, subst, ◌∙◌, arith, length-append, All-append, fold-append, AreBytes, Hvm, Pv, GuestOf, width_of, IsStreamed, guest_done, context_kept, EmulatorsOf, emulators_of, put_libxl_content, no_emulators, AreEmulators, IsStreamedBare, Grows, IsBegun, sent, put_record, empty_guest, sent_kind, words, page_data_words, ChunkKind, End, LegacyContent, LegacyChunk, LegacyTail, Nothing, param_key, tsc_key, store_records, image_records, tail_records, device_records, guest_without, device_model, is_legacy_ended, mean_legacy, put_in_guest, put_in_emulators, put_tail, put_device, HasLegacyContent, StoreFits, FollowsLegacy, IsTail, IsDevice, AcceptedLegacy, blank, IsOfBytes, signature}
 use Rattle.mig_guest.specs.Frames.{IsFew}
-use Rattle.mig_bodies.proofs.BodyBytes.{bytes_front, bytes_back}
+use Rattle.mig_records.proofs.BodyBytes.{bytes_front, bytes_back}
 use Rattle.mig_bytes.specs.Sequences.{Spells}
 use Rattle.mig_bytes.specs.Sequences.Spells.{no_part, one_more}
 use Rattle.mig_chunks.specs.Chunks.{IsWithinLimits}

@@ -9,7 +9,7 @@ use Rattle.mig_pagetypes.specs.declared.page_type.PageType.{PageType}
 use Rattle.mig_pagetypes.specs.declared.page_type.PageType.TheVariants.{Notab}
 use Rattle.mig_guest.specs.Formed.{IsInside}
 use Rattle.mig_guest.specs.Tables.{EachEntry, IsWithin}
-use Rattle.mig_bodies.proofs.BodyBytes.{bytes_front, bytes_back}
+use Rattle.mig_records.proofs.BodyBytes.{bytes_front, bytes_back}
 use Rattle.mig_libxc.specs.Mean.{put_entry}
 use Rattle.mig_libxc.specs.Spelled.{IsPage, IsEntry}
 use Rattle.mig_libxc.proofs.Batches.{carries}

@@ -7,7 +7,7 @@ use Rattle.std.proofs.lemmas.List.Sums.{passes_at_first}
 use Rattle.std.specs.Prelude.{◌==◌}
 use Rattle.mig_headers.specs.Pairs.{IsPair, is_key_byte, text_of_pair}
 use Rattle.mig_policy.proofs.KeyLaws.{spelled_read}
-use Rattle.mig_bodies.proofs.BodyBytes.{bytes_front, bytes_back}
+use Rattle.mig_records.proofs.BodyBytes.{bytes_front, bytes_back}
 use Rattle.mig_chunks.specs.Texts.{digit_value, hexadecimal, name_pairs, physmap_pair}
 use Rattle.mig_chunks.specs.Toolstack.{ArePhysmaps, name_bytes}
 use Rattle.mig_chunks.proofs.Digits.{digits_spell}

@@ -1,5 +1,5 @@
 -- The tail: how it is read, and that a guest with it is whole.
-use Rattle.mig_bodies.proofs.Kept.{cut_is}
+use Rattle.mig_records.proofs.Kept.{cut_is}
 use Rattle.mig_legacy.proofs.Common.{◌≡◌, ℕ, ◌<◌, ◌≤◌, ◌^◌, List, length, take, drop, Option, Result, Ok, Err, refl, sym, ap, subst, ◌∙◌, arith, length-take-le, length-drop, IsOk, IfOk, IsSome, replicate, false≢true, All-append, All-take, All-drop, All-replicate, AreBytes, Judged, ◌>>=◌, part, tried, Gives, said_at, Passes, Stop, then_reads, scan, cut_at, ContextFault, Hvm, LegacyCause, Truncated, IsCut, width_of, GuestOf, context_key, PartKey, part_total, blank_of, IsBegun, IsStreamedBare, judged_as, Test, computed, length_form, counted_form, context_fault, cut_context, tail_of, tail_form, LegacyTail, param_key, put_tail}
 use Rattle.std.specs.FinMap as maps
 use Rattle.mig_guest.specs.Frames.{IsFew}

@@ -4,9 +4,9 @@ use Rattle.std.proofs.lemmas.List.Elements.{All-head, All-tail}
 use Rattle.mig_headers.specs.declared.record_type.RecordType.TheVariants.{X86PvP2mFrames}
 use Rattle.mig_pagetypes.specs.declared.page_type.PageType.TheVariants.{Notab}
 use Rattle.mig_order.specs.Order.IsInOrder.{optional as is_optional, ordered as is_ordered}
-use Rattle.mig_bodies.proofs.BodyBytes.{bytes_front, bytes_back}
-use Rattle.mig_bodies.proofs.Reading.{AreOctets}
-use Rattle.mig_bodies.proofs.Small.{small_parts}
+use Rattle.mig_records.proofs.BodyBytes.{bytes_front, bytes_back}
+use Rattle.mig_records.proofs.Reading.{AreOctets}
+use Rattle.mig_records.proofs.Small.{small_parts}
 use Rattle.mig_pvtables.specs.Blank.{blank, IsOfBytes}
 use Rattle.mig_pvtables.specs.Whole.{IsWhole}
 use Rattle.mig_pvtables.proofs.BlankAgain.{blank_again}

@@ -1,8 +1,8 @@
 -- Names that many proofs of this crate use.
-pub use Rattle.mig_bodies.proofs.PvLaws.{info_is_spelled, p2m_is_spelled}
-pub use Rattle.mig_bodies.proofs.Spelled.{bodies_are_spelled, is_shaped}
-pub use Rattle.mig_bodies.specs.PvBodies.{IsP2m, fault_of_p2m, fault_of_pv_info, set_p2m}
-pub use Rattle.mig_bodies.specs.Shapes.{HasBodyLength, IsBody, fault_of_body, has_shape, parts_of_body, set_parts, shape_of}
+pub use Rattle.mig_records.proofs.PvLaws.{info_is_spelled, p2m_is_spelled}
+pub use Rattle.mig_records.proofs.Spelled.{bodies_are_spelled, is_shaped}
+pub use Rattle.mig_records.specs.PvBodies.{IsP2m, fault_of_p2m, fault_of_pv_info, set_p2m}
+pub use Rattle.mig_records.specs.Shapes.{HasBodyLength, IsBody, fault_of_body, has_shape, parts_of_body, set_parts, shape_of}
 pub use Rattle.mig_bytes.proofs.Joins.{both_pass, part_passes, part_whole, placed_passes, same_passes, stopped, then_passes, then_reads, tried_none, tried_passes}
 pub use Rattle.mig_bytes.proofs.Said.{said_goes, said_passes}
 pub use Rattle.mig_bytes.specs.Bytes.{AreBytes, padding_len}

@@ -16,11 +16,11 @@ use Rattle.mig_guest.proofs.PartOrder.{part_total, part_exact}
 use Rattle.mig_guest.proofs.PartRows.{number_found}
 use Rattle.mig_headers.specs.declared.record_type.RecordType.TheVariants.{End}
 use Rattle.mig_records.specs.Words.{is_outside}
-use Rattle.mig_bodies.specs.Layouts.{IsSmallKey}
-use Rattle.mig_bodies.specs.PvBodies.{listed_over}
-use Rattle.mig_bodies.proofs.BodyBytes.{bytes_back, bodies_say_bytes, sets_bytes, list_bytes}
-use Rattle.mig_bodies.proofs.Kept.{bodies_say_parts, bodies_keep_formed, set_plain, sets_nothing}
-use Rattle.mig_bodies.proofs.P2mFormed.{p2m_keeps}
+use Rattle.mig_records.specs.Layouts.{IsSmallKey}
+use Rattle.mig_records.specs.PvBodies.{listed_over}
+use Rattle.mig_records.proofs.BodyBytes.{bytes_back, bodies_say_bytes, sets_bytes, list_bytes}
+use Rattle.mig_records.proofs.Kept.{bodies_say_parts, bodies_keep_formed, set_plain, sets_nothing}
+use Rattle.mig_records.proofs.P2mFormed.{p2m_keeps}
 use Rattle.mig_libxc.proofs.Meaning.{said}
 
 -- ---- steps

@@ -13,12 +13,12 @@ use Rattle.mig_guest.specs.Longs.{long_at}
 use Rattle.mig_guest.specs.Formed.{is_policy}
 use Rattle.mig_guest.specs.declared.part_code.PartCode.TheVariants.{P2mFrames}
 use Rattle.mig_guest.proofs.PartOrder.{part_total}
-use Rattle.mig_bodies.specs.Layouts.{AreTableEntries}
-use Rattle.mig_bodies.specs.PvBodies.{listed_over}
-use Rattle.mig_bodies.specs.Shapes.{IsShaped, named_parts}
-use Rattle.mig_bodies.specs.declared.layout.Layout.{Layout}
-use Rattle.mig_bodies.specs.declared.shape.Shape.{Shape}
-use Rattle.mig_bodies.specs.declared.shape.Shape.TheVariants.{Table, Single, Named, Chain, Other}
+use Rattle.mig_records.specs.Layouts.{AreTableEntries}
+use Rattle.mig_records.specs.PvBodies.{listed_over}
+use Rattle.mig_records.specs.Shapes.{IsShaped, named_parts}
+use Rattle.mig_records.specs.declared.layout.Layout.{Layout}
+use Rattle.mig_records.specs.declared.shape.Shape.{Shape}
+use Rattle.mig_records.specs.declared.shape.Shape.TheVariants.{Table, Single, Named, Chain, Other}
 use Rattle.mig_guest.specs.declared.part_key.PartKey.{PartKey}
 use Rattle.mig_pvtables.specs.P2mFrames.{listed, listed_in}
 use Rattle.mig_libxc.specs.Mean.{sent}

@@ -9,7 +9,7 @@ use Rattle.std.specs.Cmp.{nat_cmp_total}
 use Rattle.std.specs.FinMap as fin
 use Rattle.std.proofs.lemmas.List.Sums.{fold-append}
 use Rattle.mig_guest.specs.declared.part_key.PartKey.{PartKey}
-use Rattle.mig_bodies.specs.PvBodies.{listed_over, greater}
+use Rattle.mig_records.specs.PvBodies.{listed_over, greater}
 use Rattle.mig_guest.specs.Formed.{is_policy}
 use Rattle.mig_guest.specs.Frames.{FrameMap, FrameOf, framed}
 use Rattle.mig_guest.proofs.KeyedMaps.{tied}

@@ -21,8 +21,8 @@ use Rattle.mig_records.specs.Words.{words, data_len_of}
 use Rattle.mig_order.specs.Order.{fault_of_type}
 use Rattle.mig_guest.specs.declared.part_code.PartCode.{PartCode}
 use Rattle.mig_guest.specs.PartCodes.{code_of_number}
-use Rattle.mig_bodies.specs.PvBodies.{fault_of_pv_info, fault_of_p2m}
-use Rattle.mig_bodies.specs.Shapes.{fault_of_body, parts_of_body}
+use Rattle.mig_records.specs.PvBodies.{fault_of_pv_info, fault_of_p2m}
+use Rattle.mig_records.specs.Shapes.{fault_of_body, parts_of_body}
 use Rattle.mig_pvtables.specs.Faults.{fault_of_guest}
 use Rattle.mig_pvtables.specs.Tables.{fault_of_page_table}
 use Rattle.mig_libxc.specs.Mean.{sent, meant_type}

@@ -16,8 +16,8 @@ use Rattle.mig_guest.specs.PartCodes.{code_number}
 use Rattle.mig_guest.specs.Formed.{is_policy, IsFormed, HasNoEmulators}
 use Rattle.mig_guest.specs.PartKeys.{p2m_key}
 use Rattle.mig_guest.specs.Parts.{Part}
-use Rattle.mig_bodies.specs.Shapes.{set_parts}
-use Rattle.mig_bodies.specs.PvBodies.{set_p2m}
+use Rattle.mig_records.specs.Shapes.{set_parts}
+use Rattle.mig_records.specs.PvBodies.{set_p2m}
 use Rattle.mig_pvtables.specs.Blank.{blank, IsOfBytes}
 use Rattle.mig_pvtables.specs.P2mFrames.{listed_in}
 use Rattle.mig_libxc.specs.Record.{FrameEntry, StreamRecord, Content, types_of, is_verified}

@@ -16,8 +16,8 @@ use Rattle.mig_order.specs.Order.{IsInOrder}
 use Rattle.mig_headers.specs.RecordTypes.{record_row_of, type_number, most_body}
 use Rattle.mig_headers.specs.declared.record_type.RecordType.{RecordType}
 use Rattle.mig_guest.specs.declared.part_code.PartCode.{PartCode}
-use Rattle.mig_bodies.specs.PvBodies.{IsPvInfo, IsP2m}
-use Rattle.mig_bodies.specs.Shapes.{IsBody}
+use Rattle.mig_records.specs.PvBodies.{IsPvInfo, IsP2m}
+use Rattle.mig_records.specs.Shapes.{IsBody}
 use Rattle.mig_pvtables.specs.WholePv.{IsCompletePv}
 use Rattle.mig_guest.specs.Frames.{IsFew}
 use Rattle.mig_guest.specs.Parts.{Part}

@@ -4,7 +4,7 @@
 //! join the judging with the spelling of the format; the test of a record's head behind the records before it, and what a
 //! PAGE_DATA word and its page say. For HVM and PV guests, in version 2 and 3 of the format.
 //! Left to others: bytes and fields (mig_bytes), headers and the table of record types (mig_headers), record heads and
-//! PAGE_DATA words (mig_records), the order of records (mig_order), what bodies say (mig_bodies, mig_hvm), frames and parts
+//! PAGE_DATA words (mig_records), the order of records (mig_order), what bodies say (mig_records, mig_hvm), frames and parts
 //! (mig_guest), page tables, whole guests and blank forms (mig_pvtables), an image read (mig_restore).
 //!
 //! What the layers above rely on: an input either begins with one accepted image of one guest, or is refused at one place

@@ -27,11 +27,11 @@ use Rattle.mig_guest.specs.declared.part_code.PartCode.TheVariants.{VcpuBasic, V
 use Rattle.mig_records.specs.Faults.{long_rows, length_rows, count_rows, word_rows, fault_of_long, fault_of_length, fault_of_count, fault_of_words}
 use Rattle.mig_records.specs.Words.{words}
 use Rattle.mig_order.specs.Order.{Earlier, earlier_in, causes, fault_of_mandatory, fault_of_type}
-use Rattle.mig_bodies.specs.Layouts.{fault_of_key, fault_of_entry, fault_of_entries, entry_width, entry_count, front_width}
-use Rattle.mig_bodies.specs.PvBodies.{fault_of_pv_info, fault_of_p2m}
-use Rattle.mig_bodies.specs.Shapes.{shape_of, fault_of_content, fault_of_scan, fault_by_shape, fault_of_body, parts_of_body}
-use Rattle.mig_bodies.specs.declared.shape.Shape.{Shape}
-use Rattle.mig_bodies.specs.declared.shape.Shape.TheVariants.{Table, Single, Named, Chain, Other}
+use Rattle.mig_records.specs.Layouts.{fault_of_key, fault_of_entry, fault_of_entries, entry_width, entry_count, front_width}
+use Rattle.mig_records.specs.PvBodies.{fault_of_pv_info, fault_of_p2m}
+use Rattle.mig_records.specs.Shapes.{shape_of, fault_of_content, fault_of_scan, fault_by_shape, fault_of_body, parts_of_body}
+use Rattle.mig_records.specs.declared.shape.Shape.{Shape}
+use Rattle.mig_records.specs.declared.shape.Shape.TheVariants.{Table, Single, Named, Chain, Other}
 use Rattle.mig_pvtables.specs.Tables.{first_superpage, first_outside}
 use Rattle.mig_libxc.specs.Judging.{Before, opening_of, before, fault_of_number, fault_of_fields, fault_of_head, head_at, fault_of_level, fault_of_page, fault_of_data, page_at, entry_at, entries_at, words_at, with_places, lists_of, type_in_word, code_of_type, coded_at, typed_at, body_at, record_at}
 use Rattle.mig_libxc.specs.Record.{is_ended, is_verified, placed_content}

@@ -12,8 +12,8 @@ use Rattle.mig_headers.specs.declared.record_type.RecordType.TheVariants.{PageDa
 use Rattle.mig_headers.specs.declared.fault.Cause.TheVariants.{Truncated}
 use Rattle.mig_guest.specs.declared.part_code.PartCode.{PartCode}
 use Rattle.mig_pagetypes.specs.FrameWords.{word_pfn, word_has_data}
-use Rattle.mig_bodies.specs.PvBodies.{fault_of_pv_info, fault_of_p2m}
-use Rattle.mig_bodies.specs.Shapes.{fault_of_body, parts_of_body}
+use Rattle.mig_records.specs.PvBodies.{fault_of_pv_info, fault_of_p2m}
+use Rattle.mig_records.specs.Shapes.{fault_of_body, parts_of_body}
 use Rattle.mig_records.specs.Faults.{fault_of_count, fault_of_words}
 use Rattle.mig_records.specs.Words.{words}
 use Rattle.mig_libxc.specs.Record.{is_verified, placed_content}

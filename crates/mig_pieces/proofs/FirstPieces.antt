@@ -3,9 +3,9 @@ use Rattle.std.proofs.Common.{◌≡◌, ◌≢◌, ℕ, ◌+◌, ◌-◌, ◌*�
 use Rattle.std.specs.Option.{option_or}
 use Rattle.std.specs.Prelude.{◌/◌}
 use Rattle.mig_bytes.specs.Fields.{le32}
-use Rattle.mig_bodies.specs.Layouts.{fault_of_entries}
-use Rattle.mig_bodies.specs.PvBodies.{fault_of_pv_info, fault_of_p2m}
-use Rattle.mig_bodies.specs.Shapes.{fault_of_body, fault_of_content}
+use Rattle.mig_records.specs.Layouts.{fault_of_entries}
+use Rattle.mig_records.specs.PvBodies.{fault_of_pv_info, fault_of_p2m}
+use Rattle.mig_records.specs.Shapes.{fault_of_body, fault_of_content}
 use Rattle.mig_guest.specs.declared.part_code.PartCode.TheVariants.{VcpuBasic, VcpuExtended, HvmParam}
 use Rattle.mig_headers.proofs.ContextTexts.{in32}
 use Rattle.mig_headers.specs.declared.fault.Cause.{Cause}

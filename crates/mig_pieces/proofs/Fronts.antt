@@ -9,10 +9,10 @@ use Rattle.std.specs.Prelude.{◌/◌}
 use Rattle.byteorder.specs.Endian.{little_number}
 use Rattle.byteorder.specs.Numbers.{little_from-append, little_from-take}
 use Rattle.mig_bytes.specs.Fields.{le32, le64}
-use Rattle.mig_bodies.specs.Layouts.{fault_of_key, fault_of_entry, fault_of_entries, fault_of_table}
-use Rattle.mig_bodies.specs.PvBodies.{fault_of_pv_info}
-use Rattle.mig_bodies.specs.Shapes.{fault_by_shape, fault_of_body, fault_of_content}
-use Rattle.mig_bodies.specs.declared.shape.Shape.TheVariants.{Named}
+use Rattle.mig_records.specs.Layouts.{fault_of_key, fault_of_entry, fault_of_entries, fault_of_table}
+use Rattle.mig_records.specs.PvBodies.{fault_of_pv_info}
+use Rattle.mig_records.specs.Shapes.{fault_by_shape, fault_of_body, fault_of_content}
+use Rattle.mig_records.specs.declared.shape.Shape.TheVariants.{Named}
 use Rattle.mig_guest.specs.declared.part_code.PartCode.{PartCode}
 use Rattle.mig_guest.specs.declared.part_code.PartCode.TheVariants.{VcpuBasic, VcpuExtended, HvmParam}
 use Rattle.mig_headers.specs.Rows.{first_fault}

@@ -4,8 +4,8 @@ use Rattle.std.specs.Option.{option_or}
 use Rattle.std.specs.Prelude.{◌/◌}
 use Rattle.std.proofs.lemmas.List.{drop-append-le}
 use Rattle.std.proofs.lemmas.List.Sums.{fold-append}
-use Rattle.mig_bodies.specs.Layouts.{fault_of_entries}
-use Rattle.mig_bodies.specs.Shapes.{fault_of_content, fault_of_scan}
+use Rattle.mig_records.specs.Layouts.{fault_of_entries}
+use Rattle.mig_records.specs.Shapes.{fault_of_content, fault_of_scan}
 use Rattle.mig_guest.specs.declared.part_code.PartCode.TheVariants.{VcpuBasic, HvmParam}
 use Rattle.mig_headers.specs.Contexts.{scan}
 use Rattle.mig_headers.specs.declared.fault.Cause.{Cause}

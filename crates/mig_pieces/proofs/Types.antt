@@ -7,8 +7,8 @@ use Rattle.mig_bytes.proofs.Joins.{part_whole}
 use Rattle.mig_bytes.specs.Judged.{Judged, ◌>>=◌, part, tried, said_at}
 use Rattle.mig_bytes.specs.Judged.Judged.{Passes, Faulty}
 use Rattle.mig_bytes.specs.Walk.Reaches.{here}
-use Rattle.mig_bodies.specs.Layouts.{layout, fault_of_key, fault_of_entries, fault_of_table}
-use Rattle.mig_bodies.specs.declared.layout.Layout.{Layout}
+use Rattle.mig_records.specs.Layouts.{layout, fault_of_key, fault_of_entries, fault_of_table}
+use Rattle.mig_records.specs.declared.layout.Layout.{Layout}
 use Rattle.mig_guest.specs.declared.part_code.PartCode.{PartCode}
 use Rattle.mig_guest.specs.declared.part_code.PartCode.TheVariants.{CpuidLeaf, Msr}
 use Rattle.mig_headers.proofs.RecordNumbers.{numbers_are_inverse}

@@ -1,8 +1,8 @@
 -- What is wrong with the whole body of a record, as a reader of the whole body judges it.
 use Rattle.std.specs.Prelude.{ℕ, ◌==◌, List, drop, Option, Some, None, if◌then◌else◌}
 use Rattle.std.specs.Option.{option_or}
-use Rattle.mig_bodies.specs.PvBodies.{fault_of_pv_info, fault_of_p2m}
-use Rattle.mig_bodies.specs.Shapes.{fault_of_body, parts_of_body}
+use Rattle.mig_records.specs.PvBodies.{fault_of_pv_info, fault_of_p2m}
+use Rattle.mig_records.specs.Shapes.{fault_of_body, parts_of_body}
 use Rattle.mig_guest.specs.declared.part_code.PartCode.{PartCode}
 use Rattle.mig_headers.specs.RecordTypes.{is_optional, type_of_number}
 use Rattle.mig_headers.specs.declared.fault.Cause.{Cause}

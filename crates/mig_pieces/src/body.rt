@@ -3,7 +3,7 @@ ghost use Rattle.std.specs.declared.option.Option.{Option};
 ghost use Rattle.mig_headers.specs.declared.fault.Cause.{Cause};
 ghost use Rattle.mig_headers.specs.RecordTypes.{most_body, record_row_of};
 ghost use Rattle.mig_headers.specs.Contexts.{scan};
-ghost use Rattle.mig_bodies.specs.Shapes.{fault_of_scan};
+ghost use Rattle.mig_records.specs.Shapes.{fault_of_scan};
 ghost use Rattle.mig_libxl.specs.Judging.{allows_length};
 ghost use Rattle.mig_records.specs.Faults.{fault_of_length};
 ghost use Rattle.mig_pieces.specs.Bodies.{fault_of_record_body, fault_of_typed, fault_of_libxl_body};

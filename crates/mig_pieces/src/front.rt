@@ -1,8 +1,8 @@
 ghost use Rattle.std.specs.Prelude.{◌≡◌, ◌≤◌, ◌*◌, false, ◌++◌, List, ℕ, length, take, drop};
 ghost use Rattle.mig_bytes.specs.Fields.{le32};
-ghost use Rattle.mig_bodies.specs.Layouts.{fault_of_entry, fault_of_entries};
-ghost use Rattle.mig_bodies.specs.PvBodies.{fault_of_pv_info, fault_of_p2m};
-ghost use Rattle.mig_bodies.specs.Shapes.{fault_of_body, fault_of_content, is_chain, shape_of};
+ghost use Rattle.mig_records.specs.Layouts.{fault_of_entry, fault_of_entries};
+ghost use Rattle.mig_records.specs.PvBodies.{fault_of_pv_info, fault_of_p2m};
+ghost use Rattle.mig_records.specs.Shapes.{fault_of_body, fault_of_content, is_chain, shape_of};
 ghost use Rattle.mig_guest.specs.declared.part_code.PartCode.TheVariants.{VcpuBasic, HvmParam};
 ghost use Rattle.mig_libxl.specs.Judging.{fault_of_context};
 ghost use Rattle.mig_pieces.specs.Begun.{FitsForm, IsKnown, fault_of_form, params, piece_of};
@@ -11,10 +11,10 @@ ghost use Rattle.mig_pieces.specs.declared.known.BodyForm.TheVariants.{HvmParams
 
 use crate::known::{BodyForm, FRONT, Knows, PARAM, PIECE};
 use crate::pairs::no_pairs;
-use mig_bodies::{GDT_ENTS, MAX_GDT_ENTS, SMALL_NUMBERS, body_fault, pv_info_fault};
 use mig_bytes::{u32_le, u64_le};
 use mig_guest::PartCode;
 use mig_headers::Cause;
+use mig_records::{GDT_ENTS, MAX_GDT_ENTS, SMALL_NUMBERS, body_fault, pv_info_fault};
 
 /// Frame numbers whose machine frames one P2M frame holds.
 const IN_P2M_FRAME: u64 = 512;

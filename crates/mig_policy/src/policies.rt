@@ -4,16 +4,16 @@ ghost use Rattle.std.specs.FinMap as maps;
 ghost use Rattle.mig_guest.specs.Parts.{replace_code};
 ghost use Rattle.mig_guest.specs.declared.part_key.PartKey.{PartKey};
 ghost use Rattle.mig_guest.specs.declared.part_code.PartCode.TheVariants.{CpuidLeaf, Msr};
-ghost use Rattle.mig_bodies.specs.Layouts.{IsSmallKey};
-ghost use Rattle.mig_bodies.specs.Shapes.{parts_of_body};
+ghost use Rattle.mig_records.specs.Layouts.{IsSmallKey};
+ghost use Rattle.mig_records.specs.Shapes.{parts_of_body};
 
-use mig_bodies::read_body;
 use mig_bytes::Memory;
 use mig_guest::{Guest, PartCode};
+use mig_records::read_body;
 
 /// Sets the parts of a CPUID policy in place of all earlier ones; of each leaf and subleaf the last entry decides. An
 /// empty body changes nothing. Where no memory is found, some of these parts may be set or gone.
-#[tactic(auto, using(mig_bodies::proofs::Rows::whole_leaves))]
+#[tactic(auto, using(mig_records::proofs::Rows::whole_leaves))]
 pub fn read_cpuid(guest: &mut Guest, body: &[u8]) -> Result<(), Memory>
     requires { length body.now % 24 ≡ 0 }
     ensures ok { OnOk result (guest.new ≡ record guest.old { parts = replace_code 17 guest.old.parts (parts_of_body CpuidLeaf body.now) }) }
@@ -29,7 +29,7 @@ pub fn read_cpuid(guest: &mut Guest, body: &[u8]) -> Result<(), Memory>
 
 /// Sets the parts of an MSR policy in place of all earlier ones; of each index the last entry decides. An empty body
 /// changes nothing. Where no memory is found, some of these parts may be set or gone.
-#[tactic(auto, using(mig_bodies::proofs::Rows::whole_msrs))]
+#[tactic(auto, using(mig_records::proofs::Rows::whole_msrs))]
 pub fn read_msr(guest: &mut Guest, body: &[u8]) -> Result<(), Memory>
     requires { length body.now % 16 ≡ 0 }
     ensures ok { OnOk result (guest.new ≡ record guest.old { parts = replace_code 18 guest.old.parts (parts_of_body Msr body.now) }) }

@@ -1,11 +1,11 @@
 ghost use Rattle.std.specs.Prelude.{◌≡◌, OnOk, OnErr};
 ghost use Rattle.mig_guest.specs.Parts.{put_parts};
 ghost use Rattle.mig_guest.specs.declared.part_code.PartCode.TheVariants.{Tsc};
-ghost use Rattle.mig_bodies.specs.Shapes.{parts_of_body};
+ghost use Rattle.mig_records.specs.Shapes.{parts_of_body};
 
-use mig_bodies::read_single;
 use mig_bytes::Memory;
 use mig_guest::{Guest, PartCode};
+use mig_records::read_single;
 
 /// Sets the part of the TSC: the first 20 bytes of the body. Where no memory is found, the guest stays.
 pub fn read_tsc(guest: &mut Guest, body: &[u8; 24]) -> Result<(), Memory>

@@ -1,3 +1,14 @@
 pub mod Places
 pub mod WordFaults
 pub mod HeadBytes
+pub mod Common
+pub mod TableSpelled
+pub mod Spelled
+pub mod Reading
+pub mod Rows
+pub mod Kept
+pub mod Small
+pub mod BodyBytes
+pub mod Canonical
+pub mod PvLaws
+pub mod P2mFormed

@@ -83,14 +83,14 @@ pub use Rattle.mig_records.proofs.Places.{none_pass, place_is_first}
 pub use Rattle.mig_records.specs.Faults.{count_rows, fault_of_count, fault_of_long, fault_of_words, type_allows}
 pub use Rattle.mig_records.specs.Words.{data_len_of, first_place, first_word, has_reserved_type, is_outside, names_outside, words}
 pub use Rattle.mig_order.specs.Order.{broken_rules, content_records, earlier_in, fault_of_type, is_of, late_static, static_records}
-pub use Rattle.mig_bodies.proofs.PvLaws.{vcpu_rows}
-pub use Rattle.mig_bodies.proofs.TableSpelled.{length_passes}
-pub use Rattle.mig_bodies.specs.Layouts.{entry_count, entry_width, fault_of_entries, fault_of_key, front_width, layout}
-pub use Rattle.mig_bodies.specs.PvBodies.{fault_of_p2m, fault_of_pv_info, fault_of_vcpu, is_vcpu, p2m_count}
-pub use Rattle.mig_bodies.specs.Shapes.{fault_by_shape, fault_of_body, fault_of_scan, has_shape, parts_of_body, shape_of}
-pub use Rattle.mig_bodies.specs.declared.layout.Layout.{Layout}
-pub use Rattle.mig_bodies.specs.declared.shape.Shape.{Shape}
-pub use Rattle.mig_bodies.specs.declared.shape.Shape.TheVariants.{Other, Single, Table}
+pub use Rattle.mig_records.proofs.PvLaws.{vcpu_rows}
+pub use Rattle.mig_records.proofs.TableSpelled.{length_passes}
+pub use Rattle.mig_records.specs.Layouts.{entry_count, entry_width, fault_of_entries, fault_of_key, front_width, layout}
+pub use Rattle.mig_records.specs.PvBodies.{fault_of_p2m, fault_of_pv_info, fault_of_vcpu, is_vcpu, p2m_count}
+pub use Rattle.mig_records.specs.Shapes.{fault_by_shape, fault_of_body, fault_of_scan, has_shape, parts_of_body, shape_of}
+pub use Rattle.mig_records.specs.declared.layout.Layout.{Layout}
+pub use Rattle.mig_records.specs.declared.shape.Shape.{Shape}
+pub use Rattle.mig_records.specs.declared.shape.Shape.TheVariants.{Other, Single, Table}
 pub use Rattle.mig_policy.proofs.KeyLaws.{first_fault_is_computed}
 pub use Rattle.mig_policy.specs.PairFaults.{IsFirstFault, pairs_fault}
 pub use Rattle.mig_policy.specs.PairMaps.{pairs_in}

@@ -21,7 +21,7 @@ use Rattle.mig_guest.specs.declared.part_code.PartCode.{PartCode}
 use Rattle.mig_guest.specs.declared.part_code.PartCode.TheVariants.{VcpuBasic}
 use Rattle.mig_guest.specs.declared.part_key.PartKey.{PartKey}
 use Rattle.mig_guest.specs.declared.table.Entry.TheVariants.{Superpage, Frame}
-use Rattle.mig_bodies.specs.PvBodies.{p2m_count}
+use Rattle.mig_records.specs.PvBodies.{p2m_count}
 use Rattle.mig_pvtables.specs.Faults.{type_at}
 use Rattle.mig_pvtables.specs.P2mFrames.{listed}
 

@@ -8,7 +8,7 @@ use Rattle.mig_bytes.specs.Bytes.{padding_len}
 use Rattle.mig_bytes.specs.Judged.{Judged, ◌>>=◌, part, tried, placed}
 use Rattle.mig_bytes.specs.Judged.Judged.{Passes, Faulty}
 use Rattle.mig_emulators.specs.Content.{LibxlRecord}
-use Rattle.mig_bodies.specs.Shapes.{parts_of_body}
+use Rattle.mig_records.specs.Shapes.{parts_of_body}
 use Rattle.mig_guest.specs.declared.part_code.PartCode.{PartCode}
 use Rattle.mig_headers.proofs.RecordNumbers.{numbers_are_inverse}
 use Rattle.mig_headers.specs.RecordTypes.{most_body, type_of_number, is_optional}

@@ -2,7 +2,7 @@
 use Rattle.std.proofs.Common.{◌≡◌, ◌≢◌, ℕ, ◌-◌, Bool, true, false, ◌||◌, List, [], ◌∷◌, ◌++◌, length, nat_eq, Option, Some, None, refl, sym, ap, subst, ◌∙◌, arith, length-append}
 use Rattle.std.proofs.lemmas.Bool.{ne_eqb, eq-eqb}
 use Rattle.std.proofs.lemmas.List.{length-map, map-append}
-use Rattle.mig_bodies.specs.PvBodies.{greater}
+use Rattle.mig_records.specs.PvBodies.{greater}
 use Rattle.mig_emulators.specs.Content.{LibxlRecord}
 use Rattle.mig_guest.specs.Guests.{GuestOf}
 use Rattle.mig_libxl.specs.Among.{is_libxl_ended, image_in, image_among}

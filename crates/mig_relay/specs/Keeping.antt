@@ -1,6 +1,6 @@
 -- What a relay keeps of the front that it has behind it. It keeps no pages and no bodies.
 use Rattle.std.specs.Prelude.{◌≡◌, ◌≢◌, ◌<◌, ◌≤◌, ◌+◌, ◌*◌, ◌^◌, ◌==◌, ◌||◌, ◌&&◌, not, ℕ, true, false, List, [], ◌∷◌, ◌++◌, length, drop, slice_index, Option, Some, None, ⊤, if◌then◌else◌}
-use Rattle.mig_bodies.specs.PvBodies.{greater}
+use Rattle.mig_records.specs.PvBodies.{greater}
 use Rattle.mig_bytes.specs.Bytes.{padding_len}
 use Rattle.mig_bytes.specs.Fields.{le32}
 use Rattle.mig_emulators.specs.Content.{LibxlRecord}

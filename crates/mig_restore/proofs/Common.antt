@@ -1,7 +1,7 @@
 -- Names that many proofs of this crate use.
-pub use Rattle.mig_bodies.proofs.PvLaws.{p2m_is_spelled}
-pub use Rattle.mig_bodies.specs.PvBodies.{fault_of_p2m}
-pub use Rattle.mig_bodies.specs.Shapes.{HasBodyLength, fault_of_body, parts_of_body}
+pub use Rattle.mig_records.proofs.PvLaws.{p2m_is_spelled}
+pub use Rattle.mig_records.specs.PvBodies.{fault_of_p2m}
+pub use Rattle.mig_records.specs.Shapes.{HasBodyLength, fault_of_body, parts_of_body}
 pub use Rattle.mig_bytes.proofs.Joins.{done, each_ends, each_step, mapped, refused, stopped, then_reads}
 pub use Rattle.mig_bytes.specs.Bytes.{AreBytes, padding_len}
 pub use Rattle.mig_bytes.specs.Fields.{le32}

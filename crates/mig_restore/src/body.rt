@@ -9,8 +9,8 @@ ghost use Rattle.mig_headers.specs.RecordTypes.{record_row_of, type_of_number, m
 ghost use Rattle.mig_headers.specs.declared.record_type.RecordType.{RecordType};
 ghost use Rattle.mig_guest.specs.PartCodes.{row_of, code_number};
 ghost use Rattle.mig_guest.specs.Formed.{is_emulator_code};
-ghost use Rattle.mig_bodies.specs.Layouts.{IsSmallKey};
-ghost use Rattle.mig_bodies.specs.Shapes.{fault_of_body, parts_of_body, set_parts, HasBodyLength};
+ghost use Rattle.mig_records.specs.Layouts.{IsSmallKey};
+ghost use Rattle.mig_records.specs.Shapes.{fault_of_body, parts_of_body, set_parts, HasBodyLength};
 ghost use Rattle.mig_records.specs.Faults.{fault_of_length};
 ghost use Rattle.mig_headers.specs.declared.kind.Kind.TheVariants.{Pv};
 ghost use Rattle.mig_restore.specs.Begun.{AreEntriesBegun, AreEntriesSet};
@@ -19,13 +19,12 @@ ghost use Rattle.mig_libxc.specs.Judging.{sets_at, info_at, p2m_at, words_at, wi
 ghost use Rattle.mig_libxc.specs.Record.Content.{Nothing};
 ghost use Rattle.mig_libxc.specs.Spelled.{IsGoodWord};
 
-use mig_bodies::{body_fault, p2m_fault, pv_info_fault, read_body, read_p2m};
 use mig_bytes::{ReadFailed, Source, Stop, skip, take_long, take_part, u32_le};
 use mig_guest::{Guest, PartCode};
 use mig_headers::{Cause, Kind, RecordType, is_optional};
 use mig_hvm::{read_context, scan_context};
 use mig_libxc::{meant, page_fault, pfn_in, type_in, words_of};
-use mig_records::{RecordHead, count_fault, data_len, words_fault};
+use mig_records::{RecordHead, body_fault, count_fault, data_len, p2m_fault, pv_info_fault, read_body, read_p2m, words_fault};
 use std::alloc::Global;
 
 /// Does nothing. That bytes are below 256 is what makes a guest that they are set in one of bytes.

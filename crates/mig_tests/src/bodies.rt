@@ -1,6 +1,6 @@
-use mig_bodies::vcpu_fault;
 use mig_guest::PartCode;
 use mig_headers::Cause;
+use mig_records::vcpu_fault;
 
 #[test]
 fn knows_faulty_records_of_vcpus(rt: HostRuntime) {

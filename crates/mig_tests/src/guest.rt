@@ -1,10 +1,10 @@
-use mig_bodies::{body_fault, p2m_fault, read_body, read_p2m};
 use mig_guest::{Guest, PartCode, PartKey};
 use mig_headers::{Cause, Kind};
 use mig_hvm::{params_fault, read_params};
 use mig_pagestore::PageStore;
 use mig_pagetypes::PageType;
 use mig_policy::{merge_pairs, pairs_fault, read_cpuid, read_msr, read_tsc};
+use mig_records::{body_fault, p2m_fault, read_body, read_p2m};
 use std::alloc::Global;
 use std::process::Abort;
 use std::test::Fail;

@@ -1,5 +1,5 @@
 use Rattle.std.proofs.Common.{◌≡◌, ℕ, ◌+◌, ◌*◌, ◌-◌, length}
-use Rattle.mig_bodies.specs.Layouts.{fault_of_entries}
+use Rattle.mig_records.specs.Layouts.{fault_of_entries}
 use Rattle.mig_guest.specs.declared.part_code.PartCode.TheVariants.{HvmParam}
 use Rattle.mig_pieces.specs.Begun.{params}
 use Rattle.mig_pieces.proofs.front.params_fault.Given as goal

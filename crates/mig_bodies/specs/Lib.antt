@@ -1,3 +1,0 @@
-pub mod Layouts
-pub mod Shapes
-pub mod PvBodies
