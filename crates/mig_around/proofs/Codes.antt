@@ -28,7 +28,7 @@ use Rattle.mig_records.specs.Shapes.{canonical_bodies, contents_by_shape, parts_
 use Rattle.mig_records.proofs.Canonical.{canonical_bodies_say}
 use Rattle.mig_canon.specs.Canon.{Record, info_records, p2m_record, p2m_records, records_of, records_in_order, static_bodies, last_records}
 use Rattle.mig_canon.proofs.PvRecords.{p2m_short}
-use Rattle.mig_pagesink.specs.Written.{IsRecordWithin, AreRecordsWithin}
+use Rattle.mig_records_pages.specs.Written.{IsRecordWithin, AreRecordsWithin}
 use Rattle.mig_pvtables.proofs.EachValue.{get_each, to_each, stays_each}
 use Rattle.mig_pvtables.specs.Blank.{blanked_part}
 use Rattle.mig_pvtables.specs.VcpuContexts.{blanked_context, blanked_shared, is_used_somewhere}

@@ -15,8 +15,8 @@ use Rattle.mig_records.specs.Records.{spelled}
 use Rattle.mig_canon.specs.Canon.{Record, headers, info_records, static_bodies, p2m_records, records_of, records_in_order, text_of}
 use Rattle.mig_around.specs.SaveTexts.{text_before}
 use Rattle.mig_canon.proofs.Spelling.{text_join, text_one, codes_alone}
-use Rattle.mig_pagesink.specs.Written.{IsShortRecord, AreRecordsWithin, WroteSome, LeavesPart}
-use Rattle.mig_pagesink.proofs.Written.{all_behind, some_behind, none_of_next}
+use Rattle.mig_records_pages.specs.Written.{IsShortRecord, AreRecordsWithin, WroteSome, LeavesPart}
+use Rattle.mig_records_pages.proofs.Written.{all_behind, some_behind, none_of_next}
 use Rattle.mig_around.specs.SaveTexts.{StopsBehind, context_record, setting_codes, closing_records}
 
 -- a text that is some whole records, none of them END, and a part of one more

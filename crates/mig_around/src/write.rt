@@ -13,8 +13,8 @@ ghost use Rattle.mig_around.specs.SaveTexts.{context_record, closing_records, St
 use mig_bytes::{Sink, WriteFailed, put_all};
 use mig_canon::{write_codes, write_headers, write_info, write_p2m_frames, write_vcpus};
 use mig_guest::{Guest, PartCode};
-use mig_pagesink::write_end;
 use mig_records::{write_head, write_padding, write_record};
+use mig_records_pages::write_end;
 
 /// The type of STATIC_DATA_END.
 const STATIC_DATA_END: u32 = 0x10;

@@ -15,10 +15,10 @@ use Rattle.mig_canon.specs.Canon.{Record, headers, text_of}
 use Rattle.mig_canon.proofs.Spelling.{text_join, text_one}
 use Rattle.mig_wrap.specs.Canon.{has_emulators, is_of_converter, opening_text, wrapper_opening, wrapper_closing}
 use Rattle.mig_wrap.proofs.Around.{opening_none, opening_some}
-use Rattle.mig_pagesink.specs.Told.{FrameTold, telling_record, all_told}
-use Rattle.mig_pagesink.specs.Written.{WroteAll, WroteSome, IsRecordWithin, AreRecordsWithin}
-use Rattle.mig_pagesink.specs.Batches.{IsBehind}
-use Rattle.mig_pagesink.proofs.Written.{all_behind, some_behind}
+use Rattle.mig_records_pages.specs.Told.{FrameTold, telling_record, all_told}
+use Rattle.mig_records_pages.specs.Written.{WroteAll, WroteSome, IsRecordWithin, AreRecordsWithin}
+use Rattle.mig_records_pages.specs.Batches.{IsBehind}
+use Rattle.mig_records_pages.proofs.Written.{all_behind, some_behind}
 use Rattle.mig_machine_api.specs.History.{History, no_history}
 use Rattle.mig_machine_api.specs.MachineStates.{MachineState}
 use Rattle.mig_rounds.specs.Parts.{total}

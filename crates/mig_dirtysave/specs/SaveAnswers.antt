@@ -7,8 +7,8 @@ use Rattle.mig_headers.specs.declared.kind.Kind.TheVariants.{Hvm}
 use Rattle.mig_headers.specs.declared.unsound.Unsound.{Unsound}
 use Rattle.mig_guest.specs.Parts.{PartMap}
 use Rattle.mig_canon.specs.Canon.{Record, headers, text_of}
-use Rattle.mig_pagesink.specs.Told.{FrameTold, telling_record, all_told}
-use Rattle.mig_pagesink.specs.Written.{AreRecordsWithin}
+use Rattle.mig_records_pages.specs.Told.{FrameTold, telling_record, all_told}
+use Rattle.mig_records_pages.specs.Written.{AreRecordsWithin}
 use Rattle.mig_hosted.specs.View.{view}
 use Rattle.mig_wrap.specs.Canon.{wrapper_opening, wrapper_closing}
 use Rattle.mig_libxl.specs.Spelled.{AcceptedStream}

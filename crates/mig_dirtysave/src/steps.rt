@@ -5,7 +5,7 @@ ghost use Rattle.mig_bytes.specs.Faults.{Rose};
 ghost use Rattle.mig_headers.specs.declared.unsound.Unsound.{Unsound as UnsoundCause};
 ghost use Rattle.mig_guest.specs.Formed.{IsFormed};
 ghost use Rattle.mig_guest.specs.Hosts.{IsValid};
-ghost use Rattle.mig_pagesink.specs.Batches.{IsBehind};
+ghost use Rattle.mig_records_pages.specs.Batches.{IsBehind};
 ghost use Rattle.mig_machine_api.specs.History.{no_history};
 ghost use Rattle.mig_machine_api.specs.MachineStates.{IsValidState};
 ghost use Rattle.mig_rounds.specs.Parts.{total};

@@ -7,7 +7,7 @@ use Rattle.mig_bytes.specs.Faults.{Rose}
 use Rattle.mig_headers.specs.declared.unsound.Unsound.{Unsound}
 use Rattle.mig_guest.specs.Hosts.{HostOf}
 use Rattle.mig_canon.specs.Canon.{headers, text_of}
-use Rattle.mig_pagesink.specs.Told.{telling_record}
+use Rattle.mig_records_pages.specs.Told.{telling_record}
 use Rattle.mig_hosted.specs.Sound.{unsoundness}
 use Rattle.mig_hosted.specs.View.{view}
 use Rattle.mig_wrap.specs.Canon.{wrapper_opening, wrapper_closing}

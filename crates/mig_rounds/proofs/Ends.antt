@@ -12,7 +12,7 @@ use Rattle.std.proofs.Math.Path.{fun_ext}
 use Rattle.mig_guest.specs.Hosts as hosts
 use Rattle.mig_guest.specs.Hosts.{HostOf, HostFrame, HostFrames}
 use Rattle.mig_pvtables.proofs.EachValue.{get_each}
-use Rattle.mig_pagesink.specs.Told.{FrameTold}
+use Rattle.mig_records_pages.specs.Told.{FrameTold}
 use Rattle.mig_machine_api.specs.Pfns.{Pfns, no_pfns, joined, members, size, all_below}
 use Rattle.mig_machine_api.specs.Footprints.{footprint, footprint_of}
 use Rattle.mig_machine_api.specs.History.{Since, History, nothing_asked, no_history, one_more, and_call}

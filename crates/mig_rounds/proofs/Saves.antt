@@ -7,9 +7,9 @@ use Rattle.std.proofs.lemmas.List.{length-map}
 use Rattle.std.proofs.Math.Path.{fun_ext}
 use Rattle.mig_headers.specs.declared.kind.Kind.{Kind}
 use Rattle.mig_headers.specs.declared.kind.Kind.TheVariants.{Pv, Hvm}
-use Rattle.mig_pagesink.specs.Told.{FrameTold}
-use Rattle.mig_pagesink.specs.Batches.{IsSent, IsBehind}
-use Rattle.mig_pagesink.proofs.Joins.{behind_anyway}
+use Rattle.mig_records_pages.specs.Told.{FrameTold}
+use Rattle.mig_records_pages.specs.Batches.{IsSent, IsBehind}
+use Rattle.mig_records_pages.proofs.Joins.{behind_anyway}
 use Rattle.mig_machine_api.specs.Pfns.{Pfns, no_pfns, members, size}
 use Rattle.mig_machine_api.specs.History.{LogTook, History, one_more, and_call}
 use Rattle.mig_machine_api.specs.MachineStates.{MachineState}

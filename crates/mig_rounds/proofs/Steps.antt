@@ -23,10 +23,10 @@ use Rattle.mig_rounds.specs.Findings.{Finding, judge, judged, found_as, frame_se
 use Rattle.mig_rounds.specs.Step.{ReadsOne, Strays, most_calls}
 use Rattle.mig_rounds.specs.Parts.{rest, total, total_taken}
 use Rattle.mig_rounds.specs.Entries.{entry_for, put_at, put_told, meant, AreTold, IsToldEntry}
-use Rattle.mig_pagesink.specs.Batches.{IsBehind, FallsBehind}
-use Rattle.mig_pagesink.specs.Told.{FrameTold}
+use Rattle.mig_records_pages.specs.Batches.{IsBehind, FallsBehind}
+use Rattle.mig_records_pages.specs.Told.{FrameTold}
 use Rattle.mig_rounds.specs.Current.{Notes, Current, noted}
-use Rattle.mig_pagesink.proofs.Joins.{behind_anyway}
+use Rattle.mig_records_pages.proofs.Joins.{behind_anyway}
 use Rattle.mig_rounds.specs.Sends.{ReadsFront, SendsFront, IsWorst, first_pfn, or_first, within_set, place, found_super, found_lost, super_of, lost_of}
 use Rattle.mig_rounds.proofs.Parts.{nothing_before, front_more, front_skip, not_itself, rest_more, rest_skip, rest_all, skip_to}
 use Rattle.mig_pfnset.proofs.Sizes.{size-le, size_more, size_stays, members_yes, members_no}

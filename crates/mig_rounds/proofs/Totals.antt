@@ -5,9 +5,9 @@ use Rattle.std.proofs.lemmas.Bool.Decides.{nat_tests}
 use Rattle.std.proofs.lemmas.List.{length-map}
 use Rattle.mig_headers.specs.declared.kind.Kind.{Kind}
 use Rattle.mig_pagetypes.specs.declared.page_type.PageType.{PageType}
-use Rattle.mig_pagesink.specs.Told.{FrameTold, all_told}
-use Rattle.mig_pagesink.specs.Batches.{IsSent, AreSized, AreFull}
-use Rattle.mig_pagesink.proofs.Joins.{few_batches, nothing_sent}
+use Rattle.mig_records_pages.specs.Told.{FrameTold, all_told}
+use Rattle.mig_records_pages.specs.Batches.{IsSent, AreSized, AreFull}
+use Rattle.mig_records_pages.proofs.Joins.{few_batches, nothing_sent}
 use Rattle.mig_machine_api.specs.Pfns.{Pfns, size, members, all_below, pfns_of_words}
 use Rattle.mig_machine_api.specs.History.{History, LogTook, no_history}
 use Rattle.mig_machine_api.specs.MachineStates.{MachineState, IsValidState}

@@ -3,7 +3,7 @@ use Rattle.std.specs.Prelude.{◌≡◌, ℕ, List, false, get_or, ◌==◌, Opt
 use Rattle.std.specs.FinMap as maps
 use Rattle.mig_pagetypes.specs.declared.page_type.PageType.{PageType}
 use Rattle.mig_guest.specs.Hosts.{HostFrames}
-use Rattle.mig_pagesink.specs.Told.{FrameTold}
+use Rattle.mig_records_pages.specs.Told.{FrameTold}
 use Rattle.mig_machine_api.specs.Pfns.{Pfns, pfns_of_words}
 use Rattle.mig_machine_api.specs.Footprints.{footprint}
 use Rattle.mig_rounds.specs.Forms.{type_of_print}

@@ -4,7 +4,7 @@ use Rattle.std.specs.List.{AllByRecursion}
 use Rattle.std.specs.FinMap as maps
 use Rattle.mig_headers.specs.declared.kind.Kind.{Kind}
 use Rattle.mig_guest.specs.Frames.{FrameOf, FrameMap}
-use Rattle.mig_pagesink.specs.Told.{FrameTold}
+use Rattle.mig_records_pages.specs.Told.{FrameTold}
 use Rattle.mig_rounds.specs.Findings.{Finding, frame_sent, CanBeTold}
 
 -- the entry of a PFN at which this was found

@@ -9,8 +9,8 @@ use Rattle.mig_pagetypes.specs.declared.page_type.PageType.{PageType}
 use Rattle.mig_guest.specs.Frames.{FrameMap}
 use Rattle.mig_guest.specs.Hosts.{HostFrame, HostFrames}
 use Rattle.mig_pvtables.specs.Blank.{each_value}
-use Rattle.mig_pagesink.specs.Told.{FrameTold, all_told}
-use Rattle.mig_pagesink.specs.Batches.{BatchesWritten, AreSized, IsSent, IsBehind}
+use Rattle.mig_records_pages.specs.Told.{FrameTold, all_told}
+use Rattle.mig_records_pages.specs.Batches.{BatchesWritten, AreSized, IsSent, IsBehind}
 use Rattle.mig_machine_api.specs.Pfns.{Pfns, size}
 use Rattle.mig_machine_api.specs.Footprints.{footprint, footprint_of}
 use Rattle.mig_machine_api.specs.History.{LogTook, nothing_asked}

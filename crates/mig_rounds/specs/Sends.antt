@@ -2,8 +2,8 @@
 use Rattle.std.specs.Prelude.{◌≡◌, ℕ, zero, suc, ◌+◌, ◌*◌, ◌≤◌, List, [], ◌++◌, length, true, false, Option, Some, None, if◌then◌else◌}
 use Rattle.std.specs.Option.{option_map}
 use Rattle.mig_guest.specs.Hosts.{HostFrames}
-use Rattle.mig_pagesink.specs.Told.{FrameTold}
-use Rattle.mig_pagesink.specs.Batches.{IsSent, IsBehind}
+use Rattle.mig_records_pages.specs.Told.{FrameTold}
+use Rattle.mig_records_pages.specs.Batches.{IsSent, IsBehind}
 use Rattle.mig_machine_api.specs.Pfns.{Pfns, no_pfns, members, size}
 use Rattle.mig_machine_api.specs.Footprints.{footprint}
 use Rattle.mig_machine_api.specs.MachineStates.{MachineState, IsSameShape}

@@ -2,8 +2,8 @@ ghost use Rattle.std.specs.Prelude.{◌≡◌, ℕ, ◌<◌, ◌≤◌, length, 
 ghost use Rattle.mig_guest.specs.Hosts.{most_saved_width};
 
 use mig_bytes::Memory;
-use mig_pagesink::Batch;
 use mig_pagetypes::PageType;
+use mig_records_pages::Batch;
 use std::alloc::{AllocError, Global};
 use std::marker::Model;
 

@@ -13,9 +13,9 @@ use crate::found::{SendFault, Worst};
 use crate::send::send_one;
 use mig_bytes::{Sink, WriteFailed};
 use mig_machine_api::Machine;
-use mig_pagesink::Batch;
 use mig_pagetypes::PageType;
 use mig_pfnset::next_from;
+use mig_records_pages::Batch;
 
 /// Reads and sends each member of a set, ascending, and writes what is held then.
 pub(crate) fn send_all<M: Machine, K: Sink>(

@@ -2,7 +2,7 @@ ghost use Rattle.std.specs.Prelude.{◌≡◌, ◌+◌, ◌*◌, ◌/◌, ◌^�
 ghost use Rattle.mig_bytes.specs.Faults.{Rose};
 ghost use Rattle.mig_guest.specs.Hosts.{most_saved_width};
 ghost use Rattle.mig_headers.specs.declared.unsound.Unsound.{Unsound};
-ghost use Rattle.mig_pagesink.specs.Batches.{IsBehind};
+ghost use Rattle.mig_records_pages.specs.Batches.{IsBehind};
 ghost use Rattle.mig_machine_api.specs.Pfns.{pfns_of_words, size};
 ghost use Rattle.mig_machine_api.specs.History.{no_history};
 ghost use Rattle.mig_machine_api.specs.MachineCalls.{Paused};
@@ -20,9 +20,9 @@ use crate::sets::{take_more, take_set};
 use mig_bytes::Sink;
 use mig_headers::Unsound;
 use mig_machine_api::Machine;
-use mig_pagesink::Batch;
 use mig_pagetypes::PageType;
 use mig_pfnset::{count, join};
+use mig_records_pages::Batch;
 
 /// The most rounds before the pause.
 const MOST_ROUNDS: u32 = 5;

@@ -3,7 +3,7 @@ ghost use Rattle.std.specs.Option.{option_map};
 ghost use Rattle.mig_bytes.specs.Faults.{Rose};
 ghost use Rattle.mig_pagetypes.specs.Limits.{pfn_limit};
 ghost use Rattle.mig_pagetypes.specs.PageTypes.{type_has_data};
-ghost use Rattle.mig_pagesink.specs.Batches.{SendsOn, FallsBehind};
+ghost use Rattle.mig_records_pages.specs.Batches.{SendsOn, FallsBehind};
 ghost use Rattle.mig_rounds.specs.Findings.{found_as, frame_sent, is_deferred, type_found};
 ghost use Rattle.mig_rounds.specs.Step.{ReadsOne, Strays};
 ghost use Rattle.mig_rounds.specs.Entries.{entry_for};
@@ -15,9 +15,9 @@ use crate::found::{Found, SendFault};
 use crate::step::read_one;
 use mig_bytes::{Sink, WriteFailed};
 use mig_machine_api::Machine;
-use mig_pagesink::{Batch, HeldFrame};
 use mig_pagetypes::PageType;
 use mig_pfnset::put;
+use mig_records_pages::{Batch, HeldFrame};
 
 /// The type that the entry tells.
 fn kind_sent(found: Found) -> Option<PageType>

@@ -21,8 +21,8 @@ use Rattle.mig_hosted.proofs.ViewedFrames.{not_absent, inside_is}
 use Rattle.mig_canon.specs.Canon.{Frame}
 use Rattle.mig_libxc.specs.Mean.{meant_type, put_entry, put_entries}
 use Rattle.mig_canon_laws.specs.Batched.{IsSendable, IsSendableBatch, told, frames_told}
-use Rattle.mig_pagesink.specs.Told.{FrameTold, frame_or_xtab, telling_frame, telling_frames, all_told}
-use Rattle.mig_pagesink.specs.Batches.{AreSized}
+use Rattle.mig_records_pages.specs.Told.{FrameTold, frame_or_xtab, telling_frame, telling_frames, all_told}
+use Rattle.mig_records_pages.specs.Batches.{AreSized}
 use Rattle.mig_rounds.specs.Findings.{IsToldFrame}
 use Rattle.mig_rounds.specs.Entries.{IsToldEntry, AreTold, put_at, put_told, meant}
 use Rattle.mig_rounds.proofs.Steps.{got}

@@ -21,8 +21,8 @@ use Rattle.mig_canon_laws.specs.Batched.{IsSendableBatch, TellFrames, frames_tol
 use Rattle.mig_canon_laws.proofs.Batched.{batched_is_accepted}
 use Rattle.mig_wrap.specs.Canon.{bare_guest}
 use Rattle.mig_wrap.proofs.Canon.{bare_is, bare_plain, bare_whole, batched_bare}
-use Rattle.mig_pagesink.specs.Told.{FrameTold, telling_frames, all_told}
-use Rattle.mig_pagesink.specs.Batches.{AreSized}
+use Rattle.mig_records_pages.specs.Told.{FrameTold, telling_frames, all_told}
+use Rattle.mig_records_pages.specs.Batches.{AreSized}
 use Rattle.mig_rounds.specs.Entries.{AreTold, meant}
 use Rattle.mig_rounds.specs.Live.{forms}
 use Rattle.mig_saved.proofs.Told.{batches_sendable, told_is_meant, left_is_formed}

@@ -5,8 +5,8 @@ ghost use Rattle.mig_hosted.specs.View.{view};
 ghost use Rattle.mig_libxc.specs.Spelled.{Accepted};
 ghost use Rattle.mig_wrap.specs.Canon.{bare_guest};
 ghost use Rattle.mig_canon_laws.specs.Batched.{batched};
-ghost use Rattle.mig_pagesink.specs.Told.{FrameTold, telling_frames, all_told};
-ghost use Rattle.mig_pagesink.specs.Batches.{AreSized};
+ghost use Rattle.mig_records_pages.specs.Told.{FrameTold, telling_frames, all_told};
+ghost use Rattle.mig_records_pages.specs.Batches.{AreSized};
 ghost use Rattle.mig_rounds.specs.Entries.{meant, AreTold};
 ghost use Rattle.mig_rounds.specs.Live.{forms};
 

@@ -1,8 +1,8 @@
 ghost use Rattle.std.specs.Prelude.{◌≡◌};
 
 use mig_bytes::{MemSink, WriteFailed};
-use mig_pagesink::{Batch, HeldFrame, write_batch, write_end, write_plain};
 use mig_pagetypes::PageType;
+use mig_records_pages::{Batch, HeldFrame, write_batch, write_end, write_plain};
 use std::test::Fail;
 
 // What an entry tells of frame 5: a page of sevens, or that there is none.

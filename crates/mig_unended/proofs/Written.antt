@@ -13,8 +13,8 @@ use Rattle.mig_headers.proofs.LibxlHeaders.{libxl_is_read_back}
 use Rattle.mig_records.specs.Records.{head_of, spelled, IsRecord}
 use Rattle.mig_records.proofs.HeadBytes.{type_in_head, len_in_head}
 use Rattle.mig_canon.specs.Canon.{Record, text_of, headers}
-use Rattle.mig_pagesink.specs.Written.{IsShortRecord, AreRecordsWithin, WroteAll, WroteSome}
-use Rattle.mig_pagesink.proofs.Written.{none_of_next}
+use Rattle.mig_records_pages.specs.Written.{IsShortRecord, AreRecordsWithin, WroteAll, WroteSome}
+use Rattle.mig_records_pages.proofs.Written.{none_of_next}
 use Rattle.mig_wrap.specs.Canon.{opening_text}
 use Rattle.mig_unended.specs.Unended.{AreRecords, HaveNoEnd, AreCutOff, IsUnendedImage, IsUnclosedImage, IsUnended}
 use Rattle.mig_unended.specs.Unread.{HasNoStream, WroteNoStream, EndedImage}

@@ -1,6 +1,6 @@
 use Rattle.std.proofs.Common.{rules, arith, ◌≡◌, ◌<◌, ◌^◌, length, List, refl, sym, ap, subst, ◌∙◌}
-use Rattle.mig_pagesink.specs.Told.{FrameTold}
-use Rattle.mig_pagesink.specs.Batches.{IsSent}
+use Rattle.mig_records_pages.specs.Told.{FrameTold}
+use Rattle.mig_records_pages.specs.Batches.{IsSent}
 use Rattle.mig_rounds.specs.Current.{notes_of}
 use Rattle.mig_rounds.proofs.Shapes.{stays_on, reads_stay}
 use Rattle.mig_rounds.proofs.Parts.{members_below}

@@ -1,6 +1,6 @@
 use Rattle.std.proofs.Common.{ℕ, Option, ◌≡◌, ◌-◌, List, [], ◌≤◌, ◌<◌, length, true}
-use Rattle.mig_pagesink.specs.Told.{FrameTold}
-use Rattle.mig_pagesink.specs.Batches.{IsSent}
+use Rattle.mig_records_pages.specs.Told.{FrameTold}
+use Rattle.mig_records_pages.specs.Batches.{IsSent}
 use Rattle.mig_machine_api.specs.Pfns.{pfns_of_words}
 use Rattle.mig_pfnset.specs.Changes.{IsBelow}
 use Rattle.mig_rounds.specs.Current.{notes_of}

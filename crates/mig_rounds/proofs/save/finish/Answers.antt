@@ -1,5 +1,5 @@
 use Rattle.std.proofs.Common.{◌≡◌, ℕ, sym, ap, subst, ◌∙◌}
-use Rattle.mig_pagesink.specs.Batches.{IsBehind}
+use Rattle.mig_records_pages.specs.Batches.{IsBehind}
 use Rattle.mig_machine_api.specs.Pfns.{Pfns, joined, pfns_of_words}
 use Rattle.mig_machine_api.specs.History.{History, Since}
 use Rattle.mig_rounds.specs.Current.{notes_of}

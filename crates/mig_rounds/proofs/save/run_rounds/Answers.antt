@@ -1,5 +1,5 @@
 use Rattle.std.proofs.Common.{rules, arith, ℕ, ◌+◌, ◌/◌, ◌<◌, ◌≤◌, ◌^◌, ap, sym, subst, ◌∙◌}
-use Rattle.mig_pagesink.specs.Batches.{IsBehind}
+use Rattle.mig_records_pages.specs.Batches.{IsBehind}
 use Rattle.mig_machine_api.specs.Pfns.{size, pfns_of_words}
 use Rattle.mig_pfnset.specs.Changes.{IsBelow}
 use Rattle.mig_pfnset.proofs.Sizes.{size-le}

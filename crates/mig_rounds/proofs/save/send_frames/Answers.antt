@@ -1,9 +1,9 @@
 use Rattle.std.proofs.Common.{arith, ◌≡◌, ℕ, ◌+◌, ◌≤◌, ◌^◌, List, [], None, get_or, sym, ap, subst, ◌∙◌}
 use Rattle.std.specs.Vec.{with_items}
 use Rattle.std.proofs.lemmas.List.{with_items_is}
-use Rattle.mig_pagesink.specs.Told.{FrameTold}
-use Rattle.mig_pagesink.specs.Batches.{IsSent, IsBehind}
-use Rattle.mig_pagesink.proofs.Joins.{nothing_sent}
+use Rattle.mig_records_pages.specs.Told.{FrameTold}
+use Rattle.mig_records_pages.specs.Batches.{IsSent, IsBehind}
+use Rattle.mig_records_pages.proofs.Joins.{nothing_sent}
 use Rattle.mig_machine_api.specs.Pfns.{size, pfns_of_words}
 use Rattle.mig_pfnset.specs.Changes.{IsBelow}
 use Rattle.mig_pfnset.proofs.Sizes.{size-le}

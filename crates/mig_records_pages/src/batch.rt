@@ -1,0 +1,74 @@
+ghost use Rattle.std.specs.Prelude.{◌≡◌, ◌<◌, [], length, OnOk, OnErr, IfOk};
+ghost use Rattle.mig_bytes.specs.Faults.{HasCause};
+ghost use Rattle.mig_records_pages.specs.Told.{told_of, HasPfn};
+ghost use Rattle.mig_records_pages.specs.Batches.{SendsOn, Flushes, FallsBehind};
+
+use crate::HeldFrame;
+use crate::pages::write_batch;
+use mig_bytes::{Sink, WriteFailed};
+use std::alloc::{AllocError, Global};
+use std::marker::Model;
+
+/// The most entries of a PAGE_DATA record.
+const BATCH: usize = 1024;
+
+/// Entries that are held until their record is written.
+#[derive(Drop)]
+pub struct Batch {
+    entries: Vec<HeldFrame>,
+}
+
+impl Model for Batch {
+    ghost use Rattle.std.specs.Prelude.{◌<◌, ◌≤◌, List, All, length, vec_capacity};
+    ghost use Rattle.mig_records_pages.specs.Told.{FrameTold, told_held, HasPfn};
+
+    ghost Value = { List FrameTold };
+
+    ghost view = { λ b. told_held b.entries.items };
+
+    ghost invariant = { λ b. (1024 ≤ vec_capacity b.entries) × (length b.entries.items < 1024) × All HasPfn b.entries.items };
+}
+
+impl Batch {
+    /// A batch that holds nothing.
+    pub fn new(alloc: Global) -> Result<Batch, AllocError>
+        ensures { IfOk result (λ batch. batch ≡ []) }
+    {
+        let entries = Vec::with_capacity(alloc, BATCH)?;
+        Ok(Batch { entries })
+    }
+
+    /// Sends an entry: it is held, and once 1024 are held they are written as one record. After `WriteFailed` nothing is
+    /// held.
+    pub fn send<K: Sink>(&mut self, sink: &mut K, entry: HeldFrame) -> Result<(), WriteFailed>
+        requires { HasPfn entry }
+        ensures sent { OnOk result (SendsOn (told_of entry) (K.written sink.old) (K.written sink.new) self.old self.new) }
+        ensures behind { OnErr result (FallsBehind 1 (K.written sink.old) (K.written sink.new) self.old) }
+        ensures empty { OnErr result (self.new ≡ []) }
+        ensures few { length self.new < 1024 }
+        ensures cause { HasCause (K.faults sink.old) (K.faults sink.new) result }
+    {
+        let _ = self.entries.push(entry);
+        if self.entries.len() < BATCH {
+            return Ok(());
+        }
+        let written = write_batch(sink, &self.entries);
+        self.entries.clear();
+        written
+    }
+
+    /// Writes what is held as one record, if anything is held. After `WriteFailed` too nothing is held.
+    pub fn flush<K: Sink>(&mut self, sink: &mut K) -> Result<(), WriteFailed>
+        ensures sent { OnOk result (Flushes (K.written sink.old) (K.written sink.new) self.old) }
+        ensures behind { OnErr result (FallsBehind 0 (K.written sink.old) (K.written sink.new) self.old) }
+        ensures empty { self.new ≡ [] }
+        ensures cause { HasCause (K.faults sink.old) (K.faults sink.new) result }
+    {
+        if self.entries.is_empty() {
+            return Ok(());
+        }
+        let written = write_batch(sink, &self.entries);
+        self.entries.clear();
+        written
+    }
+}
