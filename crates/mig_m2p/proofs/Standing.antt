@@ -3,9 +3,9 @@ use Rattle.mig_m2p.proofs.Common.{◌≡◌, ◌≢◌, ℕ, zero, suc, ◌+◌,
 use Rattle.std.specs.Ordering.{nat_cmp}
 use Rattle.std.specs.FinMap as maps
 use Rattle.std.specs.FinMap.{len-empty}
-use Rattle.mig_index.proofs.Counted.{counted_more, counted_same, counted_less, some_counted}
+use Rattle.mig_pagestore_index.proofs.Counted.{counted_more, counted_same, counted_less, some_counted}
 use Rattle.mig_m2p.proofs.Grown.{not_both, same_below, IsLike, Hung, Lifted, like_same, grown_like, grown_hung, grown_lifted}
-use Rattle.mig_index.proofs.Gathered.{none_is_not_some}
+use Rattle.mig_pagestore_index.proofs.Gathered.{none_is_not_some}
 use Rattle.mig_m2p.proofs.Ways.{next_is}
 use Rattle.mig_m2p.proofs.Sides.{led_used, led_machine, led_pfn, led_depth, leads_now, leads_still}
 use Rattle.mig_m2p.proofs.Collected.{HasFrame, IsMapOf, map_of, map_same, map_changed, map_hung, map_lifted, none_at}

@@ -2,7 +2,7 @@
 use Rattle.std.specs.Prelude.{◌≡◌, ℕ, zero, suc, ◌+◌, ◌<◌, false, true, List, slice_index_or, if◌then◌else◌, ◌==◌}
 use Rattle.std.specs.Int.{bit_at}
 use Rattle.std.specs.FinMap as maps
-use Rattle.mig_index.specs.Indexed.{ValueMap}
+use Rattle.mig_pagestore_index.specs.Indexed.{ValueMap}
 use Rattle.mig_m2p.specs.declared.cell.Cell.{Cell}
 
 -- a cell that isn't in use

@@ -1,7 +1,7 @@
 -- Trees of cells, and the stack of those that are free.
 use Rattle.std.specs.Prelude.{◌≡◌, ℕ, ◌+◌, ◌<◌, ◌≤◌, ◌^◌, true, false, List, length, slice_index}
 use Rattle.std.specs.FinMap as maps
-use Rattle.mig_index.specs.Indexed.{ValueMap}
+use Rattle.mig_pagestore_index.specs.Indexed.{ValueMap}
 use Rattle.mig_m2p.specs.declared.cell.Cell.{Cell}
 use Rattle.mig_m2p.specs.declared.tree.Tree.{Tree}
 use Rattle.mig_m2p.specs.Cells.{cell_at, next_cell, Agree, IsNext, HasAbove, collected}

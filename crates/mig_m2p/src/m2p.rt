@@ -14,7 +14,7 @@ pub struct M2p {
 
 impl Model for M2p {
     ghost use Rattle.mig_m2p.specs.Trees.{IsStandingTree, kept};
-    ghost use Rattle.mig_index.specs.Indexed.{Indexed, indexed_code};
+    ghost use Rattle.mig_pagestore_index.specs.Indexed.{Indexed, indexed_code};
 
     ghost Value = { Indexed };
 

@@ -4,7 +4,7 @@ pub use Rattle.std.proofs.lemmas.Bool.{cases_eq, eq-eqb, eqb-true, ne_eqb}
 pub use Rattle.std.specs.FinMap.{FinMap, entries-from_sorted, entries_sorted, find, get-empty, get-entries, get-from_entries, get-from_sorted, get-insert, get-remove, is_sorted, len-entries, nat_cmp-IsAntisymmetric, same_map}
 pub use Rattle.std.specs.Option.{ghost_name_of, option_and_then, option_copied, option_copied_mut, option_map, unwrap_or}
 pub use Rattle.std.specs.Ordering.{eq_by_cmp, is_lt, nat_cmp}
-pub use Rattle.mig_index.specs.Indexed.{ValueMap}
+pub use Rattle.mig_pagestore_index.specs.Indexed.{ValueMap}
 pub use Rattle.mig_pagestore.specs.FrameLending.{repaged, with_page}
 pub use Rattle.mig_pagestore.specs.FrameView.{AreCells, IsCell, IsLed, Leads, Moved, SameBut, frame_at, frames_seen, is_place, place_of_page, place_or_0, whole_page}
 pub use Rattle.mig_pagestore.specs.Frames.{FrameMap, FrameOf, Framed, IsFrame, IsSized, frame_page}

@@ -11,7 +11,7 @@ ghost use Rattle.mig_pagestore.specs.FrameLending.{LendsFramePage};
 
 use crate::arena::Arena;
 use mig_bytes::Memory;
-use mig_index::Index;
+use mig_pagestore_index::Index;
 use mig_pagetypes::{FrameWord, PageType, decode_word, encode_word};
 use std::alloc::{AllocError, Global};
 use std::marker::Model;

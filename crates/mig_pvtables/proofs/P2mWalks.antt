@@ -3,7 +3,7 @@ use Rattle.mig_pvtables.proofs.Common.{◌≡◌, ℕ, ◌+◌, ◌-◌, ◌*◌
 use Rattle.std.specs.FinMap as maps
 use Rattle.std.proofs.lemmas.List.Folds.{list_any_at}
 use Rattle.std.proofs.lemmas.List.FromFn.{length-range_with_len, get_or-range_with_len}
-use Rattle.mig_index.specs.Indexed.{ValueMap}
+use Rattle.mig_pagestore_index.specs.Indexed.{ValueMap}
 use Rattle.mig_pvtables.specs.Faults.{slots}
 use Rattle.mig_pvtables.specs.P2mMarks.{clashes}
 use Rattle.mig_pvtables.proofs.Only.{alike}

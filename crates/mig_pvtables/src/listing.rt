@@ -9,7 +9,7 @@ ghost use Rattle.mig_pvtables.specs.P2mMarks.{clashes};
 
 use mig_bytes::{Memory, u64_le};
 use mig_guest::{FrameStore, PartCode, PartKey, Parts};
-use mig_index::Index;
+use mig_pagestore_index::Index;
 use mig_pagetypes::PageType;
 use std::alloc::Global;
 

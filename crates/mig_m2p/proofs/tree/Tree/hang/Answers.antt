@@ -1,5 +1,5 @@
 use Rattle.mig_m2p.proofs.Common.{◌-◌, arith, cell_at}
-use Rattle.mig_index.proofs.Fans.{item_is}
+use Rattle.mig_pagestore_index.proofs.Fans.{item_is}
 use Rattle.mig_m2p.proofs.Ways.{room_below}
 use Rattle.mig_m2p.proofs.Standing.{read_standing, read_kept}
 use Rattle.mig_m2p.proofs.tree.Tree.hang.Goals as goal
