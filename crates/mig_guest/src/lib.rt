@@ -17,10 +17,7 @@ mod parts;
 mod table;
 
 pub use guest::Guest;
-pub use law::{
-    empty_guest_is_formed, setting_frames_keeps_formed, setting_parts_keeps_formed,
-    setting_policies_keeps_formed,
-};
+pub use law::{empty_guest_is_formed, setting_frames_keeps_formed, setting_parts_keeps_formed, setting_policies_keeps_formed};
 pub use mig_pagestore::FrameStore;
 pub use part_code::{EMULATOR_CONTEXT, EMULATOR_PAIRS, PartCode, is_fixed};
 pub use part_key::PartKey;

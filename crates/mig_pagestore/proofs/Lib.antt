@@ -7,3 +7,6 @@ pub mod Led
 pub mod Seen
 pub mod Loans
 pub mod PagesSeen
+pub mod SlabCommon
+pub mod Pages
+pub mod Steps

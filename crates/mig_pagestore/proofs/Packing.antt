@@ -1,6 +1,6 @@
 -- What edits in one slab do to all pages.
 use Rattle.mig_pagestore.proofs.Common.{◌≡◌, ℕ, zero, suc, ◌+◌, ◌-◌, ◌*◌, ◌/◌, ◌%◌, ◌<◌, ◌≤◌, List, [], ◌∷◌, ◌++◌, length, get_or, set, slice_get, refl, sym, ap, ◌∙◌, subst, arith, length-append, length-set, append-nil, append_assoc, IsArena}
-use Rattle.mig_slab.specs.Slab.{Pages}
+use Rattle.mig_pagestore.specs.Slab.{Pages}
 use Rattle.mig_pagestore.specs.Packed.{IsPacked, all_pages}
 
 module _ {X : Type 0} where

@@ -7,3 +7,7 @@ pub mod FrameLending
 pub mod Pages
 pub mod PageView
 pub mod Lending
+pub mod Ownership
+pub mod Lends
+pub mod Slab
+pub mod SlabLends

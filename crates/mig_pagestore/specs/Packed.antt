@@ -1,7 +1,7 @@
 -- How pages lie in slabs of 64, one slab behind another.
 use Rattle.std.specs.Prelude.{◌≡◌, ℕ, ◌-◌, ◌≤◌, List, [], ◌∷◌, length, ◌++◌, refl}
 use Rattle.std.specs.Coded.{Coded, code_by, coded×, coded_list, coded_ℕ}
-use Rattle.mig_slab.specs.Slab.{Pages}
+use Rattle.mig_pagestore.specs.Slab.{Pages}
 
 -- the first n places hold pages, and the others are empty
 unfoldable pub IsPacked : List Pages → ℕ → Type 0

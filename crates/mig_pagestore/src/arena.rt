@@ -2,7 +2,7 @@
 ghost use Rattle.std.specs.Prelude.{◌≡◌, ◌<◌, ◌≤◌, ◌+◌, ◌*◌, ◌^◌, [], ◌∷◌, ◌++◌, length, slice_get, slice_set, OnOk, OnErr, Some};
 ghost use Rattle.std.specs.Borrow.{sem};
 
-use mig_slab::{PLACES, Slab};
+use crate::slab::{PLACES, Slab};
 use std::alloc::{AllocError, Global};
 use std::marker::Model;
 

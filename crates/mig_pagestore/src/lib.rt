@@ -1,17 +1,21 @@
-//! Frames, and pages of 4096 bytes, by frame number.
+//! Frames, and pages of 4096 bytes in slabs of raw memory, by frame number.
 //!
-//! Responsible for: the type of each frame that is there, and a page in a slab where its type has data, for room that is
-//! kept ready so that a frame can be put without asking for memory, and for handing out pages without a copy. It knows
-//! nothing of what types and pages mean, of guests or of streams.
+//! Responsible for: the type of each frame that is there, and a page in a slab where its type has data; the slabs, each with
+//! room for 64 pages, and all pointers of the project; room that is kept ready, so that a frame can be put without asking
+//! for memory; and handing out pages without a copy. It knows nothing of what types and pages mean, of guests or of streams.
 //!
-//! What the layers above rely on: a store is a finite map from frame number to a type and a page or none, or to 4096
-//! bytes alone, and a number of spare pages. Each call says what it does to the whole map; a call that finds no memory
-//! leaves the map as it was, and a put into a spare page can't be refused. Every frame number in a store is below 2^28.
+//! What the layers above rely on: a store is a finite map from frame number to a type and a page or none, or to 4096 bytes
+//! alone, and a number of spare pages. Each call says what it does to the whole map; a call that finds no memory leaves the
+//! map as it was, and a put into a spare page can't be refused. Every frame number in a store is below 2^52. The memory of a
+//! slab isn't touched until a page is put there.
 #![tactic(auto)]
 
 mod arena;
+mod cells;
 mod frame_store;
 mod page_store;
+mod slab;
 
 pub use frame_store::FrameStore;
 pub use page_store::PageStore;
+pub use slab::{PLACES, Slab};

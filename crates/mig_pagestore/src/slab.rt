@@ -19,7 +19,7 @@ pub struct Slab {
 
 impl Model for Slab {
     ghost use Rattle.std.specs.Prelude.{◌≡◌, ◌≤◌, length};
-    ghost use Rattle.mig_slab.specs.Slab.{Pages, pages_code};
+    ghost use Rattle.mig_pagestore.specs.Slab.{Pages, pages_code};
 
     ghost Value = { Pages };
 
@@ -31,7 +31,7 @@ impl Model for Slab {
 }
 
 impl Slab {
-    ghost use Rattle.mig_slab.specs.SlabLends.{lends_slab_page};
+    ghost use Rattle.mig_pagestore.specs.SlabLends.{lends_slab_page};
 
     /// A slab with no page in it.
     pub fn new(alloc: Global) -> Result<Slab, AllocError>

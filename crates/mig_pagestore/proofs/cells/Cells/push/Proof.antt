@@ -1,8 +1,8 @@
 -- `push` fills the place behind the pages. Assumes `Logic`.
-use Rattle.mig_slab.proofs.Steps.{◌≡◌, ℕ, suc, ◌+◌, ◌-◌, ◌*◌, ◌<◌, ◌^◌, List, [], ◌∷◌, ◌++◌, length, length-append, refl, sym, ap, ◌∙◌, lit<, w8, w64, arith, proved, after, full_share, id⊢, never, ftrue, fat, froom, flft, named, Val, vunit, fact, tables, ‵, raw, ◌⊛◌, at_ret, ◌$◌, ◌∵◌, !, qed, move, keep, drop, use1, use2, split, join, fsplit, fsplit3, fjoin, fjoin3, feq_i, feq_l, rewrite, suffices, frame, done, whole, sub, enter, of_opd, unit_lit, bin, init, stop, fld, assigns_last, first, blocks, exec, returns, alloc_all, pass_all, free_all, look_at, get, get_in, through, sets, take_at, give_at, env, yes, owns, lone, part_at, row, array_vals, Array-Tells, Array-Lawful, uint_Lawful, uint_vals, uint_Tells, u8, usize, Ptr, in_a_block, MutRef, mut_vals, mut_Tells, plain, ArrayOf, nothing, opens, closes, heard, Stays, walk_of, says, stay_dropped, stay_ref, Goes-dropped, Goes-ref, ends_at, block, cells_own, Base, Cells, lowers, word, word-Good, Page, page, big, snoc, part_in}
-use Rattle.mig_slab.specs.contracts.cells.Cells.push as f
-use Rattle.mig_slab.proofs.cells.Cells.push.Statement.{statement}
-use Rattle.mig_slab.proofs.cells.Cells.push.Code as code
+use Rattle.mig_pagestore.proofs.Steps.{◌≡◌, ℕ, suc, ◌+◌, ◌-◌, ◌*◌, ◌<◌, ◌^◌, List, [], ◌∷◌, ◌++◌, length, length-append, refl, sym, ap, ◌∙◌, lit<, w8, w64, arith, proved, after, full_share, id⊢, never, ftrue, fat, froom, flft, named, Val, vunit, fact, tables, ‵, raw, ◌⊛◌, at_ret, ◌$◌, ◌∵◌, !, qed, move, keep, drop, use1, use2, split, join, fsplit, fsplit3, fjoin, fjoin3, feq_i, feq_l, rewrite, suffices, frame, done, whole, sub, enter, of_opd, unit_lit, bin, init, stop, fld, assigns_last, first, blocks, exec, returns, alloc_all, pass_all, free_all, look_at, get, get_in, through, sets, take_at, give_at, env, yes, owns, lone, part_at, row, array_vals, Array-Tells, Array-Lawful, uint_Lawful, uint_vals, uint_Tells, u8, usize, Ptr, in_a_block, MutRef, mut_vals, mut_Tells, plain, ArrayOf, nothing, opens, closes, heard, Stays, walk_of, says, stay_dropped, stay_ref, Goes-dropped, Goes-ref, ends_at, block, cells_own, Base, Cells, lowers, word, word-Good, Page, page, big, snoc, part_in}
+use Rattle.mig_pagestore.specs.contracts.cells.Cells.push as f
+use Rattle.mig_pagestore.proofs.cells.Cells.push.Statement.{statement}
+use Rattle.mig_pagestore.proofs.cells.Cells.push.Code as code
 
 abbrev stayed : Stays f.ended.signature.params f.ended.kept
 stayed = (stay_ref (0 ∷ []) tt (plain (λ _. Cells)), (stay_dropped (plain (λ _. Base)) yes, (stay_dropped (plain (λ _. usize)) yes, (stay_dropped (ArrayOf (plain (λ _. u8)) (λ _. tt) 4096) yes, tt))))

@@ -1,8 +1,8 @@
 -- `pages` shows the pages that the cells lend. Assumes `Logic`.
-use Rattle.mig_slab.proofs.Steps.{◌≡◌, ℕ, ◌*◌, ◌<◌, ◌≤◌, ◌^◌, List, [], ◌∷◌, length, refl, ap, ◌∙◌, w64, arith, proved, after, id⊢, never, ftrue, flft, named, Val, vint, vptr, fact, tables, WpFn, ‵, raw, ◌⊛◌, prop, at_ret, ◌$◌, ◌∵◌, !, qed, move, keep, drop, split, join, fsplit, fjoin, feq_i, feq_l, flt_i, regoal, suffices, frame, done, whole, sub, agg, enter, of_opd, stop, fld, no_more, and_then, first, blocks, exec, returns, alloc_all, pass_all, free_all, look_at, get, get_in, sets, sets_last, env, owns, hide, unhide, uint_vals, uint_Tells, RefOf, usize, plain, Ptr, in_a_block, ShrRef, shr_vals, shr_Tells, slice_val, nothing, heard, Stays, walk_of, says, stay_dropped, Goes-dropped, ends_at, cells_lent, Base, Cells, lowers, word}
-use Rattle.mig_slab.specs.contracts.cells.Cells.pages as f
-use Rattle.mig_slab.proofs.cells.Cells.pages.Statement.{statement}
-use Rattle.mig_slab.proofs.cells.Cells.pages.Code as code
+use Rattle.mig_pagestore.proofs.Steps.{◌≡◌, ℕ, ◌*◌, ◌<◌, ◌≤◌, ◌^◌, List, [], ◌∷◌, length, refl, ap, ◌∙◌, w64, arith, proved, after, id⊢, never, ftrue, flft, named, Val, vint, vptr, fact, tables, WpFn, ‵, raw, ◌⊛◌, prop, at_ret, ◌$◌, ◌∵◌, !, qed, move, keep, drop, split, join, fsplit, fjoin, feq_i, feq_l, flt_i, regoal, suffices, frame, done, whole, sub, agg, enter, of_opd, stop, fld, no_more, and_then, first, blocks, exec, returns, alloc_all, pass_all, free_all, look_at, get, get_in, sets, sets_last, env, owns, hide, unhide, uint_vals, uint_Tells, RefOf, usize, plain, Ptr, in_a_block, ShrRef, shr_vals, shr_Tells, slice_val, nothing, heard, Stays, walk_of, says, stay_dropped, Goes-dropped, ends_at, cells_lent, Base, Cells, lowers, word}
+use Rattle.mig_pagestore.specs.contracts.cells.Cells.pages as f
+use Rattle.mig_pagestore.proofs.cells.Cells.pages.Statement.{statement}
+use Rattle.mig_pagestore.proofs.cells.Cells.pages.Code as code
 use denote.Exit.{yes}
 
 abbrev stayed : Stays f.ended.signature.params f.ended.kept

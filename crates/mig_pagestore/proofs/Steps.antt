@@ -30,10 +30,10 @@ pub use denote.Slice.{slice_val}
 pub use denote.Laws.{Is, shows}
 pub use denote.Steps.{nothing, opens, closes, heard, peeks}
 pub use denote.Triple.Walked.{Stays, walk_of, says, stay_dropped, stay_ref, Goes-dropped, Goes-ref, Goes-spent_ref, ends_at}
-pub use Rattle.mig_slab.specs.Ownership.{Page, block, cells_own, cells_lent}
-pub use Rattle.mig_slab.specs.contracts.cells.Base.{the_row as Base}
-pub use Rattle.mig_slab.specs.contracts.cells.Cells.{the_row as Cells}
-pub use Rattle.mig_slab.proofs.Pages.{Mark, mark, mark_made, mark_told, page, big, cut_end, snoc, unsnoc, all_room}
+pub use Rattle.mig_pagestore.specs.Ownership.{Page, block, cells_own, cells_lent}
+pub use Rattle.mig_pagestore.specs.contracts.cells.Base.{the_row as Base}
+pub use Rattle.mig_pagestore.specs.contracts.cells.Cells.{the_row as Cells}
+pub use Rattle.mig_pagestore.proofs.Pages.{Mark, mark, mark_made, mark_told, page, big, cut_end, snoc, unsnoc, all_room}
 pub use borrow.Table.OneValue.{part_in, part_out}
 pub use Rattle.std_alloc.proofs.RcSteps.{Good, word, word-Good}
-pub use Rattle.mig_slab.proofs.cells.Base.TheLaws.{lowers}
+pub use Rattle.mig_pagestore.proofs.cells.Base.TheLaws.{lowers}

@@ -1,8 +1,8 @@
 -- What a slab ends as, once a `&mut` into it has ended.
 use Rattle.std.specs.Prelude.{ℕ, List, slice_set}
 use Rattle.std.specs.Borrow.{Fml, MutBor, Array, u8, Lends}
-use Rattle.mig_slab.specs.Slab.{Pages}
-use Rattle.mig_slab.specs.contracts.slab.Slab.{the_row}
+use Rattle.mig_pagestore.specs.Slab.{Pages}
+use Rattle.mig_pagestore.specs.contracts.slab.Slab.{the_row}
 
 -- the page at the index is the last one written through r
 abbrev pub lends_slab_page : MutBor Pages → ℕ → MutBor (List ℕ) → Fml

@@ -2,7 +2,7 @@
 ghost use Rattle.std.specs.Prelude.{◌≡◌, ℕ, ◌+◌, ◌<◌, ◌≤◌, List, [], ◌∷◌, ◌++◌, length, slice_index_or, IfOk};
 ghost use Rattle.std.specs.Borrow.{sem};
 ghost use denote.RawPtr.{Ptr};
-ghost use Rattle.mig_slab.specs.Ownership.{cells_own, cells_lent, deed_owns};
+ghost use Rattle.mig_pagestore.specs.Ownership.{cells_own, cells_lent, deed_owns};
 
 use crate::slab::PLACES;
 use std::alloc::{AllocError, Allocator};
@@ -70,7 +70,7 @@ pub(crate) fn deallocate<A: Allocator>(alloc: &A, base: Base, cells: Cells, deed
 }
 
 impl Cells {
-    ghost use Rattle.mig_slab.specs.Lends.{lends_cell};
+    ghost use Rattle.mig_pagestore.specs.Lends.{lends_cell};
 
     /// Writes a page behind the `len` that are there.
     pub(crate) fn push(&mut self, base: Base, len: usize, page: [u8; 4096])

@@ -1,12 +1,12 @@
 -- `page_mut` lends one page, and the cells follow it. Assumes `Logic`.
-use Rattle.mig_slab.proofs.Steps.{◌≡◌, ℕ, ◌+◌, ◌-◌, ◌*◌, ◌<◌, ◌≤◌, ◌^◌, List, [], ◌∷◌, length, set, get_or, length-set, refl, sym, ◌∙◌, lit<, w64, arith, proved, after, full_share, ent, sep, id⊢, never, Fml, ftrue, fsep, fat, froom, flft, named, Val, vptr, fact, tables, Logic, sem, ‵, raw, ◌⊛◌, some, later, at_ret, ◌$◌, ◌∵◌, !, qed, move, keep, use1, use2, split, join, fsplit, fsplit3, fjoin, fjoin3, fpack, feq_l, pick, await, rewrite, suffices, frame, group, done, whole, sub, enter, of_opd, bin, stop, fld, first, blocks, exec, returns, alloc_all, pass_all, free_all, look_at, get, get_in, through, sets, sets_last, take_at, give_at, env, yes, no, owns, lone, mem, part_at, cell_at, row, uint_vals, uint_Tells, usize, Ptr, block_ptr, in_a_block, MutRef, mut_vals, mut_Tells, plain, mut_ref_to, nothing, opens, heard, Stays, walk_of, says, stay_dropped, Goes-dropped, Goes-spent_ref, ends_at, block, cells_own, Base, Cells, lowers, Mark, word, word-Good, Page, big}
-use Rattle.mig_slab.proofs.Common.{Ura, GName, addr, place_is, others, takes, puts, shares}
+use Rattle.mig_pagestore.proofs.Steps.{◌≡◌, ℕ, ◌+◌, ◌-◌, ◌*◌, ◌<◌, ◌≤◌, ◌^◌, List, [], ◌∷◌, length, set, get_or, length-set, refl, sym, ◌∙◌, lit<, w64, arith, proved, after, full_share, ent, sep, id⊢, never, Fml, ftrue, fsep, fat, froom, flft, named, Val, vptr, fact, tables, Logic, sem, ‵, raw, ◌⊛◌, some, later, at_ret, ◌$◌, ◌∵◌, !, qed, move, keep, use1, use2, split, join, fsplit, fsplit3, fjoin, fjoin3, fpack, feq_l, pick, await, rewrite, suffices, frame, group, done, whole, sub, enter, of_opd, bin, stop, fld, first, blocks, exec, returns, alloc_all, pass_all, free_all, look_at, get, get_in, through, sets, sets_last, take_at, give_at, env, yes, no, owns, lone, mem, part_at, cell_at, row, uint_vals, uint_Tells, usize, Ptr, block_ptr, in_a_block, MutRef, mut_vals, mut_Tells, plain, mut_ref_to, nothing, opens, heard, Stays, walk_of, says, stay_dropped, Goes-dropped, Goes-spent_ref, ends_at, block, cells_own, Base, Cells, lowers, Mark, word, word-Good, Page, big}
+use Rattle.mig_pagestore.proofs.SlabCommon.{Ura, GName, addr, place_is, others, takes, puts, shares}
 use denote.Follow.{follows, lends_Part}
 use denote.Memory.{part_of}
-use Rattle.mig_slab.specs.Lends.{with_slab_page}
-use Rattle.mig_slab.specs.contracts.cells.Cells.page_mut as f
-use Rattle.mig_slab.proofs.cells.Cells.page_mut.Statement.{statement}
-use Rattle.mig_slab.proofs.cells.Cells.page_mut.Code as code
+use Rattle.mig_pagestore.specs.Lends.{with_slab_page}
+use Rattle.mig_pagestore.specs.contracts.cells.Cells.page_mut as f
+use Rattle.mig_pagestore.proofs.cells.Cells.page_mut.Statement.{statement}
+use Rattle.mig_pagestore.proofs.cells.Cells.page_mut.Code as code
 
 abbrev stayed : Stays f.ended.signature.params f.ended.kept
 stayed = (stay_dropped (mut_ref_to (0 ∷ []) tt (plain (λ _. Cells))) no, (stay_dropped (plain (λ _. Base)) yes, (stay_dropped (plain (λ _. usize)) yes, tt)))

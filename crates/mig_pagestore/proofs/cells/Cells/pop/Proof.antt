@@ -1,8 +1,8 @@
 -- `pop` moves the last page out, and its place is room. Assumes `Logic`.
-use Rattle.mig_slab.proofs.Steps.{◌≡◌, ℕ, suc, ◌+◌, ◌-◌, ◌*◌, ◌<◌, ◌^◌, List, [], ◌∷◌, length, length-append, refl, sym, ap, ◌∙◌, lit<, w8, w64, arith, proved, after, full_share, id⊢, never, ftrue, fat, froom, flft, named, Val, fact, tables, ‵, raw, ◌⊛◌, some, at_ret, ◌$◌, ◌∵◌, !, qed, move, keep, use1, use2, pick, split, join, fsplit, fsplit3, fjoin, fjoin3, feq_i, feq_l, rewrite, suffices, frame, done, whole, sub, enter, of_opd, bin, load, look, stop, fld, first, blocks, exec, returns, alloc_all, pass_all, free_all, look_at, get, get_in, through, sets, sets_last, take_at, give_at, env, yes, owns, lone, part_at, row, Array-Lawful, uint_Lawful, uint_vals, uint_Tells, u8, usize, Ptr, in_a_block, MutRef, mut_vals, mut_Tells, plain, nothing, opens, closes, heard, peeks, Is, shows, Stays, walk_of, says, stay_dropped, stay_ref, Goes-dropped, Goes-ref, ends_at, block, cells_own, Base, Cells, lowers, word, word-Good, Page, page, big, cut_end, unsnoc, part_out}
-use Rattle.mig_slab.specs.contracts.cells.Cells.pop as f
-use Rattle.mig_slab.proofs.cells.Cells.pop.Statement.{statement}
-use Rattle.mig_slab.proofs.cells.Cells.pop.Code as code
+use Rattle.mig_pagestore.proofs.Steps.{◌≡◌, ℕ, suc, ◌+◌, ◌-◌, ◌*◌, ◌<◌, ◌^◌, List, [], ◌∷◌, length, length-append, refl, sym, ap, ◌∙◌, lit<, w8, w64, arith, proved, after, full_share, id⊢, never, ftrue, fat, froom, flft, named, Val, fact, tables, ‵, raw, ◌⊛◌, some, at_ret, ◌$◌, ◌∵◌, !, qed, move, keep, use1, use2, pick, split, join, fsplit, fsplit3, fjoin, fjoin3, feq_i, feq_l, rewrite, suffices, frame, done, whole, sub, enter, of_opd, bin, load, look, stop, fld, first, blocks, exec, returns, alloc_all, pass_all, free_all, look_at, get, get_in, through, sets, sets_last, take_at, give_at, env, yes, owns, lone, part_at, row, Array-Lawful, uint_Lawful, uint_vals, uint_Tells, u8, usize, Ptr, in_a_block, MutRef, mut_vals, mut_Tells, plain, nothing, opens, closes, heard, peeks, Is, shows, Stays, walk_of, says, stay_dropped, stay_ref, Goes-dropped, Goes-ref, ends_at, block, cells_own, Base, Cells, lowers, word, word-Good, Page, page, big, cut_end, unsnoc, part_out}
+use Rattle.mig_pagestore.specs.contracts.cells.Cells.pop as f
+use Rattle.mig_pagestore.proofs.cells.Cells.pop.Statement.{statement}
+use Rattle.mig_pagestore.proofs.cells.Cells.pop.Code as code
 
 abbrev stayed : Stays f.ended.signature.params f.ended.kept
 stayed = (stay_ref (0 ∷ []) tt (plain (λ _. Cells)), (stay_dropped (plain (λ _. Base)) yes, (stay_dropped (plain (λ _. usize)) yes, tt)))

@@ -1,7 +1,7 @@
 -- `allocate` takes a block with no page in it, and keeps the right to free it. Assumes `Logic`.
-use Rattle.mig_slab.proofs.Steps.{◌≡◌, ℕ, ◌+◌, ◌*◌, List, [], ◌∷◌, ◌++◌, refl, lit<, arith, after, ent, sep, SProp, id⊢, ftrue, froom, flft, Val, vptr, fact, tables, WpFn, Logic, sem, ‵, raw, ◌⊛◌, later, prop, at_ret, ◌$◌, ◌∵◌, !, qed, by, move, keep, drop, use0, use1, use2, use3, split, join, fsplit, fjoin, fpack, feq_i, await, rewrite, regoal, suffices, frame, done, whole, agg, enter, of_opd, lit, stop, fld, no_more, and_then, first, exec, returns, alloc_all, pass_all, free_all, look_at, get, get_in, sets, sets_last, env, owns, RefOf, Ptr, block_ptr, plain, nothing, heard, Stays, walk_of, says, stay_dropped, Goes-dropped, ends_at, block, Base, Cells, word, Good, Mark, mark, mark_made, big}
+use Rattle.mig_pagestore.proofs.Steps.{◌≡◌, ℕ, ◌+◌, ◌*◌, List, [], ◌∷◌, ◌++◌, refl, lit<, arith, after, ent, sep, SProp, id⊢, ftrue, froom, flft, Val, vptr, fact, tables, WpFn, Logic, sem, ‵, raw, ◌⊛◌, later, prop, at_ret, ◌$◌, ◌∵◌, !, qed, by, move, keep, drop, use0, use1, use2, use3, split, join, fsplit, fjoin, fpack, feq_i, await, rewrite, regoal, suffices, frame, done, whole, agg, enter, of_opd, lit, stop, fld, no_more, and_then, first, exec, returns, alloc_all, pass_all, free_all, look_at, get, get_in, sets, sets_last, env, owns, RefOf, Ptr, block_ptr, plain, nothing, heard, Stays, walk_of, says, stay_dropped, Goes-dropped, ends_at, block, Base, Cells, word, Good, Mark, mark, mark_made, big}
 use mathlib.Core.Bool.{true, false}
-use Rattle.mig_slab.proofs.Common.{Ura, Lft, Share, Args, Fn, a_type, dcons, dnil, vstruct, vcons, vnil, Env, Wp, after_seq, at_return, Item, ⋆, any_q, switches_on, RattleType, Valss}
+use Rattle.mig_pagestore.proofs.SlabCommon.{Ura, Lft, Share, Args, Fn, a_type, dcons, dnil, vstruct, vcons, vnil, Env, Wp, after_seq, at_return, Item, ⋆, any_q, switches_on, RattleType, Valss}
 use contract.BorrowLft.{◌⊑◌, ⊑_trans}
 use mir.MapTy.{inst_fn}
 use types.ByLocal.{get_tag, lands_as}
@@ -26,10 +26,10 @@ use Rattle.core.specs.contracts.alloc.AllocError as AE
 use Rattle.std.proofs.raw_atomic.Walks.{proved_at}
 use Rattle.std_alloc.proofs.RcSteps.{first_Good}
 use Rattle.std_alloc.proofs.ResultValues.{ok_of, err_of}
-use Rattle.mig_slab.specs.contracts.cells.Deed as D
-use Rattle.mig_slab.specs.contracts.cells.allocate as f
-use Rattle.mig_slab.proofs.cells.allocate.Statement.{statement}
-use Rattle.mig_slab.proofs.cells.allocate.Code as code
+use Rattle.mig_pagestore.specs.contracts.cells.Deed as D
+use Rattle.mig_pagestore.specs.contracts.cells.allocate as f
+use Rattle.mig_pagestore.proofs.cells.allocate.Statement.{statement}
+use Rattle.mig_pagestore.proofs.cells.allocate.Code as code
 
 abbrev three_val : Val → Val → Val → Val
 three_val u v w = vstruct (vcons u (vcons v (vcons w vnil)))

@@ -1,7 +1,7 @@
 -- A `&` to the cells reaches each page. Assumes `Logic`.
 use Prim.Native.Nat.{ℕ}
 use mathlib.Core.List.{List}
-use Rattle.mig_slab.proofs.Common.{Ura, Lft, ffalse, row, mem, shared_of, each_shared, each_shr_laws}
+use Rattle.mig_pagestore.proofs.SlabCommon.{Ura, Lft, ffalse, row, mem, shared_of, each_shared, each_shr_laws}
 use base.Fraction.{full_share}
 use types.Logic.{Logic}
 use denote.RawPtr.{Ptr, RawPtr, block_ptr, null_ptr}
@@ -13,9 +13,9 @@ use denote.Struct.Field.{u8-field, array_field}
 use denote.Struct.Laws.{Copyable, u8-copy, array_copy, field_copy}
 use denote.Struct.Lending.{Lends, Lends-first, Lends-false, of_Lends}
 use Rattle.core.specs.contracts.marker.PhantomData as marker
-use Rattle.mig_slab.specs.Ownership.{Page, cells_own, cells_lent}
-use Rattle.mig_slab.specs.contracts.cells.Cells as C
-use Rattle.mig_slab.proofs.cells.Cells.TheLaw.Statement.{statement}
+use Rattle.mig_pagestore.specs.Ownership.{Page, cells_own, cells_lent}
+use Rattle.mig_pagestore.specs.contracts.cells.Cells as C
+use Rattle.mig_pagestore.proofs.cells.Cells.TheLaw.Statement.{statement}
 
 abbrev page : Copyable (array_field u8-field 4096)
 page = array_copy u8-field u8-copy 4096

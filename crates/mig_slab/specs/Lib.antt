@@ -1,4 +1,0 @@
-pub mod Ownership
-pub mod Lends
-pub mod Slab
-pub mod SlabLends
